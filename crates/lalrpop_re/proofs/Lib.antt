@@ -1,0 +1,6 @@
+pub mod Words
+pub mod Languages
+pub mod Classes
+pub mod Powers
+pub mod Canons
+pub mod Joining

@@ -1,0 +1,66 @@
+-- Ranges of values, sets of values, and the lists of maximal runs that classes keep.
+use Rattle.std.specs.Prelude.{ℕ, ◌+◌, ◌<◌, ◌≤◌, ◌⊎◌, ◌↔◌, List, [], ◌∷◌, if◌then◌else◌, eqb, refl}
+use Rattle.std.specs.Coded.{Coded, code_by, coded×, coded_ℕ}
+
+-- the values from start to end, both included; none where start is above end
+pub record Range : Type 0 where
+  pub start : ℕ
+  pub end : ℕ
+
+-- the value lies in the range
+abbrev pub Covers : Range → ℕ → Type 0
+Covers r c = (r.start ≤ c) × (c ≤ r.end)
+
+-- the value lies in some range of the list
+abbrev pub Covered : List Range → ℕ → Type 0
+Covered [] c = ⊥
+Covered (r ∷ rs) c = Covers r c ⊎ Covered rs c
+
+-- a scalar value: a code value that is no surrogate
+abbrev pub IsScalar : ℕ → Type 0
+IsScalar c = (c ≤ 55295) ⊎ ((57344 ≤ c) × (c ≤ 1114111))
+
+-- a value of a byte
+abbrev pub IsByte : ℕ → Type 0
+IsByte c = c ≤ 255
+
+-- the scalar value after c, where U+E000 follows U+D7FF
+abbrev pub next_scalar : ℕ → ℕ
+next_scalar c = if eqb c 55295 then 57344 else c + 1
+
+-- the byte after c
+abbrev pub next_byte : ℕ → ℕ
+next_byte c = c + 1
+
+-- ranges that are not empty, ascend, and leave out some value between each two neighbours,
+-- as `next` counts values
+abbrev pub AreApart : (ℕ → ℕ) → List Range → Type 0
+AreApart next [] = Unit {0}
+AreApart next (r ∷ []) = r.start ≤ r.end
+AreApart next (r ∷ s ∷ rs) = (r.start ≤ r.end) × (next r.end < s.start) × AreApart next (s ∷ rs)
+
+-- all ends are members of the set
+abbrev pub HaveEndsIn : (ℕ → Type 0) → List Range → Type 0
+HaveEndsIn S [] = Unit {0}
+HaveEndsIn S (r ∷ rs) = S r.start × S r.end × HaveEndsIn S rs
+
+-- what every class over characters keeps
+abbrev pub IsCanonical : List Range → Type 0
+IsCanonical rs = AreApart next_scalar rs × HaveEndsIn IsScalar rs
+
+-- the ascending maximal runs of a set of scalar values
+abbrev pub IsCanon : (ℕ → Type 0) → List Range → Type 0
+IsCanon S rs = IsCanonical rs × ((c : ℕ) → IsScalar c → S c ↔ Covered rs c)
+
+-- what every class over bytes keeps
+abbrev pub AreByteRuns : List Range → Type 0
+AreByteRuns rs = AreApart next_byte rs × HaveEndsIn IsByte rs
+
+-- the ascending maximal runs of a set of bytes
+abbrev pub IsByteCanon : (ℕ → Type 0) → List Range → Type 0
+IsByteCanon S rs = AreByteRuns rs × ((c : ℕ) → IsByte c → S c ↔ Covered rs c)
+
+-- a range is stored as the pair of its ends
+abbrev pub range_code : Coded Range
+range_code =
+    code_by (ℕ × ℕ) (coded× coded_ℕ coded_ℕ) (λ r. (r.start, r.end)) (λ p. record { start = p.0; end = p.1 }) (λ _. refl)

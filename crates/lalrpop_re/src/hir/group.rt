@@ -1,0 +1,29 @@
+ghost use Rattle.std.specs.Prelude.{◌≡◌, option_map, string_bytes};
+
+use super::{Capture, Hir};
+
+impl Capture {
+    /// The group of `sub`, under a name or without one.
+    pub fn new(name: Option<String>, sub: Box<Hir>) -> Capture
+        ensures { result ≡ record { name = option_map string_bytes name; sub = sub.value } }
+    {
+        Capture { name, sub }
+    }
+
+    /// The group's name, if it has one.
+    pub fn name(&self) -> Option<&str>
+        ensures { option_map (λ s. s.now) result ≡ self.now.name }
+    {
+        match &self.name {
+            None => None,
+            Some(name) => Some(name.as_str()),
+        }
+    }
+
+    /// What stands in the group.
+    pub fn sub(&self) -> &Hir
+        ensures { result.now ≡ self.now.sub }
+    {
+        &self.sub
+    }
+}
