@@ -1,0 +1,29 @@
+//! Copies of states and of automata.
+
+ghost use Rattle.std.specs.Prelude.{◌≡◌};
+
+use super::{Dfa, State};
+use std::alloc::AllocError;
+
+impl Clone for State {
+    ghost is_clone = { λ state copy. copy ≡ state };
+
+    fn clone(&self) -> Result<State, AllocError> {
+        Ok(State {
+            item_set: self.item_set.clone()?,
+            kind: self.kind.clone()?,
+            test_edges: self.test_edges.clone()?,
+            other_edge: self.other_edge,
+        })
+    }
+}
+
+impl Clone for Dfa {
+    ghost is_clone = { λ dfa copy. copy ≡ dfa };
+
+    fn clone(&self) -> Result<Dfa, AllocError> {
+        Ok(Dfa {
+            states: self.states.clone()?,
+        })
+    }
+}

@@ -1,0 +1,6 @@
+//! Patterns as trees.
+
+pub use lalrpop_re::{
+    Capture, Class, ClassBytes, ClassBytesRange, ClassUnicode, ClassUnicodeRange, Hir, HirKind,
+    Literal, Look, Regex, RegexError, Repetition, SyntaxKind, parse_literal,
+};
