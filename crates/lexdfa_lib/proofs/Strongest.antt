@@ -1,0 +1,22 @@
+-- Where no word is ambiguous, the greatest of the strongest trees is the only one.
+use Rattle.std.proofs.Common.{◌≡◌, ℕ, ◌<◌, ◌⊎◌, inl, inr, List, Some, None, arith, Bor}
+use Rattle.std.specs.Prelude.{Option, IfSome}
+use Rattle.std.specs.Option.{option_map}
+use Rattle.std.specs.Str.{chars}
+use Rattle.std.proofs.lemmas.Bool.{cases_order}
+use Rattle.lalrpop_re.specs.Tree.{Tree}
+use Rattle.lalrpop_lexer.specs.Winners.{Top, GreatestTop, OnlyTop}
+use Rattle.lalrpop_lexer.specs.Clash.{NoClash}
+use Rattle.lalrpop_lexer.specs.Longest.{IsLongest}
+
+OnlyTop-from_greatest : (ts : List Tree) (ps w : List ℕ) (i : ℕ) → NoClash ts ps → GreatestTop ts ps w i → OnlyTop ts ps w i
+OnlyTop-from_greatest ts ps w i none greatest = (greatest.0, λ j top. by_order j top (cases_order j i))
+  where
+    by_order : (j : ℕ) → Top ts ps w j → (j ≡ i) ⊎ ((j < i) ⊎ (i < j)) → j ≡ i
+    by_order j top (inl same) = same
+    by_order j top (inr (inl less)) = absurd (none w (i, j, (less, greatest.0, top)))
+    by_order j top (inr (inr more)) = absurd (omega (arith, greatest.1 j top))
+
+pub OnlyTop-longest : (ts : List Tree) (ps text : List ℕ) (found : Option (ℕ × Bor (List ℕ))) → NoClash ts ps → IsLongest ts ps text (option_map (λ m. (m.0, m.1.now)) found) → IfSome found (λ m. OnlyTop ts ps (chars m.1.now) m.0)
+OnlyTop-longest ts ps text None none longest = tt
+OnlyTop-longest ts ps text (Some m) none longest = OnlyTop-from_greatest ts ps (chars m.1.now) m.0 none longest.2

@@ -1,0 +1,45 @@
+-- What lines say, line by line.
+use Rattle.std.proofs.Common.{◌≡◌, ℕ, suc, List, [], ◌∷◌, ◌++◌, length, refl, ap}
+use Rattle.lalrpop_re.specs.Tree.{Tree}
+use Rattle.lexdfa_lib.specs.Lines.{lines}
+use Rattle.lexdfa_lib.specs.Line.{bad, terminal, LineSays}
+use Rattle.lexdfa_lib.specs.Terminals.{AreTerminals, IsFirstBad}
+use Rattle.lexdfa_lib.specs.Answer.{Finds, IsOutcome}
+use Rattle.lexdfa_lib.specs.declared.outcome.Outcome.{Outcome}
+use Rattle.lexdfa_lib.specs.declared.outcome.Outcome.TheVariants.{Match, NoMatch, Refused, Ambiguous, Syntax, Line}
+
+-- one terminal more
+pub AreTerminals-push : (ls : List (List ℕ)) (ts : List Tree) (ps : List ℕ) (line : List ℕ) (t : Tree) (p : ℕ) → AreTerminals ls ts ps → LineSays line (terminal p t) → AreTerminals (ls ++ line ∷ []) (ts ++ t ∷ []) (ps ++ p ∷ [])
+AreTerminals-push [] [] [] line t p are says = (says, tt)
+AreTerminals-push [] [] (q ∷ ps) line t p are says = absurd are
+AreTerminals-push [] (u ∷ ts) ps line t p are says = absurd are
+AreTerminals-push (l ∷ ls) [] ps line t p are says = absurd are
+AreTerminals-push (l ∷ ls) (u ∷ ts) [] line t p are says = absurd are
+AreTerminals-push (l ∷ ls) (u ∷ ts) (q ∷ ps) line t p are says = (are.0, AreTerminals-push ls ts ps line t p are.1 says)
+
+-- a bad line after terminals is the first
+pub IsFirstBad-after : (ls : List (List ℕ)) (ts : List Tree) (ps : List ℕ) (line : List ℕ) (rest : List (List ℕ)) → AreTerminals ls ts ps → LineSays line bad → IsFirstBad (ls ++ line ∷ rest) (length ts)
+IsFirstBad-after [] [] [] line rest are says = says
+IsFirstBad-after [] [] (q ∷ ps) line rest are says = absurd are
+IsFirstBad-after [] (u ∷ ts) ps line rest are says = absurd are
+IsFirstBad-after (l ∷ ls) [] ps line rest are says = absurd are
+IsFirstBad-after (l ∷ ls) (u ∷ ts) [] line rest are says = absurd are
+IsFirstBad-after (l ∷ ls) (u ∷ ts) (q ∷ ps) line rest are says = ((q, (u, are.0)), IsFirstBad-after ls ts ps line rest are.1 says)
+
+-- there are as many trees as precedences
+pub length-AreTerminals : (ls : List (List ℕ)) (ts : List Tree) (ps : List ℕ) → AreTerminals ls ts ps → length ts ≡ length ps
+length-AreTerminals [] [] [] are = refl
+length-AreTerminals [] [] (q ∷ ps) are = absurd are
+length-AreTerminals [] (u ∷ ts) ps are = absurd are
+length-AreTerminals (l ∷ ls) [] ps are = absurd are
+length-AreTerminals (l ∷ ls) (u ∷ ts) [] are = absurd are
+length-AreTerminals (l ∷ ls) (u ∷ ts) (q ∷ ps) are = ap suc (length-AreTerminals ls ts ps are.1)
+
+-- what the terminals find is the outcome
+pub IsOutcome-terminals : (bytes text : List ℕ) (ts : List Tree) (ps : List ℕ) (o : Outcome) → AreTerminals (lines bytes) ts ps → Finds ts ps text o → IsOutcome bytes text o
+IsOutcome-terminals bytes text ts ps (Match i n) are finds = (ts, (ps, (are, finds)))
+IsOutcome-terminals bytes text ts ps NoMatch are finds = (ts, (ps, (are, finds)))
+IsOutcome-terminals bytes text ts ps (Refused i e) are finds = (ts, (ps, (are, finds)))
+IsOutcome-terminals bytes text ts ps (Ambiguous i j) are finds = (ts, (ps, (are, finds)))
+IsOutcome-terminals bytes text ts ps (Syntax i) are finds = absurd finds
+IsOutcome-terminals bytes text ts ps (Line i) are finds = absurd finds

@@ -1,0 +1,27 @@
+use Rattle.std.proofs.Common.{◌≡◌, length, ◌∙◌}
+use Rattle.std.proofs.lemmas.List.{length-map}
+use Rattle.std.proofs.lemmas.Result.{IfOk-weaker}
+use Rattle.lexdfa_lib.proofs.TerminalLemmas.{length-AreTerminals, IsOutcome-terminals}
+use Rattle.lexdfa_lib.proofs.Unique.{outcome-unique}
+use Rattle.lexdfa_lib.proofs.answer.outcome_of.Goals as goal
+
+pub find-requires : goal.find-requires
+find-requires c =
+    let said = rw c.in-All.is at c.in_ok-regexs.ensures in
+    let same : length c.in-All.regexs.items ≡ length c.in-All.precedences.items = length-AreTerminals _ _ _ said ∙ length-map _ _ in
+    record { same_len = rw (c.deref.ensures.value, c.deref-in-All.ensures.value) same }
+
+pub returns-in-All-clause-outcome : goal.returns-in-All-clause-outcome
+returns-in-All-clause-outcome c =
+    let said = rw c.in-All.is at c.in_ok-regexs.ensures in
+    IfOk-weaker c.find.result _ _
+    (λ outcome finds. IsOutcome-terminals c.args.bytes.now c.args.text.now _ _ outcome said (rw (c.deref.ensures.value, c.deref-in-All.ensures.value) at finds))
+    c.find.ensures
+
+pub returns-in-All-clause-only : goal.returns-in-All-clause-only
+returns-in-All-clause-only c = IfOk-weaker c.find.result _ _ (λ outcome is other. outcome-unique c.args.bytes.now c.args.text.now outcome other is) (returns-in-All-clause-outcome c)
+
+pub returns-in-Bad-clause-only : goal.returns-in-Bad-clause-only
+returns-in-Bad-clause-only c =
+    let bad = rw c.in-Bad.is at c.in_ok-regexs.ensures in
+    λ other is. outcome-unique c.args.bytes.now c.args.text.now _ other bad is

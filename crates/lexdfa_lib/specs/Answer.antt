@@ -1,0 +1,39 @@
+-- The answer to some bytes and a text: one outcome, and its line.
+use Rattle.std.specs.Prelude.{◌≡◌, ℕ, List, length, Option, Some, None}
+use Rattle.lalrpop_re.specs.Tree.{Tree}
+use Rattle.lalrpop_lexer.specs.Clash.{IsClash, NoClash}
+use Rattle.lalrpop_lexer.specs.Longest.{IsLongest}
+use Rattle.lalrpop_lexer.specs.Report.{NoFault, FirstFault}
+use Rattle.lexdfa_lib.specs.Lines.{lines}
+use Rattle.lexdfa_lib.specs.Terminals.{AreTerminals, IsFirstBad}
+use Rattle.lexdfa_lib.specs.Printed.{line_of}
+use Rattle.lexdfa_lib.specs.Watch.{ReadsAll, AppendsBeginning}
+use Rattle.lexdfa_lib.specs.declared.outcome.Outcome.{Outcome}
+use Rattle.lexdfa_lib.specs.declared.outcome.Outcome.TheVariants.{Match, NoMatch, Refused, Ambiguous, Syntax, Line}
+
+-- what trees with these precedences find in the text: the first fault; else the clash; else the longest match, if any
+abbrev pub Finds : List Tree → List ℕ → List ℕ → Outcome → Type 0
+Finds ts ps text (Refused i e) = FirstFault ts i e
+Finds ts ps text (Ambiguous i j) = NoFault ts × ((w : List ℕ) × IsClash ts ps w i j)
+Finds ts ps text (Match i n) = NoFault ts × NoClash ts ps × ((p : List ℕ) × (IsLongest ts ps text (Some (i, p)) × (n ≡ length p)))
+Finds ts ps text NoMatch = NoFault ts × NoClash ts ps × IsLongest ts ps text None
+Finds ts ps text (Syntax i) = ⊥
+Finds ts ps text (Line i) = ⊥
+
+-- the outcome for the bytes and the text: the first bad line; else what the terminals of the lines find
+abbrev pub IsOutcome : List ℕ → List ℕ → Outcome → Type 0
+IsOutcome bytes text (Line i) = IsFirstBad (lines bytes) i
+IsOutcome bytes text outcome = (ts : List Tree) × ((ps : List ℕ) × (AreTerminals (lines bytes) ts ps × Finds ts ps text outcome))
+
+-- the line for the bytes and the text
+abbrev pub IsAnswer : List ℕ → List ℕ → List ℕ → Type 0
+IsAnswer bytes text line = (outcome : Outcome) × (IsOutcome bytes text outcome × (line ≡ line_of outcome))
+
+-- a reader was read to its end, and the outcome is that for its bytes and the text
+abbrev pub ReadsOutcome : Option (List ℕ) → Option (List ℕ) → List ℕ → Outcome → Type 0
+ReadsOutcome old new text outcome = (bytes : List ℕ) × (ReadsAll old new bytes × IsOutcome bytes text outcome)
+
+-- a reader was read to its end, and a writer took a beginning of the line for its bytes and the text
+abbrev pub WritesBeginning : Option (List ℕ) → Option (List ℕ) → List ℕ → Option (List ℕ) → Option (List ℕ) → Type 0
+WritesBeginning left left_now text held held_now =
+    (bytes : List ℕ) × (ReadsAll left left_now bytes × ((line : List ℕ) × (IsAnswer bytes text line × AppendsBeginning held held_now line)))

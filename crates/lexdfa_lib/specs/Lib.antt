@@ -1,0 +1,7 @@
+pub mod Watch
+pub mod Status
+pub mod Printed
+pub mod Lines
+pub mod Line
+pub mod Terminals
+pub mod Answer

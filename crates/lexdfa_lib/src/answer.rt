@@ -1,0 +1,109 @@
+ghost use Rattle.std.specs.Prelude.{◌≡◌, ◌≢◌, ℕ, List, false, true, map, length, IfOk, OnOk, IfErr, OnErr};
+ghost use Rattle.std.specs.Io.KnownBytes.{Appends};
+ghost use Rattle.lalrpop_re.specs.Tree.{Tree};
+ghost use Rattle.lalrpop_lexer.specs.Report.{IsReport};
+ghost use Rattle.lexdfa_lib.specs.Answer.{Finds, IsOutcome, ReadsOutcome, WritesBeginning};
+ghost use Rattle.lexdfa_lib.specs.Printed.{line_of};
+ghost use Rattle.lexdfa_lib.specs.declared.outcome.Outcome.{Outcome};
+
+use crate::ends::{read_whole, write_whole};
+use crate::error::RunError;
+use crate::longest::longest_match;
+use crate::outcome::{Outcome, outcome_line};
+use crate::terminals::{Terminals, read_terminals};
+use crate::watched::Watched;
+use lalrpop_lexer::lexer::dfa::{DfaConstructionError, Precedence};
+use lalrpop_lexer::lexer::re::Regex;
+use std::alloc::{AllocError, Global};
+use std::io::{Read, Write};
+
+/// The outcome where no automaton was made.
+fn reported(error: DfaConstructionError) -> Result<Outcome, AllocError>
+    ensures ok { IfOk result (λ outcome. (ts : List Tree) (ps text : List ℕ) → IsReport ts ps error → Finds ts ps text outcome) }
+    ensures memory { OnErr result (error ≡ DfaConstructionError.OutOfMemory) }
+{
+    match error {
+        DfaConstructionError::NfaConstructionError { index, error } => Ok(Outcome::Refused {
+            terminal: index.index(),
+            error,
+        }),
+        DfaConstructionError::Ambiguity { match0, match1 } => Ok(Outcome::Ambiguous {
+            match0: match0.index(),
+            match1: match1.index(),
+        }),
+        DfaConstructionError::OutOfMemory => Err(AllocError),
+    }
+}
+
+/// What the patterns find in the text.
+fn find(
+    alloc: Global,
+    regexs: &[Regex],
+    precedences: &[Precedence],
+    text: &str,
+) -> Result<Outcome, AllocError>
+    requires same_len { length regexs.now ≡ length precedences.now }
+    ensures { IfOk result (λ outcome. Finds regexs.now (map (λ p. p.0) precedences.now) text.now outcome) }
+{
+    match longest_match(alloc, regexs, precedences, text) {
+        Ok(Some((index, matched))) => Ok(Outcome::Match {
+            terminal: index.index(),
+            bytes: matched.len(),
+        }),
+        Ok(None) => Ok(Outcome::NoMatch),
+        Err(error) => reported(error),
+    }
+}
+
+/// The outcome for these bytes and the text.
+fn outcome_of(alloc: Global, bytes: &[u8], text: &str) -> Result<Outcome, AllocError>
+    ensures outcome { IfOk result (λ outcome. IsOutcome bytes.now text.now outcome) }
+    ensures only { IfOk result (λ outcome. (other : Outcome) → IsOutcome bytes.now text.now other → outcome ≡ other) }
+{
+    match read_terminals(alloc, bytes)? {
+        Terminals::All {
+            regexs,
+            precedences,
+        } => find(alloc, &regexs, &precedences, text),
+        Terminals::Bad { line } => Ok(Outcome::Line { line }),
+    }
+}
+
+/// Reads the reader to its end, and writes the line for what was read and the text.
+///
+/// Each line of input is a terminal `P l TEXT`: a precedence of 1 to 20 decimal digits, a space, the letter `l`, a space
+/// and the literal. Each line ends at a line feed, which the last may lack. No call of an end that has failed is made.
+pub fn run<R: Read, W: Write>(
+    alloc: Global,
+    reader: &mut Watched<R>,
+    text: &str,
+    writer: &mut Watched<W>,
+) -> Result<Outcome, RunError>
+    requires reader_good { reader.old.failed ≡ false }
+    requires writer_good { writer.old.failed ≡ false }
+
+    ensures outcome { IfOk result (λ outcome.
+        ReadsOutcome (R.remaining reader.old.inner) (R.remaining reader.new.inner) text.now outcome) }
+    ensures line { IfOk result (λ outcome.
+        Appends (W.contents writer.old.inner) (W.contents writer.new.inner) (line_of outcome)) }
+    ensures good { OnOk result ((reader.new.failed ≡ false) × (writer.new.failed ≡ false)) }
+
+    ensures memory { IfErr result (λ e. e ≡ RunError.OutOfMemory → reader.new.failed ≡ false) }
+    ensures read { IfErr result (λ e. e ≡ RunError.Read → reader.new.failed ≡ true) }
+    ensures nothing_written { IfErr result (λ e. e ≢ RunError.Write → writer.new ≡ writer.old) }
+
+    ensures write { IfErr result (λ e. e ≡ RunError.Write → (reader.new.failed ≡ false) × (writer.new.failed ≡ true)) }
+    ensures beginning { IfErr result (λ e. e ≡ RunError.Write →
+        WritesBeginning (R.remaining reader.old.inner) (R.remaining reader.new.inner) text.now
+        (W.contents writer.old.inner) (W.contents writer.new.inner)) }
+{
+    let bytes = read_whole(alloc, reader)?;
+    let Ok(outcome) = outcome_of(alloc, &bytes, text) else {
+        return Err(RunError::OutOfMemory);
+    };
+    let Ok(line) = outcome_line(alloc, &outcome) else {
+        return Err(RunError::OutOfMemory);
+    };
+    write_whole(writer, line.as_bytes())?;
+    Ok(outcome)
+}

@@ -1,0 +1,31 @@
+ghost use Rattle.std.specs.Prelude.{◌≡◌};
+ghost use Rattle.lexdfa_lib.specs.Status.{error_status};
+
+use thiserror::Error;
+
+/// Why a run ended without an outcome.
+#[derive(Debug, Drop, Error)]
+pub enum RunError {
+    /// A request for memory was refused.
+    #[error("OutOfMemory")]
+    OutOfMemory,
+    /// The reader has failed.
+    #[error("Read")]
+    Read,
+    /// The writer has failed.
+    #[error("Write")]
+    Write,
+}
+
+impl RunError {
+    /// The exit status that tells of the error: 5 for memory, 6 for an end that failed.
+    pub fn status(&self) -> u8
+        ensures { result ≡ error_status self.now }
+    {
+        match self {
+            RunError::OutOfMemory => 5,
+            RunError::Read => 6,
+            RunError::Write => 6,
+        }
+    }
+}

@@ -1,0 +1,83 @@
+ghost use Rattle.std.specs.Prelude.{◌≡◌, ◌||◌, false};
+ghost use Rattle.std.specs.Io.{ReadsAtMost, WritesAtMost};
+ghost use Rattle.std.specs.Io.KnownBytes.{ReadConsumes, WriteAppends};
+ghost use Rattle.lexdfa_lib.specs.Watch.{read_failed, write_failed};
+
+use std::io::{self, Read, Write};
+use std::marker::Model;
+
+/// A reader or a writer that remembers whether a call of it has failed.
+#[derive(Drop)]
+pub struct Watched<T> {
+    inner: T,
+    failed: bool,
+}
+
+impl<T> Model for Watched<T> {
+    ghost use Rattle.lexdfa_lib.specs.Watch.{Watch};
+
+    ghost Value = { Watch T };
+
+    ghost view = { λ w. record { inner = w.inner; failed = w.failed } };
+}
+
+impl<T> Watched<T> {
+    /// Holds an end, of which no call has failed.
+    pub fn new(inner: T) -> Watched<T>
+        ensures { result ≡ record { inner = inner; failed = false } }
+    {
+        Watched {
+            inner,
+            failed: false,
+        }
+    }
+
+    /// Whether some call has failed.
+    pub fn failed(&self) -> bool
+        ensures { result ≡ self.now.failed }
+    {
+        self.failed
+    }
+
+    /// Gives the end back.
+    pub fn into_inner(self) -> T
+        ensures { result ≡ self.inner }
+    {
+        let Watched { inner, failed: _ } = self;
+        inner
+    }
+}
+
+impl<R: Read> Watched<R> {
+    /// Passes one `read` on: gives the number of bytes that were put at the front of `buf`, or the
+    /// reader's error.
+    pub fn read(&mut self, buf: &mut [u8]) -> io::Result<usize>
+        ensures bound { ReadsAtMost result buf.new }
+        ensures bytes { ReadConsumes (R.remaining self.old.inner) (R.remaining self.new.inner) result buf.new }
+        ensures failed { self.new.failed ≡ (self.old.failed || read_failed result) }
+    {
+        let result = self.inner.read(buf);
+        if result.is_err() {
+            self.failed = true;
+        }
+        result
+    }
+}
+
+impl<W: Write> Watched<W> {
+    /// Passes one `write` on: gives the number of bytes of `buf` that were taken, or the writer's
+    /// error. A write that takes nothing of some bytes has failed too.
+    pub fn write(&mut self, buf: &[u8]) -> io::Result<usize>
+        ensures bound { WritesAtMost result buf.now }
+        ensures bytes { WriteAppends (W.contents self.old.inner) (W.contents self.new.inner) result buf.now }
+        ensures failed { self.new.failed ≡ (self.old.failed || write_failed buf.now result) }
+    {
+        let result = self.inner.write(buf);
+        match result {
+            Ok(0) if !buf.is_empty() => self.failed = true,
+            Ok(_) => {}
+            Err(_) => self.failed = true,
+        }
+        result
+    }
+}
