@@ -1,11 +1,10 @@
 -- What adding a set to the numbered ones does.
-use Rattle.std.proofs.Common.{◌≡◌, ℕ, zero, suc, ◌+◌, ◌<◌, ◌≤◌, ◌⊎◌, inl, inr, List, [], ◌∷◌, ◌++◌, length, drop, get_or, refl, ap, sym, ◌∙◌, subst, arith, Bool, true, false, cond, append_assoc, append-nil, add-one, drop-cons}
+use Rattle.std.proofs.Common.{◌≡◌, ℕ, zero, suc, ◌+◌, ◌<◌, ◌⊎◌, inl, inr, List, [], ◌∷◌, ◌++◌, length, drop, get_or, refl, ap, ap₂, sym, ◌∙◌, subst, arith, Bool, true, false, cond, append_assoc, add-one, drop-cons}
 use Rattle.std.specs.Prelude.{slice_get, Some}
-use Rattle.std.specs.BTreeMap.{BTreeMap, get, Updates}
+use Rattle.std.specs.BTreeMap.{BTreeMap, Updates}
 use Rattle.std.specs.List.{list_any}
 use Rattle.std.specs.Ordering.{is_eq}
-use Rattle.std.specs.Cmp.{IsTotalOrder, Equal-is}
-use Rattle.std.specs.declared.cmp.Ordering.{Ordering}
+use Rattle.std.specs.Cmp.{Equal-is}
 use Rattle.std.specs.declared.cmp.Ordering.TheVariants.{Equal}
 use Rattle.std.proofs.lemmas.Cmp.{tied_itself}
 use Rattle.std.proofs.lemmas.Map.Keys.{any_passes_from_place}
@@ -15,12 +14,19 @@ use Rattle.lalrpop_lexer.specs.Graph.{Graph}
 use Rattle.lalrpop_lexer.specs.Items.{Item}
 use Rattle.lalrpop_lexer.specs.Kernels.{Kernels, IsNumberOf, added}
 use Rattle.lalrpop_lexer.specs.Compiled.{start_state}
-use Rattle.lalrpop_lexer.specs.Machine.{starts_from, no_graph, closed}
+use Rattle.lalrpop_lexer.specs.Machine.{starts_from, no_graph, move}
+use Rattle.std.specs.Cmp.Lexicographic.{slice_cmp}
+use Rattle.std.specs.Ordering.{nat_cmp}
+use Rattle.lalrpop_lexer.specs.Ascending.{item_cmp}
+use Rattle.lalrpop_lexer.specs.Leads.{AreLeads, lead_cmp, leads_cmp}
+use Rattle.lalrpop_lexer.specs.declared.lexer.dfa.parts.Lead.{Lead}
+use Rattle.lalrpop_lexer.specs.declared.lexer.dfa.parts.Leads.{Leads}
 use Rattle.lalrpop_lexer.specs.ItemOrder.{set_cmp, set_total}
 use Rattle.lalrpop_lexer.specs.Builder.{AddedTo, AreKnown, AreAutomata, AreItemsOf}
 use Rattle.lalrpop_lexer.proofs.Members.{Has, has_from}
 use Rattle.lalrpop_lexer.proofs.Targets.{compiled_at}
-use Rattle.lalrpop_lexer.proofs.Noting.{bool_cases, then_equal, item_exact}
+use Rattle.lalrpop_lexer.proofs.Noting.{bool_cases, then_equal, item_exact, nat_exact}
+use Rattle.lalrpop_lexer.proofs.LeadMoves.{leads_move}
 
 pub set_exact : CmpEqualImpliesEq set_cmp
 set_exact [] [] e = refl
@@ -106,13 +112,27 @@ added_at : (sets : List (List Item)) (origins : List (ℕ × ℕ)) (n v : ℕ) (
 added_at sets origins n v t j sets2 origins2 (inl (e, a, b)) = rw a e
 added_at sets origins n v t j sets2 origins2 (inr (none, e, a, b)) = rw (a, e) (pushed_end sets t)
 
-pub known_more : (ns : List Graph) (known known2 : BTreeMap (List Item) ℕ) (sets : List (List Item)) (origins : List (ℕ × ℕ)) (n v : ℕ) (given t : List Item) (j : ℕ) (sets2 : List (List Item)) (origins2 : List (ℕ × ℕ))
-    → AreKnown ns known sets → AddedTo sets origins n v t j sets2 origins2 → t ≡ closed ns given → Updates set_cmp known known2 given (Some j) → AreKnown ns known2 sets2
-known_more ns known known2 sets origins n v given t j sets2 origins2 k add is u other i h = elim (bool_cases (is_eq (set_cmp given other))) [
+lead_exact : (x y : Lead) → lead_cmp x y ≡ Equal → x ≡ y
+lead_exact x y e =
+    let h = then_equal (item_cmp x.item y.item) (nat_cmp x.to y.to) e in
+    let a : x.item ≡ y.item = item_exact x.item y.item h.0 in
+    let b : x.to ≡ y.to = nat_exact x.to y.to h.1 in
+    ap₂ (λ i q. let l : Lead = record { item = i; to = q } in l) a b
+
+leads_exact : (xs ys : List Lead) → slice_cmp lead_cmp xs ys ≡ Equal → xs ≡ ys
+leads_exact [] [] e = refl
+leads_exact [] (y ∷ ys) e = cc
+leads_exact (x ∷ xs) [] e = cc
+leads_exact (x ∷ xs) (y ∷ ys) e = let h = then_equal _ _ e in let a : x ≡ y = lead_exact x y h.0 in let b : xs ≡ ys = leads_exact xs ys h.1 in cc
+
+pub known_more : (ns : List Graph) (s : List Item) (known known2 : BTreeMap Leads ℕ) (sets : List (List Item)) (origins : List (ℕ × ℕ)) (n v : ℕ) (leads : Leads) (j : ℕ) (sets2 : List (List Item)) (origins2 : List (ℕ × ℕ))
+    → AreKnown ns s known sets → AreLeads ns s v leads.list.items → AddedTo sets origins n v (move ns s v) j sets2 origins2 → Updates leads_cmp known known2 leads (Some j) → AreKnown ns s known2 sets2
+known_more ns s known known2 sets origins n v leads j sets2 origins2 k these add u other i w h are = elim (bool_cases (is_eq (leads_cmp leads other))) [
   | inl same ↦
-      (let e : given ≡ other = set_exact given other ((Equal-is (set_cmp given other)).0 same) in
+      (let e : leads.list.items ≡ other.list.items = leads_exact leads.list.items other.list.items ((Equal-is (leads_cmp leads other)).0 same) in
       let found : Some j ≡ Some i = sym (u.0 other ∙ rw same refl) ∙ h in
       let number : j ≡ i = cc in
-      rw (← number, ← e, ← is) (added_at sets origins n v t j sets2 origins2 add))
-  | inr apart ↦ added_stays sets origins n v t j sets2 origins2 add i (closed ns other) (k other i (sym (u.0 other ∙ rw apart refl) ∙ h))
+      let to : move ns s v ≡ move ns s w = leads_move ns s leads.list.items v w these (subst (AreLeads ns s w) (sym e) are) in
+      rw (← number, ← to) (added_at sets origins n v (move ns s v) j sets2 origins2 add))
+  | inr apart ↦ added_stays sets origins n v (move ns s v) j sets2 origins2 add i (move ns s w) (k other i w (sym (u.0 other ∙ rw apart refl) ∙ h) are)
 ]

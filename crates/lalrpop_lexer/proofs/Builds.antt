@@ -1,8 +1,8 @@
 -- The construction, step by step.
-use Rattle.std.proofs.Common.{◌≡◌, ℕ, zero, suc, ◌+◌, ◌<◌, ◌≤◌, ◌⊎◌, inl, inr, List, [], ◌∷◌, ◌++◌, length, map, take, get_or, refl, ap, sym, ◌∙◌, subst, arith, Option, Some, None, MatchOption, ◌^◌, add-one, length-append}
+use Rattle.std.proofs.Common.{◌≡◌, ℕ, zero, suc, ◌+◌, ◌<◌, ◌≤◌, inl, inr, List, [], ◌∷◌, ◌++◌, length, map, take, get_or, refl, ap, sym, ◌∙◌, subst, arith, Option, Some, None, MatchOption, ◌^◌, length-append}
 use Rattle.std.specs.Prelude.{slice_get}
 use Rattle.std.specs.List.{Contains, flat_map}
-use Rattle.std.proofs.lemmas.List.{take_more, take_all, length_push, get_or_append_left, get_or_push}
+use Rattle.std.proofs.lemmas.List.{take_more, take_all, length_push}
 use Rattle.std.proofs.lemmas.Option.{slice_get_cases, slice_get_within, slice_get-get_or, get_or_from_slice_get}
 use Rattle.lalrpop_re.specs.Range.{Range, Covers}
 use Rattle.lalrpop_re.specs.Tree.{Tree}
@@ -19,7 +19,6 @@ use Rattle.lalrpop_lexer.specs.Built.{machine_of, IsKindOf, IsRowOf, IsTied}
 use Rattle.lalrpop_lexer.specs.Builder.{AreAutomata, AreItemsOf, AddedTo, AreSmall, Keep, IsEdged, IsBuiltTo, IsTieOf, IsClashOf}
 use Rattle.lalrpop_lexer.specs.declared.lexer.dfa.error.DfaConstructionError.{DfaConstructionError}
 use Rattle.lalrpop_lexer.specs.declared.lexer.dfa.error.DfaConstructionError.TheVariants.{NfaConstructionError as Refused, Ambiguity, OutOfMemory}
-use Rattle.lalrpop_lexer.specs.declared.lexer.dfa.Kind.{Kind}
 use Rattle.lalrpop_lexer.proofs.Sets.{first_set_ascends, first_set_items, move_ascends, move_items}
 use Rattle.lalrpop_lexer.proofs.Steps.{numbering_none}
 use Rattle.lalrpop_lexer.proofs.RowSteps.{added_keeps, added_is, past, taken_range, taken_other, tests_lead_more, tests_lead_kept, run_small}

@@ -104,26 +104,35 @@ module _ (ts : List Tree) (ns : List Graph) (h : AreCompiled ts ns) where
   pub large_dead : (s : List Item) (c : ℕ) → 1114111 < c → is_dead (move ns s c) ≡ true
   large_dead s c l = uncovered_dead s c (large_uncovered s c l)
 
--- values in the same labels lead to the same set
-module _ (ns : List Graph) (s : List Item) where
-  alike_reads : (c d : ℕ) → Alike (IsLeaving ns s) c d → (x : Item) (g : Graph) (p q : ℕ) → slice_get ns x.0 ≡ Some g → Has s (x.0, p) → Reads g.edges p c q → Reads g.edges p d q
-  alike_reads c d a x g p q at m (inl r) = inl (r.0, (r.1.0, (a r.0 ((x.0, p), g, q, (contains_from s (x.0, p) m, at, r.1.0))).0 r.1.1))
-  alike_reads c d a x g p q at m (inr r) = inr (r.0, λ t e k n. r.1 t e k ((a t ((x.0, p), g, e, (contains_from s (x.0, p) m, at, k))).1 n))
+-- what the items take by c they take by d
+abbrev pub TakeAlso : List Graph → List Item → ℕ → ℕ → Type 0
+TakeAlso ns s c d = (x : Item) (g : Graph) (p q : ℕ) → slice_get ns x.0 ≡ Some g → Has s (x.0, p) → Reads g.edges p c q → Reads g.edges p d q
 
-  alike_has : (c d : ℕ) → Alike (IsLeaving ns s) c d → (x : Item) → Has (move ns s c) x → Has (move ns s d) x
-  alike_has c d a x h =
+-- values by which the items take the same edges lead to the same set
+module _ (ns : List Graph) (s : List Item) where
+  reads_has : (c d : ℕ) → TakeAlso ns s c d → (x : Item) → Has (move ns s c) x → Has (move ns s d) x
+  reads_has c d a x h =
       let m : IsMoved ns s c x = moved ns s c x h in
       move_has ns s d x (x.0, m.first) (x.0, m.second) m.item m.member
-      (item_targets_have ns d (x.0, m.first) m.second m.graph m.at (alike_reads c d a x m.graph m.first m.second m.at m.member m.edge)) m.follows
+      (item_targets_have ns d (x.0, m.first) m.second m.graph m.at (a x m.graph m.first m.second m.at m.member m.edge)) m.follows
+
+  pub reads_moves : (c d : ℕ) → TakeAlso ns s c d → TakeAlso ns s d c → move ns s c ≡ move ns s d
+  reads_moves c d a b = same_items (move ns s c) (move ns s d) (move_ascends ns s c) (move_ascends ns s d) (λ x. (
+    λ h. contains_from (move ns s d) x (reads_has c d a x (has_from (move ns s c) x h)),
+    λ h. contains_from (move ns s c) x (reads_has d c b x (has_from (move ns s d) x h)),
+  ))
+
+-- values in the same labels lead to the same set
+module _ (ns : List Graph) (s : List Item) where
+  alike_reads : (c d : ℕ) → Alike (IsLeaving ns s) c d → TakeAlso ns s c d
+  alike_reads c d a x g p q at m (inl r) = inl (r.0, (r.1.0, (a r.0 ((x.0, p), g, q, (contains_from s (x.0, p) m, at, r.1.0))).0 r.1.1))
+  alike_reads c d a x g p q at m (inr r) = inr (r.0, λ t e k n. r.1 t e k ((a t ((x.0, p), g, e, (contains_from s (x.0, p) m, at, k))).1 n))
 
   pub alike_back : (c d : ℕ) → Alike (IsLeaving ns s) c d → Alike (IsLeaving ns s) d c
   alike_back c d a r h = ((a r h).1, (a r h).0)
 
   pub alike_moves : (c d : ℕ) → Alike (IsLeaving ns s) c d → move ns s c ≡ move ns s d
-  alike_moves c d a = same_items (move ns s c) (move ns s d) (move_ascends ns s c) (move_ascends ns s d) (λ x. (
-    λ h. contains_from (move ns s d) x (alike_has c d a x (has_from (move ns s c) x h)),
-    λ h. contains_from (move ns s c) x (alike_has d c (alike_back c d a) x (has_from (move ns s d) x h)),
-  ))
+  alike_moves c d a = reads_moves ns s c d (alike_reads c d a) (alike_reads d c (alike_back c d a))
 
   -- two values that no label covers lead to the same set
   pub uncovered_same : (c d : ℕ) → (IsCovered (IsLeaving ns s) c → ⊥) → (IsCovered (IsLeaving ns s) d → ⊥) → move ns s c ≡ move ns s d

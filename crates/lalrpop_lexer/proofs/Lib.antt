@@ -48,3 +48,5 @@ pub mod Adding
 pub mod Builds
 pub mod Compiling
 pub mod LayerLemmas
+mod LeadSteps
+mod LeadMoves

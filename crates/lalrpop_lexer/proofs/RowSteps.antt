@@ -41,7 +41,7 @@ abbrev pub past : List Range → ℕ → ℕ
 past xs zero = 0
 past xs (suc k) = past_end (slice_get xs k)
 
-abbrev NotEmpty : List Range → Type 0
+abbrev pub NotEmpty : List Range → Type 0
 NotEmpty xs = (x : Range) → Has xs x → x.start ≤ x.end
 
 head_below : (ys : List Range) (x : Range) (k : ℕ) (b : Range) → AreAscending (x ∷ ys) → NotEmpty ys → slice_get ys k ≡ Some b → x.end < b.start
@@ -55,7 +55,7 @@ ascending_tail : (x : Range) (ys : List Range) → AreAscending (x ∷ ys) → A
 ascending_tail x [] a = tt
 ascending_tail x (y ∷ ys) a = a.1
 
-ascending_at : (xs : List Range) (i k : ℕ) (a b : Range) → AreAscending xs → NotEmpty xs → i < k → slice_get xs i ≡ Some a → slice_get xs k ≡ Some b → a.end < b.start
+pub ascending_at : (xs : List Range) (i k : ℕ) (a b : Range) → AreAscending xs → NotEmpty xs → i < k → slice_get xs i ≡ Some a → slice_get xs k ≡ Some b → a.end < b.start
 ascending_at [] i k a b up f l d e = cc
 ascending_at (x ∷ xs) i zero a b up f l d e = absurd (omega arith)
 ascending_at (x ∷ xs) zero (suc k) a b up f l d e = let same : x ≡ a = cc in rw (← same) (head_below xs x k b up (λ z h. f z (inr h)) e)

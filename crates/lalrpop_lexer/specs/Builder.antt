@@ -9,8 +9,9 @@ use Rattle.lalrpop_lexer.specs.Clash.{IsClash}
 use Rattle.lalrpop_lexer.specs.Dfa.{Row}
 use Rattle.lalrpop_lexer.specs.Items.{Item, AreCompiled, IsLeaving}
 use Rattle.lalrpop_lexer.specs.Ascending.{IsItemOf}
-use Rattle.lalrpop_lexer.specs.Machine.{move, closed}
-use Rattle.lalrpop_lexer.specs.ItemOrder.{set_cmp}
+use Rattle.lalrpop_lexer.specs.Machine.{move}
+use Rattle.lalrpop_lexer.specs.Leads.{AreLeads, leads_cmp}
+use Rattle.lalrpop_lexer.specs.declared.lexer.dfa.parts.Leads.{Leads}
 use Rattle.lalrpop_lexer.specs.Numbering.{Numbering, nth, value_of}
 use Rattle.lalrpop_lexer.specs.Built.{machine_of, IsRowOf, IsTied}
 use Rattle.lalrpop_lexer.specs.Report.{FirstFault}
@@ -34,9 +35,9 @@ AddedTo sets origins n v t j sets2 origins2 =
     ((slice_get sets j ≡ Some t) × (sets2 ≡ sets) × (origins2 ≡ origins))
     ⊎ (((k : ℕ) → slice_get sets k ≡ Some t → ⊥) × (j ≡ length sets) × (sets2 ≡ sets ++ t ∷ []) × (origins2 ≡ origins ++ (n, v) ∷ []))
 
--- each number of the map is that of the set to which the items lead by reading nothing
-abbrev pub AreKnown : List Graph → BTreeMap (List Item) ℕ → List (List Item) → Type 0
-AreKnown ns known sets = (given : List Item) (j : ℕ) → get set_cmp known given ≡ Some j → slice_get sets j ≡ Some (closed ns given)
+-- each number of the map is that of the set to which the set s leads by the values that take these test edges
+abbrev pub AreKnown : List Graph → List Item → BTreeMap Leads ℕ → List (List Item) → Type 0
+AreKnown ns s known sets = (leads : Leads) (j v : ℕ) → get leads_cmp known leads ≡ Some j → AreLeads ns s v leads.list.items → slice_get sets j ≡ Some (move ns s v)
 
 -- the values of origins are of 32 bits
 abbrev pub AreSmall : List (ℕ × ℕ) → Type 0

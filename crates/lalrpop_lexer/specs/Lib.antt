@@ -36,3 +36,4 @@ pub mod Best
 pub mod Labels
 pub mod SameAutomata
 pub mod SameLaws
+pub mod Leads

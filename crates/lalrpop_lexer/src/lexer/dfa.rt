@@ -13,6 +13,7 @@ pub mod interpret;
 mod items;
 mod labels;
 pub mod overlap;
+mod parts;
 #[cfg(test)]
 mod tests;
 

@@ -8,14 +8,14 @@ ghost use Rattle.lalrpop_lexer.specs.Built.{machine_of};
 ghost use Rattle.lalrpop_lexer.specs.Clash.{NoClash};
 ghost use Rattle.lalrpop_lexer.specs.Dfa.{Stands};
 ghost use Rattle.lalrpop_lexer.specs.Items.{AreCompiled, HoldsItems, OthersReject, IsInWordOrder};
-ghost use Rattle.lalrpop_lexer.specs.Machine.{closed, starts_from, first_set_of};
+ghost use Rattle.lalrpop_lexer.specs.Leads.{AreLeads};
+ghost use Rattle.lalrpop_lexer.specs.Machine.{move, starts_from, first_set_of};
 ghost use Rattle.lalrpop_lexer.specs.Numbering.{Numbering, nth};
 
 use super::best::{Tie, kind_of};
 use super::closure::{advance, closure};
 use super::items::{Item, ItemSet, Origin};
-use super::labels::labels_of;
-use super::overlap::remove_overlap;
+use super::parts::{Leads, Part, parts_of};
 use super::{Dfa, DfaConstructionError, DfaStateIndex, NfaIndex, Precedence, State};
 use crate::kernel_set::KernelSet;
 use crate::lexer::nfa::{Nfa, START, Test};
@@ -84,31 +84,51 @@ impl Table {
         Ok(number)
     }
 
-    // The number of the set that the items lead to by reading nothing: looked up where they were met before.
-    fn number_of(
+    // The number of the set that a set leads to by the origin's value.
+    fn led_to(
         &mut self,
         alloc: Global,
         nfas: &[Nfa],
-        known: &mut BTreeMap<ItemSet, DfaStateIndex>,
-        given: Vec<Item>,
+        set: &ItemSet,
         origin: Origin,
     ) -> Result<DfaStateIndex, AllocError>
         requires automata { AreAutomata nfas.now }
-        requires inside { AreItemsOf nfas.now given.items }
+        requires inside { AreItemsOf nfas.now set.now }
         requires same_length { length self.old.origins.items ≡ length self.old.kernels.list }
-        requires known { AreKnown nfas.now known.old self.old.kernels.list }
-        ensures added { IfOk result (λ j. AddedTo self.old.kernels.list self.old.origins.items origin.0 origin.1 (closed nfas.now given.items) j self.new.kernels.list self.new.origins.items) }
-        ensures known { OnOk result (AreKnown nfas.now known.new self.new.kernels.list) }
+        ensures added { IfOk result (λ j. AddedTo self.old.kernels.list self.old.origins.items origin.0 origin.1 (move nfas.now set.now origin.1) j self.new.kernels.list self.new.origins.items) }
         ensures place { OnOk result (self.new.kernels.place ≡ self.old.kernels.place) }
         ensures states { OnOk result (self.new.states.items ≡ self.old.states.items) }
     {
-        let given = ItemSet { items: given };
-        if let Some(number) = known.get(&given) {
+        let given = advance(alloc, nfas, set, origin.value)?;
+        let target = closure(alloc, nfas, &given)?;
+        self.add(target, origin)
+    }
+
+    // The same, where the value takes these test edges: looked up where they were met before.
+    fn led_to_by(
+        &mut self,
+        alloc: Global,
+        nfas: &[Nfa],
+        set: &ItemSet,
+        known: &mut BTreeMap<Leads, DfaStateIndex>,
+        leads: Leads,
+        origin: Origin,
+    ) -> Result<DfaStateIndex, AllocError>
+        requires automata { AreAutomata nfas.now }
+        requires inside { AreItemsOf nfas.now set.now }
+        requires same_length { length self.old.origins.items ≡ length self.old.kernels.list }
+        requires leads { AreLeads nfas.now set.now origin.1 leads.list.items }
+        requires known { AreKnown nfas.now set.now known.old self.old.kernels.list }
+        ensures added { IfOk result (λ j. AddedTo self.old.kernels.list self.old.origins.items origin.0 origin.1 (move nfas.now set.now origin.1) j self.new.kernels.list self.new.origins.items) }
+        ensures known { OnOk result (AreKnown nfas.now set.now known.new self.new.kernels.list) }
+        ensures place { OnOk result (self.new.kernels.place ≡ self.old.kernels.place) }
+        ensures states { OnOk result (self.new.states.items ≡ self.old.states.items) }
+    {
+        if let Some(number) = known.get(&leads) {
             return Ok(*number);
         }
-        let set = closure(alloc, nfas, &given.items)?;
-        let number = self.add(set, origin)?;
-        known.insert(given, number)?;
+        let number = self.led_to(alloc, nfas, set, origin)?;
+        known.insert(leads, number)?;
         Ok(number)
     }
 
@@ -128,21 +148,15 @@ impl Table {
         ensures place { OnOk result (self.new.kernels.place ≡ self.old.kernels.place) }
         ensures states { OnOk result (self.new.states.items ≡ self.old.states.items) }
     {
-        let labels = labels_of(alloc, nfas, set)?;
-        let ranges = remove_overlap(alloc, &labels)?;
         let mut known = BTreeMap::new(alloc);
         let mut tests = Vec::new(alloc);
-        for range in ranges.iter() {
-            let value = range.start();
-            let given = advance(alloc, nfas, set, value)?;
-            let origin = Origin::new(number, value);
-            let target = self.number_of(alloc, nfas, &mut known, given, origin)?;
-            let range = range.clone()?;
+        for part in parts_of(alloc, nfas, set)? {
+            let Part { range, leads } = part;
+            let origin = Origin::new(number, range.start());
+            let target = self.led_to_by(alloc, nfas, set, &mut known, leads, origin)?;
             tests.push((range, target))?;
         }
-        let given = advance(alloc, nfas, set, u32::MAX)?;
-        let origin = Origin::new(number, u32::MAX);
-        let other = self.number_of(alloc, nfas, &mut known, given, origin)?;
+        let other = self.led_to(alloc, nfas, set, Origin::new(number, u32::MAX))?;
         Ok(Edges { tests, other })
     }
 

@@ -127,7 +127,7 @@ impl Origin {
     }
 }
 
-/// Items: those that a state holds, ascending, or those that a state's items lead to.
+/// The items that a state holds, ascending.
 #[derive(Debug, Drop)]
 pub(super) struct ItemSet {
     pub(super) items: Vec<Item>,
