@@ -4,7 +4,7 @@ use Rattle.std.specs.List.{Contains, slice_get}
 use Rattle.lalrpop_re.specs.Range.{Range, Covers}
 use Rattle.lalrpop_re.specs.Tree.{Tree}
 use Rattle.lalrpop_lexer.specs.Graph.{Graph}
-use Rattle.lalrpop_lexer.specs.Path.{Path, here, skip, read, fall, noop, test, other}
+use Rattle.lalrpop_lexer.specs.Path.{Reads, Path, here, skip, read, fall, noop, test, other}
 use Rattle.lalrpop_lexer.specs.Compiled.{IsCompiled, reject_state}
 use Rattle.lalrpop_lexer.specs.Runs.{IsCovered, Alike}
 use Rattle.lalrpop_lexer.specs.Items.{Item, AreCompiled, IsLeaving}
@@ -13,7 +13,6 @@ use Rattle.lalrpop_lexer.specs.Machine.{follows_silently, item_targets, move, is
 use Rattle.lalrpop_lexer.specs.Numbering.{DeadStays}
 use Rattle.lalrpop_lexer.specs.Built.{machine_of}
 use Rattle.lalrpop_lexer.proofs.Members.{Has, has_from, contains_from, all_has, all_from_has}
-use Rattle.lalrpop_lexer.proofs.PathLemmas.{Reads}
 use Rattle.lalrpop_lexer.proofs.Targets.{item_targets_place, item_targets_parts, item_targets_have, compiled_at}
 use Rattle.lalrpop_lexer.proofs.Sets.{move_parts, move_has, move_ascends, same_items}
 use Rattle.lalrpop_lexer.proofs.ReachedItems.{follows_place, follows_path}

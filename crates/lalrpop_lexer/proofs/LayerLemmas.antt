@@ -12,11 +12,12 @@ use Rattle.lalrpop_re.specs.Tree.{Tree}
 use Rattle.lalrpop_re.specs.Language.{Matches}
 use Rattle.lalrpop_lexer.specs.Lists.{Lists}
 use Rattle.lalrpop_lexer.specs.Graph.{Graph}
-use Rattle.lalrpop_lexer.specs.Path.{Path, here, skip, read, fall, noop, test, other, IsUntested}
+use Rattle.lalrpop_lexer.specs.Path.{Path, Tests, Reads, here, skip, read, fall, noop, test, other, IsUntested}
 use Rattle.lalrpop_lexer.specs.Compiled.{IsCompiled, start_state, accept_state, reject_state}
-use Rattle.lalrpop_lexer.specs.Layers.{IsLayer, IsGrown, Skips, Tests, Reads, IsClosed, IsClosure, IsMove}
+use Rattle.lalrpop_lexer.specs.Layers.{IsLayer, IsGrown, Skips, IsClosed, IsClosure, IsMove}
 use Rattle.lalrpop_lexer.specs.declared.lexer.nfa.edge.StateKind.TheVariants.{Accept, Reject}
 use Rattle.lalrpop_lexer.specs.declared.lexer.nfa.edge.Edge.{Edge}
+use Rattle.lalrpop_lexer.proofs.PathLemmas.{path_join}
 
 -- ---- marks
 
@@ -260,13 +261,6 @@ contains_at xs q h = (h.0, (h.1, get_or_default xs h.0 0 q h.1 ∙ h.2))
 same_front : (n : ℕ) (old new : List ℕ) (T : ℕ → Type 0) (k : ℕ) → IsGrown n old new T → k < length old → get_or new k 0 ≡ get_or old k 0
 same_front n old new T k h l = ap (λ xs. get_or xs k 0) h.kept.1 ∙ get_or_append_left old h.kept.0 0 k l
 
--- one path after another
-pub path_then : (e : Lists) (q r : ℕ) (v : List ℕ) → Path e q r v → (p : ℕ) (u : List ℕ) → Path e r p u → Path e q p (u ++ v)
-path_then e q r v t p u (here a same) = subst (λ k. Path e q k v) (sym same) t
-path_then e q r v t p u (skip a b w h s) = skip a b (w ++ v) h (path_then e q r v t b w s)
-path_then e q r v t p u (read a b w x c h k s) = read a b (w ++ v) x c h k (path_then e q r v t b w s)
-path_then e q r v t p u (fall a b w c h k s) = fall a b (w ++ v) c h k (path_then e q r v t b w s)
-
 -- the states before the place have their followers listed
 pub record IsClosing (e : Lists) (n : ℕ) (given now : List ℕ) (place : ℕ) : Type 0 where
   pub kept : (q : ℕ) → Contains given q → Contains now q
@@ -288,7 +282,7 @@ closing_more e n given now new place from h l at g = record {
       ⊎_elim (λ (a : Contains now q). h.sound q a)
       (λ (a : Skips e from q).
       let before = h.sound from (rw at (Contains-get_or now place 0 l)) in
-      (before.0, (before.1.0, path_then e q from [] (skip from q [] a (here q refl)) before.0 [] before.1.1)))
+      (before.0, (before.1.0, path_join e q from [] (skip from q [] a (here q refl)) before.0 [] before.1.1)))
       (g.sound q k);
   passed = λ k q below s m.
       ⊎_elim (λ (a : k < place).
@@ -419,7 +413,7 @@ cross g c last v states next ends closed move p w (fall a b u d h un s) e k =
 pub after_next : (g : Graph) (u : List ℕ) (c : ℕ) (states next : List ℕ) → IsAfterWord g u states → IsMove g.edges (length g.kinds) c states next
     → IsAfterWord g (u ++ c ∷ []) next
 after_next g u c states next h move = record {
-  sound = λ q k. let s = move.sound q k in path_then g.edges q s.0 (c ∷ []) s.1.1 start_state u (h.sound s.0 s.1.0);
+  sound = λ q k. let s = move.sound q k in path_join g.edges q s.0 (c ∷ []) s.1.1 start_state u (h.sound s.0 s.1.0);
   complete = λ ends last v t.
       let before = h.complete ends last (c ∷ v) (subst (Path g.edges last start_state) (append_assoc u (c ∷ []) v) t) in
       cross g c last v states next ends h.closed move before.0 (c ∷ v) before.1.1 refl before.1.0;

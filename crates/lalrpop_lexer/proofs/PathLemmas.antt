@@ -1,11 +1,11 @@
 -- Paths one after another, and a path before and after its last value.
-use Rattle.std.proofs.Common.{◌≡◌, ℕ, ◌<◌, ◌⊎◌, inl, inr, List, [], ◌∷◌, ◌++◌, length, refl, sym, subst, arith}
+use Rattle.std.proofs.Common.{◌≡◌, ℕ, ◌<◌, inl, inr, List, [], ◌∷◌, ◌++◌, length, refl, sym, subst, arith}
 use Rattle.std.specs.List.{Contains}
 use Rattle.lalrpop_re.specs.Range.{Range, Covers}
 use Rattle.lalrpop_re.specs.Tree.{Tree}
 use Rattle.lalrpop_lexer.specs.Graph.{Graph}
 use Rattle.lalrpop_lexer.specs.Lists.{Lists}
-use Rattle.lalrpop_lexer.specs.Path.{Path, here, skip, read, fall, noop, test, other, IsUntested}
+use Rattle.lalrpop_lexer.specs.Path.{Path, Reads, here, skip, read, fall, noop, test, other, IsUntested}
 use Rattle.lalrpop_lexer.specs.Compiled.{IsCompiled, reject_state}
 
 -- one path after another
@@ -14,10 +14,6 @@ path_join e q r v t p u (here a same) = subst (λ (k : ℕ). Path e q k v) (sym 
 path_join e q r v t p u (skip a b w h s) = skip a b (w ++ v) h (path_join e q r v t b w s)
 path_join e q r v t p u (read a b w x c h k s) = read a b (w ++ v) x c h k (path_join e q r v t b w s)
 path_join e q r v t p u (fall a b w c h k s) = fall a b (w ++ v) c h k (path_join e q r v t b w s)
-
--- one edge leads from p to q and reads the value
-abbrev pub Reads : Lists → ℕ → ℕ → ℕ → Type 0
-Reads e p c q = ((r : Range) × (Contains e.tests (test p r q) × Covers r c)) ⊎ (Contains e.others (other p q) × IsUntested e p c)
 
 -- a path that reads w, an edge that reads c, and a path that reads nothing
 abbrev pub ReadsLast : Lists → ℕ → ℕ → ℕ → List ℕ → Type 0

@@ -4,7 +4,7 @@ use Rattle.std.specs.List.{Contains, slice_get}
 use Rattle.std.proofs.lemmas.Bool.{and_parts, and_from}
 use Rattle.lalrpop_re.specs.Tree.{Tree}
 use Rattle.lalrpop_lexer.specs.Graph.{Graph}
-use Rattle.lalrpop_lexer.specs.Path.{Path}
+use Rattle.lalrpop_lexer.specs.Path.{Reads, Path}
 use Rattle.lalrpop_lexer.specs.Compiled.{IsCompiled, start_state}
 use Rattle.lalrpop_lexer.specs.Items.{Item, AreCompiled, IsReached}
 use Rattle.lalrpop_lexer.specs.Ascending.{AreAscendingItems, IsItemOf}
@@ -14,7 +14,7 @@ use Rattle.lalrpop_lexer.specs.Built.{machine_of}
 use Rattle.lalrpop_lexer.proofs.Members.{Has, has_from, contains_from}
 use Rattle.lalrpop_lexer.proofs.WordOrder.{from_the_end}
 use Rattle.lalrpop_lexer.proofs.Numbering.{after_push}
-use Rattle.lalrpop_lexer.proofs.PathLemmas.{Reads, path_join, path_split, path_edge, path_inside}
+use Rattle.lalrpop_lexer.proofs.PathLemmas.{path_join, path_split, path_edge, path_inside}
 use Rattle.lalrpop_lexer.proofs.Silent.{silent_path, path_silent}
 use Rattle.lalrpop_lexer.proofs.Targets.{graph_is, item_targets_parts, item_targets_have, compiled_at}
 use Rattle.lalrpop_lexer.proofs.Sets.{closed_parts, closed_has, move_parts, move_has, first_set_ascends, move_ascends}

@@ -8,12 +8,11 @@ use Rattle.lalrpop_re.specs.Tree.{Tree}
 use Rattle.lalrpop_lexer.specs.declared.lexer.nfa.edge.Edge.{Edge}
 use Rattle.lalrpop_lexer.specs.declared.lexer.nfa.edge.Other.{Other}
 use Rattle.lalrpop_lexer.specs.Graph.{Graph}
-use Rattle.lalrpop_lexer.specs.Path.{test, other, IsUntested}
+use Rattle.lalrpop_lexer.specs.Path.{Reads, test, other, IsUntested}
 use Rattle.lalrpop_lexer.specs.Compiled.{IsCompiled}
 use Rattle.lalrpop_lexer.specs.Items.{Item, AreCompiled}
 use Rattle.lalrpop_lexer.specs.Machine.{no_graph, graph_at, tested, fallen, or_instead, targets, item_targets}
 use Rattle.lalrpop_lexer.proofs.Members.{Has, has_from, contains_from, has_filter, filter_has, has_map, map_has}
-use Rattle.lalrpop_lexer.proofs.PathLemmas.{Reads}
 
 module _ (g : Graph) (p c : ℕ) where
   abbrev covers_here : Edge Range → Bool

@@ -1,9 +1,8 @@
 -- The states that a word leads to, as the run of one automaton lists and marks them.
 use Rattle.std.specs.Prelude.{◌≡◌, ℕ, ◌<◌, ◌⊎◌, ◌↔◌, Bool, true, false, List, [], ◌∷◌, ◌++◌, length, slice_index_or}
 use Rattle.std.specs.List.{Contains, count_by}
-use Rattle.lalrpop_re.specs.Range.{Range, Covers}
 use Rattle.lalrpop_lexer.specs.Lists.{Lists}
-use Rattle.lalrpop_lexer.specs.Path.{Path, noop, test, other, IsUntested}
+use Rattle.lalrpop_lexer.specs.Path.{Path, Reads, noop}
 
 -- the marked states are the listed ones, and each is listed once
 pub record IsLayer (states : List ℕ) (marks : List Bool) : Type 0 where
@@ -13,14 +12,6 @@ pub record IsLayer (states : List ℕ) (marks : List Bool) : Type 0 where
 -- one edge that reads nothing leads from p to q
 abbrev pub Skips : Lists → ℕ → ℕ → Type 0
 Skips e p q = Contains e.noops (noop p q)
-
--- a test edge that covers the value leads from p to q
-abbrev pub Tests : Lists → ℕ → ℕ → ℕ → Type 0
-Tests e p c q = (r : Range) × (Contains e.tests (test p r q) × Covers r c)
-
--- an edge that reads the value leads from p to q
-abbrev pub Reads : Lists → ℕ → ℕ → ℕ → Type 0
-Reads e p c q = Tests e p c q ⊎ (Contains e.others (other p q) × IsUntested e p c)
 
 -- states were added at the end: only ones that T holds of, and each of them below n
 pub record IsGrown (n : ℕ) (old new : List ℕ) (T : ℕ → Type 0) : Type 0 where

@@ -1,5 +1,5 @@
 -- How steps lead from state to state of an automaton and read a word.
-use Rattle.std.specs.Prelude.{◌≡◌, ℕ, List, [], ◌∷◌}
+use Rattle.std.specs.Prelude.{◌≡◌, ℕ, ◌⊎◌, List, [], ◌∷◌}
 use Rattle.std.specs.List.{Contains}
 use Rattle.lalrpop_re.specs.Range.{Range, Covers}
 use Rattle.lalrpop_lexer.specs.Lists.{Lists}
@@ -22,6 +22,14 @@ other p q = record { from = p; label = record {}; to = q }
 -- no test edge of the state covers the value
 abbrev pub IsUntested : Lists → ℕ → ℕ → Type 0
 IsUntested e p c = (r : Range) (q : ℕ) → Contains e.tests (test p r q) → Covers r c → ⊥
+
+-- a test edge that covers the value leads from p to q
+abbrev pub Tests : Lists → ℕ → ℕ → ℕ → Type 0
+Tests e p c q = (r : Range) × (Contains e.tests (test p r q) × Covers r c)
+
+-- an edge that reads the value leads from p to q
+abbrev pub Reads : Lists → ℕ → ℕ → ℕ → Type 0
+Reads e p c q = Tests e p c q ⊎ (Contains e.others (other p q) × IsUntested e p c)
 
 -- steps lead from a state to the last one and read a word
 pub data Path (e : Lists) (last : ℕ) : ℕ → List ℕ → Type 0 where

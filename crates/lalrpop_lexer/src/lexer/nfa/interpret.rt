@@ -7,7 +7,8 @@ ghost use Rattle.std.specs.Str.{chars};
 ghost use Rattle.lalrpop_re.specs.Tree.{Tree};
 ghost use Rattle.lalrpop_re.specs.Language.{Matches};
 ghost use Rattle.lalrpop_lexer.specs.Compiled.{IsCompiled, start_state};
-ghost use Rattle.lalrpop_lexer.specs.Layers.{IsLayer, IsGrown, Skips, Reads, IsClosure, IsMove};
+ghost use Rattle.lalrpop_lexer.specs.Layers.{IsLayer, IsGrown, Skips, IsClosure, IsMove};
+ghost use Rattle.lalrpop_lexer.specs.Path.{Reads};
 ghost use Rattle.lalrpop_lexer.specs.Longest.{IsLongestOf};
 ghost use Rattle.lalrpop_lexer.specs.declared.lexer.nfa.edge.StateKind.TheVariants.{Accept, Reject};
 

@@ -2,7 +2,8 @@ use Rattle.std.proofs.Common.{◌≡◌, ◌+◌, ℕ, length, true, false}
 use Rattle.std.specs.List.{Contains}
 use Rattle.lalrpop_re.specs.Range.{Range, Covers}
 use Rattle.lalrpop_lexer.specs.declared.lexer.nfa.edge.Edge.{Edge}
-use Rattle.lalrpop_lexer.specs.Layers.{IsLayer, Tests}
+use Rattle.lalrpop_lexer.specs.Layers.{IsLayer}
+use Rattle.lalrpop_lexer.specs.Path.{Tests}
 use Rattle.lalrpop_lexer.proofs.LayerLemmas.{IsGoing}
 use Rattle.lalrpop_lexer.proofs.lexer.nfa.interpret.Layer.add_read.Given as goal
 

@@ -1,5 +1,6 @@
 use Rattle.std.proofs.Common.{◌≡◌, ◌∙◌, subst, length, arith, ap, get_or}
-use Rattle.lalrpop_lexer.specs.Layers.{IsGrown, Reads}
+use Rattle.lalrpop_lexer.specs.Layers.{IsGrown}
+use Rattle.lalrpop_lexer.specs.Path.{Reads}
 use Rattle.lalrpop_lexer.proofs.LayerLemmas.{item_within, item_at, moving_more, moving_end}
 use Rattle.lalrpop_lexer.proofs.lexer.nfa.interpret.Layer.after.Goals as goal
 
