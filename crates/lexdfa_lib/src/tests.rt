@@ -1,5 +1,6 @@
 use crate::{Outcome, RunError, Watched, arguments, longest_match, run};
-use lalrpop_lexer::lexer::dfa::Precedence;
+use lalrpop_lexer::lexer::dfa::interpret::interpret;
+use lalrpop_lexer::lexer::dfa::{Precedence, build_dfa};
 use lalrpop_lexer::lexer::re::parse_literal;
 use std::alloc::Global;
 use std::io;
@@ -160,6 +161,21 @@ fn a_match_is_the_longest(rt: HostRuntime) -> Result<(), Fail> {
     if let Ok(Some((index, text))) = longest_match(rt.alloc(), &regexs, &precedences, "abcd") {
         place = Some(index.index());
         assert!(rt; text == "abc");
+    }
+    assert_eq!(rt; place, Some(1));
+    Ok(())
+}
+
+// The example of the README.
+#[test]
+fn built_once_and_run(rt: HostRuntime) -> Result<(), Fail> {
+    let alloc = rt.alloc();
+    let regexs = vec![in alloc; parse_literal(alloc, "abc")?, parse_literal(alloc, "abcd")?]?;
+    let dfa = build_dfa(alloc, &regexs, &[Precedence(0), Precedence(0)])?;
+    let mut place = None;
+    if let Some((index, text)) = interpret(&dfa, "abcde") {
+        place = Some(index.index());
+        assert!(rt; text == "abcd");
     }
     assert_eq!(rt; place, Some(1));
     Ok(())

@@ -2,8 +2,6 @@
 //! writes for a few texts which of the 115 terminals matches the longest beginning, and of how many bytes it is.
 #![tactic(auto)]
 
-ghost use Rattle.std.specs.Prelude.{◌≡◌, length, IfOk};
-
 use lalrpop_lexer::lexer::dfa::interpret::interpret;
 use lalrpop_lexer::lexer::dfa::{Dfa, DfaConstructionError, Precedence, build_dfa};
 use lalrpop_lexer::lexer::re::Regex;
@@ -129,7 +127,7 @@ const TEXTS: [&str; 8] = [
     "7",
 ];
 
-// The places of the terminals: the keywords, the operators, the name.
+// A keyword is a name too, and wins.
 const STRONG: Precedence = Precedence(1);
 
 const WEAK: Precedence = Precedence(0);
@@ -162,38 +160,14 @@ fn name(alloc: Global) -> Result<Regex, AllocError> {
     Ok(Hir::concat(parts))
 }
 
-#[derive(Drop)]
-struct Terminals {
-    patterns: Vec<Regex>,
-    precedences: Vec<Precedence>,
-}
-
-impl Terminals {
-    fn new(alloc: Global) -> Result<Terminals, AllocError>
-        ensures { IfOk result (λ t. length t.patterns.items ≡ length t.precedences.items) }
-    {
-        let mut patterns = Vec::new(alloc);
-        for word in KEYWORDS.iter().chain(OPERATORS.iter()) {
-            patterns.push(Hir::literal(alloc, *word)?)?;
-        }
-        patterns.push(name(alloc)?)?;
-        let mut precedences = Vec::new(alloc);
-        precedences.resize(patterns.len(), STRONG)?;
-        if let Some(last) = precedences.last_mut() {
-            *last = WEAK;
-        }
-        Ok(Terminals {
-            patterns,
-            precedences,
-        })
-    }
-}
-
 fn build(alloc: Global) -> Result<Dfa, DfaConstructionError> {
-    let Terminals {
-        patterns,
-        precedences,
-    } = Terminals::new(alloc)?;
+    let mut patterns = Vec::new(alloc);
+    for word in KEYWORDS.iter().chain(OPERATORS.iter()) {
+        patterns.push(Hir::literal(alloc, *word)?)?;
+    }
+    let mut precedences = vec![in alloc; STRONG; patterns.len()]?;
+    patterns.push(name(alloc)?)?;
+    precedences.push(WEAK)?;
     build_dfa(alloc, &patterns, &precedences)
 }
 

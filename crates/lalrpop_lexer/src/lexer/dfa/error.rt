@@ -1,6 +1,6 @@
 use super::NfaIndex;
 use crate::lexer::nfa::NfaConstructionError;
-use std::alloc::AllocError;
+use std::alloc::{AllocError, AllocFailed};
 use thiserror::Error;
 
 /// Why no automaton was made.
@@ -22,6 +22,17 @@ pub enum DfaConstructionError {
     /// A request for memory was refused.
     #[error("OutOfMemory")]
     OutOfMemory,
+}
+
+impl<T: Drop> From<AllocFailed<T>> for DfaConstructionError {
+    ghost use Rattle.std.specs.Prelude.{◌≡◌};
+    ghost use Rattle.lalrpop_lexer.specs.declared.lexer.dfa.error.DfaConstructionError.TheVariants.{OutOfMemory};
+
+    ghost from_gives = { λ _ error. error ≡ OutOfMemory };
+
+    fn from(_refused: AllocFailed<T>) -> DfaConstructionError {
+        DfaConstructionError::OutOfMemory
+    }
 }
 
 impl From<AllocError> for DfaConstructionError {

@@ -28,9 +28,7 @@ fn built(
 ) -> Result<Dfa, DfaConstructionError> {
     let mut precedences = Vec::new(alloc);
     for strength in strengths.iter() {
-        precedences
-            .push(Precedence(*strength))
-            .map_err(AllocError::from)?;
+        precedences.push(Precedence(*strength))?;
     }
     assert!(rt; trees.len() == precedences.len());
     build_dfa(alloc, trees, &precedences)
