@@ -1,4 +1,4 @@
-ghost use Rattle.std.specs.Prelude.{◌≡◌, ◌++◌, ◌∷◌, [], List, map, length, IfOk, IfErr, OnOk};
+ghost use Rattle.std.specs.Prelude.{◌≡◌, List, map, length, IfOk, IfErr};
 ghost use Rattle.lalrpop_lexer.specs.Builder.{IsFaultOf, IsRefusalOf};
 ghost use Rattle.lalrpop_lexer.specs.Clash.{NoClash};
 ghost use Rattle.lalrpop_lexer.specs.Dfa.{Stands};
@@ -10,7 +10,7 @@ use super::builder::build;
 use super::{Dfa, DfaConstructionError, NfaIndex, Precedence};
 use crate::lexer::nfa::{Nfa, NfaConstructionError};
 use lalrpop_re::Regex;
-use std::alloc::{AllocError, Global};
+use std::alloc::Global;
 
 // What is reported where the pattern at this place was not compiled.
 fn refusal(index: NfaIndex, error: NfaConstructionError) -> DfaConstructionError
@@ -20,14 +20,6 @@ fn refusal(index: NfaIndex, error: NfaConstructionError) -> DfaConstructionError
         NfaConstructionError::OutOfMemory => DfaConstructionError::OutOfMemory,
         error => DfaConstructionError::NfaConstructionError { index, error },
     }
-}
-
-// `Vec::push` with the error that is converted here.
-fn push(nfas: &mut Vec<Nfa>, nfa: Nfa) -> Result<(), AllocError>
-    ensures { OnOk result (nfas.new.items ≡ nfas.old.items ++ nfa ∷ []) }
-{
-    nfas.push(nfa)?;
-    Ok(())
 }
 
 // The automata of the patterns, in the order of the list, or the first pattern that has a fault.
@@ -41,7 +33,7 @@ fn compile_all(alloc: Global, regexs: &[Regex]) -> Result<Vec<Nfa>, DfaConstruct
             Ok(nfa) => nfa,
             Err(error) => return Err(refusal(NfaIndex(index), error)),
         };
-        push(&mut nfas, nfa)?;
+        nfas.push(nfa)?;
     }
     Ok(nfas)
 }

@@ -160,15 +160,6 @@ impl Table {
         Ok(Edges { tests, other })
     }
 
-    fn push_state(&mut self, state: State) -> Result<(), AllocError>
-        ensures states { OnOk result (self.new.states.items ≡ self.old.states.items ++ state ∷ []) }
-        ensures kernels { OnOk result (self.new.kernels ≡ self.old.kernels) }
-        ensures origins { OnOk result (self.new.origins.items ≡ self.old.origins.items) }
-    {
-        self.states.push(state)?;
-        Ok(())
-    }
-
     // Takes up the next number, whose set this is, and makes its state.
     fn take_up(
         &mut self,
@@ -197,7 +188,7 @@ impl Table {
         };
         let number = self.states.len();
         let Edges { tests, other } = self.edges_of(alloc, nfas, number, &set)?;
-        self.push_state(State {
+        self.states.push(State {
             item_set: set,
             kind,
             test_edges: tests,

@@ -1,4 +1,4 @@
-//! The partition of the labels that leave a set of items, with the test edges of which each part reads the labels.
+//! The partition of the labels that leave a set of items: each part with the test edges that its values take.
 
 ghost use Rattle.std.specs.Prelude.{◌≡◌, ◌++◌, ◌∷◌, [], map, IfOk, OnOk};
 ghost use Rattle.lalrpop_lexer.specs.Ascending.{IsItemOf};
@@ -26,7 +26,7 @@ pub(super) struct Leads {
     pub(super) list: Vec<Lead>,
 }
 
-/// Values that lie in the same labels, and the test edges that have these labels.
+/// Values that lie in the same labels, and the test edges that they take.
 #[derive(Drop)]
 pub(super) struct Part {
     pub(super) range: Test,

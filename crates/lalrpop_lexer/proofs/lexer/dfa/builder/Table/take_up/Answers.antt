@@ -1,4 +1,4 @@
-use Rattle.std.proofs.Common.{length, map, refl, ap, ◌∙◌}
+use Rattle.std.proofs.Common.{length, map, refl, ◌∙◌}
 use Rattle.lalrpop_lexer.proofs.Builds.{set_holds, built_pushed}
 use Rattle.lalrpop_lexer.proofs.lexer.dfa.builder.Table.take_up.Goals as goal
 
@@ -21,6 +21,6 @@ pub returns-clause-ok : goal.returns-clause-ok
 returns-clause-ok c =
     built_pushed c.args.nfas.now (map (λ p. p.0) c.args.precedences.now) c.args.self.now.kernels.list c.args.self.now.origins.items c.args.self.now.states.items c.len-number.result c.args.set
     c.edges_of.new.self.kernels.list c.edges_of.new.self.origins.items c.edges_of.new.self.states.items (record { kind = c.in-Ok.kind; tests = c.in_ok-tests.field-0.tests.items; other = c.in_ok-tests.field-0.other; items = c.args.set })
-    c.push_state.new.self.kernels.list c.push_state.new.self.origins.items c.push_state.new.self.states.items
+    c.edges_of.new.self.kernels.list c.edges_of.new.self.origins.items c.push.new.self.items
     c.requires.built c.requires.here (c.len-number.ensures ∙ c.args.self.now.states.ok.0) c.in_ok-tests.ensures.edged c.in-Ok.ensures.ok refl
-    c.in_ok-tests.ensures.states c.in_ok-push_state.ensures.states (ap (λ k. k.list) c.in_ok-push_state.ensures.kernels) c.in_ok-push_state.ensures.origins
+    c.in_ok-tests.ensures.states c.in_ok-push.ensures.items refl refl
