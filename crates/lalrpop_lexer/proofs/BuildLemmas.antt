@@ -19,7 +19,7 @@ use Rattle.lalrpop_lexer.specs.SideBySide.{RunOf, AllRun, kinds_of}
 use Rattle.lalrpop_lexer.specs.Graph.{Graph}
 use Rattle.lalrpop_lexer.specs.Walk.{leaves, IsRun}
 use Rattle.lalrpop_lexer.specs.Path.{noop, test, other}
-use Rattle.lalrpop_lexer.specs.Shape.{Shape, Way, shape, joined, noops_to, nothing, before, one_of, optional, any_turns, some_turns, turns, copies, optionals, fork, branches, grown, fresh_graph, compiled}
+use Rattle.lalrpop_lexer.specs.Shape.{Shape, Way, shape, joined, noops_to, before, one_of, optional, any_turns, some_turns, turns, copies, optionals, fork, branches, grown, fresh_graph, compiled}
 use Rattle.lalrpop_lexer.specs.Compiled.{accept_state, start_state}
 use Rattle.lalrpop_lexer.specs.declared.lexer.nfa.error.NfaConstructionError.{NfaConstructionError}
 use Rattle.lalrpop_lexer.specs.Fault.{Fault, fault, first_fault, last_fault}
@@ -116,9 +116,6 @@ kinds_grown g s = rw (length-append, length-replicate) refl
 
 grown_twice : (g : Graph) (y x : Shape) (s : ℕ) → grown (grown g y) x ≡ grown g (record { size = y.size + x.size; entry = s; edges = joined y.edges x.edges })
 grown_twice g y x s = rw (← replicate_add y.size x.size Neither) (simp append_assoc)
-
-pub Grows-nothing : (target : ℕ) (g : Graph) → LeavesStates g → Grows nothing target g g target
-Grows-nothing target g b = record { begins = refl; graph = simp append-nil; kept = λ s l. refl; below = b }
 
 pub Grows-kinds : (x : Way) (target entry : ℕ) (g h : Graph) → Grows x target g h entry → length h.kinds ≡ length g.kinds + (x target (length g.kinds)).size
 Grows-kinds x target entry g h a = rw a.graph (kinds_grown g (x target (length g.kinds)))
@@ -218,9 +215,6 @@ Grows-one_of rs target s g h i k t u b v w =
     }
 
 -- ---- branches
-
-pub Branched-first : (target : ℕ) (ts : Trees) (g : Graph) → LeavesStates g → Branched target ts ts g g []
-Branched-first target ts g b = record { begin = refl; graph = refl; kept = λ q l. refl; below = b }
 
 pub Branched-next : (target : ℕ) (all ts : Trees) (t : Tree) (g h k : Graph) (es : List ℕ) (q : ℕ) → Branched target all (also t ts) g h es → Grows (shape t) target h k q → length g.kinds ≤ length h.kinds → Branched target all ts g k (es ++ q ∷ [])
 Branched-next target all ts t g h k es q a b long =

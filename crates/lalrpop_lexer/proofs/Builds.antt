@@ -10,7 +10,6 @@ use Rattle.lalrpop_lexer.specs.Graph.{Graph}
 use Rattle.lalrpop_lexer.specs.Runs.{IsRuns}
 use Rattle.lalrpop_lexer.specs.Dfa.{Row, Stands, IsTable}
 use Rattle.lalrpop_lexer.specs.Clash.{NoClash}
-use Rattle.lalrpop_lexer.specs.Kernels.{Kernels, moved}
 use Rattle.lalrpop_lexer.specs.Items.{Item, AreCompiled, IsLeaving, HoldsItems, OthersReject, IsInWordOrder}
 use Rattle.lalrpop_lexer.specs.Ascending.{AreAscendingItems}
 use Rattle.lalrpop_lexer.specs.Machine.{move, closed, item_targets, all_items}
@@ -20,7 +19,6 @@ use Rattle.lalrpop_lexer.specs.Builder.{AreAutomata, AreItemsOf, AddedTo, AreSma
 use Rattle.lalrpop_lexer.specs.declared.lexer.dfa.error.DfaConstructionError.{DfaConstructionError}
 use Rattle.lalrpop_lexer.specs.declared.lexer.dfa.error.DfaConstructionError.TheVariants.{NfaConstructionError as Refused, Ambiguity, OutOfMemory}
 use Rattle.lalrpop_lexer.proofs.Sets.{first_set_ascends, first_set_items, move_ascends, move_items}
-use Rattle.lalrpop_lexer.proofs.Steps.{numbering_none}
 use Rattle.lalrpop_lexer.proofs.RowSteps.{added_keeps, added_is, past, taken_range, taken_other, tests_lead_more, tests_lead_kept, run_small}
 use Rattle.lalrpop_lexer.proofs.BuiltTable.{built_stands}
 use Rattle.lalrpop_lexer.proofs.TiedClash.{tied_is_clash_after_rows}
@@ -62,15 +60,6 @@ pub record IsEdging (ns : List Graph) (sets0 : List (List Item)) (origins0 : Lis
   pub leads : (t : Range × ℕ) (c : ℕ) → Contains tests t → Covers t.0 c → (t.1 < length sets) × (nth (machine_of ns) sets t.1 ≡ move ns s c)
   pub kept : Keep ns sets0 sets
   pub small : AreSmall origins0 → AreSmall origins
-
-pub edging_start : (ns : List Graph) (sets : List (List Item)) (origins : List (ℕ × ℕ)) (n : ℕ) (s : List Item) (xs : List Range) → Numbering (machine_of ns) sets origins n 0 → IsEdging ns sets origins n s xs 0 sets origins []
-edging_start ns sets origins n s xs num = record {
-  numbering = num;
-  ranges = refl;
-  leads = λ t c m k. absurd (omega (arith, m.1));
-  kept = λ k l. (l, refl);
-  small = λ f. f;
-}
 
 module _ (ns : List Graph) (a : AreAutomata ns) (sets0 : List (List Item)) (origins0 : List (ℕ × ℕ)) (n : ℕ) (s : List Item) (xs : List Range) (runs : IsRuns (IsLeaving ns s) xs)
     (here : slice_get sets0 n ≡ Some s) where
@@ -130,18 +119,6 @@ module _ (ns : List Graph) (sets : List (List Item)) (origins : List (ℕ × ℕ
 pub set_holds : (ns : List Graph) (sets : List (List Item)) (origins : List (ℕ × ℕ)) (n v k : ℕ) (s : List Item) → Numbering (machine_of ns) sets origins n v → slice_get sets k ≡ Some s → AreItemsOf ns s × AreAscendingItems s
 set_holds ns sets origins n v k s num at =
     subst (λ s. AreItemsOf ns s × AreAscendingItems s) (get_or_from_slice_get sets k s (machine_of ns).start at) (nth_holds ns sets origins n v num k (slice_get_within sets k s at))
-
-start_of : (ns : List Graph) (ps : List ℕ) → IsBuiltTo ns ps ((machine_of ns).start ∷ []) ((0, 0) ∷ []) [] 0
-start_of ns ps = record {
-  numbering = numbering_none (machine_of ns);
-  within = omega arith;
-  counted = refl;
-  rows_are = λ k r e. cc;
-  small = small_push [] 0 0 (omega arith) (λ k. omega arith);
-}
-
-pub built_start : (ns : List Graph) (ps : List ℕ) (sets : List (List Item)) (origins : List (ℕ × ℕ)) (rows : List Row) → sets ≡ (machine_of ns).start ∷ [] → origins ≡ (0, 0) ∷ [] → rows ≡ [] → IsBuiltTo ns ps sets origins rows (length rows)
-built_start ns ps sets origins rows is first none = rw (is, first, none) (start_of ns ps)
 
 -- rows stay right while sets keep their numbers
 row_on : (ns : List Graph) (ps : List ℕ) (sets sets2 : List (List Item)) (k : ℕ) (r : Row) → Keep ns sets sets2 → k < length sets → IsRowOf ns ps sets k r → IsRowOf ns ps sets2 k r
@@ -231,9 +208,3 @@ next_none (Some t) A P h never = absurd (never t refl)
 
 pub given_at : (list : List (List Item)) (place n : ℕ) (q s : List Item) → slice_get list place ≡ Some q → s ≡ q → place ≡ n → slice_get list n ≡ Some s
 given_at list place n q s at same is = rw (same, ← is) at
-
-pub moved_list : (k k2 : Kernels (List Item)) (o : Option (List Item)) → k2 ≡ moved k o → k2.list ≡ k.list
-moved_list k k2 o e = ap (λ (x : Kernels (List Item)). x.list) e
-
-pub moved_place : (k k2 : Kernels (List Item)) (o : Option (List Item)) (s : List Item) → k2 ≡ moved k o → o ≡ Some s → k2.place ≡ k.place + 1
-moved_place k k2 o s e some = ap (λ (x : Kernels (List Item)). x.place) e ∙ (rw some)

@@ -1,14 +1,14 @@
 -- Trees compiled one after another.
-use Rattle.std.proofs.Common.{◌≡◌, ◌≢◌, ℕ, ◌+◌, ◌<◌, inl, inr, List, [], ◌∷◌, ◌++◌, length, get_or, refl, ap, sym, ◌∙◌, subst, arith, Some, None, Result, Ok, Err, length-append}
-use Rattle.std.specs.Prelude.{slice_get, IfOk, IfErr}
+use Rattle.std.proofs.Common.{◌≡◌, ◌≢◌, ℕ, ◌+◌, ◌<◌, inl, inr, List, [], ◌∷◌, ◌++◌, length, get_or, ap, sym, ◌∙◌, subst, arith, Some, None, length-append}
+use Rattle.std.specs.Prelude.{slice_get}
 use Rattle.std.proofs.lemmas.Option.{slice_get_cases, slice_get_within, slice_get-get_or}
 use Rattle.lalrpop_re.specs.Tree.{Tree}
 use Rattle.lalrpop_lexer.specs.Graph.{Graph}
 use Rattle.lalrpop_lexer.specs.Fault.{fault}
 use Rattle.lalrpop_lexer.specs.Compiled.{IsCompiled}
 use Rattle.lalrpop_lexer.specs.Items.{AreCompiled}
-use Rattle.lalrpop_lexer.specs.Report.{NoFault, FirstFault, IsReport}
-use Rattle.lalrpop_lexer.specs.Builder.{IsFaultOf, IsClashOf, IsRefusalOf}
+use Rattle.lalrpop_lexer.specs.Report.{NoFault, FirstFault}
+use Rattle.lalrpop_lexer.specs.Builder.{IsFaultOf, IsRefusalOf}
 use Rattle.lalrpop_lexer.specs.declared.lexer.nfa.error.NfaConstructionError.TheVariants.{OutOfMemory as NoMemory}
 use Rattle.lalrpop_lexer.specs.declared.lexer.nfa.error.NfaConstructionError.{NfaConstructionError}
 use Rattle.lalrpop_lexer.specs.declared.lexer.dfa.error.DfaConstructionError.{DfaConstructionError}
@@ -19,9 +19,6 @@ use Rattle.lalrpop_lexer.proofs.Adding.{pushed_at}
 pub record IsCompiledTo (ts : List Tree) (ns : List Graph) (k : ℕ) : Type 0 where
   pub counted : length ns ≡ k
   pub each : (i : ℕ) (t : Tree) (g : Graph) → slice_get ts i ≡ Some t → slice_get ns i ≡ Some g → (fault t ≡ None) × IsCompiled t g
-
-pub compiled_none : (ts : List Tree) (ns : List Graph) → ns ≡ [] → IsCompiledTo ts ns 0
-compiled_none ts ns e = record { counted = rw e refl; each = λ i t g a b. (let n : None ≡ Some g = rw e at b in cc) }
 
 pub compiled_more : (ts : List Tree) (ns ns2 : List Graph) (k : ℕ) (t : Tree) (g : Graph) → IsCompiledTo ts ns k → k < length ts → t ≡ get_or ts k t → (fault t ≡ None) × IsCompiled t g → ns2 ≡ ns ++ g ∷ [] → IsCompiledTo ts ns2 (k + 1)
 compiled_more ts ns ns2 k t g h l is c more = record {
@@ -62,21 +59,3 @@ pub refused_report : (ts : List Tree) (ns : List Graph) (k : ℕ) (t : Tree) (e 
 refused_report ts ns k t e (Refused i f) h l is has m = rw (m.0, m.1) (compiled_fault ts ns k t e h l is (has m.2))
 refused_report ts ns k t e (Ambiguity i j) h l is has m = m
 refused_report ts ns k t e OutOfMemory h l is has m = tt
-
-pub fault_report : (ts : List Tree) (ps : List ℕ) (e : DfaConstructionError) → IsFaultOf ts e → IsReport ts ps e
-fault_report ts ps (Refused i e) h = h
-fault_report ts ps (Ambiguity i j) h = absurd h
-fault_report ts ps OutOfMemory h = tt
-
-pub clash_report : (ts : List Tree) (ps : List ℕ) (e : DfaConstructionError) → NoFault ts → IsClashOf ts ps e → IsReport ts ps e
-clash_report ts ps (Refused i e) f h = absurd h
-clash_report ts ps (Ambiguity i j) f h = (f, h)
-clash_report ts ps OutOfMemory f h = tt
-
-pub on_err : {T E : Type 0} (r : Result T E) (P Q : E → Type 0) → ((e : E) → P e → Q e) → IfErr r P → IfErr r Q
-on_err (Ok x) P Q f h = tt
-on_err (Err e) P Q f h = f e h
-
-pub on_ok : {T E : Type 0} (r : Result T E) (P Q : T → Type 0) → ((x : T) → P x → Q x) → IfOk r P → IfOk r Q
-on_ok (Ok x) P Q f h = f x h
-on_ok (Err e) P Q f h = tt

@@ -108,10 +108,6 @@ noted_then o p xs o1 p1 ys o2 p2 a b = record {
   even = omega (arith, a.even, b.even);
 }
 
-not_true : (b : Bool) → true ≡ not b → b ≡ false
-not_true true e = cc
-not_true false e = refl
-
 not_false : (b : Bool) → false ≡ not b → b ≡ true
 not_false true e = refl
 not_false false e = cc

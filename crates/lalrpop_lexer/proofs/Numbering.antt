@@ -146,19 +146,6 @@ first_is_least {S} m stays sets origins n h l q live here none = record {
       (settled_below m stays sets origins n h l w less);
 }
 
--- where no number is of that kind, no word is
-pub none_at_all : {S : Type 0} (m : Machine S) → DeadStays m → (sets : List S) (origins : List (ℕ × ℕ))
-    → Numbering m sets origins (length sets) 0
-    → (q : S → Bool) → ((s : S) → m.dead s ≡ true → q s ≡ true → ⊥)
-    → ((i : ℕ) → i < length sets → q (nth m sets i) ≡ true → ⊥)
-    → (w : List ℕ) → q (after m m.start w) ≡ true → ⊥
-none_at_all m stays sets origins h q live none w there =
-    ⊎_elim
-    (λ (dead : m.dead (after m m.start w) ≡ true). live (after m m.start w) dead there)
-    (λ (found : (i : ℕ) × (i < length sets) × (nth m sets i ≡ after m m.start w) × ShortlexAtMost (word origins i) w).
-    none found.0 found.1 (rw found.2 there))
-    (settled_all m stays sets origins h w)
-
 -- of two numbers whose sets are not dead, the word of the smaller one is less than each word that reaches the other
 pub in_order : {S : Type 0} (m : Machine S) → DeadStays m → (sets : List S) (origins : List (ℕ × ℕ))
     → Numbering m sets origins (length sets) 0
@@ -172,33 +159,3 @@ in_order m stays sets origins h i j a l live w e =
     let up : Shortlex (word origins i) (word origins j) = words_ascend m sets origins (length sets) 0 h i j a l in
     less_at_most (word origins i) (word origins found.0) w (rw same up) found.3)
     (settled_all m stays sets origins h w)
-
--- the same when all numbers are done
-pub first_is_least_all : {S : Type 0} (m : Machine S) → DeadStays m → (sets : List S) (origins : List (ℕ × ℕ)) (n : ℕ)
-    → Numbering m sets origins (length sets) 0 → n < length sets
-    → (q : S → Bool) → ((s : S) → m.dead s ≡ true → q s ≡ true → ⊥)
-    → q (nth m sets n) ≡ true → ((i : ℕ) → i < n → q (nth m sets i) ≡ true → ⊥)
-    → IsLeast m q (word origins n)
-first_is_least_all {S} m stays sets origins n h l q live here none = record {
-  holds = rw (word_reaches m sets origins (length sets) 0 h n l) here;
-  least = λ w less there.
-      ⊎_elim
-      (λ (dead : m.dead (after m m.start w) ≡ true). live (after m m.start w) dead there)
-      (λ (found : (i : ℕ) × (i < length sets) × (nth m sets i ≡ after m m.start w) × ShortlexAtMost (word origins i) w).
-      ⊎_elim
-      (λ (a : found.0 < n). none found.0 a (rw found.2 there))
-      (λ (a : n ≤ found.0).
-      let k : Shortlex (word origins found.0) (word origins n) =
-      at_most_less (word origins found.0) w (word origins n) found.3 less in
-      ⊎_elim
-      (λ (e : n ≡ found.0). less_irrefl (word origins n) (let e2 : found.0 ≡ n = sym e in rw e2 at k))
-      (⊎_elim
-      (λ (b : n < found.0).
-      less_irrefl (word origins n)
-      (less_trans (word origins n) (word origins found.0) (word origins n)
-      (words_ascend m sets origins (length sets) 0 h n found.0 b found.1) k))
-      (λ (b : found.0 < n). absurd (omega arith)))
-      (cases_order n found.0))
-      (cases_lt found.0 n))
-      (settled_all m stays sets origins h w);
-}

@@ -1,10 +1,8 @@
 -- The word of a number, by its origins alone.
-use Rattle.std.proofs.Common.{◌≡◌, ℕ, ◌<◌, ◌≤◌, List, [], ◌∷◌, ◌++◌, length, refl, sym, ap, ◌∙◌, arith, zero, suc, append_assoc, reverse}
-use Rattle.std.proofs.lemmas.List.{reverse-append}
+use Rattle.std.proofs.Common.{◌≡◌, ℕ, ◌<◌, ◌≤◌, List, [], ◌∷◌, ◌++◌, refl, ap, arith, zero, suc}
 use Rattle.std.specs.List.{All}
 use Rattle.std.proofs.lemmas.List.Elements.{All-nil, All-push}
 use Rattle.lalrpop_lexer.specs.Numbering.{from_of, value_of, word_of, word}
-use Rattle.lalrpop_lexer.specs.Numbering.{Earlier}
 
 module _ (origins : List (ℕ × ℕ)) (size : ℕ) (earlier : (k : ℕ) → 0 < k → k < size → from_of origins k < k) where
   -- the fuel of a word doesn't matter
@@ -24,14 +22,6 @@ module _ (origins : List (ℕ × ℕ)) (size : ℕ) (earlier : (k : ℕ) → 0 <
   word_step (suc k) a l =
       let e : from_of origins (suc k) < suc k = earlier (suc k) a l in
       ap (λ (w : List ℕ). w ++ value_of origins (suc k) ∷ []) (fuel_enough k (from_of origins (suc k)) (from_of origins (suc k)) (omega arith) (omega arith) (omega arith))
-
--- one letter more, from the end
-pub word_back : (origins : List (ℕ × ℕ)) (all rest : List ℕ) (k : ℕ) → Earlier origins → 0 < k → k < length origins
-    → all ≡ word origins k ++ reverse rest → all ≡ word origins (from_of origins k) ++ reverse (rest ++ value_of origins k ∷ [])
-word_back origins all rest k earlier a l e =
-    e ∙ ap (λ (w : List ℕ). w ++ reverse rest) (word_step origins (length origins) earlier k a l)
-    ∙ append_assoc (word origins (from_of origins k)) (value_of origins k ∷ []) (reverse rest)
-    ∙ ap (λ (w : List ℕ). word origins (from_of origins k) ++ w) (sym (reverse-append rest (value_of origins k ∷ [])))
 
 -- the letters of a word are values of origins
 pub word_fits : (origins : List (ℕ × ℕ)) (bound : ℕ) → ((k : ℕ) → value_of origins k < bound) → (f k : ℕ) → All (λ c. c < bound) (word_of origins f k)

@@ -1,5 +1,5 @@
 -- The steps of a numbering along the runs of one set, and the rows that it keeps.
-use Rattle.std.proofs.Common.{◌≡◌, ℕ, zero, suc, ◌+◌, ◌<◌, ◌≤◌, ◌⊎◌, inl, inr, List, [], ◌∷◌, ◌++◌, length, map, refl, ap, sym, subst, ◌∙◌, arith, true, Some, None, Option, add-one}
+use Rattle.std.proofs.Common.{◌≡◌, ℕ, zero, suc, ◌+◌, ◌<◌, ◌≤◌, ◌⊎◌, inl, inr, List, [], ◌∷◌, ◌++◌, length, refl, ap, sym, ◌∙◌, arith, true, Some, None, Option, add-one}
 use Rattle.std.specs.List.{Contains, slice_get}
 use Rattle.std.proofs.lemmas.Bool.{cases_lt}
 use Rattle.std.proofs.lemmas.List.{length_push, get_or_append_left, get_or_push}
@@ -8,11 +8,10 @@ use Rattle.lalrpop_re.specs.Range.{Range, Covers}
 use Rattle.lalrpop_re.specs.Tree.{Tree}
 use Rattle.lalrpop_lexer.specs.Graph.{Graph}
 use Rattle.lalrpop_lexer.specs.Runs.{AreAscending, IsRuns}
-use Rattle.lalrpop_lexer.specs.Dfa.{Row}
 use Rattle.lalrpop_lexer.specs.Items.{Item, AreCompiled, IsLeaving}
 use Rattle.lalrpop_lexer.specs.Machine.{move, is_dead}
 use Rattle.lalrpop_lexer.specs.Numbering.{Machine, Numbering, Added, nth}
-use Rattle.lalrpop_lexer.specs.Built.{machine_of, IsKindOf, IsRowOf}
+use Rattle.lalrpop_lexer.specs.Built.{machine_of}
 use Rattle.lalrpop_lexer.proofs.Members.{Has, has_from, contains_from, has_at, at_has, has_cases}
 use Rattle.lalrpop_lexer.proofs.Steps.{numbering_gap, numbering_added, numbering_spread, numbering_next}
 use Rattle.lalrpop_lexer.proofs.Dead.{uncovered_dead, covered_small}
@@ -175,9 +174,6 @@ module _ (ts : List Tree) (ns : List Graph) (h : AreCompiled ts ns) (s : List It
   abbrev pub TestsLead : List (List Item) → List (Range × ℕ) → Type 0
   TestsLead sets tests = (t : Range × ℕ) (c : ℕ) → Contains tests t → Covers t.0 c → (t.1 < length sets) × (nth (machine_of ns) sets t.1 ≡ move ns s c)
 
-  pub tests_lead_none : (sets : List (List Item)) → TestsLead sets []
-  tests_lead_none sets t c m k = absurd (has_from [] t m)
-
   -- one more test, to the number of the set that its first value leads to
   pub tests_lead_more : (sets : List (List Item)) (origins : List (ℕ × ℕ)) (n j : ℕ) (r : Range) (sets2 : List (List Item)) (origins2 : List (ℕ × ℕ)) (tests : List (Range × ℕ))
       → Added (machine_of ns) sets origins n r.start (move ns s r.start) j sets2 origins2 → Contains xs r → TestsLead sets tests → TestsLead sets2 (tests ++ (r, j) ∷ [])
@@ -200,20 +196,3 @@ module _ (ts : List Tree) (ns : List Graph) (h : AreCompiled ts ns) (s : List It
       let b = before t c m k in
       let keeps = added_keeps (machine_of ns) sets origins n v u j sets2 origins2 added t.1 b.0 in
       (keeps.0, keeps.1 ∙ b.1)
-
--- rows stay right when another set is added
-pub row_kept : (ns : List Graph) (ps : List ℕ) (sets : List (List Item)) (origins : List (ℕ × ℕ)) (n v j : ℕ) (u : List Item) (sets2 : List (List Item)) (origins2 : List (ℕ × ℕ)) (k : ℕ) (r : Row)
-    → Added (machine_of ns) sets origins n v u j sets2 origins2 → k < length sets → IsRowOf ns ps sets k r → IsRowOf ns ps sets2 k r
-row_kept ns ps sets origins n v j u sets2 origins2 k r added l row = record {
-  items = row.items ∙ sym same;
-  kind = subst (λ (s : List Item). IsKindOf ps s r.kind) (sym same) row.kind;
-  ranges = subst (λ (s : List Item). IsRuns (IsLeaving ns s) (map (λ t. t.0) r.tests)) (sym same) row.ranges;
-  leads = λ t c m a. (let b = row.leads t c m a in let keeps = kept t.1 b.0 in (keeps.0, keeps.1 ∙ b.1 ∙ ap (λ (s : List Item). move ns s c) (sym same)));
-  falls = (let b = row.falls in let keeps = kept r.other b.0 in (keeps.0, keeps.1 ∙ b.1 ∙ ap (λ (s : List Item). move ns s 4294967295) (sym same)));
-}
-  where
-    kept : (i : ℕ) → i < length sets → (i < length sets2) × (nth (machine_of ns) sets2 i ≡ nth (machine_of ns) sets i)
-    kept i il = added_keeps (machine_of ns) sets origins n v u j sets2 origins2 added i il
-
-    same : nth (machine_of ns) sets2 k ≡ nth (machine_of ns) sets k
-    same = (kept k l).1

@@ -1,5 +1,5 @@
 -- The partition of a set of ranges: what shows a list to be it, and what follows.
-use Rattle.std.proofs.Common.{◌≡◌, ℕ, ◌+◌, ◌-◌, ◌<◌, ◌≤◌, ◌⊎◌, ◌↔◌, inl, inr, ⊎_elim, min, max, List, [], ◌∷◌, length, sym, ap, subst, ◌∙◌, arith, suc}
+use Rattle.std.proofs.Common.{◌≡◌, ℕ, ◌+◌, ◌-◌, ◌<◌, ◌≤◌, ◌⊎◌, inl, inr, ⊎_elim, min, max, List, [], ◌∷◌, length, sym, ap, subst, ◌∙◌, arith, suc}
 use Rattle.std.specs.List.{Contains}
 use Rattle.std.proofs.lemmas.List.{get_or_default}
 use Rattle.std.proofs.lemmas.List.Elements.{Contains-get_or}
@@ -7,12 +7,6 @@ use Rattle.std.proofs.lemmas.Bool.{cases_lt, cases_order}
 use Rattle.lalrpop_re.specs.Range.{Range, Covers}
 use Rattle.lalrpop_lexer.specs.Runs.{Ranges, IsCovered, Alike, IsBlock, IsRun, AreAscending, IsRuns}
 use Rattle.lalrpop_lexer.proofs.Cells.{at, PartsBelow, IsCut, alike_sym, alike_trans, covered_along, last_covers}
-
--- each part lies wholly inside or outside each range of the set
-pub IsRuns_sides : (R : Ranges) (xs : List Range) → IsRuns R xs → (x r : Range) → Contains xs x → R r → (c : ℕ) → Covers x c → Covers r c ↔ Covers r x.start
-IsRuns_sides R xs h x r k m c a =
-    let block : IsBlock R x = (h.are_runs x k).block in
-    block.constant c x.start a (omega arith, block.holds_one) r m
 
 pub range_same : (x y : Range) → x.start ≡ y.start → x.end ≡ y.end → x ≡ y
 range_same x y s e = ap (λ a. let r : Range = record { start = a; end = x.end } in r) s ∙ ap (λ b. let r : Range = record { start = y.start; end = b } in r) e

@@ -1,5 +1,5 @@
 -- How many states the shape of a tree has, and which states its edges join.
-use Rattle.std.proofs.Common.{◌≡◌, ◌≢◌, ℕ, zero, suc, ◌<◌, ◌≤◌, ◌+◌, ◌-◌, List, [], ◌∷◌, ◌++◌, refl, ap, sym, subst, arith, ◌⊎◌, inl, inr}
+use Rattle.std.proofs.Common.{◌≡◌, ◌≢◌, ℕ, zero, suc, ◌<◌, ◌≤◌, ◌+◌, ◌-◌, List, [], ◌∷◌, ◌++◌, refl, ap, sym, subst, arith, inl, inr}
 use Rattle.std.specs.Prelude.{Option, Some, None}
 use Rattle.std.specs.List.{Contains, filter}
 use Rattle.std.proofs.lemmas.Bool.{ne_eqb}
@@ -235,9 +235,6 @@ way_within x f target n = f.edges target n tt (λ q l h. tt)
 pub shape_within : (t : Tree) (target n : ℕ) → Within n (n + (shape t target n).size) (shape t target n).edges
 shape_within t = way_within (shape t) (shape_leads Anywhere t)
 
-pub in_turn_within : (ts : Trees) (target n : ℕ) → Within n (n + (in_turn ts target n).size) (in_turn ts target n).edges
-in_turn_within ts = way_within (in_turn ts) (in_turn_leads Anywhere ts)
-
 pub branches_within : (ts : Trees) (target n : ℕ) → Within n (n + (branches ts target n).size) (branches ts target n).edges
 branches_within ts target n = (branches_lead Anywhere ts).edges target n tt (λ q l h. tt)
 
@@ -245,24 +242,3 @@ branches_within ts target n = (branches_lead Anywhere ts).edges target n tt (λ 
 pub filter_none : {L : Type 0} (q : ℕ) (es : List (Edge L)) → ((x : Edge L) → Contains es x → x.from ≢ q) → filter (leaves q) es ≡ []
 filter_none q [] f = refl
 filter_none q (x ∷ es) f = rw (ne_eqb x.from q (f x (contains_first x es))) (filter_none q es (λ y h. f y (contains_later x es y h)))
-
--- no edge leaves a state outside the block
-pub Joins-filter : {L : Type 0} (P : ℕ → Type 0) (a b q : ℕ) (es : List (Edge L)) → Joins P a b es → (q < a) ⊎ (b ≤ q) → filter (leaves q) es ≡ []
-Joins-filter P a b q es f out = filter_none q es (λ x h e. let r = f x h in elim out [ inl l ↦ absurd (omega (arith, r.0, r.1, e)) | inr l ↦ absurd (omega (arith, r.0, r.1, e)) ])
-
--- no edge of any of the lists leaves q
-pub record LeavesNone (q : ℕ) (e : Lists) : Type 0 where
-  pub noops : filter (leaves q) e.noops ≡ []
-  pub tests : filter (leaves q) e.tests ≡ []
-  pub others : filter (leaves q) e.others ≡ []
-
-pub LeavesNone-within : (a b q : ℕ) (e : Lists) → Within a b e → (q < a) ⊎ (b ≤ q) → LeavesNone q e
-LeavesNone-within a b q e w out = record {
-  noops = Joins-filter Anywhere a b q e.noops w.noops out;
-  tests = Joins-filter Anywhere a b q e.tests w.tests out;
-  others = Joins-filter (λ r. r ≡ reject_state) a b q e.others w.others out;
-}
-
--- no edge of a shape leaves an older or a newer state
-pub shape_leaves_none : (t : Tree) (target n q : ℕ) → (q < n) ⊎ (n + (shape t target n).size ≤ q) → LeavesNone q (shape t target n).edges
-shape_leaves_none t target n q out = LeavesNone-within n (n + (shape t target n).size) q (shape t target n).edges (shape_within t target n) out

@@ -1,5 +1,5 @@
 -- Where edges that read nothing lead: the computed closure, and paths.
-use Rattle.std.proofs.Common.{◌≡◌, ℕ, zero, suc, ◌<◌, ◌↔◌, ◌⊎◌, inl, inr, List, [], length, refl, ap₂, arith, true, ◌&&◌, ◌==◌, eqb-true, eq-eqb}
+use Rattle.std.proofs.Common.{◌≡◌, ℕ, zero, suc, ◌<◌, ◌⊎◌, inl, inr, List, [], length, refl, ap₂, arith, true, ◌&&◌, ◌==◌, eqb-true, eq-eqb}
 use Rattle.std.specs.List.{Contains}
 use Rattle.std.proofs.lemmas.Bool.{or_cases, or_left, or_right, and_parts, and_from, cases_lt}
 use Rattle.lalrpop_lexer.specs.declared.lexer.nfa.edge.Edge.{Edge}
@@ -114,7 +114,3 @@ module _ (g : Graph) where
 
   pub path_silent : ((e : Edge Noop) → Contains g.edges.noops e → e.to < length g.kinds) → (p q : ℕ) → Path g.edges q p [] → silent g p q ≡ true
   path_silent inside p q t = path_silent_at inside q p [] t refl
-
--- the test says whether some path reads nothing
-pub silent_iff : (g : Graph) → ((e : Edge Noop) → Contains g.edges.noops e → e.to < length g.kinds) → (p q : ℕ) → (silent g p q ≡ true) ↔ Path g.edges q p []
-silent_iff g inside p q = (silent_path g p q, path_silent g inside p q)

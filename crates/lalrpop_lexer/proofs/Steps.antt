@@ -9,20 +9,6 @@ below_push xs y k l =
     let e : length (xs ++ y ∷ []) ≡ length xs + 1 = length_push xs y in
     ⊎_elim (λ (a : k < length xs). inl a) (λ (a : length xs ≤ k). inr (omega arith)) (cases_lt k (length xs))
 
--- the start alone
-pub numbering_none : {S : Type 0} (m : Machine S) → Numbering m (m.start ∷ []) ((0, 0) ∷ []) 0 0
-numbering_none m = record {
-  same_length = refl;
-  some = omega arith;
-  first = refl;
-  distinct = λ i j a b e. omega arith;
-  earlier = λ k a l. absurd (omega arith);
-  reached = λ k a l. absurd (omega arith);
-  ascending = λ j k a b l. absurd (omega arith);
-  behind = λ k a l. absurd (omega arith);
-  covered = λ i c l b. ⊎_elim (λ (x : i < 0). absurd (omega arith)) (λ (x : (i ≡ 0) × (c < 0)). absurd (omega (arith, x.1))) b;
-}
-
 -- a place that is behind (n, a) is behind (n, b)
 before_more : (o x n a b : ℕ) → a ≤ b → Before o x n a → Before o x n b
 before_more o x n a b l (inl h) = inl h

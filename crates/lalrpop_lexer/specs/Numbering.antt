@@ -1,6 +1,5 @@
 -- Sets of items numbered in the order in which they are first met.
-use Rattle.std.specs.List.{All}
-use Rattle.std.specs.Prelude.{◌≡◌, ℕ, ◌+◌, ◌<◌, ◌≤◌, ◌⊎◌, List, [], ◌∷◌, ◌++◌, length, Bool, true}
+use Rattle.std.specs.Prelude.{◌≡◌, ℕ, ◌<◌, ◌≤◌, ◌⊎◌, List, [], ◌∷◌, ◌++◌, length, Bool, true}
 use Rattle.std.proofs.Common.{get_or, zero, suc}
 use Rattle.lalrpop_re.specs.Word.{Shortlex}
 
@@ -33,10 +32,6 @@ from_of origins k = (get_or origins k (0, 0)).0
 
 abbrev pub value_of : List (ℕ × ℕ) → ℕ → ℕ
 value_of origins k = (get_or origins k (0, 0)).1
-
--- each number but 0 was first met from a smaller one
-abbrev pub Earlier : List (ℕ × ℕ) → Type 0
-Earlier origins = (k : ℕ) → 0 < k → k < length origins → from_of origins k < k
 
 -- the place (o, x) stands before (p, y): a smaller number, or the same and a smaller value
 abbrev pub Before : ℕ → ℕ → ℕ → ℕ → Type 0
@@ -85,14 +80,6 @@ Added m sets origins n v t j sets2 origins2 =
 abbrev pub Items : Type 0
 Items = List (ℕ × ℕ)
 
-abbrev pub WordsAscend : Type 0
-WordsAscend = (m : Machine Items) (sets : List Items) (origins : List (ℕ × ℕ)) (n v : ℕ) → Numbering m sets origins n v
-    → (i j : ℕ) → i < j → j < length sets → Shortlex (word origins i) (word origins j)
-
-abbrev pub WordsReach : Type 0
-WordsReach = (m : Machine Items) (sets : List Items) (origins : List (ℕ × ℕ)) (n v : ℕ) → Numbering m sets origins n v
-    → (k : ℕ) → k < length sets → after m m.start (word origins k) ≡ nth m sets k
-
 -- a word leads to a dead set, or to a number below n whose word is at most it
 abbrev pub Settled : {S : Type 0} → Machine S → List S → List (ℕ × ℕ) → ℕ → List ℕ → Type 0
 Settled m sets origins n w =
@@ -103,63 +90,3 @@ Settled m sets origins n w =
 pub record IsLeast {S : Type 0} (m : Machine S) (q : S → Bool) (w : List ℕ) : Type 0 where
   pub holds : q (after m m.start w) ≡ true
   pub least : (v : List ℕ) → Shortlex v w → q (after m m.start v) ≡ true → ⊥
-
--- the first number with q has the least word of all that lead to a set with q
-abbrev pub FirstIsLeast : Type 0
-FirstIsLeast = (m : Machine Items) → DeadStays m → (sets : List Items) (origins : List (ℕ × ℕ)) (n : ℕ)
-    → Numbering m sets origins n 0 → n < length sets
-    → (q : Items → Bool) → ((s : Items) → m.dead s ≡ true → q s ≡ true → ⊥)
-    → q (nth m sets n) ≡ true → ((i : ℕ) → i < n → q (nth m sets i) ≡ true → ⊥)
-    → IsLeast m q (word origins n)
-
-abbrev pub NoneAtAll : Type 0
-NoneAtAll = (m : Machine Items) → DeadStays m → (sets : List Items) (origins : List (ℕ × ℕ))
-    → Numbering m sets origins (length sets) 0
-    → (q : Items → Bool) → ((s : Items) → m.dead s ≡ true → q s ≡ true → ⊥)
-    → ((i : ℕ) → i < length sets → q (nth m sets i) ≡ true → ⊥)
-    → (w : List ℕ) → q (after m m.start w) ≡ true → ⊥
-
-abbrev pub InOrder : Type 0
-InOrder = (m : Machine Items) → DeadStays m → (sets : List Items) (origins : List (ℕ × ℕ))
-    → Numbering m sets origins (length sets) 0
-    → (i j : ℕ) → i < j → j < length sets → (m.dead (nth m sets j) ≡ true → ⊥)
-    → (w : List ℕ) → after m m.start w ≡ nth m sets j → Shortlex (word origins i) w
-
-abbrev pub StartLaw : Type 0
-StartLaw = (m : Machine Items) → Numbering m (m.start ∷ []) ((0, 0) ∷ []) 0 0
-
-abbrev pub GapLaw : Type 0
-GapLaw = (m : Machine Items) (sets : List Items) (origins : List (ℕ × ℕ)) (n a b : ℕ)
-    → Numbering m sets origins n a → a ≤ b
-    → ((c : ℕ) → a ≤ c → c < b → m.dead (m.move (nth m sets n) c) ≡ true)
-    → Numbering m sets origins n b
-
-abbrev pub SpreadLaw : Type 0
-SpreadLaw = (m : Machine Items) (sets : List Items) (origins : List (ℕ × ℕ)) (n s b : ℕ)
-    → Numbering m sets origins n (s + 1) → n < length sets → s < b
-    → ((c : ℕ) → s < c → c < b → m.move (nth m sets n) c ≡ m.move (nth m sets n) s)
-    → Numbering m sets origins n b
-
-abbrev pub NextLaw : Type 0
-NextLaw = (m : Machine Items) (sets : List Items) (origins : List (ℕ × ℕ)) (n a : ℕ)
-    → Numbering m sets origins n a
-    → ((c : ℕ) → a ≤ c → m.dead (m.move (nth m sets n) c) ≡ true)
-    → Numbering m sets origins (n + 1) 0
-
-abbrev pub AddedLaw : Type 0
-AddedLaw = (m : Machine Items) (sets : List Items) (origins : List (ℕ × ℕ)) (n s : ℕ) (t : Items) (j : ℕ) (sets2 : List Items) (origins2 : List (ℕ × ℕ))
-    → Numbering m sets origins n s → n < length sets → t ≡ m.move (nth m sets n) s
-    → Added m sets origins n s t j sets2 origins2
-    → Numbering m sets2 origins2 n (s + 1)
-
--- the same once all numbers are done: for a list of all kinds
-abbrev pub FirstIsLeastAll : Type 0
-FirstIsLeastAll = (m : Machine Items) → DeadStays m → (sets : List Items) (origins : List (ℕ × ℕ)) (n : ℕ)
-    → Numbering m sets origins (length sets) 0 → n < length sets
-    → (q : Items → Bool) → ((s : Items) → m.dead s ≡ true → q s ≡ true → ⊥)
-    → q (nth m sets n) ≡ true → ((i : ℕ) → i < n → q (nth m sets i) ≡ true → ⊥)
-    → IsLeast m q (word origins n)
-
--- the letters of a word are values of origins
-abbrev pub WordFits : Type 0
-WordFits = (origins : List (ℕ × ℕ)) (bound : ℕ) → ((k : ℕ) → value_of origins k < bound) → (f k : ℕ) → All (λ c. c < bound) (word_of origins f k)
