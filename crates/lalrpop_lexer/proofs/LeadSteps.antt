@@ -22,7 +22,7 @@ use Rattle.lalrpop_lexer.specs.Runs.{IsRuns}
 use Rattle.lalrpop_lexer.specs.declared.lexer.nfa.edge.Edge.{Edge}
 use Rattle.lalrpop_lexer.proofs.Members.{Has, has_at, has_from, contains_from, has_filter, filter_has, has_left, has_right, has_cases}
 use Rattle.lalrpop_lexer.proofs.RowSteps.{NotEmpty, ascending_at}
-use Rattle.lalrpop_lexer.specs.Leads.{IsLead, AreRising, HasLed, HaveLed, AreBare, AreLed}
+use Rattle.lalrpop_lexer.specs.Leads.{IsLead, AreRising, Gained, AreBare, AreLed}
 use Rattle.lalrpop_lexer.specs.declared.lexer.dfa.parts.Lead.{Lead}
 use Rattle.lalrpop_lexer.specs.declared.lexer.dfa.parts.Part.{Part}
 
@@ -67,7 +67,7 @@ got_more a i lead old cur now part got after within is range leads = (
 pub got_all : (label : Range) (lead : Lead) (old new : List Part) (first end stop : ℕ) → HasGot first stop lead old new → first ≤ stop → end ≤ stop → (first < stop → stop ≤ end)
     → ((k : ℕ) (d : Part) → k < first → nat_lt (get_or old k d).range.start label.start ≡ true) → ((k : ℕ) (d : Part) → first ≤ k → k < length old → nat_lt (get_or old k d).range.start label.start ≡ false)
     → ((k : ℕ) (d : Part) → k < end → nat_le (get_or old k d).range.start label.end ≡ true) → ((k : ℕ) (d : Part) → end ≤ k → k < length old → nat_le (get_or old k d).range.start label.end ≡ false)
-    → HasLed label lead old new
+    → Gained old new (λ v l. Covers label v × (l ≡ lead))
 got_all label lead old new first end stop got a b c below above upto past = (
   got.0,
   λ k p p2 was will l.
@@ -122,36 +122,60 @@ runs_rise ns s parts runs i j d l m =
       | inr same ↦ (let e : i ≡ j = omega (arith, l, same) in rw e (omega arith))
     ]
 
--- ---- edge by edge
--- these edges of the item were added
-abbrev pub HaveGot : Item → List (Edge Range) → List Part → List Part → Type 0
-HaveGot item es old new = (map (λ (p : Part). p.range) new ≡ map (λ (p : Part). p.range) old)
-    × ((k : ℕ) (p p2 : Part) → slice_get old k ≡ Some p → slice_get new k ≡ Some p2 → (l : Lead) → Contains p2.leads.list.items l ↔ (Contains p.leads.list.items l ⊎ ((e : Edge Range) × (Has es e × Covers e.label p.range.start × (l ≡ record { item = item; to = e.to })))))
+-- ---- what parts gain
+pub gained_none : {E : ℕ → Lead → Type 0} → (parts : List Part) → ((v : ℕ) (l : Lead) → E v l → ⊥) → Gained parts parts E
+gained_none parts none = (refl, λ k p p2 was will l. (let e : p2 ≡ p = cc in (λ h. inl (rw (← e) h), λ h. elim h [ inl x ↦ rw e x | inr x ↦ absurd (none p.range.start l x) ])))
 
-pub no_edge : (item : Item) (parts : List Part) → HaveGot item [] parts parts
-no_edge item parts = (refl, λ k p p2 was will l. (let e : p2 ≡ p = cc in (λ h. inl (rw (← e) h), λ h. elim h [ inl x ↦ rw e x | inr x ↦ absurd x.1.0 ])))
-
-pub one_edge : (item : Item) (es : List (Edge Range)) (e : Edge Range) (lead : Lead) (old cur new : List Part) → HaveGot item es old cur → HasLed e.label lead cur new → lead ≡ record { item = item; to = e.to } → HaveGot item (es ++ e ∷ []) old new
-one_edge item es e lead old cur new f g is = (
+-- by one step, and then by another
+pub gained_then : {E F G : ℕ → Lead → Type 0} → (old cur new : List Part) → Gained old cur E → Gained cur new F → ((v : ℕ) (l : Lead) → (E v l ⊎ F v l) ↔ G v l) → Gained old new G
+gained_then {E} {F} {G} old cur new f g both = (
   g.0 ∙ f.0,
   λ k p p2 was will l.
       let (q, (at, same)) = at_place old cur k p f.0 was in
+      let start : q.range.start ≡ p.range.start = ap (λ (r : Range). r.start) same in
       let a = f.1 k p q was at l in
-      let b = g.1 k q p2 at will l in (
-        λ h. elim (b.0 h) [
-          | inl x ↦ elim (a.0 x) [ inl y ↦ inl y | inr y ↦ inr (y.0, (has_left es (e ∷ []) y.0 y.1.0, y.1.1, y.1.2)) ]
-          | inr x ↦ inr (e, (has_right es (e ∷ []) e (inl refl), subst (λ (r : Range). Covers e.label r.start) same x.0, x.1 ∙ is))
-        ],
-        λ h. elim h [
-          | inl x ↦ b.1 (inl (a.1 (inl x)))
-          | inr x ↦ elim (has_cases es (e ∷ []) x.0 x.1.0) [
-            | inl y ↦ b.1 (inl (a.1 (inr (x.0, (y, x.1.1, x.1.2)))))
-            | inr (inl y) ↦ b.1 (inr (subst (λ (r : Range). Covers e.label r.start) (sym same) (subst (λ (d : Edge Range). Covers d.label p.range.start) (sym y) x.1.1), x.1.2 ∙ (ap (λ (d : Edge Range). record { item = item; to = d.to }) (sym y) ∙ sym is)))
-            | inr (inr y) ↦ absurd y
-          ]
-        ],
+      let b = g.1 k q p2 at will l in
+      let c = both p.range.start l in (
+        λ h. elim (b.0 h) [ inl x ↦ elim (a.0 x) [ inl y ↦ inl y | inr y ↦ inr (c.0 (inl y)) ] | inr x ↦ inr (c.0 (inr (subst (λ v. F v l) start x))) ],
+        λ h. elim h [ inl x ↦ b.1 (inl (a.1 (inl x))) | inr x ↦ elim (c.1 x) [ inl y ↦ b.1 (inl (a.1 (inr y))) | inr y ↦ b.1 (inr (subst (λ v. F v l) (sym start) y)) ] ],
       ),
 )
+
+pub gained_like : {E F : ℕ → Lead → Type 0} → (old new : List Part) → Gained old new E → ((v : ℕ) (l : Lead) → E v l ↔ F v l) → Gained old new F
+gained_like old new f same = (
+  f.0,
+  λ k p p2 was will l. (
+    λ h. elim ((f.1 k p p2 was will l).0 h) [ inl x ↦ inl x | inr x ↦ inr ((same p.range.start l).0 x) ],
+    λ h. (f.1 k p p2 was will l).1 (elim h [ inl x ↦ inl x | inr x ↦ inr ((same p.range.start l).1 x) ]),
+  ),
+)
+
+-- ---- edge by edge
+-- one of the item's edges takes the value
+abbrev pub IsEdgeLead : Item → List (Edge Range) → ℕ → Lead → Type 0
+IsEdgeLead item es v l = (e : Edge Range) × (Has es e × Covers e.label v × (l ≡ record { item = item; to = e.to }))
+
+pub no_edge : (item : Item) (parts : List Part) → Gained parts parts (IsEdgeLead item [])
+no_edge item parts = gained_none parts (λ v l h. absurd h.1.0)
+
+edge_more : (item : Item) (es : List (Edge Range)) (e : Edge Range) (lead : Lead) → lead ≡ record { item = item; to = e.to } → (v : ℕ) (l : Lead) → (IsEdgeLead item es v l ⊎ (Covers e.label v × (l ≡ lead))) ↔ IsEdgeLead item (es ++ e ∷ []) v l
+edge_more item es e lead is v l = (to, from)
+  where
+    to : IsEdgeLead item es v l ⊎ (Covers e.label v × (l ≡ lead)) → IsEdgeLead item (es ++ e ∷ []) v l
+    to (inl (d, (m, low, same))) = (d, (has_left es (e ∷ []) d m, low, same))
+    to (inr (low, same)) = (e, (has_right es (e ∷ []) e (inl refl), low, same ∙ is))
+
+    by_place : (d : Edge Range) → Has es d ⊎ Has (e ∷ []) d → Covers d.label v → l ≡ record { item = item; to = d.to } → IsEdgeLead item es v l ⊎ (Covers e.label v × (l ≡ lead))
+    by_place d (inl m) low same = inl (d, (m, low, same))
+    by_place d (inr (inl here)) low same = inr (subst (λ (c : Edge Range). Covers c.label v) (sym here) low, same ∙ (ap (λ (c : Edge Range). record { item = item; to = c.to }) (sym here) ∙ sym is))
+    by_place d (inr (inr never)) low same = absurd never
+
+    from : IsEdgeLead item (es ++ e ∷ []) v l → IsEdgeLead item es v l ⊎ (Covers e.label v × (l ≡ lead))
+    from (d, (m, low, same)) = by_place d (has_cases es (e ∷ []) d m) low same
+
+pub one_edge : (item : Item) (es : List (Edge Range)) (e : Edge Range) (lead : Lead) (old cur new : List Part) → Gained old cur (IsEdgeLead item es) → Gained cur new (λ v l. Covers e.label v × (l ≡ lead)) → lead ≡ record { item = item; to = e.to }
+    → Gained old new (IsEdgeLead item (es ++ e ∷ []))
+one_edge item es e lead old cur new f g is = gained_then old cur new f g (edge_more item es e lead is)
 
 -- ---- the ranges, one by one
 pub bare_more : (ranges rest rest2 : List Range) (parts parts2 : List Part) (part : Part) → map (λ (p : Part). p.range) parts ++ rest ≡ ranges → rest ≡ part.range ∷ rest2 → parts2 ≡ parts ++ part ∷ [] → map (λ (p : Part). p.range) parts2 ++ rest2 ≡ ranges
@@ -164,7 +188,7 @@ still_bare parts parts2 part bare one new k p at = elim (pushed_at parts part k 
 -- ---- item by item
 -- the test edges that leave the item are those that its leads come from
 edge_leads : (ns : List Graph) (item : Item) (g : Graph) (v : ℕ) (l : Lead) → slice_get ns item.0 ≡ Some g
-    → (e : Edge Range) × (Has (filter (leaves item.1) (graph_at ns item.0).edges.tests) e × Covers e.label v × (l ≡ record { item = item; to = e.to })) → IsLead ns (item ∷ []) v l.item l.to
+    → IsEdgeLead item (filter (leaves item.1) (graph_at ns item.0).edges.tests) v l → IsLead ns (item ∷ []) v l.item l.to
 edge_leads ns item g v l at (e, (h, low, is)) =
     let (k, from) = filter_has (leaves item.1) (graph_at ns item.0).edges.tests e h in
     let same : e ≡ test item.1 e.label e.to = ap (λ p. test p e.label e.to) (eqb-true e.from item.1 from) in
@@ -172,58 +196,41 @@ edge_leads ns item g v l at (e, (h, low, is)) =
     rw is (g, e.label, ((0, omega arith, refl), at, here, low))
 
 lead_edges : (ns : List Graph) (item : Item) (v : ℕ) (l : Lead) → IsLead ns (item ∷ []) v l.item l.to
-    → (e : Edge Range) × (Has (filter (leaves item.1) (graph_at ns item.0).edges.tests) e × Covers e.label v × (l ≡ record { item = item; to = e.to }))
+    → IsEdgeLead item (filter (leaves item.1) (graph_at ns item.0).edges.tests) v l
 lead_edges ns item v l (g, r, (member, at, edge, low)) =
     let is : item ≡ l.item = one_has item l.item member in
     let e : Edge Range = test l.item.1 r l.to in
     let there : Has (graph_at ns l.item.0).edges.tests e = rw (graph_here ns l.item.0 g at) (has_from g.edges.tests e edge) in
     (e, (rw is (has_filter (leaves l.item.1) (graph_at ns l.item.0).edges.tests e there (eq-eqb l.item.1 l.item.1 refl)), low, rw is refl))
 
-pub all_edges : (ns : List Graph) (item : Item) (es : List (Edge Range)) (old new : List Part) → IsItemOf ns item → HaveGot item es old new → es ≡ filter (leaves item.1) (graph_at ns item.0).edges.tests → HaveLed ns (item ∷ []) old new
-all_edges ns item es old new inside f all = (
-  f.0,
-  λ k p p2 was will l. (
-    λ h. elim ((f.1 k p p2 was will l).0 h) [ inl x ↦ inl x | inr (e, (m, low, is)) ↦ inr (edge_leads ns item inside.0 p.range.start l inside.1.0 (e, (subst (λ ds. Has ds e) all m, low, is))) ],
-    λ h. (f.1 k p p2 was will l).1 (elim h [ inl x ↦ inl x | inr x ↦ inr (let (e, (m, low, is)) = lead_edges ns item p.range.start l x in (e, (subst (λ ds. Has ds e) (sym all) m, low, is))) ]),
-  ),
-)
+pub all_edges : (ns : List Graph) (item : Item) (es : List (Edge Range)) (old new : List Part) → IsItemOf ns item → Gained old new (IsEdgeLead item es) → es ≡ filter (leaves item.1) (graph_at ns item.0).edges.tests
+    → Gained old new (λ v l. IsLead ns (item ∷ []) v l.item l.to)
+all_edges ns item es old new inside f all =
+    gained_like old new (subst (λ ds. Gained old new (IsEdgeLead item ds)) all f) (λ v l. (edge_leads ns item inside.0 v l inside.1.0, lead_edges ns item v l))
 
 pub edges_start : (ns : List Graph) (x : Item) (g : Graph) (q : ℕ) (es : List (Edge Range)) → slice_get ns x.0 ≡ Some g → q ≡ x.1 → es ≡ filter (leaves q) g.edges.tests → es ≡ filter (leaves x.1) (graph_at ns x.0).edges.tests
 edges_start ns x g q es at same is = is ∙ (ap (λ p. filter (leaves p) g.edges.tests) same ∙ ap (λ (h : Graph). filter (leaves x.1) h.edges.tests) (sym (graph_here ns x.0 g at)))
 
-pub no_item : (ns : List Graph) (parts : List Part) → HaveLed ns [] parts parts
-no_item ns parts = (refl, λ k p p2 was will l. (let e : p2 ≡ p = cc in (λ h. inl (rw (← e) h), λ h. elim h [ inl x ↦ rw e x | inr (g, r, (member, a, b, c)) ↦ absurd (none_has l.item member) ])))
+pub no_item : (ns : List Graph) (parts : List Part) → Gained parts parts (λ v l. IsLead ns [] v l.item l.to)
+no_item ns parts = gained_none parts (λ v l (g, r, (member, at, edge, low)). none_has l.item member)
 
-lead_in : (ns : List Graph) (xs ys : List Item) (v : ℕ) (x : Item) (q : ℕ) → (Contains xs x → Contains ys x) → IsLead ns xs v x q → IsLead ns ys v x q
-lead_in ns xs ys v x q f (g, r, (member, at, edge, low)) = (g, r, (f member, at, edge, low))
+lead_more : (ns : List Graph) (xs : List Item) (x : Item) (v : ℕ) (l : Lead) → (IsLead ns xs v l.item l.to ⊎ IsLead ns (x ∷ []) v l.item l.to) ↔ IsLead ns (xs ++ x ∷ []) v l.item l.to
+lead_more ns xs x v l = (to, from)
+  where
+    to : IsLead ns xs v l.item l.to ⊎ IsLead ns (x ∷ []) v l.item l.to → IsLead ns (xs ++ x ∷ []) v l.item l.to
+    to (inl (g, r, (member, at, edge, low))) = (g, r, (Contains-append_left xs (x ∷ []) l.item member, at, edge, low))
+    to (inr (g, r, (member, at, edge, low))) = (g, r, (Contains-append_right xs (x ∷ []) l.item member, at, edge, low))
 
-pub one_item : (ns : List Graph) (xs : List Item) (x : Item) (old cur new : List Part) → HaveLed ns xs old cur → HaveLed ns (x ∷ []) cur new → HaveLed ns (xs ++ x ∷ []) old new
-one_item ns xs x old cur new f g = (
-  g.0 ∙ f.0,
-  λ k p p2 was will y.
-      let (q, (at, same)) = at_place old cur k p f.0 was in
-      let a = f.1 k p q was at y in
-      let b = g.1 k q p2 at will y in (
-        λ h. elim (b.0 h) [
-          | inl z ↦ elim (a.0 z) [ inl w ↦ inl w | inr w ↦ inr (lead_in ns xs (xs ++ x ∷ []) p.range.start y.item y.to (Contains-append_left xs (x ∷ []) y.item) w) ]
-          | inr w ↦ inr (lead_in ns (x ∷ []) (xs ++ x ∷ []) p.range.start y.item y.to (Contains-append_right xs (x ∷ []) y.item) (subst (λ (r : Range). IsLead ns (x ∷ []) r.start y.item y.to) same w))
-        ],
-        λ h. elim h [
-          | inl z ↦ b.1 (inl (a.1 (inl z)))
-          | inr (h, r, (member, there, edge, low)) ↦ elim (Contains-append_cases xs (x ∷ []) y.item member) [
-            | inl w ↦ b.1 (inl (a.1 (inr (h, r, (w, there, edge, low)))))
-            | inr w ↦ b.1 (inr (h, r, (w, there, edge, subst (λ (r2 : Range). Covers r r2.start) (sym same) low)))
-          ]
-        ],
-      ),
-)
+    from : IsLead ns (xs ++ x ∷ []) v l.item l.to → IsLead ns xs v l.item l.to ⊎ IsLead ns (x ∷ []) v l.item l.to
+    from (g, r, (member, at, edge, low)) = elim (Contains-append_cases xs (x ∷ []) l.item member) [ inl m ↦ inl (g, r, (m, at, edge, low)) | inr m ↦ inr (g, r, (m, at, edge, low)) ]
 
-pub next_item : (ns : List Graph) (items : List Item) (n : ℕ) (x : Item) (old cur new : List Part) → HaveLed ns (take n items) old cur → HaveLed ns (x ∷ []) cur new → n < length items → x ≡ get_or items n x → HaveLed ns (take (n + 1) items) old new
+pub next_item : (ns : List Graph) (items : List Item) (n : ℕ) (x : Item) (old cur new : List Part) → Gained old cur (λ v l. IsLead ns (take n items) v l.item l.to) → Gained cur new (λ v l. IsLead ns (x ∷ []) v l.item l.to) → n < length items → x ≡ get_or items n x
+    → Gained old new (λ v l. IsLead ns (take (n + 1) items) v l.item l.to)
 next_item ns items n x old cur new f g l is =
     let more : take (n + 1) items ≡ take n items ++ x ∷ [] = take_more items n x l ∙ ap (λ y. take n items ++ y ∷ []) (sym is) in
-    subst (λ ys. HaveLed ns ys old new) (sym more) (one_item ns (take n items) x old cur new f g)
+    subst (λ ys. Gained old new (λ v l. IsLead ns ys v l.item l.to)) (sym more) (gained_then old cur new f g (lead_more ns (take n items) x))
 
-pub all_items_led : (ns : List Graph) (s items : List Item) (old new : List Part) → AreBare old → HaveLed ns items old new → items ≡ s → AreLed ns s new
+pub all_items_led : (ns : List Graph) (s items : List Item) (old new : List Part) → AreBare old → Gained old new (λ v l. IsLead ns items v l.item l.to) → items ≡ s → AreLed ns s new
 all_items_led ns s items old new bare f is k p2 will l =
     let (p, (was, same)) = at_place new old k p2 (sym f.0) will in
     let a = f.1 k p p2 was will l in (

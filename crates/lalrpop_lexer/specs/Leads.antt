@@ -26,7 +26,7 @@ leads_cmp x y = slice_cmp lead_cmp x.list.items y.list.items
 abbrev pub IsLead : List Graph → List Item → ℕ → Item → ℕ → Type 0
 IsLead ns s v x q = (g : Graph) × (r : Range) × (Contains s x × (slice_get ns x.0 ≡ Some g) × Contains g.edges.tests (test x.1 r q) × Covers r v)
 
--- these are all of them
+-- the edges are these, and no others
 abbrev pub AreLeads : List Graph → List Item → ℕ → List Lead → Type 0
 AreLeads ns s v leads = (l : Lead) → Contains leads l ↔ IsLead ns s v l.item l.to
 
@@ -34,15 +34,10 @@ AreLeads ns s v leads = (l : Lead) → Contains leads l ↔ IsLead ns s v l.item
 abbrev pub AreRising : List Part → Type 0
 AreRising parts = IsNonDecreasingBy (λ (p : Part). p.range.start) parts
 
--- the lead was added to the parts that start in the label
-abbrev pub HasLed : Range → Lead → List Part → List Part → Type 0
-HasLed label lead old new = (map (λ (p : Part). p.range) new ≡ map (λ (p : Part). p.range) old)
-    × ((k : ℕ) (p p2 : Part) → slice_get old k ≡ Some p → slice_get new k ≡ Some p2 → (l : Lead) → Contains p2.leads.list.items l ↔ (Contains p.leads.list.items l ⊎ (Covers label p.range.start × (l ≡ lead))))
-
--- the test edges of the items were added to the parts that start in their labels
-abbrev pub HaveLed : List Graph → List Item → List Part → List Part → Type 0
-HaveLed ns items old new = (map (λ (p : Part). p.range) new ≡ map (λ (p : Part). p.range) old)
-    × ((k : ℕ) (p p2 : Part) → slice_get old k ≡ Some p → slice_get new k ≡ Some p2 → (l : Lead) → Contains p2.leads.list.items l ↔ (Contains p.leads.list.items l ⊎ IsLead ns items p.range.start l.item l.to))
+-- the parts keep their ranges; to the edges of each come those that E allows for its first value
+abbrev pub Gained : List Part → List Part → (ℕ → Lead → Type 0) → Type 0
+Gained old new E = (map (λ (p : Part). p.range) new ≡ map (λ (p : Part). p.range) old)
+    × ((k : ℕ) (p p2 : Part) → slice_get old k ≡ Some p → slice_get new k ≡ Some p2 → (l : Lead) → Contains p2.leads.list.items l ↔ (Contains p.leads.list.items l ⊎ E p.range.start l))
 
 -- no part has an edge
 abbrev pub AreBare : List Part → Type 0

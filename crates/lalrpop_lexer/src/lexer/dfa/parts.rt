@@ -1,10 +1,11 @@
 //! The partition of the labels that leave a set of items: each part with the test edges that its values take.
 
 ghost use Rattle.std.specs.Prelude.{◌≡◌, ◌++◌, ◌∷◌, [], map, IfOk, OnOk};
+ghost use Rattle.lalrpop_re.specs.Range.{Covers};
 ghost use Rattle.lalrpop_lexer.specs.Ascending.{IsItemOf};
 ghost use Rattle.lalrpop_lexer.specs.Builder.{AreItemsOf};
 ghost use Rattle.lalrpop_lexer.specs.Items.{IsLeaving};
-ghost use Rattle.lalrpop_lexer.specs.Leads.{AreBare, AreLed, AreRising, HasLed, HaveLed};
+ghost use Rattle.lalrpop_lexer.specs.Leads.{AreBare, AreLed, AreRising, Gained, IsLead};
 ghost use Rattle.lalrpop_lexer.specs.Runs.{IsRuns};
 
 use super::items::{Item, ItemSet};
@@ -46,7 +47,7 @@ impl Part {
 // Adds an edge to the parts whose values its label contains.
 fn add_lead(parts: &mut Vec<Part>, label: &Test, lead: &Lead) -> Result<(), AllocError>
     requires { AreRising parts.old.items }
-    ensures { OnOk result (HasLed label.now lead.now parts.old.items parts.new.items) }
+    ensures { OnOk result (Gained parts.old.items parts.new.items (λ v l. Covers label.now v × (l ≡ lead.now))) }
 {
     let first = parts
         .as_slice()
@@ -64,7 +65,7 @@ fn add_lead(parts: &mut Vec<Part>, label: &Test, lead: &Lead) -> Result<(), Allo
 fn add_edges(nfas: &[Nfa], item: Item, parts: &mut Vec<Part>) -> Result<(), AllocError>
     requires inside { IsItemOf nfas.now item }
     requires rising { AreRising parts.old.items }
-    ensures { OnOk result (HaveLed nfas.now (item ∷ []) parts.old.items parts.new.items) }
+    ensures { OnOk result (Gained parts.old.items parts.new.items (λ v l. IsLead nfas.now (item ∷ []) v l.item l.to)) }
 {
     for edge in item.nfa(nfas).edges::<Test>(item.state()) {
         let to = edge.to;

@@ -4,8 +4,9 @@ use Rattle.lalrpop_re.specs.Range.{Range}
 use Rattle.lalrpop_lexer.specs.Machine.{graph_at}
 use Rattle.lalrpop_lexer.specs.Walk.{leaves}
 use Rattle.lalrpop_lexer.specs.declared.lexer.nfa.edge.Edge.{Edge}
-use Rattle.lalrpop_lexer.proofs.LeadSteps.{HaveGot}
+use Rattle.lalrpop_lexer.specs.Leads.{Gained}
+use Rattle.lalrpop_lexer.proofs.LeadSteps.{IsEdgeLead}
 use Rattle.lalrpop_lexer.proofs.lexer.dfa.parts.add_edges.Given as goal
 
 abbrev pub invariant-loop-edge : goal.invariant-loop-edge
-invariant-loop-edge l = (done : List (Edge Range)) × HaveGot l.fn.item done l.fn.parts.items l.parts.items × (done ++ l.edge-iterator ≡ filter (leaves l.fn.item.1) (graph_at l.nfas l.fn.item.0).edges.tests)
+invariant-loop-edge l = (done : List (Edge Range)) × Gained l.fn.parts.items l.parts.items (IsEdgeLead l.fn.item done) × (done ++ l.edge-iterator ≡ filter (leaves l.fn.item.1) (graph_at l.nfas l.fn.item.0).edges.tests)
