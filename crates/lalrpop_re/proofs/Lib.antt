@@ -1,6 +1,23 @@
-pub mod Words
-pub mod Languages
-pub mod Classes
-pub mod Powers
-pub mod Canons
-pub mod Joining
+mod Steps
+mod Escapes
+mod BracketLaws
+mod LexicalLaws
+mod OpeningLaws
+mod BracketCases
+mod PatternCases
+mod OpeningSteps
+mod CanonLaws
+mod SpanLaws
+mod SetLaws
+mod SetNameLaws
+mod PosixLaws
+mod FoldTable
+mod FoldLaws
+mod Lexemes
+mod ItemLaws
+mod BracketLoops
+mod ParserLoops
+mod NameLaws
+pub mod PatternLaws
+mod EscapedLemmas
+mod Numbers

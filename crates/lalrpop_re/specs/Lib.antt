@@ -1,9 +1,20 @@
-pub mod Word
-pub mod Range
-pub mod Counts
-pub mod Looks
-pub mod Tree
-pub mod Code
-pub mod Level
-pub mod TreeFalls
-pub mod Language
+-- What a pattern stands for, in reading order: characters, sets, flags, names, escapes, brackets, operators, patterns.
+pub mod Text
+pub mod CharacterSet
+pub mod Flag
+pub mod GroupName
+pub mod Escape
+pub mod Bracket
+pub mod Operator
+pub mod Pattern
+pub mod Refusal
+pub mod Escaped
+-- what serves the proofs alone
+pub mod Internal
+-- the definitions of the trees, for callers
+pub use Rattle.lalrpop_hir.specs.Word
+pub use Rattle.lalrpop_hir.specs.Range
+pub use Rattle.lalrpop_hir.specs.Counts
+pub use Rattle.lalrpop_hir.specs.Tree
+pub use Rattle.lalrpop_hir.specs.Level
+pub use Rattle.lalrpop_hir.specs.Language

@@ -1,14 +1,29 @@
-//! Regular patterns as trees, which a program makes by hand or from a text. The file `specs/Language.antt` says
-//! what each tree matches.
+//! Patterns: regular expressions as text, read into trees. The files of `specs/` are the grammar.
 #![tactic(auto)]
 
-mod class;
-mod clone;
-mod hir;
-mod parse;
+mod bracket;
+mod cursor;
+mod error;
+mod escape_sequence;
+mod escape_text;
+mod flags;
+mod literal;
+mod names;
+mod number;
+mod opening;
+mod operator;
+mod parser;
+#[cfg(test)]
+mod pattern_tests;
+mod sets;
 #[cfg(test)]
 mod tests;
 
-pub use class::{Class, ClassBytes, ClassBytesRange, ClassUnicode, ClassUnicodeRange};
-pub use hir::{Capture, Hir, HirKind, Literal, Look, Repetition};
-pub use parse::{Regex, RegexError, SyntaxKind, parse_literal};
+pub use error::{RegexError, SyntaxKind};
+pub use escape_text::escape;
+pub use lalrpop_hir::{
+    Capture, Class, ClassBytes, ClassBytesRange, ClassUnicode, ClassUnicodeRange, Hir, HirKind,
+    Literal, Look, Regex, Repetition,
+};
+pub use literal::parse_literal;
+pub use parser::parse_regex;

@@ -1,6 +1,6 @@
 pub mod Known
 pub mod LineLemmas
-pub mod LiteralLemmas
+pub mod LineParts
 pub mod TerminalLemmas
 pub mod Unique
 pub mod Strongest

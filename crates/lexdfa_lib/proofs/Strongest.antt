@@ -4,7 +4,7 @@ use Rattle.std.specs.Prelude.{Option, IfSome}
 use Rattle.std.specs.Option.{option_map}
 use Rattle.std.specs.Str.{chars}
 use Rattle.std.proofs.lemmas.Bool.{cases_order}
-use Rattle.lalrpop_re.specs.Tree.{Tree}
+use Rattle.lalrpop_hir.specs.Tree.{Tree}
 use Rattle.lalrpop_lexer.specs.Winners.{Top, GreatestTop, OnlyTop}
 use Rattle.lalrpop_lexer.specs.Clash.{NoClash}
 use Rattle.lalrpop_lexer.specs.Longest.{IsLongest}

@@ -1,15 +1,17 @@
 -- What lines say, line by line.
 use Rattle.std.proofs.Common.{◌≡◌, ℕ, suc, List, [], ◌∷◌, ◌++◌, length, refl, ap}
-use Rattle.lalrpop_re.specs.Tree.{Tree}
+use Rattle.lalrpop_hir.specs.Tree.{Tree}
 use Rattle.lexdfa_lib.specs.Lines.{lines}
-use Rattle.lexdfa_lib.specs.Line.{bad, terminal, LineSays}
-use Rattle.lexdfa_lib.specs.Terminals.{AreTerminals, IsFirstBad}
+use Rattle.lexdfa_lib.specs.Line.{LineSays}
+use Rattle.lexdfa_lib.specs.Terminals.{AreTerminals, FirstSays}
 use Rattle.lexdfa_lib.specs.Answer.{Finds, IsOutcome}
+use Rattle.lexdfa_lib.specs.declared.meaning.Meaning.{Meaning}
+use Rattle.lexdfa_lib.specs.declared.meaning.Meaning.TheVariants.{Terminal}
 use Rattle.lexdfa_lib.specs.declared.outcome.Outcome.{Outcome}
 use Rattle.lexdfa_lib.specs.declared.outcome.Outcome.TheVariants.{Match, NoMatch, Refused, Ambiguous, Syntax, Line}
 
 -- one terminal more
-pub AreTerminals-push : (ls : List (List ℕ)) (ts : List Tree) (ps : List ℕ) (line : List ℕ) (t : Tree) (p : ℕ) → AreTerminals ls ts ps → LineSays line (terminal p t) → AreTerminals (ls ++ line ∷ []) (ts ++ t ∷ []) (ps ++ p ∷ [])
+pub AreTerminals-push : (ls : List (List ℕ)) (ts : List Tree) (ps : List ℕ) (line : List ℕ) (t : Tree) (p : ℕ) → AreTerminals ls ts ps → LineSays line (Terminal p t) → AreTerminals (ls ++ line ∷ []) (ts ++ t ∷ []) (ps ++ p ∷ [])
 AreTerminals-push [] [] [] line t p are says = (says, tt)
 AreTerminals-push [] [] (q ∷ ps) line t p are says = absurd are
 AreTerminals-push [] (u ∷ ts) ps line t p are says = absurd are
@@ -17,14 +19,14 @@ AreTerminals-push (l ∷ ls) [] ps line t p are says = absurd are
 AreTerminals-push (l ∷ ls) (u ∷ ts) [] line t p are says = absurd are
 AreTerminals-push (l ∷ ls) (u ∷ ts) (q ∷ ps) line t p are says = (are.0, AreTerminals-push ls ts ps line t p are.1 says)
 
--- a bad line after terminals is the first
-pub IsFirstBad-after : (ls : List (List ℕ)) (ts : List Tree) (ps : List ℕ) (line : List ℕ) (rest : List (List ℕ)) → AreTerminals ls ts ps → LineSays line bad → IsFirstBad (ls ++ line ∷ rest) (length ts)
-IsFirstBad-after [] [] [] line rest are says = says
-IsFirstBad-after [] [] (q ∷ ps) line rest are says = absurd are
-IsFirstBad-after [] (u ∷ ts) ps line rest are says = absurd are
-IsFirstBad-after (l ∷ ls) [] ps line rest are says = absurd are
-IsFirstBad-after (l ∷ ls) (u ∷ ts) [] line rest are says = absurd are
-IsFirstBad-after (l ∷ ls) (u ∷ ts) (q ∷ ps) line rest are says = ((q, (u, are.0)), IsFirstBad-after ls ts ps line rest are.1 says)
+-- the first line after terminals says what it says
+pub FirstSays-after : (ls : List (List ℕ)) (ts : List Tree) (ps : List ℕ) (line : List ℕ) (rest : List (List ℕ)) (said : Meaning) → AreTerminals ls ts ps → LineSays line said → FirstSays (ls ++ line ∷ rest) (length ts) said
+FirstSays-after [] [] [] line rest said are says = says
+FirstSays-after [] [] (q ∷ ps) line rest said are says = absurd are
+FirstSays-after [] (u ∷ ts) ps line rest said are says = absurd are
+FirstSays-after (l ∷ ls) [] ps line rest said are says = absurd are
+FirstSays-after (l ∷ ls) (u ∷ ts) [] line rest said are says = absurd are
+FirstSays-after (l ∷ ls) (u ∷ ts) (q ∷ ps) line rest said are says = ((q, (u, are.0)), FirstSays-after ls ts ps line rest said are.1 says)
 
 -- there are as many trees as precedences
 pub length-AreTerminals : (ls : List (List ℕ)) (ts : List Tree) (ps : List ℕ) → AreTerminals ls ts ps → length ts ≡ length ps

@@ -1,19 +1,25 @@
 -- The answer to some bytes and a text is one.
-use Rattle.std.proofs.Common.{◌≡◌, ℕ, zero, suc, ◌<◌, ◌⊎◌, inl, inr, List, [], ◌∷◌, ◌++◌, length, Some, None, refl, sym, ap, subst, ◌∙◌, arith}
-use Rattle.std.specs.Prelude.{slice_get}
+use Rattle.std.proofs.Common.{◌≡◌, ℕ, zero, suc, ◌<◌, ◌⊎◌, inl, inr, List, [], ◌∷◌, ◌++◌, length, get_or, Some, None, refl, sym, ap, subst, ◌∙◌, arith}
+use Rattle.std.specs.Prelude.{slice_get, codes}
+use Rattle.std.specs.Str.{chars}
 use Rattle.std.specs.Str.Parse.{AllDigits, digits_value}
 use Rattle.std.proofs.lemmas.Bool.{cases_order}
 use Rattle.std.proofs.lemmas.Str.Parse.{digit_from_value}
-use Rattle.lalrpop_re.specs.Tree.{Tree, of_text}
+use Rattle.lalrpop_hir.specs.Tree.{Tree}
+use Rattle.lalrpop_re.proofs.PatternLaws.{one_tree}
 use Rattle.lalrpop_lexer.specs.Fault.{fault}
 use Rattle.lalrpop_lexer.specs.Report.{NoFault, FirstFault}
 use Rattle.lalrpop_lexer.specs.declared.lexer.nfa.error.NfaConstructionError.{NfaConstructionError}
 use Rattle.lalrpop_lexer.proofs.Clashes.{clash-unique, clash_or_none}
 use Rattle.lalrpop_lexer.proofs.Longests.{longest-unique}
 use Rattle.lexdfa_lib.specs.Lines.{lines}
-use Rattle.lexdfa_lib.specs.Line.{IsLiteralLine, bad, terminal, LineSays}
-use Rattle.lexdfa_lib.specs.Terminals.{AreTerminals, IsFirstBad}
+use Rattle.lexdfa_lib.specs.Line.{letter, IsLine, Spells, LineSays}
+use Rattle.lexdfa_lib.specs.Terminals.{AreTerminals, FirstSays}
 use Rattle.lexdfa_lib.specs.Answer.{Finds, IsOutcome}
+use Rattle.lexdfa_lib.specs.declared.line.Kind.{Kind}
+use Rattle.lexdfa_lib.specs.declared.line.Kind.TheVariants.{Literal, Regex}
+use Rattle.lexdfa_lib.specs.declared.meaning.Meaning.{Meaning}
+use Rattle.lexdfa_lib.specs.declared.meaning.Meaning.TheVariants.{Bad, NoTree, Terminal}
 use Rattle.lexdfa_lib.specs.declared.outcome.Outcome.{Outcome}
 use Rattle.lexdfa_lib.specs.declared.outcome.Outcome.TheVariants.{Match, NoMatch, Refused, Ambiguous, Syntax, Line}
 
@@ -32,11 +38,49 @@ cut-unique (x ∷ xs) (y ∷ ys) us vs h g e =
     let tail : xs ≡ ys = same.0 in
     (cc, same.1)
 
-literal-unique : (line : List ℕ) (n m : ℕ) (t u : List ℕ) → IsLiteralLine line n t → IsLiteralLine line m u → (n ≡ m) × (t ≡ u)
-literal-unique line n m t u h g =
-    let same = cut-unique h.digits g.digits (108 ∷ 32 ∷ t) (108 ∷ 32 ∷ u) h.precedence.numeral.1 g.precedence.numeral.1 (sym h.parts ∙ g.parts) in
-    let rest : 108 ∷ 32 ∷ t ≡ 108 ∷ 32 ∷ u = same.1 in
-    (h.precedence.value ∙ ap (digits_value 10) same.0 ∙ sym g.precedence.value, cc)
+-- what stands behind the first space fixes the kind and the text
+kind-unique : (k l : Kind) (t u : List ℕ) → letter k ++ (codes " " ++ t) ≡ letter l ++ (codes " " ++ u) → (k ≡ l) × (t ≡ u)
+kind-unique Literal Literal t u e = (refl, cc)
+kind-unique Literal Regex t u e = let first : ◌≡◌ {A = ℕ} 108 114 = ap (λ (l : List ℕ). get_or l 0 0) e in absurd (omega arith)
+kind-unique Regex Literal t u e = let first : ◌≡◌ {A = ℕ} 114 108 = ap (λ (l : List ℕ). get_or l 0 0) e in absurd (omega arith)
+kind-unique Regex Regex t u e = (refl, cc)
+
+-- a line has its parts once
+line-unique : (line : List ℕ) (n m : ℕ) (k l : Kind) (t u : List ℕ) → IsLine line n k t → IsLine line m l u → (n ≡ m) × ((k ≡ l) × (t ≡ u))
+line-unique line n m k l t u h g =
+    let same = cut-unique h.digits g.digits (letter k ++ (codes " " ++ t)) (letter l ++ (codes " " ++ u)) h.precedence.numeral.1 g.precedence.numeral.1 (sym h.parts ∙ g.parts) in
+    (h.precedence.value ∙ ap (digits_value 10) same.0 ∙ sym g.precedence.value, kind-unique k l t u same.1)
+
+tree-unique : (k : Kind) (text : List ℕ) (t u : Tree) → Spells k text t → Spells k text u → t ≡ u
+tree-unique Literal text t u h g = h ∙ sym g
+tree-unique Regex text t u h g = one_tree (chars text) t u h g
+
+no_tree_or_tree : (line : List ℕ) (p : ℕ) (t : Tree) → LineSays line NoTree → LineSays line (Terminal p t) → ⊥
+no_tree_or_tree line p t h g =
+    let same = line-unique line h.0 p Regex g.0 h.1.0 g.1.0 h.1.1.0 g.1.1.0 in
+    let as_pattern = subst (λ k. Spells k g.1.0 t) (sym same.1.0) g.1.1.1 in
+    h.1.1.1 t (subst (λ text. Spells Regex text t) (sym same.1.1) as_pattern)
+
+terminal-unique : (line : List ℕ) (p q : ℕ) (t u : Tree) → LineSays line (Terminal p t) → LineSays line (Terminal q u) → Terminal p t ≡ Terminal q u
+terminal-unique line p q t u h g =
+    let same = line-unique line p q h.0 g.0 h.1.0 g.1.0 h.1.1.0 g.1.1.0 in
+    let of_kind = subst (λ k. Spells k g.1.0 u) (sym same.1.0) g.1.1.1 in
+    let of_text = subst (λ text. Spells h.0 text u) (sym same.1.1) of_kind in
+    let trees : t ≡ u = tree-unique h.0 h.1.0 t u h.1.1.1 of_text in
+    let numbers : p ≡ q = same.0 in
+    cc
+
+-- a line says one thing
+says-unique : (line : List ℕ) (a b : Meaning) → LineSays line a → LineSays line b → a ≡ b
+says-unique line Bad Bad h g = refl
+says-unique line Bad NoTree h g = absurd (h g.0 Regex g.1.0 g.1.1.0)
+says-unique line Bad (Terminal q u) h g = absurd (h q g.0 g.1.0 g.1.1.0)
+says-unique line NoTree Bad h g = absurd (g h.0 Regex h.1.0 h.1.1.0)
+says-unique line NoTree NoTree h g = refl
+says-unique line NoTree (Terminal q u) h g = absurd (no_tree_or_tree line q u h g)
+says-unique line (Terminal p t) Bad h g = absurd (g p h.0 h.1.0 h.1.1.0)
+says-unique line (Terminal p t) NoTree h g = absurd (no_tree_or_tree line p t g h)
+says-unique line (Terminal p t) (Terminal q u) h g = terminal-unique line p q t u h g
 
 terminals-unique : (ls : List (List ℕ)) (ts us : List Tree) (ps qs : List ℕ) → AreTerminals ls ts ps → AreTerminals ls us qs → (ts ≡ us) × (ps ≡ qs)
 terminals-unique [] [] [] [] [] h g = (refl, refl)
@@ -49,30 +93,33 @@ terminals-unique (l ∷ ls) (t ∷ ts) us [] qs h g = absurd h
 terminals-unique (l ∷ ls) (t ∷ ts) [] (p ∷ ps) qs h g = absurd g
 terminals-unique (l ∷ ls) (t ∷ ts) (u ∷ us) (p ∷ ps) [] h g = absurd g
 terminals-unique (l ∷ ls) (t ∷ ts) (u ∷ us) (p ∷ ps) (q ∷ qs) h g =
-    let same = literal-unique l p q h.0.0 g.0.0 h.0.1.0 g.0.1.0 in
+    let same : Terminal p t ≡ Terminal q u = terminal-unique l p q t u h.0 g.0 in
     let rest = terminals-unique ls ts us ps qs h.1 g.1 in
-    let numbers : p ≡ q = same.0 in
-    let trees : t ≡ u = h.0.1.1 ∙ ap of_text same.1 ∙ sym g.0.1.1 in
+    let numbers : p ≡ q = cc in
+    let trees : t ≡ u = cc in
     let ts-same : ts ≡ us = rest.0 in
     let ps-same : ps ≡ qs = rest.1 in
     (cc, cc)
 
-bad_or_terminal : (line : List ℕ) (p : ℕ) (t : Tree) → LineSays line bad → LineSays line (terminal p t) → ⊥
-bad_or_terminal line p t h g = h p g.0 g.1.0
+abbrev NoTerminal : Meaning → Type 0
+NoTerminal said = (p : ℕ) (t : Tree) → said ≡ Terminal p t → ⊥
 
-bad_or_terminals : (ls : List (List ℕ)) (i : ℕ) (ts : List Tree) (ps : List ℕ) → IsFirstBad ls i → AreTerminals ls ts ps → ⊥
-bad_or_terminals [] i ts ps h g = h
-bad_or_terminals (l ∷ ls) i [] ps h g = g
-bad_or_terminals (l ∷ ls) i (t ∷ ts) [] h g = g
-bad_or_terminals (l ∷ ls) zero (t ∷ ts) (p ∷ ps) h g = bad_or_terminal l p t h g.0
-bad_or_terminals (l ∷ ls) (suc i) (t ∷ ts) (p ∷ ps) h g = bad_or_terminals ls i ts ps h.1 g.1
+stop_or_terminals : (ls : List (List ℕ)) (i : ℕ) (said : Meaning) (ts : List Tree) (ps : List ℕ) → NoTerminal said → FirstSays ls i said → AreTerminals ls ts ps → ⊥
+stop_or_terminals [] i said ts ps none h g = h
+stop_or_terminals (l ∷ ls) i said [] ps none h g = g
+stop_or_terminals (l ∷ ls) i said (t ∷ ts) [] none h g = g
+stop_or_terminals (l ∷ ls) zero said (t ∷ ts) (p ∷ ps) none h g = none p t (says-unique l said (Terminal p t) h g.0)
+stop_or_terminals (l ∷ ls) (suc i) said (t ∷ ts) (p ∷ ps) none h g = stop_or_terminals ls i said ts ps none h.1 g.1
 
-bad-unique : (ls : List (List ℕ)) (i j : ℕ) → IsFirstBad ls i → IsFirstBad ls j → i ≡ j
-bad-unique [] i j h g = absurd h
-bad-unique (l ∷ ls) zero zero h g = refl
-bad-unique (l ∷ ls) zero (suc j) h g = absurd (bad_or_terminal l g.0.0 g.0.1.0 h g.0.1.1)
-bad-unique (l ∷ ls) (suc i) zero h g = absurd (bad_or_terminal l h.0.0 h.0.1.0 g h.0.1.1)
-bad-unique (l ∷ ls) (suc i) (suc j) h g = ap suc (bad-unique ls i j h.1 g.1)
+-- the first line that is no terminal is one, and says one thing
+stop-unique : (ls : List (List ℕ)) (i j : ℕ) (a b : Meaning) → NoTerminal a → NoTerminal b → FirstSays ls i a → FirstSays ls j b → (i ≡ j) × (a ≡ b)
+stop-unique [] i j a b no_a no_b h g = absurd h
+stop-unique (l ∷ ls) zero zero a b no_a no_b h g = (refl, says-unique l a b h g)
+stop-unique (l ∷ ls) zero (suc j) a b no_a no_b h g = absurd (no_a g.0.0 g.0.1.0 (says-unique l a (Terminal g.0.0 g.0.1.0) h g.0.1.1))
+stop-unique (l ∷ ls) (suc i) zero a b no_a no_b h g = absurd (no_b h.0.0 h.0.1.0 (says-unique l b (Terminal h.0.0 h.0.1.0) g h.0.1.1))
+stop-unique (l ∷ ls) (suc i) (suc j) a b no_a no_b h g =
+    let same = stop-unique ls i j a b no_a no_b h.1 g.1 in
+    (ap suc same.0, same.1)
 
 fault_or_none : (ts : List Tree) (i : ℕ) (e : NfaConstructionError) → FirstFault ts i e → NoFault ts → ⊥
 fault_or_none ts i e h none = let has : fault h.tree ≡ Some e = h.has in let lacks : fault h.tree ≡ None = none i h.tree h.at in cc
@@ -142,25 +189,44 @@ found-unique bytes text a b h g =
     let here = subst (λ ps. Finds h.0 ps text b) (sym same.1) there in
     finds-unique h.0 h.1.0 text a b h.1.1.1 here
 
-not_both : (bytes text : List ℕ) (i : ℕ) (o : Outcome) → IsFirstBad (lines bytes) i → Found bytes text o → ⊥
-not_both bytes text i o h g = bad_or_terminals (lines bytes) i g.0 g.1.0 h g.1.1.0
+-- the outcome that tells that a line is no terminal
+abbrev stop : Meaning → ℕ → Outcome
+stop Bad i = Line i
+stop NoTree i = Syntax i
+stop (Terminal p t) i = Line i
 
-abbrev BadLine : List ℕ → Outcome → Type 0
-BadLine bytes o = (i : ℕ) × ((o ≡ Line i) × IsFirstBad (lines bytes) i)
+record Stops (bytes : List ℕ) (o : Outcome) : Type 0 where
+  line : ℕ
+  said : Meaning
+  none : NoTerminal said
+  told : o ≡ stop said line
+  first : FirstSays (lines bytes) line said
 
-bad_or_found : (bytes text : List ℕ) (o : Outcome) → IsOutcome bytes text o → BadLine bytes o ⊎ Found bytes text o
-bad_or_found bytes text (Line i) h = inl (i, (refl, h))
-bad_or_found bytes text (Match i n) h = inr h
-bad_or_found bytes text NoMatch h = inr h
-bad_or_found bytes text (Refused i e) h = inr h
-bad_or_found bytes text (Ambiguous i j) h = inr h
-bad_or_found bytes text (Syntax i) h = inr h
+stops_or_found : (bytes text : List ℕ) (o : Outcome) → IsOutcome bytes text o → Stops bytes o ⊎ Found bytes text o
+stops_or_found bytes text (Line i) h = inl (record { line = i; said = Bad; none = λ p t e. cc; told = refl; first = h })
+stops_or_found bytes text (Syntax i) h = inl (record { line = i; said = NoTree; none = λ p t e. cc; told = refl; first = h })
+stops_or_found bytes text (Match i n) h = inr h
+stops_or_found bytes text NoMatch h = inr h
+stops_or_found bytes text (Refused i e) h = inr h
+stops_or_found bytes text (Ambiguous i j) h = inr h
+
+not_both : (bytes text : List ℕ) (o q : Outcome) → Stops bytes o → Found bytes text q → ⊥
+not_both bytes text o q h g = stop_or_terminals (lines bytes) h.line h.said g.0 g.1.0 h.none h.first g.1.1.0
+
+stops-unique : (bytes : List ℕ) (a b : Outcome) → Stops bytes a → Stops bytes b → a ≡ b
+stops-unique bytes a b h g =
+    let same = stop-unique (lines bytes) h.line g.line h.said g.said h.none g.none h.first g.first in
+    let numbers : h.line ≡ g.line = same.0 in
+    let meanings : h.said ≡ g.said = same.1 in
+    let told : a ≡ stop h.said h.line = h.told in
+    let also : b ≡ stop g.said g.line = g.told in
+    cc
 
 pub outcome-unique : (bytes text : List ℕ) (a b : Outcome) → IsOutcome bytes text a → IsOutcome bytes text b → a ≡ b
-outcome-unique bytes text a b h g = by_kind (bad_or_found bytes text a h) (bad_or_found bytes text b g)
+outcome-unique bytes text a b h g = by_kind (stops_or_found bytes text a h) (stops_or_found bytes text b g)
   where
-    by_kind : BadLine bytes a ⊎ Found bytes text a → BadLine bytes b ⊎ Found bytes text b → a ≡ b
-    by_kind (inl x) (inl y) = x.1.0 ∙ ap Line (bad-unique (lines bytes) x.0 y.0 x.1.1 y.1.1) ∙ sym y.1.0
-    by_kind (inl x) (inr y) = absurd (not_both bytes text x.0 b x.1.1 y)
-    by_kind (inr x) (inl y) = absurd (not_both bytes text y.0 a y.1.1 x)
+    by_kind : Stops bytes a ⊎ Found bytes text a → Stops bytes b ⊎ Found bytes text b → a ≡ b
+    by_kind (inl x) (inl y) = stops-unique bytes a b x y
+    by_kind (inl x) (inr y) = absurd (not_both bytes text a b x y)
+    by_kind (inr x) (inl y) = absurd (not_both bytes text b a y x)
     by_kind (inr x) (inr y) = found-unique bytes text a b x y

@@ -1,13 +1,14 @@
 -- The answer to some bytes and a text: one outcome, and its line.
 use Rattle.std.specs.Prelude.{◌≡◌, ℕ, List, length, Option, Some, None}
-use Rattle.lalrpop_re.specs.Tree.{Tree}
+use Rattle.lalrpop_hir.specs.Tree.{Tree}
 use Rattle.lalrpop_lexer.specs.Clash.{IsClash, NoClash}
 use Rattle.lalrpop_lexer.specs.Longest.{IsLongest}
 use Rattle.lalrpop_lexer.specs.Report.{NoFault, FirstFault}
 use Rattle.lexdfa_lib.specs.Lines.{lines}
-use Rattle.lexdfa_lib.specs.Terminals.{AreTerminals, IsFirstBad}
+use Rattle.lexdfa_lib.specs.Terminals.{AreTerminals, FirstSays}
 use Rattle.lexdfa_lib.specs.Printed.{line_of}
 use Rattle.lexdfa_lib.specs.Watch.{ReadsAll, AppendsBeginning}
+use Rattle.lexdfa_lib.specs.declared.meaning.Meaning.TheVariants.{Bad, NoTree}
 use Rattle.lexdfa_lib.specs.declared.outcome.Outcome.{Outcome}
 use Rattle.lexdfa_lib.specs.declared.outcome.Outcome.TheVariants.{Match, NoMatch, Refused, Ambiguous, Syntax, Line}
 
@@ -20,9 +21,11 @@ Finds ts ps text NoMatch = NoFault ts × NoClash ts ps × IsLongest ts ps text N
 Finds ts ps text (Syntax i) = ⊥
 Finds ts ps text (Line i) = ⊥
 
--- the outcome for the bytes and the text: the first bad line; else what the terminals of the lines find
+-- the outcome for the bytes and the text: the first line that is bad or has a pattern without a tree; else what the terminals
+-- of the lines find
 abbrev pub IsOutcome : List ℕ → List ℕ → Outcome → Type 0
-IsOutcome bytes text (Line i) = IsFirstBad (lines bytes) i
+IsOutcome bytes text (Line i) = FirstSays (lines bytes) i Bad
+IsOutcome bytes text (Syntax i) = FirstSays (lines bytes) i NoTree
 IsOutcome bytes text outcome = (ts : List Tree) × ((ps : List ℕ) × (AreTerminals (lines bytes) ts ps × Finds ts ps text outcome))
 
 -- the line for the bytes and the text

@@ -1,5 +1,6 @@
 pub mod Watch
 pub mod Status
+pub mod Ending
 pub mod Printed
 pub mod Lines
 pub mod Line

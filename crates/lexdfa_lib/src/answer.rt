@@ -1,6 +1,6 @@
 ghost use Rattle.std.specs.Prelude.{◌≡◌, ◌≢◌, ℕ, List, false, true, map, length, IfOk, OnOk, IfErr, OnErr};
 ghost use Rattle.std.specs.Io.KnownBytes.{Appends};
-ghost use Rattle.lalrpop_re.specs.Tree.{Tree};
+ghost use Rattle.lalrpop_hir.specs.Tree.{Tree};
 ghost use Rattle.lalrpop_lexer.specs.Report.{IsReport};
 ghost use Rattle.lexdfa_lib.specs.Answer.{Finds, IsOutcome, ReadsOutcome, WritesBeginning};
 ghost use Rattle.lexdfa_lib.specs.Printed.{line_of};
@@ -66,13 +66,15 @@ fn outcome_of(alloc: Global, bytes: &[u8], text: &str) -> Result<Outcome, AllocE
             precedences,
         } => find(alloc, &regexs, &precedences, text),
         Terminals::Bad { line } => Ok(Outcome::Line { line }),
+        Terminals::NoTree { line } => Ok(Outcome::Syntax { terminal: line }),
     }
 }
 
 /// Reads the reader to its end, and writes the line for what was read and the text.
 ///
-/// Each line of input is a terminal `P l TEXT`: a precedence of 1 to 20 decimal digits, a space, the letter `l`, a space
-/// and the literal. Each line ends at a line feed, which the last may lack. No call of an end that has failed is made.
+/// Each line of input is a terminal `P l TEXT` or `P r PATTERN`: a precedence of 1 to 20 decimal digits, a space, the letter
+/// `l` or `r`, a space, and a literal or a pattern. Each line ends at a line feed, which the last may lack. No call of an end
+/// that has failed is made.
 pub fn run<R: Read, W: Write>(
     alloc: Global,
     reader: &mut Watched<R>,

@@ -38,7 +38,7 @@ pub fn read_whole<R: Read>(alloc: Global, reader: &mut Watched<R>) -> Result<Vec
     ensures write { IfErr result (λ e. e ≢ RunError.Write) }
 {
     let mut all = Vec::new(alloc);
-    let mut buffer = [0u8; 256];
+    let mut buffer = [0u8; 8192];
     loop {
         match read_once(reader, &mut buffer) {
             Err(_) => return Err(RunError::Read),

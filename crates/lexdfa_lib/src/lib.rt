@@ -1,12 +1,15 @@
-//! The longest match of a text, by terminals that are read from a stream: `run` reads lines such as `1 l class`, a
-//! precedence and a literal, finds the longest beginning of a text that one of them matches, and writes one line.
+//! The longest match of a text, by terminals that are read from a stream: `run` reads lines such as `1 l class` or
+//! `0 r [a-z]+`, a precedence and a literal or a pattern, finds the longest beginning of a text that one of them matches, and
+//! writes one line.
 #![tactic(auto)]
 
 mod answer;
+mod ending;
 mod ends;
 mod error;
 mod line;
 mod longest;
+mod meaning;
 mod outcome;
 #[cfg(test)]
 mod pattern_tests;
@@ -17,6 +20,7 @@ mod watched;
 mod words;
 
 pub use answer::run;
+pub use ending::{Ending, Failure};
 pub use error::RunError;
 pub use longest::longest_match;
 pub use outcome::Outcome;

@@ -1,8 +1,8 @@
-ghost use Rattle.std.specs.Prelude.{◌≡◌, ◌==◌, ℕ, ◌<◌, List, [], ◌∷◌, length, position, IfSome, IfNone};
+ghost use Rattle.std.specs.Prelude.{◌≡◌, ◌≢◌, ◌==◌, ℕ, ◌<◌, List, [], ◌∷◌, ◌++◌, length, position, codes, IfSome, IfNone};
 ghost use Rattle.std.specs.Char.{is_ascii_digit};
 ghost use Rattle.std.specs.List.{list_all};
 ghost use Rattle.lexdfa_lib.specs.Lines.{lines};
-ghost use Rattle.lexdfa_lib.specs.Line.{IsPrecedence, IsLiteralLine};
+ghost use Rattle.lexdfa_lib.specs.Line.{IsPrecedence, letter, IsLine};
 
 // Enough for each `usize`, with zeros in front where it is shorter.
 const MAX_DIGITS: usize = 20;
@@ -48,14 +48,35 @@ fn precedence_of(digits: &str) -> Option<usize>
     digits.parse().ok()
 }
 
-/// The precedence and the text of a line `P l TEXT`; None where the line is bad.
-pub fn literal_line(line: &[u8]) -> Option<(usize, &str)>
-    ensures some { IfSome result (λ m. IsLiteralLine line.now m.0 m.1.now) }
-    ensures none { IfNone result ((n : ℕ) (text : List ℕ) → ¬ IsLiteralLine line.now n text) }
+/// How the text of a line stands for a tree.
+#[derive(Clone, Copy)]
+pub enum Kind {
+    /// As it is: no character has a special meaning.
+    Literal,
+    /// As a pattern.
+    Regex,
+}
+
+/// The kind and the text of `l TEXT` or `r PATTERN`.
+fn kind_of(rest: &str) -> Option<(Kind, &str)>
+    ensures some { IfSome result (λ m. rest.now ≡ letter m.0 ++ (codes " " ++ m.1.now)) }
+    ensures none { IfNone result ((kind : Kind) (text : List ℕ) → rest.now ≢ letter kind ++ (codes " " ++ text)) }
+{
+    if let Some(text) = rest.strip_prefix("l ") {
+        return Some((Kind::Literal, text));
+    }
+    let text = rest.strip_prefix("r ")?;
+    Some((Kind::Regex, text))
+}
+
+/// The precedence, the kind and the text of a line `P l TEXT` or `P r PATTERN`; None where the line is bad.
+pub fn line_parts(line: &[u8]) -> Option<(usize, Kind, &str)>
+    ensures some { IfSome result (λ m. IsLine line.now m.0 m.1 m.2.now) }
+    ensures none { IfNone result ((n : ℕ) (kind : Kind) (text : List ℕ) → ¬ IsLine line.now n kind text) }
 {
     let line = str::from_utf8(line).ok()?;
     let (digits, rest) = line.split_once(' ')?;
-    let text = rest.strip_prefix("l ")?;
+    let (kind, text) = kind_of(rest)?;
     let precedence = precedence_of(digits)?;
-    Some((precedence, text))
+    Some((precedence, kind, text))
 }

@@ -1,9 +1,10 @@
 ghost use Rattle.std.specs.Prelude.{IfOk};
 ghost use Rattle.lexdfa_lib.specs.Terminals.{AreSaid};
 
-use crate::line::{literal_line, split_line};
+use crate::line::split_line;
+use crate::meaning::{Meaning, meaning_of};
 use lalrpop_lexer::lexer::dfa::Precedence;
-use lalrpop_lexer::lexer::re::{Regex, parse_literal};
+use lalrpop_lexer::lexer::re::Regex;
 use std::alloc::{AllocError, Global};
 
 /// What all lines say.
@@ -14,13 +15,17 @@ pub enum Terminals {
         regexs: Vec<Regex>,
         precedences: Vec<Precedence>,
     },
-    /// The first line that is none.
+    /// The first line that is no terminal is bad.
     Bad {
+        line: usize,
+    },
+    /// The first line that is no terminal has a pattern without a tree.
+    NoTree {
         line: usize,
     },
 }
 
-/// Judges the lines in order, up to the first that is bad.
+/// Judges the lines in order, up to the first that is no terminal.
 pub fn read_terminals(alloc: Global, bytes: &[u8]) -> Result<Terminals, AllocError>
     ensures { IfOk result (λ terminals. AreSaid bytes.now terminals) }
 {
@@ -28,14 +33,15 @@ pub fn read_terminals(alloc: Global, bytes: &[u8]) -> Result<Terminals, AllocErr
     let mut precedences = Vec::new(alloc);
     let mut rest = bytes;
     while let Some((line, after)) = split_line(rest) {
-        let Some((precedence, text)) = literal_line(line) else {
-            return Ok(Terminals::Bad { line: regexs.len() });
-        };
-        let Ok(regex) = parse_literal(alloc, text) else {
-            return Err(AllocError);
-        };
-        regexs.push(regex)?;
-        precedences.push(Precedence(precedence))?;
+        let number = regexs.len();
+        match meaning_of(alloc, line)? {
+            Meaning::Bad => return Ok(Terminals::Bad { line: number }),
+            Meaning::NoTree => return Ok(Terminals::NoTree { line: number }),
+            Meaning::Terminal { precedence, regex } => {
+                regexs.push(regex)?;
+                precedences.push(Precedence(precedence))?;
+            }
+        }
         rest = after;
     }
     Ok(Terminals::All {

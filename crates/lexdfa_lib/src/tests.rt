@@ -1,7 +1,7 @@
-use crate::{Outcome, RunError, Watched, arguments, longest_match, run};
+use crate::{Ending, Failure, Outcome, RunError, Watched, arguments, longest_match, run};
 use lalrpop_lexer::lexer::dfa::interpret::interpret;
 use lalrpop_lexer::lexer::dfa::{Precedence, build_dfa};
-use lalrpop_lexer::lexer::re::parse_literal;
+use lalrpop_lexer::lexer::re::{parse_literal, parse_regex};
 use std::alloc::Global;
 use std::io;
 use std::io::{Read, Write};
@@ -28,26 +28,81 @@ fn answered(
 }
 
 #[test]
-fn lines_and_statuses(rt: HostRuntime) -> Result<(), Fail> {
-    let rows: [(&[u8], &str, &str, u8); 15] = [
+fn literals_are_answered(rt: HostRuntime) -> Result<(), Fail> {
+    let rows: [(&[u8], &str, &str, u8); 11] = [
         (b"0 l abc\n0 l abcd", "abcde", "match 1 4\n", 0),
         (b"", "a", "none\n", 1),
-        (b"x l a\n", "a", "line 0\n", 3),
-        (b"0 l a\n\n", "a", "line 1\n", 3),
         (b"0 l \n", "a", "none\n", 1),
-        (b"18446744073709551616 l a\n", "a", "line 0\n", 3),
+        (b"0 l a\r\n", "a", "none\n", 1),
         (b"18446744073709551615 l a\n", "a", "match 0 1\n", 0),
-        (b"000000000000000000000 l a\n", "a", "line 0\n", 3),
-        (b"+1 l a\n", "a", "line 0\n", 3),
-        (b"0 l \xff\n", "a", "line 0\n", 3),
+        (b"00000000000000000000 l a\n", "a", "match 0 1\n", 0),
         (b"0 l a\n0 l a\n", "b", "ambiguous 1 0\n", 2),
         (b"0 l \xc3\xa9\n", "\u{e9}!", "match 0 2\n", 0),
-        (b"0 r a\n", "a", "line 0\n", 3),
         (b"0 l  a\n", " a", "match 0 2\n", 0),
+        (b"0 l (\n", "(", "match 0 1\n", 0),
         (b"01 l class\n0 l classic", "classz", "match 0 5\n", 0),
     ];
     for (input, text, line, status) in rows {
         answered(&rt, input, text, line, status)?;
+    }
+    Ok(())
+}
+
+#[test]
+fn patterns_are_answered(rt: HostRuntime) -> Result<(), Fail> {
+    let rows: [(&[u8], &str, &str, u8); 7] = [
+        (b"1 l class\n0 r [a-z]+\n", "classz", "match 1 6\n", 0),
+        (b"0 r a\n", "a", "match 0 1\n", 0),
+        (b"0 r \n", "a", "none\n", 1),
+        (b"0 r a\n0 r \\bb\n", "a", "refused 1 LookAround\n", 2),
+        (
+            b"0 r [a-z]+\n0 r (?P<n>a)\n0 r b??\n",
+            "a",
+            "refused 1 NamedCaptures\n",
+            2,
+        ),
+        (b"0 l a\n0 r a\n", "b", "ambiguous 1 0\n", 2),
+        (b"0 r a*\n0 r b*\n", "a", "ambiguous 1 0\n", 2),
+    ];
+    for (input, text, line, status) in rows {
+        answered(&rt, input, text, line, status)?;
+    }
+    Ok(())
+}
+
+#[test]
+fn bad_lines_are_named(rt: HostRuntime) -> Result<(), Fail> {
+    let rows: [(&[u8], &str); 12] = [
+        (b"x l a\n", "line 0\n"),
+        (b"0 l a\n\n", "line 1\n"),
+        (b"\n", "line 0\n"),
+        (b"18446744073709551616 l a\n", "line 0\n"),
+        (b"000000000000000000000 l a\n", "line 0\n"),
+        (b"+1 l a\n", "line 0\n"),
+        (b" 0 l a\n", "line 0\n"),
+        (b"0  l a\n", "line 0\n"),
+        (b"0 l\n", "line 0\n"),
+        (b"0 q a\n", "line 0\n"),
+        (b"0 l \xff\n", "line 0\n"),
+        (b"0 r \xff\n", "line 0\n"),
+    ];
+    for (input, line) in rows {
+        answered(&rt, input, "a", line, 3)?;
+    }
+    Ok(())
+}
+
+#[test]
+fn the_first_line_that_is_no_terminal_decides(rt: HostRuntime) -> Result<(), Fail> {
+    let rows: [(&[u8], &str); 5] = [
+        (b"0 r \\ba\n0 r (\n", "syntax 1\n"),
+        (b"0 r (\n0 l a\nq\n", "syntax 0\n"),
+        (b"0 l a\n0 r (\n0 l \xff\n", "syntax 1\n"),
+        (b"0 l a\nq\n0 r (\n", "line 1\n"),
+        (b"0 l a\n0 l a\nq\n", "line 2\n"),
+    ];
+    for (input, line) in rows {
+        answered(&rt, input, "a", line, 3)?;
     }
     Ok(())
 }
@@ -111,7 +166,7 @@ impl Write for FailsAtFifth {
 
 #[test]
 fn a_failed_write_leaves_a_beginning(rt: HostRuntime) {
-    let input: &[u8] = b"1 l class\n0 l classic\n";
+    let input: &[u8] = b"1 l class\n0 r [a-z]+\n";
     let mut reader = Watched::new(input);
     let mut writer = Watched::new(FailsAtFifth {
         taken: Vec::new(rt.alloc()),
@@ -152,6 +207,28 @@ fn errors_have_names_and_statuses(rt: HostRuntime) -> Result<(), Fail> {
 }
 
 #[test]
+fn endings_are_told(rt: HostRuntime) {
+    let rows = [
+        (Failure::Usage, 4, "lexdfa: usage: lexdfa TEXT\n"),
+        (
+            Failure::Run(RunError::OutOfMemory),
+            5,
+            "lexdfa: out of memory\n",
+        ),
+        (Failure::Run(RunError::Read), 6, "lexdfa: read failed\n"),
+        (Failure::Run(RunError::Write), 6, "lexdfa: write failed\n"),
+    ];
+    for (failure, status, message) in rows {
+        let ending = Ending::of(&Err(failure));
+        assert_eq!(rt; ending.status, status);
+        assert!(rt; ending.message == Some(message));
+    }
+    let ending = Ending::of(&Ok(Outcome::NoMatch));
+    assert_eq!(rt; ending.status, 1);
+    assert!(rt; ending.message.is_none());
+}
+
+#[test]
 fn a_match_is_the_longest(rt: HostRuntime) -> Result<(), Fail> {
     let mut regexs = Vec::new(rt.alloc());
     regexs.push(parse_literal(rt.alloc(), "ab")?)?;
@@ -170,12 +247,12 @@ fn a_match_is_the_longest(rt: HostRuntime) -> Result<(), Fail> {
 #[test]
 fn built_once_and_run(rt: HostRuntime) -> Result<(), Fail> {
     let alloc = rt.alloc();
-    let regexs = vec![in alloc; parse_literal(alloc, "abc")?, parse_literal(alloc, "abcd")?]?;
-    let dfa = build_dfa(alloc, &regexs, &[Precedence(0), Precedence(0)])?;
+    let regexs = vec![in alloc; parse_literal(alloc, "class")?, parse_regex(alloc, "[a-z]+")?]?;
+    let dfa = build_dfa(alloc, &regexs, &[Precedence(1), Precedence(0)])?;
     let mut place = None;
-    if let Some((index, text)) = interpret(&dfa, "abcde") {
+    if let Some((index, text)) = interpret(&dfa, "classz") {
         place = Some(index.index());
-        assert!(rt; text == "abcd");
+        assert!(rt; text == "classz");
     }
     assert_eq!(rt; place, Some(1));
     Ok(())

@@ -2,10 +2,10 @@
 //! writes for a few texts which of the 115 terminals matches the longest beginning, and of how many bytes it is.
 #![tactic(auto)]
 
+use lalrpop_hir::{Class, ClassUnicode, ClassUnicodeRange, Hir, Repetition};
 use lalrpop_lexer::lexer::dfa::interpret::interpret;
 use lalrpop_lexer::lexer::dfa::{Dfa, DfaConstructionError, Precedence, build_dfa};
 use lalrpop_lexer::lexer::re::Regex;
-use lalrpop_re::{Class, ClassUnicode, ClassUnicodeRange, Hir, Repetition};
 use std::alloc::{AllocError, Global};
 use std::io;
 

@@ -2,5 +2,5 @@
 
 pub use lalrpop_re::{
     Capture, Class, ClassBytes, ClassBytesRange, ClassUnicode, ClassUnicodeRange, Hir, HirKind,
-    Literal, Look, Regex, RegexError, Repetition, SyntaxKind, parse_literal,
+    Literal, Look, Regex, RegexError, Repetition, SyntaxKind, escape, parse_literal, parse_regex,
 };

@@ -25,3 +25,8 @@ pub returns-in-Bad-clause-only : goal.returns-in-Bad-clause-only
 returns-in-Bad-clause-only c =
     let bad = rw c.in-Bad.is at c.in_ok-regexs.ensures in
     λ other is. outcome-unique c.args.bytes.now c.args.text.now _ other bad is
+
+pub returns-in-NoTree-clause-only : goal.returns-in-NoTree-clause-only
+returns-in-NoTree-clause-only c =
+    let none = rw c.in-NoTree.is at c.in_ok-regexs.ensures in
+    λ other is. outcome-unique c.args.bytes.now c.args.text.now _ other none is

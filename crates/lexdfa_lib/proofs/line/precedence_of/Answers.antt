@@ -1,6 +1,6 @@
 use Rattle.std.proofs.Common.{arith, ◌∙◌}
 use Rattle.std.proofs.lemmas.Bool.{false≢true}
-use Rattle.lexdfa_lib.proofs.LiteralLemmas.{list_all-digits}
+use Rattle.lexdfa_lib.proofs.LineParts.{list_all-digits}
 use Rattle.lexdfa_lib.proofs.line.precedence_of.Goals as goal
 use Rattle.lexdfa_lib.proofs.line.precedence_of.Goals.{then-digits-gt-MAX_DIGITS-via-then-digits-gt-MAX_DIGITS, then-digits-gt-MAX_DIGITS-via-else-digits-gt-MAX_DIGITS+then-not-has_digits_alone}
 

@@ -1,0 +1,138 @@
+-- What adding a set to the numbered ones does.
+use Rattle.std.proofs.Common.{◌≡◌, ℕ, zero, suc, ◌+◌, ◌<◌, ◌⊎◌, inl, inr, List, [], ◌∷◌, ◌++◌, length, drop, get_or, refl, ap, ap₂, sym, ◌∙◌, subst, arith, Bool, true, false, cond, append_assoc, add-one, drop-cons}
+use Rattle.std.specs.Prelude.{slice_get, Some}
+use Rattle.std.specs.BTreeMap.{BTreeMap, Updates}
+use Rattle.std.specs.List.{list_any}
+use Rattle.std.specs.Ordering.{is_eq}
+use Rattle.std.specs.Cmp.{Equal-is}
+use Rattle.std.specs.declared.cmp.Ordering.TheVariants.{Equal}
+use Rattle.std.proofs.lemmas.Cmp.{tied_itself}
+use Rattle.std.proofs.lemmas.Map.Keys.{any_passes_from_place}
+use Rattle.std.proofs.lemmas.Map.Lookups.{CmpEqualImpliesEq}
+use Rattle.std.proofs.lemmas.Option.{slice_get_within}
+use Rattle.lalrpop_nfa.specs.Graph.{Graph}
+use Rattle.lalrpop_dfa.specs.Items.{Item}
+use Rattle.lalrpop_dfa.specs.Kernels.{Kernels, IsNumberOf, added}
+use Rattle.lalrpop_nfa.specs.Compiled.{start_state}
+use Rattle.lalrpop_dfa.specs.Internal.Machine.{starts_from, no_graph, move}
+use Rattle.std.specs.Cmp.Lexicographic.{slice_cmp}
+use Rattle.std.specs.Ordering.{nat_cmp}
+use Rattle.lalrpop_dfa.specs.Internal.Ascending.{item_cmp}
+use Rattle.lalrpop_dfa.specs.Internal.Leads.{AreLeads, lead_cmp, leads_cmp}
+use Rattle.lalrpop_dfa.specs.declared.parts.Lead.{Lead}
+use Rattle.lalrpop_dfa.specs.declared.parts.Leads.{Leads}
+use Rattle.lalrpop_dfa.specs.Internal.ItemOrder.{set_cmp, set_total}
+use Rattle.lalrpop_dfa.specs.Internal.Builder.{AddedTo, AreKnown, AreAutomata, AreItemsOf}
+use Rattle.lalrpop_dfa.proofs.Members.{Has, has_from}
+use Rattle.lalrpop_dfa.proofs.Targets.{compiled_at}
+use Rattle.lalrpop_dfa.proofs.Noting.{bool_cases, then_equal, item_exact, nat_exact}
+use Rattle.lalrpop_dfa.proofs.LeadMoves.{leads_move}
+
+pub set_exact : CmpEqualImpliesEq set_cmp
+set_exact [] [] e = refl
+set_exact [] (y ∷ ys) e = cc
+set_exact (x ∷ xs) [] e = cc
+set_exact (x ∷ xs) (y ∷ ys) e = let h = then_equal _ _ e in let a : x ≡ y = item_exact x y h.0 in let b : xs ≡ ys = set_exact xs ys h.1 in cc
+
+pub pushed_at : {X : Type 0} (xs : List X) (y : X) (q : ℕ) (x : X) → slice_get (xs ++ y ∷ []) q ≡ Some x → (slice_get xs q ≡ Some x) ⊎ ((q ≡ length xs) × (x ≡ y))
+pushed_at [] y zero x h = inr (refl, cc)
+pushed_at [] y (suc q) x h = cc
+pushed_at (z ∷ xs) y zero x h = inl h
+pushed_at (z ∷ xs) y (suc q) x h = elim (pushed_at xs y q x h) [ inl k ↦ inl k | inr k ↦ inr (ap (λ n. suc n) k.0, k.1) ]
+
+module _ (sets : List (List Item)) (set : List Item) where
+  -- a set that is there passes the test
+  there : (k : ℕ) → slice_get sets k ≡ Some set → list_any (λ q. is_eq (set_cmp set q)) sets ≡ true
+  there k h = any_passes_from_place (λ q. is_eq (set_cmp set q)) sets k set h ((Equal-is (set_cmp set set)).1 (tied_itself set_total set))
+
+  old_by : (b : Bool) (n : ℕ) (sets2 : List (List Item)) → list_any (λ q. is_eq (set_cmp set q)) sets ≡ b → sets2 ≡ cond b sets (sets ++ set ∷ []) → IsNumberOf set_cmp sets2 set n → (n ≡ length sets → ⊥) → (slice_get sets n ≡ Some set) × (sets2 ≡ sets)
+  old_by true n sets2 e is h old =
+      let same : set ≡ h.0 = set_exact set h.0 h.2 in
+      (rw (same, ← is) h.1, is)
+  old_by false n sets2 e is h old =
+      let same : set ≡ h.0 = set_exact set h.0 h.2 in
+      elim (pushed_at sets set n h.0 (rw is at h.1)) [
+        | inl was ↦ absurd (let t : list_any (λ q. is_eq (set_cmp set q)) sets ≡ true = there n (was ∙ ap (λ q. Some q) (sym same)) in let f : true ≡ false = sym t ∙ e in cc)
+        | inr new ↦ absurd (old new.0)
+      ]
+
+  pub number_old : (n : ℕ) (sets2 : List (List Item)) → sets2 ≡ added set_cmp sets set → IsNumberOf set_cmp sets2 set n → (n ≡ length sets → ⊥) → (slice_get sets n ≡ Some set) × (sets2 ≡ sets)
+  number_old n sets2 is h old = old_by (list_any (λ q. is_eq (set_cmp set q)) sets) n sets2 refl is h old
+
+  new_by : (b : Bool) (n : ℕ) (sets2 : List (List Item)) → list_any (λ q. is_eq (set_cmp set q)) sets ≡ b → sets2 ≡ cond b sets (sets ++ set ∷ []) → IsNumberOf set_cmp sets2 set n → n ≡ length sets → ((k : ℕ) → slice_get sets k ≡ Some set → ⊥) × (sets2 ≡ sets ++ set ∷ [])
+  new_by true n sets2 e is h new = absurd (let l : n < length sets = slice_get_within sets n h.0 (rw is at h.1) in omega (arith, new))
+  new_by false n sets2 e is h new = (λ k at. (let t : list_any (λ q. is_eq (set_cmp set q)) sets ≡ true = there k at in let f : true ≡ false = sym t ∙ e in cc), is)
+
+  pub number_new : (n : ℕ) (sets2 : List (List Item)) → sets2 ≡ added set_cmp sets set → IsNumberOf set_cmp sets2 set n → n ≡ length sets → ((k : ℕ) → slice_get sets k ≡ Some set → ⊥) × (sets2 ≡ sets ++ set ∷ [])
+  number_new n sets2 is h new = new_by (list_any (λ q. is_eq (set_cmp set q)) sets) n sets2 refl is h new
+
+pub clones_equal : (x y : List Item) → y ≡ x → set_cmp x y ≡ Equal
+clones_equal x y e = subst (λ z. set_cmp x z ≡ Equal) (sym e) (tied_itself set_total x)
+
+pub starts_more : (ns : List Graph) (items all : List Item) (i : ℕ) → i < length ns → items ++ starts_from i (drop i ns) ≡ all → (items ++ (i, start_state) ∷ []) ++ starts_from (i + 1) (drop (i + 1) ns) ≡ all
+starts_more ns items all i l h =
+    let e : drop i ns ≡ get_or ns i no_graph ∷ drop (i + 1) ns = drop-cons ns i no_graph l ∙ ap (λ k. get_or ns i no_graph ∷ drop k ns) (sym (add-one i)) in
+    rw append_assoc (rw e at h)
+
+starts_are : (i : ℕ) (gs : List Graph) (x : Item) → Has (starts_from i gs) x → (j : ℕ) × (g : Graph) × ((x.0 ≡ i + j) × (slice_get gs j ≡ Some g) × (x.1 ≡ start_state))
+starts_are i [] x h = absurd h
+starts_are i (g ∷ gs) x (inl e) = (0, g, (omega (arith, ap (λ (y : Item). y.0) e), refl, sym (ap (λ (y : Item). y.1) e)))
+starts_are i (g ∷ gs) x (inr h) = let r = starts_are (i + 1) gs x h in (suc r.0, r.1, (omega (arith, r.2.0), r.2.1, r.2.2))
+
+-- START of each automaton is an item
+pub starts_inside : (ns : List Graph) → AreAutomata ns → AreItemsOf ns (starts_from 0 ns)
+starts_inside ns a x h =
+    let r = starts_are 0 ns x (has_from (starts_from 0 ns) x h) in
+    let at : slice_get ns x.0 ≡ Some r.1 = subst (λ j. slice_get ns j ≡ Some r.1) (let e : r.0 ≡ x.0 = omega (arith, r.2.0) in e) r.2.1 in
+    let k = compiled_at a.0 ns a.1 x.0 r.1 at in
+    (r.1, (at, omega (arith, r.2.2, k.1.1.start_in)))
+
+-- the first set is alone
+pub first_added : (empty first : Kernels (List Item)) (s : List Item) → empty ≡ record { list = []; place = 0 } → first ≡ record { list = added set_cmp empty.list s; place = empty.place } → (first.list ≡ s ∷ []) × (first.place ≡ 0)
+first_added empty first s none is =
+    let list : empty.list ≡ [] = ap (λ (k : Kernels (List Item)). k.list) none in
+    (ap (λ (k : Kernels (List Item)). k.list) is ∙ ap (λ ks. added set_cmp ks s) list, ap (λ (k : Kernels (List Item)). k.place) is ∙ ap (λ (k : Kernels (List Item)). k.place) none)
+
+-- ---- numbers that are known
+pushed_stays : {X : Type 0} (xs : List X) (y : X) (q : ℕ) (x : X) → slice_get xs q ≡ Some x → slice_get (xs ++ y ∷ []) q ≡ Some x
+pushed_stays [] y q x h = cc
+pushed_stays (z ∷ xs) y zero x h = h
+pushed_stays (z ∷ xs) y (suc q) x h = pushed_stays xs y q x h
+
+pushed_end : {X : Type 0} (xs : List X) (y : X) → slice_get (xs ++ y ∷ []) (length xs) ≡ Some y
+pushed_end [] y = refl
+pushed_end (z ∷ xs) y = pushed_end xs y
+
+added_stays : (sets : List (List Item)) (origins : List (ℕ × ℕ)) (n v : ℕ) (t : List Item) (j : ℕ) (sets2 : List (List Item)) (origins2 : List (ℕ × ℕ)) → AddedTo sets origins n v t j sets2 origins2
+    → (k : ℕ) (s : List Item) → slice_get sets k ≡ Some s → slice_get sets2 k ≡ Some s
+added_stays sets origins n v t j sets2 origins2 (inl (e, a, b)) k s h = rw a h
+added_stays sets origins n v t j sets2 origins2 (inr (none, e, a, b)) k s h = rw a (pushed_stays sets t k s h)
+
+added_at : (sets : List (List Item)) (origins : List (ℕ × ℕ)) (n v : ℕ) (t : List Item) (j : ℕ) (sets2 : List (List Item)) (origins2 : List (ℕ × ℕ)) → AddedTo sets origins n v t j sets2 origins2 → slice_get sets2 j ≡ Some t
+added_at sets origins n v t j sets2 origins2 (inl (e, a, b)) = rw a e
+added_at sets origins n v t j sets2 origins2 (inr (none, e, a, b)) = rw (a, e) (pushed_end sets t)
+
+lead_exact : (x y : Lead) → lead_cmp x y ≡ Equal → x ≡ y
+lead_exact x y e =
+    let h = then_equal (item_cmp x.item y.item) (nat_cmp x.to y.to) e in
+    let a : x.item ≡ y.item = item_exact x.item y.item h.0 in
+    let b : x.to ≡ y.to = nat_exact x.to y.to h.1 in
+    ap₂ (λ i q. let l : Lead = record { item = i; to = q } in l) a b
+
+leads_exact : (xs ys : List Lead) → slice_cmp lead_cmp xs ys ≡ Equal → xs ≡ ys
+leads_exact [] [] e = refl
+leads_exact [] (y ∷ ys) e = cc
+leads_exact (x ∷ xs) [] e = cc
+leads_exact (x ∷ xs) (y ∷ ys) e = let h = then_equal _ _ e in let a : x ≡ y = lead_exact x y h.0 in let b : xs ≡ ys = leads_exact xs ys h.1 in cc
+
+pub known_more : (ns : List Graph) (s : List Item) (known known2 : BTreeMap Leads ℕ) (sets : List (List Item)) (origins : List (ℕ × ℕ)) (n v : ℕ) (leads : Leads) (j : ℕ) (sets2 : List (List Item)) (origins2 : List (ℕ × ℕ))
+    → AreKnown ns s known sets → AreLeads ns s v leads.list.items → AddedTo sets origins n v (move ns s v) j sets2 origins2 → Updates leads_cmp known known2 leads (Some j) → AreKnown ns s known2 sets2
+known_more ns s known known2 sets origins n v leads j sets2 origins2 k these add u other i w h are = elim (bool_cases (is_eq (leads_cmp leads other))) [
+  | inl same ↦
+      (let e : leads.list.items ≡ other.list.items = leads_exact leads.list.items other.list.items ((Equal-is (leads_cmp leads other)).0 same) in
+      let found : Some j ≡ Some i = sym (u.0 other ∙ rw same refl) ∙ h in
+      let number : j ≡ i = cc in
+      let to : move ns s v ≡ move ns s w = leads_move ns s leads.list.items v w these (subst (AreLeads ns s w) (sym e) are) in
+      rw (← number, ← to) (added_at sets origins n v (move ns s v) j sets2 origins2 add))
+  | inr apart ↦ added_stays sets origins n v (move ns s v) j sets2 origins2 add i (move ns s w) (k other i w (sym (u.0 other ∙ rw apart refl) ∙ h) are)
+]

@@ -1,0 +1,61 @@
+-- Trees compiled one after another.
+use Rattle.std.proofs.Common.{◌≡◌, ◌≢◌, ℕ, ◌+◌, ◌<◌, inl, inr, List, [], ◌∷◌, ◌++◌, length, get_or, ap, sym, ◌∙◌, subst, arith, Some, None, length-append}
+use Rattle.std.specs.Prelude.{slice_get}
+use Rattle.std.proofs.lemmas.Option.{slice_get_cases, slice_get_within, slice_get-get_or}
+use Rattle.lalrpop_hir.specs.Tree.{Tree}
+use Rattle.lalrpop_nfa.specs.Graph.{Graph}
+use Rattle.lalrpop_nfa.specs.Fault.{fault}
+use Rattle.lalrpop_nfa.specs.Compiled.{IsCompiled}
+use Rattle.lalrpop_dfa.specs.Items.{AreCompiled}
+use Rattle.lalrpop_dfa.specs.Report.{NoFault, FirstFault}
+use Rattle.lalrpop_dfa.specs.Internal.Builder.{IsFaultOf, IsRefusalOf}
+use Rattle.lalrpop_nfa.specs.declared.error.NfaConstructionError.TheVariants.{OutOfMemory as NoMemory}
+use Rattle.lalrpop_nfa.specs.declared.error.NfaConstructionError.{NfaConstructionError}
+use Rattle.lalrpop_dfa.specs.declared.error.DfaConstructionError.{DfaConstructionError}
+use Rattle.lalrpop_dfa.specs.declared.error.DfaConstructionError.TheVariants.{NfaConstructionError as Refused, Ambiguity, OutOfMemory}
+use Rattle.lalrpop_dfa.proofs.Adding.{pushed_at}
+
+-- the first k trees have no fault, and these automata
+pub record IsCompiledTo (ts : List Tree) (ns : List Graph) (k : ℕ) : Type 0 where
+  pub counted : length ns ≡ k
+  pub each : (i : ℕ) (t : Tree) (g : Graph) → slice_get ts i ≡ Some t → slice_get ns i ≡ Some g → (fault t ≡ None) × IsCompiled t g
+
+pub compiled_more : (ts : List Tree) (ns ns2 : List Graph) (k : ℕ) (t : Tree) (g : Graph) → IsCompiledTo ts ns k → k < length ts → t ≡ get_or ts k t → (fault t ≡ None) × IsCompiled t g → ns2 ≡ ns ++ g ∷ [] → IsCompiledTo ts ns2 (k + 1)
+compiled_more ts ns ns2 k t g h l is c more = record {
+  counted = omega (arith, ap length more, length-append ns (g ∷ []), h.counted);
+  each = λ i u f a b. elim (pushed_at ns g i f (rw more at b)) [
+    | inl was ↦ h.each i u f a was
+    | inr new ↦
+        (let here : slice_get ts i ≡ Some t = subst (λ j. slice_get ts j ≡ Some t) (sym (new.0 ∙ h.counted)) (slice_get-get_or ts k t l ∙ ap (λ z. Some z) (sym is)) in
+        let same : Some u ≡ Some t = sym a ∙ here in
+        let tree : t ≡ u = cc in
+        rw (new.1, ← tree) c)
+  ];
+}
+
+-- what comes before has no fault
+before : (ts : List Tree) (ns : List Graph) (k : ℕ) → IsCompiledTo ts ns k → (j : ℕ) (t : Tree) → j < k → slice_get ts j ≡ Some t → fault t ≡ None
+before ts ns k h j t l a = elim (slice_get_cases ns j).1 [
+  | inl g ↦ (h.each j t g.0 a g.2).0
+  | inr past ↦ absurd (omega (arith, past.0, h.counted))
+]
+
+pub compiled_fault : (ts : List Tree) (ns : List Graph) (k : ℕ) (t : Tree) (e : NfaConstructionError) → IsCompiledTo ts ns k → k < length ts → t ≡ get_or ts k t → fault t ≡ Some e → FirstFault ts k e
+compiled_fault ts ns k t e h l is has = record {
+  tree = t;
+  at = slice_get-get_or ts k t l ∙ ap (λ z. Some z) (sym is);
+  has = has;
+  none_before = λ j u m a. before ts ns k h j u m a;
+}
+
+pub compiled_all : (ts : List Tree) (ns : List Graph) (k : ℕ) → IsCompiledTo ts ns k → k ≡ length ts → NoFault ts × AreCompiled ts ns
+compiled_all ts ns k h e = (
+  λ i t a. before ts ns k h i t (omega (arith, e, slice_get_within ts i t a)) a,
+  record { same_length = h.counted ∙ e; each = λ i t g a b. (h.each i t g a b).1 },
+)
+
+-- ---- what is reported
+pub refused_report : (ts : List Tree) (ns : List Graph) (k : ℕ) (t : Tree) (e : NfaConstructionError) (r : DfaConstructionError) → IsCompiledTo ts ns k → k < length ts → t ≡ get_or ts k t → (e ≢ NoMemory → fault t ≡ Some e) → IsRefusalOf k e r → IsFaultOf ts r
+refused_report ts ns k t e (Refused i f) h l is has m = rw (m.0, m.1) (compiled_fault ts ns k t e h l is (has m.2))
+refused_report ts ns k t e (Ambiguity i j) h l is has m = m
+refused_report ts ns k t e OutOfMemory h l is has m = tt

@@ -1,0 +1,37 @@
+pub mod WordOrder
+pub mod Origins
+pub mod Numbering
+pub mod Steps
+pub mod NumberedLemmas
+pub mod Clashes
+pub mod Longests
+pub mod Members
+pub mod SortedLists
+pub mod Sets
+pub mod Silent
+pub mod Targets
+pub mod ReachedItems
+pub mod Dead
+pub mod LeadsLemmas
+pub mod LongestLemmas
+pub mod Cells
+pub mod Runs
+pub mod Sweep
+pub mod RunsUnique
+pub mod Noting
+pub mod WorklistSteps
+pub mod Moving
+pub mod Bests
+pub mod LabelSets
+pub mod RunCover
+pub mod SetWinners
+pub mod BuiltTable
+pub mod TiedClash
+pub mod StateCount
+pub mod SameTables
+pub mod RowSteps
+pub mod Adding
+pub mod Builds
+pub mod Compiling
+mod LeadSteps
+mod LeadMoves

@@ -1,0 +1,23 @@
+use Rattle.std.proofs.Common.{ap, ◌∙◌, [], ◌∷◌, ◌++◌}
+use Rattle.lalrpop_dfa.specs.Internal.Machine.{first_set_of, closed}
+use Rattle.lalrpop_dfa.proofs.Adding.{clones_equal, starts_inside, first_added}
+use Rattle.lalrpop_dfa.proofs.builder.Table.new.Goals as goal
+
+pub closure-requires-clause-inside : goal.closure-requires-clause-inside
+closure-requires-clause-inside c =
+    let i = starts_inside c.args.nfas.now c.requires in
+    rw (c.deref.ensures.value, c.in_ok-starts.ensures) i
+
+pub add_state-requires : goal.add_state-requires
+add_state-requires c = clones_equal
+
+pub returns : goal.returns
+unfolding first_set_of
+returns c =
+    let first = first_added c.new-kernels.result c.add_state.new.self c.in_ok-first.first c.new-kernels.ensures c.in_ok-add_state.ensures.list in
+    let starts = c.deref.ensures.value ∙ c.in_ok-starts.ensures in (
+      first.0 ∙ ap (λ s. s ∷ []) (c.in_ok-first.ensures ∙ ap (closed c.args.nfas.now) starts),
+      first.1,
+      c.in_ok-push.ensures.items ∙ (ap (λ ys. ys ++ c.new.result ∷ []) c.new-origins.ensures.items ∙ ap (λ o. o ∷ []) c.new.ensures),
+      c.new-2.ensures.items,
+    )

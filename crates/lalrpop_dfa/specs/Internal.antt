@@ -1,0 +1,13 @@
+pub mod Sweep
+pub mod Numbering
+pub mod Ascending
+pub mod ItemOrder
+pub mod Machine
+pub mod Numbered
+pub mod Built
+pub mod Worklist
+pub mod Builder
+pub mod Best
+pub mod Labels
+pub mod SameLaws
+pub mod Leads

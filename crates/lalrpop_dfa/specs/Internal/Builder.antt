@@ -1,0 +1,89 @@
+-- What the construction of an automaton is given and keeps.
+use Rattle.std.specs.Prelude.{◌≡◌, ◌≢◌, ℕ, ◌+◌, ◌<◌, ◌≤◌, ◌⊎◌, List, [], ◌∷◌, ◌++◌, length, map, slice_get, Some}
+use Rattle.std.specs.List.{Contains}
+use Rattle.std.specs.BTreeMap.{BTreeMap, get}
+use Rattle.lalrpop_hir.specs.Range.{Range, Covers}
+use Rattle.lalrpop_hir.specs.Tree.{Tree}
+use Rattle.lalrpop_nfa.specs.Graph.{Graph}
+use Rattle.lalrpop_dfa.specs.Clash.{IsClash}
+use Rattle.lalrpop_dfa.specs.Dfa.{Row}
+use Rattle.lalrpop_dfa.specs.Items.{Item, AreCompiled, IsLeaving}
+use Rattle.lalrpop_dfa.specs.Internal.Ascending.{IsItemOf}
+use Rattle.lalrpop_dfa.specs.Internal.Machine.{move}
+use Rattle.lalrpop_dfa.specs.Internal.Leads.{AreLeads, leads_cmp}
+use Rattle.lalrpop_dfa.specs.declared.parts.Leads.{Leads}
+use Rattle.lalrpop_dfa.specs.Internal.Numbering.{Numbering, nth, value_of}
+use Rattle.lalrpop_dfa.specs.Internal.Built.{machine_of, IsRowOf, IsTied}
+use Rattle.lalrpop_dfa.specs.Report.{FirstFault}
+use Rattle.lalrpop_dfa.specs.Runs.{IsRuns}
+use Rattle.lalrpop_nfa.specs.declared.error.NfaConstructionError.{NfaConstructionError}
+use Rattle.lalrpop_nfa.specs.declared.error.NfaConstructionError.TheVariants.{OutOfMemory as NoMemory}
+use Rattle.lalrpop_dfa.specs.declared.error.DfaConstructionError.{DfaConstructionError}
+use Rattle.lalrpop_dfa.specs.declared.error.DfaConstructionError.TheVariants.{NfaConstructionError as Refused, Ambiguity, OutOfMemory}
+
+-- the automata of some trees
+abbrev pub AreAutomata : List Graph → Type 0
+AreAutomata ns = (ts : List Tree) × AreCompiled ts ns
+
+-- each is an item of the automata
+abbrev pub AreItemsOf : List Graph → List Item → Type 0
+AreItemsOf ns s = (x : Item) → Contains s x → IsItemOf ns x
+
+-- the set has the number j: it had it, or it was added last, with its origin
+abbrev pub AddedTo : List (List Item) → List (ℕ × ℕ) → ℕ → ℕ → List Item → ℕ → List (List Item) → List (ℕ × ℕ) → Type 0
+AddedTo sets origins n v t j sets2 origins2 =
+    ((slice_get sets j ≡ Some t) × (sets2 ≡ sets) × (origins2 ≡ origins))
+    ⊎ (((k : ℕ) → slice_get sets k ≡ Some t → ⊥) × (j ≡ length sets) × (sets2 ≡ sets ++ t ∷ []) × (origins2 ≡ origins ++ (n, v) ∷ []))
+
+-- each number of the map is that of the set to which the set s leads by the values that take these test edges
+abbrev pub AreKnown : List Graph → List Item → BTreeMap Leads ℕ → List (List Item) → Type 0
+AreKnown ns s known sets = (leads : Leads) (j v : ℕ) → get leads_cmp known leads ≡ Some j → AreLeads ns s v leads.list.items → slice_get sets j ≡ Some (move ns s v)
+
+-- the values of origins are of 32 bits
+abbrev pub AreSmall : List (ℕ × ℕ) → Type 0
+AreSmall origins = (k : ℕ) → value_of origins k ≤ 4294967295
+
+-- sets that have a number keep it
+abbrev pub Keep : List Graph → List (List Item) → List (List Item) → Type 0
+Keep ns sets sets2 = (k : ℕ) → k < length sets → (k < length sets2) × (nth (machine_of ns) sets2 k ≡ nth (machine_of ns) sets k)
+
+-- number n, which has the set s, is taken up: where its tests and all other values lead
+pub record IsEdged (ns : List Graph) (sets : List (List Item)) (origins : List (ℕ × ℕ)) (n : ℕ) (s : List Item) (sets2 : List (List Item)) (origins2 : List (ℕ × ℕ)) (tests : List (Range × ℕ)) (other : ℕ) : Type 0 where
+  pub numbering : Numbering (machine_of ns) sets2 origins2 (n + 1) 0
+  pub ranges : IsRuns (IsLeaving ns s) (map (λ t. t.0) tests)
+  pub leads : (t : Range × ℕ) (c : ℕ) → Contains tests t → Covers t.0 c → (t.1 < length sets2) × (nth (machine_of ns) sets2 t.1 ≡ move ns s c)
+  pub falls : (other < length sets2) × (nth (machine_of ns) sets2 other ≡ move ns s 4294967295)
+  pub kept : Keep ns sets sets2
+  pub small : AreSmall origins → AreSmall origins2
+
+-- all numbers below n are taken up, and have their rows
+pub record IsBuiltTo (ns : List Graph) (ps : List ℕ) (sets : List (List Item)) (origins : List (ℕ × ℕ)) (rows : List Row) (n : ℕ) : Type 0 where
+  pub numbering : Numbering (machine_of ns) sets origins n 0
+  pub within : n ≤ length sets
+  pub counted : length rows ≡ n
+  pub rows_are : (k : ℕ) (r : Row) → slice_get rows k ≡ Some r → IsRowOf ns ps sets k r
+  pub small : AreSmall origins
+
+-- two trees tie in the set, or memory was refused
+abbrev pub IsTieOf : List ℕ → List Item → DfaConstructionError → Type 0
+IsTieOf ps s (Refused i e) = ⊥
+IsTieOf ps s (Ambiguity i j) = IsTied ps s i j
+IsTieOf ps s OutOfMemory = Unit {0}
+
+-- the trees clash, or memory was refused
+abbrev pub IsClashOf : List Tree → List ℕ → DfaConstructionError → Type 0
+IsClashOf ts ps (Refused i e) = ⊥
+IsClashOf ts ps (Ambiguity i j) = (w : List ℕ) × IsClash ts ps w i j
+IsClashOf ts ps OutOfMemory = Unit {0}
+
+-- a tree is the first with a fault, or memory was refused
+abbrev pub IsFaultOf : List Tree → DfaConstructionError → Type 0
+IsFaultOf ts (Refused i e) = FirstFault ts i e
+IsFaultOf ts (Ambiguity i j) = ⊥
+IsFaultOf ts OutOfMemory = Unit {0}
+
+-- it is said that pattern i was not compiled, and why
+abbrev pub IsRefusalOf : ℕ → NfaConstructionError → DfaConstructionError → Type 0
+IsRefusalOf i e (Refused j f) = (j ≡ i) × (f ≡ e) × (e ≢ NoMemory)
+IsRefusalOf i e (Ambiguity j k) = ⊥
+IsRefusalOf i e OutOfMemory = Unit {0}

@@ -1,0 +1,48 @@
+-- The order of items and of sets of items.
+use Rattle.std.specs.Prelude.{◌≡◌, ℕ, Bool, ◌&&◌, ◌==◌, List, refl}
+use Rattle.std.specs.Cmp.{IsTotalOrder, IsEquivalence}
+use Rattle.std.specs.Cmp.Lexicographic.{slice_cmp, pointwise, lists_total, lists_equiv, lists_ties}
+use Rattle.std.specs.Ordering.{nat_cmp, ordering_then, is_eq}
+use Rattle.std.specs.declared.cmp.Ordering.{Ordering}
+use Rattle.std.specs.declared.cmp.Ordering.TheVariants.{Less, Equal, Greater}
+use Rattle.std.proofs.Common.{arith}
+use Rattle.std.proofs.lemmas.Bool.Decides.{nat_tests}
+use Rattle.std.proofs.lemmas.Cmp.{then_total, on_total, and_equiv, on_equiv, nat_cmp_total, nat_eq_equiv}
+use Rattle.lalrpop_dfa.specs.Items.{Item}
+use Rattle.lalrpop_dfa.specs.Internal.Ascending.{item_cmp}
+
+abbrev pub item_eq : Item → Item → Bool
+item_eq x y = (x.0 == y.0) && (x.1 == y.1)
+
+-- by the first item in which they differ
+abbrev pub set_cmp : List Item → List Item → Ordering
+set_cmp x y = slice_cmp item_cmp x y
+
+abbrev pub set_eq : List Item → List Item → Bool
+set_eq x y = pointwise item_eq x y
+
+pub item_total : IsTotalOrder item_cmp
+item_total = then_total (on_total (λ (x : Item). x.0) nat_cmp_total) (on_total (λ (x : Item). x.1) nat_cmp_total)
+
+pub item_equiv : IsEquivalence item_eq
+item_equiv = and_equiv (on_equiv (λ (x : Item). x.0) nat_eq_equiv) (on_equiv (λ (x : Item). x.1) nat_eq_equiv)
+
+then_ties : (a b : Ordering) → is_eq (ordering_then a b) ≡ (is_eq a && is_eq b)
+then_ties Less b = refl
+then_ties Equal b = refl
+then_ties Greater b = refl
+
+nat_ties : (x y : ℕ) → (x == y) ≡ is_eq (nat_cmp x y)
+nat_ties x y = grind (arith, nat_tests)
+
+pub item_ties : (x y : Item) → item_eq x y ≡ is_eq (item_cmp x y)
+item_ties x y = rw (then_ties, ← nat_ties x.0 y.0, ← nat_ties x.1 y.1) refl
+
+pub set_total : IsTotalOrder set_cmp
+set_total = lists_total item_total
+
+pub set_equiv : IsEquivalence set_eq
+set_equiv = lists_equiv item_equiv
+
+pub set_ties : (x y : List Item) → set_eq x y ≡ is_eq (set_cmp x y)
+set_ties x y = lists_ties item_cmp item_ties x y

@@ -1,0 +1,121 @@
+//! The kind of a state, by the items that it holds.
+
+ghost use Rattle.std.specs.Prelude.{◌≡◌, ◌<◌, ◌==◌, map, length, IfOk, IfErr};
+ghost use Rattle.lalrpop_dfa.specs.Internal.Ascending.{AreAscendingItems, IsItemOf};
+ghost use Rattle.lalrpop_dfa.specs.Internal.Best.{IsBest, accepts, raised};
+ghost use Rattle.lalrpop_dfa.specs.Internal.Builder.{AreAutomata, AreItemsOf};
+ghost use Rattle.lalrpop_dfa.specs.Internal.Built.{IsKindOf, IsTied};
+ghost use Rattle.lalrpop_nfa.specs.Compiled.{accept_state, reject_state};
+ghost use Rattle.lalrpop_dfa.specs.Internal.Machine.{is_dead};
+
+use super::items::{Item, ItemSet};
+use super::{Kind, NfaIndex, Precedence};
+use lalrpop_nfa::Nfa;
+
+/// The greatest of the strongest patterns, its precedence, and the second greatest where there are two.
+#[derive(Clone, Copy)]
+struct Best {
+    index: NfaIndex,
+    precedence: usize,
+    tied: Option<NfaIndex>,
+}
+
+/// Two patterns that are the strongest, where there is to be one.
+#[derive(Clone, Copy)]
+pub(super) struct Tie {
+    pub(super) greatest: NfaIndex,
+    pub(super) second: NfaIndex,
+}
+
+// The best once a further pattern is met, which is greater than those before.
+fn raise(best: Option<Best>, index: NfaIndex, precedence: usize) -> Best
+    ensures { result ≡ raised best index precedence }
+{
+    let tied = match best {
+        Some(best) if precedence < best.precedence => return best,
+        Some(best) if precedence == best.precedence => Some(best.index),
+        _ => None,
+    };
+    Best {
+        index,
+        precedence,
+        tied,
+    }
+}
+
+// Whether the item's pattern matches a word that leads to it.
+fn is_accepting(nfas: &[Nfa], item: Item) -> bool
+    requires automata { AreAutomata nfas.now }
+    requires inside { IsItemOf nfas.now item }
+    ensures { result ≡ (item.1 == accept_state) }
+{
+    item.nfa(nfas).is_accepting_state(item.state())
+}
+
+// Whether the item's pattern matches no continuation of a word that leads to it.
+fn is_rejecting(nfas: &[Nfa], item: Item) -> bool
+    requires automata { AreAutomata nfas.now }
+    requires inside { IsItemOf nfas.now item }
+    ensures { result ≡ (item.1 == reject_state) }
+{
+    item.nfa(nfas).is_rejecting_state(item.state())
+}
+
+// The best of the patterns that the set accepts.
+fn best_of(nfas: &[Nfa], precedences: &[Precedence], set: &ItemSet) -> Option<Best>
+    requires same_len { length nfas.now ≡ length precedences.now }
+    requires automata { AreAutomata nfas.now }
+    requires inside { AreItemsOf nfas.now set.now }
+    requires ascending { AreAscendingItems set.now }
+    ensures { IsBest (map (λ p. p.0) precedences.now) (accepts set.now) result }
+{
+    let mut best = None;
+    for item in set.items.iter() {
+        let item = *item;
+        if is_accepting(nfas, item) {
+            let pattern = item.pattern();
+            let precedence = precedences[pattern.index()].0;
+            best = Some(raise(best, pattern, precedence));
+        }
+    }
+    best
+}
+
+// Whether all items are REJECT states.
+fn all_reject(nfas: &[Nfa], set: &ItemSet) -> bool
+    requires automata { AreAutomata nfas.now }
+    requires inside { AreItemsOf nfas.now set.now }
+    ensures { result ≡ is_dead set.now }
+{
+    for item in set.items.iter() {
+        if !is_rejecting(nfas, *item) {
+            return false;
+        }
+    }
+    true
+}
+
+/// The kind of a state that holds the set, or the tie of its strongest patterns.
+pub(super) fn kind_of(nfas: &[Nfa], precedences: &[Precedence], set: &ItemSet) -> Result<Kind, Tie>
+    requires same_len { length nfas.now ≡ length precedences.now }
+    requires automata { AreAutomata nfas.now }
+    requires inside { AreItemsOf nfas.now set.now }
+    requires ascending { AreAscendingItems set.now }
+    ensures ok { IfOk result (IsKindOf (map (λ p. p.0) precedences.now) set.now) }
+    ensures err { IfErr result (λ tie. IsTied (map (λ p. p.0) precedences.now) set.now tie.greatest tie.second) }
+{
+    let Some(best) = best_of(nfas, precedences, set) else {
+        return Ok(if all_reject(nfas, set) {
+            Kind::Reject
+        } else {
+            Kind::Neither
+        });
+    };
+    match best.tied {
+        None => Ok(Kind::Accepts(best.index)),
+        Some(second) => Err(Tie {
+            greatest: best.index,
+            second,
+        }),
+    }
+}

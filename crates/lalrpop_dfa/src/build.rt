@@ -1,0 +1,62 @@
+ghost use Rattle.std.specs.Prelude.{◌≡◌, List, map, length, IfOk, IfErr};
+ghost use Rattle.lalrpop_dfa.specs.Internal.Builder.{IsFaultOf, IsRefusalOf};
+ghost use Rattle.lalrpop_dfa.specs.Clash.{NoClash};
+ghost use Rattle.lalrpop_dfa.specs.Dfa.{Stands};
+ghost use Rattle.lalrpop_nfa.specs.Graph.{Graph};
+ghost use Rattle.lalrpop_dfa.specs.Items.{AreCompiled, HoldsItems, OthersReject, IsInWordOrder};
+ghost use Rattle.lalrpop_dfa.specs.Report.{NoFault, IsReport};
+
+use super::builder::build;
+use super::{Dfa, DfaConstructionError, NfaIndex, Precedence};
+use lalrpop_hir::Regex;
+use lalrpop_nfa::{Nfa, NfaConstructionError};
+use std::alloc::Global;
+
+// What is reported where the pattern at this place was not compiled.
+fn refusal(index: NfaIndex, error: NfaConstructionError) -> DfaConstructionError
+    ensures { IsRefusalOf index error result }
+{
+    match error {
+        NfaConstructionError::OutOfMemory => DfaConstructionError::OutOfMemory,
+        error => DfaConstructionError::NfaConstructionError { index, error },
+    }
+}
+
+// The automata of the patterns, in the order of the list, or the first pattern that has a fault.
+fn compile_all(alloc: Global, regexs: &[Regex]) -> Result<Vec<Nfa>, DfaConstructionError>
+    ensures ok { IfOk result (λ nfas. NoFault regexs.now × AreCompiled regexs.now nfas.items) }
+    ensures err { IfErr result (IsFaultOf regexs.now) }
+{
+    let mut nfas = Vec::new(alloc);
+    for (index, regex) in regexs.iter().enumerate() {
+        let nfa = match Nfa::from_re(alloc, regex) {
+            Ok(nfa) => nfa,
+            Err(error) => return Err(refusal(NfaIndex(index), error)),
+        };
+        nfas.push(nfa)?;
+    }
+    Ok(nfas)
+}
+
+/// Builds the automaton of the patterns with these precedences: one precedence for each pattern. After each word its
+/// state names the only strongest pattern that matches the word.
+///
+/// # Errors
+///
+/// The first pattern that has a fault; where none has, the clash on the least word on which two patterns are the
+/// strongest; and want of memory.
+pub fn build_dfa(
+    alloc: Global,
+    regexs: &[Regex],
+    precedences: &[Precedence],
+) -> Result<Dfa, DfaConstructionError>
+    requires same_len { length regexs.now ≡ length precedences.now }
+    ensures ok { IfOk result (λ dfa. let ps = map (λ p. p.0) precedences.now in NoFault regexs.now × NoClash regexs.now ps × Stands dfa regexs.now ps) }
+    ensures items { IfOk result (λ dfa. (ns : List Graph) × AreCompiled regexs.now ns × HoldsItems ns dfa) }
+    ensures others { IfOk result OthersReject }
+    ensures order { IfOk result IsInWordOrder }
+    ensures err { IfErr result (λ e. IsReport regexs.now (map (λ p. p.0) precedences.now) e) }
+{
+    let nfas = compile_all(alloc, regexs)?;
+    build(alloc, &nfas, precedences)
+}

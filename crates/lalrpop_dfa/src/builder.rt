@@ -1,0 +1,222 @@
+//! The construction of an automaton: sets of items are numbered as they are first met, and taken up number by number.
+
+ghost use Rattle.std.specs.Prelude.{◌≡◌, ◌+◌, ◌<◌, ◌≤◌, ◌++◌, ◌∷◌, [], List, length, map, slice_get, Some, IfOk, IfErr, OnOk};
+ghost use Rattle.lalrpop_hir.specs.Tree.{Tree};
+ghost use Rattle.lalrpop_dfa.specs.Internal.Ascending.{AreAscendingItems};
+ghost use Rattle.lalrpop_dfa.specs.Internal.Builder.{AreAutomata, AreItemsOf, AddedTo, AreKnown, IsEdged, IsBuiltTo, IsTieOf, IsClashOf};
+ghost use Rattle.lalrpop_dfa.specs.Internal.Built.{machine_of};
+ghost use Rattle.lalrpop_dfa.specs.Clash.{NoClash};
+ghost use Rattle.lalrpop_dfa.specs.Dfa.{Stands};
+ghost use Rattle.lalrpop_dfa.specs.Items.{AreCompiled, HoldsItems, OthersReject, IsInWordOrder};
+ghost use Rattle.lalrpop_dfa.specs.Internal.Leads.{AreLeads};
+ghost use Rattle.lalrpop_dfa.specs.Internal.Machine.{move, starts_from, first_set_of};
+ghost use Rattle.lalrpop_dfa.specs.Internal.Numbering.{Numbering, nth};
+
+use super::best::{Tie, kind_of};
+use super::closure::{advance, closure};
+use super::items::{Item, ItemSet, Origin};
+use super::parts::{Leads, Part, parts_of};
+use super::{Dfa, DfaConstructionError, DfaStateIndex, NfaIndex, Precedence, State};
+use crate::kernel_set::KernelSet;
+use lalrpop_nfa::{Nfa, START, Test};
+use std::alloc::{AllocError, Global};
+use std::collections::BTreeMap;
+
+// The sets of items by number, where each was first met, and the states of those that are taken up.
+#[derive(Drop)]
+struct Table {
+    kernels: KernelSet<ItemSet>,
+    origins: Vec<Origin>,
+    states: Vec<State>,
+}
+
+// Where a state's values lead.
+#[derive(Drop)]
+struct Edges {
+    tests: Vec<(Test, DfaStateIndex)>,
+    other: DfaStateIndex,
+}
+
+// START of each automaton.
+fn starts_of(alloc: Global, nfas: &[Nfa]) -> Result<Vec<Item>, AllocError>
+    ensures { IfOk result (λ starts. starts.items ≡ starts_from 0 nfas.now) }
+{
+    let mut starts = Vec::new(alloc);
+    for index in 0..nfas.len() {
+        starts.push(Item {
+            nfa_index: NfaIndex(index),
+            nfa_state: START,
+        })?;
+    }
+    Ok(starts)
+}
+
+impl Table {
+    // The table with the set that the empty word leads to, as number 0.
+    fn new(alloc: Global, nfas: &[Nfa]) -> Result<Table, AllocError>
+        requires { AreAutomata nfas.now }
+        ensures { IfOk result (λ t. (t.kernels.list ≡ first_set_of nfas.now ∷ []) × (t.kernels.place ≡ 0) × (t.origins.items ≡ (0, 0) ∷ []) × (t.states.items ≡ [])) }
+    {
+        let starts = starts_of(alloc, nfas)?;
+        let first = closure(alloc, nfas, &starts)?;
+        let mut kernels = KernelSet::new(alloc);
+        kernels.add_state(first)?;
+        let mut origins = Vec::new(alloc);
+        origins.push(Origin::new(0, 0))?;
+        Ok(Table {
+            kernels,
+            origins,
+            states: Vec::new(alloc),
+        })
+    }
+
+    // The number of a set, which is added with its origin unless it has one.
+    fn add(&mut self, set: ItemSet, origin: Origin) -> Result<DfaStateIndex, AllocError>
+        requires { length self.old.origins.items ≡ length self.old.kernels.list }
+        ensures added { IfOk result (λ j. AddedTo self.old.kernels.list self.old.origins.items origin.0 origin.1 set j self.new.kernels.list self.new.origins.items) }
+        ensures place { OnOk result (self.new.kernels.place ≡ self.old.kernels.place) }
+        ensures states { OnOk result (self.new.states.items ≡ self.old.states.items) }
+    {
+        let number = self.kernels.add_state(set)?;
+        if number.index() == self.origins.len() {
+            self.origins.push(origin)?;
+        }
+        Ok(number)
+    }
+
+    // The number of the set that a set leads to by the origin's value.
+    fn led_to(
+        &mut self,
+        alloc: Global,
+        nfas: &[Nfa],
+        set: &ItemSet,
+        origin: Origin,
+    ) -> Result<DfaStateIndex, AllocError>
+        requires automata { AreAutomata nfas.now }
+        requires inside { AreItemsOf nfas.now set.now }
+        requires same_length { length self.old.origins.items ≡ length self.old.kernels.list }
+        ensures added { IfOk result (λ j. AddedTo self.old.kernels.list self.old.origins.items origin.0 origin.1 (move nfas.now set.now origin.1) j self.new.kernels.list self.new.origins.items) }
+        ensures place { OnOk result (self.new.kernels.place ≡ self.old.kernels.place) }
+        ensures states { OnOk result (self.new.states.items ≡ self.old.states.items) }
+    {
+        let given = advance(alloc, nfas, set, origin.value)?;
+        let target = closure(alloc, nfas, &given)?;
+        self.add(target, origin)
+    }
+
+    // The same, where the value takes these test edges: looked up where they were met before.
+    fn led_to_by(
+        &mut self,
+        alloc: Global,
+        nfas: &[Nfa],
+        set: &ItemSet,
+        known: &mut BTreeMap<Leads, DfaStateIndex>,
+        leads: Leads,
+        origin: Origin,
+    ) -> Result<DfaStateIndex, AllocError>
+        requires automata { AreAutomata nfas.now }
+        requires inside { AreItemsOf nfas.now set.now }
+        requires same_length { length self.old.origins.items ≡ length self.old.kernels.list }
+        requires leads { AreLeads nfas.now set.now origin.1 leads.list.items }
+        requires known { AreKnown nfas.now set.now known.old self.old.kernels.list }
+        ensures added { IfOk result (λ j. AddedTo self.old.kernels.list self.old.origins.items origin.0 origin.1 (move nfas.now set.now origin.1) j self.new.kernels.list self.new.origins.items) }
+        ensures known { OnOk result (AreKnown nfas.now set.now known.new self.new.kernels.list) }
+        ensures place { OnOk result (self.new.kernels.place ≡ self.old.kernels.place) }
+        ensures states { OnOk result (self.new.states.items ≡ self.old.states.items) }
+    {
+        if let Some(number) = known.get(&leads) {
+            return Ok(*number);
+        }
+        let number = self.led_to(alloc, nfas, set, origin)?;
+        known.insert(leads, number)?;
+        Ok(number)
+    }
+
+    // Takes up a number: adds the sets that its set leads to.
+    fn edges_of(
+        &mut self,
+        alloc: Global,
+        nfas: &[Nfa],
+        number: usize,
+        set: &ItemSet,
+    ) -> Result<Edges, AllocError>
+        requires automata { AreAutomata nfas.now }
+        requires inside { AreItemsOf nfas.now set.now }
+        requires numbering { Numbering (machine_of nfas.now) self.old.kernels.list self.old.origins.items number 0 }
+        requires here { slice_get self.old.kernels.list number ≡ Some set.now }
+        ensures edged { IfOk result (λ e. IsEdged nfas.now self.old.kernels.list self.old.origins.items number set.now self.new.kernels.list self.new.origins.items e.tests.items e.other) }
+        ensures place { OnOk result (self.new.kernels.place ≡ self.old.kernels.place) }
+        ensures states { OnOk result (self.new.states.items ≡ self.old.states.items) }
+    {
+        let mut known = BTreeMap::new(alloc);
+        let mut tests = Vec::new(alloc);
+        for part in parts_of(alloc, nfas, set)? {
+            let Part { range, leads } = part;
+            let origin = Origin::new(number, range.start());
+            let target = self.led_to_by(alloc, nfas, set, &mut known, leads, origin)?;
+            tests.push((range, target))?;
+        }
+        let other = self.led_to(alloc, nfas, set, Origin::new(number, u32::MAX))?;
+        Ok(Edges { tests, other })
+    }
+
+    // Takes up the next number, whose set this is, and makes its state.
+    fn take_up(
+        &mut self,
+        alloc: Global,
+        nfas: &[Nfa],
+        precedences: &[Precedence],
+        set: ItemSet,
+    ) -> Result<(), DfaConstructionError>
+        requires same_len { length nfas.now ≡ length precedences.now }
+        requires automata { AreAutomata nfas.now }
+        requires built { IsBuiltTo nfas.now (map (λ p. p.0) precedences.now) self.old.kernels.list self.old.origins.items self.old.states.items (length self.old.states.items) }
+        requires here { slice_get self.old.kernels.list (length self.old.states.items) ≡ Some set }
+        ensures ok { OnOk result (IsBuiltTo nfas.now (map (λ p. p.0) precedences.now) self.new.kernels.list self.new.origins.items self.new.states.items (length self.new.states.items)) }
+        ensures one { OnOk result (length self.new.states.items ≡ length self.old.states.items + 1) }
+        ensures place { OnOk result (self.new.kernels.place ≡ self.old.kernels.place) }
+        ensures err { IfErr result (IsTieOf (map (λ p. p.0) precedences.now) set) }
+    {
+        let kind = match kind_of(nfas, precedences, &set) {
+            Ok(kind) => kind,
+            Err(Tie { greatest, second }) => {
+                return Err(DfaConstructionError::Ambiguity {
+                    match0: greatest,
+                    match1: second,
+                });
+            }
+        };
+        let number = self.states.len();
+        let Edges { tests, other } = self.edges_of(alloc, nfas, number, &set)?;
+        self.states.push(State {
+            item_set: set,
+            kind,
+            test_edges: tests,
+            other_edge: other,
+        })?;
+        Ok(())
+    }
+}
+
+/// The automaton of the patterns with these automata and precedences, or the clash of two of them.
+pub(super) fn build(
+    alloc: Global,
+    nfas: &[Nfa],
+    precedences: &[Precedence],
+) -> Result<Dfa, DfaConstructionError>
+    requires same_len { length nfas.now ≡ length precedences.now }
+    requires automata { AreAutomata nfas.now }
+    ensures stands { IfOk result (λ dfa. let ps = map (λ p. p.0) precedences.now in (ts : List Tree) → AreCompiled ts nfas.now → NoClash ts ps × Stands dfa ts ps) }
+    ensures items { IfOk result (HoldsItems nfas.now) }
+    ensures others { IfOk result OthersReject }
+    ensures order { IfOk result IsInWordOrder }
+    ensures err { IfErr result (λ e. let ps = map (λ p. p.0) precedences.now in (ts : List Tree) → AreCompiled ts nfas.now → IsClashOf ts ps e) }
+{
+    let mut table = Table::new(alloc, nfas)?;
+    while let Some(set) = table.kernels.next()? {
+        table.take_up(alloc, nfas, precedences, set)?;
+    }
+    Ok(Dfa {
+        states: table.states,
+    })
+}

@@ -1,0 +1,58 @@
+//! The longest match at the start of a text, found by running the automaton of a list of patterns.
+
+ghost use Rattle.std.specs.Prelude.{◌≡◌, ℕ, ◌+◌, ◌<◌, ◌≤◌, length, List};
+ghost use Rattle.std.specs.Option.{option_map};
+ghost use Rattle.std.specs.Str.{chars};
+ghost use Rattle.lalrpop_dfa.specs.Dfa.{step, Stands};
+ghost use Rattle.lalrpop_dfa.specs.Longest.{IsLongest};
+ghost use Rattle.lalrpop_hir.specs.Tree.{Tree};
+
+use super::{Dfa, DfaStateIndex, Kind, NfaIndex, START};
+use lalrpop_nfa::Steps;
+
+/// The longest nonempty beginning of the text that some pattern matches, with the strongest pattern that matches it.
+/// The beginning is a slice of the text; `None` where no pattern matches any.
+pub fn interpret<'text>(dfa: &Dfa, input: &'text str) -> Option<(NfaIndex, &'text str)>
+    ensures { (ts : List Tree) (ps : List ℕ) → Stands dfa.now ts ps → IsLongest ts ps input.now (option_map (λ m. (m.0, m.1.now)) result) }
+{
+    interpret_counted(dfa, input, &mut Steps::new())
+}
+
+/// The same answer. A step is counted for each character read.
+pub fn interpret_counted<'text>(
+    dfa: &Dfa,
+    input: &'text str,
+    steps: &mut Steps,
+) -> Option<(NfaIndex, &'text str)>
+    ensures answer { (ts : List Tree) (ps : List ℕ) → Stands dfa.now ts ps → IsLongest ts ps input.now (option_map (λ m. (m.0, m.1.now)) result) }
+    ensures cost { steps.new ≤ steps.old + length (chars input.now) }
+{
+    let states = dfa.states();
+    let mut state = START;
+    let mut longest = None;
+    for (offset, c) in input.char_indices() {
+        steps.tick();
+        state = step(dfa, state, u32::from(c));
+        match states[state.index()].kind() {
+            Kind::Accepts(index) => longest = Some((*index, &input[..offset + c.len_utf8()])),
+            Kind::Reject => break,
+            Kind::Neither => {}
+        }
+    }
+    longest
+}
+
+// The state that the value leads to: by the test edge that holds it, or else by the other edge.
+fn step(dfa: &Dfa, state: DfaStateIndex, value: u32) -> DfaStateIndex
+    requires { state < length dfa.now }
+    ensures leads { result ≡ step dfa.now state value }
+    ensures within { result < length dfa.now }
+{
+    let row = &dfa.states()[state.index()];
+    for (test, target) in dfa.test_edges(state) {
+        if test.contains_u32(value) {
+            return *target;
+        }
+    }
+    row.other_edge()
+}

@@ -1,0 +1,186 @@
+//! The automaton of a list of patterns: building it, and running it.
+#![tactic(auto)]
+
+mod best;
+mod build;
+mod builder;
+mod clone;
+mod closure;
+mod equality;
+#[cfg(test)]
+mod equality_tests;
+mod error;
+pub mod interpret;
+mod items;
+pub mod kernel_set;
+mod labels;
+pub mod overlap;
+mod parts;
+#[cfg(test)]
+mod tests;
+
+ghost use Rattle.std.specs.Prelude.{◌≡◌, ◌<◌, length, slice_get, Some, IsSomeAnd};
+
+pub use build::build_dfa;
+pub use error::DfaConstructionError;
+use items::ItemSet;
+use lalrpop_nfa::Test;
+use std::fmt;
+use std::marker::Model;
+
+/// The strength of a pattern: where two match a word, the one with the greater precedence wins.
+#[derive(Copy, Clone, Debug, PartialEq, Eq, PartialOrd, Ord)]
+pub struct Precedence(pub usize);
+
+/// The place of a pattern in the list, from 0.
+#[derive(Copy, Clone, Debug, PartialEq, Eq, PartialOrd, Ord, Hash)]
+pub struct NfaIndex(usize);
+
+impl Model for NfaIndex {
+    ghost use Rattle.std.specs.Prelude.{ℕ};
+
+    ghost Value = { ℕ };
+
+    ghost view = { λ i. i.0 };
+
+    ghost inverse = { λ n. record { 0 = n } };
+}
+
+impl NfaIndex {
+    /// The place as a number.
+    pub fn index(self) -> usize
+        ensures { result ≡ self }
+    {
+        self.0
+    }
+}
+
+/// The number of a state, from 0.
+#[derive(Copy, Clone, PartialEq, Eq, PartialOrd, Ord, Hash)]
+pub struct DfaStateIndex(usize);
+
+impl Model for DfaStateIndex {
+    ghost use Rattle.std.specs.Prelude.{ℕ};
+
+    ghost Value = { ℕ };
+
+    ghost view = { λ i. i.0 };
+
+    ghost inverse = { λ n. record { 0 = n } };
+}
+
+impl DfaStateIndex {
+    /// The state's number.
+    pub fn index(self) -> usize
+        ensures { result ≡ self }
+    {
+        self.0
+    }
+}
+
+impl fmt::Debug for DfaStateIndex {
+    fn fmt<W: fmt::Write>(&self, f: &mut fmt::Formatter<W>) -> fmt::Result {
+        let number = self.0;
+        write!(f, "Dfa{number}")
+    }
+}
+
+impl fmt::Display for DfaStateIndex {
+    fn fmt<W: fmt::Write>(&self, f: &mut fmt::Formatter<W>) -> fmt::Result {
+        let number = self.0;
+        write!(f, "Dfa{number}")
+    }
+}
+
+/// The state in which each run begins.
+pub const START: DfaStateIndex = DfaStateIndex(0);
+
+/// What a state says of the word that leads to it.
+#[derive(Clone, Debug, PartialEq, Eq, Drop)]
+pub enum Kind {
+    /// The pattern at this place matches the word, and is the only strongest one.
+    Accepts(NfaIndex),
+    /// No pattern matches the word or any continuation of it.
+    Reject,
+    /// No pattern matches the word.
+    Neither,
+}
+
+/// A state of the automaton.
+#[derive(Debug, Drop)]
+pub struct State {
+    item_set: ItemSet,
+    kind: Kind,
+    test_edges: Vec<(Test, DfaStateIndex)>,
+    other_edge: DfaStateIndex,
+}
+
+impl Model for State {
+    ghost use Rattle.lalrpop_dfa.specs.Dfa.{Row};
+
+    ghost Value = { Row };
+
+    ghost view = { λ s. record { kind = s.kind; tests = s.test_edges.items; other = s.other_edge; items = s.item_set } };
+}
+
+impl State {
+    /// What the state says of the word that leads to it.
+    pub fn kind(&self) -> &Kind
+        ensures { result.now ≡ self.now.kind }
+    {
+        &self.kind
+    }
+
+    /// The state that a value leads to which no test edge covers.
+    pub fn other_edge(&self) -> DfaStateIndex
+        ensures { result ≡ self.now.other }
+    {
+        self.other_edge
+    }
+}
+
+/// The automaton of a list of patterns. State 0 is START.
+#[derive(Debug, Drop)]
+pub struct Dfa {
+    states: Vec<State>,
+}
+
+impl Model for Dfa {
+    ghost use Rattle.std.specs.Prelude.{List};
+    ghost use Rattle.lalrpop_dfa.specs.Dfa.{Row, IsTable};
+
+    ghost Value = { List Row };
+
+    ghost view = { λ a. a.states.items };
+
+    ghost invariant = { λ a. IsTable a.states.items };
+}
+
+impl Dfa {
+    ghost use Rattle.lalrpop_dfa.specs.Dfa.{IsTable};
+
+    /// The states in the order of their numbers.
+    pub fn states(&self) -> &[State]
+        ensures states { result.now ≡ self.now }
+        ensures table { IsTable self.now }
+    {
+        self.states.as_slice()
+    }
+
+    /// The state with this number.
+    pub fn state(&self, index: DfaStateIndex) -> &State
+        requires { index < length self.now }
+        ensures { slice_get self.now index ≡ Some result.now }
+    {
+        &self.states[index.0]
+    }
+
+    /// The test edges of the state with this number, ascending.
+    pub fn test_edges(&self, index: DfaStateIndex) -> &[(Test, DfaStateIndex)]
+        requires { index < length self.now }
+        ensures { IsSomeAnd (slice_get self.now index) (λ r. result.now ≡ r.tests) }
+    {
+        let state = self.state(index);
+        &state.test_edges
+    }
+}

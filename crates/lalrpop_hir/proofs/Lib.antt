@@ -1,0 +1,9 @@
+pub mod Words
+pub mod Languages
+pub mod Classes
+pub mod Powers
+pub mod Canons
+pub mod Joining
+pub mod Gaps
+pub mod Merging
+pub mod Complements

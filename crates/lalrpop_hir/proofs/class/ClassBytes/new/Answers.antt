@@ -1,0 +1,13 @@
+use Rattle.std.proofs.Common.{rules}
+use Rattle.std.proofs.lemmas.List.Sorted.{IsNonDecreasingBy-from_sort_by_key}
+use Rattle.lalrpop_hir.specs.Range.{next_byte, IsByte}
+use Rattle.lalrpop_hir.proofs.Joining.{AreRuns-permutation}
+use Rattle.lalrpop_hir.proofs.class.ClassBytes.new.Goals as goal
+
+pub join_bytes-requires : goal.join_bytes-requires
+join_bytes-requires c =
+    rw c.deref.ensures.value (IsNonDecreasingBy-from_sort_by_key (λ r. r.start) _ c.sort_unstable_by_key.ensures.sorted (λ a r q k. search rules))
+
+pub returns : goal.returns
+returns c =
+    AreRuns-permutation next_byte IsByte _ _ _ c.sort_unstable_by_key.ensures.permutation (rw (← c.deref.ensures.value) c.in_ok-ranges.ensures)

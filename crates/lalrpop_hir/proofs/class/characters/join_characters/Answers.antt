@@ -1,0 +1,38 @@
+use Rattle.std.proofs.Common.{◌≡◌, ◌<◌, ◌≤◌, max, arith, subst, sym, ap, ◌∙◌, get_or, ◌∷◌}
+use Rattle.std.specs.List.Sorted.{IsNonDecreasingBy}
+use Rattle.lalrpop_hir.specs.Range.{Range, IsScalar, next_scalar}
+use Rattle.lalrpop_hir.proofs.Canons.{scalar_steps}
+use Rattle.lalrpop_hir.proofs.Joining.{IsJoining-start, IsJoining-behind, IsJoining-beside, IsJoining-end, IsAt, IsProper, IsProper-characters}
+use Rattle.lalrpop_hir.proofs.class.characters.join_characters.Goals as goal
+use Rattle.lalrpop_hir.proofs.class.characters.join_characters.Goals.{then-code_after-range+in_ok-push, else-code_after-range+then-end-range, else-code_after-range+else-end-range}
+
+pub loop-range-init : goal.loop-range-init
+loop-range-init c =
+    rw c.new-runs.ensures.items (IsJoining-start next_scalar IsScalar _ _ (IsProper-characters _ c.first.ranges.0.1 c.first.ranges.1.0.1 c.first.invariant))
+
+pub loop-range-preserved : goal.loop-range-preserved
+loop-range-preserved c =
+    let s : Range = record { start = c.range.inside.start; end = c.range.inside.end } in
+    let here : IsAt c.in-Some.rest.now c.loop-range.range-index s =
+    (c.loop-range-test.true, subst (λ x. x ≡ get_or c.in-Some.rest.now c.loop-range.range-index x) (sym c.range.view_is) c.range-item.is) in
+    let proper : IsProper IsScalar s =
+    IsProper-characters s c.range.ranges.0.1 c.range.ranges.1.0.1 c.range.invariant in
+    elim c.if-code_after-range.branch [
+      | then-code_after-range+in_ok-push w ↦
+          rw (w.runs-is, w.start-is, w.end-is, w.in_ok-push.ensures.items) (IsJoining-behind next_scalar IsScalar _ _ _ _ _ _ c.loop-range.invariant here proper (subst (λ n. n < s.start) c.code_after.ensures w.if-code_after-range.true))
+      | else-code_after-range+then-end-range w ↦
+          let end : max c.loop-range.end s.end ≡ s.end = omega (arith, w.if-end-range.true) in
+          rw (w.runs-is, w.start-is, w.end-is, ← end) (IsJoining-beside next_scalar IsScalar _ _ _ _ _ _ c.loop-range.invariant here proper (subst (λ n. s.start ≤ n) c.code_after.ensures w.if-code_after-range.false))
+      | else-code_after-range+else-end-range w ↦
+          let end : max c.loop-range.end s.end ≡ c.loop-range.end = omega (arith, w.if-end-range.false) in
+          rw (w.runs-is, w.start-is, w.end-is, ← end) (IsJoining-beside next_scalar IsScalar _ _ _ _ _ _ c.loop-range.invariant here proper (subst (λ n. s.start ≤ n) c.code_after.ensures w.if-code_after-range.false))
+    ]
+
+pub returns : goal.returns
+returns c =
+    let s : Range = record { start = c.first.inside.start; end = c.first.inside.end } in
+    let proper : IsProper IsScalar s = IsProper-characters s c.first.ranges.0.1 c.first.ranges.1.0.1 c.first.invariant in
+    let all : c.args.ranges.now ≡ s ∷ c.in-Some.rest.now =
+    c.in-Some.ensures.cases.0 ∙ ap (λ x. x ∷ c.in-Some.rest.now) (sym c.first.view_is) in
+    rw (all, c.in_ok-push-2.ensures.items)
+    (IsJoining-end next_scalar IsScalar _ _ _ _ _ scalar_steps proper (subst (IsNonDecreasingBy (λ x. x.start)) all c.requires) c.loop-range.invariant c.loop-range-test.false)

@@ -1,0 +1,9 @@
+pub mod Word
+pub mod Range
+pub mod Counts
+pub mod Looks
+pub mod Tree
+pub mod Code
+pub mod Level
+pub mod TreeFalls
+pub mod Language

@@ -1,0 +1,108 @@
+ghost use Rattle.std.specs.Prelude.{◌≡◌};
+
+mod bytes;
+mod characters;
+mod operations;
+
+use std::alloc::AllocError;
+use std::marker::Model;
+
+/// A range of characters, from its start to its end, both included. It is never empty.
+///
+/// The ends are characters, but the range counts as one of code values: where it begins at U+D7FF or below
+/// and ends at U+E000 or above, it also contains the surrogates between.
+#[derive(Clone, Copy, Debug, PartialEq, Eq)]
+pub struct ClassUnicodeRange {
+    start: char,
+    end: char,
+}
+
+impl Model for ClassUnicodeRange {
+    ghost use Rattle.std.specs.Prelude.{◌≤◌};
+    ghost use Rattle.lalrpop_hir.specs.Range.{Range};
+
+    ghost Value = { Range };
+
+    ghost view = { λ a. record { start = a.start; end = a.end } };
+
+    ghost invariant = { λ a. a.start ≤ a.end };
+
+    ghost inverse = { λ r. record { start = r.start; end = r.end } };
+}
+
+/// A range of bytes, from its start to its end, both included. It is never empty.
+#[derive(Clone, Copy, Debug, PartialEq, Eq)]
+pub struct ClassBytesRange {
+    start: u8,
+    end: u8,
+}
+
+impl Model for ClassBytesRange {
+    ghost use Rattle.std.specs.Prelude.{◌≤◌};
+    ghost use Rattle.lalrpop_hir.specs.Range.{Range};
+
+    ghost Value = { Range };
+
+    ghost view = { λ a. record { start = a.start; end = a.end } };
+
+    ghost invariant = { λ a. a.start ≤ a.end };
+
+    ghost inverse = { λ r. record { start = r.start; end = r.end } };
+}
+
+/// A set of characters, kept as the ascending list of its maximal runs.
+///
+/// U+D7FF and U+E000 count as neighbours, since only surrogates stand between them and no character is one.
+/// So the list of a set is one alone, however the set was given.
+#[derive(Clone, Debug, Drop)]
+pub struct ClassUnicode {
+    ranges: Vec<ClassUnicodeRange>,
+}
+
+impl Model for ClassUnicode {
+    ghost use Rattle.std.specs.Prelude.{List};
+    ghost use Rattle.lalrpop_hir.specs.Range.{Range, IsCanonical};
+
+    ghost Value = { List Range };
+
+    ghost view = { λ a. a.ranges.items };
+
+    ghost invariant = { λ a. IsCanonical a.ranges.items };
+}
+
+/// A set of bytes, kept as the ascending list of its maximal runs.
+#[derive(Clone, Debug, Drop)]
+pub struct ClassBytes {
+    ranges: Vec<ClassBytesRange>,
+}
+
+impl Model for ClassBytes {
+    ghost use Rattle.std.specs.Prelude.{List};
+    ghost use Rattle.lalrpop_hir.specs.Range.{Range, AreByteRuns};
+
+    ghost Value = { List Range };
+
+    ghost view = { λ a. a.ranges.items };
+
+    ghost invariant = { λ a. AreByteRuns a.ranges.items };
+}
+
+/// A set that one value of a text is matched against.
+#[derive(Debug, Drop)]
+pub enum Class {
+    /// A set of characters. It matches the code values inside its ranges.
+    Unicode(ClassUnicode),
+    /// A set of bytes. It matches the values 0 to 255 inside its ranges.
+    Bytes(ClassBytes),
+}
+
+impl Clone for Class {
+    ghost is_clone = { λ c copy. copy ≡ c };
+
+    fn clone(&self) -> Result<Class, AllocError> {
+        match self {
+            Class::Unicode(c) => Ok(Class::Unicode(c.clone()?)),
+            Class::Bytes(c) => Ok(Class::Bytes(c.clone()?)),
+        }
+    }
+}

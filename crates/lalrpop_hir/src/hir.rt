@@ -1,0 +1,263 @@
+ghost use Rattle.std.specs.Prelude.{◌≡◌, ◌≢◌, ◌≤◌, IfOk, map, Option, option_map, List, [], string_bytes};
+ghost use Rattle.std.specs.Str.{chars};
+ghost use Rattle.lalrpop_hir.specs.Counts.{AreOrdered};
+ghost use Rattle.lalrpop_hir.specs.Level.{class_of, kind_tree};
+ghost use Rattle.lalrpop_hir.specs.Tree.{empty, literal, class, look, repetition, capture, concat, alternation, trees, of_text};
+
+mod group;
+mod turns;
+
+use crate::class::Class;
+use std::alloc::{AllocError, Global};
+use std::marker::Model;
+
+/// What a pattern asks of a place in a text, as that a line or a word begins there. It takes no character.
+///
+/// Trees can hold one, but in this port no automaton is built of such a tree.
+#[derive(Clone, Copy, Debug, PartialEq, Eq)]
+pub enum Look {
+    /// The text begins here.
+    Start,
+    /// The text ends here.
+    End,
+    /// A line begins here: the text does, or a line feed stands in front.
+    StartLF,
+    /// A line ends here: the text does, or a line feed follows.
+    EndLF,
+    /// A word begins or ends here.
+    WordUnicode,
+    /// No word begins or ends here.
+    WordUnicodeNegate,
+    /// A word begins here.
+    WordStartUnicode,
+    /// A word ends here.
+    WordEndUnicode,
+    /// No character of a word stands in front.
+    WordStartHalfUnicode,
+    /// No character of a word follows.
+    WordEndHalfUnicode,
+}
+
+/// A text that matches itself. It is never empty.
+#[derive(Clone, Debug, Drop)]
+pub struct Literal {
+    text: String,
+}
+
+impl Model for Literal {
+    ghost use Rattle.std.specs.Prelude.{List, ℕ, ◌≢◌, [], string_bytes};
+
+    ghost Value = { List ℕ };
+
+    ghost view = { λ a. string_bytes a.text };
+
+    ghost invariant = { λ a. string_bytes a.text ≢ [] };
+}
+
+impl Literal {
+    /// The text, which has a character or more.
+    pub fn as_str(&self) -> &str
+        ensures value { result.now ≡ self.now }
+        ensures not_empty { self.now ≢ [] }
+    {
+        self.text.as_str()
+    }
+}
+
+/// A pattern as a tree. It is immutable, and made by the constructors below.
+#[derive(Debug, Drop)]
+#[cycle(tree)]
+pub struct Hir {
+    pub(crate) kind: HirKind,
+}
+
+/// A regular expression, under the name that the layers above use.
+pub type Regex = Hir;
+
+/// What stands at the top of a tree, and the trees below it.
+#[derive(Debug, Drop)]
+#[cycle(tree)]
+pub enum HirKind {
+    /// Matches the empty text alone.
+    Empty,
+    /// Matches its text alone.
+    Literal(Literal),
+    /// Matches one value of the set.
+    Class(Class),
+    /// Asks something of a place.
+    Look(Look),
+    /// Matches pieces, one after another, that its part matches.
+    Repetition(Repetition),
+    /// Matches what its part matches.
+    Capture(Capture),
+    /// Matches a piece for each part, one after another; without parts the empty text alone.
+    Concat(Vec<Hir>),
+    /// Matches what some part matches; without parts nothing.
+    Alternation(Vec<Hir>),
+}
+
+/// A part that is matched several times in a row: at least `min` times, and at most `max` times where there is
+/// a `max`, which is never below `min`.
+#[derive(Debug, Drop)]
+#[cycle(tree)]
+pub struct Repetition {
+    pub(crate) min: u32,
+    pub(crate) max: Option<u32>,
+    pub(crate) greedy: bool,
+    pub(crate) sub: Box<Hir>,
+}
+
+/// A group, with a name or without.
+#[derive(Debug, Drop)]
+#[cycle(tree)]
+pub struct Capture {
+    pub(crate) name: Option<String>,
+    pub(crate) sub: Box<Hir>,
+}
+
+impl Model for Hir {
+    ghost use Rattle.std.proofs.Common.{arith};
+    ghost use Rattle.lalrpop_hir.specs.Tree.{Tree, depth};
+    ghost use Rattle.lalrpop_hir.specs.Code.{tree_code};
+
+    ghost Value = { Tree };
+
+    ghost coded = { tree_code };
+
+    ghost use Rattle.lalrpop_hir.specs.Level.{kind_tree};
+
+    ghost view = { λ a. kind_tree a.kind };
+
+    ghost size = { depth };
+
+    ghost use Rattle.lalrpop_hir.specs.TreeFalls.{deep-le-depth};
+
+    ghost size_decreases = { λ a h. Prim.omega (arith, deep-le-depth a.kind) };
+}
+
+impl Model for Repetition {
+    ghost use Rattle.std.specs.Prelude.{◌+◌};
+    ghost use Rattle.std.proofs.Common.{arith};
+    ghost use Rattle.lalrpop_hir.specs.Counts.{AreOrdered};
+    ghost use Rattle.lalrpop_hir.specs.Tree.{Repeated, depth};
+    ghost use Rattle.lalrpop_hir.specs.Code.{repeated_code};
+
+    ghost Value = { Repeated };
+
+    ghost coded = { repeated_code };
+
+    ghost view = { λ a. record { min = a.min; max = a.max; greedy = a.greedy; sub = a.sub.value } };
+
+    ghost invariant = { λ a. AreOrdered a.min a.max };
+
+    ghost size = { λ r. depth r.sub + 1 };
+
+    ghost size_decreases = { λ a h. Prim.omega arith };
+}
+
+impl Model for Capture {
+    ghost use Rattle.std.specs.Prelude.{◌+◌, option_map, string_bytes};
+    ghost use Rattle.std.proofs.Common.{arith};
+    ghost use Rattle.lalrpop_hir.specs.Tree.{Captured, depth};
+    ghost use Rattle.lalrpop_hir.specs.Code.{captured_code};
+
+    ghost Value = { Captured };
+
+    ghost coded = { captured_code };
+
+    ghost view = { λ a. record { name = option_map string_bytes a.name; sub = a.sub.value } };
+
+    ghost size = { λ r. depth r.sub + 1 };
+
+    ghost size_decreases = { λ a h. Prim.omega arith };
+}
+
+impl Hir {
+    /// The tree that matches the empty text alone.
+    pub fn empty() -> Hir
+        ensures { result ≡ empty }
+    {
+        Hir {
+            kind: HirKind::Empty,
+        }
+    }
+
+    /// The tree that matches the text `s` alone: a literal, or the empty tree where `s` is empty.
+    ///
+    /// # Errors
+    ///
+    /// `AllocError` where a request for memory was refused.
+    pub fn literal(alloc: Global, s: &str) -> Result<Hir, AllocError>
+        ensures { IfOk result (λ t. t ≡ of_text s.now) }
+    {
+        if s.is_empty() {
+            return Ok(Hir::empty());
+        }
+        let text = String::from_str(alloc, s)?;
+        Ok(Hir {
+            kind: HirKind::Literal(Literal { text }),
+        })
+    }
+
+    /// The tree that matches one value of the set.
+    pub fn class(members: Class) -> Hir
+        ensures { result ≡ class (class_of members) }
+    {
+        Hir {
+            kind: HirKind::Class(members),
+        }
+    }
+
+    /// The tree that asks `at` of a place.
+    pub fn look(at: Look) -> Hir
+        ensures { result ≡ look at }
+    {
+        Hir {
+            kind: HirKind::Look(at),
+        }
+    }
+
+    /// The tree of a repetition.
+    pub fn repetition(r: Repetition) -> Hir
+        ensures { result ≡ repetition r.min r.max r.greedy r.sub }
+    {
+        Hir {
+            kind: HirKind::Repetition(r),
+        }
+    }
+
+    /// The tree of a group.
+    pub fn capture(c: Capture) -> Hir
+        ensures { result ≡ capture c.name c.sub }
+    {
+        Hir {
+            kind: HirKind::Capture(c),
+        }
+    }
+
+    /// The tree that matches a piece for each of `subs`, in their order. It is kept as given, also with one part
+    /// or none.
+    pub fn concat(subs: Vec<Hir>) -> Hir
+        ensures { result ≡ concat (trees subs.items) }
+    {
+        Hir {
+            kind: HirKind::Concat(subs),
+        }
+    }
+
+    /// The tree that matches what some of `subs` matches. It is kept as given, also with one part or none.
+    pub fn alternation(subs: Vec<Hir>) -> Hir
+        ensures { result ≡ alternation (trees subs.items) }
+    {
+        Hir {
+            kind: HirKind::Alternation(subs),
+        }
+    }
+
+    /// What stands at the top of the tree, and the trees below it.
+    pub fn kind(&self) -> &HirKind
+        ensures { kind_tree result.now ≡ self.now }
+    {
+        &self.kind
+    }
+}

@@ -1,0 +1,50 @@
+ghost use Rattle.std.specs.Prelude.{◌≡◌, Option};
+ghost use Rattle.lalrpop_hir.specs.Counts.{AreOrdered};
+
+use super::{Hir, Repetition};
+
+impl Repetition {
+    /// The repetition of `sub` from `min` to `max` times, or without limit where `max` is `None`. A greedy one
+    /// prefers more turns, which has no effect on what it matches.
+    pub fn new(min: u32, max: Option<u32>, greedy: bool, sub: Box<Hir>) -> Repetition
+        requires ordered { AreOrdered min max }
+        ensures { result ≡ record { min = min; max = max; greedy = greedy; sub = sub.value } }
+    {
+        Repetition {
+            min,
+            max,
+            greedy,
+            sub,
+        }
+    }
+
+    /// The least number of turns.
+    pub fn min(&self) -> u32
+        ensures value { result ≡ self.now.min }
+        ensures ordered { AreOrdered self.now.min self.now.max }
+    {
+        self.min
+    }
+
+    /// The greatest number of turns; `None` where there is no limit.
+    pub fn max(&self) -> Option<u32>
+        ensures value { result ≡ self.now.max }
+        ensures ordered { AreOrdered self.now.min self.now.max }
+    {
+        self.max
+    }
+
+    /// Whether more turns are preferred to fewer.
+    pub fn greedy(&self) -> bool
+        ensures { result ≡ self.now.greedy }
+    {
+        self.greedy
+    }
+
+    /// What is repeated.
+    pub fn sub(&self) -> &Hir
+        ensures { result.now ≡ self.now.sub }
+    {
+        &self.sub
+    }
+}

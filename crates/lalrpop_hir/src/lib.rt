@@ -1,0 +1,12 @@
+//! Regular expressions as trees, which a program makes by hand, or reads from a text with the crate `lalrpop_re`.
+//! The file `specs/Language.antt` says which words each tree matches.
+#![tactic(auto)]
+
+mod class;
+mod clone;
+mod hir;
+#[cfg(test)]
+mod tests;
+
+pub use class::{Class, ClassBytes, ClassBytesRange, ClassUnicode, ClassUnicodeRange};
+pub use hir::{Capture, Hir, HirKind, Literal, Look, Regex, Repetition};

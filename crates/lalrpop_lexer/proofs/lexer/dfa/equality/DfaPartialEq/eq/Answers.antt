@@ -1,6 +1,0 @@
-use Rattle.lalrpop_lexer.proofs.SameTables.{same_automaton_decides}
-use Rattle.lalrpop_lexer.proofs.lexer.dfa.equality.DfaPartialEq.eq.Goals as goal
-
-pub returns-clause-same : goal.returns-clause-same
-returns-clause-same c =
-    rw (c.are_same.ensures, c.states.ensures.states, c.states-2.ensures.states) (same_automaton_decides c.args.self.now c.args.other.now)

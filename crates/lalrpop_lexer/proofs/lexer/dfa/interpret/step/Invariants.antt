@@ -1,6 +1,0 @@
-use Rattle.std.proofs.Common.{◌≡◌, ℕ, drop}
-use Rattle.lalrpop_lexer.specs.Dfa.{leads}
-use Rattle.lalrpop_lexer.proofs.lexer.dfa.interpret.step.Given as goal
-
-abbrev pub invariant-loop-test : goal.invariant-loop-test
-invariant-loop-test l = (other : ℕ) → leads l.test-items other l.value ≡ leads (drop l.test-index l.test-items) other l.value

@@ -1,9 +1,0 @@
--- The automaton of one pattern, as contracts see it.
-use Rattle.std.specs.Prelude.{List}
-use Rattle.lalrpop_lexer.specs.Lists.{Lists}
-use Rattle.lalrpop_lexer.specs.declared.lexer.nfa.edge.StateKind.{StateKind}
-
--- the kind of each state, and the edges
-pub record Graph : Type 0 where
-  pub kinds : List StateKind
-  pub edges : Lists

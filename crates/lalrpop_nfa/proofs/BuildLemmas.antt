@@ -1,0 +1,322 @@
+-- How states and edges that are added to a graph make the shapes of trees.
+use Rattle.std.proofs.Common.{◌≡◌, ◌≢◌, ℕ, zero, suc, ◌<◌, ◌≤◌, ◌+◌, List, [], ◌∷◌, ◌++◌, length, refl, ap, sym, ◌∙◌, subst, arith, ◌⊎◌, inl, inr, length-append, append_assoc, get_or, take}
+use Rattle.std.specs.Prelude.{Some, None, slice_get, map, replicate, max, drop}
+use Rattle.std.specs.List.{Contains, filter, push}
+use Rattle.std.specs.Option.{option_or}
+use Rattle.std.proofs.Math.Seq.{drop-cons}
+use Rattle.std.proofs.lemmas.List.{length-replicate, length-map, append-nil}
+use Rattle.std.proofs.lemmas.Bool.{ne_eqb}
+use Rattle.std.proofs.lemmas.List.Elements.{Contains-append_cases, filter-append}
+use Rattle.lalrpop_hir.specs.Range.{Range}
+use Rattle.lalrpop_hir.specs.Tree.{Tree, Trees, none, also, trees, depth, greatest_depth}
+use Rattle.lalrpop_nfa.specs.declared.edge.Edge.{Edge}
+use Rattle.lalrpop_nfa.specs.declared.edge.State.{State}
+use Rattle.lalrpop_nfa.specs.declared.edge.StateKind.{StateKind}
+use Rattle.lalrpop_nfa.specs.declared.edge.StateKind.TheVariants.{Neither}
+use Rattle.lalrpop_nfa.specs.Lists.{Lists}
+use Rattle.lalrpop_nfa.specs.Firsts.{LabelKind, Noops, Tests, Others}
+use Rattle.lalrpop_nfa.specs.SideBySide.{RunOf, kinds_of}
+use Rattle.lalrpop_nfa.specs.Internal.Adjacent.{AllRun}
+use Rattle.lalrpop_nfa.specs.Graph.{Graph}
+use Rattle.lalrpop_nfa.specs.Walk.{leaves, IsRun}
+use Rattle.lalrpop_nfa.specs.Path.{noop, test, other}
+use Rattle.lalrpop_nfa.specs.Internal.Shape.{Shape, Way, shape, joined, noops_to, before, one_of, optional, any_turns, some_turns, turns, copies, optionals, fork, branches, grown, fresh_graph, compiled}
+use Rattle.lalrpop_nfa.specs.Compiled.{accept_state, start_state}
+use Rattle.lalrpop_nfa.specs.declared.error.NfaConstructionError.{NfaConstructionError}
+use Rattle.lalrpop_nfa.specs.Fault.{Fault, fault, first_fault, last_fault}
+use Rattle.lalrpop_nfa.specs.Internal.Sound.{IsSound, AreSound}
+use Rattle.lalrpop_nfa.specs.Internal.Added.{with_kind, with_edges}
+use Rattle.lalrpop_nfa.proofs.Contained.{contains_none, contains_cases, contains_first, contains_later}
+use Rattle.lalrpop_nfa.specs.Internal.Grows.{LeaveBelow, LeavesStates, KeepsNoops, Grows, Branched, beside}
+
+-- ---- lists of edges
+
+filter_none : {L : Type 0} (q : ℕ) (es : List (Edge L)) → ((x : Edge L) → Contains es x → x.from ≢ q) → filter (leaves q) es ≡ []
+filter_none q [] f = refl
+filter_none q (x ∷ es) f = rw (ne_eqb x.from q (f x (contains_first x es))) (filter_none q es (λ y h. f y (contains_later x es y h)))
+
+-- edges of one state, one for each element
+module _ {A L : Type 0} (f : A → Edge L) (s : ℕ) (same : (a : A) → (f a).from ≡ s) where
+  below_map : (n : ℕ) (xs : List A) → s < n → LeaveBelow n (map f xs)
+  below_map n [] l x h = absurd (contains_none x h)
+  below_map n (a ∷ xs) l x h = elim (contains_cases (f a) (map f xs) x h) [ inl e ↦ (let k = ap (λ y. y.from) e in let w = same a in omega arith) | inr k ↦ below_map n xs l x k ]
+
+  filter_map_none : (q : ℕ) (xs : List A) → s ≢ q → filter (leaves q) (map f xs) ≡ []
+  filter_map_none q [] ne = refl
+  filter_map_none q (a ∷ xs) ne = rw (same a, ne_eqb s q ne) (filter_map_none q xs ne)
+
+below_longer : {L : Type 0} (m n : ℕ) (es : List (Edge L)) → m ≤ n → LeaveBelow m es → LeaveBelow n es
+below_longer m n es l f x h = let b = f x h in omega arith
+
+below_both : {L : Type 0} (n : ℕ) (es fs : List (Edge L)) → LeaveBelow n es → LeaveBelow n fs → LeaveBelow n (es ++ fs)
+below_both n es fs a b x h = elim (Contains-append_cases es fs x h) [ inl c ↦ a x c | inr c ↦ b x c ]
+
+-- ---- a new state
+
+IsRun-none : {L : Type 0} (q : ℕ) (es : List (Edge L)) → LeaveBelow q es → IsRun q es None
+IsRun-none q es f = record { at = tt; all = filter_none q es (λ x h e. let l = f x h in omega arith) }
+
+abbrev pub fresh : StateKind → State
+fresh kind = record { kind = kind; first_noop_edge = None; first_test_edge = None; first_other_edge = None }
+
+RunOf-fresh : (k : LabelKind) (kind : StateKind) (e : Lists) (q : ℕ) → LeaveBelow q e.noops → LeaveBelow q e.tests → LeaveBelow q e.others → RunOf k e (fresh kind) q
+RunOf-fresh Noops kind e q a b c = IsRun-none q e.noops a
+RunOf-fresh Tests kind e q a b c = IsRun-none q e.tests b
+RunOf-fresh Others kind e q a b c = IsRun-none q e.others c
+
+pushed_cases : {X : Type 0} (xs : List X) (y : X) (q : ℕ) (x : X) → slice_get (xs ++ y ∷ []) q ≡ Some x → (slice_get xs q ≡ Some x) ⊎ ((q ≡ length xs) × (x ≡ y))
+pushed_cases [] y zero x h = inr (refl, cc)
+pushed_cases [] y (suc q) x h = cc
+pushed_cases (z ∷ xs) y zero x h = inl h
+pushed_cases (z ∷ xs) y (suc q) x h = elim (pushed_cases xs y q x h) [ inl k ↦ inl k | inr k ↦ inr (ap (λ n. suc n) k.0, k.1) ]
+
+pub AllRun-fresh : (states : List State) (e : Lists) (kind : StateKind) (g : Graph) → record { kinds = kinds_of states; edges = e } ≡ g → LeavesStates g → AllRun states e → AllRun (states ++ fresh kind ∷ []) e
+AllRun-fresh states e kind g shown below old k q s found =
+    elim (pushed_cases states (fresh kind) q s found) [
+      | inl h ↦ old k q s h
+      | inr h ↦ (let l = subst LeavesStates (sym shown) below in
+          let long : length (kinds_of states) ≡ q = length-map states (λ (s : State). s.kind) ∙ sym h.0 in
+          subst (λ u. RunOf k e u q) (sym h.1) (RunOf-fresh k kind e q (subst (λ n. LeaveBelow n e.noops) long l.noops) (subst (λ n. LeaveBelow n e.tests) long l.tests) (subst (λ n. LeaveBelow n e.others) long l.others)))
+    ]
+
+pub LeavesStates-pushed : (states more : List State) (e : Lists) (kind : StateKind) (g : Graph) → more ≡ states ++ fresh kind ∷ [] → record { kinds = kinds_of states; edges = e } ≡ g → LeavesStates g → LeavesStates (record { kinds = kinds_of more; edges = e })
+LeavesStates-pushed states more e kind g is shown b = rw is (
+    let l = subst LeavesStates (sym shown) b in
+    let m = length-map states (λ (s : State). s.kind) in
+    let n = length-map (states ++ fresh kind ∷ []) (λ (s : State). s.kind) in
+    let p = length-append states (fresh kind ∷ []) in
+    record {
+      noops = below_longer (length (kinds_of states)) _ e.noops (omega arith) l.noops;
+      tests = below_longer (length (kinds_of states)) _ e.tests (omega arith) l.tests;
+      others = below_longer (length (kinds_of states)) _ e.others (omega arith) l.others;
+    })
+
+kinds_with : (g : Graph) (kind : StateKind) → length (with_kind g kind).kinds ≡ length g.kinds + 1
+kinds_with g kind = rw length-append refl
+
+-- no edge leaves a new state
+pub others_new : (g h : Graph) (s : ℕ) (kind : StateKind) → s ≡ length g.kinds → h ≡ with_kind g kind → LeavesStates g → filter (leaves s) h.edges.others ≡ []
+others_new g h s kind t u b = rw u (filter_none s g.edges.others (λ x m e. let l = b.others x m in omega arith))
+
+pub tests_new : (g h : Graph) (s : ℕ) (kind : StateKind) → s ≡ length g.kinds → h ≡ with_kind g kind → LeavesStates g → filter (leaves s) h.edges.tests ≡ []
+tests_new g h s kind t u b = rw u (filter_none s g.edges.tests (λ x m e. let l = b.tests x m in omega arith))
+
+pub noops_new : (g h k : Graph) (s : ℕ) → s ≡ length g.kinds → h ≡ with_kind g Neither → LeavesStates g → KeepsNoops h k → filter (leaves s) k.edges.noops ≡ []
+noops_new g h k s t u b kept =
+    let m : length h.kinds ≡ length g.kinds + 1 = rw u (kinds_with g Neither) in
+    kept s (omega arith) ∙ (rw u (filter_none s g.edges.noops (λ x m e. let l = b.noops x m in omega arith)))
+
+-- ---- shapes
+
+replicate_add : {A : Type 0} (m n : ℕ) (x : A) → replicate m x ++ replicate n x ≡ replicate (m + n) x
+replicate_add zero n x = let e : zero + n ≡ n = omega arith in rw e refl
+replicate_add (suc m) n x = let e : suc m + n ≡ suc (m + n) = omega arith in rw e (ap (λ ys. x ∷ ys) (replicate_add m n x))
+
+kinds_grown : (g : Graph) (s : Shape) → length (grown g s).kinds ≡ length g.kinds + s.size
+kinds_grown g s = rw (length-append, length-replicate) refl
+
+grown_twice : (g : Graph) (y x : Shape) (s : ℕ) → grown (grown g y) x ≡ grown g (record { size = y.size + x.size; entry = s; edges = joined y.edges x.edges })
+grown_twice g y x s = rw (← replicate_add y.size x.size Neither) (simp append_assoc)
+
+pub Grows-kinds : (x : Way) (target entry : ℕ) (g h : Graph) → Grows x target g h entry → length h.kinds ≡ length g.kinds + (x target (length g.kinds)).size
+Grows-kinds x target entry g h a = rw a.graph (kinds_grown g (x target (length g.kinds)))
+
+pub Grows-before : (x y : Way) (target mid entry : ℕ) (g h k : Graph) → Grows y target g h mid → Grows x mid h k entry → Grows (before x y) target g k entry
+Grows-before x y target mid entry g h k a b =
+    let m = Grows-kinds y target mid g h a in
+    let s = y target (length g.kinds) in
+    let r = x s.entry (length g.kinds + s.size) in
+    record {
+      begins = rw (m, a.begins) at b.begins;
+      graph = rw (m, a.begins) at b.graph ∙ (ap (λ j. grown j r) a.graph ∙ grown_twice g s r r.entry);
+      kept = λ q l. b.kept q (omega arith) ∙ a.kept q l;
+      below = b.below;
+    }
+
+-- ---- edges from one new state
+
+pub take_past : {X : Type 0} (i : ℕ) (xs : List X) → length xs ≤ i → take i xs ≡ xs
+take_past zero [] h = refl
+take_past zero (x ∷ xs) h = absurd (omega arith)
+take_past (suc i) [] h = refl
+take_past (suc i) (x ∷ xs) h = ap (λ ys. x ∷ ys) (take_past i xs (omega arith))
+
+abbrev pub with_noops : Graph → ℕ → List ℕ → Graph
+with_noops g s qs = with_edges g (record g.edges { noops = g.edges.noops ++ map (noop s) qs })
+
+below_noops : (k l : Graph) (s : ℕ) (qs : List ℕ) → s < length k.kinds → l ≡ with_noops k s qs → LeavesStates k → LeavesStates l
+below_noops k l s qs inside is b = rw is (record {
+  noops = below_both (length k.kinds) k.edges.noops (map (noop s) qs) b.noops (below_map (noop s) s (λ a. refl) (length k.kinds) qs inside);
+  tests = b.tests;
+  others = b.others;
+})
+
+kept_noops : (k l : Graph) (s : ℕ) (qs : List ℕ) (q : ℕ) → s ≢ q → l ≡ with_noops k s qs → filter (leaves q) l.edges.noops ≡ filter (leaves q) k.edges.noops
+kept_noops k l s qs q ne is = rw is (filter-append (leaves q) k.edges.noops (map (noop s) qs) ∙ rw (filter_map_none (noop s) s (λ a. refl) q qs ne) (append-nil (filter (leaves q) k.edges.noops)))
+
+fork_grown : (g : Graph) (a : Shape) (s entry : ℕ) (qs : List ℕ) → with_noops (grown (with_kind g Neither) a) s qs ≡ grown g (record { size = a.size + 1; entry = entry; edges = joined a.edges (noops_to s qs) })
+fork_grown g a s entry qs = let e : a.size + 1 ≡ suc a.size = omega arith in rw e (simp (append_assoc, append-nil))
+
+-- a state, then a shape, then the edges of the state
+module _ (x : Way) (target s turn : ℕ) (g h k l : Graph) (qs : List ℕ) (t : s ≡ length g.kinds) (u : h ≡ with_kind g Neither) (a : Grows x target h k turn) (w : l ≡ with_noops k s qs) where
+  one_more : length h.kinds ≡ length g.kinds + 1
+  one_more = rw u (kinds_with g Neither)
+
+  forked : (entry : ℕ) → l ≡ grown g (record { size = (x target (length g.kinds + 1)).size + 1; entry = entry; edges = joined (x target (length g.kinds + 1)).edges (noops_to (length g.kinds) qs) })
+  forked entry = rw (w, a.graph, one_more, u, t) (fork_grown g (x target (length g.kinds + 1)) (length g.kinds) entry qs)
+
+  forked_kept : KeepsNoops g l
+  forked_kept q below = let m = one_more in kept_noops k l s qs q (omega arith) w ∙ (a.kept q (omega arith) ∙ rw u refl)
+
+  forked_below : LeavesStates l
+  forked_below = let m = one_more in let n = Grows-kinds x target turn h k a in below_noops k l s qs (omega arith) w a.below
+
+module _ (x : Way) (target s turn : ℕ) (g h k l : Graph) where
+  pub Grows-any_turns : s ≡ length g.kinds → h ≡ with_kind g Neither → Grows x s h k turn → l ≡ with_noops k s (target ∷ turn ∷ []) → Grows (any_turns x) target g l s
+  Grows-any_turns t u a w = record {
+    begins = t;
+    graph = forked x s s turn g h k l (target ∷ turn ∷ []) t u a w (length g.kinds) ∙ (rw (a.begins, one_more x s s turn g h k l (target ∷ turn ∷ []) t u a w, t) refl);
+    kept = forked_kept x s s turn g h k l (target ∷ turn ∷ []) t u a w;
+    below = forked_below x s s turn g h k l (target ∷ turn ∷ []) t u a w;
+  }
+
+  pub Grows-some_turns : s ≡ length g.kinds → h ≡ with_kind g Neither → Grows x s h k turn → l ≡ with_noops k s (target ∷ turn ∷ []) → Grows (some_turns x) target g l turn
+  Grows-some_turns t u a w = let e = Grows-any_turns t u a w in record {
+    begins = rw (one_more x s s turn g h k l (target ∷ turn ∷ []) t u a w, t) at a.begins;
+    graph = e.graph;
+    kept = e.kept;
+    below = e.below;
+  }
+
+  -- the shape first, then the state and its edges
+  pub Grows-optional : Grows x target g h turn → s ≡ length h.kinds → k ≡ with_kind h Neither → LeavesStates k → l ≡ with_noops k s (target ∷ turn ∷ []) → Grows (optional x) target g l s
+  Grows-optional a t u b w =
+      let m = Grows-kinds x target turn g h a in
+      let n : length k.kinds ≡ length h.kinds + 1 = rw u (kinds_with h Neither) in
+      record {
+        begins = t ∙ m;
+        graph = rw (w, u, t, m, a.begins, a.graph, ← replicate_add (x target (length g.kinds)).size 1 Neither) (simp (append_assoc, append-nil));
+        kept = λ q l'. kept_noops k l s (target ∷ turn ∷ []) q (omega arith) w ∙ (rw u refl ∙ a.kept q l');
+        below = below_noops k l s (target ∷ turn ∷ []) (omega arith) w b;
+      }
+
+pub Grows-one_of : (rs : List Range) (target s : ℕ) (g h i k : Graph) → s ≡ length g.kinds → h ≡ with_kind g Neither → LeavesStates h
+    → i ≡ with_edges h (record h.edges { tests = h.edges.tests ++ map (λ r. test s r target) rs }) → k ≡ with_edges i (record i.edges { others = i.edges.others ++ other s 1 ∷ [] }) → Grows (one_of rs) target g k s
+Grows-one_of rs target s g h i k t u b v w =
+    let m : length h.kinds ≡ length g.kinds + 1 = rw u (kinds_with g Neither) in
+    record {
+      begins = t;
+      graph = rw (w, v, u, t) (simp append-nil);
+      kept = λ q l. rw (w, v, u) refl;
+      below = rw (w, v) (record {
+        noops = b.noops;
+        tests = below_both (length h.kinds) h.edges.tests _ b.tests (below_map (λ r. test s r target) s (λ a. refl) (length h.kinds) rs (omega arith));
+        others = below_both (length h.kinds) h.edges.others _ b.others (below_map (λ r. other s r) s (λ a. refl) (length h.kinds) (1 ∷ []) (omega arith));
+      });
+    }
+
+-- ---- branches
+
+pub Branched-next : (target : ℕ) (all ts : Trees) (t : Tree) (g h k : Graph) (es : List ℕ) (q : ℕ) → Branched target all (also t ts) g h es → Grows (shape t) target h k q → length g.kinds ≤ length h.kinds → Branched target all ts g k (es ++ q ∷ [])
+Branched-next target all ts t g h k es q a b long =
+    let m = Grows-kinds (shape t) target q h k b in
+    let s = shape t target (length h.kinds) in
+    record {
+      begin = append_assoc es (q ∷ []) (branches ts target (length k.kinds)).entries ∙ (rw (m, b.begins) a.begin);
+      graph = rw m (ap (λ j. grown j (beside (branches ts target (length h.kinds + s.size)))) b.graph ∙ (grown_twice h s (beside (branches ts target (length h.kinds + s.size))) 0 ∙ a.graph));
+      kept = λ p l. b.kept p (omega arith) ∙ a.kept p l;
+      below = b.below;
+    }
+
+pub Grows-fork : (ts : Trees) (target s : ℕ) (g h k l : Graph) (es : List ℕ) → s ≡ length g.kinds → h ≡ with_kind g Neither → Branched target ts none h k es → l ≡ with_noops k s es → Grows (fork (branches ts)) target g l s
+Grows-fork ts target s g h k l es t u a w =
+    let m : length h.kinds ≡ length g.kinds + 1 = rw u (kinds_with g Neither) in
+    let b = branches ts target (length g.kinds + 1) in
+    let whole : k ≡ grown h (beside (branches ts target (length h.kinds))) = simp append-nil at a.graph in
+    let all : es ≡ (branches ts target (length h.kinds)).entries = simp append-nil at a.begin in
+    let n : length k.kinds ≡ length h.kinds + (branches ts target (length h.kinds)).size = rw whole (kinds_grown h (beside (branches ts target (length h.kinds)))) in
+    record {
+      begins = t;
+      graph = rw (w, whole, all, m, u, t) (fork_grown g (beside b) (length g.kinds) (length g.kinds) b.entries);
+      kept = λ q below. kept_noops k l s es q (omega arith) w ∙ (a.kept q (omega arith) ∙ rw u refl);
+      below = below_noops k l s es (omega arith) w a.below;
+    }
+
+-- ---- lists of trees
+
+option_or_none : (a : Fault) → option_or None a ≡ option_or a None
+option_or_none None = refl
+option_or_none (Some x) = refl
+
+option_or_assoc : (a b c : Fault) → option_or (option_or a b) c ≡ option_or a (option_or b c)
+option_or_assoc None b c = refl
+option_or_assoc (Some x) b c = refl
+
+last_fault-push : (ts : List Tree) (t : Tree) → last_fault (trees (ts ++ t ∷ [])) ≡ option_or (fault t) (last_fault (trees ts))
+last_fault-push [] t = option_or_none (fault t)
+last_fault-push (u ∷ ts) t =
+    ap (λ f. option_or f (fault u)) (last_fault-push ts t) ∙ option_or_assoc (fault t) (last_fault (trees ts)) (fault u)
+
+greatest_depth-push : (ts : List Tree) (t : Tree) → greatest_depth (trees (ts ++ t ∷ [])) ≡ max (depth t) (greatest_depth (trees ts))
+greatest_depth-push [] t = omega arith
+greatest_depth-push (u ∷ ts) t = omega (arith, greatest_depth-push ts t)
+
+-- a list that ends with t
+module _ (xs ys : List Tree) (t : Tree) (is : ys ≡ push xs t) where
+  last_is : last_fault (trees ys) ≡ option_or (fault t) (last_fault (trees xs))
+  last_is = ap (λ zs. last_fault (trees zs)) is ∙ last_fault-push xs t
+
+  greatest_is : greatest_depth (trees ys) ≡ max (depth t) (greatest_depth (trees xs))
+  greatest_is = ap (λ zs. greatest_depth (trees zs)) is ∙ greatest_depth-push xs t
+
+  pub below-last : (n : ℕ) → greatest_depth (trees ys) ≤ n → depth t ≤ n
+  below-last n h = omega (arith, greatest_is)
+
+  pub below-front : (n : ℕ) → greatest_depth (trees ys) ≤ n → greatest_depth (trees xs) ≤ n
+  below-front n h = omega (arith, greatest_is)
+
+  pub fault-last : (e : NfaConstructionError) (f : Fault) → fault t ≡ Some e → last_fault (trees ys) ≡ f → f ≡ Some e
+  fault-last e f h g = sym g ∙ (last_is ∙ rw h refl)
+
+  pub fault-front : (f : Fault) → fault t ≡ None → last_fault (trees ys) ≡ f → last_fault (trees xs) ≡ f
+  fault-front f h g = (rw h at (sym {a = last_fault (trees ys)} {b = option_or (fault t) (last_fault (trees xs))} last_is)) ∙ g
+
+  pub moved : (all done : List Tree) → all ≡ ys ++ done → all ≡ xs ++ t ∷ done
+  moved all done e = e ∙ (ap (λ zs. zs ++ done) is ∙ append_assoc xs (t ∷ []) done)
+
+pub drop_past : {X : Type 0} (i : ℕ) (xs : List X) → length xs ≤ i → drop i xs ≡ []
+drop_past zero [] h = refl
+drop_past zero (x ∷ xs) h = absurd (omega arith)
+drop_past (suc i) [] h = refl
+drop_past (suc i) (x ∷ xs) h = drop_past i xs (omega arith)
+
+pub drop_next : {X : Type 0} (xs : List X) (i : ℕ) (x : X) → i < length xs → x ≡ get_or xs i x → drop i xs ≡ x ∷ drop (i + 1) xs
+drop_next xs i x inside is = let e : i + 1 ≡ suc i = omega arith in rw e (drop-cons xs i x inside ∙ ap (λ y. y ∷ drop (suc i) xs) (sym is))
+
+-- one part of several compiled
+module _ (all : List Tree) (i : ℕ) (t : Tree) (inside : i < length all) (is : t ≡ get_or all i t) where
+  pub first_fault-next : fault t ≡ None → first_fault (trees (drop i all)) ≡ first_fault (trees all) → first_fault (trees (drop (i + 1) all)) ≡ first_fault (trees all)
+  first_fault-next fine h = rw fine at (rw (drop_next all i t inside is) at h)
+
+  pub AreSound-next : IsSound t → (AreSound (trees (drop i all)) → AreSound (trees all)) → AreSound (trees (drop (i + 1) all)) → AreSound (trees all)
+  AreSound-next s f a = f (rw (drop_next all i t inside is) (s, a))
+
+  pub Branched-more : (target : ℕ) (g h k : Graph) (es : List ℕ) (q : ℕ) → Branched target (trees all) (trees (drop i all)) g h es → Grows (shape t) target h k q → length g.kinds ≤ length h.kinds → Branched target (trees all) (trees (drop (i + 1) all)) g k (es ++ q ∷ [])
+  Branched-more target g h k es q a b long = Branched-next target (trees all) (trees (drop (i + 1) all)) t g h k es q (rw (drop_next all i t inside is) at a) b long
+
+pub turns_more : (x : Way) (min : ℕ) → min ≢ 0 → min ≢ 1 → turns x min None ≡ before (copies x min) (any_turns x)
+turns_more x zero m n = absurd (m refl)
+turns_more x (suc zero) m n = absurd (n refl)
+turns_more x (suc (suc k)) m n = refl
+
+-- one more turn before the others
+module _ (x : Way) (n target mid entry : ℕ) (g h k : Graph) where
+  pub Grows-copies : Grows (copies x n) target g h mid → Grows x mid h k entry → Grows (copies x (n + 1)) target g k entry
+  Grows-copies a b = let e : n + 1 ≡ suc n = omega arith in rw e (Grows-before x (copies x n) target mid entry g h k a b)
+
+  pub Grows-optionals : Grows (optionals x n) target g h mid → Grows (optional x) mid h k entry → Grows (optionals x (n + 1)) target g k entry
+  Grows-optionals a b = let e : n + 1 ≡ suc n = omega arith in rw e (Grows-before (optional x) (optionals x n) target mid entry g h k a b)
+
+-- the whole automaton: a fresh one, the tree's shape, and START's edge
+pub compiled_grown : (t : Tree) (g h k : Graph) (entry : ℕ) → g ≡ fresh_graph → Grows (shape t) accept_state g h entry → k ≡ with_edges h (record h.edges { noops = h.edges.noops ++ noop start_state entry ∷ [] }) → k ≡ compiled t
+compiled_grown t g h k entry u a w = rw (w, a.graph, a.begins, u) (simp append-nil)

@@ -1,0 +1,12 @@
+use Rattle.std.proofs.Common.{sym, subst}
+use Rattle.lalrpop_nfa.specs.Compiled.{IsCompiled}
+use Rattle.lalrpop_nfa.proofs.BuildLemmas.{compiled_grown}
+use Rattle.lalrpop_nfa.proofs.CompiledTree.{compiled_is_compiled}
+use Rattle.lalrpop_nfa.proofs.Nfa.from_re.Goals as goal
+
+pub returns-clause-ok : goal.returns-clause-ok
+returns-clause-ok c =
+    let t = c.args.regex.now in
+    let o = c.in_ok-entry.ensures in
+    let is = compiled_grown t c.in_ok-nfa.nfa c.expr.new.self c.push_edge.new.self c.in_ok-entry.entry c.in_ok-nfa.ensures.fresh o.grown c.in_ok-push_edge.ensures.pushed in
+    (o.no_fault, subst (IsCompiled t) (sym is) (compiled_is_compiled t o.sound o.no_fault))

@@ -1,0 +1,15 @@
+use Rattle.std.proofs.Common.{◌≡◌, ◌+◌, ◌-◌, length}
+use Rattle.lalrpop_nfa.specs.Internal.Layers.{IsLayer}
+use Rattle.lalrpop_nfa.proofs.LayerLemmas.{IsClosing}
+use Rattle.lalrpop_nfa.proofs.interpret.Layer.close.Given as goal
+
+abbrev pub invariant-loop-place : goal.invariant-loop-place
+invariant-loop-place l = record {
+  layer : IsLayer l.self.states.items l.self.marks.items;
+  size : length l.self.marks.items ≡ length l.nfa.kinds;
+  counted : l.steps + length l.initial.self.states.items ≡ l.initial.steps + length l.self.states.items;
+  closing : IsClosing l.nfa.edges (length l.nfa.kinds) l.initial.self.states.items l.self.states.items l.place;
+}
+
+abbrev pub decreases-loop-place : goal.decreases-loop-place
+decreases-loop-place l = length l.nfa.kinds - l.place

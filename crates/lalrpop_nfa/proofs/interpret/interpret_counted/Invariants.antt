@@ -1,0 +1,22 @@
+use Rattle.std.proofs.Common.{◌≡◌, ◌≤◌, ◌+◌, ◌*◌, length, take}
+use Rattle.std.specs.Option.{option_map}
+use Rattle.std.specs.Str.{chars}
+use Rattle.std.specs.Str.Iter.{char_indices_rest, char_indices_offset}
+use Rattle.lalrpop_hir.specs.Tree.{Tree}
+use Rattle.lalrpop_hir.specs.Language.{Matches}
+use Rattle.lalrpop_nfa.specs.Compiled.{IsCompiled}
+use Rattle.lalrpop_nfa.specs.Internal.Layers.{IsLayer}
+use Rattle.lalrpop_nfa.proofs.LayerLemmas.{IsAfterWord}
+use Rattle.lalrpop_nfa.proofs.BeginningLemmas.{IsLongestOfUpTo}
+use Rattle.lalrpop_nfa.proofs.Cuts.{IsCut}
+use Rattle.lalrpop_nfa.proofs.interpret.interpret_counted.Given as goal
+
+abbrev pub invariant-loop-offset : goal.invariant-loop-offset
+invariant-loop-offset l = record {
+  layer : IsLayer l.layer.states.items l.layer.marks.items;
+  size : length l.layer.marks.items ≡ length l.nfa.kinds;
+  cut : IsCut l.text (char_indices_offset l.offset-iterator) (char_indices_rest l.offset-iterator);
+  after : IsAfterWord l.nfa (chars (take (char_indices_offset l.offset-iterator) l.text)) l.layer.states.items;
+  best : (t : Tree) → IsCompiled t l.nfa → IsLongestOfUpTo (Matches t) l.text (char_indices_offset l.offset-iterator) (option_map (λ s. s.now) l.longest);
+  cost : l.steps ≤ l.fn.steps + length l.nfa.kinds * (length (chars (take (char_indices_offset l.offset-iterator) l.text)) + 1);
+}

@@ -1,0 +1,65 @@
+-- What a compiled pattern is: an automaton that reads exactly the words of its tree.
+use Rattle.std.specs.Prelude.{◌≡◌, ◌≢◌, ℕ, ◌+◌, ◌<◌, ◌≤◌, ◌⊎◌, ◌↔◌, List, length, slice_get, Some}
+use Rattle.std.specs.List.{Contains}
+use Rattle.lalrpop_hir.specs.Range.{Range, Covers}
+use Rattle.lalrpop_hir.specs.Tree.{Tree, Class, unicode, bytes, size, empty, literal, class, look, repetition, capture, concat, alternation, Trees, none, also}
+use Rattle.lalrpop_hir.specs.Language.{Matches}
+use Rattle.lalrpop_nfa.specs.Graph.{Graph}
+use Rattle.lalrpop_nfa.specs.Path.{Path}
+use Rattle.lalrpop_nfa.specs.declared.edge.Edge.{Edge}
+use Rattle.lalrpop_nfa.specs.declared.edge.Noop.{Noop}
+use Rattle.lalrpop_nfa.specs.declared.edge.Other.{Other}
+use Rattle.lalrpop_nfa.specs.declared.edge.StateKind.TheVariants.{Accept, Reject}
+
+-- the numbers of the three states that every automaton has
+abbrev pub accept_state : ℕ
+accept_state = 0
+
+abbrev pub reject_state : ℕ
+reject_state = 1
+
+abbrev pub start_state : ℕ
+start_state = 2
+
+-- the range is one of the class
+abbrev pub IsClassLabel : Class → Range → Type 0
+IsClassLabel (unicode rs) r = Contains rs r
+IsClassLabel (bytes rs) r = Contains rs r
+
+abbrev mutual
+  -- the range is one of a class, or one character of a literal, inside the tree
+  pub IsLabel : Tree → Range → Type 0
+  IsLabel empty r = ⊥
+  IsLabel (literal cs) r = (c : ℕ) × (Contains cs c × (r ≡ record { start = c; end = c }))
+  IsLabel (class a) r = IsClassLabel a r
+  IsLabel (look l) r = ⊥
+  IsLabel (repetition min max greedy t) r = IsLabel t r
+  IsLabel (capture name t) r = IsLabel t r
+  IsLabel (concat ts) r = IsLabelOfSome ts r
+  IsLabel (alternation ts) r = IsLabelOfSome ts r
+
+  -- the same for some tree of the list
+  pub IsLabelOfSome : Trees → Range → Type 0
+  IsLabelOfSome none r = ⊥
+  IsLabelOfSome (also t ts) r = IsLabel t r ⊎ IsLabelOfSome ts r
+
+-- the automaton reads exactly the words of the tree, from START to ACCEPT
+abbrev pub ReadsWordsOf : Tree → Graph → Type 0
+ReadsWordsOf t g = (w : List ℕ) → Path g.edges accept_state start_state w ↔ Matches t w
+
+-- what holds of every compiled automaton
+pub record IsCompiled (t : Tree) (g : Graph) : Type 0 where
+  pub reads : ReadsWordsOf t g
+  pub few : length g.kinds ≤ 3 + size t
+  pub start_in : start_state < length g.kinds
+  -- ACCEPT alone is of kind Accept, REJECT alone of kind Reject
+  pub accepting : (p : ℕ) → slice_get g.kinds p ≡ Some Accept ↔ (p ≡ accept_state)
+  pub rejecting : (p : ℕ) → slice_get g.kinds p ≡ Some Reject ↔ (p ≡ reject_state)
+  -- edges join states; none but its other edge leaves REJECT, and no test leads there
+  pub noops_in : (e : Edge Noop) → Contains g.edges.noops e → (e.from < length g.kinds) × (e.to < length g.kinds) × (e.from ≢ reject_state)
+  pub tests_in : (e : Edge Range) → Contains g.edges.tests e → (e.from < length g.kinds) × (e.to < length g.kinds) × (e.from ≢ reject_state) × (e.to ≢ reject_state)
+  pub others_in : (e : Edge Other) → Contains g.edges.others e → (e.from < length g.kinds) × (e.to ≡ reject_state)
+  -- each label is of the tree, and is a range of code values
+  pub labels : (e : Edge Range) → Contains g.edges.tests e → IsLabel t e.label × (e.label.start ≤ e.label.end) × (e.label.end ≤ 1114111)
+  -- two test edges of one state that cover a value are one edge
+  pub apart : (e f : Edge Range) (c : ℕ) → Contains g.edges.tests e → Contains g.edges.tests f → e.from ≡ f.from → Covers e.label c → Covers f.label c → e ≡ f

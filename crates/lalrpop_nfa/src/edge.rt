@@ -1,0 +1,345 @@
+ghost use Rattle.std.specs.Prelude.{◌≡◌, ℕ, ◌+◌, ◌<◌, List, Option};
+ghost use Rattle.std.specs.Borrow.{sem};
+ghost use Rattle.lalrpop_nfa.specs.Internal.Noted.{first_set};
+
+use super::test::Test;
+use std::fmt;
+use std::marker::Model;
+
+/// The number of a state of an automaton, from 0.
+#[derive(Copy, Clone, PartialEq, Eq, PartialOrd, Ord, Hash)]
+pub struct NfaStateIndex(pub(super) usize);
+
+impl Model for NfaStateIndex {
+    ghost use Rattle.std.specs.Prelude.{ℕ};
+
+    ghost Value = { ℕ };
+
+    ghost view = { λ i. i.0 };
+
+    ghost inverse = { λ n. record { 0 = n } };
+}
+
+impl fmt::Debug for NfaStateIndex {
+    fn fmt<W: fmt::Write>(&self, f: &mut fmt::Formatter<W>) -> fmt::Result {
+        let number = self.0;
+        write!(f, "Nfa{number}")
+    }
+}
+
+/// The label of an edge that reads nothing.
+#[derive(Debug, PartialEq, Eq, Drop)]
+pub struct Noop;
+
+/// The label of an edge that reads a value which no test of its state covers.
+#[derive(Debug, PartialEq, Eq, Drop)]
+pub struct Other;
+
+/// What a state is for.
+#[derive(Copy, Clone, Debug, PartialEq, Eq, PartialOrd, Ord)]
+pub enum StateKind {
+    /// The word that leads here is matched.
+    Accept,
+    /// No continuation of the word that leads here is matched.
+    Reject,
+    /// Any other state.
+    Neither,
+}
+
+/// A state: its kind, and where its edges of each label kind begin in the list of that kind.
+#[derive(Debug, Drop)]
+pub struct State {
+    pub(super) kind: StateKind,
+    pub(super) first_noop_edge: Option<usize>,
+    pub(super) first_test_edge: Option<usize>,
+    pub(super) first_other_edge: Option<usize>,
+}
+
+impl Model for State {
+    ghost use Rattle.lalrpop_nfa.specs.StateView.{StateView};
+
+    ghost Value = { StateView };
+
+    ghost view = { λ s. record { kind = s.kind; first_noop_edge = s.first_noop_edge; first_test_edge = s.first_test_edge; first_other_edge = s.first_other_edge } };
+}
+
+/// An edge from a state to a state.
+#[derive(PartialEq, Eq, Drop)]
+pub struct Edge<L> {
+    pub from: NfaStateIndex,
+    pub label: L,
+    pub to: NfaStateIndex,
+}
+
+impl<L: fmt::Debug> fmt::Debug for Edge<L> {
+    fn fmt<W: fmt::Write>(&self, f: &mut fmt::Formatter<W>) -> fmt::Result {
+        let from = self.from;
+        let label = &self.label;
+        let to = self.to;
+        write!(f, "{from:?} -{label:?}-> {to:?}")
+    }
+}
+
+/// The edges of an automaton: a list for each kind of label, in which the edges of one state stand side by side.
+#[derive(Debug, Drop)]
+pub struct Edges {
+    pub(super) noop_edges: Vec<Edge<Noop>>,
+    pub(super) test_edges: Vec<Edge<Test>>,
+    pub(super) other_edges: Vec<Edge<Other>>,
+}
+
+impl Model for Edges {
+    ghost use Rattle.lalrpop_nfa.specs.Lists.{Lists};
+
+    ghost Value = { Lists };
+
+    ghost view = { λ e. record { noops = e.noop_edges.items; tests = e.test_edges.items; others = e.other_edges.items } };
+}
+
+/// A kind of label, with its list of edges and its index in a state. Writing through the `_mut` calls leaves the lists
+/// and the indices of the other kinds alone.
+pub trait EdgeLabel: Sized {
+    ghost use Rattle.std.specs.Prelude.{Some, None};
+    ghost use Rattle.lalrpop_nfa.specs.declared.edge.Edge.{Edge};
+    ghost use Rattle.lalrpop_nfa.specs.declared.edge.State.{State};
+    ghost use Rattle.lalrpop_nfa.specs.Lists.{Lists};
+    ghost use Rattle.lalrpop_nfa.specs.Firsts.{LabelKind, SameListsBut, SameFirstsBut};
+    ghost use Rattle.lalrpop_nfa.specs.Walk.{IsRun};
+    ghost use Rattle.lalrpop_nfa.specs.SideBySide.{RunOf};
+    ghost use Rattle.lalrpop_nfa.specs.Lending.{LendsList, LendsFirst};
+
+    // Which of the three lists, and which of the three indices, this label's are.
+    ghost kind: { LabelKind };
+
+    ghost list: { Lists → List (Edge Self) };
+
+    ghost with_list: { Lists → List (Edge Self) → Lists };
+
+    ghost index: { State → Option ℕ };
+
+    ghost with_index: { State → Option ℕ → State };
+
+    fn vec_mut(nfa: &mut Edges) -> &mut Vec<Edge<Self>>
+        ensures* writes_back { sem 𝓛 (LendsList Self.row nfa.entry result (with_list nfa.old)) }
+        ensures value { result.now.items ≡ list nfa.old };
+
+    fn vec(nfa: &Edges) -> &Vec<Edge<Self>>
+        ensures value { result.now.items ≡ list nfa.now };
+
+    fn first_mut(state: &mut State) -> &mut Option<usize>
+        ensures* writes_back { sem 𝓛 (LendsFirst state.entry result (with_index state.old)) }
+        ensures value { result.now ≡ index state.old };
+
+    fn first(state: &State) -> &Option<usize>
+        ensures value { result.now ≡ index state.now };
+
+    // What is written to the list is what the list is, and the two other lists stay.
+    ghost list_written: { (e : Lists) (es : List (Edge Self)) → list (with_list e es) ≡ es };
+
+    ghost list_unwritten: { (e : Lists) → with_list e (list e) ≡ e };
+
+    ghost other_lists_kept: { (e : Lists) (es : List (Edge Self)) → SameListsBut kind e (with_list e es) };
+
+    ghost index_written: { (s : State) (i : Option ℕ) → index (with_index s i) ≡ i };
+
+    ghost index_unwritten: { (s : State) → with_index s (index s) ≡ s };
+
+    ghost other_indices_kept: { (s : State) (i : Option ℕ) → SameFirstsBut kind s (with_index s i) };
+
+    // The run of this kind is the run of this list from this index on.
+    ghost run_in: { (e : Lists) (s : State) (q : ℕ) → RunOf kind e s q → IsRun q (list e) (index s) };
+
+    ghost run_out: { (e : Lists) (s : State) (q : ℕ) → IsRun q (list e) (index s) → RunOf kind e s q };
+}
+
+impl EdgeLabel for Noop {
+    ghost use Rattle.lalrpop_nfa.specs.Firsts.{Noops};
+    ghost use Rattle.std.specs.Prelude.{refl};
+
+    ghost kind = { Noops };
+
+    ghost list = { λ e. e.noops };
+
+    ghost with_list = { λ e es. record e { noops = es } };
+
+    ghost index = { λ s. s.first_noop_edge };
+
+    ghost with_index = { λ s i. record s { first_noop_edge = i } };
+
+    ghost list_written = { λ e v. refl };
+
+    ghost list_unwritten = { λ e. refl };
+
+    ghost other_lists_kept = { λ e v. (refl, refl) };
+
+    ghost index_written = { λ s i. refl };
+
+    ghost index_unwritten = { λ s. refl };
+
+    ghost other_indices_kept = { λ s i. (refl, refl, refl) };
+
+    ghost run_in = { λ e s q r. r };
+
+    ghost run_out = { λ e s q r. r };
+
+    fn vec_mut(nfa: &mut Edges) -> &mut Vec<Edge<Noop>> {
+        &mut nfa.noop_edges
+    }
+
+    fn vec(nfa: &Edges) -> &Vec<Edge<Noop>> {
+        &nfa.noop_edges
+    }
+
+    fn first_mut(state: &mut State) -> &mut Option<usize> {
+        &mut state.first_noop_edge
+    }
+
+    fn first(state: &State) -> &Option<usize> {
+        &state.first_noop_edge
+    }
+}
+
+impl EdgeLabel for Test {
+    ghost use Rattle.lalrpop_nfa.specs.Firsts.{Tests};
+    ghost use Rattle.std.specs.Prelude.{refl};
+
+    ghost kind = { Tests };
+
+    ghost list = { λ e. e.tests };
+
+    ghost with_list = { λ e es. record e { tests = es } };
+
+    ghost index = { λ s. s.first_test_edge };
+
+    ghost with_index = { λ s i. record s { first_test_edge = i } };
+
+    ghost list_written = { λ e v. refl };
+
+    ghost list_unwritten = { λ e. refl };
+
+    ghost other_lists_kept = { λ e v. (refl, refl) };
+
+    ghost index_written = { λ s i. refl };
+
+    ghost index_unwritten = { λ s. refl };
+
+    ghost other_indices_kept = { λ s i. (refl, refl, refl) };
+
+    ghost run_in = { λ e s q r. r };
+
+    ghost run_out = { λ e s q r. r };
+
+    fn vec_mut(nfa: &mut Edges) -> &mut Vec<Edge<Test>> {
+        &mut nfa.test_edges
+    }
+
+    fn vec(nfa: &Edges) -> &Vec<Edge<Test>> {
+        &nfa.test_edges
+    }
+
+    fn first_mut(state: &mut State) -> &mut Option<usize> {
+        &mut state.first_test_edge
+    }
+
+    fn first(state: &State) -> &Option<usize> {
+        &state.first_test_edge
+    }
+}
+
+impl EdgeLabel for Other {
+    ghost use Rattle.lalrpop_nfa.specs.Firsts.{Others};
+    ghost use Rattle.std.specs.Prelude.{refl};
+
+    ghost kind = { Others };
+
+    ghost list = { λ e. e.others };
+
+    ghost with_list = { λ e es. record e { others = es } };
+
+    ghost index = { λ s. s.first_other_edge };
+
+    ghost with_index = { λ s i. record s { first_other_edge = i } };
+
+    ghost list_written = { λ e v. refl };
+
+    ghost list_unwritten = { λ e. refl };
+
+    ghost other_lists_kept = { λ e v. (refl, refl) };
+
+    ghost index_written = { λ s i. refl };
+
+    ghost index_unwritten = { λ s. refl };
+
+    ghost other_indices_kept = { λ s i. (refl, refl, refl) };
+
+    ghost run_in = { λ e s q r. r };
+
+    ghost run_out = { λ e s q r. r };
+
+    fn vec_mut(nfa: &mut Edges) -> &mut Vec<Edge<Other>> {
+        &mut nfa.other_edges
+    }
+
+    fn vec(nfa: &Edges) -> &Vec<Edge<Other>> {
+        &nfa.other_edges
+    }
+
+    fn first_mut(state: &mut State) -> &mut Option<usize> {
+        &mut state.first_other_edge
+    }
+
+    fn first(state: &State) -> &Option<usize> {
+        &state.first_other_edge
+    }
+}
+
+// Notes the index where the state has no first index of this kind yet.
+pub(super) fn note_first<L: EdgeLabel>(state: &mut State, edge_index: usize)
+    ensures { state.new ≡ L.with_index state.old (first_set (L.index state.old) edge_index) }
+{
+    let first = L::first_mut(state);
+    if first.is_none() {
+        *first = Some(edge_index);
+    }
+}
+
+/// The edges of one label kind that leave one state, in the order of the list of that kind.
+#[derive(Drop)]
+pub struct EdgeIterator<'nfa, L: EdgeLabel> {
+    pub(super) edges: &'nfa [Edge<L>],
+    pub(super) from: NfaStateIndex,
+    pub(super) index: Option<usize>,
+}
+
+impl<'nfa, L: EdgeLabel> Model for EdgeIterator<'nfa, L> {
+    ghost use Rattle.std.specs.Prelude.{List};
+    ghost use Rattle.lalrpop_nfa.specs.declared.edge.Edge.{Edge};
+    ghost use Rattle.lalrpop_nfa.specs.Walk.{walk_at, IsAt};
+
+    ghost Value = { List (Edge L) };
+
+    ghost view = { λ it. walk_at it.from it.edges.now it.index };
+
+    ghost invariant = { λ it. IsAt it.from it.edges.now it.index };
+}
+
+impl<'nfa, L: EdgeLabel> Iterator for EdgeIterator<'nfa, L> {
+    ghost use Rattle.std.specs.Iterator.{YieldsFirstRef, item_count};
+
+    type Item = &'nfa Edge<L>;
+
+    ghost next_gives = { YieldsFirstRef (λ s. s) };
+
+    ghost remaining = { item_count (λ s. s) };
+
+    fn next(&mut self) -> Option<&'nfa Edge<L>> {
+        let index = self.index?;
+        let next_index = index + 1;
+        self.index = if next_index < self.edges.len() && self.edges[next_index].from == self.from {
+            Some(next_index)
+        } else {
+            None
+        };
+        Some(&self.edges[index])
+    }
+}

@@ -1,0 +1,148 @@
+//! The automaton of one pattern: compiling a tree to it, and running it.
+#![tactic(auto)]
+
+mod build;
+mod edge;
+mod error;
+pub mod interpret;
+mod steps;
+mod test;
+#[cfg(test)]
+mod tests;
+
+ghost use Rattle.std.specs.Prelude.{◌≡◌, ◌≢◌, ◌↔◌, ◌<◌, ◌++◌, ◌∷◌, [], Some, None, IfOk, IfErr, IsTrue};
+ghost use Rattle.std.specs.List.{filter};
+ghost use Rattle.lalrpop_nfa.specs.Fault.{fault};
+
+use edge::note_first;
+pub use edge::{
+    Edge, EdgeIterator, EdgeLabel, Edges, NfaStateIndex, Noop, Other, State, StateKind,
+};
+pub use error::NfaConstructionError;
+use lalrpop_hir::Regex;
+use std::alloc::{AllocError, Global};
+use std::marker::Model;
+pub use steps::Steps;
+pub use test::Test;
+
+/// The state in which a word is matched.
+pub const ACCEPT: NfaStateIndex = NfaStateIndex(0);
+
+/// The state in which no continuation of the word is matched.
+pub const REJECT: NfaStateIndex = NfaStateIndex(1);
+
+/// The state in which each run begins.
+pub const START: NfaStateIndex = NfaStateIndex(2);
+
+/// The automaton of one pattern: states, and edges that read nothing, a value of a range, or any other value.
+#[derive(Debug, Drop)]
+pub struct Nfa {
+    states: Vec<State>,
+    edges: Edges,
+}
+
+impl Model for Nfa {
+    ghost use Rattle.lalrpop_nfa.specs.Graph.{Graph};
+    ghost use Rattle.lalrpop_nfa.specs.SideBySide.{kinds_of};
+    ghost use Rattle.lalrpop_nfa.specs.Internal.Adjacent.{AllRun};
+
+    ghost Value = { Graph };
+
+    ghost view = { λ n. record { kinds = kinds_of n.states.items; edges = n.edges } };
+
+    ghost invariant = { λ n. AllRun n.states.items n.edges };
+}
+
+impl Nfa {
+    ghost use Rattle.std.specs.Prelude.{OnOk, OnErr, length, slice_get, IsSomeAnd};
+    ghost use Rattle.lalrpop_nfa.specs.declared.edge.StateKind.TheVariants.{Accept, Reject};
+    ghost use Rattle.lalrpop_nfa.specs.Compiled.{IsCompiled};
+    ghost use Rattle.std.specs.List.{filter};
+    ghost use Rattle.lalrpop_nfa.specs.Walk.{leaves};
+    ghost use Rattle.lalrpop_nfa.specs.Internal.Adjacent.{IsOpen};
+    ghost use Rattle.lalrpop_nfa.specs.Internal.Added.{with_edges};
+
+    /// The edges of one kind that leave the state, in the order of the list of that kind.
+    pub fn edges<L: EdgeLabel>(&self, from: NfaStateIndex) -> EdgeIterator<'_, L>
+        requires { from < length self.now.kinds }
+        ensures { result ≡ filter (leaves from) (L.list self.now.edges) }
+    {
+        EdgeIterator {
+            edges: L::vec(&self.edges).as_slice(),
+            from,
+            index: *L::first(&self.states[from.0]),
+        }
+    }
+
+    // Pushes an edge to the list of its kind, and notes it where it is the state's first of this kind.
+    fn push_edge<L: EdgeLabel + Drop>(
+        &mut self,
+        from: NfaStateIndex,
+        label: L,
+        to: NfaStateIndex,
+    ) -> Result<(), AllocError>
+        requires is_state { from < length self.old.kinds }
+        requires together { IsOpen from (L.list self.old.edges) }
+        ensures pushed { OnOk result (self.new ≡ with_edges self.old (L.with_list self.old.edges (L.list self.old.edges ++ record { from = from; label = label; to = to } ∷ []))) }
+        ensures refused { OnErr result (self.new ≡ self.old) }
+    {
+        let list = L::vec_mut(&mut self.edges);
+        let edge_index = list.len();
+        list.push(Edge { from, label, to })?;
+        note_first::<L>(&mut self.states[from.0], edge_index);
+        Ok(())
+    }
+
+    /// Compiles a pattern to an automaton that reads exactly the pattern's words, from START to ACCEPT. It has at most
+    /// three states more than the pattern's size.
+    ///
+    /// A pattern is refused for its fault: of parts one after another the last faulty one's, of branches the first
+    /// faulty one's. What is never repeated has none. Else it fails only where memory is refused.
+    pub fn from_re(alloc: Global, regex: &Regex) -> Result<Nfa, NfaConstructionError>
+        ensures ok { IfOk result (λ nfa. (fault regex.now ≡ None) × IsCompiled regex.now nfa) }
+        ensures err { IfErr result (λ e. e ≢ NfaConstructionError.OutOfMemory → fault regex.now ≡ Some e) }
+    {
+        let mut nfa = Nfa::new(alloc)?;
+        let entry = nfa.expr(regex, ACCEPT)?;
+        nfa.push_edge(START, Noop, entry)?;
+        Ok(nfa)
+    }
+
+    /// What the state is for.
+    pub fn kind(&self, from: NfaStateIndex) -> StateKind
+        requires { from < length self.now.kinds }
+        ensures { slice_get self.now.kinds from ≡ Some result }
+    {
+        self.states[from.0].kind
+    }
+
+    /// Whether the state is one in which a word is matched.
+    pub fn is_accepting_state(&self, from: NfaStateIndex) -> bool
+        requires { from < length self.now.kinds }
+        ensures { IsTrue result ↔ (slice_get self.now.kinds from ≡ Some Accept) }
+    {
+        self.kind(from) == StateKind::Accept
+    }
+
+    /// Whether the state is one in which no continuation of the word is matched.
+    pub fn is_rejecting_state(&self, from: NfaStateIndex) -> bool
+        requires { from < length self.now.kinds }
+        ensures { IsTrue result ↔ (slice_get self.now.kinds from ≡ Some Reject) }
+    {
+        self.kind(from) == StateKind::Reject
+    }
+
+    /// Whether the index is that of a state of this automaton.
+    pub fn contains_state(&self, index: NfaStateIndex) -> bool
+        ensures { IsTrue result ↔ (index < length self.now.kinds) }
+    {
+        index.0 < self.states.len()
+    }
+
+    /// The number of states.
+    pub fn len(&self) -> usize
+        ensures { result ≡ length self.now.kinds }
+    {
+        self.states.len()
+    }
+}

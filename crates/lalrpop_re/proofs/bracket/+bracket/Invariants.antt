@@ -1,0 +1,52 @@
+use Rattle.std.proofs.Common.{◌≡◌, ◌≤◌, ◌+◌, ◌*◌, List, option_to_list}
+use Rattle.lalrpop_re.specs.CharacterSet.{Set, union_all}
+use Rattle.lalrpop_re.specs.Bracket.{leaves}
+use Rattle.lalrpop_re.specs.Internal.Reading.{whole_operand, all_operations, bracket}
+use Rattle.lalrpop_re.specs.Internal.Views.{text, unread, HasRuns, HasMembers}
+use Rattle.lalrpop_re.proofs.bracket.+bracket.Given as goal
+
+-- each bracket takes one of the levels that are left
+abbrev pub decreases-parse_operands : goal.decreases-parse_operands
+decreases-parse_operands l = 8 * l.room + 4
+
+abbrev pub decreases-parse_operations : goal.decreases-parse_operations
+decreases-parse_operations l = 8 * l.room + 3
+
+abbrev pub decreases-parse_operand : goal.decreases-parse_operand
+decreases-parse_operand l = 8 * l.room + 2
+
+abbrev pub decreases-parse_item : goal.decreases-parse_item
+decreases-parse_item l = 8 * l.room + 1
+
+abbrev pub decreases-parse_bracket : goal.decreases-parse_bracket
+decreases-parse_bracket l = 8 * l.room
+
+abbrev pub decreases-parse_enclosed : goal.decreases-parse_enclosed
+decreases-parse_enclosed l = 8 * l.room + 5
+
+abbrev pub invariant-parse_operations-loop-cursor : goal.invariant-parse_operations-loop-cursor
+invariant-parse_operations-loop-cursor l = record {
+  value : (s : Set) → HasRuns l.fn.left.class s
+      → (now : Set) × HasRuns l.class now
+      × (all_operations l.cursor.flags (bracket l.cursor.flags l.room) (record { set = now; depth = l.depth; rest = text l.cursor })
+      ≡ all_operations l.fn.cursor.flags (bracket l.fn.cursor.flags l.room) (record { set = s; depth = l.fn.left.depth; rest = text l.fn.cursor }));
+  flags : l.cursor.flags ≡ l.fn.cursor.flags;
+  moves : unread l.cursor ≤ unread l.fn.cursor;
+  deep : l.depth ≤ l.room;
+}
+
+abbrev pub decreases-parse_operations-loop-cursor : goal.decreases-parse_operations-loop-cursor
+decreases-parse_operations-loop-cursor l = unread l.cursor
+
+abbrev pub invariant-parse_operand-loop-cursor : goal.invariant-parse_operand-loop-cursor
+invariant-parse_operand-loop-cursor l = record {
+  value : (sets : List Set) × HasMembers l.ranges.items (union_all sets)
+      × (whole_operand l.cursor.flags (bracket l.cursor.flags l.room) (record { sets = sets; depth = l.depth; rest = text l.cursor })
+      ≡ whole_operand l.fn.cursor.flags (bracket l.fn.cursor.flags l.room) (record { sets = leaves l.fn.cursor.flags (option_to_list l.fn.lead); depth = 0; rest = text l.fn.cursor }));
+  flags : l.cursor.flags ≡ l.fn.cursor.flags;
+  moves : unread l.cursor ≤ unread l.fn.cursor;
+  deep : l.depth ≤ l.room;
+}
+
+abbrev pub decreases-parse_operand-loop-cursor : goal.decreases-parse_operand-loop-cursor
+decreases-parse_operand-loop-cursor l = unread l.cursor

@@ -1,7 +1,0 @@
-use Rattle.lalrpop_re.specs.Range.{IsByte, next_byte}
-use Rattle.lalrpop_re.proofs.Joining.{IsJoining}
-use Rattle.lalrpop_re.proofs.class.bytes.join_bytes.Given as goal
-
-abbrev pub invariant-loop-range : goal.invariant-loop-range
-invariant-loop-range l =
-    IsJoining next_byte IsByte (record { start = l.initial.start; end = l.initial.end }) l.rest l.range-index l.runs.items (record { start = l.start; end = l.end })

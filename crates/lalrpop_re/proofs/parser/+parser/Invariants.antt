@@ -1,0 +1,44 @@
+use Rattle.std.proofs.Common.{◌≡◌, ◌≤◌, ◌+◌, ◌*◌}
+use Rattle.lalrpop_re.specs.Internal.Reading.{whole_row, all_branches, begin, inside}
+use Rattle.lalrpop_re.specs.Internal.Views.{text, unread}
+use Rattle.lalrpop_re.specs.Internal.Parts.{line}
+use Rattle.lalrpop_re.proofs.parser.+parser.Given as goal
+
+-- each group takes one of the levels that are left
+abbrev pub decreases-parse_expression : goal.decreases-parse_expression
+decreases-parse_expression l = 8 * l.room + 5
+
+abbrev pub decreases-parse_branches : goal.decreases-parse_branches
+decreases-parse_branches l = 8 * l.room + 4
+
+abbrev pub decreases-parse_row : goal.decreases-parse_row
+decreases-parse_row l = 8 * l.room + 3
+
+abbrev pub decreases-parse_step : goal.decreases-parse_step
+decreases-parse_step l = 8 * l.room + 2
+
+abbrev pub decreases-parse_parenthesis : goal.decreases-parse_parenthesis
+decreases-parse_parenthesis l = 8 * l.room + 1
+
+abbrev pub decreases-parse_enclosed : goal.decreases-parse_enclosed
+decreases-parse_enclosed l = 8 * l.room
+
+abbrev pub invariant-parse_row-loop-cursor : goal.invariant-parse_row-loop-cursor
+invariant-parse_row-loop-cursor l = record {
+  value : whole_row l.room (inside l.room) (line l.row l.cursor) ≡ whole_row l.room (inside l.room) (begin l.fn.cursor.flags (text l.fn.cursor));
+  moves : unread l.cursor ≤ unread l.fn.cursor;
+  deep : l.row.depth ≤ l.room;
+}
+
+abbrev pub decreases-parse_row-loop-cursor : goal.decreases-parse_row-loop-cursor
+decreases-parse_row-loop-cursor l = unread l.cursor
+
+abbrev pub invariant-parse_branches-loop-branches : goal.invariant-parse_branches-loop-branches
+invariant-parse_branches-loop-branches l = record {
+  value : all_branches l.room (inside l.room) (line l.branches l.cursor) ≡ all_branches l.room (inside l.room) (begin l.fn.cursor.flags (text l.fn.cursor));
+  moves : unread l.cursor ≤ unread l.fn.cursor;
+  deep : l.branches.depth ≤ l.room;
+}
+
+abbrev pub decreases-parse_branches-loop-branches : goal.decreases-parse_branches-loop-branches
+decreases-parse_branches-loop-branches l = unread l.cursor

@@ -1,0 +1,10 @@
+use Rattle.std.proofs.Common.{arith, ap}
+use Rattle.lalrpop_hir.specs.Tree.{depth}
+use Rattle.lalrpop_hir.specs.TreeFalls.{depth-le-greatest}
+use Rattle.lalrpop_re.proofs.pattern_tests.+show.Goals as goal
+
+-- a tree of a list is at most as deep as the deepest
+pub show_all-show-requires : goal.show_all-show-requires
+show_all-show-requires t c =
+    let less = depth-le-greatest _ c.loop-i.i c.index-subs-i.result c.loop-i-test.true in
+    omega (arith, less, ap depth c.index-subs-i.is)

@@ -1,0 +1,11 @@
+-- The text of a pattern in which each character stands for itself.
+use Rattle.std.specs.Prelude.{ℕ, Bool, List, [], ◌∷◌, if◌then◌else◌, codes}
+use Rattle.lalrpop_re.specs.Text.{Text, ◌▸◌, is_one_of}
+
+abbrev pub is_escaped : ℕ → Bool
+is_escaped c = is_one_of "\\.+*?()|[]{}^$#&-~" c
+
+-- each character, with a backslash before it where it is one of these
+unfoldable pub escaped : List ℕ → Text
+escaped [] = []
+escaped (c ∷ cs) = if is_escaped c then codes "\\" ▸ c ∷ escaped cs else c ∷ escaped cs

@@ -1,0 +1,47 @@
+-- The names of groups.
+use Rattle.std.specs.Prelude.{ℕ, Bool, true, false, not, ◌&&◌, ◌||◌, List, [], ◌∷◌, ◌++◌, Option, Some, None, bytes_eq}
+use Rattle.std.specs.List.{list_all, list_any}
+use Rattle.unicode.specs.Binary.{is_alphabetic}
+use Rattle.unicode.specs.GeneralCategory.{general_category}
+use Rattle.unicode.specs.GeneralCategoryGroup.{in_group}
+use Rattle.unicode.specs.declared.properties.GeneralCategoryGroup.TheVariants.{Number}
+use Rattle.lalrpop_hir.specs.Tree.{Tree, empty, literal, class, look, repetition, capture, concat, alternation, Trees, none, also}
+use Rattle.lalrpop_re.specs.Text.{is_one_of}
+
+-- `_` or an Alphabetic character
+abbrev pub begins_name : ℕ → Bool
+begins_name c = is_one_of "_" c || is_alphabetic c
+
+-- these, and characters of the general categories Nd, Nl and No, which are those of the group N, and `.`, `[`, `]`
+abbrev pub continues_name : ℕ → Bool
+continues_name c = begins_name c || in_group Number (general_category c) || is_one_of ".[]" c
+
+abbrev pub is_name : List ℕ → Bool
+is_name [] = false
+is_name (c ∷ cs) = begins_name c && list_all continues_name cs
+
+-- ---- no name stands twice in a pattern
+
+abbrev pub name_of : Option (List ℕ) → List (List ℕ)
+name_of None = []
+name_of (Some name) = name ∷ []
+
+-- the names of a tree's groups, from left to right
+unfoldable mutual
+  pub names : Tree → List (List ℕ)
+  names empty = []
+  names (literal w) = []
+  names (class c) = []
+  names (look l) = []
+  names (repetition min max greedy sub) = names sub
+  names (capture name sub) = name_of name ++ names sub
+  names (concat parts) = all_names parts
+  names (alternation parts) = all_names parts
+
+  pub all_names : Trees → List (List ℕ)
+  all_names none = []
+  all_names (also t ts) = names t ++ all_names ts
+
+abbrev pub are_distinct : List (List ℕ) → Bool
+are_distinct [] = true
+are_distinct (n ∷ ns) = not (list_any (bytes_eq n) ns) && are_distinct ns

@@ -1,0 +1,6 @@
+pub mod Reading
+pub mod Views
+pub mod Sets
+pub mod Signs
+pub mod Items
+pub mod Parts

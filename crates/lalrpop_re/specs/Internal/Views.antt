@@ -1,0 +1,78 @@
+-- How the parser's values stand to those of the grammar.
+use Rattle.std.specs.Prelude.{◌≡◌, ◌↔◌, ℕ, true, List, length, drop, Option, Some, None, Result, Ok, Err, string_bytes}
+use Rattle.lalrpop_hir.specs.Range.{Range, IsScalar, Covered, IsCanon}
+use Rattle.lalrpop_re.specs.declared.error.RegexError.{RegexError}
+use Rattle.lalrpop_re.specs.declared.error.RegexError.TheVariants.{Syntax, OutOfMemory}
+use Rattle.lalrpop_re.specs.declared.cursor.Cursor.{Cursor}
+use Rattle.lalrpop_re.specs.declared.escape_sequence.EscapedPart.{EscapedPart}
+use Rattle.lalrpop_re.specs.declared.escape_sequence.EscapedPart.TheVariants as code
+use Rattle.lalrpop_re.specs.declared.opening.GroupOpening.{GroupOpening}
+use Rattle.lalrpop_re.specs.declared.opening.GroupOpening.TheVariants.{Plain, Named, Flagged, Directive}
+use Rattle.lalrpop_re.specs.declared.bracket.BracketOperator.{BracketOperator}
+use Rattle.lalrpop_re.specs.declared.bracket.BracketOperator.TheVariants as operator
+use Rattle.lalrpop_re.specs.Text.{Text}
+use Rattle.lalrpop_re.specs.CharacterSet.{Set}
+use Rattle.lalrpop_re.specs.Escape.{Escaped, character, set, assertion}
+use Rattle.lalrpop_re.specs.Bracket.{SetOperator, Intersection, Difference, SymmetricDifference}
+use Rattle.lalrpop_re.specs.Internal.Reading.{Opened, a_plain_group, a_named_group, a_flagged_group, a_directive_to}
+
+unfoldable pub text_from : ℕ → Text → Text
+text_from = drop
+
+-- the characters that are still to read
+abbrev pub text : Cursor → Text
+text c = text_from c.position c.chars.items
+
+abbrev pub unread : Cursor → ℕ
+unread c = length (text c)
+
+-- ---- sets
+
+-- the members of a set, as a fact
+abbrev pub Members : Set → ℕ → Type 0
+Members s c = s c ≡ true
+
+-- the ranges cover just the scalar values of the set, in any order
+abbrev pub HasMembers : List Range → Set → Type 0
+HasMembers rs s = (c : ℕ) → IsScalar c → Members s c ↔ Covered rs c
+
+-- the ranges are the maximal runs of the set
+abbrev pub HasRuns : List Range → Set → Type 0
+HasRuns rs s = IsCanon (Members s) rs
+
+-- ---- parts
+
+-- what an escape stands for
+abbrev pub StandsForEscaped : EscapedPart → Escaped → Type 0
+StandsForEscaped (code.Character c) (character d) = c ≡ d
+StandsForEscaped (code.Set class negated) (set s complemented) = HasRuns class s × (negated ≡ complemented)
+StandsForEscaped (code.Assertion l) (assertion m) = l ≡ m
+StandsForEscaped _ _ = ⊥
+
+abbrev pub opened_view : GroupOpening → Opened
+opened_view Plain = a_plain_group
+opened_view (Named name) = a_named_group (string_bytes name)
+opened_view (Flagged flags) = a_flagged_group flags
+opened_view (Directive flags) = a_directive_to flags
+
+abbrev pub operator_view : BracketOperator → SetOperator
+operator_view operator.Intersection = Intersection
+operator_view operator.Difference = Difference
+operator_view operator.SymmetricDifference = SymmetricDifference
+
+-- ---- answers
+
+-- a refusal: for memory, or since the text has no reading
+abbrev pub Refuses : {B : Type 0} → RegexError → Option B → Type 0
+Refuses (Syntax position kind) reading = reading ≡ None
+Refuses OutOfMemory reading = Unit {0}
+
+-- what a function returned, seen by view, is the reading, memory aside
+abbrev pub Gives : {A B : Type 0} → (A → B) → Result A RegexError → Option B → Type 0
+Gives view (Ok a) reading = reading ≡ Some (view a)
+Gives view (Err e) reading = Refuses e reading
+
+-- what a function returned stands for the reading, memory aside
+abbrev pub Finds : {A B : Type 0} → (A → B → Type 0) → Result A RegexError → Option B → Type 0
+Finds {A = A} {B = B} StandsFor (Ok a) reading = (b : B) × (reading ≡ Some b) × StandsFor a b
+Finds StandsFor (Err e) reading = Refuses e reading

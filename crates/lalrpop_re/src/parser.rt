@@ -1,0 +1,442 @@
+//! Patterns: groups, alternations, concatenations and repetitions.
+ghost use Rattle.std.specs.Prelude.{◌≡◌, ◌+◌, ◌-◌, ◌^◌, ◌<◌, ◌≤◌, suc, max, drop, Bool, true, false, List, [], ◌∷◌, ◌++◌, length, option_map, string_bytes, IfSome, IfOk, IfErr, OnOk, IsTrue, if◌then◌else◌};
+ghost use Rattle.std.specs.Str.{chars, IsCharBoundary};
+ghost use Rattle.lalrpop_hir.specs.Counts.{AreOrdered};
+ghost use Rattle.lalrpop_hir.specs.Tree.{Tree, repetition, capture};
+ghost use Rattle.lalrpop_re.specs.Text.{begins};
+ghost use Rattle.lalrpop_re.specs.Pattern.{Pattern, most_levels, is_special, escaped_tree, ends_branch, branch, choice};
+ghost use Rattle.lalrpop_re.specs.Escape.{Escaped};
+ghost use Rattle.lalrpop_re.specs.Refusal.{HasNoTree, PointsInto};
+ghost use Rattle.lalrpop_re.specs.Internal.Reading.{is_at_operator, all_operators, atom, piece, enclosed, whole_row, all_branches, begin, inside, read};
+ghost use Rattle.lalrpop_re.specs.Internal.Views.{text, unread, Gives, StandsForEscaped};
+ghost use Rattle.lalrpop_re.specs.Internal.Parts.{group_or_directive, step, escaped_part, bracket_part, part, line, whole, step_of};
+
+use crate::bracket::{BracketSet, parse_bracket};
+use crate::cursor::{Cursor, error_at};
+use crate::error::{RegexError, SyntaxKind};
+use crate::escape_sequence::{EscapedPart, parse_escape};
+use crate::flags::Flags;
+use crate::names::repeated_name;
+use crate::opening::{GroupOpening, parse_opening};
+use crate::operator::{RepetitionOperator, is_at_operator, parse_operator};
+use crate::sets::{leaf_of_set, tree_of_character, tree_of_class, tree_of_dot};
+use lalrpop_hir::{Capture, Hir, Look, Regex, Repetition};
+use std::alloc::{AllocError, Global};
+
+/// The most levels that a place of a pattern can be inside.
+const NEST_LIMIT: u32 = 250;
+
+/// A tree, and how deep its syntax is nested.
+#[derive(Drop)]
+struct Nested {
+    tree: Hir,
+    depth: u32,
+}
+
+/// Trees side by side, and the depth of the deepest.
+#[derive(Drop)]
+struct Row {
+    trees: Vec<Hir>,
+    depth: u32,
+}
+
+impl Row {
+    fn new(alloc: Global) -> Row
+        ensures trees { result.trees.items ≡ [] }
+        ensures depth { result.depth ≡ 0 }
+    {
+        Row {
+            trees: Vec::new(alloc),
+            depth: 0,
+        }
+    }
+
+    fn push(&mut self, piece: Nested) -> Result<(), AllocError>
+        ensures trees { OnOk result (self.new.trees.items ≡ self.old.trees.items ++ piece.tree ∷ []) }
+        ensures depth { OnOk result (self.new.depth ≡ max self.old.depth piece.depth) }
+    {
+        let Nested { tree, depth } = piece;
+        self.trees.push(tree)?;
+        self.depth = self.depth.max(depth);
+        Ok(())
+    }
+}
+
+/// The tree of a pattern, by the grammar that the files of `specs/` give.
+///
+/// # Errors
+///
+/// `RegexError::Syntax` where the text is no pattern, with what is wrong and where, in bytes. `RegexError::OutOfMemory` where
+/// a request for memory was refused.
+pub fn parse_regex(alloc: Global, s: &str) -> Result<Regex, RegexError>
+    ensures tree { IfOk result (λ t. Pattern (chars s.now) t) }
+    ensures only { IfOk result (λ t. (other : Tree) → Pattern (chars s.now) other → other ≡ t) }
+    ensures none { IfErr result (HasNoTree (chars s.now)) }
+    ensures position { IfErr result (PointsInto s.now) }
+{
+    match parse_whole(alloc, s) {
+        Ok(tree) => Ok(tree),
+        Err(RegexError::Syntax { position, kind }) => {
+            let position = byte_offset(s, position);
+            Err(RegexError::Syntax { position, kind })
+        }
+        Err(RegexError::OutOfMemory) => Err(RegexError::OutOfMemory),
+    }
+}
+
+/// How many bytes the first characters take, or all where there are fewer.
+fn byte_offset(s: &str, characters: usize) -> usize
+    ensures { IsCharBoundary s.now result }
+{
+    match s.char_indices().nth(characters) {
+        Some((offset, _)) => offset,
+        None => s.len(),
+    }
+}
+
+/// Reads a pattern. A refusal's position counts characters.
+#[tactic(auto, unfolding(crate::specs::Internal::Reading::read))]
+fn parse_whole(alloc: Global, pattern: &str) -> Result<Hir, RegexError>
+    ensures { Gives (λ t. t) result (read most_levels (chars pattern.now)) }
+{
+    let mut cursor = Cursor::new(alloc, pattern)?;
+    let Nested { tree, .. } = parse_expression(&mut cursor, NEST_LIMIT)?;
+    if !cursor.rest().is_empty() {
+        return Err(cursor.error(SyntaxKind::UnopenedGroup));
+    }
+    if let Some(number) = repeated_name(alloc, &tree)? {
+        return Err(error_at(cursor.named_place(number), SyntaxKind::GroupName));
+    }
+    Ok(tree)
+}
+
+/// Reads an expression, where so many levels are left.
+#[cycle(parser)]
+#[tactic(auto, unfolding(crate::specs::Internal::Reading::inside, crate::specs::Internal::Reading::expression_with))]
+fn parse_expression(cursor: &mut Cursor, room: u32) -> Result<Nested, RegexError>
+    ensures value { Gives (λ p. whole p cursor.new) result (inside (suc room) cursor.old.flags (text cursor.old)) }
+    ensures moves { OnOk result (unread cursor.new ≤ unread cursor.old) }
+    ensures deep { IfOk result (λ p. p.depth ≤ room) }
+{
+    let Row { trees, depth } = parse_branches(cursor, room)?;
+    let tree = choice_of(trees);
+    Ok(Nested { tree, depth })
+}
+
+/// Reads the branches up to the end of the group or of the pattern.
+#[cycle(parser)]
+fn parse_branches(cursor: &mut Cursor, room: u32) -> Result<Row, RegexError>
+    ensures value { Gives (λ r. line r cursor.new) result (all_branches room (inside room) (begin cursor.old.flags (text cursor.old))) }
+    ensures moves { OnOk result (unread cursor.new ≤ unread cursor.old) }
+    ensures deep { IfOk result (λ r. r.depth ≤ room) }
+{
+    let mut branches = Row::new(cursor.alloc());
+    loop {
+        let Row { trees, depth } = parse_row(cursor, room)?;
+        let tree = branch_of(trees);
+        branches.push(Nested { tree, depth })?;
+        if !cursor.begins(&['|']) {
+            return Ok(branches);
+        }
+        cursor.advance(1);
+    }
+}
+
+/// Reads the pieces and the directives of one branch.
+#[cycle(parser)]
+fn parse_row(cursor: &mut Cursor, room: u32) -> Result<Row, RegexError>
+    ensures value { Gives (λ r. line r cursor.new) result (whole_row room (inside room) (begin cursor.old.flags (text cursor.old))) }
+    ensures moves { OnOk result (unread cursor.new ≤ unread cursor.old) }
+    ensures deep { IfOk result (λ r. r.depth ≤ room) }
+{
+    let mut row = Row::new(cursor.alloc());
+    while !ends_branch(cursor) {
+        let Some(piece) = parse_step(cursor, room)? else {
+            continue;
+        };
+        row.push(piece)?;
+    }
+    Ok(row)
+}
+
+fn ends_branch(cursor: &Cursor) -> bool
+    ensures { result ≡ ends_branch (text cursor.now) }
+{
+    match cursor.peek() {
+        Some(c) => c == '|' || c == ')',
+        None => true,
+    }
+}
+
+/// Reads a piece. `None` stands for a directive, whose flags hold from there on.
+#[cycle(parser)]
+#[tactic(auto, unfolding(crate::specs::Internal::Parts::step))]
+fn parse_step(cursor: &mut Cursor, room: u32) -> Result<Option<Nested>, RegexError>
+    ensures value { Gives (λ p. step_of p cursor.new) result (step room (inside room) cursor.old.flags (text cursor.old)) }
+    ensures moves { OnOk result (unread cursor.new < unread cursor.old) }
+    ensures deep { IfOk result (λ p. IfSome p (λ n. n.depth ≤ room)) }
+{
+    if !cursor.begins(&['(']) {
+        return Ok(Some(parse_piece(cursor, room)?));
+    }
+    match parse_parenthesis(cursor, room)? {
+        Some(group) => Ok(Some(parse_operators(cursor, room, group)?)),
+        None => Ok(None),
+    }
+}
+
+/// Reads a group or a directive, for which `None` stands.
+#[cycle(parser)]
+#[tactic(auto, unfolding(crate::specs::Internal::Parts::group_or_directive, crate::specs::Internal::Parts::group_or_directive_of))]
+fn parse_parenthesis(cursor: &mut Cursor, room: u32) -> Result<Option<Nested>, RegexError>
+    requires { IsTrue (begins "(" (text cursor.old)) }
+    ensures value { Gives (λ p. step_of p cursor.new) result (group_or_directive room (inside room) cursor.old.flags (drop 1 (text cursor.old))) }
+    ensures moves { OnOk result (unread cursor.new < unread cursor.old) }
+    ensures deep { IfOk result (λ p. IfSome p (λ n. n.depth ≤ room)) }
+{
+    let start = cursor.position();
+    cursor.advance(1);
+    match parse_opening(cursor)? {
+        GroupOpening::Plain => {
+            let group = parse_enclosed(cursor, room, cursor.flags(), start)?;
+            Ok(Some(captured(cursor.alloc(), None, group)?))
+        }
+        GroupOpening::Named(name) => {
+            cursor.note_name(start)?;
+            let group = parse_enclosed(cursor, room, cursor.flags(), start)?;
+            Ok(Some(captured(cursor.alloc(), Some(name), group)?))
+        }
+        GroupOpening::Flagged(flags) => Ok(Some(parse_enclosed(cursor, room, flags, start)?)),
+        GroupOpening::Directive(flags) => {
+            cursor.set_flags(flags);
+            Ok(None)
+        }
+    }
+}
+
+/// Reads the expression of a group under the flags, and the `)`. The group began at `start`.
+#[cycle(parser)]
+#[tactic(auto, unfolding(crate::specs::Internal::Reading::enclosed))]
+fn parse_enclosed(
+    cursor: &mut Cursor,
+    room: u32,
+    flags: Flags,
+    start: usize,
+) -> Result<Nested, RegexError>
+    ensures value { Gives (λ p. part p (text cursor.new)) result (enclosed room (inside room) (λ e. e) flags (text cursor.old)) }
+    ensures flags { OnOk result (cursor.new.flags ≡ cursor.old.flags) }
+    ensures moves { OnOk result (unread cursor.new ≤ unread cursor.old) }
+    ensures deep { IfOk result (λ p. p.depth ≤ room) }
+{
+    if room == 0 {
+        return Err(error_at(start, SyntaxKind::NestLimitExceeded));
+    }
+    let outside = cursor.flags();
+    cursor.set_flags(flags);
+    let Nested { tree, depth } = parse_expression(cursor, room - 1)?;
+    if !cursor.begins(&[')']) {
+        return Err(error_at(start, SyntaxKind::UnclosedGroup));
+    }
+    cursor.advance(1);
+    cursor.set_flags(outside);
+    Ok(Nested {
+        tree,
+        depth: depth + 1,
+    })
+}
+
+/// The group as one that captures.
+fn captured(alloc: Global, name: Option<String>, group: Nested) -> Result<Nested, AllocError>
+    ensures { IfOk result (λ p. (p.tree ≡ capture (option_map string_bytes name) group.tree) × (p.depth ≡ group.depth)) }
+{
+    let Nested { tree, depth } = group;
+    let sub = Box::new(alloc, tree)?;
+    Ok(Nested {
+        tree: Hir::capture(Capture::new(name, sub)),
+        depth,
+    })
+}
+
+/// Reads an atom that is no group, and its operators.
+#[tactic(auto, unfolding(crate::specs::Internal::Reading::piece))]
+fn parse_piece(cursor: &mut Cursor, room: u32) -> Result<Nested, RegexError>
+    requires { begins "(" (text cursor.old) ≡ false }
+    ensures value { Gives (λ p. part p (text cursor.new)) result (piece room (inside room) cursor.old.flags (text cursor.old)) }
+    ensures flags { cursor.new.flags ≡ cursor.old.flags }
+    ensures moves { OnOk result (unread cursor.new < unread cursor.old) }
+    ensures deep { IfOk result (λ p. p.depth ≤ room) }
+{
+    let atom = parse_atom(cursor, room)?;
+    parse_operators(cursor, room, atom)
+}
+
+/// Reads an atom that is no group.
+#[tactic(auto, unfolding(crate::specs::Internal::Reading::atom, crate::specs::Internal::Parts::escaped_part, crate::specs::Internal::Parts::bracket_part))]
+fn parse_atom(cursor: &mut Cursor, room: u32) -> Result<Nested, RegexError>
+    requires { begins "(" (text cursor.old) ≡ false }
+    ensures value { Gives (λ p. part p (text cursor.new)) result (atom room (inside room) cursor.old.flags (text cursor.old)) }
+    ensures flags { cursor.new.flags ≡ cursor.old.flags }
+    ensures moves { OnOk result (unread cursor.new < unread cursor.old) }
+    ensures deep { IfOk result (λ p. p.depth ≤ room) }
+{
+    let Some(first) = cursor.peek() else {
+        return Err(cursor.error(SyntaxKind::RepetitionMissing));
+    };
+    let flags = cursor.flags();
+    match first {
+        '\\' => {
+            cursor.advance(1);
+            parse_escaped(cursor)
+        }
+        '[' => parse_class(cursor, room),
+        '.' => Ok(single(cursor, tree_of_dot(cursor.alloc(), flags)?)),
+        '^' => Ok(single(cursor, Hir::look(line_start(flags)))),
+        '$' => Ok(single(cursor, Hir::look(line_end(flags)))),
+        _ => {
+            if is_special(first) {
+                return Err(cursor.error(SyntaxKind::RepetitionMissing));
+            }
+            Ok(single(cursor, tree_of_character(cursor.alloc(), flags, first)?))
+        }
+    }
+}
+
+fn is_special(c: char) -> bool
+    ensures { result ≡ is_special c }
+{
+    matches!(
+        c,
+        '\\' | '.' | '+' | '*' | '?' | '(' | ')' | '|' | '[' | '{' | '^' | '$'
+    )
+}
+
+/// What `^` asks.
+fn line_start(flags: Flags) -> Look
+    ensures { result ≡ (if flags.multi_line then Look.StartLF else Look.Start) }
+{
+    if flags.multi_line {
+        Look::StartLF
+    } else {
+        Look::Start
+    }
+}
+
+/// What `$` asks.
+fn line_end(flags: Flags) -> Look
+    ensures { result ≡ (if flags.multi_line then Look.EndLF else Look.End) }
+{
+    if flags.multi_line {
+        Look::EndLF
+    } else {
+        Look::End
+    }
+}
+
+/// Passes over the one character that the tree stands for.
+fn single(cursor: &mut Cursor, tree: Hir) -> Nested
+    requires { 0 < unread cursor.old }
+    ensures tree { result.tree ≡ tree }
+    ensures depth { result.depth ≡ 0 }
+    ensures text { text cursor.new ≡ drop 1 (text cursor.old) }
+    ensures flags { cursor.new.flags ≡ cursor.old.flags }
+{
+    cursor.advance(1);
+    Nested { tree, depth: 0 }
+}
+
+/// Reads an escape behind its backslash.
+#[tactic(auto, unfolding(crate::specs::Internal::Parts::escaped_part))]
+fn parse_escaped(cursor: &mut Cursor) -> Result<Nested, RegexError>
+    ensures value { Gives (λ p. part p (text cursor.new)) result (escaped_part cursor.old.flags (text cursor.old)) }
+    ensures flags { cursor.new.flags ≡ cursor.old.flags }
+    ensures moves { OnOk result (unread cursor.new < unread cursor.old) }
+    ensures deep { IfOk result (λ p. p.depth ≡ 0) }
+{
+    let escaped = parse_escape(cursor)?;
+    let tree = tree_of_escape(cursor.alloc(), cursor.flags(), escaped)?;
+    Ok(Nested { tree, depth: 0 })
+}
+
+fn tree_of_escape(alloc: Global, flags: Flags, escaped: EscapedPart) -> Result<Hir, AllocError>
+    ensures { IfOk result (λ t. (e : Escaped) → StandsForEscaped escaped e → t ≡ escaped_tree flags e) }
+{
+    match escaped {
+        EscapedPart::Character(c) => tree_of_character(alloc, flags, c),
+        EscapedPart::Set { class, negated } => {
+            let leaf = leaf_of_set(alloc, flags, class, negated)?;
+            tree_of_class(leaf)
+        }
+        EscapedPart::Assertion(look) => Ok(Hir::look(look)),
+    }
+}
+
+/// Reads a bracket.
+#[tactic(auto, unfolding(crate::specs::Internal::Parts::bracket_part))]
+fn parse_class(cursor: &mut Cursor, room: u32) -> Result<Nested, RegexError>
+    ensures value { Gives (λ p. part p (text cursor.new)) result (bracket_part room cursor.old.flags (text cursor.old)) }
+    ensures flags { cursor.new.flags ≡ cursor.old.flags }
+    ensures moves { OnOk result (unread cursor.new < unread cursor.old) }
+    ensures deep { IfOk result (λ p. p.depth ≤ room) }
+{
+    let BracketSet { class, depth } = parse_bracket(cursor, room)?;
+    let tree = tree_of_class(class)?;
+    Ok(Nested { tree, depth })
+}
+
+/// Puts the atom under each operator that follows.
+fn parse_operators(cursor: &mut Cursor, room: u32, atom: Nested) -> Result<Nested, RegexError>
+    requires { atom.depth ≤ room }
+    ensures value { Gives (λ p. part p (text cursor.new)) result (all_operators room cursor.old.flags (part atom (text cursor.old))) }
+    ensures flags { cursor.new.flags ≡ cursor.old.flags }
+    ensures moves { OnOk result (unread cursor.new ≤ unread cursor.old) }
+    ensures deep { IfOk result (λ p. p.depth ≤ room) }
+{
+    let mut piece = atom;
+    while is_at_operator(cursor) {
+        if piece.depth >= room {
+            return Err(cursor.error(SyntaxKind::NestLimitExceeded));
+        }
+        let operator = parse_operator(cursor)?;
+        piece = repeated(cursor.alloc(), operator, piece)?;
+    }
+    Ok(piece)
+}
+
+/// The piece under the operator.
+fn repeated(
+    alloc: Global,
+    operator: RepetitionOperator,
+    piece: Nested,
+) -> Result<Nested, AllocError>
+    requires ordered { AreOrdered operator.min operator.max }
+    requires flat { piece.depth < 2 ^ 32 - 1 }
+    ensures { IfOk result (λ p. (p.tree ≡ repetition operator.min operator.max operator.greedy piece.tree) × (p.depth ≡ piece.depth + 1)) }
+{
+    let RepetitionOperator { min, max, greedy } = operator;
+    let Nested { tree, depth } = piece;
+    let sub = Box::new(alloc, tree)?;
+    Ok(Nested {
+        tree: Hir::repetition(Repetition::new(min, max, greedy, sub)),
+        depth: depth + 1,
+    })
+}
+
+/// One tree for a branch of these pieces.
+fn branch_of(mut pieces: Vec<Hir>) -> Hir
+    ensures { result ≡ branch pieces.items }
+{
+    if pieces.len() > 1 {
+        return Hir::concat(pieces);
+    }
+    pieces.pop().unwrap_or(Hir::empty())
+}
+
+/// One tree for an expression of these branches.
+fn choice_of(mut branches: Vec<Hir>) -> Hir
+    ensures { result ≡ choice branches.items }
+{
+    if branches.len() > 1 {
+        return Hir::alternation(branches);
+    }
+    branches.pop().unwrap_or(Hir::empty())
+}

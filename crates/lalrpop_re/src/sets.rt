@@ -1,0 +1,120 @@
+//! Sets of characters: folding, sets by name, and the set operators of brackets.
+ghost use Rattle.std.specs.Prelude.{◌≡◌, ◌≤◌, IfOk};
+ghost use Rattle.lalrpop_re.specs.CharacterSet.{Set, range, set_tree};
+ghost use Rattle.lalrpop_re.specs.Bracket.{leaf, leaf_or_complement, apply};
+ghost use Rattle.lalrpop_re.specs.Pattern.{literal_tree, dot_tree, is_one_member};
+ghost use Rattle.lalrpop_re.specs.Internal.Views.{HasRuns, operator_view};
+
+mod folding;
+mod named;
+mod posix;
+#[cfg(test)]
+mod tests;
+
+use crate::bracket::BracketOperator;
+use crate::flags::Flags;
+use folding::fold;
+use lalrpop_hir::{Class, ClassUnicode, ClassUnicodeRange, Hir};
+pub(crate) use named::{digits, named_set, spaces, words};
+pub(crate) use posix::posix_class;
+use std::alloc::{AllocError, Global};
+
+/// The set of a leaf of characters from `low` to `high`: under the flag `i` with all their foldings.
+pub(crate) fn leaf_of_range(
+    alloc: Global,
+    flags: Flags,
+    low: char,
+    high: char,
+) -> Result<ClassUnicode, AllocError>
+    requires { low ≤ high }
+    ensures { IfOk result (λ r. HasRuns r (leaf flags (range low high))) }
+{
+    leaf_of_set(alloc, flags, range_class(alloc, low, high)?, false)
+}
+
+/// The set of a leaf that is the given set, folded under the flag `i`, or all other characters.
+pub(crate) fn leaf_of_set(
+    alloc: Global,
+    flags: Flags,
+    class: ClassUnicode,
+    negated: bool,
+) -> Result<ClassUnicode, AllocError>
+    ensures { IfOk result (λ r. (s : Set) → HasRuns class s → HasRuns r (leaf_or_complement flags s negated)) }
+{
+    let leaf = if flags.case_insensitive {
+        fold(alloc, &class)?
+    } else {
+        class
+    };
+    if negated {
+        leaf.complement(alloc)
+    } else {
+        Ok(leaf)
+    }
+}
+
+/// The left set and the right one under an operator.
+pub(crate) fn applied(
+    alloc: Global,
+    operator: BracketOperator,
+    left: &ClassUnicode,
+    right: &ClassUnicode,
+) -> Result<ClassUnicode, AllocError>
+    ensures { IfOk result (λ r. (s t : Set) → HasRuns left.now s → HasRuns right.now t → HasRuns r (apply (operator_view operator) s t)) }
+{
+    match operator {
+        BracketOperator::Intersection => left.intersection(alloc, right),
+        BracketOperator::Difference => left.difference(alloc, right),
+        BracketOperator::SymmetricDifference => left.symmetric_difference(alloc, right),
+    }
+}
+
+/// The tree that matches one character of the set.
+pub(crate) fn tree_of_class(class: ClassUnicode) -> Result<Hir, AllocError>
+    ensures { IfOk result (λ t. (s : Set) → HasRuns class s → t ≡ set_tree s) }
+{
+    Ok(Hir::class(Class::Unicode(class)))
+}
+
+/// The tree of a literal character outside brackets: under the flag `i` that of all its foldings.
+pub(crate) fn tree_of_character(alloc: Global, flags: Flags, c: char) -> Result<Hir, AllocError>
+    ensures { IfOk result (λ t. t ≡ literal_tree flags c) }
+{
+    if flags.case_insensitive {
+        let folded = fold(alloc, &range_class(alloc, c, c)?)?;
+        if !is_one_member(&folded) {
+            return tree_of_class(folded);
+        }
+    }
+    let mut bytes = [0; 4];
+    Hir::literal(alloc, c.encode_utf8(&mut bytes))
+}
+
+/// The tree of `.`.
+pub(crate) fn tree_of_dot(alloc: Global, flags: Flags) -> Result<Hir, AllocError>
+    ensures { IfOk result (λ t. t ≡ dot_tree flags) }
+{
+    let left_out = if flags.dot_matches_new_line {
+        ClassUnicode::new(alloc, Vec::new(alloc))?
+    } else {
+        range_class(alloc, '\n', '\n')?
+    };
+    tree_of_class(left_out.complement(alloc)?)
+}
+
+// The characters from `low` to `high`.
+fn range_class(alloc: Global, low: char, high: char) -> Result<ClassUnicode, AllocError>
+    requires { low ≤ high }
+    ensures { IfOk result (λ r. HasRuns r (range low high)) }
+{
+    ClassUnicode::new(alloc, vec![in alloc; ClassUnicodeRange::new(low, high)]?)
+}
+
+fn is_one_member(class: &ClassUnicode) -> bool
+    ensures { result ≡ is_one_member class.now }
+{
+    match class.ranges() {
+        [range] => range.start() == range.end(),
+        _ => false,
+    }
+}

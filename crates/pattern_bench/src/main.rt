@@ -1,0 +1,99 @@
+//! A benchmark of the reader of patterns: reads long patterns once and short ones many times, and writes how many parts
+//! or branches it found. An argument picks one of the patterns, so that it can be timed alone.
+#![tactic(auto)]
+
+use lalrpop_re::{Hir, HirKind, RegexError, parse_regex};
+use std::alloc::{AllocError, Global};
+use std::rt::Env;
+use std::{env, io};
+
+/// A pattern, which is a word repeated, and how often it is read.
+struct Row {
+    name: &'static str,
+    word: &'static str,
+    repeated: u32,
+    reads: u32,
+}
+
+const ROWS: [Row; 6] = [
+    Row {
+        name: "letters",
+        word: "a",
+        repeated: 1_000_000,
+        reads: 1,
+    },
+    Row {
+        name: "branches",
+        word: "ab|",
+        repeated: 20_000,
+        reads: 1,
+    },
+    Row {
+        name: "brackets",
+        word: "[a-z0-9_]",
+        repeated: 20_000,
+        reads: 1,
+    },
+    Row {
+        name: "name",
+        word: "[a-zA-Z_][a-zA-Z0-9_]*",
+        repeated: 1,
+        reads: 10_000,
+    },
+    Row {
+        name: "folded",
+        word: "(?i)\\w",
+        repeated: 1,
+        reads: 1_000,
+    },
+    Row {
+        name: "operated",
+        word: "[\\w--\\d&&\\p{Greek}]",
+        repeated: 1,
+        reads: 1_000,
+    },
+];
+
+fn pattern(alloc: Global, row: &Row) -> Result<String, AllocError> {
+    let mut pattern = String::new(alloc);
+    for _ in 0..row.repeated {
+        pattern.push_str(row.word)?;
+    }
+    Ok(pattern)
+}
+
+/// How many parts the tree has.
+fn size(tree: &Hir) -> usize {
+    match tree.kind() {
+        HirKind::Concat(parts) => parts.len(),
+        HirKind::Alternation(parts) => parts.len(),
+        _ => 1,
+    }
+}
+
+/// The size of the tree that the last reading gives.
+fn read(alloc: Global, row: &Row) -> Result<usize, RegexError> {
+    let pattern = pattern(alloc, row)?;
+    let mut found = 0;
+    for _ in 0..row.reads {
+        found = size(&parse_regex(alloc, &pattern)?);
+    }
+    Ok(found)
+}
+
+fn main(rt: HostRuntime) -> io::Result<()> {
+    let chosen = env::args(&rt)?.skip(1).next();
+    for row in &ROWS {
+        if let Some(name) = &chosen {
+            if name.as_str() != row.name {
+                continue;
+            }
+        }
+        let name = row.name;
+        match read(rt.alloc(), row) {
+            Ok(parts) => println!(rt; "{name}: {parts}")?,
+            Err(error) => println!(rt; "{name}: {error}")?,
+        }
+    }
+    Ok(())
+}
