@@ -1,7 +1,7 @@
 -- Brackets that are easy to get wrong, each with the set that it spells, or none.
 use Rattle.std.proofs.Common.{◌≡◌, ℕ, suc, ◌<◌, Bool, true, false, IsTrue, IsFalse, List, [], ◌∷◌, ◌++◌, Option, Some, None, refl, codes, lit<, lit≤, ap, get_or, arith, sym, ◌∙◌}
 use Rattle.lalrpop_re.specs.Text.{Text}
-use Rattle.lalrpop_re.specs.CharacterSet.{Set}
+use Rattle.lalrpop_sets.specs.CharacterSet.{Set}
 use Rattle.lalrpop_re.specs.Escape.{sign}
 use Rattle.lalrpop_re.specs.Bracket.{Posix, a_class, a_complement, NoPosix, Primary, escaped, plain, Stands, a_character, a_set, Hyphens, last, more, Lead, hyphens, closing, none, Item, a_posix, a_bracket, a_primary, a_range, Operand, no_item, item_then, Operands, first, operated, Bracket, a_bracket_of, a_negated_of, Difference, Intersection}
 use Rattle.lalrpop_re.specs.Internal.Reading as reading
@@ -13,7 +13,7 @@ abbrev Spells : List ℕ → (Set → Type 0) → Type 0
 Spells text P = (s : Set) × (d : ℕ) × Bracket no_flags text [] s d × P s
 
 -- a character as an item alone
-alone_at : {c : ℕ} {r : Text} → IsTrue (Rattle.lalrpop_re.specs.Bracket.begins_primary (c ∷ r)) → IsFalse (Rattle.lalrpop_re.specs.Text.is_one_of "\\" c) → IsFalse (Rattle.lalrpop_re.specs.Bracket.begins_range r) → Item no_flags (c ∷ r) r (λ d. Rattle.std.proofs.Common.nat_eq d c) 0
+alone_at : {c : ℕ} {r : Text} → IsTrue (Rattle.lalrpop_re.specs.Bracket.begins_primary (c ∷ r)) → IsFalse (Rattle.lalrpop_sets.specs.CharacterSet.is_one_of "\\" c) → IsFalse (Rattle.lalrpop_re.specs.Bracket.begins_range r) → Item no_flags (c ∷ r) r (λ d. Rattle.std.proofs.Common.nat_eq d c) 0
 alone_at p q n = a_primary p (plain q) n a_character
 
 -- `[+--]`: `+`, and the empty operand taken away

@@ -6,13 +6,14 @@ use Rattle.std.specs.Char.{is_ascii_lowercase}
 use Rattle.std.proofs.lemmas.Bool.{ne_eqb, eqb-true}
 use Rattle.std.proofs.Math.Seq.{take-append_seam, drop-append_seam}
 use Rattle.std.proofs.lemmas.List.{take_all, drop-drop}
-use Rattle.lalrpop_re.specs.Text.{Text, is_one_of, begins}
-use Rattle.lalrpop_re.specs.CharacterSet.{Set, complement, union_all}
+use Rattle.lalrpop_re.specs.Text.{Text, begins}
+use Rattle.lalrpop_sets.specs.CharacterSet.{is_one_of, Set, complement, union_all}
 use Rattle.lalrpop_re.specs.declared.flags.Flags.{Flags}
 use Rattle.lalrpop_re.specs.declared.error.RegexError.{RegexError}
 use Rattle.lalrpop_re.specs.declared.error.RegexError.TheVariants.{Syntax, OutOfMemory}
 use Rattle.lalrpop_re.specs.Escape.{character}
-use Rattle.lalrpop_re.specs.Bracket.{posix_set, SetOperator, apply, ends_operand, leaf_or_complement}
+use Rattle.lalrpop_re.specs.Bracket.{SetOperator, apply, ends_operand, leaf_or_complement}
+use Rattle.lalrpop_sets.specs.PosixSet.{posix_set}
 use Rattle.lalrpop_re.specs.Internal.Reading.{span, posix_named, posix, primary, operator_of, SetPart, Union, simple_item, item_or, item, operand, whole_operand, operations, all_operations, operands, bracket_with, bracket}
 use Rattle.lalrpop_re.specs.Internal.Views.{Refuses}
 use Rattle.lalrpop_re.proofs.Steps.{decided, span_joins}

@@ -7,7 +7,8 @@ use Rattle.std.proofs.lemmas.Bool.Decides.{nat_tests}
 use Rattle.unicode.specs.Binary.{is_white_space}
 use Rattle.unicode.proofs.PropsStdLemmas.{is_white_space-std}
 use Rattle.unicode.proofs.PropsComputing.{ucd_props}
-use Rattle.lalrpop_re.specs.Text.{Text, is_one_of, begins}
+use Rattle.lalrpop_re.specs.Text.{Text, begins}
+use Rattle.lalrpop_sets.specs.CharacterSet.{is_one_of}
 use Rattle.lalrpop_re.specs.declared.flags.Flags.{Flags}
 use Rattle.lalrpop_re.specs.Operator.{decimal, Count, count, Bounds, optional, any_number, one_or_more, exactly, at_least, between, Operator, alone, turned}
 use Rattle.lalrpop_re.specs.Internal.Reading as reading

@@ -6,13 +6,7 @@ mod OpeningLaws
 mod BracketCases
 mod PatternCases
 mod OpeningSteps
-mod CanonLaws
-mod SpanLaws
 mod SetLaws
-mod SetNameLaws
-mod PosixLaws
-mod FoldTable
-mod FoldLaws
 mod Lexemes
 mod ItemLaws
 mod BracketLoops

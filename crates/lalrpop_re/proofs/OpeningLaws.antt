@@ -5,7 +5,8 @@ use Rattle.std.proofs.lemmas.Bool.{lt-ltb, ltb-true, and_parts, eqb-true}
 use Rattle.std.proofs.lemmas.List.{append-nil}
 use Rattle.unicode.proofs.DerivedComputing.{ucd_derived}
 use Rattle.unicode.proofs.CategoryComputing.{ucd_category}
-use Rattle.lalrpop_re.specs.Text.{Text, ◌▸◌, is_one_of, begins}
+use Rattle.lalrpop_re.specs.Text.{Text, ◌▸◌, begins}
+use Rattle.lalrpop_sets.specs.CharacterSet.{is_one_of}
 use Rattle.lalrpop_re.specs.declared.flags.Flags.{Flags}
 use Rattle.lalrpop_re.specs.Flag.{FlagLetters, on, on_and_off, is_distinct, with_flags}
 use Rattle.lalrpop_re.specs.GroupName.{is_name, begins_name, continues_name}

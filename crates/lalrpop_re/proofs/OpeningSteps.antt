@@ -5,7 +5,8 @@ use Rattle.std.specs.List.{list_any, list_all, position_or_len, prefix_len}
 use Rattle.std.proofs.lemmas.Bool.{lt-ltb, and_parts, eqb-true}
 use Rattle.std.proofs.lemmas.List.{append-nil, length-append}
 use Rattle.std.proofs.lemmas.List.Sums.{prefix_len-le-length}
-use Rattle.lalrpop_re.specs.Text.{Text, is_one_of, begins}
+use Rattle.lalrpop_re.specs.Text.{Text, begins}
+use Rattle.lalrpop_sets.specs.CharacterSet.{is_one_of}
 use Rattle.lalrpop_re.specs.declared.flags.Flags.{Flags}
 use Rattle.lalrpop_re.specs.Flag.{FlagLetters, on, on_and_off, is_distinct, with_flags}
 use Rattle.lalrpop_re.specs.GroupName.{is_name, begins_name, continues_name}

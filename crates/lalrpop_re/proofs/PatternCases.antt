@@ -4,7 +4,7 @@ use Rattle.lalrpop_hir.specs.Range.{Range}
 use Rattle.lalrpop_hir.specs.Tree.{Tree, literal, class, unicode, repetition, look, empty, alternation, concat, trees, capture}
 use Rattle.lalrpop_hir.specs.declared.hir.Look.TheVariants.{WordUnicode}
 use Rattle.lalrpop_re.specs.Text.{Text}
-use Rattle.lalrpop_re.specs.CharacterSet.{fold, just, canon}
+use Rattle.lalrpop_sets.specs.CharacterSet.{fold, just, canon}
 use Rattle.lalrpop_re.specs.declared.flags.Flags.{Flags}
 use Rattle.lalrpop_re.specs.Flag.{no_flags, on, on_and_off}
 use Rattle.lalrpop_re.specs.GroupName.{names}

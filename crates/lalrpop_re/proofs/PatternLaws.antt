@@ -2,10 +2,9 @@
 use Rattle.std.proofs.Common.{◌≡◌, ℕ, zero, suc, ◌+◌, ◌-◌, ◌<◌, ◌≤◌, max, encode_utf8_all, Bool, true, false, cond, not, nat_lt, ◌&&◌, ◌||◌, ◌==◌, List, [], ◌∷◌, ◌++◌, length, drop, Option, Some, None, refl, arith, codes, sym, ap, ◌∙◌, subst, inl, inr, append_assoc, length-append}
 use Rattle.std.proofs.lemmas.List.{append-nil}
 use Rattle.std.proofs.lemmas.Bool.{ltb-true, lt-ltb, and_parts, eqb-true}
-use Rattle.lalrpop_re.specs.Text.{Text, ◌▸◌, is_one_of, begins}
-use Rattle.lalrpop_re.specs.CharacterSet.{Set}
+use Rattle.lalrpop_re.specs.Text.{Text, ◌▸◌, begins}
+use Rattle.lalrpop_sets.specs.CharacterSet.{is_one_of, Set, set_tree}
 use Rattle.lalrpop_hir.specs.Tree.{Tree, capture, look, repetition}
-use Rattle.lalrpop_re.specs.CharacterSet.{set_tree}
 use Rattle.lalrpop_re.specs.GroupName.{names}
 use Rattle.lalrpop_re.specs.declared.flags.Flags.{Flags}
 use Rattle.lalrpop_hir.specs.declared.hir.Look.TheVariants.{Start, End, StartLF, EndLF}

@@ -11,12 +11,11 @@ use Rattle.lalrpop_hir.specs.Range.{Range, Covered, IsScalar, IsCanon}
 use Rattle.lalrpop_hir.specs.Tree.{literal, class, unicode, of_text}
 use Rattle.lalrpop_hir.proofs.Complements.{IsCanon-same}
 use Rattle.lalrpop_re.specs.declared.flags.Flags.{Flags}
-use Rattle.lalrpop_re.specs.CharacterSet.{Set, is_scalar, nothing, just, range, complement, fold, canon, set_tree}
+use Rattle.lalrpop_sets.specs.CharacterSet.{Set, is_scalar, nothing, just, range, complement, fold, canon, set_tree, Members, HasRuns}
 use Rattle.lalrpop_re.specs.Bracket.{leaf}
 use Rattle.lalrpop_re.specs.Pattern.{is_one_member, literal_tree}
-use Rattle.lalrpop_re.specs.Internal.Views.{Members, HasRuns}
-use Rattle.lalrpop_re.proofs.CanonLaws.{IsScalar-is_scalar, HasRuns-canon}
-use Rattle.lalrpop_re.proofs.SpanLaws.{HasRuns-same}
+use Rattle.lalrpop_sets.proofs.CanonLaws.{IsScalar-is_scalar, HasRuns-canon}
+use Rattle.lalrpop_sets.proofs.SpanLaws.{HasRuns-same}
 
 is_not : (b : Bool) → (not b ≡ true) ↔ (¬ (b ≡ true))
 is_not true = (λ h. absurd cc, λ h. absurd (h refl))

@@ -1,11 +1,11 @@
 -- Brackets: a text and the set that it spells.
-use Rattle.std.specs.Prelude.{◌≡◌, ℕ, ◌≤◌, ◌+◌, max, Bool, true, false, not, ◌&&◌, ◌||◌, IsTrue, IsFalse, List, [], ◌∷◌, ◌++◌, map, Option, Some, None, if◌then◌else◌, codes, bytes_eq}
+use Rattle.std.specs.Prelude.{◌≡◌, ℕ, ◌≤◌, ◌+◌, max, Bool, true, false, not, ◌&&◌, ◌||◌, IsTrue, IsFalse, List, [], ◌∷◌, ◌++◌, map, Some, if◌then◌else◌, codes}
 use Rattle.std.specs.Bool.{xor}
 use Rattle.std.specs.List.{list_all}
-use Rattle.std.specs.Char.{is_ascii, is_ascii_alphanumeric, is_ascii_alphabetic, is_ascii_control, is_ascii_digit, is_ascii_graphic, is_ascii_lowercase, is_ascii_punctuation, is_ascii_uppercase, is_ascii_hexdigit}
-use Rattle.std.specs.Int.{is_in_range}
-use Rattle.lalrpop_re.specs.Text.{Text, ◌▸◌, is_one_of, begins}
-use Rattle.lalrpop_re.specs.CharacterSet.{Set, just, range, union_all, complement, fold}
+use Rattle.std.specs.Char.{is_ascii_lowercase}
+use Rattle.lalrpop_re.specs.Text.{Text, ◌▸◌, begins}
+use Rattle.lalrpop_sets.specs.CharacterSet.{Set, just, range, union_all, complement, fold, is_one_of}
+use Rattle.lalrpop_sets.specs.PosixSet.{posix_set}
 use Rattle.lalrpop_re.specs.declared.flags.Flags.{Flags}
 use Rattle.lalrpop_re.specs.Escape.{Escape, Escaped, character, set}
 
@@ -51,24 +51,6 @@ begins_range (c ∷ []) = false
 begins_range (c ∷ d ∷ t) = is_one_of "-" c && not (is_one_of "]-" d)
 
 -- ---- POSIX classes
-
-abbrev pub posix_set : List ℕ → Option Set
-posix_set name =
-    if bytes_eq name (codes "alnum") then Some is_ascii_alphanumeric
-    else if bytes_eq name (codes "alpha") then Some is_ascii_alphabetic
-    else if bytes_eq name (codes "ascii") then Some is_ascii
-    else if bytes_eq name (codes "blank") then Some (is_one_of "\t ")
-    else if bytes_eq name (codes "cntrl") then Some is_ascii_control
-    else if bytes_eq name (codes "digit") then Some is_ascii_digit
-    else if bytes_eq name (codes "graph") then Some is_ascii_graphic
-    else if bytes_eq name (codes "lower") then Some is_ascii_lowercase
-    else if bytes_eq name (codes "print") then Some (is_in_range 0x20 0x7E)
-    else if bytes_eq name (codes "punct") then Some is_ascii_punctuation
-    else if bytes_eq name (codes "space") then Some (λ c. is_in_range 9 13 c || is_one_of " " c)
-    else if bytes_eq name (codes "upper") then Some is_ascii_uppercase
-    else if bytes_eq name (codes "word") then Some (λ c. is_ascii_alphanumeric c || is_one_of "_" c)
-    else if bytes_eq name (codes "xdigit") then Some is_ascii_hexdigit
-    else None
 
 -- `[:name:]`, or `[:^name:]` for the complement. Each name is of lower-case letters.
 pub data Posix : Text → Text → Set → Bool → Type 0 where

@@ -1,15 +1,13 @@
 -- Escapes: what stands after a backslash.
-use Rattle.std.specs.Prelude.{◌≡◌, ℕ, suc, ◌+◌, ◌*◌, ◌<◌, Bool, true, false, not, ◌&&◌, ◌||◌, IsTrue, IsFalse, List, [], ◌∷◌, length, Option, Some, option_map, if◌then◌else◌, codes, bytes_eq}
+use Rattle.std.specs.Prelude.{◌≡◌, ℕ, suc, ◌+◌, ◌*◌, ◌<◌, Bool, true, false, not, ◌&&◌, ◌||◌, IsTrue, IsFalse, List, [], ◌∷◌, length, Some, if◌then◌else◌, codes}
 use Rattle.std.specs.List.{list_all}
 use Rattle.std.specs.Char.{is_ascii, is_ascii_alphanumeric, is_ascii_hexdigit, digit_value}
 use Rattle.unicode.specs.Perl.{is_digit_char, is_space_char, is_word_char}
-use Rattle.unicode.specs.Loose.{normalize}
-use Rattle.unicode.specs.Lookup.{by_name}
-use Rattle.unicode.specs.Sets.{in_set}
 use Rattle.lalrpop_hir.specs.declared.hir.Look.{Look}
 use Rattle.lalrpop_hir.specs.declared.hir.Look.TheVariants.{WordUnicode, WordUnicodeNegate, WordStartUnicode, WordEndUnicode, WordStartHalfUnicode, WordEndHalfUnicode, Start, End}
-use Rattle.lalrpop_re.specs.Text.{Text, ◌▸◌, is_one_of, begins}
-use Rattle.lalrpop_re.specs.CharacterSet.{Set, is_scalar}
+use Rattle.lalrpop_re.specs.Text.{Text, ◌▸◌, begins}
+use Rattle.lalrpop_sets.specs.CharacterSet.{Set, is_scalar, is_one_of}
+use Rattle.lalrpop_sets.specs.NamedSet.{named}
 
 -- what an escape stands for: a character, a set before folding and whether its complement is meant, or a look
 pub data Escaped : Type 0 where
@@ -60,16 +58,6 @@ begins_edge t = begins "{start}" t || begins "{end}" t || begins "{start-half}" 
 -- ASCII letters, digits, `_`, `-` and spaces
 abbrev pub is_set_name_char : ℕ → Bool
 is_set_name_char c = is_ascii_alphanumeric c || is_one_of "_- " c
-
-abbrev pub looked_up : List ℕ → Option Set
-looked_up name =
-    if bytes_eq name (codes "any") then Some is_scalar
-    else if bytes_eq name (codes "ascii") then Some is_ascii
-    else option_map (λ s c. is_scalar c && in_set s c) (by_name name)
-
--- the set that a name stands for
-unfoldable pub named : List ℕ → Option Set
-named name = looked_up (normalize name)
 
 -- ---- the relation
 

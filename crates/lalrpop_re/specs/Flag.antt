@@ -2,7 +2,8 @@
 use Rattle.std.specs.Prelude.{ℕ, ◌<◌, Bool, true, false, not, ◌&&◌, ◌==◌, IsTrue, List, [], ◌∷◌, ◌++◌, length, if◌then◌else◌, codes}
 use Rattle.std.specs.List.{list_all, list_any}
 use Rattle.lalrpop_re.specs.declared.flags.Flags.{Flags}
-use Rattle.lalrpop_re.specs.Text.{◌▸◌, is_one_of}
+use Rattle.lalrpop_re.specs.Text.{◌▸◌}
+use Rattle.lalrpop_sets.specs.CharacterSet.{is_one_of}
 
 -- reading begins so
 abbrev pub no_flags : Flags

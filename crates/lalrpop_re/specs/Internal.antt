@@ -1,6 +1,5 @@
 pub mod Reading
 pub mod Views
-pub mod Sets
 pub mod Signs
 pub mod Items
 pub mod Parts

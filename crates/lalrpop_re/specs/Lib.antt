@@ -1,6 +1,5 @@
--- What a pattern stands for, in reading order: characters, sets, flags, names, escapes, brackets, operators, patterns.
+-- What a pattern stands for, in reading order: characters, flags, names, escapes, brackets, operators, patterns.
 pub mod Text
-pub mod CharacterSet
 pub mod Flag
 pub mod GroupName
 pub mod Escape
@@ -18,3 +17,7 @@ pub use Rattle.lalrpop_hir.specs.Counts
 pub use Rattle.lalrpop_hir.specs.Tree
 pub use Rattle.lalrpop_hir.specs.Level
 pub use Rattle.lalrpop_hir.specs.Language
+-- the definitions of sets of characters, for callers
+pub use Rattle.lalrpop_sets.specs.CharacterSet
+pub use Rattle.lalrpop_sets.specs.NamedSet
+pub use Rattle.lalrpop_sets.specs.PosixSet

@@ -3,8 +3,8 @@ use Rattle.std.specs.Prelude.{ℕ, ◌<◌, ◌≤◌, ◌+◌, max, Bool, true,
 use Rattle.lalrpop_hir.specs.Range.{Range}
 use Rattle.lalrpop_hir.specs.Tree.{Tree, empty, literal, look, repetition, capture, concat, alternation, trees}
 use Rattle.lalrpop_hir.specs.declared.hir.Look.TheVariants.{Start, End, StartLF, EndLF}
-use Rattle.lalrpop_re.specs.Text.{Text, ◌▸◌, is_one_of}
-use Rattle.lalrpop_re.specs.CharacterSet.{Set, just, complement, nothing, fold, canon, set_tree}
+use Rattle.lalrpop_re.specs.Text.{Text, ◌▸◌}
+use Rattle.lalrpop_sets.specs.CharacterSet.{Set, just, complement, nothing, fold, canon, set_tree, is_one_of}
 use Rattle.lalrpop_re.specs.declared.flags.Flags.{Flags}
 use Rattle.lalrpop_re.specs.Flag.{no_flags, FlagLetters}
 use Rattle.lalrpop_re.specs.GroupName.{is_name, names, are_distinct}

@@ -1,6 +1,6 @@
 -- The characters of a pattern, and words for them.
-use Rattle.std.specs.Prelude.{ℕ, Bool, ◌==◌, nat_eq, List, ◌++◌, codes}
-use Rattle.std.specs.List.{list_any, starts_with}
+use Rattle.std.specs.Prelude.{ℕ, Bool, nat_eq, List, ◌++◌, codes}
+use Rattle.std.specs.List.{starts_with}
 use Prim.Native.String.{String}
 
 -- The characters from one place of a pattern to its end. A place stands for its number: the place a of s is `drop a s`.
@@ -11,10 +11,6 @@ Text = List ℕ
 infixr 10 ◌▸◌
 abbrev pub ◌▸◌ : List ℕ → Text → Text
 w ▸ t = w ++ t
-
--- the character is one of these
-abbrev pub is_one_of : String → ℕ → Bool
-is_one_of s c = list_any (λ d. d == c) (codes s)
 
 -- the text begins with this word
 abbrev pub begins : String → Text → Bool

@@ -3,19 +3,20 @@ ghost use Rattle.std.specs.Prelude.{◌≡◌, ◌+◌, ◌-◌, ◌^◌, ◌<�
 ghost use Rattle.std.specs.List.{prefix_len};
 ghost use Rattle.std.specs.Char.{is_ascii_lowercase};
 ghost use Rattle.lalrpop_re.specs.Text.{begins};
-ghost use Rattle.lalrpop_re.specs.CharacterSet.{Set, just, range, complement, union_all};
+ghost use Rattle.lalrpop_sets.specs.CharacterSet.{Set, just, range, complement, union_all, HasRuns};
 ghost use Rattle.lalrpop_re.specs.Escape.{Escaped};
 ghost use Rattle.lalrpop_re.specs.Bracket.{leaf, leaves, leaf_or_complement, ends_operand, begins_range};
 ghost use Rattle.lalrpop_re.specs.Internal.Reading.{span, posix_named, posix, primary, operator_of, past_hyphens, lead, range_of, stands, simple_item, item, whole_operand, all_operations, operands, bracket_with, bracket};
-ghost use Rattle.lalrpop_re.specs.Internal.Views.{text, unread, Finds, HasMembers, HasRuns, StandsForEscaped, operator_view};
+ghost use Rattle.lalrpop_re.specs.Internal.Views.{text, unread, Finds, HasMembers, StandsForEscaped, operator_view};
 ghost use Rattle.lalrpop_re.specs.Internal.Items.{Gains};
 
 use crate::cursor::{Cursor, error_at};
 use crate::error::{RegexError, SyntaxKind};
 use crate::escape_sequence::{EscapedPart, parse_escape};
 use crate::flags::Flags;
-use crate::sets::{applied, leaf_of_range, leaf_of_set, posix_class};
+use crate::sets::{applied, leaf_of_range, leaf_of_set};
 use lalrpop_hir::{ClassUnicode, ClassUnicodeRange};
+use lalrpop_sets::posix_class;
 use std::alloc::{AllocError, Global};
 
 /// The set that a bracket spells, and how deep its syntax is nested.

@@ -5,13 +5,14 @@ ghost use Rattle.std.specs.List.{list_all, prefix_len};
 ghost use Rattle.lalrpop_re.specs.Escape.{character, assertion, sign, is_mark, is_set_name_char, code, property, edge};
 ghost use Rattle.lalrpop_re.specs.Internal.Reading.{hex, digits_of, name_of, signed, escape};
 ghost use Rattle.lalrpop_re.specs.Internal.Signs.{HasDigits, perl_set, sign_view};
-ghost use Rattle.lalrpop_re.specs.Internal.Views.{text, unread, Gives, Finds, HasRuns, StandsForEscaped};
+ghost use Rattle.lalrpop_re.specs.Internal.Views.{text, unread, Gives, Finds, StandsForEscaped};
+ghost use Rattle.lalrpop_sets.specs.CharacterSet.{HasRuns};
 
 use crate::cursor::{Cursor, error_at};
 use crate::error::{RegexError, SyntaxKind};
 use crate::number::number_of;
-use crate::sets;
 use lalrpop_hir::{ClassUnicode, Look};
+use lalrpop_sets::named_set;
 use std::alloc::{AllocError, Global};
 
 /// What an escape stands for.
@@ -141,9 +142,9 @@ fn perl_class(alloc: Global, class: PerlClass) -> Result<ClassUnicode, AllocErro
     ensures { IfOk result (λ r. HasRuns r (perl_set class)) }
 {
     match class {
-        PerlClass::Digits => sets::digits(alloc),
-        PerlClass::Spaces => sets::spaces(alloc),
-        PerlClass::Words => sets::words(alloc),
+        PerlClass::Digits => lalrpop_sets::digits(alloc),
+        PerlClass::Spaces => lalrpop_sets::spaces(alloc),
+        PerlClass::Words => lalrpop_sets::words(alloc),
     }
 }
 
@@ -221,7 +222,7 @@ fn parse_property(cursor: &mut Cursor, negated: bool) -> Result<EscapedPart, Reg
     if name.inner.is_empty() || !is_spelled_like_set(name.inner) {
         return Err(cursor.error(SyntaxKind::UnicodeSetUnknown));
     }
-    let Some(class) = sets::named_set(cursor.alloc(), name.inner)? else {
+    let Some(class) = named_set(cursor.alloc(), name.inner)? else {
         return Err(cursor.error(SyntaxKind::UnicodeSetUnknown));
     };
     let width = name.width;

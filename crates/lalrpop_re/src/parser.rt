@@ -364,7 +364,7 @@ fn tree_of_escape(alloc: Global, flags: Flags, escaped: EscapedPart) -> Result<H
         EscapedPart::Character(c) => tree_of_character(alloc, flags, c),
         EscapedPart::Set { class, negated } => {
             let leaf = leaf_of_set(alloc, flags, class, negated)?;
-            tree_of_class(leaf)
+            Ok(tree_of_class(leaf))
         }
         EscapedPart::Assertion(look) => Ok(Hir::look(look)),
     }
@@ -379,7 +379,7 @@ fn parse_class(cursor: &mut Cursor, room: u32) -> Result<Nested, RegexError>
     ensures deep { IfOk result (λ p. p.depth ≤ room) }
 {
     let BracketSet { class, depth } = parse_bracket(cursor, room)?;
-    let tree = tree_of_class(class)?;
+    let tree = tree_of_class(class);
     Ok(Nested { tree, depth })
 }
 

@@ -1,22 +1,14 @@
 //! Sets of characters: folding, sets by name, and the set operators of brackets.
 ghost use Rattle.std.specs.Prelude.{◌≡◌, ◌≤◌, IfOk};
-ghost use Rattle.lalrpop_re.specs.CharacterSet.{Set, range, set_tree};
+ghost use Rattle.lalrpop_sets.specs.CharacterSet.{Set, range, set_tree, HasRuns};
 ghost use Rattle.lalrpop_re.specs.Bracket.{leaf, leaf_or_complement, apply};
 ghost use Rattle.lalrpop_re.specs.Pattern.{literal_tree, dot_tree, is_one_member};
-ghost use Rattle.lalrpop_re.specs.Internal.Views.{HasRuns, operator_view};
-
-mod folding;
-mod named;
-mod posix;
-#[cfg(test)]
-mod tests;
+ghost use Rattle.lalrpop_re.specs.Internal.Views.{operator_view};
 
 use crate::bracket::BracketOperator;
 use crate::flags::Flags;
-use folding::fold;
-use lalrpop_hir::{Class, ClassUnicode, ClassUnicodeRange, Hir};
-pub(crate) use named::{digits, named_set, spaces, words};
-pub(crate) use posix::posix_class;
+use lalrpop_hir::{Class, ClassUnicode, Hir};
+use lalrpop_sets::{fold, range_class};
 use std::alloc::{AllocError, Global};
 
 /// The set of a leaf of characters from `low` to `high`: under the flag `i` with all their foldings.
@@ -70,10 +62,10 @@ pub(crate) fn applied(
 }
 
 /// The tree that matches one character of the set.
-pub(crate) fn tree_of_class(class: ClassUnicode) -> Result<Hir, AllocError>
-    ensures { IfOk result (λ t. (s : Set) → HasRuns class s → t ≡ set_tree s) }
+pub(crate) fn tree_of_class(class: ClassUnicode) -> Hir
+    ensures { (s : Set) → HasRuns class s → result ≡ set_tree s }
 {
-    Ok(Hir::class(Class::Unicode(class)))
+    Hir::class(Class::Unicode(class))
 }
 
 /// The tree of a literal character outside brackets: under the flag `i` that of all its foldings.
@@ -83,7 +75,7 @@ pub(crate) fn tree_of_character(alloc: Global, flags: Flags, c: char) -> Result<
     if flags.case_insensitive {
         let folded = fold(alloc, &range_class(alloc, c, c)?)?;
         if !is_one_member(&folded) {
-            return tree_of_class(folded);
+            return Ok(tree_of_class(folded));
         }
     }
     let mut bytes = [0; 4];
@@ -99,15 +91,7 @@ pub(crate) fn tree_of_dot(alloc: Global, flags: Flags) -> Result<Hir, AllocError
     } else {
         range_class(alloc, '\n', '\n')?
     };
-    tree_of_class(left_out.complement(alloc)?)
-}
-
-// The characters from `low` to `high`.
-fn range_class(alloc: Global, low: char, high: char) -> Result<ClassUnicode, AllocError>
-    requires { low ≤ high }
-    ensures { IfOk result (λ r. HasRuns r (range low high)) }
-{
-    ClassUnicode::new(alloc, vec![in alloc; ClassUnicodeRange::new(low, high)]?)
+    Ok(tree_of_class(left_out.complement(alloc)?))
 }
 
 fn is_one_member(class: &ClassUnicode) -> bool

@@ -1,6 +1,6 @@
 -- How the parser's values stand to those of the grammar.
-use Rattle.std.specs.Prelude.{◌≡◌, ◌↔◌, ℕ, true, List, length, drop, Option, Some, None, Result, Ok, Err, string_bytes}
-use Rattle.lalrpop_hir.specs.Range.{Range, IsScalar, Covered, IsCanon}
+use Rattle.std.specs.Prelude.{◌≡◌, ◌↔◌, ℕ, List, length, drop, Option, Some, None, Result, Ok, Err, string_bytes}
+use Rattle.lalrpop_hir.specs.Range.{Range, IsScalar, Covered}
 use Rattle.lalrpop_re.specs.declared.error.RegexError.{RegexError}
 use Rattle.lalrpop_re.specs.declared.error.RegexError.TheVariants.{Syntax, OutOfMemory}
 use Rattle.lalrpop_re.specs.declared.cursor.Cursor.{Cursor}
@@ -11,7 +11,7 @@ use Rattle.lalrpop_re.specs.declared.opening.GroupOpening.TheVariants.{Plain, Na
 use Rattle.lalrpop_re.specs.declared.bracket.BracketOperator.{BracketOperator}
 use Rattle.lalrpop_re.specs.declared.bracket.BracketOperator.TheVariants as operator
 use Rattle.lalrpop_re.specs.Text.{Text}
-use Rattle.lalrpop_re.specs.CharacterSet.{Set}
+use Rattle.lalrpop_sets.specs.CharacterSet.{Set, Members, HasRuns}
 use Rattle.lalrpop_re.specs.Escape.{Escaped, character, set, assertion}
 use Rattle.lalrpop_re.specs.Bracket.{SetOperator, Intersection, Difference, SymmetricDifference}
 use Rattle.lalrpop_re.specs.Internal.Reading.{Opened, a_plain_group, a_named_group, a_flagged_group, a_directive_to}
@@ -28,17 +28,9 @@ unread c = length (text c)
 
 -- ---- sets
 
--- the members of a set, as a fact
-abbrev pub Members : Set → ℕ → Type 0
-Members s c = s c ≡ true
-
 -- the ranges cover just the scalar values of the set, in any order
 abbrev pub HasMembers : List Range → Set → Type 0
 HasMembers rs s = (c : ℕ) → IsScalar c → Members s c ↔ Covered rs c
-
--- the ranges are the maximal runs of the set
-abbrev pub HasRuns : List Range → Set → Type 0
-HasRuns rs s = IsCanon (Members s) rs
 
 -- ---- parts
 

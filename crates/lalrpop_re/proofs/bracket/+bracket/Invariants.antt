@@ -1,8 +1,8 @@
 use Rattle.std.proofs.Common.{◌≡◌, ◌≤◌, ◌+◌, ◌*◌, List, option_to_list}
-use Rattle.lalrpop_re.specs.CharacterSet.{Set, union_all}
+use Rattle.lalrpop_sets.specs.CharacterSet.{Set, union_all, HasRuns}
 use Rattle.lalrpop_re.specs.Bracket.{leaves}
 use Rattle.lalrpop_re.specs.Internal.Reading.{whole_operand, all_operations, bracket}
-use Rattle.lalrpop_re.specs.Internal.Views.{text, unread, HasRuns, HasMembers}
+use Rattle.lalrpop_re.specs.Internal.Views.{text, unread, HasMembers}
 use Rattle.lalrpop_re.proofs.bracket.+bracket.Given as goal
 
 -- each bracket takes one of the levels that are left

@@ -18,7 +18,7 @@ returns-in_default-2-clause-value c =
     let t : Text = drop c.args.front (text c.args.cursor.now) in
     let part = tail_part c.args.front c.rest-rest.result.now ∙ ap (drop c.args.front) c.rest-rest.ensures in
     let long : c.in-Some.len ≡ length (span is_ascii_lowercase t).0 = subst (λ (u : Text). c.in-Some.len ≡ length (span is_ascii_lowercase u).0) part c.in-Some.ensures.value.1 in
-    (posix_unknown c.args.negated t _ (name_part c.args.front c.in-Some.len c.rest-rest.result.now (text c.args.cursor.now) c.rest-rest.ensures long) (rw c.in_default-2.is at c.in_ok-class.ensures), refl)
+    (posix_unknown c.args.negated t _ (name_part c.args.front c.in-Some.len c.rest-rest.result.now (text c.args.cursor.now) c.rest-rest.ensures long) (rw c.in_default-2.is at c.in_ok-class.ensures.found), refl)
 
 pub returns-clause-value : goal.returns-clause-value
 returns-clause-value c =
@@ -26,7 +26,7 @@ returns-clause-value c =
     let part = tail_part c.args.front c.rest-rest.result.now ∙ ap (drop c.args.front) c.rest-rest.ensures in
     let long : c.in-Some.len ≡ length (span is_ascii_lowercase t).0 = subst (λ (u : Text). c.in-Some.len ≡ length (span is_ascii_lowercase u).0) part c.in-Some.ensures.value.1 in
     let closed : begins ":]" (span is_ascii_lowercase t).1 ≡ true = subst (λ (u : Text). begins ":]" (span is_ascii_lowercase u).1 ≡ true) part c.in-Some.ensures.value.0 in
-    let found = rw c.in-Some-2.is at c.in_ok-class.ensures in
+    let found = rw c.in-Some-2.is at c.in_ok-class.ensures.found in
     let named = posix_known c.args.negated t _ found.0 closed (name_part c.args.front c.in-Some.len c.rest-rest.result.now (text c.args.cursor.now) c.rest-rest.ensures long) found.1 in
     let fits : c.in-Some.len + 2 ≤ length t = subst (λ (u : Text). c.in-Some.len + 2 ≤ length u) part c.in-Some.ensures.within in
     let k : c.args.front + (c.in-Some.len + 2) ≡ c.args.front + c.in-Some.len + 2 = omega arith in

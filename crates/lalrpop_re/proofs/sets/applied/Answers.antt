@@ -1,9 +1,9 @@
 use Rattle.std.proofs.Common.{◌⊎◌}
 use Rattle.std.proofs.lemmas.Result.{IfOk-weaker}
 use Rattle.lalrpop_hir.specs.Range.{Covered, IsCanon}
-use Rattle.lalrpop_re.specs.CharacterSet.{Set}
+use Rattle.lalrpop_sets.specs.CharacterSet.{Set, HasRuns}
 use Rattle.lalrpop_re.specs.Bracket.{apply}
-use Rattle.lalrpop_re.specs.Internal.Views.{HasRuns, operator_view}
+use Rattle.lalrpop_re.specs.Internal.Views.{operator_view}
 use Rattle.lalrpop_re.proofs.SetLaws.{HasRuns-xor}
 use Rattle.lalrpop_re.proofs.sets.applied.Goals as goal
 

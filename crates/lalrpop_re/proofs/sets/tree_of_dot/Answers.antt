@@ -1,9 +1,6 @@
-use Rattle.std.proofs.Common.{◌≡◌, cond, subst}
-use Rattle.std.proofs.lemmas.Result.{IfOk-weaker}
+use Rattle.std.proofs.Common.{cond, subst}
 use Rattle.lalrpop_hir.specs.Range.{Covered, IsCanon}
-use Rattle.lalrpop_re.specs.CharacterSet.{Set, nothing, just, complement, set_tree}
-use Rattle.lalrpop_re.specs.Pattern.{dot_tree}
-use Rattle.lalrpop_re.specs.Internal.Views.{HasRuns}
+use Rattle.lalrpop_sets.specs.CharacterSet.{Set, nothing, just, complement, HasRuns}
 use Rattle.lalrpop_re.proofs.SetLaws.{HasRuns-nothing, HasRuns-just, HasRuns-complement}
 use Rattle.lalrpop_re.proofs.sets.tree_of_dot.Goals as goal
 use Rattle.lalrpop_re.proofs.sets.tree_of_dot.Goals.{then-flags+in_ok-left_out, else-flags+in_ok-left_out-2}
@@ -19,7 +16,7 @@ returns c =
           let none : HasRuns left nothing = rw w.left_out-is (HasRuns-nothing w.in_ok-left_out.left_out (subst (λ l. IsCanon (Covered l) w.in_ok-left_out.left_out) w.new.ensures.items w.in_ok-left_out.ensures)) in
           rw w.if-flags.true (HasRuns-complement left rs nothing none c.in_ok-complement.ensures)
       | else-flags+in_ok-left_out-2 w ↦
-          let feed : HasRuns left (just 10) = rw w.left_out-is (HasRuns-just w.in_ok-left_out-2.left_out 10 w.in_ok-left_out-2.ensures) in
+          let feed : HasRuns left (just 10) = rw w.left_out-is (HasRuns-just w.in_ok-left_out-2.left_out 10 w.in_ok-left_out-2.ensures.runs) in
           rw w.if-flags.false (HasRuns-complement left rs (just 10) feed c.in_ok-complement.ensures)
     ] in
-    IfOk-weaker c.tree_of_class.result (λ t. (q : Set) → HasRuns rs q → t ≡ set_tree q) (λ t. t ≡ dot_tree f) (λ t k. k s runs) c.tree_of_class.ensures
+    c.tree_of_class.ensures s runs

@@ -1,0 +1,6 @@
+pub mod CanonLaws
+pub mod SpanLaws
+mod SetNameLaws
+mod PosixLaws
+mod FoldTable
+mod FoldLaws

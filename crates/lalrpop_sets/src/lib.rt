@@ -1,0 +1,25 @@
+//! Sets of characters as classes: ranges, simple case folding, and the sets that have a name.
+#![tactic(auto)]
+
+ghost use Rattle.std.specs.Prelude.{◌≤◌, IfOk};
+ghost use Rattle.lalrpop_sets.specs.CharacterSet.{range, HasRuns};
+
+mod folding;
+mod named;
+mod posix;
+#[cfg(test)]
+mod tests;
+
+pub use folding::fold;
+use lalrpop_hir::{ClassUnicode, ClassUnicodeRange};
+pub use named::{digits, named_set, spaces, words};
+pub use posix::posix_class;
+use std::alloc::{AllocError, Global};
+
+/// The characters from `low` to `high`, both included. The only error is want of memory.
+pub fn range_class(alloc: Global, low: char, high: char) -> Result<ClassUnicode, AllocError>
+    requires ordered { low ≤ high }
+    ensures runs { IfOk result (λ r. HasRuns r (range low high)) }
+{
+    ClassUnicode::new(alloc, vec![in alloc; ClassUnicodeRange::new(low, high)]?)
+}
