@@ -10,12 +10,12 @@ use std::io::{Read, Write};
 /// All bytes that the reader has left. No error is tried again, and the first ends the reading.
 pub fn read_whole<R: Read>(alloc: Global, reader: &mut Watched<R>) -> Result<Vec<u8>, RunError>
     requires reader_good { reader.old.failed ≡ false }
+    ensures no_late_read { reader.new.late ≡ reader.old.late }
     ensures bytes { IfOk result (λ all. ReadsAll (R.remaining reader.old.inner) (R.remaining reader.new.inner) all.items) }
     ensures good { OnOk result (reader.new.failed ≡ false) }
     ensures memory { IfErr result (λ e. e ≡ RunError.OutOfMemory → reader.new.failed ≡ false) }
     ensures read { IfErr result (λ e. e ≡ RunError.Read → reader.new.failed ≡ true) }
     ensures write { IfErr result (λ e. e ≢ RunError.Write) }
-    ensures no_late_read { reader.new.late ≡ reader.old.late }
 {
     let mut all = Vec::new(alloc);
     let mut buffer = [0u8; 8192];
@@ -35,12 +35,12 @@ pub fn read_whole<R: Read>(alloc: Global, reader: &mut Watched<R>) -> Result<Vec
 /// Writes all bytes. No error is tried again, and the first ends the writing.
 pub fn write_whole<W: Write>(writer: &mut Watched<W>, bytes: &[u8]) -> Result<(), RunError>
     requires writer_good { writer.old.failed ≡ false }
+    ensures no_late_write { writer.new.late ≡ writer.old.late }
     ensures ok { OnOk result (Appends (W.contents writer.old.inner) (W.contents writer.new.inner) bytes.now) }
     ensures good { OnOk result (writer.new.failed ≡ false) }
     ensures beginning { OnErr result (AppendsBeginning (W.contents writer.old.inner) (W.contents writer.new.inner) bytes.now) }
     ensures failed { OnErr result (writer.new.failed ≡ true) }
     ensures write { IfErr result (λ e. e ≡ RunError.Write) }
-    ensures no_late_write { writer.new.late ≡ writer.old.late }
 {
     let mut at = 0;
     while at < bytes.len() {
