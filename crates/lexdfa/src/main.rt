@@ -1,7 +1,7 @@
 //! `lexdfa TEXT`: reads terminals from standard input, and writes which of them matches the longest beginning of TEXT.
 #![tactic(auto)]
 
-ghost use Rattle.std.specs.Prelude.{◌≡◌, ◌≢◌};
+ghost use Rattle.std.specs.Prelude.{◌≡◌, ◌≢◌, Ok, Err, OnOk, OnErr};
 ghost use Rattle.std.specs.IoError.{error_kind};
 
 use lexdfa_lib::{Ending, Failure, Outcome, RunError, Watched, arguments, run};
@@ -21,6 +21,17 @@ fn without_arguments(error: &io::Error) -> Failure
     }
 }
 
+// The outcome, unless the flush of its line has failed.
+fn flushed(outcome: Outcome, flush: &io::Result<()>) -> Result<Outcome, Failure>
+    ensures ok { OnOk flush.now (result ≡ Ok outcome) }
+    ensures write { OnErr flush.now (result ≡ Err (Failure.Run RunError.Write)) }
+{
+    match flush {
+        Ok(()) => Ok(outcome),
+        Err(_) => Err(Failure::Run(RunError::Write)),
+    }
+}
+
 fn answer(rt: &(impl Env + Input + Print + AllocGlobal)) -> Result<Outcome, Failure> {
     let args = env::args(rt).map_err(|error| without_arguments(&error))?;
     let Ok(words) = args.skip(1).collect::<Vec<String>>(rt.alloc()) else {
@@ -30,10 +41,7 @@ fn answer(rt: &(impl Env + Input + Print + AllocGlobal)) -> Result<Outcome, Fail
     let mut reader = Watched::new(rt.reader());
     let mut writer = Watched::new(io::writer(rt));
     let outcome = run(rt.alloc(), &mut reader, text, &mut writer).map_err(Failure::Run)?;
-    if writer.into_inner().flush().is_err() {
-        return Err(Failure::Run(RunError::Write));
-    }
-    Ok(outcome)
+    flushed(outcome, &writer.into_inner().flush())
 }
 
 fn main(rt: HostRuntime) -> ExitCode {

@@ -9,7 +9,7 @@ use Rattle.lalrpop_hir.specs.Tree.{Tree}
 use Rattle.lalrpop_re.proofs.PatternLaws.{one_tree}
 use Rattle.lalrpop_lexer.specs.Fault.{fault}
 use Rattle.lalrpop_lexer.specs.Report.{NoFault, FirstFault}
-use Rattle.lalrpop_lexer.specs.declared.lexer.nfa.error.NfaConstructionError.{NfaConstructionError}
+use Rattle.lalrpop_lexer.specs.declared.lexer.nfa.NfaConstructionError.{NfaConstructionError}
 use Rattle.lalrpop_lexer.proofs.Clashes.{clash-unique, clash_or_none}
 use Rattle.lalrpop_lexer.proofs.Longests.{longest-unique}
 use Rattle.lexdfa_lib.specs.Lines.{lines}

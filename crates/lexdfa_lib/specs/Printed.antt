@@ -1,7 +1,7 @@
 -- The line that tells an outcome.
 use Rattle.std.specs.Prelude.{ℕ, List, ◌++◌, codes, decimal}
-use Rattle.lalrpop_lexer.specs.declared.lexer.nfa.error.NfaConstructionError.{NfaConstructionError}
-use Rattle.lalrpop_lexer.specs.declared.lexer.nfa.error.NfaConstructionError.TheVariants.{NamedCaptures, NonGreedy, LookAround, ByteRegex, OutOfMemory}
+use Rattle.lalrpop_lexer.specs.declared.lexer.nfa.NfaConstructionError.{NfaConstructionError}
+use Rattle.lalrpop_lexer.specs.declared.lexer.nfa.NfaConstructionError.TheVariants.{NamedCaptures, NonGreedy, LookAround, ByteRegex, OutOfMemory}
 use Rattle.lexdfa_lib.specs.declared.outcome.Outcome.{Outcome}
 use Rattle.lexdfa_lib.specs.declared.outcome.Outcome.TheVariants.{Match, NoMatch, Refused, Ambiguous, Syntax, Line}
 

@@ -1,10 +1,16 @@
 -- An end that remembers whether a call of it has failed.
-use Rattle.std.specs.Prelude.{ℕ, ◌≤◌, Bool, true, false, ◌&&◌, ◌==◌, not, List, length, take, Option, Result, Ok, Err}
+use Rattle.std.specs.Prelude.{ℕ, ◌+◌, ◌≤◌, Bool, true, false, ◌&&◌, ◌==◌, not, if◌then◌else◌, List, length, take, Option, Result, Ok, Err}
 use Rattle.std.specs.Io.KnownBytes.{Appends, Consumes, IsAtEnd}
 
+-- the end, whether some call of it has failed, and how many calls were made after one that failed
 pub record Watch (T : Type 0) : Type 0 where
   pub inner : T
   pub failed : Bool
+  pub late : ℕ
+
+-- so many late calls there are after one more
+abbrev pub late_after : {T : Type 0} → Watch T → ℕ
+late_after w = if w.failed then w.late + 1 else w.late
 
 -- the call failed
 abbrev pub read_failed : {E : Type 0} → Result ℕ E → Bool

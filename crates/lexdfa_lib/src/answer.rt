@@ -73,8 +73,8 @@ fn outcome_of(alloc: Global, bytes: &[u8], text: &str) -> Result<Outcome, AllocE
 /// Reads the reader to its end, and writes the line for what was read and the text.
 ///
 /// Each line of input is a terminal `P l TEXT` or `P r PATTERN`: a precedence of 1 to 20 decimal digits, a space, the letter
-/// `l` or `r`, a space, and a literal or a pattern. Each line ends at a line feed, which the last may lack. No call of an end
-/// that has failed is made.
+/// `l` or `r`, a space, and a literal or a pattern. Each line ends at a line feed, which the last may lack. No error is tried
+/// again: whatever comes, no call of an end is made after one that failed.
 pub fn run<R: Read, W: Write>(
     alloc: Global,
     reader: &mut Watched<R>,
@@ -98,6 +98,9 @@ pub fn run<R: Read, W: Write>(
     ensures beginning { IfErr result (λ e. e ≡ RunError.Write →
         WritesBeginning (R.remaining reader.old.inner) (R.remaining reader.new.inner) text.now
         (W.contents writer.old.inner) (W.contents writer.new.inner)) }
+
+    ensures no_late_read { reader.new.late ≡ reader.old.late }
+    ensures no_late_write { writer.new.late ≡ writer.old.late }
 {
     let bytes = read_whole(alloc, reader)?;
     let Ok(outcome) = outcome_of(alloc, &bytes, text) else {

@@ -1,36 +1,16 @@
-ghost use Rattle.std.specs.Prelude.{◌≡◌, ◌≢◌, ◌||◌, false, true, IfOk, OnOk, IfErr, OnErr};
-ghost use Rattle.std.specs.Io.{ReadsAtMost, WritesAtMost};
-ghost use Rattle.std.specs.Io.KnownBytes.{Appends, ReadConsumes, WriteAppends};
-ghost use Rattle.lexdfa_lib.specs.Watch.{read_failed, write_failed, AppendsBeginning, ReadsAll};
+ghost use Rattle.std.specs.Prelude.{◌≡◌, ◌≢◌, false, true, IfOk, OnOk, IfErr, OnErr};
+ghost use Rattle.std.specs.Io.KnownBytes.{Appends};
+ghost use Rattle.lexdfa_lib.specs.Watch.{AppendsBeginning, ReadsAll};
 
 use crate::error::RunError;
 use crate::watched::Watched;
 use std::alloc::Global;
-use std::io::{self, Read, Write};
-
-// A reader that has failed is not called again: each `read` of this crate goes through here.
-fn read_once<R: Read>(reader: &mut Watched<R>, buf: &mut [u8]) -> io::Result<usize>
-    requires { reader.old.failed ≡ false }
-    ensures bound { ReadsAtMost result buf.new }
-    ensures bytes { ReadConsumes (R.remaining reader.old.inner) (R.remaining reader.new.inner) result buf.new }
-    ensures failed { reader.new.failed ≡ read_failed result }
-{
-    reader.read(buf)
-}
-
-// The same of a writer and each `write`.
-fn write_once<W: Write>(writer: &mut Watched<W>, buf: &[u8]) -> io::Result<usize>
-    requires { writer.old.failed ≡ false }
-    ensures bound { WritesAtMost result buf.now }
-    ensures bytes { WriteAppends (W.contents writer.old.inner) (W.contents writer.new.inner) result buf.now }
-    ensures failed { writer.new.failed ≡ write_failed buf.now result }
-{
-    writer.write(buf)
-}
+use std::io::{Read, Write};
 
 /// All bytes that the reader has left. No error is tried again, and the first ends the reading.
 pub fn read_whole<R: Read>(alloc: Global, reader: &mut Watched<R>) -> Result<Vec<u8>, RunError>
-    requires { reader.old.failed ≡ false }
+    requires reader_good { reader.old.failed ≡ false }
+    ensures no_late_read { reader.new.late ≡ reader.old.late }
     ensures bytes { IfOk result (λ all. ReadsAll (R.remaining reader.old.inner) (R.remaining reader.new.inner) all.items) }
     ensures good { OnOk result (reader.new.failed ≡ false) }
     ensures memory { IfErr result (λ e. e ≡ RunError.OutOfMemory → reader.new.failed ≡ false) }
@@ -40,7 +20,7 @@ pub fn read_whole<R: Read>(alloc: Global, reader: &mut Watched<R>) -> Result<Vec
     let mut all = Vec::new(alloc);
     let mut buffer = [0u8; 8192];
     loop {
-        match read_once(reader, &mut buffer) {
+        match reader.read(&mut buffer) {
             Err(_) => return Err(RunError::Read),
             Ok(0) => return Ok(all),
             Ok(n) => {
@@ -54,7 +34,8 @@ pub fn read_whole<R: Read>(alloc: Global, reader: &mut Watched<R>) -> Result<Vec
 
 /// Writes all bytes. No error is tried again, and the first ends the writing.
 pub fn write_whole<W: Write>(writer: &mut Watched<W>, bytes: &[u8]) -> Result<(), RunError>
-    requires { writer.old.failed ≡ false }
+    requires writer_good { writer.old.failed ≡ false }
+    ensures no_late_write { writer.new.late ≡ writer.old.late }
     ensures ok { OnOk result (Appends (W.contents writer.old.inner) (W.contents writer.new.inner) bytes.now) }
     ensures good { OnOk result (writer.new.failed ≡ false) }
     ensures beginning { OnErr result (AppendsBeginning (W.contents writer.old.inner) (W.contents writer.new.inner) bytes.now) }
@@ -63,7 +44,7 @@ pub fn write_whole<W: Write>(writer: &mut Watched<W>, bytes: &[u8]) -> Result<()
 {
     let mut at = 0;
     while at < bytes.len() {
-        match write_once(writer, &bytes[at..]) {
+        match writer.write(&bytes[at..]) {
             Err(_) => return Err(RunError::Write),
             Ok(0) => return Err(RunError::Write),
             Ok(n) => at += n,

@@ -20,7 +20,7 @@ pub enum RunError {
 impl RunError {
     /// The exit status that tells of the error: 5 for memory, 6 for an end that failed.
     pub fn status(&self) -> u8
-        ensures { result ≡ error_status self.now }
+        ensures status { result ≡ error_status self.now }
     {
         match self {
             RunError::OutOfMemory => 5,

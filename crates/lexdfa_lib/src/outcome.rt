@@ -39,7 +39,7 @@ impl Outcome {
     /// The exit status that tells of the outcome: 0 for a match, 1 for none, 2 where no automaton was made, 3 where the
     /// input is wrong.
     pub fn status(&self) -> u8
-        ensures { result ≡ outcome_status self.now }
+        ensures status { result ≡ outcome_status self.now }
     {
         match self {
             Outcome::Match { .. } => 0,
@@ -66,7 +66,7 @@ fn error_name(error: &NfaConstructionError) -> &'static str
 
 /// The line that tells the outcome, with its line feed.
 pub fn outcome_line(alloc: Global, outcome: &Outcome) -> Result<String, AllocError>
-    ensures { IfOk result (λ line. string_bytes line ≡ line_of outcome.now) }
+    ensures line { IfOk result (λ line. string_bytes line ≡ line_of outcome.now) }
 {
     match outcome {
         Outcome::Match { terminal, bytes } => format!(in alloc; "match {terminal} {bytes}\n"),

@@ -107,10 +107,18 @@ fn the_first_line_that_is_no_terminal_decides(rt: HostRuntime) -> Result<(), Fai
     Ok(())
 }
 
+// Errors that others try again, and one that nobody does.
+const KINDS: [io::ErrorKind; 3] = [
+    io::ErrorKind::Interrupted,
+    io::ErrorKind::WouldBlock,
+    io::ErrorKind::Other,
+];
+
 // Gives its bytes, then fails, and counts its calls.
 #[derive(Drop)]
 struct FailsAtEnd<'a> {
     left: &'a [u8],
+    kind: io::ErrorKind,
     calls: u8,
 }
 
@@ -118,7 +126,7 @@ impl<'a> Read for FailsAtEnd<'a> {
     fn read(&mut self, buf: &mut [u8]) -> io::Result<usize> {
         self.calls = self.calls.saturating_add(1);
         if self.left.is_empty() {
-            return Err(io::Error::from(io::ErrorKind::Interrupted));
+            return Err(io::Error::from(self.kind));
         }
         self.left.read(buf)
     }
@@ -126,23 +134,27 @@ impl<'a> Read for FailsAtEnd<'a> {
 
 #[test]
 fn a_failed_read_writes_nothing(rt: HostRuntime) {
-    let mut reader = Watched::new(FailsAtEnd {
-        left: b"0 l",
-        calls: 0,
-    });
-    let mut writer = Watched::new(Vec::new(rt.alloc()));
-    let result = run(rt.alloc(), &mut reader, "a", &mut writer);
-    assert!(rt; matches!(&result, Err(RunError::Read)));
-    assert!(rt; reader.failed());
-    assert_eq!(rt; reader.into_inner().calls, 2);
-    assert!(rt; !writer.failed());
-    assert!(rt; writer.into_inner().is_empty());
+    for kind in KINDS {
+        let mut reader = Watched::new(FailsAtEnd {
+            left: b"0 l",
+            kind,
+            calls: 0,
+        });
+        let mut writer = Watched::new(Vec::new(rt.alloc()));
+        let result = run(rt.alloc(), &mut reader, "a", &mut writer);
+        assert!(rt; matches!(&result, Err(RunError::Read)));
+        assert!(rt; reader.failed());
+        assert_eq!(rt; reader.into_inner().calls, 2);
+        assert!(rt; !writer.failed());
+        assert!(rt; writer.into_inner().is_empty());
+    }
 }
 
 // Takes one byte a call, fails at the fifth call, and counts its calls.
 #[derive(Drop)]
 struct FailsAtFifth {
     taken: Vec<u8>,
+    kind: io::ErrorKind,
     calls: u8,
 }
 
@@ -154,7 +166,7 @@ impl Write for FailsAtFifth {
                 self.taken.push(*byte)?;
                 Ok(1)
             }
-            Some(_) => Err(io::Error::from(io::ErrorKind::Interrupted)),
+            Some(_) => Err(io::Error::from(self.kind)),
             None => Ok(0),
         }
     }
@@ -166,19 +178,22 @@ impl Write for FailsAtFifth {
 
 #[test]
 fn a_failed_write_leaves_a_beginning(rt: HostRuntime) {
-    let input: &[u8] = b"1 l class\n0 r [a-z]+\n";
-    let mut reader = Watched::new(input);
-    let mut writer = Watched::new(FailsAtFifth {
-        taken: Vec::new(rt.alloc()),
-        calls: 0,
-    });
-    let result = run(rt.alloc(), &mut reader, "classz", &mut writer);
-    assert!(rt; matches!(&result, Err(RunError::Write)));
-    assert!(rt; !reader.failed());
-    assert!(rt; writer.failed());
-    let end = writer.into_inner();
-    assert_eq!(rt; end.taken.as_slice(), b"matc".as_slice());
-    assert_eq!(rt; end.calls, 5);
+    for kind in KINDS {
+        let input: &[u8] = b"1 l class\n0 r [a-z]+\n";
+        let mut reader = Watched::new(input);
+        let mut writer = Watched::new(FailsAtFifth {
+            taken: Vec::new(rt.alloc()),
+            kind,
+            calls: 0,
+        });
+        let result = run(rt.alloc(), &mut reader, "classz", &mut writer);
+        assert!(rt; matches!(&result, Err(RunError::Write)));
+        assert!(rt; !reader.failed());
+        assert!(rt; writer.failed());
+        let end = writer.into_inner();
+        assert_eq!(rt; end.taken.as_slice(), b"matc".as_slice());
+        assert_eq!(rt; end.calls, 5);
+    }
 }
 
 #[test]

@@ -1,8 +1,9 @@
 ghost use Rattle.std.specs.Prelude.{◌≡◌, ◌||◌, false};
 ghost use Rattle.std.specs.Io.{ReadsAtMost, WritesAtMost};
 ghost use Rattle.std.specs.Io.KnownBytes.{ReadConsumes, WriteAppends};
-ghost use Rattle.lexdfa_lib.specs.Watch.{read_failed, write_failed};
+ghost use Rattle.lexdfa_lib.specs.Watch.{late_after, read_failed, write_failed};
 
+use lalrpop_lexer::lexer::nfa::Steps;
 use std::io::{self, Read, Write};
 use std::marker::Model;
 
@@ -11,6 +12,8 @@ use std::marker::Model;
 pub struct Watched<T> {
     inner: T,
     failed: bool,
+    // The calls after one that failed, counted for contracts alone.
+    late: Steps,
 }
 
 impl<T> Model for Watched<T> {
@@ -18,33 +21,47 @@ impl<T> Model for Watched<T> {
 
     ghost Value = { Watch T };
 
-    ghost view = { λ w. record { inner = w.inner; failed = w.failed } };
+    ghost view = { λ w. record { inner = w.inner; failed = w.failed; late = w.late } };
 }
 
 impl<T> Watched<T> {
     /// Holds an end, of which no call has failed.
     pub fn new(inner: T) -> Watched<T>
-        ensures { result ≡ record { inner = inner; failed = false } }
+        ensures new { result ≡ record { inner = inner; failed = false; late = 0 } }
     {
         Watched {
             inner,
             failed: false,
+            late: Steps::new(),
         }
     }
 
     /// Whether some call has failed.
     pub fn failed(&self) -> bool
-        ensures { result ≡ self.now.failed }
+        ensures failed { result ≡ self.now.failed }
     {
         self.failed
     }
 
     /// Gives the end back.
     pub fn into_inner(self) -> T
-        ensures { result ≡ self.inner }
+        ensures inner { result ≡ self.inner }
     {
-        let Watched { inner, failed: _ } = self;
+        let Watched {
+            inner,
+            failed: _,
+            late: _,
+        } = self;
         inner
+    }
+
+    // Each call of the end begins with this.
+    fn note_call(&mut self)
+        ensures { self.new ≡ record self.old { late = late_after self.old } }
+    {
+        if self.failed {
+            self.late.tick();
+        }
     }
 }
 
@@ -55,7 +72,9 @@ impl<R: Read> Watched<R> {
         ensures bound { ReadsAtMost result buf.new }
         ensures bytes { ReadConsumes (R.remaining self.old.inner) (R.remaining self.new.inner) result buf.new }
         ensures failed { self.new.failed ≡ (self.old.failed || read_failed result) }
+        ensures late { self.new.late ≡ late_after self.old }
     {
+        self.note_call();
         let result = self.inner.read(buf);
         if result.is_err() {
             self.failed = true;
@@ -71,7 +90,9 @@ impl<W: Write> Watched<W> {
         ensures bound { WritesAtMost result buf.now }
         ensures bytes { WriteAppends (W.contents self.old.inner) (W.contents self.new.inner) result buf.now }
         ensures failed { self.new.failed ≡ (self.old.failed || write_failed buf.now result) }
+        ensures late { self.new.late ≡ late_after self.old }
     {
+        self.note_call();
         let result = self.inner.write(buf);
         match result {
             Ok(0) if !buf.is_empty() => self.failed = true,

@@ -6,6 +6,7 @@ abbrev pub invariant-loop-all : goal.invariant-loop-all
 invariant-loop-all g l = record {
   known : Consumes (g.R.Read.remaining l.fn.reader.inner) (g.R.Read.remaining l.reader.inner) l.all.items;
   good : l.reader.failed ≡ false;
+  no_late : l.reader.late ≡ l.fn.reader.late;
   size : length l.buffer ≡ 8192;
 }
 

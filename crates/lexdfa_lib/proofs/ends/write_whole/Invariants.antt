@@ -7,6 +7,7 @@ invariant-loop-at g l = record {
   inside : l.at ≤ length l.bytes;
   known : Appends (g.W.Write.contents l.fn.writer.inner) (g.W.Write.contents l.writer.inner) (take l.at l.bytes);
   good : l.writer.failed ≡ false;
+  no_late : l.writer.late ≡ l.fn.writer.late;
 }
 
 abbrev pub decreases-loop-at : goal.decreases-loop-at

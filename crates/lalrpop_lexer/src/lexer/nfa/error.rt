@@ -1,3 +1,0 @@
-//! Why a pattern was not compiled.
-
-pub use lalrpop_nfa::NfaConstructionError;
