@@ -16,6 +16,19 @@ abbrev pub Covered : List Range → ℕ → Type 0
 Covered [] c = ⊥
 Covered (r ∷ rs) c = Covers r c ⊎ Covered rs c
 
+-- the value lies in the one list or the other, in both, in the first alone, in just one of them
+abbrev pub InEither : List Range → List Range → ℕ → Type 0
+InEither rs ss c = Covered rs c ⊎ Covered ss c
+
+abbrev pub InBoth : List Range → List Range → ℕ → Type 0
+InBoth rs ss c = Covered rs c × Covered ss c
+
+abbrev pub InFirstAlone : List Range → List Range → ℕ → Type 0
+InFirstAlone rs ss c = Covered rs c × ¬ Covered ss c
+
+abbrev pub InJustOne : List Range → List Range → ℕ → Type 0
+InJustOne rs ss c = InFirstAlone rs ss c ⊎ InFirstAlone ss rs c
+
 -- a scalar value: a code value that is no surrogate
 abbrev pub IsScalar : ℕ → Type 0
 IsScalar c = (c ≤ 55295) ⊎ ((57344 ≤ c) × (c ≤ 1114111))

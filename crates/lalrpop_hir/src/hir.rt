@@ -175,7 +175,7 @@ impl Model for Capture {
 impl Hir {
     /// The tree that matches the empty text alone.
     pub fn empty() -> Hir
-        ensures { result ≡ empty }
+        ensures tree { result ≡ empty }
     {
         Hir {
             kind: HirKind::Empty,
@@ -188,7 +188,7 @@ impl Hir {
     ///
     /// `AllocError` where a request for memory was refused.
     pub fn literal(alloc: Global, s: &str) -> Result<Hir, AllocError>
-        ensures { IfOk result (λ t. t ≡ of_text s.now) }
+        ensures tree { IfOk result (λ t. t ≡ of_text s.now) }
     {
         if s.is_empty() {
             return Ok(Hir::empty());
@@ -201,7 +201,7 @@ impl Hir {
 
     /// The tree that matches one value of the set.
     pub fn class(members: Class) -> Hir
-        ensures { result ≡ class (class_of members) }
+        ensures tree { result ≡ class (class_of members) }
     {
         Hir {
             kind: HirKind::Class(members),
@@ -210,7 +210,7 @@ impl Hir {
 
     /// The tree that asks `at` of a place.
     pub fn look(at: Look) -> Hir
-        ensures { result ≡ look at }
+        ensures tree { result ≡ look at }
     {
         Hir {
             kind: HirKind::Look(at),
@@ -219,7 +219,7 @@ impl Hir {
 
     /// The tree of a repetition.
     pub fn repetition(r: Repetition) -> Hir
-        ensures { result ≡ repetition r.min r.max r.greedy r.sub }
+        ensures tree { result ≡ repetition r.min r.max r.greedy r.sub }
     {
         Hir {
             kind: HirKind::Repetition(r),
@@ -228,7 +228,7 @@ impl Hir {
 
     /// The tree of a group.
     pub fn capture(c: Capture) -> Hir
-        ensures { result ≡ capture c.name c.sub }
+        ensures tree { result ≡ capture c.name c.sub }
     {
         Hir {
             kind: HirKind::Capture(c),
@@ -238,7 +238,7 @@ impl Hir {
     /// The tree that matches a piece for each of `subs`, in their order. It is kept as given, also with one part
     /// or none.
     pub fn concat(subs: Vec<Hir>) -> Hir
-        ensures { result ≡ concat (trees subs.items) }
+        ensures tree { result ≡ concat (trees subs.items) }
     {
         Hir {
             kind: HirKind::Concat(subs),
@@ -247,7 +247,7 @@ impl Hir {
 
     /// The tree that matches what some of `subs` matches. It is kept as given, also with one part or none.
     pub fn alternation(subs: Vec<Hir>) -> Hir
-        ensures { result ≡ alternation (trees subs.items) }
+        ensures tree { result ≡ alternation (trees subs.items) }
     {
         Hir {
             kind: HirKind::Alternation(subs),
@@ -256,7 +256,7 @@ impl Hir {
 
     /// What stands at the top of the tree, and the trees below it.
     pub fn kind(&self) -> &HirKind
-        ensures { kind_tree result.now ≡ self.now }
+        ensures level { kind_tree result.now ≡ self.now }
     {
         &self.kind
     }

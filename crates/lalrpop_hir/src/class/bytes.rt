@@ -8,7 +8,7 @@ use std::alloc::{AllocError, Global};
 impl ClassBytesRange {
     /// The range with the ends `a` and `b`, which may be given in either order.
     pub fn new(a: u8, b: u8) -> ClassBytesRange
-        ensures { result ≡ record { start = min a b; end = max a b } }
+        ensures ends { result ≡ record { start = min a b; end = max a b } }
     {
         if a <= b {
             ClassBytesRange { start: a, end: b }
@@ -42,7 +42,7 @@ impl ClassBytes {
     ///
     /// `AllocError` where a request for memory was refused.
     pub fn new(alloc: Global, mut ranges: Vec<ClassBytesRange>) -> Result<ClassBytes, AllocError>
-        ensures { IfOk result (λ class. IsByteCanon (Covered ranges.items) class) }
+        ensures runs { IfOk result (λ class. IsByteCanon (Covered ranges.items) class) }
     {
         ranges.sort_unstable_by_key(|range| range.start);
         let ranges = join_bytes(alloc, &ranges)?;

@@ -8,7 +8,7 @@ use std::alloc::{AllocError, Global};
 impl ClassUnicodeRange {
     /// The range with the ends `a` and `b`, which may be given in either order.
     pub fn new(a: char, b: char) -> ClassUnicodeRange
-        ensures { result ≡ record { start = min a b; end = max a b } }
+        ensures ends { result ≡ record { start = min a b; end = max a b } }
     {
         if a <= b {
             ClassUnicodeRange { start: a, end: b }
@@ -45,7 +45,7 @@ impl ClassUnicode {
         alloc: Global,
         mut ranges: Vec<ClassUnicodeRange>,
     ) -> Result<ClassUnicode, AllocError>
-        ensures { IfOk result (λ class. IsCanon (Covered ranges.items) class) }
+        ensures runs { IfOk result (λ class. IsCanon (Covered ranges.items) class) }
     {
         ranges.sort_unstable_by_key(|range| range.start);
         let ranges = join_characters(alloc, &ranges)?;

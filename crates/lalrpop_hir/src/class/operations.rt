@@ -1,7 +1,7 @@
 //! Union, intersection, difference, symmetric difference and complement of sets of characters.
-ghost use Rattle.std.specs.Prelude.{◌≡◌, ℕ, ◌<◌, ◌⊎◌, ◌↔◌, IfOk};
+ghost use Rattle.std.specs.Prelude.{◌≡◌, ℕ, ◌<◌, ◌↔◌, IfOk};
 ghost use Rattle.std.specs.List.Sorted.{IsNonDecreasingBy};
-ghost use Rattle.lalrpop_hir.specs.Range.{IsCanonical, IsCanon, IsScalar, Covered, next_scalar};
+ghost use Rattle.lalrpop_hir.specs.Range.{IsCanonical, IsCanon, IsScalar, Covered, InEither, InBoth, InFirstAlone, InJustOne, next_scalar};
 
 use super::characters::{code_after, join_characters};
 use super::{ClassUnicode, ClassUnicodeRange};
@@ -14,7 +14,7 @@ impl ClassUnicode {
     ///
     /// `AllocError` where a request for memory was refused.
     pub fn union(&self, alloc: Global, other: &ClassUnicode) -> Result<ClassUnicode, AllocError>
-        ensures { IfOk result (λ class. IsCanon (λ c. Covered self.now c ⊎ Covered other.now c) class) }
+        ensures runs { IfOk result (λ class. IsCanon (InEither self.now other.now) class) }
     {
         let ranges = merge_characters(alloc, self.ranges(), other.ranges())?;
         let ranges = join_characters(alloc, &ranges)?;
@@ -31,7 +31,7 @@ impl ClassUnicode {
         alloc: Global,
         other: &ClassUnicode,
     ) -> Result<ClassUnicode, AllocError>
-        ensures { IfOk result (λ class. IsCanon (λ c. Covered self.now c × Covered other.now c) class) }
+        ensures runs { IfOk result (λ class. IsCanon (InBoth self.now other.now) class) }
     {
         let outside = self.complement(alloc)?;
         let outside_other = other.complement(alloc)?;
@@ -49,7 +49,7 @@ impl ClassUnicode {
         alloc: Global,
         other: &ClassUnicode,
     ) -> Result<ClassUnicode, AllocError>
-        ensures { IfOk result (λ class. IsCanon (λ c. Covered self.now c × ¬ Covered other.now c) class) }
+        ensures runs { IfOk result (λ class. IsCanon (InFirstAlone self.now other.now) class) }
     {
         let outside = self.complement(alloc)?;
         outside.union(alloc, other)?.complement(alloc)
@@ -65,7 +65,7 @@ impl ClassUnicode {
         alloc: Global,
         other: &ClassUnicode,
     ) -> Result<ClassUnicode, AllocError>
-        ensures { IfOk result (λ class. IsCanon (λ c. (Covered self.now c × ¬ Covered other.now c) ⊎ (Covered other.now c × ¬ Covered self.now c)) class) }
+        ensures runs { IfOk result (λ class. IsCanon (InJustOne self.now other.now) class) }
     {
         let here = self.difference(alloc, other)?;
         let there = other.difference(alloc, self)?;
@@ -78,7 +78,7 @@ impl ClassUnicode {
     ///
     /// `AllocError` where a request for memory was refused.
     pub fn complement(&self, alloc: Global) -> Result<ClassUnicode, AllocError>
-        ensures { IfOk result (λ class. IsCanon (λ c. ¬ Covered self.now c) class) }
+        ensures runs { IfOk result (λ class. IsCanon (λ c. ¬ Covered self.now c) class) }
     {
         let ranges = character_gaps(alloc, self.ranges())?;
         Ok(ClassUnicode { ranges })
@@ -94,7 +94,7 @@ fn merge_characters(
     requires left_canonical { IsCanonical left.now }
     requires right_canonical { IsCanonical right.now }
     ensures ascending { IfOk result (λ ranges. IsNonDecreasingBy (λ range. range.start) ranges.items) }
-    ensures covers { IfOk result (λ ranges. (c : ℕ) → (Covered left.now c ⊎ Covered right.now c) ↔ Covered ranges.items c) }
+    ensures covers { IfOk result (λ ranges. (c : ℕ) → InEither left.now right.now c ↔ Covered ranges.items c) }
 {
     let mut ranges = Vec::new(alloc);
     let mut i = 0;

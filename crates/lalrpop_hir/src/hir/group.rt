@@ -5,14 +5,14 @@ use super::{Capture, Hir};
 impl Capture {
     /// The group of `sub`, under a name or without one.
     pub fn new(name: Option<String>, sub: Box<Hir>) -> Capture
-        ensures { result ≡ record { name = option_map string_bytes name; sub = sub.value } }
+        ensures parts { result ≡ record { name = option_map string_bytes name; sub = sub.value } }
     {
         Capture { name, sub }
     }
 
     /// The group's name, if it has one.
     pub fn name(&self) -> Option<&str>
-        ensures { option_map (λ s. s.now) result ≡ self.now.name }
+        ensures name { option_map (λ s. s.now) result ≡ self.now.name }
     {
         match &self.name {
             None => None,
@@ -22,7 +22,7 @@ impl Capture {
 
     /// What stands in the group.
     pub fn sub(&self) -> &Hir
-        ensures { result.now ≡ self.now.sub }
+        ensures sub { result.now ≡ self.now.sub }
     {
         &self.sub
     }

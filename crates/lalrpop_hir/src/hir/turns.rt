@@ -8,7 +8,7 @@ impl Repetition {
     /// prefers more turns, which has no effect on what it matches.
     pub fn new(min: u32, max: Option<u32>, greedy: bool, sub: Box<Hir>) -> Repetition
         requires ordered { AreOrdered min max }
-        ensures { result ≡ record { min = min; max = max; greedy = greedy; sub = sub.value } }
+        ensures parts { result ≡ record { min = min; max = max; greedy = greedy; sub = sub.value } }
     {
         Repetition {
             min,
@@ -36,14 +36,14 @@ impl Repetition {
 
     /// Whether more turns are preferred to fewer.
     pub fn greedy(&self) -> bool
-        ensures { result ≡ self.now.greedy }
+        ensures greedy { result ≡ self.now.greedy }
     {
         self.greedy
     }
 
     /// What is repeated.
     pub fn sub(&self) -> &Hir
-        ensures { result.now ≡ self.now.sub }
+        ensures sub { result.now ≡ self.now.sub }
     {
         &self.sub
     }

@@ -91,7 +91,7 @@ parse_operand-loop-cursor-preserved t c =
 pub parse_operand-returns-clause-value : goal.parse_operand-returns-clause-value
 parse_operand-returns-clause-value t c =
     let w = c.loop-cursor.invariant.value in
-    (record { sets = w.0; depth = c.loop-cursor.depth; rest = text c.loop-cursor.cursor }, sym w.2 ∙ operand_stop c.loop-cursor.cursor.flags c.args.room _ (sym c.ends_operand.ensures ∙ c.loop-cursor-test.false), (HasRuns-from_members c.loop-cursor.ranges.items c.in_ok-class.class (union_all w.0) c.in_ok-class.ensures w.1, refl, refl))
+    (record { sets = w.0; depth = c.loop-cursor.depth; rest = text c.loop-cursor.cursor }, sym w.2 ∙ operand_stop c.loop-cursor.cursor.flags c.args.room _ (sym c.ends_operand.ensures ∙ c.loop-cursor-test.false), (HasRuns-from_members c.loop-cursor.ranges.items c.in_ok-class.class (union_all w.0) c.in_ok-class.ensures.runs w.1, refl, refl))
 
 pub parse_operations-returns-in_default-clause-value : goal.parse_operations-returns-in_default-clause-value
 parse_operations-returns-in_default-clause-value t c = λ s h.

@@ -8,4 +8,4 @@ pub returns : goal.returns
 returns c =
     let rs = c.args.class.now in
     IfOk-weaker c.complement.result (λ r. IsCanon (λ k. ¬ Covered rs k) r) (λ r. (s : Set) → HasRuns rs s → HasRuns r (complement s))
-    (λ r m s k. HasRuns-complement rs r s k m) c.complement.ensures
+    (λ r m s k. HasRuns-complement rs r s k m) c.complement.ensures.runs

@@ -11,4 +11,4 @@ returns-then-flags c = where_ok c.push_class.result c.push_class.ensures (λ g. 
 pub returns : goal.returns
 returns c =
     Gains-plain c.args.flags c.args.low c.args.high c.args.ranges.now.items c.push.new.self.items c.requires c.if-flags.false
-    (c.in_ok-push.ensures.items ∙ ap (λ (r : Range). c.args.ranges.now.items ++ r ∷ []) c.new.ensures)
+    (c.in_ok-push.ensures.items ∙ ap (λ (r : Range). c.args.ranges.now.items ++ r ∷ []) c.new.ensures.ends)

@@ -13,4 +13,4 @@ returns-in-SymmetricDifference c =
     let ys = c.args.right.now in
     IfOk-weaker c.symmetric_difference.result (λ r. IsCanon (λ k. (Covered xs k × ¬ Covered ys k) ⊎ (Covered ys k × ¬ Covered xs k)) r)
     (λ r. (s t : Set) → HasRuns xs s → HasRuns ys t → HasRuns r (apply (operator_view c.args.operator) s t))
-    (λ r k s t m n. rw c.in-SymmetricDifference.is (HasRuns-xor xs ys r s t m n k)) c.symmetric_difference.ensures
+    (λ r k s t m n. rw c.in-SymmetricDifference.is (HasRuns-xor xs ys r s t m n k)) c.symmetric_difference.ensures.runs

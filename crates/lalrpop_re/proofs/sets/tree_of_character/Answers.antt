@@ -27,4 +27,4 @@ returns c =
       | else-flags w ↦ literal-plain f x w.if-flags.false
     ] in
     IfOk-weaker c.literal.result (λ t. t ≡ of_text bs) (λ t. t ≡ literal_tree f x)
-    (λ t k. k ∙ (text-one x bs (search rules) c.encode_utf8.ensures.value c.encode_utf8.ensures.lower_bound ∙ sym one)) c.literal.ensures
+    (λ t k. k ∙ (text-one x bs (search rules) c.encode_utf8.ensures.value c.encode_utf8.ensures.lower_bound ∙ sym one)) c.literal.ensures.tree

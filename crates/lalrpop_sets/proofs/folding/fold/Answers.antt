@@ -21,4 +21,4 @@ returns c =
     let rs = c.loop-range.ranges.items in
     let all = take_all c.loop-range.range-index c.ranges-range-items.result.now c.loop-range-test.false ∙ c.ranges-range-items.ensures.value in
     let folded : HasFolded class class rs = subst (λ l. HasFolded class l rs) all c.loop-range.invariant in
-    record { runs = IfOk-weaker c.new.result (λ r. IsCanon (Covered rs) r) (λ r. (s : Set) → HasRuns class s → HasRuns r (fold s)) (λ r k. all_folded class rs r folded k) c.new.ensures }
+    record { runs = IfOk-weaker c.new.result (λ r. IsCanon (Covered rs) r) (λ r. (s : Set) → HasRuns class s → HasRuns r (fold s)) (λ r k. all_folded class rs r folded k) c.new.ensures.runs }

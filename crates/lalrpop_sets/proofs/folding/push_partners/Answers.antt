@@ -13,7 +13,7 @@ loop-pair-preserved c =
     let now = c.loop-pair.ranges.items in
     subst (λ l. HasTaken base l c.match-from_u32.ranges.items) (sym (take_more ps i (0, 0) c.loop-pair-test.true))
     (elim c.match-from_u32.branch [
-      | in-Some+in_ok-push w ↦ rw (w.ranges-is, w.in_ok-push.ensures.items, w.new.ensures, w.in-Some.ensures.value.1) (taken base now (take i ps) p c.loop-pair.invariant)
+      | in-Some+in_ok-push w ↦ rw (w.ranges-is, w.in_ok-push.ensures.items, w.new.ensures.ends, w.in-Some.ensures.value.1) (taken base now (take i ps) p c.loop-pair.invariant)
       | in_default w ↦ rw w.ranges-is (not_taken base now (take i ps) p (λ u. let out = w.in_default.ensures.cases in elim u [ inl h ↦ omega (arith, out) | inr h ↦ omega (arith, out) ]) c.loop-pair.invariant)
     ])
 

@@ -10,4 +10,4 @@ join_bytes-requires c =
 
 pub returns : goal.returns
 returns c =
-    AreRuns-permutation next_byte IsByte _ _ _ c.sort_unstable_by_key.ensures.permutation (rw (← c.deref.ensures.value) c.in_ok-ranges.ensures)
+    record { runs = AreRuns-permutation next_byte IsByte _ _ _ c.sort_unstable_by_key.ensures.permutation (rw (← c.deref.ensures.value) c.in_ok-ranges.ensures) }

@@ -15,7 +15,7 @@ loop-run-preserved c =
       | then-low-start+in_ok-push w ↦
           let below : c.loop-run.low < s.start = omega (arith, w.if-low-start.true, c.start-start.ensures.value) in
           let gap : w.new.result ≡ to c.loop-run.low (prev_scalar s.start) =
-          gap-range _ _ _ _ _ c.loop-run.invariant.place kept.1.0 below w.character.ensures w.character_before.ensures.scalar (w.character_before.ensures.before ∙ c.start-start.ensures.value) w.new.ensures in
+          gap-range _ _ _ _ _ c.loop-run.invariant.place kept.1.0 below w.character.ensures w.character_before.ensures.scalar (w.character_before.ensures.before ∙ c.start-start.ensures.value) w.new.ensures.ends in
           rw (w.gaps-is, w.in_ok-push.ensures.items, c.code_after-low.ensures, c.end.ensures.value) (IsLeavingOut-behind _ _ _ _ s _ c.loop-run.invariant here below gap)
       | else-low-start w ↦
           rw (w.gaps-is, c.code_after-low.ensures, c.end.ensures.value) (IsLeavingOut-beside _ _ _ _ s c.loop-run.invariant here (omega (arith, w.if-low-start.false, c.start-start.ensures.value)))
@@ -28,7 +28,7 @@ returns c =
       | then-low-le1114111+in_ok-push-2 w ↦
           let below : c.loop-run.low < 1114112 = omega (arith, w.if-low-le1114111.true) in
           let gap : w.new-then-low-le1114111.result ≡ to c.loop-run.low 1114111 =
-          top-range _ _ _ w.character-then-low-le1114111.ensures below w.new-then-low-le1114111.ensures in
+          top-range _ _ _ w.character-then-low-le1114111.ensures below w.new-then-low-le1114111.ensures.ends in
           rw (w.gaps-is, w.in_ok-push-2.ensures.items, gap) (IsLeavingOut-open _ _ _ _ c.loop-run.invariant c.loop-run-test.false below)
       | else-low-le1114111 w ↦
           rw w.gaps-is (sym (append-nil _) ∙ IsLeavingOut-closed _ _ _ _ c.loop-run.invariant c.loop-run-test.false (omega (arith, w.if-low-le1114111.false)))
