@@ -56,7 +56,7 @@ impl Model for Nfa {
 impl Nfa {
     ghost use Rattle.std.specs.Prelude.{OnOk, OnErr, length, slice_get, IsSomeAnd};
     ghost use Rattle.lalrpop_nfa.specs.declared.edge.StateKind.TheVariants.{Accept, Reject};
-    ghost use Rattle.lalrpop_nfa.specs.Compiled.{IsCompiled};
+    ghost use Rattle.lalrpop_nfa.specs.Compiled.{IsCompiled, HasFixedEdges};
     ghost use Rattle.std.specs.List.{filter};
     ghost use Rattle.lalrpop_nfa.specs.Walk.{leaves};
     ghost use Rattle.lalrpop_nfa.specs.Internal.Adjacent.{IsOpen};
@@ -100,6 +100,7 @@ impl Nfa {
     /// faulty one's. What is never repeated has none. Else it fails only where memory is refused.
     pub fn from_re(alloc: Global, regex: &Regex) -> Result<Nfa, NfaConstructionError>
         ensures ok { IfOk result (λ nfa. (fault regex.now ≡ None) × IsCompiled regex.now nfa) }
+        ensures fixed_edges { IfOk result (λ nfa. HasFixedEdges nfa.edges) }
         ensures err { IfErr result (λ e. e ≢ NfaConstructionError.OutOfMemory → fault regex.now ≡ Some e) }
     {
         let mut nfa = Nfa::new(alloc)?;
