@@ -1,13 +1,15 @@
 use Rattle.std.proofs.Common.{◌≡◌, ◌≤◌, ◌+◌, ◌-◌, ◌*◌, [], length, take, sym, ap, subst, ◌∙◌, arith}
+use Rattle.std.specs.Prelude.{IfSome}
 use Rattle.std.specs.Str.{chars, IsCharBoundary}
 use Rattle.std.specs.Str.Iter.{char_indices_rest, char_indices_offset}
 use Rattle.std.specs.Option.{option_map}
 use Rattle.std.proofs.Math.Nat.{mul-le-mul_left}
 use Rattle.std.proofs.lemmas.Str.{chars-nil, IsCharBoundary-start, IsCharBoundary-from_take}
 use Rattle.lalrpop_hir.specs.Language.{Matches}
+use Rattle.lalrpop_nfa.specs.Beginning.{IsBeginning}
 use Rattle.lalrpop_nfa.specs.Internal.Layers.{IsMove}
 use Rattle.lalrpop_nfa.proofs.LayerLemmas.{IsAfterWord, after_none, after_next, matched_if, only_if_matched, none_on}
-use Rattle.lalrpop_nfa.proofs.BeginningLemmas.{IsLongestOfUpTo, of_accept, of_start, of_pass, of_end, of_stop}
+use Rattle.lalrpop_nfa.proofs.BeginningLemmas.{IsLongestOfUpTo, of_cut, of_accept, of_start, of_pass, of_end, of_stop}
 use Rattle.lalrpop_nfa.proofs.Cuts.{cut_start, cut_within, cut_more, count_more, count_within, word_after}
 use Rattle.lalrpop_nfa.proofs.interpret.interpret_counted.Goals as goal
 use Rattle.lalrpop_nfa.proofs.interpret.interpret_counted.Goals.{then-accepts, else-accepts, in-None, in-Some+then-rejects}
@@ -42,6 +44,14 @@ loop-offset-init c =
                 let no = w.if-accepts.false in
                 absurd cc))
           ];
+      part =
+          elim c.if-accepts.branch [
+            | then-accepts w ↦
+                subst (λ found. IfSome found (λ s. IsBeginning s.now text)) (sym w.longest-is)
+                (of_cut text text 0 w.range.result.now (cut_start text c.utf8.text) w.range.ensures.value)
+            | else-accepts w ↦ subst (λ found. IfSome found (λ s. IsBeginning s.now text)) (sym w.longest-is) tt
+          ];
+      rises = c.in_ok-layer.ensures.rises;
       cost = omega (arith, one, c.in_ok-layer.ensures.cost);
     }
 
@@ -102,6 +112,8 @@ loop-offset-preserved-then-accepts-2 c =
       best = λ t h.
           of_accept (Matches t) text rest2 at2 c.range-then-accepts-2.result.now cut is
           (matched_if t g (chars (take at2 text)) next h after (c.accepts-in-loop-offset.ensures.0 c.if-accepts-2.true));
+      part = of_cut text rest2 at2 c.range-then-accepts-2.result.now cut is;
+      rises = omega (arith, c.after.ensures.rises, i.rises);
       cost = omega (arith, count, i.cost, c.after.ensures.cost);
     }
 
@@ -135,6 +147,8 @@ loop-offset-preserved c =
           let no = c.if-accepts-2.false in
           absurd cc)
           (i.best t h);
+      part = i.part;
+      rises = omega (arith, c.after.ensures.rises, i.rises);
       cost = omega (arith, count, i.cost, c.after.ensures.cost);
     }
 

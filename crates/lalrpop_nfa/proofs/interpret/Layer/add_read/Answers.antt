@@ -18,6 +18,7 @@ loop-test_edge-init c =
       layer = c.requires.layer;
       size = refl;
       counted = refl;
+      rises = omega arith;
       going =
           subst (λ rest. IsGoing n c.args.from all rest (λ x. Covers x.label c.args.value) old old) (sym is)
           (going_start n c.args.from all (λ x. Covers x.label c.args.value) old);
@@ -39,6 +40,7 @@ loop-test_edge-preserved-in-Continue-1 c =
       layer = a.layer;
       size = a.size ∙ i.size;
       counted = omega (arith, a.counted, i.counted);
+      rises = omega (arith, a.rises, i.rises);
       going =
           going_more n c.args.from all c.loop-test_edge.test_edge-iterator c.next.new.self (λ y. Covers y.label c.args.value) c.args.self.now.states.items c.loop-test_edge.self.states.items x
           c.add.new.self.states.items i.going s covers
@@ -59,6 +61,7 @@ loop-test_edge-preserved c =
       layer = i.layer;
       size = i.size;
       counted = i.counted;
+      rises = i.rises;
       going =
           going_past n c.args.from all c.loop-test_edge.test_edge-iterator c.next.new.self (λ y. Covers y.label c.args.value) c.args.self.now.states.items c.loop-test_edge.self.states.items x
           i.going s not;
@@ -83,6 +86,7 @@ loop-other_edge-init c =
       layer = c.loop-test_edge.invariant.layer;
       size = refl;
       counted = refl;
+      rises = omega arith;
       going =
           subst (λ rest. IsGoing n c.args.from c.args.nfa.now.edges.others rest (λ x. Unit {0}) old old)
           (sym (c.into_iter-other_edge-iterator.ensures.into_iter_gives ∙ c.edges-other_edge-items.ensures))
@@ -100,6 +104,7 @@ loop-other_edge-preserved c =
       layer = a.layer;
       size = a.size ∙ i.size;
       counted = omega (arith, a.counted, i.counted);
+      rises = omega (arith, a.rises, i.rises);
       going =
           going_more n c.args.from c.args.nfa.now.edges.others c.loop-other_edge.other_edge-iterator c.next-in-loop-other_edge.new.self (λ y. Unit {0}) c.loop-test_edge.self.states.items
           c.loop-other_edge.self.states.items x c.add-in-loop-other_edge.new.self.states.items i.going s tt

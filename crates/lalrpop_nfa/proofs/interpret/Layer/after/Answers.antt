@@ -23,6 +23,7 @@ loop-state-preserved c =
       layer = a.layer;
       size = a.size ∙ i.size;
       counted = omega (arith, a.counted, i.counted);
+      rises = omega (arith, a.rises, i.rises);
       moving =
           moving_more e (length c.args.nfa.now.kinds) c.args.value given now new c.loop-state.state-index c.state-item.result i.moving (omega (arith, c.deref-state-items.ensures.len, c.loop-state-test.true, ap length c.deref-state-items.ensures.value)) here
           (subst (λ m. IsGrown m now new (Reads e c.state-item.result c.args.value)) i.size a.states);
