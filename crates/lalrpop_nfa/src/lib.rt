@@ -64,8 +64,8 @@ impl Nfa {
 
     /// The edges of one kind that leave the state, in the order of the list of that kind.
     pub fn edges<L: EdgeLabel>(&self, from: NfaStateIndex) -> EdgeIterator<'_, L>
-        requires { from < length self.now.kinds }
-        ensures { result ≡ filter (leaves from) (L.list self.now.edges) }
+        requires is_state { from < length self.now.kinds }
+        ensures edges { result ≡ filter (leaves from) (L.list self.now.edges) }
     {
         EdgeIterator {
             edges: L::vec(&self.edges).as_slice(),
@@ -111,38 +111,38 @@ impl Nfa {
 
     /// What the state is for.
     pub fn kind(&self, from: NfaStateIndex) -> StateKind
-        requires { from < length self.now.kinds }
-        ensures { slice_get self.now.kinds from ≡ Some result }
+        requires is_state { from < length self.now.kinds }
+        ensures kind { slice_get self.now.kinds from ≡ Some result }
     {
         self.states[from.0].kind
     }
 
     /// Whether the state is one in which a word is matched.
     pub fn is_accepting_state(&self, from: NfaStateIndex) -> bool
-        requires { from < length self.now.kinds }
-        ensures { IsTrue result ↔ (slice_get self.now.kinds from ≡ Some Accept) }
+        requires is_state { from < length self.now.kinds }
+        ensures answer { IsTrue result ↔ (slice_get self.now.kinds from ≡ Some Accept) }
     {
         self.kind(from) == StateKind::Accept
     }
 
     /// Whether the state is one in which no continuation of the word is matched.
     pub fn is_rejecting_state(&self, from: NfaStateIndex) -> bool
-        requires { from < length self.now.kinds }
-        ensures { IsTrue result ↔ (slice_get self.now.kinds from ≡ Some Reject) }
+        requires is_state { from < length self.now.kinds }
+        ensures answer { IsTrue result ↔ (slice_get self.now.kinds from ≡ Some Reject) }
     {
         self.kind(from) == StateKind::Reject
     }
 
     /// Whether the index is that of a state of this automaton.
     pub fn contains_state(&self, index: NfaStateIndex) -> bool
-        ensures { IsTrue result ↔ (index < length self.now.kinds) }
+        ensures answer { IsTrue result ↔ (index < length self.now.kinds) }
     {
         index.0 < self.states.len()
     }
 
     /// The number of states.
     pub fn len(&self) -> usize
-        ensures { result ≡ length self.now.kinds }
+        ensures value { result ≡ length self.now.kinds }
     {
         self.states.len()
     }

@@ -13,7 +13,7 @@ loop-test_edge-init c =
     let n = length c.args.self.now.marks.items in
     let all = c.args.nfa.now.edges.tests in
     let old = c.args.self.now.states.items in
-    let is = c.into_iter-test_edge-iterator.ensures.into_iter_gives ∙ c.edges-test_edge-items.ensures in
+    let is = c.into_iter-test_edge-iterator.ensures.into_iter_gives ∙ c.edges-test_edge-items.ensures.edges in
     record {
       layer = c.requires.layer;
       size = refl;
@@ -34,7 +34,7 @@ loop-test_edge-preserved-in-Continue-1 c =
     let s = c.in-Some.ensures.steps in
     let x = c.in-Some.test_edge.now in
     let a = c.in_ok-add.ensures in
-    let covers = c.if-contains_u32.ensures.0 refl in
+    let covers = c.if-contains_u32.ensures.answer.0 refl in
     let inside = i.going.inside x (rw s (contains_head x c.next.new.self)) in
     record {
       layer = a.layer;
@@ -56,7 +56,7 @@ loop-test_edge-preserved c =
     let i = c.loop-test_edge.invariant in
     let s = c.in-Some.ensures.steps in
     let x = c.in-Some.test_edge.now in
-    let not : ¬ Covers x.label c.args.value = λ h. cc (c.if-contains_u32.ensures.1 h) in
+    let not : ¬ Covers x.label c.args.value = λ h. cc (c.if-contains_u32.ensures.answer.1 h) in
     record {
       layer = i.layer;
       size = i.size;
@@ -89,7 +89,7 @@ loop-other_edge-init c =
       rises = omega arith;
       going =
           subst (λ rest. IsGoing n c.args.from c.args.nfa.now.edges.others rest (λ x. Unit {0}) old old)
-          (sym (c.into_iter-other_edge-iterator.ensures.into_iter_gives ∙ c.edges-other_edge-items.ensures))
+          (sym (c.into_iter-other_edge-iterator.ensures.into_iter_gives ∙ c.edges-other_edge-items.ensures.edges))
           (going_start n c.args.from c.args.nfa.now.edges.others (λ x. Unit {0}) old);
     }
 

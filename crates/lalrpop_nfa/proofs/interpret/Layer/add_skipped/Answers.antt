@@ -11,7 +11,7 @@ loop-edge-init c = record {
   rises = omega arith;
   going =
       subst (λ rest. IsGoing (length c.args.self.now.marks.items) c.args.from c.args.nfa.now.edges.noops rest (λ x. Unit {0}) c.args.self.now.states.items c.args.self.now.states.items)
-      (sym (c.into_iter-edge-iterator.ensures.into_iter_gives ∙ c.edges-edge-items.ensures))
+      (sym (c.into_iter-edge-iterator.ensures.into_iter_gives ∙ c.edges-edge-items.ensures.edges))
       (going_start (length c.args.self.now.marks.items) c.args.from c.args.nfa.now.edges.noops (λ x. Unit {0}) c.args.self.now.states.items);
 }
 
