@@ -31,7 +31,7 @@ pub fn interpret<'text>(
     interpret_counted(alloc, nfa, text, &mut Steps::new())
 }
 
-/// The same answer. A step is counted for each pair of a state and an offset that is visited.
+/// The same answer. A step is counted for each pair of a state and an offset that is visited, and none is taken back.
 pub fn interpret_counted<'text>(
     alloc: Global,
     nfa: &Nfa,

@@ -94,7 +94,8 @@ impl Nfa {
     }
 
     /// Compiles a pattern to an automaton that reads exactly the pattern's words, from START to ACCEPT. It has at most
-    /// three states more than the pattern's size.
+    /// three states more than the pattern's size. One edge leaves each of ACCEPT and REJECT, an `Other` edge to REJECT, and
+    /// one leaves START, a `Noop` edge.
     ///
     /// A pattern is refused for its fault: of parts one after another the last faulty one's, of branches the first
     /// faulty one's. What is never repeated has none. Else it fails only where memory is refused.
