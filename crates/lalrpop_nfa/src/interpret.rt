@@ -14,6 +14,7 @@ ghost use Rattle.lalrpop_nfa.specs.declared.edge.StateKind.TheVariants.{Accept, 
 
 use super::{Nfa, NfaStateIndex, Noop, Other, START, Steps, Test};
 use std::alloc::{AllocError, Global};
+use std::mem;
 
 #[cfg(test)]
 mod tests;
@@ -44,6 +45,7 @@ pub fn interpret_counted<'text>(
     ensures rises { steps.old ≤ steps.new }
 {
     let mut layer = Layer::start(alloc, nfa, steps)?;
+    let mut next = Layer::empty(alloc, nfa.len())?;
     let mut longest = if layer.accepts(nfa) {
         Some(&text[..0])
     } else {
@@ -53,7 +55,8 @@ pub fn interpret_counted<'text>(
         if layer.rejects(nfa) {
             break;
         }
-        layer = layer.after(alloc, nfa, u32::from(c), steps)?;
+        next.read_from(&layer, nfa, u32::from(c), steps)?;
+        mem::swap(&mut layer, &mut next);
         if layer.accepts(nfa) {
             longest = Some(&text[..offset + c.len_utf8()]);
         }
@@ -91,27 +94,39 @@ impl Layer {
         Ok(layer)
     }
 
-    // The states that these lead to by reading the value.
-    fn after(
-        &self,
-        alloc: Global,
+    // Lists no state, with the memory that is there.
+    fn clear(&mut self)
+        ensures layer { IsLayer self.new.states.items self.new.marks.items }
+        ensures none { self.new.states.items ≡ [] }
+        ensures size { length self.new.marks.items ≡ length self.old.marks.items }
+    {
+        self.states.clear();
+        self.marks.fill(false);
+    }
+
+    // Becomes the states that those of another layer lead to by reading the value.
+    fn read_from(
+        &mut self,
+        before: &Layer,
         nfa: &Nfa,
         value: u32,
         steps: &mut Steps,
-    ) -> Result<Layer, AllocError>
-        requires layer { IsLayer self.now.states.items self.now.marks.items }
-        requires size { length self.now.marks.items ≡ length nfa.now.kinds }
-        ensures layer { IfOk result (λ l. IsLayer l.states.items l.marks.items × (length l.marks.items ≡ length nfa.now.kinds)) }
-        ensures states { IfOk result (λ l. IsMove nfa.now.edges (length nfa.now.kinds) value self.now.states.items l.states.items) }
+    ) -> Result<(), AllocError>
+        requires layer { IsLayer before.now.states.items before.now.marks.items }
+        requires before_size { length before.now.marks.items ≡ length nfa.now.kinds }
+        requires size { length self.old.marks.items ≡ length nfa.now.kinds }
+        ensures layer { OnOk result (IsLayer self.new.states.items self.new.marks.items) }
+        ensures size { length self.new.marks.items ≡ length nfa.now.kinds }
+        ensures states { OnOk result (IsMove nfa.now.edges (length nfa.now.kinds) value before.now.states.items self.new.states.items) }
         ensures cost { steps.new ≤ steps.old + length nfa.now.kinds }
         ensures rises { steps.old ≤ steps.new }
     {
-        let mut next = Layer::empty(alloc, nfa.len())?;
-        for state in &self.states {
-            next.add_read(nfa, *state, value, steps)?;
+        self.clear();
+        for state in &before.states {
+            self.add_read(nfa, *state, value, steps)?;
         }
-        next.close(nfa, steps)?;
-        Ok(next)
+        self.close(nfa, steps)?;
+        Ok(())
     }
 
     // Whether the pattern matches the beginning that leads here.

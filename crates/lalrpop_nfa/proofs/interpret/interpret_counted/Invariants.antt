@@ -17,6 +17,7 @@ abbrev pub invariant-loop-offset : goal.invariant-loop-offset
 invariant-loop-offset l = record {
   layer : IsLayer l.layer.states.items l.layer.marks.items;
   size : length l.layer.marks.items ≡ length l.nfa.kinds;
+  next_size : length l.next.marks.items ≡ length l.nfa.kinds;
   cut : IsCut l.text (char_indices_offset l.offset-iterator) (char_indices_rest l.offset-iterator);
   after : IsAfterWord l.nfa (chars (take (char_indices_offset l.offset-iterator) l.text)) l.layer.states.items;
   best : (t : Tree) → IsCompiled t l.nfa → IsLongestOfUpTo (Matches t) l.text (char_indices_offset l.offset-iterator) (option_map (λ s. s.now) l.longest);
