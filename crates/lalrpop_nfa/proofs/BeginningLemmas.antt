@@ -15,6 +15,10 @@ IsLongestOfUpTo L text n None = (p : List ℕ) → IsBeginning p text → L (cha
 IsLongestOfUpTo L text n (Some m) =
     IsBeginning m text × L (chars m) × ((p : List ℕ) → IsBeginning p text → L (chars p) → length p ≤ n → length p ≤ length m)
 
+-- what was read is a beginning
+pub of_cut : (text rest : List ℕ) (at : ℕ) (m : List ℕ) → IsCut text at rest → m ≡ take at text → IsBeginning m text
+of_cut text rest at m h is = subst (λ xs. IsBeginning xs text) (sym is) (rest, (h.split, h.seen_utf8))
+
 pub of_accept : (L : List ℕ → Type 0) (text rest : List ℕ) (at : ℕ) (m : List ℕ) → IsCut text at rest → m ≡ take at text → L (chars (take at text))
     → IsLongestOfUpTo L text at (Some m)
 of_accept L text rest at m h is l =

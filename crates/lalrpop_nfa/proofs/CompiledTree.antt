@@ -1,28 +1,30 @@
 -- The automaton of a tree reads exactly the tree's words.
 use Rattle.std.proofs.Common.{◌≡◌, ◌≢◌, ℕ, zero, suc, ◌<◌, ◌≤◌, ◌+◌, List, [], ◌∷◌, ◌++◌, length, refl, ap, sym, ◌∙◌, subst, arith, ◌⊎◌, inl, inr}
 use Rattle.std.specs.Prelude.{Some, None, slice_get, replicate}
-use Rattle.std.specs.List.{Contains}
+use Rattle.std.specs.List.{Contains, filter}
 use Rattle.std.proofs.lemmas.List.{append-nil, length-replicate}
-use Rattle.std.proofs.lemmas.List.Elements.{Contains-append_cases}
+use Rattle.std.proofs.lemmas.List.Elements.{Contains-append_cases, filter-append}
 use Rattle.lalrpop_hir.specs.Range.{Range}
 use Rattle.lalrpop_hir.specs.Tree.{Tree, size}
 use Rattle.lalrpop_hir.specs.Language.{Matches}
 use Rattle.lalrpop_nfa.specs.declared.edge.Edge.{Edge}
+use Rattle.lalrpop_nfa.specs.declared.edge.Noop.{Noop}
 use Rattle.lalrpop_nfa.specs.declared.edge.Other.{Other}
 use Rattle.lalrpop_nfa.specs.declared.edge.StateKind.TheVariants.{Accept, Reject, Neither}
 use Rattle.lalrpop_nfa.specs.Lists.{Lists}
+use Rattle.lalrpop_nfa.specs.Walk.{leaves}
 use Rattle.lalrpop_nfa.specs.Path.{noop, test, other, Path, here, skip, read, fall}
 use Rattle.lalrpop_nfa.specs.Fault.{fault}
 use Rattle.lalrpop_nfa.specs.Internal.Sound.{IsSound}
-use Rattle.lalrpop_nfa.specs.Compiled.{accept_state, reject_state, start_state, IsLabel, ReadsWordsOf, IsCompiled}
+use Rattle.lalrpop_nfa.specs.Compiled.{accept_state, reject_state, start_state, IsLabel, ReadsWordsOf, IsCompiled, HasFixedEdges}
 use Rattle.lalrpop_nfa.specs.Internal.Shape.{shape, noops_to, joined, fresh_graph, compiled}
 use Rattle.lalrpop_nfa.proofs.Contained.{contains_none, contains_cases, contains_only}
 use Rattle.lalrpop_nfa.proofs.Plain.{IsPlain, plain}
-use Rattle.lalrpop_nfa.proofs.Shapes.{Anywhere, Fits, Within, Fits-joined, Fits-noops_to, shape_leads, shape_within}
+use Rattle.lalrpop_nfa.proofs.Shapes.{Anywhere, Fits, Within, Fits-joined, Fits-noops_to, shape_leads, shape_within, filter_none}
 use Rattle.lalrpop_nfa.proofs.Sizes.{shape_size}
 use Rattle.lalrpop_nfa.proofs.Readings.{Reads, Reads-fork, FromSome-none, FromSome-also}
 use Rattle.lalrpop_nfa.proofs.ShapeReads.{Agrees, Agrees-left, Agrees-right, forks_at, shape_reads}
-use Rattle.lalrpop_nfa.proofs.ShapeTests.{GoodTests, shape_tests}
+use Rattle.lalrpop_nfa.proofs.ShapeTests.{GoodTests, shape_tests, places_apart}
 
 -- what the labels of a compiled tree are
 abbrev IsCodeLabel : Tree → Range → Type 0
@@ -175,5 +177,36 @@ compiled_is_compiled t s f =
       tests_in = λ x m. let w = (late_fits t).tests x m in (omega (arith, w.1, long), omega (arith, w.2.0, long), λ e. absurd (omega (arith, w.0)), w.2.1);
       others_in = λ x m. let w = to_reject t x m in (omega (arith, w.0, long), w.1);
       labels = good.labels;
-      apart = good.apart;
+      apart = places_apart (whole t).tests good.apart;
     }
+
+-- edges that leave other states are left out
+rest : {L : Type 0} (q : ℕ) (es others : List (Edge L)) → ((x : Edge L) → Contains es x → x.from ≢ q) → filter (leaves q) (es ++ others) ≡ filter (leaves q) others
+rest q es others f = filter-append (leaves q) es others ∙ ap (λ xs. xs ++ filter (leaves q) others) (filter_none q es f)
+
+abbrev lists : List (Edge Noop) → List (Edge Range) → List (Edge Other) → Lists
+lists a b c = record { noops = a; tests = b; others = c }
+
+same_lists : (a d : List (Edge Noop)) (b e : List (Edge Range)) (c f : List (Edge Other)) → a ≡ d → b ≡ e → c ≡ f → lists a b c ≡ lists d e f
+same_lists a d b e c f x y z = cc
+
+-- beside edges of further states, ACCEPT and REJECT have the edges that they began with, and START the one to the entry
+module _ (e : Lists) (entry end : ℕ) (w : Within 3 end e) where
+  noops : (q : ℕ) → q < 3 → filter (leaves q) (e.noops ++ noop start_state entry ∷ []) ≡ filter (leaves q) (noop start_state entry ∷ [])
+  noops q l = rest q e.noops (noop start_state entry ∷ []) (λ x m h. let k = w.noops x m in absurd (omega (arith, k.0, h)))
+
+  tests : (q : ℕ) → q < 3 → filter (leaves q) (e.tests ++ []) ≡ []
+  tests q l = rest q e.tests [] (λ x m h. let k = w.tests x m in absurd (omega (arith, k.0, h)))
+
+  others : (q : ℕ) → q < 3 → filter (leaves q) (e.others ++ []) ≡ []
+  others q l = rest q e.others [] (λ x m h. let k = w.others x m in absurd (omega (arith, k.0, h)))
+
+  fixed_beside : HasFixedEdges (joined (joined fresh_graph.edges e) (noops_to start_state (entry ∷ [])))
+  fixed_beside = record {
+    accept = same_lists _ [] _ [] (other accept_state reject_state ∷ filter (leaves accept_state) (e.others ++ [])) _ (noops 0 (omega arith)) (tests 0 (omega arith)) (ap (λ xs. other accept_state reject_state ∷ xs) (others 0 (omega arith)));
+    reject = same_lists _ [] _ [] (other reject_state reject_state ∷ filter (leaves reject_state) (e.others ++ [])) _ (noops 1 (omega arith)) (tests 1 (omega arith)) (ap (λ xs. other reject_state reject_state ∷ xs) (others 1 (omega arith)));
+    start = (entry, same_lists _ _ _ _ _ _ (noops 2 (omega arith)) (tests 2 (omega arith)) (others 2 (omega arith)));
+  }
+
+pub compiled_fixed : (t : Tree) → HasFixedEdges (compiled t).edges
+compiled_fixed t = fixed_beside (own t) (shape t accept_state 3).entry (end t) (shape_within t accept_state 3)

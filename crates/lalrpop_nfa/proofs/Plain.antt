@@ -3,16 +3,18 @@ use Rattle.std.proofs.Common.{◌≡◌, ℕ, zero, suc, ◌+◌, ◌<◌, ◌�
 use Rattle.std.specs.Prelude.{Option, Some, None}
 use Rattle.std.specs.List.{Contains}
 use Rattle.std.specs.Option.{option_or}
-use Rattle.lalrpop_hir.specs.Range.{Range, Covers, IsScalar, IsByte, next_scalar, AreApart, HaveEndsIn}
+use Rattle.lalrpop_hir.specs.Range.{Range, IsScalar, IsByte, next_scalar, AreApart, HaveEndsIn}
 use Rattle.lalrpop_hir.specs.Tree.{Class, unicode, bytes, Tree, empty, literal, class, look, repetition, capture, concat, alternation, Trees, none, also}
+use Rattle.lalrpop_nfa.specs.Meet.{Meet}
 use Rattle.lalrpop_nfa.specs.Fault.{fault, last_fault, first_fault}
 use Rattle.lalrpop_nfa.specs.Compiled.{IsLabel, IsLabelOfSome}
 use Rattle.lalrpop_nfa.specs.Internal.Sound.{IsSound, AreSound, AreCodeValues}
 use Rattle.lalrpop_nfa.proofs.Contained.{contains_none, contains_cases}
 
--- ranges that cover one value are one range
+-- no range meets a later one
 abbrev pub AreDisjoint : List Range → Type 0
-AreDisjoint rs = (r s : Range) (c : ℕ) → Contains rs r → Contains rs s → Covers r c → Covers s c → r ≡ s
+AreDisjoint [] = Unit {0}
+AreDisjoint (r ∷ rs) = ((s : Range) → Contains rs s → ¬ Meet r s) × AreDisjoint rs
 
 -- the ranges have K, and no two of them meet
 pub record ArePlain (K : Range → Type 0) (rs : List Range) : Type 0 where
@@ -76,17 +78,8 @@ module _ (next : ℕ → ℕ) (up : (c : ℕ) → c < next c) where
   ]
 
   disjoint : (rs : List Range) → AreApart next rs → AreDisjoint rs
-  disjoint [] h r s c m k x y = absurd (contains_none r m)
-  disjoint (z ∷ rs) h r s c m k x y = elim (contains_cases z rs r m) [
-    | inl e ↦ elim (contains_cases z rs s k) [
-      | inl f ↦ subst (λ (i : Range). i ≡ s) e f
-      | inr l ↦ (let past = subst (λ (i : Range). i.end < s.start) e (after z rs h s l) in absurd (omega (arith, x, y)))
-    ]
-    | inr j ↦ elim (contains_cases z rs s k) [
-      | inl f ↦ (let past = subst (λ (i : Range). i.end < r.start) f (after z rs h r j) in absurd (omega (arith, x, y)))
-      | inr l ↦ disjoint rs (apart_tail z rs h) r s c j l x y
-    ]
-  ]
+  disjoint [] h = tt
+  disjoint (r ∷ rs) h = (λ s m (c, (x, y)). let past = after r rs h s m in absurd (omega (arith, x, y)), disjoint rs (apart_tail r rs h))
 
 end_in : (S : ℕ → Type 0) (rs : List Range) → HaveEndsIn S rs → (r : Range) → Contains rs r → S r.end
 end_in S [] h r m = absurd (contains_none r m)

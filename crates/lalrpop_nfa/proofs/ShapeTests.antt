@@ -1,40 +1,51 @@
 -- The test edges of a shape: what their labels are, and that no two of one state meet.
-use Rattle.std.proofs.Common.{◌≡◌, ℕ, zero, suc, ◌≤◌, ◌+◌, ◌-◌, List, [], ◌∷◌, ◌++◌, ap, sym, ◌∙◌, subst, arith, inl, inr}
-use Rattle.std.specs.Prelude.{Some, None}
+use Rattle.std.proofs.Common.{◌≡◌, ◌≢◌, ℕ, zero, suc, ◌<◌, ◌≤◌, ◌+◌, ◌-◌, ◌⊎◌, List, [], ◌∷◌, ◌++◌, map, ap, sym, ◌∙◌, subst, arith, inl, inr}
+use Rattle.std.specs.Prelude.{Some, None, slice_get}
 use Rattle.std.specs.List.{Contains}
 use Rattle.std.proofs.lemmas.List.Elements.{Contains-append_cases}
-use Rattle.lalrpop_hir.specs.Range.{Range, Covers}
+use Rattle.lalrpop_hir.specs.Range.{Range}
 use Rattle.lalrpop_hir.specs.Tree.{Class, unicode, bytes, Tree, empty, literal, class, look, repetition, capture, concat, alternation, Trees, none, also}
 use Rattle.lalrpop_nfa.specs.declared.edge.Edge.{Edge}
+use Rattle.lalrpop_nfa.specs.Meet.{Meet}
 use Rattle.lalrpop_nfa.specs.Path.{test}
 use Rattle.lalrpop_nfa.specs.Internal.Shape.{Way, before, one_of, letters, copies, optional, optionals, any_turns, turns, class_way, shape, in_turn, branches}
 use Rattle.lalrpop_nfa.proofs.Contained.{contains_none, contains_only, contains_first, contains_later, contains_from_map}
-use Rattle.lalrpop_nfa.proofs.Plain.{IsPlain, AllPlain, ArePlain, IsPlainClass, only}
+use Rattle.lalrpop_nfa.proofs.Plain.{AreDisjoint, IsPlain, AllPlain, ArePlain, IsPlainClass, only}
 use Rattle.lalrpop_nfa.proofs.Shapes.{Anywhere, way_within, Joins, Joins-none, Leads, Leads-one_of, Leads-letters, Leads-copies, Leads-optional, Leads-optionals, Leads-any_turns, shape_leads, in_turn_leads, shape_within, branches_within}
 
--- the labels have K, and two edges of one state that cover one value are one edge
+-- no edge of the list has a value in common with a later one that leaves the same state
+abbrev pub AllApart : List (Edge Range) → Type 0
+AllApart [] = Unit {0}
+AllApart (x ∷ xs) = ((y : Edge Range) → Contains xs y → x.from ≡ y.from → ¬ Meet x.label y.label) × AllApart xs
+
+-- the labels have K, and edges of one state have no value in common
 pub record GoodTests (K : Range → Type 0) (es : List (Edge Range)) : Type 0 where
   pub labels : (x : Edge Range) → Contains es x → K x.label
-  pub apart : (x y : Edge Range) (c : ℕ) → Contains es x → Contains es y → x.from ≡ y.from → Covers x.label c → Covers y.label c → x ≡ y
+  pub apart : AllApart es
+
+AllApart-both : (xs ys : List (Edge Range)) → ((x y : Edge Range) → Contains xs x → Contains ys y → x.from ≢ y.from) → AllApart xs → AllApart ys → AllApart (xs ++ ys)
+AllApart-both [] ys d p q = q
+AllApart-both (x ∷ xs) ys d p q = (
+  λ y m f. elim (Contains-append_cases xs ys y m) [ inl k ↦ p.0 y k f | inr k ↦ absurd (d x y (contains_first x xs) k f) ],
+  AllApart-both xs ys (λ z y m k. d z y (contains_later x xs z m) k) p.1 q,
+)
+
+AllApart-one_of : (n target : ℕ) (rs : List Range) → AreDisjoint rs → AllApart (map (λ r. test n r target) rs)
+AllApart-one_of n target [] d = tt
+AllApart-one_of n target (r ∷ rs) d = (
+  λ y m f. let s = contains_from_map (λ z. test n z target) rs y m in subst (λ (z : Edge Range). ¬ Meet r z.label) s.1.1 (d.0 s.0 s.1.0),
+  AllApart-one_of n target rs d.1,
+)
 
 module _ (K : Range → Type 0) where
   Good-none : GoodTests K []
-  Good-none = record { labels = λ x m. absurd (contains_none x m); apart = λ x y c m k i j l. absurd (contains_none x m) }
+  Good-none = record { labels = λ x m. absurd (contains_none x m); apart = tt }
 
   -- two lists whose edges leave different states
   Good-both : (a b c d : ℕ) (xs ys : List (Edge Range)) → b ≤ c → Joins Anywhere a b xs → Joins Anywhere c d ys → GoodTests K xs → GoodTests K ys → GoodTests K (xs ++ ys)
   Good-both a b c d xs ys less f g p q = record {
     labels = λ x m. elim (Contains-append_cases xs ys x m) [ inl k ↦ p.labels x k | inr k ↦ q.labels x k ];
-    apart = λ x y v m k i j l. elim (Contains-append_cases xs ys x m) [
-      | inl s ↦ elim (Contains-append_cases xs ys y k) [
-        | inl t ↦ p.apart x y v s t i j l
-        | inr t ↦ (let r = f x s in let o = g y t in absurd (omega (arith, r.1, o.0)))
-      ]
-      | inr s ↦ elim (Contains-append_cases xs ys y k) [
-        | inl t ↦ (let r = g x s in let o = f y t in absurd (omega (arith, r.0, o.1)))
-        | inr t ↦ q.apart x y v s t i j l
-      ]
-    ];
+    apart = AllApart-both xs ys (λ x y m k e. let r = f x m in let o = g y k in absurd (omega (arith, r.1, o.0))) p.apart q.apart;
   }
 
   Good-more : (a b : ℕ) (xs : List (Edge Range)) → Joins Anywhere a b xs → GoodTests K xs → GoodTests K (xs ++ [])
@@ -55,17 +66,13 @@ module _ (K : Range → Type 0) where
     labels = λ x m.
         let r = contains_from_map (λ z. test n z target) rs x m in
         subst K (ap (λ (z : Edge Range). z.label) r.1.1) (p.each r.0 r.1.0);
-    apart = λ x y c m k i j l.
-        let r = contains_from_map (λ z. test n z target) rs x m in
-        let s = contains_from_map (λ z. test n z target) rs y k in
-        let same = p.disjoint r.0 s.0 c r.1.0 s.1.0 (subst (λ (z : Edge Range). Covers z.label c) (sym r.1.1) j) (subst (λ (z : Edge Range). Covers z.label c) (sym s.1.1) l) in
-        sym r.1.1 ∙ (ap (λ z. test n z target) same ∙ s.1.1);
+    apart = AllApart-one_of n target rs p.disjoint;
   }
 
   letter : (c : ℕ) → K (only c) → ArePlain K (only c ∷ [])
   letter c k = record {
     each = λ r m. subst K (contains_only (only c) r m) k;
-    disjoint = λ r s v m n i j. sym (contains_only (only c) r m) ∙ contains_only (only c) s n;
+    disjoint = (λ s m. absurd (contains_none s m), tt);
   }
 
   Good-letters : (cs : List ℕ) → ((c : ℕ) → Contains cs c → K (only c)) → IsGood (letters cs)
@@ -130,3 +137,29 @@ module _ (K : Range → Type 0) where
         let s = branches ts target (n + a.size) in
         Good-both n (n + a.size) (n + a.size) (n + a.size + s.size) a.edges.tests s.edges.tests (omega arith)
         (shape_within t target n).tests (branches_within ts target (n + a.size)).tests (shape_tests t p.0 target n) (branches_tests ts p.1 target (n + a.size))
+
+some_is : (x e : Edge Range) → Some x ≡ Some e → x ≡ e
+some_is x e h = cc
+
+-- an element stands where the list has it
+found : (es : List (Edge Range)) (i : ℕ) (e : Edge Range) → slice_get es i ≡ Some e → Contains es e
+found [] i e h = cc
+found (x ∷ es) zero e h = subst (Contains (x ∷ es)) (some_is x e h) (contains_first x es)
+found (x ∷ es) (suc i) e h = contains_later x es e (found es i e h)
+
+-- of two places the earlier one's edge is apart from the later one's
+before_apart : (es : List (Edge Range)) → AllApart es → (i j : ℕ) (e f : Edge Range) → slice_get es i ≡ Some e → slice_get es j ≡ Some f → i < j → e.from ≡ f.from → ¬ Meet e.label f.label
+before_apart [] a i j e f h k l s = cc
+before_apart (x ∷ es) a zero zero e f h k l s = absurd (omega arith)
+before_apart (x ∷ es) a zero (suc j) e f h k l s = let is : x ≡ e = some_is x e h in subst (λ (z : Edge Range). ¬ Meet z.label f.label) is (a.0 f (found es j f k) (ap (λ (z : Edge Range). z.from) is ∙ s))
+before_apart (x ∷ es) a (suc i) zero e f h k l s = absurd (omega arith)
+before_apart (x ∷ es) a (suc i) (suc j) e f h k l s = before_apart es a.1 i j e f h k (omega arith) s
+
+pub places_apart : (es : List (Edge Range)) → AllApart es → (i j : ℕ) (e f : Edge Range) → slice_get es i ≡ Some e → slice_get es j ≡ Some f → i ≢ j → e.from ≡ f.from → ¬ Meet e.label f.label
+places_apart es a i j e f h k d s = elim (sides i j d) [
+  | inl l ↦ before_apart es a i j e f h k l s
+  | inr l ↦ (λ (c, (x, y)). before_apart es a j i f e k h l (sym s) (c, (y, x)))
+]
+  where
+    sides : (m n : ℕ) → m ≢ n → (m < n) ⊎ (n < m)
+    sides m n u = grind arith

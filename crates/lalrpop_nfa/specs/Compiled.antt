@@ -1,11 +1,14 @@
 -- What a compiled pattern is: an automaton that reads exactly the words of its tree.
-use Rattle.std.specs.Prelude.{◌≡◌, ◌≢◌, ℕ, ◌+◌, ◌<◌, ◌≤◌, ◌⊎◌, ◌↔◌, List, length, slice_get, Some}
-use Rattle.std.specs.List.{Contains}
-use Rattle.lalrpop_hir.specs.Range.{Range, Covers}
+use Rattle.std.specs.Prelude.{◌≡◌, ◌≢◌, ℕ, ◌+◌, ◌<◌, ◌≤◌, ◌⊎◌, ◌↔◌, List, [], ◌∷◌, length, slice_get, Some}
+use Rattle.std.specs.List.{Contains, filter}
+use Rattle.lalrpop_hir.specs.Range.{Range}
 use Rattle.lalrpop_hir.specs.Tree.{Tree, Class, unicode, bytes, size, empty, literal, class, look, repetition, capture, concat, alternation, Trees, none, also}
 use Rattle.lalrpop_hir.specs.Language.{Matches}
 use Rattle.lalrpop_nfa.specs.Graph.{Graph}
-use Rattle.lalrpop_nfa.specs.Path.{Path}
+use Rattle.lalrpop_nfa.specs.Lists.{Lists}
+use Rattle.lalrpop_nfa.specs.Meet.{Meet}
+use Rattle.lalrpop_nfa.specs.Path.{noop, other, Path}
+use Rattle.lalrpop_nfa.specs.Walk.{leaves}
 use Rattle.lalrpop_nfa.specs.declared.edge.Edge.{Edge}
 use Rattle.lalrpop_nfa.specs.declared.edge.Noop.{Noop}
 use Rattle.lalrpop_nfa.specs.declared.edge.Other.{Other}
@@ -61,5 +64,23 @@ pub record IsCompiled (t : Tree) (g : Graph) : Type 0 where
   pub others_in : (e : Edge Other) → Contains g.edges.others e → (e.from < length g.kinds) × (e.to ≡ reject_state)
   -- each label is of the tree, and is a range of code values
   pub labels : (e : Edge Range) → Contains g.edges.tests e → IsLabel t e.label × (e.label.start ≤ e.label.end) × (e.label.end ≤ 1114111)
-  -- two test edges of one state that cover a value are one edge
-  pub apart : (e f : Edge Range) (c : ℕ) → Contains g.edges.tests e → Contains g.edges.tests f → e.from ≡ f.from → Covers e.label c → Covers f.label c → e ≡ f
+  -- test edges at two places of the list that leave one state have no value in common
+  pub apart : (i j : ℕ) (e f : Edge Range) → slice_get g.edges.tests i ≡ Some e → slice_get g.edges.tests j ≡ Some f → i ≢ j → e.from ≡ f.from → ¬ Meet e.label f.label
+
+-- the edges that leave the state
+abbrev pub edges_from : ℕ → Lists → Lists
+edges_from q e = record { noops = filter (leaves q) e.noops; tests = filter (leaves q) e.tests; others = filter (leaves q) e.others }
+
+-- one edge, to REJECT, that reads any value
+abbrev pub only_other : ℕ → Lists
+only_other q = record { noops = []; tests = []; others = other q reject_state ∷ [] }
+
+-- one edge, to the entry, that reads nothing
+abbrev pub only_noop : ℕ → ℕ → Lists
+only_noop q entry = record { noops = noop q entry ∷ []; tests = []; others = [] }
+
+-- all edges that leave ACCEPT, REJECT and START
+pub record HasFixedEdges (e : Lists) : Type 0 where
+  pub accept : edges_from accept_state e ≡ only_other accept_state
+  pub reject : edges_from reject_state e ≡ only_other reject_state
+  pub start : (entry : ℕ) × (edges_from start_state e ≡ only_noop start_state entry)

@@ -1,6 +1,6 @@
 //! The longest beginning of a text that one pattern matches, found by running its automaton.
 
-ghost use Rattle.std.specs.Prelude.{◌≡◌, ℕ, ◌+◌, ◌*◌, ◌<◌, ◌≤◌, ◌↔◌, [], ◌∷◌, length, slice_get, Some, IfOk, OnOk, IsTrue};
+ghost use Rattle.std.specs.Prelude.{◌≡◌, ℕ, ◌+◌, ◌*◌, ◌<◌, ◌≤◌, ◌↔◌, [], ◌∷◌, length, slice_get, Some, IfSome, IfOk, OnOk, IsTrue};
 ghost use Rattle.std.specs.List.{Contains};
 ghost use Rattle.std.specs.Option.{option_map};
 ghost use Rattle.std.specs.Str.{chars};
@@ -9,11 +9,12 @@ ghost use Rattle.lalrpop_hir.specs.Language.{Matches};
 ghost use Rattle.lalrpop_nfa.specs.Compiled.{IsCompiled, start_state};
 ghost use Rattle.lalrpop_nfa.specs.Internal.Layers.{IsLayer, IsGrown, Skips, IsClosure, IsMove};
 ghost use Rattle.lalrpop_nfa.specs.Path.{Reads};
-ghost use Rattle.lalrpop_nfa.specs.Beginning.{IsLongestOf};
+ghost use Rattle.lalrpop_nfa.specs.Beginning.{IsBeginning, IsLongestOf};
 ghost use Rattle.lalrpop_nfa.specs.declared.edge.StateKind.TheVariants.{Accept, Reject};
 
 use super::{Nfa, NfaStateIndex, Noop, Other, START, Steps, Test};
 use std::alloc::{AllocError, Global};
+use std::mem;
 
 #[cfg(test)]
 mod tests;
@@ -25,12 +26,13 @@ pub fn interpret<'text>(
     nfa: &Nfa,
     text: &'text str,
 ) -> Result<Option<&'text str>, AllocError>
-    ensures { IfOk result (λ found. (t : Tree) → IsCompiled t nfa.now → IsLongestOf (Matches t) text.now (option_map (λ s. s.now) found)) }
+    ensures answer { IfOk result (λ found. (t : Tree) → IsCompiled t nfa.now → IsLongestOf (Matches t) text.now (option_map (λ s. s.now) found)) }
+    ensures part { IfOk result (λ found. IfSome found (λ s. IsBeginning s.now text.now)) }
 {
     interpret_counted(alloc, nfa, text, &mut Steps::new())
 }
 
-/// The same answer. A step is counted for each pair of a state and an offset that is visited.
+/// The same answer. A step is counted for each pair of a state and an offset that is visited, and none is taken back.
 pub fn interpret_counted<'text>(
     alloc: Global,
     nfa: &Nfa,
@@ -38,9 +40,12 @@ pub fn interpret_counted<'text>(
     steps: &mut Steps,
 ) -> Result<Option<&'text str>, AllocError>
     ensures answer { IfOk result (λ found. (t : Tree) → IsCompiled t nfa.now → IsLongestOf (Matches t) text.now (option_map (λ s. s.now) found)) }
+    ensures part { IfOk result (λ found. IfSome found (λ s. IsBeginning s.now text.now)) }
     ensures cost { steps.new ≤ steps.old + length nfa.now.kinds * (length (chars text.now) + 1) }
+    ensures rises { steps.old ≤ steps.new }
 {
     let mut layer = Layer::start(alloc, nfa, steps)?;
+    let mut next = Layer::empty(alloc, nfa.len())?;
     let mut longest = if layer.accepts(nfa) {
         Some(&text[..0])
     } else {
@@ -50,7 +55,8 @@ pub fn interpret_counted<'text>(
         if layer.rejects(nfa) {
             break;
         }
-        layer = layer.after(alloc, nfa, u32::from(c), steps)?;
+        next.read_from(&layer, nfa, u32::from(c), steps)?;
+        mem::swap(&mut layer, &mut next);
         if layer.accepts(nfa) {
             longest = Some(&text[..offset + c.len_utf8()]);
         }
@@ -80,6 +86,7 @@ impl Layer {
         ensures layer { IfOk result (λ l. IsLayer l.states.items l.marks.items × (length l.marks.items ≡ length nfa.now.kinds)) }
         ensures states { IfOk result (λ l. IsClosure nfa.now.edges (length nfa.now.kinds) (start_state ∷ []) l.states.items) }
         ensures cost { steps.new ≤ steps.old + length nfa.now.kinds }
+        ensures rises { steps.old ≤ steps.new }
     {
         let mut layer = Layer::empty(alloc, nfa.len())?;
         layer.add(START, steps)?;
@@ -87,26 +94,39 @@ impl Layer {
         Ok(layer)
     }
 
-    // The states that these lead to by reading the value.
-    fn after(
-        &self,
-        alloc: Global,
+    // Lists no state, with the memory that is there.
+    fn clear(&mut self)
+        ensures layer { IsLayer self.new.states.items self.new.marks.items }
+        ensures none { self.new.states.items ≡ [] }
+        ensures size { length self.new.marks.items ≡ length self.old.marks.items }
+    {
+        self.states.clear();
+        self.marks.fill(false);
+    }
+
+    // Becomes the states that those of another layer lead to by reading the value.
+    fn read_from(
+        &mut self,
+        before: &Layer,
         nfa: &Nfa,
         value: u32,
         steps: &mut Steps,
-    ) -> Result<Layer, AllocError>
-        requires layer { IsLayer self.now.states.items self.now.marks.items }
-        requires size { length self.now.marks.items ≡ length nfa.now.kinds }
-        ensures layer { IfOk result (λ l. IsLayer l.states.items l.marks.items × (length l.marks.items ≡ length nfa.now.kinds)) }
-        ensures states { IfOk result (λ l. IsMove nfa.now.edges (length nfa.now.kinds) value self.now.states.items l.states.items) }
+    ) -> Result<(), AllocError>
+        requires layer { IsLayer before.now.states.items before.now.marks.items }
+        requires before_size { length before.now.marks.items ≡ length nfa.now.kinds }
+        requires size { length self.old.marks.items ≡ length nfa.now.kinds }
+        ensures layer { OnOk result (IsLayer self.new.states.items self.new.marks.items) }
+        ensures size { length self.new.marks.items ≡ length nfa.now.kinds }
+        ensures states { OnOk result (IsMove nfa.now.edges (length nfa.now.kinds) value before.now.states.items self.new.states.items) }
         ensures cost { steps.new ≤ steps.old + length nfa.now.kinds }
+        ensures rises { steps.old ≤ steps.new }
     {
-        let mut next = Layer::empty(alloc, nfa.len())?;
-        for state in &self.states {
-            next.add_read(nfa, *state, value, steps)?;
+        self.clear();
+        for state in &before.states {
+            self.add_read(nfa, *state, value, steps)?;
         }
-        next.close(nfa, steps)?;
-        Ok(next)
+        self.close(nfa, steps)?;
+        Ok(())
     }
 
     // Whether the pattern matches the beginning that leads here.
@@ -145,6 +165,7 @@ impl Layer {
         ensures states { OnOk result (IsGrown (length self.old.marks.items) self.old.states.items self.new.states.items (λ q. q ≡ state)) }
         ensures counted { OnOk result (steps.new + length self.old.states.items ≡ steps.old + length self.new.states.items) }
         ensures cost { steps.new + length self.old.states.items ≤ steps.old + length self.old.marks.items }
+        ensures rises { steps.old ≤ steps.new }
     {
         if state.0 < self.marks.len() && !self.marks[state.0] {
             steps.tick();
@@ -168,6 +189,7 @@ impl Layer {
         ensures states { OnOk result (IsGrown (length self.old.marks.items) self.old.states.items self.new.states.items (Skips nfa.now.edges from)) }
         ensures counted { OnOk result (steps.new + length self.old.states.items ≡ steps.old + length self.new.states.items) }
         ensures cost { steps.new + length self.old.states.items ≤ steps.old + length self.old.marks.items }
+        ensures rises { steps.old ≤ steps.new }
     {
         for edge in nfa.edges::<Noop>(from) {
             self.add(edge.to, steps)?;
@@ -190,6 +212,7 @@ impl Layer {
         ensures states { OnOk result (IsGrown (length self.old.marks.items) self.old.states.items self.new.states.items (Reads nfa.now.edges from value)) }
         ensures counted { OnOk result (steps.new + length self.old.states.items ≡ steps.old + length self.new.states.items) }
         ensures cost { steps.new + length self.old.states.items ≤ steps.old + length self.old.marks.items }
+        ensures rises { steps.old ≤ steps.new }
     {
         let mut is_tested = false;
         for test_edge in nfa.edges::<Test>(from) {
@@ -216,6 +239,7 @@ impl Layer {
         ensures size { length self.new.marks.items ≡ length self.old.marks.items }
         ensures states { OnOk result (IsClosure nfa.now.edges (length nfa.now.kinds) self.old.states.items self.new.states.items) }
         ensures cost { steps.new + length self.old.states.items ≤ steps.old + length self.old.marks.items }
+        ensures rises { steps.old ≤ steps.new }
     {
         let mut place = 0;
         while place < self.states.len() {

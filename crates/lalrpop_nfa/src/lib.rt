@@ -56,7 +56,7 @@ impl Model for Nfa {
 impl Nfa {
     ghost use Rattle.std.specs.Prelude.{OnOk, OnErr, length, slice_get, IsSomeAnd};
     ghost use Rattle.lalrpop_nfa.specs.declared.edge.StateKind.TheVariants.{Accept, Reject};
-    ghost use Rattle.lalrpop_nfa.specs.Compiled.{IsCompiled};
+    ghost use Rattle.lalrpop_nfa.specs.Compiled.{IsCompiled, HasFixedEdges};
     ghost use Rattle.std.specs.List.{filter};
     ghost use Rattle.lalrpop_nfa.specs.Walk.{leaves};
     ghost use Rattle.lalrpop_nfa.specs.Internal.Adjacent.{IsOpen};
@@ -64,8 +64,8 @@ impl Nfa {
 
     /// The edges of one kind that leave the state, in the order of the list of that kind.
     pub fn edges<L: EdgeLabel>(&self, from: NfaStateIndex) -> EdgeIterator<'_, L>
-        requires { from < length self.now.kinds }
-        ensures { result ≡ filter (leaves from) (L.list self.now.edges) }
+        requires is_state { from < length self.now.kinds }
+        ensures edges { result ≡ filter (leaves from) (L.list self.now.edges) }
     {
         EdgeIterator {
             edges: L::vec(&self.edges).as_slice(),
@@ -94,12 +94,14 @@ impl Nfa {
     }
 
     /// Compiles a pattern to an automaton that reads exactly the pattern's words, from START to ACCEPT. It has at most
-    /// three states more than the pattern's size.
+    /// three states more than the pattern's size. One edge leaves each of ACCEPT and REJECT, an `Other` edge to REJECT, and
+    /// one leaves START, a `Noop` edge.
     ///
     /// A pattern is refused for its fault: of parts one after another the last faulty one's, of branches the first
     /// faulty one's. What is never repeated has none. Else it fails only where memory is refused.
     pub fn from_re(alloc: Global, regex: &Regex) -> Result<Nfa, NfaConstructionError>
         ensures ok { IfOk result (λ nfa. (fault regex.now ≡ None) × IsCompiled regex.now nfa) }
+        ensures fixed_edges { IfOk result (λ nfa. HasFixedEdges nfa.edges) }
         ensures err { IfErr result (λ e. e ≢ NfaConstructionError.OutOfMemory → fault regex.now ≡ Some e) }
     {
         let mut nfa = Nfa::new(alloc)?;
@@ -110,38 +112,38 @@ impl Nfa {
 
     /// What the state is for.
     pub fn kind(&self, from: NfaStateIndex) -> StateKind
-        requires { from < length self.now.kinds }
-        ensures { slice_get self.now.kinds from ≡ Some result }
+        requires is_state { from < length self.now.kinds }
+        ensures kind { slice_get self.now.kinds from ≡ Some result }
     {
         self.states[from.0].kind
     }
 
     /// Whether the state is one in which a word is matched.
     pub fn is_accepting_state(&self, from: NfaStateIndex) -> bool
-        requires { from < length self.now.kinds }
-        ensures { IsTrue result ↔ (slice_get self.now.kinds from ≡ Some Accept) }
+        requires is_state { from < length self.now.kinds }
+        ensures answer { IsTrue result ↔ (slice_get self.now.kinds from ≡ Some Accept) }
     {
         self.kind(from) == StateKind::Accept
     }
 
     /// Whether the state is one in which no continuation of the word is matched.
     pub fn is_rejecting_state(&self, from: NfaStateIndex) -> bool
-        requires { from < length self.now.kinds }
-        ensures { IsTrue result ↔ (slice_get self.now.kinds from ≡ Some Reject) }
+        requires is_state { from < length self.now.kinds }
+        ensures answer { IsTrue result ↔ (slice_get self.now.kinds from ≡ Some Reject) }
     {
         self.kind(from) == StateKind::Reject
     }
 
     /// Whether the index is that of a state of this automaton.
     pub fn contains_state(&self, index: NfaStateIndex) -> bool
-        ensures { IsTrue result ↔ (index < length self.now.kinds) }
+        ensures answer { IsTrue result ↔ (index < length self.now.kinds) }
     {
         index.0 < self.states.len()
     }
 
     /// The number of states.
     pub fn len(&self) -> usize
-        ensures { result ≡ length self.now.kinds }
+        ensures value { result ≡ length self.now.kinds }
     {
         self.states.len()
     }

@@ -41,7 +41,7 @@ impl Model for Steps {
 impl Steps {
     /// No step yet.
     pub fn new() -> Steps
-        ensures { result ≡ 0 }
+        ensures value { result ≡ 0 }
     {
         Steps {
             tally: Tally::new(),
@@ -50,7 +50,7 @@ impl Steps {
 
     /// Counts one step. It does nothing when it runs.
     pub fn tick(&mut self)
-        ensures { self.new ≡ self.old + 1 }
+        ensures counted { self.new ≡ self.old + 1 }
     {
         self.tally.add_one();
     }

@@ -29,7 +29,7 @@ impl Model for Test {
 impl Test {
     /// The values from the start of a range to its end.
     pub fn new(range: RangeInclusive<u32>) -> Test
-        ensures { result ≡ record { start = range_inclusive_start range; end = range_inclusive_end range } }
+        ensures value { result ≡ record { start = range_inclusive_start range; end = range_inclusive_end range } }
     {
         let (start, end) = range.into_inner();
         Test { start, end }
@@ -37,7 +37,7 @@ impl Test {
 
     /// The code of one character.
     pub fn char(c: char) -> Test
-        ensures { result ≡ record { start = c; end = c } }
+        ensures value { result ≡ record { start = c; end = c } }
     {
         Test {
             start: c as u32,
@@ -47,7 +47,7 @@ impl Test {
 
     /// The value of one byte.
     pub fn byte(b: u8) -> Test
-        ensures { result ≡ record { start = b; end = b } }
+        ensures value { result ≡ record { start = b; end = b } }
     {
         Test {
             start: u32::from(b),
@@ -57,7 +57,7 @@ impl Test {
 
     /// The codes from that of `s` to that of `e`.
     pub fn inclusive_range(s: char, e: char) -> Test
-        ensures { result ≡ record { start = s; end = e } }
+        ensures value { result ≡ record { start = s; end = e } }
     {
         Test {
             start: s as u32,
@@ -67,7 +67,7 @@ impl Test {
 
     /// The bytes from `s` to `e`.
     pub fn inclusive_byte_range(s: u8, e: u8) -> Test
-        ensures { result ≡ record { start = s; end = e } }
+        ensures value { result ≡ record { start = s; end = e } }
     {
         Test {
             start: u32::from(s),
@@ -77,8 +77,8 @@ impl Test {
 
     /// The codes from that of `s` to the one before that of `e`.
     pub fn exclusive_range(s: char, e: char) -> Test
-        requires { 0 < e }
-        ensures { result ≡ record { start = s; end = e - 1 } }
+        requires above_nul { 0 < e }
+        ensures value { result ≡ record { start = s; end = e - 1 } }
     {
         Test {
             start: s as u32,
@@ -88,21 +88,21 @@ impl Test {
 
     /// The least value, unless there is none.
     pub fn start(&self) -> u32
-        ensures { result ≡ self.now.start }
+        ensures value { result ≡ self.now.start }
     {
         self.start
     }
 
     /// The greatest value, unless there is none.
     pub fn end(&self) -> u32
-        ensures { result ≡ self.now.end }
+        ensures value { result ≡ self.now.end }
     {
         self.end
     }
 
     /// Whether there is one value.
     pub fn is_char(&self) -> bool
-        ensures { IsTrue result ↔ (self.now.start ≡ self.now.end) }
+        ensures answer { IsTrue result ↔ (self.now.start ≡ self.now.end) }
     {
         self.start == self.end
     }
@@ -111,42 +111,42 @@ impl Test {
     pub fn len(&self) -> u32
         requires below_max { self.now.end < 4294967295 }
         requires ordered { self.now.start ≤ self.now.end + 1 }
-        ensures { result ≡ self.now.end + 1 - self.now.start }
+        ensures value { result ≡ self.now.end + 1 - self.now.start }
     {
         self.end + 1 - self.start
     }
 
     /// Whether `c` is one of the values.
     pub fn contains_u32(&self, c: u32) -> bool
-        ensures { IsTrue result ↔ Covers self.now c }
+        ensures answer { IsTrue result ↔ Covers self.now c }
     {
         self.start <= c && c <= self.end
     }
 
     /// Whether the code of `c` is one of the values.
     pub fn contains_char(&self, c: char) -> bool
-        ensures { IsTrue result ↔ Covers self.now c }
+        ensures answer { IsTrue result ↔ Covers self.now c }
     {
         self.contains_u32(c as u32)
     }
 
     /// Whether some value is in both.
     pub fn intersects(&self, r: &Test) -> bool
-        ensures { IsTrue result ↔ Meet self.now r.now }
+        ensures answer { IsTrue result ↔ Meet self.now r.now }
     {
         self.start.max(r.start) <= self.end.min(r.end)
     }
 
     /// Whether no value is in both.
     pub fn is_disjoint(&self, r: &Test) -> bool
-        ensures { IsTrue result ↔ (¬ Meet self.now r.now) }
+        ensures answer { IsTrue result ↔ (¬ Meet self.now r.now) }
     {
         !self.intersects(r)
     }
 
     /// Whether there is no value.
     pub fn is_empty(&self) -> bool
-        ensures { IsTrue result ↔ (self.now.end < self.now.start) }
+        ensures answer { IsTrue result ↔ (self.now.end < self.now.start) }
     {
         self.end < self.start
     }

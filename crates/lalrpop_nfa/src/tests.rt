@@ -1,5 +1,10 @@
+ghost use Rattle.std.specs.Prelude.{◌≡◌, ◌↔◌, IsTrue};
+ghost use Rattle.std.specs.Ordering.{nat_cmp};
+
 use super::*;
 use lalrpop_hir::{Capture, Class, ClassUnicode, ClassUnicodeRange, Hir, Look, Repetition};
+use std::cmp::Ordering;
+use std::hash::{DefaultHasher, Hash, Hasher};
 use std::process::Abort;
 use std::test::Fail;
 
@@ -60,6 +65,26 @@ fn expect_fault(
 ) -> Result<(), Fail> {
     assert_eq!(rt; Nfa::from_re(alloc, &tree).err(), fault, "at {tree:?}");
     Ok(())
+}
+
+// States are ordered by their numbers.
+fn order(a: NfaStateIndex, b: NfaStateIndex) -> Ordering
+    ensures { result ≡ nat_cmp a b }
+{
+    a.cmp(&b)
+}
+
+// States are equal where their numbers are.
+fn equal(a: NfaStateIndex, b: NfaStateIndex) -> bool
+    ensures { IsTrue result ↔ (a ≡ b) }
+{
+    a == b
+}
+
+fn hash_of(value: &impl Hash) -> u64 {
+    let mut state = DefaultHasher::new();
+    value.hash(&mut state);
+    state.finish()
 }
 
 // The states to which the edges of one kind lead.
@@ -209,13 +234,80 @@ fn turns_lead_back(rt: HostRuntime) -> Result<(), Fail> {
 fn the_fixed_states_are_what_they_are_for(rt: HostRuntime) -> Result<(), Fail> {
     let alloc = rt.alloc();
     let nfa = Nfa::from_re(alloc, &Hir::empty())?;
-    expect_targets::<Test>(&rt, alloc, &nfa, ACCEPT, &[])?;
-    expect_targets::<Noop>(&rt, alloc, &nfa, REJECT, &[])?;
-    expect_targets::<Other>(&rt, alloc, &nfa, REJECT, &[REJECT])?;
     assert_eq!(rt; nfa.len(), 3);
     assert!(rt; nfa.contains_state(START));
     assert!(rt; nfa.is_accepting_state(ACCEPT) && nfa.is_rejecting_state(REJECT));
     assert_eq!(rt; nfa.kind(START), StateKind::Neither);
+    expect_targets::<Noop>(&rt, alloc, &nfa, START, &[ACCEPT])
+}
+
+#[test]
+fn the_fixed_states_have_one_edge_each(rt: HostRuntime) -> Result<(), Fail> {
+    let alloc = rt.alloc();
+    let nfa = Nfa::from_re(alloc, &Hir::literal(alloc, "a")?)?;
+    for state in [ACCEPT, REJECT] {
+        expect_targets::<Noop>(&rt, alloc, &nfa, state, &[])?;
+        expect_targets::<Test>(&rt, alloc, &nfa, state, &[])?;
+        expect_targets::<Other>(&rt, alloc, &nfa, state, &[REJECT])?;
+    }
+    expect_targets::<Noop>(&rt, alloc, &nfa, START, &[NfaStateIndex(3)])?;
+    expect_targets::<Test>(&rt, alloc, &nfa, START, &[])?;
+    expect_targets::<Other>(&rt, alloc, &nfa, START, &[])
+}
+
+#[test]
+fn states_are_ordered_by_number(rt: HostRuntime) {
+    assert_eq!(&rt; order(ACCEPT, REJECT), Ordering::Less);
+    assert_eq!(&rt; order(START, REJECT), Ordering::Greater);
+    assert!(&rt; equal(START, NfaStateIndex(2)) && !equal(START, ACCEPT));
+    assert_eq!(&rt; hash_of(&START), hash_of(&NfaStateIndex(2)));
+}
+
+#[test]
+fn kinds_are_ordered_accept_first(rt: HostRuntime) {
+    use StateKind::{Accept, Neither, Reject};
+    assert!(&rt; Accept < Reject && Reject < Neither && Accept < Neither);
+    assert_eq!(&rt; Neither.cmp(&Accept), Ordering::Greater);
+    assert_eq!(&rt; Reject.cmp(&Reject), Ordering::Equal);
+}
+
+#[test]
+fn edges_and_states_are_written(rt: HostRuntime) -> Result<(), Fail> {
+    let alloc = rt.alloc();
+    let letters = Edge {
+        from: START,
+        label: Test::inclusive_range('a', 'z'),
+        to: ACCEPT,
+    };
+    let other = Edge {
+        from: ACCEPT,
+        label: Other,
+        to: REJECT,
+    };
+    assert_eq!(rt;
+        format!(in alloc; "{letters:?}")?.as_str(),
+        "Nfa2 -['a'..='z']-> Nfa0"
+    );
+    assert_eq!(rt;
+        format!(in alloc; "{other:?}")?.as_str(),
+        "Nfa0 -Other-> Nfa1"
+    );
     assert_eq!(rt; format!(in alloc; "{ACCEPT:?}")?.as_str(), "Nfa0");
+    Ok(())
+}
+
+#[test]
+fn errors_are_written_by_their_names(rt: HostRuntime) -> Result<(), Fail> {
+    use NfaConstructionError::{ByteRegex, LookAround, NamedCaptures, NonGreedy, OutOfMemory};
+    let rows = [
+        (NamedCaptures, "NamedCaptures"),
+        (NonGreedy, "NonGreedy"),
+        (LookAround, "LookAround"),
+        (ByteRegex, "ByteRegex"),
+        (OutOfMemory, "OutOfMemory"),
+    ];
+    for (error, name) in rows {
+        assert_eq!(rt; format!(in rt.alloc(); "{error}")?.as_str(), name);
+    }
     Ok(())
 }

@@ -78,3 +78,14 @@ fn nothing_is_found(rt: HostRuntime) -> Result<(), Fail> {
         None,
     )
 }
+
+#[test]
+fn counting_leaves_the_answer(rt: HostRuntime) -> Result<(), Fail> {
+    let nfa = Nfa::from_re(rt.alloc(), &bounded_after_a(rt.alloc())?)?;
+    let mut steps = Steps::new();
+    let found = interpret_counted(rt.alloc(), &nfa, "abbbbb", &mut steps)?;
+    assert_eq!(rt; found, Some("abbbb"));
+    let found = interpret_counted(rt.alloc(), &nfa, "ab", &mut steps)?;
+    assert_eq!(rt; found, None);
+    Ok(())
+}

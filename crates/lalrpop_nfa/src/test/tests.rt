@@ -5,6 +5,7 @@ ghost use Rattle.std.specs.Ordering.{nat_cmp, ordering_then};
 use super::*;
 use std::alloc::AllocError;
 use std::cmp::Ordering;
+use std::hash::{DefaultHasher, Hash, Hasher};
 
 // By start, then by end.
 fn order(a: &Test, b: &Test) -> Ordering
@@ -18,6 +19,12 @@ fn equal(a: &Test, b: &Test) -> bool
     ensures { IsTrue result ↔ (a.now ≡ b.now) }
 {
     a == b
+}
+
+fn hash_of(test: &Test) -> u64 {
+    let mut state = DefaultHasher::new();
+    test.hash(&mut state);
+    state.finish()
 }
 
 #[test]
@@ -61,4 +68,5 @@ fn ranges_ascend_by_start_then_end(rt: HostRuntime) {
     assert!(&rt;
         equal(&low, &low.clone().expect(&rt, "memory")) && !equal(&low, &Test::new(1..=2))
     );
+    assert_eq!(&rt; hash_of(&low), hash_of(&Test::new(1..=3)));
 }

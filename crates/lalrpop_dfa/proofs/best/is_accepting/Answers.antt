@@ -3,4 +3,4 @@ use Rattle.lalrpop_dfa.proofs.best.is_accepting.Goals as goal
 
 pub returns : goal.returns
 returns c =
-    accepting_told c.args.nfas.now c.args.item c.nfa.result.now c.state.result c.is_accepting_state.result c.requires.automata c.nfa.ensures c.state.ensures c.is_accepting_state.ensures
+    accepting_told c.args.nfas.now c.args.item c.nfa.result.now c.state.result c.is_accepting_state.result c.requires.automata c.nfa.ensures c.state.ensures c.is_accepting_state.ensures.answer

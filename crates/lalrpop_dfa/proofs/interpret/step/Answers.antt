@@ -7,7 +7,7 @@ pub loop-test-preserved : goal.loop-test-preserved
 loop-test-preserved c = λ other.
     c.loop-test.invariant other
     ∙ leads_past c.test_edges-test-items.result.now c.loop-test.test-index other c.args.value c.loop-test-item.result c.loop-test-test.true c.loop-test-item.is
-    (λ h. cc (c.if-contains_u32.ensures.1 h))
+    (λ h. cc (c.if-contains_u32.ensures.answer.1 h))
 
 pub returns-then-contains_u32-clause-leads : goal.returns-then-contains_u32-clause-leads
 returns-then-contains_u32-clause-leads c =
@@ -15,7 +15,7 @@ returns-then-contains_u32-clause-leads c =
     let row = row_at c.args.dfa.now c.states.result.now c.args.state c.index.result r c.states.ensures.states c.index.ensures c.requires c.index-states-index.is in
     let ts = tests_of c.args.dfa.now c.args.state r c.test_edges-test-items.result.now row c.test_edges-test-items.ensures in
     sym (step_of c.args.dfa.now c.args.state c.args.value r row ∙ ap (λ us. leads us r.other c.args.value) (sym ts) ∙ c.loop-test.invariant r.other
-    ∙ leads_here c.test_edges-test-items.result.now c.loop-test.test-index r.other c.args.value c.loop-test-item.result c.loop-test-test.true c.loop-test-item.is (c.if-contains_u32.ensures.0 refl))
+    ∙ leads_here c.test_edges-test-items.result.now c.loop-test.test-index r.other c.args.value c.loop-test-item.result c.loop-test-test.true c.loop-test-item.is (c.if-contains_u32.ensures.answer.0 refl))
 
 pub returns-then-contains_u32-clause-within : goal.returns-then-contains_u32-clause-within
 returns-then-contains_u32-clause-within c =

@@ -7,7 +7,7 @@ pub loop-edge-init : goal.loop-edge-init
 loop-edge-init c = (
   [],
   also_none c.args.labels.now.keys,
-  labels_start c.args.nfas.now c.args.item c.nfa.result.now c.state.result c.into_iter-edge-iterator.result c.nfa.ensures c.state.ensures (c.into_iter-edge-iterator.ensures.into_iter_gives ∙ c.edges-edge-items.ensures),
+  labels_start c.args.nfas.now c.args.item c.nfa.result.now c.state.result c.into_iter-edge-iterator.result c.nfa.ensures c.state.ensures (c.into_iter-edge-iterator.ensures.into_iter_gives ∙ c.edges-edge-items.ensures.edges),
 )
 
 pub loop-edge-preserved : goal.loop-edge-preserved

@@ -5,7 +5,7 @@ use Rattle.lalrpop_dfa.proofs.parts.add_edges.Goals as goal
 
 pub loop-edge-init : goal.loop-edge-init
 loop-edge-init c =
-    ([], no_edge c.args.item c.args.parts.now.items, edges_start c.args.nfas.now c.args.item c.nfa.result.now c.state.result c.into_iter-edge-iterator.result c.nfa.ensures c.state.ensures (c.into_iter-edge-iterator.ensures.into_iter_gives ∙ c.edges-edge-items.ensures))
+    ([], no_edge c.args.item c.args.parts.now.items, edges_start c.args.nfas.now c.args.item c.nfa.result.now c.state.result c.into_iter-edge-iterator.result c.nfa.ensures c.state.ensures (c.into_iter-edge-iterator.ensures.into_iter_gives ∙ c.edges-edge-items.ensures.edges))
 
 pub add_lead-requires : goal.add_lead-requires
 add_lead-requires c =

@@ -9,7 +9,7 @@ use Rattle.lalrpop_nfa.proofs.Nfa.edges.Goals.{After-first}
 
 run_here : (g : _) (c : After-first g) → IsRun c.args.from c.as_slice.result.now c.first.result.now
 run_here g c = let o = g.L.EdgeLabel in let m = g.met.L.EdgeLabel in
-    let here = state_here c.self.inside.states.items c.from.inside.0 c.args.from c.args.self.now c.index.result.now c.self.inside.edges c.self.view_is c.from.view_is c.requires c.index.ensures in
+    let here = state_here c.self.inside.states.items c.from.inside.0 c.args.from c.args.self.now c.index.result.now c.self.inside.edges c.self.view_is c.from.view_is c.requires.is_state c.index.ensures in
     IsRun-elsewhere c.from.inside.0 c.args.from (o.list c.self.inside.edges) c.as_slice.result.now (o.index c.index.result.now) c.first.result.now
     c.from.view_is (sym (c.as_slice.ensures.value ∙ c.vec.ensures.value)) (sym c.first.ensures.value)
     (m.run_in c.self.inside.edges c.index.result.now c.from.inside.0 (c.self.invariant o.kind c.from.inside.0 c.index.result.now here))
@@ -18,4 +18,4 @@ pub invariant_of-result : goal.invariant_of-result
 invariant_of-result g c = (run_here g (goal.at.invariant_of-result g c).After-first).at
 
 pub returns : goal.returns
-returns g c = sym (run_here g (goal.at.returns g c).After-first).all ∙ ap (filter (leaves c.args.from)) (c.as_slice.ensures.value ∙ (c.vec.ensures.value ∙ ap (λ (n : Graph). g.L.EdgeLabel.list n.edges) c.self.view_is))
+returns g c = record { edges = sym (run_here g (goal.at.returns g c).After-first).all ∙ ap (filter (leaves c.args.from)) (c.as_slice.ensures.value ∙ (c.vec.ensures.value ∙ ap (λ (n : Graph). g.L.EdgeLabel.list n.edges) c.self.view_is)) }

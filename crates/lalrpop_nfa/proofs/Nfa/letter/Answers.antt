@@ -14,4 +14,4 @@ push_edge-requires-2-clause-together c = let o = c.in_ok-state.ensures in
 pub returns : goal.returns
 returns c = let o = c.in_ok-state.ensures in
     Grows-one_of (record { start = c.args.c; end = c.args.c } ∷ []) c.args.target c.in_ok-state.state c.args.self.now c.new_state.new.self c.push_edge.new.self c.push_edge-2.new.self
-    o.number o.added o.below (rw c.char.ensures at c.in_ok-push_edge.ensures.pushed) c.in_ok-push_edge-2.ensures.pushed
+    o.number o.added o.below (rw c.char.ensures.value at c.in_ok-push_edge.ensures.pushed) c.in_ok-push_edge-2.ensures.pushed

@@ -1,13 +1,16 @@
 use Rattle.std.proofs.Common.{◌≡◌, ◌≤◌, ◌+◌, ◌-◌, ◌*◌, [], length, take, sym, ap, subst, ◌∙◌, arith}
+use Rattle.std.specs.Prelude.{IfSome}
 use Rattle.std.specs.Str.{chars, IsCharBoundary}
 use Rattle.std.specs.Str.Iter.{char_indices_rest, char_indices_offset}
 use Rattle.std.specs.Option.{option_map}
 use Rattle.std.proofs.Math.Nat.{mul-le-mul_left}
 use Rattle.std.proofs.lemmas.Str.{chars-nil, IsCharBoundary-start, IsCharBoundary-from_take}
 use Rattle.lalrpop_hir.specs.Language.{Matches}
-use Rattle.lalrpop_nfa.specs.Internal.Layers.{IsMove}
+use Rattle.lalrpop_nfa.specs.Beginning.{IsBeginning}
+use Rattle.lalrpop_nfa.specs.Internal.Layers.{IsLayer, IsMove}
+use Rattle.lalrpop_nfa.specs.declared.interpret.Layer.{Layer}
 use Rattle.lalrpop_nfa.proofs.LayerLemmas.{IsAfterWord, after_none, after_next, matched_if, only_if_matched, none_on}
-use Rattle.lalrpop_nfa.proofs.BeginningLemmas.{IsLongestOfUpTo, of_accept, of_start, of_pass, of_end, of_stop}
+use Rattle.lalrpop_nfa.proofs.BeginningLemmas.{IsLongestOfUpTo, of_cut, of_accept, of_start, of_pass, of_end, of_stop}
 use Rattle.lalrpop_nfa.proofs.Cuts.{cut_start, cut_within, cut_more, count_more, count_within, word_after}
 use Rattle.lalrpop_nfa.proofs.interpret.interpret_counted.Goals as goal
 use Rattle.lalrpop_nfa.proofs.interpret.interpret_counted.Goals.{then-accepts, else-accepts, in-None, in-Some+then-rejects}
@@ -28,6 +31,7 @@ loop-offset-init c =
     rw (at, rest) record {
       layer = c.in_ok-layer.ensures.layer.0;
       size = c.in_ok-layer.ensures.layer.1;
+      next_size = c.in_ok-next.ensures.2 ∙ c.len.ensures.value;
       cut = cut_start text c.utf8.text;
       after = after;
       best = λ t h.
@@ -42,11 +46,19 @@ loop-offset-init c =
                 let no = w.if-accepts.false in
                 absurd cc))
           ];
+      part =
+          elim c.if-accepts.branch [
+            | then-accepts w ↦
+                subst (λ found. IfSome found (λ s. IsBeginning s.now text)) (sym w.longest-is)
+                (of_cut text text 0 w.range.result.now (cut_start text c.utf8.text) w.range.ensures.value)
+            | else-accepts w ↦ subst (λ found. IfSome found (λ s. IsBeginning s.now text)) (sym w.longest-is) tt
+          ];
+      rises = c.in_ok-layer.ensures.rises;
       cost = omega (arith, one, c.in_ok-layer.ensures.cost);
     }
 
-pub returns-in_err-layer-2-clause-cost : goal.returns-in_err-layer-2-clause-cost
-returns-in_err-layer-2-clause-cost c =
+pub returns-in_err-read_from-clause-cost : goal.returns-in_err-read_from-clause-cost
+returns-in_err-read_from-clause-cost c =
     let text = c.args.text.now in
     let at = char_indices_offset c.loop-offset.offset-iterator in
     let at2 = char_indices_offset c.next.new.self in
@@ -60,7 +72,7 @@ returns-in_err-layer-2-clause-cost c =
     let within = count_within text rest2 at2 cut in
     let few : length (chars (take at text)) + 2 ≤ length (chars text) + 1 = omega arith in
     let most : n * (length (chars (take at text)) + 2) ≤ n * (length (chars text) + 1) = mul-le-mul_left n few in
-    omega (arith, most, i.cost, c.after.ensures.cost)
+    omega (arith, most, i.cost, c.read_from.ensures.cost)
 
 pub range-requires-then-accepts-2-clause-end_boundary : goal.range-requires-then-accepts-2-clause-end_boundary
 range-requires-then-accepts-2-clause-end_boundary c =
@@ -85,9 +97,12 @@ loop-offset-preserved-then-accepts-2 c =
     let s = c.in-Some.ensures.steps in
     let i = c.loop-offset.invariant in
     let states = c.loop-offset.layer.states.items in
-    let next = c.in_ok-layer-2.layer.states.items in
+    let next = c.swap.new.x.states.items in
+    let is_next = c.swap.ensures.x_after in
     let cut = cut_more text rest rest2 at at2 c.in-Some.c c.utf8.text i.cut s.1 s.2 in
-    let move = subst (λ v. IsMove g.edges (length g.kinds) v states next) c.from.ensures c.in_ok-layer-2.ensures.states in
+    let move =
+    subst (λ (l : Layer). IsMove g.edges (length g.kinds) c.in-Some.c states l.states.items) (sym is_next)
+    (subst (λ v. IsMove g.edges (length g.kinds) v states c.read_from.new.self.states.items) c.from.ensures c.in_ok-read_from.ensures.states) in
     let after =
     subst (λ w. IsAfterWord g w next) (sym (word_after text rest rest2 at at2 c.in-Some.c i.cut s.1 s.2))
     (after_next g (chars (take at text)) c.in-Some.c states next i.after move) in
@@ -95,14 +110,17 @@ loop-offset-preserved-then-accepts-2 c =
     let is : c.range-then-accepts-2.result.now ≡ take at2 text = c.range-then-accepts-2.ensures.value ∙ ap (λ n. take n text) place in
     let count = ap (λ k. length g.kinds * (k + 1)) (count_more text rest rest2 at at2 c.in-Some.c i.cut s.1 s.2) in
     record {
-      layer = c.in_ok-layer-2.ensures.layer.0;
-      size = c.in_ok-layer-2.ensures.layer.1;
+      layer = subst (λ (l : Layer). IsLayer l.states.items l.marks.items) (sym is_next) c.in_ok-read_from.ensures.layer;
+      size = subst (λ (l : Layer). length l.marks.items ≡ length g.kinds) (sym is_next) c.in_ok-read_from.ensures.size;
+      next_size = subst (λ (l : Layer). length l.marks.items ≡ length g.kinds) (sym c.swap.ensures.y_after) i.size;
       cut = cut;
       after = after;
       best = λ t h.
           of_accept (Matches t) text rest2 at2 c.range-then-accepts-2.result.now cut is
           (matched_if t g (chars (take at2 text)) next h after (c.accepts-in-loop-offset.ensures.0 c.if-accepts-2.true));
-      cost = omega (arith, count, i.cost, c.after.ensures.cost);
+      part = of_cut text rest2 at2 c.range-then-accepts-2.result.now cut is;
+      rises = omega (arith, c.read_from.ensures.rises, i.rises);
+      cost = omega (arith, count, i.cost, c.read_from.ensures.cost);
     }
 
 pub loop-offset-preserved : goal.loop-offset-preserved
@@ -116,16 +134,20 @@ loop-offset-preserved c =
     let s = c.in-Some.ensures.steps in
     let i = c.loop-offset.invariant in
     let states = c.loop-offset.layer.states.items in
-    let next = c.in_ok-layer-2.layer.states.items in
+    let next = c.swap.new.x.states.items in
+    let is_next = c.swap.ensures.x_after in
     let cut = cut_more text rest rest2 at at2 c.in-Some.c c.utf8.text i.cut s.1 s.2 in
-    let move = subst (λ v. IsMove g.edges (length g.kinds) v states next) c.from.ensures c.in_ok-layer-2.ensures.states in
+    let move =
+    subst (λ (l : Layer). IsMove g.edges (length g.kinds) c.in-Some.c states l.states.items) (sym is_next)
+    (subst (λ v. IsMove g.edges (length g.kinds) v states c.read_from.new.self.states.items) c.from.ensures c.in_ok-read_from.ensures.states) in
     let after =
     subst (λ w. IsAfterWord g w next) (sym (word_after text rest rest2 at at2 c.in-Some.c i.cut s.1 s.2))
     (after_next g (chars (take at text)) c.in-Some.c states next i.after move) in
     let count = ap (λ k. length g.kinds * (k + 1)) (count_more text rest rest2 at at2 c.in-Some.c i.cut s.1 s.2) in
     record {
-      layer = c.in_ok-layer-2.ensures.layer.0;
-      size = c.in_ok-layer-2.ensures.layer.1;
+      layer = subst (λ (l : Layer). IsLayer l.states.items l.marks.items) (sym is_next) c.in_ok-read_from.ensures.layer;
+      size = subst (λ (l : Layer). length l.marks.items ≡ length g.kinds) (sym is_next) c.in_ok-read_from.ensures.size;
+      next_size = subst (λ (l : Layer). length l.marks.items ≡ length g.kinds) (sym c.swap.ensures.y_after) i.size;
       cut = cut;
       after = after;
       best = λ t h.
@@ -135,7 +157,9 @@ loop-offset-preserved c =
           let no = c.if-accepts-2.false in
           absurd cc)
           (i.best t h);
-      cost = omega (arith, count, i.cost, c.after.ensures.cost);
+      part = i.part;
+      rises = omega (arith, c.read_from.ensures.rises, i.rises);
+      cost = omega (arith, count, i.cost, c.read_from.ensures.cost);
     }
 
 pub returns-clause-answer : goal.returns-clause-answer

@@ -1,9 +1,11 @@
 use Rattle.std.proofs.Common.{◌≡◌, ◌≤◌, ◌+◌, ◌*◌, length, take}
+use Rattle.std.specs.Prelude.{IfSome}
 use Rattle.std.specs.Option.{option_map}
 use Rattle.std.specs.Str.{chars}
 use Rattle.std.specs.Str.Iter.{char_indices_rest, char_indices_offset}
 use Rattle.lalrpop_hir.specs.Tree.{Tree}
 use Rattle.lalrpop_hir.specs.Language.{Matches}
+use Rattle.lalrpop_nfa.specs.Beginning.{IsBeginning}
 use Rattle.lalrpop_nfa.specs.Compiled.{IsCompiled}
 use Rattle.lalrpop_nfa.specs.Internal.Layers.{IsLayer}
 use Rattle.lalrpop_nfa.proofs.LayerLemmas.{IsAfterWord}
@@ -15,8 +17,11 @@ abbrev pub invariant-loop-offset : goal.invariant-loop-offset
 invariant-loop-offset l = record {
   layer : IsLayer l.layer.states.items l.layer.marks.items;
   size : length l.layer.marks.items ≡ length l.nfa.kinds;
+  next_size : length l.next.marks.items ≡ length l.nfa.kinds;
   cut : IsCut l.text (char_indices_offset l.offset-iterator) (char_indices_rest l.offset-iterator);
   after : IsAfterWord l.nfa (chars (take (char_indices_offset l.offset-iterator) l.text)) l.layer.states.items;
   best : (t : Tree) → IsCompiled t l.nfa → IsLongestOfUpTo (Matches t) l.text (char_indices_offset l.offset-iterator) (option_map (λ s. s.now) l.longest);
+  part : IfSome l.longest (λ s. IsBeginning s.now l.text);
+  rises : l.fn.steps ≤ l.steps;
   cost : l.steps ≤ l.fn.steps + length l.nfa.kinds * (length (chars (take (char_indices_offset l.offset-iterator) l.text)) + 1);
 }

@@ -15,7 +15,7 @@ led_to_by-requires-clause-leads c =
     let k = length c.loop-part.tests.items in
     let at = (part_at parts k c.in-Some.part c.next.new.self.rest.items (sym c.loop-part.invariant.rest ∙ c.in-Some.ensures.steps.0)).0 in
     let led : AreLeads c.args.nfas.now c.args.set.now c.in-Some.part.range.start c.in-Some.part.leads.list.items = c.in_ok-part-items.ensures.leads k c.in-Some.part (search rules) in
-    let v : c.new-origin.result.1 ≡ c.in-Some.part.range.start = ap (λ (o : ℕ × ℕ). o.1) c.new-origin.ensures ∙ c.start.ensures in
+    let v : c.new-origin.result.1 ≡ c.in-Some.part.range.start = ap (λ (o : ℕ × ℕ). o.1) c.new-origin.ensures ∙ c.start.ensures.value in
     subst (λ w. AreLeads c.args.nfas.now c.args.set.now w c.in-Some.part.leads.list.items) (sym v) led
 
 pub loop-part-preserved : goal.loop-part-preserved
@@ -29,7 +29,7 @@ loop-part-preserved c =
     let more : length c.push.new.self.items ≡ k + 1 = ap length c.in_ok-push.ensures.items ∙ length-append c.loop-part.tests.items ((c.in-Some.part.range, c.in_ok-target.target) ∷ []) in
     let edging = edging_more c.args.nfas.now c.requires.automata c.args.self.now.kernels.list c.args.self.now.origins.items c.args.number c.args.set.now (map (λ (p : Part). p.range) parts) runs c.requires.here
     k c.in_ok-target.target c.start.result (move c.args.nfas.now c.args.set.now c.new-origin.result.1) c.in-Some.part.range c.in-Some.part.range c.loop-part.self.kernels.list c.loop-part.self.origins.items
-    c.loop-part.tests.items c.push.new.self.items c.led_to_by.new.self.kernels.list c.led_to_by.new.self.origins.items c.loop-part.invariant.edging read.0 read.1 c.start.ensures
+    c.loop-part.tests.items c.push.new.self.items c.led_to_by.new.self.kernels.list c.led_to_by.new.self.origins.items c.loop-part.invariant.edging read.0 read.1 c.start.ensures.value
     (ap (λ (o : ℕ × ℕ). move c.args.nfas.now c.args.set.now o.1) c.new-origin.ensures) refl
     (added_of _ _ _ c.args.number c.start.result _ _ _ _ c.new-origin.ensures c.in_ok-target.ensures.added) c.in_ok-push.ensures.items in
     record {

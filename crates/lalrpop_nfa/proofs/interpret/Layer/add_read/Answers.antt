@@ -13,11 +13,12 @@ loop-test_edge-init c =
     let n = length c.args.self.now.marks.items in
     let all = c.args.nfa.now.edges.tests in
     let old = c.args.self.now.states.items in
-    let is = c.into_iter-test_edge-iterator.ensures.into_iter_gives ∙ c.edges-test_edge-items.ensures in
+    let is = c.into_iter-test_edge-iterator.ensures.into_iter_gives ∙ c.edges-test_edge-items.ensures.edges in
     record {
       layer = c.requires.layer;
       size = refl;
       counted = refl;
+      rises = omega arith;
       going =
           subst (λ rest. IsGoing n c.args.from all rest (λ x. Covers x.label c.args.value) old old) (sym is)
           (going_start n c.args.from all (λ x. Covers x.label c.args.value) old);
@@ -33,12 +34,13 @@ loop-test_edge-preserved-in-Continue-1 c =
     let s = c.in-Some.ensures.steps in
     let x = c.in-Some.test_edge.now in
     let a = c.in_ok-add.ensures in
-    let covers = c.if-contains_u32.ensures.0 refl in
+    let covers = c.if-contains_u32.ensures.answer.0 refl in
     let inside = i.going.inside x (rw s (contains_head x c.next.new.self)) in
     record {
       layer = a.layer;
       size = a.size ∙ i.size;
       counted = omega (arith, a.counted, i.counted);
+      rises = omega (arith, a.rises, i.rises);
       going =
           going_more n c.args.from all c.loop-test_edge.test_edge-iterator c.next.new.self (λ y. Covers y.label c.args.value) c.args.self.now.states.items c.loop-test_edge.self.states.items x
           c.add.new.self.states.items i.going s covers
@@ -54,11 +56,12 @@ loop-test_edge-preserved c =
     let i = c.loop-test_edge.invariant in
     let s = c.in-Some.ensures.steps in
     let x = c.in-Some.test_edge.now in
-    let not : ¬ Covers x.label c.args.value = λ h. cc (c.if-contains_u32.ensures.1 h) in
+    let not : ¬ Covers x.label c.args.value = λ h. cc (c.if-contains_u32.ensures.answer.1 h) in
     record {
       layer = i.layer;
       size = i.size;
       counted = i.counted;
+      rises = i.rises;
       going =
           going_past n c.args.from all c.loop-test_edge.test_edge-iterator c.next.new.self (λ y. Covers y.label c.args.value) c.args.self.now.states.items c.loop-test_edge.self.states.items x
           i.going s not;
@@ -83,9 +86,10 @@ loop-other_edge-init c =
       layer = c.loop-test_edge.invariant.layer;
       size = refl;
       counted = refl;
+      rises = omega arith;
       going =
           subst (λ rest. IsGoing n c.args.from c.args.nfa.now.edges.others rest (λ x. Unit {0}) old old)
-          (sym (c.into_iter-other_edge-iterator.ensures.into_iter_gives ∙ c.edges-other_edge-items.ensures))
+          (sym (c.into_iter-other_edge-iterator.ensures.into_iter_gives ∙ c.edges-other_edge-items.ensures.edges))
           (going_start n c.args.from c.args.nfa.now.edges.others (λ x. Unit {0}) old);
     }
 
@@ -100,6 +104,7 @@ loop-other_edge-preserved c =
       layer = a.layer;
       size = a.size ∙ i.size;
       counted = omega (arith, a.counted, i.counted);
+      rises = omega (arith, a.rises, i.rises);
       going =
           going_more n c.args.from c.args.nfa.now.edges.others c.loop-other_edge.other_edge-iterator c.next-in-loop-other_edge.new.self (λ y. Unit {0}) c.loop-test_edge.self.states.items
           c.loop-other_edge.self.states.items x c.add-in-loop-other_edge.new.self.states.items i.going s tt

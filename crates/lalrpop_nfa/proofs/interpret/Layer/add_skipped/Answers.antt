@@ -8,9 +8,10 @@ loop-edge-init c = record {
   layer = c.requires.layer;
   size = refl;
   counted = refl;
+  rises = omega arith;
   going =
       subst (λ rest. IsGoing (length c.args.self.now.marks.items) c.args.from c.args.nfa.now.edges.noops rest (λ x. Unit {0}) c.args.self.now.states.items c.args.self.now.states.items)
-      (sym (c.into_iter-edge-iterator.ensures.into_iter_gives ∙ c.edges-edge-items.ensures))
+      (sym (c.into_iter-edge-iterator.ensures.into_iter_gives ∙ c.edges-edge-items.ensures.edges))
       (going_start (length c.args.self.now.marks.items) c.args.from c.args.nfa.now.edges.noops (λ x. Unit {0}) c.args.self.now.states.items);
 }
 
@@ -25,6 +26,7 @@ loop-edge-preserved c =
       layer = a.layer;
       size = a.size ∙ i.size;
       counted = omega (arith, a.counted, i.counted);
+      rises = omega (arith, a.rises, i.rises);
       going =
           going_more n c.args.from c.args.nfa.now.edges.noops c.loop-edge.edge-iterator c.next.new.self (λ x. Unit {0}) c.args.self.now.states.items c.loop-edge.self.states.items x
           c.add.new.self.states.items i.going s tt

@@ -1,4 +1,4 @@
-use Rattle.std.proofs.Common.{◌≡◌, ◌+◌, length}
+use Rattle.std.proofs.Common.{◌≡◌, ◌≤◌, ◌+◌, length}
 use Rattle.lalrpop_nfa.specs.Internal.Layers.{IsLayer}
 use Rattle.lalrpop_nfa.proofs.LayerLemmas.{IsGoing}
 use Rattle.lalrpop_nfa.proofs.interpret.Layer.add_skipped.Given as goal
@@ -8,5 +8,6 @@ invariant-loop-edge l = record {
   layer : IsLayer l.self.states.items l.self.marks.items;
   size : length l.self.marks.items ≡ length l.initial.self.marks.items;
   counted : l.steps + length l.initial.self.states.items ≡ l.initial.steps + length l.self.states.items;
+  rises : l.initial.steps ≤ l.steps;
   going : IsGoing (length l.initial.self.marks.items) l.fn.from l.nfa.edges.noops l.edge-iterator (λ x. Unit {0}) l.initial.self.states.items l.self.states.items;
 }

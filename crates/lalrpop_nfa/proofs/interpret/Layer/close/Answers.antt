@@ -8,6 +8,7 @@ loop-place-init c = record {
   layer = c.requires.layer;
   size = c.requires.size;
   counted = refl;
+  rises = omega arith;
   closing = closing_start c.args.nfa.now.edges (length c.args.nfa.now.kinds) c.args.self.now.states.items;
 }
 
@@ -28,6 +29,7 @@ loop-place-preserved c =
       layer = a.layer;
       size = a.size ∙ i.size;
       counted = omega (arith, a.counted, i.counted);
+      rises = omega (arith, a.rises, i.rises);
       closing =
           closing_more e (length c.args.nfa.now.kinds) c.args.self.now.states.items now new c.loop-place.place c.index-from.result.now i.closing (omega arith)
           (item_at now c.loop-place.place c.index-from.result.now (omega arith) c.index-from.ensures)

@@ -1,4 +1,4 @@
-use Rattle.std.proofs.Common.{◌≡◌, ◌+◌, ◌-◌, length}
+use Rattle.std.proofs.Common.{◌≡◌, ◌≤◌, ◌+◌, ◌-◌, length}
 use Rattle.lalrpop_nfa.specs.Internal.Layers.{IsLayer}
 use Rattle.lalrpop_nfa.proofs.LayerLemmas.{IsClosing}
 use Rattle.lalrpop_nfa.proofs.interpret.Layer.close.Given as goal
@@ -8,6 +8,7 @@ invariant-loop-place l = record {
   layer : IsLayer l.self.states.items l.self.marks.items;
   size : length l.self.marks.items ≡ length l.nfa.kinds;
   counted : l.steps + length l.initial.self.states.items ≡ l.initial.steps + length l.self.states.items;
+  rises : l.initial.steps ≤ l.steps;
   closing : IsClosing l.nfa.edges (length l.nfa.kinds) l.initial.self.states.items l.self.states.items l.place;
 }
 

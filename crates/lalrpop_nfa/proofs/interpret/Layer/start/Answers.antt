@@ -9,6 +9,6 @@ returns-clause-states c =
     let first = c.add.new.self.states.items in
     let a = c.in_ok-layer.ensures in
     closure_of_start c.args.nfa.now.edges (length c.args.nfa.now.kinds) first c.close.new.self.states.items
-    (subst (λ m. IsGrown m [] first (λ q. q ≡ start_state)) (a.2 ∙ c.len.ensures)
+    (subst (λ m. IsGrown m [] first (λ q. q ≡ start_state)) (a.2 ∙ c.len.ensures.value)
     (subst (λ xs. IsGrown (length c.in_ok-layer.layer.marks.items) xs first (λ q. q ≡ start_state)) a.1 c.in_ok-add.ensures.states))
     c.in_ok-close.ensures.states

@@ -2,20 +2,20 @@ use Rattle.std.proofs.Common.{◌≡◌, ◌∙◌, subst, length, arith, ap, ge
 use Rattle.lalrpop_nfa.specs.Internal.Layers.{IsGrown}
 use Rattle.lalrpop_nfa.specs.Path.{Reads}
 use Rattle.lalrpop_nfa.proofs.LayerLemmas.{item_within, item_at, moving_more, moving_end}
-use Rattle.lalrpop_nfa.proofs.interpret.Layer.after.Goals as goal
+use Rattle.lalrpop_nfa.proofs.interpret.Layer.read_from.Goals as goal
 
 pub add_read-requires-clause-is_state : goal.add_read-requires-clause-is_state
 add_read-requires-clause-is_state c =
-    let within = item_within c.args.self.now.states.items c.deref-state-items.result.now c.args.self.now.marks.items c.loop-state.state-index c.state-item.result c.requires.layer c.deref-state-items.ensures.value c.loop-state-test.true c.state-item.is in
-    omega (arith, c.requires.size)
+    let within = item_within c.args.before.now.states.items c.deref-state-items.result.now c.args.before.now.marks.items c.loop-state.state-index c.state-item.result c.requires.layer c.deref-state-items.ensures.value c.loop-state-test.true c.state-item.is in
+    omega (arith, c.requires.before_size)
 
 pub loop-state-preserved : goal.loop-state-preserved
 loop-state-preserved c =
     let i = c.loop-state.invariant in
     let a = c.in_ok-add_read.ensures in
     let e = c.args.nfa.now.edges in
-    let given = c.args.self.now.states.items in
-    let now = c.loop-state.next.states.items in
+    let given = c.args.before.now.states.items in
+    let now = c.loop-state.self.states.items in
     let new = c.add_read.new.self.states.items in
     let here : c.state-item.result ≡ get_or given c.loop-state.state-index 0 =
     item_at c.deref-state-items.result.now c.loop-state.state-index c.state-item.result c.loop-state-test.true c.state-item.is ∙ ap (λ xs. get_or xs c.loop-state.state-index 0) c.deref-state-items.ensures.value in
@@ -23,6 +23,7 @@ loop-state-preserved c =
       layer = a.layer;
       size = a.size ∙ i.size;
       counted = omega (arith, a.counted, i.counted);
+      rises = omega (arith, a.rises, i.rises);
       moving =
           moving_more e (length c.args.nfa.now.kinds) c.args.value given now new c.loop-state.state-index c.state-item.result i.moving (omega (arith, c.deref-state-items.ensures.len, c.loop-state-test.true, ap length c.deref-state-items.ensures.value)) here
           (subst (λ m. IsGrown m now new (Reads e c.state-item.result c.args.value)) i.size a.states);
@@ -30,5 +31,5 @@ loop-state-preserved c =
 
 pub returns-clause-states : goal.returns-clause-states
 returns-clause-states c =
-    moving_end c.args.nfa.now.edges (length c.args.nfa.now.kinds) c.args.value c.args.self.now.states.items c.loop-state.next.states.items c.close.new.self.states.items c.loop-state.state-index
+    moving_end c.args.nfa.now.edges (length c.args.nfa.now.kinds) c.args.value c.args.before.now.states.items c.loop-state.self.states.items c.close.new.self.states.items c.loop-state.state-index
     c.loop-state.invariant.moving (omega (arith, c.loop-state-test.false, ap length c.deref-state-items.ensures.value)) c.in_ok-close.ensures.states
