@@ -7,3 +7,4 @@ pub mod Joining
 pub mod Gaps
 pub mod Merging
 pub mod Complements
+mod Cases

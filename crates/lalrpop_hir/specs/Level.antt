@@ -1,4 +1,5 @@
 -- One level of a tree's representation, with the trees of its parts in their places.
+-- cases: proofs/Cases/Level.antt
 use Rattle.std.specs.Str.{chars}
 use Rattle.lalrpop_hir.specs.Tree as tree
 use Rattle.lalrpop_hir.specs.Tree.{Tree, trees}
