@@ -35,3 +35,4 @@ pub mod Builds
 pub mod Compiling
 mod LeadSteps
 mod LeadMoves
+mod Cases

@@ -1,4 +1,5 @@
 -- The clash of a list of trees.
+-- cases: proofs/Cases/Clash.antt
 use Rattle.std.specs.Prelude.{ℕ, ◌<◌, ◌≤◌, List}
 use Rattle.lalrpop_hir.specs.Word.{IsWord, Shortlex}
 use Rattle.lalrpop_hir.specs.Tree.{Tree}

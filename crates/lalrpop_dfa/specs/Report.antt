@@ -1,4 +1,5 @@
 -- What the construction reports.
+-- cases: proofs/Cases/Report.antt
 use Rattle.std.specs.Prelude.{◌≡◌, ℕ, ◌<◌, List, slice_get, Some, None}
 use Rattle.lalrpop_hir.specs.Tree.{Tree}
 use Rattle.lalrpop_nfa.specs.Fault.{fault}
