@@ -4,3 +4,4 @@ pub mod LineParts
 pub mod TerminalLemmas
 pub mod Unique
 pub mod Strongest
+mod Cases

@@ -1,4 +1,5 @@
 -- The lines of some bytes.
+-- cases: proofs/Cases/Lines.antt
 use Rattle.std.specs.Prelude.{ℕ, List, [], ◌∷◌, ◌==◌, if◌then◌else◌}
 
 -- the lines, the first of which also begins with this byte

@@ -1,4 +1,5 @@
 -- What all lines say.
+-- cases: proofs/Cases/Terminals.antt
 use Rattle.std.specs.Prelude.{ℕ, zero, suc, List, [], ◌∷◌, map}
 use Rattle.lalrpop_hir.specs.Tree.{Tree}
 use Rattle.lexdfa_lib.specs.Lines.{lines}

@@ -1,4 +1,5 @@
 -- An end that remembers whether a call of it has failed.
+-- cases: proofs/Cases/Watch.antt
 use Rattle.std.specs.Prelude.{ℕ, ◌≤◌, Bool, true, false, ◌&&◌, ◌==◌, not, List, length, take, Option, Result, Ok, Err}
 use Rattle.std.specs.Io.KnownBytes.{Appends, Consumes, IsAtEnd}
 
