@@ -3,8 +3,6 @@ mod Escapes
 mod BracketLaws
 mod LexicalLaws
 mod OpeningLaws
-mod BracketCases
-mod PatternCases
 mod OpeningSteps
 mod CanonLaws
 mod SpanLaws
@@ -21,3 +19,4 @@ mod NameLaws
 pub mod PatternLaws
 mod EscapedLemmas
 mod Numbers
+mod Cases
