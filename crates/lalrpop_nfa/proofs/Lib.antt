@@ -15,3 +15,4 @@ pub mod Cuts
 pub mod BeginningLemmas
 pub mod Meeting
 pub mod LayerLemmas
+mod Cases

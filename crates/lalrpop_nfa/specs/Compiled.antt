@@ -1,4 +1,5 @@
 -- What a compiled pattern is: an automaton that reads exactly the words of its tree.
+-- cases: proofs/Cases/Compiled.antt
 use Rattle.std.specs.Prelude.{◌≡◌, ◌≢◌, ℕ, ◌+◌, ◌<◌, ◌≤◌, ◌⊎◌, ◌↔◌, List, length, slice_get, Some}
 use Rattle.std.specs.List.{Contains}
 use Rattle.lalrpop_hir.specs.Range.{Range, Covers}

@@ -1,4 +1,5 @@
 -- What two ranges have in common.
+-- cases: proofs/Cases/Meet.antt
 use Rattle.std.specs.Prelude.{ℕ}
 use Rattle.lalrpop_hir.specs.Range.{Range, Covers}
 

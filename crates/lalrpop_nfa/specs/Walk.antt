@@ -1,4 +1,5 @@
 -- The edges that leave one state, in a list of edges.
+-- cases: proofs/Cases/Walk.antt
 use Rattle.std.specs.Prelude.{◌≡◌, ℕ, Bool, eqb, cond, List, [], ◌∷◌, Option, Some, None, drop}
 use Rattle.std.specs.List.{filter}
 use Rattle.lalrpop_nfa.specs.declared.edge.Edge.{Edge}
