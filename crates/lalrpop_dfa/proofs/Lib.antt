@@ -1,3 +1,4 @@
+mod Cases
 pub mod WordOrder
 pub mod Origins
 pub mod Numbering
@@ -35,4 +36,3 @@ pub mod Builds
 pub mod Compiling
 mod LeadSteps
 mod LeadMoves
-mod Cases

@@ -1,5 +1,5 @@
--- The clash of a list of trees.
 -- cases: proofs/Cases/Clash.antt
+-- The clash of a list of trees.
 use Rattle.std.specs.Prelude.{ℕ, ◌<◌, ◌≤◌, List}
 use Rattle.lalrpop_hir.specs.Word.{IsWord, Shortlex}
 use Rattle.lalrpop_hir.specs.Tree.{Tree}

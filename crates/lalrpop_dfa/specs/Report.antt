@@ -1,5 +1,5 @@
--- What the construction reports.
 -- cases: proofs/Cases/Report.antt
+-- What the construction reports.
 use Rattle.std.specs.Prelude.{◌≡◌, ℕ, ◌<◌, List, slice_get, Some, None}
 use Rattle.lalrpop_hir.specs.Tree.{Tree}
 use Rattle.lalrpop_nfa.specs.Fault.{fault}

@@ -1,5 +1,5 @@
--- The partition of a set of ranges.
 -- cases: proofs/Cases/Runs.antt
+-- The partition of a set of ranges.
 use Rattle.std.specs.Prelude.{◌≡◌, ℕ, ◌<◌, ◌≤◌, ◌↔◌, List, [], ◌∷◌, Bool, leb}
 use Rattle.std.specs.List.{Contains}
 use Rattle.lalrpop_hir.specs.Range.{Range, Covers}

@@ -1,5 +1,5 @@
--- When two automata are equal.
 -- cases: proofs/Cases/SameAutomata.antt
+-- When two automata are equal.
 use Rattle.std.specs.Prelude.{◌≡◌, ℕ, Bool, true, false, ◌&&◌, ◌==◌, List, length, slice_get, Some}
 use Rattle.std.specs.Cmp.Lexicographic.{pointwise}
 use Rattle.lalrpop_hir.specs.Range.{Range}

@@ -1,5 +1,5 @@
--- Which trees of a list match a word, and which of them are the strongest.
 -- cases: proofs/Cases/Winners.antt
+-- Which trees of a list match a word, and which of them are the strongest.
 use Rattle.std.specs.Prelude.{◌≡◌, ℕ, ◌<◌, ◌≤◌, List, Some, slice_get, slice_index}
 use Rattle.lalrpop_hir.specs.Tree.{Tree}
 use Rattle.lalrpop_hir.specs.Language.{Matches}

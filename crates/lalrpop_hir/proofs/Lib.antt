@@ -1,3 +1,4 @@
+mod Cases
 pub mod Words
 pub mod Languages
 pub mod Classes
@@ -7,4 +8,3 @@ pub mod Joining
 pub mod Gaps
 pub mod Merging
 pub mod Complements
-mod Cases

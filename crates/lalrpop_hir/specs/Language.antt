@@ -1,5 +1,5 @@
--- The words that a tree matches: the textbook's language of a regular expression.
 -- cases: proofs/Cases/Language.antt
+-- The words that a tree matches: the textbook's language of a regular expression.
 use Rattle.std.specs.Prelude.{◌≡◌, ℕ, zero, suc, ◌≤◌, ◌⊎◌, List, [], ◌∷◌, ◌++◌, Option, Some, None}
 use Rattle.lalrpop_hir.specs.Range.{Covered}
 use Rattle.lalrpop_hir.specs.Tree.{Class, unicode, bytes, Tree, empty, literal, class, look, repetition, capture, concat, alternation, Trees, none, also}

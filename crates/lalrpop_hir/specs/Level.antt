@@ -1,5 +1,5 @@
--- One level of a tree's representation, with the trees of its parts in their places.
 -- cases: proofs/Cases/Level.antt
+-- One level of a tree's representation, with the trees of its parts in their places.
 use Rattle.std.specs.Str.{chars}
 use Rattle.lalrpop_hir.specs.Tree as tree
 use Rattle.lalrpop_hir.specs.Tree.{Tree, trees}

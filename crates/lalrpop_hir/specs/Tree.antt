@@ -1,5 +1,5 @@
--- A pattern as a tree.
 -- cases: proofs/Cases/Tree.antt
+-- A pattern as a tree.
 use Rattle.std.specs.Prelude.{ℕ, zero, suc, ◌+◌, ◌-◌, ◌*◌, List, [], ◌∷◌, length, max, Bool, Option, Some, None}
 use Rattle.std.specs.Str.{chars}
 use Rattle.lalrpop_hir.specs.Range.{Range}

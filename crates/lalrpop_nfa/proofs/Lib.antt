@@ -1,3 +1,4 @@
+mod Cases
 pub mod WalkLemmas
 pub mod PushLemmas
 pub mod BuildLemmas
@@ -15,4 +16,3 @@ pub mod Cuts
 pub mod BeginningLemmas
 pub mod Meeting
 pub mod LayerLemmas
-mod Cases

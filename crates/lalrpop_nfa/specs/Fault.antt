@@ -1,5 +1,5 @@
--- Why a tree can't be compiled.
 -- cases: proofs/Cases/Fault.antt
+-- Why a tree can't be compiled.
 use Rattle.std.specs.Prelude.{ℕ, zero, suc, List, Option, Some, None, if◌then◌else◌}
 use Rattle.std.specs.Option.{option_or}
 use Rattle.lalrpop_hir.specs.Tree.{Tree, empty, literal, class, look, repetition, capture, concat, alternation, Trees, none, also}

@@ -1,5 +1,5 @@
--- The three kinds of labels, and what leaves the lists and indices of the other two alone.
 -- cases: proofs/Cases/Firsts.antt
+-- The three kinds of labels, and what leaves the lists and indices of the other two alone.
 use Rattle.std.specs.Prelude.{◌≡◌}
 use Rattle.lalrpop_nfa.specs.Lists.{Lists}
 use Rattle.lalrpop_nfa.specs.declared.edge.State.{State}

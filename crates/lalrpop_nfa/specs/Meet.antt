@@ -1,5 +1,5 @@
--- What two ranges have in common.
 -- cases: proofs/Cases/Meet.antt
+-- What two ranges have in common.
 use Rattle.std.specs.Prelude.{ℕ}
 use Rattle.lalrpop_hir.specs.Range.{Range, Covers}
 

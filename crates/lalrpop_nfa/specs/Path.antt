@@ -1,5 +1,5 @@
--- How steps lead from state to state of an automaton and read a word.
 -- cases: proofs/Cases/Path.antt
+-- How steps lead from state to state of an automaton and read a word.
 use Rattle.std.specs.Prelude.{◌≡◌, ℕ, ◌⊎◌, List, [], ◌∷◌}
 use Rattle.std.specs.List.{Contains}
 use Rattle.lalrpop_hir.specs.Range.{Range, Covers}

@@ -1,5 +1,5 @@
--- The edges that leave one state, in a list of edges.
 -- cases: proofs/Cases/Walk.antt
+-- The edges that leave one state, in a list of edges.
 use Rattle.std.specs.Prelude.{◌≡◌, ℕ, Bool, eqb, cond, List, [], ◌∷◌, Option, Some, None, drop}
 use Rattle.std.specs.List.{filter}
 use Rattle.lalrpop_nfa.specs.declared.edge.Edge.{Edge}

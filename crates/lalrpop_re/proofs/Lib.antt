@@ -1,3 +1,4 @@
+mod Cases
 mod Steps
 mod Escapes
 mod BracketLaws
@@ -19,4 +20,3 @@ mod NameLaws
 pub mod PatternLaws
 mod EscapedLemmas
 mod Numbers
-mod Cases

@@ -1,5 +1,5 @@
--- Brackets: a text and the set that it spells.
 -- cases: proofs/Cases/Bracket.antt
+-- Brackets: a text and the set that it spells.
 use Rattle.std.specs.Prelude.{◌≡◌, ℕ, ◌≤◌, ◌+◌, max, Bool, true, false, not, ◌&&◌, ◌||◌, IsTrue, IsFalse, List, [], ◌∷◌, ◌++◌, map, Option, Some, None, if◌then◌else◌, codes, bytes_eq}
 use Rattle.std.specs.Bool.{xor}
 use Rattle.std.specs.List.{list_all}

@@ -1,5 +1,5 @@
--- Sets of scalar values, folding, and the class of a set.
 -- cases: proofs/Cases/CharacterSet.antt
+-- Sets of scalar values, folding, and the class of a set.
 use Rattle.std.specs.Prelude.{ℕ, zero, suc, Bool, false, not, ◌&&◌, ◌||◌, ◌==◌, List, [], ◌∷◌, if◌then◌else◌}
 use Rattle.std.specs.Int.{is_in_range}
 use Rattle.unicode.specs.CaseFolding.{simple_fold}

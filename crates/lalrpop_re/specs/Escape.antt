@@ -1,5 +1,5 @@
--- Escapes: what stands after a backslash.
 -- cases: proofs/Cases/Escape.antt
+-- Escapes: what stands after a backslash.
 use Rattle.std.specs.Prelude.{◌≡◌, ℕ, suc, ◌+◌, ◌*◌, ◌<◌, Bool, true, false, not, ◌&&◌, ◌||◌, IsTrue, IsFalse, List, [], ◌∷◌, length, Option, Some, option_map, if◌then◌else◌, codes, bytes_eq}
 use Rattle.std.specs.List.{list_all}
 use Rattle.std.specs.Char.{is_ascii, is_ascii_alphanumeric, is_ascii_hexdigit, digit_value}

@@ -1,5 +1,5 @@
--- The text of a pattern in which each character stands for itself.
 -- cases: proofs/Cases/Escaped.antt
+-- The text of a pattern in which each character stands for itself.
 use Rattle.std.specs.Prelude.{ℕ, Bool, List, [], ◌∷◌, if◌then◌else◌, codes}
 use Rattle.lalrpop_re.specs.Text.{Text, ◌▸◌, is_one_of}
 

@@ -1,5 +1,5 @@
--- What a refusal of a pattern says.
 -- cases: proofs/Cases/Refusal.antt
+-- What a refusal of a pattern says.
 use Rattle.std.specs.Prelude.{ℕ, List}
 use Rattle.std.specs.Str.{IsCharBoundary}
 use Rattle.lalrpop_hir.specs.Tree.{Tree}

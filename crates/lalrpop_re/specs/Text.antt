@@ -1,5 +1,5 @@
--- The characters of a pattern, and words for them.
 -- cases: proofs/Cases/Text.antt
+-- The characters of a pattern, and words for them.
 use Rattle.std.specs.Prelude.{ℕ, Bool, ◌==◌, nat_eq, List, ◌++◌, codes}
 use Rattle.std.specs.List.{list_any, starts_with}
 use Prim.Native.String.{String}

@@ -1,7 +1,7 @@
+mod Cases
 pub mod Known
 pub mod LineLemmas
 pub mod LineParts
 pub mod TerminalLemmas
 pub mod Unique
 pub mod Strongest
-mod Cases

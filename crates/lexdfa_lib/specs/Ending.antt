@@ -1,5 +1,5 @@
--- How the program ends.
 -- cases: proofs/Cases/Ending.antt
+-- How the program ends.
 use Rattle.std.specs.Prelude.{ℕ, List, codes, Option, Some, None, Result, Ok, Err}
 use Rattle.lexdfa_lib.specs.Status.{outcome_status, error_status}
 use Rattle.lexdfa_lib.specs.declared.ending.Failure.{Failure}

@@ -1,5 +1,5 @@
--- What one line says.
 -- cases: proofs/Cases/Line.antt
+-- What one line says.
 use Rattle.std.specs.Prelude.{◌≡◌, ℕ, ◌≤◌, List, ◌++◌, length, codes}
 use Rattle.std.specs.Str.{IsUtf8, chars}
 use Rattle.std.specs.Str.Parse.{IsNumeral, digits_value}

@@ -1,5 +1,5 @@
--- The lines of some bytes.
 -- cases: proofs/Cases/Lines.antt
+-- The lines of some bytes.
 use Rattle.std.specs.Prelude.{ℕ, List, [], ◌∷◌, ◌==◌, if◌then◌else◌}
 
 -- the lines, the first of which also begins with this byte

@@ -1,5 +1,5 @@
--- The line that tells an outcome.
 -- cases: proofs/Cases/Printed.antt
+-- The line that tells an outcome.
 use Rattle.std.specs.Prelude.{ℕ, List, ◌++◌, codes, decimal}
 use Rattle.lalrpop_lexer.specs.declared.lexer.nfa.error.NfaConstructionError.{NfaConstructionError}
 use Rattle.lalrpop_lexer.specs.declared.lexer.nfa.error.NfaConstructionError.TheVariants.{NamedCaptures, NonGreedy, LookAround, ByteRegex, OutOfMemory}

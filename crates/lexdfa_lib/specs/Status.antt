@@ -1,5 +1,5 @@
--- The exit statuses.
 -- cases: proofs/Cases/Status.antt
+-- The exit statuses.
 use Rattle.std.specs.Prelude.{ℕ}
 use Rattle.lexdfa_lib.specs.declared.error.RunError.{RunError}
 use Rattle.lexdfa_lib.specs.declared.error.RunError.TheVariants.{OutOfMemory, Read, Write}

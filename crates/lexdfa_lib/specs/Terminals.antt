@@ -1,5 +1,5 @@
--- What all lines say.
 -- cases: proofs/Cases/Terminals.antt
+-- What all lines say.
 use Rattle.std.specs.Prelude.{ℕ, zero, suc, List, [], ◌∷◌, map}
 use Rattle.lalrpop_hir.specs.Tree.{Tree}
 use Rattle.lexdfa_lib.specs.Lines.{lines}

@@ -1,5 +1,5 @@
--- An end that remembers whether a call of it has failed.
 -- cases: proofs/Cases/Watch.antt
+-- An end that remembers whether a call of it has failed.
 use Rattle.std.specs.Prelude.{ℕ, ◌≤◌, Bool, true, false, ◌&&◌, ◌==◌, not, List, length, take, Option, Result, Ok, Err}
 use Rattle.std.specs.Io.KnownBytes.{Appends, Consumes, IsAtEnd}
 

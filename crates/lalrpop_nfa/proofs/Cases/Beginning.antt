@@ -1,6 +1,6 @@
 -- Cases of specs/Beginning.antt.
-use Rattle.std.proofs.Common.{◌≡◌, ℕ, ◌≤◌, List, [], ◌∷◌, ◌++◌, length, get_or, Some, None, codes, refl, sym, ap, ◌∙◌, length-append, arith}
-use Rattle.std.specs.Str.{chars, IsUtf8}
+use Rattle.std.proofs.Common.{◌≡◌, ℕ, ◌≤◌, List, [], ◌∷◌, ◌++◌, length, get_or, Some, None, codes, refl, ap, ◌∙◌, length-append, arith}
+use Rattle.std.specs.Str.{chars}
 use Rattle.lalrpop_nfa.specs.Beginning.{IsBeginning, IsLongestOf}
 
 -- the empty text, a part and the whole are beginnings

@@ -1,11 +1,10 @@
 -- Cases of specs/Compiled.antt: the automaton of the literal `a`.
-use Rattle.std.proofs.Common.{◌≡◌, ◌≢◌, ℕ, zero, suc, ◌<◌, ◌≤◌, inl, inr, List, [], ◌∷◌, length, get_or, true, None, Some, refl, sym, ap, subst, ◌∙◌, arith}
+use Rattle.std.proofs.Common.{◌≡◌, ℕ, zero, suc, ◌≤◌, List, [], ◌∷◌, length, get_or, true, None, Some, refl, sym, ap, subst, ◌∙◌, arith}
 use Rattle.std.specs.Prelude.{◌↔◌, slice_get}
 use Rattle.std.specs.List.{Contains}
 use Rattle.lalrpop_hir.specs.Range.{Range, Covers}
-use Rattle.lalrpop_hir.specs.Tree.{Tree, unicode, empty, literal, class, repetition}
+use Rattle.lalrpop_hir.specs.Tree.{Tree, unicode, empty, literal, repetition}
 use Rattle.lalrpop_nfa.specs.Graph.{Graph}
-use Rattle.lalrpop_nfa.specs.Meet.{Meet}
 use Rattle.lalrpop_nfa.specs.Path.{test, Path}
 use Rattle.lalrpop_nfa.specs.Compiled.{IsClassLabel, IsLabel, ReadsWordsOf, IsCompiled}
 use Rattle.lalrpop_nfa.specs.declared.edge.Edge.{Edge}

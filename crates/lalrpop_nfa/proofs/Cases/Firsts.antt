@@ -1,5 +1,5 @@
 -- Cases of specs/Firsts.antt.
-use Rattle.std.proofs.Common.{◌≡◌, [], ◌∷◌, Some, None, refl}
+use Rattle.std.proofs.Common.{[], ◌∷◌, Some, None, refl}
 use Rattle.lalrpop_nfa.specs.Lists.{Lists}
 use Rattle.lalrpop_nfa.specs.Path.{noop}
 use Rattle.lalrpop_nfa.specs.StateView.{StateView}

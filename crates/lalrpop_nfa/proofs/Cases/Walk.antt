@@ -1,5 +1,5 @@
 -- Cases of specs/Walk.antt: edges from 2 to 3, from 2 to 4 and from 5 to 6.
-use Rattle.std.proofs.Common.{◌≡◌, ℕ, List, [], ◌∷◌, length, true, false, Some, None, refl, ap, ◌∙◌, arith}
+use Rattle.std.proofs.Common.{◌≡◌, List, [], ◌∷◌, length, true, false, Some, None, refl, ap, ◌∙◌, arith}
 use Rattle.lalrpop_nfa.specs.Path.{noop}
 use Rattle.lalrpop_nfa.specs.Walk.{leaves, walk, walk_at, IsAt, IsRun}
 use Rattle.lalrpop_nfa.specs.declared.edge.Edge.{Edge}

@@ -1,11 +1,11 @@
 -- Cases of specs/CharacterSet.antt.
-use Rattle.std.proofs.Common.{◌≡◌, ℕ, ◌<◌, ◌≤◌, ◌⊎◌, inl, inr, List, [], ◌∷◌, true, false, refl, sym, subst, ◌∙◌, eqb-true, eq-eqb, arith}
+use Rattle.std.proofs.Common.{◌≡◌, ℕ, inl, [], ◌∷◌, true, false, refl, sym, subst, ◌∙◌, eqb-true, arith}
 use Rattle.std.specs.Char.{to_ascii_lowercase}
 use Rattle.std.proofs.lemmas.Bool.Decides.{nat_tests}
 use Rattle.unicode.specs.CaseFolding.{simple_fold}
 use Rattle.ucd_case.proofs.CaseFoldingLemmas.{simple_fold-ascii}
-use Rattle.lalrpop_hir.specs.Range.{Range, Covered, IsScalar, IsCanon}
-use Rattle.lalrpop_re.specs.CharacterSet.{Set, is_scalar, nothing, just, range, union, union_all, complement, some_below, fold, with_least, runs_below, canon}
+use Rattle.lalrpop_hir.specs.Range.{Range, Covered}
+use Rattle.lalrpop_re.specs.CharacterSet.{is_scalar, nothing, just, range, union, union_all, complement, some_below, fold, with_least, runs_below, canon}
 use Rattle.lalrpop_re.proofs.CanonLaws.{HasRuns-canon}
 use Rattle.lalrpop_re.proofs.FoldLaws.{fold-is}
 

@@ -1,8 +1,8 @@
 -- Cases of specs/Operator.antt.
-use Rattle.std.proofs.Common.{◌≡◌, ℕ, ◌++◌, List, [], ◌∷◌, Bool, true, false, Option, Some, None, codes, refl, sym, ap, ◌∙◌, lit<, lit≤, arith}
+use Rattle.std.proofs.Common.{◌≡◌, ℕ, [], Bool, true, false, Option, Some, None, codes, refl, sym, ap, ◌∙◌, lit<, lit≤}
 use Rattle.lalrpop_re.specs.Text.{Text}
 use Rattle.lalrpop_re.specs.Flag.{no_flags}
-use Rattle.lalrpop_re.specs.Operator.{decimal, Count, count, Bounds, optional, any_number, at_least, between, Operator, alone, turned}
+use Rattle.lalrpop_re.specs.Operator.{decimal, Count, count, Bounds, any_number, between, Operator, alone, turned}
 use Rattle.lalrpop_re.specs.Internal.Reading as reading
 use Rattle.lalrpop_re.proofs.LexicalLaws.{operator_complete}
 

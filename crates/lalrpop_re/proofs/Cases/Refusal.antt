@@ -1,8 +1,8 @@
 -- Cases of specs/Refusal.antt.
-use Rattle.std.proofs.Common.{◌≡◌, ℕ, ◌≤◌, [], ◌∷◌, codes, refl, lit≤, arith}
+use Rattle.std.proofs.Common.{◌≤◌, [], ◌∷◌, codes, refl, lit≤, arith}
 use Rattle.lalrpop_hir.specs.Tree.{literal}
 use Rattle.lalrpop_re.specs.GroupName.{names}
-use Rattle.lalrpop_re.specs.Pattern.{a_literal, an_atom, no_piece, piece_then, last_branch, of_branches, Pattern}
+use Rattle.lalrpop_re.specs.Pattern.{a_literal, an_atom, no_piece, piece_then, last_branch, of_branches}
 use Rattle.lalrpop_re.specs.Refusal.{HasNoTree, PointsInto}
 use Rattle.lalrpop_re.specs.declared.error.RegexError.TheVariants.{Syntax, OutOfMemory}
 use Rattle.lalrpop_re.specs.declared.error.SyntaxKind.TheVariants.{RepetitionMissing}
