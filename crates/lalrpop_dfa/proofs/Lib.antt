@@ -1,3 +1,4 @@
+mod Cases
 pub mod WordOrder
 pub mod Origins
 pub mod Numbering

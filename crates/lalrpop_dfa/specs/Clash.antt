@@ -1,3 +1,4 @@
+-- cases: proofs/Cases/Clash.antt
 -- The clash of a list of trees.
 use Rattle.std.specs.Prelude.{ℕ, ◌<◌, ◌≤◌, List}
 use Rattle.lalrpop_hir.specs.Word.{IsWord, Shortlex}

@@ -1,3 +1,4 @@
+-- cases: proofs/Cases/Dfa.antt
 -- The automaton of a list of trees, and what it stands for.
 use Rattle.std.specs.Prelude.{◌≡◌, ℕ, ◌<◌, ◌≤◌, List, [], ◌∷◌, length, slice_get, Option, Some, None, nat_le, ◌&&◌, if◌then◌else◌, IsSomeAnd}
 use Rattle.std.specs.List.{Contains}

@@ -1,3 +1,4 @@
+-- cases: proofs/Cases/Items.antt
 -- What the states of an automaton of a list of trees hold: the states of the trees' own automata that a word leads to.
 use Rattle.std.specs.Prelude.{◌≡◌, ◌≢◌, ℕ, ◌<◌, ◌↔◌, List, length, map, slice_get, Some}
 use Rattle.std.specs.List.{Contains}

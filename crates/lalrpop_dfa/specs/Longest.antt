@@ -1,3 +1,4 @@
+-- cases: proofs/Cases/Longest.antt
 -- The longest nonempty beginning of a text that some tree matches.
 use Rattle.std.specs.Prelude.{◌≢◌, ℕ, ◌≤◌, List, [], length, Option, Some, None}
 use Rattle.std.specs.Str.{chars}

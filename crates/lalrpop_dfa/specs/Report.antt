@@ -1,3 +1,4 @@
+-- cases: proofs/Cases/Report.antt
 -- What the construction reports.
 use Rattle.std.specs.Prelude.{◌≡◌, ℕ, ◌<◌, List, slice_get, Some, None}
 use Rattle.lalrpop_hir.specs.Tree.{Tree}

@@ -1,3 +1,4 @@
+-- cases: proofs/Cases/Runs.antt
 -- The partition of a set of ranges.
 use Rattle.std.specs.Prelude.{◌≡◌, ℕ, ◌<◌, ◌≤◌, ◌↔◌, List, [], ◌∷◌, Bool, leb}
 use Rattle.std.specs.List.{Contains}

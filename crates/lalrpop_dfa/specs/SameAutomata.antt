@@ -1,3 +1,4 @@
+-- cases: proofs/Cases/SameAutomata.antt
 -- When two automata are equal.
 use Rattle.std.specs.Prelude.{◌≡◌, ℕ, Bool, true, false, ◌&&◌, ◌==◌, List, length, slice_get, Some}
 use Rattle.std.specs.Cmp.Lexicographic.{pointwise}

@@ -1,3 +1,4 @@
+-- cases: proofs/Cases/Winners.antt
 -- Which trees of a list match a word, and which of them are the strongest.
 use Rattle.std.specs.Prelude.{◌≡◌, ℕ, ◌<◌, ◌≤◌, List, Some, slice_get, slice_index}
 use Rattle.lalrpop_hir.specs.Tree.{Tree}

@@ -1,9 +1,9 @@
 -- What small trees match.
-use Rattle.std.proofs.Common.{◌≡◌, ℕ, zero, suc, ◌≤◌, ◌↔◌, List, [], ◌∷◌, ◌++◌, Bool, true, Option, Some, None, refl, sym, ap, subst, ◌∙◌, arith}
+use Rattle.std.proofs.Common.{◌≡◌, ℕ, zero, suc, ◌≤◌, ◌↔◌, List, [], ◌∷◌, ◌++◌, Bool, Option, Some, refl, sym, ap, subst, ◌∙◌, arith}
 use Rattle.std.specs.Str.{chars}
 use Rattle.std.proofs.lemmas.Str.{chars-nil}
 use Rattle.std.proofs.lemmas.List.{append-nil}
-use Rattle.lalrpop_hir.specs.Tree.{Tree, literal, repetition, concat, alternation, none, also, of_text, size}
+use Rattle.lalrpop_hir.specs.Tree.{Tree, repetition, concat, alternation, none, also, of_text}
 use Rattle.lalrpop_hir.specs.Language.{Words, Then, Power, Matches}
 
 -- a concatenation without parts matches the empty word alone
@@ -47,15 +47,3 @@ Matches-greed min max g h t w m = m
 pub Matches-of_text : (bs w : List ℕ) → Matches (of_text bs) w ↔ (w ≡ chars bs)
 Matches-of_text [] w = (λ h. h ∙ sym chars-nil, λ h. h ∙ chars-nil)
 Matches-of_text (b ∷ bs) w = (λ h. h, λ h. h)
-
--- the sizes of some trees
-size-a : size (literal (97 ∷ [])) ≡ 1
-size-a = refl
-
--- `b{2,4}`
-size-b24 : size (repetition 2 (Some 4) true (literal (98 ∷ []))) ≡ 6
-size-b24 = refl
-
--- `b{3,}`
-size-b3 : size (repetition 3 None true (literal (98 ∷ []))) ≡ 5
-size-b3 = refl

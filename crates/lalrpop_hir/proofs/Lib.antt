@@ -1,3 +1,4 @@
+mod Cases
 pub mod Words
 pub mod Languages
 pub mod Classes

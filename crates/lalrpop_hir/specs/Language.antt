@@ -1,3 +1,4 @@
+-- cases: proofs/Cases/Language.antt
 -- The words that a tree matches: the textbook's language of a regular expression.
 use Rattle.std.specs.Prelude.{◌≡◌, ℕ, zero, suc, ◌≤◌, ◌⊎◌, List, [], ◌∷◌, ◌++◌, Option, Some, None}
 use Rattle.lalrpop_hir.specs.Range.{Covered}

@@ -1,3 +1,4 @@
+-- cases: proofs/Cases/Level.antt
 -- One level of a tree's representation, with the trees of its parts in their places.
 use Rattle.std.specs.Str.{chars}
 use Rattle.lalrpop_hir.specs.Tree as tree

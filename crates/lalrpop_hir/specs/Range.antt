@@ -1,3 +1,4 @@
+-- cases: proofs/Cases/Range.antt
 -- Ranges of values, sets of values, and the lists of maximal runs that classes keep.
 use Rattle.std.specs.Prelude.{ℕ, ◌+◌, ◌<◌, ◌≤◌, ◌⊎◌, ◌↔◌, List, [], ◌∷◌, if◌then◌else◌, eqb, refl}
 use Rattle.std.specs.Coded.{Coded, code_by, coded×, coded_ℕ}

@@ -1,3 +1,4 @@
+-- cases: proofs/Cases/Tree.antt
 -- A pattern as a tree.
 use Rattle.std.specs.Prelude.{ℕ, zero, suc, ◌+◌, ◌-◌, ◌*◌, List, [], ◌∷◌, length, max, Bool, Option, Some, None}
 use Rattle.std.specs.Str.{chars}

@@ -1,3 +1,4 @@
+mod Cases
 pub mod WalkLemmas
 pub mod PushLemmas
 pub mod BuildLemmas

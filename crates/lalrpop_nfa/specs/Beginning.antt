@@ -1,3 +1,4 @@
+-- cases: proofs/Cases/Beginning.antt
 -- Beginnings of a text, and the longest one that a language has.
 use Rattle.std.specs.Prelude.{◌≡◌, ℕ, ◌≤◌, List, ◌++◌, length, Option, Some, None}
 use Rattle.std.specs.Str.{chars, IsUtf8}

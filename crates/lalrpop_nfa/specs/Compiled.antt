@@ -1,3 +1,4 @@
+-- cases: proofs/Cases/Compiled.antt
 -- What a compiled pattern is: an automaton that reads exactly the words of its tree.
 use Rattle.std.specs.Prelude.{◌≡◌, ◌≢◌, ℕ, ◌+◌, ◌<◌, ◌≤◌, ◌⊎◌, ◌↔◌, List, [], ◌∷◌, length, slice_get, Some}
 use Rattle.std.specs.List.{Contains, filter}

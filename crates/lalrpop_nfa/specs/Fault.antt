@@ -1,3 +1,4 @@
+-- cases: proofs/Cases/Fault.antt
 -- Why a tree can't be compiled.
 use Rattle.std.specs.Prelude.{ℕ, zero, suc, List, Option, Some, None, if◌then◌else◌}
 use Rattle.std.specs.Option.{option_or}

@@ -1,3 +1,4 @@
+-- cases: proofs/Cases/Firsts.antt
 -- The three kinds of labels, and what leaves the lists and indices of the other two alone.
 use Rattle.std.specs.Prelude.{◌≡◌}
 use Rattle.lalrpop_nfa.specs.Lists.{Lists}

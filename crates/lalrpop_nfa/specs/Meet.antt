@@ -1,3 +1,4 @@
+-- cases: proofs/Cases/Meet.antt
 -- What two ranges have in common.
 use Rattle.std.specs.Prelude.{ℕ}
 use Rattle.lalrpop_hir.specs.Range.{Range, Covers}

@@ -1,3 +1,4 @@
+-- cases: proofs/Cases/Path.antt
 -- How steps lead from state to state of an automaton and read a word.
 use Rattle.std.specs.Prelude.{◌≡◌, ℕ, ◌⊎◌, List, [], ◌∷◌}
 use Rattle.std.specs.List.{Contains}

@@ -1,3 +1,4 @@
+-- cases: proofs/Cases/SideBySide.antt
 -- That the edges of one state stand side by side, and the kinds of states.
 use Rattle.std.specs.Prelude.{ℕ, List, map}
 use Rattle.lalrpop_nfa.specs.declared.edge.State.{State}

@@ -1,3 +1,4 @@
+-- cases: proofs/Cases/Walk.antt
 -- The edges that leave one state, in a list of edges.
 use Rattle.std.specs.Prelude.{◌≡◌, ℕ, Bool, eqb, cond, List, [], ◌∷◌, Option, Some, None, drop}
 use Rattle.std.specs.List.{filter}

@@ -1,10 +1,9 @@
+mod Cases
 mod Steps
 mod Escapes
 mod BracketLaws
 mod LexicalLaws
 mod OpeningLaws
-mod BracketCases
-mod PatternCases
 mod OpeningSteps
 mod SetLaws
 mod Lexemes

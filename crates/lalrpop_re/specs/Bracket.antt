@@ -1,3 +1,4 @@
+-- cases: proofs/Cases/Bracket.antt
 -- Brackets: a text and the set that it spells.
 use Rattle.std.specs.Prelude.{◌≡◌, ℕ, ◌≤◌, ◌+◌, max, Bool, true, false, not, ◌&&◌, ◌||◌, IsTrue, IsFalse, List, [], ◌∷◌, ◌++◌, map, Some, if◌then◌else◌, codes}
 use Rattle.std.specs.Bool.{xor}

@@ -1,3 +1,4 @@
+-- cases: proofs/Cases/Escape.antt
 -- Escapes: what stands after a backslash.
 use Rattle.std.specs.Prelude.{◌≡◌, ℕ, suc, ◌+◌, ◌*◌, ◌<◌, Bool, true, false, not, ◌&&◌, ◌||◌, IsTrue, IsFalse, List, [], ◌∷◌, length, Some, if◌then◌else◌, codes}
 use Rattle.std.specs.List.{list_all}

@@ -1,3 +1,4 @@
+-- cases: proofs/Cases/Escaped.antt
 -- The text of a pattern in which each character stands for itself.
 use Rattle.std.specs.Prelude.{ℕ, Bool, List, [], ◌∷◌, if◌then◌else◌, codes}
 use Rattle.lalrpop_re.specs.Text.{Text, ◌▸◌}

@@ -1,3 +1,4 @@
+-- cases: proofs/Cases/Flag.antt
 -- The letters that set the flags under which a part of a pattern is read.
 use Rattle.std.specs.Prelude.{ℕ, ◌<◌, Bool, true, false, not, ◌&&◌, ◌==◌, IsTrue, List, [], ◌∷◌, ◌++◌, length, if◌then◌else◌, codes}
 use Rattle.std.specs.List.{list_all, list_any}

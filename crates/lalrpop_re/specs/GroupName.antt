@@ -1,3 +1,4 @@
+-- cases: proofs/Cases/GroupName.antt
 -- The names of groups.
 use Rattle.std.specs.Prelude.{ℕ, Bool, true, false, not, ◌&&◌, ◌||◌, List, [], ◌∷◌, ◌++◌, Option, Some, None, bytes_eq}
 use Rattle.std.specs.List.{list_all, list_any}

@@ -1,3 +1,4 @@
+-- cases: proofs/Cases/Operator.antt
 -- Operators: what is written behind a piece to repeat it.
 use Rattle.std.specs.Prelude.{◌≡◌, ℕ, ◌<◌, ◌≤◌, ◌^◌, ◌+◌, ◌*◌, Bool, not, IsTrue, IsFalse, List, [], ◌∷◌, length, Option, Some, None, codes}
 use Rattle.std.specs.List.{list_all}

@@ -1,3 +1,4 @@
+-- cases: proofs/Cases/Pattern.antt
 -- Patterns: a text and the tree that it spells.
 use Rattle.std.specs.Prelude.{ℕ, ◌<◌, ◌≤◌, ◌+◌, max, Bool, true, false, not, ◌==◌, IsTrue, IsFalse, List, [], ◌∷◌, length, Option, Some, None, if◌then◌else◌, codes, encode_utf8_all}
 use Rattle.lalrpop_hir.specs.Range.{Range}

@@ -1,3 +1,4 @@
+-- cases: proofs/Cases/Refusal.antt
 -- What a refusal of a pattern says.
 use Rattle.std.specs.Prelude.{ℕ, List}
 use Rattle.std.specs.Str.{IsCharBoundary}

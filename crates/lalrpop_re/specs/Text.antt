@@ -1,3 +1,4 @@
+-- cases: proofs/Cases/Text.antt
 -- The characters of a pattern, and words for them.
 use Rattle.std.specs.Prelude.{ℕ, Bool, nat_eq, List, ◌++◌, codes}
 use Rattle.std.specs.List.{starts_with}

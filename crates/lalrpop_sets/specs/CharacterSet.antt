@@ -1,3 +1,4 @@
+-- cases: proofs/Cases/CharacterSet.antt
 -- Sets of scalar values, folding, and the class of a set.
 use Rattle.std.specs.Prelude.{◌≡◌, ℕ, zero, suc, Bool, true, false, not, ◌&&◌, ◌||◌, ◌==◌, List, [], ◌∷◌, if◌then◌else◌, codes}
 use Rattle.std.specs.Int.{is_in_range}

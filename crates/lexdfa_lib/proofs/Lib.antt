@@ -1,3 +1,4 @@
+mod Cases
 pub mod Known
 pub mod LineLemmas
 pub mod LineParts

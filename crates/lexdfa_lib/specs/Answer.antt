@@ -1,3 +1,4 @@
+-- cases: proofs/Cases/Answer.antt
 -- The answer to some bytes and a text: one outcome, and its line.
 use Rattle.std.specs.Prelude.{◌≡◌, ℕ, List, length, Option, Some, None}
 use Rattle.lalrpop_hir.specs.Tree.{Tree}

@@ -1,3 +1,4 @@
+-- cases: proofs/Cases/Ending.antt
 -- How the program ends.
 use Rattle.std.specs.Prelude.{ℕ, List, codes, Option, Some, None, Result, Ok, Err}
 use Rattle.lexdfa_lib.specs.Status.{outcome_status, error_status}

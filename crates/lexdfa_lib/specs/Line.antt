@@ -1,3 +1,4 @@
+-- cases: proofs/Cases/Line.antt
 -- What one line says.
 use Rattle.std.specs.Prelude.{◌≡◌, ℕ, ◌≤◌, List, ◌++◌, length, codes}
 use Rattle.std.specs.Str.{IsUtf8, chars}

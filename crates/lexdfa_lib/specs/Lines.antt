@@ -1,3 +1,4 @@
+-- cases: proofs/Cases/Lines.antt
 -- The lines of some bytes.
 use Rattle.std.specs.Prelude.{ℕ, List, [], ◌∷◌, ◌==◌, if◌then◌else◌}
 

@@ -1,3 +1,4 @@
+-- cases: proofs/Cases/Printed.antt
 -- The line that tells an outcome.
 use Rattle.std.specs.Prelude.{ℕ, List, ◌++◌, codes, decimal}
 use Rattle.lalrpop_lexer.specs.declared.lexer.nfa.NfaConstructionError.{NfaConstructionError}

@@ -1,3 +1,4 @@
+-- cases: proofs/Cases/Status.antt
 -- The exit statuses.
 use Rattle.std.specs.Prelude.{ℕ}
 use Rattle.lexdfa_lib.specs.declared.error.RunError.{RunError}

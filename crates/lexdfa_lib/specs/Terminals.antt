@@ -1,3 +1,4 @@
+-- cases: proofs/Cases/Terminals.antt
 -- What all lines say.
 use Rattle.std.specs.Prelude.{ℕ, zero, suc, List, [], ◌∷◌, map}
 use Rattle.lalrpop_hir.specs.Tree.{Tree}

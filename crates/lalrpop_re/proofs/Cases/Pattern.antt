@@ -102,7 +102,7 @@ repeated_twice = record {
 }
 
 -- an operator has to have something before it
-operator_alone : (t : Tree) → Pattern (codes "*a") t → ⊥
+pub operator_alone : (t : Tree) → Pattern (codes "*a") t → ⊥
 unfolding reading.read reading.inside reading.expression_with reading.branches reading.row reading.row_step reading.directive_at reading.piece reading.atom
 operator_alone = missing (codes "*a") refl
 

@@ -75,3 +75,11 @@ set_as_an_end_of_a_range r s d b =
 no_posix_class_of_this_name : Spells (codes "[[:foo:]]") (λ s. (s 58 ≡ true) × (s 102 ≡ true) × (s 111 ≡ true) × (s 97 ≡ false))
 unfolding reading.bracket reading.bracket_with reading.operands reading.lead reading.operand reading.item reading.item_or reading.posix reading.posix_named reading.simple_item reading.primary reading.operations reading.operator_of
 no_posix_class_of_this_name = (_, _, (bracket_sound no_flags 2 (codes "[[:foo:]]") _ refl).0, (refl, refl, refl, refl))
+
+-- `[[:digit:]]`
+posix_class_in_brackets : Spells (codes "[[:digit:]]") (λ s. (s 48 ≡ true) × (s 57 ≡ true) × (s 97 ≡ false) × (s 58 ≡ false))
+posix_class_in_brackets = (_, _, a_bracket_of refl (first (none refl refl) (item_then (a_posix (a_class (codes "digit") refl refl)) (no_item refl))), (refl, refl, refl, refl))
+
+-- `[^a]` has every other scalar value, and no surrogate
+negated_bracket : Spells (codes "[^a]") (λ s. (s 97 ≡ false) × (s 98 ≡ true) × (s 0xD800 ≡ false))
+negated_bracket = (_, _, a_negated_of (first (none refl refl) (item_then (alone_at refl refl refl) (no_item refl))), (refl, refl, refl))

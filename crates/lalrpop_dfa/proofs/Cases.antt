@@ -1,0 +1,10 @@
+-- Small cases of the definitions in specs/: Cases/X.antt has those of specs/X.antt.
+mod Winners
+mod Clash
+mod Longest
+mod Report
+mod Runs
+mod Dfa
+mod Items
+mod Kernels
+mod SameAutomata

@@ -1,0 +1,210 @@
+-- Cases of specs/Items.antt: the automaton of the literal `a`, and those of other lists of trees.
+use Rattle.std.proofs.Common.{◌≡◌, ℕ, zero, suc, ◌<◌, ◌⊎◌, inl, inr, List, [], ◌∷◌, length, Some, None, refl, sym, ap, subst, ◌∙◌, arith}
+use Rattle.std.specs.Prelude.{◌↔◌, map, slice_get}
+use Rattle.std.specs.List.{Contains}
+use Rattle.std.proofs.lemmas.Bool.{lt-leb}
+use Rattle.lalrpop_hir.specs.Word.{FirstDifferenceLess, Shortlex}
+use Rattle.lalrpop_hir.specs.Range.{Range, Covers}
+use Rattle.lalrpop_hir.specs.Tree.{Tree, literal, class, unicode, alternation, none, also}
+use Rattle.lalrpop_nfa.specs.Graph.{Graph}
+use Rattle.lalrpop_nfa.specs.Path.{here, skip, noop, test}
+use Rattle.lalrpop_nfa.specs.Compiled.{IsLabel}
+use Rattle.lalrpop_nfa.specs.declared.edge.StateKind.TheVariants.{Accept, Reject as RejectState, Neither as NeitherState}
+use Rattle.lalrpop_dfa.specs.Runs.{IsRuns}
+use Rattle.lalrpop_dfa.specs.Dfa.{Row, after, step}
+use Rattle.lalrpop_dfa.specs.Items.{Item, AreCompiled, IsReached, IsLeaving, HoldsItems, OthersReject, IsInWordOrder}
+use Rattle.lalrpop_dfa.specs.declared.Kind.TheVariants.{Accepts, Reject, Neither}
+use Rattle.lalrpop_dfa.proofs.Cases.Dfa.{between, automaton_of_a}
+
+-- the automaton of one tree, the literal `a`
+abbrev graph_of_a : Graph
+graph_of_a = record {
+  kinds = Accept ∷ RejectState ∷ NeitherState ∷ NeitherState ∷ [];
+  edges = record { noops = noop 2 3 ∷ []; tests = test 3 (between 97 97) 0 ∷ []; others = [] };
+}
+
+-- ---- items
+
+-- the empty word leads from START to the state before the letter
+before_the_letter_is_reached : IsReached (graph_of_a ∷ []) [] (0, 3)
+before_the_letter_is_reached = (graph_of_a, (refl, skip 2 3 [] (0, omega arith, refl) (here 3 refl)))
+
+-- and not to any of a second automaton, which isn't there
+state_of_no_automaton_is_not_reached : (w : List ℕ) (p : ℕ) → ¬ IsReached (graph_of_a ∷ []) w (1, p)
+state_of_no_automaton_is_not_reached w p (g, (e, path)) = absurd (cc)
+
+-- the label of `a` leaves the state before the letter, and no label leaves START
+label_leaves_the_state_before_it : IsLeaving (graph_of_a ∷ []) ((0, 3) ∷ []) (between 97 97)
+label_leaves_the_state_before_it = ((0, 3), graph_of_a, 0, ((0, omega arith, refl), refl, (0, omega arith, refl)))
+
+no_label_leaves_no_items : (r : Range) → ¬ IsLeaving (graph_of_a ∷ []) [] r
+no_label_leaves_no_items r h = omega (arith, h.3.0.1)
+
+-- ---- what the automata of lists hold
+
+-- a tree has to have its automaton
+missing_automaton_is_not_compiled : ¬ AreCompiled (literal (97 ∷ []) ∷ []) []
+missing_automaton_is_not_compiled c = omega (arith, c.same_length)
+
+no_trees_have_no_automata : AreCompiled [] []
+no_trees_have_no_automata = record { same_length = refl; each = λ i t g e f. absurd (cc) }
+
+-- one reject state, which holds nothing
+abbrev automaton_of_nothing : List Row
+automaton_of_nothing = record { kind = Reject; tests = []; other = 0; items = [] } ∷ []
+
+-- it is that of no trees
+automaton_of_nothing_holds_nothing : HoldsItems [] automaton_of_nothing
+automaton_of_nothing_holds_nothing = record {
+  reached = λ p l. ([], search (arith, is_first p l));
+  items = λ w r x e. ((λ h. absurd (holds_none w r x e h)), (λ h. absurd (reaches_none w x h)));
+  labels = labels;
+  distinct = distinct;
+  rejects = rejects;
+}
+  where
+    is_first : (p : ℕ) → p < 1 → 0 ≡ p
+    is_first p l = omega arith
+
+    items_of : (p : ℕ) (r : Row) → slice_get automaton_of_nothing p ≡ Some r → [] ≡ r.items
+    items_of zero r e = cc
+    items_of (suc p) r e = absurd (cc)
+
+    tests_of : (p : ℕ) (r : Row) → slice_get automaton_of_nothing p ≡ Some r → [] ≡ r.tests
+    tests_of zero r e = cc
+    tests_of (suc p) r e = absurd (cc)
+
+    in_none : (r : Row) (x : Item) → [] ≡ r.items → ¬ Contains r.items x
+    in_none r x e h = let g = subst (λ xs. Contains xs x) (sym e) h in omega (arith, g.1)
+
+    holds_none : (w : List ℕ) (r : Row) (x : Item) → slice_get automaton_of_nothing (after automaton_of_nothing w) ≡ Some r → ¬ Contains r.items x
+    holds_none w r x e = in_none r x (items_of (after automaton_of_nothing w) r e)
+
+    reaches_none : (w : List ℕ) (x : Item) → ¬ IsReached [] w x
+    reaches_none w x h = let e : None ≡ Some h.0 = h.1.0 in absurd (cc)
+
+    labels : (p : ℕ) (r : Row) → slice_get automaton_of_nothing p ≡ Some r → IsRuns (IsLeaving [] r.items) (map (λ t. t.0) r.tests)
+    labels p r e = subst (λ ts. IsRuns (IsLeaving [] r.items) (map (λ t. t.0) ts)) (tests_of p r e) (record {
+      ascending = tt;
+      are_runs = λ x h. absurd (omega (arith, h.1));
+      all_runs = λ x run. let held = run.block.covered x.start (omega arith, run.block.holds_one) in absurd (in_none r held.1.0.0 (items_of p r e) held.1.0.3.0);
+    })
+
+    distinct : (p q : ℕ) (r s : Row) → slice_get automaton_of_nothing p ≡ Some r → slice_get automaton_of_nothing q ≡ Some s → ((x : Item) → Contains r.items x ↔ Contains s.items x) → p ≡ q
+    distinct zero zero r s e f h = refl
+    distinct zero (suc q) r s e f h = absurd (cc)
+    distinct (suc p) q r s e f h = absurd (cc)
+
+    rejects : (p : ℕ) (r : Row) → slice_get automaton_of_nothing p ≡ Some r → (r.kind ≡ Reject) ↔ ((x : Item) → Contains r.items x → x.1 ≡ 1)
+    rejects zero r e = ((λ k x h. absurd (in_none r x (items_of zero r e) h)), (λ h. cc))
+    rejects (suc p) r e = absurd (cc)
+
+-- the class a-b, or the literal `c`
+abbrev ab_or_c : Tree
+ab_or_c = alternation (also (class (unicode (between 97 98 ∷ []))) (also (literal (99 ∷ [])) none))
+
+-- an automaton of it with the one range a-c at its first state
+abbrev with_joined_ranges : List Row
+with_joined_ranges =
+    record { kind = Neither; tests = (between 97 99, 1) ∷ []; other = 2; items = (0, 2) ∷ (0, 3) ∷ (0, 4) ∷ (0, 5) ∷ [] }
+    ∷ record { kind = Accepts 0; tests = []; other = 2; items = (0, 0) ∷ [] }
+    ∷ record { kind = Reject; tests = []; other = 2; items = (0, 1) ∷ [] }
+    ∷ []
+
+-- it doesn't hold its items: the ranges of a state are cut where its labels are
+joined_ranges_do_not_hold_items : (ns : List Graph) → AreCompiled (ab_or_c ∷ []) ns → ¬ HoldsItems ns with_joined_ranges
+joined_ranges_do_not_hold_items ns c h =
+    let block = ((h.labels 0 _ refl).are_runs (between 97 99) (0, omega arith, refl)).block in
+    let held = block.covered 97 (omega arith, omega arith) in
+    let leaving = held.1.0 in
+    let place = one_place ns leaving.0.0 leaving.1 c.same_length leaving.3.1 in
+    let here : slice_get ns 0 ≡ Some leaving.1 = subst (λ i. slice_get ns i ≡ Some leaving.1) place leaving.3.1 in
+    let compiled = c.each 0 ab_or_c leaving.1 refl here in
+    let label = (compiled.labels (test leaving.0.1 held.0 leaving.2) leaving.3.2).0 in
+    by_label held.0 held.1.1 ((block.constant 97 99 (omega arith, omega arith) (omega arith, omega arith) held.0 held.1.0).0 held.1.1) (label_is held.0 label)
+  where
+    label_is : (r : Range) → IsLabel ab_or_c r → (r ≡ between 97 98) ⊎ (r ≡ between 99 99)
+    label_is r (inl (zero, l, e)) = inl (sym e)
+    label_is r (inl (suc k, l, e)) = absurd (omega arith)
+    label_is r (inr (inl (c, ((zero, l, e), f)))) = inr (f ∙ ap (λ x. between x x) (sym e))
+    label_is r (inr (inl (c, ((suc k, l, e), f)))) = absurd (omega arith)
+    label_is r (inr (inr h)) = absurd h
+
+    one_place : (ns : List Graph) (i : ℕ) (g : Graph) → length ns ≡ 1 → slice_get ns i ≡ Some g → i ≡ 0
+    one_place [] i g l e = absurd (omega (arith, l))
+    one_place (n ∷ ns) zero g l e = refl
+    one_place (n ∷ []) (suc i) g l e = absurd (cc)
+    one_place (n ∷ m ∷ ns) (suc i) g l e = absurd (omega (arith, l))
+
+    by_label : (r : Range) → Covers r 97 → Covers r 99 → (r ≡ between 97 98) ⊎ (r ≡ between 99 99) → ⊥
+    by_label r k l (inl e) = let m = subst (λ s. Covers s 99) e l in omega (arith, m.1)
+    by_label r k l (inr e) = let m = subst (λ s. Covers s 97) e k in omega (arith, m.0)
+
+-- ---- other edges
+
+-- the other edges of the automaton of `a` lead to its reject state
+other_edges_lead_to_reject : OthersReject automaton_of_a
+other_edges_lead_to_reject p r s h g =
+    let there : slice_get automaton_of_a 2 ≡ Some s = subst (λ n. slice_get automaton_of_a n ≡ Some s) (lead p r h) g in
+    let e : Reject ≡ s.kind = cc in
+    sym e
+  where
+    lead : (p : ℕ) (r : Row) → slice_get automaton_of_a p ≡ Some r → r.other ≡ 2
+    lead zero r e = cc
+    lead (suc zero) r e = cc
+    lead (suc (suc zero)) r e = cc
+    lead (suc (suc (suc p))) r e = absurd (cc)
+
+-- a state that takes any value leads elsewhere
+other_edge_to_an_accepting_state : ¬ OthersReject (record { kind = Accepts 0; tests = []; other = 0; items = [] } ∷ [])
+other_edge_to_an_accepting_state o = let e : Accepts 0 ≡ Reject = o 0 _ _ refl refl in absurd (cc)
+
+-- ---- the order of states
+
+-- the first state is that of the empty word, the second that of `a`
+states_in_the_order_of_words : IsInWordOrder automaton_of_a
+states_in_the_order_of_words zero zero r s l h g k m = absurd (omega arith)
+states_in_the_order_of_words zero (suc zero) r s l h g k m = ([], search (arith, longer))
+  where
+    longer : (w : List ℕ) → after automaton_of_a w ≡ 1 → Shortlex [] w
+    longer [] e = absurd (omega (arith, e))
+    longer (c ∷ w) e = inl (omega arith)
+states_in_the_order_of_words zero (suc (suc zero)) r s l h g k m = let e : s.kind ≡ Reject = cc in absurd (m e)
+states_in_the_order_of_words zero (suc (suc (suc q))) r s l h g k m = absurd (cc)
+states_in_the_order_of_words (suc zero) zero r s l h g k m = absurd (omega arith)
+states_in_the_order_of_words (suc zero) (suc zero) r s l h g k m = absurd (omega arith)
+states_in_the_order_of_words (suc zero) (suc (suc zero)) r s l h g k m = let e : s.kind ≡ Reject = cc in absurd (m e)
+states_in_the_order_of_words (suc zero) (suc (suc (suc q))) r s l h g k m = absurd (cc)
+states_in_the_order_of_words (suc (suc zero)) q r s l h g k m = let e : r.kind ≡ Reject = cc in absurd (k e)
+states_in_the_order_of_words (suc (suc (suc p))) q r s l h g k m = absurd (cc)
+
+-- the automaton of `b` and `a`, whose states are numbered from the last range on
+abbrev numbered_backwards : List Row
+numbered_backwards =
+    record { kind = Neither; tests = (between 97 97, 2) ∷ (between 98 98, 1) ∷ []; other = 3; items = [] }
+    ∷ record { kind = Accepts 0; tests = []; other = 3; items = [] }
+    ∷ record { kind = Accepts 1; tests = []; other = 3; items = [] }
+    ∷ record { kind = Reject; tests = []; other = 3; items = [] }
+    ∷ []
+
+-- `b` leads to the state before that of `a`
+states_out_of_the_order_of_words : ¬ IsInWordOrder numbered_backwards
+states_out_of_the_order_of_words o =
+    let found = o 1 2 _ _ (omega arith) refl refl (λ e. cc) (λ e. cc) in
+    let leads : after numbered_backwards found.0 ≡ 1 = assumption found.1 in
+    let least : (w : List ℕ) → after numbered_backwards w ≡ 2 → Shortlex found.0 w = assumption found.1 in
+    too_late found.0 leads (least (97 ∷ []) refl)
+  where
+    low_step : (c : ℕ) → c < 97 → step numbered_backwards 0 c ≡ 3
+    low_step c h = rw (lt-leb 97 c h, lt-leb 98 c (omega (arith, h))) refl
+
+    too_late : (v : List ℕ) → after numbered_backwards v ≡ 1 → Shortlex v (97 ∷ []) → ⊥
+    too_late [] e s = omega (arith, e)
+    too_late (c ∷ d ∷ v) e (inl h) = omega arith
+    too_late (c ∷ d ∷ v) e (inr h) = omega (arith, h.0)
+    too_late (c ∷ []) e (inl h) = omega arith
+    too_late (c ∷ []) e (inr h) = by_place h.1
+      where
+        by_place : FirstDifferenceLess (c ∷ []) (97 ∷ []) → ⊥
+        by_place (inl l) = let f : 3 ≡ 1 = sym (low_step c l) ∙ e in omega (arith, f)
+        by_place (inr g) = g.1

@@ -1,0 +1,71 @@
+-- Cases of specs/Tree.antt.
+use Rattle.std.proofs.Common.{◌≡◌, [], ◌∷◌, true, Some, None, refl}
+use Rattle.std.specs.Str.{chars}
+use Rattle.lalrpop_hir.specs.Tree.{Tree, empty, literal, class, unicode, look, repetition, capture, concat, alternation, none, also, trees, of_text, repeated_size, size, depth}
+use Rattle.lalrpop_hir.specs.declared.hir.Look.TheVariants.{Start}
+
+abbrev a : Tree
+a = literal (97 ∷ [])
+
+abbrev b : Tree
+b = literal (98 ∷ [])
+
+-- a list of trees keeps their order
+list_keeps_the_order : trees (a ∷ b ∷ []) ≡ also a (also b none)
+list_keeps_the_order = refl
+
+-- the empty text is the empty tree, and no literal
+empty_text_is_the_empty_tree : of_text [] ≡ empty
+empty_text_is_the_empty_tree = refl
+
+-- the two bytes of `é` are one character
+literal_holds_characters : of_text (0xC3 ∷ 0xA9 ∷ []) ≡ literal (0xE9 ∷ [])
+unfolding chars
+literal_holds_characters = refl
+
+-- ---- sizes: how many states the automata need, but for three
+
+-- one for each character
+size_of_a_literal : size (literal (97 ∷ 98 ∷ 99 ∷ [])) ≡ 3
+size_of_a_literal = refl
+
+-- a class one, however many ranges it has
+size_of_a_class : size (class (unicode (record { start = 97; end = 99 } ∷ record { start = 120; end = 122 } ∷ []))) ≡ 1
+size_of_a_class = refl
+
+-- `a|b`: one more than its branches
+size_of_an_alternation : size (alternation (also a (also b none))) ≡ 3
+size_of_an_alternation = refl
+
+-- `ab`, of two parts
+size_of_a_concatenation : size (concat (also a (also b none))) ≡ 2
+size_of_a_concatenation = refl
+
+-- `b{2,4}`: four copies, two of which can be left out
+size_of_two_to_four : size (repetition 2 (Some 4) true b) ≡ 6
+size_of_two_to_four = refl
+
+-- `b{3,}`: four copies, the last of them in a loop
+size_of_three_or_more : size (repetition 3 None true b) ≡ 5
+size_of_three_or_more = refl
+
+-- `b*` and `b+`: one copy
+size_of_any_number : repeated_size 0 None 1 ≡ 2
+size_of_any_number = refl
+
+size_of_one_or_more : repeated_size 1 None 1 ≡ 2
+size_of_one_or_more = refl
+
+-- `b{0}`
+size_of_no_turns : size (repetition 0 (Some 0) true b) ≡ 0
+size_of_no_turns = refl
+
+-- ---- depths
+
+-- a tree without parts has none, whatever it is
+depth_of_a_leaf : (depth (look Start) ≡ 0) × (depth a ≡ 0)
+depth_of_a_leaf = (refl, refl)
+
+-- `(a*|b)`: the deepest branch counts, two for each tree on the way
+depth_of_a_group : depth (capture None (alternation (also (repetition 0 None true a) (also b none)))) ≡ 6
+depth_of_a_group = refl

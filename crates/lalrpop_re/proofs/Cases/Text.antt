@@ -1,0 +1,18 @@
+-- Cases of specs/Text.antt.
+use Rattle.std.proofs.Common.{◌≡◌, [], true, false, codes, refl}
+use Rattle.lalrpop_re.specs.Text.{◌▸◌, is_one_of, begins}
+
+-- a word, and the text behind it
+word_stands_before_a_text : codes "ab" ▸ codes "c" ≡ codes "abc"
+word_stands_before_a_text = refl
+
+-- a character is one of some, or isn't
+character_is_one_of_some : (is_one_of "ab" 98 ≡ true) × (is_one_of "ab" 99 ≡ false) × (is_one_of "" 97 ≡ false)
+character_is_one_of_some = (refl, refl, refl)
+
+-- a text begins with a word where all of the word stands there
+text_begins_with_a_word : (begins "ab" (codes "abc") ≡ true) × (begins "" [] ≡ true)
+text_begins_with_a_word = (refl, refl)
+
+text_does_not_begin_with_a_longer_word : (begins "ab" (codes "a") ≡ false) × (begins "b" (codes "ab") ≡ false)
+text_does_not_begin_with_a_longer_word = (refl, refl)

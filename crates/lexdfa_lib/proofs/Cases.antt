@@ -1,0 +1,9 @@
+-- Small cases of the definitions in specs/: Cases/X.antt has those of specs/X.antt.
+mod Watch
+mod Status
+mod Ending
+mod Printed
+mod Lines
+mod Line
+mod Terminals
+mod Answer

@@ -1,0 +1,136 @@
+-- Cases of specs/Answer.antt: the input `0 l a` with a line feed and the text `a`, and the input `x`.
+use Rattle.std.proofs.Common.{◌≡◌, ℕ, zero, suc, ◌≤◌, List, [], ◌∷◌, ◌++◌, length, Some, None, refl, sym, ap, subst, ◌∙◌, codes, length-append, arith}
+use Rattle.std.specs.Prelude.{slice_index}
+use Rattle.std.specs.Fmt.{digits}
+use Rattle.std.specs.Str.{chars}
+use Rattle.lalrpop_hir.specs.Tree.{Tree, literal, of_text}
+use Rattle.lalrpop_hir.specs.Language.{Matches}
+use Rattle.lalrpop_lexer.specs.Fault.{fault}
+use Rattle.lalrpop_lexer.specs.Report.{NoFault}
+use Rattle.lalrpop_lexer.specs.Winners.{Who}
+use Rattle.lalrpop_lexer.specs.Clash.{NoClash}
+use Rattle.lalrpop_lexer.specs.Longest.{IsLongest, IsMatch}
+use Rattle.lexdfa_lib.specs.Answer.{Finds, IsOutcome, IsAnswer, ReadsOutcome, WritesBeginning}
+use Rattle.lexdfa_lib.specs.Printed.{line_of}
+use Rattle.lexdfa_lib.specs.declared.outcome.Outcome.{Outcome}
+use Rattle.lexdfa_lib.specs.declared.outcome.Outcome.TheVariants.{Match, NoMatch, Syntax, Line}
+use Rattle.lexdfa_lib.proofs.Unique.{outcome-unique}
+use Rattle.lexdfa_lib.proofs.Cases.Line.{line_of_a_literal_is_not_bad, x_is_bad}
+use Rattle.lexdfa_lib.proofs.Cases.Terminals.{lines_are_terminals}
+
+abbrev a : Tree
+a = literal (codes "a")
+
+chars_a : chars (codes "a") ≡ codes "a"
+unfolding chars
+chars_a = refl
+
+tree_of_the_text : a ≡ of_text (codes "a")
+unfolding chars
+tree_of_the_text = refl
+
+who_matches : (w : List ℕ) (i : ℕ) → Who (a ∷ []) w i → (w ≡ codes "a") × (i ≡ 0)
+who_matches w zero h = (same a h.0 h.1.0 h.1.1, refl)
+  where
+    same : (s r : Tree) → Some s ≡ Some r → Matches r w → Matches s w
+    same s r e m = let f : r ≡ s = cc in subst (λ x. Matches x w) f m
+who_matches w (suc n) h = let e : None ≡ Some h.0 = h.1.0 in absurd (cc)
+
+no_fault : NoFault (a ∷ [])
+no_fault zero t e = let f : a ≡ t = cc in subst (λ u. fault u ≡ None) f refl
+no_fault (suc i) t e = absurd (cc)
+
+no_clash : NoClash (a ∷ []) (0 ∷ [])
+no_clash w (i, j, h) = omega (arith, h.0, (who_matches w i h.1.0).1)
+
+longest : IsLongest (a ∷ []) (0 ∷ []) (codes "a") (Some (0, codes "a"))
+unfolding lib.Utf8.encode
+longest = (
+  (([], (refl, (codes "a", (refl, refl)))), (λ e. cc), (0, (a, (refl, chars_a)))),
+  (λ p m. one p m),
+  (((a, (refl, chars_a)), λ j h. omega (arith, zeros j)), λ j t. omega (arith, (who_matches (chars (codes "a")) j t.0).1)),
+)
+  where
+    zeros : (j : ℕ) → slice_index (0 ∷ []) j ≡ 0
+    zeros zero = refl
+    zeros (suc j) = refl
+
+    one : (p : List ℕ) → IsMatch (a ∷ []) (codes "a") p → length p ≤ 1
+    one p m = let whole : 1 ≡ length (p ++ m.0.0) = ap length m.0.1.0 in omega (arith, whole, length-append p m.0.0)
+
+-- the literal `a` finds itself
+literal_finds_itself : Finds (a ∷ []) (0 ∷ []) (codes "a") (Match 0 1)
+literal_finds_itself = (no_fault, no_clash, (codes "a", (longest, refl)))
+
+-- trees report no wrong lines
+trees_find_no_wrong_line : (i : ℕ) → (¬ Finds (a ∷ []) (0 ∷ []) (codes "a") (Line i)) × (¬ Finds (a ∷ []) (0 ∷ []) (codes "a") (Syntax i))
+trees_find_no_wrong_line i = ((λ h. h), (λ h. h))
+
+-- the input `0 l a` and the text `a`: terminal 0, and one byte
+match_is_the_outcome : IsOutcome (codes "0 l a\n") (codes "a") (Match 0 1)
+match_is_the_outcome = (of_text (codes "a") ∷ [], (0 ∷ [], (lines_are_terminals, subst (λ t. Finds (t ∷ []) (0 ∷ []) (codes "a") (Match 0 1)) tree_of_the_text literal_finds_itself)))
+
+abbrev terminal_of : Outcome → ℕ
+terminal_of (Match i n) = i
+terminal_of o = 0
+
+abbrev bytes_of : Outcome → ℕ
+bytes_of (Match i n) = n
+bytes_of o = 0
+
+-- neither none, nor another terminal, nor another length, nor a bad line
+none_is_not_the_outcome : ¬ IsOutcome (codes "0 l a\n") (codes "a") NoMatch
+none_is_not_the_outcome h = let e : Match 0 1 ≡ NoMatch = outcome-unique (codes "0 l a\n") (codes "a") _ _ match_is_the_outcome h in absurd (cc)
+
+other_terminal_is_not_the_outcome : ¬ IsOutcome (codes "0 l a\n") (codes "a") (Match 1 1)
+other_terminal_is_not_the_outcome h = let e : Match 0 1 ≡ Match 1 1 = outcome-unique (codes "0 l a\n") (codes "a") _ _ match_is_the_outcome h in let n : 0 ≡ 1 = ap terminal_of e in omega (arith, n)
+
+other_length_is_not_the_outcome : ¬ IsOutcome (codes "0 l a\n") (codes "a") (Match 0 0)
+other_length_is_not_the_outcome h = let e : Match 0 1 ≡ Match 0 0 = outcome-unique (codes "0 l a\n") (codes "a") _ _ match_is_the_outcome h in let n : 1 ≡ 0 = ap bytes_of e in omega (arith, n)
+
+bad_line_is_not_the_outcome : ¬ IsOutcome (codes "0 l a\n") (codes "a") (Line 0)
+bad_line_is_not_the_outcome h = line_of_a_literal_is_not_bad h
+
+-- the input `x`: line 0 is bad, and nothing else is said
+bad_line_is_the_outcome : IsOutcome (codes "x\n") (codes "a") (Line 0)
+bad_line_is_the_outcome = x_is_bad
+
+none_is_not_the_outcome_of_a_bad_line : ¬ IsOutcome (codes "x\n") (codes "a") NoMatch
+none_is_not_the_outcome_of_a_bad_line h = let e : Line 0 ≡ NoMatch = outcome-unique (codes "x\n") (codes "a") _ _ bad_line_is_the_outcome h in absurd (cc)
+
+-- no input: none
+none_is_the_outcome_of_no_lines : IsOutcome (codes "") (codes "a") NoMatch
+none_is_the_outcome_of_no_lines =
+    ([], ([], (tt, ((λ i t e. absurd (cc)), (λ w m. let e : None ≡ Some m.2.1.0.0 = m.2.1.0.1.0 in absurd (cc)), (λ p m. let e : None ≡ Some m.2.1.0 = m.2.1.1.0 in absurd (cc))))))
+
+-- ---- lines
+
+line_is_the_answer : IsAnswer (codes "x\n") (codes "a") (codes "line 0\n")
+unfolding digits
+line_is_the_answer = (Line 0, (bad_line_is_the_outcome, refl))
+
+-- not without its line feed
+line_without_its_end_is_not_the_answer : ¬ IsAnswer (codes "x\n") (codes "a") (codes "line 0")
+unfolding digits
+line_without_its_end_is_not_the_answer h =
+    let e : Line 0 ≡ h.0 = outcome-unique (codes "x\n") (codes "a") _ _ bad_line_is_the_outcome h.1.0 in
+    let n : 6 ≡ 7 = ap length (h.1.1 ∙ ap line_of (sym e)) in
+    omega (arith, n)
+
+-- ---- readers and writers
+
+-- the reader had `x` and is at its end
+reader_at_its_end_gives_the_outcome : ReadsOutcome (Some (codes "x\n")) (Some []) (codes "a") (Line 0)
+reader_at_its_end_gives_the_outcome = (codes "x\n", ((refl, refl), bad_line_is_the_outcome))
+
+-- not before that
+reader_with_bytes_left_gives_no_outcome : (o : Outcome) → ¬ ReadsOutcome (Some (codes "x\n")) (Some (codes "\n")) (codes "a") o
+reader_with_bytes_left_gives_no_outcome o h = let n : 1 ≡ 0 = ap length h.1.0.1 in omega (arith, n)
+
+-- the writer took `li` of the line
+writer_takes_a_beginning : WritesBeginning (Some (codes "x\n")) (Some []) (codes "a") (Some []) (Some (codes "li"))
+writer_takes_a_beginning = (codes "x\n", ((refl, refl), (codes "line 0\n", (line_is_the_answer, (2, omega arith, refl)))))
+
+-- it doesn't lose what it held
+writer_loses_nothing : ¬ WritesBeginning (Some (codes "x\n")) (Some []) (codes "a") (Some (codes "a")) (Some [])
+writer_loses_nothing h = absurd (cc)
