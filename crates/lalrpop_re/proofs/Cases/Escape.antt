@@ -2,7 +2,7 @@
 use Rattle.std.proofs.Common.{◌≡◌, ℕ, [], ◌∷◌, true, false, Some, None, codes, refl, sym, subst, ◌∙◌, lit<}
 use Rattle.lalrpop_hir.specs.declared.hir.Look.TheVariants.{WordStartUnicode, WordUnicode}
 use Rattle.lalrpop_re.specs.Text.{Text}
-use Rattle.lalrpop_re.specs.CharacterSet.{is_scalar}
+use Rattle.lalrpop_sets.specs.CharacterSet.{is_scalar}
 use Rattle.lalrpop_re.specs.Escape.{Escaped, character, assertion, this, code, unknown, is_mark, sign, begins_edge, is_set_name_char, hex_value, IsHex, at_once, digits_alone, digits_braced, edge_alone, edge_start, Escape, escape_of}
 use Rattle.lalrpop_re.specs.Internal.Reading as reading
 use Rattle.lalrpop_re.proofs.Escapes.{Escape-complete}

@@ -1,14 +1,10 @@
 -- Cases of specs/Text.antt.
 use Rattle.std.proofs.Common.{◌≡◌, [], true, false, codes, refl}
-use Rattle.lalrpop_re.specs.Text.{◌▸◌, is_one_of, begins}
+use Rattle.lalrpop_re.specs.Text.{◌▸◌, begins}
 
 -- a word, and the text behind it
 word_stands_before_a_text : codes "ab" ▸ codes "c" ≡ codes "abc"
 word_stands_before_a_text = refl
-
--- a character is one of some, or isn't
-character_is_one_of_some : (is_one_of "ab" 98 ≡ true) × (is_one_of "ab" 99 ≡ false) × (is_one_of "" 97 ≡ false)
-character_is_one_of_some = (refl, refl, refl)
 
 -- a text begins with a word where all of the word stands there
 text_begins_with_a_word : (begins "ab" (codes "abc") ≡ true) × (begins "" [] ≡ true)

@@ -5,9 +5,9 @@ use Rattle.std.proofs.lemmas.Bool.Decides.{nat_tests}
 use Rattle.unicode.specs.CaseFolding.{simple_fold}
 use Rattle.ucd_case.proofs.CaseFoldingLemmas.{simple_fold-ascii}
 use Rattle.lalrpop_hir.specs.Range.{Range, Covered}
-use Rattle.lalrpop_re.specs.CharacterSet.{is_scalar, nothing, just, range, union, union_all, complement, some_below, fold, with_least, runs_below, canon}
-use Rattle.lalrpop_re.proofs.CanonLaws.{HasRuns-canon}
-use Rattle.lalrpop_re.proofs.FoldLaws.{fold-is}
+use Rattle.lalrpop_sets.specs.CharacterSet.{is_scalar, nothing, just, is_one_of, range, union, union_all, complement, some_below, fold, with_least, runs_below, canon}
+use Rattle.lalrpop_sets.proofs.CanonLaws.{HasRuns-canon}
+use Rattle.lalrpop_sets.proofs.FoldLaws.{fold-is}
 
 -- the range from the first value to the second
 abbrev between : ℕ → ℕ → Range
@@ -21,6 +21,10 @@ scalar_values = (refl, refl, refl, refl, refl, refl)
 -- one character
 set_of_one_character : (just 97 97 ≡ true) × (just 97 98 ≡ false) × (nothing 97 ≡ false)
 set_of_one_character = (refl, refl, refl)
+
+-- some characters
+set_of_some_characters : (is_one_of "ab" 98 ≡ true) × (is_one_of "ab" 99 ≡ false) × (is_one_of "" 97 ≡ false)
+set_of_some_characters = (refl, refl, refl)
 
 -- a range has both its ends, and no surrogate
 set_of_a_range : (range 97 99 97 ≡ true) × (range 97 99 99 ≡ true) × (range 97 99 100 ≡ false) × (range 0 0x10FFFF 0xD800 ≡ false)
