@@ -1,5 +1,5 @@
 -- The walk along a text that keeps the last accepting place: what holds after each character.
-use Rattle.std.proofs.Common.{◌≡◌, ℕ, ◌+◌, ◌<◌, ◌≤◌, ⊎_elim, List, [], ◌∷◌, ◌++◌, length, take, refl, sym, ap, subst, ◌∙◌, arith, length-append}
+use Rattle.std.proofs.Common.{◌≡◌, ◌≢◌, ℕ, ◌+◌, ◌<◌, ◌≤◌, ⊎_elim, List, [], ◌∷◌, ◌++◌, length, take, refl, sym, ap, subst, ◌∙◌, arith, length-append}
 use Rattle.std.specs.Prelude.{slice_get, Option, Some, None, IsSomeAnd}
 use Rattle.std.specs.Char.{encode_utf8}
 use Rattle.std.specs.Str.{chars}
@@ -7,6 +7,7 @@ use Rattle.std.proofs.lemmas.Bool.{cases_lt}
 use Rattle.std.proofs.lemmas.List.{nil_from_length}
 use Rattle.std.proofs.lemmas.Str.{chars-nil, chars-append}
 use Rattle.lalrpop_hir.specs.Tree.{Tree}
+use Rattle.lalrpop_nfa.specs.Beginning.{IsBeginning}
 use Rattle.lalrpop_nfa.proofs.Cuts.{IsCut, cut_within, word_after, goes_on, ends_there}
 use Rattle.lalrpop_dfa.specs.Dfa.{Row, step, run, after, Stands, Says, IsReject}
 use Rattle.lalrpop_dfa.specs.Longest.{IsMatch, IsLongest}
@@ -121,3 +122,11 @@ longest_stop d ts ps text rest at state best stands h a r up =
     (λ (below : length p ≤ at). below)
     (cases_lt at (length p)))
     up
+
+-- ---- what is accepted is a nonempty beginning of the text
+
+pub part_accept : (text rest : List ℕ) (at : ℕ) (m : List ℕ) → IsCut text at rest → 0 < at → m ≡ take at text → IsBeginning m text × (m ≢ [])
+part_accept text rest at m h above is = (
+  subst (λ (p : List ℕ). IsBeginning p text) (sym is) (rest, (h.split, h.seen_utf8)),
+  λ none. let zero : length m ≡ 0 = ap length none in let size : length m ≡ at = ap length is ∙ h.place in omega arith,
+)

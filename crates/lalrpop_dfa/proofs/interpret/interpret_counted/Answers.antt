@@ -6,7 +6,7 @@ use Rattle.std.proofs.lemmas.Str.{chars-nil, len_utf8_bounds, length-encode, IsC
 use Rattle.lalrpop_dfa.specs.Dfa.{step}
 use Rattle.lalrpop_dfa.proofs.LeadsLemmas.{row_at}
 use Rattle.lalrpop_dfa.specs.declared.Kind.TheVariants.{Accepts, Reject, Neither}
-use Rattle.lalrpop_dfa.proofs.LongestLemmas.{after_start, after_more, says_of, reject_at, longest_start, longest_accept, longest_pass, longest_end, longest_stop}
+use Rattle.lalrpop_dfa.proofs.LongestLemmas.{after_start, after_more, says_of, reject_at, longest_start, longest_accept, part_accept, longest_pass, longest_end, longest_stop}
 use Rattle.lalrpop_nfa.proofs.Cuts.{cut_start, cut_within, cut_more, count_more, count_within}
 use Rattle.lalrpop_dfa.proofs.interpret.interpret_counted.Goals as goal
 
@@ -19,6 +19,7 @@ loop-offset-init c =
       cut = cut_start c.args.input.now c.utf8.input;
       after = after_start c.args.dfa.now c.args.input.now c.states-states.ensures.table.some;
       best = λ ts ps h. longest_start ts ps c.args.input.now;
+      part = tt;
       cost = let none : length (chars []) ≡ 0 = ap length chars-nil in omega arith;
     }
 
@@ -51,6 +52,7 @@ loop-offset-preserved-in-Accepts c =
       best = λ ts ps h.
           longest_accept ts ps text rest2 at2 c.in-Accepts.index c.range.result.now cut some is
           (says_of c.args.dfa.now ts ps (chars (take at2 text)) c.step-state.result c.index-states-index.result c.kind.result.now (Accepts c.in-Accepts.index) h after.reached row c.kind.ensures c.in-Accepts.is);
+      part = part_accept text rest2 at2 c.range.result.now cut some is;
       cost = let more = count_more text rest rest2 at at2 c.in-Some.c c.loop-offset.invariant.cut s.1 s.2 in omega arith;
     }
 
@@ -73,6 +75,7 @@ loop-offset-preserved c =
           longest_pass ts ps text rest rest2 at at2 c.in-Some.c (option_map (λ m. (m.0, m.1.now)) c.loop-offset.longest) c.loop-offset.invariant.cut s.1 s.2
           (says_of c.args.dfa.now ts ps (chars (take at2 text)) c.step-state.result c.index-states-index.result c.kind.result.now Neither h after.reached row c.kind.ensures c.in-Neither.is)
           (c.loop-offset.invariant.best ts ps h);
+      part = c.loop-offset.invariant.part;
       cost = let more = count_more text rest rest2 at at2 c.in-Some.c c.loop-offset.invariant.cut s.1 s.2 in omega arith;
     }
 
