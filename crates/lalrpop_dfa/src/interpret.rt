@@ -30,6 +30,7 @@ pub fn interpret_counted<'text>(
     ensures answer { (ts : List Tree) (ps : List ℕ) → Stands dfa.now ts ps
         → IsLongest ts ps input.now (option_map (λ m. (m.0, m.1.now)) result) }
     ensures part { IfSome result (λ m. IsBeginning m.1.now input.now × (m.1.now ≢ [])) }
+    ensures never_falls { steps.old ≤ steps.new }
     ensures cost { steps.new ≤ steps.old + length (chars input.now) }
 {
     let states = dfa.states();
