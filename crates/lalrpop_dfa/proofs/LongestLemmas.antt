@@ -14,6 +14,7 @@ use Rattle.lalrpop_dfa.specs.Longest.{IsMatch, IsLongest}
 use Rattle.lalrpop_dfa.specs.Winners.{Matched, OnlyTop, GreatestTop}
 use Rattle.lalrpop_dfa.specs.declared.Kind.{Kind}
 use Rattle.lalrpop_dfa.specs.declared.Kind.TheVariants.{Reject}
+use Rattle.lalrpop_dfa.proofs.AfterLaws.{run_append, after_push}
 
 -- the state is the one after what was read
 pub record IsAfter (d : List Row) (text : List ℕ) (at : ℕ) (state : ℕ) : Type 0 where
@@ -28,10 +29,6 @@ IsLongestUpTo ts ps text n (Some m) =
 
 -- ---- states
 
-pub run_append : (d : List Row) (p : ℕ) (v w : List ℕ) → run d p (v ++ w) ≡ run d (run d p v) w
-run_append d p [] w = refl
-run_append d p (c ∷ v) w = run_append d (step d p c) v w
-
 pub after_start : (d : List Row) (text : List ℕ) → 0 < length d → IsAfter d text 0 0
 after_start d text l = record { reached = ap (λ w. after d w) (sym chars-nil); within = l }
 
@@ -39,7 +36,7 @@ pub after_more : (d : List Row) (text rest rest2 : List ℕ) (at at2 c state sta
     → at2 ≡ at + length (encode_utf8 c) → IsAfter d text at state → state2 ≡ step d state c → state2 < length d → IsAfter d text at2 state2
 after_more d text rest rest2 at at2 c state state2 h e l a s w = record {
   reached = s ∙ ap (λ p. step d p c) a.reached
-      ∙ sym (ap (after d) (word_after text rest rest2 at at2 c h e l) ∙ run_append d 0 (chars (take at text)) (c ∷ []));
+      ∙ sym (ap (after d) (word_after text rest rest2 at at2 c h e l) ∙ after_push d (chars (take at text)) c);
   within = w;
 }
 
