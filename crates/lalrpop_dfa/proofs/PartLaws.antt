@@ -26,9 +26,9 @@ module _ (R : Ranges) (xs : List Range) (h : IsRuns R xs) where
   -- each range of the set contains all values of a part, or none
   pub part_in_or_out : (x r : Range) → Contains xs x → R r → ((c : ℕ) → Covers x c → Covers r c) ⊎ ((c : ℕ) → Covers x c → ¬ Covers r c)
   part_in_or_out x r a m = elim (covers_or_not r x.start) [
-      | inl inside ↦ inl (λ c k. (block.constant x.start c first k r m).0 inside)
-      | inr outside ↦ inr (λ c k l. outside ((block.constant x.start c first k r m).1 l))
-    ]
+    | inl inside ↦ inl (λ c k. (block.constant x.start c first k r m).0 inside)
+    | inr outside ↦ inr (λ c k l. outside ((block.constant x.start c first k r m).1 l))
+  ]
     where
       block : IsBlock R x
       block = (h.are_runs x a).block

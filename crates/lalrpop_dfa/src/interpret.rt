@@ -33,13 +33,14 @@ pub fn interpret_counted<'text>(
     ensures never_falls { steps.old ≤ steps.new }
     ensures cost { steps.new ≤ steps.old + length (chars input.now) }
 {
-    let states = dfa.states();
+    // There is a state, so START is one.
+    let _states = dfa.states();
     let mut state = START;
     let mut longest = None;
     for (offset, c) in input.char_indices() {
         steps.tick();
         state = step(dfa, state, u32::from(c));
-        match states[state.index()].kind() {
+        match dfa.state(state).kind() {
             Kind::Accepts(index) => longest = Some((*index, &input[..offset + c.len_utf8()])),
             Kind::Reject => break,
             Kind::Neither => {}
@@ -54,11 +55,10 @@ fn step(dfa: &Dfa, state: DfaStateIndex, value: u32) -> DfaStateIndex
     ensures leads { result ≡ step dfa.now state value }
     ensures within { result < length dfa.now }
 {
-    let row = &dfa.states()[state.index()];
     for (test, target) in dfa.test_edges(state) {
         if test.contains_u32(value) {
             return *target;
         }
     }
-    row.other_edge()
+    dfa.state(state).other_edge()
 }
