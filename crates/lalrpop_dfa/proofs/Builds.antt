@@ -182,7 +182,7 @@ built_all ns ps sets origins rows place h same none ts k =
       | inl more ↦ (let clash : None ≡ Some more.0 = sym (rw same at none) ∙ more.2 in cc)
       | inr past ↦ omega (arith, past.0, h.within)
     ] in
-    built_stands ts ps ns sets origins rows k (rw end at h.numbering) end h.rows_are
+    built_stands ts ps ns sets origins rows k (rw end at h.numbering) end h.rows_are h.small
 
 -- the sets are few
 pub built_few : (ns : List Graph) (ps : List ℕ) (sets : List (List Item)) (origins : List (ℕ × ℕ)) (rows : List Row) (s : List Item) → IsBuiltTo ns ps sets origins rows (length rows) → slice_get sets (length rows) ≡ Some s → length rows < 2 ^ length (all_items ns)

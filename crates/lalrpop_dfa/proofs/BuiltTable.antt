@@ -12,10 +12,11 @@ use Rattle.lalrpop_dfa.specs.Dfa.{Row, leads, step, run, after as state_after, S
 use Rattle.lalrpop_dfa.specs.Items.{Item, AreCompiled, IsReached, IsLeaving, HoldsItems, OthersReject, IsInWordOrder}
 use Rattle.lalrpop_dfa.specs.Internal.Ascending.{AreAscendingItems}
 use Rattle.lalrpop_dfa.specs.Internal.Machine.{first_set_of, move, is_dead}
-use Rattle.lalrpop_dfa.specs.Internal.Numbering.{Numbering, nth, after, word}
+use Rattle.lalrpop_dfa.specs.Internal.Numbering.{Numbering, nth, value_of, after, word}
 use Rattle.lalrpop_dfa.specs.Internal.Built.{machine_of, IsKindOf, IsRowOf}
 use Rattle.lalrpop_dfa.specs.declared.Kind.TheVariants.{Reject}
 use Rattle.lalrpop_dfa.proofs.Members.{Has, has_from, contains_from, has_map, map_has}
+use Rattle.lalrpop_dfa.proofs.Origins.{word_is_word}
 use Rattle.lalrpop_dfa.proofs.Numbering.{word_reaches, in_order}
 use Rattle.lalrpop_dfa.proofs.Sets.{same_items}
 use Rattle.lalrpop_dfa.proofs.ReachedItems.{after_ascends, reached_items}
@@ -57,7 +58,7 @@ tests_ascend (t ∷ u ∷ ts) a f = (f t (inl refl), a.0, tests_ascend (u ∷ ts
 
 module _ (ts : List Tree) (ps : List ℕ) (ns : List Graph) (h : AreCompiled ts ns) (sets : List (List Item)) (origins : List (ℕ × ℕ))
     (num : Numbering (machine_of ns) sets origins (length sets) 0) (d : List Row) (long : length d ≡ length sets)
-    (rows : (k : ℕ) (r : Row) → slice_get d k ≡ Some r → IsRowOf ns ps sets k r) where
+    (rows : (k : ℕ) (r : Row) → slice_get d k ≡ Some r → IsRowOf ns ps sets k r) (small : (k : ℕ) → value_of origins k ≤ 4294967295) where
   abbrev set_of : ℕ → List Item
   set_of k = nth (machine_of ns) sets k
 
@@ -161,7 +162,7 @@ module _ (ts : List Tree) (ps : List ℕ) (ns : List Graph) (h : AreCompiled ts 
 
   pub built_items : HoldsItems ns d
   built_items = record {
-    reached = λ p l. (word origins p, word_arrives p (omega (arith, long)));
+    reached = λ p l. (word origins p, (word_is_word origins small p, word_arrives p (omega (arith, long))));
     items = λ w r x e.
         let n = number_of w in
         let same : r.items ≡ set_after w = (rows (state_after d w) r e).items ∙ n.1 in
@@ -190,6 +191,7 @@ module _ (ts : List Tree) (ps : List ℕ) (ns : List Graph) (h : AreCompiled ts 
   built_order p q r s l e f a b = (
     word origins p,
     (
+      word_is_word origins small p,
       word_arrives p (within p r e),
       λ w arrives.
           let n = number_of w in
@@ -201,13 +203,13 @@ module _ (ts : List Tree) (ps : List ℕ) (ns : List Graph) (h : AreCompiled ts 
 -- the table of a finished numbering
 pub built_stands : (ts : List Tree) (ps : List ℕ) (ns : List Graph) (sets : List (List Item)) (origins : List (ℕ × ℕ)) (d : List Row) → AreCompiled ts ns
     → Numbering (machine_of ns) sets origins (length sets) 0 → length d ≡ length sets
-    → ((k : ℕ) (r : Row) → slice_get d k ≡ Some r → IsRowOf ns ps sets k r)
+    → ((k : ℕ) (r : Row) → slice_get d k ≡ Some r → IsRowOf ns ps sets k r) → ((k : ℕ) → value_of origins k ≤ 4294967295)
     → NoClash ts ps × Stands d ts ps × IsTable d × HoldsItems ns d × OthersReject d × IsInWordOrder d
-built_stands ts ps ns sets origins d h num long rows = (
-  built_no_clash ts ps ns h sets origins num d long rows,
-  built_stands_alone ts ps ns h sets origins num d long rows,
-  built_table ts ps ns h sets origins num d long rows,
-  built_items ts ps ns h sets origins num d long rows,
-  built_others ts ps ns h sets origins num d long rows,
-  built_order ts ps ns h sets origins num d long rows,
+built_stands ts ps ns sets origins d h num long rows small = (
+  built_no_clash ts ps ns h sets origins num d long rows small,
+  built_stands_alone ts ps ns h sets origins num d long rows small,
+  built_table ts ps ns h sets origins num d long rows small,
+  built_items ts ps ns h sets origins num d long rows small,
+  built_others ts ps ns h sets origins num d long rows small,
+  built_order ts ps ns h sets origins num d long rows small,
 )

@@ -1,9 +1,8 @@
 -- Where a value leads, found by going through the tests in order.
 use Rattle.std.proofs.Common.{◌≡◌, ℕ, ◌+◌, ◌<◌, ◌≤◌, List, ◌∷◌, length, get_or, drop, refl, sym, ap, ◌∙◌, add-one, ⊎_elim, subst}
-use Rattle.std.specs.Prelude.{slice_get, Some, IsSomeAnd}
+use Rattle.std.specs.Prelude.{slice_get, Option, Some, None, IsSomeAnd}
 use Rattle.std.specs.List.{Contains}
 use Rattle.std.proofs.lemmas.Bool.{le-leb, lt-leb, cases_lt}
-use Rattle.std.proofs.lemmas.Option.{slice_get_read}
 use Rattle.std.proofs.lemmas.List.Elements.{Contains-get_or}
 use Rattle.std.proofs.Math.Seq.{drop-cons}
 use Rattle.std.proofs.Math.ListN.{drop_of_length-le}
@@ -40,18 +39,20 @@ leads_past ts k o c t l e h =
 pub leads_done : (ts : List (Range × ℕ)) (k o c : ℕ) → length ts ≤ k → leads (drop k ts) o c ≡ o
 leads_done ts k o c l = ap (λ us. leads us o c) (drop_of_length-le ts l)
 
--- the row read from the states at a number
-pub row_at : (d states : List Row) (p i : ℕ) (r : Row) → states ≡ d → i ≡ p → p < length d → r ≡ get_or states i r → slice_get d p ≡ Some r
-row_at d states p i r same at l e =
-    let k : r ≡ get_or d p r = e ∙ ap (λ xs. get_or xs i r) same ∙ ap (λ j. get_or d j r) at in
-    slice_get_read d (length d) p r refl l k
-
 -- the step from a state is by its row
 pub step_of : (d : List Row) (p c : ℕ) (r : Row) → slice_get d p ≡ Some r → step d p c ≡ leads r.tests r.other c
 step_of d p c r e = rw e
 
 pub tests_of : (d : List Row) (p : ℕ) (r : Row) (ts : List (Range × ℕ)) → slice_get d p ≡ Some r → IsSomeAnd (slice_get d p) (λ x. ts ≡ x.tests) → ts ≡ r.tests
 tests_of d p r ts e h = subst (λ o. IsSomeAnd o (λ x. ts ≡ x.tests)) e h
+
+-- the row that tests belong to
+pub row_with : (d : List Row) (p : ℕ) (ts : List (Range × ℕ)) → IsSomeAnd (slice_get d p) (λ r. ts ≡ r.tests) → (r : Row) × ((slice_get d p ≡ Some r) × (ts ≡ r.tests))
+row_with d p ts h = found (slice_get d p) refl h
+  where
+    found : (o : Option Row) → slice_get d p ≡ o → IsSomeAnd o (λ r. ts ≡ r.tests) → (r : Row) × ((slice_get d p ≡ Some r) × (ts ≡ r.tests))
+    found None is i = absurd i
+    found (Some r) is i = (r, (is, i))
 
 -- a test leads to a state
 pub target_within : (d : List Row) (p k : ℕ) (r : Row) (ts : List (Range × ℕ)) (t : Range × ℕ) → IsTable d → slice_get d p ≡ Some r → ts ≡ r.tests

@@ -36,3 +36,8 @@ pub mod Builds
 pub mod Compiling
 mod LeadSteps
 mod LeadMoves
+-- laws for callers
+pub mod PartLaws
+pub mod Strongest
+pub mod Agreeing
+pub mod AfterLaws

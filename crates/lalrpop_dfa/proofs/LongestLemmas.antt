@@ -1,5 +1,5 @@
 -- The walk along a text that keeps the last accepting place: what holds after each character.
-use Rattle.std.proofs.Common.{◌≡◌, ℕ, ◌+◌, ◌<◌, ◌≤◌, ⊎_elim, List, [], ◌∷◌, ◌++◌, length, take, refl, sym, ap, subst, ◌∙◌, arith, length-append}
+use Rattle.std.proofs.Common.{◌≡◌, ◌≢◌, ℕ, ◌+◌, ◌<◌, ◌≤◌, ⊎_elim, List, [], ◌∷◌, ◌++◌, length, take, refl, sym, ap, subst, ◌∙◌, arith, length-append}
 use Rattle.std.specs.Prelude.{slice_get, Option, Some, None, IsSomeAnd}
 use Rattle.std.specs.Char.{encode_utf8}
 use Rattle.std.specs.Str.{chars}
@@ -7,12 +7,14 @@ use Rattle.std.proofs.lemmas.Bool.{cases_lt}
 use Rattle.std.proofs.lemmas.List.{nil_from_length}
 use Rattle.std.proofs.lemmas.Str.{chars-nil, chars-append}
 use Rattle.lalrpop_hir.specs.Tree.{Tree}
+use Rattle.lalrpop_nfa.specs.Beginning.{IsBeginning}
 use Rattle.lalrpop_nfa.proofs.Cuts.{IsCut, cut_within, word_after, goes_on, ends_there}
 use Rattle.lalrpop_dfa.specs.Dfa.{Row, step, run, after, Stands, Says, IsReject}
 use Rattle.lalrpop_dfa.specs.Longest.{IsMatch, IsLongest}
 use Rattle.lalrpop_dfa.specs.Winners.{Matched, OnlyTop, GreatestTop}
 use Rattle.lalrpop_dfa.specs.declared.Kind.{Kind}
 use Rattle.lalrpop_dfa.specs.declared.Kind.TheVariants.{Reject}
+use Rattle.lalrpop_dfa.proofs.AfterLaws.{run_append, after_push}
 
 -- the state is the one after what was read
 pub record IsAfter (d : List Row) (text : List ℕ) (at : ℕ) (state : ℕ) : Type 0 where
@@ -27,10 +29,6 @@ IsLongestUpTo ts ps text n (Some m) =
 
 -- ---- states
 
-pub run_append : (d : List Row) (p : ℕ) (v w : List ℕ) → run d p (v ++ w) ≡ run d (run d p v) w
-run_append d p [] w = refl
-run_append d p (c ∷ v) w = run_append d (step d p c) v w
-
 pub after_start : (d : List Row) (text : List ℕ) → 0 < length d → IsAfter d text 0 0
 after_start d text l = record { reached = ap (λ w. after d w) (sym chars-nil); within = l }
 
@@ -38,7 +36,7 @@ pub after_more : (d : List Row) (text rest rest2 : List ℕ) (at at2 c state sta
     → at2 ≡ at + length (encode_utf8 c) → IsAfter d text at state → state2 ≡ step d state c → state2 < length d → IsAfter d text at2 state2
 after_more d text rest rest2 at at2 c state state2 h e l a s w = record {
   reached = s ∙ ap (λ p. step d p c) a.reached
-      ∙ sym (ap (after d) (word_after text rest rest2 at at2 c h e l) ∙ run_append d 0 (chars (take at text)) (c ∷ []));
+      ∙ sym (ap (after d) (word_after text rest rest2 at at2 c h e l) ∙ after_push d (chars (take at text)) c);
   within = w;
 }
 
@@ -121,3 +119,11 @@ longest_stop d ts ps text rest at state best stands h a r up =
     (λ (below : length p ≤ at). below)
     (cases_lt at (length p)))
     up
+
+-- ---- what is accepted is a nonempty beginning of the text
+
+pub part_accept : (text rest : List ℕ) (at : ℕ) (m : List ℕ) → IsCut text at rest → 0 < at → m ≡ take at text → IsBeginning m text × (m ≢ [])
+part_accept text rest at m h above is = (
+  subst (λ (p : List ℕ). IsBeginning p text) (sym is) (rest, (h.split, h.seen_utf8)),
+  λ none. let zero : length m ≡ 0 = ap length none in let size : length m ≡ at = ap length is ∙ h.place in omega arith,
+)

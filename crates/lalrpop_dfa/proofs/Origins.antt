@@ -1,7 +1,8 @@
 -- The word of a number, by its origins alone.
 use Rattle.std.proofs.Common.{◌≡◌, ℕ, ◌<◌, ◌≤◌, List, [], ◌∷◌, ◌++◌, refl, ap, arith, zero, suc}
-use Rattle.std.specs.List.{All}
-use Rattle.std.proofs.lemmas.List.Elements.{All-nil, All-push}
+use Rattle.std.specs.List.{All, AllByRecursion}
+use Rattle.std.proofs.lemmas.List.Elements.{All-nil, All-push, recursion_from_All}
+use Rattle.lalrpop_hir.specs.Word.{IsWord}
 use Rattle.lalrpop_dfa.specs.Internal.Numbering.{from_of, value_of, word_of, word}
 
 module _ (origins : List (ℕ × ℕ)) (size : ℕ) (earlier : (k : ℕ) → 0 < k → k < size → from_of origins k < k) where
@@ -24,8 +25,17 @@ module _ (origins : List (ℕ × ℕ)) (size : ℕ) (earlier : (k : ℕ) → 0 <
       ap (λ (w : List ℕ). w ++ value_of origins (suc k) ∷ []) (fuel_enough k (from_of origins (suc k)) (from_of origins (suc k)) (omega arith) (omega arith) (omega arith))
 
 -- the letters of a word are values of origins
-pub word_fits : (origins : List (ℕ × ℕ)) (bound : ℕ) → ((k : ℕ) → value_of origins k < bound) → (f k : ℕ) → All (λ c. c < bound) (word_of origins f k)
+word_fits : (origins : List (ℕ × ℕ)) (bound : ℕ) → ((k : ℕ) → value_of origins k < bound) → (f k : ℕ) → All (λ c. c < bound) (word_of origins f k)
 word_fits origins bound small zero k = All-nil (λ (c : ℕ). c < bound)
 word_fits origins bound small (suc f) zero = All-nil (λ (c : ℕ). c < bound)
 word_fits origins bound small (suc f) (suc k) =
     All-push (λ (c : ℕ). c < bound) (word_of origins f (from_of origins (suc k))) (value_of origins (suc k)) (word_fits origins bound small f (from_of origins (suc k))) (small (suc k))
+
+word_from : (w : List ℕ) → AllByRecursion (λ c. c < 4294967296) w → IsWord w
+word_from [] a = tt
+word_from (c ∷ w) a = (omega (arith, a.0), word_from w a.1)
+
+-- words of numbers are words
+pub word_is_word : (origins : List (ℕ × ℕ)) → ((k : ℕ) → value_of origins k ≤ 4294967295) → (n : ℕ) → IsWord (word origins n)
+word_is_word origins small n =
+    word_from (word origins n) (recursion_from_All (λ c. c < 4294967296) (word origins n) (word_fits origins 4294967296 (λ k. let l : value_of origins k ≤ 4294967295 = small k in omega arith) n n))

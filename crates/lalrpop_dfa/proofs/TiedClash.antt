@@ -1,10 +1,8 @@
 -- The first set in which two trees tie: its word is the least ambiguous one.
 use Rattle.std.proofs.Common.{◌≡◌, ℕ, ◌<◌, ◌≤◌, inl, inr, List, [], ◌∷◌, length, map, filter, refl, sym, subst, arith, Bool, true, ◌&&◌, ◌==◌, nat_le, nat_lt, ltb-true, lt-ltb, leb-true, le-leb, eqb-true, Some, slice_index}
-use Rattle.std.specs.List.{Contains, slice_get, list_any, list_all, AllByRecursion}
+use Rattle.std.specs.List.{Contains, slice_get, list_any, list_all}
 use Rattle.std.proofs.lemmas.Bool.{and_parts, and_from}
-use Rattle.std.proofs.lemmas.List.Elements.{recursion_from_All}
 use Rattle.std.proofs.lemmas.Option.{slice_get_cases}
-use Rattle.lalrpop_hir.specs.Word.{IsWord}
 use Rattle.lalrpop_hir.specs.Tree.{Tree}
 use Rattle.lalrpop_nfa.specs.Graph.{Graph}
 use Rattle.lalrpop_nfa.specs.Compiled.{accept_state}
@@ -17,7 +15,7 @@ use Rattle.lalrpop_dfa.specs.Internal.Numbering.{Numbering, IsLeast, nth, after,
 use Rattle.lalrpop_dfa.specs.Internal.Built.{machine_of, IsStrongest, IsKindOf, IsTied, IsRowOf}
 use Rattle.lalrpop_dfa.specs.declared.Kind.{Kind}
 use Rattle.lalrpop_dfa.proofs.Members.{Has, has_from, contains_from, has_map, map_has, has_filter, filter_has, all_has, all_from_has, any_from_has, has_from_any}
-use Rattle.lalrpop_dfa.proofs.Origins.{word_fits}
+use Rattle.lalrpop_dfa.proofs.Origins.{word_is_word}
 use Rattle.lalrpop_dfa.proofs.Numbering.{word_reaches, first_is_least}
 use Rattle.lalrpop_dfa.proofs.Dead.{dead_stays}
 use Rattle.lalrpop_dfa.proofs.SetWinners.{dead_accepts_none, kind_not_tied, strongest_iff}
@@ -77,15 +75,6 @@ module _ (ps : List ℕ) (s : List Item) where
 
   pub kind_not_tied_true : (k : Kind) → IsKindOf ps s k → is_tied ≡ true → ⊥
   kind_not_tied_true k a t = (let b = true_tied t in let e : b.0 ≡ b.1 = kind_not_tied ps s k a b.0 b.1 b.2.1 b.2.2 in omega (arith, b.2.0))
-
-word_from : (w : List ℕ) → AllByRecursion (λ c. c < 4294967296) w → IsWord w
-word_from [] a = tt
-word_from (c ∷ w) a = (omega (arith, a.0), word_from w a.1)
-
--- words of numbers are words
-pub word_is_word : (origins : List (ℕ × ℕ)) → ((k : ℕ) → value_of origins k ≤ 4294967295) → (n : ℕ) → IsWord (word origins n)
-word_is_word origins small n =
-    word_from (word origins n) (recursion_from_All (λ c. c < 4294967296) (word origins n) (word_fits origins 4294967296 (λ k. let l : value_of origins k ≤ 4294967295 = small k in omega arith) n n))
 
 -- the first number whose set is tied has the least ambiguous word
 pub tied_is_clash : (ts : List Tree) (ps : List ℕ) (ns : List Graph) (sets : List (List Item)) (origins : List (ℕ × ℕ)) (n i j : ℕ) → AreCompiled ts ns

@@ -2,7 +2,7 @@
 -- What the states of an automaton of a list of trees hold: the states of the trees' own automata that a word leads to.
 use Rattle.std.specs.Prelude.{◌≡◌, ◌≢◌, ℕ, ◌<◌, ◌↔◌, List, length, map, slice_get, Some}
 use Rattle.std.specs.List.{Contains}
-use Rattle.lalrpop_hir.specs.Word.{Shortlex}
+use Rattle.lalrpop_hir.specs.Word.{IsWord, Shortlex}
 use Rattle.lalrpop_hir.specs.Tree.{Tree}
 use Rattle.lalrpop_nfa.specs.Graph.{Graph}
 use Rattle.lalrpop_nfa.specs.Path.{Path, test}
@@ -31,7 +31,7 @@ IsLeaving ns items r = (x : Item) × (g : Graph) × (q : ℕ) × (Contains items
 -- the states hold what words lead to
 pub record HoldsItems (ns : List Graph) (d : List Row) : Type 0 where
   -- some word leads to each state
-  pub reached : (p : ℕ) → p < length d → (w : List ℕ) × (after d w ≡ p)
+  pub reached : (p : ℕ) → p < length d → (w : List ℕ) × (IsWord w × (after d w ≡ p))
   -- the state after a word holds the items that the word leads to
   pub items : (w : List ℕ) (r : Row) (x : Item) → slice_get d (after d w) ≡ Some r → Contains r.items x ↔ IsReached ns w x
   -- the tests of a state are the partition of the labels that leave its items
@@ -49,4 +49,4 @@ OthersReject d = (p : ℕ) (r s : Row) → slice_get d p ≡ Some r → slice_ge
 -- states that aren't reject states stand in the shortlex order of the least words that lead to them
 abbrev pub IsInWordOrder : List Row → Type 0
 IsInWordOrder d = (p q : ℕ) (r s : Row) → p < q → slice_get d p ≡ Some r → slice_get d q ≡ Some s → r.kind ≢ Reject → s.kind ≢ Reject
-    → (v : List ℕ) × ((after d v ≡ p) × ((w : List ℕ) → after d w ≡ q → Shortlex v w))
+    → (v : List ℕ) × (IsWord v × (after d v ≡ p) × ((w : List ℕ) → after d w ≡ q → Shortlex v w))

@@ -7,5 +7,6 @@ pub mod Dfa
 pub mod Items
 pub mod Kernels
 pub mod SameAutomata
+pub mod Agree
 -- what private functions promise one another, which no promise to a caller names
 pub mod Internal

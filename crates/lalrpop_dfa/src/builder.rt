@@ -150,7 +150,8 @@ impl Table {
     {
         let mut known = BTreeMap::new(alloc);
         let mut tests = Vec::new(alloc);
-        for part in parts_of(alloc, nfas, set)? {
+        let parts = parts_of(alloc, nfas, set)?;
+        for part in parts {
             let Part { range, leads } = part;
             let origin = Origin::new(number, range.start());
             let target = self.led_to_by(alloc, nfas, set, &mut known, leads, origin)?;

@@ -1,19 +1,22 @@
 //! The longest match at the start of a text, found by running the automaton of a list of patterns.
 
-ghost use Rattle.std.specs.Prelude.{◌≡◌, ℕ, ◌+◌, ◌<◌, ◌≤◌, length, List};
+ghost use Rattle.std.specs.Prelude.{◌≡◌, ◌≢◌, ℕ, ◌+◌, ◌<◌, ◌≤◌, [], length, List, IfSome};
 ghost use Rattle.std.specs.Option.{option_map};
 ghost use Rattle.std.specs.Str.{chars};
 ghost use Rattle.lalrpop_dfa.specs.Dfa.{step, Stands};
 ghost use Rattle.lalrpop_dfa.specs.Longest.{IsLongest};
 ghost use Rattle.lalrpop_hir.specs.Tree.{Tree};
+ghost use Rattle.lalrpop_nfa.specs.Beginning.{IsBeginning};
 
 use super::{Dfa, DfaStateIndex, Kind, NfaIndex, START};
 use lalrpop_nfa::Steps;
 
 /// The longest nonempty beginning of the text that some pattern matches, with the strongest pattern that matches it.
-/// The beginning is a slice of the text; `None` where no pattern matches any.
+/// `None` where no pattern matches any. Whatever automaton it is, the slice is a nonempty beginning of the text.
 pub fn interpret<'text>(dfa: &Dfa, input: &'text str) -> Option<(NfaIndex, &'text str)>
-    ensures { (ts : List Tree) (ps : List ℕ) → Stands dfa.now ts ps → IsLongest ts ps input.now (option_map (λ m. (m.0, m.1.now)) result) }
+    ensures answer { (ts : List Tree) (ps : List ℕ) → Stands dfa.now ts ps
+        → IsLongest ts ps input.now (option_map (λ m. (m.0, m.1.now)) result) }
+    ensures part { IfSome result (λ m. IsBeginning m.1.now input.now × (m.1.now ≢ [])) }
 {
     interpret_counted(dfa, input, &mut Steps::new())
 }
@@ -24,16 +27,20 @@ pub fn interpret_counted<'text>(
     input: &'text str,
     steps: &mut Steps,
 ) -> Option<(NfaIndex, &'text str)>
-    ensures answer { (ts : List Tree) (ps : List ℕ) → Stands dfa.now ts ps → IsLongest ts ps input.now (option_map (λ m. (m.0, m.1.now)) result) }
+    ensures answer { (ts : List Tree) (ps : List ℕ) → Stands dfa.now ts ps
+        → IsLongest ts ps input.now (option_map (λ m. (m.0, m.1.now)) result) }
+    ensures part { IfSome result (λ m. IsBeginning m.1.now input.now × (m.1.now ≢ [])) }
+    ensures never_falls { steps.old ≤ steps.new }
     ensures cost { steps.new ≤ steps.old + length (chars input.now) }
 {
-    let states = dfa.states();
+    // There is a state, so START is one.
+    let _states = dfa.states();
     let mut state = START;
     let mut longest = None;
     for (offset, c) in input.char_indices() {
         steps.tick();
         state = step(dfa, state, u32::from(c));
-        match states[state.index()].kind() {
+        match dfa.state(state).kind() {
             Kind::Accepts(index) => longest = Some((*index, &input[..offset + c.len_utf8()])),
             Kind::Reject => break,
             Kind::Neither => {}
@@ -48,11 +55,10 @@ fn step(dfa: &Dfa, state: DfaStateIndex, value: u32) -> DfaStateIndex
     ensures leads { result ≡ step dfa.now state value }
     ensures within { result < length dfa.now }
 {
-    let row = &dfa.states()[state.index()];
     for (test, target) in dfa.test_edges(state) {
         if test.contains_u32(value) {
             return *target;
         }
     }
-    row.other_edge()
+    dfa.state(state).other_edge()
 }

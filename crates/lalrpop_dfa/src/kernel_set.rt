@@ -19,7 +19,7 @@ pub trait Kernel: Ord + Clone + Drop {
 
     /// The index that stands for the number `c`.
     fn index(c: usize) -> Self::Index
-        ensures { result ≡ index_of c };
+        ensures value { result ≡ index_of c };
 }
 
 /// A list of distinct kernels, which only grows, and a place in it.
@@ -44,7 +44,7 @@ impl<K: Kernel> Model for KernelSet<K> {
 impl<K: Kernel> KernelSet<K> {
     /// No kernels, and the place at their end.
     pub fn new(alloc: Global) -> KernelSet<K>
-        ensures { result ≡ record { list = []; place = 0 } }
+        ensures empty { result ≡ record { list = []; place = 0 } }
     {
         KernelSet {
             numbers: BTreeMap::new(alloc),
@@ -57,9 +57,10 @@ impl<K: Kernel> KernelSet<K> {
     ///
     /// The set stays as it was where there is no memory.
     pub fn add_state(&mut self, kernel: K) -> Result<K::Index, AllocError>
-        requires { ClonesEqual K.cmp K.is_clone }
+        requires clones { ClonesEqual K.cmp K.is_clone }
         ensures number { IfOk result (λ i. (n : ℕ) × (i ≡ K.index_of n) × IsNumberOf K.cmp self.new.list kernel n) }
-        ensures list { OnOk result (self.new ≡ record { list = added K.cmp self.old.list kernel; place = self.old.place }) }
+        ensures list { OnOk result (self.new
+            ≡ record { list = added K.cmp self.old.list kernel; place = self.old.place }) }
         ensures distinct { OnOk result (AreDistinct K.cmp self.new.list) }
         ensures refused { OnErr result (self.new ≡ self.old) }
     {
@@ -82,8 +83,9 @@ impl<K: Kernel> KernelSet<K> {
     ///
     /// The set stays as it was where there is no memory.
     pub fn next(&mut self) -> Result<Option<K>, AllocError>
-        requires { ClonesEqual K.cmp K.is_clone }
-        ensures given { IfOk result (λ o. MatchOption o (slice_get self.old.list self.old.place ≡ None) (λ k. (q : K) × (slice_get self.old.list self.old.place ≡ Some q) × K.is_clone q k × (K.cmp q k ≡ Equal))) }
+        requires clones { ClonesEqual K.cmp K.is_clone }
+        ensures given { IfOk result (λ o. MatchOption o (slice_get self.old.list self.old.place ≡ None)
+            (λ k. (q : K) × (slice_get self.old.list self.old.place ≡ Some q) × K.is_clone q k × (K.cmp q k ≡ Equal))) }
         ensures moves { IfOk result (λ o. self.new ≡ moved self.old o) }
         ensures refused { OnErr result (self.new ≡ self.old) }
     {

@@ -49,7 +49,7 @@ impl Model for NfaIndex {
 impl NfaIndex {
     /// The place as a number.
     pub fn index(self) -> usize
-        ensures { result ≡ self }
+        ensures value { result ≡ self }
     {
         self.0
     }
@@ -72,7 +72,7 @@ impl Model for DfaStateIndex {
 impl DfaStateIndex {
     /// The state's number.
     pub fn index(self) -> usize
-        ensures { result ≡ self }
+        ensures value { result ≡ self }
     {
         self.0
     }
@@ -126,14 +126,14 @@ impl Model for State {
 impl State {
     /// What the state says of the word that leads to it.
     pub fn kind(&self) -> &Kind
-        ensures { result.now ≡ self.now.kind }
+        ensures kind { result.now ≡ self.now.kind }
     {
         &self.kind
     }
 
     /// The state that a value leads to which no test edge covers.
     pub fn other_edge(&self) -> DfaStateIndex
-        ensures { result ≡ self.now.other }
+        ensures other { result ≡ self.now.other }
     {
         self.other_edge
     }
@@ -169,16 +169,18 @@ impl Dfa {
 
     /// The state with this number.
     pub fn state(&self, index: DfaStateIndex) -> &State
-        requires { index < length self.now }
-        ensures { slice_get self.now index ≡ Some result.now }
+        requires within { index < length self.now }
+        ensures at { slice_get self.now index ≡ Some result.now }
+        ensures table { IsTable self.now }
     {
         &self.states[index.0]
     }
 
     /// The test edges of the state with this number, ascending.
     pub fn test_edges(&self, index: DfaStateIndex) -> &[(Test, DfaStateIndex)]
-        requires { index < length self.now }
-        ensures { IsSomeAnd (slice_get self.now index) (λ r. result.now ≡ r.tests) }
+        requires within { index < length self.now }
+        ensures tests { IsSomeAnd (slice_get self.now index) (λ r. result.now ≡ r.tests) }
+        ensures table { IsTable self.now }
     {
         let state = self.state(index);
         &state.test_edges

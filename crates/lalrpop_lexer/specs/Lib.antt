@@ -26,3 +26,4 @@ pub use Rattle.lalrpop_dfa.specs.Dfa
 pub use Rattle.lalrpop_dfa.specs.Items
 pub use Rattle.lalrpop_dfa.specs.Kernels
 pub use Rattle.lalrpop_dfa.specs.SameAutomata
+pub use Rattle.lalrpop_dfa.specs.Agree

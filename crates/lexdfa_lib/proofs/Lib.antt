@@ -4,4 +4,3 @@ pub mod LineLemmas
 pub mod LineParts
 pub mod TerminalLemmas
 pub mod Unique
-pub mod Strongest

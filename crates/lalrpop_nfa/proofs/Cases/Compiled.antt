@@ -1,12 +1,14 @@
 -- Cases of specs/Compiled.antt: the automaton of the literal `a`.
 use Rattle.std.proofs.Common.{◌≡◌, ℕ, zero, suc, ◌≤◌, List, [], ◌∷◌, length, get_or, true, None, Some, refl, sym, ap, subst, ◌∙◌, arith}
-use Rattle.std.specs.Prelude.{◌↔◌, slice_get}
+use Rattle.std.specs.Prelude.{◌≢◌, ◌↔◌, slice_get}
 use Rattle.std.specs.List.{Contains}
 use Rattle.lalrpop_hir.specs.Range.{Range, Covers}
 use Rattle.lalrpop_hir.specs.Tree.{Tree, unicode, empty, literal, repetition}
 use Rattle.lalrpop_nfa.specs.Graph.{Graph}
 use Rattle.lalrpop_nfa.specs.Path.{test, Path}
-use Rattle.lalrpop_nfa.specs.Compiled.{IsClassLabel, IsLabel, ReadsWordsOf, IsCompiled}
+use Rattle.lalrpop_nfa.specs.Compiled.{IsClassLabel, IsLabel, ReadsWordsOf, IsCompiled, HasFixedEdges}
+use Rattle.lalrpop_nfa.specs.Lists.{Lists}
+use Rattle.lalrpop_nfa.specs.Meet.{Meet}
 use Rattle.lalrpop_nfa.specs.declared.edge.Edge.{Edge}
 use Rattle.lalrpop_nfa.specs.declared.edge.StateKind.TheVariants.{Accept, Reject, Neither}
 use Rattle.lalrpop_nfa.proofs.Cases.Path.{just_a, edges_of_a, noop_is, test_is, other_is, path_of_a, path_reads_a_alone}
@@ -67,19 +69,17 @@ rejecting (suc (suc zero)) = ((λ h. absurd (cc)), (λ h. absurd (omega arith)))
 rejecting (suc (suc (suc zero))) = ((λ h. absurd (cc)), (λ h. absurd (omega arith)))
 rejecting (suc (suc (suc (suc p)))) = ((λ h. absurd (cc)), (λ h. absurd (omega arith)))
 
-only_test : (e : Edge Range) → Contains graph_of_a.edges.tests e → test 3 just_a 0 ≡ e
-only_test e (zero, l, h) = h
-only_test e (suc k, l, h) = absurd (omega arith)
-
 label_of_a : (e : Edge Range) → Contains graph_of_a.edges.tests e → IsLabel a e.label × (e.label.start ≤ e.label.end) × (e.label.end ≤ 1114111)
 label_of_a e h =
     let is = (test_is e.from e.to e.label h).2 in
     subst (λ r. IsLabel a r × (r.start ≤ r.end) × (r.end ≤ 1114111)) (sym is)
     ((97, ((0, omega arith, refl), refl)), omega arith, omega arith)
 
--- test edges are apart, as there is one
-one_edge_by_value : (e f : Edge Range) (c : ℕ) → Contains graph_of_a.edges.tests e → Contains graph_of_a.edges.tests f → e.from ≡ f.from → Covers e.label c → Covers f.label c → e ≡ f
-one_edge_by_value e f c h g same k l = sym (only_test e h) ∙ only_test f g
+-- test edges at two places are apart, as there is one
+one_edge_alone : (i j : ℕ) (e f : Edge Range) → slice_get graph_of_a.edges.tests i ≡ Some e → slice_get graph_of_a.edges.tests j ≡ Some f → i ≢ j → e.from ≡ f.from → ¬ Meet e.label f.label
+one_edge_alone zero zero e f h g n same m = n refl
+one_edge_alone zero (suc j) e f h g n same m = absurd cc
+one_edge_alone (suc i) j e f h g n same m = absurd cc
 
 -- the automaton is compiled from `a`
 pub automaton_is_compiled_from_a : IsCompiled a graph_of_a
@@ -93,7 +93,7 @@ automaton_is_compiled_from_a = record {
   tests_in = λ e h. let is = test_is e.from e.to e.label h in (omega (arith, is.0), omega (arith, is.1), (λ f. omega (arith, is.0, f)), (λ f. omega (arith, is.1, f)));
   others_in = λ e h. let is = other_is e.from e.to h in (is.0, is.1);
   labels = label_of_a;
-  apart = one_edge_by_value;
+  apart = one_edge_alone;
 }
 
 -- not from the empty tree, and not from `b`
@@ -102,3 +102,12 @@ automaton_is_not_compiled_from_the_empty_tree c = does_not_read_the_empty_word c
 
 automaton_is_not_compiled_from_b : ¬ IsCompiled (literal (98 ∷ [])) graph_of_a
 automaton_is_not_compiled_from_b c = does_not_read_the_words_of_b c.reads
+
+-- ---- the edges of the fixed states
+
+fixed_edges_are_there : HasFixedEdges graph_of_a.edges
+fixed_edges_are_there = record { accept = refl; reject = refl; start = (3, refl); }
+
+-- an automaton without edges hasn't these
+no_edges_are_too_few : ¬ HasFixedEdges (record { noops = []; tests = []; others = [] })
+no_edges_are_too_few h = let n : 0 ≡ 1 = ap (λ (e : Lists). length e.others) h.accept in omega (arith, n)

@@ -27,7 +27,7 @@ loop-item-preserved c =
     let small : c.item-item.result.0 < length c.args.precedences.now = omega (arith, here, c.requires.same_len) in
     elim c.if-is_accepting.branch [
       | then-is_accepting w ↦
-          rw (w.best-is, w.raise.ensures, w.index.ensures, w.pattern-pattern.ensures)
+          rw (w.best-is, w.raise.ensures, w.index.ensures.value, w.pattern-pattern.ensures)
           (best_taken (map (λ p. p.0) c.args.precedences.now) c.deref-item-items.result.now c.loop-item.item-index (get_or c.args.precedences.now c.item-item.result.0 (record { 0 = 0 })).0 c.item-item.result c.loop-item.best
           (subst AreAscendingItems (sym (c.deref-item-items.ensures.value ∙ c.set.view_is)) c.requires.ascending) l c.item-item.is (sym c.is_accepting.ensures ∙ w.if-is_accepting.true)
           (weight_at (λ p. p.0) c.args.precedences.now c.item-item.result.0 (record { 0 = 0 }) small) c.loop-item.invariant)

@@ -5,7 +5,7 @@ use Rattle.std.proofs.lemmas.Result.{err_from_is_err_and}
 use Rattle.lalrpop_dfa.proofs.builder.build.Goals as goal
 
 pub next-requires : goal.next-requires
-next-requires c = clones_equal
+next-requires c = record { clones = clones_equal }
 
 pub returns-in_err-take_up-clause-err : goal.returns-in_err-take_up-clause-err
 returns-in_err-take_up-clause-err c =

@@ -4,9 +4,8 @@ use Rattle.std.specs.Str.Iter.{char_indices_rest, char_indices_offset}
 use Rattle.std.specs.Option.{option_map}
 use Rattle.std.proofs.lemmas.Str.{chars-nil, len_utf8_bounds, length-encode, IsCharBoundary-from_take}
 use Rattle.lalrpop_dfa.specs.Dfa.{step}
-use Rattle.lalrpop_dfa.proofs.LeadsLemmas.{row_at}
 use Rattle.lalrpop_dfa.specs.declared.Kind.TheVariants.{Accepts, Reject, Neither}
-use Rattle.lalrpop_dfa.proofs.LongestLemmas.{after_start, after_more, says_of, reject_at, longest_start, longest_accept, longest_pass, longest_end, longest_stop}
+use Rattle.lalrpop_dfa.proofs.LongestLemmas.{after_start, after_more, says_of, reject_at, longest_start, longest_accept, part_accept, longest_pass, longest_end, longest_stop}
 use Rattle.lalrpop_nfa.proofs.Cuts.{cut_start, cut_within, cut_more, count_more, count_within}
 use Rattle.lalrpop_dfa.proofs.interpret.interpret_counted.Goals as goal
 
@@ -19,6 +18,7 @@ loop-offset-init c =
       cut = cut_start c.args.input.now c.utf8.input;
       after = after_start c.args.dfa.now c.args.input.now c.states-states.ensures.table.some;
       best = λ ts ps h. longest_start ts ps c.args.input.now;
+      part = tt;
       cost = let none : length (chars []) ≡ 0 = ap length chars-nil in omega arith;
     }
 
@@ -41,7 +41,6 @@ loop-offset-preserved-in-Accepts c =
     let cut = cut_more text rest rest2 at at2 c.in-Some.c c.utf8.input c.loop-offset.invariant.cut s.1 s.2 in
     let leads : c.step-state.result ≡ step c.args.dfa.now c.loop-offset.state c.in-Some.c = c.step-state.ensures.leads ∙ ap (step c.args.dfa.now c.loop-offset.state) c.from.ensures in
     let after = after_more c.args.dfa.now text rest rest2 at at2 c.in-Some.c c.loop-offset.state c.step-state.result c.loop-offset.invariant.cut s.1 s.2 c.loop-offset.invariant.after leads c.step-state.ensures.within in
-    let row = row_at c.args.dfa.now c.states-states.result.now c.step-state.result c.index.result c.index-states-index.result c.states-states.ensures.states c.index.ensures c.step-state.ensures.within c.index-states-index.is in
     let some : 0 < at2 = omega (arith, s.2, length-encode c.in-Some.c, len_utf8_bounds c.in-Some.c) in
     let place : c.in-Some.offset + c.len_utf8.result - 0 ≡ at2 = omega (arith, s.0, s.2, c.len_utf8.ensures.len) in
     let is : c.range.result.now ≡ take at2 text = c.range.ensures.value ∙ ap (λ n. take n text) place in
@@ -50,7 +49,8 @@ loop-offset-preserved-in-Accepts c =
       after = after;
       best = λ ts ps h.
           longest_accept ts ps text rest2 at2 c.in-Accepts.index c.range.result.now cut some is
-          (says_of c.args.dfa.now ts ps (chars (take at2 text)) c.step-state.result c.index-states-index.result c.kind.result.now (Accepts c.in-Accepts.index) h after.reached row c.kind.ensures c.in-Accepts.is);
+          (says_of c.args.dfa.now ts ps (chars (take at2 text)) c.step-state.result c.state.result.now c.kind.result.now (Accepts c.in-Accepts.index) h after.reached c.state.ensures.at c.kind.ensures.kind c.in-Accepts.is);
+      part = part_accept text rest2 at2 c.range.result.now cut some is;
       cost = let more = count_more text rest rest2 at at2 c.in-Some.c c.loop-offset.invariant.cut s.1 s.2 in omega arith;
     }
 
@@ -65,14 +65,14 @@ loop-offset-preserved c =
     let cut = cut_more text rest rest2 at at2 c.in-Some.c c.utf8.input c.loop-offset.invariant.cut s.1 s.2 in
     let leads : c.step-state.result ≡ step c.args.dfa.now c.loop-offset.state c.in-Some.c = c.step-state.ensures.leads ∙ ap (step c.args.dfa.now c.loop-offset.state) c.from.ensures in
     let after = after_more c.args.dfa.now text rest rest2 at at2 c.in-Some.c c.loop-offset.state c.step-state.result c.loop-offset.invariant.cut s.1 s.2 c.loop-offset.invariant.after leads c.step-state.ensures.within in
-    let row = row_at c.args.dfa.now c.states-states.result.now c.step-state.result c.index.result c.index-states-index.result c.states-states.ensures.states c.index.ensures c.step-state.ensures.within c.index-states-index.is in
     record {
       cut = cut;
       after = after;
       best = λ ts ps h.
           longest_pass ts ps text rest rest2 at at2 c.in-Some.c (option_map (λ m. (m.0, m.1.now)) c.loop-offset.longest) c.loop-offset.invariant.cut s.1 s.2
-          (says_of c.args.dfa.now ts ps (chars (take at2 text)) c.step-state.result c.index-states-index.result c.kind.result.now Neither h after.reached row c.kind.ensures c.in-Neither.is)
+          (says_of c.args.dfa.now ts ps (chars (take at2 text)) c.step-state.result c.state.result.now c.kind.result.now Neither h after.reached c.state.ensures.at c.kind.ensures.kind c.in-Neither.is)
           (c.loop-offset.invariant.best ts ps h);
+      part = c.loop-offset.invariant.part;
       cost = let more = count_more text rest rest2 at at2 c.in-Some.c c.loop-offset.invariant.cut s.1 s.2 in omega arith;
     }
 
@@ -87,12 +87,11 @@ returns-in-Reject-clause-answer c = λ ts ps h.
     let cut = cut_more text rest rest2 at at2 c.in-Some.c c.utf8.input c.loop-offset.invariant.cut s.1 s.2 in
     let leads : c.step-state.result ≡ step c.args.dfa.now c.loop-offset.state c.in-Some.c = c.step-state.ensures.leads ∙ ap (step c.args.dfa.now c.loop-offset.state) c.from.ensures in
     let after = after_more c.args.dfa.now text rest rest2 at at2 c.in-Some.c c.loop-offset.state c.step-state.result c.loop-offset.invariant.cut s.1 s.2 c.loop-offset.invariant.after leads c.step-state.ensures.within in
-    let row = row_at c.args.dfa.now c.states-states.result.now c.step-state.result c.index.result c.index-states-index.result c.states-states.ensures.states c.index.ensures c.step-state.ensures.within c.index-states-index.is in
     let best = option_map (λ m. (m.0, m.1.now)) c.loop-offset.longest in
     longest_stop c.args.dfa.now ts ps text rest2 at2 c.step-state.result best h cut after
-    (reject_at c.args.dfa.now c.step-state.result c.index-states-index.result c.kind.result.now row c.kind.ensures c.in-Reject.is)
+    (reject_at c.args.dfa.now c.step-state.result c.state.result.now c.kind.result.now c.state.ensures.at c.kind.ensures.kind c.in-Reject.is)
     (longest_pass ts ps text rest rest2 at at2 c.in-Some.c best c.loop-offset.invariant.cut s.1 s.2
-    (says_of c.args.dfa.now ts ps (chars (take at2 text)) c.step-state.result c.index-states-index.result c.kind.result.now Reject h after.reached row c.kind.ensures c.in-Reject.is)
+    (says_of c.args.dfa.now ts ps (chars (take at2 text)) c.step-state.result c.state.result.now c.kind.result.now Reject h after.reached c.state.ensures.at c.kind.ensures.kind c.in-Reject.is)
     (c.loop-offset.invariant.best ts ps h))
 
 pub returns-in-None-clause-answer : goal.returns-in-None-clause-answer

@@ -1,8 +1,9 @@
-use Rattle.std.proofs.Common.{◌≡◌, ◌+◌, ℕ, List, length, take}
-use Rattle.std.specs.Option.{option_map}
+use Rattle.std.proofs.Common.{◌≡◌, ◌≢◌, ◌+◌, ℕ, List, [], length, take}
+use Rattle.std.specs.Option.{option_map, IfSome}
 use Rattle.std.specs.Str.{chars}
 use Rattle.std.specs.Str.Iter.{char_indices_rest, char_indices_offset}
 use Rattle.lalrpop_hir.specs.Tree.{Tree}
+use Rattle.lalrpop_nfa.specs.Beginning.{IsBeginning}
 use Rattle.lalrpop_dfa.specs.Dfa.{Stands}
 use Rattle.lalrpop_dfa.proofs.LongestLemmas.{IsAfter, IsLongestUpTo}
 use Rattle.lalrpop_nfa.proofs.Cuts.{IsCut}
@@ -14,5 +15,6 @@ invariant-loop-offset l = record {
   after : IsAfter l.dfa l.input (char_indices_offset l.offset-iterator) l.state;
   best : (ts : List Tree) (ps : List ℕ) → Stands l.dfa ts ps
       → IsLongestUpTo ts ps l.input (char_indices_offset l.offset-iterator) (option_map (λ m. (m.0, m.1.now)) l.longest);
+  part : IfSome l.longest (λ m. IsBeginning m.1.now l.input × (m.1.now ≢ []));
   cost : l.steps ≡ l.initial.steps + length (chars (take (char_indices_offset l.offset-iterator) l.input));
 }

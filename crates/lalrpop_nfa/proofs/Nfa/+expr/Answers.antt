@@ -103,8 +103,8 @@ turns-returns-in_ok-entry-in-Some-clause-grown t c =
     let r = c.args.repetition.now in
     let x = shape r.sub in
     let rest = optionals x (c.in-Some.max - r.min) in
-    let a = rw (c.sub-sub.ensures, c.min-min.ensures.value) at c.in_ok-entry-in-Some.ensures.grown in
-    let b = rw (c.sub-sub.ensures, c.min-min.ensures.value) at c.copies.ensures.grown in
+    let a = rw (c.sub-sub.ensures.sub, c.min-min.ensures.value) at c.in_ok-entry-in-Some.ensures.grown in
+    let b = rw (c.sub-sub.ensures.sub, c.min-min.ensures.value) at c.copies.ensures.grown in
     rw (← c.in-Some.ensures.value)
     (IfOk-weaker c.copies.result (Grows (copies x r.min) c.in_ok-entry-in-Some.entry c.optionals.new.self c.copies.new.self) (Grows (before (copies x r.min) rest) c.args.target c.args.self.now c.copies.new.self)
     (λ q h. Grows-before (copies x r.min) rest c.args.target c.in_ok-entry-in-Some.entry q c.args.self.now c.optionals.new.self c.copies.new.self a h) b)
@@ -116,8 +116,8 @@ turns-returns-in_default-clause-grown t c =
     let m = c.min-min.ensures.value in
     let not_0 : r.min ≢ 0 = λ e. omega arith in
     let not_1 : r.min ≢ 1 = λ e. omega arith in
-    let a = rw c.sub-sub.ensures at c.in_ok-state-in-None.ensures.any in
-    let b = rw (c.sub-sub.ensures, m) at c.copies-in_default.ensures.grown in
+    let a = rw c.sub-sub.ensures.sub at c.in_ok-state-in-None.ensures.any in
+    let b = rw (c.sub-sub.ensures.sub, m) at c.copies-in_default.ensures.grown in
     rw (← c.in-None.ensures.value, turns_more x r.min not_0 not_1)
     (IfOk-weaker c.copies-in_default.result (Grows (copies x r.min) c.in_ok-state-in-None.state c.any_turns.new.self c.copies-in_default.new.self) (Grows (before (copies x r.min) (any_turns x)) c.args.target c.args.self.now c.copies-in_default.new.self)
     (λ q h. Grows-before (copies x r.min) (any_turns x) c.args.target c.in_ok-state-in-None.state q c.args.self.now c.any_turns.new.self c.copies-in_default.new.self a h) b)

@@ -6,7 +6,7 @@ use Rattle.lalrpop_dfa.proofs.builder.Table.add.Goals as goal
 use Rattle.lalrpop_dfa.proofs.builder.Table.add.Goals.{then-index-len+in_ok-push, else-index-len}
 
 pub add_state-requires : goal.add_state-requires
-add_state-requires c = clones_equal
+add_state-requires c = record { clones = clones_equal }
 
 pub returns-clause-added : goal.returns-clause-added
 returns-clause-added c =
@@ -15,11 +15,11 @@ returns-clause-added c =
     let is = ap (λ s. s.list) c.in_ok-number.ensures.list in
     elim c.if-index-len.branch [
       | then-index-len+in_ok-push w ↦
-          let at : c.in_ok-number.number ≡ length c.args.self.now.kernels.list = omega (arith, w.if-index-len.true, c.index.ensures, c.len.ensures, c.args.self.now.origins.ok.0, c.requires) in
+          let at : c.in_ok-number.number ≡ length c.args.self.now.kernels.list = omega (arith, w.if-index-len.true, c.index.ensures.value, c.len.ensures, c.args.self.now.origins.ok.0, c.requires) in
           let new = number_new c.args.self.now.kernels.list c.args.set c.in_ok-number.number c.add_state.new.self.list is num at in
           rw w.self-is (inr (new.0, at, new.1, w.in_ok-push.ensures.items))
       | else-index-len w ↦
           let old = number_old c.args.self.now.kernels.list c.args.set c.in_ok-number.number c.add_state.new.self.list is num
-          (λ e. omega (arith, e, w.if-index-len.false, c.index.ensures, c.len.ensures, c.args.self.now.origins.ok.0, c.requires)) in
+          (λ e. omega (arith, e, w.if-index-len.false, c.index.ensures.value, c.len.ensures, c.args.self.now.origins.ok.0, c.requires)) in
           rw w.self-is (inl (old.0, old.1, refl))
     ]

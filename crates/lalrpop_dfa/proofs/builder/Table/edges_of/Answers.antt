@@ -14,7 +14,7 @@ led_to_by-requires-clause-leads c =
     let parts = c.into_iter-part-iterator.result.rest.items in
     let k = length c.loop-part.tests.items in
     let at = (part_at parts k c.in-Some.part c.next.new.self.rest.items (sym c.loop-part.invariant.rest ∙ c.in-Some.ensures.steps.0)).0 in
-    let led : AreLeads c.args.nfas.now c.args.set.now c.in-Some.part.range.start c.in-Some.part.leads.list.items = c.in_ok-part-items.ensures.leads k c.in-Some.part (search rules) in
+    let led : AreLeads c.args.nfas.now c.args.set.now c.in-Some.part.range.start c.in-Some.part.leads.list.items = c.in_ok-parts.ensures.leads k c.in-Some.part (search rules) in
     let v : c.new-origin.result.1 ≡ c.in-Some.part.range.start = ap (λ (o : ℕ × ℕ). o.1) c.new-origin.ensures ∙ c.start.ensures.value in
     subst (λ w. AreLeads c.args.nfas.now c.args.set.now w c.in-Some.part.leads.list.items) (sym v) led
 
@@ -24,8 +24,8 @@ loop-part-preserved c =
     let k = length c.loop-part.tests.items in
     let next = part_at parts k c.in-Some.part c.next.new.self.rest.items (sym c.loop-part.invariant.rest ∙ c.in-Some.ensures.steps.0) in
     let read = range_at parts k c.in-Some.part next.0 in
-    let same : parts ≡ c.in_ok-part-items.part-items.items = search rules in
-    let runs : IsRuns (IsLeaving c.args.nfas.now c.args.set.now) (map (λ (p : Part). p.range) parts) = subst (λ (ps : List Part). IsRuns (IsLeaving c.args.nfas.now c.args.set.now) (map (λ (p : Part). p.range) ps)) (sym same) c.in_ok-part-items.ensures.ranges in
+    let same : parts ≡ c.in_ok-parts.parts.items = search rules in
+    let runs : IsRuns (IsLeaving c.args.nfas.now c.args.set.now) (map (λ (p : Part). p.range) parts) = subst (λ (ps : List Part). IsRuns (IsLeaving c.args.nfas.now c.args.set.now) (map (λ (p : Part). p.range) ps)) (sym same) c.in_ok-parts.ensures.ranges in
     let more : length c.push.new.self.items ≡ k + 1 = ap length c.in_ok-push.ensures.items ∙ length-append c.loop-part.tests.items ((c.in-Some.part.range, c.in_ok-target.target) ∷ []) in
     let edging = edging_more c.args.nfas.now c.requires.automata c.args.self.now.kernels.list c.args.self.now.origins.items c.args.number c.args.set.now (map (λ (p : Part). p.range) parts) runs c.requires.here
     k c.in_ok-target.target c.start.result (move c.args.nfas.now c.args.set.now c.new-origin.result.1) c.in-Some.part.range c.in-Some.part.range c.loop-part.self.kernels.list c.loop-part.self.origins.items
@@ -45,8 +45,8 @@ pub returns-clause-edged : goal.returns-clause-edged
 returns-clause-edged c =
     let parts = c.into_iter-part-iterator.result.rest.items in
     let k = length c.loop-part.tests.items in
-    let same : parts ≡ c.in_ok-part-items.part-items.items = search rules in
-    let runs : IsRuns (IsLeaving c.args.nfas.now c.args.set.now) (map (λ (p : Part). p.range) parts) = subst (λ (ps : List Part). IsRuns (IsLeaving c.args.nfas.now c.args.set.now) (map (λ (p : Part). p.range) ps)) (sym same) c.in_ok-part-items.ensures.ranges in
+    let same : parts ≡ c.in_ok-parts.parts.items = search rules in
+    let runs : IsRuns (IsLeaving c.args.nfas.now c.args.set.now) (map (λ (p : Part). p.range) parts) = subst (λ (ps : List Part). IsRuns (IsLeaving c.args.nfas.now c.args.set.now) (map (λ (p : Part). p.range) ps)) (sym same) c.in_ok-parts.ensures.ranges in
     let none : length c.loop-part.part-iterator.rest.items ≡ 0 = search rules in
     let end = no_more parts c.loop-part.part-iterator.rest.items k (sym c.loop-part.invariant.rest) none c.loop-part.invariant.within in
     edging_done c.args.nfas.now c.requires.automata c.args.self.now.kernels.list c.args.self.now.origins.items c.args.number c.args.set.now (map (λ (p : Part). p.range) parts) runs c.requires.here

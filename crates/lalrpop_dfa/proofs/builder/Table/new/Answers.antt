@@ -9,12 +9,12 @@ closure-requires-clause-inside c =
     rw (c.deref.ensures.value, c.in_ok-starts.ensures) i
 
 pub add_state-requires : goal.add_state-requires
-add_state-requires c = clones_equal
+add_state-requires c = record { clones = clones_equal }
 
 pub returns : goal.returns
 unfolding first_set_of
 returns c =
-    let first = first_added c.new-kernels.result c.add_state.new.self c.in_ok-first.first c.new-kernels.ensures c.in_ok-add_state.ensures.list in
+    let first = first_added c.new-kernels.result c.add_state.new.self c.in_ok-first.first c.new-kernels.ensures.empty c.in_ok-add_state.ensures.list in
     let starts = c.deref.ensures.value ∙ c.in_ok-starts.ensures in (
       first.0 ∙ ap (λ s. s ∷ []) (c.in_ok-first.ensures ∙ ap (closed c.args.nfas.now) starts),
       first.1,

@@ -17,7 +17,7 @@ invariant_of-self-in-None g c =
     let total = g.met.K.Ord.total in
     let ks = c.self.inside.kernels.items in
     let absent : get g.K.Ord.cmp c.self.inside.numbers c.args.kernel ≡ None = sym c.in-None.ensures.value in
-    let same = c.requires c.args.kernel c.in_ok-copy-in-None.copy c.in_ok-copy-in-None.ensures.cases in
+    let same = c.requires.clones c.args.kernel c.in_ok-copy-in-None.copy c.in_ok-copy-in-None.ensures.cases in
     let number : c.len-number.result ≡ length ks = c.len-number.ensures ∙ c.self.inside.kernels.ok.0 in
     let items : c.push.new.self.items ≡ ks ++ c.args.kernel ∷ [] = c.in_ok-push-in-None.ensures.items ∙ ap (λ xs. xs ++ c.args.kernel ∷ []) c.reserve.ensures.items in
     let updates = rw number at c.in_ok-insert-in-None.ensures.updates in
@@ -29,7 +29,7 @@ returns-in_ok-push-in-None-clause-distinct g c =
     let total = g.met.K.Ord.total in
     let ks = c.self.inside.kernels.items in
     let absent : get g.K.Ord.cmp c.self.inside.numbers c.args.kernel ≡ None = sym c.in-None.ensures.value in
-    let same = c.requires c.args.kernel c.in_ok-copy-in-None.copy c.in_ok-copy-in-None.ensures.cases in
+    let same = c.requires.clones c.args.kernel c.in_ok-copy-in-None.copy c.in_ok-copy-in-None.ensures.cases in
     let number : c.len-number.result ≡ length ks = c.len-number.ensures ∙ c.self.inside.kernels.ok.0 in
     let items : c.push.new.self.items ≡ ks ++ c.args.kernel ∷ [] = c.in_ok-push-in-None.ensures.items ∙ ap (λ xs. xs ++ c.args.kernel ∷ []) c.reserve.ensures.items in
     let updates = rw number at c.in_ok-insert-in-None.ensures.updates in
@@ -40,7 +40,7 @@ pub returns-in_ok-push-in-None-clause-number : goal.returns-in_ok-push-in-None-c
 returns-in_ok-push-in-None-clause-number g c =
     let ks = c.self.inside.kernels.items in
     let items : c.push.new.self.items ≡ ks ++ c.args.kernel ∷ [] = c.in_ok-push-in-None.ensures.items ∙ ap (λ xs. xs ++ c.args.kernel ∷ []) c.reserve.ensures.items in
-    (c.len-number.result, c.index-in-None.ensures, rw (items, c.len-number.ensures ∙ c.self.inside.kernels.ok.0) (number_pushed g.met.K.Ord.total ks c.args.kernel))
+    (c.len-number.result, c.index-in-None.ensures.value, rw (items, c.len-number.ensures ∙ c.self.inside.kernels.ok.0) (number_pushed g.met.K.Ord.total ks c.args.kernel))
 
 pub returns-in_ok-push-in-None-clause-list : goal.returns-in_ok-push-in-None-clause-list
 returns-in_ok-push-in-None-clause-list g c =
