@@ -247,7 +247,10 @@ fn a_match_is_the_longest(rt: HostRuntime) -> Result<(), Fail> {
 #[test]
 fn built_once_and_run(rt: HostRuntime) -> Result<(), Fail> {
     let alloc = rt.alloc();
-    let regexs = vec![in alloc; parse_literal(alloc, "class")?, parse_regex(alloc, "[a-z]+")?]?;
+    let regexs = vec![in alloc;
+        parse_literal(alloc, "class")?,
+        parse_regex(alloc, "[a-z]+")?,
+    ]?;
     let dfa = build_dfa(alloc, &regexs, &[Precedence(1), Precedence(0)])?;
     let mut place = None;
     if let Some((index, text)) = interpret(&dfa, "classz") {
