@@ -1,7 +1,7 @@
 //! A lexer that is built once and cuts any number of texts into tokens.
 //!
 //! A `Lexer` holds patterns, their precedences and the automaton of both; that they belong together, and that no word is
-//! ambiguous, is an invariant of the type, so no call of it has a condition.
+//! ambiguous, is an invariant of the type, so only building it has a condition.
 #![tactic(auto)]
 
 mod error;
