@@ -24,5 +24,6 @@ pub use ending::{Ending, Failure};
 pub use error::RunError;
 pub use longest::longest_match;
 pub use outcome::Outcome;
+pub use terminals::{Terminals, read_terminals};
 pub use watched::Watched;
 pub use words::arguments;

@@ -7,7 +7,7 @@ use lalrpop_lexer::lexer::dfa::Precedence;
 use lalrpop_lexer::lexer::re::Regex;
 use std::alloc::{AllocError, Global};
 
-/// What all lines say.
+/// What all lines say. Lines are numbered from 0.
 #[derive(Drop)]
 pub enum Terminals {
     /// Each line is a terminal; their patterns and precedences in order.
@@ -25,9 +25,11 @@ pub enum Terminals {
     },
 }
 
-/// Judges the lines in order, up to the first that is no terminal.
+/// Judges the lines `P l TEXT` and `P r PATTERN` in order, up to the first that is no terminal: a precedence of 1 to 20
+/// decimal digits, a space, the letter `l` or `r`, a space, and a literal or a pattern. Each line ends at a line feed, which
+/// the last may lack.
 pub fn read_terminals(alloc: Global, bytes: &[u8]) -> Result<Terminals, AllocError>
-    ensures { IfOk result (λ terminals. AreSaid bytes.now terminals) }
+    ensures said { IfOk result (λ terminals. AreSaid bytes.now terminals) }
 {
     let mut regexs = Vec::new(alloc);
     let mut precedences = Vec::new(alloc);

@@ -11,7 +11,7 @@ returns-in-Bad c =
     let line = c.in-Some.line.now in
     let after = lines c.in-Some.after.now in
     let said = rw c.in-Bad.is at c.in_ok-meaning_of.ensures in
-    rw (so_far.1.0, c.in-Some.ensures.lines, c.len-number.ensures, c.loop-line.regexs.ok.0) (FirstSays-after so_far.0 _ _ line after Bad so_far.1.1 said)
+    rw (so_far.1.0, c.in-Some.ensures.lines, c.len-number.ensures, c.loop-line.regexs.ok.0) (record { said = FirstSays-after so_far.0 _ _ line after Bad so_far.1.1 said })
 
 pub returns-in-NoTree : goal.returns-in-NoTree
 returns-in-NoTree c =
@@ -19,7 +19,7 @@ returns-in-NoTree c =
     let line = c.in-Some.line.now in
     let after = lines c.in-Some.after.now in
     let said = rw c.in-NoTree.is at c.in_ok-meaning_of.ensures in
-    rw (so_far.1.0, c.in-Some.ensures.lines, c.len-number.ensures, c.loop-line.regexs.ok.0) (FirstSays-after so_far.0 _ _ line after NoTree so_far.1.1 said)
+    rw (so_far.1.0, c.in-Some.ensures.lines, c.len-number.ensures, c.loop-line.regexs.ok.0) (record { said = FirstSays-after so_far.0 _ _ line after NoTree so_far.1.1 said })
 
 pub loop-line-preserved : goal.loop-line-preserved
 loop-line-preserved c =

@@ -1,0 +1,4 @@
+pub mod Rules
+pub mod Code
+pub mod Building
+pub mod Cut
