@@ -1,14 +1,14 @@
 -- Cases of specs/Compiled.antt: the automaton of the literal `a`.
-use Rattle.std.proofs.Common.{◌≡◌, ℕ, zero, suc, ◌≤◌, List, [], ◌∷◌, length, get_or, true, None, Some, refl, sym, ap, subst, ◌∙◌, arith}
-use Rattle.std.specs.Prelude.{◌≢◌, ◌↔◌, slice_get}
+use Rattle.std.proofs.Common.{◌≡◌, ◌≢◌, ℕ, zero, suc, ◌≤◌, List, [], ◌∷◌, length, get_or, true, None, Some, refl, sym, ap, subst, ◌∙◌, arith}
+use Rattle.std.specs.Prelude.{◌↔◌, slice_get}
 use Rattle.std.specs.List.{Contains}
 use Rattle.lalrpop_hir.specs.Range.{Range, Covers}
 use Rattle.lalrpop_hir.specs.Tree.{Tree, unicode, empty, literal, repetition}
 use Rattle.lalrpop_nfa.specs.Graph.{Graph}
-use Rattle.lalrpop_nfa.specs.Path.{test, Path}
-use Rattle.lalrpop_nfa.specs.Compiled.{IsClassLabel, IsLabel, ReadsWordsOf, IsCompiled, HasFixedEdges}
 use Rattle.lalrpop_nfa.specs.Lists.{Lists}
 use Rattle.lalrpop_nfa.specs.Meet.{Meet}
+use Rattle.lalrpop_nfa.specs.Path.{noop, test, other, Path}
+use Rattle.lalrpop_nfa.specs.Compiled.{IsClassLabel, IsLabel, ReadsWordsOf, IsCompiled, edges_from, only_other, only_noop, HasFixedEdges}
 use Rattle.lalrpop_nfa.specs.declared.edge.Edge.{Edge}
 use Rattle.lalrpop_nfa.specs.declared.edge.StateKind.TheVariants.{Accept, Reject, Neither}
 use Rattle.lalrpop_nfa.proofs.Cases.Path.{just_a, edges_of_a, noop_is, test_is, other_is, path_of_a, path_reads_a_alone}
@@ -75,11 +75,11 @@ label_of_a e h =
     subst (λ r. IsLabel a r × (r.start ≤ r.end) × (r.end ≤ 1114111)) (sym is)
     ((97, ((0, omega arith, refl), refl)), omega arith, omega arith)
 
--- test edges at two places are apart, as there is one
-one_edge_alone : (i j : ℕ) (e f : Edge Range) → slice_get graph_of_a.edges.tests i ≡ Some e → slice_get graph_of_a.edges.tests j ≡ Some f → i ≢ j → e.from ≡ f.from → ¬ Meet e.label f.label
-one_edge_alone zero zero e f h g n same m = n refl
-one_edge_alone zero (suc j) e f h g n same m = absurd cc
-one_edge_alone (suc i) j e f h g n same m = absurd cc
+-- test edges are apart, as there is one
+one_edge_by_place : (i j : ℕ) (e f : Edge Range) → slice_get graph_of_a.edges.tests i ≡ Some e → slice_get graph_of_a.edges.tests j ≡ Some f → i ≢ j → e.from ≡ f.from → ¬ Meet e.label f.label
+one_edge_by_place zero zero e f h g n same m = n refl
+one_edge_by_place zero (suc j) e f h g n same m = absurd (cc)
+one_edge_by_place (suc i) j e f h g n same m = absurd (cc)
 
 -- the automaton is compiled from `a`
 pub automaton_is_compiled_from_a : IsCompiled a graph_of_a
@@ -93,7 +93,7 @@ automaton_is_compiled_from_a = record {
   tests_in = λ e h. let is = test_is e.from e.to e.label h in (omega (arith, is.0), omega (arith, is.1), (λ f. omega (arith, is.0, f)), (λ f. omega (arith, is.1, f)));
   others_in = λ e h. let is = other_is e.from e.to h in (is.0, is.1);
   labels = label_of_a;
-  apart = one_edge_alone;
+  apart = one_edge_by_place;
 }
 
 -- not from the empty tree, and not from `b`
@@ -103,11 +103,18 @@ automaton_is_not_compiled_from_the_empty_tree c = does_not_read_the_empty_word c
 automaton_is_not_compiled_from_b : ¬ IsCompiled (literal (98 ∷ [])) graph_of_a
 automaton_is_not_compiled_from_b c = does_not_read_the_words_of_b c.reads
 
--- ---- the edges of the fixed states
+-- ---- the edges that leave ACCEPT, REJECT and START
 
-fixed_edges_are_there : HasFixedEdges graph_of_a.edges
-fixed_edges_are_there = record { accept = refl; reject = refl; start = (3, refl); }
+-- state 3 has a test edge and an other edge
+edges_before_the_letter : edges_from 3 edges_of_a ≡ record { noops = []; tests = test 3 just_a 0 ∷ []; others = other 3 1 ∷ [] }
+edges_before_the_letter = refl
 
--- an automaton without edges hasn't these
-no_edges_are_too_few : ¬ HasFixedEdges (record { noops = []; tests = []; others = [] })
-no_edges_are_too_few h = let n : 0 ≡ 1 = ap (λ (e : Lists). length e.others) h.accept in omega (arith, n)
+edges_of_the_fixed_states : HasFixedEdges edges_of_a
+edges_of_the_fixed_states = record { accept = refl; reject = refl; start = (3, refl) }
+
+-- without edges, or with a second one at START, they aren't fixed
+no_edges_are_not_fixed : ¬ HasFixedEdges (record { noops = []; tests = []; others = [] })
+no_edges_are_not_fixed h = let n : 0 ≡ 1 = ap (λ (e : Lists). length e.others) h.accept in omega (arith, n)
+
+two_edges_at_start_are_not_fixed : ¬ HasFixedEdges (record edges_of_a { noops = noop 2 3 ∷ noop 2 4 ∷ [] })
+two_edges_at_start_are_not_fixed h = let n : 2 ≡ 1 = ap (λ (e : Lists). length e.noops) h.start.1 in omega (arith, n)
