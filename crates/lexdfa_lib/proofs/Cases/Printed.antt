@@ -1,7 +1,7 @@
 -- Cases of specs/Printed.antt.
 use Rattle.std.proofs.Common.{◌≡◌, codes, refl}
 use Rattle.std.specs.Fmt.{digits}
-use Rattle.lalrpop_lexer.specs.declared.lexer.nfa.error.NfaConstructionError.TheVariants.{NonGreedy}
+use Rattle.lalrpop_lexer.specs.declared.lexer.nfa.NfaConstructionError.TheVariants.{NonGreedy}
 use Rattle.lexdfa_lib.specs.Printed.{line_of}
 use Rattle.lexdfa_lib.specs.declared.outcome.Outcome.TheVariants.{Match, NoMatch, Refused, Ambiguous, Syntax, Line}
 
