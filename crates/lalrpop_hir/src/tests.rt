@@ -173,3 +173,22 @@ fn clones_show_what_their_sources_show(rt: HostRuntime) -> Result<(), Fail> {
     }
     Ok(())
 }
+
+#[test]
+fn clones_of_parts_show_what_their_sources_show(rt: HostRuntime) -> Result<(), Fail> {
+    let alloc = rt.alloc();
+    let lazy = Repetition::new(2, Some(4), false, Box::new(alloc, Hir::look(Look::EndLF))?);
+    let copy = lazy.clone()?;
+    assert_eq!(rt;
+        format!(in alloc; "{copy:?}")?,
+        format!(in alloc; "{lazy:?}")?
+    );
+    let name = String::from_str(alloc, "year")?;
+    let named = Capture::new(Some(name), Box::new(alloc, Hir::literal(alloc, "é")?)?);
+    let copy = named.clone()?;
+    assert_eq!(rt;
+        format!(in alloc; "{copy:?}")?,
+        format!(in alloc; "{named:?}")?
+    );
+    Ok(())
+}

@@ -76,6 +76,10 @@ impl Nfa {
     }
 
     // A state for one character.
+    //
+    //     [state] --c------> [target]
+    //        |
+    //        +-----other---> [REJECT]
     fn letter(&mut self, c: char, target: NfaStateIndex) -> Result<NfaStateIndex, AllocError>
         requires { LeavesStates self.old }
         ensures { IfOk result (Grows (made.letter c) target self.old self.new) }
@@ -86,7 +90,9 @@ impl Nfa {
         Ok(state)
     }
 
-    // A state for each character of the text, the last first.
+    // A state for each character of the text, the last first. For the text `abc`:
+    //
+    //     [entry] --a--> [ ] --b--> [ ] --c--> [target]      and from each --other--> [REJECT]
     fn literal(&mut self, text: &str, target: NfaStateIndex) -> Result<NfaStateIndex, AllocError>
         requires { LeavesStates self.old }
         ensures grown { IfOk result (Grows (made.letters (chars text.now)) target self.old self.new) }
@@ -99,7 +105,11 @@ impl Nfa {
         Ok(entry)
     }
 
-    // A state for a set of characters.
+    // A state for a set of characters. For the set of two ranges:
+    //
+    //     [state] --first range---> [target]
+    //        |  +---second range--> [target]
+    //        +------other---------> [REJECT]
     fn characters(
         &mut self,
         ranges: &[ClassUnicodeRange],
@@ -116,7 +126,7 @@ impl Nfa {
         Ok(state)
     }
 
-    // A state for a set of bytes.
+    // A state for a set of bytes, with edges like those of a set of characters.
     fn bytes(
         &mut self,
         ranges: &[ClassBytesRange],
@@ -211,6 +221,12 @@ impl Nfa {
     }
 
     // Any number of turns: gives the state before which no turn was taken, and the state at which a first turn begins.
+    //
+    //     [state] --noop--> [target]
+    //      |   ^
+    //    noop  | (the sub ends here)
+    //      v   |
+    //     [turn: the sub]
     #[cycle(expr)]
     fn any_turns(
         &mut self,
@@ -229,7 +245,9 @@ impl Nfa {
         Ok((state, turn))
     }
 
-    // So many copies, one towards the other.
+    // So many copies, one towards the other. For three of them:
+    //
+    //     [entry: the sub] --> [the sub] --> [the sub] --> [target]
     #[cycle(expr)]
     fn copies(
         &mut self,
@@ -270,6 +288,10 @@ impl Nfa {
     }
 
     // What may be left out.
+    //
+    //     [state] --noop------------------> [target]
+    //        |                                 ^
+    //        +------noop--> [turn: the sub] ---+
     #[cycle(expr)]
     fn optional(
         &mut self,
@@ -287,7 +309,9 @@ impl Nfa {
         Ok(state)
     }
 
-    // One tree after another, the last first.
+    // One tree after another, the last first. For three of them:
+    //
+    //     [entry: first] --> [second] --> [third] --> [target]
     #[cycle(expr)]
     fn in_turn(
         &mut self,
@@ -307,7 +331,11 @@ impl Nfa {
         Ok(entry)
     }
 
-    // One state, and then each tree towards the target.
+    // One state, and then each tree towards the target. For two of them:
+    //
+    //     [state] --noop--> [first] ---> [target]
+    //        |                              ^
+    //        +------noop--> [second] -------+
     #[cycle(expr)]
     fn fork(
         &mut self,
