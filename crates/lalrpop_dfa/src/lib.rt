@@ -7,8 +7,6 @@ mod builder;
 mod clone;
 mod closure;
 mod equality;
-#[cfg(test)]
-mod equality_tests;
 mod error;
 pub mod interpret;
 mod items;

@@ -16,9 +16,6 @@ use super::{Nfa, NfaStateIndex, Noop, Other, START, Steps, Test};
 use std::alloc::{AllocError, Global};
 use std::mem;
 
-#[cfg(test)]
-mod tests;
-
 /// The longest beginning of the text, the empty one included, that the automaton's pattern matches: a slice of the
 /// text, or `None` where the pattern matches no beginning.
 pub fn interpret<'text>(

@@ -13,8 +13,6 @@ mod number;
 mod opening;
 mod operator;
 mod parser;
-#[cfg(test)]
-mod pattern_tests;
 mod sets;
 #[cfg(test)]
 mod tests;

@@ -1,7 +1,7 @@
 //! Patterns from their texts to the longest match, the clash or the refusal.
 
 use crate::longest_match;
-use lalrpop_lexer::lexer::dfa::{DfaConstructionError, Precedence, START, build_dfa};
+use lalrpop_lexer::lexer::dfa::{DfaConstructionError, Precedence};
 use lalrpop_lexer::lexer::nfa::Nfa;
 use lalrpop_lexer::lexer::nfa::interpret::interpret;
 use lalrpop_lexer::lexer::re::{
@@ -9,7 +9,6 @@ use lalrpop_lexer::lexer::re::{
 };
 use std::alloc::{AllocError, Global};
 use std::process::Abort;
-use std::slice;
 use std::test::Fail;
 
 // An error on one line.
@@ -206,30 +205,6 @@ fn one_pattern(rt: HostRuntime) -> Result<(), Fail> {
         let nfa = Nfa::from_re(rt.alloc(), &parse_regex(rt.alloc(), pattern)?)?;
         let found = interpret(rt.alloc(), &nfa, text)?;
         assert_eq!(rt; found, want, "of {pattern} in {text}");
-    }
-    Ok(())
-}
-
-// The two automata of a letter: how many states the one has, and each state and edge of the other.
-#[test]
-fn automata_of_a_letter(rt: HostRuntime) -> Result<(), Fail> {
-    let alloc = rt.alloc();
-    let letter = parse_literal(alloc, "a")?;
-    assert_eq!(rt; Nfa::from_re(alloc, &letter)?.len(), 4);
-    let dfa = build_dfa(alloc, slice::from_ref(&letter), &[Precedence(0)])?;
-    let states = dfa.states();
-    let wanted = ["Neither Dfa2", "Accepts(NfaIndex(0)) Dfa2", "Reject Dfa2"];
-    assert_eq!(rt; states.len(), wanted.len());
-    for (state, line) in states.iter().zip(wanted.iter()) {
-        let kind = state.kind();
-        let other = state.other_edge();
-        assert_eq!(rt; format!(in alloc; "{kind:?} {other}")?.as_str(), *line);
-    }
-    assert!(rt; START.index() < states.len());
-    let edges = dfa.test_edges(START);
-    assert_eq!(rt; edges.len(), 1);
-    for (label, target) in edges {
-        assert_eq!(rt; format!(in alloc; "{label:?} {target}")?.as_str(), "a Dfa1");
     }
     Ok(())
 }

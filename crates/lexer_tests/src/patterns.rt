@@ -1,6 +1,6 @@
 //! What patterns are read as, and where and why others are refused.
 
-use crate::{Class, ClassUnicode, Hir, HirKind, Look, RegexError, SyntaxKind, parse_regex};
+use lalrpop_re::{Class, ClassUnicode, Hir, HirKind, Look, RegexError, SyntaxKind, parse_regex};
 use std::alloc::{AllocError, Global};
 use std::fmt::Write;
 use std::process::Abort;

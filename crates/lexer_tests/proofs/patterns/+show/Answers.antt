@@ -1,7 +1,7 @@
 use Rattle.std.proofs.Common.{arith, ap}
 use Rattle.lalrpop_hir.specs.Tree.{depth}
 use Rattle.lalrpop_hir.specs.TreeFalls.{depth-le-greatest}
-use Rattle.lalrpop_re.proofs.pattern_tests.+show.Goals as goal
+use Rattle.lexer_tests.proofs.patterns.+show.Goals as goal
 
 -- a tree of a list is at most as deep as the deepest
 pub show_all-show-requires : goal.show_all-show-requires

@@ -1,6 +1,6 @@
 use Rattle.std.proofs.Common.{◌+◌, ◌*◌}
 use Rattle.lalrpop_hir.specs.Tree.{depth, greatest_depth, trees}
-use Rattle.lalrpop_re.proofs.pattern_tests.+show.Given as goal
+use Rattle.lexer_tests.proofs.patterns.+show.Given as goal
 
 abbrev pub decreases-show : goal.decreases-show
 decreases-show l = 2 * depth l.tree.now

@@ -1,6 +1,8 @@
-use super::interpret::interpret;
-use super::{Dfa, Kind, NfaIndex, Precedence, build_dfa};
-use lalrpop_hir::{Class, ClassUnicode, ClassUnicodeRange, Hir, Repetition};
+//! When automata and their states are equal, and that copies run.
+
+use lalrpop_lexer::lexer::dfa::interpret::interpret;
+use lalrpop_lexer::lexer::dfa::{Dfa, Kind, Precedence, build_dfa};
+use lalrpop_lexer::lexer::re::{Class, ClassUnicode, ClassUnicodeRange, Hir, Repetition};
 use std::alloc::{AllocError, Global};
 use std::test::Fail;
 
@@ -46,10 +48,13 @@ fn test_edges_tell_automata_apart_and_not_states(rt: HostRuntime) -> Result<(), 
 fn copies_run(rt: HostRuntime) -> Result<(), Fail> {
     let alloc = rt.alloc();
     let copy = automaton(alloc, any_text(alloc)?)?.clone()?;
-    assert_eq!(rt;
-        interpret(&copy, "\n\u{10FFFF}a"),
-        Some((NfaIndex(0), "\n\u{10FFFF}a"))
-    );
-    assert_eq!(rt; interpret(&copy, ""), None);
+    match interpret(&copy, "\n\u{10FFFF}a") {
+        Some((index, text)) => {
+            assert_eq!(rt; index.index(), 0);
+            assert_eq!(rt; text, "\n\u{10FFFF}a");
+        }
+        None => assert!(rt; false),
+    }
+    assert!(rt; interpret(&copy, "").is_none());
     Ok(())
 }
