@@ -1,9 +1,11 @@
 -- Cases of specs/Escape.antt.
-use Rattle.std.proofs.Common.{◌≡◌, ℕ, [], ◌∷◌, true, false, Some, None, codes, refl, sym, subst, ◌∙◌, lit<}
+use Rattle.std.proofs.Common.{◌≡◌, ℕ, [], ◌∷◌, true, false, Some, None, codes, refl, sym, subst, ◌∙◌, lit<, arith}
 use Rattle.lalrpop_hir.specs.declared.hir.Look.TheVariants.{WordStartUnicode, WordUnicode}
 use Rattle.lalrpop_re.specs.Text.{Text}
-use Rattle.lalrpop_sets.specs.CharacterSet.{is_scalar}
-use Rattle.lalrpop_re.specs.Escape.{Escaped, character, assertion, this, code, unknown, is_mark, sign, begins_edge, is_set_name_char, hex_value, IsHex, at_once, digits_alone, digits_braced, edge_alone, edge_start, Escape, escape_of}
+use Rattle.lalrpop_sets.specs.CharacterSet.{Set, is_scalar}
+use Rattle.lalrpop_sets.specs.NamedSet.{named}
+use Rattle.unicode.specs.Loose.{normalize}
+use Rattle.lalrpop_re.specs.Escape.{Escaped, character, assertion, this, code, unknown, is_mark, sign, begins_edge, is_set_name_char, hex_value, IsHex, IsSetName, at_once, digits_alone, digits_braced, edge_alone, edge_start, Escape, escape_of}
 use Rattle.lalrpop_re.specs.Internal.Reading as reading
 use Rattle.lalrpop_re.proofs.Escapes.{Escape-complete}
 
@@ -69,3 +71,11 @@ unknown_escape r e h = let none : reading.escape (codes "q") ≡ None = refl in 
 escape_with_a_digit_too_few : (r : Text) (e : Escaped) → ¬ Escape (codes "x4") r e
 unfolding reading.escape reading.signed sign reading.digits_of
 escape_with_a_digit_too_few r e h = let none : reading.escape (codes "x4") ≡ None = refl in not_nothing (e, r) (sym (Escape-complete h) ∙ none)
+
+-- `any` is the name of a set; nothing at all is none
+name_of_all_characters : IsSetName (codes "any") is_scalar
+unfolding named normalize
+name_of_all_characters = record { not_empty = omega arith; spelled = refl; found = refl }
+
+empty_name_of_a_set : (s : Set) → ¬ IsSetName [] s
+empty_name_of_a_set s h = absurd (omega (arith, h.not_empty))
