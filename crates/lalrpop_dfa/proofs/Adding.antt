@@ -12,7 +12,7 @@ use Rattle.std.proofs.lemmas.Map.Lookups.{CmpEqualImpliesEq}
 use Rattle.std.proofs.lemmas.Option.{slice_get_within}
 use Rattle.lalrpop_nfa.specs.Graph.{Graph}
 use Rattle.lalrpop_dfa.specs.Items.{Item}
-use Rattle.lalrpop_dfa.specs.Kernels.{Kernels, IsNumberOf, added}
+use Rattle.lalrpop_kernels.specs.Kernels.{Kernels, IsNumberOf, added}
 use Rattle.lalrpop_nfa.specs.Compiled.{start_state}
 use Rattle.lalrpop_dfa.specs.Internal.Machine.{starts_from, no_graph, move}
 use Rattle.std.specs.Cmp.Lexicographic.{slice_cmp}

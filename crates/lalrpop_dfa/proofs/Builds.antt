@@ -7,7 +7,7 @@ use Rattle.std.proofs.lemmas.Option.{slice_get_cases, slice_get_within, slice_ge
 use Rattle.lalrpop_hir.specs.Range.{Range, Covers}
 use Rattle.lalrpop_hir.specs.Tree.{Tree}
 use Rattle.lalrpop_nfa.specs.Graph.{Graph}
-use Rattle.lalrpop_dfa.specs.Runs.{IsRuns}
+use Rattle.lalrpop_ranges.specs.Runs.{IsRuns}
 use Rattle.lalrpop_dfa.specs.Dfa.{Row, Stands, IsTable}
 use Rattle.lalrpop_dfa.specs.Clash.{NoClash}
 use Rattle.lalrpop_dfa.specs.Items.{Item, AreCompiled, IsLeaving, HoldsItems, OthersReject, IsInWordOrder}

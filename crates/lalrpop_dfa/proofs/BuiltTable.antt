@@ -6,7 +6,7 @@ use Rattle.std.proofs.lemmas.Option.{slice_get_cases, slice_get_within}
 use Rattle.lalrpop_hir.specs.Range.{Range, Covers}
 use Rattle.lalrpop_hir.specs.Tree.{Tree}
 use Rattle.lalrpop_nfa.specs.Graph.{Graph}
-use Rattle.lalrpop_dfa.specs.Runs.{IsCovered, AreAscending, IsRuns}
+use Rattle.lalrpop_ranges.specs.Runs.{IsCovered, AreAscending, IsRuns}
 use Rattle.lalrpop_dfa.specs.Clash.{NoClash}
 use Rattle.lalrpop_dfa.specs.Dfa.{Row, leads, step, run, after as state_after, Says, IsReject, Stands, AreAscendingTests, IsTable}
 use Rattle.lalrpop_dfa.specs.Items.{Item, AreCompiled, IsReached, IsLeaving, HoldsItems, OthersReject, IsInWordOrder}
@@ -21,7 +21,7 @@ use Rattle.lalrpop_dfa.proofs.Numbering.{word_reaches, in_order}
 use Rattle.lalrpop_dfa.proofs.Sets.{same_items}
 use Rattle.lalrpop_dfa.proofs.ReachedItems.{after_ascends, reached_items}
 use Rattle.lalrpop_dfa.proofs.Dead.{dead_states, dead_from, dead_stays, large_uncovered, large_dead, uncovered_same}
-use Rattle.lalrpop_dfa.proofs.RunCover.{outside_runs}
+use Rattle.lalrpop_dfa.proofs.LeavingRuns.{outside_runs}
 use Rattle.lalrpop_dfa.proofs.SetWinners.{dead_kind, reject_kind, kind_says, kind_not_ambiguous}
 
 is_some_and : {A : Type 0} (o : Option A) (P : A → Type 0) (x : A) → o ≡ Some x → P x → IsSomeAnd o P

@@ -3,8 +3,6 @@ mod Winners
 mod Clash
 mod Longest
 mod Report
-mod Runs
 mod Dfa
 mod Items
-mod Kernels
 mod SameAutomata

@@ -6,7 +6,7 @@ use Rattle.lalrpop_hir.specs.Tree.{Tree}
 use Rattle.lalrpop_nfa.specs.Graph.{Graph}
 use Rattle.lalrpop_nfa.specs.Path.{Reads, Path, here, skip, read, fall, noop, test, other}
 use Rattle.lalrpop_nfa.specs.Compiled.{IsCompiled, reject_state}
-use Rattle.lalrpop_dfa.specs.Runs.{IsCovered, Alike}
+use Rattle.lalrpop_ranges.specs.Runs.{IsCovered, Alike}
 use Rattle.lalrpop_dfa.specs.Items.{Item, AreCompiled, IsLeaving}
 use Rattle.lalrpop_dfa.specs.Internal.Ascending.{IsItemOf}
 use Rattle.lalrpop_dfa.specs.Internal.Machine.{follows_silently, item_targets, move, is_dead}

@@ -18,7 +18,7 @@ use Rattle.lalrpop_nfa.specs.Graph.{Graph}
 use Rattle.lalrpop_nfa.specs.Path.{test}
 use Rattle.lalrpop_nfa.specs.Walk.{leaves}
 use Rattle.lalrpop_dfa.specs.Items.{Item, IsLeaving}
-use Rattle.lalrpop_dfa.specs.Runs.{IsRuns}
+use Rattle.lalrpop_ranges.specs.Runs.{IsRuns}
 use Rattle.lalrpop_nfa.specs.declared.edge.Edge.{Edge}
 use Rattle.lalrpop_dfa.proofs.Members.{Has, has_at, has_from, contains_from, has_filter, filter_has, has_left, has_right, has_cases}
 use Rattle.lalrpop_dfa.proofs.RowSteps.{NotEmpty, ascending_at}

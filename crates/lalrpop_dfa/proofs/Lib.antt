@@ -3,7 +3,6 @@ pub mod WordOrder
 pub mod Origins
 pub mod Numbering
 pub mod Steps
-pub mod NumberedLemmas
 pub mod Clashes
 pub mod Longests
 pub mod Members
@@ -15,16 +14,12 @@ pub mod ReachedItems
 pub mod Dead
 pub mod LeadsLemmas
 pub mod LongestLemmas
-pub mod Cells
-pub mod Runs
-pub mod Sweep
-pub mod RunsUnique
 pub mod Noting
 pub mod WorklistSteps
 pub mod Moving
 pub mod Bests
 pub mod LabelSets
-pub mod RunCover
+pub mod LeavingRuns
 pub mod SetWinners
 pub mod BuiltTable
 pub mod TiedClash
@@ -37,7 +32,6 @@ pub mod Compiling
 mod LeadSteps
 mod LeadMoves
 -- laws for callers
-pub mod PartLaws
 pub mod Strongest
 pub mod Agreeing
 pub mod AfterLaws

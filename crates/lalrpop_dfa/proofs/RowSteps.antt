@@ -7,7 +7,7 @@ use Rattle.std.proofs.lemmas.Option.{slice_get_within, slice_get_cases}
 use Rattle.lalrpop_hir.specs.Range.{Range, Covers}
 use Rattle.lalrpop_hir.specs.Tree.{Tree}
 use Rattle.lalrpop_nfa.specs.Graph.{Graph}
-use Rattle.lalrpop_dfa.specs.Runs.{AreAscending, IsRuns}
+use Rattle.lalrpop_ranges.specs.Runs.{AreAscending, IsRuns}
 use Rattle.lalrpop_dfa.specs.Items.{Item, AreCompiled, IsLeaving}
 use Rattle.lalrpop_dfa.specs.Internal.Machine.{move, is_dead}
 use Rattle.lalrpop_dfa.specs.Internal.Numbering.{Machine, Numbering, Added, nth}
@@ -15,7 +15,7 @@ use Rattle.lalrpop_dfa.specs.Internal.Built.{machine_of}
 use Rattle.lalrpop_dfa.proofs.Members.{Has, has_from, contains_from, has_at, at_has, has_cases}
 use Rattle.lalrpop_dfa.proofs.Steps.{numbering_gap, numbering_added, numbering_spread, numbering_next}
 use Rattle.lalrpop_dfa.proofs.Dead.{uncovered_dead, covered_small}
-use Rattle.lalrpop_dfa.proofs.RunCover.{outside_runs, inside_run}
+use Rattle.lalrpop_dfa.proofs.LeavingRuns.{outside_runs, inside_run}
 
 -- sets that have a number keep it
 pub added_keeps : {S : Type 0} (m : Machine S) (sets : List S) (origins : List (ℕ × ℕ)) (n v : ℕ) (t : S) (j : ℕ) (sets2 : List S) (origins2 : List (ℕ × ℕ))

@@ -1,9 +1,7 @@
-pub mod Sweep
 pub mod Numbering
 pub mod Ascending
 pub mod ItemOrder
 pub mod Machine
-pub mod Numbered
 pub mod Built
 pub mod Worklist
 pub mod Builder

@@ -7,7 +7,7 @@ use Rattle.lalrpop_hir.specs.Tree.{Tree}
 use Rattle.lalrpop_nfa.specs.Graph.{Graph}
 use Rattle.lalrpop_nfa.specs.Path.{Path, test}
 use Rattle.lalrpop_nfa.specs.Compiled.{IsCompiled, start_state, reject_state}
-use Rattle.lalrpop_dfa.specs.Runs.{Ranges, IsRuns}
+use Rattle.lalrpop_ranges.specs.Runs.{Ranges, IsRuns}
 use Rattle.lalrpop_dfa.specs.Dfa.{Row, after}
 use Rattle.lalrpop_dfa.specs.declared.Kind.TheVariants.{Reject}
 

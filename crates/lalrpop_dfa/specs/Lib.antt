@@ -1,11 +1,12 @@
+-- what the contracts of this crate name of those below
+pub use Rattle.lalrpop_ranges.specs.Runs
+pub use Rattle.lalrpop_kernels.specs.Kernels
 pub mod Winners
 pub mod Clash
 pub mod Longest
 pub mod Report
-pub mod Runs
 pub mod Dfa
 pub mod Items
-pub mod Kernels
 pub mod SameAutomata
 pub mod Agree
 -- what private functions promise one another, which no promise to a caller names

@@ -17,8 +17,9 @@ use super::closure::{advance, closure};
 use super::items::{Item, ItemSet, Origin};
 use super::parts::{Leads, Part, parts_of};
 use super::{Dfa, DfaConstructionError, DfaStateIndex, NfaIndex, Precedence, State};
-use crate::kernel_set::KernelSet;
-use lalrpop_nfa::{Nfa, START, Test};
+use lalrpop_kernels::KernelSet;
+use lalrpop_nfa::{Nfa, START};
+use lalrpop_ranges::Test;
 use std::alloc::{AllocError, Global};
 use std::collections::BTreeMap;
 

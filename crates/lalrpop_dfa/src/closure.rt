@@ -8,7 +8,8 @@ ghost use Rattle.lalrpop_dfa.specs.Internal.Machine.{closed, tested, fallen, ite
 ghost use Rattle.lalrpop_dfa.specs.Internal.Worklist.{IsNoted, silent_steps};
 
 use super::items::{Item, ItemSet};
-use lalrpop_nfa::{Nfa, Noop, Other, Test};
+use lalrpop_nfa::{Nfa, Noop, Other};
+use lalrpop_ranges::Test;
 use std::alloc::{AllocError, Global};
 use std::collections::BTreeSet;
 

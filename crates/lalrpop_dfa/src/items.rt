@@ -5,7 +5,7 @@ ghost use Rattle.lalrpop_dfa.specs.Internal.Ascending.{item_cmp};
 ghost use Rattle.lalrpop_dfa.specs.Internal.ItemOrder.{item_eq, set_cmp, set_eq, item_total, item_equiv, item_ties, set_total, set_equiv, set_ties};
 
 use super::{DfaStateIndex, NfaIndex};
-use crate::kernel_set::Kernel;
+use lalrpop_kernels::Kernel;
 use lalrpop_nfa::{Nfa, NfaStateIndex};
 use std::alloc::AllocError;
 use std::cmp::Ordering;

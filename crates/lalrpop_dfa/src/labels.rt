@@ -9,7 +9,8 @@ ghost use Rattle.lalrpop_hir.specs.Range.{Range};
 ghost use Rattle.lalrpop_dfa.specs.Internal.Labels.{HasAlso, labels_from};
 
 use super::items::{Item, ItemSet};
-use lalrpop_nfa::{Nfa, Test};
+use lalrpop_nfa::Nfa;
+use lalrpop_ranges::Test;
 use std::alloc::{AllocError, Global};
 use std::collections::BTreeSet;
 

@@ -10,9 +10,7 @@ mod equality;
 mod error;
 pub mod interpret;
 mod items;
-pub mod kernel_set;
 mod labels;
-pub mod overlap;
 mod parts;
 #[cfg(test)]
 mod tests;
@@ -22,7 +20,9 @@ ghost use Rattle.std.specs.Prelude.{◌≡◌, ◌<◌, length, slice_get, Some,
 pub use build::build_dfa;
 pub use error::DfaConstructionError;
 use items::ItemSet;
-use lalrpop_nfa::Test;
+pub use lalrpop_kernels as kernel_set;
+use lalrpop_ranges::Test;
+pub use lalrpop_ranges::overlap;
 use std::fmt;
 use std::marker::Model;
 

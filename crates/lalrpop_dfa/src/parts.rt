@@ -6,12 +6,13 @@ ghost use Rattle.lalrpop_dfa.specs.Internal.Ascending.{IsItemOf};
 ghost use Rattle.lalrpop_dfa.specs.Internal.Builder.{AreItemsOf};
 ghost use Rattle.lalrpop_dfa.specs.Items.{IsLeaving};
 ghost use Rattle.lalrpop_dfa.specs.Internal.Leads.{AreBare, AreLed, AreRising, Gained, IsLead};
-ghost use Rattle.lalrpop_dfa.specs.Runs.{IsRuns};
+ghost use Rattle.lalrpop_ranges.specs.Runs.{IsRuns};
 
 use super::items::{Item, ItemSet};
 use super::labels::labels_of;
-use super::overlap::remove_overlap;
-use lalrpop_nfa::{Nfa, NfaStateIndex, Test};
+use lalrpop_nfa::{Nfa, NfaStateIndex};
+use lalrpop_ranges::Test;
+use lalrpop_ranges::overlap::remove_overlap;
 use std::alloc::{AllocError, Global};
 
 /// A test edge that leaves an item of a set, without its label: the item, and the state that the edge leads to.

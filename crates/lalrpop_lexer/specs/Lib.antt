@@ -7,7 +7,7 @@ pub use Rattle.lalrpop_hir.specs.Level
 pub use Rattle.lalrpop_hir.specs.Language
 pub use Rattle.lalrpop_nfa.specs.Fault
 pub use Rattle.lalrpop_nfa.specs.Beginning
-pub use Rattle.lalrpop_nfa.specs.Meet
+pub use Rattle.lalrpop_ranges.specs.Meet
 pub use Rattle.lalrpop_nfa.specs.Lists
 pub use Rattle.lalrpop_nfa.specs.Graph
 pub use Rattle.lalrpop_nfa.specs.Path
@@ -21,9 +21,9 @@ pub use Rattle.lalrpop_dfa.specs.Winners
 pub use Rattle.lalrpop_dfa.specs.Clash
 pub use Rattle.lalrpop_dfa.specs.Longest
 pub use Rattle.lalrpop_dfa.specs.Report
-pub use Rattle.lalrpop_dfa.specs.Runs
+pub use Rattle.lalrpop_ranges.specs.Runs
 pub use Rattle.lalrpop_dfa.specs.Dfa
 pub use Rattle.lalrpop_dfa.specs.Items
-pub use Rattle.lalrpop_dfa.specs.Kernels
+pub use Rattle.lalrpop_kernels.specs.Kernels
 pub use Rattle.lalrpop_dfa.specs.SameAutomata
 pub use Rattle.lalrpop_dfa.specs.Agree

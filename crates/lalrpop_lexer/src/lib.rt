@@ -6,4 +6,4 @@
 
 pub mod lexer;
 
-pub use lalrpop_dfa::kernel_set;
+pub use lalrpop_kernels as kernel_set;

@@ -1,7 +1,6 @@
 -- Small cases of the definitions in specs/: Cases/X.antt has those of specs/X.antt.
 mod Fault
 mod Beginning
-mod Meet
 mod Walk
 mod Firsts
 mod SideBySide

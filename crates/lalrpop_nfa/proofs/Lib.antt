@@ -14,5 +14,4 @@ pub mod CompiledTree
 pub mod PathLemmas
 pub mod Cuts
 pub mod BeginningLemmas
-pub mod Meeting
 pub mod LayerLemmas

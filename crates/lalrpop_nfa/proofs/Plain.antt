@@ -5,7 +5,7 @@ use Rattle.std.specs.List.{Contains}
 use Rattle.std.specs.Option.{option_or}
 use Rattle.lalrpop_hir.specs.Range.{Range, IsScalar, IsByte, next_scalar, AreApart, HaveEndsIn}
 use Rattle.lalrpop_hir.specs.Tree.{Class, unicode, bytes, Tree, empty, literal, class, look, repetition, capture, concat, alternation, Trees, none, also}
-use Rattle.lalrpop_nfa.specs.Meet.{Meet}
+use Rattle.lalrpop_ranges.specs.Meet.{Meet}
 use Rattle.lalrpop_nfa.specs.Fault.{fault, last_fault, first_fault}
 use Rattle.lalrpop_nfa.specs.Compiled.{IsLabel, IsLabelOfSome}
 use Rattle.lalrpop_nfa.specs.Internal.Sound.{IsSound, AreSound, AreCodeValues}

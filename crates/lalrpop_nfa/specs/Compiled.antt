@@ -7,7 +7,7 @@ use Rattle.lalrpop_hir.specs.Tree.{Tree, Class, unicode, bytes, size, empty, lit
 use Rattle.lalrpop_hir.specs.Language.{Matches}
 use Rattle.lalrpop_nfa.specs.Graph.{Graph}
 use Rattle.lalrpop_nfa.specs.Lists.{Lists}
-use Rattle.lalrpop_nfa.specs.Meet.{Meet}
+use Rattle.lalrpop_ranges.specs.Meet.{Meet}
 use Rattle.lalrpop_nfa.specs.Path.{noop, other, Path}
 use Rattle.lalrpop_nfa.specs.Walk.{leaves}
 use Rattle.lalrpop_nfa.specs.declared.edge.Edge.{Edge}

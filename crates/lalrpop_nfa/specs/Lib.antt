@@ -1,6 +1,7 @@
+-- what the contracts of this crate name of the one below
+pub use Rattle.lalrpop_ranges.specs.Meet
 pub mod Fault
 pub mod Beginning
-pub mod Meet
 pub mod Walk
 pub mod Lists
 pub mod Firsts

@@ -2,7 +2,7 @@ ghost use Rattle.std.specs.Prelude.{◌≡◌, ℕ, ◌+◌, ◌<◌, List, Opti
 ghost use Rattle.std.specs.Borrow.{sem};
 ghost use Rattle.lalrpop_nfa.specs.Internal.Noted.{first_set};
 
-use super::test::Test;
+use lalrpop_ranges::Test;
 use std::fmt;
 use std::marker::Model;
 

@@ -6,7 +6,6 @@ mod edge;
 mod error;
 pub mod interpret;
 mod steps;
-mod test;
 #[cfg(test)]
 mod tests;
 
@@ -20,10 +19,10 @@ pub use edge::{
 };
 pub use error::NfaConstructionError;
 use lalrpop_hir::Regex;
+pub use lalrpop_ranges::Test;
 use std::alloc::{AllocError, Global};
 use std::marker::Model;
 pub use steps::Steps;
-pub use test::Test;
 
 /// The state in which a word is matched.
 pub const ACCEPT: NfaStateIndex = NfaStateIndex(0);

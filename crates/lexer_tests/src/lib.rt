@@ -7,6 +7,10 @@ mod automata;
 #[cfg(test)]
 mod equality;
 #[cfg(test)]
+mod kernels;
+#[cfg(test)]
 mod patterns;
+#[cfg(test)]
+mod ranges;
 #[cfg(test)]
 mod shapes;

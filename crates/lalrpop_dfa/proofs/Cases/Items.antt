@@ -10,7 +10,7 @@ use Rattle.lalrpop_nfa.specs.Graph.{Graph}
 use Rattle.lalrpop_nfa.specs.Path.{here, skip, noop, test}
 use Rattle.lalrpop_nfa.specs.Compiled.{IsLabel}
 use Rattle.lalrpop_nfa.specs.declared.edge.StateKind.TheVariants.{Accept, Reject as RejectState, Neither as NeitherState}
-use Rattle.lalrpop_dfa.specs.Runs.{IsRuns}
+use Rattle.lalrpop_ranges.specs.Runs.{IsRuns}
 use Rattle.lalrpop_dfa.specs.Dfa.{Row, after, step}
 use Rattle.lalrpop_dfa.specs.Items.{Item, AreCompiled, IsReached, IsLeaving, HoldsItems, OthersReject, IsInWordOrder}
 use Rattle.lalrpop_dfa.specs.declared.Kind.TheVariants.{Accepts, Reject, Neither}

@@ -15,7 +15,7 @@ use Rattle.lalrpop_dfa.specs.declared.parts.Leads.{Leads}
 use Rattle.lalrpop_dfa.specs.Internal.Numbering.{Numbering, nth, value_of}
 use Rattle.lalrpop_dfa.specs.Internal.Built.{machine_of, IsRowOf, IsTied}
 use Rattle.lalrpop_dfa.specs.Report.{FirstFault}
-use Rattle.lalrpop_dfa.specs.Runs.{IsRuns}
+use Rattle.lalrpop_ranges.specs.Runs.{IsRuns}
 use Rattle.lalrpop_nfa.specs.declared.error.NfaConstructionError.{NfaConstructionError}
 use Rattle.lalrpop_nfa.specs.declared.error.NfaConstructionError.TheVariants.{OutOfMemory as NoMemory}
 use Rattle.lalrpop_dfa.specs.declared.error.DfaConstructionError.{DfaConstructionError}

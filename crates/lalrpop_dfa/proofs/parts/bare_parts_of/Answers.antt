@@ -1,9 +1,9 @@
 use Rattle.std.proofs.Common.{◌≡◌, map, subst, sym, ◌∙◌, append-nil, rules, [], ◌++◌, ap}
 use Rattle.std.specs.List.{Contains}
 use Rattle.lalrpop_dfa.specs.Items.{IsLeaving}
-use Rattle.lalrpop_dfa.specs.Runs.{IsRuns}
+use Rattle.lalrpop_ranges.specs.Runs.{IsRuns}
 use Rattle.lalrpop_dfa.specs.declared.parts.Part.{Part}
-use Rattle.lalrpop_dfa.proofs.RunCover.{runs_like}
+use Rattle.lalrpop_ranges.proofs.RunCover.{runs_like}
 use Rattle.lalrpop_dfa.proofs.WorklistSteps.{nil_from}
 use Rattle.lalrpop_dfa.proofs.LeadSteps.{bare_more, still_bare}
 use Rattle.lalrpop_dfa.proofs.parts.bare_parts_of.Goals as goal

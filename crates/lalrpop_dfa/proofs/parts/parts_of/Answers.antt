@@ -1,7 +1,7 @@
 use Rattle.std.proofs.Common.{rules, ◌<◌, ◌∙◌, length, take, subst, sym}
 use Rattle.std.proofs.lemmas.List.{take_all}
 use Rattle.lalrpop_dfa.specs.Items.{IsLeaving}
-use Rattle.lalrpop_dfa.specs.Runs.{IsRuns}
+use Rattle.lalrpop_ranges.specs.Runs.{IsRuns}
 use Rattle.lalrpop_dfa.proofs.LeadSteps.{runs_rise, rising_same, no_item, next_item, all_items_led}
 use Rattle.lalrpop_dfa.proofs.parts.parts_of.Goals as goal
 

@@ -1,7 +1,7 @@
 use Rattle.std.proofs.Common.{◌≡◌, ℕ, ◌+◌, List, [], ◌∷◌, length, map, drop, rules, arith, refl, sym, subst, ap, ◌∙◌, length-append}
 use Rattle.std.proofs.lemmas.Option.{slice_get_within}
 use Rattle.lalrpop_dfa.specs.Items.{IsLeaving}
-use Rattle.lalrpop_dfa.specs.Runs.{IsRuns}
+use Rattle.lalrpop_ranges.specs.Runs.{IsRuns}
 use Rattle.lalrpop_dfa.specs.Internal.Leads.{AreLeads}
 use Rattle.lalrpop_dfa.specs.Internal.Machine.{move}
 use Rattle.lalrpop_dfa.specs.declared.parts.Part.{Part}

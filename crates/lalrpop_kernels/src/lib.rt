@@ -1,0 +1,101 @@
+//! Distinct kernels, numbered from 0 in the order in which they were added, and a place that goes over them.
+//!
+//! A subset construction adds the sets that it meets, and takes up each once, in the order of their numbers.
+#![tactic(auto)]
+
+ghost use Rattle.std.specs.Prelude.{◌≡◌, ℕ, ◌+◌, ◌<◌, [], IfOk, OnOk, OnErr, MatchOption, slice_get};
+ghost use Rattle.std.specs.declared.cmp.Ordering.TheVariants.{Equal};
+ghost use Rattle.lalrpop_kernels.specs.Kernels.{IsNumberOf, AreDistinct, added, moved, ClonesEqual};
+
+use std::alloc::{AllocError, Global};
+use std::collections::BTreeMap;
+use std::marker::Model;
+
+/// What a kernel set numbers: two kernels are the same where their order says `Equal`.
+pub trait Kernel: Ord + Clone + Drop {
+    /// What a number is handed out as.
+    type Index;
+
+    /// The index that stands for a number.
+    ghost index_of: { ℕ → Self.Index };
+
+    /// The index that stands for the number `c`.
+    fn index(c: usize) -> Self::Index
+        ensures value { result ≡ index_of c };
+}
+
+/// A list of distinct kernels, which only grows, and a place in it.
+#[derive(Drop)]
+pub struct KernelSet<K: Kernel> {
+    numbers: BTreeMap<K, usize>,
+    kernels: Vec<K>,
+    place: usize,
+}
+
+impl<K: Kernel> Model for KernelSet<K> {
+    ghost use Rattle.lalrpop_kernels.specs.Kernels.{Kernels};
+    ghost use Rattle.lalrpop_kernels.specs.Internal.Numbered.{IsNumbered};
+
+    ghost Value = { Kernels K };
+
+    ghost view = { λ s. record { list = s.kernels.items; place = s.place } };
+
+    ghost invariant = { λ s. IsNumbered K.cmp s.numbers s.kernels.items s.place };
+}
+
+impl<K: Kernel> KernelSet<K> {
+    /// No kernels, and the place at their end.
+    pub fn new(alloc: Global) -> KernelSet<K>
+        ensures empty { result ≡ record { list = []; place = 0 } }
+    {
+        KernelSet {
+            numbers: BTreeMap::new(alloc),
+            kernels: Vec::new(alloc),
+            place: 0,
+        }
+    }
+
+    /// Gives the index of the number of an equal kernel, where there is one. Else adds `kernel` last, with the next number.
+    ///
+    /// The set stays as it was where there is no memory.
+    pub fn add_state(&mut self, kernel: K) -> Result<K::Index, AllocError>
+        requires clones { ClonesEqual K.cmp K.is_clone }
+        ensures number { IfOk result (λ i. (n : ℕ) × (i ≡ K.index_of n) × IsNumberOf K.cmp self.new.list kernel n) }
+        ensures list { OnOk result (self.new
+            ≡ record { list = added K.cmp self.old.list kernel; place = self.old.place }) }
+        ensures distinct { OnOk result (AreDistinct K.cmp self.new.list) }
+        ensures refused { OnErr result (self.new ≡ self.old) }
+    {
+        match self.numbers.get(&kernel) {
+            Some(number) => Ok(K::index(*number)),
+            None => {
+                let number = self.kernels.len();
+                let copy = kernel.clone()?;
+                // With room for the kernel in the list, the map is the last to be refused.
+                self.kernels.reserve(1)?;
+                self.numbers.insert(copy, number)?;
+                self.kernels.push(kernel)?;
+                Ok(K::index(number))
+            }
+        }
+    }
+
+    /// Gives a clone of the kernel at the place, and moves the place on to the next number; `None` at the end, where the
+    /// place stays until a kernel is added.
+    ///
+    /// The set stays as it was where there is no memory.
+    pub fn next(&mut self) -> Result<Option<K>, AllocError>
+        requires clones { ClonesEqual K.cmp K.is_clone }
+        ensures given { IfOk result (λ o. MatchOption o (slice_get self.old.list self.old.place ≡ None)
+            (λ k. (q : K) × (slice_get self.old.list self.old.place ≡ Some q) × K.is_clone q k × (K.cmp q k ≡ Equal))) }
+        ensures moves { IfOk result (λ o. self.new ≡ moved self.old o) }
+        ensures refused { OnErr result (self.new ≡ self.old) }
+    {
+        let Some(kernel) = self.kernels.get(self.place) else {
+            return Ok(None);
+        };
+        let copy = kernel.clone()?;
+        self.place += 1;
+        Ok(Some(copy))
+    }
+}

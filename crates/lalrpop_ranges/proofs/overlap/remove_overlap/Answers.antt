@@ -1,0 +1,64 @@
+use Rattle.std.proofs.Common.{rules, ◌≡◌, ℕ, ◌≤◌, length, ◌+◌, ◌<◌, arith, inl, inr, get_or}
+use Rattle.std.proofs.lemmas.List.Sorted.{IsNonDecreasingBy-from_sort}
+use Rattle.lalrpop_ranges.specs.Internal.Sweep.{starts_of, ends_of}
+use Rattle.lalrpop_ranges.proofs.Sweep.{IsSortOf, Turn, swept_none, swept_start, swept_end, swept_runs, swept_count}
+use Rattle.lalrpop_ranges.proofs.overlap.remove_overlap.Goals as goal
+use Rattle.lalrpop_ranges.proofs.overlap.remove_overlap.Goals.{then-from-cut+then-ended-begun+in_ok-push, else-from-cut, else-from-cut-via-then-from-cut+else-ended-begun, else-from-cut-via-else-from-cut}
+
+pub loop-ended-init : goal.loop-ended-init
+loop-ended-init c =
+    let s : IsSortOf (starts_of c.args.ranges.now.keys) c.sort_unstable.new.self.items = record {
+      permutation = (rw c.in_ok-starts.ensures.starts at c.sort_unstable.ensures.permutation);
+      ascending = IsNonDecreasingBy-from_sort (λ (x : ℕ). x) c.sort_unstable.new.self.items c.sort_unstable.ensures.sorted;
+    } in
+    let e : IsSortOf (ends_of c.args.ranges.now.keys) c.sort_unstable-2.new.self.items = record {
+      permutation = (rw c.in_ok-starts.ensures.ends at c.sort_unstable-2.ensures.permutation);
+      ascending = IsNonDecreasingBy-from_sort (λ (x : ℕ). x) c.sort_unstable-2.new.self.items c.sort_unstable-2.ensures.sorted;
+    } in
+    rw c.new-parts.ensures.items (swept_none _ _ _ s e)
+
+pub loop-ended-preserved-then-is_start : goal.loop-ended-preserved-then-is_start
+loop-ended-preserved-then-is_start c =
+    let turn : Turn c.loop-ended.parts.items c.if-from-cut.parts.items c.loop-ended.begun c.loop-ended.ended c.loop-ended.from c.next_cut-cut.result.0 =
+    elim c.if-from-cut.branch [
+      | then-from-cut+then-ended-begun+in_ok-push w ↦ inl (w.if-from-cut.true, w.if-ended-begun.true, search rules)
+      | else-from-cut w ↦
+          inr (
+            elim w.else-from-cut.branch [
+              | else-from-cut-via-then-from-cut+else-ended-begun v ↦ (λ x. v.if-ended-begun.false)
+              | else-from-cut-via-else-from-cut v ↦ (λ x. absurd (omega (arith, v.if-from-cut.false)))
+            ],
+            search rules,
+          )
+    ] in
+    let more : c.loop-ended.begun < length c.sort_unstable.new.self.items = search rules in
+    let is : c.next_cut-cut.result.0 ≡ get_or c.sort_unstable.new.self.items c.loop-ended.begun 0 = search rules in
+    let least : c.next_cut-cut.result.0 ≤ get_or c.sort_unstable-2.new.self.items c.loop-ended.ended 0 + 1 = search rules in
+    swept_start _ _ _ _ _ _ _ _ _ c.loop-ended.invariant turn more is least
+
+pub loop-ended-preserved : goal.loop-ended-preserved
+loop-ended-preserved c =
+    let turn : Turn c.loop-ended.parts.items c.if-from-cut.parts.items c.loop-ended.begun c.loop-ended.ended c.loop-ended.from c.next_cut-cut.result.0 =
+    elim c.if-from-cut.branch [
+      | then-from-cut+then-ended-begun+in_ok-push w ↦ inl (w.if-from-cut.true, w.if-ended-begun.true, search rules)
+      | else-from-cut w ↦
+          inr (
+            elim w.else-from-cut.branch [
+              | else-from-cut-via-then-from-cut+else-ended-begun v ↦ (λ x. v.if-ended-begun.false)
+              | else-from-cut-via-else-from-cut v ↦ (λ x. absurd (omega (arith, v.if-from-cut.false)))
+            ],
+            search rules,
+          )
+    ] in
+    let more : c.loop-ended.ended < length c.sort_unstable-2.new.self.items = search rules in
+    let is : c.next_cut-cut.result.0 ≡ get_or c.sort_unstable-2.new.self.items c.loop-ended.ended 0 + 1 = search rules in
+    let least : c.loop-ended.begun < length c.sort_unstable.new.self.items → c.next_cut-cut.result.0 ≤ get_or c.sort_unstable.new.self.items c.loop-ended.begun 0 = λ x. search rules in
+    swept_end _ _ _ _ _ _ _ _ _ c.loop-ended.invariant turn more is least
+
+pub returns-clause-runs : goal.returns-clause-runs
+returns-clause-runs c =
+    let past : length c.sort_unstable-2.new.self.items ≤ c.loop-ended.ended = search rules in
+    swept_runs _ _ _ _ _ _ _ c.loop-ended.invariant past
+
+pub returns-clause-count : goal.returns-clause-count
+returns-clause-count c = swept_count _ _ _ _ _ _ _ c.loop-ended.invariant

@@ -1,0 +1,13 @@
+-- The starts and the ends of ranges, which a sweep goes over.
+use Rattle.std.specs.Prelude.{ℕ, List, map}
+use Rattle.std.specs.List.{filter}
+use Rattle.lalrpop_hir.specs.Range.{Range}
+use Rattle.lalrpop_ranges.specs.Runs.{has_value}
+
+-- the starts of those that contain some value
+abbrev pub starts_of : List Range → List ℕ
+starts_of rs = map (λ r. r.start) (filter has_value rs)
+
+-- their ends
+abbrev pub ends_of : List Range → List ℕ
+ends_of rs = map (λ r. r.end) (filter has_value rs)

@@ -1,0 +1,85 @@
+//! The partition of a set of ranges.
+
+ghost use Rattle.std.specs.Prelude.{◌≡◌, ◌+◌, ◌-◌, ◌*◌, ◌<◌, ◌≤◌, IfOk, IsTrue, IsFalse, length, slice_index};
+ghost use Rattle.std.specs.List.{Contains, count_by};
+ghost use Rattle.lalrpop_ranges.specs.Runs.{IsRuns, has_value};
+ghost use Rattle.lalrpop_ranges.specs.Internal.Sweep.{starts_of, ends_of};
+
+use crate::Test;
+use std::alloc::{AllocError, Global};
+use std::collections::BTreeSet;
+
+/// The maximal intervals of values that lie in the same ranges, and in some, ascending: at most 2n - 1 of them, for n
+/// ranges that contain some value. Ranges that contain none leave no trace.
+///
+/// It sorts the starts and the ends, and goes over them once. The only error is that there is no memory.
+pub fn remove_overlap(alloc: Global, ranges: &BTreeSet<Test>) -> Result<Vec<Test>, AllocError>
+    ensures runs { IfOk result (λ parts. IsRuns (Contains ranges.now.keys) parts.items) }
+    ensures count { IfOk result (λ parts. length parts.items ≤ 2 * count_by has_value ranges.now.keys - 1) }
+{
+    let Ends {
+        mut starts,
+        mut ends,
+    } = ends_of_ranges(alloc, ranges)?;
+    starts.sort_unstable();
+    ends.sort_unstable();
+    let mut parts = Vec::new(alloc);
+    // The values below `from` are done, and so many starts and ends are taken up. Where there are more starts, some range
+    // is open. Equal cuts in a row do no harm, since nothing lies between them.
+    let mut from = 0;
+    let mut begun = 0;
+    let mut ended = 0;
+    while ended < ends.len() {
+        let (cut, is_start) = next_cut(&starts, &ends, begun, ended);
+        if from < cut && ended < begun {
+            parts.push(Test::new(from as u32..=(cut - 1) as u32))?;
+        }
+        from = cut;
+        if is_start {
+            begun += 1;
+        } else {
+            ended += 1;
+        }
+    }
+    Ok(parts)
+}
+
+// The starts and the ends of the ranges that contain some value.
+#[derive(Drop)]
+struct Ends {
+    starts: Vec<u32>,
+    ends: Vec<u32>,
+}
+
+fn ends_of_ranges(alloc: Global, ranges: &BTreeSet<Test>) -> Result<Ends, AllocError>
+    ensures starts { IfOk result (λ e. e.starts.items ≡ starts_of ranges.now.keys) }
+    ensures ends { IfOk result (λ e. e.ends.items ≡ ends_of ranges.now.keys) }
+{
+    let mut starts = Vec::new(alloc);
+    let mut ends = Vec::new(alloc);
+    for range in ranges {
+        if !range.is_empty() {
+            starts.push(range.start())?;
+            ends.push(range.end())?;
+        }
+    }
+    Ok(Ends { starts, ends })
+}
+
+// The next place where a range starts, or where one is over, and whether one starts there.
+fn next_cut(starts: &[u32], ends: &[u32], begun: usize, ended: usize) -> (u64, bool)
+    requires { ended < length ends.now }
+    ensures start_in { IsTrue result.1 → begun < length starts.now }
+    ensures start { IsTrue result.1 → result.0 ≡ slice_index starts.now begun }
+    ensures end { IsFalse result.1 → result.0 ≡ slice_index ends.now ended + 1 }
+    ensures least_start { begun < length starts.now → result.0 ≤ slice_index starts.now begun }
+    ensures least_end { result.0 ≤ slice_index ends.now ended + 1 }
+    ensures within { result.0 ≤ 4294967296 }
+{
+    let end = ends[ended] as u64 + 1;
+    if begun < starts.len() && starts[begun] as u64 <= end {
+        (starts[begun] as u64, true)
+    } else {
+        (end, false)
+    }
+}
