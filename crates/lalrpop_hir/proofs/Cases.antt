@@ -1,7 +1,8 @@
--- Small cases of the definitions in specs/: Cases/X.antt has those of specs/X.antt.
+-- Small cases of the definitions in specs/: Cases/X.antt has those of specs/X.antt, Cases/Depth.antt those of specs/Internal/Depth.antt.
 mod Word
 mod Range
 mod Counts
 mod Tree
+mod Depth
 mod Level
 mod Language

@@ -1,5 +1,5 @@
 -- The runs between the runs of a canonical list, which are the runs of the characters that it leaves out.
-use Rattle.std.proofs.Common.{◌≡◌, ℕ, suc, ◌+◌, ◌-◌, ◌<◌, ◌≤◌, ◌⊎◌, inl, inr, List, [], ◌∷◌, ◌++◌, length, get_or, drop, min, max, if◌then◌else◌, eqb, refl, sym, ap, subst, ◌∙◌, append_assoc, add-one, drop-cons, arith}
+use Rattle.std.proofs.Common.{◌≡◌, ℕ, suc, ◌+◌, ◌-◌, ◌<◌, ◌≤◌, ◌⊎◌, inl, inr, List, [], ◌∷◌, ◌++◌, length, drop, min, max, if◌then◌else◌, eqb, refl, sym, ap, subst, ◌∙◌, append_assoc, add-one, drop-cons, arith}
 use Rattle.std.proofs.lemmas.Bool.{cases_lt}
 use Rattle.std.proofs.lemmas.List.{drop_all}
 use Rattle.lalrpop_hir.specs.Range.{Range, Covered, IsScalar, next_scalar, AreApart, HaveEndsIn, IsCanonical, IsCanon}

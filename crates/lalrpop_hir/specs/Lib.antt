@@ -1,9 +1,8 @@
 pub mod Word
 pub mod Range
 pub mod Counts
-pub mod Looks
 pub mod Tree
-pub mod Code
 pub mod Level
-pub mod TreeFalls
 pub mod Language
+-- what serves the proofs alone: trees as lists of numbers, and how deeply they stand in one another
+pub mod Internal

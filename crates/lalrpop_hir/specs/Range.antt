@@ -1,7 +1,6 @@
 -- cases: proofs/Cases/Range.antt
 -- Ranges of values, sets of values, and the lists of maximal runs that classes keep.
-use Rattle.std.specs.Prelude.{ℕ, ◌+◌, ◌<◌, ◌≤◌, ◌⊎◌, ◌↔◌, List, [], ◌∷◌, if◌then◌else◌, eqb, refl}
-use Rattle.std.specs.Coded.{Coded, code_by, coded×, coded_ℕ}
+use Rattle.std.specs.Prelude.{ℕ, ◌+◌, ◌<◌, ◌≤◌, ◌⊎◌, ◌↔◌, List, [], ◌∷◌, if◌then◌else◌, eqb}
 
 -- the values from start to end, both included; none where start is above end
 pub record Range : Type 0 where
@@ -73,8 +72,3 @@ AreByteRuns rs = AreApart next_byte rs × HaveEndsIn IsByte rs
 -- the ascending maximal runs of a set of bytes
 abbrev pub IsByteCanon : (ℕ → Type 0) → List Range → Type 0
 IsByteCanon S rs = AreByteRuns rs × ((c : ℕ) → IsByte c → S c ↔ Covered rs c)
-
--- a range is stored as the pair of its ends
-abbrev pub range_code : Coded Range
-range_code =
-    code_by (ℕ × ℕ) (coded× coded_ℕ coded_ℕ) (λ r. (r.start, r.end)) (λ p. record { start = p.0; end = p.1 }) (λ _. refl)

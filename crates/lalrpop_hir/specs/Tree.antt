@@ -1,6 +1,6 @@
 -- cases: proofs/Cases/Tree.antt
 -- A pattern as a tree.
-use Rattle.std.specs.Prelude.{ℕ, zero, suc, ◌+◌, ◌-◌, ◌*◌, List, [], ◌∷◌, length, max, Bool, Option, Some, None}
+use Rattle.std.specs.Prelude.{ℕ, zero, suc, ◌+◌, ◌-◌, ◌*◌, List, [], ◌∷◌, length, Bool, Option, Some, None}
 use Rattle.std.specs.Str.{chars}
 use Rattle.lalrpop_hir.specs.Range.{Range}
 use Rattle.lalrpop_hir.specs.declared.hir.Look.{Look}
@@ -71,19 +71,3 @@ abbrev mutual
   pub sum_of_sizes : Trees → ℕ
   sum_of_sizes none = 0
   sum_of_sizes (also t ts) = size t + sum_of_sizes ts
-
--- how deeply trees stand in trees
-abbrev mutual
-  pub depth : Tree → ℕ
-  depth empty = 0
-  depth (literal cs) = 0
-  depth (class c) = 0
-  depth (look l) = 0
-  depth (repetition min max greedy t) = depth t + 2
-  depth (capture name t) = depth t + 2
-  depth (concat ts) = greatest_depth ts + 2
-  depth (alternation ts) = greatest_depth ts + 2
-
-  pub greatest_depth : Trees → ℕ
-  greatest_depth none = 0
-  greatest_depth (also t ts) = max (depth t) (greatest_depth ts)

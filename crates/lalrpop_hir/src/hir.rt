@@ -117,8 +117,9 @@ pub struct Capture {
 
 impl Model for Hir {
     ghost use Rattle.std.proofs.Common.{arith};
-    ghost use Rattle.lalrpop_hir.specs.Tree.{Tree, depth};
-    ghost use Rattle.lalrpop_hir.specs.Code.{tree_code};
+    ghost use Rattle.lalrpop_hir.specs.Tree.{Tree};
+    ghost use Rattle.lalrpop_hir.specs.Internal.Depth.{depth};
+    ghost use Rattle.lalrpop_hir.specs.Internal.Code.{tree_code};
 
     ghost Value = { Tree };
 
@@ -130,7 +131,7 @@ impl Model for Hir {
 
     ghost size = { depth };
 
-    ghost use Rattle.lalrpop_hir.specs.TreeFalls.{deep-le-depth};
+    ghost use Rattle.lalrpop_hir.specs.Internal.TreeFalls.{deep-le-depth};
 
     ghost size_decreases = { λ a h. Prim.omega (arith, deep-le-depth a.kind) };
 }
@@ -139,8 +140,9 @@ impl Model for Repetition {
     ghost use Rattle.std.specs.Prelude.{◌+◌};
     ghost use Rattle.std.proofs.Common.{arith};
     ghost use Rattle.lalrpop_hir.specs.Counts.{AreOrdered};
-    ghost use Rattle.lalrpop_hir.specs.Tree.{Repeated, depth};
-    ghost use Rattle.lalrpop_hir.specs.Code.{repeated_code};
+    ghost use Rattle.lalrpop_hir.specs.Tree.{Repeated};
+    ghost use Rattle.lalrpop_hir.specs.Internal.Depth.{depth};
+    ghost use Rattle.lalrpop_hir.specs.Internal.Code.{repeated_code};
 
     ghost Value = { Repeated };
 
@@ -158,8 +160,9 @@ impl Model for Repetition {
 impl Model for Capture {
     ghost use Rattle.std.specs.Prelude.{◌+◌, option_map, string_bytes};
     ghost use Rattle.std.proofs.Common.{arith};
-    ghost use Rattle.lalrpop_hir.specs.Tree.{Captured, depth};
-    ghost use Rattle.lalrpop_hir.specs.Code.{captured_code};
+    ghost use Rattle.lalrpop_hir.specs.Tree.{Captured};
+    ghost use Rattle.lalrpop_hir.specs.Internal.Depth.{depth};
+    ghost use Rattle.lalrpop_hir.specs.Internal.Code.{captured_code};
 
     ghost Value = { Captured };
 

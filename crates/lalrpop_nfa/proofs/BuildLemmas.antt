@@ -8,7 +8,8 @@ use Rattle.std.proofs.lemmas.List.{length-replicate, length-map, append-nil}
 use Rattle.std.proofs.lemmas.Bool.{ne_eqb}
 use Rattle.std.proofs.lemmas.List.Elements.{Contains-append_cases, filter-append}
 use Rattle.lalrpop_hir.specs.Range.{Range}
-use Rattle.lalrpop_hir.specs.Tree.{Tree, Trees, none, also, trees, depth, greatest_depth}
+use Rattle.lalrpop_hir.specs.Tree.{Tree, Trees, none, also, trees}
+use Rattle.lalrpop_hir.specs.Internal.Depth.{depth, greatest_depth}
 use Rattle.lalrpop_nfa.specs.declared.edge.Edge.{Edge}
 use Rattle.lalrpop_nfa.specs.declared.edge.State.{State}
 use Rattle.lalrpop_nfa.specs.declared.edge.StateKind.{StateKind}

@@ -1,4 +1,5 @@
 pub mod Rules
-pub mod Code
 pub mod Building
 pub mod Cut
+-- what serves the proofs alone
+pub mod Internal

@@ -23,7 +23,7 @@ pub struct Lexer {
 impl Model for Lexer {
     ghost use Rattle.std.specs.Prelude.{map};
     ghost use Rattle.tokens_lib.specs.Rules.{Rules, IsBuiltFrom};
-    ghost use Rattle.tokens_lib.specs.Code.{rules_code};
+    ghost use Rattle.tokens_lib.specs.Internal.Code.{rules_code};
 
     ghost Value = { Rules };
 

@@ -1,8 +1,7 @@
 -- Cases of specs/Tree.antt.
 use Rattle.std.proofs.Common.{◌≡◌, [], ◌∷◌, true, Some, None, refl}
 use Rattle.std.specs.Str.{chars}
-use Rattle.lalrpop_hir.specs.Tree.{Tree, empty, literal, class, unicode, look, repetition, capture, concat, alternation, none, also, trees, of_text, repeated_size, size, depth}
-use Rattle.lalrpop_hir.specs.declared.hir.Look.TheVariants.{Start}
+use Rattle.lalrpop_hir.specs.Tree.{Tree, empty, literal, class, unicode, repetition, concat, alternation, none, also, trees, of_text, repeated_size, size}
 
 abbrev a : Tree
 a = literal (97 ∷ [])
@@ -59,13 +58,3 @@ size_of_one_or_more = refl
 -- `b{0}`
 size_of_no_turns : size (repetition 0 (Some 0) true b) ≡ 0
 size_of_no_turns = refl
-
--- ---- depths
-
--- a tree without parts has none, whatever it is
-depth_of_a_leaf : (depth (look Start) ≡ 0) × (depth a ≡ 0)
-depth_of_a_leaf = (refl, refl)
-
--- `(a*|b)`: the deepest branch counts, two for each tree on the way
-depth_of_a_group : depth (capture None (alternation (also (repetition 0 None true a) (also b none)))) ≡ 6
-depth_of_a_group = refl

@@ -1,6 +1,6 @@
 use Rattle.std.proofs.Common.{arith, ap}
-use Rattle.lalrpop_hir.specs.Tree.{depth}
-use Rattle.lalrpop_hir.specs.TreeFalls.{depth-le-greatest}
+use Rattle.lalrpop_hir.specs.Internal.Depth.{depth}
+use Rattle.lalrpop_hir.specs.Internal.TreeFalls.{depth-le-greatest}
 use Rattle.lalrpop_hir.proofs.clone.+copy.Goals as goal
 
 pub copy_all-copy-requires : goal.copy_all-copy-requires

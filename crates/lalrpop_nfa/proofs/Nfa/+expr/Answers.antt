@@ -1,7 +1,8 @@
 use Rattle.std.proofs.Common.{inr, arith, ap, ◌≢◌, ◌-◌, ◌∷◌, refl}
 use Rattle.std.proofs.lemmas.Result.{err_from_is_err_and, IfOk-weaker}
-use Rattle.lalrpop_hir.specs.Tree.{depth, trees}
-use Rattle.lalrpop_hir.specs.TreeFalls.{depth-le-greatest}
+use Rattle.lalrpop_hir.specs.Tree.{trees}
+use Rattle.lalrpop_hir.specs.Internal.Depth.{depth}
+use Rattle.lalrpop_hir.specs.Internal.TreeFalls.{depth-le-greatest}
 use Rattle.lalrpop_nfa.specs.Internal.Shape.{shape, before, copies, optionals, any_turns, in_turn}
 use Rattle.lalrpop_nfa.specs.Internal.Grows.{Grows}
 use Rattle.lalrpop_nfa.proofs.BuildLemmas.{noops_new, Grows-before, Grows-any_turns, Grows-some_turns, Grows-optional, Grows-fork, Grows-kinds, Grows-copies, Grows-optionals, below-last, below-front, fault-last, fault-front, moved, drop_past, first_fault-next, AreSound-next, Branched-more, turns_more}

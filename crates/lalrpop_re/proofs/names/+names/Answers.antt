@@ -1,7 +1,8 @@
 use Rattle.std.proofs.Common.{◌++◌, map, take, sym, ap, ◌∙◌, arith, append_assoc}
 use Rattle.std.proofs.lemmas.List.{append-nil}
-use Rattle.lalrpop_hir.specs.Tree.{depth, trees}
-use Rattle.lalrpop_hir.specs.TreeFalls.{depth-le-greatest}
+use Rattle.lalrpop_hir.specs.Tree.{trees}
+use Rattle.lalrpop_hir.specs.Internal.Depth.{depth}
+use Rattle.lalrpop_hir.specs.Internal.TreeFalls.{depth-le-greatest}
 use Rattle.lalrpop_re.specs.GroupName.{names, all_names}
 use Rattle.lalrpop_re.proofs.NameLaws.{all_names-take}
 use Rattle.lalrpop_re.proofs.names.+names.Goals as goal

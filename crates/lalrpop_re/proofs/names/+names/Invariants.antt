@@ -1,5 +1,6 @@
 use Rattle.std.proofs.Common.{◌≡◌, ◌+◌, ◌*◌, ◌++◌, map, take}
-use Rattle.lalrpop_hir.specs.Tree.{depth, greatest_depth, trees}
+use Rattle.lalrpop_hir.specs.Tree.{trees}
+use Rattle.lalrpop_hir.specs.Internal.Depth.{depth, greatest_depth}
 use Rattle.lalrpop_re.specs.GroupName.{all_names}
 use Rattle.lalrpop_re.proofs.names.+names.Given as goal
 

@@ -1,5 +1,6 @@
 use Rattle.std.proofs.Common.{◌+◌, ◌*◌}
-use Rattle.lalrpop_hir.specs.Tree.{depth, greatest_depth, trees}
+use Rattle.lalrpop_hir.specs.Tree.{trees}
+use Rattle.lalrpop_hir.specs.Internal.Depth.{depth, greatest_depth}
 use Rattle.lexer_tests.proofs.patterns.+show.Given as goal
 
 abbrev pub decreases-show : goal.decreases-show

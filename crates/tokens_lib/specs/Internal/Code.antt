@@ -1,7 +1,7 @@
 -- Rules as pairs of lists, by which proofs tell rules apart.
 use Rattle.std.specs.Prelude.{ℕ, List, refl}
 use Rattle.std.specs.Coded.{Coded, code_by, coded×, coded_list, coded_ℕ}
-use Rattle.lalrpop_hir.specs.Code.{tree_code}
+use Rattle.lalrpop_hir.specs.Internal.Code.{tree_code}
 use Rattle.lalrpop_hir.specs.Tree.{Tree}
 use Rattle.tokens_lib.specs.Rules.{Rules}
 

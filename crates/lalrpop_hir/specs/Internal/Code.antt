@@ -2,10 +2,15 @@
 use Rattle.std.specs.Prelude.{◌≡◌, ℕ, zero, suc, List, [], ◌∷◌, Bool, Option, refl, ◌⊎◌}
 use Rattle.std.specs.Coded.{Coded, code_by, coded×, coded⊎, coded_ℕ, coded_bool, coded_list, coded_option}
 use Rattle.std.proofs.Common.{inl, inr, ◌∙◌, ap}
-use Rattle.lalrpop_hir.specs.Range.{Range, range_code}
+use Rattle.lalrpop_hir.specs.Range.{Range}
 use Rattle.lalrpop_hir.specs.Tree.{Class, unicode, bytes, Tree, Repeated, Captured, empty, literal, class, look, repetition, capture, concat, alternation, Trees, none, also}
 use Rattle.lalrpop_hir.specs.declared.hir.Look.{Look}
-use Rattle.lalrpop_hir.specs.Looks.{number_of_look, look_of_number, look_of_number_of_look}
+use Rattle.lalrpop_hir.specs.Internal.Looks.{number_of_look, look_of_number, look_of_number_of_look}
+
+-- a range is stored as the pair of its ends
+abbrev pub range_code : Coded Range
+range_code =
+    code_by (ℕ × ℕ) (coded× coded_ℕ coded_ℕ) (λ r. (r.start, r.end)) (λ p. record { start = p.0; end = p.1 }) (λ _. refl)
 
 -- a number for the tokens that carry nothing, else what the token carries
 abbrev pub Token : Type 0

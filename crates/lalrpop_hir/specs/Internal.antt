@@ -1,0 +1,4 @@
+pub mod Looks
+pub mod Code
+pub mod Depth
+pub mod TreeFalls
