@@ -202,7 +202,7 @@ impl Hir {
         })
     }
 
-    /// The tree that matches one value of the set.
+    /// The tree that matches one value of `members`: the code value of a character, or a byte.
     pub fn class(members: Class) -> Hir
         ensures tree { result ≡ class (class_of members) }
     {
@@ -211,7 +211,7 @@ impl Hir {
         }
     }
 
-    /// The tree that asks `at` of a place.
+    /// The tree that asks `at` of a place. No word is matched by it alone.
     pub fn look(at: Look) -> Hir
         ensures tree { result ≡ look at }
     {
@@ -220,7 +220,7 @@ impl Hir {
         }
     }
 
-    /// The tree of a repetition.
+    /// The tree that matches as many pieces in a row as the counts of `r` allow, each matched by the part of `r`.
     pub fn repetition(r: Repetition) -> Hir
         ensures tree { result ≡ repetition r.min r.max r.greedy r.sub }
     {
@@ -229,7 +229,7 @@ impl Hir {
         }
     }
 
-    /// The tree of a group.
+    /// The tree that matches what the part of `c` matches, and keeps the name of `c`.
     pub fn capture(c: Capture) -> Hir
         ensures tree { result ≡ capture c.name c.sub }
     {

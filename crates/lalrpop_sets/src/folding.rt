@@ -7,8 +7,12 @@ ghost use Rattle.lalrpop_sets.specs.Internal.Sets.{AreAlike, HasPartner};
 use lalrpop_hir::{ClassUnicode, ClassUnicodeRange};
 use std::alloc::{AllocError, Global};
 
-/// All characters that share a simple case folding with a member, as `unicode` has it. The only error is want of memory.
+/// All characters that share a simple case folding with a member of `class`, as `unicode` has it, and so each member.
 /// Takes time n log n for n runs and partners.
+///
+/// # Errors
+///
+/// `AllocError` where a request for memory was refused.
 pub fn fold(alloc: Global, class: &ClassUnicode) -> Result<ClassUnicode, AllocError>
     ensures runs { IfOk result (λ r. (s : Set) → HasRuns class.now s → HasRuns r (fold s)) }
 {

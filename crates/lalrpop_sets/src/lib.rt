@@ -16,7 +16,11 @@ pub use named::{digits, named_set, spaces, words};
 pub use posix::posix_class;
 use std::alloc::{AllocError, Global};
 
-/// The characters from `low` to `high`, both included. The only error is want of memory.
+/// The characters from `low` to `high`, both included, as a set of one run.
+///
+/// # Errors
+///
+/// `AllocError` where a request for memory was refused.
 pub fn range_class(alloc: Global, low: char, high: char) -> Result<ClassUnicode, AllocError>
     requires ordered { low ≤ high }
     ensures runs { IfOk result (λ r. HasRuns r (range low high)) }

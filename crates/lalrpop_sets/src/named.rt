@@ -10,8 +10,12 @@ use crate::range_class;
 use lalrpop_hir::{ClassUnicode, ClassUnicodeRange};
 use std::alloc::{AllocError, Global};
 
-/// The set that a name stands for in `\p{name}`, where there is one: `any`, `ascii`, or a name of `unicode`. Case, spaces, `_`
-/// and `-` make no difference. The only error is want of memory.
+/// The set that `name`, a list of characters, stands for in `\p{name}`: `any`, `ascii`, or a name of `unicode`. Case,
+/// spaces, `_` and `-` make no difference. `None` where the name stands for no set.
+///
+/// # Errors
+///
+/// `AllocError` where a request for memory was refused.
 pub fn named_set(alloc: Global, name: &[char]) -> Result<Option<ClassUnicode>, AllocError>
     ensures found { IfOk result (λ found. MatchOption found (named name.now ≡ None)
         (λ r. (s : Set) × (named name.now ≡ Some s) × HasRuns r s)) }
@@ -29,21 +33,33 @@ pub fn named_set(alloc: Global, name: &[char]) -> Result<Option<ClassUnicode>, A
     }
 }
 
-/// The characters of `\d`. The only error is want of memory.
+/// The characters of `\d`: the decimal digits of Unicode.
+///
+/// # Errors
+///
+/// `AllocError` where a request for memory was refused.
 pub fn digits(alloc: Global) -> Result<ClassUnicode, AllocError>
     ensures runs { IfOk result (λ r. HasRuns r is_digit_char) }
 {
     class_of_codes(alloc, &unicode::perl::digit_ranges(alloc)?)
 }
 
-/// The characters of `\s`. The only error is want of memory.
+/// The characters of `\s`: the white space of Unicode.
+///
+/// # Errors
+///
+/// `AllocError` where a request for memory was refused.
 pub fn spaces(alloc: Global) -> Result<ClassUnicode, AllocError>
     ensures runs { IfOk result (λ r. HasRuns r is_space_char) }
 {
     class_of_codes(alloc, &unicode::perl::space_ranges(alloc)?)
 }
 
-/// The characters of `\w`. The only error is want of memory.
+/// The characters of `\w`: those of words, as Unicode has them.
+///
+/// # Errors
+///
+/// `AllocError` where a request for memory was refused.
 pub fn words(alloc: Global) -> Result<ClassUnicode, AllocError>
     ensures runs { IfOk result (λ r. HasRuns r is_word_char) }
 {

@@ -80,7 +80,11 @@ fn posix_classes() -> &'static [PosixClass]
     &POSIX_CLASSES
 }
 
-/// The set of a POSIX class, as of `alpha` in `[:alpha:]`, where there is one. The only error is want of memory.
+/// The set of the POSIX class `name`, as `alpha` in `[:alpha:]`. `None` where no class has this name to the letter.
+///
+/// # Errors
+///
+/// `AllocError` where a request for memory was refused.
 pub fn posix_class(alloc: Global, name: &[char]) -> Result<Option<ClassUnicode>, AllocError>
     ensures found { IfOk result (λ found. MatchOption found (posix_set name.now ≡ None)
         (λ r. (s : Set) × (posix_set name.now ≡ Some s) × HasRuns r s)) }

@@ -10,7 +10,7 @@ impl Capture {
         Capture { name, sub }
     }
 
-    /// The group's name, if it has one.
+    /// The group's name; `None` where it has none.
     pub fn name(&self) -> Option<&str>
         ensures name { option_map (λ s. s.now) result ≡ self.now.name }
     {
@@ -20,7 +20,7 @@ impl Capture {
         }
     }
 
-    /// What stands in the group.
+    /// The part that stands in the group.
     pub fn sub(&self) -> &Hir
         ensures sub { result.now ≡ self.now.sub }
     {

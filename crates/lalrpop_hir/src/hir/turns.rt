@@ -41,7 +41,7 @@ impl Repetition {
         self.greedy
     }
 
-    /// What is repeated.
+    /// The part that is repeated.
     pub fn sub(&self) -> &Hir
         ensures sub { result.now ≡ self.now.sub }
     {
