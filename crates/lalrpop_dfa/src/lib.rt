@@ -12,8 +12,6 @@ pub mod interpret;
 mod items;
 mod labels;
 mod parts;
-#[cfg(test)]
-mod tests;
 
 ghost use Rattle.std.specs.Prelude.{◌≡◌, ◌<◌, length, slice_get, Some, IsSomeAnd};
 

@@ -5,8 +5,6 @@
 mod class;
 mod clone;
 mod hir;
-#[cfg(test)]
-mod tests;
 
 pub use class::{Class, ClassBytes, ClassBytesRange, ClassUnicode, ClassUnicodeRange};
 pub use hir::{Capture, Hir, HirKind, Literal, Look, Regex, Repetition};

@@ -6,8 +6,6 @@ mod edge;
 mod error;
 pub mod interpret;
 mod steps;
-#[cfg(test)]
-mod tests;
 
 ghost use Rattle.std.specs.Prelude.{◌≡◌, ◌≢◌, ◌↔◌, ◌<◌, ◌++◌, ◌∷◌, [], Some, None, IfOk, IfErr, IsTrue};
 ghost use Rattle.std.specs.List.{filter};

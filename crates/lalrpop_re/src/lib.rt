@@ -14,8 +14,6 @@ mod opening;
 mod operator;
 mod parser;
 mod sets;
-#[cfg(test)]
-mod tests;
 
 pub use error::{RegexError, SyntaxKind};
 pub use escape_text::escape;

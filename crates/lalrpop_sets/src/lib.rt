@@ -7,8 +7,6 @@ ghost use Rattle.lalrpop_sets.specs.CharacterSet.{range, HasRuns};
 mod folding;
 mod named;
 mod posix;
-#[cfg(test)]
-mod tests;
 
 pub use folding::fold;
 use lalrpop_hir::{ClassUnicode, ClassUnicodeRange};

@@ -1,4 +1,7 @@
-use super::*;
+//! Members of sets that are folded or have a name.
+
+use lalrpop_hir::ClassUnicode;
+use lalrpop_sets::{fold, named_set, posix_class, range_class, words};
 use std::test::Fail;
 
 fn has(class: &ClassUnicode, c: char) -> bool {

@@ -1,4 +1,6 @@
-use crate::escape;
+//! The pattern that stands for a text.
+
+use lalrpop_re::escape;
 use std::test::Fail;
 
 #[test]

@@ -1,0 +1,148 @@
+//! The order and equality of states, of places in the list of patterns, and of precedences.
+
+ghost use Rattle.std.specs.Prelude.{◌≡◌, ◌↔◌, IsTrue};
+ghost use Rattle.std.specs.Ordering.{nat_cmp};
+
+use lalrpop_lexer::lexer::dfa::{
+    self, DfaConstructionError, DfaStateIndex, NfaIndex, Precedence, build_dfa,
+};
+use lalrpop_lexer::lexer::nfa::{ACCEPT, Nfa, NfaStateIndex, Noop, REJECT, START, StateKind};
+use lalrpop_lexer::lexer::re::Hir;
+use std::cmp::Ordering;
+use std::hash::{DefaultHasher, Hash, Hasher};
+use std::test::Fail;
+
+// States are ordered by their numbers.
+fn order(a: NfaStateIndex, b: NfaStateIndex) -> Ordering
+    ensures { result ≡ nat_cmp a b }
+{
+    a.cmp(&b)
+}
+
+// States are equal where their numbers are.
+fn equal(a: NfaStateIndex, b: NfaStateIndex) -> bool
+    ensures { IsTrue result ↔ (a ≡ b) }
+{
+    a == b
+}
+
+fn order_of_states(a: DfaStateIndex, b: DfaStateIndex) -> Ordering
+    ensures { result ≡ nat_cmp a b }
+{
+    a.cmp(&b)
+}
+
+fn equal_states(a: DfaStateIndex, b: DfaStateIndex) -> bool
+    ensures { IsTrue result ↔ (a ≡ b) }
+{
+    a == b
+}
+
+fn order_of_places(a: NfaIndex, b: NfaIndex) -> Ordering
+    ensures { result ≡ nat_cmp a b }
+{
+    a.cmp(&b)
+}
+
+fn equal_places(a: NfaIndex, b: NfaIndex) -> bool
+    ensures { IsTrue result ↔ (a ≡ b) }
+{
+    a == b
+}
+
+fn order_of_precedences(a: Precedence, b: Precedence) -> Ordering
+    ensures { result ≡ nat_cmp a.0 b.0 }
+{
+    a.cmp(&b)
+}
+
+fn equal_precedences(a: Precedence, b: Precedence) -> bool
+    ensures { IsTrue result ↔ (a.0 ≡ b.0) }
+{
+    a == b
+}
+
+fn hash_of<T: Hash>(value: &T) -> u64 {
+    let mut state = DefaultHasher::new();
+    value.hash(&mut state);
+    state.finish()
+}
+
+#[test]
+fn states_of_one_pattern_are_ordered_by_number(rt: HostRuntime) -> Result<(), Fail> {
+    assert_eq!(rt; order(ACCEPT, REJECT), Ordering::Less);
+    assert_eq!(rt; order(START, REJECT), Ordering::Greater);
+    let nfa = Nfa::from_re(rt.alloc(), &Hir::empty())?;
+    assert!(rt; nfa.contains_state(START));
+    let mut edges = nfa.edges::<Noop>(START);
+    match edges.next() {
+        Some(edge) => {
+            assert!(rt; equal(START, edge.from) && !equal(START, edge.to));
+            assert_eq!(rt; hash_of(&START), hash_of(&edge.from));
+        }
+        None => assert!(rt; false),
+    }
+    Ok(())
+}
+
+#[test]
+fn kinds_are_ordered_accept_first(rt: HostRuntime) {
+    use StateKind::{Accept, Neither, Reject};
+    assert!(&rt; Accept < Reject && Reject < Neither && Accept < Neither);
+    assert_eq!(&rt; Neither.cmp(&Accept), Ordering::Greater);
+    assert_eq!(&rt; Reject.cmp(&Reject), Ordering::Equal);
+}
+
+#[test]
+fn precedences_compare_as_their_numbers(rt: HostRuntime) {
+    for (left, right, order) in [
+        (1, 2, Ordering::Less),
+        (7, 7, Ordering::Equal),
+        (usize::MAX, 0, Ordering::Greater),
+    ] {
+        let is_same = order == Ordering::Equal;
+        let left = Precedence(left);
+        let right = Precedence(right);
+        assert_eq!(rt; order_of_precedences(left, right), order);
+        assert_eq!(rt; equal_precedences(left, right), is_same);
+    }
+}
+
+#[test]
+fn states_of_many_patterns_are_ordered_by_number(rt: HostRuntime) -> Result<(), Fail> {
+    let alloc = rt.alloc();
+    let start = dfa::START;
+    let dfa = build_dfa(alloc, &[Hir::literal(alloc, "a")?], &[Precedence(0)])?;
+    assert_eq!(rt; dfa.states().len(), 3);
+    let second = dfa.test_edges(start)[0].1;
+    let third = dfa.states()[0].other_edge();
+    for (left, right, order) in [
+        (start, second, Ordering::Less),
+        (third, dfa.states()[1].other_edge(), Ordering::Equal),
+        (third, second, Ordering::Greater),
+    ] {
+        let is_same = order == Ordering::Equal;
+        assert_eq!(rt; order_of_states(left, right), order);
+        assert_eq!(rt; equal_states(left, right), is_same);
+    }
+    let again = dfa.states()[1].other_edge();
+    assert_eq!(rt; hash_of(&third), hash_of(&again));
+    Ok(())
+}
+
+#[test]
+fn places_of_patterns_are_ordered_by_number(rt: HostRuntime) -> Result<(), Fail> {
+    let alloc = rt.alloc();
+    let trees = [Hir::literal(alloc, "a")?, Hir::literal(alloc, "a")?];
+    match build_dfa(alloc, &trees, &[Precedence(0), Precedence(0)]) {
+        Err(DfaConstructionError::Ambiguity { match0, match1 }) => {
+            assert_eq!(rt; order_of_places(match1, match0), Ordering::Less);
+            assert_eq!(rt; order_of_places(match0, match0), Ordering::Equal);
+            assert_eq!(rt; order_of_places(match0, match1), Ordering::Greater);
+            assert!(rt; equal_places(match0, match0) && !equal_places(match0, match1));
+            assert_eq!(rt; hash_of(&match0), hash_of(&match0));
+        }
+        _ => assert!(rt; false),
+    }
+    Ok(())
+}
