@@ -11,11 +11,7 @@ mod line;
 mod longest;
 mod meaning;
 mod outcome;
-#[cfg(test)]
-mod pattern_tests;
 mod terminals;
-#[cfg(test)]
-mod tests;
 mod watched;
 mod words;
 

@@ -7,8 +7,6 @@
 mod error;
 mod lexer;
 mod show;
-#[cfg(test)]
-mod tests;
 mod token;
 
 pub use error::BuildError;

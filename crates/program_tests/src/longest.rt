@@ -1,12 +1,10 @@
 //! Patterns from their texts to the longest match, the clash or the refusal.
 
-use crate::longest_match;
 use lalrpop_lexer::lexer::dfa::{DfaConstructionError, Precedence};
-use lalrpop_lexer::lexer::nfa::Nfa;
-use lalrpop_lexer::lexer::nfa::interpret::interpret;
 use lalrpop_lexer::lexer::re::{
     Class, ClassBytes, ClassBytesRange, Hir, Regex, parse_literal, parse_regex,
 };
+use lexdfa_lib::longest_match;
 use std::alloc::{AllocError, Global};
 use std::process::Abort;
 use std::test::Fail;
@@ -186,25 +184,17 @@ fn trees_by_hand(rt: HostRuntime) -> Result<(), Fail> {
     Ok(())
 }
 
-// What the automaton of one pattern finds, the empty match included.
 #[test]
-fn one_pattern(rt: HostRuntime) -> Result<(), Fail> {
-    let rows = [
-        ("a*", "b", Some("")),
-        ("a*", "", Some("")),
-        ("(a*)*", "aab", Some("aa")),
-        ("(a*)*", "", Some("")),
-        ("(abc)*", "abcabcabcab", Some("abcabcabc")),
-        ("ab{2,4}", "abbbbb", Some("abbbb")),
-        ("ab{2,4}", "ab", None),
-        ("a{2,}", "a", None),
-        ("(|a)+", "aab", Some("aa")),
-        (".", "\n", None),
-    ];
-    for (pattern, text, want) in rows {
-        let nfa = Nfa::from_re(rt.alloc(), &parse_regex(rt.alloc(), pattern)?)?;
-        let found = interpret(rt.alloc(), &nfa, text)?;
-        assert_eq!(rt; found, want, "of {pattern} in {text}");
+fn a_match_is_the_longest(rt: HostRuntime) -> Result<(), Fail> {
+    let mut regexs = Vec::new(rt.alloc());
+    regexs.push(parse_literal(rt.alloc(), "ab")?)?;
+    regexs.push(parse_literal(rt.alloc(), "abc")?)?;
+    let precedences = [Precedence(1), Precedence(0)];
+    let mut place = None;
+    if let Ok(Some((index, text))) = longest_match(rt.alloc(), &regexs, &precedences, "abcd") {
+        place = Some(index.index());
+        assert!(rt; text == "abc");
     }
+    assert_eq!(rt; place, Some(1));
     Ok(())
 }

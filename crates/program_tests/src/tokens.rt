@@ -1,8 +1,10 @@
-use super::*;
+//! Lexers from patterns and from lines, and the tokens that they cut.
+
 use lalrpop_lexer::lexer::dfa::Precedence;
 use lalrpop_lexer::lexer::re::{parse_literal, parse_regex};
 use std::process::Abort;
-use std::test::*;
+use std::test::Fail;
+use tokens_lib::Lexer;
 
 #[test]
 fn cuts_many_texts(rt: HostRuntime) -> Result<(), Fail> {
