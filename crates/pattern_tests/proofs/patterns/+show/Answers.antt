@@ -1,7 +1,7 @@
 use Rattle.std.proofs.Common.{arith, ap}
 use Rattle.lalrpop_hir.specs.Internal.Depth.{depth}
 use Rattle.lalrpop_hir.specs.Internal.TreeFalls.{depth-le-greatest}
-use Rattle.lexer_tests.proofs.patterns.+show.Goals as goal
+use Rattle.pattern_tests.proofs.patterns.+show.Goals as goal
 
 -- a tree of a list is at most as deep as the deepest
 pub show_all-show-requires : goal.show_all-show-requires

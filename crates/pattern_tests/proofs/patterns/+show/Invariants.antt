@@ -1,7 +1,7 @@
 use Rattle.std.proofs.Common.{◌+◌, ◌*◌}
 use Rattle.lalrpop_hir.specs.Tree.{trees}
 use Rattle.lalrpop_hir.specs.Internal.Depth.{depth, greatest_depth}
-use Rattle.lexer_tests.proofs.patterns.+show.Given as goal
+use Rattle.pattern_tests.proofs.patterns.+show.Given as goal
 
 abbrev pub decreases-show : goal.decreases-show
 decreases-show l = 2 * depth l.tree.now

@@ -5,6 +5,7 @@ use lalrpop_hir::{
     Look, Repetition,
 };
 use std::alloc::{AllocError, Global};
+use std::process::Abort;
 use std::test::Fail;
 
 #[test]
@@ -43,45 +44,60 @@ fn parts_are_those_given(rt: HostRuntime) -> Result<(), Fail> {
     Ok(())
 }
 
-// A tree that has each of the eight kinds.
-fn tree_of_all_kinds(alloc: Global) -> Result<Hir, AllocError> {
-    let a_to_z = vec![in alloc; ClassUnicodeRange::new('a', 'z')]?;
-    let letters = Class::Unicode(ClassUnicode::new(alloc, a_to_z)?);
-    let past_ascii = vec![in alloc; ClassBytesRange::new(128, 255)]?;
-    let high = Class::Bytes(ClassBytes::new(alloc, past_ascii)?);
-    let b = Box::new(alloc, Hir::literal(alloc, "b")?)?;
+fn letters(alloc: Global) -> Result<Hir, AllocError> {
+    let ranges = vec![in alloc; ClassUnicodeRange::new('a', 'z')]?;
+    Ok(Hir::class(Class::Unicode(ClassUnicode::new(alloc, ranges)?)))
+}
+
+fn high_bytes(alloc: Global) -> Result<Hir, AllocError> {
+    let ranges = vec![in alloc; ClassBytesRange::new(128, 255)]?;
+    Ok(Hir::class(Class::Bytes(ClassBytes::new(alloc, ranges)?)))
+}
+
+fn two_or_more(alloc: Global, sub: Hir) -> Result<Hir, AllocError> {
+    let sub = Box::new(alloc, sub)?;
+    Ok(Hir::repetition(Repetition::new(2, None, true, sub)))
+}
+
+fn named(alloc: Global, sub: Hir) -> Result<Hir, AllocError> {
+    let sub = Box::new(alloc, sub)?;
     let name = String::from_str(alloc, "name")?;
-    Ok(Hir::concat(vec![in alloc;
-        Hir::empty(),
-        Hir::literal(alloc, "é")?,
-        Hir::class(letters),
-        Hir::look(Look::Start),
-        Hir::repetition(Repetition::new(2, None, true, b)),
-        Hir::capture(Capture::new(Some(name), Box::new(alloc, Hir::class(high))?)),
-        Hir::alternation(vec![in alloc; Hir::empty(), Hir::look(Look::End)]?),
-    ]?))
+    Ok(Hir::capture(Capture::new(Some(name), sub)))
+}
+
+// A tree of each of the six kinds that aren't lists of trees.
+fn trees_of_all_kinds(alloc: Global) -> Result<Vec<Hir>, AllocError> {
+    let mut trees = Vec::new(alloc);
+    trees.push(Hir::empty())?;
+    trees.push(Hir::literal(alloc, "é")?)?;
+    trees.push(letters(alloc)?)?;
+    trees.push(Hir::look(Look::Start))?;
+    trees.push(two_or_more(alloc, Hir::literal(alloc, "b")?)?)?;
+    trees.push(named(alloc, high_bytes(alloc)?)?)?;
+    Ok(trees)
+}
+
+fn assert_clone_shows_the_same(
+    rt: &impl Abort,
+    alloc: Global,
+    tree: &Hir,
+) -> Result<(), AllocError> {
+    let copy = tree.clone()?;
+    let shown = format!(in alloc; "{copy:?}")?;
+    assert_eq!(rt; shown, format!(in alloc; "{tree:?}")?);
+    let kind = tree.kind().clone()?;
+    let shown = format!(in alloc; "{kind:?}")?;
+    assert_eq!(rt; shown, format!(in alloc; "{:?}", tree.kind())?);
+    Ok(())
 }
 
 #[test]
 fn clones_show_what_their_sources_show(rt: HostRuntime) -> Result<(), Fail> {
     let alloc = rt.alloc();
-    let tree = tree_of_all_kinds(alloc)?;
-    let copy = tree.clone()?;
-    assert_eq!(rt;
-        format!(in alloc; "{copy:?}")?,
-        format!(in alloc; "{tree:?}")?
-    );
-    let source = tree.kind();
-    let kind = source.clone()?;
-    assert_eq!(rt;
-        format!(in alloc; "{kind:?}")?,
-        format!(in alloc; "{source:?}")?
-    );
-    if let HirKind::Concat(subs) = copy.kind() {
-        assert_eq!(rt; subs.len(), 7);
-    } else {
-        assert!(rt; false);
-    }
+    let row = Hir::concat(trees_of_all_kinds(alloc)?);
+    assert_clone_shows_the_same(&rt, alloc, &row)?;
+    let branches = Hir::alternation(trees_of_all_kinds(alloc)?);
+    assert_clone_shows_the_same(&rt, alloc, &branches)?;
     Ok(())
 }
 
