@@ -19,7 +19,7 @@ pub use answer::run;
 pub use ending::{Ending, Failure};
 pub use error::RunError;
 pub use longest::longest_match;
-pub use outcome::Outcome;
+pub use outcome::{Outcome, outcome_line};
 pub use terminals::{Terminals, read_terminals};
 pub use watched::Watched;
 pub use words::arguments;

@@ -32,7 +32,7 @@ fn tree_of(alloc: Global, kind: Kind, text: &str) -> Result<Regex, RegexError>
 
 /// What the line says. A line whose pattern has no tree is no bad line.
 pub fn meaning_of(alloc: Global, line: &[u8]) -> Result<Meaning, AllocError>
-    ensures { IfOk result (λ meaning. LineSays line.now meaning) }
+    ensures said { IfOk result (λ meaning. LineSays line.now meaning) }
 {
     let Some((precedence, kind, text)) = line_parts(line) else {
         return Ok(Meaning::Bad);

@@ -15,7 +15,7 @@ use Rattle.lexdfa_lib.specs.Printed.{line_of}
 use Rattle.lexdfa_lib.specs.declared.outcome.Outcome.{Outcome}
 use Rattle.lexdfa_lib.specs.declared.outcome.Outcome.TheVariants.{Match, NoMatch, Syntax, Line}
 use Rattle.lexdfa_lib.proofs.Unique.{outcome-unique}
-use Rattle.lexdfa_lib.proofs.Cases.Line.{line_of_a_literal_is_not_bad, x_is_bad}
+use Rattle.lexdfa_lib.proofs.Cases.Line.{line_of_a_literal_is_not_bad, x_is_bad, line_says_no_tree, line_of_a_literal_has_a_tree, x_is_not_without_a_tree}
 use Rattle.lexdfa_lib.proofs.Cases.Terminals.{lines_are_terminals}
 
 abbrev a : Tree
@@ -98,6 +98,14 @@ bad_line_is_the_outcome = x_is_bad
 none_is_not_the_outcome_of_a_bad_line : ¬ IsOutcome (codes "x\n") (codes "a") NoMatch
 none_is_not_the_outcome_of_a_bad_line h = let e : Line 0 ≡ NoMatch = outcome-unique (codes "x\n") (codes "a") _ _ bad_line_is_the_outcome h in absurd (cc)
 
+-- the input `0 r *a`: the pattern of line 0 has no tree
+syntax_is_the_outcome : IsOutcome (codes "0 r *a\n") (codes "a") (Syntax 0)
+syntax_is_the_outcome = line_says_no_tree
+
+-- neither of a terminal nor of a bad line
+syntax_is_not_the_outcome : (¬ IsOutcome (codes "0 l a\n") (codes "a") (Syntax 0)) × (¬ IsOutcome (codes "x\n") (codes "a") (Syntax 0))
+syntax_is_not_the_outcome = (line_of_a_literal_has_a_tree, x_is_not_without_a_tree)
+
 -- no input: none
 none_is_the_outcome_of_no_lines : IsOutcome (codes "") (codes "a") NoMatch
 none_is_the_outcome_of_no_lines =
@@ -108,6 +116,10 @@ none_is_the_outcome_of_no_lines =
 line_is_the_answer : IsAnswer (codes "x\n") (codes "a") (codes "line 0\n")
 unfolding digits
 line_is_the_answer = (Line 0, (bad_line_is_the_outcome, refl))
+
+syntax_is_the_answer : IsAnswer (codes "0 r *a\n") (codes "a") (codes "syntax 0\n")
+unfolding digits
+syntax_is_the_answer = (Syntax 0, (syntax_is_the_outcome, refl))
 
 -- not without its line feed
 line_without_its_end_is_not_the_answer : ¬ IsAnswer (codes "x\n") (codes "a") (codes "line 0")

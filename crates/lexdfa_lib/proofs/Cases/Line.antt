@@ -1,16 +1,18 @@
 -- Cases of specs/Line.antt.
-use Rattle.std.proofs.Common.{◌≡◌, ℕ, ◌<◌, List, [], ◌∷◌, ◌++◌, get_or, codes, refl, sym, ap, subst, lit≤, arith}
+use Rattle.std.proofs.Common.{◌≡◌, ℕ, ◌<◌, List, [], ◌∷◌, ◌++◌, get_or, drop, codes, refl, sym, ap, subst, lit≤, arith}
 use Rattle.std.specs.Char.{digit_value}
 use Rattle.std.specs.Str.{chars}
 use Rattle.std.specs.Str.Parse.{AllDigits, digits_value}
 use Rattle.std.proofs.lemmas.Str.Parse.{digit_from_value}
 use Rattle.lalrpop_hir.specs.Tree.{Tree, empty, literal, of_text}
 use Rattle.lalrpop_re.specs.GroupName.{names}
-use Rattle.lalrpop_re.specs.Pattern.{no_piece, last_branch, of_branches}
+use Rattle.lalrpop_re.specs.Pattern.{Pattern, no_piece, last_branch, of_branches}
+use Rattle.lalrpop_re.specs.Internal.Reading as reading
+use Rattle.lalrpop_re.proofs.PatternLaws.{missing}
 use Rattle.lexdfa_lib.specs.Line.{IsPrecedence, letter, IsLine, Spells, LineSays}
 use Rattle.lexdfa_lib.specs.declared.line.Kind.{Kind}
 use Rattle.lexdfa_lib.specs.declared.line.Kind.TheVariants.{Literal, Regex}
-use Rattle.lexdfa_lib.specs.declared.meaning.Meaning.TheVariants.{Bad, Terminal}
+use Rattle.lexdfa_lib.specs.declared.meaning.Meaning.TheVariants.{Bad, NoTree, Terminal}
 
 -- ---- precedences
 
@@ -129,3 +131,45 @@ x_is_bad = x_is_no_line
 
 pub x_says_no_terminal : (n : ℕ) (t : Tree) → ¬ LineSays (codes "x") (Terminal n t)
 x_says_no_terminal n t h = x_is_no_line n h.0 h.1.0 h.1.1.0
+
+-- `0 r *a` is a line whose pattern has no tree, since an operator has to have something before it
+line_of_no_pattern : IsLine (codes "0 r *a") 0 Regex (codes "*a")
+unfolding lib.Utf8.encode
+line_of_no_pattern = record { digits = codes "0"; parts = refl; precedence = zero_is_a_precedence; utf8 = (codes "0 r *a", (refl, refl)) }
+
+chars_of_no_pattern : chars (codes "*a") ≡ codes "*a"
+unfolding chars
+chars_of_no_pattern = refl
+
+operator_alone : (t : Tree) → Pattern (codes "*a") t → ⊥
+unfolding reading.read reading.inside reading.expression_with reading.branches reading.row reading.row_step reading.directive_at reading.piece reading.atom
+operator_alone = missing (codes "*a") refl
+
+pub line_says_no_tree : LineSays (codes "0 r *a") NoTree
+line_says_no_tree = (0, (codes "*a", (line_of_no_pattern, λ t h. operator_alone t (subst (λ w. Pattern w t) chars_of_no_pattern h))))
+
+-- it isn't bad, and no terminal
+pub line_of_no_pattern_is_not_bad : ¬ LineSays (codes "0 r *a") Bad
+line_of_no_pattern_is_not_bad h = h 0 Regex (codes "*a") line_of_no_pattern
+
+-- a line with a literal has a tree
+pub line_of_a_literal_has_a_tree : ¬ LineSays (codes "0 l a") NoTree
+line_of_a_literal_has_a_tree h = by_digits h.1.1.0.digits h.1.1.0.parts h.1.1.0.precedence.numeral.1
+  where
+    by_digits : (ds : List ℕ) → codes "0 l a" ≡ ds ++ (codes " " ++ (letter Regex ++ (codes " " ++ h.1.0))) → AllDigits 10 ds → ⊥
+    by_digits [] e all = let m : 48 ≡ 32 = ap (λ u. get_or u 0 0) e in omega (arith, m)
+    by_digits (d ∷ []) e all = let m : 108 ≡ 114 = ap (λ u. get_or u 2 0) e in omega (arith, m)
+    by_digits (d ∷ c ∷ ds) e all = let m : 32 ≡ c = ap (λ u. get_or u 1 0) e in absurd (no_digit c all.1.0 (sym m))
+
+-- so has one with the empty pattern
+line_of_the_empty_pattern_has_a_tree : ¬ LineSays (codes "0 r ") NoTree
+line_of_the_empty_pattern_has_a_tree h = h.1.1.1 empty (subst (λ w. Spells Regex w empty) (by_digits h.1.1.0.digits h.1.1.0.parts h.1.1.0.precedence.numeral.1) empty_pattern_spells_the_empty_tree)
+  where
+    by_digits : (ds : List ℕ) → codes "0 r " ≡ ds ++ (codes " " ++ (letter Regex ++ (codes " " ++ h.1.0))) → AllDigits 10 ds → [] ≡ h.1.0
+    by_digits [] e all = let m : 48 ≡ 32 = ap (λ u. get_or u 0 0) e in absurd (omega (arith, m))
+    by_digits (d ∷ []) e all = ap (drop 4) e
+    by_digits (d ∷ c ∷ ds) e all = let m : 32 ≡ c = ap (λ u. get_or u 1 0) e in absurd (no_digit c all.1.0 (sym m))
+
+-- `x` is bad, and not without a tree
+pub x_is_not_without_a_tree : ¬ LineSays (codes "x") NoTree
+x_is_not_without_a_tree h = x_is_no_line h.0 Regex h.1.0 h.1.1.0

@@ -3,8 +3,8 @@ use Rattle.std.proofs.Common.{ℕ, [], ◌∷◌, codes}
 use Rattle.lalrpop_hir.specs.Tree.{Tree, of_text}
 use Rattle.lexdfa_lib.specs.Terminals.{AreTerminals, FirstSays, AreSaid}
 use Rattle.lexdfa_lib.specs.declared.meaning.Meaning.TheVariants as meaning
-use Rattle.lexdfa_lib.specs.declared.terminals.Terminals.TheVariants.{Bad}
-use Rattle.lexdfa_lib.proofs.Cases.Line.{line_says_a_literal, line_does_not_say_another_precedence, line_of_a_literal_is_not_bad, x_is_bad, x_says_no_terminal}
+use Rattle.lexdfa_lib.specs.declared.terminals.Terminals.TheVariants.{Bad, NoTree}
+use Rattle.lexdfa_lib.proofs.Cases.Line.{line_says_a_literal, line_does_not_say_another_precedence, line_of_a_literal_is_not_bad, x_is_bad, x_says_no_terminal, line_says_no_tree, line_of_no_pattern_is_not_bad, line_of_a_literal_has_a_tree, x_is_not_without_a_tree}
 
 -- each line has its tree and its precedence
 pub lines_are_terminals : AreTerminals (codes "0 l a" ∷ []) (of_text (codes "a") ∷ []) (0 ∷ [])
@@ -42,3 +42,17 @@ bytes_with_a_bad_line = first_bad_line
 
 bytes_without_a_bad_line : ¬ AreSaid (codes "0 l a\n") (Bad 0)
 bytes_without_a_bad_line h = line_of_a_literal_is_not_bad h
+
+-- of `0 l a` and `0 r *a` the second line is the first that is no terminal, and its pattern has no tree
+bytes_with_a_pattern_without_a_tree : AreSaid (codes "0 l a\n0 r *a\n") (NoTree 1)
+bytes_with_a_pattern_without_a_tree = ((0, (of_text (codes "a"), line_says_a_literal)), line_says_no_tree)
+
+-- it isn't told as a bad line, nor a bad line or a terminal as one without a tree
+pattern_without_a_tree_is_no_bad_line : ¬ AreSaid (codes "0 r *a\n") (Bad 0)
+pattern_without_a_tree_is_no_bad_line h = line_of_no_pattern_is_not_bad h
+
+bad_line_is_not_without_a_tree : ¬ AreSaid (codes "x\n") (NoTree 0)
+bad_line_is_not_without_a_tree h = x_is_not_without_a_tree h
+
+bytes_without_a_pattern_without_a_tree : ¬ AreSaid (codes "0 l a\n") (NoTree 0)
+bytes_without_a_pattern_without_a_tree h = line_of_a_literal_has_a_tree h

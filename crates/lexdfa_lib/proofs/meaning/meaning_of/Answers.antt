@@ -10,4 +10,4 @@ returns-in-Err-Syntax c =
     let text = c.in-Some.text.now in
     let kind : c.in-Some.kind ≡ Regex = c.in-Err-Syntax.ensures.pattern (λ e. cc) in
     let none = rw c.in-Err-Syntax.field-0-is at c.in-Err-Syntax.ensures.none in
-    (n, (text, (subst (λ k. IsLine line n k text) kind c.in-Some.ensures.some, none)))
+    record { said = (n, (text, (subst (λ k. IsLine line n k text) kind c.in-Some.ensures.some, none))) }
