@@ -76,6 +76,8 @@ impl Lexer {
     /// The first line that is no terminal; else what `new` reports of the terminals.
     pub fn from_lines(alloc: Global, bytes: &[u8]) -> Result<Lexer, BuildError>
         ensures terminals { IfOk result (λ lexer. AreTerminals (lines bytes.now) lexer.trees lexer.precedences) }
+        ensures no_fault { IfOk result (λ lexer. NoFault lexer.trees) }
+        ensures no_clash { IfOk result (λ lexer. NoClash lexer.trees lexer.precedences) }
         ensures error { IfErr result (λ e. IsBuildError bytes.now e) }
     {
         match read_terminals(alloc, bytes) {

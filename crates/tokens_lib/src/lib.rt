@@ -4,12 +4,14 @@
 //! ambiguous, is an invariant of the type, so only building it has a condition.
 #![tactic(auto)]
 
+mod cut_lines;
 mod error;
 mod lexer;
+mod quote;
 mod show;
 mod token;
 
 pub use error::BuildError;
 pub use lexer::Lexer;
-pub use show::show_tokens;
+pub use show::{Ended, Shown, show_tokens, status_of};
 pub use token::{Token, Tokens};

@@ -1,68 +1,104 @@
+ghost use Rattle.std.specs.Prelude.{◌≡◌, ◌≢◌, map, string_bytes, IfOk, IfErr};
+ghost use Rattle.std.specs.IoError.{error_kind};
+ghost use Rattle.tokens_lib.specs.Shown.{error_line, IsShown, ended_status};
+
+use crate::cut_lines::all_lines;
+use crate::error::BuildError;
 use crate::lexer::Lexer;
+use lexdfa_lib::{Outcome, outcome_line};
 use std::alloc::{AllocError, Global};
 use std::env;
 use std::io::{self, ErrorKind, Read};
 use std::process::ExitCode;
 use std::rt::Env;
 
-// The status where the input can't be read or the output can't be written.
-const IO_FAILED: u8 = 6;
-
-/// A line for each token: the number of its terminal, its length in bytes and its slice, quoted. Then `end`, or `none` and the
-/// offset of the first place where no terminal matches.
-fn lines_of(alloc: Global, lexer: &Lexer, text: &str) -> Result<(String, bool), AllocError> {
-    let cut = lexer.tokens(alloc, text)?;
-    let mut lines = String::new(alloc);
-    for token in &cut.tokens {
-        let terminal = token.index.index();
-        let slice = token.slice;
-        let bytes = slice.len();
-        writeln!(lines, "{terminal} {bytes} {slice:?}")?;
-    }
-    let is_whole = cut.rest.is_empty();
-    if is_whole {
-        lines.push_str("end\n")?;
-    } else {
-        let at = text.len() - cut.rest.len();
-        writeln!(lines, "none {at}")?;
-    }
-    Ok((lines, is_whole))
+/// How the cutting of some texts ended.
+#[derive(Drop)]
+pub enum Ended {
+    /// Each text was cut up to its end.
+    Whole,
+    /// Some text was not.
+    Stopped,
+    /// There is no lexer.
+    NoLexer(BuildError),
 }
 
-fn show(rt: &(impl Env + Input + Print + AllocGlobal)) -> io::Result<u8> {
+/// What is written of terminals and texts, and how they ended.
+#[derive(Drop)]
+pub struct Shown {
+    pub written: String,
+    pub ended: Ended,
+}
+
+// The line that tells why there is no lexer.
+fn error_line(alloc: Global, error: &BuildError) -> Result<String, AllocError>
+    ensures { IfOk result (λ line. string_bytes line ≡ error_line error.now) }
+{
+    let outcome = match *error {
+        BuildError::Line { line } => Outcome::Line { line },
+        BuildError::Syntax { line } => Outcome::Syntax { terminal: line },
+        BuildError::Refused { terminal, error } => Outcome::Refused { terminal, error },
+        BuildError::Ambiguous { match0, match1 } => Outcome::Ambiguous { match0, match1 },
+        BuildError::OutOfMemory => return String::from_str(alloc, "out of memory\n"),
+    };
+    outcome_line(alloc, &outcome)
+}
+
+impl Shown {
+    /// The lines of the texts, cut by the terminals that the bytes name. For each token a line with the number of its
+    /// terminal, its length in bytes and its slice, quoted; behind those of a text `end`, or `none` and the offset of
+    /// the first place where no terminal matches. Where there is no lexer, one line that says why.
+    pub fn of(alloc: Global, bytes: &[u8], texts: &[String]) -> Result<Shown, AllocError>
+        ensures shown { IfOk result (λ shown.
+            IsShown bytes.now (map string_bytes texts.now) (string_bytes shown.written) shown.ended) }
+    {
+        match Lexer::from_lines(alloc, bytes) {
+            Ok(lexer) => {
+                let (written, whole) = all_lines(alloc, &lexer, texts)?;
+                let ended = if whole { Ended::Whole } else { Ended::Stopped };
+                Ok(Shown { written, ended })
+            }
+            Err(error) => Ok(Shown {
+                written: error_line(alloc, &error)?,
+                ended: Ended::NoLexer(error),
+            }),
+        }
+    }
+}
+
+/// The exit status: 0 where each text was cut up to its end, 1 where one was not, 2 and 3 where there is no lexer, 5 for
+/// want of memory, and 6 for a failed read or write.
+pub fn status_of(found: &io::Result<Shown>) -> u8
+    ensures ended { IfOk found.now (λ shown. result ≡ ended_status shown.ended) }
+    ensures memory { IfErr found.now (λ e. error_kind e ≡ ErrorKind.OutOfMemory → result ≡ 5) }
+    ensures failed { IfErr found.now (λ e. error_kind e ≢ ErrorKind.OutOfMemory → result ≡ 6) }
+{
+    match found {
+        Ok(shown) => match &shown.ended {
+            Ended::Whole => 0,
+            Ended::Stopped => 1,
+            Ended::NoLexer(error) => error.status(),
+        },
+        Err(error) => match error.kind() {
+            ErrorKind::OutOfMemory => 5,
+            _ => 6,
+        },
+    }
+}
+
+fn show(rt: &(impl Env + Input + Print + AllocGlobal)) -> io::Result<Shown> {
     let alloc = rt.alloc();
     let mut bytes = Vec::new(alloc);
     rt.reader().read_to_end(&mut bytes)?;
-    let lexer = match Lexer::from_lines(alloc, &bytes) {
-        Ok(lexer) => lexer,
-        Err(error) => {
-            println!(rt; "{error}")?;
-            return Ok(error.status());
-        }
-    };
-    let mut status = 0;
-    for text in env::args(rt)?.skip(1) {
-        let (lines, is_whole) = lines_of(alloc, &lexer, &text)?;
-        print!(rt; "{lines}")?;
-        if !is_whole {
-            status = 1;
-        }
-    }
-    Ok(status)
+    let texts = env::args(rt)?.skip(1).collect::<Vec<String>>(alloc)?;
+    let shown = Shown::of(alloc, &bytes, &texts)?;
+    let written = shown.written.as_str();
+    print!(rt; "{written}")?;
+    Ok(shown)
 }
 
-/// Reads terminals from standard input, and writes the tokens of each argument: a line for each token, with the number of its
-/// terminal, its length in bytes and its slice, quoted; then `end`, or `none` and the offset of the first place where no
-/// terminal matches. Where there is no lexer, one line says why.
-///
-/// The status is 0 where each text was cut up to its end, 1 where one was not, 2 and 3 where there is no lexer, 5 for want of
-/// memory, and 6 for a failed read or write.
+/// Reads terminals from standard input, and writes what they and the arguments give (`Shown::of`). The exit status is
+/// that of `status_of`.
 pub fn show_tokens(rt: &(impl Env + Input + Print + AllocGlobal)) -> ExitCode {
-    match show(rt) {
-        Ok(status) => ExitCode::from(status),
-        Err(error) => match error.kind() {
-            ErrorKind::OutOfMemory => ExitCode::from(5),
-            _ => ExitCode::from(IO_FAILED),
-        },
-    }
+    ExitCode::from(status_of(&show(rt)))
 }

@@ -1,0 +1,66 @@
+-- Cases of specs/Shown.antt.
+use Rattle.std.proofs.Common.{◌≡◌, ◌≢◌, ℕ, Bool, true, false, List, [], ◌∷◌, ◌++◌, length, get_or, decimal, codes, refl, sym, ap, ◌∙◌, arith}
+use Rattle.std.specs.Fmt.{digits}
+use Rattle.std.specs.Str.{chars}
+use Rattle.lalrpop_hir.specs.Tree.{Tree}
+use Rattle.lalrpop_lexer.specs.declared.lexer.nfa.NfaConstructionError.TheVariants.{LookAround}
+use Rattle.tokens_lib.specs.Quoted.{quoted}
+use Rattle.tokens_lib.specs.Shown.{token_line, last_line, IsTextShown, AreTextsShown, IsShown, error_line, ended_status}
+use Rattle.tokens_lib.specs.declared.error.BuildError.TheVariants.{Line, Refused, Ambiguous, OutOfMemory}
+use Rattle.tokens_lib.specs.declared.show.Ended.TheVariants.{Whole, Stopped, NoLexer}
+use Rattle.tokens_lib.specs.declared.token.Token.{Token}
+
+-- ---- lines
+
+abbrev line_with : ℕ → List ℕ → List ℕ
+line_with i slice = decimal i ++ (codes " " ++ (decimal (length slice) ++ (codes " " ++ (quoted slice ++ codes "\n"))))
+
+line_with_a : line_with 3 (codes "a") ≡ codes "3 1 \"a\"\n"
+unfolding digits chars lib.Utf8.encode
+line_with_a = refl
+
+-- terminal 3 and the slice `a`
+line_of_a_token : (token : Token) → token.index ≡ 3 → token.slice.now ≡ codes "a" → token_line token ≡ codes "3 1 \"a\"\n"
+line_of_a_token token i s = ap (λ n. line_with n token.slice.now) i ∙ ap (line_with 3) s ∙ line_with_a
+
+-- not the line of terminal 2
+line_of_another_terminal : (token : Token) → token.index ≡ 3 → token.slice.now ≡ codes "a" → token_line token ≢ codes "2 1 \"a\"\n"
+line_of_another_terminal token i s e =
+    let n : 51 ≡ 50 = ap (λ u. get_or u 0 0) (sym (line_of_a_token token i s) ∙ e) in
+    omega (arith, n)
+
+-- nothing is left, or all but one byte
+last_lines : (last_line (codes "ab") [] ≡ codes "end\n") × (last_line (codes "ab") (codes "b") ≡ codes "none 1\n")
+unfolding digits
+last_lines = (refl, refl)
+
+-- where something is left, the line isn't `end`
+end_before_a_rest : last_line (codes "ab") (codes "b") ≢ codes "end\n"
+unfolding digits
+end_before_a_rest e = let n : 7 ≡ 4 = ap length e in omega (arith, n)
+
+-- ---- texts
+
+-- no texts: nothing is written, and each is cut up to its end
+no_texts : (ts : List Tree) (ps : List ℕ) → AreTextsShown ts ps [] [] true
+no_texts ts ps = (refl, refl)
+
+no_texts_are_not_stopped : (ts : List Tree) (ps written : List ℕ) → ¬ AreTextsShown ts ps [] written false
+no_texts_are_not_stopped ts ps written h = let e : false ≡ true = h.1 in absurd (cc)
+
+no_line_without_a_text : (ts : List Tree) (ps : List ℕ) (whole : Bool) → ¬ AreTextsShown ts ps [] (codes "end\n") whole
+no_line_without_a_text ts ps whole h = let e = h.0 in absurd (cc)
+
+-- ---- errors and statuses
+
+lines_of_errors : (error_line (Line 0) ≡ codes "line 0\n") × (error_line (Refused 1 LookAround) ≡ codes "refused 1 LookAround\n")
+    × (error_line (Ambiguous 1 0) ≡ codes "ambiguous 1 0\n")
+unfolding digits
+lines_of_errors = (refl, refl, refl)
+
+statuses : (ended_status Whole ≡ 0) × (ended_status Stopped ≡ 1) × (ended_status (NoLexer (Line 0)) ≡ 3) × (ended_status (NoLexer (Ambiguous 1 0)) ≡ 2) × (ended_status (NoLexer OutOfMemory) ≡ 5)
+statuses = (refl, refl, refl, refl, refl)
+
+-- no text has to be shown where there is no lexer, but the line of the error has to be written
+error_without_its_line : (bytes : List ℕ) (texts : List (List ℕ)) → ¬ IsShown bytes texts [] (NoLexer OutOfMemory)
+error_without_its_line bytes texts h = let e = h.1 in absurd (cc)

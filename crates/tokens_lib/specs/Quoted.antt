@@ -1,0 +1,28 @@
+-- cases: proofs/Cases/Quoted.antt
+-- A slice in quotes.
+use Rattle.std.specs.Prelude.{ℕ, false, List, ◌++◌, Option, Some, None, codes, chars, encode_utf8, flat_map, if◌then◌else◌, ◌==◌}
+use Rattle.std.specs.Char.{is_control}
+use Rattle.std.specs.Fmt.{digits}
+
+-- a quote, a backslash, a line feed, a carriage return, a tab and the character 0 are told by a backslash and one character
+abbrev pub short_escape : ℕ → Option (List ℕ)
+short_escape c =
+    if c == 34 then Some (codes "\\\"") else (
+    if c == 92 then Some (codes "\\\\") else (
+    if c == 10 then Some (codes "\\n") else (
+    if c == 13 then Some (codes "\\r") else (
+    if c == 9 then Some (codes "\\t") else (
+    if c == 0 then Some (codes "\\0") else None)))))
+
+-- what stands for a character that has this short escape: it, or for other control characters the number in hexadecimal
+-- digits, or the character itself
+abbrev pub told_by : Option (List ℕ) → ℕ → List ℕ
+told_by (Some escape) c = escape
+told_by None c = if is_control c then codes "\\u{" ++ (digits 16 false c ++ codes "}") else encode_utf8 c
+
+abbrev pub told : ℕ → List ℕ
+told c = told_by (short_escape c) c
+
+-- the characters of the slice between two quotes
+abbrev pub quoted : List ℕ → List ℕ
+quoted slice = codes "\"" ++ (flat_map told (chars slice) ++ codes "\"")

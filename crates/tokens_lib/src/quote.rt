@@ -1,0 +1,44 @@
+ghost use Rattle.std.specs.Prelude.{◌≡◌, ◌++◌, option_map, string_bytes, IfOk, OnOk};
+ghost use Rattle.tokens_lib.specs.Quoted.{short_escape, told, quoted};
+
+use std::alloc::{AllocError, Global};
+
+// What stands for a character that is told by a backslash and one character.
+fn short_escape(c: char) -> Option<&'static str>
+    ensures { option_map (λ escape. escape.now) result ≡ short_escape c }
+{
+    match c {
+        '"' => Some("\\\""),
+        '\\' => Some("\\\\"),
+        '\n' => Some("\\n"),
+        '\r' => Some("\\r"),
+        '\t' => Some("\\t"),
+        '\0' => Some("\\0"),
+        _ => None,
+    }
+}
+
+fn push_told(text: &mut String, c: char) -> Result<(), AllocError>
+    ensures { OnOk result (string_bytes text.new ≡ string_bytes text.old ++ told c) }
+{
+    if let Some(escape) = short_escape(c) {
+        return text.push_str(escape);
+    }
+    if c.is_control() {
+        let number = u32::from(c);
+        return write!(text, "\\u{{{number:x}}}");
+    }
+    text.push(c)
+}
+
+/// The slice between quotes, where quotes, backslashes and control characters are told by what begins with a backslash.
+pub fn quoted(alloc: Global, slice: &str) -> Result<String, AllocError>
+    ensures quoted { IfOk result (λ text. string_bytes text ≡ quoted slice.now) }
+{
+    let mut text = String::from_str(alloc, "\"")?;
+    for c in slice.chars() {
+        push_told(&mut text, c)?;
+    }
+    text.push_str("\"")?;
+    Ok(text)
+}
