@@ -1,10 +1,2 @@
 -- Small cases of the definitions in specs/: Cases/X.antt has those of specs/X.antt.
-mod Text
-mod Flag
-mod GroupName
-mod Escape
-mod Bracket
-mod Operator
-mod Pattern
 mod Refusal
-mod Escaped

@@ -5,12 +5,12 @@ use Rattle.std.proofs.lemmas.Bool.Decides.{nat_tests}
 use Rattle.unicode.specs.CaseFolding.{simple_fold}
 use Rattle.lalrpop_hir.specs.Range.{Range, IsScalar, Covered, IsCanon}
 use Rattle.lalrpop_sets.specs.CharacterSet.{Set, is_scalar, just, range, union_all, some_below, fold, Members, HasRuns}
-use Rattle.lalrpop_re.specs.declared.flags.Flags.{Flags}
+use Rattle.lalrpop_grammar.specs.declared.flags.Flags.{Flags}
 use Rattle.lalrpop_re.specs.declared.escape_sequence.EscapedPart.{EscapedPart}
 use Rattle.lalrpop_re.specs.declared.escape_sequence.EscapedPart.TheVariants as code
-use Rattle.lalrpop_re.specs.Escape.{Escaped, character, set, assertion}
-use Rattle.lalrpop_re.specs.Bracket.{leaf, leaf_or_complement}
-use Rattle.lalrpop_re.specs.Internal.Reading.{stands, range_of}
+use Rattle.lalrpop_grammar.specs.Escape.{Escaped, character, set, assertion}
+use Rattle.lalrpop_grammar.specs.Bracket.{leaf, leaf_or_complement}
+use Rattle.lalrpop_grammar.specs.Internal.Reading.{stands, range_of}
 use Rattle.lalrpop_re.specs.Internal.Views.{HasMembers, StandsForEscaped}
 use Rattle.lalrpop_re.specs.Internal.Items.{Gains}
 

@@ -5,13 +5,13 @@ use Rattle.std.specs.List.{list_all, prefix_len}
 use Rattle.std.proofs.Math.Numerals.{one-add}
 use Rattle.std.proofs.lemmas.List.{drop-drop}
 use Rattle.unicode.specs.Binary.{is_white_space}
-use Rattle.lalrpop_re.specs.Text.{Text, begins}
+use Rattle.lalrpop_grammar.specs.Text.{Text, begins}
 use Rattle.lalrpop_sets.specs.CharacterSet.{Set}
-use Rattle.lalrpop_re.specs.Escape.{set, property, sign, is_set_name_char}
+use Rattle.lalrpop_grammar.specs.Escape.{set, property, sign, is_set_name_char}
 use Rattle.lalrpop_sets.specs.NamedSet.{named}
-use Rattle.lalrpop_re.specs.Operator.{decimal}
-use Rattle.lalrpop_re.specs.Internal.Reading.{span, digits_of, name_of, set_named, signed, escape, count}
-use Rattle.lalrpop_re.proofs.Steps.{decided, some_is, span_joins, span_passes}
+use Rattle.lalrpop_grammar.specs.Operator.{decimal}
+use Rattle.lalrpop_grammar.specs.Internal.Reading.{span, digits_of, name_of, set_named, signed, escape, count}
+use Rattle.lalrpop_grammar.proofs.Steps.{decided, some_is, span_joins, span_passes}
 use Rattle.lalrpop_re.proofs.Numbers.{not_empty, is_empty}
 
 -- ---- spans

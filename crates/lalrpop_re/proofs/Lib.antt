@@ -1,16 +1,9 @@
 mod Cases
-mod Steps
-mod Escapes
-mod BracketLaws
-mod LexicalLaws
-mod OpeningLaws
 mod OpeningSteps
-mod SetLaws
 mod Lexemes
 mod ItemLaws
 mod BracketLoops
 mod ParserLoops
-mod NameLaws
-pub mod PatternLaws
-mod EscapedLemmas
 mod Numbers
+-- that a text spells one tree at most
+pub use Rattle.lalrpop_grammar.proofs.PatternLaws

@@ -9,10 +9,10 @@ use Rattle.std.proofs.lemmas.Bool.{lt-ltb, le-ltb, ltb-true, ltb-false, and_part
 use Rattle.std.proofs.lemmas.Bool.Decides.{nat_tests}
 use Rattle.std.proofs.lemmas.List.{at_drop_more, at_drop_all}
 use Rattle.lalrpop_sets.specs.CharacterSet.{is_scalar}
-use Rattle.lalrpop_re.specs.Escape.{hex_value}
-use Rattle.lalrpop_re.specs.Operator.{decimal}
-use Rattle.lalrpop_re.specs.Internal.Reading.{hex}
-use Rattle.lalrpop_re.proofs.Steps.{decided, guarded, some_is}
+use Rattle.lalrpop_grammar.specs.Escape.{hex_value}
+use Rattle.lalrpop_grammar.specs.Operator.{decimal}
+use Rattle.lalrpop_grammar.specs.Internal.Reading.{hex}
+use Rattle.lalrpop_grammar.proofs.Steps.{decided, guarded, some_is}
 
 -- ---- a loop over digits
 

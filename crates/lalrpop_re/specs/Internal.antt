@@ -1,4 +1,3 @@
-pub mod Reading
 pub mod Views
 pub mod Signs
 pub mod Items

@@ -1,15 +1,16 @@
--- What a pattern stands for, in reading order: characters, flags, names, escapes, brackets, operators, patterns.
-pub mod Text
-pub mod Flag
-pub mod GroupName
-pub mod Escape
-pub mod Bracket
-pub mod Operator
-pub mod Pattern
+-- What a refusal says.
 pub mod Refusal
-pub mod Escaped
 -- what serves the proofs alone
 pub mod Internal
+-- the grammar, for callers
+pub use Rattle.lalrpop_grammar.specs.Text
+pub use Rattle.lalrpop_grammar.specs.Flag
+pub use Rattle.lalrpop_grammar.specs.GroupName
+pub use Rattle.lalrpop_grammar.specs.Escape
+pub use Rattle.lalrpop_grammar.specs.Bracket
+pub use Rattle.lalrpop_grammar.specs.Operator
+pub use Rattle.lalrpop_grammar.specs.Pattern
+pub use Rattle.lalrpop_grammar.specs.Escaped
 -- the definitions of the trees, for callers
 pub use Rattle.lalrpop_hir.specs.Word
 pub use Rattle.lalrpop_hir.specs.Range

@@ -3,9 +3,9 @@
 use Rattle.std.specs.Prelude.{ℕ, List}
 use Rattle.std.specs.Str.{IsCharBoundary}
 use Rattle.lalrpop_hir.specs.Tree.{Tree}
-use Rattle.lalrpop_re.specs.Pattern.{Pattern}
-use Rattle.lalrpop_re.specs.declared.error.RegexError.{RegexError}
-use Rattle.lalrpop_re.specs.declared.error.RegexError.TheVariants.{Syntax, OutOfMemory}
+use Rattle.lalrpop_grammar.specs.Pattern.{Pattern}
+use Rattle.lalrpop_grammar.specs.declared.error.RegexError.{RegexError}
+use Rattle.lalrpop_grammar.specs.declared.error.RegexError.TheVariants.{Syntax, OutOfMemory}
 
 -- a syntax error means that the text is no pattern
 abbrev pub HasNoTree : List ℕ → RegexError → Type 0

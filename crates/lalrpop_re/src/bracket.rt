@@ -2,19 +2,17 @@
 ghost use Rattle.std.specs.Prelude.{◌≡◌, ◌+◌, ◌-◌, ◌^◌, ◌<◌, ◌≤◌, IsTrue, IsFalse, IfSome, IfOk, OnOk, MatchOption, length, drop, Some, None, option_map, option_to_list};
 ghost use Rattle.std.specs.List.{prefix_len};
 ghost use Rattle.std.specs.Char.{is_ascii_lowercase};
-ghost use Rattle.lalrpop_re.specs.Text.{begins};
+ghost use Rattle.lalrpop_grammar.specs.Text.{begins};
 ghost use Rattle.lalrpop_sets.specs.CharacterSet.{Set, just, range, complement, union_all, HasRuns};
-ghost use Rattle.lalrpop_re.specs.Escape.{Escaped};
-ghost use Rattle.lalrpop_re.specs.Bracket.{leaf, leaves, leaf_or_complement, ends_operand, begins_range};
-ghost use Rattle.lalrpop_re.specs.Internal.Reading.{span, posix_named, posix, primary, operator_of, past_hyphens, lead, range_of, stands, simple_item, item, whole_operand, all_operations, operands, bracket_with, bracket};
+ghost use Rattle.lalrpop_grammar.specs.Escape.{Escaped};
+ghost use Rattle.lalrpop_grammar.specs.Bracket.{leaf, leaves, leaf_or_complement, apply, ends_operand, begins_range};
+ghost use Rattle.lalrpop_grammar.specs.Internal.Reading.{span, posix_named, posix, primary, operator_of, past_hyphens, lead, range_of, stands, simple_item, item, whole_operand, all_operations, operands, bracket_with, bracket};
 ghost use Rattle.lalrpop_re.specs.Internal.Views.{text, unread, Finds, HasMembers, StandsForEscaped, operator_view};
 ghost use Rattle.lalrpop_re.specs.Internal.Items.{Gains};
 
 use crate::cursor::{Cursor, error_at};
-use crate::error::{RegexError, SyntaxKind};
 use crate::escape_sequence::{EscapedPart, parse_escape};
-use crate::flags::Flags;
-use crate::sets::{applied, leaf_of_range, leaf_of_set};
+use lalrpop_grammar::{Flags, RegexError, SyntaxKind, leaf_of_range, leaf_of_set};
 use lalrpop_hir::{ClassUnicode, ClassUnicodeRange};
 use lalrpop_sets::posix_class;
 use std::alloc::{AllocError, Global};
@@ -53,7 +51,7 @@ pub(crate) fn parse_bracket(cursor: &mut Cursor, room: u32) -> Result<BracketSet
 
 /// Reads a bracket inside which so many levels are left.
 #[cycle(bracket)]
-#[tactic(auto, unfolding(crate::specs::Internal::Reading::bracket_with))]
+#[tactic(auto, unfolding(lalrpop_grammar::specs::Internal::Reading::bracket_with))]
 fn parse_enclosed(cursor: &mut Cursor, room: u32) -> Result<BracketSet, RegexError>
     requires { room < 2 ^ 32 - 1 }
     ensures value { Finds (λ b x. HasRuns b.class x.set × (b.depth ≡ x.depth) × (text cursor.new ≡ x.rest)) result (bracket_with cursor.old.flags (bracket cursor.old.flags room) (text cursor.old)) }
@@ -93,7 +91,7 @@ fn complemented(alloc: Global, class: &ClassUnicode) -> Result<ClassUnicode, All
 
 /// Reads the operands of the bracket that opened at a position, up to its `]`.
 #[cycle(bracket)]
-#[tactic(auto, unfolding(crate::specs::Internal::Reading::operands))]
+#[tactic(auto, unfolding(lalrpop_grammar::specs::Internal::Reading::operands))]
 fn parse_operands(cursor: &mut Cursor, room: u32, opened: usize) -> Result<BracketSet, RegexError>
     ensures value { Finds (λ b x. HasRuns b.class x.set × (b.depth ≡ x.depth) × (text cursor.new ≡ x.rest)) result (operands cursor.old.flags (bracket cursor.old.flags room) (text cursor.old)) }
     ensures flags { cursor.new.flags ≡ cursor.old.flags }
@@ -137,8 +135,24 @@ fn parse_operations(
     Ok(BracketSet { class, depth })
 }
 
+/// The left set and the right one under an operator.
+fn applied(
+    alloc: Global,
+    operator: BracketOperator,
+    left: &ClassUnicode,
+    right: &ClassUnicode,
+) -> Result<ClassUnicode, AllocError>
+    ensures { IfOk result (λ r. (s t : Set) → HasRuns left.now s → HasRuns right.now t → HasRuns r (apply (operator_view operator) s t)) }
+{
+    match operator {
+        BracketOperator::Intersection => left.intersection(alloc, right),
+        BracketOperator::Difference => left.difference(alloc, right),
+        BracketOperator::SymmetricDifference => left.symmetric_difference(alloc, right),
+    }
+}
+
 /// The operator that follows.
-#[tactic(auto, unfolding(crate::specs::Internal::Reading::operator_of))]
+#[tactic(auto, unfolding(lalrpop_grammar::specs::Internal::Reading::operator_of))]
 fn set_operator_at(cursor: &Cursor) -> Option<BracketOperator>
     ensures { option_map operator_view result ≡ operator_of (text cursor.now) }
 {
@@ -155,7 +169,7 @@ fn set_operator_at(cursor: &Cursor) -> Option<BracketOperator>
 }
 
 /// Reads the hyphens or the `]` at the front of the first operand, and gives the character that they stand for.
-#[tactic(auto, unfolding(crate::specs::Internal::Reading::lead))]
+#[tactic(auto, unfolding(lalrpop_grammar::specs::Internal::Reading::lead))]
 fn parse_lead(cursor: &mut Cursor) -> Option<char>
     ensures value { lead (text cursor.old) ≡ (option_to_list result, text cursor.new) }
     ensures flags { cursor.new.flags ≡ cursor.old.flags }
@@ -236,7 +250,7 @@ fn ends_operand(cursor: &Cursor) -> bool
 
 /// Reads an item, adds its set to the ranges, and gives its depth.
 #[cycle(bracket)]
-#[tactic(auto, unfolding(crate::specs::Internal::Reading::item, crate::specs::Internal::Reading::item_or))]
+#[tactic(auto, unfolding(lalrpop_grammar::specs::Internal::Reading::item, lalrpop_grammar::specs::Internal::Reading::item_or))]
 fn parse_item(
     cursor: &mut Cursor,
     room: u32,
@@ -268,7 +282,7 @@ struct PosixClass {
 }
 
 /// Reads the POSIX class that begins with the next character, where there is one.
-#[tactic(auto, unfolding(crate::specs::Internal::Reading::posix))]
+#[tactic(auto, unfolding(lalrpop_grammar::specs::Internal::Reading::posix))]
 fn parse_posix(cursor: &mut Cursor) -> Result<Option<PosixClass>, AllocError>
     ensures value { IfOk result (λ found. MatchOption found ((posix (text cursor.old) ≡ None) × (text cursor.new ≡ text cursor.old))
         (λ p. (s : Set) × (posix (text cursor.old) ≡ Some (s, p.negated, text cursor.new)) × HasRuns p.class s × (unread cursor.new < unread cursor.old))) }
@@ -324,7 +338,7 @@ fn letters_len(text: &[char]) -> usize
 }
 
 /// Reads a primary or a range, and adds its set to the ranges.
-#[tactic(auto, unfolding(crate::specs::Internal::Reading::simple_item))]
+#[tactic(auto, unfolding(lalrpop_grammar::specs::Internal::Reading::simple_item))]
 fn parse_simple_item(
     cursor: &mut Cursor,
     ranges: &mut Vec<ClassUnicodeRange>,
@@ -350,7 +364,7 @@ struct Primary {
 }
 
 /// Reads an escape, or a character that stands for itself.
-#[tactic(auto, unfolding(crate::specs::Internal::Reading::primary))]
+#[tactic(auto, unfolding(lalrpop_grammar::specs::Internal::Reading::primary))]
 fn parse_primary(cursor: &mut Cursor) -> Result<Primary, RegexError>
     ensures value { Finds (λ p x. StandsForEscaped p.part x.0 × (text cursor.new ≡ x.1)) result (primary (text cursor.old)) }
     ensures flags { cursor.new.flags ≡ cursor.old.flags }

@@ -2,8 +2,7 @@ ghost use Rattle.std.specs.Prelude.{◌≡◌, ◌<◌, ◌≤◌, nat_eq, lengt
 ghost use Rattle.std.specs.List.{starts_with};
 ghost use Rattle.std.specs.Str.{chars};
 
-use crate::error::{RegexError, SyntaxKind};
-use crate::flags::Flags;
+use lalrpop_grammar::{Flags, RegexError, SyntaxKind};
 use std::alloc::{AllocError, Global};
 
 /// The characters of a pattern, how far they are read, and the flags that hold there.
@@ -19,7 +18,7 @@ pub(crate) struct Cursor {
 }
 
 impl Cursor {
-    ghost use Rattle.lalrpop_re.specs.Flag.{no_flags};
+    ghost use Rattle.lalrpop_grammar.specs.Flag.{no_flags};
     ghost use Rattle.lalrpop_re.specs.Internal.Views.{text_from, text, unread};
 
     /// Stands before the first character, with no flag set.

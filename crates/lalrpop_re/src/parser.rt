@@ -3,23 +3,23 @@ ghost use Rattle.std.specs.Prelude.{◌≡◌, ◌+◌, ◌-◌, ◌^◌, ◌<�
 ghost use Rattle.std.specs.Str.{chars, IsCharBoundary};
 ghost use Rattle.lalrpop_hir.specs.Counts.{AreOrdered};
 ghost use Rattle.lalrpop_hir.specs.Tree.{Tree, repetition, capture};
-ghost use Rattle.lalrpop_re.specs.Text.{begins};
-ghost use Rattle.lalrpop_re.specs.Pattern.{Pattern, most_levels, is_special, escaped_tree, ends_branch, branch, choice};
-ghost use Rattle.lalrpop_re.specs.Escape.{Escaped};
+ghost use Rattle.lalrpop_grammar.specs.Text.{begins};
+ghost use Rattle.lalrpop_grammar.specs.Pattern.{Pattern, most_levels, is_special, escaped_tree, ends_branch, branch, choice};
+ghost use Rattle.lalrpop_grammar.specs.Escape.{Escaped};
 ghost use Rattle.lalrpop_re.specs.Refusal.{HasNoTree, PointsInto};
-ghost use Rattle.lalrpop_re.specs.Internal.Reading.{is_at_operator, all_operators, atom, piece, enclosed, whole_row, all_branches, begin, inside, read};
+ghost use Rattle.lalrpop_grammar.specs.Internal.Reading.{is_at_operator, all_operators, atom, piece, enclosed, whole_row, all_branches, begin, inside, read};
 ghost use Rattle.lalrpop_re.specs.Internal.Views.{text, unread, Gives, StandsForEscaped};
 ghost use Rattle.lalrpop_re.specs.Internal.Parts.{group_or_directive, step, escaped_part, bracket_part, part, line, whole, step_of};
 
 use crate::bracket::{BracketSet, parse_bracket};
 use crate::cursor::{Cursor, error_at};
-use crate::error::{RegexError, SyntaxKind};
 use crate::escape_sequence::{EscapedPart, parse_escape};
-use crate::flags::Flags;
-use crate::names::repeated_name;
 use crate::opening::{GroupOpening, parse_opening};
 use crate::operator::{RepetitionOperator, is_at_operator, parse_operator};
-use crate::sets::{leaf_of_set, tree_of_character, tree_of_class, tree_of_dot};
+use lalrpop_grammar::{
+    Flags, RegexError, SyntaxKind, leaf_of_set, repeated_name, tree_of_character, tree_of_class,
+    tree_of_dot,
+};
 use lalrpop_hir::{Capture, Hir, Look, Regex, Repetition};
 use std::alloc::{AllocError, Global};
 
@@ -95,7 +95,7 @@ fn byte_offset(s: &str, characters: usize) -> usize
 }
 
 /// Reads a pattern. A refusal's position counts characters.
-#[tactic(auto, unfolding(crate::specs::Internal::Reading::read))]
+#[tactic(auto, unfolding(lalrpop_grammar::specs::Internal::Reading::read))]
 fn parse_whole(alloc: Global, pattern: &str) -> Result<Hir, RegexError>
     ensures { Gives (λ t. t) result (read most_levels (chars pattern.now)) }
 {
@@ -112,7 +112,7 @@ fn parse_whole(alloc: Global, pattern: &str) -> Result<Hir, RegexError>
 
 /// Reads an expression, where so many levels are left.
 #[cycle(parser)]
-#[tactic(auto, unfolding(crate::specs::Internal::Reading::inside, crate::specs::Internal::Reading::expression_with))]
+#[tactic(auto, unfolding(lalrpop_grammar::specs::Internal::Reading::inside, lalrpop_grammar::specs::Internal::Reading::expression_with))]
 fn parse_expression(cursor: &mut Cursor, room: u32) -> Result<Nested, RegexError>
     ensures value { Gives (λ p. whole p cursor.new) result (inside (suc room) cursor.old.flags (text cursor.old)) }
     ensures moves { OnOk result (unread cursor.new ≤ unread cursor.old) }
@@ -216,7 +216,7 @@ fn parse_parenthesis(cursor: &mut Cursor, room: u32) -> Result<Option<Nested>, R
 
 /// Reads the expression of a group under the flags, and the `)`. The group began at `start`.
 #[cycle(parser)]
-#[tactic(auto, unfolding(crate::specs::Internal::Reading::enclosed))]
+#[tactic(auto, unfolding(lalrpop_grammar::specs::Internal::Reading::enclosed))]
 fn parse_enclosed(
     cursor: &mut Cursor,
     room: u32,
@@ -258,7 +258,7 @@ fn captured(alloc: Global, name: Option<String>, group: Nested) -> Result<Nested
 }
 
 /// Reads an atom that is no group, and its operators.
-#[tactic(auto, unfolding(crate::specs::Internal::Reading::piece))]
+#[tactic(auto, unfolding(lalrpop_grammar::specs::Internal::Reading::piece))]
 fn parse_piece(cursor: &mut Cursor, room: u32) -> Result<Nested, RegexError>
     requires { begins "(" (text cursor.old) ≡ false }
     ensures value { Gives (λ p. part p (text cursor.new)) result (piece room (inside room) cursor.old.flags (text cursor.old)) }
@@ -271,7 +271,7 @@ fn parse_piece(cursor: &mut Cursor, room: u32) -> Result<Nested, RegexError>
 }
 
 /// Reads an atom that is no group.
-#[tactic(auto, unfolding(crate::specs::Internal::Reading::atom, crate::specs::Internal::Parts::escaped_part, crate::specs::Internal::Parts::bracket_part))]
+#[tactic(auto, unfolding(lalrpop_grammar::specs::Internal::Reading::atom, crate::specs::Internal::Parts::escaped_part, crate::specs::Internal::Parts::bracket_part))]
 fn parse_atom(cursor: &mut Cursor, room: u32) -> Result<Nested, RegexError>
     requires { begins "(" (text cursor.old) ≡ false }
     ensures value { Gives (λ p. part p (text cursor.new)) result (atom room (inside room) cursor.old.flags (text cursor.old)) }

@@ -1,12 +1,12 @@
 -- Cases of specs/Refusal.antt.
 use Rattle.std.proofs.Common.{◌≤◌, [], ◌∷◌, codes, refl, lit≤, arith}
 use Rattle.lalrpop_hir.specs.Tree.{literal}
-use Rattle.lalrpop_re.specs.GroupName.{names}
-use Rattle.lalrpop_re.specs.Pattern.{a_literal, an_atom, no_piece, piece_then, last_branch, of_branches}
+use Rattle.lalrpop_grammar.specs.GroupName.{names}
+use Rattle.lalrpop_grammar.specs.Pattern.{a_literal, an_atom, no_piece, piece_then, last_branch, of_branches}
 use Rattle.lalrpop_re.specs.Refusal.{HasNoTree, PointsInto}
-use Rattle.lalrpop_re.specs.declared.error.RegexError.TheVariants.{Syntax, OutOfMemory}
-use Rattle.lalrpop_re.specs.declared.error.SyntaxKind.TheVariants.{RepetitionMissing}
-use Rattle.lalrpop_re.proofs.Cases.Pattern.{operator_alone}
+use Rattle.lalrpop_grammar.specs.declared.error.RegexError.TheVariants.{Syntax, OutOfMemory}
+use Rattle.lalrpop_grammar.specs.declared.error.SyntaxKind.TheVariants.{RepetitionMissing}
+use Rattle.lalrpop_grammar.proofs.Cases.Pattern.{operator_alone}
 
 -- `*a` is refused
 refusal_of_no_pattern : HasNoTree (codes "*a") (Syntax 0 RepetitionMissing)

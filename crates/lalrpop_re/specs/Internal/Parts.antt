@@ -2,13 +2,13 @@
 use Rattle.std.specs.Prelude.{ℕ, max, List, [], ◌∷◌, ◌++◌, Option, Some, None, drop, option_map, if◌then◌else◌}
 use Rattle.lalrpop_hir.specs.Tree.{Tree, capture}
 use Rattle.lalrpop_re.specs.declared.cursor.Cursor.{Cursor}
-use Rattle.lalrpop_re.specs.declared.flags.Flags.{Flags}
+use Rattle.lalrpop_grammar.specs.declared.flags.Flags.{Flags}
 use Rattle.lalrpop_re.specs.declared.parser.Nested.{Nested}
 use Rattle.lalrpop_re.specs.declared.parser.Row.{Row}
-use Rattle.lalrpop_re.specs.Text.{Text, begins}
+use Rattle.lalrpop_grammar.specs.Text.{Text, begins}
 use Rattle.lalrpop_sets.specs.CharacterSet.{set_tree}
-use Rattle.lalrpop_re.specs.Pattern.{escaped_tree}
-use Rattle.lalrpop_re.specs.Internal.Reading.{◌>>=◌, Opened, a_plain_group, a_named_group, a_flagged_group, a_directive_to, opened, escape, bracket, Part, Line, Whole, Reader, all_operators, enclosed, piece}
+use Rattle.lalrpop_grammar.specs.Pattern.{escaped_tree}
+use Rattle.lalrpop_grammar.specs.Internal.Reading.{◌>>=◌, Opened, a_plain_group, a_named_group, a_flagged_group, a_directive_to, opened, escape, bracket, Part, Line, Whole, Reader, all_operators, enclosed, piece}
 use Rattle.lalrpop_re.specs.Internal.Views.{text}
 
 -- ---- one step of a row

@@ -1,8 +1,8 @@
 -- How the parser's values stand to those of the grammar.
 use Rattle.std.specs.Prelude.{◌≡◌, ◌↔◌, ℕ, List, length, drop, Option, Some, None, Result, Ok, Err, string_bytes}
 use Rattle.lalrpop_hir.specs.Range.{Range, IsScalar, Covered}
-use Rattle.lalrpop_re.specs.declared.error.RegexError.{RegexError}
-use Rattle.lalrpop_re.specs.declared.error.RegexError.TheVariants.{Syntax, OutOfMemory}
+use Rattle.lalrpop_grammar.specs.declared.error.RegexError.{RegexError}
+use Rattle.lalrpop_grammar.specs.declared.error.RegexError.TheVariants.{Syntax, OutOfMemory}
 use Rattle.lalrpop_re.specs.declared.cursor.Cursor.{Cursor}
 use Rattle.lalrpop_re.specs.declared.escape_sequence.EscapedPart.{EscapedPart}
 use Rattle.lalrpop_re.specs.declared.escape_sequence.EscapedPart.TheVariants as code
@@ -10,11 +10,11 @@ use Rattle.lalrpop_re.specs.declared.opening.GroupOpening.{GroupOpening}
 use Rattle.lalrpop_re.specs.declared.opening.GroupOpening.TheVariants.{Plain, Named, Flagged, Directive}
 use Rattle.lalrpop_re.specs.declared.bracket.BracketOperator.{BracketOperator}
 use Rattle.lalrpop_re.specs.declared.bracket.BracketOperator.TheVariants as operator
-use Rattle.lalrpop_re.specs.Text.{Text}
+use Rattle.lalrpop_grammar.specs.Text.{Text}
 use Rattle.lalrpop_sets.specs.CharacterSet.{Set, Members, HasRuns}
-use Rattle.lalrpop_re.specs.Escape.{Escaped, character, set, assertion}
-use Rattle.lalrpop_re.specs.Bracket.{SetOperator, Intersection, Difference, SymmetricDifference}
-use Rattle.lalrpop_re.specs.Internal.Reading.{Opened, a_plain_group, a_named_group, a_flagged_group, a_directive_to}
+use Rattle.lalrpop_grammar.specs.Escape.{Escaped, character, set, assertion}
+use Rattle.lalrpop_grammar.specs.Bracket.{SetOperator, Intersection, Difference, SymmetricDifference}
+use Rattle.lalrpop_grammar.specs.Internal.Reading.{Opened, a_plain_group, a_named_group, a_flagged_group, a_directive_to}
 
 unfoldable pub text_from : ℕ → Text → Text
 text_from = drop

@@ -1,5 +1,5 @@
 use Rattle.std.specs.Str.{chars}
-use Rattle.lalrpop_re.proofs.PatternLaws.{found, missing}
+use Rattle.lalrpop_grammar.proofs.PatternLaws.{found, missing}
 use Rattle.lalrpop_re.proofs.parser.parse_regex.Goals as goal
 
 pub returns-in-Ok-clause-tree : goal.returns-in-Ok-clause-tree

@@ -2,11 +2,11 @@ use Rattle.std.proofs.Common.{◌≡◌, Bool, List, ap, ◌∙◌}
 use Rattle.lalrpop_hir.specs.Range.{Range}
 use Rattle.lalrpop_hir.specs.Tree.{Tree}
 use Rattle.lalrpop_sets.specs.CharacterSet.{Set, set_tree, HasRuns}
-use Rattle.lalrpop_re.specs.declared.flags.Flags.{Flags}
+use Rattle.lalrpop_grammar.specs.declared.flags.Flags.{Flags}
 use Rattle.lalrpop_re.specs.declared.escape_sequence.EscapedPart.TheVariants as code
-use Rattle.lalrpop_re.specs.Escape.{Escaped, character, set, assertion}
-use Rattle.lalrpop_re.specs.Bracket.{leaf_or_complement}
-use Rattle.lalrpop_re.specs.Pattern.{escaped_tree}
+use Rattle.lalrpop_grammar.specs.Escape.{Escaped, character, set, assertion}
+use Rattle.lalrpop_grammar.specs.Bracket.{leaf_or_complement}
+use Rattle.lalrpop_grammar.specs.Pattern.{escaped_tree}
 use Rattle.lalrpop_re.specs.Internal.Views.{StandsForEscaped}
 use Rattle.lalrpop_re.proofs.parser.tree_of_escape.Goals as goal
 
@@ -18,4 +18,4 @@ tree_of_set t flags class leaf negated made h (assertion l) k = absurd k
 
 pub returns-in_ok-leaf-in-Set : goal.returns-in_ok-leaf-in-Set
 returns-in_ok-leaf-in-Set c =
-    rw c.in-Set.is (tree_of_set c.tree_of_class.result c.args.flags c.in-Set.class c.in_ok-leaf-in-Set.leaf c.in-Set.negated c.in_ok-leaf-in-Set.ensures c.tree_of_class.ensures)
+    rw c.in-Set.is (tree_of_set c.tree_of_class.result c.args.flags c.in-Set.class c.in_ok-leaf-in-Set.leaf c.in-Set.negated c.in_ok-leaf-in-Set.ensures.runs c.tree_of_class.ensures.tree)

@@ -1,0 +1,9 @@
+-- Small cases of the definitions in specs/: Cases/X.antt has those of specs/X.antt.
+mod Text
+mod Flag
+mod GroupName
+mod Escape
+mod Bracket
+mod Operator
+pub mod Pattern
+mod Escaped

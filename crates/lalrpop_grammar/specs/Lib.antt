@@ -1,0 +1,22 @@
+-- What a pattern stands for, in reading order: characters, flags, names, escapes, brackets, operators, patterns.
+pub mod Text
+pub mod Flag
+pub mod GroupName
+pub mod Escape
+pub mod Bracket
+pub mod Operator
+pub mod Pattern
+pub mod Escaped
+-- what serves the proofs alone
+pub mod Internal
+-- the definitions of the trees, for callers
+pub use Rattle.lalrpop_hir.specs.Word
+pub use Rattle.lalrpop_hir.specs.Range
+pub use Rattle.lalrpop_hir.specs.Counts
+pub use Rattle.lalrpop_hir.specs.Tree
+pub use Rattle.lalrpop_hir.specs.Level
+pub use Rattle.lalrpop_hir.specs.Language
+-- the definitions of sets of characters, for callers
+pub use Rattle.lalrpop_sets.specs.CharacterSet
+pub use Rattle.lalrpop_sets.specs.NamedSet
+pub use Rattle.lalrpop_sets.specs.PosixSet

@@ -1,0 +1,119 @@
+-- cases: proofs/Cases/Pattern.antt
+-- Patterns: a text and the tree that it spells.
+use Rattle.std.specs.Prelude.{ℕ, ◌<◌, ◌≤◌, ◌+◌, max, Bool, true, false, not, ◌==◌, IsTrue, IsFalse, List, [], ◌∷◌, length, Option, Some, None, if◌then◌else◌, codes, encode_utf8_all}
+use Rattle.lalrpop_hir.specs.Range.{Range}
+use Rattle.lalrpop_hir.specs.Tree.{Tree, empty, literal, look, repetition, capture, concat, alternation, trees}
+use Rattle.lalrpop_hir.specs.declared.hir.Look.TheVariants.{Start, End, StartLF, EndLF}
+use Rattle.lalrpop_grammar.specs.Text.{Text, ◌▸◌}
+use Rattle.lalrpop_sets.specs.CharacterSet.{Set, just, complement, nothing, fold, canon, set_tree, is_one_of}
+use Rattle.lalrpop_grammar.specs.declared.flags.Flags.{Flags}
+use Rattle.lalrpop_grammar.specs.Flag.{no_flags, FlagLetters}
+use Rattle.lalrpop_grammar.specs.GroupName.{is_name, names, are_distinct}
+use Rattle.lalrpop_grammar.specs.Escape.{Escape, Escaped, character, set, assertion}
+use Rattle.lalrpop_grammar.specs.Bracket.{Bracket, leaf_or_complement}
+use Rattle.lalrpop_grammar.specs.Operator.{Operator}
+
+-- ---- trees of atoms, branches and expressions
+
+abbrev pub is_one_member : List Range → Bool
+is_one_member [] = false
+is_one_member (r ∷ []) = r.start == r.end
+is_one_member (r ∷ q ∷ rs) = false
+
+-- A literal character outside brackets. Under the flag `i` it is the set of its foldings, unless that is the character alone.
+abbrev pub literal_tree : Flags → ℕ → Tree
+literal_tree f c =
+    if not f.case_insensitive then literal (c ∷ [])
+    else if is_one_member (canon (fold (just c))) then literal (c ∷ [])
+    else set_tree (fold (just c))
+
+abbrev pub escaped_tree : Flags → Escaped → Tree
+escaped_tree f (character c) = literal_tree f c
+escaped_tree f (set s negated) = set_tree (leaf_or_complement f s negated)
+escaped_tree f (assertion l) = look l
+
+-- `.` is every scalar value but U+000A, and under the flag `s` every scalar value
+abbrev pub dot_tree : Flags → Tree
+dot_tree f = set_tree (if f.dot_matches_new_line then complement nothing else complement (just 10))
+
+-- a branch's tree, of its pieces
+abbrev pub branch : List Tree → Tree
+branch [] = empty
+branch (t ∷ []) = t
+branch (t ∷ u ∷ ts) = concat (trees (t ∷ u ∷ ts))
+
+-- an expression's tree, of its branches
+abbrev pub choice : List Tree → Tree
+choice [] = empty
+choice (t ∷ []) = t
+choice (t ∷ u ∷ ts) = alternation (trees (t ∷ u ∷ ts))
+
+-- ---- how the parts of a pattern end
+
+-- outside brackets these don't stand for themselves; every other character does, `]` and `}` among them
+abbrev pub is_special : ℕ → Bool
+is_special c = is_one_of "\\.+*?()|[{^$" c
+
+abbrev pub ends_expression : Text → Bool
+ends_expression [] = true
+ends_expression (c ∷ t) = is_one_of ")" c
+
+abbrev pub ends_branch : Text → Bool
+ends_branch [] = true
+ends_branch (c ∷ t) = is_one_of "|)" c
+
+-- ---- the grammar
+
+-- `X f t r .. d`: under the flags f the text from t up to r spells an X, and d is the most groups, brackets and repetitions
+-- of this X that a place is inside. g are the flags that it leaves.
+mutual
+  pub data Atom : Flags → Text → Text → Tree → ℕ → Type 0 where
+    a_literal : {f : Flags} {c : ℕ} {r : Text} → IsFalse (is_special c) → Atom f (c ∷ r) r (literal_tree f c) 0
+    a_dot : {f : Flags} {r : Text} → Atom f (codes "." ▸ r) r (dot_tree f) 0
+    a_start : {f : Flags} {r : Text} → Atom f (codes "^" ▸ r) r (look (if f.multi_line then StartLF else Start)) 0
+    an_end : {f : Flags} {r : Text} → Atom f (codes "$" ▸ r) r (look (if f.multi_line then EndLF else End)) 0
+    an_escape : {f : Flags} {t r : Text} {e : Escaped} → Escape t r e → Atom f (codes "\\" ▸ t) r (escaped_tree f e) 0
+    a_bracket : {f : Flags} {t r : Text} {s : Set} {d : ℕ} → Bracket f t r s d → Atom f t r (set_tree s) d
+    -- `(e)`
+    a_capture : {f g : Flags} {t r : Text} {e : Tree} {d : ℕ} → Expression f t (codes ")" ▸ r) e g d → Atom f (codes "(" ▸ t) r (capture None e) (d + 1)
+    -- `(?P<name>e)` and `(?<name>e)`
+    a_named : {f g : Flags} {t r : Text} {e : Tree} {d : ℕ} (name : List ℕ) → IsTrue (is_name name) → Expression f t (codes ")" ▸ r) e g d →
+        Atom f (codes "(?P<" ▸ name ▸ codes ">" ▸ t) r (capture (Some (encode_utf8_all name)) e) (d + 1)
+    a_named_too : {f g : Flags} {t r : Text} {e : Tree} {d : ℕ} (name : List ℕ) → IsTrue (is_name name) → Expression f t (codes ")" ▸ r) e g d →
+        Atom f (codes "(?<" ▸ name ▸ codes ">" ▸ t) r (capture (Some (encode_utf8_all name)) e) (d + 1)
+    -- `(?:e)`, which has no letters, and `(?flags:e)`
+    a_group : {f g h : Flags} {t r : Text} {e : Tree} {d : ℕ} (letters : List ℕ) → FlagLetters f letters g → Expression g t (codes ")" ▸ r) e h d →
+        Atom f (codes "(?" ▸ letters ▸ codes ":" ▸ t) r e (d + 1)
+
+  -- an atom, or a piece and an operator
+  pub data Piece : Flags → Text → Text → Tree → ℕ → Type 0 where
+    an_atom : {f : Flags} {t r : Text} {e : Tree} {d : ℕ} → Atom f t r e d → Piece f t r e d
+    repeated : {f : Flags} {t u r : Text} {e : Tree} {d n : ℕ} {m : Option ℕ} {greedy : Bool} → Piece f t u e d → Operator f u r n m greedy → Piece f t r (repetition n m greedy e) (d + 1)
+
+  -- the pieces of one branch
+  pub data Row : Flags → Text → Text → List Tree → Flags → ℕ → Type 0 where
+    no_piece : {f : Flags} {r : Text} → IsTrue (ends_branch r) → Row f r r [] f 0
+    a_directive : {f g h : Flags} {t r : Text} {es : List Tree} {d : ℕ} (letters : List ℕ) → 0 < length letters → FlagLetters f letters g → Row g t r es h d →
+        Row f (codes "(?" ▸ letters ▸ codes ")" ▸ t) r es h d
+    piece_then : {f g : Flags} {t u r : Text} {e : Tree} {es : List Tree} {d k : ℕ} → Piece f t u e d → Row f u r es g k → Row f t r (e ∷ es) g (max d k)
+
+  -- the trees of the branches
+  pub data Branches : Flags → Text → Text → List Tree → Flags → ℕ → Type 0 where
+    last_branch : {f g : Flags} {t r : Text} {es : List Tree} {d : ℕ} → Row f t r es g d → IsTrue (ends_expression r) → Branches f t r (branch es ∷ []) g d
+    branch_then : {f g h : Flags} {t u r : Text} {es bs : List Tree} {d k : ℕ} → Row f t (codes "|" ▸ u) es g d → Branches g u r bs h k → Branches f t r (branch es ∷ bs) h (max d k)
+
+  pub data Expression : Flags → Text → Text → Tree → Flags → ℕ → Type 0 where
+    of_branches : {f g : Flags} {t r : Text} {bs : List Tree} {d : ℕ} → Branches f t r bs g d → Expression f t r (choice bs) g d
+
+-- the most groups, brackets and repetitions that a place of a pattern is inside
+abbrev pub most_levels : ℕ
+most_levels = 250
+
+-- The whole text spells the tree: reading begins with no flag set, no place is inside too many levels, and no two groups have one
+-- name.
+pub record Pattern (s : Text) (e : Tree) : Type 0 where
+  pub flags : Flags
+  pub levels : ℕ
+  pub reads : Expression no_flags s [] e flags levels
+  pub flat : levels ≤ most_levels
+  pub distinct : IsTrue (are_distinct (names e))

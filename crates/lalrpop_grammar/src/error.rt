@@ -1,0 +1,71 @@
+ghost use Rattle.std.specs.Prelude.{◌≡◌};
+ghost use Rattle.lalrpop_grammar.specs.declared.error.RegexError.TheVariants.{OutOfMemory};
+
+use std::alloc::{AllocError, AllocFailed};
+use thiserror::Error;
+
+/// What is wrong with the text of a pattern.
+#[derive(Clone, Copy, Debug, PartialEq, Eq)]
+pub enum SyntaxKind {
+    /// A `(` without its `)`.
+    UnclosedGroup,
+    /// A `)` without its `(`.
+    UnopenedGroup,
+    /// A `[` without its `]`.
+    UnclosedClass,
+    /// A range in brackets whose start is above its end.
+    ClassRangeInvalid,
+    /// A range in brackets whose end is no single character.
+    ClassRangeLiteral,
+    /// An escape that has no place in brackets.
+    ClassEscapeInvalid,
+    /// The text ends inside an escape.
+    EscapeUnexpectedEof,
+    /// A backslash in front of a character that makes no escape.
+    EscapeUnrecognized,
+    /// An escape by a hexadecimal number that is malformed or names no character.
+    EscapeHex,
+    /// An escape that names a set of characters that is not known.
+    UnicodeSetUnknown,
+    /// An operator of repetition with nothing in front of it.
+    RepetitionMissing,
+    /// Counts in braces that are malformed, too great or in the wrong order.
+    RepetitionCount,
+    /// A flag that is unknown, missing or written twice.
+    Flag,
+    /// The name of a group that is malformed, missing or written twice.
+    GroupName,
+    /// A look ahead or behind, which patterns don't have.
+    UnsupportedLookAround,
+    /// A reference back to a group, which patterns don't have.
+    UnsupportedBackreference,
+    /// Groups, brackets and repetitions stand in one another too deeply.
+    NestLimitExceeded,
+}
+
+/// Why a text was not made into a tree.
+#[derive(Debug, Drop, Error)]
+pub enum RegexError {
+    /// The text is no pattern: `kind` says why, and `position` where, as an offset in bytes.
+    #[error("Syntax")]
+    Syntax { position: usize, kind: SyntaxKind },
+    /// A request for memory was refused.
+    #[error("OutOfMemory")]
+    OutOfMemory,
+}
+
+impl From<AllocError> for RegexError {
+    ghost from_gives = { λ _ e. e ≡ OutOfMemory };
+
+    fn from(_error: AllocError) -> RegexError {
+        RegexError::OutOfMemory
+    }
+}
+
+impl<T: Drop> From<AllocFailed<T>> for RegexError {
+    ghost from_gives = { λ _ e. e ≡ OutOfMemory };
+
+    fn from(_error: AllocFailed<T>) -> RegexError {
+        RegexError::OutOfMemory
+    }
+}

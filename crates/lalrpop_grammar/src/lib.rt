@@ -1,0 +1,17 @@
+//! The grammar of patterns as text, and what needs no reading: the trees of leaves, the names of groups, texts that stand
+//! for themselves. The files of `specs/` are the grammar.
+#![tactic(auto)]
+
+mod error;
+mod escape_text;
+mod flags;
+mod literal;
+mod names;
+mod sets;
+
+pub use error::{RegexError, SyntaxKind};
+pub use escape_text::escape;
+pub use flags::Flags;
+pub use literal::parse_literal;
+pub use names::repeated_name;
+pub use sets::{leaf_of_range, leaf_of_set, tree_of_character, tree_of_class, tree_of_dot};

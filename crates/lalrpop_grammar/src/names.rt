@@ -1,0 +1,68 @@
+//! The names of a pattern's groups, no two of which may be equal.
+ghost use Rattle.std.specs.Prelude.{◌≡◌, ◌++◌, map, not, is_some, option_map, IfOk, OnOk};
+ghost use Rattle.lalrpop_hir.specs.Tree.{trees};
+ghost use Rattle.lalrpop_grammar.specs.GroupName.{name_of, names, all_names, are_distinct};
+
+use lalrpop_hir::{Hir, HirKind};
+use std::alloc::{AllocError, Global};
+use std::collections::BTreeSet;
+
+/// The place of the first name, counted among those of the tree's groups, that equals one before it.
+pub fn repeated_name(alloc: Global, tree: &Hir) -> Result<Option<usize>, AllocError>
+    ensures repeated { IfOk result (λ place. is_some place ≡ not (are_distinct (names tree.now))) }
+{
+    let mut found = Vec::new(alloc);
+    collect_names(tree, &mut found)?;
+    first_repeated(alloc, &found)
+}
+
+/// Adds the names of the tree's groups, from left to right.
+#[cycle(names)]
+#[tactic(auto, unfolding(crate::specs::GroupName::names, crate::specs::GroupName::all_names))]
+fn collect_names<'a>(tree: &'a Hir, found: &mut Vec<&'a str>) -> Result<(), AllocError>
+    ensures { OnOk result (map (λ n. n.now) found.new.items ≡ map (λ n. n.now) found.old.items ++ names tree.now) }
+{
+    match tree.kind() {
+        HirKind::Repetition(repetition) => collect_names(repetition.sub(), found),
+        HirKind::Capture(capture) => {
+            add_name(capture.name(), found)?;
+            collect_names(capture.sub(), found)
+        }
+        HirKind::Concat(parts) => collect_all(parts, found),
+        HirKind::Alternation(parts) => collect_all(parts, found),
+        _ => Ok(()),
+    }
+}
+
+#[cycle(names)]
+fn collect_all<'a>(parts: &'a [Hir], found: &mut Vec<&'a str>) -> Result<(), AllocError>
+    ensures { OnOk result (map (λ n. n.now) found.new.items ≡ map (λ n. n.now) found.old.items ++ all_names (trees parts.now)) }
+{
+    for part in parts {
+        collect_names(part, found)?;
+    }
+    Ok(())
+}
+
+fn add_name<'a>(name: Option<&'a str>, found: &mut Vec<&'a str>) -> Result<(), AllocError>
+    ensures { OnOk result (map (λ n. n.now) found.new.items ≡ map (λ n. n.now) found.old.items ++ name_of (option_map (λ n. n.now) name.entry)) }
+{
+    if let Some(name) = name {
+        found.push(name)?;
+    }
+    Ok(())
+}
+
+/// The place of the first name that equals one before it.
+fn first_repeated(alloc: Global, found: &[&str]) -> Result<Option<usize>, AllocError>
+    ensures { IfOk result (λ place. is_some place ≡ not (are_distinct (map (λ n. n.now) found.now))) }
+{
+    let mut seen = BTreeSet::new(alloc);
+    for i in 0..found.len() {
+        let is_new = seen.insert(found[i])?;
+        if !is_new {
+            return Ok(Some(i));
+        }
+    }
+    Ok(None)
+}
