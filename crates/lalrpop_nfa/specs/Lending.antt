@@ -1,3 +1,4 @@
+-- cases: none, since both are formulas on how a borrow ends while code runs, and not on values
 -- What an `Edges` or a `State` ends as, once a `&mut` into it has ended.
 use Rattle.std.specs.Prelude.{ℕ, Option, List}
 use Rattle.std.specs.Borrow.{Lends, MutBor, Fml, RattleType, usize}
