@@ -7,7 +7,7 @@ use Rattle.std.proofs.lemmas.Str.Parse.{digit_from_value}
 use Rattle.lalrpop_hir.specs.Tree.{Tree, empty, literal, of_text}
 use Rattle.lalrpop_re.specs.GroupName.{names}
 use Rattle.lalrpop_re.specs.Pattern.{Pattern, no_piece, last_branch, of_branches}
-use Rattle.lalrpop_re.specs.Internal.Reading as reading
+use Rattle.lalrpop_grammar.specs.Internal.Reading as reading
 use Rattle.lalrpop_re.proofs.PatternLaws.{missing}
 use Rattle.lexdfa_lib.specs.Line.{IsPrecedence, letter, IsLine, Spells, LineSays}
 use Rattle.lexdfa_lib.specs.declared.line.Kind.{Kind}
