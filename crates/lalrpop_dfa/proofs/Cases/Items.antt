@@ -1,17 +1,21 @@
 -- Cases of specs/Items.antt: the automaton of the literal `a`, and those of other lists of trees.
-use Rattle.std.proofs.Common.{◌≡◌, ℕ, zero, suc, ◌<◌, ◌⊎◌, inl, inr, List, [], ◌∷◌, length, Some, None, refl, sym, ap, subst, ◌∙◌, arith}
+use Rattle.std.proofs.Common.{◌≡◌, ◌≢◌, ℕ, zero, suc, ◌<◌, ◌⊎◌, inl, inr, List, [], ◌∷◌, length, Some, None, refl, sym, ap, subst, ◌∙◌, arith}
 use Rattle.std.specs.Prelude.{◌↔◌, map, slice_get}
 use Rattle.std.specs.List.{Contains}
 use Rattle.std.proofs.lemmas.Bool.{lt-leb}
-use Rattle.lalrpop_hir.specs.Word.{FirstDifferenceLess, Shortlex}
+use Rattle.lalrpop_hir.specs.Word.{IsWord, FirstDifferenceLess, Shortlex}
 use Rattle.lalrpop_hir.specs.Range.{Range, Covers}
-use Rattle.lalrpop_hir.specs.Tree.{Tree, literal, class, unicode, alternation, none, also}
+use Rattle.lalrpop_hir.specs.Tree.{Tree, empty, literal, class, unicode, alternation, none, also}
 use Rattle.lalrpop_nfa.specs.Graph.{Graph}
-use Rattle.lalrpop_nfa.specs.Path.{here, skip, noop, test}
-use Rattle.lalrpop_nfa.specs.Compiled.{IsLabel}
+use Rattle.lalrpop_nfa.specs.Lists.{Lists}
+use Rattle.lalrpop_nfa.specs.Path.{IsUntested, Path, here, skip, read, fall, noop, test, other}
+use Rattle.lalrpop_nfa.specs.Compiled.{IsLabel, IsCompiled}
+use Rattle.lalrpop_nfa.specs.declared.edge.Edge.{Edge}
+use Rattle.lalrpop_nfa.specs.declared.edge.Noop.{Noop}
+use Rattle.lalrpop_nfa.specs.declared.edge.Other.{Other}
 use Rattle.lalrpop_nfa.specs.declared.edge.StateKind.TheVariants.{Accept, Reject as RejectState, Neither as NeitherState}
 use Rattle.lalrpop_ranges.specs.Runs.{IsRuns}
-use Rattle.lalrpop_dfa.specs.Dfa.{Row, after, step}
+use Rattle.lalrpop_dfa.specs.Dfa.{Row, after, run, step}
 use Rattle.lalrpop_dfa.specs.Items.{Item, AreCompiled, IsReached, IsLeaving, HoldsItems, OthersReject, IsInWordOrder}
 use Rattle.lalrpop_dfa.specs.declared.Kind.TheVariants.{Accepts, Reject, Neither}
 use Rattle.lalrpop_dfa.proofs.Cases.Dfa.{between, automaton_of_a}
@@ -98,6 +102,241 @@ automaton_of_nothing_holds_nothing = record {
     rejects : (p : ℕ) (r : Row) → slice_get automaton_of_nothing p ≡ Some r → (r.kind ≡ Reject) ↔ ((x : Item) → Contains r.items x → x.1 ≡ 1)
     rejects zero r e = ((λ k x h. absurd (in_none r x (items_of zero r e) h)), (λ h. cc))
     rejects (suc p) r e = absurd (cc)
+
+-- ---- one tree, the empty one
+
+-- its edges: START leads to ACCEPT, and any value to REJECT
+abbrev edges_of_empty : Lists
+edges_of_empty = record { noops = noop 2 0 ∷ []; tests = []; others = other 0 1 ∷ other 1 1 ∷ [] }
+
+abbrev graph_of_empty : Graph
+graph_of_empty = record { kinds = Accept ∷ RejectState ∷ NeitherState ∷ []; edges = edges_of_empty }
+
+noop_is : (p q : ℕ) → Contains edges_of_empty.noops (noop p q) → (p ≡ 2) × (q ≡ 0)
+noop_is p q (zero, l, e) = (sym (ap (λ (x : Edge Noop). x.from) e), sym (ap (λ (x : Edge Noop). x.to) e))
+noop_is p q (suc k, l, e) = absurd (omega arith)
+
+other_is : (p q : ℕ) → Contains edges_of_empty.others (other p q) → (p < 2) × (q ≡ 1)
+other_is p q (zero, l, e) = (let f : 0 ≡ p = ap (λ (x : Edge Other). x.from) e in omega (arith, f), sym (ap (λ (x : Edge Other). x.to) e))
+other_is p q (suc zero, l, e) = (let f : 1 ≡ p = ap (λ (x : Edge Other). x.from) e in omega (arith, f), sym (ap (λ (x : Edge Other). x.to) e))
+other_is p q (suc (suc k), l, e) = absurd (omega arith)
+
+untested : (p c : ℕ) → IsUntested edges_of_empty p c
+untested p c r q h k = omega (arith, h.1)
+
+-- where paths end
+record Ends (last p : ℕ) (w : List ℕ) : Type 0 where
+  reject : p ≡ 1 → last ≡ 1
+  accept_stays : p ≡ 0 → w ≡ [] → last ≡ 0
+  accept_reads : p ≡ 0 → w ≢ [] → last ≡ 1
+  start_stays : p ≡ 2 → w ≡ [] → (last ≡ 2) ⊎ (last ≡ 0)
+  start_reads : p ≡ 2 → w ≢ [] → last ≡ 1
+
+ends : (last p : ℕ) (w : List ℕ) → Path edges_of_empty last p w → Ends last p w
+ends last _ _ (here p e) = record {
+  reject = λ h. sym e ∙ h;
+  accept_stays = λ h k. sym e ∙ h;
+  accept_reads = λ h n. absurd (n refl);
+  start_stays = λ h k. inl (sym e ∙ h);
+  start_reads = λ h n. absurd (n refl);
+}
+ends last _ _ (skip p q w m path) =
+    let is = noop_is p q m in
+    let rest = ends last q w path in
+    record {
+      reject = λ h. absurd (omega (arith, h, is.0));
+      accept_stays = λ h k. absurd (omega (arith, h, is.0));
+      accept_reads = λ h n. absurd (omega (arith, h, is.0));
+      start_stays = λ h k. inr (rest.accept_stays is.1 k);
+      start_reads = λ h n. rest.accept_reads is.1 n;
+    }
+ends last _ _ (read p q v r c m k path) = absurd (omega (arith, m.1))
+ends last _ _ (fall p q v c m u path) =
+    let is = other_is p q m in
+    let end : last ≡ 1 = (ends last q v path).reject is.1 in
+    record {
+      reject = λ h. end;
+      accept_stays = λ h k. absurd (cc);
+      accept_reads = λ h n. end;
+      start_stays = λ h k. absurd (cc);
+      start_reads = λ h n. end;
+    }
+
+word_is_empty : (w : List ℕ) → Path edges_of_empty 0 2 w → w ≡ []
+word_is_empty [] path = refl
+word_is_empty (c ∷ w) path = let k : 0 ≡ 1 = (ends 0 2 (c ∷ w) path).start_reads refl (λ e. cc) in absurd (omega (arith, k))
+
+accepting : (p : ℕ) → slice_get graph_of_empty.kinds p ≡ Some Accept ↔ (p ≡ 0)
+accepting zero = ((λ _. refl), (λ _. refl))
+accepting (suc zero) = ((λ h. absurd (cc)), (λ h. absurd (omega arith)))
+accepting (suc (suc zero)) = ((λ h. absurd (cc)), (λ h. absurd (omega arith)))
+accepting (suc (suc (suc p))) = ((λ h. absurd (cc)), (λ h. absurd (omega arith)))
+
+rejecting : (p : ℕ) → slice_get graph_of_empty.kinds p ≡ Some RejectState ↔ (p ≡ 1)
+rejecting zero = ((λ h. absurd (cc)), (λ h. absurd (omega arith)))
+rejecting (suc zero) = ((λ _. refl), (λ _. refl))
+rejecting (suc (suc zero)) = ((λ h. absurd (cc)), (λ h. absurd (omega arith)))
+rejecting (suc (suc (suc p))) = ((λ h. absurd (cc)), (λ h. absurd (omega arith)))
+
+graph_is_compiled : IsCompiled empty graph_of_empty
+graph_is_compiled = record {
+  reads = λ w. (word_is_empty w, λ e. subst (λ v. Path edges_of_empty 0 2 v) (sym e) (skip 2 0 [] (0, omega arith, refl) (here 0 refl)));
+  few = omega arith;
+  start_in = omega arith;
+  accepting = accepting;
+  rejecting = rejecting;
+  noops_in = λ e h. let is = noop_is e.from e.to h in (omega (arith, is.0), omega (arith, is.1), λ f. omega (arith, is.0, f));
+  tests_in = λ e h. absurd (omega (arith, h.1));
+  others_in = λ e h. let is = other_is e.from e.to h in (omega (arith, is.0), is.1);
+  labels = λ e h. absurd (omega (arith, h.1));
+  apart = λ i j e f h g n same m. absurd (cc);
+}
+
+-- the list of the empty tree has this automaton
+empty_tree_has_its_automaton : AreCompiled (empty ∷ []) (graph_of_empty ∷ [])
+empty_tree_has_its_automaton = record { same_length = refl; each = each }
+  where
+    each : (i : ℕ) (t : Tree) (g : Graph) → slice_get (empty ∷ []) i ≡ Some t → slice_get (graph_of_empty ∷ []) i ≡ Some g → IsCompiled t g
+    each zero t g e f =
+        let same_tree : empty ≡ t = cc in
+        let same_graph : graph_of_empty ≡ g = cc in
+        subst (λ u. IsCompiled u g) same_tree (subst (λ u. IsCompiled empty u) same_graph graph_is_compiled)
+    each (suc i) t g e f = absurd (cc)
+
+-- a literal hasn't
+literal_has_another_automaton : ¬ AreCompiled (literal (97 ∷ []) ∷ []) (graph_of_empty ∷ [])
+literal_has_another_automaton c =
+    let path = ((c.each 0 _ _ refl refl).reads (97 ∷ [])).1 refl in
+    let e = word_is_empty (97 ∷ []) path in
+    absurd (cc)
+
+abbrev first_row : Row
+first_row = record { kind = Accepts 0; tests = []; other = 1; items = (0, 0) ∷ (0, 2) ∷ [] }
+
+abbrev second_row : Row
+second_row = record { kind = Reject; tests = []; other = 1; items = (0, 1) ∷ [] }
+
+-- the first state holds ACCEPT and START, the second, to which all words lead that aren't empty, holds REJECT
+abbrev automaton_of_empty : List Row
+automaton_of_empty = first_row ∷ second_row ∷ []
+
+abbrev ns : List Graph
+ns = graph_of_empty ∷ []
+
+automaton_of_the_empty_tree_holds_its_items : HoldsItems ns automaton_of_empty
+automaton_of_the_empty_tree_holds_its_items = record { reached = reached; items = items; labels = labels; distinct = distinct; rejects = rejects }
+  where
+    reached : (p : ℕ) → p < 2 → (w : List ℕ) × (IsWord w × (after automaton_of_empty w ≡ p))
+    reached zero l = ([], (tt, refl))
+    reached (suc zero) l = (97 ∷ [], ((omega arith, tt), refl))
+    reached (suc (suc p)) l = absurd (omega arith)
+
+    stays : (w : List ℕ) → run automaton_of_empty 1 w ≡ 1
+    stays [] = refl
+    stays (c ∷ w) = stays w
+
+    one_place : (i : ℕ) (g : Graph) → slice_get ns i ≡ Some g → (i ≡ 0) × (graph_of_empty ≡ g)
+    one_place zero g e = (refl, (cc))
+    one_place (suc i) g e = absurd (cc)
+
+    to_reject : (w : List ℕ) → Path edges_of_empty 1 1 w
+    to_reject [] = here 1 refl
+    to_reject (c ∷ w) = fall 1 1 w c (1, omega arith, refl) (untested 1 c) (to_reject w)
+
+    first_reached : (x : Item) → Contains first_row.items x → IsReached ns [] x
+    first_reached x (zero, l, e) = subst (λ y. IsReached ns [] y) e (graph_of_empty, (refl, skip 2 0 [] (0, omega arith, refl) (here 0 refl)))
+    first_reached x (suc zero, l, e) = subst (λ y. IsReached ns [] y) e (graph_of_empty, (refl, here 2 refl))
+    first_reached x (suc (suc k), l, e) = absurd (omega arith)
+
+    first_at : (i q : ℕ) → i ≡ 0 → (q ≡ 2) ⊎ (q ≡ 0) → Contains first_row.items (i, q)
+    first_at i q e (inl m) = rw (e, m) (1, omega arith, refl)
+    first_at i q e (inr m) = rw (e, m) (0, omega arith, refl)
+
+    first_held : (x : Item) → IsReached ns [] x → Contains first_row.items x
+    first_held (i, q) (g, (e, path)) =
+        let is = one_place i g e in
+        first_at i q is.0 ((ends q 2 [] (subst (λ u. Path u.edges q 2 []) (sym is.1) path)).start_stays refl refl)
+
+    second_reached : (c : ℕ) (w : List ℕ) (x : Item) → Contains second_row.items x → IsReached ns (c ∷ w) x
+    second_reached c w x (zero, l, e) =
+        subst (λ y. IsReached ns (c ∷ w) y) e (graph_of_empty, (refl, skip 2 0 (c ∷ w) (0, omega arith, refl)
+        (fall 0 1 w c (0, omega arith, refl) (untested 0 c) (to_reject w))))
+    second_reached c w x (suc k, l, e) = absurd (omega arith)
+
+    second_at : (i q : ℕ) → i ≡ 0 → q ≡ 1 → Contains second_row.items (i, q)
+    second_at i q e m = rw (e, m) (0, omega arith, refl)
+
+    second_held : (c : ℕ) (w : List ℕ) (x : Item) → IsReached ns (c ∷ w) x → Contains second_row.items x
+    second_held c w (i, q) (g, (e, path)) =
+        let is = one_place i g e in
+        second_at i q is.0 ((ends q 2 (c ∷ w) (subst (λ u. Path u.edges q 2 (c ∷ w)) (sym is.1) path)).start_reads refl (λ k. cc))
+
+    items : (w : List ℕ) (r : Row) (x : Item) → slice_get automaton_of_empty (after automaton_of_empty w) ≡ Some r → Contains r.items x ↔ IsReached ns w x
+    items [] r x e =
+        let f : first_row ≡ r = cc in
+        subst (λ s. Contains s.items x ↔ IsReached ns [] x) f (first_reached x, first_held x)
+    items (c ∷ w) r x e =
+        let g : slice_get automaton_of_empty 1 ≡ Some r = subst (λ n. slice_get automaton_of_empty n ≡ Some r) (stays w) e in
+        let f : second_row ≡ r = cc in
+        subst (λ s. Contains s.items x ↔ IsReached ns (c ∷ w) x) f (second_reached c w x, second_held c w x)
+
+    tests_of : (p : ℕ) (r : Row) → slice_get automaton_of_empty p ≡ Some r → [] ≡ r.tests
+    tests_of zero r e = cc
+    tests_of (suc zero) r e = cc
+    tests_of (suc (suc p)) r e = absurd (cc)
+
+    no_test : (g : Graph) (t : Edge Range) → graph_of_empty ≡ g → ¬ Contains g.edges.tests t
+    no_test g t e h = let k = subst (λ u. Contains u.edges.tests t) (sym e) h in omega (arith, k.1)
+
+    labels : (p : ℕ) (r : Row) → slice_get automaton_of_empty p ≡ Some r → IsRuns (IsLeaving ns r.items) (map (λ t. t.0) r.tests)
+    labels p r e = subst (λ ts. IsRuns (IsLeaving ns r.items) (map (λ t. t.0) ts)) (tests_of p r e) (record {
+      ascending = tt;
+      are_runs = λ x h. absurd (omega (arith, h.1));
+      all_runs = λ x run. let held = run.block.covered x.start (omega arith, run.block.holds_one) in
+          let leaving = held.1.0 in
+          absurd (no_test leaving.1 _ (one_place leaving.0.0 leaving.1 leaving.3.1).1 leaving.3.2);
+    })
+
+    accept_in_first : (r : Row) → first_row ≡ r → Contains r.items (0, 0)
+    accept_in_first r e = subst (λ s. Contains s.items (0, 0)) e (0, omega arith, refl)
+
+    second_alone : (r : Row) (x : Item) → second_row ≡ r → Contains r.items x → x.1 ≡ 1
+    second_alone r x e h = by_place x (subst (λ s. Contains s.items x) (sym e) h)
+      where
+        by_place : (x : Item) → Contains second_row.items x → x.1 ≡ 1
+        by_place x (zero, l, f) = sym (ap (λ (y : Item). y.1) f)
+        by_place x (suc k, l, f) = absurd (omega arith)
+
+    distinct : (p q : ℕ) (r s : Row) → slice_get automaton_of_empty p ≡ Some r → slice_get automaton_of_empty q ≡ Some s → ((x : Item) → Contains r.items x ↔ Contains s.items x) → p ≡ q
+    distinct zero zero r s e f h = refl
+    distinct zero (suc zero) r s e f h =
+        let a : first_row ≡ r = cc in
+        let b : second_row ≡ s = cc in
+        let k : 0 ≡ 1 = second_alone s (0, 0) b ((h (0, 0)).0 (accept_in_first r a)) in absurd (omega (arith, k))
+    distinct zero (suc (suc q)) r s e f h = absurd (cc)
+    distinct (suc zero) zero r s e f h =
+        let a : second_row ≡ r = cc in
+        let b : first_row ≡ s = cc in
+        let k : 0 ≡ 1 = second_alone r (0, 0) a ((h (0, 0)).1 (accept_in_first s b)) in absurd (omega (arith, k))
+    distinct (suc zero) (suc zero) r s e f h = refl
+    distinct (suc zero) (suc (suc q)) r s e f h = absurd (cc)
+    distinct (suc (suc p)) q r s e f h = absurd (cc)
+
+    rejects : (p : ℕ) (r : Row) → slice_get automaton_of_empty p ≡ Some r → (r.kind ≡ Reject) ↔ ((x : Item) → Contains r.items x → x.1 ≡ 1)
+    rejects zero r e =
+        let a : first_row ≡ r = cc in
+        ((λ k. let n : Accepts 0 ≡ Reject = ap (λ (s : Row). s.kind) a ∙ k in absurd (cc)),
+          (λ h. let n : 0 ≡ 1 = h (0, 0) (accept_in_first r a) in absurd (omega (arith, n))))
+    rejects (suc zero) r e =
+        let a : second_row ≡ r = cc in
+        ((λ k x h. second_alone r x a h), (λ h. sym (ap (λ (s : Row). s.kind) a)))
+    rejects (suc (suc p)) r e = absurd (cc)
+
+-- the automaton of no trees doesn't: the empty word leads to START
+automaton_of_nothing_does_not_hold_the_empty_tree : ¬ HoldsItems (graph_of_empty ∷ []) automaton_of_nothing
+automaton_of_nothing_does_not_hold_the_empty_tree h =
+    let held = (h.items [] _ (0, 2) refl).1 (graph_of_empty, (refl, here 2 refl)) in
+    omega (arith, held.1)
 
 -- the class a-b, or the literal `c`
 abbrev ab_or_c : Tree
