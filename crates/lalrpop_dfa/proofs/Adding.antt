@@ -14,19 +14,19 @@ use Rattle.lalrpop_nfa.specs.Graph.{Graph}
 use Rattle.lalrpop_dfa.specs.Items.{Item}
 use Rattle.lalrpop_kernels.specs.Kernels.{Kernels, IsNumberOf, added}
 use Rattle.lalrpop_nfa.specs.Compiled.{start_state}
-use Rattle.lalrpop_dfa.specs.Internal.Machine.{starts_from, no_graph, move}
+use Rattle.lalrpop_dfa.specs.Internal.Subsets.{starts_from, no_graph, move}
 use Rattle.std.specs.Cmp.Lexicographic.{slice_cmp}
 use Rattle.std.specs.Ordering.{nat_cmp}
 use Rattle.lalrpop_dfa.specs.Internal.Ascending.{item_cmp}
-use Rattle.lalrpop_dfa.specs.Internal.Leads.{AreLeads, lead_cmp, leads_cmp}
-use Rattle.lalrpop_dfa.specs.declared.parts.Lead.{Lead}
-use Rattle.lalrpop_dfa.specs.declared.parts.Leads.{Leads}
+use Rattle.lalrpop_dfa.specs.Internal.Transitions.{AreTransitions, transition_cmp, transitions_cmp}
+use Rattle.lalrpop_dfa.specs.declared.blocks.Transition.{Transition}
+use Rattle.lalrpop_dfa.specs.declared.blocks.Transitions.{Transitions}
 use Rattle.lalrpop_dfa.specs.Internal.ItemOrder.{set_cmp, set_total}
 use Rattle.lalrpop_dfa.specs.Internal.Builder.{AddedTo, AreKnown, AreAutomata, AreItemsOf}
 use Rattle.lalrpop_dfa.proofs.Members.{Has, has_from}
 use Rattle.lalrpop_dfa.proofs.Targets.{compiled_at}
-use Rattle.lalrpop_dfa.proofs.Noting.{bool_cases, then_equal, item_exact, nat_exact}
-use Rattle.lalrpop_dfa.proofs.LeadMoves.{leads_move}
+use Rattle.lalrpop_dfa.proofs.Inserting.{bool_cases, then_equal, item_exact, nat_exact}
+use Rattle.lalrpop_dfa.proofs.TransitionMoves.{leads_move}
 
 pub set_exact : CmpEqualImpliesEq set_cmp
 set_exact [] [] e = refl
@@ -112,27 +112,27 @@ added_at : (sets : List (List Item)) (origins : List (ℕ × ℕ)) (n v : ℕ) (
 added_at sets origins n v t j sets2 origins2 (inl (e, a, b)) = rw a e
 added_at sets origins n v t j sets2 origins2 (inr (none, e, a, b)) = rw (a, e) (pushed_end sets t)
 
-lead_exact : (x y : Lead) → lead_cmp x y ≡ Equal → x ≡ y
+lead_exact : (x y : Transition) → transition_cmp x y ≡ Equal → x ≡ y
 lead_exact x y e =
     let h = then_equal (item_cmp x.item y.item) (nat_cmp x.to y.to) e in
     let a : x.item ≡ y.item = item_exact x.item y.item h.0 in
     let b : x.to ≡ y.to = nat_exact x.to y.to h.1 in
-    ap₂ (λ i q. let l : Lead = record { item = i; to = q } in l) a b
+    ap₂ (λ i q. let l : Transition = record { item = i; to = q } in l) a b
 
-leads_exact : (xs ys : List Lead) → slice_cmp lead_cmp xs ys ≡ Equal → xs ≡ ys
+leads_exact : (xs ys : List Transition) → slice_cmp transition_cmp xs ys ≡ Equal → xs ≡ ys
 leads_exact [] [] e = refl
 leads_exact [] (y ∷ ys) e = cc
 leads_exact (x ∷ xs) [] e = cc
 leads_exact (x ∷ xs) (y ∷ ys) e = let h = then_equal _ _ e in let a : x ≡ y = lead_exact x y h.0 in let b : xs ≡ ys = leads_exact xs ys h.1 in cc
 
-pub known_more : (ns : List Graph) (s : List Item) (known known2 : BTreeMap Leads ℕ) (sets : List (List Item)) (origins : List (ℕ × ℕ)) (n v : ℕ) (leads : Leads) (j : ℕ) (sets2 : List (List Item)) (origins2 : List (ℕ × ℕ))
-    → AreKnown ns s known sets → AreLeads ns s v leads.list.items → AddedTo sets origins n v (move ns s v) j sets2 origins2 → Updates leads_cmp known known2 leads (Some j) → AreKnown ns s known2 sets2
-known_more ns s known known2 sets origins n v leads j sets2 origins2 k these add u other i w h are = elim (bool_cases (is_eq (leads_cmp leads other))) [
+pub known_more : (ns : List Graph) (s : List Item) (known known2 : BTreeMap Transitions ℕ) (sets : List (List Item)) (origins : List (ℕ × ℕ)) (n v : ℕ) (leads : Transitions) (j : ℕ) (sets2 : List (List Item)) (origins2 : List (ℕ × ℕ))
+    → AreKnown ns s known sets → AreTransitions ns s v leads.list.items → AddedTo sets origins n v (move ns s v) j sets2 origins2 → Updates transitions_cmp known known2 leads (Some j) → AreKnown ns s known2 sets2
+known_more ns s known known2 sets origins n v leads j sets2 origins2 k these add u other i w h are = elim (bool_cases (is_eq (transitions_cmp leads other))) [
   | inl same ↦
-      (let e : leads.list.items ≡ other.list.items = leads_exact leads.list.items other.list.items ((Equal-is (leads_cmp leads other)).0 same) in
+      (let e : leads.list.items ≡ other.list.items = leads_exact leads.list.items other.list.items ((Equal-is (transitions_cmp leads other)).0 same) in
       let found : Some j ≡ Some i = sym (u.0 other ∙ rw same refl) ∙ h in
       let number : j ≡ i = cc in
-      let to : move ns s v ≡ move ns s w = leads_move ns s leads.list.items v w these (subst (AreLeads ns s w) (sym e) are) in
+      let to : move ns s v ≡ move ns s w = leads_move ns s leads.list.items v w these (subst (AreTransitions ns s w) (sym e) are) in
       rw (← number, ← to) (added_at sets origins n v (move ns s v) j sets2 origins2 add))
   | inr apart ↦ added_stays sets origins n v (move ns s v) j sets2 origins2 add i (move ns s w) (k other i w (sym (u.0 other ∙ rw apart refl) ∙ h) are)
 ]

@@ -7,8 +7,8 @@ use Rattle.std.proofs.lemmas.List.{take_at, nil_from_length}
 use Rattle.std.proofs.lemmas.Option.{same_Some, none-some}
 use Rattle.lalrpop_hir.specs.Tree.{Tree}
 use Rattle.lalrpop_hir.specs.Language.{Matches}
-use Rattle.lalrpop_nfa.specs.Beginning.{IsBeginning, IsLongestOf}
-use Rattle.lalrpop_dfa.specs.Winners.{Who, Matched}
+use Rattle.lalrpop_nfa.specs.Prefix.{IsPrefix, IsLongestOf}
+use Rattle.lalrpop_dfa.specs.Winners.{TreeMatches, Matched}
 use Rattle.lalrpop_dfa.specs.Longest.{IsLongest}
 use Rattle.lalrpop_dfa.specs.Agree.{Agree}
 
@@ -17,15 +17,15 @@ only_place : (t u : Tree) (i : ℕ) → slice_get (t ∷ []) i ≡ Some u → (i
 only_place t u zero at = (refl, same_Some t u at)
 only_place t u (suc i) at = absurd (none-some u at)
 
-who_matches : (t : Tree) (w : List ℕ) (i : ℕ) → Who (t ∷ []) w i → Matches t w
+who_matches : (t : Tree) (w : List ℕ) (i : ℕ) → TreeMatches (t ∷ []) w i → Matches t w
 who_matches t w i who = subst (λ u. Matches u w) (sym (only_place t who.0 i who.1.0).1) who.1.1
 
 matches_matched : (t : Tree) (w : List ℕ) → Matches t w → Matched (t ∷ []) w
 matches_matched t w matches = (0, (t, (refl, matches)))
 
--- two beginnings of one length are one
-same_beginning : (p q text : List ℕ) → IsBeginning p text → IsBeginning q text → length p ≡ length q → p ≡ q
-same_beginning p q text a b size =
+-- two prefixes of one length are one
+same_prefix : (p q text : List ℕ) → IsPrefix p text → IsPrefix q text → length p ≡ length q → p ≡ q
+same_prefix p q text a b size =
     sym (take_at p a.0 (length p) refl) ∙ ap (take (length p)) (sym a.1.0 ∙ b.1.0) ∙ take_at q b.0 (length p) (sym size)
 
 pub agree : (t : Tree) (ps text : List ℕ) (one : Option (List ℕ)) (found : Option (ℕ × List ℕ)) → IsLongestOf (Matches t) text one
@@ -49,4 +49,4 @@ agree t ps text (Some (b ∷ bs)) (Some m) h k = ap₂ (λ (i : ℕ) (p : List �
     high = k.1 (b ∷ bs) (h.0, (λ none. cc), matches_matched t (chars (b ∷ bs)) h.1)
 
     same : m.1 ≡ b ∷ bs
-    same = same_beginning m.1 (b ∷ bs) text k.0.0 h.0 (omega (arith, low, high))
+    same = same_prefix m.1 (b ∷ bs) text k.0.0 h.0 (omega (arith, low, high))

@@ -14,17 +14,17 @@ use Rattle.lalrpop_nfa.specs.Graph.{Graph}
 use Rattle.lalrpop_dfa.specs.Items.{Item}
 use Rattle.lalrpop_dfa.specs.Internal.Ascending.{item_cmp, AreAscendingItems, IsItemOf}
 use Rattle.lalrpop_nfa.specs.Compiled.{accept_state, reject_state}
-use Rattle.lalrpop_dfa.specs.Internal.Machine.{is_dead}
+use Rattle.lalrpop_dfa.specs.Internal.Subsets.{is_dead}
 use Rattle.lalrpop_dfa.specs.Internal.Best.{accepts, IsStrong, IsBestOf, IsBest, raised}
 use Rattle.std.proofs.lemmas.Option.{slice_get_within}
 use Rattle.lalrpop_dfa.specs.Internal.Builder.{AreAutomata, AreItemsOf}
-use Rattle.lalrpop_dfa.specs.Internal.Built.{IsStrongest, IsKindOf, IsTied}
+use Rattle.lalrpop_dfa.specs.Internal.Built.{IsStrongestIn, IsKindOf, IsTied}
 use Rattle.lalrpop_dfa.specs.declared.Kind.TheVariants.{Accepts, Neither}
 use Rattle.lalrpop_dfa.specs.declared.best.Best.{Best}
 use Rattle.lalrpop_nfa.specs.declared.edge.StateKind.TheVariants.{Accept, Reject}
 use Rattle.lalrpop_dfa.proofs.Members.{has_from, contains_from, has_filter, filter_has, has_map, map_has}
 use Rattle.lalrpop_dfa.proofs.Targets.{compiled_at}
-use Rattle.lalrpop_dfa.proofs.Noting.{none_has}
+use Rattle.lalrpop_dfa.proofs.Inserting.{none_has}
 
 -- ---- one item
 told : (b : Bool) (n m : ℕ) → (IsTrue b → n ≡ m) → (n ≡ m → IsTrue b) → b ≡ (n == m)
@@ -191,10 +191,10 @@ best_passed ps items k x o l is final h =
     subst (λ ys. IsBest ps ys o) (sym all) h
 
 -- ---- the kind
-strongest_from : (ps : List ℕ) (s : List Item) (i : ℕ) → IsStrong ps (accepts s) i → IsStrongest ps s i
+strongest_from : (ps : List ℕ) (s : List Item) (i : ℕ) → IsStrong ps (accepts s) i → IsStrongestIn ps s i
 strongest_from ps s i h = (accepts_from s i h.0, λ j k. h.1 j (accepts_has s j k))
 
-strong_from : (ps : List ℕ) (s : List Item) (i : ℕ) → IsStrongest ps s i → IsStrong ps (accepts s) i
+strong_from : (ps : List ℕ) (s : List Item) (i : ℕ) → IsStrongestIn ps s i → IsStrong ps (accepts s) i
 strong_from ps s i h = (accepts_has s i h.0, λ j k. h.1 j (accepts_from s j k))
 
 pub accepts_one : (ps : List ℕ) (s : List Item) (b : Best) → IsBestOf ps (accepts s) b → b.tied ≡ None → IsKindOf ps s (Accepts b.index)

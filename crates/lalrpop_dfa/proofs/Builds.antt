@@ -7,14 +7,14 @@ use Rattle.std.proofs.lemmas.Option.{slice_get_cases, slice_get_within, slice_ge
 use Rattle.lalrpop_hir.specs.Range.{Range, Covers}
 use Rattle.lalrpop_hir.specs.Tree.{Tree}
 use Rattle.lalrpop_nfa.specs.Graph.{Graph}
-use Rattle.lalrpop_ranges.specs.Runs.{IsRuns}
-use Rattle.lalrpop_dfa.specs.Dfa.{Row, Stands, IsTable}
+use Rattle.lalrpop_ranges.specs.Partition.{IsPartition}
+use Rattle.lalrpop_dfa.specs.Dfa.{Row, Recognizes, IsWellFormed}
 use Rattle.lalrpop_dfa.specs.Clash.{NoClash}
 use Rattle.lalrpop_dfa.specs.Items.{Item, AreCompiled, IsLeaving, HoldsItems, OthersReject, IsInWordOrder}
 use Rattle.lalrpop_dfa.specs.Internal.Ascending.{AreAscendingItems}
-use Rattle.lalrpop_dfa.specs.Internal.Machine.{move, closed, item_targets, all_items}
-use Rattle.lalrpop_dfa.specs.Internal.Numbering.{Machine, Numbering, Added, nth, value_of, from_of, word}
-use Rattle.lalrpop_dfa.specs.Internal.Built.{machine_of, IsKindOf, IsRowOf, IsTied}
+use Rattle.lalrpop_dfa.specs.Internal.Subsets.{move, closed, item_targets, all_items}
+use Rattle.lalrpop_dfa.specs.Internal.BreadthFirst.{Automaton, IsBreadthFirst, Added, nth, value_of, from_of, word}
+use Rattle.lalrpop_dfa.specs.Internal.Built.{subset_automaton, IsKindOf, IsRowOf, IsTied}
 use Rattle.lalrpop_dfa.specs.Internal.Builder.{AreAutomata, AreItemsOf, AddedTo, AreSmall, Keep, IsEdged, IsBuiltTo, IsTieOf, IsClashOf}
 use Rattle.lalrpop_dfa.specs.declared.error.DfaConstructionError.{DfaConstructionError}
 use Rattle.lalrpop_dfa.specs.declared.error.DfaConstructionError.TheVariants.{NfaConstructionError as Refused, Ambiguity, OutOfMemory}
@@ -25,7 +25,7 @@ use Rattle.lalrpop_dfa.proofs.TiedClash.{tied_is_clash_after_rows}
 use Rattle.lalrpop_dfa.proofs.StateCount.{states_bound}
 use Rattle.lalrpop_dfa.proofs.Adding.{pushed_at}
 
-pub added_from : (m : Machine (List Item)) (sets : List (List Item)) (origins : List (ℕ × ℕ)) (n v : ℕ) (t : List Item) (j : ℕ) (sets2 : List (List Item)) (origins2 : List (ℕ × ℕ))
+pub added_from : (m : Automaton (List Item)) (sets : List (List Item)) (origins : List (ℕ × ℕ)) (n v : ℕ) (t : List Item) (j : ℕ) (sets2 : List (List Item)) (origins2 : List (ℕ × ℕ))
     → AddedTo sets origins n v t j sets2 origins2 → Added m sets origins n v t j sets2 origins2
 added_from m sets origins n v t j sets2 origins2 (inl (e, a, b)) = inl (slice_get_within sets j t e, get_or_from_slice_get sets j t m.start e, a, b)
 added_from m sets origins n v t j sets2 origins2 (inr (none, e, a, b)) = inr (λ k l is. none k (slice_get-get_or sets k m.start l ∙ ap (λ s. Some s) is), e, a, b)
@@ -55,36 +55,36 @@ leads_to ns s given v e = ap (closed ns) e
 -- ---- one number
 -- the first k of the ranges were taken up
 pub record IsEdging (ns : List Graph) (sets0 : List (List Item)) (origins0 : List (ℕ × ℕ)) (n : ℕ) (s : List Item) (xs : List Range) (k : ℕ) (sets : List (List Item)) (origins : List (ℕ × ℕ)) (tests : List (Range × ℕ)) : Type 0 where
-  pub numbering : Numbering (machine_of ns) sets origins n (past xs k)
+  pub breadth_first : IsBreadthFirst (subset_automaton ns) sets origins n (past xs k)
   pub ranges : map (λ t. t.0) tests ≡ take k xs
-  pub leads : (t : Range × ℕ) (c : ℕ) → Contains tests t → Covers t.0 c → (t.1 < length sets) × (nth (machine_of ns) sets t.1 ≡ move ns s c)
+  pub leads : (t : Range × ℕ) (c : ℕ) → Contains tests t → Covers t.0 c → (t.1 < length sets) × (nth (subset_automaton ns) sets t.1 ≡ move ns s c)
   pub kept : Keep ns sets0 sets
   pub small : AreSmall origins0 → AreSmall origins
 
-module _ (ns : List Graph) (a : AreAutomata ns) (sets0 : List (List Item)) (origins0 : List (ℕ × ℕ)) (n : ℕ) (s : List Item) (xs : List Range) (runs : IsRuns (IsLeaving ns s) xs)
+module _ (ns : List Graph) (a : AreAutomata ns) (sets0 : List (List Item)) (origins0 : List (ℕ × ℕ)) (n : ℕ) (s : List Item) (xs : List Range) (partition : IsPartition (IsLeaving ns s) xs)
     (here : slice_get sets0 n ≡ Some s) where
   within0 : n < length sets0
   within0 = slice_get_within sets0 n s here
 
-  is0 : nth (machine_of ns) sets0 n ≡ s
-  is0 = get_or_from_slice_get sets0 n s (machine_of ns).start here
+  is0 : nth (subset_automaton ns) sets0 n ≡ s
+  is0 = get_or_from_slice_get sets0 n s (subset_automaton ns).start here
 
   pub edging_more : (k j v : ℕ) (t : List Item) (r label : Range) (sets : List (List Item)) (origins : List (ℕ × ℕ)) (tests tests2 : List (Range × ℕ)) (sets2 : List (List Item)) (origins2 : List (ℕ × ℕ))
       → IsEdging ns sets0 origins0 n s xs k sets origins tests → k < length xs → r ≡ get_or xs k r → v ≡ r.start → t ≡ move ns s v → label ≡ r
       → AddedTo sets origins n v t j sets2 origins2 → tests2 ≡ tests ++ (label, j) ∷ [] → IsEdging ns sets0 origins0 n s xs (k + 1) sets2 origins2 tests2
   edging_more k j v t r label sets origins tests tests2 sets2 origins2 h l read low to same add more =
-      let m : Machine (List Item) = machine_of ns in
+      let m : Automaton (List Item) = subset_automaton ns in
       let at : slice_get xs k ≡ Some r = slice_get-get_or xs k r l ∙ ap (λ x. Some x) (sym read) in
       let member : Contains xs r = (k, l, sym read) in
       let toward : t ≡ move ns s r.start = to ∙ ap (move ns s) low in
       let add2 : AddedTo sets origins n r.start (move ns s r.start) j sets2 origins2 = (rw (toward, low) at add) in
       let added : Added m sets origins n r.start (move ns s r.start) j sets2 origins2 = added_from m sets origins n r.start (move ns s r.start) j sets2 origins2 add2 in
       let kept = h.kept n within0 in
-      let low_small : r.start ≤ 4294967295 = omega (arith, run_small a.0 ns a.1 s xs runs r member, (runs.are_runs r member).block.holds_one) in
+      let low_small : r.start ≤ 4294967295 = omega (arith, run_small a.0 ns a.1 s xs partition r member, (partition.are_blocks r member).uniform.holds_one) in
       record {
-        numbering = taken_range a.0 ns a.1 s xs runs sets origins n k j r sets2 origins2 h.numbering kept.0 (kept.1 ∙ is0) at added;
+        breadth_first = taken_range a.0 ns a.1 s xs partition sets origins n k j r sets2 origins2 h.breadth_first kept.0 (kept.1 ∙ is0) at added;
         ranges = rw (more, same) (map_push (λ (u : Range × ℕ). u.0) tests (r, j) ∙ (ap (λ ys. ys ++ r ∷ []) h.ranges ∙ sym (take_more xs k r l ∙ ap (λ y. take k xs ++ y ∷ []) (sym read))));
-        leads = rw (more, same) (tests_lead_more a.0 ns a.1 s xs runs sets origins n j r sets2 origins2 tests added member h.leads);
+        leads = rw (more, same) (tests_lead_more a.0 ns a.1 s xs partition sets origins n j r sets2 origins2 tests added member h.leads);
         kept = λ i il. (let b = h.kept i il in let d = added_keeps m sets origins n r.start (move ns s r.start) j sets2 origins2 added i b.0 in (d.0, d.1 ∙ b.1));
         small = λ f. small_added sets origins n r.start (move ns s r.start) j sets2 origins2 low_small add2 (h.small f);
       }
@@ -93,50 +93,50 @@ module _ (ns : List Graph) (a : AreAutomata ns) (sets0 : List (List Item)) (orig
       → IsEdging ns sets0 origins0 n s xs k sets origins tests → k ≡ length xs → t ≡ move ns s 4294967295 → AddedTo sets origins n 4294967295 t j sets2 origins2
       → IsEdged ns sets0 origins0 n s sets2 origins2 tests j
   edging_done k j t sets origins tests sets2 origins2 h end to add =
-      let m : Machine (List Item) = machine_of ns in
+      let m : Automaton (List Item) = subset_automaton ns in
       let add2 : AddedTo sets origins n 4294967295 (move ns s 4294967295) j sets2 origins2 = (rw to at add) in
       let added : Added m sets origins n 4294967295 (move ns s 4294967295) j sets2 origins2 = added_from m sets origins n 4294967295 (move ns s 4294967295) j sets2 origins2 add2 in
       let kept = h.kept n within0 in
       record {
-        numbering = taken_other a.0 ns a.1 s xs runs sets origins n j sets2 origins2 (rw end at h.numbering) kept.0 (kept.1 ∙ is0) added;
-        ranges = subst (IsRuns (IsLeaving ns s)) (sym (h.ranges ∙ take_all k xs (omega (arith, end)))) runs;
-        leads = tests_lead_kept a.0 ns a.1 s xs runs sets origins n 4294967295 j (move ns s 4294967295) sets2 origins2 tests added h.leads;
-        falls = added_is m sets origins n 4294967295 (move ns s 4294967295) j sets2 origins2 added;
+        breadth_first = taken_other a.0 ns a.1 s xs partition sets origins n j sets2 origins2 (rw end at h.breadth_first) kept.0 (kept.1 ∙ is0) added;
+        ranges = subst (IsPartition (IsLeaving ns s)) (sym (h.ranges ∙ take_all k xs (omega (arith, end)))) partition;
+        leads = tests_lead_kept a.0 ns a.1 s xs partition sets origins n 4294967295 j (move ns s 4294967295) sets2 origins2 tests added h.leads;
+        otherwise = added_is m sets origins n 4294967295 (move ns s 4294967295) j sets2 origins2 added;
         kept = λ i il. (let b = h.kept i il in let d = added_keeps m sets origins n 4294967295 (move ns s 4294967295) j sets2 origins2 added i b.0 in (d.0, d.1 ∙ b.1));
         small = λ f. small_added sets origins n 4294967295 (move ns s 4294967295) j sets2 origins2 (omega arith) add2 (h.small f);
       }
 
 -- ---- the table
 -- the sets of a numbering hold items, ascending
-module _ (ns : List Graph) (sets : List (List Item)) (origins : List (ℕ × ℕ)) (n v : ℕ) (num : Numbering (machine_of ns) sets origins n v) where
-  nth_holds : (k : ℕ) → k < length sets → AreItemsOf ns (nth (machine_of ns) sets k) × AreAscendingItems (nth (machine_of ns) sets k)
+module _ (ns : List Graph) (sets : List (List Item)) (origins : List (ℕ × ℕ)) (n v : ℕ) (num : IsBreadthFirst (subset_automaton ns) sets origins n v) where
+  nth_holds : (k : ℕ) → k < length sets → AreItemsOf ns (nth (subset_automaton ns) sets k) × AreAscendingItems (nth (subset_automaton ns) sets k)
   nth_holds zero l = subst (λ s. AreItemsOf ns s × AreAscendingItems s) (sym num.first) (first_set_items ns, first_set_ascends ns)
   nth_holds (suc k) l =
       let o : ℕ = from_of origins (suc k) in
       let c : ℕ = value_of origins (suc k) in
-      subst (λ s. AreItemsOf ns s × AreAscendingItems s) (num.reached (suc k) (omega arith) l) (move_items ns (nth (machine_of ns) sets o) c, move_ascends ns (nth (machine_of ns) sets o) c)
+      subst (λ s. AreItemsOf ns s × AreAscendingItems s) (num.reached (suc k) (omega arith) l) (move_items ns (nth (subset_automaton ns) sets o) c, move_ascends ns (nth (subset_automaton ns) sets o) c)
 
-pub set_holds : (ns : List Graph) (sets : List (List Item)) (origins : List (ℕ × ℕ)) (n v k : ℕ) (s : List Item) → Numbering (machine_of ns) sets origins n v → slice_get sets k ≡ Some s → AreItemsOf ns s × AreAscendingItems s
+pub set_holds : (ns : List Graph) (sets : List (List Item)) (origins : List (ℕ × ℕ)) (n v k : ℕ) (s : List Item) → IsBreadthFirst (subset_automaton ns) sets origins n v → slice_get sets k ≡ Some s → AreItemsOf ns s × AreAscendingItems s
 set_holds ns sets origins n v k s num at =
-    subst (λ s. AreItemsOf ns s × AreAscendingItems s) (get_or_from_slice_get sets k s (machine_of ns).start at) (nth_holds ns sets origins n v num k (slice_get_within sets k s at))
+    subst (λ s. AreItemsOf ns s × AreAscendingItems s) (get_or_from_slice_get sets k s (subset_automaton ns).start at) (nth_holds ns sets origins n v num k (slice_get_within sets k s at))
 
 -- rows stay right while sets keep their numbers
 row_on : (ns : List Graph) (ps : List ℕ) (sets sets2 : List (List Item)) (k : ℕ) (r : Row) → Keep ns sets sets2 → k < length sets → IsRowOf ns ps sets k r → IsRowOf ns ps sets2 k r
 row_on ns ps sets sets2 k r kept l row =
-    let same : nth (machine_of ns) sets2 k ≡ nth (machine_of ns) sets k = (kept k l).1 in
+    let same : nth (subset_automaton ns) sets2 k ≡ nth (subset_automaton ns) sets k = (kept k l).1 in
     record {
       items = row.items ∙ sym same;
       kind = subst (λ (s : List Item). IsKindOf ps s r.kind) (sym same) row.kind;
-      ranges = subst (λ (s : List Item). IsRuns (IsLeaving ns s) (map (λ t. t.0) r.tests)) (sym same) row.ranges;
+      ranges = subst (λ (s : List Item). IsPartition (IsLeaving ns s) (map (λ t. t.0) r.tests)) (sym same) row.ranges;
       leads = λ t c m a. (let b = row.leads t c m a in let keeps = kept t.1 b.0 in (keeps.0, keeps.1 ∙ b.1 ∙ ap (λ (s : List Item). move ns s c) (sym same)));
-      falls = (let b = row.falls in let keeps = kept r.other b.0 in (keeps.0, keeps.1 ∙ b.1 ∙ ap (λ (s : List Item). move ns s 4294967295) (sym same)));
+      otherwise = (let b = row.otherwise in let keeps = kept r.other b.0 in (keeps.0, keeps.1 ∙ b.1 ∙ ap (λ (s : List Item). move ns s 4294967295) (sym same)));
     }
 
 pub built_more : (ns : List Graph) (ps : List ℕ) (sets : List (List Item)) (origins : List (ℕ × ℕ)) (rows : List Row) (n : ℕ) (s : List Item) (sets2 : List (List Item)) (origins2 : List (ℕ × ℕ)) (row : Row) (rows2 : List Row)
     → IsBuiltTo ns ps sets origins rows n → slice_get sets n ≡ Some s → IsEdged ns sets origins n s sets2 origins2 row.tests row.other → IsKindOf ps s row.kind → row.items ≡ s → rows2 ≡ rows ++ row ∷ []
     → IsBuiltTo ns ps sets2 origins2 rows2 (n + 1)
 built_more ns ps sets origins rows n s sets2 origins2 row rows2 h at e kind items more = record {
-  numbering = e.numbering;
+  breadth_first = e.breadth_first;
   within = omega (arith, (e.kept n within0).0);
   counted = omega (arith, ap length more, length-append rows (row ∷ []), h.counted);
   rows_are = λ k r g. elim (pushed_at rows row k r (rw more at g)) [
@@ -149,16 +149,16 @@ built_more ns ps sets origins rows n s sets2 origins2 row rows2 h at e kind item
     within0 : n < length sets
     within0 = slice_get_within sets n s at
 
-    same : nth (machine_of ns) sets2 n ≡ s
-    same = (e.kept n within0).1 ∙ get_or_from_slice_get sets n s (machine_of ns).start at
+    same : nth (subset_automaton ns) sets2 n ≡ s
+    same = (e.kept n within0).1 ∙ get_or_from_slice_get sets n s (subset_automaton ns).start at
 
     here : IsRowOf ns ps sets2 n row
     here = record {
       items = items ∙ sym same;
       kind = subst (λ (u : List Item). IsKindOf ps u row.kind) (sym same) kind;
-      ranges = subst (λ (u : List Item). IsRuns (IsLeaving ns u) (map (λ t. t.0) row.tests)) (sym same) e.ranges;
+      ranges = subst (λ (u : List Item). IsPartition (IsLeaving ns u) (map (λ t. t.0) row.tests)) (sym same) e.ranges;
       leads = λ t c m k. (let b = e.leads t c m k in (b.0, b.1 ∙ ap (λ (u : List Item). move ns u c) (sym same)));
-      falls = (e.falls.0, e.falls.1 ∙ ap (λ (u : List Item). move ns u 4294967295) (sym same));
+      otherwise = (e.otherwise.0, e.otherwise.1 ∙ ap (λ (u : List Item). move ns u 4294967295) (sym same));
     }
 
 -- the same, with what the calls of a turn say
@@ -176,25 +176,25 @@ built_pushed ns ps sets origins rows n s sets1 origins1 rows1 row sets2 origins2
 -- ---- the end
 -- no number is left: the table is finished
 pub built_all : (ns : List Graph) (ps : List ℕ) (sets : List (List Item)) (origins : List (ℕ × ℕ)) (rows : List Row) (place : ℕ) → IsBuiltTo ns ps sets origins rows (length rows) → place ≡ length rows → slice_get sets place ≡ None
-    → (ts : List Tree) → AreCompiled ts ns → NoClash ts ps × Stands rows ts ps × IsTable rows × HoldsItems ns rows × OthersReject rows × IsInWordOrder rows
+    → (ts : List Tree) → AreCompiled ts ns → NoClash ts ps × Recognizes rows ts ps × IsWellFormed rows × HoldsItems ns rows × OthersReject rows × IsInWordOrder rows
 built_all ns ps sets origins rows place h same none ts k =
     let end : length rows ≡ length sets = elim (slice_get_cases sets (length rows)).1 [
       | inl more ↦ (let clash : None ≡ Some more.0 = sym (rw same at none) ∙ more.2 in cc)
       | inr past ↦ omega (arith, past.0, h.within)
     ] in
-    built_stands ts ps ns sets origins rows k (rw end at h.numbering) end h.rows_are h.small
+    built_stands ts ps ns sets origins rows k (rw end at h.breadth_first) end h.rows_are h.small
 
 -- the sets are few
 pub built_few : (ns : List Graph) (ps : List ℕ) (sets : List (List Item)) (origins : List (ℕ × ℕ)) (rows : List Row) (s : List Item) → IsBuiltTo ns ps sets origins rows (length rows) → slice_get sets (length rows) ≡ Some s → length rows < 2 ^ length (all_items ns)
-built_few ns ps sets origins rows s h at = omega (arith, states_bound ns sets origins (length rows) 0 h.numbering, slice_get_within sets (length rows) s at)
+built_few ns ps sets origins rows s h at = omega (arith, states_bound ns sets origins (length rows) 0 h.breadth_first, slice_get_within sets (length rows) s at)
 
 -- a tie is a clash
 pub built_clash : (ns : List Graph) (ps : List ℕ) (sets : List (List Item)) (origins : List (ℕ × ℕ)) (rows : List Row) (s : List Item) (e : DfaConstructionError) → IsBuiltTo ns ps sets origins rows (length rows) → slice_get sets (length rows) ≡ Some s
     → IsTieOf ps s e → (ts : List Tree) → AreCompiled ts ns → IsClashOf ts ps e
 built_clash ns ps sets origins rows s (Refused i f) h at t ts k = t
 built_clash ns ps sets origins rows s (Ambiguity i j) h at t ts k =
-    let here : nth (machine_of ns) sets (length rows) ≡ s = get_or_from_slice_get sets (length rows) s (machine_of ns).start at in
-    (word origins (length rows), tied_is_clash_after_rows ts ps ns sets origins rows (length rows) i j k h.numbering (slice_get_within sets (length rows) s at) refl h.rows_are (subst (λ u. IsTied ps u i j) (sym here) t) h.small)
+    let here : nth (subset_automaton ns) sets (length rows) ≡ s = get_or_from_slice_get sets (length rows) s (subset_automaton ns).start at in
+    (word origins (length rows), tied_is_clash_after_rows ts ps ns sets origins rows (length rows) i j k h.breadth_first (slice_get_within sets (length rows) s at) refl h.rows_are (subst (λ u. IsTied ps u i j) (sym here) t) h.small)
 built_clash ns ps sets origins rows s OutOfMemory h at t ts k = tt
 
 -- what the next kernel is

@@ -4,7 +4,7 @@ use Rattle.lalrpop_hir.specs.Word.{FirstDifferenceLess, Shortlex}
 use Rattle.lalrpop_hir.specs.Tree.{Tree, literal}
 use Rattle.lalrpop_hir.specs.Language.{Matches}
 use Rattle.lalrpop_hir.proofs.Words.{Shortlex-irreflexive, Shortlex-total}
-use Rattle.lalrpop_dfa.specs.Winners.{Who, Top, Ambiguous}
+use Rattle.lalrpop_dfa.specs.Winners.{TreeMatches, IsStrongest, Ambiguous}
 use Rattle.lalrpop_dfa.specs.Clash.{IsClash, NoClash}
 
 module _ (ts : List Tree) (ps : List ℕ) where
@@ -26,10 +26,10 @@ module _ (ts : List Tree) (ps : List ℕ) where
     -- two clashes of the same trees and precedences are the same
     pub clash-unique : (v ≡ w) × ((i ≡ k) × (j ≡ l))
     clash-unique =
-        let to_w = subst (λ u. Top ts ps u i) same_word c.greatest in
-        let to_w2 = subst (λ u. Top ts ps u j) same_word c.second in
-        let to_v = subst (λ u. Top ts ps u k) (sym same_word) d.greatest in
-        let to_v2 = subst (λ u. Top ts ps u l) (sym same_word) d.second in
+        let to_w = subst (λ u. IsStrongest ts ps u i) same_word c.greatest in
+        let to_w2 = subst (λ u. IsStrongest ts ps u j) same_word c.second in
+        let to_v = subst (λ u. IsStrongest ts ps u k) (sym same_word) d.greatest in
+        let to_v2 = subst (λ u. IsStrongest ts ps u l) (sym same_word) d.second in
         let first : i ≡ k = omega (arith, d.above i to_w, c.above k to_v) in
         let low : j ≤ l = d.others j to_w2 (omega (arith, c.less)) in
         let high : l ≤ j = c.others l to_v2 (omega (arith, d.less)) in
@@ -45,7 +45,7 @@ zeros = 0 ∷ 0 ∷ 0 ∷ 0 ∷ []
 matched : (t u : Tree) (w : List ℕ) → Some t ≡ Some u → Matches u w → Matches t w
 matched t u w e m = let f : u ≡ t = cc in subst (λ s. Matches s w) f m
 
-word_of : (w : List ℕ) (i : ℕ) → Who bbaa w i → ((w ≡ 98 ∷ []) × (i ≤ 1)) ⊎ ((w ≡ 97 ∷ []) × (i ≤ 3))
+word_of : (w : List ℕ) (i : ℕ) → TreeMatches bbaa w i → ((w ≡ 98 ∷ []) × (i ≤ 1)) ⊎ ((w ≡ 97 ∷ []) × (i ≤ 3))
 word_of w zero h = inl (matched (literal (98 ∷ [])) h.0 w h.1.0 h.1.1, omega arith)
 word_of w (suc zero) h = inl (matched (literal (98 ∷ [])) h.0 w h.1.0 h.1.1, omega arith)
 word_of w (suc (suc zero)) h = inr (matched (literal (97 ∷ [])) h.0 w h.1.0 h.1.1, omega arith)
@@ -74,7 +74,7 @@ all_zero (suc (suc zero)) = refl
 all_zero (suc (suc (suc zero))) = refl
 all_zero (suc (suc (suc (suc n)))) = refl
 
-at_most_three : (w : List ℕ) (i : ℕ) → Who bbaa w i → i ≤ 3
+at_most_three : (w : List ℕ) (i : ℕ) → TreeMatches bbaa w i → i ≤ 3
 at_most_three w i h = elim (word_of w i h) [ inl e ↦ omega (arith, e.1) | inr e ↦ e.1 ]
 
 clash_bbaa : IsClash bbaa zeros (97 ∷ []) 3 2

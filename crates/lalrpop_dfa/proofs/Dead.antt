@@ -4,14 +4,14 @@ use Rattle.std.specs.List.{Contains, slice_get}
 use Rattle.lalrpop_hir.specs.Range.{Range, Covers}
 use Rattle.lalrpop_hir.specs.Tree.{Tree}
 use Rattle.lalrpop_nfa.specs.Graph.{Graph}
-use Rattle.lalrpop_nfa.specs.Path.{Reads, Path, here, skip, read, fall, noop, test, other}
+use Rattle.lalrpop_nfa.specs.Path.{Reads, Path, here, epsilon, read, otherwise, noop, test, other}
 use Rattle.lalrpop_nfa.specs.Compiled.{IsCompiled, reject_state}
-use Rattle.lalrpop_ranges.specs.Runs.{IsCovered, Alike}
+use Rattle.lalrpop_ranges.specs.Partition.{IsCovered, Alike}
 use Rattle.lalrpop_dfa.specs.Items.{Item, AreCompiled, IsLeaving}
 use Rattle.lalrpop_dfa.specs.Internal.Ascending.{IsItemOf}
-use Rattle.lalrpop_dfa.specs.Internal.Machine.{follows_silently, item_targets, move, is_dead}
-use Rattle.lalrpop_dfa.specs.Internal.Numbering.{DeadStays}
-use Rattle.lalrpop_dfa.specs.Internal.Built.{machine_of}
+use Rattle.lalrpop_dfa.specs.Internal.Subsets.{follows_by_epsilon, item_targets, move, is_dead}
+use Rattle.lalrpop_dfa.specs.Internal.BreadthFirst.{DeadStays}
+use Rattle.lalrpop_dfa.specs.Internal.Built.{subset_automaton}
 use Rattle.lalrpop_dfa.proofs.Members.{Has, has_from, contains_from, all_has, all_from_has}
 use Rattle.lalrpop_dfa.proofs.Targets.{item_targets_place, item_targets_parts, item_targets_have, compiled_at}
 use Rattle.lalrpop_dfa.proofs.Sets.{move_parts, move_has, move_ascends, same_items}
@@ -26,9 +26,9 @@ dead_from s f = all_from_has (λ (x : Item). x.1 == reject_state) s (λ x h. eq-
 -- no edge leaves REJECT but its other edge
 pub reject_path : (t : Tree) (g : Graph) → IsCompiled t g → (q p : ℕ) (w : List ℕ) → Path g.edges q p w → w ≡ [] → p ≡ reject_state → q ≡ reject_state
 reject_path t g c q p w (here a same) e r = sym same ∙ r
-reject_path t g c q p w (skip a b u k s) e r = absurd ((c.noops_in (noop a b) k).2 r)
+reject_path t g c q p w (epsilon a b u k s) e r = absurd ((c.noops_in (noop a b) k).2 r)
 reject_path t g c q p w (read a b u x d k n s) e r = cc
-reject_path t g c q p w (fall a b u d k n s) e r = cc
+reject_path t g c q p w (otherwise a b u d k n s) e r = cc
 
 -- what an item of a moved set comes from: an item of the set, an edge and a path that reads nothing
 pub record IsMoved (ns : List Graph) (s : List Item) (c : ℕ) (x : Item) : Type 0 where
@@ -40,11 +40,11 @@ pub record IsMoved (ns : List Graph) (s : List Item) (c : ℕ) (x : Item) : Type
   pub member : Has s (x.0, first)
   pub edge : Reads graph.edges first c second
   pub end : Path graph.edges x.1 second []
-  pub follows : follows_silently ns (x.0, second) x ≡ true
+  pub follows : follows_by_epsilon ns (x.0, second) x ≡ true
 
 pub moved : (ns : List Graph) (s : List Item) (c : ℕ) (x : Item) → Has (move ns s c) x → IsMoved ns s c x
 moved ns s c x h =
-    let p : IsItemOf ns x × ((y z : Item) × (Has s y × Has (item_targets ns c y) z × (follows_silently ns z x ≡ true))) = move_parts ns s c x h in
+    let p : IsItemOf ns x × ((y z : Item) × (Has s y × Has (item_targets ns c y) z × (follows_by_epsilon ns z x ≡ true))) = move_parts ns s c x h in
     let y : Item = p.1.0 in
     let z : Item = p.1.1 in
     let g : Graph = p.0.0 in
@@ -62,13 +62,13 @@ moved ns s c x h =
       member = subst (λ (i : ℕ). Has s (i, y.1)) place p.1.2.0;
       edge = edge.1;
       end = follows_path ns z x g p.0.1.0 p.1.2.2;
-      follows = subst (λ (i : ℕ). follows_silently ns (i, z.1) x ≡ true) second p.1.2.2;
+      follows = subst (λ (i : ℕ). follows_by_epsilon ns (i, z.1) x ≡ true) second p.1.2.2;
     }
 
 module _ (ts : List Tree) (ns : List Graph) (h : AreCompiled ts ns) where
   -- where each edge that is taken is an other edge, the moved set is dead
-  falls_dead : (s : List Item) (c : ℕ) → ((x : Item) (g : Graph) (r : Range) (q : ℕ) → Has s x → slice_get ns x.0 ≡ Some g → Contains g.edges.tests (test x.1 r q) → Covers r c → ⊥) → is_dead (move ns s c) ≡ true
-  falls_dead s c none = dead_from (move ns s c) (λ x k. ends x (moved ns s c x k))
+  otherwise_dead : (s : List Item) (c : ℕ) → ((x : Item) (g : Graph) (r : Range) (q : ℕ) → Has s x → slice_get ns x.0 ≡ Some g → Contains g.edges.tests (test x.1 r q) → Covers r c → ⊥) → is_dead (move ns s c) ≡ true
+  otherwise_dead s c none = dead_from (move ns s c) (λ x k. ends x (moved ns s c x k))
     where
       lands : (x : Item) (g : Graph) (t : Tree) → IsCompiled t g → slice_get ns x.0 ≡ Some g → (p q : ℕ) → Has s (x.0, p) → Reads g.edges p c q → q ≡ reject_state
       lands x g t k at p q m (inl r) = absurd (none (x.0, p) g r.0 q m at r.1.0 r.1.1)
@@ -80,14 +80,14 @@ module _ (ts : List Tree) (ns : List Graph) (h : AreCompiled ts ns) where
           reject_path k.0 m.graph k.1 x.1 m.second [] m.end refl (lands x m.graph k.0 k.1 m.at m.first m.second m.member m.edge)
 
   -- dead sets are left for dead sets alone
-  pub dead_stays : DeadStays (machine_of ns)
-  dead_stays s c d = falls_dead s c (λ x g r q m at k n.
+  pub dead_stays : DeadStays (subset_automaton ns)
+  dead_stays s c d = otherwise_dead s c (λ x g r q m at k n.
       let z = compiled_at ts ns h x.0 g at in
       (z.1.1.tests_in (test x.1 r q) k).2 (dead_states s d x m))
 
   -- a value that no label covers leads to a dead set
   pub uncovered_dead : (s : List Item) (c : ℕ) → (IsCovered (IsLeaving ns s) c → ⊥) → is_dead (move ns s c) ≡ true
-  uncovered_dead s c none = falls_dead s c (λ x g r q m at k n. none (r, ((x, g, q, (contains_from s x m, at, k)), n)))
+  uncovered_dead s c none = otherwise_dead s c (λ x g r q m at k n. none (r, ((x, g, q, (contains_from s x m, at, k)), n)))
 
   -- labels end below this value
   pub covered_small : (s : List Item) (c : ℕ) → IsCovered (IsLeaving ns s) c → c ≤ 1114111

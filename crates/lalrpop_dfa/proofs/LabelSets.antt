@@ -15,13 +15,13 @@ use Rattle.lalrpop_nfa.specs.Graph.{Graph}
 use Rattle.lalrpop_nfa.specs.Path.{test}
 use Rattle.lalrpop_nfa.specs.Walk.{leaves}
 use Rattle.lalrpop_dfa.specs.Items.{Item, IsLeaving}
-use Rattle.lalrpop_dfa.specs.Internal.Machine.{graph_at}
+use Rattle.lalrpop_dfa.specs.Internal.Subsets.{graph_at}
 use Rattle.lalrpop_dfa.specs.Internal.Ascending.{IsItemOf}
 use Rattle.lalrpop_dfa.specs.Internal.Builder.{AreItemsOf}
 use Rattle.lalrpop_dfa.specs.Internal.Labels.{labels_from, HasAlso}
 use Rattle.lalrpop_nfa.specs.declared.edge.Edge.{Edge}
 use Rattle.lalrpop_dfa.proofs.Members.{Has, has_from, contains_from, has_map, map_has, has_filter, filter_has, has_flat_map, flat_map_has}
-use Rattle.lalrpop_dfa.proofs.Noting.{set_come, set_has, set_kept, then_equal, nat_exact, one_has, none_has, graph_here}
+use Rattle.lalrpop_dfa.proofs.Inserting.{set_come, set_has, set_kept, then_equal, nat_exact, one_has, none_has, graph_here}
 
 abbrev pub range_cmp : Range → Range → Ordering
 range_cmp x y = ordering_then (nat_cmp x.start y.start) (nat_cmp x.end y.end)

@@ -1,25 +1,25 @@
 mod Cases
 pub mod WordOrder
 pub mod Origins
-pub mod Numbering
+pub mod BreadthFirst
 pub mod Steps
 pub mod Clashes
 pub mod Longests
 pub mod Members
 pub mod SortedLists
 pub mod Sets
-pub mod Silent
+pub mod Epsilon
 pub mod Targets
 pub mod ReachedItems
 pub mod Dead
-pub mod LeadsLemmas
+pub mod EdgeTargets
 pub mod LongestLemmas
-pub mod Noting
+pub mod Inserting
 pub mod WorklistSteps
 pub mod Moving
 pub mod Bests
 pub mod LabelSets
-pub mod LeavingRuns
+pub mod LeavingBlocks
 pub mod SetWinners
 pub mod BuiltTable
 pub mod TiedClash
@@ -29,8 +29,8 @@ pub mod RowSteps
 pub mod Adding
 pub mod Builds
 pub mod Compiling
-mod LeadSteps
-mod LeadMoves
+mod TransitionSteps
+mod TransitionMoves
 -- laws for callers
 pub mod Strongest
 pub mod Agreeing

@@ -7,11 +7,11 @@ use Rattle.std.proofs.lemmas.Bool.{cases_lt}
 use Rattle.std.proofs.lemmas.List.{nil_from_length}
 use Rattle.std.proofs.lemmas.Str.{chars-nil, chars-append}
 use Rattle.lalrpop_hir.specs.Tree.{Tree}
-use Rattle.lalrpop_nfa.specs.Beginning.{IsBeginning}
+use Rattle.lalrpop_nfa.specs.Prefix.{IsPrefix}
 use Rattle.lalrpop_nfa.proofs.Cuts.{IsCut, cut_within, word_after, goes_on, ends_there}
-use Rattle.lalrpop_dfa.specs.Dfa.{Row, step, run, after, Stands, Says, IsReject}
+use Rattle.lalrpop_dfa.specs.Dfa.{Row, step, run, after, Recognizes, IsRightKind, IsReject}
 use Rattle.lalrpop_dfa.specs.Longest.{IsMatch, IsLongest}
-use Rattle.lalrpop_dfa.specs.Winners.{Matched, OnlyTop, GreatestTop}
+use Rattle.lalrpop_dfa.specs.Winners.{Matched, IsOnlyStrongest, IsHighestStrongest}
 use Rattle.lalrpop_dfa.specs.declared.Kind.{Kind}
 use Rattle.lalrpop_dfa.specs.declared.Kind.TheVariants.{Reject}
 use Rattle.lalrpop_dfa.proofs.AfterLaws.{run_append, after_push}
@@ -21,11 +21,11 @@ pub record IsAfter (d : List Row) (text : List ℕ) (at : ℕ) (state : ℕ) : T
   pub reached : state ≡ after d (chars (take at text))
   pub within : state < length d
 
--- of the beginnings of at most n bytes, the longest that some tree matches
+-- of the prefixes of at most n bytes, the longest that some tree matches
 abbrev pub IsLongestUpTo : List Tree → List ℕ → List ℕ → ℕ → Option (ℕ × List ℕ) → Type 0
 IsLongestUpTo ts ps text n None = (p : List ℕ) → IsMatch ts text p → length p ≤ n → ⊥
 IsLongestUpTo ts ps text n (Some m) =
-    IsMatch ts text m.1 × ((p : List ℕ) → IsMatch ts text p → length p ≤ n → length p ≤ length m.1) × GreatestTop ts ps (chars m.1) m.0
+    IsMatch ts text m.1 × ((p : List ℕ) → IsMatch ts text p → length p ≤ n → length p ≤ length m.1) × IsHighestStrongest ts ps (chars m.1) m.0
 
 -- ---- states
 
@@ -41,25 +41,25 @@ after_more d text rest rest2 at at2 c state state2 h e l a s w = record {
 }
 
 -- what a state's kind says of the word that leads to it
-pub says_of : (d : List Row) (ts : List Tree) (ps w : List ℕ) (state : ℕ) (r : Row) (seen k : Kind) → Stands d ts ps → state ≡ after d w
-    → slice_get d state ≡ Some r → seen ≡ r.kind → seen ≡ k → Says ts ps w k
+pub says_of : (d : List Row) (ts : List Tree) (ps w : List ℕ) (state : ℕ) (r : Row) (seen k : Kind) → Recognizes d ts ps → state ≡ after d w
+    → slice_get d state ≡ Some r → seen ≡ r.kind → seen ≡ k → IsRightKind ts ps w k
 says_of d ts ps w state r seen k h reached at is kind =
-    subst (Says ts ps w) (sym is ∙ kind)
-    (subst (λ o. IsSomeAnd o (λ x. Says ts ps w x.kind)) (ap (slice_get d) (sym reached) ∙ at) (h.kinds w))
+    subst (IsRightKind ts ps w) (sym is ∙ kind)
+    (subst (λ o. IsSomeAnd o (λ x. IsRightKind ts ps w x.kind)) (ap (slice_get d) (sym reached) ∙ at) (h.kinds w))
 
 pub reject_at : (d : List Row) (state : ℕ) (r : Row) (seen : Kind) → slice_get d state ≡ Some r → seen ≡ r.kind → seen ≡ Reject → IsReject d state
 reject_at d state r seen at is kind = subst (λ o. IsSomeAnd o (λ x. x.kind ≡ Reject)) (sym at) (sym is ∙ kind)
 
-stays_reject : (d : List Row) (ts : List Tree) (ps : List ℕ) (p : ℕ) (w : List ℕ) → Stands d ts ps → IsReject d p → IsReject d (run d p w)
+stays_reject : (d : List Row) (ts : List Tree) (ps : List ℕ) (p : ℕ) (w : List ℕ) → Recognizes d ts ps → IsReject d p → IsReject d (run d p w)
 stays_reject d ts ps p [] h r = r
 stays_reject d ts ps p (c ∷ w) h r = stays_reject d ts ps (step d p c) w h (h.stays p c r)
 
-unmatched : (ts : List Tree) (ps w : List ℕ) (o : Option Row) → IsSomeAnd o (λ r. r.kind ≡ Reject) → IsSomeAnd o (λ r. Says ts ps w r.kind) → ¬ Matched ts w
+unmatched : (ts : List Tree) (ps w : List ℕ) (o : Option Row) → IsSomeAnd o (λ r. r.kind ≡ Reject) → IsSomeAnd o (λ r. IsRightKind ts ps w r.kind) → ¬ Matched ts w
 unmatched ts ps w None r s = absurd r
-unmatched ts ps w (Some x) r s = subst (Says ts ps w) r s
+unmatched ts ps w (Some x) r s = subst (IsRightKind ts ps w) r s
 
 -- after a reject state no tree matches
-none_after : (d : List Row) (ts : List Tree) (ps v w : List ℕ) (state : ℕ) → Stands d ts ps → state ≡ after d v → IsReject d state → ¬ Matched ts (v ++ w)
+none_after : (d : List Row) (ts : List Tree) (ps v w : List ℕ) (state : ℕ) → Recognizes d ts ps → state ≡ after d v → IsReject d state → ¬ Matched ts (v ++ w)
 none_after d ts ps v w state h reached r =
     let there : after d (v ++ w) ≡ run d state w = run_append d 0 v w ∙ ap (λ p. run d p w) (sym reached) in
     unmatched ts ps (v ++ w) (slice_get d (after d (v ++ w))) (subst (IsReject d) (sym there) (stays_reject d ts ps state w h r)) (h.kinds (v ++ w))
@@ -70,7 +70,7 @@ pub longest_start : (ts : List Tree) (ps text : List ℕ) → IsLongestUpTo ts p
 longest_start ts ps text p m l = m.1 (nil_from_length p (omega arith))
 
 pub longest_accept : (ts : List Tree) (ps text rest : List ℕ) (at i : ℕ) (m : List ℕ) → IsCut text at rest → 0 < at → m ≡ take at text
-    → OnlyTop ts ps (chars (take at text)) i → IsLongestUpTo ts ps text at (Some (i, m))
+    → IsOnlyStrongest ts ps (chars (take at text)) i → IsLongestUpTo ts ps text at (Some (i, m))
 longest_accept ts ps text rest at i m h above is only =
     subst (λ xs. IsLongestUpTo ts ps text at (Some (i, xs))) (sym is) (
       ((rest, (h.split, h.seen_utf8)), λ none. let zero : length (take at text) ≡ 0 = ap length none in absurd (omega (arith, h.place)), (i, only.0.0)),
@@ -94,7 +94,7 @@ longest_pass ts ps text rest rest2 at at2 c (Some best) h e l not up = (
   up.2,
 )
 
--- where no longer beginning matches, the longest so far is the longest
+-- where no longer prefix matches, the longest so far is the longest
 done : (ts : List Tree) (ps text : List ℕ) (at : ℕ) (best : Option (ℕ × List ℕ)) → ((p : List ℕ) → IsMatch ts text p → length p ≤ at)
     → IsLongestUpTo ts ps text at best → IsLongest ts ps text best
 done ts ps text at None all up = λ p m. up p m (all p m)
@@ -107,7 +107,7 @@ longest_end ts ps text rest at best h none up =
     (λ p m. omega (arith, cut_within text rest at h, ap length m.0.1.0, length-append p m.0.0))
     up
 
-pub longest_stop : (d : List Row) (ts : List Tree) (ps text rest : List ℕ) (at state : ℕ) (best : Option (ℕ × List ℕ)) → Stands d ts ps → IsCut text at rest
+pub longest_stop : (d : List Row) (ts : List Tree) (ps text rest : List ℕ) (at state : ℕ) (best : Option (ℕ × List ℕ)) → Recognizes d ts ps → IsCut text at rest
     → IsAfter d text at state → IsReject d state → IsLongestUpTo ts ps text at best → IsLongest ts ps text best
 longest_stop d ts ps text rest at state best stands h a r up =
     done ts ps text at best
@@ -120,10 +120,10 @@ longest_stop d ts ps text rest at state best stands h a r up =
     (cases_lt at (length p)))
     up
 
--- ---- what is accepted is a nonempty beginning of the text
+-- ---- what is accepted is a nonempty prefix of the text
 
-pub part_accept : (text rest : List ℕ) (at : ℕ) (m : List ℕ) → IsCut text at rest → 0 < at → m ≡ take at text → IsBeginning m text × (m ≢ [])
+pub part_accept : (text rest : List ℕ) (at : ℕ) (m : List ℕ) → IsCut text at rest → 0 < at → m ≡ take at text → IsPrefix m text × (m ≢ [])
 part_accept text rest at m h above is = (
-  subst (λ (p : List ℕ). IsBeginning p text) (sym is) (rest, (h.split, h.seen_utf8)),
+  subst (λ (p : List ℕ). IsPrefix p text) (sym is) (rest, (h.split, h.seen_utf8)),
   λ none. let zero : length m ≡ 0 = ap length none in let size : length m ≡ at = ap length is ∙ h.place in omega arith,
 )

@@ -7,13 +7,13 @@ use Rattle.lalrpop_hir.specs.Range.{Range}
 use Rattle.lalrpop_nfa.specs.Graph.{Graph}
 use Rattle.lalrpop_dfa.specs.Items.{Item}
 use Rattle.lalrpop_nfa.specs.Walk.{leaves}
-use Rattle.lalrpop_dfa.specs.Internal.Machine.{tested, fallen, or_instead, item_targets}
+use Rattle.lalrpop_dfa.specs.Internal.Subsets.{test_targets, default_targets, or_instead, item_targets}
 use Rattle.lalrpop_nfa.specs.declared.edge.Edge.{Edge}
 use Rattle.lalrpop_nfa.specs.Path.{test, other}
 use Rattle.lalrpop_dfa.specs.Internal.Builder.{AreAutomata, AreItemsOf}
 use Rattle.lalrpop_dfa.proofs.Members.{has_from, contains_from, flat_map_has}
 use Rattle.lalrpop_dfa.proofs.Targets.{compiled_at, item_targets_parts}
-use Rattle.lalrpop_dfa.proofs.Noting.{graph_here}
+use Rattle.lalrpop_dfa.proofs.Inserting.{graph_here}
 use Rattle.lalrpop_dfa.proofs.WorklistSteps.{nil_from}
 
 -- the test edges of a list that cover the value lead here
@@ -38,14 +38,14 @@ module _ (i p c : ℕ) where
       ]
 
 module _ {L : Type 0} (i p : ℕ) where
-  pub fallen_start : (es : List (Edge L)) → map (λ (e : Edge L). let z : Item = (i, e.to) in z) (filter (leaves p) es) ≡ map (λ q. let z : Item = (i, q) in z) (map (λ (e : Edge L). e.to) (filter (λ (e : Edge L). e.from == p) es))
-  fallen_start [] = refl
-  fallen_start (e ∷ es) =
+  pub default_start : (es : List (Edge L)) → map (λ (e : Edge L). let z : Item = (i, e.to) in z) (filter (leaves p) es) ≡ map (λ q. let z : Item = (i, q) in z) (map (λ (e : Edge L). e.to) (filter (λ (e : Edge L). e.from == p) es))
+  default_start [] = refl
+  default_start (e ∷ es) =
       elim (e.from == p) as (λ b.
       map (λ (e : Edge L). let z : Item = (i, e.to) in z) (cond b (e ∷ filter (leaves p) es) (filter (leaves p) es))
       ≡ map (λ q. let z : Item = (i, q) in z) (map (λ (e : Edge L). e.to) (cond b (e ∷ filter (λ (e : Edge L). e.from == p) es) (filter (λ (e : Edge L). e.from == p) es)))) [
-        | true ↦ ap (λ ys. let z : Item = (i, e.to) in z ∷ ys) (fallen_start es)
-        | false ↦ fallen_start es
+        | true ↦ ap (λ ys. let z : Item = (i, e.to) in z ∷ ys) (default_start es)
+        | false ↦ default_start es
       ]
 
 instead_none : (ts qs : List ℕ) → length ts ≡ 0 → or_instead ts qs ≡ qs
@@ -60,22 +60,22 @@ abbrev at_place : ℕ → ℕ → Item
 at_place i q = (i, q)
 
 -- where no test edge covers the value, the other edges lead
-pub targets_fallen : (ns : List Graph) (c : ℕ) (x : Item) (g : Graph) (old new new2 : List Item) → slice_get ns x.0 ≡ Some g → new ≡ old ++ map (at_place x.0) (tested g x.1 c) → length new ≡ length old
-    → new2 ≡ new ++ map (at_place x.0) (fallen g x.1) → new2 ≡ old ++ item_targets ns c x
+pub targets_default : (ns : List Graph) (c : ℕ) (x : Item) (g : Graph) (old new new2 : List Item) → slice_get ns x.0 ≡ Some g → new ≡ old ++ map (at_place x.0) (test_targets g x.1 c) → length new ≡ length old
+    → new2 ≡ new ++ map (at_place x.0) (default_targets g x.1) → new2 ≡ old ++ item_targets ns c x
 unfolding item_targets
-targets_fallen ns c x g old new new2 at is same then =
-    let none : length (tested g x.1 c) ≡ 0 = omega (arith, same, ap length is, length-append old (map (at_place x.0) (tested g x.1 c)), length-map (tested g x.1 c) (at_place x.0)) in
-    let kept : new ≡ old = is ∙ (ap (λ ys. old ++ ys) (nil_from (map (at_place x.0) (tested g x.1 c)) (length-map (tested g x.1 c) (at_place x.0) ∙ none)) ∙ append-nil old) in
-    rw (graph_here ns x.0 g at, instead_none (tested g x.1 c) (fallen g x.1) none) (rw kept at then)
+targets_default ns c x g old new new2 at is same then =
+    let none : length (test_targets g x.1 c) ≡ 0 = omega (arith, same, ap length is, length-append old (map (at_place x.0) (test_targets g x.1 c)), length-map (test_targets g x.1 c) (at_place x.0)) in
+    let kept : new ≡ old = is ∙ (ap (λ ys. old ++ ys) (nil_from (map (at_place x.0) (test_targets g x.1 c)) (length-map (test_targets g x.1 c) (at_place x.0) ∙ none)) ∙ append-nil old) in
+    rw (graph_here ns x.0 g at, instead_none (test_targets g x.1 c) (default_targets g x.1) none) (rw kept at then)
 
 -- and else they alone
-pub targets_tested : (ns : List Graph) (c : ℕ) (x : Item) (g : Graph) (old new : List Item) → slice_get ns x.0 ≡ Some g → new ≡ old ++ map (at_place x.0) (tested g x.1 c) → (length new ≡ length old → ⊥)
+pub targets_tested : (ns : List Graph) (c : ℕ) (x : Item) (g : Graph) (old new : List Item) → slice_get ns x.0 ≡ Some g → new ≡ old ++ map (at_place x.0) (test_targets g x.1 c) → (length new ≡ length old → ⊥)
     → new ≡ old ++ item_targets ns c x
 unfolding item_targets
 targets_tested ns c x g old new at is more =
-    let some : length (tested g x.1 c) ≡ 0 → ⊥ =
-    λ (e : length (tested g x.1 c) ≡ 0). more (omega (arith, e, ap length is, length-append old (map (at_place x.0) (tested g x.1 c)), length-map (tested g x.1 c) (at_place x.0))) in
-    rw (graph_here ns x.0 g at, instead_some (tested g x.1 c) (fallen g x.1) some) is
+    let some : length (test_targets g x.1 c) ≡ 0 → ⊥ =
+    λ (e : length (test_targets g x.1 c) ≡ 0). more (omega (arith, e, ap length is, length-append old (map (at_place x.0) (test_targets g x.1 c)), length-map (test_targets g x.1 c) (at_place x.0))) in
+    rw (graph_here ns x.0 g at, instead_some (test_targets g x.1 c) (default_targets g x.1) some) is
 
 -- where a value leads from an item is an item
 pub targets_inside : (ns : List Graph) (c : ℕ) (s : List Item) → AreAutomata ns → AreItemsOf ns s → AreItemsOf ns (flat_map (item_targets ns c) s)

@@ -3,7 +3,7 @@ use Rattle.std.proofs.Common.{◌≡◌, ℕ, ◌<◌, ◌≤◌, List, [], ◌�
 use Rattle.std.specs.List.{All, AllByRecursion}
 use Rattle.std.proofs.lemmas.List.Elements.{All-nil, All-push, recursion_from_All}
 use Rattle.lalrpop_hir.specs.Word.{IsWord}
-use Rattle.lalrpop_dfa.specs.Internal.Numbering.{from_of, value_of, word_of, word}
+use Rattle.lalrpop_dfa.specs.Internal.BreadthFirst.{from_of, value_of, word_of, word}
 
 module _ (origins : List (ℕ × ℕ)) (size : ℕ) (earlier : (k : ℕ) → 0 < k → k < size → from_of origins k < k) where
   -- the fuel of a word doesn't matter

@@ -8,14 +8,14 @@ use Rattle.lalrpop_nfa.specs.Path.{Reads, Path}
 use Rattle.lalrpop_nfa.specs.Compiled.{IsCompiled, start_state}
 use Rattle.lalrpop_dfa.specs.Items.{Item, AreCompiled, IsReached}
 use Rattle.lalrpop_dfa.specs.Internal.Ascending.{AreAscendingItems, IsItemOf}
-use Rattle.lalrpop_dfa.specs.Internal.Machine.{graph_at, silent, follows_silently, item_targets, move, starts_from, first_set_of}
-use Rattle.lalrpop_dfa.specs.Internal.Numbering.{after}
-use Rattle.lalrpop_dfa.specs.Internal.Built.{machine_of}
+use Rattle.lalrpop_dfa.specs.Internal.Subsets.{graph_at, is_epsilon_path, follows_by_epsilon, item_targets, move, starts_from, first_set_of}
+use Rattle.lalrpop_dfa.specs.Internal.BreadthFirst.{after}
+use Rattle.lalrpop_dfa.specs.Internal.Built.{subset_automaton}
 use Rattle.lalrpop_dfa.proofs.Members.{Has, has_from, contains_from}
 use Rattle.lalrpop_dfa.proofs.WordOrder.{from_the_end}
-use Rattle.lalrpop_dfa.proofs.Numbering.{after_push}
+use Rattle.lalrpop_dfa.proofs.BreadthFirst.{after_push}
 use Rattle.lalrpop_nfa.proofs.PathLemmas.{path_join, path_split, path_edge, path_inside}
-use Rattle.lalrpop_dfa.proofs.Silent.{silent_path, path_silent}
+use Rattle.lalrpop_dfa.proofs.Epsilon.{epsilon_path, path_epsilon}
 use Rattle.lalrpop_dfa.proofs.Targets.{graph_is, item_targets_parts, item_targets_have, compiled_at}
 use Rattle.lalrpop_dfa.proofs.Sets.{closed_parts, closed_has, move_parts, move_has, first_set_ascends, move_ascends}
 
@@ -31,26 +31,26 @@ starts_have (f ∷ gs) i zero k g e at = inl (let same : i ≡ k = omega arith i
 starts_have (f ∷ gs) i (suc j) k g e at = inr (starts_have gs (i + 1) j k g (omega arith) at)
 
 module _ (ns : List Graph) where
-  pub follows_place : (y x : Item) → follows_silently ns y x ≡ true → y.0 ≡ x.0
-  unfolding follows_silently
-  follows_place y x f = eqb-true y.0 x.0 (and_parts (y.0 == x.0) (silent (graph_at ns x.0) y.1 x.1) f).0
+  pub follows_place : (y x : Item) → follows_by_epsilon ns y x ≡ true → y.0 ≡ x.0
+  unfolding follows_by_epsilon
+  follows_place y x f = eqb-true y.0 x.0 (and_parts (y.0 == x.0) (is_epsilon_path (graph_at ns x.0) y.1 x.1) f).0
 
-  pub follows_path : (y x : Item) (g : Graph) → slice_get ns x.0 ≡ Some g → follows_silently ns y x ≡ true → Path g.edges x.1 y.1 []
-  unfolding follows_silently
+  pub follows_path : (y x : Item) (g : Graph) → slice_get ns x.0 ≡ Some g → follows_by_epsilon ns y x ≡ true → Path g.edges x.1 y.1 []
+  unfolding follows_by_epsilon
   follows_path y x g at f =
       subst (λ (e : Graph). Path e.edges x.1 y.1 []) (graph_is ns x.0 g at)
-      (silent_path (graph_at ns x.0) y.1 x.1 (and_parts (y.0 == x.0) (silent (graph_at ns x.0) y.1 x.1) f).1)
+      (epsilon_path (graph_at ns x.0) y.1 x.1 (and_parts (y.0 == x.0) (is_epsilon_path (graph_at ns x.0) y.1 x.1) f).1)
 
-  pub path_follows : (t : Tree) (y x : Item) (g : Graph) → IsCompiled t g → slice_get ns x.0 ≡ Some g → y.0 ≡ x.0 → Path g.edges x.1 y.1 [] → follows_silently ns y x ≡ true
-  unfolding follows_silently
+  pub path_follows : (t : Tree) (y x : Item) (g : Graph) → IsCompiled t g → slice_get ns x.0 ≡ Some g → y.0 ≡ x.0 → Path g.edges x.1 y.1 [] → follows_by_epsilon ns y x ≡ true
+  unfolding follows_by_epsilon
   path_follows t y x g c at e p =
-      and_from (y.0 == x.0) (silent (graph_at ns x.0) y.1 x.1) (eq-eqb y.0 x.0 e)
-      (subst (λ (f : Graph). silent f y.1 x.1 ≡ true) (sym (graph_is ns x.0 g at)) (path_silent g (λ n k. (c.noops_in n k).1) y.1 x.1 p))
+      and_from (y.0 == x.0) (is_epsilon_path (graph_at ns x.0) y.1 x.1) (eq-eqb y.0 x.0 e)
+      (subst (λ (f : Graph). is_epsilon_path f y.1 x.1 ≡ true) (sym (graph_is ns x.0 g at)) (path_epsilon g (λ n k. (c.noops_in n k).1) y.1 x.1 p))
 
   -- each set after a word ascends
-  pub after_ascends : (w : List ℕ) → AreAscendingItems (after (machine_of ns) (first_set_of ns) w)
-  after_ascends = from_the_end (λ (w : List ℕ). AreAscendingItems (after (machine_of ns) (first_set_of ns) w)) (first_set_ascends ns)
-      (λ w c _. rw (after_push (machine_of ns) (first_set_of ns) w c) (move_ascends ns (after (machine_of ns) (first_set_of ns) w) c))
+  pub after_ascends : (w : List ℕ) → AreAscendingItems (after (subset_automaton ns) (first_set_of ns) w)
+  after_ascends = from_the_end (λ (w : List ℕ). AreAscendingItems (after (subset_automaton ns) (first_set_of ns) w)) (first_set_ascends ns)
+      (λ w c _. rw (after_push (subset_automaton ns) (first_set_of ns) w c) (move_ascends ns (after (subset_automaton ns) (first_set_of ns) w) c))
 
 module _ (ts : List Tree) (ns : List Graph) (h : AreCompiled ts ns) where
   abbrev HoldsReached : List Item → List ℕ → Type 0
@@ -65,7 +65,7 @@ module _ (ts : List Tree) (ns : List Graph) (h : AreCompiled ts ns) where
   unfolding first_set_of
   first_reached x = (
     λ k.
-        let p : IsItemOf ns x × ((y : Item) × (Has (starts_from 0 ns) y × (follows_silently ns y x ≡ true))) = closed_parts ns (starts_from 0 ns) x k in
+        let p : IsItemOf ns x × ((y : Item) × (Has (starts_from 0 ns) y × (follows_by_epsilon ns y x ≡ true))) = closed_parts ns (starts_from 0 ns) x k in
         let g : Graph = p.0.0 in
         (g, (p.0.1.0, subst (λ (q : ℕ). Path g.edges x.1 q []) (starts_parts 0 ns p.1.0 p.1.1.0) (follows_path ns p.1.0 x g p.0.1.0 p.1.1.1))),
     λ r.
@@ -79,7 +79,7 @@ module _ (ts : List Tree) (ns : List Graph) (h : AreCompiled ts ns) where
     where
       to : Has (move ns s c) x → IsReached ns (w ++ c ∷ []) x
       to k =
-          let p : IsItemOf ns x × ((y z : Item) × (Has s y × Has (item_targets ns c y) z × (follows_silently ns z x ≡ true))) = move_parts ns s c x k in
+          let p : IsItemOf ns x × ((y z : Item) × (Has s y × Has (item_targets ns c y) z × (follows_by_epsilon ns z x ≡ true))) = move_parts ns s c x k in
           let y : Item = p.1.0 in
           let z : Item = p.1.1 in
           let r : IsReached ns w y = (before y).0 p.1.2.0 in
@@ -99,13 +99,13 @@ module _ (ts : List Tree) (ns : List Graph) (h : AreCompiled ts ns) where
           (item_targets_have ns c (x.0, p.0) p.1 g r.1.0 p.2.1)
           (path_follows ns t.0 (x.0, p.1) x g t.1.1 r.1.0 refl p.2.2)
 
-  pub after_has : (w : List ℕ) (x : Item) → Has (after (machine_of ns) (first_set_of ns) w) x ↔ IsReached ns w x
-  after_has = from_the_end (λ (w : List ℕ). HoldsReached (after (machine_of ns) (first_set_of ns) w) w) first_reached
-      (λ w c before. rw (after_push (machine_of ns) (first_set_of ns) w c) (move_reached (after (machine_of ns) (first_set_of ns) w) w c before))
+  pub after_has : (w : List ℕ) (x : Item) → Has (after (subset_automaton ns) (first_set_of ns) w) x ↔ IsReached ns w x
+  after_has = from_the_end (λ (w : List ℕ). HoldsReached (after (subset_automaton ns) (first_set_of ns) w) w) first_reached
+      (λ w c before. rw (after_push (subset_automaton ns) (first_set_of ns) w c) (move_reached (after (subset_automaton ns) (first_set_of ns) w) w c before))
 
   -- the set after a word holds the items that the word leads to
-  pub reached_items : (w : List ℕ) (x : Item) → Contains (after (machine_of ns) (first_set_of ns) w) x ↔ IsReached ns w x
+  pub reached_items : (w : List ℕ) (x : Item) → Contains (after (subset_automaton ns) (first_set_of ns) w) x ↔ IsReached ns w x
   reached_items w x = (
-    λ k. (after_has w x).0 (has_from (after (machine_of ns) (first_set_of ns) w) x k),
-    λ r. contains_from (after (machine_of ns) (first_set_of ns) w) x ((after_has w x).1 r),
+    λ k. (after_has w x).0 (has_from (after (subset_automaton ns) (first_set_of ns) w) x k),
+    λ r. contains_from (after (subset_automaton ns) (first_set_of ns) w) x ((after_has w x).1 r),
   )

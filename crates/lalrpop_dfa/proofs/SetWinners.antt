@@ -4,12 +4,12 @@ use Rattle.std.specs.List.{Contains, slice_get}
 use Rattle.lalrpop_hir.specs.Tree.{Tree}
 use Rattle.lalrpop_nfa.specs.Graph.{Graph}
 use Rattle.lalrpop_nfa.specs.Compiled.{IsCompiled, accept_state, reject_state}
-use Rattle.lalrpop_dfa.specs.Winners.{Who, Top, Ambiguous}
-use Rattle.lalrpop_dfa.specs.Dfa.{Says}
+use Rattle.lalrpop_dfa.specs.Winners.{TreeMatches, IsStrongest, Ambiguous}
+use Rattle.lalrpop_dfa.specs.Dfa.{IsRightKind}
 use Rattle.lalrpop_dfa.specs.Items.{Item, AreCompiled, IsReached}
-use Rattle.lalrpop_dfa.specs.Internal.Machine.{first_set_of, is_dead}
-use Rattle.lalrpop_dfa.specs.Internal.Numbering.{after}
-use Rattle.lalrpop_dfa.specs.Internal.Built.{machine_of, IsStrongest, IsKindOf}
+use Rattle.lalrpop_dfa.specs.Internal.Subsets.{first_set_of, is_dead}
+use Rattle.lalrpop_dfa.specs.Internal.BreadthFirst.{after}
+use Rattle.lalrpop_dfa.specs.Internal.Built.{subset_automaton, IsStrongestIn, IsKindOf}
 use Rattle.lalrpop_dfa.specs.declared.Kind.{Kind}
 use Rattle.lalrpop_dfa.specs.declared.Kind.TheVariants.{Accepts, Reject, Neither}
 use Rattle.lalrpop_dfa.proofs.Members.{has_from}
@@ -41,14 +41,14 @@ pub reject_kind : (ps : List ℕ) (s : List Item) (k : Kind) → IsKindOf ps s k
 reject_kind ps s k a e = subst (λ (l : Kind). IsKindOf ps s l) e a
 
 -- a set with a kind has no two strongest trees
-pub kind_not_tied : (ps : List ℕ) (s : List Item) (k : Kind) → IsKindOf ps s k → (i j : ℕ) → IsStrongest ps s i → IsStrongest ps s j → i ≡ j
+pub kind_not_tied : (ps : List ℕ) (s : List Item) (k : Kind) → IsKindOf ps s k → (i j : ℕ) → IsStrongestIn ps s i → IsStrongestIn ps s j → i ≡ j
 kind_not_tied ps s (Accepts n) a i j b c = a.1 i b ∙ sym (a.1 j c)
 kind_not_tied ps s Reject a i j b c = absurd (dead_accepts_none s a i b.0)
 kind_not_tied ps s Neither a i j b c = absurd (a.1 i b.0)
 
 module _ (ts : List Tree) (ns : List Graph) (h : AreCompiled ts ns) where
   -- the set after a word accepts the trees that match the word
-  pub accepts_iff : (w : List ℕ) (i : ℕ) → Contains (after (machine_of ns) (first_set_of ns) w) (i, accept_state) ↔ Who ts w i
+  pub accepts_iff : (w : List ℕ) (i : ℕ) → Contains (after (subset_automaton ns) (first_set_of ns) w) (i, accept_state) ↔ TreeMatches ts w i
   accepts_iff w i = (
     λ k.
         let r : IsReached ns w (i, accept_state) = (reached_items ts ns h w (i, accept_state)).0 k in
@@ -59,20 +59,20 @@ module _ (ts : List Tree) (ns : List Graph) (h : AreCompiled ts ns) where
         (reached_items ts ns h w (i, accept_state)).1 (c.0, (c.1.0, (c.1.1.reads w).1 who.1.1)),
   )
 
-  pub strongest_iff : (ps w : List ℕ) (i : ℕ) → IsStrongest ps (after (machine_of ns) (first_set_of ns) w) i ↔ Top ts ps w i
+  pub strongest_iff : (ps w : List ℕ) (i : ℕ) → IsStrongestIn ps (after (subset_automaton ns) (first_set_of ns) w) i ↔ IsStrongest ts ps w i
   strongest_iff ps w i = (
     λ s. ((accepts_iff w i).0 s.0, λ j k. s.1 j ((accepts_iff w j).1 k)),
     λ t. ((accepts_iff w i).1 t.0, λ j k. t.1 j ((accepts_iff w j).0 k)),
   )
 
   -- the kind of the set says what matches the word
-  pub kind_says : (ps w : List ℕ) (k : Kind) → IsKindOf ps (after (machine_of ns) (first_set_of ns) w) k → Says ts ps w k
+  pub kind_says : (ps w : List ℕ) (k : Kind) → IsKindOf ps (after (subset_automaton ns) (first_set_of ns) w) k → IsRightKind ts ps w k
   kind_says ps w (Accepts i) a = ((strongest_iff ps w i).0 a.0, λ j t. a.1 j ((strongest_iff ps w j).1 t))
-  kind_says ps w Reject a = λ m. dead_accepts_none (after (machine_of ns) (first_set_of ns) w) a m.0 ((accepts_iff w m.0).1 m.1)
+  kind_says ps w Reject a = λ m. dead_accepts_none (after (subset_automaton ns) (first_set_of ns) w) a m.0 ((accepts_iff w m.0).1 m.1)
   kind_says ps w Neither a = λ m. a.1 m.0 ((accepts_iff w m.0).1 m.1)
 
   -- a word that leads to a set with a kind is not ambiguous
-  pub kind_not_ambiguous : (ps w : List ℕ) (k : Kind) → IsKindOf ps (after (machine_of ns) (first_set_of ns) w) k → Ambiguous ts ps w → ⊥
+  pub kind_not_ambiguous : (ps w : List ℕ) (k : Kind) → IsKindOf ps (after (subset_automaton ns) (first_set_of ns) w) k → Ambiguous ts ps w → ⊥
   kind_not_ambiguous ps w k a m =
-      let e : m.0 ≡ m.1 = kind_not_tied ps (after (machine_of ns) (first_set_of ns) w) k a m.0 m.1 ((strongest_iff ps w m.0).1 m.2.1) ((strongest_iff ps w m.1).1 m.2.2) in
+      let e : m.0 ≡ m.1 = kind_not_tied ps (after (subset_automaton ns) (first_set_of ns) w) k a m.0 m.1 ((strongest_iff ps w m.0).1 m.2.1) ((strongest_iff ps w m.1).1 m.2.2) in
       omega (arith, m.2.0)

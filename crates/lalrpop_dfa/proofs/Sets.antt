@@ -10,7 +10,7 @@ use Rattle.std.proofs.lemmas.List.Kept.{IsStrictlySortedBy-filter}
 use Rattle.lalrpop_nfa.specs.Graph.{Graph}
 use Rattle.lalrpop_dfa.specs.Items.{Item}
 use Rattle.lalrpop_dfa.specs.Internal.Ascending.{item_cmp, AreAscendingItems, IsItemOf}
-use Rattle.lalrpop_dfa.specs.Internal.Machine.{items_below, items_from, all_items, follows_silently, closed, item_targets, move, starts_from, first_set_of}
+use Rattle.lalrpop_dfa.specs.Internal.Subsets.{items_below, items_from, all_items, follows_by_epsilon, closed, item_targets, move, starts_from, first_set_of}
 use Rattle.lalrpop_dfa.proofs.Members.{Has, has_from, contains_from, has_left, has_right, has_cases, has_filter, filter_has, any_from_has, has_from_any, has_flat_map, flat_map_has}
 use Rattle.lalrpop_dfa.proofs.SortedLists.{sorted_nil, sorted_cons, sorted_append, sorted_same, sorted_at_most}
 
@@ -101,22 +101,22 @@ module _ (ns : List Graph) where
   -- what a closed set holds
   pub closed_ascends : (given : List Item) → AreAscendingItems (closed ns given)
   unfolding closed
-  closed_ascends given = IsStrictlySortedBy-filter item_cmp (λ x. list_any (λ y. follows_silently ns y x) given) (all_items ns) all_items_ascend
+  closed_ascends given = IsStrictlySortedBy-filter item_cmp (λ x. list_any (λ y. follows_by_epsilon ns y x) given) (all_items ns) all_items_ascend
 
-  pub closed_parts : (given : List Item) (x : Item) → Has (closed ns given) x → IsItemOf ns x × ((y : Item) × (Has given y × (follows_silently ns y x ≡ true)))
+  pub closed_parts : (given : List Item) (x : Item) → Has (closed ns given) x → IsItemOf ns x × ((y : Item) × (Has given y × (follows_by_epsilon ns y x ≡ true)))
   unfolding closed
   closed_parts given x h =
-      let r : Has (all_items ns) x × (list_any (λ y. follows_silently ns y x) given ≡ true) = filter_has (λ x. list_any (λ y. follows_silently ns y x) given) (all_items ns) x h in
-      (all_items_parts x r.0, has_from_any (λ y. follows_silently ns y x) given r.1)
+      let r : Has (all_items ns) x × (list_any (λ y. follows_by_epsilon ns y x) given ≡ true) = filter_has (λ x. list_any (λ y. follows_by_epsilon ns y x) given) (all_items ns) x h in
+      (all_items_parts x r.0, has_from_any (λ y. follows_by_epsilon ns y x) given r.1)
 
-  pub closed_has : (given : List Item) (x y : Item) → IsItemOf ns x → Has given y → follows_silently ns y x ≡ true → Has (closed ns given) x
+  pub closed_has : (given : List Item) (x y : Item) → IsItemOf ns x → Has given y → follows_by_epsilon ns y x ≡ true → Has (closed ns given) x
   unfolding closed
   closed_has given x y h k f =
-      has_filter (λ x. list_any (λ y. follows_silently ns y x) given) (all_items ns) x (all_items_have x h) (any_from_has (λ y. follows_silently ns y x) given y k f)
+      has_filter (λ x. list_any (λ y. follows_by_epsilon ns y x) given) (all_items ns) x (all_items_have x h) (any_from_has (λ y. follows_by_epsilon ns y x) given y k f)
 
-  pub contains_closed : (given : List Item) (x : Item) → Contains (closed ns given) x ↔ (IsItemOf ns x × ((y : Item) × (Contains given y × (follows_silently ns y x ≡ true))))
+  pub contains_closed : (given : List Item) (x : Item) → Contains (closed ns given) x ↔ (IsItemOf ns x × ((y : Item) × (Contains given y × (follows_by_epsilon ns y x ≡ true))))
   contains_closed given x = (
-    λ h. (let r : IsItemOf ns x × ((y : Item) × (Has given y × (follows_silently ns y x ≡ true))) = closed_parts given x (has_from (closed ns given) x h) in (r.0, (r.1.0, (contains_from given r.1.0 r.1.1.0, r.1.1.1)))),
+    λ h. (let r : IsItemOf ns x × ((y : Item) × (Has given y × (follows_by_epsilon ns y x ≡ true))) = closed_parts given x (has_from (closed ns given) x h) in (r.0, (r.1.0, (contains_from given r.1.0 r.1.1.0, r.1.1.1)))),
     λ r. contains_from (closed ns given) x (closed_has given x r.1.0 r.0 (has_from given r.1.0 r.1.1.0) r.1.1.1),
   )
 
@@ -138,14 +138,14 @@ module _ (ns : List Graph) where
 
   -- from an item of the set by the value, and then silently
   pub move_parts : (s : List Item) (c : ℕ) (x : Item) → Has (move ns s c) x
-      → IsItemOf ns x × ((y z : Item) × (Has s y × Has (item_targets ns c y) z × (follows_silently ns z x ≡ true)))
+      → IsItemOf ns x × ((y z : Item) × (Has s y × Has (item_targets ns c y) z × (follows_by_epsilon ns z x ≡ true)))
   unfolding move
   move_parts s c x h =
-      let r : IsItemOf ns x × ((z : Item) × (Has (flat_map (item_targets ns c) s) z × (follows_silently ns z x ≡ true))) = closed_parts (flat_map (item_targets ns c) s) x h in
+      let r : IsItemOf ns x × ((z : Item) × (Has (flat_map (item_targets ns c) s) z × (follows_by_epsilon ns z x ≡ true))) = closed_parts (flat_map (item_targets ns c) s) x h in
       let t : (y : Item) × (Has s y × Has (item_targets ns c y) r.1.0) = flat_map_has (item_targets ns c) s r.1.0 r.1.1.0 in
       (r.0, (t.0, r.1.0, (t.1.0, t.1.1, r.1.1.1)))
 
-  pub move_has : (s : List Item) (c : ℕ) (x y z : Item) → IsItemOf ns x → Has s y → Has (item_targets ns c y) z → follows_silently ns z x ≡ true → Has (move ns s c) x
+  pub move_has : (s : List Item) (c : ℕ) (x y z : Item) → IsItemOf ns x → Has s y → Has (item_targets ns c y) z → follows_by_epsilon ns z x ≡ true → Has (move ns s c) x
   unfolding move
   move_has s c x y z i h k f = closed_has (flat_map (item_targets ns c) s) x z i (has_flat_map (item_targets ns c) s y z h k) f
 

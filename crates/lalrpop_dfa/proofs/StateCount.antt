@@ -12,12 +12,12 @@ use Rattle.lalrpop_nfa.specs.Graph.{Graph}
 use Rattle.lalrpop_nfa.specs.Compiled.{IsCompiled}
 use Rattle.lalrpop_dfa.specs.Items.{Item, AreCompiled}
 use Rattle.lalrpop_dfa.specs.Internal.Ascending.{AreAscendingItems, IsItemOf}
-use Rattle.lalrpop_dfa.specs.Internal.Machine.{items_below, items_from, all_items, first_set_of}
-use Rattle.lalrpop_dfa.specs.Internal.Numbering.{Numbering, after, word}
-use Rattle.lalrpop_dfa.specs.Internal.Built.{machine_of}
+use Rattle.lalrpop_dfa.specs.Internal.Subsets.{items_below, items_from, all_items, first_set_of}
+use Rattle.lalrpop_dfa.specs.Internal.BreadthFirst.{IsBreadthFirst, after, word}
+use Rattle.lalrpop_dfa.specs.Internal.Built.{subset_automaton}
 use Rattle.lalrpop_dfa.proofs.Members.{Has, has_from, contains_from, any_from_has, has_from_any}
 use Rattle.lalrpop_dfa.proofs.WordOrder.{from_the_end}
-use Rattle.lalrpop_dfa.proofs.Numbering.{after_push, word_reaches}
+use Rattle.lalrpop_dfa.proofs.BreadthFirst.{after_push, word_reaches}
 use Rattle.lalrpop_dfa.proofs.Sets.{all_items_have, first_set_items, move_items, same_items}
 use Rattle.lalrpop_dfa.proofs.ReachedItems.{after_ascends}
 
@@ -101,20 +101,20 @@ bits_have all s t inside e x h =
     contains_from t x (held t x (sym (map_same (λ x. list_any (same_item x) s) (λ x. list_any (same_item x) t) all x e (inside x h)) ∙ holds s x (has_from s x h)))
 
 module _ (ns : List Graph) where
-  after_items : (w : List ℕ) (x : Item) → Contains (after (machine_of ns) (first_set_of ns) w) x → IsItemOf ns x
-  after_items = from_the_end (λ (w : List ℕ). (x : Item) → Contains (after (machine_of ns) (first_set_of ns) w) x → IsItemOf ns x) (first_set_items ns)
-      (λ w c _. rw (after_push (machine_of ns) (first_set_of ns) w c) (move_items ns (after (machine_of ns) (first_set_of ns) w) c))
+  after_items : (w : List ℕ) (x : Item) → Contains (after (subset_automaton ns) (first_set_of ns) w) x → IsItemOf ns x
+  after_items = from_the_end (λ (w : List ℕ). (x : Item) → Contains (after (subset_automaton ns) (first_set_of ns) w) x → IsItemOf ns x) (first_set_items ns)
+      (λ w c _. rw (after_push (subset_automaton ns) (first_set_of ns) w c) (move_items ns (after (subset_automaton ns) (first_set_of ns) w) c))
 
   -- a numbering has no more sets than there are sets of items
-  pub states_bound : (sets : List (List Item)) (origins : List (ℕ × ℕ)) (n v : ℕ) → Numbering (machine_of ns) sets origins n v → length sets ≤ 2 ^ length (all_items ns)
+  pub states_bound : (sets : List (List Item)) (origins : List (ℕ × ℕ)) (n v : ℕ) → IsBreadthFirst (subset_automaton ns) sets origins n v → length sets ≤ 2 ^ length (all_items ns)
   states_bound sets origins n v num = at_most_power (bits (all_items ns)) sets (length (all_items ns)) (first_set_of ns) (λ s. length-map (all_items ns) (λ x. list_any (same_item x) s)) one
     where
       one : (i j : ℕ) → i < length sets → j < length sets → bits (all_items ns) (get_or sets i (first_set_of ns)) ≡ bits (all_items ns) (get_or sets j (first_set_of ns)) → i ≡ j
       one i j il jl e =
           let s : List Item = get_or sets i (first_set_of ns) in
           let t : List Item = get_or sets j (first_set_of ns) in
-          let a : after (machine_of ns) (first_set_of ns) (word origins i) ≡ s = word_reaches (machine_of ns) sets origins n v num i il in
-          let b : after (machine_of ns) (first_set_of ns) (word origins j) ≡ t = word_reaches (machine_of ns) sets origins n v num j jl in
+          let a : after (subset_automaton ns) (first_set_of ns) (word origins i) ≡ s = word_reaches (subset_automaton ns) sets origins n v num i il in
+          let b : after (subset_automaton ns) (first_set_of ns) (word origins j) ≡ t = word_reaches (subset_automaton ns) sets origins n v num j jl in
           let up_a : AreAscendingItems s = subst (λ (u : List Item). AreAscendingItems u) a (after_ascends ns (word origins i)) in
           let up_b : AreAscendingItems t = subst (λ (u : List Item). AreAscendingItems u) b (after_ascends ns (word origins j)) in
           let in_a : (x : Item) → Contains s x → IsItemOf ns x = subst (λ (u : List Item). (x : Item) → Contains u x → IsItemOf ns x) a (after_items (word origins i)) in

@@ -2,7 +2,7 @@
 use Rattle.std.proofs.Common.{◌≡◌, ℕ, ◌+◌, ◌<◌, ◌≤◌, ◌⊎◌, inl, inr, ⊎_elim, List, [], ◌∷◌, ◌++◌, length, refl, sym, ap, subst, ◌∙◌, arith, true, get_or}
 use Rattle.std.proofs.lemmas.List.{length_push, get_or_append_left, get_or_push}
 use Rattle.std.proofs.lemmas.Bool.{cases_lt}
-use Rattle.lalrpop_dfa.specs.Internal.Numbering.{Machine, nth, from_of, value_of, Before, NotAfter, Covered, Numbering, Added}
+use Rattle.lalrpop_dfa.specs.Internal.BreadthFirst.{Automaton, nth, from_of, value_of, Before, NotAfter, Covered, IsBreadthFirst, Added}
 
 pub below_push : {A : Type 0} (xs : List A) (y : A) (k : ℕ) → k < length (xs ++ y ∷ []) → (k < length xs) ⊎ (k ≡ length xs)
 below_push xs y k l =
@@ -15,11 +15,11 @@ before_more o x n a b l (inl h) = inl h
 before_more o x n a b l (inr h) = inr (h.0, omega (arith, h.1))
 
 -- values from a up to b lead to dead sets
-pub numbering_gap : {S : Type 0} (m : Machine S) (sets : List S) (origins : List (ℕ × ℕ)) (n a b : ℕ)
-    → Numbering m sets origins n a → a ≤ b
+pub breadth_first_gap : {S : Type 0} (m : Automaton S) (sets : List S) (origins : List (ℕ × ℕ)) (n a b : ℕ)
+    → IsBreadthFirst m sets origins n a → a ≤ b
     → ((c : ℕ) → a ≤ c → c < b → m.dead (m.move (nth m sets n) c) ≡ true)
-    → Numbering m sets origins n b
-numbering_gap {S} m sets origins n a b h l gap = record {
+    → IsBreadthFirst m sets origins n b
+breadth_first_gap {S} m sets origins n a b h l gap = record {
   same_length = h.same_length;
   some = h.some;
   first = h.first;
@@ -40,11 +40,11 @@ numbering_gap {S} m sets origins n a b h l gap = record {
         (cases_lt c a)
 
 -- values from s + 1 up to b lead where s leads
-pub numbering_spread : {S : Type 0} (m : Machine S) (sets : List S) (origins : List (ℕ × ℕ)) (n s b : ℕ)
-    → Numbering m sets origins n (s + 1) → n < length sets → s < b
+pub breadth_first_spread : {S : Type 0} (m : Automaton S) (sets : List S) (origins : List (ℕ × ℕ)) (n s b : ℕ)
+    → IsBreadthFirst m sets origins n (s + 1) → n < length sets → s < b
     → ((c : ℕ) → s < c → c < b → m.move (nth m sets n) c ≡ m.move (nth m sets n) s)
-    → Numbering m sets origins n b
-numbering_spread {S} m sets origins n s b h nl l same_move = record {
+    → IsBreadthFirst m sets origins n b
+breadth_first_spread {S} m sets origins n s b h nl l same_move = record {
   same_length = h.same_length;
   some = h.some;
   first = h.first;
@@ -71,11 +71,11 @@ numbering_spread {S} m sets origins n s b h nl l same_move = record {
         (cases_lt s c)
 
 -- values from a on lead to dead sets: number n is done
-pub numbering_next : {S : Type 0} (m : Machine S) (sets : List S) (origins : List (ℕ × ℕ)) (n a : ℕ)
-    → Numbering m sets origins n a
+pub breadth_first_next : {S : Type 0} (m : Automaton S) (sets : List S) (origins : List (ℕ × ℕ)) (n a : ℕ)
+    → IsBreadthFirst m sets origins n a
     → ((c : ℕ) → a ≤ c → m.dead (m.move (nth m sets n) c) ≡ true)
-    → Numbering m sets origins (n + 1) 0
-numbering_next {S} m sets origins n a h rest = record {
+    → IsBreadthFirst m sets origins (n + 1) 0
+breadth_first_next {S} m sets origins n a h rest = record {
   same_length = h.same_length;
   some = h.some;
   first = h.first;
@@ -111,10 +111,10 @@ before_not_after o x p y (inl h) = inl h
 before_not_after o x p y (inr h) = inr (h.0, omega (arith, h.1))
 
 -- the set that value s leads to has a number
-pub numbering_found : {S : Type 0} (m : Machine S) (sets : List S) (origins : List (ℕ × ℕ)) (n s j : ℕ)
-    → Numbering m sets origins n s → n < length sets → j < length sets → nth m sets j ≡ m.move (nth m sets n) s
-    → Numbering m sets origins n (s + 1)
-numbering_found {S} m sets origins n s j h nl jl js = record {
+pub breadth_first_found : {S : Type 0} (m : Automaton S) (sets : List S) (origins : List (ℕ × ℕ)) (n s j : ℕ)
+    → IsBreadthFirst m sets origins n s → n < length sets → j < length sets → nth m sets j ≡ m.move (nth m sets n) s
+    → IsBreadthFirst m sets origins n (s + 1)
+breadth_first_found {S} m sets origins n s j h nl jl js = record {
   same_length = h.same_length;
   some = h.some;
   first = h.first;
@@ -146,8 +146,8 @@ numbering_found {S} m sets origins n s j h nl jl js = record {
         subst (λ (k : ℕ). Covered m sets origins k c) (sym same.0) (subst (λ (k : ℕ). Covered m sets origins n k) (sym e) here))
         (cases_lt c s)
 
-module _ {S : Type 0} (m : Machine S) (sets : List S) (origins : List (ℕ × ℕ)) (n s : ℕ) (t : S)
-    (h : Numbering m sets origins n s) (nl : n < length sets)
+module _ {S : Type 0} (m : Automaton S) (sets : List S) (origins : List (ℕ × ℕ)) (n s : ℕ) (t : S)
+    (h : IsBreadthFirst m sets origins n s) (nl : n < length sets)
     (new : (k : ℕ) → k < length sets → nth m sets k ≡ t → ⊥)
     (is : t ≡ m.move (nth m sets n) s) where
   old_set : (k : ℕ) → k < length sets → nth m (sets ++ t ∷ []) k ≡ nth m sets k
@@ -179,8 +179,8 @@ module _ {S : Type 0} (m : Machine S) (sets : List S) (origins : List (ℕ × �
       ⊎_elim (λ (a : k < length sets). old k a) (λ (e : k ≡ length sets). rw e new) (below_push sets t k l)
 
   -- it gets the next number
-  pub numbering_pushed : Numbering m (sets ++ t ∷ []) (origins ++ (n, s) ∷ []) n (s + 1)
-  numbering_pushed = record {
+  pub breadth_first_pushed : IsBreadthFirst m (sets ++ t ∷ []) (origins ++ (n, s) ∷ []) n (s + 1)
+  breadth_first_pushed = record {
     same_length = length_push origins (n, s) ∙ (omega (arith, h.same_length, length_push sets t));
     some = omega (arith, h.some, length_push sets t);
     first = old_set 0 h.some ∙ h.first;
@@ -255,11 +255,11 @@ module _ {S : Type 0} (m : Machine S) (sets : List S) (origins : List (ℕ × �
           (cases_lt c s)
 
 -- adding the set that value s leads to
-pub numbering_added : {S : Type 0} (m : Machine S) (sets : List S) (origins : List (ℕ × ℕ)) (n s : ℕ) (t : S) (j : ℕ) (sets2 : List S) (origins2 : List (ℕ × ℕ))
-    → Numbering m sets origins n s → n < length sets → t ≡ m.move (nth m sets n) s
+pub breadth_first_added : {S : Type 0} (m : Automaton S) (sets : List S) (origins : List (ℕ × ℕ)) (n s : ℕ) (t : S) (j : ℕ) (sets2 : List S) (origins2 : List (ℕ × ℕ))
+    → IsBreadthFirst m sets origins n s → n < length sets → t ≡ m.move (nth m sets n) s
     → Added m sets origins n s t j sets2 origins2
-    → Numbering m sets2 origins2 n (s + 1)
-numbering_added m sets origins n s t j sets2 origins2 h nl is (inl (jl, js, e, o)) =
-    rw (e, o) (numbering_found m sets origins n s j h nl jl (js ∙ is))
-numbering_added m sets origins n s t j sets2 origins2 h nl is (inr (new, je, e, o)) =
-    rw (e, o) (numbering_pushed m sets origins n s t h nl new is)
+    → IsBreadthFirst m sets2 origins2 n (s + 1)
+breadth_first_added m sets origins n s t j sets2 origins2 h nl is (inl (jl, js, e, o)) =
+    rw (e, o) (breadth_first_found m sets origins n s j h nl jl (js ∙ is))
+breadth_first_added m sets origins n s t j sets2 origins2 h nl is (inr (new, je, e, o)) =
+    rw (e, o) (breadth_first_pushed m sets origins n s t h nl new is)

@@ -5,20 +5,20 @@ use Rattle.std.specs.Option.{option_map}
 use Rattle.std.specs.Str.{chars}
 use Rattle.std.proofs.lemmas.Bool.{cases_order}
 use Rattle.lalrpop_hir.specs.Tree.{Tree}
-use Rattle.lalrpop_dfa.specs.Winners.{Top, GreatestTop, OnlyTop}
+use Rattle.lalrpop_dfa.specs.Winners.{IsStrongest, IsHighestStrongest, IsOnlyStrongest}
 use Rattle.lalrpop_dfa.specs.Clash.{NoClash}
 use Rattle.lalrpop_dfa.specs.Longest.{IsLongest}
 
-pub OnlyTop-from_greatest : (ts : List Tree) (ps w : List ℕ) (i : ℕ) → NoClash ts ps → GreatestTop ts ps w i → OnlyTop ts ps w i
-OnlyTop-from_greatest ts ps w i none greatest = (greatest.0, λ j top. by_order j top (cases_order j i))
+pub IsOnlyStrongest-from_greatest : (ts : List Tree) (ps w : List ℕ) (i : ℕ) → NoClash ts ps → IsHighestStrongest ts ps w i → IsOnlyStrongest ts ps w i
+IsOnlyStrongest-from_greatest ts ps w i none greatest = (greatest.0, λ j top. by_order j top (cases_order j i))
   where
-    by_order : (j : ℕ) → Top ts ps w j → (j ≡ i) ⊎ ((j < i) ⊎ (i < j)) → j ≡ i
+    by_order : (j : ℕ) → IsStrongest ts ps w j → (j ≡ i) ⊎ ((j < i) ⊎ (i < j)) → j ≡ i
     by_order j top (inl same) = same
     by_order j top (inr (inl less)) = absurd (none w (i, j, (less, greatest.0, top)))
     by_order j top (inr (inr more)) = absurd (omega (arith, greatest.1 j top))
 
--- the same of a longest match, whose beginning is what the answer shows of itself
-pub OnlyTop-from_longest : {A : Type 0} (shown : A → List ℕ) (ts : List Tree) (ps text : List ℕ) (found : Option (ℕ × A)) → NoClash ts ps
-    → IsLongest ts ps text (option_map (λ m. (m.0, shown m.1)) found) → IfSome found (λ m. OnlyTop ts ps (chars (shown m.1)) m.0)
-OnlyTop-from_longest shown ts ps text None none longest = tt
-OnlyTop-from_longest shown ts ps text (Some m) none longest = OnlyTop-from_greatest ts ps (chars (shown m.1)) m.0 none longest.2
+-- the same of a longest match, whose prefix is what the answer shows of itself
+pub IsOnlyStrongest-from_longest : {A : Type 0} (shown : A → List ℕ) (ts : List Tree) (ps text : List ℕ) (found : Option (ℕ × A)) → NoClash ts ps
+    → IsLongest ts ps text (option_map (λ m. (m.0, shown m.1)) found) → IfSome found (λ m. IsOnlyStrongest ts ps (chars (shown m.1)) m.0)
+IsOnlyStrongest-from_longest shown ts ps text None none longest = tt
+IsOnlyStrongest-from_longest shown ts ps text (Some m) none longest = IsOnlyStrongest-from_greatest ts ps (chars (shown m.1)) m.0 none longest.2

@@ -11,20 +11,20 @@ use Rattle.lalrpop_nfa.specs.Graph.{Graph}
 use Rattle.lalrpop_nfa.specs.Path.{Reads, test, other, IsUntested}
 use Rattle.lalrpop_nfa.specs.Compiled.{IsCompiled}
 use Rattle.lalrpop_dfa.specs.Items.{Item, AreCompiled}
-use Rattle.lalrpop_dfa.specs.Internal.Machine.{no_graph, graph_at, tested, fallen, or_instead, targets, item_targets}
+use Rattle.lalrpop_dfa.specs.Internal.Subsets.{no_graph, graph_at, test_targets, default_targets, or_instead, targets, item_targets}
 use Rattle.lalrpop_dfa.proofs.Members.{Has, has_from, contains_from, has_filter, filter_has, has_map, map_has}
 
 module _ (g : Graph) (p c : ℕ) where
   abbrev covers_here : Edge Range → Bool
   covers_here e = (e.from == p) && (nat_le e.label.start c && nat_le c e.label.end)
 
-  pub tested_has : (r : Range) (q : ℕ) → Contains g.edges.tests (test p r q) → Covers r c → Has (tested g p c) q
+  pub tested_has : (r : Range) (q : ℕ) → Contains g.edges.tests (test p r q) → Covers r c → Has (test_targets g p c) q
   tested_has r q h k =
       has_map (λ (e : Edge Range). e.to) (filter covers_here g.edges.tests) (test p r q)
       (has_filter covers_here g.edges.tests (test p r q) (has_from g.edges.tests (test p r q) h)
       (and_from (p == p) (nat_le r.start c && nat_le c r.end) (eq-eqb p p refl) (and_from (nat_le r.start c) (nat_le c r.end) (le-leb r.start c k.0) (le-leb c r.end k.1))))
 
-  pub tested_parts : (q : ℕ) → Has (tested g p c) q → (r : Range) × (Contains g.edges.tests (test p r q) × Covers r c)
+  pub tested_parts : (q : ℕ) → Has (test_targets g p c) q → (r : Range) × (Contains g.edges.tests (test p r q) × Covers r c)
   tested_parts q h =
       let m : (e : Edge Range) × (Has (filter covers_here g.edges.tests) e × (e.to ≡ q)) = map_has (λ (e : Edge Range). e.to) (filter covers_here g.edges.tests) q h in
       let e : Edge Range = m.0 in
@@ -35,13 +35,13 @@ module _ (g : Graph) (p c : ℕ) where
       let same : e ≡ test p e.label q = ap₂ (λ (i j : ℕ). test i e.label j) from m.1.1 in
       (e.label, (contains_from g.edges.tests (test p e.label q) (rw same at f.0), (leb-true e.label.start c b.0, leb-true c e.label.end b.1)))
 
-  pub fallen_has : (q : ℕ) → Contains g.edges.others (other p q) → Has (fallen g p) q
-  fallen_has q h =
+  pub default_has : (q : ℕ) → Contains g.edges.others (other p q) → Has (default_targets g p) q
+  default_has q h =
       has_map (λ (e : Edge Other). e.to) (filter (λ (e : Edge Other). e.from == p) g.edges.others) (other p q)
       (has_filter (λ (e : Edge Other). e.from == p) g.edges.others (other p q) (has_from g.edges.others (other p q) h) (eq-eqb p p refl))
 
-  pub fallen_parts : (q : ℕ) → Has (fallen g p) q → Contains g.edges.others (other p q)
-  fallen_parts q h =
+  pub default_parts : (q : ℕ) → Has (default_targets g p) q → Contains g.edges.others (other p q)
+  default_parts q h =
       let m : (e : Edge Other) × (Has (filter (λ (e : Edge Other). e.from == p) g.edges.others) e × (e.to ≡ q)) =
       map_has (λ (e : Edge Other). e.to) (filter (λ (e : Edge Other). e.from == p) g.edges.others) q h in
       let e : Edge Other = m.0 in
@@ -50,15 +50,15 @@ module _ (g : Graph) (p c : ℕ) where
       let same : e ≡ other p q = ap₂ (λ (i j : ℕ). other i j) from m.1.1 in
       contains_from g.edges.others (other p q) (rw same at f.0)
 
-  none_tested : IsUntested g.edges p c → (ts : List ℕ) → ((q : ℕ) → Has ts q → Has (tested g p c) q) → ts ≡ []
+  none_tested : IsUntested g.edges p c → (ts : List ℕ) → ((q : ℕ) → Has ts q → Has (test_targets g p c) q) → ts ≡ []
   none_tested un [] f = refl
   none_tested un (q ∷ ts) f = let r = tested_parts q (f q (inl refl)) in absurd (un r.0 q r.1.0 r.1.1)
 
-  pub untested_nil : IsUntested g.edges p c → tested g p c ≡ []
-  untested_nil un = none_tested un (tested g p c) (λ q h. h)
+  pub untested_nil : IsUntested g.edges p c → test_targets g p c ≡ []
+  untested_nil un = none_tested un (test_targets g p c) (λ q h. h)
 
-  pub nil_untested : tested g p c ≡ [] → IsUntested g.edges p c
-  nil_untested e r q h k = let t : Has (tested g p c) q = tested_has r q h k in rw e at t
+  pub nil_untested : test_targets g p c ≡ [] → IsUntested g.edges p c
+  nil_untested e r q h k = let t : Has (test_targets g p c) q = tested_has r q h k in rw e at t
 
   instead_cases : (ts qs : List ℕ) (q : ℕ) → Has (or_instead ts qs) q → Has ts q ⊎ ((ts ≡ []) × Has qs q)
   instead_cases [] qs q h = inr (refl, h)
@@ -69,14 +69,14 @@ module _ (g : Graph) (p c : ℕ) where
   instead_first (t ∷ ts) qs q h = h
 
   pub targets_parts : (q : ℕ) → Has (targets g p c) q → Reads g.edges p c q
-  targets_parts q h = elim (instead_cases (tested g p c) (fallen g p) q h) [
+  targets_parts q h = elim (instead_cases (test_targets g p c) (default_targets g p) q h) [
     | inl t ↦ inl (tested_parts q t)
-    | inr f ↦ inr (fallen_parts q f.1, nil_untested f.0)
+    | inr f ↦ inr (default_parts q f.1, nil_untested f.0)
   ]
 
   pub targets_have : (q : ℕ) → Reads g.edges p c q → Has (targets g p c) q
-  targets_have q (inl h) = instead_first (tested g p c) (fallen g p) q (tested_has h.0 q h.1.0 h.1.1)
-  targets_have q (inr h) = subst (λ (ts : List ℕ). Has (or_instead ts (fallen g p)) q) (sym (untested_nil h.1)) (fallen_has q h.0)
+  targets_have q (inl h) = instead_first (test_targets g p c) (default_targets g p) q (tested_has h.0 q h.1.0 h.1.1)
+  targets_have q (inr h) = subst (λ (ts : List ℕ). Has (or_instead ts (default_targets g p)) q) (sym (untested_nil h.1)) (default_has q h.0)
 
 -- the automaton at a place
 pub graph_is : (ns : List Graph) (i : ℕ) (g : Graph) → slice_get ns i ≡ Some g → graph_at ns i ≡ g

@@ -3,7 +3,7 @@ use Rattle.std.proofs.Common.{◌≡◌, ℕ, ◌<◌, ◌≤◌, inl, inr, ⊎_
 use Rattle.std.proofs.lemmas.List.{length_push, append-nil}
 use Rattle.std.proofs.lemmas.Bool.{cases_order}
 use Rattle.lalrpop_hir.specs.Word.{FirstDifferenceLess, Shortlex}
-use Rattle.lalrpop_dfa.specs.Internal.Numbering.{ShortlexAtMost}
+use Rattle.lalrpop_dfa.specs.Internal.BreadthFirst.{ShortlexAtMost}
 
 pub lex_irrefl : (v : List ℕ) → FirstDifferenceLess v v → ⊥
 lex_irrefl [] h = h

@@ -1,7 +1,7 @@
 -- When the longest match of a pattern's own automaton, and that of the automaton of a list of this pattern alone, agree.
 use Rattle.std.specs.Prelude.{◌≡◌, ℕ, List, [], ◌∷◌, Option, Some, None}
 
--- both give the same nonempty beginning, the second with the index 0, or neither gives a nonempty one
+-- both give the same nonempty prefix, the second with the index 0, or neither gives a nonempty one
 abbrev pub Agree : Option (List ℕ) → Option (ℕ × List ℕ) → Type 0
 Agree None found = found ≡ None
 Agree (Some []) found = found ≡ None

@@ -3,7 +3,7 @@
 use Rattle.std.specs.Prelude.{ℕ, ◌<◌, ◌≤◌, List}
 use Rattle.lalrpop_hir.specs.Word.{IsWord, Shortlex}
 use Rattle.lalrpop_hir.specs.Tree.{Tree}
-use Rattle.lalrpop_dfa.specs.Winners.{Top, Ambiguous}
+use Rattle.lalrpop_dfa.specs.Winners.{IsStrongest, Ambiguous}
 
 -- no word is ambiguous
 abbrev pub NoClash : List Tree → List ℕ → Type 0
@@ -13,8 +13,8 @@ NoClash ts ps = (w : List ℕ) → ¬ Ambiguous ts ps w
 pub record IsClash (ts : List Tree) (ps w : List ℕ) (i j : ℕ) : Type 0 where
   pub word : IsWord w
   pub least : (v : List ℕ) → Shortlex v w → ¬ Ambiguous ts ps v
-  pub greatest : Top ts ps w i
-  pub second : Top ts ps w j
+  pub greatest : IsStrongest ts ps w i
+  pub second : IsStrongest ts ps w j
   pub less : j < i
-  pub others : (k : ℕ) → Top ts ps w k → k < i → k ≤ j
-  pub above : (k : ℕ) → Top ts ps w k → k ≤ i
+  pub others : (k : ℕ) → IsStrongest ts ps w k → k < i → k ≤ j
+  pub above : (k : ℕ) → IsStrongest ts ps w k → k ≤ i

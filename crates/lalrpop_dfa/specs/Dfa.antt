@@ -4,7 +4,7 @@ use Rattle.std.specs.Prelude.{◌≡◌, ℕ, ◌<◌, ◌≤◌, List, [], ◌�
 use Rattle.std.specs.List.{Contains}
 use Rattle.lalrpop_hir.specs.Range.{Range}
 use Rattle.lalrpop_hir.specs.Tree.{Tree}
-use Rattle.lalrpop_dfa.specs.Winners.{OnlyTop, Matched}
+use Rattle.lalrpop_dfa.specs.Winners.{IsOnlyStrongest, Matched}
 use Rattle.lalrpop_dfa.specs.declared.Kind.{Kind}
 use Rattle.lalrpop_dfa.specs.declared.Kind.TheVariants.{Accepts, Reject, Neither}
 
@@ -17,9 +17,9 @@ pub record Row : Type 0 where
   pub items : List (ℕ × ℕ)
 
 -- where the value leads
-abbrev pub leads : List (Range × ℕ) → ℕ → ℕ → ℕ
-leads [] other c = other
-leads (t ∷ ts) other c = if nat_le t.0.start c && nat_le c t.0.end then t.1 else leads ts other c
+abbrev pub edge_target : List (Range × ℕ) → ℕ → ℕ → ℕ
+edge_target [] other c = other
+edge_target (t ∷ ts) other c = if nat_le t.0.start c && nat_le c t.0.end then t.1 else edge_target ts other c
 
 -- the state that the value leads to from the state p
 abbrev pub step : List Row → ℕ → ℕ → ℕ
@@ -27,7 +27,7 @@ step d p c = step_row (slice_get d p) c
   where
     step_row : Option Row → ℕ → ℕ
     step_row None c = 0
-    step_row (Some r) c = leads r.tests r.other c
+    step_row (Some r) c = edge_target r.tests r.other c
 
 -- the state that the word leads to from the state p
 abbrev pub run : List Row → ℕ → List ℕ → ℕ
@@ -39,18 +39,18 @@ abbrev pub after : List Row → List ℕ → ℕ
 after d w = run d 0 w
 
 -- what a state of this kind says of the word that leads to it
-abbrev pub Says : List Tree → List ℕ → List ℕ → Kind → Type 0
-Says ts ps w (Accepts i) = OnlyTop ts ps w i
-Says ts ps w Reject = ¬ Matched ts w
-Says ts ps w Neither = ¬ Matched ts w
+abbrev pub IsRightKind : List Tree → List ℕ → List ℕ → Kind → Type 0
+IsRightKind ts ps w (Accepts i) = IsOnlyStrongest ts ps w i
+IsRightKind ts ps w Reject = ¬ Matched ts w
+IsRightKind ts ps w Neither = ¬ Matched ts w
 
 -- the state is a reject state
 abbrev pub IsReject : List Row → ℕ → Type 0
 IsReject d p = IsSomeAnd (slice_get d p) (λ r. r.kind ≡ Reject)
 
 -- after each word the kind is right, and a reject state is never left
-pub record Stands (d : List Row) (ts : List Tree) (ps : List ℕ) : Type 0 where
-  pub kinds : (w : List ℕ) → IsSomeAnd (slice_get d (after d w)) (λ r. Says ts ps w r.kind)
+pub record Recognizes (d : List Row) (ts : List Tree) (ps : List ℕ) : Type 0 where
+  pub kinds : (w : List ℕ) → IsSomeAnd (slice_get d (after d w)) (λ r. IsRightKind ts ps w r.kind)
   pub stays : (p c : ℕ) → IsReject d p → IsReject d (step d p c)
 
 -- the ranges are not empty, and each ends before the next begins
@@ -60,7 +60,7 @@ AreAscendingTests (t ∷ []) = t.0.start ≤ t.0.end
 AreAscendingTests (t ∷ u ∷ ts) = (t.0.start ≤ t.0.end) × (t.0.end < u.0.start) × AreAscendingTests (u ∷ ts)
 
 -- what holds of the states of every automaton: there is one, and each edge leads to a state
-pub record IsTable (d : List Row) : Type 0 where
+pub record IsWellFormed (d : List Row) : Type 0 where
   pub some : 0 < length d
   pub ascending : (p : ℕ) (r : Row) → slice_get d p ≡ Some r → AreAscendingTests r.tests
   pub tests_in : (p : ℕ) (r : Row) (t : Range × ℕ) → slice_get d p ≡ Some r → Contains r.tests t → t.1 < length d

@@ -1,11 +1,11 @@
-pub mod Numbering
+pub mod BreadthFirst
 pub mod Ascending
 pub mod ItemOrder
-pub mod Machine
+pub mod Subsets
 pub mod Built
 pub mod Worklist
 pub mod Builder
 pub mod Best
 pub mod Labels
 pub mod SameLaws
-pub mod Leads
+pub mod Transitions

@@ -7,7 +7,7 @@ use Rattle.lalrpop_hir.specs.Tree.{Tree}
 use Rattle.lalrpop_nfa.specs.Graph.{Graph}
 use Rattle.lalrpop_nfa.specs.Path.{Path, test}
 use Rattle.lalrpop_nfa.specs.Compiled.{IsCompiled, start_state, reject_state}
-use Rattle.lalrpop_ranges.specs.Runs.{Ranges, IsRuns}
+use Rattle.lalrpop_ranges.specs.Partition.{Ranges, IsPartition}
 use Rattle.lalrpop_dfa.specs.Dfa.{Row, after}
 use Rattle.lalrpop_dfa.specs.declared.Kind.TheVariants.{Reject}
 
@@ -35,7 +35,7 @@ pub record HoldsItems (ns : List Graph) (d : List Row) : Type 0 where
   -- the state after a word holds the items that the word leads to
   pub items : (w : List ℕ) (r : Row) (x : Item) → slice_get d (after d w) ≡ Some r → Contains r.items x ↔ IsReached ns w x
   -- the tests of a state are the partition of the labels that leave its items
-  pub labels : (p : ℕ) (r : Row) → slice_get d p ≡ Some r → IsRuns (IsLeaving ns r.items) (map (λ t. t.0) r.tests)
+  pub labels : (p : ℕ) (r : Row) → slice_get d p ≡ Some r → IsPartition (IsLeaving ns r.items) (map (λ t. t.0) r.tests)
   -- no two states hold the same items
   pub distinct : (p q : ℕ) (r s : Row) → slice_get d p ≡ Some r → slice_get d q ≡ Some s
       → ((x : Item) → Contains r.items x ↔ Contains s.items x) → p ≡ q

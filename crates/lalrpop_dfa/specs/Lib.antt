@@ -1,5 +1,5 @@
 -- what the contracts of this crate name of those below
-pub use Rattle.lalrpop_ranges.specs.Runs
+pub use Rattle.lalrpop_ranges.specs.Partition
 pub use Rattle.lalrpop_kernels.specs.Kernels
 pub mod Winners
 pub mod Clash

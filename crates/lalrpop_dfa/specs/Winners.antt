@@ -5,25 +5,25 @@ use Rattle.lalrpop_hir.specs.Tree.{Tree}
 use Rattle.lalrpop_hir.specs.Language.{Matches}
 
 -- the tree with the index i matches the word
-abbrev pub Who : List Tree → List ℕ → ℕ → Type 0
-Who ts w i = (t : Tree) × ((slice_get ts i ≡ Some t) × Matches t w)
+abbrev pub TreeMatches : List Tree → List ℕ → ℕ → Type 0
+TreeMatches ts w i = (t : Tree) × ((slice_get ts i ≡ Some t) × Matches t w)
 
 -- some tree matches the word
 abbrev pub Matched : List Tree → List ℕ → Type 0
-Matched ts w = (i : ℕ) × Who ts w i
+Matched ts w = (i : ℕ) × TreeMatches ts w i
 
 -- i matches the word, and no tree that matches it has a greater precedence
-abbrev pub Top : List Tree → List ℕ → List ℕ → ℕ → Type 0
-Top ts ps w i = Who ts w i × ((j : ℕ) → Who ts w j → slice_index ps j ≤ slice_index ps i)
+abbrev pub IsStrongest : List Tree → List ℕ → List ℕ → ℕ → Type 0
+IsStrongest ts ps w i = TreeMatches ts w i × ((j : ℕ) → TreeMatches ts w j → slice_index ps j ≤ slice_index ps i)
 
 -- i is the only strongest tree
-abbrev pub OnlyTop : List Tree → List ℕ → List ℕ → ℕ → Type 0
-OnlyTop ts ps w i = Top ts ps w i × ((j : ℕ) → Top ts ps w j → j ≡ i)
+abbrev pub IsOnlyStrongest : List Tree → List ℕ → List ℕ → ℕ → Type 0
+IsOnlyStrongest ts ps w i = IsStrongest ts ps w i × ((j : ℕ) → IsStrongest ts ps w j → j ≡ i)
 
 -- i is the greatest index of the strongest trees
-abbrev pub GreatestTop : List Tree → List ℕ → List ℕ → ℕ → Type 0
-GreatestTop ts ps w i = Top ts ps w i × ((j : ℕ) → Top ts ps w j → j ≤ i)
+abbrev pub IsHighestStrongest : List Tree → List ℕ → List ℕ → ℕ → Type 0
+IsHighestStrongest ts ps w i = IsStrongest ts ps w i × ((j : ℕ) → IsStrongest ts ps w j → j ≤ i)
 
 -- two trees or more are the strongest
 abbrev pub Ambiguous : List Tree → List ℕ → List ℕ → Type 0
-Ambiguous ts ps w = (i j : ℕ) × ((j < i) × Top ts ps w i × Top ts ps w j)
+Ambiguous ts ps w = (i j : ℕ) × ((j < i) × IsStrongest ts ps w i × IsStrongest ts ps w j)

@@ -6,7 +6,7 @@ ghost use Rattle.lalrpop_dfa.specs.Internal.Best.{IsBest, accepts, raised};
 ghost use Rattle.lalrpop_dfa.specs.Internal.Builder.{AreAutomata, AreItemsOf};
 ghost use Rattle.lalrpop_dfa.specs.Internal.Built.{IsKindOf, IsTied};
 ghost use Rattle.lalrpop_nfa.specs.Compiled.{accept_state, reject_state};
-ghost use Rattle.lalrpop_dfa.specs.Internal.Machine.{is_dead};
+ghost use Rattle.lalrpop_dfa.specs.Internal.Subsets.{is_dead};
 
 use super::items::{Item, ItemSet};
 use super::{Kind, NfaIndex, Precedence};

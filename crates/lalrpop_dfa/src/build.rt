@@ -1,7 +1,7 @@
 ghost use Rattle.std.specs.Prelude.{◌≡◌, List, map, length, IfOk, IfErr};
 ghost use Rattle.lalrpop_dfa.specs.Internal.Builder.{IsFaultOf, IsRefusalOf};
 ghost use Rattle.lalrpop_dfa.specs.Clash.{NoClash};
-ghost use Rattle.lalrpop_dfa.specs.Dfa.{Stands};
+ghost use Rattle.lalrpop_dfa.specs.Dfa.{Recognizes};
 ghost use Rattle.lalrpop_nfa.specs.Graph.{Graph};
 ghost use Rattle.lalrpop_dfa.specs.Items.{AreCompiled, HoldsItems, OthersReject, IsInWordOrder};
 ghost use Rattle.lalrpop_dfa.specs.Report.{NoFault, IsReport};
@@ -51,7 +51,7 @@ pub fn build_dfa(
     precedences: &[Precedence],
 ) -> Result<Dfa, DfaConstructionError>
     requires same_len { length regexs.now ≡ length precedences.now }
-    ensures ok { IfOk result (λ dfa. let ps = map (λ p. p.0) precedences.now in NoFault regexs.now × NoClash regexs.now ps × Stands dfa regexs.now ps) }
+    ensures ok { IfOk result (λ dfa. let ps = map (λ p. p.0) precedences.now in NoFault regexs.now × NoClash regexs.now ps × Recognizes dfa regexs.now ps) }
     ensures items { IfOk result (λ dfa. (ns : List Graph) × AreCompiled regexs.now ns × HoldsItems ns dfa) }
     ensures others { IfOk result OthersReject }
     ensures order { IfOk result IsInWordOrder }

@@ -4,18 +4,18 @@ ghost use Rattle.std.specs.Prelude.{◌≡◌, ◌+◌, ◌<◌, ◌≤◌, ◌+
 ghost use Rattle.lalrpop_hir.specs.Tree.{Tree};
 ghost use Rattle.lalrpop_dfa.specs.Internal.Ascending.{AreAscendingItems};
 ghost use Rattle.lalrpop_dfa.specs.Internal.Builder.{AreAutomata, AreItemsOf, AddedTo, AreKnown, IsEdged, IsBuiltTo, IsTieOf, IsClashOf};
-ghost use Rattle.lalrpop_dfa.specs.Internal.Built.{machine_of};
+ghost use Rattle.lalrpop_dfa.specs.Internal.Built.{subset_automaton};
 ghost use Rattle.lalrpop_dfa.specs.Clash.{NoClash};
-ghost use Rattle.lalrpop_dfa.specs.Dfa.{Stands};
+ghost use Rattle.lalrpop_dfa.specs.Dfa.{Recognizes};
 ghost use Rattle.lalrpop_dfa.specs.Items.{AreCompiled, HoldsItems, OthersReject, IsInWordOrder};
-ghost use Rattle.lalrpop_dfa.specs.Internal.Leads.{AreLeads};
-ghost use Rattle.lalrpop_dfa.specs.Internal.Machine.{move, starts_from, first_set_of};
-ghost use Rattle.lalrpop_dfa.specs.Internal.Numbering.{Numbering, nth};
+ghost use Rattle.lalrpop_dfa.specs.Internal.Transitions.{AreTransitions};
+ghost use Rattle.lalrpop_dfa.specs.Internal.Subsets.{move, starts_from, first_set_of};
+ghost use Rattle.lalrpop_dfa.specs.Internal.BreadthFirst.{IsBreadthFirst, nth};
 
 use super::best::{Tie, kind_of};
+use super::blocks::{Block, Transitions, blocks_of};
 use super::closure::{advance, closure};
 use super::items::{Item, ItemSet, Origin};
-use super::parts::{Leads, Part, parts_of};
 use super::{Dfa, DfaConstructionError, DfaStateIndex, NfaIndex, Precedence, State};
 use lalrpop_kernels::KernelSet;
 use lalrpop_nfa::{Nfa, START};
@@ -86,7 +86,7 @@ impl Table {
     }
 
     // The number of the set that a set leads to by the origin's value.
-    fn led_to(
+    fn target_of(
         &mut self,
         alloc: Global,
         nfas: &[Nfa],
@@ -106,30 +106,30 @@ impl Table {
     }
 
     // The same, where the value takes these test edges: looked up where they were met before.
-    fn led_to_by(
+    fn target_of_transitions(
         &mut self,
         alloc: Global,
         nfas: &[Nfa],
         set: &ItemSet,
-        known: &mut BTreeMap<Leads, DfaStateIndex>,
-        leads: Leads,
+        known: &mut BTreeMap<Transitions, DfaStateIndex>,
+        transitions: Transitions,
         origin: Origin,
     ) -> Result<DfaStateIndex, AllocError>
         requires automata { AreAutomata nfas.now }
         requires inside { AreItemsOf nfas.now set.now }
         requires same_length { length self.old.origins.items ≡ length self.old.kernels.list }
-        requires leads { AreLeads nfas.now set.now origin.1 leads.list.items }
+        requires transitions { AreTransitions nfas.now set.now origin.1 transitions.list.items }
         requires known { AreKnown nfas.now set.now known.old self.old.kernels.list }
         ensures added { IfOk result (λ j. AddedTo self.old.kernels.list self.old.origins.items origin.0 origin.1 (move nfas.now set.now origin.1) j self.new.kernels.list self.new.origins.items) }
         ensures known { OnOk result (AreKnown nfas.now set.now known.new self.new.kernels.list) }
         ensures place { OnOk result (self.new.kernels.place ≡ self.old.kernels.place) }
         ensures states { OnOk result (self.new.states.items ≡ self.old.states.items) }
     {
-        if let Some(number) = known.get(&leads) {
+        if let Some(number) = known.get(&transitions) {
             return Ok(*number);
         }
-        let number = self.led_to(alloc, nfas, set, origin)?;
-        known.insert(leads, number)?;
+        let number = self.target_of(alloc, nfas, set, origin)?;
+        known.insert(transitions, number)?;
         Ok(number)
     }
 
@@ -143,7 +143,7 @@ impl Table {
     ) -> Result<Edges, AllocError>
         requires automata { AreAutomata nfas.now }
         requires inside { AreItemsOf nfas.now set.now }
-        requires numbering { Numbering (machine_of nfas.now) self.old.kernels.list self.old.origins.items number 0 }
+        requires breadth_first { IsBreadthFirst (subset_automaton nfas.now) self.old.kernels.list self.old.origins.items number 0 }
         requires here { slice_get self.old.kernels.list number ≡ Some set.now }
         ensures edged { IfOk result (λ e. IsEdged nfas.now self.old.kernels.list self.old.origins.items number set.now self.new.kernels.list self.new.origins.items e.tests.items e.other) }
         ensures place { OnOk result (self.new.kernels.place ≡ self.old.kernels.place) }
@@ -151,19 +151,26 @@ impl Table {
     {
         let mut known = BTreeMap::new(alloc);
         let mut tests = Vec::new(alloc);
-        let parts = parts_of(alloc, nfas, set)?;
-        for part in parts {
-            let Part { range, leads } = part;
+        let blocks = blocks_of(alloc, nfas, set)?;
+        for block in blocks {
+            let Block { range, transitions } = block;
             let origin = Origin::new(number, range.start());
-            let target = self.led_to_by(alloc, nfas, set, &mut known, leads, origin)?;
+            let target = self.target_of_transitions(
+                alloc,
+                nfas,
+                set,
+                &mut known,
+                transitions,
+                origin,
+            )?;
             tests.push((range, target))?;
         }
-        let other = self.led_to(alloc, nfas, set, Origin::new(number, u32::MAX))?;
+        let other = self.target_of(alloc, nfas, set, Origin::new(number, u32::MAX))?;
         Ok(Edges { tests, other })
     }
 
     // Takes up the next number, whose set this is, and makes its state.
-    fn take_up(
+    fn expand(
         &mut self,
         alloc: Global,
         nfas: &[Nfa],
@@ -208,7 +215,7 @@ pub(super) fn build(
 ) -> Result<Dfa, DfaConstructionError>
     requires same_len { length nfas.now ≡ length precedences.now }
     requires automata { AreAutomata nfas.now }
-    ensures stands { IfOk result (λ dfa. let ps = map (λ p. p.0) precedences.now in (ts : List Tree) → AreCompiled ts nfas.now → NoClash ts ps × Stands dfa ts ps) }
+    ensures stands { IfOk result (λ dfa. let ps = map (λ p. p.0) precedences.now in (ts : List Tree) → AreCompiled ts nfas.now → NoClash ts ps × Recognizes dfa ts ps) }
     ensures items { IfOk result (HoldsItems nfas.now) }
     ensures others { IfOk result OthersReject }
     ensures order { IfOk result IsInWordOrder }
@@ -216,7 +223,7 @@ pub(super) fn build(
 {
     let mut table = Table::new(alloc, nfas)?;
     while let Some(set) = table.kernels.next()? {
-        table.take_up(alloc, nfas, precedences, set)?;
+        table.expand(alloc, nfas, precedences, set)?;
     }
     Ok(Dfa {
         states: table.states,

@@ -4,8 +4,8 @@ ghost use Rattle.std.specs.Prelude.{◌≡◌, ◌<◌, ◌++◌, ◌∷◌, [],
 ghost use Rattle.std.specs.List.{flat_map};
 ghost use Rattle.lalrpop_dfa.specs.Internal.Ascending.{IsItemOf};
 ghost use Rattle.lalrpop_dfa.specs.Internal.Builder.{AreAutomata, AreItemsOf};
-ghost use Rattle.lalrpop_dfa.specs.Internal.Machine.{closed, tested, fallen, item_targets};
-ghost use Rattle.lalrpop_dfa.specs.Internal.Worklist.{IsNoted, silent_steps};
+ghost use Rattle.lalrpop_dfa.specs.Internal.Subsets.{closed, test_targets, default_targets, item_targets};
+ghost use Rattle.lalrpop_dfa.specs.Internal.Worklist.{IsInserted, epsilon_targets};
 
 use super::items::{Item, ItemSet};
 use lalrpop_nfa::{Nfa, Noop, Other};
@@ -22,8 +22,8 @@ struct Worklist {
 
 impl Worklist {
     // Notes an item, unless it was found before.
-    fn note(&mut self, item: Item) -> Result<(), AllocError>
-        ensures { OnOk result (IsNoted self.old.observed.keys self.old.pending.items (item ∷ []) self.new.observed.keys self.new.pending.items) }
+    fn insert(&mut self, item: Item) -> Result<(), AllocError>
+        ensures { OnOk result (IsInserted self.old.observed.keys self.old.pending.items (item ∷ []) self.new.observed.keys self.new.pending.items) }
     {
         if self.observed.insert(item)? {
             self.pending.push(item)?;
@@ -34,19 +34,19 @@ impl Worklist {
     // Notes the items that one edge leads to which reads nothing.
     fn follow(&mut self, nfas: &[Nfa], item: Item) -> Result<(), AllocError>
         requires { IsItemOf nfas.now item }
-        ensures { OnOk result (IsNoted self.old.observed.keys self.old.pending.items (silent_steps nfas.now item) self.new.observed.keys self.new.pending.items) }
+        ensures { OnOk result (IsInserted self.old.observed.keys self.old.pending.items (epsilon_targets nfas.now item) self.new.observed.keys self.new.pending.items) }
     {
         for edge in item.nfa(nfas).edges::<Noop>(item.state()) {
-            self.note(item.to(edge.to))?;
+            self.insert(item.to(edge.to))?;
         }
         Ok(())
     }
 
-    fn note_all(&mut self, given: &[Item]) -> Result<(), AllocError>
-        ensures { OnOk result (IsNoted self.old.observed.keys self.old.pending.items given.now self.new.observed.keys self.new.pending.items) }
+    fn insert_all(&mut self, given: &[Item]) -> Result<(), AllocError>
+        ensures { OnOk result (IsInserted self.old.observed.keys self.old.pending.items given.now self.new.observed.keys self.new.pending.items) }
     {
         for item in given {
-            self.note(*item)?;
+            self.insert(*item)?;
         }
         Ok(())
     }
@@ -62,7 +62,7 @@ pub(super) fn closure(alloc: Global, nfas: &[Nfa], given: &[Item]) -> Result<Ite
         observed: BTreeSet::new(alloc),
         pending: Vec::new(alloc),
     };
-    worklist.note_all(given)?;
+    worklist.insert_all(given)?;
     while let Some(item) = worklist.pending.pop() {
         worklist.follow(nfas, item)?;
     }
@@ -77,9 +77,14 @@ fn all_of(alloc: Global, items: BTreeSet<Item>) -> Result<ItemSet, AllocError>
 }
 
 // Adds where the test edges of the item's state lead that cover a value.
-fn push_tested(nfa: &Nfa, item: Item, value: u32, targets: &mut Vec<Item>) -> Result<(), AllocError>
+fn push_test_targets(
+    nfa: &Nfa,
+    item: Item,
+    value: u32,
+    targets: &mut Vec<Item>,
+) -> Result<(), AllocError>
     requires { item.1 < length nfa.now.kinds }
-    ensures { OnOk result (targets.new.items ≡ targets.old.items ++ map (λ q. (item.0, q)) (tested nfa.now item.1 value)) }
+    ensures { OnOk result (targets.new.items ≡ targets.old.items ++ map (λ q. (item.0, q)) (test_targets nfa.now item.1 value)) }
 {
     for edge in nfa.edges::<Test>(item.state()) {
         if edge.label.contains_u32(value) {
@@ -90,9 +95,9 @@ fn push_tested(nfa: &Nfa, item: Item, value: u32, targets: &mut Vec<Item>) -> Re
 }
 
 // Adds where the other edges of the item's state lead.
-fn push_fallen(nfa: &Nfa, item: Item, targets: &mut Vec<Item>) -> Result<(), AllocError>
+fn push_default_targets(nfa: &Nfa, item: Item, targets: &mut Vec<Item>) -> Result<(), AllocError>
     requires { item.1 < length nfa.now.kinds }
-    ensures { OnOk result (targets.new.items ≡ targets.old.items ++ map (λ q. (item.0, q)) (fallen nfa.now item.1)) }
+    ensures { OnOk result (targets.new.items ≡ targets.old.items ++ map (λ q. (item.0, q)) (default_targets nfa.now item.1)) }
 {
     for edge in nfa.edges::<Other>(item.state()) {
         targets.push(item.to(edge.to))?;
@@ -112,9 +117,9 @@ fn push_targets(
 {
     let nfa = item.nfa(nfas);
     let before = targets.len();
-    push_tested(nfa, item, value, targets)?;
+    push_test_targets(nfa, item, value, targets)?;
     if targets.len() == before {
-        push_fallen(nfa, item, targets)?;
+        push_default_targets(nfa, item, targets)?;
     }
     Ok(())
 }

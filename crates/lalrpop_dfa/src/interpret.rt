@@ -3,20 +3,20 @@
 ghost use Rattle.std.specs.Prelude.{◌≡◌, ◌≢◌, ℕ, ◌+◌, ◌<◌, ◌≤◌, [], length, List, IfSome};
 ghost use Rattle.std.specs.Option.{option_map};
 ghost use Rattle.std.specs.Str.{chars};
-ghost use Rattle.lalrpop_dfa.specs.Dfa.{step, Stands};
+ghost use Rattle.lalrpop_dfa.specs.Dfa.{step, Recognizes};
 ghost use Rattle.lalrpop_dfa.specs.Longest.{IsLongest};
 ghost use Rattle.lalrpop_hir.specs.Tree.{Tree};
-ghost use Rattle.lalrpop_nfa.specs.Beginning.{IsBeginning};
+ghost use Rattle.lalrpop_nfa.specs.Prefix.{IsPrefix};
 
 use super::{Dfa, DfaStateIndex, Kind, NfaIndex, START};
 use lalrpop_nfa::Steps;
 
-/// The longest nonempty beginning of the text that some pattern matches, with the strongest pattern that matches it.
-/// `None` where no pattern matches any. Whatever automaton it is, the slice is a nonempty beginning of the text.
+/// The longest nonempty prefix of the text that some pattern matches, with the strongest pattern that matches it.
+/// `None` where no pattern matches any. Whatever automaton it is, the slice is a nonempty prefix of the text.
 pub fn interpret<'text>(dfa: &Dfa, input: &'text str) -> Option<(NfaIndex, &'text str)>
-    ensures answer { (ts : List Tree) (ps : List ℕ) → Stands dfa.now ts ps
+    ensures answer { (ts : List Tree) (ps : List ℕ) → Recognizes dfa.now ts ps
         → IsLongest ts ps input.now (option_map (λ m. (m.0, m.1.now)) result) }
-    ensures part { IfSome result (λ m. IsBeginning m.1.now input.now × (m.1.now ≢ [])) }
+    ensures prefix { IfSome result (λ m. IsPrefix m.1.now input.now × (m.1.now ≢ [])) }
 {
     interpret_counted(dfa, input, &mut Steps::new())
 }
@@ -27,9 +27,9 @@ pub fn interpret_counted<'text>(
     input: &'text str,
     steps: &mut Steps,
 ) -> Option<(NfaIndex, &'text str)>
-    ensures answer { (ts : List Tree) (ps : List ℕ) → Stands dfa.now ts ps
+    ensures answer { (ts : List Tree) (ps : List ℕ) → Recognizes dfa.now ts ps
         → IsLongest ts ps input.now (option_map (λ m. (m.0, m.1.now)) result) }
-    ensures part { IfSome result (λ m. IsBeginning m.1.now input.now × (m.1.now ≢ [])) }
+    ensures prefix { IfSome result (λ m. IsPrefix m.1.now input.now × (m.1.now ≢ [])) }
     ensures never_falls { steps.old ≤ steps.new }
     ensures cost { steps.new ≤ steps.old + length (chars input.now) }
 {

@@ -2,6 +2,7 @@
 #![tactic(auto)]
 
 mod best;
+mod blocks;
 mod build;
 mod builder;
 mod clone;
@@ -11,7 +12,6 @@ mod error;
 pub mod interpret;
 mod items;
 mod labels;
-mod parts;
 
 ghost use Rattle.std.specs.Prelude.{◌≡◌, ◌<◌, length, slice_get, Some, IsSomeAnd};
 
@@ -143,22 +143,22 @@ pub struct Dfa {
 
 impl Model for Dfa {
     ghost use Rattle.std.specs.Prelude.{List};
-    ghost use Rattle.lalrpop_dfa.specs.Dfa.{Row, IsTable};
+    ghost use Rattle.lalrpop_dfa.specs.Dfa.{Row, IsWellFormed};
 
     ghost Value = { List Row };
 
     ghost view = { λ a. a.states.items };
 
-    ghost invariant = { λ a. IsTable a.states.items };
+    ghost invariant = { λ a. IsWellFormed a.states.items };
 }
 
 impl Dfa {
-    ghost use Rattle.lalrpop_dfa.specs.Dfa.{IsTable};
+    ghost use Rattle.lalrpop_dfa.specs.Dfa.{IsWellFormed};
 
     /// The states in the order of their numbers.
     pub fn states(&self) -> &[State]
         ensures states { result.now ≡ self.now }
-        ensures table { IsTable self.now }
+        ensures well_formed { IsWellFormed self.now }
     {
         self.states.as_slice()
     }
@@ -167,7 +167,7 @@ impl Dfa {
     pub fn state(&self, index: DfaStateIndex) -> &State
         requires within { index < length self.now }
         ensures at { slice_get self.now index ≡ Some result.now }
-        ensures table { IsTable self.now }
+        ensures well_formed { IsWellFormed self.now }
     {
         &self.states[index.0]
     }
@@ -176,7 +176,7 @@ impl Dfa {
     pub fn test_edges(&self, index: DfaStateIndex) -> &[(Test, DfaStateIndex)]
         requires within { index < length self.now }
         ensures tests { IsSomeAnd (slice_get self.now index) (λ r. result.now ≡ r.tests) }
-        ensures table { IsTable self.now }
+        ensures well_formed { IsWellFormed self.now }
     {
         let state = self.state(index);
         &state.test_edges

@@ -6,7 +6,7 @@ pub use Rattle.lalrpop_hir.specs.Tree
 pub use Rattle.lalrpop_hir.specs.Level
 pub use Rattle.lalrpop_hir.specs.Language
 pub use Rattle.lalrpop_nfa.specs.Fault
-pub use Rattle.lalrpop_nfa.specs.Beginning
+pub use Rattle.lalrpop_nfa.specs.Prefix
 pub use Rattle.lalrpop_ranges.specs.Meet
 pub use Rattle.lalrpop_nfa.specs.Lists
 pub use Rattle.lalrpop_nfa.specs.Graph
@@ -16,12 +16,12 @@ pub use Rattle.lalrpop_nfa.specs.Walk
 pub use Rattle.lalrpop_nfa.specs.Firsts
 pub use Rattle.lalrpop_nfa.specs.StateView
 pub use Rattle.lalrpop_nfa.specs.Lending
-pub use Rattle.lalrpop_nfa.specs.SideBySide
+pub use Rattle.lalrpop_nfa.specs.Contiguous
 pub use Rattle.lalrpop_dfa.specs.Winners
 pub use Rattle.lalrpop_dfa.specs.Clash
 pub use Rattle.lalrpop_dfa.specs.Longest
 pub use Rattle.lalrpop_dfa.specs.Report
-pub use Rattle.lalrpop_ranges.specs.Runs
+pub use Rattle.lalrpop_ranges.specs.Partition
 pub use Rattle.lalrpop_dfa.specs.Dfa
 pub use Rattle.lalrpop_dfa.specs.Items
 pub use Rattle.lalrpop_kernels.specs.Kernels

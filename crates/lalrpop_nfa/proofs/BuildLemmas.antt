@@ -16,19 +16,19 @@ use Rattle.lalrpop_nfa.specs.declared.edge.StateKind.{StateKind}
 use Rattle.lalrpop_nfa.specs.declared.edge.StateKind.TheVariants.{Neither}
 use Rattle.lalrpop_nfa.specs.Lists.{Lists}
 use Rattle.lalrpop_nfa.specs.Firsts.{LabelKind, Noops, Tests, Others}
-use Rattle.lalrpop_nfa.specs.SideBySide.{RunOf, kinds_of}
-use Rattle.lalrpop_nfa.specs.Internal.Adjacent.{AllRun}
+use Rattle.lalrpop_nfa.specs.Contiguous.{AreContiguous, kinds_of}
+use Rattle.lalrpop_nfa.specs.Internal.Adjacent.{AllContiguous}
 use Rattle.lalrpop_nfa.specs.Graph.{Graph}
-use Rattle.lalrpop_nfa.specs.Walk.{leaves, IsRun}
+use Rattle.lalrpop_nfa.specs.Walk.{leaves, IsContiguous}
 use Rattle.lalrpop_nfa.specs.Path.{noop, test, other}
-use Rattle.lalrpop_nfa.specs.Internal.Shape.{Shape, Way, shape, joined, noops_to, before, one_of, optional, any_turns, some_turns, turns, copies, optionals, fork, branches, grown, fresh_graph, compiled}
+use Rattle.lalrpop_nfa.specs.Internal.Fragment.{Fragment, Construction, fragment_of, joined, noops_to, before, one_of, optional_expr, star_expr, plus_expr, repeat_expr, copies, optional_copies, alternation_expr, branches, extended, fresh_graph, compiled}
 use Rattle.lalrpop_nfa.specs.Compiled.{accept_state, start_state}
 use Rattle.lalrpop_nfa.specs.declared.error.NfaConstructionError.{NfaConstructionError}
 use Rattle.lalrpop_nfa.specs.Fault.{Fault, fault, first_fault, last_fault}
-use Rattle.lalrpop_nfa.specs.Internal.Sound.{IsSound, AreSound}
+use Rattle.lalrpop_nfa.specs.Internal.Valid.{IsValid, AreValid}
 use Rattle.lalrpop_nfa.specs.Internal.Added.{with_kind, with_edges}
 use Rattle.lalrpop_nfa.proofs.Contained.{contains_none, contains_cases, contains_first, contains_later}
-use Rattle.lalrpop_nfa.specs.Internal.Grows.{LeaveBelow, LeavesStates, KeepsNoops, Grows, Branched, beside}
+use Rattle.lalrpop_nfa.specs.Internal.Extends.{LeaveBelow, LeavesStates, KeepsNoops, Extends, Branched, beside}
 
 -- ---- lists of edges
 
@@ -54,16 +54,16 @@ below_both n es fs a b x h = elim (Contains-append_cases es fs x h) [ inl c ↦ 
 
 -- ---- a new state
 
-IsRun-none : {L : Type 0} (q : ℕ) (es : List (Edge L)) → LeaveBelow q es → IsRun q es None
-IsRun-none q es f = record { at = tt; all = filter_none q es (λ x h e. let l = f x h in omega arith) }
+IsContiguous-none : {L : Type 0} (q : ℕ) (es : List (Edge L)) → LeaveBelow q es → IsContiguous q es None
+IsContiguous-none q es f = record { at = tt; all = filter_none q es (λ x h e. let l = f x h in omega arith) }
 
 abbrev pub fresh : StateKind → State
 fresh kind = record { kind = kind; first_noop_edge = None; first_test_edge = None; first_other_edge = None }
 
-RunOf-fresh : (k : LabelKind) (kind : StateKind) (e : Lists) (q : ℕ) → LeaveBelow q e.noops → LeaveBelow q e.tests → LeaveBelow q e.others → RunOf k e (fresh kind) q
-RunOf-fresh Noops kind e q a b c = IsRun-none q e.noops a
-RunOf-fresh Tests kind e q a b c = IsRun-none q e.tests b
-RunOf-fresh Others kind e q a b c = IsRun-none q e.others c
+AreContiguous-fresh : (k : LabelKind) (kind : StateKind) (e : Lists) (q : ℕ) → LeaveBelow q e.noops → LeaveBelow q e.tests → LeaveBelow q e.others → AreContiguous k e (fresh kind) q
+AreContiguous-fresh Noops kind e q a b c = IsContiguous-none q e.noops a
+AreContiguous-fresh Tests kind e q a b c = IsContiguous-none q e.tests b
+AreContiguous-fresh Others kind e q a b c = IsContiguous-none q e.others c
 
 pushed_cases : {X : Type 0} (xs : List X) (y : X) (q : ℕ) (x : X) → slice_get (xs ++ y ∷ []) q ≡ Some x → (slice_get xs q ≡ Some x) ⊎ ((q ≡ length xs) × (x ≡ y))
 pushed_cases [] y zero x h = inr (refl, cc)
@@ -71,13 +71,13 @@ pushed_cases [] y (suc q) x h = cc
 pushed_cases (z ∷ xs) y zero x h = inl h
 pushed_cases (z ∷ xs) y (suc q) x h = elim (pushed_cases xs y q x h) [ inl k ↦ inl k | inr k ↦ inr (ap (λ n. suc n) k.0, k.1) ]
 
-pub AllRun-fresh : (states : List State) (e : Lists) (kind : StateKind) (g : Graph) → record { kinds = kinds_of states; edges = e } ≡ g → LeavesStates g → AllRun states e → AllRun (states ++ fresh kind ∷ []) e
-AllRun-fresh states e kind g shown below old k q s found =
+pub AllContiguous-fresh : (states : List State) (e : Lists) (kind : StateKind) (g : Graph) → record { kinds = kinds_of states; edges = e } ≡ g → LeavesStates g → AllContiguous states e → AllContiguous (states ++ fresh kind ∷ []) e
+AllContiguous-fresh states e kind g shown below old k q s found =
     elim (pushed_cases states (fresh kind) q s found) [
       | inl h ↦ old k q s h
       | inr h ↦ (let l = subst LeavesStates (sym shown) below in
           let long : length (kinds_of states) ≡ q = length-map states (λ (s : State). s.kind) ∙ sym h.0 in
-          subst (λ u. RunOf k e u q) (sym h.1) (RunOf-fresh k kind e q (subst (λ n. LeaveBelow n e.noops) long l.noops) (subst (λ n. LeaveBelow n e.tests) long l.tests) (subst (λ n. LeaveBelow n e.others) long l.others)))
+          subst (λ u. AreContiguous k e u q) (sym h.1) (AreContiguous-fresh k kind e q (subst (λ n. LeaveBelow n e.noops) long l.noops) (subst (λ n. LeaveBelow n e.tests) long l.tests) (subst (λ n. LeaveBelow n e.others) long l.others)))
     ]
 
 pub LeavesStates-pushed : (states more : List State) (e : Lists) (kind : StateKind) (g : Graph) → more ≡ states ++ fresh kind ∷ [] → record { kinds = kinds_of states; edges = e } ≡ g → LeavesStates g → LeavesStates (record { kinds = kinds_of more; edges = e })
@@ -113,23 +113,23 @@ replicate_add : {A : Type 0} (m n : ℕ) (x : A) → replicate m x ++ replicate 
 replicate_add zero n x = let e : zero + n ≡ n = omega arith in rw e refl
 replicate_add (suc m) n x = let e : suc m + n ≡ suc (m + n) = omega arith in rw e (ap (λ ys. x ∷ ys) (replicate_add m n x))
 
-kinds_grown : (g : Graph) (s : Shape) → length (grown g s).kinds ≡ length g.kinds + s.size
-kinds_grown g s = rw (length-append, length-replicate) refl
+kinds_extended : (g : Graph) (s : Fragment) → length (extended g s).kinds ≡ length g.kinds + s.size
+kinds_extended g s = rw (length-append, length-replicate) refl
 
-grown_twice : (g : Graph) (y x : Shape) (s : ℕ) → grown (grown g y) x ≡ grown g (record { size = y.size + x.size; entry = s; edges = joined y.edges x.edges })
-grown_twice g y x s = rw (← replicate_add y.size x.size Neither) (simp append_assoc)
+extended_twice : (g : Graph) (y x : Fragment) (s : ℕ) → extended (extended g y) x ≡ extended g (record { size = y.size + x.size; entry = s; edges = joined y.edges x.edges })
+extended_twice g y x s = rw (← replicate_add y.size x.size Neither) (simp append_assoc)
 
-pub Grows-kinds : (x : Way) (target entry : ℕ) (g h : Graph) → Grows x target g h entry → length h.kinds ≡ length g.kinds + (x target (length g.kinds)).size
-Grows-kinds x target entry g h a = rw a.graph (kinds_grown g (x target (length g.kinds)))
+pub Extends-kinds : (x : Construction) (target entry : ℕ) (g h : Graph) → Extends x target g h entry → length h.kinds ≡ length g.kinds + (x target (length g.kinds)).size
+Extends-kinds x target entry g h a = rw a.graph (kinds_extended g (x target (length g.kinds)))
 
-pub Grows-before : (x y : Way) (target mid entry : ℕ) (g h k : Graph) → Grows y target g h mid → Grows x mid h k entry → Grows (before x y) target g k entry
-Grows-before x y target mid entry g h k a b =
-    let m = Grows-kinds y target mid g h a in
+pub Extends-before : (x y : Construction) (target mid entry : ℕ) (g h k : Graph) → Extends y target g h mid → Extends x mid h k entry → Extends (before x y) target g k entry
+Extends-before x y target mid entry g h k a b =
+    let m = Extends-kinds y target mid g h a in
     let s = y target (length g.kinds) in
     let r = x s.entry (length g.kinds + s.size) in
     record {
       begins = rw (m, a.begins) at b.begins;
-      graph = rw (m, a.begins) at b.graph ∙ (ap (λ j. grown j r) a.graph ∙ grown_twice g s r r.entry);
+      graph = rw (m, a.begins) at b.graph ∙ (ap (λ j. extended j r) a.graph ∙ extended_twice g s r r.entry);
       kept = λ q l. b.kept q (omega arith) ∙ a.kept q l;
       below = b.below;
     }
@@ -155,55 +155,55 @@ below_noops k l s qs inside is b = rw is (record {
 kept_noops : (k l : Graph) (s : ℕ) (qs : List ℕ) (q : ℕ) → s ≢ q → l ≡ with_noops k s qs → filter (leaves q) l.edges.noops ≡ filter (leaves q) k.edges.noops
 kept_noops k l s qs q ne is = rw is (filter-append (leaves q) k.edges.noops (map (noop s) qs) ∙ rw (filter_map_none (noop s) s (λ a. refl) q qs ne) (append-nil (filter (leaves q) k.edges.noops)))
 
-fork_grown : (g : Graph) (a : Shape) (s entry : ℕ) (qs : List ℕ) → with_noops (grown (with_kind g Neither) a) s qs ≡ grown g (record { size = a.size + 1; entry = entry; edges = joined a.edges (noops_to s qs) })
-fork_grown g a s entry qs = let e : a.size + 1 ≡ suc a.size = omega arith in rw e (simp (append_assoc, append-nil))
+alternation_extended : (g : Graph) (a : Fragment) (s entry : ℕ) (qs : List ℕ) → with_noops (extended (with_kind g Neither) a) s qs ≡ extended g (record { size = a.size + 1; entry = entry; edges = joined a.edges (noops_to s qs) })
+alternation_extended g a s entry qs = let e : a.size + 1 ≡ suc a.size = omega arith in rw e (simp (append_assoc, append-nil))
 
 -- a state, then a shape, then the edges of the state
-module _ (x : Way) (target s turn : ℕ) (g h k l : Graph) (qs : List ℕ) (t : s ≡ length g.kinds) (u : h ≡ with_kind g Neither) (a : Grows x target h k turn) (w : l ≡ with_noops k s qs) where
+module _ (x : Construction) (target s sub_entry : ℕ) (g h k l : Graph) (qs : List ℕ) (t : s ≡ length g.kinds) (u : h ≡ with_kind g Neither) (a : Extends x target h k sub_entry) (w : l ≡ with_noops k s qs) where
   one_more : length h.kinds ≡ length g.kinds + 1
   one_more = rw u (kinds_with g Neither)
 
-  forked : (entry : ℕ) → l ≡ grown g (record { size = (x target (length g.kinds + 1)).size + 1; entry = entry; edges = joined (x target (length g.kinds + 1)).edges (noops_to (length g.kinds) qs) })
-  forked entry = rw (w, a.graph, one_more, u, t) (fork_grown g (x target (length g.kinds + 1)) (length g.kinds) entry qs)
+  alternated : (entry : ℕ) → l ≡ extended g (record { size = (x target (length g.kinds + 1)).size + 1; entry = entry; edges = joined (x target (length g.kinds + 1)).edges (noops_to (length g.kinds) qs) })
+  alternated entry = rw (w, a.graph, one_more, u, t) (alternation_extended g (x target (length g.kinds + 1)) (length g.kinds) entry qs)
 
-  forked_kept : KeepsNoops g l
-  forked_kept q below = let m = one_more in kept_noops k l s qs q (omega arith) w ∙ (a.kept q (omega arith) ∙ rw u refl)
+  alternated_kept : KeepsNoops g l
+  alternated_kept q below = let m = one_more in kept_noops k l s qs q (omega arith) w ∙ (a.kept q (omega arith) ∙ rw u refl)
 
-  forked_below : LeavesStates l
-  forked_below = let m = one_more in let n = Grows-kinds x target turn h k a in below_noops k l s qs (omega arith) w a.below
+  alternated_below : LeavesStates l
+  alternated_below = let m = one_more in let n = Extends-kinds x target sub_entry h k a in below_noops k l s qs (omega arith) w a.below
 
-module _ (x : Way) (target s turn : ℕ) (g h k l : Graph) where
-  pub Grows-any_turns : s ≡ length g.kinds → h ≡ with_kind g Neither → Grows x s h k turn → l ≡ with_noops k s (target ∷ turn ∷ []) → Grows (any_turns x) target g l s
-  Grows-any_turns t u a w = record {
+module _ (x : Construction) (target s sub_entry : ℕ) (g h k l : Graph) where
+  pub Extends-star_expr : s ≡ length g.kinds → h ≡ with_kind g Neither → Extends x s h k sub_entry → l ≡ with_noops k s (target ∷ sub_entry ∷ []) → Extends (star_expr x) target g l s
+  Extends-star_expr t u a w = record {
     begins = t;
-    graph = forked x s s turn g h k l (target ∷ turn ∷ []) t u a w (length g.kinds) ∙ (rw (a.begins, one_more x s s turn g h k l (target ∷ turn ∷ []) t u a w, t) refl);
-    kept = forked_kept x s s turn g h k l (target ∷ turn ∷ []) t u a w;
-    below = forked_below x s s turn g h k l (target ∷ turn ∷ []) t u a w;
+    graph = alternated x s s sub_entry g h k l (target ∷ sub_entry ∷ []) t u a w (length g.kinds) ∙ (rw (a.begins, one_more x s s sub_entry g h k l (target ∷ sub_entry ∷ []) t u a w, t) refl);
+    kept = alternated_kept x s s sub_entry g h k l (target ∷ sub_entry ∷ []) t u a w;
+    below = alternated_below x s s sub_entry g h k l (target ∷ sub_entry ∷ []) t u a w;
   }
 
-  pub Grows-some_turns : s ≡ length g.kinds → h ≡ with_kind g Neither → Grows x s h k turn → l ≡ with_noops k s (target ∷ turn ∷ []) → Grows (some_turns x) target g l turn
-  Grows-some_turns t u a w = let e = Grows-any_turns t u a w in record {
-    begins = rw (one_more x s s turn g h k l (target ∷ turn ∷ []) t u a w, t) at a.begins;
+  pub Extends-plus_expr : s ≡ length g.kinds → h ≡ with_kind g Neither → Extends x s h k sub_entry → l ≡ with_noops k s (target ∷ sub_entry ∷ []) → Extends (plus_expr x) target g l sub_entry
+  Extends-plus_expr t u a w = let e = Extends-star_expr t u a w in record {
+    begins = rw (one_more x s s sub_entry g h k l (target ∷ sub_entry ∷ []) t u a w, t) at a.begins;
     graph = e.graph;
     kept = e.kept;
     below = e.below;
   }
 
   -- the shape first, then the state and its edges
-  pub Grows-optional : Grows x target g h turn → s ≡ length h.kinds → k ≡ with_kind h Neither → LeavesStates k → l ≡ with_noops k s (target ∷ turn ∷ []) → Grows (optional x) target g l s
-  Grows-optional a t u b w =
-      let m = Grows-kinds x target turn g h a in
+  pub Extends-optional_expr : Extends x target g h sub_entry → s ≡ length h.kinds → k ≡ with_kind h Neither → LeavesStates k → l ≡ with_noops k s (target ∷ sub_entry ∷ []) → Extends (optional_expr x) target g l s
+  Extends-optional_expr a t u b w =
+      let m = Extends-kinds x target sub_entry g h a in
       let n : length k.kinds ≡ length h.kinds + 1 = rw u (kinds_with h Neither) in
       record {
         begins = t ∙ m;
         graph = rw (w, u, t, m, a.begins, a.graph, ← replicate_add (x target (length g.kinds)).size 1 Neither) (simp (append_assoc, append-nil));
-        kept = λ q l'. kept_noops k l s (target ∷ turn ∷ []) q (omega arith) w ∙ (rw u refl ∙ a.kept q l');
-        below = below_noops k l s (target ∷ turn ∷ []) (omega arith) w b;
+        kept = λ q l'. kept_noops k l s (target ∷ sub_entry ∷ []) q (omega arith) w ∙ (rw u refl ∙ a.kept q l');
+        below = below_noops k l s (target ∷ sub_entry ∷ []) (omega arith) w b;
       }
 
-pub Grows-one_of : (rs : List Range) (target s : ℕ) (g h i k : Graph) → s ≡ length g.kinds → h ≡ with_kind g Neither → LeavesStates h
-    → i ≡ with_edges h (record h.edges { tests = h.edges.tests ++ map (λ r. test s r target) rs }) → k ≡ with_edges i (record i.edges { others = i.edges.others ++ other s 1 ∷ [] }) → Grows (one_of rs) target g k s
-Grows-one_of rs target s g h i k t u b v w =
+pub Extends-one_of : (rs : List Range) (target s : ℕ) (g h i k : Graph) → s ≡ length g.kinds → h ≡ with_kind g Neither → LeavesStates h
+    → i ≡ with_edges h (record h.edges { tests = h.edges.tests ++ map (λ r. test s r target) rs }) → k ≡ with_edges i (record i.edges { others = i.edges.others ++ other s 1 ∷ [] }) → Extends (one_of rs) target g k s
+Extends-one_of rs target s g h i k t u b v w =
     let m : length h.kinds ≡ length g.kinds + 1 = rw u (kinds_with g Neither) in
     record {
       begins = t;
@@ -218,27 +218,27 @@ Grows-one_of rs target s g h i k t u b v w =
 
 -- ---- branches
 
-pub Branched-next : (target : ℕ) (all ts : Trees) (t : Tree) (g h k : Graph) (es : List ℕ) (q : ℕ) → Branched target all (also t ts) g h es → Grows (shape t) target h k q → length g.kinds ≤ length h.kinds → Branched target all ts g k (es ++ q ∷ [])
+pub Branched-next : (target : ℕ) (all ts : Trees) (t : Tree) (g h k : Graph) (es : List ℕ) (q : ℕ) → Branched target all (also t ts) g h es → Extends (fragment_of t) target h k q → length g.kinds ≤ length h.kinds → Branched target all ts g k (es ++ q ∷ [])
 Branched-next target all ts t g h k es q a b long =
-    let m = Grows-kinds (shape t) target q h k b in
-    let s = shape t target (length h.kinds) in
+    let m = Extends-kinds (fragment_of t) target q h k b in
+    let s = fragment_of t target (length h.kinds) in
     record {
       begin = append_assoc es (q ∷ []) (branches ts target (length k.kinds)).entries ∙ (rw (m, b.begins) a.begin);
-      graph = rw m (ap (λ j. grown j (beside (branches ts target (length h.kinds + s.size)))) b.graph ∙ (grown_twice h s (beside (branches ts target (length h.kinds + s.size))) 0 ∙ a.graph));
+      graph = rw m (ap (λ j. extended j (beside (branches ts target (length h.kinds + s.size)))) b.graph ∙ (extended_twice h s (beside (branches ts target (length h.kinds + s.size))) 0 ∙ a.graph));
       kept = λ p l. b.kept p (omega arith) ∙ a.kept p l;
       below = b.below;
     }
 
-pub Grows-fork : (ts : Trees) (target s : ℕ) (g h k l : Graph) (es : List ℕ) → s ≡ length g.kinds → h ≡ with_kind g Neither → Branched target ts none h k es → l ≡ with_noops k s es → Grows (fork (branches ts)) target g l s
-Grows-fork ts target s g h k l es t u a w =
+pub Extends-alternation_expr : (ts : Trees) (target s : ℕ) (g h k l : Graph) (es : List ℕ) → s ≡ length g.kinds → h ≡ with_kind g Neither → Branched target ts none h k es → l ≡ with_noops k s es → Extends (alternation_expr (branches ts)) target g l s
+Extends-alternation_expr ts target s g h k l es t u a w =
     let m : length h.kinds ≡ length g.kinds + 1 = rw u (kinds_with g Neither) in
     let b = branches ts target (length g.kinds + 1) in
-    let whole : k ≡ grown h (beside (branches ts target (length h.kinds))) = simp append-nil at a.graph in
+    let whole : k ≡ extended h (beside (branches ts target (length h.kinds))) = simp append-nil at a.graph in
     let all : es ≡ (branches ts target (length h.kinds)).entries = simp append-nil at a.begin in
-    let n : length k.kinds ≡ length h.kinds + (branches ts target (length h.kinds)).size = rw whole (kinds_grown h (beside (branches ts target (length h.kinds)))) in
+    let n : length k.kinds ≡ length h.kinds + (branches ts target (length h.kinds)).size = rw whole (kinds_extended h (beside (branches ts target (length h.kinds)))) in
     record {
       begins = t;
-      graph = rw (w, whole, all, m, u, t) (fork_grown g (beside b) (length g.kinds) (length g.kinds) b.entries);
+      graph = rw (w, whole, all, m, u, t) (alternation_extended g (beside b) (length g.kinds) (length g.kinds) b.entries);
       kept = λ q below. kept_noops k l s es q (omega arith) w ∙ (a.kept q (omega arith) ∙ rw u refl);
       below = below_noops k l s es (omega arith) w a.below;
     }
@@ -297,27 +297,27 @@ drop_next xs i x inside is = let e : i + 1 ≡ suc i = omega arith in rw e (drop
 -- one part of several compiled
 module _ (all : List Tree) (i : ℕ) (t : Tree) (inside : i < length all) (is : t ≡ get_or all i t) where
   pub first_fault-next : fault t ≡ None → first_fault (trees (drop i all)) ≡ first_fault (trees all) → first_fault (trees (drop (i + 1) all)) ≡ first_fault (trees all)
-  first_fault-next fine h = rw fine at (rw (drop_next all i t inside is) at h)
+  first_fault-next compilable h = rw compilable at (rw (drop_next all i t inside is) at h)
 
-  pub AreSound-next : IsSound t → (AreSound (trees (drop i all)) → AreSound (trees all)) → AreSound (trees (drop (i + 1) all)) → AreSound (trees all)
-  AreSound-next s f a = f (rw (drop_next all i t inside is) (s, a))
+  pub AreValid-next : IsValid t → (AreValid (trees (drop i all)) → AreValid (trees all)) → AreValid (trees (drop (i + 1) all)) → AreValid (trees all)
+  AreValid-next s f a = f (rw (drop_next all i t inside is) (s, a))
 
-  pub Branched-more : (target : ℕ) (g h k : Graph) (es : List ℕ) (q : ℕ) → Branched target (trees all) (trees (drop i all)) g h es → Grows (shape t) target h k q → length g.kinds ≤ length h.kinds → Branched target (trees all) (trees (drop (i + 1) all)) g k (es ++ q ∷ [])
+  pub Branched-more : (target : ℕ) (g h k : Graph) (es : List ℕ) (q : ℕ) → Branched target (trees all) (trees (drop i all)) g h es → Extends (fragment_of t) target h k q → length g.kinds ≤ length h.kinds → Branched target (trees all) (trees (drop (i + 1) all)) g k (es ++ q ∷ [])
   Branched-more target g h k es q a b long = Branched-next target (trees all) (trees (drop (i + 1) all)) t g h k es q (rw (drop_next all i t inside is) at a) b long
 
-pub turns_more : (x : Way) (min : ℕ) → min ≢ 0 → min ≢ 1 → turns x min None ≡ before (copies x min) (any_turns x)
-turns_more x zero m n = absurd (m refl)
-turns_more x (suc zero) m n = absurd (n refl)
-turns_more x (suc (suc k)) m n = refl
+pub repeat_more : (x : Construction) (min : ℕ) → min ≢ 0 → min ≢ 1 → repeat_expr x min None ≡ before (copies x min) (star_expr x)
+repeat_more x zero m n = absurd (m refl)
+repeat_more x (suc zero) m n = absurd (n refl)
+repeat_more x (suc (suc k)) m n = refl
 
 -- one more turn before the others
-module _ (x : Way) (n target mid entry : ℕ) (g h k : Graph) where
-  pub Grows-copies : Grows (copies x n) target g h mid → Grows x mid h k entry → Grows (copies x (n + 1)) target g k entry
-  Grows-copies a b = let e : n + 1 ≡ suc n = omega arith in rw e (Grows-before x (copies x n) target mid entry g h k a b)
+module _ (x : Construction) (n target mid entry : ℕ) (g h k : Graph) where
+  pub Extends-copies : Extends (copies x n) target g h mid → Extends x mid h k entry → Extends (copies x (n + 1)) target g k entry
+  Extends-copies a b = let e : n + 1 ≡ suc n = omega arith in rw e (Extends-before x (copies x n) target mid entry g h k a b)
 
-  pub Grows-optionals : Grows (optionals x n) target g h mid → Grows (optional x) mid h k entry → Grows (optionals x (n + 1)) target g k entry
-  Grows-optionals a b = let e : n + 1 ≡ suc n = omega arith in rw e (Grows-before (optional x) (optionals x n) target mid entry g h k a b)
+  pub Extends-optional_copies : Extends (optional_copies x n) target g h mid → Extends (optional_expr x) mid h k entry → Extends (optional_copies x (n + 1)) target g k entry
+  Extends-optional_copies a b = let e : n + 1 ≡ suc n = omega arith in rw e (Extends-before (optional_expr x) (optional_copies x n) target mid entry g h k a b)
 
 -- the whole automaton: a fresh one, the tree's shape, and START's edge
-pub compiled_grown : (t : Tree) (g h k : Graph) (entry : ℕ) → g ≡ fresh_graph → Grows (shape t) accept_state g h entry → k ≡ with_edges h (record h.edges { noops = h.edges.noops ++ noop start_state entry ∷ [] }) → k ≡ compiled t
-compiled_grown t g h k entry u a w = rw (w, a.graph, a.begins, u) (simp append-nil)
+pub compiled_extended : (t : Tree) (g h k : Graph) (entry : ℕ) → g ≡ fresh_graph → Extends (fragment_of t) accept_state g h entry → k ≡ with_edges h (record h.edges { noops = h.edges.noops ++ noop start_state entry ∷ [] }) → k ≡ compiled t
+compiled_extended t g h k entry u a w = rw (w, a.graph, a.begins, u) (simp append-nil)

@@ -1,8 +1,8 @@
 -- Small cases of the definitions in specs/: Cases/X.antt has those of specs/X.antt.
 mod Fault
-mod Beginning
+mod Prefix
 mod Walk
 mod Firsts
-mod SideBySide
+mod Contiguous
 mod Path
 mod Compiled

@@ -13,18 +13,18 @@ use Rattle.lalrpop_nfa.specs.declared.edge.Other.{Other}
 use Rattle.lalrpop_nfa.specs.declared.edge.StateKind.TheVariants.{Accept, Reject, Neither}
 use Rattle.lalrpop_nfa.specs.Lists.{Lists}
 use Rattle.lalrpop_nfa.specs.Walk.{leaves}
-use Rattle.lalrpop_nfa.specs.Path.{noop, test, other, Path, here, skip, read, fall}
+use Rattle.lalrpop_nfa.specs.Path.{noop, test, other, Path, here, epsilon, read, otherwise}
 use Rattle.lalrpop_nfa.specs.Fault.{fault}
-use Rattle.lalrpop_nfa.specs.Internal.Sound.{IsSound}
+use Rattle.lalrpop_nfa.specs.Internal.Valid.{IsValid}
 use Rattle.lalrpop_nfa.specs.Compiled.{accept_state, reject_state, start_state, IsLabel, ReadsWordsOf, IsCompiled, HasFixedEdges}
-use Rattle.lalrpop_nfa.specs.Internal.Shape.{shape, noops_to, joined, fresh_graph, compiled}
+use Rattle.lalrpop_nfa.specs.Internal.Fragment.{fragment_of, noops_to, joined, fresh_graph, compiled}
 use Rattle.lalrpop_nfa.proofs.Contained.{contains_none, contains_cases, contains_only}
-use Rattle.lalrpop_nfa.proofs.Plain.{IsPlain, plain}
-use Rattle.lalrpop_nfa.proofs.Shapes.{Anywhere, Fits, Within, Fits-joined, Fits-noops_to, shape_leads, shape_within, filter_none}
-use Rattle.lalrpop_nfa.proofs.Sizes.{shape_size}
-use Rattle.lalrpop_nfa.proofs.Readings.{Reads, Reads-fork, FromSome-none, FromSome-also}
-use Rattle.lalrpop_nfa.proofs.ShapeReads.{Agrees, Agrees-left, Agrees-right, forks_at, shape_reads}
-use Rattle.lalrpop_nfa.proofs.ShapeTests.{GoodTests, shape_tests, places_apart}
+use Rattle.lalrpop_nfa.proofs.Compilable.{IsCompilableWithin, plain}
+use Rattle.lalrpop_nfa.proofs.Fragments.{Anywhere, Fits, Within, Fits-joined, Fits-noops_to, fragment_leads, fragment_within, filter_none}
+use Rattle.lalrpop_nfa.proofs.Sizes.{fragment_size}
+use Rattle.lalrpop_nfa.proofs.Readings.{Reads, Reads-alternation_expr, FromSome-none, FromSome-also}
+use Rattle.lalrpop_nfa.proofs.FragmentReads.{Agrees, Agrees-left, Agrees-right, alternates_at, fragment_reads}
+use Rattle.lalrpop_nfa.proofs.FragmentTests.{AreTestsWithin, fragment_tests, places_apart}
 
 -- what the labels of a compiled tree are
 abbrev IsCodeLabel : Tree → Range → Type 0
@@ -33,16 +33,16 @@ IsCodeLabel t r = IsLabel t r × (r.start ≤ r.end) × (r.end ≤ 1114111)
 module _ (t : Tree) where
   -- the edges of the tree's own states, of all states, and of ACCEPT and REJECT
   abbrev own : Lists
-  own = (shape t accept_state 3).edges
+  own = (fragment_of t accept_state 3).edges
 
   abbrev whole : Lists
   whole = (compiled t).edges
 
   abbrev from_start : Lists
-  from_start = noops_to start_state ((shape t accept_state 3).entry ∷ [])
+  from_start = noops_to start_state ((fragment_of t accept_state 3).entry ∷ [])
 
   abbrev end : ℕ
-  end = 3 + (shape t accept_state 3).size
+  end = 3 + (fragment_of t accept_state 3).size
 
   first_within : Within 0 2 fresh_graph.edges
   first_within = record {
@@ -55,11 +55,11 @@ module _ (t : Tree) where
   }
 
   start_within : Within 2 3 from_start
-  start_within = Fits-noops_to Anywhere 2 3 start_state ((shape t accept_state 3).entry ∷ []) (omega arith) (omega arith) (λ q m. tt)
+  start_within = Fits-noops_to Anywhere 2 3 start_state ((fragment_of t accept_state 3).entry ∷ []) (omega arith) (omega arith) (λ q m. tt)
 
   -- the edges of START and of the tree's states, which come after those of ACCEPT and REJECT
   late_within : Within 2 end (joined own from_start)
-  late_within = Fits-joined Anywhere 3 end 2 3 2 end own from_start (omega arith) (omega arith) (omega arith) (omega arith) (shape_within t accept_state 3) start_within
+  late_within = Fits-joined Anywhere 3 end 2 3 2 end own from_start (omega arith) (omega arith) (omega arith) (omega arith) (fragment_within t accept_state 3) start_within
 
   itself : (a b : ℕ) → Agrees a b whole (joined fresh_graph.edges (joined own from_start))
   itself a b = record {
@@ -75,7 +75,7 @@ module _ (t : Tree) where
   agrees_own = Agrees-left whole 3 end 3 end 2 3 own from_start (late 3 end (omega arith)) (omega arith) (omega arith) (inl (omega arith)) start_within
 
   agrees_start : Agrees 2 3 whole from_start
-  agrees_start = Agrees-right whole 2 3 2 3 3 end own from_start (late 2 3 (omega arith)) (omega arith) (omega arith) (inr (omega arith)) (shape_within t accept_state 3)
+  agrees_start = Agrees-right whole 2 3 2 3 3 end own from_start (late 2 3 (omega arith)) (omega arith) (omega arith) (inr (omega arith)) (fragment_within t accept_state 3)
 
   -- only other edges leave ACCEPT and REJECT, and they lead to REJECT
   no_noop : (p q : ℕ) → p < 2 → Contains whole.noops (noop p q) → ⊥
@@ -92,26 +92,26 @@ module _ (t : Tree) where
 
   dead : (p : ℕ) (w : List ℕ) → p ≡ reject_state → Path whole accept_state p w → ⊥
   dead _ _ is (here p s) = omega arith
-  dead _ _ is (skip p q w m h) = no_noop p q (omega arith) m
+  dead _ _ is (epsilon p q w m h) = no_noop p q (omega arith) m
   dead _ _ is (read p q w r c m k h) = no_test r p q (omega arith) m
-  dead _ _ is (fall p q w c m k h) = dead q w (to_reject (other p q) m).1 h
+  dead _ _ is (otherwise p q w c m k h) = dead q w (to_reject (other p q) m).1 h
 
   at_accept : (p : ℕ) (w : List ℕ) → p ≡ accept_state → Path whole accept_state p w → w ≡ []
   at_accept _ _ is (here p s) = refl
-  at_accept _ _ is (skip p q w m h) = absurd (no_noop p q (omega arith) m)
+  at_accept _ _ is (epsilon p q w m h) = absurd (no_noop p q (omega arith) m)
   at_accept _ _ is (read p q w r c m k h) = absurd (no_test r p q (omega arith) m)
-  at_accept _ _ is (fall p q w c m k h) = absurd (dead q w (to_reject (other p q) m).1 h)
+  at_accept _ _ is (otherwise p q w c m k h) = absurd (dead q w (to_reject (other p q) m).1 h)
 
-  compiled_reads : (K : Range → Type 0) → IsPlain K t → ReadsWordsOf t (compiled t)
+  compiled_reads : (K : Range → Type 0) → IsCompilableWithin K t → ReadsWordsOf t (compiled t)
   compiled_reads K p w = (out, into)
     where
-      own_reads : Reads whole (Matches t) accept_state (shape t accept_state 3).entry
-      own_reads = shape_reads whole (λ v h. dead reject_state v refl h) K t p accept_state 3 (omega arith) agrees_own
+      own_reads : Reads whole (Matches t) accept_state (fragment_of t accept_state 3).entry
+      own_reads = fragment_reads whole (λ v h. dead reject_state v refl h) K t p accept_state 3 (omega arith) agrees_own
 
       start_reads : Reads whole (λ v. Matches t v ⊎ ⊥) accept_state start_state
       start_reads =
-          Reads-fork whole (λ v. Matches t v ⊎ ⊥) accept_state start_state ((shape t accept_state 3).entry ∷ []) (forks_at whole start_state ((shape t accept_state 3).entry ∷ []) agrees_start (omega arith))
-          (FromSome-also whole (Matches t) (λ v. ⊥) accept_state (shape t accept_state 3).entry [] own_reads (FromSome-none whole accept_state))
+          Reads-alternation_expr whole (λ v. Matches t v ⊎ ⊥) accept_state start_state ((fragment_of t accept_state 3).entry ∷ []) (alternates_at whole start_state ((fragment_of t accept_state 3).entry ∷ []) agrees_start (omega arith))
+          (FromSome-also whole (Matches t) (λ v. ⊥) accept_state (fragment_of t accept_state 3).entry [] own_reads (FromSome-none whole accept_state))
 
       out : Path whole accept_state start_state w → Matches t w
       out h =
@@ -128,14 +128,14 @@ module _ (t : Tree) where
 
   late_fits : Fits IsProper 2 end (joined own from_start)
   late_fits =
-      let lead = shape_leads IsProper t in
+      let lead = fragment_leads IsProper t in
       let target : IsProper accept_state = (omega arith, λ h. absurd (omega arith)) in
       let block : (q : ℕ) → 3 ≤ q → q < end → IsProper q = λ q l h. (h, λ e. absurd (omega arith)) in
       Fits-joined IsProper 3 end 2 3 2 end own from_start (omega arith) (omega arith) (omega arith) (omega arith) (lead.edges accept_state 3 target block)
-      (Fits-noops_to IsProper 2 3 start_state ((shape t accept_state 3).entry ∷ []) (omega arith) (omega arith) (λ q m. subst IsProper (contains_only (shape t accept_state 3).entry q m) (lead.entry accept_state 3 target block)))
+      (Fits-noops_to IsProper 2 3 start_state ((fragment_of t accept_state 3).entry ∷ []) (omega arith) (omega arith) (λ q m. subst IsProper (contains_only (fragment_of t accept_state 3).entry q m) (lead.entry accept_state 3 target block)))
 
   kinds_long : length (compiled t).kinds ≡ end
-  kinds_long = omega (arith, length-replicate (shape t accept_state 3).size Neither)
+  kinds_long = omega (arith, length-replicate (fragment_of t accept_state 3).size Neither)
 
 replicated : {A : Type 0} (n k : ℕ) (x y : A) → slice_get (replicate n x) k ≡ Some y → x ≡ y
 replicated zero k x y h = cc
@@ -155,18 +155,18 @@ is_reject n (suc (suc zero)) h = cc
 is_reject n (suc (suc (suc k))) h = let e = replicated n k Neither Reject h in cc
 
 -- what holds of the test edges of the tree's own states holds of all
-all_tests : (t : Tree) → GoodTests (IsCodeLabel t) (own t).tests → GoodTests (IsCodeLabel t) (whole t).tests
-all_tests t g = subst (GoodTests (IsCodeLabel t)) (sym (append-nil (own t).tests)) g
+all_tests : (t : Tree) → AreTestsWithin (IsCodeLabel t) (own t).tests → AreTestsWithin (IsCodeLabel t) (whole t).tests
+all_tests t g = subst (AreTestsWithin (IsCodeLabel t)) (sym (append-nil (own t).tests)) g
 
-pub compiled_length : (t : Tree) → IsSound t → fault t ≡ None → length (compiled t).kinds ≡ 3 + size t
-compiled_length t s f = omega (arith, kinds_long t, shape_size t s f accept_state 3)
+pub compiled_length : (t : Tree) → IsValid t → fault t ≡ None → length (compiled t).kinds ≡ 3 + size t
+compiled_length t s f = omega (arith, kinds_long t, fragment_size t s f accept_state 3)
 
-pub compiled_is_compiled : (t : Tree) → IsSound t → fault t ≡ None → IsCompiled t (compiled t)
+pub compiled_is_compiled : (t : Tree) → IsValid t → fault t ≡ None → IsCompiled t (compiled t)
 compiled_is_compiled t s f =
-    let p : IsPlain (IsCodeLabel t) t = plain (IsCodeLabel t) t s f (λ r m l h. (m, l, h)) in
+    let p : IsCompilableWithin (IsCodeLabel t) t = plain (IsCodeLabel t) t s f (λ r m l h. (m, l, h)) in
     let long = kinds_long t in
-    let good = all_tests t (shape_tests (IsCodeLabel t) t p accept_state 3) in
-    let n = (shape t accept_state 3).size in
+    let tests_within = all_tests t (fragment_tests (IsCodeLabel t) t p accept_state 3) in
+    let n = (fragment_of t accept_state 3).size in
     record {
       reads = compiled_reads t (IsCodeLabel t) p;
       few = omega (arith, compiled_length t s f);
@@ -176,8 +176,8 @@ compiled_is_compiled t s f =
       noops_in = λ x m. let w = (late_fits t).noops x m in (omega (arith, w.1, long), omega (arith, w.2.0, long), λ e. absurd (omega (arith, w.0)));
       tests_in = λ x m. let w = (late_fits t).tests x m in (omega (arith, w.1, long), omega (arith, w.2.0, long), λ e. absurd (omega (arith, w.0)), w.2.1);
       others_in = λ x m. let w = to_reject t x m in (omega (arith, w.0, long), w.1);
-      labels = good.labels;
-      apart = places_apart (whole t).tests good.apart;
+      labels = tests_within.labels;
+      apart = places_apart (whole t).tests tests_within.apart;
     }
 
 -- edges that leave other states are left out
@@ -209,4 +209,4 @@ module _ (e : Lists) (entry end : ℕ) (w : Within 3 end e) where
   }
 
 pub compiled_fixed : (t : Tree) → HasFixedEdges (compiled t).edges
-compiled_fixed t = fixed_beside (own t) (shape t accept_state 3).entry (end t) (shape_within t accept_state 3)
+compiled_fixed t = fixed_beside (own t) (fragment_of t accept_state 3).entry (end t) (fragment_within t accept_state 3)

@@ -4,7 +4,7 @@ use Rattle.std.specs.Char.{encode_utf8}
 use Rattle.std.specs.Str.{chars, IsUtf8, IsCharBoundary, encode_utf8_all}
 use Rattle.std.proofs.lemmas.List.{append-nil, append_cancel_left, take_at, take-append-drop, take-append-le, nil_from_length}
 use Rattle.std.proofs.lemmas.Str.{chars-nil, chars-append, chars_past_char, encode_same, encodes-chars, IsUtf8-drop, IsUtf8-take, IsUtf8-past_char, IsCharBoundary-at_seam, IsCharBoundary-from_take}
-use Rattle.lalrpop_nfa.specs.Beginning.{IsBeginning}
+use Rattle.lalrpop_nfa.specs.Prefix.{IsPrefix}
 
 -- the first `at` bytes of the text were read, and whole characters are left
 pub record IsCut (text : List ℕ) (at : ℕ) (rest : List ℕ) : Type 0 where
@@ -64,7 +64,7 @@ count_within text rest at h =
     let whole : chars text ≡ chars (take at text) ++ chars rest = ap chars h.split ∙ chars-append (take at text) rest h.seen_utf8 in
     omega (arith, ap length whole, length-append (chars (take at text)) (chars rest))
 
--- a beginning at least as long as the cut goes on from it by whole characters
+-- a prefix at least as long as the cut goes on from it by whole characters
 pub record GoesOn (text rest : List ℕ) (at : ℕ) (q : List ℕ) : Type 0 where
   pub more : List ℕ
   pub left : List ℕ
@@ -72,7 +72,7 @@ pub record GoesOn (text rest : List ℕ) (at : ℕ) (q : List ℕ) : Type 0 wher
   pub utf8 : IsUtf8 more
   pub rest_is : rest ≡ more ++ left
 
-pub goes_on : (text rest : List ℕ) (at : ℕ) (q : List ℕ) → IsCut text at rest → IsBeginning q text → at ≤ length q → GoesOn text rest at q
+pub goes_on : (text rest : List ℕ) (at : ℕ) (q : List ℕ) → IsCut text at rest → IsPrefix q text → at ≤ length q → GoesOn text rest at q
 goes_on text rest at q h b l =
     let front : take at q ≡ take at text = sym (ap (take at) b.1.0 ∙ take-append-le at q b.0 l) in
     let is : q ≡ take at text ++ drop at q = sym (take-append-drop at q) ∙ ap (λ xs. xs ++ drop at q) front in
@@ -95,9 +95,9 @@ first_char more left rest2 c (d ∷ ds) e same =
     let first : d ≡ c = (encode_same d c (encode_utf8_all ds ++ left) rest2 joined).0 in
     inr (ds, sym e ∙ ap (λ x. encode_utf8 x ++ encode_utf8_all ds) first)
 
--- a beginning past the cut, and not past the next character, ends with it
+-- a prefix past the cut, and not past the next character, ends with it
 pub ends_there : (text rest rest2 q : List ℕ) (at at2 c : ℕ) → IsCut text at rest → rest ≡ encode_utf8 c ++ rest2 → at2 ≡ at + length (encode_utf8 c)
-    → IsBeginning q text → at < length q → length q ≤ at2 → q ≡ take at2 text
+    → IsPrefix q text → at < length q → length q ≤ at2 → q ≡ take at2 text
 ends_there text rest rest2 q at at2 c h e l b above below =
     let g = goes_on text rest at q h b (omega arith) in
     let size : length q ≡ at + length g.more = omega (arith, ap length g.is, length-append (take at text) g.more, h.place) in

@@ -11,24 +11,24 @@ use Rattle.lalrpop_nfa.specs.declared.edge.Edge.{Edge}
 use Rattle.lalrpop_nfa.specs.declared.edge.State.{State}
 use Rattle.lalrpop_nfa.specs.Lists.{Lists}
 use Rattle.lalrpop_nfa.specs.Firsts.{LabelKind, Noops, Tests, Others, SameListsBut, SameFirstsBut}
-use Rattle.lalrpop_nfa.specs.Internal.Noted.{first_set}
+use Rattle.lalrpop_nfa.specs.Internal.FirstSet.{first_set}
 use Rattle.lalrpop_nfa.specs.Graph.{Graph}
-use Rattle.lalrpop_nfa.specs.SideBySide.{RunOf, kinds_of}
-use Rattle.lalrpop_nfa.specs.Internal.Adjacent.{AllRun, IsOpen}
-use Rattle.lalrpop_nfa.specs.Walk.{leaves, walk, IsRun}
-use Rattle.lalrpop_nfa.proofs.WalkLemmas.{IsRun-other, IsRun-first, IsRun-next, not_nil, filter_last_this}
+use Rattle.lalrpop_nfa.specs.Contiguous.{AreContiguous, kinds_of}
+use Rattle.lalrpop_nfa.specs.Internal.Adjacent.{AllContiguous, IsOpen}
+use Rattle.lalrpop_nfa.specs.Walk.{leaves, walk, IsContiguous}
+use Rattle.lalrpop_nfa.proofs.WalkLemmas.{IsContiguous-other, IsContiguous-first, IsContiguous-next, not_nil, filter_last_this}
 
 walk_taken : {X : Type 0} (p : X → Bool) (xs : List X) (x : X) (others : List X) → xs ≡ x ∷ others → p x ≡ true → walk p xs ≡ x ∷ walk p others
 walk_taken p xs x others h k = rw (h, k)
 
 module _ {L : Type 0} (q : ℕ) (es : List (Edge L)) (f : Edge L) (n : ℕ) where
-  IsRun-open : (first : Option ℕ) → n ≡ length es → f.from ≡ q → IsOpen q es → IsRun q es first → IsRun q (es ++ f ∷ []) (first_set first n)
-  IsRun-open None is same (inl none) r = rw is (IsRun-first q es f same none)
-  IsRun-open (Some i) is same (inl none) r =
+  IsContiguous-open : (first : Option ℕ) → n ≡ length es → f.from ≡ q → IsOpen q es → IsContiguous q es first → IsContiguous q (es ++ f ∷ []) (first_set first n)
+  IsContiguous-open None is same (inl none) r = rw is (IsContiguous-first q es f same none)
+  IsContiguous-open (Some i) is same (inl none) r =
       let t = walk_taken (leaves q) (drop i es) r.at.0 r.at.1 r.at.2 (eq-eqb r.at.0.from q r.at.3) in
       let no : r.at.0 ∷ walk (leaves q) r.at.1 ≡ [] = sym t ∙ (sym r.all ∙ none) in cc
-  IsRun-open None is same (inr o) r = absurd (not_nil (leaves q) (filter (leaves q) o.0) o.1 (sym (filter_last_this (leaves q) o.0 o.1 (eq-eqb o.1.from q o.3)) ∙ (ap (filter (leaves q)) (sym o.2) ∙ r.all)))
-  IsRun-open (Some i) is same (inr o) r = IsRun-next q es f (Some i) o.0 o.1 same o.2 o.3 r
+  IsContiguous-open None is same (inr o) r = absurd (not_nil (leaves q) (filter (leaves q) o.0) o.1 (sym (filter_last_this (leaves q) o.0 o.1 (eq-eqb o.1.from q o.3)) ∙ (ap (filter (leaves q)) (sym o.2) ∙ r.all)))
+  IsContiguous-open (Some i) is same (inr o) r = IsContiguous-next q es f (Some i) o.0 o.1 same o.2 o.3 r
 
 SameFirstsBut-self : (j : LabelKind) (s : State) → SameFirstsBut j s s
 SameFirstsBut-self Noops s = (refl, refl, refl)
@@ -36,16 +36,16 @@ SameFirstsBut-self Tests s = (refl, refl, refl)
 SameFirstsBut-self Others s = (refl, refl, refl)
 
 -- the runs of the other kinds stay, where their lists and indices do
-RunOf-kept : (j k : LabelKind) (e f : Lists) (s t : State) (q : ℕ) → SameListsBut j e f → SameFirstsBut j s t → RunOf j f t q → RunOf k e s q → RunOf k f t q
-RunOf-kept Noops Noops e f s t q x y r o = r
-RunOf-kept Noops Tests e f s t q x y r o = rw (x.0, y.1) o
-RunOf-kept Noops Others e f s t q x y r o = rw (x.1, y.2) o
-RunOf-kept Tests Noops e f s t q x y r o = rw (x.0, y.1) o
-RunOf-kept Tests Tests e f s t q x y r o = r
-RunOf-kept Tests Others e f s t q x y r o = rw (x.1, y.2) o
-RunOf-kept Others Noops e f s t q x y r o = rw (x.0, y.1) o
-RunOf-kept Others Tests e f s t q x y r o = rw (x.1, y.2) o
-RunOf-kept Others Others e f s t q x y r o = r
+AreContiguous-kept : (j k : LabelKind) (e f : Lists) (s t : State) (q : ℕ) → SameListsBut j e f → SameFirstsBut j s t → AreContiguous j f t q → AreContiguous k e s q → AreContiguous k f t q
+AreContiguous-kept Noops Noops e f s t q x y r o = r
+AreContiguous-kept Noops Tests e f s t q x y r o = rw (x.0, y.1) o
+AreContiguous-kept Noops Others e f s t q x y r o = rw (x.1, y.2) o
+AreContiguous-kept Tests Noops e f s t q x y r o = rw (x.0, y.1) o
+AreContiguous-kept Tests Tests e f s t q x y r o = r
+AreContiguous-kept Tests Others e f s t q x y r o = rw (x.1, y.2) o
+AreContiguous-kept Others Noops e f s t q x y r o = rw (x.0, y.1) o
+AreContiguous-kept Others Tests e f s t q x y r o = rw (x.1, y.2) o
+AreContiguous-kept Others Others e f s t q x y r o = r
 
 SameFirstsBut-kind : (j : LabelKind) (s t : State) → SameFirstsBut j s t → t.kind ≡ s.kind
 SameFirstsBut-kind Noops s t h = h.0
@@ -57,31 +57,31 @@ module _ {L : Type 0} (kind : LabelKind) (list : Lists → List (Edge L)) (with_
     (other_lists_kept : (e : Lists) (es : List (Edge L)) → SameListsBut kind e (with_list e es))
     (index_written : (s : State) (i : Option ℕ) → index (with_index s i) ≡ i)
     (other_indices_kept : (s : State) (i : Option ℕ) → SameFirstsBut kind s (with_index s i))
-    (run_in : (e : Lists) (s : State) (q : ℕ) → RunOf kind e s q → IsRun q (list e) (index s))
-    (run_out : (e : Lists) (s : State) (q : ℕ) → IsRun q (list e) (index s) → RunOf kind e s q)
+    (run_in : (e : Lists) (s : State) (q : ℕ) → AreContiguous kind e s q → IsContiguous q (list e) (index s))
+    (run_out : (e : Lists) (s : State) (q : ℕ) → IsContiguous q (list e) (index s) → AreContiguous kind e s q)
     (states : List State) (e : Lists) (from : ℕ) (f : Edge L) (s : State) (n : ℕ)
     (here : slice_get states from ≡ Some s) (long : n ≡ length (list e)) (same : f.from ≡ from) where
-  pub AllRun-pushed : IsOpen from (list e) → AllRun states e → (t : State) → t ≡ with_index s (first_set (index s) n) → (es : List (Edge L)) → es ≡ list e ++ f ∷ [] → AllRun (set states from t) (with_list e es)
-  AllRun-pushed free old t is es more k q u found =
+  pub AllContiguous-pushed : IsOpen from (list e) → AllContiguous states e → (t : State) → t ≡ with_index s (first_set (index s) n) → (es : List (Edge L)) → es ≡ list e ++ f ∷ [] → AllContiguous (set states from t) (with_list e es)
+  AllContiguous-pushed free old t is es more k q u found =
       elim (eqb_tells q from) [ inl y ↦ first_case y.1 | inr y ↦ other_case y.1 ]
     where
       inside : from < length states
       inside = slice_get_within states from s here
 
-      first_case : q ≡ from → RunOf k (with_list e es) u q
+      first_case : q ≡ from → AreContiguous k (with_list e es) u q
       first_case at =
           let now : u ≡ with_index s (first_set (index s) n) = sym (get_or_from_slice_get (set states from t) q u t found) ∙ (ap (λ i. get_or (set states from t) i t) at ∙ (get_or-set_same states from t t inside ∙ is)) in
-          let run = IsRun-open from (list e) f n (index s) long same free (run_in e s from (old kind from s here)) in
-          let done : RunOf kind (with_list e es) (with_index s (first_set (index s) n)) from = run_out (with_list e es) (with_index s (first_set (index s) n)) from (rw (list_written e es, more, index_written s (first_set (index s) n)) run) in
-          let goal : RunOf k (with_list e es) (with_index s (first_set (index s) n)) from = RunOf-kept kind k e (with_list e es) s (with_index s (first_set (index s) n)) from (other_lists_kept e es) (other_indices_kept s (first_set (index s) n)) done (old k from s here) in
-          subst (λ v. RunOf k (with_list e es) v q) (sym now) (subst (λ i. RunOf k (with_list e es) (with_index s (first_set (index s) n)) i) (sym at) goal)
+          let run = IsContiguous-open from (list e) f n (index s) long same free (run_in e s from (old kind from s here)) in
+          let done : AreContiguous kind (with_list e es) (with_index s (first_set (index s) n)) from = run_out (with_list e es) (with_index s (first_set (index s) n)) from (rw (list_written e es, more, index_written s (first_set (index s) n)) run) in
+          let goal : AreContiguous k (with_list e es) (with_index s (first_set (index s) n)) from = AreContiguous-kept kind k e (with_list e es) s (with_index s (first_set (index s) n)) from (other_lists_kept e es) (other_indices_kept s (first_set (index s) n)) done (old k from s here) in
+          subst (λ v. AreContiguous k (with_list e es) v q) (sym now) (subst (λ i. AreContiguous k (with_list e es) (with_index s (first_set (index s) n)) i) (sym at) goal)
 
-      other_case : q ≢ from → RunOf k (with_list e es) u q
+      other_case : q ≢ from → AreContiguous k (with_list e es) u q
       other_case ne =
           let there : q < length states = let w = slice_get_within (set states from t) q u found in omega (arith, w, length-set states from t) in
           let was : slice_get states q ≡ Some u = slice_get-get_or states q u there ∙ ap (λ v. Some v) (sym (get_or-set_other states from q t u ne) ∙ get_or_from_slice_get (set states from t) q u u found) in
-          let run = IsRun-other q (list e) f (index u) (λ h. ne (sym h ∙ same)) (run_in e u q (old kind q u was)) in
-          RunOf-kept kind k e (with_list e es) u u q (other_lists_kept e es) (SameFirstsBut-self kind u) (run_out (with_list e es) u q (rw (list_written e es, more) run)) (old k q u was)
+          let run = IsContiguous-other q (list e) f (index u) (λ h. ne (sym h ∙ same)) (run_in e u q (old kind q u was)) in
+          AreContiguous-kept kind k e (with_list e es) u u q (other_lists_kept e es) (SameFirstsBut-self kind u) (run_out (with_list e es) u q (rw (list_written e es, more) run)) (old k q u was)
 
   pub kinds-pushed : (t : State) → t ≡ with_index s (first_set (index s) n) → kinds_of (set states from t) ≡ kinds_of states
   kinds-pushed t is = map-set_same (λ v. v.kind) states from t t (ap (λ v. v.kind) is ∙ (SameFirstsBut-kind kind s _ (other_indices_kept s (first_set (index s) n)) ∙ ap (λ v. v.kind) (sym (get_or_from_slice_get states from s t here))))

@@ -6,16 +6,16 @@ use Rattle.lalrpop_hir.specs.Range.{Range, Covers, Covered}
 use Rattle.lalrpop_hir.specs.Language.{Words, Then, Power}
 use Rattle.lalrpop_hir.proofs.Powers.{Optional, Star}
 use Rattle.lalrpop_nfa.specs.Lists.{Lists}
-use Rattle.lalrpop_nfa.specs.Path.{noop, test, other, Path, here, skip, read, fall}
+use Rattle.lalrpop_nfa.specs.Path.{noop, test, other, Path, here, epsilon, read, otherwise}
 use Rattle.lalrpop_nfa.specs.Compiled.{accept_state, reject_state}
 use Rattle.lalrpop_nfa.proofs.Contained.{contains_none, contains_cases, contains_first, contains_later, contains_only}
 
 -- how many edges the steps take
 abbrev pub steps : (e : Lists) (last p : ℕ) (w : List ℕ) → Path e last p w → ℕ
 steps e last _ _ (here p s) = 0
-steps e last _ _ (skip p q w m h) = suc (steps e last q w h)
+steps e last _ _ (epsilon p q w m h) = suc (steps e last q w h)
 steps e last _ _ (read p q w r c m k h) = suc (steps e last q w h)
-steps e last _ _ (fall p q w c m k h) = suc (steps e last q w h)
+steps e last _ _ (otherwise p q w c m k h) = suc (steps e last q w h)
 
 -- a word of one value that some range of the list covers
 abbrev pub OneOf : List Range → Words
@@ -105,12 +105,12 @@ module _ (e : Lists) where
         };
   }
 
-  fork_out : (s : ℕ) (qs : List ℕ) → Forks s qs → (w : List ℕ) (h : Path e accept_state s w)
+  alternation_out : (s : ℕ) (qs : List ℕ) → Forks s qs → (w : List ℕ) (h : Path e accept_state s w)
       → (q : ℕ) × (m : Contains qs q) × (g : Path e accept_state q w) × (steps e accept_state q w g < steps e accept_state s w h)
-  fork_out _ qs f _ (here s x) = absurd (f.on x)
-  fork_out _ qs f _ (skip s q w m h) = (q, f.only q m, h, omega arith)
-  fork_out _ qs f _ (read s q w r c m k h) = absurd (f.no_test r q m)
-  fork_out _ qs f _ (fall s q w c m k h) = absurd (f.no_other q m)
+  alternation_out _ qs f _ (here s x) = absurd (f.on x)
+  alternation_out _ qs f _ (epsilon s q w m h) = (q, f.only q m, h, omega arith)
+  alternation_out _ qs f _ (read s q w r c m k h) = absurd (f.no_test r q m)
+  alternation_out _ qs f _ (otherwise s q w c m k h) = absurd (f.no_other q m)
 
   pub FromSome-none : (target : ℕ) → ReadsFromSome (λ w. ⊥) target []
   FromSome-none target = record { into = λ u v h g. absurd h; out = λ q m w h. absurd (contains_none q m) }
@@ -129,18 +129,18 @@ module _ (e : Lists) where
         | inr k ↦ (λ h. Cut-weaker Q (λ w. P w ⊎ Q w) target w (steps e accept_state q w h) (steps e accept_state q w h) (λ u k. inr k) (le_refl (steps e accept_state q w h)) (y.out q k w h))
       ]
 
-  pub Reads-fork : (P : Words) (target s : ℕ) (qs : List ℕ) → Forks s qs → ReadsFromSome P target qs → Reads P target s
-  Reads-fork P target s qs f x = record {
-    into = λ u v h g. let r = x.into u v h g in skip s r.0 (u ++ v) (f.all r.0 r.1.0) r.1.1;
+  pub Reads-alternation_expr : (P : Words) (target s : ℕ) (qs : List ℕ) → Forks s qs → ReadsFromSome P target qs → Reads P target s
+  Reads-alternation_expr P target s qs f x = record {
+    into = λ u v h g. let r = x.into u v h g in epsilon s r.0 (u ++ v) (f.all r.0 r.1.0) r.1.1;
     out = λ w h.
-        let o = fork_out s qs f w h in
+        let o = alternation_out s qs f w h in
         Cut-weaker P P target w (steps e accept_state o.0 w o.2) (steps e accept_state s w h) (λ u k. k) (omega (arith, o.3)) (x.out o.0 o.1 w o.2);
   }
 
-  pub Reads-optional : (P : Words) (target s p : ℕ) → Forks s (target ∷ p ∷ []) → Reads P target p → Reads (Optional P) target s
-  Reads-optional P target s p f x =
+  pub Reads-optional_expr : (P : Words) (target s p : ℕ) → Forks s (target ∷ p ∷ []) → Reads P target p → Reads (Optional P) target s
+  Reads-optional_expr P target s p f x =
       Reads-same (λ w. (w ≡ []) ⊎ (P w ⊎ ⊥)) (Optional P) target s given taken
-      (Reads-fork (λ w. (w ≡ []) ⊎ (P w ⊎ ⊥)) target s (target ∷ p ∷ []) f
+      (Reads-alternation_expr (λ w. (w ≡ []) ⊎ (P w ⊎ ⊥)) target s (target ∷ p ∷ []) f
       (FromSome-also (λ w. w ≡ []) (λ w. P w ⊎ ⊥) target target (p ∷ []) (Reads-empty target)
       (FromSome-also P (λ w. ⊥) target p [] x (FromSome-none target))))
     where
@@ -155,16 +155,16 @@ module _ (e : Lists) where
 
   module _ (P : Words) (target s p : ℕ) (f : Forks s (target ∷ p ∷ [])) (x : Reads P s p) where
     star_into : (k : ℕ) (u v : List ℕ) → Power k P u → Path e accept_state target v → Path e accept_state s (u ++ v)
-    star_into zero u v h g = skip s target (u ++ v) (f.all target (contains_first target (p ∷ []))) (rw h g)
+    star_into zero u v h g = epsilon s target (u ++ v) (f.all target (contains_first target (p ∷ []))) (rw h g)
     star_into (suc k) u v h g =
-        skip s p (u ++ v) (f.all p (contains_later target (p ∷ []) p (contains_first p [])))
+        epsilon s p (u ++ v) (f.all p (contains_later target (p ∷ []) p (contains_first p [])))
         (subst (λ w. Path e accept_state p w) (sym (ap (λ z. z ++ v) h.2.0 ∙ append_assoc h.0 h.1 v))
         (x.into h.0 (h.1 ++ v) h.2.1 (star_into k h.1 v h.2.2 g)))
 
     star_out : (n : ℕ) (w : List ℕ) (h : Path e accept_state s w) → steps e accept_state s w h ≤ n → Cut (Star P) target w (steps e accept_state s w h)
-    star_out zero w h le = absurd (omega (arith, (fork_out s (target ∷ p ∷ []) f w h).3))
+    star_out zero w h le = absurd (omega (arith, (alternation_out s (target ∷ p ∷ []) f w h).3))
     star_out (suc n) w h le =
-        let o = fork_out s (target ∷ p ∷ []) f w h in
+        let o = alternation_out s (target ∷ p ∷ []) f w h in
         elim (contains_cases target (p ∷ []) o.0 o.1) [
           | inl same ↦ subst (λ z. (g : Path e accept_state z w) → steps e accept_state z w g < steps e accept_state s w h → Cut (Star P) target w (steps e accept_state s w h)) same
               (λ g l. record { first = []; rest = w; path = g; same = refl; is = (0, refl); few = omega arith }) o.2 o.3
@@ -191,12 +191,12 @@ module _ (e : Lists) where
   module _ (dead : (w : List ℕ) → Path e accept_state reject_state w → ⊥) (rs : List Range) (target : ℕ) where
     test_out : (s : ℕ) (f : Tests rs target s) (w : List ℕ) (h : Path e accept_state s w) → Cut (OneOf rs) target w (steps e accept_state s w h)
     test_out _ f _ (here s x) = absurd (f.on x)
-    test_out _ f _ (skip s q w m h) = absurd (f.no_noop q m)
+    test_out _ f _ (epsilon s q w m h) = absurd (f.no_noop q m)
     test_out _ f _ (read s q w r c m k h) =
         let o = f.only r q m in
         subst (λ z. (g : Path e accept_state z w) → steps e accept_state z w g ≤ steps e accept_state q w h → Cut (OneOf rs) target (c ∷ w) (suc (steps e accept_state q w h))) (sym o.0)
         (λ g l. record { first = c ∷ []; rest = w; path = g; same = refl; is = (c, (refl, covered_in rs r c o.1 k)); few = omega arith }) h (le_refl (steps e accept_state q w h))
-    test_out _ f _ (fall s q w c m k h) = absurd (dead w (subst (λ z. Path e accept_state z w) (f.others q m) h))
+    test_out _ f _ (otherwise s q w c m k h) = absurd (dead w (subst (λ z. Path e accept_state z w) (f.others q m) h))
 
     pub Reads-test : (s : ℕ) → Tests rs target s → Reads (OneOf rs) target s
     Reads-test s f = record {

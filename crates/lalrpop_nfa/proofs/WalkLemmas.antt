@@ -7,7 +7,7 @@ use Rattle.std.proofs.lemmas.List.Elements.{filter-append}
 use Rattle.std.proofs.lemmas.List.{drop-append-le, take-append-drop}
 use Rattle.std.proofs.Math.Seq.{drop-append_seam, drop-cons}
 use Rattle.lalrpop_nfa.specs.declared.edge.Edge.{Edge}
-use Rattle.lalrpop_nfa.specs.Walk.{leaves, walk, IsAt, IsRun}
+use Rattle.lalrpop_nfa.specs.Walk.{leaves, walk, IsAt, IsContiguous}
 
 module _ {X : Type 0} (p : X → Bool) where
   filter_last_other : (xs : List X) (e : X) → p e ≡ false → filter p (xs ++ e ∷ []) ≡ filter p xs
@@ -53,9 +53,9 @@ drop_inside i xs x others h = omega (arith, length-drop i xs, ap length h)
 
 module _ {L : Type 0} (q : ℕ) (es : List (Edge L)) (f : Edge L) where
   -- an edge of another state leaves the run as it is
-  pub IsRun-other : (first : Option ℕ) → f.from ≢ q → IsRun q es first → IsRun q (es ++ f ∷ []) first
-  IsRun-other None ne r = record { at = tt; all = filter_last_other (leaves q) es f (ne_eqb f.from q ne) ∙ r.all }
-  IsRun-other (Some i) ne r =
+  pub IsContiguous-other : (first : Option ℕ) → f.from ≢ q → IsContiguous q es first → IsContiguous q (es ++ f ∷ []) first
+  IsContiguous-other None ne r = record { at = tt; all = filter_last_other (leaves q) es f (ne_eqb f.from q ne) ∙ r.all }
+  IsContiguous-other (Some i) ne r =
       let cut : drop i (es ++ f ∷ []) ≡ drop i es ++ f ∷ [] = drop-append-le i es (f ∷ []) (let h = drop_inside i es r.at.0 r.at.1 r.at.2 in omega arith) in
       record {
         at = (r.at.0, r.at.1 ++ f ∷ [], cut ∙ ap (λ ys. ys ++ f ∷ []) r.at.2, r.at.3);
@@ -63,8 +63,8 @@ module _ {L : Type 0} (q : ℕ) (es : List (Edge L)) (f : Edge L) where
       }
 
   -- the first edge of a state begins its run
-  pub IsRun-first : f.from ≡ q → filter (leaves q) es ≡ [] → IsRun q (es ++ f ∷ []) (Some (length es))
-  IsRun-first same none =
+  pub IsContiguous-first : f.from ≡ q → filter (leaves q) es ≡ [] → IsContiguous q (es ++ f ∷ []) (Some (length es))
+  IsContiguous-first same none =
       let yes = eq-eqb f.from q same in
       let cut = drop-append_seam es (f ∷ []) in
       record {
@@ -73,10 +73,10 @@ module _ {L : Type 0} (q : ℕ) (es : List (Edge L)) (f : Edge L) where
       }
 
   -- a further edge goes to the end of the run, which is the end of the list
-  pub IsRun-next : (first : Option ℕ) (before : List (Edge L)) (e : Edge L) → f.from ≡ q → es ≡ before ++ e ∷ [] → e.from ≡ q → IsRun q es first → IsRun q (es ++ f ∷ []) first
-  IsRun-next None before e same is here r =
+  pub IsContiguous-next : (first : Option ℕ) (before : List (Edge L)) (e : Edge L) → f.from ≡ q → es ≡ before ++ e ∷ [] → e.from ≡ q → IsContiguous q es first → IsContiguous q (es ++ f ∷ []) first
+  IsContiguous-next None before e same is here r =
       absurd (not_nil (leaves q) (filter (leaves q) before) e (sym (filter_last_this (leaves q) before e (eq-eqb e.from q here)) ∙ (ap (filter (leaves q)) (sym is) ∙ r.all)))
-  IsRun-next (Some i) before e same is here r =
+  IsContiguous-next (Some i) before e same is here r =
       let p : Edge L → Bool = leaves q in
       let yes = eq-eqb f.from q same in
       let inside = drop_inside i es r.at.0 r.at.1 r.at.2 in
@@ -96,5 +96,5 @@ pub IsAt-read : {L : Type 0} (q i : ℕ) (es : List (Edge L)) (x : Edge L) → i
 IsAt-read q i es x inside read same = (x, drop (suc i) es, drop-cons es i x inside ∙ ap (λ y. y ∷ drop (suc i) es) (sym read), same)
 
 -- what an iterator over the run has left, and that it stands at an edge
-pub IsRun-elsewhere : {L : Type 0} (q r : ℕ) (es fs : List (Edge L)) (i j : Option ℕ) → q ≡ r → es ≡ fs → i ≡ j → IsRun q es i → IsRun r fs j
-IsRun-elsewhere q r es fs i j a b d run = rw (← a, ← b, ← d) run
+pub IsContiguous-elsewhere : {L : Type 0} (q r : ℕ) (es fs : List (Edge L)) (i j : Option ℕ) → q ≡ r → es ≡ fs → i ≡ j → IsContiguous q es i → IsContiguous r fs j
+IsContiguous-elsewhere q r es fs i j a b d run = rw (← a, ← b, ← d) run

@@ -1,7 +1,7 @@
 pub mod Adjacent
 pub mod Added
-pub mod Noted
-pub mod Shape
-pub mod Sound
-pub mod Grows
-pub mod Layers
+pub mod FirstSet
+pub mod Fragment
+pub mod Valid
+pub mod Extends
+pub mod StateSets

@@ -1,13 +1,13 @@
 -- what the contracts of this crate name of the one below
 pub use Rattle.lalrpop_ranges.specs.Meet
 pub mod Fault
-pub mod Beginning
+pub mod Prefix
 pub mod Walk
 pub mod Lists
 pub mod Firsts
 pub mod StateView
 pub mod Lending
-pub mod SideBySide
+pub mod Contiguous
 pub mod Graph
 pub mod Path
 pub mod Compiled

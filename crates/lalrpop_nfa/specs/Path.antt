@@ -37,8 +37,8 @@ pub data Path (e : Lists) (last : ℕ) : ℕ → List ℕ → Type 0 where
   -- no step
   here : (p : ℕ) → p ≡ last → Path e last p []
   -- a `Noop` edge reads nothing
-  skip : (p q : ℕ) (w : List ℕ) → Contains e.noops (noop p q) → Path e last q w → Path e last p w
+  epsilon : (p q : ℕ) (w : List ℕ) → Contains e.noops (noop p q) → Path e last q w → Path e last p w
   -- a `Test` edge reads a value of its range
   read : (p q : ℕ) (w : List ℕ) (r : Range) (c : ℕ) → Contains e.tests (test p r q) → Covers r c → Path e last q w → Path e last p (c ∷ w)
   -- an `Other` edge reads a value that no test edge of its state covers
-  fall : (p q : ℕ) (w : List ℕ) (c : ℕ) → Contains e.others (other p q) → IsUntested e p c → Path e last q w → Path e last p (c ∷ w)
+  otherwise : (p q : ℕ) (w : List ℕ) (c : ℕ) → Contains e.others (other p q) → IsUntested e p c → Path e last q w → Path e last p (c ∷ w)

@@ -24,6 +24,6 @@ IsAt q es None = Unit {0}
 IsAt {L} q es (Some i) = (e : Edge L) × (others : List (Edge L)) × (drop i es ≡ e ∷ others) × (e.from ≡ q)
 
 -- the edges of this state stand side by side from the index on
-pub record IsRun {L : Type 0} (q : ℕ) (es : List (Edge L)) (first : Option ℕ) : Type 0 where
+pub record IsContiguous {L : Type 0} (q : ℕ) (es : List (Edge L)) (first : Option ℕ) : Type 0 where
   pub at : IsAt q es first
   pub all : filter (leaves q) es ≡ walk_at q es first

@@ -8,10 +8,10 @@ ghost use Rattle.lalrpop_hir.specs.Level.{class_of};
 ghost use Rattle.lalrpop_nfa.specs.Internal.Added.{with_edges, with_kind};
 ghost use Rattle.lalrpop_nfa.specs.Walk.{leaves};
 ghost use Rattle.lalrpop_nfa.specs.Fault.{fault, greedy_fault, first_fault, last_fault};
-ghost use Rattle.lalrpop_nfa.specs.Internal.Sound.{AreCodeValues, IsSoundClass, IsSoundRepeated, AreSound, IsSound};
+ghost use Rattle.lalrpop_nfa.specs.Internal.Valid.{AreCodeValues, IsValidClass, IsValidRepeated, AreValid, IsValid};
 ghost use Rattle.lalrpop_nfa.specs.Path.{noop};
-ghost use Rattle.lalrpop_nfa.specs.Internal.Shape as made;
-ghost use Rattle.lalrpop_nfa.specs.Internal.Grows.{Grows, LeavesStates, IsFine};
+ghost use Rattle.lalrpop_nfa.specs.Internal.Fragment as made;
+ghost use Rattle.lalrpop_nfa.specs.Internal.Extends.{Extends, LeavesStates, IsCompilable};
 
 use super::{
     ACCEPT, Edges, Nfa, NfaConstructionError, NfaStateIndex, Noop, Other, REJECT, START, State,
@@ -80,9 +80,13 @@ impl Nfa {
     //     [state] --c------> [target]
     //        |
     //        +-----other---> [REJECT]
-    fn letter(&mut self, c: char, target: NfaStateIndex) -> Result<NfaStateIndex, AllocError>
+    fn character_expr(
+        &mut self,
+        c: char,
+        target: NfaStateIndex,
+    ) -> Result<NfaStateIndex, AllocError>
         requires { LeavesStates self.old }
-        ensures { IfOk result (Grows (made.letter c) target self.old self.new) }
+        ensures { IfOk result (Extends (made.character_expr c) target self.old self.new) }
     {
         let state = self.new_state(StateKind::Neither)?;
         self.push_edge(state, Test::char(c), target)?;
@@ -93,14 +97,18 @@ impl Nfa {
     // A state for each character of the text, the last first. For the text `abc`:
     //
     //     [entry] --a--> [ ] --b--> [ ] --c--> [target]      and from each --other--> [REJECT]
-    fn literal(&mut self, text: &str, target: NfaStateIndex) -> Result<NfaStateIndex, AllocError>
+    fn literal_text_expr(
+        &mut self,
+        text: &str,
+        target: NfaStateIndex,
+    ) -> Result<NfaStateIndex, AllocError>
         requires { LeavesStates self.old }
-        ensures grown { IfOk result (Grows (made.letters (chars text.now)) target self.old self.new) }
-        ensures sound { OnOk result (AreCodeValues (chars text.now)) }
+        ensures extended { IfOk result (Extends (made.literal_expr (chars text.now)) target self.old self.new) }
+        ensures valid { OnOk result (AreCodeValues (chars text.now)) }
     {
         let mut entry = target;
         for c in text.chars().rev() {
-            entry = self.letter(c, entry)?;
+            entry = self.character_expr(c, entry)?;
         }
         Ok(entry)
     }
@@ -110,13 +118,13 @@ impl Nfa {
     //     [state] --first range---> [target]
     //        |  +---second range--> [target]
     //        +------other---------> [REJECT]
-    fn characters(
+    fn unicode_class_expr(
         &mut self,
         ranges: &[ClassUnicodeRange],
         target: NfaStateIndex,
     ) -> Result<NfaStateIndex, AllocError>
         requires { LeavesStates self.old }
-        ensures { IfOk result (Grows (made.one_of ranges.now) target self.old self.new) }
+        ensures { IfOk result (Extends (made.one_of ranges.now) target self.old self.new) }
     {
         let state = self.new_state(StateKind::Neither)?;
         for range in ranges {
@@ -127,13 +135,13 @@ impl Nfa {
     }
 
     // A state for a set of bytes, with edges like those of a set of characters.
-    fn bytes(
+    fn bytes_class_expr(
         &mut self,
         ranges: &[ClassBytesRange],
         target: NfaStateIndex,
     ) -> Result<NfaStateIndex, AllocError>
         requires { LeavesStates self.old }
-        ensures { IfOk result (Grows (made.one_of ranges.now) target self.old self.new) }
+        ensures { IfOk result (Extends (made.one_of ranges.now) target self.old self.new) }
     {
         let state = self.new_state(StateKind::Neither)?;
         for range in ranges {
@@ -144,14 +152,18 @@ impl Nfa {
     }
 
     // A state for a class.
-    fn class(&mut self, class: &Class, target: NfaStateIndex) -> Result<NfaStateIndex, AllocError>
+    fn class_expr(
+        &mut self,
+        class: &Class,
+        target: NfaStateIndex,
+    ) -> Result<NfaStateIndex, AllocError>
         requires { LeavesStates self.old }
-        ensures grown { IfOk result (Grows (made.class_way (class_of class.now)) target self.old self.new) }
-        ensures sound { OnOk result (IsSoundClass (class_of class.now)) }
+        ensures extended { IfOk result (Extends (made.class_construction (class_of class.now)) target self.old self.new) }
+        ensures valid { OnOk result (IsValidClass (class_of class.now)) }
     {
         match class {
-            Class::Unicode(class) => self.characters(class.ranges(), target),
-            Class::Bytes(class) => self.bytes(class.ranges(), target),
+            Class::Unicode(class) => self.unicode_class_expr(class.ranges(), target),
+            Class::Bytes(class) => self.bytes_class_expr(class.ranges(), target),
         }
     }
 
@@ -163,19 +175,19 @@ impl Nfa {
         target: NfaStateIndex,
     ) -> Result<NfaStateIndex, NfaConstructionError>
         requires { LeavesStates self.old }
-        ensures grown { IfOk result (Grows (made.shape hir.now) target self.old self.new) }
+        ensures extended { IfOk result (Extends (made.fragment_of hir.now) target self.old self.new) }
         ensures no_fault { OnOk result (fault hir.now ≡ None) }
-        ensures sound { OnOk result (IsSound hir.now) }
+        ensures valid { OnOk result (IsValid hir.now) }
         ensures err { IfErr result (λ e. e ≢ NfaConstructionError.OutOfMemory → fault hir.now ≡ Some e) }
     {
         match hir.kind() {
             HirKind::Empty => Ok(target),
-            HirKind::Literal(literal) => Ok(self.literal(literal.as_str(), target)?),
-            HirKind::Class(class) => Ok(self.class(class, target)?),
+            HirKind::Literal(literal) => Ok(self.literal_text_expr(literal.as_str(), target)?),
+            HirKind::Class(class) => Ok(self.class_expr(class, target)?),
             HirKind::Look(_) => Err(NfaConstructionError::LookAround),
             HirKind::Repetition(repetition) => {
                 if repetition.greedy() {
-                    self.turns(repetition, target)
+                    self.repeat_expr(repetition, target)
                 } else {
                     Err(NfaConstructionError::NonGreedy)
                 }
@@ -184,36 +196,36 @@ impl Nfa {
                 Some(_) => Err(NfaConstructionError::NamedCaptures),
                 None => self.expr(capture.sub(), target),
             },
-            HirKind::Concat(subs) => self.in_turn(subs, target),
-            HirKind::Alternation(subs) => self.fork(subs, target),
+            HirKind::Concat(subs) => self.concat_expr(subs, target),
+            HirKind::Alternation(subs) => self.alternation_expr(subs, target),
         }
     }
 
     // A greedy repetition.
     #[cycle(expr)]
-    fn turns(
+    fn repeat_expr(
         &mut self,
         repetition: &Repetition,
         target: NfaStateIndex,
     ) -> Result<NfaStateIndex, NfaConstructionError>
         requires { LeavesStates self.old }
-        ensures grown { IfOk result (Grows (made.turns (made.shape repetition.now.sub) repetition.now.min repetition.now.max) target self.old self.new) }
+        ensures extended { IfOk result (Extends (made.repeat_expr (made.fragment_of repetition.now.sub) repetition.now.min repetition.now.max) target self.old self.new) }
         ensures no_fault { OnOk result (greedy_fault repetition.now.max (fault repetition.now.sub) ≡ None) }
-        ensures sound { OnOk result (AreOrdered repetition.now.min repetition.now.max × IsSoundRepeated repetition.now.max (IsSound repetition.now.sub)) }
+        ensures valid { OnOk result (AreOrdered repetition.now.min repetition.now.max × IsValidRepeated repetition.now.max (IsValid repetition.now.sub)) }
         ensures err { IfErr result (λ e. e ≢ NfaConstructionError.OutOfMemory → greedy_fault repetition.now.max (fault repetition.now.sub) ≡ Some e) }
     {
         let sub = repetition.sub();
         let min = repetition.min();
         match repetition.max() {
             Some(max) => {
-                let entry = self.optionals(sub, max - min, target)?;
+                let entry = self.optional_copies(sub, max - min, target)?;
                 self.copies(sub, min, entry)
             }
             None => {
-                let (state, turn) = self.any_turns(sub, target)?;
+                let (state, sub_entry) = self.star_expr(sub, target)?;
                 match min {
                     0 => Ok(state),
-                    1 => Ok(turn),
+                    1 => Ok(sub_entry),
                     _ => self.copies(sub, min, state),
                 }
             }
@@ -228,21 +240,21 @@ impl Nfa {
     //      v   |
     //     [turn: the sub]
     #[cycle(expr)]
-    fn any_turns(
+    fn star_expr(
         &mut self,
         sub: &Hir,
         target: NfaStateIndex,
     ) -> Result<(NfaStateIndex, NfaStateIndex), NfaConstructionError>
         requires { LeavesStates self.old }
-        ensures any { IfOk result (λ p. Grows (made.any_turns (made.shape sub.now)) target self.old self.new p.0) }
-        ensures some { IfOk result (λ p. Grows (made.some_turns (made.shape sub.now)) target self.old self.new p.1) }
-        ensures fine { OnOk result (IsFine sub.now) }
+        ensures any { IfOk result (λ p. Extends (made.star_expr (made.fragment_of sub.now)) target self.old self.new p.0) }
+        ensures some { IfOk result (λ p. Extends (made.plus_expr (made.fragment_of sub.now)) target self.old self.new p.1) }
+        ensures compilable { OnOk result (IsCompilable sub.now) }
         ensures err { IfErr result (λ e. e ≢ NfaConstructionError.OutOfMemory → fault sub.now ≡ Some e) }
     {
         let state = self.new_state(StateKind::Neither)?;
-        let turn = self.expr(sub, state)?;
-        self.push_noops(state, &[target, turn])?;
-        Ok((state, turn))
+        let sub_entry = self.expr(sub, state)?;
+        self.push_noops(state, &[target, sub_entry])?;
+        Ok((state, sub_entry))
     }
 
     // So many copies, one towards the other. For three of them:
@@ -256,8 +268,8 @@ impl Nfa {
         target: NfaStateIndex,
     ) -> Result<NfaStateIndex, NfaConstructionError>
         requires { LeavesStates self.old }
-        ensures grown { IfOk result (Grows (made.copies (made.shape sub.now) count) target self.old self.new) }
-        ensures fine { OnOk result ((count ≡ 0) ⊎ IsFine sub.now) }
+        ensures extended { IfOk result (Extends (made.copies (made.fragment_of sub.now) count) target self.old self.new) }
+        ensures compilable { OnOk result ((count ≡ 0) ⊎ IsCompilable sub.now) }
         ensures err { IfErr result (λ e. e ≢ NfaConstructionError.OutOfMemory → (0 < count) × (fault sub.now ≡ Some e)) }
     {
         let mut entry = target;
@@ -269,20 +281,20 @@ impl Nfa {
 
     // So many copies, one towards the other, of which each may be left out.
     #[cycle(expr)]
-    fn optionals(
+    fn optional_copies(
         &mut self,
         sub: &Hir,
         count: u32,
         target: NfaStateIndex,
     ) -> Result<NfaStateIndex, NfaConstructionError>
         requires { LeavesStates self.old }
-        ensures grown { IfOk result (Grows (made.optionals (made.shape sub.now) count) target self.old self.new) }
-        ensures fine { OnOk result ((count ≡ 0) ⊎ IsFine sub.now) }
+        ensures extended { IfOk result (Extends (made.optional_copies (made.fragment_of sub.now) count) target self.old self.new) }
+        ensures compilable { OnOk result ((count ≡ 0) ⊎ IsCompilable sub.now) }
         ensures err { IfErr result (λ e. e ≢ NfaConstructionError.OutOfMemory → (0 < count) × (fault sub.now ≡ Some e)) }
     {
         let mut entry = target;
         for _ in 0..count {
-            entry = self.optional(sub, entry)?;
+            entry = self.optional_expr(sub, entry)?;
         }
         Ok(entry)
     }
@@ -293,19 +305,19 @@ impl Nfa {
     //        |                                 ^
     //        +------noop--> [turn: the sub] ---+
     #[cycle(expr)]
-    fn optional(
+    fn optional_expr(
         &mut self,
         sub: &Hir,
         target: NfaStateIndex,
     ) -> Result<NfaStateIndex, NfaConstructionError>
         requires { LeavesStates self.old }
-        ensures grown { IfOk result (Grows (made.optional (made.shape sub.now)) target self.old self.new) }
-        ensures fine { OnOk result (IsFine sub.now) }
+        ensures extended { IfOk result (Extends (made.optional_expr (made.fragment_of sub.now)) target self.old self.new) }
+        ensures compilable { OnOk result (IsCompilable sub.now) }
         ensures err { IfErr result (λ e. e ≢ NfaConstructionError.OutOfMemory → fault sub.now ≡ Some e) }
     {
-        let turn = self.expr(sub, target)?;
+        let sub_entry = self.expr(sub, target)?;
         let state = self.new_state(StateKind::Neither)?;
-        self.push_noops(state, &[target, turn])?;
+        self.push_noops(state, &[target, sub_entry])?;
         Ok(state)
     }
 
@@ -313,15 +325,15 @@ impl Nfa {
     //
     //     [entry: first] --> [second] --> [third] --> [target]
     #[cycle(expr)]
-    fn in_turn(
+    fn concat_expr(
         &mut self,
         subs: &[Hir],
         target: NfaStateIndex,
     ) -> Result<NfaStateIndex, NfaConstructionError>
         requires { LeavesStates self.old }
-        ensures grown { IfOk result (Grows (made.in_turn (trees subs.now)) target self.old self.new) }
+        ensures extended { IfOk result (Extends (made.concat_expr (trees subs.now)) target self.old self.new) }
         ensures no_fault { OnOk result (last_fault (trees subs.now) ≡ None) }
-        ensures sound { OnOk result (AreSound (trees subs.now)) }
+        ensures valid { OnOk result (AreValid (trees subs.now)) }
         ensures err { IfErr result (λ e. e ≢ NfaConstructionError.OutOfMemory → last_fault (trees subs.now) ≡ Some e) }
     {
         let mut entry = target;
@@ -337,15 +349,15 @@ impl Nfa {
     //        |                              ^
     //        +------noop--> [second] -------+
     #[cycle(expr)]
-    fn fork(
+    fn alternation_expr(
         &mut self,
         subs: &[Hir],
         target: NfaStateIndex,
     ) -> Result<NfaStateIndex, NfaConstructionError>
         requires { LeavesStates self.old }
-        ensures grown { IfOk result (Grows (made.fork (made.branches (trees subs.now))) target self.old self.new) }
+        ensures extended { IfOk result (Extends (made.alternation_expr (made.branches (trees subs.now))) target self.old self.new) }
         ensures no_fault { OnOk result (first_fault (trees subs.now) ≡ None) }
-        ensures sound { OnOk result (AreSound (trees subs.now)) }
+        ensures valid { OnOk result (AreValid (trees subs.now)) }
         ensures err { IfErr result (λ e. e ≢ NfaConstructionError.OutOfMemory → first_fault (trees subs.now) ≡ Some e) }
     {
         let state = self.new_state(StateKind::Neither)?;

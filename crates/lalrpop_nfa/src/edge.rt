@@ -1,6 +1,6 @@
 ghost use Rattle.std.specs.Prelude.{◌≡◌, ℕ, ◌+◌, ◌<◌, List, Option};
 ghost use Rattle.std.specs.Borrow.{sem};
-ghost use Rattle.lalrpop_nfa.specs.Internal.Noted.{first_set};
+ghost use Rattle.lalrpop_nfa.specs.Internal.FirstSet.{first_set};
 
 use lalrpop_ranges::Test;
 use std::fmt;
@@ -104,8 +104,8 @@ pub trait EdgeLabel: Sized {
     ghost use Rattle.lalrpop_nfa.specs.declared.edge.State.{State};
     ghost use Rattle.lalrpop_nfa.specs.Lists.{Lists};
     ghost use Rattle.lalrpop_nfa.specs.Firsts.{LabelKind, SameListsBut, SameFirstsBut};
-    ghost use Rattle.lalrpop_nfa.specs.Walk.{IsRun};
-    ghost use Rattle.lalrpop_nfa.specs.SideBySide.{RunOf};
+    ghost use Rattle.lalrpop_nfa.specs.Walk.{IsContiguous};
+    ghost use Rattle.lalrpop_nfa.specs.Contiguous.{AreContiguous};
     ghost use Rattle.lalrpop_nfa.specs.Lending.{LendsList, LendsFirst};
 
     // Which of the three lists, and which of the three indices, this label's are.
@@ -147,9 +147,9 @@ pub trait EdgeLabel: Sized {
     ghost other_indices_kept: { (s : State) (i : Option ℕ) → SameFirstsBut kind s (with_index s i) };
 
     // The run of this kind is the run of this list from this index on.
-    ghost run_in: { (e : Lists) (s : State) (q : ℕ) → RunOf kind e s q → IsRun q (list e) (index s) };
+    ghost run_in: { (e : Lists) (s : State) (q : ℕ) → AreContiguous kind e s q → IsContiguous q (list e) (index s) };
 
-    ghost run_out: { (e : Lists) (s : State) (q : ℕ) → IsRun q (list e) (index s) → RunOf kind e s q };
+    ghost run_out: { (e : Lists) (s : State) (q : ℕ) → IsContiguous q (list e) (index s) → AreContiguous kind e s q };
 }
 
 impl EdgeLabel for Noop {
@@ -294,7 +294,7 @@ impl EdgeLabel for Other {
 }
 
 // Notes the index where the state has no first index of this kind yet.
-pub(super) fn note_first<L: EdgeLabel>(state: &mut State, edge_index: usize)
+pub(super) fn set_first<L: EdgeLabel>(state: &mut State, edge_index: usize)
     ensures { state.new ≡ L.with_index state.old (first_set (L.index state.old) edge_index) }
 {
     let first = L::first_mut(state);

@@ -1,4 +1,4 @@
-//! The longest beginning of a text that one pattern matches, found by running its automaton.
+//! The longest prefix of a text that one pattern matches, found by running its automaton.
 
 ghost use Rattle.std.specs.Prelude.{◌≡◌, ℕ, ◌+◌, ◌*◌, ◌<◌, ◌≤◌, ◌↔◌, [], ◌∷◌, length, slice_get, Some, IfSome, IfOk, OnOk, IsTrue};
 ghost use Rattle.std.specs.List.{Contains};
@@ -7,24 +7,24 @@ ghost use Rattle.std.specs.Str.{chars};
 ghost use Rattle.lalrpop_hir.specs.Tree.{Tree};
 ghost use Rattle.lalrpop_hir.specs.Language.{Matches};
 ghost use Rattle.lalrpop_nfa.specs.Compiled.{IsCompiled, start_state};
-ghost use Rattle.lalrpop_nfa.specs.Internal.Layers.{IsLayer, IsGrown, Skips, IsClosure, IsMove};
+ghost use Rattle.lalrpop_nfa.specs.Internal.StateSets.{IsStateSet, IsGrown, IsEpsilonEdge, IsClosure, IsMove};
 ghost use Rattle.lalrpop_nfa.specs.Path.{Reads};
-ghost use Rattle.lalrpop_nfa.specs.Beginning.{IsBeginning, IsLongestOf};
+ghost use Rattle.lalrpop_nfa.specs.Prefix.{IsPrefix, IsLongestOf};
 ghost use Rattle.lalrpop_nfa.specs.declared.edge.StateKind.TheVariants.{Accept, Reject};
 
 use super::{Nfa, NfaStateIndex, Noop, Other, START, Steps, Test};
 use std::alloc::{AllocError, Global};
 use std::mem;
 
-/// The longest beginning of the text, the empty one included, that the automaton's pattern matches: a slice of the
-/// text, or `None` where the pattern matches no beginning.
+/// The longest prefix of the text, the empty one included, that the automaton's pattern matches: a slice of the
+/// text, or `None` where the pattern matches no prefix.
 pub fn interpret<'text>(
     alloc: Global,
     nfa: &Nfa,
     text: &'text str,
 ) -> Result<Option<&'text str>, AllocError>
     ensures answer { IfOk result (λ found. (t : Tree) → IsCompiled t nfa.now → IsLongestOf (Matches t) text.now (option_map (λ s. s.now) found)) }
-    ensures part { IfOk result (λ found. IfSome found (λ s. IsBeginning s.now text.now)) }
+    ensures prefix { IfOk result (λ found. IfSome found (λ s. IsPrefix s.now text.now)) }
 {
     interpret_counted(alloc, nfa, text, &mut Steps::new())
 }
@@ -37,63 +37,63 @@ pub fn interpret_counted<'text>(
     steps: &mut Steps,
 ) -> Result<Option<&'text str>, AllocError>
     ensures answer { IfOk result (λ found. (t : Tree) → IsCompiled t nfa.now → IsLongestOf (Matches t) text.now (option_map (λ s. s.now) found)) }
-    ensures part { IfOk result (λ found. IfSome found (λ s. IsBeginning s.now text.now)) }
+    ensures prefix { IfOk result (λ found. IfSome found (λ s. IsPrefix s.now text.now)) }
     ensures cost { steps.new ≤ steps.old + length nfa.now.kinds * (length (chars text.now) + 1) }
     ensures rises { steps.old ≤ steps.new }
 {
-    let mut layer = Layer::start(alloc, nfa, steps)?;
-    let mut next = Layer::empty(alloc, nfa.len())?;
-    let mut longest = if layer.accepts(nfa) {
+    let mut state_set = StateSet::start(alloc, nfa, steps)?;
+    let mut next = StateSet::empty(alloc, nfa.len())?;
+    let mut longest = if state_set.accepts(nfa) {
         Some(&text[..0])
     } else {
         None
     };
     for (offset, c) in text.char_indices() {
-        if layer.rejects(nfa) {
+        if state_set.rejects(nfa) {
             break;
         }
-        next.read_from(&layer, nfa, u32::from(c), steps)?;
-        mem::swap(&mut layer, &mut next);
-        if layer.accepts(nfa) {
+        next.read_from(&state_set, nfa, u32::from(c), steps)?;
+        mem::swap(&mut state_set, &mut next);
+        if state_set.accepts(nfa) {
             longest = Some(&text[..offset + c.len_utf8()]);
         }
     }
     Ok(longest)
 }
 
-// The states that one beginning of the text leads to. Each is listed once, however many edges lead there.
+// The states that one prefix of the text leads to. Each is listed once, however many edges lead there.
 #[derive(Drop)]
-struct Layer {
+struct StateSet {
     states: Vec<NfaStateIndex>,
     marks: Vec<bool>,
 }
 
-impl Layer {
-    fn empty(alloc: Global, len: usize) -> Result<Layer, AllocError>
-        ensures { IfOk result (λ l. IsLayer l.states.items l.marks.items × (l.states.items ≡ []) × (length l.marks.items ≡ len)) }
+impl StateSet {
+    fn empty(alloc: Global, len: usize) -> Result<StateSet, AllocError>
+        ensures { IfOk result (λ l. IsStateSet l.states.items l.marks.items × (l.states.items ≡ []) × (length l.marks.items ≡ len)) }
     {
-        Ok(Layer {
+        Ok(StateSet {
             states: Vec::new(alloc),
             marks: vec![in alloc; false; len]?,
         })
     }
 
     // The states that the empty word leads to.
-    fn start(alloc: Global, nfa: &Nfa, steps: &mut Steps) -> Result<Layer, AllocError>
-        ensures layer { IfOk result (λ l. IsLayer l.states.items l.marks.items × (length l.marks.items ≡ length nfa.now.kinds)) }
+    fn start(alloc: Global, nfa: &Nfa, steps: &mut Steps) -> Result<StateSet, AllocError>
+        ensures state_set { IfOk result (λ l. IsStateSet l.states.items l.marks.items × (length l.marks.items ≡ length nfa.now.kinds)) }
         ensures states { IfOk result (λ l. IsClosure nfa.now.edges (length nfa.now.kinds) (start_state ∷ []) l.states.items) }
         ensures cost { steps.new ≤ steps.old + length nfa.now.kinds }
         ensures rises { steps.old ≤ steps.new }
     {
-        let mut layer = Layer::empty(alloc, nfa.len())?;
-        layer.add(START, steps)?;
-        layer.close(nfa, steps)?;
-        Ok(layer)
+        let mut state_set = StateSet::empty(alloc, nfa.len())?;
+        state_set.add(START, steps)?;
+        state_set.close(nfa, steps)?;
+        Ok(state_set)
     }
 
     // Lists no state, with the memory that is there.
     fn clear(&mut self)
-        ensures layer { IsLayer self.new.states.items self.new.marks.items }
+        ensures state_set { IsStateSet self.new.states.items self.new.marks.items }
         ensures none { self.new.states.items ≡ [] }
         ensures size { length self.new.marks.items ≡ length self.old.marks.items }
     {
@@ -104,15 +104,15 @@ impl Layer {
     // Becomes the states that those of another layer lead to by reading the value.
     fn read_from(
         &mut self,
-        before: &Layer,
+        before: &StateSet,
         nfa: &Nfa,
         value: u32,
         steps: &mut Steps,
     ) -> Result<(), AllocError>
-        requires layer { IsLayer before.now.states.items before.now.marks.items }
+        requires state_set { IsStateSet before.now.states.items before.now.marks.items }
         requires before_size { length before.now.marks.items ≡ length nfa.now.kinds }
         requires size { length self.old.marks.items ≡ length nfa.now.kinds }
-        ensures layer { OnOk result (IsLayer self.new.states.items self.new.marks.items) }
+        ensures state_set { OnOk result (IsStateSet self.new.states.items self.new.marks.items) }
         ensures size { length self.new.marks.items ≡ length nfa.now.kinds }
         ensures states { OnOk result (IsMove nfa.now.edges (length nfa.now.kinds) value before.now.states.items self.new.states.items) }
         ensures cost { steps.new ≤ steps.old + length nfa.now.kinds }
@@ -126,9 +126,9 @@ impl Layer {
         Ok(())
     }
 
-    // Whether the pattern matches the beginning that leads here.
+    // Whether the pattern matches the prefix that leads here.
     fn accepts(&self, nfa: &Nfa) -> bool
-        requires layer { IsLayer self.now.states.items self.now.marks.items }
+        requires state_set { IsStateSet self.now.states.items self.now.marks.items }
         requires size { length self.now.marks.items ≡ length nfa.now.kinds }
         ensures { IsTrue result ↔ ((q : ℕ) × (Contains self.now.states.items q × (slice_get nfa.now.kinds q ≡ Some Accept))) }
     {
@@ -140,9 +140,9 @@ impl Layer {
         false
     }
 
-    // Whether the pattern matches no continuation of the beginning that leads here.
+    // Whether the pattern matches no continuation of the prefix that leads here.
     fn rejects(&self, nfa: &Nfa) -> bool
-        requires layer { IsLayer self.now.states.items self.now.marks.items }
+        requires state_set { IsStateSet self.now.states.items self.now.marks.items }
         requires size { length self.now.marks.items ≡ length nfa.now.kinds }
         ensures { IsTrue result ↔ ((q : ℕ) → Contains self.now.states.items q → slice_get nfa.now.kinds q ≡ Some Reject) }
     {
@@ -156,8 +156,8 @@ impl Layer {
 
     // Lists the state, and counts it, if it is a state of the automaton that is not listed yet.
     fn add(&mut self, state: NfaStateIndex, steps: &mut Steps) -> Result<(), AllocError>
-        requires { IsLayer self.old.states.items self.old.marks.items }
-        ensures layer { OnOk result (IsLayer self.new.states.items self.new.marks.items) }
+        requires { IsStateSet self.old.states.items self.old.marks.items }
+        ensures state_set { OnOk result (IsStateSet self.new.states.items self.new.marks.items) }
         ensures size { length self.new.marks.items ≡ length self.old.marks.items }
         ensures states { OnOk result (IsGrown (length self.old.marks.items) self.old.states.items self.new.states.items (λ q. q ≡ state)) }
         ensures counted { OnOk result (steps.new + length self.old.states.items ≡ steps.old + length self.new.states.items) }
@@ -173,17 +173,17 @@ impl Layer {
     }
 
     // Adds the states that edges which read nothing lead to from the state.
-    fn add_skipped(
+    fn add_epsilon_targets(
         &mut self,
         nfa: &Nfa,
         from: NfaStateIndex,
         steps: &mut Steps,
     ) -> Result<(), AllocError>
-        requires layer { IsLayer self.old.states.items self.old.marks.items }
+        requires state_set { IsStateSet self.old.states.items self.old.marks.items }
         requires is_state { from < length nfa.now.kinds }
-        ensures layer { OnOk result (IsLayer self.new.states.items self.new.marks.items) }
+        ensures state_set { OnOk result (IsStateSet self.new.states.items self.new.marks.items) }
         ensures size { length self.new.marks.items ≡ length self.old.marks.items }
-        ensures states { OnOk result (IsGrown (length self.old.marks.items) self.old.states.items self.new.states.items (Skips nfa.now.edges from)) }
+        ensures states { OnOk result (IsGrown (length self.old.marks.items) self.old.states.items self.new.states.items (IsEpsilonEdge nfa.now.edges from)) }
         ensures counted { OnOk result (steps.new + length self.old.states.items ≡ steps.old + length self.new.states.items) }
         ensures cost { steps.new + length self.old.states.items ≤ steps.old + length self.old.marks.items }
         ensures rises { steps.old ≤ steps.new }
@@ -202,9 +202,9 @@ impl Layer {
         value: u32,
         steps: &mut Steps,
     ) -> Result<(), AllocError>
-        requires layer { IsLayer self.old.states.items self.old.marks.items }
+        requires state_set { IsStateSet self.old.states.items self.old.marks.items }
         requires is_state { from < length nfa.now.kinds }
-        ensures layer { OnOk result (IsLayer self.new.states.items self.new.marks.items) }
+        ensures state_set { OnOk result (IsStateSet self.new.states.items self.new.marks.items) }
         ensures size { length self.new.marks.items ≡ length self.old.marks.items }
         ensures states { OnOk result (IsGrown (length self.old.marks.items) self.old.states.items self.new.states.items (Reads nfa.now.edges from value)) }
         ensures counted { OnOk result (steps.new + length self.old.states.items ≡ steps.old + length self.new.states.items) }
@@ -230,9 +230,9 @@ impl Layer {
     // Adds the states that the listed ones lead to by reading nothing. A state whose edges were followed is not met
     // again, so this ends on each cycle of such edges.
     fn close(&mut self, nfa: &Nfa, steps: &mut Steps) -> Result<(), AllocError>
-        requires layer { IsLayer self.old.states.items self.old.marks.items }
+        requires state_set { IsStateSet self.old.states.items self.old.marks.items }
         requires size { length self.old.marks.items ≡ length nfa.now.kinds }
-        ensures layer { OnOk result (IsLayer self.new.states.items self.new.marks.items) }
+        ensures state_set { OnOk result (IsStateSet self.new.states.items self.new.marks.items) }
         ensures size { length self.new.marks.items ≡ length self.old.marks.items }
         ensures states { OnOk result (IsClosure nfa.now.edges (length nfa.now.kinds) self.old.states.items self.new.states.items) }
         ensures cost { steps.new + length self.old.states.items ≤ steps.old + length self.old.marks.items }
@@ -241,7 +241,7 @@ impl Layer {
         let mut place = 0;
         while place < self.states.len() {
             let from = self.states[place];
-            self.add_skipped(nfa, from, steps)?;
+            self.add_epsilon_targets(nfa, from, steps)?;
             place += 1;
         }
         Ok(())

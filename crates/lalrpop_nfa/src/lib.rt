@@ -11,7 +11,7 @@ ghost use Rattle.std.specs.Prelude.{◌≡◌, ◌≢◌, ◌↔◌, ◌<◌, �
 ghost use Rattle.std.specs.List.{filter};
 ghost use Rattle.lalrpop_nfa.specs.Fault.{fault};
 
-use edge::note_first;
+use edge::set_first;
 pub use edge::{
     Edge, EdgeIterator, EdgeLabel, Edges, NfaStateIndex, Noop, Other, State, StateKind,
 };
@@ -40,14 +40,14 @@ pub struct Nfa {
 
 impl Model for Nfa {
     ghost use Rattle.lalrpop_nfa.specs.Graph.{Graph};
-    ghost use Rattle.lalrpop_nfa.specs.SideBySide.{kinds_of};
-    ghost use Rattle.lalrpop_nfa.specs.Internal.Adjacent.{AllRun};
+    ghost use Rattle.lalrpop_nfa.specs.Contiguous.{kinds_of};
+    ghost use Rattle.lalrpop_nfa.specs.Internal.Adjacent.{AllContiguous};
 
     ghost Value = { Graph };
 
     ghost view = { λ n. record { kinds = kinds_of n.states.items; edges = n.edges } };
 
-    ghost invariant = { λ n. AllRun n.states.items n.edges };
+    ghost invariant = { λ n. AllContiguous n.states.items n.edges };
 }
 
 impl Nfa {
@@ -86,7 +86,7 @@ impl Nfa {
         let list = L::vec_mut(&mut self.edges);
         let edge_index = list.len();
         list.push(Edge { from, label, to })?;
-        note_first::<L>(&mut self.states[from.0], edge_index);
+        set_first::<L>(&mut self.states[from.0], edge_index);
         Ok(())
     }
 

@@ -3,7 +3,7 @@ use Rattle.std.proofs.Common.{◌≡◌, ℕ, ◌+◌, ◌-◌, ◌<◌, ◌≤�
 use Rattle.std.proofs.lemmas.List.{length_push, get_or_append_left, get_or_push}
 use Rattle.std.proofs.lemmas.Bool.{cases_lt}
 use Rattle.lalrpop_hir.specs.Range.{Range, Covers}
-use Rattle.lalrpop_ranges.specs.Runs.{Ranges, IsCovered, Alike}
+use Rattle.lalrpop_ranges.specs.Partition.{Ranges, IsCovered, Alike}
 
 -- the k-th part; past the end any
 abbrev pub at : List Range → ℕ → Range
@@ -14,14 +14,14 @@ abbrev pub IsCut : Ranges → ℕ → Type 0
 IsCut R c = (r : Range) × (R r × (r.start ≤ r.end) × ((c ≡ r.start) ⊎ (c ≡ r.end + 1)))
 
 -- the parts of the values below p
-pub record PartsBelow (R : Ranges) (parts : List Range) (p : ℕ) : Type 0 where
-  pub each : (k : ℕ) → k < length parts → (at parts k).start ≤ (at parts k).end
-  pub under : (k : ℕ) → k < length parts → (at parts k).end < p
-  pub ascending : (j k : ℕ) → j < k → k < length parts → (at parts j).end < (at parts k).start
-  pub constant : (k c : ℕ) → k < length parts → Covers (at parts k) c → Alike R c (at parts k).start
-  pub held : (k : ℕ) → k < length parts → IsCovered R (at parts k).start
-  pub covers : (c : ℕ) → c < p → IsCovered R c → (k : ℕ) × ((k < length parts) × Covers (at parts k) c)
-  pub maximal : (j k : ℕ) → j < length parts → k < length parts → (at parts j).end + 1 ≡ (at parts k).start → ¬ Alike R (at parts j).end (at parts k).start
+pub record BlocksBelow (R : Ranges) (blocks : List Range) (p : ℕ) : Type 0 where
+  pub each : (k : ℕ) → k < length blocks → (at blocks k).start ≤ (at blocks k).end
+  pub under : (k : ℕ) → k < length blocks → (at blocks k).end < p
+  pub ascending : (j k : ℕ) → j < k → k < length blocks → (at blocks j).end < (at blocks k).start
+  pub constant : (k c : ℕ) → k < length blocks → Covers (at blocks k) c → Alike R c (at blocks k).start
+  pub held : (k : ℕ) → k < length blocks → IsCovered R (at blocks k).start
+  pub covers : (c : ℕ) → c < p → IsCovered R c → (k : ℕ) × ((k < length blocks) × Covers (at blocks k) c)
+  pub maximal : (j k : ℕ) → j < length blocks → k < length blocks → (at blocks j).end + 1 ≡ (at blocks k).start → ¬ Alike R (at blocks j).end (at blocks k).start
 
 pub alike_refl : (R : Ranges) (c : ℕ) → Alike R c c
 alike_refl R c r h = ((λ a. a), (λ a. a))
@@ -61,7 +61,7 @@ pub changes_at_cut : (R : Ranges) (b c : ℕ) → IsCut R c → b + 1 ≡ c → 
 changes_at_cut R b c (r, (k, some, inl e)) step same = let h : Covers r b = (same r k).1 (omega arith, omega arith) in omega (arith, h.0)
 changes_at_cut R b c (r, (k, some, inr e)) step same = let h : Covers r c = (same r k).0 (omega arith, omega arith) in omega (arith, h.1)
 
-pub parts_none : (R : Ranges) → PartsBelow R [] 0
+pub parts_none : (R : Ranges) → BlocksBelow R [] 0
 parts_none R = record {
   each = λ k l. absurd (omega arith);
   under = λ k l. absurd (omega arith);
@@ -73,10 +73,10 @@ parts_none R = record {
 }
 
 -- a cell that no range contains is passed over
-pub parts_passed : (R : Ranges) (parts : List Range) (p q : ℕ) → PartsBelow R parts p → ((c : ℕ) → p < c → c < q → ¬ IsCut R c) → ¬ IsCovered R p → p ≤ q → PartsBelow R parts q
-parts_passed R parts p q h none empty pq = record {
+pub parts_passed : (R : Ranges) (blocks : List Range) (p q : ℕ) → BlocksBelow R blocks p → ((c : ℕ) → p < c → c < q → ¬ IsCut R c) → ¬ IsCovered R p → p ≤ q → BlocksBelow R blocks q
+parts_passed R blocks p q h none empty pq = record {
   each = h.each;
-  under = λ k l. let e : (at parts k).end < p = h.under k l in omega arith;
+  under = λ k l. let e : (at blocks k).end < p = h.under k l in omega arith;
   ascending = h.ascending;
   constant = h.constant;
   held = h.held;
@@ -87,62 +87,62 @@ parts_passed R parts p q h none empty pq = record {
   maximal = h.maximal;
 }
 
-module _ (R : Ranges) (parts : List Range) (p q : ℕ) (h : PartsBelow R parts p) (pq : p < q) (cut : IsCut R p) (none : (c : ℕ) → p < c → c < q → ¬ IsCut R c) (full : IsCovered R p) where
+module _ (R : Ranges) (blocks : List Range) (p q : ℕ) (h : BlocksBelow R blocks p) (pq : p < q) (cut : IsCut R p) (none : (c : ℕ) → p < c → c < q → ¬ IsCut R c) (full : IsCovered R p) where
   abbrev cell : Range
   cell = record { start = p; end = q - 1 }
 
-  old_at : (k : ℕ) → k < length parts → at (parts ++ cell ∷ []) k ≡ at parts k
-  old_at k l = get_or_append_left parts (cell ∷ []) (record { start = 0; end = 0 }) k l
+  old_at : (k : ℕ) → k < length blocks → at (blocks ++ cell ∷ []) k ≡ at blocks k
+  old_at k l = get_or_append_left blocks (cell ∷ []) (record { start = 0; end = 0 }) k l
 
-  new_at : at (parts ++ cell ∷ []) (length parts) ≡ cell
-  new_at = get_or_push parts cell (record { start = 0; end = 0 }) (length parts) refl
+  new_at : at (blocks ++ cell ∷ []) (length blocks) ≡ cell
+  new_at = get_or_push blocks cell (record { start = 0; end = 0 }) (length blocks) refl
 
-  old_or_new : (k : ℕ) → k < length (parts ++ cell ∷ []) → (k < length parts) ⊎ (k ≡ length parts)
-  old_or_new k l = ⊎_elim (λ (a : k < length parts). inl a) (λ (a : length parts ≤ k). inr (omega (arith, length_push parts cell))) (cases_lt k (length parts))
+  old_or_new : (k : ℕ) → k < length (blocks ++ cell ∷ []) → (k < length blocks) ⊎ (k ≡ length blocks)
+  old_or_new k l = ⊎_elim (λ (a : k < length blocks). inl a) (λ (a : length blocks ≤ k). inr (omega (arith, length_push blocks cell))) (cases_lt k (length blocks))
 
   -- what holds of the parts that are there, and of the new one, holds of each
-  each_at : (P : Range → Type 0) → ((k : ℕ) → k < length parts → P (at parts k)) → P cell → (k : ℕ) → k < length (parts ++ cell ∷ []) → P (at (parts ++ cell ∷ []) k)
+  each_at : (P : Range → Type 0) → ((k : ℕ) → k < length blocks → P (at blocks k)) → P cell → (k : ℕ) → k < length (blocks ++ cell ∷ []) → P (at (blocks ++ cell ∷ []) k)
   each_at P old new k l =
-      ⊎_elim (λ (a : k < length parts). rw (old_at k a) (old k a)) (λ (e : k ≡ length parts). rw (e, new_at) new) (old_or_new k l)
+      ⊎_elim (λ (a : k < length blocks). rw (old_at k a) (old k a)) (λ (e : k ≡ length blocks). rw (e, new_at) new) (old_or_new k l)
 
   in_cell : (c : ℕ) → Covers cell c → Alike R c p
   in_cell c (a, b) = alike_between R p c a (λ d u v. none d u (omega arith))
 
   -- a cell from a cut to the next one is one more part
-  pub parts_kept : PartsBelow R (parts ++ cell ∷ []) q
+  pub parts_kept : BlocksBelow R (blocks ++ cell ∷ []) q
   parts_kept = record {
     each = each_at (λ (r : Range). r.start ≤ r.end) h.each (omega arith);
-    under = each_at (λ (r : Range). r.end < q) (λ k l. let e : (at parts k).end < p = h.under k l in omega arith) (omega arith);
+    under = each_at (λ (r : Range). r.end < q) (λ k l. let e : (at blocks k).end < p = h.under k l in omega arith) (omega arith);
     ascending = λ j k a l.
         ⊎_elim
-        (λ (b : k < length parts). rw (old_at k b, old_at j (omega arith)) (h.ascending j k a b))
-        (λ (e : k ≡ length parts). rw (e, new_at, old_at j (omega arith)) (h.under j (omega arith)))
+        (λ (b : k < length blocks). rw (old_at k b, old_at j (omega arith)) (h.ascending j k a b))
+        (λ (e : k ≡ length blocks). rw (e, new_at, old_at j (omega arith)) (h.under j (omega arith)))
         (old_or_new k l);
     constant = λ k c l. each_at (λ (r : Range). Covers r c → Alike R c r.start) (λ i m. h.constant i c m) (in_cell c) k l;
     held = each_at (λ (r : Range). IsCovered R r.start) h.held full;
     covers = λ c l x.
         ⊎_elim
-        (λ (a : c < p). let (k, (kl, u)) = h.covers c a x in (k, (omega (arith, length_push parts cell), rw (old_at k kl) u)))
-        (λ (a : p ≤ c). (length parts, (omega (arith, length_push parts cell), rw new_at (a, omega arith))))
+        (λ (a : c < p). let (k, (kl, u)) = h.covers c a x in (k, (omega (arith, length_push blocks cell), rw (old_at k kl) u)))
+        (λ (a : p ≤ c). (length blocks, (omega (arith, length_push blocks cell), rw new_at (a, omega arith))))
         (cases_lt c p);
     maximal = λ j k a b.
         ⊎_elim
-        (λ (kl : k < length parts).
+        (λ (kl : k < length blocks).
         ⊎_elim
-        (λ (jl : j < length parts). rw (old_at j jl, old_at k kl) (h.maximal j k jl kl))
-        (λ (e : j ≡ length parts). rw (e, new_at, old_at k kl) (λ step same. omega (arith, h.under k kl, h.each k kl)))
+        (λ (jl : j < length blocks). rw (old_at j jl, old_at k kl) (h.maximal j k jl kl))
+        (λ (e : j ≡ length blocks). rw (e, new_at, old_at k kl) (λ step same. omega (arith, h.under k kl, h.each k kl)))
         (old_or_new j a))
-        (λ (e : k ≡ length parts).
+        (λ (e : k ≡ length blocks).
         ⊎_elim
-        (λ (jl : j < length parts). rw (e, old_at j jl, new_at) (λ step same. changes_at_cut R (at parts j).end p cut step same))
-        (λ (f : j ≡ length parts). rw (e, f, new_at) (λ step same. omega arith))
+        (λ (jl : j < length blocks). rw (e, old_at j jl, new_at) (λ step same. changes_at_cut R (at blocks j).end p cut step same))
+        (λ (f : j ≡ length blocks). rw (e, f, new_at) (λ step same. omega arith))
         (old_or_new j a))
         (old_or_new k b);
   }
 
 -- past the last cut no value is left
-pub last_covers : (R : Ranges) (parts : List Range) (p : ℕ) → PartsBelow R parts p → ((c : ℕ) → p < c → ¬ IsCut R c) → (c : ℕ) → IsCovered R c → (k : ℕ) × ((k < length parts) × Covers (at parts k) c)
-last_covers R parts p h none c (r, (k, a)) =
+pub last_covers : (R : Ranges) (blocks : List Range) (p : ℕ) → BlocksBelow R blocks p → ((c : ℕ) → p < c → ¬ IsCut R c) → (c : ℕ) → IsCovered R c → (k : ℕ) × ((k < length blocks) × Covers (at blocks k) c)
+last_covers R blocks p h none c (r, (k, a)) =
     ⊎_elim (λ (l : c < p). h.covers c l (r, (k, a))) (λ (l : p ≤ c). absurd (none (r.end + 1) (omega (arith, a.1)) (r, (k, omega (arith, a.0, a.1), inr refl)))) (cases_lt c p)
 
 -- the value 0, where some range contains it, is a cut

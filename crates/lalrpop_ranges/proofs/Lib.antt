@@ -1,9 +1,9 @@
 mod Cases
 pub mod Meeting
 pub mod Cells
-pub mod Runs
+pub mod Partition
 pub mod Sweep
-pub mod RunCover
-pub mod RunsUnique
+pub mod BlockCover
+pub mod PartitionUnique
 -- laws for callers
-pub mod PartLaws
+pub mod PartitionLaws

@@ -9,10 +9,10 @@ use Rattle.std.proofs.lemmas.List.Sums.{sum_by-cons, length-filter}
 use Rattle.std.proofs.lemmas.Bool.{cases_lt, cases_Bool, le-leb, lt-leb, leb-true, leb-false, and_from, and_parts}
 use Rattle.std.proofs.lemmas.Bool.Decides.{nat_tests}
 use Rattle.lalrpop_hir.specs.Range.{Range, Covers}
-use Rattle.lalrpop_ranges.specs.Runs.{IsCovered, has_value, IsRuns}
+use Rattle.lalrpop_ranges.specs.Partition.{IsCovered, has_value, IsPartition}
 use Rattle.lalrpop_ranges.specs.Internal.Sweep.{starts_of, ends_of}
-use Rattle.lalrpop_ranges.proofs.Cells.{IsCut, PartsBelow, parts_none, parts_kept, parts_passed, zero_is_cut}
-use Rattle.lalrpop_ranges.proofs.Runs.{IsRuns-from_parts}
+use Rattle.lalrpop_ranges.proofs.Cells.{IsCut, BlocksBelow, parts_none, parts_kept, parts_passed, zero_is_cut}
+use Rattle.lalrpop_ranges.proofs.Partition.{IsPartition-from_parts}
 
 -- the numbers of the first list, from the least
 pub record IsSortOf (xs ys : List ℕ) : Type 0 where
@@ -151,11 +151,11 @@ apart d xs ys n v w y s t h a b =
 
 -- what one turn pushes, if anything
 abbrev pub Turn : List Range → List Range → ℕ → ℕ → ℕ → ℕ → Type 0
-Turn parts parts2 i j from next = ((from < next) × (j < i) × (parts2 ≡ parts ++ record { start = from; end = next - 1 } ∷ [])) ⊎ ((from < next → i ≤ j) × (parts2 ≡ parts))
+Turn blocks parts2 i j from next = ((from < next) × (j < i) × (parts2 ≡ blocks ++ record { start = from; end = next - 1 } ∷ [])) ⊎ ((from < next → i ≤ j) × (parts2 ≡ blocks))
 
-turn_count : (parts parts2 : List Range) (i j from next : ℕ) → Turn parts parts2 i j from next → length parts ≤ (i + j) - 1 → length parts2 ≤ i + j
-turn_count parts parts2 i j from next (inl (a, b, e)) h = rw e (omega (arith, h, b, length_push parts (record { start = from; end = next - 1 })))
-turn_count parts parts2 i j from next (inr (a, e)) h = rw e (omega (arith, h))
+turn_count : (blocks parts2 : List Range) (i j from next : ℕ) → Turn blocks parts2 i j from next → length blocks ≤ (i + j) - 1 → length parts2 ≤ i + j
+turn_count blocks parts2 i j from next (inl (a, b, e)) h = rw e (omega (arith, h, b, length_push blocks (record { start = from; end = next - 1 })))
+turn_count blocks parts2 i j from next (inr (a, e)) h = rw e (omega (arith, h))
 
 -- one turn: so many of the starts and of the ends lie at `from` or below, and the others at `next` or above
 module _ (rs : List Range) (starts ends : List ℕ) (ss : IsSortOf (starts_of rs) starts) (es : IsSortOf (ends_of rs) ends) (i j from next : ℕ) (s : Split 0 starts i from next) (t : Split 1 ends j from next) where
@@ -177,21 +177,21 @@ module _ (rs : List Range) (starts ends : List ℕ) (ss : IsSortOf (starts_of rs
   no_cut_between c a b (r, ((k, l, e), some, inr is)) =
       apart 1 (ends_of rs) ends j from next r.end es t (listed (λ (x : Range). x.end) rs r k l e some) (omega arith) (omega arith)
 
-  swept : (parts parts2 : List Range) → PartsBelow (Contains rs) parts from → (IsCut (Contains rs) from) ⊎ (from ≡ 0) → from ≤ next → Turn parts parts2 i j from next → PartsBelow (Contains rs) parts2 next
-  swept parts parts2 h cut l (inl (a, b, e)) =
+  swept : (blocks parts2 : List Range) → BlocksBelow (Contains rs) blocks from → (IsCut (Contains rs) from) ⊎ (from ≡ 0) → from ≤ next → Turn blocks parts2 i j from next → BlocksBelow (Contains rs) parts2 next
+  swept blocks parts2 h cut l (inl (a, b, e)) =
       let covered : IsCovered (Contains rs) from = (open_is_covered a).0 b in
       let is : IsCut (Contains rs) from = ⊎_elim (λ (x : IsCut (Contains rs) from). x) (λ (z : from ≡ 0). zero_is_cut (Contains rs) from z covered) cut in
-      rw e (parts_kept (Contains rs) parts from next h a is no_cut_between covered)
-  swept parts parts2 h cut l (inr (none, e)) =
+      rw e (parts_kept (Contains rs) blocks from next h a is no_cut_between covered)
+  swept blocks parts2 h cut l (inr (none, e)) =
       rw e (⊎_elim
-      (λ (a : from < next). parts_passed (Contains rs) parts from next h no_cut_between (λ c. omega (arith, (open_is_covered a).1 c, none a)) l)
+      (λ (a : from < next). parts_passed (Contains rs) blocks from next h no_cut_between (λ c. omega (arith, (open_is_covered a).1 c, none a)) l)
       (λ (a : next ≤ from). let same : next ≡ from = omega arith in rw same h)
       (cases_lt from next))
 
 -- past the last end the parts are all
-swept_all : (rs : List Range) (ends : List ℕ) (parts : List Range) (from : ℕ) → IsSortOf (ends_of rs) ends → ((k : ℕ) → k < length ends → get_or ends k 0 + 1 ≤ from) → PartsBelow (Contains rs) parts from
-    → IsRuns (Contains rs) parts
-swept_all rs ends parts from es past h = IsRuns-from_parts (Contains rs) parts from h no_cut_after
+swept_all : (rs : List Range) (ends : List ℕ) (blocks : List Range) (from : ℕ) → IsSortOf (ends_of rs) ends → ((k : ℕ) → k < length ends → get_or ends k 0 + 1 ≤ from) → BlocksBelow (Contains rs) blocks from
+    → IsPartition (Contains rs) blocks
+swept_all rs ends blocks from es past h = IsPartition-from_parts (Contains rs) blocks from h no_cut_after
   where
     over : (r : Range) → Contains rs r → r.start ≤ r.end → r.end + 1 ≤ from
     over r (k, l, e) some =
@@ -245,12 +245,12 @@ sort_length : (f : Range → ℕ) (rs : List Range) (ys : List ℕ) → IsSortOf
 sort_length f rs ys s = length_permutation (map f (filter has_value rs)) ys s.permutation ∙ length-map (filter has_value rs) f ∙ length-filter has_value rs
 
 -- the sweep so far: i starts and j ends are taken up, and the parts of the values below `from` are made
-pub record Swept (rs : List Range) (starts ends : List ℕ) (parts : List Range) (i j from : ℕ) : Type 0 where
+pub record Swept (rs : List Range) (starts ends : List ℕ) (blocks : List Range) (i j from : ℕ) : Type 0 where
   pub starts_sorted : IsSortOf (starts_of rs) starts
   pub ends_sorted : IsSortOf (ends_of rs) ends
-  pub parts_below : PartsBelow (Contains rs) parts from
+  pub blocks_below : BlocksBelow (Contains rs) blocks from
   pub cut : (IsCut (Contains rs) from) ⊎ (from ≡ 0)
-  pub count : length parts ≤ (i + j) - 1
+  pub count : length blocks ≤ (i + j) - 1
   pub starts_split : Split 0 starts i from from
   pub ends_split : Split 1 ends j from from
 
@@ -258,14 +258,14 @@ pub swept_none : (rs : List Range) (starts ends : List ℕ) → IsSortOf (starts
 swept_none rs starts ends ss es = record {
   starts_sorted = ss;
   ends_sorted = es;
-  parts_below = parts_none (Contains rs);
+  blocks_below = parts_none (Contains rs);
   cut = inr refl;
   count = omega arith;
   starts_split = split_none 0 starts;
   ends_split = split_none 1 ends;
 }
 
-module _ (rs : List Range) (starts ends : List ℕ) (parts parts2 : List Range) (i j from next : ℕ) (h : Swept rs starts ends parts i j from) (turn : Turn parts parts2 i j from next) where
+module _ (rs : List Range) (starts ends : List ℕ) (blocks parts2 : List Range) (i j from next : ℕ) (h : Swept rs starts ends blocks i j from) (turn : Turn blocks parts2 i j from next) where
   -- the next start is taken up
   pub swept_start : i < length starts → next ≡ get_or starts i 0 → next ≤ get_or ends j 0 + 1 → Swept rs starts ends parts2 (i + 1) j next
   swept_start l e least =
@@ -275,9 +275,9 @@ module _ (rs : List Range) (starts ends : List ℕ) (parts parts2 : List Range) 
       record {
         starts_sorted = h.starts_sorted;
         ends_sorted = h.ends_sorted;
-        parts_below = swept rs starts ends h.starts_sorted h.ends_sorted i j from next s t parts parts2 h.parts_below h.cut up turn;
+        blocks_below = swept rs starts ends h.starts_sorted h.ends_sorted i j from next s t blocks parts2 h.blocks_below h.cut up turn;
         cut = inl (rw e (start_is_cut rs starts i h.starts_sorted l));
-        count = omega (arith, turn_count parts parts2 i j from next turn h.count);
+        count = omega (arith, turn_count blocks parts2 i j from next turn h.count);
         starts_split = split_taken 0 starts i from next h.starts_sorted.ascending h.starts_split l (omega arith);
         ends_split = split_kept 1 ends j from next t up;
       }
@@ -291,17 +291,17 @@ module _ (rs : List Range) (starts ends : List ℕ) (parts parts2 : List Range) 
       record {
         starts_sorted = h.starts_sorted;
         ends_sorted = h.ends_sorted;
-        parts_below = swept rs starts ends h.starts_sorted h.ends_sorted i j from next s t parts parts2 h.parts_below h.cut up turn;
+        blocks_below = swept rs starts ends h.starts_sorted h.ends_sorted i j from next s t blocks parts2 h.blocks_below h.cut up turn;
         cut = inl (rw e (end_is_cut rs ends j h.ends_sorted l));
-        count = omega (arith, turn_count parts parts2 i j from next turn h.count);
+        count = omega (arith, turn_count blocks parts2 i j from next turn h.count);
         starts_split = split_kept 0 starts i from next s up;
         ends_split = split_taken 1 ends j from next h.ends_sorted.ascending h.ends_split l e;
       }
 
 -- all is taken up: the parts are the runs, and fewer than the starts and the ends together
-pub swept_runs : (rs : List Range) (starts ends : List ℕ) (parts : List Range) (i j from : ℕ) → Swept rs starts ends parts i j from → length ends ≤ j → IsRuns (Contains rs) parts
-swept_runs rs starts ends parts i j from h l = swept_all rs ends parts from h.ends_sorted (λ k a. h.ends_split.below k (omega arith)) h.parts_below
+pub swept_blocks : (rs : List Range) (starts ends : List ℕ) (blocks : List Range) (i j from : ℕ) → Swept rs starts ends blocks i j from → length ends ≤ j → IsPartition (Contains rs) blocks
+swept_blocks rs starts ends blocks i j from h l = swept_all rs ends blocks from h.ends_sorted (λ k a. h.ends_split.below k (omega arith)) h.blocks_below
 
-pub swept_count : (rs : List Range) (starts ends : List ℕ) (parts : List Range) (i j from : ℕ) → Swept rs starts ends parts i j from → length parts ≤ 2 * count_by has_value rs - 1
-swept_count rs starts ends parts i j from h =
+pub swept_count : (rs : List Range) (starts ends : List ℕ) (blocks : List Range) (i j from : ℕ) → Swept rs starts ends blocks i j from → length blocks ≤ 2 * count_by has_value rs - 1
+swept_count rs starts ends blocks i j from h =
     omega (arith, h.count, h.starts_split.within, h.ends_split.within, sort_length (λ (x : Range). x.start) rs starts h.starts_sorted, sort_length (λ (x : Range). x.end) rs ends h.ends_sorted)

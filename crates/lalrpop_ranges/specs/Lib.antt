@@ -1,4 +1,4 @@
 pub mod Meet
-pub mod Runs
+pub mod Partition
 -- what private functions promise one another, which no promise to a caller names
 pub mod Internal

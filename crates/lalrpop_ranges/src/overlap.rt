@@ -2,7 +2,7 @@
 
 ghost use Rattle.std.specs.Prelude.{◌≡◌, ◌+◌, ◌-◌, ◌*◌, ◌<◌, ◌≤◌, IfOk, IsTrue, IsFalse, length, slice_index};
 ghost use Rattle.std.specs.List.{Contains, count_by};
-ghost use Rattle.lalrpop_ranges.specs.Runs.{IsRuns, has_value};
+ghost use Rattle.lalrpop_ranges.specs.Partition.{IsPartition, has_value};
 ghost use Rattle.lalrpop_ranges.specs.Internal.Sweep.{starts_of, ends_of};
 
 use crate::Test;
@@ -14,8 +14,8 @@ use std::collections::BTreeSet;
 ///
 /// It sorts the starts and the ends, and goes over them once. The only error is that there is no memory.
 pub fn remove_overlap(alloc: Global, ranges: &BTreeSet<Test>) -> Result<Vec<Test>, AllocError>
-    ensures runs { IfOk result (λ parts. IsRuns (Contains ranges.now.keys) parts.items) }
-    ensures count { IfOk result (λ parts. length parts.items ≤ 2 * count_by has_value ranges.now.keys - 1) }
+    ensures partition { IfOk result (λ blocks. IsPartition (Contains ranges.now.keys) blocks.items) }
+    ensures count { IfOk result (λ blocks. length blocks.items ≤ 2 * count_by has_value ranges.now.keys - 1) }
 {
     let Ends {
         mut starts,
@@ -23,7 +23,7 @@ pub fn remove_overlap(alloc: Global, ranges: &BTreeSet<Test>) -> Result<Vec<Test
     } = ends_of_ranges(alloc, ranges)?;
     starts.sort_unstable();
     ends.sort_unstable();
-    let mut parts = Vec::new(alloc);
+    let mut blocks = Vec::new(alloc);
     // The values below `from` are done, and so many starts and ends are taken up. Where there are more starts, some range
     // is open. Equal cuts in a row do no harm, since nothing lies between them.
     let mut from = 0;
@@ -32,7 +32,7 @@ pub fn remove_overlap(alloc: Global, ranges: &BTreeSet<Test>) -> Result<Vec<Test
     while ended < ends.len() {
         let (cut, is_start) = next_cut(&starts, &ends, begun, ended);
         if from < cut && ended < begun {
-            parts.push(Test::new(from as u32..=(cut - 1) as u32))?;
+            blocks.push(Test::new(from as u32..=(cut - 1) as u32))?;
         }
         from = cut;
         if is_start {
@@ -41,7 +41,7 @@ pub fn remove_overlap(alloc: Global, ranges: &BTreeSet<Test>) -> Result<Vec<Test
             ended += 1;
         }
     }
-    Ok(parts)
+    Ok(blocks)
 }
 
 // The starts and the ends of the ranges that contain some value.

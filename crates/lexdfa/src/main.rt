@@ -1,4 +1,4 @@
-//! `lexdfa TEXT`: reads terminals from standard input, and writes which of them matches the longest beginning of TEXT.
+//! `lexdfa TEXT`: reads terminals from standard input, and writes which of them matches the longest prefix of TEXT.
 #![tactic(auto)]
 
 ghost use Rattle.std.specs.Prelude.{◌≡◌, ◌≢◌, Ok, Err, OnOk, OnErr};

@@ -8,7 +8,7 @@ use Rattle.lalrpop_lexer.specs.Report.{NoFault, FirstFault}
 use Rattle.lexdfa_lib.specs.Lines.{lines}
 use Rattle.lexdfa_lib.specs.Terminals.{AreTerminals, FirstSays}
 use Rattle.lexdfa_lib.specs.Printed.{line_of}
-use Rattle.lexdfa_lib.specs.Watch.{ReadsAll, AppendsBeginning}
+use Rattle.lexdfa_lib.specs.Watch.{ReadsAll, AppendsPrefix}
 use Rattle.lexdfa_lib.specs.declared.meaning.Meaning.TheVariants.{Bad, NoTree}
 use Rattle.lexdfa_lib.specs.declared.outcome.Outcome.{Outcome}
 use Rattle.lexdfa_lib.specs.declared.outcome.Outcome.TheVariants.{Match, NoMatch, Refused, Ambiguous, Syntax, Line}
@@ -37,7 +37,7 @@ IsAnswer bytes text line = (outcome : Outcome) × (IsOutcome bytes text outcome 
 abbrev pub ReadsOutcome : Option (List ℕ) → Option (List ℕ) → List ℕ → Outcome → Type 0
 ReadsOutcome old new text outcome = (bytes : List ℕ) × (ReadsAll old new bytes × IsOutcome bytes text outcome)
 
--- a reader was read to its end, and a writer took a beginning of the line for its bytes and the text
-abbrev pub WritesBeginning : Option (List ℕ) → Option (List ℕ) → List ℕ → Option (List ℕ) → Option (List ℕ) → Type 0
-WritesBeginning left left_now text held held_now =
-    (bytes : List ℕ) × (ReadsAll left left_now bytes × ((line : List ℕ) × (IsAnswer bytes text line × AppendsBeginning held held_now line)))
+-- a reader was read to its end, and a writer took a prefix of the line for its bytes and the text
+abbrev pub WritesPrefix : Option (List ℕ) → Option (List ℕ) → List ℕ → Option (List ℕ) → Option (List ℕ) → Type 0
+WritesPrefix left left_now text held held_now =
+    (bytes : List ℕ) × (ReadsAll left left_now bytes × ((line : List ℕ) × (IsAnswer bytes text line × AppendsPrefix held held_now line)))

@@ -2,7 +2,7 @@ ghost use Rattle.std.specs.Prelude.{◌≡◌, ◌≢◌, ℕ, List, false, true
 ghost use Rattle.std.specs.Io.KnownBytes.{Appends};
 ghost use Rattle.lalrpop_hir.specs.Tree.{Tree};
 ghost use Rattle.lalrpop_lexer.specs.Report.{IsReport};
-ghost use Rattle.lexdfa_lib.specs.Answer.{Finds, IsOutcome, ReadsOutcome, WritesBeginning};
+ghost use Rattle.lexdfa_lib.specs.Answer.{Finds, IsOutcome, ReadsOutcome, WritesPrefix};
 ghost use Rattle.lexdfa_lib.specs.Printed.{line_of};
 ghost use Rattle.lexdfa_lib.specs.declared.outcome.Outcome.{Outcome};
 
@@ -95,8 +95,8 @@ pub fn run<R: Read, W: Write>(
     ensures nothing_written { IfErr result (λ e. e ≢ RunError.Write → writer.new ≡ writer.old) }
 
     ensures write { IfErr result (λ e. e ≡ RunError.Write → (reader.new.failed ≡ false) × (writer.new.failed ≡ true)) }
-    ensures beginning { IfErr result (λ e. e ≡ RunError.Write →
-        WritesBeginning (R.remaining reader.old.inner) (R.remaining reader.new.inner) text.now
+    ensures prefix { IfErr result (λ e. e ≡ RunError.Write →
+        WritesPrefix (R.remaining reader.old.inner) (R.remaining reader.new.inner) text.now
         (W.contents writer.old.inner) (W.contents writer.new.inner)) }
 
     ensures no_late_read { reader.new.late ≡ reader.old.late }

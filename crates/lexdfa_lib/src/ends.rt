@@ -1,6 +1,6 @@
 ghost use Rattle.std.specs.Prelude.{◌≡◌, ◌≢◌, false, true, IfOk, OnOk, IfErr, OnErr};
 ghost use Rattle.std.specs.Io.KnownBytes.{Appends};
-ghost use Rattle.lexdfa_lib.specs.Watch.{AppendsBeginning, ReadsAll};
+ghost use Rattle.lexdfa_lib.specs.Watch.{AppendsPrefix, ReadsAll};
 
 use crate::error::RunError;
 use crate::watched::Watched;
@@ -38,7 +38,7 @@ pub fn write_whole<W: Write>(writer: &mut Watched<W>, bytes: &[u8]) -> Result<()
     ensures no_late_write { writer.new.late ≡ writer.old.late }
     ensures ok { OnOk result (Appends (W.contents writer.old.inner) (W.contents writer.new.inner) bytes.now) }
     ensures good { OnOk result (writer.new.failed ≡ false) }
-    ensures beginning { OnErr result (AppendsBeginning (W.contents writer.old.inner) (W.contents writer.new.inner) bytes.now) }
+    ensures prefix { OnErr result (AppendsPrefix (W.contents writer.old.inner) (W.contents writer.new.inner) bytes.now) }
     ensures failed { OnErr result (writer.new.failed ≡ true) }
     ensures write { IfErr result (λ e. e ≡ RunError.Write) }
 {

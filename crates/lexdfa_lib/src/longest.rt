@@ -1,6 +1,6 @@
 ghost use Rattle.std.specs.Prelude.{◌≡◌, map, length, option_map, IfOk, OnOk, IfErr, IfSome};
 ghost use Rattle.std.specs.Str.{chars};
-ghost use Rattle.lalrpop_lexer.specs.Winners.{OnlyTop};
+ghost use Rattle.lalrpop_lexer.specs.Winners.{IsOnlyStrongest};
 ghost use Rattle.lalrpop_lexer.specs.Clash.{NoClash};
 ghost use Rattle.lalrpop_lexer.specs.Longest.{IsLongest};
 ghost use Rattle.lalrpop_lexer.specs.Report.{NoFault, IsReport};
@@ -10,8 +10,8 @@ use lalrpop_lexer::lexer::dfa::{DfaConstructionError, NfaIndex, Precedence, buil
 use lalrpop_lexer::lexer::re::Regex;
 use std::alloc::Global;
 
-/// The longest nonempty beginning of the text that some pattern matches, with the place of the one pattern of the
-/// greatest precedence that matches it, or None where no pattern matches a nonempty beginning.
+/// The longest nonempty prefix of the text that some pattern matches, with the place of the one pattern of the
+/// greatest precedence that matches it, or None where no pattern matches a nonempty prefix.
 ///
 /// Memory aside, an error is the first pattern that can't be compiled, or else the two last strongest patterns on the
 /// shortest, then least, word that has no one strongest pattern.
@@ -28,7 +28,7 @@ pub fn longest_match<'text>(
     ensures longest { IfOk result (λ found. IsLongest regexs.now (map (λ p. p.0) precedences.now) text.now
         (option_map (λ m. (m.0, m.1.now)) found)) }
     ensures strongest { IfOk result (λ found. IfSome found (λ m.
-        OnlyTop regexs.now (map (λ p. p.0) precedences.now) (chars m.1.now) m.0)) }
+        IsOnlyStrongest regexs.now (map (λ p. p.0) precedences.now) (chars m.1.now) m.0)) }
 
     ensures report { IfErr result (λ e. IsReport regexs.now (map (λ p. p.0) precedences.now) e) }
 {

@@ -13,7 +13,7 @@ pub enum Outcome {
         terminal: usize,
         bytes: usize,
     },
-    /// No terminal matches a nonempty beginning of the text.
+    /// No terminal matches a nonempty prefix of the text.
     NoMatch,
     /// The terminal is the first that can't be compiled.
     Refused {

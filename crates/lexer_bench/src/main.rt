@@ -1,5 +1,5 @@
 //! A benchmark: builds the automaton of a hundred keywords, fourteen operators and a name of Unicode-sized classes, and
-//! writes for a few texts which of the 115 terminals matches the longest beginning, and of how many bytes it is.
+//! writes for a few texts which of the 115 terminals matches the longest prefix, and of how many bytes it is.
 #![tactic(auto)]
 
 use lalrpop_hir::{Class, ClassUnicode, ClassUnicodeRange, Hir, Repetition};

@@ -367,17 +367,17 @@ fn levels(rt: HostRuntime) -> Result<(), Fail> {
     Ok(())
 }
 
-// The lengths in bytes of the beginnings of a pattern that are patterns themselves.
+// The lengths in bytes of the prefixes of a pattern that are patterns themselves.
 #[test]
-fn beginnings_of_patterns(rt: HostRuntime) -> Result<(), Fail> {
+fn prefixes_of_patterns(rt: HostRuntime) -> Result<(), Fail> {
     let pattern = "a{2,3}|[b-d]*";
     for length in 0..14 {
-        if let Some(beginning) = pattern.get(..length) {
-            let is_pattern = refusal(&rt, beginning)?.is_none();
+        if let Some(prefix) = pattern.get(..length) {
+            let is_pattern = refusal(&rt, prefix)?.is_none();
             assert_eq!(rt;
                 is_pattern,
                 [0, 1, 6, 7, 12, 13].contains(&length),
-                "for {beginning}"
+                "for {prefix}"
             );
         }
     }

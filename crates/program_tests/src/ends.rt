@@ -74,7 +74,7 @@ impl Write for FailsAtFifth {
 }
 
 #[test]
-fn a_failed_write_leaves_a_beginning(rt: HostRuntime) {
+fn a_failed_write_leaves_a_prefix(rt: HostRuntime) {
     for kind in KINDS {
         let input: &[u8] = b"1 l class\n0 r [a-z]+\n";
         let mut reader = Watched::new(input);

@@ -4,19 +4,19 @@ use Rattle.std.specs.Str.{IsUtf8, IsCharBoundary}
 use Rattle.std.proofs.lemmas.Str.{IsCharBoundary-from_take}
 use Rattle.std.proofs.lemmas.List.{take_at, drop_at}
 use Rattle.lalrpop_hir.specs.Tree.{Tree}
-use Rattle.lalrpop_lexer.specs.Beginning.{IsBeginning}
+use Rattle.lalrpop_lexer.specs.Prefix.{IsPrefix}
 use Rattle.tokens_lib.specs.Cut.{IsToken, AreTokens, joined}
 use Rattle.tokens_lib.specs.declared.token.Token.{Token}
 
--- a beginning of a text ends where the text may be cut
-pub cut_behind : (p text : List ℕ) → IsUtf8 text → IsBeginning p text → IsCharBoundary text (length p)
+-- a prefix of a text ends where the text may be cut
+pub cut_behind : (p text : List ℕ) → IsUtf8 text → IsPrefix p text → IsCharBoundary text (length p)
 cut_behind p text u b =
     IsCharBoundary-from_take text (length p) u (omega (arith, ap length b.1.0, length-append p b.0))
     (subst IsUtf8 (sym (ap (take (length p)) b.1.0 ∙ take_at p b.0 (length p) refl)) b.1.1)
 
--- what follows a beginning
-after_beginning : (p text : List ℕ) (b : IsBeginning p text) → b.0 ≡ drop (length p) text
-after_beginning p text b = sym (ap (drop (length p)) b.1.0 ∙ drop_at p b.0 (length p) refl)
+-- what follows a prefix
+after_prefix : (p text : List ℕ) (b : IsPrefix p text) → b.0 ≡ drop (length p) text
+after_prefix p text b = sym (ap (drop (length p)) b.1.0 ∙ drop_at p b.0 (length p) refl)
 
 -- the tokens so far and one more, where the code drops its bytes
 pub AreTokens-push : (ts : List Tree) (ps text : List ℕ) (tokens : List Token) (rest : List ℕ) (token : Token)
@@ -27,7 +27,7 @@ AreTokens-push ts ps text [] rest token same is =
       subst (λ t. IsToken ts ps t token) (sym same) is,
       (
         drop (length token.slice.now) rest,
-        (same ∙ begins.1.0 ∙ ap (λ after. token.slice.now ++ after) (after_beginning token.slice.now rest begins), refl),
+        (same ∙ begins.1.0 ∙ ap (λ after. token.slice.now ++ after) (after_prefix token.slice.now rest begins), refl),
       ),
     )
 AreTokens-push ts ps text (first ∷ tokens) rest token are is =

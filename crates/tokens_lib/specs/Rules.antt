@@ -2,7 +2,7 @@
 use Rattle.std.specs.Prelude.{ℕ, List}
 use Rattle.lalrpop_hir.specs.Tree.{Tree}
 use Rattle.lalrpop_lexer.specs.Clash.{NoClash}
-use Rattle.lalrpop_lexer.specs.Dfa.{Row, Stands}
+use Rattle.lalrpop_lexer.specs.Dfa.{Row, Recognizes}
 
 -- the trees of a list of patterns, and their precedences
 pub record Rules : Type 0 where
@@ -12,4 +12,4 @@ pub record Rules : Type 0 where
 -- no word is ambiguous, and the automaton stands for the trees and precedences
 pub record IsBuiltFrom (ts : List Tree) (ps : List ℕ) (d : List Row) : Type 0 where
   pub no_clash : NoClash ts ps
-  pub stands : Stands d ts ps
+  pub stands : Recognizes d ts ps

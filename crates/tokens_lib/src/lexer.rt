@@ -103,7 +103,7 @@ impl Lexer {
         &self.regexs
     }
 
-    /// The token at the front of the text: the longest nonempty beginning that some pattern matches, with the one pattern of
+    /// The token at the front of the text: the longest nonempty prefix that some pattern matches, with the one pattern of
     /// the greatest precedence that matches it.
     pub fn token<'text>(&self, text: &'text str) -> Option<Token<'text>>
         ensures token { IfSome result (λ token. IsToken self.now.trees self.now.precedences text.now token) }

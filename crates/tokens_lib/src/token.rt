@@ -7,7 +7,7 @@ pub struct Token<'text> {
     pub slice: &'text str,
 }
 
-/// The tokens at the front of a text, and the rest, of which no pattern matches a nonempty beginning.
+/// The tokens at the front of a text, and the rest, of which no pattern matches a nonempty prefix.
 #[derive(Drop)]
 pub struct Tokens<'text> {
     pub tokens: Vec<Token<'text>>,

@@ -4,11 +4,11 @@ use Rattle.lalrpop_hir.specs.Word.{Shortlex}
 use Rattle.lalrpop_hir.specs.Tree.{repetition}
 use Rattle.lalrpop_hir.specs.Language.{Matches}
 use Rattle.lalrpop_hir.proofs.Words.{Shortlex-irreflexive}
-use Rattle.lalrpop_dfa.specs.Winners.{Who}
+use Rattle.lalrpop_dfa.specs.Winners.{TreeMatches}
 use Rattle.lalrpop_dfa.specs.Clash.{NoClash, IsClash}
 use Rattle.lalrpop_dfa.proofs.Cases.Winners.{a, b, one_of_two, both_zero, both_are_strongest, equal_precedences_are_ambiguous, unequal_precedences_are_not_ambiguous, trees_without_a_common_word_are_not_ambiguous}
 
-who_matches_a : (w : List ℕ) (i : ℕ) → Who (a ∷ a ∷ []) w i → (w ≡ 97 ∷ []) × (i ≤ 1)
+who_matches_a : (w : List ℕ) (i : ℕ) → TreeMatches (a ∷ a ∷ []) w i → (w ≡ 97 ∷ []) × (i ≤ 1)
 who_matches_a w i h = by_tree (one_of_two a a w i h)
   where
     by_tree : ((i ≡ 0) × Matches a w) ⊎ ((i ≡ 1) × Matches a w) → (w ≡ 97 ∷ []) × (i ≤ 1)
@@ -50,7 +50,7 @@ clash_on_the_empty_word = record {
     nothing_less [] (inr h) = h.1
     nothing_less (c ∷ v) (inr h) = h.1
 
-    two : (k : ℕ) → Who (repetition 0 None true a ∷ repetition 0 None true b ∷ []) [] k → k ≤ 1
+    two : (k : ℕ) → TreeMatches (repetition 0 None true a ∷ repetition 0 None true b ∷ []) [] k → k ≤ 1
     two zero h = omega arith
     two (suc zero) h = omega arith
     two (suc (suc n)) h = let e : None ≡ Some h.0 = h.1.0 in absurd (cc)

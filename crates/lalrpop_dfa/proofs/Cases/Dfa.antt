@@ -6,8 +6,8 @@ use Rattle.std.proofs.lemmas.Bool.Decides.{leb_tells}
 use Rattle.lalrpop_hir.specs.Range.{Range}
 use Rattle.lalrpop_hir.specs.Tree.{Tree, literal}
 use Rattle.lalrpop_hir.specs.Language.{Matches}
-use Rattle.lalrpop_dfa.specs.Winners.{Who, Matched}
-use Rattle.lalrpop_dfa.specs.Dfa.{Row, leads, step, run, after, Says, IsReject, Stands, AreAscendingTests, IsTable}
+use Rattle.lalrpop_dfa.specs.Winners.{TreeMatches, Matched}
+use Rattle.lalrpop_dfa.specs.Dfa.{Row, edge_target, step, run, after, IsRightKind, IsReject, Recognizes, AreAscendingTests, IsWellFormed}
 use Rattle.lalrpop_dfa.specs.declared.Kind.TheVariants.{Accepts, Reject, Neither}
 
 abbrev a : Tree
@@ -41,10 +41,10 @@ leaves_reject =
 -- ---- where words lead
 
 -- a value of a range leads where its test does, any other value where the other edge does
-value_of_a_range_leads_to_its_target : leads ((between 97 99, 1) ∷ []) 2 99 ≡ 1
+value_of_a_range_leads_to_its_target : edge_target ((between 97 99, 1) ∷ []) 2 99 ≡ 1
 value_of_a_range_leads_to_its_target = refl
 
-other_value_leads_to_the_other_target : leads ((between 97 99, 1) ∷ []) 2 100 ≡ 2
+other_value_leads_to_the_other_target : edge_target ((between 97 99, 1) ∷ []) 2 100 ≡ 2
 other_value_leads_to_the_other_target = refl
 
 steps_of_the_automaton : (step automaton_of_a 0 97 ≡ 1) × (step automaton_of_a 0 98 ≡ 2) × (step automaton_of_a 1 97 ≡ 2)
@@ -60,7 +60,7 @@ run_from_another_state = (refl, refl)
 
 -- ---- what states say
 
-only_a_matches : (w : List ℕ) (i : ℕ) → Who (a ∷ []) w i → (w ≡ 97 ∷ []) × (i ≡ 0)
+only_a_matches : (w : List ℕ) (i : ℕ) → TreeMatches (a ∷ []) w i → (w ≡ 97 ∷ []) × (i ≡ 0)
 only_a_matches w zero h = (same a h.0 h.1.0 h.1.1, refl)
   where
     same : (s r : Tree) → Some s ≡ Some r → Matches r w → Matches s w
@@ -75,17 +75,17 @@ no_match_but_a : (w : List ℕ) → w ≢ 97 ∷ [] → ¬ Matched (a ∷ []) w
 no_match_but_a w n m = n (only_a_matches w m.0 m.1).0
 
 -- of `a` an accepting state speaks the truth, and a reject state doesn't
-accepting_state_is_right_of_a : Says (a ∷ []) (0 ∷ []) (97 ∷ []) (Accepts 0)
+accepting_state_is_right_of_a : IsRightKind (a ∷ []) (0 ∷ []) (97 ∷ []) (Accepts 0)
 accepting_state_is_right_of_a = (((a, (refl, refl)), λ j h. omega (arith, zeros j)), λ j t. (only_a_matches (97 ∷ []) j t.0).1)
 
-reject_state_is_wrong_of_a : ¬ Says (a ∷ []) (0 ∷ []) (97 ∷ []) Reject
+reject_state_is_wrong_of_a : ¬ IsRightKind (a ∷ []) (0 ∷ []) (97 ∷ []) Reject
 reject_state_is_wrong_of_a n = n (0, (a, (refl, refl)))
 
 -- of the empty word it is the other way round
-reject_state_is_right_of_nothing : Says (a ∷ []) (0 ∷ []) [] Reject
+reject_state_is_right_of_nothing : IsRightKind (a ∷ []) (0 ∷ []) [] Reject
 reject_state_is_right_of_nothing = no_match_but_a [] (λ e. cc)
 
-accepting_state_is_wrong_of_nothing : ¬ Says (a ∷ []) (0 ∷ []) [] (Accepts 0)
+accepting_state_is_wrong_of_nothing : ¬ IsRightKind (a ∷ []) (0 ∷ []) [] (Accepts 0)
 accepting_state_is_wrong_of_nothing top = let e = (only_a_matches [] 0 top.0.0).0 in absurd (cc)
 
 -- the third state is a reject state; the first isn't, and no fourth is there
@@ -113,7 +113,7 @@ first_step c = by_tests (leb_tells 97 c) (leb_tells c 97)
     by_tests (inl h) (inl g) = inl (omega (arith, h.1, g.1), rw (h.0, g.0) refl)
 
 abbrev IsRightAt : List ℕ → ℕ → Type 0
-IsRightAt w p = IsSomeAnd (slice_get automaton_of_a p) (λ r. Says (a ∷ []) (0 ∷ []) w r.kind)
+IsRightAt w p = IsSomeAnd (slice_get automaton_of_a p) (λ r. IsRightKind (a ∷ []) (0 ∷ []) w r.kind)
 
 right_after : (w : List ℕ) → IsRightAt w (after automaton_of_a w)
 right_after [] = reject_state_is_right_of_nothing
@@ -129,7 +129,7 @@ right_after (c ∷ w) = by_step (first_step c)
         by_rest (d ∷ v) = subst (IsRightAt (c ∷ d ∷ v)) (sym (reject_stays v)) (no_match_but_a (c ∷ d ∷ v) (λ e. cc))
 
 -- it stands for `a`
-automaton_stands : Stands automaton_of_a (a ∷ []) (0 ∷ [])
+automaton_stands : Recognizes automaton_of_a (a ∷ []) (0 ∷ [])
 automaton_stands = record { kinds = right_after; stays = stays }
   where
     stays : (p c : ℕ) → IsReject automaton_of_a p → IsReject automaton_of_a (step automaton_of_a p c)
@@ -139,10 +139,10 @@ automaton_stands = record { kinds = right_after; stays = stays }
     stays (suc (suc (suc p))) c h = absurd h
 
 -- and doesn't where a kind is wrong, or the reject state is left
-wrong_kind_does_not_stand : ¬ Stands accepts_at_start (a ∷ []) (0 ∷ [])
+wrong_kind_does_not_stand : ¬ Recognizes accepts_at_start (a ∷ []) (0 ∷ [])
 wrong_kind_does_not_stand s = accepting_state_is_wrong_of_nothing (s.kinds [])
 
-reject_state_that_is_left_does_not_stand : ¬ Stands leaves_reject (a ∷ []) (0 ∷ [])
+reject_state_that_is_left_does_not_stand : ¬ Recognizes leaves_reject (a ∷ []) (0 ∷ [])
 reject_state_that_is_left_does_not_stand s = let e : Neither ≡ Reject = s.stays 2 97 refl in absurd (cc)
 
 -- ---- tables
@@ -157,7 +157,7 @@ overlapping_tests_do_not_ascend h = omega (arith, h.1)
 empty_range_is_no_test : ¬ AreAscendingTests ((between 99 97, 1) ∷ [])
 empty_range_is_no_test h = omega arith
 
-automaton_is_a_table : IsTable automaton_of_a
+automaton_is_a_table : IsWellFormed automaton_of_a
 automaton_is_a_table = record { some = omega arith; ascending = ascending; tests_in = tests_in; others_in = others_in }
   where
     ascending : (p : ℕ) (r : Row) → slice_get automaton_of_a p ≡ Some r → AreAscendingTests r.tests
@@ -182,12 +182,12 @@ automaton_is_a_table = record { some = omega arith; ascending = ascending; tests
     others_in (suc (suc zero)) r e = let f : r.other ≡ 2 = cc in omega (arith, f)
     others_in (suc (suc (suc p))) r e = absurd (cc)
 
-no_states_are_no_table : ¬ IsTable []
+no_states_are_no_table : ¬ IsWellFormed []
 no_states_are_no_table t = omega (arith, t.some)
 
 -- one state, whose other edge leads to a second
-edge_to_nowhere_is_in_no_table : ¬ IsTable (record { kind = Neither; tests = []; other = 1; items = [] } ∷ [])
+edge_to_nowhere_is_in_no_table : ¬ IsWellFormed (record { kind = Neither; tests = []; other = 1; items = [] } ∷ [])
 edge_to_nowhere_is_in_no_table t = let l : 1 < 1 = t.others_in 0 _ refl in omega (arith, l)
 
-test_to_nowhere_is_in_no_table : ¬ IsTable (record { kind = Neither; tests = (between 97 97, 1) ∷ []; other = 0; items = [] } ∷ [])
+test_to_nowhere_is_in_no_table : ¬ IsWellFormed (record { kind = Neither; tests = (between 97 97, 1) ∷ []; other = 0; items = [] } ∷ [])
 test_to_nowhere_is_in_no_table t = let l : 1 < 1 = t.tests_in 0 _ (between 97 97, 1) refl (0, omega arith, refl) in omega (arith, l)

@@ -8,13 +8,13 @@ use Rattle.lalrpop_hir.specs.Range.{Range, Covers}
 use Rattle.lalrpop_hir.specs.Tree.{Tree, empty, literal, class, unicode, alternation, none, also}
 use Rattle.lalrpop_nfa.specs.Graph.{Graph}
 use Rattle.lalrpop_nfa.specs.Lists.{Lists}
-use Rattle.lalrpop_nfa.specs.Path.{IsUntested, Path, here, skip, read, fall, noop, test, other}
+use Rattle.lalrpop_nfa.specs.Path.{IsUntested, Path, here, epsilon, read, otherwise, noop, test, other}
 use Rattle.lalrpop_nfa.specs.Compiled.{IsLabel, IsCompiled}
 use Rattle.lalrpop_nfa.specs.declared.edge.Edge.{Edge}
 use Rattle.lalrpop_nfa.specs.declared.edge.Noop.{Noop}
 use Rattle.lalrpop_nfa.specs.declared.edge.Other.{Other}
 use Rattle.lalrpop_nfa.specs.declared.edge.StateKind.TheVariants.{Accept, Reject as RejectState, Neither as NeitherState}
-use Rattle.lalrpop_ranges.specs.Runs.{IsRuns}
+use Rattle.lalrpop_ranges.specs.Partition.{IsPartition}
 use Rattle.lalrpop_dfa.specs.Dfa.{Row, after, run, step}
 use Rattle.lalrpop_dfa.specs.Items.{Item, AreCompiled, IsReached, IsLeaving, HoldsItems, OthersReject, IsInWordOrder}
 use Rattle.lalrpop_dfa.specs.declared.Kind.TheVariants.{Accepts, Reject, Neither}
@@ -31,7 +31,7 @@ graph_of_a = record {
 
 -- the empty word leads from START to the state before the letter
 before_the_letter_is_reached : IsReached (graph_of_a ∷ []) [] (0, 3)
-before_the_letter_is_reached = (graph_of_a, (refl, skip 2 3 [] (0, omega arith, refl) (here 3 refl)))
+before_the_letter_is_reached = (graph_of_a, (refl, epsilon 2 3 [] (0, omega arith, refl) (here 3 refl)))
 
 -- and not to any of a second automaton, which isn't there
 state_of_no_automaton_is_not_reached : (w : List ℕ) (p : ℕ) → ¬ IsReached (graph_of_a ∷ []) w (1, p)
@@ -87,11 +87,11 @@ automaton_of_nothing_holds_nothing = record {
     reaches_none : (w : List ℕ) (x : Item) → ¬ IsReached [] w x
     reaches_none w x h = let e : None ≡ Some h.0 = h.1.0 in absurd (cc)
 
-    labels : (p : ℕ) (r : Row) → slice_get automaton_of_nothing p ≡ Some r → IsRuns (IsLeaving [] r.items) (map (λ t. t.0) r.tests)
-    labels p r e = subst (λ ts. IsRuns (IsLeaving [] r.items) (map (λ t. t.0) ts)) (tests_of p r e) (record {
+    labels : (p : ℕ) (r : Row) → slice_get automaton_of_nothing p ≡ Some r → IsPartition (IsLeaving [] r.items) (map (λ t. t.0) r.tests)
+    labels p r e = subst (λ ts. IsPartition (IsLeaving [] r.items) (map (λ t. t.0) ts)) (tests_of p r e) (record {
       ascending = tt;
-      are_runs = λ x h. absurd (omega (arith, h.1));
-      all_runs = λ x run. let held = run.block.covered x.start (omega arith, run.block.holds_one) in absurd (in_none r held.1.0.0 (items_of p r e) held.1.0.3.0);
+      are_blocks = λ x h. absurd (omega (arith, h.1));
+      all_blocks = λ x run. let held = run.uniform.covered x.start (omega arith, run.uniform.holds_one) in absurd (in_none r held.1.0.0 (items_of p r e) held.1.0.3.0);
     })
 
     distinct : (p q : ℕ) (r s : Row) → slice_get automaton_of_nothing p ≡ Some r → slice_get automaton_of_nothing q ≡ Some s → ((x : Item) → Contains r.items x ↔ Contains s.items x) → p ≡ q
@@ -140,7 +140,7 @@ ends last _ _ (here p e) = record {
   start_stays = λ h k. inl (sym e ∙ h);
   start_reads = λ h n. absurd (n refl);
 }
-ends last _ _ (skip p q w m path) =
+ends last _ _ (epsilon p q w m path) =
     let is = noop_is p q m in
     let rest = ends last q w path in
     record {
@@ -151,7 +151,7 @@ ends last _ _ (skip p q w m path) =
       start_reads = λ h n. rest.accept_reads is.1 n;
     }
 ends last _ _ (read p q v r c m k path) = absurd (omega (arith, m.1))
-ends last _ _ (fall p q v c m u path) =
+ends last _ _ (otherwise p q v c m u path) =
     let is = other_is p q m in
     let end : last ≡ 1 = (ends last q v path).reject is.1 in
     record {
@@ -180,7 +180,7 @@ rejecting (suc (suc (suc p))) = ((λ h. absurd (cc)), (λ h. absurd (omega arith
 
 graph_is_compiled : IsCompiled empty graph_of_empty
 graph_is_compiled = record {
-  reads = λ w. (word_is_empty w, λ e. subst (λ v. Path edges_of_empty 0 2 v) (sym e) (skip 2 0 [] (0, omega arith, refl) (here 0 refl)));
+  reads = λ w. (word_is_empty w, λ e. subst (λ v. Path edges_of_empty 0 2 v) (sym e) (epsilon 2 0 [] (0, omega arith, refl) (here 0 refl)));
   few = omega arith;
   start_in = omega arith;
   accepting = accepting;
@@ -241,10 +241,10 @@ automaton_of_the_empty_tree_holds_its_items = record { reached = reached; items 
 
     to_reject : (w : List ℕ) → Path edges_of_empty 1 1 w
     to_reject [] = here 1 refl
-    to_reject (c ∷ w) = fall 1 1 w c (1, omega arith, refl) (untested 1 c) (to_reject w)
+    to_reject (c ∷ w) = otherwise 1 1 w c (1, omega arith, refl) (untested 1 c) (to_reject w)
 
     first_reached : (x : Item) → Contains first_row.items x → IsReached ns [] x
-    first_reached x (zero, l, e) = subst (λ y. IsReached ns [] y) e (graph_of_empty, (refl, skip 2 0 [] (0, omega arith, refl) (here 0 refl)))
+    first_reached x (zero, l, e) = subst (λ y. IsReached ns [] y) e (graph_of_empty, (refl, epsilon 2 0 [] (0, omega arith, refl) (here 0 refl)))
     first_reached x (suc zero, l, e) = subst (λ y. IsReached ns [] y) e (graph_of_empty, (refl, here 2 refl))
     first_reached x (suc (suc k), l, e) = absurd (omega arith)
 
@@ -259,8 +259,14 @@ automaton_of_the_empty_tree_holds_its_items = record { reached = reached; items 
 
     second_reached : (c : ℕ) (w : List ℕ) (x : Item) → Contains second_row.items x → IsReached ns (c ∷ w) x
     second_reached c w x (zero, l, e) =
-        subst (λ y. IsReached ns (c ∷ w) y) e (graph_of_empty, (refl, skip 2 0 (c ∷ w) (0, omega arith, refl)
-        (fall 0 1 w c (0, omega arith, refl) (untested 0 c) (to_reject w))))
+        subst (λ y. IsReached ns (c ∷ w) y) e (
+          graph_of_empty,
+          (
+            refl,
+            epsilon 2 0 (c ∷ w) (0, omega arith, refl)
+                (otherwise 0 1 w c (0, omega arith, refl) (untested 0 c) (to_reject w)),
+          ),
+        )
     second_reached c w x (suc k, l, e) = absurd (omega arith)
 
     second_at : (i q : ℕ) → i ≡ 0 → q ≡ 1 → Contains second_row.items (i, q)
@@ -288,11 +294,11 @@ automaton_of_the_empty_tree_holds_its_items = record { reached = reached; items 
     no_test : (g : Graph) (t : Edge Range) → graph_of_empty ≡ g → ¬ Contains g.edges.tests t
     no_test g t e h = let k = subst (λ u. Contains u.edges.tests t) (sym e) h in omega (arith, k.1)
 
-    labels : (p : ℕ) (r : Row) → slice_get automaton_of_empty p ≡ Some r → IsRuns (IsLeaving ns r.items) (map (λ t. t.0) r.tests)
-    labels p r e = subst (λ ts. IsRuns (IsLeaving ns r.items) (map (λ t. t.0) ts)) (tests_of p r e) (record {
+    labels : (p : ℕ) (r : Row) → slice_get automaton_of_empty p ≡ Some r → IsPartition (IsLeaving ns r.items) (map (λ t. t.0) r.tests)
+    labels p r e = subst (λ ts. IsPartition (IsLeaving ns r.items) (map (λ t. t.0) ts)) (tests_of p r e) (record {
       ascending = tt;
-      are_runs = λ x h. absurd (omega (arith, h.1));
-      all_runs = λ x run. let held = run.block.covered x.start (omega arith, run.block.holds_one) in
+      are_blocks = λ x h. absurd (omega (arith, h.1));
+      all_blocks = λ x run. let held = run.uniform.covered x.start (omega arith, run.uniform.holds_one) in
           let leaving = held.1.0 in
           absurd (no_test leaving.1 _ (one_place leaving.0.0 leaving.1 leaving.3.1).1 leaving.3.2);
     })
@@ -324,9 +330,10 @@ automaton_of_the_empty_tree_holds_its_items = record { reached = reached; items 
 
     rejects : (p : ℕ) (r : Row) → slice_get automaton_of_empty p ≡ Some r → (r.kind ≡ Reject) ↔ ((x : Item) → Contains r.items x → x.1 ≡ 1)
     rejects zero r e =
-        let a : first_row ≡ r = cc in
-        ((λ k. let n : Accepts 0 ≡ Reject = ap (λ (s : Row). s.kind) a ∙ k in absurd (cc)),
-          (λ h. let n : 0 ≡ 1 = h (0, 0) (accept_in_first r a) in absurd (omega (arith, n))))
+        let a : first_row ≡ r = cc in (
+          (λ k. let n : Accepts 0 ≡ Reject = ap (λ (s : Row). s.kind) a ∙ k in absurd (cc)),
+          (λ h. let n : 0 ≡ 1 = h (0, 0) (accept_in_first r a) in absurd (omega (arith, n))),
+        )
     rejects (suc zero) r e =
         let a : second_row ≡ r = cc in
         ((λ k x h. second_alone r x a h), (λ h. sym (ap (λ (s : Row). s.kind) a)))
@@ -353,14 +360,14 @@ with_joined_ranges =
 -- it doesn't hold its items: the ranges of a state are cut where its labels are
 joined_ranges_do_not_hold_items : (ns : List Graph) → AreCompiled (ab_or_c ∷ []) ns → ¬ HoldsItems ns with_joined_ranges
 joined_ranges_do_not_hold_items ns c h =
-    let block = ((h.labels 0 _ refl).are_runs (between 97 99) (0, omega arith, refl)).block in
-    let held = block.covered 97 (omega arith, omega arith) in
+    let uniform = ((h.labels 0 _ refl).are_blocks (between 97 99) (0, omega arith, refl)).uniform in
+    let held = uniform.covered 97 (omega arith, omega arith) in
     let leaving = held.1.0 in
     let place = one_place ns leaving.0.0 leaving.1 c.same_length leaving.3.1 in
     let here : slice_get ns 0 ≡ Some leaving.1 = subst (λ i. slice_get ns i ≡ Some leaving.1) place leaving.3.1 in
     let compiled = c.each 0 ab_or_c leaving.1 refl here in
     let label = (compiled.labels (test leaving.0.1 held.0 leaving.2) leaving.3.2).0 in
-    by_label held.0 held.1.1 ((block.constant 97 99 (omega arith, omega arith) (omega arith, omega arith) held.0 held.1.0).0 held.1.1) (label_is held.0 label)
+    by_label held.0 held.1.1 ((uniform.constant 97 99 (omega arith, omega arith) (omega arith, omega arith) held.0 held.1.0).0 held.1.1) (label_is held.0 label)
   where
     label_is : (r : Range) → IsLabel ab_or_c r → (r ≡ between 97 98) ⊎ (r ≡ between 99 99)
     label_is r (inl (zero, l, e)) = inl (sym e)
@@ -384,15 +391,15 @@ joined_ranges_do_not_hold_items ns c h =
 -- the other edges of the automaton of `a` lead to its reject state
 other_edges_lead_to_reject : OthersReject automaton_of_a
 other_edges_lead_to_reject p r s h g =
-    let there : slice_get automaton_of_a 2 ≡ Some s = subst (λ n. slice_get automaton_of_a n ≡ Some s) (lead p r h) g in
+    let there : slice_get automaton_of_a 2 ≡ Some s = subst (λ n. slice_get automaton_of_a n ≡ Some s) (transition p r h) g in
     let e : Reject ≡ s.kind = cc in
     sym e
   where
-    lead : (p : ℕ) (r : Row) → slice_get automaton_of_a p ≡ Some r → r.other ≡ 2
-    lead zero r e = cc
-    lead (suc zero) r e = cc
-    lead (suc (suc zero)) r e = cc
-    lead (suc (suc (suc p))) r e = absurd (cc)
+    transition : (p : ℕ) (r : Row) → slice_get automaton_of_a p ≡ Some r → r.other ≡ 2
+    transition zero r e = cc
+    transition (suc zero) r e = cc
+    transition (suc (suc zero)) r e = cc
+    transition (suc (suc (suc p))) r e = absurd (cc)
 
 -- a state that takes any value leads elsewhere
 other_edge_to_an_accepting_state : ¬ OthersReject (record { kind = Accepts 0; tests = []; other = 0; items = [] } ∷ [])

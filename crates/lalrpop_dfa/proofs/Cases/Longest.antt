@@ -3,7 +3,7 @@ use Rattle.std.proofs.Common.{◌≡◌, ℕ, zero, suc, ◌≤◌, List, [], �
 use Rattle.std.specs.Str.{chars}
 use Rattle.lalrpop_hir.specs.Tree.{Tree, literal, repetition}
 use Rattle.lalrpop_hir.specs.Language.{Matches}
-use Rattle.lalrpop_dfa.specs.Winners.{Who}
+use Rattle.lalrpop_dfa.specs.Winners.{TreeMatches}
 use Rattle.lalrpop_dfa.specs.Longest.{IsMatch, IsLongest}
 
 abbrev a : Tree
@@ -27,20 +27,20 @@ a_is_not_b e = let n : 97 ≡ 98 = ap (λ v. get_or v 0 0) e in omega (arith, n)
 ab_is_not_a : ◌≡◌ {A = List ℕ} (97 ∷ 98 ∷ []) (97 ∷ []) → ⊥
 ab_is_not_a e = let n : 2 ≡ 1 = ap length e in omega (arith, n)
 
--- `a` is a beginning of `ab` that some tree matches
-pub beginning_that_matches : IsMatch (a ∷ []) (97 ∷ 98 ∷ []) (97 ∷ [])
+-- `a` is a prefix of `ab` that some tree matches
+pub prefix_that_matches : IsMatch (a ∷ []) (97 ∷ 98 ∷ []) (97 ∷ [])
 unfolding lib.Utf8.encode
-beginning_that_matches = ((98 ∷ [], (refl, (97 ∷ [], (refl, refl)))), (λ e. cc), (0, (a, (refl, chars_a))))
+prefix_that_matches = ((98 ∷ [], (refl, (97 ∷ [], (refl, refl)))), (λ e. cc), (0, (a, (refl, chars_a))))
 
--- the empty beginning is no match, also where a tree matches the empty word
-empty_beginning_is_no_match : ¬ IsMatch (repetition 0 None true a ∷ []) (97 ∷ 98 ∷ []) []
-empty_beginning_is_no_match m = m.1 refl
+-- the empty prefix is no match, also where a tree matches the empty word
+empty_prefix_is_no_match : ¬ IsMatch (repetition 0 None true a ∷ []) (97 ∷ 98 ∷ []) []
+empty_prefix_is_no_match m = m.1 refl
 
--- and `b` is no beginning
+-- and `b` is no prefix
 part_inside_is_no_match : ¬ IsMatch (literal (98 ∷ []) ∷ []) (97 ∷ 98 ∷ []) (98 ∷ [])
 part_inside_is_no_match m = let n : 97 ≡ 98 = ap (λ v. get_or v 0 0) m.0.1.0 in omega (arith, n)
 
-only_a_matches : (w : List ℕ) (i : ℕ) → Who (a ∷ []) w i → (w ≡ 97 ∷ []) × (i ≡ 0)
+only_a_matches : (w : List ℕ) (i : ℕ) → TreeMatches (a ∷ []) w i → (w ≡ 97 ∷ []) × (i ≡ 0)
 only_a_matches w zero h = (same a h.0 h.1.0 h.1.1, refl)
   where
     same : (s r : Tree) → Some s ≡ Some r → Matches r w → Matches s w
@@ -68,15 +68,15 @@ one_byte (x ∷ y ∷ p) m =
 
 -- so it is the longest
 longest_match_is_a : IsLongest (a ∷ []) (0 ∷ []) (97 ∷ 98 ∷ []) (Some (0, 97 ∷ []))
-longest_match_is_a = (beginning_that_matches, one_byte, (((a, (refl, chars_a)), λ j h. omega (arith, zeros j)), λ j t. omega (arith, (only_a_matches (chars (97 ∷ [])) j t.0).1)))
+longest_match_is_a = (prefix_that_matches, one_byte, (((a, (refl, chars_a)), λ j h. omega (arith, zeros j)), λ j t. omega (arith, (only_a_matches (chars (97 ∷ [])) j t.0).1)))
   where
     zeros : (j : ℕ) → slice_index (0 ∷ []) j ≡ 0
     zeros zero = refl
     zeros (suc j) = refl
 
--- and there is one; it is neither the empty beginning nor the whole text
+-- and there is one; it is neither the empty prefix nor the whole text
 longest_match_is_not_none : ¬ IsLongest (a ∷ []) (0 ∷ []) (97 ∷ 98 ∷ []) None
-longest_match_is_not_none h = h (97 ∷ []) beginning_that_matches
+longest_match_is_not_none h = h (97 ∷ []) prefix_that_matches
 
 longest_match_is_not_empty : (i : ℕ) → ¬ IsLongest (a ∷ []) (0 ∷ []) (97 ∷ 98 ∷ []) (Some (i, []))
 longest_match_is_not_empty i h = h.0.1 refl

@@ -9,13 +9,13 @@ use Rattle.lalrpop_dfa.specs.Clash.{IsClash}
 use Rattle.lalrpop_dfa.specs.Dfa.{Row}
 use Rattle.lalrpop_dfa.specs.Items.{Item, AreCompiled, IsLeaving}
 use Rattle.lalrpop_dfa.specs.Internal.Ascending.{IsItemOf}
-use Rattle.lalrpop_dfa.specs.Internal.Machine.{move}
-use Rattle.lalrpop_dfa.specs.Internal.Leads.{AreLeads, leads_cmp}
-use Rattle.lalrpop_dfa.specs.declared.parts.Leads.{Leads}
-use Rattle.lalrpop_dfa.specs.Internal.Numbering.{Numbering, nth, value_of}
-use Rattle.lalrpop_dfa.specs.Internal.Built.{machine_of, IsRowOf, IsTied}
+use Rattle.lalrpop_dfa.specs.Internal.Subsets.{move}
+use Rattle.lalrpop_dfa.specs.Internal.Transitions.{AreTransitions, transitions_cmp}
+use Rattle.lalrpop_dfa.specs.declared.blocks.Transitions.{Transitions}
+use Rattle.lalrpop_dfa.specs.Internal.BreadthFirst.{IsBreadthFirst, nth, value_of}
+use Rattle.lalrpop_dfa.specs.Internal.Built.{subset_automaton, IsRowOf, IsTied}
 use Rattle.lalrpop_dfa.specs.Report.{FirstFault}
-use Rattle.lalrpop_ranges.specs.Runs.{IsRuns}
+use Rattle.lalrpop_ranges.specs.Partition.{IsPartition}
 use Rattle.lalrpop_nfa.specs.declared.error.NfaConstructionError.{NfaConstructionError}
 use Rattle.lalrpop_nfa.specs.declared.error.NfaConstructionError.TheVariants.{OutOfMemory as NoMemory}
 use Rattle.lalrpop_dfa.specs.declared.error.DfaConstructionError.{DfaConstructionError}
@@ -36,8 +36,8 @@ AddedTo sets origins n v t j sets2 origins2 =
     ⊎ (((k : ℕ) → slice_get sets k ≡ Some t → ⊥) × (j ≡ length sets) × (sets2 ≡ sets ++ t ∷ []) × (origins2 ≡ origins ++ (n, v) ∷ []))
 
 -- each number of the map is that of the set to which the set s leads by the values that take these test edges
-abbrev pub AreKnown : List Graph → List Item → BTreeMap Leads ℕ → List (List Item) → Type 0
-AreKnown ns s known sets = (leads : Leads) (j v : ℕ) → get leads_cmp known leads ≡ Some j → AreLeads ns s v leads.list.items → slice_get sets j ≡ Some (move ns s v)
+abbrev pub AreKnown : List Graph → List Item → BTreeMap Transitions ℕ → List (List Item) → Type 0
+AreKnown ns s known sets = (leads : Transitions) (j v : ℕ) → get transitions_cmp known leads ≡ Some j → AreTransitions ns s v leads.list.items → slice_get sets j ≡ Some (move ns s v)
 
 -- the values of origins are of 32 bits
 abbrev pub AreSmall : List (ℕ × ℕ) → Type 0
@@ -45,20 +45,20 @@ AreSmall origins = (k : ℕ) → value_of origins k ≤ 4294967295
 
 -- sets that have a number keep it
 abbrev pub Keep : List Graph → List (List Item) → List (List Item) → Type 0
-Keep ns sets sets2 = (k : ℕ) → k < length sets → (k < length sets2) × (nth (machine_of ns) sets2 k ≡ nth (machine_of ns) sets k)
+Keep ns sets sets2 = (k : ℕ) → k < length sets → (k < length sets2) × (nth (subset_automaton ns) sets2 k ≡ nth (subset_automaton ns) sets k)
 
 -- number n, which has the set s, is taken up: where its tests and all other values lead
 pub record IsEdged (ns : List Graph) (sets : List (List Item)) (origins : List (ℕ × ℕ)) (n : ℕ) (s : List Item) (sets2 : List (List Item)) (origins2 : List (ℕ × ℕ)) (tests : List (Range × ℕ)) (other : ℕ) : Type 0 where
-  pub numbering : Numbering (machine_of ns) sets2 origins2 (n + 1) 0
-  pub ranges : IsRuns (IsLeaving ns s) (map (λ t. t.0) tests)
-  pub leads : (t : Range × ℕ) (c : ℕ) → Contains tests t → Covers t.0 c → (t.1 < length sets2) × (nth (machine_of ns) sets2 t.1 ≡ move ns s c)
-  pub falls : (other < length sets2) × (nth (machine_of ns) sets2 other ≡ move ns s 4294967295)
+  pub breadth_first : IsBreadthFirst (subset_automaton ns) sets2 origins2 (n + 1) 0
+  pub ranges : IsPartition (IsLeaving ns s) (map (λ t. t.0) tests)
+  pub leads : (t : Range × ℕ) (c : ℕ) → Contains tests t → Covers t.0 c → (t.1 < length sets2) × (nth (subset_automaton ns) sets2 t.1 ≡ move ns s c)
+  pub otherwise : (other < length sets2) × (nth (subset_automaton ns) sets2 other ≡ move ns s 4294967295)
   pub kept : Keep ns sets sets2
   pub small : AreSmall origins → AreSmall origins2
 
 -- all numbers below n are taken up, and have their rows
 pub record IsBuiltTo (ns : List Graph) (ps : List ℕ) (sets : List (List Item)) (origins : List (ℕ × ℕ)) (rows : List Row) (n : ℕ) : Type 0 where
-  pub numbering : Numbering (machine_of ns) sets origins n 0
+  pub breadth_first : IsBreadthFirst (subset_automaton ns) sets origins n 0
   pub within : n ≤ length sets
   pub counted : length rows ≡ n
   pub rows_are : (k : ℕ) (r : Row) → slice_get rows k ≡ Some r → IsRowOf ns ps sets k r

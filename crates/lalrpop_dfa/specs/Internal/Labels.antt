@@ -4,7 +4,7 @@ use Rattle.std.specs.List.{Contains, filter}
 use Rattle.lalrpop_hir.specs.Range.{Range}
 use Rattle.lalrpop_nfa.specs.Graph.{Graph}
 use Rattle.lalrpop_dfa.specs.Items.{Item}
-use Rattle.lalrpop_dfa.specs.Internal.Machine.{graph_at}
+use Rattle.lalrpop_dfa.specs.Internal.Subsets.{graph_at}
 use Rattle.lalrpop_nfa.specs.Walk.{leaves}
 
 -- those of one item

@@ -4,14 +4,14 @@ use Rattle.std.specs.List.{Contains, filter}
 use Rattle.lalrpop_nfa.specs.Graph.{Graph}
 use Rattle.lalrpop_dfa.specs.Items.{Item}
 use Rattle.lalrpop_dfa.specs.Internal.Ascending.{AreAscendingItems}
-use Rattle.lalrpop_dfa.specs.Internal.Machine.{graph_at}
+use Rattle.lalrpop_dfa.specs.Internal.Subsets.{graph_at}
 use Rattle.lalrpop_nfa.specs.Walk.{leaves}
 
 -- after the items are noted, observed and pending have become observed2 and pending2
-pub record IsNoted (observed pending items observed2 pending2 : List Item) : Type 0 where
+pub record IsInserted (observed pending items observed2 pending2 : List Item) : Type 0 where
   pub ordered : AreAscendingItems observed → AreAscendingItems observed2
   pub kept : (x : Item) → Contains observed x → Contains observed2 x
-  pub noted : (x : Item) → Contains items x → Contains observed2 x
+  pub inserted : (x : Item) → Contains items x → Contains observed2 x
   pub come : (x : Item) → Contains observed2 x → Contains observed x ⊎ (Contains items x × Contains pending2 x)
   pub pending_kept : (x : Item) → Contains pending x → Contains pending2 x
   pub pending_come : (x : Item) → Contains pending2 x → Contains pending x ⊎ Contains items x
@@ -19,5 +19,5 @@ pub record IsNoted (observed pending items observed2 pending2 : List Item) : Typ
   pub even : length pending2 + length observed ≡ length pending + length observed2
 
 -- the items that x leads to by one edge that reads nothing
-unfoldable pub silent_steps : List Graph → Item → List Item
-silent_steps ns x = map (λ e. (x.0, e.to)) (filter (leaves x.1) (graph_at ns x.0).edges.noops)
+unfoldable pub epsilon_targets : List Graph → Item → List Item
+epsilon_targets ns x = map (λ e. (x.0, e.to)) (filter (leaves x.1) (graph_at ns x.0).edges.noops)

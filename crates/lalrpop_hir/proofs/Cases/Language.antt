@@ -85,8 +85,8 @@ empty_tree_does_not_match_a h = absurd (cc)
 literal_matches_itself : Matches (literal (97 ∷ 98 ∷ [])) (97 ∷ 98 ∷ [])
 literal_matches_itself = refl
 
-literal_does_not_match_its_beginning : ¬ Matches (literal (97 ∷ 98 ∷ [])) (97 ∷ [])
-literal_does_not_match_its_beginning h = absurd (cc)
+literal_does_not_match_its_prefix : ¬ Matches (literal (97 ∷ 98 ∷ [])) (97 ∷ [])
+literal_does_not_match_its_prefix h = absurd (cc)
 
 -- a class matches one value of its ranges
 class_matches_one_value : Matches (class a_to_c) (98 ∷ [])

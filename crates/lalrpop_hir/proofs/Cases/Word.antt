@@ -24,9 +24,9 @@ later_place_decides_nothing (inl h) = omega arith
 later_place_decides_nothing (inr h) = omega (arith, h.0)
 
 -- `a` and `ab` differ at no place
-beginning_has_no_difference : ¬ FirstDifferenceLess (97 ∷ []) (97 ∷ 98 ∷ [])
-beginning_has_no_difference (inl h) = omega arith
-beginning_has_no_difference (inr h) = h.1
+prefix_has_no_difference : ¬ FirstDifferenceLess (97 ∷ []) (97 ∷ 98 ∷ [])
+prefix_has_no_difference (inl h) = omega arith
+prefix_has_no_difference (inr h) = h.1
 
 -- `b` comes before `aa`: length counts first
 shorter_comes_first : Shortlex (98 ∷ []) (97 ∷ 97 ∷ [])

@@ -3,7 +3,7 @@ use Rattle.std.proofs.Common.{◌≡◌, ℕ, zero, suc, ◌<◌, List, [], ◌�
 use Rattle.std.specs.List.{Contains}
 use Rattle.lalrpop_hir.specs.Range.{Range, Covers}
 use Rattle.lalrpop_nfa.specs.Lists.{Lists}
-use Rattle.lalrpop_nfa.specs.Path.{noop, test, other, IsUntested, Tests, Reads, Path, here, skip, read, fall}
+use Rattle.lalrpop_nfa.specs.Path.{noop, test, other, IsUntested, Tests, Reads, Path, here, epsilon, read, otherwise}
 use Rattle.lalrpop_nfa.specs.declared.edge.Edge.{Edge}
 use Rattle.lalrpop_nfa.specs.declared.edge.Noop.{Noop}
 use Rattle.lalrpop_nfa.specs.declared.edge.Other.{Other}
@@ -61,34 +61,34 @@ tested_value_does_not_fall (inr h) = tested_value_is_not_untested h.1
 
 -- from START to ACCEPT, by an edge that reads nothing and one that reads `a`
 pub path_of_a : Path edges_of_a 0 2 (97 ∷ [])
-path_of_a = skip 2 3 (97 ∷ []) (0, omega arith, refl) (read 3 0 [] just_a 97 (0, omega arith, refl) covers_a (here 0 refl))
+path_of_a = epsilon 2 3 (97 ∷ []) (0, omega arith, refl) (read 3 0 [] just_a 97 (0, omega arith, refl) covers_a (here 0 refl))
 
 -- `b` leads to REJECT
 path_to_reject : Path edges_of_a 1 2 (98 ∷ [])
-path_to_reject = skip 2 3 (98 ∷ []) (0, omega arith, refl) (fall 3 1 [] 98 (2, omega arith, refl) value_that_is_untested (here 1 refl))
+path_to_reject = epsilon 2 3 (98 ∷ []) (0, omega arith, refl) (otherwise 3 1 [] 98 (2, omega arith, refl) value_that_is_untested (here 1 refl))
 
 -- what is read from each state to ACCEPT
 record Reading (p : ℕ) (w : List ℕ) : Type 0 where
   accept : p ≡ 0 → w ≡ []
   reject : p ≡ 1 → ⊥
   start : p ≡ 2 → w ≡ 97 ∷ []
-  letter : p ≡ 3 → w ≡ 97 ∷ []
+  character_expr : p ≡ 3 → w ≡ 97 ∷ []
 
 reading : (p : ℕ) (w : List ℕ) → Path edges_of_a 0 p w → Reading p w
 reading _ _ (here p e) = record {
   accept = λ _. refl;
   reject = λ h. omega (arith, h, e);
   start = λ h. absurd (omega (arith, h, e));
-  letter = λ h. absurd (omega (arith, h, e));
+  character_expr = λ h. absurd (omega (arith, h, e));
 }
-reading _ _ (skip p q w m path) =
+reading _ _ (epsilon p q w m path) =
     let is = noop_is p q m in
     let rest = reading q w path in
     record {
       accept = λ h. absurd (omega (arith, h, is.0));
       reject = λ h. omega (arith, h, is.0);
-      start = λ _. rest.letter is.1;
-      letter = λ h. absurd (omega (arith, h, is.0));
+      start = λ _. rest.character_expr is.1;
+      character_expr = λ h. absurd (omega (arith, h, is.0));
     }
 reading _ _ (read p q v r c m k path) =
     let is = test_is p q r m in
@@ -100,9 +100,9 @@ reading _ _ (read p q v r c m k path) =
       accept = λ h. absurd (omega (arith, h, is.0));
       reject = λ h. omega (arith, h, is.0);
       start = λ h. absurd (omega (arith, h, is.0));
-      letter = λ _. ap (λ x. x ∷ v) same ∙ ap (λ x. 97 ∷ x) none;
+      character_expr = λ _. ap (λ x. x ∷ v) same ∙ ap (λ x. 97 ∷ x) none;
     }
-reading _ _ (fall p q v c m u path) =
+reading _ _ (otherwise p q v c m u path) =
     let rest = reading q v path in
     let stuck : ⊥ = rest.reject (other_is p q m).1 in
     absurd stuck

@@ -1,7 +1,7 @@
 -- Cases of specs/Walk.antt: edges from 2 to 3, from 2 to 4 and from 5 to 6.
 use Rattle.std.proofs.Common.{◌≡◌, List, [], ◌∷◌, length, true, false, Some, None, refl, ap, ◌∙◌, arith}
 use Rattle.lalrpop_nfa.specs.Path.{noop}
-use Rattle.lalrpop_nfa.specs.Walk.{leaves, walk, walk_at, IsAt, IsRun}
+use Rattle.lalrpop_nfa.specs.Walk.{leaves, walk, walk_at, IsAt, IsContiguous}
 use Rattle.lalrpop_nfa.specs.declared.edge.Edge.{Edge}
 use Rattle.lalrpop_nfa.specs.declared.edge.Noop.{Noop}
 
@@ -34,16 +34,16 @@ other_edge_stands_at_the_index (e, others, h, k) = let n : 5 ≡ 2 = ap (λ (x :
     first e others h = cc
 
 -- the edges of state 2 stand side by side from 0 on
-edges_side_by_side : IsRun 2 three_edges (Some 0)
+edges_side_by_side : IsContiguous 2 three_edges (Some 0)
 edges_side_by_side = record { at = (noop 2 3, noop 2 4 ∷ noop 5 6 ∷ [], refl, refl); all = refl }
 
 -- not from 1 on, and not from nowhere on
-edges_from_a_later_index : ¬ IsRun 2 three_edges (Some 1)
+edges_from_a_later_index : ¬ IsContiguous 2 three_edges (Some 1)
 edges_from_a_later_index r = let n : 2 ≡ 1 = ap length r.all in omega (arith, n)
 
-edges_from_no_index : ¬ IsRun 2 three_edges None
+edges_from_no_index : ¬ IsContiguous 2 three_edges None
 edges_from_no_index r = let n : 2 ≡ 0 = ap length r.all in omega (arith, n)
 
 -- nor where an edge of another state stands between them
-edges_apart : ¬ IsRun 2 (noop 2 3 ∷ noop 5 6 ∷ noop 2 4 ∷ []) (Some 0)
+edges_apart : ¬ IsContiguous 2 (noop 2 3 ∷ noop 5 6 ∷ noop 2 4 ∷ []) (Some 0)
 edges_apart r = let n : 2 ≡ 1 = ap length r.all in omega (arith, n)

@@ -6,11 +6,11 @@ use Rattle.lalrpop_nfa.specs.declared.edge.State.{State}
 use Rattle.lalrpop_nfa.specs.Lists.{Lists}
 use Rattle.lalrpop_nfa.specs.Firsts.{LabelKind}
 use Rattle.lalrpop_nfa.specs.Walk.{leaves}
-use Rattle.lalrpop_nfa.specs.SideBySide.{RunOf}
+use Rattle.lalrpop_nfa.specs.Contiguous.{AreContiguous}
 
 -- the edges of each kind that leave each state stand side by side from the state's index on
-abbrev pub AllRun : List State → Lists → Type 0
-AllRun states e = (k : LabelKind) (q : ℕ) (s : State) → slice_get states q ≡ Some s → RunOf k e s q
+abbrev pub AllContiguous : List State → Lists → Type 0
+AllContiguous states e = (k : LabelKind) (q : ℕ) (s : State) → slice_get states q ≡ Some s → AreContiguous k e s q
 
 -- a further edge of this state can stand beside the others: there is none, or one of them is last
 abbrev pub IsOpen : {L : Type 0} → ℕ → List (Edge L) → Type 0

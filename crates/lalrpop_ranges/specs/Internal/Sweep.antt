@@ -2,7 +2,7 @@
 use Rattle.std.specs.Prelude.{ℕ, List, map}
 use Rattle.std.specs.List.{filter}
 use Rattle.lalrpop_hir.specs.Range.{Range}
-use Rattle.lalrpop_ranges.specs.Runs.{has_value}
+use Rattle.lalrpop_ranges.specs.Partition.{has_value}
 
 -- the starts of those that contain some value
 abbrev pub starts_of : List Range → List ℕ

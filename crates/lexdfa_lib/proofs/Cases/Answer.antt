@@ -7,10 +7,10 @@ use Rattle.lalrpop_hir.specs.Tree.{Tree, literal, of_text}
 use Rattle.lalrpop_hir.specs.Language.{Matches}
 use Rattle.lalrpop_lexer.specs.Fault.{fault}
 use Rattle.lalrpop_lexer.specs.Report.{NoFault}
-use Rattle.lalrpop_lexer.specs.Winners.{Who}
+use Rattle.lalrpop_lexer.specs.Winners.{TreeMatches}
 use Rattle.lalrpop_lexer.specs.Clash.{NoClash}
 use Rattle.lalrpop_lexer.specs.Longest.{IsLongest, IsMatch}
-use Rattle.lexdfa_lib.specs.Answer.{Finds, IsOutcome, IsAnswer, ReadsOutcome, WritesBeginning}
+use Rattle.lexdfa_lib.specs.Answer.{Finds, IsOutcome, IsAnswer, ReadsOutcome, WritesPrefix}
 use Rattle.lexdfa_lib.specs.Printed.{line_of}
 use Rattle.lexdfa_lib.specs.declared.outcome.Outcome.{Outcome}
 use Rattle.lexdfa_lib.specs.declared.outcome.Outcome.TheVariants.{Match, NoMatch, Syntax, Line}
@@ -29,7 +29,7 @@ tree_of_the_text : a ≡ of_text (codes "a")
 unfolding chars
 tree_of_the_text = refl
 
-who_matches : (w : List ℕ) (i : ℕ) → Who (a ∷ []) w i → (w ≡ codes "a") × (i ≡ 0)
+who_matches : (w : List ℕ) (i : ℕ) → TreeMatches (a ∷ []) w i → (w ≡ codes "a") × (i ≡ 0)
 who_matches w zero h = (same a h.0 h.1.0 h.1.1, refl)
   where
     same : (s r : Tree) → Some s ≡ Some r → Matches r w → Matches s w
@@ -140,9 +140,9 @@ reader_with_bytes_left_gives_no_outcome : (o : Outcome) → ¬ ReadsOutcome (Som
 reader_with_bytes_left_gives_no_outcome o h = let n : 1 ≡ 0 = ap length h.1.0.1 in omega (arith, n)
 
 -- the writer took `li` of the line
-writer_takes_a_beginning : WritesBeginning (Some (codes "x\n")) (Some []) (codes "a") (Some []) (Some (codes "li"))
-writer_takes_a_beginning = (codes "x\n", ((refl, refl), (codes "line 0\n", (line_is_the_answer, (2, omega arith, refl)))))
+writer_takes_a_prefix : WritesPrefix (Some (codes "x\n")) (Some []) (codes "a") (Some []) (Some (codes "li"))
+writer_takes_a_prefix = (codes "x\n", ((refl, refl), (codes "line 0\n", (line_is_the_answer, (2, omega arith, refl)))))
 
 -- it doesn't lose what it held
-writer_loses_nothing : ¬ WritesBeginning (Some (codes "x\n")) (Some []) (codes "a") (Some (codes "a")) (Some [])
+writer_loses_nothing : ¬ WritesPrefix (Some (codes "x\n")) (Some []) (codes "a") (Some (codes "a")) (Some [])
 writer_loses_nothing h = absurd (cc)

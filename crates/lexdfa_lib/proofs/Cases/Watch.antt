@@ -1,6 +1,6 @@
 -- Cases of specs/Watch.antt.
 use Rattle.std.proofs.Common.{◌≡◌, ℕ, zero, suc, List, [], ◌∷◌, length, get_or, take, Some, true, false, Ok, Err, refl, ap, arith}
-use Rattle.lexdfa_lib.specs.Watch.{read_failed, write_failed, ReadsAll, AppendsBeginning}
+use Rattle.lexdfa_lib.specs.Watch.{read_failed, write_failed, ReadsAll, AppendsPrefix}
 
 -- a read fails by an error; to read nothing is no failure
 reads_that_fail : (read_failed {E = ℕ} (Err 0) ≡ true) × (read_failed {E = ℕ} (Ok 0) ≡ false)
@@ -25,12 +25,12 @@ reader_has_not_given_less h = let n : 2 ≡ 1 = ap length h.0 in omega (arith, n
 reader_is_not_at_its_end : ¬ ReadsAll (Some (97 ∷ 98 ∷ [])) (Some (98 ∷ [])) (97 ∷ [])
 reader_is_not_at_its_end h = let n : 1 ≡ 0 = ap length h.1 in omega (arith, n)
 
--- a writer that held `x` and holds `xa` has taken a beginning of `ab`
-writer_has_taken_a_beginning : AppendsBeginning (Some (120 ∷ [])) (Some (120 ∷ 97 ∷ [])) (97 ∷ 98 ∷ [])
-writer_has_taken_a_beginning = (1, omega arith, refl)
+-- a writer that held `x` and holds `xa` has taken a prefix of `ab`
+writer_has_taken_a_prefix : AppendsPrefix (Some (120 ∷ [])) (Some (120 ∷ 97 ∷ [])) (97 ∷ 98 ∷ [])
+writer_has_taken_a_prefix = (1, omega arith, refl)
 
 -- one that holds `xb` hasn't
-writer_has_not_taken_another_part : ¬ AppendsBeginning (Some (120 ∷ [])) (Some (120 ∷ 98 ∷ [])) (97 ∷ 98 ∷ [])
+writer_has_not_taken_another_part : ¬ AppendsPrefix (Some (120 ∷ [])) (Some (120 ∷ 98 ∷ [])) (97 ∷ 98 ∷ [])
 writer_has_not_taken_another_part h = by_number h.0 h.2
   where
     by_number : (n : ℕ) → ◌≡◌ {A = List ℕ} (120 ∷ 98 ∷ []) (120 ∷ take n (97 ∷ 98 ∷ [])) → ⊥

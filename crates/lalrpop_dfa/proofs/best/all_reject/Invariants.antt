@@ -1,5 +1,5 @@
 use Rattle.std.proofs.Common.{take, ◌≡◌, true}
-use Rattle.lalrpop_dfa.specs.Internal.Machine.{is_dead}
+use Rattle.lalrpop_dfa.specs.Internal.Subsets.{is_dead}
 use Rattle.lalrpop_dfa.proofs.best.all_reject.Given as goal
 
 abbrev pub invariant-loop-item : goal.invariant-loop-item

@@ -7,20 +7,20 @@ use Rattle.lalrpop_dfa.proofs.builder.build.Goals as goal
 pub next-requires : goal.next-requires
 next-requires c = record { clones = clones_equal }
 
-pub returns-in_err-take_up-clause-err : goal.returns-in_err-take_up-clause-err
-returns-in_err-take_up-clause-err c =
-    let p = err_from_is_err_and c.from_residual-in_err-take_up.result c.from_residual-in_err-take_up.ensures.1 in
+pub returns-in_err-expand-clause-err : goal.returns-in_err-expand-clause-err
+returns-in_err-expand-clause-err c =
+    let p = err_from_is_err_and c.from_residual-in_err-expand.result c.from_residual-in_err-expand.ensures.1 in
     let g = next_given c.in_ok-set.field-0 c.in-Some.set _ _ c.in_ok-set.ensures.given c.in-Some.is in
     rw (p.1, p.2)
-    (built_clash c.args.nfas.now (map (λ p. p.0) c.args.precedences.now) c.loop-table.table.kernels.list c.loop-table.table.origins.items c.loop-table.table.states.items c.in-Some.set c.in_err-take_up.field-0.0 c.loop-table.invariant.built
-    (given_at c.loop-table.table.kernels.list c.loop-table.table.kernels.place (length c.loop-table.table.states.items) g.0 c.in-Some.set g.1 g.2 c.loop-table.invariant.place) c.in_err-take_up.ensures.err)
+    (built_clash c.args.nfas.now (map (λ p. p.0) c.args.precedences.now) c.loop-table.table.kernels.list c.loop-table.table.origins.items c.loop-table.table.states.items c.in-Some.set c.in_err-expand.field-0.0 c.loop-table.invariant.built
+    (given_at c.loop-table.table.kernels.list c.loop-table.table.kernels.place (length c.loop-table.table.states.items) g.0 c.in-Some.set g.1 g.2 c.loop-table.invariant.place) c.in_err-expand.ensures.err)
 
 pub loop-table-smaller : goal.loop-table-smaller
 loop-table-smaller c =
     let g = next_given c.in_ok-set.field-0 c.in-Some.set _ _ c.in_ok-set.ensures.given c.in-Some.is in
     omega (
       arith,
-      c.in_ok-take_up.ensures.one,
+      c.in_ok-expand.ensures.one,
       built_few c.args.nfas.now (map (λ p. p.0) c.args.precedences.now) c.loop-table.table.kernels.list c.loop-table.table.origins.items c.loop-table.table.states.items c.in-Some.set c.loop-table.invariant.built
           (given_at c.loop-table.table.kernels.list c.loop-table.table.kernels.place (length c.loop-table.table.states.items) g.0 c.in-Some.set g.1 g.2 c.loop-table.invariant.place),
     )

@@ -1,6 +1,6 @@
 use Rattle.std.proofs.Common.{◌≡◌, ◌-◌, ◌^◌, length, map}
 use Rattle.lalrpop_dfa.specs.Internal.Builder.{IsBuiltTo}
-use Rattle.lalrpop_dfa.specs.Internal.Machine.{all_items}
+use Rattle.lalrpop_dfa.specs.Internal.Subsets.{all_items}
 use Rattle.lalrpop_dfa.proofs.builder.build.Given as goal
 
 abbrev pub invariant-loop-table : goal.invariant-loop-table

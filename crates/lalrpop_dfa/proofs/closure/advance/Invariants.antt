@@ -1,6 +1,6 @@
 use Rattle.std.proofs.Common.{◌≡◌, take}
 use Rattle.std.specs.List.{flat_map}
-use Rattle.lalrpop_dfa.specs.Internal.Machine.{item_targets}
+use Rattle.lalrpop_dfa.specs.Internal.Subsets.{item_targets}
 use Rattle.lalrpop_dfa.proofs.closure.advance.Given as goal
 
 abbrev pub invariant-loop-item : goal.invariant-loop-item

@@ -4,8 +4,8 @@ use Rattle.lalrpop_dfa.proofs.closure.closure.Goals as goal
 
 pub loop-item-init : goal.loop-item-init
 loop-item-init c =
-    closing_start c.args.nfas.now c.args.given.now c.new.result.keys c.new-2.result.items c.note_all.new.self.observed.keys c.note_all.new.self.pending.items
-    c.new.ensures.empty c.new-2.ensures.items c.new.ensures.ordered c.requires.inside c.in_ok-note_all.ensures
+    closing_start c.args.nfas.now c.args.given.now c.new.result.keys c.new-2.result.items c.insert_all.new.self.observed.keys c.insert_all.new.self.pending.items
+    c.new.ensures.empty c.new-2.ensures.items c.new.ensures.ordered c.requires.inside c.in_ok-insert_all.ensures
 
 pub loop-item-smaller : goal.loop-item-smaller
 loop-item-smaller c =

@@ -16,9 +16,9 @@ loop-offset-init c =
     let rest = ap char_indices_rest i ∙ c.char_indices-offset-items.ensures.rest in
     rw (at, rest) record {
       cut = cut_start c.args.input.now c.utf8.input;
-      after = after_start c.args.dfa.now c.args.input.now c.states-states.ensures.table.some;
+      after = after_start c.args.dfa.now c.args.input.now c.states-states.ensures.well_formed.some;
       best = λ ts ps h. longest_start ts ps c.args.input.now;
-      part = tt;
+      prefix = tt;
       cost = let none : length (chars []) ≡ 0 = ap length chars-nil in omega arith;
     }
 
@@ -50,7 +50,7 @@ loop-offset-preserved-in-Accepts c =
       best = λ ts ps h.
           longest_accept ts ps text rest2 at2 c.in-Accepts.index c.range.result.now cut some is
           (says_of c.args.dfa.now ts ps (chars (take at2 text)) c.step-state.result c.state.result.now c.kind.result.now (Accepts c.in-Accepts.index) h after.reached c.state.ensures.at c.kind.ensures.kind c.in-Accepts.is);
-      part = part_accept text rest2 at2 c.range.result.now cut some is;
+      prefix = part_accept text rest2 at2 c.range.result.now cut some is;
       cost = let more = count_more text rest rest2 at at2 c.in-Some.c c.loop-offset.invariant.cut s.1 s.2 in omega arith;
     }
 
@@ -72,7 +72,7 @@ loop-offset-preserved c =
           longest_pass ts ps text rest rest2 at at2 c.in-Some.c (option_map (λ m. (m.0, m.1.now)) c.loop-offset.longest) c.loop-offset.invariant.cut s.1 s.2
           (says_of c.args.dfa.now ts ps (chars (take at2 text)) c.step-state.result c.state.result.now c.kind.result.now Neither h after.reached c.state.ensures.at c.kind.ensures.kind c.in-Neither.is)
           (c.loop-offset.invariant.best ts ps h);
-      part = c.loop-offset.invariant.part;
+      prefix = c.loop-offset.invariant.prefix;
       cost = let more = count_more text rest rest2 at at2 c.in-Some.c c.loop-offset.invariant.cut s.1 s.2 in omega arith;
     }
 

@@ -15,8 +15,10 @@ returns-then-negated c =
       | then-flags+in_ok-leaf w ↦ rw w.leaf-is (HasRuns-folded f w.in_ok-leaf.leaf s w.if-flags.true (w.in_ok-leaf.ensures.runs s k))
       | else-flags w ↦ rw w.leaf-is (HasRuns-unfolded f c.args.class s w.if-flags.false k)
     ] in
-    record { runs = IfOk-weaker c.complement.result (λ r. IsCanon (λ k. ¬ Covered rs k) r) (λ r. (s : Set) → HasRuns c.args.class s → HasRuns r (leaf_or_complement f s c.args.negated))
-    (λ r m s k. subst (λ b. HasRuns r (leaf_or_complement f s b)) (sym c.if-negated.true) (HasRuns-complement rs r (leaf f s) (runs s k) m)) c.complement.ensures.runs }
+    record {
+      runs = IfOk-weaker c.complement.result (λ r. IsCanon (λ k. ¬ Covered rs k) r) (λ r. (s : Set) → HasRuns c.args.class s → HasRuns r (leaf_or_complement f s c.args.negated))
+          (λ r m s k. subst (λ b. HasRuns r (leaf_or_complement f s b)) (sym c.if-negated.true) (HasRuns-complement rs r (leaf f s) (runs s k) m)) c.complement.ensures.runs;
+    }
 
 pub returns : goal.returns
 returns c =

@@ -26,5 +26,7 @@ returns c =
           (sym w.is_one_member.ensures ∙ w.if-not-is_one_member.false)
       | else-flags w ↦ literal-plain f x w.if-flags.false
     ] in
-    record { tree = IfOk-weaker c.literal.result (λ t. t ≡ of_text bs) (λ t. t ≡ literal_tree f x)
-    (λ t k. k ∙ (text-one x bs (search rules) c.encode_utf8.ensures.value c.encode_utf8.ensures.lower_bound ∙ sym one)) c.literal.ensures.tree }
+    record {
+      tree = IfOk-weaker c.literal.result (λ t. t ≡ of_text bs) (λ t. t ≡ literal_tree f x)
+          (λ t k. k ∙ (text-one x bs (search rules) c.encode_utf8.ensures.value c.encode_utf8.ensures.lower_bound ∙ sym one)) c.literal.ensures.tree;
+    }

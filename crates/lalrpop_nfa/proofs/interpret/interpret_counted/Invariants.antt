@@ -5,23 +5,23 @@ use Rattle.std.specs.Str.{chars}
 use Rattle.std.specs.Str.Iter.{char_indices_rest, char_indices_offset}
 use Rattle.lalrpop_hir.specs.Tree.{Tree}
 use Rattle.lalrpop_hir.specs.Language.{Matches}
-use Rattle.lalrpop_nfa.specs.Beginning.{IsBeginning}
+use Rattle.lalrpop_nfa.specs.Prefix.{IsPrefix}
 use Rattle.lalrpop_nfa.specs.Compiled.{IsCompiled}
-use Rattle.lalrpop_nfa.specs.Internal.Layers.{IsLayer}
-use Rattle.lalrpop_nfa.proofs.LayerLemmas.{IsAfterWord}
-use Rattle.lalrpop_nfa.proofs.BeginningLemmas.{IsLongestOfUpTo}
+use Rattle.lalrpop_nfa.specs.Internal.StateSets.{IsStateSet}
+use Rattle.lalrpop_nfa.proofs.StateSetLemmas.{IsAfterWord}
+use Rattle.lalrpop_nfa.proofs.PrefixLemmas.{IsLongestOfUpTo}
 use Rattle.lalrpop_nfa.proofs.Cuts.{IsCut}
 use Rattle.lalrpop_nfa.proofs.interpret.interpret_counted.Given as goal
 
 abbrev pub invariant-loop-offset : goal.invariant-loop-offset
 invariant-loop-offset l = record {
-  layer : IsLayer l.layer.states.items l.layer.marks.items;
-  size : length l.layer.marks.items ≡ length l.nfa.kinds;
+  state_set : IsStateSet l.state_set.states.items l.state_set.marks.items;
+  size : length l.state_set.marks.items ≡ length l.nfa.kinds;
   next_size : length l.next.marks.items ≡ length l.nfa.kinds;
   cut : IsCut l.text (char_indices_offset l.offset-iterator) (char_indices_rest l.offset-iterator);
-  after : IsAfterWord l.nfa (chars (take (char_indices_offset l.offset-iterator) l.text)) l.layer.states.items;
+  after : IsAfterWord l.nfa (chars (take (char_indices_offset l.offset-iterator) l.text)) l.state_set.states.items;
   best : (t : Tree) → IsCompiled t l.nfa → IsLongestOfUpTo (Matches t) l.text (char_indices_offset l.offset-iterator) (option_map (λ s. s.now) l.longest);
-  part : IfSome l.longest (λ s. IsBeginning s.now l.text);
+  prefix : IfSome l.longest (λ s. IsPrefix s.now l.text);
   rises : l.fn.steps ≤ l.steps;
   cost : l.steps ≤ l.fn.steps + length l.nfa.kinds * (length (chars (take (char_indices_offset l.offset-iterator) l.text)) + 1);
 }

@@ -1,7 +1,7 @@
 use Rattle.std.proofs.Common.{rules, ◌≡◌, ℕ, ◌≤◌, length, ◌+◌, ◌<◌, arith, inl, inr, get_or}
 use Rattle.std.proofs.lemmas.List.Sorted.{IsNonDecreasingBy-from_sort}
 use Rattle.lalrpop_ranges.specs.Internal.Sweep.{starts_of, ends_of}
-use Rattle.lalrpop_ranges.proofs.Sweep.{IsSortOf, Turn, swept_none, swept_start, swept_end, swept_runs, swept_count}
+use Rattle.lalrpop_ranges.proofs.Sweep.{IsSortOf, Turn, swept_none, swept_start, swept_end, swept_blocks, swept_count}
 use Rattle.lalrpop_ranges.proofs.overlap.remove_overlap.Goals as goal
 use Rattle.lalrpop_ranges.proofs.overlap.remove_overlap.Goals.{then-from-cut+then-ended-begun+in_ok-push, else-from-cut, else-from-cut-via-then-from-cut+else-ended-begun, else-from-cut-via-else-from-cut}
 
@@ -15,11 +15,11 @@ loop-ended-init c =
       permutation = (rw c.in_ok-starts.ensures.ends at c.sort_unstable-2.ensures.permutation);
       ascending = IsNonDecreasingBy-from_sort (λ (x : ℕ). x) c.sort_unstable-2.new.self.items c.sort_unstable-2.ensures.sorted;
     } in
-    rw c.new-parts.ensures.items (swept_none _ _ _ s e)
+    rw c.new-blocks.ensures.items (swept_none _ _ _ s e)
 
 pub loop-ended-preserved-then-is_start : goal.loop-ended-preserved-then-is_start
 loop-ended-preserved-then-is_start c =
-    let turn : Turn c.loop-ended.parts.items c.if-from-cut.parts.items c.loop-ended.begun c.loop-ended.ended c.loop-ended.from c.next_cut-cut.result.0 =
+    let turn : Turn c.loop-ended.blocks.items c.if-from-cut.blocks.items c.loop-ended.begun c.loop-ended.ended c.loop-ended.from c.next_cut-cut.result.0 =
     elim c.if-from-cut.branch [
       | then-from-cut+then-ended-begun+in_ok-push w ↦ inl (w.if-from-cut.true, w.if-ended-begun.true, search rules)
       | else-from-cut w ↦
@@ -38,7 +38,7 @@ loop-ended-preserved-then-is_start c =
 
 pub loop-ended-preserved : goal.loop-ended-preserved
 loop-ended-preserved c =
-    let turn : Turn c.loop-ended.parts.items c.if-from-cut.parts.items c.loop-ended.begun c.loop-ended.ended c.loop-ended.from c.next_cut-cut.result.0 =
+    let turn : Turn c.loop-ended.blocks.items c.if-from-cut.blocks.items c.loop-ended.begun c.loop-ended.ended c.loop-ended.from c.next_cut-cut.result.0 =
     elim c.if-from-cut.branch [
       | then-from-cut+then-ended-begun+in_ok-push w ↦ inl (w.if-from-cut.true, w.if-ended-begun.true, search rules)
       | else-from-cut w ↦
@@ -55,10 +55,10 @@ loop-ended-preserved c =
     let least : c.loop-ended.begun < length c.sort_unstable.new.self.items → c.next_cut-cut.result.0 ≤ get_or c.sort_unstable.new.self.items c.loop-ended.begun 0 = λ x. search rules in
     swept_end _ _ _ _ _ _ _ _ _ c.loop-ended.invariant turn more is least
 
-pub returns-clause-runs : goal.returns-clause-runs
-returns-clause-runs c =
+pub returns-clause-partition : goal.returns-clause-partition
+returns-clause-partition c =
     let past : length c.sort_unstable-2.new.self.items ≤ c.loop-ended.ended = search rules in
-    swept_runs _ _ _ _ _ _ _ c.loop-ended.invariant past
+    swept_blocks _ _ _ _ _ _ _ c.loop-ended.invariant past
 
 pub returns-clause-count : goal.returns-clause-count
 returns-clause-count c = swept_count _ _ _ _ _ _ _ c.loop-ended.invariant

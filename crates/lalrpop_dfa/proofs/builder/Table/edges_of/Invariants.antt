@@ -3,11 +3,11 @@ use Rattle.lalrpop_dfa.specs.Internal.Builder.{AreKnown}
 use Rattle.lalrpop_dfa.proofs.Builds.{IsEdging}
 use Rattle.lalrpop_dfa.proofs.builder.Table.edges_of.Given as goal
 
-abbrev pub invariant-loop-part : goal.invariant-loop-part
-invariant-loop-part l = record {
-  edging : IsEdging l.nfas l.fn.self.kernels.list l.fn.self.origins.items l.fn.number l.fn.set (map (λ p. p.range) l.initial.part-iterator.rest.items) (length l.tests.items) l.self.kernels.list l.self.origins.items l.tests.items;
-  within : length l.tests.items ≤ length l.initial.part-iterator.rest.items;
-  rest : l.part-iterator.rest.items ≡ drop (length l.tests.items) l.initial.part-iterator.rest.items;
+abbrev pub invariant-loop-block : goal.invariant-loop-block
+invariant-loop-block l = record {
+  edging : IsEdging l.nfas l.fn.self.kernels.list l.fn.self.origins.items l.fn.number l.fn.set (map (λ p. p.range) l.initial.block-iterator.rest.items) (length l.tests.items) l.self.kernels.list l.self.origins.items l.tests.items;
+  within : length l.tests.items ≤ length l.initial.block-iterator.rest.items;
+  rest : l.block-iterator.rest.items ≡ drop (length l.tests.items) l.initial.block-iterator.rest.items;
   known : AreKnown l.nfas l.fn.set l.known l.self.kernels.list;
   place : l.self.kernels.place ≡ l.fn.self.kernels.place;
   states : l.self.states.items ≡ l.fn.self.states.items;

@@ -1,5 +1,5 @@
 use Rattle.std.proofs.Common.{ap, ◌∙◌, [], ◌∷◌, ◌++◌}
-use Rattle.lalrpop_dfa.specs.Internal.Machine.{first_set_of, closed}
+use Rattle.lalrpop_dfa.specs.Internal.Subsets.{first_set_of, closed}
 use Rattle.lalrpop_dfa.proofs.Adding.{clones_equal, starts_inside, first_added}
 use Rattle.lalrpop_dfa.proofs.builder.Table.new.Goals as goal
 

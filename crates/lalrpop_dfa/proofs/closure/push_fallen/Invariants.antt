@@ -1,6 +1,0 @@
-use Rattle.std.proofs.Common.{◌≡◌, ◌++◌, map}
-use Rattle.lalrpop_dfa.specs.Internal.Machine.{fallen}
-use Rattle.lalrpop_dfa.proofs.closure.push_fallen.Given as goal
-
-abbrev pub invariant-loop-edge : goal.invariant-loop-edge
-invariant-loop-edge l = l.targets.items ++ map (λ e. (l.fn.item.0, e.to)) l.edge-iterator ≡ l.fn.targets.items ++ map (λ q. (l.fn.item.0, q)) (fallen l.fn.nfa l.fn.item.1)

@@ -1,0 +1,47 @@
+-- How a graph grows while a tree is compiled.
+use Rattle.std.specs.Prelude.{◌≡◌, ℕ, ◌<◌, List, ◌++◌, length, None}
+use Rattle.std.specs.List.{Contains, filter}
+use Rattle.lalrpop_hir.specs.Tree.{Tree, Trees}
+use Rattle.lalrpop_nfa.specs.declared.edge.Edge.{Edge}
+use Rattle.lalrpop_nfa.specs.Graph.{Graph}
+use Rattle.lalrpop_nfa.specs.Walk.{leaves}
+use Rattle.lalrpop_nfa.specs.Internal.Fragment.{Construction, extended, Branches, branches, Fragment}
+use Rattle.lalrpop_nfa.specs.Fault.{fault}
+use Rattle.lalrpop_nfa.specs.Internal.Valid.{IsValid}
+
+-- each of these edges leaves a state below n
+abbrev pub LeaveBelow : {L : Type 0} → ℕ → List (Edge L) → Type 0
+LeaveBelow {L} n es = (x : Edge L) → Contains es x → x.from < n
+
+-- each edge leaves a state of the graph
+pub record LeavesStates (g : Graph) : Type 0 where
+  pub noops : LeaveBelow (length g.kinds) g.edges.noops
+  pub tests : LeaveBelow (length g.kinds) g.edges.tests
+  pub others : LeaveBelow (length g.kinds) g.edges.others
+
+-- the states of g have the same `Noop` edges in h
+abbrev pub KeepsNoops : Graph → Graph → Type 0
+KeepsNoops g h = (s : ℕ) → s < length g.kinds → filter (leaves s) h.edges.noops ≡ filter (leaves s) g.edges.noops
+
+-- h is g with what the way adds towards the target, and the way begins at this state
+pub record Extends (construction : Construction) (target : ℕ) (g h : Graph) (entry : ℕ) : Type 0 where
+  pub begins : entry ≡ (construction target (length g.kinds)).entry
+  pub graph : h ≡ extended g (construction target (length g.kinds))
+  pub kept : KeepsNoops g h
+  pub below : LeavesStates h
+
+-- the states and edges of branches, without a state before them
+abbrev pub beside : Branches → Fragment
+beside b = record { size = b.size; entry = 0; edges = b.edges }
+
+-- h is g with the first branches, which begin at these states: what the others add to h makes all of them
+pub record Branched (target : ℕ) (all others : Trees) (g h : Graph) (entries : List ℕ) : Type 0 where
+  pub begin : entries ++ (branches others target (length h.kinds)).entries ≡ (branches all target (length g.kinds)).entries
+  pub graph : extended h (beside (branches others target (length h.kinds))) ≡ extended g (beside (branches all target (length g.kinds)))
+  pub kept : KeepsNoops g h
+  pub below : LeavesStates h
+
+-- the tree can be compiled
+pub record IsCompilable (t : Tree) : Type 0 where
+  pub no_fault : fault t ≡ None
+  pub valid : IsValid t
