@@ -111,7 +111,7 @@ settle {S} m stays sets origins n h l = from_the_end (λ (w : List ℕ). Settled
         next u c below found.0 found.1 found.2 found.3 (h.covered found.0 c (omega arith) (inl found.1)))
         now
 
--- all words below the word of the number that is taken up lead to a dead set or to an earlier number
+-- all words below the word of the number that is expanded lead to a dead set or to an earlier number
 pub settled_below : {S : Type 0} (m : Automaton S) → DeadStays m → (sets : List S) (origins : List (ℕ × ℕ)) (n : ℕ)
     → IsBreadthFirst m sets origins n 0 → n < length sets → (w : List ℕ) → Shortlex w (word origins n) → Settled m sets origins n w
 settled_below m stays sets origins n h l w less =

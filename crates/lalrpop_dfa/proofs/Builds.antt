@@ -53,7 +53,7 @@ unfolding move
 leads_to ns s given v e = ap (closed ns) e
 
 -- ---- one number
--- the first k of the ranges were taken up
+-- the first k of the ranges were expanded
 pub record IsEdging (ns : List Graph) (sets0 : List (List Item)) (origins0 : List (ℕ × ℕ)) (n : ℕ) (s : List Item) (xs : List Range) (k : ℕ) (sets : List (List Item)) (origins : List (ℕ × ℕ)) (tests : List (Range × ℕ)) : Type 0 where
   pub breadth_first : IsBreadthFirst (subset_automaton ns) sets origins n (past xs k)
   pub ranges : map (λ t. t.0) tests ≡ take k xs
@@ -107,7 +107,7 @@ module _ (ns : List Graph) (a : AreAutomata ns) (sets0 : List (List Item)) (orig
       }
 
 -- ---- the table
--- the sets of a numbering hold items, ascending
+-- the sets that are numbered hold items, ascending
 module _ (ns : List Graph) (sets : List (List Item)) (origins : List (ℕ × ℕ)) (n v : ℕ) (num : IsBreadthFirst (subset_automaton ns) sets origins n v) where
   nth_holds : (k : ℕ) → k < length sets → AreItemsOf ns (nth (subset_automaton ns) sets k) × AreAscendingItems (nth (subset_automaton ns) sets k)
   nth_holds zero l = subst (λ s. AreItemsOf ns s × AreAscendingItems s) (sym num.first) (first_set_items ns, first_set_ascends ns)
@@ -161,7 +161,7 @@ built_more ns ps sets origins rows n s sets2 origins2 row rows2 h at e kind item
       otherwise = (e.otherwise.0, e.otherwise.1 ∙ ap (λ (u : List Item). move ns u 4294967295) (sym same));
     }
 
--- the same, with what the calls of a turn say
+-- the same, with what the calls of one round say
 pub built_pushed : (ns : List Graph) (ps : List ℕ) (sets : List (List Item)) (origins : List (ℕ × ℕ)) (rows : List Row) (n : ℕ) (s : List Item) (sets1 : List (List Item)) (origins1 : List (ℕ × ℕ)) (rows1 : List Row) (row : Row)
     (sets2 : List (List Item)) (origins2 : List (ℕ × ℕ)) (rows2 : List Row)
     → IsBuiltTo ns ps sets origins rows (length rows) → slice_get sets (length rows) ≡ Some s → n ≡ length rows → IsEdged ns sets origins n s sets1 origins1 row.tests row.other → IsKindOf ps s row.kind → row.items ≡ s

@@ -156,7 +156,7 @@ pub steps_here : (ns : List Graph) (x : Item) (g : Graph) (q : ℕ) (es : List (
 unfolding epsilon_targets
 steps_here ns x g q es at same is = rw (is, same, graph_here ns x.0 g at) refl
 
--- one of them is noted
+-- one of them is inserted
 pub steps_more : {L : Type 0} (done all : List Item) (es rest : List (Edge L)) (e : Edge L) (i : ℕ) (y : Item) → done ++ map (λ (f : Edge L). let z : Item = (i, f.to) in z) es ≡ all → es ≡ e ∷ rest → y ≡ (i, e.to)
     → (done ++ y ∷ []) ++ map (λ (f : Edge L). let z : Item = (i, f.to) in z) rest ≡ all
 steps_more done all es rest e i y h is same = rw (append_assoc, same) (rw is at h)

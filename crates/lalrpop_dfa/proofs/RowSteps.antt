@@ -1,4 +1,4 @@
--- The steps of a numbering along the runs of one set, and the rows that it keeps.
+-- The steps of a numbering along the blocks of one set, and the rows that it keeps.
 use Rattle.std.proofs.Common.{◌≡◌, ℕ, zero, suc, ◌+◌, ◌<◌, ◌≤◌, ◌⊎◌, inl, inr, List, [], ◌∷◌, ◌++◌, length, refl, ap, sym, ◌∙◌, arith, true, Some, None, Option, add-one}
 use Rattle.std.specs.List.{Contains, slice_get}
 use Rattle.std.proofs.lemmas.Bool.{cases_lt}

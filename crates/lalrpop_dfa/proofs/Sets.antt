@@ -136,7 +136,7 @@ module _ (ns : List Graph) where
   unfolding move
   move_items s c x h = ((contains_closed (flat_map (item_targets ns c) s) x).0 h).0
 
-  -- from an item of the set by the value, and then silently
+  -- from an item of the set by the value, and then by epsilon edges
   pub move_parts : (s : List Item) (c : ℕ) (x : Item) → Has (move ns s c) x
       → IsItemOf ns x × ((y z : Item) × (Has s y × Has (item_targets ns c y) z × (follows_by_epsilon ns z x ≡ true)))
   unfolding move

@@ -1,4 +1,4 @@
--- Leads are added to the parts that start in a label.
+-- Transitions are added to the blocks that start in a label.
 use Rattle.std.proofs.Common.{◌≡◌, ℕ, zero, suc, ◌+◌, ◌<◌, ◌≤◌, ◌⊎◌, inl, inr, List, [], ◌∷◌, ◌++◌, length, map, slice_set, get_or, take, drop, length-drop, add-one, eqb-true, eq-eqb, append_assoc, nat_lt, nat_le, true, false, ltb-true, leb-true, leb-false, ltb-false, refl, ap, sym, ◌∙◌, subst, arith}
 use Rattle.std.specs.Prelude.{slice_get, Some, ◌↔◌}
 use Rattle.std.specs.List.{Contains}
@@ -26,7 +26,7 @@ use Rattle.lalrpop_dfa.specs.Internal.Transitions.{IsTransition, AreRising, Gain
 use Rattle.lalrpop_dfa.specs.declared.blocks.Transition.{Transition}
 use Rattle.lalrpop_dfa.specs.declared.blocks.Block.{Block}
 
--- the lead was added to the parts from a on and below b
+-- the transition was added to the blocks from a on and below b
 abbrev pub HasGot : ℕ → ℕ → Transition → List Block → List Block → Type 0
 HasGot a b transition old new = (map (λ (p : Block). p.range) new ≡ map (λ (p : Block). p.range) old)
     × ((k : ℕ) (p p2 : Block) → slice_get old k ≡ Some p → slice_get new k ≡ Some p2 → ((a ≤ k) × (k < b) × (p2.transitions.list.items ≡ p.transitions.list.items ++ transition ∷ [])) ⊎ (((k < a) ⊎ (b ≤ k)) × (p2 ≡ p)))
@@ -44,7 +44,7 @@ set_at (z ∷ xs) (suc i) x (suc k) y l h = elim (set_at xs i x k y (omega (arit
 pub got_none : (a b : ℕ) (transition : Transition) (blocks : List Block) → b ≤ a → HasGot a b transition blocks blocks
 got_none a b transition blocks l = (refl, λ k p p2 old new. inr (elim (cases_lt k a) [ inl under ↦ inl under | inr at ↦ inr (omega (arith, l, at)) ], cc))
 
--- one more part gets it
+-- one more block gets it
 pub got_more : (a i : ℕ) (transition : Transition) (old cur : List Block) (now block : Block) → HasGot a i transition old cur → a ≤ i → i < length cur → now ≡ get_or cur i now
     → block.range ≡ now.range → block.transitions.list.items ≡ now.transitions.list.items ++ transition ∷ [] → HasGot a (i + 1) transition old (slice_set cur i block)
 got_more a i transition old cur now block got after within is range leads = (
@@ -63,7 +63,7 @@ got_more a i transition old cur now block got after within is range leads = (
   ],
 )
 
--- the parts that got it are those that start in the label
+-- the blocks that got it are those that start in the label
 pub got_all : (label : Range) (transition : Transition) (old new : List Block) (first end stop : ℕ) → HasGot first stop transition old new → first ≤ stop → end ≤ stop → (first < stop → stop ≤ end)
     → ((k : ℕ) (d : Block) → k < first → nat_lt (get_or old k d).range.start label.start ≡ true) → ((k : ℕ) (d : Block) → first ≤ k → k < length old → nat_lt (get_or old k d).range.start label.start ≡ false)
     → ((k : ℕ) (d : Block) → k < end → nat_le (get_or old k d).range.start label.end ≡ true) → ((k : ℕ) (d : Block) → end ≤ k → k < length old → nat_le (get_or old k d).range.start label.end ≡ false)
@@ -91,11 +91,11 @@ got_all label transition old new first end stop got a b c below above upto past 
       ],
 )
 
--- ---- the parts keep their ranges, and so their order
+-- ---- the blocks keep their ranges, and so their order
 abbrev range_of : Block → Range
 range_of p = p.range
 
--- the part at the same place
+-- the block at the same place
 at_place : (xs ys : List Block) (k : ℕ) (p : Block) → map range_of ys ≡ map range_of xs → slice_get xs k ≡ Some p → (q : Block) × ((slice_get ys k ≡ Some q) × (q.range ≡ p.range))
 at_place xs ys k p same at =
     let l : k < length ys = omega (arith, slice_get_within xs k p at, ap length same, length-map xs range_of, length-map ys range_of) in
@@ -122,7 +122,7 @@ blocks_rise ns s blocks partition i j d l m =
       | inr same ↦ (let e : i ≡ j = omega (arith, l, same) in rw e (omega arith))
     ]
 
--- ---- what parts gain
+-- ---- what blocks gain
 pub gained_none : {E : ℕ → Transition → Type 0} → (blocks : List Block) → ((v : ℕ) (l : Transition) → E v l → ⊥) → Gained blocks blocks E
 gained_none blocks none = (refl, λ k p p2 was will l. (let e : p2 ≡ p = cc in (λ h. inl (rw (← e) h), λ h. elim h [ inl x ↦ rw e x | inr x ↦ absurd (none p.range.start l x) ])))
 
@@ -238,8 +238,8 @@ all_items_led ns s items old new bare f is k p2 will l =
       λ h. a.1 (inr (subst (λ (r : Range). IsTransition ns items r.start l.item l.to) (sym same) (subst (λ ys. IsTransition ns ys p2.range.start l.item l.to) (sym is) h))),
     )
 
--- ---- part by part
--- the part after the first k
+-- ---- block by block
+-- the block after the first k
 part_there : (blocks : List Block) (k : ℕ) (block : Block) (rest : List Block) → drop k blocks ≡ block ∷ rest → (slice_get blocks k ≡ Some block) × (rest ≡ drop (suc k) blocks)
 part_there [] zero block rest e = cc
 part_there [] (suc k) block rest e = cc

@@ -1,4 +1,4 @@
-//! The partition of the labels that leave a set of items: each part with the test edges that its values take.
+//! The partition of the labels that leave a set of items: each block with the test edges that its values take.
 
 ghost use Rattle.std.specs.Prelude.{◌≡◌, ◌++◌, ◌∷◌, [], map, IfOk, OnOk};
 ghost use Rattle.lalrpop_hir.specs.Range.{Covers};
@@ -45,7 +45,7 @@ impl Block {
     }
 }
 
-// Adds an edge to the parts whose values its label contains.
+// Adds an edge to the blocks whose values its label contains.
 fn add_transition(
     blocks: &mut Vec<Block>,
     label: &Test,
@@ -98,10 +98,10 @@ fn bare_blocks_of(alloc: Global, nfas: &[Nfa], set: &ItemSet) -> Result<Vec<Bloc
     Ok(blocks)
 }
 
-/// The partition of the labels that leave the items of a set, with the test edges that the values of each part take.
+/// The partition of the labels that leave the items of a set, with the test edges that the values of each block take.
 ///
-/// An edge is added to the parts in its label, which stand side by side, so that the cost is one step for each edge in
-/// each part, and a search among the parts for each edge.
+/// An edge is added to the blocks in its label, which are contiguous: the cost is one step for each edge in each block,
+/// and a search among the blocks for each edge.
 pub(super) fn blocks_of(
     alloc: Global,
     nfas: &[Nfa],

@@ -1,4 +1,4 @@
-//! The construction of an automaton: sets of items are numbered as they are first met, and taken up number by number.
+//! The construction of an automaton: sets of items are numbered as they are first met, and expanded number by number.
 
 ghost use Rattle.std.specs.Prelude.{◌≡◌, ◌+◌, ◌<◌, ◌≤◌, ◌++◌, ◌∷◌, [], List, length, map, slice_get, Some, IfOk, IfErr, OnOk};
 ghost use Rattle.lalrpop_hir.specs.Tree.{Tree};
@@ -23,7 +23,7 @@ use lalrpop_ranges::Test;
 use std::alloc::{AllocError, Global};
 use std::collections::BTreeMap;
 
-// The sets of items by number, where each was first met, and the states of those that are taken up.
+// The sets of items by number, where each was first met, and the states of those that are expanded.
 #[derive(Drop)]
 struct Table {
     kernels: KernelSet<ItemSet>,
@@ -133,7 +133,7 @@ impl Table {
         Ok(number)
     }
 
-    // Takes up a number: adds the sets that its set leads to.
+    // Expands a number: adds the sets that its set leads to.
     fn edges_of(
         &mut self,
         alloc: Global,
@@ -169,7 +169,7 @@ impl Table {
         Ok(Edges { tests, other })
     }
 
-    // Takes up the next number, whose set this is, and makes its state.
+    // Expands the next number, whose set this is: makes its state.
     fn expand(
         &mut self,
         alloc: Global,

@@ -1,6 +1,6 @@
 //! Distinct kernels, numbered from 0 in the order in which they were added, and a place that goes over them.
 //!
-//! A subset construction adds the sets that it meets, and takes up each once, in the order of their numbers.
+//! A subset construction adds the sets that it meets, and expands each once, in the order of their numbers.
 #![tactic(auto)]
 
 ghost use Rattle.std.specs.Prelude.{◌≡◌, ℕ, ◌+◌, ◌<◌, [], IfOk, OnOk, OnErr, MatchOption, slice_get};

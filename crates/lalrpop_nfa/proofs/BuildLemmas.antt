@@ -1,4 +1,4 @@
--- How states and edges that are added to a graph make the shapes of trees.
+-- How states and edges that are added to a graph make the fragments of trees.
 use Rattle.std.proofs.Common.{◌≡◌, ◌≢◌, ℕ, zero, suc, ◌<◌, ◌≤◌, ◌+◌, List, [], ◌∷◌, ◌++◌, length, refl, ap, sym, ◌∙◌, subst, arith, ◌⊎◌, inl, inr, length-append, append_assoc, get_or, take}
 use Rattle.std.specs.Prelude.{Some, None, slice_get, map, replicate, max, drop}
 use Rattle.std.specs.List.{Contains, filter, push}
@@ -107,7 +107,7 @@ noops_new g h k s t u b kept =
     let m : length h.kinds ≡ length g.kinds + 1 = rw u (kinds_with g Neither) in
     kept s (omega arith) ∙ (rw u (filter_none s g.edges.noops (λ x m e. let l = b.noops x m in omega arith)))
 
--- ---- shapes
+-- ---- fragments
 
 replicate_add : {A : Type 0} (m n : ℕ) (x : A) → replicate m x ++ replicate n x ≡ replicate (m + n) x
 replicate_add zero n x = let e : zero + n ≡ n = omega arith in rw e refl
@@ -158,7 +158,7 @@ kept_noops k l s qs q ne is = rw is (filter-append (leaves q) k.edges.noops (map
 alternation_extended : (g : Graph) (a : Fragment) (s entry : ℕ) (qs : List ℕ) → with_noops (extended (with_kind g Neither) a) s qs ≡ extended g (record { size = a.size + 1; entry = entry; edges = joined a.edges (noops_to s qs) })
 alternation_extended g a s entry qs = let e : a.size + 1 ≡ suc a.size = omega arith in rw e (simp (append_assoc, append-nil))
 
--- a state, then a shape, then the edges of the state
+-- a state, then a fragment, then the edges of the state
 module _ (x : Construction) (target s sub_entry : ℕ) (g h k l : Graph) (qs : List ℕ) (t : s ≡ length g.kinds) (u : h ≡ with_kind g Neither) (a : Extends x target h k sub_entry) (w : l ≡ with_noops k s qs) where
   one_more : length h.kinds ≡ length g.kinds + 1
   one_more = rw u (kinds_with g Neither)
@@ -189,7 +189,7 @@ module _ (x : Construction) (target s sub_entry : ℕ) (g h k l : Graph) where
     below = e.below;
   }
 
-  -- the shape first, then the state and its edges
+  -- the fragment first, then the state and its edges
   pub Extends-optional_expr : Extends x target g h sub_entry → s ≡ length h.kinds → k ≡ with_kind h Neither → LeavesStates k → l ≡ with_noops k s (target ∷ sub_entry ∷ []) → Extends (optional_expr x) target g l s
   Extends-optional_expr a t u b w =
       let m = Extends-kinds x target sub_entry g h a in
@@ -310,7 +310,7 @@ repeat_more x zero m n = absurd (m refl)
 repeat_more x (suc zero) m n = absurd (n refl)
 repeat_more x (suc (suc k)) m n = refl
 
--- one more turn before the others
+-- one more copy before the others
 module _ (x : Construction) (n target mid entry : ℕ) (g h k : Graph) where
   pub Extends-copies : Extends (copies x n) target g h mid → Extends x mid h k entry → Extends (copies x (n + 1)) target g k entry
   Extends-copies a b = let e : n + 1 ≡ suc n = omega arith in rw e (Extends-before x (copies x n) target mid entry g h k a b)
@@ -318,6 +318,6 @@ module _ (x : Construction) (n target mid entry : ℕ) (g h k : Graph) where
   pub Extends-optional_copies : Extends (optional_copies x n) target g h mid → Extends (optional_expr x) mid h k entry → Extends (optional_copies x (n + 1)) target g k entry
   Extends-optional_copies a b = let e : n + 1 ≡ suc n = omega arith in rw e (Extends-before (optional_expr x) (optional_copies x n) target mid entry g h k a b)
 
--- the whole automaton: a fresh one, the tree's shape, and START's edge
+-- the whole automaton: a fresh one, the tree's fragment, and START's edge
 pub compiled_extended : (t : Tree) (g h k : Graph) (entry : ℕ) → g ≡ fresh_graph → Extends (fragment_of t) accept_state g h entry → k ≡ with_edges h (record h.edges { noops = h.edges.noops ++ noop start_state entry ∷ [] }) → k ≡ compiled t
 compiled_extended t g h k entry u a w = rw (w, a.graph, a.begins, u) (simp append-nil)

@@ -1,4 +1,4 @@
--- What a shape reads, wherever the edges of its states are the graph's.
+-- What a fragment reads, wherever the edges of its states are the graph's.
 use Rattle.std.proofs.Common.{◌≡◌, ℕ, zero, suc, ◌<◌, ◌≤◌, ◌+◌, ◌-◌, ◌↔◌, List, [], ◌∷◌, ◌++◌, refl, ap, sym, ◌∙◌, subst, arith, ◌⊎◌, inl, inr}
 use Rattle.std.specs.Prelude.{Some, None, Bool}
 use Rattle.std.specs.List.{Contains}
@@ -82,7 +82,7 @@ module _ (e : Lists) where
   }
 
   module _ (dead : (w : List ℕ) → Path e accept_state reject_state w → ⊥) where
-    -- where the graph agrees with the way's edges on the new states, the entry reads L up to the target
+    -- where the graph agrees with the fragment's edges on the new states, the entry reads L up to the target
     abbrev pub ReadsBy : Words → Construction → Type 0
     ReadsBy L x = (target n : ℕ) → 0 < n → Agrees n (n + (x target n).size) e (x target n).edges → Reads e L target (x target n).entry
 
@@ -143,7 +143,7 @@ module _ (e : Lists) where
       By-optional_copies zero = By-nothing
       By-optional_copies (suc k) = By-before (Optional L) (Power k (Optional L)) (optional_expr x) (optional_copies x k) (Leads-optional_expr Anywhere x f) (Leads-optional_copies Anywhere x f k) By-optional_expr (By-optional_copies k)
 
-      -- the state of a loop, and the turn that leads back to it
+      -- the state of a loop, and the repetition that leads back to it
       looped : (target n : ℕ) → 0 < n → Agrees n (n + ((x n (n + 1)).size + 1)) e (star_expr x target n).edges
           → Forks e n (target ∷ (x n (n + 1)).entry ∷ []) × Reads e L n (x n (n + 1)).entry
       looped target n up same =

@@ -1,4 +1,4 @@
--- How many states the shape of a tree has, and which states its edges join.
+-- How many states the fragment of a tree has, and which states its edges join.
 use Rattle.std.proofs.Common.{◌≡◌, ◌≢◌, ℕ, zero, suc, ◌<◌, ◌≤◌, ◌+◌, ◌-◌, List, [], ◌∷◌, ◌++◌, refl, ap, sym, subst, arith, inl, inr}
 use Rattle.std.specs.Prelude.{Option, Some, None}
 use Rattle.std.specs.List.{Contains, filter}
@@ -228,7 +228,7 @@ Anywhere q = Unit {0}
 abbrev pub Within : ℕ → ℕ → Lists → Type 0
 Within = Fits Anywhere
 
--- the edges of a way leave its own states
+-- the edges of a construction leave its own states
 pub construction_within : (x : Construction) → Leads Anywhere x → (target n : ℕ) → Within n (n + (x target n).size) (x target n).edges
 construction_within x f target n = f.edges target n tt (λ q l h. tt)
 

@@ -1,4 +1,4 @@
--- The shape of a tree that can be compiled has as many states as the tree's size says.
+-- The fragment of a tree that can be compiled has as many states as the tree's size says.
 use Rattle.std.proofs.Common.{◌≡◌, ℕ, zero, suc, ◌≤◌, ◌+◌, ◌-◌, ◌*◌, List, [], ◌∷◌, length, refl, ap, ◌∙◌, arith}
 use Rattle.std.proofs.Math.Nat.{suc-mul}
 use Rattle.std.specs.Prelude.{Some, None}
@@ -9,7 +9,7 @@ use Rattle.lalrpop_nfa.specs.Fault.{fault}
 use Rattle.lalrpop_nfa.specs.Internal.Valid.{IsValid}
 use Rattle.lalrpop_nfa.proofs.Compilable.{IsCompilableWithin, AreCompilableWithin, only, plain}
 
--- the way adds z states
+-- the construction adds z states
 abbrev pub HasSize : ℕ → Construction → Type 0
 HasSize z x = (target n : ℕ) → (x target n).size ≡ z
 

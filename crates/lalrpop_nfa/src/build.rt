@@ -232,13 +232,13 @@ impl Nfa {
         }
     }
 
-    // Any number of turns: gives the state before which no turn was taken, and the state at which a first turn begins.
+    // Any number of repetitions: gives the state that may leave the sub out, and the entry of the sub.
     //
     //     [state] --noop--> [target]
     //      |   ^
     //    noop  | (the sub ends here)
     //      v   |
-    //     [turn: the sub]
+    //     [sub_entry: the sub]
     #[cycle(expr)]
     fn star_expr(
         &mut self,
@@ -303,7 +303,7 @@ impl Nfa {
     //
     //     [state] --noop------------------> [target]
     //        |                                 ^
-    //        +------noop--> [turn: the sub] ---+
+    //        +------noop--> [the sub] ---------+
     #[cycle(expr)]
     fn optional_expr(
         &mut self,

@@ -101,7 +101,7 @@ impl StateSet {
         self.marks.fill(false);
     }
 
-    // Becomes the states that those of another layer lead to by reading the value.
+    // Becomes the states that those of another set lead to by reading the value.
     fn read_from(
         &mut self,
         before: &StateSet,

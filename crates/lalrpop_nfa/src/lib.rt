@@ -71,7 +71,7 @@ impl Nfa {
         }
     }
 
-    // Pushes an edge to the list of its kind, and notes it where it is the state's first of this kind.
+    // Pushes an edge to the list of its kind, and sets the state's first index where it is the first of this kind.
     fn push_edge<L: EdgeLabel + Drop>(
         &mut self,
         from: NfaStateIndex,
@@ -94,8 +94,8 @@ impl Nfa {
     /// three states more than the pattern's size. One edge leaves each of ACCEPT and REJECT, an `Other` edge to REJECT, and
     /// one leaves START, a `Noop` edge.
     ///
-    /// A pattern is refused for its fault: of parts one after another the last faulty one's, of branches the first
-    /// faulty one's. What is never repeated has none. Else it fails only where memory is refused.
+    /// A pattern is refused for its fault: in a concatenation the last faulty part's, in an alternation the first
+    /// faulty branch's. What is never repeated has none. Else it fails only where memory is refused.
     pub fn from_re(alloc: Global, regex: &Regex) -> Result<Nfa, NfaConstructionError>
         ensures ok { IfOk result (λ nfa. (fault regex.now ≡ None) × IsCompiled regex.now nfa) }
         ensures fixed_edges { IfOk result (λ nfa. HasFixedEdges nfa.edges) }

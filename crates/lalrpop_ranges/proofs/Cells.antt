@@ -5,7 +5,7 @@ use Rattle.std.proofs.lemmas.Bool.{cases_lt}
 use Rattle.lalrpop_hir.specs.Range.{Range, Covers}
 use Rattle.lalrpop_ranges.specs.Partition.{Ranges, IsCovered, Alike}
 
--- the k-th part; past the end any
+-- the k-th block; past the end any
 abbrev pub at : List Range → ℕ → Range
 at xs k = get_or xs k (record { start = 0; end = 0 })
 
@@ -13,7 +13,7 @@ at xs k = get_or xs k (record { start = 0; end = 0 })
 abbrev pub IsCut : Ranges → ℕ → Type 0
 IsCut R c = (r : Range) × (R r × (r.start ≤ r.end) × ((c ≡ r.start) ⊎ (c ≡ r.end + 1)))
 
--- the parts of the values below p
+-- the blocks of the values below p
 pub record BlocksBelow (R : Ranges) (blocks : List Range) (p : ℕ) : Type 0 where
   pub each : (k : ℕ) → k < length blocks → (at blocks k).start ≤ (at blocks k).end
   pub under : (k : ℕ) → k < length blocks → (at blocks k).end < p
@@ -100,7 +100,7 @@ module _ (R : Ranges) (blocks : List Range) (p q : ℕ) (h : BlocksBelow R block
   old_or_new : (k : ℕ) → k < length (blocks ++ cell ∷ []) → (k < length blocks) ⊎ (k ≡ length blocks)
   old_or_new k l = ⊎_elim (λ (a : k < length blocks). inl a) (λ (a : length blocks ≤ k). inr (omega (arith, length_push blocks cell))) (cases_lt k (length blocks))
 
-  -- what holds of the parts that are there, and of the new one, holds of each
+  -- what holds of the blocks that are there, and of the new one, holds of each
   each_at : (P : Range → Type 0) → ((k : ℕ) → k < length blocks → P (at blocks k)) → P cell → (k : ℕ) → k < length (blocks ++ cell ∷ []) → P (at (blocks ++ cell ∷ []) k)
   each_at P old new k l =
       ⊎_elim (λ (a : k < length blocks). rw (old_at k a) (old k a)) (λ (e : k ≡ length blocks). rw (e, new_at) new) (old_or_new k l)
@@ -108,7 +108,7 @@ module _ (R : Ranges) (blocks : List Range) (p q : ℕ) (h : BlocksBelow R block
   in_cell : (c : ℕ) → Covers cell c → Alike R c p
   in_cell c (a, b) = alike_between R p c a (λ d u v. none d u (omega arith))
 
-  -- a cell from a cut to the next one is one more part
+  -- a cell from a cut to the next one is one more block
   pub parts_kept : BlocksBelow R (blocks ++ cell ∷ []) q
   parts_kept = record {
     each = each_at (λ (r : Range). r.start ≤ r.end) h.each (omega arith);

@@ -49,7 +49,7 @@ ascending_from [] h = tt
 ascending_from (x ∷ []) h = tt
 ascending_from (x ∷ y ∷ ys) h = (h 0 1 (omega arith) (omega arith), ascending_from (y ∷ ys) (λ j k a l. h (suc j) (suc k) (omega arith) (omega arith)))
 
--- the parts below the last cut are all
+-- the blocks below the last cut are all
 module _ (R : Ranges) (blocks : List Range) (p : ℕ) (h : BlocksBelow R blocks p) (none : (c : ℕ) → p < c → ¬ IsCut R c) where
   covers : (c : ℕ) → IsCovered R c → (k : ℕ) × ((k < length blocks) × Covers (at blocks k) c)
   covers = last_covers R blocks p h none

@@ -1,4 +1,4 @@
--- What a list being the partition of a set of ranges says of its parts.
+-- What a list being the partition of a set of ranges says of its blocks.
 use Rattle.std.proofs.Common.{◌≡◌, ℕ, ◌+◌, ◌≤◌, ◌↔◌, ◌⊎◌, inl, inr, List, sym, ap, ◌∙◌, arith}
 use Rattle.std.specs.List.{Contains}
 use Rattle.std.proofs.lemmas.Bool.{cases_lt}
@@ -18,11 +18,11 @@ module _ (R : Ranges) (xs : List Range) (h : IsPartition R xs) where
   pub blocks_nonempty : (x : Range) → Contains xs x → x.start ≤ x.end
   blocks_nonempty x a = (h.are_blocks x a).uniform.holds_one
 
-  -- parts that share a value are one
+  -- blocks that share a value are one
   pub blocks_disjoint : (x y : Range) (c : ℕ) → Contains xs x → Contains xs y → Covers x c → Covers y c → x ≡ y
   blocks_disjoint x y c a b = same_block R x y (h.are_blocks x a) (h.are_blocks y b) c
 
-  -- each range of the set contains all values of a part, or none
+  -- each range of the set contains all values of a block, or none
   pub block_in_or_out : (x r : Range) → Contains xs x → R r → ((c : ℕ) → Covers x c → Covers r c) ⊎ ((c : ℕ) → Covers x c → ¬ Covers r c)
   block_in_or_out x r a m = elim (covers_or_not r x.start) [
     | inl inside ↦ inl (λ c k. (uniform.constant x.start c first k r m).0 inside)
@@ -35,11 +35,11 @@ module _ (R : Ranges) (xs : List Range) (h : IsPartition R xs) where
       first : Covers x x.start
       first = (omega arith, uniform.holds_one)
 
-  -- no interval of values in the same ranges contains two parts
+  -- no interval of values in the same ranges contains two blocks
   pub blocks_unjoined : (x y z : Range) → Contains xs x → Contains xs y → IsUniform R z → z.start ≤ x.start → x.end ≤ z.end → z.start ≤ y.start → y.end ≤ z.end → x ≡ y
   blocks_unjoined x y z a b uniform i j k l = sym ((h.are_blocks x a).maximal z uniform i j) ∙ (h.are_blocks y b).maximal z uniform k l
 
-  -- where one part ends and the next begins, the ranges change
+  -- where one block ends and the next begins, the ranges change
   pub blocks_apart : (x y : Range) → Contains xs x → Contains xs y → x.end + 1 ≡ y.start → ¬ Alike R x.end y.start
   blocks_apart x y a b next alike =
       let same : x ≡ y = blocks_unjoined x y both a b joined (omega arith) (omega (arith, y_block.holds_one)) (omega (arith, x_block.holds_one)) (omega arith) in
@@ -68,7 +68,7 @@ module _ (R : Ranges) (xs : List Range) (h : IsPartition R xs) where
         constant = λ c d k l. alike_trans R c x.end d (as_end c k.0 k.1) (alike_sym R d x.end (as_end d l.0 l.1));
       }
 
--- the parts have the values of the ranges
+-- the blocks have the values of the ranges
 pub blocks_cover : (rs xs : List Range) → IsPartition (Contains rs) xs → (c : ℕ) → IsCovered (Contains xs) c ↔ IsCovered (Contains rs) c
 blocks_cover rs xs h c = (
   λ k. (h.are_blocks k.0 k.1.0).uniform.covered c k.1.1,

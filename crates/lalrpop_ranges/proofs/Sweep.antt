@@ -149,7 +149,7 @@ apart d xs ys n v w y s t h a b =
     let g : get_or ys m 0 ≡ y = get_or_default ys m 0 y l ∙ e in
     ⊎_elim (λ (x : m < n). omega (arith, t.below m x)) (λ (x : n ≤ m). omega (arith, t.above m x l)) (cases_lt m n)
 
--- what one turn pushes, if anything
+-- what one step pushes, if anything
 abbrev pub Turn : List Range → List Range → ℕ → ℕ → ℕ → ℕ → Type 0
 Turn blocks parts2 i j from next = ((from < next) × (j < i) × (parts2 ≡ blocks ++ record { start = from; end = next - 1 } ∷ [])) ⊎ ((from < next → i ≤ j) × (parts2 ≡ blocks))
 
@@ -157,7 +157,7 @@ turn_count : (blocks parts2 : List Range) (i j from next : ℕ) → Turn blocks 
 turn_count blocks parts2 i j from next (inl (a, b, e)) h = rw e (omega (arith, h, b, length_push blocks (record { start = from; end = next - 1 })))
 turn_count blocks parts2 i j from next (inr (a, e)) h = rw e (omega (arith, h))
 
--- one turn: so many of the starts and of the ends lie at `from` or below, and the others at `next` or above
+-- one step: so many of the starts and of the ends lie at `from` or below, and the others at `next` or above
 module _ (rs : List Range) (starts ends : List ℕ) (ss : IsSortOf (starts_of rs) starts) (es : IsSortOf (ends_of rs) ends) (i j from next : ℕ) (s : Split 0 starts i from next) (t : Split 1 ends j from next) where
   -- more ranges have begun than are over exactly where some range contains `from`
   open_is_covered : from < next → (j < i → IsCovered (Contains rs) from) × (IsCovered (Contains rs) from → j < i)
@@ -188,7 +188,7 @@ module _ (rs : List Range) (starts ends : List ℕ) (ss : IsSortOf (starts_of rs
       (λ (a : next ≤ from). let same : next ≡ from = omega arith in rw same h)
       (cases_lt from next))
 
--- past the last end the parts are all
+-- past the last end the blocks are all
 swept_all : (rs : List Range) (ends : List ℕ) (blocks : List Range) (from : ℕ) → IsSortOf (ends_of rs) ends → ((k : ℕ) → k < length ends → get_or ends k 0 + 1 ≤ from) → BlocksBelow (Contains rs) blocks from
     → IsPartition (Contains rs) blocks
 swept_all rs ends blocks from es past h = IsPartition-from_parts (Contains rs) blocks from h no_cut_after
@@ -244,7 +244,7 @@ end_is_cut rs ends i s l =
 sort_length : (f : Range → ℕ) (rs : List Range) (ys : List ℕ) → IsSortOf (map f (filter has_value rs)) ys → length ys ≡ count_by has_value rs
 sort_length f rs ys s = length_permutation (map f (filter has_value rs)) ys s.permutation ∙ length-map (filter has_value rs) f ∙ length-filter has_value rs
 
--- the sweep so far: i starts and j ends are taken up, and the parts of the values below `from` are made
+-- the sweep so far: i starts and j ends are taken up, and the blocks of the values below `from` are made
 pub record Swept (rs : List Range) (starts ends : List ℕ) (blocks : List Range) (i j from : ℕ) : Type 0 where
   pub starts_sorted : IsSortOf (starts_of rs) starts
   pub ends_sorted : IsSortOf (ends_of rs) ends
@@ -298,7 +298,7 @@ module _ (rs : List Range) (starts ends : List ℕ) (blocks parts2 : List Range)
         ends_split = split_taken 1 ends j from next h.ends_sorted.ascending h.ends_split l e;
       }
 
--- all is taken up: the parts are the runs, and fewer than the starts and the ends together
+-- all is taken up: the list is the partition, of fewer blocks than the starts and the ends together
 pub swept_blocks : (rs : List Range) (starts ends : List ℕ) (blocks : List Range) (i j from : ℕ) → Swept rs starts ends blocks i j from → length ends ≤ j → IsPartition (Contains rs) blocks
 swept_blocks rs starts ends blocks i j from h l = swept_all rs ends blocks from h.ends_sorted (λ k a. h.ends_split.below k (omega arith)) h.blocks_below
 

@@ -47,7 +47,7 @@ AreSmall origins = (k : ℕ) → value_of origins k ≤ 4294967295
 abbrev pub Keep : List Graph → List (List Item) → List (List Item) → Type 0
 Keep ns sets sets2 = (k : ℕ) → k < length sets → (k < length sets2) × (nth (subset_automaton ns) sets2 k ≡ nth (subset_automaton ns) sets k)
 
--- number n, which has the set s, is taken up: where its tests and all other values lead
+-- number n, which has the set s, is expanded: where its tests and all other values lead
 pub record IsEdged (ns : List Graph) (sets : List (List Item)) (origins : List (ℕ × ℕ)) (n : ℕ) (s : List Item) (sets2 : List (List Item)) (origins2 : List (ℕ × ℕ)) (tests : List (Range × ℕ)) (other : ℕ) : Type 0 where
   pub breadth_first : IsBreadthFirst (subset_automaton ns) sets2 origins2 (n + 1) 0
   pub ranges : IsPartition (IsLeaving ns s) (map (λ t. t.0) tests)
@@ -56,7 +56,7 @@ pub record IsEdged (ns : List Graph) (sets : List (List Item)) (origins : List (
   pub kept : Keep ns sets sets2
   pub small : AreSmall origins → AreSmall origins2
 
--- all numbers below n are taken up, and have their rows
+-- all numbers below n are expanded, and have their rows
 pub record IsBuiltTo (ns : List Graph) (ps : List ℕ) (sets : List (List Item)) (origins : List (ℕ × ℕ)) (rows : List Row) (n : ℕ) : Type 0 where
   pub breadth_first : IsBreadthFirst (subset_automaton ns) sets origins n 0
   pub within : n ≤ length sets

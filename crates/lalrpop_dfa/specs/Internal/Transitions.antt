@@ -30,19 +30,19 @@ IsTransition ns s v x q = (g : Graph) × (r : Range) × (Contains s x × (slice_
 abbrev pub AreTransitions : List Graph → List Item → ℕ → List Transition → Type 0
 AreTransitions ns s v leads = (l : Transition) → Contains leads l ↔ IsTransition ns s v l.item l.to
 
--- the ranges of the parts ascend by their starts
+-- the ranges of the blocks ascend by their starts
 abbrev pub AreRising : List Block → Type 0
 AreRising blocks = IsNonDecreasingBy (λ (p : Block). p.range.start) blocks
 
--- the parts keep their ranges; to the edges of each come those that E allows for its first value
+-- the blocks keep their ranges; to the edges of each come those that E allows for its first value
 abbrev pub Gained : List Block → List Block → (ℕ → Transition → Type 0) → Type 0
 Gained old new E = (map (λ (p : Block). p.range) new ≡ map (λ (p : Block). p.range) old)
     × ((k : ℕ) (p p2 : Block) → slice_get old k ≡ Some p → slice_get new k ≡ Some p2 → (l : Transition) → Contains p2.transitions.list.items l ↔ (Contains p.transitions.list.items l ⊎ E p.range.start l))
 
--- no part has an edge
+-- no block has an edge
 abbrev pub AreBare : List Block → Type 0
 AreBare blocks = (k : ℕ) (p : Block) → slice_get blocks k ≡ Some p → p.transitions.list.items ≡ []
 
--- each part has the test edges that its first value takes
+-- each block has the test edges that its first value takes
 abbrev pub HaveTransitions : List Graph → List Item → List Block → Type 0
 HaveTransitions ns s blocks = (k : ℕ) (p : Block) → slice_get blocks k ≡ Some p → AreTransitions ns s p.range.start p.transitions.list.items

@@ -1,4 +1,4 @@
--- Items noted for a worklist: each once, in the list of those observed and in that of those still to be looked at.
+-- Items inserted into a worklist: each once, in the list of those observed and in that of those still to be looked at.
 use Rattle.std.specs.Prelude.{◌≡◌, ◌+◌, ◌≤◌, ◌⊎◌, List, length, map}
 use Rattle.std.specs.List.{Contains, filter}
 use Rattle.lalrpop_nfa.specs.Graph.{Graph}
@@ -7,7 +7,7 @@ use Rattle.lalrpop_dfa.specs.Internal.Ascending.{AreAscendingItems}
 use Rattle.lalrpop_dfa.specs.Internal.Subsets.{graph_at}
 use Rattle.lalrpop_nfa.specs.Walk.{leaves}
 
--- after the items are noted, observed and pending have become observed2 and pending2
+-- after the items are inserted, observed and pending have become observed2 and pending2
 pub record IsInserted (observed pending items observed2 pending2 : List Item) : Type 0 where
   pub ordered : AreAscendingItems observed → AreAscendingItems observed2
   pub kept : (x : Item) → Contains observed x → Contains observed2 x

@@ -1,4 +1,4 @@
--- How a graph grows while a tree is compiled.
+-- How a graph is extended while a tree is compiled.
 use Rattle.std.specs.Prelude.{◌≡◌, ℕ, ◌<◌, List, ◌++◌, length, None}
 use Rattle.std.specs.List.{Contains, filter}
 use Rattle.lalrpop_hir.specs.Tree.{Tree, Trees}
@@ -23,7 +23,7 @@ pub record LeavesStates (g : Graph) : Type 0 where
 abbrev pub KeepsNoops : Graph → Graph → Type 0
 KeepsNoops g h = (s : ℕ) → s < length g.kinds → filter (leaves s) h.edges.noops ≡ filter (leaves s) g.edges.noops
 
--- h is g with what the way adds towards the target, and the way begins at this state
+-- h is g with what the construction adds towards the target, and its entry is this state
 pub record Extends (construction : Construction) (target : ℕ) (g h : Graph) (entry : ℕ) : Type 0 where
   pub begins : entry ≡ (construction target (length g.kinds)).entry
   pub graph : h ≡ extended g (construction target (length g.kinds))

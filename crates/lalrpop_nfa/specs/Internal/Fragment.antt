@@ -70,19 +70,19 @@ abbrev pub optional_copies : Construction → ℕ → Construction
 optional_copies x zero = nothing
 optional_copies x (suc k) = before (optional_expr x) (optional_copies x k)
 
--- any number of turns: one state, from which nothing is read towards the target or a turn that leads back to it
+-- any number of repetitions: one state, from which nothing is read towards the target or a copy that leads back to it
 abbrev pub star_expr : Construction → Construction
 star_expr x target n =
     let a = x n (n + 1) in
     record { size = a.size + 1; entry = n; edges = joined a.edges (noops_to n (target ∷ a.entry ∷ [])) }
 
--- the same, begun with a turn
+-- the same, begun with the copy
 abbrev pub plus_expr : Construction → Construction
 plus_expr x target n =
     let a = x n (n + 1) in
     record { size = a.size + 1; entry = a.entry; edges = joined a.edges (noops_to n (target ∷ a.entry ∷ [])) }
 
--- from min to max turns, or any number from min on
+-- from min to max repetitions, or any number from min on
 abbrev pub repeat_expr : Construction → ℕ → Option ℕ → Construction
 repeat_expr x min (Some max) = before (copies x min) (optional_copies x (max - min))
 repeat_expr x zero None = star_expr x
@@ -136,7 +136,7 @@ fresh_graph = record {
   edges = record { noops = []; tests = []; others = other accept_state reject_state ∷ other reject_state reject_state ∷ [] };
 }
 
--- the automaton with the states and edges of the shape
+-- the automaton with the states and edges of the fragment
 abbrev pub extended : Graph → Fragment → Graph
 extended g s = record { kinds = g.kinds ++ replicate s.size Neither; edges = joined g.edges s.edges }
 

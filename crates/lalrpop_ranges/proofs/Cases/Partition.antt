@@ -171,7 +171,7 @@ every_block x run = by_start (cases_lt x.start 102) (cases_lt x.start 105) (case
     by_start (inr a) (inr b) (inr c) (inl d) = (3, omega arith, within x 107 112 run b4 cut_112 c (omega (arith, d)))
     by_start (inr a) (inr b) (inr c) (inr d) = (4, omega arith, within x 113 117 run b5 cut_117 d (greatest x.start here))
 
--- each part is a block, and a run; a part of a part is a block and no run
+-- each is uniform, and a block; a part of a block is uniform and no block
 piece_is_a_block : IsUniform R (between 97 101) × IsBlock R (between 97 101)
 piece_is_a_block = (b1, each_block (between 97 101) (0, omega arith, refl))
 
@@ -193,7 +193,7 @@ neighbours_ascend = (omega arith, tt)
 overlapping_ranges_do_not_ascend : ¬ AreAscending (between 97 102 ∷ between 102 104 ∷ [])
 overlapping_ranges_do_not_ascend h = omega (arith, h.0)
 
--- the five parts are the partition
+-- the five blocks are the partition
 five_blocks_are_the_partition : IsPartition R five_blocks
 five_blocks_are_the_partition = record {
   ascending = (omega arith, (omega arith, (omega arith, (omega arith, tt))));

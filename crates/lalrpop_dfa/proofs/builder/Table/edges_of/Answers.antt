@@ -14,7 +14,7 @@ target_of_transitions-requires-clause-transitions c =
     let blocks = c.into_iter-block-iterator.result.rest.items in
     let k = length c.loop-block.tests.items in
     let at = (part_at blocks k c.in-Some.block c.next.new.self.rest.items (sym c.loop-block.invariant.rest ∙ c.in-Some.ensures.steps.0)).0 in
-    let led : AreTransitions c.args.nfas.now c.args.set.now c.in-Some.block.range.start c.in-Some.block.transitions.list.items = c.in_ok-blocks.ensures.leads k c.in-Some.block (search rules) in
+    let led : AreTransitions c.args.nfas.now c.args.set.now c.in-Some.block.range.start c.in-Some.block.transitions.list.items = c.in_ok-blocks.ensures.transitions k c.in-Some.block (search rules) in
     let v : c.new-origin.result.1 ≡ c.in-Some.block.range.start = ap (λ (o : ℕ × ℕ). o.1) c.new-origin.ensures ∙ c.start.ensures.value in
     subst (λ w. AreTransitions c.args.nfas.now c.args.set.now w c.in-Some.block.transitions.list.items) (sym v) led
 
