@@ -51,8 +51,10 @@ pub fn build_dfa(
     precedences: &[Precedence],
 ) -> Result<Dfa, DfaConstructionError>
     requires same_len { length regexs.now ≡ length precedences.now }
-    ensures ok { IfOk result (λ dfa. let ps = map (λ p. p.0) precedences.now in NoFault regexs.now × NoClash regexs.now ps × Recognizes dfa regexs.now ps) }
-    ensures items { IfOk result (λ dfa. (ns : List Graph) × AreCompiled regexs.now ns × HoldsItems ns dfa) }
+    ensures ok { IfOk result (λ dfa. let ps = map (λ p. p.0) precedences.now in
+        NoFault regexs.now × NoClash regexs.now ps × Recognizes dfa regexs.now ps) }
+    ensures items { IfOk result (λ dfa.
+        (ns : List Graph) × AreCompiled regexs.now ns × HoldsItems ns dfa) }
     ensures others { IfOk result OthersReject }
     ensures order { IfOk result IsInWordOrder }
     ensures err { IfErr result (λ e. IsReport regexs.now (map (λ p. p.0) precedences.now) e) }

@@ -21,7 +21,8 @@ const ESCAPED: [char; 18] = [
 /// `RegexError::OutOfMemory` where a request for memory was refused, and no other.
 pub fn escape(alloc: Global, s: &str) -> Result<String, RegexError>
     ensures text { IfOk result (λ p. chars (string_bytes p) ≡ escaped (chars s.now)) }
-    ensures tree { IfOk result (λ p. (t : Tree) × Pattern (chars (string_bytes p)) t × ((w : List ℕ) → Matches t w ↔ (w ≡ chars s.now))) }
+    ensures tree { IfOk result (λ p. (t : Tree) × Pattern (chars (string_bytes p)) t
+        × ((w : List ℕ) → Matches t w ↔ (w ≡ chars s.now))) }
     ensures memory { IfErr result (λ e. e ≡ RegexError.OutOfMemory) }
 {
     let mut pattern = String::new(alloc);

@@ -29,7 +29,8 @@ pub fn leaf_of_set(
     class: ClassUnicode,
     negated: bool,
 ) -> Result<ClassUnicode, AllocError>
-    ensures runs { IfOk result (λ r. (s : Set) → HasRuns class s → HasRuns r (leaf_or_complement flags s negated)) }
+    ensures runs { IfOk result (λ r. (s : Set) → HasRuns class s
+        → HasRuns r (leaf_or_complement flags s negated)) }
 {
     let leaf = if flags.case_insensitive {
         fold(alloc, &class)?

@@ -60,7 +60,8 @@ impl<K: Kernel> KernelSet<K> {
     /// The set stays as it was where there is no memory.
     pub fn add_state(&mut self, kernel: K) -> Result<K::Index, AllocError>
         requires clones { ClonesEqual K.cmp K.is_clone }
-        ensures number { IfOk result (λ i. (n : ℕ) × (i ≡ K.index_of n) × IsNumberOf K.cmp self.new.list kernel n) }
+        ensures number { IfOk result (λ i. (n : ℕ) × (i ≡ K.index_of n)
+            × IsNumberOf K.cmp self.new.list kernel n) }
         ensures list { OnOk result (self.new
             ≡ record { list = added K.cmp self.old.list kernel; place = self.old.place }) }
         ensures distinct { OnOk result (AreDistinct K.cmp self.new.list) }
@@ -86,8 +87,10 @@ impl<K: Kernel> KernelSet<K> {
     /// The set stays as it was where there is no memory.
     pub fn next(&mut self) -> Result<Option<K>, AllocError>
         requires clones { ClonesEqual K.cmp K.is_clone }
-        ensures given { IfOk result (λ o. MatchOption o (slice_get self.old.list self.old.place ≡ None)
-            (λ k. (q : K) × (slice_get self.old.list self.old.place ≡ Some q) × K.is_clone q k × (K.cmp q k ≡ Equal))) }
+        ensures given { IfOk result (λ o. MatchOption o
+            (slice_get self.old.list self.old.place ≡ None)
+            (λ k. (q : K) × (slice_get self.old.list self.old.place ≡ Some q)
+            × K.is_clone q k × (K.cmp q k ≡ Equal))) }
         ensures moves { IfOk result (λ o. self.new ≡ moved self.old o) }
         ensures refused { OnErr result (self.new ≡ self.old) }
     {

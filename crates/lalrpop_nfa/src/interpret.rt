@@ -23,7 +23,8 @@ pub fn interpret<'text>(
     nfa: &Nfa,
     text: &'text str,
 ) -> Result<Option<&'text str>, AllocError>
-    ensures answer { IfOk result (λ found. (t : Tree) → IsCompiled t nfa.now → IsLongestOf (Matches t) text.now (option_map (λ s. s.now) found)) }
+    ensures answer { IfOk result (λ found. (t : Tree) → IsCompiled t nfa.now
+        → IsLongestOf (Matches t) text.now (option_map (λ s. s.now) found)) }
     ensures prefix { IfOk result (λ found. IfSome found (λ s. IsPrefix s.now text.now)) }
 {
     interpret_counted(alloc, nfa, text, &mut Steps::new())
@@ -36,7 +37,8 @@ pub fn interpret_counted<'text>(
     text: &'text str,
     steps: &mut Steps,
 ) -> Result<Option<&'text str>, AllocError>
-    ensures answer { IfOk result (λ found. (t : Tree) → IsCompiled t nfa.now → IsLongestOf (Matches t) text.now (option_map (λ s. s.now) found)) }
+    ensures answer { IfOk result (λ found. (t : Tree) → IsCompiled t nfa.now
+        → IsLongestOf (Matches t) text.now (option_map (λ s. s.now) found)) }
     ensures prefix { IfOk result (λ found. IfSome found (λ s. IsPrefix s.now text.now)) }
     ensures cost { steps.new ≤ steps.old + length nfa.now.kinds * (length (chars text.now) + 1) }
     ensures rises { steps.old ≤ steps.new }

@@ -99,7 +99,8 @@ impl Nfa {
     pub fn from_re(alloc: Global, regex: &Regex) -> Result<Nfa, NfaConstructionError>
         ensures ok { IfOk result (λ nfa. (fault regex.now ≡ None) × IsCompiled regex.now nfa) }
         ensures fixed_edges { IfOk result (λ nfa. HasFixedEdges nfa.edges) }
-        ensures err { IfErr result (λ e. e ≢ NfaConstructionError.OutOfMemory → fault regex.now ≡ Some e) }
+        ensures err { IfErr result (λ e.
+            e ≢ NfaConstructionError.OutOfMemory → fault regex.now ≡ Some e) }
     {
         let mut nfa = Nfa::new(alloc)?;
         let entry = nfa.expr(regex, ACCEPT)?;

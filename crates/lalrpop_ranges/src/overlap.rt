@@ -14,8 +14,10 @@ use std::collections::BTreeSet;
 ///
 /// It sorts the starts and the ends, and goes over them once. The only error is that there is no memory.
 pub fn remove_overlap(alloc: Global, ranges: &BTreeSet<Test>) -> Result<Vec<Test>, AllocError>
-    ensures partition { IfOk result (λ blocks. IsPartition (Contains ranges.now.keys) blocks.items) }
-    ensures count { IfOk result (λ blocks. length blocks.items ≤ 2 * count_by has_value ranges.now.keys - 1) }
+    ensures partition { IfOk result (λ blocks.
+        IsPartition (Contains ranges.now.keys) blocks.items) }
+    ensures count { IfOk result (λ blocks.
+        length blocks.items ≤ 2 * count_by has_value ranges.now.keys - 1) }
 {
     let Ends {
         mut starts,

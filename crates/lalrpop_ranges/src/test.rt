@@ -29,7 +29,8 @@ impl Model for Test {
 impl Test {
     /// The values from the start of a range to its end.
     pub fn new(range: RangeInclusive<u32>) -> Test
-        ensures value { result ≡ record { start = range_inclusive_start range; end = range_inclusive_end range } }
+        ensures value { result
+            ≡ record { start = range_inclusive_start range; end = range_inclusive_end range } }
     {
         let (start, end) = range.into_inner();
         Test { start, end }

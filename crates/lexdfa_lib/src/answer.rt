@@ -85,7 +85,8 @@ pub fn run<R: Read, W: Write>(
     requires writer_good { writer.old.failed ≡ false }
 
     ensures outcome { IfOk result (λ outcome.
-        ReadsOutcome (R.remaining reader.old.inner) (R.remaining reader.new.inner) text.now outcome) }
+        ReadsOutcome (R.remaining reader.old.inner) (R.remaining reader.new.inner)
+        text.now outcome) }
     ensures line { IfOk result (λ outcome.
         Appends (W.contents writer.old.inner) (W.contents writer.new.inner) (line_of outcome)) }
     ensures good { OnOk result ((reader.new.failed ≡ false) × (writer.new.failed ≡ false)) }
@@ -94,7 +95,8 @@ pub fn run<R: Read, W: Write>(
     ensures read { IfErr result (λ e. e ≡ RunError.Read → reader.new.failed ≡ true) }
     ensures nothing_written { IfErr result (λ e. e ≢ RunError.Write → writer.new ≡ writer.old) }
 
-    ensures write { IfErr result (λ e. e ≡ RunError.Write → (reader.new.failed ≡ false) × (writer.new.failed ≡ true)) }
+    ensures write { IfErr result (λ e. e ≡ RunError.Write
+        → (reader.new.failed ≡ false) × (writer.new.failed ≡ true)) }
     ensures prefix { IfErr result (λ e. e ≡ RunError.Write →
         WritesPrefix (R.remaining reader.old.inner) (R.remaining reader.new.inner) text.now
         (W.contents writer.old.inner) (W.contents writer.new.inner)) }

@@ -11,7 +11,8 @@ use std::io::{Read, Write};
 pub fn read_whole<R: Read>(alloc: Global, reader: &mut Watched<R>) -> Result<Vec<u8>, RunError>
     requires reader_good { reader.old.failed ≡ false }
     ensures no_late_read { reader.new.late ≡ reader.old.late }
-    ensures bytes { IfOk result (λ all. ReadsAll (R.remaining reader.old.inner) (R.remaining reader.new.inner) all.items) }
+    ensures bytes { IfOk result (λ all.
+        ReadsAll (R.remaining reader.old.inner) (R.remaining reader.new.inner) all.items) }
     ensures good { OnOk result (reader.new.failed ≡ false) }
     ensures memory { IfErr result (λ e. e ≡ RunError.OutOfMemory → reader.new.failed ≡ false) }
     ensures read { IfErr result (λ e. e ≡ RunError.Read → reader.new.failed ≡ true) }
@@ -36,9 +37,11 @@ pub fn read_whole<R: Read>(alloc: Global, reader: &mut Watched<R>) -> Result<Vec
 pub fn write_whole<W: Write>(writer: &mut Watched<W>, bytes: &[u8]) -> Result<(), RunError>
     requires writer_good { writer.old.failed ≡ false }
     ensures no_late_write { writer.new.late ≡ writer.old.late }
-    ensures ok { OnOk result (Appends (W.contents writer.old.inner) (W.contents writer.new.inner) bytes.now) }
+    ensures ok { OnOk result
+        (Appends (W.contents writer.old.inner) (W.contents writer.new.inner) bytes.now) }
     ensures good { OnOk result (writer.new.failed ≡ false) }
-    ensures prefix { OnErr result (AppendsPrefix (W.contents writer.old.inner) (W.contents writer.new.inner) bytes.now) }
+    ensures prefix { OnErr result
+        (AppendsPrefix (W.contents writer.old.inner) (W.contents writer.new.inner) bytes.now) }
     ensures failed { OnErr result (writer.new.failed ≡ true) }
     ensures write { IfErr result (λ e. e ≡ RunError.Write) }
 {

@@ -72,7 +72,8 @@ fn kind_of(rest: &str) -> Option<(Kind, &str)>
 /// The precedence, the kind and the text of a line `P l TEXT` or `P r PATTERN`; None where the line is bad.
 pub fn line_parts(line: &[u8]) -> Option<(usize, Kind, &str)>
     ensures some { IfSome result (λ m. IsLine line.now m.0 m.1 m.2.now) }
-    ensures none { IfNone result ((n : ℕ) (kind : Kind) (text : List ℕ) → ¬ IsLine line.now n kind text) }
+    ensures none { IfNone result
+        ((n : ℕ) (kind : Kind) (text : List ℕ) → ¬ IsLine line.now n kind text) }
 {
     let line = str::from_utf8(line).ok()?;
     let (digits, rest) = line.split_once(' ')?;

@@ -25,7 +25,8 @@ pub fn longest_match<'text>(
 
     ensures no_fault { OnOk result (NoFault regexs.now) }
     ensures no_clash { OnOk result (NoClash regexs.now (map (λ p. p.0) precedences.now)) }
-    ensures longest { IfOk result (λ found. IsLongest regexs.now (map (λ p. p.0) precedences.now) text.now
+    ensures longest { IfOk result (λ found.
+        IsLongest regexs.now (map (λ p. p.0) precedences.now) text.now
         (option_map (λ m. (m.0, m.1.now)) found)) }
     ensures strongest { IfOk result (λ found. IfSome found (λ m.
         IsOnlyStrongest regexs.now (map (λ p. p.0) precedences.now) (chars m.1.now) m.0)) }

@@ -70,7 +70,8 @@ impl<R: Read> Watched<R> {
     /// reader's error.
     pub fn read(&mut self, buf: &mut [u8]) -> io::Result<usize>
         ensures bound { ReadsAtMost result buf.new }
-        ensures bytes { ReadConsumes (R.remaining self.old.inner) (R.remaining self.new.inner) result buf.new }
+        ensures bytes { ReadConsumes (R.remaining self.old.inner) (R.remaining self.new.inner)
+            result buf.new }
         ensures failed { self.new.failed ≡ (self.old.failed || read_failed result) }
         ensures late { self.new.late ≡ late_after self.old }
     {
@@ -88,7 +89,8 @@ impl<W: Write> Watched<W> {
     /// error. A write that takes nothing of some bytes has failed too.
     pub fn write(&mut self, buf: &[u8]) -> io::Result<usize>
         ensures bound { WritesAtMost result buf.now }
-        ensures bytes { WriteAppends (W.contents self.old.inner) (W.contents self.new.inner) result buf.now }
+        ensures bytes { WriteAppends (W.contents self.old.inner) (W.contents self.new.inner)
+            result buf.now }
         ensures failed { self.new.failed ≡ (self.old.failed || write_failed buf.now result) }
         ensures late { self.new.late ≡ late_after self.old }
     {

@@ -54,11 +54,13 @@ impl Lexer {
         requires same_len { length regexs.items ≡ length precedences.items }
 
         ensures trees { IfOk result (λ lexer. lexer.trees ≡ regexs.items) }
-        ensures precedences { IfOk result (λ lexer. lexer.precedences ≡ map (λ p. p.0) precedences.items) }
+        ensures precedences { IfOk result (λ lexer.
+            lexer.precedences ≡ map (λ p. p.0) precedences.items) }
         ensures no_fault { OnOk result (NoFault regexs.items) }
         ensures no_clash { OnOk result (NoClash regexs.items (map (λ p. p.0) precedences.items)) }
 
-        ensures report { IfErr result (λ e. IsReport regexs.items (map (λ p. p.0) precedences.items) e) }
+        ensures report { IfErr result
+            (λ e. IsReport regexs.items (map (λ p. p.0) precedences.items) e) }
     {
         let dfa = build_dfa(alloc, &regexs, &precedences)?;
         Ok(Lexer {
@@ -75,7 +77,8 @@ impl Lexer {
     ///
     /// The first line that is no terminal; else what `new` reports of the terminals.
     pub fn from_lines(alloc: Global, bytes: &[u8]) -> Result<Lexer, BuildError>
-        ensures terminals { IfOk result (λ lexer. AreTerminals (lines bytes.now) lexer.trees lexer.precedences) }
+        ensures terminals { IfOk result (λ lexer.
+            AreTerminals (lines bytes.now) lexer.trees lexer.precedences) }
         ensures no_fault { IfOk result (λ lexer. NoFault lexer.trees) }
         ensures no_clash { IfOk result (λ lexer. NoClash lexer.trees lexer.precedences) }
         ensures error { IfErr result (λ e. IsBuildError bytes.now e) }
@@ -106,7 +109,8 @@ impl Lexer {
     /// The token at the front of the text: the longest nonempty prefix that some pattern matches, with the one pattern of
     /// the greatest precedence that matches it.
     pub fn token<'text>(&self, text: &'text str) -> Option<Token<'text>>
-        ensures token { IfSome result (λ token. IsToken self.now.trees self.now.precedences text.now token) }
+        ensures token { IfSome result (λ token.
+            IsToken self.now.trees self.now.precedences text.now token) }
         ensures none { IfNone result (IsLongest self.now.trees self.now.precedences text.now None) }
     {
         match interpret(&self.dfa, text) {
@@ -127,7 +131,8 @@ impl Lexer {
         ensures joined { IfOk result (λ cut. text.now ≡ joined cut.tokens.items ++ cut.rest.now) }
         ensures tokens { IfOk result (λ cut.
             AreTokens self.now.trees self.now.precedences text.now cut.tokens.items cut.rest.now) }
-        ensures rest { IfOk result (λ cut. IsLongest self.now.trees self.now.precedences cut.rest.now None) }
+        ensures rest { IfOk result (λ cut.
+            IsLongest self.now.trees self.now.precedences cut.rest.now None) }
     {
         let mut tokens = Vec::new(alloc);
         let mut rest = text;

@@ -50,7 +50,8 @@ impl Shown {
     /// the first place where no terminal matches. Where there is no lexer, one line that says why.
     pub fn of(alloc: Global, bytes: &[u8], texts: &[String]) -> Result<Shown, AllocError>
         ensures shown { IfOk result (λ shown.
-            IsShown bytes.now (map string_bytes texts.now) (string_bytes shown.written) shown.ended) }
+            IsShown bytes.now (map string_bytes texts.now)
+            (string_bytes shown.written) shown.ended) }
     {
         match Lexer::from_lines(alloc, bytes) {
             Ok(lexer) => {
