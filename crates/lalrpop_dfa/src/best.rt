@@ -102,7 +102,8 @@ pub(super) fn kind_of(nfas: &[Nfa], precedences: &[Precedence], set: &ItemSet) -
     requires inside { AreItemsOf nfas.now set.now }
     requires ascending { AreAscendingItems set.now }
     ensures ok { IfOk result (IsKindOf (map (λ p. p.0) precedences.now) set.now) }
-    ensures err { IfErr result (λ tie. IsTied (map (λ p. p.0) precedences.now) set.now tie.greatest tie.second) }
+    ensures err { IfErr result (λ tie.
+        IsTied (map (λ p. p.0) precedences.now) set.now tie.greatest tie.second) }
 {
     let Some(best) = best_of(nfas, precedences, set) else {
         return Ok(if all_reject(nfas, set) {

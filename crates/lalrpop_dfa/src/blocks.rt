@@ -38,7 +38,8 @@ pub(super) struct Block {
 impl Block {
     fn add(&mut self, transition: Transition) -> Result<(), AllocError>
         ensures range { OnOk result (self.new.range ≡ self.old.range) }
-        ensures transitions { OnOk result (self.new.transitions.list.items ≡ self.old.transitions.list.items ++ transition ∷ []) }
+        ensures transitions { OnOk result (self.new.transitions.list.items
+            ≡ self.old.transitions.list.items ++ transition ∷ []) }
     {
         self.transitions.list.push(transition)?;
         Ok(())
@@ -52,7 +53,8 @@ fn add_transition(
     transition: &Transition,
 ) -> Result<(), AllocError>
     requires { AreRising blocks.old.items }
-    ensures { OnOk result (Gained blocks.old.items blocks.new.items (λ v l. Covers label.now v × (l ≡ transition.now))) }
+    ensures { OnOk result (Gained blocks.old.items blocks.new.items (λ v l. Covers label.now v
+        × (l ≡ transition.now))) }
 {
     let first = blocks
         .as_slice()
@@ -70,7 +72,8 @@ fn add_transition(
 fn add_edges(nfas: &[Nfa], item: Item, blocks: &mut Vec<Block>) -> Result<(), AllocError>
     requires inside { IsItemOf nfas.now item }
     requires rising { AreRising blocks.old.items }
-    ensures { OnOk result (Gained blocks.old.items blocks.new.items (λ v l. IsTransition nfas.now (item ∷ []) v l.item l.to)) }
+    ensures { OnOk result (Gained blocks.old.items blocks.new.items (λ v l.
+        IsTransition nfas.now (item ∷ []) v l.item l.to)) }
 {
     for edge in item.nfa(nfas).edges::<Test>(item.state()) {
         let to = edge.to;
@@ -82,7 +85,8 @@ fn add_edges(nfas: &[Nfa], item: Item, blocks: &mut Vec<Block>) -> Result<(), Al
 // The partition of the labels that leave the items of a set, with no edge as yet.
 fn bare_blocks_of(alloc: Global, nfas: &[Nfa], set: &ItemSet) -> Result<Vec<Block>, AllocError>
     requires { AreItemsOf nfas.now set.now }
-    ensures ranges { IfOk result (λ blocks. IsPartition (IsLeaving nfas.now set.now) (map (λ p. p.range) blocks.items)) }
+    ensures ranges { IfOk result (λ blocks.
+        IsPartition (IsLeaving nfas.now set.now) (map (λ p. p.range) blocks.items)) }
     ensures bare { IfOk result (λ blocks. AreBare blocks.items) }
 {
     let labels = labels_of(alloc, nfas, set)?;
@@ -108,7 +112,8 @@ pub(super) fn blocks_of(
     set: &ItemSet,
 ) -> Result<Vec<Block>, AllocError>
     requires { AreItemsOf nfas.now set.now }
-    ensures ranges { IfOk result (λ blocks. IsPartition (IsLeaving nfas.now set.now) (map (λ p. p.range) blocks.items)) }
+    ensures ranges { IfOk result (λ blocks.
+        IsPartition (IsLeaving nfas.now set.now) (map (λ p. p.range) blocks.items)) }
     ensures transitions { IfOk result (λ blocks. HaveTransitions nfas.now set.now blocks.items) }
 {
     let mut blocks = bare_blocks_of(alloc, nfas, set)?;

@@ -56,7 +56,8 @@ impl Table {
     // The table with the set that the empty word leads to, as number 0.
     fn new(alloc: Global, nfas: &[Nfa]) -> Result<Table, AllocError>
         requires { AreAutomata nfas.now }
-        ensures { IfOk result (λ t. (t.kernels.list ≡ first_set_of nfas.now ∷ []) × (t.kernels.place ≡ 0) × (t.origins.items ≡ (0, 0) ∷ []) × (t.states.items ≡ [])) }
+        ensures { IfOk result (λ t. (t.kernels.list ≡ first_set_of nfas.now ∷ [])
+            × (t.kernels.place ≡ 0) × (t.origins.items ≡ (0, 0) ∷ []) × (t.states.items ≡ [])) }
     {
         let starts = starts_of(alloc, nfas)?;
         let first = closure(alloc, nfas, &starts)?;
@@ -96,7 +97,9 @@ impl Table {
         requires automata { AreAutomata nfas.now }
         requires inside { AreItemsOf nfas.now set.now }
         requires same_length { length self.old.origins.items ≡ length self.old.kernels.list }
-        ensures added { IfOk result (λ j. AddedTo self.old.kernels.list self.old.origins.items origin.0 origin.1 (move nfas.now set.now origin.1) j self.new.kernels.list self.new.origins.items) }
+        ensures added { IfOk result (λ j.
+            AddedTo self.old.kernels.list self.old.origins.items origin.0 origin.1
+            (move nfas.now set.now origin.1) j self.new.kernels.list self.new.origins.items) }
         ensures place { OnOk result (self.new.kernels.place ≡ self.old.kernels.place) }
         ensures states { OnOk result (self.new.states.items ≡ self.old.states.items) }
     {
@@ -120,7 +123,9 @@ impl Table {
         requires same_length { length self.old.origins.items ≡ length self.old.kernels.list }
         requires transitions { AreTransitions nfas.now set.now origin.1 transitions.list.items }
         requires known { AreKnown nfas.now set.now known.old self.old.kernels.list }
-        ensures added { IfOk result (λ j. AddedTo self.old.kernels.list self.old.origins.items origin.0 origin.1 (move nfas.now set.now origin.1) j self.new.kernels.list self.new.origins.items) }
+        ensures added { IfOk result (λ j.
+            AddedTo self.old.kernels.list self.old.origins.items origin.0 origin.1
+            (move nfas.now set.now origin.1) j self.new.kernels.list self.new.origins.items) }
         ensures known { OnOk result (AreKnown nfas.now set.now known.new self.new.kernels.list) }
         ensures place { OnOk result (self.new.kernels.place ≡ self.old.kernels.place) }
         ensures states { OnOk result (self.new.states.items ≡ self.old.states.items) }
@@ -143,7 +148,8 @@ impl Table {
     ) -> Result<Edges, AllocError>
         requires automata { AreAutomata nfas.now }
         requires inside { AreItemsOf nfas.now set.now }
-        requires breadth_first { IsBreadthFirst (subset_automaton nfas.now) self.old.kernels.list self.old.origins.items number 0 }
+        requires breadth_first { IsBreadthFirst
+            (subset_automaton nfas.now) self.old.kernels.list self.old.origins.items number 0 }
         requires here { slice_get self.old.kernels.list number ≡ Some set.now }
         ensures edged { IfOk result (λ e. IsEdged nfas.now self.old.kernels.list self.old.origins.items number set.now self.new.kernels.list self.new.origins.items e.tests.items e.other) }
         ensures place { OnOk result (self.new.kernels.place ≡ self.old.kernels.place) }
@@ -182,7 +188,8 @@ impl Table {
         requires built { IsBuiltTo nfas.now (map (λ p. p.0) precedences.now) self.old.kernels.list self.old.origins.items self.old.states.items (length self.old.states.items) }
         requires here { slice_get self.old.kernels.list (length self.old.states.items) ≡ Some set }
         ensures ok { OnOk result (IsBuiltTo nfas.now (map (λ p. p.0) precedences.now) self.new.kernels.list self.new.origins.items self.new.states.items (length self.new.states.items)) }
-        ensures one { OnOk result (length self.new.states.items ≡ length self.old.states.items + 1) }
+        ensures one { OnOk result (length self.new.states.items
+            ≡ length self.old.states.items + 1) }
         ensures place { OnOk result (self.new.kernels.place ≡ self.old.kernels.place) }
         ensures err { IfErr result (IsTieOf (map (λ p. p.0) precedences.now) set) }
     {
@@ -215,11 +222,13 @@ pub(super) fn build(
 ) -> Result<Dfa, DfaConstructionError>
     requires same_len { length nfas.now ≡ length precedences.now }
     requires automata { AreAutomata nfas.now }
-    ensures stands { IfOk result (λ dfa. let ps = map (λ p. p.0) precedences.now in (ts : List Tree) → AreCompiled ts nfas.now → NoClash ts ps × Recognizes dfa ts ps) }
+    ensures stands { IfOk result (λ dfa. let ps = map (λ p. p.0) precedences.now in
+        (ts : List Tree) → AreCompiled ts nfas.now → NoClash ts ps × Recognizes dfa ts ps) }
     ensures items { IfOk result (HoldsItems nfas.now) }
     ensures others { IfOk result OthersReject }
     ensures order { IfOk result IsInWordOrder }
-    ensures err { IfErr result (λ e. let ps = map (λ p. p.0) precedences.now in (ts : List Tree) → AreCompiled ts nfas.now → IsClashOf ts ps e) }
+    ensures err { IfErr result (λ e. let ps = map (λ p. p.0) precedences.now in
+        (ts : List Tree) → AreCompiled ts nfas.now → IsClashOf ts ps e) }
 {
     let mut table = Table::new(alloc, nfas)?;
     while let Some(set) = table.kernels.next()? {

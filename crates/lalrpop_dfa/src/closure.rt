@@ -23,7 +23,9 @@ struct Worklist {
 impl Worklist {
     // Notes an item, unless it was found before.
     fn insert(&mut self, item: Item) -> Result<(), AllocError>
-        ensures { OnOk result (IsInserted self.old.observed.keys self.old.pending.items (item ∷ []) self.new.observed.keys self.new.pending.items) }
+        ensures { OnOk result
+            (IsInserted self.old.observed.keys self.old.pending.items
+            (item ∷ []) self.new.observed.keys self.new.pending.items) }
     {
         if self.observed.insert(item)? {
             self.pending.push(item)?;
@@ -34,7 +36,9 @@ impl Worklist {
     // Notes the items that one edge leads to which reads nothing.
     fn follow(&mut self, nfas: &[Nfa], item: Item) -> Result<(), AllocError>
         requires { IsItemOf nfas.now item }
-        ensures { OnOk result (IsInserted self.old.observed.keys self.old.pending.items (epsilon_targets nfas.now item) self.new.observed.keys self.new.pending.items) }
+        ensures { OnOk result
+            (IsInserted self.old.observed.keys self.old.pending.items
+            (epsilon_targets nfas.now item) self.new.observed.keys self.new.pending.items) }
     {
         for edge in item.nfa(nfas).edges::<Noop>(item.state()) {
             self.insert(item.to(edge.to))?;
@@ -84,7 +88,8 @@ fn push_test_targets(
     targets: &mut Vec<Item>,
 ) -> Result<(), AllocError>
     requires { item.1 < length nfa.now.kinds }
-    ensures { OnOk result (targets.new.items ≡ targets.old.items ++ map (λ q. (item.0, q)) (test_targets nfa.now item.1 value)) }
+    ensures { OnOk result (targets.new.items
+        ≡ targets.old.items ++ map (λ q. (item.0, q)) (test_targets nfa.now item.1 value)) }
 {
     for edge in nfa.edges::<Test>(item.state()) {
         if edge.label.contains_u32(value) {
@@ -97,7 +102,8 @@ fn push_test_targets(
 // Adds where the other edges of the item's state lead.
 fn push_default_targets(nfa: &Nfa, item: Item, targets: &mut Vec<Item>) -> Result<(), AllocError>
     requires { item.1 < length nfa.now.kinds }
-    ensures { OnOk result (targets.new.items ≡ targets.old.items ++ map (λ q. (item.0, q)) (default_targets nfa.now item.1)) }
+    ensures { OnOk result (targets.new.items
+        ≡ targets.old.items ++ map (λ q. (item.0, q)) (default_targets nfa.now item.1)) }
 {
     for edge in nfa.edges::<Other>(item.state()) {
         targets.push(item.to(edge.to))?;
@@ -113,7 +119,8 @@ fn push_targets(
     targets: &mut Vec<Item>,
 ) -> Result<(), AllocError>
     requires { IsItemOf nfas.now item }
-    ensures { OnOk result (targets.new.items ≡ targets.old.items ++ item_targets nfas.now value item) }
+    ensures { OnOk result (targets.new.items
+        ≡ targets.old.items ++ item_targets nfas.now value item) }
 {
     let nfa = item.nfa(nfas);
     let before = targets.len();

@@ -33,7 +33,8 @@ pub(super) fn labels_of(
     set: &ItemSet,
 ) -> Result<BTreeSet<Test>, AllocError>
     requires { AreItemsOf nfas.now set.now }
-    ensures { IfOk result (λ labels. (r : Range) → Contains labels.keys r ↔ IsLeaving nfas.now set.now r) }
+    ensures { IfOk result (λ labels. (r : Range)
+        → Contains labels.keys r ↔ IsLeaving nfas.now set.now r) }
 {
     let mut labels = BTreeSet::new(alloc);
     for item in set.items.iter() {

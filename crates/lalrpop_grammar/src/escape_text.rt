@@ -33,7 +33,8 @@ pub fn escape(alloc: Global, s: &str) -> Result<String, RegexError>
 }
 
 fn push_escaped(pattern: &mut String, c: char) -> Result<(), AllocError>
-    ensures { OnOk result (string_bytes pattern.new ≡ string_bytes pattern.old ++ encode_utf8_all (escaped (c ∷ []))) }
+    ensures { OnOk result (string_bytes pattern.new
+        ≡ string_bytes pattern.old ++ encode_utf8_all (escaped (c ∷ []))) }
 {
     if !is_escaped(c) {
         return pattern.push(c);

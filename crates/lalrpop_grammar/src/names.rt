@@ -20,7 +20,8 @@ pub fn repeated_name(alloc: Global, tree: &Hir) -> Result<Option<usize>, AllocEr
 #[cycle(names)]
 #[tactic(auto, unfolding(crate::specs::GroupName::names, crate::specs::GroupName::all_names))]
 fn collect_names<'a>(tree: &'a Hir, found: &mut Vec<&'a str>) -> Result<(), AllocError>
-    ensures { OnOk result (map (λ n. n.now) found.new.items ≡ map (λ n. n.now) found.old.items ++ names tree.now) }
+    ensures { OnOk result (map (λ n. n.now) found.new.items
+        ≡ map (λ n. n.now) found.old.items ++ names tree.now) }
 {
     match tree.kind() {
         HirKind::Repetition(repetition) => collect_names(repetition.sub(), found),
@@ -36,7 +37,8 @@ fn collect_names<'a>(tree: &'a Hir, found: &mut Vec<&'a str>) -> Result<(), Allo
 
 #[cycle(names)]
 fn collect_all<'a>(parts: &'a [Hir], found: &mut Vec<&'a str>) -> Result<(), AllocError>
-    ensures { OnOk result (map (λ n. n.now) found.new.items ≡ map (λ n. n.now) found.old.items ++ all_names (trees parts.now)) }
+    ensures { OnOk result (map (λ n. n.now) found.new.items
+        ≡ map (λ n. n.now) found.old.items ++ all_names (trees parts.now)) }
 {
     for part in parts {
         collect_names(part, found)?;
@@ -45,7 +47,8 @@ fn collect_all<'a>(parts: &'a [Hir], found: &mut Vec<&'a str>) -> Result<(), All
 }
 
 fn add_name<'a>(name: Option<&'a str>, found: &mut Vec<&'a str>) -> Result<(), AllocError>
-    ensures { OnOk result (map (λ n. n.now) found.new.items ≡ map (λ n. n.now) found.old.items ++ name_of (option_map (λ n. n.now) name.entry)) }
+    ensures { OnOk result (map (λ n. n.now) found.new.items
+        ≡ map (λ n. n.now) found.old.items ++ name_of (option_map (λ n. n.now) name.entry)) }
 {
     if let Some(name) = name {
         found.push(name)?;
@@ -55,7 +58,8 @@ fn add_name<'a>(name: Option<&'a str>, found: &mut Vec<&'a str>) -> Result<(), A
 
 /// The place of the first name that equals one before it.
 fn first_repeated(alloc: Global, found: &[&str]) -> Result<Option<usize>, AllocError>
-    ensures { IfOk result (λ place. is_some place ≡ not (are_distinct (map (λ n. n.now) found.now))) }
+    ensures { IfOk result (λ place.
+        is_some place ≡ not (are_distinct (map (λ n. n.now) found.now))) }
 {
     let mut seen = BTreeSet::new(alloc);
     for i in 0..found.len() {

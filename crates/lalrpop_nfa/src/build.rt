@@ -46,7 +46,12 @@ impl Nfa {
     ) -> Result<(), AllocError>
         requires is_state { from < length self.old.kinds }
         requires is_new { filter (leaves from) self.old.edges.noops ≡ [] }
-        ensures { OnOk result (self.new ≡ with_edges self.old (record self.old.edges { noops = self.old.edges.noops ++ map (noop from) targets.now })) }
+        ensures { OnOk result (self.new
+            ≡ with_edges self.old
+            (record self.old.edges {
+              noops = self.old.edges.noops ++ map
+                  (noop from) targets.now;
+            })) }
     {
         for target in targets {
             self.push_edge(from, Noop, *target)?;
@@ -103,7 +108,8 @@ impl Nfa {
         target: NfaStateIndex,
     ) -> Result<NfaStateIndex, AllocError>
         requires { LeavesStates self.old }
-        ensures extended { IfOk result (Extends (made.literal_expr (chars text.now)) target self.old self.new) }
+        ensures extended { IfOk result
+            (Extends (made.literal_expr (chars text.now)) target self.old self.new) }
         ensures valid { OnOk result (AreCodeValues (chars text.now)) }
     {
         let mut entry = target;
@@ -158,7 +164,8 @@ impl Nfa {
         target: NfaStateIndex,
     ) -> Result<NfaStateIndex, AllocError>
         requires { LeavesStates self.old }
-        ensures extended { IfOk result (Extends (made.class_construction (class_of class.now)) target self.old self.new) }
+        ensures extended { IfOk result
+            (Extends (made.class_construction (class_of class.now)) target self.old self.new) }
         ensures valid { OnOk result (IsValidClass (class_of class.now)) }
     {
         match class {
@@ -175,10 +182,12 @@ impl Nfa {
         target: NfaStateIndex,
     ) -> Result<NfaStateIndex, NfaConstructionError>
         requires { LeavesStates self.old }
-        ensures extended { IfOk result (Extends (made.fragment_of hir.now) target self.old self.new) }
+        ensures extended { IfOk result
+            (Extends (made.fragment_of hir.now) target self.old self.new) }
         ensures no_fault { OnOk result (fault hir.now ≡ None) }
         ensures valid { OnOk result (IsValid hir.now) }
-        ensures err { IfErr result (λ e. e ≢ NfaConstructionError.OutOfMemory → fault hir.now ≡ Some e) }
+        ensures err { IfErr result (λ e. e ≢ NfaConstructionError.OutOfMemory
+            → fault hir.now ≡ Some e) }
     {
         match hir.kind() {
             HirKind::Empty => Ok(target),
@@ -210,9 +219,12 @@ impl Nfa {
     ) -> Result<NfaStateIndex, NfaConstructionError>
         requires { LeavesStates self.old }
         ensures extended { IfOk result (Extends (made.repeat_expr (made.fragment_of repetition.now.sub) repetition.now.min repetition.now.max) target self.old self.new) }
-        ensures no_fault { OnOk result (greedy_fault repetition.now.max (fault repetition.now.sub) ≡ None) }
-        ensures valid { OnOk result (AreOrdered repetition.now.min repetition.now.max × IsValidRepeated repetition.now.max (IsValid repetition.now.sub)) }
-        ensures err { IfErr result (λ e. e ≢ NfaConstructionError.OutOfMemory → greedy_fault repetition.now.max (fault repetition.now.sub) ≡ Some e) }
+        ensures no_fault { OnOk result (greedy_fault repetition.now.max (fault repetition.now.sub)
+            ≡ None) }
+        ensures valid { OnOk result (AreOrdered repetition.now.min repetition.now.max
+            × IsValidRepeated repetition.now.max (IsValid repetition.now.sub)) }
+        ensures err { IfErr result (λ e. e ≢ NfaConstructionError.OutOfMemory
+            → greedy_fault repetition.now.max (fault repetition.now.sub) ≡ Some e) }
     {
         let sub = repetition.sub();
         let min = repetition.min();
@@ -246,10 +258,13 @@ impl Nfa {
         target: NfaStateIndex,
     ) -> Result<(NfaStateIndex, NfaStateIndex), NfaConstructionError>
         requires { LeavesStates self.old }
-        ensures any { IfOk result (λ p. Extends (made.star_expr (made.fragment_of sub.now)) target self.old self.new p.0) }
-        ensures some { IfOk result (λ p. Extends (made.plus_expr (made.fragment_of sub.now)) target self.old self.new p.1) }
+        ensures any { IfOk result (λ p.
+            Extends (made.star_expr (made.fragment_of sub.now)) target self.old self.new p.0) }
+        ensures some { IfOk result (λ p.
+            Extends (made.plus_expr (made.fragment_of sub.now)) target self.old self.new p.1) }
         ensures compilable { OnOk result (IsCompilable sub.now) }
-        ensures err { IfErr result (λ e. e ≢ NfaConstructionError.OutOfMemory → fault sub.now ≡ Some e) }
+        ensures err { IfErr result (λ e. e ≢ NfaConstructionError.OutOfMemory
+            → fault sub.now ≡ Some e) }
     {
         let state = self.new_state(StateKind::Neither)?;
         let sub_entry = self.expr(sub, state)?;
@@ -268,9 +283,11 @@ impl Nfa {
         target: NfaStateIndex,
     ) -> Result<NfaStateIndex, NfaConstructionError>
         requires { LeavesStates self.old }
-        ensures extended { IfOk result (Extends (made.copies (made.fragment_of sub.now) count) target self.old self.new) }
+        ensures extended { IfOk result
+            (Extends (made.copies (made.fragment_of sub.now) count) target self.old self.new) }
         ensures compilable { OnOk result ((count ≡ 0) ⊎ IsCompilable sub.now) }
-        ensures err { IfErr result (λ e. e ≢ NfaConstructionError.OutOfMemory → (0 < count) × (fault sub.now ≡ Some e)) }
+        ensures err { IfErr result (λ e. e ≢ NfaConstructionError.OutOfMemory → (0 < count)
+            × (fault sub.now ≡ Some e)) }
     {
         let mut entry = target;
         for _ in 0..count {
@@ -288,9 +305,12 @@ impl Nfa {
         target: NfaStateIndex,
     ) -> Result<NfaStateIndex, NfaConstructionError>
         requires { LeavesStates self.old }
-        ensures extended { IfOk result (Extends (made.optional_copies (made.fragment_of sub.now) count) target self.old self.new) }
+        ensures extended { IfOk result
+            (Extends
+            (made.optional_copies (made.fragment_of sub.now) count) target self.old self.new) }
         ensures compilable { OnOk result ((count ≡ 0) ⊎ IsCompilable sub.now) }
-        ensures err { IfErr result (λ e. e ≢ NfaConstructionError.OutOfMemory → (0 < count) × (fault sub.now ≡ Some e)) }
+        ensures err { IfErr result (λ e. e ≢ NfaConstructionError.OutOfMemory → (0 < count)
+            × (fault sub.now ≡ Some e)) }
     {
         let mut entry = target;
         for _ in 0..count {
@@ -311,9 +331,11 @@ impl Nfa {
         target: NfaStateIndex,
     ) -> Result<NfaStateIndex, NfaConstructionError>
         requires { LeavesStates self.old }
-        ensures extended { IfOk result (Extends (made.optional_expr (made.fragment_of sub.now)) target self.old self.new) }
+        ensures extended { IfOk result
+            (Extends (made.optional_expr (made.fragment_of sub.now)) target self.old self.new) }
         ensures compilable { OnOk result (IsCompilable sub.now) }
-        ensures err { IfErr result (λ e. e ≢ NfaConstructionError.OutOfMemory → fault sub.now ≡ Some e) }
+        ensures err { IfErr result (λ e. e ≢ NfaConstructionError.OutOfMemory
+            → fault sub.now ≡ Some e) }
     {
         let sub_entry = self.expr(sub, target)?;
         let state = self.new_state(StateKind::Neither)?;
@@ -331,10 +353,12 @@ impl Nfa {
         target: NfaStateIndex,
     ) -> Result<NfaStateIndex, NfaConstructionError>
         requires { LeavesStates self.old }
-        ensures extended { IfOk result (Extends (made.concat_expr (trees subs.now)) target self.old self.new) }
+        ensures extended { IfOk result
+            (Extends (made.concat_expr (trees subs.now)) target self.old self.new) }
         ensures no_fault { OnOk result (last_fault (trees subs.now) ≡ None) }
         ensures valid { OnOk result (AreValid (trees subs.now)) }
-        ensures err { IfErr result (λ e. e ≢ NfaConstructionError.OutOfMemory → last_fault (trees subs.now) ≡ Some e) }
+        ensures err { IfErr result (λ e. e ≢ NfaConstructionError.OutOfMemory
+            → last_fault (trees subs.now) ≡ Some e) }
     {
         let mut entry = target;
         for part in subs.iter().rev() {
@@ -355,10 +379,13 @@ impl Nfa {
         target: NfaStateIndex,
     ) -> Result<NfaStateIndex, NfaConstructionError>
         requires { LeavesStates self.old }
-        ensures extended { IfOk result (Extends (made.alternation_expr (made.branches (trees subs.now))) target self.old self.new) }
+        ensures extended { IfOk result
+            (Extends
+            (made.alternation_expr (made.branches (trees subs.now))) target self.old self.new) }
         ensures no_fault { OnOk result (first_fault (trees subs.now) ≡ None) }
         ensures valid { OnOk result (AreValid (trees subs.now)) }
-        ensures err { IfErr result (λ e. e ≢ NfaConstructionError.OutOfMemory → first_fault (trees subs.now) ≡ Some e) }
+        ensures err { IfErr result (λ e. e ≢ NfaConstructionError.OutOfMemory
+            → first_fault (trees subs.now) ≡ Some e) }
     {
         let state = self.new_state(StateKind::Neither)?;
         let mut entries = Vec::new(*self.states.allocator());

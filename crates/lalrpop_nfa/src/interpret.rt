@@ -72,7 +72,8 @@ struct StateSet {
 
 impl StateSet {
     fn empty(alloc: Global, len: usize) -> Result<StateSet, AllocError>
-        ensures { IfOk result (λ l. IsStateSet l.states.items l.marks.items × (l.states.items ≡ []) × (length l.marks.items ≡ len)) }
+        ensures { IfOk result (λ l. IsStateSet l.states.items l.marks.items × (l.states.items ≡ [])
+            × (length l.marks.items ≡ len)) }
     {
         Ok(StateSet {
             states: Vec::new(alloc),
@@ -82,8 +83,10 @@ impl StateSet {
 
     // The states that the empty word leads to.
     fn start(alloc: Global, nfa: &Nfa, steps: &mut Steps) -> Result<StateSet, AllocError>
-        ensures state_set { IfOk result (λ l. IsStateSet l.states.items l.marks.items × (length l.marks.items ≡ length nfa.now.kinds)) }
-        ensures states { IfOk result (λ l. IsClosure nfa.now.edges (length nfa.now.kinds) (start_state ∷ []) l.states.items) }
+        ensures state_set { IfOk result (λ l. IsStateSet l.states.items l.marks.items
+            × (length l.marks.items ≡ length nfa.now.kinds)) }
+        ensures states { IfOk result (λ l.
+            IsClosure nfa.now.edges (length nfa.now.kinds) (start_state ∷ []) l.states.items) }
         ensures cost { steps.new ≤ steps.old + length nfa.now.kinds }
         ensures rises { steps.old ≤ steps.new }
     {
@@ -116,7 +119,9 @@ impl StateSet {
         requires size { length self.old.marks.items ≡ length nfa.now.kinds }
         ensures state_set { OnOk result (IsStateSet self.new.states.items self.new.marks.items) }
         ensures size { length self.new.marks.items ≡ length nfa.now.kinds }
-        ensures states { OnOk result (IsMove nfa.now.edges (length nfa.now.kinds) value before.now.states.items self.new.states.items) }
+        ensures states { OnOk result
+            (IsMove nfa.now.edges
+            (length nfa.now.kinds) value before.now.states.items self.new.states.items) }
         ensures cost { steps.new ≤ steps.old + length nfa.now.kinds }
         ensures rises { steps.old ≤ steps.new }
     {
@@ -132,7 +137,8 @@ impl StateSet {
     fn accepts(&self, nfa: &Nfa) -> bool
         requires state_set { IsStateSet self.now.states.items self.now.marks.items }
         requires size { length self.now.marks.items ≡ length nfa.now.kinds }
-        ensures { IsTrue result ↔ ((q : ℕ) × (Contains self.now.states.items q × (slice_get nfa.now.kinds q ≡ Some Accept))) }
+        ensures { IsTrue result ↔ ((q : ℕ)
+            × (Contains self.now.states.items q × (slice_get nfa.now.kinds q ≡ Some Accept))) }
     {
         for state in &self.states {
             if nfa.is_accepting_state(*state) {
@@ -146,7 +152,8 @@ impl StateSet {
     fn rejects(&self, nfa: &Nfa) -> bool
         requires state_set { IsStateSet self.now.states.items self.now.marks.items }
         requires size { length self.now.marks.items ≡ length nfa.now.kinds }
-        ensures { IsTrue result ↔ ((q : ℕ) → Contains self.now.states.items q → slice_get nfa.now.kinds q ≡ Some Reject) }
+        ensures { IsTrue result ↔ ((q : ℕ) → Contains self.now.states.items q
+            → slice_get nfa.now.kinds q ≡ Some Reject) }
     {
         for state in &self.states {
             if !nfa.is_rejecting_state(*state) {
@@ -161,8 +168,11 @@ impl StateSet {
         requires { IsStateSet self.old.states.items self.old.marks.items }
         ensures state_set { OnOk result (IsStateSet self.new.states.items self.new.marks.items) }
         ensures size { length self.new.marks.items ≡ length self.old.marks.items }
-        ensures states { OnOk result (IsGrown (length self.old.marks.items) self.old.states.items self.new.states.items (λ q. q ≡ state)) }
-        ensures counted { OnOk result (steps.new + length self.old.states.items ≡ steps.old + length self.new.states.items) }
+        ensures states { OnOk result
+            (IsGrown (length self.old.marks.items) self.old.states.items self.new.states.items (λ q.
+            q ≡ state)) }
+        ensures counted { OnOk result (steps.new + length self.old.states.items
+            ≡ steps.old + length self.new.states.items) }
         ensures cost { steps.new + length self.old.states.items ≤ steps.old + length self.old.marks.items }
         ensures rises { steps.old ≤ steps.new }
     {
@@ -185,8 +195,11 @@ impl StateSet {
         requires is_state { from < length nfa.now.kinds }
         ensures state_set { OnOk result (IsStateSet self.new.states.items self.new.marks.items) }
         ensures size { length self.new.marks.items ≡ length self.old.marks.items }
-        ensures states { OnOk result (IsGrown (length self.old.marks.items) self.old.states.items self.new.states.items (IsEpsilonEdge nfa.now.edges from)) }
-        ensures counted { OnOk result (steps.new + length self.old.states.items ≡ steps.old + length self.new.states.items) }
+        ensures states { OnOk result
+            (IsGrown (length self.old.marks.items) self.old.states.items self.new.states.items
+            (IsEpsilonEdge nfa.now.edges from)) }
+        ensures counted { OnOk result (steps.new + length self.old.states.items
+            ≡ steps.old + length self.new.states.items) }
         ensures cost { steps.new + length self.old.states.items ≤ steps.old + length self.old.marks.items }
         ensures rises { steps.old ≤ steps.new }
     {
@@ -208,8 +221,11 @@ impl StateSet {
         requires is_state { from < length nfa.now.kinds }
         ensures state_set { OnOk result (IsStateSet self.new.states.items self.new.marks.items) }
         ensures size { length self.new.marks.items ≡ length self.old.marks.items }
-        ensures states { OnOk result (IsGrown (length self.old.marks.items) self.old.states.items self.new.states.items (Reads nfa.now.edges from value)) }
-        ensures counted { OnOk result (steps.new + length self.old.states.items ≡ steps.old + length self.new.states.items) }
+        ensures states { OnOk result
+            (IsGrown (length self.old.marks.items) self.old.states.items self.new.states.items
+            (Reads nfa.now.edges from value)) }
+        ensures counted { OnOk result (steps.new + length self.old.states.items
+            ≡ steps.old + length self.new.states.items) }
         ensures cost { steps.new + length self.old.states.items ≤ steps.old + length self.old.marks.items }
         ensures rises { steps.old ≤ steps.new }
     {
@@ -236,7 +252,9 @@ impl StateSet {
         requires size { length self.old.marks.items ≡ length nfa.now.kinds }
         ensures state_set { OnOk result (IsStateSet self.new.states.items self.new.marks.items) }
         ensures size { length self.new.marks.items ≡ length self.old.marks.items }
-        ensures states { OnOk result (IsClosure nfa.now.edges (length nfa.now.kinds) self.old.states.items self.new.states.items) }
+        ensures states { OnOk result
+            (IsClosure nfa.now.edges
+            (length nfa.now.kinds) self.old.states.items self.new.states.items) }
         ensures cost { steps.new + length self.old.states.items ≤ steps.old + length self.old.marks.items }
         ensures rises { steps.old ≤ steps.new }
     {

@@ -80,7 +80,10 @@ impl Nfa {
     ) -> Result<(), AllocError>
         requires is_state { from < length self.old.kinds }
         requires together { IsOpen from (L.list self.old.edges) }
-        ensures pushed { OnOk result (self.new ≡ with_edges self.old (L.with_list self.old.edges (L.list self.old.edges ++ record { from = from; label = label; to = to } ∷ []))) }
+        ensures pushed { OnOk result (self.new
+            ≡ with_edges self.old
+            (L.with_list self.old.edges
+            (L.list self.old.edges ++ record { from = from; label = label; to = to } ∷ []))) }
         ensures refused { OnErr result (self.new ≡ self.old) }
     {
         let list = L::vec_mut(&mut self.edges);

@@ -38,7 +38,8 @@ pub(crate) enum BracketOperator {
 /// Reads a bracket with its `[` and its `]`, where so many levels are left.
 #[cycle(bracket)]
 pub(crate) fn parse_bracket(cursor: &mut Cursor, room: u32) -> Result<BracketSet, RegexError>
-    ensures value { Finds (λ b x. HasRuns b.class x.set × (b.depth ≡ x.depth) × (text cursor.new ≡ x.rest)) result (bracket cursor.old.flags room (text cursor.old)) }
+    ensures value { Finds (λ b x. HasRuns b.class x.set × (b.depth ≡ x.depth)
+        × (text cursor.new ≡ x.rest)) result (bracket cursor.old.flags room (text cursor.old)) }
     ensures flags { cursor.new.flags ≡ cursor.old.flags }
     ensures moves { OnOk result (unread cursor.new < unread cursor.old) }
     ensures deep { IfOk result (λ b. b.depth ≤ room) }
@@ -54,7 +55,10 @@ pub(crate) fn parse_bracket(cursor: &mut Cursor, room: u32) -> Result<BracketSet
 #[tactic(auto, unfolding(lalrpop_grammar::specs::Internal::Reading::bracket_with))]
 fn parse_enclosed(cursor: &mut Cursor, room: u32) -> Result<BracketSet, RegexError>
     requires { room < 2 ^ 32 - 1 }
-    ensures value { Finds (λ b x. HasRuns b.class x.set × (b.depth ≡ x.depth) × (text cursor.new ≡ x.rest)) result (bracket_with cursor.old.flags (bracket cursor.old.flags room) (text cursor.old)) }
+    ensures value { Finds (λ b x. HasRuns b.class x.set × (b.depth ≡ x.depth)
+        × (text cursor.new
+        ≡ x.rest)) result
+        (bracket_with cursor.old.flags (bracket cursor.old.flags room) (text cursor.old)) }
     ensures flags { cursor.new.flags ≡ cursor.old.flags }
     ensures moves { OnOk result (unread cursor.new < unread cursor.old) }
     ensures deep { IfOk result (λ b. b.depth ≤ room + 1) }
@@ -93,7 +97,10 @@ fn complemented(alloc: Global, class: &ClassUnicode) -> Result<ClassUnicode, All
 #[cycle(bracket)]
 #[tactic(auto, unfolding(lalrpop_grammar::specs::Internal::Reading::operands))]
 fn parse_operands(cursor: &mut Cursor, room: u32, opened: usize) -> Result<BracketSet, RegexError>
-    ensures value { Finds (λ b x. HasRuns b.class x.set × (b.depth ≡ x.depth) × (text cursor.new ≡ x.rest)) result (operands cursor.old.flags (bracket cursor.old.flags room) (text cursor.old)) }
+    ensures value { Finds (λ b x. HasRuns b.class x.set × (b.depth ≡ x.depth)
+        × (text cursor.new
+        ≡ x.rest)) result
+        (operands cursor.old.flags (bracket cursor.old.flags room) (text cursor.old)) }
     ensures flags { cursor.new.flags ≡ cursor.old.flags }
     ensures moves { OnOk result (unread cursor.new ≤ unread cursor.old) }
     ensures deep { IfOk result (λ b. b.depth ≤ room) }
@@ -113,7 +120,12 @@ fn parse_operations(
     left: BracketSet,
 ) -> Result<BracketSet, RegexError>
     requires { left.depth ≤ room }
-    ensures value { (s : Set) → HasRuns left.class s → Finds (λ b x. HasRuns b.class x.set × (b.depth ≡ x.depth) × (text cursor.new ≡ x.rest)) result (all_operations cursor.old.flags (bracket cursor.old.flags room) (record { set = s; depth = left.depth; rest = text cursor.old })) }
+    ensures value { (s : Set) → HasRuns left.class s
+        → Finds (λ b x. HasRuns b.class x.set × (b.depth ≡ x.depth)
+        × (text cursor.new
+        ≡ x.rest)) result
+        (all_operations cursor.old.flags (bracket cursor.old.flags room)
+        (record { set = s; depth = left.depth; rest = text cursor.old })) }
     ensures flags { cursor.new.flags ≡ cursor.old.flags }
     ensures moves { OnOk result (unread cursor.new ≤ unread cursor.old) }
     ensures deep { IfOk result (λ b. b.depth ≤ room) }
@@ -142,7 +154,8 @@ fn applied(
     left: &ClassUnicode,
     right: &ClassUnicode,
 ) -> Result<ClassUnicode, AllocError>
-    ensures { IfOk result (λ r. (s t : Set) → HasRuns left.now s → HasRuns right.now t → HasRuns r (apply (operator_view operator) s t)) }
+    ensures { IfOk result (λ r. (s t : Set) → HasRuns left.now s → HasRuns right.now t
+        → HasRuns r (apply (operator_view operator) s t)) }
 {
     match operator {
         BracketOperator::Intersection => left.intersection(alloc, right),
@@ -205,7 +218,16 @@ fn parse_operand(
     opened: usize,
     lead: Option<char>,
 ) -> Result<BracketSet, RegexError>
-    ensures value { Finds (λ b x. HasRuns b.class (union_all x.sets) × (b.depth ≡ x.depth) × (text cursor.new ≡ x.rest)) result (whole_operand cursor.old.flags (bracket cursor.old.flags room) (record { sets = leaves cursor.old.flags (option_to_list lead); depth = 0; rest = text cursor.old })) }
+    ensures value { Finds (λ b x. HasRuns b.class (union_all x.sets) × (b.depth ≡ x.depth)
+        × (text cursor.new
+        ≡ x.rest)) result
+        (whole_operand cursor.old.flags (bracket cursor.old.flags room)
+        (record {
+          sets = leaves cursor.old.flags
+              (option_to_list lead);
+          depth = 0;
+          rest = text cursor.old;
+        })) }
     ensures flags { cursor.new.flags ≡ cursor.old.flags }
     ensures moves { OnOk result (unread cursor.new ≤ unread cursor.old) }
     ensures deep { IfOk result (λ b. b.depth ≤ room) }
@@ -229,7 +251,8 @@ fn lead_ranges(
     flags: Flags,
     lead: Option<char>,
 ) -> Result<Vec<ClassUnicodeRange>, AllocError>
-    ensures { IfOk result (λ ranges. HasMembers ranges.items (union_all (leaves flags (option_to_list lead)))) }
+    ensures { IfOk result (λ ranges.
+        HasMembers ranges.items (union_all (leaves flags (option_to_list lead)))) }
 {
     let mut ranges = Vec::new(alloc);
     if let Some(c) = lead {
@@ -256,7 +279,11 @@ fn parse_item(
     room: u32,
     ranges: &mut Vec<ClassUnicodeRange>,
 ) -> Result<u32, RegexError>
-    ensures value { Finds (λ depth x. Gains ranges.old.items ranges.new.items x.set × (depth ≡ x.depth) × (text cursor.new ≡ x.rest)) result (item cursor.old.flags (bracket cursor.old.flags room) (text cursor.old)) }
+    ensures value { Finds (λ depth x. Gains ranges.old.items ranges.new.items x.set
+        × (depth ≡ x.depth)
+        × (text cursor.new
+        ≡ x.rest)) result
+        (item cursor.old.flags (bracket cursor.old.flags room) (text cursor.old)) }
     ensures flags { cursor.new.flags ≡ cursor.old.flags }
     ensures moves { OnOk result (unread cursor.new < unread cursor.old) }
     ensures deep { IfOk result (λ depth. depth ≤ room) }
@@ -284,8 +311,10 @@ struct PosixClass {
 /// Reads the POSIX class that begins with the next character, where there is one.
 #[tactic(auto, unfolding(lalrpop_grammar::specs::Internal::Reading::posix))]
 fn parse_posix(cursor: &mut Cursor) -> Result<Option<PosixClass>, AllocError>
-    ensures value { IfOk result (λ found. MatchOption found ((posix (text cursor.old) ≡ None) × (text cursor.new ≡ text cursor.old))
-        (λ p. (s : Set) × (posix (text cursor.old) ≡ Some (s, p.negated, text cursor.new)) × HasRuns p.class s × (unread cursor.new < unread cursor.old))) }
+    ensures value { IfOk result (λ found.
+        MatchOption found ((posix (text cursor.old) ≡ None) × (text cursor.new ≡ text cursor.old))
+        (λ p. (s : Set) × (posix (text cursor.old) ≡ Some (s, p.negated, text cursor.new))
+        × HasRuns p.class s × (unread cursor.new < unread cursor.old))) }
     ensures flags { cursor.new.flags ≡ cursor.old.flags }
 {
     if cursor.begins(&['[', ':', '^']) {
@@ -304,8 +333,12 @@ fn parse_posix_name(
     negated: bool,
 ) -> Result<Option<PosixClass>, AllocError>
     requires { front ≤ unread cursor.old }
-    ensures value { IfOk result (λ found. MatchOption found ((posix_named negated (drop front (text cursor.old)) ≡ None) × (text cursor.new ≡ text cursor.old))
-        (λ p. (s : Set) × (posix_named negated (drop front (text cursor.old)) ≡ Some (s, p.negated, text cursor.new)) × HasRuns p.class s × (unread cursor.new < unread cursor.old))) }
+    ensures value { IfOk result (λ found.
+        MatchOption found ((posix_named negated (drop front (text cursor.old)) ≡ None)
+        × (text cursor.new ≡ text cursor.old))
+        (λ p. (s : Set) × (posix_named negated (drop front (text cursor.old))
+        ≡ Some (s, p.negated, text cursor.new)) × HasRuns p.class s
+        × (unread cursor.new < unread cursor.old))) }
     ensures flags { cursor.new.flags ≡ cursor.old.flags }
 {
     let rest = cursor.rest();
@@ -322,7 +355,8 @@ fn parse_posix_name(
 /// How long the name at the front of the text is, where a `:]` follows it.
 fn name_len(text: &[char]) -> Option<usize>
     ensures value { MatchOption result (IsFalse (begins ":]" (span is_ascii_lowercase text.now).1))
-        (λ n. IsTrue (begins ":]" (span is_ascii_lowercase text.now).1) × (n ≡ length (span is_ascii_lowercase text.now).0)) }
+        (λ n. IsTrue (begins ":]" (span is_ascii_lowercase text.now).1)
+        × (n ≡ length (span is_ascii_lowercase text.now).0)) }
     ensures within { IfSome result (λ n. n + 2 ≤ length text.now) }
 {
     let len = letters_len(text);
@@ -343,7 +377,8 @@ fn parse_simple_item(
     cursor: &mut Cursor,
     ranges: &mut Vec<ClassUnicodeRange>,
 ) -> Result<(), RegexError>
-    ensures value { Finds (λ _ x. Gains ranges.old.items ranges.new.items x.set × (x.depth ≡ 0) × (text cursor.new ≡ x.rest)) result (simple_item cursor.old.flags (text cursor.old)) }
+    ensures value { Finds (λ _ x. Gains ranges.old.items ranges.new.items x.set × (x.depth ≡ 0)
+        × (text cursor.new ≡ x.rest)) result (simple_item cursor.old.flags (text cursor.old)) }
     ensures flags { cursor.new.flags ≡ cursor.old.flags }
     ensures moves { OnOk result (unread cursor.new < unread cursor.old) }
 {
@@ -366,7 +401,8 @@ struct Primary {
 /// Reads an escape, or a character that stands for itself.
 #[tactic(auto, unfolding(lalrpop_grammar::specs::Internal::Reading::primary))]
 fn parse_primary(cursor: &mut Cursor) -> Result<Primary, RegexError>
-    ensures value { Finds (λ p x. StandsForEscaped p.part x.0 × (text cursor.new ≡ x.1)) result (primary (text cursor.old)) }
+    ensures value { Finds (λ p x. StandsForEscaped p.part x.0
+        × (text cursor.new ≡ x.1)) result (primary (text cursor.old)) }
     ensures flags { cursor.new.flags ≡ cursor.old.flags }
     ensures moves { OnOk result (unread cursor.new < unread cursor.old) }
 {
@@ -401,7 +437,8 @@ fn push_primary(
     flags: Flags,
     primary: Primary,
 ) -> Result<(), RegexError>
-    ensures { (e : Escaped) → StandsForEscaped primary.part e → Finds (λ _ s. Gains ranges.old.items ranges.new.items s) result (stands flags e) }
+    ensures { (e : Escaped) → StandsForEscaped primary.part e
+        → Finds (λ _ s. Gains ranges.old.items ranges.new.items s) result (stands flags e) }
 {
     let Primary { part, position } = primary;
     match part {
@@ -421,7 +458,9 @@ fn push_range(
     start: Primary,
     end: Primary,
 ) -> Result<(), RegexError>
-    ensures { (e h : Escaped) → StandsForEscaped start.part e → StandsForEscaped end.part h → Finds (λ _ s. Gains ranges.old.items ranges.new.items (leaf flags s)) result (range_of e h) }
+    ensures { (e h : Escaped) → StandsForEscaped start.part e → StandsForEscaped end.part h
+        → Finds (λ _ s.
+        Gains ranges.old.items ranges.new.items (leaf flags s)) result (range_of e h) }
 {
     let EscapedPart::Character(low) = start.part else {
         return Err(error_at(start.position, SyntaxKind::ClassRangeLiteral));
@@ -443,7 +482,8 @@ fn push_set(
     class: ClassUnicode,
     negated: bool,
 ) -> Result<(), AllocError>
-    ensures { OnOk result ((s : Set) → HasRuns class s → Gains ranges.old.items ranges.new.items (leaf_or_complement flags s negated)) }
+    ensures { OnOk result ((s : Set) → HasRuns class s
+        → Gains ranges.old.items ranges.new.items (leaf_or_complement flags s negated)) }
 {
     let leaf = leaf_of_set(*ranges.allocator(), flags, class, negated)?;
     push_class(ranges, &leaf)
@@ -480,7 +520,8 @@ fn push_leaf(
 
 /// Adds a set.
 fn push_class(ranges: &mut Vec<ClassUnicodeRange>, class: &ClassUnicode) -> Result<(), AllocError>
-    ensures { OnOk result ((s : Set) → HasRuns class.now s → Gains ranges.old.items ranges.new.items s) }
+    ensures { OnOk result ((s : Set) → HasRuns class.now s
+        → Gains ranges.old.items ranges.new.items s) }
 {
     ranges.extend_from_slice(class.ranges())
 }

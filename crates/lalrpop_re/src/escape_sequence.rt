@@ -56,7 +56,8 @@ struct Argument<'a> {
 
 /// Reads an escape behind its backslash.
 pub(crate) fn parse_escape(cursor: &mut Cursor) -> Result<EscapedPart, RegexError>
-    ensures value { Finds (λ e x. StandsForEscaped e x.0 × (text cursor.new ≡ x.1)) result (escape (text cursor.old)) }
+    ensures value { Finds (λ e x. StandsForEscaped e x.0
+        × (text cursor.new ≡ x.1)) result (escape (text cursor.old)) }
     ensures flags { cursor.new.flags ≡ cursor.old.flags }
     ensures moves { OnOk result (unread cursor.new < unread cursor.old) }
 {
@@ -72,7 +73,8 @@ pub(crate) fn parse_escape(cursor: &mut Cursor) -> Result<EscapedPart, RegexErro
 #[tactic(auto, unfolding(lalrpop_grammar::specs::Internal::Reading::signed))]
 fn parse_signed(cursor: &mut Cursor, sign: EscapeSign) -> Result<EscapedPart, RegexError>
     requires { HasDigits sign }
-    ensures value { Finds (λ e x. StandsForEscaped e x.0 × (text cursor.new ≡ x.1)) result (signed (sign_view sign) (text cursor.old)) }
+    ensures value { Finds (λ e x. StandsForEscaped e x.0
+        × (text cursor.new ≡ x.1)) result (signed (sign_view sign) (text cursor.old)) }
     ensures flags { cursor.new.flags ≡ cursor.old.flags }
     ensures moves { OnOk result (unread cursor.new ≤ unread cursor.old) }
 {
@@ -152,7 +154,8 @@ fn perl_class(alloc: Global, class: PerlClass) -> Result<ClassUnicode, AllocErro
 #[tactic(auto, unfolding(lalrpop_grammar::specs::Internal::Reading::signed))]
 fn parse_code(cursor: &mut Cursor, count: usize) -> Result<char, RegexError>
     requires { 0 < count }
-    ensures value { Gives (λ c. (character c, text cursor.new)) result (signed (code count) (text cursor.old)) }
+    ensures value { Gives (λ c.
+        (character c, text cursor.new)) result (signed (code count) (text cursor.old)) }
     ensures flags { cursor.new.flags ≡ cursor.old.flags }
     ensures moves { OnOk result (unread cursor.new ≤ unread cursor.old) }
 {
@@ -180,7 +183,8 @@ fn argument_kind(cursor: &Cursor, kind: SyntaxKind) -> SyntaxKind {
 #[tactic(auto, unfolding(lalrpop_grammar::specs::Internal::Reading::digits_of))]
 fn digits_at(text: &[char], count: usize) -> Option<Argument<'_>>
     requires { 0 < count }
-    ensures value { MatchOption result (digits_of count text.now ≡ None) (λ d. digits_of count text.now ≡ Some (d.inner.now, drop d.width text.now)) }
+    ensures value { MatchOption result (digits_of count text.now ≡ None) (λ d.
+        digits_of count text.now ≡ Some (d.inner.now, drop d.width text.now)) }
     ensures within { IfSome result (λ d. d.width ≤ length text.now) }
 {
     if !text.starts_with(&['{']) {
@@ -212,7 +216,8 @@ fn character_of(digits: &[char]) -> Option<char>
 /// Reads the name of a set: a single character, or any number in braces.
 #[tactic(auto, unfolding(lalrpop_grammar::specs::Internal::Reading::signed, lalrpop_grammar::specs::Internal::Reading::set_named))]
 fn parse_property(cursor: &mut Cursor, negated: bool) -> Result<EscapedPart, RegexError>
-    ensures value { Finds (λ e x. StandsForEscaped e x.0 × (text cursor.new ≡ x.1)) result (signed (property negated) (text cursor.old)) }
+    ensures value { Finds (λ e x. StandsForEscaped e x.0
+        × (text cursor.new ≡ x.1)) result (signed (property negated) (text cursor.old)) }
     ensures flags { cursor.new.flags ≡ cursor.old.flags }
     ensures moves { OnOk result (unread cursor.new ≤ unread cursor.old) }
 {
@@ -233,7 +238,8 @@ fn parse_property(cursor: &mut Cursor, negated: bool) -> Result<EscapedPart, Reg
 /// The name of a set at the front of the text.
 #[tactic(auto, unfolding(lalrpop_grammar::specs::Internal::Reading::name_of))]
 fn name_at(text: &[char]) -> Option<Argument<'_>>
-    ensures value { MatchOption result (name_of text.now ≡ None) (λ n. name_of text.now ≡ Some (n.inner.now, drop n.width text.now)) }
+    ensures value { MatchOption result (name_of text.now ≡ None) (λ n.
+        name_of text.now ≡ Some (n.inner.now, drop n.width text.now)) }
     ensures within { IfSome result (λ n. n.width ≤ length text.now) }
 {
     if !text.starts_with(&['{']) {
@@ -278,7 +284,8 @@ fn parse_edge(cursor: &mut Cursor) -> Look
 
 #[tactic(auto, unfolding(lalrpop_grammar::specs::Internal::Reading::signed))]
 fn edge_at(cursor: &Cursor) -> (Look, usize)
-    ensures value { signed edge (text cursor.now) ≡ Some (assertion result.0, drop result.1 (text cursor.now)) }
+    ensures value { signed edge (text cursor.now)
+        ≡ Some (assertion result.0, drop result.1 (text cursor.now)) }
     ensures within { result.1 ≤ unread cursor.now }
 {
     if cursor.begins(&['{', 's', 't', 'a', 'r', 't', '}']) {

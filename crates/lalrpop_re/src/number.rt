@@ -9,7 +9,9 @@ ghost use Rattle.std.specs.Str.Parse.{digits_value};
 pub(crate) fn number_of(digits: &[char], radix: u32) -> Option<u32>
     requires low { 2 ≤ radix }
     requires high { radix ≤ 36 }
-    ensures { result ≡ (if list_all (λ c. is_digit c radix) digits.now && nat_lt (digits_value radix digits.now) (2 ^ 32) then Some (digits_value radix digits.now) else None) }
+    ensures { result ≡ (if list_all (λ c.
+        is_digit c radix) digits.now && nat_lt (digits_value radix digits.now) (2 ^ 32) then Some
+        (digits_value radix digits.now) else None) }
 {
     let mut number = 0u32;
     for digit in digits {

@@ -35,7 +35,8 @@ pub(crate) enum GroupOpening {
 /// Reads what stands behind a `(`, up to the expression of the group, or to the end of the directive.
 #[tactic(auto, unfolding(lalrpop_grammar::specs::Internal::Reading::opened, lalrpop_grammar::specs::Internal::Reading::opening))]
 pub(crate) fn parse_opening(cursor: &mut Cursor) -> Result<GroupOpening, RegexError>
-    ensures value { Gives (λ o. (opened_view o, text cursor.new)) result (opened cursor.old.flags (text cursor.old)) }
+    ensures value { Gives (λ o.
+        (opened_view o, text cursor.new)) result (opened cursor.old.flags (text cursor.old)) }
     ensures flags { cursor.new.flags ≡ cursor.old.flags }
     ensures moves { OnOk result (unread cursor.new ≤ unread cursor.old) }
 {
@@ -64,7 +65,8 @@ pub(crate) fn parse_opening(cursor: &mut Cursor) -> Result<GroupOpening, RegexEr
 
 /// The text up to the first of these marks, and what stands there. It is all of the text where there is none.
 fn split_before<'a>(text: &'a [char], marks: &[char]) -> (&'a [char], &'a [char])
-    ensures { (result.0.now, result.1.now) ≡ span (λ c. not (list_any (λ d. d == c) marks.now)) text.now }
+    ensures { (result.0.now, result.1.now)
+        ≡ span (λ c. not (list_any (λ d. d == c) marks.now)) text.now }
 {
     let length = text
         .iter()
@@ -80,7 +82,10 @@ fn parse_name(
     open: usize,
     kind: SyntaxKind,
 ) -> Result<GroupOpening, RegexError>
-    ensures value { (t : Text) → Gives (λ o. (opened_view o, text cursor.new)) result (opened_of cursor.old.flags (name_at (text cursor.old)) t) }
+    ensures value { (t : Text)
+        → Gives (λ o.
+        (opened_view o, text cursor.new)) result
+        (opened_of cursor.old.flags (name_at (text cursor.old)) t) }
     ensures flags { cursor.new.flags ≡ cursor.old.flags }
     ensures moves { OnOk result (unread cursor.new ≤ unread cursor.old) }
 {
@@ -128,7 +133,10 @@ fn continues_name(c: char) -> bool
 /// Reads the flags of a group with the `:` behind them, or those of a directive with its `)`.
 #[tactic(auto, unfolding(lalrpop_grammar::specs::Internal::Reading::letters_at))]
 fn parse_letters(cursor: &mut Cursor, open: usize) -> Result<GroupOpening, RegexError>
-    ensures value { (t : Text) → Gives (λ o. (opened_view o, text cursor.new)) result (opened_of cursor.old.flags (letters_at (text cursor.old)) t) }
+    ensures value { (t : Text)
+        → Gives (λ o.
+        (opened_view o, text cursor.new)) result
+        (opened_of cursor.old.flags (letters_at (text cursor.old)) t) }
     ensures flags { cursor.new.flags ≡ cursor.old.flags }
     ensures moves { OnOk result (unread cursor.new ≤ unread cursor.old) }
 {

@@ -38,7 +38,9 @@ pub(crate) fn is_at_operator(cursor: &Cursor) -> bool
 /// Reads an operator with the `?` that belongs to it.
 #[tactic(auto, unfolding(lalrpop_grammar::specs::Internal::Reading::operator))]
 pub(crate) fn parse_operator(cursor: &mut Cursor) -> Result<RepetitionOperator, RegexError>
-    ensures value { Gives (λ o. (o.min, o.max, o.greedy, text cursor.new)) result (operator cursor.old.flags (text cursor.old)) }
+    ensures value { Gives (λ o.
+        (o.min, o.max, o.greedy, text cursor.new)) result
+        (operator cursor.old.flags (text cursor.old)) }
     ensures ordered { IfOk result (λ o. AreOrdered o.min o.max) }
     ensures flags { cursor.new.flags ≡ cursor.old.flags }
     ensures moves { OnOk result (unread cursor.new < unread cursor.old) }
@@ -134,7 +136,8 @@ fn parse_count(cursor: &mut Cursor) -> Result<u32, RegexError>
 /// The number that one or more decimal digits write, where it fits.
 fn decimal_of(digits: &[char]) -> Option<u32>
     requires { list_all is_ascii_digit digits.now ≡ true }
-    ensures { result ≡ (if nat_lt 0 (length digits.now) && nat_lt (decimal digits.now 0) (2 ^ 32) then Some (decimal digits.now 0) else None) }
+    ensures { result ≡ (if nat_lt 0 (length digits.now) && nat_lt (decimal digits.now 0)
+        (2 ^ 32) then Some (decimal digits.now 0) else None) }
 {
     if digits.is_empty() {
         return None;

@@ -52,7 +52,8 @@ impl Row {
     }
 
     fn push(&mut self, piece: Nested) -> Result<(), AllocError>
-        ensures trees { OnOk result (self.new.trees.items ≡ self.old.trees.items ++ piece.tree ∷ []) }
+        ensures trees { OnOk result (self.new.trees.items
+            ≡ self.old.trees.items ++ piece.tree ∷ []) }
         ensures depth { OnOk result (self.new.depth ≡ max self.old.depth piece.depth) }
     {
         let Nested { tree, depth } = piece;
@@ -114,7 +115,8 @@ fn parse_whole(alloc: Global, pattern: &str) -> Result<Hir, RegexError>
 #[cycle(parser)]
 #[tactic(auto, unfolding(lalrpop_grammar::specs::Internal::Reading::inside, lalrpop_grammar::specs::Internal::Reading::expression_with))]
 fn parse_expression(cursor: &mut Cursor, room: u32) -> Result<Nested, RegexError>
-    ensures value { Gives (λ p. whole p cursor.new) result (inside (suc room) cursor.old.flags (text cursor.old)) }
+    ensures value { Gives (λ p.
+        whole p cursor.new) result (inside (suc room) cursor.old.flags (text cursor.old)) }
     ensures moves { OnOk result (unread cursor.new ≤ unread cursor.old) }
     ensures deep { IfOk result (λ p. p.depth ≤ room) }
 {
@@ -126,7 +128,9 @@ fn parse_expression(cursor: &mut Cursor, room: u32) -> Result<Nested, RegexError
 /// Reads the branches up to the end of the group or of the pattern.
 #[cycle(parser)]
 fn parse_branches(cursor: &mut Cursor, room: u32) -> Result<Row, RegexError>
-    ensures value { Gives (λ r. line r cursor.new) result (all_branches room (inside room) (begin cursor.old.flags (text cursor.old))) }
+    ensures value { Gives (λ r.
+        line r cursor.new) result
+        (all_branches room (inside room) (begin cursor.old.flags (text cursor.old))) }
     ensures moves { OnOk result (unread cursor.new ≤ unread cursor.old) }
     ensures deep { IfOk result (λ r. r.depth ≤ room) }
 {
@@ -145,7 +149,9 @@ fn parse_branches(cursor: &mut Cursor, room: u32) -> Result<Row, RegexError>
 /// Reads the pieces and the directives of one branch.
 #[cycle(parser)]
 fn parse_row(cursor: &mut Cursor, room: u32) -> Result<Row, RegexError>
-    ensures value { Gives (λ r. line r cursor.new) result (whole_row room (inside room) (begin cursor.old.flags (text cursor.old))) }
+    ensures value { Gives (λ r.
+        line r cursor.new) result
+        (whole_row room (inside room) (begin cursor.old.flags (text cursor.old))) }
     ensures moves { OnOk result (unread cursor.new ≤ unread cursor.old) }
     ensures deep { IfOk result (λ r. r.depth ≤ room) }
 {
@@ -172,7 +178,8 @@ fn ends_branch(cursor: &Cursor) -> bool
 #[cycle(parser)]
 #[tactic(auto, unfolding(crate::specs::Internal::Parts::step))]
 fn parse_step(cursor: &mut Cursor, room: u32) -> Result<Option<Nested>, RegexError>
-    ensures value { Gives (λ p. step_of p cursor.new) result (step room (inside room) cursor.old.flags (text cursor.old)) }
+    ensures value { Gives (λ p.
+        step_of p cursor.new) result (step room (inside room) cursor.old.flags (text cursor.old)) }
     ensures moves { OnOk result (unread cursor.new < unread cursor.old) }
     ensures deep { IfOk result (λ p. IfSome p (λ n. n.depth ≤ room)) }
 {
@@ -190,7 +197,9 @@ fn parse_step(cursor: &mut Cursor, room: u32) -> Result<Option<Nested>, RegexErr
 #[tactic(auto, unfolding(crate::specs::Internal::Parts::group_or_directive, crate::specs::Internal::Parts::group_or_directive_of))]
 fn parse_parenthesis(cursor: &mut Cursor, room: u32) -> Result<Option<Nested>, RegexError>
     requires { IsTrue (begins "(" (text cursor.old)) }
-    ensures value { Gives (λ p. step_of p cursor.new) result (group_or_directive room (inside room) cursor.old.flags (drop 1 (text cursor.old))) }
+    ensures value { Gives (λ p.
+        step_of p cursor.new) result
+        (group_or_directive room (inside room) cursor.old.flags (drop 1 (text cursor.old))) }
     ensures moves { OnOk result (unread cursor.new < unread cursor.old) }
     ensures deep { IfOk result (λ p. IfSome p (λ n. n.depth ≤ room)) }
 {
@@ -223,7 +232,9 @@ fn parse_enclosed(
     flags: Flags,
     start: usize,
 ) -> Result<Nested, RegexError>
-    ensures value { Gives (λ p. part p (text cursor.new)) result (enclosed room (inside room) (λ e. e) flags (text cursor.old)) }
+    ensures value { Gives (λ p.
+        part p (text cursor.new)) result (enclosed room (inside room) (λ e.
+        e) flags (text cursor.old)) }
     ensures flags { OnOk result (cursor.new.flags ≡ cursor.old.flags) }
     ensures moves { OnOk result (unread cursor.new ≤ unread cursor.old) }
     ensures deep { IfOk result (λ p. p.depth ≤ room) }
@@ -247,7 +258,8 @@ fn parse_enclosed(
 
 /// The group as one that captures.
 fn captured(alloc: Global, name: Option<String>, group: Nested) -> Result<Nested, AllocError>
-    ensures { IfOk result (λ p. (p.tree ≡ capture (option_map string_bytes name) group.tree) × (p.depth ≡ group.depth)) }
+    ensures { IfOk result (λ p. (p.tree ≡ capture (option_map string_bytes name) group.tree)
+        × (p.depth ≡ group.depth)) }
 {
     let Nested { tree, depth } = group;
     let sub = Box::new(alloc, tree)?;
@@ -261,7 +273,9 @@ fn captured(alloc: Global, name: Option<String>, group: Nested) -> Result<Nested
 #[tactic(auto, unfolding(lalrpop_grammar::specs::Internal::Reading::piece))]
 fn parse_piece(cursor: &mut Cursor, room: u32) -> Result<Nested, RegexError>
     requires { begins "(" (text cursor.old) ≡ false }
-    ensures value { Gives (λ p. part p (text cursor.new)) result (piece room (inside room) cursor.old.flags (text cursor.old)) }
+    ensures value { Gives (λ p.
+        part p (text cursor.new)) result
+        (piece room (inside room) cursor.old.flags (text cursor.old)) }
     ensures flags { cursor.new.flags ≡ cursor.old.flags }
     ensures moves { OnOk result (unread cursor.new < unread cursor.old) }
     ensures deep { IfOk result (λ p. p.depth ≤ room) }
@@ -274,7 +288,9 @@ fn parse_piece(cursor: &mut Cursor, room: u32) -> Result<Nested, RegexError>
 #[tactic(auto, unfolding(lalrpop_grammar::specs::Internal::Reading::atom, crate::specs::Internal::Parts::escaped_part, crate::specs::Internal::Parts::bracket_part))]
 fn parse_atom(cursor: &mut Cursor, room: u32) -> Result<Nested, RegexError>
     requires { begins "(" (text cursor.old) ≡ false }
-    ensures value { Gives (λ p. part p (text cursor.new)) result (atom room (inside room) cursor.old.flags (text cursor.old)) }
+    ensures value { Gives (λ p.
+        part p (text cursor.new)) result
+        (atom room (inside room) cursor.old.flags (text cursor.old)) }
     ensures flags { cursor.new.flags ≡ cursor.old.flags }
     ensures moves { OnOk result (unread cursor.new < unread cursor.old) }
     ensures deep { IfOk result (λ p. p.depth ≤ room) }
@@ -347,7 +363,8 @@ fn single(cursor: &mut Cursor, tree: Hir) -> Nested
 /// Reads an escape behind its backslash.
 #[tactic(auto, unfolding(crate::specs::Internal::Parts::escaped_part))]
 fn parse_escaped(cursor: &mut Cursor) -> Result<Nested, RegexError>
-    ensures value { Gives (λ p. part p (text cursor.new)) result (escaped_part cursor.old.flags (text cursor.old)) }
+    ensures value { Gives (λ p.
+        part p (text cursor.new)) result (escaped_part cursor.old.flags (text cursor.old)) }
     ensures flags { cursor.new.flags ≡ cursor.old.flags }
     ensures moves { OnOk result (unread cursor.new < unread cursor.old) }
     ensures deep { IfOk result (λ p. p.depth ≡ 0) }
@@ -358,7 +375,8 @@ fn parse_escaped(cursor: &mut Cursor) -> Result<Nested, RegexError>
 }
 
 fn tree_of_escape(alloc: Global, flags: Flags, escaped: EscapedPart) -> Result<Hir, AllocError>
-    ensures { IfOk result (λ t. (e : Escaped) → StandsForEscaped escaped e → t ≡ escaped_tree flags e) }
+    ensures { IfOk result (λ t. (e : Escaped) → StandsForEscaped escaped e
+        → t ≡ escaped_tree flags e) }
 {
     match escaped {
         EscapedPart::Character(c) => tree_of_character(alloc, flags, c),
@@ -373,7 +391,8 @@ fn tree_of_escape(alloc: Global, flags: Flags, escaped: EscapedPart) -> Result<H
 /// Reads a bracket.
 #[tactic(auto, unfolding(crate::specs::Internal::Parts::bracket_part))]
 fn parse_class(cursor: &mut Cursor, room: u32) -> Result<Nested, RegexError>
-    ensures value { Gives (λ p. part p (text cursor.new)) result (bracket_part room cursor.old.flags (text cursor.old)) }
+    ensures value { Gives (λ p.
+        part p (text cursor.new)) result (bracket_part room cursor.old.flags (text cursor.old)) }
     ensures flags { cursor.new.flags ≡ cursor.old.flags }
     ensures moves { OnOk result (unread cursor.new < unread cursor.old) }
     ensures deep { IfOk result (λ p. p.depth ≤ room) }
@@ -386,7 +405,9 @@ fn parse_class(cursor: &mut Cursor, room: u32) -> Result<Nested, RegexError>
 /// Puts the atom under each operator that follows.
 fn parse_operators(cursor: &mut Cursor, room: u32, atom: Nested) -> Result<Nested, RegexError>
     requires { atom.depth ≤ room }
-    ensures value { Gives (λ p. part p (text cursor.new)) result (all_operators room cursor.old.flags (part atom (text cursor.old))) }
+    ensures value { Gives (λ p.
+        part p (text cursor.new)) result
+        (all_operators room cursor.old.flags (part atom (text cursor.old))) }
     ensures flags { cursor.new.flags ≡ cursor.old.flags }
     ensures moves { OnOk result (unread cursor.new ≤ unread cursor.old) }
     ensures deep { IfOk result (λ p. p.depth ≤ room) }
@@ -410,7 +431,9 @@ fn repeated(
 ) -> Result<Nested, AllocError>
     requires ordered { AreOrdered operator.min operator.max }
     requires flat { piece.depth < 2 ^ 32 - 1 }
-    ensures { IfOk result (λ p. (p.tree ≡ repetition operator.min operator.max operator.greedy piece.tree) × (p.depth ≡ piece.depth + 1)) }
+    ensures { IfOk result (λ p.
+        (p.tree ≡ repetition operator.min operator.max operator.greedy piece.tree)
+        × (p.depth ≡ piece.depth + 1)) }
 {
     let RepetitionOperator { min, max, greedy } = operator;
     let Nested { tree, depth } = piece;

@@ -28,7 +28,9 @@ fn push_partners(
     ranges: &mut Vec<ClassUnicodeRange>,
     range: &ClassUnicodeRange,
 ) -> Result<(), AllocError>
-    ensures { OnOk result ((c : ℕ) → IsScalar c → Covered ranges.new.items c ↔ (Covered ranges.old.items c ⊎ HasPartner (range.now ∷ []) c)) }
+    ensures { OnOk result ((c : ℕ) → IsScalar c
+        → Covered ranges.new.items c ↔ (Covered ranges.old.items c
+        ⊎ HasPartner (range.now ∷ []) c)) }
 {
     for pair in pairs_from(range.start(), range.end()) {
         if let Some(partner) = char::from_u32(pair.1) {

@@ -12,7 +12,8 @@ use std::rt::Env;
 
 // An argument that is no text is an error of `args`, and so is want of memory.
 fn without_arguments(error: &io::Error) -> Failure
-    ensures memory { error_kind error.now ≡ ErrorKind.OutOfMemory → result ≡ Failure.Run RunError.OutOfMemory }
+    ensures memory { error_kind error.now ≡ ErrorKind.OutOfMemory
+        → result ≡ Failure.Run RunError.OutOfMemory }
     ensures usage { error_kind error.now ≢ ErrorKind.OutOfMemory → result ≡ Failure.Usage }
 {
     match error.kind() {

@@ -19,7 +19,8 @@ use std::io::{Read, Write};
 
 /// The outcome where no automaton was made.
 fn reported(error: DfaConstructionError) -> Result<Outcome, AllocError>
-    ensures ok { IfOk result (λ outcome. (ts : List Tree) (ps text : List ℕ) → IsReport ts ps error → Finds ts ps text outcome) }
+    ensures ok { IfOk result (λ outcome. (ts : List Tree) (ps text : List ℕ) → IsReport ts ps error
+        → Finds ts ps text outcome) }
     ensures memory { OnErr result (error ≡ DfaConstructionError.OutOfMemory) }
 {
     match error {
@@ -43,7 +44,8 @@ fn find(
     text: &str,
 ) -> Result<Outcome, AllocError>
     requires same_len { length regexs.now ≡ length precedences.now }
-    ensures { IfOk result (λ outcome. Finds regexs.now (map (λ p. p.0) precedences.now) text.now outcome) }
+    ensures { IfOk result (λ outcome.
+        Finds regexs.now (map (λ p. p.0) precedences.now) text.now outcome) }
 {
     match longest_match(alloc, regexs, precedences, text) {
         Ok(Some((index, matched))) => Ok(Outcome::Match {
@@ -58,7 +60,8 @@ fn find(
 /// The outcome for these bytes and the text.
 fn outcome_of(alloc: Global, bytes: &[u8], text: &str) -> Result<Outcome, AllocError>
     ensures outcome { IfOk result (λ outcome. IsOutcome bytes.now text.now outcome) }
-    ensures only { IfOk result (λ outcome. (other : Outcome) → IsOutcome bytes.now text.now other → outcome ≡ other) }
+    ensures only { IfOk result (λ outcome. (other : Outcome) → IsOutcome bytes.now text.now other
+        → outcome ≡ other) }
 {
     match read_terminals(alloc, bytes)? {
         Terminals::All {

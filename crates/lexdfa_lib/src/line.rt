@@ -60,7 +60,8 @@ pub enum Kind {
 /// The kind and the text of `l TEXT` or `r PATTERN`.
 fn kind_of(rest: &str) -> Option<(Kind, &str)>
     ensures some { IfSome result (λ m. rest.now ≡ letter m.0 ++ (codes " " ++ m.1.now)) }
-    ensures none { IfNone result ((kind : Kind) (text : List ℕ) → rest.now ≢ letter kind ++ (codes " " ++ text)) }
+    ensures none { IfNone result ((kind : Kind) (text : List ℕ)
+        → rest.now ≢ letter kind ++ (codes " " ++ text)) }
 {
     if let Some(text) = rest.strip_prefix("l ") {
         return Some((Kind::Literal, text));

@@ -14,7 +14,8 @@ const MAX: u32 = u32::MAX;
 
 // By start, then by end.
 fn order(a: &Test, b: &Test) -> Ordering
-    ensures { result ≡ ordering_then (nat_cmp a.now.start b.now.start) (nat_cmp a.now.end b.now.end) }
+    ensures { result ≡ ordering_then (nat_cmp a.now.start b.now.start)
+        (nat_cmp a.now.end b.now.end) }
 {
     a.cmp(b)
 }

@@ -7,7 +7,8 @@ use crate::token::Token;
 use std::alloc::{AllocError, Global};
 
 fn push_token(alloc: Global, lines: &mut String, token: &Token) -> Result<(), AllocError>
-    ensures { OnOk result (string_bytes lines.new ≡ string_bytes lines.old ++ token_line token.now) }
+    ensures { OnOk result (string_bytes lines.new
+        ≡ string_bytes lines.old ++ token_line token.now) }
 {
     let terminal = token.index.index();
     let bytes = token.slice.len();

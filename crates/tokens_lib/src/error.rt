@@ -42,7 +42,8 @@ pub enum BuildError {
 impl BuildError {
     /// The error of lines whose terminals have this report.
     pub(crate) fn of_report(report: DfaConstructionError) -> BuildError
-        ensures { (bytes : List ℕ) (ts : List Tree) (ps : List ℕ) → AreTerminals (lines bytes) ts ps → IsReport ts ps report
+        ensures { (bytes : List ℕ) (ts : List Tree) (ps : List ℕ) → AreTerminals (lines bytes) ts ps
+            → IsReport ts ps report
             → IsBuildError bytes result }
     {
         match report {

@@ -93,8 +93,10 @@ fn merge_characters(
 ) -> Result<Vec<ClassUnicodeRange>, AllocError>
     requires left_canonical { IsCanonical left.now }
     requires right_canonical { IsCanonical right.now }
-    ensures ascending { IfOk result (λ ranges. IsNonDecreasingBy (λ range. range.start) ranges.items) }
-    ensures covers { IfOk result (λ ranges. (c : ℕ) → InEither left.now right.now c ↔ Covered ranges.items c) }
+    ensures ascending { IfOk result (λ ranges.
+        IsNonDecreasingBy (λ range. range.start) ranges.items) }
+    ensures covers { IfOk result (λ ranges. (c : ℕ)
+        → InEither left.now right.now c ↔ Covered ranges.items c) }
 {
     let mut ranges = Vec::new(alloc);
     let mut i = 0;
