@@ -1,5 +1,5 @@
 -- cases: proofs/Cases/Dfa.antt
--- The automaton of a list of trees, and what it stands for.
+-- The automaton of a list of trees, and what it recognizes.
 use Rattle.std.specs.Prelude.{◌≡◌, ℕ, ◌<◌, ◌≤◌, List, [], ◌∷◌, length, slice_get, Option, Some, None, nat_le, ◌&&◌, if◌then◌else◌, IsSomeAnd}
 use Rattle.std.specs.List.{Contains}
 use Rattle.lalrpop_hir.specs.Range.{Range}

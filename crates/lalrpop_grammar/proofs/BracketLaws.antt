@@ -8,7 +8,7 @@ use Rattle.lalrpop_grammar.specs.Text.{Text, ◌▸◌, begins}
 use Rattle.lalrpop_sets.specs.CharacterSet.{is_one_of, Set, range, union_all, complement}
 use Rattle.lalrpop_grammar.specs.declared.flags.Flags.{Flags}
 use Rattle.lalrpop_grammar.specs.Escape.{Escaped, character, set, assertion}
-use Rattle.lalrpop_grammar.specs.Bracket.{leaf, leaves, leaf_or_complement, SetOperator, Intersection, Difference, SymmetricDifference, spelling, apply, ends_operand, begins_range, begins_primary, Posix, a_class, a_complement, NoPosix, Primary, escaped, plain, Recognizes, a_character, a_set, Hyphens, last, more, Lead, hyphens, closing, none, Item, a_posix, a_bracket, a_primary, a_range, Operand, no_item, item_then, Operands, first, operated, Bracket, a_bracket_of, a_negated_of}
+use Rattle.lalrpop_grammar.specs.Bracket.{leaf, leaves, leaf_or_complement, SetOperator, Intersection, Difference, SymmetricDifference, spelling, apply, ends_operand, begins_range, begins_primary, Posix, a_class, a_complement, NoPosix, Primary, escaped, plain, Stands, a_character, a_set, Hyphens, last, more, Lead, hyphens, closing, none, Item, a_posix, a_bracket, a_primary, a_range, Operand, no_item, item_then, Operands, first, operated, Bracket, a_bracket_of, a_negated_of}
 use Rattle.lalrpop_sets.specs.PosixSet.{posix_set}
 use Rattle.lalrpop_grammar.specs.Internal.Reading.{◌>>=◌, span, posix_named, posix, primary, range_of, operator_of, past_hyphens, lead, SetPart, Union, stands, simple_item, item_or, item, operand, whole_operand, operations, all_operations, operands, bracket_with, bracket}
 use Rattle.lalrpop_grammar.proofs.Steps.{bind_some, bind_same, some_is, chosen, guarded, decided, not_false, starts_is, span_joins, span_passes, span_is, is_one, or_parts}
@@ -128,14 +128,14 @@ unfolding primary
 Primary-complete (escaped h) = Escape-complete h
 Primary-complete (plain h) = rw h refl
 
-stands_sound : (f : Flags) (e : Escaped) (s : Set) → stands f e ≡ Some s → Recognizes f e s
-stands_sound f (character c) s h = subst (λ (q : Set). Recognizes f (character c) q) (some_is _ s h) a_character
-stands_sound f (set q n) s h = subst (λ (p : Set). Recognizes f (set q n) p) (some_is _ s h) a_set
+stands_sound : (f : Flags) (e : Escaped) (s : Set) → stands f e ≡ Some s → Stands f e s
+stands_sound f (character c) s h = subst (λ (q : Set). Stands f (character c) q) (some_is _ s h) a_character
+stands_sound f (set q n) s h = subst (λ (p : Set). Stands f (set q n) p) (some_is _ s h) a_set
 stands_sound f (assertion l) s h = absurd cc
 
-Recognizes-complete : {f : Flags} {e : Escaped} {s : Set} → Recognizes f e s → stands f e ≡ Some s
-Recognizes-complete a_character = refl
-Recognizes-complete a_set = refl
+Stands-complete : {f : Flags} {e : Escaped} {s : Set} → Stands f e s → stands f e ≡ Some s
+Stands-complete a_character = refl
+Stands-complete a_set = refl
 
 hyphen_is : (t : Text) → begins_range t ≡ true → 45 ∷ drop 1 t ≡ t
 hyphen_is [] h = absurd cc
@@ -463,7 +463,7 @@ mutual
   pub Item-complete : {f : Flags} {t r : Text} {s : Set} {d : ℕ} → Item f t r s d → (room : ℕ) → d ≤ room → item f (bracket f room) t ≡ Some (record { set = s; depth = d; rest = r })
   Item-complete {f = f} (a_posix {t = t} {r = r} {s = s} {negated = n} p) room le = item_is_posix f (bracket f room) t (s, n, r) (Posix-complete p)
   Item-complete {f = f} (a_bracket {t = t} n b) room le = item_is_bracket f (bracket f room) t (posix_none t n) (opens b) ∙ Bracket-complete b room le
-  Item-complete {f = f} (a_primary {t = t} {r = r} {e = e} {s = s} q p n h) room le = item_is_simple f (bracket f room) t q ∙ simple_alone f t r e s (Primary-complete p) n (Recognizes-complete h)
+  Item-complete {f = f} (a_primary {t = t} {r = r} {e = e} {s = s} q p n h) room le = item_is_simple f (bracket f room) t q ∙ simple_alone f t r e s (Primary-complete p) n (Stands-complete h)
   Item-complete {f = f} (a_range {t = t} {u = u} {r = r} {low = a} {high = b} q p n o k) room le = item_is_simple f (bracket f room) t q ∙ simple_range f t u r a b (Primary-complete p) n (Primary-complete o) k
 
   pub Operand-complete : {f : Flags} {t r : Text} {ss : List Set} {d : ℕ} → Operand f t r ss d → (room : ℕ) → d ≤ room → (n : ℕ) (front : List Set) (k : ℕ) → length t < n

@@ -70,9 +70,9 @@ pub data Primary : Text → Text → Escaped → Type 0 where
   plain : {c : ℕ} {r : Text} → IsFalse (is_one_of "\\" c) → Primary (c ∷ r) r (character c)
 
 -- the set of a primary that makes no range; a look has none
-pub data Recognizes (f : Flags) : Escaped → Set → Type 0 where
-  a_character : {c : ℕ} → Recognizes f (character c) (leaf f (just c))
-  a_set : {s : Set} {negated : Bool} → Recognizes f (set s negated) (leaf_or_complement f s negated)
+pub data Stands (f : Flags) : Escaped → Set → Type 0 where
+  a_character : {c : ℕ} → Stands f (character c) (leaf f (just c))
+  a_set : {s : Set} {negated : Bool} → Stands f (set s negated) (leaf_or_complement f s negated)
 
 -- at the place of an item a primary stands: neither does the operand end there, nor does a `[` stand there
 abbrev pub begins_primary : Text → Bool
@@ -101,7 +101,7 @@ mutual
   pub data Item (f : Flags) : Text → Text → Set → ℕ → Type 0 where
     a_posix : {t r : Text} {s : Set} {negated : Bool} → Posix t r s negated → Item f t r (leaf_or_complement f s negated) 0
     a_bracket : {t r : Text} {s : Set} {d : ℕ} → NoPosix t → Bracket f t r s d → Item f t r s d
-    a_primary : {t r : Text} {e : Escaped} {s : Set} → IsTrue (begins_primary t) → Primary t r e → IsFalse (begins_range r) → Recognizes f e s → Item f t r s 0
+    a_primary : {t r : Text} {e : Escaped} {s : Set} → IsTrue (begins_primary t) → Primary t r e → IsFalse (begins_range r) → Stands f e s → Item f t r s 0
     a_range : {t u r : Text} {low high : ℕ} → IsTrue (begins_primary t) → Primary t (codes "-" ▸ u) (character low) → IsTrue (begins_range (codes "-" ▸ u)) →
         Primary u r (character high) → low ≤ high → Item f t r (leaf f (range low high)) 0
 

@@ -1,4 +1,4 @@
--- What a lexer stands for.
+-- What a lexer recognizes.
 use Rattle.std.specs.Prelude.{ℕ, List}
 use Rattle.lalrpop_hir.specs.Tree.{Tree}
 use Rattle.lalrpop_lexer.specs.Clash.{NoClash}
@@ -9,7 +9,7 @@ pub record Rules : Type 0 where
   pub trees : List Tree
   pub precedences : List ℕ
 
--- no word is ambiguous, and the automaton stands for the trees and precedences
+-- no word is ambiguous, and the automaton recognizes the trees and precedences
 pub record IsBuiltFrom (ts : List Tree) (ps : List ℕ) (d : List Row) : Type 0 where
   pub no_clash : NoClash ts ps
   pub stands : Recognizes d ts ps

@@ -3,7 +3,7 @@ use Rattle.std.proofs.Common.{◌≡◌, ℕ, suc, ◌<◌, Bool, true, false, I
 use Rattle.lalrpop_grammar.specs.Text.{Text}
 use Rattle.lalrpop_sets.specs.CharacterSet.{Set}
 use Rattle.lalrpop_grammar.specs.Escape.{sign}
-use Rattle.lalrpop_grammar.specs.Bracket.{Posix, a_class, a_complement, NoPosix, Primary, escaped, plain, Recognizes, a_character, a_set, Hyphens, last, more, Lead, hyphens, closing, none, Item, a_posix, a_bracket, a_primary, a_range, Operand, no_item, item_then, Operands, first, operated, Bracket, a_bracket_of, a_negated_of, Difference, Intersection}
+use Rattle.lalrpop_grammar.specs.Bracket.{Posix, a_class, a_complement, NoPosix, Primary, escaped, plain, Stands, a_character, a_set, Hyphens, last, more, Lead, hyphens, closing, none, Item, a_posix, a_bracket, a_primary, a_range, Operand, no_item, item_then, Operands, first, operated, Bracket, a_bracket_of, a_negated_of, Difference, Intersection}
 use Rattle.lalrpop_grammar.specs.Internal.Reading as reading
 use Rattle.lalrpop_grammar.proofs.BracketLaws.{bracket_sound, Bracket-complete}
 use Rattle.lalrpop_grammar.specs.Flag.{no_flags}
