@@ -1,3 +1,4 @@
+//! Building an automaton: the patterns are compiled one by one, then joined.
 ghost use Rattle.std.specs.Prelude.{◌≡◌, List, map, length, IfOk, IfErr};
 ghost use Rattle.lalrpop_dfa.specs.Internal.Builder.{IsFaultOf, IsRefusalOf};
 ghost use Rattle.lalrpop_dfa.specs.Clash.{NoClash};

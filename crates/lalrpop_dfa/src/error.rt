@@ -1,3 +1,4 @@
+//! Why a list of patterns has no automaton.
 use super::NfaIndex;
 use lalrpop_nfa::NfaConstructionError;
 use std::alloc::{AllocError, AllocFailed};

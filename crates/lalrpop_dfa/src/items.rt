@@ -1,3 +1,4 @@
+//! Items, which are a pattern and a state of its automaton, and sets of them.
 ghost use Rattle.std.specs.Prelude.{◌≡◌, ◌<◌, length, slice_get, Some, refl};
 ghost use Rattle.std.specs.Cmp.{on_equiv, on_total, on_per, on_po, partial_order_from_agreeing_total};
 ghost use Rattle.std.specs.Cmp;

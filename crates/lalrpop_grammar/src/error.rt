@@ -1,3 +1,4 @@
+//! Why a text is no pattern, and where.
 ghost use Rattle.std.specs.Prelude.{◌≡◌};
 ghost use Rattle.lalrpop_grammar.specs.declared.error.RegexError.TheVariants.{OutOfMemory};
 

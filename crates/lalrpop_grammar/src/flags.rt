@@ -1,3 +1,5 @@
+//! The flags of a pattern.
+
 /// The flags under which a part of a pattern is read. Reading begins with none set.
 #[derive(Clone, Copy, Debug, PartialEq, Eq)]
 pub struct Flags {

@@ -1,3 +1,4 @@
+//! Classes: sets of characters or of bytes.
 ghost use Rattle.std.specs.Prelude.{◌≡◌};
 
 mod bytes;

@@ -1,3 +1,4 @@
+//! Copies of trees.
 ghost use Rattle.std.specs.Prelude.{◌≡◌, IfOk};
 ghost use Rattle.lalrpop_hir.specs.Level.{kind_tree};
 

@@ -1,3 +1,4 @@
+//! Trees of patterns: how they are made, and one level of them.
 ghost use Rattle.std.specs.Prelude.{◌≡◌, ◌≢◌, ◌≤◌, IfOk, map, Option, option_map, List, [], string_bytes};
 ghost use Rattle.std.specs.Str.{chars};
 ghost use Rattle.lalrpop_hir.specs.Counts.{AreOrdered};

@@ -1,3 +1,4 @@
+//! States and edges of an automaton, and the three kinds of labels.
 ghost use Rattle.std.specs.Prelude.{◌≡◌, ℕ, ◌+◌, ◌<◌, List, Option};
 ghost use Rattle.std.specs.Borrow.{sem};
 ghost use Rattle.lalrpop_nfa.specs.Internal.FirstSet.{first_set};

@@ -1,3 +1,4 @@
+//! Why a pattern has no automaton.
 use std::alloc::{AllocError, AllocFailed};
 use thiserror::Error;
 

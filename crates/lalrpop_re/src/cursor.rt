@@ -1,3 +1,4 @@
+//! A place in a pattern, with the flags that hold there.
 ghost use Rattle.std.specs.Prelude.{◌≡◌, ◌<◌, ◌≤◌, nat_eq, length, drop, vec_len, slice_get, IsTrue, IfOk};
 ghost use Rattle.std.specs.List.{starts_with};
 ghost use Rattle.std.specs.Str.{chars};

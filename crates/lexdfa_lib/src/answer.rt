@@ -1,3 +1,4 @@
+//! The whole run: bytes are read, terminals are built, one line is written.
 ghost use Rattle.std.specs.Prelude.{◌≡◌, ◌≢◌, ℕ, List, false, true, map, length, IfOk, OnOk, IfErr, OnErr};
 ghost use Rattle.std.specs.Io.KnownBytes.{Appends};
 ghost use Rattle.lalrpop_hir.specs.Tree.{Tree};

@@ -1,3 +1,4 @@
+//! How the program ends: its status, and its line on standard error.
 ghost use Rattle.std.specs.Prelude.{◌≡◌, Result, Err, option_map};
 ghost use Rattle.lexdfa_lib.specs.Ending.{ending_status, ending_message};
 

@@ -1,3 +1,4 @@
+//! A reader read to its end, and bytes written whole.
 ghost use Rattle.std.specs.Prelude.{◌≡◌, ◌≢◌, false, true, IfOk, OnOk, IfErr, OnErr};
 ghost use Rattle.std.specs.Io.KnownBytes.{Appends};
 ghost use Rattle.lexdfa_lib.specs.Watch.{AppendsPrefix, ReadsAll};

@@ -1,3 +1,4 @@
+//! What can go wrong in a run.
 ghost use Rattle.std.specs.Prelude.{◌≡◌};
 ghost use Rattle.lexdfa_lib.specs.Status.{error_status};
 

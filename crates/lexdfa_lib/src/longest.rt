@@ -1,3 +1,4 @@
+//! The longest match of a text, from trees and precedences.
 ghost use Rattle.std.specs.Prelude.{◌≡◌, map, length, option_map, IfOk, OnOk, IfErr, IfSome};
 ghost use Rattle.std.specs.Str.{chars};
 ghost use Rattle.lalrpop_lexer.specs.Winners.{IsOnlyStrongest};

@@ -1,3 +1,4 @@
+//! What a line says: the tree of its terminal.
 ghost use Rattle.std.specs.Prelude.{◌≡◌, ◌≢◌, IfOk, IfErr};
 ghost use Rattle.std.specs.Str.{chars};
 ghost use Rattle.lalrpop_re.specs.Refusal.{HasNoTree};

@@ -1,3 +1,4 @@
+//! What a run finds, and the line that tells it.
 ghost use Rattle.std.specs.Prelude.{◌≡◌, IfOk, string_bytes, codes};
 ghost use Rattle.lexdfa_lib.specs.Status.{outcome_status};
 ghost use Rattle.lexdfa_lib.specs.Printed.{name_of, line_of};

@@ -1,3 +1,4 @@
+//! The terminals that the lines of some bytes name.
 ghost use Rattle.std.specs.Prelude.{IfOk};
 ghost use Rattle.lexdfa_lib.specs.Terminals.{AreSaid};
 

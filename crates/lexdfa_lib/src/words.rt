@@ -1,3 +1,4 @@
+//! The program's one argument.
 ghost use Rattle.std.specs.Prelude.{◌≡◌, ◌≢◌, [], ◌∷◌, length, map, string_bytes, IfSome, IfNone};
 
 /// The one word, or None where there is no word or more than one.

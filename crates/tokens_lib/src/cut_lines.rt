@@ -1,3 +1,4 @@
+//! The lines of texts that are cut into tokens.
 ghost use Rattle.std.specs.Prelude.{◌≡◌, ◌++◌, map, flat_map, string_bytes, IfOk, OnOk};
 ghost use Rattle.tokens_lib.specs.Shown.{token_line, IsTextShown, AreTextsShown};
 

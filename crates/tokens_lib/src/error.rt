@@ -1,3 +1,4 @@
+//! Why there is no lexer.
 ghost use Rattle.std.specs.Prelude.{◌≡◌, ℕ, List};
 ghost use Rattle.lalrpop_hir.specs.Tree.{Tree};
 ghost use Rattle.lalrpop_lexer.specs.Report.{IsReport};

@@ -1,3 +1,4 @@
+//! A lexer: built once, run over many texts.
 ghost use Rattle.std.specs.Prelude.{◌≡◌, ◌++◌, None, map, length, IfOk, OnOk, IfErr, IfSome, IfNone};
 ghost use Rattle.lalrpop_lexer.specs.Clash.{NoClash};
 ghost use Rattle.lalrpop_lexer.specs.Longest.{IsLongest};

@@ -1,3 +1,4 @@
+//! A slice between quotes.
 ghost use Rattle.std.specs.Prelude.{◌≡◌, ◌++◌, option_map, string_bytes, IfOk, OnOk};
 ghost use Rattle.tokens_lib.specs.Quoted.{short_escape, told, quoted};
 

@@ -1,3 +1,4 @@
+//! A program that cuts its arguments into tokens: what it writes, and the status that it ends with.
 ghost use Rattle.std.specs.Prelude.{◌≡◌, ◌≢◌, map, string_bytes, IfOk, IfErr};
 ghost use Rattle.std.specs.IoError.{error_kind};
 ghost use Rattle.tokens_lib.specs.Shown.{error_line, IsShown, ended_status};

@@ -1,3 +1,4 @@
+//! Tokens, and what is left behind them.
 use lalrpop_lexer::lexer::dfa::NfaIndex;
 
 /// A token: the place of its pattern in the list, and its slice of the text.

@@ -1,3 +1,4 @@
+//! Classes of bytes.
 ghost use Rattle.std.specs.Prelude.{◌≡◌, ◌≤◌, min, max, IfOk};
 ghost use Rattle.std.specs.List.Sorted.{IsNonDecreasingBy};
 ghost use Rattle.lalrpop_hir.specs.Range.{AreByteRuns, IsByteCanon, Covered, next_byte};

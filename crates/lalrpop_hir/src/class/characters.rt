@@ -1,3 +1,4 @@
+//! Classes of characters.
 ghost use Rattle.std.specs.Prelude.{◌≡◌, ◌≤◌, min, max, IfOk};
 ghost use Rattle.std.specs.List.Sorted.{IsNonDecreasingBy};
 ghost use Rattle.lalrpop_hir.specs.Range.{IsCanonical, IsCanon, Covered, next_scalar};

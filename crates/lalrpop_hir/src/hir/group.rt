@@ -1,3 +1,4 @@
+//! Groups.
 ghost use Rattle.std.specs.Prelude.{◌≡◌, option_map, string_bytes};
 
 use super::{Capture, Hir};

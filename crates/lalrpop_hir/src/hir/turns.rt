@@ -1,3 +1,4 @@
+//! Repetitions.
 ghost use Rattle.std.specs.Prelude.{◌≡◌, Option};
 ghost use Rattle.lalrpop_hir.specs.Counts.{AreOrdered};
 
