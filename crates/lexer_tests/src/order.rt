@@ -110,23 +110,21 @@ fn precedences_compare_as_their_numbers(rt: HostRuntime) {
 
 #[test]
 fn states_of_many_patterns_are_ordered_by_number(rt: HostRuntime) -> Result<(), Fail> {
-    let alloc = rt.alloc();
     let start = dfa::START;
-    let dfa = build_dfa(alloc, &[Hir::literal(alloc, "a")?], &[Precedence(0)])?;
-    assert_eq!(rt; dfa.states().len(), 3);
-    let second = dfa.test_edges(start)[0].1;
-    let third = dfa.states()[0].other_edge();
-    for (left, right, order) in [
-        (start, second, Ordering::Less),
-        (third, dfa.states()[1].other_edge(), Ordering::Equal),
-        (third, second, Ordering::Greater),
-    ] {
-        let is_same = order == Ordering::Equal;
-        assert_eq!(rt; order_of_states(left, right), order);
-        assert_eq!(rt; equal_states(left, right), is_same);
+    let dfa = build_dfa(rt.alloc(), &[], &[])?;
+    for state in dfa.states() {
+        assert_eq!(rt; order_of_states(start, state.other_edge()), Ordering::Equal);
+        assert!(rt; equal_states(start, state.other_edge()));
+        assert_eq!(rt; hash_of(&start), hash_of(&state.other_edge()));
     }
-    let again = dfa.states()[1].other_edge();
-    assert_eq!(rt; hash_of(&third), hash_of(&again));
+    let alloc = rt.alloc();
+    let dfa = build_dfa(alloc, &[Hir::literal(alloc, "a")?], &[Precedence(0)])?;
+    for state in dfa.states() {
+        let reject = state.other_edge();
+        assert_eq!(rt; order_of_states(start, reject), Ordering::Less);
+        assert_eq!(rt; order_of_states(reject, start), Ordering::Greater);
+        assert!(rt; !equal_states(reject, start));
+    }
     Ok(())
 }
 
@@ -140,7 +138,6 @@ fn places_of_patterns_are_ordered_by_number(rt: HostRuntime) -> Result<(), Fail>
             assert_eq!(rt; order_of_places(match0, match0), Ordering::Equal);
             assert_eq!(rt; order_of_places(match0, match1), Ordering::Greater);
             assert!(rt; equal_places(match0, match0) && !equal_places(match0, match1));
-            assert_eq!(rt; hash_of(&match0), hash_of(&match0));
         }
         _ => assert!(rt; false),
     }
