@@ -1,11 +1,12 @@
 -- The construction, step by step.
-use Rattle.std.proofs.Common.{◌≡◌, ℕ, zero, suc, ◌+◌, ◌<◌, ◌≤◌, inl, inr, List, [], ◌∷◌, ◌++◌, length, map, take, get_or, refl, ap, sym, ◌∙◌, subst, arith, Option, Some, None, MatchOption, ◌^◌, length-append}
+use Rattle.std.proofs.Common.{◌≡◌, ℕ, zero, suc, ◌+◌, ◌<◌, ◌≤◌, inl, inr, List, [], ◌∷◌, ◌++◌, length, map, take, get_or, refl, ap, sym, ◌∙◌, subst, arith, Option, Some, None, MatchOption, ◌^◌, length-append, sum_by}
 use Rattle.std.specs.Prelude.{slice_get}
 use Rattle.std.specs.List.{Contains, flat_map}
-use Rattle.std.proofs.lemmas.List.{take_more, take_all, length_push}
+use Rattle.std.proofs.lemmas.List.{take_more, take_all, length_push, map-append}
+use Rattle.std.proofs.Math.Pow.{pow_mono}
 use Rattle.std.proofs.lemmas.Option.{slice_get_cases, slice_get_within, slice_get-get_or, get_or_from_slice_get}
 use Rattle.lalrpop_hir.specs.Range.{Range, Covers}
-use Rattle.lalrpop_hir.specs.Tree.{Tree}
+use Rattle.lalrpop_hir.specs.Tree.{Tree, size}
 use Rattle.lalrpop_nfa.specs.Graph.{Graph}
 use Rattle.lalrpop_ranges.specs.Partition.{IsPartition}
 use Rattle.lalrpop_dfa.specs.Dfa.{Row, Recognizes, IsWellFormed}
@@ -22,7 +23,8 @@ use Rattle.lalrpop_dfa.proofs.Sets.{first_set_ascends, first_set_items, move_asc
 use Rattle.lalrpop_dfa.proofs.RowSteps.{added_keeps, added_is, past, taken_range, taken_other, tests_lead_more, tests_lead_kept, run_small}
 use Rattle.lalrpop_dfa.proofs.BuiltTable.{built_stands}
 use Rattle.lalrpop_dfa.proofs.TiedClash.{tied_is_clash_after_rows}
-use Rattle.lalrpop_dfa.proofs.StateCount.{states_bound}
+use Rattle.lalrpop_dfa.specs.Counts.{state_bound}
+use Rattle.lalrpop_dfa.proofs.StateCount.{states_bound, items_bound}
 use Rattle.lalrpop_dfa.proofs.Adding.{pushed_at}
 
 pub added_from : (m : Automaton (List Item)) (sets : List (List Item)) (origins : List (ℕ × ℕ)) (n v : ℕ) (t : List Item) (j : ℕ) (sets2 : List (List Item)) (origins2 : List (ℕ × ℕ))
@@ -43,10 +45,6 @@ small_added : (sets : List (List Item)) (origins : List (ℕ × ℕ)) (n v : ℕ
     → AddedTo sets origins n v t j sets2 origins2 → AreSmall origins → AreSmall origins2
 small_added sets origins n v t j sets2 origins2 l (inl (e, a, b)) f = rw b f
 small_added sets origins n v t j sets2 origins2 l (inr (none, e, a, b)) f = rw b (small_push origins n v l f)
-
-map_push : {X Y : Type 0} (f : X → Y) (xs : List X) (y : X) → map f (xs ++ y ∷ []) ≡ map f xs ++ f y ∷ []
-map_push f [] y = refl
-map_push f (x ∷ xs) y = ap (λ ys. f x ∷ ys) (map_push f xs y)
 
 pub leads_to : (ns : List Graph) (s given : List Item) (v : ℕ) → given ≡ flat_map (item_targets ns v) s → closed ns given ≡ move ns s v
 unfolding move
@@ -83,7 +81,7 @@ module _ (ns : List Graph) (a : AreAutomata ns) (sets0 : List (List Item)) (orig
       let low_small : r.start ≤ 4294967295 = omega (arith, run_small a.0 ns a.1 s xs partition r member, (partition.are_blocks r member).uniform.holds_one) in
       record {
         breadth_first = taken_range a.0 ns a.1 s xs partition sets origins n k j r sets2 origins2 h.breadth_first kept.0 (kept.1 ∙ is0) at added;
-        ranges = rw (more, same) (map_push (λ (u : Range × ℕ). u.0) tests (r, j) ∙ (ap (λ ys. ys ++ r ∷ []) h.ranges ∙ sym (take_more xs k r l ∙ ap (λ y. take k xs ++ y ∷ []) (sym read))));
+        ranges = rw (more, same) (map-append (λ (u : Range × ℕ). u.0) tests ((r, j) ∷ []) ∙ (ap (λ ys. ys ++ r ∷ []) h.ranges ∙ sym (take_more xs k r l ∙ ap (λ y. take k xs ++ y ∷ []) (sym read))));
         leads = rw (more, same) (tests_lead_more a.0 ns a.1 s xs partition sets origins n j r sets2 origins2 tests added member h.leads);
         kept = λ i il. (let b = h.kept i il in let d = added_keeps m sets origins n r.start (move ns s r.start) j sets2 origins2 added i b.0 in (d.0, d.1 ∙ b.1));
         small = λ f. small_added sets origins n r.start (move ns s r.start) j sets2 origins2 low_small add2 (h.small f);
@@ -187,6 +185,10 @@ built_all ns ps sets origins rows place h same none ts k =
 -- the sets are few
 pub built_few : (ns : List Graph) (ps : List ℕ) (sets : List (List Item)) (origins : List (ℕ × ℕ)) (rows : List Row) (s : List Item) → IsBuiltTo ns ps sets origins rows (length rows) → slice_get sets (length rows) ≡ Some s → length rows < 2 ^ length (all_items ns)
 built_few ns ps sets origins rows s h at = omega (arith, states_bound ns sets origins (length rows) 0 h.breadth_first, slice_get_within sets (length rows) s at)
+
+pub built_bound : (ns : List Graph) (ps : List ℕ) (sets : List (List Item)) (origins : List (ℕ × ℕ)) (rows : List Row) (n : ℕ) → IsBuiltTo ns ps sets origins rows n → (ts : List Tree) → AreCompiled ts ns → length rows ≤ state_bound ts
+built_bound ns ps sets origins rows n h ts k =
+    omega (arith, h.counted, h.within, states_bound ns sets origins n 0 h.breadth_first, pow_mono {i = length (all_items ns)} {j = sum_by (λ t. 3 + size t) ts} (items_bound ts ns k))
 
 -- a tie is a clash
 pub built_clash : (ns : List Graph) (ps : List ℕ) (sets : List (List Item)) (origins : List (ℕ × ℕ)) (rows : List Row) (s : List Item) (e : DfaConstructionError) → IsBuiltTo ns ps sets origins rows (length rows) → slice_get sets (length rows) ≡ Some s

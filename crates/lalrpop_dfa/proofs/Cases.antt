@@ -6,3 +6,4 @@ mod Report
 mod Dfa
 mod Items
 mod SameAutomata
+mod Counts

@@ -13,6 +13,7 @@ pub mod Targets
 pub mod ReachedItems
 pub mod Dead
 pub mod EdgeTargets
+pub mod StoredRows
 pub mod LongestLemmas
 pub mod Inserting
 pub mod WorklistSteps

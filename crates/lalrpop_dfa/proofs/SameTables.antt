@@ -1,9 +1,9 @@
 -- Equality of automata, in words of their numbers.
-use Rattle.std.proofs.Common.{◌≡◌, ℕ, zero, suc, true, ◌&&◌, ◌==◌, List, [], ◌∷◌, length, slice_get, Some, Decides, refl, ap, subst}
+use Rattle.std.proofs.Common.{◌≡◌, ℕ, zero, suc, Bool, true, false, ◌&&◌, ◌==◌, ◌<◌, inl, inr, arith, List, [], ◌∷◌, length, slice_get, Some, Decides, refl, ap, subst}
 use Rattle.std.proofs.lemmas.Bool.{and_parts, and_from}
 use Rattle.std.proofs.lemmas.Bool.Decides.{Decides-eqb}
+use Rattle.std.proofs.lemmas.Option.{slice_get_cases}
 use Rattle.std.specs.Cmp.Lexicographic.{pointwise}
-use Rattle.std.specs.List.{list_all, zip}
 use lib.Pointwise.{pointwise_decides, pointwise_long}
 use Rattle.lalrpop_hir.specs.Range.{Range}
 use Rattle.lalrpop_dfa.specs.Dfa.{Row}
@@ -96,9 +96,26 @@ same_automaton_decides d e = (
   rows_from d e,
 )
 
--- automata of one length are equal where all pairs of their states are
-pub all_pairs : (d e : List Row) → length d ≡ length e → list_all (λ (x : Row × Row). same_row x.0 x.1) (zip d e) ≡ same_automaton d e
-all_pairs [] [] long = refl
-all_pairs [] (y ∷ e) long = cc
-all_pairs (x ∷ d) [] long = cc
-all_pairs (x ∷ d) (y ∷ e) long = ap (λ b. same_row x y && b) (all_pairs d e cc)
+-- automata of one length are equal where their states are at each number
+pub all_same : (d e : List Row) → length d ≡ length e → ((p : ℕ) (r s : Row) → slice_get d p ≡ Some r → slice_get e p ≡ Some s → same_row r s ≡ true) → same_automaton d e ≡ true
+all_same [] [] long f = refl
+all_same [] (y ∷ e) long f = cc
+all_same (x ∷ d) [] long f = cc
+all_same (x ∷ d) (y ∷ e) long f = and_from (same_row x y) (same_automaton d e) (f 0 x y refl refl) (let shorter : length d ≡ length e = cc in all_same d e shorter (λ p r s a b. f (suc p) r s a b))
+
+-- and differ where two of them do
+pub some_differ : (d e : List Row) (p : ℕ) → p < length d → p < length e → ((r s : Row) → slice_get d p ≡ Some r → slice_get e p ≡ Some s → false ≡ same_row r s) → same_automaton d e ≡ false
+some_differ d e p within_d within_e differ = by_test (same_automaton d e) refl
+  where
+    row_at : (rows : List Row) → p < length rows → (r : Row) × (slice_get rows p ≡ Some r)
+    row_at rows l = elim (slice_get_cases rows p).1 [ inl x ↦ (x.0, x.2) | inr past ↦ absurd (omega (arith, past.0)) ]
+
+    by_test : (t : Bool) → same_automaton d e ≡ t → same_automaton d e ≡ false
+    by_test true h =
+        let r = row_at d within_d in
+        let s = row_at e within_e in
+        let same = rows_told d e h p r.0 s.0 r.1 s.1 in
+        let yes : same_row r.0 s.0 ≡ true = row_from r.0 s.0 same.state same.tests in
+        let no : false ≡ same_row r.0 s.0 = differ r.0 s.0 r.1 s.1 in
+        cc
+    by_test false h = h

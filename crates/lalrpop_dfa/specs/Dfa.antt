@@ -16,6 +16,31 @@ pub record Row : Type 0 where
   pub other : ℕ
   pub items : List (ℕ × ℕ)
 
+-- a state as its automaton keeps it: its test edges stand in a list of all test edges, `count` of them from the place
+-- `first` on
+pub record StoredState : Type 0 where
+  pub kind : Kind
+  pub other : ℕ
+  pub items : List (ℕ × ℕ)
+  pub first : ℕ
+  pub count : ℕ
+
+-- without its test edges
+abbrev pub bare : StoredState → Row
+bare s = record { kind = s.kind; tests = []; other = s.other; items = s.items }
+
+-- the same state
+pub record IsStored (r : Row) (s : StoredState) : Type 0 where
+  pub kind : s.kind ≡ r.kind
+  pub other : s.other ≡ r.other
+  pub items : s.items ≡ r.items
+  pub count : s.count ≡ length r.tests
+
+-- the same states
+pub record AreStored (d : List Row) (states : List StoredState) : Type 0 where
+  pub same_length : length states ≡ length d
+  pub each : (p : ℕ) (r : Row) (s : StoredState) → slice_get d p ≡ Some r → slice_get states p ≡ Some s → IsStored r s
+
 -- where the value leads
 abbrev pub edge_target : List (Range × ℕ) → ℕ → ℕ → ℕ
 edge_target [] other c = other

@@ -9,3 +9,4 @@ pub mod Best
 pub mod Labels
 pub mod SameLaws
 pub mod Transitions
+pub mod Stored

@@ -6,6 +6,7 @@ pub mod Clash
 pub mod Longest
 pub mod Report
 pub mod Dfa
+pub mod Counts
 pub mod Items
 pub mod SameAutomata
 pub mod Agree

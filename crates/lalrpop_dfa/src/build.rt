@@ -1,7 +1,8 @@
 //! Building an automaton: the patterns are compiled one by one, then joined.
-ghost use Rattle.std.specs.Prelude.{◌≡◌, List, map, length, IfOk, IfErr};
+ghost use Rattle.std.specs.Prelude.{◌≡◌, ◌≤◌, List, map, length, IfOk, IfErr};
 ghost use Rattle.lalrpop_dfa.specs.Internal.Builder.{IsFaultOf, IsRefusalOf};
 ghost use Rattle.lalrpop_dfa.specs.Clash.{NoClash};
+ghost use Rattle.lalrpop_dfa.specs.Counts.{state_bound};
 ghost use Rattle.lalrpop_dfa.specs.Dfa.{Recognizes};
 ghost use Rattle.lalrpop_nfa.specs.Graph.{Graph};
 ghost use Rattle.lalrpop_dfa.specs.Items.{AreCompiled, HoldsItems, OthersReject, IsInWordOrder};
@@ -54,6 +55,7 @@ pub fn build_dfa(
     requires same_len { length regexs.now ≡ length precedences.now }
     ensures ok { IfOk result (λ dfa. let ps = map (λ p. p.0) precedences.now in
         NoFault regexs.now × NoClash regexs.now ps × Recognizes dfa regexs.now ps) }
+    ensures bound { IfOk result (λ dfa. length dfa ≤ state_bound regexs.now) }
     ensures items { IfOk result (λ dfa.
         (ns : List Graph) × AreCompiled regexs.now ns × HoldsItems ns dfa) }
     ensures others { IfOk result OthersReject }

@@ -6,6 +6,7 @@ ghost use Rattle.lalrpop_dfa.specs.Internal.Ascending.{AreAscendingItems};
 ghost use Rattle.lalrpop_dfa.specs.Internal.Builder.{AreAutomata, AreItemsOf, AddedTo, AreKnown, IsEdged, IsBuiltTo, IsTieOf, IsClashOf};
 ghost use Rattle.lalrpop_dfa.specs.Internal.Built.{subset_automaton};
 ghost use Rattle.lalrpop_dfa.specs.Clash.{NoClash};
+ghost use Rattle.lalrpop_dfa.specs.Counts.{state_bound};
 ghost use Rattle.lalrpop_dfa.specs.Dfa.{Recognizes};
 ghost use Rattle.lalrpop_dfa.specs.Items.{AreCompiled, HoldsItems, OthersReject, IsInWordOrder};
 ghost use Rattle.lalrpop_dfa.specs.Internal.Transitions.{AreTransitions};
@@ -16,26 +17,19 @@ use super::best::{Tie, kind_of};
 use super::blocks::{Block, Transitions, blocks_of};
 use super::closure::{advance, closure};
 use super::items::{Item, ItemSet, Origin};
-use super::{Dfa, DfaConstructionError, DfaStateIndex, NfaIndex, Precedence, State};
+use super::rows::{Edges, Rows};
+use super::{Dfa, DfaConstructionError, DfaStateIndex, NfaIndex, Precedence};
 use lalrpop_kernels::KernelSet;
 use lalrpop_nfa::{Nfa, START};
-use lalrpop_ranges::Test;
 use std::alloc::{AllocError, Global};
 use std::collections::BTreeMap;
 
-// The sets of items by number, where each was first met, and the states of those that are expanded.
+// The sets of items by number, where each was first met, and the rows of those that are expanded.
 #[derive(Drop)]
 struct Table {
     kernels: KernelSet<ItemSet>,
     origins: Vec<Origin>,
-    states: Vec<State>,
-}
-
-// Where a state's values lead.
-#[derive(Drop)]
-struct Edges {
-    tests: Vec<(Test, DfaStateIndex)>,
-    other: DfaStateIndex,
+    rows: Rows,
 }
 
 // START of each automaton.
@@ -57,7 +51,7 @@ impl Table {
     fn new(alloc: Global, nfas: &[Nfa]) -> Result<Table, AllocError>
         requires { AreAutomata nfas.now }
         ensures { IfOk result (λ t. (t.kernels.list ≡ first_set_of nfas.now ∷ [])
-            × (t.kernels.place ≡ 0) × (t.origins.items ≡ (0, 0) ∷ []) × (t.states.items ≡ [])) }
+            × (t.kernels.place ≡ 0) × (t.origins.items ≡ (0, 0) ∷ []) × (t.rows ≡ [])) }
     {
         let starts = starts_of(alloc, nfas)?;
         let first = closure(alloc, nfas, &starts)?;
@@ -68,7 +62,7 @@ impl Table {
         Ok(Table {
             kernels,
             origins,
-            states: Vec::new(alloc),
+            rows: Rows::new(alloc),
         })
     }
 
@@ -77,7 +71,7 @@ impl Table {
         requires { length self.old.origins.items ≡ length self.old.kernels.list }
         ensures added { IfOk result (λ j. AddedTo self.old.kernels.list self.old.origins.items origin.0 origin.1 set j self.new.kernels.list self.new.origins.items) }
         ensures place { OnOk result (self.new.kernels.place ≡ self.old.kernels.place) }
-        ensures states { OnOk result (self.new.states.items ≡ self.old.states.items) }
+        ensures rows { OnOk result (self.new.rows ≡ self.old.rows) }
     {
         let number = self.kernels.add_state(set)?;
         if number.index() == self.origins.len() {
@@ -101,7 +95,7 @@ impl Table {
             AddedTo self.old.kernels.list self.old.origins.items origin.0 origin.1
             (move nfas.now set.now origin.1) j self.new.kernels.list self.new.origins.items) }
         ensures place { OnOk result (self.new.kernels.place ≡ self.old.kernels.place) }
-        ensures states { OnOk result (self.new.states.items ≡ self.old.states.items) }
+        ensures rows { OnOk result (self.new.rows ≡ self.old.rows) }
     {
         let given = advance(alloc, nfas, set, origin.value)?;
         let target = closure(alloc, nfas, &given)?;
@@ -128,7 +122,7 @@ impl Table {
             (move nfas.now set.now origin.1) j self.new.kernels.list self.new.origins.items) }
         ensures known { OnOk result (AreKnown nfas.now set.now known.new self.new.kernels.list) }
         ensures place { OnOk result (self.new.kernels.place ≡ self.old.kernels.place) }
-        ensures states { OnOk result (self.new.states.items ≡ self.old.states.items) }
+        ensures rows { OnOk result (self.new.rows ≡ self.old.rows) }
     {
         if let Some(number) = known.get(&transitions) {
             return Ok(*number);
@@ -153,7 +147,7 @@ impl Table {
         requires here { slice_get self.old.kernels.list number ≡ Some set.now }
         ensures edged { IfOk result (λ e. IsEdged nfas.now self.old.kernels.list self.old.origins.items number set.now self.new.kernels.list self.new.origins.items e.tests.items e.other) }
         ensures place { OnOk result (self.new.kernels.place ≡ self.old.kernels.place) }
-        ensures states { OnOk result (self.new.states.items ≡ self.old.states.items) }
+        ensures rows { OnOk result (self.new.rows ≡ self.old.rows) }
     {
         let mut known = BTreeMap::new(alloc);
         let mut tests = Vec::new(alloc);
@@ -185,11 +179,11 @@ impl Table {
     ) -> Result<(), DfaConstructionError>
         requires same_len { length nfas.now ≡ length precedences.now }
         requires automata { AreAutomata nfas.now }
-        requires built { IsBuiltTo nfas.now (map (λ p. p.0) precedences.now) self.old.kernels.list self.old.origins.items self.old.states.items (length self.old.states.items) }
-        requires here { slice_get self.old.kernels.list (length self.old.states.items) ≡ Some set }
-        ensures ok { OnOk result (IsBuiltTo nfas.now (map (λ p. p.0) precedences.now) self.new.kernels.list self.new.origins.items self.new.states.items (length self.new.states.items)) }
-        ensures one { OnOk result (length self.new.states.items
-            ≡ length self.old.states.items + 1) }
+        requires built { IsBuiltTo nfas.now (map (λ p. p.0) precedences.now) self.old.kernels.list self.old.origins.items self.old.rows (length self.old.rows) }
+        requires here { slice_get self.old.kernels.list (length self.old.rows) ≡ Some set }
+        ensures ok { OnOk result (IsBuiltTo nfas.now (map (λ p. p.0) precedences.now) self.new.kernels.list self.new.origins.items self.new.rows (length self.new.rows)) }
+        ensures one { OnOk result (length self.new.rows
+            ≡ length self.old.rows + 1) }
         ensures place { OnOk result (self.new.kernels.place ≡ self.old.kernels.place) }
         ensures err { IfErr result (IsTieOf (map (λ p. p.0) precedences.now) set) }
     {
@@ -202,14 +196,9 @@ impl Table {
                 });
             }
         };
-        let number = self.states.len();
-        let Edges { tests, other } = self.edges_of(alloc, nfas, number, &set)?;
-        self.states.push(State {
-            item_set: set,
-            kind,
-            test_edges: tests,
-            other_edge: other,
-        })?;
+        let number = self.rows.len();
+        let edges = self.edges_of(alloc, nfas, number, &set)?;
+        self.rows.push(set, kind, edges)?;
         Ok(())
     }
 }
@@ -224,6 +213,8 @@ pub(super) fn build(
     requires automata { AreAutomata nfas.now }
     ensures stands { IfOk result (λ dfa. let ps = map (λ p. p.0) precedences.now in
         (ts : List Tree) → AreCompiled ts nfas.now → NoClash ts ps × Recognizes dfa ts ps) }
+    ensures bound { IfOk result (λ dfa. (ts : List Tree) → AreCompiled ts nfas.now
+        → length dfa ≤ state_bound ts) }
     ensures items { IfOk result (HoldsItems nfas.now) }
     ensures others { IfOk result OthersReject }
     ensures order { IfOk result IsInWordOrder }
@@ -234,7 +225,5 @@ pub(super) fn build(
     while let Some(set) = table.kernels.next()? {
         table.expand(alloc, nfas, precedences, set)?;
     }
-    Ok(Dfa {
-        states: table.states,
-    })
+    Ok(Dfa { rows: table.rows })
 }

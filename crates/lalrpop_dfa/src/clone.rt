@@ -12,7 +12,8 @@ impl Clone for State {
         Ok(State {
             item_set: self.item_set.clone()?,
             kind: self.kind.clone()?,
-            test_edges: self.test_edges.clone()?,
+            first_edge: self.first_edge,
+            edge_count: self.edge_count,
             other_edge: self.other_edge,
         })
     }
@@ -23,7 +24,7 @@ impl Clone for Dfa {
 
     fn clone(&self) -> Result<Dfa, AllocError> {
         Ok(Dfa {
-            states: self.states.clone()?,
+            rows: self.rows.clone()?,
         })
     }
 }

@@ -1,28 +1,29 @@
 //! Equality of states and of automata.
 
-ghost use Rattle.std.specs.Prelude.{◌≡◌, ◌↔◌, IsTrue};
+ghost use Rattle.std.specs.Prelude.{◌≡◌, ◌↔◌, ◌<◌, IsTrue, Some, length, slice_get};
 ghost use Rattle.std.specs.Cmp;
+ghost use Rattle.lalrpop_dfa.specs.Dfa.{Row, bare};
 ghost use Rattle.lalrpop_dfa.specs.SameAutomata.{same_state, same_row, same_automaton, IsSameState, IsSameAutomaton};
-ghost use Rattle.lalrpop_dfa.specs.Internal.SameLaws.{state_equiv, automaton_equiv};
+ghost use Rattle.lalrpop_dfa.specs.Internal.SameLaws.{stored_equiv, automaton_equiv};
 
-use super::{Dfa, State};
+use super::{Dfa, DfaStateIndex, State};
 
 impl PartialEq for State {
-    ghost eq = { same_state };
+    ghost eq = { λ s t. same_state (bare s) (bare t) };
 
-    ghost laws = { Cmp.partial_equiv_from_equiv state_equiv };
+    ghost laws = { Cmp.partial_equiv_from_equiv stored_equiv };
 
     /// Whether the kinds are equal, and the other edges. Test edges are compared by the automata.
     fn eq(&self, other: &State) -> bool
-        ensures value { result ≡ same_state self.now other.now }
-        ensures same { IsTrue result ↔ IsSameState self.now other.now }
+        ensures value { result ≡ same_state (bare self.now) (bare other.now) }
+        ensures same { IsTrue result ↔ IsSameState (bare self.now) (bare other.now) }
     {
         self.kind == other.kind && self.other_edge == other.other_edge
     }
 }
 
 impl Eq for State {
-    ghost laws = { state_equiv };
+    ghost laws = { stored_equiv };
 }
 
 impl PartialEq for Dfa {
@@ -35,7 +36,15 @@ impl PartialEq for Dfa {
         ensures value { result ≡ same_automaton self.now other.now }
         ensures same { IsTrue result ↔ IsSameAutomaton self.now other.now }
     {
-        are_same(self.states(), other.states())
+        if self.rows.len() != other.rows.len() {
+            return false;
+        }
+        for number in 0..self.rows.len() {
+            if !is_same_at(self, other, DfaStateIndex(number)) {
+                return false;
+            }
+        }
+        true
     }
 }
 
@@ -43,20 +52,12 @@ impl Eq for Dfa {
     ghost laws = { automaton_equiv };
 }
 
-// Whether the states are equal, and their test edges.
-fn is_same(left: &State, right: &State) -> bool
-    ensures { result ≡ same_row left.now right.now }
+// Whether the states with this number are equal, and their test edges.
+fn is_same_at(left: &Dfa, right: &Dfa, index: DfaStateIndex) -> bool
+    requires left { index < length left.now }
+    requires right { index < length right.now }
+    ensures { (r s : Row) → slice_get left.now index ≡ Some r → slice_get right.now index ≡ Some s
+        → result ≡ same_row r s }
 {
-    left == right && left.test_edges == right.test_edges
-}
-
-// Whether there are as many states on both sides, and at each number equal ones with equal test edges.
-fn are_same(left: &[State], right: &[State]) -> bool
-    ensures { result ≡ same_automaton left.now right.now }
-{
-    left.len() == right.len()
-        && left
-            .iter()
-            .zip(right.iter())
-            .all(|(state, peer)| is_same(state, peer))
+    left.state(index) == right.state(index) && left.test_edges(index) == right.test_edges(index)
 }

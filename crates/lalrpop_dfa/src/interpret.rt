@@ -1,15 +1,18 @@
 //! The longest match at the start of a text, found by running the automaton of a list of patterns.
 
-ghost use Rattle.std.specs.Prelude.{◌≡◌, ◌≢◌, ℕ, ◌+◌, ◌<◌, ◌≤◌, [], length, List, IfSome};
+ghost use Rattle.std.specs.Prelude.{◌≡◌, ◌≢◌, ℕ, ◌+◌, ◌*◌, ◌^◌, ◌<◌, ◌≤◌, [], length, List, IfSome, IfNone};
+ghost use Rattle.std.specs.List.{Contains};
 ghost use Rattle.std.specs.Option.{option_map};
 ghost use Rattle.std.specs.Str.{chars};
-ghost use Rattle.lalrpop_dfa.specs.Dfa.{step, Recognizes};
+ghost use Rattle.lalrpop_hir.specs.Range.{Range, Covers};
+ghost use Rattle.lalrpop_dfa.specs.Counts.{HaveAtMost};
+ghost use Rattle.lalrpop_dfa.specs.Dfa.{step, Recognizes, AreAscendingTests};
 ghost use Rattle.lalrpop_dfa.specs.Longest.{IsLongest};
 ghost use Rattle.lalrpop_hir.specs.Tree.{Tree};
 ghost use Rattle.lalrpop_nfa.specs.Prefix.{IsPrefix};
 
 use super::{Dfa, DfaStateIndex, Kind, NfaIndex, START};
-use lalrpop_nfa::Steps;
+use lalrpop_ranges::{Steps, Test};
 
 /// The longest nonempty prefix of the text that some pattern matches, with the strongest pattern that matches it.
 /// `None` where no pattern matches any. Whatever automaton it is, the slice is a nonempty prefix of the text.
@@ -33,13 +36,32 @@ pub fn interpret_counted<'text>(
     ensures never_falls { steps.old ≤ steps.new }
     ensures cost { steps.new ≤ steps.old + length (chars input.now) }
 {
+    interpret_probed(dfa, input, steps, &mut Steps::new())
+}
+
+/// The same answer and the same steps. A probe is counted for each range of an edge that is compared with a character:
+/// for each character at most as many as the greatest number of test edges of a state has binary digits.
+pub fn interpret_probed<'text>(
+    dfa: &Dfa,
+    input: &'text str,
+    steps: &mut Steps,
+    probes: &mut Steps,
+) -> Option<(NfaIndex, &'text str)>
+    ensures answer { (ts : List Tree) (ps : List ℕ) → Recognizes dfa.now ts ps
+        → IsLongest ts ps input.now (option_map (λ m. (m.0, m.1.now)) result) }
+    ensures prefix { IfSome result (λ m. IsPrefix m.1.now input.now × (m.1.now ≢ [])) }
+    ensures never_falls { (steps.old ≤ steps.new) × (probes.old ≤ probes.new) }
+    ensures cost { steps.new ≤ steps.old + length (chars input.now) }
+    ensures probed { (n d : ℕ) → HaveAtMost dfa.now n → n < 2 ^ d
+        → probes.new ≤ probes.old + length (chars input.now) * d }
+{
     // There is a state, so START is one.
     let _states = dfa.states();
     let mut state = START;
     let mut longest = None;
     for (offset, c) in input.char_indices() {
         steps.tick();
-        state = step(dfa, state, u32::from(c));
+        state = step(dfa, state, u32::from(c), probes);
         match dfa.state(state).kind() {
             Kind::Accepts(index) => longest = Some((*index, &input[..offset + c.len_utf8()])),
             Kind::Reject => break,
@@ -50,15 +72,45 @@ pub fn interpret_counted<'text>(
 }
 
 // The state that the value leads to: by the test edge that holds it, or else by the other edge.
-fn step(dfa: &Dfa, state: DfaStateIndex, value: u32) -> DfaStateIndex
+fn step(dfa: &Dfa, state: DfaStateIndex, value: u32, probes: &mut Steps) -> DfaStateIndex
     requires { state < length dfa.now }
     ensures leads { result ≡ step dfa.now state value }
     ensures within { result < length dfa.now }
+    ensures never_falls { probes.old ≤ probes.new }
+    ensures probed { (n d : ℕ) → HaveAtMost dfa.now n → n < 2 ^ d → probes.new ≤ probes.old + d }
 {
-    for (test, target) in dfa.test_edges(state) {
-        if test.contains_u32(value) {
-            return *target;
+    match target_of(dfa.test_edges(state), value, probes) {
+        Some(target) => target,
+        None => dfa.state(state).other_edge(),
+    }
+}
+
+// Where the edge leads whose range holds the value. The edges ascend, so each probe leaves less than half of them.
+fn target_of(
+    edges: &[(Test, DfaStateIndex)],
+    value: u32,
+    probes: &mut Steps,
+) -> Option<DfaStateIndex>
+    requires { AreAscendingTests edges.now }
+    ensures found { IfSome result (λ target.
+        (t : Range × ℕ) × (Contains edges.now t × Covers t.0 value × (t.1 ≡ target))) }
+    ensures none { IfNone result ((t : Range × ℕ) → Contains edges.now t → ¬ Covers t.0 value) }
+    ensures never_falls { probes.old ≤ probes.new }
+    ensures probed { (d : ℕ) → length edges.now < 2 ^ d → probes.new ≤ probes.old + d }
+{
+    let mut first = 0;
+    let mut end = edges.len();
+    while first < end {
+        let middle = first + (end - first) / 2;
+        let (test, target) = &edges[middle];
+        probes.tick();
+        if value < test.start() {
+            end = middle;
+        } else if test.end() < value {
+            first = middle + 1;
+        } else {
+            return Some(*target);
         }
     }
-    dfa.state(state).other_edge()
+    None
 }

@@ -12,6 +12,7 @@ mod error;
 pub mod interpret;
 mod items;
 mod labels;
+mod rows;
 
 ghost use Rattle.std.specs.Prelude.{◌≡◌, ◌<◌, length, slice_get, Some, IsSomeAnd};
 
@@ -21,6 +22,7 @@ use items::ItemSet;
 pub use lalrpop_kernels as kernel_set;
 use lalrpop_ranges::Test;
 pub use lalrpop_ranges::overlap;
+use rows::Rows;
 use std::fmt;
 use std::marker::Model;
 
@@ -107,16 +109,18 @@ pub enum Kind {
 pub struct State {
     item_set: ItemSet,
     kind: Kind,
-    test_edges: Vec<(Test, DfaStateIndex)>,
+    // Of the automaton's test edges so many are the state's, from this place on.
+    first_edge: usize,
+    edge_count: usize,
     other_edge: DfaStateIndex,
 }
 
 impl Model for State {
-    ghost use Rattle.lalrpop_dfa.specs.Dfa.{Row};
+    ghost use Rattle.lalrpop_dfa.specs.Dfa.{StoredState};
 
-    ghost Value = { Row };
+    ghost Value = { StoredState };
 
-    ghost view = { λ s. record { kind = s.kind; tests = s.test_edges.items; other = s.other_edge; items = s.item_set } };
+    ghost view = { λ s. record { kind = s.kind; other = s.other_edge; items = s.item_set; first = s.first_edge; count = s.edge_count } };
 }
 
 impl State {
@@ -138,7 +142,7 @@ impl State {
 /// The automaton of a list of patterns. State 0 is START.
 #[derive(Debug, Drop)]
 pub struct Dfa {
-    states: Vec<State>,
+    rows: Rows,
 }
 
 impl Model for Dfa {
@@ -147,29 +151,29 @@ impl Model for Dfa {
 
     ghost Value = { List Row };
 
-    ghost view = { λ a. a.states.items };
+    ghost view = { λ a. a.rows };
 
-    ghost invariant = { λ a. IsWellFormed a.states.items };
+    ghost invariant = { λ a. IsWellFormed a.rows };
 }
 
 impl Dfa {
-    ghost use Rattle.lalrpop_dfa.specs.Dfa.{IsWellFormed};
+    ghost use Rattle.lalrpop_dfa.specs.Dfa.{IsStored, AreStored, IsWellFormed};
 
     /// The states in the order of their numbers.
     pub fn states(&self) -> &[State]
-        ensures states { result.now ≡ self.now }
+        ensures states { AreStored self.now result.now }
         ensures well_formed { IsWellFormed self.now }
     {
-        self.states.as_slice()
+        self.rows.states()
     }
 
     /// The state with this number.
     pub fn state(&self, index: DfaStateIndex) -> &State
         requires within { index < length self.now }
-        ensures at { slice_get self.now index ≡ Some result.now }
+        ensures at { IsSomeAnd (slice_get self.now index) (λ r. IsStored r result.now) }
         ensures well_formed { IsWellFormed self.now }
     {
-        &self.states[index.0]
+        self.rows.state(index)
     }
 
     /// The test edges of the state with this number, ascending.
@@ -178,7 +182,6 @@ impl Dfa {
         ensures tests { IsSomeAnd (slice_get self.now index) (λ r. result.now ≡ r.tests) }
         ensures well_formed { IsWellFormed self.now }
     {
-        let state = self.state(index);
-        &state.test_edges
+        self.rows.test_edges(index)
     }
 }

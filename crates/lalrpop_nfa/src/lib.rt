@@ -5,7 +5,6 @@ mod build;
 mod edge;
 mod error;
 pub mod interpret;
-mod steps;
 
 ghost use Rattle.std.specs.Prelude.{◌≡◌, ◌≢◌, ◌↔◌, ◌<◌, ◌++◌, ◌∷◌, [], Some, None, IfOk, IfErr, IsTrue};
 ghost use Rattle.std.specs.List.{filter};
@@ -17,10 +16,9 @@ pub use edge::{
 };
 pub use error::NfaConstructionError;
 use lalrpop_hir::Regex;
-pub use lalrpop_ranges::Test;
+pub use lalrpop_ranges::{Steps, Test};
 use std::alloc::{AllocError, Global};
 use std::marker::Model;
-pub use steps::Steps;
 
 /// The state in which a word is matched.
 pub const ACCEPT: NfaStateIndex = NfaStateIndex(0);

@@ -305,3 +305,13 @@ swept_blocks rs starts ends blocks i j from h l = swept_all rs ends blocks from 
 pub swept_count : (rs : List Range) (starts ends : List ℕ) (blocks : List Range) (i j from : ℕ) → Swept rs starts ends blocks i j from → length blocks ≤ 2 * count_by has_value rs - 1
 swept_count rs starts ends blocks i j from h =
     omega (arith, h.count, h.starts_split.within, h.ends_split.within, sort_length (λ (x : Range). x.start) rs starts h.starts_sorted, sort_length (λ (x : Range). x.end) rs ends h.ends_sorted)
+
+-- so many starts and ends are taken up, at most two for each range that contains some value
+pub swept_spent : (rs : List Range) (starts ends : List ℕ) (blocks : List Range) (i j from : ℕ) → Swept rs starts ends blocks i j from → i + j ≤ 2 * count_by has_value rs
+swept_spent rs starts ends blocks i j from h =
+    omega (arith, h.starts_split.within, h.ends_split.within, sort_length (λ (x : Range). x.start) rs starts h.starts_sorted, sort_length (λ (x : Range). x.end) rs ends h.ends_sorted)
+
+-- and one less where an end is left
+pub swept_spent_before : (rs : List Range) (starts ends : List ℕ) (blocks : List Range) (i j from : ℕ) → Swept rs starts ends blocks i j from → j < length ends → i + j + 1 ≤ 2 * count_by has_value rs
+swept_spent_before rs starts ends blocks i j from h l =
+    omega (arith, l, h.starts_split.within, sort_length (λ (x : Range). x.start) rs starts h.starts_sorted, sort_length (λ (x : Range). x.end) rs ends h.ends_sorted)

@@ -5,7 +5,7 @@ ghost use Rattle.std.specs.List.{Contains, count_by};
 ghost use Rattle.lalrpop_ranges.specs.Partition.{IsPartition, has_value};
 ghost use Rattle.lalrpop_ranges.specs.Internal.Sweep.{starts_of, ends_of};
 
-use crate::Test;
+use crate::{Steps, Test};
 use std::alloc::{AllocError, Global};
 use std::collections::BTreeSet;
 
@@ -18,6 +18,23 @@ pub fn remove_overlap(alloc: Global, ranges: &BTreeSet<Test>) -> Result<Vec<Test
         IsPartition (Contains ranges.now.keys) blocks.items) }
     ensures count { IfOk result (λ blocks.
         length blocks.items ≤ 2 * count_by has_value ranges.now.keys - 1) }
+{
+    remove_overlap_counted(alloc, ranges, &mut Steps::new())
+}
+
+/// The same answer. A step is counted for each start and each end that is taken up: at most two for each range that
+/// contains some value, whatever the answer is.
+pub fn remove_overlap_counted(
+    alloc: Global,
+    ranges: &BTreeSet<Test>,
+    steps: &mut Steps,
+) -> Result<Vec<Test>, AllocError>
+    ensures partition { IfOk result (λ blocks.
+        IsPartition (Contains ranges.now.keys) blocks.items) }
+    ensures count { IfOk result (λ blocks.
+        length blocks.items ≤ 2 * count_by has_value ranges.now.keys - 1) }
+    ensures never_falls { steps.old ≤ steps.new }
+    ensures cost { steps.new ≤ steps.old + 2 * count_by has_value ranges.now.keys }
 {
     let Ends {
         mut starts,
@@ -32,6 +49,7 @@ pub fn remove_overlap(alloc: Global, ranges: &BTreeSet<Test>) -> Result<Vec<Test
     let mut begun = 0;
     let mut ended = 0;
     while ended < ends.len() {
+        steps.tick();
         let (cut, is_start) = next_cut(&starts, &ends, begun, ended);
         if from < cut && ended < begun {
             blocks.push(Test::new(from as u32..=(cut - 1) as u32))?;

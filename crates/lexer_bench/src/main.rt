@@ -1,189 +1,187 @@
-//! A benchmark: builds the automaton of a hundred keywords, fourteen operators and a name of Unicode-sized classes, and
-//! writes for a few texts which of the 115 terminals matches the longest prefix, and of how many bytes it is.
+//! A benchmark: builds the automaton of a list of terminals, and cuts a text of 5 MB by it, as its arguments say. It
+//! writes what it found, so that two builds can be compared, and the processor time that it took.
 #![tactic(auto)]
 
-use lalrpop_hir::{Class, ClassUnicode, ClassUnicodeRange, Hir, Repetition};
+mod keywords;
+mod lists;
+mod texts;
+
 use lalrpop_lexer::lexer::dfa::interpret::interpret;
-use lalrpop_lexer::lexer::dfa::{Dfa, DfaConstructionError, Precedence, build_dfa};
-use lalrpop_lexer::lexer::re::Regex;
+use lalrpop_lexer::lexer::dfa::{Dfa, DfaStateIndex, Kind, START, State, build_dfa};
+use lalrpop_lexer::lexer::nfa::Test;
+use lists::list_named;
 use std::alloc::{AllocError, Global};
-use std::io;
+use std::rt::Env;
+use std::time::{CpuClock, Duration};
+use std::{env, io};
+use texts::{c_text, unicode_text};
 
-const KEYWORDS: [&str; 100] = [
-    "abstract",
-    "and",
-    "as",
-    "assert",
-    "async",
-    "await",
-    "become",
-    "box",
-    "break",
-    "case",
-    "catch",
-    "char",
-    "class",
-    "const",
-    "continue",
-    "crate",
-    "def",
-    "default",
-    "del",
-    "delete",
-    "do",
-    "double",
-    "dyn",
-    "elif",
-    "else",
-    "enum",
-    "except",
-    "export",
-    "extends",
-    "extern",
-    "false",
-    "final",
-    "finally",
-    "float",
-    "fn",
-    "for",
-    "from",
-    "global",
-    "goto",
-    "if",
-    "impl",
-    "implements",
-    "import",
-    "in",
-    "int",
-    "interface",
-    "is",
-    "lambda",
-    "let",
-    "long",
-    "loop",
-    "macro",
-    "match",
-    "mod",
-    "move",
-    "mut",
-    "native",
-    "new",
-    "nonlocal",
-    "not",
-    "null",
-    "or",
-    "override",
-    "package",
-    "pass",
-    "priv",
-    "private",
-    "protected",
-    "pub",
-    "public",
-    "raise",
-    "ref",
-    "register",
-    "return",
-    "self",
-    "short",
-    "signed",
-    "sizeof",
-    "static",
-    "struct",
-    "super",
-    "switch",
-    "template",
-    "this",
-    "throw",
-    "throws",
-    "trait",
-    "true",
-    "try",
-    "type",
-    "typedef",
-    "union",
-    "unsafe",
-    "unsigned",
-    "use",
-    "using",
-    "void",
-    "where",
-    "while",
-    "yield",
+const LISTS: [&str; 7] = [
+    "c",
+    "unicode",
+    "words 100",
+    "words 1000",
+    "words 1000 and a name",
+    "window",
+    "up to 300",
 ];
 
-const OPERATORS: [&str; 14] = [
-    "+", "-", "*", "/", "%", "=", "==", "!=", "<", "<=", ">", ">=", "&&", "||",
-];
-
-const TEXTS: [&str; 8] = [
-    "while (true)",
-    "whilst",
-    "as",
-    "ass",
-    ">>=",
-    ">=1",
-    "été_7 = 7",
-    "7",
-];
-
-// A keyword is a name too, and wins.
-const STRONG: Precedence = Precedence(1);
-
-const WEAK: Precedence = Precedence(0);
-
-// As many ranges as `\w` has, or a few more: ASCII's letters and the underscore, and 749 blocks of 45 characters that
-// lie 60 apart, from U+00C0 on. The digits are members where a name goes on.
-fn class(alloc: Global, with_digits: bool) -> Result<Hir, AllocError> {
-    let mut ranges = Vec::new(alloc);
-    for (start, end) in &[('a', 'z'), ('A', 'Z'), ('_', '_')] {
-        ranges.push(ClassUnicodeRange::new(*start, *end))?;
-    }
-    if with_digits {
-        ranges.push(ClassUnicodeRange::new('0', '9'))?;
-    }
-    for block in 0..749u32 {
-        let start = 0xC0 + 60 * block;
-        if let (Some(start), Some(end)) = (char::from_u32(start), char::from_u32(start + 44)) {
-            ranges.push(ClassUnicodeRange::new(start, end))?;
-        }
-    }
-    Ok(Hir::class(Class::Unicode(ClassUnicode::new(alloc, ranges)?)))
+/// What one cut of a text found.
+#[derive(Clone, Copy)]
+struct Cut {
+    tokens: u64,
+    skipped: u64,
+    // Of the places and the terminals of the tokens.
+    sum: u64,
 }
 
-// A letter, and letters and digits after it.
-fn name(alloc: Global) -> Result<Regex, AllocError> {
-    let more = Repetition::new(0, None, true, Box::new(alloc, class(alloc, true)?)?);
-    let mut parts = Vec::new(alloc);
-    parts.push(class(alloc, false)?)?;
-    parts.push(Hir::repetition(more))?;
-    Ok(Hir::concat(parts))
+// What stands behind the first bytes of the text.
+fn behind(text: &str, length: usize) -> &str {
+    text.get(length..).unwrap_or("")
 }
 
-fn build(alloc: Global) -> Result<Dfa, DfaConstructionError> {
-    let mut patterns = Vec::new(alloc);
-    for word in KEYWORDS.iter().chain(OPERATORS.iter()) {
-        patterns.push(Hir::literal(alloc, *word)?)?;
-    }
-    let mut precedences = vec![in alloc; STRONG; patterns.len()]?;
-    patterns.push(name(alloc)?)?;
-    precedences.push(WEAK)?;
-    build_dfa(alloc, &patterns, &precedences)
-}
-
-fn main(rt: HostRuntime) -> io::Result<()> {
-    let Ok(dfa) = build(rt.alloc()) else {
-        return eprintln!(rt; "no automaton");
+fn cut_all(dfa: &Dfa, text: &str) -> Cut {
+    let mut cut = Cut {
+        tokens: 0,
+        skipped: 0,
+        sum: 0,
     };
-    for text in &TEXTS {
-        match interpret(&dfa, *text) {
-            None => println!(rt; "{text}: none")?,
-            Some((index, word)) => {
-                let terminal = index.index();
-                let bytes = word.len();
-                println!(rt; "{text}: {terminal}, {bytes} bytes")?;
+    let mut rest = text;
+    for _ in 0..text.len() {
+        let Some(first) = rest.chars().next() else {
+            break;
+        };
+        rest = match interpret(dfa, rest) {
+            Some((terminal, word)) => {
+                cut.tokens = cut.tokens.wrapping_add(1);
+                cut.sum = cut
+                    .sum
+                    .wrapping_mul(31)
+                    .wrapping_add(terminal.index() as u64)
+                    .wrapping_add((word.len() as u64) << 32);
+                behind(rest, word.len())
+            }
+            None => {
+                cut.skipped = cut.skipped.wrapping_add(1);
+                behind(rest, first.len_utf8())
+            }
+        };
+    }
+    cut
+}
+
+fn tell(rt: &impl Print, what: &str, spent: Duration) -> io::Result<()> {
+    let whole = spent.as_secs();
+    let micros = spent.subsec_micros();
+    println!(rt; "  {what}: {whole}.{micros:06} s")
+}
+
+fn tell_cut<R: CpuClock + Print>(rt: &R, dfa: &Dfa, text: &str) -> io::Result<()> {
+    let from = rt.process_cpu_time()?;
+    let cut = cut_all(dfa, text);
+    let spent = rt.process_cpu_time()?.saturating_sub(from);
+    let Cut {
+        tokens,
+        skipped,
+        sum,
+    } = cut;
+    println!(rt; "  {tokens} tokens, {skipped} characters skipped, sum {sum:x}")?;
+    tell(rt, "cut", spent)
+}
+
+/// What an automaton is made of.
+#[derive(Clone, Copy)]
+struct Shape {
+    edges: usize,
+    // Of all numbers in it.
+    sum: u64,
+}
+
+impl Shape {
+    fn add(&mut self, number: u64) {
+        self.sum = self.sum.wrapping_mul(31).wrapping_add(number);
+    }
+
+    fn add_state(&mut self, state: &State) {
+        self.add(match state.kind() {
+            Kind::Accepts(terminal) => (terminal.index() as u64).wrapping_add(2),
+            Kind::Reject => 0,
+            Kind::Neither => 1,
+        });
+        self.add(state.other_edge().index() as u64);
+    }
+
+    fn add_edge(&mut self, label: &Test, target: DfaStateIndex) {
+        self.edges = self.edges.wrapping_add(1);
+        self.add(u64::from(label.start()));
+        self.add(u64::from(label.end()));
+        self.add(target.index() as u64);
+    }
+}
+
+// The states in the order in which test edges first lead to them.
+fn shape_of(alloc: Global, dfa: &Dfa) -> Result<Shape, AllocError> {
+    let count = dfa.states().len();
+    let mut shape = Shape { edges: 0, sum: 0 };
+    let mut seen = vec![in alloc; false; count]?;
+    let mut order = Vec::new(alloc);
+    order.push(START)?;
+    for place in 0..count {
+        let Some(index) = order.get(place) else {
+            break;
+        };
+        let index = *index;
+        if index.index() >= count {
+            break;
+        }
+        shape.add_state(dfa.state(index));
+        for (label, target) in dfa.test_edges(index) {
+            shape.add_edge(label, *target);
+            if let Some(seen) = seen.get_mut(target.index()) {
+                if !*seen && target.index() != 0 {
+                    *seen = true;
+                    order.push(*target)?;
+                }
             }
         }
     }
-    Ok(())
+    Ok(shape)
+}
+
+fn tell_list<R: CpuClock + Print + AllocGlobal>(rt: &R, name: &str) -> io::Result<()> {
+    let alloc = rt.alloc();
+    println!(rt; "{name}")?;
+    let Ok(Some(list)) = list_named(alloc, name) else {
+        return println!(rt; "  no such list");
+    };
+    if list.patterns.len() != list.precedences.len() {
+        return Ok(());
+    }
+    let from = rt.process_cpu_time()?;
+    let Ok(dfa) = build_dfa(alloc, &list.patterns, &list.precedences) else {
+        return println!(rt; "  no automaton");
+    };
+    let spent = rt.process_cpu_time()?.saturating_sub(from);
+    let states = dfa.states().len();
+    let Shape { edges, sum } = shape_of(alloc, &dfa)?;
+    println!(rt; "  {states} states, {edges} edges, sum {sum:x}")?;
+    tell(rt, "build", spent)?;
+    match name {
+        "c" => tell_cut(rt, &dfa, &c_text(alloc)?),
+        "unicode" => tell_cut(rt, &dfa, &unicode_text(alloc)?),
+        _ => Ok(()),
+    }
+}
+
+fn main(rt: HostRuntime) -> io::Result<()> {
+    let name = env::args(&rt)?.nth(1);
+    match name {
+        Some(name) => tell_list(&rt, &name),
+        None => {
+            for name in &LISTS {
+                tell_list(&rt, name)?;
+            }
+            Ok(())
+        }
+    }
 }

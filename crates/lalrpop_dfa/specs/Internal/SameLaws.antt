@@ -3,7 +3,7 @@ use Rattle.std.specs.Prelude.{◌≡◌, ℕ, true, refl}
 use Rattle.std.specs.Cmp.{IsEquivalence}
 use Rattle.std.proofs.lemmas.Cmp.{and_equiv, on_equiv, lists_equiv, nat_eq_equiv}
 use Rattle.lalrpop_hir.specs.Range.{Range}
-use Rattle.lalrpop_dfa.specs.Dfa.{Row}
+use Rattle.lalrpop_dfa.specs.Dfa.{Row, StoredState, bare}
 use Rattle.lalrpop_dfa.specs.SameAutomata.{same_kind, same_test, same_state, same_row, same_automaton}
 use Rattle.lalrpop_dfa.specs.declared.Kind.{Kind}
 use Rattle.lalrpop_dfa.specs.declared.Kind.TheVariants.{Accepts, Reject, Neither}
@@ -42,6 +42,10 @@ kind_equiv = record { refl = kind_itself; symm = kind_back; congr = kind_along }
 
 pub state_equiv : IsEquivalence same_state
 state_equiv = and_equiv (on_equiv (λ (r : Row). r.kind) kind_equiv) (on_equiv (λ (r : Row). r.other) nat_eq_equiv)
+
+-- the same of states as automata keep them
+pub stored_equiv : IsEquivalence (λ (s t : StoredState). same_state (bare s) (bare t))
+stored_equiv = on_equiv bare state_equiv
 
 test_equiv : IsEquivalence same_test
 test_equiv = and_equiv

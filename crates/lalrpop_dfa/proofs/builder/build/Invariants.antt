@@ -5,9 +5,9 @@ use Rattle.lalrpop_dfa.proofs.builder.build.Given as goal
 
 abbrev pub invariant-loop-table : goal.invariant-loop-table
 invariant-loop-table l = record {
-  built : IsBuiltTo l.nfas (map (λ p. p.0) l.precedences) l.table.kernels.list l.table.origins.items l.table.states.items (length l.table.states.items);
-  place : l.table.kernels.place ≡ length l.table.states.items;
+  built : IsBuiltTo l.nfas (map (λ p. p.0) l.precedences) l.table.kernels.list l.table.origins.items l.table.rows (length l.table.rows);
+  place : l.table.kernels.place ≡ length l.table.rows;
 }
 
 abbrev pub decreases-loop-table : goal.decreases-loop-table
-decreases-loop-table l = 2 ^ length (all_items l.nfas) - length l.table.states.items
+decreases-loop-table l = 2 ^ length (all_items l.nfas) - length l.table.rows

@@ -1,32 +1,29 @@
-use Rattle.std.proofs.Common.{refl, sym, ◌∙◌, ap}
-use Rattle.lalrpop_dfa.specs.Dfa.{edge_target}
-use Rattle.lalrpop_dfa.proofs.EdgeTargets.{leads_here, leads_past, leads_done, tests_of, row_with, step_of, target_within}
+use Rattle.std.proofs.Common.{sym, ◌∙◌, ◌≡◌, ap, subst}
+use Rattle.std.specs.Prelude.{IfSome, IfNone}
+use Rattle.lalrpop_dfa.specs.Dfa.{AreAscendingTests, edge_target}
+use Rattle.lalrpop_dfa.proofs.EdgeTargets.{step_of, the_some, leads_found, leads_none, tests_of}
 use Rattle.lalrpop_dfa.proofs.interpret.step.Goals as goal
 
-pub loop-test-preserved : goal.loop-test-preserved
-loop-test-preserved c = λ other.
-    c.loop-test.invariant other
-    ∙ leads_past c.test_edges-test-items.result.now c.loop-test.test-index other c.args.value c.loop-test-item.result c.loop-test-test.true c.loop-test-item.is
-    (λ h. cc (c.if-contains_u32.ensures.answer.1 h))
+pub returns-in-Some-clause-leads : goal.returns-in-Some-clause-leads
+returns-in-Some-clause-leads c =
+    let ts = c.test_edges.result.now in
+    let row = the_some _ _ c.test_edges.ensures.tests in
+    let up : AreAscendingTests ts = subst AreAscendingTests (sym row.1.1) (c.test_edges.ensures.well_formed.ascending c.args.state row.0 row.1.0) in
+    let t = c.in-Some.ensures.found in
+    sym (step_of c.args.dfa.now c.args.state c.args.value row.0 row.1.0 ∙ ap (λ us. edge_target us row.0.other c.args.value) (sym row.1.1)
+    ∙ leads_found ts up row.0.other c.args.value t.0 t.1.0 t.1.1 ∙ t.1.2)
 
-pub returns-then-contains_u32-clause-leads : goal.returns-then-contains_u32-clause-leads
-returns-then-contains_u32-clause-leads c =
-    let row = row_with c.args.dfa.now c.args.state c.test_edges-test-items.result.now c.test_edges-test-items.ensures.tests in
+pub returns-in-Some-clause-within : goal.returns-in-Some-clause-within
+returns-in-Some-clause-within c =
+    let row = the_some _ _ c.test_edges.ensures.tests in
+    let t = c.in-Some.ensures.found in
+    rw (← t.1.2) (c.test_edges.ensures.well_formed.tests_in c.args.state row.0 t.0 row.1.0 (rw row.1.1 at t.1.0))
+
+pub returns-in-None-clause-leads : goal.returns-in-None-clause-leads
+returns-in-None-clause-leads c =
+    let ts = c.test_edges.result.now in
+    let row = the_some _ _ c.state.ensures.at in
     let r = row.0 in
-    sym (step_of c.args.dfa.now c.args.state c.args.value r row.1.0 ∙ ap (λ us. edge_target us r.other c.args.value) (sym row.1.1) ∙ c.loop-test.invariant r.other
-    ∙ leads_here c.test_edges-test-items.result.now c.loop-test.test-index r.other c.args.value c.loop-test-item.result c.loop-test-test.true c.loop-test-item.is (c.if-contains_u32.ensures.answer.0 refl))
-
-pub returns-then-contains_u32-clause-within : goal.returns-then-contains_u32-clause-within
-returns-then-contains_u32-clause-within c =
-    let row = row_with c.args.dfa.now c.args.state c.test_edges-test-items.result.now c.test_edges-test-items.ensures.tests in
-    target_within c.args.dfa.now c.args.state c.loop-test.test-index row.0 c.test_edges-test-items.result.now c.loop-test-item.result c.test_edges-test-items.ensures.well_formed row.1.0 row.1.1 c.loop-test-test.true c.loop-test-item.is
-
-pub returns-clause-leads : goal.returns-clause-leads
-returns-clause-leads c =
-    let r = c.state.result.now in
-    let ts = tests_of c.args.dfa.now c.args.state r c.test_edges-test-items.result.now c.state.ensures.at c.test_edges-test-items.ensures.tests in
-    c.other_edge.ensures.other ∙ sym (step_of c.args.dfa.now c.args.state c.args.value r c.state.ensures.at ∙ ap (λ us. edge_target us r.other c.args.value) (sym ts) ∙ c.loop-test.invariant r.other
-    ∙ leads_done c.test_edges-test-items.result.now c.loop-test.test-index r.other c.args.value c.loop-test-test.false)
-
-pub returns-clause-within : goal.returns-clause-within
-returns-clause-within c = rw c.other_edge.ensures.other (c.state.ensures.well_formed.others_in c.args.state c.state.result.now c.state.ensures.at)
+    let same : ts ≡ r.tests = tests_of c.args.dfa.now c.args.state r ts row.1.0 c.test_edges.ensures.tests in
+    c.other_edge.ensures.other ∙ row.1.1.other
+    ∙ sym (step_of c.args.dfa.now c.args.state c.args.value r row.1.0 ∙ ap (λ us. edge_target us r.other c.args.value) (sym same) ∙ leads_none ts r.other c.args.value c.in-None.ensures.none)

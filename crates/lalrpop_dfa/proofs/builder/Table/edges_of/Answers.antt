@@ -38,7 +38,7 @@ loop-block-preserved c =
       rest = next.1 ∙ ap (λ n. drop n blocks) (sym more);
       known = c.in_ok-target.ensures.known;
       place = c.in_ok-target.ensures.place ∙ c.loop-block.invariant.place;
-      states = c.in_ok-target.ensures.states ∙ c.loop-block.invariant.states;
+      rows = c.in_ok-target.ensures.rows ∙ c.loop-block.invariant.rows;
     }
 
 pub returns-clause-edged : goal.returns-clause-edged

@@ -10,5 +10,5 @@ invariant-loop-block l = record {
   rest : l.block-iterator.rest.items ≡ drop (length l.tests.items) l.initial.block-iterator.rest.items;
   known : AreKnown l.nfas l.fn.set l.known l.self.kernels.list;
   place : l.self.kernels.place ≡ l.fn.self.kernels.place;
-  states : l.self.states.items ≡ l.fn.self.states.items;
+  rows : l.self.rows ≡ l.fn.self.rows;
 }

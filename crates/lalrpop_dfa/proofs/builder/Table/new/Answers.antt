@@ -19,5 +19,5 @@ returns c =
       first.0 ∙ ap (λ s. s ∷ []) (c.in_ok-first.ensures ∙ ap (closed c.args.nfas.now) starts),
       first.1,
       c.in_ok-push.ensures.items ∙ (ap (λ ys. ys ++ c.new.result ∷ []) c.new-origins.ensures.items ∙ ap (λ o. o ∷ []) c.new.ensures),
-      c.new-2.ensures.items,
+      c.new-2.ensures,
     )

@@ -12,10 +12,10 @@ use denote.RattleType.{Valss}
 use denote.Steps.{nothing}
 use denote.Struct.Struct.{within}
 use denote.Triple.Walked.{Stays, walk_of, says, ends_at}
-use Rattle.lalrpop_nfa.specs.contracts.steps.Tally as Tally
-use Rattle.lalrpop_nfa.specs.contracts.steps.Tally.new as f
-use Rattle.lalrpop_nfa.proofs.steps.Tally.new.Statement.{statement}
-use Rattle.lalrpop_nfa.proofs.steps.Tally.new.Code as code
+use Rattle.lalrpop_ranges.specs.contracts.steps.Tally as Tally
+use Rattle.lalrpop_ranges.specs.contracts.steps.Tally.new as f
+use Rattle.lalrpop_ranges.proofs.steps.Tally.new.Statement.{statement}
+use Rattle.lalrpop_ranges.proofs.steps.Tally.new.Code as code
 
 abbrev stayed : Stays f.ended.signature.params f.ended.kept
 stayed = tt

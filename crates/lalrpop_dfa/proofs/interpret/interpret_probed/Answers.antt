@@ -6,8 +6,9 @@ use Rattle.std.proofs.lemmas.Str.{chars-nil, len_utf8_bounds, length-encode, IsC
 use Rattle.lalrpop_dfa.specs.Dfa.{step}
 use Rattle.lalrpop_dfa.specs.declared.Kind.TheVariants.{Accepts, Reject, Neither}
 use Rattle.lalrpop_dfa.proofs.LongestLemmas.{after_start, after_more, says_of, reject_at, longest_start, longest_accept, part_accept, longest_pass, longest_end, longest_stop}
+use Rattle.lalrpop_dfa.proofs.EdgeTargets.{the_some, probed_turn, probed_end}
 use Rattle.lalrpop_nfa.proofs.Cuts.{cut_start, cut_within, cut_more, count_more, count_within}
-use Rattle.lalrpop_dfa.proofs.interpret.interpret_counted.Goals as goal
+use Rattle.lalrpop_dfa.proofs.interpret.interpret_probed.Goals as goal
 
 pub loop-offset-init : goal.loop-offset-init
 loop-offset-init c =
@@ -20,6 +21,8 @@ loop-offset-init c =
       best = λ ts ps h. longest_start ts ps c.args.input.now;
       prefix = tt;
       cost = let none : length (chars []) ≡ 0 = ap length chars-nil in omega arith;
+      never_falls = omega arith;
+      probed = λ n d h l. omega arith;
     }
 
 pub range-requires-clause-end_boundary : goal.range-requires-clause-end_boundary
@@ -39,6 +42,7 @@ loop-offset-preserved-in-Accepts c =
     let rest2 = char_indices_rest c.next.new.self in
     let s = c.in-Some.ensures.steps in
     let cut = cut_more text rest rest2 at at2 c.in-Some.c c.utf8.input c.loop-offset.invariant.cut s.1 s.2 in
+    let row = the_some _ _ c.state.ensures.at in
     let leads : c.step-state.result ≡ step c.args.dfa.now c.loop-offset.state c.in-Some.c = c.step-state.ensures.leads ∙ ap (step c.args.dfa.now c.loop-offset.state) c.from.ensures in
     let after = after_more c.args.dfa.now text rest rest2 at at2 c.in-Some.c c.loop-offset.state c.step-state.result c.loop-offset.invariant.cut s.1 s.2 c.loop-offset.invariant.after leads c.step-state.ensures.within in
     let some : 0 < at2 = omega (arith, s.2, length-encode c.in-Some.c, len_utf8_bounds c.in-Some.c) in
@@ -49,9 +53,11 @@ loop-offset-preserved-in-Accepts c =
       after = after;
       best = λ ts ps h.
           longest_accept ts ps text rest2 at2 c.in-Accepts.index c.range.result.now cut some is
-          (says_of c.args.dfa.now ts ps (chars (take at2 text)) c.step-state.result c.state.result.now c.kind.result.now (Accepts c.in-Accepts.index) h after.reached c.state.ensures.at c.kind.ensures.kind c.in-Accepts.is);
+          (says_of c.args.dfa.now ts ps (chars (take at2 text)) c.step-state.result row.0 c.kind.result.now (Accepts c.in-Accepts.index) h after.reached row.1.0 (c.kind.ensures.kind ∙ row.1.1.kind) c.in-Accepts.is);
       prefix = part_accept text rest2 at2 c.range.result.now cut some is;
       cost = let more = count_more text rest rest2 at at2 c.in-Some.c c.loop-offset.invariant.cut s.1 s.2 in omega arith;
+      never_falls = omega (arith, c.loop-offset.invariant.never_falls, c.step-state.ensures.never_falls);
+      probed = λ n d h l. probed_turn _ _ _ _ _ d (c.loop-offset.invariant.probed n d h l) (c.step-state.ensures.probed n d h l) (count_more text rest rest2 at at2 c.in-Some.c c.loop-offset.invariant.cut s.1 s.2);
     }
 
 pub loop-offset-preserved : goal.loop-offset-preserved
@@ -63,6 +69,7 @@ loop-offset-preserved c =
     let rest2 = char_indices_rest c.next.new.self in
     let s = c.in-Some.ensures.steps in
     let cut = cut_more text rest rest2 at at2 c.in-Some.c c.utf8.input c.loop-offset.invariant.cut s.1 s.2 in
+    let row = the_some _ _ c.state.ensures.at in
     let leads : c.step-state.result ≡ step c.args.dfa.now c.loop-offset.state c.in-Some.c = c.step-state.ensures.leads ∙ ap (step c.args.dfa.now c.loop-offset.state) c.from.ensures in
     let after = after_more c.args.dfa.now text rest rest2 at at2 c.in-Some.c c.loop-offset.state c.step-state.result c.loop-offset.invariant.cut s.1 s.2 c.loop-offset.invariant.after leads c.step-state.ensures.within in
     record {
@@ -70,10 +77,12 @@ loop-offset-preserved c =
       after = after;
       best = λ ts ps h.
           longest_pass ts ps text rest rest2 at at2 c.in-Some.c (option_map (λ m. (m.0, m.1.now)) c.loop-offset.longest) c.loop-offset.invariant.cut s.1 s.2
-          (says_of c.args.dfa.now ts ps (chars (take at2 text)) c.step-state.result c.state.result.now c.kind.result.now Neither h after.reached c.state.ensures.at c.kind.ensures.kind c.in-Neither.is)
+          (says_of c.args.dfa.now ts ps (chars (take at2 text)) c.step-state.result row.0 c.kind.result.now Neither h after.reached row.1.0 (c.kind.ensures.kind ∙ row.1.1.kind) c.in-Neither.is)
           (c.loop-offset.invariant.best ts ps h);
       prefix = c.loop-offset.invariant.prefix;
       cost = let more = count_more text rest rest2 at at2 c.in-Some.c c.loop-offset.invariant.cut s.1 s.2 in omega arith;
+      never_falls = omega (arith, c.loop-offset.invariant.never_falls, c.step-state.ensures.never_falls);
+      probed = λ n d h l. probed_turn _ _ _ _ _ d (c.loop-offset.invariant.probed n d h l) (c.step-state.ensures.probed n d h l) (count_more text rest rest2 at at2 c.in-Some.c c.loop-offset.invariant.cut s.1 s.2);
     }
 
 pub returns-in-Reject-clause-answer : goal.returns-in-Reject-clause-answer
@@ -85,13 +94,14 @@ returns-in-Reject-clause-answer c = λ ts ps h.
     let rest2 = char_indices_rest c.next.new.self in
     let s = c.in-Some.ensures.steps in
     let cut = cut_more text rest rest2 at at2 c.in-Some.c c.utf8.input c.loop-offset.invariant.cut s.1 s.2 in
+    let row = the_some _ _ c.state.ensures.at in
     let leads : c.step-state.result ≡ step c.args.dfa.now c.loop-offset.state c.in-Some.c = c.step-state.ensures.leads ∙ ap (step c.args.dfa.now c.loop-offset.state) c.from.ensures in
     let after = after_more c.args.dfa.now text rest rest2 at at2 c.in-Some.c c.loop-offset.state c.step-state.result c.loop-offset.invariant.cut s.1 s.2 c.loop-offset.invariant.after leads c.step-state.ensures.within in
     let best = option_map (λ m. (m.0, m.1.now)) c.loop-offset.longest in
     longest_stop c.args.dfa.now ts ps text rest2 at2 c.step-state.result best h cut after
-    (reject_at c.args.dfa.now c.step-state.result c.state.result.now c.kind.result.now c.state.ensures.at c.kind.ensures.kind c.in-Reject.is)
+    (reject_at c.args.dfa.now c.step-state.result row.0 c.kind.result.now row.1.0 (c.kind.ensures.kind ∙ row.1.1.kind) c.in-Reject.is)
     (longest_pass ts ps text rest rest2 at at2 c.in-Some.c best c.loop-offset.invariant.cut s.1 s.2
-    (says_of c.args.dfa.now ts ps (chars (take at2 text)) c.step-state.result c.state.result.now c.kind.result.now Reject h after.reached c.state.ensures.at c.kind.ensures.kind c.in-Reject.is)
+    (says_of c.args.dfa.now ts ps (chars (take at2 text)) c.step-state.result row.0 c.kind.result.now Reject h after.reached row.1.0 (c.kind.ensures.kind ∙ row.1.1.kind) c.in-Reject.is)
     (c.loop-offset.invariant.best ts ps h))
 
 pub returns-in-None-clause-answer : goal.returns-in-None-clause-answer
@@ -115,3 +125,24 @@ pub returns-in-None-clause-cost : goal.returns-in-None-clause-cost
 returns-in-None-clause-cost c =
     let within = count_within c.args.input.now (char_indices_rest c.loop-offset.offset-iterator) (char_indices_offset c.loop-offset.offset-iterator) c.loop-offset.invariant.cut in
     omega arith
+
+pub returns-in-Reject-clause-never_falls : goal.returns-in-Reject-clause-never_falls
+returns-in-Reject-clause-never_falls c = (omega (arith, c.loop-offset.invariant.cost), omega (arith, c.loop-offset.invariant.never_falls, c.step-state.ensures.never_falls))
+
+pub returns-in-Reject-clause-probed : goal.returns-in-Reject-clause-probed
+returns-in-Reject-clause-probed c = λ n d h l.
+    let at = char_indices_offset c.loop-offset.offset-iterator in
+    let at2 = char_indices_offset c.next.new.self in
+    let rest = char_indices_rest c.loop-offset.offset-iterator in
+    let rest2 = char_indices_rest c.next.new.self in
+    let s = c.in-Some.ensures.steps in
+    let cut = cut_more c.args.input.now rest rest2 at at2 c.in-Some.c c.utf8.input c.loop-offset.invariant.cut s.1 s.2 in
+    let more = count_more c.args.input.now rest rest2 at at2 c.in-Some.c c.loop-offset.invariant.cut s.1 s.2 in
+    probed_end _ _ _ _ d (probed_turn _ _ _ _ _ d (c.loop-offset.invariant.probed n d h l) (c.step-state.ensures.probed n d h l) more) (count_within c.args.input.now rest2 at2 cut)
+
+pub returns-in-None-clause-never_falls : goal.returns-in-None-clause-never_falls
+returns-in-None-clause-never_falls c = (omega (arith, c.loop-offset.invariant.cost), c.loop-offset.invariant.never_falls)
+
+pub returns-in-None-clause-probed : goal.returns-in-None-clause-probed
+returns-in-None-clause-probed c = λ n d h l.
+    probed_end _ _ _ _ d (c.loop-offset.invariant.probed n d h l) (count_within c.args.input.now (char_indices_rest c.loop-offset.offset-iterator) (char_indices_offset c.loop-offset.offset-iterator) c.loop-offset.invariant.cut)

@@ -12,10 +12,10 @@ use denote.Ref.{MutRef, mut_vals, mut_Tells}
 use denote.Signature.{plain}
 use denote.Steps.{nothing, opens, closes}
 use denote.Triple.Walked.{Stays, walk_of, says, stay_ref, Goes-ref, ends_at}
-use Rattle.lalrpop_nfa.specs.contracts.steps.Tally.{the_row as R}
-use Rattle.lalrpop_nfa.specs.contracts.steps.Tally.add_one as f
-use Rattle.lalrpop_nfa.proofs.steps.Tally.add_one.Statement.{statement}
-use Rattle.lalrpop_nfa.proofs.steps.Tally.add_one.Code as code
+use Rattle.lalrpop_ranges.specs.contracts.steps.Tally.{the_row as R}
+use Rattle.lalrpop_ranges.specs.contracts.steps.Tally.add_one as f
+use Rattle.lalrpop_ranges.proofs.steps.Tally.add_one.Statement.{statement}
+use Rattle.lalrpop_ranges.proofs.steps.Tally.add_one.Code as code
 
 abbrev stayed : Stays f.ended.signature.params f.ended.kept
 stayed = (stay_ref (0 ∷ []) tt (plain (λ _. R)), tt)

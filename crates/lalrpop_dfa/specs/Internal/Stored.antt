@@ -1,0 +1,15 @@
+-- States whose test edges stand in a list of all test edges.
+use Rattle.std.specs.Prelude.{◌≡◌, ℕ, ◌+◌, ◌≤◌, List, length, map, take, drop, slice_get, Some}
+use Rattle.lalrpop_hir.specs.Range.{Range}
+use Rattle.lalrpop_dfa.specs.Dfa.{Row, StoredState}
+
+-- the state with its test edges
+abbrev pub row_of : List (Range × ℕ) → StoredState → Row
+row_of edges s = record { kind = s.kind; tests = take s.count (drop s.first edges); other = s.other; items = s.items }
+
+abbrev pub rows_of : List (Range × ℕ) → List StoredState → List Row
+rows_of edges states = map (row_of edges) states
+
+-- the list is long enough for the edges of each state
+abbrev pub AreWithin : List (Range × ℕ) → List StoredState → Type 0
+AreWithin edges states = (p : ℕ) (s : StoredState) → slice_get states p ≡ Some s → s.first + s.count ≤ length edges

@@ -1,9 +1,0 @@
-use Rattle.std.proofs.Common.{◌+◌, ◌-◌, length}
-use Rattle.lalrpop_ranges.proofs.Sweep.{Swept}
-use Rattle.lalrpop_ranges.proofs.overlap.remove_overlap.Given as goal
-
-abbrev pub invariant-loop-ended : goal.invariant-loop-ended
-invariant-loop-ended l = Swept l.ranges.keys l.starts.items l.ends.items l.blocks.items l.begun l.ended l.from
-
-abbrev pub decreases-loop-ended : goal.decreases-loop-ended
-decreases-loop-ended l = (length l.starts.items - l.begun) + (length l.ends.items - l.ended)

@@ -1,0 +1,92 @@
+//! Texts to be cut.
+
+use crate::keywords::{C_KEYWORDS, C_OPERATORS, KEYWORDS};
+use std::alloc::{AllocError, Global};
+
+// How long a text is, in bytes, or a little longer.
+const LENGTH: usize = 5_000_000;
+
+const LETTERS: [&str; 16] = [
+    "a", "e", "i", "n", "o", "r", "s", "t", "_", "x", "count", "len", "ptr", "0", "7", "buffer",
+];
+
+const LETTERS_OF_THE_WORLD: [&str; 16] = [
+    "α", "λ", "ψ", "ж", "щ", "é", "ü", "名", "前", "変", "数", "a", "n", "_x", "ﬁ", "ß",
+];
+
+/// Numbers that look random, and are the same each time.
+#[derive(Drop)]
+struct Numbers {
+    state: u64,
+}
+
+impl Numbers {
+    fn below(&mut self, bound: usize) -> usize {
+        self.state = self
+            .state
+            .wrapping_mul(6_364_136_223_846_793_005)
+            .wrapping_add(1_442_695_040_888_963_407);
+        let number = (self.state >> 33) as usize;
+        if bound == 0 { 0 } else { number % bound }
+    }
+
+    fn one_of(&mut self, words: &[&'static str]) -> &'static str {
+        match words.get(self.below(words.len())) {
+            Some(word) => *word,
+            None => "",
+        }
+    }
+}
+
+fn push_name(numbers: &mut Numbers, letters: &[&'static str], text: &mut String) -> Result<(), AllocError> {
+    text.push_str("v")?;
+    for _ in 0..numbers.below(7) {
+        text.push_str(numbers.one_of(letters))?;
+    }
+    Ok(())
+}
+
+fn push_c_token(numbers: &mut Numbers, text: &mut String) -> Result<(), AllocError> {
+    match numbers.below(20) {
+        0..=3 => text.push_str(numbers.one_of(&C_KEYWORDS)),
+        4..=9 => push_name(numbers, &LETTERS, text),
+        10..=11 => text.push_str("42"),
+        12 => text.push_str("0x1fUL"),
+        13 => text.push_str("\"a text\\n\""),
+        14 => text.push_str("/* what it does, and why */"),
+        15 => text.push_str("\n        "),
+        _ => text.push_str(numbers.one_of(&C_OPERATORS)),
+    }
+}
+
+/// A text of the tokens of C, with blanks between them.
+pub fn c_text(alloc: Global) -> Result<String, AllocError> {
+    let mut numbers = Numbers { state: 1 };
+    let mut text = String::new(alloc);
+    for _ in 0..LENGTH {
+        if text.len() >= LENGTH {
+            break;
+        }
+        push_c_token(&mut numbers, &mut text)?;
+        text.push_str(" ")?;
+    }
+    Ok(text)
+}
+
+/// A text of keywords, and of names in the letters of many scripts.
+pub fn unicode_text(alloc: Global) -> Result<String, AllocError> {
+    let mut numbers = Numbers { state: 2 };
+    let mut text = String::new(alloc);
+    for _ in 0..LENGTH {
+        if text.len() >= LENGTH {
+            break;
+        }
+        match numbers.below(4) {
+            0 => text.push_str(numbers.one_of(&KEYWORDS))?,
+            1 => text.push_str("17")?,
+            _ => push_name(&mut numbers, &LETTERS_OF_THE_WORLD, &mut text)?,
+        }
+        text.push_str(" ")?;
+    }
+    Ok(text)
+}
