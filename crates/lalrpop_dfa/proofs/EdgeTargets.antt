@@ -1,11 +1,11 @@
 -- Where a value leads, found by halving the tests, which ascend.
-use Rattle.std.proofs.Common.{◌≡◌, ℕ, zero, suc, ◌+◌, ◌-◌, ◌*◌, ◌/◌, ◌^◌, ◌<◌, ◌≤◌, List, [], ◌∷◌, length, get_or, refl, sym, ap, ◌∙◌, ⊎_elim, subst, arith}
-use Rattle.std.specs.Prelude.{slice_get, Option, Some, None, IsSomeAnd}
+use Rattle.std.proofs.Common.{◌≡◌, ℕ, zero, suc, Bool, true, false, inl, inr, ◌+◌, ◌-◌, ◌*◌, ◌/◌, ◌^◌, ◌<◌, ◌≤◌, List, [], ◌∷◌, length, get_or, refl, sym, ap, ◌∙◌, ⊎_elim, subst, arith}
+use Rattle.std.specs.Prelude.{slice_get, Option, Some, None, IsSomeAnd, if◌then◌else◌}
 use Rattle.std.specs.List.{Contains}
 use Rattle.std.proofs.lemmas.Bool.{le-leb, lt-leb, cases_lt}
-use Rattle.std.proofs.lemmas.Option.{slice_get_within, slice_get-get_or}
+use Rattle.std.proofs.lemmas.Option.{slice_get_cases, slice_get_within, slice_get-get_or}
 use Rattle.lalrpop_hir.specs.Range.{Range, Covers}
-use Rattle.lalrpop_dfa.specs.Dfa.{Row, edge_target, step, AreAscendingTests}
+use Rattle.lalrpop_dfa.specs.Dfa.{Row, edge_target, step, AreAscendingTests, IsWellFormed}
 
 leads_first : (t : Range × ℕ) (ts : List (Range × ℕ)) (o c : ℕ) → Covers t.0 c → edge_target (t ∷ ts) o c ≡ t.1
 leads_first t ts o c h = rw (le-leb t.0.start c h.0, le-leb c t.0.end h.1)
@@ -152,3 +152,18 @@ the_some (Some x) P h = (x, (refl, h))
 
 pub tests_of : (d : List Row) (p : ℕ) (r : Row) (ts : List (Range × ℕ)) → slice_get d p ≡ Some r → IsSomeAnd (slice_get d p) (λ x. ts ≡ x.tests) → ts ≡ r.tests
 tests_of d p r ts e h = subst (λ o. IsSomeAnd o (λ x. ts ≡ x.tests)) e h
+
+if_below : (b : Bool) (x y n : ℕ) → x < n → y < n → (if b then x else y) < n
+if_below true x y n k l = k
+if_below false x y n k l = l
+
+target_below : (ts : List (Range × ℕ)) (o c n : ℕ) → o < n → ((t : Range × ℕ) → Contains ts t → t.1 < n) → edge_target ts o c < n
+target_below [] o c n l f = l
+target_below (t ∷ ts) o c n l f = if_below _ t.1 (edge_target ts o c) n (f t (0, omega arith, refl)) (target_below ts o c n l (λ u (k, m, e). f u (suc k, omega arith, e)))
+
+-- a value leads to a state
+pub step_within : (d : List Row) (p c : ℕ) → IsWellFormed d → p < length d → step d p c < length d
+step_within d p c h l = elim (slice_get_cases d p).1 [
+  | inl x ↦ rw (step_of d p c x.0 x.2) (target_below x.0.tests x.0.other c (length d) (h.others_in p x.0 x.2) (λ t m. h.tests_in p x.0 t x.2 m))
+  | inr past ↦ absurd (omega (arith, past.0))
+]

@@ -3,7 +3,7 @@
 ghost use Rattle.std.specs.Prelude.{◌≡◌, ◌+◌, ◌<◌, ◌≤◌, ◌++◌, ◌∷◌, [], List, length, map, slice_get, Some, IfOk, IfErr, OnOk};
 ghost use Rattle.lalrpop_hir.specs.Tree.{Tree};
 ghost use Rattle.lalrpop_dfa.specs.Internal.Ascending.{AreAscendingItems};
-ghost use Rattle.lalrpop_dfa.specs.Internal.Builder.{AreAutomata, AreItemsOf, AddedTo, AreKnown, IsEdged, IsBuiltTo, IsTieOf, IsClashOf};
+ghost use Rattle.lalrpop_dfa.specs.Internal.Builder.{AreAutomata, AreItemsOf, IsAdded, AreKnown, IsEdged, IsBuiltTo, IsTieOf, IsClashOf};
 ghost use Rattle.lalrpop_dfa.specs.Internal.Built.{subset_automaton};
 ghost use Rattle.lalrpop_dfa.specs.Clash.{NoClash};
 ghost use Rattle.lalrpop_dfa.specs.Counts.{state_bound};
@@ -24,11 +24,17 @@ use lalrpop_nfa::{Nfa, START};
 use std::alloc::{AllocError, Global};
 use std::collections::BTreeMap;
 
-// The sets of items by number, where each was first met, and the rows of those that are expanded.
+/// The sets of items by number, and where each was first met.
 #[derive(Drop)]
-struct Table {
+pub(super) struct Sets {
     kernels: KernelSet<ItemSet>,
     origins: Vec<Origin>,
+}
+
+// The sets that were met, and the rows of those that are expanded.
+#[derive(Drop)]
+struct Table {
+    sets: Sets,
     rows: Rows,
 }
 
@@ -46,32 +52,26 @@ fn starts_of(alloc: Global, nfas: &[Nfa]) -> Result<Vec<Item>, AllocError>
     Ok(starts)
 }
 
-impl Table {
-    // The table with the set that the empty word leads to, as number 0.
-    fn new(alloc: Global, nfas: &[Nfa]) -> Result<Table, AllocError>
-        requires { AreAutomata nfas.now }
-        ensures { IfOk result (λ t. (t.kernels.list ≡ first_set_of nfas.now ∷ [])
-            × (t.kernels.place ≡ 0) × (t.origins.items ≡ (0, 0) ∷ []) × (t.rows ≡ [])) }
-    {
-        let starts = starts_of(alloc, nfas)?;
-        let first = closure(alloc, nfas, &starts)?;
-        let mut kernels = KernelSet::new(alloc);
-        kernels.add_state(first)?;
-        let mut origins = Vec::new(alloc);
-        origins.push(Origin::new(0, 0))?;
-        Ok(Table {
-            kernels,
-            origins,
-            rows: Rows::new(alloc),
-        })
-    }
+// The set that the empty word leads to, as number 0.
+fn first_sets(alloc: Global, nfas: &[Nfa]) -> Result<Sets, AllocError>
+    requires { AreAutomata nfas.now }
+    ensures { IfOk result (λ s. (s.kernels.list ≡ first_set_of nfas.now ∷ [])
+        × (s.kernels.place ≡ 0) × (s.origins.items ≡ (0, 0) ∷ [])) }
+{
+    let starts = starts_of(alloc, nfas)?;
+    let first = closure(alloc, nfas, &starts)?;
+    let mut kernels = KernelSet::new(alloc);
+    kernels.add_state(first)?;
+    let mut origins = Vec::new(alloc);
+    origins.push(Origin::new(0, 0))?;
+    Ok(Sets { kernels, origins })
+}
 
+impl Sets {
     // The number of a set, which is added with its origin unless it has one.
     fn add(&mut self, set: ItemSet, origin: Origin) -> Result<DfaStateIndex, AllocError>
         requires { length self.old.origins.items ≡ length self.old.kernels.list }
-        ensures added { IfOk result (λ j. AddedTo self.old.kernels.list self.old.origins.items origin.0 origin.1 set j self.new.kernels.list self.new.origins.items) }
-        ensures place { OnOk result (self.new.kernels.place ≡ self.old.kernels.place) }
-        ensures rows { OnOk result (self.new.rows ≡ self.old.rows) }
+        ensures { IfOk result (λ j. IsAdded self.old origin set j self.new) }
     {
         let number = self.kernels.add_state(set)?;
         if number.index() == self.origins.len() {
@@ -91,11 +91,7 @@ impl Table {
         requires automata { AreAutomata nfas.now }
         requires inside { AreItemsOf nfas.now set.now }
         requires same_length { length self.old.origins.items ≡ length self.old.kernels.list }
-        ensures added { IfOk result (λ j.
-            AddedTo self.old.kernels.list self.old.origins.items origin.0 origin.1
-            (move nfas.now set.now origin.1) j self.new.kernels.list self.new.origins.items) }
-        ensures place { OnOk result (self.new.kernels.place ≡ self.old.kernels.place) }
-        ensures rows { OnOk result (self.new.rows ≡ self.old.rows) }
+        ensures { IfOk result (λ j. IsAdded self.old origin (move nfas.now set.now origin.1) j self.new) }
     {
         let given = advance(alloc, nfas, set, origin.value)?;
         let target = closure(alloc, nfas, &given)?;
@@ -117,12 +113,8 @@ impl Table {
         requires same_length { length self.old.origins.items ≡ length self.old.kernels.list }
         requires transitions { AreTransitions nfas.now set.now origin.1 transitions.list.items }
         requires known { AreKnown nfas.now set.now known.old self.old.kernels.list }
-        ensures added { IfOk result (λ j.
-            AddedTo self.old.kernels.list self.old.origins.items origin.0 origin.1
-            (move nfas.now set.now origin.1) j self.new.kernels.list self.new.origins.items) }
+        ensures added { IfOk result (λ j. IsAdded self.old origin (move nfas.now set.now origin.1) j self.new) }
         ensures known { OnOk result (AreKnown nfas.now set.now known.new self.new.kernels.list) }
-        ensures place { OnOk result (self.new.kernels.place ≡ self.old.kernels.place) }
-        ensures rows { OnOk result (self.new.rows ≡ self.old.rows) }
     {
         if let Some(number) = known.get(&transitions) {
             return Ok(*number);
@@ -145,9 +137,9 @@ impl Table {
         requires breadth_first { IsBreadthFirst
             (subset_automaton nfas.now) self.old.kernels.list self.old.origins.items number 0 }
         requires here { slice_get self.old.kernels.list number ≡ Some set.now }
-        ensures edged { IfOk result (λ e. IsEdged nfas.now self.old.kernels.list self.old.origins.items number set.now self.new.kernels.list self.new.origins.items e.tests.items e.other) }
+        ensures edged { IfOk result (λ e. IsEdged nfas.now self.old.kernels.list self.old.origins.items number set.now
+            self.new.kernels.list self.new.origins.items e.tests.items e.other) }
         ensures place { OnOk result (self.new.kernels.place ≡ self.old.kernels.place) }
-        ensures rows { OnOk result (self.new.rows ≡ self.old.rows) }
     {
         let mut known = BTreeMap::new(alloc);
         let mut tests = Vec::new(alloc);
@@ -168,7 +160,9 @@ impl Table {
         let other = self.target_of(alloc, nfas, set, Origin::new(number, u32::MAX))?;
         Ok(Edges { tests, other })
     }
+}
 
+impl Table {
     // Expands the next number, whose set this is: makes its state.
     fn expand(
         &mut self,
@@ -179,12 +173,12 @@ impl Table {
     ) -> Result<(), DfaConstructionError>
         requires same_len { length nfas.now ≡ length precedences.now }
         requires automata { AreAutomata nfas.now }
-        requires built { IsBuiltTo nfas.now (map (λ p. p.0) precedences.now) self.old.kernels.list self.old.origins.items self.old.rows (length self.old.rows) }
-        requires here { slice_get self.old.kernels.list (length self.old.rows) ≡ Some set }
-        ensures ok { OnOk result (IsBuiltTo nfas.now (map (λ p. p.0) precedences.now) self.new.kernels.list self.new.origins.items self.new.rows (length self.new.rows)) }
+        requires built { IsBuiltTo nfas.now (map (λ p. p.0) precedences.now) self.old.sets.kernels.list self.old.sets.origins.items self.old.rows (length self.old.rows) }
+        requires here { slice_get self.old.sets.kernels.list (length self.old.rows) ≡ Some set }
+        ensures ok { OnOk result (IsBuiltTo nfas.now (map (λ p. p.0) precedences.now) self.new.sets.kernels.list self.new.sets.origins.items self.new.rows (length self.new.rows)) }
         ensures one { OnOk result (length self.new.rows
             ≡ length self.old.rows + 1) }
-        ensures place { OnOk result (self.new.kernels.place ≡ self.old.kernels.place) }
+        ensures place { OnOk result (self.new.sets.kernels.place ≡ self.old.sets.kernels.place) }
         ensures err { IfErr result (IsTieOf (map (λ p. p.0) precedences.now) set) }
     {
         let kind = match kind_of(nfas, precedences, &set) {
@@ -197,7 +191,7 @@ impl Table {
             }
         };
         let number = self.rows.len();
-        let edges = self.edges_of(alloc, nfas, number, &set)?;
+        let edges = self.sets.edges_of(alloc, nfas, number, &set)?;
         self.rows.push(set, kind, edges)?;
         Ok(())
     }
@@ -221,9 +215,12 @@ pub(super) fn build(
     ensures err { IfErr result (λ e. let ps = map (λ p. p.0) precedences.now in
         (ts : List Tree) → AreCompiled ts nfas.now → IsClashOf ts ps e) }
 {
-    let mut table = Table::new(alloc, nfas)?;
-    while let Some(set) = table.kernels.next()? {
+    let mut table = Table {
+        sets: first_sets(alloc, nfas)?,
+        rows: Rows::new(alloc),
+    };
+    while let Some(set) = table.sets.kernels.next()? {
         table.expand(alloc, nfas, precedences, set)?;
     }
-    Ok(Dfa { rows: table.rows })
+    Ok(Dfa::new(alloc, table.rows)?)
 }

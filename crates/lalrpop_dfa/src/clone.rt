@@ -25,6 +25,7 @@ impl Clone for Dfa {
     fn clone(&self) -> Result<Dfa, AllocError> {
         Ok(Dfa {
             rows: self.rows.clone()?,
+            from_start: self.from_start.clone()?,
         })
     }
 }

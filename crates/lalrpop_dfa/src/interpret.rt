@@ -1,18 +1,16 @@
 //! The longest match at the start of a text, found by running the automaton of a list of patterns.
 
-ghost use Rattle.std.specs.Prelude.{◌≡◌, ◌≢◌, ℕ, ◌+◌, ◌*◌, ◌^◌, ◌<◌, ◌≤◌, [], length, List, IfSome, IfNone};
-ghost use Rattle.std.specs.List.{Contains};
+ghost use Rattle.std.specs.Prelude.{◌≡◌, ◌≢◌, ℕ, ◌+◌, ◌*◌, ◌^◌, ◌<◌, ◌≤◌, [], length, List, IfSome};
 ghost use Rattle.std.specs.Option.{option_map};
 ghost use Rattle.std.specs.Str.{chars};
-ghost use Rattle.lalrpop_hir.specs.Range.{Range, Covers};
 ghost use Rattle.lalrpop_dfa.specs.Counts.{HaveAtMost};
-ghost use Rattle.lalrpop_dfa.specs.Dfa.{step, Recognizes, AreAscendingTests};
+ghost use Rattle.lalrpop_dfa.specs.Dfa.{Recognizes};
 ghost use Rattle.lalrpop_dfa.specs.Longest.{IsLongest};
 ghost use Rattle.lalrpop_hir.specs.Tree.{Tree};
 ghost use Rattle.lalrpop_nfa.specs.Prefix.{IsPrefix};
 
-use super::{Dfa, DfaStateIndex, Kind, NfaIndex, START};
-use lalrpop_ranges::{Steps, Test};
+use super::{Dfa, Kind, NfaIndex, START};
+use lalrpop_ranges::Steps;
 
 /// The longest nonempty prefix of the text that some pattern matches, with the strongest pattern that matches it.
 /// `None` where no pattern matches any. Whatever automaton it is, the slice is a nonempty prefix of the text.
@@ -61,7 +59,7 @@ pub fn interpret_probed<'text>(
     let mut longest = None;
     for (offset, c) in input.char_indices() {
         steps.tick();
-        state = step(dfa, state, u32::from(c), probes);
+        state = dfa.step(state, u32::from(c), probes);
         match dfa.state(state).kind() {
             Kind::Accepts(index) => longest = Some((*index, &input[..offset + c.len_utf8()])),
             Kind::Reject => break,
@@ -69,48 +67,4 @@ pub fn interpret_probed<'text>(
         }
     }
     longest
-}
-
-// The state that the value leads to: by the test edge that holds it, or else by the other edge.
-fn step(dfa: &Dfa, state: DfaStateIndex, value: u32, probes: &mut Steps) -> DfaStateIndex
-    requires { state < length dfa.now }
-    ensures leads { result ≡ step dfa.now state value }
-    ensures within { result < length dfa.now }
-    ensures never_falls { probes.old ≤ probes.new }
-    ensures probed { (n d : ℕ) → HaveAtMost dfa.now n → n < 2 ^ d → probes.new ≤ probes.old + d }
-{
-    match target_of(dfa.test_edges(state), value, probes) {
-        Some(target) => target,
-        None => dfa.state(state).other_edge(),
-    }
-}
-
-// Where the edge leads whose range holds the value. The edges ascend, so each probe leaves less than half of them.
-fn target_of(
-    edges: &[(Test, DfaStateIndex)],
-    value: u32,
-    probes: &mut Steps,
-) -> Option<DfaStateIndex>
-    requires { AreAscendingTests edges.now }
-    ensures found { IfSome result (λ target.
-        (t : Range × ℕ) × (Contains edges.now t × Covers t.0 value × (t.1 ≡ target))) }
-    ensures none { IfNone result ((t : Range × ℕ) → Contains edges.now t → ¬ Covers t.0 value) }
-    ensures never_falls { probes.old ≤ probes.new }
-    ensures probed { (d : ℕ) → length edges.now < 2 ^ d → probes.new ≤ probes.old + d }
-{
-    let mut first = 0;
-    let mut end = edges.len();
-    while first < end {
-        let middle = first + (end - first) / 2;
-        let (test, target) = &edges[middle];
-        probes.tick();
-        if value < test.start() {
-            end = middle;
-        } else if test.end() < value {
-            first = middle + 1;
-        } else {
-            return Some(*target);
-        }
-    }
-    None
 }

@@ -13,6 +13,7 @@ pub mod interpret;
 mod items;
 mod labels;
 mod rows;
+mod search;
 
 ghost use Rattle.std.specs.Prelude.{◌≡◌, ◌<◌, length, slice_get, Some, IsSomeAnd};
 
@@ -143,17 +144,20 @@ impl State {
 #[derive(Debug, Drop)]
 pub struct Dfa {
     rows: Rows,
+    // Where the least values lead from START.
+    from_start: Vec<DfaStateIndex>,
 }
 
 impl Model for Dfa {
     ghost use Rattle.std.specs.Prelude.{List};
     ghost use Rattle.lalrpop_dfa.specs.Dfa.{Row, IsWellFormed};
+    ghost use Rattle.lalrpop_dfa.specs.Internal.Stored.{AreSteps};
 
     ghost Value = { List Row };
 
     ghost view = { λ a. a.rows };
 
-    ghost invariant = { λ a. IsWellFormed a.rows };
+    ghost invariant = { λ a. IsWellFormed a.rows × AreSteps a.rows 0 a.from_start.items };
 }
 
 impl Dfa {

@@ -1,29 +1,32 @@
-//! A benchmark: builds the automaton of a list of terminals, and cuts a text of 5 MB by it, as its arguments say. It
-//! writes what it found, so that two builds can be compared, and the processor time that it took.
+//! A benchmark: builds the automata of lists of terminals, and cuts a text of 5 MB by those that have one. It writes what
+//! it found, so that two builds can be compared. An argument names one list alone, or is `parts`, for the parts that
+//! automata are built with; then the processor time is written too.
 #![tactic(auto)]
 
 mod keywords;
 mod lists;
+mod parts;
 mod texts;
 
 use lalrpop_lexer::lexer::dfa::interpret::interpret;
 use lalrpop_lexer::lexer::dfa::{Dfa, DfaStateIndex, Kind, START, State, build_dfa};
 use lalrpop_lexer::lexer::nfa::Test;
 use lists::list_named;
+use parts::{blocks_of, cycled, kernels_of};
 use std::alloc::{AllocError, Global};
 use std::rt::Env;
 use std::time::{CpuClock, Duration};
 use std::{env, io};
 use texts::{c_text, unicode_text};
 
-const LISTS: [&str; 7] = [
+// Without an argument, these.
+const LISTS: [&str; 6] = [
     "c",
     "unicode",
     "words 100",
     "words 1000",
-    "words 1000 and a name",
-    "window",
     "up to 300",
+    "exactly 300",
 ];
 
 /// What one cut of a text found.
@@ -70,13 +73,13 @@ fn cut_all(dfa: &Dfa, text: &str) -> Cut {
     cut
 }
 
-fn tell(rt: &impl Print, what: &str, spent: Duration) -> io::Result<()> {
+fn tell_time(rt: &impl Print, what: &str, spent: Duration) -> io::Result<()> {
     let whole = spent.as_secs();
     let micros = spent.subsec_micros();
     println!(rt; "  {what}: {whole}.{micros:06} s")
 }
 
-fn tell_cut<R: CpuClock + Print>(rt: &R, dfa: &Dfa, text: &str) -> io::Result<()> {
+fn tell_cut<R: CpuClock + Print>(rt: &R, dfa: &Dfa, text: &str, is_timed: bool) -> io::Result<()> {
     let from = rt.process_cpu_time()?;
     let cut = cut_all(dfa, text);
     let spent = rt.process_cpu_time()?.saturating_sub(from);
@@ -86,7 +89,10 @@ fn tell_cut<R: CpuClock + Print>(rt: &R, dfa: &Dfa, text: &str) -> io::Result<()
         sum,
     } = cut;
     println!(rt; "  {tokens} tokens, {skipped} characters skipped, sum {sum:x}")?;
-    tell(rt, "cut", spent)
+    if is_timed {
+        tell_time(rt, "cut", spent)?;
+    }
+    Ok(())
 }
 
 /// What an automaton is made of.
@@ -148,7 +154,11 @@ fn shape_of(alloc: Global, dfa: &Dfa) -> Result<Shape, AllocError> {
     Ok(shape)
 }
 
-fn tell_list<R: CpuClock + Print + AllocGlobal>(rt: &R, name: &str) -> io::Result<()> {
+fn tell_list<R: CpuClock + Print + AllocGlobal>(
+    rt: &R,
+    name: &str,
+    is_timed: bool,
+) -> io::Result<()> {
     let alloc = rt.alloc();
     println!(rt; "{name}")?;
     let Ok(Some(list)) = list_named(alloc, name) else {
@@ -165,21 +175,50 @@ fn tell_list<R: CpuClock + Print + AllocGlobal>(rt: &R, name: &str) -> io::Resul
     let states = dfa.states().len();
     let Shape { edges, sum } = shape_of(alloc, &dfa)?;
     println!(rt; "  {states} states, {edges} edges, sum {sum:x}")?;
-    tell(rt, "build", spent)?;
+    if is_timed {
+        tell_time(rt, "build", spent)?;
+    }
     match name {
-        "c" => tell_cut(rt, &dfa, &c_text(alloc)?),
-        "unicode" => tell_cut(rt, &dfa, &unicode_text(alloc)?),
+        "c" => tell_cut(rt, &dfa, &c_text(alloc)?, is_timed),
+        "unicode" => tell_cut(rt, &dfa, &unicode_text(alloc)?, is_timed),
         _ => Ok(()),
     }
+}
+
+// The sizes at which the parts are timed.
+const SIZES: [u64; 4] = [10, 100, 1_000, 10_000];
+
+fn tell_part<R: CpuClock + Print + AllocGlobal>(rt: &R, name: &str, size: u64) -> io::Result<()> {
+    let alloc = rt.alloc();
+    let from = rt.process_cpu_time()?;
+    let found = match name {
+        "ranges" => blocks_of(alloc, size)?,
+        "kernels" => kernels_of(alloc, size)?,
+        _ => cycled(alloc, size.wrapping_mul(10))?,
+    };
+    let spent = rt.process_cpu_time()?.saturating_sub(from);
+    println!(rt; "  {size}: {found}")?;
+    tell_time(rt, "spent", spent)
+}
+
+fn tell_parts<R: CpuClock + Print + AllocGlobal>(rt: &R) -> io::Result<()> {
+    for name in &["ranges", "kernels", "cycles"] {
+        println!(rt; "{name}")?;
+        for size in &SIZES {
+            tell_part(rt, name, *size)?;
+        }
+    }
+    Ok(())
 }
 
 fn main(rt: HostRuntime) -> io::Result<()> {
     let name = env::args(&rt)?.nth(1);
     match name {
-        Some(name) => tell_list(&rt, &name),
+        Some(name) if name.as_str() == "parts" => tell_parts(&rt),
+        Some(name) => tell_list(&rt, &name, true),
         None => {
             for name in &LISTS {
-                tell_list(&rt, name)?;
+                tell_list(&rt, name, false)?;
             }
             Ok(())
         }

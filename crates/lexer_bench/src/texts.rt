@@ -6,8 +6,47 @@ use std::alloc::{AllocError, Global};
 // How long a text is, in bytes, or a little longer.
 const LENGTH: usize = 5_000_000;
 
-const LETTERS: [&str; 16] = [
-    "a", "e", "i", "n", "o", "r", "s", "t", "_", "x", "count", "len", "ptr", "0", "7", "buffer",
+const NAMES: [&str; 40] = [
+    "i",
+    "j",
+    "n",
+    "x",
+    "buf",
+    "len",
+    "ptr",
+    "node",
+    "next",
+    "prev",
+    "list",
+    "index",
+    "count",
+    "size",
+    "offset",
+    "flags",
+    "value",
+    "result",
+    "state",
+    "table",
+    "entry",
+    "key",
+    "data",
+    "size_t",
+    "uint32_t",
+    "malloc",
+    "free",
+    "memcpy",
+    "printf",
+    "NULL",
+    "MAX_LENGTH",
+    "EOF",
+    "is_valid",
+    "get_next",
+    "token_kind",
+    "line",
+    "file",
+    "name",
+    "argc",
+    "argv",
 ];
 
 const LETTERS_OF_THE_WORLD: [&str; 16] = [
@@ -38,7 +77,11 @@ impl Numbers {
     }
 }
 
-fn push_name(numbers: &mut Numbers, letters: &[&'static str], text: &mut String) -> Result<(), AllocError> {
+fn push_name(
+    numbers: &mut Numbers,
+    letters: &[&'static str],
+    text: &mut String,
+) -> Result<(), AllocError> {
     text.push_str("v")?;
     for _ in 0..numbers.below(7) {
         text.push_str(numbers.one_of(letters))?;
@@ -49,7 +92,7 @@ fn push_name(numbers: &mut Numbers, letters: &[&'static str], text: &mut String)
 fn push_c_token(numbers: &mut Numbers, text: &mut String) -> Result<(), AllocError> {
     match numbers.below(20) {
         0..=3 => text.push_str(numbers.one_of(&C_KEYWORDS)),
-        4..=9 => push_name(numbers, &LETTERS, text),
+        4..=9 => text.push_str(numbers.one_of(&NAMES)),
         10..=11 => text.push_str("42"),
         12 => text.push_str("0x1fUL"),
         13 => text.push_str("\"a text\\n\""),

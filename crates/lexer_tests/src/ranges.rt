@@ -2,8 +2,8 @@
 ghost use Rattle.std.specs.Prelude.{◌≡◌, ◌↔◌, IsTrue};
 ghost use Rattle.std.specs.Ordering.{nat_cmp, ordering_then};
 
-use lalrpop_lexer::lexer::dfa::overlap::remove_overlap;
-use lalrpop_lexer::lexer::nfa::Test;
+use lalrpop_lexer::lexer::dfa::overlap::{remove_overlap, remove_overlap_counted};
+use lalrpop_lexer::lexer::nfa::{Steps, Test};
 use lalrpop_lexer::lexer::re::{ClassBytesRange, ClassUnicodeRange};
 use std::alloc::{AllocError, Global};
 use std::cmp::Ordering;
@@ -148,6 +148,8 @@ fn cuts_numbers(rt: HostRuntime) -> Result<(), AllocError> {
         let set = set_of(rt.alloc(), *ranges)?;
         let parts = remove_overlap(rt.alloc(), &set)?;
         assert_eq!(&rt; ends_of_parts(rt.alloc(), &parts)?.as_slice(), *want);
+        let counted = remove_overlap_counted(rt.alloc(), &set, &mut Steps::new())?;
+        assert_eq!(&rt; counted, parts);
     }
     Ok(())
 }

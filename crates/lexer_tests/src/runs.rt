@@ -1,8 +1,8 @@
 //! Automata of one pattern and of many that are built once and run over texts.
 
-use lalrpop_lexer::lexer::dfa::interpret::interpret;
+use lalrpop_lexer::lexer::dfa::interpret::{interpret, interpret_counted, interpret_probed};
 use lalrpop_lexer::lexer::dfa::{Precedence, build_dfa};
-use lalrpop_lexer::lexer::nfa::{self, Nfa};
+use lalrpop_lexer::lexer::nfa::{self, Nfa, Steps};
 use lalrpop_re::{parse_literal, parse_regex};
 use std::test::Fail;
 
@@ -21,6 +21,11 @@ fn built_once_and_run(rt: HostRuntime) -> Result<(), Fail> {
         assert!(rt; text == "classz");
     }
     assert_eq!(rt; place, Some(1));
+    let mut steps = Steps::new();
+    let counted = interpret_counted(&dfa, "classz", &mut steps);
+    let probed = interpret_probed(&dfa, "class", &mut steps, &mut Steps::new());
+    assert!(rt; counted.is_some_and(|found| found.0.index() == 1 && found.1 == "classz"));
+    assert!(rt; probed.is_some_and(|found| found.0.index() == 0 && found.1 == "class"));
     Ok(())
 }
 

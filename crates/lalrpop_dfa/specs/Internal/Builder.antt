@@ -12,6 +12,7 @@ use Rattle.lalrpop_dfa.specs.Internal.Ascending.{IsItemOf}
 use Rattle.lalrpop_dfa.specs.Internal.Subsets.{move}
 use Rattle.lalrpop_dfa.specs.Internal.Transitions.{AreTransitions, transitions_cmp}
 use Rattle.lalrpop_dfa.specs.declared.blocks.Transitions.{Transitions}
+use Rattle.lalrpop_dfa.specs.declared.builder.Sets.{Sets}
 use Rattle.lalrpop_dfa.specs.Internal.BreadthFirst.{IsBreadthFirst, nth, value_of}
 use Rattle.lalrpop_dfa.specs.Internal.Built.{subset_automaton, IsRowOf, IsTied}
 use Rattle.lalrpop_dfa.specs.Report.{FirstFault}
@@ -34,6 +35,10 @@ abbrev pub AddedTo : List (List Item) → List (ℕ × ℕ) → ℕ → ℕ → 
 AddedTo sets origins n v t j sets2 origins2 =
     ((slice_get sets j ≡ Some t) × (sets2 ≡ sets) × (origins2 ≡ origins))
     ⊎ (((k : ℕ) → slice_get sets k ≡ Some t → ⊥) × (j ≡ length sets) × (sets2 ≡ sets ++ t ∷ []) × (origins2 ≡ origins ++ (n, v) ∷ []))
+
+-- the same of numbered sets, whose place stays
+abbrev pub IsAdded : Sets → ℕ × ℕ → List Item → ℕ → Sets → Type 0
+IsAdded sets o t j sets2 = AddedTo sets.kernels.list sets.origins.items o.0 o.1 t j sets2.kernels.list sets2.origins.items × (sets2.kernels.place ≡ sets.kernels.place)
 
 -- each number of the map is that of the set to which the set s leads by the values that take these test edges
 abbrev pub AreKnown : List Graph → List Item → BTreeMap Transitions ℕ → List (List Item) → Type 0

@@ -1,7 +1,7 @@
 -- States whose test edges stand in a list of all test edges.
-use Rattle.std.specs.Prelude.{◌≡◌, ℕ, ◌+◌, ◌≤◌, List, length, map, take, drop, slice_get, Some}
+use Rattle.std.specs.Prelude.{◌≡◌, ℕ, ◌+◌, ◌<◌, ◌≤◌, List, length, map, take, drop, slice_get, Some}
 use Rattle.lalrpop_hir.specs.Range.{Range}
-use Rattle.lalrpop_dfa.specs.Dfa.{Row, StoredState}
+use Rattle.lalrpop_dfa.specs.Dfa.{Row, StoredState, step}
 
 -- the state with its test edges
 abbrev pub row_of : List (Range × ℕ) → StoredState → Row
@@ -13,3 +13,7 @@ rows_of edges states = map (row_of edges) states
 -- the list is long enough for the edges of each state
 abbrev pub AreWithin : List (Range × ℕ) → List StoredState → Type 0
 AreWithin edges states = (p : ℕ) (s : StoredState) → slice_get states p ≡ Some s → s.first + s.count ≤ length edges
+
+-- where the values lead from the state p, as many as the list has
+abbrev pub AreSteps : List Row → ℕ → List ℕ → Type 0
+AreSteps d p targets = (c : ℕ) → c < length targets → slice_get targets c ≡ Some (step d p c)

@@ -5,8 +5,8 @@ use Rattle.lalrpop_dfa.proofs.builder.build.Given as goal
 
 abbrev pub invariant-loop-table : goal.invariant-loop-table
 invariant-loop-table l = record {
-  built : IsBuiltTo l.nfas (map (λ p. p.0) l.precedences) l.table.kernels.list l.table.origins.items l.table.rows (length l.table.rows);
-  place : l.table.kernels.place ≡ length l.table.rows;
+  built : IsBuiltTo l.nfas (map (λ p. p.0) l.precedences) l.table.sets.kernels.list l.table.sets.origins.items l.table.rows (length l.table.rows);
+  place : l.table.sets.kernels.place ≡ length l.table.rows;
 }
 
 abbrev pub decreases-loop-table : goal.decreases-loop-table

@@ -1,7 +1,7 @@
 use Rattle.std.proofs.Common.{ap, ◌∙◌, [], ◌∷◌, ◌++◌}
 use Rattle.lalrpop_dfa.specs.Internal.Subsets.{first_set_of, closed}
 use Rattle.lalrpop_dfa.proofs.Adding.{clones_equal, starts_inside, first_added}
-use Rattle.lalrpop_dfa.proofs.builder.Table.new.Goals as goal
+use Rattle.lalrpop_dfa.proofs.builder.first_sets.Goals as goal
 
 pub closure-requires-clause-inside : goal.closure-requires-clause-inside
 closure-requires-clause-inside c =
@@ -19,5 +19,4 @@ returns c =
       first.0 ∙ ap (λ s. s ∷ []) (c.in_ok-first.ensures ∙ ap (closed c.args.nfas.now) starts),
       first.1,
       c.in_ok-push.ensures.items ∙ (ap (λ ys. ys ++ c.new.result ∷ []) c.new-origins.ensures.items ∙ ap (λ o. o ∷ []) c.new.ensures),
-      c.new-2.ensures,
     )

@@ -1,7 +1,7 @@
 use Rattle.std.proofs.Common.{◌≡◌, ◌≤◌, drop, length, map}
 use Rattle.lalrpop_dfa.specs.Internal.Builder.{AreKnown}
 use Rattle.lalrpop_dfa.proofs.Builds.{IsEdging}
-use Rattle.lalrpop_dfa.proofs.builder.Table.edges_of.Given as goal
+use Rattle.lalrpop_dfa.proofs.builder.Sets.edges_of.Given as goal
 
 abbrev pub invariant-loop-block : goal.invariant-loop-block
 invariant-loop-block l = record {
@@ -10,5 +10,4 @@ invariant-loop-block l = record {
   rest : l.block-iterator.rest.items ≡ drop (length l.tests.items) l.initial.block-iterator.rest.items;
   known : AreKnown l.nfas l.fn.set l.known l.self.kernels.list;
   place : l.self.kernels.place ≡ l.fn.self.kernels.place;
-  rows : l.self.rows ≡ l.fn.self.rows;
 }

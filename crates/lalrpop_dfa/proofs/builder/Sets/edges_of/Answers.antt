@@ -7,7 +7,7 @@ use Rattle.lalrpop_dfa.specs.Internal.Subsets.{move}
 use Rattle.lalrpop_dfa.specs.declared.blocks.Block.{Block}
 use Rattle.lalrpop_dfa.proofs.Builds.{edging_more, edging_done, added_of}
 use Rattle.lalrpop_dfa.proofs.TransitionSteps.{part_at, range_at, no_more}
-use Rattle.lalrpop_dfa.proofs.builder.Table.edges_of.Goals as goal
+use Rattle.lalrpop_dfa.proofs.builder.Sets.edges_of.Goals as goal
 
 pub target_of_transitions-requires-clause-transitions : goal.target_of_transitions-requires-clause-transitions
 target_of_transitions-requires-clause-transitions c =
@@ -31,14 +31,13 @@ loop-block-preserved c =
     k c.in_ok-target.target c.start.result (move c.args.nfas.now c.args.set.now c.new-origin.result.1) c.in-Some.block.range c.in-Some.block.range c.loop-block.self.kernels.list c.loop-block.self.origins.items
     c.loop-block.tests.items c.push.new.self.items c.target_of_transitions.new.self.kernels.list c.target_of_transitions.new.self.origins.items c.loop-block.invariant.edging read.0 read.1 c.start.ensures.value
     (ap (λ (o : ℕ × ℕ). move c.args.nfas.now c.args.set.now o.1) c.new-origin.ensures) refl
-    (added_of _ _ _ c.args.number c.start.result _ _ _ _ c.new-origin.ensures c.in_ok-target.ensures.added) c.in_ok-push.ensures.items in
+    (added_of _ _ _ c.args.number c.start.result _ _ _ _ c.new-origin.ensures c.in_ok-target.ensures.added.0) c.in_ok-push.ensures.items in
     record {
       edging = rw more edging;
       within = omega (arith, more, slice_get_within blocks k c.in-Some.block next.0);
       rest = next.1 ∙ ap (λ n. drop n blocks) (sym more);
       known = c.in_ok-target.ensures.known;
-      place = c.in_ok-target.ensures.place ∙ c.loop-block.invariant.place;
-      rows = c.in_ok-target.ensures.rows ∙ c.loop-block.invariant.rows;
+      place = c.in_ok-target.ensures.added.1 ∙ c.loop-block.invariant.place;
     }
 
 pub returns-clause-edged : goal.returns-clause-edged
@@ -51,4 +50,4 @@ returns-clause-edged c =
     let end = no_more blocks c.loop-block.block-iterator.rest.items k (sym c.loop-block.invariant.rest) none c.loop-block.invariant.within in
     edging_done c.args.nfas.now c.requires.automata c.args.self.now.kernels.list c.args.self.now.origins.items c.args.number c.args.set.now (map (λ (p : Block). p.range) blocks) partition c.requires.here
     k c.in_ok-other.other (move c.args.nfas.now c.args.set.now c.new.result.1) c.loop-block.self.kernels.list c.loop-block.self.origins.items c.loop-block.tests.items c.target_of.new.self.kernels.list c.target_of.new.self.origins.items
-    c.loop-block.invariant.edging end (ap (λ (o : ℕ × ℕ). move c.args.nfas.now c.args.set.now o.1) c.new.ensures) (added_of _ _ _ c.args.number 4294967295 _ _ _ _ c.new.ensures c.in_ok-other.ensures.added)
+    c.loop-block.invariant.edging end (ap (λ (o : ℕ × ℕ). move c.args.nfas.now c.args.set.now o.1) c.new.ensures) (added_of _ _ _ c.args.number 4294967295 _ _ _ _ c.new.ensures c.in_ok-other.ensures.0)

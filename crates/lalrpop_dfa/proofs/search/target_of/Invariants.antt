@@ -1,6 +1,6 @@
 use Rattle.std.proofs.Common.{◌-◌, ◌≤◌, length}
 use Rattle.lalrpop_dfa.proofs.EdgeTargets.{IsNarrowed, AreProbed}
-use Rattle.lalrpop_dfa.proofs.interpret.target_of.Given as goal
+use Rattle.lalrpop_dfa.proofs.search.target_of.Given as goal
 
 abbrev pub invariant-loop-first : goal.invariant-loop-first
 invariant-loop-first l = record {

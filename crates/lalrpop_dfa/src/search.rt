@@ -1,0 +1,91 @@
+//! Where a value leads from a state, found among the state's test edges.
+
+ghost use Rattle.std.specs.Prelude.{◌≡◌, ℕ, ◌+◌, ◌^◌, ◌<◌, ◌≤◌, length, IfSome, IfNone, IfOk};
+ghost use Rattle.std.specs.List.{Contains};
+ghost use Rattle.lalrpop_hir.specs.Range.{Range, Covers};
+ghost use Rattle.lalrpop_dfa.specs.Counts.{HaveAtMost};
+ghost use Rattle.lalrpop_dfa.specs.Dfa.{step, AreAscendingTests, IsWellFormed};
+
+use super::rows::Rows;
+use super::{Dfa, DfaStateIndex, START};
+use lalrpop_ranges::{Steps, Test};
+use std::alloc::{AllocError, Global};
+
+// So many values have their targets from START in a list: those of ASCII.
+const LISTED: u32 = 128;
+
+impl Dfa {
+    /// The automaton of these states.
+    pub(super) fn new(alloc: Global, rows: Rows) -> Result<Dfa, AllocError>
+        requires { IsWellFormed rows }
+        ensures { IfOk result (λ dfa. dfa ≡ rows) }
+    {
+        let mut from_start = Vec::new(alloc);
+        for value in 0..LISTED {
+            from_start.push(rows.step(START, value, &mut Steps::new()))?;
+        }
+        Ok(Dfa { rows, from_start })
+    }
+
+    /// The state that the value leads to.
+    pub(super) fn step(&self, state: DfaStateIndex, value: u32, probes: &mut Steps) -> DfaStateIndex
+        requires { state < length self.now }
+        ensures leads { result ≡ step self.now state value }
+        ensures within { result < length self.now }
+        ensures never_falls { probes.old ≤ probes.new }
+        ensures probed { (n d : ℕ) → HaveAtMost self.now n → n < 2 ^ d → probes.new ≤ probes.old + d }
+    {
+        // Each match begins in START, which has the most edges in most automata.
+        if state == START && (value as usize) < self.from_start.len() {
+            return self.from_start[value as usize];
+        }
+        self.rows.step(state, value, probes)
+    }
+}
+
+impl Rows {
+    /// The state that the value leads to: by the test edge that holds it, or else by the other edge.
+    fn step(&self, state: DfaStateIndex, value: u32, probes: &mut Steps) -> DfaStateIndex
+        requires well_formed { IsWellFormed self.now }
+        requires within { state < length self.now }
+        ensures leads { result ≡ step self.now state value }
+        ensures within { result < length self.now }
+        ensures never_falls { probes.old ≤ probes.new }
+        ensures probed { (n d : ℕ) → HaveAtMost self.now n → n < 2 ^ d → probes.new ≤ probes.old + d }
+    {
+        match target_of(self.test_edges(state), value, probes) {
+            Some(target) => target,
+            None => self.state(state).other_edge(),
+        }
+    }
+}
+
+// Where the edge leads whose range holds the value. The edges ascend, so each probe leaves less than half of them.
+fn target_of(
+    edges: &[(Test, DfaStateIndex)],
+    value: u32,
+    probes: &mut Steps,
+) -> Option<DfaStateIndex>
+    requires { AreAscendingTests edges.now }
+    ensures found { IfSome result (λ target.
+        (t : Range × ℕ) × (Contains edges.now t × Covers t.0 value × (t.1 ≡ target))) }
+    ensures none { IfNone result ((t : Range × ℕ) → Contains edges.now t → ¬ Covers t.0 value) }
+    ensures never_falls { probes.old ≤ probes.new }
+    ensures probed { (d : ℕ) → length edges.now < 2 ^ d → probes.new ≤ probes.old + d }
+{
+    let mut first = 0;
+    let mut end = edges.len();
+    while first < end {
+        let middle = first + (end - first) / 2;
+        let (test, target) = &edges[middle];
+        probes.tick();
+        if value < test.start() {
+            end = middle;
+        } else if test.end() < value {
+            first = middle + 1;
+        } else {
+            return Some(*target);
+        }
+    }
+    None
+}

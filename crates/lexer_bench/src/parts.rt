@@ -1,0 +1,70 @@
+//! The parts that automata are built with, each at growing sizes.
+
+use lalrpop_lexer::kernel_set::{Kernel, KernelSet};
+use lalrpop_lexer::lexer::dfa::overlap::remove_overlap;
+use lalrpop_lexer::lexer::nfa::interpret::interpret;
+use lalrpop_lexer::lexer::nfa::{Nfa, Test};
+use lalrpop_lexer::lexer::re::parse_regex;
+use std::alloc::{AllocError, Global};
+use std::collections::BTreeSet;
+
+/// A kernel that is a number.
+#[derive(Copy, Clone, PartialEq, Eq, PartialOrd, Ord)]
+struct Number(u64);
+
+impl Kernel for Number {
+    type Index = usize;
+
+    ghost index_of = { λ n. n };
+
+    fn index(c: usize) -> usize {
+        c
+    }
+}
+
+// The number at this place of a row that looks random: an odd factor scatters it.
+fn scattered(place: u64) -> u64 {
+    place.wrapping_mul(0x9E37_79B9_7F4A_7C15)
+}
+
+/// How many blocks the partition of so many ranges has, which overlap.
+pub fn blocks_of(alloc: Global, count: u64) -> Result<usize, AllocError> {
+    let mut ranges = BTreeSet::new(alloc);
+    for place in 0..count {
+        let start = (scattered(place) >> 40) as u32;
+        ranges.insert(Test::new(start..=start.saturating_add(10_000)))?;
+    }
+    Ok(remove_overlap(alloc, &ranges)?.len())
+}
+
+/// How many kernels are distinct of twice so many, each of which is added twice; all are taken out again.
+pub fn kernels_of(alloc: Global, count: u64) -> Result<usize, AllocError> {
+    let mut kernels = KernelSet::new(alloc);
+    let mut last = 0;
+    for place in 0..count {
+        last = kernels.add_state(Number(scattered(place)))?;
+        let _ = kernels.add_state(Number(scattered(place / 2)))?;
+    }
+    for _ in 0..count {
+        let _ = kernels.next()?;
+    }
+    Ok(last)
+}
+
+/// How many bytes of a text of so many letters the automaton of `(a*)*` matches, which has cycles that read nothing.
+pub fn cycled(alloc: Global, count: u64) -> Result<usize, AllocError> {
+    let mut text = String::new(alloc);
+    for _ in 0..count {
+        text.push('a')?;
+    }
+    let Ok(tree) = parse_regex(alloc, "(a*)*") else {
+        return Ok(0);
+    };
+    let Ok(nfa) = Nfa::from_re(alloc, &tree) else {
+        return Ok(0);
+    };
+    match interpret(alloc, &nfa, &text)? {
+        Some(word) => Ok(word.len()),
+        None => Ok(0),
+    }
+}
