@@ -22,10 +22,19 @@ fn built_once_and_run(rt: HostRuntime) -> Result<(), Fail> {
     }
     assert_eq!(rt; place, Some(1));
     let mut steps = Steps::new();
-    let counted = interpret_counted(&dfa, "classz", &mut steps);
-    let probed = interpret_probed(&dfa, "class", &mut steps, &mut Steps::new());
-    assert!(rt; counted.is_some_and(|found| found.0.index() == 1 && found.1 == "classz"));
-    assert!(rt; probed.is_some_and(|found| found.0.index() == 0 && found.1 == "class"));
+    let mut counted = None;
+    if let Some((index, text)) = interpret_counted(&dfa, "classz", &mut steps) {
+        counted = Some(index.index());
+        assert!(rt; text == "classz");
+    }
+    assert_eq!(rt; counted, Some(1));
+    let mut probes = Steps::new();
+    let mut probed = None;
+    if let Some((index, text)) = interpret_probed(&dfa, "class", &mut steps, &mut probes) {
+        probed = Some(index.index());
+        assert!(rt; text == "class");
+    }
+    assert_eq!(rt; probed, Some(0));
     Ok(())
 }
 
