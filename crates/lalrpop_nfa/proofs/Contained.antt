@@ -1,6 +1,8 @@
 -- The elements of a list, from the front on.
-use Rattle.std.proofs.Common.{◌≡◌, zero, suc, ◌⊎◌, inl, inr, List, [], ◌∷◌, map, refl, ap, arith}
-use Rattle.std.specs.List.{Contains}
+use Rattle.std.proofs.Common.{◌≡◌, ℕ, ◌<◌, zero, suc, ◌⊎◌, ⊎_elim, inl, inr, Bool, true, false, cond, List, [], ◌∷◌, map, length, get_or, refl, ap, ◌∙◌, subst, arith}
+use Rattle.std.specs.List.{Contains, filter}
+use Rattle.std.proofs.lemmas.List.{get_or_default}
+use Rattle.std.proofs.lemmas.List.Elements.{All-contains, All-contains_itself, All-filter, filter_passes}
 
 pub contains_none : {X : Type 0} (x : X) → Contains [] x → ⊥
 contains_none x h = omega (arith, h.1)
@@ -31,3 +33,28 @@ contains_from_map f (x ∷ xs) y h = elim (contains_cases (f x) (map f xs) y h) 
   | inl e ↦ (x, (contains_first x xs, e))
   | inr k ↦ (let r = contains_from_map f xs y k in (r.0, (contains_later x xs r.0 r.1.0, r.1.1)))
 ]
+
+-- a list in which only what passes the test is kept
+pub filter_in : {X : Type 0} (p : X → Bool) (xs : List X) (x : X) → Contains xs x → p x ≡ true → Contains (filter p xs) x
+filter_in p [] x h t = absurd (contains_none x h)
+filter_in {X} p (y ∷ xs) x h t =
+    ⊎_elim (λ (a : y ≡ x). first (p y) (ap p a ∙ t) a)
+    (λ (a : Contains xs x). later (p y) (filter_in p xs x a t))
+    (contains_cases y xs x h)
+  where
+    first : (b : Bool) → b ≡ true → y ≡ x → Contains (cond b (y ∷ filter p xs) (filter p xs)) x
+    first true e a = subst (Contains (y ∷ filter p xs)) a (contains_first y (filter p xs))
+    first false e a = absurd cc
+
+    later : (b : Bool) → Contains (filter p xs) x → Contains (cond b (y ∷ filter p xs) (filter p xs)) x
+    later true k = contains_later y (filter p xs) x k
+    later false k = k
+
+pub filter_out : {X : Type 0} (p : X → Bool) (xs : List X) (x : X) → Contains (filter p xs) x → Contains xs x × (p x ≡ true)
+filter_out p xs x h = (
+  All-contains (Contains xs) (filter p xs) x (All-filter p (Contains xs) xs (All-contains_itself xs)) h,
+  All-contains (λ y. p y ≡ true) (filter p xs) x (filter_passes p xs) h,
+)
+
+pub contains_at : (xs : List ℕ) (q : ℕ) → Contains xs q → (k : ℕ) × ((k < length xs) × (get_or xs k 0 ≡ q))
+contains_at xs q h = (h.0, (h.1, get_or_default xs h.0 0 q h.1 ∙ h.2))

@@ -5,6 +5,7 @@ mod build;
 mod edge;
 mod error;
 pub mod interpret;
+mod state_set;
 
 ghost use Rattle.std.specs.Prelude.{◌≡◌, ◌≢◌, ◌↔◌, ◌<◌, ◌++◌, ◌∷◌, [], Some, None, IfOk, IfErr, IsTrue};
 ghost use Rattle.std.specs.List.{filter};

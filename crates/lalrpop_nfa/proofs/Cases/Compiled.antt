@@ -1,14 +1,14 @@
 -- Cases of specs/Compiled.antt: the automaton of the literal `a`.
-use Rattle.std.proofs.Common.{◌≡◌, ◌≢◌, ℕ, zero, suc, ◌≤◌, List, [], ◌∷◌, length, get_or, true, None, Some, refl, sym, ap, subst, ◌∙◌, arith}
+use Rattle.std.proofs.Common.{◌≡◌, ◌≢◌, ℕ, zero, suc, ◌≤◌, List, [], ◌∷◌, length, get_or, true, None, Some, refl, sym, ap, subst, arith}
 use Rattle.std.specs.Prelude.{◌↔◌, slice_get}
 use Rattle.std.specs.List.{Contains}
-use Rattle.lalrpop_hir.specs.Range.{Range, Covers}
+use Rattle.lalrpop_hir.specs.Range.{Range}
 use Rattle.lalrpop_hir.specs.Tree.{Tree, unicode, empty, literal, repetition}
 use Rattle.lalrpop_nfa.specs.Graph.{Graph}
 use Rattle.lalrpop_nfa.specs.Lists.{Lists}
 use Rattle.lalrpop_ranges.specs.Meet.{Meet}
 use Rattle.lalrpop_nfa.specs.Path.{noop, test, other, Path}
-use Rattle.lalrpop_nfa.specs.Compiled.{IsClassLabel, IsLabel, ReadsWordsOf, IsCompiled, edges_from, only_other, only_noop, HasFixedEdges}
+use Rattle.lalrpop_nfa.specs.Compiled.{IsClassLabel, IsLabel, ReadsWordsOf, IsCompiled, edges_from, HasFixedEdges}
 use Rattle.lalrpop_nfa.specs.declared.edge.Edge.{Edge}
 use Rattle.lalrpop_nfa.specs.declared.edge.StateKind.TheVariants.{Accept, Reject, Neither}
 use Rattle.lalrpop_nfa.proofs.Cases.Path.{just_a, edges_of_a, noop_is, test_is, other_is, path_of_a, path_reads_a_alone}

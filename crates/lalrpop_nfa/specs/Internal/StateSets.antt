@@ -4,6 +4,15 @@ use Rattle.std.specs.List.{Contains, count_by}
 use Rattle.lalrpop_nfa.specs.Lists.{Lists}
 use Rattle.lalrpop_nfa.specs.Path.{Path, Reads, noop}
 
+-- a set of states: the listed ones, and the number that each of them is below
+pub record StateList : Type 0 where
+  pub states : List ℕ
+  pub room : ℕ
+
+-- one state, with room for those below n
+abbrev pub only : ℕ → ℕ → StateList
+only q n = record { states = q ∷ []; room = n }
+
 -- the marked states are the listed ones, and each is listed once
 pub record IsStateSet (states : List ℕ) (marks : List Bool) : Type 0 where
   pub marked : (q : ℕ) → Contains states q ↔ (slice_index_or marks q false ≡ true)
@@ -13,24 +22,27 @@ pub record IsStateSet (states : List ℕ) (marks : List Bool) : Type 0 where
 abbrev pub IsEpsilonEdge : Lists → ℕ → ℕ → Type 0
 IsEpsilonEdge e p q = Contains e.noops (noop p q)
 
--- states were added at the end: only ones that T holds of, and each of them below n
-pub record IsGrown (n : ℕ) (old new : List ℕ) (T : ℕ → Type 0) : Type 0 where
-  pub kept : (more : List ℕ) × (new ≡ old ++ more)
-  pub sound : (q : ℕ) → Contains new q → Contains old q ⊎ T q
-  pub complete : (q : ℕ) → T q → q < n → Contains new q
+-- states were added at the end: only ones that T holds of, and each of those that there is room for
+pub record IsGrown (old new : StateList) (T : ℕ → Type 0) : Type 0 where
+  pub room : new.room ≡ old.room
+  pub kept : (more : List ℕ) × (new.states ≡ old.states ++ more)
+  pub sound : (q : ℕ) → Contains new.states q → Contains old.states q ⊎ T q
+  pub complete : (q : ℕ) → T q → q < old.room → Contains new.states q
 
 -- with a state, those below n that edges lead to by reading nothing are listed too
 abbrev pub IsClosed : Lists → ℕ → List ℕ → Type 0
 IsClosed e n states = (p q : ℕ) → Contains states p → IsEpsilonEdge e p q → q < n → Contains states q
 
--- the states below n that the given ones lead to by reading nothing
-pub record IsClosure (e : Lists) (n : ℕ) (given all : List ℕ) : Type 0 where
-  pub kept : (q : ℕ) → Contains given q → q < n → Contains all q
-  pub sound : (q : ℕ) → Contains all q → (p : ℕ) × (Contains given p × Path e q p [])
-  pub closed : IsClosed e n all
+-- the states that the given ones lead to by reading nothing, as far as there is room for them
+pub record IsClosure (e : Lists) (given all : StateList) : Type 0 where
+  pub room : all.room ≡ given.room
+  pub kept : (q : ℕ) → Contains given.states q → q < given.room → Contains all.states q
+  pub sound : (q : ℕ) → Contains all.states q → (p : ℕ) × (Contains given.states p × Path e q p [])
+  pub closed : IsClosed e given.room all.states
 
--- the states below n that the given ones lead to by reading the value
-pub record IsMove (e : Lists) (n c : ℕ) (given all : List ℕ) : Type 0 where
-  pub sound : (q : ℕ) → Contains all q → (p : ℕ) × (Contains given p × Path e q p (c ∷ []))
-  pub complete : (p q : ℕ) → Contains given p → Reads e p c q → q < n → Contains all q
-  pub closed : IsClosed e n all
+-- the states that the given ones lead to by reading the value, as far as there is room for them
+pub record IsMove (e : Lists) (c : ℕ) (given all : StateList) : Type 0 where
+  pub room : all.room ≡ given.room
+  pub sound : (q : ℕ) → Contains all.states q → (p : ℕ) × (Contains given.states p × Path e q p (c ∷ []))
+  pub complete : (p q : ℕ) → Contains given.states p → Reads e p c q → q < given.room → Contains all.states q
+  pub closed : IsClosed e given.room all.states

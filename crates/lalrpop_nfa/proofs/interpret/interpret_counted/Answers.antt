@@ -7,8 +7,7 @@ use Rattle.std.proofs.Math.Nat.{mul-le-mul_left}
 use Rattle.std.proofs.lemmas.Str.{chars-nil, IsCharBoundary-start, IsCharBoundary-from_take}
 use Rattle.lalrpop_hir.specs.Language.{Matches}
 use Rattle.lalrpop_nfa.specs.Prefix.{IsPrefix}
-use Rattle.lalrpop_nfa.specs.Internal.StateSets.{IsStateSet, IsMove}
-use Rattle.lalrpop_nfa.specs.declared.interpret.StateSet.{StateSet}
+use Rattle.lalrpop_nfa.specs.Internal.StateSets.{StateList, IsMove}
 use Rattle.lalrpop_nfa.proofs.StateSetLemmas.{IsAfterWord, after_none, after_next, matched_if, only_if_matched, none_on}
 use Rattle.lalrpop_nfa.proofs.PrefixLemmas.{IsLongestOfUpTo, of_cut, of_accept, of_start, of_pass, of_end, of_stop}
 use Rattle.lalrpop_nfa.proofs.Cuts.{cut_start, cut_within, cut_more, count_more, count_within, word_after}
@@ -25,13 +24,11 @@ loop-offset-init c =
     let rest = ap char_indices_rest i ∙ c.char_indices-offset-items.ensures.rest in
     let g = c.args.nfa.now in
     let text = c.args.text.now in
-    let states = c.in_ok-state_set.state_set.states.items in
+    let states = c.in_ok-state_set.state_set in
     let after : IsAfterWord g (chars []) states = subst (λ w. IsAfterWord g w states) (sym chars-nil) (after_none g states c.in_ok-state_set.ensures.states) in
     let one : length g.kinds * (length (chars []) + 1) ≡ length g.kinds * (0 + 1) = ap (λ k. length g.kinds * (k + 1)) (ap length chars-nil) in
     rw (at, rest) record {
-      state_set = c.in_ok-state_set.ensures.state_set.0;
-      size = c.in_ok-state_set.ensures.state_set.1;
-      next_size = c.in_ok-next.ensures.2 ∙ c.len.ensures.value;
+      next_room = ap (λ (l : StateList). l.room) c.in_ok-next.ensures ∙ c.len.ensures.value;
       cut = cut_start text c.utf8.text;
       after = after;
       best = λ t h.
@@ -96,13 +93,13 @@ loop-offset-preserved-then-accepts-2 c =
     let rest2 = char_indices_rest c.next.new.self in
     let s = c.in-Some.ensures.steps in
     let i = c.loop-offset.invariant in
-    let states = c.loop-offset.state_set.states.items in
-    let next = c.swap.new.x.states.items in
+    let states = c.loop-offset.state_set in
+    let next = c.swap.new.x in
     let is_next = c.swap.ensures.x_after in
     let cut = cut_more text rest rest2 at at2 c.in-Some.c c.utf8.text i.cut s.1 s.2 in
     let move =
-    subst (λ (l : StateSet). IsMove g.edges (length g.kinds) c.in-Some.c states l.states.items) (sym is_next)
-    (subst (λ v. IsMove g.edges (length g.kinds) v states c.read_from.new.self.states.items) c.from.ensures c.in_ok-read_from.ensures.states) in
+    subst (λ (l : StateList). IsMove g.edges c.in-Some.c states l) (sym is_next)
+    (subst (λ v. IsMove g.edges v states c.read_from.new.self) c.from.ensures c.in_ok-read_from.ensures.states) in
     let after =
     subst (λ w. IsAfterWord g w next) (sym (word_after text rest rest2 at at2 c.in-Some.c i.cut s.1 s.2))
     (after_next g (chars (take at text)) c.in-Some.c states next i.after move) in
@@ -110,9 +107,7 @@ loop-offset-preserved-then-accepts-2 c =
     let is : c.range-then-accepts-2.result.now ≡ take at2 text = c.range-then-accepts-2.ensures.value ∙ ap (λ n. take n text) place in
     let count = ap (λ k. length g.kinds * (k + 1)) (count_more text rest rest2 at at2 c.in-Some.c i.cut s.1 s.2) in
     record {
-      state_set = subst (λ (l : StateSet). IsStateSet l.states.items l.marks.items) (sym is_next) c.in_ok-read_from.ensures.state_set;
-      size = subst (λ (l : StateSet). length l.marks.items ≡ length g.kinds) (sym is_next) c.in_ok-read_from.ensures.size;
-      next_size = subst (λ (l : StateSet). length l.marks.items ≡ length g.kinds) (sym c.swap.ensures.y_after) i.size;
+      next_room = ap (λ (l : StateList). l.room) c.swap.ensures.y_after ∙ i.after.room;
       cut = cut;
       after = after;
       best = λ t h.
@@ -133,21 +128,19 @@ loop-offset-preserved c =
     let rest2 = char_indices_rest c.next.new.self in
     let s = c.in-Some.ensures.steps in
     let i = c.loop-offset.invariant in
-    let states = c.loop-offset.state_set.states.items in
-    let next = c.swap.new.x.states.items in
+    let states = c.loop-offset.state_set in
+    let next = c.swap.new.x in
     let is_next = c.swap.ensures.x_after in
     let cut = cut_more text rest rest2 at at2 c.in-Some.c c.utf8.text i.cut s.1 s.2 in
     let move =
-    subst (λ (l : StateSet). IsMove g.edges (length g.kinds) c.in-Some.c states l.states.items) (sym is_next)
-    (subst (λ v. IsMove g.edges (length g.kinds) v states c.read_from.new.self.states.items) c.from.ensures c.in_ok-read_from.ensures.states) in
+    subst (λ (l : StateList). IsMove g.edges c.in-Some.c states l) (sym is_next)
+    (subst (λ v. IsMove g.edges v states c.read_from.new.self) c.from.ensures c.in_ok-read_from.ensures.states) in
     let after =
     subst (λ w. IsAfterWord g w next) (sym (word_after text rest rest2 at at2 c.in-Some.c i.cut s.1 s.2))
     (after_next g (chars (take at text)) c.in-Some.c states next i.after move) in
     let count = ap (λ k. length g.kinds * (k + 1)) (count_more text rest rest2 at at2 c.in-Some.c i.cut s.1 s.2) in
     record {
-      state_set = subst (λ (l : StateSet). IsStateSet l.states.items l.marks.items) (sym is_next) c.in_ok-read_from.ensures.state_set;
-      size = subst (λ (l : StateSet). length l.marks.items ≡ length g.kinds) (sym is_next) c.in_ok-read_from.ensures.size;
-      next_size = subst (λ (l : StateSet). length l.marks.items ≡ length g.kinds) (sym c.swap.ensures.y_after) i.size;
+      next_room = ap (λ (l : StateList). l.room) c.swap.ensures.y_after ∙ i.after.room;
       cut = cut;
       after = after;
       best = λ t h.
@@ -173,7 +166,7 @@ returns-clause-answer c = λ t h.
       | in-None w ↦ of_end (Matches t) text rest at longest i.cut w.in-None.ensures.steps.0 (i.best t h)
       | in-Some+then-rejects w ↦
           of_stop (Matches t) text rest at longest i.cut
-          (none_on t c.args.nfa.now (chars (take at text)) c.loop-offset.state_set.states.items h i.after (w.rejects.ensures.0 w.if-rejects.true)) (i.best t h)
+          (none_on t c.args.nfa.now (chars (take at text)) c.loop-offset.state_set h i.after (w.rejects.ensures.0 w.if-rejects.true)) (i.best t h)
     ]
 
 pub returns-clause-cost : goal.returns-clause-cost

@@ -7,7 +7,6 @@ use Rattle.lalrpop_hir.specs.Tree.{Tree}
 use Rattle.lalrpop_hir.specs.Language.{Matches}
 use Rattle.lalrpop_nfa.specs.Prefix.{IsPrefix}
 use Rattle.lalrpop_nfa.specs.Compiled.{IsCompiled}
-use Rattle.lalrpop_nfa.specs.Internal.StateSets.{IsStateSet}
 use Rattle.lalrpop_nfa.proofs.StateSetLemmas.{IsAfterWord}
 use Rattle.lalrpop_nfa.proofs.PrefixLemmas.{IsLongestOfUpTo}
 use Rattle.lalrpop_nfa.proofs.Cuts.{IsCut}
@@ -15,11 +14,9 @@ use Rattle.lalrpop_nfa.proofs.interpret.interpret_counted.Given as goal
 
 abbrev pub invariant-loop-offset : goal.invariant-loop-offset
 invariant-loop-offset l = record {
-  state_set : IsStateSet l.state_set.states.items l.state_set.marks.items;
-  size : length l.state_set.marks.items ≡ length l.nfa.kinds;
-  next_size : length l.next.marks.items ≡ length l.nfa.kinds;
+  next_room : l.next.room ≡ length l.nfa.kinds;
   cut : IsCut l.text (char_indices_offset l.offset-iterator) (char_indices_rest l.offset-iterator);
-  after : IsAfterWord l.nfa (chars (take (char_indices_offset l.offset-iterator) l.text)) l.state_set.states.items;
+  after : IsAfterWord l.nfa (chars (take (char_indices_offset l.offset-iterator) l.text)) l.state_set;
   best : (t : Tree) → IsCompiled t l.nfa → IsLongestOfUpTo (Matches t) l.text (char_indices_offset l.offset-iterator) (option_map (λ s. s.now) l.longest);
   prefix : IfSome l.longest (λ s. IsPrefix s.now l.text);
   rises : l.fn.steps ≤ l.steps;
