@@ -1,6 +1,6 @@
 -- cases: proofs/Cases/Firsts.antt
--- The three kinds of labels, and what leaves the lists and indices of the other two alone.
-use Rattle.std.specs.Prelude.{◌≡◌}
+-- The three kinds of labels: each has its list of edges, and its index in a state.
+use Rattle.std.specs.Prelude.{◌≡◌, ℕ, Option}
 use Rattle.lalrpop_nfa.specs.Lists.{Lists}
 use Rattle.lalrpop_nfa.specs.declared.edge.State.{State}
 
@@ -15,8 +15,14 @@ SameListsBut Noops e f = (f.tests ≡ e.tests) × (f.others ≡ e.others)
 SameListsBut Tests e f = (f.noops ≡ e.noops) × (f.others ≡ e.others)
 SameListsBut Others e f = (f.noops ≡ e.noops) × (f.tests ≡ e.tests)
 
--- t has the kind and the indices of s, save the index of this kind of labels
-abbrev pub SameFirstsBut : LabelKind → State → State → Type 0
-SameFirstsBut Noops s t = (t.kind ≡ s.kind) × (t.first_test_edge ≡ s.first_test_edge) × (t.first_other_edge ≡ s.first_other_edge)
-SameFirstsBut Tests s t = (t.kind ≡ s.kind) × (t.first_noop_edge ≡ s.first_noop_edge) × (t.first_other_edge ≡ s.first_other_edge)
-SameFirstsBut Others s t = (t.kind ≡ s.kind) × (t.first_noop_edge ≡ s.first_noop_edge) × (t.first_test_edge ≡ s.first_test_edge)
+-- where the state's edges of this kind begin
+abbrev pub index_of : LabelKind → State → Option ℕ
+index_of Noops s = s.first_noop_edge
+index_of Tests s = s.first_test_edge
+index_of Others s = s.first_other_edge
+
+-- the state, save that its edges of this kind begin here
+abbrev pub with_index : LabelKind → State → Option ℕ → State
+with_index Noops s i = record s { first_noop_edge = i }
+with_index Tests s i = record s { first_test_edge = i }
+with_index Others s i = record s { first_other_edge = i }

@@ -17,7 +17,7 @@ use super::{
     ACCEPT, Edges, Nfa, NfaConstructionError, NfaStateIndex, Noop, Other, REJECT, START, State,
     StateKind, Test,
 };
-use lalrpop_hir::{Class, ClassBytesRange, ClassUnicodeRange, Hir, HirKind, Repetition};
+use lalrpop_hir::{Class, Hir, HirKind, Repetition};
 use std::alloc::{AllocError, Global};
 
 impl Nfa {
@@ -119,45 +119,11 @@ impl Nfa {
         Ok(entry)
     }
 
-    // A state for a set of characters. For the set of two ranges:
+    // A state for a class. For the class of two ranges:
     //
     //     [state] --first range---> [target]
     //        |  +---second range--> [target]
     //        +------other---------> [REJECT]
-    fn unicode_class_expr(
-        &mut self,
-        ranges: &[ClassUnicodeRange],
-        target: NfaStateIndex,
-    ) -> Result<NfaStateIndex, AllocError>
-        requires { LeavesStates self.old }
-        ensures { IfOk result (Extends (made.one_of ranges.now) target self.old self.new) }
-    {
-        let state = self.new_state(StateKind::Neither)?;
-        for range in ranges {
-            self.push_edge(state, Test::from(*range), target)?;
-        }
-        self.push_edge(state, Other, REJECT)?;
-        Ok(state)
-    }
-
-    // A state for a set of bytes, with edges like those of a set of characters.
-    fn bytes_class_expr(
-        &mut self,
-        ranges: &[ClassBytesRange],
-        target: NfaStateIndex,
-    ) -> Result<NfaStateIndex, AllocError>
-        requires { LeavesStates self.old }
-        ensures { IfOk result (Extends (made.one_of ranges.now) target self.old self.new) }
-    {
-        let state = self.new_state(StateKind::Neither)?;
-        for range in ranges {
-            self.push_edge(state, Test::from(*range), target)?;
-        }
-        self.push_edge(state, Other, REJECT)?;
-        Ok(state)
-    }
-
-    // A state for a class.
     fn class_expr(
         &mut self,
         class: &Class,
@@ -168,10 +134,21 @@ impl Nfa {
             (Extends (made.class_construction (class_of class.now)) target self.old self.new) }
         ensures valid { OnOk result (IsValidClass (class_of class.now)) }
     {
+        let state = self.new_state(StateKind::Neither)?;
         match class {
-            Class::Unicode(class) => self.unicode_class_expr(class.ranges(), target),
-            Class::Bytes(class) => self.bytes_class_expr(class.ranges(), target),
+            Class::Unicode(class) => {
+                for range in class.ranges() {
+                    self.push_edge(state, Test::from(*range), target)?;
+                }
+            }
+            Class::Bytes(class) => {
+                for range in class.ranges() {
+                    self.push_edge(state, Test::from(*range), target)?;
+                }
+            }
         }
+        self.push_edge(state, Other, REJECT)?;
+        Ok(state)
     }
 
     // Compiles the tree towards the target, and gives the state at which it begins.
@@ -218,7 +195,11 @@ impl Nfa {
         target: NfaStateIndex,
     ) -> Result<NfaStateIndex, NfaConstructionError>
         requires { LeavesStates self.old }
-        ensures extended { IfOk result (Extends (made.repeat_expr (made.fragment_of repetition.now.sub) repetition.now.min repetition.now.max) target self.old self.new) }
+        ensures extended { IfOk result
+            (Extends
+            (made.repeat_expr
+            (made.fragment_of repetition.now.sub) repetition.now.min repetition.now.max) target
+            self.old self.new) }
         ensures no_fault { OnOk result (greedy_fault repetition.now.max (fault repetition.now.sub)
             ≡ None) }
         ensures valid { OnOk result (AreOrdered repetition.now.min repetition.now.max

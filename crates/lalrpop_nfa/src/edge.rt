@@ -1,6 +1,7 @@
 //! States and edges of an automaton, and the three kinds of labels.
 ghost use Rattle.std.specs.Prelude.{◌≡◌, ℕ, ◌+◌, ◌<◌, List, Option};
 ghost use Rattle.std.specs.Borrow.{sem};
+ghost use Rattle.lalrpop_nfa.specs.Firsts.{index_of, with_index};
 ghost use Rattle.lalrpop_nfa.specs.Internal.FirstSet.{first_set};
 
 use lalrpop_ranges::Test;
@@ -61,7 +62,12 @@ impl Model for State {
 
     ghost Value = { StateView };
 
-    ghost view = { λ s. record { kind = s.kind; first_noop_edge = s.first_noop_edge; first_test_edge = s.first_test_edge; first_other_edge = s.first_other_edge } };
+    ghost view = { λ s. record {
+      kind = s.kind;
+      first_noop_edge = s.first_noop_edge;
+      first_test_edge = s.first_test_edge;
+      first_other_edge = s.first_other_edge;
+    } };
 }
 
 /// An edge from a state to a state.
@@ -94,7 +100,11 @@ impl Model for Edges {
 
     ghost Value = { Lists };
 
-    ghost view = { λ e. record { noops = e.noop_edges.items; tests = e.test_edges.items; others = e.other_edges.items } };
+    ghost view = { λ e. record {
+      noops = e.noop_edges.items;
+      tests = e.test_edges.items;
+      others = e.other_edges.items;
+    } };
 }
 
 /// A kind of label, with its list of edges and its index in a state. Writing through the `_mut` calls leaves the lists
@@ -104,21 +114,17 @@ pub trait EdgeLabel: Sized {
     ghost use Rattle.lalrpop_nfa.specs.declared.edge.Edge.{Edge};
     ghost use Rattle.lalrpop_nfa.specs.declared.edge.State.{State};
     ghost use Rattle.lalrpop_nfa.specs.Lists.{Lists};
-    ghost use Rattle.lalrpop_nfa.specs.Firsts.{LabelKind, SameListsBut, SameFirstsBut};
+    ghost use Rattle.lalrpop_nfa.specs.Firsts.{LabelKind, SameListsBut, index_of, with_index};
     ghost use Rattle.lalrpop_nfa.specs.Walk.{IsContiguous};
     ghost use Rattle.lalrpop_nfa.specs.Contiguous.{AreContiguous};
     ghost use Rattle.lalrpop_nfa.specs.Lending.{LendsList, LendsFirst};
 
-    // Which of the three lists, and which of the three indices, this label's are.
+    // Which of the three lists, and which of the three indices, are this label's.
     ghost kind: { LabelKind };
 
     ghost list: { Lists → List (Edge Self) };
 
     ghost with_list: { Lists → List (Edge Self) → Lists };
-
-    ghost index: { State → Option ℕ };
-
-    ghost with_index: { State → Option ℕ → State };
 
     fn vec_mut(nfa: &mut Edges) -> &mut Vec<Edge<Self>>
         ensures* writes_back { sem 𝓛 (LendsList Self.row nfa.entry result (with_list nfa.old)) }
@@ -128,29 +134,26 @@ pub trait EdgeLabel: Sized {
         ensures value { result.now.items ≡ list nfa.now };
 
     fn first_mut(state: &mut State) -> &mut Option<usize>
-        ensures* writes_back { sem 𝓛 (LendsFirst state.entry result (with_index state.old)) }
-        ensures value { result.now ≡ index state.old };
+        ensures* writes_back { sem 𝓛 (LendsFirst state.entry result (with_index kind state.old)) }
+        ensures value { result.now ≡ index_of kind state.old };
 
     fn first(state: &State) -> &Option<usize>
-        ensures value { result.now ≡ index state.now };
+        ensures value { result.now ≡ index_of kind state.now };
 
     // What is written to the list is what the list is, and the two other lists stay.
     ghost list_written: { (e : Lists) (es : List (Edge Self)) → list (with_list e es) ≡ es };
 
     ghost list_unwritten: { (e : Lists) → with_list e (list e) ≡ e };
 
-    ghost other_lists_kept: { (e : Lists) (es : List (Edge Self)) → SameListsBut kind e (with_list e es) };
-
-    ghost index_written: { (s : State) (i : Option ℕ) → index (with_index s i) ≡ i };
-
-    ghost index_unwritten: { (s : State) → with_index s (index s) ≡ s };
-
-    ghost other_indices_kept: { (s : State) (i : Option ℕ) → SameFirstsBut kind s (with_index s i) };
+    ghost other_lists_kept: { (e : Lists) (es : List (Edge Self))
+        → SameListsBut kind e (with_list e es) };
 
     // The run of this kind is the run of this list from this index on.
-    ghost run_in: { (e : Lists) (s : State) (q : ℕ) → AreContiguous kind e s q → IsContiguous q (list e) (index s) };
+    ghost run_in: { (e : Lists) (s : State) (q : ℕ) → AreContiguous kind e s q
+        → IsContiguous q (list e) (index_of kind s) };
 
-    ghost run_out: { (e : Lists) (s : State) (q : ℕ) → IsContiguous q (list e) (index s) → AreContiguous kind e s q };
+    ghost run_out: { (e : Lists) (s : State) (q : ℕ) → IsContiguous q (list e) (index_of kind s)
+        → AreContiguous kind e s q };
 }
 
 impl EdgeLabel for Noop {
@@ -163,21 +166,11 @@ impl EdgeLabel for Noop {
 
     ghost with_list = { λ e es. record e { noops = es } };
 
-    ghost index = { λ s. s.first_noop_edge };
-
-    ghost with_index = { λ s i. record s { first_noop_edge = i } };
-
     ghost list_written = { λ e v. refl };
 
     ghost list_unwritten = { λ e. refl };
 
     ghost other_lists_kept = { λ e v. (refl, refl) };
-
-    ghost index_written = { λ s i. refl };
-
-    ghost index_unwritten = { λ s. refl };
-
-    ghost other_indices_kept = { λ s i. (refl, refl, refl) };
 
     ghost run_in = { λ e s q r. r };
 
@@ -210,21 +203,11 @@ impl EdgeLabel for Test {
 
     ghost with_list = { λ e es. record e { tests = es } };
 
-    ghost index = { λ s. s.first_test_edge };
-
-    ghost with_index = { λ s i. record s { first_test_edge = i } };
-
     ghost list_written = { λ e v. refl };
 
     ghost list_unwritten = { λ e. refl };
 
     ghost other_lists_kept = { λ e v. (refl, refl) };
-
-    ghost index_written = { λ s i. refl };
-
-    ghost index_unwritten = { λ s. refl };
-
-    ghost other_indices_kept = { λ s i. (refl, refl, refl) };
 
     ghost run_in = { λ e s q r. r };
 
@@ -257,21 +240,11 @@ impl EdgeLabel for Other {
 
     ghost with_list = { λ e es. record e { others = es } };
 
-    ghost index = { λ s. s.first_other_edge };
-
-    ghost with_index = { λ s i. record s { first_other_edge = i } };
-
     ghost list_written = { λ e v. refl };
 
     ghost list_unwritten = { λ e. refl };
 
     ghost other_lists_kept = { λ e v. (refl, refl) };
-
-    ghost index_written = { λ s i. refl };
-
-    ghost index_unwritten = { λ s. refl };
-
-    ghost other_indices_kept = { λ s i. (refl, refl, refl) };
 
     ghost run_in = { λ e s q r. r };
 
@@ -296,7 +269,8 @@ impl EdgeLabel for Other {
 
 // Notes the index where the state has no first index of this kind yet.
 pub(super) fn set_first<L: EdgeLabel>(state: &mut State, edge_index: usize)
-    ensures { state.new ≡ L.with_index state.old (first_set (L.index state.old) edge_index) }
+    ensures { state.new
+        ≡ with_index L.kind state.old (first_set (index_of L.kind state.old) edge_index) }
 {
     let first = L::first_mut(state);
     if first.is_none() {

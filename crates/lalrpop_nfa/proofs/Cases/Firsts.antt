@@ -1,9 +1,9 @@
 -- Cases of specs/Firsts.antt.
-use Rattle.std.proofs.Common.{[], ◌∷◌, Some, None, refl}
+use Rattle.std.proofs.Common.{◌≡◌, ◌≢◌, [], ◌∷◌, Some, None, refl, ap}
 use Rattle.lalrpop_nfa.specs.Lists.{Lists}
 use Rattle.lalrpop_nfa.specs.Path.{noop}
 use Rattle.lalrpop_nfa.specs.StateView.{StateView}
-use Rattle.lalrpop_nfa.specs.Firsts.{Noops, Tests, Others, SameListsBut, SameFirstsBut}
+use Rattle.lalrpop_nfa.specs.Firsts.{Noops, Tests, Others, SameListsBut, index_of, with_index}
 use Rattle.lalrpop_nfa.specs.declared.edge.StateKind.TheVariants.{Accept, Neither}
 
 abbrev no_edges : Lists
@@ -23,13 +23,16 @@ lists_that_differ_elsewhere = ((λ h. let e = h.0 in absurd (cc)), (λ h. let e 
 abbrev bare : StateView
 bare = record { kind = Neither; first_noop_edge = None; first_test_edge = None; first_other_edge = None }
 
--- the same for the indices of a state
-states_that_differ_in_noops : SameFirstsBut Noops bare (record bare { first_noop_edge = Some 0 })
-states_that_differ_in_noops = (refl, refl, refl)
+abbrev begun : StateView
+begun = record { kind = Accept; first_noop_edge = Some 0; first_test_edge = Some 1; first_other_edge = None }
 
-states_that_differ_elsewhere : ¬ SameFirstsBut Tests bare (record bare { first_noop_edge = Some 0 })
-states_that_differ_elsewhere h = let e = h.1 in absurd (cc)
+-- each kind has an index of its own
+indices_of_begun : (index_of Noops begun ≡ Some 0) × (index_of Tests begun ≡ Some 1) × (index_of Others begun ≡ None)
+indices_of_begun = (refl, refl, refl)
 
--- kinds are left alone
-states_of_other_kinds : ¬ SameFirstsBut Noops bare (record bare { kind = Accept })
-states_of_other_kinds h = let e = h.0 in absurd (cc)
+-- one index is written, and the others and the kind of the state are left alone
+begun_with_tests_elsewhere : with_index Tests begun (Some 7) ≡ record { kind = Accept; first_noop_edge = Some 0; first_test_edge = Some 7; first_other_edge = None }
+begun_with_tests_elsewhere = refl
+
+with_other_tests_is_not_with_other_noops : with_index Tests bare (Some 0) ≢ with_index Noops bare (Some 0)
+with_other_tests_is_not_with_other_noops h = let e = ap (λ (s : StateView). s.first_noop_edge) h in absurd (cc)

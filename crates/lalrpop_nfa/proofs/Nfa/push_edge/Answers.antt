@@ -5,7 +5,7 @@ use Rattle.lalrpop_nfa.proofs.Nfa.push_edge.Goals as goal
 
 pub invariant_of-self-2 : goal.invariant_of-self-2
 invariant_of-self-2 g c = let o = g.L.EdgeLabel in let m = g.met.L.EdgeLabel in
-    AllContiguous-pushed o.kind o.list o.with_list o.index o.with_index m.list_written m.other_lists_kept m.index_written m.other_indices_kept m.run_in m.run_out
+    AllContiguous-pushed o.kind o.list o.with_list m.list_written m.other_lists_kept m.run_in m.run_out
     c.self.inside.states.items c.self.inside.edges c.from.inside.0 (record { from = c.args.from; label = c.args.label; to = c.args.to }) c.index_mut.result.now c.len-edge_index.result
     (state_here c.self.inside.states.items c.from.inside.0 c.args.from c.args.self.now c.index_mut.result.now c.self.inside.edges c.self.view_is c.from.view_is c.requires.is_state c.index_mut.ensures.value)
     (c.len-edge_index.ensures ∙ (c.vec_mut-list.result.now.ok.0 ∙ ap length c.vec_mut-list.ensures.value))
@@ -15,7 +15,7 @@ invariant_of-self-2 g c = let o = g.L.EdgeLabel in let m = g.met.L.EdgeLabel in
 
 pub returns-clause-pushed : goal.returns-clause-pushed
 returns-clause-pushed g c = let o = g.L.EdgeLabel in let m = g.met.L.EdgeLabel in
-    let kinds = kinds-pushed o.kind o.list o.with_list o.index o.with_index m.list_written m.other_lists_kept m.index_written m.other_indices_kept m.run_in m.run_out
+    let kinds = kinds-pushed o.kind o.list o.with_list m.list_written m.other_lists_kept m.run_in m.run_out
     c.self.inside.states.items c.self.inside.edges c.from.inside.0 (record { from = c.args.from; label = c.args.label; to = c.args.to }) c.index_mut.result.now c.len-edge_index.result
     (state_here c.self.inside.states.items c.from.inside.0 c.args.from c.args.self.now c.index_mut.result.now c.self.inside.edges c.self.view_is c.from.view_is c.requires.is_state c.index_mut.ensures.value)
     (c.len-edge_index.ensures ∙ (c.vec_mut-list.result.now.ok.0 ∙ ap length c.vec_mut-list.ensures.value))

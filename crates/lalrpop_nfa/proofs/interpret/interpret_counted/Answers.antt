@@ -1,4 +1,4 @@
-use Rattle.std.proofs.Common.{◌≡◌, ◌≤◌, ◌+◌, ◌-◌, ◌*◌, [], length, take, sym, ap, subst, ◌∙◌, arith}
+use Rattle.std.proofs.Common.{ℕ, List, ◌≡◌, ◌≤◌, ◌+◌, ◌-◌, ◌*◌, [], length, take, sym, ap, subst, ◌∙◌, arith}
 use Rattle.std.specs.Prelude.{IfSome}
 use Rattle.std.specs.Str.{chars, IsCharBoundary}
 use Rattle.std.specs.Str.Iter.{char_indices_rest, char_indices_offset}
@@ -10,9 +10,10 @@ use Rattle.lalrpop_nfa.specs.Prefix.{IsPrefix}
 use Rattle.lalrpop_nfa.specs.Internal.StateSets.{StateList, IsMove}
 use Rattle.lalrpop_nfa.proofs.StateSetLemmas.{IsAfterWord, after_none, after_next, matched_if, only_if_matched, none_on}
 use Rattle.lalrpop_nfa.proofs.PrefixLemmas.{IsLongestOfUpTo, of_cut, of_accept, of_start, of_pass, of_end, of_stop}
-use Rattle.lalrpop_nfa.proofs.Cuts.{cut_start, cut_within, cut_more, count_more, count_within, word_after}
+use Rattle.lalrpop_nfa.specs.Graph.{Graph}
+use Rattle.lalrpop_nfa.proofs.Cuts.{IsCut, cut_start, cut_within, cut_more, count_more, count_within, word_after}
 use Rattle.lalrpop_nfa.proofs.interpret.interpret_counted.Goals as goal
-use Rattle.lalrpop_nfa.proofs.interpret.interpret_counted.Goals.{then-accepts, else-accepts, in-None, in-Some+then-rejects}
+use Rattle.lalrpop_nfa.proofs.interpret.interpret_counted.Goals.{After-swap, then-accepts, else-accepts, in-None, in-Some+then-rejects}
 
 pub range-requires-clause-end_boundary : goal.range-requires-clause-end_boundary
 range-requires-clause-end_boundary c = IsCharBoundary-start c.args.text.now c.utf8.text
@@ -83,8 +84,14 @@ range-requires-then-accepts-2-clause-end_boundary c =
     let long = cut_within text rest2 at2 cut in
     subst (IsCharBoundary text) is (IsCharBoundary-from_take text at2 c.utf8.text (omega arith) cut.seen_utf8)
 
-pub loop-offset-preserved-then-accepts-2 : goal.loop-offset-preserved-then-accepts-2
-loop-offset-preserved-then-accepts-2 c =
+-- the set after one more character, at the end of that character
+record IsNext (g : Graph) (text rest2 : List ℕ) (seen at2 : ℕ) (next : StateList) : Type 0 where
+  cut : IsCut text at2 rest2
+  after : IsAfterWord g (chars (take at2 text)) next
+  count : length g.kinds * (length (chars (take at2 text)) + 1) ≡ length g.kinds * (seen + 1 + 1)
+
+next_set : (c : After-swap) → IsNext c.args.nfa.now c.args.text.now (char_indices_rest c.next.new.self) (length (chars (take (char_indices_offset c.loop-offset.offset-iterator) c.args.text.now))) (char_indices_offset c.next.new.self) c.swap.new.x
+next_set c =
     let g = c.args.nfa.now in
     let text = c.args.text.now in
     let at = char_indices_offset c.loop-offset.offset-iterator in
@@ -95,64 +102,62 @@ loop-offset-preserved-then-accepts-2 c =
     let i = c.loop-offset.invariant in
     let states = c.loop-offset.state_set in
     let next = c.swap.new.x in
-    let is_next = c.swap.ensures.x_after in
-    let cut = cut_more text rest rest2 at at2 c.in-Some.c c.utf8.text i.cut s.1 s.2 in
     let move =
-    subst (λ (l : StateList). IsMove g.edges c.in-Some.c states l) (sym is_next)
+    subst (λ (l : StateList). IsMove g.edges c.in-Some.c states l) (sym c.swap.ensures.x_after)
     (subst (λ v. IsMove g.edges v states c.read_from.new.self) c.from.ensures c.in_ok-read_from.ensures.states) in
-    let after =
-    subst (λ w. IsAfterWord g w next) (sym (word_after text rest rest2 at at2 c.in-Some.c i.cut s.1 s.2))
-    (after_next g (chars (take at text)) c.in-Some.c states next i.after move) in
+    record {
+      cut = cut_more text rest rest2 at at2 c.in-Some.c c.utf8.text i.cut s.1 s.2;
+      after =
+          subst (λ w. IsAfterWord g w next) (sym (word_after text rest rest2 at at2 c.in-Some.c i.cut s.1 s.2))
+          (after_next g (chars (take at text)) c.in-Some.c states next i.after move);
+      count = ap (λ k. length g.kinds * (k + 1)) (count_more text rest rest2 at at2 c.in-Some.c i.cut s.1 s.2);
+    }
+
+pub loop-offset-preserved-then-accepts-2 : goal.loop-offset-preserved-then-accepts-2
+loop-offset-preserved-then-accepts-2 c =
+    let text = c.args.text.now in
+    let at2 = char_indices_offset c.next.new.self in
+    let rest2 = char_indices_rest c.next.new.self in
+    let s = c.in-Some.ensures.steps in
+    let i = c.loop-offset.invariant in
+    let n = next_set (goal.at.loop-offset-preserved-then-accepts-2 c).After-swap in
     let place : c.in-Some.offset + c.len_utf8.result - 0 ≡ at2 = omega (arith, s.0, s.2, c.len_utf8.ensures.len) in
     let is : c.range-then-accepts-2.result.now ≡ take at2 text = c.range-then-accepts-2.ensures.value ∙ ap (λ n. take n text) place in
-    let count = ap (λ k. length g.kinds * (k + 1)) (count_more text rest rest2 at at2 c.in-Some.c i.cut s.1 s.2) in
     record {
       next_room = ap (λ (l : StateList). l.room) c.swap.ensures.y_after ∙ i.after.room;
-      cut = cut;
-      after = after;
+      cut = n.cut;
+      after = n.after;
       best = λ t h.
-          of_accept (Matches t) text rest2 at2 c.range-then-accepts-2.result.now cut is
-          (matched_if t g (chars (take at2 text)) next h after (c.accepts-in-loop-offset.ensures.0 c.if-accepts-2.true));
-      prefix = of_cut text rest2 at2 c.range-then-accepts-2.result.now cut is;
+          of_accept (Matches t) text rest2 at2 c.range-then-accepts-2.result.now n.cut is
+          (matched_if t c.args.nfa.now (chars (take at2 text)) c.swap.new.x h n.after (c.accepts-in-loop-offset.ensures.0 c.if-accepts-2.true));
+      prefix = of_cut text rest2 at2 c.range-then-accepts-2.result.now n.cut is;
       rises = omega (arith, c.read_from.ensures.rises, i.rises);
-      cost = omega (arith, count, i.cost, c.read_from.ensures.cost);
+      cost = omega (arith, n.count, i.cost, c.read_from.ensures.cost);
     }
 
 pub loop-offset-preserved : goal.loop-offset-preserved
 loop-offset-preserved c =
-    let g = c.args.nfa.now in
     let text = c.args.text.now in
     let at = char_indices_offset c.loop-offset.offset-iterator in
     let at2 = char_indices_offset c.next.new.self in
-    let rest = char_indices_rest c.loop-offset.offset-iterator in
-    let rest2 = char_indices_rest c.next.new.self in
     let s = c.in-Some.ensures.steps in
     let i = c.loop-offset.invariant in
-    let states = c.loop-offset.state_set in
-    let next = c.swap.new.x in
-    let is_next = c.swap.ensures.x_after in
-    let cut = cut_more text rest rest2 at at2 c.in-Some.c c.utf8.text i.cut s.1 s.2 in
-    let move =
-    subst (λ (l : StateList). IsMove g.edges c.in-Some.c states l) (sym is_next)
-    (subst (λ v. IsMove g.edges v states c.read_from.new.self) c.from.ensures c.in_ok-read_from.ensures.states) in
-    let after =
-    subst (λ w. IsAfterWord g w next) (sym (word_after text rest rest2 at at2 c.in-Some.c i.cut s.1 s.2))
-    (after_next g (chars (take at text)) c.in-Some.c states next i.after move) in
-    let count = ap (λ k. length g.kinds * (k + 1)) (count_more text rest rest2 at at2 c.in-Some.c i.cut s.1 s.2) in
+    let n = next_set (goal.at.loop-offset-preserved c).After-swap in
     record {
       next_room = ap (λ (l : StateList). l.room) c.swap.ensures.y_after ∙ i.after.room;
-      cut = cut;
-      after = after;
+      cut = n.cut;
+      after = n.after;
       best = λ t h.
-          of_pass (Matches t) text rest rest2 at at2 c.in-Some.c (option_map (λ s. s.now) c.loop-offset.longest) i.cut s.1 s.2
+          of_pass (Matches t) text (char_indices_rest c.loop-offset.offset-iterator) (char_indices_rest c.next.new.self) at at2 c.in-Some.c
+          (option_map (λ s. s.now) c.loop-offset.longest) i.cut s.1 s.2
           (λ m.
-          let yes = c.accepts-in-loop-offset.ensures.1 (only_if_matched t g (chars (take at2 text)) next h after m) in
+          let yes = c.accepts-in-loop-offset.ensures.1 (only_if_matched t c.args.nfa.now (chars (take at2 text)) c.swap.new.x h n.after m) in
           let no = c.if-accepts-2.false in
           absurd cc)
           (i.best t h);
       prefix = i.prefix;
       rises = omega (arith, c.read_from.ensures.rises, i.rises);
-      cost = omega (arith, count, i.cost, c.read_from.ensures.cost);
+      cost = omega (arith, n.count, i.cost, c.read_from.ensures.cost);
     }
 
 pub returns-clause-answer : goal.returns-clause-answer
