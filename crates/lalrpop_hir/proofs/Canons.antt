@@ -30,14 +30,14 @@ pub IsScalar-from_char : (c : ℕ) → scalar c ≡ true → IsScalar c
 IsScalar-from_char c h = elim (scalar_cases c h) [ inl a ↦ inl (omega arith) | inr b ↦ inr (b.0, omega (arith, b.1)) ]
 
 -- what a class keeps, as `next` counts the values of S
-abbrev AreKept : (ℕ → ℕ) → (ℕ → Type 0) → List Range → Type 0
+abbrev pub AreKept : (ℕ → ℕ) → (ℕ → Type 0) → List Range → Type 0
 AreKept next S rs = AreApart next rs × HaveEndsIn S rs
 
-head-holds : (next : ℕ → ℕ) (y : Range) (ys : List Range) → AreApart next (y ∷ ys) → y.start ≤ y.end
+pub head-holds : (next : ℕ → ℕ) (y : Range) (ys : List Range) → AreApart next (y ∷ ys) → y.start ≤ y.end
 head-holds next y [] a = a
 head-holds next y (z ∷ ys) a = a.0
 
-tail-apart : (next : ℕ → ℕ) (y : Range) (ys : List Range) → AreApart next (y ∷ ys) → AreApart next ys
+pub tail-apart : (next : ℕ → ℕ) (y : Range) (ys : List Range) → AreApart next (y ∷ ys) → AreApart next ys
 tail-apart next y [] a = tt
 tail-apart next y (z ∷ ys) a = a.2
 
@@ -47,7 +47,7 @@ behind next S steps x (y ∷ ys) a c (inl h) = omega (arith, a.1, h.0)
 behind next S steps x (y ∷ ys) a c (inr h) =
     omega (arith, a.1, head-holds next y ys a.2, steps.above y.end, behind next S steps y ys a.2 c h)
 
-from_start : (next : ℕ → ℕ) (S : ℕ → Type 0) → Steps next S → (x : Range) (ys : List Range) → AreApart next (x ∷ ys) → (c : ℕ) → Covered (x ∷ ys) c → x.start ≤ c
+pub from_start : (next : ℕ → ℕ) (S : ℕ → Type 0) → Steps next S → (x : Range) (ys : List Range) → AreApart next (x ∷ ys) → (c : ℕ) → Covered (x ∷ ys) c → x.start ≤ c
 from_start next S steps x ys a c (inl h) = h.0
 from_start next S steps x ys a c (inr h) =
     omega (arith, head-holds next x ys a, steps.above x.end, behind next S steps x ys a c h)

@@ -1,9 +1,10 @@
 -- The runs between the runs of a canonical list, which are the runs of the characters that it leaves out.
-use Rattle.std.proofs.Common.{◌≡◌, ℕ, suc, ◌+◌, ◌-◌, ◌<◌, ◌≤◌, ◌⊎◌, inl, inr, List, [], ◌∷◌, ◌++◌, length, drop, min, max, if◌then◌else◌, eqb, refl, sym, ap, subst, ◌∙◌, append_assoc, add-one, drop-cons, arith}
+use Rattle.std.proofs.Common.{◌≡◌, ℕ, ◌+◌, ◌-◌, ◌<◌, ◌≤◌, ◌⊎◌, inl, inr, List, [], ◌∷◌, ◌++◌, length, drop, min, max, if◌then◌else◌, eqb, refl, sym, ap, subst, ◌∙◌, append_assoc, arith}
 use Rattle.std.proofs.lemmas.Bool.{cases_lt}
 use Rattle.std.proofs.lemmas.List.{drop_all}
 use Rattle.lalrpop_hir.specs.Range.{Range, Covered, IsScalar, next_scalar, AreApart, HaveEndsIn, IsCanonical, IsCanon}
-use Rattle.lalrpop_hir.proofs.Joining.{IsAt}
+use Rattle.lalrpop_hir.proofs.Canons.{scalar_steps, head-holds, tail-apart, from_start}
+use Rattle.lalrpop_hir.proofs.Joining.{IsAt, left}
 
 abbrev pub to : ℕ → ℕ → Range
 to a b = record { start = a; end = b }
@@ -61,12 +62,6 @@ IsBelow low (s ∷ ss) = low ≤ s.start
 pub next-place : (c : ℕ) → IsScalar c → IsPlace (next_scalar c)
 next-place c s = grind arith
 
-next-above : (c : ℕ) → c < next_scalar c
-next-above c = grind arith
-
-next-reaches : (c d : ℕ) → IsScalar c → IsScalar d → c < d → next_scalar c ≤ d
-next-reaches c d s u h = grind arith
-
 prev-next : (c : ℕ) → IsScalar c → 0 < c → next_scalar (prev_scalar c) ≡ c
 prev-next c s h = grind arith
 
@@ -90,26 +85,12 @@ pub place-scalar : (low d : ℕ) → IsPlace low → low < d → d ≤ 1114112 �
 place-scalar low d (inl s) h g = s
 place-scalar low d (inr e) h g = absurd (omega arith)
 
-pub head-holds : (y : Range) (ys : List Range) → AreApart next_scalar (y ∷ ys) → y.start ≤ y.end
-head-holds y [] a = a
-head-holds y (z ∷ ys) a = a.0
-
-pub tail-apart : (y : Range) (ys : List Range) → AreApart next_scalar (y ∷ ys) → AreApart next_scalar ys
-tail-apart y [] a = tt
-tail-apart y (z ∷ ys) a = a.2
-
 pub tail-canonical : (y : Range) (ys : List Range) → IsCanonical (y ∷ ys) → IsCanonical ys
-tail-canonical y ys k = (tail-apart y ys k.0, k.1.2)
+tail-canonical y ys k = (tail-apart next_scalar y ys k.0, k.1.2)
 
 pub tail-below : (y : Range) (ys : List Range) → AreApart next_scalar (y ∷ ys) → IsBelow (next_scalar y.end) ys
 tail-below y [] a = tt
 tail-below y (z ∷ ys) a = omega (arith, a.1)
-
-from_start : (x : Range) (ys : List Range) → AreApart next_scalar (x ∷ ys) → (c : ℕ) → Covered (x ∷ ys) c → x.start ≤ c
-from_start x ys a c (inl h) = h.0
-from_start x [] a c (inr h) = absurd h
-from_start x (y ∷ ys) a c (inr h) =
-    omega (arith, a.0, a.1, next-above x.end, from_start y ys a.2 c h)
 
 in_front : (r : Range) (low : ℕ) (ss : List Range) → r.start ≤ r.end → next_scalar r.end < low → AreApart next_scalar ss → IsBelow low ss → AreApart next_scalar (gaps low ss) → AreApart next_scalar (r ∷ gaps low ss)
 in_front r low [] f h k b =
@@ -117,7 +98,7 @@ in_front r low [] f h k b =
 in_front r low (s ∷ ss) f h k b =
     by_place (λ l. AreApart next_scalar l → AreApart next_scalar (r ∷ l)) low s ss
     (λ _ a. (f, h, a))
-    (λ g. in_front r (next_scalar s.end) ss f (omega (arith, head-holds s ss k, next-above s.end)) (tail-apart s ss k) (tail-below s ss k))
+    (λ g. in_front r (next_scalar s.end) ss f (omega (arith, head-holds next_scalar s ss k, scalar_steps.above s.end)) (tail-apart next_scalar s ss k) (tail-below s ss k))
 
 gaps-apart : (low : ℕ) (ss : List Range) → IsCanonical ss → IsBelow low ss → IsPlace low → AreApart next_scalar (gaps low ss)
 gaps-apart low [] k b p = by_end (AreApart next_scalar) low (λ h. omega arith) (λ _. tt)
@@ -126,7 +107,7 @@ gaps-apart low (s ∷ ss) k b p =
     by_place (AreApart next_scalar) low s ss
     (λ h.
     let before : next_scalar (prev_scalar s.start) ≡ s.start = prev-next s.start k.1.0 (omega arith) in
-    in_front (to low (prev_scalar s.start)) (next_scalar s.end) ss (prev-reaches low s.start (place-scalar low s.start p h (omega (arith, scalar-top s.start k.1.0))) k.1.0 h) (omega (arith, before, head-holds s ss k.0, next-above s.end)) (tail-apart s ss k.0) (tail-below s ss k.0) rest)
+    in_front (to low (prev_scalar s.start)) (next_scalar s.end) ss (prev-reaches low s.start (place-scalar low s.start p h (omega (arith, scalar-top s.start k.1.0))) k.1.0 h) (omega (arith, before, head-holds next_scalar s ss k.0, scalar_steps.above s.end)) (tail-apart next_scalar s ss k.0) (tail-below s ss k.0) rest)
     (λ _. rest)
 
 gaps-ends : (low : ℕ) (ss : List Range) → IsCanonical ss → IsBelow low ss → IsPlace low → HaveEndsIn IsScalar (gaps low ss)
@@ -141,25 +122,25 @@ gaps-ends low (s ∷ ss) k b p =
 gaps-above : (low : ℕ) (ss : List Range) (c : ℕ) → AreApart next_scalar ss → IsBelow low ss → Covered (gaps low ss) c → low ≤ c
 gaps-above low [] c a b = by_end (λ l. Covered l c → low ≤ c) low (λ _ g. elim g [ inl h ↦ h.0 | inr h ↦ absurd h ]) (λ _ g. absurd g)
 gaps-above low (s ∷ ss) c a b =
-    let below : low < next_scalar s.end = omega (arith, b, head-holds s ss a, next-above s.end) in
+    let below : low < next_scalar s.end = omega (arith, b, head-holds next_scalar s ss a, scalar_steps.above s.end) in
     let rest : Covered (gaps (next_scalar s.end) ss) c → low ≤ c =
-    λ g. omega (arith, below, gaps-above (next_scalar s.end) ss c (tail-apart s ss a) (tail-below s ss a) g) in
+    λ g. omega (arith, below, gaps-above (next_scalar s.end) ss c (tail-apart next_scalar s ss a) (tail-below s ss a) g) in
     by_place (λ l. Covered l c → low ≤ c) low s ss (λ _ g. elim g [ inl h ↦ h.0 | inr h ↦ rest h ]) (λ _. rest)
 
 gaps-sound : (low : ℕ) (ss : List Range) (c : ℕ) → AreApart next_scalar ss → IsBelow low ss → Covered (gaps low ss) c → ¬ Covered ss c
 gaps-sound low [] c a b = λ g h. h
 gaps-sound low (s ∷ ss) c a b =
-    let others = gaps-sound (next_scalar s.end) ss c (tail-apart s ss a) (tail-below s ss a) in
+    let others = gaps-sound (next_scalar s.end) ss c (tail-apart next_scalar s ss a) (tail-below s ss a) in
     by_place (λ l. Covered l c → ¬ Covered (s ∷ ss) c) low s ss
     (λ h g. elim g [
-      | inl k ↦ (λ m. omega (arith, k.1, prev-below s.start (omega arith), from_start s ss a c m))
+      | inl k ↦ (λ m. omega (arith, k.1, prev-below s.start (omega arith), from_start next_scalar IsScalar scalar_steps s ss a c m))
       | inr k ↦ rest others k
     ])
     (λ _. rest others)
   where
     apart : c ≤ s.end → Covered (gaps (next_scalar s.end) ss) c → ⊥
     apart h g =
-        omega (arith, h, next-above s.end, gaps-above (next_scalar s.end) ss c (tail-apart s ss a) (tail-below s ss a) g)
+        omega (arith, h, scalar_steps.above s.end, gaps-above (next_scalar s.end) ss c (tail-apart next_scalar s ss a) (tail-below s ss a) g)
 
     rest : (Covered (gaps (next_scalar s.end) ss) c → ¬ Covered ss c) → Covered (gaps (next_scalar s.end) ss) c → ¬ Covered (s ∷ ss) c
     rest f g (inl h) = apart h.1 g
@@ -178,7 +159,7 @@ gaps-complete low (s ∷ ss) c m k l n =
     behind : (next_scalar s.end ≤ c → Covered (gaps (next_scalar s.end) ss) c) → s.start ≤ c → Covered (gaps (next_scalar s.end) ss) c
     behind f h =
         elim (cases_lt s.end c) [
-          | inl g ↦ f (next-reaches s.end c k.1.1 m g)
+          | inl g ↦ f (scalar_steps.reaches s.end c k.1.1 m g)
           | inr g ↦ absurd (n (inl (h, g)))
         ]
 
@@ -202,9 +183,6 @@ pub record IsLeavingOut (ss : List Range) (i : ℕ) (done : List Range) (low : �
 
 pub IsLeavingOut-start : (ss : List Range) → IsCanonical ss → IsLeavingOut ss 0 [] 0
 IsLeavingOut-start ss k = record { gaps_are = refl; place = zero-place; canonical = k }
-
-pub left : (ss : List Range) (i : ℕ) (s : Range) → IsAt ss i s → drop i ss ≡ s ∷ drop (i + 1) ss
-left ss i s a = rw add-one (drop-cons ss i s a.0 ∙ ap (λ x. x ∷ drop (suc i) ss) (sym a.1))
 
 pub here-canonical : (ss : List Range) (i : ℕ) (s : Range) → IsAt ss i s → IsCanonical (drop i ss) → IsCanonical (s ∷ drop (i + 1) ss)
 here-canonical ss i s a k = subst IsCanonical (left ss i s a) k

@@ -3,13 +3,15 @@
 use Rattle.std.proofs.Common.{◌≡◌, ℕ, zero, suc, ◌+◌, ◌<◌, ◌≤◌, ◌⊎◌, ◌↔◌, inl, inr, List, [], ◌∷◌, ◌++◌, length, get_or, take, drop, max, true, refl, sym, ap, subst, ◌∙◌, append_assoc, add-one, drop-cons, arith}
 use Rattle.std.specs.List.{All, Contains}
 use Rattle.std.specs.List.Sorted.{IsNonDecreasingBy, IsPermutation}
+use Rattle.std.specs.Ordering.{ord_max, nat_cmp}
+use Rattle.std.proofs.lemmas.Grind.{common_steps}
 use Rattle.std.proofs.lemmas.Bool.{cases_lt}
 use Rattle.std.proofs.lemmas.List.{take_all, drop_all}
 use Rattle.std.proofs.lemmas.List.Elements.{All-nil, All-head, All-tail, All-more}
 use Rattle.std.proofs.lemmas.List.Sorted.{IsNonDecreasingBy-drop, IsPermutation-sym, Contains-permutation}
 use Rattle.std.proofs.Math.Utf8.{scalar}
 use Rattle.lalrpop_hir.specs.Range.{Range, Covers, Covered, IsScalar, IsByte, AreApart, HaveEndsIn}
-use Rattle.lalrpop_hir.proofs.Canons.{Steps, IsScalar-from_char}
+use Rattle.lalrpop_hir.proofs.Canons.{Steps, AreKept, IsScalar-from_char}
 
 -- a range that is not empty, with both ends in the set
 abbrev pub IsProper : (ℕ → Type 0) → Range → Type 0
@@ -18,6 +20,10 @@ IsProper S r = S r.start × S r.end × (r.start ≤ r.end)
 -- from the first range's start to the greater of both ends
 abbrev pub joined : Range → Range → Range
 joined r s = record { start = r.start; end = max r.end s.end }
+
+-- what `a.max(b)` gives for two numbers
+pub max-is : (a b : ℕ) → ord_max nat_cmp a b ≡ max a b
+max-is a b = grind (arith, common_steps)
 
 -- the runs of a range and the ranges behind it
 abbrev pub join : (ℕ → ℕ) → Range → List Range → List Range
@@ -94,7 +100,7 @@ covers-joined : (r s : Range) (c : ℕ) → r.start ≤ s.start → Covers r c �
 covers-joined r s c up (inl h) = (h.0, omega (arith, h.1))
 covers-joined r s c up (inr h) = (omega (arith, h.0), omega (arith, h.1))
 
-ascend-below : (a b : ℕ) (ss : List Range) → a ≤ b → Ascend b ss → Ascend a ss
+pub ascend-below : (a b : ℕ) (ss : List Range) → a ≤ b → Ascend b ss → Ascend a ss
 ascend-below a b [] h up = tt
 ascend-below a b (s ∷ ss) h up = (omega (arith, up.0), up.1)
 
@@ -137,7 +143,7 @@ ascend-from_order r (s ∷ ss) up =
 -- ranges that are apart, have ends in the set, and cover the values that the others cover
 abbrev pub AreRuns : (ℕ → ℕ) → (ℕ → Type 0) → List Range → List Range → Type 0
 AreRuns next S ranges runs =
-    (AreApart next runs × HaveEndsIn S runs) × ((c : ℕ) → S c → Covered ranges c ↔ Covered runs c)
+    AreKept next S runs × ((c : ℕ) → S c → Covered ranges c ↔ Covered runs c)
 
 -- the runs of ascending ranges
 join-runs : (next : ℕ → ℕ) (S : ℕ → Type 0) (r : Range) (ss : List Range) → Steps next S → IsProper S r → All (IsProper S) ss → IsNonDecreasingBy (λ x. x.start) (r ∷ ss) → AreRuns next S (r ∷ ss) (join next r ss)
@@ -158,7 +164,7 @@ IsJoining-start next S first rest p = record { joins = refl; proper = p; seen = 
 abbrev pub IsAt : List Range → ℕ → Range → Type 0
 IsAt rest i s = (i < length rest) × (s ≡ get_or rest i s)
 
-left : (rest : List Range) (i : ℕ) (s : Range) → IsAt rest i s → drop i rest ≡ s ∷ drop (i + 1) rest
+pub left : (rest : List Range) (i : ℕ) (s : Range) → IsAt rest i s → drop i rest ≡ s ∷ drop (i + 1) rest
 left rest i s a = rw add-one (drop-cons rest i s a.0 ∙ ap (λ x. x ∷ drop (suc i) rest) (sym a.1))
 
 seen-more : (S : ℕ → Type 0) (rest : List Range) (i : ℕ) (s : Range) → IsAt rest i s → IsProper S s → All (IsProper S) (take i rest) → All (IsProper S) (take (i + 1) rest)
@@ -199,7 +205,7 @@ covered-at [] k r c l e h = absurd (omega arith)
 covered-at (s ∷ rs) zero r c l e h = inl (subst (λ x. Covers x c) (sym e) h)
 covered-at (s ∷ rs) (suc k) r c l e h = inr (covered-at rs k r c (omega arith) e h)
 
-covering : (rs : List Range) (c : ℕ) → Covered rs c → (r : Range) × (Contains rs r × Covers r c)
+pub covering : (rs : List Range) (c : ℕ) → Covered rs c → (r : Range) × (Contains rs r × Covers r c)
 covering [] c h = absurd h
 covering (s ∷ rs) c (inl h) = (s, ((0, omega arith, refl), h))
 covering (s ∷ rs) c (inr h) =

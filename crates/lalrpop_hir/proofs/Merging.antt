@@ -4,8 +4,8 @@ use Rattle.std.specs.List.Sorted.{IsNonDecreasingBy}
 use Rattle.std.proofs.lemmas.Bool.{cases_lt}
 use Rattle.std.proofs.lemmas.List.{drop_all, take_all, append-nil}
 use Rattle.lalrpop_hir.specs.Range.{Range, Covered, next_scalar, AreApart, IsCanonical}
-use Rattle.lalrpop_hir.proofs.Joining.{Ascend, IsAt}
-use Rattle.lalrpop_hir.proofs.Gaps.{left}
+use Rattle.lalrpop_hir.proofs.Canons.{scalar_steps}
+use Rattle.lalrpop_hir.proofs.Joining.{Ascend, IsAt, left}
 
 -- x and what `on` makes of a list, with the ranges of the list that start before x in front
 abbrev pub put : Range → (List Range → List Range) → List Range → List Range
@@ -88,16 +88,9 @@ merge-from c (x ∷ xs) ys h = put-from c x xs (merge xs) ys (λ zs. merge-from 
 pub merge-covers : (xs ys : List Range) (c : ℕ) → (Covered xs c ⊎ Covered ys c) ↔ Covered (merge xs ys) c
 merge-covers xs ys c = (merge-into c xs ys, merge-from c xs ys)
 
-ascend-below : (a b : ℕ) (ss : List Range) → a ≤ b → Ascend b ss → Ascend a ss
-ascend-below a b [] h up = tt
-ascend-below a b (s ∷ ss) h up = (omega (arith, up.0), up.1)
-
-next-above : (c : ℕ) → c < next_scalar c
-next-above c = grind arith
-
 ascend-from_apart : (s : Range) (ss : List Range) → AreApart next_scalar (s ∷ ss) → Ascend s.start ss
 ascend-from_apart s [] a = tt
-ascend-from_apart s (t ∷ ts) a = (omega (arith, a.0, a.1, next-above s.end), ascend-from_apart t ts a.2)
+ascend-from_apart s (t ∷ ts) a = (omega (arith, a.0, a.1, scalar_steps.above s.end), ascend-from_apart t ts a.2)
 
 canonical-ascend : (ss : List Range) → IsCanonical ss → Ascend 0 ss
 canonical-ascend [] k = tt

@@ -6,7 +6,7 @@ ghost use Rattle.lalrpop_hir.specs.Level.{class_of, kind_tree};
 ghost use Rattle.lalrpop_hir.specs.Tree.{empty, literal, class, look, repetition, capture, concat, alternation, trees, of_text};
 
 mod group;
-mod turns;
+mod repetitions;
 
 use crate::class::Class;
 use std::alloc::{AllocError, Global};

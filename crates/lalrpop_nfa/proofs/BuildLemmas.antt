@@ -32,7 +32,8 @@ use Rattle.lalrpop_nfa.specs.Internal.Extends.{LeaveBelow, LeavesStates, KeepsNo
 
 -- ---- lists of edges
 
-filter_none : {L : Type 0} (q : ℕ) (es : List (Edge L)) → ((x : Edge L) → Contains es x → x.from ≢ q) → filter (leaves q) es ≡ []
+-- no edge of the list leaves q
+pub filter_none : {L : Type 0} (q : ℕ) (es : List (Edge L)) → ((x : Edge L) → Contains es x → x.from ≢ q) → filter (leaves q) es ≡ []
 filter_none q [] f = refl
 filter_none q (x ∷ es) f = rw (ne_eqb x.from q (f x (contains_first x es))) (filter_none q es (λ y h. f y (contains_later x es y h)))
 

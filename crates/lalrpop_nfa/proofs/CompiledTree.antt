@@ -20,7 +20,8 @@ use Rattle.lalrpop_nfa.specs.Compiled.{accept_state, reject_state, start_state, 
 use Rattle.lalrpop_nfa.specs.Internal.Fragment.{fragment_of, noops_to, joined, fresh_graph, compiled}
 use Rattle.lalrpop_nfa.proofs.Contained.{contains_none, contains_cases, contains_only}
 use Rattle.lalrpop_nfa.proofs.Compilable.{IsCompilableWithin, plain}
-use Rattle.lalrpop_nfa.proofs.Fragments.{Anywhere, Fits, Within, Fits-joined, Fits-noops_to, fragment_leads, fragment_within, filter_none}
+use Rattle.lalrpop_nfa.proofs.BuildLemmas.{filter_none}
+use Rattle.lalrpop_nfa.proofs.Fragments.{Anywhere, Fits, Within, Fits-joined, Fits-noops_to, fragment_leads, fragment_within}
 use Rattle.lalrpop_nfa.proofs.Sizes.{fragment_size}
 use Rattle.lalrpop_nfa.proofs.Readings.{Reads, Reads-alternation_expr, FromSome-none, FromSome-also}
 use Rattle.lalrpop_nfa.proofs.FragmentReads.{Agrees, Agrees-left, Agrees-right, alternates_at, fragment_reads}

@@ -1,8 +1,7 @@
 -- How many states the fragment of a tree has, and which states its edges join.
-use Rattle.std.proofs.Common.{◌≡◌, ◌≢◌, ℕ, zero, suc, ◌<◌, ◌≤◌, ◌+◌, ◌-◌, List, [], ◌∷◌, ◌++◌, refl, ap, sym, subst, arith, inl, inr}
+use Rattle.std.proofs.Common.{◌≡◌, ℕ, zero, suc, ◌<◌, ◌≤◌, ◌+◌, ◌-◌, List, [], ◌∷◌, ◌++◌, ap, sym, subst, arith, inl, inr}
 use Rattle.std.specs.Prelude.{Option, Some, None}
-use Rattle.std.specs.List.{Contains, filter}
-use Rattle.std.proofs.lemmas.Bool.{ne_eqb}
+use Rattle.std.specs.List.{Contains}
 use Rattle.std.proofs.lemmas.List.Elements.{Contains-append_cases}
 use Rattle.lalrpop_hir.specs.Range.{Range}
 use Rattle.lalrpop_hir.specs.Tree.{Class, unicode, bytes, Tree, empty, literal, class, look, repetition, capture, concat, alternation, Trees, none, also}
@@ -11,10 +10,9 @@ use Rattle.lalrpop_nfa.specs.declared.edge.Noop.{Noop}
 use Rattle.lalrpop_nfa.specs.declared.edge.Other.{Other}
 use Rattle.lalrpop_nfa.specs.Lists.{Lists}
 use Rattle.lalrpop_nfa.specs.Path.{noop, test, other}
-use Rattle.lalrpop_nfa.specs.Walk.{leaves}
 use Rattle.lalrpop_nfa.specs.Compiled.{reject_state}
 use Rattle.lalrpop_nfa.specs.Internal.Fragment.{Construction, no_edges, noops_to, joined, nothing, before, one_of, literal_expr, copies, optional_expr, optional_copies, star_expr, plus_expr, repeat_expr, Branches, alternation_expr, class_construction, fragment_of, concat_expr, branches}
-use Rattle.lalrpop_nfa.proofs.Contained.{contains_none, contains_cases, contains_first, contains_later, contains_only, contains_from_map}
+use Rattle.lalrpop_nfa.proofs.Contained.{contains_none, contains_cases, contains_only, contains_from_map}
 
 -- the edges leave states from a up to b, and lead to states with P
 abbrev pub Joins : {L : Type 0} → (ℕ → Type 0) → ℕ → ℕ → List (Edge L) → Type 0
@@ -237,8 +235,3 @@ fragment_within t = construction_within (fragment_of t) (fragment_leads Anywhere
 
 pub branches_within : (ts : Trees) (target n : ℕ) → Within n (n + (branches ts target n).size) (branches ts target n).edges
 branches_within ts target n = (branches_lead Anywhere ts).edges target n tt (λ q l h. tt)
-
--- no edge of the list leaves q
-pub filter_none : {L : Type 0} (q : ℕ) (es : List (Edge L)) → ((x : Edge L) → Contains es x → x.from ≢ q) → filter (leaves q) es ≡ []
-filter_none q [] f = refl
-filter_none q (x ∷ es) f = rw (ne_eqb x.from q (f x (contains_first x es))) (filter_none q es (λ y h. f y (contains_later x es y h)))

@@ -4,6 +4,7 @@ use Rattle.std.specs.List.{Contains}
 use Rattle.std.proofs.Math.Nat.{le_refl}
 use Rattle.lalrpop_hir.specs.Range.{Range, Covers, Covered}
 use Rattle.lalrpop_hir.specs.Language.{Words, Then, Power}
+use Rattle.lalrpop_hir.proofs.Joining.{covering}
 use Rattle.lalrpop_hir.proofs.Powers.{Optional, Star}
 use Rattle.lalrpop_nfa.specs.Lists.{Lists}
 use Rattle.lalrpop_nfa.specs.Path.{noop, test, other, Path, here, epsilon, read, otherwise}
@@ -20,11 +21,6 @@ steps e last _ _ (otherwise p q w c m k h) = suc (steps e last q w h)
 -- a word of one value that some range of the list covers
 abbrev pub OneOf : List Range → Words
 OneOf rs w = (c : ℕ) × ((w ≡ c ∷ []) × Covered rs c)
-
-covered_by : (rs : List Range) (c : ℕ) → Covered rs c → (r : Range) × (Contains rs r × Covers r c)
-covered_by [] c h = absurd h
-covered_by (r ∷ rs) c (inl k) = (r, (contains_first r rs, k))
-covered_by (r ∷ rs) c (inr k) = let s = covered_by rs c k in (s.0, (contains_later r rs s.0 s.1.0, s.1.1))
 
 covered_in : (rs : List Range) (r : Range) (c : ℕ) → Contains rs r → Covers r c → Covered rs c
 covered_in [] r c m k = absurd (contains_none r m)
@@ -201,7 +197,7 @@ module _ (e : Lists) where
     pub Reads-test : (s : ℕ) → Tests rs target s → Reads (OneOf rs) target s
     Reads-test s f = record {
       into = λ u v h g.
-          let r = covered_by rs h.0 h.1.1 in
+          let r = covering rs h.0 h.1.1 in
           subst (λ w. Path e accept_state s w) (sym (ap (λ z. z ++ v) h.1.0)) (read s target v r.0 h.0 (f.all r.0 r.1.0) r.1.1 g);
       out = λ w h. test_out s f w h;
     }

@@ -83,8 +83,8 @@ fn join_bytes(alloc: Global, ranges: &[ClassBytesRange]) -> Result<Vec<ClassByte
             runs.push(ClassBytesRange { start, end })?;
             start = range.start;
             end = range.end;
-        } else if end < range.end {
-            end = range.end;
+        } else {
+            end = end.max(range.end);
         }
     }
     runs.push(ClassBytesRange { start, end })?;

@@ -93,8 +93,8 @@ pub(super) fn join_characters(
             runs.push(ClassUnicodeRange { start, end })?;
             start = range.start;
             end = range.end;
-        } else if end < range.end {
-            end = range.end;
+        } else {
+            end = end.max(range.end);
         }
     }
     runs.push(ClassUnicodeRange { start, end })?;

@@ -1,10 +1,10 @@
-use Rattle.std.proofs.Common.{◌≡◌, ◌<◌, ◌≤◌, max, arith, subst, sym, ap, ◌∙◌, get_or, ◌∷◌}
+use Rattle.std.proofs.Common.{◌≡◌, ◌<◌, ◌≤◌, subst, sym, ap, ◌∙◌, get_or, ◌∷◌}
 use Rattle.std.specs.List.Sorted.{IsNonDecreasingBy}
 use Rattle.lalrpop_hir.specs.Range.{Range, IsByte, next_byte}
 use Rattle.lalrpop_hir.proofs.Canons.{byte_steps}
 use Rattle.lalrpop_hir.proofs.Joining.{IsJoining-start, IsJoining-behind, IsJoining-beside, IsJoining-end, IsAt, IsProper, IsProper-bytes}
 use Rattle.lalrpop_hir.proofs.class.bytes.join_bytes.Goals as goal
-use Rattle.lalrpop_hir.proofs.class.bytes.join_bytes.Goals.{then-byte_after-range+in_ok-push, else-byte_after-range+then-end-range, else-byte_after-range+else-end-range}
+use Rattle.lalrpop_hir.proofs.class.bytes.join_bytes.Goals.{then-byte_after-range+in_ok-push, else-byte_after-range}
 
 pub loop-range-init : goal.loop-range-init
 loop-range-init c =
@@ -20,12 +20,8 @@ loop-range-preserved c =
     elim c.if-byte_after-range.branch [
       | then-byte_after-range+in_ok-push w ↦
           rw (w.runs-is, w.start-is, w.end-is, w.in_ok-push.ensures.items) (IsJoining-behind next_byte IsByte _ _ _ _ _ _ c.loop-range.invariant here proper (subst (λ n. n < s.start) c.byte_after.ensures w.if-byte_after-range.true))
-      | else-byte_after-range+then-end-range w ↦
-          let end : max c.loop-range.end s.end ≡ s.end = omega (arith, w.if-end-range.true) in
-          rw (w.runs-is, w.start-is, w.end-is, ← end) (IsJoining-beside next_byte IsByte _ _ _ _ _ _ c.loop-range.invariant here proper (subst (λ n. s.start ≤ n) c.byte_after.ensures w.if-byte_after-range.false))
-      | else-byte_after-range+else-end-range w ↦
-          let end : max c.loop-range.end s.end ≡ c.loop-range.end = omega (arith, w.if-end-range.false) in
-          rw (w.runs-is, w.start-is, w.end-is, ← end) (IsJoining-beside next_byte IsByte _ _ _ _ _ _ c.loop-range.invariant here proper (subst (λ n. s.start ≤ n) c.byte_after.ensures w.if-byte_after-range.false))
+      | else-byte_after-range w ↦
+          rw (w.runs-is, w.start-is, w.end-is, w.max-end.ensures) (IsJoining-beside next_byte IsByte _ _ _ _ _ _ c.loop-range.invariant here proper (subst (λ n. s.start ≤ n) c.byte_after.ensures w.if-byte_after-range.false))
     ]
 
 pub returns : goal.returns

@@ -1,10 +1,10 @@
-use Rattle.std.proofs.Common.{◌≡◌, ◌<◌, ◌≤◌, max, arith, subst, sym, ap, ◌∙◌, get_or, ◌∷◌}
+use Rattle.std.proofs.Common.{◌≡◌, ◌<◌, ◌≤◌, subst, sym, ap, ◌∙◌, get_or, ◌∷◌}
 use Rattle.std.specs.List.Sorted.{IsNonDecreasingBy}
 use Rattle.lalrpop_hir.specs.Range.{Range, IsScalar, next_scalar}
 use Rattle.lalrpop_hir.proofs.Canons.{scalar_steps}
-use Rattle.lalrpop_hir.proofs.Joining.{IsJoining-start, IsJoining-behind, IsJoining-beside, IsJoining-end, IsAt, IsProper, IsProper-characters}
+use Rattle.lalrpop_hir.proofs.Joining.{IsJoining-start, IsJoining-behind, IsJoining-beside, IsJoining-end, IsAt, max-is, IsProper, IsProper-characters}
 use Rattle.lalrpop_hir.proofs.class.characters.join_characters.Goals as goal
-use Rattle.lalrpop_hir.proofs.class.characters.join_characters.Goals.{then-code_after-range+in_ok-push, else-code_after-range+then-end-range, else-code_after-range+else-end-range}
+use Rattle.lalrpop_hir.proofs.class.characters.join_characters.Goals.{then-code_after-range+in_ok-push, else-code_after-range}
 
 pub loop-range-init : goal.loop-range-init
 loop-range-init c =
@@ -20,12 +20,8 @@ loop-range-preserved c =
     elim c.if-code_after-range.branch [
       | then-code_after-range+in_ok-push w ↦
           rw (w.runs-is, w.start-is, w.end-is, w.in_ok-push.ensures.items) (IsJoining-behind next_scalar IsScalar _ _ _ _ _ _ c.loop-range.invariant here proper (subst (λ n. n < s.start) c.code_after.ensures w.if-code_after-range.true))
-      | else-code_after-range+then-end-range w ↦
-          let end : max c.loop-range.end s.end ≡ s.end = omega (arith, w.if-end-range.true) in
-          rw (w.runs-is, w.start-is, w.end-is, ← end) (IsJoining-beside next_scalar IsScalar _ _ _ _ _ _ c.loop-range.invariant here proper (subst (λ n. s.start ≤ n) c.code_after.ensures w.if-code_after-range.false))
-      | else-code_after-range+else-end-range w ↦
-          let end : max c.loop-range.end s.end ≡ c.loop-range.end = omega (arith, w.if-end-range.false) in
-          rw (w.runs-is, w.start-is, w.end-is, ← end) (IsJoining-beside next_scalar IsScalar _ _ _ _ _ _ c.loop-range.invariant here proper (subst (λ n. s.start ≤ n) c.code_after.ensures w.if-code_after-range.false))
+      | else-code_after-range w ↦
+          rw (w.runs-is, w.start-is, w.end-is, w.max-end.ensures, max-is) (IsJoining-beside next_scalar IsScalar _ _ _ _ _ _ c.loop-range.invariant here proper (subst (λ n. s.start ≤ n) c.code_after.ensures w.if-code_after-range.false))
     ]
 
 pub returns : goal.returns
