@@ -1,6 +1,6 @@
 //! The longest prefix of a text that one pattern matches, found by running its automaton.
 
-ghost use Rattle.std.specs.Prelude.{◌≡◌, ℕ, ◌+◌, ◌*◌, ◌<◌, ◌≤◌, ◌↔◌, [], ◌∷◌, length, slice_get, Some, IfSome, IfOk, OnOk, IsTrue};
+ghost use Rattle.std.specs.Prelude.{◌≡◌, ℕ, ◌+◌, ◌*◌, ◌<◌, ◌≤◌, ◌↔◌, length, slice_get, Some, IfSome, IfOk, OnOk, IsTrue};
 ghost use Rattle.std.specs.List.{Contains};
 ghost use Rattle.std.specs.Option.{option_map};
 ghost use Rattle.std.specs.Str.{chars};
@@ -15,7 +15,7 @@ ghost use Rattle.lalrpop_nfa.specs.declared.edge.StateKind.TheVariants.{Accept, 
 use super::state_set::StateSet;
 use super::{Nfa, NfaStateIndex, Noop, Other, START, Steps, Test};
 use std::alloc::{AllocError, Global};
-use std::mem;
+use std::marker::Model;
 
 /// The longest prefix of the text, the empty one included, that the automaton's pattern matches: a slice of the
 /// text, or `None` where the pattern matches no prefix.
@@ -44,69 +44,97 @@ pub fn interpret_counted<'text>(
     ensures cost { steps.new ≤ steps.old + length nfa.now.kinds * (length (chars text.now) + 1) }
     ensures rises { steps.old ≤ steps.new }
 {
-    let mut state_set = StateSet::start(alloc, nfa, steps)?;
-    let mut next = StateSet::new(alloc, nfa.len())?;
-    let mut longest = if state_set.accepts(nfa) {
+    let mut simulation = Simulation::start(alloc, nfa, steps)?;
+    let mut longest = if simulation.accepts() {
         Some(&text[..0])
     } else {
         None
     };
     for (offset, c) in text.char_indices() {
-        if state_set.rejects(nfa) {
+        if simulation.rejects() {
             break;
         }
-        next.read_from(&state_set, nfa, u32::from(c), steps)?;
-        mem::swap(&mut state_set, &mut next);
-        if state_set.accepts(nfa) {
+        simulation = simulation.read(u32::from(c), steps)?;
+        if simulation.accepts() {
             longest = Some(&text[..offset + c.len_utf8()]);
         }
     }
     Ok(longest)
 }
 
-impl StateSet {
+// The run of one automaton: the states that a prefix leads to, and a set in which those after one more character are
+// listed.
+#[derive(Drop)]
+struct Simulation<'nfa> {
+    nfa: &'nfa Nfa,
+    states: StateSet,
+    next: StateSet,
+}
+
+impl<'nfa> Model for Simulation<'nfa> {
+    ghost use Rattle.std.specs.Prelude.{◌≡◌, length};
+    ghost use Rattle.lalrpop_nfa.specs.Internal.StateSets.{Visited};
+
+    ghost Value = { Visited };
+
+    ghost view = { λ s. record { graph = s.nfa.now; states = s.states } };
+
+    ghost invariant = { λ s. (s.states.room ≡ length s.nfa.now.kinds)
+        × (s.next.room ≡ length s.nfa.now.kinds) };
+}
+
+impl<'nfa> Simulation<'nfa> {
     // The states that the empty word leads to.
-    fn start(alloc: Global, nfa: &Nfa, steps: &mut Steps) -> Result<StateSet, AllocError>
+    fn start(
+        alloc: Global,
+        nfa: &'nfa Nfa,
+        steps: &mut Steps,
+    ) -> Result<Simulation<'nfa>, AllocError>
+        ensures graph { IfOk result (λ s. s.graph ≡ nfa.now) }
         ensures states { IfOk result (λ s. IsClosure nfa.now.edges
-            (only start_state (length nfa.now.kinds)) s) }
+            (only start_state (length nfa.now.kinds)) s.states) }
         ensures cost { steps.new ≤ steps.old + length nfa.now.kinds }
         ensures rises { steps.old ≤ steps.new }
     {
-        let mut state_set = StateSet::new(alloc, nfa.len())?;
-        state_set.insert(START)?;
-        state_set.close(nfa, steps)?;
-        Ok(state_set)
+        let mut states = StateSet::new(alloc, nfa.len())?;
+        states.insert(START)?;
+        states.close(nfa, steps)?;
+        let next = StateSet::new(alloc, nfa.len())?;
+        Ok(Simulation { nfa, states, next })
     }
 
-    // Becomes the states that those of another set lead to by reading the value.
-    fn read_from(
-        &mut self,
-        before: &StateSet,
-        nfa: &Nfa,
-        value: u32,
-        steps: &mut Steps,
-    ) -> Result<(), AllocError>
-        requires same_room { self.old.room ≡ before.now.room }
-        requires room { before.now.room ≡ length nfa.now.kinds }
-        ensures states { OnOk result (IsMove nfa.now.edges value before.now self.new) }
-        ensures cost { steps.new ≤ steps.old + length nfa.now.kinds }
+    // The states that those lead to by reading the value.
+    fn read(self, value: u32, steps: &mut Steps) -> Result<Simulation<'nfa>, AllocError>
+        ensures graph { IfOk result (λ s. s.graph ≡ self.entry.graph) }
+        ensures states { IfOk result (λ s.
+            IsMove self.entry.graph.edges value self.entry.states s.states) }
+        ensures cost { steps.new ≤ steps.old + length self.entry.graph.kinds }
         ensures rises { steps.old ≤ steps.new }
     {
-        self.clear();
-        for state in before.states() {
-            self.add_read(nfa, *state, value)?;
+        let Simulation {
+            nfa,
+            states,
+            mut next,
+        } = self;
+        next.clear();
+        for state in states.states() {
+            next.add_read(nfa, *state, value)?;
         }
-        self.close(nfa, steps)
+        next.close(nfa, steps)?;
+        Ok(Simulation {
+            nfa,
+            states: next,
+            next: states,
+        })
     }
 
     // Whether the pattern matches the prefix that leads here.
-    fn accepts(&self, nfa: &Nfa) -> bool
-        requires room { self.now.room ≡ length nfa.now.kinds }
+    fn accepts(&self) -> bool
         ensures { IsTrue result ↔ ((q : ℕ)
-            × (Contains self.now.states q × (slice_get nfa.now.kinds q ≡ Some Accept))) }
+            × (Contains self.now.states.states q × (slice_get self.now.graph.kinds q ≡ Some Accept))) }
     {
-        for state in self.states() {
-            if nfa.is_accepting_state(*state) {
+        for state in self.states.states() {
+            if self.nfa.is_accepting_state(*state) {
                 return true;
             }
         }
@@ -114,19 +142,20 @@ impl StateSet {
     }
 
     // Whether the pattern matches no continuation of the prefix that leads here.
-    fn rejects(&self, nfa: &Nfa) -> bool
-        requires room { self.now.room ≡ length nfa.now.kinds }
-        ensures { IsTrue result ↔ ((q : ℕ) → Contains self.now.states q
-            → slice_get nfa.now.kinds q ≡ Some Reject) }
+    fn rejects(&self) -> bool
+        ensures { IsTrue result ↔ ((q : ℕ) → Contains self.now.states.states q
+            → slice_get self.now.graph.kinds q ≡ Some Reject) }
     {
-        for state in self.states() {
-            if !nfa.is_rejecting_state(*state) {
+        for state in self.states.states() {
+            if !self.nfa.is_rejecting_state(*state) {
                 return false;
             }
         }
         true
     }
+}
 
+impl StateSet {
     // Adds the states that edges which read nothing lead to from the state.
     fn add_epsilon_targets(&mut self, nfa: &Nfa, from: NfaStateIndex) -> Result<(), AllocError>
         requires is_state { from < length nfa.now.kinds }

@@ -1,6 +1,7 @@
 -- The states that a word leads to, as the run of one automaton lists and marks them.
 use Rattle.std.specs.Prelude.{◌≡◌, ℕ, ◌<◌, ◌⊎◌, ◌↔◌, Bool, true, false, List, [], ◌∷◌, ◌++◌, length, slice_index_or}
 use Rattle.std.specs.List.{Contains, count_by}
+use Rattle.lalrpop_nfa.specs.Graph.{Graph}
 use Rattle.lalrpop_nfa.specs.Lists.{Lists}
 use Rattle.lalrpop_nfa.specs.Path.{Path, Reads, noop}
 
@@ -46,3 +47,8 @@ pub record IsMove (e : Lists) (c : ℕ) (given all : StateList) : Type 0 where
   pub sound : (q : ℕ) → Contains all.states q → (p : ℕ) × (Contains given.states p × Path e q p (c ∷ []))
   pub complete : (p q : ℕ) → Contains given.states p → Reads e p c q → q < given.room → Contains all.states q
   pub closed : IsClosed e given.room all.states
+
+-- an automaton, and the states that a prefix leads to in it
+pub record Visited : Type 0 where
+  pub graph : Graph
+  pub states : StateList

@@ -14,9 +14,9 @@ use Rattle.lalrpop_nfa.proofs.interpret.interpret_counted.Given as goal
 
 abbrev pub invariant-loop-offset : goal.invariant-loop-offset
 invariant-loop-offset l = record {
-  next_room : l.next.room ≡ length l.nfa.kinds;
+  graph : l.simulation.graph ≡ l.nfa;
   cut : IsCut l.text (char_indices_offset l.offset-iterator) (char_indices_rest l.offset-iterator);
-  after : IsAfterWord l.nfa (chars (take (char_indices_offset l.offset-iterator) l.text)) l.state_set;
+  after : IsAfterWord l.nfa (chars (take (char_indices_offset l.offset-iterator) l.text)) l.simulation.states;
   best : (t : Tree) → IsCompiled t l.nfa → IsLongestOfUpTo (Matches t) l.text (char_indices_offset l.offset-iterator) (option_map (λ s. s.now) l.longest);
   prefix : IfSome l.longest (λ s. IsPrefix s.now l.text);
   rises : l.fn.steps ≤ l.steps;
