@@ -5,12 +5,14 @@ use std::test::Fail;
 
 #[test]
 fn one_argument(rt: HostRuntime) -> Result<(), Fail> {
-    let mut words = Vec::new(rt.alloc());
-    assert!(rt; arguments(&words).is_none());
-    words.push(String::from_str(rt.alloc(), "a b")?)?;
-    assert!(rt; arguments(&words) == Some("a b"));
-    words.push(String::from_str(rt.alloc(), "c")?)?;
-    assert!(rt; arguments(&words).is_none());
+    for word in ["a b", ""] {
+        let mut words = Vec::new(rt.alloc());
+        assert!(rt; arguments(&words).is_none());
+        words.push(String::from_str(rt.alloc(), word)?)?;
+        assert!(rt; arguments(&words) == Some(word));
+        words.push(String::from_str(rt.alloc(), "c")?)?;
+        assert!(rt; arguments(&words).is_none());
+    }
     Ok(())
 }
 

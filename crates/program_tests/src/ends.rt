@@ -1,8 +1,14 @@
 //! Readers and writers that fail: what is written then, and that no call is made after one that failed.
 
 use lexdfa_lib::{RunError, Watched, run};
+use std::alloc::Global;
 use std::io;
 use std::io::{Read, Write};
+use std::process::Abort;
+
+const INPUT: &[u8] = b"1 l class\n0 r [a-z]+\n";
+
+const LINE: &[u8] = b"match 1 6\n";
 
 // Errors that others try again, and one that nobody does.
 const KINDS: [io::ErrorKind; 3] = [
@@ -16,7 +22,7 @@ const KINDS: [io::ErrorKind; 3] = [
 struct FailsAtEnd<'a> {
     left: &'a [u8],
     kind: io::ErrorKind,
-    calls: u8,
+    calls: usize,
 }
 
 impl<'a> Read for FailsAtEnd<'a> {
@@ -29,42 +35,53 @@ impl<'a> Read for FailsAtEnd<'a> {
     }
 }
 
+fn expect_nothing_written(rt: &impl Abort, alloc: Global, given: &[u8], kind: io::ErrorKind) {
+    let mut reader = Watched::new(FailsAtEnd {
+        left: given,
+        kind,
+        calls: 0,
+    });
+    let mut writer = Watched::new(Vec::new(alloc));
+    let result = run(alloc, &mut reader, "classz", &mut writer);
+    assert!(rt; matches!(&result, Err(RunError::Read)));
+    assert!(rt; reader.failed());
+    let calls = if given.is_empty() { 1 } else { 2 };
+    assert_eq!(rt; reader.into_inner().calls, calls);
+    assert!(rt; !writer.failed());
+    assert!(rt; writer.into_inner().is_empty());
+}
+
 #[test]
 fn a_failed_read_writes_nothing(rt: HostRuntime) {
     for kind in KINDS {
-        let mut reader = Watched::new(FailsAtEnd {
-            left: b"0 l",
-            kind,
-            calls: 0,
-        });
-        let mut writer = Watched::new(Vec::new(rt.alloc()));
-        let result = run(rt.alloc(), &mut reader, "a", &mut writer);
-        assert!(rt; matches!(&result, Err(RunError::Read)));
-        assert!(rt; reader.failed());
-        assert_eq!(rt; reader.into_inner().calls, 2);
-        assert!(rt; !writer.failed());
-        assert!(rt; writer.into_inner().is_empty());
+        for given in 0..=INPUT.len() {
+            if let Some(given) = INPUT.get(..given) {
+                expect_nothing_written(&rt, rt.alloc(), given, kind);
+            }
+        }
     }
 }
 
-// Takes one byte a call, fails at the fifth call, and counts its calls.
+// Takes one byte a call while it has room, then fails, and counts its calls. With no kind of error it fails by taking
+// nothing.
 #[derive(Drop)]
-struct FailsAtFifth {
+struct FailsAfter {
     taken: Vec<u8>,
-    kind: io::ErrorKind,
-    calls: u8,
+    room: usize,
+    kind: Option<io::ErrorKind>,
+    calls: usize,
 }
 
-impl Write for FailsAtFifth {
+impl Write for FailsAfter {
     fn write(&mut self, buf: &[u8]) -> io::Result<usize> {
         self.calls = self.calls.saturating_add(1);
-        match buf.first() {
-            Some(byte) if self.calls < 5 => {
+        match (buf.first(), self.kind) {
+            (Some(byte), _) if self.taken.len() < self.room => {
                 self.taken.push(*byte)?;
                 Ok(1)
             }
-            Some(_) => Err(io::Error::from(self.kind)),
-            None => Ok(0),
+            (Some(_), Some(kind)) => Err(io::Error::from(kind)),
+            _ => Ok(0),
         }
     }
 
@@ -73,22 +90,29 @@ impl Write for FailsAtFifth {
     }
 }
 
+fn expect_prefix(rt: &impl Abort, alloc: Global, room: usize, kind: Option<io::ErrorKind>) {
+    let mut reader = Watched::new(INPUT);
+    let mut writer = Watched::new(FailsAfter {
+        taken: Vec::new(alloc),
+        room,
+        kind,
+        calls: 0,
+    });
+    let result = run(alloc, &mut reader, "classz", &mut writer);
+    assert!(rt; matches!(&result, Err(RunError::Write)));
+    assert!(rt; !reader.failed());
+    assert!(rt; writer.failed());
+    let end = writer.into_inner();
+    assert!(rt; Some(end.taken.as_slice()) == LINE.get(..room));
+    assert_eq!(rt; end.calls, room.saturating_add(1));
+}
+
 #[test]
 fn a_failed_write_leaves_a_prefix(rt: HostRuntime) {
-    for kind in KINDS {
-        let input: &[u8] = b"1 l class\n0 r [a-z]+\n";
-        let mut reader = Watched::new(input);
-        let mut writer = Watched::new(FailsAtFifth {
-            taken: Vec::new(rt.alloc()),
-            kind,
-            calls: 0,
-        });
-        let result = run(rt.alloc(), &mut reader, "classz", &mut writer);
-        assert!(rt; matches!(&result, Err(RunError::Write)));
-        assert!(rt; !reader.failed());
-        assert!(rt; writer.failed());
-        let end = writer.into_inner();
-        assert_eq!(rt; end.taken.as_slice(), b"matc".as_slice());
-        assert_eq!(rt; end.calls, 5);
+    let [interrupted, blocked, other] = KINDS;
+    for kind in [Some(interrupted), Some(blocked), Some(other), None] {
+        for room in 0..LINE.len() {
+            expect_prefix(&rt, rt.alloc(), room, kind);
+        }
     }
 }

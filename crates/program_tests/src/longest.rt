@@ -105,6 +105,14 @@ fn longest_and_strongest(rt: HostRuntime) -> Result<(), Fail> {
 }
 
 #[test]
+fn turns_that_take_nothing(rt: HostRuntime) -> Result<(), Fail> {
+    for pattern in ["((a*)*)*", "(a+)+", "(|a)+"] {
+        expect(&rt, &[(pattern, 0)], &[("aab", "0 aa")])?;
+    }
+    expect(&rt, &[("(?:)*", 0)], &[("a", "none")])
+}
+
+#[test]
 fn folded_and_named_sets(rt: HostRuntime) -> Result<(), Fail> {
     expect(&rt, &[("(?i)k", 0)], &[("\u{212A}", "0 \u{212A}")])?;
     let texts = [("C", "0 C"), ("aB", "0 aB"), ("A", "none")];
@@ -114,8 +122,17 @@ fn folded_and_named_sets(rt: HostRuntime) -> Result<(), Fail> {
 
 #[test]
 fn clashes(rt: HostRuntime) -> Result<(), Fail> {
-    let rows: [(&[(&str, usize)], &str); 6] = [
+    let rows: [(&[(&str, usize)], &str); 7] = [
         (&[("a*", 0), ("b*", 0)], "clash 1 0"),
+        (
+            &[
+                ("[\\x{D7FF}]", 1),
+                ("[\\x{E000}]", 1),
+                ("[\\x{D7FF}\\x{E000}]", 0),
+                ("(?s).", 0),
+            ],
+            "clash 3 2",
+        ),
         (
             &[
                 ("(?s).", 0),
@@ -139,8 +156,9 @@ fn clashes(rt: HostRuntime) -> Result<(), Fail> {
 #[test]
 fn refusals(rt: HostRuntime) -> Result<(), Fail> {
     expect(&rt, &[("(?:\\b){0}a", 0)], &[("ab", "0 a")])?;
-    let rows: [(&[(&str, usize)], &str); 8] = [
+    let rows: [(&[(&str, usize)], &str); 9] = [
         (&[("(?:\\b){0}?a", 0)], "refused 0 NonGreedy"),
+        (&[("(?:\\b){4294967295}", 0)], "refused 0 LookAround"),
         (
             &[("a", 0), ("a", 0), ("b??", 0), ("\\bc", 0)],
             "refused 2 NonGreedy",
@@ -173,6 +191,9 @@ fn trees_by_hand(rt: HostRuntime) -> Result<(), Fail> {
         found(&rt, &letter, &[Precedence(0)], "\u{e9}!")?.as_str(),
         "0 \u{e9}"
     );
+    let nul = [parse_literal(alloc, "\0a")?];
+    let line = found(&rt, &nul, &[Precedence(0)], "\0ab")?;
+    assert_eq!(rt; line.as_str(), "0 \0a");
     let nothing = [
         Hir::alternation(Vec::new(alloc)),
         Hir::concat(Vec::new(alloc)),
