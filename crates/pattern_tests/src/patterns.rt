@@ -364,21 +364,30 @@ fn levels(rt: HostRuntime) -> Result<(), Fail> {
             "for {open}{close}"
         );
     }
-    Ok(())
+    let brackets = nested(rt.alloc(), "[", "a", "]", 250)?;
+    expect_tree(&rt, &[(brackets.as_str(), "[a]")])
 }
 
-// The lengths in bytes of the prefixes of a pattern that are patterns themselves.
+// Two patterns, and the lengths in bytes of their prefixes that are patterns themselves.
 #[test]
 fn prefixes_of_patterns(rt: HostRuntime) -> Result<(), Fail> {
-    let pattern = "a{2,3}|[b-d]*";
-    for length in 0..14 {
-        if let Some(prefix) = pattern.get(..length) {
-            let is_pattern = refusal(&rt, prefix)?.is_none();
-            assert_eq!(rt;
-                is_pattern,
-                [0, 1, 6, 7, 12, 13].contains(&length),
-                "for {prefix}"
-            );
+    let rows: [(&str, &[usize]); 2] = [
+        ("a{2,3}|[b-d]*", &[0, 1, 6, 7, 12, 13]),
+        ("(?i:a{2,3}[b-d])", &[0, 16]),
+    ];
+    for (pattern, patterns) in rows {
+        assert!(rt; patterns.contains(&pattern.len()));
+        for length in 0..=pattern.len() {
+            if let Some(prefix) = pattern.get(..length) {
+                let refused = refusal(&rt, prefix)?;
+                assert_eq!(rt;
+                    refused.is_none(),
+                    patterns.contains(&length),
+                    "for {prefix}"
+                );
+                let place = refused.map_or(0, |(position, _)| position);
+                assert!(rt; prefix.is_char_boundary(place), "for {prefix}");
+            }
         }
     }
     Ok(())
