@@ -132,12 +132,16 @@ fn places_of_patterns_are_ordered_by_number(rt: HostRuntime) -> Result<(), Fail>
     let alloc = rt.alloc();
     let trees = [Hir::literal(alloc, "a")?, Hir::literal(alloc, "b")?];
     let dfa = build_dfa(alloc, &trees, &[Precedence(0), Precedence(0)])?;
-    if let Some((first, _)) = interpret(&dfa, "a") {
-        if let Some((second, _)) = interpret(&dfa, "b") {
-            assert_eq!(rt; order_of_places(first, second), Ordering::Less);
-            assert_eq!(rt; order_of_places(second, first), Ordering::Greater);
-            assert!(rt; equal_places(first, first) && !equal_places(first, second));
-        }
+    match interpret(&dfa, "a") {
+        Some((first, _)) => match interpret(&dfa, "b") {
+            Some((second, _)) => {
+                assert_eq!(rt; order_of_places(first, second), Ordering::Less);
+                assert_eq!(rt; order_of_places(second, first), Ordering::Greater);
+                assert!(rt; equal_places(first, first) && !equal_places(first, second));
+            }
+            None => assert!(rt; false),
+        },
+        None => assert!(rt; false),
     }
     Ok(())
 }
