@@ -4,7 +4,7 @@ ghost use Rattle.std.specs.Ordering.{nat_cmp, ordering_then};
 
 use lalrpop_lexer::lexer::dfa::overlap::{remove_overlap, remove_overlap_counted};
 use lalrpop_lexer::lexer::nfa::{Steps, Test};
-use lalrpop_lexer::lexer::re::{ClassBytesRange, ClassUnicodeRange};
+use lalrpop_lexer::lexer::re::{ClassBytesRange, ClassUnicode, ClassUnicodeRange};
 use std::alloc::{AllocError, Global};
 use std::cmp::Ordering;
 use std::collections::BTreeSet;
@@ -64,6 +64,30 @@ fn an_empty_range_meets_none(rt: HostRuntime) {
         Test::from(ClassBytesRange::new(0, 255)),
         Test::new(0..=255)
     );
+}
+
+#[test]
+fn the_greatest_number_is_one_like_others(rt: HostRuntime) {
+    let all = Test::new(0..=MAX);
+    assert!(&rt; !all.is_char() && all.contains_u32(MAX));
+    assert!(&rt; Test::new(MAX..=MAX).is_char());
+    let empty = Test::new(9..=2);
+    assert!(&rt; empty.is_empty() && !empty.intersects(&all));
+}
+
+#[test]
+fn surrogates_stand_inside_a_range(rt: HostRuntime) -> Result<(), AllocError> {
+    let alloc = rt.alloc();
+    let ends = vec![in alloc;
+        ClassUnicodeRange::new('\u{E000}', '\u{E000}'),
+        ClassUnicodeRange::new('\u{D7FF}', '\u{D7FF}'),
+    ]?;
+    let class = ClassUnicode::new(alloc, ends)?;
+    assert_eq!(&rt; class.ranges().len(), 1);
+    for range in class.ranges() {
+        assert_eq!(&rt; Test::from(*range), Test::new(55295..=57344));
+    }
+    Ok(())
 }
 
 #[test]
