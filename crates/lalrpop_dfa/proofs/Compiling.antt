@@ -5,10 +5,10 @@ use Rattle.std.proofs.lemmas.Option.{slice_get_cases, slice_get_within, slice_ge
 use Rattle.lalrpop_hir.specs.Tree.{Tree}
 use Rattle.lalrpop_nfa.specs.Graph.{Graph}
 use Rattle.lalrpop_nfa.specs.Fault.{fault}
-use Rattle.lalrpop_nfa.specs.Compiled.{IsCompiled}
+use Rattle.lalrpop_nfa.specs.Compiled.{IsCompiled, HasFixedEdges}
 use Rattle.lalrpop_dfa.specs.Items.{AreCompiled}
 use Rattle.lalrpop_dfa.specs.Report.{NoFault, FirstFault}
-use Rattle.lalrpop_dfa.specs.Internal.Builder.{IsFaultOf, IsRefusalOf}
+use Rattle.lalrpop_dfa.specs.Internal.Builder.{AreFixed, IsFaultOf, IsRefusalOf}
 use Rattle.lalrpop_nfa.specs.declared.error.NfaConstructionError.TheVariants.{OutOfMemory as NoMemory}
 use Rattle.lalrpop_nfa.specs.declared.error.NfaConstructionError.{NfaConstructionError}
 use Rattle.lalrpop_dfa.specs.declared.error.DfaConstructionError.{DfaConstructionError}
@@ -19,17 +19,22 @@ use Rattle.lalrpop_dfa.proofs.Adding.{pushed_at}
 pub record IsCompiledTo (ts : List Tree) (ns : List Graph) (k : ℕ) : Type 0 where
   pub counted : length ns ≡ k
   pub each : (i : ℕ) (t : Tree) (g : Graph) → slice_get ts i ≡ Some t → slice_get ns i ≡ Some g → (fault t ≡ None) × IsCompiled t g
+  pub fixed : AreFixed ns
 
-pub compiled_more : (ts : List Tree) (ns ns2 : List Graph) (k : ℕ) (t : Tree) (g : Graph) → IsCompiledTo ts ns k → k < length ts → t ≡ get_or ts k t → (fault t ≡ None) × IsCompiled t g → ns2 ≡ ns ++ g ∷ [] → IsCompiledTo ts ns2 (k + 1)
-compiled_more ts ns ns2 k t g h l is c more = record {
+pub compiled_more : (ts : List Tree) (ns ns2 : List Graph) (k : ℕ) (t : Tree) (g : Graph) → IsCompiledTo ts ns k → k < length ts → t ≡ get_or ts k t → (fault t ≡ None) × IsCompiled t g → HasFixedEdges g.edges → ns2 ≡ ns ++ g ∷ [] → IsCompiledTo ts ns2 (k + 1)
+compiled_more ts ns ns2 k t g h l is c f more = record {
   counted = omega (arith, ap length more, length-append ns (g ∷ []), h.counted);
-  each = λ i u f a b. elim (pushed_at ns g i f (rw more at b)) [
-    | inl was ↦ h.each i u f a was
+  each = λ i u v a b. elim (pushed_at ns g i v (rw more at b)) [
+    | inl was ↦ h.each i u v a was
     | inr new ↦
         (let here : slice_get ts i ≡ Some t = subst (λ j. slice_get ts j ≡ Some t) (sym (new.0 ∙ h.counted)) (slice_get-get_or ts k t l ∙ ap (λ z. Some z) (sym is)) in
         let same : Some u ≡ Some t = sym a ∙ here in
         let tree : t ≡ u = cc in
         rw (new.1, ← tree) c)
+  ];
+  fixed = λ i u b. elim (pushed_at ns g i u (rw more at b)) [
+    | inl was ↦ h.fixed i u was
+    | inr new ↦ rw new.1 f
   ];
 }
 

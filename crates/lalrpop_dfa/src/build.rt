@@ -1,6 +1,6 @@
 //! Building an automaton: the patterns are compiled one by one, then joined.
 ghost use Rattle.std.specs.Prelude.{◌≡◌, ◌≤◌, List, map, length, IfOk, IfErr};
-ghost use Rattle.lalrpop_dfa.specs.Internal.Builder.{IsFaultOf, IsRefusalOf};
+ghost use Rattle.lalrpop_dfa.specs.Internal.Builder.{AreFixed, IsFaultOf, IsRefusalOf};
 ghost use Rattle.lalrpop_dfa.specs.Clash.{NoClash};
 ghost use Rattle.lalrpop_dfa.specs.Counts.{state_bound};
 ghost use Rattle.lalrpop_dfa.specs.Dfa.{Recognizes};
@@ -27,6 +27,7 @@ fn refusal(index: NfaIndex, error: NfaConstructionError) -> DfaConstructionError
 // The automata of the patterns, in the order of the list, or the first pattern that has a fault.
 fn compile_all(alloc: Global, regexs: &[Regex]) -> Result<Vec<Nfa>, DfaConstructionError>
     ensures ok { IfOk result (λ nfas. NoFault regexs.now × AreCompiled regexs.now nfas.items) }
+    ensures fixed { IfOk result (λ nfas. AreFixed nfas.items) }
     ensures err { IfErr result (IsFaultOf regexs.now) }
 {
     let mut nfas = Vec::new(alloc);

@@ -4,6 +4,7 @@ use Rattle.std.specs.List.{Contains}
 use Rattle.std.specs.BTreeMap.{BTreeMap, get}
 use Rattle.lalrpop_hir.specs.Range.{Range, Covers}
 use Rattle.lalrpop_hir.specs.Tree.{Tree}
+use Rattle.lalrpop_nfa.specs.Compiled.{HasFixedEdges}
 use Rattle.lalrpop_nfa.specs.Graph.{Graph}
 use Rattle.lalrpop_dfa.specs.Clash.{IsClash}
 use Rattle.lalrpop_dfa.specs.Dfa.{Row}
@@ -22,9 +23,13 @@ use Rattle.lalrpop_nfa.specs.declared.error.NfaConstructionError.TheVariants.{Ou
 use Rattle.lalrpop_dfa.specs.declared.error.DfaConstructionError.{DfaConstructionError}
 use Rattle.lalrpop_dfa.specs.declared.error.DfaConstructionError.TheVariants.{NfaConstructionError as Refused, Ambiguity, OutOfMemory}
 
+-- the edges of ACCEPT, REJECT and START are the fixed ones in each automaton
+abbrev pub AreFixed : List Graph → Type 0
+AreFixed ns = (i : ℕ) (g : Graph) → slice_get ns i ≡ Some g → HasFixedEdges g.edges
+
 -- the automata of some trees
 abbrev pub AreAutomata : List Graph → Type 0
-AreAutomata ns = (ts : List Tree) × AreCompiled ts ns
+AreAutomata ns = (ts : List Tree) × AreCompiled ts ns × AreFixed ns
 
 -- each is an item of the automata
 abbrev pub AreItemsOf : List Graph → List Item → Type 0

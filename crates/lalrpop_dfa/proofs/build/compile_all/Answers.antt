@@ -10,7 +10,7 @@ returns-in-Err-clause-err c =
 pub loop-index-preserved : goal.loop-index-preserved
 loop-index-preserved c =
     let l : c.loop-index.index < length c.args.regexs.now = search rules in
-    compiled_more c.args.regexs.now c.loop-index.nfas.items c.push.new.self.items c.loop-index.index c.index-regexs-index.result c.in-Ok.nfa c.loop-index.invariant l c.index-regexs-index.is c.in-Ok.ensures.ok c.in_ok-push.ensures.items
+    compiled_more c.args.regexs.now c.loop-index.nfas.items c.push.new.self.items c.loop-index.index c.index-regexs-index.result c.in-Ok.nfa c.loop-index.invariant l c.index-regexs-index.is c.in-Ok.ensures.ok c.in-Ok.ensures.fixed_edges c.in_ok-push.ensures.items
 
 pub returns-clause-ok : goal.returns-clause-ok
 returns-clause-ok c =
