@@ -16,23 +16,21 @@ use Rattle.lalrpop_kernels.specs.Kernels.{Kernels, IsNumberOf, added}
 use Rattle.lalrpop_nfa.specs.Compiled.{start_state}
 use Rattle.lalrpop_dfa.specs.Internal.Subsets.{starts_from, no_graph, move}
 use Rattle.std.specs.Cmp.Lexicographic.{slice_cmp}
-use Rattle.std.specs.Ordering.{nat_cmp}
+use Rattle.std.specs.Ordering.{nat_cmp, ordering_then}
 use Rattle.lalrpop_dfa.specs.Internal.Ascending.{item_cmp}
 use Rattle.lalrpop_dfa.specs.Internal.Transitions.{AreTransitions, transition_cmp, transitions_cmp}
 use Rattle.lalrpop_dfa.specs.declared.blocks.Transition.{Transition}
 use Rattle.lalrpop_dfa.specs.declared.blocks.Transitions.{Transitions}
-use Rattle.lalrpop_dfa.specs.Internal.ItemOrder.{set_cmp, set_total}
+use Rattle.lalrpop_dfa.specs.Internal.ItemOrder.{rejects_cmp, set_cmp, set_total}
+use Rattle.lalrpop_dfa.specs.Internal.LiveItems.{live_of}
 use Rattle.lalrpop_dfa.specs.Internal.Builder.{AddedTo, AreKnown, AreAutomata, AreItemsOf}
 use Rattle.lalrpop_dfa.proofs.Members.{Has, has_from}
 use Rattle.lalrpop_dfa.proofs.Targets.{compiled_at}
-use Rattle.lalrpop_dfa.proofs.Inserting.{bool_cases, then_equal, item_exact, nat_exact}
+use Rattle.lalrpop_dfa.proofs.Inserting.{bool_cases, then_equal, item_exact, nat_exact, lists_exact}
 use Rattle.lalrpop_dfa.proofs.TransitionMoves.{leads_move}
 
 pub set_exact : CmpEqualImpliesEq set_cmp
-set_exact [] [] e = refl
-set_exact [] (y ∷ ys) e = cc
-set_exact (x ∷ xs) [] e = cc
-set_exact (x ∷ xs) (y ∷ ys) e = let h = then_equal _ _ e in let a : x ≡ y = item_exact x y h.0 in let b : xs ≡ ys = set_exact xs ys h.1 in cc
+set_exact x y e = lists_exact x y (then_equal (ordering_then (slice_cmp item_cmp (live_of x) (live_of y)) (rejects_cmp x y)) (slice_cmp item_cmp x y) e).1
 
 pub pushed_at : {X : Type 0} (xs : List X) (y : X) (q : ℕ) (x : X) → slice_get (xs ++ y ∷ []) q ≡ Some x → (slice_get xs q ≡ Some x) ⊎ ((q ≡ length xs) × (x ≡ y))
 pushed_at [] y zero x h = inr (refl, cc)

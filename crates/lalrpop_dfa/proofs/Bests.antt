@@ -13,7 +13,7 @@ use Rattle.std.proofs.lemmas.Map.Keys.{Less-from_sorted}
 use Rattle.lalrpop_nfa.specs.Graph.{Graph}
 use Rattle.lalrpop_dfa.specs.Items.{Item}
 use Rattle.lalrpop_dfa.specs.Internal.Ascending.{item_cmp, AreAscendingItems, IsItemOf}
-use Rattle.lalrpop_nfa.specs.Compiled.{accept_state, reject_state}
+use Rattle.lalrpop_nfa.specs.Compiled.{accept_state}
 use Rattle.lalrpop_dfa.specs.Internal.Subsets.{is_dead}
 use Rattle.lalrpop_dfa.specs.Internal.Best.{accepts, IsStrong, IsBestOf, IsBest, raised}
 use Rattle.std.proofs.lemmas.Option.{slice_get_within}
@@ -21,7 +21,7 @@ use Rattle.lalrpop_dfa.specs.Internal.Builder.{AreAutomata, AreItemsOf}
 use Rattle.lalrpop_dfa.specs.Internal.Built.{IsStrongestIn, IsKindOf, IsTied}
 use Rattle.lalrpop_dfa.specs.declared.Kind.TheVariants.{Accepts, Neither}
 use Rattle.lalrpop_dfa.specs.declared.best.Best.{Best}
-use Rattle.lalrpop_nfa.specs.declared.edge.StateKind.TheVariants.{Accept, Reject}
+use Rattle.lalrpop_nfa.specs.declared.edge.StateKind.TheVariants.{Accept}
 use Rattle.lalrpop_dfa.proofs.Members.{has_from, contains_from, has_filter, filter_has, has_map, map_has}
 use Rattle.lalrpop_dfa.proofs.Targets.{compiled_at}
 use Rattle.lalrpop_dfa.proofs.Inserting.{none_has}
@@ -35,11 +35,6 @@ pub accepting_told : (ns : List Graph) (x : Item) (g : Graph) (q : ℕ) (b : Boo
 accepting_told ns x g q b a at same f =
     let k = compiled_at a.0 ns a.1 x.0 g at in
     told b x.1 accept_state (λ t. sym same ∙ (k.1.1.accepting q).0 (f.0 t)) (λ e. f.1 ((k.1.1.accepting q).1 (same ∙ e)))
-
-pub rejecting_told : (ns : List Graph) (x : Item) (g : Graph) (q : ℕ) (b : Bool) → AreAutomata ns → slice_get ns x.0 ≡ Some g → q ≡ x.1 → IsTrue b ↔ (slice_get g.kinds q ≡ Some Reject) → b ≡ (x.1 == reject_state)
-rejecting_told ns x g q b a at same f =
-    let k = compiled_at a.0 ns a.1 x.0 g at in
-    told b x.1 reject_state (λ t. sym same ∙ (k.1.1.rejecting q).0 (f.0 t)) (λ e. f.1 ((k.1.1.rejecting q).1 (same ∙ e)))
 
 match_on : {A B : Type 0} {P Q : ℕ → Type 0} (o : Option ℕ) → (A → B) → ((n : ℕ) → P n → Q n) → MatchOption o A P → MatchOption o B Q
 match_on None f g h = f h

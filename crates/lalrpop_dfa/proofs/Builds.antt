@@ -1,7 +1,7 @@
 -- The construction, step by step.
 use Rattle.std.proofs.Common.{◌≡◌, ℕ, zero, suc, ◌+◌, ◌<◌, ◌≤◌, inl, inr, List, [], ◌∷◌, ◌++◌, length, map, take, get_or, refl, ap, sym, ◌∙◌, subst, arith, Option, Some, None, MatchOption, ◌^◌, length-append, sum_by}
 use Rattle.std.specs.Prelude.{slice_get}
-use Rattle.std.specs.List.{Contains, flat_map}
+use Rattle.std.specs.List.{Contains}
 use Rattle.std.proofs.lemmas.List.{take_more, take_all, length_push, map-append}
 use Rattle.std.proofs.Math.Pow.{pow_mono}
 use Rattle.std.proofs.lemmas.Option.{slice_get_cases, slice_get_within, slice_get-get_or, get_or_from_slice_get}
@@ -13,7 +13,7 @@ use Rattle.lalrpop_dfa.specs.Dfa.{Row, Recognizes, IsWellFormed}
 use Rattle.lalrpop_dfa.specs.Clash.{NoClash}
 use Rattle.lalrpop_dfa.specs.Items.{Item, AreCompiled, IsLeaving, HoldsItems, OthersReject, IsInWordOrder}
 use Rattle.lalrpop_dfa.specs.Internal.Ascending.{AreAscendingItems}
-use Rattle.lalrpop_dfa.specs.Internal.Subsets.{move, closed, item_targets, all_items}
+use Rattle.lalrpop_dfa.specs.Internal.Subsets.{move, all_items}
 use Rattle.lalrpop_dfa.specs.Internal.BreadthFirst.{Automaton, IsBreadthFirst, Added, nth, value_of, from_of, word}
 use Rattle.lalrpop_dfa.specs.Internal.Built.{subset_automaton, IsKindOf, IsRowOf, IsTied}
 use Rattle.lalrpop_dfa.specs.Internal.Builder.{AreAutomata, AreItemsOf, AddedTo, AreSmall, Keep, IsEdged, IsBuiltTo, IsTieOf, IsClashOf}
@@ -45,10 +45,6 @@ small_added : (sets : List (List Item)) (origins : List (ℕ × ℕ)) (n v : ℕ
     → AddedTo sets origins n v t j sets2 origins2 → AreSmall origins → AreSmall origins2
 small_added sets origins n v t j sets2 origins2 l (inl (e, a, b)) f = rw b f
 small_added sets origins n v t j sets2 origins2 l (inr (none, e, a, b)) f = rw b (small_push origins n v l f)
-
-pub leads_to : (ns : List Graph) (s given : List Item) (v : ℕ) → given ≡ flat_map (item_targets ns v) s → closed ns given ≡ move ns s v
-unfolding move
-leads_to ns s given v e = ap (closed ns) e
 
 -- ---- one number
 -- the first k of the ranges were expanded

@@ -5,6 +5,7 @@ use Rattle.std.specs.List.{Contains, filter}
 use Rattle.std.proofs.lemmas.Option.{get_or_from_slice_get}
 use Rattle.std.specs.Ordering.{is_eq}
 use Rattle.std.specs.Cmp.{IsTotalOrder, Equal-is}
+use Rattle.std.specs.Cmp.Lexicographic.{slice_cmp}
 use Rattle.std.specs.BTreeSet.{BTreeSet, contains, Updates, IsOrdered}
 use Rattle.std.specs.declared.cmp.Ordering.{Ordering}
 use Rattle.std.specs.declared.cmp.Ordering.TheVariants.{Equal, Less, Greater}
@@ -69,6 +70,12 @@ item_exact x y e =
     let a : x.0 ≡ y.0 = nat_exact x.0 y.0 h.0 in
     let b : x.1 ≡ y.1 = nat_exact x.1 y.1 h.1 in
     pair_same x.0 y.0 x.1 y.1 a b
+
+pub lists_exact : CmpEqualImpliesEq (slice_cmp item_cmp)
+lists_exact [] [] e = refl
+lists_exact [] (y ∷ ys) e = cc
+lists_exact (x ∷ xs) [] e = cc
+lists_exact (x ∷ xs) (y ∷ ys) e = let h = then_equal _ _ e in let a : x ≡ y = item_exact x y h.0 in let b : xs ≡ ys = lists_exact xs ys h.1 in cc
 
 pub one_has : {X : Type 0} (y x : X) → Contains (y ∷ []) x → y ≡ x
 one_has y x h = elim (has_from (y ∷ []) x h) [ inl e ↦ e | inr never ↦ absurd never ]

@@ -9,6 +9,9 @@ pub mod Members
 pub mod SortedLists
 pub mod Sets
 pub mod Epsilon
+pub mod FullSets
+pub mod SetOrder
+mod LiveSets
 pub mod Targets
 pub mod ReachedItems
 pub mod Dead

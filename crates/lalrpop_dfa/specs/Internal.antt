@@ -1,5 +1,6 @@
 pub mod BreadthFirst
 pub mod Ascending
+pub mod LiveItems
 pub mod ItemOrder
 pub mod Subsets
 pub mod Built

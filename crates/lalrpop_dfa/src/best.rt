@@ -5,7 +5,7 @@ ghost use Rattle.lalrpop_dfa.specs.Internal.Ascending.{AreAscendingItems, IsItem
 ghost use Rattle.lalrpop_dfa.specs.Internal.Best.{IsBest, accepts, raised};
 ghost use Rattle.lalrpop_dfa.specs.Internal.Builder.{AreAutomata, AreItemsOf};
 ghost use Rattle.lalrpop_dfa.specs.Internal.Built.{IsKindOf, IsTied};
-ghost use Rattle.lalrpop_nfa.specs.Compiled.{accept_state, reject_state};
+ghost use Rattle.lalrpop_nfa.specs.Compiled.{accept_state};
 ghost use Rattle.lalrpop_dfa.specs.Internal.Subsets.{is_dead};
 
 use super::items::{Item, ItemSet};
@@ -52,15 +52,6 @@ fn is_accepting(nfas: &[Nfa], item: Item) -> bool
     item.nfa(nfas).is_accepting_state(item.state())
 }
 
-// Whether the item's pattern matches no continuation of a word that leads to it.
-fn is_rejecting(nfas: &[Nfa], item: Item) -> bool
-    requires automata { AreAutomata nfas.now }
-    requires inside { IsItemOf nfas.now item }
-    ensures { result ≡ (item.1 == reject_state) }
-{
-    item.nfa(nfas).is_rejecting_state(item.state())
-}
-
 // The best of the patterns that the set accepts.
 fn best_of(nfas: &[Nfa], precedences: &[Precedence], set: &ItemSet) -> Option<Best>
     requires same_len { length nfas.now ≡ length precedences.now }
@@ -70,7 +61,7 @@ fn best_of(nfas: &[Nfa], precedences: &[Precedence], set: &ItemSet) -> Option<Be
     ensures { IsBest (map (λ p. p.0) precedences.now) (accepts set.now) result }
 {
     let mut best = None;
-    for item in set.items.iter() {
+    for item in set.live.iter() {
         let item = *item;
         if is_accepting(nfas, item) {
             let pattern = item.pattern();
@@ -82,17 +73,10 @@ fn best_of(nfas: &[Nfa], precedences: &[Precedence], set: &ItemSet) -> Option<Be
 }
 
 // Whether all items are REJECT states.
-fn all_reject(nfas: &[Nfa], set: &ItemSet) -> bool
-    requires automata { AreAutomata nfas.now }
-    requires inside { AreItemsOf nfas.now set.now }
+fn all_reject(set: &ItemSet) -> bool
     ensures { result ≡ is_dead set.now }
 {
-    for item in set.items.iter() {
-        if !is_rejecting(nfas, *item) {
-            return false;
-        }
-    }
-    true
+    set.live.is_empty()
 }
 
 /// The kind of a state that holds the set, or the tie of its strongest patterns.
@@ -106,7 +90,7 @@ pub(super) fn kind_of(nfas: &[Nfa], precedences: &[Precedence], set: &ItemSet) -
         IsTied (map (λ p. p.0) precedences.now) set.now tie.greatest tie.second) }
 {
     let Some(best) = best_of(nfas, precedences, set) else {
-        return Ok(if all_reject(nfas, set) {
+        return Ok(if all_reject(set) {
             Kind::Reject
         } else {
             Kind::Neither

@@ -3,7 +3,7 @@
 ghost use Rattle.std.specs.Prelude.{◌≡◌, ◌++◌, ◌∷◌, [], map, IfOk, OnOk};
 ghost use Rattle.lalrpop_hir.specs.Range.{Covers};
 ghost use Rattle.lalrpop_dfa.specs.Internal.Ascending.{IsItemOf};
-ghost use Rattle.lalrpop_dfa.specs.Internal.Builder.{AreItemsOf};
+ghost use Rattle.lalrpop_dfa.specs.Internal.Builder.{AreAutomata, AreItemsOf};
 ghost use Rattle.lalrpop_dfa.specs.Items.{IsLeaving};
 ghost use Rattle.lalrpop_dfa.specs.Internal.Transitions.{AreBare, HaveTransitions, AreRising, Gained, IsTransition};
 ghost use Rattle.lalrpop_ranges.specs.Partition.{IsPartition};
@@ -84,7 +84,8 @@ fn add_edges(nfas: &[Nfa], item: Item, blocks: &mut Vec<Block>) -> Result<(), Al
 
 // The partition of the labels that leave the items of a set, with no edge as yet.
 fn bare_blocks_of(alloc: Global, nfas: &[Nfa], set: &ItemSet) -> Result<Vec<Block>, AllocError>
-    requires { AreItemsOf nfas.now set.now }
+    requires automata { AreAutomata nfas.now }
+    requires inside { AreItemsOf nfas.now set.now }
     ensures ranges { IfOk result (λ blocks.
         IsPartition (IsLeaving nfas.now set.now) (map (λ p. p.range) blocks.items)) }
     ensures bare { IfOk result (λ blocks. AreBare blocks.items) }
@@ -111,13 +112,14 @@ pub(super) fn blocks_of(
     nfas: &[Nfa],
     set: &ItemSet,
 ) -> Result<Vec<Block>, AllocError>
-    requires { AreItemsOf nfas.now set.now }
+    requires automata { AreAutomata nfas.now }
+    requires inside { AreItemsOf nfas.now set.now }
     ensures ranges { IfOk result (λ blocks.
         IsPartition (IsLeaving nfas.now set.now) (map (λ p. p.range) blocks.items)) }
     ensures transitions { IfOk result (λ blocks. HaveTransitions nfas.now set.now blocks.items) }
 {
     let mut blocks = bare_blocks_of(alloc, nfas, set)?;
-    for item in set.items.iter() {
+    for item in set.live.iter() {
         add_edges(nfas, *item, &mut blocks)?;
     }
     Ok(blocks)

@@ -93,8 +93,7 @@ impl Sets {
         requires same_length { length self.old.origins.items ≡ length self.old.kernels.list }
         ensures { IfOk result (λ j. IsAdded self.old origin (move nfas.now set.now origin.1) j self.new) }
     {
-        let given = advance(alloc, nfas, set, origin.value)?;
-        let target = closure(alloc, nfas, &given)?;
+        let target = advance(alloc, nfas, set, origin.value)?;
         self.add(target, origin)
     }
 

@@ -1,14 +1,16 @@
 //! Where items lead: by reading nothing, and by a value.
 
 ghost use Rattle.std.specs.Prelude.{◌≡◌, ◌<◌, ◌++◌, ◌∷◌, [], length, map, IfOk, OnOk};
-ghost use Rattle.std.specs.List.{flat_map};
-ghost use Rattle.lalrpop_dfa.specs.Internal.Ascending.{IsItemOf};
+ghost use Rattle.std.specs.List.{flat_map, range_with_len};
+ghost use Rattle.lalrpop_dfa.specs.Internal.Ascending.{AreAscendingItems, IsItemOf};
 ghost use Rattle.lalrpop_dfa.specs.Internal.Builder.{AreAutomata, AreItemsOf};
-ghost use Rattle.lalrpop_dfa.specs.Internal.Subsets.{closed, test_targets, default_targets, item_targets};
+ghost use Rattle.lalrpop_dfa.specs.Internal.LiveItems.{live_of, full, still_spared, AreSpared, AreWithin};
+ghost use Rattle.lalrpop_dfa.specs.Internal.Subsets.{closed, move, test_targets, default_targets, item_targets};
 ghost use Rattle.lalrpop_dfa.specs.Internal.Worklist.{IsInserted, epsilon_targets};
 
+use super::NfaIndex;
 use super::items::{Item, ItemSet};
-use lalrpop_nfa::{Nfa, Noop, Other};
+use lalrpop_nfa::{Nfa, Noop, Other, REJECT};
 use lalrpop_ranges::Test;
 use std::alloc::{AllocError, Global};
 use std::collections::BTreeSet;
@@ -56,11 +58,11 @@ impl Worklist {
     }
 }
 
-/// The given items and all that they lead to by reading nothing.
-pub(super) fn closure(alloc: Global, nfas: &[Nfa], given: &[Item]) -> Result<ItemSet, AllocError>
+// The given items and all that they lead to by reading nothing.
+fn follow_all(alloc: Global, nfas: &[Nfa], given: &[Item]) -> Result<BTreeSet<Item>, AllocError>
     requires automata { AreAutomata nfas.now }
     requires inside { AreItemsOf nfas.now given.now }
-    ensures { IfOk result (λ s. s ≡ closed nfas.now given.now) }
+    ensures { IfOk result (λ s. s.keys ≡ closed nfas.now given.now) }
 {
     let mut worklist = Worklist {
         observed: BTreeSet::new(alloc),
@@ -70,14 +72,82 @@ pub(super) fn closure(alloc: Global, nfas: &[Nfa], given: &[Item]) -> Result<Ite
     while let Some(item) = worklist.pending.pop() {
         worklist.follow(nfas, item)?;
     }
-    all_of(alloc, worklist.observed)
+    Ok(worklist.observed)
 }
 
-fn all_of(alloc: Global, items: BTreeSet<Item>) -> Result<ItemSet, AllocError>
-    ensures { IfOk result (λ s. s ≡ items.keys) }
+// Those of the patterns that have no REJECT item among the items.
+fn spared_by(
+    alloc: Global,
+    items: &BTreeSet<Item>,
+    spared: &[usize],
+) -> Result<Vec<usize>, AllocError>
+    ensures { IfOk result (λ v. v.items ≡ still_spared items.now.keys spared.now) }
 {
-    let items = items.into_iter().collect(alloc)?;
-    Ok(ItemSet { items })
+    let mut still = Vec::new(alloc);
+    for pattern in spared {
+        let reject = Item {
+            nfa_index: NfaIndex(*pattern),
+            nfa_state: REJECT,
+        };
+        if !items.contains(&reject) {
+            still.push(*pattern)?;
+        }
+    }
+    Ok(still)
+}
+
+// Those of the items that are no REJECT states.
+fn live_among(alloc: Global, items: BTreeSet<Item>) -> Result<Vec<Item>, AllocError>
+    ensures { IfOk result (λ v. v.items ≡ live_of items.keys) }
+{
+    let mut live = Vec::new(alloc);
+    for item in items {
+        if item.state() != REJECT {
+            live.push(item)?;
+        }
+    }
+    Ok(live)
+}
+
+// The set of the items, where these patterns had no REJECT item before.
+fn set_of(
+    alloc: Global,
+    patterns: usize,
+    spared: &[usize],
+    items: BTreeSet<Item>,
+) -> Result<ItemSet, AllocError>
+    requires ascending { AreAscendingItems items.keys }
+    requires within { AreWithin patterns items.keys }
+    requires spared { AreSpared patterns spared.now }
+    ensures { IfOk result (λ s.
+        s ≡ full patterns (still_spared items.keys spared.now) (live_of items.keys)) }
+{
+    let spared = spared_by(alloc, &items, spared)?;
+    let live = live_among(alloc, items)?;
+    Ok(ItemSet {
+        live,
+        spared,
+        patterns,
+    })
+}
+
+/// The given items and all that they lead to by reading nothing.
+pub(super) fn closure(alloc: Global, nfas: &[Nfa], given: &[Item]) -> Result<ItemSet, AllocError>
+    requires automata { AreAutomata nfas.now }
+    requires inside { AreItemsOf nfas.now given.now }
+    ensures { IfOk result (λ s. s ≡ closed nfas.now given.now) }
+{
+    let items = follow_all(alloc, nfas, given)?;
+    let patterns = nfas.len();
+    let all = patterns_below(alloc, patterns)?;
+    set_of(alloc, patterns, &all, items)
+}
+
+// All patterns.
+fn patterns_below(alloc: Global, patterns: usize) -> Result<Vec<usize>, AllocError>
+    ensures { IfOk result (λ v. v.items ≡ range_with_len 0 patterns) }
+{
+    (0..patterns).collect(alloc)
 }
 
 // Adds where the test edges of the item's state lead that cover a value.
@@ -131,19 +201,35 @@ fn push_targets(
     Ok(())
 }
 
-/// Where the items of a set lead by a value.
+// Where the items lead by a value.
+fn targets_of(
+    alloc: Global,
+    nfas: &[Nfa],
+    items: &[Item],
+    value: u32,
+) -> Result<Vec<Item>, AllocError>
+    requires { AreItemsOf nfas.now items.now }
+    ensures { IfOk result (λ v. v.items ≡ flat_map (item_targets nfas.now value) items.now) }
+{
+    let mut targets = Vec::new(alloc);
+    for item in items {
+        push_targets(nfas, *item, value, &mut targets)?;
+    }
+    Ok(targets)
+}
+
+/// The set that a set leads to by a value. A pattern with a REJECT item keeps it, so that the live items are followed alone.
 pub(super) fn advance(
     alloc: Global,
     nfas: &[Nfa],
     set: &ItemSet,
     value: u32,
-) -> Result<Vec<Item>, AllocError>
-    requires { AreItemsOf nfas.now set.now }
-    ensures { IfOk result (λ v. v.items ≡ flat_map (item_targets nfas.now value) set.now) }
+) -> Result<ItemSet, AllocError>
+    requires automata { AreAutomata nfas.now }
+    requires inside { AreItemsOf nfas.now set.now }
+    ensures { IfOk result (λ s. s ≡ move nfas.now set.now value) }
 {
-    let mut targets = Vec::new(alloc);
-    for item in set.items.iter() {
-        push_targets(nfas, *item, value, &mut targets)?;
-    }
-    Ok(targets)
+    let given = targets_of(alloc, nfas, &set.live, value)?;
+    let items = follow_all(alloc, nfas, &given)?;
+    set_of(alloc, set.patterns, &set.spared, items)
 }

@@ -1,9 +1,11 @@
 //! Items, which are a pattern and a state of its automaton, and sets of them.
-ghost use Rattle.std.specs.Prelude.{◌≡◌, ◌<◌, length, slice_get, Some, refl};
+ghost use Rattle.std.specs.Prelude.{◌≡◌, ◌<◌, ◌↔◌, IsTrue, length, slice_get, Some, refl};
+ghost use Rattle.std.specs.List.{Contains};
 ghost use Rattle.std.specs.Cmp.{on_equiv, on_total, on_per, on_po, partial_order_from_agreeing_total};
 ghost use Rattle.std.specs.Cmp;
 ghost use Rattle.lalrpop_dfa.specs.Internal.Ascending.{item_cmp};
-ghost use Rattle.lalrpop_dfa.specs.Internal.ItemOrder.{item_eq, set_cmp, set_eq, item_total, item_equiv, item_ties, set_total, set_equiv, set_ties};
+ghost use Rattle.lalrpop_dfa.specs.Internal.ItemOrder.{item_eq, rejects_cmp, set_cmp, set_eq, item_total, item_equiv, item_ties, set_total, set_equiv, set_ties};
+ghost use Rattle.lalrpop_nfa.specs.Compiled.{reject_state};
 
 use super::{DfaStateIndex, NfaIndex};
 use lalrpop_kernels::Kernel;
@@ -128,18 +130,53 @@ impl Origin {
     }
 }
 
-/// The items that a state holds, ascending.
+/// The items that a state holds, ascending: the live ones, which are no REJECT states, and the REJECT item of each pattern
+/// that isn't spared.
 #[derive(Debug, Drop)]
 pub(super) struct ItemSet {
-    pub(super) items: Vec<Item>,
+    pub(super) live: Vec<Item>,
+    pub(super) spared: Vec<usize>,
+    pub(super) patterns: usize,
 }
 
 impl Model for ItemSet {
     ghost use Rattle.std.specs.Prelude.{ℕ, List};
+    ghost use Rattle.lalrpop_dfa.specs.Internal.LiveItems.{full, IsSplit};
 
     ghost Value = { List (ℕ × ℕ) };
 
-    ghost view = { λ s. s.items.items };
+    ghost view = { λ s. full s.patterns s.spared.items s.live.items };
+
+    ghost invariant = { λ s. IsSplit s.patterns s.spared.items s.live.items };
+}
+
+impl ItemSet {
+    // Whether the pattern has a REJECT item.
+    fn has_reject(&self, pattern: usize) -> bool
+        ensures { IsTrue result ↔ Contains self.now (pattern, reject_state) }
+    {
+        pattern < self.patterns && !self.spared.contains(&pattern)
+    }
+
+    // The order of sets by the patterns that have a REJECT item.
+    fn cmp_rejects(&self, other: &ItemSet) -> Ordering
+        ensures { result ≡ rejects_cmp self.now other.now }
+    {
+        if self.patterns == other.patterns && self.spared == other.spared {
+            return Ordering::Equal;
+        }
+        for pattern in 0..self.patterns.max(other.patterns) {
+            let here = self.has_reject(pattern);
+            if here != other.has_reject(pattern) {
+                return if here {
+                    Ordering::Greater
+                } else {
+                    Ordering::Less
+                };
+            }
+        }
+        Ordering::Equal
+    }
 }
 
 impl PartialEq for ItemSet {
@@ -148,7 +185,7 @@ impl PartialEq for ItemSet {
     ghost laws = { Cmp.partial_equiv_from_equiv set_equiv };
 
     fn eq(&self, other: &ItemSet) -> bool {
-        self.items == other.items
+        self.cmp(other) == Ordering::Equal
     }
 }
 
@@ -176,7 +213,10 @@ impl Ord for ItemSet {
     ghost matches_eq = { set_ties };
 
     fn cmp(&self, other: &ItemSet) -> Ordering {
-        self.items.cmp(&other.items)
+        match self.live.cmp(&other.live) {
+            Ordering::Equal => self.cmp_rejects(other),
+            order => order,
+        }
     }
 }
 
@@ -185,7 +225,9 @@ impl Clone for ItemSet {
 
     fn clone(&self) -> Result<ItemSet, AllocError> {
         Ok(ItemSet {
-            items: self.items.clone()?,
+            live: self.live.clone()?,
+            spared: self.spared.clone()?,
+            patterns: self.patterns,
         })
     }
 }

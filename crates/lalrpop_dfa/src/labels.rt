@@ -3,7 +3,7 @@
 ghost use Rattle.std.specs.Prelude.{◌≡◌, ◌↔◌, IfOk, OnOk};
 ghost use Rattle.std.specs.List.{Contains, flat_map};
 ghost use Rattle.lalrpop_dfa.specs.Internal.Ascending.{IsItemOf};
-ghost use Rattle.lalrpop_dfa.specs.Internal.Builder.{AreItemsOf};
+ghost use Rattle.lalrpop_dfa.specs.Internal.Builder.{AreAutomata, AreItemsOf};
 ghost use Rattle.lalrpop_dfa.specs.Items.{IsLeaving};
 ghost use Rattle.lalrpop_hir.specs.Range.{Range};
 ghost use Rattle.lalrpop_dfa.specs.Internal.Labels.{HasAlso, labels_from};
@@ -32,12 +32,13 @@ pub(super) fn labels_of(
     nfas: &[Nfa],
     set: &ItemSet,
 ) -> Result<BTreeSet<Test>, AllocError>
-    requires { AreItemsOf nfas.now set.now }
+    requires automata { AreAutomata nfas.now }
+    requires inside { AreItemsOf nfas.now set.now }
     ensures { IfOk result (λ labels. (r : Range)
         → Contains labels.keys r ↔ IsLeaving nfas.now set.now r) }
 {
     let mut labels = BTreeSet::new(alloc);
-    for item in set.items.iter() {
+    for item in set.live.iter() {
         insert_labels(nfas, *item, &mut labels)?;
     }
     Ok(labels)

@@ -1,25 +1,30 @@
 -- The order of items and of sets of items.
 use Rattle.std.specs.Prelude.{◌≡◌, ℕ, Bool, ◌&&◌, ◌==◌, List, refl}
 use Rattle.std.specs.Cmp.{IsTotalOrder, IsEquivalence}
-use Rattle.std.specs.Cmp.Lexicographic.{slice_cmp, pointwise, lists_total, lists_equiv, lists_ties}
+use Rattle.std.specs.Cmp.Lexicographic.{slice_cmp, lists_total}
 use Rattle.std.specs.Ordering.{nat_cmp, ordering_then, is_eq}
 use Rattle.std.specs.declared.cmp.Ordering.{Ordering}
 use Rattle.std.specs.declared.cmp.Ordering.TheVariants.{Less, Equal, Greater}
 use Rattle.std.proofs.Common.{arith}
 use Rattle.std.proofs.lemmas.Bool.Decides.{nat_tests}
-use Rattle.std.proofs.lemmas.Cmp.{then_total, on_total, and_equiv, on_equiv, nat_cmp_total, nat_eq_equiv}
+use Rattle.std.proofs.lemmas.Cmp.{then_total, on_total, back_total, eq_by_cmp_equiv, and_equiv, on_equiv, nat_cmp_total, nat_eq_equiv}
 use Rattle.lalrpop_dfa.specs.Items.{Item}
 use Rattle.lalrpop_dfa.specs.Internal.Ascending.{item_cmp}
+use Rattle.lalrpop_dfa.specs.Internal.LiveItems.{live_of, rejects_of}
 
 abbrev pub item_eq : Item → Item → Bool
 item_eq x y = (x.0 == y.0) && (x.1 == y.1)
 
--- by the first item in which they differ
+-- the set with the first REJECT item that the other has not is the greater
+abbrev pub rejects_cmp : List Item → List Item → Ordering
+rejects_cmp s t = slice_cmp (λ i j. nat_cmp j i) (rejects_of s) (rejects_of t)
+
+-- first by the live items, then by the patterns that have a REJECT item. Sets that ascend and tie in these two are equal
 abbrev pub set_cmp : List Item → List Item → Ordering
-set_cmp x y = slice_cmp item_cmp x y
+set_cmp s t = ordering_then (ordering_then (slice_cmp item_cmp (live_of s) (live_of t)) (rejects_cmp s t)) (slice_cmp item_cmp s t)
 
 abbrev pub set_eq : List Item → List Item → Bool
-set_eq x y = pointwise item_eq x y
+set_eq s t = is_eq (set_cmp s t)
 
 pub item_total : IsTotalOrder item_cmp
 item_total = then_total (on_total (λ (x : Item). x.0) nat_cmp_total) (on_total (λ (x : Item). x.1) nat_cmp_total)
@@ -38,11 +43,14 @@ nat_ties x y = grind (arith, nat_tests)
 pub item_ties : (x y : Item) → item_eq x y ≡ is_eq (item_cmp x y)
 item_ties x y = rw (then_ties, ← nat_ties x.0 y.0, ← nat_ties x.1 y.1) refl
 
+pub rejects_total : IsTotalOrder rejects_cmp
+rejects_total = on_total rejects_of (lists_total (back_total nat_cmp_total))
+
 pub set_total : IsTotalOrder set_cmp
-set_total = lists_total item_total
+set_total = then_total (then_total (on_total live_of (lists_total item_total)) rejects_total) (lists_total item_total)
 
 pub set_equiv : IsEquivalence set_eq
-set_equiv = lists_equiv item_equiv
+set_equiv = eq_by_cmp_equiv set_total
 
-pub set_ties : (x y : List Item) → set_eq x y ≡ is_eq (set_cmp x y)
-set_ties x y = lists_ties item_cmp item_ties x y
+pub set_ties : (s t : List Item) → set_eq s t ≡ is_eq (set_cmp s t)
+set_ties s t = refl

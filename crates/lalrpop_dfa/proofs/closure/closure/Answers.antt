@@ -1,26 +1,18 @@
-use Rattle.std.proofs.Common.{◌≡◌, length, arith}
-use Rattle.lalrpop_dfa.proofs.WorklistSteps.{nil_from, closing_start, closing_step, closing_less, closing_done}
+use Rattle.std.proofs.Common.{◌∙◌, ◌≡◌, ap, subst, length, IfOk}
+use Rattle.std.specs.List.{range_with_len}
+use Rattle.lalrpop_dfa.specs.Internal.LiveItems.{live_of, still_spared, full}
+use Rattle.lalrpop_dfa.proofs.LiveSets.{all_spared, closed_within, split_closed}
 use Rattle.lalrpop_dfa.proofs.closure.closure.Goals as goal
 
-pub loop-item-init : goal.loop-item-init
-loop-item-init c =
-    closing_start c.args.nfas.now c.args.given.now c.new.result.keys c.new-2.result.items c.insert_all.new.self.observed.keys c.insert_all.new.self.pending.items
-    c.new.ensures.empty c.new-2.ensures.items c.new.ensures.ordered c.requires.inside c.in_ok-insert_all.ensures
+pub set_of-requires-clause-within : goal.set_of-requires-clause-within
+set_of-requires-clause-within c = closed_within c.args.nfas.now c.args.given.now c.in_ok-items.items.keys c.in_ok-items.ensures
 
-pub loop-item-smaller : goal.loop-item-smaller
-loop-item-smaller c =
-    closing_less c.args.nfas.now c.args.given.now c.loop-item.worklist.observed.keys c.loop-item.worklist.pending.items c.pop.new.self.items c.in-Some.item c.follow.new.self.observed.keys c.follow.new.self.pending.items
-    c.in-Some.ensures.items
-    (closing_step c.args.nfas.now c.args.given.now c.loop-item.worklist.observed.keys c.loop-item.worklist.pending.items c.pop.new.self.items c.in-Some.item c.follow.new.self.observed.keys c.follow.new.self.pending.items
-    c.requires.automata c.in-Some.ensures.items c.loop-item.invariant c.in_ok-follow.ensures)
-    c.in_ok-follow.ensures
-
-pub loop-item-preserved : goal.loop-item-preserved
-loop-item-preserved c =
-    closing_step c.args.nfas.now c.args.given.now c.loop-item.worklist.observed.keys c.loop-item.worklist.pending.items c.pop.new.self.items c.in-Some.item c.follow.new.self.observed.keys c.follow.new.self.pending.items
-    c.requires.automata c.in-Some.ensures.items c.loop-item.invariant c.in_ok-follow.ensures
+pub set_of-requires-clause-spared : goal.set_of-requires-clause-spared
+set_of-requires-clause-spared c = rw (c.deref.ensures.value, c.in_ok-all.ensures) (all_spared (length c.args.nfas.now))
 
 pub returns : goal.returns
 returns c =
-    let empty : length c.loop-item.worklist.pending.items ≡ 0 = omega (arith, c.in_default.ensures.cases.0, c.loop-item.worklist.pending.ok.0) in
-    rw (← closing_done c.args.nfas.now c.args.given.now c.loop-item.worklist.observed.keys c.loop-item.worklist.pending.items (nil_from c.loop-item.worklist.pending.items empty) c.loop-item.invariant) c.all_of.ensures
+    let all : c.deref.result.now ≡ range_with_len 0 (length c.args.nfas.now) = c.deref.ensures.value ∙ c.in_ok-all.ensures in
+    subst (λ t. IfOk c.set_of.result (λ s. s ≡ t))
+    (ap (λ sp. full (length c.args.nfas.now) (still_spared c.in_ok-items.items.keys sp) (live_of c.in_ok-items.items.keys)) all ∙ split_closed c.args.nfas.now c.args.given.now c.in_ok-items.items.keys c.in_ok-items.ensures)
+    c.set_of.ensures

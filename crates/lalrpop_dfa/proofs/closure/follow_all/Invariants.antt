@@ -1,5 +1,5 @@
 use Rattle.lalrpop_dfa.proofs.WorklistSteps.{IsClosing, left}
-use Rattle.lalrpop_dfa.proofs.closure.closure.Given as goal
+use Rattle.lalrpop_dfa.proofs.closure.follow_all.Given as goal
 
 abbrev pub invariant-loop-item : goal.invariant-loop-item
 invariant-loop-item l = IsClosing l.nfas l.given l.worklist.observed.keys l.worklist.pending.items
