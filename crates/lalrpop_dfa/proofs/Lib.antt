@@ -12,6 +12,8 @@ pub mod Epsilon
 pub mod FullSets
 pub mod SetOrder
 mod LiveSets
+pub mod Marks
+pub mod ByPattern
 pub mod Targets
 pub mod ReachedItems
 pub mod Dead

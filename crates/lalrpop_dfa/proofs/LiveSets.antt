@@ -1,15 +1,18 @@
 -- Sets of items that are followed by their live items alone.
-use Rattle.std.proofs.Common.{◌≡◌, ℕ, zero, suc, ◌+◌, ◌<◌, ◌⊎◌, inl, inr, ◌↔◌, List, [], ◌∷◌, ◌++◌, length, map, take, cond, get_or, refl, ap, ap₂, sym, ◌∙◌, subst, arith, Bool, true, false, not, ◌==◌, ◌&&◌, Some, eqb-true, eq-eqb}
+use Rattle.std.proofs.Common.{◌≡◌, ℕ, zero, suc, ◌+◌, ◌<◌, ◌⊎◌, inl, inr, ◌↔◌, List, [], ◌∷◌, ◌++◌, length, map, take, cond, get_or, refl, ap, ap₂, sym, ◌∙◌, subst, arith, Bool, IsTrue, true, false, not, ◌==◌, ◌&&◌, Some, eqb-true, eq-eqb}
 use Rattle.std.specs.List.{Contains, filter, list_any, flat_map, slice_get, range_with_len}
-use Rattle.std.specs.List.Sorted.{IsStrictlySortedBy}
-use Rattle.std.specs.Ordering.{nat_cmp}
-use Rattle.std.specs.BTreeSet.{BTreeSet, contains}
-use Rattle.std.specs.declared.cmp.Ordering.TheVariants.{Less}
-use Rattle.std.proofs.lemmas.Bool.{and_parts, and_from}
+use Rattle.std.specs.List.Sorted.{IsStrictlySortedBy, IsSortedBy, IsPartitionPoint, IsBinarySearchResult, IsSearchInRange}
+use Rattle.std.specs.Ordering.{nat_cmp, is_lt, ordering_reverse}
+use Rattle.std.specs.Prelude.{Result, Ok, Err}
+use Rattle.std.specs.Result.{is_ok}
+use Rattle.std.proofs.lemmas.Cmp.{tied_itself}
+use Rattle.std.proofs.lemmas.List.Sorted.{searchable_from_sorted}
+use Rattle.std.proofs.lemmas.Map.Keys.{Less-from_sorted}
+use Rattle.std.specs.declared.cmp.Ordering.TheVariants.{Less, Equal, Greater}
+use Rattle.std.proofs.lemmas.Bool.{and_parts, and_from, cases_lt}
 use Rattle.std.proofs.lemmas.Bool.Decides.{nat_tests}
 use Rattle.std.proofs.lemmas.List.Elements.{filter_more}
 use Rattle.std.proofs.lemmas.List.Kept.{IsStrictlySortedBy-filter}
-use Rattle.std.proofs.lemmas.Map.Views.{btree_set_contains_iff}
 use Rattle.std.proofs.lemmas.Option.{slice_get_within}
 use Rattle.lalrpop_hir.specs.Range.{Range}
 use Rattle.lalrpop_nfa.specs.Graph.{Graph}
@@ -53,11 +56,31 @@ same_bool true b f g = sym (f refl)
 same_bool false true f g = g refl
 same_bool false false f g = refl
 
--- a set of items is asked for a REJECT item
-pub reject_told : (items : BTreeSet Item) (x : Item) (i : ℕ) → x ≡ (i, reject_state) → contains item_cmp items x ≡ list_any (is_reject_of i) items.keys
-reject_told items x i e = same_bool (contains item_cmp items x) (list_any (is_reject_of i) items.keys)
-    (λ t. reject_any items.keys i (subst (λ z. Has items.keys z) e (has_from items.keys x ((btree_set_contains_iff item_total item_exact items x).0 t))))
-    (λ t. (btree_set_contains_iff item_total item_exact items x).1 (contains_from items.keys x (subst (λ z. Has items.keys z) (sym e) (any_reject items.keys i t))))
+-- items are asked for a REJECT item
+pub reject_told : (items : List Item) (i : ℕ) (b : Bool) → IsTrue b ↔ Contains items (i, reject_state) → b ≡ list_any (is_reject_of i) items
+reject_told items i b told = same_bool b (list_any (is_reject_of i) items) (λ t. reject_any items i (has_from items (i, reject_state) (told.0 t))) (λ t. told.1 (contains_from items (i, reject_state) (any_reject items i t)))
+
+-- a search among ascending items
+rises : (items : List Item) → AreAscendingItems items → IsSortedBy (λ a b. is_lt (item_cmp a b)) items
+rises items sorted k d l m =
+    let less : item_cmp (get_or items k d) (get_or items (k + 1) d) ≡ Less = Less-from_sorted item_cmp items k (k + 1) d sorted (omega arith) m in
+    let more : item_cmp (get_or items (k + 1) d) (get_or items k d) ≡ Greater = item_total.antisymm (get_or items (k + 1) d) (get_or items k d) ∙ ap ordering_reverse less in
+    ap is_lt more
+
+pub found_told : (items : List Item) (x : Item) (r : Result ℕ ℕ) → AreAscendingItems items → IsSearchInRange r (length items) → IsBinarySearchResult (λ y. item_cmp y x) items r → IsTrue (is_ok r) ↔ Contains items x
+found_told items x (Ok i) sorted l at = (λ h. (i, l, item_exact (get_or items i x) x (at x)), λ h. refl)
+found_told items x (Err i) sorted l parts = (λ h. cc, λ h. absurd (apart h))
+  where
+    point : IsPartitionPoint (λ y. item_cmp y x ≡ Less) (λ y. item_cmp y x ≡ Greater) items i
+    point = parts (searchable_from_sorted item_total (λ y. y) items x (rises items sorted))
+
+    apart : Contains items x → ⊥
+    apart (k, m, is) =
+        let tied : item_cmp (get_or items k x) x ≡ Equal = ap (λ y. item_cmp y x) is ∙ tied_itself item_total x in
+        elim (cases_lt k i) [
+          | inl below ↦ (let h : item_cmp (get_or items k x) x ≡ Less = point.0 k x (omega arith) below in let clash : Less ≡ Equal = sym h ∙ tied in cc)
+          | inr above ↦ (let h : item_cmp (get_or items k x) x ≡ Greater = point.1 k x above m in let clash : Greater ≡ Equal = sym h ∙ tied in cc)
+        ]
 
 still_not : (items : List Item) (i : ℕ) → not (list_any (is_reject_of i) items) ≡ true → Has items (i, reject_state) → ⊥
 still_not items i h k = let t : list_any (is_reject_of i) items ≡ true = reject_any items i k in let clash : not true ≡ true = rw t at h in cc

@@ -1,5 +1,5 @@
 -- What the worklist keeps, and what it ends with.
-use Rattle.std.proofs.Common.{◌≡◌, ℕ, zero, suc, ◌+◌, ◌-◌, ◌*◌, ◌<◌, ◌≤◌, List, [], ◌∷◌, ◌++◌, length, refl, ap, sym, subst, arith, ◌⊎◌, inl, inr, true, ◌&&◌, ◌==◌, length-append}
+use Rattle.std.proofs.Common.{◌≡◌, ℕ, zero, suc, ◌+◌, ◌-◌, ◌*◌, ◌<◌, ◌≤◌, List, [], ◌∷◌, ◌++◌, length, map, get_or, ◌∙◌, refl, ap, sym, Bool, subst, arith, ◌⊎◌, inl, inr, true, ◌&&◌, ◌==◌, length-append}
 use Rattle.std.specs.List.{Contains, list_any, filter}
 use Rattle.std.proofs.lemmas.Bool.{or_cases, and_parts, and_from, eq-eqb, eqb-true}
 use Rattle.std.proofs.lemmas.List.Elements.{Contains-append_left, Contains-push_cases, Contains-push}
@@ -10,11 +10,14 @@ use Rattle.lalrpop_dfa.specs.Internal.Ascending.{AreAscendingItems, IsItemOf}
 use Rattle.lalrpop_nfa.specs.Path.{noop}
 use Rattle.lalrpop_dfa.specs.Internal.Builder.{AreAutomata, AreItemsOf}
 use Rattle.lalrpop_dfa.specs.Internal.Subsets.{graph_at, has_noop, joins, is_epsilon_path, follows_by_epsilon, closed, all_items}
-use Rattle.lalrpop_dfa.specs.Internal.Worklist.{IsInserted, epsilon_targets}
+use Rattle.lalrpop_dfa.specs.Internal.Worklist.{IsInserted, epsilon_targets, AreMarksOf, AreOfPattern, AreStatesBelow, marked}
 use Rattle.lalrpop_nfa.specs.declared.edge.Edge.{Edge}
 use Rattle.lalrpop_nfa.specs.declared.edge.Noop.{Noop}
-use Rattle.lalrpop_dfa.proofs.Members.{Has, has_from, contains_from, has_map, map_has, has_filter, filter_has, any_from_has, has_from_any}
+use Rattle.lalrpop_dfa.proofs.Members.{Has, has_right, has_from, contains_from, has_map, map_has, has_filter, filter_has, any_from_has, has_from_any}
 use Rattle.lalrpop_dfa.proofs.SortedLists.{sorted_same}
+use Rattle.std.specs.Prelude.{slice_get, Some}
+use Rattle.std.proofs.lemmas.Option.{slice_get-get_or}
+use Rattle.lalrpop_dfa.proofs.Marks.{marked_parts}
 use Rattle.lalrpop_dfa.proofs.Inserting.{graph_here}
 use Rattle.lalrpop_dfa.proofs.Epsilon.{epsilon_self, epsilon_edge, epsilon_trans}
 use Rattle.lalrpop_dfa.proofs.Sets.{closed_ascends, closed_has, closed_parts, at_most_all_items, item_total}
@@ -42,6 +45,16 @@ step_inside ns x y a is h =
     let here : Has is.0.edges.noops e = rw (graph_here ns x.0 is.0 is.1.0) at f.0 in
     let l = c.1.1.noops_in e (contains_from is.0.edges.noops e here) in
     rw f.2 (is.0, (is.1.0, l.1))
+
+-- there is a mark for where an edge that reads nothing leads
+pub step_below : (ns : List Graph) (x y : Item) (done : List Item) (es rest : List (Edge Noop)) (e : Edge Noop) (marks marks2 : List Bool) → AreAutomata ns → IsItemOf ns x → AreMarksOf ns x.0 marks → length marks2 ≡ length marks
+    → done ++ map (λ (f : Edge Noop). let z : Item = (x.0, f.to) in z) es ≡ epsilon_targets ns x → es ≡ e ∷ rest → y ≡ (x.0, e.to) → y.1 < length marks2
+step_below ns x y done es rest e marks marks2 a is room len all cut same =
+    let there : Has (epsilon_targets ns x) (x.0, e.to) =
+    rw (← all, cut) (has_right done (map (λ (f : Edge Noop). let z : Item = (x.0, f.to) in z) (e ∷ rest)) (x.0, e.to) (inl refl)) in
+    let (g, (at, l)) = step_inside ns x (x.0, e.to) a is there in
+    let state : y.1 ≡ e.to = ap (λ (z : Item). z.1) same in
+    omega (arith, l, state, len, room g at)
 
 pub step_led : (ns : List Graph) (z x y : Item) → IsItemOf ns x → follows_by_epsilon ns z x ≡ true → Has (epsilon_targets ns x) y → follows_by_epsilon ns z y ≡ true
 unfolding follows_by_epsilon
@@ -168,3 +181,20 @@ closing_done ns given observed pending none k =
 pub nil_from : {X : Type 0} (xs : List X) → length xs ≡ 0 → xs ≡ []
 nil_from [] e = refl
 nil_from (x ∷ xs) e = absurd (omega (arith, e))
+
+-- ---- the items of one pattern
+pub pattern_room : (ns : List Graph) (p k : ℕ) (g : Graph) (marks : List Bool) (long : ℕ) → k ≡ p → p < length ns → g ≡ get_or ns k g → long ≡ length g.kinds → length marks ≡ long → AreMarksOf ns p marks
+pattern_room ns p k g marks long same l read is len h at =
+    let here : slice_get ns p ≡ Some g = slice_get-get_or ns p g l ∙ ap (λ x. Some x) (sym (read ∙ ap (λ j. get_or ns j g) same)) in
+    let both : Some g ≡ Some h = sym here ∙ at in
+    let e : g ≡ h = cc in
+    len ∙ (is ∙ ap (λ (x : Graph). length x.kinds) e)
+
+pub given_below : (ns : List Graph) (p : ℕ) (given : List Item) (marks : List Bool) → AreMarksOf ns p marks → AreItemsOf ns given → AreOfPattern p given → AreStatesBelow (length marks) given
+given_below ns p given marks room inside of x h =
+    let (g, (at, l)) = inside x h in
+    let here : slice_get ns p ≡ Some g = subst (λ i. slice_get ns i ≡ Some g) (of x h) at in
+    omega (arith, l, room g here)
+
+pub pending_place : (ns : List Graph) (given : List Item) (p : ℕ) (marks : List Bool) (before pending : List Item) (x : Item) → before ≡ pending ++ x ∷ [] → IsClosing ns given (marked p marks) before → x.0 ≡ p
+pending_place ns given p marks before pending x popped k = (marked_parts p marks x (has_from (marked p marks) x (k.pending_in x (rw popped (Contains-push pending x))))).0

@@ -1,35 +1,39 @@
 //! Where items lead: by reading nothing, and by a value.
 
-ghost use Rattle.std.specs.Prelude.{◌≡◌, ◌<◌, ◌++◌, ◌∷◌, [], length, map, IfOk, OnOk};
-ghost use Rattle.std.specs.List.{flat_map, range_with_len};
+ghost use Rattle.std.specs.Prelude.{◌≡◌, ◌≢◌, ◌↔◌, ℕ, ◌<◌, ◌≤◌, IsTrue, ◌++◌, ◌∷◌, [], length, map, IfOk, OnOk};
+ghost use Rattle.std.specs.List.{Contains, flat_map, range_with_len};
 ghost use Rattle.lalrpop_dfa.specs.Internal.Ascending.{AreAscendingItems, IsItemOf};
 ghost use Rattle.lalrpop_dfa.specs.Internal.Builder.{AreAutomata, AreItemsOf};
 ghost use Rattle.lalrpop_dfa.specs.Internal.LiveItems.{live_of, full, still_spared, AreSpared, AreWithin};
 ghost use Rattle.lalrpop_dfa.specs.Internal.Subsets.{closed, move, test_targets, default_targets, item_targets};
-ghost use Rattle.lalrpop_dfa.specs.Internal.Worklist.{IsInserted, epsilon_targets};
+ghost use Rattle.lalrpop_dfa.specs.Internal.Worklist.{IsInserted, epsilon_targets, marked, AreOfPattern, AreStatesBelow, AreMarksOf, AreByPattern, pattern_at};
 
 use super::NfaIndex;
 use super::items::{Item, ItemSet};
-use lalrpop_nfa::{Nfa, Noop, Other, REJECT};
+use lalrpop_nfa::{Nfa, NfaStateIndex, Noop, Other, REJECT};
 use lalrpop_ranges::Test;
 use std::alloc::{AllocError, Global};
-use std::collections::BTreeSet;
 
-// The items found so far, and those of them that are still to be looked at.
+// The items of one pattern that were found so far, by marks at their states, and those of them that are still to be
+// looked at.
 #[derive(Drop)]
 struct Worklist {
-    observed: BTreeSet<Item>,
+    marks: Vec<bool>,
     pending: Vec<Item>,
 }
 
 impl Worklist {
     // Notes an item, unless it was found before.
     fn insert(&mut self, item: Item) -> Result<(), AllocError>
-        ensures { OnOk result
-            (IsInserted self.old.observed.keys self.old.pending.items
-            (item ∷ []) self.new.observed.keys self.new.pending.items) }
+        requires { item.1 < length self.old.marks.items }
+        ensures inserted { OnOk result
+            (IsInserted (marked item.0 self.old.marks.items) self.old.pending.items
+            (item ∷ []) (marked item.0 self.new.marks.items) self.new.pending.items) }
+        ensures len { OnOk result (length self.new.marks.items ≡ length self.old.marks.items) }
     {
-        if self.observed.insert(item)? {
+        let state = item.state().index();
+        if !self.marks[state] {
+            self.marks[state] = true;
             self.pending.push(item)?;
         }
         Ok(())
@@ -37,10 +41,13 @@ impl Worklist {
 
     // Notes the items that one edge leads to which reads nothing.
     fn follow(&mut self, nfas: &[Nfa], item: Item) -> Result<(), AllocError>
-        requires { IsItemOf nfas.now item }
-        ensures { OnOk result
-            (IsInserted self.old.observed.keys self.old.pending.items
-            (epsilon_targets nfas.now item) self.new.observed.keys self.new.pending.items) }
+        requires automata { AreAutomata nfas.now }
+        requires inside { IsItemOf nfas.now item }
+        requires marks { AreMarksOf nfas.now item.0 self.old.marks.items }
+        ensures inserted { OnOk result
+            (IsInserted (marked item.0 self.old.marks.items) self.old.pending.items
+            (epsilon_targets nfas.now item) (marked item.0 self.new.marks.items) self.new.pending.items) }
+        ensures len { OnOk result (length self.new.marks.items ≡ length self.old.marks.items) }
     {
         for edge in item.nfa(nfas).edges::<Noop>(item.state()) {
             self.insert(item.to(edge.to))?;
@@ -48,8 +55,13 @@ impl Worklist {
         Ok(())
     }
 
-    fn insert_all(&mut self, given: &[Item]) -> Result<(), AllocError>
-        ensures { OnOk result (IsInserted self.old.observed.keys self.old.pending.items given.now self.new.observed.keys self.new.pending.items) }
+    fn insert_all(&mut self, pattern: NfaIndex, given: &[Item]) -> Result<(), AllocError>
+        requires pattern { AreOfPattern pattern given.now }
+        requires marks { AreStatesBelow (length self.old.marks.items) given.now }
+        ensures inserted { OnOk result
+            (IsInserted (marked pattern self.old.marks.items) self.old.pending.items
+            given.now (marked pattern self.new.marks.items) self.new.pending.items) }
+        ensures len { OnOk result (length self.new.marks.items ≡ length self.old.marks.items) }
     {
         for item in given {
             self.insert(*item)?;
@@ -58,30 +70,100 @@ impl Worklist {
     }
 }
 
-// The given items and all that they lead to by reading nothing.
-fn follow_all(alloc: Global, nfas: &[Nfa], given: &[Item]) -> Result<BTreeSet<Item>, AllocError>
+// Adds the items of a pattern at whose states there is a mark.
+fn push_marked(pattern: NfaIndex, marks: &[bool], found: &mut Vec<Item>) -> Result<(), AllocError>
+    ensures { OnOk result (found.new.items ≡ found.old.items ++ marked pattern marks.now) }
+{
+    for state in 0..marks.len() {
+        if marks[state] {
+            found.push(Item {
+                nfa_index: pattern,
+                nfa_state: NfaStateIndex::new(state),
+            })?;
+        }
+    }
+    Ok(())
+}
+
+// Adds the given items, which are of one pattern, and all that they lead to by reading nothing.
+fn follow_pattern(
+    alloc: Global,
+    nfas: &[Nfa],
+    pattern: NfaIndex,
+    given: &[Item],
+    found: &mut Vec<Item>,
+) -> Result<(), AllocError>
     requires automata { AreAutomata nfas.now }
     requires inside { AreItemsOf nfas.now given.now }
-    ensures { IfOk result (λ s. s.keys ≡ closed nfas.now given.now) }
+    requires pattern { AreOfPattern pattern given.now }
+    requires within { pattern < length nfas.now }
+    ensures { OnOk result (found.new.items ≡ found.old.items ++ closed nfas.now given.now) }
 {
+    let size = nfas[pattern.index()].len();
     let mut worklist = Worklist {
-        observed: BTreeSet::new(alloc),
+        marks: vec![in alloc; false; size]?,
         pending: Vec::new(alloc),
     };
-    worklist.insert_all(given)?;
+    worklist.insert_all(pattern, given)?;
     while let Some(item) = worklist.pending.pop() {
         worklist.follow(nfas, item)?;
     }
-    Ok(worklist.observed)
+    push_marked(pattern, &worklist.marks, found)
+}
+
+// The first place behind a place at which there is an item of another pattern.
+fn end_of_pattern(items: &[Item], from: usize) -> usize
+    requires from { from < length items.now }
+    ensures behind { from < result }
+    ensures within { result ≤ length items.now }
+    ensures same { (k : ℕ) → from ≤ k → k < result
+        → pattern_at items.now k ≡ pattern_at items.now from }
+    ensures next { result < length items.now
+        → pattern_at items.now result ≢ pattern_at items.now from }
+{
+    let pattern = items[from].pattern();
+    let mut end = from + 1;
+    while end < items.len() && items[end].pattern() == pattern {
+        end += 1;
+    }
+    end
+}
+
+// The given items and all that they lead to by reading nothing, pattern by pattern.
+fn follow_all(alloc: Global, nfas: &[Nfa], given: &[Item]) -> Result<Vec<Item>, AllocError>
+    requires automata { AreAutomata nfas.now }
+    requires inside { AreItemsOf nfas.now given.now }
+    requires by_pattern { AreByPattern given.now }
+    ensures { IfOk result (λ v. v.items ≡ closed nfas.now given.now) }
+{
+    let mut found = Vec::new(alloc);
+    let mut from = 0;
+    while from < given.len() {
+        let end = end_of_pattern(given, from);
+        follow_pattern(
+            alloc,
+            nfas,
+            given[from].pattern(),
+            &given[from..end],
+            &mut found,
+        )?;
+        from = end;
+    }
+    Ok(found)
+}
+
+// Whether the item is among the items.
+fn has_item(items: &[Item], item: Item) -> bool
+    requires { AreAscendingItems items.now }
+    ensures { IsTrue result ↔ Contains items.now item }
+{
+    items.binary_search(&item).is_ok()
 }
 
 // Those of the patterns that have no REJECT item among the items.
-fn spared_by(
-    alloc: Global,
-    items: &BTreeSet<Item>,
-    spared: &[usize],
-) -> Result<Vec<usize>, AllocError>
-    ensures { IfOk result (λ v. v.items ≡ still_spared items.now.keys spared.now) }
+fn spared_by(alloc: Global, items: &[Item], spared: &[usize]) -> Result<Vec<usize>, AllocError>
+    requires { AreAscendingItems items.now }
+    ensures { IfOk result (λ v. v.items ≡ still_spared items.now spared.now) }
 {
     let mut still = Vec::new(alloc);
     for pattern in spared {
@@ -89,7 +171,7 @@ fn spared_by(
             nfa_index: NfaIndex(*pattern),
             nfa_state: REJECT,
         };
-        if !items.contains(&reject) {
+        if !has_item(items, reject) {
             still.push(*pattern)?;
         }
     }
@@ -97,13 +179,13 @@ fn spared_by(
 }
 
 // Those of the items that are no REJECT states.
-fn live_among(alloc: Global, items: BTreeSet<Item>) -> Result<Vec<Item>, AllocError>
-    ensures { IfOk result (λ v. v.items ≡ live_of items.keys) }
+fn live_among(alloc: Global, items: &[Item]) -> Result<Vec<Item>, AllocError>
+    ensures { IfOk result (λ v. v.items ≡ live_of items.now) }
 {
     let mut live = Vec::new(alloc);
     for item in items {
         if item.state() != REJECT {
-            live.push(item)?;
+            live.push(*item)?;
         }
     }
     Ok(live)
@@ -114,15 +196,15 @@ fn set_of(
     alloc: Global,
     patterns: usize,
     spared: &[usize],
-    items: BTreeSet<Item>,
+    items: &[Item],
 ) -> Result<ItemSet, AllocError>
-    requires ascending { AreAscendingItems items.keys }
-    requires within { AreWithin patterns items.keys }
+    requires ascending { AreAscendingItems items.now }
+    requires within { AreWithin patterns items.now }
     requires spared { AreSpared patterns spared.now }
     ensures { IfOk result (λ s.
-        s ≡ full patterns (still_spared items.keys spared.now) (live_of items.keys)) }
+        s ≡ full patterns (still_spared items.now spared.now) (live_of items.now)) }
 {
-    let spared = spared_by(alloc, &items, spared)?;
+    let spared = spared_by(alloc, items, spared)?;
     let live = live_among(alloc, items)?;
     Ok(ItemSet {
         live,
@@ -135,12 +217,13 @@ fn set_of(
 pub(super) fn closure(alloc: Global, nfas: &[Nfa], given: &[Item]) -> Result<ItemSet, AllocError>
     requires automata { AreAutomata nfas.now }
     requires inside { AreItemsOf nfas.now given.now }
+    requires by_pattern { AreByPattern given.now }
     ensures { IfOk result (λ s. s ≡ closed nfas.now given.now) }
 {
     let items = follow_all(alloc, nfas, given)?;
     let patterns = nfas.len();
     let all = patterns_below(alloc, patterns)?;
-    set_of(alloc, patterns, &all, items)
+    set_of(alloc, patterns, &all, &items)
 }
 
 // All patterns.
@@ -231,5 +314,5 @@ pub(super) fn advance(
 {
     let given = targets_of(alloc, nfas, &set.live, value)?;
     let items = follow_all(alloc, nfas, &given)?;
-    set_of(alloc, set.patterns, &set.spared, items)
+    set_of(alloc, set.patterns, &set.spared, &items)
 }

@@ -22,6 +22,22 @@ impl Model for NfaStateIndex {
     ghost inverse = { λ n. record { 0 = n } };
 }
 
+impl NfaStateIndex {
+    /// The state with this number.
+    pub fn new(number: usize) -> NfaStateIndex
+        ensures value { result ≡ number }
+    {
+        NfaStateIndex(number)
+    }
+
+    /// The state's number.
+    pub fn index(self) -> usize
+        ensures value { result ≡ self }
+    {
+        self.0
+    }
+}
+
 impl fmt::Debug for NfaStateIndex {
     fn fmt<W: fmt::Write>(&self, f: &mut fmt::Formatter<W>) -> fmt::Result {
         let number = self.0;

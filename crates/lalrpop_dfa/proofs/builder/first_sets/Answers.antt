@@ -1,5 +1,6 @@
 use Rattle.std.proofs.Common.{ap, ◌∙◌, [], ◌∷◌, ◌++◌}
 use Rattle.lalrpop_dfa.specs.Internal.Subsets.{first_set_of, closed}
+use Rattle.lalrpop_dfa.proofs.ByPattern.{starts_by_pattern}
 use Rattle.lalrpop_dfa.proofs.Adding.{clones_equal, starts_inside, first_added}
 use Rattle.lalrpop_dfa.proofs.builder.first_sets.Goals as goal
 
@@ -20,3 +21,6 @@ returns c =
       first.1,
       c.in_ok-push.ensures.items ∙ (ap (λ ys. ys ++ c.new.result ∷ []) c.new-origins.ensures.items ∙ ap (λ o. o ∷ []) c.new.ensures),
     )
+
+pub closure-requires-clause-by_pattern : goal.closure-requires-clause-by_pattern
+closure-requires-clause-by_pattern c = rw (c.deref.ensures.value, c.in_ok-starts.ensures) (starts_by_pattern 0 c.args.nfas.now)

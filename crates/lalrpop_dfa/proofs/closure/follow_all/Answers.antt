@@ -1,26 +1,33 @@
-use Rattle.std.proofs.Common.{◌≡◌, length, arith, refl}
-use Rattle.lalrpop_dfa.proofs.WorklistSteps.{nil_from, closing_start, closing_step, closing_less, closing_done}
+use Rattle.std.proofs.Common.{◌≡◌, ◌<◌, ◌∙◌, length, arith, refl, ap, sym, subst, take, get_or}
+use Rattle.std.proofs.lemmas.List.{get_or_default, take_all}
+use Rattle.lalrpop_dfa.specs.Internal.Subsets.{closed}
+use Rattle.lalrpop_dfa.specs.Internal.Worklist.{pattern_at}
+use Rattle.lalrpop_dfa.proofs.ByPattern.{apart_none, apart_more, part_pattern, closed_none, closed_more, pattern_within}
 use Rattle.lalrpop_dfa.proofs.closure.follow_all.Goals as goal
 
-pub loop-item-init : goal.loop-item-init
-loop-item-init c =
-    closing_start c.args.nfas.now c.args.given.now c.new.result.keys c.new-2.result.items c.insert_all.new.self.observed.keys c.insert_all.new.self.pending.items
-    c.new.ensures.empty c.new-2.ensures.items c.new.ensures.ordered c.requires.inside c.in_ok-insert_all.ensures
+pub loop-from-init : goal.loop-from-init
+loop-from-init c = record {
+  found = c.new-found.ensures.items ∙ sym (closed_none c.args.nfas.now);
+  within = omega arith;
+  apart = apart_none c.args.given.now;
+}
 
-pub loop-item-smaller : goal.loop-item-smaller
-loop-item-smaller c =
-    closing_less c.args.nfas.now c.args.given.now c.loop-item.worklist.observed.keys c.loop-item.worklist.pending.items c.pop.new.self.items c.in-Some.item c.follow.new.self.observed.keys c.follow.new.self.pending.items
-    c.in-Some.ensures.items
-    (closing_step c.args.nfas.now c.args.given.now c.loop-item.worklist.observed.keys c.loop-item.worklist.pending.items c.pop.new.self.items c.in-Some.item c.follow.new.self.observed.keys c.follow.new.self.pending.items
-    c.requires.automata c.in-Some.ensures.items c.loop-item.invariant c.in_ok-follow.ensures)
-    c.in_ok-follow.ensures
+pub follow_pattern-requires-clause-pattern : goal.follow_pattern-requires-clause-pattern
+follow_pattern-requires-clause-pattern c x h =
+    let e = c.end_of_pattern-end.ensures in
+    part_pattern c.args.given.now c.loop-from.from c.end_of_pattern-end.result c.requires.by_pattern e.behind e.within c.loop-from.invariant.apart e.same x h
+    ∙ sym (c.pattern.ensures ∙ ap (λ y. y.0) (c.index-given-from.is ∙ get_or_default c.args.given.now c.loop-from.from c.index-given-from.result (0, 0) c.loop-from-test.true))
 
-pub loop-item-preserved : goal.loop-item-preserved
-loop-item-preserved c =
-    closing_step c.args.nfas.now c.args.given.now c.loop-item.worklist.observed.keys c.loop-item.worklist.pending.items c.pop.new.self.items c.in-Some.item c.follow.new.self.observed.keys c.follow.new.self.pending.items
-    c.requires.automata c.in-Some.ensures.items c.loop-item.invariant c.in_ok-follow.ensures
+pub follow_pattern-requires-clause-within : goal.follow_pattern-requires-clause-within
+follow_pattern-requires-clause-within c = omega (arith, c.pattern.ensures, pattern_within c.args.nfas.now c.args.given.now c.loop-from.from c.index-given-from.result c.requires.inside c.loop-from-test.true c.index-given-from.is)
 
-pub returns : goal.returns
-returns c =
-    let empty : length c.loop-item.worklist.pending.items ≡ 0 = omega (arith, c.in_default.ensures.cases.0, c.loop-item.worklist.pending.ok.0) in
-    rw (← closing_done c.args.nfas.now c.args.given.now c.loop-item.worklist.observed.keys c.loop-item.worklist.pending.items (nil_from c.loop-item.worklist.pending.items empty) c.loop-item.invariant) refl
+pub loop-from-preserved : goal.loop-from-preserved
+loop-from-preserved c =
+    let e = c.end_of_pattern-end.ensures in
+    let given = c.args.given.now in
+    record {
+      found = closed_more given c.loop-from.from c.end_of_pattern-end.result c.requires.by_pattern e.behind e.within c.loop-from.invariant.apart e.same c.args.nfas.now c.loop-from.found.items c.follow_pattern.new.found.items c.loop-from.invariant.found
+          c.in_ok-follow_pattern.ensures;
+      within = e.within;
+      apart = apart_more given c.loop-from.from c.end_of_pattern-end.result c.requires.by_pattern e.behind e.within c.loop-from.invariant.apart e.same e.next;
+    }

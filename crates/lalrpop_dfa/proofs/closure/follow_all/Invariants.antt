@@ -1,8 +1,14 @@
-use Rattle.lalrpop_dfa.proofs.WorklistSteps.{IsClosing, left}
+use Rattle.std.proofs.Common.{◌≡◌, ◌≤◌, ◌-◌, length, take}
+use Rattle.lalrpop_dfa.specs.Internal.Subsets.{closed}
+use Rattle.lalrpop_dfa.proofs.ByPattern.{AreApart}
 use Rattle.lalrpop_dfa.proofs.closure.follow_all.Given as goal
 
-abbrev pub invariant-loop-item : goal.invariant-loop-item
-invariant-loop-item l = IsClosing l.nfas l.given l.worklist.observed.keys l.worklist.pending.items
+abbrev pub invariant-loop-from : goal.invariant-loop-from
+invariant-loop-from l = record {
+  found : l.found.items ≡ closed l.nfas (take l.from l.given);
+  within : l.from ≤ length l.given;
+  apart : AreApart l.given l.from;
+}
 
-abbrev pub decreases-loop-item : goal.decreases-loop-item
-decreases-loop-item l = left l.nfas l.worklist.observed.keys l.worklist.pending.items
+abbrev pub decreases-loop-from : goal.decreases-loop-from
+decreases-loop-from l = length l.given - l.from
