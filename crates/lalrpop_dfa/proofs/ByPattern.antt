@@ -136,15 +136,17 @@ apart_none items = record { apart = λ k j a b c. absurd (omega arith) }
 module _ (items : List Item) (from end : ℕ) (by : AreByPattern items) (l : from < end) (within : end ≤ length items) (apart : AreApart items from)
     (same : (k : ℕ) → from ≤ k → k < end → pattern_at items k ≡ pattern_at items from) where
   pub apart_more : (end < length items → pattern_at items end ≢ pattern_at items from) → AreApart items end
-  apart_more next = record { apart = λ k j a b c. elim (cases_lt k from) [
-    | inl below ↦ apart.apart k j below (omega arith) c
-    | inr above ↦
-        (let e : pattern_at items k ≡ pattern_at items from = same k above a in
-        let up : pattern_at items from ≤ pattern_at items end = by_places items from end by (omega arith) (omega arith) in
-        let on : pattern_at items end ≤ pattern_at items j = by_places items end j by b c in
-        let differ : pattern_at items end ≢ pattern_at items from = next (omega arith) in
-        omega (arith, e, up, on, differ))
-  ] }
+  apart_more next = record {
+    apart = λ k j a b c. elim (cases_lt k from) [
+      | inl below ↦ apart.apart k j below (omega arith) c
+      | inr above ↦
+          (let e : pattern_at items k ≡ pattern_at items from = same k above a in
+          let up : pattern_at items from ≤ pattern_at items end = by_places items from end by (omega arith) (omega arith) in
+          let on : pattern_at items end ≤ pattern_at items j = by_places items end j by b c in
+          let differ : pattern_at items end ≢ pattern_at items from = next (omega arith) in
+          omega (arith, e, up, on, differ))
+    ];
+  }
 
   pub part_pattern : (x : Item) → Contains (take (end - from) (drop from items)) x → x.0 ≡ pattern_at items from
   part_pattern x h =

@@ -10,9 +10,13 @@ ghost use Rattle.lalrpop_dfa.specs.Internal.Worklist.{IsInserted, epsilon_target
 
 use super::NfaIndex;
 use super::items::{Item, ItemSet};
+use super::ordered::follow_ordered;
 use lalrpop_nfa::{Nfa, NfaStateIndex, Noop, Other, REJECT};
 use lalrpop_ranges::Test;
 use std::alloc::{AllocError, Global};
+
+// Marks are used where a pattern has at most so many states for each of its items that are given.
+const STATES_FOR_AN_ITEM: usize = 16;
 
 // The items of one pattern that were found so far, by marks at their states, and those of them that are still to be
 // looked at.
@@ -85,8 +89,9 @@ fn push_marked(pattern: NfaIndex, marks: &[bool], found: &mut Vec<Item>) -> Resu
     Ok(())
 }
 
-// Adds the given items, which are of one pattern, and all that they lead to by reading nothing.
-fn follow_pattern(
+// Adds the given items, which are of one pattern, and all that they lead to by reading nothing. Marks cost a step for
+// each state of the pattern.
+fn follow_by_marks(
     alloc: Global,
     nfas: &[Nfa],
     pattern: NfaIndex,
@@ -109,6 +114,29 @@ fn follow_pattern(
         worklist.follow(nfas, item)?;
     }
     push_marked(pattern, &worklist.marks, found)
+}
+
+// The same, in a time that doesn't grow with the pattern where few of its items are given.
+fn follow_pattern(
+    alloc: Global,
+    nfas: &[Nfa],
+    pattern: NfaIndex,
+    given: &[Item],
+    found: &mut Vec<Item>,
+) -> Result<(), AllocError>
+    requires automata { AreAutomata nfas.now }
+    requires inside { AreItemsOf nfas.now given.now }
+    requires pattern { AreOfPattern pattern given.now }
+    requires within { pattern < length nfas.now }
+    ensures { OnOk result (found.new.items ≡ found.old.items ++ closed nfas.now given.now) }
+{
+    if nfas[pattern.index()].len() / STATES_FOR_AN_ITEM <= given.len() {
+        return follow_by_marks(alloc, nfas, pattern, given, found);
+    }
+    for item in follow_ordered(alloc, nfas, given)? {
+        found.push(item)?;
+    }
+    Ok(())
 }
 
 // The first place behind a place at which there is an item of another pattern.

@@ -12,6 +12,7 @@ mod error;
 pub mod interpret;
 mod items;
 mod labels;
+mod ordered;
 mod rows;
 mod search;
 

@@ -5,7 +5,7 @@ use Rattle.std.specs.Result.{OnOk}
 use Rattle.lalrpop_dfa.specs.Internal.Subsets.{closed}
 use Rattle.lalrpop_dfa.proofs.Marks.{none_marked, marked_ascends}
 use Rattle.lalrpop_dfa.proofs.WorklistSteps.{nil_from, pattern_room, given_below, pending_place, closing_start, closing_step, closing_less, closing_done}
-use Rattle.lalrpop_dfa.proofs.closure.follow_pattern.Goals as goal
+use Rattle.lalrpop_dfa.proofs.closure.follow_by_marks.Goals as goal
 
 pub insert_all-requires-clause-marks : goal.insert_all-requires-clause-marks
 insert_all-requires-clause-marks c =
