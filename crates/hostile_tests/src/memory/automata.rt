@@ -159,7 +159,7 @@ fn precedences_of(
 }
 
 // What building an automaton and running it over a text can answer.
-#[derive(Debug, PartialEq, Drop)]
+#[derive(PartialEq, Drop)]
 enum Answer {
     Token(usize, usize),
     NoToken,

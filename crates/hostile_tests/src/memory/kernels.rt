@@ -1,5 +1,5 @@
 //! Kernel sets that are refused memory: they are as before, and go on.
-ghost use Rattle.std.specs.Prelude.{ℕ, ◌≡◌};
+ghost use Rattle.std.specs.Prelude.{ℕ};
 ghost use Rattle.lalrpop_lexer.specs.Kernels.{ClonesEqual};
 
 use super::made;
@@ -14,7 +14,7 @@ trait OfNumber: Kernel<Index = usize> + PartialEq {
 
 // A kernel that is a number.
 #[derive(Copy, Clone, PartialEq, Eq, PartialOrd, Ord)]
-struct Plain(u32);
+pub(super) struct Plain(u32);
 
 impl Kernel for Plain {
     type Index = usize;

@@ -1,11 +1,12 @@
 //! Calls that take no memory. `.ci/refusals` refuses every request that is made after `from_here_on`: they have their answers.
 
+use super::kernels::Plain;
 use super::made;
 use lalrpop_hir::{
     Capture, Class, ClassBytesRange, ClassUnicode, ClassUnicodeRange, Hir, HirKind, Look,
     Repetition,
 };
-use lalrpop_lexer::kernel_set::{Kernel, KernelSet};
+use lalrpop_lexer::kernel_set::KernelSet;
 use lalrpop_lexer::lexer::dfa::interpret::{interpret, interpret_counted};
 use lalrpop_lexer::lexer::dfa::{self, Dfa, Kind, Precedence, build_dfa};
 use lalrpop_lexer::lexer::nfa::{ACCEPT, Nfa, Noop, Other, REJECT, START, StateKind, Steps, Test};
@@ -134,19 +135,6 @@ fn many_trees(rt: HostRuntime) {
     assert_eq!(rt; dfa.test_edges(dfa::START).len(), 1);
     for state in dfa.states() {
         assert_eq!(rt; state.other_edge().index(), 2);
-    }
-}
-
-#[derive(Copy, Clone, PartialEq, Eq, PartialOrd, Ord)]
-struct Plain(u32);
-
-impl Kernel for Plain {
-    type Index = usize;
-
-    ghost index_of = { λ n. n };
-
-    fn index(c: usize) -> usize {
-        c
     }
 }
 
