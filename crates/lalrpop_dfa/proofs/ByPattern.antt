@@ -1,7 +1,6 @@
 -- Items pattern by pattern.
-use Rattle.std.proofs.Common.{◌≡◌, ◌≢◌, ℕ, zero, suc, ◌+◌, ◌-◌, ◌<◌, ◌≤◌, ◌⊎◌, inl, inr, List, [], ◌∷◌, ◌++◌, length, take, drop, get_or, refl, ap, sym, ◌∙◌, subst, arith, true}
-use Rattle.std.specs.List.{Contains, flat_map, slice_get}
-use Rattle.std.specs.declared.cmp.Ordering.{Ordering}
+use Rattle.std.proofs.Common.{◌≡◌, ◌≢◌, ℕ, zero, suc, ◌+◌, ◌-◌, ◌<◌, ◌≤◌, inl, inr, List, [], ◌∷◌, ◌++◌, length, take, drop, get_or, refl, ap, sym, ◌∙◌, subst, arith}
+use Rattle.std.specs.List.{Contains, flat_map}
 use Rattle.std.specs.declared.cmp.Ordering.TheVariants.{Less}
 use Rattle.std.proofs.Math.Seq.{take-add}
 use Rattle.std.proofs.lemmas.Bool.{cases_lt}
@@ -9,12 +8,11 @@ use Rattle.std.proofs.lemmas.Bool.Decides.{nat_tests}
 use Rattle.std.proofs.lemmas.Map.Keys.{sorted_tail}
 use Rattle.std.proofs.lemmas.Option.{slice_get_within}
 use Rattle.lalrpop_nfa.specs.Graph.{Graph}
-use Rattle.lalrpop_nfa.specs.Compiled.{start_state}
 use Rattle.lalrpop_dfa.specs.Items.{Item}
 use Rattle.lalrpop_dfa.specs.Internal.Ascending.{item_cmp, AreAscendingItems, IsItemOf}
 use Rattle.lalrpop_dfa.specs.Internal.Builder.{AreItemsOf}
-use Rattle.lalrpop_dfa.specs.Internal.Subsets.{follows_by_epsilon, closed, item_targets, starts_from}
-use Rattle.lalrpop_dfa.specs.Internal.Worklist.{AreOfPattern, AreByPattern, pattern_at}
+use Rattle.lalrpop_dfa.specs.Internal.Subsets.{closed, item_targets, starts_from}
+use Rattle.lalrpop_dfa.specs.Internal.Worklist.{AreByPattern, pattern_at}
 use Rattle.lalrpop_dfa.proofs.Members.{Has, has_from, contains_from, has_left, has_right, has_cases}
 use Rattle.lalrpop_dfa.proofs.SortedLists.{sorted_append, sorted_below, sorted_same}
 use Rattle.lalrpop_dfa.proofs.Targets.{item_targets_place}

@@ -1,7 +1,5 @@
-use Rattle.std.proofs.Common.{◌≡◌, ◌<◌, ◌∙◌, length, arith, refl, ap, sym, subst, take, get_or}
-use Rattle.std.proofs.lemmas.List.{get_or_default, take_all}
-use Rattle.lalrpop_dfa.specs.Internal.Subsets.{closed}
-use Rattle.lalrpop_dfa.specs.Internal.Worklist.{pattern_at}
+use Rattle.std.proofs.Common.{◌∙◌, arith, ap, sym}
+use Rattle.std.proofs.lemmas.List.{get_or_default}
 use Rattle.lalrpop_dfa.proofs.ByPattern.{apart_none, apart_more, part_pattern, closed_none, closed_more, pattern_within}
 use Rattle.lalrpop_dfa.proofs.closure.follow_all.Goals as goal
 

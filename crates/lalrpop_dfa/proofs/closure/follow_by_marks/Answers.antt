@@ -1,4 +1,4 @@
-use Rattle.std.proofs.Common.{◌≡◌, ◌<◌, ◌++◌, ◌∙◌, [], length, arith, refl, ap, sym, subst, rules, false}
+use Rattle.std.proofs.Common.{◌≡◌, ◌++◌, ◌∙◌, length, arith, refl, ap, sym, subst, rules, false}
 use Rattle.std.proofs.Math.ListN.{replicate}
 use Rattle.lalrpop_dfa.specs.Internal.Worklist.{IsInserted, epsilon_targets, marked, AreMarksOf}
 use Rattle.std.specs.Result.{OnOk}

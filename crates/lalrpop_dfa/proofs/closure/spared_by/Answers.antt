@@ -1,5 +1,4 @@
-use Rattle.std.proofs.Common.{◌<◌, ◌∙◌, length, get_or, refl, rules, append-nil, sym}
-use Rattle.lalrpop_nfa.specs.Compiled.{reject_state}
+use Rattle.std.proofs.Common.{◌<◌, length, get_or, refl, rules, append-nil, sym}
 use Rattle.lalrpop_dfa.proofs.LiveSets.{reject_told, still_more}
 use Rattle.lalrpop_dfa.proofs.closure.spared_by.Goals as goal
 use Rattle.lalrpop_dfa.proofs.closure.spared_by.Goals.{then-not-has_item+in_ok-push, else-not-has_item}

@@ -1,4 +1,4 @@
-use Rattle.std.proofs.Common.{◌≡◌, ◌∷◌, [], ◌++◌, ◌∙◌, refl, ap, subst, length, ◌<◌}
+use Rattle.std.proofs.Common.{◌≡◌, ◌∷◌, [], ◌++◌, ◌∙◌, refl, ap, subst}
 use Rattle.lalrpop_dfa.proofs.Inserting.{inserted_then, inserted_none, steps_here, steps_more}
 use Rattle.lalrpop_dfa.specs.Internal.Worklist.{IsInserted, epsilon_targets, marked}
 use Rattle.lalrpop_dfa.proofs.WorklistSteps.{step_below}

@@ -1,4 +1,4 @@
-use Rattle.std.proofs.Common.{◌≡◌, ◌<◌, ◌∙◌, refl, ap, sym, arith, length, true}
+use Rattle.std.proofs.Common.{◌≡◌, ◌<◌, ◌∙◌, refl, ap, arith, length, true}
 use Rattle.std.proofs.Math.ListN.{set}
 use Rattle.lalrpop_dfa.proofs.Marks.{read_mark, inserted_new, inserted_old}
 use Rattle.lalrpop_dfa.proofs.closure.Worklist.insert.Goals as goal
