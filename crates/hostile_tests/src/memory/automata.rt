@@ -3,7 +3,7 @@
 use super::{made, settles};
 use lalrpop_hir::{Capture, Hir, Look, Repetition};
 use lalrpop_lexer::lexer::dfa::interpret::interpret;
-use lalrpop_lexer::lexer::dfa::overlap::remove_overlap;
+use lalrpop_lexer::lexer::dfa::overlap::{remove_overlap, remove_overlap_counted};
 use lalrpop_lexer::lexer::dfa::{Dfa, DfaConstructionError, Precedence, build_dfa};
 use lalrpop_lexer::lexer::nfa::{self, Nfa, NfaConstructionError, Steps, Test};
 use lalrpop_re::{RegexError, parse_regex};
@@ -136,6 +136,10 @@ fn ranges_are_cut(rt: HostRuntime) {
             "parts",
             || Ok(has_ends(&remove_overlap(alloc, &set)?, parts)),
         );
+        settles(&rt, "counted parts", || {
+            let mut steps = Steps::new();
+            Ok(has_ends(&remove_overlap_counted(alloc, &set, &mut steps)?, parts))
+        });
     }
 }
 

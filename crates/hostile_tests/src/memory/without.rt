@@ -7,7 +7,7 @@ use lalrpop_hir::{
     Repetition,
 };
 use lalrpop_lexer::kernel_set::KernelSet;
-use lalrpop_lexer::lexer::dfa::interpret::{interpret, interpret_counted};
+use lalrpop_lexer::lexer::dfa::interpret::{interpret, interpret_counted, interpret_probed};
 use lalrpop_lexer::lexer::dfa::{self, Dfa, Kind, Precedence, build_dfa};
 use lalrpop_lexer::lexer::nfa::{ACCEPT, Nfa, Noop, Other, REJECT, START, StateKind, Steps, Test};
 use lexdfa_lib::{Outcome, RunError, Watched, arguments};
@@ -117,6 +117,15 @@ fn finds_class_and_counts(dfa: &Dfa, text: &str) -> bool {
     }
 }
 
+fn finds_class_and_counts_probes(dfa: &Dfa, text: &str) -> bool {
+    let mut steps = Steps::new();
+    let mut probes = Steps::new();
+    match interpret_probed(dfa, text, &mut steps, &mut probes) {
+        Some((index, matched)) => index.index() == 0 && matched == "class",
+        None => false,
+    }
+}
+
 #[test]
 fn many_trees(rt: HostRuntime) {
     let alloc = rt.alloc();
@@ -128,6 +137,7 @@ fn many_trees(rt: HostRuntime) {
     for (text, is_found) in [("class Foo", true), ("clasz", false)] {
         assert!(rt; finds_class(&dfa, text) == is_found);
         assert!(rt; finds_class_and_counts(&dfa, text) == is_found);
+        assert!(rt; finds_class_and_counts_probes(&dfa, text) == is_found);
     }
     assert_eq!(rt; dfa.states().len(), 7);
     assert!(rt; dfa::START.index() < dfa.states().len());
