@@ -1,5 +1,5 @@
 -- The order of sets, from their live items and the patterns that they spare.
-use Rattle.std.proofs.Common.{◌≡◌, ◌≢◌, ℕ, ◌+◌, ◌<◌, ◌≤◌, Bool, true, false, not, nat_eq, eqb-true, IsTrue, inl, inr, ◌↔◌, List, [], ◌∷◌, refl, ap, ap₂, sym, ◌∙◌, subst, arith}
+use Rattle.std.proofs.Common.{◌≡◌, ◌≢◌, ℕ, ◌+◌, ◌<◌, ◌≤◌, Bool, true, false, not, nat_eq, eqb-true, IsTrue, inl, inr, take, get_or, ◌++◌, ◌↔◌, List, [], ◌∷◌, length, refl, ap, ap₂, sym, ◌∙◌, subst, arith}
 use mathlib.Core.Bool.{beq}
 use Rattle.std.specs.List.{Contains}
 use Rattle.std.specs.List.Sorted.{IsStrictlySortedBy}
@@ -10,12 +10,13 @@ use Rattle.std.specs.declared.cmp.Ordering.TheVariants.{Less, Equal, Greater}
 use Rattle.std.proofs.lemmas.Bool.{cases_order, cases_lt, and_parts}
 use Rattle.std.proofs.lemmas.Bool.Decides.{nat_tests}
 use Rattle.std.proofs.lemmas.Cmp.{nat_cmp_total, tied_itself}
-use Rattle.std.proofs.lemmas.Map.Keys.{sorted_tail}
+use Rattle.std.proofs.lemmas.List.{take_more, get_or-take, get_or_default}
+use Rattle.std.proofs.lemmas.Map.Keys.{sorted_tail, Less-from_sorted}
 use Rattle.lalrpop_nfa.specs.Compiled.{reject_state}
 use Rattle.lalrpop_dfa.specs.Items.{Item}
 use Rattle.lalrpop_dfa.specs.Internal.Ascending.{item_cmp, AreAscendingItems}
 use Rattle.lalrpop_dfa.specs.Internal.ItemOrder.{item_total, rejects_cmp, rejects_total, set_cmp}
-use Rattle.lalrpop_dfa.specs.Internal.LiveItems.{live_of, rejects_of, full, IsSplit}
+use Rattle.lalrpop_dfa.specs.Internal.LiveItems.{live_of, rejects_of, full, IsSplit, AreAlikeBelow}
 use Rattle.lalrpop_dfa.proofs.Members.{Has, has_from, contains_from}
 use Rattle.lalrpop_dfa.proofs.SortedLists.{sorted_below, sorted_same}
 use Rattle.lalrpop_dfa.proofs.Inserting.{then_equal, nat_exact, lists_exact}
@@ -151,6 +152,14 @@ module _ (n m : ℕ) (spared spared2 : List ℕ) (live live2 : List Item) (is : 
   pub told_equal : n ≡ m → spared ≡ spared2 → Equal ≡ rejects_cmp s t
   told_equal e f = sym (rejects_equal s t s_ascends t_ascends (spared_same e f))
 
+  pub spared_alike : n ≡ m → (i : ℕ) → AreAlikeBelow i spared spared2 → (j : ℕ) → j < i → SameReject s t j
+  spared_alike e i alike j l = (
+    λ h. (let r = reject_parts n spared live is j (has_from (full n spared live) (j, reject_state) (rw (← view) at h)) in
+        subst (λ u. Contains u (j, reject_state)) view2 (contains_from (full m spared2 live2) (j, reject_state) (full_reject spared2 live2 m j (omega (arith, r.0, e)) (λ k. r.1 (has_from spared j ((alike j l).1 (contains_from spared2 j k))))))),
+    λ h. (let r = reject_parts m spared2 live2 is2 j (has_from (full m spared2 live2) (j, reject_state) (rw (← view2) at h)) in
+        subst (λ u. Contains u (j, reject_state)) view (contains_from (full n spared live) (j, reject_state) (full_reject spared live n j (omega (arith, r.0, e)) (λ k. r.1 (has_from spared2 j ((alike j l).0 (contains_from spared j k))))))),
+  )
+
   pub told_same : (i : ℕ) → n ≤ i → m ≤ i → ((j : ℕ) → j < i → SameReject s t j) → Equal ≡ rejects_cmp s t
   told_same i l k same = sym (rejects_equal s t s_ascends t_ascends all)
     where
@@ -187,6 +196,46 @@ module _ (n m : ℕ) (spared spared2 : List ℕ) (live live2 : List Item) (is : 
         let there : Has (rejects_of s) x.0 = rejects_have s x.0 (subst (λ z. Has s z) is_reject h) in
         subst (λ z. Has t z) (sym is_reject) (rejects_held t x.0 (rw f at there)))
   ]
+
+-- ---- where two ascending lists differ first
+module _ (xs ys : List ℕ) (i : ℕ) (same : take i xs ≡ take i ys) (within : i ≤ length ys) (j : ℕ) where
+  in_front : (k : ℕ) → k < length xs → get_or xs k j ≡ j → k < i → Contains ys j
+  in_front k m is front =
+      let e : get_or xs k j ≡ get_or ys k j = sym (get_or-take i xs k j front) ∙ (ap (λ zs. get_or zs k j) same ∙ get_or-take i ys k j front) in
+      (k, omega arith, sym e ∙ is)
+
+  -- a number before the place of the first list
+  before : IsStrictlySortedBy nat_cmp xs → i < length xs → j < get_or xs i 0 → Contains xs j → Contains ys j
+  before sorted l below (k, m, is) = elim (cases_lt k i) [
+    | inl front ↦ in_front k m is front
+    | inr behind ↦ absurd (let o : get_or xs i 0 ≤ get_or xs k 0 = at_least k behind m in omega (arith, o, get_or_default xs k j 0 m, is))
+  ]
+    where
+      at_least : (k : ℕ) → i ≤ k → k < length xs → get_or xs i 0 ≤ get_or xs k 0
+      at_least k behind m = elim (cases_lt i k) [
+        | inl less ↦ (let o : get_or xs i 0 < get_or xs k 0 = less_from (get_or xs i 0) (get_or xs k 0) (Less-from_sorted nat_cmp xs i k 0 sorted less m) in omega arith)
+        | inr at ↦ (let e : k ≡ i = omega arith in omega (arith, ap (λ n. get_or xs n 0) e))
+      ]
+
+  -- any number where the first list ends at the place
+  whole : length xs ≤ i → Contains xs j → Contains ys j
+  whole l (k, m, is) = in_front k m is (omega arith)
+
+module _ (xs ys : List ℕ) (i : ℕ) (sorted : IsStrictlySortedBy nat_cmp xs) (sorted2 : IsStrictlySortedBy nat_cmp ys) (same : take i xs ≡ take i ys) (l : i ≤ length xs) (m : i ≤ length ys) where
+  pub alike_at : (n : ℕ) → i < length xs → i < length ys → n ≤ get_or xs i 0 → n ≤ get_or ys i 0 → AreAlikeBelow n xs ys
+  alike_at n a b c d j h = (λ k. before xs ys i same m j sorted a (omega arith) k, λ k. before ys xs i (sym same) l j sorted2 b (omega arith) k)
+
+  pub alike_left : (n : ℕ) → i < length xs → length ys ≤ i → n ≤ get_or xs i 0 → AreAlikeBelow n xs ys
+  alike_left n a b c j h = (λ k. before xs ys i same m j sorted a (omega arith) k, λ k. whole ys xs i (sym same) l j b k)
+
+  pub alike_right : (n : ℕ) → length xs ≤ i → i < length ys → n ≤ get_or ys i 0 → AreAlikeBelow n xs ys
+  alike_right n a b c j h = (λ k. whole xs ys i same m j a k, λ k. before ys xs i (sym same) l j sorted2 b (omega arith) k)
+
+pub alike_of : (xs ys zs us : List ℕ) (n : ℕ) → zs ≡ xs → us ≡ ys → AreAlikeBelow n zs us → AreAlikeBelow n xs ys
+alike_of xs ys zs us n e f h = subst (λ a. AreAlikeBelow n a ys) e (subst (AreAlikeBelow n zs) f h)
+
+pub alike_none : (n : ℕ) (xs ys : List ℕ) → n ≡ 0 → AreAlikeBelow n xs ys
+alike_none n xs ys e j h = absurd (omega (arith, e))
 
 -- the order of two split sets
 module _ (n m : ℕ) (spared spared2 : List ℕ) (live live2 : List Item) (is : IsSplit n spared live) (is2 : IsSplit m spared2 live2) (s t : List Item) (view : full n spared live ≡ s) (view2 : full m spared2 live2 ≡ t) where

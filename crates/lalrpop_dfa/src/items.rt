@@ -6,6 +6,9 @@ ghost use Rattle.std.specs.Cmp;
 ghost use Rattle.lalrpop_dfa.specs.Internal.Ascending.{item_cmp};
 ghost use Rattle.lalrpop_dfa.specs.Internal.ItemOrder.{item_eq, rejects_cmp, set_cmp, set_eq, item_total, item_equiv, item_ties, set_total, set_equiv, set_ties};
 ghost use Rattle.lalrpop_nfa.specs.Compiled.{reject_state};
+ghost use Rattle.std.specs.List.Sorted.{IsStrictlySortedBy};
+ghost use Rattle.std.specs.Ordering.{nat_cmp};
+ghost use Rattle.lalrpop_dfa.specs.Internal.LiveItems.{AreAlikeBelow};
 
 use super::{DfaStateIndex, NfaIndex};
 use lalrpop_kernels::Kernel;
@@ -130,6 +133,27 @@ impl Origin {
     }
 }
 
+// No number below this one is in just one of the two ascending lists.
+fn first_apart(left: &[usize], right: &[usize]) -> usize
+    requires left { IsStrictlySortedBy nat_cmp left.now }
+    requires right { IsStrictlySortedBy nat_cmp right.now }
+    ensures { AreAlikeBelow result left.now right.now }
+{
+    let both = left.len().min(right.len());
+    for index in 0..both {
+        if left[index] != right[index] {
+            return left[index].min(right[index]);
+        }
+    }
+    if both < left.len() {
+        left[both]
+    } else if both < right.len() {
+        right[both]
+    } else {
+        0
+    }
+}
+
 /// The items that a state holds, ascending: the live ones, which are no REJECT states, and the REJECT item of each pattern
 /// that isn't spared.
 #[derive(Debug, Drop)]
@@ -165,7 +189,12 @@ impl ItemSet {
         if self.patterns == other.patterns && self.spared == other.spared {
             return Ordering::Equal;
         }
-        for pattern in 0..self.patterns.max(other.patterns) {
+        let first = if self.patterns == other.patterns {
+            first_apart(&self.spared, &other.spared)
+        } else {
+            0
+        };
+        for pattern in first..self.patterns.max(other.patterns) {
             let here = self.has_reject(pattern);
             if here != other.has_reject(pattern) {
                 return if here {

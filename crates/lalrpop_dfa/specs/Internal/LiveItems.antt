@@ -1,5 +1,5 @@
 -- A set of items as its live items, which are no REJECT states, and the patterns that it spares, which have no REJECT item.
-use Rattle.std.specs.Prelude.{◌≢◌, ℕ, zero, suc, ◌<◌, Bool, not, ◌==◌, ◌&&◌, cond, List, [], ◌∷◌, ◌++◌, map}
+use Rattle.std.specs.Prelude.{◌↔◌, ◌≢◌, ℕ, zero, suc, ◌<◌, Bool, not, ◌==◌, ◌&&◌, cond, List, [], ◌∷◌, ◌++◌, map}
 use Rattle.std.specs.List.{Contains, filter, list_any}
 use Rattle.std.specs.List.Sorted.{IsStrictlySortedBy}
 use Rattle.std.specs.Ordering.{nat_cmp}
@@ -52,3 +52,7 @@ pub record IsSplit (n : ℕ) (spared : List ℕ) (live : List Item) : Type 0 whe
   pub alive : (x : Item) → Contains live x → x.1 ≢ reject_state
   pub within : AreWithin n live
   pub rising : AreSpared n spared
+
+-- the two lists have the same numbers below n
+abbrev pub AreAlikeBelow : ℕ → List ℕ → List ℕ → Type 0
+AreAlikeBelow n left right = (j : ℕ) → j < n → Contains left j ↔ Contains right j

@@ -1,6 +1,7 @@
 use Rattle.std.proofs.Common.{arith, ◌∙◌, sym}
-use Rattle.lalrpop_dfa.proofs.SetOrder.{numbers_same, bools_apart, bools_same, told_equal, told_same, told_greater, told_less, told_more}
+use Rattle.lalrpop_dfa.proofs.SetOrder.{numbers_same, spared_alike, alike_of, bools_apart, bools_same, told_equal, told_same, told_greater, told_less, told_more}
 use Rattle.lalrpop_dfa.proofs.items.ItemSet.cmp_rejects.Goals as goal
+use Rattle.lalrpop_dfa.proofs.items.ItemSet.cmp_rejects.Goals.{then-self-other-2, else-self-other-2}
 
 pub returns-then-eq : goal.returns-then-eq
 returns-then-eq c =
@@ -26,3 +27,13 @@ pub returns : goal.returns
 returns c =
     told_same c.self.inside.patterns c.other.inside.patterns c.self.inside.spared.items c.other.inside.spared.items c.self.inside.live.items c.other.inside.live.items c.self.invariant c.other.invariant c.args.self.now c.args.other.now c.self.view_is c.other.view_is
     c.loop-pattern.pattern (let h = c.max-pattern-end.ensures in omega arith) (omega arith) c.loop-pattern.invariant
+
+pub loop-pattern-init : goal.loop-pattern-init
+loop-pattern-init c j l = elim c.if-self-other-2.branch [
+  | then-self-other-2 w ↦
+      spared_alike c.self.inside.patterns c.other.inside.patterns c.self.inside.spared.items c.other.inside.spared.items c.self.inside.live.items c.other.inside.live.items c.self.invariant c.other.invariant c.args.self.now c.args.other.now c.self.view_is c.other.view_is
+      w.if-self-other-2.true w.first_apart-first.result
+      (alike_of c.self.inside.spared.items c.other.inside.spared.items w.deref.result.now w.deref-then-self-other-2.result.now w.first_apart-first.result w.deref.ensures.value w.deref-then-self-other-2.ensures.value w.first_apart-first.ensures)
+      j (omega (arith, w.first-is))
+  | else-self-other-2 w ↦ absurd (omega (arith, w.first-is))
+]
