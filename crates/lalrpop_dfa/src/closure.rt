@@ -164,7 +164,7 @@ fn follow_all(alloc: Global, nfas: &[Nfa], given: &[Item]) -> Result<Vec<Item>, 
     requires by_pattern { AreByPattern given.now }
     ensures { IfOk result (λ v. v.items ≡ closed nfas.now given.now) }
 {
-    let mut found = Vec::new(alloc);
+    let mut found = Vec::with_capacity(alloc, given.len())?;
     let mut from = 0;
     while from < given.len() {
         let end = end_of_pattern(given, from);
@@ -210,7 +210,7 @@ fn spared_by(alloc: Global, items: &[Item], spared: &[usize]) -> Result<Vec<usiz
 fn live_among(alloc: Global, items: &[Item]) -> Result<Vec<Item>, AllocError>
     ensures { IfOk result (λ v. v.items ≡ live_of items.now) }
 {
-    let mut live = Vec::new(alloc);
+    let mut live = Vec::with_capacity(alloc, items.len())?;
     for item in items {
         if item.state() != REJECT {
             live.push(*item)?;
@@ -322,7 +322,7 @@ fn targets_of(
     requires { AreItemsOf nfas.now items.now }
     ensures { IfOk result (λ v. v.items ≡ flat_map (item_targets nfas.now value) items.now) }
 {
-    let mut targets = Vec::new(alloc);
+    let mut targets = Vec::with_capacity(alloc, items.len())?;
     for item in items {
         push_targets(nfas, *item, value, &mut targets)?;
     }
