@@ -1,9 +1,9 @@
 -- Where a value leads, found by halving the tests, which ascend.
-use Rattle.std.proofs.Common.{◌≡◌, ℕ, zero, suc, Bool, true, false, inl, inr, ◌+◌, ◌-◌, ◌*◌, ◌/◌, ◌^◌, ◌<◌, ◌≤◌, List, [], ◌∷◌, length, get_or, refl, sym, ap, ◌∙◌, ⊎_elim, subst, arith}
+use Rattle.std.proofs.Common.{◌≡◌, ℕ, zero, suc, Bool, true, false, inl, inr, ◌+◌, ◌-◌, ◌*◌, ◌^◌, ◌<◌, ◌≤◌, List, [], ◌∷◌, length, get_or, refl, sym, ap, ◌∙◌, ⊎_elim, subst, arith}
 use Rattle.std.specs.Prelude.{slice_get, Option, Some, None, IsSomeAnd, if◌then◌else◌}
 use Rattle.std.specs.List.{Contains}
 use Rattle.std.proofs.lemmas.Bool.{le-leb, lt-leb, cases_lt}
-use Rattle.std.proofs.lemmas.Option.{slice_get_cases, slice_get_within, slice_get-get_or}
+use Rattle.std.proofs.lemmas.Option.{slice_get_cases, slice_get-get_or}
 use Rattle.lalrpop_hir.specs.Range.{Range, Covers}
 use Rattle.lalrpop_dfa.specs.Dfa.{Row, edge_target, step, AreAscendingTests, IsWellFormed}
 
@@ -69,9 +69,6 @@ pub record IsNarrowed (ts : List (Range × ℕ)) (value first end : ℕ) : Type 
   pub within : end ≤ length ts
   pub inside : (k : ℕ) (t : Range × ℕ) → slice_get ts k ≡ Some t → Covers t.0 value → (first ≤ k) × (k < end)
 
-pub narrowed_start : (ts : List (Range × ℕ)) (value : ℕ) → IsNarrowed ts value 0 (length ts)
-narrowed_start ts value = record { within = omega arith; inside = λ k t e h. (omega arith, slice_get_within ts k t e) }
-
 pub narrowed_none : (ts : List (Range × ℕ)) (value first end : ℕ) → IsNarrowed ts value first end → end ≤ first → (t : Range × ℕ) → Contains ts t → ¬ Covers t.0 value
 narrowed_none ts value first end h l t m c = (let p = place_of ts t m in let in_it = h.inside p.0 t p.1 c in omega (arith, in_it.0, in_it.1))
 
@@ -107,26 +104,12 @@ module _ (ts : List (Range × ℕ)) (a : AreAscendingTests ts) (value first end 
 abbrev pub AreProbed : ℕ → ℕ → ℕ → ℕ → Type 0
 AreProbed n left before probes = (d : ℕ) → n < 2 ^ d → (e : ℕ) × ((left < 2 ^ e) × (probes + e ≤ before + d))
 
-pub probed_start : (n before : ℕ) → AreProbed n n before before
-probed_start n before d l = (d, (l, omega arith))
-
 pub probed_more : (n left left2 before probes probes2 : ℕ) → AreProbed n left before probes → 0 < left → 2 * left2 ≤ left → probes2 ≡ probes + 1 → AreProbed n left2 before probes2
 probed_more n left left2 before probes probes2 h some half more d l = again (h d l)
   where
     again : (e : ℕ) × ((left < 2 ^ e) × (probes + e ≤ before + d)) → (e : ℕ) × ((left2 < 2 ^ e) × (probes2 + e ≤ before + d))
     again (zero, (less, at)) = absurd (let one : 2 ^ 0 ≡ 1 = refl in omega arith)
     again (suc e, (less, at)) = (e, ((let two : 2 ^ suc e ≡ 2 * 2 ^ e = grind arith in omega arith), omega arith))
-
-pub probed_all : (n left before probes : ℕ) → AreProbed n left before probes → (d : ℕ) → n < 2 ^ d → probes ≤ before + d
-probed_all n left before probes h d l = (let e = h d l in omega (arith, e.1.1))
-
--- a probe that ends the search
-pub probed_last : (n left before probes probes2 : ℕ) → AreProbed n left before probes → 0 < left → probes2 ≡ probes + 1 → (d : ℕ) → n < 2 ^ d → probes2 ≤ before + d
-probed_last n left before probes probes2 h some more d l = again (h d l)
-  where
-    again : (e : ℕ) × ((left < 2 ^ e) × (probes + e ≤ before + d)) → probes2 ≤ before + d
-    again (zero, (less, at)) = absurd (let one : 2 ^ 0 ≡ 1 = refl in omega arith)
-    again (suc e, (less, at)) = omega arith
 
 -- so many probes for each of k characters, and for one more
 pub probed_turn : (before probes probes2 k k2 d : ℕ) → probes ≤ before + k * d → probes2 ≤ probes + d → k2 ≡ k + 1 → probes2 ≤ before + k2 * d

@@ -1,5 +1,5 @@
 -- The first set in which two trees tie: its word is the least ambiguous one.
-use Rattle.std.proofs.Common.{◌≡◌, ℕ, ◌<◌, ◌≤◌, inl, inr, List, [], ◌∷◌, length, map, filter, refl, sym, subst, arith, Bool, true, ◌&&◌, ◌==◌, nat_le, nat_lt, ltb-true, lt-ltb, leb-true, le-leb, eqb-true, Some, slice_index}
+use Rattle.std.proofs.Common.{◌≡◌, ℕ, ◌<◌, ◌≤◌, inl, inr, List, length, map, filter, refl, sym, subst, arith, Bool, true, ◌&&◌, ◌==◌, nat_le, nat_lt, ltb-true, lt-ltb, leb-true, le-leb, eqb-true, Some, slice_index}
 use Rattle.std.specs.List.{Contains, slice_get, list_any, list_all}
 use Rattle.std.proofs.lemmas.Bool.{and_parts, and_from}
 use Rattle.std.proofs.lemmas.Option.{slice_get_cases}

@@ -91,7 +91,8 @@ impl Sets {
         requires automata { AreAutomata nfas.now }
         requires inside { AreItemsOf nfas.now set.now }
         requires same_length { length self.old.origins.items ≡ length self.old.kernels.list }
-        ensures { IfOk result (λ j. IsAdded self.old origin (move nfas.now set.now origin.1) j self.new) }
+        ensures { IfOk result (λ j.
+            IsAdded self.old origin (move nfas.now set.now origin.1) j self.new) }
     {
         let target = advance(alloc, nfas, set, origin.value)?;
         self.add(target, origin)
@@ -112,7 +113,8 @@ impl Sets {
         requires same_length { length self.old.origins.items ≡ length self.old.kernels.list }
         requires transitions { AreTransitions nfas.now set.now origin.1 transitions.list.items }
         requires known { AreKnown nfas.now set.now known.old self.old.kernels.list }
-        ensures added { IfOk result (λ j. IsAdded self.old origin (move nfas.now set.now origin.1) j self.new) }
+        ensures added { IfOk result (λ j.
+            IsAdded self.old origin (move nfas.now set.now origin.1) j self.new) }
         ensures known { OnOk result (AreKnown nfas.now set.now known.new self.new.kernels.list) }
     {
         if let Some(number) = known.get(&transitions) {
@@ -136,7 +138,8 @@ impl Sets {
         requires breadth_first { IsBreadthFirst
             (subset_automaton nfas.now) self.old.kernels.list self.old.origins.items number 0 }
         requires here { slice_get self.old.kernels.list number ≡ Some set.now }
-        ensures edged { IfOk result (λ e. IsEdged nfas.now self.old.kernels.list self.old.origins.items number set.now
+        ensures edged { IfOk result (λ e. IsEdged nfas.now
+            self.old.kernels.list self.old.origins.items number set.now
             self.new.kernels.list self.new.origins.items e.tests.items e.other) }
         ensures place { OnOk result (self.new.kernels.place ≡ self.old.kernels.place) }
     {
@@ -172,9 +175,13 @@ impl Table {
     ) -> Result<(), DfaConstructionError>
         requires same_len { length nfas.now ≡ length precedences.now }
         requires automata { AreAutomata nfas.now }
-        requires built { IsBuiltTo nfas.now (map (λ p. p.0) precedences.now) self.old.sets.kernels.list self.old.sets.origins.items self.old.rows (length self.old.rows) }
+        requires built { IsBuiltTo nfas.now (map (λ p. p.0) precedences.now)
+            self.old.sets.kernels.list self.old.sets.origins.items self.old.rows
+            (length self.old.rows) }
         requires here { slice_get self.old.sets.kernels.list (length self.old.rows) ≡ Some set }
-        ensures ok { OnOk result (IsBuiltTo nfas.now (map (λ p. p.0) precedences.now) self.new.sets.kernels.list self.new.sets.origins.items self.new.rows (length self.new.rows)) }
+        ensures ok { OnOk result (IsBuiltTo nfas.now (map (λ p. p.0) precedences.now)
+            self.new.sets.kernels.list self.new.sets.origins.items self.new.rows
+            (length self.new.rows)) }
         ensures one { OnOk result (length self.new.rows
             ≡ length self.old.rows + 1) }
         ensures place { OnOk result (self.new.sets.kernels.place ≡ self.old.sets.kernels.place) }

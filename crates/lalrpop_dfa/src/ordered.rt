@@ -45,7 +45,9 @@ impl Ordered {
     }
 
     fn insert_all(&mut self, given: &[Item]) -> Result<(), AllocError>
-        ensures { OnOk result (IsInserted self.old.observed.keys self.old.pending.items given.now self.new.observed.keys self.new.pending.items) }
+        ensures { OnOk result
+            (IsInserted self.old.observed.keys self.old.pending.items
+            given.now self.new.observed.keys self.new.pending.items) }
     {
         for item in given {
             self.insert(*item)?;

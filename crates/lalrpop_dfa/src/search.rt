@@ -33,7 +33,8 @@ impl Dfa {
         ensures leads { result ≡ step self.now state value }
         ensures within { result < length self.now }
         ensures never_falls { probes.old ≤ probes.new }
-        ensures probed { (n d : ℕ) → HaveAtMost self.now n → n < 2 ^ d → probes.new ≤ probes.old + d }
+        ensures probed { (n d : ℕ) → HaveAtMost self.now n → n < 2 ^ d
+            → probes.new ≤ probes.old + d }
     {
         // Each match begins in START, which has the most edges in most automata.
         if state == START && (value as usize) < self.from_start.len() {
@@ -51,7 +52,8 @@ impl Rows {
         ensures leads { result ≡ step self.now state value }
         ensures within { result < length self.now }
         ensures never_falls { probes.old ≤ probes.new }
-        ensures probed { (n d : ℕ) → HaveAtMost self.now n → n < 2 ^ d → probes.new ≤ probes.old + d }
+        ensures probed { (n d : ℕ) → HaveAtMost self.now n → n < 2 ^ d
+            → probes.new ≤ probes.old + d }
     {
         match target_of(self.test_edges(state), value, probes) {
             Some(target) => target,

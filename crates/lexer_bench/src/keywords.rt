@@ -1,7 +1,7 @@
 //! Keywords and operators that the lists of terminals are made of.
 
 /// A hundred keywords of several languages.
-pub const KEYWORDS: [&str; 100] = [
+pub(crate) const KEYWORDS: [&str; 100] = [
     "abstract",
     "and",
     "as",
@@ -105,7 +105,7 @@ pub const KEYWORDS: [&str; 100] = [
 ];
 
 /// The keywords of C.
-pub const C_KEYWORDS: [&str; 37] = [
+pub(crate) const C_KEYWORDS: [&str; 37] = [
     "auto",
     "break",
     "case",
@@ -146,7 +146,7 @@ pub const C_KEYWORDS: [&str; 37] = [
 ];
 
 /// The operators of C.
-pub const C_OPERATORS: [&str; 46] = [
+pub(crate) const C_OPERATORS: [&str; 46] = [
     "[", "]", "(", ")", "{", "}", ".", "->", "++", "--", "&", "*", "+", "-", "~", "!", "/", "%",
     "<<", ">>", "<", ">", "<=", ">=", "==", "!=", "^", "|", "&&", "||", "?", ":", ";", "...", "=",
     "*=", "/=", "%=", "+=", "-=", "<<=", ">>=", "&=", "^=", "|=", ",",

@@ -7,10 +7,10 @@ use std::alloc::{AllocError, Global};
 
 /// Terminals with their precedences.
 #[derive(Drop)]
-pub struct List {
+pub(crate) struct List {
     alloc: Global,
-    pub patterns: Vec<Regex>,
-    pub precedences: Vec<Precedence>,
+    pub(crate) patterns: Vec<Regex>,
+    pub(crate) precedences: Vec<Precedence>,
 }
 
 // A keyword is a name too, and wins.
@@ -65,7 +65,7 @@ impl List {
 }
 
 /// The list of this name.
-pub fn list_named(alloc: Global, name: &str) -> Result<Option<List>, RegexError> {
+pub(crate) fn list_named(alloc: Global, name: &str) -> Result<Option<List>, RegexError> {
     let mut list = List::new(alloc);
     match name {
         "c" => {

@@ -28,7 +28,7 @@ fn scattered(place: u64) -> u64 {
 }
 
 /// How many blocks the partition of so many ranges has, which overlap.
-pub fn blocks_of(alloc: Global, count: u64) -> Result<usize, AllocError> {
+pub(crate) fn blocks_of(alloc: Global, count: u64) -> Result<usize, AllocError> {
     let mut ranges = BTreeSet::new(alloc);
     for place in 0..count {
         let start = (scattered(place) >> 40) as u32;
@@ -38,7 +38,7 @@ pub fn blocks_of(alloc: Global, count: u64) -> Result<usize, AllocError> {
 }
 
 /// How many kernels are distinct of twice so many, each of which is added twice; all are taken out again.
-pub fn kernels_of(alloc: Global, count: u64) -> Result<usize, AllocError> {
+pub(crate) fn kernels_of(alloc: Global, count: u64) -> Result<usize, AllocError> {
     let mut kernels = KernelSet::new(alloc);
     let mut last = 0;
     for place in 0..count {
@@ -52,7 +52,7 @@ pub fn kernels_of(alloc: Global, count: u64) -> Result<usize, AllocError> {
 }
 
 /// How many bytes of a text of so many letters the automaton of `(a*)*` matches, which has cycles that read nothing.
-pub fn cycled(alloc: Global, count: u64) -> Result<usize, AllocError> {
+pub(crate) fn cycled(alloc: Global, count: u64) -> Result<usize, AllocError> {
     let mut text = String::new(alloc);
     for _ in 0..count {
         text.push('a')?;

@@ -103,7 +103,7 @@ fn push_c_token(numbers: &mut Numbers, text: &mut String) -> Result<(), AllocErr
 }
 
 /// A text of the tokens of C, with blanks between them.
-pub fn c_text(alloc: Global) -> Result<String, AllocError> {
+pub(crate) fn c_text(alloc: Global) -> Result<String, AllocError> {
     let mut numbers = Numbers { state: 1 };
     let mut text = String::new(alloc);
     for _ in 0..LENGTH {
@@ -117,7 +117,7 @@ pub fn c_text(alloc: Global) -> Result<String, AllocError> {
 }
 
 /// A text of keywords, and of names in the letters of many scripts.
-pub fn unicode_text(alloc: Global) -> Result<String, AllocError> {
+pub(crate) fn unicode_text(alloc: Global) -> Result<String, AllocError> {
     let mut numbers = Numbers { state: 2 };
     let mut text = String::new(alloc);
     for _ in 0..LENGTH {

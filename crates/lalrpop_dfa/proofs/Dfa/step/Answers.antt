@@ -1,6 +1,6 @@
 use Rattle.std.proofs.Common.{rules, sym, subst, ap, ◌∙◌, ◌≡◌, ◌<◌, List, length, Some, slice_get, arith, ℕ}
 use Rattle.std.proofs.lemmas.Option.{slice_get-get_or}
-use Rattle.lalrpop_dfa.specs.Dfa.{step, Row, IsWellFormed}
+use Rattle.lalrpop_dfa.specs.Dfa.{step, Row}
 use Rattle.lalrpop_dfa.specs.Counts.{HaveAtMost}
 use Rattle.lalrpop_dfa.proofs.EdgeTargets.{step_within}
 use Rattle.lalrpop_dfa.proofs.Dfa.step.Goals as goal

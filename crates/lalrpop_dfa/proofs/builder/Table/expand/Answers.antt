@@ -1,4 +1,4 @@
-use Rattle.std.proofs.Common.{length, map, refl, ◌∙◌}
+use Rattle.std.proofs.Common.{length, map, refl}
 use Rattle.lalrpop_dfa.proofs.Builds.{set_holds, built_pushed}
 use Rattle.lalrpop_dfa.proofs.builder.Table.expand.Goals as goal
 

@@ -1,7 +1,7 @@
-use Rattle.std.proofs.Common.{◌≡◌, ◌<◌, true, false, length, ap, sym, subst, arith}
+use Rattle.std.proofs.Common.{◌≡◌, ◌<◌, length, ap, sym, subst, arith}
 use Rattle.std.specs.Prelude.{◌↔◌, IsTrue}
 use Rattle.std.proofs.lemmas.Option.{slice_get_within}
-use Rattle.lalrpop_dfa.specs.SameAutomata.{same_automaton, IsSameAutomaton}
+use Rattle.lalrpop_dfa.specs.SameAutomata.{IsSameAutomaton}
 use Rattle.lalrpop_dfa.proofs.SameTables.{same_automaton_decides, all_same, some_differ}
 use Rattle.lalrpop_dfa.proofs.equality.DfaPartialEq.eq.Goals as goal
 

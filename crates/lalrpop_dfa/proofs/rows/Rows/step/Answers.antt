@@ -1,5 +1,4 @@
 use Rattle.std.proofs.Common.{sym, ◌∙◌, ◌≡◌, ap, subst}
-use Rattle.std.specs.Prelude.{IfSome, IfNone}
 use Rattle.lalrpop_dfa.specs.Dfa.{AreAscendingTests, edge_target}
 use Rattle.lalrpop_dfa.proofs.EdgeTargets.{step_of, the_some, leads_found, leads_none, tests_of}
 use Rattle.lalrpop_dfa.proofs.rows.Rows.step.Goals as goal
