@@ -1,112 +1,47 @@
 -- How states and edges that are added to a graph make the fragments of trees.
-use Rattle.std.proofs.Common.{◌≡◌, ◌≢◌, ℕ, zero, suc, ◌<◌, ◌≤◌, ◌+◌, List, [], ◌∷◌, ◌++◌, length, refl, ap, sym, ◌∙◌, subst, arith, ◌⊎◌, inl, inr, length-append, append_assoc, get_or, take}
-use Rattle.std.specs.Prelude.{Some, None, slice_get, map, replicate, max, drop}
-use Rattle.std.specs.List.{Contains, filter, push}
+use Rattle.std.proofs.Common.{◌≡◌, ◌≢◌, ℕ, zero, suc, ◌<◌, ◌≤◌, ◌+◌, List, [], ◌∷◌, ◌++◌, length, refl, ap, sym, ◌∙◌, arith, length-append, append_assoc, get_or, take}
+use Rattle.std.specs.Prelude.{Some, None, map, replicate, max, drop}
+use Rattle.std.specs.List.{filter, push}
 use Rattle.std.specs.Option.{option_or}
 use Rattle.std.proofs.Math.Seq.{drop-cons}
-use Rattle.std.proofs.lemmas.List.{length-replicate, length-map, append-nil}
+use Rattle.std.proofs.lemmas.List.{length-replicate, append-nil}
 use Rattle.std.proofs.lemmas.Bool.{ne_eqb}
-use Rattle.std.proofs.lemmas.List.Elements.{Contains-append_cases, filter-append}
+use Rattle.std.proofs.lemmas.List.Elements.{filter-append}
 use Rattle.lalrpop_hir.specs.Range.{Range}
 use Rattle.lalrpop_hir.specs.Tree.{Tree, Trees, none, also, trees}
 use Rattle.lalrpop_hir.specs.Internal.Depth.{depth, greatest_depth}
 use Rattle.lalrpop_nfa.specs.declared.edge.Edge.{Edge}
-use Rattle.lalrpop_nfa.specs.declared.edge.State.{State}
 use Rattle.lalrpop_nfa.specs.declared.edge.StateKind.{StateKind}
 use Rattle.lalrpop_nfa.specs.declared.edge.StateKind.TheVariants.{Neither}
 use Rattle.lalrpop_nfa.specs.Lists.{Lists}
-use Rattle.lalrpop_nfa.specs.Firsts.{LabelKind, Noops, Tests, Others}
-use Rattle.lalrpop_nfa.specs.Contiguous.{AreContiguous, kinds_of}
-use Rattle.lalrpop_nfa.specs.Internal.Adjacent.{AllContiguous}
 use Rattle.lalrpop_nfa.specs.Graph.{Graph}
-use Rattle.lalrpop_nfa.specs.Walk.{leaves, IsContiguous}
+use Rattle.lalrpop_nfa.specs.Walk.{leaves}
 use Rattle.lalrpop_nfa.specs.Path.{noop, test, other}
-use Rattle.lalrpop_nfa.specs.Internal.Fragment.{Fragment, Construction, fragment_of, joined, noops_to, before, one_of, optional_expr, star_expr, plus_expr, repeat_expr, copies, optional_copies, alternation_expr, branches, extended, fresh_graph, compiled}
-use Rattle.lalrpop_nfa.specs.Compiled.{accept_state, start_state}
+use Rattle.lalrpop_nfa.specs.Internal.Fragment.{Fragment, Construction, no_edges, fragment_of, joined, noops_to, before, one_of, optional_expr, star_expr, plus_expr, repeat_expr, copies, optional_copies, alternation_expr, branches, extended, fresh_graph, compiled}
+use Rattle.lalrpop_nfa.specs.Compiled.{accept_state, start_state, edges_from}
 use Rattle.lalrpop_nfa.specs.declared.error.NfaConstructionError.{NfaConstructionError}
 use Rattle.lalrpop_nfa.specs.Fault.{Fault, fault, first_fault, last_fault}
 use Rattle.lalrpop_nfa.specs.Internal.Valid.{IsValid, AreValid}
 use Rattle.lalrpop_nfa.specs.Internal.Added.{with_kind, with_edges}
-use Rattle.lalrpop_nfa.proofs.Contained.{contains_none, contains_cases, contains_first, contains_later}
-use Rattle.lalrpop_nfa.specs.Internal.Extends.{LeaveBelow, LeavesStates, KeepsNoops, Extends, Branched, beside}
+use Rattle.lalrpop_nfa.specs.Internal.Extends.{KeepsNoops, Extends, Branched, beside}
 
 -- ---- lists of edges
 
--- no edge of the list leaves q
-pub filter_none : {L : Type 0} (q : ℕ) (es : List (Edge L)) → ((x : Edge L) → Contains es x → x.from ≢ q) → filter (leaves q) es ≡ []
-filter_none q [] f = refl
-filter_none q (x ∷ es) f = rw (ne_eqb x.from q (f x (contains_first x es))) (filter_none q es (λ y h. f y (contains_later x es y h)))
-
--- edges of one state, one for each element
-module _ {A L : Type 0} (f : A → Edge L) (s : ℕ) (same : (a : A) → (f a).from ≡ s) where
-  below_map : (n : ℕ) (xs : List A) → s < n → LeaveBelow n (map f xs)
-  below_map n [] l x h = absurd (contains_none x h)
-  below_map n (a ∷ xs) l x h = elim (contains_cases (f a) (map f xs) x h) [ inl e ↦ (let k = ap (λ y. y.from) e in let w = same a in omega arith) | inr k ↦ below_map n xs l x k ]
-
-  filter_map_none : (q : ℕ) (xs : List A) → s ≢ q → filter (leaves q) (map f xs) ≡ []
-  filter_map_none q [] ne = refl
-  filter_map_none q (a ∷ xs) ne = rw (same a, ne_eqb s q ne) (filter_map_none q xs ne)
-
-below_longer : {L : Type 0} (m n : ℕ) (es : List (Edge L)) → m ≤ n → LeaveBelow m es → LeaveBelow n es
-below_longer m n es l f x h = let b = f x h in omega arith
-
-below_both : {L : Type 0} (n : ℕ) (es fs : List (Edge L)) → LeaveBelow n es → LeaveBelow n fs → LeaveBelow n (es ++ fs)
-below_both n es fs a b x h = elim (Contains-append_cases es fs x h) [ inl c ↦ a x c | inr c ↦ b x c ]
+-- none of these edges, one for each element, leaves q, since they all leave another state
+filter_map_none : {A L : Type 0} (f : A → Edge L) (s : ℕ) (same : (a : A) → (f a).from ≡ s) (q : ℕ) (xs : List A) → s ≢ q → filter (leaves q) (map f xs) ≡ []
+filter_map_none f s same q [] ne = refl
+filter_map_none f s same q (a ∷ xs) ne = rw (same a, ne_eqb s q ne) (filter_map_none f s same q xs ne)
 
 -- ---- a new state
-
-IsContiguous-none : {L : Type 0} (q : ℕ) (es : List (Edge L)) → LeaveBelow q es → IsContiguous q es None
-IsContiguous-none q es f = record { at = tt; all = filter_none q es (λ x h e. let l = f x h in omega arith) }
-
-abbrev pub fresh : StateKind → State
-fresh kind = record { kind = kind; first_noop_edge = None; first_test_edge = None; first_other_edge = None }
-
-AreContiguous-fresh : (k : LabelKind) (kind : StateKind) (e : Lists) (q : ℕ) → LeaveBelow q e.noops → LeaveBelow q e.tests → LeaveBelow q e.others → AreContiguous k e (fresh kind) q
-AreContiguous-fresh Noops kind e q a b c = IsContiguous-none q e.noops a
-AreContiguous-fresh Tests kind e q a b c = IsContiguous-none q e.tests b
-AreContiguous-fresh Others kind e q a b c = IsContiguous-none q e.others c
-
-pushed_cases : {X : Type 0} (xs : List X) (y : X) (q : ℕ) (x : X) → slice_get (xs ++ y ∷ []) q ≡ Some x → (slice_get xs q ≡ Some x) ⊎ ((q ≡ length xs) × (x ≡ y))
-pushed_cases [] y zero x h = inr (refl, cc)
-pushed_cases [] y (suc q) x h = cc
-pushed_cases (z ∷ xs) y zero x h = inl h
-pushed_cases (z ∷ xs) y (suc q) x h = elim (pushed_cases xs y q x h) [ inl k ↦ inl k | inr k ↦ inr (ap (λ n. suc n) k.0, k.1) ]
-
-pub AllContiguous-fresh : (states : List State) (e : Lists) (kind : StateKind) (g : Graph) → record { kinds = kinds_of states; edges = e } ≡ g → LeavesStates g → AllContiguous states e → AllContiguous (states ++ fresh kind ∷ []) e
-AllContiguous-fresh states e kind g shown below old k q s found =
-    elim (pushed_cases states (fresh kind) q s found) [
-      | inl h ↦ old k q s h
-      | inr h ↦ (let l = subst LeavesStates (sym shown) below in
-          let long : length (kinds_of states) ≡ q = length-map states (λ (s : State). s.kind) ∙ sym h.0 in
-          subst (λ u. AreContiguous k e u q) (sym h.1) (AreContiguous-fresh k kind e q (subst (λ n. LeaveBelow n e.noops) long l.noops) (subst (λ n. LeaveBelow n e.tests) long l.tests) (subst (λ n. LeaveBelow n e.others) long l.others)))
-    ]
-
-pub LeavesStates-pushed : (states more : List State) (e : Lists) (kind : StateKind) (g : Graph) → more ≡ states ++ fresh kind ∷ [] → record { kinds = kinds_of states; edges = e } ≡ g → LeavesStates g → LeavesStates (record { kinds = kinds_of more; edges = e })
-LeavesStates-pushed states more e kind g is shown b = rw is (
-    let l = subst LeavesStates (sym shown) b in
-    let m = length-map states (λ (s : State). s.kind) in
-    let n = length-map (states ++ fresh kind ∷ []) (λ (s : State). s.kind) in
-    let p = length-append states (fresh kind ∷ []) in
-    record {
-      noops = below_longer (length (kinds_of states)) _ e.noops (omega arith) l.noops;
-      tests = below_longer (length (kinds_of states)) _ e.tests (omega arith) l.tests;
-      others = below_longer (length (kinds_of states)) _ e.others (omega arith) l.others;
-    })
 
 kinds_with : (g : Graph) (kind : StateKind) → length (with_kind g kind).kinds ≡ length g.kinds + 1
 kinds_with g kind = rw length-append refl
 
--- no edge leaves a new state
-pub others_new : (g h : Graph) (s : ℕ) (kind : StateKind) → s ≡ length g.kinds → h ≡ with_kind g kind → LeavesStates g → filter (leaves s) h.edges.others ≡ []
-others_new g h s kind t u b = rw u (filter_none s g.edges.others (λ x m e. let l = b.others x m in omega arith))
-
-pub tests_new : (g h : Graph) (s : ℕ) (kind : StateKind) → s ≡ length g.kinds → h ≡ with_kind g kind → LeavesStates g → filter (leaves s) h.edges.tests ≡ []
-tests_new g h s kind t u b = rw u (filter_none s g.edges.tests (λ x m e. let l = b.tests x m in omega arith))
-
-pub noops_new : (g h k : Graph) (s : ℕ) → s ≡ length g.kinds → h ≡ with_kind g Neither → LeavesStates g → KeepsNoops h k → filter (leaves s) k.edges.noops ≡ []
-noops_new g h k s t u b kept =
+-- a new state still has no edge that reads nothing, once others have theirs
+pub noops_new : (g h k : Graph) (s : ℕ) → s ≡ length g.kinds → h ≡ with_kind g Neither → edges_from s h.edges ≡ no_edges → KeepsNoops h k → filter (leaves s) k.edges.noops ≡ []
+noops_new g h k s t u bare kept =
     let m : length h.kinds ≡ length g.kinds + 1 = rw u (kinds_with g Neither) in
-    kept s (omega arith) ∙ (rw u (filter_none s g.edges.noops (λ x m e. let l = b.noops x m in omega arith)))
+    kept s (omega arith) ∙ ap (λ (e : Lists). e.noops) bare
 
 -- ---- fragments
 
@@ -132,7 +67,6 @@ Extends-before x y target mid entry g h k a b =
       begins = rw (m, a.begins) at b.begins;
       graph = rw (m, a.begins) at b.graph ∙ (ap (λ j. extended j r) a.graph ∙ extended_twice g s r r.entry);
       kept = λ q l. b.kept q (omega arith) ∙ a.kept q l;
-      below = b.below;
     }
 
 -- ---- edges from one new state
@@ -145,13 +79,6 @@ take_past (suc i) (x ∷ xs) h = ap (λ ys. x ∷ ys) (take_past i xs (omega ari
 
 abbrev pub with_noops : Graph → ℕ → List ℕ → Graph
 with_noops g s qs = with_edges g (record g.edges { noops = g.edges.noops ++ map (noop s) qs })
-
-below_noops : (k l : Graph) (s : ℕ) (qs : List ℕ) → s < length k.kinds → l ≡ with_noops k s qs → LeavesStates k → LeavesStates l
-below_noops k l s qs inside is b = rw is (record {
-  noops = below_both (length k.kinds) k.edges.noops (map (noop s) qs) b.noops (below_map (noop s) s (λ a. refl) (length k.kinds) qs inside);
-  tests = b.tests;
-  others = b.others;
-})
 
 kept_noops : (k l : Graph) (s : ℕ) (qs : List ℕ) (q : ℕ) → s ≢ q → l ≡ with_noops k s qs → filter (leaves q) l.edges.noops ≡ filter (leaves q) k.edges.noops
 kept_noops k l s qs q ne is = rw is (filter-append (leaves q) k.edges.noops (map (noop s) qs) ∙ rw (filter_map_none (noop s) s (λ a. refl) q qs ne) (append-nil (filter (leaves q) k.edges.noops)))
@@ -170,16 +97,12 @@ module _ (x : Construction) (target s sub_entry : ℕ) (g h k l : Graph) (qs : L
   alternated_kept : KeepsNoops g l
   alternated_kept q below = let m = one_more in kept_noops k l s qs q (omega arith) w ∙ (a.kept q (omega arith) ∙ rw u refl)
 
-  alternated_below : LeavesStates l
-  alternated_below = let m = one_more in let n = Extends-kinds x target sub_entry h k a in below_noops k l s qs (omega arith) w a.below
-
 module _ (x : Construction) (target s sub_entry : ℕ) (g h k l : Graph) where
   pub Extends-star_expr : s ≡ length g.kinds → h ≡ with_kind g Neither → Extends x s h k sub_entry → l ≡ with_noops k s (target ∷ sub_entry ∷ []) → Extends (star_expr x) target g l s
   Extends-star_expr t u a w = record {
     begins = t;
     graph = alternated x s s sub_entry g h k l (target ∷ sub_entry ∷ []) t u a w (length g.kinds) ∙ (rw (a.begins, one_more x s s sub_entry g h k l (target ∷ sub_entry ∷ []) t u a w, t) refl);
     kept = alternated_kept x s s sub_entry g h k l (target ∷ sub_entry ∷ []) t u a w;
-    below = alternated_below x s s sub_entry g h k l (target ∷ sub_entry ∷ []) t u a w;
   }
 
   pub Extends-plus_expr : s ≡ length g.kinds → h ≡ with_kind g Neither → Extends x s h k sub_entry → l ≡ with_noops k s (target ∷ sub_entry ∷ []) → Extends (plus_expr x) target g l sub_entry
@@ -187,35 +110,26 @@ module _ (x : Construction) (target s sub_entry : ℕ) (g h k l : Graph) where
     begins = rw (one_more x s s sub_entry g h k l (target ∷ sub_entry ∷ []) t u a w, t) at a.begins;
     graph = e.graph;
     kept = e.kept;
-    below = e.below;
   }
 
   -- the fragment first, then the state and its edges
-  pub Extends-optional_expr : Extends x target g h sub_entry → s ≡ length h.kinds → k ≡ with_kind h Neither → LeavesStates k → l ≡ with_noops k s (target ∷ sub_entry ∷ []) → Extends (optional_expr x) target g l s
-  Extends-optional_expr a t u b w =
+  pub Extends-optional_expr : Extends x target g h sub_entry → s ≡ length h.kinds → k ≡ with_kind h Neither → l ≡ with_noops k s (target ∷ sub_entry ∷ []) → Extends (optional_expr x) target g l s
+  Extends-optional_expr a t u w =
       let m = Extends-kinds x target sub_entry g h a in
       let n : length k.kinds ≡ length h.kinds + 1 = rw u (kinds_with h Neither) in
       record {
         begins = t ∙ m;
         graph = rw (w, u, t, m, a.begins, a.graph, ← replicate_add (x target (length g.kinds)).size 1 Neither) (simp (append_assoc, append-nil));
         kept = λ q l'. kept_noops k l s (target ∷ sub_entry ∷ []) q (omega arith) w ∙ (rw u refl ∙ a.kept q l');
-        below = below_noops k l s (target ∷ sub_entry ∷ []) (omega arith) w b;
       }
 
-pub Extends-one_of : (rs : List Range) (target s : ℕ) (g h i k : Graph) → s ≡ length g.kinds → h ≡ with_kind g Neither → LeavesStates h
+pub Extends-one_of : (rs : List Range) (target s : ℕ) (g h i k : Graph) → s ≡ length g.kinds → h ≡ with_kind g Neither
     → i ≡ with_edges h (record h.edges { tests = h.edges.tests ++ map (λ r. test s r target) rs }) → k ≡ with_edges i (record i.edges { others = i.edges.others ++ other s 1 ∷ [] }) → Extends (one_of rs) target g k s
-Extends-one_of rs target s g h i k t u b v w =
-    let m : length h.kinds ≡ length g.kinds + 1 = rw u (kinds_with g Neither) in
-    record {
-      begins = t;
-      graph = rw (w, v, u, t) (simp append-nil);
-      kept = λ q l. rw (w, v, u) refl;
-      below = rw (w, v) (record {
-        noops = b.noops;
-        tests = below_both (length h.kinds) h.edges.tests _ b.tests (below_map (λ r. test s r target) s (λ a. refl) (length h.kinds) rs (omega arith));
-        others = below_both (length h.kinds) h.edges.others _ b.others (below_map (λ r. other s r) s (λ a. refl) (length h.kinds) (1 ∷ []) (omega arith));
-      });
-    }
+Extends-one_of rs target s g h i k t u v w = record {
+  begins = t;
+  graph = rw (w, v, u, t) (simp append-nil);
+  kept = λ q l. rw (w, v, u) refl;
+}
 
 -- ---- branches
 
@@ -227,7 +141,6 @@ Branched-next target all ts t g h k es q a b long =
       begin = append_assoc es (q ∷ []) (branches ts target (length k.kinds)).entries ∙ (rw (m, b.begins) a.begin);
       graph = rw m (ap (λ j. extended j (beside (branches ts target (length h.kinds + s.size)))) b.graph ∙ (extended_twice h s (beside (branches ts target (length h.kinds + s.size))) 0 ∙ a.graph));
       kept = λ p l. b.kept p (omega arith) ∙ a.kept p l;
-      below = b.below;
     }
 
 pub Extends-alternation_expr : (ts : Trees) (target s : ℕ) (g h k l : Graph) (es : List ℕ) → s ≡ length g.kinds → h ≡ with_kind g Neither → Branched target ts none h k es → l ≡ with_noops k s es → Extends (alternation_expr (branches ts)) target g l s
@@ -241,7 +154,6 @@ Extends-alternation_expr ts target s g h k l es t u a w =
       begins = t;
       graph = rw (w, whole, all, m, u, t) (alternation_extended g (beside b) (length g.kinds) (length g.kinds) b.entries);
       kept = λ q below. kept_noops k l s es q (omega arith) w ∙ (a.kept q (omega arith) ∙ rw u refl);
-      below = below_noops k l s es (omega arith) w a.below;
     }
 
 -- ---- lists of trees

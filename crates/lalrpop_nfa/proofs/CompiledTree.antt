@@ -3,6 +3,7 @@ use Rattle.std.proofs.Common.{◌≡◌, ◌≢◌, ℕ, zero, suc, ◌<◌, ◌
 use Rattle.std.specs.Prelude.{Some, None, slice_get, replicate}
 use Rattle.std.specs.List.{Contains, filter}
 use Rattle.std.proofs.lemmas.List.{append-nil, length-replicate}
+use Rattle.std.proofs.lemmas.Bool.{ne_eqb}
 use Rattle.std.proofs.lemmas.List.Elements.{Contains-append_cases, filter-append}
 use Rattle.lalrpop_hir.specs.Range.{Range}
 use Rattle.lalrpop_hir.specs.Tree.{Tree, size}
@@ -18,9 +19,8 @@ use Rattle.lalrpop_nfa.specs.Fault.{fault}
 use Rattle.lalrpop_nfa.specs.Internal.Valid.{IsValid}
 use Rattle.lalrpop_nfa.specs.Compiled.{accept_state, reject_state, start_state, IsLabel, ReadsWordsOf, IsCompiled, HasFixedEdges}
 use Rattle.lalrpop_nfa.specs.Internal.Fragment.{fragment_of, noops_to, joined, fresh_graph, compiled}
-use Rattle.lalrpop_nfa.proofs.Contained.{contains_none, contains_cases, contains_only}
+use Rattle.lalrpop_nfa.proofs.Contained.{contains_none, contains_cases, contains_only, contains_first, contains_later}
 use Rattle.lalrpop_nfa.proofs.Compilable.{IsCompilableWithin, plain}
-use Rattle.lalrpop_nfa.proofs.BuildLemmas.{filter_none}
 use Rattle.lalrpop_nfa.proofs.Fragments.{Anywhere, Fits, Within, Fits-joined, Fits-noops_to, fragment_leads, fragment_within}
 use Rattle.lalrpop_nfa.proofs.Sizes.{fragment_size}
 use Rattle.lalrpop_nfa.proofs.Readings.{Reads, Reads-alternation_expr, FromSome-none, FromSome-also}
@@ -180,6 +180,11 @@ compiled_is_compiled t s f =
       labels = tests_within.labels;
       apart = places_apart (whole t).tests tests_within.apart;
     }
+
+-- no edge of the list leaves q
+filter_none : {L : Type 0} (q : ℕ) (es : List (Edge L)) → ((x : Edge L) → Contains es x → x.from ≢ q) → filter (leaves q) es ≡ []
+filter_none q [] f = refl
+filter_none q (x ∷ es) f = rw (ne_eqb x.from q (f x (contains_first x es))) (filter_none q es (λ y h. f y (contains_later x es y h)))
 
 -- edges that leave other states are left out
 rest : {L : Type 0} (q : ℕ) (es others : List (Edge L)) → ((x : Edge L) → Contains es x → x.from ≢ q) → filter (leaves q) (es ++ others) ≡ filter (leaves q) others

@@ -1,20 +1,23 @@
--- A pushed edge keeps the runs of all states and all kinds.
-use Rattle.std.proofs.Common.{◌≡◌, ◌≢◌, ℕ, ◌<◌, List, [], ◌∷◌, ◌++◌, length, drop, set, get_or, refl, ap, sym, ◌∙◌, subst, arith, inl, inr, Bool, true}
-use Rattle.std.specs.Prelude.{Option, Some, None, slice_get}
+-- A pushed edge, and a new state, keep the runs of all states and all kinds.
+use Rattle.std.proofs.Common.{◌≡◌, ◌≢◌, ℕ, zero, suc, ◌<◌, List, [], ◌∷◌, ◌++◌, length, drop, set, get_or, refl, ap, sym, ◌∙◌, subst, arith, inl, inr, Bool, true}
+use Rattle.std.specs.Prelude.{Option, Some, None}
 use Rattle.std.specs.List.{filter}
 use Rattle.std.proofs.lemmas.Bool.{eq-eqb}
 use Rattle.std.proofs.lemmas.Bool.Decides.{eqb_tells}
-use Rattle.std.proofs.lemmas.Option.{slice_get_within, get_or_from_slice_get, slice_get-get_or, slice_get_read}
-use Rattle.std.proofs.lemmas.List.{get_or-set_same, get_or-set_other, length-set, length-map}
+use Rattle.std.proofs.lemmas.List.{get_or-set_same, get_or-set_other, get_or_default, get_or_past, length-map}
 use Rattle.std.proofs.Math.Seq.{map-set_same}
 use Rattle.lalrpop_nfa.specs.declared.edge.Edge.{Edge}
 use Rattle.lalrpop_nfa.specs.declared.edge.State.{State}
+use Rattle.lalrpop_nfa.specs.declared.edge.StateKind.{StateKind}
+use Rattle.lalrpop_nfa.specs.declared.edge.StateKind.TheVariants.{Neither}
 use Rattle.lalrpop_nfa.specs.Lists.{Lists}
 use Rattle.lalrpop_nfa.specs.Firsts.{LabelKind, Noops, Tests, Others, SameListsBut, index_of, with_index}
 use Rattle.lalrpop_nfa.specs.Internal.FirstSet.{first_set}
 use Rattle.lalrpop_nfa.specs.Graph.{Graph}
+use Rattle.lalrpop_nfa.specs.Compiled.{edges_from}
+use Rattle.lalrpop_nfa.specs.Internal.Fragment.{no_edges}
 use Rattle.lalrpop_nfa.specs.Contiguous.{AreContiguous, kinds_of}
-use Rattle.lalrpop_nfa.specs.Internal.Adjacent.{AllContiguous, IsOpen}
+use Rattle.lalrpop_nfa.specs.Internal.Adjacent.{edgeless, state_at, AllContiguous, IsOpen}
 use Rattle.lalrpop_nfa.specs.Walk.{leaves, walk, IsContiguous}
 use Rattle.lalrpop_nfa.proofs.WalkLemmas.{IsContiguous-other, IsContiguous-first, IsContiguous-next, not_nil, filter_last_this}
 
@@ -73,34 +76,62 @@ module _ {L : Type 0} (kind : LabelKind) (list : Lists → List (Edge L)) (with_
     (other_lists_kept : (e : Lists) (es : List (Edge L)) → SameListsBut kind e (with_list e es))
     (run_in : (e : Lists) (s : State) (q : ℕ) → AreContiguous kind e s q → IsContiguous q (list e) (index_of kind s))
     (run_out : (e : Lists) (s : State) (q : ℕ) → IsContiguous q (list e) (index_of kind s) → AreContiguous kind e s q)
-    (states : List State) (e : Lists) (from : ℕ) (f : Edge L) (s : State) (n : ℕ)
-    (here : slice_get states from ≡ Some s) (long : n ≡ length (list e)) (same : f.from ≡ from) where
-  pub AllContiguous-pushed : IsOpen from (list e) → AllContiguous states e → (t : State) → t ≡ with_index kind s (first_set (index_of kind s) n) → (es : List (Edge L)) → es ≡ list e ++ f ∷ [] → AllContiguous (set states from t) (with_list e es)
-  AllContiguous-pushed free old t is es more k q u found =
-      elim (eqb_tells q from) [ inl y ↦ first_case y.1 | inr y ↦ other_case y.1 ]
+    (states : List State) (e : Lists) (from : ℕ) (f : Edge L) (s t : State) (n : ℕ)
+    (inside : from < length states) (here : s ≡ state_at states from) (is : t ≡ with_index kind s (first_set (index_of kind s) n)) where
+  pub AllContiguous-pushed : n ≡ length (list e) → f.from ≡ from → IsOpen from (list e) → AllContiguous states e → (es : List (Edge L)) → es ≡ list e ++ f ∷ [] → AllContiguous (set states from t) (with_list e es)
+  AllContiguous-pushed long same free old es more k q =
+      elim (eqb_tells q from) [ inl y ↦ rw y.1 first_case | inr y ↦ other_case y.1 ]
     where
-      inside : from < length states
-      inside = slice_get_within states from s here
+      first_case : AreContiguous k (with_list e es) (state_at (set states from t) from) from
+      first_case =
+          let was = λ (j : LabelKind). subst (λ v. AreContiguous j e v from) (sym here) (old j from) in
+          let run = IsContiguous-open from (list e) f n (index_of kind s) long same free (run_in e s from (was kind)) in
+          let done = run_out (with_list e es) t from (rw (list_written e es, more, is, index_written kind s (first_set (index_of kind s) n)) run) in
+          let kept : SameFirstsBut kind s t = rw is (SameFirstsBut-written kind s (first_set (index_of kind s) n)) in
+          rw (get_or-set_same states from t (edgeless Neither) inside) (AreContiguous-kept kind k e (with_list e es) s t from (other_lists_kept e es) kept done (was k))
 
-      first_case : q ≡ from → AreContiguous k (with_list e es) u q
-      first_case at =
-          let now : u ≡ with_index kind s (first_set (index_of kind s) n) = sym (get_or_from_slice_get (set states from t) q u t found) ∙ (ap (λ i. get_or (set states from t) i t) at ∙ (get_or-set_same states from t t inside ∙ is)) in
-          let run = IsContiguous-open from (list e) f n (index_of kind s) long same free (run_in e s from (old kind from s here)) in
-          let done : AreContiguous kind (with_list e es) (with_index kind s (first_set (index_of kind s) n)) from = run_out (with_list e es) (with_index kind s (first_set (index_of kind s) n)) from (rw (list_written e es, more, index_written kind s (first_set (index_of kind s) n)) run) in
-          let goal : AreContiguous k (with_list e es) (with_index kind s (first_set (index_of kind s) n)) from = AreContiguous-kept kind k e (with_list e es) s (with_index kind s (first_set (index_of kind s) n)) from (other_lists_kept e es) (SameFirstsBut-written kind s (first_set (index_of kind s) n)) done (old k from s here) in
-          subst (λ v. AreContiguous k (with_list e es) v q) (sym now) (subst (λ i. AreContiguous k (with_list e es) (with_index kind s (first_set (index_of kind s) n)) i) (sym at) goal)
-
-      other_case : q ≢ from → AreContiguous k (with_list e es) u q
+      other_case : q ≢ from → AreContiguous k (with_list e es) (state_at (set states from t) q) q
       other_case ne =
-          let there : q < length states = let w = slice_get_within (set states from t) q u found in omega (arith, w, length-set states from t) in
-          let was : slice_get states q ≡ Some u = slice_get-get_or states q u there ∙ ap (λ v. Some v) (sym (get_or-set_other states from q t u ne) ∙ get_or_from_slice_get (set states from t) q u u found) in
-          let run = IsContiguous-other q (list e) f (index_of kind u) (λ h. ne (sym h ∙ same)) (run_in e u q (old kind q u was)) in
-          AreContiguous-kept kind k e (with_list e es) u u q (other_lists_kept e es) (SameFirstsBut-self kind u) (run_out (with_list e es) u q (rw (list_written e es, more) run)) (old k q u was)
+          let u = state_at states q in
+          let run = IsContiguous-other q (list e) f (index_of kind u) (λ h. ne (sym h ∙ same)) (run_in e u q (old kind q)) in
+          rw (get_or-set_other states from q t (edgeless Neither) ne) (AreContiguous-kept kind k e (with_list e es) u u q (other_lists_kept e es) (SameFirstsBut-self kind u) (run_out (with_list e es) u q (rw (list_written e es, more) run)) (old k q))
 
-  pub kinds-pushed : (t : State) → t ≡ with_index kind s (first_set (index_of kind s) n) → kinds_of (set states from t) ≡ kinds_of states
-  kinds-pushed t is = map-set_same (λ v. v.kind) states from t t (ap (λ v. v.kind) is ∙ (kind_kept kind s (first_set (index_of kind s) n) ∙ ap (λ v. v.kind) (sym (get_or_from_slice_get states from s t here))))
+pub kinds-pushed : (kind : LabelKind) (states : List State) (from : ℕ) (s t : State) (i : Option ℕ) → s ≡ state_at states from → t ≡ with_index kind s i → kinds_of (set states from t) ≡ kinds_of states
+kinds-pushed kind states from s t i here is = map-set_same (λ v. v.kind) states from t (edgeless Neither) (ap (λ v. v.kind) is ∙ (kind_kept kind s i ∙ ap (λ v. v.kind) here))
 
--- a place below the number of kinds is that of a state
-pub state_here : (states : List State) (q from : ℕ) (g : Graph) (s : State) (e : Lists) → record { kinds = kinds_of states; edges = e } ≡ g → q ≡ from → from < length g.kinds → s ≡ get_or states q s → slice_get states q ≡ Some s
-state_here states q from g s e shown same below read =
-    slice_get_read states (length states) q s refl (let h = length-map states (λ (s : State). s.kind) in let v = ap (λ (n : Graph). length n.kinds) shown in omega arith) read
+-- a number below that of the kinds is that of a state
+module _ (states : List State) (q from : ℕ) (g : Graph) (e : Lists) (shown : record { kinds = kinds_of states; edges = e } ≡ g) (same : q ≡ from) (below : from < length g.kinds) where
+  pub state_inside : q < length states
+  state_inside = let h = length-map states (λ (s : State). s.kind) in let v = ap (λ (n : Graph). length n.kinds) shown in omega arith
+
+  pub state_here : (s : State) → s ≡ get_or states q s → s ≡ state_at states q
+  state_here s read = read ∙ get_or_default states q s (edgeless Neither) state_inside
+
+-- ---- a new state
+
+edgeless_index : (k : LabelKind) (kind : StateKind) → index_of k (edgeless kind) ≡ None
+edgeless_index Noops kind = refl
+edgeless_index Tests kind = refl
+edgeless_index Others kind = refl
+
+-- with a further state that no edge leaves, each index is as it was
+indices_kept : (k : LabelKind) (kind : StateKind) (states : List State) (q : ℕ) → index_of k (state_at (states ++ edgeless kind ∷ []) q) ≡ index_of k (state_at states q)
+indices_kept k kind [] zero = edgeless_index k kind ∙ sym (edgeless_index k Neither)
+indices_kept k kind [] (suc q) = refl
+indices_kept k kind (x ∷ xs) zero = refl
+indices_kept k kind (x ∷ xs) (suc q) = indices_kept k kind xs q
+
+AreContiguous-index : (k : LabelKind) (e : Lists) (s t : State) (q : ℕ) → index_of k t ≡ index_of k s → AreContiguous k e s q → AreContiguous k e t q
+AreContiguous-index Noops e s t q h r = rw h r
+AreContiguous-index Tests e s t q h r = rw h r
+AreContiguous-index Others e s t q h r = rw h r
+
+pub AllContiguous-fresh : (states : List State) (e : Lists) (kind : StateKind) → AllContiguous states e → AllContiguous (states ++ edgeless kind ∷ []) e
+AllContiguous-fresh states e kind old k q = AreContiguous-index k e (state_at states q) (state_at (states ++ edgeless kind ∷ []) q) q (indices_kept k kind states q) (old k q)
+
+-- no edge leaves the number of the state that is added next
+pub edges_past : (states : List State) (e : Lists) (q : ℕ) → q ≡ length states → AllContiguous states e → edges_from q e ≡ no_edges
+edges_past states e q is all =
+    let past : state_at states q ≡ edgeless Neither = get_or_past states q (edgeless Neither) (omega arith) in
+    let run = λ (k : LabelKind). subst (λ s. AreContiguous k e s q) past (all k q) in
+    rw ((run Noops).all, (run Tests).all, (run Others).all) refl

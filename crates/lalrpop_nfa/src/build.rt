@@ -7,11 +7,12 @@ ghost use Rattle.lalrpop_hir.specs.Counts.{AreOrdered};
 ghost use Rattle.lalrpop_hir.specs.Level.{class_of};
 ghost use Rattle.lalrpop_nfa.specs.Internal.Added.{with_edges, with_kind};
 ghost use Rattle.lalrpop_nfa.specs.Walk.{leaves};
+ghost use Rattle.lalrpop_nfa.specs.Compiled.{edges_from};
 ghost use Rattle.lalrpop_nfa.specs.Fault.{fault, greedy_fault, first_fault, last_fault};
 ghost use Rattle.lalrpop_nfa.specs.Internal.Valid.{AreCodeValues, IsValidClass, IsValidRepeated, AreValid, IsValid};
 ghost use Rattle.lalrpop_nfa.specs.Path.{noop};
 ghost use Rattle.lalrpop_nfa.specs.Internal.Fragment as made;
-ghost use Rattle.lalrpop_nfa.specs.Internal.Extends.{Extends, LeavesStates, IsCompilable};
+ghost use Rattle.lalrpop_nfa.specs.Internal.Extends.{Extends, IsCompilable};
 
 use super::{
     ACCEPT, Edges, Nfa, NfaConstructionError, NfaStateIndex, Noop, Other, REJECT, START, State,
@@ -21,12 +22,11 @@ use lalrpop_hir::{Class, Hir, HirKind, Repetition};
 use std::alloc::{AllocError, Global};
 
 impl Nfa {
-    // Adds a state with no edge.
+    // Adds a state, which no edge leaves.
     fn new_state(&mut self, kind: StateKind) -> Result<NfaStateIndex, AllocError>
-        requires { LeavesStates self.old }
         ensures number { IfOk result (λ q. q ≡ length self.old.kinds) }
         ensures added { OnOk result (self.new ≡ with_kind self.old kind) }
-        ensures below { OnOk result (LeavesStates self.new) }
+        ensures bare { IfOk result (λ q. edges_from q self.new.edges ≡ made.no_edges) }
     {
         let index = self.states.len();
         self.states.push(State {
@@ -62,7 +62,6 @@ impl Nfa {
     // The states ACCEPT, REJECT and START, with the edges of the first two.
     pub(super) fn new(alloc: Global) -> Result<Nfa, AllocError>
         ensures fresh { IfOk result (λ nfa. nfa ≡ made.fresh_graph) }
-        ensures below { IfOk result LeavesStates }
     {
         let mut nfa = Nfa {
             states: Vec::new(alloc),
@@ -90,7 +89,6 @@ impl Nfa {
         c: char,
         target: NfaStateIndex,
     ) -> Result<NfaStateIndex, AllocError>
-        requires { LeavesStates self.old }
         ensures { IfOk result (Extends (made.character_expr c) target self.old self.new) }
     {
         let state = self.new_state(StateKind::Neither)?;
@@ -107,7 +105,6 @@ impl Nfa {
         text: &str,
         target: NfaStateIndex,
     ) -> Result<NfaStateIndex, AllocError>
-        requires { LeavesStates self.old }
         ensures extended { IfOk result
             (Extends (made.literal_expr (chars text.now)) target self.old self.new) }
         ensures valid { OnOk result (AreCodeValues (chars text.now)) }
@@ -129,7 +126,6 @@ impl Nfa {
         class: &Class,
         target: NfaStateIndex,
     ) -> Result<NfaStateIndex, AllocError>
-        requires { LeavesStates self.old }
         ensures extended { IfOk result
             (Extends (made.class_construction (class_of class.now)) target self.old self.new) }
         ensures valid { OnOk result (IsValidClass (class_of class.now)) }
@@ -158,7 +154,6 @@ impl Nfa {
         hir: &Hir,
         target: NfaStateIndex,
     ) -> Result<NfaStateIndex, NfaConstructionError>
-        requires { LeavesStates self.old }
         ensures extended { IfOk result
             (Extends (made.fragment_of hir.now) target self.old self.new) }
         ensures no_fault { OnOk result (fault hir.now ≡ None) }
@@ -194,7 +189,6 @@ impl Nfa {
         repetition: &Repetition,
         target: NfaStateIndex,
     ) -> Result<NfaStateIndex, NfaConstructionError>
-        requires { LeavesStates self.old }
         ensures extended { IfOk result
             (Extends
             (made.repeat_expr
@@ -238,7 +232,6 @@ impl Nfa {
         sub: &Hir,
         target: NfaStateIndex,
     ) -> Result<(NfaStateIndex, NfaStateIndex), NfaConstructionError>
-        requires { LeavesStates self.old }
         ensures any { IfOk result (λ p.
             Extends (made.star_expr (made.fragment_of sub.now)) target self.old self.new p.0) }
         ensures some { IfOk result (λ p.
@@ -263,7 +256,6 @@ impl Nfa {
         count: u32,
         target: NfaStateIndex,
     ) -> Result<NfaStateIndex, NfaConstructionError>
-        requires { LeavesStates self.old }
         ensures extended { IfOk result
             (Extends (made.copies (made.fragment_of sub.now) count) target self.old self.new) }
         ensures compilable { OnOk result ((count ≡ 0) ⊎ IsCompilable sub.now) }
@@ -285,7 +277,6 @@ impl Nfa {
         count: u32,
         target: NfaStateIndex,
     ) -> Result<NfaStateIndex, NfaConstructionError>
-        requires { LeavesStates self.old }
         ensures extended { IfOk result
             (Extends
             (made.optional_copies (made.fragment_of sub.now) count) target self.old self.new) }
@@ -311,7 +302,6 @@ impl Nfa {
         sub: &Hir,
         target: NfaStateIndex,
     ) -> Result<NfaStateIndex, NfaConstructionError>
-        requires { LeavesStates self.old }
         ensures extended { IfOk result
             (Extends (made.optional_expr (made.fragment_of sub.now)) target self.old self.new) }
         ensures compilable { OnOk result (IsCompilable sub.now) }
@@ -333,7 +323,6 @@ impl Nfa {
         subs: &[Hir],
         target: NfaStateIndex,
     ) -> Result<NfaStateIndex, NfaConstructionError>
-        requires { LeavesStates self.old }
         ensures extended { IfOk result
             (Extends (made.concat_expr (trees subs.now)) target self.old self.new) }
         ensures no_fault { OnOk result (last_fault (trees subs.now) ≡ None) }
@@ -359,7 +348,6 @@ impl Nfa {
         subs: &[Hir],
         target: NfaStateIndex,
     ) -> Result<NfaStateIndex, NfaConstructionError>
-        requires { LeavesStates self.old }
         ensures extended { IfOk result
             (Extends
             (made.alternation_expr (made.branches (trees subs.now))) target self.old self.new) }

@@ -1,16 +1,27 @@
 -- Edges of one state stand side by side: in every `Nfa`, and where a further one is pushed.
-use Rattle.std.specs.Prelude.{◌≡◌, ℕ, List, [], ◌∷◌, ◌++◌, ◌⊎◌, Some, slice_get}
+use Rattle.std.specs.Prelude.{◌≡◌, ℕ, List, [], ◌∷◌, ◌++◌, ◌⊎◌, None, slice_index_or}
 use Rattle.std.specs.List.{filter}
 use Rattle.lalrpop_nfa.specs.declared.edge.Edge.{Edge}
 use Rattle.lalrpop_nfa.specs.declared.edge.State.{State}
+use Rattle.lalrpop_nfa.specs.declared.edge.StateKind.{StateKind}
+use Rattle.lalrpop_nfa.specs.declared.edge.StateKind.TheVariants.{Neither}
 use Rattle.lalrpop_nfa.specs.Lists.{Lists}
 use Rattle.lalrpop_nfa.specs.Firsts.{LabelKind}
 use Rattle.lalrpop_nfa.specs.Walk.{leaves}
 use Rattle.lalrpop_nfa.specs.Contiguous.{AreContiguous}
 
--- the edges of each kind that leave each state stand side by side from the state's index on
+-- a state that no edge leaves
+abbrev pub edgeless : StateKind → State
+edgeless kind = record { kind = kind; first_noop_edge = None; first_test_edge = None; first_other_edge = None }
+
+-- the state of this number: past the last, one that no edge leaves
+abbrev pub state_at : List State → ℕ → State
+state_at states q = slice_index_or states q (edgeless Neither)
+
+-- the edges of each kind that leave each state stand side by side from the state's index on, and none leaves a number
+-- past the last state's
 abbrev pub AllContiguous : List State → Lists → Type 0
-AllContiguous states e = (k : LabelKind) (q : ℕ) (s : State) → slice_get states q ≡ Some s → AreContiguous k e s q
+AllContiguous states e = (k : LabelKind) (q : ℕ) → AreContiguous k e (state_at states q) q
 
 -- a further edge of this state can stand beside the others: there is none, or one of them is last
 abbrev pub IsOpen : {L : Type 0} → ℕ → List (Edge L) → Type 0

@@ -1,23 +1,12 @@
 -- How a graph is extended while a tree is compiled.
 use Rattle.std.specs.Prelude.{◌≡◌, ℕ, ◌<◌, List, ◌++◌, length, None}
-use Rattle.std.specs.List.{Contains, filter}
+use Rattle.std.specs.List.{filter}
 use Rattle.lalrpop_hir.specs.Tree.{Tree, Trees}
-use Rattle.lalrpop_nfa.specs.declared.edge.Edge.{Edge}
 use Rattle.lalrpop_nfa.specs.Graph.{Graph}
 use Rattle.lalrpop_nfa.specs.Walk.{leaves}
 use Rattle.lalrpop_nfa.specs.Internal.Fragment.{Construction, extended, Branches, branches, Fragment}
 use Rattle.lalrpop_nfa.specs.Fault.{fault}
 use Rattle.lalrpop_nfa.specs.Internal.Valid.{IsValid}
-
--- each of these edges leaves a state below n
-abbrev pub LeaveBelow : {L : Type 0} → ℕ → List (Edge L) → Type 0
-LeaveBelow {L} n es = (x : Edge L) → Contains es x → x.from < n
-
--- each edge leaves a state of the graph
-pub record LeavesStates (g : Graph) : Type 0 where
-  pub noops : LeaveBelow (length g.kinds) g.edges.noops
-  pub tests : LeaveBelow (length g.kinds) g.edges.tests
-  pub others : LeaveBelow (length g.kinds) g.edges.others
 
 -- the states of g have the same `Noop` edges in h
 abbrev pub KeepsNoops : Graph → Graph → Type 0
@@ -28,7 +17,6 @@ pub record Extends (construction : Construction) (target : ℕ) (g h : Graph) (e
   pub begins : entry ≡ (construction target (length g.kinds)).entry
   pub graph : h ≡ extended g (construction target (length g.kinds))
   pub kept : KeepsNoops g h
-  pub below : LeavesStates h
 
 -- the states and edges of branches, without a state before them
 abbrev pub beside : Branches → Fragment
@@ -39,7 +27,6 @@ pub record Branched (target : ℕ) (all others : Trees) (g h : Graph) (entries :
   pub begin : entries ++ (branches others target (length h.kinds)).entries ≡ (branches all target (length g.kinds)).entries
   pub graph : extended h (beside (branches others target (length h.kinds))) ≡ extended g (beside (branches all target (length g.kinds)))
   pub kept : KeepsNoops g h
-  pub below : LeavesStates h
 
 -- the tree can be compiled
 pub record IsCompilable (t : Tree) : Type 0 where

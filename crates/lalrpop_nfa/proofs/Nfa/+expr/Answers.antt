@@ -1,16 +1,17 @@
-use Rattle.std.proofs.Common.{inr, arith, ap, ◌≢◌, ◌-◌, ◌∷◌, refl}
+use Rattle.std.proofs.Common.{inr, arith, ap, ◌≢◌, ◌-◌, ◌∷◌}
 use Rattle.std.proofs.lemmas.Result.{err_from_is_err_and, IfOk-weaker}
 use Rattle.lalrpop_hir.specs.Tree.{trees}
 use Rattle.lalrpop_hir.specs.Internal.Depth.{depth}
 use Rattle.lalrpop_hir.specs.Internal.TreeFalls.{depth-le-greatest}
 use Rattle.lalrpop_nfa.specs.Internal.Fragment.{fragment_of, before, copies, optional_copies, star_expr, concat_expr}
 use Rattle.lalrpop_nfa.specs.Internal.Extends.{Extends}
+use Rattle.lalrpop_nfa.specs.Lists.{Lists}
 use Rattle.lalrpop_nfa.proofs.BuildLemmas.{noops_new, Extends-before, Extends-star_expr, Extends-plus_expr, Extends-optional_expr, Extends-alternation_expr, Extends-kinds, Extends-copies, Extends-optional_copies, below-last, below-front, fault-last, fault-front, moved, drop_past, first_fault-next, AreValid-next, Branched-more, repeat_more}
 use Rattle.lalrpop_nfa.proofs.Nfa.+expr.Goals as goal
 
 pub star_expr-push_noops-requires-clause-is_new : goal.star_expr-push_noops-requires-clause-is_new
 star_expr-push_noops-requires-clause-is_new t c = let o = c.in_ok-state.ensures in
-    noops_new c.args.self.now c.new_state.new.self c.expr.new.self c.in_ok-state.state o.number o.added c.requires c.in_ok-sub_entry.ensures.extended.kept
+    noops_new c.args.self.now c.new_state.new.self c.expr.new.self c.in_ok-state.state o.number o.added o.bare c.in_ok-sub_entry.ensures.extended.kept
 
 pub star_expr-returns-clause-any : goal.star_expr-returns-clause-any
 star_expr-returns-clause-any t c = let o = c.in_ok-state.ensures in
@@ -35,18 +36,17 @@ optional_copies-loop-preserved t c = let o = c.in_ok-entry.ensures in record {
 }
 
 pub optional_expr-push_noops-requires-clause-is_new : goal.optional_expr-push_noops-requires-clause-is_new
-optional_expr-push_noops-requires-clause-is_new t c = let o = c.in_ok-state.ensures in
-    noops_new c.expr.new.self c.new_state.new.self c.new_state.new.self c.in_ok-state.state o.number o.added c.in_ok-sub_entry.ensures.extended.below (λ s l. refl)
+optional_expr-push_noops-requires-clause-is_new t c = ap (λ (e : Lists). e.noops) c.in_ok-state.ensures.bare
 
 pub optional_expr-returns-clause-extended : goal.optional_expr-returns-clause-extended
 optional_expr-returns-clause-extended t c = let o = c.in_ok-state.ensures in
     Extends-optional_expr (fragment_of c.args.sub.now) c.args.target c.in_ok-state.state c.in_ok-sub_entry.sub_entry c.args.self.now c.expr.new.self c.new_state.new.self c.push_noops.new.self
-    c.in_ok-sub_entry.ensures.extended o.number o.added o.below c.in_ok-push_noops.ensures
+    c.in_ok-sub_entry.ensures.extended o.number o.added c.in_ok-push_noops.ensures
 
 pub concat_expr-expr-requires : goal.concat_expr-expr-requires
 concat_expr-expr-requires t c =
     let less = below-last _ _ _ c.in-Some.ensures.steps _ c.loop-part.invariant.below in
-    (omega (arith, less), c.loop-part.invariant.built.3.below)
+    omega (arith, less)
 
 pub concat_expr-returns-in_err-entry-clause-err : goal.concat_expr-returns-in_err-entry-clause-err
 concat_expr-returns-in_err-entry-clause-err t c =
@@ -74,7 +74,7 @@ concat_expr-loop-part-preserved t c =
 pub alternation_expr-expr-requires : goal.alternation_expr-expr-requires
 alternation_expr-expr-requires t c =
     let less = depth-le-greatest _ c.loop-sub.sub-index c.sub-item.result c.loop-sub-test.true in
-    (omega (arith, less, ap depth c.sub-item.is), c.loop-sub.invariant.built.below)
+    omega (arith, less, ap depth c.sub-item.is)
 
 pub alternation_expr-loop-sub-preserved : goal.alternation_expr-loop-sub-preserved
 alternation_expr-loop-sub-preserved t c =
@@ -90,7 +90,7 @@ alternation_expr-loop-sub-preserved t c =
 
 pub alternation_expr-push_noops-requires-clause-is_new : goal.alternation_expr-push_noops-requires-clause-is_new
 alternation_expr-push_noops-requires-clause-is_new t c = let o = c.in_ok-state.ensures in
-    noops_new c.args.self.now c.new_state.new.self c.loop-sub.self c.in_ok-state.state o.number o.added c.requires c.loop-sub.invariant.built.kept
+    noops_new c.args.self.now c.new_state.new.self c.loop-sub.self c.in_ok-state.state o.number o.added o.bare c.loop-sub.invariant.built.kept
 
 pub alternation_expr-returns-clause-extended : goal.alternation_expr-returns-clause-extended
 alternation_expr-returns-clause-extended t c =

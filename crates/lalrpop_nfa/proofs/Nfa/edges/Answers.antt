@@ -1,7 +1,8 @@
-use Rattle.std.proofs.Common.{ap, sym, ◌∙◌}
+use Rattle.std.proofs.Common.{ap, sym, subst, ◌∙◌}
 use Rattle.lalrpop_nfa.specs.Walk.{IsContiguous, leaves}
 use Rattle.std.specs.List.{filter}
 use Rattle.lalrpop_nfa.specs.Firsts.{index_of}
+use Rattle.lalrpop_nfa.specs.Contiguous.{AreContiguous}
 use Rattle.lalrpop_nfa.specs.Graph.{Graph}
 use Rattle.lalrpop_nfa.proofs.PushLemmas.{state_here}
 use Rattle.lalrpop_nfa.proofs.WalkLemmas.{IsContiguous-elsewhere}
@@ -10,10 +11,11 @@ use Rattle.lalrpop_nfa.proofs.Nfa.edges.Goals.{After-first}
 
 run_here : (g : _) (c : After-first g) → IsContiguous c.args.from c.as_slice.result.now c.first.result.now
 run_here g c = let o = g.L.EdgeLabel in let m = g.met.L.EdgeLabel in
-    let here = state_here c.self.inside.states.items c.from.inside.0 c.args.from c.args.self.now c.index.result.now c.self.inside.edges c.self.view_is c.from.view_is c.requires.is_state c.index.ensures in
-    IsContiguous-elsewhere c.from.inside.0 c.args.from (o.list c.self.inside.edges) c.as_slice.result.now (index_of o.kind c.index.result.now) c.first.result.now
-    c.from.view_is (sym (c.as_slice.ensures.value ∙ c.vec.ensures.value)) (sym c.first.ensures.value)
-    (m.run_in c.self.inside.edges c.index.result.now c.from.inside.0 (c.self.invariant o.kind c.from.inside.0 c.index.result.now here))
+    let i = c.self.inside in
+    let here = state_here i.states.items c.from.inside.0 c.args.from c.args.self.now i.edges c.self.view_is c.from.view_is c.requires.is_state c.index.result.now c.index.ensures in
+    let run = subst (λ s. AreContiguous o.kind i.edges s c.from.inside.0) (sym here) (c.self.invariant o.kind c.from.inside.0) in
+    IsContiguous-elsewhere c.from.inside.0 c.args.from (o.list i.edges) c.as_slice.result.now (index_of o.kind c.index.result.now) c.first.result.now
+    c.from.view_is (sym (c.as_slice.ensures.value ∙ c.vec.ensures.value)) (sym c.first.ensures.value) (m.run_in i.edges c.index.result.now c.from.inside.0 run)
 
 pub invariant_of-result : goal.invariant_of-result
 invariant_of-result g c = (run_here g (goal.at.invariant_of-result g c).After-first).at
