@@ -16,9 +16,9 @@ use Rattle.lalrpop_nfa.specs.Internal.FirstSet.{first_set}
 use Rattle.lalrpop_nfa.specs.Graph.{Graph}
 use Rattle.lalrpop_nfa.specs.Compiled.{edges_from}
 use Rattle.lalrpop_nfa.specs.Internal.Fragment.{no_edges}
-use Rattle.lalrpop_nfa.specs.Contiguous.{AreContiguous, kinds_of}
+use Rattle.lalrpop_nfa.specs.Contiguous.{walk, IsContiguous, AreContiguous, kinds_of}
 use Rattle.lalrpop_nfa.specs.Internal.Adjacent.{edgeless, state_at, AllContiguous, IsOpen}
-use Rattle.lalrpop_nfa.specs.Walk.{leaves, walk, IsContiguous}
+use Rattle.lalrpop_nfa.specs.Walk.{leaves}
 use Rattle.lalrpop_nfa.proofs.WalkLemmas.{IsContiguous-other, IsContiguous-first, IsContiguous-next, not_nil, filter_last_this}
 
 walk_taken : {X : Type 0} (p : X → Bool) (xs : List X) (x : X) (others : List X) → xs ≡ x ∷ others → p x ≡ true → walk p xs ≡ x ∷ walk p others

@@ -7,7 +7,8 @@ use Rattle.std.proofs.lemmas.List.Elements.{filter-append}
 use Rattle.std.proofs.lemmas.List.{drop-append-le, take-append-drop}
 use Rattle.std.proofs.Math.Seq.{drop-append_seam, drop-cons}
 use Rattle.lalrpop_nfa.specs.declared.edge.Edge.{Edge}
-use Rattle.lalrpop_nfa.specs.Walk.{leaves, walk, IsAt, IsContiguous}
+use Rattle.lalrpop_nfa.specs.Walk.{leaves}
+use Rattle.lalrpop_nfa.specs.Contiguous.{walk, IsAt, IsContiguous}
 
 module _ {X : Type 0} (p : X → Bool) where
   filter_last_other : (xs : List X) (e : X) → p e ≡ false → filter p (xs ++ e ∷ []) ≡ filter p xs

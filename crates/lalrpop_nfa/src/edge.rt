@@ -131,8 +131,7 @@ pub trait EdgeLabel: Sized {
     ghost use Rattle.lalrpop_nfa.specs.declared.edge.State.{State};
     ghost use Rattle.lalrpop_nfa.specs.Lists.{Lists};
     ghost use Rattle.lalrpop_nfa.specs.Firsts.{LabelKind, SameListsBut, index_of, with_index};
-    ghost use Rattle.lalrpop_nfa.specs.Walk.{IsContiguous};
-    ghost use Rattle.lalrpop_nfa.specs.Contiguous.{AreContiguous};
+    ghost use Rattle.lalrpop_nfa.specs.Contiguous.{IsContiguous, AreContiguous};
     ghost use Rattle.lalrpop_nfa.specs.Lending.{LendsList, LendsFirst};
 
     // Which of the three lists, and which of the three indices, are this label's.
@@ -305,7 +304,7 @@ pub struct EdgeIterator<'nfa, L: EdgeLabel> {
 impl<'nfa, L: EdgeLabel> Model for EdgeIterator<'nfa, L> {
     ghost use Rattle.std.specs.Prelude.{List};
     ghost use Rattle.lalrpop_nfa.specs.declared.edge.Edge.{Edge};
-    ghost use Rattle.lalrpop_nfa.specs.Walk.{walk_at, IsAt};
+    ghost use Rattle.lalrpop_nfa.specs.Contiguous.{walk_at, IsAt};
 
     ghost Value = { List (Edge L) };
 

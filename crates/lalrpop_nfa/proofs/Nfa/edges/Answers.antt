@@ -1,8 +1,8 @@
 use Rattle.std.proofs.Common.{ap, sym, subst, ◌∙◌}
-use Rattle.lalrpop_nfa.specs.Walk.{IsContiguous, leaves}
+use Rattle.lalrpop_nfa.specs.Walk.{leaves}
 use Rattle.std.specs.List.{filter}
 use Rattle.lalrpop_nfa.specs.Firsts.{index_of}
-use Rattle.lalrpop_nfa.specs.Contiguous.{AreContiguous}
+use Rattle.lalrpop_nfa.specs.Contiguous.{IsContiguous, AreContiguous}
 use Rattle.lalrpop_nfa.specs.Graph.{Graph}
 use Rattle.lalrpop_nfa.proofs.PushLemmas.{state_here}
 use Rattle.lalrpop_nfa.proofs.WalkLemmas.{IsContiguous-elsewhere}

@@ -1,6 +1,6 @@
 use Rattle.std.proofs.Common.{ℕ, ◌+◌, Option, ap, sym, ◌∙◌, subst}
 use Rattle.std.proofs.lemmas.Bool.{eqb-true}
-use Rattle.lalrpop_nfa.specs.Walk.{IsAt}
+use Rattle.lalrpop_nfa.specs.Contiguous.{IsAt}
 use Rattle.lalrpop_nfa.proofs.WalkLemmas.{IsAt-read}
 use Rattle.lalrpop_nfa.proofs.edge.EdgeIteratorIterator.next.Goals as goal
 use Rattle.lalrpop_nfa.proofs.edge.EdgeIteratorIterator.next.Goals.{then-next_index-self+then-eq, else-next_index-self}
