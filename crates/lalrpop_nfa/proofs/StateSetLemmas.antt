@@ -1,6 +1,5 @@
 -- The lists of states and marks that the run of one automaton grows.
 use Rattle.std.proofs.Common.{◌≡◌, ℕ, ◌+◌, ◌<◌, ◌≤◌, ◌⊎◌, ⊎_elim, inl, inr, List, [], ◌∷◌, ◌++◌, length, get_or, set, cond, Bool, true, false, refl, sym, ap, subst, ◌∙◌, arith, append_assoc, length-append, get_or-set_other, get_or-set_same}
-use Rattle.std.specs.Prelude.{slice_get, Some}
 use Rattle.std.specs.List.{Contains, count_by, sum_by, filter}
 use Rattle.std.proofs.lemmas.Bool.{cases_eq, cases_lt, eq-eqb, eqb-true}
 use Rattle.std.proofs.lemmas.List.Elements.{Contains-append_left, Contains-push, Contains-push_cases, Contains-get_or}
@@ -14,8 +13,7 @@ use Rattle.lalrpop_nfa.specs.Lists.{Lists}
 use Rattle.lalrpop_nfa.specs.Graph.{Graph}
 use Rattle.lalrpop_nfa.specs.Path.{Path, Tests, Reads, here, epsilon, read, otherwise, noop, test, other, IsUntested}
 use Rattle.lalrpop_nfa.specs.Compiled.{IsCompiled, start_state, accept_state, reject_state}
-use Rattle.lalrpop_nfa.specs.Internal.StateSets.{StateList, only, IsStateSet, IsGrown, IsEpsilonEdge, IsClosed, IsClosure, IsMove}
-use Rattle.lalrpop_nfa.specs.declared.edge.StateKind.TheVariants.{Accept, Reject}
+use Rattle.lalrpop_nfa.specs.Internal.StateSets.{StateList, only, IsStateSet, IsGrown, IsEpsilonEdge, IsClosed, IsClosure, IsMove, Accepts, Rejects}
 use Rattle.lalrpop_nfa.specs.declared.edge.Edge.{Edge}
 use Rattle.lalrpop_nfa.proofs.PathLemmas.{path_join}
 use Rattle.lalrpop_nfa.proofs.Contained.{contains_none, contains_first, contains_later, contains_cases, contains_only, contains_at, filter_in, filter_out}
@@ -408,16 +406,12 @@ silent_end g last states ends closed p w (epsilon a b u h s) e k = silent_end g 
 silent_end g last states ends closed p w (read a b u r d h cov s) e k = absurd cc
 silent_end g last states ends closed p w (otherwise a b u d h un s) e k = absurd cc
 
--- some state listed is an accepting one
-abbrev pub Accepts : Graph → List ℕ → Type 0
-Accepts g states = (q : ℕ) × (Contains states q × (slice_get g.kinds q ≡ Some Accept))
-
-pub matched_if : (t : Tree) (g : Graph) (w : List ℕ) (set : StateList) → IsCompiled t g → IsAfterWord g w set → Accepts g set.states → Matches t w
+pub matched_if : (t : Tree) (g : Graph) (w : List ℕ) (set : StateList) → IsCompiled t g → IsAfterWord g w set → Accepts (record { graph = g; states = set }) → Matches t w
 matched_if t g w set h a s =
     let at : s.0 ≡ accept_state = (h.accepting s.0).0 s.1.1 in
     (h.reads w).0 (subst (λ q. Path g.edges q start_state w) at (a.sound s.0 s.1.0))
 
-pub only_if_matched : (t : Tree) (g : Graph) (w : List ℕ) (set : StateList) → IsCompiled t g → IsAfterWord g w set → Matches t w → Accepts g set.states
+pub only_if_matched : (t : Tree) (g : Graph) (w : List ℕ) (set : StateList) → IsCompiled t g → IsAfterWord g w set → Matches t w → Accepts (record { graph = g; states = set })
 only_if_matched t g w set h a m =
     let ends = has_ends t g h in
     let path : Path g.edges accept_state start_state (w ++ []) = rw append-nil ((h.reads w).1 m) in
@@ -434,7 +428,7 @@ from_reject t g h p w (otherwise a b u d k un s) e = from_reject t g h b u s (h.
 
 -- where each listed state is REJECT, no longer word matches
 pub none_on : (t : Tree) (g : Graph) (w : List ℕ) (set : StateList) → IsCompiled t g → IsAfterWord g w set
-    → ((q : ℕ) → Contains set.states q → slice_get g.kinds q ≡ Some Reject) → (v : List ℕ) → ¬ Matches t (w ++ v)
+    → Rejects (record { graph = g; states = set }) → (v : List ℕ) → ¬ Matches t (w ++ v)
 none_on t g w set h a dead v m =
     let last = a.complete (has_ends t g h) accept_state v ((h.reads (w ++ v)).1 m) in
     from_reject t g h last.0 v last.1.1 ((h.rejecting last.0).0 (dead last.0 last.1.0))

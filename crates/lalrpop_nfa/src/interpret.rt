@@ -1,16 +1,14 @@
 //! The longest prefix of a text that one pattern matches, found by running its automaton.
 
-ghost use Rattle.std.specs.Prelude.{◌≡◌, ℕ, ◌+◌, ◌*◌, ◌<◌, ◌≤◌, ◌↔◌, length, slice_get, Some, IfSome, IfOk, OnOk, IsTrue};
-ghost use Rattle.std.specs.List.{Contains};
+ghost use Rattle.std.specs.Prelude.{◌≡◌, ◌+◌, ◌*◌, ◌<◌, ◌≤◌, ◌↔◌, length, IfSome, IfOk, OnOk, IsTrue};
 ghost use Rattle.std.specs.Option.{option_map};
 ghost use Rattle.std.specs.Str.{chars};
 ghost use Rattle.lalrpop_hir.specs.Tree.{Tree};
 ghost use Rattle.lalrpop_hir.specs.Language.{Matches};
 ghost use Rattle.lalrpop_nfa.specs.Compiled.{IsCompiled, start_state};
-ghost use Rattle.lalrpop_nfa.specs.Internal.StateSets.{only, IsGrown, IsEpsilonEdge, IsClosure, IsMove};
+ghost use Rattle.lalrpop_nfa.specs.Internal.StateSets.{only, IsGrown, IsEpsilonEdge, IsClosure, IsMove, Accepts, Rejects};
 ghost use Rattle.lalrpop_nfa.specs.Path.{Reads};
 ghost use Rattle.lalrpop_nfa.specs.Prefix.{IsPrefix, IsLongestOf};
-ghost use Rattle.lalrpop_nfa.specs.declared.edge.StateKind.TheVariants.{Accept, Reject};
 
 use super::state_set::StateSet;
 use super::{Nfa, NfaStateIndex, Noop, Other, START, Steps, Test};
@@ -130,8 +128,7 @@ impl<'nfa> Simulation<'nfa> {
 
     // Whether the pattern matches the prefix that leads here.
     fn accepts(&self) -> bool
-        ensures { IsTrue result ↔ ((q : ℕ)
-            × (Contains self.now.states.states q × (slice_get self.now.graph.kinds q ≡ Some Accept))) }
+        ensures { IsTrue result ↔ Accepts self.now }
     {
         for state in self.states.states() {
             if self.nfa.is_accepting_state(*state) {
@@ -143,8 +140,7 @@ impl<'nfa> Simulation<'nfa> {
 
     // Whether the pattern matches no continuation of the prefix that leads here.
     fn rejects(&self) -> bool
-        ensures { IsTrue result ↔ ((q : ℕ) → Contains self.now.states.states q
-            → slice_get self.now.graph.kinds q ≡ Some Reject) }
+        ensures { IsTrue result ↔ Rejects self.now }
     {
         for state in self.states.states() {
             if !self.nfa.is_rejecting_state(*state) {

@@ -1,9 +1,10 @@
 -- The states that a word leads to, as the run of one automaton lists and marks them.
-use Rattle.std.specs.Prelude.{◌≡◌, ℕ, ◌<◌, ◌⊎◌, ◌↔◌, Bool, true, false, List, [], ◌∷◌, ◌++◌, length, slice_index_or}
+use Rattle.std.specs.Prelude.{◌≡◌, ℕ, ◌<◌, ◌⊎◌, ◌↔◌, Bool, true, false, List, [], ◌∷◌, ◌++◌, length, slice_index_or, slice_get, Some}
 use Rattle.std.specs.List.{Contains, count_by}
 use Rattle.lalrpop_nfa.specs.Graph.{Graph}
 use Rattle.lalrpop_nfa.specs.Lists.{Lists}
 use Rattle.lalrpop_nfa.specs.Path.{Path, Reads, noop}
+use Rattle.lalrpop_nfa.specs.declared.edge.StateKind.TheVariants.{Accept, Reject}
 
 -- a set of states: the listed ones, and the number that each of them is below
 pub record StateList : Type 0 where
@@ -52,3 +53,11 @@ pub record IsMove (e : Lists) (c : ℕ) (given all : StateList) : Type 0 where
 pub record Visited : Type 0 where
   pub graph : Graph
   pub states : StateList
+
+-- some state listed is an accepting one
+abbrev pub Accepts : Visited → Type 0
+Accepts v = (q : ℕ) × (Contains v.states.states q × (slice_get v.graph.kinds q ≡ Some Accept))
+
+-- each state listed is a rejecting one
+abbrev pub Rejects : Visited → Type 0
+Rejects v = (q : ℕ) → Contains v.states.states q → slice_get v.graph.kinds q ≡ Some Reject
