@@ -40,9 +40,6 @@ pub listed_within : (states : List ℕ) (marks : List Bool) → IsStateSet state
 listed_within states marks h q k = marked_within marks q ((h.marked q).0 k)
 
 -- a state read from the list, in the words of the call that gives it
-pub read_within : (states items : List ℕ) (n k p : ℕ) → ((q : ℕ) → Contains states q → q < n) → items ≡ states → k < length items → p ≡ get_or items k p → p < n
-read_within states items n k p within same l at = within p (rw (← same) (k, l, sym at))
-
 pub read_at : (states items : List ℕ) (k p : ℕ) → items ≡ states → k < length items → p ≡ get_or items k p → p ≡ get_or states k 0
 read_at states items k p same l at = at ∙ get_or_default items k p 0 l ∙ ap (λ xs. get_or xs k 0) same
 

@@ -60,7 +60,7 @@ impl StateSet {
     // The states, the one found first at the front.
     pub(super) fn states(&self) -> &[NfaStateIndex]
         ensures value { result.now ≡ self.now.states }
-        ensures within { (q : ℕ) → Contains self.now.states q → q < self.now.room }
+        ensures within { (q : ℕ) → Contains result.now q → q < self.now.room }
         ensures few { length self.now.states ≤ self.now.room }
     {
         self.states.as_slice()

@@ -1,7 +1,7 @@
 use Rattle.std.proofs.Common.{◌∙◌, sym, ap, subst, length, arith}
 use Rattle.lalrpop_nfa.specs.Path.{Reads}
 use Rattle.lalrpop_nfa.specs.Internal.StateSets.{StateList, Visited, IsGrown, IsClosure}
-use Rattle.lalrpop_nfa.proofs.StateSetLemmas.{read_within, read_at, moving_start, moving_more, moving_end}
+use Rattle.lalrpop_nfa.proofs.StateSetLemmas.{read_at, moving_start, moving_more, moving_end}
 use Rattle.lalrpop_nfa.proofs.interpret.Simulation.read.Goals as goal
 
 pub loop-state-init : goal.loop-state-init
@@ -13,9 +13,7 @@ loop-state-init c =
 
 pub add_read-requires : goal.add_read-requires
 add_read-requires c =
-    let s = c.states-state-items in
-    let own = c.self.inside.states in
-    let within = read_within own.states s.result.now own.room c.loop-state.state-index c.state-item.result s.ensures.within s.ensures.value c.loop-state-test.true c.state-item.is in
+    let within = c.states-state-items.ensures.within c.state-item.result (c.loop-state.state-index, c.loop-state-test.true, sym c.state-item.is) in
     omega (arith, c.self.invariant.0)
 
 pub loop-state-preserved : goal.loop-state-preserved

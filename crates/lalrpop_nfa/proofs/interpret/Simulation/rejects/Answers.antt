@@ -1,16 +1,13 @@
-use Rattle.std.proofs.Common.{◌≡◌, ◌∙◌, refl, length, ap, subst, arith}
+use Rattle.std.proofs.Common.{◌≡◌, ◌∙◌, refl, length, ap, subst, sym, arith}
 use Rattle.std.specs.Prelude.{slice_get, Some}
 use Rattle.lalrpop_nfa.specs.declared.edge.StateKind.TheVariants.{Reject}
 use Rattle.lalrpop_nfa.specs.Internal.StateSets.{Visited}
 use Rattle.lalrpop_nfa.proofs.Contained.{contains_at}
-use Rattle.lalrpop_nfa.proofs.StateSetLemmas.{read_within}
 use Rattle.lalrpop_nfa.proofs.interpret.Simulation.rejects.Goals as goal
 
 pub is_rejecting_state-requires : goal.is_rejecting_state-requires
 is_rejecting_state-requires c =
-    let s = c.states-state-items in
-    let own = c.self.inside.states in
-    let within = read_within own.states s.result.now own.room c.loop-state.state-index c.state-item.result s.ensures.within s.ensures.value c.loop-state-test.true c.state-item.is in
+    let within = c.states-state-items.ensures.within c.state-item.result (c.loop-state.state-index, c.loop-state-test.true, sym c.state-item.is) in
     omega (arith, c.self.invariant.0)
 
 pub returns : goal.returns

@@ -1,5 +1,5 @@
-use Rattle.std.proofs.Common.{◌<◌, ap, length, arith}
-use Rattle.lalrpop_nfa.proofs.StateSetLemmas.{read_within, read_at, closing_start, closing_more, closing_end}
+use Rattle.std.proofs.Common.{◌<◌, ap, sym, length, arith}
+use Rattle.lalrpop_nfa.proofs.StateSetLemmas.{read_at, closing_start, closing_more, closing_end}
 use Rattle.lalrpop_nfa.proofs.state_set.StateSet.close.Goals as goal
 
 pub loop-place-init : goal.loop-place-init
@@ -12,9 +12,8 @@ loop-place-init c = record {
 pub add_epsilon_targets-requires : goal.add_epsilon_targets-requires
 add_epsilon_targets-requires c =
     let s = c.states-in-loop-place in
-    let now = c.loop-place.self in
     let below : c.loop-place.place < length s.result.now = omega (arith, ap length s.ensures.value, ap length c.states.ensures.value) in
-    let within = read_within now.states s.result.now now.room c.loop-place.place c.index-states-place.result s.ensures.within s.ensures.value below c.index-states-place.is in
+    let within = s.ensures.within c.index-states-place.result (c.loop-place.place, below, sym c.index-states-place.is) in
     omega (arith, c.loop-place.invariant.closing.room)
 
 pub loop-place-preserved : goal.loop-place-preserved
