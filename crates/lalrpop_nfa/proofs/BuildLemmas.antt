@@ -16,13 +16,13 @@ use Rattle.lalrpop_nfa.specs.declared.edge.StateKind.TheVariants.{Neither}
 use Rattle.lalrpop_nfa.specs.Lists.{Lists}
 use Rattle.lalrpop_nfa.specs.Graph.{Graph}
 use Rattle.lalrpop_nfa.specs.Walk.{leaves}
-use Rattle.lalrpop_nfa.specs.Path.{noop, test, other}
+use Rattle.lalrpop_nfa.specs.Path.{noop, other}
 use Rattle.lalrpop_nfa.specs.Internal.Fragment.{Fragment, Construction, no_edges, fragment_of, joined, noops_to, before, one_of, optional_expr, star_expr, plus_expr, repeat_expr, copies, optional_copies, alternation_expr, branches, extended, fresh_graph, compiled}
 use Rattle.lalrpop_nfa.specs.Compiled.{accept_state, start_state, edges_from}
 use Rattle.lalrpop_nfa.specs.declared.error.NfaConstructionError.{NfaConstructionError}
 use Rattle.lalrpop_nfa.specs.Fault.{Fault, fault, first_fault, last_fault}
 use Rattle.lalrpop_nfa.specs.Internal.Valid.{IsValid, AreValid}
-use Rattle.lalrpop_nfa.specs.Internal.Added.{with_kind, with_edges}
+use Rattle.lalrpop_nfa.specs.Internal.Added.{with_kind, with_edges, with_noops, with_tests}
 use Rattle.lalrpop_nfa.specs.Internal.Extends.{KeepsNoops, Extends, Branched, beside}
 
 -- ---- lists of edges
@@ -77,9 +77,6 @@ take_past zero (x ∷ xs) h = absurd (omega arith)
 take_past (suc i) [] h = refl
 take_past (suc i) (x ∷ xs) h = ap (λ ys. x ∷ ys) (take_past i xs (omega arith))
 
-abbrev pub with_noops : Graph → ℕ → List ℕ → Graph
-with_noops g s qs = with_edges g (record g.edges { noops = g.edges.noops ++ map (noop s) qs })
-
 kept_noops : (k l : Graph) (s : ℕ) (qs : List ℕ) (q : ℕ) → s ≢ q → l ≡ with_noops k s qs → filter (leaves q) l.edges.noops ≡ filter (leaves q) k.edges.noops
 kept_noops k l s qs q ne is = rw is (filter-append (leaves q) k.edges.noops (map (noop s) qs) ∙ rw (filter_map_none (noop s) s (λ a. refl) q qs ne) (append-nil (filter (leaves q) k.edges.noops)))
 
@@ -124,7 +121,7 @@ module _ (x : Construction) (target s sub_entry : ℕ) (g h k l : Graph) where
       }
 
 pub Extends-one_of : (rs : List Range) (target s : ℕ) (g h i k : Graph) → s ≡ length g.kinds → h ≡ with_kind g Neither
-    → i ≡ with_edges h (record h.edges { tests = h.edges.tests ++ map (λ r. test s r target) rs }) → k ≡ with_edges i (record i.edges { others = i.edges.others ++ other s 1 ∷ [] }) → Extends (one_of rs) target g k s
+    → i ≡ with_tests h s rs target → k ≡ with_edges i (record i.edges { others = i.edges.others ++ other s 1 ∷ [] }) → Extends (one_of rs) target g k s
 Extends-one_of rs target s g h i k t u v w = record {
   begins = t;
   graph = rw (w, v, u, t) (simp append-nil);

@@ -1,18 +1,17 @@
 //! Compiling a pattern: each tree is compiled towards a target state, which is where its words end.
-ghost use Rattle.std.specs.Prelude.{◌≡◌, ◌≢◌, ◌<◌, ◌⊎◌, ◌++◌, [], Some, None, OnOk, IfOk, IfErr, length, map};
+ghost use Rattle.std.specs.Prelude.{◌≡◌, ◌≢◌, ◌<◌, ◌⊎◌, [], Some, None, OnOk, IfOk, IfErr, length};
 ghost use Rattle.std.specs.List.{filter};
 ghost use Rattle.std.specs.Str.{chars};
 ghost use Rattle.lalrpop_hir.specs.Tree.{trees};
 ghost use Rattle.lalrpop_hir.specs.Counts.{AreOrdered};
 ghost use Rattle.lalrpop_hir.specs.Level.{class_of};
-ghost use Rattle.lalrpop_nfa.specs.Internal.Added.{with_edges, with_kind};
+ghost use Rattle.lalrpop_nfa.specs.Internal.Added.{with_kind, with_noops};
 ghost use Rattle.lalrpop_nfa.specs.Walk.{leaves};
 ghost use Rattle.lalrpop_nfa.specs.Compiled.{edges_from};
 ghost use Rattle.lalrpop_nfa.specs.Fault.{fault, greedy_fault, first_fault, last_fault};
 ghost use Rattle.lalrpop_nfa.specs.Internal.Valid.{AreCodeValues, IsValidClass, IsValidRepeated, AreValid, IsValid};
-ghost use Rattle.lalrpop_nfa.specs.Path.{noop};
 ghost use Rattle.lalrpop_nfa.specs.Internal.Fragment as made;
-ghost use Rattle.lalrpop_nfa.specs.Internal.Extends.{Extends, IsCompilable};
+ghost use Rattle.lalrpop_nfa.specs.Internal.Extends.{Extends, IsCompilable, IsFaultOf};
 
 use super::{
     ACCEPT, Edges, Nfa, NfaConstructionError, NfaStateIndex, Noop, Other, REJECT, START, State,
@@ -46,12 +45,7 @@ impl Nfa {
     ) -> Result<(), AllocError>
         requires is_state { from < length self.old.kinds }
         requires is_new { filter (leaves from) self.old.edges.noops ≡ [] }
-        ensures { OnOk result (self.new
-            ≡ with_edges self.old
-            (record self.old.edges {
-              noops = self.old.edges.noops ++ map
-                  (noop from) targets.now;
-            })) }
+        ensures { OnOk result (self.new ≡ with_noops self.old from targets.now) }
     {
         for target in targets {
             self.push_edge(from, Noop, *target)?;
@@ -158,8 +152,7 @@ impl Nfa {
             (Extends (made.fragment_of hir.now) target self.old self.new) }
         ensures no_fault { OnOk result (fault hir.now ≡ None) }
         ensures valid { OnOk result (IsValid hir.now) }
-        ensures err { IfErr result (λ e. e ≢ NfaConstructionError.OutOfMemory
-            → fault hir.now ≡ Some e) }
+        ensures err { IfErr result (IsFaultOf (fault hir.now)) }
     {
         match hir.kind() {
             HirKind::Empty => Ok(target),
@@ -198,8 +191,8 @@ impl Nfa {
             ≡ None) }
         ensures valid { OnOk result (AreOrdered repetition.now.min repetition.now.max
             × IsValidRepeated repetition.now.max (IsValid repetition.now.sub)) }
-        ensures err { IfErr result (λ e. e ≢ NfaConstructionError.OutOfMemory
-            → greedy_fault repetition.now.max (fault repetition.now.sub) ≡ Some e) }
+        ensures err { IfErr result (IsFaultOf
+            (greedy_fault repetition.now.max (fault repetition.now.sub))) }
     {
         let sub = repetition.sub();
         let min = repetition.min();
@@ -237,8 +230,7 @@ impl Nfa {
         ensures some { IfOk result (λ p.
             Extends (made.plus_expr (made.fragment_of sub.now)) target self.old self.new p.1) }
         ensures compilable { OnOk result (IsCompilable sub.now) }
-        ensures err { IfErr result (λ e. e ≢ NfaConstructionError.OutOfMemory
-            → fault sub.now ≡ Some e) }
+        ensures err { IfErr result (IsFaultOf (fault sub.now)) }
     {
         let state = self.new_state(StateKind::Neither)?;
         let sub_entry = self.expr(sub, state)?;
@@ -305,8 +297,7 @@ impl Nfa {
         ensures extended { IfOk result
             (Extends (made.optional_expr (made.fragment_of sub.now)) target self.old self.new) }
         ensures compilable { OnOk result (IsCompilable sub.now) }
-        ensures err { IfErr result (λ e. e ≢ NfaConstructionError.OutOfMemory
-            → fault sub.now ≡ Some e) }
+        ensures err { IfErr result (IsFaultOf (fault sub.now)) }
     {
         let sub_entry = self.expr(sub, target)?;
         let state = self.new_state(StateKind::Neither)?;
@@ -327,8 +318,7 @@ impl Nfa {
             (Extends (made.concat_expr (trees subs.now)) target self.old self.new) }
         ensures no_fault { OnOk result (last_fault (trees subs.now) ≡ None) }
         ensures valid { OnOk result (AreValid (trees subs.now)) }
-        ensures err { IfErr result (λ e. e ≢ NfaConstructionError.OutOfMemory
-            → last_fault (trees subs.now) ≡ Some e) }
+        ensures err { IfErr result (IsFaultOf (last_fault (trees subs.now))) }
     {
         let mut entry = target;
         for part in subs.iter().rev() {
@@ -353,8 +343,7 @@ impl Nfa {
             (made.alternation_expr (made.branches (trees subs.now))) target self.old self.new) }
         ensures no_fault { OnOk result (first_fault (trees subs.now) ≡ None) }
         ensures valid { OnOk result (AreValid (trees subs.now)) }
-        ensures err { IfErr result (λ e. e ≢ NfaConstructionError.OutOfMemory
-            → first_fault (trees subs.now) ≡ Some e) }
+        ensures err { IfErr result (IsFaultOf (first_fault (trees subs.now))) }
     {
         let state = self.new_state(StateKind::Neither)?;
         let mut entries = Vec::new(*self.states.allocator());

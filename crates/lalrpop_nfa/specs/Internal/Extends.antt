@@ -1,12 +1,14 @@
 -- How a graph is extended while a tree is compiled.
-use Rattle.std.specs.Prelude.{◌≡◌, ℕ, ◌<◌, List, ◌++◌, length, None}
+use Rattle.std.specs.Prelude.{◌≡◌, ◌≢◌, ℕ, ◌<◌, List, ◌++◌, length, Some, None}
 use Rattle.std.specs.List.{filter}
 use Rattle.lalrpop_hir.specs.Tree.{Tree, Trees}
 use Rattle.lalrpop_nfa.specs.Graph.{Graph}
 use Rattle.lalrpop_nfa.specs.Walk.{leaves}
 use Rattle.lalrpop_nfa.specs.Internal.Fragment.{Construction, extended, Branches, branches, Fragment}
-use Rattle.lalrpop_nfa.specs.Fault.{fault}
+use Rattle.lalrpop_nfa.specs.Fault.{Fault, fault}
 use Rattle.lalrpop_nfa.specs.Internal.Valid.{IsValid}
+use Rattle.lalrpop_nfa.specs.declared.error.NfaConstructionError.{NfaConstructionError}
+use Rattle.lalrpop_nfa.specs.declared.error.NfaConstructionError.TheVariants.{OutOfMemory}
 
 -- the states of g have the same `Noop` edges in h
 abbrev pub KeepsNoops : Graph → Graph → Type 0
@@ -32,3 +34,7 @@ pub record Branched (target : ℕ) (all others : Trees) (g h : Graph) (entries :
 pub record IsCompilable (t : Tree) : Type 0 where
   pub no_fault : fault t ≡ None
   pub valid : IsValid t
+
+-- a call that fails with this error fails for want of memory, or for this fault
+abbrev pub IsFaultOf : Fault → NfaConstructionError → Type 0
+IsFaultOf f e = e ≢ OutOfMemory → f ≡ Some e
