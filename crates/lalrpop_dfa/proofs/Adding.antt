@@ -1,5 +1,5 @@
 -- What adding a set to the numbered ones does.
-use Rattle.std.proofs.Common.{◌≡◌, ℕ, zero, suc, ◌+◌, ◌<◌, ◌⊎◌, inl, inr, List, [], ◌∷◌, ◌++◌, length, drop, get_or, refl, ap, ap₂, sym, ◌∙◌, subst, arith, Bool, true, false, cond, append_assoc, add-one, drop-cons}
+use Rattle.std.proofs.Common.{◌≡◌, ℕ, suc, ◌+◌, ◌<◌, inl, inr, List, [], ◌∷◌, ◌++◌, length, drop, get_or, refl, ap, ap₂, sym, ◌∙◌, subst, arith, Bool, true, false, cond, append_assoc, add-one, drop-cons}
 use Rattle.std.specs.Prelude.{slice_get, Some}
 use Rattle.std.specs.BTreeMap.{BTreeMap, Updates}
 use Rattle.std.specs.List.{list_any}
@@ -13,10 +13,12 @@ use Rattle.std.proofs.lemmas.Option.{slice_get_within}
 use Rattle.lalrpop_nfa.specs.Graph.{Graph}
 use Rattle.lalrpop_dfa.specs.Items.{Item}
 use Rattle.lalrpop_kernels.specs.Kernels.{Kernels, IsNumberOf, added}
+use Rattle.lalrpop_kernels.proofs.NumberedLemmas.{pushed_cases, pushed_keeps, pushed_last}
 use Rattle.lalrpop_nfa.specs.Compiled.{start_state}
 use Rattle.lalrpop_dfa.specs.Internal.Subsets.{starts_from, no_graph, move}
 use Rattle.std.specs.Cmp.Lexicographic.{slice_cmp}
 use Rattle.std.specs.Ordering.{nat_cmp, ordering_then}
+use Rattle.std.proofs.lemmas.Bool.{cases_Bool}
 use Rattle.lalrpop_dfa.specs.Internal.Ascending.{item_cmp}
 use Rattle.lalrpop_dfa.specs.Internal.Transitions.{AreTransitions, transition_cmp, transitions_cmp}
 use Rattle.lalrpop_dfa.specs.declared.blocks.Transition.{Transition}
@@ -26,17 +28,11 @@ use Rattle.lalrpop_dfa.specs.Internal.LiveItems.{live_of}
 use Rattle.lalrpop_dfa.specs.Internal.Builder.{AddedTo, AreKnown, AreAutomata, AreItemsOf}
 use Rattle.lalrpop_dfa.proofs.Members.{Has, has_from}
 use Rattle.lalrpop_dfa.proofs.Targets.{compiled_at}
-use Rattle.lalrpop_dfa.proofs.Inserting.{bool_cases, then_equal, item_exact, nat_exact, lists_exact}
+use Rattle.lalrpop_dfa.proofs.Inserting.{then_equal, item_exact, nat_exact, lists_exact}
 use Rattle.lalrpop_dfa.proofs.TransitionMoves.{leads_move}
 
 pub set_exact : CmpEqualImpliesEq set_cmp
 set_exact x y e = lists_exact x y (then_equal (ordering_then (slice_cmp item_cmp (live_of x) (live_of y)) (rejects_cmp x y)) (slice_cmp item_cmp x y) e).1
-
-pub pushed_at : {X : Type 0} (xs : List X) (y : X) (q : ℕ) (x : X) → slice_get (xs ++ y ∷ []) q ≡ Some x → (slice_get xs q ≡ Some x) ⊎ ((q ≡ length xs) × (x ≡ y))
-pushed_at [] y zero x h = inr (refl, cc)
-pushed_at [] y (suc q) x h = cc
-pushed_at (z ∷ xs) y zero x h = inl h
-pushed_at (z ∷ xs) y (suc q) x h = elim (pushed_at xs y q x h) [ inl k ↦ inl k | inr k ↦ inr (ap (λ n. suc n) k.0, k.1) ]
 
 module _ (sets : List (List Item)) (set : List Item) where
   -- a set that is there passes the test
@@ -49,7 +45,7 @@ module _ (sets : List (List Item)) (set : List Item) where
       (rw (same, ← is) h.1, is)
   old_by false n sets2 e is h old =
       let same : set ≡ h.0 = set_exact set h.0 h.2 in
-      elim (pushed_at sets set n h.0 (rw is at h.1)) [
+      elim (pushed_cases sets set n h.0 (rw is at h.1)) [
         | inl was ↦ absurd (let t : list_any (λ q. is_eq (set_cmp set q)) sets ≡ true = there n (was ∙ ap (λ q. Some q) (sym same)) in let f : true ≡ false = sym t ∙ e in cc)
         | inr new ↦ absurd (old new.0)
       ]
@@ -92,23 +88,14 @@ first_added empty first s none is =
     (ap (λ (k : Kernels (List Item)). k.list) is ∙ ap (λ ks. added set_cmp ks s) list, ap (λ (k : Kernels (List Item)). k.place) is ∙ ap (λ (k : Kernels (List Item)). k.place) none)
 
 -- ---- numbers that are known
-pushed_stays : {X : Type 0} (xs : List X) (y : X) (q : ℕ) (x : X) → slice_get xs q ≡ Some x → slice_get (xs ++ y ∷ []) q ≡ Some x
-pushed_stays [] y q x h = cc
-pushed_stays (z ∷ xs) y zero x h = h
-pushed_stays (z ∷ xs) y (suc q) x h = pushed_stays xs y q x h
-
-pushed_end : {X : Type 0} (xs : List X) (y : X) → slice_get (xs ++ y ∷ []) (length xs) ≡ Some y
-pushed_end [] y = refl
-pushed_end (z ∷ xs) y = pushed_end xs y
-
-added_stays : (sets : List (List Item)) (origins : List (ℕ × ℕ)) (n v : ℕ) (t : List Item) (j : ℕ) (sets2 : List (List Item)) (origins2 : List (ℕ × ℕ)) → AddedTo sets origins n v t j sets2 origins2
+pub added_stays : (sets : List (List Item)) (origins : List (ℕ × ℕ)) (n v : ℕ) (t : List Item) (j : ℕ) (sets2 : List (List Item)) (origins2 : List (ℕ × ℕ)) → AddedTo sets origins n v t j sets2 origins2
     → (k : ℕ) (s : List Item) → slice_get sets k ≡ Some s → slice_get sets2 k ≡ Some s
 added_stays sets origins n v t j sets2 origins2 (inl (e, a, b)) k s h = rw a h
-added_stays sets origins n v t j sets2 origins2 (inr (none, e, a, b)) k s h = rw a (pushed_stays sets t k s h)
+added_stays sets origins n v t j sets2 origins2 (inr (none, e, a, b)) k s h = rw a (pushed_keeps sets t k s h)
 
-added_at : (sets : List (List Item)) (origins : List (ℕ × ℕ)) (n v : ℕ) (t : List Item) (j : ℕ) (sets2 : List (List Item)) (origins2 : List (ℕ × ℕ)) → AddedTo sets origins n v t j sets2 origins2 → slice_get sets2 j ≡ Some t
+pub added_at : (sets : List (List Item)) (origins : List (ℕ × ℕ)) (n v : ℕ) (t : List Item) (j : ℕ) (sets2 : List (List Item)) (origins2 : List (ℕ × ℕ)) → AddedTo sets origins n v t j sets2 origins2 → slice_get sets2 j ≡ Some t
 added_at sets origins n v t j sets2 origins2 (inl (e, a, b)) = rw a e
-added_at sets origins n v t j sets2 origins2 (inr (none, e, a, b)) = rw (a, e) (pushed_end sets t)
+added_at sets origins n v t j sets2 origins2 (inr (none, e, a, b)) = rw (a, e) (pushed_last sets t)
 
 lead_exact : (x y : Transition) → transition_cmp x y ≡ Equal → x ≡ y
 lead_exact x y e =
@@ -125,7 +112,7 @@ leads_exact (x ∷ xs) (y ∷ ys) e = let h = then_equal _ _ e in let a : x ≡ 
 
 pub known_more : (ns : List Graph) (s : List Item) (known known2 : BTreeMap Transitions ℕ) (sets : List (List Item)) (origins : List (ℕ × ℕ)) (n v : ℕ) (leads : Transitions) (j : ℕ) (sets2 : List (List Item)) (origins2 : List (ℕ × ℕ))
     → AreKnown ns s known sets → AreTransitions ns s v leads.list.items → AddedTo sets origins n v (move ns s v) j sets2 origins2 → Updates transitions_cmp known known2 leads (Some j) → AreKnown ns s known2 sets2
-known_more ns s known known2 sets origins n v leads j sets2 origins2 k these add u other i w h are = elim (bool_cases (is_eq (transitions_cmp leads other))) [
+known_more ns s known known2 sets origins n v leads j sets2 origins2 k these add u other i w h are = elim (cases_Bool (is_eq (transitions_cmp leads other))) [
   | inl same ↦
       (let e : leads.list.items ≡ other.list.items = leads_exact leads.list.items other.list.items ((Equal-is (transitions_cmp leads other)).0 same) in
       let found : Some j ≡ Some i = sym (u.0 other ∙ rw same refl) ∙ h in

@@ -22,9 +22,9 @@ use Rattle.lalrpop_dfa.specs.Internal.Built.{IsStrongestIn, IsKindOf, IsTied}
 use Rattle.lalrpop_dfa.specs.declared.Kind.TheVariants.{Accepts, Neither}
 use Rattle.lalrpop_dfa.specs.declared.best.Best.{Best}
 use Rattle.lalrpop_nfa.specs.declared.edge.StateKind.TheVariants.{Accept}
+use Rattle.lalrpop_nfa.proofs.Contained.{contains_none}
 use Rattle.lalrpop_dfa.proofs.Members.{has_from, contains_from, has_filter, filter_has, has_map, map_has}
 use Rattle.lalrpop_dfa.proofs.Targets.{compiled_at}
-use Rattle.lalrpop_dfa.proofs.Inserting.{none_has}
 
 -- ---- one item
 told : (b : Bool) (n m : ℕ) → (IsTrue b → n ≡ m) → (n ≡ m → IsTrue b) → b ≡ (n == m)
@@ -209,7 +209,7 @@ accepts_two ps s b second k some =
     }
 
 pub accepts_none : (ps : List ℕ) (s : List Item) → accepts s ≡ [] → is_dead s ≡ false → IsKindOf ps s Neither
-accepts_none ps s none live = (live, λ i h. none_has i (rw none at (accepts_has s i h)))
+accepts_none ps s none live = (live, λ i h. contains_none i (rw none at (accepts_has s i h)))
 
 -- ---- what a loop over the items reads
 pub read_member : (items s : List Item) (k : ℕ) (x : Item) → items ≡ s → k < length items → x ≡ get_or items k x → Contains s x

@@ -2,9 +2,10 @@
 use Rattle.std.proofs.Common.{◌≡◌, ℕ, ◌<◌, ◌≤◌, ◌⊎◌, inl, inr, ⊎_elim, List, [], ◌∷◌, ◌++◌, length, refl, sym, ap, ◌∙◌, arith, Bool, true, zero, suc}
 use Rattle.std.proofs.lemmas.Bool.{cases_order, cases_lt}
 use Rattle.lalrpop_hir.specs.Word.{Shortlex}
+use Rattle.lalrpop_hir.proofs.Words.{Shortlex-irreflexive, Shortlex-transitive}
 use Rattle.lalrpop_dfa.specs.Internal.BreadthFirst.{ShortlexAtMost}
 use Rattle.lalrpop_dfa.specs.Internal.BreadthFirst.{Automaton, after, DeadStays, nth, from_of, value_of, NotAfter, Covered, IsBreadthFirst, word_of, word, Settled, IsLeast}
-use Rattle.lalrpop_dfa.proofs.WordOrder.{less_irrefl, less_trans, less_push, less_last, less_longer, nil_less, at_most_push, at_most_less, less_at_most, from_the_end}
+use Rattle.lalrpop_dfa.proofs.WordOrder.{less_push, less_last, less_longer, nil_less, at_most_push, at_most_less, less_at_most, from_the_end}
 use Rattle.lalrpop_dfa.proofs.Origins.{fuel_enough, word_step}
 
 pub after_push : {S : Type 0} (m : Automaton S) (s : S) (w : List ℕ) (c : ℕ) → after m s (w ++ c ∷ []) ≡ m.move (after m s w) c
@@ -83,7 +84,7 @@ settle {S} m stays sets origins n h l = from_the_end (λ (w : List ℕ). Settled
     none below =
         ⊎_elim
         (λ (a : 0 < n). inr (0, a, h.first, inl refl))
-        (λ (a : n ≤ 0). absurd (less_irrefl [] (below 0 a h.some)))
+        (λ (a : n ≤ 0). absurd (Shortlex-irreflexive [] (below 0 a h.some)))
         (cases_lt 0 n)
 
     next : (u : List ℕ) (c : ℕ) (below : (k : ℕ) → n ≤ k → k < length sets → Shortlex (u ++ c ∷ []) (word origins k))
@@ -98,13 +99,13 @@ settle {S} m stays sets origins n h l = from_the_end (λ (w : List ℕ). Settled
         js ∙ ap (λ (s : S). m.move s c) is ∙ sym (after_push m m.start u c) in
         ⊎_elim
         (λ (a : j < n). inr (j, a, e, k))
-        (λ (a : n ≤ j). absurd (less_irrefl (word origins j) (at_most_less (word origins j) (u ++ c ∷ []) (word origins j) k (below j a jl))))
+        (λ (a : n ≤ j). absurd (Shortlex-irreflexive (word origins j) (at_most_less (word origins j) (u ++ c ∷ []) (word origins j) k (below j a jl))))
         (cases_lt j n)
 
     more : (u : List ℕ) (c : ℕ) → SettledUnder m sets origins n u → SettledUnder m sets origins n (u ++ c ∷ [])
     more u c before below =
         let now : Settled m sets origins n u =
-        before (λ (k : ℕ) (a : n ≤ k) (b : k < length sets). less_trans u (u ++ c ∷ []) (word origins k) (less_longer u c) (below k a b)) in
+        before (λ (k : ℕ) (a : n ≤ k) (b : k < length sets). Shortlex-transitive u (u ++ c ∷ []) (word origins k) (less_longer u c) (below k a b)) in
         ⊎_elim
         (λ (dead : m.dead (after m m.start u) ≡ true). inl (rw after_push (stays (after m m.start u) c dead)))
         (λ (found : (i : ℕ) × (i < n) × (nth m sets i ≡ after m m.start u) × ShortlexAtMost (word origins i) u).
@@ -120,7 +121,7 @@ settled_below m stays sets origins n h l w less =
     ⊎_elim
     (λ (e : n ≡ k). rw (← e) less)
     (⊎_elim
-    (λ (a2 : n < k). less_trans w (word origins n) (word origins k) less (words_ascend m sets origins n 0 h n k a2 b))
+    (λ (a2 : n < k). Shortlex-transitive w (word origins n) (word origins k) less (words_ascend m sets origins n 0 h n k a2 b))
     (λ (a2 : k < n). absurd (omega arith)))
     (cases_order n k))
 

@@ -6,7 +6,8 @@ use Rattle.std.proofs.lemmas.List.{take_more, take_all, length_push, map-append}
 use Rattle.std.proofs.Math.Pow.{pow_mono}
 use Rattle.std.proofs.lemmas.Option.{slice_get_cases, slice_get_within, slice_get-get_or, get_or_from_slice_get}
 use Rattle.lalrpop_hir.specs.Range.{Range, Covers}
-use Rattle.lalrpop_hir.specs.Tree.{Tree, size}
+use Rattle.lalrpop_hir.specs.Tree.{Tree}
+use Rattle.lalrpop_hir.specs.Size.{size}
 use Rattle.lalrpop_nfa.specs.Graph.{Graph}
 use Rattle.lalrpop_ranges.specs.Partition.{IsPartition}
 use Rattle.lalrpop_dfa.specs.Dfa.{Row, Recognizes, IsWellFormed}
@@ -25,7 +26,7 @@ use Rattle.lalrpop_dfa.proofs.BuiltTable.{built_stands}
 use Rattle.lalrpop_dfa.proofs.TiedClash.{tied_is_clash_after_rows}
 use Rattle.lalrpop_dfa.specs.Counts.{state_bound}
 use Rattle.lalrpop_dfa.proofs.StateCount.{states_bound, items_bound}
-use Rattle.lalrpop_dfa.proofs.Adding.{pushed_at}
+use Rattle.lalrpop_kernels.proofs.NumberedLemmas.{pushed_cases}
 
 pub added_from : (m : Automaton (List Item)) (sets : List (List Item)) (origins : List (ℕ × ℕ)) (n v : ℕ) (t : List Item) (j : ℕ) (sets2 : List (List Item)) (origins2 : List (ℕ × ℕ))
     → AddedTo sets origins n v t j sets2 origins2 → Added m sets origins n v t j sets2 origins2
@@ -54,6 +55,13 @@ pub record IsEdging (ns : List Graph) (sets0 : List (List Item)) (origins0 : Lis
   pub leads : (t : Range × ℕ) (c : ℕ) → Contains tests t → Covers t.0 c → (t.1 < length sets) × (nth (subset_automaton ns) sets t.1 ≡ move ns s c)
   pub kept : Keep ns sets0 sets
   pub small : AreSmall origins0 → AreSmall origins
+
+-- no block is looked at yet
+pub edging_none : (ns : List Graph) (sets : List (List Item)) (origins : List (ℕ × ℕ)) (n : ℕ) (s : List Item) (xs : List Range) (tests : List (Range × ℕ)) → IsBreadthFirst (subset_automaton ns) sets origins n 0 → tests ≡ [] → IsEdging ns sets origins n s xs (length tests) sets origins tests
+edging_none ns sets origins n s xs tests breadth_first none = rw none (record { breadth_first = breadth_first; ranges = refl; leads = λ t c member over. absurd (no_test t member); kept = λ i l. (l, refl); small = λ h. h })
+  where
+    no_test : (t : Range × ℕ) → Contains [] t → ⊥
+    no_test t (k, l, e) = omega (arith, l)
 
 module _ (ns : List Graph) (a : AreAutomata ns) (sets0 : List (List Item)) (origins0 : List (ℕ × ℕ)) (n : ℕ) (s : List Item) (xs : List Range) (partition : IsPartition (IsLeaving ns s) xs)
     (here : slice_get sets0 n ≡ Some s) where
@@ -133,7 +141,7 @@ built_more ns ps sets origins rows n s sets2 origins2 row rows2 h at e kind item
   breadth_first = e.breadth_first;
   within = omega (arith, (e.kept n within0).0);
   counted = omega (arith, ap length more, length-append rows (row ∷ []), h.counted);
-  rows_are = λ k r g. elim (pushed_at rows row k r (rw more at g)) [
+  rows_are = λ k r g. elim (pushed_cases rows row k r (rw more at g)) [
     | inl was ↦ row_on ns ps sets sets2 k r e.kept (omega (arith, slice_get_within rows k r was, h.counted, within0)) (h.rows_are k r was)
     | inr new ↦ subst (λ i. IsRowOf ns ps sets2 i r) (sym (new.0 ∙ h.counted)) (subst (IsRowOf ns ps sets2 n) (sym new.1) here)
   ];

@@ -13,7 +13,7 @@ use Rattle.lalrpop_nfa.specs.declared.error.NfaConstructionError.TheVariants.{Ou
 use Rattle.lalrpop_nfa.specs.declared.error.NfaConstructionError.{NfaConstructionError}
 use Rattle.lalrpop_dfa.specs.declared.error.DfaConstructionError.{DfaConstructionError}
 use Rattle.lalrpop_dfa.specs.declared.error.DfaConstructionError.TheVariants.{NfaConstructionError as Refused, Ambiguity, OutOfMemory}
-use Rattle.lalrpop_dfa.proofs.Adding.{pushed_at}
+use Rattle.lalrpop_kernels.proofs.NumberedLemmas.{pushed_cases}
 
 -- the first k trees have no fault, and these automata
 pub record IsCompiledTo (ts : List Tree) (ns : List Graph) (k : ℕ) : Type 0 where
@@ -24,7 +24,7 @@ pub record IsCompiledTo (ts : List Tree) (ns : List Graph) (k : ℕ) : Type 0 wh
 pub compiled_more : (ts : List Tree) (ns ns2 : List Graph) (k : ℕ) (t : Tree) (g : Graph) → IsCompiledTo ts ns k → k < length ts → t ≡ get_or ts k t → (fault t ≡ None) × IsCompiled t g → HasFixedEdges g.edges → ns2 ≡ ns ++ g ∷ [] → IsCompiledTo ts ns2 (k + 1)
 compiled_more ts ns ns2 k t g h l is c f more = record {
   counted = omega (arith, ap length more, length-append ns (g ∷ []), h.counted);
-  each = λ i u v a b. elim (pushed_at ns g i v (rw more at b)) [
+  each = λ i u v a b. elim (pushed_cases ns g i v (rw more at b)) [
     | inl was ↦ h.each i u v a was
     | inr new ↦
         (let here : slice_get ts i ≡ Some t = subst (λ j. slice_get ts j ≡ Some t) (sym (new.0 ∙ h.counted)) (slice_get-get_or ts k t l ∙ ap (λ z. Some z) (sym is)) in
@@ -32,7 +32,7 @@ compiled_more ts ns ns2 k t g h l is c f more = record {
         let tree : t ≡ u = cc in
         rw (new.1, ← tree) c)
   ];
-  fixed = λ i u b. elim (pushed_at ns g i u (rw more at b)) [
+  fixed = λ i u b. elim (pushed_cases ns g i u (rw more at b)) [
     | inl was ↦ h.fixed i u was
     | inr new ↦ rw new.1 f
   ];

@@ -4,7 +4,8 @@ use Rattle.std.specs.List.{Contains, slice_get}
 use Rattle.lalrpop_hir.specs.Range.{Range, Covers}
 use Rattle.lalrpop_hir.specs.Tree.{Tree}
 use Rattle.lalrpop_nfa.specs.Graph.{Graph}
-use Rattle.lalrpop_nfa.specs.Path.{Reads, Path, here, epsilon, read, otherwise, noop, test, other}
+use Rattle.lalrpop_nfa.specs.Path.{Path, here, epsilon, read, otherwise, noop, test, other}
+use Rattle.lalrpop_nfa.specs.Internal.Reads.{Reads}
 use Rattle.lalrpop_nfa.specs.Compiled.{IsCompiled, reject_state}
 use Rattle.lalrpop_ranges.specs.Partition.{IsCovered, Alike}
 use Rattle.lalrpop_dfa.specs.Items.{Item, AreCompiled, IsLeaving}

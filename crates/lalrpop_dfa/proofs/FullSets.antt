@@ -4,7 +4,7 @@ use Rattle.std.specs.List.{Contains, filter, list_any}
 use Rattle.std.specs.List.Sorted.{IsStrictlySortedBy}
 use Rattle.std.specs.Ordering.{nat_cmp}
 use Rattle.std.specs.declared.cmp.Ordering.TheVariants.{Less}
-use Rattle.std.proofs.lemmas.Bool.{and_parts, and_from}
+use Rattle.std.proofs.lemmas.Bool.{cases_Bool, and_parts, and_from}
 use Rattle.std.proofs.lemmas.Bool.Decides.{nat_tests}
 use Rattle.std.proofs.lemmas.List.Kept.{IsStrictlySortedBy-filter}
 use Rattle.std.proofs.lemmas.Map.Keys.{sorted_tail}
@@ -17,10 +17,6 @@ use Rattle.lalrpop_dfa.proofs.Members.{Has, has_from, contains_from, has_left, h
 use Rattle.lalrpop_dfa.proofs.SortedLists.{sorted_nil, sorted_cons, sorted_append, sorted_below, sorted_same}
 
 -- ---- tests
-bool_cases : (b : Bool) → (b ≡ true) ⊎ (b ≡ false)
-bool_cases true = inl refl
-bool_cases false = inr refl
-
 not_true : (b : Bool) → b ≡ false → not b ≡ true
 not_true b e = rw e refl
 
@@ -29,7 +25,7 @@ true_not true e = cc
 true_not false e = refl
 
 pub is_live_from : (x : Item) → x.1 ≢ reject_state → is_live x ≡ true
-is_live_from x h = elim (bool_cases (x.1 == reject_state)) [
+is_live_from x h = elim (cases_Bool (x.1 == reject_state)) [
   | inl t ↦ absurd (h (eqb-true x.1 reject_state t))
   | inr f ↦ not_true (x.1 == reject_state) f
 ]
@@ -94,7 +90,7 @@ module _ (spared : List ℕ) (live : List Item) (i : ℕ) where
   ]
 
   pub items_live : (x : Item) → Has live x → x.0 ≡ i → Has (items_of spared live i) x
-  items_live x h e = elim (bool_cases (x.1 == accept_state)) [
+  items_live x h e = elim (cases_Bool (x.1 == accept_state)) [
     | inl t ↦ has_left (filter is_accept live) (reject_of spared i ++ filter is_other live) x (has_filter is_accept live x h (and_from (x.0 == i) (x.1 == accept_state) (eq-eqb x.0 i e) t))
     | inr f ↦
         has_right (filter is_accept live) (reject_of spared i ++ filter is_other live) x
@@ -105,7 +101,7 @@ module _ (spared : List ℕ) (live : List Item) (i : ℕ) where
   items_reject none = has_right (filter is_accept live) (reject_of spared i ++ filter is_other live) (i, reject_state) (has_left (reject_of spared i) (filter is_other live) (i, reject_state) here)
     where
       here : Has (reject_of spared i) (i, reject_state)
-      here = elim (bool_cases (list_any (λ j. j == i) spared)) [
+      here = elim (cases_Bool (list_any (λ j. j == i) spared)) [
         | inl t ↦ absurd (none (any_spared spared i t))
         | inr f ↦ rw f (inl refl)
       ]
@@ -159,7 +155,7 @@ module _ (spared : List ℕ) (live : List Item) where
   pub full_live : (n : ℕ) (x : Item) → Has live x → x.0 < n → Has (full n spared live) x
   unfolding full
   full_live zero x h l = absurd (omega arith)
-  full_live (suc n) x h l = elim (bool_cases (x.0 == n)) [
+  full_live (suc n) x h l = elim (cases_Bool (x.0 == n)) [
     | inl t ↦ has_right (full n spared live) (items_of spared live n) x (items_live spared live n x h (eqb-true x.0 n t))
     | inr f ↦ has_left (full n spared live) (items_of spared live n) x (full_live n x h (grind (arith, nat_tests)))
   ]
@@ -167,7 +163,7 @@ module _ (spared : List ℕ) (live : List Item) where
   pub full_reject : (n i : ℕ) → i < n → (Has spared i → ⊥) → Has (full n spared live) (i, reject_state)
   unfolding full
   full_reject zero i l none = absurd (omega arith)
-  full_reject (suc n) i l none = elim (bool_cases (i == n)) [
+  full_reject (suc n) i l none = elim (cases_Bool (i == n)) [
     | inl t ↦
         (let e : n ≡ i = sym (eqb-true i n t) in
         has_right (full n spared live) (items_of spared live n) (i, reject_state)
@@ -253,7 +249,7 @@ module _ (n : ℕ) (spared : List ℕ) (live : List Item) (is : IsSplit n spared
   pub spared_told : (i : ℕ) (b : Bool) (s : List Item) → full n spared live ≡ s → i < n → b ≡ list_any (λ j. j == i) spared → IsTrue (not b) ↔ Contains s (i, reject_state)
   spared_told i b s view l told = subst (λ t. IsTrue (not b) ↔ Contains t (i, reject_state)) view (
     λ h. contains_from (full n spared live) (i, reject_state) (full_reject spared live n i l (λ k. (let e : b ≡ true = told ∙ spared_any spared i k in let clash : not true ≡ true = rw e at h in cc))),
-    λ h. elim (bool_cases b) [
+    λ h. elim (cases_Bool b) [
       | inl t ↦ absurd ((reject_parts i (has_from (full n spared live) (i, reject_state) h)).1 (any_spared spared i (sym told ∙ t)))
       | inr f ↦ not_true b f
     ],

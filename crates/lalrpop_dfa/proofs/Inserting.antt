@@ -15,6 +15,7 @@ use Rattle.std.proofs.lemmas.Map.Views.{btree_set_contains_iff}
 use Rattle.std.proofs.lemmas.Map.Lookups.{CmpEqualImpliesEq}
 use Rattle.std.proofs.lemmas.List.Elements.{Contains-append_left, Contains-append_right, Contains-append_cases, Contains-push, Contains-push_cases}
 use Rattle.std.specs.Ordering.{nat_cmp, ordering_then}
+use Rattle.std.proofs.lemmas.Bool.{cases_Bool}
 use Rattle.lalrpop_dfa.specs.Items.{Item}
 use Rattle.lalrpop_dfa.specs.Internal.Ascending.{item_cmp}
 use Rattle.lalrpop_dfa.specs.Internal.ItemOrder.{item_total}
@@ -23,19 +24,16 @@ use Rattle.lalrpop_dfa.specs.Internal.Subsets.{graph_at, no_graph}
 use Rattle.lalrpop_nfa.specs.Walk.{leaves}
 use Rattle.lalrpop_nfa.specs.declared.edge.Edge.{Edge}
 use Rattle.lalrpop_nfa.specs.declared.edge.Noop.{Noop}
+use Rattle.lalrpop_nfa.proofs.Contained.{contains_none, contains_only}
 use Rattle.lalrpop_dfa.specs.Internal.Worklist.{IsInserted, epsilon_targets}
-use Rattle.lalrpop_dfa.proofs.Members.{has_from, contains_from}
-
-pub bool_cases : (b : Bool) → (b ≡ true) ⊎ (b ≡ false)
-bool_cases true = inl refl
-bool_cases false = inr refl
+use Rattle.lalrpop_dfa.proofs.Members.{contains_from}
 
 module _ {K : Type 0} {R : K → K → Ordering} (total : IsTotalOrder R) (exact : CmpEqualImpliesEq R) (s n : BTreeSet K) (k : K) (u : Updates R s n k true) where
   -- what a set has after an insertion
   pub set_come : (x : K) → Contains n.keys x → Contains s.keys x ⊎ (k ≡ x)
   set_come x h =
       let now : contains R n x ≡ true = (btree_set_contains_iff total exact n x).1 h in
-      elim (bool_cases (is_eq (R k x))) [
+      elim (cases_Bool (is_eq (R k x))) [
         | inl t ↦ inr (exact k x ((Equal-is (R k x)).0 t))
         | inr f ↦ (let e = u.0 x in let was : contains R s x ≡ true = sym (rw f at e) ∙ now in inl ((btree_set_contains_iff total exact s x).0 was))
       ]
@@ -48,7 +46,7 @@ module _ {K : Type 0} {R : K → K → Ordering} (total : IsTotalOrder R) (exact
   pub set_kept : (x : K) → Contains s.keys x → Contains n.keys x
   set_kept x h =
       let was : contains R s x ≡ true = (btree_set_contains_iff total exact s x).1 h in
-      elim (bool_cases (is_eq (R k x))) [
+      elim (cases_Bool (is_eq (R k x))) [
         | inl t ↦ (btree_set_contains_iff total exact n x).0 (u.0 x ∙ rw t refl)
         | inr f ↦ (btree_set_contains_iff total exact n x).0 (u.0 x ∙ rw f was)
       ]
@@ -77,18 +75,12 @@ lists_exact [] (y ∷ ys) e = cc
 lists_exact (x ∷ xs) [] e = cc
 lists_exact (x ∷ xs) (y ∷ ys) e = let h = then_equal _ _ e in let a : x ≡ y = item_exact x y h.0 in let b : xs ≡ ys = lists_exact xs ys h.1 in cc
 
-pub one_has : {X : Type 0} (y x : X) → Contains (y ∷ []) x → y ≡ x
-one_has y x h = elim (has_from (y ∷ []) x h) [ inl e ↦ e | inr never ↦ absurd never ]
-
-pub none_has : {X : Type 0} (x : X) → Contains [] x → ⊥
-none_has x h = has_from [] x h
-
 -- no item
 pub inserted_none : (o p : List Item) → IsInserted o p [] o p
 inserted_none o p = record {
   ordered = λ h. h;
   kept = λ x h. h;
-  inserted = λ x h. absurd (none_has x h);
+  inserted = λ x h. absurd (contains_none x h);
   come = λ x h. inl h;
   pending_kept = λ x h. h;
   pending_come = λ x h. inl h;
@@ -127,7 +119,7 @@ module _ (s n : BTreeSet Item) (item : Item) (pending pending2 : List Item) (u :
       record {
         ordered = λ h. o;
         kept = set_kept item_total item_exact s n item u;
-        inserted = λ x h. set_has item_total item_exact s n item u x (one_has item x h);
+        inserted = λ x h. set_has item_total item_exact s n item u x (contains_only item x h);
         come = λ x h. elim (set_come item_total item_exact s n item u x h) [
           | inl was ↦ inl was
           | inr e ↦ inr (contains_from (item ∷ []) x (inl e), rw (pushed, ← e) (Contains-push pending item))
@@ -147,7 +139,7 @@ module _ (s n : BTreeSet Item) (item : Item) (pending pending2 : List Item) (u :
       record {
         ordered = λ h. o;
         kept = set_kept item_total item_exact s n item u;
-        inserted = λ x h. set_has item_total item_exact s n item u x (one_has item x h);
+        inserted = λ x h. set_has item_total item_exact s n item u x (contains_only item x h);
         come = λ x h. elim (set_come item_total item_exact s n item u x h) [ inl was ↦ inl was | inr e ↦ inl (subst (Contains s.keys) e here) ];
         pending_kept = λ x h. rw same h;
         pending_come = λ x h. inl (rw same at h);

@@ -18,13 +18,13 @@ pub mod Targets
 pub mod ReachedItems
 pub mod Dead
 pub mod EdgeTargets
+pub mod StepLists
 pub mod StoredRows
 pub mod LongestLemmas
 pub mod Inserting
 pub mod WorklistSteps
 pub mod Moving
 pub mod Bests
-pub mod LabelSets
 pub mod LeavingBlocks
 pub mod SetWinners
 pub mod BuiltTable
@@ -35,7 +35,10 @@ pub mod RowSteps
 pub mod Adding
 pub mod Builds
 pub mod Compiling
-mod TransitionSteps
+mod Leavings
+mod CutBlocks
+mod LaidOut
+mod KnownClasses
 mod TransitionMoves
 -- laws for callers
 pub mod Strongest

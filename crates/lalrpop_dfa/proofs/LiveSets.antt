@@ -9,14 +9,15 @@ use Rattle.std.proofs.lemmas.Cmp.{tied_itself}
 use Rattle.std.proofs.lemmas.List.Sorted.{searchable_from_sorted}
 use Rattle.std.proofs.lemmas.Map.Keys.{Less-from_sorted}
 use Rattle.std.specs.declared.cmp.Ordering.TheVariants.{Less, Equal, Greater}
-use Rattle.std.proofs.lemmas.Bool.{and_parts, and_from, cases_lt}
+use Rattle.std.proofs.lemmas.Bool.{cases_Bool, and_parts, and_from, cases_lt}
 use Rattle.std.proofs.lemmas.Bool.Decides.{nat_tests}
 use Rattle.std.proofs.lemmas.List.Elements.{filter_more}
 use Rattle.std.proofs.lemmas.List.Kept.{IsStrictlySortedBy-filter}
 use Rattle.std.proofs.lemmas.Option.{slice_get_within}
 use Rattle.lalrpop_hir.specs.Range.{Range}
 use Rattle.lalrpop_nfa.specs.Graph.{Graph}
-use Rattle.lalrpop_nfa.specs.Path.{Reads, test, other}
+use Rattle.lalrpop_nfa.specs.Path.{test, other}
+use Rattle.lalrpop_nfa.specs.Internal.Reads.{Reads}
 use Rattle.lalrpop_nfa.specs.Walk.{leaves}
 use Rattle.lalrpop_nfa.specs.Compiled.{accept_state, reject_state}
 use Rattle.lalrpop_dfa.specs.Items.{Item, IsLeaving}
@@ -26,11 +27,13 @@ use Rattle.lalrpop_dfa.specs.Internal.Builder.{AreAutomata, AreItemsOf}
 use Rattle.lalrpop_dfa.specs.Internal.ItemOrder.{item_total}
 use Rattle.lalrpop_dfa.specs.Internal.LiveItems.{is_live, live_of, full, still_spared, AreWithin, AreSpared, IsSplit}
 use Rattle.lalrpop_dfa.specs.Internal.Subsets.{graph_at, is_epsilon_path, follows_by_epsilon, closed, item_targets, move, is_dead}
-use Rattle.lalrpop_dfa.specs.Internal.Transitions.{HaveTransitions}
-use Rattle.lalrpop_dfa.specs.declared.blocks.Block.{Block}
+use Rattle.lalrpop_ranges.specs.Partition.{IsPartition}
+use Rattle.lalrpop_ranges.proofs.BlockCover.{partition_like}
+use Rattle.lalrpop_dfa.specs.Internal.Transitions.{AreTransitions}
+use Rattle.lalrpop_dfa.specs.declared.blocks.Transition.{Transition}
 use Rattle.lalrpop_dfa.proofs.Members.{Has, has_from, contains_from, has_filter, filter_has, any_from_has, has_from_any, has_flat_map, flat_map_has}
 use Rattle.lalrpop_dfa.proofs.SortedLists.{sorted_nil, sorted_cons, sorted_same}
-use Rattle.lalrpop_dfa.proofs.Inserting.{bool_cases, item_exact}
+use Rattle.lalrpop_dfa.proofs.Inserting.{item_exact}
 use Rattle.lalrpop_dfa.proofs.Bests.{read_item}
 use Rattle.lalrpop_dfa.proofs.Epsilon.{epsilon_self}
 use Rattle.lalrpop_dfa.proofs.Targets.{compiled_at, item_targets_have}
@@ -89,7 +92,7 @@ still_not items i h k = let t : list_any (is_reject_of i) items ≡ true = rejec
 module _ (n : ℕ) (items : List Item) (spared : List ℕ) where
   -- a spared pattern stays spared unless it has a REJECT item
   still_has : (i : ℕ) → Has spared i → (Has items (i, reject_state) → ⊥) → Has (still_spared items spared) i
-  still_has i h none = elim (bool_cases (list_any (is_reject_of i) items)) [
+  still_has i h none = elim (cases_Bool (list_any (is_reject_of i) items)) [
     | inl t ↦ absurd (none (any_reject items i t))
     | inr f ↦ has_filter (λ (j : ℕ). not (list_any (is_reject_of j) items)) spared i h (rw f refl)
   ]
@@ -101,7 +104,7 @@ module _ (n : ℕ) (items : List Item) (spared : List ℕ) where
 
   -- and has one where it doesn't
   still_told : (i : ℕ) → Has spared i → (Has (still_spared items spared) i → ⊥) → Has items (i, reject_state)
-  still_told i h none = elim (bool_cases (list_any (is_reject_of i) items)) [
+  still_told i h none = elim (cases_Bool (list_any (is_reject_of i) items)) [
     | inl t ↦ any_reject items i t
     | inr f ↦ absurd (none (has_filter (λ (j : ℕ). not (list_any (is_reject_of j) items)) spared i h (rw f refl)))
   ]
@@ -119,7 +122,7 @@ module _ (n : ℕ) (items : List Item) (spared : List ℕ) where
 
   -- what the items hold, the split set holds
   held_of : (x : Item) → Has items x → IsHeld (still_spared items spared) (live_of items) x
-  held_of x h = elim (bool_cases (x.1 == reject_state)) [
+  held_of x h = elim (cases_Bool (x.1 == reject_state)) [
     | inl t ↦
         (let e : x.1 ≡ reject_state = eqb-true x.1 reject_state t in
         inr (e, λ s. (still_parts x.0 s).1 (subst (λ z. Has items z) (item_is x x.0 reject_state refl e) h)))
@@ -134,7 +137,7 @@ range_parts a (suc n) i (inr h) = let r = range_parts (a + 1) n i h in (omega (a
 
 range_has : (n a i : ℕ) → a < suc i → i < a + n → Has (range_with_len a n) i
 range_has zero a i l m = absurd (omega arith)
-range_has (suc n) a i l m = elim (bool_cases (a == i)) [
+range_has (suc n) a i l m = elim (cases_Bool (a == i)) [
   | inl t ↦ inl (eqb-true a i t)
   | inr f ↦ inr (range_has n (a + 1) i (grind (arith, nat_tests)) (omega arith))
 ]
@@ -220,18 +223,19 @@ module _ (ns : List Graph) (a : AreAutomata ns) where
       λ h. (let (x, g, q, (k, at, e)) = h in (x, g, q, (tested_live x g r q at e k, at, e))),
     )
 
-    -- the labels of the test edges that leave the items
-    pub labels_live : (s : List Item) (labels : List Range) → full n spared live ≡ s → ((r : Range) → Contains labels r ↔ IsLeaving ns live r) → (r : Range) → Contains labels r ↔ IsLeaving ns s r
-    labels_live s labels view all r = subst (λ t. Contains labels r ↔ IsLeaving ns t r) view ((λ h. (live_leave r).0 ((all r).0 h)), (λ h. (all r).1 ((live_leave r).1 h)))
+    -- the partition of the labels that leave the items
+    pub partition_live : (s : List Item) (xs : List Range) → full n spared live ≡ s → IsPartition (IsLeaving ns live) xs → IsPartition (IsLeaving ns s) xs
+    partition_live s xs view whole = subst (λ t. IsPartition (IsLeaving ns t) xs) view (partition_like (IsLeaving ns live) (IsLeaving ns (full n spared live)) live_leave xs whole)
 
-    live_transitions : (blocks : List Block) → HaveTransitions ns live blocks → HaveTransitions ns (full n spared live) blocks
-    live_transitions blocks have k p at l = (
-      λ h. (let (g, r, (m, there, e, c)) = (have k p at l).0 h in (g, r, (contains_from (full n spared live) l.item (split_live n spared live is l.item (has_from live l.item m)), there, e, c))),
-      λ h. (have k p at l).1 (let (g, r, (m, there, e, c)) = h in (g, r, (tested_live l.item g r l.to there e m, there, e, c))),
+    live_transitions : (v : ℕ) (edges : List Transition) → AreTransitions ns live v edges → AreTransitions ns (full n spared live) v edges
+    live_transitions v edges have l = (
+      λ h. (let (g, r, (m, there, e, c)) = (have l).0 h in (g, r, (contains_from (full n spared live) l.item (split_live n spared live is l.item (has_from live l.item m)), there, e, c))),
+      λ h. (have l).1 (let (g, r, (m, there, e, c)) = h in (g, r, (tested_live l.item g r l.to there e m, there, e, c))),
     )
 
-    pub transitions_live : (s : List Item) (blocks : List Block) → full n spared live ≡ s → HaveTransitions ns live blocks → HaveTransitions ns s blocks
-    transitions_live s blocks view have = subst (λ t. HaveTransitions ns t blocks) view (live_transitions blocks have)
+    -- the test edges that a value takes
+    pub transitions_live : (s : List Item) (v : ℕ) (edges : List Transition) → full n spared live ≡ s → AreTransitions ns live v edges → AreTransitions ns s v edges
+    transitions_live s v edges view have = subst (λ t. AreTransitions ns t v edges) view (live_transitions v edges have)
 
     -- the set that it leads to by a value
     module _ (c : ℕ) (inside : AreItemsOf ns (full n spared live)) (items : List Item) (keys : items ≡ closed ns (flat_map (item_targets ns c) live)) where
@@ -270,7 +274,7 @@ module _ (ns : List Graph) (a : AreAutomata ns) where
           (item_targets_have ns c (i, reject_state) reject_state item.0 item.1.0 (reject_reads i c item.0 item.1.0)) (follows_self (i, reject_state))
 
       any_spared : (i : ℕ) → (Has spared i) ⊎ (Has spared i → ⊥)
-      any_spared i = elim (bool_cases (list_any (λ j. j == i) spared)) [
+      any_spared i = elim (cases_Bool (list_any (λ j. j == i) spared)) [
         | inl t ↦ (let r : (j : ℕ) × (Has spared j × ((j == i) ≡ true)) = has_from_any (λ j. j == i) spared t in inl (subst (λ j. Has spared j) (eqb-true r.0 i r.1.1) r.1.0))
         | inr f ↦ inr (λ h. let t : list_any (λ j. j == i) spared ≡ true = any_from_has (λ j. j == i) spared i h (eq-eqb i i refl) in let clash : true ≡ false = sym t ∙ f in cc)
       ]

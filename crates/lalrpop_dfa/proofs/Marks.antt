@@ -3,16 +3,16 @@ use Rattle.std.proofs.Common.{◌≡◌, ◌≢◌, ℕ, zero, suc, ◌+◌, ◌
 use Rattle.std.specs.List.{Contains}
 use Rattle.std.specs.declared.cmp.Ordering.TheVariants.{Less}
 use Rattle.std.proofs.Math.ListN.{set, replicate, drop_of_length-le}
-use Rattle.std.proofs.lemmas.Bool.{cases_lt}
+use Rattle.std.proofs.lemmas.Bool.{cases_Bool, cases_lt}
 use Rattle.std.proofs.lemmas.Bool.Decides.{nat_tests}
 use Rattle.std.proofs.lemmas.List.{get_or-set_same, get_or-set_other, get_or-replicate, get_or_past, get_or_default, length-replicate}
 use Rattle.std.proofs.lemmas.List.Elements.{Contains-append_left, Contains-push, Contains-push_cases}
+use Rattle.lalrpop_nfa.proofs.Contained.{contains_only}
 use Rattle.lalrpop_dfa.specs.Items.{Item}
 use Rattle.lalrpop_dfa.specs.Internal.Ascending.{item_cmp, AreAscendingItems}
 use Rattle.lalrpop_dfa.specs.Internal.Worklist.{IsInserted, marked_from, marked}
 use Rattle.lalrpop_dfa.proofs.Members.{Has, has_from, contains_from}
 use Rattle.lalrpop_dfa.proofs.SortedLists.{sorted_nil, sorted_cons}
-use Rattle.lalrpop_dfa.proofs.Inserting.{bool_cases, one_has}
 
 one_more : (i q : ℕ) (rest : List Item) (x : Item) (b : Bool) → Has (cond b ((i, q) ∷ rest) rest) x → (((i, q) ≡ x) × (b ≡ true)) ⊎ Has rest x
 one_more i q rest x true (inl e) = inl (e, refl)
@@ -112,7 +112,7 @@ module _ (i : ℕ) where
     inserted_new marks2 l free is pushed = record {
       ordered = λ h. marked_ascends marks2;
       kept = kept;
-      inserted = λ x h. (let e : item ≡ x = one_has item x h in subst (Contains (marked i marks2)) e (contains_from (marked i marks2) item here));
+      inserted = λ x h. (let e : item ≡ x = contains_only item x h in subst (Contains (marked i marks2)) e (contains_from (marked i marks2) item here));
       come = λ x h. come x (has_from (marked i marks2) x h);
       pending_kept = λ x h. rw pushed (Contains-append_left pending (item ∷ []) x h);
       pending_come = λ x h. elim (Contains-push_cases pending item x (rw pushed at h)) [ inl was ↦ inl was | inr e ↦ inr (contains_from (item ∷ []) x (inl e)) ];
@@ -138,7 +138,7 @@ module _ (i : ℕ) where
         come : (x : Item) → Has (marked i marks2) x → Contains (marked i marks) x ⊎ (Contains (item ∷ []) x × Contains pending2 x)
         come x h =
             let r = marked_parts marks2 x h in
-            elim (bool_cases (x.1 == item.1)) [
+            elim (cases_Bool (x.1 == item.1)) [
               | inl t ↦ (let e : item ≡ x = same_item x r.0 (eqb-true x.1 item.1 t) in inr (contains_from (item ∷ []) x (inl e), rw (pushed, ← e) (Contains-push pending item)))
               | inr f ↦ inl (contains_from (marked i marks) x (marked_has marks x r.0 (sym (other x.1 (λ e. grind (arith, nat_tests))) ∙ r.1)))
             ]
@@ -147,7 +147,7 @@ module _ (i : ℕ) where
     inserted_old marks2 there is same = record {
       ordered = λ h. marked_ascends marks2;
       kept = λ x h. rw is h;
-      inserted = λ x h. (let e : item ≡ x = one_has item x h in rw is (subst (Contains (marked i marks)) e (contains_from (marked i marks) item (marked_has marks item of there))));
+      inserted = λ x h. (let e : item ≡ x = contains_only item x h in rw is (subst (Contains (marked i marks)) e (contains_from (marked i marks) item (marked_has marks item of there))));
       come = λ x h. inl (rw is at h);
       pending_kept = λ x h. rw same h;
       pending_come = λ x h. inl (rw same at h);

@@ -4,7 +4,8 @@ use Rattle.std.specs.List.{Contains, slice_get}
 use Rattle.std.proofs.lemmas.Bool.{and_parts, and_from}
 use Rattle.lalrpop_hir.specs.Tree.{Tree}
 use Rattle.lalrpop_nfa.specs.Graph.{Graph}
-use Rattle.lalrpop_nfa.specs.Path.{Reads, Path}
+use Rattle.lalrpop_nfa.specs.Path.{Path}
+use Rattle.lalrpop_nfa.specs.Internal.Reads.{Reads}
 use Rattle.lalrpop_nfa.specs.Compiled.{IsCompiled, start_state}
 use Rattle.lalrpop_dfa.specs.Items.{Item, AreCompiled, IsReached}
 use Rattle.lalrpop_dfa.specs.Internal.Ascending.{AreAscendingItems, IsItemOf}

@@ -8,6 +8,7 @@ use Rattle.lalrpop_hir.specs.Range.{Range, Covers}
 use Rattle.lalrpop_hir.specs.Tree.{Tree}
 use Rattle.lalrpop_nfa.specs.Graph.{Graph}
 use Rattle.lalrpop_ranges.specs.Partition.{AreAscending, IsPartition}
+use Rattle.lalrpop_ranges.proofs.PartitionUnique.{ascends_later}
 use Rattle.lalrpop_dfa.specs.Items.{Item, AreCompiled, IsLeaving}
 use Rattle.lalrpop_dfa.specs.Internal.Subsets.{move, is_dead}
 use Rattle.lalrpop_dfa.specs.Internal.BreadthFirst.{Automaton, IsBreadthFirst, Added, nth}
@@ -50,15 +51,11 @@ head_below (y ∷ ys) x (suc k) b a f e =
     let l : y.end < b.start = head_below ys y k b a.1 (λ z h. f z (inr h)) e in
     omega (arith, a.0, f y (inl refl))
 
-ascending_tail : (x : Range) (ys : List Range) → AreAscending (x ∷ ys) → AreAscending ys
-ascending_tail x [] a = tt
-ascending_tail x (y ∷ ys) a = a.1
-
 pub ascending_at : (xs : List Range) (i k : ℕ) (a b : Range) → AreAscending xs → NotEmpty xs → i < k → slice_get xs i ≡ Some a → slice_get xs k ≡ Some b → a.end < b.start
 ascending_at [] i k a b up f l d e = cc
 ascending_at (x ∷ xs) i zero a b up f l d e = absurd (omega arith)
 ascending_at (x ∷ xs) zero (suc k) a b up f l d e = let same : x ≡ a = cc in rw (← same) (head_below xs x k b up (λ z h. f z (inr h)) e)
-ascending_at (x ∷ xs) (suc i) (suc k) a b up f l d e = ascending_at xs i k a b (ascending_tail x xs up) (λ z h. f z (inr h)) (omega arith) d e
+ascending_at (x ∷ xs) (suc i) (suc k) a b up f l d e = ascending_at xs i k a b (ascends_later x xs up) (λ z h. f z (inr h)) (omega arith) d e
 
 module _ (ts : List Tree) (ns : List Graph) (h : AreCompiled ts ns) (s : List Item) (xs : List Range) (partition : IsPartition (IsLeaving ns s) xs) where
   not_empty : NotEmpty xs

@@ -5,7 +5,7 @@ use Rattle.std.proofs.Math.Seq.{drop-append_seam}
 use Rattle.lalrpop_hir.specs.Range.{Range}
 use Rattle.lalrpop_dfa.specs.Dfa.{StoredState}
 use Rattle.lalrpop_dfa.specs.Internal.Stored.{row_of, rows_of, AreWithin}
-use Rattle.lalrpop_dfa.proofs.Adding.{pushed_at}
+use Rattle.lalrpop_kernels.proofs.NumberedLemmas.{pushed_cases}
 
 -- edges behind those of a state don't matter to it
 part_kept : (edges more : List (Range × ℕ)) (first count : ℕ) → first + count ≤ length edges → take count (drop first (edges ++ more)) ≡ take count (drop first edges)
@@ -32,7 +32,7 @@ module _ (states : List StoredState) (edges tests : List (Range × ℕ)) (s : St
       ∙ ap₂ (λ rs r. rs ++ r ∷ []) (rows_kept states edges tests within) (ap (λ ts. record { kind = s.kind; tests = ts; other = s.other; items = s.items }) own)
 
   pub within_pushed : AreWithin (edges ++ tests) (states ++ s ∷ [])
-  within_pushed p t e = elim (pushed_at states s p t e) [
+  within_pushed p t e = elim (pushed_cases states s p t e) [
     | inl was ↦ within_more states edges tests within p t was
     | inr new ↦ (let same : t ≡ s = new.1 in omega (arith, length-append edges tests, first, count, ap (λ (u : StoredState). u.first) same, ap (λ (u : StoredState). u.count) same))
   ]

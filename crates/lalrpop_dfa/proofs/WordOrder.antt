@@ -1,23 +1,10 @@
 -- Facts on the shortlex order.
-use Rattle.std.proofs.Common.{◌≡◌, ℕ, ◌<◌, ◌≤◌, inl, inr, ⊎_elim, List, [], ◌∷◌, ◌++◌, refl, ◌∙◌, arith, append_assoc}
+use Rattle.std.proofs.Common.{◌≡◌, ℕ, ◌<◌, ◌≤◌, inl, inr, ⊎_elim, List, [], ◌∷◌, ◌++◌, refl, arith, append_assoc}
 use Rattle.std.proofs.lemmas.List.{length_push, append-nil}
 use Rattle.std.proofs.lemmas.Bool.{cases_order}
 use Rattle.lalrpop_hir.specs.Word.{FirstDifferenceLess, Shortlex}
+use Rattle.lalrpop_hir.proofs.Words.{Shortlex-transitive}
 use Rattle.lalrpop_dfa.specs.Internal.BreadthFirst.{ShortlexAtMost}
-
-pub lex_irrefl : (v : List ℕ) → FirstDifferenceLess v v → ⊥
-lex_irrefl [] h = h
-lex_irrefl (x ∷ v) (inl h) = absurd (omega arith)
-lex_irrefl (x ∷ v) (inr h) = lex_irrefl v h.1
-
-pub lex_trans : (u v w : List ℕ) → FirstDifferenceLess u v → FirstDifferenceLess v w → FirstDifferenceLess u w
-lex_trans [] v w h k = absurd h
-lex_trans (x ∷ u) [] w h k = absurd h
-lex_trans (x ∷ u) (y ∷ v) [] h k = absurd k
-lex_trans (x ∷ u) (y ∷ v) (z ∷ w) (inl h) (inl k) = inl (omega arith)
-lex_trans (x ∷ u) (y ∷ v) (z ∷ w) (inl h) (inr k) = inl (omega arith)
-lex_trans (x ∷ u) (y ∷ v) (z ∷ w) (inr h) (inl k) = inl (omega arith)
-lex_trans (x ∷ u) (y ∷ v) (z ∷ w) (inr h) (inr k) = inr (h.0 ∙ k.0, lex_trans u v w h.1 k.1)
 
 pub lex_push : (v w : List ℕ) (a b : ℕ) → FirstDifferenceLess v w → FirstDifferenceLess (v ++ a ∷ []) (w ++ b ∷ [])
 lex_push [] w a b h = absurd h
@@ -28,16 +15,6 @@ lex_push (x ∷ v) (y ∷ w) a b (inr h) = inr (h.0, lex_push v w a b h.1)
 pub lex_last : (v : List ℕ) (a b : ℕ) → a < b → FirstDifferenceLess (v ++ a ∷ []) (v ++ b ∷ [])
 lex_last [] a b h = inl h
 lex_last (x ∷ v) a b h = inr (refl, lex_last v a b h)
-
-pub less_irrefl : (v : List ℕ) → Shortlex v v → ⊥
-less_irrefl v (inl h) = absurd (omega arith)
-less_irrefl v (inr h) = lex_irrefl v h.1
-
-pub less_trans : (u v w : List ℕ) → Shortlex u v → Shortlex v w → Shortlex u w
-less_trans u v w (inl h) (inl k) = inl (omega arith)
-less_trans u v w (inl h) (inr k) = inl (omega arith)
-less_trans u v w (inr h) (inl k) = inl (omega arith)
-less_trans u v w (inr h) (inr k) = inr (h.0 ∙ k.0, lex_trans u v w h.1 k.1)
 
 pub less_push : (v w : List ℕ) (a b : ℕ) → Shortlex v w → Shortlex (v ++ a ∷ []) (w ++ b ∷ [])
 less_push v w a b (inl h) = inl (omega (arith, length_push v a, length_push w b))
@@ -60,11 +37,11 @@ at_most_push v w a b (inl e) l =
 -- v at most w and w less than u
 pub at_most_less : (v w u : List ℕ) → ShortlexAtMost v w → Shortlex w u → Shortlex v u
 at_most_less v w u (inl e) h = rw e h
-at_most_less v w u (inr k) h = less_trans v w u k h
+at_most_less v w u (inr k) h = Shortlex-transitive v w u k h
 
 pub less_at_most : (v w u : List ℕ) → Shortlex v w → ShortlexAtMost w u → Shortlex v u
 less_at_most v w u h (inl e) = rw (← e) h
-less_at_most v w u h (inr k) = less_trans v w u h k
+less_at_most v w u h (inr k) = Shortlex-transitive v w u h k
 
 -- induction on words from their end
 pub from_the_end : (P : List ℕ → Type 0) → P [] → ((u : List ℕ) (c : ℕ) → P u → P (u ++ c ∷ [])) → (w : List ℕ) → P w

@@ -7,7 +7,6 @@ pub mod Built
 pub mod Worklist
 pub mod Builder
 pub mod Best
-pub mod Labels
 pub mod SameLaws
 pub mod Transitions
 pub mod Stored

@@ -3,22 +3,24 @@
 ghost use Rattle.std.specs.Prelude.{◌≡◌, ◌+◌, ◌<◌, ◌≤◌, ◌++◌, ◌∷◌, [], List, length, map, slice_get, Some, IfOk, IfErr, OnOk};
 ghost use Rattle.lalrpop_hir.specs.Tree.{Tree};
 ghost use Rattle.lalrpop_dfa.specs.Internal.Ascending.{AreAscendingItems};
-ghost use Rattle.lalrpop_dfa.specs.Internal.Builder.{AreAutomata, AreItemsOf, IsAdded, AreKnown, IsEdged, IsBuiltTo, IsTieOf, IsClashOf};
+ghost use Rattle.lalrpop_dfa.specs.Internal.Builder.{AreAutomata, AreItemsOf, IsAdded, AreKnown, AreUnknown, AreKnownClasses, IsEdged, IsBuiltTo, IsTieOf, IsClashOf};
 ghost use Rattle.lalrpop_dfa.specs.Internal.Built.{subset_automaton};
 ghost use Rattle.lalrpop_dfa.specs.Clash.{NoClash};
 ghost use Rattle.lalrpop_dfa.specs.Counts.{state_bound};
 ghost use Rattle.lalrpop_dfa.specs.Dfa.{Recognizes};
 ghost use Rattle.lalrpop_dfa.specs.Items.{AreCompiled, HoldsItems, OthersReject, IsInWordOrder};
+ghost use Rattle.lalrpop_alphabet.specs.Alphabet.{IsAlphabetOf};
 ghost use Rattle.lalrpop_dfa.specs.Internal.Transitions.{AreTransitions};
 ghost use Rattle.lalrpop_dfa.specs.Internal.Subsets.{move, starts_from, first_set_of};
 ghost use Rattle.lalrpop_dfa.specs.Internal.BreadthFirst.{IsBreadthFirst, nth};
 
 use super::best::{Tie, kind_of};
-use super::blocks::{Block, Transitions, blocks_of};
+use super::blocks::{Block, Leaving, Transitions, leaving_of};
 use super::closure::{advance, closure};
 use super::items::{Item, ItemSet, Origin};
 use super::rows::{Edges, Rows};
 use super::{Dfa, DfaConstructionError, DfaStateIndex, NfaIndex, Precedence};
+use lalrpop_alphabet::Alphabet;
 use lalrpop_kernels::KernelSet;
 use lalrpop_nfa::{Nfa, START};
 use std::alloc::{AllocError, Global};
@@ -36,6 +38,26 @@ pub(super) struct Sets {
 struct Table {
     sets: Sets,
     rows: Rows,
+}
+
+// The numbers of the sets that a set leads to, as far as they were found: by the class of a value, and by the test edges
+// that a value takes.
+#[derive(Drop)]
+struct Known {
+    by_class: Vec<Option<DfaStateIndex>>,
+    by_transitions: BTreeMap<Transitions, DfaStateIndex>,
+}
+
+// No number for each of so many classes.
+fn no_numbers(alloc: Global, count: usize) -> Result<Vec<Option<DfaStateIndex>>, AllocError>
+    ensures count { IfOk result (λ numbers. length numbers.items ≡ count) }
+    ensures none { IfOk result (λ numbers. AreUnknown numbers.items) }
+{
+    let mut numbers = Vec::with_capacity(alloc, count)?;
+    for _ in 0..count {
+        numbers.push(None)?;
+    }
+    Ok(numbers)
 }
 
 // START of each automaton.
@@ -105,23 +127,23 @@ impl Sets {
         nfas: &[Nfa],
         set: &ItemSet,
         known: &mut BTreeMap<Transitions, DfaStateIndex>,
-        transitions: Transitions,
+        transitions: &Transitions,
         origin: Origin,
     ) -> Result<DfaStateIndex, AllocError>
         requires automata { AreAutomata nfas.now }
         requires inside { AreItemsOf nfas.now set.now }
         requires same_length { length self.old.origins.items ≡ length self.old.kernels.list }
-        requires transitions { AreTransitions nfas.now set.now origin.1 transitions.list.items }
+        requires transitions { AreTransitions nfas.now set.now origin.1 transitions.now.list.items }
         requires known { AreKnown nfas.now set.now known.old self.old.kernels.list }
         ensures added { IfOk result (λ j.
             IsAdded self.old origin (move nfas.now set.now origin.1) j self.new) }
         ensures known { OnOk result (AreKnown nfas.now set.now known.new self.new.kernels.list) }
     {
-        if let Some(number) = known.get(&transitions) {
+        if let Some(number) = known.get(transitions) {
             return Ok(*number);
         }
         let number = self.target_of(alloc, nfas, set, origin)?;
-        known.insert(transitions, number)?;
+        known.insert(transitions.clone()?, number)?;
         Ok(number)
     }
 
@@ -130,10 +152,12 @@ impl Sets {
         &mut self,
         alloc: Global,
         nfas: &[Nfa],
+        alphabet: &Alphabet,
         number: usize,
         set: &ItemSet,
     ) -> Result<Edges, AllocError>
         requires automata { AreAutomata nfas.now }
+        requires alphabet { IsAlphabetOf nfas.now alphabet.now }
         requires inside { AreItemsOf nfas.now set.now }
         requires breadth_first { IsBreadthFirst
             (subset_automaton nfas.now) self.old.kernels.list self.old.origins.items number 0 }
@@ -143,19 +167,17 @@ impl Sets {
             self.new.kernels.list self.new.origins.items e.tests.items e.other) }
         ensures place { OnOk result (self.new.kernels.place ≡ self.old.kernels.place) }
     {
-        let mut known = BTreeMap::new(alloc);
-        let mut tests = Vec::new(alloc);
-        let blocks = blocks_of(alloc, nfas, set)?;
+        let Leaving { blocks, by_class } = leaving_of(alloc, nfas, alphabet, set)?;
+        let mut known = Known {
+            by_class: no_numbers(alloc, by_class.len())?,
+            by_transitions: BTreeMap::new(alloc),
+        };
+        let mut tests = Vec::with_capacity(alloc, blocks.len())?;
         for block in blocks {
-            let Block { range, transitions } = block;
+            let Block { range, class } = block;
             let origin = Origin::new(number, range.start());
-            let target = self.target_of_transitions(
-                alloc,
-                nfas,
-                set,
-                &mut known,
-                transitions,
-                origin,
+            let target = target_of_class(
+                self, alloc, nfas, set, &mut known, &by_class, class, origin,
             )?;
             tests.push((range, target))?;
         }
@@ -164,17 +186,63 @@ impl Sets {
     }
 }
 
+// The number of the set that a set leads to by the origin's value, which is of this class: looked up where the class was
+// met before.
+fn target_of_class(
+    sets: &mut Sets,
+    alloc: Global,
+    nfas: &[Nfa],
+    set: &ItemSet,
+    known: &mut Known,
+    by_class: &[Transitions],
+    class: usize,
+    origin: Origin,
+) -> Result<DfaStateIndex, AllocError>
+    requires automata { AreAutomata nfas.now }
+    requires inside { AreItemsOf nfas.now set.now }
+    requires same_length { length sets.old.origins.items ≡ length sets.old.kernels.list }
+    requires transitions { (t : Transitions) × ((slice_get by_class.now class ≡ Some t)
+        × AreTransitions nfas.now set.now origin.1 t.list.items) }
+    requires count { length known.old.by_class.items ≡ length by_class.now }
+    requires known { AreKnown nfas.now set.now known.old.by_transitions sets.old.kernels.list }
+    requires classes { AreKnownClasses nfas.now set.now by_class.now
+        known.old.by_class.items sets.old.kernels.list }
+    ensures added { IfOk result (λ j.
+        IsAdded sets.old origin (move nfas.now set.now origin.1) j sets.new) }
+    ensures count { OnOk result (length known.new.by_class.items ≡ length by_class.now) }
+    ensures known { OnOk result
+        (AreKnown nfas.now set.now known.new.by_transitions sets.new.kernels.list) }
+    ensures classes { OnOk result (AreKnownClasses nfas.now set.now by_class.now
+        known.new.by_class.items sets.new.kernels.list) }
+{
+    if let Some(number) = known.by_class[class] {
+        return Ok(number);
+    }
+    let number = sets.target_of_transitions(
+        alloc,
+        nfas,
+        set,
+        &mut known.by_transitions,
+        &by_class[class],
+        origin,
+    )?;
+    known.by_class[class] = Some(number);
+    Ok(number)
+}
+
 impl Table {
     // Expands the next number, whose set this is: makes its state.
     fn expand(
         &mut self,
         alloc: Global,
         nfas: &[Nfa],
+        alphabet: &Alphabet,
         precedences: &[Precedence],
         set: ItemSet,
     ) -> Result<(), DfaConstructionError>
         requires same_len { length nfas.now ≡ length precedences.now }
         requires automata { AreAutomata nfas.now }
+        requires alphabet { IsAlphabetOf nfas.now alphabet.now }
         requires built { IsBuiltTo nfas.now (map (λ p. p.0) precedences.now)
             self.old.sets.kernels.list self.old.sets.origins.items self.old.rows
             (length self.old.rows) }
@@ -197,7 +265,7 @@ impl Table {
             }
         };
         let number = self.rows.len();
-        let edges = self.sets.edges_of(alloc, nfas, number, &set)?;
+        let edges = self.sets.edges_of(alloc, nfas, alphabet, number, &set)?;
         self.rows.push(set, kind, edges)?;
         Ok(())
     }
@@ -221,12 +289,13 @@ pub(super) fn build(
     ensures err { IfErr result (λ e. let ps = map (λ p. p.0) precedences.now in
         (ts : List Tree) → AreCompiled ts nfas.now → IsClashOf ts ps e) }
 {
+    let alphabet = Alphabet::new(alloc, nfas)?;
     let mut table = Table {
         sets: first_sets(alloc, nfas)?,
         rows: Rows::new(alloc),
     };
     while let Some(set) = table.sets.kernels.next()? {
-        table.expand(alloc, nfas, precedences, set)?;
+        table.expand(alloc, nfas, &alphabet, precedences, set)?;
     }
     Ok(Dfa::new(alloc, table.rows)?)
 }

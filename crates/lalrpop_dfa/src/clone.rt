@@ -25,7 +25,8 @@ impl Clone for Dfa {
     fn clone(&self) -> Result<Dfa, AllocError> {
         Ok(Dfa {
             rows: self.rows.clone()?,
-            from_start: self.from_start.clone()?,
+            places: self.places.clone()?,
+            lists: self.lists.clone()?,
         })
     }
 }

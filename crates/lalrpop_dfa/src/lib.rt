@@ -11,7 +11,6 @@ mod equality;
 mod error;
 pub mod interpret;
 mod items;
-mod labels;
 mod ordered;
 mod rows;
 mod search;
@@ -25,6 +24,7 @@ pub use lalrpop_kernels as kernel_set;
 use lalrpop_ranges::Test;
 pub use lalrpop_ranges::overlap;
 use rows::Rows;
+use search::LISTED;
 use std::fmt;
 use std::marker::Model;
 
@@ -145,20 +145,22 @@ impl State {
 #[derive(Debug, Drop)]
 pub struct Dfa {
     rows: Rows,
-    // Where the least values lead from START.
-    from_start: Vec<DfaStateIndex>,
+    // The place of each state's list among the lists, where it has one.
+    places: Vec<Option<usize>>,
+    // Where the values of ASCII lead from a state.
+    lists: Vec<[u32; LISTED]>,
 }
 
 impl Model for Dfa {
     ghost use Rattle.std.specs.Prelude.{List};
     ghost use Rattle.lalrpop_dfa.specs.Dfa.{Row, IsWellFormed};
-    ghost use Rattle.lalrpop_dfa.specs.Internal.Stored.{AreSteps};
+    ghost use Rattle.lalrpop_dfa.specs.Internal.Stored.{AreListed};
 
     ghost Value = { List Row };
 
     ghost view = { λ a. a.rows };
 
-    ghost invariant = { λ a. IsWellFormed a.rows × AreSteps a.rows 0 a.from_start.items };
+    ghost invariant = { λ a. IsWellFormed a.rows × AreListed a.rows a.places.items a.lists.items };
 }
 
 impl Dfa {

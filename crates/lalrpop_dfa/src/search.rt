@@ -5,14 +5,18 @@ ghost use Rattle.std.specs.List.{Contains};
 ghost use Rattle.lalrpop_hir.specs.Range.{Range, Covers};
 ghost use Rattle.lalrpop_dfa.specs.Counts.{HaveAtMost};
 ghost use Rattle.lalrpop_dfa.specs.Dfa.{step, AreAscendingTests, IsWellFormed};
+ghost use Rattle.lalrpop_dfa.specs.Internal.Stored.{AreSteps};
 
 use super::rows::Rows;
-use super::{Dfa, DfaStateIndex, START};
+use super::{Dfa, DfaStateIndex};
 use lalrpop_ranges::{Steps, Test};
 use std::alloc::{AllocError, Global};
 
-// So many values have their targets from START in a list: those of ASCII.
-const LISTED: u32 = 128;
+/// So many values have their targets from a state in its list: those of ASCII.
+pub(super) const LISTED: usize = 128;
+
+// A state with fewer test edges has no list: so the lists take at most 256 bytes for each test edge.
+const LEAST_EDGES: usize = 2;
 
 impl Dfa {
     /// The automaton of these states.
@@ -20,11 +24,23 @@ impl Dfa {
         requires { IsWellFormed rows }
         ensures { IfOk result (λ dfa. dfa ≡ rows) }
     {
-        let mut from_start = Vec::new(alloc);
-        for value in 0..LISTED {
-            from_start.push(rows.step(START, value, &mut Steps::new()))?;
+        let mut places = Vec::new(alloc);
+        let mut lists = Vec::new(alloc);
+        for number in 0..rows.len() {
+            let list = rows.list_of(DfaStateIndex(number));
+            match list {
+                Some(list) => {
+                    places.push(Some(lists.len()))?;
+                    lists.push(list)?;
+                }
+                None => places.push(None)?,
+            }
         }
-        Ok(Dfa { rows, from_start })
+        Ok(Dfa {
+            rows,
+            places,
+            lists,
+        })
     }
 
     /// The state that the value leads to.
@@ -36,15 +52,34 @@ impl Dfa {
         ensures probed { (n d : ℕ) → HaveAtMost self.now n → n < 2 ^ d
             → probes.new ≤ probes.old + d }
     {
-        // Each match begins in START, which has the most edges in most automata.
-        if state == START && (value as usize) < self.from_start.len() {
-            return self.from_start[value as usize];
+        if let Some(place) = self.places[state.index()] {
+            let list = &self.lists[place];
+            if (value as usize) < list.len() {
+                return DfaStateIndex(list[value as usize] as usize);
+            }
         }
         self.rows.step(state, value, probes)
     }
 }
 
 impl Rows {
+    // Where the values of ASCII lead from the state; nothing where it has few test edges, or a target beyond 32 bits.
+    fn list_of(&self, state: DfaStateIndex) -> Option<[u32; LISTED]>
+        requires well_formed { IsWellFormed self.now }
+        requires within { state < length self.now }
+        ensures { IfSome result (λ targets. AreSteps self.now state targets) }
+    {
+        if self.test_edges(state).len() < LEAST_EDGES {
+            return None;
+        }
+        let mut targets = [0; LISTED];
+        for value in 0..LISTED {
+            let target = self.step(state, value as u32, &mut Steps::new());
+            targets[value] = u32::try_from(target.index()).ok()?;
+        }
+        Some(targets)
+    }
+
     /// The state that the value leads to: by the test edge that holds it, or else by the other edge.
     fn step(&self, state: DfaStateIndex, value: u32, probes: &mut Steps) -> DfaStateIndex
         requires well_formed { IsWellFormed self.now }

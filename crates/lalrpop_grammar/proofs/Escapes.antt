@@ -3,7 +3,7 @@ use Rattle.std.proofs.Common.{◌≡◌, ℕ, suc, ◌<◌, ◌≤◌, Bool, tru
 use Rattle.std.specs.List.{list_all}
 use Rattle.std.specs.Char.{is_ascii_hexdigit}
 use Rattle.std.proofs.lemmas.List.{take-append-drop}
-use Rattle.std.proofs.Math.Seq.{take-append_seam}
+use Rattle.std.proofs.Math.Seq.{take-append_seam, drop-append_seam}
 use Rattle.std.proofs.lemmas.Bool.{ltb-true, lt-ltb, eqb-true, eq-eqb, and_parts}
 use Rattle.lalrpop_grammar.specs.Text.{Text, ◌▸◌, begins}
 use Rattle.lalrpop_sets.specs.CharacterSet.{Set, is_scalar}
@@ -115,10 +115,6 @@ edge_none r a b d e = four _ _ _ _ _ _ _ _ _ a b d e
   where
     four : (a b d e : Bool) (x y z w v : Option (Escaped × Text)) → a ≡ false → b ≡ false → d ≡ false → e ≡ false → cond a x (cond b y (cond d z (cond e w v))) ≡ v
     four a b d e x y z w v i j k l = rw (i, j, k, l) refl
-
-drop-append_seam : (xs ys : Text) → drop (length xs) (xs ++ ys) ≡ ys
-drop-append_seam [] ys = refl
-drop-append_seam (x ∷ xs) ys = drop-append_seam xs ys
 
 hex_complete : (digits : List ℕ) (v : ℕ) → IsHex digits v → hex digits ≡ Some v
 unfolding hex

@@ -1,7 +1,7 @@
 //! The tree of a text that is meant as it stands.
 ghost use Rattle.std.specs.Prelude.{◌≡◌, ◌↔◌, ℕ, List, IfOk, IfErr};
 ghost use Rattle.std.specs.Str.{chars};
-ghost use Rattle.lalrpop_hir.specs.Tree.{of_text};
+ghost use Rattle.lalrpop_hir.specs.Parts.{of_text};
 ghost use Rattle.lalrpop_hir.specs.Language.{Matches};
 
 use crate::error::RegexError;

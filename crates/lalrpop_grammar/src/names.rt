@@ -1,6 +1,6 @@
 //! The names of a pattern's groups, no two of which may be equal.
 ghost use Rattle.std.specs.Prelude.{◌≡◌, ◌++◌, map, not, is_some, option_map, IfOk, OnOk};
-ghost use Rattle.lalrpop_hir.specs.Tree.{trees};
+ghost use Rattle.lalrpop_hir.specs.Parts.{trees};
 ghost use Rattle.lalrpop_grammar.specs.GroupName.{name_of, names, all_names, are_distinct};
 
 use lalrpop_hir::{Hir, HirKind};

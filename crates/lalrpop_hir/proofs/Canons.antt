@@ -2,7 +2,8 @@
 use Rattle.std.proofs.Common.{◌≡◌, ℕ, ◌<◌, ◌≤◌, ◌⊎◌, inl, inr, List, [], ◌∷◌, true, refl, sym, ap, ◌∙◌, arith}
 use Rattle.std.proofs.lemmas.Bool.{cases_lt}
 use Rattle.std.proofs.Math.Utf8.{scalar, scalar_cases}
-use Rattle.lalrpop_hir.specs.Range.{Range, Covers, Covered, IsScalar, IsByte, next_scalar, next_byte, AreApart, HaveEndsIn, IsCanon, IsByteCanon}
+use Rattle.lalrpop_hir.specs.Range.{Range, Covers, Covered}
+use Rattle.lalrpop_hir.specs.Runs.{IsScalar, IsByte, next_scalar, next_byte, AreApart, HaveEndsIn, IsCanon, IsByteCanon}
 
 -- `next` goes up, and from a member below another one it goes to a member that is not past that
 pub record Steps (next : ℕ → ℕ) (S : ℕ → Type 0) : Type 0 where
@@ -52,7 +53,7 @@ from_start next S steps x ys a c (inl h) = h.0
 from_start next S steps x ys a c (inr h) =
     omega (arith, head-holds next x ys a, steps.above x.end, behind next S steps x ys a c h)
 
-range-same : (x y : Range) → x.start ≡ y.start → x.end ≡ y.end → x ≡ y
+pub range-same : (x y : Range) → x.start ≡ y.start → x.end ≡ y.end → x ≡ y
 range-same x y s e = ap (λ a. let r : Range = record { start = a; end = x.end } in r) s ∙ ap (λ b. let r : Range = record { start = y.start; end = b } in r) e
 
 -- each member of S that the first list covers, the second covers

@@ -1,6 +1,7 @@
 -- The runs of some sets: the values on both sides of the surrogates are one run.
 use Rattle.std.proofs.Common.{ℕ, inl, inr, List, [], ◌∷◌, arith}
-use Rattle.lalrpop_hir.specs.Range.{Range, Covered, IsScalar, IsCanon, IsCanonical}
+use Rattle.lalrpop_hir.specs.Range.{Range, Covered}
+use Rattle.lalrpop_hir.specs.Runs.{IsScalar, IsCanon, IsCanonical}
 
 abbrev to : ℕ → ℕ → Range
 to a b = record { start = a; end = b }

@@ -1,6 +1,6 @@
 -- cases: proofs/Cases/Range.antt
--- Ranges of values, sets of values, and the lists of maximal runs that classes keep.
-use Rattle.std.specs.Prelude.{ℕ, ◌+◌, ◌<◌, ◌≤◌, ◌⊎◌, ◌↔◌, List, [], ◌∷◌, if◌then◌else◌, eqb}
+-- Ranges of values.
+use Rattle.std.specs.Prelude.{ℕ, ◌≤◌, ◌⊎◌, List, [], ◌∷◌}
 
 -- the values from start to end, both included; none where start is above end
 pub record Range : Type 0 where
@@ -15,60 +15,3 @@ Covers r c = (r.start ≤ c) × (c ≤ r.end)
 abbrev pub Covered : List Range → ℕ → Type 0
 Covered [] c = ⊥
 Covered (r ∷ rs) c = Covers r c ⊎ Covered rs c
-
--- the value lies in the one list or the other, in both, in the first alone, in just one of them
-abbrev pub InEither : List Range → List Range → ℕ → Type 0
-InEither rs ss c = Covered rs c ⊎ Covered ss c
-
-abbrev pub InBoth : List Range → List Range → ℕ → Type 0
-InBoth rs ss c = Covered rs c × Covered ss c
-
-abbrev pub InFirstAlone : List Range → List Range → ℕ → Type 0
-InFirstAlone rs ss c = Covered rs c × ¬ Covered ss c
-
-abbrev pub InJustOne : List Range → List Range → ℕ → Type 0
-InJustOne rs ss c = InFirstAlone rs ss c ⊎ InFirstAlone ss rs c
-
--- a scalar value: a code value that is no surrogate
-abbrev pub IsScalar : ℕ → Type 0
-IsScalar c = (c ≤ 55295) ⊎ ((57344 ≤ c) × (c ≤ 1114111))
-
--- a value of a byte
-abbrev pub IsByte : ℕ → Type 0
-IsByte c = c ≤ 255
-
--- the scalar value after c, where U+E000 follows U+D7FF
-abbrev pub next_scalar : ℕ → ℕ
-next_scalar c = if eqb c 55295 then 57344 else c + 1
-
--- the byte after c
-abbrev pub next_byte : ℕ → ℕ
-next_byte c = c + 1
-
--- ranges that are not empty, ascend, and leave out some value between each two neighbours,
--- as `next` counts values
-abbrev pub AreApart : (ℕ → ℕ) → List Range → Type 0
-AreApart next [] = Unit {0}
-AreApart next (r ∷ []) = r.start ≤ r.end
-AreApart next (r ∷ s ∷ rs) = (r.start ≤ r.end) × (next r.end < s.start) × AreApart next (s ∷ rs)
-
--- all ends are members of the set
-abbrev pub HaveEndsIn : (ℕ → Type 0) → List Range → Type 0
-HaveEndsIn S [] = Unit {0}
-HaveEndsIn S (r ∷ rs) = S r.start × S r.end × HaveEndsIn S rs
-
--- what every class over characters keeps
-abbrev pub IsCanonical : List Range → Type 0
-IsCanonical rs = AreApart next_scalar rs × HaveEndsIn IsScalar rs
-
--- the ascending maximal runs of a set of scalar values
-abbrev pub IsCanon : (ℕ → Type 0) → List Range → Type 0
-IsCanon S rs = IsCanonical rs × ((c : ℕ) → IsScalar c → S c ↔ Covered rs c)
-
--- what every class over bytes keeps
-abbrev pub AreByteRuns : List Range → Type 0
-AreByteRuns rs = AreApart next_byte rs × HaveEndsIn IsByte rs
-
--- the ascending maximal runs of a set of bytes
-abbrev pub IsByteCanon : (ℕ → Type 0) → List Range → Type 0
-IsByteCanon S rs = AreByteRuns rs × ((c : ℕ) → IsByte c → S c ↔ Covered rs c)

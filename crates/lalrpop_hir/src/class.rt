@@ -62,7 +62,8 @@ pub struct ClassUnicode {
 
 impl Model for ClassUnicode {
     ghost use Rattle.std.specs.Prelude.{List};
-    ghost use Rattle.lalrpop_hir.specs.Range.{Range, IsCanonical};
+    ghost use Rattle.lalrpop_hir.specs.Range.{Range};
+    ghost use Rattle.lalrpop_hir.specs.Runs.{IsCanonical};
 
     ghost Value = { List Range };
 
@@ -79,7 +80,8 @@ pub struct ClassBytes {
 
 impl Model for ClassBytes {
     ghost use Rattle.std.specs.Prelude.{List};
-    ghost use Rattle.lalrpop_hir.specs.Range.{Range, AreByteRuns};
+    ghost use Rattle.lalrpop_hir.specs.Range.{Range};
+    ghost use Rattle.lalrpop_hir.specs.Runs.{AreByteRuns};
 
     ghost Value = { List Range };
 

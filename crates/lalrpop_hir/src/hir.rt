@@ -3,7 +3,8 @@ ghost use Rattle.std.specs.Prelude.{◌≡◌, ◌≢◌, ◌≤◌, IfOk, map, 
 ghost use Rattle.std.specs.Str.{chars};
 ghost use Rattle.lalrpop_hir.specs.Counts.{AreOrdered};
 ghost use Rattle.lalrpop_hir.specs.Level.{class_of, kind_tree};
-ghost use Rattle.lalrpop_hir.specs.Tree.{empty, literal, class, look, repetition, capture, concat, alternation, trees, of_text};
+ghost use Rattle.lalrpop_hir.specs.Tree.{empty, literal, class, look, repetition, capture, concat, alternation};
+ghost use Rattle.lalrpop_hir.specs.Parts.{trees, of_text};
 
 mod group;
 mod repetitions;
@@ -141,7 +142,7 @@ impl Model for Repetition {
     ghost use Rattle.std.specs.Prelude.{◌+◌};
     ghost use Rattle.std.proofs.Common.{arith};
     ghost use Rattle.lalrpop_hir.specs.Counts.{AreOrdered};
-    ghost use Rattle.lalrpop_hir.specs.Tree.{Repeated};
+    ghost use Rattle.lalrpop_hir.specs.Parts.{Repeated};
     ghost use Rattle.lalrpop_hir.specs.Internal.Depth.{depth};
     ghost use Rattle.lalrpop_hir.specs.Internal.Code.{repeated_code};
 
@@ -161,7 +162,7 @@ impl Model for Repetition {
 impl Model for Capture {
     ghost use Rattle.std.specs.Prelude.{◌+◌, option_map, string_bytes};
     ghost use Rattle.std.proofs.Common.{arith};
-    ghost use Rattle.lalrpop_hir.specs.Tree.{Captured};
+    ghost use Rattle.lalrpop_hir.specs.Parts.{Captured};
     ghost use Rattle.lalrpop_hir.specs.Internal.Depth.{depth};
     ghost use Rattle.lalrpop_hir.specs.Internal.Code.{captured_code};
 

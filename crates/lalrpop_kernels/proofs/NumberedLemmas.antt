@@ -7,25 +7,23 @@ use Rattle.std.specs.Cmp.{IsTotalOrder, Equal-is, tied_back, tied_itself}
 use Rattle.std.specs.BTreeMap.{get, get_by, BTreeMap, Updates}
 use Rattle.std.specs.declared.cmp.Ordering.{Ordering}
 use Rattle.std.specs.declared.cmp.Ordering.TheVariants.{Equal}
+use Rattle.std.proofs.lemmas.Bool.{cases_Bool}
 use Rattle.lalrpop_kernels.specs.Kernels.{IsNumberOf, AreDistinct, added}
 use Rattle.lalrpop_kernels.specs.Internal.Numbered.{IsNumbered}
 
-bool_cases : (b : Bool) → (b ≡ true) ⊎ (b ≡ false)
-bool_cases true = inl refl
-bool_cases false = inr refl
-
-pushed_cases : {X : Type 0} (xs : List X) (y : X) (q : ℕ) (x : X) → slice_get (xs ++ y ∷ []) q ≡ Some x → (slice_get xs q ≡ Some x) ⊎ ((q ≡ length xs) × (x ≡ y))
+-- a list with one more element, last
+pub pushed_cases : {X : Type 0} (xs : List X) (y : X) (q : ℕ) (x : X) → slice_get (xs ++ y ∷ []) q ≡ Some x → (slice_get xs q ≡ Some x) ⊎ ((q ≡ length xs) × (x ≡ y))
 pushed_cases [] y zero x h = inr (refl, cc)
 pushed_cases [] y (suc q) x h = cc
 pushed_cases (z ∷ xs) y zero x h = inl h
 pushed_cases (z ∷ xs) y (suc q) x h = elim (pushed_cases xs y q x h) [ inl k ↦ inl k | inr k ↦ inr (ap (λ n. suc n) k.0, k.1) ]
 
-pushed_keeps : {X : Type 0} (xs : List X) (y : X) (q : ℕ) (x : X) → slice_get xs q ≡ Some x → slice_get (xs ++ y ∷ []) q ≡ Some x
+pub pushed_keeps : {X : Type 0} (xs : List X) (y : X) (q : ℕ) (x : X) → slice_get xs q ≡ Some x → slice_get (xs ++ y ∷ []) q ≡ Some x
 pushed_keeps [] y q x h = cc
 pushed_keeps (z ∷ xs) y zero x h = h
 pushed_keeps (z ∷ xs) y (suc q) x h = pushed_keeps xs y q x h
 
-pushed_last : {X : Type 0} (xs : List X) (y : X) → slice_get (xs ++ y ∷ []) (length xs) ≡ Some y
+pub pushed_last : {X : Type 0} (xs : List X) (y : X) → slice_get (xs ++ y ∷ []) (length xs) ≡ Some y
 pushed_last [] y = refl
 pushed_last (z ∷ xs) y = pushed_last xs y
 
@@ -52,7 +50,7 @@ module _ {K : Type 0} {cmp : K → K → Ordering} (total : IsTotalOrder cmp) (m
 
   pub added_new : (ks : List K) (place : ℕ) (k : K) → IsNumbered cmp m ks place → get cmp m k ≡ None → added cmp ks k ≡ ks ++ k ∷ []
   added_new ks place k h absent =
-      rw (none_from (λ q. is_eq (cmp k q)) ks (λ n x at. elim (bool_cases (is_eq (cmp k x))) [
+      rw (none_from (λ q. is_eq (cmp k q)) ks (λ n x at. elim (cases_Bool (is_eq (cmp k x))) [
         | inl t ↦ (let s : None ≡ Some n = sym absent ∙ (get_same k x ((Equal-is (cmp k x)).0 t) ∙ h.found n x at) in cc)
         | inr f ↦ f
       ])) refl
@@ -71,13 +69,13 @@ module _ {K : Type 0} {cmp : K → K → Ordering} (total : IsTotalOrder cmp) (m
     pub numbered_pushed : IsNumbered cmp next (ks ++ k ∷ []) place
     numbered_pushed = record {
       found = λ n x at. elim (pushed_cases ks k n x at) [
-        | inl was ↦ elim (bool_cases (is_eq (cmp copy x))) [
+        | inl was ↦ elim (cases_Bool (is_eq (cmp copy x))) [
           | inl t ↦ (let s : None ≡ Some n = sym (none_there x ((Equal-is (cmp copy x)).0 t)) ∙ old.found n x was in cc)
           | inr f ↦ kept x f ∙ old.found n x was
         ]
         | inr last ↦ changed x ((Equal-is (cmp copy x)).1 (rw last.1 (tied_back total k copy same))) ∙ ap (λ i. Some i) (sym last.0)
       ];
-      sound = λ x n at. elim (bool_cases (is_eq (cmp copy x))) [
+      sound = λ x n at. elim (cases_Bool (is_eq (cmp copy x))) [
         | inl t ↦ (let e = (Equal-is (cmp copy x)).0 t in
             let s : Some (length ks) ≡ Some n = sym (changed x t) ∙ at in
             let i : length ks ≡ n = cc in

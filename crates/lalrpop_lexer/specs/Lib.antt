@@ -1,14 +1,16 @@
 -- what the public contracts of the crates below name
 pub use Rattle.lalrpop_hir.specs.Word
 pub use Rattle.lalrpop_hir.specs.Range
+pub use Rattle.lalrpop_hir.specs.Runs
 pub use Rattle.lalrpop_hir.specs.Counts
 pub use Rattle.lalrpop_hir.specs.Tree
+pub use Rattle.lalrpop_hir.specs.Parts
+pub use Rattle.lalrpop_hir.specs.Size
 pub use Rattle.lalrpop_hir.specs.Level
 pub use Rattle.lalrpop_hir.specs.Language
 pub use Rattle.lalrpop_nfa.specs.Fault
 pub use Rattle.lalrpop_nfa.specs.Prefix
 pub use Rattle.lalrpop_ranges.specs.Meet
-pub use Rattle.lalrpop_nfa.specs.Lists
 pub use Rattle.lalrpop_nfa.specs.Graph
 pub use Rattle.lalrpop_nfa.specs.Path
 pub use Rattle.lalrpop_nfa.specs.Compiled

@@ -3,8 +3,10 @@ use Rattle.std.proofs.Common.{◌≡◌, ℕ, zero, suc, ◌+◌, ◌<◌, ◌�
 use Rattle.std.specs.Prelude.{Option, Some, None}
 use Rattle.std.specs.List.{Contains}
 use Rattle.std.specs.Option.{option_or}
-use Rattle.lalrpop_hir.specs.Range.{Range, IsScalar, IsByte, next_scalar, AreApart, HaveEndsIn}
+use Rattle.lalrpop_hir.specs.Range.{Range}
+use Rattle.lalrpop_hir.specs.Runs.{IsScalar, IsByte, next_scalar, AreApart, HaveEndsIn}
 use Rattle.lalrpop_hir.specs.Tree.{Class, unicode, bytes, Tree, empty, literal, class, look, repetition, capture, concat, alternation, Trees, none, also}
+use Rattle.lalrpop_hir.proofs.Canons.{head-holds, tail-apart}
 use Rattle.lalrpop_ranges.specs.Meet.{Meet}
 use Rattle.lalrpop_nfa.specs.Fault.{fault, last_fault, first_fault}
 use Rattle.lalrpop_nfa.specs.Compiled.{IsLabel, IsLabelOfSome}
@@ -55,31 +57,23 @@ or_none None g h = (refl, h)
 or_none (Some x) g h = cc
 
 module _ (next : ℕ → ℕ) (up : (c : ℕ) → c < next c) where
-  nonempty_head : (r : Range) (rs : List Range) → AreApart next (r ∷ rs) → r.start ≤ r.end
-  nonempty_head r [] h = h
-  nonempty_head r (s ∷ rs) h = h.0
-
-  apart_tail : (r : Range) (rs : List Range) → AreApart next (r ∷ rs) → AreApart next rs
-  apart_tail r [] h = tt
-  apart_tail r (s ∷ rs) h = h.2
-
   nonempty : (rs : List Range) → AreApart next rs → (r : Range) → Contains rs r → r.start ≤ r.end
   nonempty [] h r m = absurd (contains_none r m)
   nonempty (s ∷ rs) h r m = elim (contains_cases s rs r m) [
-    | inl e ↦ subst (λ (x : Range). x.start ≤ x.end) e (nonempty_head s rs h)
-    | inr k ↦ nonempty rs (apart_tail s rs h) r k
+    | inl e ↦ subst (λ (x : Range). x.start ≤ x.end) e (head-holds next s rs h)
+    | inr k ↦ nonempty rs (tail-apart next s rs h) r k
   ]
 
   after : (r : Range) (rs : List Range) → AreApart next (r ∷ rs) → (s : Range) → Contains rs s → r.end < s.start
   after r [] h s m = absurd (contains_none s m)
   after r (x ∷ rs) h s m = let u = up r.end in elim (contains_cases x rs s m) [
     | inl e ↦ subst (λ (y : Range). r.end < y.start) e (omega (arith, h.1))
-    | inr k ↦ omega (arith, h.1, nonempty_head x rs h.2, after x rs h.2 s k)
+    | inr k ↦ omega (arith, h.1, head-holds next x rs h.2, after x rs h.2 s k)
   ]
 
   disjoint : (rs : List Range) → AreApart next rs → AreDisjoint rs
   disjoint [] h = tt
-  disjoint (r ∷ rs) h = (λ s m (c, (x, y)). let past = after r rs h s m in absurd (omega (arith, x, y)), disjoint rs (apart_tail r rs h))
+  disjoint (r ∷ rs) h = (λ s m (c, (x, y)). let past = after r rs h s m in absurd (omega (arith, x, y)), disjoint rs (tail-apart next r rs h))
 
 end_in : (S : ℕ → Type 0) (rs : List Range) → HaveEndsIn S rs → (r : Range) → Contains rs r → S r.end
 end_in S [] h r m = absurd (contains_none r m)

@@ -10,10 +10,9 @@ use Rattle.lalrpop_nfa.specs.declared.edge.Edge.{Edge}
 use Rattle.lalrpop_nfa.specs.declared.edge.State.{State}
 use Rattle.lalrpop_nfa.specs.declared.edge.StateKind.{StateKind}
 use Rattle.lalrpop_nfa.specs.declared.edge.StateKind.TheVariants.{Neither}
-use Rattle.lalrpop_nfa.specs.Lists.{Lists}
 use Rattle.lalrpop_nfa.specs.Firsts.{LabelKind, Noops, Tests, Others, SameListsBut, index_of, with_index}
 use Rattle.lalrpop_nfa.specs.Internal.FirstSet.{first_set}
-use Rattle.lalrpop_nfa.specs.Graph.{Graph}
+use Rattle.lalrpop_nfa.specs.Graph.{Graph, Lists}
 use Rattle.lalrpop_nfa.specs.Compiled.{edges_from}
 use Rattle.lalrpop_nfa.specs.Internal.Fragment.{no_edges}
 use Rattle.lalrpop_nfa.specs.Contiguous.{walk, IsContiguous, AreContiguous, kinds_of}

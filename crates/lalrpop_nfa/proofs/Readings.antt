@@ -6,7 +6,7 @@ use Rattle.lalrpop_hir.specs.Range.{Range, Covers, Covered}
 use Rattle.lalrpop_hir.specs.Language.{Words, Then, Power}
 use Rattle.lalrpop_hir.proofs.Joining.{covering}
 use Rattle.lalrpop_hir.proofs.Powers.{Optional, Star}
-use Rattle.lalrpop_nfa.specs.Lists.{Lists}
+use Rattle.lalrpop_nfa.specs.Graph.{Lists}
 use Rattle.lalrpop_nfa.specs.Path.{noop, test, other, Path, here, epsilon, read, otherwise}
 use Rattle.lalrpop_nfa.specs.Compiled.{accept_state, reject_state}
 use Rattle.lalrpop_nfa.proofs.Contained.{contains_none, contains_cases, contains_first, contains_later, contains_only}

@@ -9,9 +9,9 @@ use Rattle.lalrpop_nfa.specs.Walk.{leaves}
 use Rattle.lalrpop_hir.specs.Range.{Covers}
 use Rattle.lalrpop_hir.specs.Tree.{Tree}
 use Rattle.lalrpop_hir.specs.Language.{Matches}
-use Rattle.lalrpop_nfa.specs.Lists.{Lists}
-use Rattle.lalrpop_nfa.specs.Graph.{Graph}
-use Rattle.lalrpop_nfa.specs.Path.{Path, Tests, Reads, here, epsilon, read, otherwise, noop, test, other, IsUntested}
+use Rattle.lalrpop_nfa.specs.Graph.{Graph, Lists}
+use Rattle.lalrpop_nfa.specs.Path.{Path, here, epsilon, read, otherwise, noop, test, other, IsUntested}
+use Rattle.lalrpop_nfa.specs.Internal.Reads.{Tests, Reads}
 use Rattle.lalrpop_nfa.specs.Compiled.{IsCompiled, start_state, accept_state, reject_state}
 use Rattle.lalrpop_nfa.specs.Internal.StateSets.{StateList, only, IsStateSet, IsGrown, IsEpsilonEdge, IsClosed, IsClosure, IsMove, Accepts, Rejects}
 use Rattle.lalrpop_nfa.specs.declared.edge.Edge.{Edge}

@@ -5,7 +5,7 @@ use Rattle.std.specs.List.{filter}
 use Rattle.lalrpop_nfa.specs.declared.edge.Edge.{Edge}
 use Rattle.lalrpop_nfa.specs.declared.edge.State.{State}
 use Rattle.lalrpop_nfa.specs.declared.edge.StateKind.{StateKind}
-use Rattle.lalrpop_nfa.specs.Lists.{Lists}
+use Rattle.lalrpop_nfa.specs.Graph.{Lists}
 use Rattle.lalrpop_nfa.specs.Firsts.{LabelKind, Noops, Tests, Others}
 use Rattle.lalrpop_nfa.specs.Walk.{leaves}
 

@@ -1,7 +1,7 @@
 -- cases: proofs/Cases/Firsts.antt
 -- The three kinds of labels: each has its list of edges, and its index in a state.
 use Rattle.std.specs.Prelude.{◌≡◌, ℕ, Option}
-use Rattle.lalrpop_nfa.specs.Lists.{Lists}
+use Rattle.lalrpop_nfa.specs.Graph.{Lists}
 use Rattle.lalrpop_nfa.specs.declared.edge.State.{State}
 
 pub data LabelKind : Type 0 where

@@ -1,3 +1,4 @@
+pub mod Reads
 pub mod Adjacent
 pub mod Added
 pub mod FirstSet

@@ -6,7 +6,7 @@ use Rattle.std.specs.contracts.alloc.Global as global
 use Rattle.std.specs.contracts.vec.Vec as vec
 use Rattle.std.specs.contracts.option.Option as option
 use Rattle.std.specs.contracts.impls.GlobalAllocator.TheImpl.{ghosts}
-use Rattle.lalrpop_nfa.specs.Lists.{Lists}
+use Rattle.lalrpop_nfa.specs.Graph.{Lists}
 use Rattle.lalrpop_nfa.specs.declared.edge.Edge.{Edge}
 use Rattle.lalrpop_nfa.specs.declared.edge.State.{State}
 use Rattle.lalrpop_nfa.specs.contracts.edge.Edge as edge

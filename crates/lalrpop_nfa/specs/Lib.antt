@@ -3,7 +3,6 @@ pub use Rattle.lalrpop_ranges.specs.Meet
 pub mod Fault
 pub mod Prefix
 pub mod Walk
-pub mod Lists
 pub mod Firsts
 pub mod StateView
 pub mod Lending

@@ -1,9 +1,9 @@
 -- cases: proofs/Cases/Path.antt
 -- How steps lead from state to state of an automaton and read a word.
-use Rattle.std.specs.Prelude.{◌≡◌, ℕ, ◌⊎◌, List, [], ◌∷◌}
+use Rattle.std.specs.Prelude.{◌≡◌, ℕ, List, [], ◌∷◌}
 use Rattle.std.specs.List.{Contains}
 use Rattle.lalrpop_hir.specs.Range.{Range, Covers}
-use Rattle.lalrpop_nfa.specs.Lists.{Lists}
+use Rattle.lalrpop_nfa.specs.Graph.{Lists}
 use Rattle.lalrpop_nfa.specs.declared.edge.Edge.{Edge}
 use Rattle.lalrpop_nfa.specs.declared.edge.Noop.{Noop}
 use Rattle.lalrpop_nfa.specs.declared.edge.Other.{Other}
@@ -23,14 +23,6 @@ other p q = record { from = p; label = record {}; to = q }
 -- no test edge of the state covers the value
 abbrev pub IsUntested : Lists → ℕ → ℕ → Type 0
 IsUntested e p c = (r : Range) (q : ℕ) → Contains e.tests (test p r q) → Covers r c → ⊥
-
--- a test edge that covers the value leads from p to q
-abbrev pub Tests : Lists → ℕ → ℕ → ℕ → Type 0
-Tests e p c q = (r : Range) × (Contains e.tests (test p r q) × Covers r c)
-
--- an edge that reads the value leads from p to q
-abbrev pub Reads : Lists → ℕ → ℕ → ℕ → Type 0
-Reads e p c q = Tests e p c q ⊎ (Contains e.others (other p q) × IsUntested e p c)
 
 -- steps lead from a state to the last one and read a word
 pub data Path (e : Lists) (last : ℕ) : ℕ → List ℕ → Type 0 where

@@ -7,7 +7,7 @@ ghost use Rattle.lalrpop_hir.specs.Tree.{Tree};
 ghost use Rattle.lalrpop_hir.specs.Language.{Matches};
 ghost use Rattle.lalrpop_nfa.specs.Compiled.{IsCompiled, start_state};
 ghost use Rattle.lalrpop_nfa.specs.Internal.StateSets.{only, IsGrown, IsEpsilonEdge, IsClosure, IsMove, Accepts, Rejects};
-ghost use Rattle.lalrpop_nfa.specs.Path.{Reads};
+ghost use Rattle.lalrpop_nfa.specs.Internal.Reads.{Reads};
 ghost use Rattle.lalrpop_nfa.specs.Prefix.{IsPrefix, IsLongestOf};
 
 use super::state_set::StateSet;

@@ -1,15 +1,13 @@
 -- The partition of a set of ranges: what shows a list to be it, and what follows.
-use Rattle.std.proofs.Common.{◌≡◌, ℕ, ◌+◌, ◌-◌, ◌<◌, ◌≤◌, ◌⊎◌, inl, inr, ⊎_elim, min, max, List, [], ◌∷◌, length, sym, ap, subst, ◌∙◌, arith, suc}
+use Rattle.std.proofs.Common.{◌≡◌, ℕ, ◌+◌, ◌-◌, ◌<◌, ◌≤◌, ◌⊎◌, inl, inr, ⊎_elim, min, max, List, [], ◌∷◌, length, sym, subst, ◌∙◌, arith, suc}
 use Rattle.std.specs.List.{Contains}
 use Rattle.std.proofs.lemmas.List.{get_or_default}
 use Rattle.std.proofs.lemmas.List.Elements.{Contains-get_or}
 use Rattle.std.proofs.lemmas.Bool.{cases_lt, cases_order}
 use Rattle.lalrpop_hir.specs.Range.{Range, Covers}
+use Rattle.lalrpop_hir.proofs.Canons.{range-same}
 use Rattle.lalrpop_ranges.specs.Partition.{Ranges, IsCovered, Alike, IsUniform, IsBlock, AreAscending, IsPartition}
 use Rattle.lalrpop_ranges.proofs.Cells.{at, BlocksBelow, IsCut, alike_sym, alike_trans, covered_along, last_covers}
-
-pub range_same : (x y : Range) → x.start ≡ y.start → x.end ≡ y.end → x ≡ y
-range_same x y s e = ap (λ a. let r : Range = record { start = a; end = x.end } in r) s ∙ ap (λ b. let r : Range = record { start = y.start; end = b } in r) e
 
 -- two maximal intervals that share a value are one
 module _ (R : Ranges) (x z : Range) (f : IsBlock R x) (g : IsBlock R z) (p : ℕ) (in_x : Covers x p) (in_z : Covers z p) where
@@ -100,7 +98,7 @@ module _ (R : Ranges) (blocks : List Range) (p : ℕ) (h : BlocksBelow R blocks 
             h.maximal k j l jl same (uniform.constant (at blocks k).end (at blocks j).start (omega arith, omega arith) (omega arith, omega arith))
 
     widest : y ≡ at blocks k
-    widest = range_same y (at blocks k) (start_at (cases_lt y.start (at blocks k).start)) (end_at (cases_lt (at blocks k).end y.end))
+    widest = range-same y (at blocks k) (start_at (cases_lt y.start (at blocks k).start)) (end_at (cases_lt (at blocks k).end y.end))
 
   run_at : (k : ℕ) → k < length blocks → IsBlock R (at blocks k)
   run_at k l = record { uniform = block_at k l; maximal = widest k l }

@@ -21,7 +21,7 @@ first_or_later x xs z (suc k, l, e) = inr (k, omega arith, e)
 none_in : (z : Range) → ¬ Contains [] z
 none_in z (k, l, e) = omega arith
 
-ascends_later : (x : Range) (xs : List Range) → AreAscending (x ∷ xs) → AreAscending xs
+pub ascends_later : (x : Range) (xs : List Range) → AreAscending (x ∷ xs) → AreAscending xs
 ascends_later x [] a = tt
 ascends_later x (y ∷ ys) a = a.1
 

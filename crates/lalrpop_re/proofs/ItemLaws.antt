@@ -3,8 +3,10 @@ use Rattle.std.proofs.Common.{◌≡◌, ◌↔◌, ◌⊎◌, ℕ, zero, suc, �
 use Rattle.std.proofs.lemmas.Bool.{or_cases, le-leb}
 use Rattle.std.proofs.lemmas.Bool.Decides.{nat_tests}
 use Rattle.unicode.specs.CaseFolding.{simple_fold}
-use Rattle.lalrpop_hir.specs.Range.{Range, IsScalar, Covered, IsCanon}
+use Rattle.lalrpop_hir.specs.Range.{Range, Covered}
+use Rattle.lalrpop_hir.specs.Runs.{IsScalar, IsCanon}
 use Rattle.lalrpop_sets.specs.CharacterSet.{Set, is_scalar, just, range, union_all, some_below, fold, Members, HasRuns}
+use Rattle.lalrpop_sets.proofs.CanonLaws.{IsScalar-is_scalar}
 use Rattle.lalrpop_grammar.specs.declared.flags.Flags.{Flags}
 use Rattle.lalrpop_re.specs.declared.escape_sequence.EscapedPart.{EscapedPart}
 use Rattle.lalrpop_re.specs.declared.escape_sequence.EscapedPart.TheVariants as code
@@ -90,9 +92,6 @@ range_members low high le = λ c k. range_members-one low high c le k
 just_range : (c d : ℕ) → is_scalar d ≡ true → just c d ≡ range c c d
 just_range c d h = grind (arith, nat_tests)
 
-scalar : (c : ℕ) → IsScalar c → is_scalar c ≡ true
-scalar c h = grind (arith, nat_tests)
-
 and_same : (a b c : Bool) → (a ≡ true → b ≡ c) → (a && b) ≡ (a && c)
 and_same true b c h = h refl
 and_same false b c h = refl
@@ -111,7 +110,7 @@ leaf-just f c d k = go f.case_insensitive
   where
     go : (b : Bool) → cond b (fold (range c c)) (range c c) d ≡ cond b (fold (just c)) (just c) d
     go true = sym (fold-just c d)
-    go false = sym (just_range c d (scalar d k))
+    go false = sym (just_range c d (IsScalar-is_scalar d k))
 
 -- a leaf without folding
 pub Gains-plain : (f : Flags) (low high : ℕ) (rs qs : List Range) → low ≤ high → f.case_insensitive ≡ false → qs ≡ rs ++ record { start = min low high; end = max low high } ∷ [] → Gains rs qs (leaf f (range low high))

@@ -4,6 +4,7 @@ use Rattle.std.specs.Char.{is_ascii_digit, is_ascii_hexdigit}
 use Rattle.std.specs.List.{list_all, prefix_len}
 use Rattle.std.proofs.Math.Numerals.{one-add}
 use Rattle.std.proofs.lemmas.List.{drop-drop}
+use Rattle.std.proofs.Math.Seq.{drop-append_seam}
 use Rattle.unicode.specs.Binary.{is_white_space}
 use Rattle.lalrpop_grammar.specs.Text.{Text, begins}
 use Rattle.lalrpop_sets.specs.CharacterSet.{Set}
@@ -48,13 +49,9 @@ escape_signed (d ∷ t) c e = ap (λ b. signed (sign b) t) (some_is d c e)
 behind_braces : (t front back : Text) (test : ℕ → Bool) → span test (drop 1 t) ≡ (front, back) → drop 1 back ≡ drop (length front + 2) t
 behind_braces t front back test e =
     let joined : front ++ back ≡ drop 1 t = ap (λ (y : Text × Text). y.0 ++ y.1) (sym e) ∙ span_joins test (drop 1 t) in
-    let back_is : drop (length front) (drop 1 t) ≡ back = ap (λ (u : Text). drop (length front) u) (sym joined) ∙ drop_front front back in
+    let back_is : drop (length front) (drop 1 t) ≡ back = ap (λ (u : Text). drop (length front) u) (sym joined) ∙ drop-append_seam front back in
     let steps : drop 1 (drop (length front) (drop 1 t)) ≡ drop ((1 + length front) + 1) t = drop-drop 1 (length front) (drop 1 t) ∙ drop-drop (length front + 1) 1 t ∙ ap (λ n. drop n t) (omega arith) in
     ap (λ (u : Text). drop 1 u) (sym back_is) ∙ steps ∙ ap (λ n. drop n t) (omega arith)
-  where
-    drop_front : (xs ys : Text) → drop (length xs) (xs ++ ys) ≡ ys
-    drop_front [] ys = refl
-    drop_front (x ∷ xs) ys = drop_front xs ys
 
 pub digits_found : (n : ℕ) (t front back : Text) → begins "{" t ≡ true → span is_ascii_hexdigit (drop 1 t) ≡ (front, back) → (length front == 0) ≡ false → begins "}" back ≡ true
     → digits_of n t ≡ Some (front, drop (length front + 2) t)

@@ -14,8 +14,11 @@ pub use Rattle.lalrpop_grammar.specs.Escaped
 -- the definitions of the trees, for callers
 pub use Rattle.lalrpop_hir.specs.Word
 pub use Rattle.lalrpop_hir.specs.Range
+pub use Rattle.lalrpop_hir.specs.Runs
 pub use Rattle.lalrpop_hir.specs.Counts
 pub use Rattle.lalrpop_hir.specs.Tree
+pub use Rattle.lalrpop_hir.specs.Parts
+pub use Rattle.lalrpop_hir.specs.Size
 pub use Rattle.lalrpop_hir.specs.Level
 pub use Rattle.lalrpop_hir.specs.Language
 -- the definitions of sets of characters, for callers

@@ -6,7 +6,7 @@ use Rattle.std.proofs.lemmas.List.{get_or-take, get_or-drop, length-take}
 use Rattle.std.proofs.Math.Utf8.{scalar}
 use Rattle.unicode.specs.CaseFolding.{fold_pairs, IsFoldPairs}
 use Rattle.ucd_case.specs.FoldOtherRows.{fold_other_rows}
-use Rattle.lalrpop_hir.specs.Range.{IsScalar}
+use Rattle.lalrpop_hir.specs.Runs.{IsScalar}
 use Rattle.lalrpop_hir.proofs.Canons.{IsScalar-from_char}
 use Rattle.lalrpop_sets.specs.Internal.Sets.{AreAlike}
 

@@ -5,7 +5,8 @@ use Rattle.std.specs.Int.{is_in_range}
 use Rattle.std.specs.List.{list_any}
 use Prim.Native.String.{String}
 use Rattle.unicode.specs.CaseFolding.{simple_fold}
-use Rattle.lalrpop_hir.specs.Range.{Range, next_scalar, IsCanon}
+use Rattle.lalrpop_hir.specs.Range.{Range}
+use Rattle.lalrpop_hir.specs.Runs.{next_scalar, IsCanon}
 use Rattle.lalrpop_hir.specs.Tree.{Tree, class, unicode}
 
 abbrev pub is_scalar : ℕ → Bool

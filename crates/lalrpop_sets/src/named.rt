@@ -2,7 +2,7 @@
 ghost use Rattle.std.specs.Prelude.{◌≡◌, ◌≤◌, ◌↔◌, ℕ, IfOk, MatchOption, None, Some};
 ghost use Rattle.unicode.specs.Perl.{is_digit_char, is_space_char, is_word_char};
 ghost use Rattle.unicode.specs.Rows.{in_ranges, AreRanges};
-ghost use Rattle.lalrpop_hir.specs.Range.{IsScalar};
+ghost use Rattle.lalrpop_hir.specs.Runs.{IsScalar};
 ghost use Rattle.lalrpop_sets.specs.CharacterSet.{Set, HasRuns};
 ghost use Rattle.lalrpop_sets.specs.NamedSet.{named};
 

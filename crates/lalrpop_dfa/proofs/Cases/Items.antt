@@ -6,8 +6,7 @@ use Rattle.std.proofs.lemmas.Bool.{lt-leb}
 use Rattle.lalrpop_hir.specs.Word.{IsWord, FirstDifferenceLess, Shortlex}
 use Rattle.lalrpop_hir.specs.Range.{Range, Covers}
 use Rattle.lalrpop_hir.specs.Tree.{Tree, empty, literal, class, unicode, alternation, none, also}
-use Rattle.lalrpop_nfa.specs.Graph.{Graph}
-use Rattle.lalrpop_nfa.specs.Lists.{Lists}
+use Rattle.lalrpop_nfa.specs.Graph.{Graph, Lists}
 use Rattle.lalrpop_nfa.specs.Path.{IsUntested, Path, here, epsilon, read, otherwise, noop, test, other}
 use Rattle.lalrpop_nfa.specs.Compiled.{IsLabel, IsCompiled}
 use Rattle.lalrpop_nfa.specs.declared.edge.Edge.{Edge}

@@ -1,5 +1,5 @@
 -- What the construction of an automaton is given and keeps.
-use Rattle.std.specs.Prelude.{◌≡◌, ◌≢◌, ℕ, ◌+◌, ◌<◌, ◌≤◌, ◌⊎◌, List, [], ◌∷◌, ◌++◌, length, map, slice_get, Some}
+use Rattle.std.specs.Prelude.{◌≡◌, ◌≢◌, ℕ, ◌+◌, ◌<◌, ◌≤◌, ◌⊎◌, List, [], ◌∷◌, ◌++◌, length, map, slice_get, Option, Some}
 use Rattle.std.specs.List.{Contains}
 use Rattle.std.specs.BTreeMap.{BTreeMap, get}
 use Rattle.lalrpop_hir.specs.Range.{Range, Covers}
@@ -48,6 +48,15 @@ IsAdded sets o t j sets2 = AddedTo sets.kernels.list sets.origins.items o.0 o.1 
 -- each number of the map is that of the set to which the set s leads by the values that take these test edges
 abbrev pub AreKnown : List Graph → List Item → BTreeMap Transitions ℕ → List (List Item) → Type 0
 AreKnown ns s known sets = (leads : Transitions) (j v : ℕ) → get transitions_cmp known leads ≡ Some j → AreTransitions ns s v leads.list.items → slice_get sets j ≡ Some (move ns s v)
+
+-- no class has a number
+abbrev pub AreUnknown : List (Option ℕ) → Type 0
+AreUnknown known = (c j : ℕ) → slice_get known c ≡ Some (Some j) → ⊥
+
+-- the same by the class of a value
+abbrev pub AreKnownClasses : List Graph → List Item → List Transitions → List (Option ℕ) → List (List Item) → Type 0
+AreKnownClasses ns s by_class known sets = (c j v : ℕ) (t : Transitions) → slice_get known c ≡ Some (Some j) → slice_get by_class c ≡ Some t
+    → AreTransitions ns s v t.list.items → slice_get sets j ≡ Some (move ns s v)
 
 -- the values of origins are of 32 bits
 abbrev pub AreSmall : List (ℕ × ℕ) → Type 0

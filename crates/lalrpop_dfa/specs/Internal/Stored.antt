@@ -1,5 +1,5 @@
 -- States whose test edges stand in a list of all test edges.
-use Rattle.std.specs.Prelude.{◌≡◌, ℕ, ◌+◌, ◌<◌, ◌≤◌, List, length, map, take, drop, slice_get, Some}
+use Rattle.std.specs.Prelude.{◌≡◌, ℕ, ◌+◌, ◌<◌, ◌≤◌, List, length, map, take, drop, slice_get, Option, Some}
 use Rattle.lalrpop_hir.specs.Range.{Range}
 use Rattle.lalrpop_dfa.specs.Dfa.{Row, StoredState, step}
 
@@ -14,6 +14,11 @@ rows_of edges states = map (row_of edges) states
 abbrev pub AreWithin : List (Range × ℕ) → List StoredState → Type 0
 AreWithin edges states = (p : ℕ) (s : StoredState) → slice_get states p ≡ Some s → s.first + s.count ≤ length edges
 
--- where the values lead from the state p, as many as the list has
+-- where the values of ASCII lead from the state p
 abbrev pub AreSteps : List Row → ℕ → List ℕ → Type 0
-AreSteps d p targets = (c : ℕ) → c < length targets → slice_get targets c ≡ Some (step d p c)
+AreSteps d p targets = (c : ℕ) → c < 128 → slice_get targets c ≡ Some (step d p c)
+
+-- each state has a place, and where it names one of the lists, that list tells where values lead from the state
+pub record AreListed (d : List Row) (places : List (Option ℕ)) (lists : List (List ℕ)) : Type 0 where
+  pub same_length : length places ≡ length d
+  pub each : (p k : ℕ) → slice_get places p ≡ Some (Some k) → (targets : List ℕ) × ((slice_get lists k ≡ Some targets) × AreSteps d p targets)

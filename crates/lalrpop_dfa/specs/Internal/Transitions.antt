@@ -1,14 +1,15 @@
 -- The test edges that a value takes from a set of items.
-use Rattle.std.specs.Prelude.{◌≡◌, ℕ, ◌⊎◌, ◌↔◌, List, [], map, slice_get, Some}
+use Rattle.std.specs.Prelude.{◌≡◌, ℕ, ◌<◌, ◌⊎◌, ◌↔◌, List, [], length, slice_get, Some}
 use Rattle.std.specs.List.{Contains}
-use Rattle.std.specs.List.Sorted.{IsNonDecreasingBy}
 use Rattle.std.specs.Cmp.Lexicographic.{slice_cmp}
 use Rattle.std.specs.Ordering.{nat_cmp, ordering_then}
 use Rattle.std.specs.declared.cmp.Ordering.{Ordering}
 use Rattle.lalrpop_hir.specs.Range.{Range, Covers}
 use Rattle.lalrpop_nfa.specs.Graph.{Graph}
 use Rattle.lalrpop_nfa.specs.Path.{test}
-use Rattle.lalrpop_dfa.specs.Items.{Item}
+use Rattle.lalrpop_alphabet.specs.Alphabet.{Classes, LeadsBy, CutsAt, IsEndOf, IsInCell, IsFirstOf}
+use Rattle.lalrpop_alphabet.specs.declared.Cell.{Cell}
+use Rattle.lalrpop_dfa.specs.Items.{Item, IsLeaving}
 use Rattle.lalrpop_dfa.specs.Internal.Ascending.{item_cmp}
 use Rattle.lalrpop_dfa.specs.declared.blocks.Transition.{Transition}
 use Rattle.lalrpop_dfa.specs.declared.blocks.Transitions.{Transitions}
@@ -30,19 +31,34 @@ IsTransition ns s v x q = (g : Graph) × (r : Range) × (Contains s x × (slice_
 abbrev pub AreTransitions : List Graph → List Item → ℕ → List Transition → Type 0
 AreTransitions ns s v leads = (l : Transition) → Contains leads l ↔ IsTransition ns s v l.item l.to
 
--- the ranges of the blocks ascend by their starts
-abbrev pub AreRising : List Block → Type 0
-AreRising blocks = IsNonDecreasingBy (λ (p : Block). p.range.start) blocks
+-- the numbers are below n
+abbrev pub AreBelow : ℕ → List ℕ → Type 0
+AreBelow n ks = (k : ℕ) → Contains ks k → k < n
 
--- the blocks keep their ranges; to the edges of each come those that E allows for its first value
-abbrev pub Gained : List Block → List Block → (ℕ → Transition → Type 0) → Type 0
-Gained old new E = (map (λ (p : Block). p.range) new ≡ map (λ (p : Block). p.range) old)
-    × ((k : ℕ) (p p2 : Block) → slice_get old k ≡ Some p → slice_get new k ≡ Some p2 → (l : Transition) → Contains p2.transitions.list.items l ↔ (Contains p.transitions.list.items l ⊎ E p.range.start l))
+-- no class has an edge
+abbrev pub AreBare : List Transitions → Type 0
+AreBare by_class = (c : ℕ) (t : Transitions) → slice_get by_class c ≡ Some t → t.list.items ≡ []
 
--- no block has an edge
-abbrev pub AreBare : List Block → Type 0
-AreBare blocks = (k : ℕ) (p : Block) → slice_get blocks k ≡ Some p → p.transitions.list.items ≡ []
+-- to the edges of each class come those that E allows for it
+abbrev pub Gained : List Transitions → List Transitions → (ℕ → Transition → Type 0) → Type 0
+Gained old new E = (length new ≡ length old)
+    × ((c : ℕ) (t t2 : Transitions) → slice_get old c ≡ Some t → slice_get new c ≡ Some t2 → (l : Transition) → Contains t2.list.items l ↔ (Contains t.list.items l ⊎ E c l))
 
--- each block has the test edges that its first value takes
-abbrev pub HaveTransitions : List Graph → List Item → List Block → Type 0
-HaveTransitions ns s blocks = (k : ℕ) (p : Block) → slice_get blocks k ≡ Some p → AreTransitions ns s p.range.start p.transitions.list.items
+-- each class has the test edges that leave the items by its values
+abbrev pub AreGathered : Classes → List Item → List Transitions → Type 0
+AreGathered a items by_class = (length by_class ≡ a.count)
+    × ((c : ℕ) (t : Transitions) → slice_get by_class c ≡ Some t → (l : Transition) → Contains t.list.items l ↔ (Contains items l.item × LeadsBy a l.item.0 l.item.1 c l.to))
+
+-- the cells at which labels of the items begin or are over
+abbrev pub AreCutsOf : Classes → List Item → List ℕ → Type 0
+AreCutsOf a items cuts = (k : ℕ) → Contains cuts k ↔ ((x : Item) × (Contains items x × CutsAt a x.0 x.1 k))
+
+-- the labels that leave a set begin or are over at the cuts, and its values take the edges of their classes
+pub record IsLaidOut (ns : List Graph) (s : List Item) (cells : List Cell) (cuts : List ℕ) (by_class : List Transitions) : Type 0 where
+  pub ends : (v : ℕ) → ((r : Range) × (IsLeaving ns s r × IsEndOf r v)) ↔ ((k : ℕ) × (Contains cuts k × IsFirstOf cells k v))
+  pub taken : (k c v : ℕ) (t : Transitions) → IsInCell cells k c v → slice_get by_class c ≡ Some t → AreTransitions ns s v t.list.items
+
+-- the values of each block take the edges of its class
+abbrev pub HaveTransitions : List Graph → List Item → List Transitions → List Block → Type 0
+HaveTransitions ns s by_class blocks = (p : ℕ) (b : Block) → slice_get blocks p ≡ Some b
+    → (t : Transitions) × ((slice_get by_class b.class ≡ Some t) × AreTransitions ns s b.range.start t.list.items)

@@ -1,7 +1,8 @@
 -- Patterns that are easy to get wrong: each spells the tree that stands behind it, and no other (`one_tree`), or none at all.
 use Rattle.std.proofs.Common.{◌≡◌, ℕ, Bool, true, false, not, cond, List, [], ◌∷◌, Some, None, refl, codes, lit<, lit≤, ◌++◌}
 use Rattle.lalrpop_hir.specs.Range.{Range}
-use Rattle.lalrpop_hir.specs.Tree.{Tree, literal, class, unicode, repetition, look, empty, alternation, concat, trees, capture}
+use Rattle.lalrpop_hir.specs.Tree.{Tree, literal, class, unicode, repetition, look, empty, alternation, concat, capture}
+use Rattle.lalrpop_hir.specs.Parts.{trees}
 use Rattle.lalrpop_hir.specs.declared.hir.Look.TheVariants.{WordUnicode}
 use Rattle.lalrpop_grammar.specs.Text.{Text}
 use Rattle.lalrpop_sets.specs.CharacterSet.{fold, just, canon}

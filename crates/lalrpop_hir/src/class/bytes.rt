@@ -1,7 +1,8 @@
 //! Classes of bytes.
 ghost use Rattle.std.specs.Prelude.{◌≡◌, ◌≤◌, min, max, IfOk};
 ghost use Rattle.std.specs.List.Sorted.{IsNonDecreasingBy};
-ghost use Rattle.lalrpop_hir.specs.Range.{AreByteRuns, IsByteCanon, Covered, next_byte};
+ghost use Rattle.lalrpop_hir.specs.Range.{Covered};
+ghost use Rattle.lalrpop_hir.specs.Runs.{AreByteRuns, IsByteCanon, next_byte};
 
 use super::{ClassBytes, ClassBytesRange};
 use std::alloc::{AllocError, Global};

@@ -1,7 +1,8 @@
 //! Classes of characters.
 ghost use Rattle.std.specs.Prelude.{◌≡◌, ◌≤◌, min, max, IfOk};
 ghost use Rattle.std.specs.List.Sorted.{IsNonDecreasingBy};
-ghost use Rattle.lalrpop_hir.specs.Range.{IsCanonical, IsCanon, Covered, next_scalar};
+ghost use Rattle.lalrpop_hir.specs.Range.{Covered};
+ghost use Rattle.lalrpop_hir.specs.Runs.{IsCanonical, IsCanon, next_scalar};
 
 use super::{ClassUnicode, ClassUnicodeRange};
 use std::alloc::{AllocError, Global};

@@ -1,6 +1,6 @@
 -- Cases of specs/Contiguous.antt: edges from 2 to 3, from 2 to 4 and from 5 to 6.
 use Rattle.std.proofs.Common.{◌≡◌, List, [], ◌∷◌, length, Some, None, refl, ap, ◌∙◌, arith}
-use Rattle.lalrpop_nfa.specs.Lists.{Lists}
+use Rattle.lalrpop_nfa.specs.Graph.{Lists}
 use Rattle.lalrpop_nfa.specs.Path.{noop}
 use Rattle.lalrpop_nfa.specs.StateView.{StateView}
 use Rattle.lalrpop_nfa.specs.Firsts.{Noops, Tests}

@@ -1,6 +1,6 @@
 -- Cases of specs/Firsts.antt.
 use Rattle.std.proofs.Common.{◌≡◌, ◌≢◌, [], ◌∷◌, Some, None, refl, ap}
-use Rattle.lalrpop_nfa.specs.Lists.{Lists}
+use Rattle.lalrpop_nfa.specs.Graph.{Lists}
 use Rattle.lalrpop_nfa.specs.Path.{noop}
 use Rattle.lalrpop_nfa.specs.StateView.{StateView}
 use Rattle.lalrpop_nfa.specs.Firsts.{Noops, Tests, Others, SameListsBut, index_of, with_index}

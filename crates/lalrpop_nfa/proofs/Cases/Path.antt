@@ -1,9 +1,9 @@
 -- Cases of specs/Path.antt: the automaton of the literal `a`. Its states are ACCEPT, REJECT, START, and 3, before the letter.
-use Rattle.std.proofs.Common.{◌≡◌, ℕ, zero, suc, ◌<◌, List, [], ◌∷◌, inl, inr, refl, sym, ap, subst, ◌∙◌, arith}
+use Rattle.std.proofs.Common.{◌≡◌, ℕ, zero, suc, ◌<◌, List, [], ◌∷◌, refl, sym, ap, subst, ◌∙◌, arith}
 use Rattle.std.specs.List.{Contains}
 use Rattle.lalrpop_hir.specs.Range.{Range, Covers}
-use Rattle.lalrpop_nfa.specs.Lists.{Lists}
-use Rattle.lalrpop_nfa.specs.Path.{noop, test, other, IsUntested, Tests, Reads, Path, here, epsilon, read, otherwise}
+use Rattle.lalrpop_nfa.specs.Graph.{Lists}
+use Rattle.lalrpop_nfa.specs.Path.{noop, test, other, IsUntested, Path, here, epsilon, read, otherwise}
 use Rattle.lalrpop_nfa.specs.declared.edge.Edge.{Edge}
 use Rattle.lalrpop_nfa.specs.declared.edge.Noop.{Noop}
 use Rattle.lalrpop_nfa.specs.declared.edge.Other.{Other}
@@ -32,30 +32,15 @@ other_is p q (suc (suc (suc k)), l, e) = absurd (omega arith)
 
 -- ---- steps
 
-covers_a : Covers just_a 97
+pub covers_a : Covers just_a 97
 covers_a = (omega arith, omega arith)
 
--- from 3 a test reads `a`, and no test reads `b`
-value_that_is_tested : Tests edges_of_a 3 97 0
-value_that_is_tested = (just_a, ((0, omega arith, refl), covers_a))
-
-value_that_is_untested : IsUntested edges_of_a 3 98
+-- no test of 3 covers `b`, and one covers `a`
+pub value_that_is_untested : IsUntested edges_of_a 3 98
 value_that_is_untested r q h k = let c = subst (λ s. Covers s 98) (test_is 3 q r h).2 k in omega (arith, c.1)
 
-tested_value_is_not_untested : ¬ IsUntested edges_of_a 3 97
+pub tested_value_is_not_untested : ¬ IsUntested edges_of_a 3 97
 tested_value_is_not_untested u = u just_a 0 (0, omega arith, refl) covers_a
-
-untested_value_is_not_tested : (q : ℕ) → ¬ Tests edges_of_a 3 98 q
-untested_value_is_not_tested q h = value_that_is_untested h.0 q h.1.0 h.1.1
-
--- `a` leads to ACCEPT, `b` by the other edge to REJECT
-values_that_are_read : Reads edges_of_a 3 97 0 × Reads edges_of_a 3 98 1
-values_that_are_read = (inl value_that_is_tested, inr ((2, omega arith, refl), value_that_is_untested))
-
--- the other edge doesn't read `a`
-tested_value_does_not_fall : ¬ Reads edges_of_a 3 97 1
-tested_value_does_not_fall (inl h) = omega (arith, (test_is 3 1 h.0 h.1.0).1)
-tested_value_does_not_fall (inr h) = tested_value_is_not_untested h.1
 
 -- ---- paths
 

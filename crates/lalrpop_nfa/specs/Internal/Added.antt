@@ -1,8 +1,7 @@
 -- What a further state, or further edges, do to the graph.
 use Rattle.std.specs.Prelude.{ℕ, List, ◌++◌, ◌∷◌, [], map}
 use Rattle.lalrpop_hir.specs.Range.{Range}
-use Rattle.lalrpop_nfa.specs.Lists.{Lists}
-use Rattle.lalrpop_nfa.specs.Graph.{Graph}
+use Rattle.lalrpop_nfa.specs.Graph.{Graph, Lists}
 use Rattle.lalrpop_nfa.specs.Path.{noop, test}
 use Rattle.lalrpop_nfa.specs.declared.edge.StateKind.{StateKind}
 

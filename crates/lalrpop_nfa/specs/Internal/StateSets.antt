@@ -1,9 +1,9 @@
 -- The states that a word leads to, as the run of one automaton lists and marks them.
 use Rattle.std.specs.Prelude.{◌≡◌, ℕ, ◌<◌, ◌⊎◌, ◌↔◌, Bool, true, false, List, [], ◌∷◌, ◌++◌, length, slice_index_or, slice_get, Some}
 use Rattle.std.specs.List.{Contains, count_by}
-use Rattle.lalrpop_nfa.specs.Graph.{Graph}
-use Rattle.lalrpop_nfa.specs.Lists.{Lists}
-use Rattle.lalrpop_nfa.specs.Path.{Path, Reads, noop}
+use Rattle.lalrpop_nfa.specs.Graph.{Graph, Lists}
+use Rattle.lalrpop_nfa.specs.Path.{Path, noop}
+use Rattle.lalrpop_nfa.specs.Internal.Reads.{Reads}
 use Rattle.lalrpop_nfa.specs.declared.edge.StateKind.TheVariants.{Accept, Reject}
 
 -- a set of states: the listed ones, and the number that each of them is below

@@ -1,7 +1,7 @@
 -- What holds of the trees that programs make: characters are code values, the ranges of classes are canonical, and
 -- the least number of repetitions is at most the greatest.
 use Rattle.std.specs.Prelude.{ℕ, zero, suc, ◌≤◌, List, [], ◌∷◌, Option, Some, None}
-use Rattle.lalrpop_hir.specs.Range.{IsCanonical, AreByteRuns}
+use Rattle.lalrpop_hir.specs.Runs.{IsCanonical, AreByteRuns}
 use Rattle.lalrpop_hir.specs.Counts.{AreOrdered}
 use Rattle.lalrpop_hir.specs.Tree.{Class, unicode, bytes, Tree, empty, literal, class, look, repetition, capture, concat, alternation, Trees, none, also}
 

@@ -3,7 +3,8 @@ use Rattle.std.proofs.Common.{◌≡◌, ℕ, zero, suc, ◌≤◌, List, [], �
 use Rattle.std.specs.Prelude.{slice_index}
 use Rattle.std.specs.Fmt.{digits}
 use Rattle.std.specs.Str.{chars}
-use Rattle.lalrpop_hir.specs.Tree.{Tree, literal, of_text}
+use Rattle.lalrpop_hir.specs.Tree.{Tree, literal}
+use Rattle.lalrpop_hir.specs.Parts.{of_text}
 use Rattle.lalrpop_hir.specs.Language.{Matches}
 use Rattle.lalrpop_lexer.specs.Fault.{fault}
 use Rattle.lalrpop_lexer.specs.Report.{NoFault}

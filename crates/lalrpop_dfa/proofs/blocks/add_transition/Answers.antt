@@ -1,37 +1,28 @@
-use Rattle.std.proofs.Common.{rules, ◌≡◌, List, suc, arith, ◌<◌, ◌≤◌, length}
-use Rattle.std.proofs.Common.{nat_lt, nat_le}
-use Rattle.std.proofs.lemmas.List.Sorted.{IsPartitionPoint-from_clause, IsPartitionedBy-leb}
-use Rattle.lalrpop_hir.specs.Range.{Range}
-use Rattle.lalrpop_dfa.specs.declared.blocks.Block.{Block}
-use Rattle.lalrpop_dfa.proofs.TransitionSteps.{got_none, got_more, got_all}
+use Rattle.std.proofs.Common.{◌≡◌, ◌<◌, length, get_or, subst, arith}
+use Rattle.std.specs.List.{Contains}
+use Rattle.std.proofs.lemmas.List.{take_all}
+use Rattle.std.proofs.lemmas.List.Elements.{Contains-get_or}
+use Rattle.lalrpop_dfa.specs.Internal.Transitions.{Gained}
+use Rattle.lalrpop_dfa.proofs.Leavings.{gained_none, gained_one, gained_then, class_more}
+use Rattle.lalrpop_nfa.proofs.Contained.{contains_none}
 use Rattle.lalrpop_dfa.proofs.blocks.add_transition.Goals as goal
 
-pub loop-index-init : goal.loop-index-init
-loop-index-init c = record {
-  got = got_none c.partition_point-first.result c.partition_point-first.result c.args.transition.now c.args.blocks.now.items (omega arith);
-  within = λ l. absurd (omega (arith, l));
-}
+pub loop-class-init : goal.loop-class-init
+loop-class-init c = gained_none c.args.by_class.now.items (λ i l h. contains_none i h.0)
 
-pub loop-index-preserved : goal.loop-index-preserved
-loop-index-preserved c =
-    let after : c.partition_point-first.result ≤ c.loop-index.index = search rules in
-    let within : c.loop-index.index < length c.loop-index.blocks.items = search rules in
-    record {
-      got = got_more c.partition_point-first.result c.loop-index.index c.args.transition.now c.args.blocks.now.items c.loop-index.blocks.items c.index_mut.result.now c.add.new.self
-          c.loop-index.invariant.got after within c.index_mut.ensures.value c.in_ok-add.ensures.range c.in_ok-add.ensures.transitions;
-      within = λ l. omega (arith, c.loop-index-test.true);
-    }
+pub index_mut-requires : goal.index_mut-requires
+index_mut-requires c =
+    omega (arith, c.loop-class.by_class.ok, c.loop-class.invariant.0, c.requires (get_or c.args.classes.now c.loop-class.class-index 0) (Contains-get_or c.args.classes.now c.loop-class.class-index 0 c.loop-class-test.true))
+
+pub loop-class-preserved : goal.loop-class-preserved
+loop-class-preserved c =
+    let within : get_or c.args.classes.now c.loop-class.class-index 0 < length c.loop-class.by_class.items =
+    omega (arith, c.loop-class.invariant.0, c.requires (get_or c.args.classes.now c.loop-class.class-index 0) (Contains-get_or c.args.classes.now c.loop-class.class-index 0 c.loop-class-test.true)) in
+    gained_then c.args.by_class.now.items c.loop-class.by_class.items _ c.loop-class.invariant
+    (gained_one c.loop-class.by_class.items (get_or c.args.classes.now c.loop-class.class-index 0) c.index_mut.result.now c.add.new.self c.args.transition.now within c.index_mut.ensures.value c.in_ok-add.ensures)
+    (class_more c.args.classes.now c.loop-class.class-index 0 c.args.transition.now c.loop-class-test.true)
 
 pub returns : goal.returns
 returns c =
-    let label : Range = c.args.label.now in
-    let old : List Block = c.args.blocks.now.items in
-    let is : c.as_slice.result.now ≡ old = c.as_slice.ensures.value in
-    let is2 : c.as_slice-2.result.now ≡ old = c.as_slice-2.ensures.value in
-    let low = IsPartitionPoint-from_clause (λ (p : Block). nat_lt p.range.start label.start) c.as_slice.result.now c.partition_point-first.result c.partition_point-first.ensures.partitioned
-    (rw is (IsPartitionedBy-leb (λ (p : Block). suc p.range.start) old label.start (λ i j d l m. (let r = c.requires i j d l m in omega (arith, r))))) (λ a r f k. search rules) in
-    let high = IsPartitionPoint-from_clause (λ (p : Block). nat_le p.range.start label.end) c.as_slice-2.result.now c.partition_point-end.result c.partition_point-end.ensures.partitioned
-    (rw is2 (IsPartitionedBy-leb (λ (p : Block). p.range.start) old label.end c.requires)) (λ a r f k. search rules) in
-    got_all label c.args.transition.now old c.loop-index.blocks.items c.partition_point-first.result c.partition_point-end.result c.loop-index.index c.loop-index.invariant.got
-    c.loop-index.auto.index c.loop-index-test.false c.loop-index.invariant.within
-    (λ k d l. rw (← is) (low.0 k d (omega arith) l)) (λ k d l m. rw (← is) (low.1 k d l (rw is m))) (λ k d l. rw (← is2) (high.0 k d (omega arith) l)) (λ k d l m. rw (← is2) (high.1 k d l (rw is2 m)))
+    subst (λ cs. Gained c.args.by_class.now.items c.loop-class.by_class.items (λ i l. Contains cs i × (l ≡ c.args.transition.now)))
+    (take_all c.loop-class.class-index c.args.classes.now c.loop-class-test.false) c.loop-class.invariant

@@ -1,9 +1,7 @@
-use Rattle.std.proofs.Common.{◌<◌, ◌≤◌}
-use Rattle.lalrpop_dfa.proofs.TransitionSteps.{HasGot}
+use Rattle.std.proofs.Common.{◌≡◌, take}
+use Rattle.std.specs.List.{Contains}
+use Rattle.lalrpop_dfa.specs.Internal.Transitions.{Gained}
 use Rattle.lalrpop_dfa.proofs.blocks.add_transition.Given as goal
 
-abbrev pub invariant-loop-index : goal.invariant-loop-index
-invariant-loop-index l = record {
-  got : HasGot l.first l.index l.fn.transition l.fn.blocks.items l.blocks.items;
-  within : l.first < l.index → l.index ≤ l.end;
-}
+abbrev pub invariant-loop-class : goal.invariant-loop-class
+invariant-loop-class l = Gained l.fn.by_class.items l.by_class.items (λ c x. Contains (take l.class-index l.classes) c × (x ≡ l.fn.transition))

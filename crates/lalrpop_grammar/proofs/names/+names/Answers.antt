@@ -1,6 +1,6 @@
 use Rattle.std.proofs.Common.{◌++◌, map, take, sym, ap, ◌∙◌, arith, append_assoc}
 use Rattle.std.proofs.lemmas.List.{append-nil}
-use Rattle.lalrpop_hir.specs.Tree.{trees}
+use Rattle.lalrpop_hir.specs.Parts.{trees}
 use Rattle.lalrpop_hir.specs.Internal.Depth.{depth}
 use Rattle.lalrpop_hir.specs.Internal.TreeFalls.{depth-le-greatest}
 use Rattle.lalrpop_grammar.specs.GroupName.{names, all_names}

@@ -1,5 +1,5 @@
 use Rattle.std.proofs.Common.{◌≡◌, ◌+◌, ◌*◌, take}
-use Rattle.lalrpop_hir.specs.Tree.{trees}
+use Rattle.lalrpop_hir.specs.Parts.{trees}
 use Rattle.lalrpop_hir.specs.Internal.Depth.{depth, greatest_depth}
 use Rattle.lalrpop_hir.specs.Level.{kind_tree}
 use Rattle.lalrpop_hir.proofs.clone.+copy.Given as goal

@@ -1,11 +1,11 @@
 use Rattle.std.proofs.Common.{inr, arith, ap, ◌≢◌, ◌-◌, ◌∷◌}
 use Rattle.std.proofs.lemmas.Result.{err_from_is_err_and, IfOk-weaker}
-use Rattle.lalrpop_hir.specs.Tree.{trees}
+use Rattle.lalrpop_hir.specs.Parts.{trees}
 use Rattle.lalrpop_hir.specs.Internal.Depth.{depth}
 use Rattle.lalrpop_hir.specs.Internal.TreeFalls.{depth-le-greatest}
 use Rattle.lalrpop_nfa.specs.Internal.Fragment.{fragment_of, before, copies, optional_copies, star_expr, concat_expr}
 use Rattle.lalrpop_nfa.specs.Internal.Extends.{Extends}
-use Rattle.lalrpop_nfa.specs.Lists.{Lists}
+use Rattle.lalrpop_nfa.specs.Graph.{Lists}
 use Rattle.lalrpop_nfa.proofs.BuildLemmas.{noops_new, Extends-before, Extends-star_expr, Extends-plus_expr, Extends-optional_expr, Extends-alternation_expr, Extends-kinds, Extends-copies, Extends-optional_copies, below-last, below-front, fault-last, fault-front, moved, drop_past, first_fault-next, AreValid-next, Branched-more, repeat_more}
 use Rattle.lalrpop_nfa.proofs.Nfa.+expr.Goals as goal
 

@@ -1,5 +1,6 @@
 use Rattle.std.proofs.Common.{◌≡◌, ◌+◌, ◌*◌, ◌≤◌, ◌⊎◌, ◌++◌, List, length, drop}
-use Rattle.lalrpop_hir.specs.Tree.{Tree, trees}
+use Rattle.lalrpop_hir.specs.Tree.{Tree}
+use Rattle.lalrpop_hir.specs.Parts.{trees}
 use Rattle.lalrpop_hir.specs.Internal.Depth.{depth, greatest_depth}
 use Rattle.lalrpop_nfa.specs.Fault.{first_fault, last_fault}
 use Rattle.lalrpop_nfa.specs.Internal.Valid.{AreValid}

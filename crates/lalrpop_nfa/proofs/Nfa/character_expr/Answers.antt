@@ -1,5 +1,5 @@
 use Rattle.std.proofs.Common.{inl, ap, ◌∷◌, []}
-use Rattle.lalrpop_nfa.specs.Lists.{Lists}
+use Rattle.lalrpop_nfa.specs.Graph.{Lists}
 use Rattle.lalrpop_nfa.proofs.BuildLemmas.{Extends-one_of}
 use Rattle.lalrpop_nfa.proofs.Nfa.character_expr.Goals as goal
 

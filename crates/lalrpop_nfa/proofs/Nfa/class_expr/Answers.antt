@@ -1,6 +1,6 @@
 use Rattle.std.proofs.Common.{inl, ap, ◌∙◌}
 use Rattle.std.proofs.lemmas.List.{append-nil}
-use Rattle.lalrpop_nfa.specs.Lists.{Lists}
+use Rattle.lalrpop_nfa.specs.Graph.{Lists}
 use Rattle.lalrpop_nfa.proofs.BuildLemmas.{take_past, Extends-one_of}
 use Rattle.lalrpop_nfa.proofs.Nfa.class_expr.Goals as goal
 use Rattle.lalrpop_nfa.proofs.Nfa.class_expr.Goals.{in-Unicode+else-loop-range-test, in-Bytes+else-loop-range-2-test}

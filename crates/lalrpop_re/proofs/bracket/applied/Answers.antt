@@ -1,6 +1,7 @@
 use Rattle.std.proofs.Common.{◌⊎◌}
 use Rattle.std.proofs.lemmas.Result.{IfOk-weaker}
-use Rattle.lalrpop_hir.specs.Range.{Covered, IsCanon}
+use Rattle.lalrpop_hir.specs.Range.{Covered}
+use Rattle.lalrpop_hir.specs.Runs.{IsCanon}
 use Rattle.lalrpop_sets.specs.CharacterSet.{Set, HasRuns}
 use Rattle.lalrpop_grammar.specs.Bracket.{apply}
 use Rattle.lalrpop_re.specs.Internal.Views.{operator_view}

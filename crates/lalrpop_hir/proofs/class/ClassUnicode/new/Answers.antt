@@ -1,6 +1,6 @@
 use Rattle.std.proofs.Common.{rules}
 use Rattle.std.proofs.lemmas.List.Sorted.{IsNonDecreasingBy-from_sort_by_key}
-use Rattle.lalrpop_hir.specs.Range.{next_scalar, IsScalar}
+use Rattle.lalrpop_hir.specs.Runs.{next_scalar, IsScalar}
 use Rattle.lalrpop_hir.proofs.Joining.{AreRuns-permutation}
 use Rattle.lalrpop_hir.proofs.class.ClassUnicode.new.Goals as goal
 

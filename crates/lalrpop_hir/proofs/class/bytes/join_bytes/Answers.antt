@@ -1,6 +1,7 @@
 use Rattle.std.proofs.Common.{◌≡◌, ◌<◌, ◌≤◌, subst, sym, ap, ◌∙◌, get_or, ◌∷◌}
 use Rattle.std.specs.List.Sorted.{IsNonDecreasingBy}
-use Rattle.lalrpop_hir.specs.Range.{Range, IsByte, next_byte}
+use Rattle.lalrpop_hir.specs.Range.{Range}
+use Rattle.lalrpop_hir.specs.Runs.{IsByte, next_byte}
 use Rattle.lalrpop_hir.proofs.Canons.{byte_steps}
 use Rattle.lalrpop_hir.proofs.Joining.{IsJoining-start, IsJoining-behind, IsJoining-beside, IsJoining-end, IsAt, IsProper, IsProper-bytes}
 use Rattle.lalrpop_hir.proofs.class.bytes.join_bytes.Goals as goal

@@ -1,4 +1,4 @@
-use Rattle.lalrpop_hir.specs.Range.{IsByte, next_byte}
+use Rattle.lalrpop_hir.specs.Runs.{IsByte, next_byte}
 use Rattle.lalrpop_hir.proofs.Joining.{IsJoining}
 use Rattle.lalrpop_hir.proofs.class.bytes.join_bytes.Given as goal
 

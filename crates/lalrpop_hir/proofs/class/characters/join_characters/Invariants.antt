@@ -1,4 +1,4 @@
-use Rattle.lalrpop_hir.specs.Range.{IsScalar, next_scalar}
+use Rattle.lalrpop_hir.specs.Runs.{IsScalar, next_scalar}
 use Rattle.lalrpop_hir.proofs.Joining.{IsJoining}
 use Rattle.lalrpop_hir.proofs.class.characters.join_characters.Given as goal
 

@@ -1,5 +1,5 @@
 use Rattle.std.proofs.Common.{◌∙◌, sym, ap, subst, length, arith}
-use Rattle.lalrpop_nfa.specs.Path.{Reads}
+use Rattle.lalrpop_nfa.specs.Internal.Reads.{Reads}
 use Rattle.lalrpop_nfa.specs.Internal.StateSets.{StateList, Visited, IsGrown, IsClosure}
 use Rattle.lalrpop_nfa.proofs.StateSetLemmas.{read_at, moving_start, moving_more, moving_end}
 use Rattle.lalrpop_nfa.proofs.interpret.Simulation.read.Goals as goal

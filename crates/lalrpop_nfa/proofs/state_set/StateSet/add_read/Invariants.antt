@@ -2,7 +2,7 @@ use Rattle.std.proofs.Common.{◌≡◌, ℕ, true, false}
 use Rattle.std.specs.List.{Contains}
 use Rattle.lalrpop_hir.specs.Range.{Range, Covers}
 use Rattle.lalrpop_nfa.specs.declared.edge.Edge.{Edge}
-use Rattle.lalrpop_nfa.specs.Path.{Tests}
+use Rattle.lalrpop_nfa.specs.Internal.Reads.{Tests}
 use Rattle.lalrpop_nfa.proofs.StateSetLemmas.{IsGoing}
 use Rattle.lalrpop_nfa.proofs.state_set.StateSet.add_read.Given as goal
 

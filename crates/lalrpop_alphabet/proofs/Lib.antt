@@ -1,0 +1,7 @@
+mod Assembling
+pub mod Cuts
+pub mod CutsLabels
+pub mod GroupLeads
+mod Classing
+mod Marking
+mod Numbering

@@ -1,0 +1,5 @@
+pub mod Grouped
+pub mod Cuts
+pub mod Leading
+pub mod Signatures
+pub mod Numbered

@@ -1,0 +1,186 @@
+//! The labels of each state, by where they lead, in lists that are numbered.
+
+ghost use Rattle.std.specs.Prelude.{◌≡◌, ◌<◌, IfOk, OnOk, [], length};
+ghost use Rattle.lalrpop_alphabet.specs.Internal.Grouped.{AreGrouped};
+ghost use Rattle.lalrpop_alphabet.specs.Internal.Leading.{IsListOf, IsGrown, IsClosed, IsTurned, AreLeads, AreStatesTo};
+
+use crate::{Lead, NfaLeads, StateLeads};
+use lalrpop_nfa::{Nfa, NfaStateIndex, START};
+use lalrpop_ranges::Test;
+use std::alloc::{AllocError, Global};
+use std::collections::BTreeMap;
+use std::marker::Model;
+
+/// Labels that lead from a state to one and the same state, in the order of its edges.
+#[derive(PartialEq, Eq, PartialOrd, Ord, Drop)]
+pub(crate) struct Labels {
+    pub(crate) list: Vec<Test>,
+}
+
+impl Clone for Labels {
+    ghost use Rattle.std.specs.Prelude.{◌≡◌};
+
+    ghost is_clone = { λ labels copy. copy.list.items ≡ labels.list.items };
+
+    fn clone(&self) -> Result<Labels, AllocError> {
+        Ok(Labels {
+            list: self.list.clone()?,
+        })
+    }
+}
+
+/// Lists of labels, and where the labels of each state of each automaton lead.
+#[derive(Drop)]
+pub(crate) struct Grouped {
+    pub(crate) lists: Vec<Labels>,
+    pub(crate) nfas: Vec<NfaLeads>,
+}
+
+// Labels that were read last, and the state that they lead to.
+#[derive(Drop)]
+struct Run {
+    labels: Labels,
+    to: NfaStateIndex,
+}
+
+// Lists of labels, and the number of each.
+#[derive(Drop)]
+struct Lists {
+    lists: Vec<Labels>,
+    numbers: BTreeMap<Labels, usize>,
+}
+
+impl Model for Lists {
+    ghost use Rattle.std.specs.Prelude.{List};
+    ghost use Rattle.lalrpop_alphabet.specs.declared.groups.Labels.{Labels};
+    ghost use Rattle.lalrpop_alphabet.specs.Internal.Leading.{AreNumbersOf};
+
+    ghost Value = { List Labels };
+
+    ghost view = { λ s. s.lists.items };
+
+    ghost invariant = { λ s. AreNumbersOf s.numbers s.lists.items };
+}
+
+impl Lists {
+    // The number of a list of labels, which is added unless it has one.
+    fn number_of(&mut self, labels: &Labels) -> Result<usize, AllocError>
+        ensures number { IfOk result (λ n. IsListOf self.new n labels.now.list.items) }
+        ensures grown { OnOk result (IsGrown self.old self.new) }
+    {
+        if let Some(number) = self.numbers.get(labels) {
+            return Ok(*number);
+        }
+        let number = self.lists.len();
+        let key = labels.clone()?;
+        let list = labels.clone()?;
+        // With room for the list, the map is the last to be refused.
+        self.lists.reserve(1)?;
+        self.numbers.insert(key, number)?;
+        self.lists.push(list)?;
+        Ok(number)
+    }
+
+    // Ends a run: its labels, if there are any, lead to its state.
+    fn close(&mut self, run: &mut Run, leads: &mut Vec<Lead>) -> Result<(), AllocError>
+        ensures closed { OnOk result (IsClosed self.old leads.old.items run.old.labels.list.items
+            run.old.to self.new leads.new.items) }
+        ensures empty { OnOk result (run.new.labels.list.items ≡ []) }
+    {
+        if !run.labels.list.is_empty() {
+            let group = self.number_of(&run.labels)?;
+            // Nearly all states have one lead.
+            if leads.is_empty() {
+                leads.reserve_exact(1)?;
+            }
+            leads.push(Lead { group, to: run.to })?;
+            run.labels.list.clear();
+        }
+        Ok(())
+    }
+
+    // Ends a run, unless it leads to this state as well.
+    fn turn_to(
+        &mut self,
+        to: NfaStateIndex,
+        run: &mut Run,
+        leads: &mut Vec<Lead>,
+    ) -> Result<(), AllocError>
+        ensures here { OnOk result (run.new.to ≡ to) }
+        ensures turned { OnOk result (IsTurned self.old leads.old.items run.old.labels.list.items
+            run.old.to self.new leads.new.items run.new.labels.list.items run.new.to) }
+    {
+        if to != run.to {
+            self.close(run, leads)?;
+            run.to = to;
+        }
+        Ok(())
+    }
+
+    // Where the labels of a state lead. The run is there to be used again from state to state.
+    fn leads_of(
+        &mut self,
+        alloc: Global,
+        nfa: &Nfa,
+        state: NfaStateIndex,
+        run: &mut Run,
+    ) -> Result<Vec<Lead>, AllocError>
+        requires { state < length nfa.now.kinds }
+        ensures grown { OnOk result (IsGrown self.old self.new) }
+        ensures leads { IfOk result (λ leads.
+            AreLeads self.new nfa.now.edges.tests state leads.items) }
+    {
+        let mut leads = Vec::new(alloc);
+        run.labels.list.clear();
+        for edge in nfa.edges::<Test>(state) {
+            self.turn_to(edge.to, run, &mut leads)?;
+            run.labels.list.push(edge.label.clone()?)?;
+        }
+        self.close(run, &mut leads)?;
+        Ok(leads)
+    }
+
+    // Where the labels of the states of an automaton lead.
+    fn states_of(
+        &mut self,
+        alloc: Global,
+        nfa: &Nfa,
+        run: &mut Run,
+    ) -> Result<Vec<StateLeads>, AllocError>
+        ensures grown { OnOk result (IsGrown self.old self.new) }
+        ensures states { IfOk result (λ states.
+            AreStatesTo self.new nfa.now (length nfa.now.kinds) states.items) }
+    {
+        let mut states = Vec::with_capacity(alloc, nfa.len())?;
+        for number in 0..nfa.len() {
+            let leads = self.leads_of(alloc, nfa, NfaStateIndex::new(number), run)?;
+            states.push(StateLeads { leads })?;
+        }
+        Ok(states)
+    }
+}
+
+/// The labels of the states of some automata. Equal lists of labels have one number.
+pub(crate) fn groups_of(alloc: Global, nfas: &[Nfa]) -> Result<Grouped, AllocError>
+    ensures { IfOk result (λ g. AreGrouped nfas.now g.lists.items g.nfas.items) }
+{
+    let mut lists = Lists {
+        lists: Vec::new(alloc),
+        numbers: BTreeMap::new(alloc),
+    };
+    let mut run = Run {
+        labels: Labels {
+            list: Vec::new(alloc),
+        },
+        to: START,
+    };
+    let mut leads = Vec::with_capacity(alloc, nfas.len())?;
+    for nfa in nfas {
+        let states = lists.states_of(alloc, nfa, &mut run)?;
+        leads.push(NfaLeads { states })?;
+    }
+    Ok(Grouped {
+        lists: lists.lists,
+        nfas: leads,
+    })
+}

@@ -1,0 +1,199 @@
+-- The blocks from cut to cut, where the cuts are cells of an alphabet in ascending order.
+use Rattle.std.proofs.Common.{◌≡◌, ℕ, ◌+◌, ◌-◌, ◌<◌, ◌≤◌, ◌⊎◌, inl, inr, ⊎_elim, List, [], ◌∷◌, ◌++◌, length, map, get_or, refl, sym, ap, ◌∙◌, subst, arith}
+use Rattle.std.specs.Prelude.{slice_get, Some}
+use Rattle.std.specs.List.{Contains}
+use Rattle.std.specs.List.Sorted.{IsNonDecreasing}
+use Rattle.std.proofs.lemmas.Bool.{cases_lt}
+use Rattle.std.proofs.lemmas.List.{get_or_default, map-append}
+use Rattle.std.proofs.lemmas.List.Elements.{Contains-get_or, Contains-append_cases}
+use Rattle.std.proofs.lemmas.Option.{slice_get-get_or, slice_get_cases, slice_get_read, get_or_from_slice_get}
+use Rattle.lalrpop_hir.specs.Range.{Range}
+use Rattle.lalrpop_nfa.specs.Graph.{Graph}
+use Rattle.lalrpop_ranges.specs.Partition.{IsCovered, IsPartition}
+use Rattle.lalrpop_ranges.proofs.Cells.{BlocksBelow, IsCut, parts_none, parts_kept, parts_passed, zero_is_cut}
+use Rattle.lalrpop_ranges.proofs.Partition.{IsPartition-from_parts}
+use Rattle.lalrpop_alphabet.specs.Alphabet.{AreCells, IsInCell, IsFirstOf}
+use Rattle.lalrpop_alphabet.specs.declared.Cell.{Cell}
+use Rattle.lalrpop_dfa.specs.Items.{Item, IsLeaving}
+use Rattle.lalrpop_dfa.specs.Internal.Transitions.{AreBelow, IsLaidOut, IsTransition, AreTransitions}
+use Rattle.lalrpop_dfa.specs.declared.blocks.Transition.{Transition}
+use Rattle.lalrpop_dfa.specs.declared.blocks.Transitions.{Transitions}
+use Rattle.lalrpop_dfa.specs.declared.blocks.Block.{Block}
+use Rattle.lalrpop_nfa.proofs.Contained.{contains_none, contains_only}
+
+abbrev no_cell : Cell
+no_cell = record { first = 0; class = 0 }
+
+-- the first value of the cell at the k-th cut
+abbrev pub first_of : List Cell → List ℕ → ℕ → ℕ
+first_of cells cuts k = (get_or cells (get_or cuts k 0) no_cell).first
+
+-- a cell that is read at a cut
+pub first_is : (cells : List Cell) (cuts : List ℕ) (k : ℕ) (x : Cell) → slice_get cells (get_or cuts k 0) ≡ Some x → first_of cells cuts k ≡ x.first
+first_is cells cuts k x h = ap (λ (y : Cell). y.first) (get_or_from_slice_get cells (get_or cuts k 0) x no_cell h)
+
+module _ (cells : List Cell) (count : ℕ) (are : AreCells cells count) (cuts : List ℕ) (ascending : IsNonDecreasing cuts) (below : AreBelow (length cells) cuts) where
+  cut_within : (k : ℕ) → k < length cuts → get_or cuts k 0 < length cells
+  cut_within k l = below (get_or cuts k 0) (Contains-get_or cuts k 0 l)
+
+  cell_there : (k : ℕ) → k < length cuts → slice_get cells (get_or cuts k 0) ≡ Some (get_or cells (get_or cuts k 0) no_cell)
+  cell_there k l = slice_get-get_or cells (get_or cuts k 0) no_cell (cut_within k l)
+
+  pub firsts_rise : (i j : ℕ) → i ≤ j → j < length cuts → first_of cells cuts i ≤ first_of cells cuts j
+  firsts_rise i j l m =
+      ⊎_elim
+      (λ (less : get_or cuts i 0 < get_or cuts j 0).
+      (let rise = are.rising (get_or cuts i 0) (get_or cuts j 0) (get_or cells (get_or cuts i 0) no_cell) (get_or cells (get_or cuts j 0) no_cell) (cell_there i (omega (arith, l, m))) (cell_there j m) less in omega arith))
+      (λ (more : get_or cuts j 0 ≤ get_or cuts i 0).
+      (let same : get_or cuts i 0 ≡ get_or cuts j 0 = omega (arith, more, ascending i j 0 l m) in
+      let equal : first_of cells cuts i ≡ first_of cells cuts j = ap (λ k. (get_or cells k no_cell).first) same in omega arith))
+      (cases_lt (get_or cuts i 0) (get_or cuts j 0))
+
+  -- where the first value of the next cut is greater, the first value of this one lies in its cell
+  pub lies_in : (i : ℕ) (x : Cell) → i + 1 < length cuts → slice_get cells (get_or cuts i 0) ≡ Some x → x.first < first_of cells cuts (i + 1) → IsInCell cells (get_or cuts i 0) x.class x.first
+  lies_in i x l at less =
+      let first : first_of cells cuts i ≡ x.first = first_is cells cuts i x at in
+      let apart : get_or cuts i 0 < get_or cuts (i + 1) 0 = ⊎_elim (λ (a : get_or cuts i 0 < get_or cuts (i + 1) 0). a)
+      (λ (more : get_or cuts (i + 1) 0 ≤ get_or cuts i 0).
+      (let same : get_or cuts i 0 ≡ get_or cuts (i + 1) 0 = omega (arith, more, ascending i (i + 1) 0 (omega arith) l) in
+      let equal : first_of cells cuts i ≡ first_of cells cuts (i + 1) = ap (λ k. (get_or cells k no_cell).first) same in
+      absurd (omega (arith, first, equal, less))))
+      (cases_lt (get_or cuts i 0) (get_or cuts (i + 1) 0)) in
+      let next : get_or cuts i 0 + 1 < length cells = omega (arith, apart, cut_within (i + 1) l) in
+      let there : slice_get cells (get_or cuts i 0 + 1) ≡ Some (get_or cells (get_or cuts i 0 + 1) no_cell) = slice_get-get_or cells (get_or cuts i 0 + 1) no_cell next in
+      (x, get_or cells (get_or cuts i 0 + 1) no_cell, (at, there, refl, omega arith, are.rising (get_or cuts i 0) (get_or cuts i 0 + 1) x (get_or cells (get_or cuts i 0 + 1) no_cell) at there (omega arith)))
+
+  module _ (ns : List Graph) (s : List Item) (by_class : List Transitions) (laid : IsLaidOut ns s cells cuts by_class) where
+    -- a label begins or is over at each cut, and nowhere else
+    place_of : (v : ℕ) → IsCut (IsLeaving ns s) v → (j : ℕ) × ((j < length cuts) × (first_of cells cuts j ≡ v))
+    place_of v (r, (leaves, some, ends)) = found ((laid.ends v).0 (r, (leaves, (some, ends))))
+      where
+        found : (k : ℕ) × (Contains cuts k × IsFirstOf cells k v) → (j : ℕ) × ((j < length cuts) × (first_of cells cuts j ≡ v))
+        found (k, ((j, l, e), first)) =
+            let place : get_or cuts j 0 ≡ k = get_or_default cuts j 0 k l ∙ e in
+            let at : slice_get cells k ≡ Some (get_or cells (get_or cuts j 0) no_cell) = ap (slice_get cells) (sym place) ∙ cell_there j l in
+            (j, (l, (rw at at first)))
+
+    cut_of : (j : ℕ) → j < length cuts → IsCut (IsLeaving ns s) (first_of cells cuts j)
+    cut_of j l = (let (r, (leaves, (some, ends))) = (laid.ends (first_of cells cuts j)).1 (get_or cuts j 0, (Contains-get_or cuts j 0 l, (rw (cell_there j l) refl))) in (r, (leaves, some, ends)))
+
+    covered_of : (v : ℕ) (l : Transition) → IsTransition ns s v l.item l.to → IsCovered (IsLeaving ns s) v
+    covered_of v l (g, r, (member, at, edge, over)) = (r, ((l.item, g, l.to, (member, at, edge)), over))
+
+    transition_of : (v : ℕ) → IsCovered (IsLeaving ns s) v → (l : Transition) × IsTransition ns s v l.item l.to
+    transition_of v (r, ((x, g, q, (member, at, edge)), over)) = (record { item = x; to = q }, (g, r, (member, at, edge, over)))
+
+    -- nothing lies below the first cut
+    pub start : BlocksBelow (IsLeaving ns s) [] (first_of cells cuts 0)
+    start = ⊎_elim
+        (λ (some : 0 < first_of cells cuts 0).
+        parts_passed (IsLeaving ns s) [] 0 (first_of cells cuts 0) (parts_none (IsLeaving ns s))
+        (λ v low high cut. (let (j, (l, e)) = place_of v cut in omega (arith, e, high, firsts_rise 0 j (omega arith) l)))
+        (λ over. (let (j, (l, e)) = place_of 0 (zero_is_cut (IsLeaving ns s) 0 refl over) in omega (arith, e, some, firsts_rise 0 j (omega arith) l)))
+        (omega arith))
+        (λ (none : first_of cells cuts 0 ≤ 0). (let e : 0 ≡ first_of cells cuts 0 = omega (arith, none) in subst (BlocksBelow (IsLeaving ns s) []) e (parts_none (IsLeaving ns s))))
+        (cases_lt 0 (first_of cells cuts 0))
+
+    no_cut_between : (i v : ℕ) → i + 1 < length cuts → first_of cells cuts i < v → v < first_of cells cuts (i + 1) → ¬ IsCut (IsLeaving ns s) v
+    no_cut_between i v l low high cut =
+        let (j, (m, e)) = place_of v cut in
+        ⊎_elim (λ (before : j < i + 1). omega (arith, e, low, firsts_rise j i (omega (arith, before)) (omega (arith, l))))
+        (λ (after : i + 1 ≤ j). omega (arith, e, high, firsts_rise (i + 1) j after m))
+        (cases_lt j (i + 1))
+
+    module _ (i : ℕ) (x : Cell) (t : Transitions) (ranges : List Range) (l : i + 1 < length cuts) (at : slice_get cells (get_or cuts i 0) ≡ Some x) (edges : slice_get by_class x.class ≡ Some t) (done : BlocksBelow (IsLeaving ns s) ranges (first_of cells cuts i)) where
+      takes : x.first < first_of cells cuts (i + 1) → AreTransitions ns s x.first t.list.items
+      takes less = laid.taken (get_or cuts i 0) x.class x.first t (lies_in i x l at less) edges
+
+      some_edge : (es : List Transition) → (es ≡ [] → ⊥) → (e : Transition) × Contains es e
+      some_edge [] n = absurd (n refl)
+      some_edge (e ∷ es) n = (e, (0, omega arith, refl))
+
+      -- a cell whose values take some edge is a block
+      pub kept : x.first < first_of cells cuts (i + 1) → (t.list.items ≡ [] → ⊥) → BlocksBelow (IsLeaving ns s) (ranges ++ record { start = x.first; end = first_of cells cuts (i + 1) - 1 } ∷ []) (first_of cells cuts (i + 1))
+      kept less some =
+          let first : first_of cells cuts i ≡ x.first = first_is cells cuts i x at in
+          let (e, member) = some_edge t.list.items some in
+          subst (λ p. BlocksBelow (IsLeaving ns s) (ranges ++ record { start = p; end = first_of cells cuts (i + 1) - 1 } ∷ []) (first_of cells cuts (i + 1))) first
+          (parts_kept (IsLeaving ns s) ranges (first_of cells cuts i) (first_of cells cuts (i + 1)) done (omega (arith, first, less)) (cut_of i (omega (arith, l))) (λ v. no_cut_between i v l)
+          (subst (IsCovered (IsLeaving ns s)) (sym first) (covered_of x.first e ((takes less e).0 member))))
+
+      -- the others are passed over
+      pub passed : (first_of cells cuts (i + 1) ≤ x.first) ⊎ (t.list.items ≡ []) → BlocksBelow (IsLeaving ns s) ranges (first_of cells cuts (i + 1))
+      passed why =
+          let first : first_of cells cuts i ≡ x.first = first_is cells cuts i x at in
+          let rise = firsts_rise i (i + 1) (omega arith) l in
+          ⊎_elim
+          (λ (less : x.first < first_of cells cuts (i + 1)).
+          elim why [
+            | inl more ↦ absurd (omega (arith, less, more))
+            | inr none ↦
+                parts_passed (IsLeaving ns s) ranges (first_of cells cuts i) (first_of cells cuts (i + 1)) done (λ v. no_cut_between i v l)
+                (λ over. (let (e, taken) = transition_of x.first (subst (IsCovered (IsLeaving ns s)) first over) in contains_none e (rw none at ((takes less e).1 taken))))
+                rise
+          ])
+          (λ (more : first_of cells cuts (i + 1) ≤ x.first). (let same : first_of cells cuts i ≡ first_of cells cuts (i + 1) = omega (arith, more, first, rise) in subst (BlocksBelow (IsLeaving ns s) ranges) same done))
+          (cases_lt x.first (first_of cells cuts (i + 1)))
+
+    -- behind the last cut no label is left
+    pub finish : (i : ℕ) (ranges : List Range) → length cuts ≤ i + 1 → (1 ≤ length cuts → i + 1 ≤ length cuts) → BlocksBelow (IsLeaving ns s) ranges (first_of cells cuts i) → IsPartition (IsLeaving ns s) ranges
+    finish i ranges past within done =
+        IsPartition-from_parts (IsLeaving ns s) ranges (first_of cells cuts i) done
+        (λ v more cut. (let (j, (l, e)) = place_of v cut in
+        let some : 1 ≤ length cuts = omega (arith, l) in
+        omega (arith, e, more, firsts_rise j i (omega (arith, l, past)) (omega (arith, within some)))))
+
+-- no edge is in the class, and some is
+abbrev pub HasNone : List Transitions → ℕ → Type 0
+HasNone by_class c = (t : Transitions) → slice_get by_class c ≡ Some t → t.list.items ≡ []
+
+abbrev pub HasSome : List Transitions → ℕ → Type 0
+HasSome by_class c = (t : Transitions) → slice_get by_class c ≡ Some t → t.list.items ≡ [] → ⊥
+
+-- what is read at a class of a cell
+pub read_class : (cells : List Cell) (count : ℕ) (by_class : List Transitions) (k : ℕ) (x : Cell) (t : Transitions) → AreCells cells count → length by_class ≡ count → slice_get cells k ≡ Some x → t ≡ get_or by_class x.class t → slice_get by_class x.class ≡ Some t
+read_class cells count by_class k x t are counted here is = slice_get_read by_class (length by_class) x.class t refl (omega (arith, (are.within k x here).1, counted)) is
+
+pub has_some : (by_class : List Transitions) (c : ℕ) (t : Transitions) → slice_get by_class c ≡ Some t → (t.list.items ≡ [] → ⊥) → HasSome by_class c
+has_some by_class c t at some u there none = (let same : u ≡ t = (let f : Some u ≡ Some t = sym there ∙ at in cc) in some (subst (λ (z : Transitions). z.list.items ≡ []) same none))
+
+pub has_none : (by_class : List Transitions) (c : ℕ) (t : Transitions) → slice_get by_class c ≡ Some t → t.list.items ≡ [] → HasNone by_class c
+has_none by_class c t at none u there = (let same : t ≡ u = (let f : Some t ≡ Some u = sym at ∙ there in cc) in subst (λ (z : Transitions). z.list.items ≡ []) same none)
+
+-- one turn from cut to cut: a block is added, or none
+abbrev pub IsKept : List Cell → List ℕ → List Transitions → ℕ → Cell → List Block → List Block → Type 0
+IsKept cells cuts by_class i x blocks new = (x.first < first_of cells cuts (i + 1)) × HasSome by_class x.class × (new ≡ blocks ++ record { range = record { start = x.first; end = first_of cells cuts (i + 1) - 1 }; class = x.class } ∷ [])
+
+abbrev pub IsPassed : List Cell → List ℕ → List Transitions → ℕ → Cell → List Block → List Block → Type 0
+IsPassed cells cuts by_class i x blocks new = ((first_of cells cuts (i + 1) ≤ x.first) ⊎ HasNone by_class x.class) × (new ≡ blocks)
+
+abbrev range_of : Block → Range
+range_of b = b.range
+
+module _ (cells : List Cell) (count : ℕ) (are : AreCells cells count) (cuts : List ℕ) (ascending : IsNonDecreasing cuts) (below : AreBelow (length cells) cuts) (by_class : List Transitions) (counted : length by_class ≡ count) (i : ℕ) (x : Cell) (blocks new : List Block) (l : i + 1 < length cuts) (here : slice_get cells (get_or cuts i 0) ≡ Some x) where
+  class_within : x.class < length by_class
+  class_within = omega (arith, (are.within (get_or cuts i 0) x here).1, counted)
+
+  edges : (t : Transitions) × (slice_get by_class x.class ≡ Some t)
+  edges = elim (slice_get_cases by_class x.class).1 [ inl y ↦ (y.0, y.2) | inr past ↦ absurd (omega (arith, past.0, class_within)) ]
+
+  pub turned : (ns : List Graph) (s : List Item) → IsLaidOut ns s cells cuts by_class → IsKept cells cuts by_class i x blocks new ⊎ IsPassed cells cuts by_class i x blocks new
+      → BlocksBelow (IsLeaving ns s) (map range_of blocks) (first_of cells cuts i) → BlocksBelow (IsLeaving ns s) (map range_of new) (first_of cells cuts (i + 1))
+  turned ns s laid (inl (less, some, is)) done =
+      subst (λ rs. BlocksBelow (IsLeaving ns s) rs (first_of cells cuts (i + 1))) (sym (ap (map range_of) is ∙ map-append range_of blocks (record { range = record { start = x.first; end = first_of cells cuts (i + 1) - 1 }; class = x.class } ∷ [])))
+      (kept cells count are cuts ascending below ns s by_class laid i x edges.0 (map range_of blocks) l here edges.1 done less (some edges.0 edges.1))
+  turned ns s laid (inr (why, is)) done =
+      subst (λ bs. BlocksBelow (IsLeaving ns s) (map range_of bs) (first_of cells cuts (i + 1))) (sym is)
+      (passed cells count are cuts ascending below ns s by_class laid i x edges.0 (map range_of blocks) l here edges.1 done (elim why [ inl more ↦ inl more | inr none ↦ inr (none edges.0 edges.1) ]))
+
+  pub turned_classes : IsKept cells cuts by_class i x blocks new ⊎ IsPassed cells cuts by_class i x blocks new → ((b : Block) → Contains blocks b → (k : ℕ) × IsInCell cells k b.class b.range.start × (b.class < length by_class))
+      → (b : Block) → Contains new b → (k : ℕ) × IsInCell cells k b.class b.range.start × (b.class < length by_class)
+  turned_classes (inl (less, some, is)) had b h =
+      let block : Block = record { range = record { start = x.first; end = first_of cells cuts (i + 1) - 1 }; class = x.class } in
+      elim (Contains-append_cases blocks (block ∷ []) b (subst (λ bs. Contains bs b) is h)) [
+        | inl before ↦ had b before
+        | inr one ↦
+            (let same : block ≡ b = contains_only block b one in
+            subst (λ (z : Block). (k : ℕ) × IsInCell cells k z.class z.range.start × (z.class < length by_class)) same (get_or cuts i 0, lies_in cells count are cuts ascending below i x l here less, class_within))
+      ]
+  turned_classes (inr (why, is)) had b h = had b (subst (λ bs. Contains bs b) is h)

@@ -1,0 +1,65 @@
+-- The numbers that are known by class.
+use Rattle.std.proofs.Common.{◌≡◌, ℕ, ◌<◌, inl, inr, List, length, slice_set, get_or, map, drop, suc, ◌+◌, ◌≤◌, [], ◌∷◌, ◌++◌, zero, refl, sym, ap, ◌∙◌, subst, arith, add-one, length-drop, Some}
+use Rattle.std.specs.Prelude.{slice_get, Option, None}
+use Rattle.std.proofs.lemmas.Option.{slice_get_read, slice_get_within, get_or_from_slice_get}
+use Rattle.std.proofs.lemmas.List.{get_or-map, length-map}
+use Rattle.lalrpop_hir.specs.Range.{Range}
+use Rattle.lalrpop_dfa.specs.declared.blocks.Block.{Block}
+use Rattle.lalrpop_nfa.specs.Graph.{Graph}
+use Rattle.lalrpop_dfa.specs.Items.{Item}
+use Rattle.lalrpop_dfa.specs.Internal.Builder.{AddedTo, AreUnknown, AreKnownClasses}
+use Rattle.lalrpop_dfa.specs.Internal.Subsets.{move}
+use Rattle.lalrpop_dfa.specs.Internal.Transitions.{AreTransitions}
+use Rattle.lalrpop_dfa.specs.declared.blocks.Transitions.{Transitions}
+use Rattle.lalrpop_dfa.proofs.Adding.{added_stays, added_at}
+use Rattle.lalrpop_kernels.proofs.NumberedLemmas.{pushed_cases}
+use Rattle.lalrpop_dfa.proofs.Leavings.{set_at}
+use Rattle.lalrpop_dfa.proofs.TransitionMoves.{leads_move}
+
+-- a class that is read from the list has the edges that its values take
+pub class_takes : (ns : List Graph) (s : List Item) (by_class : List Transitions) (c v : ℕ) (t : Transitions) → t ≡ get_or by_class c t → (u : Transitions) × ((slice_get by_class c ≡ Some u) × AreTransitions ns s v u.list.items) → AreTransitions ns s v t.list.items
+class_takes ns s by_class c v t is (u, (at, are)) =
+    let read : slice_get by_class c ≡ Some t = slice_get_read by_class (length by_class) c t refl (slice_get_within by_class c u at) is in
+    let same : u ≡ t = (let f : Some u ≡ Some t = sym at ∙ read in cc) in
+    subst (λ (z : Transitions). AreTransitions ns s v z.list.items) same are
+
+-- nothing is known at first
+pub none_known : (ns : List Graph) (s : List Item) (by_class : List Transitions) (known : List (Option ℕ)) (sets : List (List Item)) → AreUnknown known → AreKnownClasses ns s by_class known sets
+none_known ns s by_class known sets none c j v t at there are = absurd (none c j at)
+
+pub unknown_more : (known new : List (Option ℕ)) → AreUnknown known → new ≡ known ++ None ∷ [] → AreUnknown new
+unknown_more known new none is c j at = elim (pushed_cases known None c (Some j) (rw is at at)) [ inl before ↦ none c j before | inr here ↦ (let clash : Some j ≡ None = here.1 in cc) ]
+
+-- one more is known
+pub known_classes_more : (ns : List Graph) (s : List Item) (by_class : List Transitions) (known : List (Option ℕ)) (sets : List (List Item)) (origins : List (ℕ × ℕ)) (n v c j : ℕ) (sets2 : List (List Item)) (origins2 : List (ℕ × ℕ))
+    → AreKnownClasses ns s by_class known sets → c < length known → (t : Transitions) × ((slice_get by_class c ≡ Some t) × AreTransitions ns s v t.list.items) → AddedTo sets origins n v (move ns s v) j sets2 origins2
+    → AreKnownClasses ns s by_class (slice_set known c (Some j)) sets2
+known_classes_more ns s by_class known sets origins n v c j sets2 origins2 k within (t, (here, these)) add d i w u at there are = elim (set_at known c (Some j) d (Some i) within at) [
+  | inl (place, number) ↦
+      (let same : u ≡ t = (let f : Some u ≡ Some t = sym there ∙ (ap (slice_get by_class) place ∙ here) in cc) in
+      let to : move ns s v ≡ move ns s w = leads_move ns s t.list.items v w these (subst (λ (z : Transitions). AreTransitions ns s w z.list.items) same are) in
+      let is : j ≡ i = cc in
+      rw (← is, ← to) (added_at sets origins n v (move ns s v) j sets2 origins2 add))
+  | inr (other, was) ↦ added_stays sets origins n v (move ns s v) j sets2 origins2 add i (move ns s w) (k d i w u was there are)
+]
+
+-- ---- block by block
+abbrev range_of : Block → Range
+range_of b = b.range
+
+part_there : (blocks : List Block) (k : ℕ) (block : Block) (rest : List Block) → drop k blocks ≡ block ∷ rest → (slice_get blocks k ≡ Some block) × (rest ≡ drop (suc k) blocks)
+part_there [] zero block rest e = cc
+part_there [] (suc k) block rest e = cc
+part_there (p ∷ blocks) zero block rest e = (cc, cc)
+part_there (p ∷ blocks) (suc k) block rest e = (let h = part_there blocks k block rest e in (h.0, h.1))
+
+pub part_at : (blocks : List Block) (k : ℕ) (block : Block) (rest : List Block) → drop k blocks ≡ block ∷ rest → (slice_get blocks k ≡ Some block) × (rest ≡ drop (k + 1) blocks)
+part_at blocks k block rest e = let h = part_there blocks k block rest e in (h.0, h.1 ∙ ap (λ n. drop n blocks) (sym (add-one k)))
+
+pub range_at : (blocks : List Block) (k : ℕ) (block : Block) → slice_get blocks k ≡ Some block → (k < length (map (λ (p : Block). p.range) blocks)) × (block.range ≡ get_or (map (λ (p : Block). p.range) blocks) k block.range)
+range_at blocks k block at =
+    let l : k < length blocks = slice_get_within blocks k block at in
+    (omega (arith, l, length-map blocks range_of), sym (get_or-map range_of blocks k block block.range l ∙ ap range_of (get_or_from_slice_get blocks k block block at)))
+
+pub no_more : (blocks rest : List Block) (k : ℕ) → drop k blocks ≡ rest → length rest ≡ 0 → k ≤ length blocks → k ≡ length (map (λ (p : Block). p.range) blocks)
+no_more blocks rest k e none l = omega (arith, l, none, ap length e, length-drop k blocks, length-map blocks range_of)

@@ -1,0 +1,54 @@
+-- What an alphabet says of the items of a set: where their labels begin and are over, and which edges the values take.
+use Rattle.std.proofs.Common.{◌≡◌, ℕ, List, length, subst, sym, ◌∙◌}
+use Rattle.std.specs.Prelude.{slice_get, Some}
+use Rattle.std.specs.List.{Contains}
+use Rattle.lalrpop_hir.specs.Range.{Range}
+use Rattle.lalrpop_nfa.specs.Graph.{Graph}
+use Rattle.lalrpop_nfa.specs.Path.{test}
+use Rattle.lalrpop_alphabet.specs.Alphabet.{Classes, HasState, IsInCell, IsEndOf, IsFirstOf, IsSound, IsAlphabetOf}
+use Rattle.lalrpop_dfa.specs.Items.{Item, IsLeaving}
+use Rattle.lalrpop_dfa.specs.Internal.Builder.{AreItemsOf}
+use Rattle.lalrpop_dfa.specs.Internal.Transitions.{AreBelow, AreGathered, AreCutsOf, AreTransitions, IsLaidOut}
+use Rattle.lalrpop_dfa.specs.declared.blocks.Transitions.{Transitions}
+
+-- the cuts of items are cells
+pub cuts_below : (a : Classes) (items : List Item) (cuts : List ℕ) → IsSound a → AreCutsOf a items cuts → AreBelow (length a.cells) cuts
+cuts_below a items cuts sound are k h = (let (x, (member, (l, (lead, cut)))) = (are k).0 h in sound.groups.cuts_in l.group k cut)
+
+module _ (ns : List Graph) (a : Classes) (alphabet : IsAlphabetOf ns a) (items : List Item) (inside : AreItemsOf ns items) where
+  pub have_states : (x : Item) → Contains items x → HasState a.nfas x.0 x.1
+  have_states x h = (let (g, (at, l)) = inside x h in alphabet.states x.0 x.1 g at l)
+
+  same_graph : (x : Item) (g k : Graph) → slice_get ns x.0 ≡ Some g → slice_get ns x.0 ≡ Some k → g ≡ k
+  same_graph x g k e f = (let h : Some g ≡ Some k = sym e ∙ f in cc)
+
+  module _ (cuts : List ℕ) (by_class : List Transitions) (cut : AreCutsOf a items cuts) (gathered : AreGathered a items by_class) where
+    end_has_cut : (v : ℕ) → ((r : Range) × (IsLeaving ns items r × IsEndOf r v)) → (k : ℕ) × (Contains cuts k × IsFirstOf a.cells k v)
+    end_has_cut v (r, ((x, g, q, (member, at, edge)), end)) =
+        let (h, (there, l)) = inside x member in
+        let here : Contains h.edges.tests (test x.1 r q) = subst (λ (f : Graph). Contains f.edges.tests (test x.1 r q)) (same_graph x g h at there) edge in
+        let (k, (at_cut, first)) = (alphabet.cuts x.0 x.1 v h there l).0 (r, q, (here, end)) in
+        (k, ((cut k).1 (x, (member, at_cut)), first))
+
+    cut_has_end : (v : ℕ) → ((k : ℕ) × (Contains cuts k × IsFirstOf a.cells k v)) → (r : Range) × (IsLeaving ns items r × IsEndOf r v)
+    cut_has_end v (k, (h, first)) =
+        let (x, (member, at_cut)) = (cut k).0 h in
+        let (g, (there, l)) = inside x member in
+        let (r, q, (edge, end)) = (alphabet.cuts x.0 x.1 v g there l).1 (k, (at_cut, first)) in
+        (r, ((x, g, q, (member, there, edge)), end))
+
+    taken : (k c v : ℕ) (t : Transitions) → IsInCell a.cells k c v → slice_get by_class c ≡ Some t → AreTransitions ns items v t.list.items
+    taken k c v t in_cell at l = (
+      λ h.
+          let (member, leads) = (gathered.1 c t at l).0 h in
+          let (g, (there, within)) = inside l.item member in
+          let (r, (edge, over)) = (alphabet.leads l.item.0 l.item.1 l.to k c v g there within in_cell).1 leads in
+          (g, r, (member, there, edge, over)),
+      λ (g, r, (member, there, edge, over)).
+          let (h, (same, within)) = inside l.item member in
+          let here : Contains h.edges.tests (test l.item.1 r l.to) = subst (λ (f : Graph). Contains f.edges.tests (test l.item.1 r l.to)) (same_graph l.item g h there same) edge in
+          (gathered.1 c t at l).1 (member, (alphabet.leads l.item.0 l.item.1 l.to k c v h same within in_cell).0 (r, (here, over))),
+    )
+
+    pub laid_out : IsLaidOut ns items a.cells cuts by_class
+    laid_out = record { ends = λ v. (end_has_cut v, cut_has_end v); taken = taken }

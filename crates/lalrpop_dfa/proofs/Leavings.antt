@@ -1,0 +1,223 @@
+-- What leaves items, gathered item by item: the edges of each class, and the cells at which labels begin or are over.
+use Rattle.std.proofs.Common.{◌≡◌, ℕ, zero, suc, ◌+◌, ◌<◌, ◌⊎◌, inl, inr, List, [], ◌∷◌, ◌++◌, length, slice_set, get_or, take, refl, ap, ap₂, sym, ◌∙◌, subst, arith}
+use Rattle.std.specs.Prelude.{slice_get, Some, ◌↔◌}
+use Rattle.std.specs.List.{Contains}
+use Rattle.std.proofs.lemmas.Option.{slice_get_read, slice_get_within, slice_get-get_or}
+use Rattle.std.proofs.lemmas.List.{take_more, get_or_default}
+use Rattle.std.proofs.lemmas.List.{length-set}
+use Rattle.std.proofs.lemmas.List.Elements.{Contains-append_left, Contains-append_right, Contains-append_cases}
+use Rattle.lalrpop_alphabet.specs.Alphabet.{Classes, AreLeadsOf, IsLeadOf, HasClass, HasCut, LeadsBy, CutsAt}
+use Rattle.lalrpop_alphabet.specs.declared.Group.{Group}
+use Rattle.lalrpop_alphabet.specs.declared.Lead.{Lead}
+use Rattle.lalrpop_alphabet.specs.declared.NfaLeads.{NfaLeads}
+use Rattle.lalrpop_alphabet.specs.declared.StateLeads.{StateLeads}
+use Rattle.lalrpop_dfa.specs.Items.{Item}
+use Rattle.lalrpop_dfa.specs.Internal.Transitions.{AreBare, Gained, AreGathered, AreCutsOf}
+use Rattle.lalrpop_dfa.specs.declared.blocks.Transition.{Transition}
+use Rattle.lalrpop_dfa.specs.declared.blocks.Transitions.{Transitions}
+use Rattle.lalrpop_nfa.proofs.Contained.{contains_only, contains_none}
+use Rattle.lalrpop_kernels.proofs.NumberedLemmas.{pushed_cases}
+
+pub set_at : {X : Type 0} (xs : List X) (i : ℕ) (x : X) (k : ℕ) (y : X) → i < length xs → slice_get (slice_set xs i x) k ≡ Some y → ((k ≡ i) × (y ≡ x)) ⊎ (((k ≡ i) → ⊥) × (slice_get xs k ≡ Some y))
+set_at [] i x k y l h = absurd (omega (arith, l))
+set_at (z ∷ xs) zero x zero y l h = inl (refl, cc)
+set_at (z ∷ xs) zero x (suc k) y l h = inr ((λ e. cc), h)
+set_at (z ∷ xs) (suc i) x zero y l h = inr ((λ e. cc), h)
+set_at (z ∷ xs) (suc i) x (suc k) y l h = elim (set_at xs i x k y (omega (arith, l)) h) [
+  | inl s ↦ inl (ap (λ n. suc n) s.0, s.1)
+  | inr o ↦ inr ((λ e. o.0 (omega (arith, e))), o.1)
+]
+
+pub gained_none : {E : ℕ → Transition → Type 0} → (old : List Transitions) → ((c : ℕ) (l : Transition) → E c l → ⊥) → Gained old old E
+gained_none old none = (refl, λ c t t2 was will l. (let e : t2 ≡ t = cc in (λ h. inl (rw (← e) h), λ h. elim h [ inl x ↦ rw e x | inr x ↦ absurd (none c l x) ])))
+
+-- one class gets one edge
+pub gained_one : (old : List Transitions) (i : ℕ) (now more : Transitions) (edge : Transition) → i < length old → now ≡ get_or old i now → more.list.items ≡ now.list.items ++ edge ∷ []
+    → Gained old (slice_set old i more) (λ c l. (c ≡ i) × (l ≡ edge))
+gained_one old i now more edge within is got = (
+  length-set old i more,
+  λ c t t2 was will l. elim (set_at old i more c t2 within will) [
+    | inl here ↦
+        (let at : slice_get old i ≡ Some now = slice_get_read old (length old) i now refl within is in
+        let same : t ≡ now = (let f : Some t ≡ Some now = sym was ∙ (ap (slice_get old) here.0 ∙ at) in cc) in
+        let all : t2.list.items ≡ t.list.items ++ edge ∷ [] = ap (λ (q : Transitions). q.list.items) here.1 ∙ got ∙ ap (λ (q : Transitions). q.list.items ++ edge ∷ []) (sym same) in (
+          λ h. elim (Contains-append_cases t.list.items (edge ∷ []) l (rw (← all) h)) [ inl x ↦ inl x | inr x ↦ inr (here.0, sym (contains_only edge l x)) ],
+          λ h. rw all (elim h [ inl x ↦ Contains-append_left t.list.items (edge ∷ []) l x | inr x ↦ Contains-append_right t.list.items (edge ∷ []) l (rw x.1 (0, omega arith, refl)) ]),
+        ))
+    | inr other ↦
+        (let same : t2 ≡ t = (let f : Some t2 ≡ Some t = sym other.1 ∙ was in cc) in (
+          λ h. inl (subst (λ (q : Transitions). Contains q.list.items l) same h),
+          λ h. elim h [ inl x ↦ subst (λ (q : Transitions). Contains q.list.items l) (sym same) x | inr x ↦ absurd (other.0 x.0) ],
+        ))
+  ],
+)
+
+-- by one step, and then by another
+pub gained_then : {E F G : ℕ → Transition → Type 0} → (old cur new : List Transitions) → Gained old cur E → Gained cur new F → ((c : ℕ) (l : Transition) → (E c l ⊎ F c l) ↔ G c l) → Gained old new G
+gained_then {E} {F} {G} old cur new f g both = (
+  g.0 ∙ f.0,
+  λ c t t2 was will l.
+      let here : c < length cur = omega (arith, slice_get_within old c t was, f.0) in
+      let q : Transitions = get_or cur c t in
+      let at : slice_get cur c ≡ Some q = slice_get-get_or cur c t here in
+      let a = f.1 c t q was at l in
+      let b = g.1 c q t2 at will l in
+      let d = both c l in (
+        λ h. elim (b.0 h) [ inl x ↦ elim (a.0 x) [ inl y ↦ inl y | inr y ↦ inr (d.0 (inl y)) ] | inr x ↦ inr (d.0 (inr x)) ],
+        λ h. elim h [ inl x ↦ b.1 (inl (a.1 (inl x))) | inr x ↦ elim (d.1 x) [ inl y ↦ b.1 (inl (a.1 (inr y))) | inr y ↦ b.1 (inr y) ] ],
+      ),
+)
+
+-- what the first elements have, and what one more has
+pub taken_more : {X : Type 0} (xs : List X) (k : ℕ) (x y : X) → k < length xs → x ≡ get_or xs k x → (Contains (take k xs) y ⊎ (y ≡ x)) ↔ Contains (take (k + 1) xs) y
+taken_more xs k x y l is =
+    let more : take (k + 1) xs ≡ take k xs ++ x ∷ [] = take_more xs k x l ∙ ap (λ z. take k xs ++ z ∷ []) (sym is) in (
+      λ h. rw more (elim h [ inl a ↦ Contains-append_left (take k xs) (x ∷ []) y a | inr a ↦ Contains-append_right (take k xs) (x ∷ []) y (rw a (0, omega arith, refl)) ]),
+      λ h. elim (Contains-append_cases (take k xs) (x ∷ []) y (rw more at h)) [ inl a ↦ inl a | inr a ↦ inr (sym (contains_only x y a)) ],
+    )
+
+-- one more class of a list gets the edge
+pub class_more : (cs : List ℕ) (k d : ℕ) (edge : Transition) → k < length cs → (c : ℕ) (l : Transition) → ((Contains (take k cs) c × (l ≡ edge)) ⊎ ((c ≡ get_or cs k d) × (l ≡ edge))) ↔ (Contains (take (k + 1) cs) c × (l ≡ edge))
+class_more cs k d edge within c l =
+    let more = taken_more cs k (get_or cs k d) c within (get_or_default cs k d (get_or cs k d) within) in (
+      λ h. elim h [ inl x ↦ (more.0 (inl x.0), x.1) | inr x ↦ (more.0 (inr x.0), x.1) ],
+      λ h. elim (more.1 h.0) [ inl x ↦ inl (x, h.1) | inr x ↦ inr (x, h.1) ],
+    )
+
+-- ---- one item, lead by lead
+-- some of the leads goes to q by a group with the class c
+abbrev pub LeadTo : List Group → List Lead → ℕ → ℕ → Type 0
+LeadTo groups leads c q = (l : Lead) × (Contains leads l × (l.to ≡ q) × HasClass groups l.group c)
+
+-- one of their groups has the cut k
+abbrev pub LeadCut : List Group → List Lead → ℕ → Type 0
+LeadCut groups leads k = (l : Lead) × (Contains leads l × HasCut groups l.group k)
+
+-- the leads of a state are these
+pub leads_are : (nfas : List NfaLeads) (i p : ℕ) (ls : List Lead) (l : Lead) → AreLeadsOf nfas i p ls → IsLeadOf nfas i p l ↔ Contains ls l
+leads_are nfas i p ls l are = (λ h. there are h, λ h. (ls, (are, h)))
+  where
+    there : AreLeadsOf nfas i p ls → IsLeadOf nfas i p l → Contains ls l
+    there (x, y, (at, own, is)) (ks, ((z, w, (at2, own2, is2)), h)) =
+        let e : z ≡ x = (let f : Some z ≡ Some x = sym at2 ∙ at in cc) in
+        let g : w ≡ y = (let f : Some w ≡ Some y = sym (subst (λ (n : NfaLeads). slice_get n.states.items p ≡ Some w) e own2) ∙ own in cc) in
+        subst (λ (xs : List Lead). Contains xs l) (is2 ∙ (ap (λ (s : StateLeads). s.leads.items) g ∙ sym is)) h
+
+module _ (groups : List Group) (leads : List Lead) (k : ℕ) (lead : Lead) (group : Group) (within : k < length leads) (read : lead ≡ get_or leads k lead) (at : slice_get groups lead.group ≡ Some group) where
+  the_group : (l : Lead) (x : Group) → l ≡ lead → slice_get groups l.group ≡ Some x → x ≡ group
+  the_group l x same there = (let f : Some x ≡ Some group = sym there ∙ (ap (λ (m : Lead). slice_get groups m.group) same ∙ at) in cc)
+
+  -- the edges of one more lead
+  pub lead_more : (item : Item) (edge : Transition) → edge ≡ record { item = item; to = lead.to } → (c : ℕ) (l : Transition)
+      → (((l.item ≡ item) × LeadTo groups (take k leads) c l.to) ⊎ (Contains group.classes.items c × (l ≡ edge))) ↔ ((l.item ≡ item) × LeadTo groups (take (k + 1) leads) c l.to)
+  lead_more item edge is c l = (
+    λ h. elim h [
+      | inl (same, (m, (member, to, has))) ↦ (same, (m, ((taken_more leads k lead m within read).0 (inl member), to, has)))
+      | inr (has, same) ↦ (
+        ap (λ (x : Transition). x.item) (same ∙ is),
+        (lead, ((taken_more leads k lead lead within read).0 (inr refl), sym (ap (λ (x : Transition). x.to) (same ∙ is)), (group, (at, has)))),
+      )
+    ],
+    λ (same, (m, (member, to, has))). elim ((taken_more leads k lead m within read).1 member) [
+      | inl before ↦ inl (same, (m, (before, to, has)))
+      | inr here ↦
+          (let e : has.0 ≡ group = the_group m has.0 here has.1.0 in
+          let target : l.to ≡ lead.to = sym to ∙ ap (λ (x : Lead). x.to) here in
+          let all : l ≡ record { item = item; to = lead.to } = ap₂ (λ (x : Item) (q : ℕ). let y : Transition = record { item = x; to = q } in y) same target in
+          inr (subst (λ (x : Group). Contains x.classes.items c) e has.1.1, all ∙ sym is))
+    ],
+  )
+
+  -- its cuts
+  pub cut_more : (old cuts new : List ℕ) (j : ℕ) → Contains cuts j ↔ (Contains old j ⊎ LeadCut groups (take k leads) j) → new ≡ cuts ++ group.cuts.items
+      → Contains new j ↔ (Contains old j ⊎ LeadCut groups (take (k + 1) leads) j)
+  cut_more old cuts new j had is = (
+    λ h. elim (Contains-append_cases cuts group.cuts.items j (rw is at h)) [
+      | inl x ↦ elim (had.0 x) [ inl y ↦ inl y | inr (m, (member, cut)) ↦ inr (m, ((taken_more leads k lead m within read).0 (inl member), cut)) ]
+      | inr x ↦ inr (lead, ((taken_more leads k lead lead within read).0 (inr refl), (group, (at, x))))
+    ],
+    λ h. rw is (elim h [
+      | inl y ↦ Contains-append_left cuts group.cuts.items j (had.1 (inl y))
+      | inr (m, (member, cut)) ↦ elim ((taken_more leads k lead m within read).1 member) [
+        | inl before ↦ Contains-append_left cuts group.cuts.items j (had.1 (inr (m, (before, cut))))
+        | inr here ↦ Contains-append_right cuts group.cuts.items j (subst (λ (x : Group). Contains x.cuts.items j) (the_group m cut.0 here cut.1.0) cut.1.1)
+      ]
+    ]),
+  )
+
+-- gained by another name
+pub gained_like : {E F : ℕ → Transition → Type 0} → (old new : List Transitions) → Gained old new E → ((c : ℕ) (l : Transition) → E c l ↔ F c l) → Gained old new F
+gained_like old new g same = (
+  g.0,
+  λ c t t2 was will l. (
+    λ h. elim ((g.1 c t t2 was will l).0 h) [ inl x ↦ inl x | inr x ↦ inr ((same c l).0 x) ],
+    λ h. (g.1 c t t2 was will l).1 (elim h [ inl x ↦ inl x | inr x ↦ inr ((same c l).1 x) ]),
+  ),
+)
+
+-- a lead that is read from the leads of a state is a lead of it
+pub lead_there : (nfas : List NfaLeads) (i p : ℕ) (ls : List Lead) (k : ℕ) (l : Lead) → AreLeadsOf nfas i p ls → k < length ls → l ≡ get_or ls k l → IsLeadOf nfas i p l
+lead_there nfas i p ls k l are within is = (ls, (are, (k, within, sym is)))
+
+-- once all leads are taken
+pub leads_of_state : (a : Classes) (x : Item) (leads : List Lead) → AreLeadsOf a.nfas x.0 x.1 leads → (c : ℕ) (l : Transition) → ((l.item ≡ x) × LeadTo a.groups leads c l.to) ↔ ((l.item ≡ x) × LeadsBy a x.0 x.1 c l.to)
+leads_of_state a x leads are c l = (
+  λ (same, (m, (member, to, has))). (same, (m, ((leads_are a.nfas x.0 x.1 leads m are).1 member, to, has))),
+  λ (same, (m, (member, to, has))). (same, (m, ((leads_are a.nfas x.0 x.1 leads m are).0 member, to, has))),
+)
+
+pub cuts_of_state : (a : Classes) (i p : ℕ) (leads : List Lead) (old new : List ℕ) → AreLeadsOf a.nfas i p leads → ((k : ℕ) → Contains new k ↔ (Contains old k ⊎ LeadCut a.groups leads k)) → (k : ℕ) → Contains new k ↔ (Contains old k ⊎ CutsAt a i p k)
+cuts_of_state a i p leads old new are had k = (
+  λ h. elim ((had k).0 h) [ inl x ↦ inl x | inr (m, (member, cut)) ↦ inr (m, ((leads_are a.nfas i p leads m are).1 member, cut)) ],
+  λ h. (had k).1 (elim h [ inl x ↦ inl x | inr (m, (member, cut)) ↦ inr (m, ((leads_are a.nfas i p leads m are).0 member, cut)) ]),
+)
+
+-- ---- item by item
+-- one more class has no edge
+pub bare_more : (by_class new : List Transitions) (t : Transitions) → AreBare by_class → t.list.items ≡ [] → new ≡ by_class ++ t ∷ [] → AreBare new
+bare_more by_class new t bare empty is c u at = elim (pushed_cases by_class t c u (rw is at at)) [
+  | inl before ↦ bare c u before
+  | inr here ↦ rw here.1 empty
+]
+
+module _ (a : Classes) (items : List Item) (k : ℕ) (item : Item) (within : k < length items) (read : item ≡ get_or items k item) where
+  -- the edges of one more item
+  pub item_more : (c : ℕ) (l : Transition)
+      → ((Contains (take k items) l.item × LeadsBy a l.item.0 l.item.1 c l.to) ⊎ ((l.item ≡ item) × LeadsBy a item.0 item.1 c l.to)) ↔ (Contains (take (k + 1) items) l.item × LeadsBy a l.item.0 l.item.1 c l.to)
+  item_more c l = (
+    λ h. elim h [
+      | inl (member, leads) ↦ ((taken_more items k item l.item within read).0 (inl member), leads)
+      | inr (same, leads) ↦ ((taken_more items k item l.item within read).0 (inr same), subst (λ (x : Item). LeadsBy a x.0 x.1 c l.to) (sym same) leads)
+    ],
+    λ (member, leads). elim ((taken_more items k item l.item within read).1 member) [
+      | inl before ↦ inl (before, leads)
+      | inr same ↦ inr (same, subst (λ (x : Item). LeadsBy a x.0 x.1 c l.to) same leads)
+    ],
+  )
+
+  -- its cuts
+  pub item_cuts : (old new : List ℕ) → AreCutsOf a (take k items) old → ((j : ℕ) → Contains new j ↔ (Contains old j ⊎ CutsAt a item.0 item.1 j)) → AreCutsOf a (take (k + 1) items) new
+  item_cuts old new had more j = (
+    λ h. elim ((more j).0 h) [
+      | inl x ↦ (let (y, (member, cut)) = (had j).0 x in (y, ((taken_more items k item y within read).0 (inl member), cut)))
+      | inr cut ↦ (item, ((taken_more items k item item within read).0 (inr refl), cut))
+    ],
+    λ (y, (member, cut)). (more j).1 (elim ((taken_more items k item y within read).1 member) [
+      | inl before ↦ inl ((had j).1 (y, (before, cut)))
+      | inr same ↦ inr (subst (λ (x : Item). CutsAt a x.0 x.1 j) same cut)
+    ]),
+  )
+
+-- once all are taken
+pub all_gathered : (a : Classes) (items : List Item) (bare new : List Transitions) → length bare ≡ a.count → AreBare bare → Gained bare new (λ c l. Contains items l.item × LeadsBy a l.item.0 l.item.1 c l.to) → AreGathered a items new
+all_gathered a items bare new count none got = (
+  got.0 ∙ count,
+  λ c t at l.
+      let here : c < length bare = omega (arith, slice_get_within new c t at, got.0) in
+      let was : Transitions = get_or bare c t in
+      let there : slice_get bare c ≡ Some was = slice_get-get_or bare c t here in
+      let has = got.1 c was t there at l in (
+        λ h. elim (has.0 h) [ inl x ↦ absurd (contains_none l (rw (none c was there) at x)) | inr x ↦ x ],
+        λ h. has.1 (inr h),
+      ),
+)
