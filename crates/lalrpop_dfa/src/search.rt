@@ -15,8 +15,8 @@ use std::alloc::{AllocError, Global};
 /// So many values have their targets from a state in its list: those of ASCII.
 pub(super) const LISTED: usize = 128;
 
-// A state with fewer test edges has no list: so the lists take at most 256 bytes for each test edge.
-const LEAST_EDGES: usize = 2;
+// A state with fewer test edges has no list: so the lists take at most 128 bytes for each test edge.
+const LEAST_EDGES: usize = 4;
 
 impl Dfa {
     /// The automaton of these states.
