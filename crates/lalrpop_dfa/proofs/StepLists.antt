@@ -1,25 +1,16 @@
 -- Lists of where values lead: what they tell once more states have theirs.
-use Rattle.std.proofs.Common.{◌≡◌, ℕ, zero, suc, inl, inr, ◌+◌, ◌<◌, List, [], ◌∷◌, ◌++◌, length, get_or, refl, sym, ap, ◌∙◌, arith, length-append}
+use Rattle.std.proofs.Common.{◌≡◌, ℕ, inl, inr, ◌+◌, ◌<◌, List, [], ◌∷◌, ◌++◌, length, get_or, refl, sym, ap, ◌∙◌, arith, length-append}
 use Rattle.std.specs.Prelude.{slice_get, Option, Some, None}
 use Rattle.std.specs.List.{AllZip}
 use Rattle.std.proofs.lemmas.List.Elements.{same_from_all_zip}
 use Rattle.std.proofs.lemmas.Option.{slice_get_within, slice_get-get_or}
 use Rattle.lalrpop_dfa.specs.Dfa.{Row, step}
 use Rattle.lalrpop_dfa.specs.Internal.Stored.{AreSteps, AreListed}
-use Rattle.lalrpop_kernels.proofs.NumberedLemmas.{pushed_cases}
+use Rattle.lalrpop_kernels.proofs.NumberedLemmas.{pushed_cases, pushed_keeps, pushed_last}
 
 -- the places that stand there name lists of their states
 abbrev pub TellSteps : List Row → List (Option ℕ) → List (List ℕ) → Type 0
 TellSteps d places lists = (p k : ℕ) → slice_get places p ≡ Some (Some k) → (targets : List ℕ) × ((slice_get lists k ≡ Some targets) × AreSteps d p targets)
-
-kept_at : {X : Type 0} (xs : List X) (y : X) (k : ℕ) (x : X) → slice_get xs k ≡ Some x → slice_get (xs ++ y ∷ []) k ≡ Some x
-kept_at [] y k x e = cc
-kept_at (z ∷ xs) y zero x e = e
-kept_at (z ∷ xs) y (suc k) x e = kept_at xs y k x e
-
-at_end : {X : Type 0} (xs : List X) (y : X) → slice_get (xs ++ y ∷ []) (length xs) ≡ Some y
-at_end [] y = refl
-at_end (z ∷ xs) y = at_end xs y
 
 -- one more state, with no list
 pub told_without : (d : List Row) (places places2 : List (Option ℕ)) (lists lists2 : List (List ℕ)) (n : ℕ) → length places ≡ n → TellSteps d places lists
@@ -39,9 +30,9 @@ told_with d places places2 lists lists2 n m targets long h own last e f = (omega
   where
     told : TellSteps d (places ++ Some m ∷ []) (lists ++ targets ∷ [])
     told p k at = elim (pushed_cases places (Some m) p (Some k) at) [
-      | inl old ↦ (let was = h p k old in (was.0, (kept_at lists targets k was.0 was.1.0, was.1.1)))
+      | inl old ↦ (let was = h p k old in (was.0, (pushed_keeps lists targets k was.0 was.1.0, was.1.1)))
       | inr new ↦ (let same : k ≡ m = (let g : Some k ≡ Some m = new.1 in cc) in
-          (targets, (ap (slice_get (lists ++ targets ∷ [])) (same ∙ last) ∙ at_end lists targets, rw (new.0, long) own)))
+          (targets, (ap (slice_get (lists ++ targets ∷ [])) (same ∙ last) ∙ pushed_last lists targets, rw (new.0, long) own)))
     ]
 
 -- what the list of a state tells
