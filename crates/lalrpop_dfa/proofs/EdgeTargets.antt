@@ -3,9 +3,10 @@ use Rattle.std.proofs.Common.{◌≡◌, ℕ, zero, suc, Bool, true, false, inl,
 use Rattle.std.specs.Prelude.{slice_get, Option, Some, None, IsSomeAnd, if◌then◌else◌}
 use Rattle.std.specs.List.{Contains}
 use Rattle.std.proofs.lemmas.Bool.{le-leb, lt-leb, cases_lt}
-use Rattle.std.proofs.lemmas.Option.{slice_get_cases, slice_get-get_or}
+use Rattle.std.proofs.lemmas.Option.{slice_get_cases, slice_get_within, slice_get-get_or}
 use Rattle.lalrpop_hir.specs.Range.{Range, Covers}
 use Rattle.lalrpop_dfa.specs.Dfa.{Row, edge_target, step, AreAscendingTests, IsWellFormed}
+use Rattle.lalrpop_dfa.specs.Internal.Stored.{EndBefore}
 
 leads_first : (t : Range × ℕ) (ts : List (Range × ℕ)) (o c : ℕ) → Covers t.0 c → edge_target (t ∷ ts) o c ≡ t.1
 leads_first t ts o c h = rw (le-leb t.0.start c h.0, le-leb c t.0.end h.1)
@@ -30,7 +31,7 @@ rest_ascends t [] a = tt
 rest_ascends t (u ∷ ts) a = a.2
 
 -- no test is empty
-has_value_at : (ts : List (Range × ℕ)) → AreAscendingTests ts → (k : ℕ) (t : Range × ℕ) → slice_get ts k ≡ Some t → t.0.start ≤ t.0.end
+pub has_value_at : (ts : List (Range × ℕ)) → AreAscendingTests ts → (k : ℕ) (t : Range × ℕ) → slice_get ts k ≡ Some t → t.0.start ≤ t.0.end
 has_value_at [] a k t e = cc
 has_value_at (u ∷ []) a zero t e = let same : u ≡ t = cc in subst (λ (x : Range × ℕ). x.0.start ≤ x.0.end) same a
 has_value_at (u ∷ v ∷ ts) a zero t e = let same : u ≡ t = cc in subst (λ (x : Range × ℕ). x.0.start ≤ x.0.end) same a.0
@@ -42,7 +43,7 @@ before_rest u [] a k t e = cc
 before_rest u (v ∷ ts) a zero t e = let same : v ≡ t = cc in subst (λ (x : Range × ℕ). u.0.end < x.0.start) same a.1
 before_rest u (v ∷ ts) a (suc k) t e = omega (arith, a.1, has_value_at (v ∷ ts) a.2 0 v refl, before_rest v ts a.2 k t e)
 
-before_at : (ts : List (Range × ℕ)) → AreAscendingTests ts → (j k : ℕ) (t u : Range × ℕ) → j < k → slice_get ts j ≡ Some t → slice_get ts k ≡ Some u → t.0.end < u.0.start
+pub before_at : (ts : List (Range × ℕ)) → AreAscendingTests ts → (j k : ℕ) (t u : Range × ℕ) → j < k → slice_get ts j ≡ Some t → slice_get ts k ≡ Some u → t.0.end < u.0.start
 before_at [] a j k t u l e f = cc
 before_at (v ∷ ts) a zero zero t u l e f = absurd (omega arith)
 before_at (v ∷ ts) a zero (suc k) t u l e f = let same : v ≡ t = cc in subst (λ (x : Range × ℕ). x.0.end < u.0.start) same (before_rest v ts a k u f)
@@ -50,7 +51,7 @@ before_at (v ∷ ts) a (suc j) zero t u l e f = absurd (omega arith)
 before_at (v ∷ ts) a (suc j) (suc k) t u l e f = before_at ts (rest_ascends v ts a) j k t u (omega arith) e f
 
 -- the test that covers the value is the one that it takes
-leads_at : (ts : List (Range × ℕ)) → AreAscendingTests ts → (k o c : ℕ) (t : Range × ℕ) → slice_get ts k ≡ Some t → Covers t.0 c → edge_target ts o c ≡ t.1
+pub leads_at : (ts : List (Range × ℕ)) → AreAscendingTests ts → (k o c : ℕ) (t : Range × ℕ) → slice_get ts k ≡ Some t → Covers t.0 c → edge_target ts o c ≡ t.1
 leads_at [] a k o c t e h = cc
 leads_at (u ∷ ts) a zero o c t e h = let same : u ≡ t = cc in leads_first u ts o c (subst (λ (x : Range × ℕ). Covers x.0 c) (sym same) h) ∙ ap (λ (x : Range × ℕ). x.1) same
 leads_at (u ∷ ts) a (suc k) o c t e h =
@@ -98,6 +99,24 @@ module _ (ts : List (Range × ℕ)) (a : AreAscendingTests ts) (value first end 
           ⊎_elim (λ (y : k < m). omega (arith, before_at ts a k m t u y e at, has_value_at ts a m u at, c.1))
           (λ (y : m ≤ k). let i : k ≡ m = omega arith in let same : t ≡ u = (let g : Some t ≡ Some u = sym e ∙ (ap (slice_get ts) i ∙ at) in cc) in let high : value ≤ u.0.end = subst (λ (x : Range × ℕ). value ≤ x.0.end) same c.1 in omega arith)
           (cases_lt k m)
+
+-- ---- walking
+-- the tests before the place end before the value, and that at the place begins behind it
+pub leads_between : (ts : List (Range × ℕ)) → AreAscendingTests ts → (place o c : ℕ) → EndBefore ts place c → ((t : Range × ℕ) → slice_get ts place ≡ Some t → c < t.0.start)
+    → edge_target ts o c ≡ o
+leads_between ts a place o c passed behind = leads_none ts o c (λ t m h. let p = place_of ts t m in out p.0 t p.1 h)
+  where
+    out : (k : ℕ) (t : Range × ℕ) → slice_get ts k ≡ Some t → Covers t.0 c → ⊥
+    out k t e h = ⊎_elim (λ (x : k < place). omega (arith, passed k t x e, h.1)) (λ (x : place ≤ k). ⊎_elim (later k t e h) (here k t e h x) (cases_lt place k)) (cases_lt k place)
+      where
+        here : (k : ℕ) (t : Range × ℕ) → slice_get ts k ≡ Some t → Covers t.0 c → place ≤ k → k ≤ place → ⊥
+        here k t e h x y = let i : place ≡ k = omega arith in omega (arith, behind t (ap (slice_get ts) i ∙ e), h.0)
+
+        later : (k : ℕ) (t : Range × ℕ) → slice_get ts k ≡ Some t → Covers t.0 c → place < k → ⊥
+        later k t e h x = elim (slice_get_cases ts place).1 [
+          | inl u ↦ omega (arith, behind u.0 u.2, has_value_at ts a place u.0 u.2, before_at ts a place k u.0 t x u.2 e, h.0)
+          | inr past ↦ omega (arith, past.0, slice_get_within ts k t e)
+        ]
 
 -- ---- its cost
 -- for n tests, fewer than 2 ^ d, so many probes were made that d are enough for all: what is left has fewer than 2 ^ e

@@ -1,16 +1,24 @@
 -- Lists of where values lead: what they tell once more states have theirs.
 use Rattle.std.proofs.Common.{◌≡◌, ℕ, inl, inr, ◌+◌, ◌<◌, List, [], ◌∷◌, ◌++◌, length, get_or, refl, sym, ap, ◌∙◌, arith, length-append}
-use Rattle.std.specs.Prelude.{slice_get, Option, Some, None}
+use Rattle.std.specs.Prelude.{slice_get, Option, Some, None, IfSome}
 use Rattle.std.specs.List.{AllZip}
 use Rattle.std.proofs.lemmas.List.Elements.{same_from_all_zip}
 use Rattle.std.proofs.lemmas.Option.{slice_get_within, slice_get-get_or}
-use Rattle.lalrpop_dfa.specs.Dfa.{Row, step}
+use Rattle.lalrpop_hir.specs.Range.{Range}
+use Rattle.lalrpop_dfa.specs.Dfa.{Row, edge_target, step}
 use Rattle.lalrpop_dfa.specs.Internal.Stored.{AreSteps, AreListed}
 use Rattle.lalrpop_kernels.proofs.NumberedLemmas.{pushed_cases, pushed_keeps, pushed_last}
+use Rattle.lalrpop_dfa.proofs.EdgeTargets.{step_of}
 
 -- the places that stand there name lists of their states
 abbrev pub TellSteps : List Row → List (Option ℕ) → List (List ℕ) → Type 0
 TellSteps d places lists = (p k : ℕ) → slice_get places p ≡ Some (Some k) → (targets : List ℕ) × ((slice_get lists k ≡ Some targets) × AreSteps d p targets)
+
+-- a list of where values lead by the edges of a state
+pub steps_by_edges : (d : List Row) (p : ℕ) (r : Row) (ts : List (Range × ℕ)) (other : ℕ) (o : Option (List ℕ)) → slice_get d p ≡ Some r → ts ≡ r.tests → other ≡ r.other
+    → IfSome o (λ targets. (c : ℕ) → c < 128 → slice_get targets c ≡ Some (edge_target ts other c)) → IfSome o (λ targets. AreSteps d p targets)
+steps_by_edges d p r ts other None at same_tests same_other h = tt
+steps_by_edges d p r ts other (Some targets) at same_tests same_other h = λ c l. h c l ∙ rw (same_tests, same_other) (ap (λ n. Some n) (sym (step_of d p c r at)))
 
 -- one more state, with no list
 pub told_without : (d : List Row) (places places2 : List (Option ℕ)) (lists lists2 : List (List ℕ)) (n : ℕ) → length places ≡ n → TellSteps d places lists

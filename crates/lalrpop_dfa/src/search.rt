@@ -1,11 +1,11 @@
 //! Where a value leads from a state, found among the state's test edges.
 
-ghost use Rattle.std.specs.Prelude.{◌≡◌, ℕ, ◌+◌, ◌^◌, ◌<◌, ◌≤◌, length, IfSome, IfNone, IfOk};
+ghost use Rattle.std.specs.Prelude.{◌≡◌, ℕ, ◌+◌, ◌^◌, ◌<◌, ◌≤◌, length, slice_get, Some, IfSome, IfNone, IfOk};
 ghost use Rattle.std.specs.List.{Contains};
 ghost use Rattle.lalrpop_hir.specs.Range.{Range, Covers};
 ghost use Rattle.lalrpop_dfa.specs.Counts.{HaveAtMost};
-ghost use Rattle.lalrpop_dfa.specs.Dfa.{step, AreAscendingTests, IsWellFormed};
-ghost use Rattle.lalrpop_dfa.specs.Internal.Stored.{AreSteps};
+ghost use Rattle.lalrpop_dfa.specs.Dfa.{edge_target, step, AreAscendingTests, IsWellFormed};
+ghost use Rattle.lalrpop_dfa.specs.Internal.Stored.{AreSteps, EndBefore};
 
 use super::rows::Rows;
 use super::{Dfa, DfaStateIndex};
@@ -69,15 +69,11 @@ impl Rows {
         requires within { state < length self.now }
         ensures { IfSome result (λ targets. AreSteps self.now state targets) }
     {
-        if self.test_edges(state).len() < LEAST_EDGES {
+        let edges = self.test_edges(state);
+        if edges.len() < LEAST_EDGES {
             return None;
         }
-        let mut targets = [0; LISTED];
-        for value in 0..LISTED {
-            let target = self.step(state, value as u32, &mut Steps::new());
-            targets[value] = u32::try_from(target.index()).ok()?;
-        }
-        Some(targets)
+        list_by(edges, self.state(state).other_edge())
     }
 
     /// The state that the value leads to: by the test edge that holds it, or else by the other edge.
@@ -94,6 +90,42 @@ impl Rows {
             Some(target) => target,
             None => self.state(state).other_edge(),
         }
+    }
+}
+
+// Where the values of ASCII lead by these edges, or else by the other edge; nothing where a target is beyond 32 bits.
+fn list_by(edges: &[(Test, DfaStateIndex)], other: DfaStateIndex) -> Option<[u32; LISTED]>
+    requires { AreAscendingTests edges.now }
+    ensures { IfSome result (λ targets. (c : ℕ) → c < 128
+        → slice_get targets c ≡ Some (edge_target edges.now other c)) }
+{
+    let mut targets = [0; LISTED];
+    let mut place = 0;
+    for value in 0..LISTED {
+        let target = walk_to(value as u32, edges, other, &mut place);
+        targets[value] = u32::try_from(target.index()).ok()?;
+    }
+    Some(targets)
+}
+
+// Where the value leads. The place goes on to the first edge that does not end before the value.
+fn walk_to(
+    value: u32,
+    edges: &[(Test, DfaStateIndex)],
+    other: DfaStateIndex,
+    place: &mut usize,
+) -> DfaStateIndex
+    requires ascending { AreAscendingTests edges.now }
+    requires passed { EndBefore edges.now place.old value }
+    ensures leads { result ≡ edge_target edges.now other value }
+    ensures passed { EndBefore edges.now place.new value }
+{
+    while *place < edges.len() && edges[*place].0.end() < value {
+        *place += 1;
+    }
+    match edges.get(*place) {
+        Some((test, target)) if test.start() <= value => *target,
+        _ => other,
     }
 }
 

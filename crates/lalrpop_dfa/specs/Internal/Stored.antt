@@ -18,6 +18,10 @@ AreWithin edges states = (p : ℕ) (s : StoredState) → slice_get states p ≡ 
 abbrev pub AreSteps : List Row → ℕ → List ℕ → Type 0
 AreSteps d p targets = (c : ℕ) → c < 128 → slice_get targets c ≡ Some (step d p c)
 
+-- the edges before the place end before the value
+abbrev pub EndBefore : List (Range × ℕ) → ℕ → ℕ → Type 0
+EndBefore ts place value = (k : ℕ) (t : Range × ℕ) → k < place → slice_get ts k ≡ Some t → t.0.end < value
+
 -- each state has a place, and where it names one of the lists, that list tells where values lead from the state
 pub record AreListed (d : List Row) (places : List (Option ℕ)) (lists : List (List ℕ)) : Type 0 where
   pub same_length : length places ≡ length d
