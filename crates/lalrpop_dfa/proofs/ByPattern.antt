@@ -1,21 +1,19 @@
 -- Items pattern by pattern.
 use Rattle.std.proofs.Common.{◌≡◌, ◌≢◌, ℕ, zero, suc, ◌+◌, ◌-◌, ◌<◌, ◌≤◌, inl, inr, List, [], ◌∷◌, ◌++◌, length, take, drop, get_or, refl, ap, sym, ◌∙◌, subst, arith}
-use Rattle.std.specs.List.{Contains, flat_map}
+use Rattle.std.specs.List.{Contains}
 use Rattle.std.specs.declared.cmp.Ordering.TheVariants.{Less}
 use Rattle.std.proofs.Math.Seq.{take-add}
 use Rattle.std.proofs.lemmas.Bool.{cases_lt}
 use Rattle.std.proofs.lemmas.Bool.Decides.{nat_tests}
-use Rattle.std.proofs.lemmas.Map.Keys.{sorted_tail}
 use Rattle.std.proofs.lemmas.Option.{slice_get_within}
 use Rattle.lalrpop_nfa.specs.Graph.{Graph}
 use Rattle.lalrpop_dfa.specs.Items.{Item}
-use Rattle.lalrpop_dfa.specs.Internal.Ascending.{item_cmp, AreAscendingItems, IsItemOf}
+use Rattle.lalrpop_dfa.specs.Internal.Ascending.{item_cmp, IsItemOf}
 use Rattle.lalrpop_dfa.specs.Internal.Builder.{AreItemsOf}
-use Rattle.lalrpop_dfa.specs.Internal.Subsets.{closed, item_targets, starts_from}
+use Rattle.lalrpop_dfa.specs.Internal.Subsets.{closed, starts_from}
 use Rattle.lalrpop_dfa.specs.Internal.Worklist.{AreByPattern, pattern_at}
 use Rattle.lalrpop_dfa.proofs.Members.{Has, has_from, contains_from, has_left, has_right, has_cases}
-use Rattle.lalrpop_dfa.proofs.SortedLists.{sorted_append, sorted_below, sorted_same}
-use Rattle.lalrpop_dfa.proofs.Targets.{item_targets_place}
+use Rattle.lalrpop_dfa.proofs.SortedLists.{sorted_append, sorted_same}
 use Rattle.lalrpop_dfa.proofs.ReachedItems.{follows_place}
 use Rattle.lalrpop_dfa.proofs.Sets.{item_total, closed_ascends, closed_parts, closed_has}
 
@@ -27,30 +25,12 @@ by_append (x ∷ xs) ys s t f = (
   by_append xs ys s.1 t (λ a b h k. f a b (inr h) k),
 )
 
-of_one : (i : ℕ) (xs : List Item) → ((x : Item) → Has xs x → x.0 ≡ i) → AreByPattern xs
+pub of_one : (i : ℕ) (xs : List Item) → ((x : Item) → Has xs x → x.0 ≡ i) → AreByPattern xs
 of_one i [] f = tt
 of_one i (x ∷ xs) f = (λ y h. (let a : x.0 ≡ i = f x (inl refl) in let b : y.0 ≡ i = f y (inr (has_from xs y h)) in omega (arith, a, b)), of_one i xs (λ y h. f y (inr h)))
 
-less_at_most : (x y : Item) → item_cmp x y ≡ Less → x.0 ≤ y.0
+pub less_at_most : (x y : Item) → item_cmp x y ≡ Less → x.0 ≤ y.0
 less_at_most x y h = grind (arith, nat_tests)
-
-targets_place : (ns : List Graph) (c : ℕ) (s : List Item) (z : Item) → Has (flat_map (item_targets ns c) s) z → (y : Item) × (Has s y × (z.0 ≡ y.0))
-targets_place ns c [] z h = absurd h
-targets_place ns c (x ∷ s) z h = elim (has_cases (item_targets ns c x) (flat_map (item_targets ns c) s) z h) [
-  | inl a ↦ (x, (inl refl, item_targets_place ns c x z a))
-  | inr b ↦ (let r = targets_place ns c s z b in (r.0, (inr r.1.0, r.1.1)))
-]
-
--- where ascending items lead
-pub targets_by_pattern : (ns : List Graph) (c : ℕ) (s : List Item) → AreAscendingItems s → AreByPattern (flat_map (item_targets ns c) s)
-targets_by_pattern ns c [] sorted = tt
-targets_by_pattern ns c (x ∷ s) sorted =
-    by_append (item_targets ns c x) (flat_map (item_targets ns c) s) (of_one x.0 (item_targets ns c x) (λ z h. item_targets_place ns c x z h)) (targets_by_pattern ns c s (sorted_tail item_cmp x s sorted))
-    (λ a b h k.
-    let r = targets_place ns c s b k in
-    let e : a.0 ≡ x.0 = item_targets_place ns c x a h in
-    let l : x.0 ≤ r.0.0 = less_at_most x r.0 (sorted_below item_cmp x s sorted r.0 r.1.0) in
-    omega (arith, e, l, r.1.1))
 
 starts_above : (i : ℕ) (gs : List Graph) (x : Item) → Has (starts_from i gs) x → i ≤ x.0
 starts_above i [] x h = absurd h
@@ -113,16 +93,16 @@ closed_none ns = nothing (closed ns []) (λ x h. (let (item, r) = closed_parts n
 pub pattern_within : (ns : List Graph) (items : List Item) (k : ℕ) (x : Item) → AreItemsOf ns items → k < length items → x ≡ get_or items k x → x.0 < length ns
 pattern_within ns items k x inside l read = let (g, (at, m)) = inside x (k, l, sym read) in slice_get_within ns x.0 g at
 
-take_parts : (xs : List Item) (n : ℕ) (x : Item) → Has (take n xs) x → (k : ℕ) × (k < n) × (k < length xs) × (get_or xs k (0, 0) ≡ x)
-take_parts xs zero x h = absurd h
-take_parts [] (suc n) x h = absurd h
-take_parts (y ∷ xs) (suc n) x (inl e) = (0, omega arith, omega arith, e)
-take_parts (y ∷ xs) (suc n) x (inr h) = let r = take_parts xs n x h in (suc r.0, omega (arith, r.1), omega (arith, r.2), r.3)
+pub take_parts : {X : Type 0} (d : X) (xs : List X) (n : ℕ) (x : X) → Has (take n xs) x → (k : ℕ) × (k < n) × (k < length xs) × (get_or xs k d ≡ x)
+take_parts d xs zero x h = absurd h
+take_parts d [] (suc n) x h = absurd h
+take_parts d (y ∷ xs) (suc n) x (inl e) = (0, omega arith, omega arith, e)
+take_parts d (y ∷ xs) (suc n) x (inr h) = let r = take_parts d xs n x h in (suc r.0, omega (arith, r.1), omega (arith, r.2), r.3)
 
-drop_parts : (xs : List Item) (n m : ℕ) (x : Item) → Has (take m (drop n xs)) x → (j : ℕ) × (n ≤ j) × (j < n + m) × (j < length xs) × (get_or xs j (0, 0) ≡ x)
-drop_parts xs zero m x h = let r = take_parts xs m x h in (r.0, omega arith, omega (arith, r.1), r.2, r.3)
-drop_parts [] (suc n) m x h = let r = take_parts [] m x h in absurd (omega (arith, r.2))
-drop_parts (y ∷ xs) (suc n) m x h = let r = drop_parts xs n m x h in (suc r.0, omega (arith, r.1), omega (arith, r.2), omega (arith, r.3), r.4)
+pub drop_parts : {X : Type 0} (d : X) (xs : List X) (n m : ℕ) (x : X) → Has (take m (drop n xs)) x → (j : ℕ) × (n ≤ j) × (j < n + m) × (j < length xs) × (get_or xs j d ≡ x)
+drop_parts d xs zero m x h = let r = take_parts d xs m x h in (r.0, omega arith, omega (arith, r.1), r.2, r.3)
+drop_parts d [] (suc n) m x h = let r = take_parts d [] m x h in absurd (omega (arith, r.2))
+drop_parts d (y ∷ xs) (suc n) m x h = let r = drop_parts d xs n m x h in (suc r.0, omega (arith, r.1), omega (arith, r.2), omega (arith, r.3), r.4)
 
 -- the first items are of patterns before those behind them
 pub record AreApart (items : List Item) (from : ℕ) : Type 0 where
@@ -148,12 +128,12 @@ module _ (items : List Item) (from end : ℕ) (by : AreByPattern items) (l : fro
 
   pub part_pattern : (x : Item) → Contains (take (end - from) (drop from items)) x → x.0 ≡ pattern_at items from
   part_pattern x h =
-      let r = drop_parts items from (end - from) x (has_from (take (end - from) (drop from items)) x h) in
+      let r = drop_parts (0, 0) items from (end - from) x (has_from (take (end - from) (drop from items)) x h) in
       ap (λ (z : Item). z.0) (sym r.4) ∙ same r.0 r.1 (omega (arith, r.2))
 
   pub part_inside : (ns : List Graph) → AreItemsOf ns items → AreItemsOf ns (take (end - from) (drop from items))
   part_inside ns inside x h =
-      let r = drop_parts items from (end - from) x (has_from (take (end - from) (drop from items)) x h) in
+      let r = drop_parts (0, 0) items from (end - from) x (has_from (take (end - from) (drop from items)) x h) in
       subst (λ (z : Item). IsItemOf ns z) r.4 (inside (get_or items r.0 (0, 0)) (contains_from items (get_or items r.0 (0, 0)) (at_has items r.0 (0, 0) r.3)))
 
   pub closed_more : (ns : List Graph) (found found2 : List Item) → found ≡ closed ns (take from items) → found2 ≡ found ++ closed ns (take (end - from) (drop from items)) → found2 ≡ closed ns (take end items)
@@ -161,7 +141,7 @@ module _ (items : List Item) (from end : ℕ) (by : AreByPattern items) (l : fro
       let long : from + (end - from) ≡ end = omega arith in
       let cut : take from items ++ take (end - from) (drop from items) ≡ take end items = sym (take-add from (end - from) items) ∙ ap (λ n. take n items) long in
       is ∙ (ap (λ f. f ++ closed ns (take (end - from) (drop from items))) was
-      ∙ (closed_append ns (take from items) (take (end - from) (drop from items)) (λ x y h k. differ x y (take_parts items from x h) (drop_parts items from (end - from) y k)) ∙ ap (closed ns) cut))
+      ∙ (closed_append ns (take from items) (take (end - from) (drop from items)) (λ x y h k. differ x y (take_parts (0, 0) items from x h) (drop_parts (0, 0) items from (end - from) y k)) ∙ ap (closed ns) cut))
     where
       differ : (x y : Item) → (k : ℕ) × (k < from) × (k < length items) × (get_or items k (0, 0) ≡ x) → (j : ℕ) × (from ≤ j) × (j < from + (end - from)) × (j < length items) × (get_or items j (0, 0) ≡ y) → x.0 < y.0
       differ x y a b =

@@ -40,6 +40,7 @@ mod CutBlocks
 mod LaidOut
 mod KnownClasses
 mod TransitionMoves
+mod TakenEdges
 -- laws for callers
 pub mod Strongest
 pub mod Agreeing

@@ -29,7 +29,7 @@ use Rattle.lalrpop_dfa.specs.Internal.LiveItems.{is_live, live_of, full, still_s
 use Rattle.lalrpop_dfa.specs.Internal.Subsets.{graph_at, is_epsilon_path, follows_by_epsilon, closed, item_targets, move, is_dead}
 use Rattle.lalrpop_ranges.specs.Partition.{IsPartition}
 use Rattle.lalrpop_ranges.proofs.BlockCover.{partition_like}
-use Rattle.lalrpop_dfa.specs.Internal.Transitions.{AreTransitions}
+use Rattle.lalrpop_dfa.specs.Internal.Transitions.{AreTransitions, AreTargetsBy}
 use Rattle.lalrpop_dfa.specs.declared.blocks.Transition.{Transition}
 use Rattle.lalrpop_dfa.proofs.Members.{Has, has_from, contains_from, has_filter, filter_has, any_from_has, has_from_any, has_flat_map, flat_map_has}
 use Rattle.lalrpop_dfa.proofs.SortedLists.{sorted_nil, sorted_cons, sorted_same}
@@ -38,6 +38,7 @@ use Rattle.lalrpop_dfa.proofs.Bests.{read_item}
 use Rattle.lalrpop_dfa.proofs.Epsilon.{epsilon_self}
 use Rattle.lalrpop_dfa.proofs.Targets.{compiled_at, item_targets_have}
 use Rattle.lalrpop_dfa.proofs.Sets.{closed_ascends, closed_parts, closed_has, move_ascends, move_has}
+use Rattle.lalrpop_dfa.proofs.TakenEdges.{taken_targets, closed_alike}
 use Rattle.lalrpop_dfa.proofs.Dead.{reject_path, IsMoved, moved, dead_from, dead_states}
 use Rattle.lalrpop_dfa.proofs.FullSets.{IsHeld, live_is, item_is, split_ascends, split_live, split_is, full_parts, full_reject}
 
@@ -236,6 +237,22 @@ module _ (ns : List Graph) (a : AreAutomata ns) where
     -- the test edges that a value takes
     pub transitions_live : (s : List Item) (v : ℕ) (edges : List Transition) → full n spared live ≡ s → AreTransitions ns live v edges → AreTransitions ns s v edges
     transitions_live s v edges view have = subst (λ t. AreTransitions ns t v edges) view (live_transitions v edges have)
+
+    -- the test edges that are taken leave live items
+    pub edges_leave_live : (v : ℕ) (edges : List Transition) → AreTransitions ns (full n spared live) v edges → (l : Transition) → Contains edges l → Contains live l.item
+    edges_leave_live v edges have l h = (let (g, r, (m, at, e, c)) = (have l).0 h in tested_live l.item g r l.to at e m)
+
+    -- by those edges, the live items lead to what the value leads to
+    pub targets_alike : (v : ℕ) (edges : List Transition) (items given : List Item) → AreItemsOf ns (full n spared live) → AreTransitions ns (full n spared live) v edges → items ≡ live → AreTargetsBy ns items edges given
+        → (z : Item) → Contains given z ↔ Contains (flat_map (item_targets ns v) live) z
+    targets_alike v edges items given inside have same led =
+        taken_targets ns (full n spared live) live v edges have (live_inside inside) (λ x h. contains_from (full n spared live) x (split_live n spared live is x h)) given (subst (λ (xs : List Item). AreTargetsBy ns xs edges given) same led)
+
+    -- and then by reading nothing
+    pub closed_from_live : (v : ℕ) (edges : List Transition) (items given given2 found : List Item) → AreItemsOf ns (full n spared live) → AreTransitions ns (full n spared live) v edges → items ≡ live → AreTargetsBy ns items edges given
+        → given2 ≡ given → found ≡ closed ns given2 → found ≡ closed ns (flat_map (item_targets ns v) live)
+    closed_from_live v edges items given given2 found inside have same led again is =
+        is ∙ (ap (closed ns) again ∙ closed_alike ns given (flat_map (item_targets ns v) live) (targets_alike v edges items given inside have same led))
 
     -- the set that it leads to by a value
     module _ (c : ℕ) (inside : AreItemsOf ns (full n spared live)) (items : List Item) (keys : items ≡ closed ns (flat_map (item_targets ns c) live)) where

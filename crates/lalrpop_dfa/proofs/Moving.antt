@@ -1,41 +1,19 @@
 -- Where items lead by a value, edge by edge.
-use Rattle.std.proofs.Common.{◌≡◌, ℕ, ◌<◌, List, [], ◌∷◌, ◌++◌, length, map, refl, ap, sym, ◌∙◌, subst, arith, true, false, cond, ◌&&◌, ◌==◌, nat_le, append-nil, length-append, inl, inr}
-use Rattle.std.proofs.lemmas.List.{length-map}
+use Rattle.std.proofs.Common.{◌≡◌, ℕ, ◌<◌, List, [], ◌∷◌, length, map, refl, ap, sym, subst, arith, true, false, cond, ◌==◌, inl, inr}
 use Rattle.std.specs.Prelude.{slice_get, Some}
 use Rattle.std.specs.List.{filter, flat_map}
-use Rattle.lalrpop_hir.specs.Range.{Range}
 use Rattle.lalrpop_nfa.specs.Graph.{Graph}
 use Rattle.lalrpop_dfa.specs.Items.{Item}
 use Rattle.lalrpop_nfa.specs.Walk.{leaves}
-use Rattle.lalrpop_dfa.specs.Internal.Subsets.{test_targets, default_targets, or_instead, item_targets}
+use Rattle.lalrpop_dfa.specs.Internal.Subsets.{default_targets, item_targets}
+use Rattle.lalrpop_dfa.specs.Internal.Transitions.{targets_of_run}
+use Rattle.lalrpop_dfa.specs.declared.blocks.Transition.{Transition}
 use Rattle.lalrpop_nfa.specs.declared.edge.Edge.{Edge}
 use Rattle.lalrpop_nfa.specs.Path.{test, other}
 use Rattle.lalrpop_dfa.specs.Internal.Builder.{AreAutomata, AreItemsOf}
 use Rattle.lalrpop_dfa.proofs.Members.{has_from, contains_from, flat_map_has}
 use Rattle.lalrpop_dfa.proofs.Targets.{compiled_at, item_targets_parts}
 use Rattle.lalrpop_dfa.proofs.Inserting.{graph_here}
-use Rattle.lalrpop_dfa.proofs.WorklistSteps.{nil_from}
-
--- the test edges of a list that cover the value lead here
-abbrev pub picked : ℕ → ℕ → List (Edge Range) → List Item
-picked i c es = map (λ e. (i, e.to)) (filter (λ e. nat_le e.label.start c && nat_le c e.label.end) es)
-
-module _ (i p c : ℕ) where
-  pub picked_start : (es : List (Edge Range)) → picked i c (filter (leaves p) es) ≡ map (λ q. let z : Item = (i, q) in z) (map (λ e. e.to) (filter (λ e. (e.from == p) && (nat_le e.label.start c && nat_le c e.label.end)) es))
-  picked_start [] = refl
-  picked_start (e ∷ es) =
-      elim (e.from == p) as (λ b.
-      picked i c (cond b (e ∷ filter (leaves p) es) (filter (leaves p) es))
-      ≡ map (λ q. let z : Item = (i, q) in z) (map (λ e. e.to) (cond (b && (nat_le e.label.start c && nat_le c e.label.end)) (e ∷ filter (λ e. (e.from == p) && (nat_le e.label.start c && nat_le c e.label.end)) es) (filter (λ e. (e.from == p) && (nat_le e.label.start c && nat_le c e.label.end)) es)))) [
-        | true ↦
-            elim (nat_le e.label.start c && nat_le c e.label.end) as (λ v.
-            map (λ (e : Edge Range). let z : Item = (i, e.to) in z) (cond v (e ∷ filter (λ e. nat_le e.label.start c && nat_le c e.label.end) (filter (leaves p) es)) (filter (λ e. nat_le e.label.start c && nat_le c e.label.end) (filter (leaves p) es)))
-            ≡ map (λ q. let z : Item = (i, q) in z) (map (λ e. e.to) (cond v (e ∷ filter (λ e. (e.from == p) && (nat_le e.label.start c && nat_le c e.label.end)) es) (filter (λ e. (e.from == p) && (nat_le e.label.start c && nat_le c e.label.end)) es)))) [
-              | true ↦ ap (λ ys. let z : Item = (i, e.to) in z ∷ ys) (picked_start es)
-              | false ↦ picked_start es
-            ]
-        | false ↦ picked_start es
-      ]
 
 module _ {L : Type 0} (i p : ℕ) where
   pub default_start : (es : List (Edge L)) → map (λ (e : Edge L). let z : Item = (i, e.to) in z) (filter (leaves p) es) ≡ map (λ q. let z : Item = (i, q) in z) (map (λ (e : Edge L). e.to) (filter (λ (e : Edge L). e.from == p) es))
@@ -48,34 +26,20 @@ module _ {L : Type 0} (i p : ℕ) where
         | false ↦ default_start es
       ]
 
-instead_none : (ts qs : List ℕ) → length ts ≡ 0 → or_instead ts qs ≡ qs
-instead_none [] qs e = refl
-instead_none (t ∷ ts) qs e = absurd (omega (arith, e))
-
-instead_some : (ts qs : List ℕ) → (length ts ≡ 0 → ⊥) → or_instead ts qs ≡ ts
-instead_some [] qs e = absurd (e refl)
-instead_some (t ∷ ts) qs e = refl
-
-abbrev at_place : ℕ → ℕ → Item
-at_place i q = (i, q)
-
--- where no test edge covers the value, the other edges lead
-pub targets_default : (ns : List Graph) (c : ℕ) (x : Item) (g : Graph) (old new new2 : List Item) → slice_get ns x.0 ≡ Some g → new ≡ old ++ map (at_place x.0) (test_targets g x.1 c) → length new ≡ length old
-    → new2 ≡ new ++ map (at_place x.0) (default_targets g x.1) → new2 ≡ old ++ item_targets ns c x
-unfolding item_targets
-targets_default ns c x g old new new2 at is same then =
-    let none : length (test_targets g x.1 c) ≡ 0 = omega (arith, same, ap length is, length-append old (map (at_place x.0) (test_targets g x.1 c)), length-map (test_targets g x.1 c) (at_place x.0)) in
-    let kept : new ≡ old = is ∙ (ap (λ ys. old ++ ys) (nil_from (map (at_place x.0) (test_targets g x.1 c)) (length-map (test_targets g x.1 c) (at_place x.0) ∙ none)) ∙ append-nil old) in
-    rw (graph_here ns x.0 g at, instead_none (test_targets g x.1 c) (default_targets g x.1) none) (rw kept at then)
+-- where there is no test edge, the other edges lead
+pub bare_run : (ns : List Graph) (x : Item) (g : Graph) → slice_get ns x.0 ≡ Some g → map (λ q. let z : Item = (x.0, q) in z) (default_targets g x.1) ≡ targets_of_run ns x []
+unfolding targets_of_run
+bare_run ns x g at = rw (graph_here ns x.0 g at) refl
 
 -- and else they alone
-pub targets_tested : (ns : List Graph) (c : ℕ) (x : Item) (g : Graph) (old new : List Item) → slice_get ns x.0 ≡ Some g → new ≡ old ++ map (at_place x.0) (test_targets g x.1 c) → (length new ≡ length old → ⊥)
-    → new ≡ old ++ item_targets ns c x
-unfolding item_targets
-targets_tested ns c x g old new at is more =
-    let some : length (test_targets g x.1 c) ≡ 0 → ⊥ =
-    λ (e : length (test_targets g x.1 c) ≡ 0). more (omega (arith, e, ap length is, length-append old (map (at_place x.0) (test_targets g x.1 c)), length-map (test_targets g x.1 c) (at_place x.0))) in
-    rw (graph_here ns x.0 g at, instead_some (test_targets g x.1 c) (default_targets g x.1) some) is
+pub edges_run : (ns : List Graph) (x : Item) (run : List Transition) → (length run ≡ 0 → ⊥) → map (λ (e : Transition). let z : Item = (x.0, e.to) in z) run ≡ targets_of_run ns x run
+unfolding targets_of_run
+edges_run ns x [] some = absurd (some refl)
+edges_run ns x (e ∷ run) some = ap (λ ys. let z : Item = (x.0, e.to) in z ∷ ys) (rest run)
+  where
+    rest : (es : List Transition) → map (λ (e : Transition). let z : Item = (x.0, e.to) in z) es ≡ map (λ q. let z : Item = (x.0, q) in z) (map (λ (e : Transition). e.to) es)
+    rest [] = refl
+    rest (e ∷ es) = ap (λ ys. let z : Item = (x.0, e.to) in z ∷ ys) (rest es)
 
 -- where a value leads from an item is an item
 pub targets_inside : (ns : List Graph) (c : ℕ) (s : List Item) → AreAutomata ns → AreItemsOf ns s → AreItemsOf ns (flat_map (item_targets ns c) s)

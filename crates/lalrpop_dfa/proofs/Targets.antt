@@ -15,6 +15,15 @@ use Rattle.lalrpop_dfa.specs.Items.{Item, AreCompiled}
 use Rattle.lalrpop_dfa.specs.Internal.Subsets.{no_graph, graph_at, test_targets, default_targets, or_instead, targets, item_targets}
 use Rattle.lalrpop_dfa.proofs.Members.{Has, has_from, contains_from, has_filter, filter_has, has_map, map_has}
 
+-- the first list, or the second where it is empty
+pub instead_cases : (ts qs : List ℕ) (q : ℕ) → Has (or_instead ts qs) q → Has ts q ⊎ ((ts ≡ []) × Has qs q)
+instead_cases [] qs q h = inr (refl, h)
+instead_cases (t ∷ ts) qs q h = inl h
+
+pub instead_first : (ts qs : List ℕ) (q : ℕ) → Has ts q → Has (or_instead ts qs) q
+instead_first [] qs q h = absurd h
+instead_first (t ∷ ts) qs q h = h
+
 module _ (g : Graph) (p c : ℕ) where
   abbrev covers_here : Edge Range → Bool
   covers_here e = (e.from == p) && (nat_le e.label.start c && nat_le c e.label.end)
@@ -60,14 +69,6 @@ module _ (g : Graph) (p c : ℕ) where
 
   pub nil_untested : test_targets g p c ≡ [] → IsUntested g.edges p c
   nil_untested e r q h k = let t : Has (test_targets g p c) q = tested_has r q h k in rw e at t
-
-  instead_cases : (ts qs : List ℕ) (q : ℕ) → Has (or_instead ts qs) q → Has ts q ⊎ ((ts ≡ []) × Has qs q)
-  instead_cases [] qs q h = inr (refl, h)
-  instead_cases (t ∷ ts) qs q h = inl h
-
-  instead_first : (ts qs : List ℕ) (q : ℕ) → Has ts q → Has (or_instead ts qs) q
-  instead_first [] qs q h = absurd h
-  instead_first (t ∷ ts) qs q h = h
 
   pub targets_parts : (q : ℕ) → Has (targets g p c) q → Reads g.edges p c q
   targets_parts q h = elim (instead_cases (test_targets g p c) (default_targets g p) q h) [

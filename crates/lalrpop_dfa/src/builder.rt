@@ -1,6 +1,7 @@
 //! The construction of an automaton: sets of items are numbered as they are first met, and expanded number by number.
 
 ghost use Rattle.std.specs.Prelude.{◌≡◌, ◌+◌, ◌<◌, ◌≤◌, ◌++◌, ◌∷◌, [], List, length, map, slice_get, Some, IfOk, IfErr, OnOk};
+ghost use Rattle.std.specs.List.Sorted.{IsSorted};
 ghost use Rattle.lalrpop_hir.specs.Tree.{Tree};
 ghost use Rattle.lalrpop_dfa.specs.Internal.Ascending.{AreAscendingItems};
 ghost use Rattle.lalrpop_dfa.specs.Internal.Builder.{AreAutomata, AreItemsOf, IsAdded, AreKnown, AreUnknown, AreKnownClasses, IsEdged, IsBuiltTo, IsTieOf, IsClashOf};
@@ -10,12 +11,12 @@ ghost use Rattle.lalrpop_dfa.specs.Counts.{state_bound};
 ghost use Rattle.lalrpop_dfa.specs.Dfa.{Recognizes};
 ghost use Rattle.lalrpop_dfa.specs.Items.{AreCompiled, HoldsItems, OthersReject, IsInWordOrder};
 ghost use Rattle.lalrpop_alphabet.specs.Alphabet.{IsAlphabetOf};
-ghost use Rattle.lalrpop_dfa.specs.Internal.Transitions.{AreTransitions};
+ghost use Rattle.lalrpop_dfa.specs.Internal.Transitions.{transition_cmp, AreTransitions};
 ghost use Rattle.lalrpop_dfa.specs.Internal.Subsets.{move, starts_from, first_set_of};
 ghost use Rattle.lalrpop_dfa.specs.Internal.BreadthFirst.{IsBreadthFirst, nth};
 
 use super::best::{Tie, kind_of};
-use super::blocks::{Block, Leaving, Transitions, leaving_of};
+use super::blocks::{Block, Leaving, Transition, Transitions, leaving_of};
 use super::closure::{advance, closure};
 use super::items::{Item, ItemSet, Origin};
 use super::rows::{Edges, Rows};
@@ -102,25 +103,28 @@ impl Sets {
         Ok(number)
     }
 
-    // The number of the set that a set leads to by the origin's value.
+    // The number of the set that a set leads to by the origin's value, which takes these test edges.
     fn target_of(
         &mut self,
         alloc: Global,
         nfas: &[Nfa],
         set: &ItemSet,
+        transitions: &[Transition],
         origin: Origin,
     ) -> Result<DfaStateIndex, AllocError>
         requires automata { AreAutomata nfas.now }
         requires inside { AreItemsOf nfas.now set.now }
         requires same_length { length self.old.origins.items ≡ length self.old.kernels.list }
+        requires sorted { IsSorted transition_cmp transitions.now }
+        requires transitions { AreTransitions nfas.now set.now origin.1 transitions.now }
         ensures { IfOk result (λ j.
             IsAdded self.old origin (move nfas.now set.now origin.1) j self.new) }
     {
-        let target = advance(alloc, nfas, set, origin.value)?;
+        let target = advance(alloc, nfas, set, transitions)?;
         self.add(target, origin)
     }
 
-    // The same, where the value takes these test edges: looked up where they were met before.
+    // The same, looked up where these edges were met before. They come in order, and a sort only makes sure of it.
     fn target_of_transitions(
         &mut self,
         alloc: Global,
@@ -142,8 +146,10 @@ impl Sets {
         if let Some(number) = known.get(transitions) {
             return Ok(*number);
         }
-        let number = self.target_of(alloc, nfas, set, origin)?;
-        known.insert(transitions.clone()?, number)?;
+        let mut sorted = transitions.clone()?;
+        sorted.list.sort()?;
+        let number = self.target_of(alloc, nfas, set, &sorted.list, origin)?;
+        known.insert(sorted, number)?;
         Ok(number)
     }
 
@@ -181,7 +187,8 @@ impl Sets {
             )?;
             tests.push((range, target))?;
         }
-        let other = self.target_of(alloc, nfas, set, Origin::new(number, u32::MAX))?;
+        // No label reaches the greatest number, so that it takes no test edge.
+        let other = self.target_of(alloc, nfas, set, &[], Origin::new(number, u32::MAX))?;
         Ok(Edges { tests, other })
     }
 }

@@ -1,18 +1,21 @@
 //! Where items lead: by reading nothing, and by a value.
 
-ghost use Rattle.std.specs.Prelude.{◌≡◌, ◌≢◌, ◌↔◌, ℕ, ◌<◌, ◌≤◌, IsTrue, ◌++◌, ◌∷◌, [], length, map, IfOk, OnOk};
-ghost use Rattle.std.specs.List.{Contains, flat_map, range_with_len};
+ghost use Rattle.std.specs.Prelude.{◌≡◌, ◌≢◌, ◌↔◌, ℕ, ◌<◌, ◌≤◌, IsTrue, ◌++◌, ◌∷◌, [], length, IfOk, OnOk};
+ghost use Rattle.std.specs.List.{Contains, range_with_len};
+ghost use Rattle.std.specs.List.Sorted.{IsSorted};
 ghost use Rattle.lalrpop_dfa.specs.Internal.Ascending.{AreAscendingItems, IsItemOf};
 ghost use Rattle.lalrpop_dfa.specs.Internal.Builder.{AreAutomata, AreItemsOf};
 ghost use Rattle.lalrpop_dfa.specs.Internal.LiveItems.{live_of, full, still_spared, AreSpared, AreWithin};
-ghost use Rattle.lalrpop_dfa.specs.Internal.Subsets.{closed, move, test_targets, default_targets, item_targets};
+ghost use Rattle.lalrpop_dfa.specs.Internal.Subsets.{closed, move};
+ghost use Rattle.lalrpop_dfa.specs.Internal.Transitions.{transition_cmp, AreTransitions};
 ghost use Rattle.lalrpop_dfa.specs.Internal.Worklist.{IsInserted, epsilon_targets, marked, AreOfPattern, AreStatesBelow, AreMarksOf, AreByPattern, pattern_at};
 
 use super::NfaIndex;
+use super::blocks::Transition;
 use super::items::{Item, ItemSet};
+use super::moves::targets_by;
 use super::ordered::follow_ordered;
-use lalrpop_nfa::{Nfa, NfaStateIndex, Noop, Other, REJECT};
-use lalrpop_ranges::Test;
+use lalrpop_nfa::{Nfa, NfaStateIndex, Noop, REJECT};
 use std::alloc::{AllocError, Global};
 
 // Marks are used where a pattern has at most so many states for each of its items that are given.
@@ -261,86 +264,22 @@ fn patterns_below(alloc: Global, patterns: usize) -> Result<Vec<usize>, AllocErr
     (0..patterns).collect(alloc)
 }
 
-// Adds where the test edges of the item's state lead that cover a value.
-fn push_test_targets(
-    nfa: &Nfa,
-    item: Item,
-    value: u32,
-    targets: &mut Vec<Item>,
-) -> Result<(), AllocError>
-    requires { item.1 < length nfa.now.kinds }
-    ensures { OnOk result (targets.new.items
-        ≡ targets.old.items ++ map (λ q. (item.0, q)) (test_targets nfa.now item.1 value)) }
-{
-    for edge in nfa.edges::<Test>(item.state()) {
-        if edge.label.contains_u32(value) {
-            targets.push(item.to(edge.to))?;
-        }
-    }
-    Ok(())
-}
-
-// Adds where the other edges of the item's state lead.
-fn push_default_targets(nfa: &Nfa, item: Item, targets: &mut Vec<Item>) -> Result<(), AllocError>
-    requires { item.1 < length nfa.now.kinds }
-    ensures { OnOk result (targets.new.items
-        ≡ targets.old.items ++ map (λ q. (item.0, q)) (default_targets nfa.now item.1)) }
-{
-    for edge in nfa.edges::<Other>(item.state()) {
-        targets.push(item.to(edge.to))?;
-    }
-    Ok(())
-}
-
-// Adds where an item leads by a value: by the test edges that cover it, and where there is none by the other edges.
-fn push_targets(
-    nfas: &[Nfa],
-    item: Item,
-    value: u32,
-    targets: &mut Vec<Item>,
-) -> Result<(), AllocError>
-    requires { IsItemOf nfas.now item }
-    ensures { OnOk result (targets.new.items
-        ≡ targets.old.items ++ item_targets nfas.now value item) }
-{
-    let nfa = item.nfa(nfas);
-    let before = targets.len();
-    push_test_targets(nfa, item, value, targets)?;
-    if targets.len() == before {
-        push_default_targets(nfa, item, targets)?;
-    }
-    Ok(())
-}
-
-// Where the items lead by a value.
-fn targets_of(
-    alloc: Global,
-    nfas: &[Nfa],
-    items: &[Item],
-    value: u32,
-) -> Result<Vec<Item>, AllocError>
-    requires { AreItemsOf nfas.now items.now }
-    ensures { IfOk result (λ v. v.items ≡ flat_map (item_targets nfas.now value) items.now) }
-{
-    let mut targets = Vec::with_capacity(alloc, items.len())?;
-    for item in items {
-        push_targets(nfas, *item, value, &mut targets)?;
-    }
-    Ok(targets)
-}
-
-/// The set that a set leads to by a value. A pattern with a REJECT item keeps it, so that the live items are followed alone.
+/// The set that a set leads to by the values that take these test edges. A pattern with a REJECT item keeps it, so that the
+/// live items are followed alone.
 pub(super) fn advance(
     alloc: Global,
     nfas: &[Nfa],
     set: &ItemSet,
-    value: u32,
+    transitions: &[Transition],
 ) -> Result<ItemSet, AllocError>
     requires automata { AreAutomata nfas.now }
     requires inside { AreItemsOf nfas.now set.now }
-    ensures { IfOk result (λ s. s ≡ move nfas.now set.now value) }
+    requires sorted { IsSorted transition_cmp transitions.now }
+    requires taken { (v : ℕ) × AreTransitions nfas.now set.now v transitions.now }
+    ensures { IfOk result (λ s. (v : ℕ) → AreTransitions nfas.now set.now v transitions.now
+        → s ≡ move nfas.now set.now v) }
 {
-    let given = targets_of(alloc, nfas, &set.live, value)?;
+    let given = targets_by(alloc, nfas, &set.live, transitions)?;
     let items = follow_all(alloc, nfas, &given)?;
     set_of(alloc, set.patterns, &set.spared, &items)
 }

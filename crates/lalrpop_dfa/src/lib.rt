@@ -11,6 +11,7 @@ mod equality;
 mod error;
 pub mod interpret;
 mod items;
+mod moves;
 mod ordered;
 mod rows;
 mod search;

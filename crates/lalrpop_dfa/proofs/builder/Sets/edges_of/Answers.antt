@@ -10,6 +10,7 @@ use Rattle.lalrpop_dfa.specs.Internal.Subsets.{move}
 use Rattle.lalrpop_dfa.specs.declared.blocks.Block.{Block}
 use Rattle.lalrpop_dfa.proofs.Builds.{edging_none, edging_more, edging_done, added_of}
 use Rattle.lalrpop_dfa.proofs.KnownClasses.{none_known, part_at, range_at, no_more}
+use Rattle.lalrpop_dfa.proofs.TransitionMoves.{takes_none}
 use Rattle.lalrpop_dfa.proofs.builder.Sets.edges_of.Goals as goal
 
 pub loop-block-init : goal.loop-block-init
@@ -38,6 +39,9 @@ target_of_class-requires-clause-count c = c.loop-block.invariant.count ∙ ap le
 pub target_of_class-requires-clause-classes : goal.target_of_class-requires-clause-classes
 target_of_class-requires-clause-classes c =
     subst (λ (ts : List Transitions). AreKnownClasses c.args.nfas.now c.args.set.now ts c.loop-block.known.by_class.items c.loop-block.self.kernels.list) (sym c.deref.ensures.value) c.loop-block.invariant.classes
+
+pub target_of-requires-clause-transitions : goal.target_of-requires-clause-transitions
+target_of-requires-clause-transitions c = takes_none c.args.nfas.now c.requires.automata c.args.set.now c.new-2.result.1 [] (let v : c.new-2.result.1 ≡ 4294967295 = ap (λ (o : ℕ × ℕ). o.1) c.new-2.ensures in omega (arith, v)) refl
 
 pub loop-block-preserved : goal.loop-block-preserved
 loop-block-preserved c =

@@ -1,6 +1,6 @@
 use Rattle.std.proofs.Common.{◌++◌, ap, ◌∙◌, map}
 use Rattle.lalrpop_dfa.proofs.Moving.{default_start}
-use Rattle.lalrpop_dfa.proofs.closure.push_default_targets.Goals as goal
+use Rattle.lalrpop_dfa.proofs.moves.push_default_targets.Goals as goal
 
 pub loop-edge-init : goal.loop-edge-init
 loop-edge-init c =
