@@ -6,7 +6,7 @@ use Rattle.std.proofs.lemmas.List.Elements.{Contains-append_left, Contains-push_
 use Rattle.lalrpop_nfa.specs.Graph.{Graph}
 use Rattle.lalrpop_dfa.specs.Items.{Item}
 use Rattle.lalrpop_nfa.specs.Walk.{leaves}
-use Rattle.lalrpop_dfa.specs.Internal.Ascending.{AreAscendingItems, IsItemOf}
+use Rattle.lalrpop_dfa.specs.Internal.Ascending.{item_cmp, AreAscendingItems, IsItemOf}
 use Rattle.lalrpop_nfa.specs.Path.{noop}
 use Rattle.lalrpop_dfa.specs.Internal.Builder.{AreAutomata, AreItemsOf}
 use Rattle.lalrpop_dfa.specs.Internal.Subsets.{graph_at, has_noop, joins, is_epsilon_path, follows_by_epsilon, closed, all_items}
@@ -14,7 +14,8 @@ use Rattle.lalrpop_dfa.specs.Internal.Worklist.{IsInserted, epsilon_targets, Are
 use Rattle.lalrpop_nfa.specs.declared.edge.Edge.{Edge}
 use Rattle.lalrpop_nfa.specs.declared.edge.Noop.{Noop}
 use Rattle.lalrpop_dfa.proofs.Members.{Has, has_right, has_from, contains_from, has_map, map_has, has_filter, filter_has, any_from_has, has_from_any}
-use Rattle.lalrpop_dfa.proofs.SortedLists.{sorted_same}
+use Rattle.lalrpop_nfa.proofs.Contained.{contains_only}
+use Rattle.lalrpop_dfa.proofs.SortedLists.{sorted_nil, sorted_cons, sorted_same}
 use Rattle.std.specs.Prelude.{slice_get, Some}
 use Rattle.std.proofs.lemmas.Option.{slice_get-get_or}
 use Rattle.lalrpop_dfa.proofs.Marks.{marked_parts}
@@ -177,6 +178,20 @@ closing_done ns given observed pending none k =
   where
     done : (x y : Item) → Contains observed x → Has (epsilon_targets ns x) y → Contains observed y
     done x y h s = elim (k.followed x h) [ inl waits ↦ absurd (no_item x (rw none at waits)) | inr all ↦ all y (contains_from (epsilon_targets ns x) y s) ]
+
+-- an item from which no edge leads on that reads nothing
+pub closed_alone : (ns : List Graph) (x : Item) → IsItemOf ns x → epsilon_targets ns x ≡ [] → x ∷ [] ≡ closed ns (x ∷ [])
+closed_alone ns x is none = closing_done ns (x ∷ []) (x ∷ []) [] refl (record {
+  ordered = sorted_cons item_cmp x [] (λ y h. absurd h) (sorted_nil item_cmp);
+  given_in = λ y h. h;
+  pending_in = λ y h. absurd (no_item y h);
+  followed = λ y h. inr (λ z s. absurd (no_item z (let same : y ≡ x = only y h in rw (same, none) at s)));
+  within = λ y h. rw (only y h) is;
+  led = λ y h. led_self ns (x ∷ []) y h;
+})
+  where
+    only : (y : Item) → Contains (x ∷ []) y → y ≡ x
+    only y h = sym (contains_only x y h)
 
 pub nil_from : {X : Type 0} (xs : List X) → length xs ≡ 0 → xs ≡ []
 nil_from [] e = refl

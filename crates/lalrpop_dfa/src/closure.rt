@@ -119,6 +119,15 @@ fn follow_by_marks(
     push_marked(pattern, &worklist.marks, found)
 }
 
+// Whether no edge leads on from an item by reading nothing.
+fn stays(nfas: &[Nfa], item: Item) -> bool
+    requires { IsItemOf nfas.now item }
+    ensures { IsTrue result ↔ (epsilon_targets nfas.now item ≡ []) }
+{
+    let mut edges = item.nfa(nfas).edges::<Noop>(item.state());
+    edges.next().is_none()
+}
+
 // The same, in a time that doesn't grow with the pattern where few of its items are given.
 fn follow_pattern(
     alloc: Global,
@@ -133,6 +142,12 @@ fn follow_pattern(
     requires within { pattern < length nfas.now }
     ensures { OnOk result (found.new.items ≡ found.old.items ++ closed nfas.now given.now) }
 {
+    if let [item] = given {
+        if stays(nfas, *item) {
+            found.push(*item)?;
+            return Ok(());
+        }
+    }
     if nfas[pattern.index()].len() / STATES_FOR_AN_ITEM <= given.len() {
         return follow_by_marks(alloc, nfas, pattern, given, found);
     }
