@@ -30,9 +30,11 @@ impl Model for Lexer {
 
     ghost coded = { rules_code };
 
-    ghost view = { λ l. record { trees = l.regexs.items; precedences = map (λ p. p.0) l.precedences.items } };
+    ghost view = { λ l.
+        record { trees = l.regexs.items; precedences = map (λ p. p.0) l.precedences.items } };
 
-    ghost invariant = { λ l. IsBuiltFrom l.regexs.items (map (λ p. p.0) l.precedences.items) l.dfa };
+    ghost invariant = { λ l.
+        IsBuiltFrom l.regexs.items (map (λ p. p.0) l.precedences.items) l.dfa };
 }
 
 impl Lexer {
@@ -45,8 +47,8 @@ impl Lexer {
     ///
     /// # Errors
     ///
-    /// The first pattern that can't be compiled; else the two last strongest patterns on the shortest, then least, word that
-    /// has no one strongest pattern; and want of memory.
+    /// The first pattern that can't be compiled; else the two last strongest patterns on the shortest, then least, word
+    /// that has no one strongest pattern; and want of memory.
     pub fn new(
         alloc: Global,
         regexs: Vec<Regex>,
@@ -71,8 +73,8 @@ impl Lexer {
         })
     }
 
-    /// Builds the automaton of the terminals that some lines name: each is `P l TEXT` or `P r PATTERN`, a precedence and a
-    /// literal or a pattern.
+    /// Builds the automaton of the terminals that some lines name: each is `P l TEXT` or `P r PATTERN`, a precedence and
+    /// a literal or a pattern.
     ///
     /// # Errors
     ///
@@ -107,8 +109,8 @@ impl Lexer {
         &self.regexs
     }
 
-    /// The token at the front of the text: the longest nonempty prefix that some pattern matches, with the one pattern of
-    /// the greatest precedence that matches it.
+    /// The token at the front of the text: the longest nonempty prefix that some pattern matches, with the one pattern
+    /// of the greatest precedence that matches it.
     pub fn token<'text>(&self, text: &'text str) -> Option<Token<'text>>
         ensures token { IfSome result (λ token.
             IsToken self.now.trees self.now.precedences text.now token) }
