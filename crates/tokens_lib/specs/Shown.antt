@@ -1,6 +1,7 @@
 -- cases: proofs/Cases/Shown.antt
 -- What is written of terminals and texts.
-use Rattle.std.specs.Prelude.{◌≡◌, ℕ, ◌-◌, Bool, true, false, ◌&&◌, ◌==◌, List, [], ◌∷◌, ◌++◌, length, None, codes, decimal, flat_map, if◌then◌else◌}
+use Rattle.std.specs.Prelude.{◌≡◌, ℕ, ◌-◌, ◌⊎◌, Bool, true, false, ◌&&◌, ◌==◌, List, [], ◌∷◌, ◌++◌, length, Option, None, codes, decimal, flat_map, if◌then◌else◌}
+use Rattle.std.specs.Io.KnownBytes.{Appends}
 use Rattle.lalrpop_hir.specs.Tree.{Tree}
 use Rattle.lalrpop_lexer.specs.Clash.{NoClash}
 use Rattle.lalrpop_lexer.specs.Longest.{IsLongest}
@@ -8,6 +9,7 @@ use Rattle.lalrpop_lexer.specs.Report.{NoFault}
 use Rattle.lexdfa_lib.specs.Lines.{lines}
 use Rattle.lexdfa_lib.specs.Printed.{line_of}
 use Rattle.lexdfa_lib.specs.Terminals.{AreTerminals}
+use Rattle.lexdfa_lib.specs.Watch.{ReadsAll}
 use Rattle.lexdfa_lib.specs.declared.outcome.Outcome.TheVariants as outcome
 use Rattle.tokens_lib.specs.Building.{IsBuildError, build_status}
 use Rattle.tokens_lib.specs.Cut.{AreTokens}
@@ -67,3 +69,13 @@ abbrev pub ended_status : Ended → ℕ
 ended_status Whole = 0
 ended_status Stopped = 1
 ended_status (NoLexer error) = build_status error
+
+-- a reader was read to its end, and a writer took exactly what is written for its bytes and the texts
+abbrev pub ReadsShown : Option (List ℕ) → Option (List ℕ) → List (List ℕ) → Option (List ℕ) → Option (List ℕ) → Ended → Type 0
+ReadsShown left left_now texts held held_now ended =
+    (bytes : List ℕ) × (ReadsAll left left_now bytes
+    × ((written : List ℕ) × (IsShown bytes texts written ended × Appends held held_now written)))
+
+-- the exit status of some ending, or 6, that of a failed read or write
+abbrev pub IsStatus : ℕ → Type 0
+IsStatus status = ((ended : Ended) × (status ≡ ended_status ended)) ⊎ (status ≡ 6)

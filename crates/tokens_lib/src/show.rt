@@ -1,7 +1,8 @@
 //! A program that cuts its arguments into tokens: what it writes, and the status that it ends with.
 ghost use Rattle.std.specs.Prelude.{◌≡◌, ◌≢◌, map, string_bytes, IfOk, IfErr};
 ghost use Rattle.std.specs.IoError.{error_kind};
-ghost use Rattle.tokens_lib.specs.Shown.{error_line, IsShown, ended_status};
+ghost use Rattle.std.specs.Process.{exit_status};
+ghost use Rattle.tokens_lib.specs.Shown.{error_line, IsShown, ReadsShown, IsStatus, ended_status};
 
 use crate::cut_lines::all_lines;
 use crate::error::BuildError;
@@ -9,7 +10,7 @@ use crate::lexer::Lexer;
 use lexdfa_lib::{Outcome, outcome_line};
 use std::alloc::{AllocError, Global};
 use std::env;
-use std::io::{self, ErrorKind, Read};
+use std::io::{self, ErrorKind, Read, Write};
 use std::process::ExitCode;
 use std::rt::Env;
 
@@ -68,19 +69,18 @@ impl Shown {
     }
 }
 
-/// The exit status: 0 where each text was cut up to its end, 1 where one was not, 2 and 3 where there is no lexer, 5 for
-/// want of memory, and 6 for a failed read or write.
-pub fn status_of(found: &io::Result<Shown>) -> u8
-    ensures ended { IfOk found.now (λ shown. result ≡ ended_status shown.ended) }
+/// The exit status: 0 where each text was cut up to its end, 1 where one was not, 2 and 3 where there is no lexer,
+/// 5 for want of memory, and 6 for a failed read or write.
+pub fn status_of(found: &io::Result<Ended>) -> u8
+    ensures ended { IfOk found.now (λ ended. result ≡ ended_status ended) }
     ensures memory { IfErr found.now (λ e. error_kind e ≡ ErrorKind.OutOfMemory → result ≡ 5) }
     ensures failed { IfErr found.now (λ e. error_kind e ≢ ErrorKind.OutOfMemory → result ≡ 6) }
+    ensures status { IsStatus result }
 {
     match found {
-        Ok(shown) => match &shown.ended {
-            Ended::Whole => 0,
-            Ended::Stopped => 1,
-            Ended::NoLexer(error) => error.status(),
-        },
+        Ok(Ended::Whole) => 0,
+        Ok(Ended::Stopped) => 1,
+        Ok(Ended::NoLexer(error)) => error.status(),
         Err(error) => match error.kind() {
             ErrorKind::OutOfMemory => 5,
             _ => 6,
@@ -88,19 +88,34 @@ pub fn status_of(found: &io::Result<Shown>) -> u8
     }
 }
 
-fn show(rt: &(impl Env + Input + Print + AllocGlobal)) -> io::Result<Shown> {
-    let alloc = rt.alloc();
+/// Reads terminals from the reader to its end, and writes what they and the texts give (`Shown::of`). After an error a
+/// part of that may have been written.
+pub fn show_texts<R: Read, W: Write>(
+    alloc: Global,
+    reader: &mut R,
+    texts: &[String],
+    writer: &mut W,
+) -> io::Result<Ended>
+    ensures shown { IfOk result (λ ended.
+        ReadsShown (R.remaining reader.old) (R.remaining reader.new) (map string_bytes texts.now)
+        (W.contents writer.old) (W.contents writer.new) ended) }
+{
     let mut bytes = Vec::new(alloc);
-    rt.reader().read_to_end(&mut bytes)?;
-    let texts = env::args(rt)?.skip(1).collect::<Vec<String>>(alloc)?;
-    let shown = Shown::of(alloc, &bytes, &texts)?;
-    let written = shown.written.as_str();
-    print!(rt; "{written}")?;
-    Ok(shown)
+    reader.read_to_end(&mut bytes)?;
+    let Shown { written, ended } = Shown::of(alloc, &bytes, texts)?;
+    writer.write_all(written.as_bytes())?;
+    Ok(ended)
 }
 
-/// Reads terminals from standard input, and writes what they and the arguments give (`Shown::of`). The exit status is
-/// that of `status_of`.
-pub fn show_tokens(rt: &(impl Env + Input + Print + AllocGlobal)) -> ExitCode {
+fn show(rt: &(impl Env + Input + Print + AllocGlobal)) -> io::Result<Ended> {
+    let texts = env::args(rt)?.skip(1).collect::<Vec<String>>(rt.alloc())?;
+    show_texts(rt.alloc(), &mut rt.reader(), &texts, &mut io::writer(rt))
+}
+
+/// Reads terminals from standard input, and writes to standard output what they and the arguments give (`show_texts`).
+/// The exit status is that of `status_of`.
+pub fn show_tokens(rt: &(impl Env + Input + Print + AllocGlobal)) -> ExitCode
+    ensures status { IsStatus (exit_status result) }
+{
     ExitCode::from(status_of(&show(rt)))
 }

@@ -1,5 +1,5 @@
 -- Cases of specs/Quoted.antt.
-use Rattle.std.proofs.Common.{◌≡◌, ◌≢◌, [], ◌∷◌, Some, None, codes, length, refl, ap, arith}
+use Rattle.std.proofs.Common.{◌≡◌, ◌≢◌, [], Some, None, codes, length, refl, ap, arith}
 use Rattle.std.specs.Fmt.{digits}
 use Rattle.std.specs.Str.{chars}
 use Rattle.tokens_lib.specs.Quoted.{short_escape, told, quoted}

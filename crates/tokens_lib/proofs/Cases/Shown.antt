@@ -1,12 +1,13 @@
 -- Cases of specs/Shown.antt.
-use Rattle.std.proofs.Common.{◌≡◌, ◌≢◌, ℕ, Bool, true, false, List, [], ◌∷◌, ◌++◌, length, get_or, decimal, codes, refl, sym, ap, ◌∙◌, arith}
+use Rattle.std.proofs.Common.{◌≡◌, ◌≢◌, ℕ, Bool, true, false, List, [], ◌++◌, Option, Some, length, get_or, decimal, codes, inl, inr, refl, sym, ap, ◌∙◌, arith}
 use Rattle.std.specs.Fmt.{digits}
 use Rattle.std.specs.Str.{chars}
 use Rattle.lalrpop_hir.specs.Tree.{Tree}
 use Rattle.lalrpop_lexer.specs.declared.lexer.nfa.NfaConstructionError.TheVariants.{LookAround}
 use Rattle.tokens_lib.specs.Quoted.{quoted}
-use Rattle.tokens_lib.specs.Shown.{token_line, last_line, IsTextShown, AreTextsShown, IsShown, error_line, ended_status}
-use Rattle.tokens_lib.specs.declared.error.BuildError.TheVariants.{Line, Refused, Ambiguous, OutOfMemory}
+use Rattle.tokens_lib.specs.Shown.{token_line, last_line, AreTextsShown, IsShown, ReadsShown, IsStatus, error_line, ended_status}
+use Rattle.tokens_lib.specs.declared.error.BuildError.TheVariants.{Line, Syntax, Refused, Ambiguous, OutOfMemory}
+use Rattle.tokens_lib.specs.declared.show.Ended.{Ended}
 use Rattle.tokens_lib.specs.declared.show.Ended.TheVariants.{Whole, Stopped, NoLexer}
 use Rattle.tokens_lib.specs.declared.token.Token.{Token}
 
@@ -64,3 +65,34 @@ statuses = (refl, refl, refl, refl, refl)
 -- no text has to be shown where there is no lexer, but the line of the error has to be written
 error_without_its_line : (bytes : List ℕ) (texts : List (List ℕ)) → ¬ IsShown bytes texts [] (NoLexer OutOfMemory)
 error_without_its_line bytes texts h = let e = h.1 in absurd (cc)
+
+-- no ending has the status 4
+ended_without_4 : (ended : Ended) → 4 ≢ ended_status ended
+ended_without_4 Whole e = omega (arith, e)
+ended_without_4 Stopped e = omega (arith, e)
+ended_without_4 (NoLexer (Line i)) e = omega (arith, e)
+ended_without_4 (NoLexer (Syntax i)) e = omega (arith, e)
+ended_without_4 (NoLexer (Refused i f)) e = omega (arith, e)
+ended_without_4 (NoLexer (Ambiguous i j)) e = omega (arith, e)
+ended_without_4 (NoLexer OutOfMemory) e = omega (arith, e)
+
+usage_is_no_status : ¬ IsStatus 4
+usage_is_no_status (inl s) = ended_without_4 s.0 s.1
+usage_is_no_status (inr e) = omega (arith, e)
+
+statuses_of_endings : IsStatus 0 × IsStatus 5 × IsStatus 6
+statuses_of_endings = (inl (Whole, refl), inl (NoLexer OutOfMemory, refl), inr refl)
+
+-- ---- ends
+
+-- no byte may be left in the reader, and the line has to be in the writer
+byte_left : (texts : List (List ℕ)) (held held_now : Option (List ℕ)) (ended : Ended)
+    → ¬ ReadsShown (Some (codes "x")) (Some (codes "x")) texts held held_now ended
+byte_left texts held held_now ended h = let e = h.1.0.1 in absurd (cc)
+
+line_not_written : (left left_now : Option (List ℕ)) (texts : List (List ℕ))
+    → ¬ ReadsShown left left_now texts (Some []) (Some []) (NoLexer OutOfMemory)
+line_not_written left left_now texts h =
+    let line = h.1.1.1.0.1 in
+    let empty = h.1.1.1.1 in
+    absurd (cc)
