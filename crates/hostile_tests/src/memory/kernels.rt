@@ -1,4 +1,5 @@
-//! Kernel sets that are refused memory: they are as before, and go on.
+//! Kernel sets: equal kernels get one number, and the place goes over them in the order of their numbers. A set that is
+//! refused memory is as before, and goes on.
 ghost use Rattle.std.specs.Prelude.{ℕ};
 ghost use Rattle.lalrpop_lexer.specs.Kernels.{ClonesEqual};
 
