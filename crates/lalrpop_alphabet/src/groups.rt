@@ -7,6 +7,7 @@ ghost use Rattle.lalrpop_alphabet.specs.Internal.Leading.{IsListOf, IsGrown, IsC
 use crate::{Lead, NfaLeads, StateLeads};
 use lalrpop_nfa::{Nfa, NfaStateIndex, START};
 use lalrpop_ranges::Test;
+use smallvec::SmallVec;
 use std::alloc::{AllocError, Global};
 use std::collections::BTreeMap;
 use std::marker::Model;
@@ -82,17 +83,13 @@ impl Lists {
     }
 
     // Ends a run: its labels, if there are any, lead to its state.
-    fn close(&mut self, run: &mut Run, leads: &mut Vec<Lead>) -> Result<(), AllocError>
+    fn close(&mut self, run: &mut Run, leads: &mut SmallVec<Lead, 1>) -> Result<(), AllocError>
         ensures closed { OnOk result (IsClosed self.old leads.old.items run.old.labels.list.items
             run.old.to self.new leads.new.items) }
         ensures empty { OnOk result (run.new.labels.list.items ≡ []) }
     {
         if !run.labels.list.is_empty() {
             let group = self.number_of(&run.labels)?;
-            // Nearly all states have one lead.
-            if leads.is_empty() {
-                leads.reserve_exact(1)?;
-            }
             leads.push(Lead { group, to: run.to })?;
             run.labels.list.clear();
         }
@@ -104,7 +101,7 @@ impl Lists {
         &mut self,
         to: NfaStateIndex,
         run: &mut Run,
-        leads: &mut Vec<Lead>,
+        leads: &mut SmallVec<Lead, 1>,
     ) -> Result<(), AllocError>
         ensures here { OnOk result (run.new.to ≡ to) }
         ensures turned { OnOk result (IsTurned self.old leads.old.items run.old.labels.list.items
@@ -124,13 +121,13 @@ impl Lists {
         nfa: &Nfa,
         state: NfaStateIndex,
         run: &mut Run,
-    ) -> Result<Vec<Lead>, AllocError>
+    ) -> Result<SmallVec<Lead, 1>, AllocError>
         requires { state < length nfa.now.kinds }
         ensures grown { OnOk result (IsGrown self.old self.new) }
         ensures leads { IfOk result (λ leads.
             AreLeads self.new nfa.now.edges.tests state leads.items) }
     {
-        let mut leads = Vec::new(alloc);
+        let mut leads = SmallVec::new(alloc);
         run.labels.list.clear();
         for edge in nfa.edges::<Test>(state) {
             self.turn_to(edge.to, run, &mut leads)?;

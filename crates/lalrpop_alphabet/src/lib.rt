@@ -15,7 +15,8 @@ mod signatures;
 
 use classes::Classed;
 use groups::Grouped;
-use lalrpop_nfa::{Nfa, NfaStateIndex};
+use lalrpop_nfa::{Nfa, NfaStateIndex, START};
+use smallvec::SmallVec;
 use std::alloc::{AllocError, Global};
 use std::marker::Model;
 
@@ -46,10 +47,21 @@ pub struct Lead {
     pub to: NfaStateIndex,
 }
 
-/// Where the labels of one state lead, in the order of its edges.
+// What stands in a place that no lead has taken.
+impl Default for Lead {
+    fn default() -> Lead {
+        Lead {
+            group: 0,
+            to: START,
+        }
+    }
+}
+
+/// Where the labels of one state lead, in the order of its edges. Nearly all states have one lead, and it needs no
+/// allocation.
 #[derive(Drop)]
 pub struct StateLeads {
-    pub leads: Vec<Lead>,
+    pub leads: SmallVec<Lead, 1>,
 }
 
 /// Where the labels of each state of one automaton lead.
@@ -139,6 +151,6 @@ impl Alphabet {
         ensures leads { AreLeadsOf self.now.nfas automaton state result.now }
         ensures sound { IsSound self.now }
     {
-        &self.nfas[automaton].states[state.index()].leads
+        self.nfas[automaton].states[state.index()].leads.as_slice()
     }
 }

@@ -30,4 +30,4 @@ returns c =
     ap (λ (a : Classes). slice_get a.nfas c.args.automaton) (sym c.self.view_is) ∙ at c.self.inside.nfas.items c.args.automaton c.index.result.now (slice_get_within c.self.inside.nfas.items c.args.automaton h.0 h.1.0) c.index.ensures in
     let second : slice_get c.index.result.now.states.items c.args.state ≡ Some c.index-3.result.now =
     at c.index.result.now.states.items c.args.state c.index-3.result.now l (subst (λ (k : ℕ). c.index-3.result.now ≡ get_or c.index.result.now.states.items k c.index-3.result.now) c.index-2.ensures.value c.index-3.ensures) in
-    record { leads = (c.index.result.now, c.index-3.result.now, (first, second, c.deref.ensures.value)); sound = subst IsSound c.self.view_is c.self.invariant }
+    record { leads = (c.index.result.now, c.index-3.result.now, (first, second, c.as_slice.ensures)); sound = subst IsSound c.self.view_is c.self.invariant }
