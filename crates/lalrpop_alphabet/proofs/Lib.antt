@@ -1,3 +1,4 @@
+mod Cases
 mod Assembling
 pub mod Cuts
 pub mod CutsLabels

@@ -1,3 +1,4 @@
+-- cases: proofs/Cases/Alphabet.antt
 -- The values that the test edges of some automata read, in classes that no state tells apart.
 use Rattle.std.specs.Prelude.{◌≡◌, ℕ, ◌+◌, ◌<◌, ◌≤◌, ◌⊎◌, ◌↔◌, List, length, slice_get, Some, IsSomeAnd}
 use Rattle.std.specs.List.{Contains}
