@@ -57,7 +57,7 @@ pub record IsEdging (ns : List Graph) (sets0 : List (List Item)) (origins0 : Lis
   pub small : AreSmall origins0 → AreSmall origins
 
 -- no block is looked at yet
-pub edging_none : (ns : List Graph) (sets : List (List Item)) (origins : List (ℕ × ℕ)) (n : ℕ) (s : List Item) (xs : List Range) (tests : List (Range × ℕ)) → IsBreadthFirst (subset_automaton ns) sets origins n 0 → tests ≡ [] → IsEdging ns sets origins n s xs (length tests) sets origins tests
+pub edging_none : (ns : List Graph) (sets : List (List Item)) (origins : List (ℕ × ℕ)) (n : ℕ) (s : List Item) (xs : List Range) (tests : List (Range × ℕ)) → IsBreadthFirst (subset_automaton ns) sets origins n 0 → tests ≡ [] → IsEdging ns sets origins n s xs 0 sets origins tests
 edging_none ns sets origins n s xs tests breadth_first none = rw none (record { breadth_first = breadth_first; ranges = refl; leads = λ t c member over. absurd (no_test t member); kept = λ i l. (l, refl); small = λ h. h })
   where
     no_test : (t : Range × ℕ) → Contains [] t → ⊥

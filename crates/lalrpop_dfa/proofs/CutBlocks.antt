@@ -15,6 +15,7 @@ use Rattle.lalrpop_ranges.proofs.Partition.{IsPartition-from_parts}
 use Rattle.lalrpop_alphabet.specs.Alphabet.{AreCells, IsInCell, IsFirstOf}
 use Rattle.lalrpop_alphabet.specs.declared.Cell.{Cell}
 use Rattle.lalrpop_dfa.specs.Items.{Item, IsLeaving}
+use Rattle.lalrpop_dfa.specs.Internal.Room.{IsTaken, AreTaken}
 use Rattle.lalrpop_dfa.specs.Internal.Transitions.{AreBelow, IsLaidOut, IsTransition, AreTransitions}
 use Rattle.lalrpop_dfa.specs.declared.blocks.Transition.{Transition}
 use Rattle.lalrpop_dfa.specs.declared.blocks.Transitions.{Transitions}
@@ -186,14 +187,13 @@ module _ (cells : List Cell) (count : ℕ) (are : AreCells cells count) (cuts : 
       subst (λ bs. BlocksBelow (IsLeaving ns s) (map range_of bs) (first_of cells cuts (i + 1))) (sym is)
       (passed cells count are cuts ascending below ns s by_class laid i x edges.0 (map range_of blocks) l here edges.1 done (elim why [ inl more ↦ inl more | inr none ↦ inr (none edges.0 edges.1) ]))
 
-  pub turned_classes : IsKept cells cuts by_class i x blocks new ⊎ IsPassed cells cuts by_class i x blocks new → ((b : Block) → Contains blocks b → (k : ℕ) × IsInCell cells k b.class b.range.start × (b.class < length by_class))
-      → (b : Block) → Contains new b → (k : ℕ) × IsInCell cells k b.class b.range.start × (b.class < length by_class)
+  pub turned_classes : IsKept cells cuts by_class i x blocks new ⊎ IsPassed cells cuts by_class i x blocks new → AreTaken cells by_class blocks → AreTaken cells by_class new
   turned_classes (inl (less, some, is)) had b h =
       let block : Block = record { range = record { start = x.first; end = first_of cells cuts (i + 1) - 1 }; class = x.class } in
       elim (Contains-append_cases blocks (block ∷ []) b (subst (λ bs. Contains bs b) is h)) [
         | inl before ↦ had b before
         | inr one ↦
             (let same : block ≡ b = contains_only block b one in
-            subst (λ (z : Block). (k : ℕ) × IsInCell cells k z.class z.range.start × (z.class < length by_class)) same (get_or cuts i 0, lies_in cells count are cuts ascending below i x l here less, class_within))
+            subst (IsTaken cells by_class) same (get_or cuts i 0, edges.0, (lies_in cells count are cuts ascending below i x l here less, edges.1, some edges.0 edges.1)))
       ]
   turned_classes (inr (why, is)) had b h = had b (subst (λ bs. Contains bs b) is h)

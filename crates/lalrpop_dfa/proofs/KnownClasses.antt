@@ -3,11 +3,14 @@ use Rattle.std.proofs.Common.{◌≡◌, ℕ, ◌<◌, inl, inr, List, length, s
 use Rattle.std.specs.Prelude.{slice_get, Option, None}
 use Rattle.std.proofs.lemmas.Option.{slice_get_read, slice_get_within, get_or_from_slice_get}
 use Rattle.std.proofs.lemmas.List.{get_or-map, length-map}
+use Rattle.std.specs.BTreeMap.{BTreeMap, IsEmpty}
+use Rattle.std.specs.List.{Contains}
 use Rattle.lalrpop_hir.specs.Range.{Range}
 use Rattle.lalrpop_dfa.specs.declared.blocks.Block.{Block}
 use Rattle.lalrpop_nfa.specs.Graph.{Graph}
 use Rattle.lalrpop_dfa.specs.Items.{Item}
-use Rattle.lalrpop_dfa.specs.Internal.Builder.{AddedTo, AreUnknown, AreKnownClasses}
+use Rattle.lalrpop_dfa.specs.Internal.Builder.{AddedTo, AreKnown, AreUnknown, AreKnownClasses}
+use Rattle.lalrpop_dfa.specs.Internal.Room.{OnlyNumbers}
 use Rattle.lalrpop_dfa.specs.Internal.Subsets.{move}
 use Rattle.lalrpop_dfa.specs.Internal.Transitions.{AreTransitions}
 use Rattle.lalrpop_dfa.specs.declared.blocks.Transitions.{Transitions}
@@ -23,9 +26,16 @@ class_takes ns s by_class c v t is (u, (at, are)) =
     let same : u ≡ t = (let f : Some u ≡ Some t = sym at ∙ read in cc) in
     subst (λ (z : Transitions). AreTransitions ns s v z.list.items) same are
 
+-- only classes of these blocks have numbers
+abbrev pub AreOfBlocks : List Block → List (Option ℕ) → Type 0
+AreOfBlocks blocks known = (c j : ℕ) → slice_get known c ≡ Some (Some j) → (b : Block) × (Contains blocks b × (b.class ≡ c))
+
 -- nothing is known at first
 pub none_known : (ns : List Graph) (s : List Item) (by_class : List Transitions) (known : List (Option ℕ)) (sets : List (List Item)) → AreUnknown known → AreKnownClasses ns s by_class known sets
 none_known ns s by_class known sets none c j v t at there are = absurd (none c j at)
+
+pub nothing_known : (ns : List Graph) (s : List Item) (known : BTreeMap Transitions ℕ) (sets : List (List Item)) → IsEmpty known → AreKnown ns s known sets
+nothing_known ns s known sets none leads j v found are = (let at = (rw none at found) in cc)
 
 pub unknown_more : (known new : List (Option ℕ)) → AreUnknown known → new ≡ known ++ None ∷ [] → AreUnknown new
 unknown_more known new none is c j at = elim (pushed_cases known None c (Some j) (rw is at at)) [ inl before ↦ none c j before | inr here ↦ (let clash : Some j ≡ None = here.1 in cc) ]
@@ -43,23 +53,15 @@ known_classes_more ns s by_class known sets origins n v c j sets2 origins2 k wit
   | inr (other, was) ↦ added_stays sets origins n v (move ns s v) j sets2 origins2 add i (move ns s w) (k d i w u was there are)
 ]
 
+-- only classes of these blocks have numbers, before one of them gets its number and after
+pub numbered_more : (old new : List (Option ℕ)) (blocks : List Block) (block : Block) (i : ℕ) → OnlyNumbers old i new → Contains blocks block → block.class ≡ i → AreOfBlocks blocks old → AreOfBlocks blocks new
+numbered_more old new blocks block i only member is had c j at = elim (only c j at) [ inl here ↦ (block, (member, is ∙ sym here)) | inr was ↦ had c j was ]
+
 -- ---- block by block
 abbrev range_of : Block → Range
 range_of b = b.range
-
-part_there : (blocks : List Block) (k : ℕ) (block : Block) (rest : List Block) → drop k blocks ≡ block ∷ rest → (slice_get blocks k ≡ Some block) × (rest ≡ drop (suc k) blocks)
-part_there [] zero block rest e = cc
-part_there [] (suc k) block rest e = cc
-part_there (p ∷ blocks) zero block rest e = (cc, cc)
-part_there (p ∷ blocks) (suc k) block rest e = (let h = part_there blocks k block rest e in (h.0, h.1))
-
-pub part_at : (blocks : List Block) (k : ℕ) (block : Block) (rest : List Block) → drop k blocks ≡ block ∷ rest → (slice_get blocks k ≡ Some block) × (rest ≡ drop (k + 1) blocks)
-part_at blocks k block rest e = let h = part_there blocks k block rest e in (h.0, h.1 ∙ ap (λ n. drop n blocks) (sym (add-one k)))
 
 pub range_at : (blocks : List Block) (k : ℕ) (block : Block) → slice_get blocks k ≡ Some block → (k < length (map (λ (p : Block). p.range) blocks)) × (block.range ≡ get_or (map (λ (p : Block). p.range) blocks) k block.range)
 range_at blocks k block at =
     let l : k < length blocks = slice_get_within blocks k block at in
     (omega (arith, l, length-map blocks range_of), sym (get_or-map range_of blocks k block block.range l ∙ ap range_of (get_or_from_slice_get blocks k block block at)))
-
-pub no_more : (blocks rest : List Block) (k : ℕ) → drop k blocks ≡ rest → length rest ≡ 0 → k ≤ length blocks → k ≡ length (map (λ (p : Block). p.range) blocks)
-no_more blocks rest k e none l = omega (arith, l, none, ap length e, length-drop k blocks, length-map blocks range_of)

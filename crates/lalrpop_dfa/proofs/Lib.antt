@@ -36,6 +36,7 @@ pub mod Adding
 pub mod Builds
 pub mod Compiling
 mod Leavings
+mod Noted
 mod CutBlocks
 mod LaidOut
 mod KnownClasses

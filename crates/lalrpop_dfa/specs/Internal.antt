@@ -10,3 +10,4 @@ pub mod Best
 pub mod SameLaws
 pub mod Transitions
 pub mod Stored
+pub mod Room

@@ -1,20 +1,24 @@
 //! What leaves a set of items: the partition of its labels, and the test edges that the values of each class take.
 
 ghost use Rattle.std.specs.Prelude.{◌≡◌, ℕ, ◌<◌, ◌⊎◌, ◌↔◌, ◌++◌, ◌∷◌, [], List, length, map, slice_get, Some, IfOk, OnOk};
+ghost use Rattle.std.specs.BTreeMap.{IsEmpty};
 ghost use Rattle.std.specs.List.{Contains};
 ghost use Rattle.std.specs.List.Sorted.{IsNonDecreasing};
 ghost use Rattle.lalrpop_nfa.specs.Graph.{Graph};
 ghost use Rattle.lalrpop_alphabet.specs.Alphabet.{HasState, LeadsBy, CutsAt, AreCells, IsSound, IsInCell, IsAlphabetOf};
-ghost use Rattle.lalrpop_dfa.specs.Internal.Builder.{AreAutomata, AreItemsOf};
+ghost use Rattle.lalrpop_dfa.specs.Internal.Builder.{AreAutomata, AreItemsOf, AreUnknown};
+ghost use Rattle.lalrpop_dfa.specs.Internal.Room.{AreNoted, IsTidy, IsCleared, IsRoomOf, AreTaken, AreUsed};
 ghost use Rattle.lalrpop_dfa.specs.Items.{Item as ItemValue, IsLeaving};
 ghost use Rattle.lalrpop_dfa.specs.Internal.Transitions.{AreBare, AreBelow, Gained, AreGathered, AreCutsOf, IsLaidOut, HaveTransitions};
 ghost use Rattle.lalrpop_ranges.specs.Partition.{IsPartition};
 
+use super::DfaStateIndex;
 use super::items::{Item, ItemSet};
 use lalrpop_alphabet::{Alphabet, Cell};
 use lalrpop_nfa::{Nfa, NfaStateIndex};
 use lalrpop_ranges::Test;
 use std::alloc::{AllocError, Global};
+use std::collections::BTreeMap;
 
 /// A test edge that leaves an item of a set, without its label: the item, and the state that the edge leads to.
 #[derive(Copy, Clone, PartialEq, Eq, PartialOrd, Ord)]
@@ -27,15 +31,6 @@ pub(super) struct Transition {
 #[derive(PartialEq, Eq, PartialOrd, Ord, Drop)]
 pub(super) struct Transitions {
     pub(super) list: Vec<Transition>,
-}
-
-impl Transitions {
-    fn add(&mut self, transition: Transition) -> Result<(), AllocError>
-        ensures { OnOk result (self.new.list.items ≡ self.old.list.items ++ transition ∷ []) }
-    {
-        self.list.push(transition)?;
-        Ok(())
-    }
 }
 
 impl Clone for Transitions {
@@ -55,34 +50,62 @@ pub(super) struct Block {
     pub(super) class: usize,
 }
 
-/// The partition of the labels that leave a set of items, and for each class the test edges that its values take.
+/// For each class the test edges that its values take, and the classes that have some.
 #[derive(Drop)]
-pub(super) struct Leaving {
+pub(super) struct EdgesByClass {
+    pub(super) lists: Vec<Transitions>,
+    pub(super) used: Vec<usize>,
+}
+
+/// The numbers of the sets that a set leads to, as far as they were found: by the class of a value, and by the test edges
+/// that a value takes.
+#[derive(Drop)]
+pub(super) struct Known {
+    pub(super) by_class: Vec<Option<DfaStateIndex>>,
+    pub(super) by_transitions: BTreeMap<Transitions, DfaStateIndex>,
+}
+
+/// Room for what leaves a set of items, which is used again from set to set: the cells at which labels begin or are over,
+/// the test edges by class, the partition of the labels, and the numbers that are known of them.
+///
+/// So a set costs what leaves it, whatever the number of classes is, and its lists are not allocated again.
+#[derive(Drop)]
+pub(super) struct Room {
+    pub(super) cuts: Vec<usize>,
+    pub(super) edges: EdgesByClass,
     pub(super) blocks: Vec<Block>,
-    pub(super) by_class: Vec<Transitions>,
+    pub(super) known: Known,
 }
 
-// The cells at which labels begin or are over, and for each class the test edges that its values take.
-#[derive(Drop)]
-struct Gathered {
-    cuts: Vec<usize>,
-    by_class: Vec<Transitions>,
-}
-
-// Adds an edge to the classes.
-fn add_transition(
-    classes: &[usize],
-    transition: &Transition,
-    by_class: &mut Vec<Transitions>,
-) -> Result<(), AllocError>
-    requires { AreBelow (length by_class.old.items) classes.now }
-    ensures { OnOk result (Gained by_class.old.items by_class.new.items (λ c l.
-        Contains classes.now c × (l ≡ transition.now))) }
-{
-    for class in classes {
-        by_class[*class].add(*transition)?;
+impl EdgesByClass {
+    // Adds an edge to a class, which is noted when its first one comes.
+    fn add(&mut self, class: usize, transition: Transition) -> Result<(), AllocError>
+        requires within { class < length self.old.lists.items }
+        requires noted { AreNoted self.old.lists.items self.old.used.items }
+        ensures gained { OnOk result (Gained self.old.lists.items self.new.lists.items
+            (λ c l. (c ≡ class) × (l ≡ transition))) }
+        ensures noted { OnOk result (AreNoted self.new.lists.items self.new.used.items) }
+    {
+        if self.lists[class].list.is_empty() {
+            self.used.push(class)?;
+        }
+        self.lists[class].list.push(transition)?;
+        Ok(())
     }
-    Ok(())
+
+    // Adds an edge to the classes.
+    fn add_to_all(&mut self, classes: &[usize], transition: &Transition) -> Result<(), AllocError>
+        requires within { AreBelow (length self.old.lists.items) classes.now }
+        requires noted { AreNoted self.old.lists.items self.old.used.items }
+        ensures gained { OnOk result (Gained self.old.lists.items self.new.lists.items (λ c l.
+            Contains classes.now c × (l ≡ transition.now))) }
+        ensures noted { OnOk result (AreNoted self.new.lists.items self.new.used.items) }
+    {
+        for class in classes {
+            self.add(*class, *transition)?;
+        }
+        Ok(())
+    }
 }
 
 // Adds what leaves an item.
@@ -90,20 +113,22 @@ fn add_item(
     alphabet: &Alphabet,
     item: Item,
     cuts: &mut Vec<usize>,
-    by_class: &mut Vec<Transitions>,
+    edges: &mut EdgesByClass,
 ) -> Result<(), AllocError>
     requires state { HasState alphabet.now.nfas item.0 item.1 }
-    requires classes { length by_class.old.items ≡ alphabet.now.count }
+    requires classes { length edges.old.lists.items ≡ alphabet.now.count }
+    requires noted { AreNoted edges.old.lists.items edges.old.used.items }
     ensures cuts { OnOk result ((k : ℕ) → Contains cuts.new.items k
         ↔ (Contains cuts.old.items k ⊎ CutsAt alphabet.now item.0 item.1 k)) }
-    ensures classes { OnOk result (Gained by_class.old.items by_class.new.items
+    ensures classes { OnOk result (Gained edges.old.lists.items edges.new.lists.items
         (λ c l. (l.item ≡ item) × LeadsBy alphabet.now item.0 item.1 c l.to)) }
+    ensures noted { OnOk result (AreNoted edges.new.lists.items edges.new.used.items) }
 {
     for lead in alphabet.leads(item.pattern().index(), item.state()) {
         let group = alphabet.group(lead.group);
         let to = lead.to;
         cuts.extend_from_slice(&group.cuts)?;
-        add_transition(&group.classes, &Transition { item, to }, by_class)?;
+        edges.add_to_all(&group.classes, &Transition { item, to })?;
     }
     Ok(())
 }
@@ -122,41 +147,57 @@ fn bare_classes(alloc: Global, count: usize) -> Result<Vec<Transitions>, AllocEr
     Ok(classes)
 }
 
-// What leaves the items.
-fn gather(alloc: Global, alphabet: &Alphabet, items: &[Item]) -> Result<Gathered, AllocError>
-    requires { (x : ItemValue) → Contains items.now x → HasState alphabet.now.nfas x.0 x.1 }
-    ensures sound { OnOk result (IsSound alphabet.now) }
-    ensures cuts { IfOk result (λ g. AreCutsOf alphabet.now items.now g.cuts.items) }
-    ensures classes { IfOk result (λ g.
-        AreGathered alphabet.now items.now g.by_class.items) }
+// No number for each of so many classes.
+fn no_numbers(alloc: Global, count: usize) -> Result<Vec<Option<DfaStateIndex>>, AllocError>
+    ensures count { IfOk result (λ numbers. length numbers.items ≡ count) }
+    ensures none { IfOk result (λ numbers. AreUnknown numbers.items) }
 {
-    let mut by_class = bare_classes(alloc, alphabet.count())?;
-    let mut cuts = Vec::new(alloc);
-    for item in items {
-        add_item(alphabet, *item, &mut cuts, &mut by_class)?;
+    let mut numbers = Vec::with_capacity(alloc, count)?;
+    for _ in 0..count {
+        numbers.push(None)?;
     }
-    Ok(Gathered { cuts, by_class })
+    Ok(numbers)
 }
 
-// The values from cut to cut that take some test edge.
-fn blocks_between(
-    alloc: Global,
+// What leaves the items, into room where nothing is.
+fn gather(
+    alphabet: &Alphabet,
+    items: &[Item],
+    cuts: &mut Vec<usize>,
+    edges: &mut EdgesByClass,
+) -> Result<(), AllocError>
+    requires states { (x : ItemValue) → Contains items.now x → HasState alphabet.now.nfas x.0 x.1 }
+    requires classes { length edges.old.lists.items ≡ alphabet.now.count }
+    requires no_cuts { cuts.old.items ≡ [] }
+    requires bare { AreBare edges.old.lists.items }
+    requires noted { AreNoted edges.old.lists.items edges.old.used.items }
+    ensures cuts { OnOk result (AreCutsOf alphabet.now items.now cuts.new.items) }
+    ensures classes { OnOk result (AreGathered alphabet.now items.now edges.new.lists.items) }
+    ensures noted { OnOk result (AreNoted edges.new.lists.items edges.new.used.items) }
+{
+    for item in items {
+        add_item(alphabet, *item, cuts, edges)?;
+    }
+    Ok(())
+}
+
+// Adds the values from cut to cut that take some test edge, where there are no blocks yet.
+fn add_blocks(
     alphabet: &Alphabet,
     cuts: &[usize],
     by_class: &[Transitions],
-) -> Result<Vec<Block>, AllocError>
+    blocks: &mut Vec<Block>,
+) -> Result<(), AllocError>
     requires cells { AreCells alphabet.now.cells alphabet.now.count }
     requires classes { length by_class.now ≡ alphabet.now.count }
     requires ascending { IsNonDecreasing cuts.now }
     requires within { AreBelow (length alphabet.now.cells) cuts.now }
-    ensures ranges { IfOk result (λ blocks. (ns : List Graph) (s : List ItemValue)
+    requires no_blocks { blocks.old.items ≡ [] }
+    ensures ranges { OnOk result ((ns : List Graph) (s : List ItemValue)
         → IsLaidOut ns s alphabet.now.cells cuts.now by_class.now
-        → IsPartition (IsLeaving ns s) (map (λ b. b.range) blocks.items)) }
-    ensures classes { IfOk result (λ blocks. (b : Block) → Contains blocks.items b
-        → (k : ℕ) × IsInCell alphabet.now.cells k b.class b.range.start
-        × (b.class < length by_class.now)) }
+        → IsPartition (IsLeaving ns s) (map (λ b. b.range) blocks.new.items)) }
+    ensures classes { OnOk result (AreTaken alphabet.now.cells by_class.now blocks.new.items) }
 {
-    let mut blocks = Vec::with_capacity(alloc, cuts.len())?;
     for index in 1..cuts.len() {
         let Cell { first, class } = alphabet.cell(cuts[index - 1]);
         let next = alphabet.cell(cuts[index]).first;
@@ -165,28 +206,72 @@ fn blocks_between(
             blocks.push(Block { range, class })?;
         }
     }
-    Ok(blocks)
+    Ok(())
 }
 
-/// The partition of the labels that leave the items of a set, with the test edges that the values of each class take.
-///
-/// The cost is that of the labels' classes and cuts; the cuts of an item are sorted already, and a sort only merges them.
-pub(super) fn leaving_of(
-    alloc: Global,
-    nfas: &[Nfa],
-    alphabet: &Alphabet,
-    set: &ItemSet,
-) -> Result<Leaving, AllocError>
-    requires automata { AreAutomata nfas.now }
-    requires alphabet { IsAlphabetOf nfas.now alphabet.now }
-    requires inside { AreItemsOf nfas.now set.now }
-    ensures ranges { IfOk result (λ l.
-        IsPartition (IsLeaving nfas.now set.now) (map (λ b. b.range) l.blocks.items)) }
-    ensures transitions { IfOk result (λ l.
-        HaveTransitions nfas.now set.now l.by_class.items l.blocks.items) }
-{
-    let Gathered { mut cuts, by_class } = gather(alloc, alphabet, &set.live)?;
-    cuts.sort()?;
-    let blocks = blocks_between(alloc, alphabet, &cuts, &by_class)?;
-    Ok(Leaving { blocks, by_class })
+impl Room {
+    /// Room for the classes of an alphabet.
+    pub(super) fn new(alloc: Global, alphabet: &Alphabet) -> Result<Room, AllocError>
+        ensures { IfOk result (IsRoomOf alphabet.now) }
+    {
+        let count = alphabet.count();
+        Ok(Room {
+            cuts: Vec::new(alloc),
+            edges: EdgesByClass {
+                lists: bare_classes(alloc, count)?,
+                used: Vec::new(alloc),
+            },
+            blocks: Vec::new(alloc),
+            known: Known {
+                by_class: no_numbers(alloc, count)?,
+                by_transitions: BTreeMap::new(alloc),
+            },
+        })
+    }
+
+    // Takes out what leaves the set before: of the classes only those that were used are looked at.
+    fn clear(&mut self)
+        requires { IsTidy self.old }
+        ensures cleared { IsCleared self.new }
+        ensures classes { length self.new.edges.lists.items ≡ length self.old.edges.lists.items }
+    {
+        while let Some(class) = self.edges.used.pop() {
+            self.edges.lists[class].list.clear();
+            self.known.by_class[class] = None;
+        }
+        self.known.by_transitions.clear();
+        self.cuts.clear();
+        self.blocks.clear();
+    }
+
+    /// Lays out the partition of the labels that leave the items of a set, with the test edges that the values of each
+    /// class take.
+    ///
+    /// The cost is that of the labels' classes and cuts; the cuts of an item are sorted already, and a sort only merges
+    /// them.
+    pub(super) fn fill(
+        &mut self,
+        nfas: &[Nfa],
+        alphabet: &Alphabet,
+        set: &ItemSet,
+    ) -> Result<(), AllocError>
+        requires automata { AreAutomata nfas.now }
+        requires alphabet { IsAlphabetOf nfas.now alphabet.now }
+        requires inside { AreItemsOf nfas.now set.now }
+        requires room { IsRoomOf alphabet.now self.old }
+        ensures ranges { OnOk result
+            (IsPartition (IsLeaving nfas.now set.now) (map (λ b. b.range) self.new.blocks.items)) }
+        ensures transitions { OnOk result
+            (HaveTransitions nfas.now set.now self.new.edges.lists.items self.new.blocks.items) }
+        ensures room { OnOk result (IsRoomOf alphabet.now self.new) }
+        ensures unknown { OnOk result (AreUnknown self.new.known.by_class.items) }
+        ensures empty { OnOk result (IsEmpty self.new.known.by_transitions) }
+        ensures used { OnOk result (AreUsed self.new.edges.used.items self.new.blocks.items) }
+    {
+        self.clear();
+        gather(alphabet, &set.live, &mut self.cuts, &mut self.edges)?;
+        self.cuts.sort()?;
+        add_blocks(alphabet, &self.cuts, &self.edges.lists, &mut self.blocks)?;
+        Ok(())
+    }
 }

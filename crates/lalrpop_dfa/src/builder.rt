@@ -4,19 +4,20 @@ ghost use Rattle.std.specs.Prelude.{◌≡◌, ◌+◌, ◌<◌, ◌≤◌, ◌+
 ghost use Rattle.std.specs.List.Sorted.{IsSorted};
 ghost use Rattle.lalrpop_hir.specs.Tree.{Tree};
 ghost use Rattle.lalrpop_dfa.specs.Internal.Ascending.{AreAscendingItems};
-ghost use Rattle.lalrpop_dfa.specs.Internal.Builder.{AreAutomata, AreItemsOf, IsAdded, AreKnown, AreUnknown, AreKnownClasses, IsEdged, IsBuiltTo, IsTieOf, IsClashOf};
+ghost use Rattle.lalrpop_dfa.specs.Internal.Builder.{AreAutomata, AreItemsOf, IsAdded, AreKnown, AreKnownClasses, IsEdged, IsBuiltTo, IsTieOf, IsClashOf};
 ghost use Rattle.lalrpop_dfa.specs.Internal.Built.{subset_automaton};
 ghost use Rattle.lalrpop_dfa.specs.Clash.{NoClash};
 ghost use Rattle.lalrpop_dfa.specs.Counts.{state_bound};
 ghost use Rattle.lalrpop_dfa.specs.Dfa.{Recognizes};
 ghost use Rattle.lalrpop_dfa.specs.Items.{AreCompiled, HoldsItems, OthersReject, IsInWordOrder};
 ghost use Rattle.lalrpop_alphabet.specs.Alphabet.{IsAlphabetOf};
+ghost use Rattle.lalrpop_dfa.specs.Internal.Room.{IsRoomOf, OnlyNumbers};
 ghost use Rattle.lalrpop_dfa.specs.Internal.Transitions.{transition_cmp, AreTransitions};
 ghost use Rattle.lalrpop_dfa.specs.Internal.Subsets.{move, starts_from, first_set_of};
 ghost use Rattle.lalrpop_dfa.specs.Internal.BreadthFirst.{IsBreadthFirst, nth};
 
 use super::best::{Tie, kind_of};
-use super::blocks::{Block, Leaving, Transition, Transitions, leaving_of};
+use super::blocks::{Block, Known, Room, Transition, Transitions};
 use super::closure::{advance, closure};
 use super::items::{Item, ItemSet, Origin};
 use super::rows::{Edges, Rows};
@@ -39,26 +40,6 @@ pub(super) struct Sets {
 struct Table {
     sets: Sets,
     rows: Rows,
-}
-
-// The numbers of the sets that a set leads to, as far as they were found: by the class of a value, and by the test edges
-// that a value takes.
-#[derive(Drop)]
-struct Known {
-    by_class: Vec<Option<DfaStateIndex>>,
-    by_transitions: BTreeMap<Transitions, DfaStateIndex>,
-}
-
-// No number for each of so many classes.
-fn no_numbers(alloc: Global, count: usize) -> Result<Vec<Option<DfaStateIndex>>, AllocError>
-    ensures count { IfOk result (λ numbers. length numbers.items ≡ count) }
-    ensures none { IfOk result (λ numbers. AreUnknown numbers.items) }
-{
-    let mut numbers = Vec::with_capacity(alloc, count)?;
-    for _ in 0..count {
-        numbers.push(None)?;
-    }
-    Ok(numbers)
 }
 
 // START of each automaton.
@@ -159,6 +140,7 @@ impl Sets {
         alloc: Global,
         nfas: &[Nfa],
         alphabet: &Alphabet,
+        room: &mut Room,
         number: usize,
         set: &ItemSet,
     ) -> Result<Edges, AllocError>
@@ -168,24 +150,24 @@ impl Sets {
         requires breadth_first { IsBreadthFirst
             (subset_automaton nfas.now) self.old.kernels.list self.old.origins.items number 0 }
         requires here { slice_get self.old.kernels.list number ≡ Some set.now }
+        requires room { IsRoomOf alphabet.now room.old }
         ensures edged { IfOk result (λ e. IsEdged nfas.now
             self.old.kernels.list self.old.origins.items number set.now
             self.new.kernels.list self.new.origins.items e.tests.items e.other) }
         ensures place { OnOk result (self.new.kernels.place ≡ self.old.kernels.place) }
+        ensures room { OnOk result (IsRoomOf alphabet.now room.new) }
     {
-        let Leaving { blocks, by_class } = leaving_of(alloc, nfas, alphabet, set)?;
-        let mut known = Known {
-            by_class: no_numbers(alloc, by_class.len())?,
-            by_transitions: BTreeMap::new(alloc),
-        };
-        let mut tests = Vec::with_capacity(alloc, blocks.len())?;
-        for block in blocks {
+        room.fill(nfas, alphabet, set)?;
+        let by_class = &room.edges.lists;
+        let known = &mut room.known;
+        let mut tests = Vec::with_capacity(alloc, room.blocks.len())?;
+        for block in &room.blocks {
             let Block { range, class } = block;
             let origin = Origin::new(number, range.start());
             let target = target_of_class(
-                self, alloc, nfas, set, &mut known, &by_class, class, origin,
+                self, alloc, nfas, set, known, by_class, *class, origin,
             )?;
-            tests.push((range, target))?;
+            tests.push((range.clone()?, target))?;
         }
         // No label reaches the greatest number, so that it takes no test edge.
         let other = self.target_of(alloc, nfas, set, &[], Origin::new(number, u32::MAX))?;
@@ -221,6 +203,8 @@ fn target_of_class(
         (AreKnown nfas.now set.now known.new.by_transitions sets.new.kernels.list) }
     ensures classes { OnOk result (AreKnownClasses nfas.now set.now by_class.now
         known.new.by_class.items sets.new.kernels.list) }
+    ensures numbers { OnOk result
+        (OnlyNumbers known.old.by_class.items class known.new.by_class.items) }
 {
     if let Some(number) = known.by_class[class] {
         return Ok(number);
@@ -245,6 +229,7 @@ impl Table {
         nfas: &[Nfa],
         alphabet: &Alphabet,
         precedences: &[Precedence],
+        room: &mut Room,
         set: ItemSet,
     ) -> Result<(), DfaConstructionError>
         requires same_len { length nfas.now ≡ length precedences.now }
@@ -254,12 +239,14 @@ impl Table {
             self.old.sets.kernels.list self.old.sets.origins.items self.old.rows
             (length self.old.rows) }
         requires here { slice_get self.old.sets.kernels.list (length self.old.rows) ≡ Some set }
+        requires room { IsRoomOf alphabet.now room.old }
         ensures ok { OnOk result (IsBuiltTo nfas.now (map (λ p. p.0) precedences.now)
             self.new.sets.kernels.list self.new.sets.origins.items self.new.rows
             (length self.new.rows)) }
         ensures one { OnOk result (length self.new.rows
             ≡ length self.old.rows + 1) }
         ensures place { OnOk result (self.new.sets.kernels.place ≡ self.old.sets.kernels.place) }
+        ensures room { OnOk result (IsRoomOf alphabet.now room.new) }
         ensures err { IfErr result (IsTieOf (map (λ p. p.0) precedences.now) set) }
     {
         let kind = match kind_of(nfas, precedences, &set) {
@@ -272,7 +259,7 @@ impl Table {
             }
         };
         let number = self.rows.len();
-        let edges = self.sets.edges_of(alloc, nfas, alphabet, number, &set)?;
+        let edges = self.sets.edges_of(alloc, nfas, alphabet, room, number, &set)?;
         self.rows.push(set, kind, edges)?;
         Ok(())
     }
@@ -297,12 +284,13 @@ pub(super) fn build(
         (ts : List Tree) → AreCompiled ts nfas.now → IsClashOf ts ps e) }
 {
     let alphabet = Alphabet::new(alloc, nfas)?;
+    let mut room = Room::new(alloc, &alphabet)?;
     let mut table = Table {
         sets: first_sets(alloc, nfas)?,
         rows: Rows::new(alloc),
     };
     while let Some(set) = table.sets.kernels.next()? {
-        table.expand(alloc, nfas, &alphabet, precedences, set)?;
+        table.expand(alloc, nfas, &alphabet, precedences, &mut room, set)?;
     }
     Ok(Dfa::new(alloc, table.rows)?)
 }

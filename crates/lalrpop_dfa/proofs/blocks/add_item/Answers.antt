@@ -13,7 +13,8 @@ use Rattle.lalrpop_dfa.proofs.blocks.add_item.Goals as goal
 pub loop-lead-init : goal.loop-lead-init
 loop-lead-init c = record {
   cuts = λ k. ((λ h. inl h), (λ h. elim h [ inl x ↦ x | inr x ↦ absurd (contains_none x.0 x.1.0) ]));
-  classes = gained_none c.args.by_class.now.items (λ i l h. contains_none h.1.0 h.1.1.0);
+  classes = gained_none c.args.edges.now.lists.items (λ i l h. contains_none h.1.0 h.1.1.0);
+  noted = c.requires.noted;
 }
 
 pub leads-lead-items-requires : goal.leads-lead-items-requires
@@ -27,20 +28,21 @@ group-group-requires c = record {
       (lead_there c.args.alphabet.now.nfas c.index.result c.state.result c.leads-lead-items.result.now c.loop-lead.lead-index c.lead-item.result c.leads-lead-items.ensures.leads c.loop-lead-test.true c.lead-item.is);
 }
 
-pub add_transition-requires : goal.add_transition-requires
-add_transition-requires c k h =
+pub add_to_all-requires-clause-within : goal.add_to_all-requires-clause-within
+add_to_all-requires-clause-within c k h =
     let below = c.leads-lead-items.ensures.sound.groups.classes_in c.lead-item.result.group k (c.group-group.result.now, (c.group-group.ensures.group, subst (λ (ks : List ℕ). Contains ks k) c.deref-in-loop-lead.ensures.value h)) in
     omega (arith, below, c.requires.classes, c.loop-lead.invariant.classes.0)
 
 pub loop-lead-preserved : goal.loop-lead-preserved
 loop-lead-preserved c =
     let edge : Transition = record { item = c.args.item; to = c.lead-item.result.to } in
-    let got = subst (λ (cs : List ℕ). Gained c.loop-lead.by_class.items c.add_transition.new.by_class.items (λ i l. Contains cs i × (l ≡ edge))) c.deref-in-loop-lead.ensures.value c.in_ok-add_transition.ensures in
+    let got = subst (λ (cs : List ℕ). Gained c.loop-lead.edges.lists.items c.add_to_all.new.self.lists.items (λ i l. Contains cs i × (l ≡ edge))) c.deref-in-loop-lead.ensures.value c.in_ok-add_to_all.ensures.gained in
     record {
       cuts = λ j. cut_more c.args.alphabet.now.groups c.leads-lead-items.result.now c.loop-lead.lead-index c.lead-item.result c.group-group.result.now c.loop-lead-test.true c.lead-item.is c.group-group.ensures.group c.args.cuts.now.items c.loop-lead.cuts.items c.extend_from_slice.new.self.items j (c.loop-lead.invariant.cuts j)
           (c.in_ok-extend_from_slice.ensures.items ∙ ap (λ (ks : List ℕ). c.loop-lead.cuts.items ++ ks) c.deref.ensures.value);
-      classes = gained_then c.args.by_class.now.items c.loop-lead.by_class.items c.add_transition.new.by_class.items c.loop-lead.invariant.classes got
+      classes = gained_then c.args.edges.now.lists.items c.loop-lead.edges.lists.items c.add_to_all.new.self.lists.items c.loop-lead.invariant.classes got
           (lead_more c.args.alphabet.now.groups c.leads-lead-items.result.now c.loop-lead.lead-index c.lead-item.result c.group-group.result.now c.loop-lead-test.true c.lead-item.is c.group-group.ensures.group c.args.item edge refl);
+      noted = c.in_ok-add_to_all.ensures.noted;
     }
 
 pub returns : goal.returns
@@ -53,7 +55,8 @@ returns c =
     record {
       cuts = cuts_of_state c.args.alphabet.now c.args.item.0 c.args.item.1 leads c.args.cuts.now.items c.loop-lead.cuts.items are
           (subst (λ (ls : List Lead). (k : ℕ) → Contains c.loop-lead.cuts.items k ↔ (Contains c.args.cuts.now.items k ⊎ LeadCut c.args.alphabet.now.groups ls k)) all c.loop-lead.invariant.cuts);
-      classes = gained_like c.args.by_class.now.items c.loop-lead.by_class.items
-          (subst (λ (ls : List Lead). Gained c.args.by_class.now.items c.loop-lead.by_class.items (λ i x. (x.item ≡ c.args.item) × LeadTo c.args.alphabet.now.groups ls i x.to)) all c.loop-lead.invariant.classes)
+      classes = gained_like c.args.edges.now.lists.items c.loop-lead.edges.lists.items
+          (subst (λ (ls : List Lead). Gained c.args.edges.now.lists.items c.loop-lead.edges.lists.items (λ i x. (x.item ≡ c.args.item) × LeadTo c.args.alphabet.now.groups ls i x.to)) all c.loop-lead.invariant.classes)
           (leads_of_state c.args.alphabet.now c.args.item leads are);
+      noted = c.loop-lead.invariant.noted;
     }

@@ -1,6 +1,7 @@
 use Rattle.std.proofs.Common.{◌≡◌, ℕ, ◌⊎◌, take}
 use Rattle.std.specs.Prelude.{◌↔◌}
 use Rattle.std.specs.List.{Contains}
+use Rattle.lalrpop_dfa.specs.Internal.Room.{AreNoted}
 use Rattle.lalrpop_dfa.specs.Internal.Transitions.{Gained}
 use Rattle.lalrpop_dfa.proofs.Leavings.{LeadTo, LeadCut}
 use Rattle.lalrpop_dfa.proofs.blocks.add_item.Given as goal
@@ -8,5 +9,6 @@ use Rattle.lalrpop_dfa.proofs.blocks.add_item.Given as goal
 abbrev pub invariant-loop-lead : goal.invariant-loop-lead
 invariant-loop-lead l = record {
   cuts : (k : ℕ) → Contains l.cuts.items k ↔ (Contains l.fn.cuts.items k ⊎ LeadCut l.alphabet.groups (take l.lead-index l.lead-items) k);
-  classes : Gained l.fn.by_class.items l.by_class.items (λ c x. (x.item ≡ l.item) × LeadTo l.alphabet.groups (take l.lead-index l.lead-items) c x.to);
+  classes : Gained l.fn.edges.lists.items l.edges.lists.items (λ c x. (x.item ≡ l.item) × LeadTo l.alphabet.groups (take l.lead-index l.lead-items) c x.to);
+  noted : AreNoted l.edges.lists.items l.edges.used.items;
 }

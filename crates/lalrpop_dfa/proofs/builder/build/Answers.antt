@@ -1,4 +1,4 @@
-use Rattle.std.proofs.Common.{length, map, arith}
+use Rattle.std.proofs.Common.{length, map, ◌∙◌, arith}
 use Rattle.lalrpop_dfa.proofs.Adding.{clones_equal}
 use Rattle.lalrpop_dfa.proofs.Builds.{built_all, built_bound, built_few, built_clash, next_given, next_none, given_at}
 use Rattle.std.proofs.lemmas.Result.{err_from_is_err_and}
@@ -6,6 +6,13 @@ use Rattle.lalrpop_dfa.proofs.builder.build.Goals as goal
 
 pub next-requires : goal.next-requires
 next-requires c = record { clones = clones_equal }
+
+pub expand-requires-clause-room : goal.expand-requires-clause-room
+expand-requires-clause-room c = record {
+  sound = c.in_ok-room.ensures.sound;
+  classes = c.loop-table.invariant.classes ∙ c.in_ok-room.ensures.classes;
+  tidy = c.loop-table.invariant.tidy;
+}
 
 pub returns-in_err-expand-clause-err : goal.returns-in_err-expand-clause-err
 returns-in_err-expand-clause-err c =
@@ -25,8 +32,8 @@ loop-table-smaller c =
           (given_at c.loop-table.table.sets.kernels.list c.loop-table.table.sets.kernels.place (length c.loop-table.table.rows) g.0 c.in-Some.set g.1 g.2 c.loop-table.invariant.place),
     )
 
-pub new-requires-3 : goal.new-requires-3
-new-requires-3 c =
+pub new-requires-4 : goal.new-requires-4
+new-requires-4 c =
     (built_all c.args.nfas.now (map (λ p. p.0) c.args.precedences.now) c.loop-table.table.sets.kernels.list c.loop-table.table.sets.origins.items c.loop-table.table.rows c.loop-table.table.sets.kernels.place c.loop-table.invariant.built c.loop-table.invariant.place
     (next_none c.in_ok-set.field-0 _ _ c.in_ok-set.ensures.given c.in_default.not-Some) c.requires.automata.0 c.requires.automata.1).2
 

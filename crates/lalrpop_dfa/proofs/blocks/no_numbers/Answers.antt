@@ -1,7 +1,7 @@
 use Rattle.std.proofs.Common.{◌+◌, [], ◌∷◌, length, ap, ◌∙◌, length-append}
 use Rattle.std.specs.Prelude.{None}
 use Rattle.lalrpop_dfa.proofs.KnownClasses.{unknown_more}
-use Rattle.lalrpop_dfa.proofs.builder.no_numbers.Goals as goal
+use Rattle.lalrpop_dfa.proofs.blocks.no_numbers.Goals as goal
 
 pub loop-init : goal.loop-init
 loop-init c = record {

@@ -1,6 +1,6 @@
 use Rattle.std.proofs.Common.{◌≡◌, length}
 use Rattle.lalrpop_dfa.specs.Internal.Builder.{AreUnknown}
-use Rattle.lalrpop_dfa.proofs.builder.no_numbers.Given as goal
+use Rattle.lalrpop_dfa.proofs.blocks.no_numbers.Given as goal
 
 abbrev pub invariant-loop : goal.invariant-loop
 invariant-loop l = record {

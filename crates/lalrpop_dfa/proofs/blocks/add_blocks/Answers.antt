@@ -9,13 +9,13 @@ use Rattle.lalrpop_dfa.specs.declared.blocks.Block.{Block}
 use Rattle.lalrpop_nfa.proofs.Contained.{contains_none}
 use Rattle.lalrpop_dfa.proofs.WorklistSteps.{nil_from}
 use Rattle.lalrpop_dfa.proofs.CutBlocks.{read_class, first_of, first_is, start, finish, IsKept, IsPassed, has_some, has_none, turned, turned_classes}
-use Rattle.lalrpop_dfa.proofs.blocks.blocks_between.Goals as goal
-use Rattle.lalrpop_dfa.proofs.blocks.blocks_between.Goals.{then-first-next+then-not-is_empty+in_ok-push, else-first-next, else-first-next-via-then-first-next+else-not-is_empty, else-first-next-via-else-first-next}
+use Rattle.lalrpop_dfa.proofs.blocks.add_blocks.Goals as goal
+use Rattle.lalrpop_dfa.proofs.blocks.add_blocks.Goals.{then-first-next+then-not-is_empty+in_ok-push, else-first-next, else-first-next-via-then-first-next+else-not-is_empty, else-first-next-via-else-first-next}
 
 pub loop-index-init : goal.loop-index-init
 loop-index-init c = record {
-  ranges = λ ns s laid. rw c.in_ok-blocks.ensures.items (start c.args.alphabet.now.cells c.args.alphabet.now.count c.requires.cells c.args.cuts.now c.requires.ascending c.requires.within ns s c.args.by_class.now laid);
-  classes = λ b h. absurd (contains_none b (subst (λ (bs : List Block). Contains bs b) c.in_ok-blocks.ensures.items h));
+  ranges = λ ns s laid. rw c.requires.no_blocks (start c.args.alphabet.now.cells c.args.alphabet.now.count c.requires.cells c.args.cuts.now c.requires.ascending c.requires.within ns s c.args.by_class.now laid);
+  classes = λ b h. absurd (contains_none b (subst (λ (bs : List Block). Contains bs b) c.requires.no_blocks h));
 }
 
 pub cell-first-requires : goal.cell-first-requires

@@ -1,0 +1,52 @@
+-- Room for what leaves a set of items, which is used again from set to set.
+use Rattle.std.specs.Prelude.{◌≡◌, ℕ, ◌⊎◌, List, [], length, slice_get, Option, Some}
+use Rattle.std.specs.List.{Contains}
+use Rattle.std.specs.BTreeMap.{IsEmpty}
+use Rattle.lalrpop_alphabet.specs.Alphabet.{Classes, IsInCell, IsSound}
+use Rattle.lalrpop_alphabet.specs.declared.Cell.{Cell}
+use Rattle.lalrpop_dfa.specs.Internal.Builder.{AreUnknown}
+use Rattle.lalrpop_dfa.specs.Internal.Transitions.{AreBare, AreBelow}
+use Rattle.lalrpop_dfa.specs.declared.blocks.Transitions.{Transitions}
+use Rattle.lalrpop_dfa.specs.declared.blocks.Block.{Block}
+use Rattle.lalrpop_dfa.specs.declared.blocks.Room.{Room}
+
+-- the noted classes are within, and no other class has an edge
+pub record AreNoted (by_class : List Transitions) (used : List ℕ) : Type 0 where
+  pub within : AreBelow (length by_class) used
+  pub all : (c : ℕ) (t : Transitions) → slice_get by_class c ≡ Some t → (t.list.items ≡ []) ⊎ Contains used c
+
+-- only the noted classes have edges, and only they have numbers
+pub record IsTidy (room : Room) : Type 0 where
+  pub noted : AreNoted room.edges.lists.items room.edges.used.items
+  pub same_length : length room.known.by_class.items ≡ length room.edges.lists.items
+  pub numbers_in : (c j : ℕ) → slice_get room.known.by_class.items c ≡ Some (Some j) → Contains room.edges.used.items c
+
+-- nothing is in the room
+pub record IsCleared (room : Room) : Type 0 where
+  pub tidy : IsTidy room
+  pub no_cuts : room.cuts.items ≡ []
+  pub no_edges : AreBare room.edges.lists.items
+  pub no_blocks : room.blocks.items ≡ []
+  pub no_numbers : AreUnknown room.known.by_class.items
+  pub no_others : IsEmpty room.known.by_transitions
+
+-- room for the classes of an alphabet
+pub record IsRoomOf (a : Classes) (room : Room) : Type 0 where
+  pub sound : IsSound a
+  pub classes : length room.edges.lists.items ≡ a.count
+  pub tidy : IsTidy room
+
+-- the first value of the block lies in a cell of its class, which has edges
+abbrev pub IsTaken : List Cell → List Transitions → Block → Type 0
+IsTaken cells by_class b = (k : ℕ) × (t : Transitions) × (IsInCell cells k b.class b.range.start × (slice_get by_class b.class ≡ Some t) × (t.list.items ≡ [] → ⊥))
+
+abbrev pub AreTaken : List Cell → List Transitions → List Block → Type 0
+AreTaken cells by_class blocks = (b : Block) → Contains blocks b → IsTaken cells by_class b
+
+-- no class gets a number but the class i
+abbrev pub OnlyNumbers : List (Option ℕ) → ℕ → List (Option ℕ) → Type 0
+OnlyNumbers old i new = (c j : ℕ) → slice_get new c ≡ Some (Some j) → (c ≡ i) ⊎ (slice_get old c ≡ Some (Some j))
+
+-- the class of each block is noted
+abbrev pub AreUsed : List ℕ → List Block → Type 0
+AreUsed used blocks = (b : Block) → Contains blocks b → Contains used b.class
