@@ -1,5 +1,5 @@
 -- The numbers that are known by class.
-use Rattle.std.proofs.Common.{◌≡◌, ℕ, ◌<◌, inl, inr, List, length, slice_set, get_or, map, drop, suc, ◌+◌, ◌≤◌, [], ◌∷◌, ◌++◌, zero, refl, sym, ap, ◌∙◌, subst, arith, add-one, length-drop, Some}
+use Rattle.std.proofs.Common.{◌≡◌, ℕ, ◌<◌, inl, inr, List, length, slice_set, get_or, map, [], ◌∷◌, ◌++◌, refl, sym, ap, ◌∙◌, subst, arith, Some}
 use Rattle.std.specs.Prelude.{slice_get, Option, None}
 use Rattle.std.proofs.lemmas.Option.{slice_get_read, slice_get_within, get_or_from_slice_get}
 use Rattle.std.proofs.lemmas.List.{get_or-map, length-map}

@@ -5,7 +5,6 @@ use Rattle.std.specs.List.{Contains}
 use Rattle.std.proofs.lemmas.List.{length-set}
 use Rattle.std.proofs.lemmas.List.Elements.{Contains-append_left, Contains-append_right, Contains-append_cases}
 use Rattle.lalrpop_nfa.proofs.Contained.{contains_only, contains_none}
-use Rattle.lalrpop_dfa.specs.Internal.Builder.{AreUnknown}
 use Rattle.lalrpop_dfa.specs.Internal.Room.{AreNoted, OnlyNumbers}
 use Rattle.lalrpop_dfa.specs.Internal.Transitions.{AreBare}
 use Rattle.lalrpop_dfa.specs.declared.blocks.Transitions.{Transitions}

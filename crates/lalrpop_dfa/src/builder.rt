@@ -164,9 +164,7 @@ impl Sets {
         for block in &room.blocks {
             let Block { range, class } = block;
             let origin = Origin::new(number, range.start());
-            let target = target_of_class(
-                self, alloc, nfas, set, known, by_class, *class, origin,
-            )?;
+            let target = target_of_class(self, alloc, nfas, set, known, by_class, *class, origin)?;
             tests.push((range.clone()?, target))?;
         }
         // No label reaches the greatest number, so that it takes no test edge.
@@ -259,7 +257,9 @@ impl Table {
             }
         };
         let number = self.rows.len();
-        let edges = self.sets.edges_of(alloc, nfas, alphabet, room, number, &set)?;
+        let edges = self
+            .sets
+            .edges_of(alloc, nfas, alphabet, room, number, &set)?;
         self.rows.push(set, kind, edges)?;
         Ok(())
     }

@@ -1,4 +1,4 @@
-use Rattle.std.proofs.Common.{ℕ, ◌-◌, List, map}
+use Rattle.std.proofs.Common.{◌-◌, List, map}
 use Rattle.lalrpop_nfa.specs.Graph.{Graph}
 use Rattle.lalrpop_ranges.proofs.Cells.{BlocksBelow}
 use Rattle.lalrpop_dfa.specs.Items.{Item, IsLeaving}

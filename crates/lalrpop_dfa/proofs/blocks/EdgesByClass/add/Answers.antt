@@ -1,6 +1,5 @@
 use Rattle.std.proofs.Common.{rules, ◌≡◌, ◌<◌, List, [], length, slice_set, ap, subst, refl, arith}
 use Rattle.std.specs.Prelude.{slice_get, Some}
-use Rattle.std.specs.List.{Contains}
 use Rattle.std.proofs.lemmas.Option.{slice_get_read}
 use Rattle.lalrpop_dfa.specs.Internal.Transitions.{Gained}
 use Rattle.lalrpop_dfa.specs.declared.blocks.EdgesByClass.{EdgesByClass}
