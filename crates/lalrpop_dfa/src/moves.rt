@@ -52,8 +52,8 @@ fn push_targets(
     if run.is_empty() {
         return push_default_targets(item.nfa(nfas), item, targets);
     }
-    for edge in run {
-        targets.push(item.to(edge.to))?;
+    for transition in run {
+        targets.push(item.to(transition.to))?;
     }
     Ok(())
 }

@@ -17,5 +17,5 @@ returns-then-is_empty c =
 pub returns : goal.returns
 returns c =
     let some : length c.args.run.now ≡ 0 → ⊥ = λ e. search rules in
-    let all : take c.loop-edge.edge-index c.args.run.now ≡ c.args.run.now = take_all c.loop-edge.edge-index c.args.run.now c.loop-edge-test.false in
-    c.loop-edge.invariant ∙ ap (λ (zs : List Item). c.args.targets.now.items ++ zs) (ap (map (λ (e : Transition). let z : Item = (c.args.item.0, e.to) in z)) all ∙ edges_run c.args.nfas.now c.args.item c.args.run.now some)
+    let all : take c.loop-transition.transition-index c.args.run.now ≡ c.args.run.now = take_all c.loop-transition.transition-index c.args.run.now c.loop-transition-test.false in
+    c.loop-transition.invariant ∙ ap (λ (zs : List Item). c.args.targets.now.items ++ zs) (ap (map (λ (e : Transition). let z : Item = (c.args.item.0, e.to) in z)) all ∙ edges_run c.args.nfas.now c.args.item c.args.run.now some)
