@@ -1,5 +1,5 @@
 -- Cuts of values: numbers that rise, and where the blocks of a partition begin and are over.
-use Rattle.std.proofs.Common.{◌≡◌, ℕ, zero, suc, ◌+◌, ◌-◌, ◌<◌, ◌≤◌, ◌⊎◌, inl, inr, ◌↔◌, List, [], ◌∷◌, ◌++◌, length, take, get_or, refl, sym, ap, ◌∙◌, arith, Bool, true, false, not, nat_eq, eq-eqb, Bor, length-take}
+use Rattle.std.proofs.Common.{◌≡◌, ℕ, zero, suc, ◌+◌, ◌-◌, ◌<◌, ◌≤◌, inl, inr, ◌↔◌, List, [], ◌∷◌, ◌++◌, length, take, get_or, refl, sym, ap, ◌∙◌, arith, Bool, true, false, not, nat_eq, eq-eqb, Bor, length-take}
 use Rattle.std.specs.Prelude.{slice_get, Some, None, Option, Result, Ok, Err, IfOk}
 use Rattle.std.specs.List.{Contains}
 use Rattle.std.specs.Option.{option_eq, option_copied}
@@ -11,6 +11,7 @@ use Rattle.lalrpop_hir.specs.Range.{Range, Covers}
 use Rattle.lalrpop_ranges.specs.Partition.{AreAscending, IsPartition}
 use Rattle.lalrpop_ranges.proofs.BlockCover.{block_of_covered}
 use Rattle.lalrpop_ranges.proofs.PartitionLaws.{block_in_or_out}
+use Rattle.lalrpop_kernels.proofs.NumberedLemmas.{pushed_cases}
 use Rattle.lalrpop_alphabet.specs.declared.groups.Labels.{Labels}
 use Rattle.lalrpop_alphabet.specs.Alphabet.{IsEndOf}
 use Rattle.lalrpop_alphabet.specs.Internal.Grouped.{HasLabel, AreCuts}
@@ -20,31 +21,15 @@ use Rattle.lalrpop_alphabet.specs.Internal.Cuts.{AreRising, HoldOne, HasAlso, Ar
 element_at : {X : Type 0} (xs : List X) (k : ℕ) (x : X) → slice_get xs k ≡ Some x → Contains xs x
 element_at xs k x h = (k, slice_get_within xs k x h, get_or_from_slice_get xs k x x h)
 
--- the elements of a list with one more
-pub pushed_at : {X : Type 0} (xs : List X) (y : X) (k : ℕ) (x : X) → slice_get (xs ++ y ∷ []) k ≡ Some x → (slice_get xs k ≡ Some x) ⊎ ((k ≡ length xs) × (x ≡ y))
-pushed_at [] y zero x h = inr (refl, cc)
-pushed_at [] y (suc k) x h = cc
-pushed_at (z ∷ xs) y zero x h = inl h
-pushed_at (z ∷ xs) y (suc k) x h = elim (pushed_at xs y k x h) [ inl i ↦ inl i | inr i ↦ inr (ap (λ n. suc n) i.0, i.1) ]
-
-pub pushed_stays : {X : Type 0} (xs : List X) (y : X) (k : ℕ) (x : X) → slice_get xs k ≡ Some x → slice_get (xs ++ y ∷ []) k ≡ Some x
-pushed_stays [] y k x h = cc
-pushed_stays (z ∷ xs) y zero x h = h
-pushed_stays (z ∷ xs) y (suc k) x h = pushed_stays xs y k x h
-
-pub pushed_end : {X : Type 0} (xs : List X) (y : X) → slice_get (xs ++ y ∷ []) (length xs) ≡ Some y
-pushed_end [] y = refl
-pushed_end (z ∷ xs) y = pushed_end xs y
-
 -- ---- one more cut
 -- one more that is above all of them
 pub rising_more : (vs : List ℕ) (w : ℕ) → AreRising vs → ((v : ℕ) → Contains vs v → v < w) → AreRising (vs ++ w ∷ [])
-rising_more vs w a above j k u v p q l = elim (pushed_at vs w k v q) [
-  | inl old ↦ elim (pushed_at vs w j u p) [
+rising_more vs w a above j k u v p q l = elim (pushed_cases vs w k v q) [
+  | inl old ↦ elim (pushed_cases vs w j u p) [
     | inl first ↦ a j k u v first old l
     | inr first ↦ absurd (omega (arith, slice_get_within vs k v old, first.0))
   ]
-  | inr new ↦ elim (pushed_at vs w j u p) [
+  | inr new ↦ elim (pushed_cases vs w j u p) [
     | inl first ↦ (let m : u < w = above u (element_at vs j u first) in omega (arith, new.1))
     | inr first ↦ absurd (omega (arith, new.0, first.0))
   ]

@@ -1,14 +1,10 @@
 -- How lists of labels grow, and the leads by them.
-use Rattle.std.proofs.Common.{◌≡◌, ℕ, zero, suc, ◌+◌, ◌<◌, ◌⊎◌, inl, inr, List, [], ◌∷◌, ◌++◌, length, refl, ap, ap₂, sym, ◌∙◌, subst, arith, Bool, true, false, ◌↔◌, append_assoc, append-nil, length-append, eqb-true, eq-eqb}
+use Rattle.std.proofs.Common.{◌≡◌, ℕ, ◌+◌, ◌<◌, ◌⊎◌, inl, inr, List, [], ◌∷◌, ◌++◌, length, refl, ap, sym, ◌∙◌, subst, arith, ◌↔◌, append_assoc, append-nil, length-append, eqb-true, eq-eqb}
 use Rattle.std.specs.Prelude.{slice_get, Some}
 use Rattle.std.specs.List.{Contains, filter}
 use Rattle.std.specs.BTreeMap.{BTreeMap, Updates}
-use Rattle.std.specs.Ordering.{is_eq, nat_cmp, ordering_then}
+use Rattle.std.specs.Ordering.{is_eq}
 use Rattle.std.specs.Cmp.{Equal-is}
-use Rattle.std.specs.Cmp.Lexicographic.{slice_cmp}
-use Rattle.std.specs.declared.cmp.Ordering.{Ordering}
-use Rattle.std.specs.declared.cmp.Ordering.TheVariants.{Equal, Less, Greater}
-use Rattle.std.proofs.lemmas.Bool.Decides.{nat_tests}
 use Rattle.std.proofs.lemmas.Option.{slice_get_within, slice_get_cases}
 use Rattle.std.proofs.lemmas.List.Elements.{Contains-append_left, Contains-push, Contains-push_cases}
 use Rattle.lalrpop_hir.specs.Range.{Range}
@@ -17,60 +13,19 @@ use Rattle.lalrpop_nfa.specs.Path.{test}
 use Rattle.lalrpop_nfa.specs.Walk.{leaves}
 use Rattle.lalrpop_nfa.proofs.Contained.{filter_in, filter_out}
 use Rattle.lalrpop_nfa.specs.declared.edge.Edge.{Edge}
+use Rattle.lalrpop_kernels.proofs.NumberedLemmas.{pushed_cases, pushed_keeps, pushed_last}
+use Rattle.lalrpop_alphabet.proofs.Orders.{lists_exact, range_exact}
+use Rattle.std.proofs.lemmas.Bool.{cases_Bool}
 use Rattle.lalrpop_alphabet.specs.Alphabet.{AreLeadsOf, IsLeadOf}
 use Rattle.lalrpop_alphabet.specs.declared.Lead.{Lead}
 use Rattle.lalrpop_alphabet.specs.declared.NfaLeads.{NfaLeads}
 use Rattle.lalrpop_alphabet.specs.declared.StateLeads.{StateLeads}
 use Rattle.lalrpop_alphabet.specs.declared.groups.Labels.{Labels}
 use Rattle.lalrpop_alphabet.specs.Internal.Grouped.{HasLabel, LeadsTo, AreGrouped}
-use Rattle.lalrpop_alphabet.specs.Internal.Leading.{range_cmp, labels_cmp, IsListOf, AreNumbersOf, IsGrown, IsClosed, IsTurned, HasLead, AreWithin, AreLeads, AreStatesTo}
-
--- ---- one more at the end
-pub pushed_stays : {X : Type 0} (xs : List X) (y : X) (k : ℕ) (x : X) → slice_get xs k ≡ Some x → slice_get (xs ++ y ∷ []) k ≡ Some x
-pushed_stays [] y k x h = cc
-pushed_stays (z ∷ xs) y zero x h = h
-pushed_stays (z ∷ xs) y (suc k) x h = pushed_stays xs y k x h
-
-pub pushed_end : {X : Type 0} (xs : List X) (y : X) → slice_get (xs ++ y ∷ []) (length xs) ≡ Some y
-pushed_end [] y = refl
-pushed_end (z ∷ xs) y = pushed_end xs y
-
-pub pushed_at : {X : Type 0} (xs : List X) (y : X) (k : ℕ) (x : X) → slice_get (xs ++ y ∷ []) k ≡ Some x → (slice_get xs k ≡ Some x) ⊎ ((k ≡ length xs) × (x ≡ y))
-pushed_at [] y zero x h = inr (refl, cc)
-pushed_at [] y (suc k) x h = cc
-pushed_at (z ∷ xs) y zero x h = inl h
-pushed_at (z ∷ xs) y (suc k) x h = elim (pushed_at xs y k x h) [ inl a ↦ inl a | inr b ↦ inr (ap (λ n. suc n) b.0, b.1) ]
+use Rattle.lalrpop_alphabet.specs.Internal.Leading.{labels_cmp, IsListOf, AreNumbersOf, IsGrown, IsClosed, IsTurned, HasLead, AreWithin, AreLeads, AreStatesTo}
 
 none_has : {X : Type 0} (x : X) → Contains [] x → ⊥
 none_has x (k, l, e) = omega arith
-
-bool_cases : (b : Bool) → (b ≡ true) ⊎ (b ≡ false)
-bool_cases true = inl refl
-bool_cases false = inr refl
-
--- ---- equal lists of labels
-then_equal : (a b : Ordering) → ordering_then a b ≡ Equal → (a ≡ Equal) × (b ≡ Equal)
-then_equal Less b e = absurd cc
-then_equal Equal b e = (refl, e)
-then_equal Greater b e = absurd cc
-
-nat_exact : (x y : ℕ) → nat_cmp x y ≡ Equal → x ≡ y
-nat_exact x y e = grind (arith, nat_tests)
-
-range_exact : (x y : Range) → range_cmp x y ≡ Equal → x ≡ y
-range_exact x y e =
-    let h = then_equal (nat_cmp x.start y.start) (nat_cmp x.end y.end) e in
-    ap₂ (λ a b. let r : Range = record { start = a; end = b } in r) (nat_exact x.start y.start h.0) (nat_exact x.end y.end h.1)
-
-ranges_exact : (xs ys : List Range) → slice_cmp range_cmp xs ys ≡ Equal → xs ≡ ys
-ranges_exact [] [] e = refl
-ranges_exact [] (y ∷ ys) e = cc
-ranges_exact (x ∷ xs) [] e = cc
-ranges_exact (x ∷ xs) (y ∷ ys) e = let h = then_equal _ _ e in let a : x ≡ y = range_exact x y h.0 in let b : xs ≡ ys = ranges_exact xs ys h.1 in cc
-
--- a clone of a label, by what its fields are
-pub range_same : (a b r s : Range) → a ≡ r → b ≡ s → b.start ≡ a.start → b.end ≡ a.end → s ≡ r
-range_same a b r s p q start end = sym q ∙ ap₂ (λ x y. let t : Range = record { start = x; end = y } in t) start end ∙ p
 
 -- ---- lists that grow
 pub grown_itself : (lists : List Labels) → IsGrown lists lists
@@ -80,23 +35,23 @@ pub grown_more : (a b c : List Labels) → IsGrown a b → IsGrown b c → IsGro
 grown_more a b c f g n ls h = g n ls (f n ls h)
 
 pub grown_pushed : (lists : List Labels) (list : Labels) → IsGrown lists (lists ++ list ∷ [])
-grown_pushed lists list n ls h = pushed_stays lists list n ls h
+grown_pushed lists list n ls h = pushed_keeps lists list n ls h
 
 pub pushed_list : (lists : List Labels) (list : Labels) (rs : List Range) → list.list.items ≡ rs → IsListOf (lists ++ list ∷ []) (length lists) rs
-pushed_list lists list rs same = (list, pushed_end lists list, same)
+pushed_list lists list rs same = (list, pushed_last lists list, same)
 
 -- a list with the next number
 pub numbers_pushed : (m m2 : BTreeMap Labels ℕ) (lists : List Labels) (key list : Labels) → AreNumbersOf m lists → key.list.items ≡ list.list.items → Updates labels_cmp m m2 key (Some (length lists)) → AreNumbersOf m2 (lists ++ list ∷ [])
 numbers_pushed m m2 lists key list a same u = record {
-  found = λ ls n h. elim (bool_cases (is_eq (labels_cmp key ls))) [
+  found = λ ls n h. elim (cases_Bool (is_eq (labels_cmp key ls))) [
     | inl equal ↦
-        (let e : key.list.items ≡ ls.list.items = ranges_exact key.list.items ls.list.items ((Equal-is (labels_cmp key ls)).0 equal) in
+        (let e : key.list.items ≡ ls.list.items = lists_exact range_exact key.list.items ls.list.items ((Equal-is (labels_cmp key ls)).0 equal) in
         let found : Some (length lists) ≡ Some n = sym (u.0 ls ∙ rw equal refl) ∙ h in
         let number : length lists ≡ n = cc in
         rw (← number) (pushed_list lists list ls.list.items (sym same ∙ e)))
     | inr apart ↦
         (let was = a.found ls n (sym (u.0 ls ∙ rw apart refl) ∙ h) in
-        (was.0, pushed_stays lists list n was.0 was.1, was.2))
+        (was.0, pushed_keeps lists list n was.0 was.1, was.2))
   ];
 }
 
@@ -307,7 +262,7 @@ pub states_more : (lists lists2 : List Labels) (g : Graph) (n : ℕ) (states sta
     → AreStatesTo lists2 g (n + 1) states2
 states_more lists lists2 g n states states2 s h grown new pushed = record {
   same_length = rw pushed (length-append states (s ∷ []) ∙ ap (λ k. k + 1) h.same_length);
-  leads = λ p t at. elim (pushed_at states s p t (rw pushed at at)) [
+  leads = λ p t at. elim (pushed_cases states s p t (rw pushed at at)) [
     | inl old ↦ leads_after lists lists2 g.edges.tests p t.leads.items grown (h.leads p t old)
     | inr last ↦ rw (last.0, last.1, h.same_length) new
   ];
@@ -334,7 +289,7 @@ pub nfas_more : (lists lists2 : List Labels) (ns : List Graph) (n : ℕ) (g : Gr
     → AreNfasTo lists2 ns (n + 1) nfas2
 nfas_more lists lists2 ns n g nfas nfas2 x h grown here new pushed = record {
   same_length = rw pushed (length-append nfas (x ∷ []) ∙ ap (λ k. k + 1) h.same_length);
-  states = λ i y at. elim (pushed_at nfas x i y (rw pushed at at)) [
+  states = λ i y at. elim (pushed_cases nfas x i y (rw pushed at at)) [
     | inl old ↦ (let was = h.states i y old in (was.0, was.1, states_after lists lists2 was.0 (length was.0.kinds) y.states.items grown was.2))
     | inr last ↦ (g, (let e : i ≡ n = last.0 ∙ h.same_length in rw e here), rw last.1 new)
   ];

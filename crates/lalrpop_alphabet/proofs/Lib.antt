@@ -1,5 +1,6 @@
 mod Cases
 mod Assembling
+pub mod Orders
 pub mod Cuts
 pub mod CutsLabels
 pub mod GroupLeads

@@ -7,6 +7,7 @@ use Rattle.std.proofs.lemmas.List.{take_more}
 use Rattle.std.proofs.lemmas.List.Elements.{Contains-append_left, Contains-append_right, Contains-append_cases}
 use Rattle.std.proofs.lemmas.Option.{slice_get_read, slice_get_within, get_or_from_slice_get, slice_get-get_or}
 use Rattle.lalrpop_hir.specs.Range.{Range, Covers}
+use Rattle.lalrpop_kernels.proofs.NumberedLemmas.{pushed_cases, pushed_keeps, pushed_last}
 use Rattle.lalrpop_alphabet.specs.declared.signatures.Signature.{Signature}
 use Rattle.lalrpop_alphabet.specs.declared.Group.{Group}
 use Rattle.lalrpop_alphabet.specs.declared.groups.Labels.{Labels}
@@ -53,21 +54,6 @@ module _ {X : Type 0} where
   set_length [] i x = refl
   set_length (z ∷ xs) zero x = refl
   set_length (z ∷ xs) (suc i) x = ap (λ n. suc n) (set_length xs i x)
-
-  pub pushed_at : (xs : List X) (y : X) (q : ℕ) (x : X) → slice_get (xs ++ y ∷ []) q ≡ Some x → (slice_get xs q ≡ Some x) ⊎ ((q ≡ length xs) × (x ≡ y))
-  pushed_at [] y zero x h = inr (refl, cc)
-  pushed_at [] y (suc q) x h = cc
-  pushed_at (z ∷ xs) y zero x h = inl h
-  pushed_at (z ∷ xs) y (suc q) x h = elim (pushed_at xs y q x h) [ inl k ↦ inl k | inr k ↦ inr (ap (λ n. suc n) k.0, k.1) ]
-
-  pushed_stays : (xs : List X) (y : X) (q : ℕ) (x : X) → slice_get xs q ≡ Some x → slice_get (xs ++ y ∷ []) q ≡ Some x
-  pushed_stays [] y q x h = cc
-  pushed_stays (z ∷ xs) y zero x h = h
-  pushed_stays (z ∷ xs) y (suc q) x h = pushed_stays xs y q x h
-
-  pushed_end : (xs : List X) (y : X) → slice_get (xs ++ y ∷ []) (length xs) ≡ Some y
-  pushed_end [] y = refl
-  pushed_end (z ∷ xs) y = pushed_end xs y
 
   pub one_has : (y x : X) → Contains (y ∷ []) x → x ≡ y
   one_has y x (zero, l, e) = sym e
@@ -270,7 +256,7 @@ pub group_ends : (cuts : List ℕ) (lists : List Labels) (i : ℕ) (ls : Labels)
 group_ends cuts lists i ls groups group at len f g n k = (to, from)
   where
     to : HasCut (groups ++ group ∷ []) n k → (n < i + 1) × ((r : Range) × (HasLabel lists n r × IsEndAt cuts r k))
-    to (x, (here, has)) = elim (pushed_at groups group n x here) [
+    to (x, (here, has)) = elim (pushed_cases groups group n x here) [
       | inl was ↦ (let h = (f n k).0 (x, (was, has)) in (omega (arith, h.0), h.1))
       | inr new ↦
           (let e : n ≡ i = omega (arith, new.0, len) in
@@ -280,16 +266,16 @@ group_ends cuts lists i ls groups group at len f g n k = (to, from)
 
     from : (n < i + 1) × ((r : Range) × (HasLabel lists n r × IsEndAt cuts r k)) → HasCut (groups ++ group ∷ []) n k
     from (l, (r, ((ms, (here, has)), end))) = elim (cases_lt n i) [
-      | inl before ↦ (let (x, (was, m)) = (f n k).1 (before, (r, ((ms, (here, has)), end))) in (x, (pushed_stays groups group n x was, m)))
+      | inl before ↦ (let (x, (was, m)) = (f n k).1 (before, (r, ((ms, (here, has)), end))) in (x, (pushed_keeps groups group n x was, m)))
       | inr past ↦
           (let e : n ≡ i = omega (arith, past, l) in
           let same : ms ≡ ls = (let both : slice_get lists i ≡ Some ms = rw (← e) here in cc) in
           let place : n ≡ length groups = omega (arith, e, len) in
-          (group, (rw place (pushed_end groups group), (g k).1 (r, (subst (λ (x : Labels). Contains x.list.items r) same has, end)))))
+          (group, (rw place (pushed_last groups group), (g k).1 (r, (subst (λ (x : Labels). Contains x.list.items r) same has, end)))))
     ]
 
 pub still_bare : (groups : List Group) (group : Group) → AreBare groups → group.classes.items ≡ [] → AreBare (groups ++ group ∷ [])
-still_bare groups group bare none n c (x, (at, has)) = elim (pushed_at groups group n x at) [
+still_bare groups group bare none n c (x, (at, has)) = elim (pushed_cases groups group n x at) [
   | inl was ↦ bare n c (x, (was, has))
   | inr new ↦ none_has c (subst (λ ys. Contains ys c) none (subst (λ (y : Group). Contains y.classes.items c) new.1 has))
 ]
@@ -327,7 +313,7 @@ none_end cuts rs ends none k = (λ h. absurd (none_has k (subst (λ xs. Contains
 
 pub none_more : (signatures new : List Signature) (s : Signature) → ((k : ℕ) (t : Signature) → slice_get signatures k ≡ Some t → (n : ℕ) → Contains t.lists.items n → ⊥) → s.lists.items ≡ [] → new ≡ signatures ++ s ∷ []
     → (k : ℕ) (t : Signature) → slice_get new k ≡ Some t → (n : ℕ) → Contains t.lists.items n → ⊥
-none_more signatures new s none bare is k t at n has = elim (pushed_at signatures s k t (subst (λ ys. slice_get ys k ≡ Some t) is at)) [
+none_more signatures new s none bare is k t at n has = elim (pushed_cases signatures s k t (subst (λ ys. slice_get ys k ≡ Some t) is at)) [
   | inl was ↦ none k t was n has
   | inr end ↦ none_has n (subst (λ ys. Contains ys n) bare (subst (λ (y : Signature). Contains y.lists.items n) end.1 has))
 ]

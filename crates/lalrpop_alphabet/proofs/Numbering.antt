@@ -1,25 +1,23 @@
 -- Classes are given to groups, and numbers to signatures.
-use Rattle.std.proofs.Common.{◌≡◌, ℕ, suc, ◌+◌, ◌<◌, ◌⊎◌, inl, inr, List, [], ◌∷◌, ◌++◌, length, slice_set, get_or, take, Bool, true, false, refl, ap, sym, ◌∙◌, subst, arith}
+use Rattle.std.proofs.Common.{◌≡◌, ℕ, suc, ◌+◌, ◌<◌, ◌⊎◌, inl, inr, List, [], ◌∷◌, ◌++◌, length, slice_set, get_or, take, refl, ap, sym, ◌∙◌, subst, arith}
 use Rattle.std.specs.Prelude.{slice_get, Some, None, ◌↔◌}
 use Rattle.std.specs.Map.{lookup}
 use Rattle.std.specs.List.{Contains}
 use Rattle.std.specs.BTreeMap.{BTreeMap, get, Updates}
 use Rattle.std.specs.Cmp.{Equal-is}
-use Rattle.std.specs.Cmp.Lexicographic.{slice_cmp}
-use Rattle.std.specs.Ordering.{nat_cmp, ordering_then, is_eq}
-use Rattle.std.specs.declared.cmp.Ordering.{Ordering}
-use Rattle.std.specs.declared.cmp.Ordering.TheVariants.{Equal, Less, Greater}
-use Rattle.std.proofs.lemmas.Bool.Decides.{nat_tests}
-use Rattle.std.proofs.lemmas.Bool.{cases_lt}
+use Rattle.std.specs.Ordering.{is_eq}
+use Rattle.std.proofs.lemmas.Bool.{cases_lt, cases_Bool}
 use Rattle.std.proofs.lemmas.Option.{get_or_from_slice_get, slice_get-get_or}
 use Rattle.std.proofs.lemmas.List.Elements.{Contains-append_left, Contains-append_right, Contains-append_cases}
+use Rattle.lalrpop_kernels.proofs.NumberedLemmas.{pushed_cases}
+use Rattle.lalrpop_alphabet.proofs.Orders.{nat_exact, lists_exact}
 use Rattle.lalrpop_alphabet.specs.declared.Cell.{Cell}
 use Rattle.lalrpop_alphabet.specs.declared.Group.{Group}
 use Rattle.lalrpop_alphabet.specs.declared.signatures.Signature.{Signature}
 use Rattle.lalrpop_alphabet.specs.Alphabet.{HasClass, HasCut}
 use Rattle.lalrpop_alphabet.specs.Internal.Signatures.{AreBare}
 use Rattle.lalrpop_alphabet.specs.Internal.Numbered.{signature_cmp, GotClasses, IsClassOf, AreNumbered, IsNumbered, AreClassed}
-use Rattle.lalrpop_alphabet.proofs.Marking.{set_at, set_there, set_elsewhere, set_length, pushed_at, one_has, none_has, taken_more}
+use Rattle.lalrpop_alphabet.proofs.Marking.{set_at, set_there, set_elsewhere, set_length, one_has, none_has, taken_more}
 
 -- ---- a class is given to groups
 pub got_none : (groups : List Group) (numbers : List ℕ) (class : ℕ) → GotClasses groups groups (λ n c. Contains (take 0 numbers) n × (c ≡ class))
@@ -94,24 +92,6 @@ got_more old cur numbers j i class now new got l is within at cuts classes = rec
 }
 
 -- ---- numbers of signatures
-then_equal : (a b : Ordering) → ordering_then a b ≡ Equal → (a ≡ Equal) × (b ≡ Equal)
-then_equal Less b e = absurd cc
-then_equal Equal b e = (refl, e)
-then_equal Greater b e = absurd cc
-
-nat_exact : (x y : ℕ) → nat_cmp x y ≡ Equal → x ≡ y
-nat_exact x y e = grind (arith, nat_tests)
-
-lists_exact : (xs ys : List ℕ) → slice_cmp nat_cmp xs ys ≡ Equal → xs ≡ ys
-lists_exact [] [] e = refl
-lists_exact [] (y ∷ ys) e = cc
-lists_exact (x ∷ xs) [] e = cc
-lists_exact (x ∷ xs) (y ∷ ys) e = let h = then_equal _ _ e in let a : x ≡ y = nat_exact x y h.0 in let b : xs ≡ ys = lists_exact xs ys h.1 in cc
-
-bool_cases : (b : Bool) → (b ≡ true) ⊎ (b ≡ false)
-bool_cases true = inl refl
-bool_cases false = inr refl
-
 module _ (groups groups2 : List Group) (count : ℕ) (s : Signature) (known known2 : BTreeMap Signature ℕ) (got : GotClasses groups groups2 (λ n c. Contains s.lists.items n × (c ≡ count))) (numbered : AreNumbered known groups count) where
   kept_class : (n d : ℕ) → d < count → HasClass groups2 n d ↔ HasClass groups n d
   kept_class n d l = (λ h. elim ((got.classes n d).0 h) [ inl x ↦ x | inr x ↦ absurd (omega (arith, l, x.1)) ], λ h. (got.classes n d).1 (inl h))
@@ -125,9 +105,9 @@ module _ (groups groups2 : List Group) (count : ℕ) (s : Signature) (known know
   pub numbered_more : Updates signature_cmp known known2 s (Some count) → AreNumbered known2 groups2 (count + 1)
   numbered_more u = record {
     counted = λ n c h. elim ((got.classes n c).0 h) [ inl x ↦ (let l = numbered.counted n c x in omega (arith, l)) | inr x ↦ omega (arith, x.1) ];
-    classes = λ t c h. elim (bool_cases (is_eq (signature_cmp s t))) [
+    classes = λ t c h. elim (cases_Bool (is_eq (signature_cmp s t))) [
       | inl same ↦
-          (let e : s.lists.items ≡ t.lists.items = lists_exact s.lists.items t.lists.items ((Equal-is (signature_cmp s t)).0 same) in
+          (let e : s.lists.items ≡ t.lists.items = lists_exact nat_exact s.lists.items t.lists.items ((Equal-is (signature_cmp s t)).0 same) in
           let found : Some count ≡ Some c = sym (u.0 t ∙ rw same refl) ∙ h in
           let number : c ≡ count = cc in
           (omega (arith, number), rw number (λ n. (λ x. subst (λ xs. Contains xs n) e ((new_class n).0 x), λ x. (new_class n).1 (subst (λ xs. Contains xs n) (sym e) x)))))
@@ -161,8 +141,8 @@ number_known groups count s known c numbered found = record {
 pub classed_more : (cuts : List ℕ) (signatures : List Signature) (cells : List Cell) (groups groups2 : List Group) (count count2 : ℕ) (s : Signature) (c : ℕ) (cell : Cell) → AreClassed cuts signatures cells groups count → IsNumbered groups groups2 count count2 s c
     → slice_get signatures (length cells) ≡ Some s → slice_get cuts (length cells) ≡ Some cell.first → cell.class ≡ c → AreClassed cuts signatures (cells ++ cell ∷ []) groups2 count2
 classed_more cuts signatures cells groups groups2 count count2 s c cell classed numbered here first is = record {
-  firsts = λ k x at. elim (pushed_at cells cell k x at) [ inl was ↦ classed.firsts k x was | inr new ↦ rw (new.0, new.1) first ];
-  classes = λ k x t at sig. elim (pushed_at cells cell k x at) [
+  firsts = λ k x at. elim (pushed_cases cells cell k x at) [ inl was ↦ classed.firsts k x was | inr new ↦ rw (new.0, new.1) first ];
+  classes = λ k x t at sig. elim (pushed_cases cells cell k x at) [
     | inl was ↦
         (let old = classed.classes k x t was sig in
         (omega (arith, old.0, numbered.more), λ n. (let a = numbered.kept n x.class old.0 in let b = old.1 n in (λ h. b.0 (a.0 h), λ h. a.1 (b.1 h)))))

@@ -16,7 +16,7 @@ use Rattle.lalrpop_alphabet.specs.declared.Group.{Group}
 use Rattle.lalrpop_alphabet.specs.declared.Lead.{Lead}
 use Rattle.lalrpop_alphabet.specs.declared.StateLeads.{StateLeads}
 use Rattle.lalrpop_alphabet.specs.declared.NfaLeads.{NfaLeads}
-use Rattle.lalrpop_alphabet.specs.Alphabet.{Classes, AreLeadsOf, IsLeadOf, HasState, IsInCell, HasClass, HasCut, LeadsBy, CutsAt, IsEndOf, IsFirstOf, AreCells, AreGroups, IsSound, IsAlphabetOf}
+use Rattle.lalrpop_alphabet.specs.Alphabet.{Classes, IsLeadOf, HasState, IsInCell, HasClass, HasCut, LeadsBy, CutsAt, IsEndOf, IsFirstOf, AreCells, AreGroups, IsSound, IsAlphabetOf}
 
 -- the letters from b to d
 abbrev b_to_d : Range
