@@ -28,11 +28,12 @@ use Rattle.lalrpop_dfa.specs.Internal.LiveItems.{live_of}
 use Rattle.lalrpop_dfa.specs.Internal.Builder.{AddedTo, AreKnown, AreAutomata, AreItemsOf}
 use Rattle.lalrpop_dfa.proofs.Members.{Has, has_from}
 use Rattle.lalrpop_dfa.proofs.Targets.{compiled_at}
-use Rattle.lalrpop_dfa.proofs.Inserting.{then_equal, item_exact, nat_exact, lists_exact}
+use Rattle.lalrpop_alphabet.proofs.Orders.{then_equal, nat_exact, lists_exact}
+use Rattle.lalrpop_dfa.proofs.Inserting.{item_exact}
 use Rattle.lalrpop_dfa.proofs.TransitionMoves.{leads_move}
 
 pub set_exact : CmpEqualImpliesEq set_cmp
-set_exact x y e = lists_exact x y (then_equal (ordering_then (slice_cmp item_cmp (live_of x) (live_of y)) (rejects_cmp x y)) (slice_cmp item_cmp x y) e).1
+set_exact x y e = lists_exact item_exact x y (then_equal (ordering_then (slice_cmp item_cmp (live_of x) (live_of y)) (rejects_cmp x y)) (slice_cmp item_cmp x y) e).1
 
 module _ (sets : List (List Item)) (set : List Item) where
   -- a set that is there passes the test
@@ -104,17 +105,11 @@ lead_exact x y e =
     let b : x.to ≡ y.to = nat_exact x.to y.to h.1 in
     ap₂ (λ i q. let l : Transition = record { item = i; to = q } in l) a b
 
-leads_exact : (xs ys : List Transition) → slice_cmp transition_cmp xs ys ≡ Equal → xs ≡ ys
-leads_exact [] [] e = refl
-leads_exact [] (y ∷ ys) e = cc
-leads_exact (x ∷ xs) [] e = cc
-leads_exact (x ∷ xs) (y ∷ ys) e = let h = then_equal _ _ e in let a : x ≡ y = lead_exact x y h.0 in let b : xs ≡ ys = leads_exact xs ys h.1 in cc
-
 pub known_more : (ns : List Graph) (s : List Item) (known known2 : BTreeMap Transitions ℕ) (sets : List (List Item)) (origins : List (ℕ × ℕ)) (n v : ℕ) (leads : Transitions) (j : ℕ) (sets2 : List (List Item)) (origins2 : List (ℕ × ℕ))
     → AreKnown ns s known sets → AreTransitions ns s v leads.list.items → AddedTo sets origins n v (move ns s v) j sets2 origins2 → Updates transitions_cmp known known2 leads (Some j) → AreKnown ns s known2 sets2
 known_more ns s known known2 sets origins n v leads j sets2 origins2 k these add u other i w h are = elim (cases_Bool (is_eq (transitions_cmp leads other))) [
   | inl same ↦
-      (let e : leads.list.items ≡ other.list.items = leads_exact leads.list.items other.list.items ((Equal-is (transitions_cmp leads other)).0 same) in
+      (let e : leads.list.items ≡ other.list.items = lists_exact lead_exact leads.list.items other.list.items ((Equal-is (transitions_cmp leads other)).0 same) in
       let found : Some j ≡ Some i = sym (u.0 other ∙ rw same refl) ∙ h in
       let number : j ≡ i = cc in
       let to : move ns s v ≡ move ns s w = leads_move ns s leads.list.items v w these (subst (AreTransitions ns s w) (sym e) are) in

@@ -1,21 +1,14 @@
 -- What noting items does to a worklist.
-use Rattle.std.proofs.Common.{◌≡◌, ℕ, ◌+◌, List, [], ◌∷◌, ◌++◌, length, refl, ap, sym, ◌∙◌, subst, arith, ◌⊎◌, inl, inr, Bool, true, false, cond, not, length-append, append_assoc, map}
+use Rattle.std.proofs.Common.{◌≡◌, ℕ, ◌+◌, List, [], ◌∷◌, ◌++◌, length, refl, ap, sym, ◌∙◌, subst, arith, inl, inr, Bool, true, false, cond, not, length-append, append_assoc, map}
 use Rattle.std.specs.Prelude.{slice_get, Some}
 use Rattle.std.specs.List.{Contains, filter}
 use Rattle.std.proofs.lemmas.Option.{get_or_from_slice_get}
-use Rattle.std.specs.Ordering.{is_eq}
-use Rattle.std.specs.Cmp.{IsTotalOrder, Equal-is}
-use Rattle.std.specs.Cmp.Lexicographic.{slice_cmp}
 use Rattle.std.specs.BTreeSet.{BTreeSet, contains, Updates, IsOrdered}
-use Rattle.std.specs.declared.cmp.Ordering.{Ordering}
-use Rattle.std.specs.declared.cmp.Ordering.TheVariants.{Equal, Less, Greater}
-use Rattle.std.proofs.lemmas.Cmp.{tied_itself}
-use Rattle.std.proofs.lemmas.Bool.Decides.{nat_tests}
 use Rattle.std.proofs.lemmas.Map.Views.{btree_set_contains_iff}
 use Rattle.std.proofs.lemmas.Map.Lookups.{CmpEqualImpliesEq}
 use Rattle.std.proofs.lemmas.List.Elements.{Contains-append_left, Contains-append_right, Contains-append_cases, Contains-push, Contains-push_cases}
-use Rattle.std.specs.Ordering.{nat_cmp, ordering_then}
-use Rattle.std.proofs.lemmas.Bool.{cases_Bool}
+use Rattle.std.specs.Ordering.{nat_cmp}
+use Rattle.lalrpop_alphabet.proofs.Orders.{then_equal, nat_exact, set_come, set_has, set_kept}
 use Rattle.lalrpop_dfa.specs.Items.{Item}
 use Rattle.lalrpop_dfa.specs.Internal.Ascending.{item_cmp}
 use Rattle.lalrpop_dfa.specs.Internal.ItemOrder.{item_total}
@@ -28,37 +21,6 @@ use Rattle.lalrpop_nfa.proofs.Contained.{contains_none, contains_only}
 use Rattle.lalrpop_dfa.specs.Internal.Worklist.{IsInserted, epsilon_targets}
 use Rattle.lalrpop_dfa.proofs.Members.{contains_from}
 
-module _ {K : Type 0} {R : K → K → Ordering} (total : IsTotalOrder R) (exact : CmpEqualImpliesEq R) (s n : BTreeSet K) (k : K) (u : Updates R s n k true) where
-  -- what a set has after an insertion
-  pub set_come : (x : K) → Contains n.keys x → Contains s.keys x ⊎ (k ≡ x)
-  set_come x h =
-      let now : contains R n x ≡ true = (btree_set_contains_iff total exact n x).1 h in
-      elim (cases_Bool (is_eq (R k x))) [
-        | inl t ↦ inr (exact k x ((Equal-is (R k x)).0 t))
-        | inr f ↦ (let e = u.0 x in let was : contains R s x ≡ true = sym (rw f at e) ∙ now in inl ((btree_set_contains_iff total exact s x).0 was))
-      ]
-
-  pub set_has : (x : K) → k ≡ x → Contains n.keys x
-  set_has x same =
-      let t : is_eq (R k x) ≡ true = (Equal-is (R k x)).1 (subst (λ y. R k y ≡ Equal) same (tied_itself total k)) in
-      (btree_set_contains_iff total exact n x).0 (u.0 x ∙ rw t refl)
-
-  pub set_kept : (x : K) → Contains s.keys x → Contains n.keys x
-  set_kept x h =
-      let was : contains R s x ≡ true = (btree_set_contains_iff total exact s x).1 h in
-      elim (cases_Bool (is_eq (R k x))) [
-        | inl t ↦ (btree_set_contains_iff total exact n x).0 (u.0 x ∙ rw t refl)
-        | inr f ↦ (btree_set_contains_iff total exact n x).0 (u.0 x ∙ rw f was)
-      ]
-
-pub then_equal : (a b : Ordering) → ordering_then a b ≡ Equal → (a ≡ Equal) × (b ≡ Equal)
-then_equal Less b e = absurd cc
-then_equal Equal b e = (refl, e)
-then_equal Greater b e = absurd cc
-
-pub nat_exact : (x y : ℕ) → nat_cmp x y ≡ Equal → x ≡ y
-nat_exact x y e = grind (arith, nat_tests)
-
 pair_same : (a b p q : ℕ) → a ≡ b → p ≡ q → let x : Item = (a, p) in let y : Item = (b, q) in x ≡ y
 pair_same a b p q e f = rw (e, f) refl
 
@@ -68,12 +30,6 @@ item_exact x y e =
     let a : x.0 ≡ y.0 = nat_exact x.0 y.0 h.0 in
     let b : x.1 ≡ y.1 = nat_exact x.1 y.1 h.1 in
     pair_same x.0 y.0 x.1 y.1 a b
-
-pub lists_exact : CmpEqualImpliesEq (slice_cmp item_cmp)
-lists_exact [] [] e = refl
-lists_exact [] (y ∷ ys) e = cc
-lists_exact (x ∷ xs) [] e = cc
-lists_exact (x ∷ xs) (y ∷ ys) e = let h = then_equal _ _ e in let a : x ≡ y = item_exact x y h.0 in let b : xs ≡ ys = lists_exact xs ys h.1 in cc
 
 -- no item
 pub inserted_none : (o p : List Item) → IsInserted o p [] o p

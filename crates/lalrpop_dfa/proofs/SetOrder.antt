@@ -19,7 +19,8 @@ use Rattle.lalrpop_dfa.specs.Internal.ItemOrder.{item_total, rejects_cmp, reject
 use Rattle.lalrpop_dfa.specs.Internal.LiveItems.{live_of, rejects_of, full, IsSplit, AreAlikeBelow}
 use Rattle.lalrpop_dfa.proofs.Members.{Has, has_from, contains_from}
 use Rattle.lalrpop_dfa.proofs.SortedLists.{sorted_below, sorted_same}
-use Rattle.lalrpop_dfa.proofs.Inserting.{then_equal, nat_exact, lists_exact}
+use Rattle.lalrpop_alphabet.proofs.Orders.{then_equal, nat_exact, lists_exact}
+use Rattle.lalrpop_dfa.proofs.Inserting.{item_exact}
 use Rattle.lalrpop_dfa.proofs.FullSets.{split_ascends, split_live, full_parts, full_reject, reject_parts, live_is_of, rejects_have, rejects_held, rejects_rise}
 
 abbrev Above : ℕ → List ℕ → Type 0
@@ -257,5 +258,5 @@ module _ (n m : ℕ) (spared spared2 : List ℕ) (live live2 : List Item) (is : 
   cmp_same o e told =
       let first : slice_cmp item_cmp (live_of s) (live_of t) ≡ Equal = lives ∙ e in
       let last : rejects_cmp s t ≡ Equal → slice_cmp item_cmp s t ≡ Equal =
-      λ (h : rejects_cmp s t ≡ Equal). subst (λ u. slice_cmp item_cmp s u ≡ Equal) (all_same (lists_exact live live2 e) (back_exact (rejects_of s) (rejects_of t) h)) (tied_itself (lists_total item_total) s) in
+      λ (h : rejects_cmp s t ≡ Equal). subst (λ u. slice_cmp item_cmp s u ≡ Equal) (all_same (lists_exact item_exact live live2 e) (back_exact (rejects_of s) (rejects_of t) h)) (tied_itself (lists_total item_total) s) in
       told ∙ (then_same (rejects_cmp s t) (slice_cmp item_cmp s t) last ∙ sym (ap (λ a. ordering_then (ordering_then a (rejects_cmp s t)) (slice_cmp item_cmp s t)) first))
