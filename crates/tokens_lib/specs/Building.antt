@@ -1,3 +1,4 @@
+-- cases: proofs/Cases/Building.antt
 -- Why some lines give no lexer.
 use Rattle.std.specs.Prelude.{ℕ, List}
 use Rattle.lalrpop_hir.specs.Tree.{Tree}

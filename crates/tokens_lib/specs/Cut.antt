@@ -1,3 +1,4 @@
+-- cases: proofs/Cases/Cut.antt
 -- What it means to cut a text into tokens.
 use Rattle.std.specs.Prelude.{◌≡◌, ℕ, List, [], ◌∷◌, ◌++◌, Some}
 use Rattle.std.specs.Str.{chars}
