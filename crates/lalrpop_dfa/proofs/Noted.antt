@@ -4,9 +4,8 @@ use Rattle.std.specs.Prelude.{slice_get, Option, Some, None}
 use Rattle.std.specs.List.{Contains}
 use Rattle.std.proofs.lemmas.List.{length-set}
 use Rattle.std.proofs.lemmas.List.Elements.{Contains-append_left, Contains-append_right, Contains-append_cases}
-use Rattle.lalrpop_nfa.proofs.Contained.{contains_only, contains_none}
+use Rattle.lalrpop_nfa.proofs.Contained.{contains_only}
 use Rattle.lalrpop_dfa.specs.Internal.Room.{AreNoted, OnlyNumbers}
-use Rattle.lalrpop_dfa.specs.Internal.Transitions.{AreBare}
 use Rattle.lalrpop_dfa.specs.declared.blocks.Transitions.{Transitions}
 use Rattle.lalrpop_dfa.proofs.Leavings.{set_at}
 
@@ -56,16 +55,6 @@ numbers_less numbers used used2 i within is had c j at = elim (set_at numbers i 
   | inl here ↦ (let clash : Some j ≡ None = here.1 in cc)
   | inr other ↦ elim (before_last used2 i c (rw is at (had c j other.1))) [ inl x ↦ x | inr same ↦ absurd (other.0 same) ]
 ]
-
--- where none is noted, no class has an edge
-pub noted_none : (by_class : List Transitions) → AreNoted by_class [] → AreBare by_class
-noted_none by_class noted c t at = elim (noted.all c t at) [ inl none ↦ none | inr has ↦ absurd (contains_none c has) ]
-
-pub bare_noted : (by_class : List Transitions) (used : List ℕ) → AreBare by_class → used ≡ [] → AreNoted by_class used
-bare_noted by_class used bare none = record {
-  within = λ k h. absurd (contains_none k (rw none at h));
-  all = λ c t at. inl (bare c t at);
-}
 
 -- a class that has an edge is noted
 pub has_noted : (by_class : List Transitions) (used : List ℕ) (c : ℕ) (t : Transitions) → AreNoted by_class used → slice_get by_class c ≡ Some t → (t.list.items ≡ [] → ⊥) → Contains used c

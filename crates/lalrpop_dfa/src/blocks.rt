@@ -1,11 +1,11 @@
 //! What leaves a set of items: the partition of its labels, and the test edges that the values of each class take.
 
-ghost use Rattle.std.specs.Prelude.{◌≡◌, ℕ, ◌<◌, ◌⊎◌, ◌↔◌, ◌++◌, ◌∷◌, [], List, length, map, slice_get, Some, IfOk, OnOk};
+ghost use Rattle.std.specs.Prelude.{◌≡◌, ℕ, ◌<◌, ◌⊎◌, ◌↔◌, [], List, length, map, IfOk, OnOk};
 ghost use Rattle.std.specs.BTreeMap.{IsEmpty};
 ghost use Rattle.std.specs.List.{Contains};
 ghost use Rattle.std.specs.List.Sorted.{IsNonDecreasing};
 ghost use Rattle.lalrpop_nfa.specs.Graph.{Graph};
-ghost use Rattle.lalrpop_alphabet.specs.Alphabet.{HasState, LeadsBy, CutsAt, AreCells, IsSound, IsInCell, IsAlphabetOf};
+ghost use Rattle.lalrpop_alphabet.specs.Alphabet.{HasState, LeadsBy, CutsAt, AreCells, IsAlphabetOf};
 ghost use Rattle.lalrpop_dfa.specs.Internal.Builder.{AreAutomata, AreItemsOf, AreUnknown};
 ghost use Rattle.lalrpop_dfa.specs.Internal.Room.{AreNoted, IsTidy, IsCleared, IsRoomOf, AreTaken, AreUsed};
 ghost use Rattle.lalrpop_dfa.specs.Items.{Item as ItemValue, IsLeaving};
