@@ -10,6 +10,10 @@ use Rattle.lalrpop_nfa.specs.Compiled.{IsCompiled, reject_state}
 use Rattle.lalrpop_ranges.specs.Partition.{IsCovered, Alike}
 use Rattle.lalrpop_dfa.specs.Items.{Item, AreCompiled, IsLeaving}
 use Rattle.lalrpop_dfa.specs.Internal.Ascending.{IsItemOf}
+use Rattle.lalrpop_dfa.specs.Internal.Builder.{AreAutomata}
+use Rattle.lalrpop_dfa.specs.Internal.Transitions.{AreTransitions}
+use Rattle.lalrpop_dfa.specs.declared.blocks.Transition.{Transition}
+use Rattle.lalrpop_nfa.proofs.Contained.{contains_none}
 use Rattle.lalrpop_dfa.specs.Internal.Subsets.{follows_by_epsilon, item_targets, move, is_dead}
 use Rattle.lalrpop_dfa.specs.Internal.BreadthFirst.{DeadStays}
 use Rattle.lalrpop_dfa.specs.Internal.Built.{subset_automaton}
@@ -137,3 +141,10 @@ module _ (ns : List Graph) (s : List Item) where
   -- two values that no label covers lead to the same set
   pub uncovered_same : (c d : ℕ) → (IsCovered (IsLeaving ns s) c → ⊥) → (IsCovered (IsLeaving ns s) d → ⊥) → move ns s c ≡ move ns s d
   uncovered_same c d a b = alike_moves c d (λ r h. ((λ k. absurd (a (r, (h, k)))), (λ k. absurd (b (r, (h, k))))))
+
+-- a value above all labels takes no test edge
+pub takes_none : (ns : List Graph) (a : AreAutomata ns) (s : List Item) (v : ℕ) (leads : List Transition) → 1114111 < v → leads ≡ [] → AreTransitions ns s v leads
+takes_none ns a s v leads large none l = (
+  λ h. absurd (contains_none l (rw none at h)),
+  λ (g, r, (member, at, edge, low)). absurd (large_uncovered a.0 ns a.1 s v large (r, ((l.item, g, l.to, (member, at, edge)), low))),
+)

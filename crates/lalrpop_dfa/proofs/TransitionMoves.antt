@@ -1,18 +1,16 @@
 -- Values that take the same test edges lead to the same set.
-use Rattle.std.proofs.Common.{◌≡◌, ℕ, ◌<◌, inl, inr, List, [], subst, sym, ◌∙◌, Some}
+use Rattle.std.proofs.Common.{◌≡◌, ℕ, inl, inr, List, subst, sym, ◌∙◌, Some}
 use Rattle.std.specs.List.{Contains}
 use Rattle.std.specs.List.Sorted.{IsPermutation}
 use Rattle.std.proofs.lemmas.List.Sorted.{Contains-permutation, IsPermutation-sym}
 use Rattle.lalrpop_nfa.specs.Graph.{Graph}
 use Rattle.lalrpop_nfa.specs.Path.{test}
 use Rattle.lalrpop_dfa.specs.Items.{Item}
-use Rattle.lalrpop_dfa.specs.Internal.Builder.{AreAutomata}
 use Rattle.lalrpop_dfa.specs.Internal.Subsets.{move}
 use Rattle.lalrpop_dfa.specs.Internal.Transitions.{IsTransition, AreTransitions}
 use Rattle.lalrpop_dfa.specs.declared.blocks.Transition.{Transition}
-use Rattle.lalrpop_nfa.proofs.Contained.{contains_none}
 use Rattle.lalrpop_dfa.proofs.Members.{contains_from}
-use Rattle.lalrpop_dfa.proofs.Dead.{TakeAlso, reads_moves, large_uncovered}
+use Rattle.lalrpop_dfa.proofs.Dead.{TakeAlso, reads_moves}
 
 module _ (ns : List Graph) (s : List Item) (leads : List Transition) where
   also_leads : (c d : ℕ) → AreTransitions ns s c leads → AreTransitions ns s d leads → (x : Item) (q : ℕ) → IsTransition ns s c x q → IsTransition ns s d x q
@@ -37,10 +35,3 @@ module _ (ns : List Graph) (s : List Item) (leads : List Transition) where
 -- in another order they are the same edges
 pub takes_sorted : (ns : List Graph) (s : List Item) (v : ℕ) (leads sorted : List Transition) → IsPermutation leads sorted → AreTransitions ns s v leads → AreTransitions ns s v sorted
 takes_sorted ns s v leads sorted same are l = (λ h. (are l).0 (Contains-permutation sorted leads l (IsPermutation-sym leads sorted same) h), λ h. Contains-permutation leads sorted l same ((are l).1 h))
-
--- a value above all labels takes no test edge
-pub takes_none : (ns : List Graph) (a : AreAutomata ns) (s : List Item) (v : ℕ) (leads : List Transition) → 1114111 < v → leads ≡ [] → AreTransitions ns s v leads
-takes_none ns a s v leads large none l = (
-  λ h. absurd (contains_none l (rw none at h)),
-  λ (g, r, (member, at, edge, low)). absurd (large_uncovered a.0 ns a.1 s v large (r, ((l.item, g, l.to, (member, at, edge)), low))),
-)

@@ -13,7 +13,7 @@ use Rattle.lalrpop_dfa.specs.Internal.Subsets.{move}
 use Rattle.lalrpop_dfa.specs.declared.blocks.Block.{Block}
 use Rattle.lalrpop_dfa.proofs.Builds.{edging_none, edging_more, edging_done, added_of}
 use Rattle.lalrpop_dfa.proofs.KnownClasses.{none_known, nothing_known, numbered_more, range_at}
-use Rattle.lalrpop_dfa.proofs.TransitionMoves.{takes_none}
+use Rattle.lalrpop_dfa.proofs.Dead.{takes_none}
 use Rattle.lalrpop_dfa.proofs.builder.Sets.edges_of.Goals as goal
 
 pub loop-block-init : goal.loop-block-init
