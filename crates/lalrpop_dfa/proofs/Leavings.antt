@@ -3,7 +3,7 @@ use Rattle.std.proofs.Common.{◌≡◌, ℕ, zero, suc, ◌+◌, ◌<◌, ◌�
 use Rattle.std.specs.Prelude.{slice_get, Some, ◌↔◌}
 use Rattle.std.specs.List.{Contains}
 use Rattle.std.proofs.lemmas.Option.{slice_get_read, slice_get_within, slice_get-get_or}
-use Rattle.std.proofs.lemmas.List.{take_more, get_or_default}
+use Rattle.std.proofs.lemmas.List.{get_or_default}
 use Rattle.std.proofs.lemmas.List.{length-set}
 use Rattle.std.proofs.lemmas.List.Elements.{Contains-append_left, Contains-append_right, Contains-append_cases}
 use Rattle.lalrpop_alphabet.specs.Alphabet.{Classes, AreLeadsOf, IsLeadOf, HasClass, HasCut, LeadsBy, CutsAt}
@@ -17,6 +17,7 @@ use Rattle.lalrpop_dfa.specs.declared.blocks.Transition.{Transition}
 use Rattle.lalrpop_dfa.specs.declared.blocks.Transitions.{Transitions}
 use Rattle.lalrpop_nfa.proofs.Contained.{contains_only, contains_none}
 use Rattle.lalrpop_kernels.proofs.NumberedLemmas.{pushed_cases}
+use Rattle.lalrpop_dfa.proofs.Members.{taken_more}
 
 pub set_at : {X : Type 0} (xs : List X) (i : ℕ) (x : X) (k : ℕ) (y : X) → i < length xs → slice_get (slice_set xs i x) k ≡ Some y → ((k ≡ i) × (y ≡ x)) ⊎ (((k ≡ i) → ⊥) × (slice_get xs k ≡ Some y))
 set_at [] i x k y l h = absurd (omega (arith, l))
@@ -67,14 +68,6 @@ gained_then {E} {F} {G} old cur new f g both = (
         λ h. elim h [ inl x ↦ b.1 (inl (a.1 (inl x))) | inr x ↦ elim (d.1 x) [ inl y ↦ b.1 (inl (a.1 (inr y))) | inr y ↦ b.1 (inr y) ] ],
       ),
 )
-
--- what the first elements have, and what one more has
-pub taken_more : {X : Type 0} (xs : List X) (k : ℕ) (x y : X) → k < length xs → x ≡ get_or xs k x → (Contains (take k xs) y ⊎ (y ≡ x)) ↔ Contains (take (k + 1) xs) y
-taken_more xs k x y l is =
-    let more : take (k + 1) xs ≡ take k xs ++ x ∷ [] = take_more xs k x l ∙ ap (λ z. take k xs ++ z ∷ []) (sym is) in (
-      λ h. rw more (elim h [ inl a ↦ Contains-append_left (take k xs) (x ∷ []) y a | inr a ↦ Contains-append_right (take k xs) (x ∷ []) y (rw a (0, omega arith, refl)) ]),
-      λ h. elim (Contains-append_cases (take k xs) (x ∷ []) y (rw more at h)) [ inl a ↦ inl a | inr a ↦ inr (sym (contains_only x y a)) ],
-    )
 
 -- one more class of a list gets the edge
 pub class_more : (cs : List ℕ) (k d : ℕ) (edge : Transition) → k < length cs → (c : ℕ) (l : Transition) → ((Contains (take k cs) c × (l ≡ edge)) ⊎ ((c ≡ get_or cs k d) × (l ≡ edge))) ↔ (Contains (take (k + 1) cs) c × (l ≡ edge))

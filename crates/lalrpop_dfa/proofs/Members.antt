@@ -1,6 +1,10 @@
 -- Membership in lists, by recursion.
-use Rattle.std.proofs.Common.{◌≡◌, ℕ, zero, suc, ◌⊎◌, inl, inr, List, [], ◌∷◌, ◌++◌, map, refl, ap, sym, ◌∙◌, arith, Bool, true, false, cond, Some}
+use Rattle.std.proofs.Common.{◌≡◌, ℕ, zero, suc, ◌+◌, ◌<◌, ◌⊎◌, inl, inr, List, [], ◌∷◌, ◌++◌, length, get_or, take, map, refl, ap, sym, ◌∙◌, arith, Bool, true, false, cond, Some}
+use Rattle.std.specs.Prelude.{◌↔◌}
 use Rattle.std.specs.List.{Contains, list_any, list_all, filter, flat_map, slice_get, AllByRecursion}
+use Rattle.std.proofs.lemmas.List.{take_more}
+use Rattle.std.proofs.lemmas.List.Elements.{Contains-append_left, Contains-append_right, Contains-append_cases}
+use Rattle.lalrpop_nfa.proofs.Contained.{contains_only}
 use Rattle.std.proofs.lemmas.Bool.{or_cases, or_left, or_right, and_parts, and_from}
 
 -- x is an element
@@ -110,3 +114,11 @@ module _ {X Y : Type 0} where
     | inl here ↦ (z, (inl refl, here))
     | inr there ↦ (let r : (x : X) × (Has xs x × Has (f x) y) = flat_map_has f xs y there in (r.0, (inr r.1.0, r.1.1)))
   ]
+
+-- what the first elements have, and what one more has
+pub taken_more : {X : Type 0} (xs : List X) (k : ℕ) (x y : X) → k < length xs → x ≡ get_or xs k x → (Contains (take k xs) y ⊎ (y ≡ x)) ↔ Contains (take (k + 1) xs) y
+taken_more xs k x y l is =
+    let more : take (k + 1) xs ≡ take k xs ++ x ∷ [] = take_more xs k x l ∙ ap (λ z. take k xs ++ z ∷ []) (sym is) in (
+      λ h. rw more (elim h [ inl a ↦ Contains-append_left (take k xs) (x ∷ []) y a | inr a ↦ Contains-append_right (take k xs) (x ∷ []) y (rw a (0, omega arith, refl)) ]),
+      λ h. elim (Contains-append_cases (take k xs) (x ∷ []) y (rw more at h)) [ inl a ↦ inl a | inr a ↦ inr (sym (contains_only x y a)) ],
+    )

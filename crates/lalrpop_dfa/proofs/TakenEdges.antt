@@ -28,7 +28,7 @@ use Rattle.lalrpop_dfa.specs.declared.blocks.Transition.{Transition}
 use Rattle.lalrpop_nfa.proofs.Contained.{contains_none}
 use Rattle.lalrpop_dfa.proofs.ByPattern.{by_append, of_one, less_at_most, take_parts, drop_parts}
 use Rattle.lalrpop_dfa.proofs.FullSets.{item_is}
-use Rattle.lalrpop_dfa.proofs.Leavings.{taken_more}
+use Rattle.lalrpop_dfa.proofs.Members.{taken_more}
 use Rattle.lalrpop_dfa.proofs.Members.{Has, has_from, contains_from, has_map, map_has, has_flat_map, flat_map_has, at_has, has_at}
 use Rattle.lalrpop_dfa.proofs.Sets.{closed_ascends, closed_parts, closed_has}
 use Rattle.lalrpop_dfa.proofs.SortedLists.{never_less, sorted_same}
