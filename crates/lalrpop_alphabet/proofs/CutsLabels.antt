@@ -10,7 +10,8 @@ use Rattle.lalrpop_alphabet.specs.Internal.Grouped.{HasLabel}
 use Rattle.lalrpop_alphabet.specs.Internal.Cuts.{HasAllOf}
 use Rattle.lalrpop_kernels.proofs.NumberedLemmas.{pushed_cases, pushed_keeps, pushed_last}
 use Rattle.lalrpop_alphabet.specs.Internal.Leading.{range_cmp}
-use Rattle.lalrpop_alphabet.proofs.Orders.{range_total, range_exact, set_come, set_has, set_kept}
+use Rattle.lalrpop_alphabet.proofs.LabelOrder.{range_total, range_exact}
+use Rattle.lalrpop_kernels.proofs.Orders.{set_come, set_has, set_kept}
 
 -- ---- one more label
 module _ (s n : BTreeSet Range) (k : Range) (u : Updates range_cmp s n k true) where

@@ -14,7 +14,8 @@ use Rattle.lalrpop_nfa.specs.Walk.{leaves}
 use Rattle.lalrpop_nfa.proofs.Contained.{filter_in, filter_out}
 use Rattle.lalrpop_nfa.specs.declared.edge.Edge.{Edge}
 use Rattle.lalrpop_kernels.proofs.NumberedLemmas.{pushed_cases, pushed_keeps, pushed_last}
-use Rattle.lalrpop_alphabet.proofs.Orders.{lists_exact, range_exact}
+use Rattle.lalrpop_alphabet.proofs.LabelOrder.{range_exact}
+use Rattle.lalrpop_kernels.proofs.Orders.{lists_exact}
 use Rattle.std.proofs.lemmas.Bool.{cases_Bool}
 use Rattle.lalrpop_alphabet.specs.Alphabet.{AreLeadsOf, IsLeadOf}
 use Rattle.lalrpop_alphabet.specs.declared.Lead.{Lead}

@@ -1,6 +1,6 @@
 mod Cases
 mod Assembling
-pub mod Orders
+pub mod LabelOrder
 pub mod Cuts
 pub mod CutsLabels
 pub mod GroupLeads

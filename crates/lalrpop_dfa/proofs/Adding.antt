@@ -28,7 +28,7 @@ use Rattle.lalrpop_dfa.specs.Internal.LiveItems.{live_of}
 use Rattle.lalrpop_dfa.specs.Internal.Builder.{AddedTo, AreKnown, AreAutomata, AreItemsOf}
 use Rattle.lalrpop_dfa.proofs.Members.{Has, has_from}
 use Rattle.lalrpop_dfa.proofs.Targets.{compiled_at}
-use Rattle.lalrpop_alphabet.proofs.Orders.{then_equal, nat_exact, lists_exact}
+use Rattle.lalrpop_kernels.proofs.Orders.{then_equal, nat_exact, lists_exact}
 use Rattle.lalrpop_dfa.proofs.Inserting.{item_exact}
 use Rattle.lalrpop_dfa.proofs.TransitionMoves.{leads_move}
 

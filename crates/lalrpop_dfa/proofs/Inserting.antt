@@ -8,7 +8,7 @@ use Rattle.std.proofs.lemmas.Map.Views.{btree_set_contains_iff}
 use Rattle.std.proofs.lemmas.Map.Lookups.{CmpEqualImpliesEq}
 use Rattle.std.proofs.lemmas.List.Elements.{Contains-append_left, Contains-append_right, Contains-append_cases, Contains-push, Contains-push_cases}
 use Rattle.std.specs.Ordering.{nat_cmp}
-use Rattle.lalrpop_alphabet.proofs.Orders.{then_equal, nat_exact, set_come, set_has, set_kept}
+use Rattle.lalrpop_kernels.proofs.Orders.{then_equal, nat_exact, set_come, set_has, set_kept}
 use Rattle.lalrpop_dfa.specs.Items.{Item}
 use Rattle.lalrpop_dfa.specs.Internal.Ascending.{item_cmp}
 use Rattle.lalrpop_dfa.specs.Internal.ItemOrder.{item_total}

@@ -19,7 +19,7 @@ use Rattle.lalrpop_dfa.specs.Internal.ItemOrder.{item_total, rejects_cmp, reject
 use Rattle.lalrpop_dfa.specs.Internal.LiveItems.{live_of, rejects_of, full, IsSplit, AreAlikeBelow}
 use Rattle.lalrpop_dfa.proofs.Members.{Has, has_from, contains_from}
 use Rattle.lalrpop_dfa.proofs.SortedLists.{sorted_below, sorted_same}
-use Rattle.lalrpop_alphabet.proofs.Orders.{then_equal, nat_exact, lists_exact}
+use Rattle.lalrpop_kernels.proofs.Orders.{then_equal, nat_exact, lists_exact}
 use Rattle.lalrpop_dfa.proofs.Inserting.{item_exact}
 use Rattle.lalrpop_dfa.proofs.FullSets.{split_ascends, split_live, full_parts, full_reject, reject_parts, live_is_of, rejects_have, rejects_held, rejects_rise}
 

@@ -1,2 +1,3 @@
 mod Cases
 pub mod NumberedLemmas
+pub mod Orders

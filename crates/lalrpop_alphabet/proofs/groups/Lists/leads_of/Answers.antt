@@ -3,7 +3,7 @@ use Rattle.std.specs.List.{filter}
 use Rattle.lalrpop_hir.specs.Range.{Range}
 use Rattle.lalrpop_nfa.specs.Walk.{leaves}
 use Rattle.lalrpop_alphabet.proofs.GroupLeads.{reading_turned, reading_more, reading_done}
-use Rattle.lalrpop_alphabet.proofs.Orders.{range_same}
+use Rattle.lalrpop_alphabet.proofs.LabelOrder.{range_same}
 use Rattle.lalrpop_alphabet.proofs.groups.Lists.leads_of.Goals as goal
 
 pub loop-edge-preserved : goal.loop-edge-preserved

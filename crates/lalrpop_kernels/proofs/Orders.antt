@@ -1,5 +1,5 @@
 -- What is equal in an order is one; and what a set has after an insertion.
-use Rattle.std.proofs.Common.{◌≡◌, ℕ, ◌⊎◌, inl, inr, List, [], ◌∷◌, refl, ap₂, sym, ◌∙◌, subst, arith, true}
+use Rattle.std.proofs.Common.{◌≡◌, ℕ, ◌⊎◌, inl, inr, List, [], ◌∷◌, refl, sym, ◌∙◌, subst, arith, true}
 use Rattle.std.specs.List.{Contains}
 use Rattle.std.specs.Ordering.{is_eq, nat_cmp, ordering_then}
 use Rattle.std.specs.Cmp.{IsTotalOrder, Equal-is}
@@ -9,11 +9,9 @@ use Rattle.std.specs.declared.cmp.Ordering.{Ordering}
 use Rattle.std.specs.declared.cmp.Ordering.TheVariants.{Equal, Less, Greater}
 use Rattle.std.proofs.lemmas.Bool.{cases_Bool}
 use Rattle.std.proofs.lemmas.Bool.Decides.{nat_tests}
-use Rattle.std.proofs.lemmas.Cmp.{tied_itself, nat_cmp_total, on_total, then_total}
+use Rattle.std.proofs.lemmas.Cmp.{tied_itself}
 use Rattle.std.proofs.lemmas.Map.Views.{btree_set_contains_iff}
 use Rattle.std.proofs.lemmas.Map.Lookups.{CmpEqualImpliesEq}
-use Rattle.lalrpop_hir.specs.Range.{Range}
-use Rattle.lalrpop_alphabet.specs.Internal.Leading.{range_cmp}
 
 -- ---- what is equal is one
 pub then_equal : (a b : Ordering) → ordering_then a b ≡ Equal → (a ≡ Equal) × (b ≡ Equal)
@@ -29,18 +27,6 @@ lists_exact exact [] [] e = refl
 lists_exact exact [] (y ∷ ys) e = cc
 lists_exact exact (x ∷ xs) [] e = cc
 lists_exact exact (x ∷ xs) (y ∷ ys) e = let h = then_equal _ _ e in let a : x ≡ y = exact x y h.0 in let b : xs ≡ ys = lists_exact exact xs ys h.1 in cc
-
--- a label with the fields of another one is that one
-pub range_same : (a b r s : Range) → a ≡ r → b ≡ s → b.start ≡ a.start → b.end ≡ a.end → s ≡ r
-range_same a b r s p q start end = sym q ∙ ap₂ (λ x y. let t : Range = record { start = x; end = y } in t) start end ∙ p
-
-pub range_exact : CmpEqualImpliesEq range_cmp
-range_exact x y e =
-    let h = then_equal (nat_cmp x.start y.start) (nat_cmp x.end y.end) e in
-    range_same y x y x refl refl (nat_exact x.start y.start h.0) (nat_exact x.end y.end h.1)
-
-pub range_total : IsTotalOrder range_cmp
-range_total = then_total (on_total (λ (x : Range). x.start) nat_cmp_total) (on_total (λ (x : Range). x.end) nat_cmp_total)
 
 -- ---- what a set has after an insertion
 module _ {K : Type 0} {R : K → K → Ordering} (total : IsTotalOrder R) (exact : CmpEqualImpliesEq R) (s n : BTreeSet K) (k : K) (u : Updates R s n k true) where
