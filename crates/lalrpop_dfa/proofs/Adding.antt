@@ -3,7 +3,7 @@ use Rattle.std.proofs.Common.{◌≡◌, ℕ, suc, ◌+◌, ◌<◌, inl, inr, L
 use Rattle.std.specs.Prelude.{slice_get, Some}
 use Rattle.std.specs.BTreeMap.{BTreeMap, Updates}
 use Rattle.std.specs.List.{list_any}
-use Rattle.std.specs.Ordering.{is_eq}
+use Rattle.std.specs.Ordering.{is_eq, nat_cmp, ordering_then}
 use Rattle.std.specs.Cmp.{Equal-is}
 use Rattle.std.specs.declared.cmp.Ordering.TheVariants.{Equal}
 use Rattle.std.proofs.lemmas.Cmp.{tied_itself}
@@ -11,26 +11,28 @@ use Rattle.std.proofs.lemmas.Map.Keys.{any_passes_from_place}
 use Rattle.std.proofs.lemmas.Map.Lookups.{CmpEqualImpliesEq}
 use Rattle.std.proofs.lemmas.Option.{slice_get_within}
 use Rattle.lalrpop_nfa.specs.Graph.{Graph}
-use Rattle.lalrpop_dfa.specs.Items.{Item}
+use Rattle.lalrpop_items.specs.Automata.{Item}
 use Rattle.lalrpop_kernels.specs.Kernels.{Kernels, IsNumberOf, added}
 use Rattle.lalrpop_kernels.proofs.NumberedLemmas.{pushed_cases, pushed_keeps, pushed_last}
 use Rattle.lalrpop_nfa.specs.Compiled.{start_state}
-use Rattle.lalrpop_dfa.specs.Internal.Subsets.{starts_from, no_graph, move}
+use Rattle.lalrpop_items.specs.Subsets.{starts_from, no_graph, move}
 use Rattle.std.specs.Cmp.Lexicographic.{slice_cmp}
-use Rattle.std.specs.Ordering.{nat_cmp, ordering_then}
 use Rattle.std.proofs.lemmas.Bool.{cases_Bool}
-use Rattle.lalrpop_dfa.specs.Internal.Ascending.{item_cmp}
-use Rattle.lalrpop_dfa.specs.Internal.Transitions.{AreTransitions, transition_cmp, transitions_cmp}
-use Rattle.lalrpop_dfa.specs.declared.blocks.Transition.{Transition}
+use Rattle.lalrpop_items.specs.Ascending.{item_cmp}
+use Rattle.lalrpop_items.specs.Transitions.{AreTransitions, transition_cmp}
+use Rattle.lalrpop_dfa.specs.Internal.Transitions.{transitions_cmp}
+use Rattle.lalrpop_items.specs.declared.transitions.Transition.{Transition}
 use Rattle.lalrpop_dfa.specs.declared.blocks.Transitions.{Transitions}
-use Rattle.lalrpop_dfa.specs.Internal.ItemOrder.{rejects_cmp, set_cmp, set_total}
-use Rattle.lalrpop_dfa.specs.Internal.LiveItems.{live_of}
-use Rattle.lalrpop_dfa.specs.Internal.Builder.{AddedTo, AreKnown, AreAutomata, AreItemsOf}
-use Rattle.lalrpop_dfa.proofs.Members.{Has, has_from}
-use Rattle.lalrpop_dfa.proofs.Targets.{compiled_at}
+use Rattle.lalrpop_items.specs.ItemOrder.{rejects_cmp, set_cmp}
+use Rattle.lalrpop_items.specs.Internal.OrderLaws.{set_total}
+use Rattle.lalrpop_items.specs.LiveItems.{live_of}
+use Rattle.lalrpop_dfa.specs.Internal.Builder.{AddedTo, AreKnown}
+use Rattle.lalrpop_items.specs.Given.{AreAutomata, AreItemsOf}
+use Rattle.lalrpop_items.proofs.Members.{Has, has_from}
+use Rattle.lalrpop_items.proofs.Targets.{compiled_at}
 use Rattle.lalrpop_kernels.proofs.Orders.{then_equal, nat_exact, lists_exact}
-use Rattle.lalrpop_dfa.proofs.Inserting.{item_exact}
-use Rattle.lalrpop_dfa.proofs.TransitionMoves.{leads_move}
+use Rattle.lalrpop_items.proofs.Inserting.{item_exact}
+use Rattle.lalrpop_items.proofs.TransitionMoves.{leads_move}
 
 pub set_exact : CmpEqualImpliesEq set_cmp
 set_exact x y e = lists_exact item_exact x y (then_equal (ordering_then (slice_cmp item_cmp (live_of x) (live_of y)) (rejects_cmp x y)) (slice_cmp item_cmp x y) e).1

@@ -11,20 +11,20 @@ use Rattle.std.proofs.lemmas.List.{take_more, length-take-le, get_or-take, get_o
 use Rattle.std.proofs.lemmas.List.Elements.{Contains-append_left, Contains-push, Contains-push_cases}
 use Rattle.std.proofs.lemmas.Map.Keys.{Less-from_sorted}
 use Rattle.lalrpop_nfa.specs.Graph.{Graph}
-use Rattle.lalrpop_dfa.specs.Items.{Item}
-use Rattle.lalrpop_dfa.specs.Internal.Ascending.{item_cmp, AreAscendingItems, IsItemOf}
+use Rattle.lalrpop_items.specs.Automata.{Item}
+use Rattle.lalrpop_items.specs.Ascending.{item_cmp, AreAscendingItems}
+use Rattle.lalrpop_items.specs.Given.{IsItemOf, AreAutomata, AreItemsOf}
 use Rattle.lalrpop_nfa.specs.Compiled.{accept_state}
-use Rattle.lalrpop_dfa.specs.Internal.Subsets.{is_dead}
+use Rattle.lalrpop_items.specs.Subsets.{is_dead}
 use Rattle.lalrpop_dfa.specs.Internal.Best.{accepts, IsStrong, IsBestOf, IsBest, raised}
 use Rattle.std.proofs.lemmas.Option.{slice_get_within}
-use Rattle.lalrpop_dfa.specs.Internal.Builder.{AreAutomata, AreItemsOf}
 use Rattle.lalrpop_dfa.specs.Internal.Built.{IsStrongestIn, IsKindOf, IsTied}
 use Rattle.lalrpop_dfa.specs.declared.Kind.TheVariants.{Accepts, Neither}
 use Rattle.lalrpop_dfa.specs.declared.best.Best.{Best}
 use Rattle.lalrpop_nfa.specs.declared.edge.StateKind.TheVariants.{Accept}
 use Rattle.lalrpop_nfa.proofs.Contained.{contains_none}
-use Rattle.lalrpop_dfa.proofs.Members.{has_from, contains_from, has_filter, filter_has, has_map, map_has}
-use Rattle.lalrpop_dfa.proofs.Targets.{compiled_at}
+use Rattle.lalrpop_items.proofs.Members.{has_from, contains_from, has_filter, filter_has, has_map, map_has}
+use Rattle.lalrpop_items.proofs.Targets.{compiled_at}
 
 -- ---- one item
 told : (b : Bool) (n m : ℕ) → (IsTrue b → n ≡ m) → (n ≡ m → IsTrue b) → b ≡ (n == m)

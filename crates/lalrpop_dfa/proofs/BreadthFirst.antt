@@ -3,8 +3,7 @@ use Rattle.std.proofs.Common.{◌≡◌, ℕ, ◌<◌, ◌≤◌, ◌⊎◌, inl
 use Rattle.std.proofs.lemmas.Bool.{cases_order, cases_lt}
 use Rattle.lalrpop_hir.specs.Word.{Shortlex}
 use Rattle.lalrpop_hir.proofs.Words.{Shortlex-irreflexive, Shortlex-transitive}
-use Rattle.lalrpop_dfa.specs.Internal.BreadthFirst.{ShortlexAtMost}
-use Rattle.lalrpop_dfa.specs.Internal.BreadthFirst.{Automaton, after, DeadStays, nth, from_of, value_of, NotAfter, Covered, IsBreadthFirst, word_of, word, Settled, IsLeast}
+use Rattle.lalrpop_dfa.specs.Internal.BreadthFirst.{ShortlexAtMost, Automaton, after, DeadStays, nth, from_of, value_of, NotAfter, Covered, IsBreadthFirst, word_of, word, Settled, IsLeast}
 use Rattle.lalrpop_dfa.proofs.WordOrder.{less_push, less_last, less_longer, nil_less, at_most_push, at_most_less, less_at_most, from_the_end}
 use Rattle.lalrpop_dfa.proofs.Origins.{fuel_enough, word_step}
 

@@ -12,15 +12,17 @@ use Rattle.lalrpop_nfa.specs.Graph.{Graph}
 use Rattle.lalrpop_ranges.specs.Partition.{IsPartition}
 use Rattle.lalrpop_dfa.specs.Dfa.{Row, Recognizes, IsWellFormed}
 use Rattle.lalrpop_dfa.specs.Clash.{NoClash}
-use Rattle.lalrpop_dfa.specs.Items.{Item, AreCompiled, IsLeaving, HoldsItems, OthersReject, IsInWordOrder}
-use Rattle.lalrpop_dfa.specs.Internal.Ascending.{AreAscendingItems}
-use Rattle.lalrpop_dfa.specs.Internal.Subsets.{move, all_items}
+use Rattle.lalrpop_items.specs.Automata.{Item, AreCompiled}
+use Rattle.lalrpop_dfa.specs.Items.{IsLeaving, HoldsItems, OthersReject, IsInWordOrder}
+use Rattle.lalrpop_items.specs.Ascending.{AreAscendingItems}
+use Rattle.lalrpop_items.specs.Subsets.{move, all_items}
 use Rattle.lalrpop_dfa.specs.Internal.BreadthFirst.{Automaton, IsBreadthFirst, Added, nth, value_of, from_of, word}
 use Rattle.lalrpop_dfa.specs.Internal.Built.{subset_automaton, IsKindOf, IsRowOf, IsTied}
-use Rattle.lalrpop_dfa.specs.Internal.Builder.{AreAutomata, AreItemsOf, AddedTo, AreSmall, Keep, IsEdged, IsBuiltTo, IsTieOf, IsClashOf}
+use Rattle.lalrpop_items.specs.Given.{AreAutomata, AreItemsOf}
+use Rattle.lalrpop_dfa.specs.Internal.Builder.{AddedTo, AreSmall, Keep, IsEdged, IsBuiltTo, IsTieOf, IsClashOf}
 use Rattle.lalrpop_dfa.specs.declared.error.DfaConstructionError.{DfaConstructionError}
 use Rattle.lalrpop_dfa.specs.declared.error.DfaConstructionError.TheVariants.{NfaConstructionError as Refused, Ambiguity, OutOfMemory}
-use Rattle.lalrpop_dfa.proofs.Sets.{first_set_ascends, first_set_items, move_ascends, move_items}
+use Rattle.lalrpop_items.proofs.Sets.{first_set_ascends, first_set_items, move_ascends, move_items}
 use Rattle.lalrpop_dfa.proofs.RowSteps.{added_keeps, added_is, past, taken_range, taken_other, tests_lead_more, tests_lead_kept, run_small}
 use Rattle.lalrpop_dfa.proofs.BuiltTable.{built_stands}
 use Rattle.lalrpop_dfa.proofs.TiedClash.{tied_is_clash_after_rows}

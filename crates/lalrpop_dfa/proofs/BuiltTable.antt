@@ -9,18 +9,20 @@ use Rattle.lalrpop_nfa.specs.Graph.{Graph}
 use Rattle.lalrpop_ranges.specs.Partition.{IsCovered, AreAscending, IsPartition}
 use Rattle.lalrpop_dfa.specs.Clash.{NoClash}
 use Rattle.lalrpop_dfa.specs.Dfa.{Row, edge_target, step, run, after as state_after, IsRightKind, IsReject, Recognizes, AreAscendingTests, IsWellFormed}
-use Rattle.lalrpop_dfa.specs.Items.{Item, AreCompiled, IsReached, IsLeaving, HoldsItems, OthersReject, IsInWordOrder}
-use Rattle.lalrpop_dfa.specs.Internal.Ascending.{AreAscendingItems}
-use Rattle.lalrpop_dfa.specs.Internal.Subsets.{first_set_of, move, is_dead}
+use Rattle.lalrpop_items.specs.Automata.{Item, AreCompiled}
+use Rattle.lalrpop_dfa.specs.Items.{IsReached, IsLeaving, HoldsItems, OthersReject, IsInWordOrder}
+use Rattle.lalrpop_items.specs.Ascending.{AreAscendingItems}
+use Rattle.lalrpop_items.specs.Subsets.{first_set_of, move, is_dead}
 use Rattle.lalrpop_dfa.specs.Internal.BreadthFirst.{IsBreadthFirst, nth, value_of, after, word}
 use Rattle.lalrpop_dfa.specs.Internal.Built.{subset_automaton, IsKindOf, IsRowOf}
 use Rattle.lalrpop_dfa.specs.declared.Kind.TheVariants.{Reject}
-use Rattle.lalrpop_dfa.proofs.Members.{Has, has_from, contains_from, has_map, map_has}
+use Rattle.lalrpop_items.proofs.Members.{Has, has_from, contains_from, has_map, map_has}
 use Rattle.lalrpop_dfa.proofs.Origins.{word_is_word}
 use Rattle.lalrpop_dfa.proofs.BreadthFirst.{word_reaches, in_order}
-use Rattle.lalrpop_dfa.proofs.Sets.{same_items}
+use Rattle.lalrpop_items.proofs.Sets.{same_items}
 use Rattle.lalrpop_dfa.proofs.ReachedItems.{after_ascends, reached_items}
-use Rattle.lalrpop_dfa.proofs.Dead.{dead_states, dead_from, dead_stays, large_uncovered, large_dead, uncovered_same}
+use Rattle.lalrpop_items.proofs.Moved.{dead_states, dead_from}
+use Rattle.lalrpop_dfa.proofs.Dead.{dead_stays, large_uncovered, large_dead, uncovered_same}
 use Rattle.lalrpop_dfa.proofs.LeavingBlocks.{outside_blocks}
 use Rattle.lalrpop_dfa.proofs.SetWinners.{dead_kind, reject_kind, kind_says, kind_not_ambiguous}
 

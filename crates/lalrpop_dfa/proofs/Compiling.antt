@@ -6,9 +6,10 @@ use Rattle.lalrpop_hir.specs.Tree.{Tree}
 use Rattle.lalrpop_nfa.specs.Graph.{Graph}
 use Rattle.lalrpop_nfa.specs.Fault.{fault}
 use Rattle.lalrpop_nfa.specs.Compiled.{IsCompiled, HasFixedEdges}
-use Rattle.lalrpop_dfa.specs.Items.{AreCompiled}
+use Rattle.lalrpop_items.specs.Automata.{AreCompiled}
 use Rattle.lalrpop_dfa.specs.Report.{NoFault, FirstFault}
-use Rattle.lalrpop_dfa.specs.Internal.Builder.{AreFixed, IsFaultOf, IsRefusalOf}
+use Rattle.lalrpop_items.specs.Given.{AreFixed}
+use Rattle.lalrpop_dfa.specs.Internal.Builder.{IsFaultOf, IsRefusalOf}
 use Rattle.lalrpop_nfa.specs.declared.error.NfaConstructionError.TheVariants.{OutOfMemory as NoMemory}
 use Rattle.lalrpop_nfa.specs.declared.error.NfaConstructionError.{NfaConstructionError}
 use Rattle.lalrpop_dfa.specs.declared.error.DfaConstructionError.{DfaConstructionError}

@@ -14,10 +14,12 @@ use Rattle.lalrpop_ranges.proofs.Cells.{BlocksBelow, IsCut, parts_none, parts_ke
 use Rattle.lalrpop_ranges.proofs.Partition.{IsPartition-from_parts}
 use Rattle.lalrpop_alphabet.specs.Alphabet.{AreCells, IsInCell, IsFirstOf}
 use Rattle.lalrpop_alphabet.specs.declared.Cell.{Cell}
-use Rattle.lalrpop_dfa.specs.Items.{Item, IsLeaving}
+use Rattle.lalrpop_items.specs.Automata.{Item}
+use Rattle.lalrpop_dfa.specs.Items.{IsLeaving}
 use Rattle.lalrpop_dfa.specs.Internal.Room.{IsTaken, AreTaken}
-use Rattle.lalrpop_dfa.specs.Internal.Transitions.{AreBelow, IsLaidOut, IsTransition, AreTransitions}
-use Rattle.lalrpop_dfa.specs.declared.blocks.Transition.{Transition}
+use Rattle.lalrpop_dfa.specs.Internal.Transitions.{AreBelow, IsLaidOut}
+use Rattle.lalrpop_items.specs.Transitions.{IsTransition, AreTransitions}
+use Rattle.lalrpop_items.specs.declared.transitions.Transition.{Transition}
 use Rattle.lalrpop_dfa.specs.declared.blocks.Transitions.{Transitions}
 use Rattle.lalrpop_dfa.specs.declared.blocks.Block.{Block}
 use Rattle.lalrpop_nfa.proofs.Contained.{contains_none, contains_only}

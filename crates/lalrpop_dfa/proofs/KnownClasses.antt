@@ -8,16 +8,16 @@ use Rattle.std.specs.List.{Contains}
 use Rattle.lalrpop_hir.specs.Range.{Range}
 use Rattle.lalrpop_dfa.specs.declared.blocks.Block.{Block}
 use Rattle.lalrpop_nfa.specs.Graph.{Graph}
-use Rattle.lalrpop_dfa.specs.Items.{Item}
+use Rattle.lalrpop_items.specs.Automata.{Item}
 use Rattle.lalrpop_dfa.specs.Internal.Builder.{AddedTo, AreKnown, AreUnknown, AreKnownClasses}
 use Rattle.lalrpop_dfa.specs.Internal.Room.{OnlyNumbers}
-use Rattle.lalrpop_dfa.specs.Internal.Subsets.{move}
-use Rattle.lalrpop_dfa.specs.Internal.Transitions.{AreTransitions}
+use Rattle.lalrpop_items.specs.Subsets.{move}
+use Rattle.lalrpop_items.specs.Transitions.{AreTransitions}
 use Rattle.lalrpop_dfa.specs.declared.blocks.Transitions.{Transitions}
 use Rattle.lalrpop_dfa.proofs.Adding.{added_stays, added_at}
 use Rattle.lalrpop_kernels.proofs.NumberedLemmas.{pushed_cases}
 use Rattle.lalrpop_dfa.proofs.Leavings.{set_at}
-use Rattle.lalrpop_dfa.proofs.TransitionMoves.{leads_move}
+use Rattle.lalrpop_items.proofs.TransitionMoves.{leads_move}
 
 -- a class that is read from the list has the edges that its values take
 pub class_takes : (ns : List Graph) (s : List Item) (by_class : List Transitions) (c v : ℕ) (t : Transitions) → t ≡ get_or by_class c t → (u : Transitions) × ((slice_get by_class c ≡ Some u) × AreTransitions ns s v u.list.items) → AreTransitions ns s v t.list.items

@@ -6,9 +6,11 @@ use Rattle.lalrpop_hir.specs.Range.{Range}
 use Rattle.lalrpop_nfa.specs.Graph.{Graph}
 use Rattle.lalrpop_nfa.specs.Path.{test}
 use Rattle.lalrpop_alphabet.specs.Alphabet.{Classes, HasState, IsInCell, IsEndOf, IsFirstOf, IsSound, IsAlphabetOf}
-use Rattle.lalrpop_dfa.specs.Items.{Item, IsLeaving}
-use Rattle.lalrpop_dfa.specs.Internal.Builder.{AreItemsOf}
-use Rattle.lalrpop_dfa.specs.Internal.Transitions.{AreBelow, AreGathered, AreCutsOf, AreTransitions, IsLaidOut}
+use Rattle.lalrpop_items.specs.Automata.{Item}
+use Rattle.lalrpop_dfa.specs.Items.{IsLeaving}
+use Rattle.lalrpop_items.specs.Given.{AreItemsOf}
+use Rattle.lalrpop_dfa.specs.Internal.Transitions.{AreBelow, AreGathered, AreCutsOf, IsLaidOut}
+use Rattle.lalrpop_items.specs.Transitions.{AreTransitions}
 use Rattle.lalrpop_dfa.specs.declared.blocks.Transitions.{Transitions}
 
 -- the cuts of items are cells

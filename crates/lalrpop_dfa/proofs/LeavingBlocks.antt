@@ -9,10 +9,11 @@ use Rattle.lalrpop_ranges.proofs.BlockCover.{block_of_covered}
 use Rattle.lalrpop_nfa.specs.declared.edge.Edge.{Edge}
 use Rattle.lalrpop_nfa.specs.Graph.{Graph}
 use Rattle.lalrpop_nfa.specs.Path.{test}
-use Rattle.lalrpop_dfa.specs.Items.{Item, IsLeaving}
-use Rattle.lalrpop_dfa.specs.Internal.Subsets.{no_graph, graph_at, move}
-use Rattle.lalrpop_dfa.proofs.Members.{Has, has_from, contains_from, has_filter, filter_has, has_map, map_has, has_flat_map, flat_map_has}
-use Rattle.lalrpop_dfa.proofs.Targets.{graph_is}
+use Rattle.lalrpop_items.specs.Automata.{Item}
+use Rattle.lalrpop_dfa.specs.Items.{IsLeaving}
+use Rattle.lalrpop_items.specs.Subsets.{no_graph, graph_at, move}
+use Rattle.lalrpop_items.proofs.Members.{Has, has_from, contains_from, has_filter, filter_has, has_map, map_has, has_flat_map, flat_map_has}
+use Rattle.lalrpop_items.proofs.Targets.{graph_is}
 use Rattle.lalrpop_dfa.proofs.Dead.{alike_moves}
 
 -- the labels that leave a set, in a list

@@ -3,21 +3,20 @@ use Rattle.std.proofs.Common.{◌≡◌, ℕ, zero, suc, ◌+◌, ◌<◌, ◌�
 use Rattle.std.specs.Prelude.{slice_get, Some, ◌↔◌}
 use Rattle.std.specs.List.{Contains}
 use Rattle.std.proofs.lemmas.Option.{slice_get_read, slice_get_within, slice_get-get_or}
-use Rattle.std.proofs.lemmas.List.{get_or_default}
-use Rattle.std.proofs.lemmas.List.{length-set}
+use Rattle.std.proofs.lemmas.List.{get_or_default, length-set}
 use Rattle.std.proofs.lemmas.List.Elements.{Contains-append_left, Contains-append_right, Contains-append_cases}
 use Rattle.lalrpop_alphabet.specs.Alphabet.{Classes, AreLeadsOf, IsLeadOf, HasClass, HasCut, LeadsBy, CutsAt}
 use Rattle.lalrpop_alphabet.specs.declared.Group.{Group}
 use Rattle.lalrpop_alphabet.specs.declared.Lead.{Lead}
 use Rattle.lalrpop_alphabet.specs.declared.NfaLeads.{NfaLeads}
 use Rattle.lalrpop_alphabet.specs.declared.StateLeads.{StateLeads}
-use Rattle.lalrpop_dfa.specs.Items.{Item}
+use Rattle.lalrpop_items.specs.Automata.{Item}
 use Rattle.lalrpop_dfa.specs.Internal.Transitions.{AreBare, Gained, AreGathered, AreCutsOf}
-use Rattle.lalrpop_dfa.specs.declared.blocks.Transition.{Transition}
+use Rattle.lalrpop_items.specs.declared.transitions.Transition.{Transition}
 use Rattle.lalrpop_dfa.specs.declared.blocks.Transitions.{Transitions}
 use Rattle.lalrpop_nfa.proofs.Contained.{contains_only, contains_none}
 use Rattle.lalrpop_kernels.proofs.NumberedLemmas.{pushed_cases}
-use Rattle.lalrpop_dfa.proofs.Members.{taken_more}
+use Rattle.lalrpop_items.proofs.Members.{taken_more}
 
 pub set_at : {X : Type 0} (xs : List X) (i : ℕ) (x : X) (k : ℕ) (y : X) → i < length xs → slice_get (slice_set xs i x) k ≡ Some y → ((k ≡ i) × (y ≡ x)) ⊎ (((k ≡ i) → ⊥) × (slice_get xs k ≡ Some y))
 set_at [] i x k y l h = absurd (omega (arith, l))

@@ -5,25 +5,12 @@ pub mod BreadthFirst
 pub mod Steps
 pub mod Clashes
 pub mod Longests
-pub mod Members
-pub mod SortedLists
-pub mod Sets
-pub mod Epsilon
-pub mod FullSets
-pub mod SetOrder
-mod LiveSets
-pub mod Marks
-pub mod ByPattern
-pub mod Targets
 pub mod ReachedItems
 pub mod Dead
 pub mod EdgeTargets
 pub mod StepLists
 pub mod StoredRows
 pub mod LongestLemmas
-pub mod Inserting
-pub mod WorklistSteps
-pub mod Moving
 pub mod Bests
 pub mod LeavingBlocks
 pub mod SetWinners
@@ -40,8 +27,7 @@ mod Noted
 mod CutBlocks
 mod LaidOut
 mod KnownClasses
-mod TransitionMoves
-mod TakenEdges
+mod LiveItems
 -- laws for callers
 pub mod Strongest
 pub mod Agreeing

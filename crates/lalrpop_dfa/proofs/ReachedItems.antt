@@ -1,24 +1,25 @@
 -- The set after a word holds the items that the word leads to.
-use Rattle.std.proofs.Common.{◌≡◌, ℕ, zero, suc, ◌+◌, ◌↔◌, inl, inr, List, [], ◌∷◌, ◌++◌, refl, ap, sym, subst, ◌∙◌, arith, true, ◌==◌, Some, eqb-true, eq-eqb}
+use Rattle.std.proofs.Common.{◌≡◌, ℕ, zero, suc, ◌+◌, ◌↔◌, inl, inr, List, [], ◌∷◌, ◌++◌, refl, ap, sym, subst, ◌∙◌, arith, true, Some}
 use Rattle.std.specs.List.{Contains, slice_get}
-use Rattle.std.proofs.lemmas.Bool.{and_parts, and_from}
 use Rattle.lalrpop_hir.specs.Tree.{Tree}
 use Rattle.lalrpop_nfa.specs.Graph.{Graph}
 use Rattle.lalrpop_nfa.specs.Path.{Path}
 use Rattle.lalrpop_nfa.specs.Internal.Reads.{Reads}
 use Rattle.lalrpop_nfa.specs.Compiled.{IsCompiled, start_state}
-use Rattle.lalrpop_dfa.specs.Items.{Item, AreCompiled, IsReached}
-use Rattle.lalrpop_dfa.specs.Internal.Ascending.{AreAscendingItems, IsItemOf}
-use Rattle.lalrpop_dfa.specs.Internal.Subsets.{graph_at, is_epsilon_path, follows_by_epsilon, item_targets, move, starts_from, first_set_of}
+use Rattle.lalrpop_items.specs.Automata.{Item, AreCompiled}
+use Rattle.lalrpop_dfa.specs.Items.{IsReached}
+use Rattle.lalrpop_items.specs.Ascending.{AreAscendingItems}
+use Rattle.lalrpop_items.specs.Given.{IsItemOf}
+use Rattle.lalrpop_items.specs.Subsets.{follows_by_epsilon, item_targets, move, starts_from, first_set_of}
 use Rattle.lalrpop_dfa.specs.Internal.BreadthFirst.{after}
 use Rattle.lalrpop_dfa.specs.Internal.Built.{subset_automaton}
-use Rattle.lalrpop_dfa.proofs.Members.{Has, has_from, contains_from}
+use Rattle.lalrpop_items.proofs.Members.{Has, has_from, contains_from}
 use Rattle.lalrpop_dfa.proofs.WordOrder.{from_the_end}
 use Rattle.lalrpop_dfa.proofs.BreadthFirst.{after_push}
 use Rattle.lalrpop_nfa.proofs.PathLemmas.{path_join, path_split, path_edge, path_inside}
-use Rattle.lalrpop_dfa.proofs.Epsilon.{epsilon_path, path_epsilon}
-use Rattle.lalrpop_dfa.proofs.Targets.{graph_is, item_targets_parts, item_targets_have, compiled_at}
-use Rattle.lalrpop_dfa.proofs.Sets.{closed_parts, closed_has, move_parts, move_has, first_set_ascends, move_ascends}
+use Rattle.lalrpop_items.proofs.Targets.{item_targets_parts, item_targets_have, compiled_at}
+use Rattle.lalrpop_items.proofs.Sets.{closed_parts, closed_has, move_parts, move_has, first_set_ascends, move_ascends}
+use Rattle.lalrpop_items.proofs.Follows.{follows_place, follows_path, path_follows}
 
 -- where START states stand
 starts_parts : (i : ℕ) (gs : List Graph) (y : Item) → Has (starts_from i gs) y → y.1 ≡ start_state
@@ -32,22 +33,6 @@ starts_have (f ∷ gs) i zero k g e at = inl (let same : i ≡ k = omega arith i
 starts_have (f ∷ gs) i (suc j) k g e at = inr (starts_have gs (i + 1) j k g (omega arith) at)
 
 module _ (ns : List Graph) where
-  pub follows_place : (y x : Item) → follows_by_epsilon ns y x ≡ true → y.0 ≡ x.0
-  unfolding follows_by_epsilon
-  follows_place y x f = eqb-true y.0 x.0 (and_parts (y.0 == x.0) (is_epsilon_path (graph_at ns x.0) y.1 x.1) f).0
-
-  pub follows_path : (y x : Item) (g : Graph) → slice_get ns x.0 ≡ Some g → follows_by_epsilon ns y x ≡ true → Path g.edges x.1 y.1 []
-  unfolding follows_by_epsilon
-  follows_path y x g at f =
-      subst (λ (e : Graph). Path e.edges x.1 y.1 []) (graph_is ns x.0 g at)
-      (epsilon_path (graph_at ns x.0) y.1 x.1 (and_parts (y.0 == x.0) (is_epsilon_path (graph_at ns x.0) y.1 x.1) f).1)
-
-  pub path_follows : (t : Tree) (y x : Item) (g : Graph) → IsCompiled t g → slice_get ns x.0 ≡ Some g → y.0 ≡ x.0 → Path g.edges x.1 y.1 [] → follows_by_epsilon ns y x ≡ true
-  unfolding follows_by_epsilon
-  path_follows t y x g c at e p =
-      and_from (y.0 == x.0) (is_epsilon_path (graph_at ns x.0) y.1 x.1) (eq-eqb y.0 x.0 e)
-      (subst (λ (f : Graph). is_epsilon_path f y.1 x.1 ≡ true) (sym (graph_is ns x.0 g at)) (path_epsilon g (λ n k. (c.noops_in n k).1) y.1 x.1 p))
-
   -- each set after a word ascends
   pub after_ascends : (w : List ℕ) → AreAscendingItems (after (subset_automaton ns) (first_set_of ns) w)
   after_ascends = from_the_end (λ (w : List ℕ). AreAscendingItems (after (subset_automaton ns) (first_set_of ns) w)) (first_set_ascends ns)

@@ -9,11 +9,12 @@ use Rattle.lalrpop_hir.specs.Tree.{Tree}
 use Rattle.lalrpop_nfa.specs.Graph.{Graph}
 use Rattle.lalrpop_ranges.specs.Partition.{AreAscending, IsPartition}
 use Rattle.lalrpop_ranges.proofs.PartitionUnique.{ascends_later}
-use Rattle.lalrpop_dfa.specs.Items.{Item, AreCompiled, IsLeaving}
-use Rattle.lalrpop_dfa.specs.Internal.Subsets.{move, is_dead}
+use Rattle.lalrpop_items.specs.Automata.{Item, AreCompiled}
+use Rattle.lalrpop_dfa.specs.Items.{IsLeaving}
+use Rattle.lalrpop_items.specs.Subsets.{move, is_dead}
 use Rattle.lalrpop_dfa.specs.Internal.BreadthFirst.{Automaton, IsBreadthFirst, Added, nth}
 use Rattle.lalrpop_dfa.specs.Internal.Built.{subset_automaton}
-use Rattle.lalrpop_dfa.proofs.Members.{Has, has_from, contains_from, has_at, at_has, has_cases}
+use Rattle.lalrpop_items.proofs.Members.{Has, has_from, contains_from, has_at, at_has, has_cases}
 use Rattle.lalrpop_dfa.proofs.Steps.{breadth_first_gap, breadth_first_added, breadth_first_spread, breadth_first_next}
 use Rattle.lalrpop_dfa.proofs.Dead.{uncovered_dead, covered_small}
 use Rattle.lalrpop_dfa.proofs.LeavingBlocks.{outside_blocks, inside_block}

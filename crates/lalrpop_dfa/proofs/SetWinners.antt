@@ -6,16 +6,17 @@ use Rattle.lalrpop_nfa.specs.Graph.{Graph}
 use Rattle.lalrpop_nfa.specs.Compiled.{IsCompiled, accept_state, reject_state}
 use Rattle.lalrpop_dfa.specs.Winners.{TreeMatches, IsStrongest, Ambiguous}
 use Rattle.lalrpop_dfa.specs.Dfa.{IsRightKind}
-use Rattle.lalrpop_dfa.specs.Items.{Item, AreCompiled, IsReached}
-use Rattle.lalrpop_dfa.specs.Internal.Subsets.{first_set_of, is_dead}
+use Rattle.lalrpop_items.specs.Automata.{Item, AreCompiled}
+use Rattle.lalrpop_dfa.specs.Items.{IsReached}
+use Rattle.lalrpop_items.specs.Subsets.{first_set_of, is_dead}
 use Rattle.lalrpop_dfa.specs.Internal.BreadthFirst.{after}
 use Rattle.lalrpop_dfa.specs.Internal.Built.{subset_automaton, IsStrongestIn, IsKindOf}
 use Rattle.lalrpop_dfa.specs.declared.Kind.{Kind}
 use Rattle.lalrpop_dfa.specs.declared.Kind.TheVariants.{Accepts, Reject, Neither}
-use Rattle.lalrpop_dfa.proofs.Members.{has_from}
-use Rattle.lalrpop_dfa.proofs.Targets.{compiled_at, compiled_of}
+use Rattle.lalrpop_items.proofs.Members.{has_from}
+use Rattle.lalrpop_items.proofs.Targets.{compiled_at, compiled_of}
 use Rattle.lalrpop_dfa.proofs.ReachedItems.{reached_items}
-use Rattle.lalrpop_dfa.proofs.Dead.{dead_states}
+use Rattle.lalrpop_items.proofs.Moved.{dead_states}
 
 -- a dead set accepts nothing
 pub dead_accepts_none : (s : List Item) → is_dead s ≡ true → (i : ℕ) → Contains s (i, accept_state) → ⊥

@@ -11,15 +11,16 @@ use Rattle.lalrpop_hir.specs.Tree.{Tree}
 use Rattle.lalrpop_hir.specs.Size.{size}
 use Rattle.lalrpop_nfa.specs.Graph.{Graph}
 use Rattle.lalrpop_nfa.specs.Compiled.{IsCompiled}
-use Rattle.lalrpop_dfa.specs.Items.{Item, AreCompiled}
-use Rattle.lalrpop_dfa.specs.Internal.Ascending.{AreAscendingItems, IsItemOf}
-use Rattle.lalrpop_dfa.specs.Internal.Subsets.{items_below, items_from, all_items, first_set_of}
+use Rattle.lalrpop_items.specs.Automata.{Item, AreCompiled}
+use Rattle.lalrpop_items.specs.Ascending.{AreAscendingItems}
+use Rattle.lalrpop_items.specs.Given.{IsItemOf}
+use Rattle.lalrpop_items.specs.Subsets.{items_below, items_from, all_items, first_set_of}
 use Rattle.lalrpop_dfa.specs.Internal.BreadthFirst.{IsBreadthFirst, after, word}
 use Rattle.lalrpop_dfa.specs.Internal.Built.{subset_automaton}
-use Rattle.lalrpop_dfa.proofs.Members.{Has, has_from, contains_from, any_from_has, has_from_any}
+use Rattle.lalrpop_items.proofs.Members.{Has, has_from, contains_from, any_from_has, has_from_any}
 use Rattle.lalrpop_dfa.proofs.WordOrder.{from_the_end}
 use Rattle.lalrpop_dfa.proofs.BreadthFirst.{after_push, word_reaches}
-use Rattle.lalrpop_dfa.proofs.Sets.{all_items_have, first_set_items, move_items, same_items}
+use Rattle.lalrpop_items.proofs.Sets.{all_items_have, first_set_items, move_items, same_items}
 use Rattle.lalrpop_dfa.proofs.ReachedItems.{after_ascends}
 
 -- a list of tests as a number

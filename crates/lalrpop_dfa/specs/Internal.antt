@@ -1,10 +1,5 @@
 pub mod BreadthFirst
-pub mod Ascending
-pub mod LiveItems
-pub mod ItemOrder
-pub mod Subsets
 pub mod Built
-pub mod Worklist
 pub mod Builder
 pub mod Best
 pub mod SameLaws

@@ -3,22 +3,13 @@
 use Rattle.std.specs.Prelude.{◌≡◌, ◌≢◌, ℕ, ◌<◌, ◌↔◌, List, length, map, slice_get, Some}
 use Rattle.std.specs.List.{Contains}
 use Rattle.lalrpop_hir.specs.Word.{IsWord, Shortlex}
-use Rattle.lalrpop_hir.specs.Tree.{Tree}
 use Rattle.lalrpop_nfa.specs.Graph.{Graph}
 use Rattle.lalrpop_nfa.specs.Path.{Path, test}
-use Rattle.lalrpop_nfa.specs.Compiled.{IsCompiled, start_state, reject_state}
+use Rattle.lalrpop_nfa.specs.Compiled.{start_state, reject_state}
 use Rattle.lalrpop_ranges.specs.Partition.{Ranges, IsPartition}
 use Rattle.lalrpop_dfa.specs.Dfa.{Row, after}
 use Rattle.lalrpop_dfa.specs.declared.Kind.TheVariants.{Reject}
-
--- a place of a list of automata, and a state of the automaton at that place
-abbrev pub Item : Type 0
-Item = ℕ × ℕ
-
--- the automata are those of the trees, one for each
-pub record AreCompiled (ts : List Tree) (ns : List Graph) : Type 0 where
-  pub same_length : length ns ≡ length ts
-  pub each : (i : ℕ) (t : Tree) (g : Graph) → slice_get ts i ≡ Some t → slice_get ns i ≡ Some g → IsCompiled t g
+pub use Rattle.lalrpop_items.specs.Automata.{Item, AreCompiled}
 
 -- steps lead from START to the item's state and read the word
 abbrev pub IsReached : List Graph → List ℕ → Item → Type 0

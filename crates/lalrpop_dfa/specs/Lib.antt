@@ -1,6 +1,7 @@
 -- what the contracts of this crate name of those below
 pub use Rattle.lalrpop_ranges.specs.Partition
 pub use Rattle.lalrpop_kernels.specs.Kernels
+pub use Rattle.lalrpop_items.specs.Automata
 pub mod Winners
 pub mod Clash
 pub mod Longest

@@ -1,15 +1,15 @@
 //! The kind of a state, by the items that it holds.
 
 ghost use Rattle.std.specs.Prelude.{◌≡◌, ◌<◌, ◌==◌, map, length, IfOk, IfErr};
-ghost use Rattle.lalrpop_dfa.specs.Internal.Ascending.{AreAscendingItems, IsItemOf};
+ghost use Rattle.lalrpop_items.specs.Ascending.{AreAscendingItems};
+ghost use Rattle.lalrpop_items.specs.Given.{IsItemOf, AreAutomata, AreItemsOf};
 ghost use Rattle.lalrpop_dfa.specs.Internal.Best.{IsBest, accepts, raised};
-ghost use Rattle.lalrpop_dfa.specs.Internal.Builder.{AreAutomata, AreItemsOf};
 ghost use Rattle.lalrpop_dfa.specs.Internal.Built.{IsKindOf, IsTied};
 ghost use Rattle.lalrpop_nfa.specs.Compiled.{accept_state};
-ghost use Rattle.lalrpop_dfa.specs.Internal.Subsets.{is_dead};
+ghost use Rattle.lalrpop_items.specs.Subsets.{is_dead};
 
-use super::items::{Item, ItemSet};
 use super::{Kind, NfaIndex, Precedence};
+use lalrpop_items::{Item, ItemSet};
 use lalrpop_nfa::Nfa;
 
 /// The greatest of the strongest patterns, its precedence, and the second greatest where there are two.
@@ -61,7 +61,7 @@ fn best_of(nfas: &[Nfa], precedences: &[Precedence], set: &ItemSet) -> Option<Be
     ensures { IsBest (map (λ p. p.0) precedences.now) (accepts set.now) result }
 {
     let mut best = None;
-    for item in set.live.iter() {
+    for item in set.live() {
         let item = *item;
         if is_accepting(nfas, item) {
             let pattern = item.pattern();
@@ -76,7 +76,7 @@ fn best_of(nfas: &[Nfa], precedences: &[Precedence], set: &ItemSet) -> Option<Be
 fn all_reject(set: &ItemSet) -> bool
     ensures { result ≡ is_dead set.now }
 {
-    set.live.is_empty()
+    set.live().is_empty()
 }
 
 /// The kind of a state that holds the set, or the tie of its strongest patterns.

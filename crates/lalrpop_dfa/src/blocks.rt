@@ -6,26 +6,21 @@ ghost use Rattle.std.specs.List.{Contains};
 ghost use Rattle.std.specs.List.Sorted.{IsNonDecreasing};
 ghost use Rattle.lalrpop_nfa.specs.Graph.{Graph};
 ghost use Rattle.lalrpop_alphabet.specs.Alphabet.{HasState, LeadsBy, CutsAt, AreCells, IsAlphabetOf};
-ghost use Rattle.lalrpop_dfa.specs.Internal.Builder.{AreAutomata, AreItemsOf, AreUnknown};
+ghost use Rattle.lalrpop_items.specs.Given.{AreAutomata, AreItemsOf};
+ghost use Rattle.lalrpop_dfa.specs.Internal.Builder.{AreUnknown};
 ghost use Rattle.lalrpop_dfa.specs.Internal.Room.{AreNoted, IsTidy, IsCleared, IsRoomOf, AreTaken, AreUsed};
-ghost use Rattle.lalrpop_dfa.specs.Items.{Item as ItemValue, IsLeaving};
+ghost use Rattle.lalrpop_items.specs.Automata.{Item as ItemValue};
+ghost use Rattle.lalrpop_dfa.specs.Items.{IsLeaving};
 ghost use Rattle.lalrpop_dfa.specs.Internal.Transitions.{AreBare, AreBelow, Gained, AreGathered, AreCutsOf, IsLaidOut, HaveTransitions};
 ghost use Rattle.lalrpop_ranges.specs.Partition.{IsPartition};
 
 use super::DfaStateIndex;
-use super::items::{Item, ItemSet};
 use lalrpop_alphabet::{Alphabet, Cell};
+use lalrpop_items::{Item, ItemSet, Transition};
 use lalrpop_nfa::{Nfa, NfaStateIndex};
 use lalrpop_ranges::Test;
 use std::alloc::{AllocError, Global};
 use std::collections::BTreeMap;
-
-/// A test edge that leaves an item of a set, without its label: the item, and the state that the edge leads to.
-#[derive(Copy, Clone, PartialEq, Eq, PartialOrd, Ord)]
-pub(super) struct Transition {
-    pub(super) item: Item,
-    pub(super) to: NfaStateIndex,
-}
 
 /// The test edges that a value takes.
 #[derive(PartialEq, Eq, PartialOrd, Ord, Drop)]
@@ -269,7 +264,7 @@ impl Room {
         ensures used { OnOk result (AreUsed self.new.edges.used.items self.new.blocks.items) }
     {
         self.clear();
-        gather(alphabet, &set.live, &mut self.cuts, &mut self.edges)?;
+        gather(alphabet, set.live(), &mut self.cuts, &mut self.edges)?;
         self.cuts.sort()?;
         add_blocks(alphabet, &self.cuts, &self.edges.lists, &mut self.blocks)?;
         Ok(())

@@ -1,11 +1,13 @@
 //! Building an automaton: the patterns are compiled one by one, then joined.
 ghost use Rattle.std.specs.Prelude.{◌≡◌, ◌≤◌, List, map, length, IfOk, IfErr};
-ghost use Rattle.lalrpop_dfa.specs.Internal.Builder.{AreFixed, IsFaultOf, IsRefusalOf};
+ghost use Rattle.lalrpop_items.specs.Given.{AreFixed};
+ghost use Rattle.lalrpop_dfa.specs.Internal.Builder.{IsFaultOf, IsRefusalOf};
 ghost use Rattle.lalrpop_dfa.specs.Clash.{NoClash};
 ghost use Rattle.lalrpop_dfa.specs.Counts.{state_bound};
 ghost use Rattle.lalrpop_dfa.specs.Dfa.{Recognizes};
 ghost use Rattle.lalrpop_nfa.specs.Graph.{Graph};
-ghost use Rattle.lalrpop_dfa.specs.Items.{AreCompiled, HoldsItems, OthersReject, IsInWordOrder};
+ghost use Rattle.lalrpop_items.specs.Automata.{AreCompiled};
+ghost use Rattle.lalrpop_dfa.specs.Items.{HoldsItems, OthersReject, IsInWordOrder};
 ghost use Rattle.lalrpop_dfa.specs.Report.{NoFault, IsReport};
 
 use super::builder::build;
@@ -34,7 +36,7 @@ fn compile_all(alloc: Global, regexs: &[Regex]) -> Result<Vec<Nfa>, DfaConstruct
     for (index, regex) in regexs.iter().enumerate() {
         let nfa = match Nfa::from_re(alloc, regex) {
             Ok(nfa) => nfa,
-            Err(error) => return Err(refusal(NfaIndex(index), error)),
+            Err(error) => return Err(refusal(NfaIndex::new(index), error)),
         };
         nfas.push(nfa)?;
     }

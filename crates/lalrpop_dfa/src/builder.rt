@@ -3,26 +3,29 @@
 ghost use Rattle.std.specs.Prelude.{◌≡◌, ◌+◌, ◌<◌, ◌≤◌, ◌++◌, ◌∷◌, [], List, length, map, slice_get, Some, IfOk, IfErr, OnOk};
 ghost use Rattle.std.specs.List.Sorted.{IsSorted};
 ghost use Rattle.lalrpop_hir.specs.Tree.{Tree};
-ghost use Rattle.lalrpop_dfa.specs.Internal.Ascending.{AreAscendingItems};
-ghost use Rattle.lalrpop_dfa.specs.Internal.Builder.{AreAutomata, AreItemsOf, IsAdded, AreKnown, AreKnownClasses, IsEdged, IsBuiltTo, IsTieOf, IsClashOf};
+ghost use Rattle.lalrpop_items.specs.Ascending.{AreAscendingItems};
+ghost use Rattle.lalrpop_items.specs.Given.{AreAutomata, AreItemsOf};
+ghost use Rattle.lalrpop_dfa.specs.Internal.Builder.{IsAdded, AreKnown, AreKnownClasses, IsEdged, IsBuiltTo, IsTieOf, IsClashOf};
 ghost use Rattle.lalrpop_dfa.specs.Internal.Built.{subset_automaton};
 ghost use Rattle.lalrpop_dfa.specs.Clash.{NoClash};
 ghost use Rattle.lalrpop_dfa.specs.Counts.{state_bound};
 ghost use Rattle.lalrpop_dfa.specs.Dfa.{Recognizes};
-ghost use Rattle.lalrpop_dfa.specs.Items.{AreCompiled, HoldsItems, OthersReject, IsInWordOrder};
+ghost use Rattle.lalrpop_items.specs.Automata.{AreCompiled};
+ghost use Rattle.lalrpop_dfa.specs.Items.{HoldsItems, OthersReject, IsInWordOrder};
 ghost use Rattle.lalrpop_alphabet.specs.Alphabet.{IsAlphabetOf};
 ghost use Rattle.lalrpop_dfa.specs.Internal.Room.{IsRoomOf, OnlyNumbers};
-ghost use Rattle.lalrpop_dfa.specs.Internal.Transitions.{transition_cmp, AreTransitions};
-ghost use Rattle.lalrpop_dfa.specs.Internal.Subsets.{move, starts_from, first_set_of};
+ghost use Rattle.lalrpop_items.specs.Transitions.{transition_cmp, AreTransitions};
+ghost use Rattle.lalrpop_items.specs.Subsets.{move, starts_from, first_set_of};
 ghost use Rattle.lalrpop_dfa.specs.Internal.BreadthFirst.{IsBreadthFirst, nth};
 
 use super::best::{Tie, kind_of};
-use super::blocks::{Block, Known, Room, Transition, Transitions};
-use super::closure::{advance, closure};
-use super::items::{Item, ItemSet, Origin};
+use super::blocks::{Block, Known, Room, Transitions};
+use super::origin::Origin;
 use super::rows::{Edges, Rows};
 use super::{Dfa, DfaConstructionError, DfaStateIndex, NfaIndex, Precedence};
 use lalrpop_alphabet::Alphabet;
+use lalrpop_items::closure::{advance, closure};
+use lalrpop_items::{Item, ItemSet, Transition};
 use lalrpop_kernels::KernelSet;
 use lalrpop_nfa::{Nfa, START};
 use std::alloc::{AllocError, Global};
@@ -48,10 +51,7 @@ fn starts_of(alloc: Global, nfas: &[Nfa]) -> Result<Vec<Item>, AllocError>
 {
     let mut starts = Vec::new(alloc);
     for index in 0..nfas.len() {
-        starts.push(Item {
-            nfa_index: NfaIndex(index),
-            nfa_state: START,
-        })?;
+        starts.push(Item::new(NfaIndex::new(index), START))?;
     }
     Ok(starts)
 }

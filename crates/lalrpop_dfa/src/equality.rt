@@ -40,7 +40,7 @@ impl PartialEq for Dfa {
             return false;
         }
         for number in 0..self.rows.len() {
-            if !is_same_at(self, other, DfaStateIndex(number)) {
+            if !is_same_at(self, other, DfaStateIndex::new(number)) {
                 return false;
             }
         }

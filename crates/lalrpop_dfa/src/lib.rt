@@ -6,13 +6,10 @@ mod blocks;
 mod build;
 mod builder;
 mod clone;
-mod closure;
 mod equality;
 mod error;
 pub mod interpret;
-mod items;
-mod moves;
-mod ordered;
+mod origin;
 mod rows;
 mod search;
 
@@ -20,81 +17,18 @@ ghost use Rattle.std.specs.Prelude.{◌≡◌, ◌<◌, length, slice_get, Some,
 
 pub use build::build_dfa;
 pub use error::DfaConstructionError;
-use items::ItemSet;
+use lalrpop_items::ItemSet;
+pub use lalrpop_items::{DfaStateIndex, NfaIndex, START};
 pub use lalrpop_kernels as kernel_set;
 use lalrpop_ranges::Test;
 pub use lalrpop_ranges::overlap;
 use rows::Rows;
 use search::LISTED;
-use std::fmt;
 use std::marker::Model;
 
 /// The strength of a pattern: where two match a word, the one with the greater precedence wins.
 #[derive(Copy, Clone, Debug, PartialEq, Eq, PartialOrd, Ord)]
 pub struct Precedence(pub usize);
-
-/// The place of a pattern in the list, from 0.
-#[derive(Copy, Clone, Debug, PartialEq, Eq, PartialOrd, Ord, Hash)]
-pub struct NfaIndex(usize);
-
-impl Model for NfaIndex {
-    ghost use Rattle.std.specs.Prelude.{ℕ};
-
-    ghost Value = { ℕ };
-
-    ghost view = { λ i. i.0 };
-
-    ghost inverse = { λ n. record { 0 = n } };
-}
-
-impl NfaIndex {
-    /// The place as a number.
-    pub fn index(self) -> usize
-        ensures value { result ≡ self }
-    {
-        self.0
-    }
-}
-
-/// The number of a state, from 0.
-#[derive(Copy, Clone, PartialEq, Eq, PartialOrd, Ord, Hash)]
-pub struct DfaStateIndex(usize);
-
-impl Model for DfaStateIndex {
-    ghost use Rattle.std.specs.Prelude.{ℕ};
-
-    ghost Value = { ℕ };
-
-    ghost view = { λ i. i.0 };
-
-    ghost inverse = { λ n. record { 0 = n } };
-}
-
-impl DfaStateIndex {
-    /// The state's number.
-    pub fn index(self) -> usize
-        ensures value { result ≡ self }
-    {
-        self.0
-    }
-}
-
-impl fmt::Debug for DfaStateIndex {
-    fn fmt<W: fmt::Write>(&self, f: &mut fmt::Formatter<W>) -> fmt::Result {
-        let number = self.0;
-        write!(f, "Dfa{number}")
-    }
-}
-
-impl fmt::Display for DfaStateIndex {
-    fn fmt<W: fmt::Write>(&self, f: &mut fmt::Formatter<W>) -> fmt::Result {
-        let number = self.0;
-        write!(f, "Dfa{number}")
-    }
-}
-
-/// The state in which each run begins.
-pub const START: DfaStateIndex = DfaStateIndex(0);
 
 /// What a state says of the word that leads to it.
 #[derive(Clone, Debug, PartialEq, Eq, Drop)]

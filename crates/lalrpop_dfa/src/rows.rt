@@ -3,8 +3,8 @@
 ghost use Rattle.std.specs.Prelude.{◌≡◌, ◌<◌, ◌++◌, ◌∷◌, [], length, slice_get, IsSomeAnd, OnOk};
 ghost use Rattle.lalrpop_dfa.specs.Dfa.{IsStored, AreStored};
 
-use super::items::ItemSet;
 use super::{DfaStateIndex, Kind, State};
+use lalrpop_items::ItemSet;
 use lalrpop_ranges::Test;
 use std::alloc::{AllocError, Global};
 use std::marker::Model;

@@ -27,7 +27,7 @@ impl Dfa {
         let mut places = Vec::new(alloc);
         let mut lists = Vec::new(alloc);
         for number in 0..rows.len() {
-            let list = rows.list_of(DfaStateIndex(number));
+            let list = rows.list_of(DfaStateIndex::new(number));
             match list {
                 Some(list) => {
                     places.push(Some(lists.len()))?;
@@ -55,7 +55,7 @@ impl Dfa {
         if let Some(place) = self.places[state.index()] {
             let list = &self.lists[place];
             if (value as usize) < list.len() {
-                return DfaStateIndex(list[value as usize] as usize);
+                return DfaStateIndex::new(list[value as usize] as usize);
             }
         }
         self.rows.step(state, value, probes)

@@ -25,6 +25,7 @@ pub use Rattle.lalrpop_dfa.specs.Longest
 pub use Rattle.lalrpop_dfa.specs.Report
 pub use Rattle.lalrpop_ranges.specs.Partition
 pub use Rattle.lalrpop_dfa.specs.Dfa
+pub use Rattle.lalrpop_items.specs.Automata
 pub use Rattle.lalrpop_dfa.specs.Items
 pub use Rattle.lalrpop_kernels.specs.Kernels
 pub use Rattle.lalrpop_dfa.specs.SameAutomata

@@ -1,7 +1,7 @@
 -- The strongest of some trees, and the one that ties with it.
 use Rattle.std.specs.Prelude.{◌≡◌, ℕ, ◌<◌, ◌≤◌, ◌==◌, cond, nat_lt, List, [], map, slice_index, Option, Some, None, MatchOption}
 use Rattle.std.specs.List.{Contains, filter}
-use Rattle.lalrpop_dfa.specs.Items.{Item}
+use Rattle.lalrpop_items.specs.Automata.{Item}
 use Rattle.lalrpop_nfa.specs.Compiled.{accept_state}
 use Rattle.lalrpop_dfa.specs.declared.best.Best.{Best}
 

@@ -4,14 +4,14 @@ use Rattle.std.specs.List.{Contains}
 use Rattle.std.specs.BTreeMap.{BTreeMap, get}
 use Rattle.lalrpop_hir.specs.Range.{Range, Covers}
 use Rattle.lalrpop_hir.specs.Tree.{Tree}
-use Rattle.lalrpop_nfa.specs.Compiled.{HasFixedEdges}
 use Rattle.lalrpop_nfa.specs.Graph.{Graph}
 use Rattle.lalrpop_dfa.specs.Clash.{IsClash}
 use Rattle.lalrpop_dfa.specs.Dfa.{Row}
-use Rattle.lalrpop_dfa.specs.Items.{Item, AreCompiled, IsLeaving}
-use Rattle.lalrpop_dfa.specs.Internal.Ascending.{IsItemOf}
-use Rattle.lalrpop_dfa.specs.Internal.Subsets.{move}
-use Rattle.lalrpop_dfa.specs.Internal.Transitions.{AreTransitions, transitions_cmp}
+use Rattle.lalrpop_items.specs.Automata.{Item}
+use Rattle.lalrpop_dfa.specs.Items.{IsLeaving}
+use Rattle.lalrpop_items.specs.Subsets.{move}
+use Rattle.lalrpop_items.specs.Transitions.{AreTransitions}
+use Rattle.lalrpop_dfa.specs.Internal.Transitions.{transitions_cmp}
 use Rattle.lalrpop_dfa.specs.declared.blocks.Transitions.{Transitions}
 use Rattle.lalrpop_dfa.specs.declared.builder.Sets.{Sets}
 use Rattle.lalrpop_dfa.specs.Internal.BreadthFirst.{IsBreadthFirst, nth, value_of}
@@ -22,18 +22,6 @@ use Rattle.lalrpop_nfa.specs.declared.error.NfaConstructionError.{NfaConstructio
 use Rattle.lalrpop_nfa.specs.declared.error.NfaConstructionError.TheVariants.{OutOfMemory as NoMemory}
 use Rattle.lalrpop_dfa.specs.declared.error.DfaConstructionError.{DfaConstructionError}
 use Rattle.lalrpop_dfa.specs.declared.error.DfaConstructionError.TheVariants.{NfaConstructionError as Refused, Ambiguity, OutOfMemory}
-
--- the edges of ACCEPT, REJECT and START are the fixed ones in each automaton
-abbrev pub AreFixed : List Graph → Type 0
-AreFixed ns = (i : ℕ) (g : Graph) → slice_get ns i ≡ Some g → HasFixedEdges g.edges
-
--- the automata of some trees
-abbrev pub AreAutomata : List Graph → Type 0
-AreAutomata ns = (ts : List Tree) × AreCompiled ts ns × AreFixed ns
-
--- each is an item of the automata
-abbrev pub AreItemsOf : List Graph → List Item → Type 0
-AreItemsOf ns s = (x : Item) → Contains s x → IsItemOf ns x
 
 -- the set has the number j: it had it, or it was added last, with its origin
 abbrev pub AddedTo : List (List Item) → List (ℕ × ℕ) → ℕ → ℕ → List Item → ℕ → List (List Item) → List (ℕ × ℕ) → Type 0

@@ -1,9 +1,6 @@
-use Rattle.std.proofs.Common.{rules, subst, ◌≡◌}
-use Rattle.lalrpop_dfa.specs.Internal.Subsets.{is_dead}
-use Rattle.lalrpop_dfa.proofs.LiveSets.{dead_told}
+use Rattle.std.proofs.Common.{rules}
+use Rattle.lalrpop_dfa.proofs.LiveItems.{dead_told}
 use Rattle.lalrpop_dfa.proofs.best.all_reject.Goals as goal
 
 pub returns : goal.returns
-returns c =
-    subst (λ s. c.is_empty.result ≡ is_dead s) c.set.view_is
-    (dead_told c.set.inside.patterns c.set.inside.spared.items c.set.inside.live.items c.set.invariant c.is_empty.result (search rules) (search rules))
+returns c = dead_told c.args.set.now c.live.result.now c.is_empty.result c.live.ensures.value (search rules) (search rules)

@@ -7,7 +7,7 @@ use Rattle.lalrpop_hir.specs.Range.{Range}
 use Rattle.lalrpop_dfa.specs.Items.{IsLeaving}
 use Rattle.lalrpop_dfa.specs.declared.blocks.Block.{Block}
 use Rattle.lalrpop_nfa.proofs.Contained.{contains_none}
-use Rattle.lalrpop_dfa.proofs.WorklistSteps.{nil_from}
+use Rattle.lalrpop_items.proofs.WorklistSteps.{nil_from}
 use Rattle.lalrpop_dfa.proofs.CutBlocks.{read_class, first_of, first_is, start, finish, IsKept, IsPassed, has_some, has_none, turned, turned_classes}
 use Rattle.lalrpop_dfa.proofs.blocks.add_blocks.Goals as goal
 use Rattle.lalrpop_dfa.proofs.blocks.add_blocks.Goals.{then-first-next+then-not-is_empty+in_ok-push, else-first-next, else-first-next-via-then-first-next+else-not-is_empty, else-first-next-via-else-first-next}

@@ -1,7 +1,8 @@
 use Rattle.std.proofs.Common.{◌-◌, List, map}
 use Rattle.lalrpop_nfa.specs.Graph.{Graph}
 use Rattle.lalrpop_ranges.proofs.Cells.{BlocksBelow}
-use Rattle.lalrpop_dfa.specs.Items.{Item, IsLeaving}
+use Rattle.lalrpop_items.specs.Automata.{Item}
+use Rattle.lalrpop_dfa.specs.Items.{IsLeaving}
 use Rattle.lalrpop_dfa.specs.Internal.Room.{AreTaken}
 use Rattle.lalrpop_dfa.specs.Internal.Transitions.{IsLaidOut}
 use Rattle.lalrpop_dfa.proofs.CutBlocks.{first_of}

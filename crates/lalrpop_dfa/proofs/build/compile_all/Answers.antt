@@ -5,7 +5,7 @@ use Rattle.lalrpop_dfa.proofs.build.compile_all.Goals as goal
 pub returns-in-Err-clause-err : goal.returns-in-Err-clause-err
 returns-in-Err-clause-err c =
     let l : c.loop-index.index < length c.args.regexs.now = search rules in
-    refused_report c.args.regexs.now c.loop-index.nfas.items c.loop-index.index c.index-regexs-index.result c.in-Err.error c.refusal.result c.loop-index.invariant l c.index-regexs-index.is c.in-Err.ensures.err c.refusal.ensures
+    refused_report c.args.regexs.now c.loop-index.nfas.items c.loop-index.index c.index-regexs-index.result c.in-Err.error c.refusal.result c.loop-index.invariant l c.index-regexs-index.is c.in-Err.ensures.err (rw c.new.ensures.value at c.refusal.ensures)
 
 pub loop-index-preserved : goal.loop-index-preserved
 loop-index-preserved c =

@@ -1,7 +1,7 @@
 use Rattle.std.proofs.Common.{◌≡◌, ◌-◌, ◌^◌, length, map}
 use Rattle.lalrpop_dfa.specs.Internal.Builder.{IsBuiltTo}
 use Rattle.lalrpop_dfa.specs.Internal.Room.{IsTidy}
-use Rattle.lalrpop_dfa.specs.Internal.Subsets.{all_items}
+use Rattle.lalrpop_items.specs.Subsets.{all_items}
 use Rattle.lalrpop_dfa.proofs.builder.build.Given as goal
 
 abbrev pub invariant-loop-table : goal.invariant-loop-table

@@ -1,6 +1,6 @@
 use Rattle.std.proofs.Common.{ap, ◌∙◌, [], ◌∷◌, ◌++◌}
-use Rattle.lalrpop_dfa.specs.Internal.Subsets.{first_set_of, closed}
-use Rattle.lalrpop_dfa.proofs.ByPattern.{starts_by_pattern}
+use Rattle.lalrpop_items.specs.Subsets.{first_set_of, closed}
+use Rattle.lalrpop_items.proofs.ByPattern.{starts_by_pattern}
 use Rattle.lalrpop_dfa.proofs.Adding.{clones_equal, starts_inside, first_added}
 use Rattle.lalrpop_dfa.proofs.builder.first_sets.Goals as goal
 

@@ -8,8 +8,9 @@ use Rattle.lalrpop_dfa.specs.Internal.Room.{AreUsed}
 use Rattle.lalrpop_dfa.specs.declared.blocks.Transitions.{Transitions}
 use Rattle.lalrpop_dfa.specs.Items.{IsLeaving}
 use Rattle.lalrpop_ranges.specs.Partition.{IsPartition}
-use Rattle.lalrpop_dfa.specs.Internal.Transitions.{AreTransitions, HaveTransitions}
-use Rattle.lalrpop_dfa.specs.Internal.Subsets.{move}
+use Rattle.lalrpop_items.specs.Transitions.{AreTransitions}
+use Rattle.lalrpop_dfa.specs.Internal.Transitions.{HaveTransitions}
+use Rattle.lalrpop_items.specs.Subsets.{move}
 use Rattle.lalrpop_dfa.specs.declared.blocks.Block.{Block}
 use Rattle.lalrpop_dfa.proofs.Builds.{edging_none, edging_more, edging_done, added_of}
 use Rattle.lalrpop_dfa.proofs.KnownClasses.{none_known, nothing_known, numbered_more, range_at}

@@ -1,10 +1,11 @@
 use Rattle.std.proofs.Common.{rules, ◌≡◌, List, Some, inl, refl, sym, subst}
 use Rattle.std.specs.BTreeMap.{get}
 use Rattle.std.specs.List.Sorted.{IsSorted, IsPermutation}
-use Rattle.lalrpop_dfa.specs.Internal.Transitions.{transition_cmp, transitions_cmp}
-use Rattle.lalrpop_dfa.specs.declared.blocks.Transition.{Transition}
+use Rattle.lalrpop_items.specs.Transitions.{transition_cmp}
+use Rattle.lalrpop_dfa.specs.Internal.Transitions.{transitions_cmp}
+use Rattle.lalrpop_items.specs.declared.transitions.Transition.{Transition}
 use Rattle.lalrpop_dfa.proofs.Adding.{known_more}
-use Rattle.lalrpop_dfa.proofs.TransitionMoves.{takes_sorted}
+use Rattle.lalrpop_items.proofs.TransitionMoves.{takes_sorted}
 use Rattle.lalrpop_dfa.proofs.builder.Sets.target_of_transitions.Goals as goal
 
 pub target_of-requires-clause-sorted : goal.target_of-requires-clause-sorted

@@ -19,7 +19,7 @@ pub returns-then-not-is_same_at-clause-value : goal.returns-then-not-is_same_at-
 returns-then-not-is_same_at-clause-value c =
     let here : c.loop-number.number < length c.args.self.now = omega (arith, ap length c.self.view_is, c.len-number-end.ensures, c.loop-number-test.true) in
     let there : c.loop-number.number < length c.args.other.now = omega (arith, ap length c.self.view_is, ap length c.other.view_is, c.len.ensures, c.len-2.ensures, c.if-len.false) in
-    sym (some_differ c.args.self.now c.args.other.now c.loop-number.number here there c.if-not-is_same_at.ensures)
+    sym (some_differ c.args.self.now c.args.other.now c.loop-number.number here there (rw c.new.ensures.value at c.if-not-is_same_at.ensures))
 
 pub returns-then-not-is_same_at-clause-same : goal.returns-then-not-is_same_at-clause-same
 returns-then-not-is_same_at-clause-same c =

@@ -1,5 +1,0 @@
-use Rattle.lalrpop_dfa.proofs.LiveSets.{split_of}
-use Rattle.lalrpop_dfa.proofs.closure.set_of.Goals as goal
-
-pub invariant_of-result : goal.invariant_of-result
-invariant_of-result c = rw (c.in_ok-spared.ensures, c.in_ok-live.ensures) (split_of c.args.patterns c.args.items.now c.args.spared.now c.requires.ascending c.requires.within c.requires.spared)

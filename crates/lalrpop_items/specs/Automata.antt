@@ -1,0 +1,14 @@
+-- The automata of some trees, and their items.
+use Rattle.std.specs.Prelude.{◌≡◌, ℕ, List, length, slice_get, Some}
+use Rattle.lalrpop_hir.specs.Tree.{Tree}
+use Rattle.lalrpop_nfa.specs.Graph.{Graph}
+use Rattle.lalrpop_nfa.specs.Compiled.{IsCompiled}
+
+-- a place of a list of automata, and a state of the automaton at that place
+abbrev pub Item : Type 0
+Item = ℕ × ℕ
+
+-- the automata are those of the trees, one for each
+pub record AreCompiled (ts : List Tree) (ns : List Graph) : Type 0 where
+  pub same_length : length ns ≡ length ts
+  pub each : (i : ℕ) (t : Tree) (g : Graph) → slice_get ts i ≡ Some t → slice_get ns i ≡ Some g → IsCompiled t g

@@ -1,0 +1,4 @@
+pub mod Split
+pub mod OrderLaws
+pub mod Worklist
+pub mod Taken

@@ -1,0 +1,301 @@
+//! Where items lead: by reading nothing, and by a value.
+
+ghost use Rattle.std.specs.Prelude.{◌≡◌, ◌≢◌, ◌↔◌, ℕ, ◌<◌, ◌≤◌, IsTrue, ◌++◌, ◌∷◌, [], length, IfOk, OnOk};
+ghost use Rattle.std.specs.List.{Contains, range_with_len};
+ghost use Rattle.std.specs.List.Sorted.{IsSorted};
+ghost use Rattle.lalrpop_items.specs.Ascending.{AreAscendingItems, AreByPattern};
+ghost use Rattle.lalrpop_items.specs.Given.{IsItemOf, AreAutomata, AreItemsOf};
+ghost use Rattle.lalrpop_items.specs.LiveItems.{live_of};
+ghost use Rattle.lalrpop_items.specs.Internal.Split.{full, still_spared, AreSpared, AreWithin};
+ghost use Rattle.lalrpop_items.specs.Subsets.{closed, move};
+ghost use Rattle.lalrpop_items.specs.Transitions.{transition_cmp, AreTransitions};
+ghost use Rattle.lalrpop_items.specs.Internal.Worklist.{IsInserted, epsilon_targets, marked, AreOfPattern, AreStatesBelow, AreMarksOf, pattern_at};
+
+use super::NfaIndex;
+use super::transitions::Transition;
+use super::items::{Item, ItemSet};
+use super::moves::targets_by;
+use super::ordered::follow_ordered;
+use lalrpop_nfa::{Nfa, NfaStateIndex, Noop, REJECT};
+use std::alloc::{AllocError, Global};
+
+// Marks are used where a pattern has at most so many states for each of its items that are given.
+const STATES_FOR_AN_ITEM: usize = 16;
+
+// The items of one pattern that were found so far, by marks at their states, and those of them that are still to be
+// looked at.
+#[derive(Drop)]
+struct Worklist {
+    marks: Vec<bool>,
+    pending: Vec<Item>,
+}
+
+impl Worklist {
+    // Notes an item, unless it was found before.
+    fn insert(&mut self, item: Item) -> Result<(), AllocError>
+        requires { item.1 < length self.old.marks.items }
+        ensures inserted { OnOk result
+            (IsInserted (marked item.0 self.old.marks.items) self.old.pending.items
+            (item ∷ []) (marked item.0 self.new.marks.items) self.new.pending.items) }
+        ensures len { OnOk result (length self.new.marks.items ≡ length self.old.marks.items) }
+    {
+        let state = item.state().index();
+        if !self.marks[state] {
+            self.marks[state] = true;
+            self.pending.push(item)?;
+        }
+        Ok(())
+    }
+
+    // Notes the items that one edge leads to which reads nothing.
+    fn follow(&mut self, nfas: &[Nfa], item: Item) -> Result<(), AllocError>
+        requires automata { AreAutomata nfas.now }
+        requires inside { IsItemOf nfas.now item }
+        requires marks { AreMarksOf nfas.now item.0 self.old.marks.items }
+        ensures inserted { OnOk result
+            (IsInserted (marked item.0 self.old.marks.items) self.old.pending.items
+            (epsilon_targets nfas.now item) (marked item.0 self.new.marks.items) self.new.pending.items) }
+        ensures len { OnOk result (length self.new.marks.items ≡ length self.old.marks.items) }
+    {
+        for edge in item.nfa(nfas).edges::<Noop>(item.state()) {
+            self.insert(item.to(edge.to))?;
+        }
+        Ok(())
+    }
+
+    fn insert_all(&mut self, pattern: NfaIndex, given: &[Item]) -> Result<(), AllocError>
+        requires pattern { AreOfPattern pattern given.now }
+        requires marks { AreStatesBelow (length self.old.marks.items) given.now }
+        ensures inserted { OnOk result
+            (IsInserted (marked pattern self.old.marks.items) self.old.pending.items
+            given.now (marked pattern self.new.marks.items) self.new.pending.items) }
+        ensures len { OnOk result (length self.new.marks.items ≡ length self.old.marks.items) }
+    {
+        for item in given {
+            self.insert(*item)?;
+        }
+        Ok(())
+    }
+}
+
+// Adds the items of a pattern at whose states there is a mark.
+fn push_marked(pattern: NfaIndex, marks: &[bool], found: &mut Vec<Item>) -> Result<(), AllocError>
+    ensures { OnOk result (found.new.items ≡ found.old.items ++ marked pattern marks.now) }
+{
+    for state in 0..marks.len() {
+        if marks[state] {
+            found.push(Item {
+                nfa_index: pattern,
+                nfa_state: NfaStateIndex::new(state),
+            })?;
+        }
+    }
+    Ok(())
+}
+
+// Adds the given items, which are of one pattern, and all that they lead to by reading nothing. Marks cost a step for
+// each state of the pattern.
+fn follow_by_marks(
+    alloc: Global,
+    nfas: &[Nfa],
+    pattern: NfaIndex,
+    given: &[Item],
+    found: &mut Vec<Item>,
+) -> Result<(), AllocError>
+    requires automata { AreAutomata nfas.now }
+    requires inside { AreItemsOf nfas.now given.now }
+    requires pattern { AreOfPattern pattern given.now }
+    requires within { pattern < length nfas.now }
+    ensures { OnOk result (found.new.items ≡ found.old.items ++ closed nfas.now given.now) }
+{
+    let size = nfas[pattern.index()].len();
+    let mut worklist = Worklist {
+        marks: vec![in alloc; false; size]?,
+        pending: Vec::new(alloc),
+    };
+    worklist.insert_all(pattern, given)?;
+    while let Some(item) = worklist.pending.pop() {
+        worklist.follow(nfas, item)?;
+    }
+    push_marked(pattern, &worklist.marks, found)
+}
+
+// Whether no edge leads on from an item by reading nothing.
+fn stays(nfas: &[Nfa], item: Item) -> bool
+    requires { IsItemOf nfas.now item }
+    ensures { IsTrue result ↔ (epsilon_targets nfas.now item ≡ []) }
+{
+    let mut edges = item.nfa(nfas).edges::<Noop>(item.state());
+    edges.next().is_none()
+}
+
+// The same, in a time that doesn't grow with the pattern where few of its items are given.
+fn follow_pattern(
+    alloc: Global,
+    nfas: &[Nfa],
+    pattern: NfaIndex,
+    given: &[Item],
+    found: &mut Vec<Item>,
+) -> Result<(), AllocError>
+    requires automata { AreAutomata nfas.now }
+    requires inside { AreItemsOf nfas.now given.now }
+    requires pattern { AreOfPattern pattern given.now }
+    requires within { pattern < length nfas.now }
+    ensures { OnOk result (found.new.items ≡ found.old.items ++ closed nfas.now given.now) }
+{
+    if let [item] = given {
+        if stays(nfas, *item) {
+            found.push(*item)?;
+            return Ok(());
+        }
+    }
+    if nfas[pattern.index()].len() / STATES_FOR_AN_ITEM <= given.len() {
+        return follow_by_marks(alloc, nfas, pattern, given, found);
+    }
+    for item in follow_ordered(alloc, nfas, given)? {
+        found.push(item)?;
+    }
+    Ok(())
+}
+
+// The first place behind a place at which there is an item of another pattern.
+fn end_of_pattern(items: &[Item], from: usize) -> usize
+    requires from { from < length items.now }
+    ensures behind { from < result }
+    ensures within { result ≤ length items.now }
+    ensures same { (k : ℕ) → from ≤ k → k < result
+        → pattern_at items.now k ≡ pattern_at items.now from }
+    ensures next { result < length items.now
+        → pattern_at items.now result ≢ pattern_at items.now from }
+{
+    let pattern = items[from].pattern();
+    let mut end = from + 1;
+    while end < items.len() && items[end].pattern() == pattern {
+        end += 1;
+    }
+    end
+}
+
+// The given items and all that they lead to by reading nothing, pattern by pattern.
+fn follow_all(alloc: Global, nfas: &[Nfa], given: &[Item]) -> Result<Vec<Item>, AllocError>
+    requires automata { AreAutomata nfas.now }
+    requires inside { AreItemsOf nfas.now given.now }
+    requires by_pattern { AreByPattern given.now }
+    ensures { IfOk result (λ v. v.items ≡ closed nfas.now given.now) }
+{
+    let mut found = Vec::with_capacity(alloc, given.len())?;
+    let mut from = 0;
+    while from < given.len() {
+        let end = end_of_pattern(given, from);
+        follow_pattern(
+            alloc,
+            nfas,
+            given[from].pattern(),
+            &given[from..end],
+            &mut found,
+        )?;
+        from = end;
+    }
+    Ok(found)
+}
+
+// Whether the item is among the items.
+fn has_item(items: &[Item], item: Item) -> bool
+    requires { AreAscendingItems items.now }
+    ensures { IsTrue result ↔ Contains items.now item }
+{
+    items.binary_search(&item).is_ok()
+}
+
+// Those of the patterns that have no REJECT item among the items.
+fn spared_by(alloc: Global, items: &[Item], spared: &[usize]) -> Result<Vec<usize>, AllocError>
+    requires { AreAscendingItems items.now }
+    ensures { IfOk result (λ v. v.items ≡ still_spared items.now spared.now) }
+{
+    let mut still = Vec::new(alloc);
+    for pattern in spared {
+        let reject = Item {
+            nfa_index: NfaIndex(*pattern),
+            nfa_state: REJECT,
+        };
+        if !has_item(items, reject) {
+            still.push(*pattern)?;
+        }
+    }
+    Ok(still)
+}
+
+// Those of the items that are no REJECT states.
+fn live_among(alloc: Global, items: &[Item]) -> Result<Vec<Item>, AllocError>
+    ensures { IfOk result (λ v. v.items ≡ live_of items.now) }
+{
+    let mut live = Vec::with_capacity(alloc, items.len())?;
+    for item in items {
+        if item.state() != REJECT {
+            live.push(*item)?;
+        }
+    }
+    Ok(live)
+}
+
+// The set of the items, where these patterns had no REJECT item before.
+fn set_of(
+    alloc: Global,
+    patterns: usize,
+    spared: &[usize],
+    items: &[Item],
+) -> Result<ItemSet, AllocError>
+    requires ascending { AreAscendingItems items.now }
+    requires within { AreWithin patterns items.now }
+    requires spared { AreSpared patterns spared.now }
+    ensures { IfOk result (λ s.
+        s ≡ full patterns (still_spared items.now spared.now) (live_of items.now)) }
+{
+    let spared = spared_by(alloc, items, spared)?;
+    let live = live_among(alloc, items)?;
+    Ok(ItemSet {
+        live,
+        spared,
+        patterns,
+    })
+}
+
+/// The given items and all that they lead to by reading nothing.
+pub fn closure(alloc: Global, nfas: &[Nfa], given: &[Item]) -> Result<ItemSet, AllocError>
+    requires automata { AreAutomata nfas.now }
+    requires inside { AreItemsOf nfas.now given.now }
+    requires by_pattern { AreByPattern given.now }
+    ensures { IfOk result (λ s. s ≡ closed nfas.now given.now) }
+{
+    let items = follow_all(alloc, nfas, given)?;
+    let patterns = nfas.len();
+    let all = patterns_below(alloc, patterns)?;
+    set_of(alloc, patterns, &all, &items)
+}
+
+// All patterns.
+fn patterns_below(alloc: Global, patterns: usize) -> Result<Vec<usize>, AllocError>
+    ensures { IfOk result (λ v. v.items ≡ range_with_len 0 patterns) }
+{
+    (0..patterns).collect(alloc)
+}
+
+/// The set that a set leads to by the values that take these test edges. A pattern with a REJECT item keeps it, so that the
+/// live items are followed alone.
+pub fn advance(
+    alloc: Global,
+    nfas: &[Nfa],
+    set: &ItemSet,
+    transitions: &[Transition],
+) -> Result<ItemSet, AllocError>
+    requires automata { AreAutomata nfas.now }
+    requires inside { AreItemsOf nfas.now set.now }
+    requires sorted { IsSorted transition_cmp transitions.now }
+    requires taken { (v : ℕ) × AreTransitions nfas.now set.now v transitions.now }
+    ensures { IfOk result (λ s. (v : ℕ) → AreTransitions nfas.now set.now v transitions.now
+        → s ≡ move nfas.now set.now v) }
+{
+    let given = targets_by(alloc, nfas, &set.live, transitions)?;
+    let items = follow_all(alloc, nfas, &given)?;
+    set_of(alloc, set.patterns, &set.spared, &items)
+}

@@ -1,0 +1,266 @@
+//! Items, which are a pattern and a state of its automaton, and sets of them.
+ghost use Rattle.std.specs.Prelude.{◌≡◌, ◌<◌, ◌↔◌, IsTrue, length, slice_get, Some, refl};
+ghost use Rattle.std.specs.List.{Contains};
+ghost use Rattle.std.specs.Cmp.{on_equiv, on_total, on_per, on_po, partial_order_from_agreeing_total};
+ghost use Rattle.std.specs.Cmp;
+ghost use Rattle.lalrpop_items.specs.Ascending.{item_cmp};
+ghost use Rattle.lalrpop_items.specs.ItemOrder.{item_eq, rejects_cmp, set_cmp, set_eq};
+ghost use Rattle.lalrpop_items.specs.Internal.OrderLaws.{item_total, item_equiv, item_ties, set_total, set_equiv, set_ties};
+ghost use Rattle.lalrpop_nfa.specs.Compiled.{reject_state};
+ghost use Rattle.std.specs.List.Sorted.{IsStrictlySortedBy};
+ghost use Rattle.std.specs.Ordering.{nat_cmp};
+ghost use Rattle.lalrpop_items.specs.Internal.Split.{AreAlikeBelow};
+ghost use Rattle.lalrpop_items.specs.LiveItems.{live_of};
+
+use super::{DfaStateIndex, NfaIndex};
+use lalrpop_kernels::Kernel;
+use lalrpop_nfa::{Nfa, NfaStateIndex};
+use std::alloc::AllocError;
+use std::cmp::Ordering;
+use std::marker::Model;
+
+/// A pattern, and a state of its automaton.
+#[derive(Copy, Clone, Debug)]
+pub struct Item {
+    pub(super) nfa_index: NfaIndex,
+    pub(super) nfa_state: NfaStateIndex,
+}
+
+impl Model for Item {
+    ghost use Rattle.std.specs.Prelude.{ℕ};
+
+    ghost Value = { ℕ × ℕ };
+
+    ghost view = { λ x. (x.nfa_index, x.nfa_state) };
+
+    ghost inverse = { λ x. record { nfa_index = x.0; nfa_state = x.1 } };
+}
+
+impl PartialEq for Item {
+    ghost eq = { item_eq };
+
+    ghost laws = { Cmp.partial_equiv_from_equiv item_equiv };
+
+    fn eq(&self, other: &Item) -> bool {
+        self.nfa_index == other.nfa_index && self.nfa_state == other.nfa_state
+    }
+}
+
+impl Eq for Item {
+    ghost laws = { item_equiv };
+}
+
+impl PartialOrd for Item {
+    ghost partial_cmp = { λ x y. Some (item_cmp x y) };
+
+    ghost laws = { partial_order_from_agreeing_total item_cmp item_total (λ x y. refl) item_ties };
+
+    fn partial_cmp(&self, other: &Item) -> Option<Ordering> {
+        Some(self.cmp(other))
+    }
+}
+
+impl Ord for Item {
+    ghost cmp = { item_cmp };
+
+    ghost total = { item_total };
+
+    ghost matches_partial_cmp = { λ x y. refl };
+
+    ghost matches_eq = { item_ties };
+
+    fn cmp(&self, other: &Item) -> Ordering {
+        self.nfa_index
+            .cmp(&other.nfa_index)
+            .then(self.nfa_state.cmp(&other.nfa_state))
+    }
+}
+
+impl Item {
+    /// The state of the automaton of this pattern.
+    pub fn new(pattern: NfaIndex, state: NfaStateIndex) -> Item
+        ensures value { result ≡ (pattern, state) }
+    {
+        Item {
+            nfa_index: pattern,
+            nfa_state: state,
+        }
+    }
+
+    /// The automaton of the item's pattern.
+    pub fn nfa<'nfa>(self, nfas: &'nfa [Nfa]) -> &'nfa Nfa
+        requires { self.0 < length nfas.now }
+        ensures { slice_get nfas.now self.0 ≡ Some result.now }
+    {
+        &nfas[self.nfa_index.0]
+    }
+
+    /// The item's pattern.
+    pub fn pattern(self) -> NfaIndex
+        ensures { result ≡ self.0 }
+    {
+        self.nfa_index
+    }
+
+    /// The state of that automaton.
+    pub fn state(self) -> NfaStateIndex
+        ensures { result ≡ self.1 }
+    {
+        self.nfa_state
+    }
+
+    /// Another state of the same pattern's automaton.
+    pub(super) fn to(self, nfa_state: NfaStateIndex) -> Item
+        ensures { result ≡ (self.0, nfa_state) }
+    {
+        Item {
+            nfa_index: self.nfa_index,
+            nfa_state,
+        }
+    }
+}
+
+// No number below this one is in just one of the two ascending lists.
+fn first_apart(left: &[usize], right: &[usize]) -> usize
+    requires left { IsStrictlySortedBy nat_cmp left.now }
+    requires right { IsStrictlySortedBy nat_cmp right.now }
+    ensures { AreAlikeBelow result left.now right.now }
+{
+    let both = left.len().min(right.len());
+    for index in 0..both {
+        if left[index] != right[index] {
+            return left[index].min(right[index]);
+        }
+    }
+    if both < left.len() {
+        left[both]
+    } else if both < right.len() {
+        right[both]
+    } else {
+        0
+    }
+}
+
+/// The items that a state holds, ascending: the live ones, which are no REJECT states, and the REJECT item of each pattern
+/// that isn't spared.
+#[derive(Debug, Drop)]
+pub struct ItemSet {
+    pub(super) live: Vec<Item>,
+    pub(super) spared: Vec<usize>,
+    pub(super) patterns: usize,
+}
+
+impl Model for ItemSet {
+    ghost use Rattle.std.specs.Prelude.{ℕ, List};
+    ghost use Rattle.lalrpop_items.specs.Internal.Split.{full, IsSplit};
+
+    ghost Value = { List (ℕ × ℕ) };
+
+    ghost view = { λ s. full s.patterns s.spared.items s.live.items };
+
+    ghost invariant = { λ s. IsSplit s.patterns s.spared.items s.live.items };
+}
+
+impl ItemSet {
+    /// Those of its items that are no REJECT states.
+    pub fn live(&self) -> &[Item]
+        ensures value { result.now ≡ live_of self.now }
+    {
+        &self.live
+    }
+
+    // Whether the pattern has a REJECT item.
+    fn has_reject(&self, pattern: usize) -> bool
+        ensures { IsTrue result ↔ Contains self.now (pattern, reject_state) }
+    {
+        pattern < self.patterns && !self.spared.contains(&pattern)
+    }
+
+    // The order of sets by the patterns that have a REJECT item.
+    fn cmp_rejects(&self, other: &ItemSet) -> Ordering
+        ensures { result ≡ rejects_cmp self.now other.now }
+    {
+        if self.patterns == other.patterns && self.spared == other.spared {
+            return Ordering::Equal;
+        }
+        let first = if self.patterns == other.patterns {
+            first_apart(&self.spared, &other.spared)
+        } else {
+            0
+        };
+        for pattern in first..self.patterns.max(other.patterns) {
+            let here = self.has_reject(pattern);
+            if here != other.has_reject(pattern) {
+                return if here {
+                    Ordering::Greater
+                } else {
+                    Ordering::Less
+                };
+            }
+        }
+        Ordering::Equal
+    }
+}
+
+impl PartialEq for ItemSet {
+    ghost eq = { set_eq };
+
+    ghost laws = { Cmp.partial_equiv_from_equiv set_equiv };
+
+    fn eq(&self, other: &ItemSet) -> bool {
+        self.cmp(other) == Ordering::Equal
+    }
+}
+
+impl Eq for ItemSet {
+    ghost laws = { set_equiv };
+}
+
+impl PartialOrd for ItemSet {
+    ghost partial_cmp = { λ x y. Some (set_cmp x y) };
+
+    ghost laws = { partial_order_from_agreeing_total set_cmp set_total (λ x y. refl) set_ties };
+
+    fn partial_cmp(&self, other: &ItemSet) -> Option<Ordering> {
+        Some(self.cmp(other))
+    }
+}
+
+impl Ord for ItemSet {
+    ghost cmp = { set_cmp };
+
+    ghost total = { set_total };
+
+    ghost matches_partial_cmp = { λ x y. refl };
+
+    ghost matches_eq = { set_ties };
+
+    fn cmp(&self, other: &ItemSet) -> Ordering {
+        match self.live.cmp(&other.live) {
+            Ordering::Equal => self.cmp_rejects(other),
+            order => order,
+        }
+    }
+}
+
+impl Clone for ItemSet {
+    ghost is_clone = { λ x y. y ≡ x };
+
+    fn clone(&self) -> Result<ItemSet, AllocError> {
+        Ok(ItemSet {
+            live: self.live.clone()?,
+            spared: self.spared.clone()?,
+            patterns: self.patterns,
+        })
+    }
+}
+
+impl Kernel for ItemSet {
+    type Index = DfaStateIndex;
+
+    ghost index_of = { λ n. n };
+
+    fn index(c: usize) -> DfaStateIndex {
+        DfaStateIndex(c)
+    }
+}

@@ -1,0 +1,86 @@
+//! Where the items of a set lead by a value, told by the test edges that the value takes.
+
+ghost use Rattle.std.specs.Prelude.{◌≡◌, ◌<◌, ◌≤◌, ◌++◌, length, map, IfOk, OnOk};
+ghost use Rattle.std.specs.List.{Contains};
+ghost use Rattle.std.specs.List.Sorted.{IsSorted};
+ghost use Rattle.lalrpop_items.specs.Ascending.{AreAscendingItems, AreByPattern};
+ghost use Rattle.lalrpop_items.specs.Given.{IsItemOf, AreItemsOf};
+ghost use Rattle.lalrpop_items.specs.Subsets.{default_targets};
+ghost use Rattle.lalrpop_items.specs.Transitions.{transition_cmp};
+ghost use Rattle.lalrpop_items.specs.Internal.Taken.{IsRunOf, targets_of_run, AreTargetsBy};
+
+use super::transitions::Transition;
+use super::items::Item;
+use lalrpop_nfa::{Nfa, Other};
+use std::alloc::{AllocError, Global};
+
+// The first place, from this one on, at which there is no edge of the item.
+fn end_of_item(transitions: &[Transition], from: usize, item: Item) -> usize
+    requires { from ≤ length transitions.now }
+    ensures { IsRunOf transitions.now item from result }
+{
+    let mut end = from;
+    while end < transitions.len() && transitions[end].item == item {
+        end += 1;
+    }
+    end
+}
+
+// Adds where the other edges of the item's state lead.
+fn push_default_targets(nfa: &Nfa, item: Item, targets: &mut Vec<Item>) -> Result<(), AllocError>
+    requires { item.1 < length nfa.now.kinds }
+    ensures { OnOk result (targets.new.items
+        ≡ targets.old.items ++ map (λ q. (item.0, q)) (default_targets nfa.now item.1)) }
+{
+    for edge in nfa.edges::<Other>(item.state()) {
+        targets.push(item.to(edge.to))?;
+    }
+    Ok(())
+}
+
+// Adds where an item leads: by these test edges of it, and where there is none by its other edges.
+fn push_targets(
+    nfas: &[Nfa],
+    item: Item,
+    run: &[Transition],
+    targets: &mut Vec<Item>,
+) -> Result<(), AllocError>
+    requires { IsItemOf nfas.now item }
+    ensures { OnOk result (targets.new.items
+        ≡ targets.old.items ++ targets_of_run nfas.now item run.now) }
+{
+    if run.is_empty() {
+        return push_default_targets(item.nfa(nfas), item, targets);
+    }
+    for transition in run {
+        targets.push(item.to(transition.to))?;
+    }
+    Ok(())
+}
+
+/// Where the items lead, of whose test edges these are taken. Both ascend, so that one walk finds the edges of each item.
+/// A target that items of a pattern share, as REJECT, is mostly given once.
+pub(super) fn targets_by(
+    alloc: Global,
+    nfas: &[Nfa],
+    items: &[Item],
+    transitions: &[Transition],
+) -> Result<Vec<Item>, AllocError>
+    requires inside { AreItemsOf nfas.now items.now }
+    requires ascending { AreAscendingItems items.now }
+    requires sorted { IsSorted transition_cmp transitions.now }
+    requires leave { (l : Transition) → Contains transitions.now l → Contains items.now l.item }
+    ensures targets { IfOk result (λ targets.
+        AreTargetsBy nfas.now items.now transitions.now targets.items) }
+    ensures by_pattern { IfOk result (λ targets. AreByPattern targets.items) }
+{
+    let mut targets = Vec::with_capacity(alloc, items.len())?;
+    let mut from = 0;
+    for item in items {
+        let end = end_of_item(transitions, from, *item);
+        push_targets(nfas, *item, &transitions[from..end], &mut targets)?;
+        from = end;
+    }
+    targets.dedup();
+    Ok(targets)
+}
