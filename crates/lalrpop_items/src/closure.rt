@@ -12,10 +12,10 @@ ghost use Rattle.lalrpop_items.specs.Transitions.{transition_cmp, AreTransitions
 ghost use Rattle.lalrpop_items.specs.Internal.Worklist.{IsInserted, epsilon_targets, marked, AreOfPattern, AreStatesBelow, AreMarksOf, pattern_at};
 
 use super::NfaIndex;
-use super::transitions::Transition;
 use super::items::{Item, ItemSet};
 use super::moves::targets_by;
 use super::ordered::follow_ordered;
+use super::transitions::Transition;
 use lalrpop_nfa::{Nfa, NfaStateIndex, Noop, REJECT};
 use std::alloc::{AllocError, Global};
 

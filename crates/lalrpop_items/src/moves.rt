@@ -9,8 +9,8 @@ ghost use Rattle.lalrpop_items.specs.Subsets.{default_targets};
 ghost use Rattle.lalrpop_items.specs.Transitions.{transition_cmp};
 ghost use Rattle.lalrpop_items.specs.Internal.Taken.{IsRunOf, targets_of_run, AreTargetsBy};
 
-use super::transitions::Transition;
 use super::items::Item;
+use super::transitions::Transition;
 use lalrpop_nfa::{Nfa, Other};
 use std::alloc::{AllocError, Global};
 
