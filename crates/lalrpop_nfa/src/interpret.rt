@@ -40,7 +40,7 @@ pub fn interpret_counted<'text>(
         → IsLongestOf (Matches t) text.now (option_map (λ s. s.now) found)) }
     ensures prefix { IfOk result (λ found. IfSome found (λ s. IsPrefix s.now text.now)) }
     ensures cost { steps.new ≤ steps.old + length nfa.now.kinds * (length (chars text.now) + 1) }
-    ensures rises { steps.old ≤ steps.new }
+    ensures never_falls { steps.old ≤ steps.new }
 {
     let mut simulation = Simulation::start(alloc, nfa, steps)?;
     let mut longest = if simulation.accepts() {
@@ -92,7 +92,7 @@ impl<'nfa> Simulation<'nfa> {
         ensures states { IfOk result (λ s. IsClosure nfa.now.edges
             (only start_state (length nfa.now.kinds)) s.states) }
         ensures cost { steps.new ≤ steps.old + length nfa.now.kinds }
-        ensures rises { steps.old ≤ steps.new }
+        ensures never_falls { steps.old ≤ steps.new }
     {
         let mut states = StateSet::new(alloc, nfa.len())?;
         states.insert(START)?;
@@ -107,7 +107,7 @@ impl<'nfa> Simulation<'nfa> {
         ensures states { IfOk result (λ s.
             IsMove self.entry.graph.edges value self.entry.states s.states) }
         ensures cost { steps.new ≤ steps.old + length self.entry.graph.kinds }
-        ensures rises { steps.old ≤ steps.new }
+        ensures never_falls { steps.old ≤ steps.new }
     {
         let Simulation {
             nfa,
@@ -190,7 +190,7 @@ impl StateSet {
         requires room { self.old.room ≡ length nfa.now.kinds }
         ensures states { OnOk result (IsClosure nfa.now.edges self.old self.new) }
         ensures cost { steps.new ≤ steps.old + length nfa.now.kinds }
-        ensures rises { steps.old ≤ steps.new }
+        ensures never_falls { steps.old ≤ steps.new }
     {
         let mut place = 0;
         while place < self.states().len() {

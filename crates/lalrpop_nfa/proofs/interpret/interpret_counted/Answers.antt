@@ -52,7 +52,7 @@ loop-offset-init c =
                 (of_cut text text 0 w.range.result.now (cut_start text c.utf8.text) w.range.ensures.value)
             | else-accepts w ↦ subst (λ found. IfSome found (λ s. IsPrefix s.now text)) (sym w.longest-is) tt
           ];
-      rises = c.in_ok-simulation.ensures.rises;
+      never_falls = c.in_ok-simulation.ensures.never_falls;
       cost = omega (arith, one, c.in_ok-simulation.ensures.cost);
     }
 
@@ -135,7 +135,7 @@ loop-offset-preserved-then-accepts-2 c =
           of_accept (Matches t) text rest2 at2 c.range-then-accepts-2.result.now n.cut is
           (matched_if t c.args.nfa.now (chars (take at2 text)) c.in_ok-simulation-2.simulation.states h n.after (rw n.graph at (c.accepts-in-loop-offset.ensures.0 c.if-accepts-2.true)));
       prefix = of_cut text rest2 at2 c.range-then-accepts-2.result.now n.cut is;
-      rises = omega (arith, c.read.ensures.rises, i.rises);
+      never_falls = omega (arith, c.read.ensures.never_falls, i.never_falls);
       cost = let one = rw i.graph at c.read.ensures.cost in omega (arith, n.count, i.cost, one);
     }
 
@@ -160,7 +160,7 @@ loop-offset-preserved c =
           absurd cc)
           (i.best t h);
       prefix = i.prefix;
-      rises = omega (arith, c.read.ensures.rises, i.rises);
+      never_falls = omega (arith, c.read.ensures.never_falls, i.never_falls);
       cost = let one = rw i.graph at c.read.ensures.cost in omega (arith, n.count, i.cost, one);
     }
 

@@ -19,6 +19,6 @@ invariant-loop-offset l = record {
   after : IsAfterWord l.nfa (chars (take (char_indices_offset l.offset-iterator) l.text)) l.simulation.states;
   best : (t : Tree) → IsCompiled t l.nfa → IsLongestOfUpTo (Matches t) l.text (char_indices_offset l.offset-iterator) (option_map (λ s. s.now) l.longest);
   prefix : IfSome l.longest (λ s. IsPrefix s.now l.text);
-  rises : l.fn.steps ≤ l.steps;
+  never_falls : l.fn.steps ≤ l.steps;
   cost : l.steps ≤ l.fn.steps + length l.nfa.kinds * (length (chars (take (char_indices_offset l.offset-iterator) l.text)) + 1);
 }
