@@ -7,3 +7,4 @@ mod Dfa
 mod Items
 mod SameAutomata
 mod Counts
+mod Agree

@@ -1,3 +1,4 @@
+-- cases: proofs/Cases/Agree.antt
 -- When the longest match of a pattern's own automaton, and that of the automaton of a list of this pattern alone, agree.
 use Rattle.std.specs.Prelude.{◌≡◌, ℕ, List, [], ◌∷◌, Option, Some, None}
 
