@@ -57,7 +57,13 @@ impl Model for State {
 
     ghost Value = { StoredState };
 
-    ghost view = { λ s. record { kind = s.kind; other = s.other_edge; items = s.item_set; first = s.first_edge; count = s.edge_count } };
+    ghost view = { λ s. record {
+      kind = s.kind;
+      other = s.other_edge;
+      items = s.item_set;
+      first = s.first_edge;
+      count = s.edge_count;
+    } };
 }
 
 impl State {

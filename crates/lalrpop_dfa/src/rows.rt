@@ -59,7 +59,12 @@ impl Rows {
         mut edges: Edges,
     ) -> Result<(), AllocError>
         ensures { OnOk result (self.new ≡ self.old
-            ++ record { kind = kind; tests = edges.tests.items; other = edges.other; items = item_set } ∷ []) }
+            ++ record {
+              kind = kind;
+              tests = edges.tests.items;
+              other = edges.other;
+              items = item_set;
+            } ∷ []) }
     {
         let state = State {
             item_set,

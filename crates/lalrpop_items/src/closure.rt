@@ -54,7 +54,8 @@ impl Worklist {
         requires marks { AreMarksOf nfas.now item.0 self.old.marks.items }
         ensures inserted { OnOk result
             (IsInserted (marked item.0 self.old.marks.items) self.old.pending.items
-            (epsilon_targets nfas.now item) (marked item.0 self.new.marks.items) self.new.pending.items) }
+            (epsilon_targets nfas.now item)
+            (marked item.0 self.new.marks.items) self.new.pending.items) }
         ensures len { OnOk result (length self.new.marks.items ≡ length self.old.marks.items) }
     {
         for edge in item.nfa(nfas).edges::<Noop>(item.state()) {
