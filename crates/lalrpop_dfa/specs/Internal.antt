@@ -6,3 +6,4 @@ pub mod SameLaws
 pub mod Transitions
 pub mod Stored
 pub mod Room
+pub mod Labelled

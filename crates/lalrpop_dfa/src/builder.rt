@@ -12,22 +12,20 @@ ghost use Rattle.lalrpop_dfa.specs.Counts.{state_bound};
 ghost use Rattle.lalrpop_dfa.specs.Dfa.{Recognizes};
 ghost use Rattle.lalrpop_items.specs.Automata.{AreCompiled};
 ghost use Rattle.lalrpop_dfa.specs.Items.{HoldsItems, OthersReject, IsInWordOrder};
-ghost use Rattle.lalrpop_alphabet.specs.Alphabet.{IsAlphabetOf};
 ghost use Rattle.lalrpop_dfa.specs.Internal.Room.{IsRoomOf, OnlyNumbers};
 ghost use Rattle.lalrpop_items.specs.Transitions.{transition_cmp, AreTransitions};
-ghost use Rattle.lalrpop_items.specs.Subsets.{move, starts_from, first_set_of};
+ghost use Rattle.lalrpop_items.specs.Subsets.{move, first_set_of};
 ghost use Rattle.lalrpop_dfa.specs.Internal.BreadthFirst.{IsBreadthFirst, nth};
 
-use super::best::{Tie, kind_of};
+use super::automata::Automata;
+use super::best::Tie;
 use super::blocks::{Block, Known, Room, Transitions};
 use super::origin::Origin;
 use super::rows::{Edges, Rows};
-use super::{Dfa, DfaConstructionError, DfaStateIndex, NfaIndex, Precedence};
-use lalrpop_alphabet::Alphabet;
-use lalrpop_items::closure::{advance, closure};
-use lalrpop_items::{Item, ItemSet, Transition};
+use super::{Dfa, DfaConstructionError, DfaStateIndex, Precedence};
+use lalrpop_items::{ItemSet, Transition};
 use lalrpop_kernels::KernelSet;
-use lalrpop_nfa::{Nfa, START};
+use lalrpop_nfa::Nfa;
 use std::alloc::{AllocError, Global};
 use std::collections::BTreeMap;
 
@@ -45,25 +43,12 @@ struct Table {
     rows: Rows,
 }
 
-// START of each automaton.
-fn starts_of(alloc: Global, nfas: &[Nfa]) -> Result<Vec<Item>, AllocError>
-    ensures { IfOk result (λ starts. starts.items ≡ starts_from 0 nfas.now) }
-{
-    let mut starts = Vec::new(alloc);
-    for index in 0..nfas.len() {
-        starts.push(Item::new(NfaIndex::new(index), START))?;
-    }
-    Ok(starts)
-}
-
 // The set that the empty word leads to, as number 0.
-fn first_sets(alloc: Global, nfas: &[Nfa]) -> Result<Sets, AllocError>
-    requires { AreAutomata nfas.now }
-    ensures { IfOk result (λ s. (s.kernels.list ≡ first_set_of nfas.now ∷ [])
+fn first_sets(alloc: Global, automata: &Automata) -> Result<Sets, AllocError>
+    ensures { IfOk result (λ s. (s.kernels.list ≡ first_set_of automata.now.graphs ∷ [])
         × (s.kernels.place ≡ 0) × (s.origins.items ≡ (0, 0) ∷ [])) }
 {
-    let starts = starts_of(alloc, nfas)?;
-    let first = closure(alloc, nfas, &starts)?;
+    let first = automata.first_set(alloc)?;
     let mut kernels = KernelSet::new(alloc);
     kernels.add_state(first)?;
     let mut origins = Vec::new(alloc);
@@ -88,20 +73,19 @@ impl Sets {
     fn target_of(
         &mut self,
         alloc: Global,
-        nfas: &[Nfa],
+        automata: &Automata,
         set: &ItemSet,
         transitions: &[Transition],
         origin: Origin,
     ) -> Result<DfaStateIndex, AllocError>
-        requires automata { AreAutomata nfas.now }
-        requires inside { AreItemsOf nfas.now set.now }
+        requires inside { AreItemsOf automata.now.graphs set.now }
         requires same_length { length self.old.origins.items ≡ length self.old.kernels.list }
         requires sorted { IsSorted transition_cmp transitions.now }
-        requires transitions { AreTransitions nfas.now set.now origin.1 transitions.now }
+        requires transitions { AreTransitions automata.now.graphs set.now origin.1 transitions.now }
         ensures { IfOk result (λ j.
-            IsAdded self.old origin (move nfas.now set.now origin.1) j self.new) }
+            IsAdded self.old origin (move automata.now.graphs set.now origin.1) j self.new) }
     {
-        let target = advance(alloc, nfas, set, transitions)?;
+        let target = automata.advance(alloc, set, transitions)?;
         self.add(target, origin)
     }
 
@@ -109,27 +93,28 @@ impl Sets {
     fn target_of_transitions(
         &mut self,
         alloc: Global,
-        nfas: &[Nfa],
+        automata: &Automata,
         set: &ItemSet,
         known: &mut BTreeMap<Transitions, DfaStateIndex>,
         transitions: &Transitions,
         origin: Origin,
     ) -> Result<DfaStateIndex, AllocError>
-        requires automata { AreAutomata nfas.now }
-        requires inside { AreItemsOf nfas.now set.now }
+        requires inside { AreItemsOf automata.now.graphs set.now }
         requires same_length { length self.old.origins.items ≡ length self.old.kernels.list }
-        requires transitions { AreTransitions nfas.now set.now origin.1 transitions.now.list.items }
-        requires known { AreKnown nfas.now set.now known.old self.old.kernels.list }
+        requires transitions { AreTransitions automata.now.graphs set.now origin.1
+            transitions.now.list.items }
+        requires known { AreKnown automata.now.graphs set.now known.old self.old.kernels.list }
         ensures added { IfOk result (λ j.
-            IsAdded self.old origin (move nfas.now set.now origin.1) j self.new) }
-        ensures known { OnOk result (AreKnown nfas.now set.now known.new self.new.kernels.list) }
+            IsAdded self.old origin (move automata.now.graphs set.now origin.1) j self.new) }
+        ensures known { OnOk result
+            (AreKnown automata.now.graphs set.now known.new self.new.kernels.list) }
     {
         if let Some(number) = known.get(transitions) {
             return Ok(*number);
         }
         let mut sorted = transitions.clone()?;
         sorted.list.sort()?;
-        let number = self.target_of(alloc, nfas, set, &sorted.list, origin)?;
+        let number = self.target_of(alloc, automata, set, &sorted.list, origin)?;
         known.insert(sorted, number)?;
         Ok(number)
     }
@@ -138,37 +123,36 @@ impl Sets {
     fn edges_of(
         &mut self,
         alloc: Global,
-        nfas: &[Nfa],
-        alphabet: &Alphabet,
+        automata: &Automata,
         room: &mut Room,
         number: usize,
         set: &ItemSet,
     ) -> Result<Edges, AllocError>
-        requires automata { AreAutomata nfas.now }
-        requires alphabet { IsAlphabetOf nfas.now alphabet.now }
-        requires inside { AreItemsOf nfas.now set.now }
-        requires breadth_first { IsBreadthFirst
-            (subset_automaton nfas.now) self.old.kernels.list self.old.origins.items number 0 }
+        requires inside { AreItemsOf automata.now.graphs set.now }
+        requires breadth_first { IsBreadthFirst (subset_automaton automata.now.graphs)
+            self.old.kernels.list self.old.origins.items number 0 }
         requires here { slice_get self.old.kernels.list number ≡ Some set.now }
-        requires room { IsRoomOf alphabet.now room.old }
-        ensures edged { IfOk result (λ e. IsEdged nfas.now
+        requires room { IsRoomOf automata.now.alphabet room.old }
+        ensures edged { IfOk result (λ e. IsEdged automata.now.graphs
             self.old.kernels.list self.old.origins.items number set.now
             self.new.kernels.list self.new.origins.items e.tests.items e.other) }
         ensures place { OnOk result (self.new.kernels.place ≡ self.old.kernels.place) }
-        ensures room { OnOk result (IsRoomOf alphabet.now room.new) }
+        ensures room { OnOk result (IsRoomOf automata.now.alphabet room.new) }
     {
-        room.fill(nfas, alphabet, set)?;
+        automata.fill(room, set)?;
         let by_class = &room.edges.lists;
         let known = &mut room.known;
         let mut tests = Vec::with_capacity(alloc, room.blocks.len())?;
         for block in &room.blocks {
             let Block { range, class } = block;
             let origin = Origin::new(number, range.start());
-            let target = target_of_class(self, alloc, nfas, set, known, by_class, *class, origin)?;
+            let target = target_of_class(
+                self, alloc, automata, set, known, by_class, *class, origin,
+            )?;
             tests.push((range.clone()?, target))?;
         }
         // No label reaches the greatest number, so that it takes no test edge.
-        let other = self.target_of(alloc, nfas, set, &[], Origin::new(number, u32::MAX))?;
+        let other = self.target_of(alloc, automata, set, &[], Origin::new(number, u32::MAX))?;
         Ok(Edges { tests, other })
     }
 }
@@ -178,28 +162,28 @@ impl Sets {
 fn target_of_class(
     sets: &mut Sets,
     alloc: Global,
-    nfas: &[Nfa],
+    automata: &Automata,
     set: &ItemSet,
     known: &mut Known,
     by_class: &[Transitions],
     class: usize,
     origin: Origin,
 ) -> Result<DfaStateIndex, AllocError>
-    requires automata { AreAutomata nfas.now }
-    requires inside { AreItemsOf nfas.now set.now }
+    requires inside { AreItemsOf automata.now.graphs set.now }
     requires same_length { length sets.old.origins.items ≡ length sets.old.kernels.list }
     requires transitions { (t : Transitions) × ((slice_get by_class.now class ≡ Some t)
-        × AreTransitions nfas.now set.now origin.1 t.list.items) }
+        × AreTransitions automata.now.graphs set.now origin.1 t.list.items) }
     requires count { length known.old.by_class.items ≡ length by_class.now }
-    requires known { AreKnown nfas.now set.now known.old.by_transitions sets.old.kernels.list }
-    requires classes { AreKnownClasses nfas.now set.now by_class.now
+    requires known { AreKnown automata.now.graphs set.now
+        known.old.by_transitions sets.old.kernels.list }
+    requires classes { AreKnownClasses automata.now.graphs set.now by_class.now
         known.old.by_class.items sets.old.kernels.list }
     ensures added { IfOk result (λ j.
-        IsAdded sets.old origin (move nfas.now set.now origin.1) j sets.new) }
+        IsAdded sets.old origin (move automata.now.graphs set.now origin.1) j sets.new) }
     ensures count { OnOk result (length known.new.by_class.items ≡ length by_class.now) }
-    ensures known { OnOk result
-        (AreKnown nfas.now set.now known.new.by_transitions sets.new.kernels.list) }
-    ensures classes { OnOk result (AreKnownClasses nfas.now set.now by_class.now
+    ensures known { OnOk result (AreKnown automata.now.graphs set.now
+        known.new.by_transitions sets.new.kernels.list) }
+    ensures classes { OnOk result (AreKnownClasses automata.now.graphs set.now by_class.now
         known.new.by_class.items sets.new.kernels.list) }
     ensures numbers { OnOk result
         (OnlyNumbers known.old.by_class.items class known.new.by_class.items) }
@@ -209,7 +193,7 @@ fn target_of_class(
     }
     let number = sets.target_of_transitions(
         alloc,
-        nfas,
+        automata,
         set,
         &mut known.by_transitions,
         &by_class[class],
@@ -224,30 +208,27 @@ impl Table {
     fn expand(
         &mut self,
         alloc: Global,
-        nfas: &[Nfa],
-        alphabet: &Alphabet,
+        automata: &Automata,
         precedences: &[Precedence],
         room: &mut Room,
         set: ItemSet,
     ) -> Result<(), DfaConstructionError>
-        requires same_len { length nfas.now ≡ length precedences.now }
-        requires automata { AreAutomata nfas.now }
-        requires alphabet { IsAlphabetOf nfas.now alphabet.now }
-        requires built { IsBuiltTo nfas.now (map (λ p. p.0) precedences.now)
+        requires same_len { length automata.now.graphs ≡ length precedences.now }
+        requires built { IsBuiltTo automata.now.graphs (map (λ p. p.0) precedences.now)
             self.old.sets.kernels.list self.old.sets.origins.items self.old.rows
             (length self.old.rows) }
         requires here { slice_get self.old.sets.kernels.list (length self.old.rows) ≡ Some set }
-        requires room { IsRoomOf alphabet.now room.old }
-        ensures ok { OnOk result (IsBuiltTo nfas.now (map (λ p. p.0) precedences.now)
+        requires room { IsRoomOf automata.now.alphabet room.old }
+        ensures ok { OnOk result (IsBuiltTo automata.now.graphs (map (λ p. p.0) precedences.now)
             self.new.sets.kernels.list self.new.sets.origins.items self.new.rows
             (length self.new.rows)) }
         ensures one { OnOk result (length self.new.rows
             ≡ length self.old.rows + 1) }
         ensures place { OnOk result (self.new.sets.kernels.place ≡ self.old.sets.kernels.place) }
-        ensures room { OnOk result (IsRoomOf alphabet.now room.new) }
+        ensures room { OnOk result (IsRoomOf automata.now.alphabet room.new) }
         ensures err { IfErr result (IsTieOf (map (λ p. p.0) precedences.now) set) }
     {
-        let kind = match kind_of(nfas, precedences, &set) {
+        let kind = match automata.kind_of(precedences, &set) {
             Ok(kind) => kind,
             Err(Tie { greatest, second }) => {
                 return Err(DfaConstructionError::Ambiguity {
@@ -257,9 +238,7 @@ impl Table {
             }
         };
         let number = self.rows.len();
-        let edges = self
-            .sets
-            .edges_of(alloc, nfas, alphabet, room, number, &set)?;
+        let edges = self.sets.edges_of(alloc, automata, room, number, &set)?;
         self.rows.push(set, kind, edges)?;
         Ok(())
     }
@@ -283,14 +262,14 @@ pub(super) fn build(
     ensures err { IfErr result (λ e. let ps = map (λ p. p.0) precedences.now in
         (ts : List Tree) → AreCompiled ts nfas.now → IsClashOf ts ps e) }
 {
-    let alphabet = Alphabet::new(alloc, nfas)?;
-    let mut room = Room::new(alloc, &alphabet)?;
+    let automata = Automata::new(alloc, nfas)?;
+    let mut room = automata.room(alloc)?;
     let mut table = Table {
-        sets: first_sets(alloc, nfas)?,
+        sets: first_sets(alloc, &automata)?,
         rows: Rows::new(alloc),
     };
     while let Some(set) = table.sets.kernels.next()? {
-        table.expand(alloc, nfas, &alphabet, precedences, &mut room, set)?;
+        table.expand(alloc, &automata, precedences, &mut room, set)?;
     }
     Ok(Dfa::new(alloc, table.rows)?)
 }

@@ -1,6 +1,7 @@
 //! The automaton of a list of patterns: building it, and running it.
 #![tactic(auto)]
 
+mod automata;
 mod best;
 mod blocks;
 mod build;

@@ -32,8 +32,8 @@ loop-table-smaller c =
           (given_at c.loop-table.table.sets.kernels.list c.loop-table.table.sets.kernels.place (length c.loop-table.table.rows) g.0 c.in-Some.set g.1 g.2 c.loop-table.invariant.place),
     )
 
-pub new-requires-4 : goal.new-requires-4
-new-requires-4 c =
+pub new-requires-3 : goal.new-requires-3
+new-requires-3 c =
     (built_all c.args.nfas.now (map (λ p. p.0) c.args.precedences.now) c.loop-table.table.sets.kernels.list c.loop-table.table.sets.origins.items c.loop-table.table.rows c.loop-table.table.sets.kernels.place c.loop-table.invariant.built c.loop-table.invariant.place
     (next_none c.in_ok-set.field-0 _ _ c.in_ok-set.ensures.given c.in_default.not-Some) c.requires.automata.0 c.requires.automata.1).2
 

@@ -6,10 +6,10 @@ use Rattle.lalrpop_dfa.proofs.builder.Sets.edges_of.Given as goal
 
 abbrev pub invariant-loop-block : goal.invariant-loop-block
 invariant-loop-block l = record {
-  edging : IsEdging l.nfas l.fn.self.kernels.list l.fn.self.origins.items l.fn.number l.fn.set (map (λ b. b.range) l.block-items) l.block-index l.self.kernels.list l.self.origins.items l.tests.items;
+  edging : IsEdging l.automata.graphs l.fn.self.kernels.list l.fn.self.origins.items l.fn.number l.fn.set (map (λ b. b.range) l.block-items) l.block-index l.self.kernels.list l.self.origins.items l.tests.items;
   count : length l.known.by_class.items ≡ length l.by_class.items;
-  known : AreKnown l.nfas l.fn.set l.known.by_transitions l.self.kernels.list;
-  classes : AreKnownClasses l.nfas l.fn.set l.by_class.items l.known.by_class.items l.self.kernels.list;
+  known : AreKnown l.automata.graphs l.fn.set l.known.by_transitions l.self.kernels.list;
+  classes : AreKnownClasses l.automata.graphs l.fn.set l.by_class.items l.known.by_class.items l.self.kernels.list;
   numbers : AreOfBlocks l.block-items l.known.by_class.items;
   place : l.self.kernels.place ≡ l.fn.self.kernels.place;
 }

@@ -14,13 +14,13 @@ target_of-requires-clause-sorted c = subst (λ (ls : List Transition). IsSorted 
 pub target_of-requires-clause-transitions : goal.target_of-requires-clause-transitions
 target_of-requires-clause-transitions c =
     let same : IsPermutation c.args.transitions.now.list.items c.deref.result.now = rw (c.deref.ensures.value, ← c.in_ok-sorted.ensures.cases) c.in_ok-sort.ensures.permutation in
-    takes_sorted c.args.nfas.now c.args.set.now c.args.origin.1 c.args.transitions.now.list.items c.deref.result.now same c.requires.transitions
+    takes_sorted c.args.automata.now.graphs c.args.set.now c.args.origin.1 c.args.transitions.now.list.items c.deref.result.now same c.requires.transitions
 
 pub returns-clause-known : goal.returns-clause-known
 returns-clause-known c =
     let same : IsPermutation c.args.transitions.now.list.items c.sort.new.self.items = rw (← c.in_ok-sorted.ensures.cases) c.in_ok-sort.ensures.permutation in
-    let these = takes_sorted c.args.nfas.now c.args.set.now c.args.origin.1 c.args.transitions.now.list.items c.sort.new.self.items same c.requires.transitions in
-    known_more c.args.nfas.now c.args.set.now c.args.known.now c.insert.new.self c.args.self.now.kernels.list c.args.self.now.origins.items c.args.origin.0 c.args.origin.1 (record { list = c.sort.new.self }) c.in_ok-number.number
+    let these = takes_sorted c.args.automata.now.graphs c.args.set.now c.args.origin.1 c.args.transitions.now.list.items c.sort.new.self.items same c.requires.transitions in
+    known_more c.args.automata.now.graphs c.args.set.now c.args.known.now c.insert.new.self c.args.self.now.kernels.list c.args.self.now.origins.items c.args.origin.0 c.args.origin.1 (record { list = c.sort.new.self }) c.in_ok-number.number
     c.target_of.new.self.kernels.list c.target_of.new.self.origins.items c.requires.known these c.in_ok-number.ensures.0 c.in_ok-insert.ensures.updates
 
 pub returns-in-Some-clause-added : goal.returns-in-Some-clause-added

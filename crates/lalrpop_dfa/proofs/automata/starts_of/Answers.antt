@@ -1,7 +1,7 @@
 use Rattle.std.proofs.Common.{rules, ◌<◌, length}
 use Rattle.lalrpop_items.specs.Subsets.{starts_from}
 use Rattle.lalrpop_dfa.proofs.Adding.{starts_more}
-use Rattle.lalrpop_dfa.proofs.builder.starts_of.Goals as goal
+use Rattle.lalrpop_dfa.proofs.automata.starts_of.Goals as goal
 
 pub loop-index-preserved : goal.loop-index-preserved
 loop-index-preserved c =

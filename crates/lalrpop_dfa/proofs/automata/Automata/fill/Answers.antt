@@ -1,0 +1,10 @@
+use Rattle.lalrpop_dfa.proofs.automata.Automata.fill.Goals as goal
+
+pub fill-requires-clause-inside : goal.fill-requires-clause-inside
+fill-requires-clause-inside c = rw (← c.self.view_is) at c.requires.inside
+
+pub returns-clause-automata : goal.returns-clause-automata
+returns-clause-automata c = rw (← c.self.view_is) c.self.invariant.0
+
+pub returns-clause-transitions : goal.returns-clause-transitions
+returns-clause-transitions c = rw (← c.self.view_is) c.fill.ensures.transitions

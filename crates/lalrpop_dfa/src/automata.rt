@@ -1,0 +1,128 @@
+//! The automata of some trees, with the alphabet of their labels.
+//!
+//! The type carries what is known of them, so that the functions of the construction need not ask for it.
+
+ghost use Rattle.std.specs.Prelude.{◌≡◌, ℕ, length, map, IfOk, IfErr, OnOk};
+ghost use Rattle.std.specs.BTreeMap.{IsEmpty};
+ghost use Rattle.std.specs.List.Sorted.{IsSorted};
+ghost use Rattle.lalrpop_items.specs.Ascending.{AreAscendingItems};
+ghost use Rattle.lalrpop_items.specs.Given.{AreAutomata, AreItemsOf};
+ghost use Rattle.lalrpop_items.specs.Subsets.{move, starts_from, first_set_of};
+ghost use Rattle.lalrpop_items.specs.Transitions.{transition_cmp, AreTransitions};
+ghost use Rattle.lalrpop_ranges.specs.Partition.{IsPartition};
+ghost use Rattle.lalrpop_dfa.specs.Items.{IsLeaving};
+ghost use Rattle.lalrpop_dfa.specs.Internal.Builder.{AreUnknown};
+ghost use Rattle.lalrpop_dfa.specs.Internal.Built.{IsKindOf, IsTied};
+ghost use Rattle.lalrpop_dfa.specs.Internal.Room.{IsRoomOf, AreUsed};
+ghost use Rattle.lalrpop_dfa.specs.Internal.Transitions.{HaveTransitions};
+
+use super::best::{Tie, kind_of};
+use super::blocks::Room;
+use super::{Kind, NfaIndex, Precedence};
+use lalrpop_alphabet::Alphabet;
+use lalrpop_items::closure::{advance, closure};
+use lalrpop_items::{Item, ItemSet, Transition};
+use lalrpop_nfa::{Nfa, START};
+use std::alloc::{AllocError, Global};
+use std::marker::Model;
+
+/// The automata of some trees, one for each pattern, with the alphabet of their labels.
+#[derive(Drop)]
+pub(super) struct Automata<'nfas> {
+    nfas: &'nfas [Nfa],
+    alphabet: Alphabet,
+}
+
+impl<'nfas> Model for Automata<'nfas> {
+    ghost use Rattle.lalrpop_items.specs.Given.{AreAutomata};
+    ghost use Rattle.lalrpop_alphabet.specs.Alphabet.{IsAlphabetOf};
+    ghost use Rattle.lalrpop_dfa.specs.Internal.Labelled.{Labelled};
+
+    ghost Value = { Labelled };
+
+    ghost view = { λ a. record { graphs = a.nfas.now; alphabet = a.alphabet } };
+
+    ghost invariant = { λ a. AreAutomata a.nfas.now × IsAlphabetOf a.nfas.now a.alphabet };
+}
+
+// START of each automaton.
+fn starts_of(alloc: Global, nfas: &[Nfa]) -> Result<Vec<Item>, AllocError>
+    ensures { IfOk result (λ starts. starts.items ≡ starts_from 0 nfas.now) }
+{
+    let mut starts = Vec::new(alloc);
+    for index in 0..nfas.len() {
+        starts.push(Item::new(NfaIndex::new(index), START))?;
+    }
+    Ok(starts)
+}
+
+impl<'nfas> Automata<'nfas> {
+    pub(super) fn new(alloc: Global, nfas: &'nfas [Nfa]) -> Result<Automata<'nfas>, AllocError>
+        requires { AreAutomata nfas.now }
+        ensures { IfOk result (λ a. a.graphs ≡ nfas.now) }
+    {
+        let alphabet = Alphabet::new(alloc, nfas)?;
+        Ok(Automata { nfas, alphabet })
+    }
+
+    /// Room for the classes of the alphabet.
+    pub(super) fn room(&self, alloc: Global) -> Result<Room, AllocError>
+        ensures { IfOk result (IsRoomOf self.now.alphabet) }
+    {
+        Room::new(alloc, &self.alphabet)
+    }
+
+    /// The set that the empty word leads to.
+    pub(super) fn first_set(&self, alloc: Global) -> Result<ItemSet, AllocError>
+        ensures { IfOk result (λ s. s ≡ first_set_of self.now.graphs) }
+    {
+        let starts = starts_of(alloc, self.nfas)?;
+        closure(alloc, self.nfas, &starts)
+    }
+
+    /// The set that a set leads to by the values that take these test edges.
+    pub(super) fn advance(
+        &self,
+        alloc: Global,
+        set: &ItemSet,
+        transitions: &[Transition],
+    ) -> Result<ItemSet, AllocError>
+        requires inside { AreItemsOf self.now.graphs set.now }
+        requires sorted { IsSorted transition_cmp transitions.now }
+        requires taken { (v : ℕ) × AreTransitions self.now.graphs set.now v transitions.now }
+        ensures { IfOk result (λ s. (v : ℕ)
+            → AreTransitions self.now.graphs set.now v transitions.now
+            → s ≡ move self.now.graphs set.now v) }
+    {
+        advance(alloc, self.nfas, set, transitions)
+    }
+
+    /// The kind of a state that holds the set, or the tie of its strongest patterns.
+    pub(super) fn kind_of(&self, precedences: &[Precedence], set: &ItemSet) -> Result<Kind, Tie>
+        requires same_len { length self.now.graphs ≡ length precedences.now }
+        requires inside { AreItemsOf self.now.graphs set.now }
+        requires ascending { AreAscendingItems set.now }
+        ensures ok { IfOk result (IsKindOf (map (λ p. p.0) precedences.now) set.now) }
+        ensures err { IfErr result (λ tie.
+            IsTied (map (λ p. p.0) precedences.now) set.now tie.greatest tie.second) }
+    {
+        kind_of(self.nfas, precedences, set)
+    }
+
+    /// Lays out in the room what leaves the items of a set.
+    pub(super) fn fill(&self, room: &mut Room, set: &ItemSet) -> Result<(), AllocError>
+        requires inside { AreItemsOf self.now.graphs set.now }
+        requires room { IsRoomOf self.now.alphabet room.old }
+        ensures automata { AreAutomata self.now.graphs }
+        ensures ranges { OnOk result (IsPartition (IsLeaving self.now.graphs set.now)
+            (map (λ b. b.range) room.new.blocks.items)) }
+        ensures transitions { OnOk result (HaveTransitions self.now.graphs set.now
+            room.new.edges.lists.items room.new.blocks.items) }
+        ensures room { OnOk result (IsRoomOf self.now.alphabet room.new) }
+        ensures unknown { OnOk result (AreUnknown room.new.known.by_class.items) }
+        ensures empty { OnOk result (IsEmpty room.new.known.by_transitions) }
+        ensures used { OnOk result (AreUsed room.new.edges.used.items room.new.blocks.items) }
+    {
+        room.fill(self.nfas, &self.alphabet, set)
+    }
+}
