@@ -1,3 +1,4 @@
+mod Cases
 pub mod Members
 pub mod SortedLists
 pub mod Sets

@@ -1,3 +1,4 @@
+-- cases: proofs/Cases/Ascending.antt
 -- The order of items, and lists that keep it.
 use Rattle.std.specs.Prelude.{List, ◌≤◌, [], ◌∷◌}
 use Rattle.std.specs.Ordering.{nat_cmp, ordering_then}

@@ -1,3 +1,4 @@
+-- cases: proofs/Cases/ItemOrder.antt
 -- Equality of items, and the order of sets of items.
 use Rattle.std.specs.Prelude.{Bool, ◌&&◌, ◌==◌, List}
 use Rattle.std.specs.Cmp.Lexicographic.{slice_cmp}

@@ -1,3 +1,4 @@
+-- cases: proofs/Cases/LiveItems.antt
 -- The live items of a set, and the patterns that have failed in it.
 use Rattle.std.specs.Prelude.{ℕ, Bool, not, ◌==◌, List, map}
 use Rattle.std.specs.List.{filter}

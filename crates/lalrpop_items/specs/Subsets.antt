@@ -1,3 +1,4 @@
+-- cases: proofs/Cases/Subsets.antt
 -- The sets of items that values lead to.
 use Rattle.std.specs.Prelude.{ℕ, zero, suc, ◌+◌, Bool, ◌==◌, ◌&&◌, ◌||◌, nat_le, List, [], ◌∷◌, ◌++◌, length, map, filter, slice_index_or}
 use Rattle.std.specs.List.{list_any, list_all, flat_map}

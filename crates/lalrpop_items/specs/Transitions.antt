@@ -1,3 +1,4 @@
+-- cases: proofs/Cases/Transitions.antt
 -- The test edges that a value takes from a set of items.
 use Rattle.std.specs.Prelude.{◌≡◌, ℕ, ◌↔◌, List, slice_get, Some}
 use Rattle.std.specs.List.{Contains}
