@@ -1,37 +1,37 @@
 -- Cases of specs/Ascending.antt.
-use Rattle.std.proofs.Common.{◌≡◌, ◌≤◌, inl, inr, [], ◌∷◌, refl, ap, sym, arith}
+use Rattle.std.proofs.Common.{◌≡◌, ◌≤◌, [], ◌∷◌, refl, arith}
 use Rattle.std.specs.List.{Contains}
+use Rattle.std.specs.List.Sorted.{IsStrictlySortedBy}
 use Rattle.std.specs.declared.cmp.Ordering.TheVariants.{Less, Equal, Greater}
 use Rattle.lalrpop_items.specs.Automata.{Item}
 use Rattle.lalrpop_items.specs.Ascending.{item_cmp, AreAscendingItems, AreByPattern}
-use Rattle.lalrpop_items.proofs.Members.{Has, has_from, contains_from}
-use Rattle.lalrpop_items.proofs.SortedLists.{sorted_nil, sorted_cons}
 
-pattern_comes_first : item_cmp (0, 5) (1, 2) ≡ Less
-pattern_comes_first = refl
+-- the pattern decides, and the state where the patterns are equal
+first_pattern_is_less : (item_cmp (0, 3) (1, 0) ≡ Less) × (item_cmp (1, 0) (0, 3) ≡ Greater)
+first_pattern_is_less = (refl, refl)
 
-then_the_state : item_cmp (1, 5) (1, 2) ≡ Greater
-then_the_state = refl
+first_state_is_less : (item_cmp (1, 2) (1, 3) ≡ Less) × (item_cmp (1, 3) (1, 2) ≡ Greater)
+    × (item_cmp (1, 2) (1, 2) ≡ Equal)
+first_state_is_less = (refl, refl, refl)
 
-itself : item_cmp (1, 2) (1, 2) ≡ Equal
-itself = refl
+items_that_ascend : AreAscendingItems ((0, 1) ∷ (0, 3) ∷ (1, 0) ∷ [])
+unfolding IsStrictlySortedBy
+items_that_ascend = ((refl, (refl, tt)), ((refl, tt), (tt, tt)))
 
-items_that_ascend : AreAscendingItems ((0, 5) ∷ (1, 2) ∷ [])
-items_that_ascend = sorted_cons item_cmp (0, 5) ((1, 2) ∷ []) first (sorted_cons item_cmp (1, 2) [] last (sorted_nil item_cmp))
+items_by_state_do_not_ascend : ¬ AreAscendingItems ((1, 0) ∷ (0, 3) ∷ [])
+unfolding IsStrictlySortedBy
+items_by_state_do_not_ascend h = let e = h.0.0 in absurd (cc)
+
+item_that_stands_twice : ¬ AreAscendingItems ((0, 3) ∷ (0, 3) ∷ [])
+unfolding IsStrictlySortedBy
+item_that_stands_twice h = let e = h.0.0 in absurd (cc)
+
+-- the states of one pattern may stand in any order
+items_by_pattern : AreByPattern ((0, 3) ∷ (0, 1) ∷ (1, 0) ∷ [])
+items_by_pattern = ((λ y h. omega arith), ((λ y h. omega arith), (none_after, tt)))
   where
-    last : (y : Item) → Has [] y → item_cmp (1, 2) y ≡ Less
-    last y h = absurd h
+    none_after : (y : Item) → Contains [] y → 1 ≤ y.0
+    none_after y h = absurd (omega (arith, h.1))
 
-    first : (y : Item) → Has ((1, 2) ∷ []) y → item_cmp (0, 5) y ≡ Less
-    first y (inl e) = ap (item_cmp (0, 5)) (sym e)
-    first y (inr h) = absurd h
-
--- states of one pattern may stand in any order
-items_by_pattern : AreByPattern ((0, 5) ∷ (0, 2) ∷ [])
-items_by_pattern = (first, (λ y h. absurd (has_from [] y h), tt))
-  where
-    first : (y : Item) → Contains ((0, 2) ∷ []) y → 0 ≤ y.0
-    first y h = omega arith
-
-patterns_descend : ¬ AreByPattern ((1, 2) ∷ (0, 5) ∷ [])
-patterns_descend h = let l : 1 ≤ 0 = h.0 (0, 5) (contains_from ((0, 5) ∷ []) (0, 5) (inl refl)) in omega (arith, l)
+patterns_turned : ¬ AreByPattern ((1, 0) ∷ (0, 3) ∷ [])
+patterns_turned h = omega (arith, h.0 (0, 3) (0, omega arith, refl))

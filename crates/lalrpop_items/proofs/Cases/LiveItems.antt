@@ -2,16 +2,22 @@
 use Rattle.std.proofs.Common.{◌≡◌, [], ◌∷◌, true, false, refl}
 use Rattle.lalrpop_items.specs.LiveItems.{is_live, live_of, rejects_of}
 
--- REJECT, state 1, is the one state that isn't live
-accept_is_live : is_live (0, 0) ≡ true
-accept_is_live = refl
+-- ACCEPT of the first pattern, and START of the second
+live_items : (is_live (0, 0) ≡ true) × (is_live (1, 2) ≡ true)
+live_items = (refl, refl)
 
-reject_is_not_live : is_live (0, 1) ≡ false
-reject_is_not_live = refl
+reject_state_is_not_live : is_live (0, 1) ≡ false
+reject_state_is_not_live = refl
 
--- pattern 0 has failed, pattern 1 goes on
-failed_pattern_has_no_live_item : live_of ((0, 1) ∷ (1, 0) ∷ (1, 4) ∷ []) ≡ (1, 0) ∷ (1, 4) ∷ []
-failed_pattern_has_no_live_item = refl
+-- the first and the third pattern have failed, the second hasn't
+live_items_in_order : live_of ((0, 0) ∷ (0, 1) ∷ (1, 2) ∷ (2, 1) ∷ []) ≡ (0, 0) ∷ (1, 2) ∷ []
+live_items_in_order = refl
 
-pattern_has_failed : rejects_of ((0, 1) ∷ (1, 0) ∷ (1, 4) ∷ []) ≡ 0 ∷ []
-pattern_has_failed = refl
+patterns_that_have_failed : rejects_of ((0, 0) ∷ (0, 1) ∷ (1, 2) ∷ (2, 1) ∷ []) ≡ 0 ∷ 2 ∷ []
+patterns_that_have_failed = refl
+
+none_has_failed : rejects_of ((0, 0) ∷ (1, 2) ∷ []) ≡ []
+none_has_failed = refl
+
+none_is_live : live_of ((0, 1) ∷ (1, 1) ∷ []) ≡ []
+none_is_live = refl
