@@ -16,7 +16,7 @@ use Rattle.lalrpop_nfa.specs.Compiled.{reject_state}
 use Rattle.lalrpop_items.specs.Automata.{Item}
 use Rattle.lalrpop_items.specs.Ascending.{item_cmp, AreAscendingItems}
 use Rattle.lalrpop_items.specs.Internal.OrderLaws.{item_total, rejects_total}
-use Rattle.lalrpop_items.specs.ItemOrder.{rejects_cmp, set_cmp}
+use Rattle.lalrpop_items.specs.ItemOrder.{rejects_cmp, mark_of, items_cmp, set_cmp}
 use Rattle.lalrpop_items.specs.LiveItems.{live_of, rejects_of}
 use Rattle.lalrpop_items.specs.Internal.Split.{full, IsSplit, AreAlikeBelow}
 use Rattle.lalrpop_items.proofs.Members.{Has, has_from, contains_from}
@@ -250,15 +250,27 @@ module _ (n m : ℕ) (spared spared2 : List ℕ) (live live2 : List Item) (is : 
   lives : slice_cmp item_cmp (live_of s) (live_of t) ≡ slice_cmp item_cmp live live2
   lives = ap₂ (λ a b. slice_cmp item_cmp a b) (ap live_of (sym view) ∙ live_is_of n spared live is) (ap live_of (sym view2) ∙ live_is_of m spared2 live2 is2)
 
-  pub cmp_apart : (o : Ordering) → o ≡ slice_cmp item_cmp live live2 → o ≢ Equal → o ≡ set_cmp s t
+  pub cmp_apart : (o : Ordering) → o ≡ slice_cmp item_cmp live live2 → o ≢ Equal → o ≡ items_cmp s t
   cmp_apart o e apart =
       let first : slice_cmp item_cmp (live_of s) (live_of t) ≡ o = lives ∙ sym e in
       sym (ap (λ a. ordering_then (ordering_then a (rejects_cmp s t)) (slice_cmp item_cmp s t)) first
       ∙ (ap (λ a. ordering_then a (slice_cmp item_cmp s t)) (then_apart o (rejects_cmp s t) apart) ∙ then_apart o (slice_cmp item_cmp s t) apart))
 
-  pub cmp_same : (o : Ordering) → slice_cmp item_cmp live live2 ≡ Equal → o ≡ rejects_cmp s t → o ≡ set_cmp s t
+  pub cmp_same : (o : Ordering) → slice_cmp item_cmp live live2 ≡ Equal → o ≡ rejects_cmp s t → o ≡ items_cmp s t
   cmp_same o e told =
       let first : slice_cmp item_cmp (live_of s) (live_of t) ≡ Equal = lives ∙ e in
       let last : rejects_cmp s t ≡ Equal → slice_cmp item_cmp s t ≡ Equal =
       λ (h : rejects_cmp s t ≡ Equal). subst (λ u. slice_cmp item_cmp s u ≡ Equal) (all_same (lists_exact item_exact live live2 e) (back_exact (rejects_of s) (rejects_of t) h)) (tied_itself (lists_total item_total) s) in
       told ∙ (then_same (rejects_cmp s t) (slice_cmp item_cmp s t) last ∙ sym (ap (λ a. ordering_then (ordering_then a (rejects_cmp s t)) (slice_cmp item_cmp s t)) first))
+
+  module _ (mark mark2 : ℕ) (marked : mark ≡ mark_of live) (marked2 : mark2 ≡ mark_of live2) where
+    marks : nat_cmp (mark_of (live_of s)) (mark_of (live_of t)) ≡ nat_cmp mark mark2
+    marks =
+        ap₂ nat_cmp (ap mark_of (ap live_of (sym view) ∙ live_is_of n spared live is) ∙ sym marked)
+        (ap mark_of (ap live_of (sym view2) ∙ live_is_of m spared2 live2 is2) ∙ sym marked2)
+
+    pub marks_apart : (o : Ordering) → o ≡ nat_cmp mark mark2 → o ≢ Equal → o ≡ set_cmp s t
+    marks_apart o e apart = sym (ap (λ a. ordering_then a (items_cmp s t)) (marks ∙ sym e) ∙ then_apart o (items_cmp s t) apart)
+
+    pub marks_same : (o : Ordering) → nat_cmp mark mark2 ≡ Equal → o ≡ items_cmp s t → o ≡ set_cmp s t
+    marks_same o e told = told ∙ sym (ap (λ a. ordering_then a (items_cmp s t)) (marks ∙ e))

@@ -12,7 +12,7 @@ ghost use Rattle.lalrpop_items.specs.Transitions.{transition_cmp, AreTransitions
 ghost use Rattle.lalrpop_items.specs.Internal.Worklist.{IsInserted, epsilon_targets, marked, AreOfPattern, AreStatesBelow, AreMarksOf, pattern_at};
 
 use super::NfaIndex;
-use super::items::{Item, ItemSet};
+use super::items::{Item, ItemSet, mark_items};
 use super::moves::targets_by;
 use super::ordered::follow_ordered;
 use super::transitions::Transition;
@@ -254,10 +254,12 @@ fn set_of(
 {
     let spared = spared_by(alloc, items, spared)?;
     let live = live_among(alloc, items)?;
+    let mark = mark_items(&live);
     Ok(ItemSet {
         live,
         spared,
         patterns,
+        mark,
     })
 }
 

@@ -1,11 +1,12 @@
 -- A set of items as its live items, which are no REJECT states, and the patterns that it spares, which have no REJECT item.
-use Rattle.std.specs.Prelude.{◌↔◌, ◌≢◌, ℕ, zero, suc, ◌<◌, not, ◌==◌, ◌&&◌, cond, List, [], ◌∷◌, ◌++◌}
+use Rattle.std.specs.Prelude.{◌≡◌, ◌↔◌, ◌≢◌, ℕ, zero, suc, ◌<◌, not, ◌==◌, ◌&&◌, cond, List, [], ◌∷◌, ◌++◌}
 use Rattle.std.specs.List.{Contains, filter, list_any}
 use Rattle.std.specs.List.Sorted.{IsStrictlySortedBy}
 use Rattle.std.specs.Ordering.{nat_cmp}
 use Rattle.lalrpop_nfa.specs.Compiled.{accept_state, reject_state}
 use Rattle.lalrpop_items.specs.Automata.{Item}
 use Rattle.lalrpop_items.specs.Ascending.{AreAscendingItems}
+use Rattle.lalrpop_items.specs.ItemOrder.{mark_of}
 
 -- the REJECT item of pattern i, unless it is spared
 abbrev pub reject_of : List ℕ → ℕ → List Item
@@ -40,6 +41,11 @@ pub record IsSplit (n : ℕ) (spared : List ℕ) (live : List Item) : Type 0 whe
   pub alive : (x : Item) → Contains live x → x.1 ≢ reject_state
   pub within : AreWithin n live
   pub rising : AreSpared n spared
+
+-- these live items and spared patterns, and the mark of the live items
+pub record IsMarked (n : ℕ) (spared : List ℕ) (live : List Item) (mark : ℕ) : Type 0 where
+  pub split : IsSplit n spared live
+  pub marked : mark ≡ mark_of live
 
 -- the two lists have the same numbers below n
 abbrev pub AreAlikeBelow : ℕ → List ℕ → List ℕ → Type 0
