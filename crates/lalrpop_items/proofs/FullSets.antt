@@ -107,7 +107,7 @@ module _ (spared : List ℕ) (live : List Item) (i : ℕ) where
         | inr f ↦ rw f (inl refl)
       ]
 
-less_place : (x y : Item) → x.0 < y.0 → item_cmp x y ≡ Less
+pub less_place : (x y : Item) → x.0 < y.0 → item_cmp x y ≡ Less
 less_place x y h = grind (arith, nat_tests)
 
 less_state : (x y : Item) → x.0 ≡ y.0 → x.1 < y.1 → item_cmp x y ≡ Less

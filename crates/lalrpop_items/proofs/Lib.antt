@@ -6,6 +6,7 @@ pub mod Epsilon
 pub mod FullSets
 pub mod SetOrder
 pub mod LiveSets
+pub mod Sparing
 pub mod Marks
 pub mod ByPattern
 pub mod Targets

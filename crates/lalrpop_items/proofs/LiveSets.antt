@@ -1,15 +1,10 @@
 -- Sets of items that are followed by their live items alone.
 use Rattle.std.proofs.Common.{◌≡◌, ℕ, zero, suc, ◌+◌, ◌<◌, ◌⊎◌, inl, inr, ◌↔◌, List, [], ◌∷◌, ◌++◌, length, take, cond, get_or, refl, ap, ap₂, sym, ◌∙◌, subst, arith, Bool, IsTrue, true, false, not, ◌==◌, ◌&&◌, Some, eqb-true, eq-eqb}
 use Rattle.std.specs.List.{Contains, filter, list_any, flat_map, slice_get, range_with_len}
-use Rattle.std.specs.List.Sorted.{IsStrictlySortedBy, IsSortedBy, IsPartitionPoint, IsBinarySearchResult, IsSearchInRange}
-use Rattle.std.specs.Ordering.{nat_cmp, is_lt, ordering_reverse}
-use Rattle.std.specs.Prelude.{Result, Ok, Err}
-use Rattle.std.specs.Result.{is_ok}
-use Rattle.std.proofs.lemmas.Cmp.{tied_itself}
-use Rattle.std.proofs.lemmas.List.Sorted.{searchable_from_sorted}
-use Rattle.std.proofs.lemmas.Map.Keys.{Less-from_sorted}
-use Rattle.std.specs.declared.cmp.Ordering.TheVariants.{Less, Equal, Greater}
-use Rattle.std.proofs.lemmas.Bool.{cases_Bool, and_parts, and_from, cases_lt}
+use Rattle.std.specs.List.Sorted.{IsStrictlySortedBy}
+use Rattle.std.specs.Ordering.{nat_cmp}
+use Rattle.std.specs.declared.cmp.Ordering.TheVariants.{Less}
+use Rattle.std.proofs.lemmas.Bool.{cases_Bool, and_parts, and_from}
 use Rattle.std.proofs.lemmas.Bool.Decides.{nat_tests}
 use Rattle.std.proofs.lemmas.List.Elements.{filter_more}
 use Rattle.std.proofs.lemmas.List.Kept.{IsStrictlySortedBy-filter}
@@ -23,7 +18,6 @@ use Rattle.lalrpop_nfa.specs.Compiled.{reject_state}
 use Rattle.lalrpop_items.specs.Automata.{Item}
 use Rattle.lalrpop_items.specs.Ascending.{item_cmp, AreAscendingItems}
 use Rattle.lalrpop_items.specs.Given.{IsItemOf, AreAutomata, AreItemsOf}
-use Rattle.lalrpop_items.specs.Internal.OrderLaws.{item_total}
 use Rattle.lalrpop_items.specs.LiveItems.{is_live, live_of}
 use Rattle.lalrpop_items.specs.Internal.Split.{full, still_spared, AreWithin, AreSpared, IsSplit}
 use Rattle.lalrpop_items.specs.Subsets.{graph_at, is_epsilon_path, follows_by_epsilon, closed, item_targets, move}
@@ -32,7 +26,6 @@ use Rattle.lalrpop_items.specs.Internal.Taken.{AreTargetsBy}
 use Rattle.lalrpop_items.specs.declared.transitions.Transition.{Transition}
 use Rattle.lalrpop_items.proofs.Members.{Has, has_from, contains_from, has_filter, filter_has, any_from_has, has_from_any, has_flat_map, flat_map_has}
 use Rattle.lalrpop_items.proofs.SortedLists.{sorted_nil, sorted_cons}
-use Rattle.lalrpop_items.proofs.Inserting.{item_exact}
 use Rattle.lalrpop_items.proofs.Epsilon.{epsilon_self}
 use Rattle.lalrpop_items.proofs.Targets.{compiled_at, item_targets_have}
 use Rattle.lalrpop_items.proofs.Sets.{closed_ascends, closed_parts, closed_has, move_ascends, move_has}
@@ -61,28 +54,6 @@ same_bool false false f g = refl
 -- items are asked for a REJECT item
 pub reject_told : (items : List Item) (i : ℕ) (b : Bool) → IsTrue b ↔ Contains items (i, reject_state) → b ≡ list_any (is_reject_of i) items
 reject_told items i b told = same_bool b (list_any (is_reject_of i) items) (λ t. reject_any items i (has_from items (i, reject_state) (told.0 t))) (λ t. told.1 (contains_from items (i, reject_state) (any_reject items i t)))
-
--- a search among ascending items
-rises : (items : List Item) → AreAscendingItems items → IsSortedBy (λ a b. is_lt (item_cmp a b)) items
-rises items sorted k d l m =
-    let less : item_cmp (get_or items k d) (get_or items (k + 1) d) ≡ Less = Less-from_sorted item_cmp items k (k + 1) d sorted (omega arith) m in
-    let more : item_cmp (get_or items (k + 1) d) (get_or items k d) ≡ Greater = item_total.antisymm (get_or items (k + 1) d) (get_or items k d) ∙ ap ordering_reverse less in
-    ap is_lt more
-
-pub found_told : (items : List Item) (x : Item) (r : Result ℕ ℕ) → AreAscendingItems items → IsSearchInRange r (length items) → IsBinarySearchResult (λ y. item_cmp y x) items r → IsTrue (is_ok r) ↔ Contains items x
-found_told items x (Ok i) sorted l at = (λ h. (i, l, item_exact (get_or items i x) x (at x)), λ h. refl)
-found_told items x (Err i) sorted l parts = (λ h. cc, λ h. absurd (apart h))
-  where
-    point : IsPartitionPoint (λ y. item_cmp y x ≡ Less) (λ y. item_cmp y x ≡ Greater) items i
-    point = parts (searchable_from_sorted item_total (λ y. y) items x (rises items sorted))
-
-    apart : Contains items x → ⊥
-    apart (k, m, is) =
-        let tied : item_cmp (get_or items k x) x ≡ Equal = ap (λ y. item_cmp y x) is ∙ tied_itself item_total x in
-        elim (cases_lt k i) [
-          | inl below ↦ (let h : item_cmp (get_or items k x) x ≡ Less = point.0 k x (omega arith) below in let clash : Less ≡ Equal = sym h ∙ tied in cc)
-          | inr above ↦ (let h : item_cmp (get_or items k x) x ≡ Greater = point.1 k x above m in let clash : Greater ≡ Equal = sym h ∙ tied in cc)
-        ]
 
 still_not : (items : List Item) (i : ℕ) → not (list_any (is_reject_of i) items) ≡ true → Has items (i, reject_state) → ⊥
 still_not items i h k = let t : list_any (is_reject_of i) items ≡ true = reject_any items i k in let clash : not true ≡ true = rw t at h in cc

@@ -219,7 +219,7 @@ module _ (ns : List Graph) (items : List Item) (leads : List Transition) (i from
       place_of b h = ((its_targets b).0 (contains_from theirs b h)).0
 
 -- ---- without repetitions
-item_same : (x y : Item) → item_eq x y ≡ true → x ≡ y
+pub item_same : (x y : Item) → item_eq x y ≡ true → x ≡ y
 item_same x y h = let b = and_parts (x.0 == y.0) (x.1 == y.1) h in item_is x y.0 y.1 (eqb-true x.0 y.0 b.0) (eqb-true x.1 y.1 b.1)
 
 pub once_targets : (ns : List Graph) (s : List Item) (leads : List Transition) (targets once : List Item) → once ≡ dedup item_eq targets → AreTargetsBy ns s leads targets → AreTargetsBy ns s leads once

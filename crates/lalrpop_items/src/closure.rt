@@ -1,12 +1,15 @@
 //! Where items lead: by reading nothing, and by a value.
 
-ghost use Rattle.std.specs.Prelude.{◌≡◌, ◌≢◌, ◌↔◌, ℕ, ◌<◌, ◌≤◌, IsTrue, ◌++◌, ◌∷◌, [], length, IfOk, OnOk};
-ghost use Rattle.std.specs.List.{Contains, range_with_len};
-ghost use Rattle.std.specs.List.Sorted.{IsSorted};
-ghost use Rattle.lalrpop_items.specs.Ascending.{AreAscendingItems, AreByPattern};
+ghost use Rattle.std.specs.Prelude.{◌≡◌, ◌≢◌, ◌↔◌, ℕ, ◌<◌, ◌≤◌, IsTrue, ◌++◌, ◌∷◌, [], length, slice_get, Some, IfOk, OnOk};
+ghost use Rattle.std.specs.List.{range_with_len};
+ghost use Rattle.std.specs.List.Sorted.{IsSorted, IsStrictlySortedBy};
+ghost use Rattle.std.specs.Ordering.{nat_cmp};
+ghost use Rattle.std.specs.declared.cmp.Ordering.TheVariants.{Less};
+ghost use Rattle.lalrpop_items.specs.Ascending.{item_cmp, AreAscendingItems, AreByPattern};
+ghost use Rattle.lalrpop_items.specs.Automata.{Item};
 ghost use Rattle.lalrpop_items.specs.Given.{IsItemOf, AreAutomata, AreItemsOf};
 ghost use Rattle.lalrpop_items.specs.LiveItems.{live_of};
-ghost use Rattle.lalrpop_items.specs.Internal.Split.{full, still_spared, AreSpared, AreWithin};
+ghost use Rattle.lalrpop_items.specs.Internal.Split.{full, still_spared, AreBefore, AreSpared, AreWithin};
 ghost use Rattle.lalrpop_items.specs.Subsets.{closed, move};
 ghost use Rattle.lalrpop_items.specs.Transitions.{transition_cmp, AreTransitions};
 ghost use Rattle.lalrpop_items.specs.Internal.Worklist.{IsInserted, epsilon_targets, marked, AreOfPattern, AreStatesBelow, AreMarksOf, pattern_at};
@@ -200,26 +203,36 @@ fn follow_all(alloc: Global, nfas: &[Nfa], given: &[Item]) -> Result<Vec<Item>, 
     Ok(found)
 }
 
-// Whether the item is among the items.
-fn has_item(items: &[Item], item: Item) -> bool
-    requires { AreAscendingItems items.now }
-    ensures { IsTrue result ↔ Contains items.now item }
+// The first place, from this one on, at which there is no item before the given one.
+fn place_of(items: &[Item], from: usize, item: Item) -> usize
+    requires within { from ≤ length items.now }
+    requires before { AreBefore items.now from item }
+    ensures within { result ≤ length items.now }
+    ensures before { AreBefore items.now result item }
+    ensures next { (y : Item) → slice_get items.now result ≡ Some y → item_cmp y item ≢ Less }
 {
-    items.binary_search(&item).is_ok()
+    let mut place = from;
+    while place < items.len() && items[place] < item {
+        place += 1;
+    }
+    place
 }
 
-// Those of the patterns that have no REJECT item among the items.
+// Those of the patterns that have no REJECT item among the items. Both ascend, so that one walk finds them.
 fn spared_by(alloc: Global, items: &[Item], spared: &[usize]) -> Result<Vec<usize>, AllocError>
-    requires { AreAscendingItems items.now }
+    requires ascending { AreAscendingItems items.now }
+    requires rising { IsStrictlySortedBy nat_cmp spared.now }
     ensures { IfOk result (λ v. v.items ≡ still_spared items.now spared.now) }
 {
     let mut still = Vec::new(alloc);
+    let mut place = 0;
     for pattern in spared {
         let reject = Item {
             nfa_index: NfaIndex(*pattern),
             nfa_state: REJECT,
         };
-        if !has_item(items, reject) {
+        place = place_of(items, place, reject);
+        if items.get(place) != Some(&reject) {
             still.push(*pattern)?;
         }
     }

@@ -1,11 +1,12 @@
 -- A set of items as its live items, which are no REJECT states, and the patterns that it spares, which have no REJECT item.
-use Rattle.std.specs.Prelude.{◌≡◌, ◌↔◌, ◌≢◌, ℕ, zero, suc, ◌<◌, not, ◌==◌, ◌&&◌, cond, List, [], ◌∷◌, ◌++◌}
+use Rattle.std.specs.Prelude.{◌≡◌, ◌↔◌, ◌≢◌, ℕ, zero, suc, ◌<◌, not, ◌==◌, ◌&&◌, cond, List, [], ◌∷◌, ◌++◌, slice_get, Some}
 use Rattle.std.specs.List.{Contains, filter, list_any}
 use Rattle.std.specs.List.Sorted.{IsStrictlySortedBy}
 use Rattle.std.specs.Ordering.{nat_cmp}
+use Rattle.std.specs.declared.cmp.Ordering.TheVariants.{Less}
 use Rattle.lalrpop_nfa.specs.Compiled.{accept_state, reject_state}
 use Rattle.lalrpop_items.specs.Automata.{Item}
-use Rattle.lalrpop_items.specs.Ascending.{AreAscendingItems}
+use Rattle.lalrpop_items.specs.Ascending.{item_cmp, AreAscendingItems}
 use Rattle.lalrpop_items.specs.ItemOrder.{mark_of}
 
 -- the REJECT item of pattern i, unless it is spared
@@ -25,6 +26,10 @@ full (suc n) spared live = full n spared live ++ items_of spared live n
 -- the patterns that stay spared: these items have no REJECT item of theirs
 abbrev pub still_spared : List Item → List ℕ → List ℕ
 still_spared items spared = filter (λ i. not (list_any (λ x. (x.0 == i) && (x.1 == reject_state)) items)) spared
+
+-- the items at the places before this one are before x
+abbrev pub AreBefore : List Item → ℕ → Item → Type 0
+AreBefore items place x = (k : ℕ) (y : Item) → k < place → slice_get items k ≡ Some y → item_cmp y x ≡ Less
 
 -- the items are of the first n patterns
 abbrev pub AreWithin : ℕ → List Item → Type 0

@@ -1,6 +1,5 @@
-use Rattle.std.proofs.Common.{◌≡◌, take}
-use Rattle.lalrpop_items.specs.Internal.Split.{still_spared}
+use Rattle.lalrpop_items.proofs.Sparing.{IsSparing}
 use Rattle.lalrpop_items.proofs.closure.spared_by.Given as goal
 
 abbrev pub invariant-loop-pattern : goal.invariant-loop-pattern
-invariant-loop-pattern l = l.still.items ≡ still_spared l.items (take l.pattern-index l.spared)
+invariant-loop-pattern l = IsSparing l.items l.spared l.pattern-index l.place l.still.items
