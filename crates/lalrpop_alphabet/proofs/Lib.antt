@@ -5,5 +5,5 @@ pub mod Cuts
 pub mod CutsLabels
 pub mod GroupLeads
 mod Classing
-mod Marking
+pub mod Marking
 mod Numbering

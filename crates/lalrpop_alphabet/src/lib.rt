@@ -123,7 +123,6 @@ impl Alphabet {
     pub fn cell(&self, place: usize) -> Cell
         requires has_cell { place < length self.now.cells }
         ensures cell { slice_get self.now.cells place ≡ Some result }
-        ensures sound { IsSound self.now }
     {
         self.cells[place]
     }

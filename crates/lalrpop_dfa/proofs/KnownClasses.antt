@@ -16,7 +16,7 @@ use Rattle.lalrpop_items.specs.Transitions.{AreTransitions}
 use Rattle.lalrpop_dfa.specs.declared.blocks.Transitions.{Transitions}
 use Rattle.lalrpop_dfa.proofs.Adding.{added_stays, added_at}
 use Rattle.lalrpop_kernels.proofs.NumberedLemmas.{pushed_cases}
-use Rattle.lalrpop_dfa.proofs.Leavings.{set_at}
+use Rattle.lalrpop_alphabet.proofs.Marking.{set_at}
 use Rattle.lalrpop_items.proofs.TransitionMoves.{leads_move}
 
 -- a class that is read from the list has the edges that its values take

@@ -15,18 +15,9 @@ use Rattle.lalrpop_dfa.specs.Internal.Transitions.{AreBare, Gained, AreGathered,
 use Rattle.lalrpop_items.specs.declared.transitions.Transition.{Transition}
 use Rattle.lalrpop_dfa.specs.declared.blocks.Transitions.{Transitions}
 use Rattle.lalrpop_nfa.proofs.Contained.{contains_only, contains_none}
+use Rattle.lalrpop_alphabet.proofs.Marking.{set_at}
 use Rattle.lalrpop_kernels.proofs.NumberedLemmas.{pushed_cases}
 use Rattle.lalrpop_items.proofs.Members.{taken_more}
-
-pub set_at : {X : Type 0} (xs : List X) (i : ℕ) (x : X) (k : ℕ) (y : X) → i < length xs → slice_get (slice_set xs i x) k ≡ Some y → ((k ≡ i) × (y ≡ x)) ⊎ (((k ≡ i) → ⊥) × (slice_get xs k ≡ Some y))
-set_at [] i x k y l h = absurd (omega (arith, l))
-set_at (z ∷ xs) zero x zero y l h = inl (refl, cc)
-set_at (z ∷ xs) zero x (suc k) y l h = inr ((λ e. cc), h)
-set_at (z ∷ xs) (suc i) x zero y l h = inr ((λ e. cc), h)
-set_at (z ∷ xs) (suc i) x (suc k) y l h = elim (set_at xs i x k y (omega (arith, l)) h) [
-  | inl s ↦ inl (ap (λ n. suc n) s.0, s.1)
-  | inr o ↦ inr ((λ e. o.0 (omega (arith, e))), o.1)
-]
 
 pub gained_none : {E : ℕ → Transition → Type 0} → (old : List Transitions) → ((c : ℕ) (l : Transition) → E c l → ⊥) → Gained old old E
 gained_none old none = (refl, λ c t t2 was will l. (let e : t2 ≡ t = cc in (λ h. inl (rw (← e) h), λ h. elim h [ inl x ↦ rw e x | inr x ↦ absurd (none c l x) ])))

@@ -7,7 +7,7 @@ use Rattle.std.proofs.lemmas.List.Elements.{Contains-append_left, Contains-appen
 use Rattle.lalrpop_nfa.proofs.Contained.{contains_only}
 use Rattle.lalrpop_dfa.specs.Internal.Room.{AreNoted, OnlyNumbers}
 use Rattle.lalrpop_dfa.specs.declared.blocks.Transitions.{Transitions}
-use Rattle.lalrpop_dfa.proofs.Leavings.{set_at}
+use Rattle.lalrpop_alphabet.proofs.Marking.{set_at}
 
 last : (used : List ℕ) (i : ℕ) → Contains (used ++ i ∷ []) i
 last used i = Contains-append_right used (i ∷ []) i (0, omega arith, refl)

@@ -50,8 +50,7 @@ impl Model for Nfa {
 }
 
 impl Nfa {
-    ghost use Rattle.std.specs.Prelude.{OnOk, OnErr, length, slice_get, IsSomeAnd};
-    ghost use Rattle.lalrpop_nfa.specs.declared.edge.StateKind.TheVariants.{Accept, Reject};
+    ghost use Rattle.std.specs.Prelude.{OnOk, OnErr, length};
     ghost use Rattle.lalrpop_nfa.specs.Compiled.{IsCompiled, HasFixedEdges};
     ghost use Rattle.std.specs.List.{filter};
     ghost use Rattle.lalrpop_nfa.specs.Walk.{leaves};
@@ -109,6 +108,12 @@ impl Nfa {
         nfa.push_edge(START, Noop, entry)?;
         Ok(nfa)
     }
+}
+
+// Which states there are, and what they are for.
+impl Nfa {
+    ghost use Rattle.std.specs.Prelude.{length, slice_get};
+    ghost use Rattle.lalrpop_nfa.specs.declared.edge.StateKind.TheVariants.{Accept, Reject};
 
     /// What the state is for.
     pub fn kind(&self, from: NfaStateIndex) -> StateKind
