@@ -23,7 +23,7 @@ use Rattle.lalrpop_items.specs.Transitions.{AreTransitions, transition_cmp}
 use Rattle.lalrpop_dfa.specs.Internal.Transitions.{transitions_cmp}
 use Rattle.lalrpop_items.specs.declared.transitions.Transition.{Transition}
 use Rattle.lalrpop_dfa.specs.declared.blocks.Transitions.{Transitions}
-use Rattle.lalrpop_items.specs.ItemOrder.{rejects_cmp, mark_of, items_cmp, set_cmp}
+use Rattle.lalrpop_items.specs.ItemOrder.{rejects_cmp, hash_of, items_cmp, set_cmp}
 use Rattle.lalrpop_items.specs.Internal.OrderLaws.{set_total}
 use Rattle.lalrpop_items.specs.LiveItems.{live_of}
 use Rattle.lalrpop_dfa.specs.Internal.Builder.{AddedTo, AreKnown}
@@ -36,7 +36,7 @@ use Rattle.lalrpop_items.proofs.TransitionMoves.{leads_move}
 
 pub set_exact : CmpEqualImpliesEq set_cmp
 set_exact x y e =
-    let items : items_cmp x y ≡ Equal = (then_equal (nat_cmp (mark_of (live_of x)) (mark_of (live_of y))) (items_cmp x y) e).1 in
+    let items : items_cmp x y ≡ Equal = (then_equal (nat_cmp (hash_of (live_of x)) (hash_of (live_of y))) (items_cmp x y) e).1 in
     lists_exact item_exact x y (then_equal (ordering_then (slice_cmp item_cmp (live_of x) (live_of y)) (rejects_cmp x y)) (slice_cmp item_cmp x y) items).1
 
 module _ (sets : List (List Item)) (set : List Item) where

@@ -16,7 +16,7 @@ use Rattle.lalrpop_nfa.specs.Compiled.{reject_state}
 use Rattle.lalrpop_items.specs.Automata.{Item}
 use Rattle.lalrpop_items.specs.Ascending.{item_cmp, AreAscendingItems}
 use Rattle.lalrpop_items.specs.Internal.OrderLaws.{item_total, rejects_total}
-use Rattle.lalrpop_items.specs.ItemOrder.{rejects_cmp, mark_of, items_cmp, set_cmp}
+use Rattle.lalrpop_items.specs.ItemOrder.{rejects_cmp, hash_of, items_cmp, set_cmp}
 use Rattle.lalrpop_items.specs.LiveItems.{live_of, rejects_of}
 use Rattle.lalrpop_items.specs.Internal.Split.{full, IsSplit, AreAlikeBelow}
 use Rattle.lalrpop_items.proofs.Members.{Has, has_from, contains_from}
@@ -263,14 +263,14 @@ module _ (n m : ℕ) (spared spared2 : List ℕ) (live live2 : List Item) (is : 
       λ (h : rejects_cmp s t ≡ Equal). subst (λ u. slice_cmp item_cmp s u ≡ Equal) (all_same (lists_exact item_exact live live2 e) (back_exact (rejects_of s) (rejects_of t) h)) (tied_itself (lists_total item_total) s) in
       told ∙ (then_same (rejects_cmp s t) (slice_cmp item_cmp s t) last ∙ sym (ap (λ a. ordering_then (ordering_then a (rejects_cmp s t)) (slice_cmp item_cmp s t)) first))
 
-  module _ (mark mark2 : ℕ) (marked : mark ≡ mark_of live) (marked2 : mark2 ≡ mark_of live2) where
-    marks : nat_cmp (mark_of (live_of s)) (mark_of (live_of t)) ≡ nat_cmp mark mark2
-    marks =
-        ap₂ nat_cmp (ap mark_of (ap live_of (sym view) ∙ live_is_of n spared live is) ∙ sym marked)
-        (ap mark_of (ap live_of (sym view2) ∙ live_is_of m spared2 live2 is2) ∙ sym marked2)
+  module _ (hash hash2 : ℕ) (hashed : hash ≡ hash_of live) (hashed2 : hash2 ≡ hash_of live2) where
+    hashes : nat_cmp (hash_of (live_of s)) (hash_of (live_of t)) ≡ nat_cmp hash hash2
+    hashes =
+        ap₂ nat_cmp (ap hash_of (ap live_of (sym view) ∙ live_is_of n spared live is) ∙ sym hashed)
+        (ap hash_of (ap live_of (sym view2) ∙ live_is_of m spared2 live2 is2) ∙ sym hashed2)
 
-    pub marks_apart : (o : Ordering) → o ≡ nat_cmp mark mark2 → o ≢ Equal → o ≡ set_cmp s t
-    marks_apart o e apart = sym (ap (λ a. ordering_then a (items_cmp s t)) (marks ∙ sym e) ∙ then_apart o (items_cmp s t) apart)
+    pub hashes_apart : (o : Ordering) → o ≡ nat_cmp hash hash2 → o ≢ Equal → o ≡ set_cmp s t
+    hashes_apart o e apart = sym (ap (λ a. ordering_then a (items_cmp s t)) (hashes ∙ sym e) ∙ then_apart o (items_cmp s t) apart)
 
-    pub marks_same : (o : Ordering) → nat_cmp mark mark2 ≡ Equal → o ≡ items_cmp s t → o ≡ set_cmp s t
-    marks_same o e told = told ∙ sym (ap (λ a. ordering_then a (items_cmp s t)) (marks ∙ e))
+    pub hashes_same : (o : Ordering) → nat_cmp hash hash2 ≡ Equal → o ≡ items_cmp s t → o ≡ set_cmp s t
+    hashes_same o e told = told ∙ sym (ap (λ a. ordering_then a (items_cmp s t)) (hashes ∙ e))

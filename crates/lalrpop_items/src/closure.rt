@@ -15,7 +15,7 @@ ghost use Rattle.lalrpop_items.specs.Transitions.{transition_cmp, AreTransitions
 ghost use Rattle.lalrpop_items.specs.Internal.Worklist.{IsInserted, epsilon_targets, marked, AreOfPattern, AreStatesBelow, AreMarksOf, pattern_at};
 
 use super::NfaIndex;
-use super::items::{Item, ItemSet, mark_items};
+use super::items::{Item, ItemSet, hash_items};
 use super::moves::targets_by;
 use super::ordered::follow_ordered;
 use super::transitions::Transition;
@@ -267,12 +267,12 @@ fn set_of(
 {
     let spared = spared_by(alloc, items, spared)?;
     let live = live_among(alloc, items)?;
-    let mark = mark_items(&live);
+    let hash = hash_items(&live);
     Ok(ItemSet {
         live,
         spared,
         patterns,
-        mark,
+        hash,
     })
 }
 

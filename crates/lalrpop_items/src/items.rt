@@ -4,7 +4,7 @@ ghost use Rattle.std.specs.List.{Contains};
 ghost use Rattle.std.specs.Cmp.{on_equiv, on_total, on_per, on_po, partial_order_from_agreeing_total};
 ghost use Rattle.std.specs.Cmp;
 ghost use Rattle.lalrpop_items.specs.Ascending.{item_cmp};
-ghost use Rattle.lalrpop_items.specs.ItemOrder.{item_eq, rejects_cmp, item_mark, mark_of, items_cmp, set_cmp, set_eq};
+ghost use Rattle.lalrpop_items.specs.ItemOrder.{item_eq, rejects_cmp, item_hash, hash_of, items_cmp, set_cmp, set_eq};
 ghost use Rattle.lalrpop_items.specs.Internal.OrderLaws.{item_total, item_equiv, item_ties, set_total, set_equiv, set_ties};
 ghost use Rattle.lalrpop_nfa.specs.Compiled.{reject_state};
 ghost use Rattle.std.specs.List.Sorted.{IsStrictlySortedBy};
@@ -120,9 +120,9 @@ impl Item {
     }
 }
 
-// What one item adds to the mark of a list. The factors are odd and great, so that few lists share a mark.
-fn mark_one(item: Item) -> u64
-    ensures { result ≡ item_mark item }
+// What one item adds to the hash of a list. The factors are odd and great, so that few lists share a hash.
+fn hash_one(item: Item) -> u64
+    ensures { result ≡ item_hash item }
 {
     let pattern = item.nfa_index.index() as u64;
     pattern
@@ -131,17 +131,17 @@ fn mark_one(item: Item) -> u64
 }
 
 // A number by which most lists of items are told apart at once.
-#[tactic(auto, unfolding(crate::specs::ItemOrder::mark_of))]
-pub(super) fn mark_items(items: &[Item]) -> u64
-    ensures { result ≡ mark_of items.now }
+#[tactic(auto, unfolding(crate::specs::ItemOrder::hash_of))]
+pub(super) fn hash_items(items: &[Item]) -> u64
+    ensures { result ≡ hash_of items.now }
 {
-    let mut mark: u64 = 0;
+    let mut hash: u64 = 0;
     for item in items {
-        mark = mark
+        hash = hash
             .wrapping_mul(6_364_136_223_846_793_005)
-            .wrapping_add(mark_one(*item));
+            .wrapping_add(hash_one(*item));
     }
-    mark
+    hash
 }
 
 // No number below this one is in just one of the two ascending lists.
@@ -172,19 +172,19 @@ pub struct ItemSet {
     pub(super) live: Vec<Item>,
     pub(super) spared: Vec<usize>,
     pub(super) patterns: usize,
-    // The mark of the live items.
-    pub(super) mark: u64,
+    // The hash of the live items.
+    pub(super) hash: u64,
 }
 
 impl Model for ItemSet {
     ghost use Rattle.std.specs.Prelude.{ℕ, List};
-    ghost use Rattle.lalrpop_items.specs.Internal.Split.{full, IsMarked};
+    ghost use Rattle.lalrpop_items.specs.Internal.Split.{full, IsHashed};
 
     ghost Value = { List (ℕ × ℕ) };
 
     ghost view = { λ s. full s.patterns s.spared.items s.live.items };
 
-    ghost invariant = { λ s. IsMarked s.patterns s.spared.items s.live.items s.mark };
+    ghost invariant = { λ s. IsHashed s.patterns s.spared.items s.live.items s.hash };
 }
 
 impl ItemSet {
@@ -272,7 +272,7 @@ impl Ord for ItemSet {
     ghost matches_eq = { set_ties };
 
     fn cmp(&self, other: &ItemSet) -> Ordering {
-        match self.mark.cmp(&other.mark) {
+        match self.hash.cmp(&other.hash) {
             Ordering::Equal => self.cmp_items(other),
             order => order,
         }
@@ -287,7 +287,7 @@ impl Clone for ItemSet {
             live: self.live.clone()?,
             spared: self.spared.clone()?,
             patterns: self.patterns,
-            mark: self.mark,
+            hash: self.hash,
         })
     }
 }

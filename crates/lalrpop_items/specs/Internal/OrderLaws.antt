@@ -11,7 +11,7 @@ use Rattle.std.proofs.lemmas.Cmp.{then_total, on_total, back_total, eq_by_cmp_eq
 use Rattle.lalrpop_items.specs.Automata.{Item}
 use Rattle.lalrpop_items.specs.Ascending.{item_cmp}
 use Rattle.lalrpop_items.specs.LiveItems.{live_of, rejects_of}
-use Rattle.lalrpop_items.specs.ItemOrder.{item_eq, rejects_cmp, mark_of, items_cmp, set_cmp, set_eq}
+use Rattle.lalrpop_items.specs.ItemOrder.{item_eq, rejects_cmp, hash_of, items_cmp, set_cmp, set_eq}
 
 pub item_total : IsTotalOrder item_cmp
 item_total = then_total (on_total (λ (x : Item). x.0) nat_cmp_total) (on_total (λ (x : Item). x.1) nat_cmp_total)
@@ -37,7 +37,7 @@ pub items_total : IsTotalOrder items_cmp
 items_total = then_total (then_total (on_total live_of (lists_total item_total)) rejects_total) (lists_total item_total)
 
 pub set_total : IsTotalOrder set_cmp
-set_total = then_total (on_total (λ s. mark_of (live_of s)) nat_cmp_total) items_total
+set_total = then_total (on_total (λ s. hash_of (live_of s)) nat_cmp_total) items_total
 
 pub set_equiv : IsEquivalence set_eq
 set_equiv = eq_by_cmp_equiv set_total

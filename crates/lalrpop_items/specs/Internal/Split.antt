@@ -7,7 +7,7 @@ use Rattle.std.specs.declared.cmp.Ordering.TheVariants.{Less}
 use Rattle.lalrpop_nfa.specs.Compiled.{accept_state, reject_state}
 use Rattle.lalrpop_items.specs.Automata.{Item}
 use Rattle.lalrpop_items.specs.Ascending.{item_cmp, AreAscendingItems}
-use Rattle.lalrpop_items.specs.ItemOrder.{mark_of}
+use Rattle.lalrpop_items.specs.ItemOrder.{hash_of}
 
 -- the REJECT item of pattern i, unless it is spared
 abbrev pub reject_of : List ℕ → ℕ → List Item
@@ -47,10 +47,10 @@ pub record IsSplit (n : ℕ) (spared : List ℕ) (live : List Item) : Type 0 whe
   pub within : AreWithin n live
   pub rising : AreSpared n spared
 
--- these live items and spared patterns, and the mark of the live items
-pub record IsMarked (n : ℕ) (spared : List ℕ) (live : List Item) (mark : ℕ) : Type 0 where
+-- these live items and spared patterns, and the hash of the live items
+pub record IsHashed (n : ℕ) (spared : List ℕ) (live : List Item) (hash : ℕ) : Type 0 where
   pub split : IsSplit n spared live
-  pub marked : mark ≡ mark_of live
+  pub hashed : hash ≡ hash_of live
 
 -- the two lists have the same numbers below n
 abbrev pub AreAlikeBelow : ℕ → List ℕ → List ℕ → Type 0
