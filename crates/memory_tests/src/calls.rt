@@ -1,18 +1,10 @@
-//! Calls that are refused memory: the answer is the refusal or the answer that the call has with ample memory, and after a
-//! refusal the same call, made again, has that answer. A plain run of these tests is refused nothing; `.ci/refusals` runs
-//! each of them once for each request for memory that it makes, and refuses that one.
-
-mod automata;
-mod kernels;
-mod program;
-mod trees;
-mod without;
+//! Calls that are made again where they were refused memory.
 
 use std::alloc::AllocError;
 use std::process::Abort;
 
 // What a call gives, made again where memory was refused: one request is refused in a run.
-fn made<T, F: Fn() -> Result<T, AllocError>>(rt: &impl Abort, make: F) -> T
+pub(crate) fn made<T, F: Fn() -> Result<T, AllocError>>(rt: &impl Abort, make: F) -> T
     requires { F.IsAlwaysCallable make }
 {
     match make() {
@@ -22,7 +14,11 @@ fn made<T, F: Fn() -> Result<T, AllocError>>(rt: &impl Abort, make: F) -> T
 }
 
 // The call has its answer, or is refused memory and has its answer when it is made again.
-fn settles<F: Fn() -> Result<bool, AllocError>>(rt: &impl Abort, name: &str, has_its_answer: F)
+pub(crate) fn settles<F: Fn() -> Result<bool, AllocError>>(
+    rt: &impl Abort,
+    name: &str,
+    has_its_answer: F,
+)
     requires { F.IsAlwaysCallable has_its_answer }
 {
     let holds = match has_its_answer() {

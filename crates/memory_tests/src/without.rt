@@ -1,7 +1,7 @@
 //! Calls that take no memory. `.ci/refusals` refuses every request that is made after `from_here_on`: they have their answers.
 
-use super::kernels::Plain;
-use super::made;
+use crate::calls::made;
+use crate::kernels::Plain;
 use lalrpop_hir::{
     Capture, Class, ClassBytesRange, ClassUnicode, ClassUnicodeRange, Hir, HirKind, Look,
     Repetition,

@@ -3,7 +3,7 @@
 ghost use Rattle.std.specs.Prelude.{ℕ};
 ghost use Rattle.lalrpop_lexer.specs.Kernels.{ClonesEqual};
 
-use super::made;
+use crate::calls::made;
 use lalrpop_lexer::kernel_set::{Kernel, KernelSet};
 use std::alloc::{AllocError, Global};
 use std::process::Abort;

@@ -1,6 +1,6 @@
 //! Automata of one tree and of many: built, copied and run, and the partition of ranges.
 
-use super::{made, settles};
+use crate::calls::{made, settles};
 use lalrpop_hir::{Capture, Hir, Look, Repetition};
 use lalrpop_lexer::lexer::dfa::interpret::interpret;
 use lalrpop_lexer::lexer::dfa::overlap::{remove_overlap, remove_overlap_counted};

@@ -1,6 +1,6 @@
 //! Literals, classes, patterns from text and copies of trees.
 
-use super::{made, settles};
+use crate::calls::{made, settles};
 use lalrpop_hir::{
     Class, ClassBytes, ClassBytesRange, ClassUnicode, ClassUnicodeRange, Hir, HirKind,
 };

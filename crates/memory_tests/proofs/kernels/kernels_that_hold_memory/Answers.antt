@@ -1,7 +1,7 @@
 use Rattle.std.proofs.Common.{◌≡◌}
 use Rattle.std.specs.List.{each_same}
 use Rattle.std.proofs.lemmas.Cmp.{tied_itself, nat_list_cmp_total}
-use Rattle.hostile_tests.proofs.memory.kernels.kernels_that_hold_memory.Goals as goal
+use Rattle.memory_tests.proofs.kernels.kernels_that_hold_memory.Goals as goal
 
 pub goes_on-requires : goal.goes_on-requires
 goes_on-requires g c = λ x y h.
