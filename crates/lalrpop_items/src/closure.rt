@@ -1,6 +1,6 @@
 //! Where items lead: by reading nothing, and by a value.
 
-ghost use Rattle.std.specs.Prelude.{◌≡◌, ◌≢◌, ◌↔◌, ℕ, ◌<◌, ◌≤◌, IsTrue, ◌++◌, ◌∷◌, [], length, slice_get, Some, IfOk, OnOk};
+ghost use Rattle.std.specs.Prelude.{◌≡◌, ◌≢◌, ◌↔◌, ℕ, ◌<◌, ◌≤◌, IsTrue, ◌++◌, ◌∷◌, [], length, slice_get, replicate, false, Some, IfOk, OnOk};
 ghost use Rattle.std.specs.List.{range_with_len};
 ghost use Rattle.std.specs.List.Sorted.{IsSorted, IsStrictlySortedBy};
 ghost use Rattle.std.specs.Ordering.{nat_cmp};
@@ -33,7 +33,40 @@ struct Worklist {
     pending: Vec<Item>,
 }
 
+/// Lists that a set of items is computed in, which are used again from set to set: where the items lead, the items found,
+/// and those of a pattern. What is in them is taken out before they are used.
+#[derive(Drop)]
+pub struct Workspace {
+    targets: Vec<Item>,
+    found: Vec<Item>,
+    worklist: Worklist,
+}
+
+impl Workspace {
+    pub fn new(alloc: Global) -> Workspace {
+        Workspace {
+            targets: Vec::new(alloc),
+            found: Vec::new(alloc),
+            worklist: Worklist {
+                marks: Vec::new(alloc),
+                pending: Vec::new(alloc),
+            },
+        }
+    }
+}
+
 impl Worklist {
+    // Makes it ready for a pattern of so many states, of which none is found yet.
+    fn begin(&mut self, states: usize) -> Result<(), AllocError>
+        ensures marks { OnOk result (self.new.marks.items ≡ replicate states false) }
+        ensures pending { OnOk result (self.new.pending.items ≡ []) }
+    {
+        self.pending.clear();
+        self.marks.clear();
+        self.marks.resize(states, false)?;
+        Ok(())
+    }
+
     // Notes an item, unless it was found before.
     fn insert(&mut self, item: Item) -> Result<(), AllocError>
         requires { item.1 < length self.old.marks.items }
@@ -100,8 +133,8 @@ fn push_marked(pattern: NfaIndex, marks: &[bool], found: &mut Vec<Item>) -> Resu
 // Adds the given items, which are of one pattern, and all that they lead to by reading nothing. Marks cost a step for
 // each state of the pattern.
 fn follow_by_marks(
-    alloc: Global,
     nfas: &[Nfa],
+    worklist: &mut Worklist,
     pattern: NfaIndex,
     given: &[Item],
     found: &mut Vec<Item>,
@@ -112,11 +145,7 @@ fn follow_by_marks(
     requires within { pattern < length nfas.now }
     ensures { OnOk result (found.new.items ≡ found.old.items ++ closed nfas.now given.now) }
 {
-    let size = nfas[pattern.index()].len();
-    let mut worklist = Worklist {
-        marks: vec![in alloc; false; size]?,
-        pending: Vec::new(alloc),
-    };
+    worklist.begin(nfas[pattern.index()].len())?;
     worklist.insert_all(pattern, given)?;
     while let Some(item) = worklist.pending.pop() {
         worklist.follow(nfas, item)?;
@@ -137,6 +166,7 @@ fn stays(nfas: &[Nfa], item: Item) -> bool
 fn follow_pattern(
     alloc: Global,
     nfas: &[Nfa],
+    worklist: &mut Worklist,
     pattern: NfaIndex,
     given: &[Item],
     found: &mut Vec<Item>,
@@ -154,7 +184,7 @@ fn follow_pattern(
         }
     }
     if nfas[pattern.index()].len() / STATES_FOR_AN_ITEM <= given.len() {
-        return follow_by_marks(alloc, nfas, pattern, given, found);
+        return follow_by_marks(nfas, worklist, pattern, given, found);
     }
     for item in follow_ordered(alloc, nfas, given)? {
         found.push(item)?;
@@ -180,27 +210,34 @@ fn end_of_pattern(items: &[Item], from: usize) -> usize
     end
 }
 
-// The given items and all that they lead to by reading nothing, pattern by pattern.
-fn follow_all(alloc: Global, nfas: &[Nfa], given: &[Item]) -> Result<Vec<Item>, AllocError>
+// Finds the given items and all that they lead to by reading nothing, pattern by pattern.
+fn follow_all(
+    alloc: Global,
+    nfas: &[Nfa],
+    worklist: &mut Worklist,
+    given: &[Item],
+    found: &mut Vec<Item>,
+) -> Result<(), AllocError>
     requires automata { AreAutomata nfas.now }
     requires inside { AreItemsOf nfas.now given.now }
     requires by_pattern { AreByPattern given.now }
-    ensures { IfOk result (λ v. v.items ≡ closed nfas.now given.now) }
+    ensures { OnOk result (found.new.items ≡ closed nfas.now given.now) }
 {
-    let mut found = Vec::with_capacity(alloc, given.len())?;
+    found.clear();
     let mut from = 0;
     while from < given.len() {
         let end = end_of_pattern(given, from);
         follow_pattern(
             alloc,
             nfas,
+            worklist,
             given[from].pattern(),
             &given[from..end],
-            &mut found,
+            found,
         )?;
         from = end;
     }
-    Ok(found)
+    Ok(())
 }
 
 // The first place, from this one on, at which there is no item before the given one.
@@ -283,10 +320,16 @@ pub fn closure(alloc: Global, nfas: &[Nfa], given: &[Item]) -> Result<ItemSet, A
     requires by_pattern { AreByPattern given.now }
     ensures { IfOk result (λ s. s ≡ closed nfas.now given.now) }
 {
-    let items = follow_all(alloc, nfas, given)?;
+    let mut workspace = Workspace::new(alloc);
+    let Workspace {
+        worklist,
+        found,
+        ..
+    } = &mut workspace;
+    follow_all(alloc, nfas, worklist, given, found)?;
     let patterns = nfas.len();
     let all = patterns_below(alloc, patterns)?;
-    set_of(alloc, patterns, &all, &items)
+    set_of(alloc, patterns, &all, found)
 }
 
 // All patterns.
@@ -300,6 +343,7 @@ fn patterns_below(alloc: Global, patterns: usize) -> Result<Vec<usize>, AllocErr
 /// live items are followed alone.
 pub fn advance(
     alloc: Global,
+    workspace: &mut Workspace,
     nfas: &[Nfa],
     set: &ItemSet,
     transitions: &[Transition],
@@ -311,7 +355,12 @@ pub fn advance(
     ensures { IfOk result (λ s. (v : ℕ) → AreTransitions nfas.now set.now v transitions.now
         → s ≡ move nfas.now set.now v) }
 {
-    let given = targets_by(alloc, nfas, &set.live, transitions)?;
-    let items = follow_all(alloc, nfas, &given)?;
-    set_of(alloc, set.patterns, &set.spared, &items)
+    let Workspace {
+        targets,
+        found,
+        worklist,
+    } = workspace;
+    targets_by(nfas, &set.live, transitions, targets)?;
+    follow_all(alloc, nfas, worklist, targets, found)?;
+    set_of(alloc, set.patterns, &set.spared, found)
 }

@@ -1,6 +1,6 @@
 //! Where the items of a set lead by a value, told by the test edges that the value takes.
 
-ghost use Rattle.std.specs.Prelude.{◌≡◌, ◌<◌, ◌≤◌, ◌++◌, length, map, IfOk, OnOk};
+ghost use Rattle.std.specs.Prelude.{◌≡◌, ◌<◌, ◌≤◌, ◌++◌, length, map, OnOk};
 ghost use Rattle.std.specs.List.{Contains};
 ghost use Rattle.std.specs.List.Sorted.{IsSorted};
 ghost use Rattle.lalrpop_items.specs.Ascending.{AreAscendingItems, AreByPattern};
@@ -12,7 +12,7 @@ ghost use Rattle.lalrpop_items.specs.Internal.Taken.{IsRunOf, targets_of_run, Ar
 use super::items::Item;
 use super::transitions::Transition;
 use lalrpop_nfa::{Nfa, Other};
-use std::alloc::{AllocError, Global};
+use std::alloc::AllocError;
 
 // The first place, from this one on, at which there is no edge of the item.
 fn end_of_item(transitions: &[Transition], from: usize, item: Item) -> usize
@@ -58,29 +58,29 @@ fn push_targets(
     Ok(())
 }
 
-/// Where the items lead, of whose test edges these are taken. Both ascend, so that one walk finds the edges of each item.
-/// A target that items of a pattern share, as REJECT, is mostly given once.
+/// Finds where the items lead, of whose test edges these are taken. Both ascend, so that one walk finds the edges of each
+/// item. A target that items of a pattern share, as REJECT, is mostly given once.
 pub(super) fn targets_by(
-    alloc: Global,
     nfas: &[Nfa],
     items: &[Item],
     transitions: &[Transition],
-) -> Result<Vec<Item>, AllocError>
+    targets: &mut Vec<Item>,
+) -> Result<(), AllocError>
     requires inside { AreItemsOf nfas.now items.now }
     requires ascending { AreAscendingItems items.now }
     requires sorted { IsSorted transition_cmp transitions.now }
     requires leave { (l : Transition) → Contains transitions.now l → Contains items.now l.item }
-    ensures targets { IfOk result (λ targets.
-        AreTargetsBy nfas.now items.now transitions.now targets.items) }
-    ensures by_pattern { IfOk result (λ targets. AreByPattern targets.items) }
+    ensures targets { OnOk result
+        (AreTargetsBy nfas.now items.now transitions.now targets.new.items) }
+    ensures by_pattern { OnOk result (AreByPattern targets.new.items) }
 {
-    let mut targets = Vec::with_capacity(alloc, items.len())?;
+    targets.clear();
     let mut from = 0;
     for item in items {
         let end = end_of_item(transitions, from, *item);
-        push_targets(nfas, *item, &transitions[from..end], &mut targets)?;
+        push_targets(nfas, *item, &transitions[from..end], targets)?;
         from = end;
     }
     targets.dedup();
-    Ok(targets)
+    Ok(())
 }

@@ -37,11 +37,11 @@ follow_all-requires-clause-inside c =
     let v : ℕ = c.requires.taken.0 in
     let held : AreItemsOf ns (full n spared live) = subst (AreItemsOf ns) (sym c.set.view_is) c.requires.inside in
     let have : AreTransitions ns (full n spared live) v c.args.transitions.now = subst (λ (s : List Item). AreTransitions ns s v c.args.transitions.now) (sym c.set.view_is) c.requires.taken.1 in
-    let alike = targets_alike ns c.requires.automata n spared live c.set.invariant.split v c.args.transitions.now c.deref.result.now c.in_ok-given.given.items held have c.deref.ensures.value c.in_ok-given.ensures.targets in
+    let alike = targets_alike ns c.requires.automata n spared live c.set.invariant.split v c.args.transitions.now c.deref.result.now c.targets_by.new.targets.items held have c.deref.ensures.value c.in_ok-targets_by.ensures.targets in
     subst (AreItemsOf ns) (sym c.deref-2.ensures.value) (λ z h. targets_inside ns v live c.requires.automata (live_inside ns c.requires.automata n spared live c.set.invariant.split held) z ((alike z).0 h))
 
 pub follow_all-requires-clause-by_pattern : goal.follow_all-requires-clause-by_pattern
-follow_all-requires-clause-by_pattern c = subst AreByPattern (sym c.deref-2.ensures.value) c.in_ok-given.ensures.by_pattern
+follow_all-requires-clause-by_pattern c = subst AreByPattern (sym c.deref-2.ensures.value) c.in_ok-targets_by.ensures.by_pattern
 
 pub set_of-requires-clause-within : goal.set_of-requires-clause-within
 set_of-requires-clause-within c =
@@ -52,12 +52,12 @@ set_of-requires-clause-within c =
     let v : ℕ = c.requires.taken.0 in
     let held : AreItemsOf ns (full n spared live) = subst (AreItemsOf ns) (sym c.set.view_is) c.requires.inside in
     let have : AreTransitions ns (full n spared live) v c.args.transitions.now = subst (λ (s : List Item). AreTransitions ns s v c.args.transitions.now) (sym c.set.view_is) c.requires.taken.1 in
-    let keys = closed_from_live ns c.requires.automata n spared live c.set.invariant.split v c.args.transitions.now c.deref.result.now c.in_ok-given.given.items c.deref-2.result.now c.deref-4.result.now held have c.deref.ensures.value c.in_ok-given.ensures.targets
-    c.deref-2.ensures.value (c.deref-4.ensures.value ∙ c.in_ok-items.ensures) in
+    let keys = closed_from_live ns c.requires.automata n spared live c.set.invariant.split v c.args.transitions.now c.deref.result.now c.targets_by.new.targets.items c.deref-2.result.now c.deref-4.result.now held have c.deref.ensures.value c.in_ok-targets_by.ensures.targets
+    c.deref-2.ensures.value (c.deref-4.ensures.value ∙ c.in_ok-follow_all.ensures) in
     moved_within ns c.requires.automata n spared live c.set.invariant.split v held c.deref-4.result.now keys
 
 pub set_of-requires-clause-ascending : goal.set_of-requires-clause-ascending
-set_of-requires-clause-ascending c = rw (c.deref-4.ensures.value, c.in_ok-items.ensures) (closed_ascends c.args.nfas.now c.deref-2.result.now)
+set_of-requires-clause-ascending c = rw (c.deref-4.ensures.value, c.in_ok-follow_all.ensures) (closed_ascends c.args.nfas.now c.deref-2.result.now)
 
 pub returns : goal.returns
 returns c =
@@ -69,8 +69,8 @@ returns c =
     let items = c.deref-4.result.now in
     let held : AreItemsOf ns (full n spared live) = subst (AreItemsOf ns) (sym c.set.view_is) c.requires.inside in
     let have : AreTransitions ns (full n spared live) v c.args.transitions.now = subst (λ (s : List Item). AreTransitions ns s v c.args.transitions.now) (sym c.set.view_is) c.requires.taken.1 in
-    let keys = closed_from_live ns c.requires.automata n spared live c.set.invariant.split v c.args.transitions.now c.deref.result.now c.in_ok-given.given.items c.deref-2.result.now items held have c.deref.ensures.value c.in_ok-given.ensures.targets
-    c.deref-2.ensures.value (c.deref-4.ensures.value ∙ c.in_ok-items.ensures) in
+    let keys = closed_from_live ns c.requires.automata n spared live c.set.invariant.split v c.args.transitions.now c.deref.result.now c.targets_by.new.targets.items c.deref-2.result.now items held have c.deref.ensures.value c.in_ok-targets_by.ensures.targets
+    c.deref-2.ensures.value (c.deref-4.ensures.value ∙ c.in_ok-follow_all.ensures) in
     let to = moved_is ns c.requires.automata n spared live c.set.invariant.split v held items keys in
     let is : full n (still_spared items c.deref-3.result.now) (live_of items) ≡ move ns c.args.set.now v = ap (λ sp. full n (still_spared items sp) (live_of items)) c.deref-3.ensures.value ∙ (to ∙ ap (λ s. move ns s v) c.set.view_is) in
     IfOk-weaker c.set_of.result (λ s. s ≡ full n (still_spared items c.deref-3.result.now) (live_of items)) (λ s. (w : ℕ) → AreTransitions ns c.args.set.now w c.args.transitions.now → s ≡ move ns c.args.set.now w)

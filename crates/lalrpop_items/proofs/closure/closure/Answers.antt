@@ -7,7 +7,7 @@ use Rattle.lalrpop_items.proofs.LiveSets.{all_spared, closed_within, split_close
 use Rattle.lalrpop_items.proofs.closure.closure.Goals as goal
 
 pub set_of-requires-clause-within : goal.set_of-requires-clause-within
-set_of-requires-clause-within c = closed_within c.args.nfas.now c.args.given.now c.deref-2.result.now (c.deref-2.ensures.value ∙ c.in_ok-items.ensures)
+set_of-requires-clause-within c = closed_within c.args.nfas.now c.args.given.now c.deref-2.result.now (c.deref-2.ensures.value ∙ c.in_ok-follow_all.ensures)
 
 pub set_of-requires-clause-spared : goal.set_of-requires-clause-spared
 set_of-requires-clause-spared c = rw (c.deref.ensures.value, c.in_ok-all.ensures) (all_spared (length c.args.nfas.now))
@@ -16,8 +16,8 @@ pub returns : goal.returns
 returns c =
     let all : c.deref.result.now ≡ range_with_len 0 (length c.args.nfas.now) = c.deref.ensures.value ∙ c.in_ok-all.ensures in
     subst (λ t. IfOk c.set_of.result (λ s. s ≡ t))
-    (ap (λ sp. full (length c.args.nfas.now) (still_spared c.deref-2.result.now sp) (live_of c.deref-2.result.now)) all ∙ split_closed c.args.nfas.now c.args.given.now c.deref-2.result.now (c.deref-2.ensures.value ∙ c.in_ok-items.ensures))
+    (ap (λ sp. full (length c.args.nfas.now) (still_spared c.deref-2.result.now sp) (live_of c.deref-2.result.now)) all ∙ split_closed c.args.nfas.now c.args.given.now c.deref-2.result.now (c.deref-2.ensures.value ∙ c.in_ok-follow_all.ensures))
     c.set_of.ensures
 
 pub set_of-requires-clause-ascending : goal.set_of-requires-clause-ascending
-set_of-requires-clause-ascending c = rw (c.deref-2.ensures.value, c.in_ok-items.ensures) (closed_ascends c.args.nfas.now c.args.given.now)
+set_of-requires-clause-ascending c = rw (c.deref-2.ensures.value, c.in_ok-follow_all.ensures) (closed_ascends c.args.nfas.now c.args.given.now)

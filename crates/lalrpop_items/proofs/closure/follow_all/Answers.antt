@@ -5,7 +5,7 @@ use Rattle.lalrpop_items.proofs.closure.follow_all.Goals as goal
 
 pub loop-from-init : goal.loop-from-init
 loop-from-init c = record {
-  found = c.in_ok-found.ensures.items ∙ sym (closed_none c.args.nfas.now);
+  found = c.clear.ensures.items ∙ sym (closed_none c.args.nfas.now);
   within = omega arith;
   apart = apart_none c.args.given.now;
 }

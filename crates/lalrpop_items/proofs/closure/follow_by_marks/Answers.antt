@@ -1,5 +1,5 @@
-use Rattle.std.proofs.Common.{◌≡◌, ◌++◌, ◌∙◌, length, arith, refl, ap, sym, subst, rules, false}
-use Rattle.std.proofs.Math.ListN.{replicate}
+use Rattle.std.proofs.Common.{◌≡◌, ◌++◌, ◌∙◌, length, arith, refl, ap, sym, subst, false}
+use Rattle.std.proofs.lemmas.List.{length-replicate}
 use Rattle.lalrpop_items.specs.Internal.Worklist.{IsInserted, epsilon_targets, marked, AreMarksOf}
 use Rattle.std.specs.Result.{OnOk}
 use Rattle.lalrpop_items.specs.Subsets.{closed}
@@ -9,19 +9,18 @@ use Rattle.lalrpop_items.proofs.closure.follow_by_marks.Goals as goal
 
 pub insert_all-requires-clause-marks : goal.insert_all-requires-clause-marks
 insert_all-requires-clause-marks c =
-    let long : length c.in_ok-vec.field-0.items ≡ c.len-size.result = search rules in
-    given_below c.args.nfas.now c.args.pattern c.args.given.now c.in_ok-vec.field-0.items
-    (pattern_room c.args.nfas.now c.args.pattern c.index.result c.index-nfas-index.result c.in_ok-vec.field-0.items c.len-size.result c.index.ensures.value c.requires.within c.index-nfas-index.is c.len-size.ensures.value long)
+    let long : length c.begin.new.self.marks.items ≡ c.len.result = ap length c.in_ok-begin.ensures.marks ∙ length-replicate c.len.result false in
+    given_below c.args.nfas.now c.args.pattern c.args.given.now c.begin.new.self.marks.items
+    (pattern_room c.args.nfas.now c.args.pattern c.index.result c.index-nfas-index.result c.begin.new.self.marks.items c.len.result c.index.ensures.value c.requires.within c.index-nfas-index.is c.len.ensures.value long)
     c.requires.inside c.requires.pattern
 
 pub loop-item-init : goal.loop-item-init
 loop-item-init c =
-    let long : length c.in_ok-vec.field-0.items ≡ c.len-size.result = search rules in
-    let clear : c.in_ok-vec.field-0.items ≡ replicate c.len-size.result false = c.in_ok-vec.ensures.items_if_clones_equal (λ y e. e) in
+    let long : length c.begin.new.self.marks.items ≡ c.len.result = ap length c.in_ok-begin.ensures.marks ∙ length-replicate c.len.result false in
     record {
-      closing = closing_start c.args.nfas.now c.args.given.now (marked c.args.pattern c.in_ok-vec.field-0.items) c.new.result.items (marked c.args.pattern c.insert_all.new.self.marks.items) c.insert_all.new.self.pending.items
-          (none_marked c.args.pattern c.in_ok-vec.field-0.items c.len-size.result clear) c.new.ensures.items (marked_ascends c.args.pattern c.in_ok-vec.field-0.items) c.requires.inside c.in_ok-insert_all.ensures.inserted;
-      marks = pattern_room c.args.nfas.now c.args.pattern c.index.result c.index-nfas-index.result c.insert_all.new.self.marks.items c.len-size.result c.index.ensures.value c.requires.within c.index-nfas-index.is c.len-size.ensures.value (c.in_ok-insert_all.ensures.len ∙ long);
+      closing = closing_start c.args.nfas.now c.args.given.now (marked c.args.pattern c.begin.new.self.marks.items) c.begin.new.self.pending.items (marked c.args.pattern c.insert_all.new.self.marks.items) c.insert_all.new.self.pending.items
+          (none_marked c.args.pattern c.begin.new.self.marks.items c.len.result c.in_ok-begin.ensures.marks) c.in_ok-begin.ensures.pending (marked_ascends c.args.pattern c.begin.new.self.marks.items) c.requires.inside c.in_ok-insert_all.ensures.inserted;
+      marks = pattern_room c.args.nfas.now c.args.pattern c.index.result c.index-nfas-index.result c.insert_all.new.self.marks.items c.len.result c.index.ensures.value c.requires.within c.index-nfas-index.is c.len.ensures.value (c.in_ok-insert_all.ensures.len ∙ long);
       found = refl;
     }
 

@@ -8,7 +8,7 @@ use Rattle.lalrpop_items.proofs.TakenEdges.{walked_none, walked_more, once_targe
 use Rattle.lalrpop_items.proofs.moves.targets_by.Goals as goal
 
 pub loop-item-init : goal.loop-item-init
-loop-item-init c = walked_none c.args.nfas.now c.args.items.now c.args.transitions.now c.in_ok-targets.targets.items c.requires.leave c.in_ok-targets.ensures.items
+loop-item-init c = walked_none c.args.nfas.now c.args.items.now c.args.transitions.now c.clear.new.self.items c.requires.leave c.clear.ensures.items
 
 pub returns : goal.returns
 returns c =
