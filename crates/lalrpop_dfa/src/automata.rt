@@ -20,7 +20,7 @@ use super::best::{Tie, kind_of};
 use super::blocks::Room;
 use super::{Kind, NfaIndex, Precedence};
 use lalrpop_alphabet::Alphabet;
-use lalrpop_items::closure::{advance, closure};
+use lalrpop_items::closure::{Workspace, advance, closure};
 use lalrpop_items::{Item, ItemSet, Transition};
 use lalrpop_nfa::{Nfa, START};
 use std::alloc::{AllocError, Global};
@@ -84,6 +84,7 @@ impl<'nfas> Automata<'nfas> {
     pub(super) fn advance(
         &self,
         alloc: Global,
+        workspace: &mut Workspace,
         set: &ItemSet,
         transitions: &[Transition],
     ) -> Result<ItemSet, AllocError>
@@ -94,7 +95,7 @@ impl<'nfas> Automata<'nfas> {
             → AreTransitions self.now.graphs set.now v transitions.now
             → s ≡ move self.now.graphs set.now v) }
     {
-        advance(alloc, self.nfas, set, transitions)
+        advance(alloc, workspace, self.nfas, set, transitions)
     }
 
     /// The kind of a state that holds the set, or the tie of its strongest patterns.

@@ -23,17 +23,19 @@ use super::blocks::{Block, Known, Room, Transitions};
 use super::origin::Origin;
 use super::rows::{Edges, Rows};
 use super::{Dfa, DfaConstructionError, DfaStateIndex, Precedence};
+use lalrpop_items::closure::Workspace;
 use lalrpop_items::{ItemSet, Transition};
 use lalrpop_kernels::KernelSet;
 use lalrpop_nfa::Nfa;
 use std::alloc::{AllocError, Global};
 use std::collections::BTreeMap;
 
-/// The sets of items by number, and where each was first met.
+/// The sets of items by number, and where each was first met. A set that is to be added is computed in the workspace.
 #[derive(Drop)]
 pub(super) struct Sets {
     kernels: KernelSet<ItemSet>,
     origins: Vec<Origin>,
+    workspace: Workspace,
 }
 
 // The sets that were met, and the rows of those that are expanded.
@@ -53,7 +55,11 @@ fn first_sets(alloc: Global, automata: &Automata) -> Result<Sets, AllocError>
     kernels.add_state(first)?;
     let mut origins = Vec::new(alloc);
     origins.push(Origin::new(0, 0))?;
-    Ok(Sets { kernels, origins })
+    Ok(Sets {
+        kernels,
+        origins,
+        workspace: Workspace::new(alloc),
+    })
 }
 
 impl Sets {
@@ -85,7 +91,7 @@ impl Sets {
         ensures { IfOk result (λ j.
             IsAdded self.old origin (move automata.now.graphs set.now origin.1) j self.new) }
     {
-        let target = automata.advance(alloc, set, transitions)?;
+        let target = automata.advance(alloc, &mut self.workspace, set, transitions)?;
         self.add(target, origin)
     }
 
