@@ -1,12 +1,14 @@
 -- What adding a set to the numbered ones does.
 use Rattle.std.proofs.Common.{◌≡◌, ℕ, suc, ◌+◌, ◌<◌, inl, inr, List, [], ◌∷◌, ◌++◌, length, drop, get_or, refl, ap, ap₂, sym, ◌∙◌, subst, arith, Bool, true, false, cond, append_assoc, add-one, drop-cons}
-use Rattle.std.specs.Prelude.{slice_get, Some}
+use Rattle.std.specs.Prelude.{slice_get, Option, Some}
 use Rattle.std.specs.BTreeMap.{BTreeMap, Updates}
 use Rattle.std.specs.List.{list_any}
-use Rattle.std.specs.Ordering.{is_eq, nat_cmp, ordering_then}
-use Rattle.std.specs.Cmp.{Equal-is}
-use Rattle.std.specs.declared.cmp.Ordering.TheVariants.{Equal}
-use Rattle.std.proofs.lemmas.Cmp.{tied_itself}
+use Rattle.std.specs.List.Sorted.{IsSorted}
+use Rattle.std.specs.Ordering.{is_eq, is_lt, is_le, is_some_and, nat_cmp, ordering_then, ordering_reverse, partial_ordering_then}
+use Rattle.std.specs.Cmp.{Equal-is, IsTotalOrder}
+use Rattle.std.specs.declared.cmp.Ordering.{Ordering}
+use Rattle.std.specs.declared.cmp.Ordering.TheVariants.{Less, Equal, Greater}
+use Rattle.std.proofs.lemmas.Cmp.{tied_itself, then_total, on_total, nat_cmp_total}
 use Rattle.std.proofs.lemmas.Map.Keys.{any_passes_from_place}
 use Rattle.std.proofs.lemmas.Map.Lookups.{CmpEqualImpliesEq}
 use Rattle.std.proofs.lemmas.Option.{slice_get_within}
@@ -24,7 +26,7 @@ use Rattle.lalrpop_dfa.specs.Internal.Transitions.{transitions_cmp}
 use Rattle.lalrpop_items.specs.declared.transitions.Transition.{Transition}
 use Rattle.lalrpop_dfa.specs.declared.blocks.Transitions.{Transitions}
 use Rattle.lalrpop_items.specs.ItemOrder.{rejects_cmp, hash_of, items_cmp, set_cmp}
-use Rattle.lalrpop_items.specs.Internal.OrderLaws.{set_total}
+use Rattle.lalrpop_items.specs.Internal.OrderLaws.{item_total, set_total}
 use Rattle.lalrpop_items.specs.LiveItems.{live_of}
 use Rattle.lalrpop_dfa.specs.Internal.Builder.{AddedTo, AreKnown}
 use Rattle.lalrpop_items.specs.Given.{AreAutomata, AreItemsOf}
@@ -120,3 +122,35 @@ known_more ns s known known2 sets origins n v leads j sets2 origins2 k these add
       rw (← number, ← to) (added_at sets origins n v (move ns s v) j sets2 origins2 add))
   | inr apart ↦ added_stays sets origins n v (move ns s v) j sets2 origins2 add i (move ns s w) (k other i w (sym (u.0 other ∙ rw apart refl) ∙ h) are)
 ]
+
+-- ---- edges in order
+transition_total : IsTotalOrder transition_cmp
+transition_total = then_total (on_total (λ (l : Transition). l.item) item_total) (on_total (λ (l : Transition). l.to) nat_cmp_total)
+
+-- what `partial_cmp` answers
+abbrev partial : Transition → Transition → Option Ordering
+partial x y = partial_ordering_then (Some (item_cmp x.item y.item)) (Some (nat_cmp x.to y.to))
+
+both_then : (a b : Ordering) → partial_ordering_then (Some a) (Some b) ≡ Some (ordering_then a b)
+both_then Less b = refl
+both_then Equal b = refl
+both_then Greater b = refl
+
+partial_is : (x y : Transition) → partial x y ≡ Some (transition_cmp x y)
+partial_is x y = both_then (item_cmp x.item y.item) (nat_cmp x.to y.to)
+
+turned_order : (o : Ordering) → is_some_and is_le (Some (ordering_reverse o)) ≡ true → is_lt o ≡ false
+turned_order Less h = cc
+turned_order Equal h = refl
+turned_order Greater h = refl
+
+-- a list where no edge is greater than the next
+pub sorted_by_test : (ls : List Transition) → ((k : ℕ) (d : Transition) → k + 1 < length ls → is_some_and is_le (partial (get_or ls k d) (get_or ls (k + 1) d)) ≡ true) → IsSorted transition_cmp ls
+sorted_by_test ls h k d low l = turned_order (transition_cmp (get_or ls (k + 1) d) (get_or ls k d))
+    (subst (λ (o : Ordering). is_some_and is_le (Some o) ≡ true) (transition_total.antisymm (get_or ls k d) (get_or ls (k + 1) d))
+    (subst (λ (o : Option Ordering). is_some_and is_le o ≡ true) (partial_is (get_or ls k d) (get_or ls (k + 1) d)) (h k d l)))
+
+-- the numbers that are known stay right while sets are added
+pub known_stays : (ns : List Graph) (s : List Item) (known : BTreeMap Transitions ℕ) (sets : List (List Item)) (origins : List (ℕ × ℕ)) (n v : ℕ) (t : List Item) (j : ℕ) (sets2 : List (List Item)) (origins2 : List (ℕ × ℕ))
+    → AreKnown ns s known sets → AddedTo sets origins n v t j sets2 origins2 → AreKnown ns s known sets2
+known_stays ns s known sets origins n v t j sets2 origins2 k add leads i w found are = added_stays sets origins n v t j sets2 origins2 add i (move ns s w) (k leads i w found are)

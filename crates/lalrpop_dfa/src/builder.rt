@@ -19,7 +19,7 @@ ghost use Rattle.lalrpop_dfa.specs.Internal.BreadthFirst.{IsBreadthFirst, nth};
 
 use super::automata::Automata;
 use super::best::Tie;
-use super::blocks::{Block, Known, Room, Transitions};
+use super::blocks::{Block, EdgesByClass, Known, Room, Transitions};
 use super::origin::Origin;
 use super::rows::{Edges, Rows};
 use super::{Dfa, DfaConstructionError, DfaStateIndex, Precedence};
@@ -29,6 +29,9 @@ use lalrpop_kernels::KernelSet;
 use lalrpop_nfa::Nfa;
 use std::alloc::{AllocError, Global};
 use std::collections::BTreeMap;
+
+// So many classes with edges are few: most sets have at most two.
+const FEW: usize = 3;
 
 /// The sets of items by number, and where each was first met. A set that is to be added is computed in the workspace.
 #[derive(Drop)]
@@ -95,34 +98,27 @@ impl Sets {
         self.add(target, origin)
     }
 
-    // The same, looked up where these edges were met before. They come in order, and a sort only makes sure of it.
-    fn target_of_transitions(
+    // The same, where the edges need not be in order. They nearly always are, and are copied only where they are not.
+    fn target_of_any_order(
         &mut self,
         alloc: Global,
         automata: &Automata,
         set: &ItemSet,
-        known: &mut BTreeMap<Transitions, DfaStateIndex>,
-        transitions: &Transitions,
+        transitions: &[Transition],
         origin: Origin,
     ) -> Result<DfaStateIndex, AllocError>
         requires inside { AreItemsOf automata.now.graphs set.now }
         requires same_length { length self.old.origins.items ≡ length self.old.kernels.list }
-        requires transitions { AreTransitions automata.now.graphs set.now origin.1
-            transitions.now.list.items }
-        requires known { AreKnown automata.now.graphs set.now known.old self.old.kernels.list }
-        ensures added { IfOk result (λ j.
+        requires transitions { AreTransitions automata.now.graphs set.now origin.1 transitions.now }
+        ensures { IfOk result (λ j.
             IsAdded self.old origin (move automata.now.graphs set.now origin.1) j self.new) }
-        ensures known { OnOk result
-            (AreKnown automata.now.graphs set.now known.new self.new.kernels.list) }
     {
-        if let Some(number) = known.get(transitions) {
-            return Ok(*number);
+        if transitions.is_sorted() {
+            return self.target_of(alloc, automata, set, transitions, origin);
         }
-        let mut sorted = transitions.clone()?;
-        sorted.list.sort()?;
-        let number = self.target_of(alloc, automata, set, &sorted.list, origin)?;
-        known.insert(sorted, number)?;
-        Ok(number)
+        let mut sorted = transitions.to_vec(alloc)?;
+        sorted.sort()?;
+        self.target_of(alloc, automata, set, &sorted, origin)
     }
 
     // Expands a number: adds the sets that its set leads to.
@@ -146,21 +142,52 @@ impl Sets {
         ensures room { OnOk result (IsRoomOf automata.now.alphabet room.new) }
     {
         automata.fill(room, set)?;
-        let by_class = &room.edges.lists;
+        let edges = &room.edges;
         let known = &mut room.known;
         let mut tests = Vec::with_capacity(alloc, room.blocks.len())?;
         for block in &room.blocks {
             let Block { range, class } = block;
             let origin = Origin::new(number, range.start());
-            let target = target_of_class(
-                self, alloc, automata, set, known, by_class, *class, origin,
-            )?;
+            let target = target_of_class(self, alloc, automata, set, known, edges, *class, origin)?;
             tests.push((range.clone()?, target))?;
         }
         // No label reaches the greatest number, so that it takes no test edge.
         let other = self.target_of(alloc, automata, set, &[], Origin::new(number, u32::MAX))?;
         Ok(Edges { tests, other })
     }
+}
+
+// The number of the set that a set leads to by the origin's value, which takes these test edges: looked up where they were
+// met before. Where few classes have edges, a look-up finds next to nothing and costs more than it saves.
+fn target_of_transitions(
+    sets: &mut Sets,
+    alloc: Global,
+    automata: &Automata,
+    set: &ItemSet,
+    few: bool,
+    known: &mut BTreeMap<Transitions, DfaStateIndex>,
+    transitions: &Transitions,
+    origin: Origin,
+) -> Result<DfaStateIndex, AllocError>
+    requires inside { AreItemsOf automata.now.graphs set.now }
+    requires same_length { length sets.old.origins.items ≡ length sets.old.kernels.list }
+    requires transitions { AreTransitions automata.now.graphs set.now origin.1
+        transitions.now.list.items }
+    requires known { AreKnown automata.now.graphs set.now known.old sets.old.kernels.list }
+    ensures added { IfOk result (λ j.
+        IsAdded sets.old origin (move automata.now.graphs set.now origin.1) j sets.new) }
+    ensures known { OnOk result
+        (AreKnown automata.now.graphs set.now known.new sets.new.kernels.list) }
+{
+    if few {
+        return sets.target_of_any_order(alloc, automata, set, &transitions.list, origin);
+    }
+    if let Some(number) = known.get(transitions) {
+        return Ok(*number);
+    }
+    let number = sets.target_of_any_order(alloc, automata, set, &transitions.list, origin)?;
+    known.insert(transitions.clone()?, number)?;
+    Ok(number)
 }
 
 // The number of the set that a set leads to by the origin's value, which is of this class: looked up where the class was
@@ -171,25 +198,25 @@ fn target_of_class(
     automata: &Automata,
     set: &ItemSet,
     known: &mut Known,
-    by_class: &[Transitions],
+    edges: &EdgesByClass,
     class: usize,
     origin: Origin,
 ) -> Result<DfaStateIndex, AllocError>
     requires inside { AreItemsOf automata.now.graphs set.now }
     requires same_length { length sets.old.origins.items ≡ length sets.old.kernels.list }
-    requires transitions { (t : Transitions) × ((slice_get by_class.now class ≡ Some t)
+    requires transitions { (t : Transitions) × ((slice_get edges.now.lists.items class ≡ Some t)
         × AreTransitions automata.now.graphs set.now origin.1 t.list.items) }
-    requires count { length known.old.by_class.items ≡ length by_class.now }
+    requires count { length known.old.by_class.items ≡ length edges.now.lists.items }
     requires known { AreKnown automata.now.graphs set.now
         known.old.by_transitions sets.old.kernels.list }
-    requires classes { AreKnownClasses automata.now.graphs set.now by_class.now
+    requires classes { AreKnownClasses automata.now.graphs set.now edges.now.lists.items
         known.old.by_class.items sets.old.kernels.list }
     ensures added { IfOk result (λ j.
         IsAdded sets.old origin (move automata.now.graphs set.now origin.1) j sets.new) }
-    ensures count { OnOk result (length known.new.by_class.items ≡ length by_class.now) }
+    ensures count { OnOk result (length known.new.by_class.items ≡ length edges.now.lists.items) }
     ensures known { OnOk result (AreKnown automata.now.graphs set.now
         known.new.by_transitions sets.new.kernels.list) }
-    ensures classes { OnOk result (AreKnownClasses automata.now.graphs set.now by_class.now
+    ensures classes { OnOk result (AreKnownClasses automata.now.graphs set.now edges.now.lists.items
         known.new.by_class.items sets.new.kernels.list) }
     ensures numbers { OnOk result
         (OnlyNumbers known.old.by_class.items class known.new.by_class.items) }
@@ -197,12 +224,14 @@ fn target_of_class(
     if let Some(number) = known.by_class[class] {
         return Ok(number);
     }
-    let number = sets.target_of_transitions(
+    let number = target_of_transitions(
+        sets,
         alloc,
         automata,
         set,
+        edges.used.len() <= FEW,
         &mut known.by_transitions,
-        &by_class[class],
+        &edges.lists[class],
         origin,
     )?;
     known.by_class[class] = Some(number);

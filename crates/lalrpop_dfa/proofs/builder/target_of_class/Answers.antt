@@ -5,20 +5,20 @@ use Rattle.lalrpop_dfa.proofs.Noted.{numbers_more}
 use Rattle.lalrpop_dfa.proofs.builder.target_of_class.Goals as goal
 
 pub target_of_transitions-requires-clause-transitions : goal.target_of_transitions-requires-clause-transitions
-target_of_transitions-requires-clause-transitions c = class_takes c.args.automata.now.graphs c.args.set.now c.args.by_class.now c.args.class c.args.origin.1 c.index-by_class-class.result c.index-by_class-class.is c.requires.transitions
+target_of_transitions-requires-clause-transitions c = class_takes c.args.automata.now.graphs c.args.set.now c.args.edges.now.lists.items c.args.class c.args.origin.1 c.index-2.result.now c.index-2.ensures c.requires.transitions
 
 pub index_mut-requires : goal.index_mut-requires
 index_mut-requires c =
     let (t, (at, are)) = c.requires.transitions in
-    omega (arith, c.args.known.now.by_class.ok, c.requires.count, slice_get_within c.args.by_class.now c.args.class t at)
+    omega (arith, c.args.known.now.by_class.ok, c.requires.count, slice_get_within c.args.edges.now.lists.items c.args.class t at)
 
 pub returns-clause-classes : goal.returns-clause-classes
 returns-clause-classes c =
     let (t, (at, are)) = c.requires.transitions in
-    known_classes_more c.args.automata.now.graphs c.args.set.now c.args.by_class.now c.args.known.now.by_class.items c.args.sets.now.kernels.list c.args.sets.now.origins.items c.args.origin.0 c.args.origin.1 c.args.class c.in_ok-number.number
-    c.target_of_transitions.new.self.kernels.list c.target_of_transitions.new.self.origins.items c.requires.classes (omega (arith, c.requires.count, slice_get_within c.args.by_class.now c.args.class t at)) c.requires.transitions c.in_ok-number.ensures.added.0
+    known_classes_more c.args.automata.now.graphs c.args.set.now c.args.edges.now.lists.items c.args.known.now.by_class.items c.args.sets.now.kernels.list c.args.sets.now.origins.items c.args.origin.0 c.args.origin.1 c.args.class c.in_ok-number.number
+    c.target_of_transitions.new.sets.kernels.list c.target_of_transitions.new.sets.origins.items c.requires.classes (omega (arith, c.requires.count, slice_get_within c.args.edges.now.lists.items c.args.class t at)) c.requires.transitions c.in_ok-number.ensures.added.0
 
 pub returns-clause-numbers : goal.returns-clause-numbers
 returns-clause-numbers c =
     let (t, (at, are)) = c.requires.transitions in
-    numbers_more c.args.known.now.by_class.items c.args.class c.in_ok-number.number (omega (arith, c.requires.count, slice_get_within c.args.by_class.now c.args.class t at))
+    numbers_more c.args.known.now.by_class.items c.args.class c.in_ok-number.number (omega (arith, c.requires.count, slice_get_within c.args.edges.now.lists.items c.args.class t at))

@@ -3,9 +3,7 @@ use Rattle.std.specs.Prelude.{slice_get, Some}
 use Rattle.std.specs.List.{Contains}
 use Rattle.std.proofs.lemmas.Option.{slice_get_read}
 use Rattle.std.proofs.lemmas.List.{length-map}
-use Rattle.lalrpop_dfa.specs.Internal.Builder.{AreKnownClasses}
 use Rattle.lalrpop_dfa.specs.Internal.Room.{AreUsed}
-use Rattle.lalrpop_dfa.specs.declared.blocks.Transitions.{Transitions}
 use Rattle.lalrpop_dfa.specs.Items.{IsLeaving}
 use Rattle.lalrpop_ranges.specs.Partition.{IsPartition}
 use Rattle.lalrpop_items.specs.Transitions.{AreTransitions}
@@ -35,14 +33,7 @@ target_of_class-requires-clause-transitions c =
     let have : HaveTransitions c.args.automata.now.graphs c.args.set.now c.fill.new.room.edges.lists.items blocks = subst (λ (bs : List Block). HaveTransitions c.args.automata.now.graphs c.args.set.now c.fill.new.room.edges.lists.items bs) (sym c.deref-block-items.ensures.value) c.in_ok-fill.ensures.transitions in
     let (t, (there, led)) = have k c.block-item.result at in
     let v : c.new-origin.result.1 ≡ c.block-item.result.range.start = ap (λ (o : ℕ × ℕ). o.1) c.new-origin.ensures ∙ c.start.ensures.value in
-    (t, (subst (λ (ts : List Transitions). slice_get ts c.block-item.result.class ≡ Some t) (sym c.deref.ensures.value) there, subst (λ w. AreTransitions c.args.automata.now.graphs c.args.set.now w t.list.items) (sym v) led))
-
-pub target_of_class-requires-clause-count : goal.target_of_class-requires-clause-count
-target_of_class-requires-clause-count c = c.loop-block.invariant.count ∙ ap length (sym c.deref.ensures.value)
-
-pub target_of_class-requires-clause-classes : goal.target_of_class-requires-clause-classes
-target_of_class-requires-clause-classes c =
-    subst (λ (ts : List Transitions). AreKnownClasses c.args.automata.now.graphs c.args.set.now ts c.loop-block.known.by_class.items c.loop-block.self.kernels.list) (sym c.deref.ensures.value) c.loop-block.invariant.classes
+    (t, (there, subst (λ w. AreTransitions c.args.automata.now.graphs c.args.set.now w t.list.items) (sym v) led))
 
 pub target_of-requires-clause-transitions : goal.target_of-requires-clause-transitions
 target_of-requires-clause-transitions c = takes_none c.args.automata.now.graphs c.in_ok-fill.ensures.automata c.args.set.now c.new.result.1 [] (let v : c.new.result.1 ≡ 4294967295 = ap (λ (o : ℕ × ℕ). o.1) c.new.ensures in omega (arith, v)) refl
@@ -61,9 +52,9 @@ loop-block-preserved c =
           c.loop-block.tests.items c.push.new.self.items c.target_of_class.new.sets.kernels.list c.target_of_class.new.sets.origins.items c.loop-block.invariant.edging read.0 read.1 c.start.ensures.value
           (ap (λ (o : ℕ × ℕ). move c.args.automata.now.graphs c.args.set.now o.1) c.new-origin.ensures) (search rules)
           (added_of _ _ _ c.args.number c.start.result _ _ _ _ c.new-origin.ensures c.in_ok-target.ensures.added.0) c.in_ok-push.ensures.items;
-      count = c.in_ok-target.ensures.count ∙ ap length c.deref.ensures.value;
+      count = c.in_ok-target.ensures.count;
       known = c.in_ok-target.ensures.known;
-      classes = subst (λ (ts : List Transitions). AreKnownClasses c.args.automata.now.graphs c.args.set.now ts c.target_of_class.new.known.by_class.items c.target_of_class.new.sets.kernels.list) c.deref.ensures.value c.in_ok-target.ensures.classes;
+      classes = c.in_ok-target.ensures.classes;
       numbers = numbered_more c.loop-block.known.by_class.items c.target_of_class.new.known.by_class.items blocks block block.class c.in_ok-target.ensures.numbers (k, c.loop-block-test.true, sym c.block-item.is) refl c.loop-block.invariant.numbers;
       place = c.in_ok-target.ensures.added.1 ∙ c.loop-block.invariant.place;
     }
