@@ -2,4 +2,5 @@
 mod Building
 mod Cut
 mod Quoted
+mod Rules
 mod Shown

@@ -1,3 +1,4 @@
+-- cases: proofs/Cases/Rules.antt
 -- What a lexer recognizes.
 use Rattle.std.specs.Prelude.{ℕ, List}
 use Rattle.lalrpop_hir.specs.Tree.{Tree}
