@@ -5,7 +5,7 @@ use Rattle.std.specs.List.{Contains}
 use Rattle.std.proofs.lemmas.List.{take_more, take_all, length_push, map-append}
 use Rattle.std.proofs.Math.Pow.{pow_mono}
 use Rattle.std.proofs.lemmas.Option.{slice_get_cases, slice_get_within, slice_get-get_or, get_or_from_slice_get}
-use Rattle.lalrpop_hir.specs.Range.{Range, Covers}
+use Rattle.lalrpop_hir.specs.Range.{Range}
 use Rattle.lalrpop_hir.specs.Tree.{Tree}
 use Rattle.lalrpop_hir.specs.Size.{size}
 use Rattle.lalrpop_nfa.specs.Graph.{Graph}
@@ -19,11 +19,11 @@ use Rattle.lalrpop_items.specs.Subsets.{move, all_items}
 use Rattle.lalrpop_dfa.specs.Internal.BreadthFirst.{Automaton, IsBreadthFirst, Added, nth, value_of, from_of, word}
 use Rattle.lalrpop_dfa.specs.Internal.Built.{subset_automaton, IsKindOf, IsRowOf, IsTied}
 use Rattle.lalrpop_items.specs.Given.{AreAutomata, AreItemsOf}
-use Rattle.lalrpop_dfa.specs.Internal.Builder.{AddedTo, AreSmall, Keep, IsEdged, IsBuiltTo, IsTieOf, IsClashOf}
+use Rattle.lalrpop_dfa.specs.Internal.Builder.{AddedTo, AreSmall, Keep, IsEdging, IsEdged, IsBuiltTo, IsTieOf, IsClashOf}
 use Rattle.lalrpop_dfa.specs.declared.error.DfaConstructionError.{DfaConstructionError}
 use Rattle.lalrpop_dfa.specs.declared.error.DfaConstructionError.TheVariants.{NfaConstructionError as Refused, Ambiguity, OutOfMemory}
 use Rattle.lalrpop_items.proofs.Sets.{first_set_ascends, first_set_items, move_ascends, move_items}
-use Rattle.lalrpop_dfa.proofs.RowSteps.{added_keeps, added_is, past, taken_range, taken_other, tests_lead_more, tests_lead_kept, run_small}
+use Rattle.lalrpop_dfa.proofs.RowSteps.{added_keeps, added_is, taken_range, taken_other, tests_lead_more, tests_lead_kept, run_small}
 use Rattle.lalrpop_dfa.proofs.BuiltTable.{built_stands}
 use Rattle.lalrpop_dfa.proofs.TiedClash.{tied_is_clash_after_rows}
 use Rattle.lalrpop_dfa.specs.Counts.{state_bound}
@@ -50,14 +50,6 @@ small_added sets origins n v t j sets2 origins2 l (inl (e, a, b)) f = rw b f
 small_added sets origins n v t j sets2 origins2 l (inr (none, e, a, b)) f = rw b (small_push origins n v l f)
 
 -- ---- one number
--- the first k of the ranges were expanded
-pub record IsEdging (ns : List Graph) (sets0 : List (List Item)) (origins0 : List (ℕ × ℕ)) (n : ℕ) (s : List Item) (xs : List Range) (k : ℕ) (sets : List (List Item)) (origins : List (ℕ × ℕ)) (tests : List (Range × ℕ)) : Type 0 where
-  pub breadth_first : IsBreadthFirst (subset_automaton ns) sets origins n (past xs k)
-  pub ranges : map (λ t. t.0) tests ≡ take k xs
-  pub leads : (t : Range × ℕ) (c : ℕ) → Contains tests t → Covers t.0 c → (t.1 < length sets) × (nth (subset_automaton ns) sets t.1 ≡ move ns s c)
-  pub kept : Keep ns sets0 sets
-  pub small : AreSmall origins0 → AreSmall origins
-
 -- no block is looked at yet
 pub edging_none : (ns : List Graph) (sets : List (List Item)) (origins : List (ℕ × ℕ)) (n : ℕ) (s : List Item) (xs : List Range) (tests : List (Range × ℕ)) → IsBreadthFirst (subset_automaton ns) sets origins n 0 → tests ≡ [] → IsEdging ns sets origins n s xs 0 sets origins tests
 edging_none ns sets origins n s xs tests breadth_first none = rw none (record { breadth_first = breadth_first; ranges = refl; leads = λ t c member over. absurd (no_test t member); kept = λ i l. (l, refl); small = λ h. h })

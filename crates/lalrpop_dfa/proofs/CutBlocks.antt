@@ -1,12 +1,12 @@
 -- The blocks from cut to cut, where the cuts are cells of an alphabet in ascending order.
-use Rattle.std.proofs.Common.{◌≡◌, ℕ, ◌+◌, ◌-◌, ◌<◌, ◌≤◌, ◌⊎◌, inl, inr, ⊎_elim, List, [], ◌∷◌, ◌++◌, length, map, get_or, refl, sym, ap, ◌∙◌, subst, arith}
-use Rattle.std.specs.Prelude.{slice_get, Some}
+use Rattle.std.proofs.Common.{◌≡◌, ℕ, zero, suc, Bool, true, false, ap₂, append_assoc, add-one, ◌+◌, ◌-◌, ◌<◌, ◌≤◌, ◌⊎◌, inl, inr, ⊎_elim, List, [], ◌∷◌, ◌++◌, length, map, get_or, refl, sym, ap, ◌∙◌, subst, arith}
+use Rattle.std.specs.Prelude.{nat_lt, slice_get, Some}
 use Rattle.std.specs.List.{Contains}
 use Rattle.std.specs.List.Sorted.{IsNonDecreasing}
-use Rattle.std.proofs.lemmas.Bool.{cases_lt}
-use Rattle.std.proofs.lemmas.List.{get_or_default, map-append}
+use Rattle.std.proofs.lemmas.Bool.{cases_lt, cases_Bool, lt-ltb, le-ltb, ltb-true, ltb-false}
+use Rattle.std.proofs.lemmas.List.{get_or_default, map-append, append-nil}
 use Rattle.std.proofs.lemmas.List.Elements.{Contains-get_or, Contains-append_cases}
-use Rattle.std.proofs.lemmas.Option.{slice_get-get_or, slice_get_cases, slice_get_read, get_or_from_slice_get}
+use Rattle.std.proofs.lemmas.Option.{slice_get-get_or, slice_get_cases, get_or_from_slice_get}
 use Rattle.lalrpop_hir.specs.Range.{Range}
 use Rattle.lalrpop_nfa.specs.Graph.{Graph}
 use Rattle.lalrpop_ranges.specs.Partition.{IsCovered, IsPartition}
@@ -21,15 +21,9 @@ use Rattle.lalrpop_dfa.specs.Internal.Transitions.{AreBelow, IsLaidOut}
 use Rattle.lalrpop_items.specs.Transitions.{IsTransition, AreTransitions}
 use Rattle.lalrpop_items.specs.declared.transitions.Transition.{Transition}
 use Rattle.lalrpop_dfa.specs.declared.blocks.Transitions.{Transitions}
-use Rattle.lalrpop_dfa.specs.declared.blocks.Block.{Block}
+use Rattle.lalrpop_dfa.specs.Internal.Blocks.{Block, no_cell, cell_at, first_of, has_edges, between, block_to, blocks_to, blocks_of}
 use Rattle.lalrpop_nfa.proofs.Contained.{contains_none, contains_only}
-
-abbrev no_cell : Cell
-no_cell = record { first = 0; class = 0 }
-
--- the first value of the cell at the k-th cut
-abbrev pub first_of : List Cell → List ℕ → ℕ → ℕ
-first_of cells cuts k = (get_or cells (get_or cuts k 0) no_cell).first
+use Rattle.lalrpop_items.proofs.WorklistSteps.{nil_from}
 
 -- a cell that is read at a cut
 pub first_is : (cells : List Cell) (cuts : List ℕ) (k : ℕ) (x : Cell) → slice_get cells (get_or cuts k 0) ≡ Some x → first_of cells cuts k ≡ x.first
@@ -153,21 +147,19 @@ HasNone by_class c = (t : Transitions) → slice_get by_class c ≡ Some t → t
 abbrev pub HasSome : List Transitions → ℕ → Type 0
 HasSome by_class c = (t : Transitions) → slice_get by_class c ≡ Some t → t.list.items ≡ [] → ⊥
 
--- what is read at a class of a cell
-pub read_class : (cells : List Cell) (count : ℕ) (by_class : List Transitions) (k : ℕ) (x : Cell) (t : Transitions) → AreCells cells count → length by_class ≡ count → slice_get cells k ≡ Some x → t ≡ get_or by_class x.class t → slice_get by_class x.class ≡ Some t
-read_class cells count by_class k x t are counted here is = slice_get_read by_class (length by_class) x.class t refl (omega (arith, (are.within k x here).1, counted)) is
+some_edges : (by_class : List Transitions) (c : ℕ) → has_edges (slice_get by_class c) ≡ true → HasSome by_class c
+some_edges by_class c some t at none =
+    let l : 0 < length t.list.items = ltb-true 0 (length t.list.items) (rw at at some) in
+    omega (arith, l, ap length none)
 
-pub has_some : (by_class : List Transitions) (c : ℕ) (t : Transitions) → slice_get by_class c ≡ Some t → (t.list.items ≡ [] → ⊥) → HasSome by_class c
-has_some by_class c t at some u there none = (let same : u ≡ t = (let f : Some u ≡ Some t = sym there ∙ at in cc) in some (subst (λ (z : Transitions). z.list.items ≡ []) same none))
-
-pub has_none : (by_class : List Transitions) (c : ℕ) (t : Transitions) → slice_get by_class c ≡ Some t → t.list.items ≡ [] → HasNone by_class c
-has_none by_class c t at none u there = (let same : t ≡ u = (let f : Some t ≡ Some u = sym at ∙ there in cc) in subst (λ (z : Transitions). z.list.items ≡ []) same none)
+no_edges : (by_class : List Transitions) (c : ℕ) → has_edges (slice_get by_class c) ≡ false → HasNone by_class c
+no_edges by_class c none t at = nil_from t.list.items (let l : length t.list.items ≤ 0 = ltb-false 0 (length t.list.items) (rw at at none) in omega (arith, l))
 
 -- one turn from cut to cut: a block is added, or none
-abbrev pub IsKept : List Cell → List ℕ → List Transitions → ℕ → Cell → List Block → List Block → Type 0
+abbrev IsKept : List Cell → List ℕ → List Transitions → ℕ → Cell → List Block → List Block → Type 0
 IsKept cells cuts by_class i x blocks new = (x.first < first_of cells cuts (i + 1)) × HasSome by_class x.class × (new ≡ blocks ++ record { range = record { start = x.first; end = first_of cells cuts (i + 1) - 1 }; class = x.class } ∷ [])
 
-abbrev pub IsPassed : List Cell → List ℕ → List Transitions → ℕ → Cell → List Block → List Block → Type 0
+abbrev IsPassed : List Cell → List ℕ → List Transitions → ℕ → Cell → List Block → List Block → Type 0
 IsPassed cells cuts by_class i x blocks new = ((first_of cells cuts (i + 1) ≤ x.first) ⊎ HasNone by_class x.class) × (new ≡ blocks)
 
 abbrev range_of : Block → Range
@@ -180,7 +172,7 @@ module _ (cells : List Cell) (count : ℕ) (are : AreCells cells count) (cuts : 
   edges : (t : Transitions) × (slice_get by_class x.class ≡ Some t)
   edges = elim (slice_get_cases by_class x.class).1 [ inl y ↦ (y.0, y.2) | inr past ↦ absurd (omega (arith, past.0, class_within)) ]
 
-  pub turned : (ns : List Graph) (s : List Item) → IsLaidOut ns s cells cuts by_class → IsKept cells cuts by_class i x blocks new ⊎ IsPassed cells cuts by_class i x blocks new
+  turned : (ns : List Graph) (s : List Item) → IsLaidOut ns s cells cuts by_class → IsKept cells cuts by_class i x blocks new ⊎ IsPassed cells cuts by_class i x blocks new
       → BlocksBelow (IsLeaving ns s) (map range_of blocks) (first_of cells cuts i) → BlocksBelow (IsLeaving ns s) (map range_of new) (first_of cells cuts (i + 1))
   turned ns s laid (inl (less, some, is)) done =
       subst (λ rs. BlocksBelow (IsLeaving ns s) rs (first_of cells cuts (i + 1))) (sym (ap (map range_of) is ∙ map-append range_of blocks (record { range = record { start = x.first; end = first_of cells cuts (i + 1) - 1 }; class = x.class } ∷ [])))
@@ -189,7 +181,7 @@ module _ (cells : List Cell) (count : ℕ) (are : AreCells cells count) (cuts : 
       subst (λ bs. BlocksBelow (IsLeaving ns s) (map range_of bs) (first_of cells cuts (i + 1))) (sym is)
       (passed cells count are cuts ascending below ns s by_class laid i x edges.0 (map range_of blocks) l here edges.1 done (elim why [ inl more ↦ inl more | inr none ↦ inr (none edges.0 edges.1) ]))
 
-  pub turned_classes : IsKept cells cuts by_class i x blocks new ⊎ IsPassed cells cuts by_class i x blocks new → AreTaken cells by_class blocks → AreTaken cells by_class new
+  turned_classes : IsKept cells cuts by_class i x blocks new ⊎ IsPassed cells cuts by_class i x blocks new → AreTaken cells by_class blocks → AreTaken cells by_class new
   turned_classes (inl (less, some, is)) had b h =
       let block : Block = record { range = record { start = x.first; end = first_of cells cuts (i + 1) - 1 }; class = x.class } in
       elim (Contains-append_cases blocks (block ∷ []) b (subst (λ bs. Contains bs b) is h)) [
@@ -199,3 +191,119 @@ module _ (cells : List Cell) (count : ℕ) (are : AreCells cells count) (cuts : 
             subst (IsTaken cells by_class) same (get_or cuts i 0, edges.0, (lies_in cells count are cuts ascending below i x l here less, edges.1, some edges.0 edges.1)))
       ]
   turned_classes (inr (why, is)) had b h = had b (subst (λ bs. Contains bs b) is h)
+
+-- ---- the blocks up to a cut
+abbrev pub block : Cell → Cell → Block
+block x y = record { range = record { start = x.first; end = y.first - 1 }; class = x.class }
+
+-- the cell at the cut before the k-th; before the first there is no value
+abbrev pub IsBefore : List Cell → List ℕ → ℕ → Cell → Type 0
+IsBefore cells cuts zero x = 4294967296 ≤ x.first
+IsBefore cells cuts (suc k) x = slice_get cells (get_or cuts k 0) ≡ Some x
+
+between_kept : (by_class : List Transitions) (x y : Cell) → x.first < y.first → has_edges (slice_get by_class x.class) ≡ true → between by_class x y ≡ block x y ∷ []
+between_kept by_class x y less some = rw (lt-ltb x.first y.first less, some) refl
+
+between_passed : (by_class : List Transitions) (x y : Cell) → (y.first ≤ x.first) ⊎ (has_edges (slice_get by_class x.class) ≡ false) → between by_class x y ≡ []
+between_passed by_class x y (inl more) = rw (le-ltb x.first y.first more) refl
+between_passed by_class x y (inr none) = elim (cases_Bool (nat_lt x.first y.first)) [ inl t ↦ rw (t, none) refl | inr f ↦ rw f refl ]
+
+seam : (xs : List Block) (b : Block) (rest : List Block) → slice_get (xs ++ b ∷ rest) (length xs) ≡ Some b
+seam [] b rest = refl
+seam (x ∷ xs) b rest = seam xs b rest
+
+module _ (cells : List Cell) (by_class : List Transitions) (cuts : List ℕ) where
+  block_is : (k : ℕ) (x y : Cell) → slice_get cells (get_or cuts k 0) ≡ Some x → slice_get cells (get_or cuts (suc k) 0) ≡ Some y → block_to cells by_class cuts (suc k) ≡ between by_class x y
+  block_is k x y here next = ap₂ (between by_class) (get_or_from_slice_get cells (get_or cuts k 0) x no_cell here) (get_or_from_slice_get cells (get_or cuts (suc k) 0) y no_cell next)
+
+  -- one more block, or none
+  pub block_kept : (k : ℕ) (x y : Cell) → IsBefore cells cuts k x → slice_get cells (get_or cuts k 0) ≡ Some y → y.first ≤ 4294967296 → x.first < y.first → has_edges (slice_get by_class x.class) ≡ true
+      → blocks_to cells by_class cuts (k + 1) ≡ blocks_to cells by_class cuts k ++ block x y ∷ []
+  block_kept zero x y before here small less some = absurd (omega (arith, before, small, less))
+  block_kept (suc k) x y before here small less some = rw add-one (ap (λ bs. blocks_to cells by_class cuts (suc k) ++ bs) (block_is k x y before here ∙ between_kept by_class x y less some))
+
+  pub block_passed : (k : ℕ) (x y : Cell) → IsBefore cells cuts k x → slice_get cells (get_or cuts k 0) ≡ Some y → (y.first ≤ x.first) ⊎ (has_edges (slice_get by_class x.class) ≡ false)
+      → blocks_to cells by_class cuts (k + 1) ≡ blocks_to cells by_class cuts k
+  block_passed zero x y before here why = refl
+  block_passed (suc k) x y before here why = rw add-one (ap (λ bs. blocks_to cells by_class cuts (suc k) ++ bs) (block_is k x y before here ∙ between_passed by_class x y why) ∙ append-nil (blocks_to cells by_class cuts (suc k)))
+
+  -- the blocks up to a cut begin those up to a later one
+  more_blocks : (j d : ℕ) → (rest : List Block) × (blocks_to cells by_class cuts (j + d) ≡ blocks_to cells by_class cuts j ++ rest)
+  more_blocks j zero = (let e : j + 0 ≡ j = omega arith in ([], rw e (sym (append-nil (blocks_to cells by_class cuts j)))))
+  more_blocks j (suc d) =
+      let (rest, is) = more_blocks j d in
+      let e : j + suc d ≡ suc (j + d) = omega arith in
+      (rest ++ block_to cells by_class cuts (j + d), rw e (ap (λ bs. bs ++ block_to cells by_class cuts (j + d)) is ∙ append_assoc (blocks_to cells by_class cuts j) rest (block_to cells by_class cuts (j + d))))
+
+  -- where a block stands that is the last up to a cut
+  pub block_stands : (k : ℕ) (b : Block) → k < length cuts → blocks_to cells by_class cuts (k + 1) ≡ blocks_to cells by_class cuts k ++ b ∷ [] → slice_get (blocks_of cells by_class cuts) (length (blocks_to cells by_class cuts k)) ≡ Some b
+  block_stands k b l is =
+      let (rest, whole) = more_blocks (k + 1) (length cuts - (k + 1)) in
+      let e : k + 1 + (length cuts - (k + 1)) ≡ length cuts = omega (arith, l) in
+      let all : blocks_of cells by_class cuts ≡ blocks_to cells by_class cuts k ++ b ∷ rest = sym (ap (blocks_to cells by_class cuts) e) ∙ (whole ∙ (ap (λ bs. bs ++ rest) is ∙ append_assoc (blocks_to cells by_class cuts k) (b ∷ []) rest)) in
+      rw all (seam (blocks_to cells by_class cuts k) b rest)
+
+  -- the class of each block has edges
+  pub has_some_to : (k : ℕ) (b : Block) → Contains (blocks_to cells by_class cuts k) b → has_edges (slice_get by_class b.class) ≡ true
+  has_some_to zero b h = absurd (contains_none b h)
+  has_some_to (suc k) b h = elim (Contains-append_cases (blocks_to cells by_class cuts k) (block_to cells by_class cuts k) b h) [ inl before ↦ has_some_to k b before | inr here ↦ has_some_at k b here ]
+    where
+      has_some_by : (x y : Cell) (b : Block) (p e : Bool) → nat_lt x.first y.first ≡ p → has_edges (slice_get by_class x.class) ≡ e → Contains (between by_class x y) b → has_edges (slice_get by_class b.class) ≡ true
+      has_some_by x y b true true less some h = (let same : block x y ≡ b = contains_only (block x y) b (rw (less, some) at h) in subst (λ (c : Block). has_edges (slice_get by_class c.class) ≡ true) same some)
+      has_some_by x y b true false less none h = absurd (contains_none b (rw (less, none) at h))
+      has_some_by x y b false e more some h = absurd (contains_none b (rw more at h))
+
+      has_some_at : (k : ℕ) (b : Block) → Contains (block_to cells by_class cuts k) b → has_edges (slice_get by_class b.class) ≡ true
+      has_some_at zero b h = absurd (contains_none b h)
+      has_some_at (suc k) b h = has_some_by (cell_at cells cuts k) (cell_at cells cuts (suc k)) b (nat_lt (first_of cells cuts k) (first_of cells cuts (suc k))) (has_edges (slice_get by_class (cell_at cells cuts k).class)) refl refl h
+
+-- ---- the blocks up to all cuts
+module _ (cells : List Cell) (count : ℕ) (are : AreCells cells count) (cuts : List ℕ) (ascending : IsNonDecreasing cuts) (below : AreBelow (length cells) cuts) (by_class : List Transitions) (counted : length by_class ≡ count) where
+  at_cut : (k : ℕ) → k < length cuts → slice_get cells (get_or cuts k 0) ≡ Some (cell_at cells cuts k)
+  at_cut k l = slice_get-get_or cells (get_or cuts k 0) no_cell (below (get_or cuts k 0) (Contains-get_or cuts k 0 l))
+
+  turn : (k : ℕ) → k + 1 < length cuts → IsKept cells cuts by_class k (cell_at cells cuts k) (blocks_to cells by_class cuts (k + 1)) (blocks_to cells by_class cuts (k + 1 + 1))
+      ⊎ IsPassed cells cuts by_class k (cell_at cells cuts k) (blocks_to cells by_class cuts (k + 1)) (blocks_to cells by_class cuts (k + 1 + 1))
+  turn k l =
+      let x : Cell = cell_at cells cuts k in
+      let y : Cell = cell_at cells cuts (k + 1) in
+      let before : IsBefore cells cuts (k + 1) x = rw add-one (at_cut k (omega (arith, l))) in
+      let small : y.first ≤ 4294967296 = (are.within (get_or cuts (k + 1) 0) y (at_cut (k + 1) l)).0 in
+      elim (cases_lt x.first y.first) [
+        | inl less ↦ elim (cases_Bool (has_edges (slice_get by_class x.class))) [
+          | inl some ↦ inl (less, some_edges by_class x.class some, block_kept cells by_class cuts (k + 1) x y before (at_cut (k + 1) l) small less some)
+          | inr none ↦ inr (inr (no_edges by_class x.class none), block_passed cells by_class cuts (k + 1) x y before (at_cut (k + 1) l) (inr none))
+        ]
+        | inr more ↦ inr (inl more, block_passed cells by_class cuts (k + 1) x y before (at_cut (k + 1) l) (inl more))
+      ]
+
+  taken_to : (k : ℕ) → k < length cuts → AreTaken cells by_class (blocks_to cells by_class cuts (k + 1))
+  taken_to zero l = λ b h. absurd (contains_none b h)
+  taken_to (suc k) l =
+      let l2 : k + 1 < length cuts = omega (arith, l) in
+      subst (λ n. AreTaken cells by_class (blocks_to cells by_class cuts (n + 1))) (add-one k)
+      (turned_classes cells count are cuts ascending below by_class counted k (cell_at cells cuts k) (blocks_to cells by_class cuts (k + 1)) (blocks_to cells by_class cuts (k + 1 + 1)) l2 (at_cut k (omega (arith, l))) (turn k l2) (taken_to k (omega (arith, l))))
+
+  taken_all : (n : ℕ) → n ≡ length cuts → AreTaken cells by_class (blocks_to cells by_class cuts n)
+  taken_all zero e = λ b h. absurd (contains_none b h)
+  taken_all (suc k) e = rw add-one at (taken_to k (omega (arith, e)))
+
+  pub all_taken : AreTaken cells by_class (blocks_of cells by_class cuts)
+  all_taken = taken_all (length cuts) refl
+
+  module _ (ns : List Graph) (s : List Item) (laid : IsLaidOut ns s cells cuts by_class) where
+    below_to : (k : ℕ) → k < length cuts → BlocksBelow (IsLeaving ns s) (map range_of (blocks_to cells by_class cuts (k + 1))) (first_of cells cuts k)
+    below_to zero l = start cells count are cuts ascending below ns s by_class laid
+    below_to (suc k) l =
+        let l2 : k + 1 < length cuts = omega (arith, l) in
+        subst (λ n. BlocksBelow (IsLeaving ns s) (map range_of (blocks_to cells by_class cuts (n + 1))) (first_of cells cuts n)) (add-one k)
+        (turned cells count are cuts ascending below by_class counted k (cell_at cells cuts k) (blocks_to cells by_class cuts (k + 1)) (blocks_to cells by_class cuts (k + 1 + 1)) l2 (at_cut k (omega (arith, l))) ns s laid (turn k l2) (below_to k (omega (arith, l))))
+
+    whole_to : (n : ℕ) → n ≡ length cuts → IsPartition (IsLeaving ns s) (map range_of (blocks_to cells by_class cuts n))
+    whole_to zero e = finish cells count are cuts ascending below ns s by_class laid 0 [] (omega (arith, e)) (λ some. absurd (omega (arith, some, e))) (start cells count are cuts ascending below ns s by_class laid)
+    whole_to (suc k) e =
+        finish cells count are cuts ascending below ns s by_class laid k (map range_of (blocks_to cells by_class cuts (suc k))) (omega (arith, e)) (λ some. omega (arith, e))
+        (rw add-one at (below_to k (omega (arith, e))))
+
+    pub blocks_partition : IsPartition (IsLeaving ns s) (map range_of (blocks_of cells by_class cuts))
+    blocks_partition = whole_to (length cuts) refl

@@ -6,7 +6,7 @@ use Rattle.std.proofs.lemmas.List.{get_or-map, length-map}
 use Rattle.std.specs.BTreeMap.{BTreeMap, IsEmpty}
 use Rattle.std.specs.List.{Contains}
 use Rattle.lalrpop_hir.specs.Range.{Range}
-use Rattle.lalrpop_dfa.specs.declared.blocks.Block.{Block}
+use Rattle.lalrpop_dfa.specs.Internal.Blocks.{Block}
 use Rattle.lalrpop_nfa.specs.Graph.{Graph}
 use Rattle.lalrpop_items.specs.Automata.{Item}
 use Rattle.lalrpop_dfa.specs.Internal.Builder.{AddedTo, AreKnown, AreUnknown, AreKnownClasses}

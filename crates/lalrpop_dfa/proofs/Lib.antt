@@ -27,6 +27,7 @@ mod Noted
 mod CutBlocks
 mod LaidOut
 mod KnownClasses
+mod CutEdges
 mod LiveItems
 -- laws for callers
 pub mod Strongest

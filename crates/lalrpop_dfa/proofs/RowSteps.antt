@@ -1,5 +1,5 @@
 -- The steps of a numbering along the blocks of one set, and the rows that it keeps.
-use Rattle.std.proofs.Common.{◌≡◌, ℕ, zero, suc, ◌+◌, ◌<◌, ◌≤◌, ◌⊎◌, inl, inr, List, [], ◌∷◌, ◌++◌, length, refl, ap, sym, ◌∙◌, arith, true, Some, None, Option, add-one}
+use Rattle.std.proofs.Common.{◌≡◌, ℕ, zero, suc, ◌+◌, ◌<◌, ◌≤◌, ◌⊎◌, inl, inr, List, [], ◌∷◌, ◌++◌, length, refl, ap, sym, ◌∙◌, arith, true, Some, add-one}
 use Rattle.std.specs.List.{Contains, slice_get}
 use Rattle.std.proofs.lemmas.Bool.{cases_lt}
 use Rattle.std.proofs.lemmas.List.{length_push, get_or_append_left, get_or_push}
@@ -14,6 +14,7 @@ use Rattle.lalrpop_dfa.specs.Items.{IsLeaving}
 use Rattle.lalrpop_items.specs.Subsets.{move, is_dead}
 use Rattle.lalrpop_dfa.specs.Internal.BreadthFirst.{Automaton, IsBreadthFirst, Added, nth}
 use Rattle.lalrpop_dfa.specs.Internal.Built.{subset_automaton}
+use Rattle.lalrpop_dfa.specs.Internal.Builder.{past}
 use Rattle.lalrpop_items.proofs.Members.{Has, has_from, contains_from, has_at, at_has, has_cases}
 use Rattle.lalrpop_dfa.proofs.Steps.{breadth_first_gap, breadth_first_added, breadth_first_spread, breadth_first_next}
 use Rattle.lalrpop_dfa.proofs.Dead.{uncovered_dead, covered_small}
@@ -32,15 +33,6 @@ pub added_is : {S : Type 0} (m : Automaton S) (sets : List S) (origins : List (�
 added_is m sets origins n v t j sets2 origins2 (inl (l, e, a, b)) = rw a (l, e)
 added_is m sets origins n v t j sets2 origins2 (inr (none, e, a, b)) =
     rw (a, e) (omega (arith, length_push sets t), get_or_push sets t m.start (length sets) refl)
-
--- the place after the first k ranges
-abbrev past_end : Option Range → ℕ
-past_end None = 0
-past_end (Some r) = r.end + 1
-
-abbrev pub past : List Range → ℕ → ℕ
-past xs zero = 0
-past xs (suc k) = past_end (slice_get xs k)
 
 abbrev pub NotEmpty : List Range → Type 0
 NotEmpty xs = (x : Range) → Has xs x → x.start ≤ x.end

@@ -2,24 +2,19 @@
 //!
 //! The type carries what is known of them, so that the functions of the construction need not ask for it.
 
-ghost use Rattle.std.specs.Prelude.{◌≡◌, ℕ, length, map, IfOk, IfErr, OnOk};
-ghost use Rattle.std.specs.BTreeMap.{IsEmpty};
+ghost use Rattle.std.specs.Prelude.{◌≡◌, ℕ, ◌<◌, length, map, slice_get, Some, IfOk, IfErr, OnOk};
 ghost use Rattle.std.specs.List.Sorted.{IsSorted};
 ghost use Rattle.lalrpop_items.specs.Ascending.{AreAscendingItems};
 ghost use Rattle.lalrpop_items.specs.Given.{AreAutomata, AreItemsOf};
 ghost use Rattle.lalrpop_items.specs.Subsets.{move, starts_from, first_set_of};
 ghost use Rattle.lalrpop_items.specs.Transitions.{transition_cmp, AreTransitions};
-ghost use Rattle.lalrpop_ranges.specs.Partition.{IsPartition};
-ghost use Rattle.lalrpop_dfa.specs.Items.{IsLeaving};
-ghost use Rattle.lalrpop_dfa.specs.Internal.Builder.{AreUnknown};
 ghost use Rattle.lalrpop_dfa.specs.Internal.Built.{IsKindOf, IsTied};
-ghost use Rattle.lalrpop_dfa.specs.Internal.Room.{IsRoomOf, AreUsed};
-ghost use Rattle.lalrpop_dfa.specs.Internal.Transitions.{HaveTransitions};
+ghost use Rattle.lalrpop_dfa.specs.Internal.Room.{IsRoomOf, IsFilled};
 
 use super::best::{Tie, kind_of};
 use super::blocks::Room;
 use super::{Kind, NfaIndex, Precedence};
-use lalrpop_alphabet::Alphabet;
+use lalrpop_alphabet::{Alphabet, Cell};
 use lalrpop_items::closure::{Workspace, advance, closure};
 use lalrpop_items::{Item, ItemSet, Transition};
 use lalrpop_nfa::{Nfa, START};
@@ -115,15 +110,18 @@ impl<'nfas> Automata<'nfas> {
         requires inside { AreItemsOf self.now.graphs set.now }
         requires room { IsRoomOf self.now.alphabet room.old }
         ensures automata { AreAutomata self.now.graphs }
-        ensures ranges { OnOk result (IsPartition (IsLeaving self.now.graphs set.now)
-            (map (λ b. b.range) room.new.blocks.items)) }
-        ensures transitions { OnOk result (HaveTransitions self.now.graphs set.now
-            room.new.edges.lists.items room.new.blocks.items) }
-        ensures room { OnOk result (IsRoomOf self.now.alphabet room.new) }
-        ensures unknown { OnOk result (AreUnknown room.new.known.by_class.items) }
-        ensures empty { OnOk result (IsEmpty room.new.known.by_transitions) }
-        ensures used { OnOk result (AreUsed room.new.edges.used.items room.new.blocks.items) }
+        ensures filled { OnOk result
+            (IsFilled self.now.graphs self.now.alphabet set.now room.new) }
     {
         room.fill(self.nfas, &self.alphabet, set)
+    }
+
+    /// The cell of the alphabet at a place.
+    pub(super) fn cell(&self, place: usize) -> Cell
+        requires { place < length self.now.alphabet.cells }
+        ensures automata { AreAutomata self.now.graphs }
+        ensures cell { slice_get self.now.alphabet.cells place ≡ Some result }
+    {
+        self.alphabet.cell(place)
     }
 }

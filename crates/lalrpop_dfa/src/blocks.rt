@@ -1,24 +1,19 @@
 //! What leaves a set of items: the partition of its labels, and the test edges that the values of each class take.
 
-ghost use Rattle.std.specs.Prelude.{◌≡◌, ℕ, ◌<◌, ◌⊎◌, ◌↔◌, [], List, length, map, IfOk, OnOk};
-ghost use Rattle.std.specs.BTreeMap.{IsEmpty};
+ghost use Rattle.std.specs.Prelude.{◌≡◌, ℕ, ◌<◌, ◌⊎◌, ◌↔◌, [], length, slice_get, not, IfOk, OnOk};
+ghost use Rattle.lalrpop_dfa.specs.Internal.Blocks.{has_edges};
 ghost use Rattle.std.specs.List.{Contains};
-ghost use Rattle.std.specs.List.Sorted.{IsNonDecreasing};
-ghost use Rattle.lalrpop_nfa.specs.Graph.{Graph};
-ghost use Rattle.lalrpop_alphabet.specs.Alphabet.{HasState, LeadsBy, CutsAt, AreCells, IsAlphabetOf};
+ghost use Rattle.lalrpop_alphabet.specs.Alphabet.{HasState, LeadsBy, CutsAt, IsAlphabetOf};
 ghost use Rattle.lalrpop_items.specs.Given.{AreAutomata, AreItemsOf};
 ghost use Rattle.lalrpop_dfa.specs.Internal.Builder.{AreUnknown};
-ghost use Rattle.lalrpop_dfa.specs.Internal.Room.{AreNoted, IsTidy, IsCleared, IsRoomOf, AreTaken, AreUsed};
+ghost use Rattle.lalrpop_dfa.specs.Internal.Room.{AreNoted, IsTidy, IsCleared, IsRoomOf, IsFilled};
 ghost use Rattle.lalrpop_items.specs.Automata.{Item as ItemValue};
-ghost use Rattle.lalrpop_dfa.specs.Items.{IsLeaving};
-ghost use Rattle.lalrpop_dfa.specs.Internal.Transitions.{AreBare, AreBelow, Gained, AreGathered, AreCutsOf, IsLaidOut, HaveTransitions};
-ghost use Rattle.lalrpop_ranges.specs.Partition.{IsPartition};
+ghost use Rattle.lalrpop_dfa.specs.Internal.Transitions.{AreBare, AreBelow, Gained, AreGathered, AreCutsOf};
 
 use super::DfaStateIndex;
-use lalrpop_alphabet::{Alphabet, Cell};
+use lalrpop_alphabet::Alphabet;
 use lalrpop_items::{Item, ItemSet, Transition};
 use lalrpop_nfa::{Nfa, NfaStateIndex};
-use lalrpop_ranges::Test;
 use std::alloc::{AllocError, Global};
 use std::collections::BTreeMap;
 
@@ -38,13 +33,6 @@ impl Clone for Transitions {
     }
 }
 
-/// Values that lie in the same labels, and the class of the first of them.
-#[derive(Drop)]
-pub(super) struct Block {
-    pub(super) range: Test,
-    pub(super) class: usize,
-}
-
 /// For each class the test edges that its values take, and the classes that have some.
 #[derive(Drop)]
 pub(super) struct EdgesByClass {
@@ -61,18 +49,25 @@ pub(super) struct Known {
 }
 
 /// Room for what leaves a set of items, which is used again from set to set: the cells at which labels begin or are over,
-/// the test edges by class, the partition of the labels, and the numbers that are known of them.
+/// the test edges by class, and the numbers that are known of them.
 ///
 /// So a set costs what leaves it, whatever the number of classes is, and its lists are not allocated again.
 #[derive(Drop)]
 pub(super) struct Room {
     pub(super) cuts: Vec<usize>,
     pub(super) edges: EdgesByClass,
-    pub(super) blocks: Vec<Block>,
     pub(super) known: Known,
 }
 
 impl EdgesByClass {
+    /// No value of the class takes an edge.
+    pub(super) fn is_bare(&self, class: usize) -> bool
+        requires { class < length self.now.lists.items }
+        ensures { has_edges (slice_get self.now.lists.items class) ≡ not result }
+    {
+        self.lists[class].list.is_empty()
+    }
+
     // Adds an edge to a class, which is noted when its first one comes.
     fn add(&mut self, class: usize, transition: Transition) -> Result<(), AllocError>
         requires within { class < length self.old.lists.items }
@@ -176,34 +171,6 @@ fn gather(
     Ok(())
 }
 
-// Adds the values from cut to cut that take some test edge, where there are no blocks yet.
-fn add_blocks(
-    alphabet: &Alphabet,
-    cuts: &[usize],
-    by_class: &[Transitions],
-    blocks: &mut Vec<Block>,
-) -> Result<(), AllocError>
-    requires cells { AreCells alphabet.now.cells alphabet.now.count }
-    requires classes { length by_class.now ≡ alphabet.now.count }
-    requires ascending { IsNonDecreasing cuts.now }
-    requires within { AreBelow (length alphabet.now.cells) cuts.now }
-    requires no_blocks { blocks.old.items ≡ [] }
-    ensures ranges { OnOk result ((ns : List Graph) (s : List ItemValue)
-        → IsLaidOut ns s alphabet.now.cells cuts.now by_class.now
-        → IsPartition (IsLeaving ns s) (map (λ b. b.range) blocks.new.items)) }
-    ensures classes { OnOk result (AreTaken alphabet.now.cells by_class.now blocks.new.items) }
-{
-    for index in 1..cuts.len() {
-        let Cell { first, class } = alphabet.cell(cuts[index - 1]);
-        let next = alphabet.cell(cuts[index]).first;
-        if first < next && !by_class[class].list.is_empty() {
-            let range = Test::new(first as u32..=(next - 1) as u32);
-            blocks.push(Block { range, class })?;
-        }
-    }
-    Ok(())
-}
-
 impl Room {
     /// Room for the classes of an alphabet.
     pub(super) fn new(alloc: Global, alphabet: &Alphabet) -> Result<Room, AllocError>
@@ -216,7 +183,6 @@ impl Room {
                 lists: bare_classes(alloc, count)?,
                 used: Vec::new(alloc),
             },
-            blocks: Vec::new(alloc),
             known: Known {
                 by_class: no_numbers(alloc, count)?,
                 by_transitions: BTreeMap::new(alloc),
@@ -236,10 +202,9 @@ impl Room {
         }
         self.known.by_transitions.clear();
         self.cuts.clear();
-        self.blocks.clear();
     }
 
-    /// Lays out the partition of the labels that leave the items of a set, with the test edges that the values of each
+    /// Gathers the cuts of the labels that leave the items of a set, in order, and the test edges that the values of each
     /// class take.
     ///
     /// The cost is that of the labels' classes and cuts; the cuts of an item are sorted already, and a sort only merges
@@ -254,19 +219,11 @@ impl Room {
         requires alphabet { IsAlphabetOf nfas.now alphabet.now }
         requires inside { AreItemsOf nfas.now set.now }
         requires room { IsRoomOf alphabet.now self.old }
-        ensures ranges { OnOk result
-            (IsPartition (IsLeaving nfas.now set.now) (map (λ b. b.range) self.new.blocks.items)) }
-        ensures transitions { OnOk result
-            (HaveTransitions nfas.now set.now self.new.edges.lists.items self.new.blocks.items) }
-        ensures room { OnOk result (IsRoomOf alphabet.now self.new) }
-        ensures unknown { OnOk result (AreUnknown self.new.known.by_class.items) }
-        ensures empty { OnOk result (IsEmpty self.new.known.by_transitions) }
-        ensures used { OnOk result (AreUsed self.new.edges.used.items self.new.blocks.items) }
+        ensures { OnOk result (IsFilled nfas.now alphabet.now set.now self.new) }
     {
         self.clear();
         gather(alphabet, set.live(), &mut self.cuts, &mut self.edges)?;
         self.cuts.sort()?;
-        add_blocks(alphabet, &self.cuts, &self.edges.lists, &mut self.blocks)?;
         Ok(())
     }
 }

@@ -5,33 +5,41 @@ ghost use Rattle.std.specs.List.Sorted.{IsSorted};
 ghost use Rattle.lalrpop_hir.specs.Tree.{Tree};
 ghost use Rattle.lalrpop_items.specs.Ascending.{AreAscendingItems};
 ghost use Rattle.lalrpop_items.specs.Given.{AreAutomata, AreItemsOf};
-ghost use Rattle.lalrpop_dfa.specs.Internal.Builder.{IsAdded, AreKnown, AreKnownClasses, IsEdged, IsBuiltTo, IsTieOf, IsClashOf};
+ghost use Rattle.lalrpop_dfa.specs.Internal.Builder.{IsAdded, AreKnown, AreKnownClasses, AreTested, IsEdged, IsBuiltTo, IsTieOf, IsClashOf};
 ghost use Rattle.lalrpop_dfa.specs.Internal.Built.{subset_automaton};
 ghost use Rattle.lalrpop_dfa.specs.Clash.{NoClash};
 ghost use Rattle.lalrpop_dfa.specs.Counts.{state_bound};
 ghost use Rattle.lalrpop_dfa.specs.Dfa.{Recognizes};
 ghost use Rattle.lalrpop_items.specs.Automata.{AreCompiled};
 ghost use Rattle.lalrpop_dfa.specs.Items.{HoldsItems, OthersReject, IsInWordOrder};
-ghost use Rattle.lalrpop_dfa.specs.Internal.Room.{IsRoomOf, OnlyNumbers};
+ghost use Rattle.lalrpop_dfa.specs.Internal.Room.{IsRoomOf, IsFilled, OnlyNumbers};
 ghost use Rattle.lalrpop_items.specs.Transitions.{transition_cmp, AreTransitions};
 ghost use Rattle.lalrpop_items.specs.Subsets.{move, first_set_of};
 ghost use Rattle.lalrpop_dfa.specs.Internal.BreadthFirst.{IsBreadthFirst, nth};
 
 use super::automata::Automata;
 use super::best::Tie;
-use super::blocks::{Block, EdgesByClass, Known, Room, Transitions};
+use super::blocks::{EdgesByClass, Known, Room, Transitions};
 use super::origin::Origin;
 use super::rows::{Edges, Rows};
 use super::{Dfa, DfaConstructionError, DfaStateIndex, Precedence};
+use lalrpop_alphabet::Cell;
 use lalrpop_items::closure::Workspace;
 use lalrpop_items::{ItemSet, Transition};
 use lalrpop_kernels::KernelSet;
 use lalrpop_nfa::Nfa;
+use lalrpop_ranges::Test;
 use std::alloc::{AllocError, Global};
 use std::collections::BTreeMap;
 
 // So many classes with edges are few: most sets have at most two.
 const FEW: usize = 3;
+
+// No value lies before the first cut, so that no edge ends there.
+const BEFORE_ALL: Cell = Cell {
+    first: u64::MAX,
+    class: 0,
+};
 
 /// The sets of items by number, and where each was first met. A set that is to be added is computed in the workspace.
 #[derive(Drop)]
@@ -121,6 +129,48 @@ impl Sets {
         self.target_of(alloc, automata, set, &sorted, origin)
     }
 
+    // The test edges of a number's set, from cut to cut, where the room holds what leaves the set: adds the sets that they
+    // lead to. Only the first values of a class that are met look their set up.
+    fn tests_of(
+        &mut self,
+        alloc: Global,
+        automata: &Automata,
+        room: &mut Room,
+        number: usize,
+        set: &ItemSet,
+    ) -> Result<Vec<(Test, DfaStateIndex)>, AllocError>
+        requires breadth_first { IsBreadthFirst (subset_automaton automata.now.graphs)
+            self.old.kernels.list self.old.origins.items number 0 }
+        requires here { slice_get self.old.kernels.list number ≡ Some set.now }
+        requires filled { IsFilled automata.now.graphs automata.now.alphabet set.now room.old }
+        ensures tested { IfOk result (λ tests. AreTested automata.now.graphs
+            self.old.kernels.list self.old.origins.items number set.now
+            self.new.kernels.list self.new.origins.items tests.items) }
+        ensures place { OnOk result (self.new.kernels.place ≡ self.old.kernels.place) }
+        ensures room { OnOk result (IsRoomOf automata.now.alphabet room.new) }
+    {
+        let edges = &room.edges;
+        let known = &mut room.known;
+        // Each edge ends at a cut, so that there is room for all of them.
+        let mut tests = Vec::with_capacity(alloc, room.cuts.len())?;
+        let mut before = BEFORE_ALL;
+        for cut in &room.cuts {
+            let Cell { first, class } = before;
+            before = automata.cell(*cut);
+            if first < before.first {
+                let origin = Origin::new(number, first as u32);
+                let target = match known.by_class[class] {
+                    Some(target) => target,
+                    None if edges.is_bare(class) => continue,
+                    None => new_target(self, alloc, automata, set, known, edges, class, origin)?,
+                };
+                let range = Test::new(first as u32..=(before.first - 1) as u32);
+                tests.push((range, target))?;
+            }
+        }
+        Ok(tests)
+    }
+
     // Expands a number: adds the sets that its set leads to.
     fn edges_of(
         &mut self,
@@ -142,15 +192,7 @@ impl Sets {
         ensures room { OnOk result (IsRoomOf automata.now.alphabet room.new) }
     {
         automata.fill(room, set)?;
-        let edges = &room.edges;
-        let known = &mut room.known;
-        let mut tests = Vec::with_capacity(alloc, room.blocks.len())?;
-        for block in &room.blocks {
-            let Block { range, class } = block;
-            let origin = Origin::new(number, range.start());
-            let target = target_of_class(self, alloc, automata, set, known, edges, *class, origin)?;
-            tests.push((range.clone()?, target))?;
-        }
+        let tests = self.tests_of(alloc, automata, room, number, set)?;
         // No label reaches the greatest number, so that it takes no test edge.
         let other = self.target_of(alloc, automata, set, &[], Origin::new(number, u32::MAX))?;
         Ok(Edges { tests, other })
@@ -190,9 +232,9 @@ fn target_of_transitions(
     Ok(number)
 }
 
-// The number of the set that a set leads to by the origin's value, which is of this class: looked up where the class was
-// met before.
-fn target_of_class(
+// The number of the set that a set leads to by the origin's value, which is of this class: noted for the class, which has
+// none yet.
+fn new_target(
     sets: &mut Sets,
     alloc: Global,
     automata: &Automata,
@@ -221,9 +263,6 @@ fn target_of_class(
     ensures numbers { OnOk result
         (OnlyNumbers known.old.by_class.items class known.new.by_class.items) }
 {
-    if let Some(number) = known.by_class[class] {
-        return Ok(number);
-    }
     let number = target_of_transitions(
         sets,
         alloc,

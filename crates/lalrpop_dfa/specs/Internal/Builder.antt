@@ -1,5 +1,6 @@
 -- What the construction of an automaton is given and keeps.
-use Rattle.std.specs.Prelude.{◌≡◌, ◌≢◌, ℕ, ◌+◌, ◌<◌, ◌≤◌, ◌⊎◌, List, [], ◌∷◌, ◌++◌, length, map, slice_get, Option, Some}
+use Rattle.std.specs.Prelude.{◌≡◌, ◌≢◌, ℕ, ◌+◌, ◌<◌, ◌≤◌, ◌⊎◌, List, [], ◌∷◌, ◌++◌, length, map, take, slice_get, Option, Some, None}
+use Rattle.std.proofs.Common.{zero, suc}
 use Rattle.std.specs.List.{Contains}
 use Rattle.std.specs.BTreeMap.{BTreeMap, get}
 use Rattle.lalrpop_hir.specs.Range.{Range, Covers}
@@ -53,6 +54,27 @@ AreSmall origins = (k : ℕ) → value_of origins k ≤ 4294967295
 -- sets that have a number keep it
 abbrev pub Keep : List Graph → List (List Item) → List (List Item) → Type 0
 Keep ns sets sets2 = (k : ℕ) → k < length sets → (k < length sets2) × (nth (subset_automaton ns) sets2 k ≡ nth (subset_automaton ns) sets k)
+
+-- the place after the first k ranges
+abbrev past_end : Option Range → ℕ
+past_end None = 0
+past_end (Some r) = r.end + 1
+
+abbrev pub past : List Range → ℕ → ℕ
+past xs zero = 0
+past xs (suc k) = past_end (slice_get xs k)
+
+-- the first k of the ranges were expanded
+pub record IsEdging (ns : List Graph) (sets0 : List (List Item)) (origins0 : List (ℕ × ℕ)) (n : ℕ) (s : List Item) (xs : List Range) (k : ℕ) (sets : List (List Item)) (origins : List (ℕ × ℕ)) (tests : List (Range × ℕ)) : Type 0 where
+  pub breadth_first : IsBreadthFirst (subset_automaton ns) sets origins n (past xs k)
+  pub ranges : map (λ t. t.0) tests ≡ take k xs
+  pub leads : (t : Range × ℕ) (c : ℕ) → Contains tests t → Covers t.0 c → (t.1 < length sets) × (nth (subset_automaton ns) sets t.1 ≡ move ns s c)
+  pub kept : Keep ns sets0 sets
+  pub small : AreSmall origins0 → AreSmall origins
+
+-- all ranges of the partition of what leaves the set were expanded
+abbrev pub AreTested : List Graph → List (List Item) → List (ℕ × ℕ) → ℕ → List Item → List (List Item) → List (ℕ × ℕ) → List (Range × ℕ) → Type 0
+AreTested ns sets0 origins0 n s sets origins tests = (xs : List Range) × (IsPartition (IsLeaving ns s) xs × IsEdging ns sets0 origins0 n s xs (length xs) sets origins tests)
 
 -- number n, which has the set s, is expanded: where its tests and all other values lead
 pub record IsEdged (ns : List Graph) (sets : List (List Item)) (origins : List (ℕ × ℕ)) (n : ℕ) (s : List Item) (sets2 : List (List Item)) (origins2 : List (ℕ × ℕ)) (tests : List (Range × ℕ)) (other : ℕ) : Type 0 where

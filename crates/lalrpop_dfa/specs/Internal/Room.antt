@@ -1,13 +1,17 @@
 -- Room for what leaves a set of items, which is used again from set to set.
-use Rattle.std.specs.Prelude.{◌≡◌, ℕ, ◌⊎◌, List, [], length, slice_get, Option, Some}
+use Rattle.std.specs.Prelude.{◌≡◌, ℕ, ◌⊎◌, List, [], length, map, slice_get, Option, Some}
 use Rattle.std.specs.List.{Contains}
 use Rattle.std.specs.BTreeMap.{IsEmpty}
+use Rattle.lalrpop_nfa.specs.Graph.{Graph}
+use Rattle.lalrpop_ranges.specs.Partition.{IsPartition}
+use Rattle.lalrpop_items.specs.Automata.{Item}
+use Rattle.lalrpop_dfa.specs.Items.{IsLeaving}
 use Rattle.lalrpop_alphabet.specs.Alphabet.{Classes, IsInCell, IsSound}
 use Rattle.lalrpop_alphabet.specs.declared.Cell.{Cell}
 use Rattle.lalrpop_dfa.specs.Internal.Builder.{AreUnknown}
-use Rattle.lalrpop_dfa.specs.Internal.Transitions.{AreBare, AreBelow}
+use Rattle.lalrpop_dfa.specs.Internal.Blocks.{Block, blocks_of}
+use Rattle.lalrpop_dfa.specs.Internal.Transitions.{AreBare, AreBelow, HaveTransitions}
 use Rattle.lalrpop_dfa.specs.declared.blocks.Transitions.{Transitions}
-use Rattle.lalrpop_dfa.specs.declared.blocks.Block.{Block}
 use Rattle.lalrpop_dfa.specs.declared.blocks.Room.{Room}
 
 -- the noted classes are within, and no other class has an edge
@@ -26,7 +30,6 @@ pub record IsCleared (room : Room) : Type 0 where
   pub tidy : IsTidy room
   pub no_cuts : room.cuts.items ≡ []
   pub no_edges : AreBare room.edges.lists.items
-  pub no_blocks : room.blocks.items ≡ []
   pub no_numbers : AreUnknown room.known.by_class.items
   pub no_others : IsEmpty room.known.by_transitions
 
@@ -50,3 +53,13 @@ OnlyNumbers old i new = (c j : ℕ) → slice_get new c ≡ Some (Some j) → (c
 -- the class of each block is noted
 abbrev pub AreUsed : List ℕ → List Block → Type 0
 AreUsed used blocks = (b : Block) → Contains blocks b → Contains used b.class
+
+-- what leaves the set s is in the room, and no number is known of it yet
+pub record IsFilled (ns : List Graph) (a : Classes) (s : List Item) (room : Room) : Type 0 where
+  pub is_room : IsRoomOf a room
+  pub within : AreBelow (length a.cells) room.cuts.items
+  pub ranges : IsPartition (IsLeaving ns s) (map (λ b. b.range) (blocks_of a.cells room.edges.lists.items room.cuts.items))
+  pub transitions : HaveTransitions ns s room.edges.lists.items (blocks_of a.cells room.edges.lists.items room.cuts.items)
+  pub used : AreUsed room.edges.used.items (blocks_of a.cells room.edges.lists.items room.cuts.items)
+  pub unknown : AreUnknown room.known.by_class.items
+  pub empty : IsEmpty room.known.by_transitions

@@ -11,7 +11,7 @@ use Rattle.lalrpop_items.specs.Automata.{Item}
 use Rattle.lalrpop_dfa.specs.Items.{IsLeaving}
 use Rattle.lalrpop_items.specs.declared.transitions.Transition.{Transition}
 use Rattle.lalrpop_dfa.specs.declared.blocks.Transitions.{Transitions}
-use Rattle.lalrpop_dfa.specs.declared.blocks.Block.{Block}
+use Rattle.lalrpop_dfa.specs.Internal.Blocks.{Block}
 use Rattle.lalrpop_items.specs.Transitions.{transition_cmp, AreTransitions}
 
 -- by the first edge in which they differ

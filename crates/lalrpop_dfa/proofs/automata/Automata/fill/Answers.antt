@@ -6,5 +6,5 @@ fill-requires-clause-inside c = rw (← c.self.view_is) at c.requires.inside
 pub returns-clause-automata : goal.returns-clause-automata
 returns-clause-automata c = rw (← c.self.view_is) c.self.invariant.0
 
-pub returns-clause-transitions : goal.returns-clause-transitions
-returns-clause-transitions c = rw (← c.self.view_is) c.fill.ensures.transitions
+pub returns-clause-filled : goal.returns-clause-filled
+returns-clause-filled c = rw (← c.self.view_is) c.fill.ensures

@@ -1,4 +1,4 @@
-use Rattle.std.proofs.Common.{◌≡◌, ℕ, List, length, map, sym, subst, ◌∙◌}
+use Rattle.std.proofs.Common.{ℕ, List, length, map, sym, subst, ◌∙◌}
 use Rattle.std.specs.Prelude.{◌↔◌}
 use Rattle.std.specs.List.{Contains}
 use Rattle.std.specs.List.Sorted.{IsNonDecreasing, IsPermutation}
@@ -8,11 +8,12 @@ use Rattle.lalrpop_items.specs.Automata.{Item}
 use Rattle.lalrpop_items.specs.LiveItems.{live_of}
 use Rattle.lalrpop_dfa.specs.Internal.Room.{AreTaken}
 use Rattle.lalrpop_dfa.specs.Internal.Transitions.{AreBelow, AreGathered, AreCutsOf, IsLaidOut}
-use Rattle.lalrpop_dfa.specs.declared.blocks.Transitions.{Transitions}
 use Rattle.lalrpop_items.proofs.Members.{has_at, contains_from}
 use Rattle.lalrpop_dfa.proofs.LiveItems.{live_inside, partition_live, transitions_live}
 use Rattle.lalrpop_dfa.proofs.LaidOut.{have_states, cuts_below, laid_out}
 use Rattle.lalrpop_dfa.proofs.Noted.{has_noted}
+use Rattle.lalrpop_dfa.specs.Internal.Blocks.{blocks_of}
+use Rattle.lalrpop_dfa.proofs.CutBlocks.{all_taken, blocks_partition}
 use Rattle.lalrpop_dfa.proofs.blocks.Room.fill.Goals as goal
 
 -- the same cuts in another order
@@ -25,40 +26,25 @@ gather-requires-clause-states c =
     let inside = live_inside c.args.nfas.now c.args.set.now c.requires.inside in
     subst (λ (xs : List Item). (x : Item) → Contains xs x → HasState c.args.alphabet.now.nfas x.0 x.1) (sym c.live.ensures.value) (have_states c.args.nfas.now c.args.alphabet.now c.requires.alphabet live inside)
 
-pub add_blocks-requires-clause-classes : goal.add_blocks-requires-clause-classes
-add_blocks-requires-clause-classes c = subst (λ (ts : List Transitions). length ts ≡ c.args.alphabet.now.count) (sym c.deref-2.ensures.value) c.in_ok-gather.ensures.classes.0
-
-pub add_blocks-requires-clause-ascending : goal.add_blocks-requires-clause-ascending
-add_blocks-requires-clause-ascending c = subst IsNonDecreasing (sym c.deref.ensures.value) (IsNonDecreasingBy-from_sort (λ (x : ℕ). x) c.sort.new.self.items c.in_ok-sort.ensures.sorted)
-
-pub add_blocks-requires-clause-within : goal.add_blocks-requires-clause-within
-add_blocks-requires-clause-within c =
-    let cuts = c.gather.new.cuts.items in
-    subst (AreBelow (length c.args.alphabet.now.cells)) (sym c.deref.ensures.value)
-    (λ k h. cuts_below c.args.alphabet.now c.live.result.now cuts c.requires.room.sound c.in_ok-gather.ensures.cuts k (Contains-permutation c.sort.new.self.items cuts k (IsPermutation-sym cuts c.sort.new.self.items c.in_ok-sort.ensures.permutation) h))
-
 pub returns : goal.returns
 returns c =
     let ns = c.args.nfas.now in
     let a = c.args.alphabet.now in
     let live = live_of c.args.set.now in
     let inside = live_inside ns c.args.set.now c.requires.inside in
-    let cut : AreCutsOf a live c.sort.new.self.items = sorted_cuts c.gather.new.cuts.items c.sort.new.self.items (λ k. (x : Item) × (Contains live x × CutsAt a x.0 x.1 k)) c.in_ok-sort.ensures.permutation
+    let cuts = c.sort.new.self.items in
+    let cut : AreCutsOf a live cuts = sorted_cuts c.gather.new.cuts.items cuts (λ k. (x : Item) × (Contains live x × CutsAt a x.0 x.1 k)) c.in_ok-sort.ensures.permutation
     (subst (λ (xs : List Item). AreCutsOf a xs c.gather.new.cuts.items) c.live.ensures.value c.in_ok-gather.ensures.cuts) in
     let by_class = c.gather.new.edges.lists.items in
     let used = c.gather.new.edges.used.items in
-    let blocks = c.add_blocks.new.blocks.items in
+    let blocks = blocks_of a.cells by_class cuts in
     let gathered : AreGathered a live by_class = subst (λ (xs : List Item). AreGathered a xs by_class) c.live.ensures.value c.in_ok-gather.ensures.classes in
-    let laid : IsLaidOut ns live a.cells c.sort.new.self.items by_class = laid_out ns a c.requires.alphabet live inside c.sort.new.self.items by_class cut gathered in
-    let here : IsLaidOut ns live a.cells c.deref.result.now c.deref-2.result.now =
-    subst (λ (ks : List ℕ). IsLaidOut ns live a.cells ks c.deref-2.result.now) (sym c.deref.ensures.value) (subst (λ (ts : List Transitions). IsLaidOut ns live a.cells c.sort.new.self.items ts) (sym c.deref-2.ensures.value) laid) in
-    let taken : AreTaken a.cells by_class blocks = subst (λ (ts : List Transitions). AreTaken a.cells ts blocks) c.deref-2.ensures.value c.in_ok-add_blocks.ensures.classes in
+    let laid : IsLaidOut ns live a.cells cuts by_class = laid_out ns a c.requires.alphabet live inside cuts by_class cut gathered in
+    let ascending : IsNonDecreasing cuts = IsNonDecreasingBy-from_sort (λ (x : ℕ). x) cuts c.in_ok-sort.ensures.sorted in
+    let within : AreBelow (length a.cells) cuts = cuts_below a live cuts c.requires.room.sound cut in
+    let taken : AreTaken a.cells by_class blocks = all_taken a.cells a.count c.requires.room.sound.cells cuts ascending within by_class gathered.0 in
     record {
-      ranges = partition_live ns c.requires.automata c.args.set.now (map (λ b. b.range) blocks) (c.in_ok-add_blocks.ensures.ranges ns live here);
-      transitions = λ p b at.
-          let (k, t, (in_cell, found, some)) = taken b (contains_from blocks b (has_at blocks p b at)) in
-          (t, (found, transitions_live ns c.requires.automata c.args.set.now b.range.start t.list.items (laid.taken k b.class b.range.start t in_cell found)));
-      room = record {
+      is_room = record {
         sound = c.requires.room.sound;
         classes = c.in_ok-gather.ensures.classes.0;
         tidy = record {
@@ -67,7 +53,12 @@ returns c =
           numbers_in = λ i j at. absurd (c.clear.ensures.cleared.no_numbers i j at);
         };
       };
+      within = within;
+      ranges = partition_live ns c.requires.automata c.args.set.now (map (λ b. b.range) blocks) (blocks_partition a.cells a.count c.requires.room.sound.cells cuts ascending within by_class gathered.0 ns live laid);
+      transitions = λ p b at.
+          let (k, t, (in_cell, found, some)) = taken b (contains_from blocks b (has_at blocks p b at)) in
+          (t, (found, transitions_live ns c.requires.automata c.args.set.now b.range.start t.list.items (laid.taken k b.class b.range.start t in_cell found)));
+      used = λ b h. (let (k, t, (in_cell, found, some)) = taken b h in has_noted by_class used b.class t c.in_ok-gather.ensures.noted found some);
       unknown = c.clear.ensures.cleared.no_numbers;
       empty = c.clear.ensures.cleared.no_others;
-      used = λ b h. (let (k, t, (in_cell, found, some)) = taken b h in has_noted by_class used b.class t c.in_ok-gather.ensures.noted found some);
     }

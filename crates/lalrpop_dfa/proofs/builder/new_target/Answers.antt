@@ -2,10 +2,10 @@ use Rattle.std.proofs.Common.{arith}
 use Rattle.std.proofs.lemmas.Option.{slice_get_within}
 use Rattle.lalrpop_dfa.proofs.KnownClasses.{class_takes, known_classes_more}
 use Rattle.lalrpop_dfa.proofs.Noted.{numbers_more}
-use Rattle.lalrpop_dfa.proofs.builder.target_of_class.Goals as goal
+use Rattle.lalrpop_dfa.proofs.builder.new_target.Goals as goal
 
 pub target_of_transitions-requires-clause-transitions : goal.target_of_transitions-requires-clause-transitions
-target_of_transitions-requires-clause-transitions c = class_takes c.args.automata.now.graphs c.args.set.now c.args.edges.now.lists.items c.args.class c.args.origin.1 c.index-2.result.now c.index-2.ensures c.requires.transitions
+target_of_transitions-requires-clause-transitions c = class_takes c.args.automata.now.graphs c.args.set.now c.args.edges.now.lists.items c.args.class c.args.origin.1 c.index.result.now c.index.ensures c.requires.transitions
 
 pub index_mut-requires : goal.index_mut-requires
 index_mut-requires c =
