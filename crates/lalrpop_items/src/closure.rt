@@ -25,14 +25,6 @@ use std::alloc::{AllocError, Global};
 // Marks are used where a pattern has at most so many states for each of its items that are given.
 const STATES_FOR_AN_ITEM: usize = 16;
 
-// The items of one pattern that were found so far, by marks at their states, and those of them that are still to be
-// looked at.
-#[derive(Drop)]
-struct Worklist {
-    marks: Vec<bool>,
-    pending: Vec<Item>,
-}
-
 /// Lists that a set of items is computed in, which are used again from set to set: where the items lead, the items found,
 /// and those of a pattern. What is in them is taken out before they are used.
 #[derive(Drop)]
@@ -53,6 +45,14 @@ impl Workspace {
             },
         }
     }
+}
+
+// The items of one pattern that were found so far, by marks at their states, and those of them that are still to be
+// looked at.
+#[derive(Drop)]
+struct Worklist {
+    marks: Vec<bool>,
+    pending: Vec<Item>,
 }
 
 impl Worklist {
