@@ -26,12 +26,13 @@ use std::alloc::{AllocError, Global};
 const STATES_FOR_AN_ITEM: usize = 16;
 
 /// Lists that a set of items is computed in, which are used again from set to set: where the items lead, the items found,
-/// and those of a pattern. What is in them is taken out before they are used.
+/// those of a pattern, and the parts of the set. What is in them is taken out before they are used.
 #[derive(Drop)]
 pub struct Workspace {
     targets: Vec<Item>,
     found: Vec<Item>,
     worklist: Worklist,
+    parts: Parts,
 }
 
 impl Workspace {
@@ -43,8 +44,19 @@ impl Workspace {
                 marks: Vec::new(alloc),
                 pending: Vec::new(alloc),
             },
+            parts: Parts {
+                live: Vec::new(alloc),
+                spared: Vec::new(alloc),
+            },
         }
     }
+}
+
+// The live items of a set, and the patterns that it spares. The set gets copies, which are no longer than they need be.
+#[derive(Drop)]
+struct Parts {
+    live: Vec<Item>,
+    spared: Vec<usize>,
 }
 
 // The items of one pattern that were found so far, by marks at their states, and those of them that are still to be
@@ -255,13 +267,13 @@ fn place_of(items: &[Item], from: usize, item: Item) -> usize
     place
 }
 
-// Those of the patterns that have no REJECT item among the items. Both ascend, so that one walk finds them.
-fn spared_by(alloc: Global, items: &[Item], spared: &[usize]) -> Result<Vec<usize>, AllocError>
+// Finds those of the patterns that have no REJECT item among the items. Both ascend, so that one walk finds them.
+fn spared_by(items: &[Item], spared: &[usize], still: &mut Vec<usize>) -> Result<(), AllocError>
     requires ascending { AreAscendingItems items.now }
     requires rising { IsStrictlySortedBy nat_cmp spared.now }
-    ensures { IfOk result (λ v. v.items ≡ still_spared items.now spared.now) }
+    ensures { OnOk result (still.new.items ≡ still_spared items.now spared.now) }
 {
-    let mut still = Vec::new(alloc);
+    still.clear();
     let mut place = 0;
     for pattern in spared {
         let reject = Item {
@@ -273,25 +285,25 @@ fn spared_by(alloc: Global, items: &[Item], spared: &[usize]) -> Result<Vec<usiz
             still.push(*pattern)?;
         }
     }
-    Ok(still)
+    Ok(())
 }
 
-// Those of the items that are no REJECT states.
-fn live_among(alloc: Global, items: &[Item]) -> Result<Vec<Item>, AllocError>
-    ensures { IfOk result (λ v. v.items ≡ live_of items.now) }
+// Finds those of the items that are no REJECT states.
+fn live_among(items: &[Item], live: &mut Vec<Item>) -> Result<(), AllocError>
+    ensures { OnOk result (live.new.items ≡ live_of items.now) }
 {
-    let mut live = Vec::with_capacity(alloc, items.len())?;
+    live.clear();
     for item in items {
         if item.state() != REJECT {
             live.push(*item)?;
         }
     }
-    Ok(live)
+    Ok(())
 }
 
 // The set of the items, where these patterns had no REJECT item before.
 fn set_of(
-    alloc: Global,
+    parts: &mut Parts,
     patterns: usize,
     spared: &[usize],
     items: &[Item],
@@ -302,8 +314,10 @@ fn set_of(
     ensures { IfOk result (λ s.
         s ≡ full patterns (still_spared items.now spared.now) (live_of items.now)) }
 {
-    let spared = spared_by(alloc, items, spared)?;
-    let live = live_among(alloc, items)?;
+    spared_by(items, spared, &mut parts.spared)?;
+    live_among(items, &mut parts.live)?;
+    let live = parts.live.clone()?;
+    let spared = parts.spared.clone()?;
     let hash = hash_items(&live);
     Ok(ItemSet {
         live,
@@ -322,14 +336,15 @@ pub fn closure(alloc: Global, nfas: &[Nfa], given: &[Item]) -> Result<ItemSet, A
 {
     let mut workspace = Workspace::new(alloc);
     let Workspace {
-        worklist,
         found,
+        worklist,
+        parts,
         ..
     } = &mut workspace;
     follow_all(alloc, nfas, worklist, given, found)?;
     let patterns = nfas.len();
     let all = patterns_below(alloc, patterns)?;
-    set_of(alloc, patterns, &all, found)
+    set_of(parts, patterns, &all, found)
 }
 
 // All patterns.
@@ -359,8 +374,9 @@ pub fn advance(
         targets,
         found,
         worklist,
+        parts,
     } = workspace;
     targets_by(nfas, &set.live, transitions, targets)?;
     follow_all(alloc, nfas, worklist, targets, found)?;
-    set_of(alloc, set.patterns, &set.spared, found)
+    set_of(parts, set.patterns, &set.spared, found)
 }
