@@ -8,7 +8,7 @@ ghost use Rattle.std.specs.declared.cmp.Ordering.TheVariants.{Equal};
 ghost use Rattle.lalrpop_kernels.specs.Kernels.{IsNumberOf, AreDistinct, added, moved, ClonesEqual};
 
 use std::alloc::{AllocError, Global};
-use std::collections::BTreeMap;
+use std::collections::{BTreeMap, VecDeque};
 use std::marker::Model;
 
 /// What a kernel set numbers: two kernels are the same where their order says `Equal`.
@@ -27,20 +27,22 @@ pub trait Kernel: Ord + Clone + Drop {
 /// A list of distinct kernels, which only grows, and a place in it.
 #[derive(Drop)]
 pub struct KernelSet<K: Kernel> {
+    // The kernels, with their numbers.
     numbers: BTreeMap<K, usize>,
-    kernels: Vec<K>,
+    // Clones of those from the place on, in order, which `next` gives away.
+    waiting: VecDeque<K>,
     place: usize,
 }
 
 impl<K: Kernel> Model for KernelSet<K> {
     ghost use Rattle.lalrpop_kernels.specs.Kernels.{Kernels};
-    ghost use Rattle.lalrpop_kernels.specs.Internal.Numbered.{IsNumbered};
+    ghost use Rattle.lalrpop_kernels.specs.Internal.Numbered.{in_order, IsKernelSet};
 
     ghost Value = { Kernels K };
 
-    ghost view = { λ s. record { list = s.kernels.items; place = s.place } };
+    ghost view = { λ s. record { list = in_order s.numbers.entries; place = s.place } };
 
-    ghost invariant = { λ s. IsNumbered K.cmp s.numbers s.kernels.items s.place };
+    ghost invariant = { λ s. IsKernelSet K.cmp K.is_clone s.numbers s.waiting.items s.place };
 }
 
 impl<K: Kernel> KernelSet<K> {
@@ -50,7 +52,7 @@ impl<K: Kernel> KernelSet<K> {
     {
         KernelSet {
             numbers: BTreeMap::new(alloc),
-            kernels: Vec::new(alloc),
+            waiting: VecDeque::new(alloc),
             place: 0,
         }
     }
@@ -70,12 +72,12 @@ impl<K: Kernel> KernelSet<K> {
         match self.numbers.get(&kernel) {
             Some(number) => Ok(K::index(*number)),
             None => {
-                let number = self.kernels.len();
+                let number = self.numbers.len();
                 let copy = kernel.clone()?;
-                // With room for the kernel in the list, the map is the last to be refused.
-                self.kernels.reserve(1)?;
-                self.numbers.insert(copy, number)?;
-                self.kernels.push(kernel)?;
+                // With room for the copy, the map is the last to be refused.
+                self.waiting.reserve(1)?;
+                self.numbers.insert(kernel, number)?;
+                self.waiting.push_back(copy)?;
                 Ok(K::index(number))
             }
         }
@@ -94,11 +96,10 @@ impl<K: Kernel> KernelSet<K> {
         ensures moves { IfOk result (λ o. self.new ≡ moved self.old o) }
         ensures refused { OnErr result (self.new ≡ self.old) }
     {
-        let Some(kernel) = self.kernels.get(self.place) else {
+        let Some(kernel) = self.waiting.pop_front() else {
             return Ok(None);
         };
-        let copy = kernel.clone()?;
         self.place += 1;
-        Ok(Some(copy))
+        Ok(Some(kernel))
     }
 }
