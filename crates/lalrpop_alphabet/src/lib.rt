@@ -144,6 +144,13 @@ impl Alphabet {
         self.count
     }
 
+    /// How many groups of labels there are: they are numbered from 0.
+    pub fn group_count(&self) -> usize
+        ensures count { result ≡ length self.now.groups }
+    {
+        self.groups.len()
+    }
+
     /// Where the labels of a state of an automaton lead, in the order of its edges.
     pub fn leads(&self, automaton: usize, state: NfaStateIndex) -> &[Lead]
         requires has_state { HasState self.now.nfas automaton state }

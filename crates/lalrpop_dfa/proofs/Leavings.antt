@@ -1,5 +1,5 @@
 -- What leaves items, gathered item by item: the edges of each class, and the cells at which labels begin or are over.
-use Rattle.std.proofs.Common.{◌≡◌, ℕ, zero, suc, ◌+◌, ◌<◌, ◌⊎◌, inl, inr, List, [], ◌∷◌, ◌++◌, length, slice_set, get_or, take, refl, ap, ap₂, sym, ◌∙◌, subst, arith}
+use Rattle.std.proofs.Common.{◌≡◌, ℕ, ◌+◌, ◌<◌, ◌⊎◌, inl, inr, List, [], ◌∷◌, ◌++◌, length, slice_set, get_or, take, refl, ap, ap₂, sym, ◌∙◌, subst, arith}
 use Rattle.std.specs.Prelude.{slice_get, Some, ◌↔◌}
 use Rattle.std.specs.List.{Contains}
 use Rattle.std.proofs.lemmas.Option.{slice_get_read, slice_get_within, slice_get-get_or}
@@ -86,47 +86,48 @@ leads_are nfas i p ls l are = (λ h. there are h, λ h. (ls, (are, h)))
         let g : w ≡ y = (let f : Some w ≡ Some y = sym (subst (λ (n : NfaLeads). slice_get n.states.items p ≡ Some w) e own2) ∙ own in cc) in
         subst (λ (xs : List Lead). Contains xs l) (is2 ∙ (ap (λ (s : StateLeads). s.leads.items) g ∙ sym is)) h
 
-module _ (groups : List Group) (leads : List Lead) (k : ℕ) (lead : Lead) (group : Group) (within : k < length leads) (read : lead ≡ get_or leads k lead) (at : slice_get groups lead.group ≡ Some group) where
-  the_group : (l : Lead) (x : Group) → l ≡ lead → slice_get groups l.group ≡ Some x → x ≡ group
-  the_group l x same there = (let f : Some x ≡ Some group = sym there ∙ (ap (λ (m : Lead). slice_get groups m.group) same ∙ at) in cc)
-
-  -- the edges of one more lead
-  pub lead_more : (item : Item) (edge : Transition) → edge ≡ record { item = item; to = lead.to } → (c : ℕ) (l : Transition)
-      → (((l.item ≡ item) × LeadTo groups (take k leads) c l.to) ⊎ (Contains group.classes.items c × (l ≡ edge))) ↔ ((l.item ≡ item) × LeadTo groups (take (k + 1) leads) c l.to)
-  lead_more item edge is c l = (
-    λ h. elim h [
-      | inl (same, (m, (member, to, has))) ↦ (same, (m, ((taken_more leads k lead m within read).0 (inl member), to, has)))
-      | inr (has, same) ↦ (
-        ap (λ (x : Transition). x.item) (same ∙ is),
-        (lead, ((taken_more leads k lead lead within read).0 (inr refl), sym (ap (λ (x : Transition). x.to) (same ∙ is)), (group, (at, has)))),
-      )
-    ],
-    λ (same, (m, (member, to, has))). elim ((taken_more leads k lead m within read).1 member) [
-      | inl before ↦ inl (same, (m, (before, to, has)))
-      | inr here ↦
-          (let e : has.0 ≡ group = the_group m has.0 here has.1.0 in
-          let target : l.to ≡ lead.to = sym to ∙ ap (λ (x : Lead). x.to) here in
-          let all : l ≡ record { item = item; to = lead.to } = ap₂ (λ (x : Item) (q : ℕ). let y : Transition = record { item = x; to = q } in y) same target in
-          inr (subst (λ (x : Group). Contains x.classes.items c) e has.1.1, all ∙ sym is))
-    ],
-  )
-
-  -- its cuts
-  pub cut_more : (old cuts new : List ℕ) (j : ℕ) → Contains cuts j ↔ (Contains old j ⊎ LeadCut groups (take k leads) j) → new ≡ cuts ++ group.cuts.items
+module _ (groups : List Group) (leads : List Lead) (k : ℕ) (lead : Lead) (within : k < length leads) (read : lead ≡ get_or leads k lead) where
+  -- the cuts of one more lead
+  pub cut_more : (old cuts new : List ℕ) (j : ℕ) → Contains cuts j ↔ (Contains old j ⊎ LeadCut groups (take k leads) j) → Contains new j ↔ (Contains cuts j ⊎ HasCut groups lead.group j)
       → Contains new j ↔ (Contains old j ⊎ LeadCut groups (take (k + 1) leads) j)
-  cut_more old cuts new j had is = (
-    λ h. elim (Contains-append_cases cuts group.cuts.items j (rw is at h)) [
+  cut_more old cuts new j had more = (
+    λ h. elim (more.0 h) [
       | inl x ↦ elim (had.0 x) [ inl y ↦ inl y | inr (m, (member, cut)) ↦ inr (m, ((taken_more leads k lead m within read).0 (inl member), cut)) ]
-      | inr x ↦ inr (lead, ((taken_more leads k lead lead within read).0 (inr refl), (group, (at, x))))
+      | inr cut ↦ inr (lead, ((taken_more leads k lead lead within read).0 (inr refl), cut))
     ],
-    λ h. rw is (elim h [
-      | inl y ↦ Contains-append_left cuts group.cuts.items j (had.1 (inl y))
+    λ h. more.1 (elim h [
+      | inl y ↦ inl (had.1 (inl y))
       | inr (m, (member, cut)) ↦ elim ((taken_more leads k lead m within read).1 member) [
-        | inl before ↦ Contains-append_left cuts group.cuts.items j (had.1 (inr (m, (before, cut))))
-        | inr here ↦ Contains-append_right cuts group.cuts.items j (subst (λ (x : Group). Contains x.cuts.items j) (the_group m cut.0 here cut.1.0) cut.1.1)
+        | inl before ↦ inl (had.1 (inr (m, (before, cut))))
+        | inr here ↦ inr (subst (λ (x : Lead). HasCut groups x.group j) here cut)
       ]
     ]),
   )
+
+  module _ (group : Group) (at : slice_get groups lead.group ≡ Some group) where
+    the_group : (l : Lead) (x : Group) → l ≡ lead → slice_get groups l.group ≡ Some x → x ≡ group
+    the_group l x same there = (let f : Some x ≡ Some group = sym there ∙ (ap (λ (m : Lead). slice_get groups m.group) same ∙ at) in cc)
+
+    -- its edges
+    pub lead_more : (item : Item) (edge : Transition) → edge ≡ record { item = item; to = lead.to } → (c : ℕ) (l : Transition)
+        → (((l.item ≡ item) × LeadTo groups (take k leads) c l.to) ⊎ (Contains group.classes.items c × (l ≡ edge))) ↔ ((l.item ≡ item) × LeadTo groups (take (k + 1) leads) c l.to)
+    lead_more item edge is c l = (
+      λ h. elim h [
+        | inl (same, (m, (member, to, has))) ↦ (same, (m, ((taken_more leads k lead m within read).0 (inl member), to, has)))
+        | inr (has, same) ↦ (
+          ap (λ (x : Transition). x.item) (same ∙ is),
+          (lead, ((taken_more leads k lead lead within read).0 (inr refl), sym (ap (λ (x : Transition). x.to) (same ∙ is)), (group, (at, has)))),
+        )
+      ],
+      λ (same, (m, (member, to, has))). elim ((taken_more leads k lead m within read).1 member) [
+        | inl before ↦ inl (same, (m, (before, to, has)))
+        | inr here ↦
+            (let e : has.0 ≡ group = the_group m has.0 here has.1.0 in
+            let target : l.to ≡ lead.to = sym to ∙ ap (λ (x : Lead). x.to) here in
+            let all : l ≡ record { item = item; to = lead.to } = ap₂ (λ (x : Item) (q : ℕ). let y : Transition = record { item = x; to = q } in y) same target in
+            inr (subst (λ (x : Group). Contains x.classes.items c) e has.1.1, all ∙ sym is))
+      ],
+    )
 
 -- gained by another name
 pub gained_like : {E F : ℕ → Transition → Type 0} → (old new : List Transitions) → Gained old new E → ((c : ℕ) (l : Transition) → E c l ↔ F c l) → Gained old new F

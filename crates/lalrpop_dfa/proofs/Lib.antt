@@ -24,6 +24,7 @@ pub mod Builds
 pub mod Compiling
 mod Leavings
 mod Noted
+mod MarkedGroups
 mod CutBlocks
 mod LaidOut
 mod KnownClasses

@@ -3,10 +3,10 @@
 ghost use Rattle.std.specs.Prelude.{◌≡◌, ℕ, ◌<◌, ◌⊎◌, ◌↔◌, [], length, slice_get, not, IfOk, OnOk};
 ghost use Rattle.lalrpop_dfa.specs.Internal.Blocks.{has_edges};
 ghost use Rattle.std.specs.List.{Contains};
-ghost use Rattle.lalrpop_alphabet.specs.Alphabet.{HasState, LeadsBy, CutsAt, IsAlphabetOf};
+ghost use Rattle.lalrpop_alphabet.specs.Alphabet.{HasState, HasCut, LeadsBy, CutsAt, IsAlphabetOf};
 ghost use Rattle.lalrpop_items.specs.Given.{AreAutomata, AreItemsOf};
 ghost use Rattle.lalrpop_dfa.specs.Internal.Builder.{AreUnknown};
-ghost use Rattle.lalrpop_dfa.specs.Internal.Room.{AreNoted, IsTidy, IsCleared, IsRoomOf, IsFilled};
+ghost use Rattle.lalrpop_dfa.specs.Internal.Room.{AreNoted, AreMarked, AreUnmarked, HoldMarked, IsTidy, IsCleared, IsRoomOf, IsFilled};
 ghost use Rattle.lalrpop_items.specs.Automata.{Item as ItemValue};
 ghost use Rattle.lalrpop_dfa.specs.Internal.Transitions.{AreBare, AreBelow, Gained, AreGathered, AreCutsOf};
 
@@ -40,6 +40,15 @@ pub(super) struct EdgesByClass {
     pub(super) used: Vec<usize>,
 }
 
+/// The cells at which labels begin or are over, those of each group of labels once: a mark for each group whose cuts are
+/// there, and the list of these groups.
+#[derive(Drop)]
+pub(super) struct Cuts {
+    pub(super) places: Vec<usize>,
+    marks: Vec<bool>,
+    groups: Vec<usize>,
+}
+
 /// The numbers of the sets that a set leads to, as far as they were found: by the class of a value, and by the test edges
 /// that a value takes.
 #[derive(Drop)]
@@ -54,7 +63,7 @@ pub(super) struct Known {
 /// So a set costs what leaves it, whatever the number of classes is, and its lists are not allocated again.
 #[derive(Drop)]
 pub(super) struct Room {
-    pub(super) cuts: Vec<usize>,
+    pub(super) cuts: Cuts,
     pub(super) edges: EdgesByClass,
     pub(super) known: Known,
 }
@@ -98,18 +107,65 @@ impl EdgesByClass {
     }
 }
 
+impl Cuts {
+    // No cuts, with room for the marks of so many groups.
+    fn new(alloc: Global, group_count: usize) -> Result<Cuts, AllocError>
+        ensures count { IfOk result (λ cuts. length cuts.marks.items ≡ group_count) }
+        ensures marked { IfOk result (λ cuts. AreMarked cuts.marks.items cuts.groups.items) }
+    {
+        Ok(Cuts {
+            places: Vec::new(alloc),
+            marks: vec![in alloc; false; group_count]?,
+            groups: Vec::new(alloc),
+        })
+    }
+
+    // Adds the cuts of a group, unless they are there.
+    fn add(&mut self, alphabet: &Alphabet, number: usize) -> Result<(), AllocError>
+        requires has_group { number < length alphabet.now.groups }
+        requires marked { HoldMarked alphabet.now.groups self.old }
+        ensures cuts { OnOk result ((k : ℕ) → Contains self.new.places.items k
+            ↔ (Contains self.old.places.items k ⊎ HasCut alphabet.now.groups number k)) }
+        ensures marked { OnOk result (HoldMarked alphabet.now.groups self.new) }
+    {
+        if self.marks[number] {
+            return Ok(());
+        }
+        self.groups.push(number)?;
+        self.marks[number] = true;
+        self.places.extend_from_slice(&alphabet.group(number).cuts)?;
+        Ok(())
+    }
+
+    // Takes out all cuts: of the marks only those that are set are looked at.
+    fn clear(&mut self)
+        requires { AreMarked self.old.marks.items self.old.groups.items }
+        ensures places { self.new.places.items ≡ [] }
+        ensures unmarked { AreUnmarked self.new.marks.items }
+        ensures marked { AreMarked self.new.marks.items self.new.groups.items }
+        ensures count { length self.new.marks.items ≡ length self.old.marks.items }
+    {
+        while let Some(number) = self.groups.pop() {
+            self.marks[number] = false;
+        }
+        self.places.clear();
+    }
+}
+
 // Adds what leaves an item.
 fn add_item(
     alphabet: &Alphabet,
     item: Item,
-    cuts: &mut Vec<usize>,
+    cuts: &mut Cuts,
     edges: &mut EdgesByClass,
 ) -> Result<(), AllocError>
     requires state { HasState alphabet.now.nfas item.0 item.1 }
     requires classes { length edges.old.lists.items ≡ alphabet.now.count }
     requires noted { AreNoted edges.old.lists.items edges.old.used.items }
-    ensures cuts { OnOk result ((k : ℕ) → Contains cuts.new.items k
-        ↔ (Contains cuts.old.items k ⊎ CutsAt alphabet.now item.0 item.1 k)) }
+    requires marked { HoldMarked alphabet.now.groups cuts.old }
+    ensures cuts { OnOk result ((k : ℕ) → Contains cuts.new.places.items k
+        ↔ (Contains cuts.old.places.items k ⊎ CutsAt alphabet.now item.0 item.1 k)) }
+    ensures marked { OnOk result (HoldMarked alphabet.now.groups cuts.new) }
     ensures classes { OnOk result (Gained edges.old.lists.items edges.new.lists.items
         (λ c l. (l.item ≡ item) × LeadsBy alphabet.now item.0 item.1 c l.to)) }
     ensures noted { OnOk result (AreNoted edges.new.lists.items edges.new.used.items) }
@@ -117,7 +173,7 @@ fn add_item(
     for lead in alphabet.leads(item.pattern().index(), item.state()) {
         let group = alphabet.group(lead.group);
         let to = lead.to;
-        cuts.extend_from_slice(&group.cuts)?;
+        cuts.add(alphabet, lead.group)?;
         edges.add_to_all(&group.classes, &Transition { item, to })?;
     }
     Ok(())
@@ -153,15 +209,17 @@ fn no_numbers(alloc: Global, count: usize) -> Result<Vec<Option<DfaStateIndex>>,
 fn gather(
     alphabet: &Alphabet,
     items: &[Item],
-    cuts: &mut Vec<usize>,
+    cuts: &mut Cuts,
     edges: &mut EdgesByClass,
 ) -> Result<(), AllocError>
     requires states { (x : ItemValue) → Contains items.now x → HasState alphabet.now.nfas x.0 x.1 }
     requires classes { length edges.old.lists.items ≡ alphabet.now.count }
-    requires no_cuts { cuts.old.items ≡ [] }
+    requires no_cuts { cuts.old.places.items ≡ [] }
+    requires marked { HoldMarked alphabet.now.groups cuts.old }
     requires bare { AreBare edges.old.lists.items }
     requires noted { AreNoted edges.old.lists.items edges.old.used.items }
-    ensures cuts { OnOk result (AreCutsOf alphabet.now items.now cuts.new.items) }
+    ensures cuts { OnOk result (AreCutsOf alphabet.now items.now cuts.new.places.items) }
+    ensures marked { OnOk result (HoldMarked alphabet.now.groups cuts.new) }
     ensures classes { OnOk result (AreGathered alphabet.now items.now edges.new.lists.items) }
     ensures noted { OnOk result (AreNoted edges.new.lists.items edges.new.used.items) }
 {
@@ -172,13 +230,13 @@ fn gather(
 }
 
 impl Room {
-    /// Room for the classes of an alphabet.
+    /// Room for the classes and the groups of an alphabet.
     pub(super) fn new(alloc: Global, alphabet: &Alphabet) -> Result<Room, AllocError>
         ensures { IfOk result (IsRoomOf alphabet.now) }
     {
         let count = alphabet.count();
         Ok(Room {
-            cuts: Vec::new(alloc),
+            cuts: Cuts::new(alloc, alphabet.group_count())?,
             edges: EdgesByClass {
                 lists: bare_classes(alloc, count)?,
                 used: Vec::new(alloc),
@@ -195,6 +253,7 @@ impl Room {
         requires { IsTidy self.old }
         ensures cleared { IsCleared self.new }
         ensures classes { length self.new.edges.lists.items ≡ length self.old.edges.lists.items }
+        ensures groups { length self.new.cuts.marks.items ≡ length self.old.cuts.marks.items }
     {
         while let Some(class) = self.edges.used.pop() {
             self.edges.lists[class].list.clear();
@@ -207,8 +266,8 @@ impl Room {
     /// Gathers the cuts of the labels that leave the items of a set, in order, and the test edges that the values of each
     /// class take.
     ///
-    /// The cost is that of the labels' classes and cuts; the cuts of an item are sorted already, and a sort only merges
-    /// them.
+    /// The cost is that of the labels' classes, and of the cuts of each group of labels once; the cuts of a group are
+    /// sorted already, and a sort only merges them.
     pub(super) fn fill(
         &mut self,
         nfas: &[Nfa],
@@ -223,7 +282,7 @@ impl Room {
     {
         self.clear();
         gather(alphabet, set.live(), &mut self.cuts, &mut self.edges)?;
-        self.cuts.sort()?;
+        self.cuts.places.sort()?;
         Ok(())
     }
 }

@@ -152,9 +152,9 @@ impl Sets {
         let edges = &room.edges;
         let known = &mut room.known;
         // Each edge ends at a cut, so that there is room for all of them.
-        let mut tests = Vec::with_capacity(alloc, room.cuts.len())?;
+        let mut tests = Vec::with_capacity(alloc, room.cuts.places.len())?;
         let mut before = BEFORE_ALL;
-        for cut in &room.cuts {
+        for cut in &room.cuts.places {
             let Cell { first, class } = before;
             before = automata.cell(*cut);
             if first < before.first {

@@ -11,6 +11,7 @@ pub expand-requires-clause-room : goal.expand-requires-clause-room
 expand-requires-clause-room c = record {
   sound = c.in_ok-room.ensures.sound;
   classes = c.loop-table.invariant.classes ∙ c.in_ok-room.ensures.classes;
+  groups = c.loop-table.invariant.groups ∙ c.in_ok-room.ensures.groups;
   tidy = c.loop-table.invariant.tidy;
 }
 

@@ -10,6 +10,7 @@ invariant-loop-table l = record {
   place : l.table.sets.kernels.place ≡ length l.table.rows;
   tidy : IsTidy l.room;
   classes : length l.room.edges.lists.items ≡ length l.initial.room.edges.lists.items;
+  groups : length l.room.cuts.marks.items ≡ length l.initial.room.cuts.marks.items;
 }
 
 abbrev pub decreases-loop-table : goal.decreases-loop-table

@@ -28,6 +28,8 @@ loop-class-preserved c =
         noted = noted_less lists used c.pop.new.self.items c.in-Some.class bare tidy.noted c.in-Some.ensures.items c.clear.ensures.items;
         same_length = omega (arith, length-set numbers c.in-Some.class (None), length-set lists c.in-Some.class bare, tidy.same_length);
         numbers_in = numbers_less numbers used c.pop.new.self.items c.in-Some.class below c.in-Some.ensures.items tidy.numbers_in;
+        marked = tidy.marked;
       };
       classes = length-set lists c.in-Some.class bare ∙ c.loop-class.invariant.classes;
+      groups = c.loop-class.invariant.groups;
     }

@@ -6,6 +6,7 @@ abbrev pub invariant-loop-class : goal.invariant-loop-class
 invariant-loop-class l = record {
   tidy : IsTidy l.self;
   classes : length l.self.edges.lists.items ≡ length l.fn.self.edges.lists.items;
+  groups : length l.self.cuts.marks.items ≡ length l.fn.self.cuts.marks.items;
 }
 
 abbrev pub decreases-loop-class : goal.decreases-loop-class

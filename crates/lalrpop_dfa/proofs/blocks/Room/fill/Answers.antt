@@ -26,6 +26,14 @@ gather-requires-clause-states c =
     let inside = live_inside c.args.nfas.now c.args.set.now c.requires.inside in
     subst (λ (xs : List Item). (x : Item) → Contains xs x → HasState c.args.alphabet.now.nfas x.0 x.1) (sym c.live.ensures.value) (have_states c.args.nfas.now c.args.alphabet.now c.requires.alphabet live inside)
 
+-- no cut is there before
+pub gather-requires-clause-marked : goal.gather-requires-clause-marked
+gather-requires-clause-marked c = record {
+  count = c.clear.ensures.groups ∙ c.requires.room.groups;
+  marked = c.clear.ensures.cleared.tidy.marked;
+  there = λ n k at cut. absurd (c.clear.ensures.cleared.no_marks n at);
+}
+
 pub returns : goal.returns
 returns c =
     let ns = c.args.nfas.now in
@@ -33,8 +41,8 @@ returns c =
     let live = live_of c.args.set.now in
     let inside = live_inside ns c.args.set.now c.requires.inside in
     let cuts = c.sort.new.self.items in
-    let cut : AreCutsOf a live cuts = sorted_cuts c.gather.new.cuts.items cuts (λ k. (x : Item) × (Contains live x × CutsAt a x.0 x.1 k)) c.in_ok-sort.ensures.permutation
-    (subst (λ (xs : List Item). AreCutsOf a xs c.gather.new.cuts.items) c.live.ensures.value c.in_ok-gather.ensures.cuts) in
+    let cut : AreCutsOf a live cuts = sorted_cuts c.gather.new.cuts.places.items cuts (λ k. (x : Item) × (Contains live x × CutsAt a x.0 x.1 k)) c.in_ok-sort.ensures.permutation
+    (subst (λ (xs : List Item). AreCutsOf a xs c.gather.new.cuts.places.items) c.live.ensures.value c.in_ok-gather.ensures.cuts) in
     let by_class = c.gather.new.edges.lists.items in
     let used = c.gather.new.edges.used.items in
     let blocks = blocks_of a.cells by_class cuts in
@@ -47,10 +55,12 @@ returns c =
       is_room = record {
         sound = c.requires.room.sound;
         classes = c.in_ok-gather.ensures.classes.0;
+        groups = c.in_ok-gather.ensures.marked.count;
         tidy = record {
           noted = c.in_ok-gather.ensures.noted;
           same_length = c.clear.ensures.cleared.tidy.same_length ∙ (c.clear.ensures.classes ∙ (c.requires.room.classes ∙ sym c.in_ok-gather.ensures.classes.0));
           numbers_in = λ i j at. absurd (c.clear.ensures.cleared.no_numbers i j at);
+          marked = c.in_ok-gather.ensures.marked.marked;
         };
       };
       within = within;

@@ -18,7 +18,7 @@ use Rattle.lalrpop_dfa.proofs.builder.Sets.tests_of.Goals.{then-first-before+in_
 
 pub cell-before-requires : goal.cell-before-requires
 cell-before-requires c =
-    let cuts = c.args.room.now.cuts.items in
+    let cuts = c.args.room.now.cuts.places.items in
     let l : c.loop-cut.cut-index < length c.deref-cut-items.result.now = omega arith in
     c.requires.filled.within (get_or c.deref-cut-items.result.now c.loop-cut.cut-index 0)
     (subst (λ (ks : List ℕ). Contains ks (get_or c.deref-cut-items.result.now c.loop-cut.cut-index 0)) c.deref-cut-items.ensures.value (Contains-get_or c.deref-cut-items.result.now c.loop-cut.cut-index 0 l))
@@ -31,7 +31,7 @@ new_target-requires-clause-transitions c =
     let ns = c.args.automata.now.graphs in
     let cells = c.args.automata.now.alphabet.cells in
     let by_class = c.args.room.now.edges.lists.items in
-    let cuts = c.args.room.now.cuts.items in
+    let cuts = c.args.room.now.cuts.places.items in
     let k = c.loop-cut.cut-index in
     let x = c.loop-cut.before in
     let some : has_edges (slice_get by_class x.class) ≡ true = c.is_bare.ensures ∙ ap not c.if-is_bare.false in
@@ -46,7 +46,7 @@ loop-cut-preserved c =
     let cells = c.args.automata.now.alphabet.cells in
     let count = c.args.automata.now.alphabet.count in
     let by_class = c.args.room.now.edges.lists.items in
-    let cuts = c.args.room.now.cuts.items in
+    let cuts = c.args.room.now.cuts.places.items in
     let blocks = blocks_of cells by_class cuts in
     let read = c.deref-cut-items.result.now in
     let k = c.loop-cut.cut-index in
@@ -102,7 +102,7 @@ pub loop-cut-preserved-in-None : goal.loop-cut-preserved-in-None
 loop-cut-preserved-in-None c =
     let cells = c.args.automata.now.alphabet.cells in
     let by_class = c.args.room.now.edges.lists.items in
-    let cuts = c.args.room.now.cuts.items in
+    let cuts = c.args.room.now.cuts.places.items in
     let read = c.deref-cut-items.result.now in
     let inv = c.loop-cut.invariant in
     let x = c.loop-cut.before in
@@ -122,7 +122,7 @@ pub returns-clause-tested : goal.returns-clause-tested
 returns-clause-tested c =
     let cells = c.args.automata.now.alphabet.cells in
     let by_class = c.args.room.now.edges.lists.items in
-    let cuts = c.args.room.now.cuts.items in
+    let cuts = c.args.room.now.cuts.places.items in
     let blocks = blocks_of cells by_class cuts in
     let same : length c.deref-cut-items.result.now ≡ length cuts = ap length c.deref-cut-items.ensures.value in
     let end : c.loop-cut.cut-index ≡ length cuts = omega (arith, same, c.loop-cut-test.false, c.loop-cut.auto.cut-index-end) in
@@ -135,9 +135,11 @@ returns-clause-room c =
     record {
       sound = room.sound;
       classes = room.classes;
+      groups = room.groups;
       tidy = record {
         noted = room.tidy.noted;
         same_length = c.loop-cut.invariant.count;
         numbers_in = λ i j at. (let (b, (member, is)) = c.loop-cut.invariant.numbers i j at in subst (Contains c.args.room.now.edges.used.items) is (c.requires.filled.used b member));
+        marked = room.tidy.marked;
       };
     }
