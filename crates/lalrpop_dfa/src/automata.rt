@@ -60,7 +60,7 @@ impl<'nfas> Automata<'nfas> {
         Ok(Automata { nfas, alphabet })
     }
 
-    /// Room for the classes of the alphabet.
+    /// Room for the classes and the groups of the alphabet.
     pub(super) fn room(&self, alloc: Global) -> Result<Room, AllocError>
         ensures { IfOk result (IsRoomOf self.now.alphabet) }
     {
