@@ -36,6 +36,7 @@ pub struct Workspace {
 }
 
 impl Workspace {
+    /// A workspace with nothing in it. No promise speaks of what is in one, since it is taken out before each use.
     pub fn new(alloc: Global) -> Workspace {
         Workspace {
             targets: Vec::new(alloc),
