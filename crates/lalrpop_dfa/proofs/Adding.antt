@@ -24,7 +24,7 @@ use Rattle.lalrpop_items.specs.Ascending.{item_cmp}
 use Rattle.lalrpop_items.specs.Transitions.{AreTransitions, transition_cmp}
 use Rattle.lalrpop_dfa.specs.Internal.Transitions.{transitions_cmp}
 use Rattle.lalrpop_items.specs.declared.transitions.Transition.{Transition}
-use Rattle.lalrpop_dfa.specs.declared.blocks.Transitions.{Transitions}
+use Rattle.lalrpop_dfa.specs.declared.room.Transitions.{Transitions}
 use Rattle.lalrpop_items.specs.ItemOrder.{rejects_cmp, hash_of, items_cmp, set_cmp}
 use Rattle.lalrpop_items.specs.Internal.OrderLaws.{item_total, set_total}
 use Rattle.lalrpop_items.specs.LiveItems.{live_of}

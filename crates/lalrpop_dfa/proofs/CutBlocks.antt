@@ -20,7 +20,7 @@ use Rattle.lalrpop_dfa.specs.Internal.Room.{IsTaken, AreTaken}
 use Rattle.lalrpop_dfa.specs.Internal.Transitions.{AreBelow, IsLaidOut}
 use Rattle.lalrpop_items.specs.Transitions.{IsTransition, AreTransitions}
 use Rattle.lalrpop_items.specs.declared.transitions.Transition.{Transition}
-use Rattle.lalrpop_dfa.specs.declared.blocks.Transitions.{Transitions}
+use Rattle.lalrpop_dfa.specs.declared.room.Transitions.{Transitions}
 use Rattle.lalrpop_dfa.specs.Internal.Blocks.{Block, no_cell, cell_at, first_of, has_edges, between, block_to, blocks_to, blocks_of}
 use Rattle.lalrpop_nfa.proofs.Contained.{contains_none, contains_only}
 use Rattle.lalrpop_items.proofs.WorklistSteps.{nil_from}

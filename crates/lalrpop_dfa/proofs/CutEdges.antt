@@ -17,7 +17,7 @@ use Rattle.lalrpop_dfa.specs.Items.{IsLeaving}
 use Rattle.lalrpop_dfa.specs.Internal.Blocks.{Block, has_edges, blocks_to, blocks_of}
 use Rattle.lalrpop_dfa.specs.Internal.Builder.{AddedTo, IsEdging, AreKnownClasses}
 use Rattle.lalrpop_dfa.specs.Internal.Transitions.{HaveTransitions}
-use Rattle.lalrpop_dfa.specs.declared.blocks.Transitions.{Transitions}
+use Rattle.lalrpop_dfa.specs.declared.room.Transitions.{Transitions}
 use Rattle.lalrpop_items.proofs.Members.{has_at, contains_from}
 use Rattle.lalrpop_dfa.proofs.Builds.{edging_more}
 use Rattle.lalrpop_dfa.proofs.CutBlocks.{IsBefore, block, block_kept, block_passed, block_stands, has_some_to}

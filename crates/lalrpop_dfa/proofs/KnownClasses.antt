@@ -13,7 +13,7 @@ use Rattle.lalrpop_dfa.specs.Internal.Builder.{AddedTo, AreKnown, AreUnknown, Ar
 use Rattle.lalrpop_dfa.specs.Internal.Room.{OnlyNumbers}
 use Rattle.lalrpop_items.specs.Subsets.{move}
 use Rattle.lalrpop_items.specs.Transitions.{AreTransitions}
-use Rattle.lalrpop_dfa.specs.declared.blocks.Transitions.{Transitions}
+use Rattle.lalrpop_dfa.specs.declared.room.Transitions.{Transitions}
 use Rattle.lalrpop_dfa.proofs.Adding.{added_stays, added_at}
 use Rattle.lalrpop_kernels.proofs.NumberedLemmas.{pushed_cases}
 use Rattle.lalrpop_alphabet.proofs.Marking.{set_at}

@@ -11,7 +11,7 @@ use Rattle.lalrpop_dfa.specs.Items.{IsLeaving}
 use Rattle.lalrpop_items.specs.Given.{AreItemsOf}
 use Rattle.lalrpop_dfa.specs.Internal.Transitions.{AreBelow, AreGathered, AreCutsOf, IsLaidOut}
 use Rattle.lalrpop_items.specs.Transitions.{AreTransitions}
-use Rattle.lalrpop_dfa.specs.declared.blocks.Transitions.{Transitions}
+use Rattle.lalrpop_dfa.specs.declared.room.Transitions.{Transitions}
 
 -- the cuts of items are cells
 pub cuts_below : (a : Classes) (items : List Item) (cuts : List ℕ) → IsSound a → AreCutsOf a items cuts → AreBelow (length a.cells) cuts

@@ -13,7 +13,7 @@ use Rattle.lalrpop_alphabet.specs.declared.StateLeads.{StateLeads}
 use Rattle.lalrpop_items.specs.Automata.{Item}
 use Rattle.lalrpop_dfa.specs.Internal.Transitions.{AreBare, Gained, AreGathered, AreCutsOf}
 use Rattle.lalrpop_items.specs.declared.transitions.Transition.{Transition}
-use Rattle.lalrpop_dfa.specs.declared.blocks.Transitions.{Transitions}
+use Rattle.lalrpop_dfa.specs.declared.room.Transitions.{Transitions}
 use Rattle.lalrpop_nfa.proofs.Contained.{contains_only, contains_none}
 use Rattle.lalrpop_alphabet.proofs.Marking.{set_at}
 use Rattle.lalrpop_kernels.proofs.NumberedLemmas.{pushed_cases}

@@ -9,7 +9,7 @@ use Rattle.lalrpop_alphabet.specs.Alphabet.{HasCut}
 use Rattle.lalrpop_alphabet.specs.declared.Group.{Group}
 use Rattle.lalrpop_alphabet.proofs.Marking.{set_at}
 use Rattle.lalrpop_dfa.specs.Internal.Room.{AreMarked, AreUnmarked, HoldMarked}
-use Rattle.lalrpop_dfa.specs.declared.blocks.Cuts.{Cuts}
+use Rattle.lalrpop_dfa.specs.declared.room.Cuts.{Cuts}
 
 last : (listed : List ℕ) (i : ℕ) → Contains (listed ++ i ∷ []) i
 last listed i = Contains-append_right listed (i ∷ []) i (0, omega arith, refl)

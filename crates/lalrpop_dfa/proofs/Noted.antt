@@ -6,7 +6,7 @@ use Rattle.std.proofs.lemmas.List.{length-set}
 use Rattle.std.proofs.lemmas.List.Elements.{Contains-append_left, Contains-append_right, Contains-append_cases}
 use Rattle.lalrpop_nfa.proofs.Contained.{contains_only}
 use Rattle.lalrpop_dfa.specs.Internal.Room.{AreNoted, OnlyNumbers}
-use Rattle.lalrpop_dfa.specs.declared.blocks.Transitions.{Transitions}
+use Rattle.lalrpop_dfa.specs.declared.room.Transitions.{Transitions}
 use Rattle.lalrpop_alphabet.proofs.Marking.{set_at}
 
 last : (used : List ℕ) (i : ℕ) → Contains (used ++ i ∷ []) i

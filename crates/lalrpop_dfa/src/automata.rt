@@ -12,7 +12,7 @@ ghost use Rattle.lalrpop_dfa.specs.Internal.Built.{IsKindOf, IsTied};
 ghost use Rattle.lalrpop_dfa.specs.Internal.Room.{IsRoomOf, IsFilled};
 
 use super::best::{Tie, kind_of};
-use super::blocks::Room;
+use super::room::Room;
 use super::{Kind, NfaIndex, Precedence};
 use lalrpop_alphabet::{Alphabet, Cell};
 use lalrpop_items::closure::{Workspace, advance, closure};

@@ -19,8 +19,8 @@ ghost use Rattle.lalrpop_dfa.specs.Internal.BreadthFirst.{IsBreadthFirst, nth};
 
 use super::automata::Automata;
 use super::best::Tie;
-use super::blocks::{EdgesByClass, Known, Room, Transitions};
 use super::origin::Origin;
+use super::room::{EdgesByClass, Known, Room, Transitions};
 use super::rows::{Edges, Rows};
 use super::{Dfa, DfaConstructionError, DfaStateIndex, Precedence};
 use lalrpop_alphabet::Cell;

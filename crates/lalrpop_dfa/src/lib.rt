@@ -3,7 +3,6 @@
 
 mod automata;
 mod best;
-mod blocks;
 mod build;
 mod builder;
 mod clone;
@@ -11,6 +10,7 @@ mod equality;
 mod error;
 pub mod interpret;
 mod origin;
+mod room;
 mod rows;
 mod search;
 

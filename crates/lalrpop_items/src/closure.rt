@@ -21,6 +21,7 @@ use super::ordered::follow_ordered;
 use super::transitions::Transition;
 use lalrpop_nfa::{Nfa, NfaStateIndex, Noop, REJECT};
 use std::alloc::{AllocError, Global};
+use std::marker::Model;
 
 // Marks are used where a pattern has at most so many states for each of its items that are given.
 const STATES_FOR_AN_ITEM: usize = 16;
@@ -35,9 +36,21 @@ pub struct Workspace {
     parts: Parts,
 }
 
+impl Model for Workspace {
+    ghost use Rattle.std.specs.Prelude.{ℕ, ◌+◌, length};
+
+    ghost Value = { ℕ };
+
+    // How many things are in it.
+    ghost view = { λ w. length w.targets.items + length w.found.items + length w.worklist.marks.items
+        + length w.worklist.pending.items + length w.parts.live.items + length w.parts.spared.items };
+}
+
 impl Workspace {
-    /// A workspace with nothing in it. No promise speaks of what is in one, since it is taken out before each use.
-    pub fn new(alloc: Global) -> Workspace {
+    /// A workspace with nothing in it.
+    pub fn new(alloc: Global) -> Workspace
+        ensures empty { result ≡ 0 }
+    {
         Workspace {
             targets: Vec::new(alloc),
             found: Vec::new(alloc),

@@ -3,7 +3,7 @@ use Rattle.std.specs.Prelude.{ℕ, ◌-◌, Bool, false, nat_lt, cond, List, [],
 use Rattle.std.proofs.Common.{get_or, zero, suc}
 use Rattle.lalrpop_hir.specs.Range.{Range}
 use Rattle.lalrpop_alphabet.specs.declared.Cell.{Cell}
-use Rattle.lalrpop_dfa.specs.declared.blocks.Transitions.{Transitions}
+use Rattle.lalrpop_dfa.specs.declared.room.Transitions.{Transitions}
 
 -- values that lie in the same labels, and the class of the first of them
 pub record Block : Type 0 where

@@ -13,7 +13,7 @@ use Rattle.lalrpop_dfa.specs.Items.{IsLeaving}
 use Rattle.lalrpop_items.specs.Subsets.{move}
 use Rattle.lalrpop_items.specs.Transitions.{AreTransitions}
 use Rattle.lalrpop_dfa.specs.Internal.Transitions.{transitions_cmp}
-use Rattle.lalrpop_dfa.specs.declared.blocks.Transitions.{Transitions}
+use Rattle.lalrpop_dfa.specs.declared.room.Transitions.{Transitions}
 use Rattle.lalrpop_dfa.specs.declared.builder.Sets.{Sets}
 use Rattle.lalrpop_dfa.specs.Internal.BreadthFirst.{IsBreadthFirst, nth, value_of}
 use Rattle.lalrpop_dfa.specs.Internal.Built.{subset_automaton, IsRowOf, IsTied}

@@ -12,9 +12,9 @@ use Rattle.lalrpop_alphabet.specs.declared.Group.{Group}
 use Rattle.lalrpop_dfa.specs.Internal.Builder.{AreUnknown}
 use Rattle.lalrpop_dfa.specs.Internal.Blocks.{Block, blocks_of}
 use Rattle.lalrpop_dfa.specs.Internal.Transitions.{AreBare, AreBelow, HaveTransitions}
-use Rattle.lalrpop_dfa.specs.declared.blocks.Cuts.{Cuts}
-use Rattle.lalrpop_dfa.specs.declared.blocks.Transitions.{Transitions}
-use Rattle.lalrpop_dfa.specs.declared.blocks.Room.{Room}
+use Rattle.lalrpop_dfa.specs.declared.room.Cuts.{Cuts}
+use Rattle.lalrpop_dfa.specs.declared.room.Transitions.{Transitions}
+use Rattle.lalrpop_dfa.specs.declared.room.Room.{Room}
 
 -- the noted classes are within, and no other class has an edge
 pub record AreNoted (by_class : List Transitions) (used : List ℕ) : Type 0 where

@@ -10,7 +10,7 @@ use Rattle.lalrpop_alphabet.specs.declared.Cell.{Cell}
 use Rattle.lalrpop_items.specs.Automata.{Item}
 use Rattle.lalrpop_dfa.specs.Items.{IsLeaving}
 use Rattle.lalrpop_items.specs.declared.transitions.Transition.{Transition}
-use Rattle.lalrpop_dfa.specs.declared.blocks.Transitions.{Transitions}
+use Rattle.lalrpop_dfa.specs.declared.room.Transitions.{Transitions}
 use Rattle.lalrpop_dfa.specs.Internal.Blocks.{Block}
 use Rattle.lalrpop_items.specs.Transitions.{transition_cmp, AreTransitions}
 

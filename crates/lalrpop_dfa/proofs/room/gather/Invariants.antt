@@ -1,0 +1,14 @@
+use Rattle.std.proofs.Common.{take}
+use Rattle.std.specs.List.{Contains}
+use Rattle.lalrpop_alphabet.specs.Alphabet.{LeadsBy}
+use Rattle.lalrpop_dfa.specs.Internal.Room.{AreNoted, HoldMarked}
+use Rattle.lalrpop_dfa.specs.Internal.Transitions.{Gained, AreCutsOf}
+use Rattle.lalrpop_dfa.proofs.room.gather.Given as goal
+
+abbrev pub invariant-loop-item : goal.invariant-loop-item
+invariant-loop-item l = record {
+  cuts : AreCutsOf l.alphabet (take l.item-index l.items) l.cuts.places.items;
+  classes : Gained l.fn.edges.lists.items l.edges.lists.items (λ c x. Contains (take l.item-index l.items) x.item × LeadsBy l.alphabet x.item.0 x.item.1 c x.to);
+  marked : HoldMarked l.alphabet.groups l.cuts;
+  noted : AreNoted l.edges.lists.items l.edges.used.items;
+}
