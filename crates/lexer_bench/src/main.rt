@@ -11,7 +11,7 @@ mod texts;
 use lalrpop_lexer::lexer::dfa::interpret::interpret;
 use lalrpop_lexer::lexer::dfa::{Dfa, DfaStateIndex, Kind, START, State, build_dfa};
 use lalrpop_lexer::lexer::nfa::Test;
-use lists::list_named;
+use lists::{List, list_named};
 use parts::{blocks_of, cycled, kernels_of};
 use std::alloc::{AllocError, Global};
 use std::rt::Env;
@@ -154,35 +154,68 @@ fn shape_of(alloc: Global, dfa: &Dfa) -> Result<Shape, AllocError> {
     Ok(shape)
 }
 
+// An automaton, and the processor time that it took to build.
+#[derive(Drop)]
+struct Built {
+    dfa: Dfa,
+    spent: Duration,
+}
+
+// Nothing, where the list has no automaton.
+fn build_timed<R: CpuClock + AllocGlobal>(rt: &R, list: &List) -> io::Result<Option<Built>> {
+    if list.patterns.len() != list.precedences.len() {
+        return Ok(None);
+    }
+    let from = rt.process_cpu_time()?;
+    let Ok(dfa) = build_dfa(rt.alloc(), &list.patterns, &list.precedences) else {
+        return Ok(None);
+    };
+    let spent = rt.process_cpu_time()?.saturating_sub(from);
+    Ok(Some(Built { dfa, spent }))
+}
+
+fn tell_built<R: CpuClock + Print + AllocGlobal>(
+    rt: &R,
+    built: &Built,
+    is_timed: bool,
+) -> io::Result<()> {
+    let states = built.dfa.states().len();
+    let Shape { edges, sum } = shape_of(rt.alloc(), &built.dfa)?;
+    println!(rt; "  {states} states, {edges} edges, sum {sum:x}")?;
+    if is_timed {
+        tell_time(rt, "build", built.spent)?;
+    }
+    Ok(())
+}
+
+// What cutting a text by the automaton gives, where there is a text for the list.
+fn tell_text<R: CpuClock + Print + AllocGlobal>(
+    rt: &R,
+    name: &str,
+    dfa: &Dfa,
+    is_timed: bool,
+) -> io::Result<()> {
+    match name {
+        "c" => tell_cut(rt, dfa, &c_text(rt.alloc())?, is_timed),
+        "unicode" => tell_cut(rt, dfa, &unicode_text(rt.alloc())?, is_timed),
+        _ => Ok(()),
+    }
+}
+
 fn tell_list<R: CpuClock + Print + AllocGlobal>(
     rt: &R,
     name: &str,
     is_timed: bool,
 ) -> io::Result<()> {
-    let alloc = rt.alloc();
     println!(rt; "{name}")?;
-    let Ok(Some(list)) = list_named(alloc, name) else {
+    let Ok(Some(list)) = list_named(rt.alloc(), name) else {
         return println!(rt; "  no such list");
     };
-    if list.patterns.len() != list.precedences.len() {
-        return Ok(());
-    }
-    let from = rt.process_cpu_time()?;
-    let Ok(dfa) = build_dfa(alloc, &list.patterns, &list.precedences) else {
+    let Some(built) = build_timed(rt, &list)? else {
         return println!(rt; "  no automaton");
     };
-    let spent = rt.process_cpu_time()?.saturating_sub(from);
-    let states = dfa.states().len();
-    let Shape { edges, sum } = shape_of(alloc, &dfa)?;
-    println!(rt; "  {states} states, {edges} edges, sum {sum:x}")?;
-    if is_timed {
-        tell_time(rt, "build", spent)?;
-    }
-    match name {
-        "c" => tell_cut(rt, &dfa, &c_text(alloc)?, is_timed),
-        "unicode" => tell_cut(rt, &dfa, &unicode_text(alloc)?, is_timed),
-        _ => Ok(()),
-    }
+    tell_built(rt, &built, is_timed)?;
+    tell_text(rt, name, &built.dfa, is_timed)
 }
 
 // The sizes at which the parts are timed.
