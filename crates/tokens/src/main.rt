@@ -1,4 +1,4 @@
-//! The tokens of JSON: cuts each argument by the terminals that are read from standard input.
+//! `tokens TEXT..`: cuts each TEXT by the terminals that are read from standard input, and writes the tokens.
 #![tactic(auto)]
 
 use std::process::ExitCode;

@@ -1,9 +1,0 @@
-//! The tokens of Rust: cuts each argument by the terminals that are read from standard input.
-#![tactic(auto)]
-
-use std::process::ExitCode;
-use tokens_lib::show_tokens;
-
-fn main(rt: HostRuntime) -> ExitCode {
-    show_tokens(&rt)
-}
