@@ -1,11 +1,12 @@
-//! A benchmark: builds the automata of lists of terminals, and cuts a text of 5 MB by those that have one. It writes what
-//! it found, so that two builds can be compared. An argument names one list alone, or is `parts`, for the parts that
-//! automata are built with; then the processor time is written too.
+//! A benchmark: builds the automata of lists of terminals, cuts a text of 5 MB by those that have one, and reads patterns. It
+//! writes what it found, so that two builds can be compared. An argument names one list or one pattern alone, or is `parts`,
+//! for the parts that automata are built with; then the processor time is written too.
 #![tactic(auto)]
 
 mod keywords;
 mod lists;
 mod parts;
+mod patterns;
 mod texts;
 
 use lalrpop_lexer::lexer::dfa::interpret::interpret;
@@ -13,6 +14,7 @@ use lalrpop_lexer::lexer::dfa::{Dfa, DfaStateIndex, Kind, START, State, build_df
 use lalrpop_lexer::lexer::nfa::Test;
 use lists::{List, list_named};
 use parts::{blocks_of, cycled, kernels_of};
+use patterns::{ROWS, Row};
 use std::alloc::{AllocError, Global};
 use std::rt::Env;
 use std::time::{CpuClock, Duration};
@@ -244,16 +246,51 @@ fn tell_parts<R: CpuClock + Print + AllocGlobal>(rt: &R) -> io::Result<()> {
     Ok(())
 }
 
-fn main(rt: HostRuntime) -> io::Result<()> {
-    let name = env::args(&rt)?.nth(1);
-    match name {
-        Some(name) if name.as_str() == "parts" => tell_parts(&rt),
-        Some(name) => tell_list(&rt, &name, true),
-        None => {
-            for name in &LISTS {
-                tell_list(&rt, name, false)?;
-            }
-            Ok(())
+fn tell_pattern<R: CpuClock + Print + AllocGlobal>(
+    rt: &R,
+    row: &Row,
+    is_timed: bool,
+) -> io::Result<()> {
+    let from = rt.process_cpu_time()?;
+    let found = patterns::read(rt.alloc(), row);
+    let spent = rt.process_cpu_time()?.saturating_sub(from);
+    let name = row.name;
+    match found {
+        Ok(parts) => println!(rt; "{name}: {parts}")?,
+        Err(error) => println!(rt; "{name}: {error}")?,
+    }
+    if is_timed {
+        tell_time(rt, "read", spent)?;
+    }
+    Ok(())
+}
+
+fn tell_all<R: CpuClock + Print + AllocGlobal>(rt: &R) -> io::Result<()> {
+    for name in &LISTS {
+        tell_list(rt, name, false)?;
+    }
+    for row in &ROWS {
+        tell_pattern(rt, row, false)?;
+    }
+    Ok(())
+}
+
+// What the name names: the parts, a pattern or a list.
+fn tell_named<R: CpuClock + Print + AllocGlobal>(rt: &R, name: &str) -> io::Result<()> {
+    if name == "parts" {
+        return tell_parts(rt);
+    }
+    for row in &ROWS {
+        if row.name == name {
+            return tell_pattern(rt, row, true);
         }
+    }
+    tell_list(rt, name, true)
+}
+
+fn main(rt: HostRuntime) -> io::Result<()> {
+    match env::args(&rt)?.nth(1) {
+        Some(name) => tell_named(&rt, &name),
+        None => tell_all(&rt),
     }
 }

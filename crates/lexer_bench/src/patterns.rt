@@ -1,21 +1,17 @@
-//! A benchmark of the reader of patterns: reads long patterns once and short ones many times, and writes how many parts
-//! or branches it found. An argument picks one of the patterns, so that it can be timed alone.
-#![tactic(auto)]
+//! Patterns that the reader of patterns is timed with: long ones that are read once, and short ones that are read often.
 
-use lalrpop_re::{Hir, HirKind, RegexError, parse_regex};
+use lalrpop_lexer::lexer::re::{Hir, HirKind, RegexError, parse_regex};
 use std::alloc::{AllocError, Global};
-use std::rt::Env;
-use std::{env, io};
 
 /// A pattern, which is a word repeated, and how often it is read.
-struct Row {
-    name: &'static str,
+pub(crate) struct Row {
+    pub(crate) name: &'static str,
     word: &'static str,
     repeated: u32,
     reads: u32,
 }
 
-const ROWS: [Row; 6] = [
+pub(crate) const ROWS: [Row; 6] = [
     Row {
         name: "letters",
         word: "a",
@@ -62,7 +58,6 @@ fn pattern(alloc: Global, row: &Row) -> Result<String, AllocError> {
     Ok(pattern)
 }
 
-/// How many parts the tree has.
 fn size(tree: &Hir) -> usize {
     match tree.kind() {
         HirKind::Concat(parts) => parts.len(),
@@ -71,29 +66,12 @@ fn size(tree: &Hir) -> usize {
     }
 }
 
-/// The size of the tree that the last reading gives.
-fn read(alloc: Global, row: &Row) -> Result<usize, RegexError> {
+/// The size of the tree that the last reading gives: how many parts or branches it has.
+pub(crate) fn read(alloc: Global, row: &Row) -> Result<usize, RegexError> {
     let pattern = pattern(alloc, row)?;
     let mut found = 0;
     for _ in 0..row.reads {
         found = size(&parse_regex(alloc, &pattern)?);
     }
     Ok(found)
-}
-
-fn main(rt: HostRuntime) -> io::Result<()> {
-    let chosen = env::args(&rt)?.skip(1).next();
-    for row in &ROWS {
-        if let Some(name) = &chosen {
-            if name.as_str() != row.name {
-                continue;
-            }
-        }
-        let name = row.name;
-        match read(rt.alloc(), row) {
-            Ok(parts) => println!(rt; "{name}: {parts}")?,
-            Err(error) => println!(rt; "{name}: {error}")?,
-        }
-    }
-    Ok(())
 }
