@@ -8,8 +8,8 @@ use Rattle.std.proofs.lemmas.Option.{same_Some, none-some}
 use Rattle.lalrpop_hir.specs.Tree.{Tree}
 use Rattle.lalrpop_hir.specs.Language.{Matches}
 use Rattle.lalrpop_nfa.specs.Prefix.{IsPrefix, IsLongestOf}
-use Rattle.lalrpop_dfa.specs.Winners.{TreeMatches, Matched}
-use Rattle.lalrpop_dfa.specs.Longest.{IsLongest}
+use Rattle.lalrpop_table.specs.Winners.{TreeMatches, Matched}
+use Rattle.lalrpop_table.specs.Longest.{IsLongest}
 use Rattle.lalrpop_dfa.specs.Agree.{Agree}
 
 -- a list of one tree has it at the place 0, and none elsewhere

@@ -19,7 +19,7 @@ use Rattle.lalrpop_items.specs.Subsets.{is_dead}
 use Rattle.lalrpop_dfa.specs.Internal.Best.{accepts, IsStrong, IsBestOf, IsBest, raised}
 use Rattle.std.proofs.lemmas.Option.{slice_get_within}
 use Rattle.lalrpop_dfa.specs.Internal.Built.{IsStrongestIn, IsKindOf, IsTied}
-use Rattle.lalrpop_dfa.specs.declared.Kind.TheVariants.{Accepts, Neither}
+use Rattle.lalrpop_table.specs.declared.Kind.TheVariants.{Accepts, Neither}
 use Rattle.lalrpop_dfa.specs.declared.best.Best.{Best}
 use Rattle.lalrpop_nfa.specs.declared.edge.StateKind.TheVariants.{Accept}
 use Rattle.lalrpop_nfa.proofs.Contained.{contains_none}

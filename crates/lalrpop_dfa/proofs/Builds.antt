@@ -10,7 +10,7 @@ use Rattle.lalrpop_hir.specs.Tree.{Tree}
 use Rattle.lalrpop_hir.specs.Size.{size}
 use Rattle.lalrpop_nfa.specs.Graph.{Graph}
 use Rattle.lalrpop_ranges.specs.Partition.{IsPartition}
-use Rattle.lalrpop_dfa.specs.Dfa.{Row, Recognizes, IsWellFormed}
+use Rattle.lalrpop_table.specs.Dfa.{Row, Recognizes, IsWellFormed}
 use Rattle.lalrpop_dfa.specs.Clash.{NoClash}
 use Rattle.lalrpop_items.specs.Automata.{Item, AreCompiled}
 use Rattle.lalrpop_dfa.specs.Items.{IsLeaving, HoldsItems, OthersReject, IsInWordOrder}
@@ -26,7 +26,7 @@ use Rattle.lalrpop_items.proofs.Sets.{first_set_ascends, first_set_items, move_a
 use Rattle.lalrpop_dfa.proofs.RowSteps.{added_keeps, added_is, taken_range, taken_other, tests_lead_more, tests_lead_kept, run_small}
 use Rattle.lalrpop_dfa.proofs.BuiltTable.{built_stands}
 use Rattle.lalrpop_dfa.proofs.TiedClash.{tied_is_clash_after_rows}
-use Rattle.lalrpop_dfa.specs.Counts.{state_bound}
+use Rattle.lalrpop_table.specs.Counts.{state_bound}
 use Rattle.lalrpop_dfa.proofs.StateCount.{states_bound, items_bound}
 use Rattle.lalrpop_kernels.proofs.NumberedLemmas.{pushed_cases}
 

@@ -4,7 +4,7 @@ use Rattle.lalrpop_hir.specs.Word.{FirstDifferenceLess, Shortlex}
 use Rattle.lalrpop_hir.specs.Tree.{Tree, literal}
 use Rattle.lalrpop_hir.specs.Language.{Matches}
 use Rattle.lalrpop_hir.proofs.Words.{Shortlex-irreflexive, Shortlex-total}
-use Rattle.lalrpop_dfa.specs.Winners.{TreeMatches, IsStrongest, Ambiguous}
+use Rattle.lalrpop_table.specs.Winners.{TreeMatches, IsStrongest, Ambiguous}
 use Rattle.lalrpop_dfa.specs.Clash.{IsClash, NoClash}
 
 module _ (ts : List Tree) (ps : List ℕ) where

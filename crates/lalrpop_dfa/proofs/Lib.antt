@@ -4,20 +4,15 @@ pub mod Origins
 pub mod BreadthFirst
 pub mod Steps
 pub mod Clashes
-pub mod Longests
+pub use Rattle.lalrpop_table.proofs.Longests
 pub mod ReachedItems
 pub mod Dead
-pub mod EdgeTargets
-pub mod StepLists
-pub mod StoredRows
-pub mod LongestLemmas
 pub mod Bests
 pub mod LeavingBlocks
 pub mod SetWinners
 pub mod BuiltTable
 pub mod TiedClash
 pub mod StateCount
-pub mod SameTables
 pub mod RowSteps
 pub mod Adding
 pub mod Builds
@@ -33,4 +28,4 @@ mod LiveItems
 -- laws for callers
 pub mod Strongest
 pub mod Agreeing
-pub mod AfterLaws
+pub use Rattle.lalrpop_table.proofs.AfterLaws

@@ -5,9 +5,9 @@ use Rattle.std.specs.Option.{option_map}
 use Rattle.std.specs.Str.{chars}
 use Rattle.std.proofs.lemmas.Bool.{cases_order}
 use Rattle.lalrpop_hir.specs.Tree.{Tree}
-use Rattle.lalrpop_dfa.specs.Winners.{IsStrongest, IsHighestStrongest, IsOnlyStrongest}
+use Rattle.lalrpop_table.specs.Winners.{IsStrongest, IsHighestStrongest, IsOnlyStrongest}
 use Rattle.lalrpop_dfa.specs.Clash.{NoClash}
-use Rattle.lalrpop_dfa.specs.Longest.{IsLongest}
+use Rattle.lalrpop_table.specs.Longest.{IsLongest}
 
 pub IsOnlyStrongest-from_greatest : (ts : List Tree) (ps w : List ℕ) (i : ℕ) → NoClash ts ps → IsHighestStrongest ts ps w i → IsOnlyStrongest ts ps w i
 IsOnlyStrongest-from_greatest ts ps w i none greatest = (greatest.0, λ j top. by_order j top (cases_order j i))

@@ -3,7 +3,7 @@
 use Rattle.std.specs.Prelude.{ℕ, ◌<◌, ◌≤◌, List}
 use Rattle.lalrpop_hir.specs.Word.{IsWord, Shortlex}
 use Rattle.lalrpop_hir.specs.Tree.{Tree}
-use Rattle.lalrpop_dfa.specs.Winners.{IsStrongest, Ambiguous}
+use Rattle.lalrpop_table.specs.Winners.{IsStrongest, Ambiguous}
 
 -- no word is ambiguous
 abbrev pub NoClash : List Tree → List ℕ → Type 0

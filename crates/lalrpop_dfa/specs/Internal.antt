@@ -2,9 +2,7 @@ pub mod BreadthFirst
 pub mod Built
 pub mod Builder
 pub mod Best
-pub mod SameLaws
 pub mod Blocks
 pub mod Transitions
-pub mod Stored
 pub mod Room
 pub mod Labelled

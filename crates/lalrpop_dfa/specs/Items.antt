@@ -7,8 +7,8 @@ use Rattle.lalrpop_nfa.specs.Graph.{Graph}
 use Rattle.lalrpop_nfa.specs.Path.{Path, test}
 use Rattle.lalrpop_nfa.specs.Compiled.{start_state, reject_state}
 use Rattle.lalrpop_ranges.specs.Partition.{Ranges, IsPartition}
-use Rattle.lalrpop_dfa.specs.Dfa.{Row, after}
-use Rattle.lalrpop_dfa.specs.declared.Kind.TheVariants.{Reject}
+use Rattle.lalrpop_table.specs.Dfa.{Row, after}
+use Rattle.lalrpop_table.specs.declared.Kind.TheVariants.{Reject}
 pub use Rattle.lalrpop_items.specs.Automata.{Item, AreCompiled}
 
 -- steps lead from START to the item's state and read the word

@@ -1,136 +1,17 @@
-//! The automaton of a list of patterns: building it, and running it.
+//! Building the automaton of a list of patterns. The automaton itself, and what runs it, stand in lalrpop_table.
 #![tactic(auto)]
 
 mod automata;
 mod best;
 mod build;
 mod builder;
-mod clone;
-mod equality;
 mod error;
-pub mod interpret;
 mod origin;
 mod room;
-mod rows;
-mod search;
-
-ghost use Rattle.std.specs.Prelude.{◌≡◌, ◌<◌, length, slice_get, Some, IsSomeAnd};
 
 pub use build::build_dfa;
 pub use error::DfaConstructionError;
-use lalrpop_items::ItemSet;
 pub use lalrpop_items::{DfaStateIndex, NfaIndex, START};
 pub use lalrpop_kernels as kernel_set;
-use lalrpop_ranges::Test;
 pub use lalrpop_ranges::overlap;
-use rows::Rows;
-use search::LISTED;
-use std::marker::Model;
-
-/// The strength of a pattern: where two match a word, the one with the greater precedence wins.
-#[derive(Copy, Clone, Debug, PartialEq, Eq, PartialOrd, Ord)]
-pub struct Precedence(pub usize);
-
-/// What a state says of the word that leads to it.
-#[derive(Clone, Debug, PartialEq, Eq, Drop)]
-pub enum Kind {
-    /// The pattern at this place matches the word, and is the only strongest one.
-    Accepts(NfaIndex),
-    /// No pattern matches the word or any continuation of it.
-    Reject,
-    /// No pattern matches the word.
-    Neither,
-}
-
-/// A state of the automaton.
-#[derive(Debug, Drop)]
-pub struct State {
-    item_set: ItemSet,
-    kind: Kind,
-    // Of the automaton's test edges so many are the state's, from this place on.
-    first_edge: usize,
-    edge_count: usize,
-    other_edge: DfaStateIndex,
-}
-
-impl Model for State {
-    ghost use Rattle.lalrpop_dfa.specs.Dfa.{StoredState};
-
-    ghost Value = { StoredState };
-
-    ghost view = { λ s. record {
-      kind = s.kind;
-      other = s.other_edge;
-      items = s.item_set;
-      first = s.first_edge;
-      count = s.edge_count;
-    } };
-}
-
-impl State {
-    /// What the state says of the word that leads to it.
-    pub fn kind(&self) -> &Kind
-        ensures kind { result.now ≡ self.now.kind }
-    {
-        &self.kind
-    }
-
-    /// The state that a value leads to which no test edge covers.
-    pub fn other_edge(&self) -> DfaStateIndex
-        ensures other { result ≡ self.now.other }
-    {
-        self.other_edge
-    }
-}
-
-/// The automaton of a list of patterns. State 0 is START.
-#[derive(Debug, Drop)]
-pub struct Dfa {
-    rows: Rows,
-    // The place of each state's list among the lists, where it has one.
-    places: Vec<Option<usize>>,
-    // Where the values of ASCII lead from a state.
-    lists: Vec<[u32; LISTED]>,
-}
-
-impl Model for Dfa {
-    ghost use Rattle.std.specs.Prelude.{List};
-    ghost use Rattle.lalrpop_dfa.specs.Dfa.{Row, IsWellFormed};
-    ghost use Rattle.lalrpop_dfa.specs.Internal.Stored.{AreListed};
-
-    ghost Value = { List Row };
-
-    ghost view = { λ a. a.rows };
-
-    ghost invariant = { λ a. IsWellFormed a.rows × AreListed a.rows a.places.items a.lists.items };
-}
-
-impl Dfa {
-    ghost use Rattle.lalrpop_dfa.specs.Dfa.{IsStored, AreStored, IsWellFormed};
-
-    /// The states in the order of their numbers.
-    pub fn states(&self) -> &[State]
-        ensures states { AreStored self.now result.now }
-        ensures well_formed { IsWellFormed self.now }
-    {
-        self.rows.states()
-    }
-
-    /// The state with this number.
-    pub fn state(&self, index: DfaStateIndex) -> &State
-        requires within { index < length self.now }
-        ensures at { IsSomeAnd (slice_get self.now index) (λ r. IsStored r result.now) }
-        ensures well_formed { IsWellFormed self.now }
-    {
-        self.rows.state(index)
-    }
-
-    /// The test edges of the state with this number, ascending.
-    pub fn test_edges(&self, index: DfaStateIndex) -> &[(Test, DfaStateIndex)]
-        requires within { index < length self.now }
-        ensures tests { IsSomeAnd (slice_get self.now index) (λ r. result.now ≡ r.tests) }
-        ensures well_formed { IsWellFormed self.now }
-    {
-        self.rows.test_edges(index)
-    }
-}
+pub use lalrpop_table::{Dfa, Kind, Precedence, State, interpret};

@@ -4,9 +4,9 @@ use Rattle.lalrpop_hir.specs.Word.{Shortlex}
 use Rattle.lalrpop_hir.specs.Tree.{repetition}
 use Rattle.lalrpop_hir.specs.Language.{Matches}
 use Rattle.lalrpop_hir.proofs.Words.{Shortlex-irreflexive}
-use Rattle.lalrpop_dfa.specs.Winners.{TreeMatches}
+use Rattle.lalrpop_table.specs.Winners.{TreeMatches}
 use Rattle.lalrpop_dfa.specs.Clash.{NoClash, IsClash}
-use Rattle.lalrpop_dfa.proofs.Cases.Winners.{a, b, one_of_two, both_zero, both_are_strongest, equal_precedences_are_ambiguous, unequal_precedences_are_not_ambiguous, trees_without_a_common_word_are_not_ambiguous}
+use Rattle.lalrpop_table.proofs.Cases.Winners.{a, b, one_of_two, both_zero, both_are_strongest, equal_precedences_are_ambiguous, unequal_precedences_are_not_ambiguous, trees_without_a_common_word_are_not_ambiguous}
 
 who_matches_a : (w : List ℕ) (i : ℕ) → TreeMatches (a ∷ a ∷ []) w i → (w ≡ 97 ∷ []) × (i ≤ 1)
 who_matches_a w i h = by_tree (one_of_two a a w i h)

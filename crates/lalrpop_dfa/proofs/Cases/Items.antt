@@ -14,11 +14,11 @@ use Rattle.lalrpop_nfa.specs.declared.edge.Noop.{Noop}
 use Rattle.lalrpop_nfa.specs.declared.edge.Other.{Other}
 use Rattle.lalrpop_nfa.specs.declared.edge.StateKind.TheVariants.{Accept, Reject as RejectState, Neither as NeitherState}
 use Rattle.lalrpop_ranges.specs.Partition.{IsPartition}
-use Rattle.lalrpop_dfa.specs.Dfa.{Row, after, run, step}
+use Rattle.lalrpop_table.specs.Dfa.{Row, after, run, step}
 use Rattle.lalrpop_items.specs.Automata.{Item, AreCompiled}
 use Rattle.lalrpop_dfa.specs.Items.{IsReached, IsLeaving, HoldsItems, OthersReject, IsInWordOrder}
-use Rattle.lalrpop_dfa.specs.declared.Kind.TheVariants.{Accepts, Reject, Neither}
-use Rattle.lalrpop_dfa.proofs.Cases.Dfa.{between, automaton_of_a}
+use Rattle.lalrpop_table.specs.declared.Kind.TheVariants.{Accepts, Reject, Neither}
+use Rattle.lalrpop_table.proofs.Cases.Dfa.{between, automaton_of_a}
 
 -- the automaton of one tree, the literal `a`
 abbrev graph_of_a : Graph

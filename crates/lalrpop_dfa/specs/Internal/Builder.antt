@@ -7,7 +7,7 @@ use Rattle.lalrpop_hir.specs.Range.{Range, Covers}
 use Rattle.lalrpop_hir.specs.Tree.{Tree}
 use Rattle.lalrpop_nfa.specs.Graph.{Graph}
 use Rattle.lalrpop_dfa.specs.Clash.{IsClash}
-use Rattle.lalrpop_dfa.specs.Dfa.{Row}
+use Rattle.lalrpop_table.specs.Dfa.{Row}
 use Rattle.lalrpop_items.specs.Automata.{Item}
 use Rattle.lalrpop_dfa.specs.Items.{IsLeaving}
 use Rattle.lalrpop_items.specs.Subsets.{move}

@@ -5,13 +5,13 @@ use Rattle.lalrpop_hir.specs.Range.{Range, Covers}
 use Rattle.lalrpop_nfa.specs.Graph.{Graph}
 use Rattle.lalrpop_nfa.specs.Compiled.{accept_state}
 use Rattle.lalrpop_ranges.specs.Partition.{IsPartition}
-use Rattle.lalrpop_dfa.specs.Dfa.{Row}
+use Rattle.lalrpop_table.specs.Dfa.{Row}
 use Rattle.lalrpop_items.specs.Automata.{Item}
 use Rattle.lalrpop_dfa.specs.Items.{IsLeaving}
 use Rattle.lalrpop_items.specs.Subsets.{first_set_of, move, is_dead}
 use Rattle.lalrpop_dfa.specs.Internal.BreadthFirst.{Automaton, nth}
-use Rattle.lalrpop_dfa.specs.declared.Kind.{Kind}
-use Rattle.lalrpop_dfa.specs.declared.Kind.TheVariants.{Accepts, Reject, Neither}
+use Rattle.lalrpop_table.specs.declared.Kind.{Kind}
+use Rattle.lalrpop_table.specs.declared.Kind.TheVariants.{Accepts, Reject, Neither}
 
 -- sets of items, and where values lead
 abbrev pub subset_automaton : List Graph → Automaton (List Item)

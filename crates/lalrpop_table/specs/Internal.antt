@@ -1,0 +1,2 @@
+pub mod SameLaws
+pub mod Stored

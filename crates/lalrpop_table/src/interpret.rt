@@ -1,0 +1,70 @@
+//! The longest match at the start of a text, found by running the automaton of a list of patterns.
+
+ghost use Rattle.std.specs.Prelude.{◌≡◌, ◌≢◌, ℕ, ◌+◌, ◌*◌, ◌^◌, ◌<◌, ◌≤◌, [], length, List, IfSome};
+ghost use Rattle.std.specs.Option.{option_map};
+ghost use Rattle.std.specs.Str.{chars};
+ghost use Rattle.lalrpop_table.specs.Counts.{HaveAtMost};
+ghost use Rattle.lalrpop_table.specs.Dfa.{Recognizes};
+ghost use Rattle.lalrpop_table.specs.Longest.{IsLongest};
+ghost use Rattle.lalrpop_hir.specs.Tree.{Tree};
+ghost use Rattle.lalrpop_nfa.specs.Prefix.{IsPrefix};
+
+use super::{Dfa, Kind, NfaIndex, START};
+use lalrpop_ranges::Steps;
+
+/// The longest nonempty prefix of the text that some pattern matches, with the strongest pattern that matches it.
+/// `None` where no pattern matches any. Whatever automaton it is, the slice is a nonempty prefix of the text.
+pub fn interpret<'text>(dfa: &Dfa, input: &'text str) -> Option<(NfaIndex, &'text str)>
+    ensures answer { (ts : List Tree) (ps : List ℕ) → Recognizes dfa.now ts ps
+        → IsLongest ts ps input.now (option_map (λ m. (m.0, m.1.now)) result) }
+    ensures prefix { IfSome result (λ m. IsPrefix m.1.now input.now × (m.1.now ≢ [])) }
+{
+    interpret_counted(dfa, input, &mut Steps::new())
+}
+
+/// The same answer. A step is counted for each character read.
+pub fn interpret_counted<'text>(
+    dfa: &Dfa,
+    input: &'text str,
+    steps: &mut Steps,
+) -> Option<(NfaIndex, &'text str)>
+    ensures answer { (ts : List Tree) (ps : List ℕ) → Recognizes dfa.now ts ps
+        → IsLongest ts ps input.now (option_map (λ m. (m.0, m.1.now)) result) }
+    ensures prefix { IfSome result (λ m. IsPrefix m.1.now input.now × (m.1.now ≢ [])) }
+    ensures never_falls { steps.old ≤ steps.new }
+    ensures cost { steps.new ≤ steps.old + length (chars input.now) }
+{
+    interpret_probed(dfa, input, steps, &mut Steps::new())
+}
+
+/// The same answer and the same steps. A probe is counted for each range of an edge that is compared with a character:
+/// for each character at most as many as the greatest number of test edges of a state has binary digits.
+pub fn interpret_probed<'text>(
+    dfa: &Dfa,
+    input: &'text str,
+    steps: &mut Steps,
+    probes: &mut Steps,
+) -> Option<(NfaIndex, &'text str)>
+    ensures answer { (ts : List Tree) (ps : List ℕ) → Recognizes dfa.now ts ps
+        → IsLongest ts ps input.now (option_map (λ m. (m.0, m.1.now)) result) }
+    ensures prefix { IfSome result (λ m. IsPrefix m.1.now input.now × (m.1.now ≢ [])) }
+    ensures never_falls { (steps.old ≤ steps.new) × (probes.old ≤ probes.new) }
+    ensures cost { steps.new ≤ steps.old + length (chars input.now) }
+    ensures probed { (n d : ℕ) → HaveAtMost dfa.now n → n < 2 ^ d
+        → probes.new ≤ probes.old + length (chars input.now) * d }
+{
+    // There is a state, so START is one.
+    let _states = dfa.states();
+    let mut state = START;
+    let mut longest = None;
+    for (offset, c) in input.char_indices() {
+        steps.tick();
+        state = dfa.step(state, u32::from(c), probes);
+        match dfa.state(state).kind() {
+            Kind::Accepts(index) => longest = Some((*index, &input[..offset + c.len_utf8()])),
+            Kind::Reject => break,
+            Kind::Neither => {}
+        }
+    }
+    longest
+}
