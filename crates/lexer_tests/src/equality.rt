@@ -36,9 +36,15 @@ fn kind_of_copy(state: &State) -> Result<Kind, AllocError> {
 }
 
 #[test]
-fn copies_of_states_equal_their_sources(rt: HostRuntime) -> Result<(), Fail> {
+fn copies_have_equal_states(rt: HostRuntime) -> Result<(), Fail> {
     let dfa = built(rt.alloc(), "'ab'")?;
     assert!(rt; are_equal(dfa.states(), copy_of(&dfa)?.states()));
+    Ok(())
+}
+
+#[test]
+fn copies_of_states_equal_their_sources(rt: HostRuntime) -> Result<(), Fail> {
+    let dfa = built(rt.alloc(), "'ab'")?;
     let first = &dfa.states()[0];
     assert!(rt; copy_is_equal(first)?);
     assert_eq!(rt; kind_of_copy(first)?, Kind::Neither);
