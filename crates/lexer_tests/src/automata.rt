@@ -1,128 +1,95 @@
 //! The states of built automata, with the test edges of START.
 
-use lalrpop_lexer::lexer::dfa::{Dfa, DfaConstructionError, Precedence, START, build_dfa};
-use lalrpop_lexer::lexer::nfa::Nfa;
-use lalrpop_lexer::lexer::re::{Class, ClassUnicode, ClassUnicodeRange, Hir, parse_literal};
+use crate::built::{built, built_from, literal, nfa_of};
+use lalrpop_lexer::lexer::dfa::{Dfa, START};
+use lalrpop_lexer::lexer::re::Hir;
 use std::alloc::{AllocError, Global};
-use std::process::Abort;
+use std::fmt::Write;
 use std::test::Fail;
 
-fn class_of(alloc: Global, ranges: &[(char, char)]) -> Result<Hir, AllocError> {
-    let mut members = Vec::new(alloc);
-    for (start, end) in ranges.iter() {
-        members.push(ClassUnicodeRange::new(*start, *end))?;
-    }
-    Ok(Hir::class(Class::Unicode(ClassUnicode::new(alloc, members)?)))
-}
+// Lists of patterns, and below each what its states are for and where all that has no edge of its own leads, and then the edges
+// of the first state. States are numbered by the least words that lead to them, the shorter before the longer.
+const AUTOMATA: &str = r#"
+""
+Reject Dfa0
 
-fn literals(alloc: Global, texts: &[&str]) -> Result<Vec<Hir>, AllocError> {
-    let mut trees = Vec::new(alloc);
-    for text in texts.iter() {
-        trees.push(Hir::literal(alloc, text)?)?;
-    }
-    Ok(trees)
-}
+"'a'"
+Neither Dfa2
+Accepts(NfaIndex(0)) Dfa2
+Reject Dfa2
+Dfa0 -a-> Dfa1
 
-fn built(
-    rt: &impl Abort,
-    alloc: Global,
-    trees: &[Hir],
-    strengths: &[usize],
-) -> Result<Dfa, DfaConstructionError> {
-    let mut precedences = Vec::new(alloc);
-    for strength in strengths.iter() {
-        precedences.push(Precedence(*strength))?;
-    }
-    assert!(rt; trees.len() == precedences.len());
-    build_dfa(alloc, trees, &precedences)
-}
+"'b' 'a'"
+Neither Dfa3
+Accepts(NfaIndex(1)) Dfa3
+Accepts(NfaIndex(0)) Dfa3
+Reject Dfa3
+Dfa0 -a-> Dfa1
+Dfa0 -b-> Dfa2
 
-// The kinds and other edges of all states, and the test edges of START.
-fn expect(
-    rt: &(impl AllocGlobal + Abort),
-    dfa: &Dfa,
-    states: &[&str],
-    edges: &[(u32, u32, usize)],
-) -> Result<(), Fail> {
-    assert_eq!(rt; dfa.states().len(), states.len());
-    for (state, wanted) in dfa.states().iter().zip(states.iter()) {
+"[a-b]|c"
+Neither Dfa2
+Accepts(NfaIndex(0)) Dfa2
+Reject Dfa2
+Dfa0 -['a'..='b']-> Dfa1
+Dfa0 -c-> Dfa1
+
+"'ab' 'abc'"
+Neither Dfa2
+Neither Dfa2
+Reject Dfa2
+Accepts(NfaIndex(0)) Dfa2
+Accepts(NfaIndex(1)) Dfa2
+Dfa0 -a-> Dfa1
+"#;
+
+fn write_states(out: &mut String, dfa: &Dfa) -> Result<(), AllocError> {
+    for state in dfa.states() {
         let kind = state.kind();
         let other = state.other_edge();
-        assert_eq!(rt;
-            format!(in rt.alloc(); "{kind:?} {other}")?.as_str(),
-            *wanted
-        );
-    }
-    assert!(rt; START.index() < dfa.states().len());
-    let found = dfa.test_edges(START);
-    assert_eq!(rt; found.len(), edges.len());
-    for ((label, target), (start, end, wanted)) in found.iter().zip(edges.iter()) {
-        assert_eq!(rt; label.start(), *start);
-        assert_eq!(rt; label.end(), *end);
-        assert_eq!(rt; target.index(), *wanted);
+        write!(out, "{kind:?} {other}\n")?;
     }
     Ok(())
 }
 
-#[test]
-fn no_pattern_gives_one_reject_state(rt: HostRuntime) -> Result<(), Fail> {
-    let dfa = built(&rt, rt.alloc(), &[], &[])?;
-    expect(&rt, &dfa, &["Reject Dfa0"], &[])
+fn write_edges_of_start(out: &mut String, dfa: &Dfa) -> Result<(), AllocError> {
+    if START.index() < dfa.states().len() {
+        for (label, target) in dfa.test_edges(START) {
+            write!(out, "{START} -{label:?}-> {target}\n")?;
+        }
+    }
+    Ok(())
+}
+
+// Writes the patterns, and below them their automaton.
+fn draw(out: &mut String, alloc: Global, words: &str) -> Result<(), Fail> {
+    let dfa = built(alloc, words)?;
+    write!(out, "\n{words:?}\n")?;
+    write_states(out, &dfa)?;
+    Ok(write_edges_of_start(out, &dfa)?)
 }
 
 #[test]
-fn a_literal_gives_three_states(rt: HostRuntime) -> Result<(), Fail> {
-    let alloc = rt.alloc();
-    let letter = [parse_literal(alloc, "a")?];
-    assert_eq!(rt; Nfa::from_re(alloc, &letter[0])?.len(), 4);
-    let dfa = built(&rt, alloc, &letter, &[0])?;
-    let states = ["Neither Dfa2", "Accepts(NfaIndex(0)) Dfa2", "Reject Dfa2"];
-    expect(&rt, &dfa, &states, &[(97, 97, 1)])
+fn lists_of_patterns_have_these_automata(rt: HostRuntime) -> Result<(), Fail> {
+    let mut out = String::new(rt.alloc());
+    for words in ["", "'a'", "'b' 'a'", "[a-b]|c", "'ab' 'abc'"] {
+        draw(&mut out, rt.alloc(), words)?;
+    }
+    assert_eq!(rt; out.as_str(), AUTOMATA);
+    Ok(())
 }
 
 #[test]
-fn states_are_numbered_by_their_words(rt: HostRuntime) -> Result<(), Fail> {
-    let alloc = rt.alloc();
-    let dfa = built(&rt, alloc, &literals(alloc, &["b", "a"])?, &[0, 0])?;
-    let states = [
-        "Neither Dfa3",
-        "Accepts(NfaIndex(1)) Dfa3",
-        "Accepts(NfaIndex(0)) Dfa3",
-        "Reject Dfa3",
-    ];
-    expect(&rt, &dfa, &states, &[(97, 97, 1), (98, 98, 2)])
-}
-
-#[test]
-fn parts_that_touch_stay_apart(rt: HostRuntime) -> Result<(), Fail> {
-    let alloc = rt.alloc();
-    let mut branches = Vec::new(alloc);
-    branches.push(class_of(alloc, &[('a', 'b')])?)?;
-    branches.push(Hir::literal(alloc, "c")?)?;
-    let dfa = built(&rt, alloc, &[Hir::alternation(branches)], &[0])?;
-    let states = ["Neither Dfa2", "Accepts(NfaIndex(0)) Dfa2", "Reject Dfa2"];
-    expect(&rt, &dfa, &states, &[(97, 98, 1), (99, 99, 1)])
-}
-
-// Two words, of which the one goes on where the other ends.
-#[test]
-fn one_word_goes_on_behind_another(rt: HostRuntime) -> Result<(), Fail> {
-    let alloc = rt.alloc();
-    let dfa = built(&rt, alloc, &literals(alloc, &["ab", "abc"])?, &[0, 0])?;
-    let states = [
-        "Neither Dfa2",
-        "Neither Dfa2",
-        "Reject Dfa2",
-        "Accepts(NfaIndex(0)) Dfa2",
-        "Accepts(NfaIndex(1)) Dfa2",
-    ];
-    expect(&rt, &dfa, &states, &[(97, 97, 1)])
+fn the_automaton_of_one_literal_has_a_state_for_its_character(rt: HostRuntime) -> Result<(), Fail> {
+    let nfa = nfa_of(rt.alloc(), &literal(rt.alloc(), "a")?)?;
+    assert_eq!(rt; nfa.len(), 4);
+    Ok(())
 }
 
 #[test]
 fn a_choice_of_nothing_rejects_all(rt: HostRuntime) -> Result<(), Fail> {
-    let alloc = rt.alloc();
-    let dfa = built(&rt, alloc, &[Hir::alternation(Vec::new(alloc))], &[0])?;
+    let nothing = Hir::alternation(Vec::new(rt.alloc()));
+    let dfa = built_from(rt.alloc(), &[nothing])?;
     assert!(rt; !dfa.states().is_empty());
     assert_eq!(rt; dfa.test_edges(START).len(), 0);
     Ok(())

@@ -6,6 +6,8 @@
 #[cfg(test)]
 mod automata;
 #[cfg(test)]
+mod built;
+#[cfg(test)]
 mod equality;
 #[cfg(test)]
 mod order;

@@ -3,10 +3,12 @@
 ghost use Rattle.std.specs.Prelude.{◌≡◌, ◌↔◌, IsTrue};
 ghost use Rattle.std.specs.Ordering.{nat_cmp};
 
+use crate::built::{built, nfa_of};
 use lalrpop_lexer::lexer::dfa::interpret::interpret;
-use lalrpop_lexer::lexer::dfa::{self, DfaStateIndex, NfaIndex, Precedence, build_dfa};
-use lalrpop_lexer::lexer::nfa::{ACCEPT, Nfa, NfaStateIndex, Noop, REJECT, START, StateKind};
+use lalrpop_lexer::lexer::dfa::{self, DfaStateIndex, NfaIndex, Precedence};
+use lalrpop_lexer::lexer::nfa::{ACCEPT, NfaStateIndex, Noop, REJECT, START, StateKind};
 use lalrpop_lexer::lexer::re::Hir;
+use std::alloc::Global;
 use std::cmp::Ordering;
 use std::hash::{DefaultHasher, Hash, Hasher};
 use std::test::Fail;
@@ -67,20 +69,24 @@ fn hash_of<T: Hash>(value: &T) -> u64 {
     state.finish()
 }
 
+// The ends of the first edge of START.
+fn first_edge(alloc: Global) -> Result<Option<(NfaStateIndex, NfaStateIndex)>, Fail> {
+    let nfa = nfa_of(alloc, &Hir::empty())?;
+    if nfa.contains_state(START) {
+        if let Some(edge) = nfa.edges::<Noop>(START).next() {
+            return Ok(Some((edge.from, edge.to)));
+        }
+    }
+    Ok(None)
+}
+
 #[test]
 fn states_of_one_pattern_are_ordered_by_number(rt: HostRuntime) -> Result<(), Fail> {
     assert_eq!(rt; order(ACCEPT, REJECT), Ordering::Less);
     assert_eq!(rt; order(START, REJECT), Ordering::Greater);
-    let nfa = Nfa::from_re(rt.alloc(), &Hir::empty())?;
-    assert!(rt; nfa.contains_state(START));
-    let mut edges = nfa.edges::<Noop>(START);
-    match edges.next() {
-        Some(edge) => {
-            assert!(rt; equal(START, edge.from) && !equal(START, edge.to));
-            assert_eq!(rt; hash_of(&START), hash_of(&edge.from));
-        }
-        None => assert!(rt; false),
-    }
+    let (from, to) = first_edge(rt.alloc())?.expect(&rt, "an edge");
+    assert!(rt; equal(START, from) && !equal(START, to));
+    assert_eq!(rt; hash_of(&START), hash_of(&from));
     Ok(())
 }
 
@@ -107,19 +113,32 @@ fn precedences_compare_as_their_numbers(rt: HostRuntime) {
     }
 }
 
+// Where the states of the automaton lead by what has no edge of its own.
+fn other_edges(alloc: Global, words: &str) -> Result<Vec<DfaStateIndex>, Fail> {
+    let dfa = built(alloc, words)?;
+    let mut targets = Vec::new(alloc);
+    for state in dfa.states() {
+        targets.push(state.other_edge())?;
+    }
+    Ok(targets)
+}
+
+// The first state of the automaton of no pattern is the one that rejects.
+#[test]
+fn equal_states_have_one_hash(rt: HostRuntime) -> Result<(), Fail> {
+    let start = dfa::START;
+    for reject in other_edges(rt.alloc(), "")? {
+        assert_eq!(rt; order_of_states(start, reject), Ordering::Equal);
+        assert!(rt; equal_states(start, reject));
+        assert_eq!(rt; hash_of(&start), hash_of(&reject));
+    }
+    Ok(())
+}
+
 #[test]
 fn states_of_many_patterns_are_ordered_by_number(rt: HostRuntime) -> Result<(), Fail> {
     let start = dfa::START;
-    let dfa = build_dfa(rt.alloc(), &[], &[])?;
-    for state in dfa.states() {
-        assert_eq!(rt; order_of_states(start, state.other_edge()), Ordering::Equal);
-        assert!(rt; equal_states(start, state.other_edge()));
-        assert_eq!(rt; hash_of(&start), hash_of(&state.other_edge()));
-    }
-    let alloc = rt.alloc();
-    let dfa = build_dfa(alloc, &[Hir::literal(alloc, "a")?], &[Precedence(0)])?;
-    for state in dfa.states() {
-        let reject = state.other_edge();
+    for reject in other_edges(rt.alloc(), "'a'")? {
         assert_eq!(rt; order_of_states(start, reject), Ordering::Less);
         assert_eq!(rt; order_of_states(reject, start), Ordering::Greater);
         assert!(rt; !equal_states(reject, start));
@@ -127,21 +146,21 @@ fn states_of_many_patterns_are_ordered_by_number(rt: HostRuntime) -> Result<(), 
     Ok(())
 }
 
+// The place of the pattern that the text matches: of `a` the first, of `b` the second.
+fn place_of(alloc: Global, text: &str) -> Result<Option<NfaIndex>, Fail> {
+    let dfa = built(alloc, "'a' 'b'")?;
+    match interpret(&dfa, text) {
+        Some((place, _)) => Ok(Some(place)),
+        None => Ok(None),
+    }
+}
+
 #[test]
 fn places_of_patterns_are_ordered_by_number(rt: HostRuntime) -> Result<(), Fail> {
-    let alloc = rt.alloc();
-    let trees = [Hir::literal(alloc, "a")?, Hir::literal(alloc, "b")?];
-    let dfa = build_dfa(alloc, &trees, &[Precedence(0), Precedence(0)])?;
-    match interpret(&dfa, "a") {
-        Some((first, _)) => match interpret(&dfa, "b") {
-            Some((second, _)) => {
-                assert_eq!(rt; order_of_places(first, second), Ordering::Less);
-                assert_eq!(rt; order_of_places(second, first), Ordering::Greater);
-                assert!(rt; equal_places(first, first) && !equal_places(first, second));
-            }
-            None => assert!(rt; false),
-        },
-        None => assert!(rt; false),
-    }
+    let first = place_of(rt.alloc(), "a")?.expect(&rt, "a match");
+    let second = place_of(rt.alloc(), "b")?.expect(&rt, "a match");
+    assert_eq!(rt; order_of_places(first, second), Ordering::Less);
+    assert_eq!(rt; order_of_places(second, first), Ordering::Greater);
+    assert!(rt; equal_places(first, first) && !equal_places(first, second));
     Ok(())
 }

@@ -9,6 +9,7 @@ use std::alloc::{AllocError, Global};
 use std::cmp::Ordering;
 use std::collections::BTreeSet;
 use std::hash::{DefaultHasher, Hash, Hasher};
+use std::process::Abort;
 
 const MAX: u32 = u32::MAX;
 
@@ -35,19 +36,20 @@ fn hash_of(test: &Test) -> u64 {
 
 #[test]
 fn writes_characters_and_numbers(rt: HostRuntime) -> Result<(), AllocError> {
-    let rows: [(Test, &str); 8] = [
-        (Test::char('a'), "a"),
-        (Test::char('.'), "\\."),
-        (Test::byte(b'!'), "\\!"),
-        (Test::char('\u{3b1}'), "\u{3b1}"),
-        (Test::inclusive_range('a', 'z'), "['a'..='z']"),
-        (Test::inclusive_byte_range(b'\n', b'9'), "['\\n'..='9']"),
-        (Test::new(55296..=57343), "[55296..]57343]"),
-        (Test::new(97..=1114112), "[97..]1114112]"),
+    let tests = [
+        Test::char('a'),
+        Test::char('.'),
+        Test::byte(b'!'),
+        Test::char('\u{3b1}'),
+        Test::inclusive_range('a', 'z'),
+        Test::inclusive_byte_range(b'\n', b'9'),
+        Test::new(55296..=57343),
+        Test::new(97..=1114112),
     ];
-    for (test, want) in &rows {
-        assert_eq!(&rt; format!(in rt.alloc(); "{test:?}")?.as_str(), *want);
-    }
+    assert_eq!(&rt;
+        format!(in rt.alloc(); "{tests:?}")?.as_str(),
+        "[a, \\., \\!, \u{3b1}, ['a'..='z'], ['\\n'..='9'], [55296..]57343], [97..]1114112]]"
+    );
     Ok(())
 }
 
@@ -59,6 +61,11 @@ fn an_empty_range_meets_none(rt: HostRuntime) {
     assert_eq!(&rt; (empty.start(), empty.end(), empty.len()), (98, 97, 0));
     assert!(&rt; empty.is_empty() && !empty.is_char() && !empty.contains_char('b'));
     assert!(&rt; !empty.intersects(&letters) && letters.is_disjoint(&empty));
+}
+
+#[test]
+fn ranges_of_classes_hold_their_ends(rt: HostRuntime) {
+    let letters = Test::from(ClassUnicodeRange::new('z', 'a'));
     assert!(&rt; letters.intersects(&Test::byte(b'z')) && letters.contains_u32(122));
     assert_eq!(&rt;
         Test::from(ClassBytesRange::new(0, 255)),
@@ -95,85 +102,76 @@ fn ranges_ascend_by_start_then_end(rt: HostRuntime) {
     let low = Test::new(1..=3);
     assert_eq!(&rt; order(&low, &Test::new(2..=2)), Ordering::Less);
     assert_eq!(&rt; order(&low, &Test::new(1..=2)), Ordering::Greater);
-    assert!(&rt;
-        equal(&low, &low.clone().expect(&rt, "memory")) && !equal(&low, &Test::new(1..=2))
-    );
-    assert_eq!(&rt; hash_of(&low), hash_of(&Test::new(1..=3)));
 }
 
-fn set_of(alloc: Global, ranges: &[(u32, u32)]) -> Result<BTreeSet<Test>, AllocError> {
+#[test]
+fn equal_ranges_have_one_hash(rt: HostRuntime) -> Result<(), AllocError> {
+    let low = Test::new(1..=3);
+    assert!(&rt; equal(&low, &low.clone()?) && !equal(&low, &Test::new(1..=2)));
+    assert_eq!(&rt; hash_of(&low), hash_of(&Test::new(1..=3)));
+    Ok(())
+}
+
+// Ranges, and the parts into which they cut one another: of characters with a hyphen, of numbers with two dots.
+const CUTS: &str = "
+a-j a-u f-h f-p => a-e f-h i-j k-p q-u
+a-z c-l 0-9 => 0-9 a-b c-l m-z
+a-z c-l l-z 0-9 => 0-9 a-b c-k l-l m-z
+b-b a-z => a-a b-b c-z
+0..4294967295 5..4294967295 => 0..4 5..4294967295
+0..0 0..97 => 0..0 1..97
+3..2 1..1 => 1..1
+0..4 5..9 => 0..4 5..9
+0..3 2..4 3..5 => 0..1 2..2 3..3 4..4 5..5
+0..9 2..7 4..5 => 0..1 2..3 4..5 6..7 8..9
+4294967295..4294967295 0..4294967295 7..3 => 0..4294967294 4294967295..4294967295
+";
+
+fn range_of(word: &str) -> Option<Test> {
+    if let Some((start, end)) = word.split_once("..") {
+        return Some(Test::new(start.parse::<u32>().ok()?..=end.parse::<u32>().ok()?));
+    }
+    let (start, end) = word.split_once('-')?;
+    Some(Test::inclusive_range(start.parse::<char>().ok()?, end.parse::<char>().ok()?))
+}
+
+fn ranges_of(rt: &impl Abort, alloc: Global, text: &str) -> Result<Vec<Test>, AllocError> {
+    let mut ranges = Vec::new(alloc);
+    for word in text.split_whitespace() {
+        ranges.push(range_of(word).expect(rt, "a range"))?;
+    }
+    Ok(ranges)
+}
+
+fn set_of(alloc: Global, ranges: Vec<Test>) -> Result<BTreeSet<Test>, AllocError> {
     let mut set = BTreeSet::new(alloc);
-    for (start, end) in ranges {
-        set.insert(Test::new(*start..=*end))?;
+    for range in ranges {
+        set.insert(range)?;
     }
     Ok(set)
 }
 
-fn ends_of_parts(alloc: Global, parts: &[Test]) -> Result<Vec<(u32, u32)>, AllocError> {
-    parts
-        .iter()
-        .map(|part| (part.start(), part.end()))
-        .collect(alloc)
+fn cut(rt: &(impl AllocGlobal + Abort), ranges: &str) -> Result<Vec<Test>, AllocError> {
+    let set = set_of(rt.alloc(), ranges_of(rt, rt.alloc(), ranges)?)?;
+    let parts = remove_overlap(rt.alloc(), &set)?;
+    let counted = remove_overlap_counted(rt.alloc(), &set, &mut Steps::new())?;
+    assert_eq!(rt; counted, parts, "of {ranges}");
+    Ok(parts)
 }
 
-#[test]
-fn cuts_letters(rt: HostRuntime) -> Result<(), AllocError> {
-    let rows: [(&[(char, char)], &[(char, char)]); 4] = [
-        (
-            &[('a', 'j'), ('a', 'u'), ('f', 'h'), ('f', 'p')],
-            &[('a', 'e'), ('f', 'h'), ('i', 'j'), ('k', 'p'), ('q', 'u')],
-        ),
-        (
-            &[('a', 'z'), ('c', 'l'), ('0', '9')],
-            &[('0', '9'), ('a', 'b'), ('c', 'l'), ('m', 'z')],
-        ),
-        (
-            &[('a', 'z'), ('c', 'l'), ('l', 'z'), ('0', '9')],
-            &[('0', '9'), ('a', 'b'), ('c', 'k'), ('l', 'l'), ('m', 'z')],
-        ),
-        (
-            &[('b', 'b'), ('a', 'z')],
-            &[('a', 'a'), ('b', 'b'), ('c', 'z')],
-        ),
-    ];
-    for (ranges, want) in &rows {
-        let mut set = BTreeSet::new(rt.alloc());
-        for (start, end) in *ranges {
-            set.insert(Test::inclusive_range(*start, *end))?;
-        }
-        let mut parts = Vec::new(rt.alloc());
-        for (start, end) in *want {
-            parts.push(Test::inclusive_range(*start, *end))?;
-        }
-        assert_eq!(&rt; remove_overlap(rt.alloc(), &set)?, parts);
-    }
+fn expect_parts(rt: &(impl AllocGlobal + Abort), row: &str) -> Result<(), AllocError> {
+    let (ranges, wanted) = row.split_once(" => ").expect(rt, "a row");
+    let wanted = ranges_of(rt, rt.alloc(), wanted)?;
+    assert_eq!(rt; cut(rt, ranges)?, wanted, "of {ranges}");
     Ok(())
 }
 
 #[test]
-fn cuts_numbers(rt: HostRuntime) -> Result<(), AllocError> {
-    let rows: [(&[(u32, u32)], &[(u32, u32)]); 8] = [
-        (&[], &[]),
-        (&[(0, MAX), (5, MAX)], &[(0, 4), (5, MAX)]),
-        (&[(0, 0), (0, 97)], &[(0, 0), (1, 97)]),
-        (&[(3, 2), (1, 1)], &[(1, 1)]),
-        (&[(0, 4), (5, 9)], &[(0, 4), (5, 9)]),
-        (
-            &[(0, 3), (2, 4), (3, 5)],
-            &[(0, 1), (2, 2), (3, 3), (4, 4), (5, 5)],
-        ),
-        (
-            &[(0, 9), (2, 7), (4, 5)],
-            &[(0, 1), (2, 3), (4, 5), (6, 7), (8, 9)],
-        ),
-        (&[(MAX, MAX), (0, MAX), (7, 3)], &[(0, MAX - 1), (MAX, MAX)]),
-    ];
-    for (ranges, want) in &rows {
-        let set = set_of(rt.alloc(), *ranges)?;
-        let parts = remove_overlap(rt.alloc(), &set)?;
-        assert_eq!(&rt; ends_of_parts(rt.alloc(), &parts)?.as_slice(), *want);
-        let counted = remove_overlap_counted(rt.alloc(), &set, &mut Steps::new())?;
-        assert_eq!(&rt; counted, parts);
+fn ranges_are_cut_into_parts(rt: HostRuntime) -> Result<(), AllocError> {
+    assert_eq!(rt; CUTS.trim().lines().count(), 11);
+    for row in CUTS.trim().lines() {
+        expect_parts(&rt, row)?;
     }
+    assert!(rt; cut(&rt, "")?.is_empty());
     Ok(())
 }

@@ -1,255 +1,216 @@
-//! The states and edges that trees are compiled to, what is refused, and a counted run.
+//! The states and edges that patterns are compiled to, what is refused, and a counted run.
 
 use lalrpop_lexer::lexer::nfa::interpret::interpret_counted;
 use lalrpop_lexer::lexer::nfa::{
     ACCEPT, EdgeLabel, Nfa, NfaConstructionError, NfaStateIndex, Noop, Other, REJECT, START,
     StateKind, Steps, Test,
 };
-use lalrpop_lexer::lexer::re::{
-    Capture, Class, ClassUnicode, ClassUnicodeRange, Hir, Look, Repetition,
-};
+use lalrpop_lexer::lexer::re::{Hir, RegexError, parse_regex};
 use std::alloc::{AllocError, Global};
-use std::process::Abort;
+use std::fmt::{Debug, Write};
 use std::test::Fail;
 
-fn repeated(
-    alloc: Global,
-    rt: &impl Abort,
-    min: u32,
-    max: Option<u32>,
-    sub: Hir,
-) -> Result<Hir, AllocError> {
-    assert!(rt; max.is_none_or(|max| min <= max));
-    let sub = Box::new(alloc, sub)?;
-    Ok(Hir::repetition(Repetition::new(min, max, true, sub)))
+fn tree_of(alloc: Global, pattern: &str) -> Result<Hir, RegexError> {
+    parse_regex(alloc, pattern)
 }
 
-fn lazy(alloc: Global, sub: Hir) -> Result<Hir, AllocError> {
-    let sub = Box::new(alloc, sub)?;
-    Ok(Hir::repetition(Repetition::new(1, Some(1), false, sub)))
+fn compiled(alloc: Global, tree: &Hir) -> Result<Nfa, NfaConstructionError> {
+    Nfa::from_re(alloc, tree)
 }
 
-fn unnamed(alloc: Global, sub: Hir) -> Result<Hir, AllocError> {
-    Ok(Hir::capture(Capture::new(None, Box::new(alloc, sub)?)))
+fn automaton(alloc: Global, pattern: &str) -> Result<Nfa, Fail> {
+    Ok(compiled(alloc, &tree_of(alloc, pattern)?)?)
 }
 
-fn named(alloc: Global, sub: Hir) -> Result<Hir, AllocError> {
-    let name = String::from_str(alloc, "n")?;
-    Ok(Hir::capture(Capture::new(Some(name), Box::new(alloc, sub)?)))
-}
+// How many states a pattern is compiled to, the three fixed ones included, or its fault.
+//
+// Each character and each class has a state. An alternation has one of its own, and so have the turns of a repetition without
+// limit, and each turn that may be left out. What is never repeated has none, and no fault.
+//
+// Of a concatenation the last faulty part counts, of an alternation the first faulty branch, and of a group with a name the name.
+const OUTCOMES: &str = "
+(?:) => 3
+a => 4
+é => 4
+a|b => 6
+a* => 5
+b{3,} => 8
+a{0} => 3
+ab{2,4} => 10
+(?:\\ba)(?P<n>b) => NamedCaptures
+(?:\\ba)|(?P<n>b) => LookAround
+a{1}? => NonGreedy
+(\\b) => LookAround
+(?P<n>\\b) => NamedCaptures
+(?P<n>\\b){0} => 3
+";
 
-fn pair(alloc: Global, first: Hir, second: Hir) -> Result<Vec<Hir>, AllocError> {
-    let mut subs = Vec::with_capacity(alloc, 2)?;
-    subs.push(first)?;
-    subs.push(second)?;
-    Ok(subs)
-}
-
-fn boundary() -> Hir {
-    Hir::look(Look::WordUnicode)
-}
-
-// `\ba` and a group with a name.
-fn boundary_then_named(alloc: Global) -> Result<Vec<Hir>, AllocError> {
-    let first = Hir::concat(pair(alloc, boundary(), Hir::literal(alloc, "a")?)?);
-    pair(alloc, first, named(alloc, Hir::literal(alloc, "b")?)?)
-}
-
-fn expect_len(rt: &impl Abort, alloc: Global, tree: Hir, len: usize) -> Result<(), Fail> {
-    let nfa = Nfa::from_re(alloc, &tree)?;
-    assert_eq!(rt; nfa.len(), len, "at {tree:?}");
-    Ok(())
-}
-
-fn expect_fault(
-    rt: &impl Abort,
-    alloc: Global,
-    tree: Hir,
-    fault: Option<NfaConstructionError>,
-) -> Result<(), Fail> {
-    assert_eq!(rt; Nfa::from_re(alloc, &tree).err(), fault, "at {tree:?}");
-    Ok(())
-}
-
-// The states to which the edges of one kind lead.
-fn targets<L: EdgeLabel>(
-    rt: &impl Abort,
-    alloc: Global,
-    nfa: &Nfa,
-    from: NfaStateIndex,
-) -> Result<Vec<NfaStateIndex>, AllocError> {
-    assert!(rt; nfa.contains_state(from));
-    nfa.edges::<L>(from).map(|edge| edge.to).collect(alloc)
-}
-
-fn expect_targets<L: EdgeLabel>(
-    rt: &impl Abort,
-    alloc: Global,
-    nfa: &Nfa,
-    from: NfaStateIndex,
-    wanted: &[NfaStateIndex],
-) -> Result<(), Fail> {
-    assert_eq!(rt; targets::<L>(rt, alloc, nfa, from)?.as_slice(), wanted);
-    Ok(())
-}
-
-fn expect_labels(
-    rt: &impl Abort,
-    alloc: Global,
-    nfa: &Nfa,
-    from: NfaStateIndex,
-    wanted: &[Test],
-) -> Result<(), Fail> {
-    assert!(rt; nfa.contains_state(from));
-    let mut labels = Vec::new(alloc);
-    for edge in nfa.edges::<Test>(from) {
-        labels.push(edge.label.clone()?)?;
+fn outcome(alloc: Global, pattern: &str) -> Result<String, Fail> {
+    match compiled(alloc, &tree_of(alloc, pattern)?) {
+        Ok(nfa) => {
+            let len = nfa.len();
+            Ok(format!(in alloc; "{len}")?)
+        }
+        Err(fault) => Ok(format!(in alloc; "{fault:?}")?),
     }
-    assert_eq!(rt; labels.as_slice(), wanted);
+}
+
+// Writes the row of the pattern, with what is found in place of what the row says.
+fn answer(out: &mut String, alloc: Global, row: &str) -> Result<(), Fail> {
+    if let Some((pattern, _)) = row.split_once(" => ") {
+        let outcome = outcome(alloc, pattern)?;
+        write!(out, "{pattern} => {outcome}\n")?;
+    }
     Ok(())
 }
 
-// The state to which START's one edge leads.
-fn entry_of(rt: &impl Abort, alloc: Global, nfa: &Nfa) -> Result<NfaStateIndex, Fail> {
-    let entries = targets::<Noop>(rt, alloc, nfa, START)?;
-    assert_eq!(rt; entries.len(), 1);
-    Ok(entries[0])
+#[test]
+fn patterns_have_so_many_states_or_a_fault(rt: HostRuntime) -> Result<(), Fail> {
+    let mut out = String::from_str(rt.alloc(), "\n")?;
+    for row in OUTCOMES.lines() {
+        answer(&mut out, rt.alloc(), row)?;
+    }
+    assert_eq!(rt; out.as_str(), OUTCOMES);
+    Ok(())
+}
+
+// Patterns, and below each the edges of its automaton. Nfa0 accepts, Nfa1 rejects, and Nfa2 is the start. The state of a
+// repetition without limit is made before those of its turns.
+const SHAPES: &str = "
+(?:)
+Nfa0 -Other-> Nfa1
+Nfa1 -Other-> Nfa1
+Nfa2 -Noop-> Nfa0
+
+a
+Nfa0 -Other-> Nfa1
+Nfa1 -Other-> Nfa1
+Nfa2 -Noop-> Nfa3
+Nfa3 -a-> Nfa0
+Nfa3 -Other-> Nfa1
+
+[0-9a-c]
+Nfa0 -Other-> Nfa1
+Nfa1 -Other-> Nfa1
+Nfa2 -Noop-> Nfa3
+Nfa3 -['0'..='9']-> Nfa0
+Nfa3 -['a'..='c']-> Nfa0
+Nfa3 -Other-> Nfa1
+
+a*
+Nfa0 -Other-> Nfa1
+Nfa1 -Other-> Nfa1
+Nfa2 -Noop-> Nfa3
+Nfa3 -Noop-> Nfa0
+Nfa3 -Noop-> Nfa4
+Nfa4 -a-> Nfa3
+Nfa4 -Other-> Nfa1
+";
+
+// Writes the edges of one kind that leave the state, a line each, and notes the states to which they lead.
+fn write_edges<L: EdgeLabel + Debug>(
+    out: &mut String,
+    reached: &mut Vec<NfaStateIndex>,
+    nfa: &Nfa,
+    from: NfaStateIndex,
+) -> Result<(), AllocError> {
+    if nfa.contains_state(from) {
+        for edge in nfa.edges::<L>(from) {
+            write!(out, "{edge:?}\n")?;
+            if !reached.contains(&edge.to) {
+                reached.push(edge.to)?;
+            }
+        }
+    }
+    Ok(())
+}
+
+// The edges of all kinds.
+fn write_all_edges(
+    out: &mut String,
+    reached: &mut Vec<NfaStateIndex>,
+    nfa: &Nfa,
+    from: NfaStateIndex,
+) -> Result<(), AllocError> {
+    write_edges::<Noop>(out, reached, nfa, from)?;
+    write_edges::<Test>(out, reached, nfa, from)?;
+    write_edges::<Other>(out, reached, nfa, from)
+}
+
+// Writes the edges of the three fixed states and of all that are reached from them.
+fn write_states(out: &mut String, nfa: &Nfa, alloc: Global) -> Result<(), AllocError> {
+    let mut reached = vec![in alloc; ACCEPT, REJECT, START]?;
+    for place in 0..nfa.len() {
+        if let Some(state) = reached.get(place).copied() {
+            write_all_edges(out, &mut reached, nfa, state)?;
+        }
+    }
+    Ok(())
+}
+
+// Writes the pattern, and below it the edges of its automaton.
+fn draw(out: &mut String, alloc: Global, pattern: &str) -> Result<(), Fail> {
+    let nfa = automaton(alloc, pattern)?;
+    write!(out, "\n{pattern}\n")?;
+    Ok(write_states(out, &nfa, alloc)?)
 }
 
 #[test]
-fn literals_have_a_state_for_each_character(rt: HostRuntime) -> Result<(), Fail> {
-    let alloc = rt.alloc();
-    expect_len(&rt, alloc, Hir::literal(alloc, "a")?, 4)?;
-    expect_len(&rt, alloc, Hir::literal(alloc, "é")?, 4)
+fn patterns_are_compiled_to_these_edges(rt: HostRuntime) -> Result<(), Fail> {
+    let mut out = String::new(rt.alloc());
+    for pattern in ["(?:)", "a", "[0-9a-c]", "a*"] {
+        draw(&mut out, rt.alloc(), pattern)?;
+    }
+    assert_eq!(rt; out.as_str(), SHAPES);
+    Ok(())
 }
 
-#[test]
-fn alternations_have_a_state_of_their_own(rt: HostRuntime) -> Result<(), Fail> {
-    let alloc = rt.alloc();
-    let branches = pair(alloc, Hir::literal(alloc, "a")?, Hir::literal(alloc, "b")?)?;
-    expect_len(&rt, alloc, Hir::alternation(branches), 6)
-}
-
-#[test]
-fn repetitions_without_limit_have_one_state_more(rt: HostRuntime) -> Result<(), Fail> {
-    let alloc = rt.alloc();
-    let star = repeated(alloc, &rt, 0, None, Hir::literal(alloc, "a")?)?;
-    expect_len(&rt, alloc, star, 5)?;
-    let several = repeated(alloc, &rt, 3, None, Hir::literal(alloc, "b")?)?;
-    expect_len(&rt, alloc, several, 8)
-}
-
-#[test]
-fn turns_that_may_be_left_out_have_one_state_more(rt: HostRuntime) -> Result<(), Fail> {
-    let alloc = rt.alloc();
-    let none = repeated(alloc, &rt, 0, Some(0), Hir::literal(alloc, "a")?)?;
-    expect_len(&rt, alloc, none, 3)?;
-    let several = repeated(alloc, &rt, 2, Some(4), Hir::literal(alloc, "b")?)?;
-    let parts = pair(alloc, Hir::literal(alloc, "a")?, several)?;
-    expect_len(&rt, alloc, Hir::concat(parts), 10)
-}
-
-#[test]
-fn the_last_faulty_part_and_the_first_faulty_branch_count(rt: HostRuntime) -> Result<(), Fail> {
-    use NfaConstructionError::{LookAround, NamedCaptures};
-    let alloc = rt.alloc();
-    let parts = Hir::concat(boundary_then_named(alloc)?);
-    expect_fault(&rt, alloc, parts, Some(NamedCaptures))?;
-    let branches = Hir::alternation(boundary_then_named(alloc)?);
-    expect_fault(&rt, alloc, branches, Some(LookAround))
-}
-
-#[test]
-fn lazy_repetitions_are_refused(rt: HostRuntime) -> Result<(), Fail> {
-    let alloc = rt.alloc();
-    let tree = lazy(alloc, Hir::literal(alloc, "a")?)?;
-    expect_fault(&rt, alloc, tree, Some(NfaConstructionError::NonGreedy))
-}
-
-#[test]
-fn named_groups_are_refused_for_their_names(rt: HostRuntime) -> Result<(), Fail> {
-    use NfaConstructionError::{LookAround, NamedCaptures};
-    let alloc = rt.alloc();
-    expect_fault(&rt, alloc, unnamed(alloc, boundary())?, Some(LookAround))?;
-    expect_fault(&rt, alloc, named(alloc, boundary())?, Some(NamedCaptures))
-}
-
-#[test]
-fn what_is_never_repeated_is_not_refused(rt: HostRuntime) -> Result<(), Fail> {
-    let alloc = rt.alloc();
-    let none = repeated(alloc, &rt, 0, Some(0), named(alloc, boundary())?)?;
-    expect_fault(&rt, alloc, none, None)
-}
-
-#[test]
-fn a_class_is_one_state(rt: HostRuntime) -> Result<(), Fail> {
-    let alloc = rt.alloc();
-    let mut ranges = Vec::new(alloc);
-    ranges.push(ClassUnicodeRange::new('0', '9'))?;
-    ranges.push(ClassUnicodeRange::new('a', 'c'))?;
-    let class = Hir::class(Class::Unicode(ClassUnicode::new(alloc, ranges)?));
-    let nfa = Nfa::from_re(alloc, &class)?;
-    let entry = entry_of(&rt, alloc, &nfa)?;
-    let labels = [
-        Test::inclusive_range('0', '9'),
-        Test::inclusive_range('a', 'c'),
-    ];
-    expect_labels(&rt, alloc, &nfa, entry, &labels)?;
-    expect_targets::<Test>(&rt, alloc, &nfa, entry, &[ACCEPT, ACCEPT])?;
-    expect_targets::<Other>(&rt, alloc, &nfa, entry, &[REJECT])?;
-    expect_targets::<Noop>(&rt, alloc, &nfa, entry, &[])
-}
-
-#[test]
-fn turns_lead_back(rt: HostRuntime) -> Result<(), Fail> {
-    let alloc = rt.alloc();
-    let star = repeated(alloc, &rt, 0, None, Hir::literal(alloc, "a")?)?;
-    let nfa = Nfa::from_re(alloc, &star)?;
-    let entry = entry_of(&rt, alloc, &nfa)?;
-    let ways = targets::<Noop>(&rt, alloc, &nfa, entry)?;
-    assert_eq!(rt; ways.len(), 2);
-    assert_eq!(rt; ways[0], ACCEPT);
-    let turn = ways[1];
-    expect_labels(&rt, alloc, &nfa, turn, &[Test::char('a')])?;
-    expect_targets::<Test>(&rt, alloc, &nfa, turn, &[entry])
+fn has_its_fixed_states(nfa: &Nfa) -> bool {
+    nfa.contains_state(START)
+        && nfa.is_accepting_state(ACCEPT)
+        && nfa.is_rejecting_state(REJECT)
+        && nfa.kind(START) == StateKind::Neither
 }
 
 #[test]
 fn the_fixed_states_are_what_they_are_for(rt: HostRuntime) -> Result<(), Fail> {
-    let alloc = rt.alloc();
-    let nfa = Nfa::from_re(alloc, &Hir::empty())?;
-    assert_eq!(rt; nfa.len(), 3);
-    assert!(rt; nfa.contains_state(START));
-    assert!(rt; nfa.is_accepting_state(ACCEPT) && nfa.is_rejecting_state(REJECT));
-    assert_eq!(rt; nfa.kind(START), StateKind::Neither);
-    expect_targets::<Noop>(&rt, alloc, &nfa, START, &[ACCEPT])
+    assert!(rt; has_its_fixed_states(&automaton(rt.alloc(), "")?));
+    Ok(())
 }
 
-#[test]
-fn the_fixed_states_have_one_edge_each(rt: HostRuntime) -> Result<(), Fail> {
-    let alloc = rt.alloc();
-    let nfa = Nfa::from_re(alloc, &Hir::literal(alloc, "a")?)?;
-    for state in [ACCEPT, REJECT] {
-        expect_targets::<Noop>(&rt, alloc, &nfa, state, &[])?;
-        expect_targets::<Test>(&rt, alloc, &nfa, state, &[])?;
-        expect_targets::<Other>(&rt, alloc, &nfa, state, &[REJECT])?;
+fn counted<'t>(
+    alloc: Global,
+    nfa: &Nfa,
+    steps: &mut Steps,
+    text: &'t str,
+) -> Result<Option<&'t str>, AllocError> {
+    interpret_counted(alloc, nfa, text, steps)
+}
+
+// Writes the texts, one under another, with what is found in each.
+fn write_counted(
+    out: &mut String,
+    alloc: Global,
+    nfa: &Nfa,
+    texts: &str,
+) -> Result<(), AllocError> {
+    let mut steps = Steps::new();
+    for text in texts.split_whitespace() {
+        let found = counted(alloc, nfa, &mut steps, text)?;
+        write!(out, "{text} => {found:?}\n")?;
     }
-    let entry = entry_of(&rt, alloc, &nfa)?;
-    assert_eq!(rt; format!(in alloc; "{entry:?}")?.as_str(), "Nfa3");
-    expect_targets::<Test>(&rt, alloc, &nfa, START, &[])?;
-    expect_targets::<Other>(&rt, alloc, &nfa, START, &[])
+    Ok(())
 }
 
 #[test]
 fn counting_leaves_the_answer(rt: HostRuntime) -> Result<(), Fail> {
-    let alloc = rt.alloc();
-    let letters = repeated(alloc, &rt, 2, Some(4), Hir::literal(alloc, "b")?)?;
-    let tree = Hir::concat(pair(alloc, Hir::literal(alloc, "a")?, letters)?);
-    let nfa = Nfa::from_re(alloc, &tree)?;
-    let mut steps = Steps::new();
-    for (text, wanted) in [("abbbbb", Some("abbbb")), ("ab", None)] {
-        let found = interpret_counted(alloc, &nfa, text, &mut steps)?;
-        assert_eq!(rt; found, wanted, "in {text}");
-    }
+    let mut out = String::new(rt.alloc());
+    write_counted(
+        &mut out,
+        rt.alloc(),
+        &automaton(rt.alloc(), "ab{2,4}")?,
+        "abbbbb ab",
+    )?;
+    assert_eq!(rt; out.as_str(), "abbbbb => Some(\"abbbb\")\nab => None\n");
     Ok(())
 }
