@@ -1,202 +1,157 @@
 //! Automata of one tree and of many: built, copied and run, and the partition of ranges.
 
-use crate::calls::{made, settles};
-use lalrpop_hir::{Capture, Hir, Look, Repetition};
+use crate::calls::{Call, add, at_last, expect, expect_answer, halves};
+use crate::trees;
+use lalrpop_hir::Hir;
 use lalrpop_lexer::lexer::dfa::interpret::interpret;
 use lalrpop_lexer::lexer::dfa::overlap::{remove_overlap, remove_overlap_counted};
-use lalrpop_lexer::lexer::dfa::{Dfa, DfaConstructionError, Precedence, build_dfa};
+use lalrpop_lexer::lexer::dfa::{Dfa, DfaConstructionError, Precedence, State, build_dfa};
 use lalrpop_lexer::lexer::nfa::{self, Nfa, NfaConstructionError, Steps, Test};
-use lalrpop_re::{RegexError, parse_regex};
 use std::alloc::{AllocError, Global};
 use std::collections::BTreeSet;
 use std::env::{self, VarError};
 use std::process::Abort;
 
-const MAX: u32 = u32::MAX;
+fn tree_of(rt: &impl Abort, alloc: Global, pattern: &str) -> Hir {
+    at_last!(rt; trees::read(alloc, pattern)).expect(rt, "a pattern")
+}
 
-fn tree_of(alloc: Global, pattern: &str) -> Result<Hir, AllocError> {
-    match parse_regex(alloc, pattern) {
-        Ok(tree) => Ok(tree),
-        Err(_) => Err(AllocError),
+fn compile(alloc: Global, tree: &Hir) -> Result<Nfa, NfaConstructionError> {
+    Nfa::from_re(alloc, tree)
+}
+
+fn fault(alloc: Global, error: NfaConstructionError) -> Result<String, AllocError> {
+    match error {
+        NfaConstructionError::OutOfMemory => Err(AllocError),
+        fault => format!(in alloc; "{fault}"),
     }
 }
 
-// Whether the tree is compiled, or its fault.
-fn fault_of(
-    compiled: Result<Nfa, NfaConstructionError>,
-) -> Result<Option<NfaConstructionError>, AllocError> {
-    match compiled {
-        Ok(_) => Ok(None),
-        Err(NfaConstructionError::OutOfMemory) => Err(AllocError),
-        Err(fault) => Ok(Some(fault)),
+fn compiled_or_fault(alloc: Global, tree: &Hir) -> Result<String, AllocError> {
+    match compile(alloc, tree) {
+        Ok(_) => String::from_str(alloc, "compiled"),
+        Err(error) => fault(alloc, error),
     }
 }
 
-#[test]
-fn one_tree_is_compiled_or_refused(rt: HostRuntime) {
-    use NfaConstructionError::{LookAround, NamedCaptures, NonGreedy};
-    let alloc = rt.alloc();
-    let rows = [
-        ("(a*)*", None),
-        ("(abc)*", None),
-        ("(?:\\b){0}a", None),
-        ("(?:\\b){0}?a", Some(NonGreedy)),
-        ("\\ba(?P<n>b)", Some(NamedCaptures)),
-        ("\\ba|(?P<n>b)", Some(LookAround)),
-        ("ab{2,4}", None),
-        (".", None),
-    ];
-    for (pattern, fault) in rows {
-        let tree = made(&rt, || tree_of(alloc, pattern));
-        settles(&rt, pattern, || {
-            Ok(fault_of(Nfa::from_re(alloc, &tree))? == fault)
-        });
-    }
+pub(crate) fn compiled(
+    rt: &impl Abort,
+    alloc: Global,
+    pattern: &str,
+) -> Result<String, AllocError> {
+    let tree = tree_of(rt, alloc, pattern);
+    Ok(at_last!(rt; compiled_or_fault(alloc, &tree)))
 }
 
-// No memory holds the states of so many turns. `.ci/refusals` bounds the memory, and sets this variable; without it the
-// test has nothing to show.
-#[test]
-fn a_great_count_is_refused(rt: HostRuntime) {
-    if matches!(env::var(&rt, "REFUSE"), Err(VarError::NotPresent)) {
-        return;
-    }
-    let alloc = rt.alloc();
-    let tree = made(&rt, || tree_of(alloc, "a{4294967295}"));
-    assert!(rt; fault_of(Nfa::from_re(alloc, &tree)).is_err());
-}
-
-fn nfa_of(alloc: Global, pattern: &str) -> Result<Nfa, AllocError> {
-    match Nfa::from_re(alloc, &tree_of(alloc, pattern)?) {
+// Any fault is told as want of memory.
+pub(crate) fn nfa_of(alloc: Global, tree: &Hir) -> Result<Nfa, AllocError> {
+    match compile(alloc, tree) {
         Ok(nfa) => Ok(nfa),
         Err(_) => Err(AllocError),
     }
 }
 
-#[test]
-fn one_tree_is_run(rt: HostRuntime) {
-    let alloc = rt.alloc();
-    let rows = [
-        ("(a*)*", "aab", Some("aa")),
-        ("(abc)*", "abcabcabcab", Some("abcabcabc")),
-        ("ab{2,4}", "abbbbb", Some("abbbb")),
-        ("ab{2,4}", "ab", None),
-        (".", "\n", None),
-    ];
-    for (pattern, text, found) in rows {
-        let nfa = made(&rt, || nfa_of(alloc, pattern));
-        settles(&rt, pattern, || {
-            Ok(nfa::interpret::interpret(alloc, &nfa, text)? == found)
-        });
-        settles(&rt, pattern, || {
-            let mut steps = Steps::new();
-            Ok(nfa::interpret::interpret_counted(alloc, &nfa, text, &mut steps)? == found)
-        });
+fn nfa_for(rt: &impl Abort, alloc: Global, pattern: &str) -> Nfa {
+    let tree = tree_of(rt, alloc, pattern);
+    at_last!(rt; nfa_of(alloc, &tree))
+}
+
+fn run<'a>(
+    alloc: Global,
+    nfa: &Nfa,
+    text: &'a str,
+    counts: bool,
+) -> Result<Option<&'a str>, AllocError> {
+    if counts {
+        nfa::interpret::interpret_counted(alloc, nfa, text, &mut Steps::new())
+    } else {
+        nfa::interpret::interpret(alloc, nfa, text)
     }
 }
 
-fn has_ends(tests: &[Test], ends: &[(u32, u32)]) -> bool {
-    tests.len() == ends.len()
-        && tests.iter().zip(ends).all(|(test, (start, end))| test.start() == *start
-            && test.end() == *end)
+// What the automaton of the pattern in `PATTERN / TEXT` finds in the text.
+pub(crate) fn found(
+    rt: &impl Abort,
+    alloc: Global,
+    row: &str,
+    counts: bool,
+) -> Result<String, AllocError> {
+    let (pattern, text) = halves(rt, row, " / ");
+    let nfa = nfa_for(rt, alloc, pattern);
+    let found = at_last!(rt; run(alloc, &nfa, text, counts));
+    String::from_str(alloc, found.unwrap_or("none"))
 }
 
-#[test]
-fn ranges_are_cut(rt: HostRuntime) {
-    let alloc = rt.alloc();
-    let rows: [(&[(u32, u32)], &[(u32, u32)]); 9] = [
-        (
-            &[(97, 106), (97, 117), (102, 104), (102, 112)],
-            &[(97, 101), (102, 104), (105, 106), (107, 112), (113, 117)],
-        ),
-        (&[(0, MAX), (5, MAX)], &[(0, 4), (5, MAX)]),
-        (&[(0, 0), (0, 97)], &[(0, 0), (1, 97)]),
-        (&[(3, 2), (1, 1)], &[(1, 1)]),
-        (&[], &[]),
-        (
-            &[(97, 122), (99, 108), (48, 57)],
-            &[(48, 57), (97, 98), (99, 108), (109, 122)],
-        ),
-        (
-            &[(97, 122), (99, 108), (108, 122), (48, 57)],
-            &[(48, 57), (97, 98), (99, 107), (108, 108), (109, 122)],
-        ),
-        (
-            &[(0, 3), (2, 4), (3, 5)],
-            &[(0, 1), (2, 2), (3, 3), (4, 4), (5, 5)],
-        ),
-        (&[(98, 98), (97, 122)], &[(97, 97), (98, 98), (99, 122)]),
-    ];
-    for (ranges, parts) in rows {
-        let set = made(&rt, || {
-            let mut set = BTreeSet::new(alloc);
-            for (start, end) in ranges {
-                set.insert(Test::new(*start..=*end))?;
-            }
-            Ok(set)
-        });
-        settles(
-            &rt,
-            "parts",
-            || Ok(has_ends(&remove_overlap(alloc, &set)?, parts)),
-        );
-        settles(&rt, "counted parts", || {
-            let mut steps = Steps::new();
-            Ok(has_ends(&remove_overlap_counted(alloc, &set, &mut steps)?, parts))
-        });
+fn number(rt: &impl Abort, digits: &str) -> u32 {
+    digits.parse().ok().expect(rt, "a number")
+}
+
+// The set of ranges such as `97-106`, with blanks between them.
+fn set_of(rt: &impl Abort, alloc: Global, ranges: &str) -> Result<BTreeSet<Test>, AllocError> {
+    let mut set = BTreeSet::new(alloc);
+    for range in ranges.split_whitespace() {
+        let (start, end) = halves(rt, range, "-");
+        set.insert(Test::new(number(rt, start)..=number(rt, end)))?;
+    }
+    Ok(set)
+}
+
+fn shown(alloc: Global, parts: &[Test]) -> Result<String, AllocError> {
+    if parts.is_empty() {
+        return String::from_str(alloc, "none");
+    }
+    let mut line = String::new(alloc);
+    for part in parts {
+        let (start, end) = (part.start(), part.end());
+        add(&mut line, " ", format!(in alloc; "{start}-{end}")?.as_str())?;
+    }
+    Ok(line)
+}
+
+fn cut(alloc: Global, set: &BTreeSet<Test>, counts: bool) -> Result<Vec<Test>, AllocError> {
+    if counts {
+        remove_overlap_counted(alloc, set, &mut Steps::new())
+    } else {
+        remove_overlap(alloc, set)
     }
 }
 
-fn trees_of(alloc: Global, patterns: &[(&str, usize)]) -> Result<Vec<Hir>, AllocError> {
+// The parts that the ranges are cut into.
+pub(crate) fn parts(
+    rt: &impl Abort,
+    alloc: Global,
+    ranges: &str,
+    counts: bool,
+) -> Result<String, AllocError> {
+    let set = at_last!(rt; set_of(rt, alloc, ranges));
+    let parts = at_last!(rt; cut(alloc, &set, counts));
+    shown(alloc, &parts)
+}
+
+// The trees of `PRECEDENCE PATTERN`s, with ` / ` between them.
+fn trees_of(rt: &impl Abort, alloc: Global, rows: &str) -> Result<Vec<Hir>, AllocError> {
     let mut trees = Vec::new(alloc);
-    for (pattern, _) in patterns {
-        trees.push(tree_of(alloc, *pattern)?)?;
+    for row in rows.split(" / ") {
+        let (_, pattern) = halves(rt, row, " ");
+        trees.push(tree_of(rt, alloc, pattern))?;
     }
     Ok(trees)
 }
 
 fn precedences_of(
+    rt: &impl Abort,
     alloc: Global,
-    patterns: &[(&str, usize)],
+    rows: &str,
 ) -> Result<Vec<Precedence>, AllocError> {
     let mut precedences = Vec::new(alloc);
-    for (_, precedence) in patterns {
-        precedences.push(Precedence(*precedence))?;
+    for row in rows.split(" / ") {
+        let (precedence, _) = halves(rt, row, " ");
+        precedences.push(Precedence(number(rt, precedence) as usize))?;
     }
     Ok(precedences)
 }
 
-// What building an automaton and running it over a text can answer.
-#[derive(PartialEq, Drop)]
-enum Answer {
-    Token(usize, usize),
-    NoToken,
-    Clash(usize, usize),
-    Fault(usize, NfaConstructionError),
-}
-
-fn first_token(dfa: &Dfa, text: &str) -> Answer {
-    match interpret(dfa, text) {
-        Some((index, matched)) => Answer::Token(index.index(), matched.len()),
-        None => Answer::NoToken,
-    }
-}
-
-// The refusal for want of memory is one alone: that it came while a tree was compiled would be told as a fault.
-fn answer_of(built: &Result<Dfa, DfaConstructionError>, text: &str) -> Result<Answer, AllocError> {
-    match built {
-        Ok(dfa) => Ok(first_token(dfa, text)),
-        Err(DfaConstructionError::NfaConstructionError { index, error }) => {
-            Ok(Answer::Fault(index.index(), *error))
-        }
-        Err(DfaConstructionError::Ambiguity { match0, match1, .. }) => {
-            Ok(Answer::Clash(match0.index(), match1.index()))
-        }
-        Err(DfaConstructionError::OutOfMemory) => Err(AllocError),
-    }
-}
-
-fn built(
+fn build(
     rt: &impl Abort,
     alloc: Global,
     trees: &[Hir],
@@ -206,76 +161,180 @@ fn built(
     build_dfa(alloc, trees, precedences)
 }
 
-fn expect_built(
-    rt: &(impl AllocGlobal + Abort),
-    patterns: &[(&str, usize)],
-    texts: &[(&str, Answer)],
-) {
-    let alloc = rt.alloc();
-    let trees = made(rt, || trees_of(alloc, patterns));
-    let precedences = made(rt, || precedences_of(alloc, patterns));
-    settles(rt, "an automaton of many trees", || {
-        let found = built(rt, alloc, &trees, &precedences);
-        for (text, answer) in texts {
-            if answer_of(&found, *text)? != *answer {
-                return Ok(false);
+// The number of the pattern that is found, and what it matches, for each of the texts.
+fn tokens_of(alloc: Global, dfa: &Dfa, texts: &str) -> Result<String, AllocError> {
+    let mut line = String::new(alloc);
+    for text in texts.split(" / ") {
+        match interpret(dfa, text) {
+            Some((index, matched)) => {
+                let index = index.index();
+                add(
+                    &mut line,
+                    " / ",
+                    format!(in alloc; "{index} {matched}")?.as_str(),
+                )?;
             }
+            None => add(&mut line, " / ", "none")?,
         }
-        Ok(true)
-    });
+    }
+    Ok(line)
 }
 
-const WORDS: [(&str, usize); 6] = [
-    ("class", 1),
-    ("[a-zA-Z_][a-zA-Z0-9_]*", 0),
-    ("[0-9]+", 0),
-    (" +", 0),
-    (">>", 0),
-    (">", 0),
-];
+// The refusal for want of memory is one alone: that it came while a tree was compiled would be told as a fault.
+fn told(alloc: Global, error: DfaConstructionError) -> Result<String, AllocError> {
+    match error {
+        DfaConstructionError::NfaConstructionError { index, error } => {
+            let index = index.index();
+            format!(in alloc; "refused {index} {error}")
+        }
+        DfaConstructionError::Ambiguity { match0, match1, .. } => {
+            let (match0, match1) = (match0.index(), match1.index());
+            format!(in alloc; "clash {match0} {match1}")
+        }
+        DfaConstructionError::OutOfMemory => Err(AllocError),
+    }
+}
+
+fn tokens_or_error(
+    rt: &impl Abort,
+    alloc: Global,
+    trees: &[Hir],
+    precedences: &[Precedence],
+    texts: &str,
+) -> Result<String, AllocError> {
+    match build(rt, alloc, trees, precedences) {
+        Ok(dfa) => tokens_of(alloc, &dfa, texts),
+        Err(error) => told(alloc, error),
+    }
+}
+
+// What the automaton of the patterns in `PATTERNS <- TEXTS` finds in the texts, or why there is none.
+pub(crate) fn tokens(rt: &impl Abort, alloc: Global, row: &str) -> Result<String, AllocError> {
+    let (rows, texts) = halves(rt, row, " <- ");
+    let trees = at_last!(rt; trees_of(rt, alloc, rows));
+    let precedences = at_last!(rt; precedences_of(rt, alloc, rows));
+    Ok(at_last!(rt; tokens_or_error(rt, alloc, &trees, &precedences, texts)))
+}
+
+#[test]
+fn one_tree_is_compiled_or_refused(rt: HostRuntime) {
+    let table = "\
+(a*)* => compiled
+(abc)* => compiled
+(?:\\b){0}a => compiled
+(?:\\b){0}?a => NonGreedy
+\\ba(?P<n>b) => NamedCaptures
+\\ba|(?P<n>b) => LookAround
+ab{2,4} => compiled
+. => compiled";
+    expect(&rt, rt.alloc(), Call::Compile, table, 8);
+}
+
+// No memory holds the states of so many turns. `.ci/refusals` bounds the memory, and sets this variable; without it the
+// test has nothing to show.
+#[test]
+fn a_great_count_is_refused(rt: HostRuntime) {
+    if matches!(env::var(&rt, "REFUSE"), Err(VarError::NotPresent)) {
+        return;
+    }
+    let tree = tree_of(&rt, rt.alloc(), "a{4294967295}");
+    assert!(rt; compiled_or_fault(rt.alloc(), &tree).is_err());
+}
+
+const RUNS: &str = "\
+(a*)* / aab => aa
+(abc)* / abcabcabcab => abcabcabc
+ab{2,4} / abbbbb => abbbb
+ab{2,4} / ab => none";
+
+#[test]
+fn one_tree_is_run(rt: HostRuntime) {
+    for call in [Call::Run, Call::CountedRun] {
+        expect(&rt, rt.alloc(), call, RUNS, 4);
+        expect_answer(&rt, rt.alloc(), call, ". / \n", "none");
+    }
+}
+
+const PARTS: &str = "\
+97-106 97-117 102-104 102-112 => 97-101 102-104 105-106 107-112 113-117
+0-4294967295 5-4294967295 => 0-4 5-4294967295
+0-0 0-97 => 0-0 1-97
+3-2 1-1 => 1-1
+ => none
+97-122 99-108 48-57 => 48-57 97-98 99-108 109-122
+97-122 99-108 108-122 48-57 => 48-57 97-98 99-107 108-108 109-122
+0-3 2-4 3-5 => 0-1 2-2 3-3 4-4 5-5
+98-98 97-122 => 97-97 98-98 99-122";
+
+#[test]
+fn ranges_are_cut(rt: HostRuntime) {
+    for call in [Call::Cut, Call::CountedCut] {
+        expect(&rt, rt.alloc(), call, PARTS, 9);
+    }
+}
+
+const WORDS: &str = "1 class / 0 [a-zA-Z_][a-zA-Z0-9_]* / 0 [0-9]+ / 0  + / 0 >> / 0 >";
 
 #[test]
 fn many_trees_are_built(rt: HostRuntime) {
-    let texts = [
-        ("class Foo", Answer::Token(0, 5)),
-        ("classz Foo", Answer::Token(1, 6)),
-        (">>", Answer::Token(4, 2)),
-        (">a", Answer::Token(5, 1)),
-    ];
-    expect_built(&rt, &WORDS, &texts);
+    let table = "\
+1 class / 0 [a-zA-Z_][a-zA-Z0-9_]* / 0 [0-9]+ / 0  + / 0 >> / 0 > <- class Foo / classz Foo / >> / >a \
+=> 0 class / 1 classz / 4 >> / 5 >";
+    expect(&rt, rt.alloc(), Call::Build, table, 1);
 }
 
 #[test]
 fn many_trees_clash(rt: HostRuntime) {
-    let surrogates = [
-        ("(?s).", 0),
-        ("(?s).", 0),
-        ("[\\x{0}-\\x{D7FF}]", 1),
-        ("[\\x{E000}-\\x{10FFFF}]", 1),
-    ];
-    expect_built(&rt, &surrogates, &[("", Answer::Clash(1, 0))]);
-    let shorter = [("aa", 0), ("aa", 0), ("b", 0), ("b", 0)];
-    expect_built(&rt, &shorter, &[("", Answer::Clash(3, 2))]);
+    let table = "\
+0 (?s). / 0 (?s). / 1 [\\x{0}-\\x{D7FF}] / 1 [\\x{E000}-\\x{10FFFF}] <-  => clash 1 0
+0 aa / 0 aa / 0 b / 0 b <-  => clash 3 2";
+    expect(&rt, rt.alloc(), Call::Build, table, 2);
 }
 
 #[test]
 fn many_trees_are_refused(rt: HostRuntime) {
-    let patterns = [("a", 0), ("a", 0), ("b??", 0), ("\\bc", 0)];
-    let fault = Answer::Fault(2, NfaConstructionError::NonGreedy);
-    expect_built(&rt, &patterns, &[("", fault)]);
+    let table = "0 a / 0 a / 0 b?? / 0 \\bc <-  => refused 2 NonGreedy";
+    expect(&rt, rt.alloc(), Call::Build, table, 1);
+}
+
+// Any error is told as want of memory.
+pub(crate) fn built(
+    rt: &impl Abort,
+    alloc: Global,
+    trees: &[Hir],
+    precedences: &[Precedence],
+) -> Result<Dfa, AllocError> {
+    match build(rt, alloc, trees, precedences) {
+        Ok(dfa) => Ok(dfa),
+        Err(_) => Err(AllocError),
+    }
+}
+
+fn dfa_for(rt: &impl Abort, alloc: Global, rows: &str) -> Dfa {
+    let trees = at_last!(rt; trees_of(rt, alloc, rows));
+    let precedences = at_last!(rt; precedences_of(rt, alloc, rows));
+    at_last!(rt; built(rt, alloc, &trees, &precedences))
+}
+
+fn equals_its_copy(dfa: &Dfa) -> Result<bool, AllocError> {
+    Ok(dfa.clone()? == *dfa)
+}
+
+fn state_equals_its_copy(state: &State) -> Result<bool, AllocError> {
+    Ok(state.clone()? == *state)
+}
+
+fn expect_copies(rt: &impl Abort, dfa: &Dfa) {
+    assert!(rt; at_last!(rt; equals_its_copy(dfa)));
+    for state in dfa.states() {
+        assert!(rt; at_last!(rt; state_equals_its_copy(state)));
+    }
 }
 
 #[test]
 fn automata_are_copied(rt: HostRuntime) {
-    let alloc = rt.alloc();
-    let trees = made(&rt, || trees_of(alloc, &WORDS));
-    let precedences = made(&rt, || precedences_of(alloc, &WORDS));
-    let dfa = made(&rt, || {
-        built(&rt, alloc, &trees, &precedences).map_err(|_| AllocError)
-    });
-    settles(&rt, "a copy", || Ok(dfa.clone()? == dfa));
-    for state in dfa.states() {
-        settles(&rt, "a copy of a state", || Ok(state.clone()? == *state));
-    }
-    assert!(rt; first_token(&dfa, "classz Foo") == Answer::Token(1, 6));
+    let dfa = dfa_for(&rt, rt.alloc(), WORDS);
+    expect_copies(&rt, &dfa);
+    let found = at_last!(&rt; tokens_of(rt.alloc(), &dfa, "classz Foo"));
+    assert_eq!(rt; found.as_str(), "1 classz");
 }

@@ -3,7 +3,7 @@
 ghost use Rattle.std.specs.Prelude.{ℕ};
 ghost use Rattle.lalrpop_lexer.specs.Kernels.{ClonesEqual};
 
-use crate::calls::made;
+use crate::calls::at_last;
 use lalrpop_lexer::kernel_set::{Kernel, KernelSet};
 use std::alloc::{AllocError, Global};
 use std::process::Abort;
@@ -66,9 +66,10 @@ fn add<K: OfNumber>(
 )
     requires { ClonesEqual K.cmp K.is_clone }
 {
-    let added = match set.add_state(made(rt, || K::of_number(alloc, kernel))) {
+    let first = set.add_state(at_last!(rt; K::of_number(alloc, kernel)));
+    let added = match first {
         Ok(added) => Ok(added),
-        Err(AllocError) => set.add_state(made(rt, || K::of_number(alloc, kernel))),
+        Err(AllocError) => set.add_state(at_last!(rt; K::of_number(alloc, kernel))),
     };
     assert!(rt; added == Ok(number), "{kernel}");
 }
@@ -77,14 +78,11 @@ fn add<K: OfNumber>(
 fn take<K: OfNumber>(rt: &impl Abort, alloc: Global, set: &mut KernelSet<K>, kernel: Option<u32>)
     requires { ClonesEqual K.cmp K.is_clone }
 {
-    let taken = match set.next() {
-        Ok(taken) => taken,
-        Err(AllocError) => set.next().expect(rt, "memory is there again"),
-    };
+    let taken = at_last!(rt; set.next());
     match (taken, kernel) {
         (Some(taken), Some(kernel)) => {
             assert!(rt;
-                taken == made(rt, || K::of_number(alloc, kernel)),
+                taken == at_last!(rt; K::of_number(alloc, kernel)),
                 "{kernel}"
             );
         }

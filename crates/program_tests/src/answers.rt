@@ -1,104 +1,104 @@
 //! The line and the status that lines of terminals and a text are answered by.
 
+use crate::rows::{bytes, halves, number};
 use lexdfa_lib::{Watched, run};
+use std::alloc::Global;
 use std::process::Abort;
-use std::test::Fail;
+use std::str;
 
-// The line and the status for this input and text.
-fn answered(
-    rt: &(impl AllocGlobal + Abort),
-    input: &[u8],
-    text: &str,
-    line: &str,
-    status: u8,
-) -> Result<(), Fail> {
+fn is_line(written: &[u8], line: &str) -> bool {
+    match str::from_utf8(written) {
+        Ok(written) => match written.strip_suffix('\n') {
+            Some(written) => written == line,
+            None => false,
+        },
+        Err(_) => false,
+    }
+}
+
+// The status for this input and text, where the line and a line feed are written.
+fn status_of(rt: &impl Abort, alloc: Global, input: &[u8], text: &str, line: &str) -> Option<u8> {
     let mut reader = Watched::new(input);
-    let mut writer = Watched::new(Vec::new(rt.alloc()));
-    let outcome = run(rt.alloc(), &mut reader, text, &mut writer)?;
-    assert_eq!(rt; outcome.status(), status, "the status of {text}");
-    assert!(rt; !reader.failed());
-    assert!(rt; !writer.failed());
-    let written = writer.into_inner();
-    assert_eq!(rt; written.as_slice(), line.as_bytes(), "the line of {text}");
-    Ok(())
+    let mut writer = Watched::new(Vec::new(alloc));
+    let result = run(alloc, &mut reader, text, &mut writer);
+    assert!(rt; !reader.failed() && !writer.failed());
+    assert!(rt; is_line(&writer.into_inner(), line), "{text}");
+    match result {
+        Ok(outcome) => Some(outcome.status()),
+        Err(_) => None,
+    }
+}
+
+// Rows `INPUT / TEXT => LINE, STATUS`.
+fn expect(rt: &impl Abort, alloc: Global, table: &str, rows: usize) {
+    let mut read = 0usize;
+    for row in table.lines() {
+        let (argument, answer) = halves(rt, row, " => ");
+        let (input, text) = halves(rt, argument, " / ");
+        let (line, status) = halves(rt, answer, ", ");
+        let input = bytes(alloc, input).expect(rt, "bytes");
+        let found = status_of(rt, alloc, &input, text, line);
+        assert!(rt; found == Some(number(rt, status)), "{row}");
+        read = read.saturating_add(1);
+    }
+    assert_eq!(rt; read, rows);
 }
 
 #[test]
-fn literals_are_answered(rt: HostRuntime) -> Result<(), Fail> {
-    let rows: [(&[u8], &str, &str, u8); 11] = [
-        (b"0 l abc\n0 l abcd", "abcde", "match 1 4\n", 0),
-        (b"", "a", "none\n", 1),
-        (b"0 l \n", "a", "none\n", 1),
-        (b"0 l a\r\n", "a", "none\n", 1),
-        (b"18446744073709551615 l a\n", "a", "match 0 1\n", 0),
-        (b"00000000000000000000 l a\n", "a", "match 0 1\n", 0),
-        (b"0 l a\n0 l a\n", "b", "ambiguous 1 0\n", 2),
-        (b"0 l \xc3\xa9\n", "\u{e9}!", "match 0 2\n", 0),
-        (b"0 l  a\n", " a", "match 0 2\n", 0),
-        (b"0 l (\n", "(", "match 0 1\n", 0),
-        (b"01 l class\n0 l classic", "classz", "match 0 5\n", 0),
-    ];
-    for (input, text, line, status) in rows {
-        answered(&rt, input, text, line, status)?;
-    }
-    Ok(())
+fn literals_are_answered(rt: HostRuntime) {
+    let table = "\
+0 l abc;0 l abcd / abcde => match 1 4, 0
+ / a => none, 1
+0 l ; / a => none, 1
+0 l a\r; / a => none, 1
+18446744073709551615 l a; / a => match 0 1, 0
+00000000000000000000 l a; / a => match 0 1, 0
+0 l a;0 l a; / b => ambiguous 1 0, 2
+0 l \u{c3}\u{a9}; / \u{e9}! => match 0 2, 0
+0 l  a; /  a => match 0 2, 0
+0 l (; / ( => match 0 1, 0
+01 l class;0 l classic / classz => match 0 5, 0";
+    expect(&rt, rt.alloc(), table, 11);
 }
 
 #[test]
-fn patterns_are_answered(rt: HostRuntime) -> Result<(), Fail> {
-    let rows: [(&[u8], &str, &str, u8); 7] = [
-        (b"1 l class\n0 r [a-z]+\n", "classz", "match 1 6\n", 0),
-        (b"0 r a\n", "a", "match 0 1\n", 0),
-        (b"0 r \n", "a", "none\n", 1),
-        (b"0 r a\n0 r \\bb\n", "a", "refused 1 LookAround\n", 2),
-        (
-            b"0 r [a-z]+\n0 r (?P<n>a)\n0 r b??\n",
-            "a",
-            "refused 1 NamedCaptures\n",
-            2,
-        ),
-        (b"0 l a\n0 r a\n", "b", "ambiguous 1 0\n", 2),
-        (b"0 r a*\n0 r b*\n", "a", "ambiguous 1 0\n", 2),
-    ];
-    for (input, text, line, status) in rows {
-        answered(&rt, input, text, line, status)?;
-    }
-    Ok(())
+fn patterns_are_answered(rt: HostRuntime) {
+    let table = "\
+1 l class;0 r [a-z]+; / classz => match 1 6, 0
+0 r a; / a => match 0 1, 0
+0 r ; / a => none, 1
+0 r a;0 r \\bb; / a => refused 1 LookAround, 2
+0 r [a-z]+;0 r (?P<n>a);0 r b??; / a => refused 1 NamedCaptures, 2
+0 l a;0 r a; / b => ambiguous 1 0, 2
+0 r a*;0 r b*; / a => ambiguous 1 0, 2";
+    expect(&rt, rt.alloc(), table, 7);
 }
 
 #[test]
-fn bad_lines_are_named(rt: HostRuntime) -> Result<(), Fail> {
-    let rows: [(&[u8], &str); 12] = [
-        (b"x l a\n", "line 0\n"),
-        (b"0 l a\n\n", "line 1\n"),
-        (b"\n", "line 0\n"),
-        (b"18446744073709551616 l a\n", "line 0\n"),
-        (b"000000000000000000000 l a\n", "line 0\n"),
-        (b"+1 l a\n", "line 0\n"),
-        (b" 0 l a\n", "line 0\n"),
-        (b"0  l a\n", "line 0\n"),
-        (b"0 l\n", "line 0\n"),
-        (b"0 q a\n", "line 0\n"),
-        (b"0 l \xff\n", "line 0\n"),
-        (b"0 r \xff\n", "line 0\n"),
-    ];
-    for (input, line) in rows {
-        answered(&rt, input, "a", line, 3)?;
-    }
-    Ok(())
+fn bad_lines_are_named(rt: HostRuntime) {
+    let table = "\
+x l a; / a => line 0, 3
+0 l a;; / a => line 1, 3
+; / a => line 0, 3
+18446744073709551616 l a; / a => line 0, 3
+000000000000000000000 l a; / a => line 0, 3
++1 l a; / a => line 0, 3
+ 0 l a; / a => line 0, 3
+0  l a; / a => line 0, 3
+0 l; / a => line 0, 3
+0 q a; / a => line 0, 3
+0 l \u{ff}; / a => line 0, 3
+0 r \u{ff}; / a => line 0, 3";
+    expect(&rt, rt.alloc(), table, 12);
 }
 
 #[test]
-fn the_first_line_that_is_no_terminal_decides(rt: HostRuntime) -> Result<(), Fail> {
-    let rows: [(&[u8], &str); 5] = [
-        (b"0 r \\ba\n0 r (\n", "syntax 1\n"),
-        (b"0 r (\n0 l a\nq\n", "syntax 0\n"),
-        (b"0 l a\n0 r (\n0 l \xff\n", "syntax 1\n"),
-        (b"0 l a\nq\n0 r (\n", "line 1\n"),
-        (b"0 l a\n0 l a\nq\n", "line 2\n"),
-    ];
-    for (input, line) in rows {
-        answered(&rt, input, "a", line, 3)?;
-    }
-    Ok(())
+fn the_first_line_that_is_no_terminal_decides(rt: HostRuntime) {
+    let table = "\
+0 r \\ba;0 r (; / a => syntax 1, 3
+0 r (;0 l a;q; / a => syntax 0, 3
+0 l a;0 r (;0 l \u{ff}; / a => syntax 1, 3
+0 l a;q;0 r (; / a => line 1, 3
+0 l a;0 l a;q; / a => line 2, 3";
+    expect(&rt, rt.alloc(), table, 5);
 }

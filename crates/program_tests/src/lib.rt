@@ -11,4 +11,6 @@ mod ends;
 #[cfg(test)]
 mod longest;
 #[cfg(test)]
+mod rows;
+#[cfg(test)]
 mod tokens;

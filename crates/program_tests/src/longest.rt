@@ -1,5 +1,6 @@
 //! Patterns from their texts to the longest match, the clash or the refusal.
 
+use crate::rows::{halves, number};
 use lalrpop_lexer::lexer::dfa::{DfaConstructionError, Precedence};
 use lalrpop_lexer::lexer::re::{
     Class, ClassBytes, ClassBytesRange, Hir, Regex, parse_literal, parse_regex,
@@ -7,7 +8,6 @@ use lalrpop_lexer::lexer::re::{
 use lexdfa_lib::longest_match;
 use std::alloc::{AllocError, Global};
 use std::process::Abort;
-use std::test::Fail;
 
 // An error on one line.
 fn reported(alloc: Global, error: DfaConstructionError) -> Result<String, AllocError> {
@@ -27,13 +27,13 @@ fn reported(alloc: Global, error: DfaConstructionError) -> Result<String, AllocE
 
 // What the trees find in the text, on one line: the place of the tree and the match.
 fn found(
-    rt: &(impl AllocGlobal + Abort),
+    rt: &impl Abort,
+    alloc: Global,
     trees: &[Regex],
     precedences: &[Precedence],
     text: &str,
 ) -> Result<String, AllocError> {
     assert!(rt; trees.len() == precedences.len());
-    let alloc = rt.alloc();
     match longest_match(alloc, trees, precedences, text) {
         Ok(Some((index, matched))) => {
             let index = index.index();
@@ -44,178 +44,200 @@ fn found(
     }
 }
 
-// Patterns with their precedences, and what they find in each of the texts.
-fn expect(
-    rt: &(impl AllocGlobal + Abort),
-    patterns: &[(&str, usize)],
-    texts: &[(&str, &str)],
-) -> Result<(), Fail> {
-    let alloc = rt.alloc();
+// How the text of a row stands for a tree.
+#[derive(Copy, Clone)]
+enum Kind {
+    Literal,
+    Pattern,
+}
+
+fn tree_of(rt: &impl Abort, alloc: Global, kind: Kind, text: &str) -> Regex {
+    let read = match kind {
+        Kind::Literal => parse_literal(alloc, text),
+        Kind::Pattern => parse_regex(alloc, text),
+    };
+    read.expect(rt, "a tree")
+}
+
+// The trees of `PRECEDENCE TEXT`s, with ` / ` between them.
+fn trees_of(
+    rt: &impl Abort,
+    alloc: Global,
+    kind: Kind,
+    rows: &str,
+) -> Result<Vec<Regex>, AllocError> {
     let mut trees = Vec::new(alloc);
+    for row in rows.split(" / ") {
+        if !row.is_empty() {
+            let (_, text) = halves(rt, row, " ");
+            trees.push(tree_of(rt, alloc, kind, text))?;
+        }
+    }
+    Ok(trees)
+}
+
+fn precedences_of(
+    rt: &impl Abort,
+    alloc: Global,
+    rows: &str,
+) -> Result<Vec<Precedence>, AllocError> {
     let mut precedences = Vec::new(alloc);
-    for (pattern, precedence) in patterns {
-        trees.push(parse_regex(alloc, *pattern)?)?;
-        precedences.push(Precedence(*precedence))?;
+    for row in rows.split(" / ") {
+        if !row.is_empty() {
+            let (precedence, _) = halves(rt, row, " ");
+            precedences.push(Precedence(number(rt, precedence) as usize))?;
+        }
     }
-    for (text, want) in texts {
-        let line = found(rt, &trees, &precedences, *text)?;
-        assert_eq!(rt; line.as_str(), *want, "in {text}");
+    Ok(precedences)
+}
+
+// What the trees find in each of the texts, with ` / ` between them.
+fn all_found(
+    rt: &impl Abort,
+    alloc: Global,
+    trees: &[Regex],
+    precedences: &[Precedence],
+    texts: &str,
+) -> Result<String, AllocError> {
+    let mut line = String::new(alloc);
+    for text in texts.split(" / ") {
+        if !line.is_empty() {
+            line.push_str(" / ")?;
+        }
+        line.push_str(found(rt, alloc, trees, precedences, text)?.as_str())?;
     }
-    Ok(())
+    Ok(line)
 }
 
-#[test]
-fn keywords_names_and_signs(rt: HostRuntime) -> Result<(), Fail> {
-    let patterns = [
-        ("class", 1),
-        ("[a-zA-Z_][a-zA-Z0-9_]*", 0),
-        ("[0-9]+", 0),
-        (" +", 0),
-        (">>", 0),
-        (">", 0),
-    ];
-    let texts = [
-        ("class Foo", "0 class"),
-        ("classz Foo", "1 classz"),
-        (">>", "4 >>"),
-        (">a", "5 >"),
-        ("é", "none"),
-    ];
-    expect(&rt, &patterns, &texts)
+// What the trees find in the texts of `TREES <- TEXTS`.
+fn answer(rt: &impl Abort, alloc: Global, kind: Kind, row: &str) -> Result<String, AllocError> {
+    let (given, texts) = halves(rt, row, " <- ");
+    let trees = trees_of(rt, alloc, kind, given)?;
+    let precedences = precedences_of(rt, alloc, given)?;
+    all_found(rt, alloc, &trees, &precedences, texts)
 }
 
-#[test]
-fn longest_and_strongest(rt: HostRuntime) -> Result<(), Fail> {
-    expect(&rt, &[], &[("a", "none")])?;
-    expect(&rt, &[("abc|abcd", 0)], &[("abcd", "0 abcd")])?;
-    expect(&rt, &[("a*", 0)], &[("b", "none"), ("", "none")])?;
-    expect(&rt, &[("a*", 1), ("b*", 0)], &[("b", "1 b")])?;
-    let overlapping = [("[a-j]", 0), ("[a-u]", 1), ("[f-h]", 3), ("[f-p]", 2)];
-    expect(
-        &rt,
-        &overlapping,
-        &[("i", "3 i"), ("g", "2 g"), ("q", "1 q")],
-    )?;
-    expect(
-        &rt,
-        &[("[^\\x{0}-\\x{10FFFF}]", 0)],
-        &[("a", "none"), ("", "none")],
-    )?;
-    expect(&rt, &[("(a(b))c", 0)], &[("abc", "0 abc")])
-}
-
-#[test]
-fn turns_that_take_nothing(rt: HostRuntime) -> Result<(), Fail> {
-    for pattern in ["((a*)*)*", "(a+)+", "(|a)+"] {
-        expect(&rt, &[(pattern, 0)], &[("aab", "0 aa")])?;
+// Rows `TREES <- TEXTS => WANTED`.
+fn expect(rt: &impl Abort, alloc: Global, kind: Kind, table: &str, rows: usize) {
+    let mut read = 0usize;
+    for row in table.lines() {
+        let (argument, wanted) = halves(rt, row, " => ");
+        let line = answer(rt, alloc, kind, argument).expect(rt, "memory");
+        assert!(rt; line.as_str() == wanted, "{row}: {line}");
+        read = read.saturating_add(1);
     }
-    expect(&rt, &[("(?:)*", 0)], &[("a", "none")])
+    assert_eq!(rt; read, rows);
 }
 
 #[test]
-fn folded_and_named_sets(rt: HostRuntime) -> Result<(), Fail> {
-    expect(&rt, &[("(?i)k", 0)], &[("\u{212A}", "0 \u{212A}")])?;
-    let texts = [("C", "0 C"), ("aB", "0 aB"), ("A", "none")];
-    expect(&rt, &[("a(?i)b|c", 0)], &texts)?;
-    expect(&rt, &[("\\d", 0)], &[("\u{660}1", "0 \u{660}")])
+fn keywords_names_and_signs(rt: HostRuntime) {
+    let table = "\
+1 class / 0 [a-zA-Z_][a-zA-Z0-9_]* / 0 [0-9]+ / 0  + / 0 >> / 0 > <- class Foo / classz Foo / >> / >a / é \
+=> 0 class / 1 classz / 4 >> / 5 > / none";
+    expect(&rt, rt.alloc(), Kind::Pattern, table, 1);
 }
 
 #[test]
-fn clashes(rt: HostRuntime) -> Result<(), Fail> {
-    let rows: [(&[(&str, usize)], &str); 7] = [
-        (&[("a*", 0), ("b*", 0)], "clash 1 0"),
-        (
-            &[
-                ("[\\x{D7FF}]", 1),
-                ("[\\x{E000}]", 1),
-                ("[\\x{D7FF}\\x{E000}]", 0),
-                ("(?s).", 0),
-            ],
-            "clash 3 2",
-        ),
-        (
-            &[
-                ("(?s).", 0),
-                ("(?s).", 0),
-                ("[\\x{0}-\\x{D7FF}]", 1),
-                ("[\\x{E000}-\\x{10FFFF}]", 1),
-            ],
-            "clash 1 0",
-        ),
-        (&[("aa", 0), ("aa", 0), ("b", 0), ("b", 0)], "clash 3 2"),
-        (&[("b", 0), ("b", 0), ("a", 0), ("a", 0)], "clash 3 2"),
-        (&[("class", 0), ("[a-zA-Z_][a-zA-Z0-9_]*", 0)], "clash 1 0"),
-        (&[(".*", 0), ("[-+]?[0-9]*\\.?[0-9]+", 0)], "clash 1 0"),
-    ];
-    for (patterns, line) in rows {
-        expect(&rt, patterns, &[("", line)])?;
-    }
-    Ok(())
+fn longest_and_strongest(rt: HostRuntime) {
+    let table = "\
+0 abc|abcd <- abcd => 0 abcd
+ <- a => none
+0 a* <- b /  => none / none
+1 a* / 0 b* <- b => 1 b
+0 [a-j] / 1 [a-u] / 3 [f-h] / 2 [f-p] <- i / g / q => 3 i / 2 g / 1 q
+0 [^\\x{0}-\\x{10FFFF}] <- a /  => none / none
+0 (a(b))c <- abc => 0 abc";
+    expect(&rt, rt.alloc(), Kind::Pattern, table, 7);
 }
 
 #[test]
-fn refusals(rt: HostRuntime) -> Result<(), Fail> {
-    expect(&rt, &[("(?:\\b){0}a", 0)], &[("ab", "0 a")])?;
-    let rows: [(&[(&str, usize)], &str); 9] = [
-        (&[("(?:\\b){0}?a", 0)], "refused 0 NonGreedy"),
-        (&[("(?:\\b){4294967295}", 0)], "refused 0 LookAround"),
-        (
-            &[("a", 0), ("a", 0), ("b??", 0), ("\\bc", 0)],
-            "refused 2 NonGreedy",
-        ),
-        (&[("\\ba(?P<n>b)", 0)], "refused 0 NamedCaptures"),
-        (&[("\\ba|(?P<n>b)", 0)], "refused 0 LookAround"),
-        (&[("(?U)a*", 0)], "refused 0 NonGreedy"),
-        (&[("a???", 0)], "refused 0 NonGreedy"),
-        (&[("(?P<foo>aBCdeF)", 0)], "refused 0 NamedCaptures"),
-        (&[("\\baBCdeF", 0)], "refused 0 LookAround"),
-    ];
-    for (patterns, line) in rows {
-        expect(&rt, patterns, &[("", line)])?;
-    }
-    Ok(())
+fn turns_that_take_nothing(rt: HostRuntime) {
+    let table = "\
+0 ((a*)*)* <- aab => 0 aa
+0 (a+)+ <- aab => 0 aa
+0 (|a)+ <- aab => 0 aa
+0 (?:)* <- a => none";
+    expect(&rt, rt.alloc(), Kind::Pattern, table, 4);
 }
 
-// A set of bytes, which no pattern from text is, and trees without parts.
 #[test]
-fn trees_by_hand(rt: HostRuntime) -> Result<(), Fail> {
+fn folded_and_named_sets(rt: HostRuntime) {
+    let table = "\
+0 (?i)k <- \u{212A} => 0 \u{212A}
+0 a(?i)b|c <- C / aB / A => 0 C / 0 aB / none
+0 \\d <- \u{660}1 => 0 \u{660}";
+    expect(&rt, rt.alloc(), Kind::Pattern, table, 3);
+}
+
+#[test]
+fn clashes(rt: HostRuntime) {
+    let table = "\
+0 a* / 0 b* <-  => clash 1 0
+1 [\\x{D7FF}] / 1 [\\x{E000}] / 0 [\\x{D7FF}\\x{E000}] / 0 (?s). <-  => clash 3 2
+0 (?s). / 0 (?s). / 1 [\\x{0}-\\x{D7FF}] / 1 [\\x{E000}-\\x{10FFFF}] <-  => clash 1 0
+0 aa / 0 aa / 0 b / 0 b <-  => clash 3 2
+0 b / 0 b / 0 a / 0 a <-  => clash 3 2
+0 class / 0 [a-zA-Z_][a-zA-Z0-9_]* <-  => clash 1 0
+0 .* / 0 [-+]?[0-9]*\\.?[0-9]+ <-  => clash 1 0";
+    expect(&rt, rt.alloc(), Kind::Pattern, table, 7);
+}
+
+#[test]
+fn refusals(rt: HostRuntime) {
+    let table = "\
+0 (?:\\b){0}a <- ab => 0 a
+0 (?:\\b){0}?a <-  => refused 0 NonGreedy
+0 (?:\\b){4294967295} <-  => refused 0 LookAround
+0 a / 0 a / 0 b?? / 0 \\bc <-  => refused 2 NonGreedy
+0 \\ba(?P<n>b) <-  => refused 0 NamedCaptures
+0 \\ba|(?P<n>b) <-  => refused 0 LookAround
+0 (?U)a* <-  => refused 0 NonGreedy
+0 a??? <-  => refused 0 NonGreedy
+0 (?P<foo>aBCdeF) <-  => refused 0 NamedCaptures
+0 \\baBCdeF <-  => refused 0 LookAround";
+    expect(&rt, rt.alloc(), Kind::Pattern, table, 10);
+}
+
+#[test]
+fn literals(rt: HostRuntime) {
+    let table = "\
+0 \u{e9} <- \u{e9}! => 0 \u{e9}
+0 \0a <- \0ab => 0 \0a
+1 ab / 0 abc <- abcd => 1 abc";
+    expect(&rt, rt.alloc(), Kind::Literal, table, 3);
+}
+
+// A set of bytes, which no pattern from text is.
+fn high_bytes(alloc: Global) -> Result<Vec<Hir>, AllocError> {
+    let mut ranges = Vec::new(alloc);
+    ranges.push(ClassBytesRange::new(200, 255))?;
+    let mut trees = Vec::new(alloc);
+    trees.push(Hir::class(Class::Bytes(ClassBytes::new(alloc, ranges)?)))?;
+    Ok(trees)
+}
+
+// Trees without parts.
+fn hollow(alloc: Global) -> Result<Vec<Hir>, AllocError> {
+    let mut trees = Vec::new(alloc);
+    trees.push(Hir::alternation(Vec::new(alloc)))?;
+    trees.push(Hir::concat(Vec::new(alloc)))?;
+    Ok(trees)
+}
+
+fn expect_all_found(rt: &impl Abort, alloc: Global, trees: &[Hir], texts: &str, wanted: &str) {
+    let precedences = [Precedence(0), Precedence(0)];
+    let precedences = precedences
+        .get(..trees.len())
+        .expect(rt, "two trees at most");
+    let line = all_found(rt, alloc, trees, precedences, texts).expect(rt, "memory");
+    assert_eq!(rt; line.as_str(), wanted);
+}
+
+#[test]
+fn trees_by_hand(rt: HostRuntime) {
     let alloc = rt.alloc();
-    let high = vec![in alloc; ClassBytesRange::new(200, 255)]?;
-    let bytes = [Hir::class(Class::Bytes(ClassBytes::new(alloc, high)?))];
-    assert_eq!(rt;
-        found(&rt, &bytes, &[Precedence(0)], "\u{e9}")?.as_str(),
-        "0 \u{e9}"
-    );
-    let letter = [parse_literal(alloc, "\u{e9}")?];
-    assert_eq!(rt;
-        found(&rt, &letter, &[Precedence(0)], "\u{e9}!")?.as_str(),
-        "0 \u{e9}"
-    );
-    let nul = [parse_literal(alloc, "\0a")?];
-    let line = found(&rt, &nul, &[Precedence(0)], "\0ab")?;
-    assert_eq!(rt; line.as_str(), "0 \0a");
-    let nothing = [
-        Hir::alternation(Vec::new(alloc)),
-        Hir::concat(Vec::new(alloc)),
-    ];
-    for text in ["", "a"] {
-        let line = found(&rt, &nothing, &[Precedence(0), Precedence(0)], text)?;
-        assert_eq!(rt; line.as_str(), "none", "in {text}");
-    }
-    Ok(())
-}
-
-#[test]
-fn a_match_is_the_longest(rt: HostRuntime) -> Result<(), Fail> {
-    let mut regexs = Vec::new(rt.alloc());
-    regexs.push(parse_literal(rt.alloc(), "ab")?)?;
-    regexs.push(parse_literal(rt.alloc(), "abc")?)?;
-    let precedences = [Precedence(1), Precedence(0)];
-    let mut place = None;
-    if let Ok(Some((index, text))) = longest_match(rt.alloc(), &regexs, &precedences, "abcd") {
-        place = Some(index.index());
-        assert!(rt; text == "abc");
-    }
-    assert_eq!(rt; place, Some(1));
-    Ok(())
+    let bytes = high_bytes(alloc).expect(&rt, "memory");
+    expect_all_found(&rt, alloc, &bytes, "\u{e9}", "0 \u{e9}");
+    let hollow = hollow(alloc).expect(&rt, "memory");
+    expect_all_found(&rt, alloc, &hollow, " / a", "none / none");
 }
