@@ -6,6 +6,7 @@ ghost use Rattle.lalrpop_hir.specs.Tree.{Tree, repetition, capture};
 ghost use Rattle.lalrpop_grammar.specs.Text.{begins};
 ghost use Rattle.lalrpop_grammar.specs.Pattern.{Pattern, most_levels, is_special, escaped_tree, ends_branch, branch, choice};
 ghost use Rattle.lalrpop_grammar.specs.Escape.{Escaped};
+ghost use Rattle.lalrpop_grammar.specs.Flag.{no_flags};
 ghost use Rattle.lalrpop_re.specs.Refusal.{HasNoTree, PointsInto};
 ghost use Rattle.lalrpop_grammar.specs.Internal.Reading.{is_at_operator, all_operators, atom, piece, enclosed, whole_row, all_branches, begin, inside, read};
 ghost use Rattle.lalrpop_re.specs.Internal.Views.{text, unread, Gives, StandsForEscaped};
@@ -96,16 +97,24 @@ fn byte_offset(s: &str, characters: usize) -> usize
 }
 
 /// Reads a pattern. A refusal's position counts characters.
-#[tactic(auto, unfolding(lalrpop_grammar::specs::Internal::Reading::read))]
 fn parse_whole(alloc: Global, pattern: &str) -> Result<Hir, RegexError>
     ensures { Gives (λ t. t) result (read most_levels (chars pattern.now)) }
 {
     let mut cursor = Cursor::new(alloc, pattern)?;
-    let Nested { tree, .. } = parse_expression(&mut cursor, NEST_LIMIT)?;
+    parse_to_end(&mut cursor)
+}
+
+/// Reads a pattern that begins at the cursor and ends with the text.
+#[tactic(auto, unfolding(lalrpop_grammar::specs::Internal::Reading::read))]
+fn parse_to_end(cursor: &mut Cursor) -> Result<Hir, RegexError>
+    requires { cursor.old.flags ≡ no_flags }
+    ensures { Gives (λ t. t) result (read most_levels (text cursor.old)) }
+{
+    let Nested { tree, .. } = parse_expression(cursor, NEST_LIMIT)?;
     if !cursor.rest().is_empty() {
         return Err(cursor.error(SyntaxKind::UnopenedGroup));
     }
-    if let Some(number) = repeated_name(alloc, &tree)? {
+    if let Some(number) = repeated_name(cursor.alloc(), &tree)? {
         return Err(error_at(cursor.named_place(number), SyntaxKind::GroupName));
     }
     Ok(tree)
