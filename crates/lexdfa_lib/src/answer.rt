@@ -5,6 +5,7 @@ ghost use Rattle.lalrpop_hir.specs.Tree.{Tree};
 ghost use Rattle.lalrpop_lexer.specs.Report.{IsReport};
 ghost use Rattle.lexdfa_lib.specs.Answer.{Finds, IsOutcome, ReadsOutcome, WritesPrefix};
 ghost use Rattle.lexdfa_lib.specs.Printed.{line_of};
+ghost use Rattle.lexdfa_lib.specs.Watch.{AppendsPrefix};
 ghost use Rattle.lexdfa_lib.specs.declared.outcome.Outcome.{Outcome};
 
 use crate::ends::{read_whole, write_whole};
@@ -74,6 +75,49 @@ fn outcome_of(alloc: Global, bytes: &[u8], text: &str) -> Result<Outcome, AllocE
     }
 }
 
+/// The outcome for all bytes that the reader has left, and the text.
+fn read_outcome<R: Read>(
+    alloc: Global,
+    reader: &mut Watched<R>,
+    text: &str,
+) -> Result<Outcome, RunError>
+    requires reader_good { reader.old.failed ≡ false }
+    ensures outcome { IfOk result (λ outcome.
+        ReadsOutcome (R.remaining reader.old.inner) (R.remaining reader.new.inner)
+        text.now outcome) }
+    ensures good { OnOk result (reader.new.failed ≡ false) }
+    ensures memory { IfErr result (λ e. e ≡ RunError.OutOfMemory → reader.new.failed ≡ false) }
+    ensures read { IfErr result (λ e. e ≡ RunError.Read → reader.new.failed ≡ true) }
+    ensures write { IfErr result (λ e. e ≢ RunError.Write) }
+    ensures no_late_read { reader.new.late ≡ reader.old.late }
+{
+    let bytes = read_whole(alloc, reader)?;
+    outcome_of(alloc, &bytes, text).or(Err(RunError::OutOfMemory))
+}
+
+/// Writes the line of an outcome.
+fn write_outcome<W: Write>(
+    alloc: Global,
+    outcome: &Outcome,
+    writer: &mut Watched<W>,
+) -> Result<(), RunError>
+    requires writer_good { writer.old.failed ≡ false }
+    ensures line { OnOk result
+        (Appends (W.contents writer.old.inner) (W.contents writer.new.inner) (line_of outcome.now)) }
+    ensures good { OnOk result (writer.new.failed ≡ false) }
+    ensures nothing_written { IfErr result (λ e. e ≢ RunError.Write → writer.new ≡ writer.old) }
+    ensures write { IfErr result (λ e. e ≡ RunError.Write → writer.new.failed ≡ true) }
+    ensures prefix { IfErr result (λ e. e ≡ RunError.Write → AppendsPrefix
+        (W.contents writer.old.inner) (W.contents writer.new.inner) (line_of outcome.now)) }
+    ensures read { IfErr result (λ e. e ≢ RunError.Read) }
+    ensures no_late_write { writer.new.late ≡ writer.old.late }
+{
+    let Ok(line) = outcome_line(alloc, outcome) else {
+        return Err(RunError::OutOfMemory);
+    };
+    write_whole(writer, line.as_bytes())
+}
+
 /// Reads the reader to its end, and writes the line for what was read and the text.
 ///
 /// Each line of input is a terminal `P l TEXT` or `P r PATTERN`: a precedence of 1 to 20 decimal digits, a space, the letter
@@ -108,13 +152,7 @@ pub fn run<R: Read, W: Write>(
     ensures no_late_read { reader.new.late ≡ reader.old.late }
     ensures no_late_write { writer.new.late ≡ writer.old.late }
 {
-    let bytes = read_whole(alloc, reader)?;
-    let Ok(outcome) = outcome_of(alloc, &bytes, text) else {
-        return Err(RunError::OutOfMemory);
-    };
-    let Ok(line) = outcome_line(alloc, &outcome) else {
-        return Err(RunError::OutOfMemory);
-    };
-    write_whole(writer, line.as_bytes())?;
+    let outcome = read_outcome(alloc, reader, text)?;
+    write_outcome(alloc, &outcome, writer)?;
     Ok(outcome)
 }
