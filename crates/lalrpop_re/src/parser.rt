@@ -110,7 +110,7 @@ fn parse_to_end(cursor: &mut Cursor) -> Result<Hir, RegexError>
     requires { cursor.old.flags ≡ no_flags }
     ensures { Gives (λ t. t) result (read most_levels (text cursor.old)) }
 {
-    let Nested { tree, .. } = parse_expression(cursor, NEST_LIMIT)?;
+    let Nested { tree, .. } = parse_at_top(cursor)?;
     if !cursor.rest().is_empty() {
         return Err(cursor.error(SyntaxKind::UnopenedGroup));
     }
@@ -118,6 +118,14 @@ fn parse_to_end(cursor: &mut Cursor) -> Result<Hir, RegexError>
         return Err(error_at(cursor.named_place(number), SyntaxKind::GroupName));
     }
     Ok(tree)
+}
+
+/// Reads an expression that no group encloses, where all levels are left.
+fn parse_at_top(cursor: &mut Cursor) -> Result<Nested, RegexError>
+    ensures { Gives (λ p. whole p cursor.new) result
+        (inside (suc most_levels) cursor.old.flags (text cursor.old)) }
+{
+    parse_expression(cursor, NEST_LIMIT)
 }
 
 /// Reads an expression, where so many levels are left.
@@ -257,12 +265,21 @@ fn parse_enclosed(
     if !cursor.begins(&[')']) {
         return Err(error_at(start, SyntaxKind::UnclosedGroup));
     }
-    cursor.advance(1);
-    cursor.set_flags(outside);
+    leave_group(cursor, outside);
     Ok(Nested {
         tree,
         depth: depth + 1,
     })
+}
+
+/// Passes over the `)` of a group, and sets back the flags that hold outside.
+fn leave_group(cursor: &mut Cursor, outside: Flags)
+    requires { 0 < unread cursor.old }
+    ensures text { text cursor.new ≡ drop 1 (text cursor.old) }
+    ensures flags { cursor.new.flags ≡ outside }
+{
+    cursor.advance(1);
+    cursor.set_flags(outside);
 }
 
 /// The group as one that captures.
