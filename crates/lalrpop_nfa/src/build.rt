@@ -9,7 +9,7 @@ ghost use Rattle.lalrpop_nfa.specs.Internal.Added.{with_kind, with_noops};
 ghost use Rattle.lalrpop_nfa.specs.Walk.{leaves};
 ghost use Rattle.lalrpop_nfa.specs.Compiled.{edges_from};
 ghost use Rattle.lalrpop_nfa.specs.Fault.{fault, greedy_fault, first_fault, last_fault};
-ghost use Rattle.lalrpop_nfa.specs.Internal.Valid.{AreCodeValues, IsValidClass, IsValidRepeated, AreValid, IsValid};
+ghost use Rattle.lalrpop_nfa.specs.Internal.Valid.{AreCodeValues, IsValidClass, IsValidRepeated, AreValid, IsValid, IsPlain};
 ghost use Rattle.lalrpop_nfa.specs.Internal.Fragment as made;
 ghost use Rattle.lalrpop_nfa.specs.Internal.Extends.{Extends, IsCompilable, IsFaultOf};
 
@@ -19,6 +19,28 @@ use super::{
 };
 use lalrpop_hir::{Class, Hir, HirKind, Repetition};
 use std::alloc::{AllocError, Global};
+
+// Refuses what is never compiled, where it stands at the top of the tree: what is below is not looked at.
+fn refuse_unsupported(hir: &Hir) -> Result<(), NfaConstructionError>
+    ensures plain { OnOk result (IsPlain hir.now) }
+    ensures err { IfErr result (λ e. fault hir.now ≡ Some e) }
+{
+    match hir.kind() {
+        HirKind::Look(_) => Err(NfaConstructionError::LookAround),
+        HirKind::Repetition(repetition) => {
+            if repetition.greedy() {
+                Ok(())
+            } else {
+                Err(NfaConstructionError::NonGreedy)
+            }
+        }
+        HirKind::Capture(capture) => match capture.name() {
+            Some(_) => Err(NfaConstructionError::NamedCaptures),
+            None => Ok(()),
+        },
+        _ => Ok(()),
+    }
+}
 
 impl Nfa {
     // Adds a state, which no edge leaves.
@@ -154,22 +176,14 @@ impl Nfa {
         ensures valid { OnOk result (IsValid hir.now) }
         ensures err { IfErr result (IsFaultOf (fault hir.now)) }
     {
+        refuse_unsupported(hir)?;
         match hir.kind() {
             HirKind::Empty => Ok(target),
             HirKind::Literal(literal) => Ok(self.literal_text_expr(literal.as_str(), target)?),
             HirKind::Class(class) => Ok(self.class_expr(class, target)?),
-            HirKind::Look(_) => Err(NfaConstructionError::LookAround),
-            HirKind::Repetition(repetition) => {
-                if repetition.greedy() {
-                    self.repeat_expr(repetition, target)
-                } else {
-                    Err(NfaConstructionError::NonGreedy)
-                }
-            }
-            HirKind::Capture(capture) => match capture.name() {
-                Some(_) => Err(NfaConstructionError::NamedCaptures),
-                None => self.expr(capture.sub(), target),
-            },
+            HirKind::Look(_) => unreachable!(),
+            HirKind::Repetition(repetition) => self.repeat_expr(repetition, target),
+            HirKind::Capture(capture) => self.expr(capture.sub(), target),
             HirKind::Concat(subs) => self.concat_expr(subs, target),
             HirKind::Alternation(subs) => self.alternation_expr(subs, target),
         }
