@@ -1,5 +1,5 @@
 //! Compiling a pattern: each tree is compiled towards a target state, which is where its words end.
-ghost use Rattle.std.specs.Prelude.{◌≡◌, ◌≢◌, ◌<◌, ◌⊎◌, [], Some, None, OnOk, IfOk, IfErr, length};
+ghost use Rattle.std.specs.Prelude.{◌≡◌, ◌≢◌, ◌<◌, ◌⊎◌, ◌∷◌, [], Some, None, OnOk, IfOk, IfErr, length};
 ghost use Rattle.std.specs.List.{filter};
 ghost use Rattle.std.specs.Str.{chars};
 ghost use Rattle.lalrpop_hir.specs.Parts.{trees};
@@ -75,9 +75,12 @@ impl Nfa {
         Ok(())
     }
 
-    // The states ACCEPT, REJECT and START, with the edges of the first two.
-    pub(super) fn new(alloc: Global) -> Result<Nfa, AllocError>
-        ensures fresh { IfOk result (λ nfa. nfa ≡ made.fresh_graph) }
+    // The states ACCEPT, REJECT and START, which no edge leaves.
+    fn fixed_states(alloc: Global) -> Result<Nfa, AllocError>
+        ensures { IfOk result (λ nfa. nfa ≡ record {
+          kinds = StateKind.Accept ∷ StateKind.Reject ∷ StateKind.Neither ∷ [];
+          edges = made.no_edges;
+        }) }
     {
         let mut nfa = Nfa {
             states: Vec::new(alloc),
@@ -90,6 +93,14 @@ impl Nfa {
         let _accept = nfa.new_state(StateKind::Accept)?;
         let _reject = nfa.new_state(StateKind::Reject)?;
         let _start = nfa.new_state(StateKind::Neither)?;
+        Ok(nfa)
+    }
+
+    // The states ACCEPT, REJECT and START, with the edges of the first two.
+    pub(super) fn new(alloc: Global) -> Result<Nfa, AllocError>
+        ensures fresh { IfOk result (λ nfa. nfa ≡ made.fresh_graph) }
+    {
+        let mut nfa = Nfa::fixed_states(alloc)?;
         nfa.push_edge(ACCEPT, Other, REJECT)?;
         nfa.push_edge(REJECT, Other, REJECT)?;
         Ok(nfa)
