@@ -15,3 +15,4 @@ pub mod PathLemmas
 pub mod Cuts
 pub mod PrefixLemmas
 pub mod StateSetLemmas
+pub mod Runs

@@ -1,5 +1,5 @@
 //! Compiling a pattern: each tree is compiled towards a target state, which is where its words end.
-ghost use Rattle.std.specs.Prelude.{◌≡◌, ◌≢◌, ◌<◌, ◌⊎◌, [], Some, None, OnOk, IfOk, IfErr, length};
+ghost use Rattle.std.specs.Prelude.{◌≡◌, ◌≢◌, ◌<◌, ◌⊎◌, ◌∷◌, [], Some, None, OnOk, IfOk, IfErr, length};
 ghost use Rattle.std.specs.List.{filter};
 ghost use Rattle.std.specs.Str.{chars};
 ghost use Rattle.lalrpop_hir.specs.Parts.{trees};
@@ -9,7 +9,7 @@ ghost use Rattle.lalrpop_nfa.specs.Internal.Added.{with_kind, with_noops};
 ghost use Rattle.lalrpop_nfa.specs.Walk.{leaves};
 ghost use Rattle.lalrpop_nfa.specs.Compiled.{edges_from};
 ghost use Rattle.lalrpop_nfa.specs.Fault.{fault, greedy_fault, first_fault, last_fault};
-ghost use Rattle.lalrpop_nfa.specs.Internal.Valid.{AreCodeValues, IsValidClass, IsValidRepeated, AreValid, IsValid};
+ghost use Rattle.lalrpop_nfa.specs.Internal.Valid.{AreCodeValues, IsValidClass, IsValidRepeated, AreValid, IsValid, IsPlain};
 ghost use Rattle.lalrpop_nfa.specs.Internal.Fragment as made;
 ghost use Rattle.lalrpop_nfa.specs.Internal.Extends.{Extends, IsCompilable, IsFaultOf};
 
@@ -19,6 +19,28 @@ use super::{
 };
 use lalrpop_hir::{Class, Hir, HirKind, Repetition};
 use std::alloc::{AllocError, Global};
+
+// Refuses what is never compiled, where it stands at the top of the tree: what is below is not looked at.
+fn refuse_unsupported(hir: &Hir) -> Result<(), NfaConstructionError>
+    ensures plain { OnOk result (IsPlain hir.now) }
+    ensures err { IfErr result (λ e. fault hir.now ≡ Some e) }
+{
+    match hir.kind() {
+        HirKind::Look(_) => Err(NfaConstructionError::LookAround),
+        HirKind::Repetition(repetition) => {
+            if repetition.greedy() {
+                Ok(())
+            } else {
+                Err(NfaConstructionError::NonGreedy)
+            }
+        }
+        HirKind::Capture(capture) => match capture.name() {
+            Some(_) => Err(NfaConstructionError::NamedCaptures),
+            None => Ok(()),
+        },
+        _ => Ok(()),
+    }
+}
 
 impl Nfa {
     // Adds a state, which no edge leaves.
@@ -53,9 +75,12 @@ impl Nfa {
         Ok(())
     }
 
-    // The states ACCEPT, REJECT and START, with the edges of the first two.
-    pub(super) fn new(alloc: Global) -> Result<Nfa, AllocError>
-        ensures fresh { IfOk result (λ nfa. nfa ≡ made.fresh_graph) }
+    // The states ACCEPT, REJECT and START, which no edge leaves.
+    fn fixed_states(alloc: Global) -> Result<Nfa, AllocError>
+        ensures { IfOk result (λ nfa. nfa ≡ record {
+          kinds = StateKind.Accept ∷ StateKind.Reject ∷ StateKind.Neither ∷ [];
+          edges = made.no_edges;
+        }) }
     {
         let mut nfa = Nfa {
             states: Vec::new(alloc),
@@ -68,6 +93,14 @@ impl Nfa {
         let _accept = nfa.new_state(StateKind::Accept)?;
         let _reject = nfa.new_state(StateKind::Reject)?;
         let _start = nfa.new_state(StateKind::Neither)?;
+        Ok(nfa)
+    }
+
+    // The states ACCEPT, REJECT and START, with the edges of the first two.
+    pub(super) fn new(alloc: Global) -> Result<Nfa, AllocError>
+        ensures fresh { IfOk result (λ nfa. nfa ≡ made.fresh_graph) }
+    {
+        let mut nfa = Nfa::fixed_states(alloc)?;
         nfa.push_edge(ACCEPT, Other, REJECT)?;
         nfa.push_edge(REJECT, Other, REJECT)?;
         Ok(nfa)
@@ -154,22 +187,14 @@ impl Nfa {
         ensures valid { OnOk result (IsValid hir.now) }
         ensures err { IfErr result (IsFaultOf (fault hir.now)) }
     {
+        refuse_unsupported(hir)?;
         match hir.kind() {
             HirKind::Empty => Ok(target),
             HirKind::Literal(literal) => Ok(self.literal_text_expr(literal.as_str(), target)?),
             HirKind::Class(class) => Ok(self.class_expr(class, target)?),
-            HirKind::Look(_) => Err(NfaConstructionError::LookAround),
-            HirKind::Repetition(repetition) => {
-                if repetition.greedy() {
-                    self.repeat_expr(repetition, target)
-                } else {
-                    Err(NfaConstructionError::NonGreedy)
-                }
-            }
-            HirKind::Capture(capture) => match capture.name() {
-                Some(_) => Err(NfaConstructionError::NamedCaptures),
-                None => self.expr(capture.sub(), target),
-            },
+            HirKind::Look(_) => unreachable!(),
+            HirKind::Repetition(repetition) => self.repeat_expr(repetition, target),
+            HirKind::Capture(capture) => self.expr(capture.sub(), target),
             HirKind::Concat(subs) => self.concat_expr(subs, target),
             HirKind::Alternation(subs) => self.alternation_expr(subs, target),
         }

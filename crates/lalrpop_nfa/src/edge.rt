@@ -1,8 +1,10 @@
 //! States and edges of an automaton, and the three kinds of labels.
-ghost use Rattle.std.specs.Prelude.{◌≡◌, ℕ, ◌+◌, ◌<◌, List, Option};
+ghost use Rattle.std.specs.Prelude.{◌≡◌, ℕ, ◌+◌, ◌<◌, List, Option, length, drop};
 ghost use Rattle.std.specs.Borrow.{sem};
 ghost use Rattle.lalrpop_nfa.specs.Firsts.{index_of, with_index};
 ghost use Rattle.lalrpop_nfa.specs.Internal.FirstSet.{first_set};
+ghost use Rattle.lalrpop_nfa.specs.Walk.{leaves};
+ghost use Rattle.lalrpop_nfa.specs.Contiguous.{walk, walk_at, IsAt};
 
 use lalrpop_ranges::Test;
 use std::fmt;
@@ -324,12 +326,22 @@ impl<'nfa, L: EdgeLabel> Iterator for EdgeIterator<'nfa, L> {
 
     fn next(&mut self) -> Option<&'nfa Edge<L>> {
         let index = self.index?;
-        let next_index = index + 1;
-        self.index = if next_index < self.edges.len() && self.edges[next_index].from == self.from {
-            Some(next_index)
-        } else {
-            None
-        };
+        self.index = index_after(self.edges, self.from, index);
         Some(&self.edges[index])
+    }
+}
+
+// The index of the next edge in the list, if it leaves this state.
+fn index_after<L: EdgeLabel>(edges: &[Edge<L>], from: NfaStateIndex, index: usize) -> Option<usize>
+    requires is_edge { index < length edges.now }
+    ensures at { IsAt from edges.now result }
+    ensures walk { walk_at from edges.now result
+        ≡ walk (leaves from) (drop (index + 1) edges.now) }
+{
+    let next_index = index + 1;
+    if next_index < edges.len() && edges[next_index].from == from {
+        Some(next_index)
+    } else {
+        None
     }
 }

@@ -1,12 +1,12 @@
 //! The longest prefix of a text that one pattern matches, found by running its automaton.
 
-ghost use Rattle.std.specs.Prelude.{◌≡◌, ◌+◌, ◌*◌, ◌<◌, ◌≤◌, ◌↔◌, length, IfSome, IfOk, OnOk, IsTrue};
+ghost use Rattle.std.specs.Prelude.{◌≡◌, ◌+◌, ◌*◌, ◌<◌, ◌≤◌, ◌↔◌, length, take, IfSome, IfOk, OnOk, IsTrue};
 ghost use Rattle.std.specs.Option.{option_map};
-ghost use Rattle.std.specs.Str.{chars};
+ghost use Rattle.std.specs.Str.{chars, IsCharBoundary};
 ghost use Rattle.lalrpop_hir.specs.Tree.{Tree};
 ghost use Rattle.lalrpop_hir.specs.Language.{Matches};
 ghost use Rattle.lalrpop_nfa.specs.Compiled.{IsCompiled, start_state};
-ghost use Rattle.lalrpop_nfa.specs.Internal.StateSets.{only, IsGrown, IsEpsilonEdge, IsClosure, IsMove, Accepts, Rejects};
+ghost use Rattle.lalrpop_nfa.specs.Internal.StateSets.{only, IsGrown, IsEpsilonEdge, IsClosure, IsMove, Accepts, Rejects, IsIfAccepted};
 ghost use Rattle.lalrpop_nfa.specs.Internal.Reads.{Reads};
 ghost use Rattle.lalrpop_nfa.specs.Prefix.{IsPrefix, IsLongestOf};
 
@@ -43,19 +43,13 @@ pub fn interpret_counted<'text>(
     ensures never_falls { steps.old ≤ steps.new }
 {
     let mut simulation = Simulation::start(alloc, nfa, steps)?;
-    let mut longest = if simulation.accepts() {
-        Some(&text[..0])
-    } else {
-        None
-    };
+    let mut longest = simulation.accepted(text, 0);
     for (offset, c) in text.char_indices() {
         if simulation.rejects() {
             break;
         }
         simulation = simulation.read(u32::from(c), steps)?;
-        if simulation.accepts() {
-            longest = Some(&text[..offset + c.len_utf8()]);
-        }
+        longest = simulation.accepted(text, offset + c.len_utf8()).or(longest);
     }
     Ok(longest)
 }
@@ -136,6 +130,18 @@ impl<'nfa> Simulation<'nfa> {
             }
         }
         false
+    }
+
+    // The text up to this offset, if the pattern matches the prefix that leads here.
+    fn accepted<'text>(&self, text: &'text str, end: usize) -> Option<&'text str>
+        requires boundary { IsCharBoundary text.now end }
+        ensures { IsIfAccepted self.now (take end text.now) (option_map (λ s. s.now) result) }
+    {
+        if self.accepts() {
+            Some(&text[..end])
+        } else {
+            None
+        }
     }
 
     // Whether the pattern matches no continuation of the prefix that leads here.

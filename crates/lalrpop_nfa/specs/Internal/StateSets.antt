@@ -1,5 +1,5 @@
 -- The states that a word leads to, as the run of one automaton lists and marks them.
-use Rattle.std.specs.Prelude.{◌≡◌, ℕ, ◌<◌, ◌⊎◌, ◌↔◌, Bool, true, false, List, [], ◌∷◌, ◌++◌, length, slice_index_or, slice_get, Some}
+use Rattle.std.specs.Prelude.{◌≡◌, ℕ, ◌<◌, ◌⊎◌, ◌↔◌, Bool, true, false, List, [], ◌∷◌, ◌++◌, length, slice_index_or, slice_get, Option, Some, None}
 use Rattle.std.specs.List.{Contains, count_by}
 use Rattle.lalrpop_nfa.specs.Graph.{Graph, Lists}
 use Rattle.lalrpop_nfa.specs.Path.{Path, noop}
@@ -61,3 +61,8 @@ Accepts v = (q : ℕ) × (Contains v.states.states q × (slice_get v.graph.kinds
 -- each state listed is a rejecting one
 abbrev pub Rejects : Visited → Type 0
 Rejects v = (q : ℕ) → Contains v.states.states q → slice_get v.graph.kinds q ≡ Some Reject
+
+-- the text, if some state listed is an accepting one
+abbrev pub IsIfAccepted : Visited → List ℕ → Option (List ℕ) → Type 0
+IsIfAccepted v text None = ¬ Accepts v
+IsIfAccepted v text (Some found) = Accepts v × (found ≡ text)

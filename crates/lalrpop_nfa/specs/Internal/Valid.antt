@@ -1,6 +1,6 @@
 -- What holds of the trees that programs make: characters are code values, the ranges of classes are canonical, and
 -- the least number of repetitions is at most the greatest.
-use Rattle.std.specs.Prelude.{ℕ, zero, suc, ◌≤◌, List, [], ◌∷◌, Option, Some, None}
+use Rattle.std.specs.Prelude.{◌≡◌, true, ℕ, zero, suc, ◌≤◌, List, [], ◌∷◌, Option, Some, None}
 use Rattle.lalrpop_hir.specs.Runs.{IsCanonical, AreByteRuns}
 use Rattle.lalrpop_hir.specs.Counts.{AreOrdered}
 use Rattle.lalrpop_hir.specs.Tree.{Class, unicode, bytes, Tree, empty, literal, class, look, repetition, capture, concat, alternation, Trees, none, also}
@@ -33,3 +33,14 @@ abbrev mutual
   pub AreValid : Trees → Type 0
   AreValid none = Unit {0}
   AreValid (also t ts) = IsValid t × AreValid ts
+
+-- what is not refused at the top of the tree: no look, no lazy repetition, and no group with a name
+abbrev pub IsPlain : Tree → Type 0
+IsPlain empty = Unit {0}
+IsPlain (literal cs) = Unit {0}
+IsPlain (class a) = Unit {0}
+IsPlain (look l) = ⊥
+IsPlain (repetition min max greedy t) = greedy ≡ true
+IsPlain (capture name t) = name ≡ None
+IsPlain (concat ts) = Unit {0}
+IsPlain (alternation ts) = Unit {0}

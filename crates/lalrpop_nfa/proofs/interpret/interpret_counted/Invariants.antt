@@ -7,18 +7,15 @@ use Rattle.lalrpop_hir.specs.Tree.{Tree}
 use Rattle.lalrpop_hir.specs.Language.{Matches}
 use Rattle.lalrpop_nfa.specs.Prefix.{IsPrefix}
 use Rattle.lalrpop_nfa.specs.Compiled.{IsCompiled}
-use Rattle.lalrpop_nfa.proofs.StateSetLemmas.{IsAfterWord}
 use Rattle.lalrpop_nfa.proofs.PrefixLemmas.{IsLongestOfUpTo}
-use Rattle.lalrpop_nfa.proofs.Cuts.{IsCut}
+use Rattle.lalrpop_nfa.proofs.Runs.{IsRun}
 use Rattle.lalrpop_nfa.proofs.interpret.interpret_counted.Given as goal
 
 abbrev pub invariant-loop-offset : goal.invariant-loop-offset
 invariant-loop-offset l = record {
-  graph : l.simulation.graph ≡ l.nfa;
-  cut : IsCut l.text (char_indices_offset l.offset-iterator) (char_indices_rest l.offset-iterator);
-  after : IsAfterWord l.nfa (chars (take (char_indices_offset l.offset-iterator) l.text)) l.simulation.states;
+  run : IsRun l.nfa l.text (char_indices_offset l.offset-iterator) (char_indices_rest l.offset-iterator) l.simulation;
   best : (t : Tree) → IsCompiled t l.nfa → IsLongestOfUpTo (Matches t) l.text (char_indices_offset l.offset-iterator) (option_map (λ s. s.now) l.longest);
-  prefix : IfSome l.longest (λ s. IsPrefix s.now l.text);
+  prefix : IfSome (option_map (λ s. s.now) l.longest) (λ s. IsPrefix s l.text);
   never_falls : l.fn.steps ≤ l.steps;
   cost : l.steps ≤ l.fn.steps + length l.nfa.kinds * (length (chars (take (char_indices_offset l.offset-iterator) l.text)) + 1);
 }
