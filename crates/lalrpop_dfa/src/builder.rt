@@ -18,6 +18,7 @@ ghost use Rattle.lalrpop_items.specs.Subsets.{move, first_set_of};
 ghost use Rattle.lalrpop_dfa.specs.Internal.BreadthFirst.{IsBreadthFirst, nth};
 
 use super::automata::Automata;
+use super::best::Tie;
 use super::origin::Origin;
 use super::room::{EdgesByClass, Known, Room, Transitions};
 use super::{Dfa, DfaConstructionError, DfaStateIndex, Precedence};
@@ -53,6 +54,21 @@ pub(super) struct Sets {
 struct Table {
     sets: Sets,
     rows: Rows,
+}
+
+// A tie of the strongest patterns is reported as their clash.
+impl From<Tie> for DfaConstructionError {
+    ghost use Rattle.std.specs.Prelude.{◌≡◌};
+    ghost use Rattle.lalrpop_dfa.specs.declared.error.DfaConstructionError.TheVariants.{Ambiguity};
+
+    ghost from_gives = { λ tie error. error ≡ Ambiguity tie.greatest tie.second };
+
+    fn from(tie: Tie) -> DfaConstructionError {
+        DfaConstructionError::Ambiguity {
+            match0: tie.greatest,
+            match1: tie.second,
+        }
+    }
 }
 
 // The values from a cut up to the next one, which lie in the same labels.

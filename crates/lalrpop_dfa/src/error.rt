@@ -1,6 +1,5 @@
 //! Why a list of patterns has no automaton.
 use super::NfaIndex;
-use super::best::Tie;
 use lalrpop_nfa::NfaConstructionError;
 use std::alloc::{AllocError, AllocFailed};
 use thiserror::Error;
@@ -45,20 +44,5 @@ impl From<AllocError> for DfaConstructionError {
 
     fn from(_refused: AllocError) -> DfaConstructionError {
         DfaConstructionError::OutOfMemory
-    }
-}
-
-// The clash of two patterns that are the strongest.
-impl From<Tie> for DfaConstructionError {
-    ghost use Rattle.std.specs.Prelude.{◌≡◌};
-    ghost use Rattle.lalrpop_dfa.specs.declared.error.DfaConstructionError.TheVariants.{Ambiguity};
-
-    ghost from_gives = { λ tie error. error ≡ Ambiguity tie.greatest tie.second };
-
-    fn from(tie: Tie) -> DfaConstructionError {
-        DfaConstructionError::Ambiguity {
-            match0: tie.greatest,
-            match1: tie.second,
-        }
     }
 }
