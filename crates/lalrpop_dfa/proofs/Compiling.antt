@@ -1,13 +1,13 @@
 -- Trees compiled one after another.
-use Rattle.std.proofs.Common.{◌≡◌, ◌≢◌, ℕ, ◌+◌, ◌<◌, inl, inr, List, [], ◌∷◌, ◌++◌, length, get_or, ap, sym, ◌∙◌, subst, arith, Some, None, length-append}
+use Rattle.std.proofs.Common.{◌≡◌, ◌≢◌, ℕ, ◌+◌, inl, inr, List, [], ◌∷◌, ◌++◌, length, ap, sym, ◌∙◌, subst, arith, Some, None, length-append}
 use Rattle.std.specs.Prelude.{slice_get}
-use Rattle.std.proofs.lemmas.Option.{slice_get_cases, slice_get_within, slice_get-get_or}
+use Rattle.std.proofs.lemmas.Option.{slice_get_cases, slice_get_within}
 use Rattle.lalrpop_hir.specs.Tree.{Tree}
 use Rattle.lalrpop_nfa.specs.Graph.{Graph}
 use Rattle.lalrpop_nfa.specs.Fault.{fault}
-use Rattle.lalrpop_nfa.specs.Compiled.{IsCompiled, HasFixedEdges}
+use Rattle.lalrpop_nfa.specs.Compiled.{IsCompiled}
 use Rattle.lalrpop_items.specs.Automata.{AreCompiled}
-use Rattle.lalrpop_dfa.specs.Report.{NoFault, FirstFault}
+use Rattle.lalrpop_dfa.specs.Report.{NoFault}
 use Rattle.lalrpop_items.specs.Given.{AreFixed}
 use Rattle.lalrpop_dfa.specs.Internal.Builder.{IsFaultOf, IsRefusalOf, NoFaultBefore, IsCompiledAt}
 use Rattle.lalrpop_nfa.specs.declared.error.NfaConstructionError.TheVariants.{OutOfMemory as NoMemory}

@@ -1,10 +1,8 @@
-use Rattle.std.proofs.Common.{◌≡◌, ℕ, ◌+◌, ◌-◌, ◌<◌, inl, inr, List, [], ◌∷◌, ◌++◌, length, map, get_or, arith, refl, sym, subst, ap, ◌∙◌, rules, true, false}
+use Rattle.std.proofs.Common.{◌≡◌, ℕ, ◌+◌, ◌-◌, ◌<◌, inl, inr, List, [], ◌∷◌, ◌++◌, length, map, get_or, arith, refl, sym, subst, ap, ◌∙◌, true, false}
 use Rattle.std.specs.Prelude.{slice_get, Some, not}
-use Rattle.std.specs.Global.{Vec}
 use Rattle.std.specs.List.{Contains}
 use Rattle.std.proofs.lemmas.List.{length-map}
 use Rattle.std.proofs.lemmas.List.Elements.{Contains-get_or}
-use Rattle.lalrpop_hir.specs.Range.{Range}
 use Rattle.lalrpop_items.specs.Subsets.{move}
 use Rattle.lalrpop_items.specs.Transitions.{AreTransitions}
 use Rattle.lalrpop_dfa.specs.Internal.Blocks.{has_edges, blocks_to, blocks_of}
