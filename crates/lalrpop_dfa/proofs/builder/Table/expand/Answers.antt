@@ -23,4 +23,4 @@ returns-clause-ok c =
     c.edges_of.new.self.kernels.list c.edges_of.new.self.origins.items c.args.self.now.rows _
     c.edges_of.new.self.kernels.list c.edges_of.new.self.origins.items c.push.new.self
     c.requires.built c.requires.here c.len-number.ensures c.in_ok-edges.ensures.edged refl
-    refl c.in_ok-push.ensures refl refl (search rules)
+    refl c.in_ok-push.ensures refl refl (search rules depth 1)
