@@ -160,9 +160,9 @@ built_more ns ps sets origins rows n s sets2 origins2 row rows2 h at e kind item
 -- the same, with what the calls of one round say
 pub built_pushed : (ns : List Graph) (ps : List ℕ) (sets : List (List Item)) (origins : List (ℕ × ℕ)) (rows : List Row) (n : ℕ) (s : List Item) (sets1 : List (List Item)) (origins1 : List (ℕ × ℕ)) (rows1 : List Row) (row : Row)
     (sets2 : List (List Item)) (origins2 : List (ℕ × ℕ)) (rows2 : List Row)
-    → IsBuiltTo ns ps sets origins rows (length rows) → slice_get sets (length rows) ≡ Some s → n ≡ length rows → IsEdged ns sets origins n s sets1 origins1 row.tests row.other → IsKindOf ps s row.kind → row.items ≡ s
-    → rows1 ≡ rows → rows2 ≡ rows1 ++ row ∷ [] → sets2 ≡ sets1 → origins2 ≡ origins1 → IsBuiltTo ns ps sets2 origins2 rows2 (length rows2)
-built_pushed ns ps sets origins rows n s sets1 origins1 rows1 row sets2 origins2 rows2 h at number e kind items old more same_sets same_origins =
+    → IsBuiltTo ns ps sets origins rows (length rows) → slice_get sets (length rows) ≡ Some s → n ≡ length rows → IsEdged ns sets origins n s sets1 origins1 row.tests row.other → row.items ≡ s
+    → rows1 ≡ rows → rows2 ≡ rows1 ++ row ∷ [] → sets2 ≡ sets1 → origins2 ≡ origins1 → IsKindOf ps s row.kind → IsBuiltTo ns ps sets2 origins2 rows2 (length rows2)
+built_pushed ns ps sets origins rows n s sets1 origins1 rows1 row sets2 origins2 rows2 h at number e items old more same_sets same_origins kind =
     let pushed : rows2 ≡ rows ++ row ∷ [] = more ∙ ap (λ rs. rs ++ row ∷ []) old in
     let e2 : IsEdged ns sets origins (length rows) s sets1 origins1 row.tests row.other = subst (λ k. IsEdged ns sets origins k s sets1 origins1 row.tests row.other) number e in
     let done : IsBuiltTo ns ps sets1 origins1 rows2 (length rows + 1) = built_more ns ps sets origins rows (length rows) s sets1 origins1 row rows2 h at e2 kind items pushed in
@@ -171,14 +171,17 @@ built_pushed ns ps sets origins rows n s sets1 origins1 rows1 row sets2 origins2
 
 -- ---- the end
 -- no number is left: the table is finished
-pub built_all : (ns : List Graph) (ps : List ℕ) (sets : List (List Item)) (origins : List (ℕ × ℕ)) (rows : List Row) (place : ℕ) → IsBuiltTo ns ps sets origins rows (length rows) → place ≡ length rows → slice_get sets place ≡ None
-    → (ts : List Tree) → AreCompiled ts ns → NoClash ts ps × Recognizes rows ts ps × IsWellFormed rows × HoldsItems ns rows × OthersReject rows × IsInWordOrder rows
-built_all ns ps sets origins rows place h same none ts k =
+pub built_end : (ns : List Graph) (ps : List ℕ) (sets : List (List Item)) (origins : List (ℕ × ℕ)) (rows : List Row) (place : ℕ) → IsBuiltTo ns ps sets origins rows (length rows) → place ≡ length rows → slice_get sets place ≡ None → IsBuiltTo ns ps sets origins rows (length sets)
+built_end ns ps sets origins rows place h same none =
     let end : length rows ≡ length sets = elim (slice_get_cases sets (length rows)).1 [
       | inl more ↦ (let clash : None ≡ Some more.0 = sym (rw same at none) ∙ more.2 in cc)
       | inr past ↦ omega (arith, past.0, h.within)
     ] in
-    built_stands ts ps ns sets origins rows k (rw end at h.breadth_first) end h.rows_are h.small
+    subst (IsBuiltTo ns ps sets origins rows) end h
+
+pub built_all : (ns : List Graph) (ps : List ℕ) (sets : List (List Item)) (origins : List (ℕ × ℕ)) (rows : List Row) → IsBuiltTo ns ps sets origins rows (length sets)
+    → (ts : List Tree) → AreCompiled ts ns → NoClash ts ps × Recognizes rows ts ps × IsWellFormed rows × HoldsItems ns rows × OthersReject rows × IsInWordOrder rows
+built_all ns ps sets origins rows h ts k = built_stands ts ps ns sets origins rows k h.breadth_first h.counted h.rows_are h.small
 
 -- the sets are few
 pub built_few : (ns : List Graph) (ps : List ℕ) (sets : List (List Item)) (origins : List (ℕ × ℕ)) (rows : List Row) (s : List Item) → IsBuiltTo ns ps sets origins rows (length rows) → slice_get sets (length rows) ≡ Some s → length rows < 2 ^ length (all_items ns)

@@ -1,15 +1,15 @@
 -- Trees compiled one after another.
-use Rattle.std.proofs.Common.{◌≡◌, ◌≢◌, ℕ, ◌+◌, ◌<◌, inl, inr, List, [], ◌∷◌, ◌++◌, length, get_or, ap, sym, ◌∙◌, subst, arith, Some, None, length-append}
+use Rattle.std.proofs.Common.{◌≡◌, ◌≢◌, ℕ, ◌+◌, inl, inr, List, [], ◌∷◌, ◌++◌, length, ap, sym, ◌∙◌, subst, arith, Some, None, length-append}
 use Rattle.std.specs.Prelude.{slice_get}
-use Rattle.std.proofs.lemmas.Option.{slice_get_cases, slice_get_within, slice_get-get_or}
+use Rattle.std.proofs.lemmas.Option.{slice_get_cases, slice_get_within}
 use Rattle.lalrpop_hir.specs.Tree.{Tree}
 use Rattle.lalrpop_nfa.specs.Graph.{Graph}
 use Rattle.lalrpop_nfa.specs.Fault.{fault}
-use Rattle.lalrpop_nfa.specs.Compiled.{IsCompiled, HasFixedEdges}
+use Rattle.lalrpop_nfa.specs.Compiled.{IsCompiled}
 use Rattle.lalrpop_items.specs.Automata.{AreCompiled}
-use Rattle.lalrpop_dfa.specs.Report.{NoFault, FirstFault}
+use Rattle.lalrpop_dfa.specs.Report.{NoFault}
 use Rattle.lalrpop_items.specs.Given.{AreFixed}
-use Rattle.lalrpop_dfa.specs.Internal.Builder.{IsFaultOf, IsRefusalOf}
+use Rattle.lalrpop_dfa.specs.Internal.Builder.{IsFaultOf, IsRefusalOf, NoFaultBefore, IsCompiledAt}
 use Rattle.lalrpop_nfa.specs.declared.error.NfaConstructionError.TheVariants.{OutOfMemory as NoMemory}
 use Rattle.lalrpop_nfa.specs.declared.error.NfaConstructionError.{NfaConstructionError}
 use Rattle.lalrpop_dfa.specs.declared.error.DfaConstructionError.{DfaConstructionError}
@@ -22,37 +22,29 @@ pub record IsCompiledTo (ts : List Tree) (ns : List Graph) (k : ℕ) : Type 0 wh
   pub each : (i : ℕ) (t : Tree) (g : Graph) → slice_get ts i ≡ Some t → slice_get ns i ≡ Some g → (fault t ≡ None) × IsCompiled t g
   pub fixed : AreFixed ns
 
-pub compiled_more : (ts : List Tree) (ns ns2 : List Graph) (k : ℕ) (t : Tree) (g : Graph) → IsCompiledTo ts ns k → k < length ts → t ≡ get_or ts k t → (fault t ≡ None) × IsCompiled t g → HasFixedEdges g.edges → ns2 ≡ ns ++ g ∷ [] → IsCompiledTo ts ns2 (k + 1)
-compiled_more ts ns ns2 k t g h l is c f more = record {
+pub compiled_more : (ts : List Tree) (ns ns2 : List Graph) (k : ℕ) (g : Graph) → IsCompiledTo ts ns k → IsCompiledAt ts k g → ns2 ≡ ns ++ g ∷ [] → IsCompiledTo ts ns2 (k + 1)
+compiled_more ts ns ns2 k g h c more = record {
   counted = omega (arith, ap length more, length-append ns (g ∷ []), h.counted);
   each = λ i u v a b. elim (pushed_cases ns g i v (rw more at b)) [
     | inl was ↦ h.each i u v a was
     | inr new ↦
-        (let here : slice_get ts i ≡ Some t = subst (λ j. slice_get ts j ≡ Some t) (sym (new.0 ∙ h.counted)) (slice_get-get_or ts k t l ∙ ap (λ z. Some z) (sym is)) in
-        let same : Some u ≡ Some t = sym a ∙ here in
-        let tree : t ≡ u = cc in
-        rw (new.1, ← tree) c)
+        (let here : slice_get ts i ≡ Some c.tree = subst (λ j. slice_get ts j ≡ Some c.tree) (sym (new.0 ∙ h.counted)) c.at in
+        let same : Some u ≡ Some c.tree = sym a ∙ here in
+        let tree : c.tree ≡ u = cc in
+        rw (new.1, ← tree) (c.no_fault, c.compiled))
   ];
   fixed = λ i u b. elim (pushed_cases ns g i u (rw more at b)) [
     | inl was ↦ h.fixed i u was
-    | inr new ↦ rw new.1 f
+    | inr new ↦ rw new.1 c.fixed
   ];
 }
 
 -- what comes before has no fault
-before : (ts : List Tree) (ns : List Graph) (k : ℕ) → IsCompiledTo ts ns k → (j : ℕ) (t : Tree) → j < k → slice_get ts j ≡ Some t → fault t ≡ None
+pub before : (ts : List Tree) (ns : List Graph) (k : ℕ) → IsCompiledTo ts ns k → NoFaultBefore ts k
 before ts ns k h j t l a = elim (slice_get_cases ns j).1 [
   | inl g ↦ (h.each j t g.0 a g.2).0
   | inr past ↦ absurd (omega (arith, past.0, h.counted))
 ]
-
-pub compiled_fault : (ts : List Tree) (ns : List Graph) (k : ℕ) (t : Tree) (e : NfaConstructionError) → IsCompiledTo ts ns k → k < length ts → t ≡ get_or ts k t → fault t ≡ Some e → FirstFault ts k e
-compiled_fault ts ns k t e h l is has = record {
-  tree = t;
-  at = slice_get-get_or ts k t l ∙ ap (λ z. Some z) (sym is);
-  has = has;
-  none_before = λ j u m a. before ts ns k h j u m a;
-}
 
 pub compiled_all : (ts : List Tree) (ns : List Graph) (k : ℕ) → IsCompiledTo ts ns k → k ≡ length ts → NoFault ts × AreCompiled ts ns
 compiled_all ts ns k h e = (
@@ -61,7 +53,7 @@ compiled_all ts ns k h e = (
 )
 
 -- ---- what is reported
-pub refused_report : (ts : List Tree) (ns : List Graph) (k : ℕ) (t : Tree) (e : NfaConstructionError) (r : DfaConstructionError) → IsCompiledTo ts ns k → k < length ts → t ≡ get_or ts k t → (e ≢ NoMemory → fault t ≡ Some e) → IsRefusalOf k e r → IsFaultOf ts r
-refused_report ts ns k t e (Refused i f) h l is has m = rw (m.0, m.1) (compiled_fault ts ns k t e h l is (has m.2))
-refused_report ts ns k t e (Ambiguity i j) h l is has m = m
-refused_report ts ns k t e OutOfMemory h l is has m = tt
+pub refused_report : (ts : List Tree) (k : ℕ) (t : Tree) (e : NfaConstructionError) (r : DfaConstructionError) → NoFaultBefore ts k → slice_get ts k ≡ Some t → (e ≢ NoMemory → fault t ≡ Some e) → IsRefusalOf k e r → IsFaultOf ts r
+refused_report ts k t e (Refused i f) h at has m = rw (m.0, m.1) (record { tree = t; at = at; has = has m.2; none_before = h })
+refused_report ts k t e (Ambiguity i j) h at has m = m
+refused_report ts k t e OutOfMemory h at has m = tt

@@ -1,7 +1,8 @@
 -- The test edges of a set, from cut to cut.
-use Rattle.std.proofs.Common.{◌≡◌, ℕ, ◌+◌, ◌<◌, ◌≤◌, ◌⊎◌, inl, List, [], ◌∷◌, ◌++◌, length, map, get_or, refl, sym, ap, ◌∙◌, subst, Option, Some, true, false, add-one, zero, suc, arith}
-use Rattle.std.specs.Prelude.{slice_get}
+use Rattle.std.proofs.Common.{◌≡◌, ℕ, ◌+◌, ◌<◌, ◌≤◌, ◌⊎◌, inl, inr, List, [], ◌∷◌, ◌++◌, length, map, get_or, refl, sym, ap, ◌∙◌, subst, Option, Some, true, false, add-one, zero, suc, arith}
+use Rattle.std.specs.Prelude.{slice_get, Bool, IsTrue, ◌↔◌}
 use Rattle.std.specs.List.{Contains}
+use Rattle.std.proofs.lemmas.Bool.{cases_lt}
 use Rattle.std.proofs.lemmas.Option.{slice_get_read}
 use Rattle.std.proofs.lemmas.List.{length_push}
 use Rattle.lalrpop_hir.specs.Range.{Range}
@@ -40,6 +41,10 @@ pub is_block : (cells : List Cell) (count : ℕ) (by_class : List Transitions) (
 is_block cells count by_class cuts read k x y are same l before at less some =
     let here : slice_get cells (get_or cuts k 0) ≡ Some y = subst (λ (ks : List ℕ). slice_get cells (get_or ks k 0) ≡ Some y) same at in
     record { within = subst (λ (ks : List ℕ). k < length ks) same l; before = before; at = here; small = (are.within (get_or cuts k 0) y here).0; less = less; some = some }
+
+-- there are values before a cut
+pub some_values : (x y : Cell) (none : Bool) → IsTrue none ↔ (y.first ≤ x.first) → none ≡ false → x.first < y.first
+some_values x y none is some = elim (cases_lt x.first y.first) [ inl less ↦ less | inr above ↦ (let yes : none ≡ true = is.1 above in cc) ]
 
 -- the class of the values before a cut, where there are some
 pub class_within : (cells : List Cell) (count : ℕ) (cuts read : List ℕ) (k : ℕ) (x y : Cell) → AreCells cells count → IsBefore cells cuts k x → slice_get cells (get_or read k 0) ≡ Some y → x.first < y.first → x.class < count

@@ -1,7 +1,7 @@
 //! Building an automaton: the patterns are compiled one by one, then joined.
-ghost use Rattle.std.specs.Prelude.{◌≡◌, ◌≤◌, List, map, length, IfOk, IfErr};
+ghost use Rattle.std.specs.Prelude.{◌≡◌, ◌<◌, ◌≤◌, List, map, length, IfOk, IfErr};
 ghost use Rattle.lalrpop_items.specs.Given.{AreFixed};
-ghost use Rattle.lalrpop_dfa.specs.Internal.Builder.{IsFaultOf, IsRefusalOf};
+ghost use Rattle.lalrpop_dfa.specs.Internal.Builder.{IsFaultOf, IsRefusalOf, NoFaultBefore, IsCompiledAt};
 ghost use Rattle.lalrpop_dfa.specs.Clash.{NoClash};
 ghost use Rattle.lalrpop_table.specs.Counts.{state_bound};
 ghost use Rattle.lalrpop_table.specs.Dfa.{Recognizes};
@@ -26,6 +26,19 @@ fn refusal(index: NfaIndex, error: NfaConstructionError) -> DfaConstructionError
     }
 }
 
+// The automaton of the pattern at this place, where no pattern before it has a fault, or what is reported of it.
+fn compile(alloc: Global, regexs: &[Regex], index: usize) -> Result<Nfa, DfaConstructionError>
+    requires within { index < length regexs.now }
+    requires no_fault { NoFaultBefore regexs.now index }
+    ensures ok { IfOk result (IsCompiledAt regexs.now index) }
+    ensures err { IfErr result (IsFaultOf regexs.now) }
+{
+    match Nfa::from_re(alloc, &regexs[index]) {
+        Ok(nfa) => Ok(nfa),
+        Err(error) => Err(refusal(NfaIndex::new(index), error)),
+    }
+}
+
 // The automata of the patterns, in the order of the list, or the first pattern that has a fault.
 fn compile_all(alloc: Global, regexs: &[Regex]) -> Result<Vec<Nfa>, DfaConstructionError>
     ensures ok { IfOk result (λ nfas. NoFault regexs.now × AreCompiled regexs.now nfas.items) }
@@ -33,12 +46,8 @@ fn compile_all(alloc: Global, regexs: &[Regex]) -> Result<Vec<Nfa>, DfaConstruct
     ensures err { IfErr result (IsFaultOf regexs.now) }
 {
     let mut nfas = Vec::new(alloc);
-    for (index, regex) in regexs.iter().enumerate() {
-        let nfa = match Nfa::from_re(alloc, regex) {
-            Ok(nfa) => nfa,
-            Err(error) => return Err(refusal(NfaIndex::new(index), error)),
-        };
-        nfas.push(nfa)?;
+    for index in 0..regexs.len() {
+        nfas.push(compile(alloc, regexs, index)?)?;
     }
     Ok(nfas)
 }

@@ -1,6 +1,6 @@
 //! The construction of an automaton: sets of items are numbered as they are first met, and expanded number by number.
 
-ghost use Rattle.std.specs.Prelude.{◌≡◌, ◌+◌, ◌<◌, ◌≤◌, ◌++◌, ◌∷◌, [], List, length, map, slice_get, Some, IfOk, IfErr, OnOk};
+ghost use Rattle.std.specs.Prelude.{◌≡◌, ◌+◌, ◌-◌, ◌^◌, ◌↔◌, IsTrue, ◌<◌, ◌≤◌, ◌++◌, ◌∷◌, [], List, length, map, slice_get, Some, IfOk, IfErr, OnOk};
 ghost use Rattle.std.specs.List.Sorted.{IsSorted};
 ghost use Rattle.lalrpop_hir.specs.Tree.{Tree};
 ghost use Rattle.lalrpop_items.specs.Ascending.{AreAscendingItems};
@@ -54,6 +54,69 @@ pub(super) struct Sets {
 struct Table {
     sets: Sets,
     rows: Rows,
+}
+
+// A tie of the strongest patterns is reported as their clash.
+impl From<Tie> for DfaConstructionError {
+    ghost use Rattle.std.specs.Prelude.{◌≡◌};
+    ghost use Rattle.lalrpop_dfa.specs.declared.error.DfaConstructionError.TheVariants.{Ambiguity};
+
+    ghost from_gives = { λ tie error. error ≡ Ambiguity tie.greatest tie.second };
+
+    fn from(tie: Tie) -> DfaConstructionError {
+        DfaConstructionError::Ambiguity {
+            match0: tie.greatest,
+            match1: tie.second,
+        }
+    }
+}
+
+// The values from a cut up to the next one, which lie in the same labels.
+#[derive(Clone, Copy)]
+struct Block {
+    from: Cell,
+    to: Cell,
+}
+
+impl Block {
+    // Whether there are no such values.
+    fn is_empty(&self) -> bool
+        ensures { IsTrue result ↔ (self.now.to.first ≤ self.now.from.first) }
+    {
+        self.to.first <= self.from.first
+    }
+
+    // Where a set is first met to which its first value leads from the set of a number.
+    fn origin(&self, number: usize) -> Origin
+        requires { self.now.from.first < 2 ^ 32 }
+        ensures { result ≡ (number, self.now.from.first) }
+    {
+        Origin::new(number, self.from.first as u32)
+    }
+
+    // The label of an edge that exactly these values take.
+    fn label(&self) -> Test
+        requires some { self.now.from.first < self.now.to.first }
+        requires small { self.now.to.first ≤ 2 ^ 32 }
+        ensures { result ≡ record { start = self.now.from.first; end = self.now.to.first - 1 } }
+    {
+        Test::new(self.from.first as u32..=(self.to.first - 1) as u32)
+    }
+
+    // Adds the test edge by which the values lead to a number.
+    fn add_edge(
+        &self,
+        target: DfaStateIndex,
+        tests: &mut Vec<(Test, DfaStateIndex)>,
+    ) -> Result<(), AllocError>
+        requires some { self.now.from.first < self.now.to.first }
+        requires small { self.now.to.first ≤ 2 ^ 32 }
+        ensures { OnOk result (tests.new.items ≡ tests.old.items
+            ++ (record { start = self.now.from.first; end = self.now.to.first - 1 }, target) ∷ []) }
+    {
+        tests.push((self.label(), target))?;
+        Ok(())
+    }
 }
 
 // The set that the empty word leads to, as number 0.
@@ -155,18 +218,23 @@ impl Sets {
         let mut tests = Vec::with_capacity(alloc, room.cuts.places.len())?;
         let mut before = BEFORE_ALL;
         for cut in &room.cuts.places {
-            let Cell { first, class } = before;
-            before = automata.cell(*cut);
-            if first < before.first {
-                let origin = Origin::new(number, first as u32);
-                let target = match known.by_class[class] {
-                    Some(target) => target,
-                    None if edges.is_bare(class) => continue,
-                    None => new_target(self, alloc, automata, set, known, edges, class, origin)?,
-                };
-                let range = Test::new(first as u32..=(before.first - 1) as u32);
-                tests.push((range, target))?;
+            let next = automata.cell(*cut);
+            let block = Block {
+                from: before,
+                to: next,
+            };
+            before = next;
+            if block.is_empty() {
+                continue;
             }
+            let class = block.from.class;
+            let origin = block.origin(number);
+            let target = match known.by_class[class] {
+                Some(target) => target,
+                None if edges.is_bare(class) => continue,
+                None => new_target(self, alloc, automata, set, known, edges, class, origin)?,
+            };
+            block.add_edge(target, &mut tests)?;
         }
         Ok(tests)
     }
@@ -302,18 +370,35 @@ impl Table {
         ensures room { OnOk result (IsRoomOf automata.now.alphabet room.new) }
         ensures err { IfErr result (IsTieOf (map (λ p. p.0) precedences.now) set) }
     {
-        let kind = match automata.kind_of(precedences, &set) {
-            Ok(kind) => kind,
-            Err(Tie { greatest, second }) => {
-                return Err(DfaConstructionError::Ambiguity {
-                    match0: greatest,
-                    match1: second,
-                });
-            }
-        };
+        let kind = automata.kind_of(precedences, &set)?;
         let number = self.rows.len();
         let edges = self.sets.edges_of(alloc, automata, room, number, &set)?;
         self.rows.push(set, kind, edges)?;
+        Ok(())
+    }
+    // Expands the numbers in turn, until there is no further one.
+    fn expand_all(
+        &mut self,
+        alloc: Global,
+        automata: &Automata,
+        precedences: &[Precedence],
+        room: &mut Room,
+    ) -> Result<(), DfaConstructionError>
+        requires same_len { length automata.now.graphs ≡ length precedences.now }
+        requires built { IsBuiltTo automata.now.graphs (map (λ p. p.0) precedences.now)
+            self.old.sets.kernels.list self.old.sets.origins.items self.old.rows
+            (length self.old.rows) }
+        requires place { self.old.sets.kernels.place ≡ length self.old.rows }
+        requires room { IsRoomOf automata.now.alphabet room.old }
+        ensures ok { OnOk result (IsBuiltTo automata.now.graphs (map (λ p. p.0) precedences.now)
+            self.new.sets.kernels.list self.new.sets.origins.items self.new.rows
+            (length self.new.sets.kernels.list)) }
+        ensures err { IfErr result (λ e. let ps = map (λ p. p.0) precedences.now in
+            (ts : List Tree) → AreCompiled ts automata.now.graphs → IsClashOf ts ps e) }
+    {
+        while let Some(set) = self.sets.kernels.next()? {
+            self.expand(alloc, automata, precedences, room, set)?;
+        }
         Ok(())
     }
 }
@@ -342,8 +427,6 @@ pub(super) fn build(
         sets: first_sets(alloc, &automata)?,
         rows: Rows::new(alloc),
     };
-    while let Some(set) = table.sets.kernels.next()? {
-        table.expand(alloc, &automata, precedences, &mut room, set)?;
-    }
+    table.expand_all(alloc, &automata, precedences, &mut room)?;
     Ok(Dfa::new(alloc, table.rows)?)
 }

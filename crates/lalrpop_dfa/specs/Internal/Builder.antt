@@ -6,6 +6,8 @@ use Rattle.std.specs.BTreeMap.{BTreeMap, get}
 use Rattle.lalrpop_hir.specs.Range.{Range, Covers}
 use Rattle.lalrpop_hir.specs.Tree.{Tree}
 use Rattle.lalrpop_nfa.specs.Graph.{Graph}
+use Rattle.lalrpop_nfa.specs.Fault.{fault}
+use Rattle.lalrpop_nfa.specs.Compiled.{IsCompiled, HasFixedEdges}
 use Rattle.lalrpop_dfa.specs.Clash.{IsClash}
 use Rattle.lalrpop_table.specs.Dfa.{Row}
 use Rattle.lalrpop_items.specs.Automata.{Item}
@@ -110,6 +112,18 @@ abbrev pub IsFaultOf : List Tree → DfaConstructionError → Type 0
 IsFaultOf ts (Refused i e) = FirstFault ts i e
 IsFaultOf ts (Ambiguity i j) = ⊥
 IsFaultOf ts OutOfMemory = Unit {0}
+
+-- the trees before tree i have no fault
+abbrev pub NoFaultBefore : List Tree → ℕ → Type 0
+NoFaultBefore ts i = (j : ℕ) (t : Tree) → j < i → slice_get ts j ≡ Some t → fault t ≡ None
+
+-- tree i has no fault, and this automaton
+pub record IsCompiledAt (ts : List Tree) (i : ℕ) (g : Graph) : Type 0 where
+  pub tree : Tree
+  pub at : slice_get ts i ≡ Some tree
+  pub no_fault : fault tree ≡ None
+  pub compiled : IsCompiled tree g
+  pub fixed : HasFixedEdges g.edges
 
 -- it is said that pattern i was not compiled, and why
 abbrev pub IsRefusalOf : ℕ → NfaConstructionError → DfaConstructionError → Type 0

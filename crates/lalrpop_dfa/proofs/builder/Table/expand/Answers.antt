@@ -1,4 +1,4 @@
-use Rattle.std.proofs.Common.{length, map, refl}
+use Rattle.std.proofs.Common.{length, map, refl, rules}
 use Rattle.lalrpop_dfa.proofs.Builds.{set_holds, built_pushed}
 use Rattle.lalrpop_dfa.proofs.builder.Table.expand.Goals as goal
 
@@ -20,7 +20,7 @@ edges_of-requires-clause-inside c =
 pub returns-clause-ok : goal.returns-clause-ok
 returns-clause-ok c =
     built_pushed c.args.automata.now.graphs (map (λ p. p.0) c.args.precedences.now) c.args.self.now.sets.kernels.list c.args.self.now.sets.origins.items c.args.self.now.rows c.len-number.result c.args.set
-    c.edges_of.new.self.kernels.list c.edges_of.new.self.origins.items c.args.self.now.rows (record { kind = c.in-Ok.kind; tests = c.in_ok-edges.edges.tests.items; other = c.in_ok-edges.edges.other; items = c.args.set })
+    c.edges_of.new.self.kernels.list c.edges_of.new.self.origins.items c.args.self.now.rows _
     c.edges_of.new.self.kernels.list c.edges_of.new.self.origins.items c.push.new.self
-    c.requires.built c.requires.here c.len-number.ensures c.in_ok-edges.ensures.edged c.in-Ok.ensures.ok refl
-    refl c.in_ok-push.ensures refl refl
+    c.requires.built c.requires.here c.len-number.ensures c.in_ok-edges.ensures.edged refl
+    refl c.in_ok-push.ensures refl refl (search rules depth 1)
