@@ -376,6 +376,7 @@ impl Table {
         self.rows.push(set, kind, edges)?;
         Ok(())
     }
+
     // Expands the numbers in turn, until there is no further one.
     fn expand_all(
         &mut self,
