@@ -86,7 +86,7 @@ impl Block {
         self.to.first <= self.from.first
     }
 
-    // Where a set is first met to which its first value leads from the set of a number.
+    // The origin of a set that is first met as the one to which they lead from a number.
     fn origin(&self, number: usize) -> Origin
         requires { self.now.from.first < 2 ^ 32 }
         ensures { result ≡ (number, self.now.from.first) }
@@ -376,6 +376,7 @@ impl Table {
         self.rows.push(set, kind, edges)?;
         Ok(())
     }
+
     // Expands the numbers in turn, until there is no further one.
     fn expand_all(
         &mut self,
