@@ -56,18 +56,13 @@ struct Table {
     rows: Rows,
 }
 
-// A tie of the strongest patterns is reported as their clash.
-impl From<Tie> for DfaConstructionError {
-    ghost use Rattle.std.specs.Prelude.{◌≡◌};
-    ghost use Rattle.lalrpop_dfa.specs.declared.error.DfaConstructionError.TheVariants.{Ambiguity};
-
-    ghost from_gives = { λ tie error. error ≡ Ambiguity tie.greatest tie.second };
-
-    fn from(tie: Tie) -> DfaConstructionError {
-        DfaConstructionError::Ambiguity {
-            match0: tie.greatest,
-            match1: tie.second,
-        }
+// What is reported where the strongest patterns of a state tie.
+fn clash_of(tie: Tie) -> DfaConstructionError
+    ensures { result ≡ DfaConstructionError.Ambiguity tie.greatest tie.second }
+{
+    DfaConstructionError::Ambiguity {
+        match0: tie.greatest,
+        match1: tie.second,
     }
 }
 
@@ -86,7 +81,7 @@ impl Block {
         self.to.first <= self.from.first
     }
 
-    // Where a set is first met to which its first value leads from the set of a number.
+    // The origin of a set that is first met as the one to which they lead from a number.
     fn origin(&self, number: usize) -> Origin
         requires { self.now.from.first < 2 ^ 32 }
         ensures { result ≡ (number, self.now.from.first) }
@@ -370,7 +365,10 @@ impl Table {
         ensures room { OnOk result (IsRoomOf automata.now.alphabet room.new) }
         ensures err { IfErr result (IsTieOf (map (λ p. p.0) precedences.now) set) }
     {
-        let kind = automata.kind_of(precedences, &set)?;
+        let kind = match automata.kind_of(precedences, &set) {
+            Ok(kind) => kind,
+            Err(tie) => return Err(clash_of(tie)),
+        };
         let number = self.rows.len();
         let edges = self.sets.edges_of(alloc, automata, room, number, &set)?;
         self.rows.push(set, kind, edges)?;
