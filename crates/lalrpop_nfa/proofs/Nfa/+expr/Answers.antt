@@ -1,4 +1,4 @@
-use Rattle.std.proofs.Common.{inr, arith, ap, ◌≢◌, ◌-◌, ◌∷◌}
+use Rattle.std.proofs.Common.{inr, arith, rules, ap, ◌≢◌, ◌-◌, ◌∷◌}
 use Rattle.std.proofs.lemmas.Result.{err_from_is_err_and, IfOk-weaker}
 use Rattle.lalrpop_hir.specs.Parts.{trees}
 use Rattle.lalrpop_hir.specs.Internal.Depth.{depth}
@@ -109,6 +109,9 @@ repeat_expr-returns-in_ok-entry-in-Some-clause-extended t c =
     rw (← c.in-Some.ensures.value)
     (IfOk-weaker c.copies.result (Extends (copies x r.min) c.in_ok-entry-in-Some.entry c.optional_copies.new.self c.copies.new.self) (Extends (before (copies x r.min) rest) c.args.target c.args.self.now c.copies.new.self)
     (λ q h. Extends-before (copies x r.min) rest c.args.target c.in_ok-entry-in-Some.entry q c.args.self.now c.optional_copies.new.self c.copies.new.self a h) b)
+
+pub repeat_expr-returns-in-1-clause-extended : goal.repeat_expr-returns-in-1-clause-extended
+repeat_expr-returns-in-1-clause-extended t c = search rules
 
 pub repeat_expr-returns-in_default-clause-extended : goal.repeat_expr-returns-in_default-clause-extended
 repeat_expr-returns-in_default-clause-extended t c =

@@ -8,6 +8,9 @@ use Rattle.lalrpop_nfa.proofs.CharLemmas.{IsUtf8-front, chars-last, chars-none}
 use Rattle.lalrpop_nfa.proofs.BuildLemmas.{Extends-before}
 use Rattle.lalrpop_nfa.proofs.Nfa.literal_text_expr.Goals as goal
 
+pub loop-c-init : goal.loop-c-init
+loop-c-init c = search rules
+
 pub loop-c-preserved : goal.loop-c-preserved
 loop-c-preserved c =
     let i = c.loop-c.invariant in
