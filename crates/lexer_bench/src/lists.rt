@@ -30,10 +30,14 @@ impl List {
         }
     }
 
-    fn word(&mut self, word: &str) -> Result<(), AllocError> {
-        self.patterns.push(Hir::literal(self.alloc, word)?)?;
-        self.precedences.push(STRONG)?;
+    fn push(&mut self, tree: Regex, precedence: Precedence) -> Result<(), AllocError> {
+        self.patterns.push(tree)?;
+        self.precedences.push(precedence)?;
         Ok(())
+    }
+
+    fn word(&mut self, word: &str) -> Result<(), AllocError> {
+        self.push(Hir::literal(self.alloc, word)?, STRONG)
     }
 
     fn words(&mut self, words: &[&str]) -> Result<(), AllocError> {
@@ -58,46 +62,122 @@ impl List {
     }
 
     fn pattern(&mut self, pattern: &str) -> Result<(), RegexError> {
-        self.patterns.push(parse_regex(self.alloc, pattern)?)?;
-        self.precedences.push(WEAK)?;
+        let tree = parse_regex(self.alloc, pattern)?;
+        Ok(self.push(tree, WEAK)?)
+    }
+
+    fn patterns(&mut self, patterns: &[&str]) -> Result<(), RegexError> {
+        for pattern in patterns {
+            self.pattern(pattern)?;
+        }
         Ok(())
     }
 }
 
+// The terminals of C that no word is.
+const C_PATTERNS: [&str; 7] = [
+    "[A-Za-z_][A-Za-z0-9_]*",
+    "[0-9]+[uUlL]*",
+    "0[xX][0-9a-fA-F]+[uUlL]*",
+    "([0-9]+\\.[0-9]*|\\.[0-9]+)([eE][-+]?[0-9]+)?[fFlL]?",
+    "'([^'\\\\\\n]|\\\\.)+'|\"([^\"\\\\\\n]|\\\\.)*\"",
+    "//[^\\n]*|/\\*([^*]|\\*+[^*/])*\\*+/",
+    "[ \\t\\n]+",
+];
+
+fn c_list(alloc: Global) -> Result<List, RegexError> {
+    let mut list = List::new(alloc);
+    list.words(&C_KEYWORDS)?;
+    list.words(&C_OPERATORS)?;
+    list.patterns(&C_PATTERNS)?;
+    Ok(list)
+}
+
+fn unicode_list(alloc: Global) -> Result<List, RegexError> {
+    let mut list = List::new(alloc);
+    list.words(&KEYWORDS)?;
+    list.patterns(&["[\\w--\\d]\\w*", "\\d+", "[ \\n]+"])?;
+    Ok(list)
+}
+
+// A list of so many words of five letters, and of a pattern behind them.
+struct Row {
+    name: &'static str,
+    words: u64,
+    pattern: Option<&'static str>,
+}
+
+const ROWS: [Row; 9] = [
+    Row {
+        name: "words 100",
+        words: 100,
+        pattern: None,
+    },
+    Row {
+        name: "words 1000",
+        words: 1_000,
+        pattern: None,
+    },
+    Row {
+        name: "words 10000",
+        words: 10_000,
+        pattern: None,
+    },
+    Row {
+        name: "words 100000",
+        words: 100_000,
+        pattern: None,
+    },
+    Row {
+        name: "words 1000 and a name",
+        words: 1_000,
+        pattern: Some("[A-Za-z_][A-Za-z0-9_]*"),
+    },
+    Row {
+        name: "window",
+        words: 0,
+        pattern: Some("(a|b)*a(a|b){12}"),
+    },
+    Row {
+        name: "up to 300",
+        words: 0,
+        pattern: Some("[a-z]{0,300}"),
+    },
+    Row {
+        name: "exactly 300",
+        words: 0,
+        pattern: Some("[a-z]{300}"),
+    },
+    Row {
+        name: "exactly 1000",
+        words: 0,
+        pattern: Some("[a-z]{1000}"),
+    },
+];
+
+fn list_of(alloc: Global, row: &Row) -> Result<List, RegexError> {
+    let mut list = List::new(alloc);
+    list.scattered(row.words)?;
+    if let Some(pattern) = row.pattern {
+        list.pattern(pattern)?;
+    }
+    Ok(list)
+}
+
+fn list_of_rows(alloc: Global, name: &str) -> Result<Option<List>, RegexError> {
+    for row in &ROWS {
+        if row.name == name {
+            return Ok(Some(list_of(alloc, row)?));
+        }
+    }
+    Ok(None)
+}
+
 /// The list of this name.
 pub(crate) fn list_named(alloc: Global, name: &str) -> Result<Option<List>, RegexError> {
-    let mut list = List::new(alloc);
     match name {
-        "c" => {
-            list.words(&C_KEYWORDS)?;
-            list.words(&C_OPERATORS)?;
-            list.pattern("[A-Za-z_][A-Za-z0-9_]*")?;
-            list.pattern("[0-9]+[uUlL]*")?;
-            list.pattern("0[xX][0-9a-fA-F]+[uUlL]*")?;
-            list.pattern("([0-9]+\\.[0-9]*|\\.[0-9]+)([eE][-+]?[0-9]+)?[fFlL]?")?;
-            list.pattern("'([^'\\\\\\n]|\\\\.)+'|\"([^\"\\\\\\n]|\\\\.)*\"")?;
-            list.pattern("//[^\\n]*|/\\*([^*]|\\*+[^*/])*\\*+/")?;
-            list.pattern("[ \\t\\n]+")?;
-        }
-        "unicode" => {
-            list.words(&KEYWORDS)?;
-            list.pattern("[\\w--\\d]\\w*")?;
-            list.pattern("\\d+")?;
-            list.pattern("[ \\n]+")?;
-        }
-        "words 100" => list.scattered(100)?,
-        "words 1000" => list.scattered(1_000)?,
-        "words 10000" => list.scattered(10_000)?,
-        "words 100000" => list.scattered(100_000)?,
-        "words 1000 and a name" => {
-            list.scattered(1_000)?;
-            list.pattern("[A-Za-z_][A-Za-z0-9_]*")?;
-        }
-        "window" => list.pattern("(a|b)*a(a|b){12}")?,
-        "up to 300" => list.pattern("[a-z]{0,300}")?,
-        "exactly 300" => list.pattern("[a-z]{300}")?,
-        "exactly 1000" => list.pattern("[a-z]{1000}")?,
-        _ => return Ok(None),
+        "c" => Ok(Some(c_list(alloc)?)),
+        "unicode" => Ok(Some(unicode_list(alloc)?)),
+        _ => list_of_rows(alloc, name),
     }
-    Ok(Some(list))
 }

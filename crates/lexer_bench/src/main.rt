@@ -12,6 +12,7 @@ mod texts;
 use lalrpop_lexer::lexer::dfa::interpret::interpret;
 use lalrpop_lexer::lexer::dfa::{Dfa, DfaStateIndex, Kind, START, State, build_dfa};
 use lalrpop_lexer::lexer::nfa::Test;
+use lalrpop_lexer::lexer::re::RegexError;
 use lists::{List, list_named};
 use parts::{blocks_of, cycled, kernels_of};
 use patterns::{ROWS, Row};
@@ -127,31 +128,56 @@ impl Shape {
     }
 }
 
-// The states in the order in which test edges first lead to them.
+/// States in the order in which test edges first lead to them.
+#[derive(Drop)]
+struct Order {
+    seen: Vec<bool>,
+    states: Vec<DfaStateIndex>,
+}
+
+impl Order {
+    fn reach(&mut self, target: DfaStateIndex) -> Result<(), AllocError> {
+        if let Some(seen) = self.seen.get_mut(target.index()) {
+            if !*seen && target.index() != 0 {
+                *seen = true;
+                self.states.push(target)?;
+            }
+        }
+        Ok(())
+    }
+}
+
+fn follow(
+    edges: &[(Test, DfaStateIndex)],
+    shape: &mut Shape,
+    order: &mut Order,
+) -> Result<(), AllocError> {
+    for (label, target) in edges {
+        shape.add_edge(label, *target);
+        order.reach(*target)?;
+    }
+    Ok(())
+}
+
+fn order_from_start(alloc: Global, count: usize) -> Result<Order, AllocError> {
+    let seen = vec![in alloc; false; count]?;
+    let states = vec![in alloc; START]?;
+    Ok(Order { seen, states })
+}
+
 fn shape_of(alloc: Global, dfa: &Dfa) -> Result<Shape, AllocError> {
     let count = dfa.states().len();
     let mut shape = Shape { edges: 0, sum: 0 };
-    let mut seen = vec![in alloc; false; count]?;
-    let mut order = Vec::new(alloc);
-    order.push(START)?;
+    let mut order = order_from_start(alloc, count)?;
     for place in 0..count {
-        let Some(index) = order.get(place) else {
+        let Some(index) = order.states.get(place).copied() else {
             break;
         };
-        let index = *index;
         if index.index() >= count {
             break;
         }
         shape.add_state(dfa.state(index));
-        for (label, target) in dfa.test_edges(index) {
-            shape.add_edge(label, *target);
-            if let Some(seen) = seen.get_mut(target.index()) {
-                if !*seen && target.index() != 0 {
-                    *seen = true;
-                    order.push(*target)?;
-                }
-            }
-        }
+        follow(dfa.test_edges(index), &mut shape, &mut order)?;
     }
     Ok(shape)
 }
@@ -204,6 +230,21 @@ fn tell_text<R: CpuClock + Print + AllocGlobal>(
     }
 }
 
+fn tell_automaton<R: CpuClock + Print + AllocGlobal>(
+    rt: &R,
+    name: &str,
+    list: &List,
+    is_timed: bool,
+) -> io::Result<()> {
+    match build(rt.alloc(), list) {
+        Some(dfa) => {
+            tell_shape(rt, &dfa)?;
+            tell_text(rt, name, &dfa, is_timed)
+        }
+        None => println!(rt; "  no automaton"),
+    }
+}
+
 fn tell_list<R: CpuClock + Print + AllocGlobal>(
     rt: &R,
     name: &str,
@@ -216,24 +257,23 @@ fn tell_list<R: CpuClock + Print + AllocGlobal>(
     if is_timed {
         tell_builds(rt, &list)?;
     }
-    let Some(dfa) = build(rt.alloc(), &list) else {
-        return println!(rt; "  no automaton");
-    };
-    tell_shape(rt, &dfa)?;
-    tell_text(rt, name, &dfa, is_timed)
+    tell_automaton(rt, name, &list, is_timed)
 }
 
 // The sizes at which the parts are timed.
 const SIZES: [u64; 4] = [10, 100, 1_000, 10_000];
 
+fn part(alloc: Global, name: &str, size: u64) -> Result<usize, AllocError> {
+    match name {
+        "ranges" => blocks_of(alloc, size),
+        "kernels" => kernels_of(alloc, size),
+        _ => cycled(alloc, size.wrapping_mul(10)),
+    }
+}
+
 fn tell_part<R: CpuClock + Print + AllocGlobal>(rt: &R, name: &str, size: u64) -> io::Result<()> {
-    let alloc = rt.alloc();
     let from = rt.process_cpu_time()?;
-    let found = match name {
-        "ranges" => blocks_of(alloc, size)?,
-        "kernels" => kernels_of(alloc, size)?,
-        _ => cycled(alloc, size.wrapping_mul(10))?,
-    };
+    let found = part(rt.alloc(), name, size)?;
     let spent = rt.process_cpu_time()?.saturating_sub(from);
     println!(rt; "  {size}: {found}")?;
     tell_time(rt, "spent", spent)
@@ -249,6 +289,13 @@ fn tell_parts<R: CpuClock + Print + AllocGlobal>(rt: &R) -> io::Result<()> {
     Ok(())
 }
 
+fn tell_found(rt: &impl Print, name: &str, found: Result<usize, RegexError>) -> io::Result<()> {
+    match found {
+        Ok(parts) => println!(rt; "{name}: {parts}"),
+        Err(error) => println!(rt; "{name}: {error}"),
+    }
+}
+
 fn tell_pattern<R: CpuClock + Print + AllocGlobal>(
     rt: &R,
     row: &Row,
@@ -257,11 +304,7 @@ fn tell_pattern<R: CpuClock + Print + AllocGlobal>(
     let from = rt.process_cpu_time()?;
     let found = patterns::read(rt.alloc(), row);
     let spent = rt.process_cpu_time()?.saturating_sub(from);
-    let name = row.name;
-    match found {
-        Ok(parts) => println!(rt; "{name}: {parts}")?,
-        Err(error) => println!(rt; "{name}: {error}")?,
-    }
+    tell_found(rt, row.name, found)?;
     if is_timed {
         tell_time(rt, "read", spent)?;
     }

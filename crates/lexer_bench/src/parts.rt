@@ -4,7 +4,7 @@ use lalrpop_lexer::kernel_set::{Kernel, KernelSet};
 use lalrpop_lexer::lexer::dfa::overlap::remove_overlap;
 use lalrpop_lexer::lexer::nfa::interpret::interpret;
 use lalrpop_lexer::lexer::nfa::{Nfa, Test};
-use lalrpop_lexer::lexer::re::parse_regex;
+use lalrpop_lexer::lexer::re::{Hir, parse_regex};
 use std::alloc::{AllocError, Global};
 use std::collections::BTreeSet;
 
@@ -51,20 +51,38 @@ pub(crate) fn kernels_of(alloc: Global, count: u64) -> Result<usize, AllocError>
     Ok(last)
 }
 
-/// How many bytes of a text of so many letters the automaton of `(a*)*` matches, which has cycles that read nothing.
-pub(crate) fn cycled(alloc: Global, count: u64) -> Result<usize, AllocError> {
+fn letters(alloc: Global, count: u64) -> Result<String, AllocError> {
     let mut text = String::new(alloc);
     for _ in 0..count {
         text.push('a')?;
     }
-    let Ok(tree) = parse_regex(alloc, "(a*)*") else {
-        return Ok(0);
-    };
-    let Ok(nfa) = Nfa::from_re(alloc, &tree) else {
-        return Ok(0);
-    };
-    match interpret(alloc, &nfa, &text)? {
+    Ok(text)
+}
+
+// Calls with many clauses, made where there is little else to prove.
+fn tree_of(alloc: Global, pattern: &str) -> Option<Hir> {
+    parse_regex(alloc, pattern).ok()
+}
+
+fn nfa_of(alloc: Global, tree: &Hir) -> Option<Nfa> {
+    Nfa::from_re(alloc, tree).ok()
+}
+
+fn matched(alloc: Global, nfa: &Nfa, text: &str) -> Result<usize, AllocError> {
+    match interpret(alloc, nfa, text)? {
         Some(word) => Ok(word.len()),
+        None => Ok(0),
+    }
+}
+
+/// How many bytes of a text of so many letters the automaton of `(a*)*` matches, which has cycles that read nothing.
+pub(crate) fn cycled(alloc: Global, count: u64) -> Result<usize, AllocError> {
+    let text = letters(alloc, count)?;
+    let Some(tree) = tree_of(alloc, "(a*)*") else {
+        return Ok(0);
+    };
+    match nfa_of(alloc, &tree) {
+        Some(nfa) => matched(alloc, &nfa, &text),
         None => Ok(0),
     }
 }

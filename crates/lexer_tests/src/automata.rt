@@ -1,11 +1,11 @@
 //! The states of built automata, with the test edges of START.
 
-use crate::built::{built, built_from, literal, nfa_of};
+use crate::built::{built, built_from, nfa_of};
 use lalrpop_lexer::lexer::dfa::{Dfa, START};
 use lalrpop_lexer::lexer::re::Hir;
 use std::alloc::{AllocError, Global};
 use std::fmt::Write;
-use std::test::Fail;
+use std::process::Abort;
 
 // Lists of patterns, and below each what its states are for and where all that has no edge of its own leads, and then the edges
 // of the first state. States are numbered by the least words that lead to them, the shorter before the longer.
@@ -61,36 +61,36 @@ fn write_edges_of_start(out: &mut String, dfa: &Dfa) -> Result<(), AllocError> {
     Ok(())
 }
 
-// Writes the patterns, and below them their automaton.
-fn draw(out: &mut String, alloc: Global, words: &str) -> Result<(), Fail> {
-    let dfa = built(alloc, words)?;
+fn write_automaton(out: &mut String, words: &str, dfa: &Dfa) -> Result<(), AllocError> {
     write!(out, "\n{words:?}\n")?;
-    write_states(out, &dfa)?;
-    Ok(write_edges_of_start(out, &dfa)?)
+    write_states(out, dfa)?;
+    write_edges_of_start(out, dfa)
+}
+
+// Writes the patterns, and below them their automaton.
+fn draw(rt: &impl Abort, out: &mut String, alloc: Global, words: &str) {
+    let dfa = built(rt, alloc, words);
+    write_automaton(out, words, &dfa).expect(rt, "memory");
 }
 
 #[test]
-fn lists_of_patterns_have_these_automata(rt: HostRuntime) -> Result<(), Fail> {
+fn lists_of_patterns_have_these_automata(rt: HostRuntime) {
     let mut out = String::new(rt.alloc());
     for words in ["", "'a'", "'b' 'a'", "[a-b]|c", "'ab' 'abc'"] {
-        draw(&mut out, rt.alloc(), words)?;
+        draw(&rt, &mut out, rt.alloc(), words);
     }
     assert_eq!(rt; out.as_str(), AUTOMATA);
-    Ok(())
 }
 
 #[test]
-fn the_automaton_of_one_literal_has_a_state_for_its_character(rt: HostRuntime) -> Result<(), Fail> {
-    let nfa = nfa_of(rt.alloc(), &literal(rt.alloc(), "a")?)?;
-    assert_eq!(rt; nfa.len(), 4);
-    Ok(())
+fn the_automaton_of_one_literal_has_a_state_for_its_character(rt: HostRuntime) {
+    assert_eq!(rt; nfa_of(&rt, rt.alloc(), "'a'").len(), 4);
 }
 
 #[test]
-fn a_choice_of_nothing_rejects_all(rt: HostRuntime) -> Result<(), Fail> {
+fn a_choice_of_nothing_rejects_all(rt: HostRuntime) {
     let nothing = Hir::alternation(Vec::new(rt.alloc()));
-    let dfa = built_from(rt.alloc(), &[nothing])?;
+    let dfa = built_from(&rt, rt.alloc(), &[nothing]);
     assert!(rt; !dfa.states().is_empty());
     assert_eq!(rt; dfa.test_edges(START).len(), 0);
-    Ok(())
 }

@@ -3,15 +3,15 @@
 ghost use Rattle.std.specs.Prelude.{◌≡◌, ◌↔◌, IsTrue};
 ghost use Rattle.std.specs.Ordering.{nat_cmp};
 
-use crate::built::{built, nfa_of};
+use crate::built::{built, nfa_of_tree};
 use lalrpop_lexer::lexer::dfa::interpret::interpret;
-use lalrpop_lexer::lexer::dfa::{self, DfaStateIndex, NfaIndex, Precedence};
-use lalrpop_lexer::lexer::nfa::{ACCEPT, NfaStateIndex, Noop, REJECT, START, StateKind};
+use lalrpop_lexer::lexer::dfa::{self, Dfa, DfaStateIndex, NfaIndex, Precedence};
+use lalrpop_lexer::lexer::nfa::{ACCEPT, Nfa, NfaStateIndex, Noop, REJECT, START, StateKind};
 use lalrpop_lexer::lexer::re::Hir;
-use std::alloc::Global;
+use std::alloc::{AllocError, Global};
 use std::cmp::Ordering;
 use std::hash::{DefaultHasher, Hash, Hasher};
-use std::test::Fail;
+use std::process::Abort;
 
 // States are ordered by their numbers.
 fn order(a: NfaStateIndex, b: NfaStateIndex) -> Ordering
@@ -70,24 +70,28 @@ fn hash_of<T: Hash>(value: &T) -> u64 {
 }
 
 // The ends of the first edge of START.
-fn first_edge(alloc: Global) -> Result<Option<(NfaStateIndex, NfaStateIndex)>, Fail> {
-    let nfa = nfa_of(alloc, &Hir::empty())?;
+fn first_edge(nfa: &Nfa) -> Option<(NfaStateIndex, NfaStateIndex)> {
     if nfa.contains_state(START) {
         if let Some(edge) = nfa.edges::<Noop>(START).next() {
-            return Ok(Some((edge.from, edge.to)));
+            return Some((edge.from, edge.to));
         }
     }
-    Ok(None)
+    None
+}
+
+// The same of the automaton of the empty tree.
+fn edge_of_nothing(rt: &impl Abort, alloc: Global) -> (NfaStateIndex, NfaStateIndex) {
+    let nfa = nfa_of_tree(rt, alloc, &Hir::empty());
+    first_edge(&nfa).expect(rt, "an edge")
 }
 
 #[test]
-fn states_of_one_pattern_are_ordered_by_number(rt: HostRuntime) -> Result<(), Fail> {
+fn states_of_one_pattern_are_ordered_by_number(rt: HostRuntime) {
     assert_eq!(rt; order(ACCEPT, REJECT), Ordering::Less);
     assert_eq!(rt; order(START, REJECT), Ordering::Greater);
-    let (from, to) = first_edge(rt.alloc())?.expect(&rt, "an edge");
+    let (from, to) = edge_of_nothing(&rt, rt.alloc());
     assert!(rt; equal(START, from) && !equal(START, to));
     assert_eq!(rt; hash_of(&START), hash_of(&from));
-    Ok(())
 }
 
 #[test]
@@ -113,9 +117,7 @@ fn precedences_compare_as_their_numbers(rt: HostRuntime) {
     }
 }
 
-// Where the states of the automaton lead by what has no edge of its own.
-fn other_edges(alloc: Global, words: &str) -> Result<Vec<DfaStateIndex>, Fail> {
-    let dfa = built(alloc, words)?;
+fn targets_of(alloc: Global, dfa: &Dfa) -> Result<Vec<DfaStateIndex>, AllocError> {
     let mut targets = Vec::new(alloc);
     for state in dfa.states() {
         targets.push(state.other_edge())?;
@@ -123,44 +125,51 @@ fn other_edges(alloc: Global, words: &str) -> Result<Vec<DfaStateIndex>, Fail> {
     Ok(targets)
 }
 
+// Where the states of the automaton lead by what has no edge of its own.
+fn other_edges(rt: &impl Abort, alloc: Global, words: &str) -> Vec<DfaStateIndex> {
+    let dfa = built(rt, alloc, words);
+    targets_of(alloc, &dfa).expect(rt, "memory")
+}
+
 // The first state of the automaton of no pattern is the one that rejects.
 #[test]
-fn equal_states_have_one_hash(rt: HostRuntime) -> Result<(), Fail> {
+fn equal_states_have_one_hash(rt: HostRuntime) {
     let start = dfa::START;
-    for reject in other_edges(rt.alloc(), "")? {
+    for reject in other_edges(&rt, rt.alloc(), "") {
         assert_eq!(rt; order_of_states(start, reject), Ordering::Equal);
         assert!(rt; equal_states(start, reject));
         assert_eq!(rt; hash_of(&start), hash_of(&reject));
     }
-    Ok(())
 }
 
 #[test]
-fn states_of_many_patterns_are_ordered_by_number(rt: HostRuntime) -> Result<(), Fail> {
+fn states_of_many_patterns_are_ordered_by_number(rt: HostRuntime) {
     let start = dfa::START;
-    for reject in other_edges(rt.alloc(), "'a'")? {
+    for reject in other_edges(&rt, rt.alloc(), "'a'") {
         assert_eq!(rt; order_of_states(start, reject), Ordering::Less);
         assert_eq!(rt; order_of_states(reject, start), Ordering::Greater);
         assert!(rt; !equal_states(reject, start));
     }
-    Ok(())
 }
 
-// The place of the pattern that the text matches: of `a` the first, of `b` the second.
-fn place_of(alloc: Global, text: &str) -> Result<Option<NfaIndex>, Fail> {
-    let dfa = built(alloc, "'a' 'b'")?;
-    match interpret(&dfa, text) {
-        Some((place, _)) => Ok(Some(place)),
-        None => Ok(None),
+fn place(dfa: &Dfa, text: &str) -> Option<NfaIndex> {
+    match interpret(dfa, text) {
+        Some((place, _)) => Some(place),
+        None => None,
     }
 }
 
+// The place of the pattern that the text matches: of `a` the first, of `b` the second.
+fn place_of(rt: &impl Abort, alloc: Global, text: &str) -> NfaIndex {
+    let dfa = built(rt, alloc, "'a' 'b'");
+    place(&dfa, text).expect(rt, "a match")
+}
+
 #[test]
-fn places_of_patterns_are_ordered_by_number(rt: HostRuntime) -> Result<(), Fail> {
-    let first = place_of(rt.alloc(), "a")?.expect(&rt, "a match");
-    let second = place_of(rt.alloc(), "b")?.expect(&rt, "a match");
+fn places_of_patterns_are_ordered_by_number(rt: HostRuntime) {
+    let first = place_of(&rt, rt.alloc(), "a");
+    let second = place_of(&rt, rt.alloc(), "b");
     assert_eq!(rt; order_of_places(first, second), Ordering::Less);
     assert_eq!(rt; order_of_places(second, first), Ordering::Greater);
     assert!(rt; equal_places(first, first) && !equal_places(first, second));
-    Ok(())
 }

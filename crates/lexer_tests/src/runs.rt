@@ -1,17 +1,16 @@
 //! Automata of one pattern and of many that are built once and run over texts.
 
-use crate::built::{found, literal, nfa_of, regex};
+use crate::built::{built_with, found, nfa_of};
 use lalrpop_lexer::lexer::dfa::interpret::{interpret_counted, interpret_probed};
-use lalrpop_lexer::lexer::dfa::{Dfa, Precedence, build_dfa};
+use lalrpop_lexer::lexer::dfa::{Dfa, Precedence};
 use lalrpop_lexer::lexer::nfa::{self, Nfa, Steps};
 use std::alloc::{AllocError, Global};
 use std::fmt::Write;
-use std::test::Fail;
+use std::process::Abort;
 
 // The example of the README: a word that is stronger than the pattern which matches it too.
-fn class_and_words(alloc: Global) -> Result<Dfa, Fail> {
-    let regexs = vec![in alloc; literal(alloc, "class")?, regex(alloc, "[a-z]+")?]?;
-    Ok(build_dfa(alloc, &regexs, &[Precedence(1), Precedence(0)])?)
+fn class_and_words(rt: &impl Abort, alloc: Global) -> Dfa {
+    built_with(rt, alloc, "'class' [a-z]+", &[Precedence(1), Precedence(0)])
 }
 
 fn counted<'t>(dfa: &Dfa, text: &'t str, steps: &mut Steps) -> Option<(usize, &'t str)> {
@@ -29,22 +28,17 @@ fn probed<'t>(dfa: &Dfa, text: &'t str, steps: &mut Steps) -> Option<(usize, &'t
 }
 
 #[test]
-fn built_once_and_run(rt: HostRuntime) -> Result<(), Fail> {
-    let dfa = class_and_words(rt.alloc())?;
+fn built_once_and_run(rt: HostRuntime) {
+    let dfa = class_and_words(&rt, rt.alloc());
     assert_eq!(rt; found(&dfa, "classz"), Some((1, "classz")));
-    Ok(())
 }
 
 #[test]
-fn counting_leaves_the_answer(rt: HostRuntime) -> Result<(), Fail> {
-    let dfa = class_and_words(rt.alloc())?;
+fn counting_leaves_the_answer(rt: HostRuntime) {
+    let dfa = class_and_words(&rt, rt.alloc());
     let mut steps = Steps::new();
-    let answers = (
-        counted(&dfa, "classz", &mut steps),
-        probed(&dfa, "class", &mut steps),
-    );
-    assert_eq!(rt; answers, (Some((1, "classz")), Some((0, "class"))));
-    Ok(())
+    assert_eq!(rt; counted(&dfa, "classz", &mut steps), Some((1, "classz")));
+    assert_eq!(rt; probed(&dfa, "class", &mut steps), Some((0, "class")));
 }
 
 // What the automaton of one pattern finds in a text, the empty match included.
@@ -67,9 +61,14 @@ fn run_over<'t>(alloc: Global, nfa: &Nfa, text: &'t str) -> Result<Option<&'t st
     nfa::interpret::interpret(alloc, nfa, text)
 }
 
-fn found_by_one<'t>(alloc: Global, pattern: &str, text: &'t str) -> Result<Option<&'t str>, Fail> {
-    let nfa = nfa_of(alloc, &regex(alloc, pattern)?)?;
-    Ok(run_over(alloc, &nfa, text)?)
+fn found_by_one<'t>(
+    rt: &impl Abort,
+    alloc: Global,
+    pattern: &str,
+    text: &'t str,
+) -> Option<&'t str> {
+    let nfa = nfa_of(rt, alloc, pattern);
+    run_over(alloc, &nfa, text).expect(rt, "memory")
 }
 
 // A row's pattern and text.
@@ -79,27 +78,34 @@ fn question(row: &str) -> Option<(&str, &str)> {
     Some((pattern, text))
 }
 
-// Writes the row, with what is found in place of what the row says.
-fn answer(out: &mut String, alloc: Global, row: &str) -> Result<(), Fail> {
-    if let Some((pattern, text)) = question(row) {
-        let found = found_by_one(alloc, pattern, text)?;
-        write!(out, "{pattern} in {text:?} => {found:?}\n")?;
-    }
+fn write_row(
+    out: &mut String,
+    pattern: &str,
+    text: &str,
+    found: Option<&str>,
+) -> Result<(), AllocError> {
+    write!(out, "{pattern} in {text:?} => {found:?}\n")?;
     Ok(())
 }
 
+// Writes the row, with what is found in place of what the row says.
+fn answer(rt: &impl Abort, out: &mut String, alloc: Global, row: &str) {
+    if let Some((pattern, text)) = question(row) {
+        let found = found_by_one(rt, alloc, pattern, text);
+        write_row(out, pattern, text, found).expect(rt, "memory");
+    }
+}
+
 #[test]
-fn one_pattern(rt: HostRuntime) -> Result<(), Fail> {
-    let mut out = String::from_str(rt.alloc(), "\n")?;
+fn one_pattern(rt: HostRuntime) {
+    let mut out = String::from_str(rt.alloc(), "\n").expect(&rt, "memory");
     for row in FOUND.lines() {
-        answer(&mut out, rt.alloc(), row)?;
+        answer(&rt, &mut out, rt.alloc(), row);
     }
     assert_eq!(rt; out.as_str(), FOUND);
-    Ok(())
 }
 
 #[test]
-fn a_dot_matches_no_end_of_a_line(rt: HostRuntime) -> Result<(), Fail> {
-    assert_eq!(rt; found_by_one(rt.alloc(), ".", "\n")?, None);
-    Ok(())
+fn a_dot_matches_no_end_of_a_line(rt: HostRuntime) {
+    assert_eq!(rt; found_by_one(&rt, rt.alloc(), ".", "\n"), None);
 }

@@ -5,21 +5,22 @@ use lalrpop_lexer::lexer::nfa::{
     ACCEPT, EdgeLabel, Nfa, NfaConstructionError, NfaStateIndex, Noop, Other, REJECT, START,
     StateKind, Steps, Test,
 };
-use lalrpop_lexer::lexer::re::{Hir, RegexError, parse_regex};
+use lalrpop_lexer::lexer::re::{Hir, parse_regex};
 use std::alloc::{AllocError, Global};
 use std::fmt::{Debug, Write};
-use std::test::Fail;
+use std::process::Abort;
 
-fn tree_of(alloc: Global, pattern: &str) -> Result<Hir, RegexError> {
-    parse_regex(alloc, pattern)
+fn tree_of(rt: &impl Abort, alloc: Global, pattern: &str) -> Hir {
+    parse_regex(alloc, pattern).expect(rt, "a pattern")
 }
 
 fn compiled(alloc: Global, tree: &Hir) -> Result<Nfa, NfaConstructionError> {
     Nfa::from_re(alloc, tree)
 }
 
-fn automaton(alloc: Global, pattern: &str) -> Result<Nfa, Fail> {
-    Ok(compiled(alloc, &tree_of(alloc, pattern)?)?)
+fn automaton(rt: &impl Abort, alloc: Global, pattern: &str) -> Nfa {
+    let tree = tree_of(rt, alloc, pattern);
+    compiled(alloc, &tree).expect(rt, "an automaton")
 }
 
 // How many states a pattern is compiled to, the three fixed ones included, or its fault.
@@ -45,33 +46,42 @@ a{1}? => NonGreedy
 (?P<n>\\b){0} => 3
 ";
 
-fn outcome(alloc: Global, pattern: &str) -> Result<String, Fail> {
-    match compiled(alloc, &tree_of(alloc, pattern)?) {
+// How many states the automaton has, or the fault.
+fn told(alloc: Global, compiled: Result<Nfa, NfaConstructionError>) -> Result<String, AllocError> {
+    match compiled {
         Ok(nfa) => {
             let len = nfa.len();
-            Ok(format!(in alloc; "{len}")?)
+            format!(in alloc; "{len}")
         }
-        Err(fault) => Ok(format!(in alloc; "{fault:?}")?),
+        Err(fault) => format!(in alloc; "{fault:?}"),
     }
+}
+
+fn outcome(rt: &impl Abort, alloc: Global, pattern: &str) -> String {
+    let tree = tree_of(rt, alloc, pattern);
+    told(alloc, compiled(alloc, &tree)).expect(rt, "memory")
+}
+
+fn write_outcome(out: &mut String, pattern: &str, outcome: &str) -> Result<(), AllocError> {
+    write!(out, "{pattern} => {outcome}\n")?;
+    Ok(())
 }
 
 // Writes the row of the pattern, with what is found in place of what the row says.
-fn answer(out: &mut String, alloc: Global, row: &str) -> Result<(), Fail> {
+fn answer(rt: &impl Abort, out: &mut String, alloc: Global, row: &str) {
     if let Some((pattern, _)) = row.split_once(" => ") {
-        let outcome = outcome(alloc, pattern)?;
-        write!(out, "{pattern} => {outcome}\n")?;
+        let outcome = outcome(rt, alloc, pattern);
+        write_outcome(out, pattern, outcome.as_str()).expect(rt, "memory");
     }
-    Ok(())
 }
 
 #[test]
-fn patterns_have_so_many_states_or_a_fault(rt: HostRuntime) -> Result<(), Fail> {
-    let mut out = String::from_str(rt.alloc(), "\n")?;
+fn patterns_have_so_many_states_or_a_fault(rt: HostRuntime) {
+    let mut out = String::from_str(rt.alloc(), "\n").expect(&rt, "memory");
     for row in OUTCOMES.lines() {
-        answer(&mut out, rt.alloc(), row)?;
+        answer(&rt, &mut out, rt.alloc(), row);
     }
     assert_eq!(rt; out.as_str(), OUTCOMES);
-    Ok(())
 }
 
 // Patterns, and below each the edges of its automaton. Nfa0 accepts, Nfa1 rejects, and Nfa2 is the start. The state of a
@@ -148,21 +158,29 @@ fn write_states(out: &mut String, nfa: &Nfa, alloc: Global) -> Result<(), AllocE
     Ok(())
 }
 
-// Writes the pattern, and below it the edges of its automaton.
-fn draw(out: &mut String, alloc: Global, pattern: &str) -> Result<(), Fail> {
-    let nfa = automaton(alloc, pattern)?;
+fn write_automaton(
+    out: &mut String,
+    alloc: Global,
+    pattern: &str,
+    nfa: &Nfa,
+) -> Result<(), AllocError> {
     write!(out, "\n{pattern}\n")?;
-    Ok(write_states(out, &nfa, alloc)?)
+    write_states(out, nfa, alloc)
+}
+
+// Writes the pattern, and below it the edges of its automaton.
+fn draw(rt: &impl Abort, out: &mut String, alloc: Global, pattern: &str) {
+    let nfa = automaton(rt, alloc, pattern);
+    write_automaton(out, alloc, pattern, &nfa).expect(rt, "memory");
 }
 
 #[test]
-fn patterns_are_compiled_to_these_edges(rt: HostRuntime) -> Result<(), Fail> {
+fn patterns_are_compiled_to_these_edges(rt: HostRuntime) {
     let mut out = String::new(rt.alloc());
     for pattern in ["(?:)", "a", "[0-9a-c]", "a*"] {
-        draw(&mut out, rt.alloc(), pattern)?;
+        draw(&rt, &mut out, rt.alloc(), pattern);
     }
     assert_eq!(rt; out.as_str(), SHAPES);
-    Ok(())
 }
 
 fn has_its_fixed_states(nfa: &Nfa) -> bool {
@@ -173,9 +191,9 @@ fn has_its_fixed_states(nfa: &Nfa) -> bool {
 }
 
 #[test]
-fn the_fixed_states_are_what_they_are_for(rt: HostRuntime) -> Result<(), Fail> {
-    assert!(rt; has_its_fixed_states(&automaton(rt.alloc(), "")?));
-    Ok(())
+fn the_fixed_states_are_what_they_are_for(rt: HostRuntime) {
+    let nfa = automaton(&rt, rt.alloc(), "");
+    assert!(rt; has_its_fixed_states(&nfa));
 }
 
 fn counted<'t>(
@@ -203,14 +221,9 @@ fn write_counted(
 }
 
 #[test]
-fn counting_leaves_the_answer(rt: HostRuntime) -> Result<(), Fail> {
+fn counting_leaves_the_answer(rt: HostRuntime) {
     let mut out = String::new(rt.alloc());
-    write_counted(
-        &mut out,
-        rt.alloc(),
-        &automaton(rt.alloc(), "ab{2,4}")?,
-        "abbbbb ab",
-    )?;
+    let nfa = automaton(&rt, rt.alloc(), "ab{2,4}");
+    write_counted(&mut out, rt.alloc(), &nfa, "abbbbb ab").expect(&rt, "memory");
     assert_eq!(rt; out.as_str(), "abbbbb => Some(\"abbbb\")\nab => None\n");
-    Ok(())
 }

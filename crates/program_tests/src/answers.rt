@@ -1,18 +1,22 @@
 //! The line and the status that lines of terminals and a text are answered by.
 
 use crate::rows::{bytes, halves, number};
-use lexdfa_lib::{Watched, run};
+use lexdfa_lib::{Outcome, RunError, Watched, run};
 use std::alloc::Global;
 use std::process::Abort;
-use std::str;
 
 fn is_line(written: &[u8], line: &str) -> bool {
-    match str::from_utf8(written) {
-        Ok(written) => match written.strip_suffix('\n') {
-            Some(written) => written == line,
-            None => false,
-        },
-        Err(_) => false,
+    match written.strip_suffix(b"\n") {
+        Some(written) => written == line.as_bytes(),
+        None => false,
+    }
+}
+
+// The status of a run that could end.
+fn status(ended: Result<Outcome, RunError>) -> Option<u8> {
+    match ended {
+        Ok(outcome) => Some(outcome.status()),
+        Err(_) => None,
     }
 }
 
@@ -20,25 +24,28 @@ fn is_line(written: &[u8], line: &str) -> bool {
 fn status_of(rt: &impl Abort, alloc: Global, input: &[u8], text: &str, line: &str) -> Option<u8> {
     let mut reader = Watched::new(input);
     let mut writer = Watched::new(Vec::new(alloc));
-    let result = run(alloc, &mut reader, text, &mut writer);
+    let status = status(run(alloc, &mut reader, text, &mut writer));
     assert!(rt; !reader.failed() && !writer.failed());
-    assert!(rt; is_line(&writer.into_inner(), line), "{text}");
-    match result {
-        Ok(outcome) => Some(outcome.status()),
-        Err(_) => None,
-    }
+    let written = writer.into_inner();
+    assert!(rt; is_line(&written, line), "{text}");
+    status
 }
 
-// Rows `INPUT / TEXT => LINE, STATUS`.
+// A row `INPUT / TEXT => LINE, STATUS`.
+fn expect_row(rt: &impl Abort, alloc: Global, row: &str) {
+    let (argument, answer) = halves(rt, row, " => ");
+    let (input, text) = halves(rt, argument, " / ");
+    let (line, status) = halves(rt, answer, ", ");
+    let input = bytes(alloc, input).expect(rt, "bytes");
+    let found = status_of(rt, alloc, &input, text, line);
+    assert!(rt; found == Some(number(rt, status)), "{row}");
+}
+
+// Each row of the table, and there are so many.
 fn expect(rt: &impl Abort, alloc: Global, table: &str, rows: usize) {
     let mut read = 0usize;
     for row in table.lines() {
-        let (argument, answer) = halves(rt, row, " => ");
-        let (input, text) = halves(rt, argument, " / ");
-        let (line, status) = halves(rt, answer, ", ");
-        let input = bytes(alloc, input).expect(rt, "bytes");
-        let found = status_of(rt, alloc, &input, text, line);
-        assert!(rt; found == Some(number(rt, status)), "{row}");
+        expect_row(rt, alloc, row);
         read = read.saturating_add(1);
     }
     assert_eq!(rt; read, rows);
