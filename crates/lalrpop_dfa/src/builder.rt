@@ -28,7 +28,7 @@ use lalrpop_items::{ItemSet, Transition};
 use lalrpop_kernels::KernelSet;
 use lalrpop_nfa::Nfa;
 use lalrpop_ranges::Test;
-use lalrpop_table::{Edges, Rows};
+use lalrpop_table::RowWriter;
 use std::alloc::{AllocError, Global};
 use std::collections::BTreeMap;
 
@@ -53,7 +53,7 @@ pub(super) struct Sets {
 #[derive(Drop)]
 struct Table {
     sets: Sets,
-    rows: Rows,
+    writer: RowWriter,
 }
 
 // What is reported where the strongest patterns of a state tie.
@@ -98,19 +98,15 @@ impl Block {
         Test::new(self.from.first as u32..=(self.to.first - 1) as u32)
     }
 
-    // Adds the test edge by which the values lead to a number.
-    fn add_edge(
-        &self,
-        target: DfaStateIndex,
-        tests: &mut Vec<(Test, DfaStateIndex)>,
-    ) -> Result<(), AllocError>
+    // Writes the test edge by which the values lead to a number.
+    fn write_edge(&self, target: DfaStateIndex, writer: &mut RowWriter) -> Result<(), AllocError>
         requires some { self.now.from.first < self.now.to.first }
         requires small { self.now.to.first ≤ 2 ^ 32 }
-        ensures { OnOk result (tests.new.items ≡ tests.old.items
+        ensures rows { OnOk result (writer.new.rows ≡ writer.old.rows) }
+        ensures tests { OnOk result (writer.new.tests ≡ writer.old.tests
             ++ (record { start = self.now.from.first; end = self.now.to.first - 1 }, target) ∷ []) }
     {
-        tests.push((self.label(), target))?;
-        Ok(())
+        writer.add_edge(self.label(), target)
     }
 }
 
@@ -187,30 +183,31 @@ impl Sets {
         self.target_of(alloc, automata, set, &sorted, origin)
     }
 
-    // The test edges of a number's set, from cut to cut, where the room holds what leaves the set: adds the sets that they
-    // lead to. Only the first values of a class that are met look their set up.
-    fn tests_of(
+    // Writes the test edges of a number's set, from cut to cut, where the room holds what leaves the set: adds the sets that
+    // they lead to. Only the first values of a class that are met look their set up.
+    fn write_tests(
         &mut self,
         alloc: Global,
         automata: &Automata,
         room: &mut Room,
         number: usize,
         set: &ItemSet,
-    ) -> Result<Vec<(Test, DfaStateIndex)>, AllocError>
+        writer: &mut RowWriter,
+    ) -> Result<(), AllocError>
         requires breadth_first { IsBreadthFirst (subset_automaton automata.now.graphs)
             self.old.kernels.list self.old.origins.items number 0 }
         requires here { slice_get self.old.kernels.list number ≡ Some set.now }
         requires filled { IsFilled automata.now.graphs automata.now.alphabet set.now room.old }
-        ensures tested { IfOk result (λ tests. AreTested automata.now.graphs
+        requires no_tests { writer.old.tests ≡ [] }
+        ensures tested { OnOk result (AreTested automata.now.graphs
             self.old.kernels.list self.old.origins.items number set.now
-            self.new.kernels.list self.new.origins.items tests.items) }
+            self.new.kernels.list self.new.origins.items writer.new.tests) }
+        ensures rows { OnOk result (writer.new.rows ≡ writer.old.rows) }
         ensures place { OnOk result (self.new.kernels.place ≡ self.old.kernels.place) }
         ensures room { OnOk result (IsRoomOf automata.now.alphabet room.new) }
     {
         let edges = &room.edges;
         let known = &mut room.known;
-        // Each edge ends at a cut, so that there is room for all of them.
-        let mut tests = Vec::with_capacity(alloc, room.cuts.places.len())?;
         let mut before = BEFORE_ALL;
         for cut in &room.cuts.places {
             let next = automata.cell(*cut);
@@ -229,36 +226,39 @@ impl Sets {
                 None if edges.is_bare(class) => continue,
                 None => new_target(self, alloc, automata, set, known, edges, class, origin)?,
             };
-            block.add_edge(target, &mut tests)?;
+            block.write_edge(target, writer)?;
         }
-        Ok(tests)
+        Ok(())
     }
 
-    // Expands a number: adds the sets that its set leads to.
-    fn edges_of(
+    // Expands a number: adds the sets that its set leads to, and writes its test edges. The number to which all other values
+    // lead.
+    fn write_edges(
         &mut self,
         alloc: Global,
         automata: &Automata,
         room: &mut Room,
         number: usize,
         set: &ItemSet,
-    ) -> Result<Edges, AllocError>
+        writer: &mut RowWriter,
+    ) -> Result<DfaStateIndex, AllocError>
         requires inside { AreItemsOf automata.now.graphs set.now }
         requires breadth_first { IsBreadthFirst (subset_automaton automata.now.graphs)
             self.old.kernels.list self.old.origins.items number 0 }
         requires here { slice_get self.old.kernels.list number ≡ Some set.now }
         requires room { IsRoomOf automata.now.alphabet room.old }
-        ensures edged { IfOk result (λ e. IsEdged automata.now.graphs
+        requires no_tests { writer.old.tests ≡ [] }
+        ensures edged { IfOk result (λ other. IsEdged automata.now.graphs
             self.old.kernels.list self.old.origins.items number set.now
-            self.new.kernels.list self.new.origins.items e.tests.items e.other) }
+            self.new.kernels.list self.new.origins.items writer.new.tests other) }
+        ensures rows { OnOk result (writer.new.rows ≡ writer.old.rows) }
         ensures place { OnOk result (self.new.kernels.place ≡ self.old.kernels.place) }
         ensures room { OnOk result (IsRoomOf automata.now.alphabet room.new) }
     {
         automata.fill(room, set)?;
-        let tests = self.tests_of(alloc, automata, room, number, set)?;
+        self.write_tests(alloc, automata, room, number, set, writer)?;
         // No label reaches the greatest number, so that it takes no test edge.
-        let other = self.target_of(alloc, automata, set, &[], Origin::new(number, u32::MAX))?;
-        Ok(Edges { tests, other })
+        self.target_of(alloc, automata, set, &[], Origin::new(number, u32::MAX))
     }
 }
 
@@ -352,26 +352,32 @@ impl Table {
     ) -> Result<(), DfaConstructionError>
         requires same_len { length automata.now.graphs ≡ length precedences.now }
         requires built { IsBuiltTo automata.now.graphs (map (λ p. p.0) precedences.now)
-            self.old.sets.kernels.list self.old.sets.origins.items self.old.rows
-            (length self.old.rows) }
-        requires here { slice_get self.old.sets.kernels.list (length self.old.rows) ≡ Some set }
+            self.old.sets.kernels.list self.old.sets.origins.items self.old.writer.rows
+            (length self.old.writer.rows) }
+        requires here { slice_get self.old.sets.kernels.list (length self.old.writer.rows)
+            ≡ Some set }
         requires room { IsRoomOf automata.now.alphabet room.old }
+        requires no_tests { self.old.writer.tests ≡ [] }
         ensures ok { OnOk result (IsBuiltTo automata.now.graphs (map (λ p. p.0) precedences.now)
-            self.new.sets.kernels.list self.new.sets.origins.items self.new.rows
-            (length self.new.rows)) }
-        ensures one { OnOk result (length self.new.rows
-            ≡ length self.old.rows + 1) }
+            self.new.sets.kernels.list self.new.sets.origins.items self.new.writer.rows
+            (length self.new.writer.rows)) }
+        ensures one { OnOk result (length self.new.writer.rows
+            ≡ length self.old.writer.rows + 1) }
         ensures place { OnOk result (self.new.sets.kernels.place ≡ self.old.sets.kernels.place) }
         ensures room { OnOk result (IsRoomOf automata.now.alphabet room.new) }
+        ensures no_tests { OnOk result (self.new.writer.tests ≡ []) }
         ensures err { IfErr result (IsTieOf (map (λ p. p.0) precedences.now) set) }
     {
         let kind = match automata.kind_of(precedences, &set) {
             Ok(kind) => kind,
             Err(tie) => return Err(clash_of(tie)),
         };
-        let number = self.rows.len();
-        let edges = self.sets.edges_of(alloc, automata, room, number, &set)?;
-        self.rows.push(set, kind, edges)?;
+        let number = self.writer.len();
+        let writer = &mut self.writer;
+        let other = self
+            .sets
+            .write_edges(alloc, automata, room, number, &set, writer)?;
+        self.writer.end_row(set, kind, other)?;
         Ok(())
     }
 
@@ -385,12 +391,13 @@ impl Table {
     ) -> Result<(), DfaConstructionError>
         requires same_len { length automata.now.graphs ≡ length precedences.now }
         requires built { IsBuiltTo automata.now.graphs (map (λ p. p.0) precedences.now)
-            self.old.sets.kernels.list self.old.sets.origins.items self.old.rows
-            (length self.old.rows) }
-        requires place { self.old.sets.kernels.place ≡ length self.old.rows }
+            self.old.sets.kernels.list self.old.sets.origins.items self.old.writer.rows
+            (length self.old.writer.rows) }
+        requires place { self.old.sets.kernels.place ≡ length self.old.writer.rows }
         requires room { IsRoomOf automata.now.alphabet room.old }
+        requires no_tests { self.old.writer.tests ≡ [] }
         ensures ok { OnOk result (IsBuiltTo automata.now.graphs (map (λ p. p.0) precedences.now)
-            self.new.sets.kernels.list self.new.sets.origins.items self.new.rows
+            self.new.sets.kernels.list self.new.sets.origins.items self.new.writer.rows
             (length self.new.sets.kernels.list)) }
         ensures err { IfErr result (λ e. let ps = map (λ p. p.0) precedences.now in
             (ts : List Tree) → AreCompiled ts automata.now.graphs → IsClashOf ts ps e) }
@@ -424,8 +431,8 @@ pub(super) fn build(
     let mut room = automata.room(alloc)?;
     let mut table = Table {
         sets: first_sets(alloc, &automata)?,
-        rows: Rows::new(alloc),
+        writer: RowWriter::new(alloc),
     };
     table.expand_all(alloc, &automata, precedences, &mut room)?;
-    Ok(Dfa::new(alloc, table.rows)?)
+    Ok(Dfa::new(alloc, table.writer.into_rows())?)
 }

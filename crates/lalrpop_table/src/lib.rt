@@ -1,7 +1,7 @@
 //! The automaton of a list of patterns: its states and edges, and running it.
 //!
 //! A state says of the word that leads to it which pattern matches it, and has test edges, ascending, and an other edge. The
-//! test edges of all states stand in one list. What builds an automaton pushes its states, one by one, as rows, and an
+//! test edges of all states stand in one list. What builds an automaton writes its states, one by one, as rows, and an
 //! automaton is made of them once each edge leads to a state.
 #![tactic(auto)]
 
@@ -16,7 +16,7 @@ ghost use Rattle.std.specs.Prelude.{◌≡◌, ◌<◌, length, slice_get, Some,
 use lalrpop_items::ItemSet;
 pub use lalrpop_items::{DfaStateIndex, NfaIndex, START};
 use lalrpop_ranges::Test;
-pub use rows::{Edges, Rows};
+pub use rows::{RowWriter, Rows};
 use search::LISTED;
 use std::marker::Model;
 

@@ -9,15 +9,6 @@ use lalrpop_ranges::Test;
 use std::alloc::{AllocError, Global};
 use std::marker::Model;
 
-/// Where a state's values lead.
-#[derive(Drop)]
-pub struct Edges {
-    /// The test edges, each a range of values and where they lead.
-    pub tests: Vec<(Test, DfaStateIndex)>,
-    /// Where all other values lead.
-    pub other: DfaStateIndex,
-}
-
 /// States, each with the place of its first test edge in the list of all of them, where its edges stand side by side.
 #[derive(Debug, Drop)]
 pub struct Rows {
@@ -38,48 +29,10 @@ impl Model for Rows {
 }
 
 impl Rows {
-    /// No states.
-    pub fn new(alloc: Global) -> Rows
-        ensures { result ≡ [] }
-    {
-        Rows {
-            states: Vec::new(alloc),
-            edges: Vec::new(alloc),
-        }
-    }
-
-    /// How many states there are.
-    pub fn len(&self) -> usize
+    pub(super) fn len(&self) -> usize
         ensures { result ≡ length self.now }
     {
-        self.states.len()
-    }
-
-    /// Adds the state that holds the items, with its edges.
-    pub fn push(
-        &mut self,
-        item_set: ItemSet,
-        kind: Kind,
-        mut edges: Edges,
-    ) -> Result<(), AllocError>
-        ensures { OnOk result (self.new ≡ self.old
-            ++ record {
-              kind = kind;
-              tests = edges.tests.items;
-              other = edges.other;
-              items = item_set;
-            } ∷ []) }
-    {
-        let state = State {
-            item_set,
-            kind,
-            first_edge: self.edges.len(),
-            edge_count: edges.tests.len(),
-            other_edge: edges.other,
-        };
-        self.edges.append(&mut edges.tests)?;
-        self.states.push(state)?;
-        Ok(())
+        self.states().len()
     }
 
     pub(super) fn states(&self) -> &[State]
@@ -112,5 +65,97 @@ impl Clone for Rows {
             states: self.states.clone()?,
             edges: self.edges.clone()?,
         })
+    }
+}
+
+/// Rows that are being written: the states that are there, and the test edges, so far, of the next one.
+#[derive(Drop)]
+pub struct RowWriter {
+    states: Vec<State>,
+    // The test edges of the states, and behind them those of the next one.
+    edges: Vec<(Test, DfaStateIndex)>,
+    // Where those of the next one begin.
+    first_edge: usize,
+}
+
+impl Model for RowWriter {
+    ghost use Rattle.std.specs.Prelude.{drop, ◌≤◌, length};
+    ghost use Rattle.lalrpop_table.specs.Written.{Written};
+    ghost use Rattle.lalrpop_table.specs.Internal.Stored.{rows_of, AreWithin};
+
+    ghost Value = { Written };
+
+    ghost view = { λ w. record {
+      rows = rows_of w.edges.items w.states.items;
+      tests = drop w.first_edge w.edges.items;
+    } };
+
+    ghost invariant = { λ w. AreWithin w.edges.items w.states.items
+        × (w.first_edge ≤ length w.edges.items) };
+}
+
+impl RowWriter {
+    /// No states, and no edge of the first one.
+    pub fn new(alloc: Global) -> RowWriter
+        ensures rows { result.rows ≡ [] }
+        ensures tests { result.tests ≡ [] }
+    {
+        RowWriter {
+            states: Vec::new(alloc),
+            edges: Vec::new(alloc),
+            first_edge: 0,
+        }
+    }
+
+    /// How many states there are.
+    pub fn len(&self) -> usize
+        ensures { result ≡ length self.now.rows }
+    {
+        self.states.len()
+    }
+
+    /// Adds a test edge to the next state.
+    pub fn add_edge(&mut self, label: Test, target: DfaStateIndex) -> Result<(), AllocError>
+        ensures rows { OnOk result (self.new.rows ≡ self.old.rows) }
+        ensures tests { OnOk result (self.new.tests ≡ self.old.tests ++ (label, target) ∷ []) }
+    {
+        self.edges.push((label, target))?;
+        Ok(())
+    }
+
+    /// Ends the next state, which holds the items: all values that no test edge holds lead to the other state.
+    pub fn end_row(
+        &mut self,
+        item_set: ItemSet,
+        kind: Kind,
+        other: DfaStateIndex,
+    ) -> Result<(), AllocError>
+        ensures rows { OnOk result (self.new.rows ≡ self.old.rows
+            ++ record {
+              kind = kind;
+              tests = self.old.tests;
+              other = other;
+              items = item_set;
+            } ∷ []) }
+        ensures tests { OnOk result (self.new.tests ≡ []) }
+    {
+        let state = State {
+            item_set,
+            kind,
+            first_edge: self.first_edge,
+            edge_count: self.edges.len() - self.first_edge,
+            other_edge: other,
+        };
+        self.states.push(state)?;
+        self.first_edge = self.edges.len();
+        Ok(())
+    }
+
+    /// The states. Edges of a next one are left out.
+    pub fn into_rows(self) -> Rows
+        ensures { result ≡ self.rows }
+    {
+        let RowWriter { states, edges, .. } = self;
+        Rows { states, edges }
     }
 }

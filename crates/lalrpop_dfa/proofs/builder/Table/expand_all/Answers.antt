@@ -14,8 +14,8 @@ returns-in_err-expand-clause-err c =
     let p = err_from_is_err_and c.from_residual-in_err-expand.result c.from_residual-in_err-expand.ensures.1 in
     let g = next_given c.in_ok-set.field-0 c.in-Some.set _ _ c.in_ok-set.ensures.given c.in-Some.is in
     rw (p.1, p.2)
-    (built_clash c.args.automata.now.graphs (map (λ p. p.0) c.args.precedences.now) c.loop-set.self.sets.kernels.list c.loop-set.self.sets.origins.items c.loop-set.self.rows c.in-Some.set c.in_err-expand.field-0.0 c.loop-set.invariant.built
-    (given_at c.loop-set.self.sets.kernels.list c.loop-set.self.sets.kernels.place (length c.loop-set.self.rows) g.0 c.in-Some.set g.1 g.2 c.loop-set.invariant.place) c.in_err-expand.ensures.err)
+    (built_clash c.args.automata.now.graphs (map (λ p. p.0) c.args.precedences.now) c.loop-set.self.sets.kernels.list c.loop-set.self.sets.origins.items c.loop-set.self.writer.rows c.in-Some.set c.in_err-expand.field-0.0 c.loop-set.invariant.built
+    (given_at c.loop-set.self.sets.kernels.list c.loop-set.self.sets.kernels.place (length c.loop-set.self.writer.rows) g.0 c.in-Some.set g.1 g.2 c.loop-set.invariant.place) c.in_err-expand.ensures.err)
 
 pub loop-set-smaller : goal.loop-set-smaller
 loop-set-smaller c =
@@ -23,13 +23,13 @@ loop-set-smaller c =
     omega (
       arith,
       c.in_ok-expand.ensures.one,
-      built_few c.args.automata.now.graphs (map (λ p. p.0) c.args.precedences.now) c.loop-set.self.sets.kernels.list c.loop-set.self.sets.origins.items c.loop-set.self.rows c.in-Some.set c.loop-set.invariant.built
-          (given_at c.loop-set.self.sets.kernels.list c.loop-set.self.sets.kernels.place (length c.loop-set.self.rows) g.0 c.in-Some.set g.1 g.2 c.loop-set.invariant.place),
+      built_few c.args.automata.now.graphs (map (λ p. p.0) c.args.precedences.now) c.loop-set.self.sets.kernels.list c.loop-set.self.sets.origins.items c.loop-set.self.writer.rows c.in-Some.set c.loop-set.invariant.built
+          (given_at c.loop-set.self.sets.kernels.list c.loop-set.self.sets.kernels.place (length c.loop-set.self.writer.rows) g.0 c.in-Some.set g.1 g.2 c.loop-set.invariant.place),
     )
 
 pub returns-clause-ok : goal.returns-clause-ok
 returns-clause-ok c =
     let same : c.next.new.self.list ≡ c.loop-set.self.sets.kernels.list = ap (λ s. s.list) c.in_ok-set.ensures.moves in
-    subst (λ (sets : List (List Item)). IsBuiltTo c.args.automata.now.graphs (map (λ p. p.0) c.args.precedences.now) sets c.loop-set.self.sets.origins.items c.loop-set.self.rows (length sets)) (sym same)
-    (built_end c.args.automata.now.graphs (map (λ p. p.0) c.args.precedences.now) c.loop-set.self.sets.kernels.list c.loop-set.self.sets.origins.items c.loop-set.self.rows c.loop-set.self.sets.kernels.place c.loop-set.invariant.built c.loop-set.invariant.place
+    subst (λ (sets : List (List Item)). IsBuiltTo c.args.automata.now.graphs (map (λ p. p.0) c.args.precedences.now) sets c.loop-set.self.sets.origins.items c.loop-set.self.writer.rows (length sets)) (sym same)
+    (built_end c.args.automata.now.graphs (map (λ p. p.0) c.args.precedences.now) c.loop-set.self.sets.kernels.list c.loop-set.self.sets.origins.items c.loop-set.self.writer.rows c.loop-set.self.sets.kernels.place c.loop-set.invariant.built c.loop-set.invariant.place
     (next_none c.in_ok-set.field-0 _ _ c.in_ok-set.ensures.given c.in_default.not-Some))

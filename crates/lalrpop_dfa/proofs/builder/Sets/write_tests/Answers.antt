@@ -11,8 +11,8 @@ use Rattle.lalrpop_dfa.proofs.Builds.{set_holds}
 use Rattle.lalrpop_dfa.proofs.CutBlocks.{IsBefore, block as block_at}
 use Rattle.lalrpop_dfa.proofs.CutEdges.{range_of, IsBlock, is_block, some_values, before_next, edging_kept, edging_passed, block_takes, known_added, numbered_has, is_there, class_within, number_read}
 use Rattle.lalrpop_dfa.proofs.KnownClasses.{numbered_more}
-use Rattle.lalrpop_dfa.proofs.builder.Sets.tests_of.Goals as goal
-use Rattle.lalrpop_dfa.proofs.builder.Sets.tests_of.Goals.{in-Some, in-None-2+in_ok-target-in-None-2}
+use Rattle.lalrpop_dfa.proofs.builder.Sets.write_tests.Goals as goal
+use Rattle.lalrpop_dfa.proofs.builder.Sets.write_tests.Goals.{in-Some, in-None-2+in_ok-target-in-None-2}
 
 pub cell-next-requires : goal.cell-next-requires
 cell-next-requires c =
@@ -55,7 +55,7 @@ loop-cut-preserved c =
     let sound = c.requires.filled.is_room.sound.cells in
     let next : IsBefore cells cuts (k + 1) y = before_next cells cuts read k y c.deref-cut-items.ensures.value c.cell-next.ensures.cell in
     let less = some_values x y c.is_empty.result c.is_empty.ensures c.if-is_empty.false in
-    let pushed : c.add_edge.new.tests.items ≡ c.loop-cut.tests.items ++ (record { start = x.first; end = y.first - 1 }, c.match-index.target) ∷ [] = c.in_ok-add_edge.ensures in
+    let pushed : c.write_edge.new.writer.tests ≡ c.loop-cut.writer.tests ++ (record { start = x.first; end = y.first - 1 }, c.match-index.target) ∷ [] = c.in_ok-write_edge.ensures.tests in
     elim c.match-index.branch [
       | in-Some v ↦
           (let found : slice_get c.loop-cut.known.by_class.items x.class ≡ Some (Some v.in-Some.target) =
@@ -64,18 +64,18 @@ loop-cut-preserved c =
           let block : IsBlock cells by_class cuts k x y = is_block cells count by_class cuts read k x y sound c.deref-cut-items.ensures.value c.loop-cut-test.true inv.before c.cell-next.ensures.cell less some in
           let add = known_added ns c.args.set.now cells by_class cuts k x y block c.requires.filled.transitions c.loop-cut.self.kernels.list c.loop-cut.self.origins.items c.args.number v.in-Some.target c.loop-cut.known.by_class.items inv.classes found in
           let edges = edging_kept ns c.args.set.now cells by_class cuts k x y block c.cell-next.ensures.automata c.args.self.now.kernels.list c.args.self.now.origins.items c.args.number c.requires.here c.requires.filled.ranges v.in-Some.target
-          c.loop-cut.self.kernels.list c.loop-cut.self.origins.items c.loop-cut.tests.items c.loop-cut.self.kernels.list c.loop-cut.self.origins.items c.add_edge.new.tests.items inv.edging add
-          (pushed ∙ ap (λ (j : ℕ). c.loop-cut.tests.items ++ (record { start = x.first; end = y.first - 1 }, j) ∷ []) v.target-is) in
+          c.loop-cut.self.kernels.list c.loop-cut.self.origins.items c.loop-cut.writer.tests c.loop-cut.self.kernels.list c.loop-cut.self.origins.items c.write_edge.new.writer.tests inv.edging add
+          (pushed ∙ ap (λ (j : ℕ). c.loop-cut.writer.tests ++ (record { start = x.first; end = y.first - 1 }, j) ∷ []) v.target-is) in
           rw (v.self-is, v.known-is)
-          (record { before = next; edging = edges; count = inv.count; known = inv.known; classes = inv.classes; numbers = inv.numbers; place = inv.place }))
+          (record { before = next; edging = edges; count = inv.count; known = inv.known; classes = inv.classes; numbers = inv.numbers; place = inv.place; rows = c.in_ok-write_edge.ensures.rows ∙ inv.rows }))
       | in-None-2+in_ok-target-in-None-2 v ↦
           (let some : has_edges (slice_get by_class x.class) ≡ true = v.is_bare.ensures ∙ ap not v.if-is_bare.false in
           let block : IsBlock cells by_class cuts k x y = is_block cells count by_class cuts read k x y sound c.deref-cut-items.ensures.value c.loop-cut-test.true inv.before c.cell-next.ensures.cell less some in
           let add : AddedTo c.loop-cut.self.kernels.list c.loop-cut.self.origins.items c.args.number x.first (move ns c.args.set.now x.first) v.in_ok-target-in-None-2.target v.new_target.new.sets.kernels.list v.new_target.new.sets.origins.items =
           subst (λ (o : ℕ × ℕ). AddedTo c.loop-cut.self.kernels.list c.loop-cut.self.origins.items o.0 o.1 (move ns c.args.set.now o.1) v.in_ok-target-in-None-2.target v.new_target.new.sets.kernels.list v.new_target.new.sets.origins.items) c.origin-origin.ensures v.in_ok-target-in-None-2.ensures.added.0 in
           let edges = edging_kept ns c.args.set.now cells by_class cuts k x y block c.cell-next.ensures.automata c.args.self.now.kernels.list c.args.self.now.origins.items c.args.number c.requires.here c.requires.filled.ranges v.in_ok-target-in-None-2.target
-          c.loop-cut.self.kernels.list c.loop-cut.self.origins.items c.loop-cut.tests.items v.new_target.new.sets.kernels.list v.new_target.new.sets.origins.items c.add_edge.new.tests.items inv.edging add
-          (pushed ∙ ap (λ (j : ℕ). c.loop-cut.tests.items ++ (record { start = x.first; end = y.first - 1 }, j) ∷ []) v.target-is) in
+          c.loop-cut.self.kernels.list c.loop-cut.self.origins.items c.loop-cut.writer.tests v.new_target.new.sets.kernels.list v.new_target.new.sets.origins.items c.write_edge.new.writer.tests inv.edging add
+          (pushed ∙ ap (λ (j : ℕ). c.loop-cut.writer.tests ++ (record { start = x.first; end = y.first - 1 }, j) ∷ []) v.target-is) in
           rw (v.self-is, v.known-is)
           (record {
             before = next;
@@ -85,6 +85,7 @@ loop-cut-preserved c =
             classes = v.in_ok-target-in-None-2.ensures.classes;
             numbers = numbered_more c.loop-cut.known.by_class.items v.new_target.new.known.by_class.items blocks (block_at x y) x.class v.in_ok-target-in-None-2.ensures.numbers (is_there ns c.args.set.now cells by_class cuts k x y block) refl inv.numbers;
             place = v.in_ok-target-in-None-2.ensures.added.1 ∙ inv.place;
+            rows = c.in_ok-write_edge.ensures.rows ∙ inv.rows;
           }))
     ]
 
@@ -97,13 +98,14 @@ loop-cut-preserved-then-is_empty c =
     let inv = c.loop-cut.invariant in
     record {
       before = before_next cells cuts read c.loop-cut.cut-index c.cell-next.result c.deref-cut-items.ensures.value c.cell-next.ensures.cell;
-      edging = edging_passed c.args.automata.now.graphs c.args.set.now cells by_class cuts read c.loop-cut.cut-index c.loop-cut.before c.cell-next.result c.args.self.now.kernels.list c.args.self.now.origins.items c.args.number c.loop-cut.self.kernels.list c.loop-cut.self.origins.items c.loop-cut.tests.items
+      edging = edging_passed c.args.automata.now.graphs c.args.set.now cells by_class cuts read c.loop-cut.cut-index c.loop-cut.before c.cell-next.result c.args.self.now.kernels.list c.args.self.now.origins.items c.args.number c.loop-cut.self.kernels.list c.loop-cut.self.origins.items c.loop-cut.writer.tests
           c.deref-cut-items.ensures.value inv.before c.cell-next.ensures.cell (inl (c.is_empty.ensures.0 c.if-is_empty.true)) inv.edging;
       count = inv.count;
       known = inv.known;
       classes = inv.classes;
       numbers = inv.numbers;
       place = inv.place;
+      rows = inv.rows;
     }
 
 pub loop-cut-preserved-in-None : goal.loop-cut-preserved-in-None
@@ -117,13 +119,14 @@ loop-cut-preserved-in-None c =
     let none : has_edges (slice_get by_class x.class) ≡ false = c.is_bare.ensures ∙ ap not c.if-is_bare.true in
     record {
       before = before_next cells cuts read c.loop-cut.cut-index c.cell-next.result c.deref-cut-items.ensures.value c.cell-next.ensures.cell;
-      edging = edging_passed c.args.automata.now.graphs c.args.set.now cells by_class cuts read c.loop-cut.cut-index x c.cell-next.result c.args.self.now.kernels.list c.args.self.now.origins.items c.args.number c.loop-cut.self.kernels.list c.loop-cut.self.origins.items c.loop-cut.tests.items
+      edging = edging_passed c.args.automata.now.graphs c.args.set.now cells by_class cuts read c.loop-cut.cut-index x c.cell-next.result c.args.self.now.kernels.list c.args.self.now.origins.items c.args.number c.loop-cut.self.kernels.list c.loop-cut.self.origins.items c.loop-cut.writer.tests
           c.deref-cut-items.ensures.value inv.before c.cell-next.ensures.cell (inr none) inv.edging;
       count = inv.count;
       known = inv.known;
       classes = inv.classes;
       numbers = inv.numbers;
       place = inv.place;
+      rows = inv.rows;
     }
 
 pub returns-clause-tested : goal.returns-clause-tested
@@ -135,7 +138,7 @@ returns-clause-tested c =
     let same : length c.deref-cut-items.result.now ≡ length cuts = ap length c.deref-cut-items.ensures.value in
     let end : c.loop-cut.cut-index ≡ length cuts = omega (arith, same, c.loop-cut-test.false, c.loop-cut.auto.cut-index-end) in
     let all : length (blocks_to cells by_class cuts c.loop-cut.cut-index) ≡ length (map range_of blocks) = ap (λ k. length (blocks_to cells by_class cuts k)) end ∙ sym (length-map blocks range_of) in
-    (map range_of blocks, (c.requires.filled.ranges, subst (λ k. IsEdging c.args.automata.now.graphs c.args.self.now.kernels.list c.args.self.now.origins.items c.args.number c.args.set.now (map range_of blocks) k c.loop-cut.self.kernels.list c.loop-cut.self.origins.items c.loop-cut.tests.items) all c.loop-cut.invariant.edging))
+    (map range_of blocks, (c.requires.filled.ranges, subst (λ k. IsEdging c.args.automata.now.graphs c.args.self.now.kernels.list c.args.self.now.origins.items c.args.number c.args.set.now (map range_of blocks) k c.loop-cut.self.kernels.list c.loop-cut.self.origins.items c.loop-cut.writer.tests) all c.loop-cut.invariant.edging))
 
 pub returns-clause-room : goal.returns-clause-room
 returns-clause-room c =
