@@ -1,6 +1,6 @@
-//! Tests of the public calls of the automaton of many trees, with values: its states and edges, runs, how it is written, order,
-//! equality and copies; the automata of one tree are tested in `nfa_tests`, kernel sets in `memory_tests`. They are a crate of
-//! their own, so that no layer is proved a second time for its tests.
+//! Tests of the public calls of the automata, with values: of one tree, its ranges and their partition, states, edges and
+//! refusals; of many, their states and edges, runs, how they are written, order, equality and copies. Kernel sets are tested in
+//! `memory_tests`. They are a crate of their own, so that no layer is proved a second time for its tests.
 #![tactic(auto)]
 
 #[cfg(test)]
@@ -14,4 +14,8 @@ mod order;
 #[cfg(test)]
 mod printed;
 #[cfg(test)]
+mod ranges;
+#[cfg(test)]
 mod runs;
+#[cfg(test)]
+mod shapes;

@@ -1,7 +1,14 @@
-//! Tests of what patterns are read as and refused for, and of the pattern that stands for a text.
+//! Tests of trees, classes and sets of characters: what they show, and that copies show the same; of what patterns are read as
+//! and refused for; and of the pattern that stands for a text.
 #![tactic(auto)]
 
+#[cfg(test)]
+mod classes;
 #[cfg(test)]
 mod escape_text;
 #[cfg(test)]
 mod patterns;
+#[cfg(test)]
+mod sets;
+#[cfg(test)]
+mod trees;

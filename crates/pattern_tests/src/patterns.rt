@@ -319,6 +319,13 @@ fn escapes_are_refused(rt: HostRuntime) -> Result<(), Fail> {
 }
 
 // `inner` with `open` in front and `close` behind, so many times.
+fn push_times(pattern: &mut String, part: &str, times: u32) -> Result<(), AllocError> {
+    for _ in 0..times {
+        pattern.push_str(part)?;
+    }
+    Ok(())
+}
+
 fn nested(
     alloc: Global,
     open: &str,
@@ -327,13 +334,9 @@ fn nested(
     times: u32,
 ) -> Result<String, AllocError> {
     let mut pattern = String::new(alloc);
-    for _ in 0..times {
-        pattern.push_str(open)?;
-    }
+    push_times(&mut pattern, open, times)?;
     pattern.push_str(inner)?;
-    for _ in 0..times {
-        pattern.push_str(close)?;
-    }
+    push_times(&mut pattern, close, times)?;
     Ok(pattern)
 }
 
@@ -393,34 +396,51 @@ fn prefixes_of_patterns(rt: HostRuntime) -> Result<(), Fail> {
     Ok(())
 }
 
-// Long counts and names, flags in another order, and characters that a reader may trip over.
 #[test]
-fn long_parts_and_strange_characters(rt: HostRuntime) -> Result<(), Fail> {
-    let alloc = rt.alloc();
-    let zeros = nested(alloc, "0", "7", "", 30)?;
-    let counted = format!(in alloc; "a{{{zeros}}}")?;
+fn flags_in_another_order_and_strange_characters(rt: HostRuntime) -> Result<(), Fail> {
     expect_tree(
         &rt,
         &[
-            (counted.as_str(), "'a'{7,7}"),
             ("(?smUiu)a", "[A a]"),
             ("\0", "'\0'"),
             ("\u{1F600}", "'\u{1F600}'"),
         ],
-    )?;
-    let nines = nested(alloc, "9", "", "", 30)?;
-    let counted = format!(in alloc; "a{{{nines}}}")?;
-    assert_eq!(rt;
-        refusal(&rt, &counted)?,
-        Some((2, SyntaxKind::RepetitionCount))
-    );
+    )
+}
+
+// `a` with a count of 31 characters.
+fn counted(alloc: Global, digit: &str, last: &str) -> Result<String, AllocError> {
+    let digits = nested(alloc, digit, last, "", 30)?;
+    format!(in alloc; "a{{{digits}}}")
+}
+
+#[test]
+fn a_long_count_of_zeros(rt: HostRuntime) -> Result<(), Fail> {
+    let pattern = counted(rt.alloc(), "0", "7")?;
+    expect_tree(&rt, &[(pattern.as_str(), "'a'{7,7}")])
+}
+
+#[test]
+fn a_long_count_of_nines(rt: HostRuntime) -> Result<(), Fail> {
+    let pattern = counted(rt.alloc(), "9", "9")?;
+    expect_refusal(&rt, &[(pattern.as_str(), 2, SyntaxKind::RepetitionCount)])
+}
+
+fn group_with_a_long_name(alloc: Global) -> Result<String, AllocError> {
     let name = nested(alloc, "n", "", "", 100_000)?;
-    let group = format!(in alloc; "(?<{name}>a)")?;
-    assert_eq!(rt; refusal(&rt, &group)?, None);
-    let twice = format!(in alloc; "{group}{group}")?;
-    assert_eq!(rt;
-        refusal(&rt, &twice)?,
-        Some((100_006, SyntaxKind::GroupName))
-    );
+    format!(in alloc; "(?<{name}>a)")
+}
+
+#[test]
+fn a_long_name(rt: HostRuntime) -> Result<(), Fail> {
+    let group = group_with_a_long_name(rt.alloc())?;
+    assert!(rt; refusal(&rt, &group)?.is_none());
     Ok(())
+}
+
+#[test]
+fn a_long_name_twice(rt: HostRuntime) -> Result<(), Fail> {
+    let mut groups = group_with_a_long_name(rt.alloc())?;
+    groups.push_str(&group_with_a_long_name(rt.alloc())?)?;
+    expect_refusal(&rt, &[(groups.as_str(), 100_006, SyntaxKind::GroupName)])
 }

@@ -5,6 +5,7 @@ use lalrpop_hir::{
     Look, Repetition,
 };
 use std::alloc::{AllocError, Global};
+use std::fmt;
 use std::process::Abort;
 use std::test::Fail;
 
@@ -25,22 +26,32 @@ fn literals_are_never_empty(rt: HostRuntime) -> Result<(), Fail> {
     Ok(())
 }
 
+fn is_twice_and_lazy(twice: &Repetition) -> bool {
+    twice.min() == 2
+        && twice.max() == Some(4)
+        && !twice.greedy()
+        && matches!(twice.sub().kind(), HirKind::Look(Look::EndLF))
+}
+
+fn is_an_empty_group(group: &Capture, name: Option<&str>) -> bool {
+    group.name() == name && matches!(group.sub().kind(), HirKind::Empty)
+}
+
+fn empty_group(alloc: Global, name: Option<String>) -> Result<Capture, AllocError> {
+    Ok(Capture::new(name, Box::new(alloc, Hir::empty())?))
+}
+
 #[test]
-fn parts_are_those_given(rt: HostRuntime) -> Result<(), Fail> {
-    let alloc = rt.alloc();
-    let twice = Repetition::new(2, Some(4), false, Box::new(alloc, Hir::look(Look::EndLF))?);
-    assert_eq!(rt; twice.min(), 2);
-    assert_eq!(rt; twice.max(), Some(4));
-    assert!(rt; !twice.greedy());
-    assert!(rt; matches!(twice.sub().kind(), HirKind::Look(Look::EndLF)));
-    let named = Capture::new(
-        Some(String::from_str(alloc, "year")?),
-        Box::new(alloc, Hir::empty())?,
-    );
-    assert_eq!(rt; named.name(), Some("year"));
-    assert!(rt; matches!(named.sub().kind(), HirKind::Empty));
-    let unnamed = Capture::new(None, Box::new(alloc, Hir::empty())?);
-    assert_eq!(rt; unnamed.name(), None);
+fn parts_of_repetitions_are_those_given(rt: HostRuntime) -> Result<(), Fail> {
+    assert!(rt; is_twice_and_lazy(&lazy(rt.alloc())?));
+    Ok(())
+}
+
+#[test]
+fn parts_of_groups_are_those_given(rt: HostRuntime) -> Result<(), Fail> {
+    let year = String::from_str(rt.alloc(), "year")?;
+    assert!(rt; is_an_empty_group(&empty_group(rt.alloc(), Some(year))?, Some("year")));
+    assert!(rt; is_an_empty_group(&empty_group(rt.alloc(), None)?, None));
     Ok(())
 }
 
@@ -77,17 +88,30 @@ fn trees_of_all_kinds(alloc: Global) -> Result<Vec<Hir>, AllocError> {
     Ok(trees)
 }
 
+fn assert_same(rt: &impl Abort, found: &str, wanted: &str) {
+    assert_eq!(rt; found, wanted);
+}
+
+fn debug<T: fmt::Debug>(alloc: Global, shown: &T) -> Result<String, AllocError> {
+    format!(in alloc; "{shown:?}")
+}
+
+fn debug_of_copy<T: Clone + Drop + fmt::Debug>(
+    alloc: Global,
+    shown: &T,
+) -> Result<String, AllocError> {
+    let copy = shown.clone()?;
+    debug(alloc, &copy)
+}
+
 fn assert_clone_shows_the_same(
     rt: &impl Abort,
     alloc: Global,
     tree: &Hir,
 ) -> Result<(), AllocError> {
-    let copy = tree.clone()?;
-    let shown = format!(in alloc; "{copy:?}")?;
-    assert_eq!(rt; shown, format!(in alloc; "{tree:?}")?);
-    let kind = tree.kind().clone()?;
-    let shown = format!(in alloc; "{kind:?}")?;
-    assert_eq!(rt; shown, format!(in alloc; "{:?}", tree.kind())?);
+    assert_same(rt, &debug(alloc, tree)?, &debug_of_copy(alloc, tree)?);
+    let kind = tree.kind();
+    assert_same(rt, &debug(alloc, kind)?, &debug_of_copy(alloc, kind)?);
     Ok(())
 }
 
@@ -101,21 +125,35 @@ fn clones_show_what_their_sources_show(rt: HostRuntime) -> Result<(), Fail> {
     Ok(())
 }
 
+fn lazy(alloc: Global) -> Result<Repetition, AllocError> {
+    let sub = Box::new(alloc, Hir::look(Look::EndLF))?;
+    Ok(Repetition::new(2, Some(4), false, sub))
+}
+
 #[test]
-fn clones_of_parts_show_what_their_sources_show(rt: HostRuntime) -> Result<(), Fail> {
-    let alloc = rt.alloc();
-    let lazy = Repetition::new(2, Some(4), false, Box::new(alloc, Hir::look(Look::EndLF))?);
-    let copy = lazy.clone()?;
-    assert_eq!(rt;
-        format!(in alloc; "{copy:?}")?,
-        format!(in alloc; "{lazy:?}")?
+fn clones_of_repetitions_show_what_their_sources_show(rt: HostRuntime) -> Result<(), Fail> {
+    let lazy = lazy(rt.alloc())?;
+    assert_same(
+        &rt,
+        &debug(rt.alloc(), &lazy)?,
+        &debug_of_copy(rt.alloc(), &lazy)?,
     );
+    Ok(())
+}
+
+fn year(alloc: Global) -> Result<Capture, AllocError> {
     let name = String::from_str(alloc, "year")?;
-    let named = Capture::new(Some(name), Box::new(alloc, Hir::literal(alloc, "é")?)?);
-    let copy = named.clone()?;
-    assert_eq!(rt;
-        format!(in alloc; "{copy:?}")?,
-        format!(in alloc; "{named:?}")?
+    let sub = Box::new(alloc, Hir::literal(alloc, "é")?)?;
+    Ok(Capture::new(Some(name), sub))
+}
+
+#[test]
+fn clones_of_groups_show_what_their_sources_show(rt: HostRuntime) -> Result<(), Fail> {
+    let year = year(rt.alloc())?;
+    assert_same(
+        &rt,
+        &debug(rt.alloc(), &year)?,
+        &debug_of_copy(rt.alloc(), &year)?,
     );
     Ok(())
 }
