@@ -100,7 +100,11 @@ impl Model for Alphabet {
 }
 
 impl Alphabet {
-    /// The alphabet of the automata. The only error is that there is no memory.
+    /// The alphabet of the automata.
+    ///
+    /// # Errors
+    ///
+    /// `AllocError` where a request for memory was refused.
     pub fn new(alloc: Global, automata: &[Nfa]) -> Result<Alphabet, AllocError>
         ensures alphabet { IfOk result (IsAlphabetOf automata.now) }
     {

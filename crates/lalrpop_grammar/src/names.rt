@@ -8,6 +8,10 @@ use std::alloc::{AllocError, Global};
 use std::collections::BTreeSet;
 
 /// The place of the first name, counted among those of the tree's groups, that equals one before it.
+///
+/// # Errors
+///
+/// `AllocError` where a request for memory was refused.
 pub fn repeated_name(alloc: Global, tree: &Hir) -> Result<Option<usize>, AllocError>
     ensures repeated { IfOk result (λ place. is_some place ≡ not (are_distinct (names tree.now))) }
 {

@@ -10,6 +10,10 @@ use lalrpop_sets::{fold, range_class};
 use std::alloc::{AllocError, Global};
 
 /// The set of a leaf of characters from `low` to `high`: under the flag `i` with all their foldings.
+///
+/// # Errors
+///
+/// `AllocError` where a request for memory was refused.
 pub fn leaf_of_range(
     alloc: Global,
     flags: Flags,
@@ -23,6 +27,10 @@ pub fn leaf_of_range(
 }
 
 /// The set of a leaf that is the given set, folded under the flag `i`, or all other characters.
+///
+/// # Errors
+///
+/// `AllocError` where a request for memory was refused.
 pub fn leaf_of_set(
     alloc: Global,
     flags: Flags,
@@ -52,6 +60,10 @@ pub fn tree_of_class(class: ClassUnicode) -> Hir
 }
 
 /// The tree of a literal character outside brackets: under the flag `i` that of all its foldings.
+///
+/// # Errors
+///
+/// `AllocError` where a request for memory was refused.
 pub fn tree_of_character(alloc: Global, flags: Flags, c: char) -> Result<Hir, AllocError>
     ensures tree { IfOk result (λ t. t ≡ literal_tree flags c) }
 {
@@ -66,6 +78,10 @@ pub fn tree_of_character(alloc: Global, flags: Flags, c: char) -> Result<Hir, Al
 }
 
 /// The tree of `.`.
+///
+/// # Errors
+///
+/// `AllocError` where a request for memory was refused.
 pub fn tree_of_dot(alloc: Global, flags: Flags) -> Result<Hir, AllocError>
     ensures tree { IfOk result (λ t. t ≡ dot_tree flags) }
 {

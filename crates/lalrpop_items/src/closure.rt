@@ -342,6 +342,10 @@ fn set_of(
 }
 
 /// The given items and all that they lead to by reading nothing.
+///
+/// # Errors
+///
+/// `AllocError` where a request for memory was refused.
 pub fn closure(alloc: Global, nfas: &[Nfa], given: &[Item]) -> Result<ItemSet, AllocError>
     requires automata { AreAutomata nfas.now }
     requires inside { AreItemsOf nfas.now given.now }
@@ -370,6 +374,10 @@ fn patterns_below(alloc: Global, patterns: usize) -> Result<Vec<usize>, AllocErr
 
 /// The set that a set leads to by the values that take these test edges. A pattern with a REJECT item keeps it, so that the
 /// live items are followed alone.
+///
+/// # Errors
+///
+/// `AllocError` where a request for memory was refused.
 pub fn advance(
     alloc: Global,
     workspace: &mut Workspace,

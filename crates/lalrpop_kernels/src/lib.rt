@@ -59,7 +59,9 @@ impl<K: Kernel> KernelSet<K> {
 
     /// Gives the index of the number of an equal kernel, where there is one. Else adds `kernel` last, with the next number.
     ///
-    /// The set stays as it was where there is no memory.
+    /// # Errors
+    ///
+    /// `AllocError` where a request for memory was refused; the set stays as it was.
     pub fn add_state(&mut self, kernel: K) -> Result<K::Index, AllocError>
         requires clones { ClonesEqual K.cmp K.is_clone }
         ensures number { IfOk result (λ i. (n : ℕ) × (i ≡ K.index_of n)
@@ -86,7 +88,9 @@ impl<K: Kernel> KernelSet<K> {
     /// Gives a clone of the kernel at the place, and moves the place on to the next number; `None` at the end, where the
     /// place stays until a kernel is added.
     ///
-    /// The set stays as it was where there is no memory.
+    /// # Errors
+    ///
+    /// `AllocError` where a request for memory was refused; the set stays as it was.
     pub fn next(&mut self) -> Result<Option<K>, AllocError>
         requires clones { ClonesEqual K.cmp K.is_clone }
         ensures given { IfOk result (λ o. MatchOption o

@@ -17,6 +17,10 @@ use std::marker::Model;
 
 /// The longest prefix of the text, the empty one included, that the automaton's pattern matches: a slice of the
 /// text, or `None` where the pattern matches no prefix.
+///
+/// # Errors
+///
+/// `AllocError` where a request for memory was refused.
 pub fn interpret<'text>(
     alloc: Global,
     nfa: &Nfa,
@@ -30,6 +34,10 @@ pub fn interpret<'text>(
 }
 
 /// The same answer. A step is counted for each pair of a state and an offset that is visited, and none is taken back.
+///
+/// # Errors
+///
+/// `AllocError` where a request for memory was refused.
 pub fn interpret_counted<'text>(
     alloc: Global,
     nfa: &Nfa,

@@ -95,8 +95,10 @@ impl Nfa {
     /// three states more than the pattern's size. One edge leaves each of ACCEPT and REJECT, an `Other` edge to REJECT, and
     /// one leaves START, a `Noop` edge.
     ///
-    /// A pattern is refused for its fault: in a concatenation the last faulty part's, in an alternation the first
-    /// faulty branch's. What is never repeated has none. Else it fails only where memory is refused.
+    /// # Errors
+    ///
+    /// The pattern's fault: in a concatenation the last faulty part's, in an alternation the first faulty branch's. What is
+    /// never repeated has none. `OutOfMemory` where a request for memory was refused.
     pub fn from_re(alloc: Global, regex: &Regex) -> Result<Nfa, NfaConstructionError>
         ensures ok { IfOk result (λ nfa. (fault regex.now ≡ None) × IsCompiled regex.now nfa) }
         ensures fixed_edges { IfOk result (λ nfa. HasFixedEdges nfa.edges) }

@@ -12,7 +12,11 @@ use std::collections::BTreeSet;
 /// The maximal intervals of values that lie in the same ranges, and in some, ascending: at most 2n - 1 of them, for n
 /// ranges that contain some value. Ranges that contain none leave no trace.
 ///
-/// It sorts the starts and the ends, and goes over them once. The only error is that there is no memory.
+/// It sorts the starts and the ends, and goes over them once.
+///
+/// # Errors
+///
+/// `AllocError` where a request for memory was refused.
 pub fn remove_overlap(alloc: Global, ranges: &BTreeSet<Test>) -> Result<Vec<Test>, AllocError>
     ensures partition { IfOk result (λ blocks.
         IsPartition (Contains ranges.now.keys) blocks.items) }
@@ -24,6 +28,10 @@ pub fn remove_overlap(alloc: Global, ranges: &BTreeSet<Test>) -> Result<Vec<Test
 
 /// The same answer. A step is counted for each start and each end that is taken up: at most two for each range that
 /// contains some value, whatever the answer is.
+///
+/// # Errors
+///
+/// `AllocError` where a request for memory was refused.
 pub fn remove_overlap_counted(
     alloc: Global,
     ranges: &BTreeSet<Test>,

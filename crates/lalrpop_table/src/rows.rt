@@ -115,6 +115,10 @@ impl RowWriter {
     }
 
     /// Adds a test edge to the next state.
+    ///
+    /// # Errors
+    ///
+    /// `AllocError` where a request for memory was refused.
     pub fn add_edge(&mut self, label: Test, target: DfaStateIndex) -> Result<(), AllocError>
         ensures rows { OnOk result (self.new.rows ≡ self.old.rows) }
         ensures tests { OnOk result (self.new.tests ≡ self.old.tests ++ (label, target) ∷ []) }
@@ -124,6 +128,10 @@ impl RowWriter {
     }
 
     /// Ends the next state, which holds the items: all values that no test edge holds lead to the other state.
+    ///
+    /// # Errors
+    ///
+    /// `AllocError` where a request for memory was refused.
     pub fn end_row(
         &mut self,
         item_set: ItemSet,

@@ -20,6 +20,10 @@ const LEAST_EDGES: usize = 4;
 
 impl Dfa {
     /// The automaton of these states.
+    ///
+    /// # Errors
+    ///
+    /// `AllocError` where a request for memory was refused.
     pub fn new(alloc: Global, rows: Rows) -> Result<Dfa, AllocError>
         requires { IsWellFormed rows }
         ensures { IfOk result (λ dfa. dfa ≡ rows) }

@@ -123,6 +123,11 @@ fn write_outcome<W: Write>(
 /// Each line of input is a terminal `P l TEXT` or `P r PATTERN`: a precedence of 1 to 20 decimal digits, a space, the letter
 /// `l` or `r`, a space, and a literal or a pattern. Each line ends at a line feed, which the last may lack. No error is tried
 /// again: whatever comes, no call of an end is made after one that failed.
+///
+/// # Errors
+///
+/// `OutOfMemory` where a request for memory was refused, and `Read` where a read failed: nothing was written. `Write` where a
+/// write failed or took no byte: a prefix of the line was written.
 pub fn run<R: Read, W: Write>(
     alloc: Global,
     reader: &mut Watched<R>,

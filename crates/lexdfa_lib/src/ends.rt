@@ -9,6 +9,10 @@ use std::alloc::Global;
 use std::io::{Read, Write};
 
 /// All bytes that the reader has left. No error is tried again, and the first ends the reading.
+///
+/// # Errors
+///
+/// `Read` where a read failed, and `OutOfMemory` where a request for memory was refused.
 pub fn read_whole<R: Read>(alloc: Global, reader: &mut Watched<R>) -> Result<Vec<u8>, RunError>
     requires reader_good { reader.old.failed ≡ false }
     ensures no_late_read { reader.new.late ≡ reader.old.late }
@@ -35,6 +39,10 @@ pub fn read_whole<R: Read>(alloc: Global, reader: &mut Watched<R>) -> Result<Vec
 }
 
 /// Writes all bytes. No error is tried again, and the first ends the writing.
+///
+/// # Errors
+///
+/// `Write` where a write failed or took no byte: a prefix of the bytes was written.
 pub fn write_whole<W: Write>(writer: &mut Watched<W>, bytes: &[u8]) -> Result<(), RunError>
     requires writer_good { writer.old.failed ≡ false }
     ensures no_late_write { writer.new.late ≡ writer.old.late }

@@ -14,8 +14,10 @@ use std::alloc::Global;
 /// The longest nonempty prefix of the text that some pattern matches, with the place of the one pattern of the
 /// greatest precedence that matches it, or None where no pattern matches a nonempty prefix.
 ///
-/// Memory aside, an error is the first pattern that can't be compiled, or else the two last strongest patterns on the
-/// shortest, then least, word that has no one strongest pattern.
+/// # Errors
+///
+/// The first pattern that can't be compiled; where there is none, the two last strongest patterns on the shortest, then least,
+/// word that has no one strongest pattern; and want of memory.
 pub fn longest_match<'text>(
     alloc: Global,
     regexs: &[Regex],

@@ -32,6 +32,10 @@ fn tree_of(alloc: Global, kind: Kind, text: &str) -> Result<Regex, RegexError>
 }
 
 /// What the line says. A line whose pattern has no tree is no bad line.
+///
+/// # Errors
+///
+/// `AllocError` where a request for memory was refused.
 pub fn meaning_of(alloc: Global, line: &[u8]) -> Result<Meaning, AllocError>
     ensures said { IfOk result (λ meaning. LineSays line.now meaning) }
 {

@@ -66,6 +66,10 @@ fn error_name(error: &NfaConstructionError) -> &'static str
 }
 
 /// The line that tells the outcome, with its line feed.
+///
+/// # Errors
+///
+/// `AllocError` where a request for memory was refused.
 pub fn outcome_line(alloc: Global, outcome: &Outcome) -> Result<String, AllocError>
     ensures line { IfOk result (λ line. string_bytes line ≡ line_of outcome.now) }
 {

@@ -29,6 +29,10 @@ pub enum Terminals {
 /// Judges the lines `P l TEXT` and `P r PATTERN` in order, up to the first that is no terminal: a precedence of 1 to 20
 /// decimal digits, a space, the letter `l` or `r`, a space, and a literal or a pattern. Each line ends at a line feed, which
 /// the last may lack.
+///
+/// # Errors
+///
+/// `AllocError` where a request for memory was refused.
 pub fn read_terminals(alloc: Global, bytes: &[u8]) -> Result<Terminals, AllocError>
     ensures said { IfOk result (λ terminals. AreSaid bytes.now terminals) }
 {

@@ -45,6 +45,10 @@ fn text_lines(alloc: Global, lexer: &Lexer, text: &str) -> Result<(String, bool)
 }
 
 /// The lines of all texts, one text after another, and whether each was cut up to its end.
+///
+/// # Errors
+///
+/// `AllocError` where a request for memory was refused.
 pub fn all_lines(
     alloc: Global,
     lexer: &Lexer,

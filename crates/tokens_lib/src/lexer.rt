@@ -126,6 +126,10 @@ impl Lexer {
     }
 
     /// Cuts the text into tokens, up to its end or the first place where no pattern matches.
+    ///
+    /// # Errors
+    ///
+    /// `AllocError` where a request for memory was refused.
     pub fn tokens<'text>(
         &self,
         alloc: Global,

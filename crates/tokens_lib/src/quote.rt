@@ -33,6 +33,10 @@ fn push_told(text: &mut String, c: char) -> Result<(), AllocError>
 }
 
 /// The slice between quotes, where quotes, backslashes and control characters are told by what begins with a backslash.
+///
+/// # Errors
+///
+/// `AllocError` where a request for memory was refused.
 pub fn quoted(alloc: Global, slice: &str) -> Result<String, AllocError>
     ensures quoted { IfOk result (λ text. string_bytes text ≡ quoted slice.now) }
 {

@@ -50,6 +50,10 @@ impl Shown {
     /// The lines of the texts, cut by the terminals that the bytes name. For each token a line with the number of its
     /// terminal, its length in bytes and its slice, quoted; behind those of a text `end`, or `none` and the offset of
     /// the first place where no terminal matches. Where there is no lexer, one line that says why.
+    ///
+    /// # Errors
+    ///
+    /// `AllocError` where a request for memory was refused.
     pub fn of(alloc: Global, bytes: &[u8], texts: &[String]) -> Result<Shown, AllocError>
         ensures shown { IfOk result (λ shown.
             IsShown bytes.now (map string_bytes texts.now)
