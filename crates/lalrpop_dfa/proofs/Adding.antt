@@ -111,11 +111,15 @@ lead_exact x y e =
     let b : x.to ≡ y.to = nat_exact x.to y.to h.1 in
     ap₂ (λ i q. let l : Transition = record { item = i; to = q } in l) a b
 
+-- lists that compare as equal are equal
+pub transitions_exact : (x y : Transitions) → transitions_cmp x y ≡ Equal → x.list.items ≡ y.list.items
+transitions_exact x y e = lists_exact lead_exact x.list.items y.list.items e
+
 pub known_more : (ns : List Graph) (s : List Item) (known known2 : BTreeMap Transitions ℕ) (sets : List (List Item)) (origins : List (ℕ × ℕ)) (n v : ℕ) (leads : Transitions) (j : ℕ) (sets2 : List (List Item)) (origins2 : List (ℕ × ℕ))
     → AreKnown ns s known sets → AreTransitions ns s v leads.list.items → AddedTo sets origins n v (move ns s v) j sets2 origins2 → Updates transitions_cmp known known2 leads (Some j) → AreKnown ns s known2 sets2
 known_more ns s known known2 sets origins n v leads j sets2 origins2 k these add u other i w h are = elim (cases_Bool (is_eq (transitions_cmp leads other))) [
   | inl same ↦
-      (let e : leads.list.items ≡ other.list.items = lists_exact lead_exact leads.list.items other.list.items ((Equal-is (transitions_cmp leads other)).0 same) in
+      (let e : leads.list.items ≡ other.list.items = transitions_exact leads other ((Equal-is (transitions_cmp leads other)).0 same) in
       let found : Some j ≡ Some i = sym (u.0 other ∙ rw same refl) ∙ h in
       let number : j ≡ i = cc in
       let to : move ns s v ≡ move ns s w = leads_move ns s leads.list.items v w these (subst (AreTransitions ns s w) (sym e) are) in

@@ -9,10 +9,11 @@ use Rattle.lalrpop_hir.specs.Range.{Range}
 use Rattle.lalrpop_dfa.specs.Internal.Blocks.{Block}
 use Rattle.lalrpop_nfa.specs.Graph.{Graph}
 use Rattle.lalrpop_items.specs.Automata.{Item}
-use Rattle.lalrpop_dfa.specs.Internal.Builder.{AddedTo, AreKnown, AreUnknown, AreKnownClasses}
+use Rattle.lalrpop_dfa.specs.Internal.Builder.{AddedTo, AreKnown, AreUnknown, AreKnownClasses, IsNumberOfEqual}
 use Rattle.lalrpop_dfa.specs.Internal.Room.{OnlyNumbers}
 use Rattle.lalrpop_items.specs.Subsets.{move}
 use Rattle.lalrpop_items.specs.Transitions.{AreTransitions}
+use Rattle.lalrpop_items.specs.declared.transitions.Transition.{Transition}
 use Rattle.lalrpop_dfa.specs.declared.room.Transitions.{Transitions}
 use Rattle.lalrpop_dfa.proofs.Adding.{added_stays, added_at}
 use Rattle.lalrpop_kernels.proofs.NumberedLemmas.{pushed_cases}
@@ -52,6 +53,13 @@ known_classes_more ns s by_class known sets origins n v c j sets2 origins2 k wit
       rw (← is, ← to) (added_at sets origins n v (move ns s v) j sets2 origins2 add))
   | inr (other, was) ↦ added_stays sets origins n v (move ns s v) j sets2 origins2 add i (move ns s w) (k d i w u was there are)
 ]
+
+-- the number of a class whose values take the same edges is that of the set to which these lead
+pub number_of_equal : (ns : List Graph) (s : List Item) (by_class : List Transitions) (known : List (Option ℕ)) (sets : List (List Item)) (c j v : ℕ) → AreKnownClasses ns s by_class known sets → (t : Transitions) × ((slice_get by_class c ≡ Some t) × AreTransitions ns s v t.list.items)
+    → IsNumberOfEqual by_class known c j → slice_get sets j ≡ Some (move ns s v)
+number_of_equal ns s by_class known sets c j v classes (t, (here, these)) (d, x, y, (number, there, at, same)) =
+    let is : t ≡ y = (let f : Some t ≡ Some y = sym here ∙ at in cc) in
+    classes d j v x number there (subst (λ (ls : List Transition). AreTransitions ns s v ls) (ap (λ (z : Transitions). z.list.items) is ∙ sym same) these)
 
 -- only classes of these blocks have numbers, before one of them gets its number and after
 pub numbered_more : (old new : List (Option ℕ)) (blocks : List Block) (block : Block) (i : ℕ) → OnlyNumbers old i new → Contains blocks block → block.class ≡ i → AreOfBlocks blocks old → AreOfBlocks blocks new

@@ -295,6 +295,46 @@ fn target_of_transitions(
     Ok(number)
 }
 
+// The number of the set that a set leads to by the origin's value, which is of this class.
+fn target_of_class(
+    sets: &mut Sets,
+    alloc: Global,
+    automata: &Automata,
+    set: &ItemSet,
+    known: &mut Known,
+    edges: &EdgesByClass,
+    class: usize,
+    origin: Origin,
+) -> Result<DfaStateIndex, AllocError>
+    requires inside { AreItemsOf automata.now.graphs set.now }
+    requires same_length { length sets.old.origins.items ≡ length sets.old.kernels.list }
+    requires transitions { (t : Transitions) × ((slice_get edges.now.lists.items class ≡ Some t)
+        × AreTransitions automata.now.graphs set.now origin.1 t.list.items) }
+    requires known { AreKnown automata.now.graphs set.now
+        known.old.by_transitions sets.old.kernels.list }
+    requires classes { AreKnownClasses automata.now.graphs set.now edges.now.lists.items
+        known.old.by_class.items sets.old.kernels.list }
+    ensures added { IfOk result (λ j.
+        IsAdded sets.old origin (move automata.now.graphs set.now origin.1) j sets.new) }
+    ensures known { OnOk result (AreKnown automata.now.graphs set.now
+        known.new.by_transitions sets.new.kernels.list) }
+    ensures same { known.new.by_class.items ≡ known.old.by_class.items }
+{
+    if let Some(number) = known.number_of_last(edges, class) {
+        return Ok(number);
+    }
+    target_of_transitions(
+        sets,
+        alloc,
+        automata,
+        set,
+        edges.used.len() <= FEW,
+        &mut known.by_transitions,
+        &edges.lists[class],
+        origin,
+    )
+}
+
 // The number of the set that a set leads to by the origin's value, which is of this class: noted for the class, which has
 // none yet.
 fn new_target(
@@ -326,17 +366,9 @@ fn new_target(
     ensures numbers { OnOk result
         (OnlyNumbers known.old.by_class.items class known.new.by_class.items) }
 {
-    let number = target_of_transitions(
-        sets,
-        alloc,
-        automata,
-        set,
-        edges.used.len() <= FEW,
-        &mut known.by_transitions,
-        &edges.lists[class],
-        origin,
-    )?;
+    let number = target_of_class(sets, alloc, automata, set, known, edges, class, origin)?;
     known.by_class[class] = Some(number);
+    known.last_class = class;
     Ok(number)
 }
 

@@ -1,11 +1,11 @@
 //! Room for what leaves a set of items: the cuts of its labels, and the test edges that the values of each class take.
 
-ghost use Rattle.std.specs.Prelude.{◌≡◌, ℕ, ◌<◌, ◌⊎◌, ◌↔◌, [], length, slice_get, not, IfOk, OnOk};
+ghost use Rattle.std.specs.Prelude.{◌≡◌, ℕ, ◌<◌, ◌⊎◌, ◌↔◌, [], length, slice_get, not, IfOk, IfSome, OnOk};
 ghost use Rattle.lalrpop_dfa.specs.Internal.Blocks.{has_edges};
 ghost use Rattle.std.specs.List.{Contains};
 ghost use Rattle.lalrpop_alphabet.specs.Alphabet.{HasState, HasCut, LeadsBy, CutsAt, IsAlphabetOf};
 ghost use Rattle.lalrpop_items.specs.Given.{AreAutomata, AreItemsOf};
-ghost use Rattle.lalrpop_dfa.specs.Internal.Builder.{AreUnknown};
+ghost use Rattle.lalrpop_dfa.specs.Internal.Builder.{AreUnknown, IsNumberOfEqual};
 ghost use Rattle.lalrpop_dfa.specs.Internal.Room.{AreNoted, AreMarked, AreUnmarked, HoldMarked, IsTidy, IsCleared, IsRoomOf, IsFilled};
 ghost use Rattle.lalrpop_items.specs.Automata.{Item as ItemValue};
 ghost use Rattle.lalrpop_dfa.specs.Internal.Transitions.{AreBare, AreBelow, Gained, AreGathered, AreCutsOf};
@@ -50,11 +50,27 @@ pub(super) struct Cuts {
 }
 
 /// The numbers of the sets that a set leads to, as far as they were found: by the class of a value, and by the test edges
-/// that a value takes.
+/// that a value takes. The class that got its number last is the first one to be asked: neighbours often take the same edges.
 #[derive(Drop)]
 pub(super) struct Known {
     pub(super) by_class: Vec<Option<DfaStateIndex>>,
     pub(super) by_transitions: BTreeMap<Transitions, DfaStateIndex>,
+    pub(super) last_class: usize,
+}
+
+impl Known {
+    /// The number of the class that got one last, where its values take the same test edges as those of a class.
+    pub(super) fn number_of_last(&self, edges: &EdgesByClass, class: usize) -> Option<DfaStateIndex>
+        requires { class < length edges.now.lists.items }
+        ensures { IfSome result (IsNumberOfEqual edges.now.lists.items self.now.by_class.items class) }
+    {
+        let number = (*self.by_class.get(self.last_class)?)?;
+        let last = edges.lists.get(self.last_class)?;
+        if last.cmp(&edges.lists[class]).is_eq() {
+            return Some(number);
+        }
+        None
+    }
 }
 
 /// Room for what leaves a set of items, which is used again from set to set: the cells at which labels begin or are over,
@@ -244,6 +260,7 @@ impl Room {
             known: Known {
                 by_class: no_numbers(alloc, count)?,
                 by_transitions: BTreeMap::new(alloc),
+                last_class: 0,
             },
         })
     }

@@ -49,6 +49,10 @@ abbrev pub AreKnownClasses : List Graph → List Item → List Transitions → L
 AreKnownClasses ns s by_class known sets = (c j v : ℕ) (t : Transitions) → slice_get known c ≡ Some (Some j) → slice_get by_class c ≡ Some t
     → AreTransitions ns s v t.list.items → slice_get sets j ≡ Some (move ns s v)
 
+-- another class has the number j, and its values take the same test edges as those of class c
+abbrev pub IsNumberOfEqual : List Transitions → List (Option ℕ) → ℕ → ℕ → Type 0
+IsNumberOfEqual by_class known c j = (d : ℕ) × (t u : Transitions) × ((slice_get known d ≡ Some (Some j)) × (slice_get by_class d ≡ Some t) × (slice_get by_class c ≡ Some u) × (t.list.items ≡ u.list.items))
+
 -- the values of origins are of 32 bits
 abbrev pub AreSmall : List (ℕ × ℕ) → Type 0
 AreSmall origins = (k : ℕ) → value_of origins k ≤ 4294967295
