@@ -184,7 +184,9 @@ impl Sets {
     }
 
     // Writes the test edges of a number's set, from cut to cut, where the room holds what leaves the set: adds the sets that
-    // they lead to. Only the first values of a class that are met look their set up.
+    // they lead to. Only the first values of a class that are met look their set up. It stands apart in the machine code, as the
+    // look-up does, so that the loop keeps what it reads in registers.
+    #[inline(never)]
     fn write_tests(
         &mut self,
         alloc: Global,
@@ -337,6 +339,7 @@ fn target_of_class(
 
 // The number of the set that a set leads to by the origin's value, which is of this class: noted for the class, which has
 // none yet.
+#[inline(never)]
 fn new_target(
     sets: &mut Sets,
     alloc: Global,
