@@ -61,12 +61,14 @@ impl Default for Lead {
 /// allocation.
 #[derive(Drop)]
 pub struct StateLeads {
+    /// The leads, by ascending places of their first edges.
     pub leads: SmallVec<Lead, 1>,
 }
 
 /// Where the labels of each state of one automaton lead.
 #[derive(Drop)]
 pub struct NfaLeads {
+    /// By the number of the state.
     pub states: Vec<StateLeads>,
 }
 

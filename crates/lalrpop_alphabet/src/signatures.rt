@@ -37,7 +37,7 @@ fn add(numbers: &mut Vec<usize>, number: usize) -> Result<(), AllocError>
     Ok(())
 }
 
-// The place of a cut.
+// The place of a value among the cuts, of which it is one: the number of the cell that begins there.
 fn place_of(cuts: &[u64], value: u64) -> usize
     requires rising { AreRising cuts.now }
     requires there { Contains cuts.now value }

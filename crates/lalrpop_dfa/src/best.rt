@@ -12,7 +12,7 @@ use super::{Kind, NfaIndex, Precedence};
 use lalrpop_items::{Item, ItemSet};
 use lalrpop_nfa::Nfa;
 
-/// The greatest of the strongest patterns, its precedence, and the second greatest where there are two.
+// The greatest of the strongest patterns, its precedence, and the second greatest where there are two.
 #[derive(Clone, Copy)]
 struct Best {
     index: NfaIndex,

@@ -9,7 +9,7 @@ ghost use Rattle.lalrpop_grammar.specs.Escaped.{is_escaped, escaped};
 use crate::error::RegexError;
 use std::alloc::{AllocError, Global};
 
-/// The characters with a meaning of their own, in brackets or outside, and others that other dialects give one.
+// The characters with a meaning of their own, in brackets or outside, and others that other dialects give one.
 const ESCAPED: [char; 18] = [
     '\\', '.', '+', '*', '?', '(', ')', '|', '[', ']', '{', '}', '^', '$', '#', '&', '-', '~',
 ];

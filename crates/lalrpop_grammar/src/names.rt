@@ -20,7 +20,7 @@ pub fn repeated_name(alloc: Global, tree: &Hir) -> Result<Option<usize>, AllocEr
     first_repeated(alloc, &found)
 }
 
-/// Adds the names of the tree's groups, from left to right.
+// Adds the names of the tree's groups, from left to right.
 #[cycle(names)]
 #[tactic(auto, unfolding(crate::specs::GroupName::names, crate::specs::GroupName::all_names))]
 fn collect_names<'a>(tree: &'a Hir, found: &mut Vec<&'a str>) -> Result<(), AllocError>
@@ -60,7 +60,7 @@ fn add_name<'a>(name: Option<&'a str>, found: &mut Vec<&'a str>) -> Result<(), A
     Ok(())
 }
 
-/// The place of the first name that equals one before it.
+// The place of the first name that equals one before it.
 fn first_repeated(alloc: Global, found: &[&str]) -> Result<Option<usize>, AllocError>
     ensures { IfOk result (λ place.
         is_some place ≡ not (are_distinct (map (λ n. n.now) found.now))) }

@@ -188,7 +188,8 @@ fn stays(nfas: &[Nfa], item: Item) -> bool
     edges.next().is_none()
 }
 
-// The same, in a time that doesn't grow with the pattern where few of its items are given.
+// The items of one pattern, and all that they lead to by reading nothing: by marks where many are given, else by an ordered set,
+// so that the time doesn't grow with the pattern where few are.
 fn follow_pattern(
     alloc: Global,
     nfas: &[Nfa],
@@ -365,7 +366,7 @@ pub fn closure(alloc: Global, nfas: &[Nfa], given: &[Item]) -> Result<ItemSet, A
     set_of(parts, patterns, &all, found)
 }
 
-// All patterns.
+// The places of all patterns, which all are spared at first.
 fn patterns_below(alloc: Global, patterns: usize) -> Result<Vec<usize>, AllocError>
     ensures { IfOk result (λ v. v.items ≡ range_with_len 0 patterns) }
 {

@@ -96,7 +96,11 @@ impl Nfa {
         Ok(nfa)
     }
 
-    // The states ACCEPT, REJECT and START, with the edges of the first two.
+    // The states ACCEPT, REJECT and START, with the edges of the first two:
+    //
+    //     [ACCEPT] --other--> [REJECT] <--+      [START]
+    //                            |        |
+    //                            +--other-+
     pub(super) fn new(alloc: Global) -> Result<Nfa, AllocError>
         ensures fresh { IfOk result (λ nfa. nfa ≡ made.fresh_graph) }
     {
@@ -200,7 +204,11 @@ impl Nfa {
         }
     }
 
-    // A greedy repetition.
+    // A greedy repetition:
+    //
+    //     {2,4}:  [the sub] --> [the sub] --> [it or nothing] --> [it or nothing] --> [target]
+    //     {2,}:   [the sub] --> [the sub] --> [state of the star] --> [target]
+    //     {1,}:   [sub_entry of the star] --> [target]
     #[cycle(expr)]
     fn repeat_expr(
         &mut self,
@@ -237,13 +245,16 @@ impl Nfa {
         }
     }
 
-    // Any number of repetitions: gives the state that may leave the sub out, and the entry of the sub.
+    // Any number of repetitions (the star): gives the state that may leave the sub out, and the entry of the sub.
     //
     //     [state] --noop--> [target]
     //      |   ^
     //    noop  | (the sub ends here)
     //      v   |
     //     [sub_entry: the sub]
+    //
+    // From `state` the words of the star are read, and then those of the target: `By-star_expr` of proofs/FragmentReads, by
+    // `Reads-star` of proofs/Readings.
     #[cycle(expr)]
     fn star_expr(
         &mut self,
@@ -263,7 +274,7 @@ impl Nfa {
         Ok((state, sub_entry))
     }
 
-    // So many copies, one towards the other. For three of them:
+    // So many copies, one towards the other; the last copy is made first. For three of them:
     //
     //     [entry: the sub] --> [the sub] --> [the sub] --> [target]
     #[cycle(expr)]
@@ -286,7 +297,11 @@ impl Nfa {
         Ok(entry)
     }
 
-    // So many copies, one towards the other, of which each may be left out.
+    // So many copies, one towards the other, of which each may be left out. The last copy is made first. For two of them:
+    //
+    //     [state] --noop-----------------> [ ] --noop-----------------> [target]
+    //        |                             ^ |                             ^
+    //        +------noop--> [the sub] -----+ +------noop--> [the sub] -----+
     #[cycle(expr)]
     fn optional_copies(
         &mut self,
@@ -308,7 +323,7 @@ impl Nfa {
         Ok(entry)
     }
 
-    // What may be left out.
+    // What may be left out. The sub is made before the state.
     //
     //     [state] --noop------------------> [target]
     //        |                                 ^

@@ -91,8 +91,11 @@ impl Model for State {
 /// An edge from a state to a state.
 #[derive(PartialEq, Eq, Drop)]
 pub struct Edge<L> {
+    /// The state that it leaves.
     pub from: NfaStateIndex,
+    /// What it reads.
     pub label: L,
+    /// The state that it leads to.
     pub to: NfaStateIndex,
 }
 

@@ -50,7 +50,7 @@ pub(crate) fn parse_bracket(cursor: &mut Cursor, room: u32) -> Result<BracketSet
     parse_enclosed(cursor, room - 1)
 }
 
-/// Reads a bracket inside which so many levels are left.
+// Reads a bracket inside which so many levels are left.
 #[cycle(bracket)]
 #[tactic(auto, unfolding(lalrpop_grammar::specs::Internal::Reading::bracket_with))]
 fn parse_enclosed(cursor: &mut Cursor, room: u32) -> Result<BracketSet, RegexError>
@@ -86,14 +86,14 @@ fn parse_enclosed(cursor: &mut Cursor, room: u32) -> Result<BracketSet, RegexErr
     })
 }
 
-/// The set of all other characters.
+// The set of all other characters.
 fn complemented(alloc: Global, class: &ClassUnicode) -> Result<ClassUnicode, AllocError>
     ensures { IfOk result (λ r. (s : Set) → HasRuns class.now s → HasRuns r (complement s)) }
 {
     class.complement(alloc)
 }
 
-/// Reads the operands of the bracket that opened at a position, up to its `]`.
+// Reads the operands of the bracket that opened at a position, up to its `]`.
 #[cycle(bracket)]
 #[tactic(auto, unfolding(lalrpop_grammar::specs::Internal::Reading::operands))]
 fn parse_operands(cursor: &mut Cursor, room: u32, opened: usize) -> Result<BracketSet, RegexError>
@@ -111,7 +111,7 @@ fn parse_operands(cursor: &mut Cursor, room: u32, opened: usize) -> Result<Brack
     parse_operations(cursor, room, opened, left)
 }
 
-/// Reads the operators and operands that follow an operand, up to the `]`.
+// Reads the operators and operands that follow an operand, up to the `]`.
 #[cycle(bracket)]
 fn parse_operations(
     cursor: &mut Cursor,
@@ -147,7 +147,7 @@ fn parse_operations(
     Ok(BracketSet { class, depth })
 }
 
-/// The left set and the right one under an operator.
+// The left set and the right one under an operator.
 fn applied(
     alloc: Global,
     operator: BracketOperator,
@@ -164,7 +164,7 @@ fn applied(
     }
 }
 
-/// The operator that follows.
+// The operator that follows.
 #[tactic(auto, unfolding(lalrpop_grammar::specs::Internal::Reading::operator_of))]
 fn set_operator_at(cursor: &Cursor) -> Option<BracketOperator>
     ensures { option_map operator_view result ≡ operator_of (text cursor.now) }
@@ -181,7 +181,7 @@ fn set_operator_at(cursor: &Cursor) -> Option<BracketOperator>
     None
 }
 
-/// Reads the hyphens or the `]` at the front of the first operand, and gives the character that they stand for.
+// Reads the hyphens or the `]` at the front of the first operand, and gives the character that they stand for.
 #[tactic(auto, unfolding(lalrpop_grammar::specs::Internal::Reading::lead))]
 fn parse_lead(cursor: &mut Cursor) -> Option<char>
     ensures value { lead (text cursor.old) ≡ (option_to_list result, text cursor.new) }
@@ -199,7 +199,7 @@ fn parse_lead(cursor: &mut Cursor) -> Option<char>
     None
 }
 
-/// Passes over the hyphens that follow.
+// Passes over the hyphens that follow.
 fn pass_hyphens(cursor: &mut Cursor)
     ensures text { text cursor.new ≡ past_hyphens (text cursor.old) }
     ensures flags { cursor.new.flags ≡ cursor.old.flags }
@@ -210,7 +210,7 @@ fn pass_hyphens(cursor: &mut Cursor)
     }
 }
 
-/// Reads the items of an operand, behind its lead.
+// Reads the items of an operand, behind its lead.
 #[cycle(bracket)]
 fn parse_operand(
     cursor: &mut Cursor,
@@ -245,7 +245,7 @@ fn parse_operand(
     Ok(BracketSet { class, depth })
 }
 
-/// Ranges that cover the character of a lead alone.
+// Ranges that cover the character of a lead alone.
 fn lead_ranges(
     alloc: Global,
     flags: Flags,
@@ -261,7 +261,7 @@ fn lead_ranges(
     Ok(ranges)
 }
 
-/// Whether the operand ends before the next character.
+// Whether the operand ends before the next character.
 fn ends_operand(cursor: &Cursor) -> bool
     ensures { result ≡ ends_operand (text cursor.now) }
 {
@@ -271,7 +271,7 @@ fn ends_operand(cursor: &Cursor) -> bool
         || cursor.begins(&['~', '~'])
 }
 
-/// Reads an item, adds its set to the ranges, and gives its depth.
+// Reads an item, adds its set to the ranges, and gives its depth.
 #[cycle(bracket)]
 #[tactic(auto, unfolding(lalrpop_grammar::specs::Internal::Reading::item, lalrpop_grammar::specs::Internal::Reading::item_or))]
 fn parse_item(
@@ -301,14 +301,14 @@ fn parse_item(
     Ok(depth)
 }
 
-/// What a POSIX class names, and whether all other characters are meant.
+// What a POSIX class names, and whether all other characters are meant.
 #[derive(Drop)]
 struct PosixClass {
     class: ClassUnicode,
     negated: bool,
 }
 
-/// Reads the POSIX class that begins with the next character, where there is one.
+// Reads the POSIX class that begins with the next character, where there is one.
 #[tactic(auto, unfolding(lalrpop_grammar::specs::Internal::Reading::posix))]
 fn parse_posix(cursor: &mut Cursor) -> Result<Option<PosixClass>, AllocError>
     ensures value { IfOk result (λ found.
@@ -326,7 +326,7 @@ fn parse_posix(cursor: &mut Cursor) -> Result<Option<PosixClass>, AllocError>
     Ok(None)
 }
 
-/// Reads the name of a POSIX class, which begins behind so many characters, and its `:]`.
+// Reads the name of a POSIX class, which begins behind so many characters, and its `:]`.
 fn parse_posix_name(
     cursor: &mut Cursor,
     front: usize,
@@ -352,7 +352,7 @@ fn parse_posix_name(
     Ok(Some(PosixClass { class, negated }))
 }
 
-/// How long the name at the front of the text is, where a `:]` follows it.
+// How long the name at the front of the text is, where a `:]` follows it.
 fn name_len(text: &[char]) -> Option<usize>
     ensures value { MatchOption result (IsFalse (begins ":]" (span is_ascii_lowercase text.now).1))
         (λ n. IsTrue (begins ":]" (span is_ascii_lowercase text.now).1)
@@ -363,7 +363,7 @@ fn name_len(text: &[char]) -> Option<usize>
     text[len..].starts_with(&[':', ']']).then_some(len)
 }
 
-/// How many lower-case letters stand at the front of the text.
+// How many lower-case letters stand at the front of the text.
 fn letters_len(text: &[char]) -> usize
     ensures value { result ≡ prefix_len is_ascii_lowercase text.now }
     ensures within { result ≤ length text.now }
@@ -371,7 +371,7 @@ fn letters_len(text: &[char]) -> usize
     text.iter().take_while(|c| c.is_ascii_lowercase()).count()
 }
 
-/// Reads a primary or a range, and adds its set to the ranges.
+// Reads a primary or a range, and adds its set to the ranges.
 #[tactic(auto, unfolding(lalrpop_grammar::specs::Internal::Reading::simple_item))]
 fn parse_simple_item(
     cursor: &mut Cursor,
@@ -391,14 +391,14 @@ fn parse_simple_item(
     push_range(ranges, cursor.flags(), low, high)
 }
 
-/// An escape, or a character that stands for itself, and the position where it begins.
+// An escape, or a character that stands for itself, and the position where it begins.
 #[derive(Drop)]
 struct Primary {
     part: EscapedPart,
     position: usize,
 }
 
-/// Reads an escape, or a character that stands for itself.
+// Reads an escape, or a character that stands for itself.
 #[tactic(auto, unfolding(lalrpop_grammar::specs::Internal::Reading::primary))]
 fn parse_primary(cursor: &mut Cursor) -> Result<Primary, RegexError>
     ensures value { Finds (λ p x. StandsForEscaped p.part x.0
@@ -419,7 +419,7 @@ fn parse_primary(cursor: &mut Cursor) -> Result<Primary, RegexError>
     Ok(Primary { part, position })
 }
 
-/// Whether a `-` follows, and after it a character that is neither `]` nor `-`.
+// Whether a `-` follows, and after it a character that is neither `]` nor `-`.
 fn is_at_range(text: &[char]) -> bool
     ensures value { result ≡ begins_range text.now }
     ensures more { IsTrue result → 2 ≤ length text.now }
@@ -431,7 +431,7 @@ fn is_at_range(text: &[char]) -> bool
     }
 }
 
-/// Adds the set of a primary that makes no range.
+// Adds the set of a primary that makes no range.
 fn push_primary(
     ranges: &mut Vec<ClassUnicodeRange>,
     flags: Flags,
@@ -451,7 +451,7 @@ fn push_primary(
     Ok(())
 }
 
-/// Adds the set of a range between two primaries.
+// Adds the set of a range between two primaries.
 fn push_range(
     ranges: &mut Vec<ClassUnicodeRange>,
     flags: Flags,
@@ -475,7 +475,7 @@ fn push_range(
     Ok(())
 }
 
-/// Adds the set of a leaf that is the given set, or of all other characters.
+// Adds the set of a leaf that is the given set, or of all other characters.
 fn push_set(
     ranges: &mut Vec<ClassUnicodeRange>,
     flags: Flags,
@@ -489,7 +489,7 @@ fn push_set(
     push_class(ranges, &leaf)
 }
 
-/// Adds the set of a leaf that is a character.
+// Adds the set of a leaf that is a character.
 fn push_character(
     ranges: &mut Vec<ClassUnicodeRange>,
     flags: Flags,
@@ -500,7 +500,7 @@ fn push_character(
     push_leaf(ranges, flags, c, c)
 }
 
-/// Adds the set of a leaf that is a range.
+// Adds the set of a leaf that is a range.
 fn push_leaf(
     ranges: &mut Vec<ClassUnicodeRange>,
     flags: Flags,
@@ -518,7 +518,7 @@ fn push_leaf(
     Ok(())
 }
 
-/// Adds a set.
+// Adds the ranges of a class.
 fn push_class(ranges: &mut Vec<ClassUnicodeRange>, class: &ClassUnicode) -> Result<(), AllocError>
     ensures { OnOk result ((s : Set) → HasRuns class.now s
         → Gains ranges.old.items ranges.new.items s) }

@@ -24,7 +24,7 @@ pub(crate) enum EscapedPart {
     Assertion(Look),
 }
 
-/// What the character behind the backslash says of the escape.
+// What the character behind the backslash says of the escape.
 #[derive(Clone, Copy)]
 enum EscapeSign {
     Character(char),
@@ -39,7 +39,7 @@ enum EscapeSign {
     Unknown(SyntaxKind),
 }
 
-/// The sets of `\d`, `\s` and `\w`.
+// The sets of `\d`, `\s` and `\w`.
 #[derive(Clone, Copy)]
 enum PerlClass {
     Digits,
@@ -47,7 +47,7 @@ enum PerlClass {
     Words,
 }
 
-/// Characters, and how many they are with the braces around them.
+// Characters, and how many they are with the braces around them.
 #[derive(Clone, Copy)]
 struct Argument<'a> {
     inner: &'a [char],
@@ -69,7 +69,7 @@ pub(crate) fn parse_escape(cursor: &mut Cursor) -> Result<EscapedPart, RegexErro
     parse_signed(cursor, sign_of(c))
 }
 
-/// Reads what follows the first character of an escape, which says `sign`.
+// Reads what follows the first character of an escape, which says `sign`.
 #[tactic(auto, unfolding(lalrpop_grammar::specs::Internal::Reading::signed))]
 fn parse_signed(cursor: &mut Cursor, sign: EscapeSign) -> Result<EscapedPart, RegexError>
     requires { HasDigits sign }
@@ -95,7 +95,7 @@ fn parse_signed(cursor: &mut Cursor, sign: EscapeSign) -> Result<EscapedPart, Re
     }
 }
 
-/// What a character behind a backslash says of the escape.
+// What a character behind a backslash says of the escape.
 #[tactic(auto, unfolding(lalrpop_grammar::specs::Escape::sign))]
 fn sign_of(c: char) -> EscapeSign
     ensures value { sign_view result ≡ sign c }
@@ -133,7 +133,7 @@ fn perl(class: PerlClass, negated: bool) -> EscapeSign
     EscapeSign::Perl { class, negated }
 }
 
-/// Whether the character stands for itself behind a backslash.
+// Whether the character stands for itself behind a backslash.
 fn is_mark(c: char) -> bool
     ensures { result ≡ is_mark c }
 {
@@ -150,7 +150,7 @@ fn perl_class(alloc: Global, class: PerlClass) -> Result<ClassUnicode, AllocErro
     }
 }
 
-/// Reads the digits of a code: so many, or any number in braces.
+// Reads the digits of a code: so many, or any number in braces.
 #[tactic(auto, unfolding(lalrpop_grammar::specs::Internal::Reading::signed))]
 fn parse_code(cursor: &mut Cursor, count: usize) -> Result<char, RegexError>
     requires { 0 < count }
@@ -170,7 +170,7 @@ fn parse_code(cursor: &mut Cursor, count: usize) -> Result<char, RegexError>
     Ok(c)
 }
 
-/// The given kind, unless the text ends here.
+// The given kind, unless the text ends here.
 fn argument_kind(cursor: &Cursor, kind: SyntaxKind) -> SyntaxKind {
     if cursor.rest().is_empty() {
         SyntaxKind::EscapeUnexpectedEof
@@ -179,7 +179,7 @@ fn argument_kind(cursor: &Cursor, kind: SyntaxKind) -> SyntaxKind {
     }
 }
 
-/// The digits of a code at the front of the text, where they are so many, or one or more in braces.
+// The digits of a code at the front of the text, where they are so many, or one or more in braces.
 #[tactic(auto, unfolding(lalrpop_grammar::specs::Internal::Reading::digits_of))]
 fn digits_at(text: &[char], count: usize) -> Option<Argument<'_>>
     requires { 0 < count }
@@ -205,7 +205,7 @@ fn digits_at(text: &[char], count: usize) -> Option<Argument<'_>>
     })
 }
 
-/// The character of a code.
+// The character of a code.
 #[tactic(auto, unfolding(lalrpop_grammar::specs::Internal::Reading::hex))]
 fn character_of(digits: &[char]) -> Option<char>
     ensures { result ≡ hex digits.now }
@@ -213,7 +213,7 @@ fn character_of(digits: &[char]) -> Option<char>
     char::from_u32(number_of(digits, 16)?)
 }
 
-/// Reads the name of a set: a single character, or any number in braces.
+// Reads the name of a set: a single character, or any number in braces.
 #[tactic(auto, unfolding(lalrpop_grammar::specs::Internal::Reading::signed, lalrpop_grammar::specs::Internal::Reading::set_named))]
 fn parse_property(cursor: &mut Cursor, negated: bool) -> Result<EscapedPart, RegexError>
     ensures value { Finds (λ e x. StandsForEscaped e x.0
@@ -235,7 +235,7 @@ fn parse_property(cursor: &mut Cursor, negated: bool) -> Result<EscapedPart, Reg
     Ok(EscapedPart::Set { class, negated })
 }
 
-/// The name of a set at the front of the text.
+// The name of a set at the front of the text.
 #[tactic(auto, unfolding(lalrpop_grammar::specs::Internal::Reading::name_of))]
 fn name_at(text: &[char]) -> Option<Argument<'_>>
     ensures value { MatchOption result (name_of text.now ≡ None) (λ n.
@@ -257,7 +257,7 @@ fn name_at(text: &[char]) -> Option<Argument<'_>>
     })
 }
 
-/// Whether all characters can stand in the name of a set.
+// Whether all characters can stand in the name of a set.
 fn is_spelled_like_set(name: &[char]) -> bool
     ensures { result ≡ list_all is_set_name_char name.now }
 {
@@ -270,7 +270,7 @@ fn is_set_name_char(c: char) -> bool
     c.is_ascii_alphanumeric() || matches!(c, '_' | '-' | ' ')
 }
 
-/// Reads the braces that may follow `\b`.
+// Reads the braces that may follow `\b`.
 #[tactic(auto, unfolding(lalrpop_grammar::specs::Internal::Reading::signed))]
 fn parse_edge(cursor: &mut Cursor) -> Look
     ensures value { signed edge (text cursor.old) ≡ Some (assertion result, text cursor.new) }
@@ -301,7 +301,7 @@ fn edge_at(cursor: &Cursor) -> (Look, usize)
     }
 }
 
-/// How many hexadecimal digits stand at the front of the text.
+// How many hexadecimal digits stand at the front of the text.
 fn leading_hex_digits(text: &[char]) -> usize
     ensures value { result ≡ prefix_len is_ascii_hexdigit text.now }
     ensures within { result ≤ length text.now }
@@ -309,7 +309,7 @@ fn leading_hex_digits(text: &[char]) -> usize
     text.iter().take_while(|c| c.is_ascii_hexdigit()).count()
 }
 
-/// How many characters of a set's name stand at the front of the text.
+// How many characters of a set's name stand at the front of the text.
 fn leading_name(text: &[char]) -> usize
     ensures value { result ≡ prefix_len is_set_name_char text.now }
     ensures within { result ≤ length text.now }

@@ -13,10 +13,10 @@ use lalrpop_grammar::{Flags, RegexError, SyntaxKind};
 use std::alloc::{AllocError, Global};
 use unicode::properties::{GeneralCategory, GeneralCategoryGroup, is_alphabetic};
 
-/// The letters that switch flags on.
+// The letters that switch flags on.
 const ON_LETTERS: [char; 5] = ['i', 's', 'm', 'U', 'u'];
 
-/// The letters that switch flags off, behind a `-`.
+// The letters that switch flags off, behind a `-`.
 const OFF_LETTERS: [char; 4] = ['i', 's', 'm', 'U'];
 
 /// What a `(` begins.
@@ -63,7 +63,7 @@ pub(crate) fn parse_opening(cursor: &mut Cursor) -> Result<GroupOpening, RegexEr
     Ok(GroupOpening::Plain)
 }
 
-/// The text up to the first of these marks, and what stands there. It is all of the text where there is none.
+// The text up to the first of these marks, and what stands there. It is all of the text where there is none.
 fn split_before<'a>(text: &'a [char], marks: &[char]) -> (&'a [char], &'a [char])
     ensures { (result.0.now, result.1.now)
         ≡ span (λ c. not (list_any (λ d. d == c) marks.now)) text.now }
@@ -75,7 +75,7 @@ fn split_before<'a>(text: &'a [char], marks: &[char]) -> (&'a [char], &'a [char]
     text.split_at(length)
 }
 
-/// Reads the name of a group with the `>` behind it. A refusal is of this kind and points at the `(`.
+// Reads the name of a group with the `>` behind it. A refusal is of this kind and points at the `(`.
 #[tactic(auto, unfolding(lalrpop_grammar::specs::Internal::Reading::name_at))]
 fn parse_name(
     cursor: &mut Cursor,
@@ -130,7 +130,7 @@ fn continues_name(c: char) -> bool
         || c == ']'
 }
 
-/// Reads the flags of a group with the `:` behind them, or those of a directive with its `)`.
+// Reads the flags of a group with the `:` behind them, or those of a directive with its `)`.
 #[tactic(auto, unfolding(lalrpop_grammar::specs::Internal::Reading::letters_at))]
 fn parse_letters(cursor: &mut Cursor, open: usize) -> Result<GroupOpening, RegexError>
     ensures value { (t : Text)
@@ -156,7 +156,7 @@ fn parse_letters(cursor: &mut Cursor, open: usize) -> Result<GroupOpening, Regex
     Err(letters_refusal(open, letters, behind.is_empty()))
 }
 
-/// Why no flags stand behind `(?`. The text may end there.
+// Why no flags stand behind `(?`. The text may end there.
 fn letters_refusal(open: usize, letters: &[char], at_end: bool) -> RegexError
     ensures { (p : ℕ) × (k : SyntaxKind) × (result ≡ RegexError.Syntax p k) }
 {
@@ -173,7 +173,7 @@ fn letters_refusal(open: usize, letters: &[char], at_end: bool) -> RegexError
     }
 }
 
-/// The flags as these letters turn them, if they do.
+// The flags as these letters turn them, if they do.
 fn flags_of(flags: Flags, letters: &[char]) -> Option<Flags>
     ensures { result ≡ flags_of flags letters.now }
 {
@@ -205,7 +205,7 @@ fn are_among(letters: &[char], known: &[char]) -> bool
     letters.iter().all(|c| known.contains(c))
 }
 
-/// Whether no letter stands twice. It looks for no more letters than there are different ones.
+// Whether no letter stands twice. It looks for no more letters than there are different ones.
 fn is_distinct(letters: &[char]) -> bool
     ensures { result ≡ is_distinct letters.now }
 {

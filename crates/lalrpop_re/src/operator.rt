@@ -21,7 +21,7 @@ pub(crate) struct RepetitionOperator {
     pub(crate) greedy: bool,
 }
 
-/// How often a piece is repeated.
+// How often a piece is repeated.
 #[derive(Clone, Copy)]
 struct Bounds {
     min: u32,
@@ -58,7 +58,7 @@ pub(crate) fn parse_operator(cursor: &mut Cursor) -> Result<RepetitionOperator, 
     })
 }
 
-/// Reads an operator without the `?` that may follow.
+// Reads an operator without the `?` that may follow.
 #[tactic(auto, unfolding(lalrpop_grammar::specs::Internal::Reading::bounds))]
 fn parse_bounds(cursor: &mut Cursor) -> Result<Bounds, RegexError>
     ensures value { Gives (λ b. (b.min, b.max, text cursor.new)) result (bounds (text cursor.old)) }
@@ -83,7 +83,7 @@ fn parse_bounds(cursor: &mut Cursor) -> Result<Bounds, RegexError>
     Ok(bounds)
 }
 
-/// Reads what follows a `{`, and the `}`.
+// Reads what follows a `{`, and the `}`.
 #[tactic(auto, unfolding(lalrpop_grammar::specs::Internal::Reading::braces))]
 fn parse_braces(cursor: &mut Cursor) -> Result<Bounds, RegexError>
     ensures value { Gives (λ b. (b.min, b.max, text cursor.new)) result (braces (text cursor.old)) }
@@ -115,7 +115,7 @@ fn parse_braces(cursor: &mut Cursor) -> Result<Bounds, RegexError>
     Ok(Bounds { min, max })
 }
 
-/// Reads a number with white space around it.
+// Reads a number with white space around it.
 #[tactic(auto, unfolding(lalrpop_grammar::specs::Internal::Reading::count))]
 fn parse_count(cursor: &mut Cursor) -> Result<u32, RegexError>
     ensures value { Gives (λ n. (n, text cursor.new)) result (count (text cursor.old)) }
@@ -133,7 +133,7 @@ fn parse_count(cursor: &mut Cursor) -> Result<u32, RegexError>
     Ok(count)
 }
 
-/// The number that one or more decimal digits write, where it fits.
+// The number that one or more decimal digits write, where it fits.
 fn decimal_of(digits: &[char]) -> Option<u32>
     requires { list_all is_ascii_digit digits.now ≡ true }
     ensures { result ≡ (if nat_lt 0 (length digits.now) && nat_lt (decimal digits.now 0)
@@ -145,7 +145,7 @@ fn decimal_of(digits: &[char]) -> Option<u32>
     number_of(digits, 10)
 }
 
-/// Passes over white space.
+// Passes over white space.
 fn skip_white_space(cursor: &mut Cursor)
     ensures text { text cursor.new ≡ (span is_white_space (text cursor.old)).1 }
     ensures flags { cursor.new.flags ≡ cursor.old.flags }
@@ -155,7 +155,7 @@ fn skip_white_space(cursor: &mut Cursor)
     cursor.advance(length);
 }
 
-/// How much white space stands at the front of the text.
+// How much white space stands at the front of the text.
 fn leading_white_space(text: &[char]) -> usize
     ensures value { result ≡ prefix_len is_white_space text.now }
     ensures within { result ≤ length text.now }
@@ -163,7 +163,7 @@ fn leading_white_space(text: &[char]) -> usize
     text.iter().take_while(|c| is_white_space(**c)).count()
 }
 
-/// How many decimal digits stand at the front of the text.
+// How many decimal digits stand at the front of the text.
 fn leading_digits(text: &[char]) -> usize
     ensures value { result ≡ prefix_len is_ascii_digit text.now }
     ensures within { result ≤ length text.now }

@@ -24,17 +24,17 @@ use lalrpop_grammar::{
 use lalrpop_hir::{Capture, Hir, Look, Regex, Repetition};
 use std::alloc::{AllocError, Global};
 
-/// The most levels that a place of a pattern can be inside.
+// The most levels that a place of a pattern can be inside.
 const NEST_LIMIT: u32 = 250;
 
-/// A tree, and how deep its syntax is nested.
+// A tree, and how deep its syntax is nested.
 #[derive(Drop)]
 struct Nested {
     tree: Hir,
     depth: u32,
 }
 
-/// Trees side by side, and the depth of the deepest.
+// Trees side by side, and the depth of the deepest.
 #[derive(Drop)]
 struct Row {
     trees: Vec<Hir>,
@@ -86,7 +86,7 @@ pub fn parse_regex(alloc: Global, s: &str) -> Result<Regex, RegexError>
     }
 }
 
-/// How many bytes the first characters take, or all where there are fewer.
+// How many bytes the first characters take, or all where there are fewer.
 fn byte_offset(s: &str, characters: usize) -> usize
     ensures { IsCharBoundary s.now result }
 {
@@ -96,7 +96,7 @@ fn byte_offset(s: &str, characters: usize) -> usize
     }
 }
 
-/// Reads a pattern. A refusal's position counts characters.
+// Reads a pattern. A refusal's position counts characters.
 fn parse_whole(alloc: Global, pattern: &str) -> Result<Hir, RegexError>
     ensures { Gives (λ t. t) result (read most_levels (chars pattern.now)) }
 {
@@ -104,7 +104,7 @@ fn parse_whole(alloc: Global, pattern: &str) -> Result<Hir, RegexError>
     parse_to_end(&mut cursor)
 }
 
-/// Reads a pattern that begins at the cursor and ends with the text.
+// Reads a pattern that begins at the cursor and ends with the text.
 #[tactic(auto, unfolding(lalrpop_grammar::specs::Internal::Reading::read))]
 fn parse_to_end(cursor: &mut Cursor) -> Result<Hir, RegexError>
     requires { cursor.old.flags ≡ no_flags }
@@ -120,7 +120,7 @@ fn parse_to_end(cursor: &mut Cursor) -> Result<Hir, RegexError>
     Ok(tree)
 }
 
-/// Reads an expression that no group encloses, where all levels are left.
+// Reads an expression that no group encloses, where all levels are left.
 fn parse_at_top(cursor: &mut Cursor) -> Result<Nested, RegexError>
     ensures { Gives (λ p. whole p cursor.new) result
         (inside (suc most_levels) cursor.old.flags (text cursor.old)) }
@@ -128,7 +128,7 @@ fn parse_at_top(cursor: &mut Cursor) -> Result<Nested, RegexError>
     parse_expression(cursor, NEST_LIMIT)
 }
 
-/// Reads an expression, where so many levels are left.
+// Reads an expression, where so many levels are left.
 #[cycle(parser)]
 #[tactic(auto, unfolding(lalrpop_grammar::specs::Internal::Reading::inside, lalrpop_grammar::specs::Internal::Reading::expression_with))]
 fn parse_expression(cursor: &mut Cursor, room: u32) -> Result<Nested, RegexError>
@@ -142,7 +142,7 @@ fn parse_expression(cursor: &mut Cursor, room: u32) -> Result<Nested, RegexError
     Ok(Nested { tree, depth })
 }
 
-/// Reads the branches up to the end of the group or of the pattern.
+// Reads the branches up to the end of the group or of the pattern.
 #[cycle(parser)]
 fn parse_branches(cursor: &mut Cursor, room: u32) -> Result<Row, RegexError>
     ensures value { Gives (λ r.
@@ -163,7 +163,7 @@ fn parse_branches(cursor: &mut Cursor, room: u32) -> Result<Row, RegexError>
     }
 }
 
-/// Reads the pieces and the directives of one branch.
+// Reads the pieces and the directives of one branch.
 #[cycle(parser)]
 fn parse_row(cursor: &mut Cursor, room: u32) -> Result<Row, RegexError>
     ensures value { Gives (λ r.
@@ -191,7 +191,7 @@ fn ends_branch(cursor: &Cursor) -> bool
     }
 }
 
-/// Reads a piece. `None` stands for a directive, whose flags hold from there on.
+// Reads a piece. `None` stands for a directive, whose flags hold from there on.
 #[cycle(parser)]
 #[tactic(auto, unfolding(crate::specs::Internal::Parts::step))]
 fn parse_step(cursor: &mut Cursor, room: u32) -> Result<Option<Nested>, RegexError>
@@ -209,7 +209,7 @@ fn parse_step(cursor: &mut Cursor, room: u32) -> Result<Option<Nested>, RegexErr
     }
 }
 
-/// Reads a group or a directive, for which `None` stands.
+// Reads a group or a directive, for which `None` stands.
 #[cycle(parser)]
 #[tactic(auto, unfolding(crate::specs::Internal::Parts::group_or_directive, crate::specs::Internal::Parts::group_or_directive_of))]
 fn parse_parenthesis(cursor: &mut Cursor, room: u32) -> Result<Option<Nested>, RegexError>
@@ -240,7 +240,7 @@ fn parse_parenthesis(cursor: &mut Cursor, room: u32) -> Result<Option<Nested>, R
     }
 }
 
-/// Reads the expression of a group under the flags, and the `)`. The group began at `start`.
+// Reads the expression of a group under the flags, and the `)`. The group began at `start`.
 #[cycle(parser)]
 #[tactic(auto, unfolding(lalrpop_grammar::specs::Internal::Reading::enclosed))]
 fn parse_enclosed(
@@ -272,7 +272,7 @@ fn parse_enclosed(
     })
 }
 
-/// Passes over the `)` of a group, and sets back the flags that hold outside.
+// Passes over the `)` of a group, and sets back the flags that hold outside.
 fn leave_group(cursor: &mut Cursor, outside: Flags)
     requires { 0 < unread cursor.old }
     ensures text { text cursor.new ≡ drop 1 (text cursor.old) }
@@ -282,7 +282,7 @@ fn leave_group(cursor: &mut Cursor, outside: Flags)
     cursor.set_flags(outside);
 }
 
-/// The group as one that captures.
+// The group as one that captures.
 fn captured(alloc: Global, name: Option<String>, group: Nested) -> Result<Nested, AllocError>
     ensures { IfOk result (λ p. (p.tree ≡ capture (option_map string_bytes name) group.tree)
         × (p.depth ≡ group.depth)) }
@@ -295,7 +295,7 @@ fn captured(alloc: Global, name: Option<String>, group: Nested) -> Result<Nested
     })
 }
 
-/// Reads an atom that is no group, and its operators.
+// Reads an atom that is no group, and its operators.
 #[tactic(auto, unfolding(lalrpop_grammar::specs::Internal::Reading::piece))]
 fn parse_piece(cursor: &mut Cursor, room: u32) -> Result<Nested, RegexError>
     requires { begins "(" (text cursor.old) ≡ false }
@@ -310,7 +310,7 @@ fn parse_piece(cursor: &mut Cursor, room: u32) -> Result<Nested, RegexError>
     parse_operators(cursor, room, atom)
 }
 
-/// Reads an atom that is no group.
+// Reads an atom that is no group.
 #[tactic(auto, unfolding(lalrpop_grammar::specs::Internal::Reading::atom, crate::specs::Internal::Parts::escaped_part, crate::specs::Internal::Parts::bracket_part))]
 fn parse_atom(cursor: &mut Cursor, room: u32) -> Result<Nested, RegexError>
     requires { begins "(" (text cursor.old) ≡ false }
@@ -352,7 +352,7 @@ fn is_special(c: char) -> bool
     )
 }
 
-/// What `^` asks.
+// What `^` asks.
 fn line_start(flags: Flags) -> Look
     ensures { result ≡ (if flags.multi_line then Look.StartLF else Look.Start) }
 {
@@ -363,7 +363,7 @@ fn line_start(flags: Flags) -> Look
     }
 }
 
-/// What `$` asks.
+// What `$` asks.
 fn line_end(flags: Flags) -> Look
     ensures { result ≡ (if flags.multi_line then Look.EndLF else Look.End) }
 {
@@ -374,7 +374,7 @@ fn line_end(flags: Flags) -> Look
     }
 }
 
-/// Passes over the one character that the tree stands for.
+// Passes over the one character that the tree stands for.
 fn single(cursor: &mut Cursor, tree: Hir) -> Nested
     requires { 0 < unread cursor.old }
     ensures tree { result.tree ≡ tree }
@@ -386,7 +386,7 @@ fn single(cursor: &mut Cursor, tree: Hir) -> Nested
     Nested { tree, depth: 0 }
 }
 
-/// Reads an escape behind its backslash.
+// Reads an escape behind its backslash.
 #[tactic(auto, unfolding(crate::specs::Internal::Parts::escaped_part))]
 fn parse_escaped(cursor: &mut Cursor) -> Result<Nested, RegexError>
     ensures value { Gives (λ p.
@@ -414,7 +414,7 @@ fn tree_of_escape(alloc: Global, flags: Flags, escaped: EscapedPart) -> Result<H
     }
 }
 
-/// Reads a bracket.
+// Reads a bracket as an atom: the tree of its set.
 #[tactic(auto, unfolding(crate::specs::Internal::Parts::bracket_part))]
 fn parse_class(cursor: &mut Cursor, room: u32) -> Result<Nested, RegexError>
     ensures value { Gives (λ p.
@@ -428,7 +428,7 @@ fn parse_class(cursor: &mut Cursor, room: u32) -> Result<Nested, RegexError>
     Ok(Nested { tree, depth })
 }
 
-/// Puts the atom under each operator that follows.
+// Puts the atom under each operator that follows.
 fn parse_operators(cursor: &mut Cursor, room: u32, atom: Nested) -> Result<Nested, RegexError>
     requires { atom.depth ≤ room }
     ensures value { Gives (λ p.
@@ -449,7 +449,7 @@ fn parse_operators(cursor: &mut Cursor, room: u32, atom: Nested) -> Result<Neste
     Ok(piece)
 }
 
-/// The piece under the operator.
+// The piece under the operator.
 fn repeated(
     alloc: Global,
     operator: RepetitionOperator,
@@ -470,7 +470,7 @@ fn repeated(
     })
 }
 
-/// One tree for a branch of these pieces.
+// One tree for a branch of these pieces.
 fn branch_of(mut pieces: Vec<Hir>) -> Hir
     ensures { result ≡ branch pieces.items }
 {
@@ -480,7 +480,7 @@ fn branch_of(mut pieces: Vec<Hir>) -> Hir
     pieces.pop().unwrap_or(Hir::empty())
 }
 
-/// One tree for an expression of these branches.
+// One tree for an expression of these branches.
 fn choice_of(mut branches: Vec<Hir>) -> Hir
     ensures { result ≡ choice branches.items }
 {

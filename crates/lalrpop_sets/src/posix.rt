@@ -8,7 +8,7 @@ ghost use Rattle.lalrpop_sets.specs.Internal.Sets.{IsFound};
 use lalrpop_hir::{ClassUnicode, ClassUnicodeRange};
 use std::alloc::{AllocError, Global};
 
-/// A class, as `alpha` in `[:alpha:]`.
+// A class, as `alpha` in `[:alpha:]`.
 struct PosixClass {
     name: &'static str,
     ranges: &'static [(char, char)],
@@ -73,7 +73,7 @@ static POSIX_CLASSES: [PosixClass; 14] = [
     },
 ];
 
-// All classes.
+// The classes, by name.
 fn posix_classes() -> &'static [PosixClass]
     ensures { (name : List ℕ) → IsFound name result.now (posix_set name) }
 {

@@ -19,7 +19,7 @@ use lalrpop_lexer::lexer::re::Regex;
 use std::alloc::{AllocError, Global};
 use std::io::{Read, Write};
 
-/// The outcome where no automaton was made.
+// The outcome where no automaton was made.
 fn reported(error: DfaConstructionError) -> Result<Outcome, AllocError>
     ensures ok { IfOk result (λ outcome. (ts : List Tree) (ps text : List ℕ) → IsReport ts ps error
         → Finds ts ps text outcome) }
@@ -38,7 +38,7 @@ fn reported(error: DfaConstructionError) -> Result<Outcome, AllocError>
     }
 }
 
-/// What the patterns find in the text.
+// What the patterns find in the text.
 fn find(
     alloc: Global,
     regexs: &[Regex],
@@ -59,7 +59,7 @@ fn find(
     }
 }
 
-/// The outcome for these bytes and the text.
+// The outcome for these bytes and the text.
 fn outcome_of(alloc: Global, bytes: &[u8], text: &str) -> Result<Outcome, AllocError>
     ensures outcome { IfOk result (λ outcome. IsOutcome bytes.now text.now outcome) }
     ensures only { IfOk result (λ outcome. (other : Outcome) → IsOutcome bytes.now text.now other
@@ -75,7 +75,7 @@ fn outcome_of(alloc: Global, bytes: &[u8], text: &str) -> Result<Outcome, AllocE
     }
 }
 
-/// The outcome for all bytes that the reader has left, and the text.
+// The outcome for all bytes that the reader has left, and the text.
 fn read_outcome<R: Read>(
     alloc: Global,
     reader: &mut Watched<R>,
@@ -95,7 +95,7 @@ fn read_outcome<R: Read>(
     outcome_of(alloc, &bytes, text).or(Err(RunError::OutOfMemory))
 }
 
-/// Writes the line of an outcome.
+// Writes the line of an outcome.
 fn write_outcome<W: Write>(
     alloc: Global,
     outcome: &Outcome,

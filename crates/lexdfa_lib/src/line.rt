@@ -8,7 +8,7 @@ ghost use Rattle.lexdfa_lib.specs.Line.{IsPrecedence, letter, IsLine};
 // Enough for each `usize`, with zeros in front where it is shorter.
 const MAX_DIGITS: usize = 20;
 
-/// The place of the first line feed.
+// The place of the first line feed.
 fn line_feed(bytes: &[u8]) -> Option<usize>
     ensures { result ≡ position (λ b. b == 10) bytes.now }
 {
@@ -30,14 +30,14 @@ pub fn split_line(bytes: &[u8]) -> Option<(&[u8], &[u8])>
     }
 }
 
-/// Whether all characters are decimal digits.
+// Whether all characters are decimal digits.
 fn has_digits_alone(text: &str) -> bool
     ensures { result ≡ list_all is_ascii_digit text.now }
 {
     text.bytes().all(|byte| byte.is_ascii_digit())
 }
 
-/// The number that 1 to 20 decimal digits write, where it is a `usize`.
+// The number that 1 to 20 decimal digits write, where it is a `usize`.
 fn precedence_of(digits: &str) -> Option<usize>
     ensures some { IfSome result (λ n. IsPrecedence digits.now n) }
     ensures none { IfNone result ((n : ℕ) → ¬ IsPrecedence digits.now n) }
@@ -58,7 +58,7 @@ pub enum Kind {
     Regex,
 }
 
-/// The kind and the text of `l TEXT` or `r PATTERN`.
+// The kind and the text of `l TEXT` or `r PATTERN`.
 fn kind_of(rest: &str) -> Option<(Kind, &str)>
     ensures some { IfSome result (λ m. rest.now ≡ letter m.0 ++ (codes " " ++ m.1.now)) }
     ensures none { IfNone result ((kind : Kind) (text : List ℕ)

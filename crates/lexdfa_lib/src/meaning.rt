@@ -19,7 +19,7 @@ pub enum Meaning {
     Terminal { precedence: usize, regex: Regex },
 }
 
-/// The tree of a line's text.
+// The tree of a line's text.
 fn tree_of(alloc: Global, kind: Kind, text: &str) -> Result<Regex, RegexError>
     ensures tree { IfOk result (λ t. Spells kind text.now t) }
     ensures pattern { IfErr result (λ e. e ≢ RegexError.OutOfMemory → kind ≡ Kind.Regex) }

@@ -67,8 +67,11 @@ impl<T> Watched<T> {
 }
 
 impl<R: Read> Watched<R> {
-    /// Passes one `read` on: gives the number of bytes that were put at the front of `buf`, or the
-    /// reader's error.
+    /// Passes one `read` on: gives the number of bytes that were put at the front of `buf`.
+    ///
+    /// # Errors
+    ///
+    /// The reader's own error.
     pub fn read(&mut self, buf: &mut [u8]) -> io::Result<usize>
         ensures bound { ReadsAtMost result buf.new }
         ensures bytes { ReadConsumes (R.remaining self.old.inner) (R.remaining self.new.inner)
@@ -86,8 +89,12 @@ impl<R: Read> Watched<R> {
 }
 
 impl<W: Write> Watched<W> {
-    /// Passes one `write` on: gives the number of bytes of `buf` that were taken, or the writer's
-    /// error. A write that takes nothing of some bytes has failed too.
+    /// Passes one `write` on: gives the number of bytes of `buf` that were taken. A write that takes nothing of some bytes
+    /// counts as failed.
+    ///
+    /// # Errors
+    ///
+    /// The writer's own error.
     pub fn write(&mut self, buf: &[u8]) -> io::Result<usize>
         ensures bound { WritesAtMost result buf.now }
         ensures bytes { WriteAppends (W.contents self.old.inner) (W.contents self.new.inner)

@@ -32,7 +32,7 @@ const LISTS: [&str; 6] = [
     "exactly 300",
 ];
 
-/// What one cut of a text found.
+// What one cut of a text found.
 #[derive(Clone, Copy)]
 struct Cut {
     tokens: u64,
@@ -98,7 +98,7 @@ fn tell_cut<R: CpuClock + Print>(rt: &R, dfa: &Dfa, text: &str, is_timed: bool) 
     Ok(())
 }
 
-/// What an automaton is made of.
+// What an automaton is made of.
 #[derive(Clone, Copy)]
 struct Shape {
     edges: usize,
@@ -128,7 +128,7 @@ impl Shape {
     }
 }
 
-/// States in the order in which test edges first lead to them.
+// States in the order in which test edges first lead to them.
 #[derive(Drop)]
 struct Order {
     seen: Vec<bool>,

@@ -8,7 +8,7 @@ use lalrpop_lexer::lexer::re::{Hir, parse_regex};
 use std::alloc::{AllocError, Global};
 use std::collections::BTreeSet;
 
-/// A kernel that is a number.
+// A kernel that is a number.
 #[derive(Copy, Clone, PartialEq, Eq, PartialOrd, Ord)]
 struct Number(u64);
 

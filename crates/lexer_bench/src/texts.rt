@@ -53,7 +53,7 @@ const LETTERS_OF_THE_WORLD: [&str; 16] = [
     "α", "λ", "ψ", "ж", "щ", "é", "ü", "名", "前", "変", "数", "a", "n", "_x", "ﬁ", "ß",
 ];
 
-/// Numbers that look random, and are the same each time.
+// Numbers that look random, and are the same each time.
 #[derive(Drop)]
 struct Numbers {
     state: u64,

@@ -27,8 +27,8 @@ fn token_lines(alloc: Global, tokens: &[Token]) -> Result<String, AllocError>
     Ok(lines)
 }
 
-/// A line for each token of the text, and then `end`, or `none` and the offset of the first place where no terminal
-/// matches; and whether the text was cut up to its end.
+// A line for each token of the text, and then `end`, or `none` and the offset of the first place where no terminal
+// matches; and whether the text was cut up to its end.
 fn text_lines(alloc: Global, lexer: &Lexer, text: &str) -> Result<(String, bool), AllocError>
     ensures { IfOk result (λ shown.
         IsTextShown lexer.now.trees lexer.now.precedences text.now (string_bytes shown.0) shown.1) }

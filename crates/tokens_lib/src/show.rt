@@ -28,7 +28,9 @@ pub enum Ended {
 /// What is written of terminals and texts, and how they ended.
 #[derive(Drop)]
 pub struct Shown {
+    /// All lines.
     pub written: String,
+    /// How the cutting ended.
     pub ended: Ended,
 }
 
@@ -92,8 +94,12 @@ pub fn status_of(found: &io::Result<Ended>) -> u8
     }
 }
 
-/// Reads terminals from the reader to its end, and writes what they and the texts give (`Shown::of`). After an error a
-/// part of that may have been written.
+/// Reads terminals from the reader to its end, and writes what they and the texts give (`Shown::of`).
+///
+/// # Errors
+///
+/// The error of a read or a write that failed, and `ErrorKind::OutOfMemory` where a request for memory was refused. After a
+/// failed write a part may have been written.
 pub fn show_texts<R: Read, W: Write>(
     alloc: Global,
     reader: &mut R,

@@ -139,7 +139,7 @@ fn character_gaps(
     Ok(gaps)
 }
 
-// The character with the code.
+// The character with this code, which is a scalar value.
 fn character(code: u32) -> char
     requires { IsScalar code }
     ensures { result ≡ code }
