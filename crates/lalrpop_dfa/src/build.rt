@@ -58,7 +58,7 @@ fn compile_all(alloc: Global, regexs: &[Regex]) -> Result<Vec<Nfa>, DfaConstruct
 /// # Errors
 ///
 /// The first pattern that has a fault; where none has, the clash on the least word on which two patterns are the
-/// strongest; and want of memory.
+/// strongest; and out of memory.
 pub fn build_dfa(
     alloc: Global,
     regexs: &[Regex],

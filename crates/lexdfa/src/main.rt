@@ -10,7 +10,7 @@ use std::io::{self, ErrorKind, Write};
 use std::process::ExitCode;
 use std::rt::Env;
 
-// An argument that is no text is an error of `args`, and so is want of memory.
+// An argument that is no text is an error of `args`, and so is out of memory.
 fn without_arguments(error: &io::Error) -> Failure
     ensures memory { error_kind error.now ≡ ErrorKind.OutOfMemory
         → result ≡ Failure.Run RunError.OutOfMemory }

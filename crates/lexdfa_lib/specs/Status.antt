@@ -15,7 +15,7 @@ outcome_status (Ambiguous match0 match1) = 2
 outcome_status (Syntax terminal) = 3
 outcome_status (Line line) = 3
 
--- 5 for want of memory, 6 for an end that failed
+-- 5 for out of memory, 6 for an end that failed
 abbrev pub error_status : RunError → ℕ
 error_status OutOfMemory = 5
 error_status Read = 6

@@ -43,7 +43,7 @@ pub(crate) fn compiled(
     Ok(at_last!(rt; compiled_or_fault(alloc, &tree)))
 }
 
-// Any fault is told as want of memory.
+// Any fault is told as out of memory.
 pub(crate) fn nfa_of(alloc: Global, tree: &Hir) -> Result<Nfa, AllocError> {
     match compile(alloc, tree) {
         Ok(nfa) => Ok(nfa),
@@ -180,7 +180,7 @@ fn tokens_of(alloc: Global, dfa: &Dfa, texts: &str) -> Result<String, AllocError
     Ok(line)
 }
 
-// The refusal for want of memory is one alone: that it came while a tree was compiled would be told as a fault.
+// The refusal for memory is one alone: that it came while a tree was compiled would be told as a fault.
 fn told(alloc: Global, error: DfaConstructionError) -> Result<String, AllocError> {
     match error {
         DfaConstructionError::NfaConstructionError { index, error } => {
@@ -297,7 +297,7 @@ fn many_trees_are_refused(rt: HostRuntime) {
     expect(&rt, rt.alloc(), Call::Build, table, 1);
 }
 
-// Any error is told as want of memory.
+// Any error is told as out of memory.
 pub(crate) fn built(
     rt: &impl Abort,
     alloc: Global,

@@ -34,7 +34,7 @@ pub(crate) enum Call {
     Build,
 }
 
-// The answer on one line, or want of memory.
+// The answer on one line, or out of memory.
 fn answer(
     rt: &impl Abort,
     alloc: Global,

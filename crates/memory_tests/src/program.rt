@@ -68,7 +68,7 @@ fn text(alloc: Global, row: &str) -> Result<String, AllocError> {
     Ok(text)
 }
 
-// The line and the status, or want of memory and they when the run is made again.
+// The line and the status, or out of memory and they when the run is made again.
 fn expect_line(rt: &impl Abort, alloc: Global, input: &[u8], word: &str, line: &str, status: u8) {
     let first = status_of(rt, alloc, input, word, line);
     let last = if first == 5 {

@@ -48,7 +48,7 @@ pub(crate) fn literal(alloc: Global, text: &str) -> Result<String, AllocError> {
     shown(alloc, &literal_tree(alloc, text)?)
 }
 
-// The tree, no tree, or want of memory.
+// The tree, no tree, or out of memory.
 fn or_none(read: Result<Hir, RegexError>) -> Result<Option<Hir>, AllocError> {
     match read {
         Ok(tree) => Ok(Some(tree)),

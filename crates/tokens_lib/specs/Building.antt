@@ -20,7 +20,7 @@ IsBuildError bytes (Ambiguous i j) =
     (ts : List Tree) × ((ps : List ℕ) × (AreTerminals (lines bytes) ts ps × (NoFault ts × ((w : List ℕ) × IsClash ts ps w i j))))
 IsBuildError bytes OutOfMemory = Unit {0}
 
--- the exit status: 2 where no automaton was made, 3 where a line is wrong, 5 for want of memory
+-- the exit status: 2 where no automaton was made, 3 where a line is wrong, 5 for out of memory
 abbrev pub build_status : BuildError → ℕ
 build_status (Line i) = 3
 build_status (Syntax i) = 3

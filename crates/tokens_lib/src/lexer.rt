@@ -48,7 +48,7 @@ impl Lexer {
     /// # Errors
     ///
     /// The first pattern that can't be compiled; else the two last strongest patterns on the shortest, then least, word
-    /// that has no one strongest pattern; and want of memory.
+    /// that has no one strongest pattern; and out of memory.
     pub fn new(
         alloc: Global,
         regexs: Vec<Regex>,

@@ -76,7 +76,7 @@ impl Shown {
 }
 
 /// The exit status: 0 where each text was cut up to its end, 1 where one was not, 2 and 3 where there is no lexer,
-/// 5 for want of memory, and 6 for a failed read or write.
+/// 5 for out of memory, and 6 for a failed read or write.
 pub fn status_of(found: &io::Result<Ended>) -> u8
     ensures ended { IfOk found.now (λ ended. result ≡ ended_status ended) }
     ensures memory { IfErr found.now (λ e. error_kind e ≡ ErrorKind.OutOfMemory → result ≡ 5) }

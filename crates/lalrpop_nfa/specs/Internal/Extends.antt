@@ -35,6 +35,6 @@ pub record IsCompilable (t : Tree) : Type 0 where
   pub no_fault : fault t ≡ None
   pub valid : IsValid t
 
--- a call that fails with this error fails for want of memory, or for this fault
+-- a call that fails with this error is out of memory, or has met this fault
 abbrev pub IsFaultOf : Fault → NfaConstructionError → Type 0
 IsFaultOf f e = e ≢ OutOfMemory → f ≡ Some e

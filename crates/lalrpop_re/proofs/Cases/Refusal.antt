@@ -12,7 +12,7 @@ use Rattle.lalrpop_grammar.proofs.Cases.Pattern.{operator_alone}
 refusal_of_no_pattern : HasNoTree (codes "*a") (Syntax 0 RepetitionMissing)
 refusal_of_no_pattern = operator_alone
 
--- `a` may not be, but for want of memory
+-- `a` may not be, but where memory runs out
 refusal_of_a_pattern : ¬ HasNoTree (codes "a") (Syntax 0 RepetitionMissing)
 unfolding names
 refusal_of_a_pattern h =

@@ -13,7 +13,7 @@ ending_with_an_outcome = (refl, refl)
 ending_by_wrong_arguments : (ending_status (Err Usage) ≡ 4) × (ending_message (Err Usage) ≡ Some (codes "lexdfa: usage: lexdfa TEXT\n"))
 ending_by_wrong_arguments = (refl, refl)
 
--- want of memory, and a failed write
+-- out of memory, and a failed write
 ending_by_want_of_memory : (ending_status (Err (Run OutOfMemory)) ≡ 5) × (ending_message (Err (Run OutOfMemory)) ≡ Some (codes "lexdfa: out of memory\n"))
 ending_by_want_of_memory = (refl, refl)
 

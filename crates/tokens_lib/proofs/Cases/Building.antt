@@ -23,7 +23,7 @@ empty_line_is_the_first h = h.1
 no_line_is_bad : (i : ℕ) → ¬ IsBuildError [] (Line i)
 no_line_is_bad i h = h
 
--- want of memory can come of any lines
+-- out of memory can come of any lines
 any_lines_want_memory : (bytes : List ℕ) → IsBuildError bytes OutOfMemory
 any_lines_want_memory bytes = tt
 
