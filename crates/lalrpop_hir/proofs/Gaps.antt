@@ -182,9 +182,6 @@ pub record IsLeavingOut (ss : List Range) (i : ℕ) (done : List Range) (low : �
   pub place : IsPlace low
   pub canonical : IsCanonical (drop i ss)
 
-pub IsLeavingOut-start : (ss : List Range) → IsCanonical ss → IsLeavingOut ss 0 [] 0
-IsLeavingOut-start ss k = record { gaps_are = refl; place = zero-place; canonical = k }
-
 pub here-canonical : (ss : List Range) (i : ℕ) (s : Range) → IsAt ss i s → IsCanonical (drop i ss) → IsCanonical (s ∷ drop (i + 1) ss)
 here-canonical ss i s a k = subst IsCanonical (left ss i s a) k
 

@@ -1,12 +1,12 @@
 -- Two lists of ranges merged by their starts.
-use Rattle.std.proofs.Common.{◌≡◌, ℕ, zero, suc, ◌+◌, ◌<◌, ◌≤◌, ◌⊎◌, ◌↔◌, inl, inr, List, [], ◌∷◌, ◌++◌, ◌-◌, length, get_or, take, drop, length-drop, refl, sym, ap, subst, ◌∙◌, append_assoc, arith}
+use Rattle.std.proofs.Common.{◌≡◌, ℕ, zero, suc, ◌<◌, ◌≤◌, ◌⊎◌, ◌↔◌, inl, inr, List, [], ◌∷◌, ◌++◌, ◌-◌, length, get_or, take, drop, length-drop, refl, sym, ap, subst, ◌∙◌, arith}
 use Rattle.std.specs.List.Sorted.{IsNonDecreasingBy}
 use Rattle.std.proofs.lemmas.Bool.{cases_lt}
 use Rattle.std.proofs.lemmas.List.{drop_all, take_all, append-nil}
 use Rattle.lalrpop_hir.specs.Range.{Range, Covered}
 use Rattle.lalrpop_hir.specs.Runs.{next_scalar, AreApart, IsCanonical}
 use Rattle.lalrpop_hir.proofs.Canons.{scalar_steps}
-use Rattle.lalrpop_hir.proofs.Joining.{Ascend, IsAt, left}
+use Rattle.lalrpop_hir.proofs.Joining.{Ascend}
 
 -- x and what `on` makes of a list, with the ranges of the list that start before x in front
 abbrev pub put : Range → (List Range → List Range) → List Range → List Range
@@ -122,38 +122,6 @@ pub record IsMerging (xs ys : List Range) (i j : ℕ) (done : List Range) : Type
   pub merges : done ++ merge (drop i xs) (drop j ys) ≡ merge xs ys
   pub in_first : i ≤ length xs
   pub in_second : j ≤ length ys
-
-pub IsMerging-start : (xs ys : List Range) → IsMerging xs ys 0 0 []
-IsMerging-start xs ys = record { merges = refl; in_first = omega arith; in_second = omega arith }
-
--- the second list's range goes first where it starts before the first list's
-pub IsMerging-second : (xs ys : List Range) (i j : ℕ) (done : List Range) (x y : Range) → IsMerging xs ys i j done → IsAt xs i x → IsAt ys j y → y.start < x.start → IsMerging xs ys i (j + 1) (done ++ y ∷ [])
-IsMerging-second xs ys i j done x y k a b h =
-    let now : merge (drop i xs) (drop j ys) ≡ put x (merge (drop (i + 1) xs)) (y ∷ drop (j + 1) ys) =
-    ap (λ l. merge l (drop j ys)) (left xs i x a) ∙ ap (put x (merge (drop (i + 1) xs))) (left ys j y b) in
-    let then : put x (merge (drop (i + 1) xs)) (y ∷ drop (j + 1) ys) ≡ y ∷ put x (merge (drop (i + 1) xs)) (drop (j + 1) ys) =
-    put-behind x (merge (drop (i + 1) xs)) y (drop (j + 1) ys) h in
-    let again : y ∷ put x (merge (drop (i + 1) xs)) (drop (j + 1) ys) ≡ y ∷ merge (drop i xs) (drop (j + 1) ys) =
-    ap (λ l. y ∷ merge l (drop (j + 1) ys)) (sym (left xs i x a)) in
-    record {
-      merges = append_assoc done (y ∷ []) (merge (drop i xs) (drop (j + 1) ys)) ∙ (ap (λ l. done ++ l) (sym (now ∙ (then ∙ again))) ∙ k.merges);
-      in_first = k.in_first;
-      in_second = omega (arith, b.0);
-    }
-
-pub IsMerging-first : (xs ys : List Range) (i j : ℕ) (done : List Range) (x y : Range) → IsMerging xs ys i j done → IsAt xs i x → IsAt ys j y → x.start ≤ y.start → IsMerging xs ys (i + 1) j (done ++ x ∷ [])
-IsMerging-first xs ys i j done x y k a b h =
-    let now : merge (drop i xs) (drop j ys) ≡ put x (merge (drop (i + 1) xs)) (y ∷ drop (j + 1) ys) =
-    ap (λ l. merge l (drop j ys)) (left xs i x a) ∙ ap (put x (merge (drop (i + 1) xs))) (left ys j y b) in
-    let then : put x (merge (drop (i + 1) xs)) (y ∷ drop (j + 1) ys) ≡ x ∷ merge (drop (i + 1) xs) (y ∷ drop (j + 1) ys) =
-    put-beside x (merge (drop (i + 1) xs)) y (drop (j + 1) ys) h in
-    let again : x ∷ merge (drop (i + 1) xs) (y ∷ drop (j + 1) ys) ≡ x ∷ merge (drop (i + 1) xs) (drop j ys) =
-    ap (λ l. x ∷ merge (drop (i + 1) xs) l) (sym (left ys j y b)) in
-    record {
-      merges = append_assoc done (x ∷ []) (merge (drop (i + 1) xs) (drop j ys)) ∙ (ap (λ l. done ++ l) (sym (now ∙ (then ∙ again))) ∙ k.merges);
-      in_first = omega (arith, a.0);
-      in_second = k.in_second;
-    }
 
 -- with one list at its end, what is left of both is the rest
 pub IsMerging-end : (xs ys : List Range) (i j : ℕ) (done : List Range) → IsMerging xs ys i j done → (length xs ≤ i) ⊎ (length ys ≤ j) → done ++ (drop i xs ++ drop j ys) ≡ merge xs ys
