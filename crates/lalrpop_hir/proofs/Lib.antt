@@ -1,7 +1,6 @@
 mod Cases
 pub mod Words
 pub mod Languages
-pub mod Classes
 pub mod Powers
 pub mod Canons
 pub mod Joining
