@@ -96,9 +96,6 @@ Leads-Contains (p ∷ ps) c =
 abbrev pub HasTaken : List Range → List (ℕ × ℕ) → List Range → Type 0
 HasTaken base ps rs = (c : ℕ) → IsScalar c → Covered rs c ↔ (Covered base c ⊎ Leads ps c)
 
-pub none_taken : (base : List Range) → HasTaken base [] base
-none_taken base c u = (λ h. inl h, λ h. elim h [ inl k ↦ k | inr n ↦ absurd n ])
-
 abbrev one : ℕ → Range
 one p = record { start = min p p; end = max p p }
 
@@ -149,9 +146,6 @@ all_taken base rs ps r k e c u =
 -- after some ranges of the class: the partners of those are there
 abbrev pub HasFolded : List Range → List Range → List Range → Type 0
 HasFolded class seen rs = (c : ℕ) → IsScalar c → Covered rs c ↔ (Covered class c ⊎ HasPartner seen c)
-
-pub none_folded : (class : List Range) → HasFolded class [] class
-none_folded class c u = (λ h. inl h, λ h. elim h [ inl k ↦ k | inr p ↦ absurd p.1 ])
 
 pub one_folded : (class seen rs more : List Range) (r : Range) → HasFolded class seen rs → ((c : ℕ) → IsScalar c → Covered more c ↔ (Covered rs c ⊎ HasPartner (r ∷ []) c)) → HasFolded class (seen ++ r ∷ []) more
 one_folded class seen rs more r k step c u =

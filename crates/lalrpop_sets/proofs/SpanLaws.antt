@@ -54,9 +54,6 @@ InCodes-push (q ∷ ps) p c =
 abbrev pub HasCodes : List (ℕ × ℕ) → List Range → Type 0
 HasCodes ps rs = (c : ℕ) → IsScalar c → InCodes ps c ↔ Covered rs c
 
-pub no_codes : HasCodes [] []
-no_codes c u = (λ h. h, λ h. h)
-
 -- a range is pushed whose ends are the least and the greatest scalar value inside
 pub codes-pushed : (ps : List (ℕ × ℕ)) (rs : List Range) (p : ℕ × ℕ) (a b : ℕ) → a ≤ b → ((c : ℕ) → IsScalar c → (a ≤ c) ↔ (p.0 ≤ c)) → ((c : ℕ) → IsScalar c → (c ≤ b) ↔ (c ≤ p.1))
     → HasCodes ps rs → HasCodes (ps ++ p ∷ []) (rs ++ record { start = min a b; end = max a b } ∷ [])
