@@ -502,11 +502,3 @@ mutual
   Bracket-complete {f = f} (a_negated_of {t = t} {r = r} {s = s} {d = d} o) room le =
       bracket_is f room (room - 1) (91 ∷ 94 ∷ t) _ (omega arith)
       (bracket_negated f (bracket f (room - 1)) t (record { set = s; depth = d; rest = 93 ∷ r }) (Operands-complete o (room - 1) (omega arith) ∙ operations_end f (bracket f (room - 1)) s d r))
-
--- ---- one text spells one bracket: it fixes the end, the set and the depth
-
-pub one_bracket : {f : Flags} {t r u : Text} {s q : Set} {d e : ℕ} → Bracket f t r s d → Bracket f t u q e → (r ≡ u) × (s ≡ q) × (d ≡ e)
-one_bracket {r = r} {u = u} {s = s} {q = q} {d = d} {e = e} a b =
-    let same : ◌≡◌ {A = Option SetPart} (Some (record { set = s; depth = d; rest = r })) (Some (record { set = q; depth = e; rest = u })) = sym (Bracket-complete a (max d e) (omega arith)) ∙ Bracket-complete b (max d e) (omega arith) in
-    let p = some_is _ _ same in
-    (ap (λ (x : SetPart). x.rest) p, ap (λ (x : SetPart). x.set) p, ap (λ (x : SetPart). x.depth) p)

@@ -103,9 +103,6 @@ Opens t (flagged_group letters u) = codes "?" ▸ letters ▸ codes ":" ▸ u �
 Opens t (directive letters u) = (codes "?" ▸ letters ▸ codes ")" ▸ u ≡ t) × (0 < length letters)
 Opens t no_opening = Unit {0}
 
-name_opens : (t v : Text) → (name : List ℕ) (u : Text) → (name ++ 62 ∷ u ≡ v → (codes "?P<" ▸ name ▸ codes ">" ▸ u ≡ t) ⊎ (codes "?<" ▸ name ▸ codes ">" ▸ u ≡ t)) → name ++ 62 ∷ u ≡ v → IsTrue (is_name name) → Opens t (named_group name u)
-name_opens t v name u h e k = (k, h e)
-
 name_at_opens : (t v : Text) → ((name : List ℕ) (u : Text) → name ++ 62 ∷ u ≡ v → (codes "?P<" ▸ name ▸ codes ">" ▸ u ≡ t) ⊎ (codes "?<" ▸ name ▸ codes ">" ▸ u ≡ t)) → Opens t (name_at v)
 unfolding name_at
 name_at_opens t v h = elim (decided (begins ">" (span ends_name v).1 && is_name (span ends_name v).0)) [

@@ -25,10 +25,6 @@ pub guarded : {A : Type 0} (b : Bool) (x : Option A) (z : A) → cond b x None �
 guarded true x z e = (refl, e)
 guarded false x z e = absurd cc
 
-pub refused : {A : Type 0} (b : Bool) (x : Option A) (z : A) → cond b None x ≡ Some z → (b ≡ false) × (x ≡ Some z)
-refused true x z e = absurd cc
-refused false x z e = (refl, e)
-
 pub decided : (b : Bool) → (b ≡ true) ⊎ (b ≡ false)
 decided true = inl refl
 decided false = inr refl
