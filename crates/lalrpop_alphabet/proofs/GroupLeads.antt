@@ -29,9 +29,6 @@ none_has : {X : Type 0} (x : X) → Contains [] x → ⊥
 none_has x (k, l, e) = omega arith
 
 -- ---- lists that grow
-pub grown_itself : (lists : List Labels) → IsGrown lists lists
-grown_itself lists n ls h = h
-
 pub grown_more : (a b c : List Labels) → IsGrown a b → IsGrown b c → IsGrown a c
 grown_more a b c f g n ls h = g n ls (f n ls h)
 
@@ -106,18 +103,6 @@ HasEdge es r q = (e : Edge Range) × Contains es e × (e.label ≡ r) × (e.to �
 pub record AreRead (lists : List Labels) (leads : List Lead) (rs : List Range) (to : ℕ) (done : List (Edge Range)) : Type 0 where
   pub within : AreWithin lists leads
   pub labels : (r : Range) (q : ℕ) → HasEdge done r q ↔ (HasLead lists leads r q ⊎ (Contains rs r × (to ≡ q)))
-
-pub read_none : (lists : List Labels) (leads : List Lead) (rs : List Range) (to : ℕ) → leads ≡ [] → rs ≡ [] → AreRead lists leads rs to []
-read_none lists leads rs to no_lead no_label = record {
-  within = λ l has. absurd (none_has l (rw no_lead at has));
-  labels = λ r q. (
-    λ edge. absurd (none_has edge.0 edge.1),
-    λ h. elim h [
-      | inl lead ↦ absurd (none_has lead.0 (rw no_lead at lead.1))
-      | inr last ↦ absurd (none_has r (rw no_label at last.0))
-    ],
-  );
-}
 
 -- one more edge to the state that the last ones lead to
 pub read_more : (lists : List Labels) (leads : List Lead) (rs rs2 : List Range) (to : ℕ) (done : List (Edge Range)) (e : Edge Range) (label : Range) → AreRead lists leads rs to done → e.to ≡ to → label ≡ e.label → rs2 ≡ rs ++ label ∷ []
@@ -194,14 +179,6 @@ pub record IsReading (first lists : List Labels) (leads : List Lead) (rs : List 
   pub rest : done ++ es ≡ all
   pub grown : IsGrown first lists
 
-pub reading_none : (lists : List Labels) (leads : List Lead) (rs : List Range) (to p q : ℕ) (tests es : List (Edge Range)) → leads ≡ [] → rs ≡ [] → p ≡ q → es ≡ filter (leaves p) tests → IsReading lists lists leads rs to (filter (leaves q) tests) es
-reading_none lists leads rs to p q tests es no_lead no_label same is = record {
-  done = [];
-  read = read_none lists leads rs to no_lead no_label;
-  rest = rw (is, same) refl;
-  grown = grown_itself lists;
-}
-
 pub grown_closed : (first lists lists2 : List Labels) (leads leads2 : List Lead) (rs : List Range) (to : ℕ) → IsGrown first lists → IsClosed lists leads rs to lists2 leads2 → IsGrown first lists2
 grown_closed first lists lists2 leads leads2 rs to g (inl (none, same, kept)) = rw same g
 grown_closed first lists lists2 leads leads2 rs to g (inr (n, list, grown, pushed)) = grown_more first lists lists2 g grown
@@ -253,12 +230,6 @@ reading_done first lists lists2 leads leads2 rs to p tests es h none closed = (g
         rw same at there.0
 
 -- ---- the states of an automaton, and the automata
-pub states_none : (lists : List Labels) (g : Graph) (states : List StateLeads) → states ≡ [] → AreStatesTo lists g 0 states
-states_none lists g states none = record {
-  same_length = rw none refl;
-  leads = λ p s at. absurd (let e : slice_get [] p ≡ Some s = rw none at at in cc);
-}
-
 pub states_more : (lists lists2 : List Labels) (g : Graph) (n : ℕ) (states states2 : List StateLeads) (s : StateLeads) → AreStatesTo lists g n states → IsGrown lists lists2 → AreLeads lists2 g.edges.tests n s.leads.items → states2 ≡ states ++ s ∷ []
     → AreStatesTo lists2 g (n + 1) states2
 states_more lists lists2 g n states states2 s h grown new pushed = record {
@@ -279,12 +250,6 @@ states_after a b g n states grown h = record {
 pub record AreNfasTo (lists : List Labels) (ns : List Graph) (n : ℕ) (nfas : List NfaLeads) : Type 0 where
   pub same_length : length nfas ≡ n
   pub states : (i : ℕ) (x : NfaLeads) → slice_get nfas i ≡ Some x → (g : Graph) × (slice_get ns i ≡ Some g) × AreStatesTo lists g (length g.kinds) x.states.items
-
-pub nfas_none : (lists : List Labels) (ns : List Graph) (nfas : List NfaLeads) → nfas ≡ [] → AreNfasTo lists ns 0 nfas
-nfas_none lists ns nfas none = record {
-  same_length = rw none refl;
-  states = λ i x at. absurd (let e : slice_get [] i ≡ Some x = rw none at at in cc);
-}
 
 pub nfas_more : (lists lists2 : List Labels) (ns : List Graph) (n : ℕ) (g : Graph) (nfas nfas2 : List NfaLeads) (x : NfaLeads) → AreNfasTo lists ns n nfas → IsGrown lists lists2 → slice_get ns n ≡ Some g → AreStatesTo lists2 g (length g.kinds) x.states.items → nfas2 ≡ nfas ++ x ∷ []
     → AreNfasTo lists2 ns (n + 1) nfas2
