@@ -65,9 +65,6 @@ Gains-same rs qs s t e h = λ c k.
       λ a. elim a [ inl p ↦ g.1 (inl p) | inr p ↦ g.1 (inr (e c k ∙ p)) ],
     )
 
-pub HasMembers-none : HasMembers [] (union_all [])
-HasMembers-none = λ c k. (λ h. absurd cc, λ h. absurd h)
-
 pub HasMembers-gains : (rs qs : List Range) (ss : List Set) (s : Set) → HasMembers rs (union_all ss) → Gains rs qs s → HasMembers qs (union_all (ss ++ s ∷ []))
 HasMembers-gains rs qs ss s h g = λ c k.
     let before = h c k in
