@@ -1,5 +1,5 @@
 -- Items pattern by pattern.
-use Rattle.std.proofs.Common.{◌≡◌, ◌≢◌, ℕ, zero, suc, ◌+◌, ◌-◌, ◌<◌, ◌≤◌, inl, inr, List, [], ◌∷◌, ◌++◌, length, take, drop, get_or, refl, ap, sym, ◌∙◌, subst, arith}
+use Rattle.std.proofs.Common.{◌≡◌, ◌≢◌, ℕ, zero, suc, ◌+◌, ◌-◌, ◌<◌, ◌≤◌, inl, inr, List, [], ◌∷◌, ◌++◌, length, take, drop, get_or, refl, ap, sym, ◌∙◌, arith}
 use Rattle.std.specs.List.{Contains}
 use Rattle.std.specs.declared.cmp.Ordering.TheVariants.{Less}
 use Rattle.std.proofs.Math.Seq.{take-add}
@@ -9,7 +9,7 @@ use Rattle.std.proofs.lemmas.Option.{slice_get_within}
 use Rattle.lalrpop_nfa.specs.Graph.{Graph}
 use Rattle.lalrpop_items.specs.Automata.{Item}
 use Rattle.lalrpop_items.specs.Ascending.{item_cmp, AreByPattern}
-use Rattle.lalrpop_items.specs.Given.{IsItemOf, AreItemsOf}
+use Rattle.lalrpop_items.specs.Given.{AreItemsOf}
 use Rattle.lalrpop_items.specs.Subsets.{closed, starts_from}
 use Rattle.lalrpop_items.specs.Internal.Worklist.{pattern_at}
 use Rattle.lalrpop_items.proofs.Members.{Has, has_from, contains_from, has_left, has_right, has_cases}
@@ -130,11 +130,6 @@ module _ (items : List Item) (from end : ℕ) (by : AreByPattern items) (l : fro
   part_pattern x h =
       let r = drop_parts (0, 0) items from (end - from) x (has_from (take (end - from) (drop from items)) x h) in
       ap (λ (z : Item). z.0) (sym r.4) ∙ same r.0 r.1 (omega (arith, r.2))
-
-  pub part_inside : (ns : List Graph) → AreItemsOf ns items → AreItemsOf ns (take (end - from) (drop from items))
-  part_inside ns inside x h =
-      let r = drop_parts (0, 0) items from (end - from) x (has_from (take (end - from) (drop from items)) x h) in
-      subst (λ (z : Item). IsItemOf ns z) r.4 (inside (get_or items r.0 (0, 0)) (contains_from items (get_or items r.0 (0, 0)) (at_has items r.0 (0, 0) r.3)))
 
   pub closed_more : (ns : List Graph) (found found2 : List Item) → found ≡ closed ns (take from items) → found2 ≡ found ++ closed ns (take (end - from) (drop from items)) → found2 ≡ closed ns (take end items)
   closed_more ns found found2 was is =

@@ -60,19 +60,13 @@ still_not items i h k = let t : list_any (is_reject_of i) items ≡ true = rejec
 
 -- ---- splitting items
 module _ (n : ℕ) (items : List Item) (spared : List ℕ) where
-  -- a spared pattern stays spared unless it has a REJECT item
-  still_has : (i : ℕ) → Has spared i → (Has items (i, reject_state) → ⊥) → Has (still_spared items spared) i
-  still_has i h none = elim (cases_Bool (list_any (is_reject_of i) items)) [
-    | inl t ↦ absurd (none (any_reject items i t))
-    | inr f ↦ has_filter (λ (j : ℕ). not (list_any (is_reject_of j) items)) spared i h (rw f refl)
-  ]
-
+  -- a pattern that stays spared was spared, and has no REJECT item
   pub still_parts : (i : ℕ) → Has (still_spared items spared) i → Has spared i × (Has items (i, reject_state) → ⊥)
   still_parts i h =
       let f = filter_has (λ (j : ℕ). not (list_any (is_reject_of j) items)) spared i h in
       (f.0, still_not items i f.1)
 
-  -- and has one where it doesn't
+  -- a spared pattern that doesn't stay spared has one
   still_told : (i : ℕ) → Has spared i → (Has (still_spared items spared) i → ⊥) → Has items (i, reject_state)
   still_told i h none = elim (cases_Bool (list_any (is_reject_of i) items)) [
     | inl t ↦ any_reject items i t
