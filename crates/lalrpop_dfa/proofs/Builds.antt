@@ -50,13 +50,6 @@ small_added sets origins n v t j sets2 origins2 l (inl (e, a, b)) f = rw b f
 small_added sets origins n v t j sets2 origins2 l (inr (none, e, a, b)) f = rw b (small_push origins n v l f)
 
 -- ---- one number
--- no block is looked at yet
-pub edging_none : (ns : List Graph) (sets : List (List Item)) (origins : List (ℕ × ℕ)) (n : ℕ) (s : List Item) (xs : List Range) (tests : List (Range × ℕ)) → IsBreadthFirst (subset_automaton ns) sets origins n 0 → tests ≡ [] → IsEdging ns sets origins n s xs 0 sets origins tests
-edging_none ns sets origins n s xs tests breadth_first none = rw none (record { breadth_first = breadth_first; ranges = refl; leads = λ t c member over. absurd (no_test t member); kept = λ i l. (l, refl); small = λ h. h })
-  where
-    no_test : (t : Range × ℕ) → Contains [] t → ⊥
-    no_test t (k, l, e) = omega (arith, l)
-
 module _ (ns : List Graph) (a : AreAutomata ns) (sets0 : List (List Item)) (origins0 : List (ℕ × ℕ)) (n : ℕ) (s : List Item) (xs : List Range) (partition : IsPartition (IsLeaving ns s) xs)
     (here : slice_get sets0 n ≡ Some s) where
   within0 : n < length sets0

@@ -3,13 +3,12 @@ use Rattle.std.proofs.Common.{◌≡◌, ℕ, ◌<◌, inl, inr, List, length, s
 use Rattle.std.specs.Prelude.{slice_get, Option, None}
 use Rattle.std.proofs.lemmas.Option.{slice_get_read, slice_get_within, get_or_from_slice_get}
 use Rattle.std.proofs.lemmas.List.{get_or-map, length-map}
-use Rattle.std.specs.BTreeMap.{BTreeMap, IsEmpty}
 use Rattle.std.specs.List.{Contains}
 use Rattle.lalrpop_hir.specs.Range.{Range}
 use Rattle.lalrpop_dfa.specs.Internal.Blocks.{Block}
 use Rattle.lalrpop_nfa.specs.Graph.{Graph}
 use Rattle.lalrpop_items.specs.Automata.{Item}
-use Rattle.lalrpop_dfa.specs.Internal.Builder.{AddedTo, AreKnown, AreUnknown, AreKnownClasses, IsNumberOfEqual}
+use Rattle.lalrpop_dfa.specs.Internal.Builder.{AddedTo, AreUnknown, AreKnownClasses, IsNumberOfEqual}
 use Rattle.lalrpop_dfa.specs.Internal.Room.{OnlyNumbers}
 use Rattle.lalrpop_items.specs.Subsets.{move}
 use Rattle.lalrpop_items.specs.Transitions.{AreTransitions}
@@ -30,13 +29,6 @@ class_takes ns s by_class c v t is (u, (at, are)) =
 -- only classes of these blocks have numbers
 abbrev pub AreOfBlocks : List Block → List (Option ℕ) → Type 0
 AreOfBlocks blocks known = (c j : ℕ) → slice_get known c ≡ Some (Some j) → (b : Block) × (Contains blocks b × (b.class ≡ c))
-
--- nothing is known at first
-pub none_known : (ns : List Graph) (s : List Item) (by_class : List Transitions) (known : List (Option ℕ)) (sets : List (List Item)) → AreUnknown known → AreKnownClasses ns s by_class known sets
-none_known ns s by_class known sets none c j v t at there are = absurd (none c j at)
-
-pub nothing_known : (ns : List Graph) (s : List Item) (known : BTreeMap Transitions ℕ) (sets : List (List Item)) → IsEmpty known → AreKnown ns s known sets
-nothing_known ns s known sets none leads j v found are = (let at = (rw none at found) in cc)
 
 pub unknown_more : (known new : List (Option ℕ)) → AreUnknown known → new ≡ known ++ None ∷ [] → AreUnknown new
 unknown_more known new none is c j at = elim (pushed_cases known None c (Some j) (rw is at at)) [ inl before ↦ none c j before | inr here ↦ (let clash : Some j ≡ None = here.1 in cc) ]

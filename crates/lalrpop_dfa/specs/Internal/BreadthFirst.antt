@@ -77,9 +77,6 @@ Added m sets origins n v t j sets2 origins2 =
     ⊎ (((k : ℕ) → k < length sets → nth m sets k ≡ t → ⊥) × (j ≡ length sets)
     × (sets2 ≡ sets ++ t ∷ []) × (origins2 ≡ origins ++ (n, v) ∷ []))
 
-abbrev pub Items : Type 0
-Items = List (ℕ × ℕ)
-
 -- a word leads to a dead set, or to a number below n whose word is at most it
 abbrev pub Settled : {S : Type 0} → Automaton S → List S → List (ℕ × ℕ) → ℕ → List ℕ → Type 0
 Settled m sets origins n w =
