@@ -1,111 +1,107 @@
 //! The line and the status that lines of terminals and a text are answered by.
 
-use crate::rows::{bytes, halves, number};
-use lexdfa_lib::{Outcome, RunError, Watched, run};
-use std::alloc::Global;
+use crate::shared::{answered, expect_same};
+use std::alloc::{AllocError, Global};
 use std::process::Abort;
 
-fn is_line(written: &[u8], line: &str) -> bool {
-    match written.strip_suffix(b"\n") {
-        Some(written) => written == line.as_bytes(),
-        None => false,
+// A line without its line feed.
+fn line_of(written: &[u8]) -> Option<&str> {
+    str::from_utf8(written).ok()?.strip_suffix('\n')
+}
+
+fn shown(alloc: Global, written: &[u8], status: u8) -> Result<String, AllocError> {
+    let line = line_of(written).unwrap_or("no line");
+    format!(in alloc; "{line}, {status}")
+}
+
+fn expect_answer(rt: &impl Abort, alloc: Global, input: &[u8], text: &str, wanted: &str) {
+    let (status, written) = answered(rt, alloc, input, text).expect(rt, "an outcome");
+    let found = shown(alloc, &written, status).expect(rt, "memory");
+    expect_same(rt, &found, wanted);
+}
+
+// Rows of an input, a text, and the line and the status.
+fn expect(rt: &impl Abort, alloc: Global, rows: &[(&[u8], &str, &str)]) {
+    for (input, text, wanted) in rows {
+        expect_answer(rt, alloc, *input, *text, *wanted);
     }
-}
-
-// The status of a run that could end.
-fn status(ended: Result<Outcome, RunError>) -> Option<u8> {
-    match ended {
-        Ok(outcome) => Some(outcome.status()),
-        Err(_) => None,
-    }
-}
-
-// The status for this input and text, where the line and a line feed are written.
-fn status_of(rt: &impl Abort, alloc: Global, input: &[u8], text: &str, line: &str) -> Option<u8> {
-    let mut reader = Watched::new(input);
-    let mut writer = Watched::new(Vec::new(alloc));
-    let status = status(run(alloc, &mut reader, text, &mut writer));
-    assert!(rt; !reader.failed() && !writer.failed());
-    let written = writer.into_inner();
-    assert!(rt; is_line(&written, line), "{text}");
-    status
-}
-
-// A row `INPUT / TEXT => LINE, STATUS`.
-fn expect_row(rt: &impl Abort, alloc: Global, row: &str) {
-    let (argument, answer) = halves(rt, row, " => ");
-    let (input, text) = halves(rt, argument, " / ");
-    let (line, status) = halves(rt, answer, ", ");
-    let input = bytes(alloc, input).expect(rt, "bytes");
-    let found = status_of(rt, alloc, &input, text, line);
-    assert!(rt; found == Some(number(rt, status)), "{row}");
-}
-
-// Each row of the table, and there are so many.
-fn expect(rt: &impl Abort, alloc: Global, table: &str, rows: usize) {
-    let mut read = 0usize;
-    for row in table.lines() {
-        expect_row(rt, alloc, row);
-        read = read.saturating_add(1);
-    }
-    assert_eq!(rt; read, rows);
 }
 
 #[test]
 fn literals_are_answered(rt: HostRuntime) {
-    let table = "\
-0 l abc;0 l abcd / abcde => match 1 4, 0
- / a => none, 1
-0 l ; / a => none, 1
-0 l a\r; / a => none, 1
-18446744073709551615 l a; / a => match 0 1, 0
-00000000000000000000 l a; / a => match 0 1, 0
-0 l a;0 l a; / b => ambiguous 1 0, 2
-0 l \u{c3}\u{a9}; / \u{e9}! => match 0 2, 0
-0 l  a; /  a => match 0 2, 0
-0 l (; / ( => match 0 1, 0
-01 l class;0 l classic / classz => match 0 5, 0";
-    expect(&rt, rt.alloc(), table, 11);
+    expect(
+        &rt,
+        rt.alloc(),
+        &[
+            (b"0 l abc\n0 l abcd", "abcde", "match 1 4, 0"),
+            (b"", "a", "none, 1"),
+            (b"0 l \n", "a", "none, 1"),
+            (b"0 l a\r\n", "a", "none, 1"),
+            (b"18446744073709551615 l a\n", "a", "match 0 1, 0"),
+            (b"00000000000000000000 l a\n", "a", "match 0 1, 0"),
+            (b"0 l a\n0 l a\n", "b", "ambiguous 1 0, 2"),
+            (b"0 l \xc3\xa9\n", "\u{e9}!", "match 0 2, 0"),
+            (b"0 l  a\n", " a", "match 0 2, 0"),
+            (b"0 l (\n", "(", "match 0 1, 0"),
+            (b"01 l class\n0 l classic", "classz", "match 0 5, 0"),
+        ],
+    );
 }
 
 #[test]
 fn patterns_are_answered(rt: HostRuntime) {
-    let table = "\
-1 l class;0 r [a-z]+; / classz => match 1 6, 0
-0 r a; / a => match 0 1, 0
-0 r ; / a => none, 1
-0 r a;0 r \\bb; / a => refused 1 LookAround, 2
-0 r [a-z]+;0 r (?P<n>a);0 r b??; / a => refused 1 NamedCaptures, 2
-0 l a;0 r a; / b => ambiguous 1 0, 2
-0 r a*;0 r b*; / a => ambiguous 1 0, 2";
-    expect(&rt, rt.alloc(), table, 7);
+    expect(
+        &rt,
+        rt.alloc(),
+        &[
+            (b"1 l class\n0 r [a-z]+\n", "classz", "match 1 6, 0"),
+            (b"0 r a\n", "a", "match 0 1, 0"),
+            (b"0 r \n", "a", "none, 1"),
+            (b"0 r a\n0 r \\bb\n", "a", "refused 1 LookAround, 2"),
+            (
+                b"0 r [a-z]+\n0 r (?P<n>a)\n0 r b??\n",
+                "a",
+                "refused 1 NamedCaptures, 2",
+            ),
+            (b"0 l a\n0 r a\n", "b", "ambiguous 1 0, 2"),
+            (b"0 r a*\n0 r b*\n", "a", "ambiguous 1 0, 2"),
+        ],
+    );
 }
 
 #[test]
 fn bad_lines_are_named(rt: HostRuntime) {
-    let table = "\
-x l a; / a => line 0, 3
-0 l a;; / a => line 1, 3
-; / a => line 0, 3
-18446744073709551616 l a; / a => line 0, 3
-000000000000000000000 l a; / a => line 0, 3
-+1 l a; / a => line 0, 3
- 0 l a; / a => line 0, 3
-0  l a; / a => line 0, 3
-0 l; / a => line 0, 3
-0 q a; / a => line 0, 3
-0 l \u{ff}; / a => line 0, 3
-0 r \u{ff}; / a => line 0, 3";
-    expect(&rt, rt.alloc(), table, 12);
+    expect(
+        &rt,
+        rt.alloc(),
+        &[
+            (b"x l a\n", "a", "line 0, 3"),
+            (b"0 l a\n\n", "a", "line 1, 3"),
+            (b"\n", "a", "line 0, 3"),
+            (b"18446744073709551616 l a\n", "a", "line 0, 3"),
+            (b"000000000000000000000 l a\n", "a", "line 0, 3"),
+            (b"+1 l a\n", "a", "line 0, 3"),
+            (b" 0 l a\n", "a", "line 0, 3"),
+            (b"0  l a\n", "a", "line 0, 3"),
+            (b"0 l\n", "a", "line 0, 3"),
+            (b"0 q a\n", "a", "line 0, 3"),
+            (b"0 l \xff\n", "a", "line 0, 3"),
+            (b"0 r \xff\n", "a", "line 0, 3"),
+        ],
+    );
 }
 
 #[test]
 fn the_first_line_that_is_no_terminal_decides(rt: HostRuntime) {
-    let table = "\
-0 r \\ba;0 r (; / a => syntax 1, 3
-0 r (;0 l a;q; / a => syntax 0, 3
-0 l a;0 r (;0 l \u{ff}; / a => syntax 1, 3
-0 l a;q;0 r (; / a => line 1, 3
-0 l a;0 l a;q; / a => line 2, 3";
-    expect(&rt, rt.alloc(), table, 5);
+    expect(
+        &rt,
+        rt.alloc(),
+        &[
+            (b"0 r \\ba\n0 r (\n", "a", "syntax 1, 3"),
+            (b"0 r (\n0 l a\nq\n", "a", "syntax 0, 3"),
+            (b"0 l a\n0 r (\n0 l \xff\n", "a", "syntax 1, 3"),
+            (b"0 l a\nq\n0 r (\n", "a", "line 1, 3"),
+            (b"0 l a\n0 l a\nq\n", "a", "line 2, 3"),
+        ],
+    );
 }

@@ -2,11 +2,9 @@
 
 use lalrpop_hir::{Capture, Hir, Repetition};
 use lalrpop_lexer::lexer::dfa::interpret::interpret;
-use lalrpop_lexer::lexer::dfa::{Dfa, Precedence, build_dfa};
+use lalrpop_lexer::lexer::dfa::{Dfa, DfaConstructionError, Precedence, build_dfa};
 use lalrpop_lexer::lexer::nfa::Nfa;
 use std::alloc::{AllocError, Global};
-use std::process::Abort;
-use std::test::Fail;
 
 const LEVELS: usize = 1_000;
 
@@ -56,12 +54,41 @@ fn is_shown_as(alloc: Global, copy: &Hir, tree: &Hir) -> Result<bool, AllocError
     Ok(format!(in alloc; "{copy:?}")? == format!(in alloc; "{tree:?}")?)
 }
 
-fn states_of(alloc: Global, tree: &Hir) -> Result<usize, Fail> {
-    Ok(Nfa::from_re(alloc, tree)?.len())
+fn clone_shows_the_same(alloc: Global, tree: &Hir) -> Result<bool, AllocError> {
+    is_shown_as(alloc, &tree.clone()?, tree)
 }
 
-fn automaton_of(alloc: Global, tree: Hir) -> Result<Dfa, Fail> {
-    Ok(build_dfa(alloc, &[tree], &[Precedence(0)])?)
+fn is_cloned(alloc: Global, level: Level) -> bool {
+    match nested(alloc, level) {
+        Ok(tree) => clone_shows_the_same(alloc, &tree).unwrap_or(false),
+        Err(_) => false,
+    }
+}
+
+fn states_of(alloc: Global, tree: &Hir) -> usize {
+    match Nfa::from_re(alloc, tree) {
+        Ok(nfa) => nfa.len(),
+        Err(_) => 0,
+    }
+}
+
+fn has_states(alloc: Global, level: Level, states: usize) -> bool {
+    match nested(alloc, level) {
+        Ok(tree) => states_of(alloc, &tree) == states,
+        Err(_) => false,
+    }
+}
+
+fn clone_of(alloc: Global, level: Level) -> Result<Hir, AllocError> {
+    nested(alloc, level)?.clone()
+}
+
+fn automaton_of(alloc: Global, tree: Hir) -> Result<Dfa, DfaConstructionError> {
+    build_dfa(alloc, &[tree], &[Precedence(0)])
+}
+
+fn automaton_of_clone(alloc: Global, level: Level) -> Result<Dfa, DfaConstructionError> {
+    automaton_of(alloc, clone_of(alloc, level)?)
 }
 
 // The length of the match, or 0.
@@ -72,27 +99,26 @@ fn length_found(dfa: &Dfa, text: &str) -> usize {
     }
 }
 
-// The number of states of the tree's automaton, and the length of the match in `aab`.
-fn expect(
-    rt: &impl Abort,
-    alloc: Global,
-    level: Level,
-    states: usize,
-    bytes: usize,
-) -> Result<(), Fail> {
-    let tree = nested(alloc, level)?;
-    let copy = tree.clone()?;
-    assert!(rt; is_shown_as(alloc, &copy, &tree)?);
-    assert_eq!(rt; states_of(alloc, &tree)?, states);
-    assert_eq!(rt; length_found(&automaton_of(alloc, copy)?, "aab"), bytes);
-    Ok(())
+// Whether the automaton of the tree's clone finds so many bytes of `aab`.
+fn finds(alloc: Global, level: Level, bytes: usize) -> bool {
+    match automaton_of_clone(alloc, level) {
+        Ok(dfa) => length_found(&dfa, "aab") == bytes,
+        Err(_) => false,
+    }
 }
 
+// Rows of what a level adds, the number of states, and the length of the match.
 #[test]
-fn a_thousand_levels(rt: HostRuntime) -> Result<(), Fail> {
+fn a_thousand_levels(rt: HostRuntime) {
     let alloc = rt.alloc();
-    expect(&rt, alloc, Level::Group, 4, 1)?;
-    expect(&rt, alloc, Level::Turns, LEVELS + 4, 2)?;
-    expect(&rt, alloc, Level::Row, 4, 1)?;
-    expect(&rt, alloc, Level::Choice, LEVELS + 4, 1)
+    let rows: &[(Level, usize, usize)] = &[
+        (Level::Group, 4, 1),
+        (Level::Turns, LEVELS + 4, 2),
+        (Level::Row, 4, 1),
+        (Level::Choice, LEVELS + 4, 1),
+    ];
+    for (level, states, bytes) in rows {
+        assert!(rt; is_cloned(alloc, *level) && has_states(alloc, *level, *states));
+        assert!(rt; finds(alloc, *level, *bytes));
+    }
 }

@@ -2,7 +2,6 @@
 
 use lexdfa_lib::{Ending, Failure, Outcome, RunError, arguments};
 use std::alloc::{AllocError, Global};
-use std::process::Abort;
 
 // The words of a text, with `|` between them.
 fn words(alloc: Global, text: &str) -> Result<Vec<String>, AllocError> {
@@ -13,54 +12,59 @@ fn words(alloc: Global, text: &str) -> Result<Vec<String>, AllocError> {
     Ok(words)
 }
 
-fn expect_argument(rt: &impl Abort, alloc: Global, text: &str, wanted: Option<&str>) {
-    let words = words(alloc, text).expect(rt, "memory");
-    assert!(rt; arguments(&words) == wanted, "{text}");
+fn has_argument(alloc: Global, text: &str, wanted: Option<&str>) -> bool {
+    match words(alloc, text) {
+        Ok(words) => arguments(&words) == wanted,
+        Err(_) => false,
+    }
 }
 
 #[test]
 fn one_argument(rt: HostRuntime) {
     assert!(rt; arguments(&[]).is_none());
-    expect_argument(&rt, rt.alloc(), "a b", Some("a b"));
-    expect_argument(&rt, rt.alloc(), "", Some(""));
-    expect_argument(&rt, rt.alloc(), "a b|c", None);
-    expect_argument(&rt, rt.alloc(), "|c", None);
+    let rows: &[(&str, Option<&str>)] = &[
+        ("a b", Some("a b")),
+        ("", Some("")),
+        ("a b|c", None),
+        ("|c", None),
+    ];
+    for (text, wanted) in rows {
+        assert!(rt; has_argument(rt.alloc(), *text, *wanted));
+    }
 }
 
-fn expect_error(rt: &impl Abort, alloc: Global, error: &RunError, name: &str, status: u8) {
-    assert_eq!(rt; error.to_string(alloc).expect(rt, "memory").as_str(), name);
-    assert_eq!(rt; error.status(), status);
+fn is_told(alloc: Global, error: &RunError, name: &str, status: u8) -> bool {
+    match error.to_string(alloc) {
+        Ok(told) => told.as_str() == name && error.status() == status,
+        Err(_) => false,
+    }
 }
 
 #[test]
 fn errors_have_names_and_statuses(rt: HostRuntime) {
-    expect_error(&rt, rt.alloc(), &RunError::OutOfMemory, "OutOfMemory", 5);
-    expect_error(&rt, rt.alloc(), &RunError::Read, "Read", 6);
-    expect_error(&rt, rt.alloc(), &RunError::Write, "Write", 6);
+    let alloc = rt.alloc();
+    assert!(rt; is_told(alloc, &RunError::OutOfMemory, "OutOfMemory", 5));
+    assert!(rt; is_told(alloc, &RunError::Read, "Read", 6));
+    assert!(rt; is_told(alloc, &RunError::Write, "Write", 6));
 }
 
-fn expect_ending(
-    rt: &impl Abort,
-    end: &Result<Outcome, Failure>,
-    status: u8,
-    message: Option<&str>,
-) {
-    let ending = Ending::of(end);
-    assert_eq!(rt; ending.status, status);
-    assert!(rt; ending.message == message);
+fn ends_with(end: Result<Outcome, Failure>, status: u8, message: Option<&str>) -> bool {
+    let ending = Ending::of(&end);
+    ending.status == status && ending.message == message
+}
+
+fn run_ends_with(error: RunError, status: u8, message: &str) -> bool {
+    ends_with(Err(Failure::Run(error)), status, Some(message))
 }
 
 #[test]
 fn endings_are_told(rt: HostRuntime) {
     let usage = "lexdfa: usage: lexdfa TEXT\n";
-    expect_ending(&rt, &Err(Failure::Usage), 4, Some(usage));
-    let memory = Err(Failure::Run(RunError::OutOfMemory));
-    expect_ending(&rt, &memory, 5, Some("lexdfa: out of memory\n"));
-    let read = Err(Failure::Run(RunError::Read));
-    expect_ending(&rt, &read, 6, Some("lexdfa: read failed\n"));
-    let write = Err(Failure::Run(RunError::Write));
-    expect_ending(&rt, &write, 6, Some("lexdfa: write failed\n"));
-    expect_ending(&rt, &Ok(Outcome::NoMatch), 1, None);
+    assert!(rt; ends_with(Err(Failure::Usage), 4, Some(usage)));
+    assert!(rt; run_ends_with(RunError::OutOfMemory, 5, "lexdfa: out of memory\n"));
+    assert!(rt; run_ends_with(RunError::Read, 6, "lexdfa: read failed\n"));
+    assert!(rt; run_ends_with(RunError::Write, 6, "lexdfa: write failed\n"));
+    assert!(rt; ends_with(Ok(Outcome::NoMatch), 1, None));
 }
 
 #[test]

@@ -4,7 +4,6 @@ use lexdfa_lib::{RunError, Watched, run};
 use std::alloc::Global;
 use std::io;
 use std::io::{Read, Write};
-use std::process::Abort;
 
 const INPUT: &[u8] = b"1 l class\n0 r [a-z]+\n";
 
@@ -35,7 +34,7 @@ impl<'a> Read for FailsAtEnd<'a> {
     }
 }
 
-fn expect_nothing_written(rt: &impl Abort, alloc: Global, given: &[u8], kind: io::ErrorKind) {
+fn writes_nothing(alloc: Global, given: &[u8], kind: io::ErrorKind) -> bool {
     let mut reader = Watched::new(FailsAtEnd {
         left: given,
         kind,
@@ -43,12 +42,9 @@ fn expect_nothing_written(rt: &impl Abort, alloc: Global, given: &[u8], kind: io
     });
     let mut writer = Watched::new(Vec::new(alloc));
     let result = run(alloc, &mut reader, "classz", &mut writer);
-    assert!(rt; matches!(&result, Err(RunError::Read)));
-    assert!(rt; reader.failed());
+    let ended = matches!(&result, Err(RunError::Read)) && reader.failed() && !writer.failed();
     let calls = if given.is_empty() { 1 } else { 2 };
-    assert_eq!(rt; reader.into_inner().calls, calls);
-    assert!(rt; !writer.failed());
-    assert!(rt; writer.into_inner().is_empty());
+    ended && reader.into_inner().calls == calls && writer.into_inner().is_empty()
 }
 
 #[test]
@@ -56,7 +52,7 @@ fn a_failed_read_writes_nothing(rt: HostRuntime) {
     for kind in KINDS {
         for given in 0..=INPUT.len() {
             if let Some(given) = INPUT.get(..given) {
-                expect_nothing_written(&rt, rt.alloc(), given, kind);
+                assert!(rt; writes_nothing(rt.alloc(), given, kind));
             }
         }
     }
@@ -90,7 +86,7 @@ impl Write for FailsAfter {
     }
 }
 
-fn expect_prefix(rt: &impl Abort, alloc: Global, room: usize, kind: Option<io::ErrorKind>) {
+fn leaves_a_prefix(alloc: Global, room: usize, kind: Option<io::ErrorKind>) -> bool {
     let mut reader = Watched::new(INPUT);
     let mut writer = Watched::new(FailsAfter {
         taken: Vec::new(alloc),
@@ -99,12 +95,9 @@ fn expect_prefix(rt: &impl Abort, alloc: Global, room: usize, kind: Option<io::E
         calls: 0,
     });
     let result = run(alloc, &mut reader, "classz", &mut writer);
-    assert!(rt; matches!(&result, Err(RunError::Write)));
-    assert!(rt; !reader.failed());
-    assert!(rt; writer.failed());
+    let ended = matches!(&result, Err(RunError::Write)) && !reader.failed() && writer.failed();
     let end = writer.into_inner();
-    assert!(rt; Some(end.taken.as_slice()) == LINE.get(..room));
-    assert_eq!(rt; end.calls, room.saturating_add(1));
+    ended && Some(end.taken.as_slice()) == LINE.get(..room) && end.calls == room.saturating_add(1)
 }
 
 #[test]
@@ -112,7 +105,7 @@ fn a_failed_write_leaves_a_prefix(rt: HostRuntime) {
     let [interrupted, blocked, other] = KINDS;
     for kind in [Some(interrupted), Some(blocked), Some(other), None] {
         for room in 0..LINE.len() {
-            expect_prefix(&rt, rt.alloc(), room, kind);
+            assert!(rt; leaves_a_prefix(rt.alloc(), room, kind));
         }
     }
 }

@@ -1,23 +1,9 @@
 //! Bytes of every kind on the program's input: a run ends with a line and a status of its own.
 
-use lexdfa_lib::{Watched, run};
+use crate::shared::answered;
 use std::alloc::Global;
 use std::process::Abort;
 use std::test::Fail;
-
-// The status, and the line that was written.
-fn answered(
-    rt: &impl Abort,
-    alloc: Global,
-    input: &[u8],
-    text: &str,
-) -> Result<(u8, Vec<u8>), Fail> {
-    let mut reader = Watched::new(input);
-    let mut writer = Watched::new(Vec::new(alloc));
-    let outcome = run(alloc, &mut reader, text, &mut writer)?;
-    assert!(rt; !reader.failed() && !writer.failed());
-    Ok((outcome.status(), writer.into_inner()))
-}
 
 // What `0 l a` and a line feed are answered where this byte stands at this place, for the text `a`.
 fn wanted(place: usize, byte: u8) -> &'static [u8] {
@@ -38,20 +24,29 @@ fn wanted(place: usize, byte: u8) -> &'static [u8] {
     }
 }
 
+// The line `0 l a`, with this byte at this place.
+fn line_with(place: usize, byte: u8) -> [u8; 6] {
+    let mut line = *b"0 l a\n";
+    if let Some(there) = line.get_mut(place) {
+        *there = byte;
+    }
+    line
+}
+
+fn expect_wanted(rt: &impl Abort, alloc: Global, place: usize, byte: u8) -> Result<(), Fail> {
+    let (_, found) = answered(rt, alloc, &line_with(place, byte), "a")?;
+    assert!(rt;
+        found.as_slice() == wanted(place, byte),
+        "{byte} at {place}"
+    );
+    Ok(())
+}
+
 #[test]
 fn each_byte_at_each_place_of_a_line(rt: HostRuntime) -> Result<(), Fail> {
-    let alloc = rt.alloc();
     for place in 0..6 {
         for byte in 0..=255u8 {
-            let mut line = *b"0 l a\n";
-            if let Some(there) = line.get_mut(place) {
-                *there = byte;
-            }
-            let (_, found) = answered(&rt, alloc, &line, "a")?;
-            assert!(rt;
-                found.as_slice() == wanted(place, byte),
-                "{byte} at {place}"
-            );
+            expect_wanted(&rt, rt.alloc(), place, byte)?;
         }
     }
     Ok(())
@@ -110,19 +105,28 @@ fn status_of(line: &[u8]) -> Option<u8> {
     None
 }
 
+// The status of a run, where it is that of the line.
+fn known_status(rt: &impl Abort, alloc: Global, input: &[u8]) -> Result<u8, Fail> {
+    let (status, line) = answered(rt, alloc, input, "ab0 \u{e9}")?;
+    assert!(rt; status_of(&line) == Some(status), "{input:?}");
+    Ok(status)
+}
+
+fn drawn_status(rt: &impl Abort, alloc: Global, numbers: &mut Numbers) -> Result<u8, Fail> {
+    let input = drawn(alloc, numbers)?;
+    known_status(rt, alloc, &input)
+}
+
 #[test]
 fn bytes_of_every_kind(rt: HostRuntime) -> Result<(), Fail> {
-    let alloc = rt.alloc();
     let mut numbers = Numbers { state: 20_260_701 };
     let mut met = [0u32; 4];
     for _ in 0..4000 {
-        let input = drawn(alloc, &mut numbers)?;
-        let (status, line) = answered(&rt, alloc, &input, "ab0 \u{e9}")?;
-        assert!(rt; status_of(&line) == Some(status), "{input:?}");
+        let status = drawn_status(&rt, rt.alloc(), &mut numbers)?;
         if let Some(count) = met.get_mut(status as usize) {
             *count = count.saturating_add(1);
         }
     }
-    assert!(rt; met.iter().all(|count| *count > 9), "{met:?}");
+    assert!(rt; met.iter().all(|count| *count > 9));
     Ok(())
 }

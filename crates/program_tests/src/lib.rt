@@ -16,7 +16,7 @@ mod input;
 #[cfg(test)]
 mod longest;
 #[cfg(test)]
-mod rows;
+mod shared;
 #[cfg(test)]
 mod shy_kernel;
 #[cfg(test)]

@@ -1,56 +1,40 @@
 //! Lexers from patterns and from lines, and the tokens that they cut.
 
-use crate::rows::{bytes, halves};
-use lalrpop_lexer::lexer::dfa::Precedence;
-use lalrpop_lexer::lexer::re::{Regex, parse_literal, parse_regex};
+use crate::shared::{expect_same, precedences_of, trees_of};
 use std::alloc::{AllocError, Global};
+use std::fmt::Write;
 use std::process::Abort;
 use tokens_lib::{BuildError, Lexer, Token};
 
-fn words(rt: &impl Abort, alloc: Global) -> Result<Vec<Regex>, AllocError> {
-    let mut regexs = Vec::new(alloc);
-    regexs.push(parse_literal(alloc, "if").expect(rt, "a literal"))?;
-    regexs.push(parse_regex(alloc, "[a-z]+").expect(rt, "a pattern"))?;
-    regexs.push(parse_literal(alloc, " ").expect(rt, "a literal"))?;
-    Ok(regexs)
-}
-
-fn precedences(alloc: Global) -> Result<Vec<Precedence>, AllocError> {
-    let mut precedences = Vec::new(alloc);
-    for precedence in [1, 0, 0] {
-        precedences.push(Precedence(precedence))?;
-    }
-    Ok(precedences)
-}
+const WORDS: &[(usize, char, &str)] = &[(1, 'l', "if"), (0, 'r', "[a-z]+"), (0, 'l', " ")];
 
 fn lexer_of_words(rt: &impl Abort, alloc: Global) -> Lexer {
-    let regexs = words(rt, alloc).expect(rt, "memory");
-    let precedences = precedences(alloc).expect(rt, "memory");
-    assert!(rt; regexs.len() == precedences.len());
-    Lexer::new(alloc, regexs, precedences).expect(rt, "a lexer")
+    let trees = trees_of(alloc, WORDS).expect(rt, "trees");
+    let precedences = precedences_of(alloc, WORDS).expect(rt, "memory");
+    assert!(rt; trees.len() == precedences.len());
+    Lexer::new(alloc, trees, precedences).expect(rt, "a lexer")
 }
 
-// Each token in brackets, with the number of its pattern.
-fn bracketed(alloc: Global, tokens: &[Token<'_>]) -> Result<String, AllocError> {
-    let mut line = String::new(alloc);
-    for token in tokens {
-        let (index, slice) = (token.index.index(), token.slice);
-        line.push_str(format!(in alloc; "[{index} {slice}]")?.as_str())?;
-    }
-    Ok(line)
+// A token in brackets, with the number of its pattern.
+fn push_token(line: &mut String, token: &Token<'_>) -> Result<(), AllocError> {
+    let (index, slice) = (token.index.index(), token.slice);
+    write!(line, "[{index} {slice}]")
 }
 
 // The tokens, and the rest behind them.
 fn cut(alloc: Global, lexer: &Lexer, text: &str) -> Result<String, AllocError> {
+    let mut line = String::new(alloc);
     let cut = lexer.tokens(alloc, text)?;
-    let mut line = bracketed(alloc, &cut.tokens)?;
+    for token in &cut.tokens {
+        push_token(&mut line, token)?;
+    }
     line.push_str(cut.rest)?;
     Ok(line)
 }
 
 fn expect_cut(rt: &impl Abort, alloc: Global, lexer: &Lexer, text: &str, wanted: &str) {
     let line = cut(alloc, lexer, text).expect(rt, "memory");
-    assert_eq!(rt; line.as_str(), wanted);
+    expect_same(rt, &line, wanted);
 }
 
 #[test]
@@ -60,52 +44,49 @@ fn cuts_many_texts(rt: HostRuntime) {
     expect_cut(&rt, rt.alloc(), &lexer, "a1b", "[1 a]1b");
 }
 
-fn from_lines(alloc: Global, lines: &[u8]) -> Result<Lexer, BuildError> {
-    Lexer::from_lines(alloc, lines)
+// Why there is no lexer, and the status.
+fn told(alloc: Global, error: &BuildError) -> Result<String, AllocError> {
+    let status = error.status();
+    format!(in alloc; "{error}, {status}")
 }
 
-// Why the lines give no lexer, and the status.
-fn told(alloc: Global, lines: &[u8]) -> Result<String, AllocError> {
-    match from_lines(alloc, lines) {
+fn answer(alloc: Global, lines: &[u8]) -> Result<String, AllocError> {
+    match Lexer::from_lines(alloc, lines) {
         Ok(_) => String::from_str(alloc, "a lexer"),
-        Err(error) => {
-            let status = error.status();
-            format!(in alloc; "{error}, {status}")
-        }
+        Err(error) => told(alloc, &error),
     }
 }
 
-// A row `LINES => MESSAGE, STATUS`.
-fn expect_refused(rt: &impl Abort, alloc: Global, row: &str) {
-    let (lines, wanted) = halves(rt, row, " => ");
-    let lines = bytes(alloc, lines).expect(rt, "memory");
-    let line = told(alloc, &lines).expect(rt, "memory");
-    assert_eq!(rt; line.as_str(), wanted);
+fn expect_refused(rt: &impl Abort, alloc: Global, lines: &[u8], wanted: &str) {
+    let line = answer(alloc, lines).expect(rt, "memory");
+    expect_same(rt, &line, wanted);
 }
 
 #[test]
 fn lines_without_a_lexer_are_told(rt: HostRuntime) {
-    let table = "\
-0 l a;q; => line 1, 3
-0 r (; => syntax 0, 3
-0 l a;0 r \\ba; => refused 1 LookAround, 2
-0 l if;0 r [a-z]+; => ambiguous 1 0, 2";
-    let mut read = 0usize;
-    for row in table.lines() {
-        expect_refused(&rt, rt.alloc(), row);
-        read = read.saturating_add(1);
+    let rows: &[(&[u8], &str)] = &[
+        (b"0 l a\nq\n", "line 1, 3"),
+        (b"0 r (\n", "syntax 0, 3"),
+        (b"0 l a\n0 r \\ba\n", "refused 1 LookAround, 2"),
+        (b"0 l if\n0 r [a-z]+\n", "ambiguous 1 0, 2"),
+    ];
+    for (lines, wanted) in rows {
+        expect_refused(&rt, rt.alloc(), *lines, *wanted);
     }
-    assert_eq!(rt; read, 4);
+}
+
+// A lexer of two patterns, of which the first takes `if`.
+fn is_expected(lexer: &Lexer) -> bool {
+    match lexer.token("if x") {
+        Some(token) => {
+            lexer.regexs().len() == 2 && token.index.index() == 0 && token.slice == "if"
+        }
+        None => false,
+    }
 }
 
 #[test]
 fn lines_give_a_lexer(rt: HostRuntime) {
-    let lexer = from_lines(rt.alloc(), b"1 l if\n0 r [a-z]+\n").expect(&rt, "a lexer");
-    assert_eq!(rt; lexer.regexs().len(), 2);
-    let mut place = None;
-    if let Some(token) = lexer.token("if x") {
-        place = Some(token.index.index());
-        assert_eq!(rt; token.slice, "if");
-    }
-    assert_eq!(rt; place, Some(0));
+    let lexer = Lexer::from_lines(rt.alloc(), b"1 l if\n0 r [a-z]+\n").expect(&rt, "a lexer");
+    assert!(rt; is_expected(&lexer));
 }
