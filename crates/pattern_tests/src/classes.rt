@@ -2,7 +2,7 @@
 
 use lalrpop_hir::{ClassBytes, ClassBytesRange, ClassUnicode, ClassUnicodeRange};
 use std::alloc::{AllocError, Global};
-use std::test::Fail;
+use std::process::Abort;
 
 fn character_class(alloc: Global, ends: &[(char, char)]) -> Result<ClassUnicode, AllocError> {
     let mut ranges = Vec::new(alloc);
@@ -10,6 +10,138 @@ fn character_class(alloc: Global, ends: &[(char, char)]) -> Result<ClassUnicode,
         ranges.push(ClassUnicodeRange::new(*a, *b))?;
     }
     ClassUnicode::new(alloc, ranges)
+}
+
+// Whether the class has these runs and no others.
+fn has_runs(class: &ClassUnicode, ends: &[(char, char)]) -> bool {
+    class.ranges().len() == ends.len()
+        && class.ranges().iter().zip(ends).all(|(range, (start, end))| range.start() == *start
+            && range.end() == *end)
+}
+
+#[derive(Clone, Copy)]
+enum Operation {
+    Nothing,
+    Complement,
+    Union,
+    Intersection,
+    Difference,
+    SymmetricDifference,
+}
+
+// What the other operand of an operation has.
+const RIGHT: &[(char, char)] = &[('d', 'n'), ('\u{D7FE}', '\u{D7FF}')];
+
+fn result(
+    alloc: Global,
+    operation: Operation,
+    left: &ClassUnicode,
+    right: &ClassUnicode,
+) -> Result<ClassUnicode, AllocError> {
+    match operation {
+        Operation::Nothing => left.clone(),
+        Operation::Complement => left.complement(alloc),
+        Operation::Union => left.union(alloc, right),
+        Operation::Intersection => left.intersection(alloc, right),
+        Operation::Difference => left.difference(alloc, right),
+        Operation::SymmetricDifference => left.symmetric_difference(alloc, right),
+    }
+}
+
+fn made(
+    alloc: Global,
+    operation: Operation,
+    left: &[(char, char)],
+) -> Result<ClassUnicode, AllocError> {
+    let left = character_class(alloc, left)?;
+    let right = character_class(alloc, RIGHT)?;
+    result(alloc, operation, &left, &right)
+}
+
+fn makes(
+    alloc: Global,
+    operation: Operation,
+    left: &[(char, char)],
+    runs: &[(char, char)],
+) -> bool {
+    match made(alloc, operation, left) {
+        Ok(class) => has_runs(&class, runs),
+        Err(_) => false,
+    }
+}
+
+// Rows of an operation, what its operand is made of, and the runs of the result.
+fn expect(rt: &impl Abort, alloc: Global, rows: &[(Operation, &[(char, char)], &[(char, char)])]) {
+    for (operation, left, runs) in rows {
+        assert!(rt; makes(alloc, *operation, *left, *runs));
+    }
+}
+
+#[test]
+fn classes_of_characters_keep_runs(rt: HostRuntime) {
+    expect(
+        &rt,
+        rt.alloc(),
+        &[
+            (Operation::Nothing, &[], &[]),
+            (Operation::Nothing, &[('z', 'a')], &[('a', 'z')]),
+            (
+                Operation::Nothing,
+                &[('\u{E000}', '\u{10FFFF}'), ('\0', '\u{D7FF}')],
+                &[('\0', '\u{10FFFF}')],
+            ),
+            (
+                Operation::Nothing,
+                &[('\u{D700}', '\u{D7FF}')],
+                &[('\u{D700}', '\u{D7FF}')],
+            ),
+        ],
+    )
+}
+
+const LEFT: &[(char, char)] = &[('a', 'f'), ('m', 'p'), ('\u{E000}', '\u{E005}')];
+
+#[test]
+fn classes_of_characters_are_joined_and_cut(rt: HostRuntime) {
+    expect(
+        &rt,
+        rt.alloc(),
+        &[
+            (
+                Operation::Union,
+                LEFT,
+                &[('a', 'p'), ('\u{D7FE}', '\u{E005}')],
+            ),
+            (Operation::Intersection, LEFT, &[('d', 'f'), ('m', 'n')]),
+            (
+                Operation::Difference,
+                LEFT,
+                &[('a', 'c'), ('o', 'p'), ('\u{E000}', '\u{E005}')],
+            ),
+            (
+                Operation::SymmetricDifference,
+                LEFT,
+                &[('a', 'c'), ('g', 'l'), ('o', 'p'), ('\u{D7FE}', '\u{E005}')],
+            ),
+        ],
+    )
+}
+
+#[test]
+fn classes_of_characters_are_turned_round(rt: HostRuntime) {
+    expect(
+        &rt,
+        rt.alloc(),
+        &[
+            (
+                Operation::Complement,
+                RIGHT,
+                &[('\0', 'c'), ('o', '\u{D7FD}'), ('\u{E000}', '\u{10FFFF}')],
+            ),
+            (Operation::Complement, &[], &[('\0', '\u{10FFFF}')]),
+            (Operation::Complement, &[('\0', '\u{10FFFF}')], &[]),
+        ],
+    )
 }
 
 fn byte_class(alloc: Global, ends: &[(u8, u8)]) -> Result<ClassBytes, AllocError> {
@@ -20,100 +152,30 @@ fn byte_class(alloc: Global, ends: &[(u8, u8)]) -> Result<ClassBytes, AllocError
     ClassBytes::new(alloc, ranges)
 }
 
-// Whether the class has these runs and no others.
-fn has_runs(class: &ClassUnicode, ends: &[(char, char)]) -> bool {
-    class.ranges().len() == ends.len()
-        && class.ranges().iter().zip(ends).all(|(range, (start, end))| range.start() == *start
-            && range.end() == *end)
-}
-
-#[test]
-fn classes_of_characters_keep_runs(rt: HostRuntime) -> Result<(), Fail> {
-    let cases: [(&[(char, char)], &[(char, char)]); 4] = [
-        (&[], &[]),
-        (&[('z', 'a')], &[('a', 'z')]),
-        (
-            &[('\u{E000}', '\u{10FFFF}'), ('\0', '\u{D7FF}')],
-            &[('\0', '\u{10FFFF}')],
-        ),
-        (&[('\u{D700}', '\u{D7FF}')], &[('\u{D700}', '\u{D7FF}')]),
-    ];
-    for (given, kept) in cases {
-        let class = character_class(rt.alloc(), given)?;
-        assert!(rt; has_runs(&class, kept));
+// Whether the class has this one run, or no run.
+fn has_run(class: &ClassBytes, run: Option<(u8, u8)>) -> bool {
+    match (class.ranges(), run) {
+        ([], None) => true,
+        ([range], Some((start, end))) => range.start() == start && range.end() == end,
+        _ => false,
     }
-    Ok(())
 }
 
-fn left(alloc: Global) -> Result<ClassUnicode, AllocError> {
-    character_class(alloc, &[('a', 'f'), ('m', 'p'), ('\u{E000}', '\u{E005}')])
-}
-
-fn right(alloc: Global) -> Result<ClassUnicode, AllocError> {
-    character_class(alloc, &[('d', 'n'), ('\u{D7FE}', '\u{D7FF}')])
-}
-
-#[test]
-fn classes_of_characters_are_joined_and_cut(rt: HostRuntime) -> Result<(), Fail> {
-    let alloc = rt.alloc();
-    let (left, right) = (left(alloc)?, right(alloc)?);
-    let union = left.union(alloc, &right)?;
-    assert!(rt; has_runs(&union, &[('a', 'p'), ('\u{D7FE}', '\u{E005}')]));
-    let intersection = left.intersection(alloc, &right)?;
-    assert!(rt; has_runs(&intersection, &[('d', 'f'), ('m', 'n')]));
-    Ok(())
-}
-
-#[test]
-fn classes_of_characters_are_taken_from_one_another(rt: HostRuntime) -> Result<(), Fail> {
-    let alloc = rt.alloc();
-    let (left, right) = (left(alloc)?, right(alloc)?);
-    let difference = left.difference(alloc, &right)?;
-    assert!(rt;
-        has_runs(
-            &difference,
-            &[('a', 'c'), ('o', 'p'), ('\u{E000}', '\u{E005}')]
-        )
-    );
-    let either = left.symmetric_difference(alloc, &right)?;
-    assert!(rt;
-        has_runs(
-            &either,
-            &[('a', 'c'), ('g', 'l'), ('o', 'p'), ('\u{D7FE}', '\u{E005}')]
-        )
-    );
-    Ok(())
-}
-
-#[test]
-fn classes_of_characters_are_turned_round(rt: HostRuntime) -> Result<(), Fail> {
-    let alloc = rt.alloc();
-    let others = right(alloc)?.complement(alloc)?;
-    assert!(rt;
-        has_runs(
-            &others,
-            &[('\0', 'c'), ('o', '\u{D7FD}'), ('\u{E000}', '\u{10FFFF}')]
-        )
-    );
-    let all = character_class(alloc, &[])?.complement(alloc)?;
-    assert!(rt; has_runs(&all, &[('\0', '\u{10FFFF}')]));
-    assert!(rt; has_runs(&all.complement(alloc)?, &[]));
-    Ok(())
-}
-
-#[test]
-fn classes_of_bytes_keep_runs(rt: HostRuntime) -> Result<(), Fail> {
-    let cases: [(&[(u8, u8)], &[(u8, u8)]); 3] = [
-        (&[], &[]),
-        (&[(255, 200)], &[(200, 255)]),
-        (&[(6, 9), (5, 7), (10, 10)], &[(5, 10)]),
-    ];
-    for (given, kept) in cases {
-        let class = byte_class(rt.alloc(), given)?;
-        assert_eq!(rt; class.ranges().len(), kept.len());
-        for (range, (start, end)) in class.ranges().iter().zip(kept) {
-            assert!(rt; range.start() == *start && range.end() == *end);
-        }
+fn keeps(alloc: Global, ends: &[(u8, u8)], run: Option<(u8, u8)>) -> bool {
+    match byte_class(alloc, ends) {
+        Ok(class) => has_run(&class, run),
+        Err(_) => false,
     }
-    Ok(())
+}
+
+#[test]
+fn classes_of_bytes_keep_runs(rt: HostRuntime) {
+    let rows: &[(&[(u8, u8)], Option<(u8, u8)>)] = &[
+        (&[], None),
+        (&[(255, 200)], Some((200, 255))),
+        (&[(6, 9), (5, 7), (10, 10)], Some((5, 10))),
+    ];
+    for (ends, run) in rows {
+        assert!(rt; keeps(rt.alloc(), *ends, *run));
+    }
 }

@@ -1,11 +1,18 @@
 //! The pattern that stands for a text.
 
 use lalrpop_re::escape;
-use std::test::Fail;
+use std::alloc::Global;
+
+fn is_escaped_as(alloc: Global, text: &str, pattern: &str) -> bool {
+    match escape(alloc, text) {
+        Ok(escaped) => escaped.as_str() == pattern,
+        Err(_) => false,
+    }
+}
 
 #[test]
-fn escape_puts_a_backslash_before_each_of_eighteen_characters(rt: HostRuntime) -> Result<(), Fail> {
-    let rows = [
+fn escape_puts_a_backslash_before_each_of_eighteen_characters(rt: HostRuntime) {
+    let rows: &[(&str, &str)] = &[
         ("", ""),
         ("a+b#c", "a\\+b\\#c"),
         ("é-", "é\\-"),
@@ -15,8 +22,6 @@ fn escape_puts_a_backslash_before_each_of_eighteen_characters(rt: HostRuntime) -
         ),
     ];
     for (text, pattern) in rows {
-        let escaped = escape(rt.alloc(), text)?;
-        assert_eq!(rt; escaped.as_str(), pattern);
+        assert!(rt; is_escaped_as(rt.alloc(), *text, *pattern));
     }
-    Ok(())
 }

@@ -1,15 +1,14 @@
 //! What patterns are read as, and where and why others are refused.
 
-use lalrpop_re::{Class, ClassUnicode, Hir, HirKind, Look, RegexError, SyntaxKind, parse_regex};
+use lalrpop_re::{Class, ClassUnicode, Hir, HirKind, RegexError, Repetition, parse_regex};
 use std::alloc::{AllocError, Global};
 use std::fmt::Write;
 use std::process::Abort;
-use std::test::Fail;
 
 // Characters past ASCII and controls by their codes.
 fn show_character(out: &mut String, c: char) -> Result<(), AllocError> {
     if c.is_ascii_graphic() {
-        write!(out, "{c}")
+        out.push(c)
     } else {
         write!(out, "U+{:04X}", c as u32)
     }
@@ -30,6 +29,32 @@ fn show_class(out: &mut String, class: &ClassUnicode) -> Result<(), AllocError> 
     out.push_str("]")
 }
 
+fn show_between(out: &mut String, open: &str, text: &str, close: &str) -> Result<(), AllocError> {
+    out.push_str(open)?;
+    out.push_str(text)?;
+    out.push_str(close)
+}
+
+// The kinds of tree that have no tree in them: literals in quotes, classes by their runs.
+fn show_leaf(out: &mut String, leaf: &HirKind) -> Result<(), AllocError> {
+    match leaf {
+        HirKind::Literal(literal) => show_between(out, "'", literal.as_str(), "'"),
+        HirKind::Class(Class::Unicode(class)) => show_class(out, class),
+        HirKind::Class(Class::Bytes(_)) => out.push_str("bytes"),
+        HirKind::Look(look) => write!(out, "{look:?}"),
+        _ => out.push_str("empty"),
+    }
+}
+
+fn show_counts(out: &mut String, turns: &Repetition) -> Result<(), AllocError> {
+    let min = turns.min();
+    write!(out, "{{{min},")?;
+    if let Some(max) = turns.max() {
+        write!(out, "{max}")?;
+    }
+    out.push_str(if turns.greedy() { "}" } else { "}?" })
+}
+
 #[cycle(show)]
 fn show_all(out: &mut String, subs: &[Hir], between: &str) -> Result<(), AllocError> {
     out.push_str("(")?;
@@ -42,61 +67,59 @@ fn show_all(out: &mut String, subs: &[Hir], between: &str) -> Result<(), AllocEr
     out.push_str(")")
 }
 
-// A tree on one line: literals in quotes, classes by their runs, parts in parentheses.
+// A tree on one line, with the parts of rows and choices in parentheses.
 #[cycle(show)]
 fn show(out: &mut String, tree: &Hir) -> Result<(), AllocError> {
     match tree.kind() {
-        HirKind::Empty => out.push_str("empty"),
-        HirKind::Literal(literal) => {
-            let text = literal.as_str();
-            write!(out, "'{text}'")
-        }
-        HirKind::Class(Class::Unicode(class)) => show_class(out, class),
-        HirKind::Class(Class::Bytes(_)) => out.push_str("bytes"),
-        HirKind::Look(look) => write!(out, "{look:?}"),
-        HirKind::Repetition(r) => {
-            show(out, r.sub())?;
-            let min = r.min();
-            match r.max() {
-                Some(max) => write!(out, "{{{min},{max}}}")?,
-                None => write!(out, "{{{min},}}")?,
-            }
-            if r.greedy() {
-                Ok(())
-            } else {
-                out.push_str("?")
-            }
+        HirKind::Repetition(turns) => {
+            show(out, turns.sub())?;
+            show_counts(out, turns)
         }
         HirKind::Capture(group) => {
-            let name = group.name().unwrap_or("");
-            write!(out, "<{name}:")?;
+            show_between(out, "<", group.name().unwrap_or(""), ":")?;
             show(out, group.sub())?;
             out.push_str(">")
         }
         HirKind::Concat(subs) => show_all(out, subs, " "),
         HirKind::Alternation(subs) => show_all(out, subs, "|"),
+        leaf => show_leaf(out, leaf),
     }
 }
 
-fn shown(alloc: Global, pattern: &str) -> Result<String, RegexError> {
-    let tree = parse_regex(alloc, pattern)?;
+fn shown(alloc: Global, tree: &Hir) -> Result<String, AllocError> {
     let mut out = String::new(alloc);
-    show(&mut out, &tree)?;
+    show(&mut out, tree)?;
     Ok(out)
 }
 
-fn expect_tree(rt: &(impl AllocGlobal + Abort), rows: &[(&str, &str)]) -> Result<(), Fail> {
-    for (pattern, tree) in rows {
-        let found = shown(rt.alloc(), *pattern)?;
-        assert_eq!(rt; found.as_str(), *tree, "for {pattern}");
+// The tree that a pattern is read as, or the place and the kind of its refusal.
+fn answer(alloc: Global, pattern: &str) -> Result<String, AllocError> {
+    match parse_regex(alloc, pattern) {
+        Ok(tree) => shown(alloc, &tree),
+        Err(RegexError::Syntax { position, kind }) => {
+            format!(in alloc; "refused {position} {kind:?}")
+        }
+        Err(RegexError::OutOfMemory) => Err(AllocError),
+    }
+}
+
+fn expect_same(rt: &impl Abort, found: &str, wanted: &str) {
+    assert_eq!(rt; found, wanted);
+}
+
+// Rows of a pattern and its answer.
+fn expect(rt: &impl Abort, alloc: Global, rows: &[(&str, &str)]) -> Result<(), AllocError> {
+    for (pattern, wanted) in rows {
+        expect_same(rt, &answer(alloc, *pattern)?, *wanted);
     }
     Ok(())
 }
 
 #[test]
-fn expressions(rt: HostRuntime) -> Result<(), Fail> {
-    expect_tree(
+fn expressions(rt: HostRuntime) -> Result<(), AllocError> {
+    expect(
         &rt,
+        rt.alloc(),
         &[
             ("", "empty"),
             ("a", "'a'"),
@@ -115,9 +138,10 @@ fn expressions(rt: HostRuntime) -> Result<(), Fail> {
 }
 
 #[test]
-fn operators(rt: HostRuntime) -> Result<(), Fail> {
-    expect_tree(
+fn operators(rt: HostRuntime) -> Result<(), AllocError> {
+    expect(
         &rt,
+        rt.alloc(),
         &[
             ("a?", "'a'{0,1}"),
             ("a*?", "'a'{0,}?"),
@@ -131,14 +155,16 @@ fn operators(rt: HostRuntime) -> Result<(), Fail> {
             ("((?U)a*)a*", "(<:'a'{0,}?> 'a'{0,})"),
             ("a{4294967295}", "'a'{4294967295,4294967295}"),
             ("\\b{2}", "WordUnicode{2,2}"),
+            ("a{0000000000000000000000000000007}", "'a'{7,7}"),
         ],
     )
 }
 
 #[test]
-fn escapes(rt: HostRuntime) -> Result<(), Fail> {
-    expect_tree(
+fn escapes(rt: HostRuntime) -> Result<(), AllocError> {
+    expect(
         &rt,
+        rt.alloc(),
         &[
             ("\\x41\\u0041\\U00000041", "('A' 'A' 'A')"),
             ("\\x{41}\\u{0000000041}", "('A' 'A')"),
@@ -160,9 +186,10 @@ fn escapes(rt: HostRuntime) -> Result<(), Fail> {
 }
 
 #[test]
-fn brackets(rt: HostRuntime) -> Result<(), Fail> {
-    expect_tree(
+fn brackets(rt: HostRuntime) -> Result<(), AllocError> {
+    expect(
         &rt,
+        rt.alloc(),
         &[
             ("[]a]", "[] a]"),
             ("[]-a]", "[- ] a]"),
@@ -180,9 +207,10 @@ fn brackets(rt: HostRuntime) -> Result<(), Fail> {
 }
 
 #[test]
-fn set_operators_and_named_sets(rt: HostRuntime) -> Result<(), Fail> {
-    expect_tree(
+fn set_operators_and_named_sets(rt: HostRuntime) -> Result<(), AllocError> {
+    expect(
         &rt,
+        rt.alloc(),
         &[
             ("[a--b]", "[a]"),
             ("[a-d--b]", "[a c..d]"),
@@ -202,9 +230,10 @@ fn set_operators_and_named_sets(rt: HostRuntime) -> Result<(), Fail> {
 }
 
 #[test]
-fn folding(rt: HostRuntime) -> Result<(), Fail> {
-    expect_tree(
+fn folding(rt: HostRuntime) -> Result<(), AllocError> {
+    expect(
         &rt,
+        rt.alloc(),
         &[
             ("(?i)k", "[K k U+212A]"),
             ("(?i)s", "[S s U+017F]"),
@@ -218,107 +247,102 @@ fn folding(rt: HostRuntime) -> Result<(), Fail> {
     )
 }
 
-fn refusal(
-    rt: &(impl AllocGlobal + Abort),
-    pattern: &str,
-) -> Result<Option<(usize, SyntaxKind)>, Fail> {
-    match parse_regex(rt.alloc(), pattern) {
-        Ok(_) => Ok(None),
-        Err(RegexError::Syntax { position, kind }) => Ok(Some((position, kind))),
-        Err(RegexError::OutOfMemory) => Err(AllocError.into()),
-    }
-}
-
-fn expect_refusal(
-    rt: &(impl AllocGlobal + Abort),
-    rows: &[(&str, usize, SyntaxKind)],
-) -> Result<(), Fail> {
-    for (pattern, position, kind) in rows {
-        assert_eq!(rt;
-            refusal(rt, *pattern)?,
-            Some((*position, *kind)),
-            "for {pattern}"
-        );
-    }
-    Ok(())
-}
-
 // Each kind, and the place that a user would look at, in bytes.
 #[test]
-fn groups_are_refused(rt: HostRuntime) -> Result<(), Fail> {
-    expect_refusal(
+fn groups_are_refused(rt: HostRuntime) -> Result<(), AllocError> {
+    expect(
         &rt,
+        rt.alloc(),
         &[
-            ("é(a", 2, SyntaxKind::UnclosedGroup),
-            ("a(b(c)", 1, SyntaxKind::UnclosedGroup),
-            ("a)", 1, SyntaxKind::UnopenedGroup),
-            ("(?x)a", 2, SyntaxKind::Flag),
-            ("(?)", 0, SyntaxKind::Flag),
-            ("(?ii)a", 0, SyntaxKind::Flag),
-            ("(?i-i)a", 0, SyntaxKind::Flag),
-            ("(?-)", 0, SyntaxKind::Flag),
-            ("(?-u)a", 0, SyntaxKind::Flag),
-            ("(?P<>x)", 0, SyntaxKind::GroupName),
-            ("(?P<1>x)", 0, SyntaxKind::GroupName),
-            ("(?P<a>x)|(?<a>y)", 9, SyntaxKind::GroupName),
-            ("a(?=b)", 1, SyntaxKind::UnsupportedLookAround),
-            ("(?<!b)", 0, SyntaxKind::UnsupportedLookAround),
+            ("é(a", "refused 2 UnclosedGroup"),
+            ("a(b(c)", "refused 1 UnclosedGroup"),
+            ("a)", "refused 1 UnopenedGroup"),
+            ("(?x)a", "refused 2 Flag"),
+            ("(?)", "refused 0 Flag"),
+            ("(?ii)a", "refused 0 Flag"),
+            ("(?i-i)a", "refused 0 Flag"),
+            ("(?-)", "refused 0 Flag"),
+            ("(?-u)a", "refused 0 Flag"),
+            ("(?P<>x)", "refused 0 GroupName"),
+            ("(?P<1>x)", "refused 0 GroupName"),
+            ("(?P<a>x)|(?<a>y)", "refused 9 GroupName"),
+            ("a(?=b)", "refused 1 UnsupportedLookAround"),
+            ("(?<!b)", "refused 0 UnsupportedLookAround"),
         ],
     )
 }
 
 #[test]
-fn operators_are_refused(rt: HostRuntime) -> Result<(), Fail> {
-    expect_refusal(
+fn operators_are_refused(rt: HostRuntime) -> Result<(), AllocError> {
+    expect(
         &rt,
+        rt.alloc(),
         &[
-            ("*a", 0, SyntaxKind::RepetitionMissing),
-            ("a|+", 2, SyntaxKind::RepetitionMissing),
-            ("(?i)*", 4, SyntaxKind::RepetitionMissing),
-            ("a{2,1}", 1, SyntaxKind::RepetitionCount),
-            ("a{2, }", 5, SyntaxKind::RepetitionCount),
-            ("a{,3}", 2, SyntaxKind::RepetitionCount),
-            ("a{", 2, SyntaxKind::RepetitionCount),
-            ("a{4294967296}", 2, SyntaxKind::RepetitionCount),
+            ("*a", "refused 0 RepetitionMissing"),
+            ("a|+", "refused 2 RepetitionMissing"),
+            ("(?i)*", "refused 4 RepetitionMissing"),
+            ("a{2,1}", "refused 1 RepetitionCount"),
+            ("a{2, }", "refused 5 RepetitionCount"),
+            ("a{,3}", "refused 2 RepetitionCount"),
+            ("a{", "refused 2 RepetitionCount"),
+            ("a{4294967296}", "refused 2 RepetitionCount"),
+            (
+                "a{9999999999999999999999999999999}",
+                "refused 2 RepetitionCount",
+            ),
         ],
     )
 }
 
 #[test]
-fn brackets_are_refused(rt: HostRuntime) -> Result<(), Fail> {
-    expect_refusal(
+fn brackets_are_refused(rt: HostRuntime) -> Result<(), AllocError> {
+    expect(
         &rt,
+        rt.alloc(),
         &[
-            ("x[a", 1, SyntaxKind::UnclosedClass),
-            ("[]", 0, SyntaxKind::UnclosedClass),
-            ("[^]", 0, SyntaxKind::UnclosedClass),
-            ("[b-a]", 1, SyntaxKind::ClassRangeInvalid),
-            ("[a-&&b]", 1, SyntaxKind::ClassRangeInvalid),
-            ("[\\d-x]", 1, SyntaxKind::ClassRangeLiteral),
-            ("[a-\\d]", 3, SyntaxKind::ClassRangeLiteral),
-            ("[\\b]", 1, SyntaxKind::ClassEscapeInvalid),
+            ("x[a", "refused 1 UnclosedClass"),
+            ("[]", "refused 0 UnclosedClass"),
+            ("[^]", "refused 0 UnclosedClass"),
+            ("[b-a]", "refused 1 ClassRangeInvalid"),
+            ("[a-&&b]", "refused 1 ClassRangeInvalid"),
+            ("[\\d-x]", "refused 1 ClassRangeLiteral"),
+            ("[a-\\d]", "refused 3 ClassRangeLiteral"),
+            ("[\\b]", "refused 1 ClassEscapeInvalid"),
         ],
     )
 }
 
 #[test]
-fn escapes_are_refused(rt: HostRuntime) -> Result<(), Fail> {
-    expect_refusal(
+fn escapes_are_refused(rt: HostRuntime) -> Result<(), AllocError> {
+    expect(
         &rt,
+        rt.alloc(),
         &[
-            ("a\\", 1, SyntaxKind::EscapeUnexpectedEof),
-            ("\\y", 0, SyntaxKind::EscapeUnrecognized),
-            ("é\\é", 2, SyntaxKind::EscapeUnrecognized),
-            ("\\x{D800}", 2, SyntaxKind::EscapeHex),
-            ("\\x4", 2, SyntaxKind::EscapeHex),
-            ("\\x{}", 2, SyntaxKind::EscapeHex),
-            ("\\p{nosuchset}", 2, SyntaxKind::UnicodeSetUnknown),
-            ("\\1", 0, SyntaxKind::UnsupportedBackreference),
+            ("a\\", "refused 1 EscapeUnexpectedEof"),
+            ("\\y", "refused 0 EscapeUnrecognized"),
+            ("é\\é", "refused 2 EscapeUnrecognized"),
+            ("\\x{D800}", "refused 2 EscapeHex"),
+            ("\\x4", "refused 2 EscapeHex"),
+            ("\\x{}", "refused 2 EscapeHex"),
+            ("\\p{nosuchset}", "refused 2 UnicodeSetUnknown"),
+            ("\\1", "refused 0 UnsupportedBackreference"),
         ],
     )
 }
 
-// `inner` with `open` in front and `close` behind, so many times.
+#[test]
+fn flags_in_another_order_and_strange_characters(rt: HostRuntime) -> Result<(), AllocError> {
+    expect(
+        &rt,
+        rt.alloc(),
+        &[
+            ("(?smUiu)a", "[A a]"),
+            ("\0", "'\0'"),
+            ("\u{1F600}", "'\u{1F600}'"),
+        ],
+    )
+}
+
 fn push_times(pattern: &mut String, part: &str, times: u32) -> Result<(), AllocError> {
     for _ in 0..times {
         pattern.push_str(part)?;
@@ -326,6 +350,7 @@ fn push_times(pattern: &mut String, part: &str, times: u32) -> Result<(), AllocE
     Ok(())
 }
 
+// `inner` with `open` in front and `close` behind, so many times.
 fn nested(
     alloc: Global,
     open: &str,
@@ -340,10 +365,44 @@ fn nested(
     Ok(pattern)
 }
 
+fn answer_to_nested(
+    alloc: Global,
+    open: &str,
+    inner: &str,
+    close: &str,
+    times: u32,
+) -> Result<String, AllocError> {
+    let pattern = nested(alloc, open, inner, close, times)?;
+    answer(alloc, &pattern)
+}
+
+// Whether the text is a pattern, as it should be, or is refused, as it should be, at a place of its own.
+fn is_answered(alloc: Global, text: &str, is_pattern: bool) -> bool {
+    match parse_regex(alloc, text) {
+        Ok(_) => is_pattern,
+        Err(RegexError::Syntax { position, .. }) => !is_pattern && text.is_char_boundary(position),
+        Err(RegexError::OutOfMemory) => false,
+    }
+}
+
+fn is_nested_pattern(alloc: Global, open: &str, inner: &str, close: &str, times: u32) -> bool {
+    match nested(alloc, open, inner, close, times) {
+        Ok(pattern) => is_answered(alloc, &pattern, true),
+        Err(_) => false,
+    }
+}
+
+fn is_too_deep(alloc: Global, open: &str, inner: &str, close: &str, times: u32) -> bool {
+    match answer_to_nested(alloc, open, inner, close, times) {
+        Ok(answer) => answer.ends_with(" NestLimitExceeded"),
+        Err(_) => false,
+    }
+}
+
 // A place may be inside 250 groups, brackets and repetitions.
 #[test]
-fn levels(rt: HostRuntime) -> Result<(), Fail> {
-    let rows = [
+fn levels(rt: HostRuntime) {
+    let rows: &[(&str, &str, &str, u32)] = &[
         ("(", "", ")", 250),
         ("(?:", "a", ")", 250),
         ("[", "a", "]", 250),
@@ -352,95 +411,52 @@ fn levels(rt: HostRuntime) -> Result<(), Fail> {
         ("(?i:(", "[a]", ")+)", 83),
     ];
     for (open, inner, close, most) in rows {
-        let deep = nested(rt.alloc(), open, inner, close, most)?;
-        assert_eq!(rt;
-            refusal(&rt, &deep)?,
-            None,
-            "for {most} times {open}{close}"
-        );
-        let deeper = nested(rt.alloc(), open, inner, close, most + 1)?;
-        assert!(rt;
-            matches!(
-                refusal(&rt, &deeper)?,
-                Some((_, SyntaxKind::NestLimitExceeded))
-            ),
-            "for {open}{close}"
-        );
+        let more = most.saturating_add(1);
+        assert!(rt; is_nested_pattern(rt.alloc(), *open, *inner, *close, *most));
+        assert!(rt; is_too_deep(rt.alloc(), *open, *inner, *close, more));
     }
-    let brackets = nested(rt.alloc(), "[", "a", "]", 250)?;
-    expect_tree(&rt, &[(brackets.as_str(), "[a]")])
 }
 
-// Two patterns, and the lengths in bytes of their prefixes that are patterns themselves.
 #[test]
-fn prefixes_of_patterns(rt: HostRuntime) -> Result<(), Fail> {
-    let rows: [(&str, &[usize]); 2] = [
-        ("a{2,3}|[b-d]*", &[0, 1, 6, 7, 12, 13]),
-        ("(?i:a{2,3}[b-d])", &[0, 16]),
-    ];
-    for (pattern, patterns) in rows {
-        assert!(rt; patterns.contains(&pattern.len()));
-        for length in 0..=pattern.len() {
-            if let Some(prefix) = pattern.get(..length) {
-                let refused = refusal(&rt, prefix)?;
-                assert_eq!(rt;
-                    refused.is_none(),
-                    patterns.contains(&length),
-                    "for {prefix}"
-                );
-                let place = refused.map_or(0, |(position, _)| position);
-                assert!(rt; prefix.is_char_boundary(place), "for {prefix}");
-            }
+fn brackets_in_brackets(rt: HostRuntime) -> Result<(), AllocError> {
+    let answer = answer_to_nested(rt.alloc(), "[", "a", "]", 250)?;
+    expect_same(&rt, &answer, "[a]");
+    Ok(())
+}
+
+// The prefixes that are patterns are given by their lengths in bytes, the whole among them.
+fn expect_prefixes(rt: &impl Abort, alloc: Global, pattern: &str, patterns: &[usize]) {
+    assert!(rt; patterns.contains(&pattern.len()));
+    for length in 0..=pattern.len() {
+        if let Some(prefix) = pattern.get(..length) {
+            assert!(rt; is_answered(alloc, prefix, patterns.contains(&length)));
         }
     }
-    Ok(())
 }
 
 #[test]
-fn flags_in_another_order_and_strange_characters(rt: HostRuntime) -> Result<(), Fail> {
-    expect_tree(
-        &rt,
-        &[
-            ("(?smUiu)a", "[A a]"),
-            ("\0", "'\0'"),
-            ("\u{1F600}", "'\u{1F600}'"),
-        ],
-    )
+fn prefixes_of_patterns(rt: HostRuntime) {
+    let alloc = rt.alloc();
+    expect_prefixes(&rt, alloc, "a{2,3}|[b-d]*", &[0, 1, 6, 7, 12, 13]);
+    expect_prefixes(&rt, alloc, "(?i:a{2,3}[b-d])", &[0, 16]);
 }
 
-// `a` with a count of 31 characters.
-fn counted(alloc: Global, digit: &str, last: &str) -> Result<String, AllocError> {
-    let digits = nested(alloc, digit, last, "", 30)?;
-    format!(in alloc; "a{{{digits}}}")
-}
-
-#[test]
-fn a_long_count_of_zeros(rt: HostRuntime) -> Result<(), Fail> {
-    let pattern = counted(rt.alloc(), "0", "7")?;
-    expect_tree(&rt, &[(pattern.as_str(), "'a'{7,7}")])
-}
-
-#[test]
-fn a_long_count_of_nines(rt: HostRuntime) -> Result<(), Fail> {
-    let pattern = counted(rt.alloc(), "9", "9")?;
-    expect_refusal(&rt, &[(pattern.as_str(), 2, SyntaxKind::RepetitionCount)])
-}
-
-fn group_with_a_long_name(alloc: Global) -> Result<String, AllocError> {
+// So many groups of one name.
+fn groups_with_a_long_name(alloc: Global, groups: u32) -> Result<String, AllocError> {
     let name = nested(alloc, "n", "", "", 100_000)?;
-    format!(in alloc; "(?<{name}>a)")
+    let group = format!(in alloc; "(?<{name}>a)")?;
+    nested(alloc, &group, "", "", groups)
 }
 
 #[test]
-fn a_long_name(rt: HostRuntime) -> Result<(), Fail> {
-    let group = group_with_a_long_name(rt.alloc())?;
-    assert!(rt; refusal(&rt, &group)?.is_none());
+fn a_long_name(rt: HostRuntime) -> Result<(), AllocError> {
+    let group = groups_with_a_long_name(rt.alloc(), 1)?;
+    assert!(rt; is_answered(rt.alloc(), &group, true));
     Ok(())
 }
 
 #[test]
-fn a_long_name_twice(rt: HostRuntime) -> Result<(), Fail> {
-    let mut groups = group_with_a_long_name(rt.alloc())?;
-    groups.push_str(&group_with_a_long_name(rt.alloc())?)?;
-    expect_refusal(&rt, &[(groups.as_str(), 100_006, SyntaxKind::GroupName)])
+fn a_long_name_twice(rt: HostRuntime) -> Result<(), AllocError> {
+    let groups = groups_with_a_long_name(rt.alloc(), 2)?;
+    expect(&rt, rt.alloc(), &[(&groups, "refused 100006 GroupName")])
 }

@@ -2,7 +2,7 @@
 
 use lalrpop_hir::ClassUnicode;
 use lalrpop_sets::{fold, named_set, posix_class, range_class, words};
-use std::test::Fail;
+use std::alloc::{AllocError, Global};
 
 fn has(class: &ClassUnicode, c: char) -> bool {
     class
@@ -11,32 +11,57 @@ fn has(class: &ClassUnicode, c: char) -> bool {
         .any(|range| range.start() <= c && c <= range.end())
 }
 
-#[test]
-fn sets_have_their_members(rt: HostRuntime) -> Result<(), Fail> {
-    let alloc = rt.alloc();
-    let word = words(alloc)?;
-    assert!(rt; has(&word, 'é') && !has(&word, '-'));
-    let k = fold(alloc, &range_class(alloc, 'k', 'k')?)?;
-    assert_eq!(rt; k.ranges().len(), 3);
-    assert!(rt; has(&k, 'K') && has(&k, 'k') && has(&k, '\u{212A}'));
-    match posix_class(alloc, &['p', 'u', 'n', 'c', 't'])? {
-        Some(class) => assert!(rt; has(&class, '~') && !has(&class, 'a')),
-        None => assert!(rt; false),
+fn parts_word_characters(alloc: Global) -> bool {
+    match words(alloc) {
+        Ok(class) => has(&class, 'é') && !has(&class, '-'),
+        Err(_) => false,
     }
-    Ok(())
+}
+
+fn folded_k(alloc: Global) -> Result<ClassUnicode, AllocError> {
+    fold(alloc, &range_class(alloc, 'k', 'k')?)
+}
+
+fn folds_k(alloc: Global) -> bool {
+    match folded_k(alloc) {
+        Ok(k) => k.ranges().len() == 3 && has(&k, 'K') && has(&k, 'k') && has(&k, '\u{212A}'),
+        Err(_) => false,
+    }
+}
+
+fn parts_signs(alloc: Global) -> bool {
+    match posix_class(alloc, &['p', 'u', 'n', 'c', 't']) {
+        Ok(Some(class)) => has(&class, '~') && !has(&class, 'a'),
+        _ => false,
+    }
 }
 
 #[test]
-fn names_stand_for_sets(rt: HostRuntime) -> Result<(), Fail> {
+fn sets_have_their_members(rt: HostRuntime) {
     let alloc = rt.alloc();
-    match named_set(alloc, &['G', 'r', 'e', 'e', 'k'])? {
-        Some(class) => assert!(rt; has(&class, 'λ') && !has(&class, 'l')),
-        None => assert!(rt; false),
+    assert!(rt; parts_word_characters(alloc) && folds_k(alloc) && parts_signs(alloc));
+}
+
+fn parts_greek(alloc: Global) -> bool {
+    match named_set(alloc, &['G', 'r', 'e', 'e', 'k']) {
+        Ok(Some(class)) => has(&class, 'λ') && !has(&class, 'l'),
+        _ => false,
     }
-    match named_set(alloc, &['C', 's'])? {
-        Some(class) => assert_eq!(rt; class.ranges().len(), 0),
-        None => assert!(rt; false),
+}
+
+fn surrogates_are_no_characters(alloc: Global) -> bool {
+    match named_set(alloc, &['C', 's']) {
+        Ok(Some(class)) => class.ranges().is_empty(),
+        _ => false,
     }
-    assert!(rt; named_set(alloc, &['q', 'q'])?.is_none());
-    Ok(())
+}
+
+fn is_no_name(alloc: Global) -> bool {
+    matches!(named_set(alloc, &['q', 'q']), Ok(None))
+}
+
+#[test]
+fn names_stand_for_sets(rt: HostRuntime) {
+    let alloc = rt.alloc();
+    assert!(rt; parts_greek(alloc) && surrogates_are_no_characters(alloc) && is_no_name(alloc));
 }

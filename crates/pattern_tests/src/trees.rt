@@ -6,53 +6,74 @@ use lalrpop_hir::{
 };
 use std::alloc::{AllocError, Global};
 use std::fmt;
-use std::process::Abort;
-use std::test::Fail;
 
-#[test]
-fn literals_are_never_empty(rt: HostRuntime) -> Result<(), Fail> {
-    let alloc = rt.alloc();
-    for text in ["", "é", "a.b"] {
-        for tree in [Hir::literal(alloc, text)?] {
-            let found = match tree.kind() {
-                HirKind::Empty => "",
-                HirKind::Literal(literal) => literal.as_str(),
-                _ => "another kind",
-            };
-            assert_eq!(rt; found, text);
-            assert_eq!(rt; matches!(tree.kind(), HirKind::Empty), text.is_empty());
-        }
+// A literal is empty for the empty text alone.
+fn is_literal(tree: &Hir, text: &str) -> bool {
+    match tree.kind() {
+        HirKind::Empty => text.is_empty(),
+        HirKind::Literal(literal) => !text.is_empty() && literal.as_str() == text,
+        _ => false,
     }
-    Ok(())
 }
 
-fn is_twice_and_lazy(twice: &Repetition) -> bool {
-    twice.min() == 2
-        && twice.max() == Some(4)
-        && !twice.greedy()
-        && matches!(twice.sub().kind(), HirKind::Look(Look::EndLF))
-}
-
-fn is_an_empty_group(group: &Capture, name: Option<&str>) -> bool {
-    group.name() == name && matches!(group.sub().kind(), HirKind::Empty)
-}
-
-fn empty_group(alloc: Global, name: Option<String>) -> Result<Capture, AllocError> {
-    Ok(Capture::new(name, Box::new(alloc, Hir::empty())?))
+fn makes_literal(alloc: Global, text: &str) -> bool {
+    match Hir::literal(alloc, text) {
+        Ok(tree) => is_literal(&tree, text),
+        Err(_) => false,
+    }
 }
 
 #[test]
-fn parts_of_repetitions_are_those_given(rt: HostRuntime) -> Result<(), Fail> {
-    assert!(rt; is_twice_and_lazy(&lazy(rt.alloc())?));
-    Ok(())
+fn literals_are_never_empty(rt: HostRuntime) {
+    let texts: &[&str] = &["", "é", "a.b"];
+    for text in texts {
+        assert!(rt; makes_literal(rt.alloc(), *text));
+    }
+}
+
+fn lazy(alloc: Global) -> Result<Repetition, AllocError> {
+    let sub = Box::new(alloc, Hir::look(Look::EndLF))?;
+    Ok(Repetition::new(2, Some(4), false, sub))
+}
+
+fn is_twice_and_lazy(made: Result<Repetition, AllocError>) -> bool {
+    match made {
+        Ok(twice) => {
+            twice.min() == 2
+                && twice.max() == Some(4)
+                && !twice.greedy()
+                && matches!(twice.sub().kind(), HirKind::Look(Look::EndLF))
+        }
+        Err(_) => false,
+    }
 }
 
 #[test]
-fn parts_of_groups_are_those_given(rt: HostRuntime) -> Result<(), Fail> {
-    let year = String::from_str(rt.alloc(), "year")?;
-    assert!(rt; is_an_empty_group(&empty_group(rt.alloc(), Some(year))?, Some("year")));
-    assert!(rt; is_an_empty_group(&empty_group(rt.alloc(), None)?, None));
-    Ok(())
+fn parts_of_repetitions_are_those_given(rt: HostRuntime) {
+    assert!(rt; is_twice_and_lazy(lazy(rt.alloc())));
+}
+
+fn group(alloc: Global, name: &str, sub: Hir) -> Result<Capture, AllocError> {
+    let sub = Box::new(alloc, sub)?;
+    Ok(Capture::new(Some(String::from_str(alloc, name)?), sub))
+}
+
+fn group_without_name(alloc: Global) -> Result<Capture, AllocError> {
+    Ok(Capture::new(None, Box::new(alloc, Hir::empty())?))
+}
+
+fn is_an_empty_group(made: Result<Capture, AllocError>, name: Option<&str>) -> bool {
+    match made {
+        Ok(group) => group.name() == name && matches!(group.sub().kind(), HirKind::Empty),
+        Err(_) => false,
+    }
+}
+
+#[test]
+fn parts_of_groups_are_those_given(rt: HostRuntime) {
+    let alloc = rt.alloc();
+    assert!(rt; is_an_empty_group(group(alloc, "year", Hir::empty()), Some("year")));
+    assert!(rt; is_an_empty_group(group_without_name(alloc), None));
 }
 
 fn letters(alloc: Global) -> Result<Hir, AllocError> {
@@ -71,89 +92,77 @@ fn two_or_more(alloc: Global, sub: Hir) -> Result<Hir, AllocError> {
 }
 
 fn named(alloc: Global, sub: Hir) -> Result<Hir, AllocError> {
-    let sub = Box::new(alloc, sub)?;
-    let name = String::from_str(alloc, "name")?;
-    Ok(Hir::capture(Capture::new(Some(name), sub)))
+    Ok(Hir::capture(group(alloc, "name", sub)?))
 }
 
 // A tree of each of the six kinds that aren't lists of trees.
-fn trees_of_all_kinds(alloc: Global) -> Result<Vec<Hir>, AllocError> {
-    let mut trees = Vec::new(alloc);
-    trees.push(Hir::empty())?;
-    trees.push(Hir::literal(alloc, "é")?)?;
-    trees.push(letters(alloc)?)?;
-    trees.push(Hir::look(Look::Start))?;
-    trees.push(two_or_more(alloc, Hir::literal(alloc, "b")?)?)?;
-    trees.push(named(alloc, high_bytes(alloc)?)?)?;
-    Ok(trees)
+fn tree_of_kind(alloc: Global, kind: u8) -> Result<Hir, AllocError> {
+    match kind {
+        0 => Ok(Hir::empty()),
+        1 => Hir::literal(alloc, "é"),
+        2 => letters(alloc),
+        3 => Ok(Hir::look(Look::Start)),
+        4 => two_or_more(alloc, Hir::literal(alloc, "b")?),
+        _ => named(alloc, high_bytes(alloc)?),
+    }
 }
 
-fn assert_same(rt: &impl Abort, found: &str, wanted: &str) {
-    assert_eq!(rt; found, wanted);
+fn trees_of_all_kinds(alloc: Global) -> Result<Vec<Hir>, AllocError> {
+    let mut trees = Vec::new(alloc);
+    for kind in 0..6 {
+        trees.push(tree_of_kind(alloc, kind)?)?;
+    }
+    Ok(trees)
 }
 
 fn debug<T: fmt::Debug>(alloc: Global, shown: &T) -> Result<String, AllocError> {
     format!(in alloc; "{shown:?}")
 }
 
-fn debug_of_copy<T: Clone + Drop + fmt::Debug>(
+fn shows_its_source<T: Clone + Drop + fmt::Debug>(
     alloc: Global,
-    shown: &T,
-) -> Result<String, AllocError> {
-    let copy = shown.clone()?;
-    debug(alloc, &copy)
+    source: &T,
+) -> Result<bool, AllocError> {
+    let copy = source.clone()?;
+    Ok(debug(alloc, &copy)? == debug(alloc, source)?)
 }
 
-fn assert_clone_shows_the_same(
-    rt: &impl Abort,
-    alloc: Global,
-    tree: &Hir,
-) -> Result<(), AllocError> {
-    assert_same(rt, &debug(alloc, tree)?, &debug_of_copy(alloc, tree)?);
-    let kind = tree.kind();
-    assert_same(rt, &debug(alloc, kind)?, &debug_of_copy(alloc, kind)?);
-    Ok(())
+// Whether the value was made, and a clone of it shows the same.
+fn is_cloned<T: Clone + Drop + fmt::Debug>(alloc: Global, made: Result<T, AllocError>) -> bool {
+    match made {
+        Ok(source) => shows_its_source(alloc, &source).unwrap_or(false),
+        Err(_) => false,
+    }
+}
+
+fn kind_is_cloned(alloc: Global, made: Result<Hir, AllocError>) -> bool {
+    match made {
+        Ok(tree) => shows_its_source(alloc, tree.kind()).unwrap_or(false),
+        Err(_) => false,
+    }
+}
+
+fn row(alloc: Global) -> Result<Hir, AllocError> {
+    Ok(Hir::concat(trees_of_all_kinds(alloc)?))
+}
+
+fn branches(alloc: Global) -> Result<Hir, AllocError> {
+    Ok(Hir::alternation(trees_of_all_kinds(alloc)?))
 }
 
 #[test]
-fn clones_show_what_their_sources_show(rt: HostRuntime) -> Result<(), Fail> {
+fn clones_of_trees_show_what_their_sources_show(rt: HostRuntime) {
     let alloc = rt.alloc();
-    let row = Hir::concat(trees_of_all_kinds(alloc)?);
-    assert_clone_shows_the_same(&rt, alloc, &row)?;
-    let branches = Hir::alternation(trees_of_all_kinds(alloc)?);
-    assert_clone_shows_the_same(&rt, alloc, &branches)?;
-    Ok(())
-}
-
-fn lazy(alloc: Global) -> Result<Repetition, AllocError> {
-    let sub = Box::new(alloc, Hir::look(Look::EndLF))?;
-    Ok(Repetition::new(2, Some(4), false, sub))
-}
-
-#[test]
-fn clones_of_repetitions_show_what_their_sources_show(rt: HostRuntime) -> Result<(), Fail> {
-    let lazy = lazy(rt.alloc())?;
-    assert_same(
-        &rt,
-        &debug(rt.alloc(), &lazy)?,
-        &debug_of_copy(rt.alloc(), &lazy)?,
-    );
-    Ok(())
+    assert!(rt; is_cloned(alloc, row(alloc)) && is_cloned(alloc, branches(alloc)));
+    assert!(rt; kind_is_cloned(alloc, row(alloc)) && kind_is_cloned(alloc, branches(alloc)));
 }
 
 fn year(alloc: Global) -> Result<Capture, AllocError> {
-    let name = String::from_str(alloc, "year")?;
-    let sub = Box::new(alloc, Hir::literal(alloc, "é")?)?;
-    Ok(Capture::new(Some(name), sub))
+    group(alloc, "year", Hir::literal(alloc, "é")?)
 }
 
 #[test]
-fn clones_of_groups_show_what_their_sources_show(rt: HostRuntime) -> Result<(), Fail> {
-    let year = year(rt.alloc())?;
-    assert_same(
-        &rt,
-        &debug(rt.alloc(), &year)?,
-        &debug_of_copy(rt.alloc(), &year)?,
-    );
-    Ok(())
+fn clones_of_parts_show_what_their_sources_show(rt: HostRuntime) {
+    let alloc = rt.alloc();
+    assert!(rt; is_cloned(alloc, lazy(alloc)) && is_cloned(alloc, year(alloc)));
 }
