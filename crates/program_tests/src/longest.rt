@@ -1,6 +1,6 @@
 //! Patterns from their texts to the longest match, the clash or the refusal.
 
-use crate::shared::{expect_same, precedences_of, trees_of};
+use crate::shared::{expect_same, terminals};
 use lalrpop_lexer::lexer::dfa::{DfaConstructionError, Precedence};
 use lalrpop_lexer::lexer::re::{Class, ClassBytes, ClassBytesRange, Hir, Regex};
 use lexdfa_lib::longest_match;
@@ -42,60 +42,44 @@ fn found(
     }
 }
 
-// What is found in each of the texts.
 fn expect_found(
     rt: &impl Abort,
     alloc: Global,
     trees: &[Regex],
     precedences: &[Precedence],
-    texts: &[(&str, &str)],
+    text: &str,
+    wanted: &str,
 ) {
-    for (text, wanted) in texts {
-        let line = found(rt, alloc, trees, precedences, *text).expect(rt, "memory");
-        expect_same(rt, &line, *wanted);
+    let line = found(rt, alloc, trees, precedences, text).expect(rt, "memory");
+    expect_same(rt, &line, wanted);
+}
+
+fn expect_row(rt: &impl Abort, alloc: Global, lines: &[u8], text: &str, wanted: &str) {
+    let (trees, precedences) = terminals(alloc, lines).expect(rt, "terminals");
+    expect_found(rt, alloc, &trees, &precedences, text, wanted);
+}
+
+// Rows of lines of terminals, a text, and what is found in it.
+fn expect(rt: &impl Abort, alloc: Global, rows: &[(&[u8], &str, &str)]) {
+    for (lines, text, wanted) in rows {
+        expect_row(rt, alloc, *lines, *text, *wanted);
     }
 }
 
-fn expect_row(
-    rt: &impl Abort,
-    alloc: Global,
-    terminals: &[(usize, char, &str)],
-    texts: &[(&str, &str)],
-) {
-    let trees = trees_of(alloc, terminals).expect(rt, "trees");
-    let precedences = precedences_of(alloc, terminals).expect(rt, "memory");
-    expect_found(rt, alloc, &trees, &precedences, texts);
-}
-
-// Rows of terminals and of texts with what is found in them.
-fn expect(rt: &impl Abort, alloc: Global, rows: &[(&[(usize, char, &str)], &[(&str, &str)])]) {
-    for (terminals, texts) in rows {
-        expect_row(rt, alloc, *terminals, *texts);
-    }
-}
+const WORDS: &[u8] = b"1 r class\n0 r [a-zA-Z_][a-zA-Z0-9_]*\n0 r [0-9]+\n0 r  +\n0 r >>\n0 r >\n";
 
 #[test]
 fn keywords_names_and_signs(rt: HostRuntime) {
     expect(
         &rt,
         rt.alloc(),
-        &[(
-            &[
-                (1, 'r', "class"),
-                (0, 'r', "[a-zA-Z_][a-zA-Z0-9_]*"),
-                (0, 'r', "[0-9]+"),
-                (0, 'r', " +"),
-                (0, 'r', ">>"),
-                (0, 'r', ">"),
-            ],
-            &[
-                ("class Foo", "0 class"),
-                ("classz Foo", "1 classz"),
-                (">>", "4 >>"),
-                (">a", "5 >"),
-                ("é", "none"),
-            ],
-        )],
+        &[
+            (WORDS, "class Foo", "0 class"),
+            (WORDS, "classz Foo", "1 classz"),
+            (WORDS, ">>", "4 >>"),
+            (WORDS, ">a", "5 >"),
+            (WORDS, "é", "none"),
+        ],
     );
 }
 
@@ -105,24 +89,17 @@ fn longest_and_strongest(rt: HostRuntime) {
         &rt,
         rt.alloc(),
         &[
-            (&[(0, 'r', "abc|abcd")], &[("abcd", "0 abcd")]),
-            (&[], &[("a", "none")]),
-            (&[(0, 'r', "a*")], &[("b", "none"), ("", "none")]),
-            (&[(1, 'r', "a*"), (0, 'r', "b*")], &[("b", "1 b")]),
-            (
-                &[
-                    (0, 'r', "[a-j]"),
-                    (1, 'r', "[a-u]"),
-                    (3, 'r', "[f-h]"),
-                    (2, 'r', "[f-p]"),
-                ],
-                &[("i", "3 i"), ("g", "2 g"), ("q", "1 q")],
-            ),
-            (
-                &[(0, 'r', "[^\\x{0}-\\x{10FFFF}]")],
-                &[("a", "none"), ("", "none")],
-            ),
-            (&[(0, 'r', "(a(b))c")], &[("abc", "0 abc")]),
+            (b"0 r abc|abcd\n", "abcd", "0 abcd"),
+            (b"", "a", "none"),
+            (b"0 r a*\n", "b", "none"),
+            (b"0 r a*\n", "", "none"),
+            (b"1 r a*\n0 r b*\n", "b", "1 b"),
+            (b"0 r [a-j]\n1 r [a-u]\n3 r [f-h]\n2 r [f-p]\n", "i", "3 i"),
+            (b"0 r [a-j]\n1 r [a-u]\n3 r [f-h]\n2 r [f-p]\n", "g", "2 g"),
+            (b"0 r [a-j]\n1 r [a-u]\n3 r [f-h]\n2 r [f-p]\n", "q", "1 q"),
+            (b"0 r [^\\x{0}-\\x{10FFFF}]\n", "a", "none"),
+            (b"0 r [^\\x{0}-\\x{10FFFF}]\n", "", "none"),
+            (b"0 r (a(b))c\n", "abc", "0 abc"),
         ],
     );
 }
@@ -133,10 +110,10 @@ fn turns_that_take_nothing(rt: HostRuntime) {
         &rt,
         rt.alloc(),
         &[
-            (&[(0, 'r', "((a*)*)*")], &[("aab", "0 aa")]),
-            (&[(0, 'r', "(a+)+")], &[("aab", "0 aa")]),
-            (&[(0, 'r', "(|a)+")], &[("aab", "0 aa")]),
-            (&[(0, 'r', "(?:)*")], &[("a", "none")]),
+            (b"0 r ((a*)*)*\n", "aab", "0 aa"),
+            (b"0 r (a+)+\n", "aab", "0 aa"),
+            (b"0 r (|a)+\n", "aab", "0 aa"),
+            (b"0 r (?:)*\n", "a", "none"),
         ],
     );
 }
@@ -147,12 +124,11 @@ fn folded_and_named_sets(rt: HostRuntime) {
         &rt,
         rt.alloc(),
         &[
-            (&[(0, 'r', "(?i)k")], &[("\u{212A}", "0 \u{212A}")]),
-            (
-                &[(0, 'r', "a(?i)b|c")],
-                &[("C", "0 C"), ("aB", "0 aB"), ("A", "none")],
-            ),
-            (&[(0, 'r', "\\d")], &[("\u{660}1", "0 \u{660}")]),
+            (b"0 r (?i)k\n", "\u{212A}", "0 \u{212A}"),
+            (b"0 r a(?i)b|c\n", "C", "0 C"),
+            (b"0 r a(?i)b|c\n", "aB", "0 aB"),
+            (b"0 r a(?i)b|c\n", "A", "none"),
+            (b"0 r \\d\n", "\u{660}1", "0 \u{660}"),
         ],
     );
 }
@@ -163,41 +139,21 @@ fn clashes(rt: HostRuntime) {
         &rt,
         rt.alloc(),
         &[
-            (&[(0, 'r', "a*"), (0, 'r', "b*")], &[("", "clash 1 0")]),
+            (b"0 r a*\n0 r b*\n", "", "clash 1 0"),
             (
-                &[
-                    (1, 'r', "[\\x{D7FF}]"),
-                    (1, 'r', "[\\x{E000}]"),
-                    (0, 'r', "[\\x{D7FF}\\x{E000}]"),
-                    (0, 'r', "(?s)."),
-                ],
-                &[("", "clash 3 2")],
+                b"1 r [\\x{D7FF}]\n1 r [\\x{E000}]\n0 r [\\x{D7FF}\\x{E000}]\n0 r (?s).\n",
+                "",
+                "clash 3 2",
             ),
             (
-                &[
-                    (0, 'r', "(?s)."),
-                    (0, 'r', "(?s)."),
-                    (1, 'r', "[\\x{0}-\\x{D7FF}]"),
-                    (1, 'r', "[\\x{E000}-\\x{10FFFF}]"),
-                ],
-                &[("", "clash 1 0")],
+                b"0 r (?s).\n0 r (?s).\n1 r [\\x{0}-\\x{D7FF}]\n1 r [\\x{E000}-\\x{10FFFF}]\n",
+                "",
+                "clash 1 0",
             ),
-            (
-                &[(0, 'r', "aa"), (0, 'r', "aa"), (0, 'r', "b"), (0, 'r', "b")],
-                &[("", "clash 3 2")],
-            ),
-            (
-                &[(0, 'r', "b"), (0, 'r', "b"), (0, 'r', "a"), (0, 'r', "a")],
-                &[("", "clash 3 2")],
-            ),
-            (
-                &[(0, 'r', "class"), (0, 'r', "[a-zA-Z_][a-zA-Z0-9_]*")],
-                &[("", "clash 1 0")],
-            ),
-            (
-                &[(0, 'r', ".*"), (0, 'r', "[-+]?[0-9]*\\.?[0-9]+")],
-                &[("", "clash 1 0")],
-            ),
+            (b"0 r aa\n0 r aa\n0 r b\n0 r b\n", "", "clash 3 2"),
+            (b"0 r b\n0 r b\n0 r a\n0 r a\n", "", "clash 3 2"),
+            (b"0 r class\n0 r [a-zA-Z_][a-zA-Z0-9_]*\n", "", "clash 1 0"),
+            (b"0 r .*\n0 r [-+]?[0-9]*\\.?[0-9]+\n", "", "clash 1 0"),
         ],
     );
 }
@@ -208,36 +164,20 @@ fn refusals(rt: HostRuntime) {
         &rt,
         rt.alloc(),
         &[
-            (&[(0, 'r', "(?:\\b){0}a")], &[("ab", "0 a")]),
-            (&[(0, 'r', "(?:\\b){0}?a")], &[("", "refused 0 NonGreedy")]),
+            (b"0 r (?:\\b){0}a\n", "ab", "0 a"),
+            (b"0 r (?:\\b){0}?a\n", "", "refused 0 NonGreedy"),
+            (b"0 r (?:\\b){4294967295}\n", "", "refused 0 LookAround"),
             (
-                &[(0, 'r', "(?:\\b){4294967295}")],
-                &[("", "refused 0 LookAround")],
+                b"0 r a\n0 r a\n0 r b??\n0 r \\bc\n",
+                "",
+                "refused 2 NonGreedy",
             ),
-            (
-                &[
-                    (0, 'r', "a"),
-                    (0, 'r', "a"),
-                    (0, 'r', "b??"),
-                    (0, 'r', "\\bc"),
-                ],
-                &[("", "refused 2 NonGreedy")],
-            ),
-            (
-                &[(0, 'r', "\\ba(?P<n>b)")],
-                &[("", "refused 0 NamedCaptures")],
-            ),
-            (
-                &[(0, 'r', "\\ba|(?P<n>b)")],
-                &[("", "refused 0 LookAround")],
-            ),
-            (&[(0, 'r', "(?U)a*")], &[("", "refused 0 NonGreedy")]),
-            (&[(0, 'r', "a???")], &[("", "refused 0 NonGreedy")]),
-            (
-                &[(0, 'r', "(?P<foo>aBCdeF)")],
-                &[("", "refused 0 NamedCaptures")],
-            ),
-            (&[(0, 'r', "\\baBCdeF")], &[("", "refused 0 LookAround")]),
+            (b"0 r \\ba(?P<n>b)\n", "", "refused 0 NamedCaptures"),
+            (b"0 r \\ba|(?P<n>b)\n", "", "refused 0 LookAround"),
+            (b"0 r (?U)a*\n", "", "refused 0 NonGreedy"),
+            (b"0 r a???\n", "", "refused 0 NonGreedy"),
+            (b"0 r (?P<foo>aBCdeF)\n", "", "refused 0 NamedCaptures"),
+            (b"0 r \\baBCdeF\n", "", "refused 0 LookAround"),
         ],
     );
 }
@@ -248,9 +188,9 @@ fn literals(rt: HostRuntime) {
         &rt,
         rt.alloc(),
         &[
-            (&[(0, 'l', "\u{e9}")], &[("\u{e9}!", "0 \u{e9}")]),
-            (&[(0, 'l', "\0a")], &[("\0ab", "0 \0a")]),
-            (&[(1, 'l', "ab"), (0, 'l', "abc")], &[("abcd", "1 abc")]),
+            (b"0 l \xc3\xa9\n", "\u{e9}!", "0 \u{e9}"),
+            (b"0 l \0a\n", "\0ab", "0 \0a"),
+            (b"1 l ab\n0 l abc\n", "abcd", "1 abc"),
         ],
     );
 }
@@ -269,7 +209,8 @@ fn a_set_of_bytes(rt: HostRuntime) {
         rt.alloc(),
         &trees,
         &[Precedence(0)],
-        &[("\u{e9}", "0 \u{e9}")],
+        "\u{e9}",
+        "0 \u{e9}",
     );
 }
 
@@ -281,11 +222,6 @@ fn trees_without_parts(rt: HostRuntime) {
         Hir::concat(Vec::new(alloc)),
     ];
     let precedences = [Precedence(0), Precedence(0)];
-    expect_found(
-        &rt,
-        alloc,
-        &trees,
-        &precedences,
-        &[("", "none"), ("a", "none")],
-    );
+    expect_found(&rt, alloc, &trees, &precedences, "", "none");
+    expect_found(&rt, alloc, &trees, &precedences, "a", "none");
 }

@@ -1,35 +1,43 @@
 //! Lexers from patterns and from lines, and the tokens that they cut.
 
-use crate::shared::{expect_same, precedences_of, trees_of};
+use crate::shared::{expect_same, terminals};
 use std::alloc::{AllocError, Global};
 use std::fmt::Write;
 use std::process::Abort;
-use tokens_lib::{BuildError, Lexer, Token};
-
-const WORDS: &[(usize, char, &str)] = &[(1, 'l', "if"), (0, 'r', "[a-z]+"), (0, 'l', " ")];
+use tokens_lib::{BuildError, Lexer, Token, Tokens};
 
 fn lexer_of_words(rt: &impl Abort, alloc: Global) -> Lexer {
-    let trees = trees_of(alloc, WORDS).expect(rt, "trees");
-    let precedences = precedences_of(alloc, WORDS).expect(rt, "memory");
+    let lines = b"1 l if\n0 r [a-z]+\n0 l  \n";
+    let (trees, precedences) = terminals(alloc, lines).expect(rt, "terminals");
     assert!(rt; trees.len() == precedences.len());
     Lexer::new(alloc, trees, precedences).expect(rt, "a lexer")
 }
 
 // A token in brackets, with the number of its pattern.
 fn push_token(line: &mut String, token: &Token<'_>) -> Result<(), AllocError> {
-    let (index, slice) = (token.index.index(), token.slice);
-    write!(line, "[{index} {slice}]")
+    let index = token.index.index();
+    write!(line, "[{index} ")?;
+    line.push_str(token.slice)?;
+    line.push_str("]")
 }
 
 // The tokens, and the rest behind them.
-fn cut(alloc: Global, lexer: &Lexer, text: &str) -> Result<String, AllocError> {
-    let mut line = String::new(alloc);
-    let cut = lexer.tokens(alloc, text)?;
+fn push_cut(line: &mut String, cut: &Tokens<'_>) -> Result<(), AllocError> {
     for token in &cut.tokens {
-        push_token(&mut line, token)?;
+        push_token(line, token)?;
     }
-    line.push_str(cut.rest)?;
+    line.push_str(cut.rest)
+}
+
+fn shown(alloc: Global, cut: &Tokens<'_>) -> Result<String, AllocError> {
+    let mut line = String::new(alloc);
+    push_cut(&mut line, cut)?;
     Ok(line)
+}
+
+fn cut(alloc: Global, lexer: &Lexer, text: &str) -> Result<String, AllocError> {
+    let cut = lexer.tokens(alloc, text)?;
+    shown(alloc, &cut)
 }
 
 fn expect_cut(rt: &impl Abort, alloc: Global, lexer: &Lexer, text: &str, wanted: &str) {
