@@ -1,7 +1,7 @@
 //! Automata of one tree and of many: built, copied and run, and the partition of ranges.
 
-use crate::calls::{Call, add, at_last, expect, expect_answer, halves};
-use crate::trees;
+use crate::calls::{Call, add, at_last, expect, expect_answer, halves, number};
+use crate::trees::tree_of;
 use lalrpop_hir::Hir;
 use lalrpop_lexer::lexer::dfa::interpret::interpret;
 use lalrpop_lexer::lexer::dfa::overlap::{remove_overlap, remove_overlap_counted};
@@ -9,22 +9,17 @@ use lalrpop_lexer::lexer::dfa::{Dfa, DfaConstructionError, Precedence, State, bu
 use lalrpop_lexer::lexer::nfa::{self, Nfa, NfaConstructionError, Steps, Test};
 use std::alloc::{AllocError, Global};
 use std::collections::BTreeSet;
-use std::env::{self, VarError};
-use std::process::Abort;
-
-fn tree_of(rt: &impl Abort, alloc: Global, pattern: &str) -> Hir {
-    at_last!(rt; trees::read(alloc, pattern)).expect(rt, "a pattern")
-}
-
-fn compile(alloc: Global, tree: &Hir) -> Result<Nfa, NfaConstructionError> {
-    Nfa::from_re(alloc, tree)
-}
+use std::env;
 
 fn fault(alloc: Global, error: NfaConstructionError) -> Result<String, AllocError> {
     match error {
         NfaConstructionError::OutOfMemory => Err(AllocError),
         fault => format!(in alloc; "{fault}"),
     }
+}
+
+fn compile(alloc: Global, tree: &Hir) -> Result<Nfa, NfaConstructionError> {
+    Nfa::from_re(alloc, tree)
 }
 
 fn compiled_or_fault(alloc: Global, tree: &Hir) -> Result<String, AllocError> {
@@ -34,13 +29,9 @@ fn compiled_or_fault(alloc: Global, tree: &Hir) -> Result<String, AllocError> {
     }
 }
 
-pub(crate) fn compiled(
-    rt: &impl Abort,
-    alloc: Global,
-    pattern: &str,
-) -> Result<String, AllocError> {
-    let tree = tree_of(rt, alloc, pattern);
-    Ok(at_last!(rt; compiled_or_fault(alloc, &tree)))
+pub(crate) fn compiled(alloc: Global, pattern: &str) -> Result<String, AllocError> {
+    let tree = tree_of(alloc, pattern)?;
+    compiled_or_fault(alloc, &tree)
 }
 
 // Any fault is told as out of memory.
@@ -51,9 +42,9 @@ pub(crate) fn nfa_of(alloc: Global, tree: &Hir) -> Result<Nfa, AllocError> {
     }
 }
 
-fn nfa_for(rt: &impl Abort, alloc: Global, pattern: &str) -> Nfa {
-    let tree = tree_of(rt, alloc, pattern);
-    at_last!(rt; nfa_of(alloc, &tree))
+fn nfa_for(alloc: Global, pattern: &str) -> Result<Nfa, AllocError> {
+    let tree = tree_of(alloc, pattern)?;
+    nfa_of(alloc, &tree)
 }
 
 fn run<'a>(
@@ -69,43 +60,30 @@ fn run<'a>(
     }
 }
 
-// What the automaton of the pattern in `PATTERN / TEXT` finds in the text.
-pub(crate) fn found(
-    rt: &impl Abort,
-    alloc: Global,
-    row: &str,
-    counts: bool,
-) -> Result<String, AllocError> {
-    let (pattern, text) = halves(rt, row, " / ");
-    let nfa = nfa_for(rt, alloc, pattern);
-    let found = at_last!(rt; run(alloc, &nfa, text, counts));
+fn found_by(alloc: Global, nfa: &Nfa, text: &str, counts: bool) -> Result<String, AllocError> {
+    let found = run(alloc, nfa, text, counts)?;
     String::from_str(alloc, found.unwrap_or("none"))
 }
 
-fn number(rt: &impl Abort, digits: &str) -> u32 {
-    digits.parse().ok().expect(rt, "a number")
+// What the automaton of the pattern in `PATTERN / TEXT` finds in the text.
+pub(crate) fn found(alloc: Global, row: &str, counts: bool) -> Result<String, AllocError> {
+    let (pattern, text) = halves(row, " / ");
+    let nfa = nfa_for(alloc, pattern)?;
+    found_by(alloc, &nfa, text, counts)
+}
+
+fn range_of(text: &str) -> Test {
+    let (start, end) = halves(text, "-");
+    Test::new(number(start)..=number(end))
 }
 
 // The set of ranges such as `97-106`, with blanks between them.
-fn set_of(rt: &impl Abort, alloc: Global, ranges: &str) -> Result<BTreeSet<Test>, AllocError> {
+fn set_of(alloc: Global, ranges: &str) -> Result<BTreeSet<Test>, AllocError> {
     let mut set = BTreeSet::new(alloc);
     for range in ranges.split_whitespace() {
-        let (start, end) = halves(rt, range, "-");
-        set.insert(Test::new(number(rt, start)..=number(rt, end)))?;
+        set.insert(range_of(range))?;
     }
     Ok(set)
-}
-
-fn shown(alloc: Global, parts: &[Test]) -> Result<String, AllocError> {
-    if parts.is_empty() {
-        return String::from_str(alloc, "none");
-    }
-    let mut line = String::new(alloc);
-    for part in parts {
-        let (start, end) = (part.start(), part.end());
-        add(&mut line, " ", format!(in alloc; "{start}-{end}")?.as_str())?;
-    }
-    Ok(line)
 }
 
 fn cut(alloc: Global, set: &BTreeSet<Test>, counts: bool) -> Result<Vec<Test>, AllocError> {
@@ -116,66 +94,94 @@ fn cut(alloc: Global, set: &BTreeSet<Test>, counts: bool) -> Result<Vec<Test>, A
     }
 }
 
-// The parts that the ranges are cut into.
-pub(crate) fn parts(
-    rt: &impl Abort,
-    alloc: Global,
-    ranges: &str,
-    counts: bool,
-) -> Result<String, AllocError> {
-    let set = at_last!(rt; set_of(rt, alloc, ranges));
-    let parts = at_last!(rt; cut(alloc, &set, counts));
+fn add_part(alloc: Global, line: &mut String, part: &Test) -> Result<(), AllocError> {
+    let (start, end) = (part.start(), part.end());
+    add(line, " ", format!(in alloc; "{start}-{end}")?.as_str())
+}
+
+fn shown(alloc: Global, parts: &[Test]) -> Result<String, AllocError> {
+    if parts.is_empty() {
+        return String::from_str(alloc, "none");
+    }
+    let mut line = String::new(alloc);
+    for part in parts {
+        add_part(alloc, &mut line, part)?;
+    }
+    Ok(line)
+}
+
+fn cut_and_shown(alloc: Global, set: &BTreeSet<Test>, counts: bool) -> Result<String, AllocError> {
+    let parts = cut(alloc, set, counts)?;
     shown(alloc, &parts)
 }
 
+// The parts that the ranges are cut into.
+pub(crate) fn parts(alloc: Global, ranges: &str, counts: bool) -> Result<String, AllocError> {
+    let set = set_of(alloc, ranges)?;
+    cut_and_shown(alloc, &set, counts)
+}
+
+fn add_tree(alloc: Global, trees: &mut Vec<Hir>, pattern: &str) -> Result<(), AllocError> {
+    let tree = tree_of(alloc, pattern)?;
+    trees.push(tree)?;
+    Ok(())
+}
+
 // The trees of `PRECEDENCE PATTERN`s, with ` / ` between them.
-fn trees_of(rt: &impl Abort, alloc: Global, rows: &str) -> Result<Vec<Hir>, AllocError> {
+fn trees_of(alloc: Global, rows: &str) -> Result<Vec<Hir>, AllocError> {
     let mut trees = Vec::new(alloc);
     for row in rows.split(" / ") {
-        let (_, pattern) = halves(rt, row, " ");
-        trees.push(tree_of(rt, alloc, pattern))?;
+        add_tree(alloc, &mut trees, halves(row, " ").1)?;
     }
     Ok(trees)
 }
 
-fn precedences_of(
-    rt: &impl Abort,
-    alloc: Global,
-    rows: &str,
-) -> Result<Vec<Precedence>, AllocError> {
+fn precedence_of(row: &str) -> Precedence {
+    Precedence(number(halves(row, " ").0) as usize)
+}
+
+fn precedences_of(alloc: Global, rows: &str) -> Result<Vec<Precedence>, AllocError> {
     let mut precedences = Vec::new(alloc);
     for row in rows.split(" / ") {
-        let (precedence, _) = halves(rt, row, " ");
-        precedences.push(Precedence(number(rt, precedence) as usize))?;
+        precedences.push(precedence_of(row))?;
     }
     Ok(precedences)
 }
 
+// There are as many trees as precedences.
 fn build(
-    rt: &impl Abort,
     alloc: Global,
     trees: &[Hir],
     precedences: &[Precedence],
 ) -> Result<Dfa, DfaConstructionError> {
-    assert!(rt; trees.len() == precedences.len());
+    if trees.len() != precedences.len() {
+        return Err(DfaConstructionError::OutOfMemory);
+    }
     build_dfa(alloc, trees, precedences)
 }
 
-// The number of the pattern that is found, and what it matches, for each of the texts.
+fn build_rows(alloc: Global, rows: &str) -> Result<Result<Dfa, DfaConstructionError>, AllocError> {
+    let trees = trees_of(alloc, rows)?;
+    let precedences = precedences_of(alloc, rows)?;
+    Ok(build(alloc, &trees, &precedences))
+}
+
+// The number of the pattern that is found, and what it matches.
+fn token(alloc: Global, dfa: &Dfa, text: &str) -> Result<String, AllocError> {
+    match interpret(dfa, text) {
+        Some((index, matched)) => {
+            let index = index.index();
+            format!(in alloc; "{index} {matched}")
+        }
+        None => String::from_str(alloc, "none"),
+    }
+}
+
+// The same for each of the texts.
 fn tokens_of(alloc: Global, dfa: &Dfa, texts: &str) -> Result<String, AllocError> {
     let mut line = String::new(alloc);
     for text in texts.split(" / ") {
-        match interpret(dfa, text) {
-            Some((index, matched)) => {
-                let index = index.index();
-                add(
-                    &mut line,
-                    " / ",
-                    format!(in alloc; "{index} {matched}")?.as_str(),
-                )?;
-            }
-            None => add(&mut line, " / ", "none")?,
-        }
+        add(&mut line, " / ", token(alloc, dfa, text)?.as_str())?;
     }
     Ok(line)
 }
@@ -196,24 +202,20 @@ fn told(alloc: Global, error: DfaConstructionError) -> Result<String, AllocError
 }
 
 fn tokens_or_error(
-    rt: &impl Abort,
     alloc: Global,
-    trees: &[Hir],
-    precedences: &[Precedence],
+    built: Result<Dfa, DfaConstructionError>,
     texts: &str,
 ) -> Result<String, AllocError> {
-    match build(rt, alloc, trees, precedences) {
+    match built {
         Ok(dfa) => tokens_of(alloc, &dfa, texts),
         Err(error) => told(alloc, error),
     }
 }
 
 // What the automaton of the patterns in `PATTERNS <- TEXTS` finds in the texts, or why there is none.
-pub(crate) fn tokens(rt: &impl Abort, alloc: Global, row: &str) -> Result<String, AllocError> {
-    let (rows, texts) = halves(rt, row, " <- ");
-    let trees = at_last!(rt; trees_of(rt, alloc, rows));
-    let precedences = at_last!(rt; precedences_of(rt, alloc, rows));
-    Ok(at_last!(rt; tokens_or_error(rt, alloc, &trees, &precedences, texts)))
+pub(crate) fn tokens(alloc: Global, row: &str) -> Result<String, AllocError> {
+    let (rows, texts) = halves(row, " <- ");
+    tokens_or_error(alloc, build_rows(alloc, rows)?, texts)
 }
 
 #[test]
@@ -230,15 +232,22 @@ ab{2,4} => compiled
     expect(&rt, rt.alloc(), Call::Compile, table, 8);
 }
 
+fn cannot_be_compiled(alloc: Global, tree: &Hir) -> bool {
+    compiled_or_fault(alloc, tree).is_err()
+}
+
+fn great_count_is_refused(alloc: Global) -> Result<bool, AllocError> {
+    let tree = tree_of(alloc, "a{4294967295}")?;
+    Ok(cannot_be_compiled(alloc, &tree))
+}
+
 // No memory holds the states of so many turns. `.ci/refusals` bounds the memory, and sets this variable; without it the
 // test has nothing to show.
 #[test]
 fn a_great_count_is_refused(rt: HostRuntime) {
-    if matches!(env::var(&rt, "REFUSE"), Err(VarError::NotPresent)) {
-        return;
+    if env::var(&rt, "REFUSE").is_ok() {
+        assert!(rt; at_last!(&rt; great_count_is_refused(rt.alloc())));
     }
-    let tree = tree_of(&rt, rt.alloc(), "a{4294967295}");
-    assert!(rt; compiled_or_fault(rt.alloc(), &tree).is_err());
 }
 
 const RUNS: &str = "\
@@ -264,16 +273,17 @@ const PARTS: &str = "\
 97-122 99-108 48-57 => 48-57 97-98 99-108 109-122
 97-122 99-108 108-122 48-57 => 48-57 97-98 99-107 108-108 109-122
 0-3 2-4 3-5 => 0-1 2-2 3-3 4-4 5-5
-98-98 97-122 => 97-97 98-98 99-122";
+98-98 97-122 => 97-97 98-98 99-122
+0-4 5-9 => 0-4 5-9
+0-9 2-7 4-5 => 0-1 2-3 4-5 6-7 8-9
+4294967295-4294967295 0-4294967295 7-3 => 0-4294967294 4294967295-4294967295";
 
 #[test]
 fn ranges_are_cut(rt: HostRuntime) {
     for call in [Call::Cut, Call::CountedCut] {
-        expect(&rt, rt.alloc(), call, PARTS, 9);
+        expect(&rt, rt.alloc(), call, PARTS, 12);
     }
 }
-
-const WORDS: &str = "1 class / 0 [a-zA-Z_][a-zA-Z0-9_]* / 0 [0-9]+ / 0  + / 0 >> / 0 >";
 
 #[test]
 fn many_trees_are_built(rt: HostRuntime) {
@@ -299,21 +309,21 @@ fn many_trees_are_refused(rt: HostRuntime) {
 
 // Any error is told as out of memory.
 pub(crate) fn built(
-    rt: &impl Abort,
     alloc: Global,
     trees: &[Hir],
     precedences: &[Precedence],
 ) -> Result<Dfa, AllocError> {
-    match build(rt, alloc, trees, precedences) {
+    match build(alloc, trees, precedences) {
         Ok(dfa) => Ok(dfa),
         Err(_) => Err(AllocError),
     }
 }
 
-fn dfa_for(rt: &impl Abort, alloc: Global, rows: &str) -> Dfa {
-    let trees = at_last!(rt; trees_of(rt, alloc, rows));
-    let precedences = at_last!(rt; precedences_of(rt, alloc, rows));
-    at_last!(rt; built(rt, alloc, &trees, &precedences))
+fn dfa_for(alloc: Global, rows: &str) -> Result<Dfa, AllocError> {
+    match build_rows(alloc, rows)? {
+        Ok(dfa) => Ok(dfa),
+        Err(_) => Err(AllocError),
+    }
 }
 
 fn equals_its_copy(dfa: &Dfa) -> Result<bool, AllocError> {
@@ -324,17 +334,34 @@ fn state_equals_its_copy(state: &State) -> Result<bool, AllocError> {
     Ok(state.clone()? == *state)
 }
 
-fn expect_copies(rt: &impl Abort, dfa: &Dfa) {
-    assert!(rt; at_last!(rt; equals_its_copy(dfa)));
+// Whether copies of the automaton and of each of its states are equal to them.
+fn equals_its_copies(dfa: &Dfa) -> Result<bool, AllocError> {
     for state in dfa.states() {
-        assert!(rt; at_last!(rt; state_equals_its_copy(state)));
+        if !state_equals_its_copy(state)? {
+            return Ok(false);
+        }
     }
+    equals_its_copy(dfa)
+}
+
+fn tokens_if_copied(alloc: Global, dfa: &Dfa, texts: &str) -> Result<String, AllocError> {
+    if equals_its_copies(dfa)? {
+        tokens_of(alloc, dfa, texts)
+    } else {
+        String::from_str(alloc, "not copied")
+    }
+}
+
+// What the automaton of the patterns in `PATTERNS <- TEXTS` finds in the texts after it was copied.
+pub(crate) fn copied(alloc: Global, row: &str) -> Result<String, AllocError> {
+    let (rows, texts) = halves(row, " <- ");
+    let dfa = dfa_for(alloc, rows)?;
+    tokens_if_copied(alloc, &dfa, texts)
 }
 
 #[test]
 fn automata_are_copied(rt: HostRuntime) {
-    let dfa = dfa_for(&rt, rt.alloc(), WORDS);
-    expect_copies(&rt, &dfa);
-    let found = at_last!(&rt; tokens_of(rt.alloc(), &dfa, "classz Foo"));
-    assert_eq!(rt; found.as_str(), "1 classz");
+    let table = "\
+1 class / 0 [a-zA-Z_][a-zA-Z0-9_]* / 0 [0-9]+ / 0  + / 0 >> / 0 > <- classz Foo => 1 classz";
+    expect(&rt, rt.alloc(), Call::AutomatonCopy, table, 1);
 }

@@ -56,54 +56,71 @@ impl OfNumber for Held {
     }
 }
 
-// Adds the kernel, and once more where that was refused.
-fn add<K: OfNumber>(
-    rt: &impl Abort,
+// What is done with a set.
+#[derive(Copy, Clone)]
+enum Step {
+    // This kernel is added, and gets this number.
+    Add(u32, usize),
+    // The next kernel is taken, which is this one.
+    Take(Option<u32>),
+}
+
+fn is_added<K: OfNumber>(
     alloc: Global,
     set: &mut KernelSet<K>,
     kernel: u32,
     number: usize,
-)
+) -> Result<bool, AllocError>
     requires { ClonesEqual K.cmp K.is_clone }
 {
-    let first = set.add_state(at_last!(rt; K::of_number(alloc, kernel)));
-    let added = match first {
-        Ok(added) => Ok(added),
-        Err(AllocError) => set.add_state(at_last!(rt; K::of_number(alloc, kernel))),
-    };
-    assert!(rt; added == Ok(number), "{kernel}");
+    Ok(set.add_state(K::of_number(alloc, kernel)?)? == number)
 }
 
-// Takes the next kernel, and once more where that was refused.
-fn take<K: OfNumber>(rt: &impl Abort, alloc: Global, set: &mut KernelSet<K>, kernel: Option<u32>)
+fn is_taken<K: OfNumber>(
+    alloc: Global,
+    set: &mut KernelSet<K>,
+    kernel: Option<u32>,
+) -> Result<bool, AllocError>
     requires { ClonesEqual K.cmp K.is_clone }
 {
-    let taken = at_last!(rt; set.next());
-    match (taken, kernel) {
-        (Some(taken), Some(kernel)) => {
-            assert!(rt;
-                taken == at_last!(rt; K::of_number(alloc, kernel)),
-                "{kernel}"
-            );
-        }
-        (None, None) => {}
-        _ => assert!(rt; false),
+    let wanted = match kernel {
+        Some(kernel) => Some(K::of_number(alloc, kernel)?),
+        None => None,
+    };
+    Ok(set.next()? == wanted)
+}
+
+fn goes_so<K: OfNumber>(
+    alloc: Global,
+    set: &mut KernelSet<K>,
+    step: Step,
+) -> Result<bool, AllocError>
+    requires { ClonesEqual K.cmp K.is_clone }
+{
+    match step {
+        Step::Add(kernel, number) => is_added(alloc, set, kernel, number),
+        Step::Take(kernel) => is_taken(alloc, set, kernel),
     }
 }
 
+// Each step is made again where it was refused memory.
 fn goes_on<K: OfNumber>(rt: &impl Abort, alloc: Global)
     requires { ClonesEqual K.cmp K.is_clone }
 {
+    use Step::{Add, Take};
     let mut set: KernelSet<K> = KernelSet::new(alloc);
-    for (kernel, number) in [(7, 0), (9, 1), (7, 0)] {
-        add(rt, alloc, &mut set, kernel, number);
-    }
-    for kernel in [Some(7), Some(9), None] {
-        take(rt, alloc, &mut set, kernel);
-    }
-    add(rt, alloc, &mut set, 3, 2);
-    for kernel in [Some(3), None] {
-        take(rt, alloc, &mut set, kernel);
+    for step in [
+        Add(7, 0),
+        Add(9, 1),
+        Add(7, 0),
+        Take(Some(7)),
+        Take(Some(9)),
+        Take(None),
+        Add(3, 2),
+        Take(Some(3)),
+        Take(None),
+    ] {
+        assert!(rt; at_last!(rt; goes_so(alloc, &mut set, step)));
     }
 }
 

@@ -1,21 +1,24 @@
 //! Literals, classes, patterns from text and copies of trees.
 
-use crate::calls::{Call, add, at_last, expect, halves};
+use crate::calls::{Call, add, at_last, expect, halves, number};
 use lalrpop_hir::{
     Class, ClassBytes, ClassBytesRange, ClassUnicode, ClassUnicodeRange, Hir, HirKind,
 };
 use lalrpop_re::{RegexError, escape, parse_literal, parse_regex};
 use std::alloc::{AllocError, Global};
-use std::process::Abort;
 
 // The first and the last character of each run, as `a-z`.
 fn runs(alloc: Global, class: &ClassUnicode) -> Result<String, AllocError> {
     let mut line = String::new(alloc);
     for range in class.ranges() {
-        let (start, end) = (range.start(), range.end());
-        add(&mut line, " ", format!(in alloc; "{start}-{end}")?.as_str())?;
+        add_run(alloc, &mut line, range)?;
     }
     Ok(line)
+}
+
+fn add_run(alloc: Global, line: &mut String, range: &ClassUnicodeRange) -> Result<(), AllocError> {
+    let (start, end) = (range.start(), range.end());
+    add(line, " ", format!(in alloc; "{start}-{end}")?.as_str())
 }
 
 fn leaf(alloc: Global, tree: &Hir) -> Result<String, AllocError> {
@@ -28,14 +31,18 @@ fn leaf(alloc: Global, tree: &Hir) -> Result<String, AllocError> {
     }
 }
 
+fn branch_shown(alloc: Global, branch: &Hir) -> Result<String, AllocError> {
+    let mut line = String::from_str(alloc, "..|")?;
+    line.push_str(leaf(alloc, branch)?.as_str())?;
+    Ok(line)
+}
+
 // A leaf, or the second of some branches.
 fn shown(alloc: Global, tree: &Hir) -> Result<String, AllocError> {
     if let HirKind::Alternation(branches) = tree.kind()
         && let Some(branch) = branches.get(1)
     {
-        let mut line = String::from_str(alloc, "..|")?;
-        line.push_str(leaf(alloc, branch)?.as_str())?;
-        return Ok(line);
+        return branch_shown(alloc, branch);
     }
     leaf(alloc, tree)
 }
@@ -45,111 +52,108 @@ pub(crate) fn literal_tree(alloc: Global, text: &str) -> Result<Hir, AllocError>
 }
 
 pub(crate) fn literal(alloc: Global, text: &str) -> Result<String, AllocError> {
-    shown(alloc, &literal_tree(alloc, text)?)
+    let tree = literal_tree(alloc, text)?;
+    shown(alloc, &tree)
 }
 
-// The tree, no tree, or out of memory.
-fn or_none(read: Result<Hir, RegexError>) -> Result<Option<Hir>, AllocError> {
-    match read {
-        Ok(tree) => Ok(Some(tree)),
-        Err(RegexError::Syntax { .. }) => Ok(None),
-        Err(RegexError::OutOfMemory) => Err(AllocError),
+// The refusal for memory, or else that the text is no pattern.
+fn told(alloc: Global, error: RegexError) -> Result<String, AllocError> {
+    match error {
+        RegexError::OutOfMemory => Err(AllocError),
+        RegexError::Syntax { .. } => String::from_str(alloc, "no pattern"),
     }
 }
 
-pub(crate) fn read(alloc: Global, pattern: &str) -> Result<Option<Hir>, AllocError> {
-    or_none(parse_regex(alloc, pattern))
-}
-
-fn read_as_it_is(alloc: Global, text: &str) -> Result<Option<Hir>, AllocError> {
-    or_none(parse_literal(alloc, text))
-}
-
-fn shown_or_none(alloc: Global, tree: Option<Hir>) -> Result<String, AllocError> {
-    match tree {
-        Some(tree) => shown(alloc, &tree),
-        None => String::from_str(alloc, "no pattern"),
+fn shown_or_told(alloc: Global, read: Result<Hir, RegexError>) -> Result<String, AllocError> {
+    match read {
+        Ok(tree) => shown(alloc, &tree),
+        Err(error) => told(alloc, error),
     }
 }
 
 pub(crate) fn read_literal(alloc: Global, text: &str) -> Result<String, AllocError> {
-    shown_or_none(alloc, read_as_it_is(alloc, text)?)
+    shown_or_told(alloc, parse_literal(alloc, text))
 }
 
 pub(crate) fn pattern(alloc: Global, pattern: &str) -> Result<String, AllocError> {
-    shown_or_none(alloc, read(alloc, pattern)?)
+    shown_or_told(alloc, parse_regex(alloc, pattern))
+}
+
+// The tree of the pattern. Any error is told as out of memory.
+pub(crate) fn tree_of(alloc: Global, pattern: &str) -> Result<Hir, AllocError> {
+    match parse_regex(alloc, pattern) {
+        Ok(tree) => Ok(tree),
+        Err(_) => Err(AllocError),
+    }
 }
 
 // As many groups, each in the one before.
-fn nested(alloc: Global, levels: usize) -> Result<String, AllocError> {
+fn nested(alloc: Global, levels: u32) -> Result<String, AllocError> {
     let mut pattern = String::new(alloc);
-    for _ in 0..levels {
-        pattern.push('(')?;
-    }
-    for _ in 0..levels {
-        pattern.push(')')?;
+    for bracket in ['(', ')'] {
+        for _ in 0..levels {
+            pattern.push(bracket)?;
+        }
     }
     Ok(pattern)
 }
 
-pub(crate) fn groups(rt: &impl Abort, alloc: Global, levels: &str) -> Result<String, AllocError> {
-    let levels = levels.parse().ok().expect(rt, "a number of levels");
-    let text = at_last!(rt; nested(alloc, levels));
-    pattern(alloc, text.as_str())
+pub(crate) fn groups(alloc: Global, levels: &str) -> Result<String, AllocError> {
+    pattern(alloc, nested(alloc, number(levels))?.as_str())
 }
 
 pub(crate) fn escaped(alloc: Global, text: &str) -> Result<String, AllocError> {
     match escape(alloc, text) {
         Ok(pattern) => Ok(pattern),
-        Err(RegexError::OutOfMemory) => Err(AllocError),
-        Err(RegexError::Syntax { .. }) => String::from_str(alloc, "no pattern"),
+        Err(error) => told(alloc, error),
     }
 }
 
-pub(crate) fn class_of(
-    alloc: Global,
-    ranges: Vec<ClassUnicodeRange>,
-) -> Result<ClassUnicode, AllocError> {
+// The range of `a-z`.
+fn range_of(text: &str) -> ClassUnicodeRange {
+    let (start, end) = halves(text, "-");
+    ClassUnicodeRange::new(start.parse().unwrap_or('?'), end.parse().unwrap_or('?'))
+}
+
+// The class of ranges such as `a-z`, with blanks between them.
+pub(crate) fn class_of(alloc: Global, given: &str) -> Result<ClassUnicode, AllocError> {
+    let mut ranges = Vec::new(alloc);
+    for range in given.split(' ') {
+        ranges.push(range_of(range))?;
+    }
     ClassUnicode::new(alloc, ranges)
 }
 
-// A class of ranges such as `a-z`, with blanks between them.
-pub(crate) fn class(rt: &impl Abort, alloc: Global, given: &str) -> Result<String, AllocError> {
-    let mut ranges = Vec::new(alloc);
-    for range in given.split(' ') {
-        let (start, end) = halves(rt, range, "-");
-        let start = start.parse().ok().expect(rt, "a character");
-        let end = end.parse().ok().expect(rt, "a character");
-        ranges.push(ClassUnicodeRange::new(start, end))?;
-    }
-    runs(alloc, &class_of(alloc, ranges)?)
+pub(crate) fn class(alloc: Global, given: &str) -> Result<String, AllocError> {
+    let class = class_of(alloc, given)?;
+    runs(alloc, &class)
 }
 
 fn debugged(alloc: Global, tree: &Hir) -> Result<String, AllocError> {
     format!(in alloc; "{tree:?}")
 }
 
-fn copy_of(tree: &Hir) -> Result<Hir, AllocError> {
-    tree.clone()
-}
-
-fn shows(rt: &impl Abort, alloc: Global, tree: &Hir, shown: &str) -> bool {
-    at_last!(rt; debugged(alloc, tree)).as_str() == shown
+fn copy_debugged(alloc: Global, tree: &Hir) -> Result<String, AllocError> {
+    let copy = tree.clone()?;
+    debugged(alloc, &copy)
 }
 
 // Whether a copy of the tree shows what the tree shows, before and after.
-fn copies(rt: &impl Abort, alloc: Global, tree: &Hir) -> bool {
-    let shown = at_last!(rt; debugged(alloc, tree));
-    let copy = at_last!(rt; copy_of(tree));
-    shows(rt, alloc, &copy, shown.as_str()) && shows(rt, alloc, tree, shown.as_str())
+fn copies(alloc: Global, tree: &Hir) -> Result<bool, AllocError> {
+    let before = debugged(alloc, tree)?;
+    let copy = copy_debugged(alloc, tree)?;
+    let after = debugged(alloc, tree)?;
+    Ok(before == copy && before == after)
 }
 
-pub(crate) fn copied(rt: &impl Abort, alloc: Global, pattern: &str) -> Result<String, AllocError> {
-    let is_copied = match at_last!(rt; read(alloc, pattern)) {
-        Some(tree) => copies(rt, alloc, &tree),
-        None => false,
-    };
+fn copied_or_not(alloc: Global, tree: &Hir) -> Result<String, AllocError> {
+    let is_copied = copies(alloc, tree)?;
     String::from_str(alloc, if is_copied { "copied" } else { "not copied" })
+}
+
+pub(crate) fn copied(alloc: Global, pattern: &str) -> Result<String, AllocError> {
+    let tree = tree_of(alloc, pattern)?;
+    copied_or_not(alloc, &tree)
 }
 
 #[test]
@@ -167,21 +171,26 @@ z-a => a-z
     expect(&rt, rt.alloc(), Call::Class, table, 3);
 }
 
-fn bytes(alloc: Global) -> Result<ClassBytes, AllocError> {
-    let mut ranges = Vec::new(alloc);
-    ranges.push(ClassBytesRange::new(6, 9))?;
-    ranges.push(ClassBytesRange::new(5, 7))?;
-    ranges.push(ClassBytesRange::new(10, 10))?;
-    ClassBytes::new(alloc, ranges)
+fn is_five_to_ten(class: &ClassBytes) -> bool {
+    match class.ranges() {
+        [range] => range.start() == 5 && range.end() == 10,
+        _ => false,
+    }
+}
+
+fn bytes_are_joined(alloc: Global) -> Result<bool, AllocError> {
+    let ranges = vec![in alloc;
+        ClassBytesRange::new(6, 9),
+        ClassBytesRange::new(5, 7),
+        ClassBytesRange::new(10, 10),
+    ]?;
+    let class = ClassBytes::new(alloc, ranges)?;
+    Ok(is_five_to_ten(&class))
 }
 
 #[test]
 fn classes_of_bytes(rt: HostRuntime) {
-    let class = at_last!(&rt; bytes(rt.alloc()));
-    assert_eq!(rt; class.ranges().len(), 1);
-    for range in class.ranges() {
-        assert!(rt; range.start() == 5 && range.end() == 10);
-    }
+    assert!(rt; at_last!(&rt; bytes_are_joined(rt.alloc())));
 }
 
 #[test]

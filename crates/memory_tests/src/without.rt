@@ -16,101 +16,114 @@ use lalrpop_lexer::lexer::nfa::{
 };
 use lexdfa_lib::{Outcome, RunError, Watched, arguments};
 use std::alloc::{AllocError, Global};
-use std::process::Abort;
 
 // A request of this size, whatever becomes of it, is the sign to refuse all that follow.
 fn from_here_on(alloc: Global) {
     let _sign: Result<Vec<u8>, AllocError> = Vec::with_capacity(alloc, 54_321);
 }
 
-fn letters(alloc: Global) -> Result<ClassUnicode, AllocError> {
-    let mut ranges = Vec::new(alloc);
-    ranges.push(ClassUnicodeRange::new('z', 'a'))?;
-    class_of(alloc, ranges)
-}
-
-fn boxed(alloc: Global, look: Option<Look>) -> Result<Box<Hir>, AllocError> {
-    let tree = match look {
-        Some(look) => Hir::look(look),
-        None => Hir::empty(),
-    };
-    Ok(Box::new(alloc, tree)?)
-}
-
-fn kind_of(tree: &Hir) -> &'static str {
-    match tree.kind() {
-        HirKind::Empty => "empty",
-        HirKind::Literal(_) => "literal",
-        HirKind::Class(Class::Unicode(_)) => "class",
-        HirKind::Class(Class::Bytes(_)) => "class of bytes",
-        HirKind::Look(Look::EndLF) => "end of a line",
-        HirKind::Look(_) => "another look",
-        HirKind::Repetition(_) => "repetition",
-        HirKind::Capture(_) => "group",
-        HirKind::Concat(_) => "row",
-        HirKind::Alternation(_) => "choice",
-    }
-}
-
-fn is_literal(tree: &Hir, text: &str) -> bool {
+fn is_literal(tree: Hir, text: &str) -> bool {
     match tree.kind() {
         HirKind::Literal(literal) => literal.as_str() == text,
         _ => false,
     }
 }
 
-fn expect_letters(rt: &impl Abort, letters: &ClassUnicode) {
-    for range in letters.ranges() {
-        assert!(rt; range.start() == 'a' && range.end() == 'z');
-    }
-}
-
-fn is_twice(twice: &Repetition) -> bool {
-    twice.min() == 2
-        && twice.max() == Some(4)
-        && !twice.greedy()
-        && kind_of(twice.sub()) == "end of a line"
-}
-
-fn is_named(group: &Capture) -> bool {
-    group.name() == Some("n") && kind_of(group.sub()) == "empty"
+fn literal_is_shown(alloc: Global) -> Result<bool, AllocError> {
+    let literal = literal_tree(alloc, "é")?;
+    from_here_on(alloc);
+    Ok(is_literal(literal, "é"))
 }
 
 #[test]
-fn leaves(rt: HostRuntime) {
-    let alloc = rt.alloc();
-    let literal = at_last!(&rt; literal_tree(alloc, "é"));
-    let letters = at_last!(&rt; letters(alloc));
+fn literals(rt: HostRuntime) {
+    assert!(rt; at_last!(&rt; literal_is_shown(rt.alloc())));
+}
+
+fn holds_a_to_z(class: &ClassUnicode) -> bool {
+    match class.ranges() {
+        [range] => range.start() == 'a' && range.end() == 'z',
+        _ => false,
+    }
+}
+
+fn is_class(tree: Hir) -> bool {
+    match tree.kind() {
+        HirKind::Class(Class::Unicode(class)) => holds_a_to_z(class),
+        _ => false,
+    }
+}
+
+fn class_is_shown(alloc: Global) -> Result<bool, AllocError> {
+    let class = class_of(alloc, "z-a")?;
     from_here_on(alloc);
-    assert!(rt; is_literal(&literal, "é"));
-    expect_letters(&rt, &letters);
-    assert_eq!(rt; kind_of(&Hir::class(Class::Unicode(letters))), "class");
+    Ok(is_class(Hir::class(Class::Unicode(class))))
+}
+
+#[test]
+fn classes(rt: HostRuntime) {
+    assert!(rt; at_last!(&rt; class_is_shown(rt.alloc())));
+}
+
+fn is_named_group(tree: Hir) -> bool {
+    match tree.kind() {
+        HirKind::Capture(group) => {
+            group.name() == Some("n") && matches!(group.sub().kind(), HirKind::Empty)
+        }
+        _ => false,
+    }
+}
+
+fn group_is_shown(alloc: Global) -> Result<bool, AllocError> {
+    let inside = Box::new(alloc, Hir::empty())?;
+    let name = String::from_str(alloc, "n")?;
+    from_here_on(alloc);
+    Ok(is_named_group(Hir::capture(Capture::new(Some(name), inside))))
 }
 
 #[test]
 fn groups(rt: HostRuntime) {
-    let inside = at_last!(&rt; boxed(rt.alloc(), None));
-    let name = at_last!(&rt; String::from_str(rt.alloc(), "n"));
-    from_here_on(rt.alloc());
-    let group = Capture::new(Some(name), inside);
-    assert!(rt; is_named(&group));
-    assert_eq!(rt; kind_of(&Hir::capture(group)), "group");
+    assert!(rt; at_last!(&rt; group_is_shown(rt.alloc())));
+}
+
+fn is_twice_or_more(turns: &Repetition) -> bool {
+    turns.min() == 2
+        && turns.max() == Some(4)
+        && !turns.greedy()
+        && matches!(turns.sub().kind(), HirKind::Look(Look::EndLF))
+}
+
+fn is_repetition(tree: Hir) -> bool {
+    match tree.kind() {
+        HirKind::Repetition(turns) => is_twice_or_more(turns),
+        _ => false,
+    }
+}
+
+fn repetition_is_shown(alloc: Global) -> Result<bool, AllocError> {
+    let turn = Box::new(alloc, Hir::look(Look::EndLF))?;
+    from_here_on(alloc);
+    Ok(is_repetition(Hir::repetition(Repetition::new(2, Some(4), false, turn))))
 }
 
 #[test]
 fn repetitions(rt: HostRuntime) {
-    let turn = at_last!(&rt; boxed(rt.alloc(), Some(Look::EndLF)));
-    from_here_on(rt.alloc());
-    let twice = Repetition::new(2, Some(4), false, turn);
-    assert!(rt; is_twice(&twice));
-    assert_eq!(rt; kind_of(&Hir::repetition(twice)), "repetition");
+    assert!(rt; at_last!(&rt; repetition_is_shown(rt.alloc())));
+}
+
+fn is_row(tree: Hir) -> bool {
+    matches!(tree.kind(), HirKind::Concat(_))
+}
+
+fn is_choice(tree: Hir) -> bool {
+    matches!(tree.kind(), HirKind::Alternation(_))
 }
 
 #[test]
 fn lists(rt: HostRuntime) {
     from_here_on(rt.alloc());
-    assert_eq!(rt; kind_of(&Hir::concat(Vec::new(rt.alloc()))), "row");
-    assert_eq!(rt; kind_of(&Hir::alternation(Vec::new(rt.alloc()))), "choice");
+    assert!(rt; is_row(Hir::concat(Vec::new(rt.alloc()))));
+    assert!(rt; is_choice(Hir::alternation(Vec::new(rt.alloc()))));
 }
 
 fn is_made_alike(letters: &Test) -> bool {
@@ -131,54 +144,58 @@ fn holds(letters: &Test, b: &Test, empty: &Test) -> bool {
         && letters.is_disjoint(empty)
         && empty.is_empty()
         && !letters.is_empty()
+        && b.is_char()
+        && *b == Test::byte(98)
+}
+
+fn is_turned(bytes: &ClassBytesRange) -> bool {
+    bytes.start() == 2 && bytes.end() == 9
 }
 
 #[test]
 fn ranges(rt: HostRuntime) {
     from_here_on(rt.alloc());
     let letters = Test::inclusive_range('a', 'z');
-    let b = Test::char('b');
     assert!(rt; is_made_alike(&letters) && has_ends(&letters));
-    assert!(rt; b.is_char() && Test::byte(98) == b);
-    assert!(rt; holds(&letters, &b, &Test::exclusive_range('b', 'b')));
-    let bytes = ClassBytesRange::new(9, 2);
-    assert!(rt; bytes.start() == 2 && bytes.end() == 9);
+    assert!(rt; holds(&letters, &Test::char('b'), &Test::exclusive_range('b', 'b')));
+    assert!(rt; is_turned(&ClassBytesRange::new(9, 2)));
     let mut steps = Steps::new();
     steps.tick();
 }
 
-fn compile(alloc: Global, text: &str) -> Result<Nfa, AllocError> {
-    nfa_of(alloc, &literal_tree(alloc, text)?)
-}
-
-fn has_kind(nfa: &Nfa, state: NfaStateIndex, wanted: StateKind) -> bool {
+// Whether the state is of this kind, and edges of just these kinds of label leave it.
+fn has_kind(
+    nfa: &Nfa,
+    state: NfaStateIndex,
+    kind: StateKind,
+    by_noop: bool,
+    by_other: bool,
+) -> bool {
     nfa.contains_state(state)
-        && nfa.kind(state) == wanted
+        && nfa.kind(state) == kind
         && nfa.is_accepting_state(state) == (state == ACCEPT)
         && nfa.is_rejecting_state(state) == (state == REJECT)
+        && nfa.edges::<Noop>(state).next().is_some() == by_noop
+        && nfa.edges::<Other>(state).next().is_some() == by_other
+        && nfa.edges::<Test>(state).next().is_none()
 }
 
-// Whether an edge of each kind of label leaves the state.
-fn leaves_by(nfa: &Nfa, state: NfaStateIndex) -> (bool, bool, bool) {
-    if !nfa.contains_state(state) {
-        return (false, false, true);
-    }
-    let by_noop = nfa.edges::<Noop>(state).next().is_some();
-    let by_other = nfa.edges::<Other>(state).next().is_some();
-    (by_noop, by_other, nfa.edges::<Test>(state).next().is_some())
+fn has_fixed_states(nfa: &Nfa) -> bool {
+    nfa.len() == 4
+        && has_kind(nfa, ACCEPT, StateKind::Accept, false, true)
+        && has_kind(nfa, REJECT, StateKind::Reject, false, true)
+        && has_kind(nfa, START, StateKind::Neither, true, false)
+}
+
+fn one_tree_is_shown(alloc: Global) -> Result<bool, AllocError> {
+    let nfa = nfa_of(alloc, &literal_tree(alloc, "a")?)?;
+    from_here_on(alloc);
+    Ok(has_fixed_states(&nfa))
 }
 
 #[test]
 fn one_tree(rt: HostRuntime) {
-    let nfa = at_last!(&rt; compile(rt.alloc(), "a"));
-    from_here_on(rt.alloc());
-    assert_eq!(rt; nfa.len(), 4);
-    assert!(rt; has_kind(&nfa, ACCEPT, StateKind::Accept));
-    assert!(rt; has_kind(&nfa, REJECT, StateKind::Reject));
-    assert!(rt; has_kind(&nfa, START, StateKind::Neither));
-    assert!(rt; leaves_by(&nfa, ACCEPT) == (false, true, false));
-    assert!(rt; leaves_by(&nfa, REJECT) == (false, true, false));
-    assert!(rt; leaves_by(&nfa, START) == (true, false, false));
+    assert!(rt; at_last!(&rt; one_tree_is_shown(rt.alloc())));
 }
 
 fn finds_class(dfa: &Dfa, text: &str) -> bool {
@@ -205,16 +222,11 @@ fn finds_class_and_counts_probes(dfa: &Dfa, text: &str) -> bool {
     }
 }
 
-fn build(rt: &impl Abort, alloc: Global, text: &str) -> Result<Dfa, AllocError> {
-    let mut trees = Vec::new(alloc);
-    trees.push(literal_tree(alloc, text)?)?;
-    built(rt, alloc, &trees, &[Precedence(0)])
-}
-
-fn expect_found(rt: &impl Abort, dfa: &Dfa, text: &str, is_found: bool) {
-    assert!(rt; finds_class(dfa, text) == is_found);
-    assert!(rt; finds_class_and_counts(dfa, text) == is_found);
-    assert!(rt; finds_class_and_counts_probes(dfa, text) == is_found);
+// Whether the class is found by each of the calls, or by none.
+fn find_class(dfa: &Dfa, text: &str, is_found: bool) -> bool {
+    finds_class(dfa, text) == is_found
+        && finds_class_and_counts(dfa, text) == is_found
+        && finds_class_and_counts_probes(dfa, text) == is_found
 }
 
 fn has_one_edge_at_start(dfa: &Dfa) -> bool {
@@ -223,38 +235,56 @@ fn has_one_edge_at_start(dfa: &Dfa) -> bool {
         && dfa.test_edges(dfa::START).len() == 1
 }
 
-fn expect_other_edges(rt: &impl Abort, dfa: &Dfa, target: usize) {
+fn have_other_edges_to(dfa: &Dfa, target: usize) -> bool {
     for state in dfa.states() {
-        assert_eq!(rt; state.other_edge().index(), target);
+        if state.other_edge().index() != target {
+            return false;
+        }
     }
+    true
+}
+
+fn automaton_is_shown(dfa: &Dfa) -> bool {
+    find_class(dfa, "class Foo", true)
+        && find_class(dfa, "clasz", false)
+        && dfa.states().len() == 7
+        && has_one_edge_at_start(dfa)
+        && have_other_edges_to(dfa, 2)
+}
+
+fn many_trees_are_shown(alloc: Global) -> Result<bool, AllocError> {
+    let dfa = built(alloc, &[literal_tree(alloc, "class")?], &[Precedence(0)])?;
+    from_here_on(alloc);
+    Ok(automaton_is_shown(&dfa))
 }
 
 #[test]
 fn many_trees(rt: HostRuntime) {
-    let dfa = at_last!(&rt; build(&rt, rt.alloc(), "class"));
-    from_here_on(rt.alloc());
-    expect_found(&rt, &dfa, "class Foo", true);
-    expect_found(&rt, &dfa, "clasz", false);
-    assert_eq!(rt; dfa.states().len(), 7);
-    assert!(rt; has_one_edge_at_start(&dfa));
-    expect_other_edges(&rt, &dfa, 2);
+    assert!(rt; at_last!(&rt; many_trees_are_shown(rt.alloc())));
 }
 
-fn one_word(alloc: Global) -> Result<Vec<String>, AllocError> {
-    let mut words = Vec::new(alloc);
-    words.push(String::from_str(alloc, "")?)?;
-    Ok(words)
+fn ends_at_once(mut set: KernelSet<Plain>) -> bool {
+    matches!(set.next(), Ok(None))
+}
+
+fn holds_its_end(end: Watched<u8>) -> bool {
+    !end.failed() && end.into_inner() == 7
+}
+
+fn program_answers(alloc: Global, words: &[String]) -> bool {
+    from_here_on(alloc);
+    ends_at_once(KernelSet::new(alloc))
+        && arguments(words) == Some("")
+        && holds_its_end(Watched::new(7))
+        && Outcome::NoMatch.status() == 1
+        && RunError::OutOfMemory.status() == 5
+}
+
+fn the_program_is_shown(alloc: Global) -> Result<bool, AllocError> {
+    Ok(program_answers(alloc, &[String::from_str(alloc, "")?]))
 }
 
 #[test]
 fn the_program(rt: HostRuntime) {
-    let alloc = rt.alloc();
-    let words = at_last!(&rt; one_word(alloc));
-    from_here_on(alloc);
-    let mut set: KernelSet<Plain> = KernelSet::new(alloc);
-    assert!(rt; matches!(set.next(), Ok(None)));
-    assert!(rt; arguments(&words) == Some(""));
-    let end = Watched::new(7);
-    assert!(rt; !end.failed() && end.into_inner() == 7);
-    assert!(rt; Outcome::NoMatch.status() == 1 && RunError::OutOfMemory.status() == 5);
+    assert!(rt; at_last!(&rt; the_program_is_shown(rt.alloc())));
 }
