@@ -1,11 +1,10 @@
 //! The states of built automata, with the test edges of START.
 
-use crate::built::{built, built_from, nfa_of};
+use crate::built::{built, built_from, expect};
 use lalrpop_lexer::lexer::dfa::{Dfa, START};
 use lalrpop_lexer::lexer::re::Hir;
 use std::alloc::{AllocError, Global};
 use std::fmt::Write;
-use std::process::Abort;
 
 // Lists of patterns, and below each what its states are for and where all that has no edge of its own leads, and then the edges
 // of the first state. States are numbered by the least words that lead to them, the shorter before the longer.
@@ -68,29 +67,34 @@ fn write_automaton(out: &mut String, words: &str, dfa: &Dfa) -> Result<(), Alloc
 }
 
 // Writes the patterns, and below them their automaton.
-fn draw(rt: &impl Abort, out: &mut String, alloc: Global, words: &str) {
-    let dfa = built(rt, alloc, words);
-    write_automaton(out, words, &dfa).expect(rt, "memory");
+fn draw(alloc: Global, out: &mut String, words: &str) -> Result<(), AllocError> {
+    let dfa = built(alloc, words)?;
+    write_automaton(out, words, &dfa)
+}
+
+fn drawn(alloc: Global) -> Result<String, AllocError> {
+    let mut out = String::new(alloc);
+    for words in ["", "'a'", "'b' 'a'", "[a-b]|c", "'ab' 'abc'"] {
+        draw(alloc, &mut out, words)?;
+    }
+    Ok(out)
 }
 
 #[test]
 fn lists_of_patterns_have_these_automata(rt: HostRuntime) {
-    let mut out = String::new(rt.alloc());
-    for words in ["", "'a'", "'b' 'a'", "[a-b]|c", "'ab' 'abc'"] {
-        draw(&rt, &mut out, rt.alloc(), words);
-    }
-    assert_eq!(rt; out.as_str(), AUTOMATA);
+    expect(&rt, drawn(rt.alloc()), AUTOMATA);
 }
 
-#[test]
-fn the_automaton_of_one_literal_has_a_state_for_its_character(rt: HostRuntime) {
-    assert_eq!(rt; nfa_of(&rt, rt.alloc(), "'a'").len(), 4);
+fn has_no_edge_at_start(dfa: &Dfa) -> bool {
+    START.index() < dfa.states().len() && dfa.test_edges(START).len() == 0
+}
+
+fn nothing_rejects_all(alloc: Global) -> Result<bool, AllocError> {
+    let dfa = built_from(alloc, Hir::alternation(Vec::new(alloc)))?;
+    Ok(has_no_edge_at_start(&dfa))
 }
 
 #[test]
 fn a_choice_of_nothing_rejects_all(rt: HostRuntime) {
-    let nothing = Hir::alternation(Vec::new(rt.alloc()));
-    let dfa = built_from(&rt, rt.alloc(), &[nothing]);
-    assert!(rt; !dfa.states().is_empty());
-    assert_eq!(rt; dfa.test_edges(START).len(), 0);
+    assert!(rt; nothing_rejects_all(rt.alloc()) == Ok(true));
 }

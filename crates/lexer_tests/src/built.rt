@@ -1,101 +1,124 @@
-//! Automata of patterns that stand in one text. Each gives the value or ends the test, so that no caller has a way for errors.
+//! Automata of patterns that stand in one text, and what is expected of them.
 
-use lalrpop_lexer::lexer::dfa::interpret::interpret;
 use lalrpop_lexer::lexer::dfa::{Dfa, DfaConstructionError, Precedence, build_dfa};
 use lalrpop_lexer::lexer::nfa::{Nfa, NfaConstructionError};
-use lalrpop_lexer::lexer::re::{Hir, parse_literal, parse_regex};
+use lalrpop_lexer::lexer::re::{Hir, RegexError, parse_literal, parse_regex};
 use std::alloc::{AllocError, Global};
 use std::process::Abort;
 
+/// The call has this answer.
+pub(crate) fn expect(rt: &impl Abort, found: Result<String, AllocError>, wanted: &str) {
+    let found = found.expect(rt, "memory");
+    assert_eq!(rt; found.as_str(), wanted);
+}
+
+/// The two parts of a row. Where it has no second part that is empty, and no call has such an answer.
+pub(crate) fn halves<'a>(row: &'a str, between: &str) -> (&'a str, &'a str) {
+    row.split_once(between).unwrap_or((row, ""))
+}
+
 // A word in apostrophes is meant as it stands, and any other is a pattern.
-fn tree_of(rt: &impl Abort, alloc: Global, word: &str) -> Hir {
-    let read = if word.starts_with('\'') {
+fn read(alloc: Global, word: &str) -> Result<Hir, RegexError> {
+    if word.starts_with('\'') {
         parse_literal(alloc, word.trim_matches('\''))
     } else {
         parse_regex(alloc, word)
-    };
-    read.expect(rt, "a tree")
+    }
 }
 
-fn trees_of(rt: &impl Abort, alloc: Global, words: &str) -> Result<Vec<Hir>, AllocError> {
+/// The tree of a word. Here and below any error is told as out of memory, which ends a test.
+pub(crate) fn tree_of(alloc: Global, word: &str) -> Result<Hir, AllocError> {
+    match read(alloc, word) {
+        Ok(tree) => Ok(tree),
+        Err(_) => Err(AllocError),
+    }
+}
+
+fn add_tree(alloc: Global, trees: &mut Vec<Hir>, word: &str) -> Result<(), AllocError> {
+    let tree = tree_of(alloc, word)?;
+    trees.push(tree)?;
+    Ok(())
+}
+
+fn trees_of(alloc: Global, words: &str) -> Result<Vec<Hir>, AllocError> {
     let mut trees = Vec::new(alloc);
     for word in words.split_whitespace() {
-        let tree = tree_of(rt, alloc, word);
-        trees.push(tree)?;
+        add_tree(alloc, &mut trees, word)?;
     }
     Ok(trees)
 }
 
-// The one call of `build_dfa`, whose clauses make each caller long to prove.
+// The one call of `build_dfa`, whose clauses make each caller long to prove. There are as many trees as precedences.
 fn build(
-    rt: &impl Abort,
     alloc: Global,
     trees: &[Hir],
     precedences: &[Precedence],
 ) -> Result<Dfa, DfaConstructionError> {
-    assert!(rt; trees.len() == precedences.len());
+    if trees.len() != precedences.len() {
+        return Err(DfaConstructionError::OutOfMemory);
+    }
     build_dfa(alloc, trees, precedences)
 }
 
+fn given(made: Result<Dfa, DfaConstructionError>) -> Result<Dfa, AllocError> {
+    match made {
+        Ok(dfa) => Ok(dfa),
+        Err(_) => Err(AllocError),
+    }
+}
+
 fn of_one_strength(
-    rt: &impl Abort,
     alloc: Global,
     trees: &[Hir],
-) -> Result<Dfa, DfaConstructionError> {
-    let precedences = vec![in alloc; Precedence(0); trees.len()].expect(rt, "memory");
-    build(rt, alloc, trees, &precedences)
+) -> Result<Result<Dfa, DfaConstructionError>, AllocError> {
+    let precedences = vec![in alloc; Precedence(0); trees.len()]?;
+    Ok(build(alloc, trees, &precedences))
 }
 
-/// The automaton of these trees, all of one strength.
-pub(crate) fn built_from(rt: &impl Abort, alloc: Global, trees: &[Hir]) -> Dfa {
-    of_one_strength(rt, alloc, trees).expect(rt, "an automaton")
-}
-
-/// The automaton of the patterns, which spaces part, or why there is none.
+/// The automaton of the patterns, which spaces part, or why there is none. All are of one strength.
 pub(crate) fn made(
-    rt: &impl Abort,
     alloc: Global,
     words: &str,
-) -> Result<Dfa, DfaConstructionError> {
-    let trees = trees_of(rt, alloc, words).expect(rt, "memory");
-    of_one_strength(rt, alloc, &trees)
+) -> Result<Result<Dfa, DfaConstructionError>, AllocError> {
+    let trees = trees_of(alloc, words)?;
+    of_one_strength(alloc, &trees)
 }
 
-/// The automaton of the patterns, which spaces part.
-pub(crate) fn built(rt: &impl Abort, alloc: Global, words: &str) -> Dfa {
-    made(rt, alloc, words).expect(rt, "an automaton")
+/// The automaton of the patterns, which spaces part. All are of one strength.
+pub(crate) fn built(alloc: Global, words: &str) -> Result<Dfa, AllocError> {
+    given(made(alloc, words)?)
 }
 
 /// The automaton of the patterns, which spaces part, with these precedences.
 pub(crate) fn built_with(
-    rt: &impl Abort,
     alloc: Global,
     words: &str,
     precedences: &[Precedence],
-) -> Dfa {
-    let trees = trees_of(rt, alloc, words).expect(rt, "memory");
-    build(rt, alloc, &trees, precedences).expect(rt, "an automaton")
+) -> Result<Dfa, AllocError> {
+    let trees = trees_of(alloc, words)?;
+    given(build(alloc, &trees, precedences))
 }
 
-fn compiled(alloc: Global, tree: &Hir) -> Result<Nfa, NfaConstructionError> {
+/// The automaton of one tree.
+pub(crate) fn built_from(alloc: Global, tree: Hir) -> Result<Dfa, AllocError> {
+    given(build(alloc, &[tree], &[Precedence(0)]))
+}
+
+/// What one tree is compiled to.
+pub(crate) fn compiled(alloc: Global, tree: &Hir) -> Result<Nfa, NfaConstructionError> {
     Nfa::from_re(alloc, tree)
 }
 
 /// The automaton of one tree.
-pub(crate) fn nfa_of_tree(rt: &impl Abort, alloc: Global, tree: &Hir) -> Nfa {
-    compiled(alloc, tree).expect(rt, "an automaton")
+pub(crate) fn nfa_of(alloc: Global, tree: &Hir) -> Result<Nfa, AllocError> {
+    match compiled(alloc, tree) {
+        Ok(nfa) => Ok(nfa),
+        Err(_) => Err(AllocError),
+    }
 }
 
 /// The automaton of one pattern.
-pub(crate) fn nfa_of(rt: &impl Abort, alloc: Global, word: &str) -> Nfa {
-    let tree = tree_of(rt, alloc, word);
-    nfa_of_tree(rt, alloc, &tree)
-}
-
-/// The place and the text of the match.
-pub(crate) fn found<'t>(dfa: &Dfa, text: &'t str) -> Option<(usize, &'t str)> {
-    match interpret(dfa, text) {
-        Some((place, found)) => Some((place.index(), found)),
-        None => None,
-    }
+pub(crate) fn nfa_for(alloc: Global, word: &str) -> Result<Nfa, AllocError> {
+    let tree = tree_of(alloc, word)?;
+    nfa_of(alloc, &tree)
 }

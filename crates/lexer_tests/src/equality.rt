@@ -1,29 +1,31 @@
 //! When automata and their states are equal, and that copies run.
 
-use crate::built::{built, found};
+use crate::built::built;
+use crate::runs::finds;
+use lalrpop_lexer::lexer::dfa::interpret::interpret;
 use lalrpop_lexer::lexer::dfa::{Dfa, Kind, State};
 use std::alloc::{AllocError, Global};
-use std::process::Abort;
+
+fn compared_with(alloc: Global, left: &Dfa, right: &str) -> Result<(bool, bool), AllocError> {
+    let right = built(alloc, right)?;
+    Ok((*left == right, left.states() == right.states()))
+}
 
 // Whether the automata of two lists of patterns are equal, and whether their states are.
-fn compared(rt: &impl Abort, alloc: Global, left: &str, right: &str) -> (bool, bool) {
-    let left = built(rt, alloc, left);
-    let right = built(rt, alloc, right);
-    (left == right, left.states() == right.states())
+fn compared(alloc: Global, left: &str, right: &str) -> Result<(bool, bool), AllocError> {
+    let left = built(alloc, left)?;
+    compared_with(alloc, &left, right)
 }
 
 #[test]
 fn test_edges_tell_automata_apart_and_not_states(rt: HostRuntime) {
-    assert_eq!(rt; compared(&rt, rt.alloc(), "'a'", "'b'"), (false, true));
-    assert_eq!(rt; compared(&rt, rt.alloc(), "'a'", "'ab'"), (false, false));
+    assert!(rt; compared(rt.alloc(), "'a'", "'b'") == Ok((false, true)));
+    assert!(rt; compared(rt.alloc(), "'a'", "'ab'") == Ok((false, false)));
 }
 
-fn copy_of(dfa: &Dfa) -> Result<Dfa, AllocError> {
-    dfa.clone()
-}
-
-fn are_equal(left: &[State], right: &[State]) -> bool {
-    left == right
+fn copy_has_equal_states(dfa: &Dfa) -> Result<bool, AllocError> {
+    let copy = dfa.clone()?;
+    Ok(copy.states() == dfa.states())
 }
 
 fn copy_is_equal(state: &State) -> Result<bool, AllocError> {
@@ -34,25 +36,46 @@ fn kind_of_copy(state: &State) -> Result<Kind, AllocError> {
     state.clone()?.kind().clone()
 }
 
-#[test]
-fn copies_have_equal_states(rt: HostRuntime) {
-    let dfa = built(&rt, rt.alloc(), "'ab'");
-    let copy = copy_of(&dfa).expect(&rt, "memory");
-    assert!(rt; are_equal(dfa.states(), copy.states()));
+fn copy_is_neither(state: &State) -> Result<bool, AllocError> {
+    Ok(kind_of_copy(state)? == Kind::Neither)
+}
+
+fn first_is_copied(states: &[State]) -> Result<bool, AllocError> {
+    match states.first() {
+        Some(first) => Ok(copy_is_equal(first)? && copy_is_neither(first)?),
+        None => Ok(false),
+    }
+}
+
+fn states_are_copied(dfa: &Dfa) -> Result<bool, AllocError> {
+    Ok(copy_has_equal_states(dfa)? && first_is_copied(dfa.states())?)
+}
+
+fn is_copied(alloc: Global, words: &str) -> Result<bool, AllocError> {
+    let dfa = built(alloc, words)?;
+    states_are_copied(&dfa)
 }
 
 #[test]
-fn copies_of_states_equal_their_sources(rt: HostRuntime) {
-    let dfa = built(&rt, rt.alloc(), "'ab'");
-    let first = &dfa.states()[0];
-    assert!(rt; copy_is_equal(first).expect(&rt, "memory"));
-    assert_eq!(rt; kind_of_copy(first).expect(&rt, "memory"), Kind::Neither);
+fn copies_equal_their_sources(rt: HostRuntime) {
+    assert!(rt; is_copied(rt.alloc(), "'ab'") == Ok(true));
+}
+
+fn finds_all_but_nothing(dfa: &Dfa) -> bool {
+    finds(dfa, "\n\u{10FFFF}a", 0) && interpret(dfa, "").is_none()
+}
+
+fn copy_finds_all_but_nothing(dfa: &Dfa) -> Result<bool, AllocError> {
+    let copy = dfa.clone()?;
+    Ok(finds_all_but_nothing(&copy))
+}
+
+fn copy_runs(alloc: Global) -> Result<bool, AllocError> {
+    let dfa = built(alloc, "(?s).*")?;
+    copy_finds_all_but_nothing(&dfa)
 }
 
 #[test]
 fn copies_run(rt: HostRuntime) {
-    let dfa = built(&rt, rt.alloc(), "(?s).*");
-    let copy = copy_of(&dfa).expect(&rt, "memory");
-    assert_eq!(rt; found(&copy, "\n\u{10FFFF}a"), Some((0, "\n\u{10FFFF}a")));
-    assert!(rt; found(&copy, "").is_none());
+    assert!(rt; copy_runs(rt.alloc()) == Ok(true));
 }

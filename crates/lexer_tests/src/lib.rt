@@ -1,6 +1,6 @@
-//! Tests of the public calls of the automata, with values: of one tree, its ranges and their partition, states, edges and
-//! refusals; of many, their states and edges, runs, how they are written, order, equality and copies. Kernel sets are tested in
-//! `memory_tests`. They are a crate of their own, so that no layer is proved a second time for its tests.
+//! Tests of the public calls of the automata, with values: of one tree, its ranges, states, edges and refusals; of many, their
+//! states and edges, runs, how they are written, order, equality and copies. Kernel sets and the partition of ranges are tested
+//! in `memory_tests`. They are a crate of their own, so that no layer is proved a second time for its tests.
 #![tactic(auto)]
 
 #[cfg(test)]

@@ -3,7 +3,7 @@
 ghost use Rattle.std.specs.Prelude.{◌≡◌, ◌↔◌, IsTrue};
 ghost use Rattle.std.specs.Ordering.{nat_cmp};
 
-use crate::built::{built, nfa_of_tree};
+use crate::built::{built, nfa_of};
 use lalrpop_lexer::lexer::dfa::interpret::interpret;
 use lalrpop_lexer::lexer::dfa::{self, Dfa, DfaStateIndex, NfaIndex, Precedence};
 use lalrpop_lexer::lexer::nfa::{ACCEPT, Nfa, NfaStateIndex, Noop, REJECT, START, StateKind};
@@ -11,7 +11,6 @@ use lalrpop_lexer::lexer::re::Hir;
 use std::alloc::{AllocError, Global};
 use std::cmp::Ordering;
 use std::hash::{DefaultHasher, Hash, Hasher};
-use std::process::Abort;
 
 // States are ordered by their numbers.
 fn order(a: NfaStateIndex, b: NfaStateIndex) -> Ordering
@@ -69,87 +68,107 @@ fn hash_of<T: Hash>(value: &T) -> u64 {
     state.finish()
 }
 
-// The ends of the first edge of START.
-fn first_edge(nfa: &Nfa) -> Option<(NfaStateIndex, NfaStateIndex)> {
-    if nfa.contains_state(START) {
-        if let Some(edge) = nfa.edges::<Noop>(START).next() {
-            return Some((edge.from, edge.to));
-        }
-    }
-    None
+fn is_start(state: NfaStateIndex) -> bool {
+    equal(START, state) && hash_of(&START) == hash_of(&state)
 }
 
-// The same of the automaton of the empty tree.
-fn edge_of_nothing(rt: &impl Abort, alloc: Global) -> (NfaStateIndex, NfaStateIndex) {
-    let nfa = nfa_of_tree(rt, alloc, &Hir::empty());
-    first_edge(&nfa).expect(rt, "an edge")
+// Whether the first edge of START leads from it to another state.
+fn leaves_start(nfa: &Nfa) -> bool {
+    if !nfa.contains_state(START) {
+        return false;
+    }
+    match nfa.edges::<Noop>(START).next() {
+        Some(edge) => is_start(edge.from) && !equal(START, edge.to),
+        None => false,
+    }
+}
+
+fn nfa_of_nothing(alloc: Global) -> Result<Nfa, AllocError> {
+    nfa_of(alloc, &Hir::empty())
+}
+
+fn nothing_leaves_start(alloc: Global) -> Result<bool, AllocError> {
+    let nfa = nfa_of_nothing(alloc)?;
+    Ok(leaves_start(&nfa))
 }
 
 #[test]
 fn states_of_one_pattern_are_ordered_by_number(rt: HostRuntime) {
-    assert_eq!(rt; order(ACCEPT, REJECT), Ordering::Less);
-    assert_eq!(rt; order(START, REJECT), Ordering::Greater);
-    let (from, to) = edge_of_nothing(&rt, rt.alloc());
-    assert!(rt; equal(START, from) && !equal(START, to));
-    assert_eq!(rt; hash_of(&START), hash_of(&from));
+    assert!(rt; order(ACCEPT, REJECT) == Ordering::Less);
+    assert!(rt; order(START, REJECT) == Ordering::Greater);
+    assert!(rt; nothing_leaves_start(rt.alloc()) == Ok(true));
+}
+
+fn kinds_ascend() -> bool {
+    use StateKind::{Accept, Neither, Reject};
+    Accept < Reject
+        && Reject < Neither
+        && Accept < Neither
+        && Neither.cmp(&Accept) == Ordering::Greater
+        && Reject.cmp(&Reject) == Ordering::Equal
 }
 
 #[test]
 fn kinds_are_ordered_accept_first(rt: HostRuntime) {
-    use StateKind::{Accept, Neither, Reject};
-    assert!(&rt; Accept < Reject && Reject < Neither && Accept < Neither);
-    assert_eq!(&rt; Neither.cmp(&Accept), Ordering::Greater);
-    assert_eq!(&rt; Reject.cmp(&Reject), Ordering::Equal);
+    assert!(rt; kinds_ascend());
+}
+
+fn compare_so(left: usize, right: usize, order: Ordering) -> bool {
+    let left = Precedence(left);
+    let right = Precedence(right);
+    order_of_precedences(left, right) == order
+        && equal_precedences(left, right) == (order == Ordering::Equal)
 }
 
 #[test]
 fn precedences_compare_as_their_numbers(rt: HostRuntime) {
-    for (left, right, order) in [
-        (1, 2, Ordering::Less),
-        (7, 7, Ordering::Equal),
-        (usize::MAX, 0, Ordering::Greater),
-    ] {
-        let is_same = order == Ordering::Equal;
-        let left = Precedence(left);
-        let right = Precedence(right);
-        assert_eq!(rt; order_of_precedences(left, right), order);
-        assert_eq!(rt; equal_precedences(left, right), is_same);
-    }
+    assert!(rt; compare_so(1, 2, Ordering::Less));
+    assert!(rt; compare_so(7, 7, Ordering::Equal));
+    assert!(rt; compare_so(usize::MAX, 0, Ordering::Greater));
 }
 
-fn targets_of(alloc: Global, dfa: &Dfa) -> Result<Vec<DfaStateIndex>, AllocError> {
-    let mut targets = Vec::new(alloc);
+fn is_start_of_many(state: DfaStateIndex) -> bool {
+    let start = dfa::START;
+    order_of_states(start, state) == Ordering::Equal
+        && equal_states(start, state)
+        && hash_of(&start) == hash_of(&state)
+}
+
+fn comes_after_start(state: DfaStateIndex) -> bool {
+    let start = dfa::START;
+    order_of_states(start, state) == Ordering::Less
+        && order_of_states(state, start) == Ordering::Greater
+        && !equal_states(state, start)
+}
+
+// Whether each state leads to START, or each to a state after it, by what has no edge of its own.
+fn lead_to(dfa: &Dfa, is_start: bool) -> bool {
     for state in dfa.states() {
-        targets.push(state.other_edge())?;
+        let target = state.other_edge();
+        if is_start_of_many(target) != is_start || comes_after_start(target) == is_start {
+            return false;
+        }
     }
-    Ok(targets)
+    true
 }
 
-// Where the states of the automaton lead by what has no edge of its own.
-fn other_edges(rt: &impl Abort, alloc: Global, words: &str) -> Vec<DfaStateIndex> {
-    let dfa = built(rt, alloc, words);
-    targets_of(alloc, &dfa).expect(rt, "memory")
+fn other_edges_lead_to(alloc: Global, words: &str, is_start: bool) -> Result<bool, AllocError> {
+    let dfa = built(alloc, words)?;
+    Ok(lead_to(&dfa, is_start))
 }
 
 // The first state of the automaton of no pattern is the one that rejects.
 #[test]
-fn equal_states_have_one_hash(rt: HostRuntime) {
-    let start = dfa::START;
-    for reject in other_edges(&rt, rt.alloc(), "") {
-        assert_eq!(rt; order_of_states(start, reject), Ordering::Equal);
-        assert!(rt; equal_states(start, reject));
-        assert_eq!(rt; hash_of(&start), hash_of(&reject));
-    }
+fn states_of_many_patterns_are_ordered_by_number(rt: HostRuntime) {
+    assert!(rt; other_edges_lead_to(rt.alloc(), "", true) == Ok(true));
+    assert!(rt; other_edges_lead_to(rt.alloc(), "'a'", false) == Ok(true));
 }
 
-#[test]
-fn states_of_many_patterns_are_ordered_by_number(rt: HostRuntime) {
-    let start = dfa::START;
-    for reject in other_edges(&rt, rt.alloc(), "'a'") {
-        assert_eq!(rt; order_of_states(start, reject), Ordering::Less);
-        assert_eq!(rt; order_of_states(reject, start), Ordering::Greater);
-        assert!(rt; !equal_states(reject, start));
-    }
+fn ascend(first: NfaIndex, second: NfaIndex) -> bool {
+    order_of_places(first, second) == Ordering::Less
+        && order_of_places(second, first) == Ordering::Greater
+        && equal_places(first, first)
+        && !equal_places(first, second)
 }
 
 fn place(dfa: &Dfa, text: &str) -> Option<NfaIndex> {
@@ -159,17 +178,20 @@ fn place(dfa: &Dfa, text: &str) -> Option<NfaIndex> {
     }
 }
 
-// The place of the pattern that the text matches: of `a` the first, of `b` the second.
-fn place_of(rt: &impl Abort, alloc: Global, text: &str) -> NfaIndex {
-    let dfa = built(rt, alloc, "'a' 'b'");
-    place(&dfa, text).expect(rt, "a match")
+// The places of the patterns that the texts match: of `a` the first, of `b` the second.
+fn places_ascend(dfa: &Dfa) -> bool {
+    match (place(dfa, "a"), place(dfa, "b")) {
+        (Some(first), Some(second)) => ascend(first, second),
+        _ => false,
+    }
+}
+
+fn places_of_patterns_ascend(alloc: Global) -> Result<bool, AllocError> {
+    let dfa = built(alloc, "'a' 'b'")?;
+    Ok(places_ascend(&dfa))
 }
 
 #[test]
 fn places_of_patterns_are_ordered_by_number(rt: HostRuntime) {
-    let first = place_of(&rt, rt.alloc(), "a");
-    let second = place_of(&rt, rt.alloc(), "b");
-    assert_eq!(rt; order_of_places(first, second), Ordering::Less);
-    assert_eq!(rt; order_of_places(second, first), Ordering::Greater);
-    assert!(rt; equal_places(first, first) && !equal_places(first, second));
+    assert!(rt; places_of_patterns_ascend(rt.alloc()) == Ok(true));
 }

@@ -1,14 +1,12 @@
 //! How states, edges and errors are written.
 
-use crate::built::made;
-use lalrpop_lexer::lexer::dfa::{self, DfaConstructionError};
+use crate::built::{expect, made};
+use lalrpop_lexer::lexer::dfa::{self, Dfa, DfaConstructionError};
 use lalrpop_lexer::lexer::nfa::{ACCEPT, Edge, NfaConstructionError, Other, REJECT, START, Test};
 use std::alloc::{AllocError, Global};
 use std::fmt::Write;
-use std::process::Abort;
 
-#[test]
-fn edges_and_states_are_written(rt: HostRuntime) -> Result<(), AllocError> {
+fn edges_and_states(alloc: Global) -> Result<String, AllocError> {
     let letters = Edge {
         from: START,
         label: Test::inclusive_range('a', 'z'),
@@ -19,23 +17,17 @@ fn edges_and_states_are_written(rt: HostRuntime) -> Result<(), AllocError> {
         label: Other,
         to: REJECT,
     };
-    assert_eq!(rt;
-        format!(in rt.alloc(); "{letters:?}, {other:?}, {ACCEPT:?}")?.as_str(),
-        "Nfa2 -['a'..='z']-> Nfa0, Nfa0 -Other-> Nfa1, Nfa0"
-    );
-    Ok(())
+    let start = dfa::START;
+    format!(in alloc; "{letters:?}, {other:?}, {ACCEPT:?}, {start} {start:?}")
 }
 
 #[test]
-fn the_start_of_an_automaton_of_many_patterns_is_written(
-    rt: HostRuntime,
-) -> Result<(), AllocError> {
-    let start = dfa::START;
-    assert_eq!(rt;
-        format!(in rt.alloc(); "{start} {start:?}")?.as_str(),
-        "Dfa0 Dfa0"
+fn edges_and_states_are_written(rt: HostRuntime) {
+    expect(
+        &rt,
+        edges_and_states(rt.alloc()),
+        "Nfa2 -['a'..='z']-> Nfa0, Nfa0 -Other-> Nfa1, Nfa0, Dfa0 Dfa0",
     );
-    Ok(())
 }
 
 fn names(alloc: Global, errors: &[NfaConstructionError]) -> Result<String, AllocError> {
@@ -47,36 +39,34 @@ fn names(alloc: Global, errors: &[NfaConstructionError]) -> Result<String, Alloc
 }
 
 #[test]
-fn errors_of_one_pattern_are_written_by_their_names(rt: HostRuntime) -> Result<(), AllocError> {
+fn errors_of_one_pattern_are_written_by_their_names(rt: HostRuntime) {
     use NfaConstructionError::{ByteRegex, LookAround, NamedCaptures, NonGreedy, OutOfMemory};
     let errors = [NamedCaptures, NonGreedy, LookAround, ByteRegex, OutOfMemory];
-    assert_eq!(rt;
-        names(rt.alloc(), &errors)?.as_str(),
-        "NamedCaptures\nNonGreedy\nLookAround\nByteRegex\nOutOfMemory\n"
+    expect(
+        &rt,
+        names(rt.alloc(), &errors),
+        "NamedCaptures\nNonGreedy\nLookAround\nByteRegex\nOutOfMemory\n",
     );
-    Ok(())
 }
 
-fn write_name(out: &mut String, error: &DfaConstructionError) -> Result<(), AllocError> {
-    write!(out, "{error}\n")?;
-    Ok(())
-}
-
-// Writes the name of the error for the patterns, where there is one.
-fn report(rt: &impl Abort, out: &mut String, alloc: Global, words: &str) {
-    if let Err(error) = made(rt, alloc, words) {
-        write_name(out, &error).expect(rt, "memory");
+// The name of the error.
+fn name(alloc: Global, made: &Result<Dfa, DfaConstructionError>) -> Result<String, AllocError> {
+    match made {
+        Ok(_) => String::from_str(alloc, "no error"),
+        Err(error) => format!(in alloc; "{error}"),
     }
+}
+
+// The name of the error for the patterns.
+fn name_for(alloc: Global, words: &str) -> Result<String, AllocError> {
+    let made = made(alloc, words)?;
+    name(alloc, &made)
 }
 
 #[test]
 fn errors_of_many_patterns_are_written_by_their_names(rt: HostRuntime) {
-    let mut out = String::new(rt.alloc());
-    report(&rt, &mut out, rt.alloc(), "'a' ^");
-    report(&rt, &mut out, rt.alloc(), "'a' 'a'");
-    write_name(&mut out, &DfaConstructionError::OutOfMemory).expect(&rt, "memory");
-    assert_eq!(rt;
-        out.as_str(),
-        "NfaConstructionError\nAmbiguity\nOutOfMemory\n"
-    );
+    expect(&rt, name_for(rt.alloc(), "'a' ^"), "NfaConstructionError");
+    expect(&rt, name_for(rt.alloc(), "'a' 'a'"), "Ambiguity");
+    let out_of_memory = Err(DfaConstructionError::OutOfMemory);
+    expect(&rt, name(rt.alloc(), &out_of_memory), "OutOfMemory");
 }

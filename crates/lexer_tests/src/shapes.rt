@@ -1,27 +1,12 @@
-//! The states and edges that patterns are compiled to, what is refused, and a counted run.
+//! The states and edges that patterns are compiled to, and what is refused.
 
-use lalrpop_lexer::lexer::nfa::interpret::interpret_counted;
+use crate::built::{compiled, expect, halves, nfa_for, tree_of};
 use lalrpop_lexer::lexer::nfa::{
-    ACCEPT, EdgeLabel, Nfa, NfaConstructionError, NfaStateIndex, Noop, Other, REJECT, START,
-    StateKind, Steps, Test,
+    ACCEPT, Edge, EdgeLabel, Nfa, NfaStateIndex, Noop, Other, REJECT, START, StateKind, Test,
 };
-use lalrpop_lexer::lexer::re::{Hir, parse_regex};
+use lalrpop_lexer::lexer::re::Hir;
 use std::alloc::{AllocError, Global};
 use std::fmt::{Debug, Write};
-use std::process::Abort;
-
-fn tree_of(rt: &impl Abort, alloc: Global, pattern: &str) -> Hir {
-    parse_regex(alloc, pattern).expect(rt, "a pattern")
-}
-
-fn compiled(alloc: Global, tree: &Hir) -> Result<Nfa, NfaConstructionError> {
-    Nfa::from_re(alloc, tree)
-}
-
-fn automaton(rt: &impl Abort, alloc: Global, pattern: &str) -> Nfa {
-    let tree = tree_of(rt, alloc, pattern);
-    compiled(alloc, &tree).expect(rt, "an automaton")
-}
 
 // How many states a pattern is compiled to, the three fixed ones included, or its fault.
 //
@@ -32,6 +17,7 @@ fn automaton(rt: &impl Abort, alloc: Global, pattern: &str) -> Nfa {
 const OUTCOMES: &str = "
 (?:) => 3
 a => 4
+'a' => 4
 é => 4
 a|b => 6
 a* => 5
@@ -47,8 +33,8 @@ a{1}? => NonGreedy
 ";
 
 // How many states the automaton has, or the fault.
-fn told(alloc: Global, compiled: Result<Nfa, NfaConstructionError>) -> Result<String, AllocError> {
-    match compiled {
+fn told(alloc: Global, tree: &Hir) -> Result<String, AllocError> {
+    match compiled(alloc, tree) {
         Ok(nfa) => {
             let len = nfa.len();
             format!(in alloc; "{len}")
@@ -57,31 +43,17 @@ fn told(alloc: Global, compiled: Result<Nfa, NfaConstructionError>) -> Result<St
     }
 }
 
-fn outcome(rt: &impl Abort, alloc: Global, pattern: &str) -> String {
-    let tree = tree_of(rt, alloc, pattern);
-    told(alloc, compiled(alloc, &tree)).expect(rt, "memory")
-}
-
-fn write_outcome(out: &mut String, pattern: &str, outcome: &str) -> Result<(), AllocError> {
-    write!(out, "{pattern} => {outcome}\n")?;
-    Ok(())
-}
-
-// Writes the row of the pattern, with what is found in place of what the row says.
-fn answer(rt: &impl Abort, out: &mut String, alloc: Global, row: &str) {
-    if let Some((pattern, _)) = row.split_once(" => ") {
-        let outcome = outcome(rt, alloc, pattern);
-        write_outcome(out, pattern, outcome.as_str()).expect(rt, "memory");
-    }
+fn outcome(alloc: Global, pattern: &str) -> Result<String, AllocError> {
+    let tree = tree_of(alloc, pattern)?;
+    told(alloc, &tree)
 }
 
 #[test]
 fn patterns_have_so_many_states_or_a_fault(rt: HostRuntime) {
-    let mut out = String::from_str(rt.alloc(), "\n").expect(&rt, "memory");
-    for row in OUTCOMES.lines() {
-        answer(&rt, &mut out, rt.alloc(), row);
+    for row in OUTCOMES.trim().lines() {
+        let (pattern, wanted) = halves(row, " => ");
+        expect(&rt, outcome(rt.alloc(), pattern), wanted);
     }
-    assert_eq!(rt; out.as_str(), OUTCOMES);
 }
 
 // Patterns, and below each the edges of its automaton. Nfa0 accepts, Nfa1 rejects, and Nfa2 is the start. The state of a
@@ -117,7 +89,20 @@ Nfa4 -a-> Nfa3
 Nfa4 -Other-> Nfa1
 ";
 
-// Writes the edges of one kind that leave the state, a line each, and notes the states to which they lead.
+// Writes the edge, and notes the state to which it leads.
+fn write_edge<L: Debug>(
+    out: &mut String,
+    reached: &mut Vec<NfaStateIndex>,
+    edge: &Edge<L>,
+) -> Result<(), AllocError> {
+    if !reached.contains(&edge.to) {
+        reached.push(edge.to)?;
+    }
+    write!(out, "{edge:?}\n")?;
+    Ok(())
+}
+
+// Writes the edges of one kind that leave the state, a line each.
 fn write_edges<L: EdgeLabel + Debug>(
     out: &mut String,
     reached: &mut Vec<NfaStateIndex>,
@@ -126,10 +111,7 @@ fn write_edges<L: EdgeLabel + Debug>(
 ) -> Result<(), AllocError> {
     if nfa.contains_state(from) {
         for edge in nfa.edges::<L>(from) {
-            write!(out, "{edge:?}\n")?;
-            if !reached.contains(&edge.to) {
-                reached.push(edge.to)?;
-            }
+            write_edge(out, reached, edge)?;
         }
     }
     Ok(())
@@ -148,7 +130,7 @@ fn write_all_edges(
 }
 
 // Writes the edges of the three fixed states and of all that are reached from them.
-fn write_states(out: &mut String, nfa: &Nfa, alloc: Global) -> Result<(), AllocError> {
+fn write_states(alloc: Global, out: &mut String, nfa: &Nfa) -> Result<(), AllocError> {
     let mut reached = vec![in alloc; ACCEPT, REJECT, START]?;
     for place in 0..nfa.len() {
         if let Some(state) = reached.get(place).copied() {
@@ -158,29 +140,24 @@ fn write_states(out: &mut String, nfa: &Nfa, alloc: Global) -> Result<(), AllocE
     Ok(())
 }
 
-fn write_automaton(
-    out: &mut String,
-    alloc: Global,
-    pattern: &str,
-    nfa: &Nfa,
-) -> Result<(), AllocError> {
+// Writes the pattern, and below it the edges of its automaton.
+fn draw(alloc: Global, out: &mut String, pattern: &str) -> Result<(), AllocError> {
     write!(out, "\n{pattern}\n")?;
-    write_states(out, nfa, alloc)
+    let nfa = nfa_for(alloc, pattern)?;
+    write_states(alloc, out, &nfa)
 }
 
-// Writes the pattern, and below it the edges of its automaton.
-fn draw(rt: &impl Abort, out: &mut String, alloc: Global, pattern: &str) {
-    let nfa = automaton(rt, alloc, pattern);
-    write_automaton(out, alloc, pattern, &nfa).expect(rt, "memory");
+fn drawn(alloc: Global) -> Result<String, AllocError> {
+    let mut out = String::new(alloc);
+    for pattern in ["(?:)", "a", "[0-9a-c]", "a*"] {
+        draw(alloc, &mut out, pattern)?;
+    }
+    Ok(out)
 }
 
 #[test]
 fn patterns_are_compiled_to_these_edges(rt: HostRuntime) {
-    let mut out = String::new(rt.alloc());
-    for pattern in ["(?:)", "a", "[0-9a-c]", "a*"] {
-        draw(&rt, &mut out, rt.alloc(), pattern);
-    }
-    assert_eq!(rt; out.as_str(), SHAPES);
+    expect(&rt, drawn(rt.alloc()), SHAPES);
 }
 
 fn has_its_fixed_states(nfa: &Nfa) -> bool {
@@ -190,40 +167,12 @@ fn has_its_fixed_states(nfa: &Nfa) -> bool {
         && nfa.kind(START) == StateKind::Neither
 }
 
+fn fixed_states_are_there(alloc: Global) -> Result<bool, AllocError> {
+    let nfa = nfa_for(alloc, "")?;
+    Ok(has_its_fixed_states(&nfa))
+}
+
 #[test]
 fn the_fixed_states_are_what_they_are_for(rt: HostRuntime) {
-    let nfa = automaton(&rt, rt.alloc(), "");
-    assert!(rt; has_its_fixed_states(&nfa));
-}
-
-fn counted<'t>(
-    alloc: Global,
-    nfa: &Nfa,
-    steps: &mut Steps,
-    text: &'t str,
-) -> Result<Option<&'t str>, AllocError> {
-    interpret_counted(alloc, nfa, text, steps)
-}
-
-// Writes the texts, one under another, with what is found in each.
-fn write_counted(
-    out: &mut String,
-    alloc: Global,
-    nfa: &Nfa,
-    texts: &str,
-) -> Result<(), AllocError> {
-    let mut steps = Steps::new();
-    for text in texts.split_whitespace() {
-        let found = counted(alloc, nfa, &mut steps, text)?;
-        write!(out, "{text} => {found:?}\n")?;
-    }
-    Ok(())
-}
-
-#[test]
-fn counting_leaves_the_answer(rt: HostRuntime) {
-    let mut out = String::new(rt.alloc());
-    let nfa = automaton(&rt, rt.alloc(), "ab{2,4}");
-    write_counted(&mut out, rt.alloc(), &nfa, "abbbbb ab").expect(&rt, "memory");
-    assert_eq!(rt; out.as_str(), "abbbbb => Some(\"abbbb\")\nab => None\n");
+    assert!(rt; fixed_states_are_there(rt.alloc()) == Ok(true));
 }
