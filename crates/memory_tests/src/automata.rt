@@ -9,7 +9,7 @@ use lalrpop_lexer::lexer::dfa::{Dfa, DfaConstructionError, Precedence, State, bu
 use lalrpop_lexer::lexer::nfa::{self, Nfa, NfaConstructionError, Steps, Test};
 use std::alloc::{AllocError, Global};
 use std::collections::BTreeSet;
-use std::env;
+use std::env::{self, VarError};
 
 fn fault(alloc: Global, error: NfaConstructionError) -> Result<String, AllocError> {
     match error {
@@ -35,33 +35,24 @@ pub(crate) fn compiled(alloc: Global, pattern: &str) -> Result<String, AllocErro
 }
 
 // Any fault is told as out of memory.
-pub(crate) fn nfa_of(alloc: Global, tree: &Hir) -> Result<Nfa, AllocError> {
+fn nfa_of(alloc: Global, tree: &Hir) -> Result<Nfa, AllocError> {
     match compile(alloc, tree) {
         Ok(nfa) => Ok(nfa),
         Err(_) => Err(AllocError),
     }
 }
 
-fn nfa_for(alloc: Global, pattern: &str) -> Result<Nfa, AllocError> {
+pub(crate) fn nfa_for(alloc: Global, pattern: &str) -> Result<Nfa, AllocError> {
     let tree = tree_of(alloc, pattern)?;
     nfa_of(alloc, &tree)
 }
 
-fn run<'a>(
-    alloc: Global,
-    nfa: &Nfa,
-    text: &'a str,
-    counts: bool,
-) -> Result<Option<&'a str>, AllocError> {
-    if counts {
-        nfa::interpret::interpret_counted(alloc, nfa, text, &mut Steps::new())
-    } else {
-        nfa::interpret::interpret(alloc, nfa, text)
-    }
-}
-
 fn found_by(alloc: Global, nfa: &Nfa, text: &str, counts: bool) -> Result<String, AllocError> {
-    let found = run(alloc, nfa, text, counts)?;
+    let found = if counts {
+        nfa::interpret::interpret_counted(alloc, nfa, text, &mut Steps::new())?
+    } else {
+        nfa::interpret::interpret(alloc, nfa, text)?
+    };
     String::from_str(alloc, found.unwrap_or("none"))
 }
 
@@ -136,14 +127,11 @@ fn trees_of(alloc: Global, rows: &str) -> Result<Vec<Hir>, AllocError> {
     Ok(trees)
 }
 
-fn precedence_of(row: &str) -> Precedence {
-    Precedence(number(halves(row, " ").0) as usize)
-}
-
 fn precedences_of(alloc: Global, rows: &str) -> Result<Vec<Precedence>, AllocError> {
     let mut precedences = Vec::new(alloc);
     for row in rows.split(" / ") {
-        precedences.push(precedence_of(row))?;
+        let (precedence, _) = halves(row, " ");
+        precedences.push(Precedence(number(precedence) as usize))?;
     }
     Ok(precedences)
 }
@@ -232,20 +220,16 @@ ab{2,4} => compiled
     expect(&rt, rt.alloc(), Call::Compile, table, 8);
 }
 
-fn cannot_be_compiled(alloc: Global, tree: &Hir) -> bool {
-    compiled_or_fault(alloc, tree).is_err()
-}
-
 fn great_count_is_refused(alloc: Global) -> Result<bool, AllocError> {
     let tree = tree_of(alloc, "a{4294967295}")?;
-    Ok(cannot_be_compiled(alloc, &tree))
+    Ok(compiled_or_fault(alloc, &tree).is_err())
 }
 
 // No memory holds the states of so many turns. `.ci/refusals` bounds the memory, and sets this variable; without it the
 // test has nothing to show.
 #[test]
 fn a_great_count_is_refused(rt: HostRuntime) {
-    if env::var(&rt, "REFUSE").is_ok() {
+    if !matches!(env::var(&rt, "REFUSE"), Err(VarError::NotPresent)) {
         assert!(rt; at_last!(&rt; great_count_is_refused(rt.alloc())));
     }
 }
@@ -308,18 +292,7 @@ fn many_trees_are_refused(rt: HostRuntime) {
 }
 
 // Any error is told as out of memory.
-pub(crate) fn built(
-    alloc: Global,
-    trees: &[Hir],
-    precedences: &[Precedence],
-) -> Result<Dfa, AllocError> {
-    match build(alloc, trees, precedences) {
-        Ok(dfa) => Ok(dfa),
-        Err(_) => Err(AllocError),
-    }
-}
-
-fn dfa_for(alloc: Global, rows: &str) -> Result<Dfa, AllocError> {
+pub(crate) fn dfa_for(alloc: Global, rows: &str) -> Result<Dfa, AllocError> {
     match build_rows(alloc, rows)? {
         Ok(dfa) => Ok(dfa),
         Err(_) => Err(AllocError),

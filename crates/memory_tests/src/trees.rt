@@ -11,14 +11,10 @@ use std::alloc::{AllocError, Global};
 fn runs(alloc: Global, class: &ClassUnicode) -> Result<String, AllocError> {
     let mut line = String::new(alloc);
     for range in class.ranges() {
-        add_run(alloc, &mut line, range)?;
+        let (start, end) = (range.start(), range.end());
+        add(&mut line, " ", format!(in alloc; "{start}-{end}")?.as_str())?;
     }
     Ok(line)
-}
-
-fn add_run(alloc: Global, line: &mut String, range: &ClassUnicodeRange) -> Result<(), AllocError> {
-    let (start, end) = (range.start(), range.end());
-    add(line, " ", format!(in alloc; "{start}-{end}")?.as_str())
 }
 
 fn leaf(alloc: Global, tree: &Hir) -> Result<String, AllocError> {

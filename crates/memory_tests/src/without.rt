@@ -1,6 +1,6 @@
 //! Calls that take no memory. `.ci/refusals` refuses every request that is made after `from_here_on`: they have their answers.
 
-use crate::automata::{built, nfa_of};
+use crate::automata::{dfa_for, nfa_for};
 use crate::calls::at_last;
 use crate::kernels::Plain;
 use crate::trees::{class_of, literal_tree};
@@ -10,7 +10,7 @@ use lalrpop_hir::{
 };
 use lalrpop_lexer::kernel_set::KernelSet;
 use lalrpop_lexer::lexer::dfa::interpret::{interpret, interpret_counted, interpret_probed};
-use lalrpop_lexer::lexer::dfa::{self, Dfa, Kind, Precedence};
+use lalrpop_lexer::lexer::dfa::{self, Dfa, Kind};
 use lalrpop_lexer::lexer::nfa::{
     ACCEPT, Nfa, NfaStateIndex, Noop, Other, REJECT, START, StateKind, Steps, Test,
 };
@@ -86,16 +86,14 @@ fn groups(rt: HostRuntime) {
     assert!(rt; at_last!(&rt; group_is_shown(rt.alloc())));
 }
 
-fn is_twice_or_more(turns: &Repetition) -> bool {
-    turns.min() == 2
-        && turns.max() == Some(4)
-        && !turns.greedy()
-        && matches!(turns.sub().kind(), HirKind::Look(Look::EndLF))
-}
-
-fn is_repetition(tree: Hir) -> bool {
+fn is_two_to_four_turns(tree: Hir) -> bool {
     match tree.kind() {
-        HirKind::Repetition(turns) => is_twice_or_more(turns),
+        HirKind::Repetition(turns) => {
+            turns.min() == 2
+                && turns.max() == Some(4)
+                && !turns.greedy()
+                && matches!(turns.sub().kind(), HirKind::Look(Look::EndLF))
+        }
         _ => false,
     }
 }
@@ -103,7 +101,7 @@ fn is_repetition(tree: Hir) -> bool {
 fn repetition_is_shown(alloc: Global) -> Result<bool, AllocError> {
     let turn = Box::new(alloc, Hir::look(Look::EndLF))?;
     from_here_on(alloc);
-    Ok(is_repetition(Hir::repetition(Repetition::new(2, Some(4), false, turn))))
+    Ok(is_two_to_four_turns(Hir::repetition(Repetition::new(2, Some(4), false, turn))))
 }
 
 #[test]
@@ -188,7 +186,7 @@ fn has_fixed_states(nfa: &Nfa) -> bool {
 }
 
 fn one_tree_is_shown(alloc: Global) -> Result<bool, AllocError> {
-    let nfa = nfa_of(alloc, &literal_tree(alloc, "a")?)?;
+    let nfa = nfa_for(alloc, "a")?;
     from_here_on(alloc);
     Ok(has_fixed_states(&nfa))
 }
@@ -253,7 +251,7 @@ fn automaton_is_shown(dfa: &Dfa) -> bool {
 }
 
 fn many_trees_are_shown(alloc: Global) -> Result<bool, AllocError> {
-    let dfa = built(alloc, &[literal_tree(alloc, "class")?], &[Precedence(0)])?;
+    let dfa = dfa_for(alloc, "0 class")?;
     from_here_on(alloc);
     Ok(automaton_is_shown(&dfa))
 }
