@@ -36,13 +36,9 @@ fn kind_of_copy(state: &State) -> Result<Kind, AllocError> {
     state.clone()?.kind().clone()
 }
 
-fn copy_is_neither(state: &State) -> Result<bool, AllocError> {
-    Ok(kind_of_copy(state)? == Kind::Neither)
-}
-
 fn first_is_copied(states: &[State]) -> Result<bool, AllocError> {
     match states.first() {
-        Some(first) => Ok(copy_is_equal(first)? && copy_is_neither(first)?),
+        Some(first) => Ok(copy_is_equal(first)? && kind_of_copy(first)? == Kind::Neither),
         None => Ok(false),
     }
 }
@@ -61,13 +57,9 @@ fn copies_equal_their_sources(rt: HostRuntime) {
     assert!(rt; is_copied(rt.alloc(), "'ab'") == Ok(true));
 }
 
-fn finds_all_but_nothing(dfa: &Dfa) -> bool {
-    finds(dfa, "\n\u{10FFFF}a", 0) && interpret(dfa, "").is_none()
-}
-
 fn copy_finds_all_but_nothing(dfa: &Dfa) -> Result<bool, AllocError> {
     let copy = dfa.clone()?;
-    Ok(finds_all_but_nothing(&copy))
+    Ok(finds(&copy, "\n\u{10FFFF}a", 0) && interpret(&copy, "").is_none())
 }
 
 fn copy_runs(alloc: Global) -> Result<bool, AllocError> {

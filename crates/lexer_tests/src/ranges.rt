@@ -73,25 +73,29 @@ fn holds_its_ends(letters: &Test) -> bool {
     letters.intersects(&Test::byte(b'z')) && letters.contains_u32(122)
 }
 
-#[test]
-fn an_empty_range_meets_none(rt: HostRuntime) {
+fn empty_meets_none() -> bool {
     let empty = Test::exclusive_range('b', 'b');
     let letters = Test::from(ClassUnicodeRange::new('z', 'a'));
-    assert!(rt; ends_before_it_starts(&empty) && meets_none(&empty, &letters));
-    assert!(rt; holds_its_ends(&letters));
+    ends_before_it_starts(&empty) && meets_none(&empty, &letters) && holds_its_ends(&letters)
+}
+
+#[test]
+fn an_empty_range_meets_none(rt: HostRuntime) {
+    assert!(rt; empty_meets_none());
     assert!(rt; Test::from(ClassBytesRange::new(0, 255)) == Test::new(0..=255));
 }
 
-fn holds_the_greatest(all: &Test) -> bool {
-    !all.is_char() && all.contains_u32(MAX) && Test::new(MAX..=MAX).is_char()
+fn holds_the_greatest(all: &Test, empty: &Test) -> bool {
+    !all.is_char()
+        && all.contains_u32(MAX)
+        && Test::new(MAX..=MAX).is_char()
+        && empty.is_empty()
+        && !empty.intersects(all)
 }
 
 #[test]
 fn the_greatest_number_is_one_like_others(rt: HostRuntime) {
-    let all = Test::new(0..=MAX);
-    let empty = Test::new(9..=2);
-    assert!(rt; holds_the_greatest(&all));
-    assert!(rt; empty.is_empty() && !empty.intersects(&all));
+    assert!(rt; holds_the_greatest(&Test::new(0..=MAX), &Test::new(9..=2)));
 }
 
 fn are_one_range(class: &ClassUnicode) -> bool {
