@@ -7,7 +7,7 @@ use Rattle.std.specs.declared.cmp.Ordering.TheVariants.{Less, Equal, Greater}
 use Rattle.std.proofs.lemmas.Bool.{cases_order, lt-ltb, le-ltb, ne_eqb}
 use Rattle.std.proofs.lemmas.Bool.Decides.{nat_tests}
 use Rattle.std.specs.declared.cmp.Ordering.{Ordering}
-use Rattle.std.proofs.lemmas.List.{take_more, length-take-le, get_or-take, get_or_read}
+use Rattle.std.proofs.lemmas.List.{take_more, take_all, length-take-le, get_or-take, get_or_read}
 use Rattle.std.proofs.lemmas.List.Elements.{Contains-append_left, Contains-push, Contains-push_cases}
 use Rattle.std.proofs.lemmas.Map.Keys.{Less-from_sorted}
 use Rattle.lalrpop_nfa.specs.Graph.{Graph}
@@ -16,14 +16,15 @@ use Rattle.lalrpop_items.specs.Ascending.{item_cmp, AreAscendingItems}
 use Rattle.lalrpop_items.specs.Given.{IsItemOf, AreAutomata, AreItemsOf}
 use Rattle.lalrpop_nfa.specs.Compiled.{accept_state}
 use Rattle.lalrpop_items.specs.Subsets.{is_dead}
-use Rattle.lalrpop_dfa.specs.Internal.Best.{accepts, IsStrong, IsBestOf, IsBest, raised}
-use Rattle.std.proofs.lemmas.Option.{slice_get_within}
+use Rattle.lalrpop_dfa.specs.Internal.Best.{accepts, accepts_with, IsStrong, IsBestOf, IsBest, raised}
+use Rattle.std.proofs.lemmas.Option.{slice_get_within, slice_get-get_or, get_or_from_slice_get}
 use Rattle.lalrpop_dfa.specs.Internal.Built.{IsStrongestIn, IsKindOf, IsTied}
 use Rattle.lalrpop_table.specs.declared.Kind.TheVariants.{Accepts, Neither}
 use Rattle.lalrpop_dfa.specs.declared.best.Best.{Best}
 use Rattle.lalrpop_nfa.specs.declared.edge.StateKind.TheVariants.{Accept}
 use Rattle.lalrpop_nfa.proofs.Contained.{contains_none}
-use Rattle.lalrpop_items.proofs.Members.{has_from, contains_from, has_filter, filter_has, has_map, map_has}
+use Rattle.lalrpop_items.proofs.Members.{Has, has_from, contains_from, has_filter, filter_has, has_map, map_has, has_cases, has_at}
+use Rattle.lalrpop_dfa.specs.Internal.Ties.{AreAscending}
 use Rattle.lalrpop_items.proofs.Targets.{compiled_at}
 
 -- ---- one item
@@ -225,3 +226,95 @@ pub weight_at : {P : Type 0} (f : P → ℕ) (ps : List P) (k : ℕ) (d : P) →
 weight_at f [] k d l = absurd (omega arith)
 weight_at f (q ∷ ps) zero d l = refl
 weight_at f (q ∷ ps) (suc k) d l = weight_at f ps k d (omega arith)
+
+-- ---- the trees of one precedence
+filter_push : (f : ℕ → Bool) (xs : List ℕ) (i : ℕ) → filter f (xs ++ i ∷ []) ≡ filter f xs ++ cond (f i) (i ∷ []) []
+filter_push f [] i = refl
+filter_push f (x ∷ xs) i = elim (f x) as (λ b. cond b (x ∷ filter f (xs ++ i ∷ [])) (filter f (xs ++ i ∷ [])) ≡ cond b (x ∷ filter f xs) (filter f xs) ++ cond (f i) (i ∷ []) []) [
+  | true ↦ ap (λ ys. x ∷ ys) (filter_push f xs i)
+  | false ↦ filter_push f xs i
+]
+
+module _ (ps : List ℕ) (items : List Item) (k p : ℕ) (x : Item) (l : k < length items) (here : x ≡ get_or items k x) where
+  next_items : take (k + 1) items ≡ take k items ++ x ∷ []
+  next_items = take_more items k x l ∙ ap (λ y. take k items ++ y ∷ []) (sym here)
+
+  pub with_passed : (x.1 == accept_state) ≡ false → accepts_with ps (take (k + 1) items) p ≡ accepts_with ps (take k items) p
+  with_passed other = ap (filter (λ i. slice_index ps i == p)) (ap accepts next_items ∙ (accepts_more (take k items) x ∙ (rw other (append-nil (accepts (take k items))))))
+
+  with_accepted : (x.1 == accept_state) ≡ true → accepts (take (k + 1) items) ≡ accepts (take k items) ++ x.0 ∷ []
+  with_accepted final = ap accepts next_items ∙ (accepts_more (take k items) x ∙ (rw final))
+
+  pub with_weaker : (x.1 == accept_state) ≡ true → (slice_index ps x.0 == p) ≡ false → accepts_with ps (take (k + 1) items) p ≡ accepts_with ps (take k items) p
+  with_weaker final weak = ap (filter (λ i. slice_index ps i == p)) (with_accepted final) ∙ (filter_push (λ i. slice_index ps i == p) (accepts (take k items)) x.0 ∙ (rw weak (append-nil (accepts_with ps (take k items) p))))
+
+  pub with_taken : (x.1 == accept_state) ≡ true → (slice_index ps x.0 == p) ≡ true → accepts_with ps (take (k + 1) items) p ≡ accepts_with ps (take k items) p ++ x.0 ∷ []
+  with_taken final is = ap (filter (λ i. slice_index ps i == p)) (with_accepted final) ∙ (filter_push (λ i. slice_index ps i == p) (accepts (take k items)) x.0 ∙ (rw is))
+
+-- those of the best's precedence are the strongest
+pub with_best : (ps : List ℕ) (s : List Item) (b : Best) → IsBestOf ps (accepts s) b → (i : ℕ) → Contains (accepts_with ps s b.precedence) i ↔ IsStrongestIn ps s i
+with_best ps s b h i = (
+  λ m. (let (there, e) = filter_has (λ j. slice_index ps j == b.precedence) (accepts s) i (has_from (accepts_with ps s b.precedence) i m) in
+      let same : slice_index ps i ≡ slice_index ps b.index = eqb-true (slice_index ps i) b.precedence e ∙ sym h.weight in
+      strongest_from ps s i (contains_from (accepts s) i there, λ j k. rw same (h.strong.1 j k))),
+  λ t. (let strong = strong_from ps s i t in
+      let low : slice_index ps i ≤ slice_index ps b.index = h.strong.1 i strong.0 in
+      let high : slice_index ps b.index ≤ slice_index ps i = strong.1 b.index h.strong.0 in
+      let same : slice_index ps i ≡ b.precedence = omega (arith, h.weight) in
+      contains_from (accepts_with ps s b.precedence) i (has_filter (λ j. slice_index ps j == b.precedence) (accepts s) i (has_from (accepts s) i strong.0) (eq-eqb (slice_index ps i) b.precedence same))),
+)
+
+pub with_none : (ps : List ℕ) (s : List Item) → accepts s ≡ [] → (i : ℕ) → Contains [] i ↔ IsStrongestIn ps s i
+with_none ps s none i = (λ m. absurd (contains_none i m), λ t. absurd (contains_none i (rw none at (accepts_has s i t.0))))
+
+-- ---- they ascend
+-- each is less than those behind it
+abbrev pub AreRising : List ℕ → Type 0
+AreRising [] = Unit {0}
+AreRising (i ∷ is) = ((j : ℕ) → Has is j → i < j) × AreRising is
+
+rising_push : (is : List ℕ) (i : ℕ) → AreRising is → ((j : ℕ) → Has is j → j < i) → AreRising (is ++ i ∷ [])
+rising_push [] i r f = (λ j h. absurd h, tt)
+rising_push (k ∷ is) i r f = (
+  λ j h. elim (has_cases is (i ∷ []) j h) [
+    | inl a ↦ r.0 j a
+    | inr a ↦ elim a [ inl e ↦ omega (arith, e, f k (inl refl)) | inr b ↦ absurd b ]
+  ],
+  rising_push is i r.1 (λ j h. f j (inr h)),
+)
+
+rising_filter : (f : ℕ → Bool) (is : List ℕ) → AreRising is → AreRising (filter f is)
+rising_filter f [] r = tt
+rising_filter f (i ∷ is) r = elim (f i) as (λ b. AreRising (cond b (i ∷ filter f is) (filter f is))) [
+  | true ↦ (λ j h. r.0 j (filter_has f is j h).0, rising_filter f is r.1)
+  | false ↦ rising_filter f is r.1
+]
+
+rising_places : (is : List ℕ) → AreRising is → AreAscending is
+rising_places [] r p q i j l a b = absurd (cc)
+rising_places (k ∷ is) r zero q i j l a b = absurd (omega arith)
+rising_places (k ∷ is) r (suc p) zero i j l a b = let e : Some k ≡ Some j = b in let f : k ≡ j = cc in omega (arith, f, r.0 i (has_at is p i a))
+rising_places (k ∷ is) r (suc p) (suc q) i j l a b = rising_places is r.1 p q i j (omega arith) a b
+
+accepts_rise : (items : List Item) → AreAscendingItems items → (k : ℕ) → k ≤ length items → AreRising (accepts (take k items))
+accepts_rise items sorted zero l = tt
+accepts_rise items sorted (suc k) l =
+    let x : Item = get_or items k (0, 0) in
+    let small : k < length items = omega arith in
+    let at : slice_get items k ≡ Some x = slice_get-get_or items k (0, 0) small in
+    let here : x ≡ get_or items k x = sym (get_or_from_slice_get items k x x at) in
+    let next : k + 1 ≡ suc k = omega arith in
+    let before = accepts_rise items sorted k (omega arith) in
+    subst (λ (n : ℕ). AreRising (accepts (take n items))) next
+    (subst (λ (ys : List Item). AreRising (accepts ys)) (sym (take_more items k x small ∙ ap (λ y. take k items ++ y ∷ []) (sym here)))
+    (subst AreRising (sym (accepts_more (take k items) x)) (by_kind x k small here before (x.1 == accept_state) refl)))
+  where
+    by_kind : (x : Item) (k : ℕ) → k < length items → x ≡ get_or items k x → AreRising (accepts (take k items)) → (b : Bool) → (x.1 == accept_state) ≡ b → AreRising (accepts (take k items) ++ cond b (x.0 ∷ []) [])
+    by_kind x k small here before true e = rising_push (accepts (take k items)) x.0 before (λ j h. take_less items k x j sorted small here (eqb-true x.1 accept_state e) (contains_from (accepts (take k items)) j h))
+    by_kind x k small here before false e = rw (append-nil (accepts (take k items))) before
+
+-- those of one precedence ascend
+pub with_ascends : (ps : List ℕ) (s : List Item) (p : ℕ) → AreAscendingItems s → AreAscending (accepts_with ps s p)
+with_ascends ps s p sorted =
+    let all : AreRising (accepts s) = subst (λ (ys : List Item). AreRising (accepts ys)) (take_all (length s) s (omega arith)) (accepts_rise s sorted (length s) (omega arith)) in
+    rising_places (accepts_with ps s p) (rising_filter (λ i. slice_index ps i == p) (accepts s) all)

@@ -11,15 +11,15 @@ use Rattle.lalrpop_hir.specs.Size.{size}
 use Rattle.lalrpop_nfa.specs.Graph.{Graph}
 use Rattle.lalrpop_ranges.specs.Partition.{IsPartition}
 use Rattle.lalrpop_table.specs.Dfa.{Row, Recognizes, IsWellFormed}
-use Rattle.lalrpop_dfa.specs.Clash.{NoClash}
+use Rattle.lalrpop_dfa.specs.Clash.{NoClash, IsClash}
 use Rattle.lalrpop_items.specs.Automata.{Item, AreCompiled}
 use Rattle.lalrpop_dfa.specs.Items.{IsLeaving, HoldsItems, OthersReject, IsInWordOrder}
 use Rattle.lalrpop_items.specs.Ascending.{AreAscendingItems}
 use Rattle.lalrpop_items.specs.Subsets.{move, all_items}
-use Rattle.lalrpop_dfa.specs.Internal.BreadthFirst.{Automaton, IsBreadthFirst, Added, nth, value_of, from_of, word}
+use Rattle.lalrpop_dfa.specs.Internal.BreadthFirst.{AreEarlier, Automaton, IsBreadthFirst, Added, nth, value_of, from_of, word}
 use Rattle.lalrpop_dfa.specs.Internal.Built.{subset_automaton, IsKindOf, IsRowOf, IsTied}
 use Rattle.lalrpop_items.specs.Given.{AreAutomata, AreItemsOf}
-use Rattle.lalrpop_dfa.specs.Internal.Builder.{AddedTo, AreSmall, Keep, IsEdging, IsEdged, IsBuiltTo, IsTieOf, IsClashOf}
+use Rattle.lalrpop_dfa.specs.Internal.Builder.{AddedTo, AreSmall, Keep, IsEdging, IsEdged, IsBuiltTo, IsTieOf, IsClashAt, IsClashOf}
 use Rattle.lalrpop_dfa.specs.declared.error.DfaConstructionError.{DfaConstructionError}
 use Rattle.lalrpop_dfa.specs.declared.error.DfaConstructionError.TheVariants.{NfaConstructionError as Refused, Ambiguity, OutOfMemory}
 use Rattle.lalrpop_items.proofs.Sets.{first_set_ascends, first_set_items, move_ascends, move_items}
@@ -98,7 +98,7 @@ module _ (ns : List Graph) (a : AreAutomata ns) (sets0 : List (List Item)) (orig
 -- ---- the table
 -- the sets that are numbered hold items, ascending
 module _ (ns : List Graph) (sets : List (List Item)) (origins : List (ℕ × ℕ)) (n v : ℕ) (num : IsBreadthFirst (subset_automaton ns) sets origins n v) where
-  nth_holds : (k : ℕ) → k < length sets → AreItemsOf ns (nth (subset_automaton ns) sets k) × AreAscendingItems (nth (subset_automaton ns) sets k)
+  pub nth_holds : (k : ℕ) → k < length sets → AreItemsOf ns (nth (subset_automaton ns) sets k) × AreAscendingItems (nth (subset_automaton ns) sets k)
   nth_holds zero l = subst (λ s. AreItemsOf ns s × AreAscendingItems s) (sym num.first) (first_set_items ns, first_set_ascends ns)
   nth_holds (suc k) l =
       let o : ℕ = from_of origins (suc k) in
@@ -186,11 +186,11 @@ built_bound ns ps sets origins rows n h ts k =
 
 -- a tie is a clash
 pub built_clash : (ns : List Graph) (ps : List ℕ) (sets : List (List Item)) (origins : List (ℕ × ℕ)) (rows : List Row) (s : List Item) (e : DfaConstructionError) → IsBuiltTo ns ps sets origins rows (length rows) → slice_get sets (length rows) ≡ Some s
-    → IsTieOf ps s e → (ts : List Tree) → AreCompiled ts ns → IsClashOf ts ps e
+    → IsTieOf ps s (word origins (length rows)) e → (ts : List Tree) → AreCompiled ts ns → IsClashOf ts ps e
 built_clash ns ps sets origins rows s (Refused i f) h at t ts k = t
-built_clash ns ps sets origins rows s (Ambiguity i j) h at t ts k =
+built_clash ns ps sets origins rows s (Ambiguity i j w) h at t ts k =
     let here : nth (subset_automaton ns) sets (length rows) ≡ s = get_or_from_slice_get sets (length rows) s (subset_automaton ns).start at in
-    (word origins (length rows), tied_is_clash_after_rows ts ps ns sets origins rows (length rows) i j k h.breadth_first (slice_get_within sets (length rows) s at) refl h.rows_are (subst (λ u. IsTied ps u i j) (sym here) t) h.small)
+    subst (λ v. IsClash ts ps v i j) (sym t.1) (tied_is_clash_after_rows ts ps ns sets origins rows (length rows) i j k h.breadth_first (slice_get_within sets (length rows) s at) refl h.rows_are (subst (λ u. IsTied ps u i j) (sym here) t.0) h.small)
 built_clash ns ps sets origins rows s OutOfMemory h at t ts k = tt
 
 -- what the next kernel is
@@ -204,3 +204,13 @@ next_none (Some t) A P h never = absurd (never t refl)
 
 pub given_at : (list : List (List Item)) (place n : ℕ) (q s : List Item) → slice_get list place ≡ Some q → s ≡ q → place ≡ n → slice_get list n ≡ Some s
 given_at list place n q s at same is = rw (same, ← is) at
+
+-- a tie of a set, told with its word
+pub tie_told : (ps : List ℕ) (s : List Item) (v : List ℕ) (i j : ℕ) (e : DfaConstructionError) → IsTied ps s i j → IsClashAt v i j e → IsTieOf ps s v e
+tie_told ps s v i j (Refused k f) t c = c
+tie_told ps s v i j (Ambiguity k l w) t c = (rw (c.0, c.1) t, c.2)
+tie_told ps s v i j OutOfMemory t c = tt
+
+-- each number was first met from an earlier one
+pub built_earlier : (ns : List Graph) (ps : List ℕ) (sets : List (List Item)) (origins : List (ℕ × ℕ)) (rows : List Row) (n : ℕ) → IsBuiltTo ns ps sets origins rows n → AreEarlier origins
+built_earlier ns ps sets origins rows n h = λ k a l. h.breadth_first.earlier k a (omega (arith, h.breadth_first.same_length))

@@ -7,9 +7,9 @@ use Rattle.lalrpop_nfa.specs.Graph.{Graph}
 use Rattle.lalrpop_nfa.specs.Fault.{fault}
 use Rattle.lalrpop_nfa.specs.Compiled.{IsCompiled}
 use Rattle.lalrpop_items.specs.Automata.{AreCompiled}
-use Rattle.lalrpop_dfa.specs.Report.{NoFault}
+use Rattle.lalrpop_dfa.specs.Report.{NoFault, IsFaultOf}
 use Rattle.lalrpop_items.specs.Given.{AreFixed}
-use Rattle.lalrpop_dfa.specs.Internal.Builder.{IsFaultOf, IsRefusalOf, NoFaultBefore, IsCompiledAt}
+use Rattle.lalrpop_dfa.specs.Internal.Builder.{IsRefusalOf, NoFaultBefore, IsCompiledAt}
 use Rattle.lalrpop_nfa.specs.declared.error.NfaConstructionError.TheVariants.{OutOfMemory as NoMemory}
 use Rattle.lalrpop_nfa.specs.declared.error.NfaConstructionError.{NfaConstructionError}
 use Rattle.lalrpop_dfa.specs.declared.error.DfaConstructionError.{DfaConstructionError}
@@ -55,5 +55,5 @@ compiled_all ts ns k h e = (
 -- ---- what is reported
 pub refused_report : (ts : List Tree) (k : ℕ) (t : Tree) (e : NfaConstructionError) (r : DfaConstructionError) → NoFaultBefore ts k → slice_get ts k ≡ Some t → (e ≢ NoMemory → fault t ≡ Some e) → IsRefusalOf k e r → IsFaultOf ts r
 refused_report ts k t e (Refused i f) h at has m = rw (m.0, m.1) (record { tree = t; at = at; has = has m.2; none_before = h })
-refused_report ts k t e (Ambiguity i j) h at has m = m
+refused_report ts k t e (Ambiguity i j w) h at has m = m
 refused_report ts k t e OutOfMemory h at has m = tt

@@ -3,7 +3,7 @@ pub mod WordOrder
 pub mod Origins
 pub mod BreadthFirst
 pub mod Steps
-pub mod Clashes
+pub mod ClashLaws
 pub use Rattle.lalrpop_table.proofs.Longests
 pub mod ReachedItems
 pub mod Dead
@@ -13,6 +13,11 @@ pub mod SetWinners
 pub mod BuiltTable
 pub mod TiedClash
 pub mod StateCount
+pub mod Firsts
+pub mod ClashLists
+pub mod ClashListLaws
+pub mod AllClashes
+pub mod TieSteps
 pub mod RowSteps
 pub mod Adding
 pub mod Builds

@@ -6,3 +6,4 @@ pub mod Blocks
 pub mod Transitions
 pub mod Room
 pub mod Labelled
+pub mod Ties

@@ -8,6 +8,7 @@ pub use Rattle.lalrpop_table.specs.Dfa
 pub use Rattle.lalrpop_table.specs.Counts
 pub use Rattle.lalrpop_table.specs.SameAutomata
 pub mod Clash
+pub mod ClashList
 pub mod Report
 pub mod Items
 pub mod Agree

@@ -19,8 +19,14 @@ pub record FirstFault (ts : List Tree) (i : ℕ) (e : NfaConstructionError) : Ty
   pub has : fault tree ≡ Some e
   pub none_before : (j : ℕ) (t : Tree) → j < i → slice_get ts j ≡ Some t → fault t ≡ None
 
+-- a tree is the first with a fault, or memory was refused; there is no clash
+abbrev pub IsFaultOf : List Tree → DfaConstructionError → Type 0
+IsFaultOf ts (Refused i e) = FirstFault ts i e
+IsFaultOf ts (Ambiguity i j w) = ⊥
+IsFaultOf ts OutOfMemory = Unit {0}
+
 -- the report is right
 abbrev pub IsReport : List Tree → List ℕ → DfaConstructionError → Type 0
 IsReport ts ps (Refused i e) = FirstFault ts i e
-IsReport ts ps (Ambiguity i j) = NoFault ts × ((w : List ℕ) × IsClash ts ps w i j)
+IsReport ts ps (Ambiguity i j w) = NoFault ts × IsClash ts ps w.items i j
 IsReport ts ps OutOfMemory = Unit {0}

@@ -2,16 +2,18 @@
 //!
 //! The type carries what is known of them, so that the functions of the construction need not ask for it.
 
-ghost use Rattle.std.specs.Prelude.{◌≡◌, ℕ, ◌<◌, length, map, slice_get, Some, IfOk, IfErr, OnOk};
+ghost use Rattle.std.specs.Prelude.{◌≡◌, ℕ, ◌<◌, ◌↔◌, length, map, slice_get, Some, IfOk, IfErr, OnOk};
+ghost use Rattle.std.specs.List.{Contains};
 ghost use Rattle.std.specs.List.Sorted.{IsSorted};
 ghost use Rattle.lalrpop_items.specs.Ascending.{AreAscendingItems};
 ghost use Rattle.lalrpop_items.specs.Given.{AreAutomata, AreItemsOf};
 ghost use Rattle.lalrpop_items.specs.Subsets.{move, starts_from, first_set_of};
 ghost use Rattle.lalrpop_items.specs.Transitions.{transition_cmp, AreTransitions};
-ghost use Rattle.lalrpop_dfa.specs.Internal.Built.{IsKindOf, IsTied};
+ghost use Rattle.lalrpop_dfa.specs.Internal.Built.{IsKindOf, IsStrongestIn, IsTied};
+ghost use Rattle.lalrpop_dfa.specs.Internal.Ties.{AreAscending};
 ghost use Rattle.lalrpop_dfa.specs.Internal.Room.{IsRoomOf, IsFilled};
 
-use super::best::{Tie, kind_of};
+use super::best::{Tie, kind_of, strongest_of};
 use super::room::Room;
 use super::{Kind, NfaIndex, Precedence};
 use lalrpop_alphabet::{Alphabet, Cell};
@@ -103,6 +105,23 @@ impl<'nfas> Automata<'nfas> {
             IsTied (map (λ p. p.0) precedences.now) set.now tie.greatest tie.second) }
     {
         kind_of(self.nfas, precedences, set)
+    }
+
+    /// The strongest of the patterns that the set accepts, in order.
+    pub(super) fn strongest(
+        &self,
+        alloc: Global,
+        precedences: &[Precedence],
+        set: &ItemSet,
+    ) -> Result<Vec<NfaIndex>, AllocError>
+        requires same_len { length self.now.graphs ≡ length precedences.now }
+        requires inside { AreItemsOf self.now.graphs set.now }
+        requires ascending { AreAscendingItems set.now }
+        ensures all { IfOk result (λ found. (i : ℕ)
+            → Contains found.items i ↔ IsStrongestIn (map (λ p. p.0) precedences.now) set.now i) }
+        ensures ascending { IfOk result (λ found. AreAscending found.items) }
+    {
+        strongest_of(alloc, self.nfas, precedences, set)
     }
 
     /// Lays out in the room what leaves the items of a set.

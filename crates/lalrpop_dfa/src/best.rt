@@ -1,16 +1,19 @@
 //! The kind of a state, by the items that it holds.
 
-ghost use Rattle.std.specs.Prelude.{◌≡◌, ◌<◌, ◌==◌, map, length, IfOk, IfErr};
+ghost use Rattle.std.specs.Prelude.{◌≡◌, ℕ, ◌<◌, ◌==◌, ◌↔◌, map, length, IfOk, IfErr};
+ghost use Rattle.std.specs.List.{Contains};
 ghost use Rattle.lalrpop_items.specs.Ascending.{AreAscendingItems};
 ghost use Rattle.lalrpop_items.specs.Given.{IsItemOf, AreAutomata, AreItemsOf};
-ghost use Rattle.lalrpop_dfa.specs.Internal.Best.{IsBest, accepts, raised};
-ghost use Rattle.lalrpop_dfa.specs.Internal.Built.{IsKindOf, IsTied};
+ghost use Rattle.lalrpop_dfa.specs.Internal.Best.{IsBest, accepts, accepts_with, raised};
+ghost use Rattle.lalrpop_dfa.specs.Internal.Built.{IsKindOf, IsStrongestIn, IsTied};
+ghost use Rattle.lalrpop_dfa.specs.Internal.Ties.{AreAscending};
 ghost use Rattle.lalrpop_nfa.specs.Compiled.{accept_state};
 ghost use Rattle.lalrpop_items.specs.Subsets.{is_dead};
 
 use super::{Kind, NfaIndex, Precedence};
 use lalrpop_items::{Item, ItemSet};
 use lalrpop_nfa::Nfa;
+use std::alloc::{AllocError, Global};
 
 // The greatest of the strongest patterns, its precedence, and the second greatest where there are two.
 #[derive(Clone, Copy)]
@@ -70,6 +73,57 @@ fn best_of(nfas: &[Nfa], precedences: &[Precedence], set: &ItemSet) -> Option<Be
         }
     }
     best
+}
+
+// The patterns of this precedence that the set accepts, in order.
+fn accepted_with(
+    alloc: Global,
+    nfas: &[Nfa],
+    precedences: &[Precedence],
+    set: &ItemSet,
+    precedence: usize,
+) -> Result<Vec<NfaIndex>, AllocError>
+    requires same_len { length nfas.now ≡ length precedences.now }
+    requires automata { AreAutomata nfas.now }
+    requires inside { AreItemsOf nfas.now set.now }
+    requires ascending { AreAscendingItems set.now }
+    ensures { IfOk result (λ found. found.items
+        ≡ accepts_with (map (λ p. p.0) precedences.now) set.now precedence) }
+{
+    let mut found = Vec::new(alloc);
+    for item in set.live() {
+        let item = *item;
+        if !is_accepting(nfas, item) {
+            continue;
+        }
+        let pattern = item.pattern();
+        if precedences[pattern.index()].0 != precedence {
+            continue;
+        }
+        found.push(pattern)?;
+    }
+    Ok(found)
+}
+
+/// The strongest of the patterns that the set accepts, in order.
+pub(super) fn strongest_of(
+    alloc: Global,
+    nfas: &[Nfa],
+    precedences: &[Precedence],
+    set: &ItemSet,
+) -> Result<Vec<NfaIndex>, AllocError>
+    requires same_len { length nfas.now ≡ length precedences.now }
+    requires automata { AreAutomata nfas.now }
+    requires inside { AreItemsOf nfas.now set.now }
+    requires ascending { AreAscendingItems set.now }
+    ensures all { IfOk result (λ found. (i : ℕ)
+        → Contains found.items i ↔ IsStrongestIn (map (λ p. p.0) precedences.now) set.now i) }
+    ensures ascending { IfOk result (λ found. AreAscending found.items) }
+{
+    match best_of(nfas, precedences, set) {
+        Some(best) => accepted_with(alloc, nfas, precedences, set, best.precedence),
+        None => Ok(Vec::new(alloc)),
+    }
 }
 
 // Whether all items are REJECT states.

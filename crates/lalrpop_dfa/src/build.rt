@@ -1,14 +1,14 @@
 //! Building an automaton: the patterns are compiled one by one, then joined.
 ghost use Rattle.std.specs.Prelude.{◌≡◌, ◌<◌, ◌≤◌, List, map, length, IfOk, IfErr};
 ghost use Rattle.lalrpop_items.specs.Given.{AreFixed};
-ghost use Rattle.lalrpop_dfa.specs.Internal.Builder.{IsFaultOf, IsRefusalOf, NoFaultBefore, IsCompiledAt};
+ghost use Rattle.lalrpop_dfa.specs.Internal.Builder.{IsRefusalOf, NoFaultBefore, IsCompiledAt};
 ghost use Rattle.lalrpop_dfa.specs.Clash.{NoClash};
 ghost use Rattle.lalrpop_table.specs.Counts.{state_bound};
 ghost use Rattle.lalrpop_table.specs.Dfa.{Recognizes};
 ghost use Rattle.lalrpop_nfa.specs.Graph.{Graph};
 ghost use Rattle.lalrpop_items.specs.Automata.{AreCompiled};
 ghost use Rattle.lalrpop_dfa.specs.Items.{HoldsItems, OthersReject, IsInWordOrder};
-ghost use Rattle.lalrpop_dfa.specs.Report.{NoFault, IsReport};
+ghost use Rattle.lalrpop_dfa.specs.Report.{NoFault, IsFaultOf, IsReport};
 
 use super::builder::build;
 use super::{Dfa, DfaConstructionError, NfaIndex, Precedence};
@@ -39,8 +39,8 @@ fn compile(alloc: Global, regexs: &[Regex], index: usize) -> Result<Nfa, DfaCons
     }
 }
 
-// The automata of the patterns, in the order of the list, or the first pattern that has a fault.
-fn compile_all(alloc: Global, regexs: &[Regex]) -> Result<Vec<Nfa>, DfaConstructionError>
+/// The automata of the patterns, in the order of the list, or the first pattern that has a fault.
+pub(super) fn compile_all(alloc: Global, regexs: &[Regex]) -> Result<Vec<Nfa>, DfaConstructionError>
     ensures ok { IfOk result (λ nfas. NoFault regexs.now × AreCompiled regexs.now nfas.items) }
     ensures fixed { IfOk result (λ nfas. AreFixed nfas.items) }
     ensures err { IfErr result (IsFaultOf regexs.now) }

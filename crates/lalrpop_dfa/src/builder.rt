@@ -5,7 +5,7 @@ ghost use Rattle.std.specs.List.Sorted.{IsSorted};
 ghost use Rattle.lalrpop_hir.specs.Tree.{Tree};
 ghost use Rattle.lalrpop_items.specs.Ascending.{AreAscendingItems};
 ghost use Rattle.lalrpop_items.specs.Given.{AreAutomata, AreItemsOf};
-ghost use Rattle.lalrpop_dfa.specs.Internal.Builder.{IsAdded, AreKnown, AreKnownClasses, AreTested, IsEdged, IsBuiltTo, IsTieOf, IsClashOf};
+ghost use Rattle.lalrpop_dfa.specs.Internal.Builder.{IsAdded, AreKnown, AreKnownClasses, AreTested, IsEdged, IsBuiltTo, IsTieOf, IsClashAt, IsClashOf};
 ghost use Rattle.lalrpop_dfa.specs.Internal.Built.{subset_automaton};
 ghost use Rattle.lalrpop_dfa.specs.Clash.{NoClash};
 ghost use Rattle.lalrpop_table.specs.Counts.{state_bound};
@@ -15,11 +15,11 @@ ghost use Rattle.lalrpop_dfa.specs.Items.{HoldsItems, OthersReject, IsInWordOrde
 ghost use Rattle.lalrpop_dfa.specs.Internal.Room.{IsRoomOf, IsFilled, OnlyNumbers};
 ghost use Rattle.lalrpop_items.specs.Transitions.{transition_cmp, AreTransitions};
 ghost use Rattle.lalrpop_items.specs.Subsets.{move, first_set_of};
-ghost use Rattle.lalrpop_dfa.specs.Internal.BreadthFirst.{IsBreadthFirst, nth};
+ghost use Rattle.lalrpop_dfa.specs.Internal.BreadthFirst.{AreEarlier, IsBreadthFirst, nth, word};
 
 use super::automata::Automata;
 use super::best::Tie;
-use super::origin::Origin;
+use super::origin::{Origin, word_to};
 use super::room::{EdgesByClass, Known, Room, Transitions};
 use super::{Dfa, DfaConstructionError, DfaStateIndex, Precedence};
 use lalrpop_alphabet::Cell;
@@ -45,24 +45,30 @@ const BEFORE_ALL: Cell = Cell {
 #[derive(Drop)]
 pub(super) struct Sets {
     kernels: KernelSet<ItemSet>,
-    origins: Vec<Origin>,
+    pub(super) origins: Vec<Origin>,
     workspace: Workspace,
 }
 
-// The sets that were met, and the rows of those that are expanded.
+/// The sets that were met, and the rows of those that are expanded.
 #[derive(Drop)]
-struct Table {
-    sets: Sets,
-    writer: RowWriter,
+pub(super) struct Table {
+    pub(super) sets: Sets,
+    pub(super) writer: RowWriter,
 }
 
-// What is reported where the strongest patterns of a state tie.
-fn clash_of(tie: Tie) -> DfaConstructionError
-    ensures { result ≡ DfaConstructionError.Ambiguity tie.greatest tie.second }
+// What is reported where the strongest patterns of the set with this number tie.
+fn clash_of(alloc: Global, origins: &[Origin], number: usize, tie: Tie) -> DfaConstructionError
+    requires within { number < length origins.now }
+    requires earlier { AreEarlier origins.now }
+    ensures { IsClashAt (word origins.now number) tie.greatest tie.second result }
 {
-    DfaConstructionError::Ambiguity {
-        match0: tie.greatest,
-        match1: tie.second,
+    match word_to(alloc, origins, number) {
+        Ok(word) => DfaConstructionError::Ambiguity {
+            match0: tie.greatest,
+            match1: tie.second,
+            word,
+        },
+        Err(_) => DfaConstructionError::OutOfMemory,
     }
 }
 
@@ -401,13 +407,14 @@ impl Table {
         ensures place { OnOk result (self.new.sets.kernels.place ≡ self.old.sets.kernels.place) }
         ensures room { OnOk result (IsRoomOf automata.now.alphabet room.new) }
         ensures no_tests { OnOk result (self.new.writer.tests ≡ []) }
-        ensures err { IfErr result (IsTieOf (map (λ p. p.0) precedences.now) set) }
+        ensures err { IfErr result (IsTieOf (map (λ p. p.0) precedences.now) set
+            (word self.old.sets.origins.items (length self.old.writer.rows))) }
     {
+        let number = self.writer.len();
         let kind = match automata.kind_of(precedences, &set) {
             Ok(kind) => kind,
-            Err(tie) => return Err(clash_of(tie)),
+            Err(tie) => return Err(clash_of(alloc, &self.sets.origins, number, tie)),
         };
-        let number = self.writer.len();
         let writer = &mut self.writer;
         let other = self
             .sets
@@ -444,6 +451,28 @@ impl Table {
     }
 }
 
+/// All sets, and the row of each, or the clash of two patterns.
+pub(super) fn all_sets(
+    alloc: Global,
+    automata: &Automata,
+    precedences: &[Precedence],
+) -> Result<Table, DfaConstructionError>
+    requires same_len { length automata.now.graphs ≡ length precedences.now }
+    ensures ok { IfOk result (λ table. IsBuiltTo automata.now.graphs (map (λ p. p.0) precedences.now)
+        table.sets.kernels.list table.sets.origins.items table.writer.rows
+        (length table.sets.kernels.list)) }
+    ensures err { IfErr result (λ e. let ps = map (λ p. p.0) precedences.now in
+        (ts : List Tree) → AreCompiled ts automata.now.graphs → IsClashOf ts ps e) }
+{
+    let mut room = automata.room(alloc)?;
+    let mut table = Table {
+        sets: first_sets(alloc, automata)?,
+        writer: RowWriter::new(alloc),
+    };
+    table.expand_all(alloc, automata, precedences, &mut room)?;
+    Ok(table)
+}
+
 /// The automaton of the patterns with these automata and precedences, or the clash of two of them.
 pub(super) fn build(
     alloc: Global,
@@ -463,11 +492,6 @@ pub(super) fn build(
         (ts : List Tree) → AreCompiled ts nfas.now → IsClashOf ts ps e) }
 {
     let automata = Automata::new(alloc, nfas)?;
-    let mut room = automata.room(alloc)?;
-    let mut table = Table {
-        sets: first_sets(alloc, &automata)?,
-        writer: RowWriter::new(alloc),
-    };
-    table.expand_all(alloc, &automata, precedences, &mut room)?;
+    let table = all_sets(alloc, &automata, precedences)?;
     Ok(Dfa::new(alloc, table.writer.into_rows())?)
 }

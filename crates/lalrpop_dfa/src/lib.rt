@@ -1,6 +1,7 @@
 //! Building the automaton of a list of patterns. The automaton itself, and what runs it, stand in lalrpop_table.
 #![tactic(auto)]
 
+mod all_clashes;
 mod automata;
 mod best;
 mod build;
@@ -8,7 +9,9 @@ mod builder;
 mod error;
 mod origin;
 mod room;
+mod ties;
 
+pub use all_clashes::{Clash, clashes};
 pub use build::build_dfa;
 pub use error::DfaConstructionError;
 pub use lalrpop_items::{DfaStateIndex, NfaIndex, START};

@@ -114,6 +114,14 @@ impl RowWriter {
         self.states.len()
     }
 
+    /// The items that the state with this number holds.
+    pub fn item_set(&self, number: usize) -> &ItemSet
+        requires { number < length self.now.rows }
+        ensures { IsSomeAnd (slice_get self.now.rows number) (λ r. result.now ≡ r.items) }
+    {
+        &self.states[number].item_set
+    }
+
     /// Adds a test edge to the next state.
     ///
     /// # Errors

@@ -8,7 +8,7 @@ use Rattle.lalrpop_table.specs.Winners.{TreeMatches, Ambiguous}
 use Rattle.lalrpop_dfa.specs.Clash.{NoClash, IsClash}
 use Rattle.lalrpop_table.proofs.Cases.Winners.{a, b, one_of_two, both_zero, both_are_strongest, equal_precedences_are_ambiguous, unequal_precedences_are_not_ambiguous, trees_without_a_common_word_are_not_ambiguous}
 
-who_matches_a : (w : List ℕ) (i : ℕ) → TreeMatches (a ∷ a ∷ []) w i → (w ≡ 97 ∷ []) × (i ≤ 1)
+pub who_matches_a : (w : List ℕ) (i : ℕ) → TreeMatches (a ∷ a ∷ []) w i → (w ≡ 97 ∷ []) × (i ≤ 1)
 who_matches_a w i h = by_tree (one_of_two a a w i h)
   where
     by_tree : ((i ≡ 0) × Matches a w) ⊎ ((i ≡ 1) × Matches a w) → (w ≡ 97 ∷ []) × (i ≤ 1)
@@ -62,7 +62,7 @@ equal_literals_have_a_clash n = n (97 ∷ []) equal_precedences_are_ambiguous
 precedences_decide : NoClash (a ∷ a ∷ []) (0 ∷ 1 ∷ [])
 precedences_decide = λ w. unequal_precedences_are_not_ambiguous w
 
-different_literals_have_no_clash : NoClash (a ∷ b ∷ []) (0 ∷ 0 ∷ [])
+pub different_literals_have_no_clash : NoClash (a ∷ b ∷ []) (0 ∷ 0 ∷ [])
 different_literals_have_no_clash = λ w. trees_without_a_common_word_are_not_ambiguous w
 
 -- `b`, `b`, `a`, `a`, all of precedence 0: the least clash is at `a`

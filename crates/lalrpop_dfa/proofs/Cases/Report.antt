@@ -1,12 +1,15 @@
 -- Cases of specs/Report.antt.
-use Rattle.std.proofs.Common.{◌≡◌, ℕ, zero, suc, ◌<◌, List, [], ◌∷◌, false, Some, None, refl, sym, subst, arith}
-use Rattle.std.specs.Prelude.{slice_get}
+use Rattle.std.proofs.Common.{◌≡◌, ℕ, zero, suc, ◌<◌, List, [], ◌∷◌, false, Some, None, refl, sym, ap, get_or, subst, ◌∙◌, arith}
+use Rattle.std.specs.Prelude.{slice_get, Vec}
+use Rattle.std.specs.Global.{Global}
 use Rattle.lalrpop_hir.specs.Tree.{Tree, literal, look, repetition}
 use Rattle.lalrpop_hir.specs.declared.hir.Look.TheVariants.{Start}
 use Rattle.lalrpop_nfa.specs.Fault.{fault}
 use Rattle.lalrpop_nfa.specs.declared.error.NfaConstructionError.TheVariants.{NonGreedy, LookAround}
 use Rattle.lalrpop_dfa.specs.Report.{NoFault, FirstFault, IsReport}
 use Rattle.lalrpop_dfa.specs.declared.error.DfaConstructionError.TheVariants.{NfaConstructionError as Refused, Ambiguity}
+use Rattle.lalrpop_dfa.specs.Clash.{IsClash}
+use Rattle.lalrpop_dfa.proofs.ClashLaws.{clash-unique}
 use Rattle.lalrpop_dfa.proofs.Cases.Clash.{equal_literals_clash}
 
 abbrev a : Tree
@@ -52,12 +55,18 @@ no_report_of_a_later_fault : ¬ IsReport third_is_lazy (0 ∷ 0 ∷ 0 ∷ []) (R
 no_report_of_a_later_fault = first_fault_is_not_a_later_one
 
 -- `a` twice: the clash, the greater index first
-report_of_the_clash : IsReport (a ∷ a ∷ []) (0 ∷ 0 ∷ []) (Ambiguity 1 0)
-report_of_the_clash = (literals_have_no_fault, (97 ∷ [], equal_literals_clash))
+report_of_the_clash : (w : Vec ℕ Global) → w.items ≡ 97 ∷ [] → IsReport (a ∷ a ∷ []) (0 ∷ 0 ∷ []) (Ambiguity 1 0 w)
+report_of_the_clash w e = (literals_have_no_fault, subst (λ v. IsClash (a ∷ a ∷ []) (0 ∷ 0 ∷ []) v 1 0) (sym e) equal_literals_clash)
 
-no_report_of_the_clash_turned : ¬ IsReport (a ∷ a ∷ []) (0 ∷ 0 ∷ []) (Ambiguity 0 1)
-no_report_of_the_clash_turned r = omega (arith, r.1.1.less)
+no_report_of_the_clash_turned : (w : Vec ℕ Global) → ¬ IsReport (a ∷ a ∷ []) (0 ∷ 0 ∷ []) (Ambiguity 0 1 w)
+no_report_of_the_clash_turned w r = omega (arith, r.1.less)
+
+-- on another word it is not right
+no_report_of_the_clash_on_another_word : (w : Vec ℕ Global) → w.items ≡ 98 ∷ [] → ¬ IsReport (a ∷ a ∷ []) (0 ∷ 0 ∷ []) (Ambiguity 1 0 w)
+no_report_of_the_clash_on_another_word w e r =
+    let same = clash-unique (a ∷ a ∷ []) (0 ∷ 0 ∷ []) w.items (97 ∷ []) 1 0 1 0 r.1 equal_literals_clash in
+    omega (arith, ap (λ (v : List ℕ). get_or v 0 0) (sym e ∙ same.0))
 
 -- a fault comes before a clash
-no_report_of_a_clash_beside_a_fault : (i j : ℕ) → ¬ IsReport (a ∷ a ∷ look Start ∷ []) (0 ∷ 0 ∷ 0 ∷ []) (Ambiguity i j)
-no_report_of_a_clash_beside_a_fault i j r = let e : Some LookAround ≡ None = r.0 2 (look Start) refl in absurd (cc)
+no_report_of_a_clash_beside_a_fault : (i j : ℕ) (w : Vec ℕ Global) → ¬ IsReport (a ∷ a ∷ look Start ∷ []) (0 ∷ 0 ∷ 0 ∷ []) (Ambiguity i j w)
+no_report_of_a_clash_beside_a_fault i j w r = let e : Some LookAround ≡ None = r.0 2 (look Start) refl in absurd (cc)

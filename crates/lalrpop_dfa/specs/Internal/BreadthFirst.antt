@@ -61,6 +61,10 @@ pub record IsBreadthFirst {S : Type 0} (m : Automaton S) (sets : List S) (origin
   pub behind : (k : ℕ) → 0 < k → k < length sets → Before (from_of origins k) (value_of origins k) n v
   pub covered : (i c : ℕ) → i < length sets → Before i c n v → Covered m sets origins i c
 
+-- each number but 0 was first met from an earlier one
+abbrev pub AreEarlier : List (ℕ × ℕ) → Type 0
+AreEarlier origins = (k : ℕ) → 0 < k → k < length origins → from_of origins k < k
+
 -- the word of number k, with at least k as its fuel
 abbrev pub word_of : List (ℕ × ℕ) → ℕ → ℕ → List ℕ
 word_of origins zero k = []

@@ -19,7 +19,6 @@ use Rattle.lalrpop_dfa.specs.declared.room.Transitions.{Transitions}
 use Rattle.lalrpop_dfa.specs.declared.builder.Sets.{Sets}
 use Rattle.lalrpop_dfa.specs.Internal.BreadthFirst.{IsBreadthFirst, nth, value_of}
 use Rattle.lalrpop_dfa.specs.Internal.Built.{subset_automaton, IsRowOf, IsTied}
-use Rattle.lalrpop_dfa.specs.Report.{FirstFault}
 use Rattle.lalrpop_ranges.specs.Partition.{IsPartition}
 use Rattle.lalrpop_nfa.specs.declared.error.NfaConstructionError.{NfaConstructionError}
 use Rattle.lalrpop_nfa.specs.declared.error.NfaConstructionError.TheVariants.{OutOfMemory as NoMemory}
@@ -99,23 +98,23 @@ pub record IsBuiltTo (ns : List Graph) (ps : List ℕ) (sets : List (List Item))
   pub rows_are : (k : ℕ) (r : Row) → slice_get rows k ≡ Some r → IsRowOf ns ps sets k r
   pub small : AreSmall origins
 
--- two trees tie in the set, or memory was refused
-abbrev pub IsTieOf : List ℕ → List Item → DfaConstructionError → Type 0
-IsTieOf ps s (Refused i e) = ⊥
-IsTieOf ps s (Ambiguity i j) = IsTied ps s i j
-IsTieOf ps s OutOfMemory = Unit {0}
+-- two trees tie in the set that the word v leads to, or memory was refused
+abbrev pub IsTieOf : List ℕ → List Item → List ℕ → DfaConstructionError → Type 0
+IsTieOf ps s v (Refused i e) = ⊥
+IsTieOf ps s v (Ambiguity i j w) = IsTied ps s i j × (w.items ≡ v)
+IsTieOf ps s v OutOfMemory = Unit {0}
+
+-- it is said that trees i and j clash on the word v, or memory was refused
+abbrev pub IsClashAt : List ℕ → ℕ → ℕ → DfaConstructionError → Type 0
+IsClashAt v i j (Refused k e) = ⊥
+IsClashAt v i j (Ambiguity k l w) = (k ≡ i) × (l ≡ j) × (w.items ≡ v)
+IsClashAt v i j OutOfMemory = Unit {0}
 
 -- the trees clash, or memory was refused
 abbrev pub IsClashOf : List Tree → List ℕ → DfaConstructionError → Type 0
 IsClashOf ts ps (Refused i e) = ⊥
-IsClashOf ts ps (Ambiguity i j) = (w : List ℕ) × IsClash ts ps w i j
+IsClashOf ts ps (Ambiguity i j w) = IsClash ts ps w.items i j
 IsClashOf ts ps OutOfMemory = Unit {0}
-
--- a tree is the first with a fault, or memory was refused
-abbrev pub IsFaultOf : List Tree → DfaConstructionError → Type 0
-IsFaultOf ts (Refused i e) = FirstFault ts i e
-IsFaultOf ts (Ambiguity i j) = ⊥
-IsFaultOf ts OutOfMemory = Unit {0}
 
 -- the trees before tree i have no fault
 abbrev pub NoFaultBefore : List Tree → ℕ → Type 0
@@ -132,5 +131,5 @@ pub record IsCompiledAt (ts : List Tree) (i : ℕ) (g : Graph) : Type 0 where
 -- it is said that pattern i was not compiled, and why
 abbrev pub IsRefusalOf : ℕ → NfaConstructionError → DfaConstructionError → Type 0
 IsRefusalOf i e (Refused j f) = (j ≡ i) × (f ≡ e) × (e ≢ NoMemory)
-IsRefusalOf i e (Ambiguity j k) = ⊥
+IsRefusalOf i e (Ambiguity j k w) = ⊥
 IsRefusalOf i e OutOfMemory = Unit {0}

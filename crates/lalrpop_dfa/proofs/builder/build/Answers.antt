@@ -3,31 +3,31 @@ use Rattle.std.proofs.lemmas.Result.{err_from_is_err_and}
 use Rattle.lalrpop_dfa.proofs.Builds.{built_all, built_bound}
 use Rattle.lalrpop_dfa.proofs.builder.build.Goals as goal
 
-pub returns-in_err-expand_all-clause-err : goal.returns-in_err-expand_all-clause-err
-returns-in_err-expand_all-clause-err c =
-    let p = err_from_is_err_and c.from_residual-in_err-expand_all.result c.from_residual-in_err-expand_all.ensures.1 in
-    rw (p.1, p.2) (λ ts k. c.in_err-expand_all.ensures.err ts (rw c.in_ok-automata.ensures k))
+pub returns-in_err-table-clause-err : goal.returns-in_err-table-clause-err
+returns-in_err-table-clause-err c =
+    let p = err_from_is_err_and c.from_residual-in_err-table.result c.from_residual-in_err-table.ensures.1 in
+    rw (p.1, p.2) (λ ts k. c.in_err-table.ensures.err ts (rw c.in_ok-automata.ensures k))
 
-pub new-requires-3 : goal.new-requires-3
-new-requires-3 c = rw c.into_rows.ensures (built_all c.args.nfas.now (map (λ p. p.0) c.args.precedences.now) c.expand_all.new.self.sets.kernels.list c.expand_all.new.self.sets.origins.items c.expand_all.new.self.writer.rows (rw c.in_ok-automata.ensures at c.in_ok-expand_all.ensures.ok) c.requires.automata.0 c.requires.automata.1).2
+pub new-requires-2 : goal.new-requires-2
+new-requires-2 c = rw c.into_rows.ensures (built_all c.args.nfas.now (map (λ p. p.0) c.args.precedences.now) c.in_ok-table.table.sets.kernels.list c.in_ok-table.table.sets.origins.items c.in_ok-table.table.writer.rows (rw c.in_ok-automata.ensures at c.in_ok-table.ensures.ok) c.requires.automata.0 c.requires.automata.1).2
 
 pub returns-clause-stands : goal.returns-clause-stands
 returns-clause-stands c ts k =
-    let all = built_all c.args.nfas.now (map (λ p. p.0) c.args.precedences.now) c.expand_all.new.self.sets.kernels.list c.expand_all.new.self.sets.origins.items c.expand_all.new.self.writer.rows (rw c.in_ok-automata.ensures at c.in_ok-expand_all.ensures.ok) ts k in
+    let all = built_all c.args.nfas.now (map (λ p. p.0) c.args.precedences.now) c.in_ok-table.table.sets.kernels.list c.in_ok-table.table.sets.origins.items c.in_ok-table.table.writer.rows (rw c.in_ok-automata.ensures at c.in_ok-table.ensures.ok) ts k in
     rw (c.in_ok-new.ensures, c.into_rows.ensures) (all.0, all.1)
 
 pub returns-clause-bound : goal.returns-clause-bound
 returns-clause-bound c =
-    rw (c.in_ok-new.ensures, c.into_rows.ensures) (built_bound c.args.nfas.now (map (λ p. p.0) c.args.precedences.now) c.expand_all.new.self.sets.kernels.list c.expand_all.new.self.sets.origins.items c.expand_all.new.self.writer.rows (length c.expand_all.new.self.sets.kernels.list) (rw c.in_ok-automata.ensures at c.in_ok-expand_all.ensures.ok))
+    rw (c.in_ok-new.ensures, c.into_rows.ensures) (built_bound c.args.nfas.now (map (λ p. p.0) c.args.precedences.now) c.in_ok-table.table.sets.kernels.list c.in_ok-table.table.sets.origins.items c.in_ok-table.table.writer.rows (length c.in_ok-table.table.sets.kernels.list) (rw c.in_ok-automata.ensures at c.in_ok-table.ensures.ok))
 
 pub returns-clause-items : goal.returns-clause-items
 returns-clause-items c =
-    rw (c.in_ok-new.ensures, c.into_rows.ensures) (built_all c.args.nfas.now (map (λ p. p.0) c.args.precedences.now) c.expand_all.new.self.sets.kernels.list c.expand_all.new.self.sets.origins.items c.expand_all.new.self.writer.rows (rw c.in_ok-automata.ensures at c.in_ok-expand_all.ensures.ok) c.requires.automata.0 c.requires.automata.1).3
+    rw (c.in_ok-new.ensures, c.into_rows.ensures) (built_all c.args.nfas.now (map (λ p. p.0) c.args.precedences.now) c.in_ok-table.table.sets.kernels.list c.in_ok-table.table.sets.origins.items c.in_ok-table.table.writer.rows (rw c.in_ok-automata.ensures at c.in_ok-table.ensures.ok) c.requires.automata.0 c.requires.automata.1).3
 
 pub returns-clause-others : goal.returns-clause-others
 returns-clause-others c =
-    rw (c.in_ok-new.ensures, c.into_rows.ensures) (built_all c.args.nfas.now (map (λ p. p.0) c.args.precedences.now) c.expand_all.new.self.sets.kernels.list c.expand_all.new.self.sets.origins.items c.expand_all.new.self.writer.rows (rw c.in_ok-automata.ensures at c.in_ok-expand_all.ensures.ok) c.requires.automata.0 c.requires.automata.1).4
+    rw (c.in_ok-new.ensures, c.into_rows.ensures) (built_all c.args.nfas.now (map (λ p. p.0) c.args.precedences.now) c.in_ok-table.table.sets.kernels.list c.in_ok-table.table.sets.origins.items c.in_ok-table.table.writer.rows (rw c.in_ok-automata.ensures at c.in_ok-table.ensures.ok) c.requires.automata.0 c.requires.automata.1).4
 
 pub returns-clause-order : goal.returns-clause-order
 returns-clause-order c =
-    rw (c.in_ok-new.ensures, c.into_rows.ensures) (built_all c.args.nfas.now (map (λ p. p.0) c.args.precedences.now) c.expand_all.new.self.sets.kernels.list c.expand_all.new.self.sets.origins.items c.expand_all.new.self.writer.rows (rw c.in_ok-automata.ensures at c.in_ok-expand_all.ensures.ok) c.requires.automata.0 c.requires.automata.1).5
+    rw (c.in_ok-new.ensures, c.into_rows.ensures) (built_all c.args.nfas.now (map (λ p. p.0) c.args.precedences.now) c.in_ok-table.table.sets.kernels.list c.in_ok-table.table.sets.origins.items c.in_ok-table.table.writer.rows (rw c.in_ok-automata.ensures at c.in_ok-table.ensures.ok) c.requires.automata.0 c.requires.automata.1).5
