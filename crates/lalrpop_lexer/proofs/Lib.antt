@@ -1,5 +1,11 @@
--- what the definitions mean: there is one clash, and one longest match
-pub use Rattle.lalrpop_dfa.proofs.Clashes
+mod Cases
+-- what the calls that cut a text give
+pub mod Cuttings
+pub mod LexerCuttings
+pub mod Places
+-- what the definitions mean: there is one clash, one list of clashes, and one longest match
+pub use Rattle.lalrpop_dfa.proofs.ClashLaws
+pub use Rattle.lalrpop_dfa.proofs.ClashListLaws
 pub use Rattle.lalrpop_dfa.proofs.Longests
 -- what follows from the promises, for callers
 pub use Rattle.lalrpop_ranges.proofs.PartitionLaws

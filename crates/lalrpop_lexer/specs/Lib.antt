@@ -1,3 +1,7 @@
+pub mod Cutting
+pub mod LexerTokens
+pub mod Position
+pub mod Rules
 -- what the public contracts of the crates below name
 pub use Rattle.lalrpop_hir.specs.Word
 pub use Rattle.lalrpop_hir.specs.Range
@@ -21,6 +25,7 @@ pub use Rattle.lalrpop_nfa.specs.Lending
 pub use Rattle.lalrpop_nfa.specs.Contiguous
 pub use Rattle.lalrpop_dfa.specs.Winners
 pub use Rattle.lalrpop_dfa.specs.Clash
+pub use Rattle.lalrpop_dfa.specs.ClashList
 pub use Rattle.lalrpop_dfa.specs.Longest
 pub use Rattle.lalrpop_dfa.specs.Report
 pub use Rattle.lalrpop_ranges.specs.Partition
@@ -30,3 +35,5 @@ pub use Rattle.lalrpop_dfa.specs.Items
 pub use Rattle.lalrpop_kernels.specs.Kernels
 pub use Rattle.lalrpop_dfa.specs.SameAutomata
 pub use Rattle.lalrpop_dfa.specs.Agree
+-- what serves the proofs alone
+pub mod Internal

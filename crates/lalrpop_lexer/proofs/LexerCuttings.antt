@@ -1,0 +1,65 @@
+-- What the calls of `next` give of a text that a lexer cuts.
+use Rattle.std.proofs.Common.{◌≡◌, ◌≢◌, ℕ, ◌+◌, ◌≤◌, List, [], ◌∷◌, ◌++◌, length, drop, map, arith, refl, sym, ap, subst, ◌∙◌}
+use Rattle.std.specs.Prelude.{Option, Some, None, Result, Ok, Err}
+use Rattle.std.specs.Iterator.{Yields, Drains}
+use Rattle.std.specs.Str.{chars, IsUtf8}
+use Rattle.std.proofs.lemmas.List.{length-map}
+use Rattle.lalrpop_hir.specs.Tree.{Tree}
+use Rattle.lalrpop_table.specs.Dfa.{Row, Recognizes}
+use Rattle.lalrpop_dfa.specs.Clash.{NoClash}
+use Rattle.lalrpop_dfa.proofs.Strongest.{IsOnlyStrongest-from_greatest}
+use Rattle.lalrpop_lexer.specs.Cutting.{Cutting, Item, start_of, rest_of, GivesItem, AreItems, slices}
+use Rattle.lalrpop_lexer.specs.LexerTokens.{IsToken, AreTokens, GivesToken, bare}
+use Rattle.lalrpop_lexer.specs.Rules.{IsBuiltFrom}
+use Rattle.lalrpop_lexer.specs.declared.lexer_token.Token.{Token}
+use Rattle.lalrpop_lexer.specs.declared.token.TokenFault.{TokenFault}
+use Rattle.lalrpop_lexer.proofs.Cuttings.{items_from_start, parts_from_start, count_from_start, none_for_good}
+
+-- the automaton gave the same, bare of the places
+bare_step : (s t : Cutting) (x : Result Token TokenFault) → GivesToken s (Some x) t → GivesItem s (Some (bare x)) t
+bare_step s t (Ok token) g = g.1
+bare_step s t (Err fault) g = g
+
+bare_steps : (s t : Cutting) (xs : List (Result Token TokenFault)) → Yields GivesToken s xs t → Yields GivesItem s (map bare xs) t
+bare_steps s t [] y = y
+bare_steps s t (x ∷ xs) (j, g, y) = (j, bare_step s j x g, bare_steps j t xs y)
+
+-- the place behind an item
+moves_on : (s j : Cutting) (m : _) → GivesItem s (Some (Ok m)) j → j.at ≡ s.at + length m.1.now
+moves_on s j m g = ap (λ (x : Cutting). x.at) g.4
+
+tokens_of : (ts : List Tree) (ps text : List ℕ) (s t : Cutting) (xs : List (Result Token TokenFault)) (at : ℕ) → NoClash ts ps → s.at ≡ at
+    → Yields GivesToken s xs t → AreItems ts ps text at (map bare xs) → AreTokens ts ps text at xs
+tokens_of ts ps text s t [] at none here y are = are
+tokens_of ts ps text s t (Ok token ∷ xs) at none here (j, g, y) are =
+    let next : j.at ≡ at + length token.slice.now = moves_on s j (token.index, token.slice) g.1 ∙ ap (λ n. n + length token.slice.now) here in (
+      (g.0 ∙ here, are.0, IsOnlyStrongest-from_greatest ts ps (chars token.slice.now) token.index none are.0.2),
+      tokens_of ts ps text j t xs (at + length token.slice.now) none next y are.1,
+    )
+tokens_of ts ps text s t (Err fault ∷ xs) at none here (j, g, y) are = (are.0, are.1, are.2, nil_map xs are.3)
+  where
+    nil_map : (xs : List (Result Token TokenFault)) → map bare xs ≡ [] → xs ≡ []
+    nil_map [] e = refl
+    nil_map (x ∷ xs) e = absurd (cc)
+
+-- ---- from the start
+
+pub tokens_from_start : (s : Cutting) (ts : List Tree) (ps : List ℕ) (d : List Row) (text : List ℕ) → s ≡ start_of d text → IsBuiltFrom ts ps d
+    → (xs : List (Result Token TokenFault)) → Drains GivesToken s xs → AreTokens ts ps text 0 xs
+tokens_from_start s ts ps d text e built xs (u, (t, y, last)) =
+    tokens_of ts ps text s t xs 0 built.no_clash (ap (λ (x : Cutting). x.at) e) y
+    (items_from_start s d text e (map bare xs) (u, (t, bare_steps s t xs y, last)) ts ps built.stands)
+
+pub token_parts_from_start : (s : Cutting) (d : List Row) (text : List ℕ) → s ≡ start_of d text → (xs : List (Result Token TokenFault)) (t : Cutting)
+    → Yields GivesToken s xs t → text ≡ slices (map bare xs) ++ rest_of t
+token_parts_from_start s d text e xs t y = parts_from_start s d text e (map bare xs) t (bare_steps s t xs y)
+
+pub token_count_from_start : (s : Cutting) (d : List Row) (text : List ℕ) → s ≡ start_of d text → IsUtf8 text → (xs : List (Result Token TokenFault)) (t : Cutting)
+    → Yields GivesToken s xs t → length xs ≤ length (chars text)
+token_count_from_start s d text e u xs t y =
+    let n : length (map bare xs) ≡ length xs = length-map xs bare in
+    omega (arith, n, count_from_start s d text e u (map bare xs) t (bare_steps s t xs y))
+
+pub no_token_for_good : (s t u : Cutting) (x : Option (Result Token TokenFault)) → GivesToken s None t → GivesToken t x u → x ≡ None
+no_token_for_good s t u None same g = refl
+no_token_for_good s t u (Some x) same g = let e = none_for_good s t u (Some (bare x)) same (bare_step t u x g) in absurd (cc)

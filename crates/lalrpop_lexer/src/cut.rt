@@ -1,0 +1,30 @@
+//! Cutting a text into tokens.
+
+ghost use Rattle.std.specs.Prelude.{◌≡◌, ℕ, ◌≤◌, ◌++◌, List, None, Option, length};
+ghost use Rattle.std.specs.Iterator.{Drains, Yields};
+ghost use Rattle.std.specs.Str.{chars};
+ghost use Rattle.lalrpop_hir.specs.Tree.{Tree};
+ghost use Rattle.lalrpop_table.specs.Dfa.{Recognizes};
+ghost use Rattle.lalrpop_lexer.specs.Cutting.{Cutting, Item, start_of, rest_of, GivesItem, AreItems, slices};
+
+use crate::token::Tokens;
+use lalrpop_dfa::Dfa;
+
+/// The tokens of the text: each is the longest nonempty prefix, of what those before it leave, that some pattern
+/// matches, with the strongest pattern that matches it. They end where nothing is left, or with one fault at the first
+/// place where no pattern matches. From then on there is `None` for good.
+///
+/// No memory is taken, and there are at most as many tokens and faults as the text has characters.
+pub fn tokens<'text>(dfa: &'text Dfa, text: &'text str) -> Tokens<'text>
+    ensures start { result ≡ start_of dfa.now text.now }
+    ensures items { (xs : List Item) → Drains GivesItem result xs
+        → (ts : List Tree) (ps : List ℕ) → Recognizes dfa.now ts ps → AreItems ts ps text.now 0 xs }
+    ensures parts { (xs : List Item) (s : Cutting) → Yields GivesItem result xs s
+        → text.now ≡ slices xs ++ rest_of s }
+    ensures count { (xs : List Item) (s : Cutting) → Yields GivesItem result xs s
+        → length xs ≤ length (chars text.now) }
+    ensures fused { (s t u : Cutting) (x : Option Item) → GivesItem s None t → GivesItem t x u
+        → x ≡ None }
+{
+    Tokens::new(dfa, text)
+}

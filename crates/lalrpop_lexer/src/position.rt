@@ -1,0 +1,98 @@
+//! Places in a text as people count them.
+
+ghost use Rattle.std.specs.Prelude.{◌≡◌, ◌≤◌, ◌<◌};
+ghost use Rattle.std.specs.Str.{IsCharBoundary};
+ghost use Rattle.lalrpop_lexer.specs.Position.{position_of};
+ghost use Rattle.lalrpop_lexer.specs.Internal.Places.{next_place};
+
+use std::marker::Model;
+
+/// A place in a text: its line and its column, both from 1. A line feed ends its line.
+#[derive(Clone, Copy, Debug, PartialEq, Eq, PartialOrd, Ord)]
+pub struct Position {
+    /// One more than the number of line feeds before the place.
+    pub line: usize,
+    /// One more than the number of characters between the last line feed before the place and the place. Where there is
+    /// no line feed before it, they are counted from the beginning of the text.
+    pub column: usize,
+}
+
+impl Position {
+    /// The place of an offset of the text, in bytes. To find the places of many offsets, take `Positions`.
+    pub fn of(text: &str, offset: usize) -> Position
+        requires boundary { IsCharBoundary text.now offset }
+        ensures position { result ≡ position_of text.now offset }
+    {
+        Positions::new(text).at(offset)
+    }
+
+    // The place behind the character that stands at this one.
+    fn next(self, c: char) -> Position
+        requires line { self.line < usize.MAX }
+        requires column { self.column < usize.MAX }
+        ensures next { result ≡ next_place self c }
+    {
+        if c == '\n' {
+            Position {
+                line: self.line + 1,
+                column: 1,
+            }
+        } else {
+            Position {
+                line: self.line,
+                column: self.column + 1,
+            }
+        }
+    }
+}
+
+/// The places of ascending offsets of a text, found in one walk over it.
+#[derive(Debug, Drop)]
+pub struct Positions<'text> {
+    text: &'text str,
+    // How far the text was walked over, and the place there.
+    offset: usize,
+    position: Position,
+}
+
+impl<'text> Model for Positions<'text> {
+    ghost use Rattle.std.specs.Prelude.{◌≡◌};
+    ghost use Rattle.std.specs.Str.{IsUtf8, IsCharBoundary};
+    ghost use Rattle.lalrpop_lexer.specs.Position.{Counted, position_of};
+
+    ghost Value = { Counted };
+
+    ghost view = { λ p. record { text = p.text.now; offset = p.offset } };
+
+    ghost invariant = { λ p. IsUtf8 p.text.now × IsCharBoundary p.text.now p.offset
+        × (p.position ≡ position_of p.text.now p.offset) };
+}
+
+impl<'text> Positions<'text> {
+    /// Begins at the beginning of the text.
+    pub fn new(text: &'text str) -> Positions<'text>
+        ensures start { result ≡ record { text = text.now; offset = 0 } }
+    {
+        Positions {
+            text,
+            offset: 0,
+            position: Position { line: 1, column: 1 },
+        }
+    }
+
+    /// The place of an offset in bytes, which isn't before that of the last call.
+    pub fn at(&mut self, offset: usize) -> Position
+        requires boundary { IsCharBoundary self.old.text offset }
+        requires ascending { self.old.offset ≤ offset }
+        ensures position { result ≡ position_of self.old.text offset }
+        ensures walked { self.new ≡ record self.old { offset = offset } }
+    {
+        let mut position = self.position;
+        for c in self.text[self.offset..offset].chars() {
+            position = position.next(c);
+        }
+        self.offset = offset;
+        self.position = position;
+        position
+    }
+}
