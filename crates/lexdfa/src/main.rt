@@ -1,10 +1,11 @@
 //! `lexdfa TEXT`: reads terminals from standard input, and writes which of them matches the longest prefix of TEXT.
+//! `lexdfa --all TEXT`: cuts all of TEXT into such matches, and writes each.
 #![tactic(auto)]
 
 ghost use Rattle.std.specs.Prelude.{◌≡◌, ◌≢◌, Ok, Err, OnOk, OnErr};
 ghost use Rattle.std.specs.IoError.{error_kind};
 
-use lexdfa_lib::{Ending, Failure, Outcome, RunError, Watched, arguments, run};
+use lexdfa_lib::{Ending, Failure, Outcome, RunError, Watched, arguments, run, run_all};
 use std::env;
 use std::io::{self, ErrorKind, Write};
 use std::process::ExitCode;
@@ -22,7 +23,7 @@ fn without_arguments(error: &io::Error) -> Failure
     }
 }
 
-// The outcome, unless the flush of its line has failed.
+// The outcome, unless the flush of its lines has failed.
 fn flushed(outcome: Outcome, flush: &io::Result<()>) -> Result<Outcome, Failure>
     ensures ok { OnOk flush.now (result ≡ Ok outcome) }
     ensures write { OnErr flush.now (result ≡ Err (Failure.Run RunError.Write)) }
@@ -38,11 +39,15 @@ fn answer(rt: &(impl Env + Input + Print + AllocGlobal)) -> Result<Outcome, Fail
     let Ok(words) = args.skip(1).collect::<Vec<String>>(rt.alloc()) else {
         return Err(Failure::Run(RunError::OutOfMemory));
     };
-    let text = arguments(&words).ok_or(Failure::Usage)?;
+    let (all, text) = arguments(&words).ok_or(Failure::Usage)?;
     let mut reader = Watched::new(rt.reader());
     let mut writer = Watched::new(io::writer(rt));
-    let outcome = run(rt.alloc(), &mut reader, text, &mut writer).map_err(Failure::Run)?;
-    flushed(outcome, &writer.into_inner().flush())
+    let found = if all {
+        run_all(rt.alloc(), &mut reader, text, &mut writer)
+    } else {
+        run(rt.alloc(), &mut reader, text, &mut writer)
+    };
+    flushed(found.map_err(Failure::Run)?, &writer.into_inner().flush())
 }
 
 fn main(rt: HostRuntime) -> ExitCode {

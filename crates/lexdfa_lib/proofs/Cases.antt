@@ -2,8 +2,11 @@
 mod Watch
 mod Status
 mod Ending
+mod Word
 mod Printed
 mod Lines
 mod Line
 mod Terminals
 mod Answer
+mod Whole
+mod Words

@@ -1,14 +1,10 @@
 -- What lines say, line by line.
 use Rattle.std.proofs.Common.{◌≡◌, ℕ, suc, List, [], ◌∷◌, ◌++◌, length, refl, ap}
 use Rattle.lalrpop_hir.specs.Tree.{Tree}
-use Rattle.lexdfa_lib.specs.Lines.{lines}
 use Rattle.lexdfa_lib.specs.Line.{LineSays}
 use Rattle.lexdfa_lib.specs.Terminals.{AreTerminals, FirstSays}
-use Rattle.lexdfa_lib.specs.Answer.{Finds, IsOutcome}
 use Rattle.lexdfa_lib.specs.declared.meaning.Meaning.{Meaning}
 use Rattle.lexdfa_lib.specs.declared.meaning.Meaning.TheVariants.{Terminal}
-use Rattle.lexdfa_lib.specs.declared.outcome.Outcome.{Outcome}
-use Rattle.lexdfa_lib.specs.declared.outcome.Outcome.TheVariants.{Match, NoMatch, Refused, Ambiguous, Syntax, Line}
 
 -- one terminal more
 pub AreTerminals-push : (ls : List (List ℕ)) (ts : List Tree) (ps : List ℕ) (line : List ℕ) (t : Tree) (p : ℕ) → AreTerminals ls ts ps → LineSays line (Terminal p t) → AreTerminals (ls ++ line ∷ []) (ts ++ t ∷ []) (ps ++ p ∷ [])
@@ -36,12 +32,3 @@ length-AreTerminals [] (u ∷ ts) ps are = absurd are
 length-AreTerminals (l ∷ ls) [] ps are = absurd are
 length-AreTerminals (l ∷ ls) (u ∷ ts) [] are = absurd are
 length-AreTerminals (l ∷ ls) (u ∷ ts) (q ∷ ps) are = ap suc (length-AreTerminals ls ts ps are.1)
-
--- what the terminals find is the outcome
-pub IsOutcome-terminals : (bytes text : List ℕ) (ts : List Tree) (ps : List ℕ) (o : Outcome) → AreTerminals (lines bytes) ts ps → Finds ts ps text o → IsOutcome bytes text o
-IsOutcome-terminals bytes text ts ps (Match i n) are finds = (ts, (ps, (are, finds)))
-IsOutcome-terminals bytes text ts ps NoMatch are finds = (ts, (ps, (are, finds)))
-IsOutcome-terminals bytes text ts ps (Refused i e) are finds = (ts, (ps, (are, finds)))
-IsOutcome-terminals bytes text ts ps (Ambiguous i j) are finds = (ts, (ps, (are, finds)))
-IsOutcome-terminals bytes text ts ps (Syntax i) are finds = absurd finds
-IsOutcome-terminals bytes text ts ps (Line i) are finds = absurd finds

@@ -7,21 +7,22 @@ use Rattle.std.proofs.lemmas.Bool.{cases_order}
 use Rattle.std.proofs.lemmas.Str.Parse.{digit_from_value}
 use Rattle.lalrpop_hir.specs.Tree.{Tree}
 use Rattle.lalrpop_re.proofs.PatternLaws.{one_tree}
+use Rattle.lalrpop_lexer.specs.Clash.{NoClash}
 use Rattle.lalrpop_lexer.specs.Fault.{fault}
 use Rattle.lalrpop_lexer.specs.Report.{NoFault, FirstFault}
 use Rattle.lalrpop_lexer.specs.declared.lexer.nfa.NfaConstructionError.{NfaConstructionError}
-use Rattle.lalrpop_lexer.proofs.Clashes.{clash-unique, clash_or_none}
+use Rattle.lalrpop_lexer.proofs.ClashLaws.{clash-unique, clash_or_none}
 use Rattle.lalrpop_lexer.proofs.Longests.{longest-unique}
 use Rattle.lexdfa_lib.specs.Lines.{lines}
 use Rattle.lexdfa_lib.specs.Line.{letter, IsLine, Spells, LineSays}
 use Rattle.lexdfa_lib.specs.Terminals.{AreTerminals, FirstSays}
-use Rattle.lexdfa_lib.specs.Answer.{Finds, IsOutcome}
+use Rattle.lexdfa_lib.specs.Answer.{HaveAutomaton, Reports, IsReported, Finds, IsOutcome}
 use Rattle.lexdfa_lib.specs.declared.line.Kind.{Kind}
 use Rattle.lexdfa_lib.specs.declared.line.Kind.TheVariants.{Literal, Regex}
 use Rattle.lexdfa_lib.specs.declared.meaning.Meaning.{Meaning}
 use Rattle.lexdfa_lib.specs.declared.meaning.Meaning.TheVariants.{Bad, NoTree, Terminal}
 use Rattle.lexdfa_lib.specs.declared.outcome.Outcome.{Outcome}
-use Rattle.lexdfa_lib.specs.declared.outcome.Outcome.TheVariants.{Match, NoMatch, Refused, Ambiguous, Syntax, Line}
+use Rattle.lexdfa_lib.specs.declared.outcome.Outcome.TheVariants.{Match, NoMatch, All, Stopped, Refused, Ambiguous, Syntax, Line}
 
 no_space : (c : ℕ) (cs : List ℕ) → AllDigits 10 (c ∷ cs) → c ≡ 32 → ⊥
 no_space c cs digits e = omega (arith, (digit_from_value c digits.0).0)
@@ -140,54 +141,56 @@ fault-unique ts i j d e h g = by_order (cases_order i j)
     by_order (inr (inl l)) = absurd (earlier ts i j d e h g l)
     by_order (inr (inr l)) = absurd (earlier ts j i e d g h l)
 
-abbrev pair : ℕ → List ℕ → ℕ × List ℕ
+abbrev pub pair : ℕ → List ℕ → ℕ × List ℕ
 pair i p = (i, p)
 
-parts-unique : (i j : ℕ) (p q : List ℕ) → Some (pair i p) ≡ Some (pair j q) → (i ≡ j) × (length p ≡ length q)
+pub parts-unique : (i j : ℕ) (p q : List ℕ) → Some (pair i p) ≡ Some (pair j q) → (i ≡ j) × (length p ≡ length q)
 parts-unique i j p q e = let same : pair i p ≡ pair j q = cc in (ap (λ m. m.0) same, ap (λ m. length m.1) same)
 
-finds-unique : (ts : List Tree) (ps text : List ℕ) (a b : Outcome) → Finds ts ps text a → Finds ts ps text b → a ≡ b
-finds-unique ts ps text (Refused i d) (Refused j e) h g = fault-unique ts i j d e h g
-finds-unique ts ps text (Refused i d) (Ambiguous k l) h g = absurd (fault_or_none ts i d h g.0)
-finds-unique ts ps text (Refused i d) (Match k n) h g = absurd (fault_or_none ts i d h g.0)
-finds-unique ts ps text (Refused i d) NoMatch h g = absurd (fault_or_none ts i d h g.0)
-finds-unique ts ps text (Ambiguous i j) (Refused k e) h g = absurd (fault_or_none ts k e g h.0)
-finds-unique ts ps text (Ambiguous i j) (Ambiguous k l) h g =
-    let same = clash-unique ts ps h.1.0 g.1.0 i j k l h.1.1 g.1.1 in
+reports-unique : (ts : List Tree) (ps : List ℕ) (a b : Outcome) → Reports ts ps a → Reports ts ps b → a ≡ b
+reports-unique ts ps (Refused i d) (Refused j e) h g = fault-unique ts i j d e h g
+reports-unique ts ps (Refused i d) (Ambiguous k l v) h g = absurd (fault_or_none ts i d h g.0)
+reports-unique ts ps (Ambiguous i j w) (Refused k e) h g = absurd (fault_or_none ts k e g h.0)
+reports-unique ts ps (Ambiguous i j w) (Ambiguous k l v) h g =
+    let same = clash-unique ts ps w v i j k l h.1 g.1 in
+    let word : w ≡ v = same.0 in
     let first : i ≡ k = same.1.0 in
     let second : j ≡ l = same.1.1 in
     cc
-finds-unique ts ps text (Ambiguous i j) (Match k n) h g = absurd (clash_or_none ts ps h.1.0 i j h.1.1 g.1)
-finds-unique ts ps text (Ambiguous i j) NoMatch h g = absurd (clash_or_none ts ps h.1.0 i j h.1.1 g.1)
-finds-unique ts ps text (Match i n) (Refused j e) h g = absurd (fault_or_none ts j e g h.0)
-finds-unique ts ps text (Match i n) (Ambiguous k l) h g = absurd (clash_or_none ts ps g.1.0 k l g.1.1 h.1)
-finds-unique ts ps text (Match i n) (Match j m) h g =
-    let same = parts-unique i j h.2.0 g.2.0 (longest-unique ts ps text _ _ h.2.1.0 g.2.1.0) in
-    let terminals : i ≡ j = same.0 in
-    let bytes : length h.2.0 ≡ length g.2.0 = same.1 in
-    let lengths : n ≡ length h.2.0 = h.2.1.1 in
-    let also : m ≡ length g.2.0 = g.2.1.1 in
-    cc
-finds-unique ts ps text (Match i n) NoMatch h g = absurd (g.2 h.2.0 h.2.1.0.0)
-finds-unique ts ps text NoMatch (Refused j e) h g = absurd (fault_or_none ts j e g h.0)
-finds-unique ts ps text NoMatch (Ambiguous k l) h g = absurd (clash_or_none ts ps g.1.0 k l g.1.1 h.1)
-finds-unique ts ps text NoMatch (Match j m) h g = absurd (h.2 g.2.0 g.2.1.0.0)
-finds-unique ts ps text NoMatch NoMatch h g = refl
-finds-unique ts ps text (Syntax i) b h g = absurd h
-finds-unique ts ps text (Line i) b h g = absurd h
-finds-unique ts ps text a (Syntax j) h g = absurd g
-finds-unique ts ps text a (Line j) h g = absurd g
+reports-unique ts ps (Match i n) b h g = absurd h
+reports-unique ts ps NoMatch b h g = absurd h
+reports-unique ts ps (All n) b h g = absurd h
+reports-unique ts ps (Stopped n at) b h g = absurd h
+reports-unique ts ps (Syntax i) b h g = absurd h
+reports-unique ts ps (Line i) b h g = absurd h
+reports-unique ts ps a (Match i n) h g = absurd g
+reports-unique ts ps a NoMatch h g = absurd g
+reports-unique ts ps a (All n) h g = absurd g
+reports-unique ts ps a (Stopped n at) h g = absurd g
+reports-unique ts ps a (Syntax i) h g = absurd g
+reports-unique ts ps a (Line i) h g = absurd g
 
--- the terminals of the lines find the outcome
-abbrev Found : List ℕ → List ℕ → Outcome → Type 0
-Found bytes text o = (ts : List Tree) × ((ps : List ℕ) × (AreTerminals (lines bytes) ts ps × Finds ts ps text o))
+-- trees that report something have no automaton
+reports_nothing : (ts : List Tree) (ps : List ℕ) (o : Outcome) → Reports ts ps o → NoFault ts → NoClash ts ps → ⊥
+reports_nothing ts ps (Refused i e) r no_fault no_clash = fault_or_none ts i e r no_fault
+reports_nothing ts ps (Ambiguous i j w) r no_fault no_clash = clash_or_none ts ps w i j r.1 no_clash
+reports_nothing ts ps (Match i n) r no_fault no_clash = r
+reports_nothing ts ps NoMatch r no_fault no_clash = r
+reports_nothing ts ps (All n) r no_fault no_clash = r
+reports_nothing ts ps (Stopped n at) r no_fault no_clash = r
+reports_nothing ts ps (Syntax i) r no_fault no_clash = r
+reports_nothing ts ps (Line i) r no_fault no_clash = r
 
-found-unique : (bytes text : List ℕ) (a b : Outcome) → Found bytes text a → Found bytes text b → a ≡ b
-found-unique bytes text a b h g =
+-- the terminals of the lines report this
+abbrev Told : List ℕ → Outcome → Type 0
+Told bytes o = (ts : List Tree) × ((ps : List ℕ) × (AreTerminals (lines bytes) ts ps × Reports ts ps o))
+
+told-unique : (bytes : List ℕ) (a b : Outcome) → Told bytes a → Told bytes b → a ≡ b
+told-unique bytes a b h g =
     let same = terminals-unique (lines bytes) h.0 g.0 h.1.0 g.1.0 h.1.1.0 g.1.1.0 in
-    let there = subst (λ ts. Finds ts g.1.0 text b) (sym same.0) g.1.1.1 in
-    let here = subst (λ ps. Finds h.0 ps text b) (sym same.1) there in
-    finds-unique h.0 h.1.0 text a b h.1.1.1 here
+    let there = subst (λ ts. Reports ts g.1.0 b) (sym same.0) g.1.1.1 in
+    let here = subst (λ ps. Reports h.0 ps b) (sym same.1) there in
+    reports-unique h.0 h.1.0 a b h.1.1.1 here
 
 -- the outcome that tells that a line is no terminal
 abbrev stop : Meaning → ℕ → Outcome
@@ -202,16 +205,18 @@ record Stops (bytes : List ℕ) (o : Outcome) : Type 0 where
   told : o ≡ stop said line
   first : FirstSays (lines bytes) line said
 
-stops_or_found : (bytes text : List ℕ) (o : Outcome) → IsOutcome bytes text o → Stops bytes o ⊎ Found bytes text o
-stops_or_found bytes text (Line i) h = inl (record { line = i; said = Bad; none = λ p t e. cc; told = refl; first = h })
-stops_or_found bytes text (Syntax i) h = inl (record { line = i; said = NoTree; none = λ p t e. cc; told = refl; first = h })
-stops_or_found bytes text (Match i n) h = inr h
-stops_or_found bytes text NoMatch h = inr h
-stops_or_found bytes text (Refused i e) h = inr h
-stops_or_found bytes text (Ambiguous i j) h = inr h
+stops_or_told : (bytes : List ℕ) (o : Outcome) → IsReported bytes o → Stops bytes o ⊎ Told bytes o
+stops_or_told bytes (Line i) h = inl (record { line = i; said = Bad; none = λ p t e. cc; told = refl; first = h })
+stops_or_told bytes (Syntax i) h = inl (record { line = i; said = NoTree; none = λ p t e. cc; told = refl; first = h })
+stops_or_told bytes (Match i n) h = inr h
+stops_or_told bytes NoMatch h = inr h
+stops_or_told bytes (All n) h = inr h
+stops_or_told bytes (Stopped n at) h = inr h
+stops_or_told bytes (Refused i e) h = inr h
+stops_or_told bytes (Ambiguous i j w) h = inr h
 
-not_both : (bytes text : List ℕ) (o q : Outcome) → Stops bytes o → Found bytes text q → ⊥
-not_both bytes text o q h g = stop_or_terminals (lines bytes) h.line h.said g.0 g.1.0 h.none h.first g.1.1.0
+not_both : (bytes : List ℕ) (o q : Outcome) → Stops bytes o → Told bytes q → ⊥
+not_both bytes o q h g = stop_or_terminals (lines bytes) h.line h.said g.0 g.1.0 h.none h.first g.1.1.0
 
 stops-unique : (bytes : List ℕ) (a b : Outcome) → Stops bytes a → Stops bytes b → a ≡ b
 stops-unique bytes a b h g =
@@ -222,11 +227,66 @@ stops-unique bytes a b h g =
     let also : b ≡ stop g.said g.line = g.told in
     cc
 
-pub outcome-unique : (bytes text : List ℕ) (a b : Outcome) → IsOutcome bytes text a → IsOutcome bytes text b → a ≡ b
-outcome-unique bytes text a b h g = by_kind (stops_or_found bytes text a h) (stops_or_found bytes text b g)
+-- the bytes report one thing
+pub reported-unique : (bytes : List ℕ) (a b : Outcome) → IsReported bytes a → IsReported bytes b → a ≡ b
+reported-unique bytes a b h g = by_kind (stops_or_told bytes a h) (stops_or_told bytes b g)
   where
-    by_kind : Stops bytes a ⊎ Found bytes text a → Stops bytes b ⊎ Found bytes text b → a ≡ b
+    by_kind : Stops bytes a ⊎ Told bytes a → Stops bytes b ⊎ Told bytes b → a ≡ b
     by_kind (inl x) (inl y) = stops-unique bytes a b x y
-    by_kind (inl x) (inr y) = absurd (not_both bytes text a b x y)
-    by_kind (inr x) (inl y) = absurd (not_both bytes text b a y x)
-    by_kind (inr x) (inr y) = found-unique bytes text a b x y
+    by_kind (inl x) (inr y) = absurd (not_both bytes a b x y)
+    by_kind (inr x) (inl y) = absurd (not_both bytes b a y x)
+    by_kind (inr x) (inr y) = told-unique bytes a b x y
+
+-- the trees and precedences of an automaton are fixed
+pub automaton-unique : (bytes : List ℕ) (ts us : List Tree) (ps qs : List ℕ) → HaveAutomaton bytes ts ps → HaveAutomaton bytes us qs → (us ≡ ts) × (qs ≡ ps)
+automaton-unique bytes ts us ps qs h g =
+    let same = terminals-unique (lines bytes) ts us ps qs h.terminals g.terminals in
+    (sym same.0, sym same.1)
+
+-- bytes that report something have no automaton
+pub reported_or_automaton : (bytes : List ℕ) (o : Outcome) (ts : List Tree) (ps : List ℕ) → IsReported bytes o → HaveAutomaton bytes ts ps → ⊥
+reported_or_automaton bytes o ts ps h a = by_kind (stops_or_told bytes o h)
+  where
+    by_kind : Stops bytes o ⊎ Told bytes o → ⊥
+    by_kind (inl x) = stop_or_terminals (lines bytes) x.line x.said ts ps x.none x.first a.terminals
+    by_kind (inr x) =
+        let same = terminals-unique (lines bytes) x.0 ts x.1.0 ps x.1.1.0 a.terminals in
+        let there = subst (λ (ts : List Tree). Reports ts x.1.0 o) same.0 x.1.1.1 in
+        let here = subst (λ (ps : List ℕ). Reports ts ps o) same.1 there in
+        reports_nothing ts ps o here a.no_fault a.no_clash
+
+-- ---- the longest match
+
+finds-unique : (ts : List Tree) (ps text : List ℕ) (a b : Outcome) → Finds ts ps text a → Finds ts ps text b → a ≡ b
+finds-unique ts ps text (Match i n) (Match j m) h g =
+    let same = parts-unique i j h.0 g.0 (longest-unique ts ps text _ _ h.1.0 g.1.0) in
+    let terminals : i ≡ j = same.0 in
+    let bytes : length h.0 ≡ length g.0 = same.1 in
+    let lengths : n ≡ length h.0 = h.1.1 in
+    let also : m ≡ length g.0 = g.1.1 in
+    cc
+finds-unique ts ps text (Match i n) NoMatch h g = absurd (g h.0 h.1.0.0)
+finds-unique ts ps text NoMatch (Match j m) h g = absurd (h g.0 g.1.0.0)
+finds-unique ts ps text NoMatch NoMatch h g = refl
+finds-unique ts ps text (All n) b h g = absurd h
+finds-unique ts ps text (Stopped n at) b h g = absurd h
+finds-unique ts ps text (Refused i e) b h g = absurd h
+finds-unique ts ps text (Ambiguous i j w) b h g = absurd h
+finds-unique ts ps text (Syntax i) b h g = absurd h
+finds-unique ts ps text (Line i) b h g = absurd h
+finds-unique ts ps text a (All n) h g = absurd g
+finds-unique ts ps text a (Stopped n at) h g = absurd g
+finds-unique ts ps text a (Refused i e) h g = absurd g
+finds-unique ts ps text a (Ambiguous i j w) h g = absurd g
+finds-unique ts ps text a (Syntax i) h g = absurd g
+finds-unique ts ps text a (Line i) h g = absurd g
+
+pub outcome-unique : (bytes text : List ℕ) (a b : Outcome) → IsOutcome bytes text a → IsOutcome bytes text b → a ≡ b
+outcome-unique bytes text a b (inl h) (inl g) = reported-unique bytes a b h g
+outcome-unique bytes text a b (inl h) (inr (ts, (ps, (have, finds)))) = absurd (reported_or_automaton bytes a ts ps h have)
+outcome-unique bytes text a b (inr (ts, (ps, (have, finds)))) (inl g) = absurd (reported_or_automaton bytes b ts ps g have)
+outcome-unique bytes text a b (inr (ts, (ps, (have, finds)))) (inr (us, (qs, (too, also)))) =
+    let same = automaton-unique bytes ts us ps qs have too in
+    let there = subst (λ (us : List Tree). Finds us qs text b) same.0 also in
+    let here = subst (λ (qs : List ℕ). Finds ts qs text b) same.1 there in
+    finds-unique ts ps text a b finds here

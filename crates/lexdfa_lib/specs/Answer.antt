@@ -1,6 +1,6 @@
 -- cases: proofs/Cases/Answer.antt
 -- The answer to some bytes and a text: one outcome, and its line.
-use Rattle.std.specs.Prelude.{◌≡◌, ℕ, List, length, Option, Some, None}
+use Rattle.std.specs.Prelude.{◌≡◌, ℕ, ◌⊎◌, List, length, Option, Some, None}
 use Rattle.lalrpop_hir.specs.Tree.{Tree}
 use Rattle.lalrpop_lexer.specs.Clash.{IsClash, NoClash}
 use Rattle.lalrpop_lexer.specs.Longest.{IsLongest}
@@ -13,21 +13,35 @@ use Rattle.lexdfa_lib.specs.declared.meaning.Meaning.TheVariants.{Bad, NoTree}
 use Rattle.lexdfa_lib.specs.declared.outcome.Outcome.{Outcome}
 use Rattle.lexdfa_lib.specs.declared.outcome.Outcome.TheVariants.{Match, NoMatch, Refused, Ambiguous, Syntax, Line}
 
--- what trees with these precedences find in the text: the first fault; else the clash; else the longest match, if any
-abbrev pub Finds : List Tree → List ℕ → List ℕ → Outcome → Type 0
-Finds ts ps text (Refused i e) = FirstFault ts i e
-Finds ts ps text (Ambiguous i j) = NoFault ts × ((w : List ℕ) × IsClash ts ps w i j)
-Finds ts ps text (Match i n) = NoFault ts × NoClash ts ps × ((p : List ℕ) × (IsLongest ts ps text (Some (i, p)) × (n ≡ length p)))
-Finds ts ps text NoMatch = NoFault ts × NoClash ts ps × IsLongest ts ps text None
-Finds ts ps text (Syntax i) = ⊥
-Finds ts ps text (Line i) = ⊥
+-- the lines of the bytes are terminals with these trees and precedences, which have an automaton: there is no fault and no clash
+pub record HaveAutomaton (bytes : List ℕ) (ts : List Tree) (ps : List ℕ) : Type 0 where
+  pub terminals : AreTerminals (lines bytes) ts ps
+  pub no_fault : NoFault ts
+  pub no_clash : NoClash ts ps
 
--- the outcome for the bytes and the text: the first line that is bad or has a pattern without a tree; else what the terminals
--- of the lines find
+-- what trees with these precedences report where there is no automaton: the first fault; else the clash
+abbrev pub Reports : List Tree → List ℕ → Outcome → Type 0
+Reports ts ps (Refused i e) = FirstFault ts i e
+Reports ts ps (Ambiguous i j word) = NoFault ts × IsClash ts ps word i j
+Reports ts ps _ = ⊥
+
+-- what the bytes report where there is no automaton: the first line that is bad or has a pattern without a tree; else what the
+-- terminals of the lines report
+abbrev pub IsReported : List ℕ → Outcome → Type 0
+IsReported bytes (Line i) = FirstSays (lines bytes) i Bad
+IsReported bytes (Syntax i) = FirstSays (lines bytes) i NoTree
+IsReported bytes outcome = (ts : List Tree) × ((ps : List ℕ) × (AreTerminals (lines bytes) ts ps × Reports ts ps outcome))
+
+-- what trees with these precedences find in the text where there is an automaton: the longest match, if any
+abbrev pub Finds : List Tree → List ℕ → List ℕ → Outcome → Type 0
+Finds ts ps text (Match i n) = (p : List ℕ) × (IsLongest ts ps text (Some (i, p)) × (n ≡ length p))
+Finds ts ps text NoMatch = IsLongest ts ps text None
+Finds ts ps text _ = ⊥
+
+-- the outcome for the bytes and the text: what the bytes report; else what the terminals find
 abbrev pub IsOutcome : List ℕ → List ℕ → Outcome → Type 0
-IsOutcome bytes text (Line i) = FirstSays (lines bytes) i Bad
-IsOutcome bytes text (Syntax i) = FirstSays (lines bytes) i NoTree
-IsOutcome bytes text outcome = (ts : List Tree) × ((ps : List ℕ) × (AreTerminals (lines bytes) ts ps × Finds ts ps text outcome))
+IsOutcome bytes text outcome =
+    IsReported bytes outcome ⊎ ((ts : List Tree) × ((ps : List ℕ) × (HaveAutomaton bytes ts ps × Finds ts ps text outcome)))
 
 -- the line for the bytes and the text
 abbrev pub IsAnswer : List ℕ → List ℕ → List ℕ → Type 0

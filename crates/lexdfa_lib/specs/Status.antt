@@ -4,14 +4,17 @@ use Rattle.std.specs.Prelude.{ℕ}
 use Rattle.lexdfa_lib.specs.declared.error.RunError.{RunError}
 use Rattle.lexdfa_lib.specs.declared.error.RunError.TheVariants.{OutOfMemory, Read, Write}
 use Rattle.lexdfa_lib.specs.declared.outcome.Outcome.{Outcome}
-use Rattle.lexdfa_lib.specs.declared.outcome.Outcome.TheVariants.{Match, NoMatch, Refused, Ambiguous, Syntax, Line}
+use Rattle.lexdfa_lib.specs.declared.outcome.Outcome.TheVariants.{Match, NoMatch, All, Stopped, Refused, Ambiguous, Syntax, Line}
 
--- 0 for a match, 1 for none, 2 where no automaton was made, 3 where the input is wrong
+-- 0 for a match and for a text that is tokens alone, 1 where nothing matches at its front or at a fault, 2 where no automaton was
+-- made, 3 where the input is wrong
 abbrev pub outcome_status : Outcome → ℕ
 outcome_status (Match terminal bytes) = 0
 outcome_status NoMatch = 1
+outcome_status (All tokens) = 0
+outcome_status (Stopped tokens at) = 1
 outcome_status (Refused terminal error) = 2
-outcome_status (Ambiguous match0 match1) = 2
+outcome_status (Ambiguous match0 match1 word) = 2
 outcome_status (Syntax terminal) = 3
 outcome_status (Line line) = 3
 

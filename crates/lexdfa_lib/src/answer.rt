@@ -1,10 +1,10 @@
 //! The whole run: bytes are read, terminals are built, one line is written.
 ghost use Rattle.std.specs.Prelude.{◌≡◌, ◌≢◌, ℕ, List, false, true, map, length, IfOk, OnOk, IfErr, OnErr};
 ghost use Rattle.std.specs.Io.KnownBytes.{Appends};
-ghost use Rattle.lalrpop_hir.specs.Tree.{Tree};
-ghost use Rattle.lalrpop_lexer.specs.Report.{IsReport};
-ghost use Rattle.lexdfa_lib.specs.Answer.{Finds, IsOutcome, ReadsOutcome, WritesPrefix};
+ghost use Rattle.lexdfa_lib.specs.Answer.{IsOutcome, ReadsOutcome, WritesPrefix};
+ghost use Rattle.lexdfa_lib.specs.Lines.{lines};
 ghost use Rattle.lexdfa_lib.specs.Printed.{line_of};
+ghost use Rattle.lexdfa_lib.specs.Terminals.{AreTerminals};
 ghost use Rattle.lexdfa_lib.specs.Watch.{AppendsPrefix};
 ghost use Rattle.lexdfa_lib.specs.declared.outcome.Outcome.{Outcome};
 
@@ -12,31 +12,13 @@ use crate::ends::{read_whole, write_whole};
 use crate::error::RunError;
 use crate::longest::longest_match;
 use crate::outcome::{Outcome, outcome_line};
+use crate::report::reported;
 use crate::terminals::{Terminals, read_terminals};
 use crate::watched::Watched;
-use lalrpop_lexer::lexer::dfa::{DfaConstructionError, Precedence};
+use lalrpop_lexer::lexer::dfa::Precedence;
 use lalrpop_lexer::lexer::re::Regex;
 use std::alloc::{AllocError, Global};
 use std::io::{Read, Write};
-
-// The outcome where no automaton was made.
-fn reported(error: DfaConstructionError) -> Result<Outcome, AllocError>
-    ensures ok { IfOk result (λ outcome. (ts : List Tree) (ps text : List ℕ) → IsReport ts ps error
-        → Finds ts ps text outcome) }
-    ensures memory { OnErr result (error ≡ DfaConstructionError.OutOfMemory) }
-{
-    match error {
-        DfaConstructionError::NfaConstructionError { index, error } => Ok(Outcome::Refused {
-            terminal: index.index(),
-            error,
-        }),
-        DfaConstructionError::Ambiguity { match0, match1 } => Ok(Outcome::Ambiguous {
-            match0: match0.index(),
-            match1: match1.index(),
-        }),
-        DfaConstructionError::OutOfMemory => Err(AllocError),
-    }
-}
 
 // What the patterns find in the text.
 fn find(
@@ -46,8 +28,9 @@ fn find(
     text: &str,
 ) -> Result<Outcome, AllocError>
     requires same_len { length regexs.now ≡ length precedences.now }
-    ensures { IfOk result (λ outcome.
-        Finds regexs.now (map (λ p. p.0) precedences.now) text.now outcome) }
+    ensures { IfOk result (λ outcome. (bytes : List ℕ)
+        → AreTerminals (lines bytes) regexs.now (map (λ p. p.0) precedences.now)
+        → IsOutcome bytes text.now outcome) }
 {
     match longest_match(alloc, regexs, precedences, text) {
         Ok(Some((index, matched))) => Ok(Outcome::Match {

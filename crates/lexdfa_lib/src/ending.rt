@@ -8,7 +8,7 @@ use crate::outcome::Outcome;
 /// Why the program has no outcome.
 #[derive(Drop)]
 pub enum Failure {
-    /// The arguments are not one text.
+    /// The arguments are neither one text nor `--all` and a text.
     Usage,
     /// The run ended without an outcome, or the flush after it failed.
     Run(RunError),
@@ -36,7 +36,7 @@ impl Ending {
             },
             Err(Failure::Usage) => Ending {
                 status: 4,
-                message: Some("lexdfa: usage: lexdfa TEXT\n"),
+                message: Some("lexdfa: usage: lexdfa [--all] TEXT\n"),
             },
             Err(Failure::Run(error)) => Ending {
                 status: error.status(),

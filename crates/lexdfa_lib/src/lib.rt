@@ -1,9 +1,10 @@
 //! The longest match of a text, by terminals that are read from a stream: `run` reads lines such as `1 l class` or
 //! `0 r [a-z]+`, a precedence and a literal or a pattern, finds the longest prefix of a text that one of them matches, and
-//! writes one line.
+//! writes one line. `run_all` cuts the whole text into such matches, and writes a line for each.
 #![tactic(auto)]
 
 mod answer;
+mod cutting;
 mod ending;
 mod ends;
 mod error;
@@ -11,15 +12,21 @@ mod line;
 mod longest;
 mod meaning;
 mod outcome;
+mod report;
 mod terminals;
 mod watched;
+mod whole;
+mod word;
 mod words;
 
 pub use answer::run;
 pub use ending::{Ending, Failure};
 pub use error::RunError;
+pub use lalrpop_lexer::{TokenFault, Tokens, tokens};
 pub use longest::longest_match;
-pub use outcome::{Outcome, outcome_line};
+pub use outcome::{Outcome, clash_line, outcome_line};
 pub use terminals::{Terminals, read_terminals};
 pub use watched::Watched;
+pub use whole::run_all;
+pub use word::Word;
 pub use words::arguments;

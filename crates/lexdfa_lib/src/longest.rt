@@ -17,7 +17,7 @@ use std::alloc::Global;
 /// # Errors
 ///
 /// The first pattern that can't be compiled; where there is none, the two last strongest patterns on the shortest, then least,
-/// word that has no one strongest pattern; and out of memory.
+/// word that has no one strongest pattern, and that word; and out of memory.
 pub fn longest_match<'text>(
     alloc: Global,
     regexs: &[Regex],

@@ -1,8 +1,9 @@
 //! What a run finds, and the line that tells it.
-ghost use Rattle.std.specs.Prelude.{◌≡◌, IfOk, string_bytes, codes};
+ghost use Rattle.std.specs.Prelude.{◌≡◌, IfOk, string_bytes};
 ghost use Rattle.lexdfa_lib.specs.Status.{outcome_status};
 ghost use Rattle.lexdfa_lib.specs.Printed.{name_of, line_of};
 
+use crate::word::Word;
 use lalrpop_lexer::lexer::nfa::NfaConstructionError;
 use std::alloc::{AllocError, Global};
 
@@ -16,15 +17,25 @@ pub enum Outcome {
     },
     /// No terminal matches a nonempty prefix of the text.
     NoMatch,
+    /// The whole text was cut into so many tokens.
+    All {
+        tokens: usize,
+    },
+    /// Behind so many tokens, no terminal matches a nonempty prefix of the rest, which begins at this byte of the text.
+    Stopped {
+        tokens: usize,
+        at: usize,
+    },
     /// The terminal is the first that can't be compiled.
     Refused {
         terminal: usize,
         error: NfaConstructionError,
     },
-    /// The two last strongest terminals on the least word that has no one strongest terminal.
+    /// The word is the shortest, then least, that has no one strongest terminal; these are its two last strongest terminals.
     Ambiguous {
         match0: usize,
         match1: usize,
+        word: Word,
     },
     /// The terminal's pattern is none.
     Syntax {
@@ -37,14 +48,16 @@ pub enum Outcome {
 }
 
 impl Outcome {
-    /// The exit status that tells of the outcome: 0 for a match, 1 for none, 2 where no automaton was made, 3 where the
-    /// input is wrong.
+    /// The exit status that tells of the outcome: 0 for a match and for all tokens of a text, 1 where nothing matches the text
+    /// or its rest, 2 where no automaton was made, 3 where the input is wrong.
     pub fn status(&self) -> u8
         ensures status { result ≡ outcome_status self.now }
     {
         match self {
             Outcome::Match { .. } => 0,
             Outcome::NoMatch => 1,
+            Outcome::All { .. } => 0,
+            Outcome::Stopped { .. } => 1,
             Outcome::Refused { .. } => 2,
             Outcome::Ambiguous { .. } => 2,
             Outcome::Syntax { .. } => 3,
@@ -65,7 +78,25 @@ fn error_name(error: &NfaConstructionError) -> &'static str
     }
 }
 
-/// The line that tells the outcome, with its line feed.
+/// The line of a clash, with its line feed: the two terminals in decimal digits, and each value of the word in lower-case
+/// hexadecimal digits.
+///
+/// # Errors
+///
+/// `AllocError` where a request for memory was refused.
+pub fn clash_line(
+    alloc: Global,
+    match0: usize,
+    match1: usize,
+    word: &Word,
+) -> Result<String, AllocError>
+    ensures line { IfOk result (λ line.
+        string_bytes line ≡ line_of (Outcome.Ambiguous match0 match1 word.now)) }
+{
+    format!(in alloc; "ambiguous {match0} {match1}{word}\n")
+}
+
+/// The line that tells the outcome, with its line feed. It is empty for `All`, whose tokens have a line each.
 ///
 /// # Errors
 ///
@@ -76,13 +107,17 @@ pub fn outcome_line(alloc: Global, outcome: &Outcome) -> Result<String, AllocErr
     match outcome {
         Outcome::Match { terminal, bytes } => format!(in alloc; "match {terminal} {bytes}\n"),
         Outcome::NoMatch => String::from_str(alloc, "none\n"),
+        Outcome::All { .. } => Ok(String::new(alloc)),
+        Outcome::Stopped { at, .. } => format!(in alloc; "stop {at}\n"),
         Outcome::Refused { terminal, error } => {
             let name = error_name(error);
             format!(in alloc; "refused {terminal} {name}\n")
         }
-        Outcome::Ambiguous { match0, match1 } => {
-            format!(in alloc; "ambiguous {match0} {match1}\n")
-        }
+        Outcome::Ambiguous {
+            match0,
+            match1,
+            word,
+        } => clash_line(alloc, *match0, *match1, word),
         Outcome::Syntax { terminal } => format!(in alloc; "syntax {terminal}\n"),
         Outcome::Line { line } => format!(in alloc; "line {line}\n"),
     }

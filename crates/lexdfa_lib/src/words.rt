@@ -1,13 +1,18 @@
-//! The program's one argument.
-ghost use Rattle.std.specs.Prelude.{◌≡◌, ◌≢◌, [], ◌∷◌, length, map, string_bytes, IfSome, IfNone};
+//! The program's arguments.
+ghost use Rattle.std.specs.Prelude.{Bool, List, ℕ, map, string_bytes, IfSome, IfNone};
+ghost use Rattle.lexdfa_lib.specs.Words.{AreArguments};
 
-/// The one word, or None where there is no word or more than one.
-pub fn arguments(words: &[String]) -> Option<&str>
-    ensures one { IfSome result (λ word. map string_bytes words.now ≡ word.now ∷ []) }
-    ensures other { IfNone result (length words.now ≢ 1) }
+/// The text, and whether all of it is to be cut: of one word, which is the text whatever it is, and of `--all` and a text.
+/// None of any other words.
+pub fn arguments(words: &[String]) -> Option<(bool, &str)>
+    ensures text { IfSome result (λ found.
+        AreArguments (map string_bytes words.now) found.0 found.1.now) }
+    ensures other { IfNone result ((all : Bool) (text : List ℕ)
+        → ¬ AreArguments (map string_bytes words.now) all text) }
 {
     match words {
-        [word] => Some(word.as_str()),
+        [text] => Some((false, text.as_str())),
+        [flag, text] if flag.as_str() == "--all" => Some((true, text.as_str())),
         _ => None,
     }
 }

@@ -10,7 +10,7 @@ ending_with_an_outcome : (ending_status (Ok NoMatch) ≡ 1) × (ending_message (
 ending_with_an_outcome = (refl, refl)
 
 -- wrong arguments
-ending_by_wrong_arguments : (ending_status (Err Usage) ≡ 4) × (ending_message (Err Usage) ≡ Some (codes "lexdfa: usage: lexdfa TEXT\n"))
+ending_by_wrong_arguments : (ending_status (Err Usage) ≡ 4) × (ending_message (Err Usage) ≡ Some (codes "lexdfa: usage: lexdfa [--all] TEXT\n"))
 ending_by_wrong_arguments = (refl, refl)
 
 -- out of memory, and a failed write

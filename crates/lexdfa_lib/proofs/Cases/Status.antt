@@ -1,16 +1,20 @@
 -- Cases of specs/Status.antt.
-use Rattle.std.proofs.Common.{◌≡◌, refl}
+use Rattle.std.proofs.Common.{◌≡◌, [], ◌∷◌, refl}
 use Rattle.lalrpop_lexer.specs.declared.lexer.nfa.NfaConstructionError.TheVariants.{LookAround}
 use Rattle.lexdfa_lib.specs.Status.{outcome_status, error_status}
 use Rattle.lexdfa_lib.specs.declared.error.RunError.TheVariants.{OutOfMemory, Read, Write}
-use Rattle.lexdfa_lib.specs.declared.outcome.Outcome.TheVariants.{Match, NoMatch, Refused, Ambiguous, Syntax, Line}
+use Rattle.lexdfa_lib.specs.declared.outcome.Outcome.TheVariants.{Match, NoMatch, All, Stopped, Refused, Ambiguous, Syntax, Line}
 
 -- a match and none
 statuses_with_an_automaton : (outcome_status (Match 1 6) ≡ 0) × (outcome_status NoMatch ≡ 1)
 statuses_with_an_automaton = (refl, refl)
 
+-- a whole text, and one that is cut up to a fault
+statuses_of_whole_texts : (outcome_status (All 3) ≡ 0) × (outcome_status (Stopped 3 6) ≡ 1)
+statuses_of_whole_texts = (refl, refl)
+
 -- a refusal and a clash
-statuses_without_an_automaton : (outcome_status (Refused 0 LookAround) ≡ 2) × (outcome_status (Ambiguous 1 0) ≡ 2)
+statuses_without_an_automaton : (outcome_status (Refused 0 LookAround) ≡ 2) × (outcome_status (Ambiguous 1 0 (97 ∷ [])) ≡ 2)
 statuses_without_an_automaton = (refl, refl)
 
 -- a pattern without a tree and a bad line

@@ -1,4 +1,4 @@
-use Rattle.std.proofs.Common.{refl}
+use Rattle.std.proofs.Common.{inl, inr, refl}
 use Rattle.std.proofs.lemmas.Result.{IfOk-weaker}
 use Rattle.lexdfa_lib.proofs.answer.find.Goals as goal
 
@@ -6,7 +6,13 @@ pub returns-in-Ok-Some : goal.returns-in-Ok-Some
 returns-in-Ok-Some c =
     let e = c.in-Ok-Some.ensures in
     let longest = rw c.in-Ok-Some.field-0-is at e.longest in
-    (e.no_fault, e.no_clash, (c.in-Ok-Some.matched.now, (rw c.index.ensures.value longest, refl)))
+    λ bytes are. inr (_, (_, (record { terminals = are; no_fault = e.no_fault; no_clash = e.no_clash }, (c.in-Ok-Some.matched.now, (rw c.index.ensures.value longest, refl)))))
+
+pub returns-in-Ok-None : goal.returns-in-Ok-None
+returns-in-Ok-None c =
+    let e = c.in-Ok-None.ensures in
+    let longest = rw c.in-Ok-None.field-0-is at e.longest in
+    λ bytes are. inr (_, (_, (record { terminals = are; no_fault = e.no_fault; no_clash = e.no_clash }, longest)))
 
 pub returns-in-Err : goal.returns-in-Err
-returns-in-Err c = IfOk-weaker c.reported.result _ _ (λ outcome finds. finds _ _ _ c.in-Err.ensures.report) c.reported.ensures.ok
+returns-in-Err c = IfOk-weaker c.reported.result _ _ (λ outcome reports bytes are. inl (reports bytes _ _ are c.in-Err.ensures.report)) c.reported.ensures.ok

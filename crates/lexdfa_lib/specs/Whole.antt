@@ -1,0 +1,52 @@
+-- cases: proofs/Cases/Whole.antt
+-- The answer to some bytes and a text that is cut into tokens: one outcome, and the lines of the tokens and of the outcome.
+use Rattle.std.specs.Prelude.{◌≡◌, ℕ, ◌⊎◌, List, [], ◌∷◌, ◌++◌, length, map, flat_map, Option, Ok, Err}
+use Rattle.std.specs.Borrow.{Bor}
+use Rattle.std.specs.Io.KnownBytes.{Appends}
+use Rattle.lalrpop_hir.specs.Tree.{Tree}
+use Rattle.lalrpop_lexer.specs.Cutting.{AreItems}
+use Rattle.lexdfa_lib.specs.Answer.{HaveAutomaton, IsReported}
+use Rattle.lexdfa_lib.specs.Printed.{line_of}
+use Rattle.lexdfa_lib.specs.Watch.{ReadsAll, AppendsPrefix}
+use Rattle.lexdfa_lib.specs.declared.outcome.Outcome.{Outcome}
+use Rattle.lexdfa_lib.specs.declared.outcome.Outcome.TheVariants.{Match, All, Stopped}
+
+-- a token: the place of a terminal, and a slice
+abbrev pub Token : Type 0
+Token = ℕ × Bor (List ℕ)
+
+-- what trees with these precedences cut the text into where there is an automaton: tokens up to its end, or up to a fault
+abbrev pub Cuts : List Tree → List ℕ → List ℕ → List Token → Outcome → Type 0
+Cuts ts ps text tokens (All n) = AreItems ts ps text 0 (map Ok tokens) × (n ≡ length tokens)
+Cuts ts ps text tokens (Stopped n at) = AreItems ts ps text 0 (map Ok tokens ++ Err (record { at = at }) ∷ []) × (n ≡ length tokens)
+Cuts ts ps text tokens _ = ⊥
+
+-- the outcome for the bytes and the text, and the tokens before it: what the bytes report, behind no token; else what the
+-- terminals cut the text into
+abbrev pub IsWhole : List ℕ → List ℕ → List Token → Outcome → Type 0
+IsWhole bytes text tokens outcome =
+    (IsReported bytes outcome × (tokens ≡ []))
+    ⊎ ((ts : List Tree) × ((ps : List ℕ) × (HaveAutomaton bytes ts ps × Cuts ts ps text tokens outcome)))
+
+-- the line of a token
+abbrev pub token_line : Token → List ℕ
+token_line token = line_of (Match token.0 (length token.1.now))
+
+-- the outcome for the bytes and the text, and all lines: one for each token, and then that of the outcome
+abbrev pub AreAnswers : List ℕ → List ℕ → Outcome → List ℕ → Type 0
+AreAnswers bytes text outcome written =
+    (tokens : List Token) × (IsWhole bytes text tokens outcome × (written ≡ flat_map token_line tokens ++ line_of outcome))
+
+-- a reader was read to its end, and these are the outcome and all lines for its bytes and the text
+abbrev pub ReadsAnswers : Option (List ℕ) → Option (List ℕ) → List ℕ → Outcome → List ℕ → Type 0
+ReadsAnswers old new text outcome written = (bytes : List ℕ) × (ReadsAll old new bytes × AreAnswers bytes text outcome written)
+
+-- a reader was read to its end, and a writer took all lines for its bytes and the text
+abbrev pub WritesAnswers : Option (List ℕ) → Option (List ℕ) → List ℕ → Option (List ℕ) → Option (List ℕ) → Outcome → Type 0
+WritesAnswers left left_now text held held_now outcome =
+    (written : List ℕ) × (ReadsAnswers left left_now text outcome written × Appends held held_now written)
+
+-- a reader was read to its end, and a writer took a prefix of all lines for its bytes and the text
+abbrev pub WritesAnswersPrefix : Option (List ℕ) → Option (List ℕ) → List ℕ → Option (List ℕ) → Option (List ℕ) → Type 0
+WritesAnswersPrefix left left_now text held held_now =
+    (outcome : Outcome) × ((written : List ℕ) × (ReadsAnswers left left_now text outcome written × AppendsPrefix held held_now written))

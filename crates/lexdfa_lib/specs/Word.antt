@@ -1,0 +1,8 @@
+-- cases: proofs/Cases/Word.antt
+-- How the values of a word are written.
+use Rattle.std.specs.Prelude.{ℕ, false, List, ◌++◌, codes}
+use Rattle.std.specs.Fmt.{digits}
+
+-- a space, and the value in lower-case hexadecimal digits without zeros in front
+abbrev pub value_text : ℕ → List ℕ
+value_text value = codes " " ++ digits 16 false value

@@ -1,0 +1,111 @@
+//! A text cut into tokens: the line of each, and what they come to.
+ghost use Rattle.std.specs.Prelude.{◌≡◌, ◌++◌, ℕ, List, length, map, flat_map, string_bytes, IfOk, OnOk};
+ghost use Rattle.lalrpop_hir.specs.Tree.{Tree};
+ghost use Rattle.lalrpop_lexer.specs.Dfa.{Recognizes};
+ghost use Rattle.lexdfa_lib.specs.Answer.{IsReported, HaveAutomaton};
+ghost use Rattle.lexdfa_lib.specs.Lines.{lines};
+ghost use Rattle.lexdfa_lib.specs.Printed.{line_of};
+ghost use Rattle.lexdfa_lib.specs.Terminals.{AreTerminals};
+ghost use Rattle.lexdfa_lib.specs.Whole.{Token, Cuts, AreAnswers, token_line};
+ghost use Rattle.lexdfa_lib.specs.declared.outcome.Outcome.{Outcome};
+
+use crate::outcome::{Outcome, outcome_line};
+use crate::report::reported;
+use crate::terminals::{Terminals, read_terminals};
+use lalrpop_lexer::lexer::dfa::{Dfa, NfaIndex, Precedence, build_dfa};
+use lalrpop_lexer::lexer::re::Regex;
+use lalrpop_lexer::tokens;
+use std::alloc::{AllocError, Global};
+
+/// What is found of a whole text, and all lines that tell it.
+#[derive(Drop)]
+pub(crate) struct Answers {
+    pub(crate) outcome: Outcome,
+    pub(crate) lines: String,
+}
+
+fn push_token(lines: &mut String, index: NfaIndex, slice: &str) -> Result<(), AllocError>
+    ensures { OnOk result (string_bytes lines.new
+        ≡ string_bytes lines.old ++ line_of (Outcome.Match index (length slice.now))) }
+{
+    let terminal = index.index();
+    let bytes = slice.len();
+    write!(lines, "match {terminal} {bytes}\n")
+}
+
+// These lines, and behind them that of the outcome.
+fn with_outcome(alloc: Global, mut lines: String, outcome: Outcome) -> Result<Answers, AllocError>
+    ensures { IfOk result (λ answers. (answers.outcome ≡ outcome)
+        × (string_bytes answers.lines ≡ string_bytes lines ++ line_of outcome)) }
+{
+    let line = outcome_line(alloc, &outcome)?;
+    lines.push_str(line.as_str())?;
+    Ok(Answers { outcome, lines })
+}
+
+// The tokens of the text, and its fault, if any.
+fn cut(alloc: Global, dfa: &Dfa, text: &str) -> Result<Answers, AllocError>
+    ensures { IfOk result (λ answers. (ts : List Tree) (ps : List ℕ) → Recognizes dfa.now ts ps
+        → (tokens : List Token) × (Cuts ts ps text.now tokens answers.outcome
+        × (string_bytes answers.lines ≡ flat_map token_line tokens ++ line_of answers.outcome))) }
+{
+    let mut lines = String::new(alloc);
+    let mut count = 0;
+    for item in tokens(dfa, text) {
+        match item {
+            Ok(token) => {
+                push_token(&mut lines, token.0, token.1)?;
+                count += 1;
+            }
+            Err(fault) => {
+                let outcome = Outcome::Stopped {
+                    tokens: count,
+                    at: fault.at,
+                };
+                return with_outcome(alloc, lines, outcome);
+            }
+        }
+    }
+    with_outcome(alloc, lines, Outcome::All { tokens: count })
+}
+
+// What the patterns cut the text into.
+fn cut_by(
+    alloc: Global,
+    regexs: &[Regex],
+    precedences: &[Precedence],
+    text: &str,
+) -> Result<Answers, AllocError>
+    requires same_len { length regexs.now ≡ length precedences.now }
+    ensures { IfOk result (λ answers. (bytes : List ℕ)
+        → AreTerminals (lines bytes) regexs.now (map (λ p. p.0) precedences.now)
+        → AreAnswers bytes text.now answers.outcome (string_bytes answers.lines)) }
+{
+    match build_dfa(alloc, regexs, precedences) {
+        Ok(dfa) => cut(alloc, &dfa, text),
+        Err(error) => with_outcome(alloc, String::new(alloc), reported(error)?),
+    }
+}
+
+/// The outcome and all lines for these bytes and the text.
+///
+/// # Errors
+///
+/// `AllocError` where a request for memory was refused.
+pub(crate) fn answers_of(alloc: Global, bytes: &[u8], text: &str) -> Result<Answers, AllocError>
+    ensures answers { IfOk result (λ answers.
+        AreAnswers bytes.now text.now answers.outcome (string_bytes answers.lines)) }
+    ensures only { IfOk result (λ answers. (outcome : Outcome) (written : List ℕ)
+        → AreAnswers bytes.now text.now outcome written
+        → (answers.outcome ≡ outcome) × (string_bytes answers.lines ≡ written)) }
+{
+    let outcome = match read_terminals(alloc, bytes)? {
+        Terminals::All {
+            regexs,
+            precedences,
+        } => return cut_by(alloc, &regexs, &precedences, text),
+        Terminals::Bad { line } => Outcome::Line { line },
+        Terminals::NoTree { line } => Outcome::Syntax { terminal: line },
+    };
+    with_outcome(alloc, String::new(alloc), outcome)
+}
