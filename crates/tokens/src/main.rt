@@ -1,4 +1,5 @@
-//! `tokens TEXT..`: cuts each TEXT by the terminals that are read from standard input, and writes the tokens.
+//! `tokens TEXT..`: cuts each TEXT by the terminals that are read from standard input, and writes the tokens. `tokens --clashes`
+//! writes the pairs of terminals that clash, each with the least word on which they do.
 #![tactic(auto)]
 
 use std::process::ExitCode;

@@ -16,8 +16,8 @@ abbrev pub IsBuildError : List ℕ → BuildError → Type 0
 IsBuildError bytes (Line i) = FirstSays (lines bytes) i Bad
 IsBuildError bytes (Syntax i) = FirstSays (lines bytes) i NoTree
 IsBuildError bytes (Refused i e) = (ts : List Tree) × ((ps : List ℕ) × (AreTerminals (lines bytes) ts ps × FirstFault ts i e))
-IsBuildError bytes (Ambiguous i j) =
-    (ts : List Tree) × ((ps : List ℕ) × (AreTerminals (lines bytes) ts ps × (NoFault ts × ((w : List ℕ) × IsClash ts ps w i j))))
+IsBuildError bytes (Ambiguous i j word) =
+    (ts : List Tree) × ((ps : List ℕ) × (AreTerminals (lines bytes) ts ps × (NoFault ts × IsClash ts ps word i j)))
 IsBuildError bytes OutOfMemory = Unit {0}
 
 -- the exit status: 2 where no automaton was made, 3 where a line is wrong, 5 for out of memory
@@ -25,5 +25,5 @@ abbrev pub build_status : BuildError → ℕ
 build_status (Line i) = 3
 build_status (Syntax i) = 3
 build_status (Refused i e) = 2
-build_status (Ambiguous i j) = 2
+build_status (Ambiguous i j word) = 2
 build_status OutOfMemory = 5

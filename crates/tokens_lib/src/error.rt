@@ -8,6 +8,7 @@ ghost use Rattle.tokens_lib.specs.Building.{IsBuildError, build_status};
 
 use lalrpop_lexer::lexer::dfa::DfaConstructionError;
 use lalrpop_lexer::lexer::nfa::NfaConstructionError;
+use lexdfa_lib::Word;
 use thiserror::Error;
 
 /// Why some lines gave no lexer. Lines and terminals are numbered from 0.
@@ -29,11 +30,12 @@ pub enum BuildError {
         terminal: usize,
         error: NfaConstructionError,
     },
-    /// The two last strongest terminals on the shortest, then least, word that has no one strongest terminal.
-    #[error("ambiguous {match0} {match1}")]
+    /// The word is the shortest, then least, that has no one strongest terminal; these are its two last strongest terminals.
+    #[error("ambiguous {match0} {match1}{word}")]
     Ambiguous {
         match0: usize,
         match1: usize,
+        word: Word,
     },
     /// A request for memory was refused.
     #[error("out of memory")]
@@ -52,9 +54,14 @@ impl BuildError {
                 terminal: index.index(),
                 error,
             },
-            DfaConstructionError::Ambiguity { match0, match1 } => BuildError::Ambiguous {
+            DfaConstructionError::Ambiguity {
+                match0,
+                match1,
+                word,
+            } => BuildError::Ambiguous {
                 match0: match0.index(),
                 match1: match1.index(),
+                word: Word::new(word),
             },
             DfaConstructionError::OutOfMemory => BuildError::OutOfMemory,
         }

@@ -1,17 +1,15 @@
-//! A lexer that is built once and cuts any number of texts into tokens.
-//!
-//! A `Lexer` holds patterns, their precedences and the automaton of both; that they belong together, and that no word
-//! is ambiguous, is an invariant of the type, so only building it has a condition.
+//! Terminals as lines, the lexer that they give, and a program that cuts texts by it.
 #![tactic(auto)]
 
+mod building;
+mod clash_lines;
 mod cut_lines;
 mod error;
-mod lexer;
+mod explain;
 mod quote;
 mod show;
-mod token;
 
+pub use building::lexer_of;
 pub use error::BuildError;
-pub use lexer::Lexer;
-pub use show::{Ended, Shown, show_texts, show_tokens, status_of};
-pub use token::{Token, Tokens};
+pub use lalrpop_lexer::{Lexer, Token, TokenFault};
+pub use show::{Ended, Shown, Told, show_clashes, show_texts, show_tokens, status_of};

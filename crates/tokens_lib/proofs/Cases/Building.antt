@@ -27,5 +27,5 @@ no_line_is_bad i h = h
 any_lines_want_memory : (bytes : List ℕ) → IsBuildError bytes OutOfMemory
 any_lines_want_memory bytes = tt
 
-statuses : (build_status (Line 7) ≡ 3) × (build_status (Syntax 7) ≡ 3) × (build_status (Ambiguous 7 5) ≡ 2) × (build_status OutOfMemory ≡ 5)
+statuses : (build_status (Line 7) ≡ 3) × (build_status (Syntax 7) ≡ 3) × (build_status (Ambiguous 7 5 []) ≡ 2) × (build_status OutOfMemory ≡ 5)
 statuses = (refl, refl, refl, refl)

@@ -1,7 +1,7 @@
 use Rattle.std.proofs.Common.{◌∙◌}
 use Rattle.std.proofs.lemmas.List.{length-map}
 use Rattle.lexdfa_lib.proofs.TerminalLemmas.{length-AreTerminals}
-use Rattle.tokens_lib.proofs.lexer.Lexer.from_lines.Goals as goal
+use Rattle.tokens_lib.proofs.building.lexer_of.Goals as goal
 
 pub new-requires : goal.new-requires
 new-requires c =
