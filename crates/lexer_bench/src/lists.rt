@@ -93,6 +93,32 @@ fn c_list(alloc: Global) -> Result<List, RegexError> {
     Ok(list)
 }
 
+// Ten terminals that clash with those of C: five keywords once more, and five patterns with words that others have.
+const PLANTED_WORDS: [&str; 5] = ["while", "return", "++", "<<=", "_Bool"];
+
+const PLANTED_PATTERNS: [&str; 5] = [
+    "[a-z]+_t",
+    "0[0-7]*",
+    "[0-9]+\\.[0-9]+",
+    "\"[^\"\\n]*\"",
+    "[\\t\\n]+",
+];
+
+fn c_and_clashes(alloc: Global) -> Result<List, RegexError> {
+    let mut list = c_list(alloc)?;
+    list.words(&PLANTED_WORDS)?;
+    list.patterns(&PLANTED_PATTERNS)?;
+    Ok(list)
+}
+
+fn equal_words(alloc: Global, count: u64) -> Result<List, RegexError> {
+    let mut list = List::new(alloc);
+    for _ in 0..count {
+        list.word("equal")?;
+    }
+    Ok(list)
+}
+
 fn unicode_list(alloc: Global) -> Result<List, RegexError> {
     let mut list = List::new(alloc);
     list.words(&KEYWORDS)?;
@@ -178,6 +204,8 @@ pub(crate) fn list_named(alloc: Global, name: &str) -> Result<Option<List>, Rege
     match name {
         "c" => Ok(Some(c_list(alloc)?)),
         "unicode" => Ok(Some(unicode_list(alloc)?)),
+        "c and ten clashes" => Ok(Some(c_and_clashes(alloc)?)),
+        "equal 1000" => Ok(Some(equal_words(alloc, 1_000)?)),
         _ => list_of_rows(alloc, name),
     }
 }

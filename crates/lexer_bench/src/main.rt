@@ -10,7 +10,7 @@ mod patterns;
 mod texts;
 
 use lalrpop_lexer::lexer::dfa::interpret::interpret;
-use lalrpop_lexer::lexer::dfa::{Dfa, DfaStateIndex, Kind, START, State, build_dfa};
+use lalrpop_lexer::lexer::dfa::{Dfa, DfaStateIndex, Kind, START, State, build_dfa, clashes};
 use lalrpop_lexer::lexer::nfa::Test;
 use lalrpop_lexer::lexer::re::RegexError;
 use lists::{List, list_named};
@@ -230,6 +230,30 @@ fn tell_text<R: CpuClock + Print + AllocGlobal>(
     }
 }
 
+// How many pairs of the list's terminals clash, and of how many values the words of all are.
+fn clash_count(alloc: Global, list: &List) -> Option<(usize, usize)> {
+    if list.patterns.len() != list.precedences.len() {
+        return None;
+    }
+    let found = clashes(alloc, &list.patterns, &list.precedences).ok()?;
+    let mut values = 0usize;
+    for clash in &found {
+        values = values.wrapping_add(clash.word.len());
+    }
+    Some((found.len(), values))
+}
+
+fn tell_clashes<R: CpuClock + Print + AllocGlobal>(rt: &R, list: &List) -> io::Result<()> {
+    let from = rt.process_cpu_time()?;
+    let found = clash_count(rt.alloc(), list);
+    let spent = rt.process_cpu_time()?.saturating_sub(from);
+    match found {
+        Some((count, values)) => println!(rt; "  {count} clashes, words of {values} values")?,
+        None => println!(rt; "  no list of clashes")?,
+    }
+    tell_time(rt, "all clashes", spent)
+}
+
 fn tell_automaton<R: CpuClock + Print + AllocGlobal>(
     rt: &R,
     name: &str,
@@ -256,6 +280,7 @@ fn tell_list<R: CpuClock + Print + AllocGlobal>(
     };
     if is_timed {
         tell_builds(rt, &list)?;
+        tell_clashes(rt, &list)?;
     }
     tell_automaton(rt, name, &list, is_timed)
 }

@@ -89,14 +89,23 @@ pub(crate) fn built(alloc: Global, words: &str) -> Result<Dfa, AllocError> {
     given(made(alloc, words)?)
 }
 
+/// The automaton of the patterns, which spaces part, with these precedences, or why there is none.
+pub(crate) fn made_with(
+    alloc: Global,
+    words: &str,
+    precedences: &[Precedence],
+) -> Result<Result<Dfa, DfaConstructionError>, AllocError> {
+    let trees = trees_of(alloc, words)?;
+    Ok(build(alloc, &trees, precedences))
+}
+
 /// The automaton of the patterns, which spaces part, with these precedences.
 pub(crate) fn built_with(
     alloc: Global,
     words: &str,
     precedences: &[Precedence],
 ) -> Result<Dfa, AllocError> {
-    let trees = trees_of(alloc, words)?;
-    given(build(alloc, &trees, precedences))
+    given(made_with(alloc, words, precedences)?)
 }
 
 /// The automaton of one tree.

@@ -1,5 +1,5 @@
 //! Tests of the public calls of the automata, with values: of one tree, its ranges, states, edges and refusals; of many, their
-//! states and edges, runs, how they are written, order, equality and copies. Kernel sets and the partition of ranges are tested
+//! states and edges, clashes, whole texts, runs, how they are written, order, equality and copies. Kernel sets and the partition of ranges are tested
 //! in `memory_tests`. They are a crate of their own, so that no layer is proved a second time for its tests.
 #![tactic(auto)]
 
@@ -7,6 +7,10 @@
 mod automata;
 #[cfg(test)]
 mod built;
+#[cfg(test)]
+mod clash_words;
+#[cfg(test)]
+mod cutting;
 #[cfg(test)]
 mod equality;
 #[cfg(test)]

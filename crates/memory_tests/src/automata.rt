@@ -119,7 +119,7 @@ fn add_tree(alloc: Global, trees: &mut Vec<Hir>, pattern: &str) -> Result<(), Al
 }
 
 // The trees of `PRECEDENCE PATTERN`s, with ` / ` between them.
-fn trees_of(alloc: Global, rows: &str) -> Result<Vec<Hir>, AllocError> {
+pub(crate) fn trees_of(alloc: Global, rows: &str) -> Result<Vec<Hir>, AllocError> {
     let mut trees = Vec::new(alloc);
     for row in rows.split(" / ") {
         add_tree(alloc, &mut trees, halves(row, " ").1)?;
@@ -127,7 +127,7 @@ fn trees_of(alloc: Global, rows: &str) -> Result<Vec<Hir>, AllocError> {
     Ok(trees)
 }
 
-fn precedences_of(alloc: Global, rows: &str) -> Result<Vec<Precedence>, AllocError> {
+pub(crate) fn precedences_of(alloc: Global, rows: &str) -> Result<Vec<Precedence>, AllocError> {
     let mut precedences = Vec::new(alloc);
     for row in rows.split(" / ") {
         let (precedence, _) = halves(row, " ");
@@ -175,15 +175,19 @@ fn tokens_of(alloc: Global, dfa: &Dfa, texts: &str) -> Result<String, AllocError
 }
 
 // The refusal for memory is one alone: that it came while a tree was compiled would be told as a fault.
-fn told(alloc: Global, error: DfaConstructionError) -> Result<String, AllocError> {
+pub(crate) fn told(alloc: Global, error: DfaConstructionError) -> Result<String, AllocError> {
     match error {
         DfaConstructionError::NfaConstructionError { index, error } => {
             let index = index.index();
             format!(in alloc; "refused {index} {error}")
         }
-        DfaConstructionError::Ambiguity { match0, match1, .. } => {
+        DfaConstructionError::Ambiguity {
+            match0,
+            match1,
+            word,
+        } => {
             let (match0, match1) = (match0.index(), match1.index());
-            format!(in alloc; "clash {match0} {match1}")
+            format!(in alloc; "clash {match0} {match1} {word:?}")
         }
         DfaConstructionError::OutOfMemory => Err(AllocError),
     }
@@ -280,8 +284,8 @@ fn many_trees_are_built(rt: HostRuntime) {
 #[test]
 fn many_trees_clash(rt: HostRuntime) {
     let table = "\
-0 (?s). / 0 (?s). / 1 [\\x{0}-\\x{D7FF}] / 1 [\\x{E000}-\\x{10FFFF}] <-  => clash 1 0
-0 aa / 0 aa / 0 b / 0 b <-  => clash 3 2";
+0 (?s). / 0 (?s). / 1 [\\x{0}-\\x{D7FF}] / 1 [\\x{E000}-\\x{10FFFF}] <-  => clash 1 0 [55296]
+0 aa / 0 aa / 0 b / 0 b <-  => clash 3 2 [98]";
     expect(&rt, rt.alloc(), Call::Build, table, 2);
 }
 

@@ -1,6 +1,6 @@
 //! Tables of rows `argument => answer`, and calls that are made again where they were refused memory.
 
-use crate::{automata, trees};
+use crate::{automata, clashes, trees};
 use std::alloc::{AllocError, Global};
 use std::process::Abort;
 
@@ -32,6 +32,7 @@ pub(crate) enum Call {
     Cut,
     CountedCut,
     Build,
+    Clashes,
     AutomatonCopy,
 }
 
@@ -51,6 +52,7 @@ fn answer(alloc: Global, call: Call, argument: &str) -> Result<String, AllocErro
         Call::Cut => automata::parts(alloc, argument, false),
         Call::CountedCut => automata::parts(alloc, argument, true),
         Call::Build => automata::tokens(alloc, argument),
+        Call::Clashes => clashes::all(alloc, argument),
         Call::AutomatonCopy => automata::copied(alloc, argument),
     }
 }

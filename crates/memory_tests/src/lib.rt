@@ -8,6 +8,8 @@ mod automata;
 #[cfg(test)]
 mod calls;
 #[cfg(test)]
+mod clashes;
+#[cfg(test)]
 mod kernels;
 #[cfg(test)]
 mod program;

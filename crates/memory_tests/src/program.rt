@@ -1,10 +1,11 @@
-//! The whole run from bytes to one line.
+//! The whole runs, from bytes to one line, and to the lines of a whole text.
+ghost use Rattle.std.specs.Prelude.{◌≡◌, false};
 
 use crate::calls::{at_last, halves};
-use lexdfa_lib::{Outcome, RunError, Watched, run};
+use lexdfa_lib::{Outcome, RunError, Watched, run, run_all};
 use std::alloc::{AllocError, Global};
 use std::io;
-use std::io::Write;
+use std::io::{Read, Write};
 
 // The status of a run that was refused memory, and of no other.
 const OUT_OF_MEMORY: u8 = 5;
@@ -37,14 +38,31 @@ fn status_of(end: &Result<Outcome, RunError>) -> u8 {
     }
 }
 
-// The status of a run that writes the line, or of one that is refused memory and writes nothing.
-fn run_once(alloc: Global, input: &[u8], text: &str, line: &[u8]) -> Option<u8> {
+fn run_over<R: Read, W: Write>(
+    alloc: Global,
+    all: bool,
+    reader: &mut Watched<R>,
+    text: &str,
+    writer: &mut Watched<W>,
+) -> u8
+    requires reader_good { reader.old.failed ≡ false }
+    requires writer_good { writer.old.failed ≡ false }
+{
+    if all {
+        status_of(&run_all(alloc, reader, text, writer))
+    } else {
+        status_of(&run(alloc, reader, text, writer))
+    }
+}
+
+// The status of a run that writes the lines, or of one that is refused memory and writes nothing.
+fn run_once(alloc: Global, all: bool, input: &[u8], text: &str, line: &[u8]) -> Option<u8> {
     let mut reader = Watched::new(input);
     let mut writer = Watched::new(Wanted {
         left: line,
         holds: true,
     });
-    let status = status_of(&run(alloc, &mut reader, text, &mut writer));
+    let status = run_over(alloc, all, &mut reader, text, &mut writer);
     let failed = reader.failed() || writer.failed();
     let end = writer.into_inner();
     let left = if status == OUT_OF_MEMORY {
@@ -59,11 +77,11 @@ fn run_once(alloc: Global, input: &[u8], text: &str, line: &[u8]) -> Option<u8> 
     }
 }
 
-// The line and the status, or out of memory and they when the run is made again.
-fn runs_so(alloc: Global, input: &[u8], text: &str, line: &[u8], status: u8) -> bool {
-    let first = run_once(alloc, input, text, line);
+// The lines and the status, or out of memory and they when the run is made again.
+fn runs_so(alloc: Global, all: bool, input: &[u8], text: &str, line: &[u8], status: u8) -> bool {
+    let first = run_once(alloc, all, input, text, line);
     let last = if first == Some(OUT_OF_MEMORY) {
-        run_once(alloc, input, text, line)
+        run_once(alloc, all, input, text, line)
     } else {
         first
     };
@@ -87,15 +105,15 @@ fn bytes(alloc: Global, row: &str) -> Result<Vec<u8>, AllocError> {
     Ok(bytes)
 }
 
-// Whether the row `INPUT / TEXT => LINE, STATUS` holds.
-fn holds(alloc: Global, row: &str) -> Result<bool, AllocError> {
+// Whether the row `INPUT / TEXT => LINES, STATUS` holds.
+fn holds(alloc: Global, all: bool, row: &str) -> Result<bool, AllocError> {
     let (argument, answer) = halves(row, " => ");
     let (input, text) = halves(argument, " / ");
     let (line, status) = halves(answer, ", ");
     let input = bytes(alloc, input)?;
     let line = bytes(alloc, line)?;
     let status = status.parse().unwrap_or(OUT_OF_MEMORY);
-    Ok(runs_so(alloc, &input, text, &line, status))
+    Ok(runs_so(alloc, all, &input, text, &line, status))
 }
 
 #[test]
@@ -110,10 +128,27 @@ x l a; / a => line 0;, 3
 18446744073709551616 l a; / a => line 0;, 3
 0 r \\ba;0 r (; / a => syntax 1;, 3
 0 r a;0 r \\bb; / a => refused 1 LookAround;, 2
-0 l a;0 r a; / b => ambiguous 1 0;, 2
+0 l a;0 r a; / b => ambiguous 1 0 61;, 2
 0 l \u{ff}; / a => line 0;, 3";
     assert!(rt; table.lines().count() == 11);
     for row in table.lines() {
-        assert!(rt; at_last!(&rt; holds(rt.alloc(), row)), "{row}");
+        assert!(rt; at_last!(&rt; holds(rt.alloc(), false, row)), "{row}");
+    }
+}
+
+#[test]
+fn all_lines_or_nothing(rt: HostRuntime) {
+    let table = "\
+1 l class;0 r [a-zA-Z_][a-zA-Z0-9_]*;0 r  +; / class Foo => match 0 5;match 2 1;match 1 3;, 0
+1 l class;0 r [a-zA-Z_][a-zA-Z0-9_]*;0 r  +; / class \u{e9} => match 0 5;match 2 1;stop 6;, 1
+1 l class; /  => , 0
+ / a => stop 0;, 1
+0 l a;0 r a; / b => ambiguous 1 0 61;, 2
+0 r a;0 r \\bb; / a => refused 1 LookAround;, 2
+0 r \\ba;0 r (; / a => syntax 1;, 3
+x l a; / a => line 0;, 3";
+    assert!(rt; table.lines().count() == 8);
+    for row in table.lines() {
+        assert!(rt; at_last!(&rt; holds(rt.alloc(), true, row)), "{row}");
     }
 }

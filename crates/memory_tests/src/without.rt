@@ -14,7 +14,7 @@ use lalrpop_lexer::lexer::dfa::{self, Dfa, Kind};
 use lalrpop_lexer::lexer::nfa::{
     ACCEPT, Nfa, NfaStateIndex, Noop, Other, REJECT, START, StateKind, Steps, Test,
 };
-use lexdfa_lib::{Outcome, RunError, Watched, arguments};
+use lexdfa_lib::{Outcome, RunError, Watched, Word, arguments};
 use std::alloc::{AllocError, Global};
 
 // A request of this size, whatever becomes of it, is the sign to refuse all that follow.
@@ -261,6 +261,21 @@ fn many_trees(rt: HostRuntime) {
     assert!(rt; at_last!(&rt; many_trees_are_shown(rt.alloc())));
 }
 
+fn is_word(word: Word, values: &[u32]) -> bool {
+    word.values() == values && word.into_vec().as_slice() == values
+}
+
+fn word_is_shown(alloc: Global) -> Result<bool, AllocError> {
+    let values = vec![in alloc; 99, 108]?;
+    from_here_on(alloc);
+    Ok(is_word(Word::new(values), &[99, 108]))
+}
+
+#[test]
+fn words_of_clashes(rt: HostRuntime) {
+    assert!(rt; at_last!(&rt; word_is_shown(rt.alloc())));
+}
+
 fn ends_at_once(mut set: KernelSet<Plain>) -> bool {
     matches!(set.next(), Ok(None))
 }
@@ -272,7 +287,7 @@ fn holds_its_end(end: Watched<u8>) -> bool {
 fn program_answers(alloc: Global, words: &[String]) -> bool {
     from_here_on(alloc);
     ends_at_once(KernelSet::new(alloc))
-        && arguments(words) == Some("")
+        && arguments(words) == Some((false, ""))
         && holds_its_end(Watched::new(7))
         && Outcome::NoMatch.status() == 1
         && RunError::OutOfMemory.status() == 5

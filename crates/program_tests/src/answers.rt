@@ -39,7 +39,7 @@ fn literals_are_answered(rt: HostRuntime) {
             (b"0 l a\r\n", "a", "none, 1"),
             (b"18446744073709551615 l a\n", "a", "match 0 1, 0"),
             (b"00000000000000000000 l a\n", "a", "match 0 1, 0"),
-            (b"0 l a\n0 l a\n", "b", "ambiguous 1 0, 2"),
+            (b"0 l a\n0 l a\n", "b", "ambiguous 1 0 61, 2"),
             (b"0 l \xc3\xa9\n", "\u{e9}!", "match 0 2, 0"),
             (b"0 l  a\n", " a", "match 0 2, 0"),
             (b"0 l (\n", "(", "match 0 1, 0"),
@@ -63,8 +63,41 @@ fn patterns_are_answered(rt: HostRuntime) {
                 "a",
                 "refused 1 NamedCaptures, 2",
             ),
-            (b"0 l a\n0 r a\n", "b", "ambiguous 1 0, 2"),
+        ],
+    );
+}
+
+#[test]
+fn clashes_are_answered_with_their_words(rt: HostRuntime) {
+    expect(
+        &rt,
+        rt.alloc(),
+        &[
+            (b"0 l a\n0 r a\n", "b", "ambiguous 1 0 61, 2"),
             (b"0 r a*\n0 r b*\n", "a", "ambiguous 1 0, 2"),
+            (b"0 l \0\n0 l \0\n", "a", "ambiguous 1 0 0, 2"),
+            (
+                b"0 r (?s).\n0 r (?s).\n1 r [\\x{0}-\\x{D7FF}]\n1 r [\\x{E000}-\\x{10FFFF}]\n",
+                "a",
+                "ambiguous 1 0 d800, 2",
+            ),
+            (
+                b"0 r aa\n0 r aa\n0 r b\n0 r b\n",
+                "a",
+                "ambiguous 3 2 62, 2",
+            ),
+            (b"0 r b\n0 r b\n0 r a\n0 r a\n", "a", "ambiguous 3 2 61, 2"),
+            (
+                b"0 r class\n0 r [a-zA-Z_][a-zA-Z0-9_]*\n",
+                "a",
+                "ambiguous 1 0 63 6c 61 73 73, 2",
+            ),
+            (
+                b"0 r .*\n0 r [-+]?[0-9]*\\.?[0-9]+\n",
+                "a",
+                "ambiguous 1 0 30, 2",
+            ),
+            (b"0 r [b-d]\n0 r [c-f]\n", "a", "ambiguous 1 0 63, 2"),
         ],
     );
 }

@@ -1,6 +1,6 @@
-//! The program's one argument, and the statuses and messages that it ends with.
+//! The program's arguments, and the statuses and messages that it ends with.
 
-use lexdfa_lib::{Ending, Failure, Outcome, RunError, arguments};
+use lexdfa_lib::{Ending, Failure, Outcome, RunError, Word, arguments};
 use std::alloc::{AllocError, Global};
 
 // The words of a text, with `|` between them.
@@ -12,7 +12,7 @@ fn words(alloc: Global, text: &str) -> Result<Vec<String>, AllocError> {
     Ok(words)
 }
 
-fn has_argument(alloc: Global, text: &str, wanted: Option<&str>) -> bool {
+fn are_arguments(alloc: Global, text: &str, wanted: Option<(bool, &str)>) -> bool {
     match words(alloc, text) {
         Ok(words) => arguments(&words) == wanted,
         Err(_) => false,
@@ -20,16 +20,23 @@ fn has_argument(alloc: Global, text: &str, wanted: Option<&str>) -> bool {
 }
 
 #[test]
-fn one_argument(rt: HostRuntime) {
+fn a_text_alone_or_behind_all(rt: HostRuntime) {
     assert!(rt; arguments(&[]).is_none());
-    let rows: &[(&str, Option<&str>)] = &[
-        ("a b", Some("a b")),
-        ("", Some("")),
+    let rows: &[(&str, Option<(bool, &str)>)] = &[
+        ("a b", Some((false, "a b"))),
+        ("", Some((false, ""))),
+        ("--all", Some((false, "--all"))),
+        ("--all|a b", Some((true, "a b"))),
+        ("--all|", Some((true, ""))),
+        ("--all|--all", Some((true, "--all"))),
         ("a b|c", None),
         ("|c", None),
+        ("a|--all", None),
+        ("--al|a", None),
+        ("--all|a|b", None),
     ];
     for (text, wanted) in rows {
-        assert!(rt; has_argument(rt.alloc(), *text, *wanted));
+        assert!(rt; are_arguments(rt.alloc(), *text, *wanted), "{text}");
     }
 }
 
@@ -59,7 +66,7 @@ fn run_ends_with(error: RunError, status: u8, message: &str) -> bool {
 
 #[test]
 fn endings_are_told(rt: HostRuntime) {
-    let usage = "lexdfa: usage: lexdfa TEXT\n";
+    let usage = "lexdfa: usage: lexdfa [--all] TEXT\n";
     assert!(rt; ends_with(Err(Failure::Usage), 4, Some(usage)));
     assert!(rt; run_ends_with(RunError::OutOfMemory, 5, "lexdfa: out of memory\n"));
     assert!(rt; run_ends_with(RunError::Read, 6, "lexdfa: read failed\n"));
@@ -80,4 +87,22 @@ fn outcomes_are_compared_by_their_parts(rt: HostRuntime) {
     assert!(rt; three == three);
     assert!(rt; three != two);
     assert!(rt; three != Outcome::NoMatch);
+}
+
+fn clash_at(alloc: Global, value: u32) -> Result<Outcome, AllocError> {
+    Ok(Outcome::Ambiguous {
+        match0: 1,
+        match1: 0,
+        word: Word::new(vec![in alloc; value]?),
+    })
+}
+
+fn clashes_differ_by_their_words(alloc: Global) -> Result<bool, AllocError> {
+    let (a, b) = (clash_at(alloc, 97)?, clash_at(alloc, 98)?);
+    Ok(a == clash_at(alloc, 97)? && a != b)
+}
+
+#[test]
+fn clashes_are_compared_by_their_words(rt: HostRuntime) {
+    assert!(rt; clashes_differ_by_their_words(rt.alloc()) == Ok(true));
 }

@@ -1,13 +1,35 @@
 //! Readers and writers that fail: what is written then, and that no call is made after one that failed.
 
-use lexdfa_lib::{RunError, Watched, run};
+use crate::shared::run_over;
+use lexdfa_lib::{RunError, Watched};
 use std::alloc::Global;
 use std::io;
 use std::io::{Read, Write};
+use std::process::Abort;
 
-const INPUT: &[u8] = b"1 l class\n0 r [a-z]+\n";
+// A run for the longest match, or over all of the text, and what it writes where no end fails.
+#[derive(Clone, Copy)]
+struct Job {
+    all: bool,
+    input: &'static [u8],
+    text: &'static str,
+    lines: &'static [u8],
+}
 
-const LINE: &[u8] = b"match 1 6\n";
+const JOBS: [Job; 2] = [
+    Job {
+        all: false,
+        input: b"1 l class\n0 r [a-z]+\n",
+        text: "classz",
+        lines: b"match 1 6\n",
+    },
+    Job {
+        all: true,
+        input: b"1 l class\n0 r [a-zA-Z_][a-zA-Z0-9_]*\n0 r  +\n",
+        text: "class Foo",
+        lines: b"match 0 5\nmatch 2 1\nmatch 1 3\n",
+    },
+];
 
 // Errors that others try again, and one that nobody does.
 const KINDS: [io::ErrorKind; 3] = [
@@ -34,26 +56,32 @@ impl<'a> Read for FailsAtEnd<'a> {
     }
 }
 
-fn writes_nothing(alloc: Global, given: &[u8], kind: io::ErrorKind) -> bool {
+fn writes_nothing(alloc: Global, job: &Job, given: &[u8], kind: io::ErrorKind) -> bool {
     let mut reader = Watched::new(FailsAtEnd {
         left: given,
         kind,
         calls: 0,
     });
     let mut writer = Watched::new(Vec::new(alloc));
-    let result = run(alloc, &mut reader, "classz", &mut writer);
+    let result = run_over(alloc, job.all, &mut reader, job.text, &mut writer);
     let ended = matches!(&result, Err(RunError::Read)) && reader.failed() && !writer.failed();
     let calls = if given.is_empty() { 1 } else { 2 };
     ended && reader.into_inner().calls == calls && writer.into_inner().is_empty()
 }
 
+fn expect_nothing(rt: &impl Abort, alloc: Global, job: &Job, kind: io::ErrorKind) {
+    for given in 0..=job.input.len() {
+        if let Some(given) = job.input.get(..given) {
+            assert!(rt; writes_nothing(alloc, job, given, kind));
+        }
+    }
+}
+
 #[test]
 fn a_failed_read_writes_nothing(rt: HostRuntime) {
     for kind in KINDS {
-        for given in 0..=INPUT.len() {
-            if let Some(given) = INPUT.get(..given) {
-                assert!(rt; writes_nothing(rt.alloc(), given, kind));
-            }
+        for job in &JOBS {
+            expect_nothing(&rt, rt.alloc(), job, kind);
         }
     }
 }
@@ -86,26 +114,34 @@ impl Write for FailsAfter {
     }
 }
 
-fn leaves_a_prefix(alloc: Global, room: usize, kind: Option<io::ErrorKind>) -> bool {
-    let mut reader = Watched::new(INPUT);
+fn leaves_a_prefix(alloc: Global, job: &Job, room: usize, kind: Option<io::ErrorKind>) -> bool {
+    let mut reader = Watched::new(job.input);
     let mut writer = Watched::new(FailsAfter {
         taken: Vec::new(alloc),
         room,
         kind,
         calls: 0,
     });
-    let result = run(alloc, &mut reader, "classz", &mut writer);
+    let result = run_over(alloc, job.all, &mut reader, job.text, &mut writer);
     let ended = matches!(&result, Err(RunError::Write)) && !reader.failed() && writer.failed();
     let end = writer.into_inner();
-    ended && Some(end.taken.as_slice()) == LINE.get(..room) && end.calls == room.saturating_add(1)
+    ended
+        && Some(end.taken.as_slice()) == job.lines.get(..room)
+        && end.calls == room.saturating_add(1)
+}
+
+fn expect_prefixes(rt: &impl Abort, alloc: Global, job: &Job, kind: Option<io::ErrorKind>) {
+    for room in 0..job.lines.len() {
+        assert!(rt; leaves_a_prefix(alloc, job, room, kind));
+    }
 }
 
 #[test]
 fn a_failed_write_leaves_a_prefix(rt: HostRuntime) {
     let [interrupted, blocked, other] = KINDS;
     for kind in [Some(interrupted), Some(blocked), Some(other), None] {
-        for room in 0..LINE.len() {
-            assert!(rt; leaves_a_prefix(rt.alloc(), room, kind));
+        for job in &JOBS {
+            expect_prefixes(&rt, rt.alloc(), job, kind);
         }
     }
 }

@@ -21,3 +21,5 @@ mod shared;
 mod shy_kernel;
 #[cfg(test)]
 mod tokens;
+#[cfg(test)]
+mod whole;

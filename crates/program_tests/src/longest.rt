@@ -14,10 +14,14 @@ fn reported(alloc: Global, error: DfaConstructionError) -> Result<String, AllocE
             let index = index.index();
             format!(in alloc; "refused {index} {error}")
         }
-        DfaConstructionError::Ambiguity { match0, match1 } => {
+        DfaConstructionError::Ambiguity {
+            match0,
+            match1,
+            word,
+        } => {
             let match0 = match0.index();
             let match1 = match1.index();
-            format!(in alloc; "clash {match0} {match1}")
+            format!(in alloc; "clash {match0} {match1} {word:?}")
         }
         DfaConstructionError::OutOfMemory => Err(AllocError),
     }
@@ -139,21 +143,26 @@ fn clashes(rt: HostRuntime) {
         &rt,
         rt.alloc(),
         &[
-            (b"0 r a*\n0 r b*\n", "", "clash 1 0"),
+            (b"0 r a*\n0 r b*\n", "", "clash 1 0 []"),
             (
                 b"1 r [\\x{D7FF}]\n1 r [\\x{E000}]\n0 r [\\x{D7FF}\\x{E000}]\n0 r (?s).\n",
                 "",
-                "clash 3 2",
+                "clash 3 2 [55296]",
             ),
             (
                 b"0 r (?s).\n0 r (?s).\n1 r [\\x{0}-\\x{D7FF}]\n1 r [\\x{E000}-\\x{10FFFF}]\n",
                 "",
-                "clash 1 0",
+                "clash 1 0 [55296]",
             ),
-            (b"0 r aa\n0 r aa\n0 r b\n0 r b\n", "", "clash 3 2"),
-            (b"0 r b\n0 r b\n0 r a\n0 r a\n", "", "clash 3 2"),
-            (b"0 r class\n0 r [a-zA-Z_][a-zA-Z0-9_]*\n", "", "clash 1 0"),
-            (b"0 r .*\n0 r [-+]?[0-9]*\\.?[0-9]+\n", "", "clash 1 0"),
+            (b"0 r aa\n0 r aa\n0 r b\n0 r b\n", "", "clash 3 2 [98]"),
+            (b"0 r b\n0 r b\n0 r a\n0 r a\n", "", "clash 3 2 [97]"),
+            (
+                b"0 r class\n0 r [a-zA-Z_][a-zA-Z0-9_]*\n",
+                "",
+                "clash 1 0 [99, 108, 97, 115, 115]",
+            ),
+            (b"0 r .*\n0 r [-+]?[0-9]*\\.?[0-9]+\n", "", "clash 1 0 [48]"),
+            (b"0 r [b-d]\n0 r [c-f]\n", "", "clash 1 0 [99]"),
         ],
     );
 }

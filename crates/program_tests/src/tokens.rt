@@ -4,7 +4,7 @@ use crate::shared::{expect_same, terminals};
 use std::alloc::{AllocError, Global};
 use std::fmt::Write;
 use std::process::Abort;
-use tokens_lib::{BuildError, Lexer, Token, Tokens};
+use tokens_lib::{BuildError, Lexer, Token, lexer_of};
 
 fn lexer_of_words(rt: &impl Abort, alloc: Global) -> Lexer {
     let lines = b"1 l if\n0 r [a-z]+\n0 l  \n";
@@ -21,23 +21,19 @@ fn push_token(line: &mut String, token: &Token<'_>) -> Result<(), AllocError> {
     line.push_str("]")
 }
 
-// The tokens, and the rest behind them.
-fn push_cut(line: &mut String, cut: &Tokens<'_>) -> Result<(), AllocError> {
-    for token in &cut.tokens {
-        push_token(line, token)?;
-    }
-    line.push_str(cut.rest)
-}
-
-fn shown(alloc: Global, cut: &Tokens<'_>) -> Result<String, AllocError> {
-    let mut line = String::new(alloc);
-    push_cut(&mut line, cut)?;
-    Ok(line)
-}
-
+// The tokens, and the place of the fault behind them, if any.
 fn cut(alloc: Global, lexer: &Lexer, text: &str) -> Result<String, AllocError> {
-    let cut = lexer.tokens(alloc, text)?;
-    shown(alloc, &cut)
+    let mut line = String::new(alloc);
+    for item in lexer.tokens(text) {
+        match item {
+            Ok(token) => push_token(&mut line, &token)?,
+            Err(fault) => {
+                let at = fault.at;
+                write!(line, "none {at}")?;
+            }
+        }
+    }
+    Ok(line)
 }
 
 fn expect_cut(rt: &impl Abort, alloc: Global, lexer: &Lexer, text: &str, wanted: &str) {
@@ -49,7 +45,7 @@ fn expect_cut(rt: &impl Abort, alloc: Global, lexer: &Lexer, text: &str, wanted:
 fn cuts_many_texts(rt: HostRuntime) {
     let lexer = lexer_of_words(&rt, rt.alloc());
     expect_cut(&rt, rt.alloc(), &lexer, "if iffy", "[0 if][2  ][1 iffy]");
-    expect_cut(&rt, rt.alloc(), &lexer, "a1b", "[1 a]1b");
+    expect_cut(&rt, rt.alloc(), &lexer, "a1b", "[1 a]none 1");
 }
 
 // Why there is no lexer, and the status.
@@ -59,7 +55,7 @@ fn told(alloc: Global, error: &BuildError) -> Result<String, AllocError> {
 }
 
 fn answer(alloc: Global, lines: &[u8]) -> Result<String, AllocError> {
-    match Lexer::from_lines(alloc, lines) {
+    match lexer_of(alloc, lines) {
         Ok(_) => String::from_str(alloc, "a lexer"),
         Err(error) => told(alloc, &error),
     }
@@ -76,7 +72,7 @@ fn lines_without_a_lexer_are_told(rt: HostRuntime) {
         (b"0 l a\nq\n", "line 1, 3"),
         (b"0 r (\n", "syntax 0, 3"),
         (b"0 l a\n0 r \\ba\n", "refused 1 LookAround, 2"),
-        (b"0 l if\n0 r [a-z]+\n", "ambiguous 1 0, 2"),
+        (b"0 l if\n0 r [a-z]+\n", "ambiguous 1 0 69 66, 2"),
     ];
     for (lines, wanted) in rows {
         expect_refused(&rt, rt.alloc(), *lines, *wanted);
@@ -95,6 +91,6 @@ fn is_expected(lexer: &Lexer) -> bool {
 
 #[test]
 fn lines_give_a_lexer(rt: HostRuntime) {
-    let lexer = Lexer::from_lines(rt.alloc(), b"1 l if\n0 r [a-z]+\n").expect(&rt, "a lexer");
+    let lexer = lexer_of(rt.alloc(), b"1 l if\n0 r [a-z]+\n").expect(&rt, "a lexer");
     assert!(rt; is_expected(&lexer));
 }

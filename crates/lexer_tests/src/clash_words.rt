@@ -1,0 +1,67 @@
+//! Patterns that clash, and the least word on which they do.
+
+use crate::built::{expect, made, made_with};
+use lalrpop_lexer::lexer::dfa::{Dfa, DfaConstructionError, Precedence};
+use std::alloc::{AllocError, Global};
+
+// The two patterns, and the word.
+fn shown(alloc: Global, made: &Result<Dfa, DfaConstructionError>) -> Result<String, AllocError> {
+    match made {
+        Ok(_) => String::from_str(alloc, "an automaton"),
+        Err(
+            DfaConstructionError::Ambiguity {
+                match0,
+                match1,
+                word,
+            },
+        ) => {
+            let (match0, match1) = (match0.index(), match1.index());
+            format!(in alloc; "{match0} {match1} {word:?}")
+        }
+        Err(error) => format!(in alloc; "{error}"),
+    }
+}
+
+fn clash(alloc: Global, words: &str) -> Result<String, AllocError> {
+    let made = made(alloc, words)?;
+    shown(alloc, &made)
+}
+
+fn clash_with(
+    alloc: Global,
+    words: &str,
+    precedences: &[Precedence],
+) -> Result<String, AllocError> {
+    let made = made_with(alloc, words, precedences)?;
+    shown(alloc, &made)
+}
+
+#[test]
+fn patterns_of_one_strength_clash_on_the_least_word(rt: HostRuntime) {
+    let rows = [
+        ("a* b*", "1 0 []"),
+        ("aa aa b b", "3 2 [98]"),
+        ("b b a a", "3 2 [97]"),
+        (
+            "class [a-zA-Z_][a-zA-Z0-9_]*",
+            "1 0 [99, 108, 97, 115, 115]",
+        ),
+        (".* [-+]?[0-9]*\\.?[0-9]+", "1 0 [48]"),
+        ("[b-d] [c-f]", "1 0 [99]"),
+    ];
+    for (words, wanted) in rows {
+        expect(&rt, clash(rt.alloc(), words), wanted);
+    }
+}
+
+// The stronger patterns leave the surrogates alone, and the first of them is the least word.
+#[test]
+fn a_clash_beside_stronger_patterns(rt: HostRuntime) {
+    let words = "(?s). (?s). [\\x{0}-\\x{D7FF}] [\\x{E000}-\\x{10FFFF}]";
+    let precedences = [Precedence(0), Precedence(0), Precedence(1), Precedence(1)];
+    expect(
+        &rt,
+        clash_with(rt.alloc(), words, &precedences),
+        "1 0 [55296]",
+    );
+}
