@@ -29,7 +29,7 @@ some_char text u some = has (chars text) (encodes-chars text u)
     has (c ∷ cs) e = omega arith
 
 -- what is left behind a token
-rest_behind : (s j : Cutting) (p : List ℕ) → IsPrefix p (rest_of s) → j ≡ record s { at = s.at + length p } → rest_of s ≡ p ++ rest_of j
+pub rest_behind : (s j : Cutting) (p : List ℕ) → IsPrefix p (rest_of s) → j ≡ record s { at = s.at + length p } → rest_of s ≡ p ++ rest_of j
 rest_behind s j p b e =
     b.1.0 ∙ ap (λ (r : List ℕ). p ++ r) (after_prefix p (rest_of s) b ∙ drop-drop (length p) s.at s.text ∙ sym (ap (λ (x : Cutting). rest_of x) e))
 

@@ -1,4 +1,4 @@
-//! How the program ends: its status, and its line on standard error.
+//! How a program ends: its status, and the line of `lexdfa` on standard error.
 ghost use Rattle.std.specs.Prelude.{◌≡◌, Result, Err, option_map};
 ghost use Rattle.lexdfa_lib.specs.Ending.{ending_status, ending_message};
 
@@ -8,13 +8,13 @@ use crate::outcome::Outcome;
 /// Why the program has no outcome.
 #[derive(Drop)]
 pub enum Failure {
-    /// The arguments are neither one text nor `--all` and a text.
+    /// The arguments are none that the program takes.
     Usage,
     /// The run ended without an outcome, or the flush after it failed.
     Run(RunError),
 }
 
-/// How the program ends.
+/// How the program `lexdfa` ends.
 #[derive(Drop)]
 pub struct Ending {
     /// The exit status.
@@ -23,25 +23,31 @@ pub struct Ending {
     pub message: Option<&'static str>,
 }
 
+/// The exit status of a program that has found this: that of the outcome or of the error, and 4 for wrong arguments.
+pub fn status_of(found: &Result<Outcome, Failure>) -> u8
+    ensures status { result ≡ ending_status found.now }
+{
+    match found {
+        Ok(outcome) => outcome.status(),
+        Err(Failure::Usage) => 4,
+        Err(Failure::Run(error)) => error.status(),
+    }
+}
+
 impl Ending {
-    /// How the program ends where it has found this. There is a message only where there is no outcome.
+    /// How the program `lexdfa` ends where it has found this. There is a message only where there is no outcome.
     pub fn of(found: &Result<Outcome, Failure>) -> Ending
         ensures status { result.status ≡ ending_status found.now }
         ensures message { option_map (λ m. m.now) result.message ≡ ending_message found.now }
     {
-        match found {
-            Ok(outcome) => Ending {
-                status: outcome.status(),
-                message: None,
-            },
-            Err(Failure::Usage) => Ending {
-                status: 4,
-                message: Some("lexdfa: usage: lexdfa [--all] TEXT\n"),
-            },
-            Err(Failure::Run(error)) => Ending {
-                status: error.status(),
-                message: Some(error_message(error)),
-            },
+        let message = match found {
+            Ok(_) => None,
+            Err(Failure::Usage) => Some("lexdfa: usage: lexdfa [--all] TEXT\n"),
+            Err(Failure::Run(error)) => Some(error_message(error)),
+        };
+        Ending {
+            status: status_of(found),
+            message,
         }
     }
 }

@@ -20,11 +20,13 @@ mod word;
 mod words;
 
 pub use answer::run;
-pub use ending::{Ending, Failure};
+pub use ending::{Ending, Failure, status_of};
+pub use ends::{read_whole, write_whole};
 pub use error::RunError;
 pub use lalrpop_lexer::{TokenFault, Tokens, tokens};
 pub use longest::longest_match;
 pub use outcome::{Outcome, clash_line, outcome_line};
+pub use report::reported;
 pub use terminals::{Terminals, read_terminals};
 pub use watched::Watched;
 pub use whole::run_all;

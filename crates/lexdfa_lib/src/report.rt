@@ -11,12 +11,12 @@ use crate::word::Word;
 use lalrpop_lexer::lexer::dfa::DfaConstructionError;
 use std::alloc::AllocError;
 
-/// The outcome where no automaton was made.
+/// The outcome of terminals for which no automaton was made, or whose clashes can't be listed.
 ///
 /// # Errors
 ///
 /// `AllocError` where a request for memory was refused.
-pub(crate) fn reported(error: DfaConstructionError) -> Result<Outcome, AllocError>
+pub fn reported(error: DfaConstructionError) -> Result<Outcome, AllocError>
     ensures ok { IfOk result (λ outcome. (bytes : List ℕ) (ts : List Tree) (ps : List ℕ)
         → AreTerminals (lines bytes) ts ps → IsReport ts ps error → IsReported bytes outcome) }
     ensures memory { OnErr result (error ≡ DfaConstructionError.OutOfMemory) }

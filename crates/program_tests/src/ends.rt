@@ -32,7 +32,7 @@ const JOBS: [Job; 2] = [
 ];
 
 // Errors that others try again, and one that nobody does.
-const KINDS: [io::ErrorKind; 3] = [
+pub(crate) const KINDS: [io::ErrorKind; 3] = [
     io::ErrorKind::Interrupted,
     io::ErrorKind::WouldBlock,
     io::ErrorKind::Other,
@@ -40,10 +40,10 @@ const KINDS: [io::ErrorKind; 3] = [
 
 // Gives its bytes, then fails, and counts its calls.
 #[derive(Drop)]
-struct FailsAtEnd<'a> {
-    left: &'a [u8],
-    kind: io::ErrorKind,
-    calls: usize,
+pub(crate) struct FailsAtEnd<'a> {
+    pub(crate) left: &'a [u8],
+    pub(crate) kind: io::ErrorKind,
+    pub(crate) calls: usize,
 }
 
 impl<'a> Read for FailsAtEnd<'a> {
@@ -89,11 +89,11 @@ fn a_failed_read_writes_nothing(rt: HostRuntime) {
 // Takes one byte a call while it has room, then fails, and counts its calls. With no kind of error it fails by taking
 // nothing.
 #[derive(Drop)]
-struct FailsAfter {
-    taken: Vec<u8>,
-    room: usize,
-    kind: Option<io::ErrorKind>,
-    calls: usize,
+pub(crate) struct FailsAfter {
+    pub(crate) taken: Vec<u8>,
+    pub(crate) room: usize,
+    pub(crate) kind: Option<io::ErrorKind>,
+    pub(crate) calls: usize,
 }
 
 impl Write for FailsAfter {

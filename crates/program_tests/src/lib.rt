@@ -12,6 +12,8 @@ mod endings;
 #[cfg(test)]
 mod ends;
 #[cfg(test)]
+mod files;
+#[cfg(test)]
 mod input;
 #[cfg(test)]
 mod longest;

@@ -4,6 +4,7 @@ use crate::shared::{expect_same, terminals};
 use std::alloc::{AllocError, Global};
 use std::fmt::Write;
 use std::process::Abort;
+use lexdfa_lib::outcome_line;
 use tokens_lib::{BuildError, Lexer, Token, lexer_of};
 
 fn lexer_of_words(rt: &impl Abort, alloc: Global) -> Lexer {
@@ -48,16 +49,12 @@ fn cuts_many_texts(rt: HostRuntime) {
     expect_cut(&rt, rt.alloc(), &lexer, "a1b", "[1 a]none 1");
 }
 
-// Why there is no lexer, and the status.
-fn told(alloc: Global, error: &BuildError) -> Result<String, AllocError> {
-    let status = error.status();
-    format!(in alloc; "{error}, {status}")
-}
-
+// The line of what the rules report.
 fn answer(alloc: Global, lines: &[u8]) -> Result<String, AllocError> {
     match lexer_of(alloc, lines) {
         Ok(_) => String::from_str(alloc, "a lexer"),
-        Err(error) => told(alloc, &error),
+        Err(BuildError::Reported(outcome)) => outcome_line(alloc, &outcome),
+        Err(BuildError::OutOfMemory) => Err(AllocError),
     }
 }
 
@@ -67,12 +64,12 @@ fn expect_refused(rt: &impl Abort, alloc: Global, lines: &[u8], wanted: &str) {
 }
 
 #[test]
-fn lines_without_a_lexer_are_told(rt: HostRuntime) {
+fn lines_without_a_lexer_are_reported(rt: HostRuntime) {
     let rows: &[(&[u8], &str)] = &[
-        (b"0 l a\nq\n", "line 1, 3"),
-        (b"0 r (\n", "syntax 0, 3"),
-        (b"0 l a\n0 r \\ba\n", "refused 1 LookAround, 2"),
-        (b"0 l if\n0 r [a-z]+\n", "ambiguous 1 0 69 66, 2"),
+        (b"0 l a\nq\n", "line 1\n"),
+        (b"0 r (\n", "syntax 0\n"),
+        (b"0 l a\n0 r \\ba\n", "refused 1 LookAround\n"),
+        (b"0 l if\n0 r [a-z]+\n", "ambiguous 1 0 69 66\n"),
     ];
     for (lines, wanted) in rows {
         expect_refused(&rt, rt.alloc(), *lines, *wanted);

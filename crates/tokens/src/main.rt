@@ -1,10 +1,10 @@
-//! `tokens TEXT..`: cuts each TEXT by the terminals that are read from standard input, and writes the tokens. `tokens --clashes`
-//! writes the pairs of terminals that clash, each with the least word on which they do.
+//! `tokens [--places] RULES [FILE ..]`: cuts each FILE, or standard input, by the terminals of the file RULES, and writes the tokens.
+//! `tokens --clashes RULES`: writes the pairs of terminals that clash, each with the least word on which they do.
 #![tactic(auto)]
 
 use std::process::ExitCode;
-use tokens_lib::show_tokens;
+use tokens_lib::run_program;
 
 fn main(rt: HostRuntime) -> ExitCode {
-    show_tokens(&rt)
+    run_program(&rt)
 }

@@ -1,5 +1,7 @@
 -- Small cases of the definitions in specs/: Cases/X.antt has those of specs/X.antt.
 mod Building
-mod Quoted
-mod Shown
 mod ClashesShown
+mod Command
+mod Quoted
+mod Text
+mod TokenLines

@@ -1,4 +1,6 @@
 pub mod Building
-pub mod Quoted
-pub mod Shown
 pub mod ClashesShown
+pub mod Command
+pub mod Quoted
+pub mod Text
+pub mod TokenLines

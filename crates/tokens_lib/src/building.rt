@@ -1,41 +1,55 @@
 //! A lexer of the terminals that some lines name.
-ghost use Rattle.std.specs.Prelude.{IfOk, IfErr};
-ghost use Rattle.lalrpop_lexer.specs.Clash.{NoClash};
-ghost use Rattle.lalrpop_lexer.specs.Report.{NoFault};
-ghost use Rattle.lexdfa_lib.specs.Lines.{lines};
-ghost use Rattle.lexdfa_lib.specs.Terminals.{AreTerminals};
+ghost use Rattle.std.specs.Prelude.{◌≡◌, IfOk, IfErr};
+ghost use Rattle.lexdfa_lib.specs.Answer.{HaveAutomaton};
 ghost use Rattle.tokens_lib.specs.Building.{IsBuildError};
+ghost use Rattle.tokens_lib.specs.declared.building.BuildError.TheVariants.{OutOfMemory};
 
-use crate::error::BuildError;
 use lalrpop_lexer::Lexer;
-use lexdfa_lib::{Terminals, read_terminals};
-use std::alloc::Global;
+use lexdfa_lib::{Outcome, Terminals, read_terminals, reported};
+use std::alloc::{AllocError, Global};
+use thiserror::Error;
+
+/// Why some lines give no lexer.
+#[derive(Debug, Drop, Error)]
+pub enum BuildError {
+    /// A line is bad, a pattern doesn't parse or can't be compiled, or two terminals clash.
+    #[error("no lexer: {0:?}")]
+    Reported(Outcome),
+    /// A request for memory was refused.
+    #[error("out of memory")]
+    OutOfMemory,
+}
+
+impl From<AllocError> for BuildError {
+    ghost from_gives = { λ _ e. e ≡ OutOfMemory };
+
+    fn from(_error: AllocError) -> BuildError {
+        BuildError::OutOfMemory
+    }
+}
 
 /// Builds the lexer of the terminals that some lines name: each is `P l TEXT` or `P r PATTERN`, a precedence and a
 /// literal or a pattern.
 ///
 /// # Errors
 ///
-/// The first line that is no terminal; else what `Lexer::new` reports of the terminals.
+/// What the lines report: the first line that is bad or whose pattern doesn't parse; else the first terminal that can't be
+/// compiled; else the clash. And out of memory.
 pub fn lexer_of(alloc: Global, bytes: &[u8]) -> Result<Lexer, BuildError>
-    ensures terminals { IfOk result (λ lexer.
-        AreTerminals (lines bytes.now) lexer.trees lexer.precedences) }
-    ensures no_fault { IfOk result (λ lexer. NoFault lexer.trees) }
-    ensures no_clash { IfOk result (λ lexer. NoClash lexer.trees lexer.precedences) }
+    ensures automaton { IfOk result (λ lexer.
+        HaveAutomaton bytes.now lexer.trees lexer.precedences) }
     ensures error { IfErr result (λ e. IsBuildError bytes.now e) }
 {
-    match read_terminals(alloc, bytes) {
-        Ok(
-            Terminals::All {
-                regexs,
-                precedences,
-            },
-        ) => match Lexer::new(alloc, regexs, precedences) {
-            Ok(lexer) => Ok(lexer),
-            Err(error) => Err(BuildError::of_report(error)),
+    let outcome = match read_terminals(alloc, bytes)? {
+        Terminals::All {
+            regexs,
+            precedences,
+        } => match Lexer::new(alloc, regexs, precedences) {
+            Ok(lexer) => return Ok(lexer),
+            Err(error) => reported(error)?,
         },
-        Ok(Terminals::Bad { line }) => Err(BuildError::Line { line }),
-        Ok(Terminals::NoTree { line }) => Err(BuildError::Syntax { line }),
-        Err(_) => Err(BuildError::OutOfMemory),
-    }
+        Terminals::Bad { line } => Outcome::Line { line },
+        Terminals::NoTree { line } => Outcome::Syntax { terminal: line },
+    };
+    Err(BuildError::Reported(outcome))
 }

@@ -1,16 +1,18 @@
 //! The lines of all clashes of the terminals that some bytes name.
-ghost use Rattle.std.specs.Prelude.{◌≡◌, ◌≢◌, ◌⊎◌, ◌++◌, [], ℕ, List, flat_map, string_bytes, IfOk, OnOk};
+ghost use Rattle.std.specs.Prelude.{◌≡◌, ◌≢◌, ◌++◌, [], ℕ, List, Some, false, true, length, map, flat_map, string_bytes, IfOk, OnOk, IfErr};
 ghost use Rattle.lalrpop_hir.specs.Tree.{Tree};
 ghost use Rattle.lalrpop_lexer.specs.Report.{IsFaultOf};
 ghost use Rattle.lexdfa_lib.specs.Lines.{lines};
 ghost use Rattle.lexdfa_lib.specs.Terminals.{AreTerminals};
-ghost use Rattle.tokens_lib.specs.ClashesShown.{entry_line, AreClashesShown, IsFaultError};
+ghost use Rattle.tokens_lib.specs.ClashesShown.{entry_line, first_reported, AreClashesShown, WritesClashes, WritesClashesPrefix};
 
-use crate::error::BuildError;
-use crate::show::{Ended, Shown};
-use lalrpop_lexer::lexer::dfa::{Clash, DfaConstructionError, clashes};
-use lexdfa_lib::{Terminals, Word, clash_line, read_terminals};
+use lalrpop_lexer::lexer::dfa::{Clash, DfaConstructionError, Precedence, clashes};
+use lalrpop_lexer::lexer::re::Regex;
+use lexdfa_lib::{
+    Outcome, RunError, Terminals, Watched, Word, clash_line, read_terminals, write_whole,
+};
 use std::alloc::{AllocError, Global};
+use std::io::Write;
 
 fn push_clash(alloc: Global, lines: &mut String, clash: Clash) -> Result<(), AllocError>
     ensures { OnOk result (string_bytes lines.new ≡ string_bytes lines.old ++ entry_line clash) }
@@ -34,69 +36,118 @@ fn clash_lines(alloc: Global, found: Vec<Clash>) -> Result<String, AllocError>
     Ok(lines)
 }
 
-// The lines of these clashes.
-fn shown(alloc: Global, found: Vec<Clash>) -> Result<Shown, AllocError>
-    ensures written { IfOk result (λ shown.
-        string_bytes shown.written ≡ flat_map entry_line found.items) }
-    ensures none { IfOk result (λ shown. shown.ended ≡ Ended.Whole → found.items ≡ []) }
-    ensures some { IfOk result (λ shown. shown.ended ≡ Ended.Clashing → found.items ≢ []) }
-    ensures ended { IfOk result (λ shown.
-        (shown.ended ≡ Ended.Whole) ⊎ (shown.ended ≡ Ended.Clashing)) }
+// The first of all clashes is the one that is reported.
+fn first_report(found: &[Clash]) -> Result<Option<Outcome>, AllocError>
+    ensures { IfOk result (λ report. report ≡ first_reported found.now) }
 {
-    let ended = if found.is_empty() {
-        Ended::Whole
-    } else {
-        Ended::Clashing
+    let Some(first) = found.first() else {
+        return Ok(None);
     };
-    Ok(Shown {
-        written: clash_lines(alloc, found)?,
-        message: String::new(alloc),
-        ended,
+    Ok(Some(Outcome::Ambiguous {
+        match0: first.match0.index(),
+        match1: first.match1.index(),
+        word: Word::new(first.word.clone()?),
+    }))
+}
+
+// What is reported where there is no list.
+fn fault_reported(error: DfaConstructionError) -> Result<Outcome, AllocError>
+    ensures { IfOk result (λ outcome. (bytes : List ℕ) (ts : List Tree) (ps : List ℕ)
+        → AreTerminals (lines bytes) ts ps → IsFaultOf ts error
+        → AreClashesShown bytes [] (Some outcome)) }
+{
+    match error {
+        DfaConstructionError::NfaConstructionError { index, error } => Ok(Outcome::Refused {
+            terminal: index.index(),
+            error,
+        }),
+        // A clash is listed and is no error.
+        DfaConstructionError::Ambiguity { .. } | DfaConstructionError::OutOfMemory => {
+            Err(AllocError)
+        }
+    }
+}
+
+// The lines of all clashes, and what the terminals report, if anything.
+#[derive(Drop)]
+struct Listing {
+    lines: String,
+    report: Option<Outcome>,
+}
+
+// What is written of these terminals.
+fn listing_by(
+    alloc: Global,
+    regexs: &[Regex],
+    precedences: &[Precedence],
+) -> Result<Listing, AllocError>
+    requires same_len { length regexs.now ≡ length precedences.now }
+    ensures { IfOk result (λ listing. (bytes : List ℕ)
+        → AreTerminals (lines bytes) regexs.now (map (λ p. p.0) precedences.now)
+        → AreClashesShown bytes (string_bytes listing.lines) listing.report) }
+{
+    match clashes(alloc, regexs, precedences) {
+        Ok(found) => {
+            let report = first_report(&found)?;
+            let lines = clash_lines(alloc, found)?;
+            Ok(Listing { lines, report })
+        }
+        Err(error) => Ok(Listing {
+            lines: String::new(alloc),
+            report: Some(fault_reported(error)?),
+        }),
+    }
+}
+
+// What is written of the terminals that the bytes name.
+fn listing_of(alloc: Global, bytes: &[u8]) -> Result<Listing, AllocError>
+    ensures { IfOk result (λ listing.
+        AreClashesShown bytes.now (string_bytes listing.lines) listing.report) }
+{
+    let report = match read_terminals(alloc, bytes)? {
+        Terminals::All {
+            regexs,
+            precedences,
+        } => return listing_by(alloc, &regexs, &precedences),
+        Terminals::Bad { line } => Outcome::Line { line },
+        Terminals::NoTree { line } => Outcome::Syntax { terminal: line },
+    };
+    Ok(Listing {
+        lines: String::new(alloc),
+        report: Some(report),
     })
 }
 
-// Why there is no list of clashes.
-fn fault_of(error: DfaConstructionError) -> BuildError
-    ensures { (bytes : List ℕ) (ts : List Tree) (ps : List ℕ) → AreTerminals (lines bytes) ts ps
-        → IsFaultOf ts error → IsFaultError bytes result }
-{
-    match error {
-        DfaConstructionError::NfaConstructionError { index, error } => BuildError::Refused {
-            terminal: index.index(),
-            error,
-        },
-        // A clash is listed and is no error.
-        DfaConstructionError::Ambiguity { .. } | DfaConstructionError::OutOfMemory => {
-            BuildError::OutOfMemory
-        }
-    }
-}
+/// Writes a line for each pair of terminals that clashes, with the least word on which it does, as that of a report: the bytes
+/// name the terminals. Gives what the terminals report: the first clash, or why they can't be compiled, of which nothing is
+/// written; or `None` where they make a lexer.
+///
+/// # Errors
+///
+/// `OutOfMemory` where a request for memory was refused: nothing was written. `Write` where a write failed or took no byte: a
+/// prefix of the lines was written.
+pub fn write_clashes<W: Write>(
+    alloc: Global,
+    bytes: &[u8],
+    writer: &mut Watched<W>,
+) -> Result<Option<Outcome>, RunError>
+    requires writer_good { writer.old.failed ≡ false }
 
-impl Shown {
-    /// A line for each pair of terminals that clashes anywhere, with the least word on which they do, as that of a report: the
-    /// bytes name the terminals. Where they can't be compiled, one line that says why.
-    ///
-    /// # Errors
-    ///
-    /// `AllocError` where a request for memory was refused.
-    pub fn of_clashes(alloc: Global, bytes: &[u8]) -> Result<Shown, AllocError>
-        ensures shown { IfOk result (λ shown.
-            AreClashesShown bytes.now (string_bytes shown.written) shown.ended) }
-    {
-        match read_terminals(alloc, bytes)? {
-            Terminals::All {
-                regexs,
-                precedences,
-            } => match clashes(alloc, &regexs, &precedences) {
-                Ok(found) => shown(alloc, found),
-                Err(error) => { Shown::without_lexer(alloc, bytes, fault_of(error)) }
-            },
-            Terminals::Bad { line } => {
-                Shown::without_lexer(alloc, bytes, BuildError::Line { line })
-            }
-            Terminals::NoTree { line } => {
-                Shown::without_lexer(alloc, bytes, BuildError::Syntax { line })
-            }
-        }
-    }
+    ensures written { IfOk result (λ report.
+        WritesClashes bytes.now (W.contents writer.old.inner) (W.contents writer.new.inner) report) }
+    ensures good { OnOk result (writer.new.failed ≡ false) }
+
+    ensures nothing_written { IfErr result (λ e. e ≢ RunError.Write → writer.new ≡ writer.old) }
+    ensures write { IfErr result (λ e. e ≡ RunError.Write → writer.new.failed ≡ true) }
+    ensures prefix { IfErr result (λ e. e ≡ RunError.Write →
+        WritesClashesPrefix bytes.now (W.contents writer.old.inner) (W.contents writer.new.inner)) }
+    ensures read { IfErr result (λ e. e ≢ RunError.Read) }
+
+    ensures no_late_write { writer.new.late ≡ writer.old.late }
+{
+    let Ok(Listing { lines, report }) = listing_of(alloc, bytes) else {
+        return Err(RunError::OutOfMemory);
+    };
+    write_whole(writer, lines.as_bytes())?;
+    Ok(report)
 }

@@ -1,15 +1,115 @@
-//! Why there is no lexer, in words.
+//! Why a file of rules gives no lexer, in words for people.
 
-use crate::error::BuildError;
 use crate::quote::quoted;
+use lalrpop_lexer::lexer::nfa::NfaConstructionError;
+use lalrpop_lexer::lexer::re::{RegexError, SyntaxKind, parse_regex};
+use lexdfa_lib::Outcome;
 use std::alloc::{AllocError, Global};
 
-// The line with this number, or nothing where it is no text or isn't there.
-fn line_at(bytes: &[u8], number: usize) -> &str {
-    let Some(line) = bytes.split(|byte| *byte == b'\n').nth(number) else {
-        return "";
+// The line with this number, from 0, or nothing where it isn't UTF-8.
+fn line_at(bytes: &[u8], number: usize) -> Option<&str> {
+    let line = bytes.split(|byte| *byte == b'\n').nth(number)?;
+    str::from_utf8(line).ok()
+}
+
+fn syntax_text(kind: SyntaxKind) -> &'static str {
+    match kind {
+        SyntaxKind::UnclosedGroup => "this group isn't closed",
+        SyntaxKind::UnopenedGroup => "this `)` closes no group",
+        SyntaxKind::UnclosedClass => "this bracket isn't closed",
+        SyntaxKind::ClassRangeInvalid => "this range ends before it starts",
+        SyntaxKind::ClassRangeLiteral => "a range needs a single character at both ends",
+        SyntaxKind::ClassEscapeInvalid => "this escape can't stand in brackets",
+        SyntaxKind::EscapeUnexpectedEof => "the pattern ends inside an escape",
+        SyntaxKind::EscapeUnrecognized => "this escape is unknown",
+        SyntaxKind::EscapeHex => "this number names no character",
+        SyntaxKind::UnicodeSetUnknown => "there is no set of characters by this name",
+        SyntaxKind::RepetitionMissing => "there is nothing to repeat before this operator",
+        SyntaxKind::RepetitionCount => "this count is malformed, too great or out of order",
+        SyntaxKind::Flag => "this flag is unknown, missing or written twice",
+        SyntaxKind::GroupName => "this group name is malformed, missing or taken",
+        SyntaxKind::UnsupportedLookAround => "patterns have no look-around",
+        SyntaxKind::UnsupportedBackreference => "patterns have no references to groups",
+        SyntaxKind::NestLimitExceeded => "groups, brackets and repetitions nest too deeply",
+    }
+}
+
+fn refusal_text(error: NfaConstructionError) -> &'static str {
+    match error {
+        NfaConstructionError::NamedCaptures => "a lexer can't have named groups: write `(?:..)`",
+        NfaConstructionError::NonGreedy => "a lexer can't have lazy repetitions",
+        NfaConstructionError::LookAround => "a lexer can't have look-around or word boundaries",
+        NfaConstructionError::ByteRegex => "a lexer can't have patterns of bytes",
+        NfaConstructionError::OutOfMemory => "out of memory",
+    }
+}
+
+// How many characters of the text stand before this byte.
+fn characters_before(text: &str, byte: usize) -> usize {
+    text.char_indices()
+        .take_while(|found| found.0 < byte)
+        .count()
+}
+
+// Where and why the pattern of a line `P r PATTERN` doesn't parse: the characters of the line before the place, and the reason.
+fn syntax_of(alloc: Global, line: &str) -> Result<Option<(usize, SyntaxKind)>, AllocError> {
+    let Some((precedence, rest)) = line.split_once(' ') else {
+        return Ok(None);
     };
-    str::from_utf8(line).unwrap_or("")
+    let Some((_, pattern)) = rest.split_once(' ') else {
+        return Ok(None);
+    };
+    match parse_regex(alloc, pattern) {
+        Ok(_) => Ok(None),
+        Err(RegexError::OutOfMemory) => Err(AllocError),
+        Err(RegexError::Syntax { position, kind }) => {
+            // A space, the letter and a space stand between the precedence and the pattern.
+            let before = precedence.len().saturating_add(3);
+            let inside = characters_before(pattern, position);
+            Ok(Some((before.saturating_add(inside), kind)))
+        }
+    }
+}
+
+fn push_spaces(text: &mut String, count: usize) -> Result<(), AllocError> {
+    for _ in 0..count {
+        text.push(' ')?;
+    }
+    Ok(())
+}
+
+// The place and the reason, and the line with a caret under the place.
+fn syntax_explained(
+    alloc: Global,
+    file: &str,
+    number: usize,
+    line: &str,
+) -> Result<String, AllocError> {
+    let Some((before, kind)) = syntax_of(alloc, line)? else {
+        return format!(in alloc; "tokens: {file}:{number}: the pattern doesn't parse\n");
+    };
+    let column = before.saturating_add(1);
+    let reason = syntax_text(kind);
+    let mut message = format!(in alloc;
+        "tokens: {file}:{number}:{column}: {reason}\n    {line}\n    "
+    )?;
+    push_spaces(&mut message, before)?;
+    message.push_str("^\n")?;
+    Ok(message)
+}
+
+fn bad_line_explained(
+    alloc: Global,
+    file: &str,
+    number: usize,
+    line: Option<&str>,
+) -> Result<String, AllocError> {
+    match line {
+        None => format!(in alloc; "tokens: {file}:{number}: this line isn't UTF-8\n"),
+        Some(line) => format!(in alloc;
+            "tokens: {file}:{number}: a line is `P l TEXT` or `P r PATTERN`, with a precedence P\n    {line}\n"
+        ),
+    }
 }
 
 // The word as a text, where each value is a character.
@@ -41,35 +141,58 @@ fn word_shown(alloc: Global, word: &[u32]) -> Result<String, AllocError> {
     }
 }
 
-// What a clash is and how to mend it: both terminals as their lines have them, and the word.
+// What a clash is and how to mend it: both lines, and the word.
 fn clash_explained(
     alloc: Global,
+    file: &str,
     bytes: &[u8],
-    match0: usize,
-    match1: usize,
+    lines: (usize, usize),
     word: &[u32],
 ) -> Result<String, AllocError> {
     let word = word_shown(alloc, word)?;
-    let first = line_at(bytes, match0);
-    let second = line_at(bytes, match1);
+    let (later, earlier) = lines;
+    let later_line = line_at(bytes, later).unwrap_or("");
+    let earlier_line = line_at(bytes, earlier).unwrap_or("");
+    let later = later.saturating_add(1);
+    let earlier = earlier.saturating_add(1);
     format!(in alloc;
-        "tokens: terminals {match0} and {match1} clash: both match the word {word}, and neither wins\n    \
-        {match0}: {first}\n    {match1}: {second}\nGive the one that should win a greater precedence.\n"
+        "tokens: {file}:{later}: this terminal clashes with that of line {earlier}: both match the word {word}, and neither wins\n    \
+        {earlier}: {earlier_line}\n    {later}: {later_line}\nGive the one that should win a greater precedence.\n"
     )
 }
 
-/// Why the lines give no lexer, where the line that tells it leaves its reader to guess: of a clash. Else nothing.
+/// What is wrong with a file of rules, in words: the file and the line, and the line itself.
 ///
 /// # Errors
 ///
 /// `AllocError` where a request for memory was refused.
-pub fn explanation(alloc: Global, bytes: &[u8], error: &BuildError) -> Result<String, AllocError> {
-    match error {
-        BuildError::Ambiguous {
+pub(crate) fn explanation(
+    alloc: Global,
+    file: &str,
+    bytes: &[u8],
+    report: &Outcome,
+) -> Result<String, AllocError> {
+    match report {
+        Outcome::Line { line } => {
+            bad_line_explained(alloc, file, line.saturating_add(1), line_at(bytes, *line))
+        }
+        Outcome::Syntax { terminal } => {
+            let line = line_at(bytes, *terminal).unwrap_or("");
+            syntax_explained(alloc, file, terminal.saturating_add(1), line)
+        }
+        Outcome::Refused { terminal, error } => {
+            let number = terminal.saturating_add(1);
+            let reason = refusal_text(*error);
+            let line = line_at(bytes, *terminal).unwrap_or("");
+            format!(in alloc; "tokens: {file}:{number}: {reason}\n    {line}\n")
+        }
+        Outcome::Ambiguous {
             match0,
             match1,
             word,
-        } => clash_explained(alloc, bytes, *match0, *match1, word.values()),
-        _ => Ok(String::new(alloc)),
+        } => clash_explained(alloc, file, bytes, (*match0, *match1), word.values()),
+        // These report nothing.
+        Outcome::Match { .. } | Outcome::NoMatch | Outcome::All { .. } | Outcome::Stopped { .. } =>
+            Ok(String::new(alloc)),
     }
 }

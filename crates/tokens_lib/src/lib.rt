@@ -1,15 +1,20 @@
-//! Terminals as lines, the lexer that they give, and a program that cuts texts by it.
+//! Terminals as lines of a file, the lexer that they give, and the program `tokens`, which cuts files by it.
 #![tactic(auto)]
 
 mod building;
 mod clash_lines;
-mod cut_lines;
-mod error;
+mod command;
 mod explain;
+mod fault;
+mod program;
 mod quote;
-mod show;
+mod text;
+mod token_lines;
 
-pub use building::lexer_of;
-pub use error::BuildError;
+pub use building::{BuildError, lexer_of};
+pub use clash_lines::write_clashes;
+pub use command::{Command, command_of};
 pub use lalrpop_lexer::{Lexer, Token, TokenFault};
-pub use show::{Ended, Shown, Told, show_clashes, show_texts, show_tokens, status_of};
+pub use program::run_program;
+pub use text::{TextError, read_text};
+pub use token_lines::write_tokens;

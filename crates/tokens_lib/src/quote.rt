@@ -19,7 +19,7 @@ fn short_escape(c: char) -> Option<&'static str>
     }
 }
 
-fn push_told(text: &mut String, c: char) -> Result<(), AllocError>
+pub(crate) fn push_told(text: &mut String, c: char) -> Result<(), AllocError>
     ensures { OnOk result (string_bytes text.new ≡ string_bytes text.old ++ told c) }
 {
     if let Some(escape) = short_escape(c) {

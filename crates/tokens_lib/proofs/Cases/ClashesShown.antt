@@ -1,18 +1,26 @@
 -- Cases of specs/ClashesShown.antt.
-use Rattle.std.proofs.Common.{◌≡◌, ℕ, List, [], ◌∷◌, codes, refl}
+use Rattle.std.proofs.Common.{◌≡◌, ℕ, List, [], ◌∷◌, Some, None, codes, refl}
 use Rattle.std.specs.Fmt.{digits}
-use Rattle.tokens_lib.specs.declared.error.BuildError.TheVariants.{Ambiguous}
-use Rattle.tokens_lib.specs.declared.show.Ended.TheVariants.{Stopped, NoLexer}
-use Rattle.tokens_lib.specs.ClashesShown.{entry_line, AreClashesShown}
+use Rattle.lalrpop_lexer.specs.ClashList.{Entry}
+use Rattle.lexdfa_lib.specs.declared.outcome.Outcome.TheVariants.{Ambiguous, Line, NoMatch}
+use Rattle.tokens_lib.specs.ClashesShown.{entry_line, first_reported, AreListed, AreClashesShown}
+
+abbrev on_if : Entry
+on_if = record { match0 = 1; match1 = 0; word = 105 ∷ 102 ∷ [] }
 
 -- the line of a clash on `if`
-line_of_if : entry_line (record { match0 = 1; match1 = 0; word = 105 ∷ 102 ∷ [] }) ≡ codes "ambiguous 1 0 69 66\n"
+line_of_if : entry_line on_if ≡ codes "ambiguous 1 0 69 66\n"
 unfolding digits
 line_of_if = refl
 
--- no text is cut, and a clash is no error
-never_stopped : (bytes written : List ℕ) → ¬ AreClashesShown bytes written Stopped
-never_stopped bytes written h = h
+-- the first of some clashes is reported, and nothing where there is none
+reports : (cs : List Entry) → (first_reported [] ≡ None) × (first_reported (on_if ∷ cs) ≡ Some (Ambiguous 1 0 (105 ∷ 102 ∷ [])))
+reports cs = (refl, refl)
 
-a_clash_is_no_error : (bytes written word : List ℕ) (i j : ℕ) → ¬ AreClashesShown bytes written (NoLexer (Ambiguous i j word))
-a_clash_is_no_error bytes written word i j h = h.0
+-- of a bad line nothing is written
+bad_line_lists_nothing : (bytes : List ℕ) → AreListed bytes [] (Line 3) × ¬ AreListed bytes (codes "x") (Line 3)
+bad_line_lists_nothing bytes = (refl, λ h. absurd (cc))
+
+-- a text's outcome is no report
+no_match_is_no_report : (bytes written : List ℕ) → ¬ AreClashesShown bytes written (Some NoMatch)
+no_match_is_no_report bytes written h = h.0.1.1.1

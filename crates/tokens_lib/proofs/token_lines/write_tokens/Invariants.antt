@@ -1,0 +1,17 @@
+use Rattle.std.proofs.Common.{◌≡◌, ℕ, ◌≤◌, false, List, ◌++◌, string_bytes}
+use Rattle.std.specs.Prelude.{option_map}
+use Rattle.std.specs.Io.KnownBytes.{Appends}
+use Rattle.tokens_lib.proofs.TextLines.{AreLinesOf}
+use Rattle.tokens_lib.proofs.token_lines.write_tokens.Given as goal
+
+-- all items so far are tokens; of their lines some were sent, and the others are kept
+abbrev pub invariant-loop-item : goal.invariant-loop-item
+invariant-loop-item g l = record {
+  written : (sent : List ℕ)
+      × (Appends (g.W.Write.contents l.fn.writer.inner) (g.W.Write.contents l.writer.inner) sent
+      × AreLinesOf (option_map (λ f. f.now) l.file) l.text l.yielded (sent ++ string_bytes l.lines) l.count);
+  good : l.writer.failed ≡ false;
+  no_late : l.writer.late ≡ l.fn.writer.late;
+  text : l.places.text ≡ l.text;
+  walked : l.places.offset ≤ l.item-iterator.at;
+}

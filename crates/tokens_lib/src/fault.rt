@@ -1,0 +1,29 @@
+//! What is said of a place where no terminal matches.
+
+ghost use Rattle.std.specs.Str.{IsCharBoundary};
+
+use crate::quote::push_told;
+use lalrpop_lexer::Position;
+use std::alloc::{AllocError, Global};
+
+/// The line that says where the text couldn't be cut further, and shows the character that stands there.
+///
+/// # Errors
+///
+/// `AllocError` where a request for memory was refused.
+pub(crate) fn fault_message(
+    alloc: Global,
+    file: &str,
+    text: &str,
+    at: usize,
+) -> Result<String, AllocError>
+    requires boundary { IsCharBoundary text.now at }
+{
+    let Position { line, column } = Position::of(text, at);
+    let mut message = format!(in alloc; "tokens: {file}:{line}:{column}: no terminal matches \"")?;
+    if let Some(c) = text[at..].chars().next() {
+        push_told(&mut message, c)?;
+    }
+    message.push_str("\"\n")?;
+    Ok(message)
+}

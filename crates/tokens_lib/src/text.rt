@@ -1,0 +1,59 @@
+//! A text that is read from a file.
+ghost use Rattle.std.specs.Prelude.{◌≡◌, ◌≢◌, [], false, true, string_bytes, IfOk, OnOk, IfErr};
+ghost use Rattle.lexdfa_lib.specs.Watch.{ReadsAll};
+ghost use Rattle.tokens_lib.specs.Text.{IsTextError};
+
+use lexdfa_lib::{RunError, Watched, read_whole};
+use std::alloc::Global;
+use std::io::Read;
+use thiserror::Error;
+
+/// Why a file gave no text.
+#[derive(Debug, Drop, Error)]
+pub enum TextError {
+    /// The file holds no byte.
+    #[error("the file is empty")]
+    Empty,
+    /// The bytes before this one are UTF-8, and no character begins there.
+    #[error("not UTF-8 from byte {at} on")]
+    NotText { at: usize },
+    /// A read failed.
+    #[error("read failed")]
+    Read,
+    /// A request for memory was refused.
+    #[error("out of memory")]
+    OutOfMemory,
+}
+
+/// Reads a text to its end: all bytes that the reader has left, of which there is one at least.
+///
+/// # Errors
+///
+/// `Empty` where there is no byte, `NotText` where the bytes aren't UTF-8, `Read` where a read failed, and `OutOfMemory` where a
+/// request for memory was refused.
+pub fn read_text<R: Read>(alloc: Global, reader: &mut Watched<R>) -> Result<String, TextError>
+    requires reader_good { reader.old.failed ≡ false }
+    ensures text { IfOk result (λ text.
+        ReadsAll (R.remaining reader.old.inner) (R.remaining reader.new.inner) (string_bytes text)) }
+    ensures some { IfOk result (λ text. string_bytes text ≢ []) }
+    ensures error { IfErr result (λ e.
+        IsTextError (R.remaining reader.old.inner) (R.remaining reader.new.inner) e) }
+    ensures good { OnOk result (reader.new.failed ≡ false) }
+    ensures read { IfErr result (λ e. e ≡ TextError.Read → reader.new.failed ≡ true) }
+    ensures others { IfErr result (λ e. e ≢ TextError.Read → reader.new.failed ≡ false) }
+    ensures no_late_read { reader.new.late ≡ reader.old.late }
+{
+    let bytes = match read_whole(alloc, reader) {
+        Ok(bytes) => bytes,
+        Err(RunError::OutOfMemory) => return Err(TextError::OutOfMemory),
+        Err(_) => return Err(TextError::Read),
+    };
+    if bytes.is_empty() {
+        return Err(TextError::Empty);
+    }
+    if let Err(error) = str::from_utf8(&bytes) {
+        let at = error.valid_up_to();
+        return Err(TextError::NotText { at });
+    }
+    Ok(String::from_utf8(bytes).unwrap())
+}

@@ -1,0 +1,1 @@
+char *name = "it has no end;

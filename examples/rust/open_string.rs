@@ -1,0 +1,1 @@
+let name = "it has no end;

@@ -1,0 +1,126 @@
+#!/usr/bin/env python3
+"""Cuts texts into tokens, as the program `tokens` does, but with Python's `re`. The expected output of the examples was
+made with it:
+
+    cd examples/c && ../tokens.py $(cat args) > stdout
+
+Usage: tokens.py [--places] RULES FILE ...
+
+Each line of RULES is a terminal, `P l TEXT` for a literal or `P r PATTERN` for a pattern, with the precedence P. At
+each place the longest match wins; among terminals with a match of that length, the one with the greatest precedence.
+Each token is a line `TERMINAL BYTES "SLICE"`, which --places begins with `FILE:LINE:COLUMN: `. The last line of a text
+is `end`, or `none N` if no terminal matches at byte N. The exit status is 0, or 1 if there was a `none`."""
+import functools
+import re
+import sys
+import unicodedata
+import warnings
+from pathlib import Path
+
+# Where `re` would silently read a bracket in another way, as in [[:alpha:]] or [a-z&&b], it warns. Make that an error.
+warnings.simplefilter("error", FutureWarning)
+
+ESCAPES = {'"': '\\"', "\\": "\\\\", "\n": "\\n", "\r": "\\r", "\t": "\\t", "\0": "\\0"}
+
+# An identifier in Python is an underscore or a character of XID_Start, and then characters of XID_Continue.
+PROPERTIES = {
+    "XID_Start": lambda c: c.isidentifier() and c != "_",
+    "XID_Continue": lambda c: ("_" + c).isidentifier(),
+}
+
+
+@functools.cache
+def property_class(name):
+    """The class of the characters with a Unicode property, which `re` doesn't have."""
+    ranges = []
+    for code in range(sys.maxunicode + 1):
+        if PROPERTIES[name](chr(code)):
+            if ranges and ranges[-1][1] == code - 1:
+                ranges[-1][1] = code
+            else:
+                ranges.append([code, code])
+    return "[" + "".join(f"\\U{first:08x}-\\U{last:08x}" for first, last in ranges) + "]"
+
+
+def translated(pattern):
+    """The pattern in Python's syntax. It differs in [[:ascii:]&&[...]], \\p{NAME} outside brackets, and \\x{NUMBER}."""
+
+    def escape(it):
+        if it["name"]:
+            return property_class(it["name"])
+        return f"\\U{int(it['number'], 16):08x}" if it["number"] else it[0]
+
+    pattern = re.sub(r"\[\[:ascii:\]&&(\[(?:[^\]\\]|\\.)+\])\]", r"(?:(?=[\\x00-\\x7f])\1)", pattern)
+    return re.sub(r"\\(?:p\{(?P<name>\w+)\}|x\{(?P<number>\w+)\}|.)", escape, pattern)
+
+
+def terminals(rules):
+    """The precedence and the pattern of each terminal."""
+    for line in rules.removesuffix("\n").split("\n"):
+        precedence, kind, text = line.split(" ", 2)
+        yield int(precedence), {"l": re.escape, "r": translated}[kind](text)
+
+
+@functools.cache
+def at_least(pattern, length):
+    """The pattern, if it matches at least `length` characters: the look-behind needs so many before the match's end."""
+    return re.compile(f"(?:{pattern})(?<=(?s:.){{{length}}})")
+
+
+def longest(pattern, rest):
+    """The length in characters of the longest nonempty match at the start of `rest`, or 0.
+
+    `re` returns the first match that it finds, which need not be the longest. So ask for a longer one until there is
+    none. The last one is the longest, because `re` tries every way to match before it gives up."""
+    length = 0
+    while found := at_least(pattern, length + 1).match(rest):
+        length = found.end()
+    return length
+
+
+def cut(rules, text):
+    """The terminal and the slice of each token, up to the first place where no terminal matches."""
+    at = 0
+    while at < len(text):
+        rest = text[at:]
+        matches = [(longest(pattern, rest), precedence) for precedence, pattern in rules]
+        best = max(matches)
+        if best[0] == 0:
+            return
+        if matches.count(best) > 1:
+            raise ValueError(f"two terminals tie on {rest[:best[0]]!r}")
+        yield matches.index(best), rest[: best[0]]
+        at += best[0]
+
+
+def quoted(token):
+    def shown(c):
+        return ESCAPES.get(c) or (f"\\u{{{ord(c):x}}}" if unicodedata.category(c) == "Cc" else c)
+
+    return '"' + "".join(map(shown, token)) + '"'
+
+
+def main(words):
+    places = words[:1] == ["--places"]
+    rules_file, *files = words[places:]
+    rules = list(terminals(Path(rules_file).read_bytes().decode()))
+    status = 0
+    for file in files:
+        text = Path(file).read_bytes().decode()
+        before = ""
+        for terminal, token in cut(rules, text):
+            line, column = before.count("\n") + 1, len(before) - (before.rfind("\n") + 1) + 1
+            place = f"{file}:{line}:{column}: " if places else ""
+            print(f"{place}{terminal} {len(token.encode())} {quoted(token)}")
+            before += token
+        if before == text:
+            print("end")
+        else:
+            print(f"none {len(before.encode())}")
+            status = 1
+    return status
+
+
+if __name__ == "__main__":
+    sys.stdout.reconfigure(encoding="utf-8", newline="\n")
+    sys.exit(main(sys.argv[1:]))
