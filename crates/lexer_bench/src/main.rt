@@ -3,13 +3,14 @@
 //! for the parts that automata are built with; then the processor time is written too.
 #![tactic(auto)]
 
+mod cuts;
 mod keywords;
 mod lists;
 mod parts;
 mod patterns;
 mod texts;
 
-use lalrpop_lexer::lexer::dfa::interpret::interpret;
+use cuts::{Cut, Cutters, WAYS};
 use lalrpop_lexer::lexer::dfa::{Dfa, DfaStateIndex, Kind, START, State, build_dfa, clashes};
 use lalrpop_lexer::lexer::nfa::Test;
 use lalrpop_lexer::lexer::re::RegexError;
@@ -32,68 +33,46 @@ const LISTS: [&str; 6] = [
     "exactly 300",
 ];
 
-// What one cut of a text found.
-#[derive(Clone, Copy)]
-struct Cut {
-    tokens: u64,
-    skipped: u64,
-    // Of the places and the terminals of the tokens.
-    sum: u64,
-}
-
-// What stands behind the first bytes of the text.
-fn behind(text: &str, length: usize) -> &str {
-    text.get(length..).unwrap_or("")
-}
-
-fn cut_all(dfa: &Dfa, text: &str) -> Cut {
-    let mut cut = Cut {
-        tokens: 0,
-        skipped: 0,
-        sum: 0,
-    };
-    let mut rest = text;
-    for _ in 0..text.len() {
-        let Some(first) = rest.chars().next() else {
-            break;
-        };
-        rest = match interpret(dfa, rest) {
-            Some((terminal, word)) => {
-                cut.tokens = cut.tokens.wrapping_add(1);
-                cut.sum = cut
-                    .sum
-                    .wrapping_mul(31)
-                    .wrapping_add(terminal.index() as u64)
-                    .wrapping_add((word.len() as u64) << 32);
-                behind(rest, word.len())
-            }
-            None => {
-                cut.skipped = cut.skipped.wrapping_add(1);
-                behind(rest, first.len_utf8())
-            }
-        };
-    }
-    cut
-}
-
 fn tell_time(rt: &impl Print, what: &str, spent: Duration) -> io::Result<()> {
     let whole = spent.as_secs();
     let micros = spent.subsec_micros();
     println!(rt; "  {what}: {whole}.{micros:06} s")
 }
 
-fn tell_cut<R: CpuClock + Print>(rt: &R, dfa: &Dfa, text: &str, is_timed: bool) -> io::Result<()> {
-    let from = rt.process_cpu_time()?;
-    let cut = cut_all(dfa, text);
-    let spent = rt.process_cpu_time()?.saturating_sub(from);
+fn tell_cut(rt: &impl Print, name: &str, cut: Cut) -> io::Result<()> {
     let Cut {
         tokens,
-        skipped,
+        faults,
         sum,
     } = cut;
-    println!(rt; "  {tokens} tokens, {skipped} characters skipped, sum {sum:x}")?;
-    if is_timed {
-        tell_time(rt, "cut", spent)?;
+    println!(rt; "  {name}: {tokens} tokens, {faults} faults, sum {sum:x}")
+}
+
+// How often a text is cut in each way to be timed: in turn, since the processor is now faster, now slower.
+const CUTS: u32 = 8;
+
+// What cutting the text in each way gives, and the least time that it takes.
+fn tell_cuts<R: CpuClock + Print>(
+    rt: &R,
+    cutters: &Cutters,
+    text: &str,
+    is_timed: bool,
+) -> io::Result<()> {
+    let mut cuts = [Cut::none(); WAYS.len()];
+    let mut least = [Duration::MAX; WAYS.len()];
+    for _ in 0..if is_timed { CUTS } else { 1 } {
+        for place in 0..WAYS.len() {
+            let from = rt.process_cpu_time()?;
+            cuts[place] = cutters.cut(WAYS[place].0, text);
+            let spent = rt.process_cpu_time()?.saturating_sub(from);
+            least[place] = least[place].min(spent);
+        }
+    }
+    for place in 0..WAYS.len() {
+        tell_cut(rt, WAYS[place].1, cuts[place])?;
+        if is_timed {
+            tell_time(rt, "cut", least[place])?;
+        }
     }
     Ok(())
 }
@@ -216,17 +195,29 @@ fn tell_shape<R: Print + AllocGlobal>(rt: &R, dfa: &Dfa) -> io::Result<()> {
     println!(rt; "  {states} states, {edges} edges, sum {sum:x}")
 }
 
-// What cutting a text by the automaton gives, where there is a text for the list.
+// The text that a list is to cut, where there is one.
+fn text_for(alloc: Global, name: &str) -> Result<Option<String>, AllocError> {
+    match name {
+        "c" => Ok(Some(c_text(alloc)?)),
+        "unicode" => Ok(Some(unicode_text(alloc)?)),
+        _ => Ok(None),
+    }
+}
+
+// What cutting the list's text gives, where there is one.
 fn tell_text<R: CpuClock + Print + AllocGlobal>(
     rt: &R,
     name: &str,
-    dfa: &Dfa,
+    dfa: Dfa,
+    list: List,
     is_timed: bool,
 ) -> io::Result<()> {
-    match name {
-        "c" => tell_cut(rt, dfa, &c_text(rt.alloc())?, is_timed),
-        "unicode" => tell_cut(rt, dfa, &unicode_text(rt.alloc())?, is_timed),
-        _ => Ok(()),
+    let Some(text) = text_for(rt.alloc(), name)? else {
+        return Ok(());
+    };
+    match Cutters::new(rt.alloc(), dfa, list) {
+        Some(cutters) => tell_cuts(rt, &cutters, &text, is_timed),
+        None => println!(rt; "  no lexer"),
     }
 }
 
@@ -257,13 +248,13 @@ fn tell_clashes<R: CpuClock + Print + AllocGlobal>(rt: &R, list: &List) -> io::R
 fn tell_automaton<R: CpuClock + Print + AllocGlobal>(
     rt: &R,
     name: &str,
-    list: &List,
+    list: List,
     is_timed: bool,
 ) -> io::Result<()> {
-    match build(rt.alloc(), list) {
+    match build(rt.alloc(), &list) {
         Some(dfa) => {
             tell_shape(rt, &dfa)?;
-            tell_text(rt, name, &dfa, is_timed)
+            tell_text(rt, name, dfa, list, is_timed)
         }
         None => println!(rt; "  no automaton"),
     }
@@ -282,7 +273,7 @@ fn tell_list<R: CpuClock + Print + AllocGlobal>(
         tell_builds(rt, &list)?;
         tell_clashes(rt, &list)?;
     }
-    tell_automaton(rt, name, &list, is_timed)
+    tell_automaton(rt, name, list, is_timed)
 }
 
 // The sizes at which the parts are timed.

@@ -1,0 +1,136 @@
+//! A text is cut in three ways, which find the same.
+
+use crate::lists::List;
+use lalrpop_lexer::lexer::dfa::interpret::interpret;
+use lalrpop_lexer::lexer::dfa::{Dfa, NfaIndex};
+use lalrpop_lexer::{Lexer, tokens};
+use std::alloc::Global;
+
+/// How a text is cut.
+#[derive(Clone, Copy)]
+pub(crate) enum Way {
+    /// By a loop over `interpret`, which skips a character where nothing matches.
+    Loop,
+    /// By the tokens of an automaton, which end where nothing matches.
+    Tokens,
+    /// By the tokens of a lexer, which end there too.
+    Lexer,
+}
+
+pub(crate) const WAYS: [(Way, &str); 3] = [
+    (Way::Loop, "loop"),
+    (Way::Tokens, "tokens"),
+    (Way::Lexer, "lexer"),
+];
+
+/// What one cut of a text found.
+#[derive(Clone, Copy)]
+pub(crate) struct Cut {
+    pub(crate) tokens: u64,
+    /// Places at which nothing matches.
+    pub(crate) faults: u64,
+    /// Of the lengths and the terminals of the tokens.
+    pub(crate) sum: u64,
+}
+
+impl Cut {
+    pub(crate) fn none() -> Cut {
+        Cut {
+            tokens: 0,
+            faults: 0,
+            sum: 0,
+        }
+    }
+
+    fn add(&mut self, terminal: NfaIndex, length: usize) {
+        self.tokens = self.tokens.wrapping_add(1);
+        self.sum = self
+            .sum
+            .wrapping_mul(31)
+            .wrapping_add(terminal.index() as u64)
+            .wrapping_add((length as u64) << 32);
+    }
+
+    fn add_fault(&mut self) {
+        self.faults = self.faults.wrapping_add(1);
+    }
+}
+
+/// The same patterns as an automaton and as a lexer.
+#[derive(Drop)]
+pub(crate) struct Cutters {
+    dfa: Dfa,
+    lexer: Lexer,
+}
+
+impl Cutters {
+    /// Nothing, where the list has no lexer.
+    pub(crate) fn new(alloc: Global, dfa: Dfa, list: List) -> Option<Cutters> {
+        let List {
+            patterns,
+            precedences,
+            ..
+        } = list;
+        if patterns.len() != precedences.len() {
+            return None;
+        }
+        let lexer = Lexer::new(alloc, patterns, precedences).ok()?;
+        Some(Cutters { dfa, lexer })
+    }
+
+    pub(crate) fn cut(&self, way: Way, text: &str) -> Cut {
+        match way {
+            Way::Loop => cut_by_loop(&self.dfa, text),
+            Way::Tokens => cut_by_tokens(&self.dfa, text),
+            Way::Lexer => cut_by_lexer(&self.lexer, text),
+        }
+    }
+}
+
+// What stands behind the first bytes of the text.
+fn behind(text: &str, length: usize) -> &str {
+    text.get(length..).unwrap_or("")
+}
+
+fn cut_by_loop(dfa: &Dfa, text: &str) -> Cut {
+    let mut cut = Cut::none();
+    let mut rest = text;
+    for _ in 0..text.len() {
+        let Some(first) = rest.chars().next() else {
+            break;
+        };
+        rest = match interpret(dfa, rest) {
+            Some((terminal, word)) => {
+                cut.add(terminal, word.len());
+                behind(rest, word.len())
+            }
+            None => {
+                cut.add_fault();
+                behind(rest, first.len_utf8())
+            }
+        };
+    }
+    cut
+}
+
+fn cut_by_tokens(dfa: &Dfa, text: &str) -> Cut {
+    let mut cut = Cut::none();
+    for token in tokens(dfa, text) {
+        match token {
+            Ok((terminal, word)) => cut.add(terminal, word.len()),
+            Err(_) => cut.add_fault(),
+        }
+    }
+    cut
+}
+
+fn cut_by_lexer(lexer: &Lexer, text: &str) -> Cut {
+    let mut cut = Cut::none();
+    for token in lexer.tokens(text) {
+        match token {
+            Ok(token) => cut.add(token.index, token.slice.len()),
+            Err(_) => cut.add_fault(),
+        }
+    }
+    cut
+}
