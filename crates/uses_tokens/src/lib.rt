@@ -1,0 +1,7 @@
+//! How the library of the program `tokens` is called: for each promise of it a small caller that needs it.
+#![tactic(auto)]
+
+pub mod cut_a_file;
+pub mod list_clashes;
+pub mod read_rules;
+pub mod streams;
