@@ -85,6 +85,7 @@ pub fn to_be_drawn(
 }
 
 // Needs lalrpop_dfa::DfaConstructionError::from: ghost from_gives.
+// Needs lalrpop_dfa::DfaConstructionError::from: ghost from_gives.
 /// A precedence for each pattern: as in a list of rules, those before are the stronger ones.
 pub fn falling_precedences(
     alloc: Global,

@@ -3,7 +3,7 @@
 ghost use Rattle.std.specs.Prelude.{◌≡◌, ◌++◌, [], None, length, is_some, option_to_list};
 ghost use Rattle.lalrpop_nfa.specs.Firsts.{SameListsBut, index_of, with_index};
 
-use lalrpop_nfa::{Edge, EdgeLabel, Edges, State};
+use lalrpop_nfa::{Edge, EdgeLabel, Edges, Noop, Other, State, Test};
 
 // Needs lalrpop_nfa::EdgeLabel::vec: value.
 /// How many edges have labels of this kind.
@@ -47,4 +47,38 @@ pub fn take_first<L: EdgeLabel>(state: &mut State) -> Option<usize>
     ensures state { state.new ≡ with_index L.kind state.old None }
 {
     L::first_mut(state).take()
+}
+
+// Needs lalrpop_nfa::Noop::vec_mut: ghost with_list.
+/// Takes out the edges that read nothing.
+pub fn clear_noops(edges: &mut Edges)
+    ensures { edges.new ≡ record edges.old { noops = [] } }
+{
+    clear::<Noop>(edges);
+}
+
+// Needs lalrpop_nfa::Test::vec_mut: ghost with_list.
+// Needs lalrpop_nfa::Other::vec_mut: ghost with_list.
+/// Takes out the edges that read a value.
+pub fn keep_noops(edges: &mut Edges)
+    ensures { edges.new ≡ record { noops = edges.old.noops; tests = []; others = [] } }
+{
+    clear::<Test>(edges);
+    clear::<Other>(edges);
+}
+
+// Needs lalrpop_nfa::Noop::first: ghost kind.
+// Needs lalrpop_nfa::Test::first: ghost kind.
+// Needs lalrpop_nfa::Other::first: ghost kind.
+/// Whether edges of each kind leave the state: those that read nothing, those with a range, and others.
+pub fn has_edges(state: &State) -> (bool, bool, bool)
+    ensures noops { result.0 ≡ is_some state.now.first_noop_edge }
+    ensures tests { result.1 ≡ is_some state.now.first_test_edge }
+    ensures others { result.2 ≡ is_some state.now.first_other_edge }
+{
+    (
+        has_edge::<Noop>(state),
+        has_edge::<Test>(state),
+        has_edge::<Other>(state),
+    )
 }
