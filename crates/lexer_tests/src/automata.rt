@@ -1,13 +1,13 @@
-//! The states of built automata, with the test edges of START.
+//! The states of built automata, with their test edges.
 
 use crate::built::{built, built_from, expect};
-use lalrpop_lexer::lexer::dfa::{Dfa, START};
+use lalrpop_lexer::lexer::dfa::{Dfa, DfaStateIndex, START};
 use lalrpop_lexer::lexer::re::Hir;
 use std::alloc::{AllocError, Global};
 use std::fmt::Write;
 
-// Lists of patterns, and below each what its states are for and where all that has no edge of its own leads, and then the edges
-// of the first state. States are numbered by the least words that lead to them, the shorter before the longer.
+// Lists of patterns, and below each what its states are for and where all that has no edge of its own leads, and then all edges:
+// no other state has one. States are numbered by the least words that lead to them, the shorter before the longer.
 const AUTOMATA: &str = r#"
 ""
 Reject Dfa0
@@ -40,6 +40,8 @@ Reject Dfa2
 Accepts(NfaIndex(0)) Dfa2
 Accepts(NfaIndex(1)) Dfa2
 Dfa0 -a-> Dfa1
+Dfa1 -b-> Dfa3
+Dfa3 -c-> Dfa4
 "#;
 
 fn write_states(out: &mut String, dfa: &Dfa) -> Result<(), AllocError> {
@@ -51,11 +53,18 @@ fn write_states(out: &mut String, dfa: &Dfa) -> Result<(), AllocError> {
     Ok(())
 }
 
-fn write_edges_of_start(out: &mut String, dfa: &Dfa) -> Result<(), AllocError> {
-    if START.index() < dfa.states().len() {
-        for (label, target) in dfa.test_edges(START) {
-            write!(out, "{START} -{label:?}-> {target}\n")?;
+fn write_edges_of(out: &mut String, dfa: &Dfa, state: DfaStateIndex) -> Result<(), AllocError> {
+    if state.index() < dfa.states().len() {
+        for (label, target) in dfa.test_edges(state) {
+            write!(out, "{state} -{label:?}-> {target}\n")?;
         }
+    }
+    Ok(())
+}
+
+fn write_edges(out: &mut String, dfa: &Dfa) -> Result<(), AllocError> {
+    for number in 0..dfa.states().len() {
+        write_edges_of(out, dfa, DfaStateIndex::new(number))?;
     }
     Ok(())
 }
@@ -63,7 +72,7 @@ fn write_edges_of_start(out: &mut String, dfa: &Dfa) -> Result<(), AllocError> {
 fn write_automaton(out: &mut String, words: &str, dfa: &Dfa) -> Result<(), AllocError> {
     write!(out, "\n{words:?}\n")?;
     write_states(out, dfa)?;
-    write_edges_of_start(out, dfa)
+    write_edges(out, dfa)
 }
 
 // Writes the patterns, and below them their automaton.

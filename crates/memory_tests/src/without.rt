@@ -185,10 +185,18 @@ fn has_fixed_states(nfa: &Nfa) -> bool {
         && has_kind(nfa, START, StateKind::Neither, true, false)
 }
 
+fn is_numbered(state: NfaStateIndex, number: usize) -> bool {
+    state.index() == number && state == NfaStateIndex::new(number)
+}
+
+fn has_numbered_states() -> bool {
+    is_numbered(ACCEPT, 0) && is_numbered(REJECT, 1) && is_numbered(START, 2)
+}
+
 fn one_tree_is_shown(alloc: Global) -> Result<bool, AllocError> {
     let nfa = nfa_for(alloc, "a")?;
     from_here_on(alloc);
-    Ok(has_fixed_states(&nfa))
+    Ok(has_fixed_states(&nfa) && has_numbered_states())
 }
 
 #[test]

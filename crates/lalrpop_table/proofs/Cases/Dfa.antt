@@ -7,7 +7,7 @@ use Rattle.lalrpop_hir.specs.Range.{Range}
 use Rattle.lalrpop_hir.specs.Tree.{Tree, literal}
 use Rattle.lalrpop_hir.specs.Language.{Matches}
 use Rattle.lalrpop_table.specs.Winners.{TreeMatches, Matched}
-use Rattle.lalrpop_table.specs.Dfa.{Row, edge_target, step, run, after, IsRightKind, IsReject, Recognizes, AreAscendingTests, IsWellFormed}
+use Rattle.lalrpop_table.specs.Dfa.{Row, StoredState, IsStored, AreStored, edge_target, step, run, after, IsRightKind, IsReject, Recognizes, AreAscendingTests, IsWellFormed}
 use Rattle.lalrpop_table.specs.declared.Kind.TheVariants.{Accepts, Reject, Neither}
 
 abbrev a : Tree
@@ -37,6 +37,56 @@ abbrev leaves_reject : List Row
 leaves_reject =
     record { kind = Neither; tests = (between 97 97, 1) ∷ []; other = 2; items = (0, 2) ∷ (0, 3) ∷ [] } ∷ accepting
     ∷ record { kind = Reject; tests = []; other = 0; items = (0, 1) ∷ [] } ∷ []
+
+-- ---- states as they are kept
+
+abbrev starting : Row
+starting = record { kind = Neither; tests = (between 97 97, 1) ∷ []; other = 2; items = (0, 2) ∷ (0, 3) ∷ [] }
+
+-- the test edge of START is the first of all, and no other state has one
+abbrev stored_starting : StoredState
+stored_starting = record { kind = Neither; other = 2; items = (0, 2) ∷ (0, 3) ∷ []; first = 0; count = 1 }
+
+abbrev stored_accepting : StoredState
+stored_accepting = record { kind = Accepts 0; other = 2; items = (0, 0) ∷ []; first = 1; count = 0 }
+
+abbrev stored_rejecting : StoredState
+stored_rejecting = record { kind = Reject; other = 2; items = (0, 1) ∷ []; first = 1; count = 0 }
+
+-- where its edges stand is the list's affair, and how many there are is the state's
+state_is_stored : IsStored starting stored_starting × IsStored starting (record stored_starting { first = 7 })
+state_is_stored = (record { kind = refl; other = refl; items = refl; count = refl }, record { kind = refl; other = refl; items = refl; count = refl })
+
+state_with_two_edges_is_another : ¬ IsStored starting (record stored_starting { count = 2 })
+state_with_two_edges_is_another s = let e : 2 ≡ 1 = s.count in omega (arith, e)
+
+state_of_another_kind_is_another : ¬ IsStored accepting (record stored_accepting { kind = Accepts 1 })
+state_of_another_kind_is_another s = let e : Accepts 1 ≡ Accepts 0 = s.kind in absurd (cc)
+
+state_with_another_edge_is_another : ¬ IsStored rejecting (record stored_rejecting { other = 0 })
+state_with_another_edge_is_another s = let e : 0 ≡ 2 = s.other in omega (arith, e)
+
+state_with_other_items_is_another : ¬ IsStored rejecting (record stored_rejecting { items = [] })
+state_with_other_items_is_another s = let none : List (ℕ × ℕ) = [] in let e : none ≡ (0, 1) ∷ [] = s.items in absurd (cc)
+
+states_are_stored : AreStored automaton_of_a (stored_starting ∷ stored_accepting ∷ stored_rejecting ∷ [])
+states_are_stored = record { same_length = refl; each = each }
+  where
+    same : (r0 r : Row) (s0 s : StoredState) → Some r0 ≡ Some r → Some s0 ≡ Some s → IsStored r0 s0 → IsStored r s
+    same r0 r s0 s e f h = let g : r0 ≡ r = cc in let k : s0 ≡ s = cc in subst (λ x. IsStored x s) g (subst (λ y. IsStored r0 y) k h)
+
+    each : (p : ℕ) (r : Row) (s : StoredState) → slice_get automaton_of_a p ≡ Some r → slice_get (stored_starting ∷ stored_accepting ∷ stored_rejecting ∷ []) p ≡ Some s → IsStored r s
+    each zero r s e f = same starting r stored_starting s e f (record { kind = refl; other = refl; items = refl; count = refl })
+    each (suc zero) r s e f = same accepting r stored_accepting s e f (record { kind = refl; other = refl; items = refl; count = refl })
+    each (suc (suc zero)) r s e f = same rejecting r stored_rejecting s e f (record { kind = refl; other = refl; items = refl; count = refl })
+    each (suc (suc (suc p))) r s e f = absurd (cc)
+
+-- all of them, and in their order
+missing_state_is_not_stored : ¬ AreStored automaton_of_a (stored_starting ∷ stored_accepting ∷ [])
+missing_state_is_not_stored a = let e : 2 ≡ 3 = a.same_length in omega (arith, e)
+
+swapped_states_are_not_stored : ¬ AreStored (accepting ∷ rejecting ∷ []) (stored_rejecting ∷ stored_accepting ∷ [])
+swapped_states_are_not_stored a = let e : Reject ≡ Accepts 0 = (a.each 0 accepting stored_rejecting refl refl).kind in absurd (cc)
 
 -- ---- where words lead
 

@@ -1,5 +1,6 @@
 -- Cases of specs/SameAutomata.antt.
-use Rattle.std.proofs.Common.{◌≡◌, [], ◌∷◌, true, false, refl, arith}
+use Rattle.std.proofs.Common.{◌≡◌, ℕ, zero, suc, [], ◌∷◌, Some, true, false, refl, sym, ap, subst, ◌∙◌, arith}
+use Rattle.std.specs.Prelude.{slice_get}
 use Rattle.lalrpop_table.specs.Dfa.{Row}
 use Rattle.lalrpop_table.specs.SameAutomata.{same_kind, same_test, same_state, same_row, same_automaton, IsSameState, IsSameAutomaton}
 use Rattle.lalrpop_table.specs.declared.Kind.TheVariants.{Accepts, Reject, Neither}
@@ -64,3 +65,26 @@ automata_that_do_not_agree = (
   (λ s. let e : 1 ≡ 0 = s.same_length in omega (arith, e)),
   (λ s. let e : [] ≡ (between 97 97, 0) ∷ [] = s.tests 0 rejecting with_a_test refl refl in absurd (cc)),
 )
+
+automaton_agrees_with_itself : IsSameAutomaton automaton_of_a automaton_of_a
+automaton_agrees_with_itself = record {
+  same_length = refl;
+  states = λ p r s e f. let g : r ≡ s = cc in subst (IsSameState r) g (state_agrees_with_itself r);
+  tests = λ p r s e f. let g : r ≡ s = cc in ap (λ (x : Row). x.tests) g;
+}
+
+-- items do not count
+automata_with_other_items_agree : IsSameAutomaton (rejecting ∷ []) (with_an_item ∷ [])
+automata_with_other_items_agree = record { same_length = refl; states = states; tests = tests }
+  where
+    states : (p : ℕ) (r s : Row) → slice_get (rejecting ∷ []) p ≡ Some r → slice_get (with_an_item ∷ []) p ≡ Some s → IsSameState r s
+    states zero r s e f = let g : rejecting ≡ r = cc in let k : with_an_item ≡ s = cc in record { kind = ap (λ (x : Row). x.kind) (sym g) ∙ ap (λ (x : Row). x.kind) k; other = ap (λ (x : Row). x.other) (sym g) ∙ ap (λ (x : Row). x.other) k }
+    states (suc p) r s e f = absurd (cc)
+
+    tests : (p : ℕ) (r s : Row) → slice_get (rejecting ∷ []) p ≡ Some r → slice_get (with_an_item ∷ []) p ≡ Some s → r.tests ≡ s.tests
+    tests zero r s e f = let g : rejecting ≡ r = cc in let k : with_an_item ≡ s = cc in ap (λ (x : Row). x.tests) (sym g) ∙ ap (λ (x : Row). x.tests) k
+    tests (suc p) r s e f = absurd (cc)
+
+-- an automaton with another other edge does not
+automata_with_other_edges_do_not_agree : ¬ IsSameAutomaton (rejecting ∷ []) (with_another_edge ∷ [])
+automata_with_other_edges_do_not_agree s = states_that_do_not_agree (s.states 0 rejecting with_another_edge refl refl)

@@ -1,0 +1,102 @@
+//! The automaton of a list of patterns with precedences: built, and what is known of it.
+
+ghost use Rattle.std.specs.Prelude.{◌≡◌, ◌<◌, ◌≤◌, ℕ, List, length, map, IfOk, IfErr, IfSome, IfNone};
+ghost use Rattle.std.specs.Option.{option_map};
+ghost use Rattle.lalrpop_dfa.specs.Clash.{NoClash};
+ghost use Rattle.lalrpop_dfa.specs.Items.{HoldsItems, OthersReject, IsInWordOrder};
+ghost use Rattle.lalrpop_dfa.specs.Report.{NoFault, IsReport};
+ghost use Rattle.lalrpop_dfa.specs.declared.error.DfaConstructionError.TheVariants.{OutOfMemory};
+ghost use Rattle.lalrpop_items.specs.Automata.{AreCompiled};
+ghost use Rattle.lalrpop_nfa.specs.Graph.{Graph};
+ghost use Rattle.lalrpop_table.specs.Counts.{state_bound};
+ghost use Rattle.lalrpop_table.specs.Dfa.{Recognizes};
+ghost use Rattle.lalrpop_table.specs.Longest.{IsLongest};
+
+use lalrpop_dfa::interpret::interpret;
+use lalrpop_dfa::{Dfa, DfaConstructionError, NfaIndex, Precedence, build_dfa};
+use lalrpop_hir::Regex;
+use std::alloc::Global;
+
+// Needs lalrpop_dfa::build_dfa: ok.
+// Needs lalrpop_table::interpret: answer.
+/// The longest match of the text, with the strongest pattern that matches it.
+pub fn match_once<'text>(
+    alloc: Global,
+    regexs: &[Regex],
+    precedences: &[Precedence],
+    text: &'text str,
+) -> Result<Option<(NfaIndex, &'text str)>, DfaConstructionError>
+    requires { length regexs.now ≡ length precedences.now }
+    ensures { IfOk result (λ found. IsLongest regexs.now (map (λ p. p.0) precedences.now)
+        text.now (option_map (λ m. (m.0, m.1.now)) found)) }
+{
+    let dfa = build_dfa(alloc, regexs, precedences)?;
+    Ok(interpret(&dfa, text))
+}
+
+// Needs lalrpop_dfa::build_dfa: ok, err.
+/// Why there is no automaton; nothing where no pattern has a fault and no word is ambiguous.
+pub fn why_not(
+    alloc: Global,
+    regexs: &[Regex],
+    precedences: &[Precedence],
+) -> Option<DfaConstructionError>
+    requires { length regexs.now ≡ length precedences.now }
+    ensures report { IfSome result (λ e.
+        IsReport regexs.now (map (λ p. p.0) precedences.now) e) }
+    ensures no_fault { IfNone result (NoFault regexs.now) }
+    ensures no_clash { IfNone result (NoClash regexs.now (map (λ p. p.0) precedences.now)) }
+{
+    build_dfa(alloc, regexs, precedences).err()
+}
+
+// Needs lalrpop_dfa::build_dfa: bound.
+// Needs lalrpop_table::Dfa::states: states.
+/// How many states the automaton has.
+pub fn state_count(
+    alloc: Global,
+    regexs: &[Regex],
+    precedences: &[Precedence],
+) -> Result<usize, DfaConstructionError>
+    requires { length regexs.now ≡ length precedences.now }
+    ensures { IfOk result (λ count. count ≤ state_bound regexs.now) }
+{
+    let dfa = build_dfa(alloc, regexs, precedences)?;
+    Ok(dfa.states().len())
+}
+
+// Needs lalrpop_dfa::build_dfa: ok, items, others, order.
+/// The automaton, for one who draws it: each state holds the items that its words lead to, its ranges are the partition of
+/// the labels there, its other edge leads to a reject state, and states that don't reject stand in the order of their words.
+pub fn to_be_drawn(
+    alloc: Global,
+    regexs: &[Regex],
+    precedences: &[Precedence],
+) -> Result<Dfa, DfaConstructionError>
+    requires { length regexs.now ≡ length precedences.now }
+    ensures recognizes { IfOk result (λ dfa.
+        Recognizes dfa regexs.now (map (λ p. p.0) precedences.now)) }
+    ensures items { IfOk result (λ dfa.
+        (ns : List Graph) × AreCompiled regexs.now ns × HoldsItems ns dfa) }
+    ensures others { IfOk result OthersReject }
+    ensures order { IfOk result IsInWordOrder }
+{
+    build_dfa(alloc, regexs, precedences)
+}
+
+// Needs lalrpop_dfa::DfaConstructionError::from: ghost from_gives.
+// Needs lalrpop_dfa::DfaConstructionError::from: ghost from_gives.
+/// A precedence for each pattern: as in a list of rules, those before are the stronger ones.
+pub fn falling_precedences(
+    alloc: Global,
+    count: usize,
+) -> Result<Vec<Precedence>, DfaConstructionError>
+    ensures count { IfOk result (λ ps. length ps.items ≡ count) }
+    ensures refused { IfErr result (λ e. e ≡ OutOfMemory) }
+{
+    let mut precedences = Vec::with_capacity(alloc, count)?;
+    for index in 0..count {
+        precedences.push(Precedence(count - index))?;
+    }
+    Ok(precedences)
+}

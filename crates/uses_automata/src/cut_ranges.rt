@@ -1,0 +1,43 @@
+//! The partition of the ranges of a set.
+
+ghost use Rattle.std.specs.Prelude.{◌≡◌, ◌+◌, ◌-◌, ◌*◌, ◌≤◌, List, length, IfOk};
+ghost use Rattle.std.specs.List.{Contains, count_by};
+ghost use Rattle.lalrpop_hir.specs.Range.{Range};
+ghost use Rattle.lalrpop_ranges.specs.Partition.{IsPartition, has_value};
+
+use lalrpop_ranges::overlap::{remove_overlap, remove_overlap_counted};
+use lalrpop_ranges::{Steps, Test};
+use std::alloc::{AllocError, Global};
+use std::collections::BTreeSet;
+
+// Needs lalrpop_ranges::remove_overlap: partition, count.
+/// How many blocks the ranges have.
+pub fn block_count(alloc: Global, ranges: &BTreeSet<Test>) -> Result<usize, AllocError>
+    ensures blocks { IfOk result (λ count. (blocks : List Range)
+        × IsPartition (Contains ranges.now.keys) blocks × (count ≡ length blocks)) }
+    ensures few { IfOk result (λ count. count ≤ 2 * count_by has_value ranges.now.keys - 1) }
+{
+    let blocks = remove_overlap(alloc, ranges)?;
+    Ok(blocks.len())
+}
+
+// Needs lalrpop_ranges::remove_overlap_counted: partition, count, never_falls, cost.
+/// The blocks of each of two sets of ranges, on one counter.
+pub fn blocks_of_both(
+    alloc: Global,
+    left: &BTreeSet<Test>,
+    right: &BTreeSet<Test>,
+    steps: &mut Steps,
+) -> Result<(Vec<Test>, Vec<Test>), AllocError>
+    ensures left { IfOk result (λ both. IsPartition (Contains left.now.keys) both.0.items) }
+    ensures right { IfOk result (λ both. IsPartition (Contains right.now.keys) both.1.items) }
+    ensures few { IfOk result (λ both.
+        length both.0.items ≤ 2 * count_by has_value left.now.keys - 1) }
+    ensures never_falls { steps.old ≤ steps.new }
+    ensures cost { steps.new ≤ steps.old + 2 * count_by has_value left.now.keys
+        + 2 * count_by has_value right.now.keys }
+{
+    let left_blocks = remove_overlap_counted(alloc, left, steps)?;
+    let right_blocks = remove_overlap_counted(alloc, right, steps)?;
+    Ok((left_blocks, right_blocks))
+}

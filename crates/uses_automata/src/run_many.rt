@@ -1,0 +1,62 @@
+//! The automaton of a list of patterns, run over a text.
+
+ghost use Rattle.std.specs.Prelude.{◌≡◌, ◌≢◌, ℕ, ◌+◌, ◌*◌, ◌^◌, ◌<◌, ◌≤◌, [], length, List, IfSome};
+ghost use Rattle.std.specs.Option.{option_map};
+ghost use Rattle.std.specs.Str.{chars};
+ghost use Rattle.lalrpop_hir.specs.Tree.{Tree};
+ghost use Rattle.lalrpop_nfa.specs.Prefix.{IsPrefix};
+ghost use Rattle.lalrpop_table.specs.Counts.{HaveAtMost};
+ghost use Rattle.lalrpop_table.specs.Dfa.{Recognizes};
+ghost use Rattle.lalrpop_table.specs.Longest.{IsLongest};
+
+use lalrpop_items::NfaIndex;
+use lalrpop_ranges::Steps;
+use lalrpop_table::Dfa;
+use lalrpop_table::interpret::{interpret, interpret_counted, interpret_probed};
+
+// Needs lalrpop_table::interpret: answer, prefix.
+/// The longest match of the text, with the strongest pattern that matches it.
+pub fn longest<'text>(dfa: &Dfa, text: &'text str) -> Option<(NfaIndex, &'text str)>
+    ensures answer { (ts : List Tree) (ps : List ℕ) → Recognizes dfa.now ts ps
+        → IsLongest ts ps text.now (option_map (λ m. (m.0, m.1.now)) result) }
+    ensures prefix { IfSome result (λ m. IsPrefix m.1.now text.now × (m.1.now ≢ [])) }
+{
+    interpret(dfa, text)
+}
+
+// Needs lalrpop_table::interpret_counted: answer, prefix, never_falls, cost.
+/// Runs the automaton over two texts, on one counter.
+pub fn counted_over_two<'text>(
+    dfa: &Dfa,
+    first: &'text str,
+    second: &'text str,
+    steps: &mut Steps,
+) -> Option<(NfaIndex, &'text str)>
+    ensures answer { (ts : List Tree) (ps : List ℕ) → Recognizes dfa.now ts ps
+        → IsLongest ts ps second.now (option_map (λ m. (m.0, m.1.now)) result) }
+    ensures prefix { IfSome result (λ m. IsPrefix m.1.now second.now × (m.1.now ≢ [])) }
+    ensures never_falls { steps.old ≤ steps.new }
+    ensures cost { steps.new ≤ steps.old + length (chars first.now) + length (chars second.now) }
+{
+    let _ = interpret_counted(dfa, first, steps);
+    interpret_counted(dfa, second, steps)
+}
+
+// Needs lalrpop_table::interpret_probed: answer, prefix, never_falls, cost, probed.
+/// Runs the automaton over a text, and counts the ranges that are compared too.
+pub fn probed<'text>(
+    dfa: &Dfa,
+    text: &'text str,
+    steps: &mut Steps,
+    probes: &mut Steps,
+) -> Option<(NfaIndex, &'text str)>
+    ensures answer { (ts : List Tree) (ps : List ℕ) → Recognizes dfa.now ts ps
+        → IsLongest ts ps text.now (option_map (λ m. (m.0, m.1.now)) result) }
+    ensures prefix { IfSome result (λ m. IsPrefix m.1.now text.now × (m.1.now ≢ [])) }
+    ensures never_falls { (steps.old ≤ steps.new) × (probes.old ≤ probes.new) }
+    ensures cost { steps.new ≤ steps.old + length (chars text.now) }
+    ensures probed { (n d : ℕ) → HaveAtMost dfa.now n → n < 2 ^ d
+        → probes.new ≤ probes.old + length (chars text.now) * d }
+{
+    interpret_probed(dfa, text, steps, probes)
+}
