@@ -1,7 +1,9 @@
 -- The names of lists of trees, and names that differ.
-use Rattle.std.proofs.Common.{◌≡◌, ℕ, zero, suc, Bor, map, drop, cond, arith, nat_cmp, ◌+◌, ◌<◌, Bool, true, false, not, ◌&&◌, ◌||◌, List, [], ◌∷◌, ◌++◌, length, take, get_or, refl, sym, ap, ◌∙◌, inl, inr, append_assoc, bytes_eq}
+use Rattle.std.proofs.Common.{◌≡◌, ℕ, zero, suc, Bor, map, drop, cond, arith, nat_cmp, Some, option_map, slice_get, ◌+◌, ◌<◌, Bool, true, false, not, ◌&&◌, ◌||◌, List, [], ◌∷◌, ◌++◌, length, take, get_or, refl, sym, ap, ◌∙◌, inl, inr, append_assoc, bytes_eq}
 use Rattle.std.specs.List.{list_any}
-use Rattle.std.proofs.lemmas.List.{append-nil, take_more, map_more, map-append}
+use Rattle.std.proofs.lemmas.List.{append-nil, take_more, map_more, map-append, take-map}
+use Rattle.std.proofs.lemmas.Option.{slice_get-map, slice_get-get_or}
+use Rattle.std.proofs.lemmas.Map.Views.{Contains-from_any}
 use Rattle.std.specs.Ordering.{is_eq}
 use Rattle.std.specs.Cmp.Lexicographic.{slice_cmp}
 use Rattle.std.proofs.lemmas.Map.Text.{is_eq-slice_cmp}
@@ -11,7 +13,7 @@ use Rattle.std.proofs.lemmas.List.Folds.{list_any-append}
 use Rattle.std.proofs.lemmas.Slice.Eq.{bytes_eq-Decides}
 use Rattle.lalrpop_hir.specs.Tree.{Tree}
 use Rattle.lalrpop_hir.specs.Parts.{trees}
-use Rattle.lalrpop_grammar.specs.GroupName.{names, all_names, are_distinct}
+use Rattle.lalrpop_grammar.specs.GroupName.{names, all_names, are_distinct, IsFirstRepeated}
 use Rattle.lalrpop_grammar.proofs.Steps.{or_cases, or_parts}
 
 all_names-append : (ts us : List Tree) → all_names (trees (ts ++ us)) ≡ all_names (trees ts) ++ all_names (trees us)
@@ -77,6 +79,17 @@ repeated_at xs i d h k =
     ap (λ (ys : List (Bor (List ℕ))). are_distinct (map (λ n. n.now) ys)) (sym (split_at xs i d h))
     ∙ ap are_distinct (map-append (λ (n : Bor (List ℕ)). n.now) (take i xs) (get_or xs i d ∷ drop (suc i) xs))
     ∙ met_again (map (λ n. n.now) (take i xs)) (get_or xs i d).now (map (λ n. n.now) (drop (suc i) xs)) k
+
+-- at the first name that repeats one
+pub first_at : (xs : List (Bor (List ℕ))) (i : ℕ) (d : Bor (List ℕ)) → i < length xs → are_distinct (map (λ n. n.now) (take i xs)) ≡ true → list_any (bytes_eq (get_or xs i d).now) (map (λ n. n.now) (take i xs)) ≡ true
+    → IsFirstRepeated (map (λ n. n.now) xs) i
+first_at xs i d h k e =
+    let same = take-map (λ (n : Bor (List ℕ)). n.now) i xs in
+    let here : slice_get (map (λ n. n.now) xs) i ≡ Some (get_or xs i d).now = slice_get-map (λ (n : Bor (List ℕ)). n.now) xs i ∙ ap (option_map (λ (n : Bor (List ℕ)). n.now)) (slice_get-get_or xs i d h) in
+    record {
+      distinct = ap are_distinct same ∙ k;
+      repeats = rw (here, same) (Contains-from_any (λ a b. (bytes_eq-Decides a b).0) (get_or xs i d).now (map (λ n. n.now) (take i xs)) e);
+    }
 
 pub distinct_more : (xs : List (Bor (List ℕ))) (i : ℕ) (d : Bor (List ℕ)) → i < length xs → are_distinct (map (λ n. n.now) (take i xs)) ≡ true → list_any (bytes_eq (get_or xs i d).now) (map (λ n. n.now) (take i xs)) ≡ false
     → are_distinct (map (λ n. n.now) (take (i + 1) xs)) ≡ true

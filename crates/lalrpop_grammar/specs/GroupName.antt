@@ -1,6 +1,6 @@
 -- cases: proofs/Cases/GroupName.antt
 -- The names of groups.
-use Rattle.std.specs.Prelude.{ℕ, Bool, true, false, not, ◌&&◌, ◌||◌, List, [], ◌∷◌, ◌++◌, Option, Some, None, bytes_eq}
+use Rattle.std.specs.Prelude.{ℕ, Bool, true, false, not, ◌&&◌, ◌||◌, IsTrue, List, [], ◌∷◌, ◌++◌, take, slice_get, Contains, Option, Some, None, IsSomeAnd, bytes_eq}
 use Rattle.std.specs.List.{list_all, list_any}
 use Rattle.unicode.specs.Binary.{is_alphabetic}
 use Rattle.unicode.specs.GeneralCategory.{general_category}
@@ -46,3 +46,8 @@ unfoldable mutual
 abbrev pub are_distinct : List (List ℕ) → Bool
 are_distinct [] = true
 are_distinct (n ∷ ns) = not (list_any (bytes_eq n) ns) && are_distinct ns
+
+-- the place of the first name that repeats one: those before it differ, and it is one of them
+pub record IsFirstRepeated (ns : List (List ℕ)) (i : ℕ) : Type 0 where
+  pub distinct : IsTrue (are_distinct (take i ns))
+  pub repeats : IsSomeAnd (slice_get ns i) (λ name. Contains (take i ns) name)

@@ -1,7 +1,7 @@
 //! The names of a pattern's groups, no two of which may be equal.
-ghost use Rattle.std.specs.Prelude.{◌≡◌, ◌++◌, map, not, is_some, option_map, IfOk, OnOk};
+ghost use Rattle.std.specs.Prelude.{◌≡◌, ◌++◌, map, not, is_some, option_map, IfSome, IfOk, OnOk};
 ghost use Rattle.lalrpop_hir.specs.Parts.{trees};
-ghost use Rattle.lalrpop_grammar.specs.GroupName.{name_of, names, all_names, are_distinct};
+ghost use Rattle.lalrpop_grammar.specs.GroupName.{name_of, names, all_names, are_distinct, IsFirstRepeated};
 
 use lalrpop_hir::{Hir, HirKind};
 use std::alloc::{AllocError, Global};
@@ -14,6 +14,7 @@ use std::collections::BTreeSet;
 /// `AllocError` where a request for memory was refused.
 pub fn repeated_name(alloc: Global, tree: &Hir) -> Result<Option<usize>, AllocError>
     ensures repeated { IfOk result (λ place. is_some place ≡ not (are_distinct (names tree.now))) }
+    ensures first { IfOk result (λ place. IfSome place (IsFirstRepeated (names tree.now))) }
 {
     let mut found = Vec::new(alloc);
     collect_names(tree, &mut found)?;
@@ -62,8 +63,10 @@ fn add_name<'a>(name: Option<&'a str>, found: &mut Vec<&'a str>) -> Result<(), A
 
 // The place of the first name that equals one before it.
 fn first_repeated(alloc: Global, found: &[&str]) -> Result<Option<usize>, AllocError>
-    ensures { IfOk result (λ place.
+    ensures repeated { IfOk result (λ place.
         is_some place ≡ not (are_distinct (map (λ n. n.now) found.now))) }
+    ensures first { IfOk result (λ place.
+        IfSome place (IsFirstRepeated (map (λ n. n.now) found.now))) }
 {
     let mut seen = BTreeSet::new(alloc);
     for i in 0..found.len() {

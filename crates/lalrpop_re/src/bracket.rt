@@ -16,6 +16,7 @@ use lalrpop_grammar::{Flags, RegexError, SyntaxKind, leaf_of_range, leaf_of_set}
 use lalrpop_hir::{ClassUnicode, ClassUnicodeRange};
 use lalrpop_sets::posix_class;
 use std::alloc::{AllocError, Global};
+use std::mem;
 
 /// The set that a bracket spells, and how deep its syntax is nested.
 #[derive(Drop)]
@@ -233,6 +234,7 @@ fn parse_operand(
     ensures deep { IfOk result (λ b. b.depth ≤ room) }
 {
     let mut ranges = lead_ranges(cursor.alloc(), cursor.flags(), lead)?;
+    let mut joined = 0;
     let mut depth = 0;
     while !ends_operand(cursor) {
         if cursor.rest().is_empty() {
@@ -240,9 +242,26 @@ fn parse_operand(
         }
         let item_depth = parse_item(cursor, room, &mut ranges)?;
         depth = depth.max(item_depth);
+        joined = join_doubled(&mut ranges, joined)?;
     }
     let class = ClassUnicode::new(cursor.alloc(), ranges)?;
     Ok(BracketSet { class, depth })
+}
+
+// Joins the ranges where they are more than twice as many as they were once joined, and gives how many they are then.
+// So items that overlap take no more memory than about twice what their union takes.
+fn join_doubled(ranges: &mut Vec<ClassUnicodeRange>, joined: usize) -> Result<usize, AllocError>
+    ensures { OnOk result ((s : Set) → HasMembers ranges.old.items s
+        → HasMembers ranges.new.items s) }
+{
+    if ranges.len() / 2 <= joined {
+        return Ok(joined);
+    }
+    let alloc = *ranges.allocator();
+    let gathered = mem::replace(ranges, Vec::new(alloc));
+    let class = ClassUnicode::new(alloc, gathered)?;
+    ranges.extend_from_slice(class.ranges())?;
+    Ok(ranges.len())
 }
 
 // Ranges that cover the character of a lead alone.

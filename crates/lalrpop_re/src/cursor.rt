@@ -1,5 +1,5 @@
 //! A place in a pattern, with the flags that hold there.
-ghost use Rattle.std.specs.Prelude.{◌≡◌, ◌<◌, ◌≤◌, nat_eq, length, drop, vec_len, slice_get, IsTrue, IfOk};
+ghost use Rattle.std.specs.Prelude.{◌≡◌, ◌<◌, ◌≤◌, ◌++◌, ◌∷◌, [], nat_eq, length, drop, vec_len, slice_get, unwrap_or, IsTrue, IfOk, OnOk};
 ghost use Rattle.std.specs.List.{starts_with};
 ghost use Rattle.std.specs.Str.{chars};
 
@@ -20,7 +20,7 @@ pub(crate) struct Cursor {
 
 impl Cursor {
     ghost use Rattle.lalrpop_grammar.specs.Flag.{no_flags};
-    ghost use Rattle.lalrpop_re.specs.Internal.Views.{text_from, text, unread};
+    ghost use Rattle.lalrpop_re.specs.Internal.Views.{text_from, text, unread, place_of};
 
     /// Stands before the first character, with no flag set.
     #[tactic(auto, unfolding(crate::specs::Internal::Views::text_from), using(std::proofs::lemmas::Str::chars_from_encodes))]
@@ -99,13 +99,16 @@ impl Cursor {
     pub(crate) fn note_name(&mut self, place: usize) -> Result<(), AllocError>
         ensures text { text self.new ≡ text self.old }
         ensures flags { self.new.flags ≡ self.old.flags }
+        ensures named { OnOk result (self.new.named.items ≡ self.old.named.items ++ place ∷ []) }
     {
         self.named.push(place)?;
         Ok(())
     }
 
     /// Where the group with the name of this number opened.
-    pub(crate) fn named_place(&self, number: usize) -> usize {
+    pub(crate) fn named_place(&self, number: usize) -> usize
+        ensures { result ≡ place_of self.now number }
+    {
         let place = self.named.get(number).copied();
         place.unwrap_or(self.position)
     }

@@ -1,5 +1,5 @@
 //! Patterns: groups, alternations, concatenations and repetitions.
-ghost use Rattle.std.specs.Prelude.{◌≡◌, ◌+◌, ◌-◌, ◌^◌, ◌<◌, ◌≤◌, suc, max, drop, Bool, true, false, List, [], ◌∷◌, ◌++◌, length, option_map, string_bytes, IfSome, IfOk, IfErr, OnOk, IsTrue, if◌then◌else◌};
+ghost use Rattle.std.specs.Prelude.{◌≡◌, ◌+◌, ◌-◌, ◌^◌, ◌<◌, ◌≤◌, suc, max, drop, Bool, true, false, List, [], ◌∷◌, ◌++◌, length, option_map, Some, None, string_bytes, IfSome, IfOk, IfErr, OnOk, IsTrue, if◌then◌else◌};
 ghost use Rattle.std.specs.Str.{chars, IsCharBoundary};
 ghost use Rattle.lalrpop_hir.specs.Counts.{AreOrdered};
 ghost use Rattle.lalrpop_hir.specs.Tree.{Tree, repetition, capture};
@@ -7,9 +7,10 @@ ghost use Rattle.lalrpop_grammar.specs.Text.{begins};
 ghost use Rattle.lalrpop_grammar.specs.Pattern.{Pattern, most_levels, is_special, escaped_tree, ends_branch, branch, choice};
 ghost use Rattle.lalrpop_grammar.specs.Escape.{Escaped};
 ghost use Rattle.lalrpop_grammar.specs.Flag.{no_flags};
+ghost use Rattle.lalrpop_grammar.specs.GroupName.{names, are_distinct};
 ghost use Rattle.lalrpop_re.specs.Refusal.{HasNoTree, PointsInto};
 ghost use Rattle.lalrpop_grammar.specs.Internal.Reading.{is_at_operator, all_operators, atom, piece, enclosed, whole_row, all_branches, begin, inside, read};
-ghost use Rattle.lalrpop_re.specs.Internal.Views.{text, unread, Gives, StandsForEscaped};
+ghost use Rattle.lalrpop_re.specs.Internal.Views.{text, unread, Gives, PointsAtRepeated, StandsForEscaped};
 ghost use Rattle.lalrpop_re.specs.Internal.Parts.{group_or_directive, step, escaped_part, bracket_part, part, line, whole, step_of};
 
 use crate::bracket::{BracketSet, parse_bracket};
@@ -64,7 +65,7 @@ impl Row {
     }
 }
 
-/// The tree of a pattern, by the grammar that the files of `specs/` give.
+/// The tree of a pattern, by the grammar that the files of `specs/` in the crate `lalrpop_grammar` give.
 ///
 /// # Errors
 ///
@@ -114,10 +115,20 @@ fn parse_to_end(cursor: &mut Cursor) -> Result<Hir, RegexError>
     if !cursor.rest().is_empty() {
         return Err(cursor.error(SyntaxKind::UnopenedGroup));
     }
-    if let Some(number) = repeated_name(cursor.alloc(), &tree)? {
-        return Err(error_at(cursor.named_place(number), SyntaxKind::GroupName));
-    }
+    check_names(cursor, &tree)?;
     Ok(tree)
+}
+
+// Refuses a tree with a name that two of its groups have, at the group with the first name that repeats one.
+fn check_names(cursor: &Cursor, tree: &Hir) -> Result<(), RegexError>
+    ensures value { Gives (λ _. tree.now) result
+        (if are_distinct (names tree.now) then Some tree.now else None) }
+    ensures place { IfErr result (PointsAtRepeated (names tree.now) cursor.now) }
+{
+    match repeated_name(cursor.alloc(), tree)? {
+        None => Ok(()),
+        Some(number) => Err(error_at(cursor.named_place(number), SyntaxKind::GroupName)),
+    }
 }
 
 // Reads an expression that no group encloses, where all levels are left.

@@ -1,4 +1,4 @@
 -- Small cases of the definitions in specs/: Cases/X.antt has those of specs/X.antt.
-mod CharacterSet
+pub mod CharacterSet
 mod NamedSet
 mod PosixSet

@@ -1,4 +1,4 @@
-mod Cases
+pub mod Cases
 pub mod CanonLaws
 pub mod SpanLaws
 mod SetNameLaws

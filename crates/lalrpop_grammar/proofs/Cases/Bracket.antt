@@ -1,12 +1,16 @@
 -- Brackets that are easy to get wrong, each with the set that it spells, or none.
-use Rattle.std.proofs.Common.{◌≡◌, ℕ, suc, ◌<◌, Bool, true, false, IsTrue, IsFalse, List, [], ◌∷◌, ◌++◌, Option, Some, None, refl, codes, lit<, lit≤, ap, get_or, arith, sym, ◌∙◌}
+use Rattle.std.proofs.Common.{◌≡◌, ℕ, suc, ◌<◌, Bool, true, false, not, ◌||◌, IsTrue, IsFalse, List, [], ◌∷◌, ◌++◌, Option, Some, None, refl, codes, lit<, lit≤, ap, get_or, arith, sym, ◌∙◌}
+use mathlib.Core.Bool.{xor}
 use Rattle.lalrpop_grammar.specs.Text.{Text}
 use Rattle.lalrpop_sets.specs.CharacterSet.{Set}
 use Rattle.lalrpop_grammar.specs.Escape.{sign}
-use Rattle.lalrpop_grammar.specs.Bracket.{Posix, a_class, a_complement, NoPosix, Primary, escaped, plain, Stands, a_character, a_set, Hyphens, last, more, Lead, hyphens, closing, none, Item, a_posix, a_bracket, a_primary, a_range, Operand, no_item, item_then, Operands, first, operated, Bracket, a_bracket_of, a_negated_of, Difference, Intersection}
+use Rattle.lalrpop_grammar.specs.Bracket.{Posix, a_class, a_complement, NoPosix, Primary, escaped, plain, Stands, a_character, a_set, Hyphens, last, more, Lead, hyphens, closing, none, Item, a_posix, a_bracket, a_primary, a_range, Operand, no_item, item_then, Operands, first, operated, Bracket, a_bracket_of, a_negated_of, Difference, Intersection, SymmetricDifference}
 use Rattle.lalrpop_grammar.specs.Internal.Reading as reading
 use Rattle.lalrpop_grammar.proofs.BracketLaws.{bracket_sound, Bracket-complete}
+use Rattle.lalrpop_grammar.specs.declared.flags.Flags.{Flags}
 use Rattle.lalrpop_grammar.specs.Flag.{no_flags}
+use Rattle.lalrpop_sets.specs.CharacterSet.{just, fold}
+use Rattle.lalrpop_sets.proofs.Cases.CharacterSet.{other_case_is_folded, other_letter_is_not_folded}
 
 -- a set that a whole bracket spells, which passes a test
 abbrev Spells : List ℕ → (Set → Type 0) → Type 0
@@ -44,6 +48,62 @@ hyphen_at_the_end = (_, _, a_bracket_of refl (first (none refl refl) (item_then 
 a_and_nothing : Spells (codes "[a&&]") (λ s. s 97 ≡ false)
 a_and_nothing = (_, _, a_bracket_of refl (operated Intersection (first (none refl refl) (item_then (alone_at refl refl refl) (no_item refl))) (no_item refl)), refl)
 
+-- `[ab~~bc]`: what is in one of the operands alone
+in_one_operand_alone : Spells (codes "[ab~~bc]") (λ s. (s 97 ≡ true) × (s 98 ≡ false) × (s 99 ≡ true) × (s 126 ≡ false))
+unfolding xor
+in_one_operand_alone = (
+  _,
+  _,
+  a_bracket_of refl (operated SymmetricDifference (first (none refl refl) (item_then (alone_at refl refl refl) (item_then (alone_at refl refl refl) (no_item refl))))
+      (item_then (alone_at refl refl refl) (item_then (alone_at refl refl refl) (no_item refl)))),
+  (refl, refl, refl, refl),
+)
+
+-- `[!-&&b]`: at the far end of a range `&` stands for itself, and the one behind it for itself too
+range_up_to_an_ampersand : Spells (codes "[!-&&b]") (λ s. (s 33 ≡ true) × (s 34 ≡ true) × (s 38 ≡ true) × (s 98 ≡ true) × (s 97 ≡ false))
+range_up_to_an_ampersand = (
+  _,
+  _,
+  a_bracket_of refl (first (none refl refl) (item_then (a_range refl (plain refl) refl (plain refl) (lit≤ tt)) (item_then (alone_at refl refl refl) (item_then (alone_at refl refl refl) (no_item refl))))),
+  (refl, refl, refl, refl, refl),
+)
+
+-- ---- under the flag `i`
+
+abbrev folding : Flags
+folding = record no_flags { case_insensitive = true }
+
+-- `[a]` has `A` too, and no other letter
+folded_item : (s : Set) × (d : ℕ) × Bracket folding (codes "[a]") [] s d × (s 65 ≡ true) × ¬ (s 98 ≡ true)
+folded_item = (
+  _,
+  _,
+  a_bracket_of refl (first (none refl refl) (item_then (a_primary refl (plain refl) refl a_character) (no_item refl))),
+  either (fold (just 97) 65) other_case_is_folded,
+  λ h. other_letter_is_not_folded (alone (fold (just 97) 98) h),
+)
+  where
+    either : (b : Bool) → b ≡ true → (b || false) ≡ true
+    either true h = refl
+    either false h = h
+
+    alone : (b : Bool) → (b || false) ≡ true → b ≡ true
+    alone true h = refl
+    alone false h = h
+
+-- `[^a]` has neither, since the complement is taken last
+complement_of_folded_item : (s : Set) × (d : ℕ) × Bracket folding (codes "[^a]") [] s d × (s 65 ≡ false)
+complement_of_folded_item = (
+  _,
+  _,
+  a_negated_of (first (none refl refl) (item_then (a_primary refl (plain refl) refl a_character) (no_item refl))),
+  neither (fold (just 97) 65) other_case_is_folded,
+)
+  where
+    neither : (b : Bool) → b ≡ true → (not (b || false)) ≡ false
+    neither true h = refl
+    neither false h = absurd cc
+
 -- `[[a]-c]`
 no_posix_a : NoPosix (codes "[a]-c]")
 no_posix_a r s negated h = starts _ _ _ _ h refl
@@ -68,6 +128,14 @@ set_as_an_end_of_a_range : (r : Text) (s : Set) (d : ℕ) → Bracket no_flags (
 unfolding reading.bracket reading.bracket_with reading.operands reading.lead reading.operand reading.item reading.item_or reading.posix reading.simple_item reading.primary reading.escape reading.signed sign
 set_as_an_end_of_a_range r s d b =
     let none : reading.bracket no_flags (suc d) (codes "[\\d-x]") ≡ None = refl in
+    let k : ◌≡◌ {A = Option reading.SetPart} (Some (record { set = s; depth = d; rest = r })) None = sym (Bracket-complete b (suc d) (omega arith)) ∙ none in
+    absurd cc
+
+-- `[a-&&b]` has none: `a-&` is a range, with its ends reversed
+range_down_to_an_ampersand : (r : Text) (s : Set) (d : ℕ) → Bracket no_flags (codes "[a-&&b]") r s d → ⊥
+unfolding reading.bracket reading.bracket_with reading.operands reading.lead reading.operand reading.item reading.item_or reading.posix reading.simple_item reading.primary
+range_down_to_an_ampersand r s d b =
+    let none : reading.bracket no_flags (suc d) (codes "[a-&&b]") ≡ None = refl in
     let k : ◌≡◌ {A = Option reading.SetPart} (Some (record { set = s; depth = d; rest = r })) None = sym (Bracket-complete b (suc d) (omega arith)) ∙ none in
     absurd cc
 

@@ -1,19 +1,20 @@
 -- Patterns that are easy to get wrong: each spells the tree that stands behind it, and no other (`one_tree`), or none at all.
-use Rattle.std.proofs.Common.{◌≡◌, ℕ, Bool, true, false, not, cond, List, [], ◌∷◌, Some, None, refl, codes, lit<, lit≤, ◌++◌}
+use Rattle.std.proofs.Common.{◌≡◌, ℕ, zero, suc, max, sym, ap, ◌∙◌, arith, add-one, Bool, true, false, not, cond, Option, List, [], ◌∷◌, Some, None, refl, codes, lit<, lit≤, ◌++◌}
+use lib.Utf8.{encode}
 use Rattle.lalrpop_hir.specs.Range.{Range}
 use Rattle.lalrpop_hir.specs.Tree.{Tree, literal, class, unicode, repetition, look, empty, alternation, concat, capture}
 use Rattle.lalrpop_hir.specs.Parts.{trees}
 use Rattle.lalrpop_hir.specs.declared.hir.Look.TheVariants.{WordUnicode}
-use Rattle.lalrpop_grammar.specs.Text.{Text}
+use Rattle.lalrpop_grammar.specs.Text.{Text, begins}
 use Rattle.lalrpop_sets.specs.CharacterSet.{fold, just, canon}
 use Rattle.lalrpop_grammar.specs.declared.flags.Flags.{Flags}
 use Rattle.lalrpop_grammar.specs.Flag.{no_flags, on, on_and_off}
-use Rattle.lalrpop_grammar.specs.GroupName.{names}
+use Rattle.lalrpop_grammar.specs.GroupName.{names, are_distinct}
 use Rattle.lalrpop_grammar.specs.Escape.{escape_of, edge_alone, sign}
 use Rattle.lalrpop_grammar.specs.Operator.{optional, any_number, exactly, Count, count, alone, turned, decimal}
-use Rattle.lalrpop_grammar.specs.Pattern.{a_literal, an_escape, a_capture, an_atom, repeated, no_piece, a_directive, piece_then, last_branch, branch_then, of_branches, Pattern, literal_tree, is_one_member}
+use Rattle.lalrpop_grammar.specs.Pattern.{a_literal, an_escape, a_capture, a_named_too, an_atom, Piece, Expression, repeated, no_piece, a_directive, piece_then, last_branch, branch_then, of_branches, Pattern, literal_tree, is_one_member}
 use Rattle.lalrpop_grammar.specs.Internal.Reading as reading
-use Rattle.lalrpop_grammar.proofs.PatternLaws.{missing}
+use Rattle.lalrpop_grammar.proofs.PatternLaws.{Expression-complete, missing}
 
 -- the second `?` belongs to the first, the third is an operator of its own
 a_lazy_one_under_a_greedy_one : Pattern (codes "a???") (repetition 0 (Some 1) true (repetition 0 (Some 1) false (literal (codes "a"))))
@@ -101,6 +102,70 @@ repeated_twice = record {
   flat = lit≤ tt;
   distinct = refl;
 }
+
+-- ---- how deep a place may be, and names
+
+-- a text behind n times `*`
+stars : ℕ → Text → Text
+stars zero r = r
+stars (suc n) r = stars n (codes "*" ++ r)
+
+-- `a` under n operators
+starred : ℕ → Tree
+starred zero = literal (codes "a")
+starred (suc n) = repetition 0 None true (starred n)
+
+under_stars : (n : ℕ) (r : Text) → begins "?" r ≡ false → Piece no_flags (97 ∷ stars n r) r (starred n) n
+unfolding stars starred
+under_stars zero r h = an_atom (a_literal refl)
+under_stars (suc n) r h = rw (add-one n) at (repeated (under_stars n (codes "*" ++ r) refl) (alone any_number h))
+
+reads_stars : (n : ℕ) → Expression no_flags (97 ∷ stars n []) [] (starred n) no_flags (max n 0)
+reads_stars n = of_branches (last_branch (piece_then (under_stars n [] refl) (no_piece refl)) refl)
+
+no_names_under_stars : (n : ℕ) → names (starred n) ≡ []
+unfolding names starred
+no_names_under_stars zero = refl
+no_names_under_stars (suc n) = no_names_under_stars n
+
+-- a place may be inside 250 repetitions
+most_levels_are_a_pattern : Pattern (97 ∷ stars 250 []) (starred 250)
+most_levels_are_a_pattern = record {
+  flags = _;
+  levels = _;
+  reads = reads_stars 250;
+  flat = lit≤ tt;
+  distinct = ap are_distinct (no_names_under_stars 250);
+}
+
+-- and inside no more
+one_level_more_is_no_pattern : (t : Tree) → Pattern (97 ∷ stars 251 []) t → ⊥
+one_level_more_is_no_pattern t p =
+    let reading = sym (Expression-complete (reads_stars 251) 251 (lit≤ tt)) ∙ Expression-complete p.reads 251 (omega (arith, p.flat)) in
+    let deep : 251 ≡ p.levels = ap depth_of reading in
+    omega (arith, deep, p.flat)
+  where
+    depth_of : Option reading.Whole → ℕ
+    depth_of None = 0
+    depth_of (Some w) = w.depth
+
+-- groups may have names that differ
+two_names : Pattern (codes "(?<_>)(?<__>)") (concat (trees (capture (Some (codes "_")) empty ∷ capture (Some (codes "__")) empty ∷ [])))
+unfolding names encode
+two_names = record {
+  flags = _;
+  levels = _;
+  reads =
+      of_branches (last_branch (piece_then (an_atom (a_named_too (codes "_") refl (of_branches (last_branch (no_piece refl) refl))))
+      (piece_then (an_atom (a_named_too (codes "__") refl (of_branches (last_branch (no_piece refl) refl)))) (no_piece refl))) refl);
+  flat = lit≤ tt;
+  distinct = refl;
+}
+
+-- and no two the same one
+name_stands_twice : (t : Tree) → Pattern (codes "(?<_>)(?<_>)") t → ⊥
+unfolding reading.read reading.inside reading.expression_with reading.branches reading.row reading.row_step reading.directive_at reading.opening reading.piece reading.atom reading.group reading.enclosed reading.operators reading.name_at names encode
+name_stands_twice = missing (codes "(?<_>)(?<_>)") refl
 
 -- an operator has to have something before it
 pub operator_alone : (t : Tree) → Pattern (codes "*a") t → ⊥

@@ -2,11 +2,54 @@
 use Rattle.std.proofs.Common.{◌≡◌, ℕ, ◌<◌, ◌≤◌, ◌⊎◌, inl, inr, List, [], ◌∷◌, refl, arith}
 use Rattle.std.proofs.lemmas.Bool.{cases_lt}
 use Rattle.lalrpop_hir.specs.Range.{Range, Covered}
-use Rattle.lalrpop_hir.specs.Runs.{IsScalar, IsByte, next_scalar, next_byte, AreApart, HaveEndsIn, IsCanonical, IsCanon, AreByteRuns, IsByteCanon}
+use Rattle.lalrpop_hir.specs.Runs.{InEither, InBoth, InFirstAlone, InJustOne, IsScalar, IsByte, next_scalar, next_byte, AreApart, HaveEndsIn, IsCanonical, IsCanon, AreByteRuns, IsByteCanon}
 
 -- the range from the first value to the second
 abbrev between : ℕ → ℕ → Range
 between s e = record { start = s; end = e }
+
+-- a-c and b-d
+abbrev low : List Range
+low = between 97 99 ∷ []
+
+abbrev high : List Range
+high = between 98 100 ∷ []
+
+-- `d` is in one of them, `b` in both, `a` in the first alone, and both `a` and `d` in just one
+values_of_two_lists : InEither low high 100 × InBoth low high 98 × InFirstAlone low high 97 × InJustOne low high 97 × InJustOne low high 100
+values_of_two_lists = (
+  inr (inl (omega arith, omega arith)),
+  (inl (omega arith, omega arith), inl (omega arith, omega arith)),
+  (inl (omega arith, omega arith), below),
+  inl (inl (omega arith, omega arith), below),
+  inr (inl (omega arith, omega arith), above),
+)
+  where
+    below : ¬ Covered high 97
+    below (inl h) = omega (arith, h.0)
+    below (inr h) = h
+
+    above : ¬ Covered low 100
+    above (inl h) = omega (arith, h.1)
+    above (inr h) = h
+
+-- `e` is in neither, `a` not in both, `b` not in the first alone, nor `c` in just one
+values_outside_of_two_lists : (¬ InEither low high 101) × (¬ InBoth low high 97) × (¬ InFirstAlone low high 98) × (¬ InJustOne low high 99)
+values_outside_of_two_lists = (in_either, in_both, λ h. h.1 (inl (omega arith, omega arith)), in_just_one)
+  where
+    in_either : ¬ InEither low high 101
+    in_either (inl (inl h)) = omega (arith, h.1)
+    in_either (inl (inr h)) = h
+    in_either (inr (inl h)) = omega (arith, h.1)
+    in_either (inr (inr h)) = h
+
+    in_both : ¬ InBoth low high 97
+    in_both (a, inl h) = omega (arith, h.0)
+    in_both (a, inr h) = h
+
+    in_just_one : ¬ InJustOne low high 99
+    in_just_one (inl h) = h.1 (inl (omega arith, omega arith))
+    in_just_one (inr h) = h.1 (inl (omega arith, omega arith))
 
 -- the values beside the surrogates are scalar values
 neighbours_of_surrogates_are_scalar : IsScalar 0xD7FF × IsScalar 0xE000

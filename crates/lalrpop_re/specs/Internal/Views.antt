@@ -1,5 +1,5 @@
 -- How the parser's values stand to those of the grammar.
-use Rattle.std.specs.Prelude.{◌≡◌, ◌↔◌, ℕ, List, length, drop, Option, Some, None, Result, Ok, Err, string_bytes}
+use Rattle.std.specs.Prelude.{◌≡◌, ◌↔◌, ℕ, List, length, drop, slice_get, unwrap_or, Option, Some, None, Result, Ok, Err, string_bytes}
 use Rattle.lalrpop_hir.specs.Range.{Range, Covered}
 use Rattle.lalrpop_hir.specs.Runs.{IsScalar}
 use Rattle.lalrpop_grammar.specs.declared.error.RegexError.{RegexError}
@@ -11,6 +11,8 @@ use Rattle.lalrpop_re.specs.declared.opening.GroupOpening.{GroupOpening}
 use Rattle.lalrpop_re.specs.declared.opening.GroupOpening.TheVariants.{Plain, Named, Flagged, Directive}
 use Rattle.lalrpop_re.specs.declared.bracket.BracketOperator.{BracketOperator}
 use Rattle.lalrpop_re.specs.declared.bracket.BracketOperator.TheVariants as operator
+use Rattle.lalrpop_grammar.specs.declared.error.SyntaxKind.TheVariants.{GroupName}
+use Rattle.lalrpop_grammar.specs.GroupName.{IsFirstRepeated}
 use Rattle.lalrpop_grammar.specs.Text.{Text}
 use Rattle.lalrpop_sets.specs.CharacterSet.{Set, Members, HasRuns}
 use Rattle.lalrpop_grammar.specs.Escape.{Escaped, character, set, assertion}
@@ -26,6 +28,10 @@ text c = text_from c.position c.chars.items
 
 abbrev pub unread : Cursor → ℕ
 unread c = length (text c)
+
+-- where the group with the name of this number opened
+abbrev pub place_of : Cursor → ℕ → ℕ
+place_of c number = unwrap_or (slice_get c.named.items number) c.position
 
 -- ---- sets
 
@@ -59,6 +65,11 @@ operator_view operator.SymmetricDifference = SymmetricDifference
 abbrev pub Refuses : {B : Type 0} → RegexError → Option B → Type 0
 Refuses (Syntax position kind) reading = reading ≡ None
 Refuses OutOfMemory reading = Unit {0}
+
+-- the refusal points at the group with the first name that repeats one
+abbrev pub PointsAtRepeated : List (List ℕ) → Cursor → RegexError → Type 0
+PointsAtRepeated ns c (Syntax position kind) = (number : ℕ) × IsFirstRepeated ns number × (position ≡ place_of c number) × (kind ≡ GroupName)
+PointsAtRepeated ns c OutOfMemory = Unit {0}
 
 -- what a function returned, seen by view, is the reading, memory aside
 abbrev pub Gives : {A B : Type 0} → (A → B) → Result A RegexError → Option B → Type 0

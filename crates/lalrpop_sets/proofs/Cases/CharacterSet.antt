@@ -47,11 +47,11 @@ some_value_below = (refl, refl)
 -- ---- folding
 
 -- `A` has the folding of `a`
-other_case_is_folded : fold (just 97) 65 ≡ true
+pub other_case_is_folded : fold (just 97) 65 ≡ true
 other_case_is_folded = (fold-is (just 97) 65 (inl (omega arith))).1 (97, inl (omega arith), refl, simple_fold-ascii 97 (omega arith) ∙ sym (simple_fold-ascii 65 (omega arith)))
 
 -- `b` hasn't
-other_letter_is_not_folded : ¬ (fold (just 97) 98 ≡ true)
+pub other_letter_is_not_folded : ¬ (fold (just 97) 98 ≡ true)
 other_letter_is_not_folded h =
     let found = (fold-is (just 97) 98 (inl (omega arith))).0 h in
     by_value found.0 (eqb-true found.0 97 found.2) (subst (λ d. simple_fold d ≡ simple_fold 98) (eqb-true found.0 97 found.2) found.3)

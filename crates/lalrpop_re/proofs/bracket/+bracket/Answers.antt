@@ -79,7 +79,7 @@ parse_operand-loop-cursor-preserved t c =
     record {
       value = (
         w.0 ++ i.0.set ∷ [],
-        HasMembers-gains c.loop-cursor.ranges.items c.parse_item.new.ranges.items w.0 i.0.set w.1 i.2.0,
+        c.in_ok-joined.ensures (union_all (w.0 ++ i.0.set ∷ [])) (HasMembers-gains c.loop-cursor.ranges.items c.parse_item.new.ranges.items w.0 i.0.set w.1 i.2.0),
         operand_turned c.loop-cursor.cursor.flags c.args.room c.parse_item.new.cursor.flags (record { sets = w.0; depth = c.loop-cursor.depth; rest = text c.loop-cursor.cursor }) i.0 c.max-depth.result c.in_ok-item_depth.item_depth (text c.parse_item.new.cursor)
             (sym c.ends_operand.ensures ∙ c.loop-cursor-test.true) i.1 c.in_ok-item_depth.ensures.flags i.2.1 deep i.2.2 ∙ w.2,
       );

@@ -2,10 +2,6 @@ use Rattle.std.proofs.Common.{rules}
 use Rattle.lalrpop_grammar.specs.Internal.Reading.{read}
 use Rattle.lalrpop_re.proofs.parser.parse_to_end.Goals as goal
 
-pub returns-in-Some : goal.returns-in-Some
-unfolding read
-returns-in-Some c = search rules
-
 pub returns : goal.returns
 unfolding read
 returns c = search rules
