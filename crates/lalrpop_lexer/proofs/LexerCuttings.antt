@@ -1,15 +1,15 @@
 -- What the calls of `next` give of a text that a lexer cuts.
-use Rattle.std.proofs.Common.{◌≡◌, ◌≢◌, ℕ, ◌+◌, ◌≤◌, List, [], ◌∷◌, ◌++◌, length, drop, map, arith, refl, sym, ap, subst, ◌∙◌}
+use Rattle.std.proofs.Common.{◌≡◌, ℕ, ◌+◌, ◌≤◌, List, [], ◌∷◌, ◌++◌, length, map, arith, refl, ap, ◌∙◌}
 use Rattle.std.specs.Prelude.{Option, Some, None, Result, Ok, Err}
 use Rattle.std.specs.Iterator.{Yields, Drains}
 use Rattle.std.specs.Str.{chars, IsUtf8}
 use Rattle.std.proofs.lemmas.List.{length-map}
 use Rattle.lalrpop_hir.specs.Tree.{Tree}
-use Rattle.lalrpop_table.specs.Dfa.{Row, Recognizes}
+use Rattle.lalrpop_table.specs.Dfa.{Row}
 use Rattle.lalrpop_dfa.specs.Clash.{NoClash}
 use Rattle.lalrpop_dfa.proofs.Strongest.{IsOnlyStrongest-from_greatest}
-use Rattle.lalrpop_lexer.specs.Cutting.{Cutting, Item, start_of, rest_of, GivesItem, AreItems, slices}
-use Rattle.lalrpop_lexer.specs.LexerTokens.{IsToken, AreTokens, GivesToken, bare}
+use Rattle.lalrpop_lexer.specs.Cutting.{Cutting, start_of, rest_of, GivesItem, AreItems, slices}
+use Rattle.lalrpop_lexer.specs.LexerTokens.{AreTokens, GivesToken, bare}
 use Rattle.lalrpop_lexer.specs.Rules.{IsBuiltFrom}
 use Rattle.lalrpop_lexer.specs.declared.lexer_token.Token.{Token}
 use Rattle.lalrpop_lexer.specs.declared.token.TokenFault.{TokenFault}

@@ -1,5 +1,5 @@
 -- The place behind one character more, and how far a text was walked over.
-use Rattle.std.proofs.Common.{◌≡◌, ℕ, ◌+◌, ◌-◌, ◌<◌, ◌≤◌, Bool, true, false, cond, List, [], ◌∷◌, ◌++◌, length, take, drop, reverse, arith, refl, sym, ap, subst, ◌∙◌, length-append, length-drop, length-take, append_assoc, append-nil}
+use Rattle.std.proofs.Common.{◌≡◌, ℕ, ◌+◌, ◌-◌, ◌≤◌, Bool, true, false, cond, List, [], ◌∷◌, ◌++◌, length, take, drop, arith, refl, sym, ap, ◌∙◌, length-append, length-drop, length-take, append_assoc, append-nil}
 use Rattle.std.specs.Prelude.{not}
 use Rattle.std.specs.List.{count_by, after_last, prefix_len, suffix_len}
 use Rattle.std.specs.Str.{chars, IsUtf8, IsCharBoundary}

@@ -2,7 +2,7 @@ pub mod Cutting
 pub mod LexerTokens
 pub mod Position
 pub mod Rules
--- what the public contracts of the crates below name
+-- what the public contracts of the crates below name: of patterns,
 pub use Rattle.lalrpop_hir.specs.Word
 pub use Rattle.lalrpop_hir.specs.Range
 pub use Rattle.lalrpop_hir.specs.Runs
@@ -12,9 +12,24 @@ pub use Rattle.lalrpop_hir.specs.Parts
 pub use Rattle.lalrpop_hir.specs.Size
 pub use Rattle.lalrpop_hir.specs.Level
 pub use Rattle.lalrpop_hir.specs.Language
+-- of patterns as texts,
+pub use Rattle.lalrpop_re.specs.CharacterSet
+pub use Rattle.lalrpop_re.specs.NamedSet
+pub use Rattle.lalrpop_re.specs.PosixSet
+pub use Rattle.lalrpop_re.specs.Text
+pub use Rattle.lalrpop_re.specs.Flag
+pub use Rattle.lalrpop_re.specs.GroupName
+pub use Rattle.lalrpop_re.specs.Escape
+pub use Rattle.lalrpop_re.specs.Bracket
+pub use Rattle.lalrpop_re.specs.Operator
+pub use Rattle.lalrpop_re.specs.Pattern
+pub use Rattle.lalrpop_re.specs.Escaped
+pub use Rattle.lalrpop_re.specs.Refusal
+-- of ranges and of the automaton of one pattern,
+pub use Rattle.lalrpop_ranges.specs.Meet
+pub use Rattle.lalrpop_ranges.specs.Partition
 pub use Rattle.lalrpop_nfa.specs.Fault
 pub use Rattle.lalrpop_nfa.specs.Prefix
-pub use Rattle.lalrpop_ranges.specs.Meet
 pub use Rattle.lalrpop_nfa.specs.Graph
 pub use Rattle.lalrpop_nfa.specs.Path
 pub use Rattle.lalrpop_nfa.specs.Compiled
@@ -23,17 +38,19 @@ pub use Rattle.lalrpop_nfa.specs.Firsts
 pub use Rattle.lalrpop_nfa.specs.StateView
 pub use Rattle.lalrpop_nfa.specs.Lending
 pub use Rattle.lalrpop_nfa.specs.Contiguous
-pub use Rattle.lalrpop_dfa.specs.Winners
+-- and of the automaton of a list of patterns; `Counts` is taken by that of trees
+pub use Rattle.lalrpop_kernels.specs.Kernels
+pub use Rattle.lalrpop_items.specs.Automata
+pub use Rattle.lalrpop_table.specs.Winners
+pub use Rattle.lalrpop_table.specs.Longest
+pub use Rattle.lalrpop_table.specs.Dfa
+pub use Rattle.lalrpop_table.specs.Written
+pub use Rattle.lalrpop_table.specs.Counts as StateCounts
+pub use Rattle.lalrpop_table.specs.SameAutomata
 pub use Rattle.lalrpop_dfa.specs.Clash
 pub use Rattle.lalrpop_dfa.specs.ClashList
-pub use Rattle.lalrpop_dfa.specs.Longest
 pub use Rattle.lalrpop_dfa.specs.Report
-pub use Rattle.lalrpop_ranges.specs.Partition
-pub use Rattle.lalrpop_dfa.specs.Dfa
-pub use Rattle.lalrpop_items.specs.Automata
 pub use Rattle.lalrpop_dfa.specs.Items
-pub use Rattle.lalrpop_kernels.specs.Kernels
-pub use Rattle.lalrpop_dfa.specs.SameAutomata
 pub use Rattle.lalrpop_dfa.specs.Agree
 -- what serves the proofs alone
 pub mod Internal

@@ -1,12 +1,11 @@
 -- Cases of specs/Cutting.antt.
-use Rattle.std.proofs.Common.{◌≡◌, ◌≢◌, ℕ, ◌+◌, List, [], ◌∷◌, ◌++◌, true, false, inl, inr, length, get_or, codes, refl, sym, ap, subst, ◌∙◌, arith}
-use Rattle.std.specs.Prelude.{Option, Some, None, Result, Ok, Err}
+use Rattle.std.proofs.Common.{◌≡◌, ◌≢◌, ℕ, ◌+◌, List, [], ◌∷◌, ◌++◌, true, inl, inr, length, get_or, codes, refl, sym, ap, subst, ◌∙◌, arith}
+use Rattle.std.specs.Prelude.{Some, None, Ok, Err}
 use Rattle.std.specs.Borrow.{Bor}
 use Rattle.lalrpop_hir.specs.Tree.{Tree}
 use Rattle.lalrpop_table.specs.Dfa.{Row}
 use Rattle.lalrpop_table.specs.Longest.{IsLongest}
-use Rattle.lalrpop_lexer.specs.Cutting.{Cutting, Item, start_of, rest_of, left_of, GivesItem, AreItems, slices}
-use Rattle.lalrpop_lexer.specs.declared.token.TokenFault.{TokenFault}
+use Rattle.lalrpop_lexer.specs.Cutting.{Cutting, Item, start_of, left_of, GivesItem, AreItems, slices}
 
 -- a token of pattern 0, and a fault
 abbrev token : Bor (List ℕ) → Item

@@ -1,5 +1,5 @@
 -- Cases of specs/Position.antt.
-use Rattle.std.proofs.Common.{◌≡◌, ◌≢◌, ℕ, List, [], ◌∷◌, codes, refl, ap, arith}
+use Rattle.std.proofs.Common.{◌≡◌, ◌≢◌, ℕ, ◌∷◌, codes, refl, ap, arith}
 use Rattle.std.specs.Str.{chars}
 use Rattle.lalrpop_lexer.specs.Position.{position_of}
 use Rattle.lalrpop_lexer.specs.declared.position.Position.{Position}

@@ -1,6 +1,20 @@
 -- Cases of specs/Watch.antt.
-use Rattle.std.proofs.Common.{◌≡◌, ℕ, zero, suc, List, [], ◌∷◌, length, get_or, take, Some, true, false, Ok, Err, refl, ap, arith}
-use Rattle.lexdfa_lib.specs.Watch.{read_failed, write_failed, ReadsAll, AppendsPrefix}
+use Rattle.std.proofs.Common.{◌≡◌, ◌≢◌, ℕ, zero, suc, List, [], ◌∷◌, length, get_or, take, Some, Bool, true, false, Ok, Err, refl, ap, arith}
+use Rattle.lexdfa_lib.specs.Watch.{Watch, late_after, read_failed, write_failed, ReadsAll, AppendsPrefix}
+
+-- an end, whether a call of it has failed, and the late calls so far
+abbrev end : Bool → ℕ → Watch ℕ
+end failed late = record { inner = 0; failed = failed; late = late }
+
+-- a call counts where one before it has failed, and not before that
+call_behind_a_failure : (late_after (end true 0) ≡ 1) × (late_after (end true 4) ≡ 5)
+call_behind_a_failure = (refl, refl)
+
+call_before_a_failure : late_after (end false 4) ≡ 4
+call_before_a_failure = refl
+
+call_behind_a_failure_not_counted : late_after (end true 4) ≢ 4
+call_behind_a_failure_not_counted e = let n : 5 ≡ 4 = e in omega (arith, n)
 
 -- a read fails by an error; to read nothing is no failure
 reads_that_fail : (read_failed {E = ℕ} (Err 0) ≡ true) × (read_failed {E = ℕ} (Ok 0) ≡ false)

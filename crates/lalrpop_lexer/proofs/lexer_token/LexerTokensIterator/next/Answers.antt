@@ -1,4 +1,3 @@
-use Rattle.std.proofs.Common.{◌≡◌}
 use Rattle.lalrpop_lexer.proofs.lexer_token.LexerTokensIterator.next.Goals as goal
 use Rattle.lalrpop_lexer.proofs.lexer_token.LexerTokensIterator.next.Goals.{in-Some-Ok, in-Some-Err, in-None}
 

@@ -1,6 +1,5 @@
-use Rattle.std.proofs.Common.{◌≡◌, refl, sym, ap, subst, ◌∙◌}
-use Rattle.lalrpop_lexer.specs.Cutting.{Cutting, start_of}
-use Rattle.lalrpop_lexer.specs.Rules.{IsBuiltFrom}
+use Rattle.std.proofs.Common.{◌≡◌, refl, ◌∙◌}
+use Rattle.lalrpop_lexer.specs.Cutting.{start_of}
 use Rattle.lalrpop_lexer.proofs.LexerCuttings.{tokens_from_start, token_parts_from_start, token_count_from_start, no_token_for_good}
 use Rattle.lalrpop_lexer.proofs.rules.Lexer.tokens.Goals as goal
 

@@ -1,6 +1,5 @@
-use Rattle.std.proofs.Common.{◌≡◌, ◌≢◌, ◌+◌, ◌<◌, [], length, refl, true, ap, arith, rules, length-drop}
-use Rattle.std.specs.Prelude.{Some, None, Ok, Err}
-use Rattle.std.specs.Str.{IsUtf8}
+use Rattle.std.proofs.Common.{◌≢◌, ◌+◌, ◌<◌, [], length, refl, true, ap, arith, rules, length-drop}
+use Rattle.std.specs.Prelude.{Ok, Err}
 use Rattle.std.proofs.lemmas.Str.{IsCharBoundary-from_rest}
 use Rattle.lalrpop_lexer.specs.Cutting.{Cutting, rest_of, left_of}
 use Rattle.lalrpop_lexer.proofs.Cuttings.{cut_behind, fewer}
