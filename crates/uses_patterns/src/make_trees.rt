@@ -1,5 +1,5 @@
 //! Trees, made by hand.
-ghost use Rattle.std.specs.Prelude.{◌≡◌, ◌∷◌, [], true, Some, None, string_bytes, IfOk};
+ghost use Rattle.std.specs.Prelude.{◌≡◌, ◌∷◌, [], Some, None, string_bytes, IfOk};
 ghost use Rattle.lalrpop_hir.specs.Counts.{AreOrdered};
 ghost use Rattle.lalrpop_hir.specs.Level.{class_of};
 ghost use Rattle.lalrpop_hir.specs.Parts.{trees, of_text};
@@ -19,27 +19,33 @@ pub fn text_or_nothing(alloc: Global, text: &str) -> Result<Hir, AllocError>
     Ok(Hir::alternation(branches))
 }
 
-/// One of the members, where a line begins.
+/// One of the members, at a place such as the beginning of a line.
 // Needs lalrpop_hir::Hir::class: tree.
 // Needs lalrpop_hir::Hir::look: tree.
 // Needs lalrpop_hir::Hir::concat: tree.
-pub fn member_at_line_start(alloc: Global, members: Class) -> Result<Hir, AllocError>
+pub fn member_at(alloc: Global, place: Look, members: Class) -> Result<Hir, AllocError>
     ensures { IfOk result (λ t.
-        t ≡ concat (trees (look Look.StartLF ∷ class (class_of members) ∷ []))) }
+        t ≡ concat (trees (look place ∷ class (class_of members) ∷ []))) }
 {
-    let parts = vec![in alloc; Hir::look(Look::StartLF), Hir::class(members)]?;
+    let parts = vec![in alloc; Hir::look(place), Hir::class(members)]?;
     Ok(Hir::concat(parts))
 }
 
 /// The part, from `least` to `most` times.
 // Needs lalrpop_hir::Repetition::new: parts.
 // Needs lalrpop_hir::Hir::repetition: tree.
-pub fn repeated(alloc: Global, least: u32, most: Option<u32>, part: Hir) -> Result<Hir, AllocError>
+pub fn repeated(
+    alloc: Global,
+    least: u32,
+    most: Option<u32>,
+    greedy: bool,
+    part: Hir,
+) -> Result<Hir, AllocError>
     requires { AreOrdered least most }
-    ensures { IfOk result (λ t. t ≡ repetition least most true part) }
+    ensures { IfOk result (λ t. t ≡ repetition least most greedy part) }
 {
     let sub = Box::new(alloc, part)?;
-    Ok(Hir::repetition(Repetition::new(least, most, true, sub)))
+    Ok(Hir::repetition(Repetition::new(least, most, greedy, sub)))
 }
 
 /// The part, as a group of this name.
