@@ -1,0 +1,69 @@
+//! Sets that have a name, ranges, and what folds alike.
+ghost use Rattle.std.specs.Prelude.{◌≡◌, ◌≤◌, IfOk, MatchOption, None, Some};
+ghost use Rattle.unicode.specs.Perl.{is_digit_char, is_space_char, is_word_char};
+ghost use Rattle.lalrpop_sets.specs.CharacterSet.{Set, range, fold, HasRuns};
+ghost use Rattle.lalrpop_sets.specs.NamedSet.{named};
+ghost use Rattle.lalrpop_sets.specs.PosixSet.{posix_set};
+
+use lalrpop_hir::ClassUnicode;
+use lalrpop_sets::{digits, named_set, posix_class, range_class, spaces, words};
+use std::alloc::{AllocError, Global};
+
+/// The characters from one to another.
+// Needs lalrpop_sets::range_class: runs.
+pub fn from_to(alloc: Global, low: char, high: char) -> Result<ClassUnicode, AllocError>
+    requires { low ≤ high }
+    ensures { IfOk result (λ class. HasRuns class (range low high)) }
+{
+    range_class(alloc, low, high)
+}
+
+/// All that differs from a member in case alone, and the members.
+// Needs lalrpop_sets::fold: runs.
+pub fn in_any_case(alloc: Global, members: &ClassUnicode) -> Result<ClassUnicode, AllocError>
+    ensures { IfOk result (λ class. (s : Set) → HasRuns members.now s → HasRuns class (fold s)) }
+{
+    lalrpop_sets::fold(alloc, members)
+}
+
+/// The decimal digits.
+// Needs lalrpop_sets::digits: runs.
+pub fn all_digits(alloc: Global) -> Result<ClassUnicode, AllocError>
+    ensures { IfOk result (λ class. HasRuns class is_digit_char) }
+{
+    digits(alloc)
+}
+
+/// The white space.
+// Needs lalrpop_sets::spaces: runs.
+pub fn all_spaces(alloc: Global) -> Result<ClassUnicode, AllocError>
+    ensures { IfOk result (λ class. HasRuns class is_space_char) }
+{
+    spaces(alloc)
+}
+
+/// The characters of words.
+// Needs lalrpop_sets::words: runs.
+pub fn all_of_words(alloc: Global) -> Result<ClassUnicode, AllocError>
+    ensures { IfOk result (λ class. HasRuns class is_word_char) }
+{
+    words(alloc)
+}
+
+/// The set of a property, as `Greek`, where there is one of this name.
+// Needs lalrpop_sets::named_set: found.
+pub fn property(alloc: Global, name: &[char]) -> Result<Option<ClassUnicode>, AllocError>
+    ensures { IfOk result (λ found. MatchOption found (named name.now ≡ None)
+        (λ class. (s : Set) × (named name.now ≡ Some s) × HasRuns class s)) }
+{
+    named_set(alloc, name)
+}
+
+/// The set of a POSIX class, as `alpha`, where there is one of this name.
+// Needs lalrpop_sets::posix_class: found.
+pub fn posix(alloc: Global, name: &[char]) -> Result<Option<ClassUnicode>, AllocError>
+    ensures { IfOk result (λ found. MatchOption found (posix_set name.now ≡ None)
+        (λ class. (s : Set) × (posix_set name.now ≡ Some s) × HasRuns class s)) }
+{
+    posix_class(alloc, name)
+}

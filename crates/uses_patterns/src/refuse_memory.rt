@@ -1,0 +1,22 @@
+//! Refusals of memory beside those of patterns.
+ghost use Rattle.std.specs.Prelude.{◌≡◌, ◌∷◌, [], IfErr};
+
+use lalrpop_grammar::RegexError;
+use lalrpop_hir::Hir;
+use std::alloc::Global;
+
+/// Room for the tree. There is one refusal.
+// Needs lalrpop_grammar::RegexError::from: ghost from_gives.
+pub fn boxed(alloc: Global, tree: Hir) -> Result<Box<Hir>, RegexError>
+    ensures { IfErr result (λ e. e ≡ RegexError.OutOfMemory) }
+{
+    Ok(Box::new(alloc, tree)?)
+}
+
+/// A text of its own. There is one refusal.
+// Needs lalrpop_grammar::RegexError::from: ghost from_gives.
+pub fn kept(alloc: Global, pattern: &str) -> Result<String, RegexError>
+    ensures { IfErr result (λ e. e ≡ RegexError.OutOfMemory) }
+{
+    Ok(String::from_str(alloc, pattern)?)
+}
