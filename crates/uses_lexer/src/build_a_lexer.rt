@@ -1,0 +1,40 @@
+//! A lexer is built of patterns and precedences, and tells its patterns.
+ghost use Rattle.std.specs.Prelude.{◌≡◌, ◌∷◌, [], slice_get, IfOk, OnOk, IfErr};
+ghost use Rattle.std.specs.Option.{option_copied};
+ghost use Rattle.lalrpop_lexer.specs.Clash.{NoClash};
+ghost use Rattle.lalrpop_lexer.specs.Report.{NoFault, IsReport};
+
+use lalrpop_lexer::Lexer;
+use lalrpop_lexer::lexer::dfa::{DfaConstructionError, Precedence};
+use lalrpop_lexer::lexer::re::Regex;
+use std::alloc::Global;
+
+// Needs lalrpop_lexer::Lexer::new: trees, precedences, no_fault, no_clash, report.
+/// A lexer of a keyword and of names: what both match is the keyword.
+///
+/// # Errors
+///
+/// Why the two have no lexer, and out of memory.
+pub fn keyword_and_names(
+    alloc: Global,
+    keyword: Regex,
+    names: Regex,
+) -> Result<Lexer, DfaConstructionError>
+    ensures trees { IfOk result (λ lexer. lexer.trees ≡ keyword ∷ names ∷ []) }
+    ensures precedences { IfOk result (λ lexer. lexer.precedences ≡ 1 ∷ 0 ∷ []) }
+    ensures no_fault { OnOk result (NoFault (keyword ∷ names ∷ [])) }
+    ensures no_clash { OnOk result (NoClash (keyword ∷ names ∷ []) (1 ∷ 0 ∷ [])) }
+    ensures report { IfErr result (λ e. IsReport (keyword ∷ names ∷ []) (1 ∷ 0 ∷ []) e) }
+{
+    let regexs = vec![in alloc; keyword, names]?;
+    let precedences = vec![in alloc; Precedence(1), Precedence(0)]?;
+    Lexer::new(alloc, regexs, precedences)
+}
+
+// Needs lalrpop_lexer::Lexer::regexs: trees.
+/// The pattern with this number, if there is one.
+pub fn pattern_at(lexer: &Lexer, number: usize) -> Option<&Regex>
+    ensures pattern { option_copied result ≡ slice_get lexer.now.trees number }
+{
+    lexer.regexs().get(number)
+}

@@ -1,0 +1,31 @@
+//! Places of a text as people count them.
+ghost use Rattle.std.specs.Prelude.{◌≡◌, ◌≤◌};
+ghost use Rattle.std.specs.Str.{IsCharBoundary};
+ghost use Rattle.lalrpop_lexer.specs.Position.{position_of};
+
+use lalrpop_lexer::{Position, Positions};
+
+// Needs lalrpop_lexer::Position::of: position.
+/// The line of an offset in bytes.
+pub fn line_at(text: &str, offset: usize) -> usize
+    requires boundary { IsCharBoundary text.now offset }
+    ensures line { result ≡ (position_of text.now offset).line }
+{
+    Position::of(text, offset).line
+}
+
+// Needs lalrpop_lexer::Positions::new: start.
+// Needs lalrpop_lexer::Positions::at: position, walked.
+/// Where a slice of the text begins and where it ends.
+pub fn both_ends(text: &str, from: usize, to: usize) -> (Position, Position)
+    requires from_boundary { IsCharBoundary text.now from }
+    requires to_boundary { IsCharBoundary text.now to }
+    requires ascending { from ≤ to }
+    ensures begins { result.0 ≡ position_of text.now from }
+    ensures ends { result.1 ≡ position_of text.now to }
+{
+    let mut places = Positions::new(text);
+    let begins = places.at(from);
+    let ends = places.at(to);
+    (begins, ends)
+}

@@ -1,0 +1,93 @@
+//! A lexer cuts a text into tokens.
+ghost use Rattle.std.specs.Prelude.{◌≡◌, ℕ, ◌++◌, ◌∷◌, [], List, Some, None, Ok, Err, map, length, IfOk, IfErr, IfSome, IfNone, false};
+ghost use Rattle.lalrpop_lexer.specs.LexerTokens.{IsToken, AreTokens};
+ghost use Rattle.lalrpop_lexer.specs.Longest.{IsLongest};
+ghost use Rattle.lalrpop_lexer.specs.declared.lexer_token.Token.{Token as TokenValue};
+
+use lalrpop_lexer::{Lexer, TokenFault};
+
+// Needs lalrpop_lexer::Lexer::token: token, none.
+/// The pattern and the length of the token at the front of a text, if there is one.
+pub fn front(lexer: &Lexer, text: &str) -> Option<(usize, usize)>
+    ensures token { IfSome result (λ m. (token : TokenValue)
+        × (IsToken lexer.now.trees lexer.now.precedences text.now 0 token
+        × (m ≡ (token.index, length token.slice.now)))) }
+    ensures none { IfNone result (IsLongest lexer.now.trees lexer.now.precedences text.now None) }
+{
+    match lexer.token(text) {
+        Some(token) => Some((token.index.index(), token.slice.len())),
+        None => None,
+    }
+}
+
+// Needs lalrpop_lexer::Lexer::tokens: tokens, count.
+// Needs lalrpop_lexer::LexerTokens::next: ghost next_gives, ghost remaining.
+/// How many tokens the whole text is.
+///
+/// # Errors
+///
+/// The first place where no pattern matches.
+pub fn token_count(lexer: &Lexer, text: &str) -> Result<usize, TokenFault>
+    ensures all { IfOk result (λ n. (tokens : List TokenValue)
+        × (AreTokens lexer.now.trees lexer.now.precedences text.now 0 (map Ok tokens)
+        × (n ≡ length tokens))) }
+    ensures fault { IfErr result (λ fault. (tokens : List TokenValue)
+        × AreTokens lexer.now.trees lexer.now.precedences text.now 0
+        (map Ok tokens ++ Err fault ∷ [])) }
+{
+    let mut count = 0;
+    for item in lexer.tokens(text) {
+        match item {
+            Ok(_) => count += 1,
+            Err(fault) => return Err(fault),
+        }
+    }
+    Ok(count)
+}
+
+// Needs lalrpop_lexer::Lexer::tokens: start.
+// Needs lalrpop_lexer::LexerTokens::rest: rest.
+/// Before the first token the rest is the whole text.
+pub fn rest_at_first<'text>(lexer: &'text Lexer, text: &'text str) -> &'text str
+    ensures whole { result.now ≡ text.now }
+{
+    lexer.tokens(text).rest()
+}
+
+// Needs lalrpop_lexer::Lexer::tokens: parts.
+// Needs lalrpop_lexer::LexerTokens::next: ghost next_gives.
+/// The first token's slice and what stands behind it.
+pub fn cut_once<'text>(lexer: &'text Lexer, text: &'text str) -> Option<(&'text str, &'text str)>
+    ensures parts { IfSome result (λ m. text.now ≡ m.0.now ++ m.1.now) }
+{
+    let mut tokens = lexer.tokens(text);
+    match tokens.next() {
+        Some(Ok(token)) => Some((token.slice, tokens.rest())),
+        _ => None,
+    }
+}
+
+// Needs lalrpop_lexer::Lexer::tokens: built.
+/// The length of the first token.
+pub fn first_length(lexer: &Lexer, text: &str) -> Option<usize>
+    ensures longest { IfSome result (λ n. (i : ℕ) × ((p : List ℕ)
+        × (IsLongest lexer.now.trees lexer.now.precedences text.now (Some (i, p))
+        × (n ≡ length p)))) }
+{
+    match lexer.tokens(text).next() {
+        Some(Ok(token)) => Some(token.slice.len()),
+        _ => None,
+    }
+}
+
+// Needs lalrpop_lexer::Lexer::tokens: fused.
+/// Whether something comes behind the end of the tokens: never.
+pub fn comes_behind_the_end(lexer: &Lexer, text: &str) -> bool
+    ensures never { result ≡ false }
+{
+    let mut tokens = lexer.tokens(text);
+    if tokens.next().is_some() {
+        return false;
+    }
+    tokens.next().is_some()
+}

@@ -1,0 +1,127 @@
+//! Ends are watched: what is read and written, whether an end has failed, and how often it was called after that.
+ghost use Rattle.std.specs.Prelude.{◌≡◌, ◌+◌, ◌<◌, ◌++◌, ◌∷◌, [], ℕ, List, length, IfOk, OnOk, OnErr, MatchOption, true, false};
+ghost use Rattle.std.specs.Io.KnownBytes.{Appends, Consumes, IsAtEnd, Keeps};
+
+use lexdfa_lib::Watched;
+use std::io::{self, Read, Write};
+
+// Needs lexdfa_lib::Watched::read: bytes.
+/// The next byte, `None` at the end.
+///
+/// # Errors
+///
+/// The reader's own.
+pub fn next_byte<R: Read>(reader: &mut Watched<R>) -> io::Result<Option<u8>>
+    ensures read { IfOk result (λ next. MatchOption next
+        (IsAtEnd (R.remaining reader.new.inner))
+        (λ byte. Consumes (R.remaining reader.old.inner) (R.remaining reader.new.inner)
+        (byte ∷ []))) }
+    ensures kept { OnErr result
+        (Keeps (R.remaining reader.old.inner) (R.remaining reader.new.inner)) }
+{
+    let mut buffer = [0u8; 1];
+    if reader.read(&mut buffer)? == 0 {
+        return Ok(None);
+    }
+    Ok(Some(buffer[0]))
+}
+
+// Needs lexdfa_lib::Watched::read: bound.
+/// Reads some bytes and adds them to others.
+///
+/// # Errors
+///
+/// The reader's own, and out of memory.
+pub fn read_some<R: Read>(reader: &mut Watched<R>, bytes: &mut Vec<u8>) -> io::Result<()> {
+    let mut buffer = [0u8; 64];
+    let n = reader.read(&mut buffer)?;
+    bytes.extend_from_slice(&buffer[..n])?;
+    Ok(())
+}
+
+// Needs lexdfa_lib::Watched::read: failed, late.
+/// Reads twice, the second time over the first, but makes no call after one that has failed.
+///
+/// # Errors
+///
+/// The reader's own.
+pub fn read_twice<R: Read>(reader: &mut Watched<R>, buffer: &mut [u8]) -> io::Result<usize>
+    requires good { reader.old.failed ≡ false }
+    ensures no_late_read { reader.new.late ≡ reader.old.late }
+    ensures good { OnOk result (reader.new.failed ≡ false) }
+    ensures failed { OnErr result (reader.new.failed ≡ true) }
+{
+    reader.read(buffer)?;
+    reader.read(buffer)
+}
+
+// Needs lexdfa_lib::Watched::read: late.
+/// Reads though the reader has failed, which counts.
+///
+/// # Errors
+///
+/// The reader's own.
+pub fn read_late<R: Read>(reader: &mut Watched<R>, buffer: &mut [u8]) -> io::Result<usize>
+    requires failed { reader.old.failed ≡ true }
+    ensures late { reader.new.late ≡ reader.old.late + 1 }
+{
+    reader.read(buffer)
+}
+
+// Needs lexdfa_lib::Watched::write: bound, bytes.
+/// Writes the front of some bytes, and gives the others.
+///
+/// # Errors
+///
+/// The writer's own.
+pub fn write_front<'bytes, W: Write>(
+    writer: &mut Watched<W>,
+    bytes: &'bytes [u8],
+) -> io::Result<&'bytes [u8]>
+    ensures written { IfOk result (λ rest. (front : List ℕ)
+        × ((bytes.now ≡ front ++ rest.now)
+        × Appends (W.contents writer.old.inner) (W.contents writer.new.inner) front)) }
+    ensures kept { OnErr result
+        (Keeps (W.contents writer.old.inner) (W.contents writer.new.inner)) }
+{
+    let n = writer.write(bytes)?;
+    Ok(&bytes[n..])
+}
+
+// Needs lexdfa_lib::Watched::write: failed, late.
+/// Writes the fronts of two lists of bytes, but makes no call after one that has failed or has taken nothing.
+///
+/// # Errors
+///
+/// The writer's own.
+pub fn write_both<W: Write>(
+    writer: &mut Watched<W>,
+    first: &[u8],
+    second: &[u8],
+) -> io::Result<usize>
+    requires good { writer.old.failed ≡ false }
+    requires first_has { 0 < length first.now }
+    requires second_has { 0 < length second.now }
+    ensures no_late_write { writer.new.late ≡ writer.old.late }
+    ensures good { IfOk result (λ n. 0 < n → writer.new.failed ≡ false) }
+    ensures nothing_taken { IfOk result (λ n. n ≡ 0 → writer.new.failed ≡ true) }
+    ensures failed { OnErr result (writer.new.failed ≡ true) }
+{
+    if writer.write(first)? == 0 {
+        return Ok(0);
+    }
+    writer.write(second)
+}
+
+// Needs lexdfa_lib::Watched::write: late.
+/// Writes though the writer has failed, which counts.
+///
+/// # Errors
+///
+/// The writer's own.
+pub fn write_late<W: Write>(writer: &mut Watched<W>, bytes: &[u8]) -> io::Result<usize>
+    requires failed { writer.old.failed ≡ true }
+    ensures late { writer.new.late ≡ writer.old.late + 1 }
+{
+    writer.write(bytes)
+}
