@@ -5,7 +5,8 @@ from collections import namedtuple
 
 # `kind` is requires, ensures or ghost; `name` is empty where the clause has none; `said` is what stands in its braces.
 Clause = namedtuple("Clause", "kind name said line")
-Function = namedtuple("Function", "name is_public clauses")
+# `text` is its head and its clauses.
+Function = namedtuple("Function", "name is_public clauses text")
 # An item: `kind` is fn, impl, trait, struct, enum, mod or use; `name` is its name, an impl's type, or what a `use` says.
 Block = namedtuple("Block", "kind name trait is_public functions ghosts")
 
@@ -49,7 +50,7 @@ def function_of(text, found):
     while clause := CLAUSE.match(text, at):
         clauses.append(clause_of(text, clause))
         at = clause.end() + len(clauses[-1].said) + 1
-    return Function(found[2], found[1] == "pub ", clauses)
+    return Function(found[2], found[1] == "pub ", clauses, text[found.start() : at].rstrip(" {;\n"))
 
 
 def named(kind, head):
@@ -70,3 +71,17 @@ def blocks(path):
         functions = [function_of(text, it) for it in FUNCTION.finditer(text, item.start(), end)]
         ghosts = [clause_of(text, it) for it in GHOST.finditer(text, item.start(), end)]
         yield Block(kind, name, trait, item[1] == "pub ", functions, ghosts)
+
+
+def handed_out(file):
+    """The names of what a module hands out."""
+    folder = file.parent if file.stem == "lib" else file.with_suffix("")
+    for block in (it for it in blocks(file) if it.is_public):
+        module, _, names = block.name.rpartition("::")
+        below = folder / (module.replace("::", "/") + ".rt")
+        if block.kind == "mod":
+            yield from handed_out(folder / f"{block.name}.rt")
+        elif block.kind != "use":
+            yield block.name
+        elif below.is_file():
+            yield from set(re.findall(r"\w+", names)) & set(handed_out(below))
