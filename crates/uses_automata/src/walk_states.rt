@@ -13,7 +13,7 @@ use lalrpop_table::{Dfa, Kind, START, State};
 use std::alloc::{AllocError, Global};
 
 // Needs lalrpop_table::Dfa::states: states, well_formed.
-/// All states, and that the first of them is START.
+/// All states. There is one at least: the first is START.
 pub fn all_states(dfa: &Dfa) -> &[State]
     ensures states { AreStored dfa.now result.now }
     ensures well_formed { IsWellFormed dfa.now }
