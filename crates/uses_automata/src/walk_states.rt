@@ -10,7 +10,7 @@ ghost use Rattle.lalrpop_table.specs.declared.Kind.TheVariants.{Reject};
 use lalrpop_items::DfaStateIndex;
 use lalrpop_ranges::Test;
 use lalrpop_table::{Dfa, Kind, START, State};
-use std::alloc::{AllocError, Global};
+use std::alloc::AllocError;
 
 // Needs lalrpop_table::Dfa::states: states, well_formed.
 /// All states. There is one at least: the first is START.
