@@ -1,6 +1,6 @@
 //! The automaton of a list of patterns with precedences: built, and what is known of it.
 
-ghost use Rattle.std.specs.Prelude.{◌≡◌, ◌<◌, ◌≤◌, ℕ, List, length, map, IfOk, IfErr, IfSome, IfNone};
+ghost use Rattle.std.specs.Prelude.{◌≡◌, ◌<◌, ◌≤◌, List, length, map, IfOk, IfErr, IfSome, IfNone};
 ghost use Rattle.std.specs.Option.{option_map};
 ghost use Rattle.lalrpop_dfa.specs.Clash.{NoClash};
 ghost use Rattle.lalrpop_dfa.specs.Items.{HoldsItems, OthersReject, IsInWordOrder};

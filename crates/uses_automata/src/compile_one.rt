@@ -17,7 +17,7 @@ ghost use Rattle.lalrpop_nfa.specs.declared.error.NfaConstructionError.TheVarian
 use lalrpop_hir::Regex;
 use lalrpop_nfa::interpret::{interpret, interpret_counted};
 use lalrpop_nfa::{
-    EdgeLabel, Nfa, NfaConstructionError, NfaStateIndex, Noop, Other, START, StateKind, Steps, Test,
+    EdgeLabel, Nfa, NfaConstructionError, NfaStateIndex, Noop, Other, StateKind, Steps, Test,
 };
 use std::alloc::{AllocError, Global};
 

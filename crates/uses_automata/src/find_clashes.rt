@@ -1,6 +1,6 @@
 //! All clashes of a list of patterns with precedences.
 
-ghost use Rattle.std.specs.Prelude.{◌≡◌, List, length, map, IfOk, IfErr, IfSome, IfNone};
+ghost use Rattle.std.specs.Prelude.{◌≡◌, List, length, map, IfOk, IfErr};
 ghost use Rattle.lalrpop_dfa.specs.ClashList.{AreClashes, Entry};
 ghost use Rattle.lalrpop_dfa.specs.Report.{NoFault, IsFaultOf};
 

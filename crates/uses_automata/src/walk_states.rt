@@ -10,10 +10,10 @@ ghost use Rattle.lalrpop_table.specs.declared.Kind.TheVariants.{Reject};
 use lalrpop_items::DfaStateIndex;
 use lalrpop_ranges::Test;
 use lalrpop_table::{Dfa, Kind, START, State};
-use std::alloc::{AllocError, Global};
+use std::alloc::AllocError;
 
 // Needs lalrpop_table::Dfa::states: states, well_formed.
-/// All states, and that the first of them is START.
+/// All states. There is one at least: the first is START.
 pub fn all_states(dfa: &Dfa) -> &[State]
     ensures states { AreStored dfa.now result.now }
     ensures well_formed { IsWellFormed dfa.now }
