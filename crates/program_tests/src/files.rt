@@ -10,7 +10,7 @@ use std::io::Write;
 use std::process::Abort;
 use tokens_lib::{Lexer, TextError, lexer_of, read_text, write_clashes, write_tokens};
 
-const RULES: &[u8] = b"1 l if\n0 r [a-z]+\n0 r [ \n]+\n";
+const RULES: &[u8] = b"1 l if\n0 r [a-z]+\n0 r [ \\n]+\n";
 
 fn is_text(alloc: Global, bytes: &[u8], wanted: &str) -> bool {
     match read_text(alloc, &mut Watched::new(bytes)) {
