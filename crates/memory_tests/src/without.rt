@@ -5,8 +5,8 @@ use crate::calls::at_last;
 use crate::kernels::Plain;
 use crate::trees::{class_of, literal_tree};
 use lalrpop_hir::{
-    Capture, Class, ClassBytesRange, ClassUnicode, ClassUnicodeRange, Hir, HirKind, Look,
-    Repetition,
+    Capture, Class, ClassBytes, ClassBytesRange, ClassUnicode, ClassUnicodeRange, Hir, HirKind,
+    Look, Repetition,
 };
 use lalrpop_lexer::kernel_set::KernelSet;
 use lalrpop_lexer::lexer::dfa::interpret::{interpret, interpret_counted, interpret_probed};
@@ -65,6 +65,24 @@ fn classes(rt: HostRuntime) {
     assert!(rt; at_last!(&rt; class_is_shown(rt.alloc())));
 }
 
+fn holds_two_to_nine(class: &ClassBytes) -> bool {
+    match class.ranges() {
+        [range] => range.start() == 2 && range.end() == 9,
+        _ => false,
+    }
+}
+
+fn class_of_bytes_is_shown(alloc: Global) -> Result<bool, AllocError> {
+    let class = ClassBytes::new(alloc, vec![in alloc; ClassBytesRange::new(9, 2)]?)?;
+    from_here_on(alloc);
+    Ok(holds_two_to_nine(&class))
+}
+
+#[test]
+fn classes_of_bytes(rt: HostRuntime) {
+    assert!(rt; at_last!(&rt; class_of_bytes_is_shown(rt.alloc())));
+}
+
 fn is_named_group(tree: Hir) -> bool {
     match tree.kind() {
         HirKind::Capture(group) => {
@@ -107,6 +125,21 @@ fn repetition_is_shown(alloc: Global) -> Result<bool, AllocError> {
 #[test]
 fn repetitions(rt: HostRuntime) {
     assert!(rt; at_last!(&rt; repetition_is_shown(rt.alloc())));
+}
+
+fn is_empty(tree: Hir) -> bool {
+    matches!(tree.kind(), HirKind::Empty)
+}
+
+fn is_end_of_line(tree: Hir) -> bool {
+    matches!(tree.kind(), HirKind::Look(Look::EndLF))
+}
+
+#[test]
+fn leaves(rt: HostRuntime) {
+    from_here_on(rt.alloc());
+    assert!(rt; is_empty(Hir::empty()));
+    assert!(rt; is_end_of_line(Hir::look(Look::EndLF)));
 }
 
 fn is_row(tree: Hir) -> bool {

@@ -146,6 +146,7 @@ fn leaves_a_prefix(
         room,
         kind,
         calls: 0,
+        flushes: 0,
     });
     let result = write_job(alloc, lexer, job, &mut writer);
     let ended = matches!(&result, Err(RunError::Write)) && writer.failed();
@@ -208,6 +209,7 @@ fn clashes_leave_a_prefix(alloc: Global, lines: &[u8], room: usize) -> bool {
         room,
         kind: Some(io::ErrorKind::Other),
         calls: 0,
+        flushes: 0,
     });
     let result = write_clashes(alloc, b"0 l a\n0 l a\n", &mut writer);
     let ended = matches!(&result, Err(RunError::Write)) && writer.failed();
