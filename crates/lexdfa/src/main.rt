@@ -92,8 +92,7 @@ mod tests {
     #[test]
     fn a_failed_flush_is_a_failed_write(rt: HostRuntime) {
         for all in [false, true] {
-            let found =
-                run_and_flush(rt.alloc(), all, b"0 l a\n".as_slice(), "a", FailsToFlush);
+            let found = run_and_flush(rt.alloc(), all, b"0 l a\n".as_slice(), "a", FailsToFlush);
             assert!(rt; matches!(&found, Err(Failure::Run(RunError::Write))));
         }
     }

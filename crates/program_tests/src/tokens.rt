@@ -1,10 +1,10 @@
 //! Lexers from patterns and from lines, and the tokens that they cut.
 
 use crate::shared::{expect_same, terminals};
+use lexdfa_lib::outcome_line;
 use std::alloc::{AllocError, Global};
 use std::fmt::Write;
 use std::process::Abort;
-use lexdfa_lib::outcome_line;
 use tokens_lib::{BuildError, Lexer, Token, lexer_of};
 
 fn lexer_of_words(rt: &impl Abort, alloc: Global) -> Lexer {
