@@ -6,8 +6,9 @@ ghost use Rattle.std.specs.Prelude.{◌≡◌, ◌≢◌, Ok, Err, OnOk, OnErr};
 ghost use Rattle.std.specs.IoError.{error_kind};
 
 use lexdfa_lib::{Ending, Failure, Outcome, RunError, Watched, arguments, run, run_all};
+use std::alloc::Global;
 use std::env;
-use std::io::{self, ErrorKind, Write};
+use std::io::{self, ErrorKind, Read, Write};
 use std::process::ExitCode;
 use std::rt::Env;
 
@@ -34,20 +35,31 @@ fn flushed(outcome: Outcome, flush: &io::Result<()>) -> Result<Outcome, Failure>
     }
 }
 
+// The outcome of a run over these ends, of which the writer is flushed behind the last line.
+fn run_and_flush<R: Read + Drop, W: Write + Drop>(
+    alloc: Global,
+    all: bool,
+    reader: R,
+    text: &str,
+    writer: W,
+) -> Result<Outcome, Failure> {
+    let mut reader = Watched::new(reader);
+    let mut writer = Watched::new(writer);
+    let found = if all {
+        run_all(alloc, &mut reader, text, &mut writer)
+    } else {
+        run(alloc, &mut reader, text, &mut writer)
+    };
+    flushed(found.map_err(Failure::Run)?, &writer.into_inner().flush())
+}
+
 fn answer(rt: &(impl Env + Input + Print + AllocGlobal)) -> Result<Outcome, Failure> {
     let args = env::args(rt).map_err(|error| without_arguments(&error))?;
     let Ok(words) = args.skip(1).collect::<Vec<String>>(rt.alloc()) else {
         return Err(Failure::Run(RunError::OutOfMemory));
     };
     let (all, text) = arguments(&words).ok_or(Failure::Usage)?;
-    let mut reader = Watched::new(rt.reader());
-    let mut writer = Watched::new(io::writer(rt));
-    let found = if all {
-        run_all(rt.alloc(), &mut reader, text, &mut writer)
-    } else {
-        run(rt.alloc(), &mut reader, text, &mut writer)
-    };
-    flushed(found.map_err(Failure::Run)?, &writer.into_inner().flush())
+    run_and_flush(rt.alloc(), all, rt.reader(), text, io::writer(rt))
 }
 
 fn main(rt: HostRuntime) -> ExitCode {
@@ -57,4 +69,31 @@ fn main(rt: HostRuntime) -> ExitCode {
         let _ = eprint!(rt; "{message}");
     }
     ExitCode::from(status)
+}
+
+#[cfg(test)]
+mod tests {
+    use super::*;
+
+    // Takes all bytes, and fails where it is to flush them. Standard output has no buffer, so that its flush never fails.
+    #[derive(Drop)]
+    struct FailsToFlush;
+
+    impl Write for FailsToFlush {
+        fn write(&mut self, buf: &[u8]) -> io::Result<usize> {
+            Ok(buf.len())
+        }
+
+        fn flush(&mut self) -> io::Result<()> {
+            Err(io::Error::from(ErrorKind::Other))
+        }
+    }
+
+    #[test]
+    fn a_failed_flush_is_a_failed_write(rt: HostRuntime) {
+        for all in [false, true] {
+            let found = run_and_flush(rt.alloc(), all, b"0 l a\n".as_slice(), "a", FailsToFlush);
+            assert!(rt; matches!(&found, Err(Failure::Run(RunError::Write))));
+        }
+    }
 }

@@ -1,7 +1,7 @@
-//! Readers and writers that fail: what is written then, and that no call is made after one that failed.
+//! Readers and writers that fail: what is written then, that no call is made after one that failed, and that no run flushes.
 
 use crate::shared::run_over;
-use lexdfa_lib::{RunError, Watched};
+use lexdfa_lib::{Outcome, RunError, Watched};
 use std::alloc::Global;
 use std::io;
 use std::io::{Read, Write};
@@ -86,14 +86,15 @@ fn a_failed_read_writes_nothing(rt: HostRuntime) {
     }
 }
 
-// Takes one byte a call while it has room, then fails, and counts its calls. With no kind of error it fails by taking
-// nothing.
+// Takes one byte a call while it has room, then fails, and counts its calls and its flushes. With no kind of error it fails
+// by taking nothing.
 #[derive(Drop)]
 struct FailsAfter {
     taken: Vec<u8>,
     room: usize,
     kind: Option<io::ErrorKind>,
     calls: usize,
+    flushes: usize,
 }
 
 impl Write for FailsAfter {
@@ -110,24 +111,38 @@ impl Write for FailsAfter {
     }
 
     fn flush(&mut self) -> io::Result<()> {
+        self.flushes = self.flushes.saturating_add(1);
         Ok(())
     }
 }
 
-fn leaves_a_prefix(alloc: Global, job: &Job, room: usize, kind: Option<io::ErrorKind>) -> bool {
+// What a run gave, and its writer behind it.
+fn run_into(
+    alloc: Global,
+    job: &Job,
+    room: usize,
+    kind: Option<io::ErrorKind>,
+) -> (Result<Outcome, RunError>, bool, FailsAfter) {
     let mut reader = Watched::new(job.input);
     let mut writer = Watched::new(FailsAfter {
         taken: Vec::new(alloc),
         room,
         kind,
         calls: 0,
+        flushes: 0,
     });
     let result = run_over(alloc, job.all, &mut reader, job.text, &mut writer);
-    let ended = matches!(&result, Err(RunError::Write)) && !reader.failed() && writer.failed();
-    let end = writer.into_inner();
-    ended
+    let named = !reader.failed() && writer.failed() == result.is_err();
+    (result, named, writer.into_inner())
+}
+
+fn leaves_a_prefix(alloc: Global, job: &Job, room: usize, kind: Option<io::ErrorKind>) -> bool {
+    let (result, named, end) = run_into(alloc, job, room, kind);
+    named
+        && matches!(&result, Err(RunError::Write))
         && Some(end.taken.as_slice()) == job.lines.get(..room)
         && end.calls == room.saturating_add(1)
+        && end.flushes == 0
 }
 
 fn expect_prefixes(rt: &impl Abort, alloc: Global, job: &Job, kind: Option<io::ErrorKind>) {
@@ -143,5 +158,22 @@ fn a_failed_write_leaves_a_prefix(rt: HostRuntime) {
         for job in &JOBS {
             expect_prefixes(&rt, rt.alloc(), job, kind);
         }
+    }
+}
+
+fn writes_all_and_flushes_nothing(alloc: Global, job: &Job) -> bool {
+    let (result, named, end) = run_into(alloc, job, job.lines.len(), None);
+    named
+        && result.is_ok()
+        && end.taken.as_slice() == job.lines
+        && end.calls == job.lines.len()
+        && end.flushes == 0
+}
+
+// The caller of a run flushes its writer.
+#[test]
+fn a_run_flushes_nothing(rt: HostRuntime) {
+    for job in &JOBS {
+        assert!(rt; writes_all_and_flushes_nothing(rt.alloc(), job));
     }
 }
