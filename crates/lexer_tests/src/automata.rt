@@ -111,7 +111,10 @@ fn a_choice_of_nothing_rejects_all(rt: HostRuntime) {
 
 // `a`, and behind it a choice of nothing.
 fn a_then_nothing(alloc: Global) -> Result<Hir, AllocError> {
-    let parts = vec![in alloc; Hir::literal(alloc, "a")?, Hir::alternation(Vec::new(alloc))]?;
+    let parts = vec![in alloc;
+        Hir::literal(alloc, "a")?,
+        Hir::alternation(Vec::new(alloc)),
+    ]?;
     Ok(Hir::concat(parts))
 }
 
