@@ -42,7 +42,7 @@ def unindented(text):
 
 def parts():
     yield "# Every public call"
-    yield "Each library with its public calls: signatures and clauses as the sources have them, in the order of the files; what impls of\ntraits say stands in the sources alone. `.ci/api.py` writes this page. What a definition in a clause means: [DEFINITIONS.md](DEFINITIONS.md). How a call is used: the crates `crates/uses_*`."
+    yield "Each library with its public calls: signatures and clauses as the sources have them, in the order of the files; what impls of\ntraits say stands in the sources alone. `.ci/api.py` writes this page. What a definition in a clause means: [BOOK.md](BOOK.md). How a call is used: the crates `crates/uses_*`."
     for name in LIBRARIES:
         yield f"## {name}"
         for heading, comment, text in calls(TOP / "crates" / name):

@@ -3,10 +3,10 @@ use Rattle.std.proofs.Common.{◌≡◌, ℕ, ◌<◌, List, length, get_or, ref
 use Rattle.std.specs.Prelude.{slice_get}
 use Rattle.std.specs.List.{Contains}
 use Rattle.std.proofs.lemmas.Option.{slice_get-get_or}
-use Rattle.lalrpop_hir.specs.Range.{Range, Covers}
+use Rattle.lalrpop_book.specs.Range.{Range, Covers}
 use Rattle.lalrpop_nfa.specs.Graph.{Graph}
 use Rattle.lalrpop_nfa.specs.Path.{test}
-use Rattle.lalrpop_alphabet.specs.Alphabet.{Classes, IsInCell, LeadsBy, CutsAt, IsEndOf, IsFirstOf, HasClass, HasCut, HasState, AreCells, AreGroups, IsSound, IsAlphabetOf}
+use Rattle.lalrpop_alphabet.specs.Internal.Alphabet.{Classes, IsInCell, LeadsBy, CutsAt, IsEndOf, IsFirstOf, HasClass, HasCut, HasState, AreCells, AreGroups, IsSound, IsAlphabetOf}
 use Rattle.lalrpop_alphabet.specs.Internal.Grouped.{LeadsTo, AreGrouped, AreClasses}
 use Rattle.lalrpop_alphabet.specs.declared.groups.Labels.{Labels}
 

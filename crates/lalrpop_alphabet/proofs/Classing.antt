@@ -4,12 +4,12 @@ use Rattle.std.specs.Prelude.{slice_get, Some, ◌↔◌}
 use Rattle.std.specs.List.{Contains}
 use Rattle.std.proofs.lemmas.Bool.{cases_lt}
 use Rattle.std.proofs.lemmas.Option.{slice_get_within}
-use Rattle.lalrpop_hir.specs.Range.{Range}
+use Rattle.lalrpop_book.specs.Range.{Range}
 use Rattle.lalrpop_alphabet.specs.declared.Cell.{Cell}
 use Rattle.lalrpop_alphabet.specs.declared.Group.{Group}
 use Rattle.lalrpop_alphabet.specs.declared.groups.Labels.{Labels}
 use Rattle.lalrpop_alphabet.specs.declared.signatures.Signature.{Signature}
-use Rattle.lalrpop_alphabet.specs.Alphabet.{IsEndOf, IsInCell, IsFirstOf, HasClass, HasCut, AreCells, AreGroups}
+use Rattle.lalrpop_alphabet.specs.Internal.Alphabet.{IsEndOf, IsInCell, IsFirstOf, HasClass, HasCut, AreCells, AreGroups}
 use Rattle.lalrpop_alphabet.specs.Internal.Grouped.{HasLabel, AreCuts, AreClasses}
 use Rattle.lalrpop_alphabet.specs.Internal.Signatures.{CoversIn, AreSigned, HaveEnds}
 use Rattle.lalrpop_alphabet.specs.Internal.Numbered.{AreClassed, AreAllClassed}

@@ -7,13 +7,13 @@ use Rattle.std.proofs.lemmas.Option.{slice_get_within, slice_get-get_or, get_or_
 use Rattle.std.proofs.lemmas.List.{take_more, get_or-take}
 use Rattle.std.proofs.lemmas.List.Elements.{Contains-push, Contains-push_cases, Contains-append_left}
 use Rattle.std.proofs.lemmas.Bool.{cases_lt}
-use Rattle.lalrpop_hir.specs.Range.{Range, Covers}
+use Rattle.lalrpop_book.specs.Range.{Range, Covers}
 use Rattle.lalrpop_ranges.specs.Partition.{AreAscending, IsPartition}
 use Rattle.lalrpop_ranges.proofs.BlockCover.{block_of_covered}
 use Rattle.lalrpop_ranges.proofs.PartitionLaws.{block_in_or_out}
 use Rattle.lalrpop_kernels.proofs.NumberedLemmas.{pushed_cases}
 use Rattle.lalrpop_alphabet.specs.declared.groups.Labels.{Labels}
-use Rattle.lalrpop_alphabet.specs.Alphabet.{IsEndOf}
+use Rattle.lalrpop_alphabet.specs.Internal.Alphabet.{IsEndOf}
 use Rattle.lalrpop_alphabet.specs.Internal.Grouped.{HasLabel, AreCuts}
 use Rattle.lalrpop_alphabet.specs.Internal.Cuts.{AreRising, HoldOne, HasAlso, AreEndsOf}
 

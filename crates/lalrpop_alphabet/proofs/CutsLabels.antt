@@ -4,14 +4,14 @@ use Rattle.std.specs.List.{Contains}
 use Rattle.std.specs.BTreeSet.{BTreeSet, Updates}
 use Rattle.std.proofs.lemmas.List.{take_more}
 use Rattle.std.proofs.lemmas.List.Elements.{Contains-push, Contains-push_cases, Contains-append_left}
-use Rattle.lalrpop_hir.specs.Range.{Range}
+use Rattle.lalrpop_book.specs.Range.{Range}
 use Rattle.lalrpop_alphabet.specs.declared.groups.Labels.{Labels}
 use Rattle.lalrpop_alphabet.specs.Internal.Grouped.{HasLabel}
 use Rattle.lalrpop_alphabet.specs.Internal.Cuts.{HasAllOf}
 use Rattle.lalrpop_kernels.proofs.NumberedLemmas.{pushed_cases, pushed_keeps, pushed_last}
 use Rattle.lalrpop_alphabet.specs.Internal.Leading.{range_cmp}
 use Rattle.lalrpop_alphabet.proofs.LabelOrder.{range_total, range_exact}
-use Rattle.lalrpop_kernels.proofs.Orders.{set_come, set_has, set_kept}
+use Rattle.lalrpop_book.proofs.Orders.{set_come, set_has, set_kept}
 
 -- ---- one more label
 module _ (s n : BTreeSet Range) (k : Range) (u : Updates range_cmp s n k true) where

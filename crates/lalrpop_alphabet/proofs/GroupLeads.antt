@@ -7,17 +7,17 @@ use Rattle.std.specs.Ordering.{is_eq}
 use Rattle.std.specs.Cmp.{Equal-is}
 use Rattle.std.proofs.lemmas.Option.{slice_get_within, slice_get_cases}
 use Rattle.std.proofs.lemmas.List.Elements.{Contains-append_left, Contains-push, Contains-push_cases}
-use Rattle.lalrpop_hir.specs.Range.{Range}
+use Rattle.lalrpop_book.specs.Range.{Range}
 use Rattle.lalrpop_nfa.specs.Graph.{Graph}
 use Rattle.lalrpop_nfa.specs.Path.{test}
 use Rattle.lalrpop_nfa.specs.Walk.{leaves}
-use Rattle.lalrpop_nfa.proofs.Contained.{filter_in, filter_out}
+use Rattle.lalrpop_book.proofs.Contained.{filter_in, filter_out}
 use Rattle.lalrpop_nfa.specs.declared.edge.Edge.{Edge}
 use Rattle.lalrpop_kernels.proofs.NumberedLemmas.{pushed_cases, pushed_keeps, pushed_last}
 use Rattle.lalrpop_alphabet.proofs.LabelOrder.{range_exact}
-use Rattle.lalrpop_kernels.proofs.Orders.{lists_exact}
+use Rattle.lalrpop_book.proofs.Orders.{lists_exact}
 use Rattle.std.proofs.lemmas.Bool.{cases_Bool}
-use Rattle.lalrpop_alphabet.specs.Alphabet.{AreLeadsOf, IsLeadOf}
+use Rattle.lalrpop_alphabet.specs.Internal.Alphabet.{AreLeadsOf, IsLeadOf}
 use Rattle.lalrpop_alphabet.specs.declared.Lead.{Lead}
 use Rattle.lalrpop_alphabet.specs.declared.NfaLeads.{NfaLeads}
 use Rattle.lalrpop_alphabet.specs.declared.StateLeads.{StateLeads}

@@ -10,11 +10,11 @@ use Rattle.std.proofs.lemmas.Bool.{cases_lt, cases_Bool}
 use Rattle.std.proofs.lemmas.Option.{get_or_from_slice_get, slice_get-get_or}
 use Rattle.std.proofs.lemmas.List.Elements.{Contains-append_left, Contains-append_right, Contains-append_cases}
 use Rattle.lalrpop_kernels.proofs.NumberedLemmas.{pushed_cases}
-use Rattle.lalrpop_kernels.proofs.Orders.{nat_exact, lists_exact}
+use Rattle.lalrpop_book.proofs.Orders.{nat_exact, lists_exact}
 use Rattle.lalrpop_alphabet.specs.declared.Cell.{Cell}
 use Rattle.lalrpop_alphabet.specs.declared.Group.{Group}
 use Rattle.lalrpop_alphabet.specs.declared.signatures.Signature.{Signature}
-use Rattle.lalrpop_alphabet.specs.Alphabet.{HasClass, HasCut}
+use Rattle.lalrpop_alphabet.specs.Internal.Alphabet.{HasClass, HasCut}
 use Rattle.lalrpop_alphabet.specs.Internal.Signatures.{AreBare}
 use Rattle.lalrpop_alphabet.specs.Internal.Numbered.{signature_cmp, GotClasses, IsClassOf, AreNumbered, IsNumbered, AreClassed}
 use Rattle.lalrpop_alphabet.proofs.Marking.{set_at, set_there, set_elsewhere, set_length, one_has, none_has, taken_more}

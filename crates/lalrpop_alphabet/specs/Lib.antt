@@ -1,3 +1,2 @@
-pub mod Alphabet
--- what private functions promise one another, which no promise to a caller names
+-- what this crate promises those above it, and what its private functions promise one another
 pub mod Internal

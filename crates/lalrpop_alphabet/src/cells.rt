@@ -2,7 +2,7 @@
 
 ghost use Rattle.std.specs.Prelude.{ℕ, ◌≤◌, ◌↔◌, IfOk, OnOk};
 ghost use Rattle.std.specs.List.{Contains};
-ghost use Rattle.lalrpop_hir.specs.Range.{Range};
+ghost use Rattle.lalrpop_book.specs.Range.{Range};
 ghost use Rattle.lalrpop_ranges.specs.Partition.{AreAscending};
 ghost use Rattle.lalrpop_alphabet.specs.Internal.Grouped.{HasLabel, AreCuts};
 ghost use Rattle.lalrpop_alphabet.specs.Internal.Cuts.{AreRising, HoldOne, HasAlso, AreEndsOf, HasAllOf};

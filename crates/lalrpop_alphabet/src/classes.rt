@@ -2,7 +2,7 @@
 
 ghost use Rattle.std.specs.Prelude.{◌≡◌, ℕ, ◌+◌, ◌<◌, ◌^◌, length, slice_get, Some, IfOk, OnOk};
 ghost use Rattle.std.specs.List.{Contains};
-ghost use Rattle.lalrpop_alphabet.specs.Alphabet.{AreCells, AreGroups};
+ghost use Rattle.lalrpop_alphabet.specs.Internal.Alphabet.{AreCells, AreGroups};
 ghost use Rattle.lalrpop_alphabet.specs.Internal.Grouped.{AreCuts, AreClasses};
 ghost use Rattle.lalrpop_alphabet.specs.Internal.Signatures.{AreBare};
 ghost use Rattle.lalrpop_alphabet.specs.Internal.Numbered.{GotClasses, AreNumbered, IsNumbered, AreAllClassed};

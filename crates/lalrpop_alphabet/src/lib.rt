@@ -6,7 +6,7 @@
 #![tactic(auto)]
 
 ghost use Rattle.std.specs.Prelude.{◌≡◌, ◌<◌, length, slice_get, Some, IfOk};
-ghost use Rattle.lalrpop_alphabet.specs.Alphabet.{IsAlphabetOf, IsSound, HasState, AreLeadsOf};
+ghost use Rattle.lalrpop_alphabet.specs.Internal.Alphabet.{IsAlphabetOf, IsSound, HasState, AreLeadsOf};
 
 mod cells;
 mod classes;
@@ -82,7 +82,7 @@ pub struct Alphabet {
 }
 
 impl Model for Alphabet {
-    ghost use Rattle.lalrpop_alphabet.specs.Alphabet.{Classes, IsSound};
+    ghost use Rattle.lalrpop_alphabet.specs.Internal.Alphabet.{Classes, IsSound};
 
     ghost Value = { Classes };
 

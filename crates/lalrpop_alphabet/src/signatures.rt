@@ -2,7 +2,7 @@
 
 ghost use Rattle.std.specs.Prelude.{◌≡◌, ℕ, ◌<◌, ◌≤◌, ◌↔◌, length, slice_get, Some, IfOk, OnOk};
 ghost use Rattle.std.specs.List.{Contains};
-ghost use Rattle.lalrpop_hir.specs.Range.{Range, Covers};
+ghost use Rattle.lalrpop_book.specs.Range.{Range, Covers};
 ghost use Rattle.lalrpop_alphabet.specs.Internal.Grouped.{AreCuts};
 ghost use Rattle.lalrpop_alphabet.specs.Internal.Signatures.{AreRising, HasEndsIn, IsEndAt, EndsAt, CoversAny, CoversIn, Added, Marked, Gained, AreSigned, HaveEnds, AreBare};
 

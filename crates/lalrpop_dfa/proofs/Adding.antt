@@ -17,22 +17,22 @@ use Rattle.lalrpop_items.specs.Automata.{Item}
 use Rattle.lalrpop_kernels.specs.Kernels.{Kernels, IsNumberOf, added}
 use Rattle.lalrpop_kernels.proofs.NumberedLemmas.{pushed_cases, pushed_keeps, pushed_last}
 use Rattle.lalrpop_nfa.specs.Compiled.{start_state}
-use Rattle.lalrpop_items.specs.Subsets.{starts_from, no_graph, move}
+use Rattle.lalrpop_items.specs.Internal.Subsets.{starts_from, no_graph, move}
 use Rattle.std.specs.Cmp.Lexicographic.{slice_cmp}
 use Rattle.std.proofs.lemmas.Bool.{cases_Bool}
-use Rattle.lalrpop_items.specs.Ascending.{item_cmp}
-use Rattle.lalrpop_items.specs.Transitions.{AreTransitions, transition_cmp}
+use Rattle.lalrpop_items.specs.Internal.Ascending.{item_cmp}
+use Rattle.lalrpop_items.specs.Internal.Transitions.{AreTransitions, transition_cmp}
 use Rattle.lalrpop_dfa.specs.Internal.Transitions.{transitions_cmp}
 use Rattle.lalrpop_items.specs.declared.transitions.Transition.{Transition}
 use Rattle.lalrpop_dfa.specs.declared.room.Transitions.{Transitions}
-use Rattle.lalrpop_items.specs.ItemOrder.{rejects_cmp, hash_of, items_cmp, set_cmp}
+use Rattle.lalrpop_items.specs.Internal.ItemOrder.{rejects_cmp, hash_of, items_cmp, set_cmp}
 use Rattle.lalrpop_items.specs.Internal.OrderLaws.{item_total, set_total}
-use Rattle.lalrpop_items.specs.LiveItems.{live_of}
+use Rattle.lalrpop_items.specs.Internal.LiveItems.{live_of}
 use Rattle.lalrpop_dfa.specs.Internal.Builder.{AddedTo, AreKnown}
-use Rattle.lalrpop_items.specs.Given.{AreAutomata, AreItemsOf}
-use Rattle.lalrpop_items.proofs.Members.{Has, has_from}
+use Rattle.lalrpop_items.specs.Internal.Given.{AreAutomata, AreItemsOf}
+use Rattle.lalrpop_book.proofs.Members.{Has, has_from}
 use Rattle.lalrpop_items.proofs.Targets.{compiled_at}
-use Rattle.lalrpop_kernels.proofs.Orders.{then_equal, nat_exact, lists_exact}
+use Rattle.lalrpop_book.proofs.Orders.{then_equal, nat_exact, lists_exact}
 use Rattle.lalrpop_items.proofs.Inserting.{item_exact}
 use Rattle.lalrpop_items.proofs.TransitionMoves.{leads_move}
 

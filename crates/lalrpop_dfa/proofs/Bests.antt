@@ -12,18 +12,18 @@ use Rattle.std.proofs.lemmas.List.Elements.{Contains-append_left, Contains-push,
 use Rattle.std.proofs.lemmas.Map.Keys.{Less-from_sorted}
 use Rattle.lalrpop_nfa.specs.Graph.{Graph}
 use Rattle.lalrpop_items.specs.Automata.{Item}
-use Rattle.lalrpop_items.specs.Ascending.{item_cmp, AreAscendingItems}
-use Rattle.lalrpop_items.specs.Given.{IsItemOf, AreAutomata, AreItemsOf}
+use Rattle.lalrpop_items.specs.Internal.Ascending.{item_cmp, AreAscendingItems}
+use Rattle.lalrpop_items.specs.Internal.Given.{IsItemOf, AreAutomata, AreItemsOf}
 use Rattle.lalrpop_nfa.specs.Compiled.{accept_state}
-use Rattle.lalrpop_items.specs.Subsets.{is_dead}
+use Rattle.lalrpop_items.specs.Internal.Subsets.{is_dead}
 use Rattle.lalrpop_dfa.specs.Internal.Best.{accepts, accepts_with, IsStrong, IsBestOf, IsBest, raised}
 use Rattle.std.proofs.lemmas.Option.{slice_get_within, slice_get-get_or, get_or_from_slice_get}
 use Rattle.lalrpop_dfa.specs.Internal.Built.{IsStrongestIn, IsKindOf, IsTied}
 use Rattle.lalrpop_table.specs.declared.Kind.TheVariants.{Accepts, Neither}
 use Rattle.lalrpop_dfa.specs.declared.best.Best.{Best}
 use Rattle.lalrpop_nfa.specs.declared.edge.StateKind.TheVariants.{Accept}
-use Rattle.lalrpop_nfa.proofs.Contained.{contains_none}
-use Rattle.lalrpop_items.proofs.Members.{Has, has_from, contains_from, has_filter, filter_has, has_map, map_has, has_cases, has_at}
+use Rattle.lalrpop_book.proofs.Contained.{contains_none}
+use Rattle.lalrpop_book.proofs.Members.{Has, has_from, contains_from, has_filter, filter_has, has_map, map_has, has_cases, has_at}
 use Rattle.lalrpop_dfa.specs.Internal.Ties.{AreAscending}
 use Rattle.lalrpop_items.proofs.Targets.{compiled_at}
 

@@ -5,23 +5,23 @@ use Rattle.std.specs.List.{Contains}
 use Rattle.std.proofs.lemmas.List.{take_more, take_all, length_push, map-append}
 use Rattle.std.proofs.Math.Pow.{pow_mono}
 use Rattle.std.proofs.lemmas.Option.{slice_get_cases, slice_get_within, slice_get-get_or, get_or_from_slice_get}
-use Rattle.lalrpop_hir.specs.Range.{Range}
-use Rattle.lalrpop_hir.specs.Tree.{Tree}
+use Rattle.lalrpop_book.specs.Range.{Range}
+use Rattle.lalrpop_book.specs.Tree.{Tree}
 use Rattle.lalrpop_hir.specs.Size.{size}
 use Rattle.lalrpop_nfa.specs.Graph.{Graph}
 use Rattle.lalrpop_ranges.specs.Partition.{IsPartition}
 use Rattle.lalrpop_table.specs.Dfa.{Row, Recognizes, IsWellFormed}
-use Rattle.lalrpop_dfa.specs.Clash.{NoClash, IsClash}
+use Rattle.lalrpop_book.specs.Clash.{NoClash, IsClash}
 use Rattle.lalrpop_items.specs.Automata.{Item, AreCompiled}
 use Rattle.lalrpop_dfa.specs.Items.{IsLeaving, HoldsItems, OthersReject, IsInWordOrder}
-use Rattle.lalrpop_items.specs.Ascending.{AreAscendingItems}
-use Rattle.lalrpop_items.specs.Subsets.{move, all_items}
+use Rattle.lalrpop_items.specs.Internal.Ascending.{AreAscendingItems}
+use Rattle.lalrpop_items.specs.Internal.Subsets.{move, all_items}
 use Rattle.lalrpop_dfa.specs.Internal.BreadthFirst.{AreEarlier, Automaton, IsBreadthFirst, Added, nth, value_of, from_of, word}
 use Rattle.lalrpop_dfa.specs.Internal.Built.{subset_automaton, IsKindOf, IsRowOf, IsTied}
-use Rattle.lalrpop_items.specs.Given.{AreAutomata, AreItemsOf}
+use Rattle.lalrpop_items.specs.Internal.Given.{AreAutomata, AreItemsOf}
 use Rattle.lalrpop_dfa.specs.Internal.Builder.{AddedTo, AreSmall, Keep, IsEdging, IsEdged, IsBuiltTo, IsTieOf, IsClashAt, IsClashOf}
-use Rattle.lalrpop_dfa.specs.declared.error.DfaConstructionError.{DfaConstructionError}
-use Rattle.lalrpop_dfa.specs.declared.error.DfaConstructionError.TheVariants.{NfaConstructionError as Refused, Ambiguity, OutOfMemory}
+use Rattle.lalrpop_book.specs.declared.error.DfaConstructionError.{DfaConstructionError}
+use Rattle.lalrpop_book.specs.declared.error.DfaConstructionError.TheVariants.{NfaConstructionError as Refused, Ambiguity, OutOfMemory}
 use Rattle.lalrpop_items.proofs.Sets.{first_set_ascends, first_set_items, move_ascends, move_items}
 use Rattle.lalrpop_dfa.proofs.RowSteps.{added_keeps, added_is, taken_range, taken_other, tests_lead_more, tests_lead_kept, run_small}
 use Rattle.lalrpop_dfa.proofs.BuiltTable.{built_stands}

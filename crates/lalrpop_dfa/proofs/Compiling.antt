@@ -2,18 +2,18 @@
 use Rattle.std.proofs.Common.{◌≡◌, ◌≢◌, ℕ, ◌+◌, inl, inr, List, [], ◌∷◌, ◌++◌, length, ap, sym, ◌∙◌, subst, arith, Some, None, length-append}
 use Rattle.std.specs.Prelude.{slice_get}
 use Rattle.std.proofs.lemmas.Option.{slice_get_cases, slice_get_within}
-use Rattle.lalrpop_hir.specs.Tree.{Tree}
+use Rattle.lalrpop_book.specs.Tree.{Tree}
 use Rattle.lalrpop_nfa.specs.Graph.{Graph}
-use Rattle.lalrpop_nfa.specs.Fault.{fault}
+use Rattle.lalrpop_book.specs.Fault.{fault}
 use Rattle.lalrpop_nfa.specs.Compiled.{IsCompiled}
 use Rattle.lalrpop_items.specs.Automata.{AreCompiled}
-use Rattle.lalrpop_dfa.specs.Report.{NoFault, IsFaultOf}
-use Rattle.lalrpop_items.specs.Given.{AreFixed}
+use Rattle.lalrpop_book.specs.Report.{NoFault, IsFaultOf}
+use Rattle.lalrpop_items.specs.Internal.Given.{AreFixed}
 use Rattle.lalrpop_dfa.specs.Internal.Builder.{IsRefusalOf, NoFaultBefore, IsCompiledAt}
-use Rattle.lalrpop_nfa.specs.declared.error.NfaConstructionError.TheVariants.{OutOfMemory as NoMemory}
-use Rattle.lalrpop_nfa.specs.declared.error.NfaConstructionError.{NfaConstructionError}
-use Rattle.lalrpop_dfa.specs.declared.error.DfaConstructionError.{DfaConstructionError}
-use Rattle.lalrpop_dfa.specs.declared.error.DfaConstructionError.TheVariants.{NfaConstructionError as Refused, Ambiguity, OutOfMemory}
+use Rattle.lalrpop_book.specs.declared.error.NfaConstructionError.TheVariants.{OutOfMemory as NoMemory}
+use Rattle.lalrpop_book.specs.declared.error.NfaConstructionError.{NfaConstructionError}
+use Rattle.lalrpop_book.specs.declared.error.DfaConstructionError.{DfaConstructionError}
+use Rattle.lalrpop_book.specs.declared.error.DfaConstructionError.TheVariants.{NfaConstructionError as Refused, Ambiguity, OutOfMemory}
 use Rattle.lalrpop_kernels.proofs.NumberedLemmas.{pushed_cases}
 
 -- the first k trees have no fault, and these automata

@@ -7,22 +7,22 @@ use Rattle.std.proofs.lemmas.Bool.{cases_lt, cases_Bool, lt-ltb, le-ltb, ltb-tru
 use Rattle.std.proofs.lemmas.List.{get_or_default, map-append, append-nil}
 use Rattle.std.proofs.lemmas.List.Elements.{Contains-get_or, Contains-append_cases}
 use Rattle.std.proofs.lemmas.Option.{slice_get-get_or, slice_get_cases, get_or_from_slice_get}
-use Rattle.lalrpop_hir.specs.Range.{Range}
+use Rattle.lalrpop_book.specs.Range.{Range}
 use Rattle.lalrpop_nfa.specs.Graph.{Graph}
 use Rattle.lalrpop_ranges.specs.Partition.{IsCovered, IsPartition}
 use Rattle.lalrpop_ranges.proofs.Cells.{BlocksBelow, IsCut, parts_none, parts_kept, parts_passed, zero_is_cut}
 use Rattle.lalrpop_ranges.proofs.Partition.{IsPartition-from_parts}
-use Rattle.lalrpop_alphabet.specs.Alphabet.{AreCells, IsInCell, IsFirstOf}
+use Rattle.lalrpop_alphabet.specs.Internal.Alphabet.{AreCells, IsInCell, IsFirstOf}
 use Rattle.lalrpop_alphabet.specs.declared.Cell.{Cell}
 use Rattle.lalrpop_items.specs.Automata.{Item}
 use Rattle.lalrpop_dfa.specs.Items.{IsLeaving}
 use Rattle.lalrpop_dfa.specs.Internal.Room.{IsTaken, AreTaken}
 use Rattle.lalrpop_dfa.specs.Internal.Transitions.{AreBelow, IsLaidOut}
-use Rattle.lalrpop_items.specs.Transitions.{IsTransition, AreTransitions}
+use Rattle.lalrpop_items.specs.Internal.Transitions.{IsTransition, AreTransitions}
 use Rattle.lalrpop_items.specs.declared.transitions.Transition.{Transition}
 use Rattle.lalrpop_dfa.specs.declared.room.Transitions.{Transitions}
 use Rattle.lalrpop_dfa.specs.Internal.Blocks.{Block, no_cell, cell_at, first_of, has_edges, between, block_to, blocks_to, blocks_of}
-use Rattle.lalrpop_nfa.proofs.Contained.{contains_none, contains_only}
+use Rattle.lalrpop_book.proofs.Contained.{contains_none, contains_only}
 use Rattle.lalrpop_items.proofs.WorklistSteps.{nil_from}
 
 -- a cell that is read at a cut

@@ -5,21 +5,21 @@ use Rattle.std.specs.List.{Contains}
 use Rattle.std.proofs.lemmas.Bool.{cases_lt}
 use Rattle.std.proofs.lemmas.Option.{slice_get_read}
 use Rattle.std.proofs.lemmas.List.{length_push}
-use Rattle.lalrpop_hir.specs.Range.{Range}
+use Rattle.lalrpop_book.specs.Range.{Range}
 use Rattle.lalrpop_nfa.specs.Graph.{Graph}
 use Rattle.lalrpop_ranges.specs.Partition.{IsPartition}
-use Rattle.lalrpop_alphabet.specs.Alphabet.{AreCells}
+use Rattle.lalrpop_alphabet.specs.Internal.Alphabet.{AreCells}
 use Rattle.lalrpop_alphabet.specs.declared.Cell.{Cell}
 use Rattle.lalrpop_items.specs.Automata.{Item}
-use Rattle.lalrpop_items.specs.Given.{AreAutomata}
-use Rattle.lalrpop_items.specs.Subsets.{move}
-use Rattle.lalrpop_items.specs.Transitions.{AreTransitions}
+use Rattle.lalrpop_items.specs.Internal.Given.{AreAutomata}
+use Rattle.lalrpop_items.specs.Internal.Subsets.{move}
+use Rattle.lalrpop_items.specs.Internal.Transitions.{AreTransitions}
 use Rattle.lalrpop_dfa.specs.Items.{IsLeaving}
 use Rattle.lalrpop_dfa.specs.Internal.Blocks.{Block, has_edges, blocks_to, blocks_of}
 use Rattle.lalrpop_dfa.specs.Internal.Builder.{AddedTo, IsEdging, AreKnownClasses}
 use Rattle.lalrpop_dfa.specs.Internal.Transitions.{HaveTransitions}
 use Rattle.lalrpop_dfa.specs.declared.room.Transitions.{Transitions}
-use Rattle.lalrpop_items.proofs.Members.{has_at, contains_from}
+use Rattle.lalrpop_book.proofs.Members.{has_at, contains_from}
 use Rattle.lalrpop_dfa.proofs.Builds.{edging_more}
 use Rattle.lalrpop_dfa.proofs.CutBlocks.{IsBefore, block, block_kept, block_passed, block_stands, has_some_to}
 use Rattle.lalrpop_dfa.proofs.KnownClasses.{AreOfBlocks, range_at}

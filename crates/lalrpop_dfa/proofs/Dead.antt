@@ -1,8 +1,8 @@
 -- Dead sets, and values that the labels don't tell apart.
 use Rattle.std.proofs.Common.{◌≡◌, ℕ, ◌<◌, ◌≤◌, inl, inr, List, [], refl, arith, true, Some}
 use Rattle.std.specs.List.{Contains, slice_get}
-use Rattle.lalrpop_hir.specs.Range.{Range, Covers}
-use Rattle.lalrpop_hir.specs.Tree.{Tree}
+use Rattle.lalrpop_book.specs.Range.{Range, Covers}
+use Rattle.lalrpop_book.specs.Tree.{Tree}
 use Rattle.lalrpop_nfa.specs.Graph.{Graph}
 use Rattle.lalrpop_nfa.specs.Path.{test, other}
 use Rattle.lalrpop_nfa.specs.Internal.Reads.{Reads}
@@ -10,14 +10,14 @@ use Rattle.lalrpop_nfa.specs.Compiled.{IsCompiled, reject_state}
 use Rattle.lalrpop_ranges.specs.Partition.{IsCovered, Alike}
 use Rattle.lalrpop_items.specs.Automata.{Item, AreCompiled}
 use Rattle.lalrpop_dfa.specs.Items.{IsLeaving}
-use Rattle.lalrpop_items.specs.Given.{AreAutomata}
-use Rattle.lalrpop_items.specs.Transitions.{AreTransitions}
+use Rattle.lalrpop_items.specs.Internal.Given.{AreAutomata}
+use Rattle.lalrpop_items.specs.Internal.Transitions.{AreTransitions}
 use Rattle.lalrpop_items.specs.declared.transitions.Transition.{Transition}
-use Rattle.lalrpop_nfa.proofs.Contained.{contains_none}
-use Rattle.lalrpop_items.specs.Subsets.{move, is_dead}
+use Rattle.lalrpop_book.proofs.Contained.{contains_none}
+use Rattle.lalrpop_items.specs.Internal.Subsets.{move, is_dead}
 use Rattle.lalrpop_dfa.specs.Internal.BreadthFirst.{DeadStays}
 use Rattle.lalrpop_dfa.specs.Internal.Built.{subset_automaton}
-use Rattle.lalrpop_items.proofs.Members.{Has, contains_from}
+use Rattle.lalrpop_book.proofs.Members.{Has, contains_from}
 use Rattle.lalrpop_items.proofs.Targets.{compiled_at}
 use Rattle.lalrpop_items.proofs.Moved.{dead_states, dead_from, reject_path, IsMoved, moved, TakeAlso, reads_moves}
 

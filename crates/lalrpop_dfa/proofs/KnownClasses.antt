@@ -4,14 +4,14 @@ use Rattle.std.specs.Prelude.{slice_get, Option, None}
 use Rattle.std.proofs.lemmas.Option.{slice_get_read, slice_get_within, get_or_from_slice_get}
 use Rattle.std.proofs.lemmas.List.{get_or-map, length-map}
 use Rattle.std.specs.List.{Contains}
-use Rattle.lalrpop_hir.specs.Range.{Range}
+use Rattle.lalrpop_book.specs.Range.{Range}
 use Rattle.lalrpop_dfa.specs.Internal.Blocks.{Block}
 use Rattle.lalrpop_nfa.specs.Graph.{Graph}
 use Rattle.lalrpop_items.specs.Automata.{Item}
 use Rattle.lalrpop_dfa.specs.Internal.Builder.{AddedTo, AreUnknown, AreKnownClasses, IsNumberOfEqual}
 use Rattle.lalrpop_dfa.specs.Internal.Room.{OnlyNumbers}
-use Rattle.lalrpop_items.specs.Subsets.{move}
-use Rattle.lalrpop_items.specs.Transitions.{AreTransitions}
+use Rattle.lalrpop_items.specs.Internal.Subsets.{move}
+use Rattle.lalrpop_items.specs.Internal.Transitions.{AreTransitions}
 use Rattle.lalrpop_items.specs.declared.transitions.Transition.{Transition}
 use Rattle.lalrpop_dfa.specs.declared.room.Transitions.{Transitions}
 use Rattle.lalrpop_dfa.proofs.Adding.{added_stays, added_at}

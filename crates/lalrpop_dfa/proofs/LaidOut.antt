@@ -2,15 +2,15 @@
 use Rattle.std.proofs.Common.{◌≡◌, ℕ, List, length, subst, sym, ◌∙◌}
 use Rattle.std.specs.Prelude.{slice_get, Some}
 use Rattle.std.specs.List.{Contains}
-use Rattle.lalrpop_hir.specs.Range.{Range}
+use Rattle.lalrpop_book.specs.Range.{Range}
 use Rattle.lalrpop_nfa.specs.Graph.{Graph}
 use Rattle.lalrpop_nfa.specs.Path.{test}
-use Rattle.lalrpop_alphabet.specs.Alphabet.{Classes, HasState, IsInCell, IsEndOf, IsFirstOf, IsSound, IsAlphabetOf}
+use Rattle.lalrpop_alphabet.specs.Internal.Alphabet.{Classes, HasState, IsInCell, IsEndOf, IsFirstOf, IsSound, IsAlphabetOf}
 use Rattle.lalrpop_items.specs.Automata.{Item}
 use Rattle.lalrpop_dfa.specs.Items.{IsLeaving}
-use Rattle.lalrpop_items.specs.Given.{AreItemsOf}
+use Rattle.lalrpop_items.specs.Internal.Given.{AreItemsOf}
 use Rattle.lalrpop_dfa.specs.Internal.Transitions.{AreBelow, AreGathered, AreCutsOf, IsLaidOut}
-use Rattle.lalrpop_items.specs.Transitions.{AreTransitions}
+use Rattle.lalrpop_items.specs.Internal.Transitions.{AreTransitions}
 use Rattle.lalrpop_dfa.specs.declared.room.Transitions.{Transitions}
 
 -- the cuts of items are cells

@@ -3,7 +3,7 @@ use Rattle.std.proofs.Common.{◌≡◌, ℕ, ◌↔◌, inl, inr, List, map, fi
 use Rattle.std.specs.List.{Contains, slice_get, flat_map}
 use Rattle.std.proofs.lemmas.Option.{slice_get_cases}
 use Rattle.std.proofs.lemmas.List.{get_or_past}
-use Rattle.lalrpop_hir.specs.Range.{Range, Covers}
+use Rattle.lalrpop_book.specs.Range.{Range, Covers}
 use Rattle.lalrpop_ranges.specs.Partition.{IsCovered, IsPartition}
 use Rattle.lalrpop_ranges.proofs.BlockCover.{block_of_covered}
 use Rattle.lalrpop_nfa.specs.declared.edge.Edge.{Edge}
@@ -11,8 +11,8 @@ use Rattle.lalrpop_nfa.specs.Graph.{Graph}
 use Rattle.lalrpop_nfa.specs.Path.{test}
 use Rattle.lalrpop_items.specs.Automata.{Item}
 use Rattle.lalrpop_dfa.specs.Items.{IsLeaving}
-use Rattle.lalrpop_items.specs.Subsets.{no_graph, graph_at, move}
-use Rattle.lalrpop_items.proofs.Members.{Has, has_from, contains_from, has_filter, filter_has, has_map, map_has, has_flat_map, flat_map_has}
+use Rattle.lalrpop_items.specs.Internal.Subsets.{no_graph, graph_at, move}
+use Rattle.lalrpop_book.proofs.Members.{Has, has_from, contains_from, has_filter, filter_has, has_map, map_has, has_flat_map, flat_map_has}
 use Rattle.lalrpop_items.proofs.Targets.{graph_is}
 use Rattle.lalrpop_dfa.proofs.Dead.{alike_moves}
 

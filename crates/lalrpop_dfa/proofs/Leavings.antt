@@ -5,7 +5,7 @@ use Rattle.std.specs.List.{Contains}
 use Rattle.std.proofs.lemmas.Option.{slice_get_read, slice_get_within, slice_get-get_or}
 use Rattle.std.proofs.lemmas.List.{get_or_default, length-set}
 use Rattle.std.proofs.lemmas.List.Elements.{Contains-append_left, Contains-append_right, Contains-append_cases}
-use Rattle.lalrpop_alphabet.specs.Alphabet.{Classes, AreLeadsOf, IsLeadOf, HasClass, HasCut, LeadsBy, CutsAt}
+use Rattle.lalrpop_alphabet.specs.Internal.Alphabet.{Classes, AreLeadsOf, IsLeadOf, HasClass, HasCut, LeadsBy, CutsAt}
 use Rattle.lalrpop_alphabet.specs.declared.Group.{Group}
 use Rattle.lalrpop_alphabet.specs.declared.Lead.{Lead}
 use Rattle.lalrpop_alphabet.specs.declared.NfaLeads.{NfaLeads}
@@ -14,10 +14,10 @@ use Rattle.lalrpop_items.specs.Automata.{Item}
 use Rattle.lalrpop_dfa.specs.Internal.Transitions.{AreBare, Gained, AreGathered, AreCutsOf}
 use Rattle.lalrpop_items.specs.declared.transitions.Transition.{Transition}
 use Rattle.lalrpop_dfa.specs.declared.room.Transitions.{Transitions}
-use Rattle.lalrpop_nfa.proofs.Contained.{contains_only, contains_none}
+use Rattle.lalrpop_book.proofs.Contained.{contains_only, contains_none}
 use Rattle.lalrpop_alphabet.proofs.Marking.{set_at}
 use Rattle.lalrpop_kernels.proofs.NumberedLemmas.{pushed_cases}
-use Rattle.lalrpop_items.proofs.Members.{taken_more}
+use Rattle.lalrpop_book.proofs.Members.{taken_more}
 
 pub gained_none : {E : ℕ → Transition → Type 0} → (old : List Transitions) → ((c : ℕ) (l : Transition) → E c l → ⊥) → Gained old old E
 gained_none old none = (refl, λ c t t2 was will l. (let e : t2 ≡ t = cc in (λ h. inl (rw (← e) h), λ h. elim h [ inl x ↦ rw e x | inr x ↦ absurd (none c l x) ])))

@@ -3,8 +3,6 @@ pub mod WordOrder
 pub mod Origins
 pub mod BreadthFirst
 pub mod Steps
-pub mod ClashLaws
-pub use Rattle.lalrpop_table.proofs.Longests
 pub mod ReachedItems
 pub mod Dead
 pub mod Bests
@@ -31,6 +29,5 @@ mod KnownClasses
 mod CutEdges
 mod LiveItems
 -- laws for callers
-pub mod Strongest
 pub mod Agreeing
 pub use Rattle.lalrpop_table.proofs.AfterLaws

@@ -4,8 +4,8 @@ use Rattle.std.specs.Prelude.{slice_get, Some, replicate, ◌↔◌}
 use Rattle.std.specs.List.{Contains}
 use Rattle.std.proofs.lemmas.List.{length-set}
 use Rattle.std.proofs.lemmas.List.Elements.{Contains-append_left, Contains-append_right, Contains-append_cases}
-use Rattle.lalrpop_nfa.proofs.Contained.{contains_only, contains_none}
-use Rattle.lalrpop_alphabet.specs.Alphabet.{HasCut}
+use Rattle.lalrpop_book.proofs.Contained.{contains_only, contains_none}
+use Rattle.lalrpop_alphabet.specs.Internal.Alphabet.{HasCut}
 use Rattle.lalrpop_alphabet.specs.declared.Group.{Group}
 use Rattle.lalrpop_alphabet.proofs.Marking.{set_at}
 use Rattle.lalrpop_dfa.specs.Internal.Room.{AreMarked, AreUnmarked, HoldMarked}

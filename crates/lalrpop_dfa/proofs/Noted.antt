@@ -4,7 +4,7 @@ use Rattle.std.specs.Prelude.{slice_get, Option, Some, None}
 use Rattle.std.specs.List.{Contains}
 use Rattle.std.proofs.lemmas.List.{length-set}
 use Rattle.std.proofs.lemmas.List.Elements.{Contains-append_left, Contains-append_right, Contains-append_cases}
-use Rattle.lalrpop_nfa.proofs.Contained.{contains_only}
+use Rattle.lalrpop_book.proofs.Contained.{contains_only}
 use Rattle.lalrpop_dfa.specs.Internal.Room.{AreNoted, OnlyNumbers}
 use Rattle.lalrpop_dfa.specs.declared.room.Transitions.{Transitions}
 use Rattle.lalrpop_alphabet.proofs.Marking.{set_at}

@@ -1,19 +1,19 @@
 -- What a set of items says of the words that lead to it.
 use Rattle.std.proofs.Common.{◌≡◌, ℕ, ◌↔◌, List, refl, ap, sym, subst, ◌∙◌, arith, true, false, Some}
 use Rattle.std.specs.List.{Contains, slice_get}
-use Rattle.lalrpop_hir.specs.Tree.{Tree}
+use Rattle.lalrpop_book.specs.Tree.{Tree}
 use Rattle.lalrpop_nfa.specs.Graph.{Graph}
 use Rattle.lalrpop_nfa.specs.Compiled.{IsCompiled, accept_state, reject_state}
-use Rattle.lalrpop_table.specs.Winners.{TreeMatches, IsStrongest, Ambiguous}
+use Rattle.lalrpop_book.specs.Winners.{TreeMatches, IsStrongest, Ambiguous}
 use Rattle.lalrpop_table.specs.Dfa.{IsRightKind}
 use Rattle.lalrpop_items.specs.Automata.{Item, AreCompiled}
 use Rattle.lalrpop_dfa.specs.Items.{IsReached}
-use Rattle.lalrpop_items.specs.Subsets.{first_set_of, is_dead}
+use Rattle.lalrpop_items.specs.Internal.Subsets.{first_set_of, is_dead}
 use Rattle.lalrpop_dfa.specs.Internal.BreadthFirst.{after}
 use Rattle.lalrpop_dfa.specs.Internal.Built.{subset_automaton, IsStrongestIn, IsKindOf}
 use Rattle.lalrpop_table.specs.declared.Kind.{Kind}
 use Rattle.lalrpop_table.specs.declared.Kind.TheVariants.{Accepts, Reject, Neither}
-use Rattle.lalrpop_items.proofs.Members.{has_from}
+use Rattle.lalrpop_book.proofs.Members.{has_from}
 use Rattle.lalrpop_items.proofs.Targets.{compiled_at, compiled_of}
 use Rattle.lalrpop_dfa.proofs.ReachedItems.{reached_items}
 use Rattle.lalrpop_items.proofs.Moved.{dead_states}

@@ -8,13 +8,13 @@ use Rattle.std.proofs.lemmas.List.Elements.{Contains-append_left, Contains-push,
 use Rattle.std.proofs.lemmas.Option.{slice_get_within, slice_get-get_or}
 use Rattle.std.proofs.lemmas.Bool.{cases_lt}
 use Rattle.lalrpop_kernels.proofs.NumberedLemmas.{pushed_cases}
-use Rattle.lalrpop_kernels.proofs.Orders.{set_come, set_has, set_kept}
-use Rattle.lalrpop_nfa.proofs.Contained.{contains_none}
-use Rattle.lalrpop_items.specs.Ascending.{item_cmp}
+use Rattle.lalrpop_book.proofs.Orders.{set_come, set_has, set_kept}
+use Rattle.lalrpop_book.proofs.Contained.{contains_none}
+use Rattle.lalrpop_items.specs.Internal.Ascending.{item_cmp}
 use Rattle.lalrpop_items.specs.Internal.OrderLaws.{item_total}
 use Rattle.lalrpop_items.proofs.Inserting.{item_exact}
-use Rattle.lalrpop_items.proofs.Members.{contains_from, has_at}
-use Rattle.lalrpop_dfa.specs.ClashList.{Entry, AreInOrder, StandsBefore}
+use Rattle.lalrpop_book.proofs.Members.{contains_from, has_at}
+use Rattle.lalrpop_book.specs.Clashes.{Entry, AreInOrder, StandsBefore}
 use Rattle.lalrpop_dfa.specs.Internal.Ties.{HasPair, ArePairsOf, IsAddedOnce, AreAscending, IsReached, AreTiesTo, HasTiesTo}
 
 -- ---- pairs of a list

@@ -1,15 +1,21 @@
+-- of the book, what the contracts of this crate name
+pub use Rattle.lalrpop_book.specs.Word
+pub use Rattle.lalrpop_book.specs.Tree
+pub use Rattle.lalrpop_book.specs.Language
+pub use Rattle.lalrpop_book.specs.Fault
+pub use Rattle.lalrpop_book.specs.Prefix
+pub use Rattle.lalrpop_book.specs.Winners
+pub use Rattle.lalrpop_book.specs.Longest
+pub use Rattle.lalrpop_book.specs.Clash
+pub use Rattle.lalrpop_book.specs.Clashes
+pub use Rattle.lalrpop_book.specs.Report
 -- what the contracts of this crate name of those below
 pub use Rattle.lalrpop_ranges.specs.Partition
 pub use Rattle.lalrpop_kernels.specs.Kernels
 pub use Rattle.lalrpop_items.specs.Automata
-pub use Rattle.lalrpop_table.specs.Winners
-pub use Rattle.lalrpop_table.specs.Longest
 pub use Rattle.lalrpop_table.specs.Dfa
 pub use Rattle.lalrpop_table.specs.Counts
 pub use Rattle.lalrpop_table.specs.SameAutomata
-pub mod Clash
-pub mod ClashList
-pub mod Report
 pub mod Items
 pub mod Agree
 -- what private functions promise one another, which no promise to a caller names

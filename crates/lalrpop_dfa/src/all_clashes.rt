@@ -1,11 +1,11 @@
 //! All clashes of a list of patterns.
 ghost use Rattle.std.specs.Prelude.{◌≡◌, List, map, length, IfOk, IfErr};
-ghost use Rattle.lalrpop_hir.specs.Tree.{Tree};
+ghost use Rattle.lalrpop_book.specs.Tree.{Tree};
 ghost use Rattle.lalrpop_items.specs.Automata.{AreCompiled};
-ghost use Rattle.lalrpop_items.specs.Given.{AreAutomata};
-ghost use Rattle.lalrpop_dfa.specs.ClashList.{AreClashes};
+ghost use Rattle.lalrpop_items.specs.Internal.Given.{AreAutomata};
+ghost use Rattle.lalrpop_book.specs.Clashes.{AreClashes};
 ghost use Rattle.lalrpop_dfa.specs.Internal.Ties.{AreOwn};
-ghost use Rattle.lalrpop_dfa.specs.Report.{NoFault, IsFaultOf};
+ghost use Rattle.lalrpop_book.specs.Report.{NoFault, IsFaultOf};
 
 use super::automata::Automata;
 use super::build::compile_all;
@@ -29,7 +29,7 @@ pub struct Clash {
 }
 
 impl Model for Clash {
-    ghost use Rattle.lalrpop_dfa.specs.ClashList.{Entry};
+    ghost use Rattle.lalrpop_book.specs.Clashes.{Entry};
 
     ghost Value = { Entry };
 

@@ -5,10 +5,10 @@
 ghost use Rattle.std.specs.Prelude.{◌≡◌, ℕ, ◌<◌, ◌↔◌, length, map, slice_get, Some, IfOk, IfErr, OnOk};
 ghost use Rattle.std.specs.List.{Contains};
 ghost use Rattle.std.specs.List.Sorted.{IsSorted};
-ghost use Rattle.lalrpop_items.specs.Ascending.{AreAscendingItems};
-ghost use Rattle.lalrpop_items.specs.Given.{AreAutomata, AreItemsOf};
-ghost use Rattle.lalrpop_items.specs.Subsets.{move, starts_from, first_set_of};
-ghost use Rattle.lalrpop_items.specs.Transitions.{transition_cmp, AreTransitions};
+ghost use Rattle.lalrpop_items.specs.Internal.Ascending.{AreAscendingItems};
+ghost use Rattle.lalrpop_items.specs.Internal.Given.{AreAutomata, AreItemsOf};
+ghost use Rattle.lalrpop_items.specs.Internal.Subsets.{move, starts_from, first_set_of};
+ghost use Rattle.lalrpop_items.specs.Internal.Transitions.{transition_cmp, AreTransitions};
 ghost use Rattle.lalrpop_dfa.specs.Internal.Built.{IsKindOf, IsStrongestIn, IsTied};
 ghost use Rattle.lalrpop_dfa.specs.Internal.Ties.{AreAscending};
 ghost use Rattle.lalrpop_dfa.specs.Internal.Room.{IsRoomOf, IsFilled};
@@ -31,8 +31,8 @@ pub(super) struct Automata<'nfas> {
 }
 
 impl<'nfas> Model for Automata<'nfas> {
-    ghost use Rattle.lalrpop_items.specs.Given.{AreAutomata};
-    ghost use Rattle.lalrpop_alphabet.specs.Alphabet.{IsAlphabetOf};
+    ghost use Rattle.lalrpop_items.specs.Internal.Given.{AreAutomata};
+    ghost use Rattle.lalrpop_alphabet.specs.Internal.Alphabet.{IsAlphabetOf};
     ghost use Rattle.lalrpop_dfa.specs.Internal.Labelled.{Labelled};
 
     ghost Value = { Labelled };

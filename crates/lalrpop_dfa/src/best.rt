@@ -2,13 +2,13 @@
 
 ghost use Rattle.std.specs.Prelude.{◌≡◌, ℕ, ◌<◌, ◌==◌, ◌↔◌, map, length, IfOk, IfErr};
 ghost use Rattle.std.specs.List.{Contains};
-ghost use Rattle.lalrpop_items.specs.Ascending.{AreAscendingItems};
-ghost use Rattle.lalrpop_items.specs.Given.{IsItemOf, AreAutomata, AreItemsOf};
+ghost use Rattle.lalrpop_items.specs.Internal.Ascending.{AreAscendingItems};
+ghost use Rattle.lalrpop_items.specs.Internal.Given.{IsItemOf, AreAutomata, AreItemsOf};
 ghost use Rattle.lalrpop_dfa.specs.Internal.Best.{IsBest, accepts, accepts_with, raised};
 ghost use Rattle.lalrpop_dfa.specs.Internal.Built.{IsKindOf, IsStrongestIn, IsTied};
 ghost use Rattle.lalrpop_dfa.specs.Internal.Ties.{AreAscending};
 ghost use Rattle.lalrpop_nfa.specs.Compiled.{accept_state};
-ghost use Rattle.lalrpop_items.specs.Subsets.{is_dead};
+ghost use Rattle.lalrpop_items.specs.Internal.Subsets.{is_dead};
 
 use super::{Kind, NfaIndex, Precedence};
 use lalrpop_items::{Item, ItemSet};

@@ -1,14 +1,14 @@
 //! Building an automaton: the patterns are compiled one by one, then joined.
 ghost use Rattle.std.specs.Prelude.{◌≡◌, ◌<◌, ◌≤◌, List, map, length, IfOk, IfErr};
-ghost use Rattle.lalrpop_items.specs.Given.{AreFixed};
+ghost use Rattle.lalrpop_items.specs.Internal.Given.{AreFixed};
 ghost use Rattle.lalrpop_dfa.specs.Internal.Builder.{IsRefusalOf, NoFaultBefore, IsCompiledAt};
-ghost use Rattle.lalrpop_dfa.specs.Clash.{NoClash};
+ghost use Rattle.lalrpop_book.specs.Clash.{NoClash};
 ghost use Rattle.lalrpop_table.specs.Counts.{state_bound};
 ghost use Rattle.lalrpop_table.specs.Dfa.{Recognizes};
 ghost use Rattle.lalrpop_nfa.specs.Graph.{Graph};
 ghost use Rattle.lalrpop_items.specs.Automata.{AreCompiled};
 ghost use Rattle.lalrpop_dfa.specs.Items.{HoldsItems, OthersReject, IsInWordOrder};
-ghost use Rattle.lalrpop_dfa.specs.Report.{NoFault, IsFaultOf, IsReport};
+ghost use Rattle.lalrpop_book.specs.Report.{NoFault, IsFaultOf, IsReport};
 
 use super::builder::build;
 use super::{Dfa, DfaConstructionError, NfaIndex, Precedence};

@@ -2,19 +2,19 @@
 
 ghost use Rattle.std.specs.Prelude.{◌≡◌, ◌+◌, ◌-◌, ◌^◌, ◌↔◌, IsTrue, ◌<◌, ◌≤◌, ◌++◌, ◌∷◌, [], List, length, map, slice_get, Some, IfOk, IfErr, OnOk};
 ghost use Rattle.std.specs.List.Sorted.{IsSorted};
-ghost use Rattle.lalrpop_hir.specs.Tree.{Tree};
-ghost use Rattle.lalrpop_items.specs.Ascending.{AreAscendingItems};
-ghost use Rattle.lalrpop_items.specs.Given.{AreAutomata, AreItemsOf};
+ghost use Rattle.lalrpop_book.specs.Tree.{Tree};
+ghost use Rattle.lalrpop_items.specs.Internal.Ascending.{AreAscendingItems};
+ghost use Rattle.lalrpop_items.specs.Internal.Given.{AreAutomata, AreItemsOf};
 ghost use Rattle.lalrpop_dfa.specs.Internal.Builder.{IsAdded, AreKnown, AreKnownClasses, AreTested, IsEdged, IsBuiltTo, IsTieOf, IsClashAt, IsClashOf};
 ghost use Rattle.lalrpop_dfa.specs.Internal.Built.{subset_automaton};
-ghost use Rattle.lalrpop_dfa.specs.Clash.{NoClash};
+ghost use Rattle.lalrpop_book.specs.Clash.{NoClash};
 ghost use Rattle.lalrpop_table.specs.Counts.{state_bound};
 ghost use Rattle.lalrpop_table.specs.Dfa.{Recognizes};
 ghost use Rattle.lalrpop_items.specs.Automata.{AreCompiled};
 ghost use Rattle.lalrpop_dfa.specs.Items.{HoldsItems, OthersReject, IsInWordOrder};
 ghost use Rattle.lalrpop_dfa.specs.Internal.Room.{IsRoomOf, IsFilled, OnlyNumbers};
-ghost use Rattle.lalrpop_items.specs.Transitions.{transition_cmp, AreTransitions};
-ghost use Rattle.lalrpop_items.specs.Subsets.{move, first_set_of};
+ghost use Rattle.lalrpop_items.specs.Internal.Transitions.{transition_cmp, AreTransitions};
+ghost use Rattle.lalrpop_items.specs.Internal.Subsets.{move, first_set_of};
 ghost use Rattle.lalrpop_dfa.specs.Internal.BreadthFirst.{AreEarlier, IsBreadthFirst, nth, word};
 
 use super::automata::Automata;

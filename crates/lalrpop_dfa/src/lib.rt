@@ -6,15 +6,14 @@ mod automata;
 mod best;
 mod build;
 mod builder;
-mod error;
 mod origin;
 mod room;
 mod ties;
 
 pub use all_clashes::{Clash, clashes};
 pub use build::build_dfa;
-pub use error::DfaConstructionError;
-pub use lalrpop_items::{DfaStateIndex, NfaIndex, START};
+pub use lalrpop_book::{DfaConstructionError, NfaIndex, Precedence};
+pub use lalrpop_items::{DfaStateIndex, START};
 pub use lalrpop_kernels as kernel_set;
 pub use lalrpop_ranges::overlap;
-pub use lalrpop_table::{Dfa, Kind, Precedence, State, interpret};
+pub use lalrpop_table::{Dfa, Kind, State, interpret};

@@ -3,8 +3,8 @@
 ghost use Rattle.std.specs.Prelude.{◌≡◌, ℕ, ◌<◌, ◌⊎◌, ◌↔◌, [], length, slice_get, not, IfOk, IfSome, OnOk};
 ghost use Rattle.lalrpop_dfa.specs.Internal.Blocks.{has_edges};
 ghost use Rattle.std.specs.List.{Contains};
-ghost use Rattle.lalrpop_alphabet.specs.Alphabet.{HasState, HasCut, LeadsBy, CutsAt, IsAlphabetOf};
-ghost use Rattle.lalrpop_items.specs.Given.{AreAutomata, AreItemsOf};
+ghost use Rattle.lalrpop_alphabet.specs.Internal.Alphabet.{HasState, HasCut, LeadsBy, CutsAt, IsAlphabetOf};
+ghost use Rattle.lalrpop_items.specs.Internal.Given.{AreAutomata, AreItemsOf};
 ghost use Rattle.lalrpop_dfa.specs.Internal.Builder.{AreUnknown, IsNumberOfEqual};
 ghost use Rattle.lalrpop_dfa.specs.Internal.Room.{AreNoted, AreMarked, AreUnmarked, HoldMarked, IsTidy, IsCleared, IsRoomOf, IsFilled};
 ghost use Rattle.lalrpop_items.specs.Automata.{Item as ItemValue};

@@ -6,9 +6,9 @@ use Rattle.std.proofs.lemmas.Str.{chars-encodes, scalars-chars}
 use Rattle.std.specs.List.{list_any, list_all}
 use Rattle.std.proofs.lemmas.Bool.{and_parts, eqb-true}
 use Rattle.std.proofs.lemmas.List.{append-nil, map-id}
-use Rattle.lalrpop_hir.specs.Tree.{Tree, literal}
+use Rattle.lalrpop_book.specs.Tree.{Tree, literal}
 use Rattle.lalrpop_hir.specs.Parts.{trees}
-use Rattle.lalrpop_hir.specs.Language.{Matches, MatchInTurn}
+use Rattle.lalrpop_book.specs.Language.{Matches, MatchInTurn}
 use Rattle.lalrpop_grammar.specs.Text.{Text}
 use Rattle.lalrpop_grammar.specs.Flag.{no_flags}
 use Rattle.lalrpop_grammar.specs.GroupName.{names, all_names}

@@ -11,7 +11,7 @@ use Rattle.std.proofs.lemmas.Bool.{and_parts}
 use Rattle.std.proofs.lemmas.Bool.Decides.{same_from_decides}
 use Rattle.std.proofs.lemmas.List.Folds.{list_any-append}
 use Rattle.std.proofs.lemmas.Slice.Eq.{bytes_eq-Decides}
-use Rattle.lalrpop_hir.specs.Tree.{Tree}
+use Rattle.lalrpop_book.specs.Tree.{Tree}
 use Rattle.lalrpop_hir.specs.Parts.{trees}
 use Rattle.lalrpop_grammar.specs.GroupName.{names, all_names, are_distinct, IsFirstRepeated}
 use Rattle.lalrpop_grammar.proofs.Steps.{or_cases, or_parts}

@@ -4,10 +4,10 @@ use Rattle.std.proofs.lemmas.List.{append-nil}
 use Rattle.std.proofs.lemmas.Bool.{ltb-true, lt-ltb, and_parts, eqb-true}
 use Rattle.lalrpop_grammar.specs.Text.{Text, ◌▸◌, begins}
 use Rattle.lalrpop_sets.specs.CharacterSet.{is_one_of, Set, set_tree}
-use Rattle.lalrpop_hir.specs.Tree.{Tree, capture, look, repetition}
+use Rattle.lalrpop_book.specs.Tree.{Tree, capture, look, repetition}
 use Rattle.lalrpop_grammar.specs.GroupName.{names}
 use Rattle.lalrpop_grammar.specs.declared.flags.Flags.{Flags}
-use Rattle.lalrpop_hir.specs.declared.hir.Look.TheVariants.{Start, End, StartLF, EndLF}
+use Rattle.lalrpop_book.specs.declared.look.Look.TheVariants.{Start, End, StartLF, EndLF}
 use Rattle.lalrpop_grammar.specs.Escape.{Escaped}
 use Rattle.lalrpop_grammar.specs.Bracket.{Bracket, a_bracket_of, a_negated_of}
 use Rattle.lalrpop_grammar.specs.Operator.{Operator}

@@ -7,9 +7,9 @@ use Rattle.std.proofs.lemmas.List.{append-nil}
 use Rattle.std.proofs.lemmas.Str.{chars-encodes}
 use Rattle.std.proofs.lemmas.Bool.{and_parts, and_from, both_ways}
 use Rattle.std.proofs.lemmas.Bool.Decides.{nat_tests}
-use Rattle.lalrpop_hir.specs.Range.{Range, Covered}
+use Rattle.lalrpop_book.specs.Range.{Range, Covered}
 use Rattle.lalrpop_hir.specs.Runs.{IsScalar, IsCanon}
-use Rattle.lalrpop_hir.specs.Tree.{literal, class, unicode}
+use Rattle.lalrpop_book.specs.Tree.{literal, class, unicode}
 use Rattle.lalrpop_hir.specs.Parts.{of_text}
 use Rattle.lalrpop_hir.proofs.Complements.{IsCanon-same}
 use Rattle.lalrpop_grammar.specs.declared.flags.Flags.{Flags}

@@ -4,8 +4,8 @@ use Rattle.std.specs.Prelude.{◌≡◌, ℕ, suc, ◌+◌, ◌*◌, ◌<◌, Bo
 use Rattle.std.specs.List.{list_all}
 use Rattle.std.specs.Char.{is_ascii, is_ascii_alphanumeric, is_ascii_hexdigit, digit_value}
 use Rattle.unicode.specs.Perl.{is_digit_char, is_space_char, is_word_char}
-use Rattle.lalrpop_hir.specs.declared.hir.Look.{Look}
-use Rattle.lalrpop_hir.specs.declared.hir.Look.TheVariants.{WordUnicode, WordUnicodeNegate, WordStartUnicode, WordEndUnicode, WordStartHalfUnicode, WordEndHalfUnicode, Start, End}
+use Rattle.lalrpop_book.specs.declared.look.Look.{Look}
+use Rattle.lalrpop_book.specs.declared.look.Look.TheVariants.{WordUnicode, WordUnicodeNegate, WordStartUnicode, WordEndUnicode, WordStartHalfUnicode, WordEndHalfUnicode, Start, End}
 use Rattle.lalrpop_grammar.specs.Text.{Text, ◌▸◌, begins}
 use Rattle.lalrpop_sets.specs.CharacterSet.{Set, is_scalar, is_one_of}
 use Rattle.lalrpop_sets.specs.NamedSet.{named}

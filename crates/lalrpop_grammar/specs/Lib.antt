@@ -10,15 +10,15 @@ pub mod Escaped
 -- what serves the proofs alone
 pub mod Internal
 -- the definitions of the trees, for callers
-pub use Rattle.lalrpop_hir.specs.Word
-pub use Rattle.lalrpop_hir.specs.Range
+pub use Rattle.lalrpop_book.specs.Word
+pub use Rattle.lalrpop_book.specs.Range
 pub use Rattle.lalrpop_hir.specs.Runs
 pub use Rattle.lalrpop_hir.specs.Counts
-pub use Rattle.lalrpop_hir.specs.Tree
+pub use Rattle.lalrpop_book.specs.Tree
 pub use Rattle.lalrpop_hir.specs.Parts
 pub use Rattle.lalrpop_hir.specs.Size
 pub use Rattle.lalrpop_hir.specs.Level
-pub use Rattle.lalrpop_hir.specs.Language
+pub use Rattle.lalrpop_book.specs.Language
 -- the definitions of sets of characters, for callers
 pub use Rattle.lalrpop_sets.specs.CharacterSet
 pub use Rattle.lalrpop_sets.specs.NamedSet

@@ -1,10 +1,10 @@
 -- cases: proofs/Cases/Pattern.antt
 -- Patterns: a text and the tree that it spells.
 use Rattle.std.specs.Prelude.{ℕ, ◌<◌, ◌≤◌, ◌+◌, max, Bool, true, false, not, ◌==◌, IsTrue, IsFalse, List, [], ◌∷◌, length, Option, Some, None, if◌then◌else◌, codes, encode_utf8_all}
-use Rattle.lalrpop_hir.specs.Range.{Range}
-use Rattle.lalrpop_hir.specs.Tree.{Tree, empty, literal, look, repetition, capture, concat, alternation}
+use Rattle.lalrpop_book.specs.Range.{Range}
+use Rattle.lalrpop_book.specs.Tree.{Tree, empty, literal, look, repetition, capture, concat, alternation}
 use Rattle.lalrpop_hir.specs.Parts.{trees}
-use Rattle.lalrpop_hir.specs.declared.hir.Look.TheVariants.{Start, End, StartLF, EndLF}
+use Rattle.lalrpop_book.specs.declared.look.Look.TheVariants.{Start, End, StartLF, EndLF}
 use Rattle.lalrpop_grammar.specs.Text.{Text, ◌▸◌}
 use Rattle.lalrpop_sets.specs.CharacterSet.{Set, just, complement, nothing, fold, canon, set_tree, is_one_of}
 use Rattle.lalrpop_grammar.specs.declared.flags.Flags.{Flags}

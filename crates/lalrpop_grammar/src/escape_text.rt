@@ -1,8 +1,8 @@
 //! Texts as patterns that match them alone.
 ghost use Rattle.std.specs.Prelude.{◌≡◌, ◌↔◌, ◌++◌, ◌∷◌, [], ℕ, List, IfOk, IfErr, OnOk, string_bytes, encode_utf8_all};
 ghost use Rattle.std.specs.Str.{chars};
-ghost use Rattle.lalrpop_hir.specs.Tree.{Tree};
-ghost use Rattle.lalrpop_hir.specs.Language.{Matches};
+ghost use Rattle.lalrpop_book.specs.Tree.{Tree};
+ghost use Rattle.lalrpop_book.specs.Language.{Matches};
 ghost use Rattle.lalrpop_grammar.specs.Pattern.{Pattern};
 ghost use Rattle.lalrpop_grammar.specs.Escaped.{is_escaped, escaped};
 

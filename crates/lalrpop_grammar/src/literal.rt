@@ -2,7 +2,7 @@
 ghost use Rattle.std.specs.Prelude.{◌≡◌, ◌↔◌, ℕ, List, IfOk, IfErr};
 ghost use Rattle.std.specs.Str.{chars};
 ghost use Rattle.lalrpop_hir.specs.Parts.{of_text};
-ghost use Rattle.lalrpop_hir.specs.Language.{Matches};
+ghost use Rattle.lalrpop_book.specs.Language.{Matches};
 
 use crate::error::RegexError;
 use lalrpop_hir::{Hir, Regex};

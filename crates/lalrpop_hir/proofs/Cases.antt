@@ -1,10 +1,7 @@
 -- Small cases of the definitions in specs/: Cases/X.antt has those of specs/X.antt, Cases/Depth.antt those of specs/Internal/Depth.antt.
-mod Word
-mod Range
 mod Runs
 mod Counts
 mod Parts
 mod Size
 mod Depth
 mod Level
-mod Language

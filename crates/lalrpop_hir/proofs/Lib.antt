@@ -1,5 +1,4 @@
 mod Cases
-pub mod Words
 pub mod Languages
 pub mod Powers
 pub mod Canons

@@ -3,42 +3,16 @@ ghost use Rattle.std.specs.Prelude.{◌≡◌, ◌≢◌, ◌≤◌, IfOk, map, 
 ghost use Rattle.std.specs.Str.{chars};
 ghost use Rattle.lalrpop_hir.specs.Counts.{AreOrdered};
 ghost use Rattle.lalrpop_hir.specs.Level.{class_of, kind_tree};
-ghost use Rattle.lalrpop_hir.specs.Tree.{empty, literal, class, look, repetition, capture, concat, alternation};
+ghost use Rattle.lalrpop_book.specs.Tree.{empty, literal, class, look, repetition, capture, concat, alternation};
 ghost use Rattle.lalrpop_hir.specs.Parts.{trees, of_text};
 
 mod group;
 mod repetitions;
 
 use crate::class::Class;
+use lalrpop_book::Look;
 use std::alloc::{AllocError, Global};
 use std::marker::Model;
-
-/// What a pattern asks of a place in a text, as that a line or a word begins there. It takes no character.
-///
-/// Trees can hold one, but in this port no automaton is built of such a tree.
-#[derive(Clone, Copy, Debug, PartialEq, Eq)]
-pub enum Look {
-    /// The text begins here.
-    Start,
-    /// The text ends here.
-    End,
-    /// A line begins here: the text does, or a line feed stands in front.
-    StartLF,
-    /// A line ends here: the text does, or a line feed follows.
-    EndLF,
-    /// A word begins or ends here.
-    WordUnicode,
-    /// No word begins or ends here.
-    WordUnicodeNegate,
-    /// A word begins here.
-    WordStartUnicode,
-    /// A word ends here.
-    WordEndUnicode,
-    /// No character of a word stands in front.
-    WordStartHalfUnicode,
-    /// No character of a word follows.
-    WordEndHalfUnicode,
-}
 
 /// A text that matches itself. It is never empty.
 #[derive(Clone, Debug, Drop)]
@@ -119,7 +93,7 @@ pub struct Capture {
 
 impl Model for Hir {
     ghost use Rattle.std.proofs.Common.{arith};
-    ghost use Rattle.lalrpop_hir.specs.Tree.{Tree};
+    ghost use Rattle.lalrpop_book.specs.Tree.{Tree};
     ghost use Rattle.lalrpop_hir.specs.Internal.Depth.{depth};
     ghost use Rattle.lalrpop_hir.specs.Internal.Code.{tree_code};
 

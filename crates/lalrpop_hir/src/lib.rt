@@ -1,5 +1,5 @@
 //! Regular expressions as trees, which a program makes by hand, or reads from a text with the crate `lalrpop_re`.
-//! The file `specs/Language.antt` says which words each tree matches.
+//! The file `Language.antt` of the book (crates/lalrpop_book/specs) says which words each tree matches.
 #![tactic(auto)]
 
 mod class;
@@ -7,4 +7,5 @@ mod clone;
 mod hir;
 
 pub use class::{Class, ClassBytes, ClassBytesRange, ClassUnicode, ClassUnicodeRange};
-pub use hir::{Capture, Hir, HirKind, Literal, Look, Regex, Repetition};
+pub use hir::{Capture, Hir, HirKind, Literal, Regex, Repetition};
+pub use lalrpop_book::Look;

@@ -8,12 +8,12 @@ use Rattle.std.proofs.lemmas.Bool.Decides.{nat_tests}
 use Rattle.std.proofs.lemmas.Option.{slice_get_within}
 use Rattle.lalrpop_nfa.specs.Graph.{Graph}
 use Rattle.lalrpop_items.specs.Automata.{Item}
-use Rattle.lalrpop_items.specs.Ascending.{item_cmp, AreByPattern}
-use Rattle.lalrpop_items.specs.Given.{AreItemsOf}
-use Rattle.lalrpop_items.specs.Subsets.{closed, starts_from}
+use Rattle.lalrpop_items.specs.Internal.Ascending.{item_cmp, AreByPattern}
+use Rattle.lalrpop_items.specs.Internal.Given.{AreItemsOf}
+use Rattle.lalrpop_items.specs.Internal.Subsets.{closed, starts_from}
 use Rattle.lalrpop_items.specs.Internal.Worklist.{pattern_at}
-use Rattle.lalrpop_items.proofs.Members.{Has, has_from, contains_from, has_left, has_right, has_cases}
-use Rattle.lalrpop_items.proofs.SortedLists.{sorted_append, sorted_same}
+use Rattle.lalrpop_book.proofs.Members.{Has, has_from, contains_from, has_left, has_right, has_cases}
+use Rattle.lalrpop_book.proofs.SortedLists.{sorted_append, sorted_same}
 use Rattle.lalrpop_items.proofs.Follows.{follows_place}
 use Rattle.lalrpop_items.proofs.Sets.{item_total, closed_ascends, closed_parts, closed_has}
 

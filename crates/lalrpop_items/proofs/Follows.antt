@@ -2,12 +2,12 @@
 use Rattle.std.proofs.Common.{◌≡◌, List, [], sym, subst, true, ◌==◌, Some, eqb-true, eq-eqb}
 use Rattle.std.specs.List.{slice_get}
 use Rattle.std.proofs.lemmas.Bool.{and_parts, and_from}
-use Rattle.lalrpop_hir.specs.Tree.{Tree}
+use Rattle.lalrpop_book.specs.Tree.{Tree}
 use Rattle.lalrpop_nfa.specs.Graph.{Graph}
 use Rattle.lalrpop_nfa.specs.Path.{Path}
 use Rattle.lalrpop_nfa.specs.Compiled.{IsCompiled}
 use Rattle.lalrpop_items.specs.Automata.{Item}
-use Rattle.lalrpop_items.specs.Subsets.{graph_at, is_epsilon_path, follows_by_epsilon}
+use Rattle.lalrpop_items.specs.Internal.Subsets.{graph_at, is_epsilon_path, follows_by_epsilon}
 use Rattle.lalrpop_items.proofs.Epsilon.{epsilon_path, path_epsilon}
 use Rattle.lalrpop_items.proofs.Targets.{graph_is}
 

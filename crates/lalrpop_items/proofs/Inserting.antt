@@ -8,18 +8,18 @@ use Rattle.std.proofs.lemmas.Map.Views.{btree_set_contains_iff}
 use Rattle.std.proofs.lemmas.Map.Lookups.{CmpEqualImpliesEq}
 use Rattle.std.proofs.lemmas.List.Elements.{Contains-append_left, Contains-append_right, Contains-append_cases, Contains-push, Contains-push_cases}
 use Rattle.std.specs.Ordering.{nat_cmp}
-use Rattle.lalrpop_kernels.proofs.Orders.{then_equal, nat_exact, set_come, set_has, set_kept}
+use Rattle.lalrpop_book.proofs.Orders.{then_equal, nat_exact, set_come, set_has, set_kept}
 use Rattle.lalrpop_items.specs.Automata.{Item}
-use Rattle.lalrpop_items.specs.Ascending.{item_cmp}
+use Rattle.lalrpop_items.specs.Internal.Ascending.{item_cmp}
 use Rattle.lalrpop_items.specs.Internal.OrderLaws.{item_total}
 use Rattle.lalrpop_nfa.specs.Graph.{Graph}
-use Rattle.lalrpop_items.specs.Subsets.{graph_at, no_graph}
+use Rattle.lalrpop_items.specs.Internal.Subsets.{graph_at, no_graph}
 use Rattle.lalrpop_nfa.specs.Walk.{leaves}
 use Rattle.lalrpop_nfa.specs.declared.edge.Edge.{Edge}
 use Rattle.lalrpop_nfa.specs.declared.edge.Noop.{Noop}
-use Rattle.lalrpop_nfa.proofs.Contained.{contains_none, contains_only}
+use Rattle.lalrpop_book.proofs.Contained.{contains_none, contains_only}
 use Rattle.lalrpop_items.specs.Internal.Worklist.{IsInserted, epsilon_targets}
-use Rattle.lalrpop_items.proofs.Members.{contains_from}
+use Rattle.lalrpop_book.proofs.Members.{contains_from}
 
 pair_same : (a b p q : ℕ) → a ≡ b → p ≡ q → let x : Item = (a, p) in let y : Item = (b, q) in x ≡ y
 pair_same a b p q e f = rw (e, f) refl

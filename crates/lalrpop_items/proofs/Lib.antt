@@ -1,6 +1,4 @@
 mod Cases
-pub mod Members
-pub mod SortedLists
 pub mod Sets
 pub mod Epsilon
 pub mod FullSets

@@ -7,12 +7,12 @@ use Rattle.std.proofs.lemmas.Bool.{cases_Bool, cases_lt}
 use Rattle.std.proofs.lemmas.Bool.Decides.{nat_tests}
 use Rattle.std.proofs.lemmas.List.{get_or-set_same, get_or-set_other, get_or-replicate, get_or_past, get_or_default, length-replicate}
 use Rattle.std.proofs.lemmas.List.Elements.{Contains-append_left, Contains-push, Contains-push_cases}
-use Rattle.lalrpop_nfa.proofs.Contained.{contains_only}
+use Rattle.lalrpop_book.proofs.Contained.{contains_only}
 use Rattle.lalrpop_items.specs.Automata.{Item}
-use Rattle.lalrpop_items.specs.Ascending.{item_cmp, AreAscendingItems}
+use Rattle.lalrpop_items.specs.Internal.Ascending.{item_cmp, AreAscendingItems}
 use Rattle.lalrpop_items.specs.Internal.Worklist.{IsInserted, marked_from, marked}
-use Rattle.lalrpop_items.proofs.Members.{Has, has_from, contains_from}
-use Rattle.lalrpop_items.proofs.SortedLists.{sorted_nil, sorted_cons}
+use Rattle.lalrpop_book.proofs.Members.{Has, has_from, contains_from}
+use Rattle.lalrpop_book.proofs.SortedLists.{sorted_nil, sorted_cons}
 
 one_more : (i q : ℕ) (rest : List Item) (x : Item) (b : Bool) → Has (cond b ((i, q) ∷ rest) rest) x → (((i, q) ≡ x) × (b ≡ true)) ⊎ Has rest x
 one_more i q rest x true (inl e) = inl (e, refl)

@@ -5,13 +5,13 @@ use Rattle.std.specs.List.{filter, flat_map}
 use Rattle.lalrpop_nfa.specs.Graph.{Graph}
 use Rattle.lalrpop_items.specs.Automata.{Item}
 use Rattle.lalrpop_nfa.specs.Walk.{leaves}
-use Rattle.lalrpop_items.specs.Subsets.{default_targets, item_targets}
+use Rattle.lalrpop_items.specs.Internal.Subsets.{default_targets, item_targets}
 use Rattle.lalrpop_items.specs.Internal.Taken.{targets_of_run}
 use Rattle.lalrpop_items.specs.declared.transitions.Transition.{Transition}
 use Rattle.lalrpop_nfa.specs.declared.edge.Edge.{Edge}
 use Rattle.lalrpop_nfa.specs.Path.{test, other}
-use Rattle.lalrpop_items.specs.Given.{AreAutomata, AreItemsOf}
-use Rattle.lalrpop_items.proofs.Members.{has_from, contains_from, flat_map_has}
+use Rattle.lalrpop_items.specs.Internal.Given.{AreAutomata, AreItemsOf}
+use Rattle.lalrpop_book.proofs.Members.{has_from, contains_from, flat_map_has}
 use Rattle.lalrpop_items.proofs.Targets.{compiled_at, item_targets_parts}
 use Rattle.lalrpop_items.proofs.Inserting.{graph_here}
 

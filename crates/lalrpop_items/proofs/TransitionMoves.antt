@@ -6,10 +6,10 @@ use Rattle.std.proofs.lemmas.List.Sorted.{Contains-permutation, IsPermutation-sy
 use Rattle.lalrpop_nfa.specs.Graph.{Graph}
 use Rattle.lalrpop_nfa.specs.Path.{test}
 use Rattle.lalrpop_items.specs.Automata.{Item}
-use Rattle.lalrpop_items.specs.Subsets.{move}
-use Rattle.lalrpop_items.specs.Transitions.{IsTransition, AreTransitions}
+use Rattle.lalrpop_items.specs.Internal.Subsets.{move}
+use Rattle.lalrpop_items.specs.Internal.Transitions.{IsTransition, AreTransitions}
 use Rattle.lalrpop_items.specs.declared.transitions.Transition.{Transition}
-use Rattle.lalrpop_items.proofs.Members.{contains_from}
+use Rattle.lalrpop_book.proofs.Members.{contains_from}
 use Rattle.lalrpop_items.proofs.Moved.{TakeAlso, reads_moves}
 
 module _ (ns : List Graph) (s : List Item) (leads : List Transition) where

@@ -1,3 +1,11 @@
+-- what the crates above name
+pub mod Given
+pub mod Ascending
+pub mod LiveItems
+pub mod ItemOrder
+pub mod Subsets
+pub mod Transitions
+-- what private functions promise one another
 pub mod Split
 pub mod OrderLaws
 pub mod Worklist

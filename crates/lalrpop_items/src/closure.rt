@@ -5,13 +5,13 @@ ghost use Rattle.std.specs.List.{range_with_len};
 ghost use Rattle.std.specs.List.Sorted.{IsSorted, IsStrictlySortedBy};
 ghost use Rattle.std.specs.Ordering.{nat_cmp};
 ghost use Rattle.std.specs.declared.cmp.Ordering.TheVariants.{Less};
-ghost use Rattle.lalrpop_items.specs.Ascending.{item_cmp, AreAscendingItems, AreByPattern};
+ghost use Rattle.lalrpop_items.specs.Internal.Ascending.{item_cmp, AreAscendingItems, AreByPattern};
 ghost use Rattle.lalrpop_items.specs.Automata.{Item};
-ghost use Rattle.lalrpop_items.specs.Given.{IsItemOf, AreAutomata, AreItemsOf};
-ghost use Rattle.lalrpop_items.specs.LiveItems.{live_of};
+ghost use Rattle.lalrpop_items.specs.Internal.Given.{IsItemOf, AreAutomata, AreItemsOf};
+ghost use Rattle.lalrpop_items.specs.Internal.LiveItems.{live_of};
 ghost use Rattle.lalrpop_items.specs.Internal.Split.{full, still_spared, AreBefore, AreSpared, AreWithin};
-ghost use Rattle.lalrpop_items.specs.Subsets.{closed, move};
-ghost use Rattle.lalrpop_items.specs.Transitions.{transition_cmp, AreTransitions};
+ghost use Rattle.lalrpop_items.specs.Internal.Subsets.{closed, move};
+ghost use Rattle.lalrpop_items.specs.Internal.Transitions.{transition_cmp, AreTransitions};
 ghost use Rattle.lalrpop_items.specs.Internal.Worklist.{IsInserted, epsilon_targets, marked, AreOfPattern, AreStatesBelow, AreMarksOf, pattern_at};
 
 use super::NfaIndex;
@@ -292,7 +292,7 @@ fn spared_by(items: &[Item], spared: &[usize], still: &mut Vec<usize>) -> Result
     let mut place = 0;
     for pattern in spared {
         let reject = Item {
-            nfa_index: NfaIndex(*pattern),
+            nfa_index: NfaIndex::new(*pattern),
             nfa_state: REJECT,
         };
         place = place_of(items, place, reject);

@@ -1,38 +1,8 @@
-//! Places of patterns, and numbers of states of the automaton of a list of patterns.
+//! Numbers of states of the automaton of a list of patterns.
 ghost use Rattle.std.specs.Prelude.{◌≡◌};
 
 use std::fmt;
 use std::marker::Model;
-
-/// The place of a pattern in the list, from 0.
-#[derive(Copy, Clone, Debug, PartialEq, Eq, PartialOrd, Ord, Hash)]
-pub struct NfaIndex(pub(super) usize);
-
-impl Model for NfaIndex {
-    ghost use Rattle.std.specs.Prelude.{ℕ};
-
-    ghost Value = { ℕ };
-
-    ghost view = { λ i. i.0 };
-
-    ghost inverse = { λ n. record { 0 = n } };
-}
-
-impl NfaIndex {
-    /// The pattern at this place.
-    pub fn new(number: usize) -> NfaIndex
-        ensures value { result ≡ number }
-    {
-        NfaIndex(number)
-    }
-
-    /// The place as a number.
-    pub fn index(self) -> usize
-        ensures value { result ≡ self }
-    {
-        self.0
-    }
-}
 
 /// The number of a state, from 0.
 #[derive(Copy, Clone, PartialEq, Eq, PartialOrd, Ord, Hash)]

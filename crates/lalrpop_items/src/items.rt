@@ -3,14 +3,14 @@ ghost use Rattle.std.specs.Prelude.{◌≡◌, ◌<◌, ◌↔◌, IsTrue, lengt
 ghost use Rattle.std.specs.List.{Contains};
 ghost use Rattle.std.specs.Cmp.{on_equiv, on_total, on_per, on_po, partial_order_from_agreeing_total};
 ghost use Rattle.std.specs.Cmp;
-ghost use Rattle.lalrpop_items.specs.Ascending.{item_cmp};
-ghost use Rattle.lalrpop_items.specs.ItemOrder.{item_eq, rejects_cmp, item_hash, hash_of, items_cmp, set_cmp, set_eq};
+ghost use Rattle.lalrpop_items.specs.Internal.Ascending.{item_cmp};
+ghost use Rattle.lalrpop_items.specs.Internal.ItemOrder.{item_eq, rejects_cmp, item_hash, hash_of, items_cmp, set_cmp, set_eq};
 ghost use Rattle.lalrpop_items.specs.Internal.OrderLaws.{item_total, item_equiv, item_ties, set_total, set_equiv, set_ties};
 ghost use Rattle.lalrpop_nfa.specs.Compiled.{reject_state};
 ghost use Rattle.std.specs.List.Sorted.{IsStrictlySortedBy};
 ghost use Rattle.std.specs.Ordering.{nat_cmp};
 ghost use Rattle.lalrpop_items.specs.Internal.Split.{AreAlikeBelow};
-ghost use Rattle.lalrpop_items.specs.LiveItems.{live_of};
+ghost use Rattle.lalrpop_items.specs.Internal.LiveItems.{live_of};
 
 use super::{DfaStateIndex, NfaIndex};
 use lalrpop_kernels::Kernel;
@@ -92,7 +92,7 @@ impl Item {
         requires { self.0 < length nfas.now }
         ensures { slice_get nfas.now self.0 ≡ Some result.now }
     {
-        &nfas[self.nfa_index.0]
+        &nfas[self.nfa_index.index()]
     }
 
     /// The item's pattern.
@@ -131,7 +131,7 @@ fn hash_one(item: Item) -> u64
 }
 
 // A number by which most lists of items are told apart at once.
-#[tactic(auto, unfolding(crate::specs::ItemOrder::hash_of))]
+#[tactic(auto, unfolding(crate::specs::Internal::ItemOrder::hash_of))]
 pub(super) fn hash_items(items: &[Item]) -> u64
     ensures { result ≡ hash_of items.now }
 {

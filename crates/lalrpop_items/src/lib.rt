@@ -12,6 +12,7 @@ mod moves;
 mod ordered;
 mod transitions;
 
-pub use index::{DfaStateIndex, NfaIndex, START};
+pub use index::{DfaStateIndex, START};
 pub use items::{Item, ItemSet};
+pub use lalrpop_book::NfaIndex;
 pub use transitions::Transition;

@@ -3,10 +3,10 @@
 ghost use Rattle.std.specs.Prelude.{◌≡◌, ◌<◌, ◌≤◌, ◌++◌, length, map, OnOk};
 ghost use Rattle.std.specs.List.{Contains};
 ghost use Rattle.std.specs.List.Sorted.{IsSorted};
-ghost use Rattle.lalrpop_items.specs.Ascending.{AreAscendingItems, AreByPattern};
-ghost use Rattle.lalrpop_items.specs.Given.{IsItemOf, AreItemsOf};
-ghost use Rattle.lalrpop_items.specs.Subsets.{default_targets};
-ghost use Rattle.lalrpop_items.specs.Transitions.{transition_cmp};
+ghost use Rattle.lalrpop_items.specs.Internal.Ascending.{AreAscendingItems, AreByPattern};
+ghost use Rattle.lalrpop_items.specs.Internal.Given.{IsItemOf, AreItemsOf};
+ghost use Rattle.lalrpop_items.specs.Internal.Subsets.{default_targets};
+ghost use Rattle.lalrpop_items.specs.Internal.Transitions.{transition_cmp};
 ghost use Rattle.lalrpop_items.specs.Internal.Taken.{IsRunOf, targets_of_run, AreTargetsBy};
 
 use super::items::Item;

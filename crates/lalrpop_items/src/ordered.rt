@@ -1,8 +1,8 @@
 //! Items that are followed by edges that read nothing, where the found ones are kept in an ordered set.
 
 ghost use Rattle.std.specs.Prelude.{◌≡◌, ◌∷◌, [], IfOk, OnOk};
-ghost use Rattle.lalrpop_items.specs.Given.{IsItemOf, AreAutomata, AreItemsOf};
-ghost use Rattle.lalrpop_items.specs.Subsets.{closed};
+ghost use Rattle.lalrpop_items.specs.Internal.Given.{IsItemOf, AreAutomata, AreItemsOf};
+ghost use Rattle.lalrpop_items.specs.Internal.Subsets.{closed};
 ghost use Rattle.lalrpop_items.specs.Internal.Worklist.{IsInserted, epsilon_targets};
 
 use super::items::Item;

@@ -1,3 +1,2 @@
 mod Cases
 pub mod NumberedLemmas
-pub mod Orders

@@ -4,15 +4,17 @@ use Rattle.std.specs.Prelude.{Option, Some, None, Result, Ok, Err}
 use Rattle.std.specs.Iterator.{Yields, Drains}
 use Rattle.std.specs.Str.{chars, IsUtf8}
 use Rattle.std.proofs.lemmas.List.{length-map}
-use Rattle.lalrpop_hir.specs.Tree.{Tree}
+use Rattle.lalrpop_book.specs.Tree.{Tree}
 use Rattle.lalrpop_table.specs.Dfa.{Row}
-use Rattle.lalrpop_dfa.specs.Clash.{NoClash}
-use Rattle.lalrpop_dfa.proofs.Strongest.{IsOnlyStrongest-from_greatest}
-use Rattle.lalrpop_lexer.specs.Cutting.{Cutting, start_of, rest_of, GivesItem, AreItems, slices}
-use Rattle.lalrpop_lexer.specs.LexerTokens.{AreTokens, GivesToken, bare}
+use Rattle.lalrpop_book.specs.Clash.{NoClash}
+use Rattle.lalrpop_book.proofs.Strongest.{IsOnlyStrongest-from_greatest}
+use Rattle.lalrpop_lexer.specs.Cutting.{Cutting, start_of, rest_of, GivesItem}
+use Rattle.lalrpop_book.specs.Tokens.{AreItems, slices}
+use Rattle.lalrpop_lexer.specs.LexerTokens.{GivesToken}
+use Rattle.lalrpop_book.specs.Tokens.{AreTokens, bare}
 use Rattle.lalrpop_lexer.specs.Rules.{IsBuiltFrom}
-use Rattle.lalrpop_lexer.specs.declared.lexer_token.Token.{Token}
-use Rattle.lalrpop_lexer.specs.declared.token.TokenFault.{TokenFault}
+use Rattle.lalrpop_book.specs.declared.token.Token.{Token}
+use Rattle.lalrpop_book.specs.declared.token.TokenFault.{TokenFault}
 use Rattle.lalrpop_lexer.proofs.Cuttings.{items_from_start, parts_from_start, count_from_start, none_for_good}
 
 -- the automaton gave the same, bare of the places

@@ -4,11 +4,11 @@ pub mod Cuttings
 pub mod LexerCuttings
 pub mod Places
 -- what the definitions mean: there is one clash, one list of clashes, and one longest match
-pub use Rattle.lalrpop_dfa.proofs.ClashLaws
+pub use Rattle.lalrpop_book.proofs.ClashLaws
 pub use Rattle.lalrpop_dfa.proofs.ClashListLaws
-pub use Rattle.lalrpop_dfa.proofs.Longests
+pub use Rattle.lalrpop_book.proofs.Longests
 -- what follows from the promises, for callers
 pub use Rattle.lalrpop_ranges.proofs.PartitionLaws
-pub use Rattle.lalrpop_dfa.proofs.Strongest
+pub use Rattle.lalrpop_book.proofs.Strongest
 pub use Rattle.lalrpop_dfa.proofs.Agreeing
 pub use Rattle.lalrpop_dfa.proofs.AfterLaws

@@ -2,16 +2,25 @@ pub mod Cutting
 pub mod LexerTokens
 pub mod Position
 pub mod Rules
--- what the public contracts of the crates below name: of patterns,
-pub use Rattle.lalrpop_hir.specs.Word
-pub use Rattle.lalrpop_hir.specs.Range
+-- what the public contracts of the crates below name: of the book,
+pub use Rattle.lalrpop_book.specs.Word
+pub use Rattle.lalrpop_book.specs.Range
+pub use Rattle.lalrpop_book.specs.Tree
+pub use Rattle.lalrpop_book.specs.Language
+pub use Rattle.lalrpop_book.specs.Fault
+pub use Rattle.lalrpop_book.specs.Prefix
+pub use Rattle.lalrpop_book.specs.Winners
+pub use Rattle.lalrpop_book.specs.Longest
+pub use Rattle.lalrpop_book.specs.Clash
+pub use Rattle.lalrpop_book.specs.Clashes
+pub use Rattle.lalrpop_book.specs.Report
+pub use Rattle.lalrpop_book.specs.Tokens
+-- of patterns,
 pub use Rattle.lalrpop_hir.specs.Runs
 pub use Rattle.lalrpop_hir.specs.Counts
-pub use Rattle.lalrpop_hir.specs.Tree
 pub use Rattle.lalrpop_hir.specs.Parts
 pub use Rattle.lalrpop_hir.specs.Size
 pub use Rattle.lalrpop_hir.specs.Level
-pub use Rattle.lalrpop_hir.specs.Language
 -- of patterns as texts,
 pub use Rattle.lalrpop_re.specs.CharacterSet
 pub use Rattle.lalrpop_re.specs.NamedSet
@@ -28,8 +37,6 @@ pub use Rattle.lalrpop_re.specs.Refusal
 -- of ranges and of the automaton of one pattern,
 pub use Rattle.lalrpop_ranges.specs.Meet
 pub use Rattle.lalrpop_ranges.specs.Partition
-pub use Rattle.lalrpop_nfa.specs.Fault
-pub use Rattle.lalrpop_nfa.specs.Prefix
 pub use Rattle.lalrpop_nfa.specs.Graph
 pub use Rattle.lalrpop_nfa.specs.Path
 pub use Rattle.lalrpop_nfa.specs.Compiled
@@ -41,15 +48,9 @@ pub use Rattle.lalrpop_nfa.specs.Contiguous
 -- and of the automaton of a list of patterns; `Counts` is taken by that of trees
 pub use Rattle.lalrpop_kernels.specs.Kernels
 pub use Rattle.lalrpop_items.specs.Automata
-pub use Rattle.lalrpop_table.specs.Winners
-pub use Rattle.lalrpop_table.specs.Longest
 pub use Rattle.lalrpop_table.specs.Dfa
-pub use Rattle.lalrpop_table.specs.Written
 pub use Rattle.lalrpop_table.specs.Counts as StateCounts
 pub use Rattle.lalrpop_table.specs.SameAutomata
-pub use Rattle.lalrpop_dfa.specs.Clash
-pub use Rattle.lalrpop_dfa.specs.ClashList
-pub use Rattle.lalrpop_dfa.specs.Report
 pub use Rattle.lalrpop_dfa.specs.Items
 pub use Rattle.lalrpop_dfa.specs.Agree
 -- what serves the proofs alone

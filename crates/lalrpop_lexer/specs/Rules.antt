@@ -1,8 +1,8 @@
 -- cases: proofs/Cases/Rules.antt
 -- What a lexer recognizes.
 use Rattle.std.specs.Prelude.{ℕ, List}
-use Rattle.lalrpop_hir.specs.Tree.{Tree}
-use Rattle.lalrpop_dfa.specs.Clash.{NoClash}
+use Rattle.lalrpop_book.specs.Tree.{Tree}
+use Rattle.lalrpop_book.specs.Clash.{NoClash}
 use Rattle.lalrpop_table.specs.Dfa.{Row, Recognizes}
 
 -- the trees of a list of patterns, and their precedences

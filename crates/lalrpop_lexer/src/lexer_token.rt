@@ -2,21 +2,10 @@
 
 ghost use Rattle.std.specs.Prelude.{◌≡◌};
 
-use crate::token::{TokenFault, Tokens};
-use lalrpop_dfa::NfaIndex;
+use crate::token::Tokens;
+use lalrpop_book::{Token, TokenFault};
 use std::iter::FusedIterator;
 use std::marker::Model;
-
-/// A token: a slice of a text, and the pattern that it was cut by.
-#[derive(Clone, Copy, Debug, PartialEq, Eq)]
-pub struct Token<'text> {
-    /// The place of the pattern in the list.
-    pub index: NfaIndex,
-    /// The slice, which isn't empty.
-    pub slice: &'text str,
-    /// Where the slice begins in the text, in bytes.
-    pub start: usize,
-}
 
 /// Cuts a text into tokens, as `Tokens`, and says where each begins.
 #[derive(Debug, Drop)]

@@ -13,7 +13,8 @@ mod token;
 
 pub use cut::tokens;
 pub use lalrpop_kernels as kernel_set;
-pub use lexer_token::{LexerTokens, Token};
+pub use lalrpop_book::{Token, TokenFault};
+pub use lexer_token::LexerTokens;
 pub use position::{Position, Positions};
 pub use rules::Lexer;
-pub use token::{TokenFault, Tokens};
+pub use token::Tokens;

@@ -3,17 +3,20 @@
 ghost use Rattle.std.specs.Prelude.{◌≡◌, ℕ, ◌≤◌, ◌++◌, List, Option, Result, map, length, None, IfOk, OnOk, IfErr, IfSome, IfNone};
 ghost use Rattle.std.specs.Iterator.{Drains, Yields};
 ghost use Rattle.std.specs.Str.{chars};
-ghost use Rattle.lalrpop_dfa.specs.Clash.{NoClash};
-ghost use Rattle.lalrpop_dfa.specs.Report.{NoFault, IsReport};
-ghost use Rattle.lalrpop_table.specs.Longest.{IsLongest};
-ghost use Rattle.lalrpop_lexer.specs.Cutting.{Cutting, start_of, rest_of, slices};
-ghost use Rattle.lalrpop_lexer.specs.LexerTokens.{IsToken, AreTokens, GivesToken, bare};
+ghost use Rattle.lalrpop_book.specs.Clash.{NoClash};
+ghost use Rattle.lalrpop_book.specs.Report.{NoFault, IsReport};
+ghost use Rattle.lalrpop_book.specs.Longest.{IsLongest};
+ghost use Rattle.lalrpop_lexer.specs.Cutting.{Cutting, start_of, rest_of};
+ghost use Rattle.lalrpop_book.specs.Tokens.{slices};
+ghost use Rattle.lalrpop_lexer.specs.LexerTokens.{GivesToken};
+ghost use Rattle.lalrpop_book.specs.Tokens.{IsToken, AreTokens, bare};
 ghost use Rattle.lalrpop_lexer.specs.Rules.{IsBuiltFrom};
-ghost use Rattle.lalrpop_lexer.specs.declared.lexer_token.Token.{Token as TokenValue};
-ghost use Rattle.lalrpop_lexer.specs.declared.token.TokenFault.{TokenFault as FaultValue};
+ghost use Rattle.lalrpop_book.specs.declared.token.Token.{Token as TokenValue};
+ghost use Rattle.lalrpop_book.specs.declared.token.TokenFault.{TokenFault as FaultValue};
 
 use crate::cut;
-use crate::lexer_token::{LexerTokens, Token};
+use crate::lexer_token::LexerTokens;
+use lalrpop_book::Token;
 use lalrpop_dfa::interpret::interpret;
 use lalrpop_dfa::{Dfa, DfaConstructionError, Precedence, build_dfa};
 use lalrpop_re::Regex;

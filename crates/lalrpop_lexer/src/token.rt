@@ -2,19 +2,11 @@
 
 ghost use Rattle.std.specs.Prelude.{◌≡◌};
 
+use lalrpop_book::{NfaIndex, TokenFault};
+use lalrpop_dfa::Dfa;
 use lalrpop_dfa::interpret::interpret;
-use lalrpop_dfa::{Dfa, NfaIndex};
 use std::iter::FusedIterator;
 use std::marker::Model;
-use thiserror::Error;
-
-/// No pattern matches a nonempty prefix of the rest of a text.
-#[derive(Clone, Copy, Debug, PartialEq, Eq, Error)]
-#[error("no pattern matches at byte {at}")]
-pub struct TokenFault {
-    /// Where the rest begins, in bytes from the beginning of the text.
-    pub at: usize,
-}
 
 /// Cuts a text into tokens, from its beginning to its end or to the first place where no pattern matches.
 ///

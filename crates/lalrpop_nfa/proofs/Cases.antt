@@ -1,6 +1,4 @@
 -- Small cases of the definitions in specs/: Cases/X.antt has those of specs/X.antt, Cases/Reads.antt those of specs/Internal/Reads.antt.
-mod Fault
-mod Prefix
 mod Walk
 mod Firsts
 mod Contiguous

@@ -3,7 +3,6 @@ pub mod WalkLemmas
 pub mod PushLemmas
 pub mod BuildLemmas
 pub mod CharLemmas
-pub mod Contained
 pub mod Fragments
 pub mod Compilable
 pub mod Sizes

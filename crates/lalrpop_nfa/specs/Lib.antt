@@ -1,7 +1,12 @@
+-- of the book, what the contracts of this crate name
+pub use Rattle.lalrpop_book.specs.Word
+pub use Rattle.lalrpop_book.specs.Range
+pub use Rattle.lalrpop_book.specs.Tree
+pub use Rattle.lalrpop_book.specs.Language
+pub use Rattle.lalrpop_book.specs.Fault
+pub use Rattle.lalrpop_book.specs.Prefix
 -- what the contracts of this crate name of the one below
 pub use Rattle.lalrpop_ranges.specs.Meet
-pub mod Fault
-pub mod Prefix
 pub mod Walk
 pub mod Firsts
 pub mod StateView

@@ -3,19 +3,18 @@
 
 mod build;
 mod edge;
-mod error;
 pub mod interpret;
 mod state_set;
 
 ghost use Rattle.std.specs.Prelude.{◌≡◌, ◌≢◌, ◌↔◌, ◌<◌, ◌++◌, ◌∷◌, [], Some, None, IfOk, IfErr, IsTrue};
 ghost use Rattle.std.specs.List.{filter};
-ghost use Rattle.lalrpop_nfa.specs.Fault.{fault};
+ghost use Rattle.lalrpop_book.specs.Fault.{fault};
 
 use edge::set_first;
 pub use edge::{
     Edge, EdgeIterator, EdgeLabel, Edges, NfaStateIndex, Noop, Other, State, StateKind,
 };
-pub use error::NfaConstructionError;
+pub use lalrpop_book::NfaConstructionError;
 use lalrpop_hir::Regex;
 pub use lalrpop_ranges::{Steps, Test};
 use std::alloc::{AllocError, Global};

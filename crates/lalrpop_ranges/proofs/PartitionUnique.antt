@@ -1,7 +1,7 @@
 -- There is one list of the runs of a set of ranges.
 use Rattle.std.proofs.Common.{◌≡◌, ◌<◌, ◌≤◌, ◌⊎◌, inl, inr, List, [], ◌∷◌, refl, sym, ap, ◌∙◌, arith, zero, suc}
 use Rattle.std.specs.List.{Contains}
-use Rattle.lalrpop_hir.specs.Range.{Range}
+use Rattle.lalrpop_book.specs.Range.{Range}
 use Rattle.lalrpop_ranges.specs.Partition.{Ranges, AreAscending, IsPartition}
 
 -- no element is empty

@@ -3,7 +3,7 @@ use Rattle.std.proofs.Common.{◌≡◌, ◌↔◌, ◌⊎◌, ℕ, zero, suc, �
 use Rattle.std.proofs.lemmas.Bool.{or_cases, le-leb}
 use Rattle.std.proofs.lemmas.Bool.Decides.{nat_tests}
 use Rattle.unicode.specs.CaseFolding.{simple_fold}
-use Rattle.lalrpop_hir.specs.Range.{Range, Covered}
+use Rattle.lalrpop_book.specs.Range.{Range, Covered}
 use Rattle.lalrpop_hir.specs.Runs.{IsScalar, IsCanon}
 use Rattle.lalrpop_sets.specs.CharacterSet.{Set, is_scalar, just, range, union_all, some_below, fold, Members, HasRuns}
 use Rattle.lalrpop_sets.proofs.CanonLaws.{IsScalar-is_scalar}

@@ -2,7 +2,7 @@
 -- What a refusal of a pattern says.
 use Rattle.std.specs.Prelude.{ℕ, List}
 use Rattle.std.specs.Str.{IsCharBoundary}
-use Rattle.lalrpop_hir.specs.Tree.{Tree}
+use Rattle.lalrpop_book.specs.Tree.{Tree}
 use Rattle.lalrpop_grammar.specs.Pattern.{Pattern}
 use Rattle.lalrpop_grammar.specs.declared.error.RegexError.{RegexError}
 use Rattle.lalrpop_grammar.specs.declared.error.RegexError.TheVariants.{Syntax, OutOfMemory}

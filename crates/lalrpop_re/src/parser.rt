@@ -2,7 +2,7 @@
 ghost use Rattle.std.specs.Prelude.{◌≡◌, ◌+◌, ◌-◌, ◌^◌, ◌<◌, ◌≤◌, suc, max, drop, Bool, true, false, List, [], ◌∷◌, ◌++◌, length, option_map, Some, None, string_bytes, IfSome, IfOk, IfErr, OnOk, IsTrue, if◌then◌else◌};
 ghost use Rattle.std.specs.Str.{chars, IsCharBoundary};
 ghost use Rattle.lalrpop_hir.specs.Counts.{AreOrdered};
-ghost use Rattle.lalrpop_hir.specs.Tree.{Tree, repetition, capture};
+ghost use Rattle.lalrpop_book.specs.Tree.{Tree, repetition, capture};
 ghost use Rattle.lalrpop_grammar.specs.Text.{begins};
 ghost use Rattle.lalrpop_grammar.specs.Pattern.{Pattern, most_levels, is_special, escaped_tree, ends_branch, branch, choice};
 ghost use Rattle.lalrpop_grammar.specs.Escape.{Escaped};

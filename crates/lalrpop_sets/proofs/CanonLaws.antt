@@ -2,7 +2,7 @@
 use Rattle.std.proofs.Common.{◌≡◌, ◌↔◌, ◌⊎◌, inl, inr, ℕ, zero, suc, ◌<◌, ◌≤◌, true, ◌==◌, ◌&&◌, List, [], ◌∷◌, sym, subst, arith}
 use Rattle.std.proofs.lemmas.Bool.{cond_both, and_parts, and_from, eqb-true, eqb-false, cases_lt}
 use Rattle.std.proofs.lemmas.Bool.Decides.{nat_tests}
-use Rattle.lalrpop_hir.specs.Range.{Range, Covers, Covered}
+use Rattle.lalrpop_book.specs.Range.{Range, Covers, Covered}
 use Rattle.lalrpop_hir.specs.Runs.{IsScalar, next_scalar, AreApart, HaveEndsIn, IsCanonical, IsCanon}
 use Rattle.lalrpop_hir.proofs.Canons.{scalar_steps, canon-unique}
 use Rattle.lalrpop_sets.specs.CharacterSet.{Set, is_scalar, with_least, runs_below, canon, Members, HasRuns}

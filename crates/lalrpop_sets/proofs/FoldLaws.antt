@@ -2,7 +2,7 @@
 use Rattle.std.proofs.Common.{◌≡◌, ◌↔◌, ◌⊎◌, inl, inr, ℕ, zero, suc, ◌<◌, ◌≤◌, Bool, true, ◌&&◌, ◌==◌, List, [], ◌∷◌, ◌++◌, length, get_or, min, max, Contains, refl, sym, ap, subst, arith, not-suc-le-zero, le_of_suc-le-suc, eq-or-lt_of_le, zero-lt-suc, suc-le-suc, eqb-true, eq-eqb}
 use Rattle.std.proofs.lemmas.Bool.{and_parts, and_from, or_cases, or_left, or_right, cases_eq}
 use Rattle.unicode.specs.CaseFolding.{simple_fold}
-use Rattle.lalrpop_hir.specs.Range.{Range, Covers, Covered}
+use Rattle.lalrpop_book.specs.Range.{Range, Covers, Covered}
 use Rattle.lalrpop_hir.specs.Runs.{IsScalar, IsCanon}
 use Rattle.lalrpop_sets.specs.CharacterSet.{Set, is_scalar, some_below, fold, Members, HasRuns}
 use Rattle.lalrpop_hir.proofs.Complements.{IsCanon-same}

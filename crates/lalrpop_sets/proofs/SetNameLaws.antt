@@ -6,7 +6,7 @@ use Rattle.unicode.specs.Loose.{normalize}
 use Rattle.unicode.specs.Lookup.{by_name}
 use Rattle.unicode.specs.Sets.{in_set}
 use Rattle.unicode.specs.Rows.{in_ranges, HasExactly}
-use Rattle.lalrpop_hir.specs.Range.{Range}
+use Rattle.lalrpop_book.specs.Range.{Range}
 use Rattle.lalrpop_hir.specs.Runs.{IsScalar}
 use Rattle.lalrpop_sets.specs.CharacterSet.{Set, is_scalar, range, HasRuns}
 use Rattle.lalrpop_sets.specs.NamedSet.{named}

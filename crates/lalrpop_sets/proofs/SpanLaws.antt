@@ -2,7 +2,7 @@
 use Rattle.std.proofs.Common.{◌≡◌, ◌↔◌, ◌⊎◌, inl, inr, ℕ, zero, suc, ◌+◌, ◌<◌, ◌≤◌, min, max, true, ◌&&◌, nat_le, List, [], ◌∷◌, ◌++◌, length, get_or, refl, sym, ◌∙◌, arith, not-suc-le-zero, le_of_suc-le-suc, leb-true, le-leb}
 use Rattle.std.proofs.lemmas.Bool.{and_parts, and_from, or_cases, or_left, or_right}
 use Rattle.unicode.specs.Rows.{HasExactly, in_ranges, ranges_rise, is_range, AreRanges, IsRising}
-use Rattle.lalrpop_hir.specs.Range.{Range, Covers, Covered}
+use Rattle.lalrpop_book.specs.Range.{Range, Covers, Covered}
 use Rattle.lalrpop_hir.specs.Runs.{IsScalar, IsCanon}
 use Rattle.lalrpop_hir.proofs.Complements.{IsCanon-same}
 use Rattle.lalrpop_sets.specs.CharacterSet.{Set, Members, HasRuns}

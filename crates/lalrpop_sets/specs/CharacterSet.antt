@@ -5,9 +5,9 @@ use Rattle.std.specs.Int.{is_in_range}
 use Rattle.std.specs.List.{list_any}
 use Prim.Native.String.{String}
 use Rattle.unicode.specs.CaseFolding.{simple_fold}
-use Rattle.lalrpop_hir.specs.Range.{Range}
+use Rattle.lalrpop_book.specs.Range.{Range}
 use Rattle.lalrpop_hir.specs.Runs.{next_scalar, IsCanon}
-use Rattle.lalrpop_hir.specs.Tree.{Tree, class, unicode}
+use Rattle.lalrpop_book.specs.Tree.{Tree, class, unicode}
 
 abbrev pub is_scalar : ℕ → Bool
 is_scalar c = is_in_range 0 0xD7FF c || is_in_range 0xE000 0x10_FFFF c

@@ -1,6 +1,6 @@
 //! Simple case folding of sets.
 ghost use Rattle.std.specs.Prelude.{◌≡◌, ◌≤◌, ◌↔◌, ◌⊎◌, ℕ, [], ◌∷◌, IfOk, OnOk, Contains};
-ghost use Rattle.lalrpop_hir.specs.Range.{Covered};
+ghost use Rattle.lalrpop_book.specs.Range.{Covered};
 ghost use Rattle.lalrpop_hir.specs.Runs.{IsScalar};
 ghost use Rattle.lalrpop_sets.specs.CharacterSet.{Set, fold, HasRuns};
 ghost use Rattle.lalrpop_sets.specs.Internal.Sets.{AreAlike, HasPartner};

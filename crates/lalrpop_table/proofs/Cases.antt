@@ -1,6 +1,4 @@
 -- Small cases of the definitions in specs/: Cases/X.antt has those of specs/X.antt.
-pub mod Winners
-mod Longest
 pub mod Dfa
 mod SameAutomata
 mod Counts

@@ -4,7 +4,7 @@ use Rattle.std.specs.Prelude.{slice_get, Option, Some, None, IsSomeAnd, if◌the
 use Rattle.std.specs.List.{Contains}
 use Rattle.std.proofs.lemmas.Bool.{le-leb, lt-leb, cases_lt}
 use Rattle.std.proofs.lemmas.Option.{slice_get_cases, slice_get_within, slice_get-get_or}
-use Rattle.lalrpop_hir.specs.Range.{Range, Covers}
+use Rattle.lalrpop_book.specs.Range.{Range, Covers}
 use Rattle.lalrpop_table.specs.Dfa.{Row, edge_target, step, AreAscendingTests, IsWellFormed}
 use Rattle.lalrpop_table.specs.Internal.Stored.{EndBefore}
 

@@ -1,5 +1,4 @@
 pub mod Cases
-pub mod Longests
 pub mod EdgeTargets
 pub mod StepLists
 pub mod StoredRows

@@ -1,7 +1,7 @@
 -- States whose test edges stand in one list: what they are once edges are added.
 use Rattle.std.proofs.Common.{◌≡◌, ℕ, suc, ◌+◌, ◌≤◌, List, [], ◌∷◌, ◌++◌, length, take, drop, refl, ap, ap₂, ◌∙◌, arith}
 use Rattle.std.proofs.lemmas.List.{take-append-le, drop-append-le, length-drop}
-use Rattle.lalrpop_hir.specs.Range.{Range}
+use Rattle.lalrpop_book.specs.Range.{Range}
 use Rattle.lalrpop_table.specs.Dfa.{StoredState}
 use Rattle.lalrpop_table.specs.Internal.Stored.{rows_of, AreWithin}
 

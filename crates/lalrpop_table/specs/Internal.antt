@@ -1,2 +1,4 @@
+-- rows that are being written
+pub mod Written
 pub mod SameLaws
 pub mod Stored

@@ -1,7 +1,10 @@
-pub mod Winners
-pub mod Longest
+-- of the book, what the contracts of this crate name
+pub use Rattle.lalrpop_book.specs.Tree
+pub use Rattle.lalrpop_book.specs.Language
+pub use Rattle.lalrpop_book.specs.Prefix
+pub use Rattle.lalrpop_book.specs.Winners
+pub use Rattle.lalrpop_book.specs.Longest
 pub mod Dfa
-pub mod Written
 pub mod Counts
 pub mod SameAutomata
 -- what private functions promise one another, which no promise to a caller names

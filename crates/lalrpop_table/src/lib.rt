@@ -13,16 +13,13 @@ mod search;
 
 ghost use Rattle.std.specs.Prelude.{◌≡◌, ◌<◌, length, slice_get, Some, IsSomeAnd};
 
+pub use lalrpop_book::{NfaIndex, Precedence};
 use lalrpop_items::ItemSet;
-pub use lalrpop_items::{DfaStateIndex, NfaIndex, START};
+pub use lalrpop_items::{DfaStateIndex, START};
 use lalrpop_ranges::Test;
 pub use rows::{RowWriter, Rows};
 use search::LISTED;
 use std::marker::Model;
-
-/// The strength of a pattern: where two match a word, the one with the greater precedence wins.
-#[derive(Copy, Clone, Debug, PartialEq, Eq, PartialOrd, Ord)]
-pub struct Precedence(pub usize);
 
 /// What a state says of the word that leads to it.
 #[derive(Clone, Debug, PartialEq, Eq, Drop)]

@@ -80,7 +80,7 @@ pub struct RowWriter {
 
 impl Model for RowWriter {
     ghost use Rattle.std.specs.Prelude.{drop, ◌≤◌, length};
-    ghost use Rattle.lalrpop_table.specs.Written.{Written};
+    ghost use Rattle.lalrpop_table.specs.Internal.Written.{Written};
     ghost use Rattle.lalrpop_table.specs.Internal.Stored.{rows_of, AreWithin};
 
     ghost Value = { Written };

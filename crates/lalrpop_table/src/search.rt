@@ -2,7 +2,7 @@
 
 ghost use Rattle.std.specs.Prelude.{◌≡◌, ℕ, ◌+◌, ◌^◌, ◌<◌, ◌≤◌, length, slice_get, Some, IfSome, IfNone, IfOk};
 ghost use Rattle.std.specs.List.{Contains};
-ghost use Rattle.lalrpop_hir.specs.Range.{Range, Covers};
+ghost use Rattle.lalrpop_book.specs.Range.{Range, Covers};
 ghost use Rattle.lalrpop_table.specs.Counts.{HaveAtMost};
 ghost use Rattle.lalrpop_table.specs.Dfa.{edge_target, step, AreAscendingTests, IsWellFormed};
 ghost use Rattle.lalrpop_table.specs.Internal.Stored.{AreSteps, EndBefore};

@@ -7,9 +7,10 @@ use Rattle.std.proofs.lemmas.Grind.{flat_map-append}
 use Rattle.std.proofs.lemmas.List.{length-map, map-append}
 use Rattle.std.proofs.lemmas.Str.{encodes-chars, length-le-encodes}
 use Rattle.std.proofs.iter.Next.{Yields-more}
-use Rattle.lalrpop_hir.specs.Tree.{Tree}
-use Rattle.lalrpop_lexer.specs.Cutting.{Cutting, Item, GivesItem, AreItems}
-use Rattle.lalrpop_lexer.specs.declared.token.TokenFault.{TokenFault}
+use Rattle.lalrpop_book.specs.Tree.{Tree}
+use Rattle.lalrpop_lexer.specs.Cutting.{Cutting, GivesItem}
+use Rattle.lalrpop_book.specs.Tokens.{Item, AreItems}
+use Rattle.lalrpop_book.specs.declared.token.TokenFault.{TokenFault}
 use Rattle.lexdfa_lib.specs.Answer.{IsReported}
 use Rattle.lexdfa_lib.specs.Printed.{line_of}
 use Rattle.lexdfa_lib.specs.Whole.{Token, Cuts, token_line, AreAnswers}

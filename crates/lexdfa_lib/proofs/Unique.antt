@@ -5,12 +5,12 @@ use Rattle.std.specs.Str.{chars}
 use Rattle.std.specs.Str.Parse.{AllDigits, digits_value}
 use Rattle.std.proofs.lemmas.Bool.{cases_order}
 use Rattle.std.proofs.lemmas.Str.Parse.{digit_from_value}
-use Rattle.lalrpop_hir.specs.Tree.{Tree}
+use Rattle.lalrpop_book.specs.Tree.{Tree}
 use Rattle.lalrpop_re.proofs.PatternLaws.{one_tree}
 use Rattle.lalrpop_lexer.specs.Clash.{NoClash}
 use Rattle.lalrpop_lexer.specs.Fault.{fault}
 use Rattle.lalrpop_lexer.specs.Report.{NoFault, FirstFault}
-use Rattle.lalrpop_lexer.specs.declared.lexer.nfa.NfaConstructionError.{NfaConstructionError}
+use Rattle.lalrpop_book.specs.declared.error.NfaConstructionError.{NfaConstructionError}
 use Rattle.lalrpop_lexer.proofs.ClashLaws.{clash-unique, clash_or_none}
 use Rattle.lalrpop_lexer.proofs.Longests.{longest-unique}
 use Rattle.lexdfa_lib.specs.Lines.{lines}

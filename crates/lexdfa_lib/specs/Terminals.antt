@@ -1,7 +1,7 @@
 -- cases: proofs/Cases/Terminals.antt
 -- What all lines say.
 use Rattle.std.specs.Prelude.{ℕ, zero, suc, List, [], ◌∷◌, map}
-use Rattle.lalrpop_hir.specs.Tree.{Tree}
+use Rattle.lalrpop_book.specs.Tree.{Tree}
 use Rattle.lexdfa_lib.specs.Lines.{lines}
 use Rattle.lexdfa_lib.specs.Line.{LineSays}
 use Rattle.lexdfa_lib.specs.declared.meaning.Meaning.{Meaning}

@@ -1,6 +1,6 @@
 //! A text cut into tokens: the line of each, and what they come to.
 ghost use Rattle.std.specs.Prelude.{◌≡◌, ◌++◌, ℕ, List, length, map, flat_map, string_bytes, IfOk, OnOk};
-ghost use Rattle.lalrpop_hir.specs.Tree.{Tree};
+ghost use Rattle.lalrpop_book.specs.Tree.{Tree};
 ghost use Rattle.lalrpop_lexer.specs.Dfa.{Recognizes};
 ghost use Rattle.lexdfa_lib.specs.Answer.{IsReported, HaveAutomaton};
 ghost use Rattle.lexdfa_lib.specs.Lines.{lines};

@@ -1,6 +1,6 @@
 //! The lines of all clashes of the terminals that some bytes name.
 ghost use Rattle.std.specs.Prelude.{◌≡◌, ◌≢◌, ◌++◌, [], ℕ, List, Some, false, true, length, map, flat_map, string_bytes, IfOk, OnOk, IfErr};
-ghost use Rattle.lalrpop_hir.specs.Tree.{Tree};
+ghost use Rattle.lalrpop_book.specs.Tree.{Tree};
 ghost use Rattle.lalrpop_lexer.specs.Report.{IsFaultOf};
 ghost use Rattle.lexdfa_lib.specs.Lines.{lines};
 ghost use Rattle.lexdfa_lib.specs.Terminals.{AreTerminals};

@@ -2,15 +2,15 @@
 
 ghost use Rattle.std.specs.Prelude.{◌≡◌, ◌<◌, ◌≤◌, List, length, map, IfOk, IfErr, IfSome, IfNone};
 ghost use Rattle.std.specs.Option.{option_map};
-ghost use Rattle.lalrpop_dfa.specs.Clash.{NoClash};
+ghost use Rattle.lalrpop_book.specs.Clash.{NoClash};
 ghost use Rattle.lalrpop_dfa.specs.Items.{HoldsItems, OthersReject, IsInWordOrder};
-ghost use Rattle.lalrpop_dfa.specs.Report.{NoFault, IsReport};
-ghost use Rattle.lalrpop_dfa.specs.declared.error.DfaConstructionError.TheVariants.{OutOfMemory};
+ghost use Rattle.lalrpop_book.specs.Report.{NoFault, IsReport};
+ghost use Rattle.lalrpop_book.specs.declared.error.DfaConstructionError.TheVariants.{OutOfMemory};
 ghost use Rattle.lalrpop_items.specs.Automata.{AreCompiled};
 ghost use Rattle.lalrpop_nfa.specs.Graph.{Graph};
 ghost use Rattle.lalrpop_table.specs.Counts.{state_bound};
 ghost use Rattle.lalrpop_table.specs.Dfa.{Recognizes};
-ghost use Rattle.lalrpop_table.specs.Longest.{IsLongest};
+ghost use Rattle.lalrpop_book.specs.Longest.{IsLongest};
 
 use lalrpop_dfa::interpret::interpret;
 use lalrpop_dfa::{Dfa, DfaConstructionError, NfaIndex, Precedence, build_dfa};
@@ -84,8 +84,8 @@ pub fn to_be_drawn(
     build_dfa(alloc, regexs, precedences)
 }
 
-// Needs lalrpop_dfa::DfaConstructionError::from: ghost from_gives.
-// Needs lalrpop_dfa::DfaConstructionError::from: ghost from_gives.
+// Needs lalrpop_book::DfaConstructionError::from: ghost from_gives.
+// Needs lalrpop_book::DfaConstructionError::from: ghost from_gives.
 /// A precedence for each pattern: as in a list of rules, those before are the stronger ones.
 pub fn falling_precedences(
     alloc: Global,

@@ -1,7 +1,7 @@
 //! The classes of the values that some automata tell apart.
 
 ghost use Rattle.std.specs.Prelude.{◌≡◌, ◌<◌, ◌-◌, Some, length, slice_get, IsSomeAnd, IfSome, IfNone, IfOk};
-ghost use Rattle.lalrpop_alphabet.specs.Alphabet.{IsAlphabetOf, IsSound, HasState, AreLeadsOf, LeadsBy};
+ghost use Rattle.lalrpop_alphabet.specs.Internal.Alphabet.{IsAlphabetOf, IsSound, HasState, AreLeadsOf, LeadsBy};
 
 use lalrpop_alphabet::{Alphabet, Group, Lead};
 use lalrpop_nfa::{Nfa, NfaStateIndex};

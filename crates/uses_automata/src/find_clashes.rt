@@ -1,8 +1,8 @@
 //! All clashes of a list of patterns with precedences.
 
 ghost use Rattle.std.specs.Prelude.{◌≡◌, List, length, map, IfOk, IfErr};
-ghost use Rattle.lalrpop_dfa.specs.ClashList.{AreClashes, Entry};
-ghost use Rattle.lalrpop_dfa.specs.Report.{NoFault, IsFaultOf};
+ghost use Rattle.lalrpop_book.specs.Clashes.{AreClashes, Entry};
+ghost use Rattle.lalrpop_book.specs.Report.{NoFault, IsFaultOf};
 
 use lalrpop_dfa::{DfaConstructionError, Precedence, clashes};
 use lalrpop_hir::Regex;

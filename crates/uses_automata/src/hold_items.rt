@@ -3,12 +3,12 @@
 ghost use Rattle.std.specs.Prelude.{◌≡◌, ◌+◌, ◌^◌, ◌<◌, ℕ, Some, slice_get, IfOk, OnOk};
 ghost use Rattle.std.specs.List.{list_any};
 ghost use Rattle.std.specs.List.Sorted.{IsSorted};
-ghost use Rattle.lalrpop_items.specs.Ascending.{AreByPattern, item_cmp};
-ghost use Rattle.lalrpop_items.specs.Given.{AreAutomata, AreItemsOf, IsItemOf};
-ghost use Rattle.lalrpop_items.specs.ItemOrder.{item_eq, set_cmp, set_eq};
-ghost use Rattle.lalrpop_items.specs.LiveItems.{live_of};
-ghost use Rattle.lalrpop_items.specs.Subsets.{closed, move};
-ghost use Rattle.lalrpop_items.specs.Transitions.{AreTransitions, transition_cmp};
+ghost use Rattle.lalrpop_items.specs.Internal.Ascending.{AreByPattern, item_cmp};
+ghost use Rattle.lalrpop_items.specs.Internal.Given.{AreAutomata, AreItemsOf, IsItemOf};
+ghost use Rattle.lalrpop_items.specs.Internal.ItemOrder.{item_eq, set_cmp, set_eq};
+ghost use Rattle.lalrpop_items.specs.Internal.LiveItems.{live_of};
+ghost use Rattle.lalrpop_items.specs.Internal.Subsets.{closed, move};
+ghost use Rattle.lalrpop_items.specs.Internal.Transitions.{AreTransitions, transition_cmp};
 ghost use Rattle.lalrpop_nfa.specs.Graph.{Graph};
 
 use lalrpop_items::closure::{Workspace, advance, closure};
@@ -17,8 +17,8 @@ use lalrpop_nfa::{Nfa, START, StateKind};
 use std::alloc::{AllocError, Global};
 use std::cmp::Ordering;
 
-// Needs lalrpop_items::NfaIndex::new: value.
-// Needs lalrpop_items::NfaIndex::index: value.
+// Needs lalrpop_book::NfaIndex::new: value.
+// Needs lalrpop_book::NfaIndex::index: value.
 /// The pattern behind a pattern.
 pub fn pattern_after(pattern: NfaIndex) -> NfaIndex
     requires { pattern + 1 < 2 ^ 64 }

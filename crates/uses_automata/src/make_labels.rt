@@ -1,7 +1,7 @@
 //! Ranges of values, as labels of edges: made, and asked.
 
 ghost use Rattle.std.specs.Prelude.{◌≡◌, ◌≢◌, ◌↔◌, ◌+◌, ◌-◌, ◌<◌, ◌≤◌, ◌^◌, ◌⊎◌, IsTrue, IfSome, IfNone};
-ghost use Rattle.lalrpop_hir.specs.Range.{Covers};
+ghost use Rattle.lalrpop_book.specs.Range.{Covers};
 ghost use Rattle.lalrpop_ranges.specs.Meet.{Meet};
 
 use lalrpop_hir::{ClassBytesRange, ClassUnicodeRange};

@@ -3,11 +3,11 @@
 ghost use Rattle.std.specs.Prelude.{◌≢◌, ℕ, ◌+◌, ◌*◌, ◌^◌, ◌<◌, ◌≤◌, [], length, List, IfSome};
 ghost use Rattle.std.specs.Option.{option_map};
 ghost use Rattle.std.specs.Str.{chars};
-ghost use Rattle.lalrpop_hir.specs.Tree.{Tree};
-ghost use Rattle.lalrpop_nfa.specs.Prefix.{IsPrefix};
+ghost use Rattle.lalrpop_book.specs.Tree.{Tree};
+ghost use Rattle.lalrpop_book.specs.Prefix.{IsPrefix};
 ghost use Rattle.lalrpop_table.specs.Counts.{HaveAtMost};
 ghost use Rattle.lalrpop_table.specs.Dfa.{Recognizes};
-ghost use Rattle.lalrpop_table.specs.Longest.{IsLongest};
+ghost use Rattle.lalrpop_book.specs.Longest.{IsLongest};
 
 use lalrpop_items::NfaIndex;
 use lalrpop_ranges::Steps;

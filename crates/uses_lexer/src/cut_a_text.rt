@@ -1,8 +1,8 @@
 //! A lexer cuts a text into tokens.
 ghost use Rattle.std.specs.Prelude.{◌≡◌, ℕ, ◌++◌, ◌∷◌, [], List, Some, None, Ok, Err, map, length, IfOk, IfErr, IfSome, IfNone, false};
-ghost use Rattle.lalrpop_lexer.specs.LexerTokens.{IsToken, AreTokens};
+ghost use Rattle.lalrpop_lexer.specs.Tokens.{IsToken, AreTokens};
 ghost use Rattle.lalrpop_lexer.specs.Longest.{IsLongest};
-ghost use Rattle.lalrpop_lexer.specs.declared.lexer_token.Token.{Token as TokenValue};
+ghost use Rattle.lalrpop_lexer.specs.declared.Token.{Token as TokenValue};
 
 use lalrpop_lexer::{Lexer, TokenFault};
 

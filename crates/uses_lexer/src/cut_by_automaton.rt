@@ -2,7 +2,7 @@
 ghost use Rattle.std.specs.Prelude.{◌≡◌, ℕ, ◌++◌, ◌∷◌, [], List, Ok, Err, map, length, IfOk, IfErr, IfSome, false};
 ghost use Rattle.std.specs.Borrow.{Bor};
 ghost use Rattle.lalrpop_lexer.specs.Tree.{Tree};
-ghost use Rattle.lalrpop_lexer.specs.Cutting.{AreItems};
+ghost use Rattle.lalrpop_lexer.specs.Tokens.{AreItems};
 ghost use Rattle.lalrpop_lexer.specs.Dfa.{Recognizes};
 
 use lalrpop_lexer::lexer::dfa::Dfa;

@@ -2,7 +2,7 @@
 ghost use Rattle.std.specs.Prelude.{◌≡◌, ◌≢◌, ◌+◌, ◌*◌, ◌≤◌, Some, map, length, IfOk, IfErr};
 ghost use Rattle.std.specs.List.{Contains};
 ghost use Rattle.std.specs.Str.{chars};
-ghost use Rattle.lalrpop_lexer.specs.ClashList.{AreClashes};
+ghost use Rattle.lalrpop_lexer.specs.Clashes.{AreClashes};
 ghost use Rattle.lalrpop_lexer.specs.Compiled.{IsCompiled};
 ghost use Rattle.lalrpop_lexer.specs.Fault.{fault};
 ghost use Rattle.lalrpop_lexer.specs.Partition.{IsPartition};

@@ -26,13 +26,16 @@ pub fn next_byte<R: Read>(reader: &mut Watched<R>) -> io::Result<Option<u8>>
     Ok(Some(buffer[0]))
 }
 
-// Needs lexdfa_lib::Watched::read: bound.
+// Needs lexdfa_lib::Watched::read: bound, bytes.
 /// Reads some bytes and adds them to others.
 ///
 /// # Errors
 ///
 /// The reader's own, and out of memory.
-pub fn read_some<R: Read>(reader: &mut Watched<R>, bytes: &mut Vec<u8>) -> io::Result<()> {
+pub fn read_some<R: Read>(reader: &mut Watched<R>, bytes: &mut Vec<u8>) -> io::Result<()>
+    ensures read { OnOk result ((read : List ℕ) × ((bytes.new.items ≡ bytes.old.items ++ read)
+        × Consumes (R.remaining reader.old.inner) (R.remaining reader.new.inner) read)) }
+{
     let mut buffer = [0u8; 64];
     let n = reader.read(&mut buffer)?;
     bytes.extend_from_slice(&buffer[..n])?;

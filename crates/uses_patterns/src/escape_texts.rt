@@ -1,7 +1,7 @@
 //! Patterns that match a text as it stands.
 ghost use Rattle.std.specs.Prelude.{◌≡◌, ◌↔◌, ℕ, List, IfOk, IfErr, string_bytes};
 ghost use Rattle.std.specs.Str.{chars};
-ghost use Rattle.lalrpop_hir.specs.Language.{Matches};
+ghost use Rattle.lalrpop_book.specs.Language.{Matches};
 ghost use Rattle.lalrpop_hir.specs.Parts.{of_text};
 ghost use Rattle.lalrpop_grammar.specs.Escaped.{escaped};
 

@@ -1,8 +1,9 @@
 //! The text of a file, and the lines of its tokens.
-ghost use Rattle.std.specs.Prelude.{◌≡◌, ◌≢◌, [], Some, None, option_map, false, true, string_bytes, IfOk, OnOk, OnErr, IfErr};
+ghost use Rattle.std.specs.Prelude.{◌≡◌, ◌≢◌, ℕ, [], Some, None, option_map, false, true, string_bytes, IfOk, IfSome, OnOk, OnErr, IfErr};
 ghost use Rattle.lexdfa_lib.specs.Watch.{ReadsAll};
 ghost use Rattle.tokens_lib.specs.Text.{IsTextError};
 ghost use Rattle.tokens_lib.specs.TokenLines.{WritesTokens, WritesTokensPrefix, IsStopOf};
+ghost use Rattle.lalrpop_lexer.specs.Position.{position_of};
 
 use lalrpop_lexer::{Lexer, Position};
 use lexdfa_lib::{Outcome, RunError, Watched};
@@ -59,6 +60,10 @@ pub fn stop_of<W: Write>(
     writer: &mut Watched<W>,
 ) -> Result<Option<Position>, RunError>
     requires writer_good { writer.old.failed ≡ false }
+    ensures stop { IfOk result (λ place. IfSome place (λ p. (n at : ℕ)
+        × (WritesTokens lexer.now.trees lexer.now.precedences (Some file.now) text.now
+            (W.contents writer.old.inner) (W.contents writer.new.inner) (Outcome.Stopped n at)
+        × (p ≡ position_of text.now at)))) }
 {
     match write_tokens(alloc, lexer, Some(file), text, writer)? {
         Outcome::Stopped { at, .. } => Ok(Some(Position::of(text, at))),

@@ -6,7 +6,7 @@ use Rattle.std.specs.declared.alloc.Global.{Global}
 use Rattle.std.specs.declared.vec.Vec.{Vec}
 use Rattle.std.proofs.lemmas.Option.{slice_get_within}
 use denote.RawPtr.{null_ptr}
-use Rattle.lalrpop_hir.specs.Range.{Range, Covers}
+use Rattle.lalrpop_book.specs.Range.{Range, Covers}
 use Rattle.lalrpop_nfa.specs.Graph.{Graph}
 use Rattle.lalrpop_nfa.specs.Path.{test}
 use Rattle.lalrpop_nfa.specs.declared.edge.Edge.{Edge}
@@ -16,7 +16,7 @@ use Rattle.lalrpop_alphabet.specs.declared.Group.{Group}
 use Rattle.lalrpop_alphabet.specs.declared.Lead.{Lead}
 use Rattle.lalrpop_alphabet.specs.declared.StateLeads.{StateLeads}
 use Rattle.lalrpop_alphabet.specs.declared.NfaLeads.{NfaLeads}
-use Rattle.lalrpop_alphabet.specs.Alphabet.{Classes, IsLeadOf, HasState, IsInCell, HasClass, HasCut, LeadsBy, CutsAt, IsEndOf, IsFirstOf, AreCells, AreGroups, IsSound, IsAlphabetOf}
+use Rattle.lalrpop_alphabet.specs.Internal.Alphabet.{Classes, IsLeadOf, HasState, IsInCell, HasClass, HasCut, LeadsBy, CutsAt, IsEndOf, IsFirstOf, AreCells, AreGroups, IsSound, IsAlphabetOf}
 
 -- the letters from b to d
 abbrev b_to_d : Range

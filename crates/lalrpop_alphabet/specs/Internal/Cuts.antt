@@ -1,8 +1,8 @@
 -- What the functions that find the cuts promise one another.
 use Rattle.std.specs.Prelude.{◌≡◌, ℕ, ◌<◌, ◌≤◌, ◌⊎◌, ◌↔◌, List, slice_get, Some}
 use Rattle.std.specs.List.{Contains}
-use Rattle.lalrpop_hir.specs.Range.{Range}
-use Rattle.lalrpop_alphabet.specs.Alphabet.{IsEndOf}
+use Rattle.lalrpop_book.specs.Range.{Range}
+use Rattle.lalrpop_alphabet.specs.Internal.Alphabet.{IsEndOf}
 
 -- each number is less than those behind it
 abbrev pub AreRising : List ℕ → Type 0

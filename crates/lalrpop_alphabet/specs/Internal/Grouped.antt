@@ -1,7 +1,7 @@
 -- The labels that leave the states of automata, in lists that are numbered.
 use Rattle.std.specs.Prelude.{◌≡◌, ℕ, ◌<◌, ◌≤◌, ◌↔◌, List, length, slice_get, Some}
 use Rattle.std.specs.List.{Contains}
-use Rattle.lalrpop_hir.specs.Range.{Range, Covers}
+use Rattle.lalrpop_book.specs.Range.{Range, Covers}
 use Rattle.lalrpop_nfa.specs.Graph.{Graph}
 use Rattle.lalrpop_nfa.specs.Path.{test}
 use Rattle.lalrpop_alphabet.specs.declared.Cell.{Cell}
@@ -9,7 +9,7 @@ use Rattle.lalrpop_alphabet.specs.declared.Group.{Group}
 use Rattle.lalrpop_alphabet.specs.declared.Lead.{Lead}
 use Rattle.lalrpop_alphabet.specs.declared.NfaLeads.{NfaLeads}
 use Rattle.lalrpop_alphabet.specs.declared.groups.Labels.{Labels}
-use Rattle.lalrpop_alphabet.specs.Alphabet.{IsLeadOf, IsEndOf, IsInCell, IsFirstOf, HasClass, HasCut}
+use Rattle.lalrpop_alphabet.specs.Internal.Alphabet.{IsLeadOf, IsEndOf, IsInCell, IsFirstOf, HasClass, HasCut}
 
 -- labels of state p of automaton i lead to state q, those of the list n of labels
 abbrev pub LeadsTo : List NfaLeads → ℕ → ℕ → ℕ → ℕ → Type 0

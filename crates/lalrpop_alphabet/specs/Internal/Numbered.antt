@@ -8,7 +8,7 @@ use Rattle.std.specs.declared.cmp.Ordering.{Ordering}
 use Rattle.lalrpop_alphabet.specs.declared.Cell.{Cell}
 use Rattle.lalrpop_alphabet.specs.declared.Group.{Group}
 use Rattle.lalrpop_alphabet.specs.declared.signatures.Signature.{Signature}
-use Rattle.lalrpop_alphabet.specs.Alphabet.{HasClass, HasCut}
+use Rattle.lalrpop_alphabet.specs.Internal.Alphabet.{HasClass, HasCut}
 
 -- by the first list in which they differ
 abbrev pub signature_cmp : Signature → Signature → Ordering

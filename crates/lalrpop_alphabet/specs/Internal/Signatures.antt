@@ -1,11 +1,11 @@
 -- The lists of labels that cover each cell, and the cells at which their labels begin or are over.
 use Rattle.std.specs.Prelude.{◌≡◌, ℕ, ◌<◌, ◌⊎◌, ◌↔◌, List, length, slice_get, Some}
 use Rattle.std.specs.List.{Contains}
-use Rattle.lalrpop_hir.specs.Range.{Range, Covers}
+use Rattle.lalrpop_book.specs.Range.{Range, Covers}
 use Rattle.lalrpop_alphabet.specs.declared.Group.{Group}
 use Rattle.lalrpop_alphabet.specs.declared.groups.Labels.{Labels}
 use Rattle.lalrpop_alphabet.specs.declared.signatures.Signature.{Signature}
-use Rattle.lalrpop_alphabet.specs.Alphabet.{IsEndOf, HasClass, HasCut}
+use Rattle.lalrpop_alphabet.specs.Internal.Alphabet.{IsEndOf, HasClass, HasCut}
 use Rattle.lalrpop_alphabet.specs.Internal.Grouped.{HasLabel}
 
 -- the numbers ascend

@@ -1,7 +1,7 @@
 -- The values from cut to cut, where the cuts are cells of an alphabet.
 use Rattle.std.specs.Prelude.{ℕ, ◌-◌, Bool, false, nat_lt, cond, List, [], ◌∷◌, ◌++◌, length, slice_get, Option, Some, None}
 use Rattle.std.proofs.Common.{get_or, zero, suc}
-use Rattle.lalrpop_hir.specs.Range.{Range}
+use Rattle.lalrpop_book.specs.Range.{Range}
 use Rattle.lalrpop_alphabet.specs.declared.Cell.{Cell}
 use Rattle.lalrpop_dfa.specs.declared.room.Transitions.{Transitions}
 

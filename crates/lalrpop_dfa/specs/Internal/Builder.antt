@@ -3,27 +3,27 @@ use Rattle.std.specs.Prelude.{◌≡◌, ◌≢◌, ℕ, ◌+◌, ◌<◌, ◌�
 use Rattle.std.proofs.Common.{zero, suc}
 use Rattle.std.specs.List.{Contains}
 use Rattle.std.specs.BTreeMap.{BTreeMap, get}
-use Rattle.lalrpop_hir.specs.Range.{Range, Covers}
-use Rattle.lalrpop_hir.specs.Tree.{Tree}
+use Rattle.lalrpop_book.specs.Range.{Range, Covers}
+use Rattle.lalrpop_book.specs.Tree.{Tree}
 use Rattle.lalrpop_nfa.specs.Graph.{Graph}
-use Rattle.lalrpop_nfa.specs.Fault.{fault}
+use Rattle.lalrpop_book.specs.Fault.{fault}
 use Rattle.lalrpop_nfa.specs.Compiled.{IsCompiled, HasFixedEdges}
-use Rattle.lalrpop_dfa.specs.Clash.{IsClash}
+use Rattle.lalrpop_book.specs.Clash.{IsClash}
 use Rattle.lalrpop_table.specs.Dfa.{Row}
 use Rattle.lalrpop_items.specs.Automata.{Item}
 use Rattle.lalrpop_dfa.specs.Items.{IsLeaving}
-use Rattle.lalrpop_items.specs.Subsets.{move}
-use Rattle.lalrpop_items.specs.Transitions.{AreTransitions}
+use Rattle.lalrpop_items.specs.Internal.Subsets.{move}
+use Rattle.lalrpop_items.specs.Internal.Transitions.{AreTransitions}
 use Rattle.lalrpop_dfa.specs.Internal.Transitions.{transitions_cmp}
 use Rattle.lalrpop_dfa.specs.declared.room.Transitions.{Transitions}
 use Rattle.lalrpop_dfa.specs.declared.builder.Sets.{Sets}
 use Rattle.lalrpop_dfa.specs.Internal.BreadthFirst.{IsBreadthFirst, nth, value_of}
 use Rattle.lalrpop_dfa.specs.Internal.Built.{subset_automaton, IsRowOf, IsTied}
 use Rattle.lalrpop_ranges.specs.Partition.{IsPartition}
-use Rattle.lalrpop_nfa.specs.declared.error.NfaConstructionError.{NfaConstructionError}
-use Rattle.lalrpop_nfa.specs.declared.error.NfaConstructionError.TheVariants.{OutOfMemory as NoMemory}
-use Rattle.lalrpop_dfa.specs.declared.error.DfaConstructionError.{DfaConstructionError}
-use Rattle.lalrpop_dfa.specs.declared.error.DfaConstructionError.TheVariants.{NfaConstructionError as Refused, Ambiguity, OutOfMemory}
+use Rattle.lalrpop_book.specs.declared.error.NfaConstructionError.{NfaConstructionError}
+use Rattle.lalrpop_book.specs.declared.error.NfaConstructionError.TheVariants.{OutOfMemory as NoMemory}
+use Rattle.lalrpop_book.specs.declared.error.DfaConstructionError.{DfaConstructionError}
+use Rattle.lalrpop_book.specs.declared.error.DfaConstructionError.TheVariants.{NfaConstructionError as Refused, Ambiguity, OutOfMemory}
 
 -- the set has the number j: it had it, or it was added last, with its origin
 abbrev pub AddedTo : List (List Item) → List (ℕ × ℕ) → ℕ → ℕ → List Item → ℕ → List (List Item) → List (ℕ × ℕ) → Type 0

@@ -6,7 +6,7 @@ use Rattle.lalrpop_nfa.specs.Graph.{Graph}
 use Rattle.lalrpop_ranges.specs.Partition.{IsPartition}
 use Rattle.lalrpop_items.specs.Automata.{Item}
 use Rattle.lalrpop_dfa.specs.Items.{IsLeaving}
-use Rattle.lalrpop_alphabet.specs.Alphabet.{Classes, HasCut, IsInCell, IsSound}
+use Rattle.lalrpop_alphabet.specs.Internal.Alphabet.{Classes, HasCut, IsInCell, IsSound}
 use Rattle.lalrpop_alphabet.specs.declared.Cell.{Cell}
 use Rattle.lalrpop_alphabet.specs.declared.Group.{Group}
 use Rattle.lalrpop_dfa.specs.Internal.Builder.{AreUnknown}

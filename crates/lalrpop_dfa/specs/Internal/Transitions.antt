@@ -3,16 +3,16 @@ use Rattle.std.specs.Prelude.{◌≡◌, ℕ, ◌<◌, ◌⊎◌, ◌↔◌, Lis
 use Rattle.std.specs.List.{Contains}
 use Rattle.std.specs.Cmp.Lexicographic.{slice_cmp}
 use Rattle.std.specs.declared.cmp.Ordering.{Ordering}
-use Rattle.lalrpop_hir.specs.Range.{Range}
+use Rattle.lalrpop_book.specs.Range.{Range}
 use Rattle.lalrpop_nfa.specs.Graph.{Graph}
-use Rattle.lalrpop_alphabet.specs.Alphabet.{Classes, LeadsBy, CutsAt, IsEndOf, IsInCell, IsFirstOf}
+use Rattle.lalrpop_alphabet.specs.Internal.Alphabet.{Classes, LeadsBy, CutsAt, IsEndOf, IsInCell, IsFirstOf}
 use Rattle.lalrpop_alphabet.specs.declared.Cell.{Cell}
 use Rattle.lalrpop_items.specs.Automata.{Item}
 use Rattle.lalrpop_dfa.specs.Items.{IsLeaving}
 use Rattle.lalrpop_items.specs.declared.transitions.Transition.{Transition}
 use Rattle.lalrpop_dfa.specs.declared.room.Transitions.{Transitions}
 use Rattle.lalrpop_dfa.specs.Internal.Blocks.{Block}
-use Rattle.lalrpop_items.specs.Transitions.{transition_cmp, AreTransitions}
+use Rattle.lalrpop_items.specs.Internal.Transitions.{transition_cmp, AreTransitions}
 
 -- by the first edge in which they differ
 abbrev pub transitions_cmp : Transitions → Transitions → Ordering

@@ -1,6 +1,6 @@
 -- Cases of specs/Escape.antt.
 use Rattle.std.proofs.Common.{◌≡◌, ℕ, [], ◌∷◌, true, false, Some, None, codes, refl, sym, subst, ◌∙◌, lit<, arith}
-use Rattle.lalrpop_hir.specs.declared.hir.Look.TheVariants.{WordStartUnicode, WordUnicode}
+use Rattle.lalrpop_book.specs.declared.look.Look.TheVariants.{WordStartUnicode, WordUnicode}
 use Rattle.lalrpop_grammar.specs.Text.{Text}
 use Rattle.lalrpop_sets.specs.CharacterSet.{Set, is_scalar}
 use Rattle.lalrpop_sets.specs.NamedSet.{named}

@@ -1,6 +1,6 @@
 -- Cases of specs/GroupName.antt.
 use Rattle.std.proofs.Common.{◌≡◌, [], ◌∷◌, true, false, Some, None, codes, refl}
-use Rattle.lalrpop_hir.specs.Tree.{empty, repetition, capture, concat, none, also}
+use Rattle.lalrpop_book.specs.Tree.{empty, repetition, capture, concat, none, also}
 use Rattle.lalrpop_grammar.specs.GroupName.{begins_name, is_name, names, are_distinct}
 
 -- `_` begins a name, and is one

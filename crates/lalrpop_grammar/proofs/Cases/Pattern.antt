@@ -1,10 +1,10 @@
 -- Patterns that are easy to get wrong: each spells the tree that stands behind it, and no other (`one_tree`), or none at all.
 use Rattle.std.proofs.Common.{◌≡◌, ℕ, zero, suc, max, sym, ap, ◌∙◌, arith, add-one, Bool, true, false, not, cond, Option, List, [], ◌∷◌, Some, None, refl, codes, lit<, lit≤, ◌++◌}
 use lib.Utf8.{encode}
-use Rattle.lalrpop_hir.specs.Range.{Range}
-use Rattle.lalrpop_hir.specs.Tree.{Tree, literal, class, unicode, repetition, look, empty, alternation, concat, capture}
+use Rattle.lalrpop_book.specs.Range.{Range}
+use Rattle.lalrpop_book.specs.Tree.{Tree, literal, class, unicode, repetition, look, empty, alternation, concat, capture}
 use Rattle.lalrpop_hir.specs.Parts.{trees}
-use Rattle.lalrpop_hir.specs.declared.hir.Look.TheVariants.{WordUnicode}
+use Rattle.lalrpop_book.specs.declared.look.Look.TheVariants.{WordUnicode}
 use Rattle.lalrpop_grammar.specs.Text.{Text, begins}
 use Rattle.lalrpop_sets.specs.CharacterSet.{fold, just, canon}
 use Rattle.lalrpop_grammar.specs.declared.flags.Flags.{Flags}

@@ -3,8 +3,8 @@ use Rattle.std.specs.Prelude.{ℕ, zero, suc, ◌+◌, ◌^◌, max, Bool, true,
 use Rattle.std.specs.List.{list_all}
 use Rattle.std.specs.Char.{is_ascii_hexdigit, is_ascii_lowercase, is_ascii_digit}
 use Rattle.unicode.specs.Binary.{is_white_space}
-use Rattle.lalrpop_hir.specs.Tree.{Tree, look, repetition, capture}
-use Rattle.lalrpop_hir.specs.declared.hir.Look.TheVariants.{WordUnicode, WordStartUnicode, WordEndUnicode, WordStartHalfUnicode, WordEndHalfUnicode, Start, End, StartLF, EndLF}
+use Rattle.lalrpop_book.specs.Tree.{Tree, look, repetition, capture}
+use Rattle.lalrpop_book.specs.declared.look.Look.TheVariants.{WordUnicode, WordStartUnicode, WordEndUnicode, WordStartHalfUnicode, WordEndHalfUnicode, Start, End, StartLF, EndLF}
 use Rattle.lalrpop_grammar.specs.Text.{Text, begins}
 use Rattle.lalrpop_sets.specs.CharacterSet.{Set, is_scalar, just, range, union_all, complement, set_tree, is_one_of}
 use Rattle.lalrpop_grammar.specs.declared.flags.Flags.{Flags}

@@ -1,7 +1,7 @@
 -- cases: proofs/Cases/Depth.antt
 -- How deeply trees stand in trees, by which walks over trees end.
 use Rattle.std.specs.Prelude.{ℕ, ◌+◌, max}
-use Rattle.lalrpop_hir.specs.Tree.{Tree, empty, literal, class, look, repetition, capture, concat, alternation, Trees, none, also}
+use Rattle.lalrpop_book.specs.Tree.{Tree, empty, literal, class, look, repetition, capture, concat, alternation, Trees, none, also}
 
 -- how deeply trees stand in trees
 abbrev mutual

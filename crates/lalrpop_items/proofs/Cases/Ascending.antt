@@ -4,7 +4,7 @@ use Rattle.std.specs.List.{Contains}
 use Rattle.std.specs.List.Sorted.{IsStrictlySortedBy}
 use Rattle.std.specs.declared.cmp.Ordering.TheVariants.{Less, Equal, Greater}
 use Rattle.lalrpop_items.specs.Automata.{Item}
-use Rattle.lalrpop_items.specs.Ascending.{item_cmp, AreAscendingItems, AreByPattern}
+use Rattle.lalrpop_items.specs.Internal.Ascending.{item_cmp, AreAscendingItems, AreByPattern}
 
 -- the pattern decides, and the state where the patterns are equal
 first_pattern_is_less : (item_cmp (0, 3) (1, 0) ≡ Less) × (item_cmp (1, 0) (0, 3) ≡ Greater)

@@ -2,9 +2,9 @@
 use Rattle.std.proofs.Common.{◌≡◌, ◌≢◌, ℕ, zero, suc, ◌<◌, ◌≤◌, inl, inr, List, [], ◌∷◌, length, Some, refl, sym, ap, subst, arith}
 use Rattle.std.specs.Prelude.{◌↔◌, slice_get}
 use Rattle.std.specs.List.{Contains}
-use Rattle.lalrpop_hir.specs.Range.{Range, Covers}
-use Rattle.lalrpop_hir.specs.Tree.{Tree, class, unicode}
-use Rattle.lalrpop_hir.specs.Language.{Matches}
+use Rattle.lalrpop_book.specs.Range.{Range, Covers}
+use Rattle.lalrpop_book.specs.Tree.{Tree, class, unicode}
+use Rattle.lalrpop_book.specs.Language.{Matches}
 use Rattle.lalrpop_nfa.specs.Graph.{Graph, Lists}
 use Rattle.lalrpop_ranges.specs.Meet.{Meet}
 use Rattle.lalrpop_nfa.specs.Path.{noop, test, other, Path, here, epsilon, read, otherwise}
@@ -13,7 +13,7 @@ use Rattle.lalrpop_nfa.specs.declared.edge.Edge.{Edge}
 use Rattle.lalrpop_nfa.specs.declared.edge.Noop.{Noop}
 use Rattle.lalrpop_nfa.specs.declared.edge.Other.{Other}
 use Rattle.lalrpop_nfa.specs.declared.edge.StateKind.TheVariants.{Accept, Reject, Neither}
-use Rattle.lalrpop_items.specs.Given.{AreFixed, AreAutomata, IsItemOf, AreItemsOf}
+use Rattle.lalrpop_items.specs.Internal.Given.{AreFixed, AreAutomata, IsItemOf, AreItemsOf}
 
 abbrev pub b_to_d : Range
 b_to_d = record { start = 98; end = 100 }

@@ -3,7 +3,7 @@ use Rattle.std.proofs.Common.{◌≡◌, [], ◌∷◌, true, false, refl}
 use Rattle.lalrpop_nfa.specs.Graph.{Graph}
 use Rattle.lalrpop_nfa.specs.Path.{noop, test, other}
 use Rattle.lalrpop_nfa.specs.declared.edge.StateKind.TheVariants.{Accept, Reject, Neither}
-use Rattle.lalrpop_items.specs.Subsets.{no_graph, graph_at, has_noop, joins, is_epsilon_path, items_below, items_from, all_items, follows_by_epsilon, closed, test_targets, default_targets, or_instead, targets, item_targets, move, starts_from, first_set_of, is_dead}
+use Rattle.lalrpop_items.specs.Internal.Subsets.{no_graph, graph_at, has_noop, joins, is_epsilon_path, items_below, items_from, all_items, follows_by_epsilon, closed, test_targets, default_targets, or_instead, targets, item_targets, move, starts_from, first_set_of, is_dead}
 use Rattle.lalrpop_items.proofs.Cases.Given.{b_to_d, letter, nothing, automata}
 
 -- ---- automata by their places

@@ -3,11 +3,11 @@ use Rattle.std.proofs.Common.{◌≡◌, ℕ, zero, suc, ◌≤◌, List, [], �
 use Rattle.std.specs.Prelude.{slice_get}
 use Rattle.std.specs.List.{Contains}
 use Rattle.std.specs.declared.cmp.Ordering.TheVariants.{Less, Equal, Greater}
-use Rattle.lalrpop_hir.specs.Range.{Range}
+use Rattle.lalrpop_book.specs.Range.{Range}
 use Rattle.lalrpop_nfa.specs.Graph.{Graph}
 use Rattle.lalrpop_nfa.specs.Path.{test}
 use Rattle.lalrpop_items.specs.Automata.{Item}
-use Rattle.lalrpop_items.specs.Transitions.{transition_cmp, IsTransition, AreTransitions}
+use Rattle.lalrpop_items.specs.Internal.Transitions.{transition_cmp, IsTransition, AreTransitions}
 use Rattle.lalrpop_items.specs.declared.transitions.Transition.{Transition}
 use Rattle.lalrpop_items.proofs.Cases.Given.{b_to_d, letter, nothing, automata, test_is}
 

@@ -6,8 +6,8 @@ use Rattle.std.specs.Ordering.{nat_cmp}
 use Rattle.std.specs.declared.cmp.Ordering.TheVariants.{Less}
 use Rattle.lalrpop_nfa.specs.Compiled.{accept_state, reject_state}
 use Rattle.lalrpop_items.specs.Automata.{Item}
-use Rattle.lalrpop_items.specs.Ascending.{item_cmp, AreAscendingItems}
-use Rattle.lalrpop_items.specs.ItemOrder.{hash_of}
+use Rattle.lalrpop_items.specs.Internal.Ascending.{item_cmp, AreAscendingItems}
+use Rattle.lalrpop_items.specs.Internal.ItemOrder.{hash_of}
 
 -- the REJECT item of pattern i, unless it is spared
 abbrev pub reject_of : List ℕ → ℕ → List Item

@@ -3,7 +3,7 @@ use Rattle.std.specs.Prelude.{◌≡◌, ◌≢◌, ℕ, ◌<◌, ◌≤◌, ◌
 use Rattle.std.specs.List.{Contains}
 use Rattle.lalrpop_nfa.specs.Graph.{Graph}
 use Rattle.lalrpop_items.specs.Automata.{Item}
-use Rattle.lalrpop_items.specs.Subsets.{graph_at, default_targets, or_instead, targets}
+use Rattle.lalrpop_items.specs.Internal.Subsets.{graph_at, default_targets, or_instead, targets}
 use Rattle.lalrpop_items.specs.declared.transitions.Transition.{Transition}
 
 -- from a place up to an end, and not at it, the edges are those of the item x

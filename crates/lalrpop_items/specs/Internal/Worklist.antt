@@ -3,8 +3,8 @@ use Rattle.std.specs.Prelude.{◌≡◌, ℕ, suc, ◌+◌, ◌<◌, ◌≤◌, 
 use Rattle.std.specs.List.{Contains, filter}
 use Rattle.lalrpop_nfa.specs.Graph.{Graph}
 use Rattle.lalrpop_items.specs.Automata.{Item}
-use Rattle.lalrpop_items.specs.Ascending.{AreAscendingItems}
-use Rattle.lalrpop_items.specs.Subsets.{graph_at}
+use Rattle.lalrpop_items.specs.Internal.Ascending.{AreAscendingItems}
+use Rattle.lalrpop_items.specs.Internal.Subsets.{graph_at}
 use Rattle.lalrpop_nfa.specs.Walk.{leaves}
 
 -- after the items are inserted, observed and pending have become observed2 and pending2

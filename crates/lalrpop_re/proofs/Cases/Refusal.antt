@@ -1,6 +1,6 @@
 -- Cases of specs/Refusal.antt.
 use Rattle.std.proofs.Common.{◌≤◌, [], ◌∷◌, codes, refl, lit≤, arith}
-use Rattle.lalrpop_hir.specs.Tree.{literal}
+use Rattle.lalrpop_book.specs.Tree.{literal}
 use Rattle.lalrpop_grammar.specs.GroupName.{names}
 use Rattle.lalrpop_grammar.specs.Pattern.{a_literal, an_atom, no_piece, piece_then, last_branch, of_branches}
 use Rattle.lalrpop_re.specs.Refusal.{HasNoTree, PointsInto}

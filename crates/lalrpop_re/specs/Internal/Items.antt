@@ -1,6 +1,6 @@
 -- How the ranges of a bracket's items are gathered.
 use Rattle.std.specs.Prelude.{◌↔◌, ◌⊎◌, ℕ, List}
-use Rattle.lalrpop_hir.specs.Range.{Range, Covered}
+use Rattle.lalrpop_book.specs.Range.{Range, Covered}
 use Rattle.lalrpop_hir.specs.Runs.{IsScalar}
 use Rattle.lalrpop_sets.specs.CharacterSet.{Set, Members}
 

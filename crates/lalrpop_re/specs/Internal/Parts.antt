@@ -1,6 +1,6 @@
 -- One step of a row, and what the parser's parts are in the reading.
 use Rattle.std.specs.Prelude.{ℕ, max, List, [], ◌∷◌, ◌++◌, Option, Some, None, drop, option_map, if◌then◌else◌}
-use Rattle.lalrpop_hir.specs.Tree.{Tree, capture}
+use Rattle.lalrpop_book.specs.Tree.{Tree, capture}
 use Rattle.lalrpop_re.specs.declared.cursor.Cursor.{Cursor}
 use Rattle.lalrpop_grammar.specs.declared.flags.Flags.{Flags}
 use Rattle.lalrpop_re.specs.declared.parser.Nested.{Nested}

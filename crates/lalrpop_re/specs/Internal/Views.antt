@@ -1,6 +1,6 @@
 -- How the parser's values stand to those of the grammar.
 use Rattle.std.specs.Prelude.{◌≡◌, ◌↔◌, ℕ, List, length, drop, slice_get, unwrap_or, Option, Some, None, Result, Ok, Err, string_bytes}
-use Rattle.lalrpop_hir.specs.Range.{Range, Covered}
+use Rattle.lalrpop_book.specs.Range.{Range, Covered}
 use Rattle.lalrpop_hir.specs.Runs.{IsScalar}
 use Rattle.lalrpop_grammar.specs.declared.error.RegexError.{RegexError}
 use Rattle.lalrpop_grammar.specs.declared.error.RegexError.TheVariants.{Syntax, OutOfMemory}

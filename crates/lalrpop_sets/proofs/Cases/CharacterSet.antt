@@ -4,7 +4,7 @@ use Rattle.std.specs.Char.{to_ascii_lowercase}
 use Rattle.std.proofs.lemmas.Bool.Decides.{nat_tests}
 use Rattle.unicode.specs.CaseFolding.{simple_fold}
 use Rattle.ucd_case.proofs.CaseFoldingLemmas.{simple_fold-ascii}
-use Rattle.lalrpop_hir.specs.Range.{Range, Covered}
+use Rattle.lalrpop_book.specs.Range.{Range, Covered}
 use Rattle.lalrpop_sets.specs.CharacterSet.{is_scalar, nothing, just, is_one_of, range, union, union_all, complement, some_below, fold, with_least, runs_below, canon}
 use Rattle.lalrpop_sets.proofs.CanonLaws.{HasRuns-canon}
 use Rattle.lalrpop_sets.proofs.FoldLaws.{fold-is}

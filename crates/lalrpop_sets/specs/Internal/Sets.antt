@@ -2,7 +2,7 @@
 use Rattle.std.specs.Prelude.{◌≡◌, ◌≢◌, ℕ, true, false, List, [], ◌∷◌, Option, Some, None, bytes_eq}
 use Rattle.unicode.specs.CaseFolding.{simple_fold}
 use Rattle.unicode.specs.Rows.{AreRanges, HasExactly}
-use Rattle.lalrpop_hir.specs.Range.{Range, Covered}
+use Rattle.lalrpop_book.specs.Range.{Range, Covered}
 use Rattle.lalrpop_hir.specs.Runs.{IsScalar}
 use Rattle.lalrpop_sets.specs.declared.posix.PosixClass.{PosixClass}
 use Rattle.lalrpop_sets.specs.CharacterSet.{Set}

@@ -1,6 +1,6 @@
 -- States whose test edges stand in a list of all test edges.
 use Rattle.std.specs.Prelude.{◌≡◌, ℕ, ◌+◌, ◌<◌, ◌≤◌, List, length, map, take, drop, slice_get, Option, Some}
-use Rattle.lalrpop_hir.specs.Range.{Range}
+use Rattle.lalrpop_book.specs.Range.{Range}
 use Rattle.lalrpop_table.specs.Dfa.{Row, StoredState, step}
 
 -- the state with its test edges

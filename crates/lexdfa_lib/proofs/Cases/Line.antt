@@ -4,7 +4,7 @@ use Rattle.std.specs.Char.{digit_value}
 use Rattle.std.specs.Str.{chars}
 use Rattle.std.specs.Str.Parse.{AllDigits, digits_value}
 use Rattle.std.proofs.lemmas.Str.Parse.{digit_from_value}
-use Rattle.lalrpop_hir.specs.Tree.{Tree, empty, literal}
+use Rattle.lalrpop_book.specs.Tree.{Tree, empty, literal}
 use Rattle.lalrpop_hir.specs.Parts.{of_text}
 use Rattle.lalrpop_re.specs.GroupName.{names}
 use Rattle.lalrpop_re.specs.Pattern.{Pattern, no_piece, last_branch, of_branches}

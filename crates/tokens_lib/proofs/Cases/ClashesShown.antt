@@ -1,7 +1,7 @@
 -- Cases of specs/ClashesShown.antt.
 use Rattle.std.proofs.Common.{◌≡◌, ℕ, List, [], ◌∷◌, Some, None, codes, refl}
 use Rattle.std.specs.Fmt.{digits}
-use Rattle.lalrpop_lexer.specs.ClashList.{Entry}
+use Rattle.lalrpop_lexer.specs.Clashes.{Entry}
 use Rattle.lexdfa_lib.specs.declared.outcome.Outcome.TheVariants.{Ambiguous, Line, NoMatch}
 use Rattle.tokens_lib.specs.ClashesShown.{entry_line, first_reported, AreListed, AreClashesShown}
 

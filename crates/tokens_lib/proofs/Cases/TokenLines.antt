@@ -2,8 +2,8 @@
 use Rattle.std.proofs.Common.{◌≡◌, ◌≢◌, ℕ, List, [], ◌∷◌, ◌++◌, Option, Some, None, Ok, Err, length, get_or, decimal, codes, ◌≤◌, lit<, lit≤, refl, sym, ap, ◌∙◌, arith}
 use Rattle.std.specs.Fmt.{digits}
 use Rattle.std.specs.Str.{chars}
-use Rattle.lalrpop_lexer.specs.declared.lexer_token.Token.{Token}
-use Rattle.lalrpop_lexer.specs.declared.token.TokenFault.{TokenFault}
+use Rattle.lalrpop_book.specs.declared.token.Token.{Token}
+use Rattle.lalrpop_book.specs.declared.token.TokenFault.{TokenFault}
 use Rattle.lexdfa_lib.specs.declared.outcome.Outcome.TheVariants.{All, Stopped}
 use Rattle.tokens_lib.specs.Quoted.{quoted}
 use Rattle.tokens_lib.specs.TokenLines.{place_text, token_line, outcome_behind, last_line, text_lines, IsStopOf}

@@ -1,6 +1,6 @@
 use Rattle.std.proofs.Common.{◌∙◌, ◌<◌, length, sym, ap, arith}
 use Rattle.std.specs.Prelude.{slice_get}
-use Rattle.lalrpop_alphabet.specs.Alphabet.{Classes}
+use Rattle.lalrpop_alphabet.specs.Internal.Alphabet.{Classes}
 use Rattle.lalrpop_alphabet.proofs.Assembling.{at}
 use Rattle.lalrpop_alphabet.proofs.Alphabet.cell.Goals as goal
 

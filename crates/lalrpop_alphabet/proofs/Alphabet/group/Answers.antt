@@ -1,6 +1,6 @@
 use Rattle.std.proofs.Common.{◌∙◌, ◌<◌, length, sym, subst, ap, arith}
 use Rattle.std.specs.Prelude.{slice_get}
-use Rattle.lalrpop_alphabet.specs.Alphabet.{Classes, IsSound}
+use Rattle.lalrpop_alphabet.specs.Internal.Alphabet.{Classes, IsSound}
 use Rattle.lalrpop_alphabet.proofs.Assembling.{at}
 use Rattle.lalrpop_alphabet.proofs.Alphabet.group.Goals as goal
 

@@ -1,7 +1,7 @@
 use Rattle.std.proofs.Common.{◌≡◌, ℕ, ◌<◌, List, length, get_or, Some, sym, subst, ap, ◌∙◌, arith}
 use Rattle.std.specs.Prelude.{slice_get}
 use Rattle.std.proofs.lemmas.Option.{slice_get_within}
-use Rattle.lalrpop_alphabet.specs.Alphabet.{Classes, HasState, IsSound}
+use Rattle.lalrpop_alphabet.specs.Internal.Alphabet.{Classes, HasState, IsSound}
 use Rattle.lalrpop_alphabet.specs.declared.NfaLeads.{NfaLeads}
 use Rattle.lalrpop_alphabet.proofs.Assembling.{at}
 use Rattle.lalrpop_alphabet.proofs.Alphabet.leads.Goals as goal

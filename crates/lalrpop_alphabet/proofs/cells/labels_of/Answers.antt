@@ -1,7 +1,7 @@
 use Rattle.std.proofs.Common.{ℕ, ◌↔◌, subst}
 use Rattle.std.specs.List.{Contains}
 use Rattle.std.proofs.lemmas.List.{take_all}
-use Rattle.lalrpop_hir.specs.Range.{Range}
+use Rattle.lalrpop_book.specs.Range.{Range}
 use Rattle.lalrpop_alphabet.specs.Internal.Grouped.{HasLabel}
 use Rattle.lalrpop_alphabet.specs.Internal.Cuts.{HasAllOf}
 use Rattle.lalrpop_alphabet.proofs.CutsLabels.{lists_more}

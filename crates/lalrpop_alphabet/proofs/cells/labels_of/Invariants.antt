@@ -1,6 +1,6 @@
 use Rattle.std.proofs.Common.{ℕ, ◌↔◌, take}
 use Rattle.std.specs.List.{Contains}
-use Rattle.lalrpop_hir.specs.Range.{Range}
+use Rattle.lalrpop_book.specs.Range.{Range}
 use Rattle.lalrpop_alphabet.specs.Internal.Grouped.{HasLabel}
 use Rattle.lalrpop_alphabet.proofs.cells.labels_of.Given as goal
 

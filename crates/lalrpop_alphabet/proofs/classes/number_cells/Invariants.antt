@@ -1,7 +1,7 @@
 use Rattle.std.proofs.Common.{◌≡◌, ℕ, ◌+◌, ◌≤◌, length, slice_get, Some}
 use Rattle.std.specs.Prelude.{◌↔◌}
 use Rattle.lalrpop_alphabet.specs.declared.signatures.Signature.{Signature}
-use Rattle.lalrpop_alphabet.specs.Alphabet.{HasCut}
+use Rattle.lalrpop_alphabet.specs.Internal.Alphabet.{HasCut}
 use Rattle.lalrpop_alphabet.specs.Internal.Numbered.{AreNumbered, AreClassed}
 use Rattle.lalrpop_alphabet.proofs.classes.number_cells.Given as goal
 

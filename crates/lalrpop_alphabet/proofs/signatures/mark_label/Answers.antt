@@ -1,5 +1,5 @@
 use Rattle.std.proofs.Common.{rules, ◌≡◌, ◌+◌, ◌≤◌, slice_get, Some}
-use Rattle.lalrpop_hir.specs.Range.{Range}
+use Rattle.lalrpop_book.specs.Range.{Range}
 use Rattle.lalrpop_alphabet.proofs.Marking.{label_marked, ends_added}
 use Rattle.lalrpop_alphabet.proofs.signatures.mark_label.Goals as goal
 

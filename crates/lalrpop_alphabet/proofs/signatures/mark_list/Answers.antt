@@ -3,7 +3,7 @@ use Rattle.std.specs.Prelude.{◌↔◌}
 use Rattle.std.specs.List.{Contains}
 use Rattle.std.proofs.lemmas.List.{take_all}
 use Rattle.std.proofs.lemmas.Option.{slice_get_read}
-use Rattle.lalrpop_hir.specs.Range.{Range}
+use Rattle.lalrpop_book.specs.Range.{Range}
 use Rattle.lalrpop_alphabet.specs.Internal.Signatures.{Gained, CoversAny, EndsAt}
 use Rattle.lalrpop_alphabet.proofs.Marking.{label_gained, label_ends, at_contains, none_gained, none_end}
 use Rattle.lalrpop_alphabet.proofs.signatures.mark_list.Goals as goal

@@ -1,5 +1,5 @@
 use Rattle.std.proofs.Common.{subst, sym}
-use Rattle.lalrpop_items.specs.Given.{AreAutomata}
+use Rattle.lalrpop_items.specs.Internal.Given.{AreAutomata}
 use Rattle.lalrpop_dfa.proofs.all_clashes.clashes.Goals as goal
 
 pub clashes_of-requires-clause-automata : goal.clashes_of-requires-clause-automata

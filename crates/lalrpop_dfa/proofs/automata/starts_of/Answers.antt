@@ -1,5 +1,5 @@
 use Rattle.std.proofs.Common.{rules, ◌<◌, length}
-use Rattle.lalrpop_items.specs.Subsets.{starts_from}
+use Rattle.lalrpop_items.specs.Internal.Subsets.{starts_from}
 use Rattle.lalrpop_dfa.proofs.Adding.{starts_more}
 use Rattle.lalrpop_dfa.proofs.automata.starts_of.Goals as goal
 

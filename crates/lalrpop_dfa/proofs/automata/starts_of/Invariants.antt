@@ -1,5 +1,5 @@
 use Rattle.std.proofs.Common.{◌≡◌, ◌++◌, drop}
-use Rattle.lalrpop_items.specs.Subsets.{starts_from}
+use Rattle.lalrpop_items.specs.Internal.Subsets.{starts_from}
 use Rattle.lalrpop_dfa.proofs.automata.starts_of.Given as goal
 
 abbrev pub invariant-loop-index : goal.invariant-loop-index

@@ -1,5 +1,5 @@
 use Rattle.std.proofs.Common.{subst, sym}
-use Rattle.lalrpop_items.specs.Given.{AreAutomata}
+use Rattle.lalrpop_items.specs.Internal.Given.{AreAutomata}
 use Rattle.lalrpop_dfa.proofs.build.build_dfa.Goals as goal
 
 pub build-requires-clause-automata : goal.build-requires-clause-automata

@@ -1,8 +1,8 @@
 use Rattle.std.proofs.Common.{rules, ◌≡◌, ℕ, List, Some, inl, refl, sym, subst}
 use Rattle.std.specs.BTreeMap.{get}
 use Rattle.lalrpop_dfa.specs.Internal.Transitions.{transitions_cmp}
-use Rattle.lalrpop_items.specs.Subsets.{move}
-use Rattle.lalrpop_items.specs.Transitions.{AreTransitions}
+use Rattle.lalrpop_items.specs.Internal.Subsets.{move}
+use Rattle.lalrpop_items.specs.Internal.Transitions.{AreTransitions}
 use Rattle.lalrpop_items.specs.declared.transitions.Transition.{Transition}
 use Rattle.lalrpop_dfa.specs.Internal.Builder.{AreKnown, IsAdded}
 use Rattle.std.proofs.lemmas.Result.{IfOk-weaker}

@@ -2,11 +2,11 @@ use Rattle.std.proofs.Common.{◌≡◌, ℕ, List, ◌⊎◌, inl, inr, sym, �
 use Rattle.std.specs.Prelude.{◌↔◌}
 use Rattle.std.specs.List.{Contains}
 use Rattle.std.proofs.lemmas.List.{take_all}
-use Rattle.lalrpop_alphabet.specs.Alphabet.{HasState, AreLeadsOf}
+use Rattle.lalrpop_alphabet.specs.Internal.Alphabet.{HasState, AreLeadsOf}
 use Rattle.lalrpop_alphabet.specs.declared.Lead.{Lead}
 use Rattle.lalrpop_dfa.specs.Internal.Transitions.{Gained}
 use Rattle.lalrpop_items.specs.declared.transitions.Transition.{Transition}
-use Rattle.lalrpop_nfa.proofs.Contained.{contains_none}
+use Rattle.lalrpop_book.proofs.Contained.{contains_none}
 use Rattle.lalrpop_dfa.proofs.Leavings.{LeadTo, LeadCut, gained_none, gained_then, gained_like, lead_more, cut_more, leads_of_state, cuts_of_state, lead_there}
 use Rattle.lalrpop_dfa.proofs.room.add_item.Goals as goal
 

@@ -1,10 +1,10 @@
 use Rattle.std.proofs.Common.{◌≡◌, ℕ, List, sym, subst, take, arith}
 use Rattle.std.specs.List.{Contains}
 use Rattle.std.proofs.lemmas.List.{take_all}
-use Rattle.lalrpop_alphabet.specs.Alphabet.{LeadsBy}
+use Rattle.lalrpop_alphabet.specs.Internal.Alphabet.{LeadsBy}
 use Rattle.lalrpop_items.specs.Automata.{Item}
 use Rattle.lalrpop_dfa.specs.Internal.Transitions.{Gained, AreCutsOf}
-use Rattle.lalrpop_nfa.proofs.Contained.{contains_none}
+use Rattle.lalrpop_book.proofs.Contained.{contains_none}
 use Rattle.lalrpop_dfa.proofs.Leavings.{gained_none, gained_then, item_more, item_cuts, all_gathered}
 use Rattle.lalrpop_dfa.proofs.room.gather.Goals as goal
 

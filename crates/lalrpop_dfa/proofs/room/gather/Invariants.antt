@@ -1,6 +1,6 @@
 use Rattle.std.proofs.Common.{take}
 use Rattle.std.specs.List.{Contains}
-use Rattle.lalrpop_alphabet.specs.Alphabet.{LeadsBy}
+use Rattle.lalrpop_alphabet.specs.Internal.Alphabet.{LeadsBy}
 use Rattle.lalrpop_dfa.specs.Internal.Room.{AreNoted, HoldMarked}
 use Rattle.lalrpop_dfa.specs.Internal.Transitions.{Gained, AreCutsOf}
 use Rattle.lalrpop_dfa.proofs.room.gather.Given as goal

@@ -1,6 +1,6 @@
 use Rattle.std.proofs.Common.{rules, ◌≡◌, ◌∷◌, [], sym, ◌∙◌}
 use Rattle.std.proofs.lemmas.Result.{IfOk-weaker}
-use Rattle.lalrpop_hir.specs.Tree.{literal}
+use Rattle.lalrpop_book.specs.Tree.{literal}
 use Rattle.lalrpop_hir.specs.Parts.{of_text}
 use Rattle.lalrpop_sets.specs.CharacterSet.{just, fold, HasRuns}
 use Rattle.lalrpop_grammar.specs.Pattern.{literal_tree}

@@ -1,5 +1,5 @@
 use Rattle.std.proofs.Common.{cond, subst}
-use Rattle.lalrpop_hir.specs.Range.{Covered}
+use Rattle.lalrpop_book.specs.Range.{Covered}
 use Rattle.lalrpop_hir.specs.Runs.{IsCanon}
 use Rattle.lalrpop_sets.specs.CharacterSet.{Set, nothing, just, complement, HasRuns}
 use Rattle.lalrpop_grammar.proofs.SetLaws.{HasRuns-nothing, HasRuns-just, HasRuns-complement}

@@ -2,12 +2,12 @@ use Rattle.std.proofs.Common.{◌∙◌, ◌≡◌, ℕ, List, ap, sym, subst}
 use Rattle.std.specs.List.{Contains}
 use Rattle.std.proofs.lemmas.Result.{IfOk-weaker}
 use Rattle.lalrpop_items.specs.Automata.{Item}
-use Rattle.lalrpop_items.specs.Ascending.{AreAscendingItems, AreByPattern}
-use Rattle.lalrpop_items.specs.Given.{AreItemsOf}
-use Rattle.lalrpop_items.specs.LiveItems.{live_of}
+use Rattle.lalrpop_items.specs.Internal.Ascending.{AreAscendingItems, AreByPattern}
+use Rattle.lalrpop_items.specs.Internal.Given.{AreItemsOf}
+use Rattle.lalrpop_items.specs.Internal.LiveItems.{live_of}
 use Rattle.lalrpop_items.specs.Internal.Split.{still_spared, full}
-use Rattle.lalrpop_items.specs.Subsets.{move}
-use Rattle.lalrpop_items.specs.Transitions.{AreTransitions}
+use Rattle.lalrpop_items.specs.Internal.Subsets.{move}
+use Rattle.lalrpop_items.specs.Internal.Transitions.{AreTransitions}
 use Rattle.lalrpop_items.proofs.Moving.{targets_inside}
 use Rattle.lalrpop_items.proofs.Sets.{closed_ascends}
 use Rattle.lalrpop_items.proofs.LiveSets.{live_inside, moved_within, moved_is, edges_leave_live, targets_alike, closed_from_live}

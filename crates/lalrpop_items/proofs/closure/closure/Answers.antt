@@ -1,6 +1,6 @@
 use Rattle.std.proofs.Common.{◌∙◌, ◌≡◌, ap, subst, length, IfOk}
 use Rattle.std.specs.List.{range_with_len}
-use Rattle.lalrpop_items.specs.LiveItems.{live_of}
+use Rattle.lalrpop_items.specs.Internal.LiveItems.{live_of}
 use Rattle.lalrpop_items.specs.Internal.Split.{still_spared, full}
 use Rattle.lalrpop_items.proofs.Sets.{closed_ascends}
 use Rattle.lalrpop_items.proofs.LiveSets.{all_spared, closed_within, split_closed}

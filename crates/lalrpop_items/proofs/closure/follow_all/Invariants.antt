@@ -1,5 +1,5 @@
 use Rattle.std.proofs.Common.{◌≡◌, ◌≤◌, ◌-◌, length, take}
-use Rattle.lalrpop_items.specs.Subsets.{closed}
+use Rattle.lalrpop_items.specs.Internal.Subsets.{closed}
 use Rattle.lalrpop_items.proofs.ByPattern.{AreApart}
 use Rattle.lalrpop_items.proofs.closure.follow_all.Given as goal
 

@@ -2,7 +2,7 @@ use Rattle.std.proofs.Common.{◌≡◌, ◌++◌, ◌∙◌, length, arith, ref
 use Rattle.std.proofs.lemmas.List.{length-replicate}
 use Rattle.lalrpop_items.specs.Internal.Worklist.{IsInserted, epsilon_targets, marked, AreMarksOf}
 use Rattle.std.specs.Result.{OnOk}
-use Rattle.lalrpop_items.specs.Subsets.{closed}
+use Rattle.lalrpop_items.specs.Internal.Subsets.{closed}
 use Rattle.lalrpop_items.proofs.Marks.{none_marked, marked_ascends}
 use Rattle.lalrpop_items.proofs.WorklistSteps.{nil_from, pattern_room, given_below, pending_place, closing_start, closing_step, closing_less, closing_done}
 use Rattle.lalrpop_items.proofs.closure.follow_by_marks.Goals as goal

@@ -1,8 +1,8 @@
 use Rattle.std.proofs.Common.{◌≡◌, ◌++◌, ◌∷◌, ◌∙◌, List, [], length, get_or, ap, sym, arith}
 use Rattle.lalrpop_items.specs.Automata.{Item}
 use Rattle.lalrpop_nfa.specs.Graph.{Graph}
-use Rattle.lalrpop_items.specs.Given.{IsItemOf}
-use Rattle.lalrpop_items.specs.Subsets.{closed}
+use Rattle.lalrpop_items.specs.Internal.Given.{IsItemOf}
+use Rattle.lalrpop_items.specs.Internal.Subsets.{closed}
 use Rattle.lalrpop_items.specs.Internal.Worklist.{epsilon_targets}
 use Rattle.lalrpop_items.proofs.WorklistSteps.{closed_alone}
 use Rattle.lalrpop_items.proofs.closure.follow_pattern.Goals as goal

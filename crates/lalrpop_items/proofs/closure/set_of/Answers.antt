@@ -1,7 +1,7 @@
 use Rattle.std.proofs.Common.{◌≡◌, ◌∙◌, ◌∷◌, [], List, ap, ap₂, refl}
 use Rattle.std.specs.List.{AllZip}
-use Rattle.lalrpop_items.specs.ItemOrder.{hash_of}
-use Rattle.lalrpop_items.specs.LiveItems.{live_of}
+use Rattle.lalrpop_items.specs.Internal.ItemOrder.{hash_of}
+use Rattle.lalrpop_items.specs.Internal.LiveItems.{live_of}
 use Rattle.lalrpop_items.specs.Internal.Split.{still_spared}
 use Rattle.lalrpop_items.proofs.LiveSets.{split_of}
 use Rattle.lalrpop_items.proofs.closure.set_of.Goals as goal

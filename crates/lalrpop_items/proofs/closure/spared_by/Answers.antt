@@ -7,7 +7,7 @@ pub loop-pattern-preserved : goal.loop-pattern-preserved
 loop-pattern-preserved c =
     sparing_more c.args.items.now c.args.spared.now c.loop-pattern.pattern-index c.loop-pattern.place c.place_of-place.result c.loop-pattern.still.items c.if-ne.still.items
     c.get.result _ c.ne.result c.requires.ascending c.requires.rising c.loop-pattern.invariant (search rules)
-    c.place_of-place.ensures.within c.place_of-place.ensures.before c.place_of-place.ensures.next refl c.get.ensures.lookup.3 c.ne.ensures
+    c.place_of-place.ensures.within (rw (← c.new.ensures.value) c.place_of-place.ensures.before) (rw (← c.new.ensures.value) c.place_of-place.ensures.next) (rw (← c.new.ensures.value) refl) c.get.ensures.lookup.3 c.ne.ensures
     (elim c.if-ne.branch [
       | then-ne+in_ok-push w ↦ rw (w.still-is, w.if-ne.true) w.in_ok-push.ensures.items
       | else-ne w ↦ rw (w.still-is, w.if-ne.false) (sym (append-nil c.loop-pattern.still.items))

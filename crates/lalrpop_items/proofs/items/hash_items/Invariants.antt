@@ -1,5 +1,5 @@
 use Rattle.std.proofs.Common.{◌≡◌, take}
-use Rattle.lalrpop_items.specs.ItemOrder.{hash_of}
+use Rattle.lalrpop_items.specs.Internal.ItemOrder.{hash_of}
 use Rattle.lalrpop_items.proofs.items.hash_items.Given as goal
 
 abbrev pub invariant-loop-item : goal.invariant-loop-item

@@ -1,5 +1,5 @@
 use Rattle.std.proofs.Common.{◌≡◌, ◌++◌, map}
-use Rattle.lalrpop_items.specs.Subsets.{default_targets}
+use Rattle.lalrpop_items.specs.Internal.Subsets.{default_targets}
 use Rattle.lalrpop_items.proofs.moves.push_default_targets.Given as goal
 
 abbrev pub invariant-loop-edge : goal.invariant-loop-edge

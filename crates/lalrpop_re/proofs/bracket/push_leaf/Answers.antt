@@ -1,5 +1,5 @@
 use Rattle.std.proofs.Common.{◌++◌, ◌∷◌, [], ap, ◌∙◌}
-use Rattle.lalrpop_hir.specs.Range.{Range}
+use Rattle.lalrpop_book.specs.Range.{Range}
 use Rattle.lalrpop_sets.specs.CharacterSet.{range}
 use Rattle.lalrpop_grammar.specs.Bracket.{leaf}
 use Rattle.lalrpop_re.proofs.ItemLaws.{where_ok, Gains-plain}

@@ -1,7 +1,7 @@
 use Rattle.std.proofs.Common.{◌++◌, ◌∷◌, [], take, sym, ap, subst, ◌∙◌}
 use Rattle.std.proofs.lemmas.List.{take_all, take_more}
 use Rattle.std.proofs.lemmas.Result.{IfOk-weaker}
-use Rattle.lalrpop_hir.specs.Range.{Covered}
+use Rattle.lalrpop_book.specs.Range.{Covered}
 use Rattle.lalrpop_hir.specs.Runs.{IsCanon}
 use Rattle.lalrpop_sets.specs.CharacterSet.{Set, fold, HasRuns}
 use Rattle.lalrpop_sets.proofs.FoldLaws.{HasFolded, one_folded, all_folded}

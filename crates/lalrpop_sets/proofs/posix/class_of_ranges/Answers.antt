@@ -2,7 +2,7 @@ use Rattle.std.proofs.Common.{ℕ, get_or, take, sym, subst}
 use Rattle.std.proofs.lemmas.List.{take_all, take_more}
 use Rattle.std.proofs.lemmas.Result.{IfOk-weaker}
 use Rattle.unicode.specs.Rows.{in_ranges}
-use Rattle.lalrpop_hir.specs.Range.{Covered}
+use Rattle.lalrpop_book.specs.Range.{Covered}
 use Rattle.lalrpop_hir.specs.Runs.{IsCanon}
 use Rattle.lalrpop_sets.specs.CharacterSet.{HasRuns}
 use Rattle.lalrpop_sets.proofs.SpanLaws.{HasCodes, codes-pushed, codes-canon, range-at}

@@ -2,8 +2,8 @@ use Rattle.std.proofs.Common.{◌≡◌, ◌≢◌, ◌+◌, ◌*◌, ◌^◌, �
 use Rattle.std.specs.Option.{option_map, IfSome}
 use Rattle.std.specs.Str.{chars}
 use Rattle.std.specs.Str.Iter.{char_indices_rest, char_indices_offset}
-use Rattle.lalrpop_hir.specs.Tree.{Tree}
-use Rattle.lalrpop_nfa.specs.Prefix.{IsPrefix}
+use Rattle.lalrpop_book.specs.Tree.{Tree}
+use Rattle.lalrpop_book.specs.Prefix.{IsPrefix}
 use Rattle.lalrpop_table.specs.Counts.{HaveAtMost}
 use Rattle.lalrpop_table.specs.Dfa.{Recognizes}
 use Rattle.lalrpop_table.proofs.LongestLemmas.{IsAfter, IsLongestUpTo}

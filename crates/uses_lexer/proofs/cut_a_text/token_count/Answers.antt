@@ -1,6 +1,7 @@
 use Rattle.std.proofs.Common.{◌≡◌, ◌+◌, ◌≤◌, [], ◌∷◌, ◌++◌, length, true, inl, refl, ap, subst, arith}
 use Rattle.lalrpop_lexer.specs.Cutting.{Cutting}
-use Rattle.lalrpop_lexer.specs.LexerTokens.{AreTokens, GivesToken}
+use Rattle.lalrpop_lexer.specs.LexerTokens.{GivesToken}
+use Rattle.lalrpop_lexer.specs.Tokens.{AreTokens}
 use Rattle.uses_lexer.proofs.Tokens.{item_more, item_last, no_more, token_more, count_more, room_for_one_more, then_a_fault}
 use Rattle.uses_lexer.proofs.cut_a_text.token_count.Goals as goal
 

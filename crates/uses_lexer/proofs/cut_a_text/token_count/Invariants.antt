@@ -1,6 +1,6 @@
 use Rattle.std.proofs.Common.{◌≡◌, List, length, map}
 use Rattle.std.specs.Prelude.{Ok}
-use Rattle.lalrpop_lexer.specs.declared.lexer_token.Token.{Token}
+use Rattle.lalrpop_lexer.specs.declared.Token.{Token}
 use Rattle.uses_lexer.proofs.cut_a_text.token_count.Given as goal
 
 -- all items so far are tokens

@@ -1,6 +1,6 @@
 use Rattle.std.proofs.Common.{sym}
 use Rattle.std.specs.List.{filter}
-use Rattle.lalrpop_hir.specs.Range.{Range}
+use Rattle.lalrpop_book.specs.Range.{Range}
 use Rattle.lalrpop_nfa.specs.Walk.{leaves}
 use Rattle.lalrpop_alphabet.proofs.GroupLeads.{reading_turned, reading_more, reading_done}
 use Rattle.lalrpop_alphabet.proofs.LabelOrder.{range_same}

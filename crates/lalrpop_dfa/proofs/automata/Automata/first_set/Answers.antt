@@ -1,5 +1,5 @@
 use Rattle.std.proofs.Common.{◌∙◌}
-use Rattle.lalrpop_items.specs.Subsets.{first_set_of}
+use Rattle.lalrpop_items.specs.Internal.Subsets.{first_set_of}
 use Rattle.lalrpop_items.proofs.ByPattern.{starts_by_pattern}
 use Rattle.lalrpop_dfa.proofs.Adding.{starts_inside}
 use Rattle.lalrpop_dfa.proofs.automata.Automata.first_set.Goals as goal

@@ -1,6 +1,6 @@
 use Rattle.std.proofs.Common.{◌≡◌, length, arith, ap, sym, subst, refl, inl, inr}
 use Rattle.lalrpop_kernels.specs.Kernels.{IsNumberOf}
-use Rattle.lalrpop_items.specs.ItemOrder.{set_cmp}
+use Rattle.lalrpop_items.specs.Internal.ItemOrder.{set_cmp}
 use Rattle.lalrpop_dfa.proofs.Adding.{clones_equal, number_old, number_new}
 use Rattle.lalrpop_dfa.proofs.builder.Sets.add.Goals as goal
 use Rattle.lalrpop_dfa.proofs.builder.Sets.add.Goals.{then-index-len+in_ok-push, else-index-len}

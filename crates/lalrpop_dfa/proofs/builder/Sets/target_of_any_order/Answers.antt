@@ -1,6 +1,6 @@
 use Rattle.std.proofs.Common.{◌≡◌, List, sym, subst}
 use Rattle.std.specs.List.Sorted.{IsSorted, IsPermutation}
-use Rattle.lalrpop_items.specs.Transitions.{transition_cmp}
+use Rattle.lalrpop_items.specs.Internal.Transitions.{transition_cmp}
 use Rattle.lalrpop_items.specs.declared.transitions.Transition.{Transition}
 use Rattle.lalrpop_items.proofs.TransitionMoves.{takes_sorted}
 use Rattle.lalrpop_dfa.proofs.Adding.{sorted_by_test}

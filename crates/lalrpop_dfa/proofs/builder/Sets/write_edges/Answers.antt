@@ -1,6 +1,6 @@
 use Rattle.std.proofs.Common.{◌≡◌, ℕ, [], length, arith, refl, ap}
 use Rattle.std.proofs.lemmas.Result.{IfOk-weaker}
-use Rattle.lalrpop_items.specs.Subsets.{move}
+use Rattle.lalrpop_items.specs.Internal.Subsets.{move}
 use Rattle.lalrpop_dfa.specs.Internal.Builder.{IsAdded, IsEdged}
 use Rattle.lalrpop_dfa.proofs.Builds.{edging_done, added_of}
 use Rattle.lalrpop_dfa.proofs.Dead.{takes_none}

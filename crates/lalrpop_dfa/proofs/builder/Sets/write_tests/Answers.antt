@@ -3,8 +3,8 @@ use Rattle.std.specs.Prelude.{slice_get, Some, not}
 use Rattle.std.specs.List.{Contains}
 use Rattle.std.proofs.lemmas.List.{length-map}
 use Rattle.std.proofs.lemmas.List.Elements.{Contains-get_or}
-use Rattle.lalrpop_items.specs.Subsets.{move}
-use Rattle.lalrpop_items.specs.Transitions.{AreTransitions}
+use Rattle.lalrpop_items.specs.Internal.Subsets.{move}
+use Rattle.lalrpop_items.specs.Internal.Transitions.{AreTransitions}
 use Rattle.lalrpop_dfa.specs.Internal.Blocks.{has_edges, blocks_to, blocks_of}
 use Rattle.lalrpop_dfa.specs.Internal.Builder.{AddedTo, IsEdging}
 use Rattle.lalrpop_dfa.proofs.Builds.{set_holds}

@@ -1,7 +1,7 @@
 use Rattle.std.proofs.Common.{◌≡◌, ◌-◌, ◌^◌, [], length, map}
 use Rattle.lalrpop_dfa.specs.Internal.Builder.{IsBuiltTo}
 use Rattle.lalrpop_dfa.specs.Internal.Room.{IsRoomOf}
-use Rattle.lalrpop_items.specs.Subsets.{all_items}
+use Rattle.lalrpop_items.specs.Internal.Subsets.{all_items}
 use Rattle.lalrpop_dfa.proofs.builder.Table.expand_all.Given as goal
 
 abbrev pub invariant-loop-set : goal.invariant-loop-set

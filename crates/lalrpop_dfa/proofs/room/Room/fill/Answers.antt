@@ -3,12 +3,12 @@ use Rattle.std.specs.Prelude.{◌↔◌}
 use Rattle.std.specs.List.{Contains}
 use Rattle.std.specs.List.Sorted.{IsNonDecreasing, IsPermutation}
 use Rattle.std.proofs.lemmas.List.Sorted.{IsNonDecreasingBy-from_sort, Contains-permutation, IsPermutation-sym}
-use Rattle.lalrpop_alphabet.specs.Alphabet.{HasState, CutsAt}
+use Rattle.lalrpop_alphabet.specs.Internal.Alphabet.{HasState, CutsAt}
 use Rattle.lalrpop_items.specs.Automata.{Item}
-use Rattle.lalrpop_items.specs.LiveItems.{live_of}
+use Rattle.lalrpop_items.specs.Internal.LiveItems.{live_of}
 use Rattle.lalrpop_dfa.specs.Internal.Room.{AreTaken}
 use Rattle.lalrpop_dfa.specs.Internal.Transitions.{AreBelow, AreGathered, AreCutsOf, IsLaidOut}
-use Rattle.lalrpop_items.proofs.Members.{has_at, contains_from}
+use Rattle.lalrpop_book.proofs.Members.{has_at, contains_from}
 use Rattle.lalrpop_dfa.proofs.LiveItems.{live_inside, partition_live, transitions_live}
 use Rattle.lalrpop_dfa.proofs.LaidOut.{have_states, cuts_below, laid_out}
 use Rattle.lalrpop_dfa.proofs.Noted.{has_noted}

@@ -1,5 +1,5 @@
 use Rattle.std.proofs.Common.{ap, sym, ◌∙◌}
-use Rattle.lalrpop_items.specs.LiveItems.{live_of}
+use Rattle.lalrpop_items.specs.Internal.LiveItems.{live_of}
 use Rattle.lalrpop_items.proofs.FullSets.{live_is_of}
 use Rattle.lalrpop_items.proofs.items.ItemSet.live.Goals as goal
 

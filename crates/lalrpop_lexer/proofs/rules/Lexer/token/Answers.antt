@@ -1,5 +1,5 @@
 use Rattle.std.proofs.Common.{refl, Some}
-use Rattle.lalrpop_dfa.proofs.Strongest.{IsOnlyStrongest-from_longest}
+use Rattle.lalrpop_book.proofs.Strongest.{IsOnlyStrongest-from_longest}
 use Rattle.lalrpop_lexer.proofs.rules.Lexer.token.Goals as goal
 
 pub returns-in-Some-clause-token : goal.returns-in-Some-clause-token

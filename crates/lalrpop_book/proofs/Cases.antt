@@ -1,0 +1,12 @@
+-- Small cases of the definitions in specs/: Cases/X.antt has those of specs/X.antt.
+mod Word
+mod Range
+mod Language
+mod Fault
+mod Prefix
+mod Winners
+mod Longest
+mod Clash
+mod Clashes
+mod Report
+mod Tokens

@@ -1,0 +1,34 @@
+//! Which pattern of a list.
+ghost use Rattle.std.specs.Prelude.{◌≡◌};
+
+use std::marker::Model;
+
+/// The place of a pattern in the list, from 0.
+#[derive(Copy, Clone, Debug, PartialEq, Eq, PartialOrd, Ord, Hash)]
+pub struct NfaIndex(usize);
+
+impl Model for NfaIndex {
+    ghost use Rattle.std.specs.Prelude.{ℕ};
+
+    ghost Value = { ℕ };
+
+    ghost view = { λ i. i.0 };
+
+    ghost inverse = { λ n. record { 0 = n } };
+}
+
+impl NfaIndex {
+    /// The pattern at this place.
+    pub fn new(number: usize) -> NfaIndex
+        ensures value { result ≡ number }
+    {
+        NfaIndex(number)
+    }
+
+    /// The place as a number.
+    pub fn index(self) -> usize
+        ensures value { result ≡ self }
+    {
+        self.0
+    }
+}
