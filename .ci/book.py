@@ -24,7 +24,7 @@ PARTS = [
     ("The automata", "What the calls say that hand out an automaton. Who only builds a lexer and runs it needs none of them.",
      ["lalrpop_hir/Size", "lalrpop_ranges/Meet", "lalrpop_ranges/Partition", "lalrpop_nfa/Graph", "lalrpop_nfa/Path", "lalrpop_nfa/Walk",
       "lalrpop_nfa/Compiled", "lalrpop_items/Automata", "lalrpop_table/Dfa", "lalrpop_table/Counts", "lalrpop_dfa/Items",
-      "lalrpop_table/SameAutomata"]),
+      "lalrpop_table/SameAutomata", "lalrpop_table/Lookahead"]),
 ]
 # The enums and numbers that the first part names, as the code declares them.
 VALUES = ["nfa_index", "precedence", "look", "error", "token"]

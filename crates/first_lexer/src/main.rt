@@ -1,4 +1,4 @@
-//! The least program over a lexer: three terminals, and the tokens of one text.
+//! The least program over a lexer: two terminals, and the tokens of one text.
 #![tactic(auto)]
 
 use anyhow::Result;
@@ -8,17 +8,13 @@ use lalrpop_lexer::lexer::re::{parse_literal, parse_regex};
 
 fn main(rt: HostRuntime) -> Result<()> {
     let alloc = rt.alloc();
-    let regexs = vec![in alloc;
-        parse_literal(alloc, "if")?,
-        parse_regex(alloc, "[a-z]+")?,
-        parse_regex(alloc, " +")?,
-    ]?;
-    let precedences = vec![in alloc; Precedence(1), Precedence(0), Precedence(0)]?;
+    let regexs = vec![in alloc; parse_literal(alloc, "if")?, parse_regex(alloc, "[a-z]+| +")?]?;
+    let precedences = vec![in alloc; Precedence(1), Precedence(0)]?;
     let lexer = Lexer::new(alloc, regexs, precedences)?;
     for item in lexer.tokens("if iffy!") {
         match item {
             Ok(token) => println!(rt; "{} {:?}", token.index.index(), token.slice)?,
-            Err(fault) => println!(rt; "nothing matches at byte {}", fault.at)?,
+            Err(fault) => println!(rt; "{fault}")?,
         }
     }
     Ok(())

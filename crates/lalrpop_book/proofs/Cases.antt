@@ -4,7 +4,7 @@ mod Range
 mod Language
 mod Fault
 mod Prefix
-mod Winners
+pub mod Winners
 mod Longest
 mod Clash
 mod Clashes

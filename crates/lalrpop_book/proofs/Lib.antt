@@ -1,4 +1,4 @@
-mod Cases
+pub mod Cases
 -- lists, their members and orders
 pub mod Contained
 pub mod Members

@@ -24,11 +24,12 @@ use Rattle.lalrpop_items.specs.Internal.Ascending.{item_cmp}
 use Rattle.lalrpop_items.specs.Internal.Transitions.{AreTransitions, transition_cmp}
 use Rattle.lalrpop_dfa.specs.Internal.Transitions.{transitions_cmp}
 use Rattle.lalrpop_items.specs.declared.transitions.Transition.{Transition}
-use Rattle.lalrpop_dfa.specs.declared.room.Transitions.{Transitions}
+use Rattle.lalrpop_dfa.specs.declared.build.scratch.Transitions.{Transitions}
 use Rattle.lalrpop_items.specs.Internal.ItemOrder.{rejects_cmp, hash_of, items_cmp, set_cmp}
 use Rattle.lalrpop_items.specs.Internal.OrderLaws.{item_total, set_total}
 use Rattle.lalrpop_items.specs.Internal.LiveItems.{live_of}
-use Rattle.lalrpop_dfa.specs.Internal.Builder.{AddedTo, AreKnown}
+use Rattle.lalrpop_dfa.specs.Internal.Stage.{Extends}
+use Rattle.lalrpop_dfa.specs.Internal.Expansion.{AddedTo, IsEdgeMemo}
 use Rattle.lalrpop_items.specs.Internal.Given.{AreAutomata, AreItemsOf}
 use Rattle.lalrpop_book.proofs.Members.{Has, has_from}
 use Rattle.lalrpop_items.proofs.Targets.{compiled_at}
@@ -67,6 +68,14 @@ module _ (sets : List (List Item)) (set : List Item) where
   pub number_new : (n : ℕ) (sets2 : List (List Item)) → sets2 ≡ added set_cmp sets set → IsNumberOf set_cmp sets2 set n → n ≡ length sets → ((k : ℕ) → slice_get sets k ≡ Some set → ⊥) × (sets2 ≡ sets ++ set ∷ [])
   number_new n sets2 is h new = new_by (list_any (λ q. is_eq (set_cmp set q)) sets) n sets2 refl is h new
 
+-- the sets that are there keep their numbers
+extends_by : (sets : List (List Item)) (set : List Item) (b : Bool) (sets2 : List (List Item)) → sets2 ≡ cond b sets (sets ++ set ∷ []) → Extends sets sets2
+extends_by sets set true sets2 is k s h = rw is h
+extends_by sets set false sets2 is k s h = rw is (pushed_keeps sets set k s h)
+
+pub added_extends : (sets : List (List Item)) (set : List Item) (sets2 : List (List Item)) → sets2 ≡ added set_cmp sets set → Extends sets sets2
+added_extends sets set sets2 is = extends_by sets set (list_any (λ q. is_eq (set_cmp set q)) sets) sets2 is
+
 pub clones_equal : (x y : List Item) → y ≡ x → set_cmp x y ≡ Equal
 clones_equal x y e = subst (λ z. set_cmp x z ≡ Equal) (sym e) (tied_itself set_total x)
 
@@ -94,7 +103,7 @@ first_added empty first s none is =
     let list : empty.list ≡ [] = ap (λ (k : Kernels (List Item)). k.list) none in
     (ap (λ (k : Kernels (List Item)). k.list) is ∙ ap (λ ks. added set_cmp ks s) list, ap (λ (k : Kernels (List Item)). k.place) is ∙ ap (λ (k : Kernels (List Item)). k.place) none)
 
--- ---- numbers that are known
+-- ---- numbers that are memo
 pub added_stays : (sets : List (List Item)) (origins : List (ℕ × ℕ)) (n v : ℕ) (t : List Item) (j : ℕ) (sets2 : List (List Item)) (origins2 : List (ℕ × ℕ)) → AddedTo sets origins n v t j sets2 origins2
     → (k : ℕ) (s : List Item) → slice_get sets k ≡ Some s → slice_get sets2 k ≡ Some s
 added_stays sets origins n v t j sets2 origins2 (inl (e, a, b)) k s h = rw a h
@@ -115,9 +124,9 @@ lead_exact x y e =
 pub transitions_exact : (x y : Transitions) → transitions_cmp x y ≡ Equal → x.list.items ≡ y.list.items
 transitions_exact x y e = lists_exact lead_exact x.list.items y.list.items e
 
-pub known_more : (ns : List Graph) (s : List Item) (known known2 : BTreeMap Transitions ℕ) (sets : List (List Item)) (origins : List (ℕ × ℕ)) (n v : ℕ) (leads : Transitions) (j : ℕ) (sets2 : List (List Item)) (origins2 : List (ℕ × ℕ))
-    → AreKnown ns s known sets → AreTransitions ns s v leads.list.items → AddedTo sets origins n v (move ns s v) j sets2 origins2 → Updates transitions_cmp known known2 leads (Some j) → AreKnown ns s known2 sets2
-known_more ns s known known2 sets origins n v leads j sets2 origins2 k these add u other i w h are = elim (cases_Bool (is_eq (transitions_cmp leads other))) [
+pub edge_memo_more : (ns : List Graph) (s : List Item) (memo known2 : BTreeMap Transitions ℕ) (sets : List (List Item)) (origins : List (ℕ × ℕ)) (n v : ℕ) (leads : Transitions) (j : ℕ) (sets2 : List (List Item)) (origins2 : List (ℕ × ℕ))
+    → IsEdgeMemo ns s memo sets → AreTransitions ns s v leads.list.items → AddedTo sets origins n v (move ns s v) j sets2 origins2 → Updates transitions_cmp memo known2 leads (Some j) → IsEdgeMemo ns s known2 sets2
+edge_memo_more ns s memo known2 sets origins n v leads j sets2 origins2 k these add u other i w h are = elim (cases_Bool (is_eq (transitions_cmp leads other))) [
   | inl same ↦
       (let e : leads.list.items ≡ other.list.items = transitions_exact leads other ((Equal-is (transitions_cmp leads other)).0 same) in
       let found : Some j ≡ Some i = sym (u.0 other ∙ rw same refl) ∙ h in
@@ -154,7 +163,7 @@ sorted_by_test ls h k d low l = turned_order (transition_cmp (get_or ls (k + 1) 
     (subst (λ (o : Ordering). is_some_and is_le (Some o) ≡ true) (transition_total.antisymm (get_or ls k d) (get_or ls (k + 1) d))
     (subst (λ (o : Option Ordering). is_some_and is_le o ≡ true) (partial_is (get_or ls k d) (get_or ls (k + 1) d)) (h k d l)))
 
--- the numbers that are known stay right while sets are added
-pub known_stays : (ns : List Graph) (s : List Item) (known : BTreeMap Transitions ℕ) (sets : List (List Item)) (origins : List (ℕ × ℕ)) (n v : ℕ) (t : List Item) (j : ℕ) (sets2 : List (List Item)) (origins2 : List (ℕ × ℕ))
-    → AreKnown ns s known sets → AddedTo sets origins n v t j sets2 origins2 → AreKnown ns s known sets2
-known_stays ns s known sets origins n v t j sets2 origins2 k add leads i w found are = added_stays sets origins n v t j sets2 origins2 add i (move ns s w) (k leads i w found are)
+-- the numbers that are memo stay right while sets are added
+pub edge_memo_stays : (ns : List Graph) (s : List Item) (memo : BTreeMap Transitions ℕ) (sets : List (List Item)) (origins : List (ℕ × ℕ)) (n v : ℕ) (t : List Item) (j : ℕ) (sets2 : List (List Item)) (origins2 : List (ℕ × ℕ))
+    → IsEdgeMemo ns s memo sets → AddedTo sets origins n v t j sets2 origins2 → IsEdgeMemo ns s memo sets2
+edge_memo_stays ns s memo sets origins n v t j sets2 origins2 k add leads i w found are = added_stays sets origins n v t j sets2 origins2 add i (move ns s w) (k leads i w found are)

@@ -15,7 +15,7 @@ use Rattle.lalrpop_items.specs.Internal.Given.{AreItemsOf}
 use Rattle.lalrpop_dfa.proofs.Builds.{nth_holds}
 use Rattle.lalrpop_table.specs.Dfa.{Row}
 use Rattle.lalrpop_dfa.specs.Internal.BreadthFirst.{IsBreadthFirst, nth, value_of, word}
-use Rattle.lalrpop_dfa.specs.Internal.Builder.{IsBuiltTo, IsClashOf}
+use Rattle.lalrpop_dfa.specs.Internal.Expansion.{IsBuiltTo, IsClashOf}
 use Rattle.lalrpop_book.specs.Report.{IsFaultOf}
 use Rattle.lalrpop_book.specs.declared.error.DfaConstructionError.{DfaConstructionError}
 use Rattle.lalrpop_book.specs.declared.error.DfaConstructionError.TheVariants.{NfaConstructionError as Refused, Ambiguity, OutOfMemory}

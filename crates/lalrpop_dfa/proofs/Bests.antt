@@ -20,7 +20,7 @@ use Rattle.lalrpop_dfa.specs.Internal.Best.{accepts, accepts_with, IsStrong, IsB
 use Rattle.std.proofs.lemmas.Option.{slice_get_within, slice_get-get_or, get_or_from_slice_get}
 use Rattle.lalrpop_dfa.specs.Internal.Built.{IsStrongestIn, IsKindOf, IsTied}
 use Rattle.lalrpop_table.specs.declared.Kind.TheVariants.{Accepts, Neither}
-use Rattle.lalrpop_dfa.specs.declared.best.Best.{Best}
+use Rattle.lalrpop_dfa.specs.declared.build.best.Best.{Best}
 use Rattle.lalrpop_nfa.specs.declared.edge.StateKind.TheVariants.{Accept}
 use Rattle.lalrpop_book.proofs.Contained.{contains_none}
 use Rattle.lalrpop_book.proofs.Members.{Has, has_from, contains_from, has_filter, filter_has, has_map, map_has, has_cases, has_at}

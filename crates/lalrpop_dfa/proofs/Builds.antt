@@ -19,7 +19,7 @@ use Rattle.lalrpop_items.specs.Internal.Subsets.{move, all_items}
 use Rattle.lalrpop_dfa.specs.Internal.BreadthFirst.{AreEarlier, Automaton, IsBreadthFirst, Added, nth, value_of, from_of, word}
 use Rattle.lalrpop_dfa.specs.Internal.Built.{subset_automaton, IsKindOf, IsRowOf, IsTied}
 use Rattle.lalrpop_items.specs.Internal.Given.{AreAutomata, AreItemsOf}
-use Rattle.lalrpop_dfa.specs.Internal.Builder.{AddedTo, AreSmall, Keep, IsEdging, IsEdged, IsBuiltTo, IsTieOf, IsClashAt, IsClashOf}
+use Rattle.lalrpop_dfa.specs.Internal.Expansion.{AddedTo, AreSmall, AreTested, Keep, IsEdging, IsEdged, IsBuiltTo, IsTieOf, IsClashAt, IsClashOf}
 use Rattle.lalrpop_book.specs.declared.error.DfaConstructionError.{DfaConstructionError}
 use Rattle.lalrpop_book.specs.declared.error.DfaConstructionError.TheVariants.{NfaConstructionError as Refused, Ambiguity, OutOfMemory}
 use Rattle.lalrpop_items.proofs.Sets.{first_set_ascends, first_set_items, move_ascends, move_items}
@@ -194,6 +194,16 @@ built_clash ns ps sets origins rows s (Ambiguity i j w) h at t ts k =
 built_clash ns ps sets origins rows s OutOfMemory h at t ts k = tt
 
 -- what the next kernel is
+-- the row of a number: its blocks, then all other values
+pub row_built : (ns : List Graph) → AreAutomata ns → (ps : List ℕ) (sets : List (List Item)) (origins : List (ℕ × ℕ)) (rows : List Row) (n : ℕ) (s : List Item) (sets1 : List (List Item)) (origins1 : List (ℕ × ℕ)) (tests1 : List (Range × ℕ))
+    (sets2 : List (List Item)) (origins2 : List (ℕ × ℕ)) (row : Row) (rows2 : List Row)
+    → IsBuiltTo ns ps sets origins rows (length rows) → slice_get sets (length rows) ≡ Some s → n ≡ length rows → AreTested ns sets origins n s sets1 origins1 tests1 → AddedTo sets1 origins1 n 4294967295 (move ns s 4294967295) row.other sets2 origins2
+    → row.tests ≡ tests1 → row.items ≡ s → IsKindOf ps s row.kind → rows2 ≡ rows ++ row ∷ [] → IsBuiltTo ns ps sets2 origins2 rows2 (length rows2)
+row_built ns automata ps sets origins rows n s sets1 origins1 tests1 sets2 origins2 row rows2 built here number (xs, (partition, edging)) added tests items kind more =
+    let edged : IsEdged ns sets origins n s sets2 origins2 tests1 row.other =
+    edging_done ns automata sets origins n s xs partition (rw number here) (length xs) row.other (move ns s 4294967295) sets1 origins1 tests1 sets2 origins2 edging refl refl added in
+    built_pushed ns ps sets origins rows n s sets2 origins2 rows row sets2 origins2 rows2 built here number (rw tests edged) items refl more refl refl kind
+
 pub next_given : (o : Option (List Item)) (s : List Item) (A : Type 0) (P : List Item → Type 0) → MatchOption o A P → o ≡ Some s → P s
 next_given None s A P h e = cc
 next_given (Some t) s A P h e = let same : t ≡ s = cc in subst P same h
@@ -201,6 +211,9 @@ next_given (Some t) s A P h e = let same : t ≡ s = cc in subst P same h
 pub next_none : (o : Option (List Item)) (A : Type 0) (P : List Item → Type 0) → MatchOption o A P → ((s : List Item) → o ≡ Some s → ⊥) → A
 next_none None A P h never = h
 next_none (Some t) A P h never = absurd (never t refl)
+
+pub at_rows : (list : List (List Item)) (place n : ℕ) (s : List Item) → slice_get list place ≡ Some s → place ≡ n → slice_get list n ≡ Some s
+at_rows list place n s at is = rw (← is) at
 
 pub given_at : (list : List (List Item)) (place n : ℕ) (q s : List Item) → slice_get list place ≡ Some q → s ≡ q → place ≡ n → slice_get list n ≡ Some s
 given_at list place n q s at same is = rw (same, ← is) at

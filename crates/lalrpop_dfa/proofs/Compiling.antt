@@ -9,7 +9,7 @@ use Rattle.lalrpop_nfa.specs.Compiled.{IsCompiled}
 use Rattle.lalrpop_items.specs.Automata.{AreCompiled}
 use Rattle.lalrpop_book.specs.Report.{NoFault, IsFaultOf}
 use Rattle.lalrpop_items.specs.Internal.Given.{AreFixed}
-use Rattle.lalrpop_dfa.specs.Internal.Builder.{IsRefusalOf, NoFaultBefore, IsCompiledAt}
+use Rattle.lalrpop_dfa.specs.Internal.Expansion.{IsRefusalOf, NoFaultBefore, IsCompiledAt}
 use Rattle.lalrpop_book.specs.declared.error.NfaConstructionError.TheVariants.{OutOfMemory as NoMemory}
 use Rattle.lalrpop_book.specs.declared.error.NfaConstructionError.{NfaConstructionError}
 use Rattle.lalrpop_book.specs.declared.error.DfaConstructionError.{DfaConstructionError}

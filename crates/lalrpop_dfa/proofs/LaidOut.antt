@@ -9,13 +9,13 @@ use Rattle.lalrpop_alphabet.specs.Internal.Alphabet.{Classes, HasState, IsInCell
 use Rattle.lalrpop_items.specs.Automata.{Item}
 use Rattle.lalrpop_dfa.specs.Items.{IsLeaving}
 use Rattle.lalrpop_items.specs.Internal.Given.{AreItemsOf}
-use Rattle.lalrpop_dfa.specs.Internal.Transitions.{AreBelow, AreGathered, AreCutsOf, IsLaidOut}
+use Rattle.lalrpop_dfa.specs.Internal.Transitions.{AreBelow, AreGathered, AreBoundariesOf, IsLaidOut}
 use Rattle.lalrpop_items.specs.Internal.Transitions.{AreTransitions}
-use Rattle.lalrpop_dfa.specs.declared.room.Transitions.{Transitions}
+use Rattle.lalrpop_dfa.specs.declared.build.scratch.Transitions.{Transitions}
 
--- the cuts of items are cells
-pub cuts_below : (a : Classes) (items : List Item) (cuts : List ℕ) → IsSound a → AreCutsOf a items cuts → AreBelow (length a.cells) cuts
-cuts_below a items cuts sound are k h = (let (x, (member, (l, (lead, cut)))) = (are k).0 h in sound.groups.cuts_in l.group k cut)
+-- the boundaries of items are cells
+pub boundaries_below : (a : Classes) (items : List Item) (boundaries : List ℕ) → IsSound a → AreBoundariesOf a items boundaries → AreBelow (length a.cells) boundaries
+boundaries_below a items boundaries sound are k h = (let (x, (member, (l, (lead, boundary)))) = (are k).0 h in sound.groups.cuts_in l.group k boundary)
 
 module _ (ns : List Graph) (a : Classes) (alphabet : IsAlphabetOf ns a) (items : List Item) (inside : AreItemsOf ns items) where
   pub have_states : (x : Item) → Contains items x → HasState a.nfas x.0 x.1
@@ -24,19 +24,19 @@ module _ (ns : List Graph) (a : Classes) (alphabet : IsAlphabetOf ns a) (items :
   same_graph : (x : Item) (g k : Graph) → slice_get ns x.0 ≡ Some g → slice_get ns x.0 ≡ Some k → g ≡ k
   same_graph x g k e f = (let h : Some g ≡ Some k = sym e ∙ f in cc)
 
-  module _ (cuts : List ℕ) (by_class : List Transitions) (cut : AreCutsOf a items cuts) (gathered : AreGathered a items by_class) where
-    end_has_cut : (v : ℕ) → ((r : Range) × (IsLeaving ns items r × IsEndOf r v)) → (k : ℕ) × (Contains cuts k × IsFirstOf a.cells k v)
-    end_has_cut v (r, ((x, g, q, (member, at, edge)), end)) =
+  module _ (boundaries : List ℕ) (by_class : List Transitions) (boundary : AreBoundariesOf a items boundaries) (gathered : AreGathered a items by_class) where
+    end_has_boundary : (v : ℕ) → ((r : Range) × (IsLeaving ns items r × IsEndOf r v)) → (k : ℕ) × (Contains boundaries k × IsFirstOf a.cells k v)
+    end_has_boundary v (r, ((x, g, q, (member, at, edge)), end)) =
         let (h, (there, l)) = inside x member in
         let here : Contains h.edges.tests (test x.1 r q) = subst (λ (f : Graph). Contains f.edges.tests (test x.1 r q)) (same_graph x g h at there) edge in
-        let (k, (at_cut, first)) = (alphabet.cuts x.0 x.1 v h there l).0 (r, q, (here, end)) in
-        (k, ((cut k).1 (x, (member, at_cut)), first))
+        let (k, (at_boundary, first)) = (alphabet.cuts x.0 x.1 v h there l).0 (r, q, (here, end)) in
+        (k, ((boundary k).1 (x, (member, at_boundary)), first))
 
-    cut_has_end : (v : ℕ) → ((k : ℕ) × (Contains cuts k × IsFirstOf a.cells k v)) → (r : Range) × (IsLeaving ns items r × IsEndOf r v)
-    cut_has_end v (k, (h, first)) =
-        let (x, (member, at_cut)) = (cut k).0 h in
+    boundary_has_end : (v : ℕ) → ((k : ℕ) × (Contains boundaries k × IsFirstOf a.cells k v)) → (r : Range) × (IsLeaving ns items r × IsEndOf r v)
+    boundary_has_end v (k, (h, first)) =
+        let (x, (member, at_boundary)) = (boundary k).0 h in
         let (g, (there, l)) = inside x member in
-        let (r, q, (edge, end)) = (alphabet.cuts x.0 x.1 v g there l).1 (k, (at_cut, first)) in
+        let (r, q, (edge, end)) = (alphabet.cuts x.0 x.1 v g there l).1 (k, (at_boundary, first)) in
         (r, ((x, g, q, (member, there, edge)), end))
 
     taken : (k c v : ℕ) (t : Transitions) → IsInCell a.cells k c v → slice_get by_class c ≡ Some t → AreTransitions ns items v t.list.items
@@ -52,5 +52,5 @@ module _ (ns : List Graph) (a : Classes) (alphabet : IsAlphabetOf ns a) (items :
           (gathered.1 c t at l).1 (member, (alphabet.leads l.item.0 l.item.1 l.to k c v h same within in_cell).0 (r, (here, over))),
     )
 
-    pub laid_out : IsLaidOut ns items a.cells cuts by_class
-    laid_out = record { ends = λ v. (end_has_cut v, cut_has_end v); taken = taken }
+    pub laid_out : IsLaidOut ns items a.cells boundaries by_class
+    laid_out = record { ends = λ v. (end_has_boundary v, boundary_has_end v); taken = taken }

@@ -11,9 +11,9 @@ use Rattle.lalrpop_alphabet.specs.declared.Lead.{Lead}
 use Rattle.lalrpop_alphabet.specs.declared.NfaLeads.{NfaLeads}
 use Rattle.lalrpop_alphabet.specs.declared.StateLeads.{StateLeads}
 use Rattle.lalrpop_items.specs.Automata.{Item}
-use Rattle.lalrpop_dfa.specs.Internal.Transitions.{AreBare, Gained, AreGathered, AreCutsOf}
+use Rattle.lalrpop_dfa.specs.Internal.Transitions.{AreBare, Gained, AreGathered, AreBoundariesOf}
 use Rattle.lalrpop_items.specs.declared.transitions.Transition.{Transition}
-use Rattle.lalrpop_dfa.specs.declared.room.Transitions.{Transitions}
+use Rattle.lalrpop_dfa.specs.declared.build.scratch.Transitions.{Transitions}
 use Rattle.lalrpop_book.proofs.Contained.{contains_only, contains_none}
 use Rattle.lalrpop_alphabet.proofs.Marking.{set_at}
 use Rattle.lalrpop_kernels.proofs.NumberedLemmas.{pushed_cases}
@@ -69,12 +69,12 @@ class_more cs k d edge within c l =
 
 -- ---- one item, lead by lead
 -- some of the leads goes to q by a group with the class c
-abbrev pub LeadTo : List Group → List Lead → ℕ → ℕ → Type 0
-LeadTo groups leads c q = (l : Lead) × (Contains leads l × (l.to ≡ q) × HasClass groups l.group c)
+abbrev pub EdgeTo : List Group → List Lead → ℕ → ℕ → Type 0
+EdgeTo groups leads c q = (l : Lead) × (Contains leads l × (l.to ≡ q) × HasClass groups l.group c)
 
--- one of their groups has the cut k
-abbrev pub LeadCut : List Group → List Lead → ℕ → Type 0
-LeadCut groups leads k = (l : Lead) × (Contains leads l × HasCut groups l.group k)
+-- one of their groups has the boundary k
+abbrev pub EdgeBoundary : List Group → List Lead → ℕ → Type 0
+EdgeBoundary groups leads k = (l : Lead) × (Contains leads l × HasCut groups l.group k)
 
 -- the leads of a state are these
 pub leads_are : (nfas : List NfaLeads) (i p : ℕ) (ls : List Lead) (l : Lead) → AreLeadsOf nfas i p ls → IsLeadOf nfas i p l ↔ Contains ls l
@@ -87,19 +87,19 @@ leads_are nfas i p ls l are = (λ h. there are h, λ h. (ls, (are, h)))
         subst (λ (xs : List Lead). Contains xs l) (is2 ∙ (ap (λ (s : StateLeads). s.leads.items) g ∙ sym is)) h
 
 module _ (groups : List Group) (leads : List Lead) (k : ℕ) (lead : Lead) (within : k < length leads) (read : lead ≡ get_or leads k lead) where
-  -- the cuts of one more lead
-  pub cut_more : (old cuts new : List ℕ) (j : ℕ) → Contains cuts j ↔ (Contains old j ⊎ LeadCut groups (take k leads) j) → Contains new j ↔ (Contains cuts j ⊎ HasCut groups lead.group j)
-      → Contains new j ↔ (Contains old j ⊎ LeadCut groups (take (k + 1) leads) j)
-  cut_more old cuts new j had more = (
+  -- the boundaries of one more lead
+  pub boundary_more : (old boundaries new : List ℕ) (j : ℕ) → Contains boundaries j ↔ (Contains old j ⊎ EdgeBoundary groups (take k leads) j) → Contains new j ↔ (Contains boundaries j ⊎ HasCut groups lead.group j)
+      → Contains new j ↔ (Contains old j ⊎ EdgeBoundary groups (take (k + 1) leads) j)
+  boundary_more old boundaries new j had more = (
     λ h. elim (more.0 h) [
-      | inl x ↦ elim (had.0 x) [ inl y ↦ inl y | inr (m, (member, cut)) ↦ inr (m, ((taken_more leads k lead m within read).0 (inl member), cut)) ]
-      | inr cut ↦ inr (lead, ((taken_more leads k lead lead within read).0 (inr refl), cut))
+      | inl x ↦ elim (had.0 x) [ inl y ↦ inl y | inr (m, (member, boundary)) ↦ inr (m, ((taken_more leads k lead m within read).0 (inl member), boundary)) ]
+      | inr boundary ↦ inr (lead, ((taken_more leads k lead lead within read).0 (inr refl), boundary))
     ],
     λ h. more.1 (elim h [
       | inl y ↦ inl (had.1 (inl y))
-      | inr (m, (member, cut)) ↦ elim ((taken_more leads k lead m within read).1 member) [
-        | inl before ↦ inl (had.1 (inr (m, (before, cut))))
-        | inr here ↦ inr (subst (λ (x : Lead). HasCut groups x.group j) here cut)
+      | inr (m, (member, boundary)) ↦ elim ((taken_more leads k lead m within read).1 member) [
+        | inl before ↦ inl (had.1 (inr (m, (before, boundary))))
+        | inr here ↦ inr (subst (λ (x : Lead). HasCut groups x.group j) here boundary)
       ]
     ]),
   )
@@ -109,9 +109,9 @@ module _ (groups : List Group) (leads : List Lead) (k : ℕ) (lead : Lead) (with
     the_group l x same there = (let f : Some x ≡ Some group = sym there ∙ (ap (λ (m : Lead). slice_get groups m.group) same ∙ at) in cc)
 
     -- its edges
-    pub lead_more : (item : Item) (edge : Transition) → edge ≡ record { item = item; to = lead.to } → (c : ℕ) (l : Transition)
-        → (((l.item ≡ item) × LeadTo groups (take k leads) c l.to) ⊎ (Contains group.classes.items c × (l ≡ edge))) ↔ ((l.item ≡ item) × LeadTo groups (take (k + 1) leads) c l.to)
-    lead_more item edge is c l = (
+    pub edge_more : (item : Item) (edge : Transition) → edge ≡ record { item = item; to = lead.to } → (c : ℕ) (l : Transition)
+        → (((l.item ≡ item) × EdgeTo groups (take k leads) c l.to) ⊎ (Contains group.classes.items c × (l ≡ edge))) ↔ ((l.item ≡ item) × EdgeTo groups (take (k + 1) leads) c l.to)
+    edge_more item edge is c l = (
       λ h. elim h [
         | inl (same, (m, (member, to, has))) ↦ (same, (m, ((taken_more leads k lead m within read).0 (inl member), to, has)))
         | inr (has, same) ↦ (
@@ -140,20 +140,20 @@ gained_like old new g same = (
 )
 
 -- a lead that is read from the leads of a state is a lead of it
-pub lead_there : (nfas : List NfaLeads) (i p : ℕ) (ls : List Lead) (k : ℕ) (l : Lead) → AreLeadsOf nfas i p ls → k < length ls → l ≡ get_or ls k l → IsLeadOf nfas i p l
-lead_there nfas i p ls k l are within is = (ls, (are, (k, within, sym is)))
+pub edge_there : (nfas : List NfaLeads) (i p : ℕ) (ls : List Lead) (k : ℕ) (l : Lead) → AreLeadsOf nfas i p ls → k < length ls → l ≡ get_or ls k l → IsLeadOf nfas i p l
+edge_there nfas i p ls k l are within is = (ls, (are, (k, within, sym is)))
 
 -- once all leads are taken
-pub leads_of_state : (a : Classes) (x : Item) (leads : List Lead) → AreLeadsOf a.nfas x.0 x.1 leads → (c : ℕ) (l : Transition) → ((l.item ≡ x) × LeadTo a.groups leads c l.to) ↔ ((l.item ≡ x) × LeadsBy a x.0 x.1 c l.to)
-leads_of_state a x leads are c l = (
+pub edges_of_state : (a : Classes) (x : Item) (leads : List Lead) → AreLeadsOf a.nfas x.0 x.1 leads → (c : ℕ) (l : Transition) → ((l.item ≡ x) × EdgeTo a.groups leads c l.to) ↔ ((l.item ≡ x) × LeadsBy a x.0 x.1 c l.to)
+edges_of_state a x leads are c l = (
   λ (same, (m, (member, to, has))). (same, (m, ((leads_are a.nfas x.0 x.1 leads m are).1 member, to, has))),
   λ (same, (m, (member, to, has))). (same, (m, ((leads_are a.nfas x.0 x.1 leads m are).0 member, to, has))),
 )
 
-pub cuts_of_state : (a : Classes) (i p : ℕ) (leads : List Lead) (old new : List ℕ) → AreLeadsOf a.nfas i p leads → ((k : ℕ) → Contains new k ↔ (Contains old k ⊎ LeadCut a.groups leads k)) → (k : ℕ) → Contains new k ↔ (Contains old k ⊎ CutsAt a i p k)
-cuts_of_state a i p leads old new are had k = (
-  λ h. elim ((had k).0 h) [ inl x ↦ inl x | inr (m, (member, cut)) ↦ inr (m, ((leads_are a.nfas i p leads m are).1 member, cut)) ],
-  λ h. (had k).1 (elim h [ inl x ↦ inl x | inr (m, (member, cut)) ↦ inr (m, ((leads_are a.nfas i p leads m are).0 member, cut)) ]),
+pub boundaries_of_state : (a : Classes) (i p : ℕ) (leads : List Lead) (old new : List ℕ) → AreLeadsOf a.nfas i p leads → ((k : ℕ) → Contains new k ↔ (Contains old k ⊎ EdgeBoundary a.groups leads k)) → (k : ℕ) → Contains new k ↔ (Contains old k ⊎ CutsAt a i p k)
+boundaries_of_state a i p leads old new are had k = (
+  λ h. elim ((had k).0 h) [ inl x ↦ inl x | inr (m, (member, boundary)) ↦ inr (m, ((leads_are a.nfas i p leads m are).1 member, boundary)) ],
+  λ h. (had k).1 (elim h [ inl x ↦ inl x | inr (m, (member, boundary)) ↦ inr (m, ((leads_are a.nfas i p leads m are).0 member, boundary)) ]),
 )
 
 -- ---- item by item
@@ -179,16 +179,16 @@ module _ (a : Classes) (items : List Item) (k : ℕ) (item : Item) (within : k <
     ],
   )
 
-  -- its cuts
-  pub item_cuts : (old new : List ℕ) → AreCutsOf a (take k items) old → ((j : ℕ) → Contains new j ↔ (Contains old j ⊎ CutsAt a item.0 item.1 j)) → AreCutsOf a (take (k + 1) items) new
-  item_cuts old new had more j = (
+  -- its boundaries
+  pub item_boundaries : (old new : List ℕ) → AreBoundariesOf a (take k items) old → ((j : ℕ) → Contains new j ↔ (Contains old j ⊎ CutsAt a item.0 item.1 j)) → AreBoundariesOf a (take (k + 1) items) new
+  item_boundaries old new had more j = (
     λ h. elim ((more j).0 h) [
-      | inl x ↦ (let (y, (member, cut)) = (had j).0 x in (y, ((taken_more items k item y within read).0 (inl member), cut)))
-      | inr cut ↦ (item, ((taken_more items k item item within read).0 (inr refl), cut))
+      | inl x ↦ (let (y, (member, boundary)) = (had j).0 x in (y, ((taken_more items k item y within read).0 (inl member), boundary)))
+      | inr boundary ↦ (item, ((taken_more items k item item within read).0 (inr refl), boundary))
     ],
-    λ (y, (member, cut)). (more j).1 (elim ((taken_more items k item y within read).1 member) [
-      | inl before ↦ inl ((had j).1 (y, (before, cut)))
-      | inr same ↦ inr (subst (λ (x : Item). CutsAt a x.0 x.1 j) same cut)
+    λ (y, (member, boundary)). (more j).1 (elim ((taken_more items k item y within read).1 member) [
+      | inl before ↦ inl ((had j).1 (y, (before, boundary)))
+      | inr same ↦ inr (subst (λ (x : Item). CutsAt a x.0 x.1 j) same boundary)
     ]),
   )
 

@@ -23,10 +23,12 @@ pub mod Compiling
 mod Leavings
 mod Noted
 mod MarkedGroups
-mod CutBlocks
+mod BoundaryBlocks
 mod LaidOut
-mod KnownClasses
-mod CutEdges
+mod ClassMemo
+mod MemoLaws
+mod StageLaws
+mod BoundaryEdges
 mod LiveItems
 -- laws for callers
 pub mod Agreeing

@@ -1,4 +1,4 @@
--- Which groups are marked while their cuts come to a room, and while it is cleared.
+-- Which groups are marked while their boundaries come to a scratch, and while it is cleared.
 use Rattle.std.proofs.Common.{◌≡◌, ℕ, zero, suc, ◌<◌, ◌⊎◌, inl, inr, Bool, true, false, List, [], ◌∷◌, ◌++◌, length, slice_set, refl, sym, ◌∙◌, subst, arith}
 use Rattle.std.specs.Prelude.{slice_get, Some, replicate, ◌↔◌}
 use Rattle.std.specs.List.{Contains}
@@ -8,8 +8,8 @@ use Rattle.lalrpop_book.proofs.Contained.{contains_only, contains_none}
 use Rattle.lalrpop_alphabet.specs.Internal.Alphabet.{HasCut}
 use Rattle.lalrpop_alphabet.specs.declared.Group.{Group}
 use Rattle.lalrpop_alphabet.proofs.Marking.{set_at}
-use Rattle.lalrpop_dfa.specs.Internal.Room.{AreMarked, AreUnmarked, HoldMarked}
-use Rattle.lalrpop_dfa.specs.declared.room.Cuts.{Cuts}
+use Rattle.lalrpop_dfa.specs.Internal.Scratch.{AreMarked, AreUnmarked, HoldMarked}
+use Rattle.lalrpop_dfa.specs.declared.build.scratch.Boundaries.{Boundaries}
 
 last : (listed : List ℕ) (i : ℕ) → Contains (listed ++ i ∷ []) i
 last listed i = Contains-append_right listed (i ∷ []) i (0, omega arith, refl)
@@ -48,7 +48,7 @@ marked_less marks listed listed2 i marked is = record {
 }
 
 -- a group is marked and listed
-marked_more : (marks : List Bool) (listed : List ℕ) (i : ℕ) → AreMarked marks listed → i < length marks → AreMarked (slice_set marks i true) (listed ++ i ∷ [])
+pub marked_more : (marks : List Bool) (listed : List ℕ) (i : ℕ) → AreMarked marks listed → i < length marks → AreMarked (slice_set marks i true) (listed ++ i ∷ [])
 marked_more marks listed i marked within = record {
   within = λ k h. elim (before_last listed i k h) [
     | inl x ↦ (let below = marked.within k x in omega (arith, below, length-set marks i true))
@@ -60,33 +60,33 @@ marked_more marks listed i marked within = record {
   ];
 }
 
-module _ (groups : List Group) (cuts : Cuts) (hold : HoldMarked groups cuts) (i : ℕ) where
-  -- the cuts of a marked group are there
-  pub cuts_stand : slice_get cuts.marks.items i ≡ Some true → (k : ℕ) → Contains cuts.places.items k ↔ (Contains cuts.places.items k ⊎ HasCut groups i k)
-  cuts_stand at k = (λ h. inl h, λ h. elim h [ inl x ↦ x | inr cut ↦ hold.there i k at cut ])
+module _ (groups : List Group) (boundaries : Boundaries) (hold : HoldMarked groups boundaries) (i : ℕ) where
+  -- the boundaries of a marked group are there
+  pub boundaries_stand : slice_get boundaries.marks.items i ≡ Some true → (k : ℕ) → Contains boundaries.places.items k ↔ (Contains boundaries.places.items k ⊎ HasCut groups i k)
+  boundaries_stand at k = (λ h. inl h, λ h. elim h [ inl x ↦ x | inr boundary ↦ hold.there i k at boundary ])
 
   module _ (group : Group) (here : slice_get groups i ≡ Some group) where
     -- those of another one come
-    pub cuts_come : (places : List ℕ) → places ≡ cuts.places.items ++ group.cuts.items → (k : ℕ) → Contains places k ↔ (Contains cuts.places.items k ⊎ HasCut groups i k)
-    cuts_come places is k = (
-      λ h. elim (Contains-append_cases cuts.places.items group.cuts.items k (rw is at h)) [ inl x ↦ inl x | inr x ↦ inr (group, (here, x)) ],
+    pub boundaries_come : (places : List ℕ) → places ≡ boundaries.places.items ++ group.cuts.items → (k : ℕ) → Contains places k ↔ (Contains boundaries.places.items k ⊎ HasCut groups i k)
+    boundaries_come places is k = (
+      λ h. elim (Contains-append_cases boundaries.places.items group.cuts.items k (rw is at h)) [ inl x ↦ inl x | inr x ↦ inr (group, (here, x)) ],
       λ h. rw is (elim h [
-        | inl x ↦ Contains-append_left cuts.places.items group.cuts.items k x
-        | inr (other, (there, cut)) ↦
+        | inl x ↦ Contains-append_left boundaries.places.items group.cuts.items k x
+        | inr (other, (there, boundary)) ↦
             (let same : other ≡ group = (let f : Some other ≡ Some group = sym there ∙ here in cc) in
-            Contains-append_right cuts.places.items group.cuts.items k (subst (λ (x : Group). Contains x.cuts.items k) same cut))
+            Contains-append_right boundaries.places.items group.cuts.items k (subst (λ (x : Group). Contains x.cuts.items k) same boundary))
       ]),
     )
 
-    pub hold_more : (new : Cuts) → i < length groups → new.marks.items ≡ slice_set cuts.marks.items i true → new.groups.items ≡ cuts.groups.items ++ i ∷ [] → new.places.items ≡ cuts.places.items ++ group.cuts.items
+    pub hold_more : (new : Boundaries) → i < length groups → new.marks.items ≡ slice_set boundaries.marks.items i true → new.groups.items ≡ boundaries.groups.items ++ i ∷ [] → new.places.items ≡ boundaries.places.items ++ group.cuts.items
         → HoldMarked groups new
     hold_more new within marks listed places =
-        let below : i < length cuts.marks.items = omega (arith, within, hold.count) in
+        let below : i < length boundaries.marks.items = omega (arith, within, hold.count) in
         record {
-          count = (rw marks (length-set cuts.marks.items i true)) ∙ hold.count;
-          marked = rw (marks, listed) (marked_more cuts.marks.items cuts.groups.items i hold.marked below);
-          there = λ n k at cut. elim (set_at cuts.marks.items i true n true below (rw marks at at)) [
-            | inl same ↦ (cuts_come new.places.items places k).1 (inr (subst (λ j. HasCut groups j k) same.0 cut))
-            | inr other ↦ (cuts_come new.places.items places k).1 (inl (hold.there n k other.1 cut))
+          count = (rw marks (length-set boundaries.marks.items i true)) ∙ hold.count;
+          marked = rw (marks, listed) (marked_more boundaries.marks.items boundaries.groups.items i hold.marked below);
+          there = λ n k at boundary. elim (set_at boundaries.marks.items i true n true below (rw marks at at)) [
+            | inl same ↦ (boundaries_come new.places.items places k).1 (inr (subst (λ j. HasCut groups j k) same.0 boundary))
+            | inr other ↦ (boundaries_come new.places.items places k).1 (inl (hold.there n k other.1 boundary))
           ];
         }

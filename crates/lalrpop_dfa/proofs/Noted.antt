@@ -1,12 +1,12 @@
--- Which classes are noted while edges come to a room, and while it is cleared.
+-- Which classes are noted while edges come to a scratch, and while it is cleared.
 use Rattle.std.proofs.Common.{◌≡◌, ℕ, ◌<◌, ◌⊎◌, inl, inr, List, [], ◌∷◌, ◌++◌, length, slice_set, refl, sym, subst, arith}
-use Rattle.std.specs.Prelude.{slice_get, Option, Some, None}
+use Rattle.std.specs.Prelude.{slice_get, Some}
 use Rattle.std.specs.List.{Contains}
 use Rattle.std.proofs.lemmas.List.{length-set}
 use Rattle.std.proofs.lemmas.List.Elements.{Contains-append_left, Contains-append_right, Contains-append_cases}
 use Rattle.lalrpop_book.proofs.Contained.{contains_only}
-use Rattle.lalrpop_dfa.specs.Internal.Room.{AreNoted, OnlyNumbers}
-use Rattle.lalrpop_dfa.specs.declared.room.Transitions.{Transitions}
+use Rattle.lalrpop_dfa.specs.Internal.Scratch.{AreNoted}
+use Rattle.lalrpop_dfa.specs.declared.build.scratch.Transitions.{Transitions}
 use Rattle.lalrpop_alphabet.proofs.Marking.{set_at}
 
 last : (used : List ℕ) (i : ℕ) → Contains (used ++ i ∷ []) i
@@ -48,24 +48,9 @@ noted_less by_class used used2 i none noted is empty = record {
   ];
 }
 
--- and its number
-pub numbers_less : (numbers : List (Option ℕ)) (used used2 : List ℕ) (i : ℕ) → i < length numbers → used ≡ used2 ++ i ∷ [] → ((c j : ℕ) → slice_get numbers c ≡ Some (Some j) → Contains used c)
-    → (c j : ℕ) → slice_get (slice_set numbers i None) c ≡ Some (Some j) → Contains used2 c
-numbers_less numbers used used2 i within is had c j at = elim (set_at numbers i None c (Some j) within at) [
-  | inl here ↦ (let clash : Some j ≡ None = here.1 in cc)
-  | inr other ↦ elim (before_last used2 i c (rw is at (had c j other.1))) [ inl x ↦ x | inr same ↦ absurd (other.0 same) ]
-]
-
 -- a class that has an edge is noted
 pub has_noted : (by_class : List Transitions) (used : List ℕ) (c : ℕ) (t : Transitions) → AreNoted by_class used → slice_get by_class c ≡ Some t → (t.list.items ≡ [] → ⊥) → Contains used c
 has_noted by_class used c t noted at some = elim (noted.all c t at) [ inl none ↦ absurd (some none) | inr has ↦ has ]
-
--- a number comes to a class
-pub numbers_more : (numbers : List (Option ℕ)) (i j : ℕ) → i < length numbers → OnlyNumbers numbers i (slice_set numbers i (Some j))
-numbers_more numbers i j within c k at = elim (set_at numbers i (Some j) c (Some k) within at) [
-  | inl here ↦ inl here.0
-  | inr other ↦ inr other.1
-]
 
 -- the last of the noted classes is within
 pub pushed_within : (by_class : List Transitions) (used used2 : List ℕ) (i : ℕ) → AreNoted by_class used → used ≡ used2 ++ i ∷ [] → i < length by_class

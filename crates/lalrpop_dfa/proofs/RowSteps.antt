@@ -14,7 +14,7 @@ use Rattle.lalrpop_dfa.specs.Items.{IsLeaving}
 use Rattle.lalrpop_items.specs.Internal.Subsets.{move, is_dead}
 use Rattle.lalrpop_dfa.specs.Internal.BreadthFirst.{Automaton, IsBreadthFirst, Added, nth}
 use Rattle.lalrpop_dfa.specs.Internal.Built.{subset_automaton}
-use Rattle.lalrpop_dfa.specs.Internal.Builder.{past}
+use Rattle.lalrpop_dfa.specs.Internal.Expansion.{past}
 use Rattle.lalrpop_book.proofs.Members.{Has, has_from, contains_from, has_at, at_has, has_cases}
 use Rattle.lalrpop_dfa.proofs.Steps.{breadth_first_gap, breadth_first_added, breadth_first_spread, breadth_first_next}
 use Rattle.lalrpop_dfa.proofs.Dead.{uncovered_dead, covered_small}

@@ -1,9 +1,11 @@
 pub mod BreadthFirst
 pub mod Built
-pub mod Builder
+pub mod Expansion
 pub mod Best
 pub mod Blocks
 pub mod Transitions
-pub mod Room
+pub mod Scratch
+pub mod Memo
+pub mod Stage
 pub mod Labelled
 pub mod Ties

@@ -15,6 +15,7 @@ pub use Rattle.lalrpop_kernels.specs.Kernels
 pub use Rattle.lalrpop_items.specs.Automata
 pub use Rattle.lalrpop_table.specs.Dfa
 pub use Rattle.lalrpop_table.specs.Counts
+pub use Rattle.lalrpop_table.specs.Lookahead
 pub use Rattle.lalrpop_table.specs.SameAutomata
 pub mod Items
 pub mod Agree

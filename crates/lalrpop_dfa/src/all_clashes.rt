@@ -7,11 +7,10 @@ ghost use Rattle.lalrpop_book.specs.Clashes.{AreClashes};
 ghost use Rattle.lalrpop_dfa.specs.Internal.Ties.{AreOwn};
 ghost use Rattle.lalrpop_book.specs.Report.{NoFault, IsFaultOf};
 
-use super::automata::Automata;
-use super::build::compile_all;
-use super::builder::all_sets;
-use super::ties::Ties;
-use super::{DfaConstructionError, NfaIndex, Precedence};
+use crate::build::compile::compile_all;
+use crate::build::expanded;
+use crate::ties::Ties;
+use crate::{DfaConstructionError, NfaIndex, Precedence};
 use lalrpop_hir::Regex;
 use lalrpop_nfa::Nfa;
 use std::alloc::{AllocError, Global};
@@ -59,15 +58,14 @@ fn clashes_of(
         → AreClashes ts (map (λ p. p.0) precedences.now) found.items) }
     ensures err { IfErr result (λ e. (ts : List Tree) → AreCompiled ts nfas.now → IsFaultOf ts e) }
 {
-    let automata = Automata::new(alloc, nfas)?;
     // Where no two precedences are equal, no two patterns tie, so that all sets are made.
     let distinct = distinct_precedences(alloc, nfas.len())?;
-    let table = all_sets(alloc, &automata, &distinct)?;
+    let expansion = expanded(alloc, nfas, &distinct)?;
     let mut ties = Ties::new(alloc);
-    for number in 0..table.writer.len() {
-        let set = table.writer.item_set(number);
-        let strongest = automata.strongest(alloc, precedences, set)?;
-        ties.add_all(alloc, &strongest, &table.sets.origins, number)?;
+    for number in 0..expansion.len() {
+        let set = expansion.item_set(number);
+        let strongest = expansion.strongest(precedences, set)?;
+        ties.add_all(alloc, &strongest, expansion.origins(), number)?;
     }
     Ok(ties.clashes)
 }

@@ -1,56 +1,58 @@
-//! Building an automaton: the patterns are compiled one by one, then joined.
-ghost use Rattle.std.specs.Prelude.{◌≡◌, ◌<◌, ◌≤◌, List, map, length, IfOk, IfErr};
-ghost use Rattle.lalrpop_items.specs.Internal.Given.{AreFixed};
-ghost use Rattle.lalrpop_dfa.specs.Internal.Builder.{IsRefusalOf, NoFaultBefore, IsCompiledAt};
-ghost use Rattle.lalrpop_book.specs.Clash.{NoClash};
+//! The subset construction.
+//!
+//! The patterns are compiled one by one. The sets of items that words lead to are numbered as they are first met, and
+//! expanded number by number: the labels that leave a set cut the values into blocks, and each block leads to one set.
+
+ghost use Rattle.std.specs.Prelude.{◌≡◌, ◌+◌, ◌^◌, ◌<◌, ◌≤◌, ◌↔◌, ◌++◌, ◌∷◌, [], ℕ, List, length, map, slice_get, Some, true, IfOk, IfErr, OnOk, MatchOption, IsSomeAnd, None};
+ghost use Rattle.std.specs.List.{Contains};
+ghost use Rattle.std.proofs.Common.{get_or};
+ghost use Rattle.lalrpop_book.specs.Tree.{Tree};
+ghost use Rattle.lalrpop_kernels.specs.Kernels.{moved};
+ghost use Rattle.lalrpop_nfa.specs.Graph.{Graph};
+ghost use Rattle.lalrpop_alphabet.specs.Internal.Alphabet.{IsSound};
+ghost use Rattle.lalrpop_items.specs.Internal.Ascending.{AreAscendingItems};
+ghost use Rattle.lalrpop_items.specs.Internal.Given.{AreAutomata, AreItemsOf};
+ghost use Rattle.lalrpop_items.specs.Automata.{AreCompiled};
+ghost use Rattle.lalrpop_items.specs.Internal.Subsets.{first_set_of};
+ghost use Rattle.lalrpop_items.specs.Internal.Transitions.{AreTransitions};
 ghost use Rattle.lalrpop_table.specs.Counts.{state_bound};
 ghost use Rattle.lalrpop_table.specs.Dfa.{Recognizes};
-ghost use Rattle.lalrpop_nfa.specs.Graph.{Graph};
-ghost use Rattle.lalrpop_items.specs.Automata.{AreCompiled};
+ghost use Rattle.lalrpop_book.specs.Clash.{NoClash};
 ghost use Rattle.lalrpop_dfa.specs.Items.{HoldsItems, OthersReject, IsInWordOrder};
-ghost use Rattle.lalrpop_book.specs.Report.{NoFault, IsFaultOf, IsReport};
+ghost use Rattle.lalrpop_book.specs.Report.{NoFault, IsReport};
+ghost use Rattle.lalrpop_dfa.specs.Internal.Blocks.{has_edges};
+ghost use Rattle.lalrpop_dfa.specs.Internal.BreadthFirst.{AreEarlier, IsBreadthFirst, word};
+ghost use Rattle.lalrpop_dfa.specs.Internal.Built.{subset_automaton, IsKindOf, IsStrongestIn};
+ghost use Rattle.lalrpop_dfa.specs.Internal.Expansion.{AreTested, IsEdged, IsBuiltTo, IsTieOf, IsClashAt, IsClashOf};
+ghost use Rattle.lalrpop_dfa.specs.Internal.Scratch.{IsFilled};
+ghost use Rattle.lalrpop_dfa.specs.Internal.Ties.{AreAscending};
+ghost use Rattle.lalrpop_dfa.specs.Internal.Stage.{IsSameRow, IsTarget, IsBlockDone, Take, IsBuilt};
 
-use super::builder::build;
-use super::{Dfa, DfaConstructionError, NfaIndex, Precedence};
+pub(crate) mod automata;
+mod best;
+mod block;
+pub(crate) mod compile;
+mod memo;
+pub(crate) mod origin;
+mod scratch;
+mod sets;
+
+use crate::{Dfa, DfaConstructionError, DfaStateIndex, Kind, NfaIndex, Precedence};
+use automata::Automata;
+use best::Tie;
+use block::{BEFORE_ALL, Block};
+use compile::compile_all;
+use lalrpop_alphabet::Cell;
 use lalrpop_hir::Regex;
-use lalrpop_nfa::{Nfa, NfaConstructionError};
-use std::alloc::Global;
-
-// What is reported where the pattern at this place was not compiled.
-fn refusal(index: NfaIndex, error: NfaConstructionError) -> DfaConstructionError
-    ensures { IsRefusalOf index error result }
-{
-    match error {
-        NfaConstructionError::OutOfMemory => DfaConstructionError::OutOfMemory,
-        error => DfaConstructionError::NfaConstructionError { index, error },
-    }
-}
-
-// The automaton of the pattern at this place, where no pattern before it has a fault, or what is reported of it.
-fn compile(alloc: Global, regexs: &[Regex], index: usize) -> Result<Nfa, DfaConstructionError>
-    requires within { index < length regexs.now }
-    requires no_fault { NoFaultBefore regexs.now index }
-    ensures ok { IfOk result (IsCompiledAt regexs.now index) }
-    ensures err { IfErr result (IsFaultOf regexs.now) }
-{
-    match Nfa::from_re(alloc, &regexs[index]) {
-        Ok(nfa) => Ok(nfa),
-        Err(error) => Err(refusal(NfaIndex::new(index), error)),
-    }
-}
-
-/// The automata of the patterns, in the order of the list, or the first pattern that has a fault.
-pub(super) fn compile_all(alloc: Global, regexs: &[Regex]) -> Result<Vec<Nfa>, DfaConstructionError>
-    ensures ok { IfOk result (λ nfas. NoFault regexs.now × AreCompiled regexs.now nfas.items) }
-    ensures fixed { IfOk result (λ nfas. AreFixed nfas.items) }
-    ensures err { IfErr result (IsFaultOf regexs.now) }
-{
-    let mut nfas = Vec::new(alloc);
-    for index in 0..regexs.len() {
-        nfas.push(compile(alloc, regexs, index)?)?;
-    }
-    Ok(nfas)
-}
+use lalrpop_items::ItemSet;
+use lalrpop_nfa::Nfa;
+use lalrpop_table::{RowWriter, Rows};
+use memo::Memo;
+use origin::{Origin, word_to};
+use scratch::Scratch;
+use sets::Sets;
+use std::alloc::{AllocError, Global};
+use std::marker::Model;
 
 /// Builds the automaton of the patterns with these precedences: one precedence for each pattern. After each word its
 /// state names the only strongest pattern that matches the word.
@@ -76,4 +78,371 @@ pub fn build_dfa(
 {
     let nfas = compile_all(alloc, regexs)?;
     build(alloc, &nfas, precedences)
+}
+
+/// An automaton under construction: the sets of items by number, the number that is expanded, what leaves its set, the
+/// numbers that were found for what leaves it, and the rows of the numbers before it.
+#[derive(Drop)]
+pub(crate) struct Expansion<'given> {
+    alloc: Global,
+    automata: Automata<'given>,
+    precedences: &'given [Precedence],
+    sets: Sets,
+    number: usize,
+    scratch: Scratch,
+    memo: Memo,
+    writer: RowWriter,
+}
+
+impl<'given> Model for Expansion<'given> {
+    ghost use Rattle.std.specs.Prelude.{length, map};
+    ghost use Rattle.lalrpop_dfa.specs.Internal.Stage.{Stage, stage, IsExpansion};
+
+    ghost Value = { Stage };
+
+    ghost view = { λ e.
+        stage e.automata (map (λ p. p.0) e.precedences.now) e.sets e.number e.scratch e.writer };
+
+    ghost invariant = { λ e.
+        IsExpansion e.automata (length e.precedences.now) e.sets.kernels.list e.number e.scratch e.memo };
+}
+
+impl<'given> Expansion<'given> {
+    /// The set that the empty word leads to, and no row.
+    fn new(
+        alloc: Global,
+        nfas: &'given [Nfa],
+        precedences: &'given [Precedence],
+    ) -> Result<Expansion<'given>, AllocError>
+        requires same_len { length nfas.now ≡ length precedences.now }
+        requires automata { AreAutomata nfas.now }
+        ensures graphs { IfOk result (λ e. e.automata.graphs ≡ nfas.now) }
+        ensures precedences { IfOk result (λ e. e.precedences ≡ map (λ p. p.0) precedences.now) }
+        ensures place { IfOk result (λ e. e.kernels.place ≡ length e.written.rows) }
+        ensures built { IfOk result IsBuilt }
+    {
+        let automata = Automata::new(alloc, nfas)?;
+        let sets = Sets::new(alloc, &automata)?;
+        let scratch = automata.scratch(alloc)?;
+        let memo = Memo::new(alloc, scratch.edges.lists.len())?;
+        Ok(Expansion {
+            alloc,
+            automata,
+            precedences,
+            sets,
+            number: 0,
+            scratch,
+            memo,
+            writer: RowWriter::new(alloc),
+        })
+    }
+
+    // The next set in the order of the numbers.
+    fn next(&mut self) -> Result<Option<ItemSet>, AllocError>
+        ensures given { IfOk result (λ o. MatchOption o
+            (slice_get self.old.kernels.list self.old.kernels.place ≡ None)
+            (λ s. slice_get self.old.kernels.list self.old.kernels.place ≡ Some s)) }
+        ensures moves { IfOk result (λ o. self.new
+            ≡ record self.old { kernels = moved self.old.kernels o }) }
+    {
+        self.sets.kernels.next()
+    }
+
+    // The kind of the next row's set, or the clash of its strongest patterns.
+    fn kind(&self, set: &ItemSet) -> Result<Kind, DfaConstructionError>
+        requires inside { AreItemsOf self.now.automata.graphs set.now }
+        requires ascending { AreAscendingItems set.now }
+        requires within { length self.now.written.rows < length self.now.origins }
+        requires earlier { AreEarlier self.now.origins }
+        ensures ok { IfOk result (IsKindOf self.now.precedences set.now) }
+        ensures err { IfErr result (IsTieOf self.now.precedences set.now
+            (word self.now.origins (length self.now.written.rows))) }
+    {
+        match self.automata.kind_of(self.precedences, set) {
+            Ok(kind) => Ok(kind),
+            Err(tie) => Err(clash_of(self.alloc, &self.sets.origins, self.writer.len(), tie)),
+        }
+    }
+
+    // Begins the next row: lays out what leaves its set, for which no number was found yet.
+    fn begin(&mut self, set: &ItemSet) -> Result<(), AllocError>
+        requires inside { AreItemsOf self.old.automata.graphs set.now }
+        ensures number { OnOk result (self.new.number ≡ length self.old.written.rows) }
+        ensures filled { OnOk result (IsFilled self.new.automata.graphs self.new.automata.alphabet
+            set.now self.new.boundaries self.new.by_class) }
+        ensures same { self.new ≡ record self.old {
+          number = self.new.number;
+          boundaries = self.new.boundaries;
+          by_class = self.new.by_class;
+        } }
+    {
+        self.memo.clear(&self.scratch.edges.used);
+        self.number = self.writer.len();
+        self.automata.fill(&mut self.scratch, set)
+    }
+
+    // The number of the set that the number's set leads to by the values of a class.
+    #[inline(never)]
+    fn target(
+        &mut self,
+        set: &ItemSet,
+        class: usize,
+        origin: Origin,
+    ) -> Result<DfaStateIndex, AllocError>
+        requires here { slice_get self.old.kernels.list self.old.number ≡ Some set.now }
+        requires inside { AreItemsOf self.old.automata.graphs set.now }
+        requires same_length { length self.old.origins ≡ length self.old.kernels.list }
+        requires number { origin.0 ≡ self.old.number }
+        requires some { has_edges (slice_get self.old.by_class class) ≡ true }
+        requires take { Take self.old set.now class origin.1 }
+        ensures { IfOk result (λ j. IsTarget self.old set.now origin.1 j self.new) }
+    {
+        let number = match self.memo.find(&self.scratch.edges, class) {
+            Some(number) => number,
+            None => {
+                let transitions = &self.scratch.edges.lists[class].list;
+                let number = self.sets.closure(&self.automata, set, transitions, origin)?;
+                self.memo.insert(&self.scratch.edges, class, number)?;
+                number
+            }
+        };
+        self.memo.note(class, number);
+        Ok(number)
+    }
+
+    // How many boundaries the labels that leave the set have.
+    fn boundary_count(&self) -> usize
+        ensures { result ≡ length self.now.boundaries }
+    {
+        self.scratch.boundaries.places.len()
+    }
+
+    // The cell at a boundary.
+    fn boundary(&self, index: usize) -> Cell
+        requires within { index < length self.now.boundaries }
+        requires cells { get_or self.now.boundaries index 0 < length self.now.automata.alphabet.cells }
+        ensures automata { AreAutomata self.now.automata.graphs }
+        ensures cell { slice_get self.now.automata.alphabet.cells
+            (get_or self.now.boundaries index 0) ≡ Some result }
+    {
+        self.automata.cell(self.scratch.boundaries.places[index])
+    }
+
+    // Writes the edge of a block, unless its values take none. Only the first block of a class looks its target up.
+    fn edge(&mut self, set: &ItemSet, block: Block) -> Result<(), AllocError>
+        requires here { slice_get self.old.kernels.list self.old.number ≡ Some set.now }
+        requires inside { AreItemsOf self.old.automata.graphs set.now }
+        requires same_length { length self.old.origins ≡ length self.old.kernels.list }
+        requires class { block.from.class < length self.old.by_class }
+        requires less { block.from.first < block.to.first }
+        requires small { block.to.first ≤ 2 ^ 32 }
+        requires take { Take self.old set.now block.from.class block.from.first }
+        ensures { OnOk result (IsBlockDone self.old set.now block.from block.to self.new) }
+    {
+        let class = block.from.class;
+        let target = match self.memo.by_class[class] {
+            Some(target) => target,
+            None if self.scratch.edges.is_bare(class) => return Ok(()),
+            None => self.target(set, class, block.origin(self.number))?,
+        };
+        block.write_edge(target, &mut self.writer)?;
+        Ok(())
+    }
+
+    // Writes the edges of the blocks, in order: of the values from one boundary up to the next.
+    fn blocks(&mut self, set: &ItemSet) -> Result<(), AllocError>
+        requires breadth_first { IsBreadthFirst (subset_automaton self.old.automata.graphs)
+            self.old.kernels.list self.old.origins self.old.number 0 }
+        requires here { slice_get self.old.kernels.list self.old.number ≡ Some set.now }
+        requires filled { IsFilled self.old.automata.graphs self.old.automata.alphabet set.now
+            self.old.boundaries self.old.by_class }
+        requires no_tests { self.old.written.tests ≡ [] }
+        ensures tested { OnOk result (AreTested self.old.automata.graphs
+            self.old.kernels.list self.old.origins self.old.number set.now
+            self.new.kernels.list self.new.origins self.new.written.tests) }
+        ensures same { OnOk result (IsSameRow self.old self.new) }
+        ensures here { OnOk result
+            (slice_get self.new.kernels.list self.new.number ≡ Some set.now) }
+    {
+        let mut from = BEFORE_ALL;
+        for index in 0..self.boundary_count() {
+            let to = self.boundary(index);
+            let block = Block { from, to };
+            from = to;
+            if !block.is_empty() {
+                self.edge(set, block)?;
+            }
+        }
+        Ok(())
+    }
+
+    // The number of the set that the number's set leads to by all other values. No label reaches the greatest number, so that
+    // it takes no test edge.
+    fn other(&mut self, set: &ItemSet) -> Result<DfaStateIndex, AllocError>
+        requires here { slice_get self.old.kernels.list self.old.number ≡ Some set.now }
+        requires inside { AreItemsOf self.old.automata.graphs set.now }
+        requires same_length { length self.old.origins ≡ length self.old.kernels.list }
+        ensures target { IfOk result (λ j. IsTarget self.old set.now 4294967295 j self.new) }
+        ensures automata { AreAutomata self.old.automata.graphs }
+    {
+        let origin = Origin::new(self.number, u32::MAX);
+        self.sets.closure(&self.automata, set, &[], origin)
+    }
+
+    // Ends the row of the number, whose set this is.
+    fn end(&mut self, set: ItemSet, kind: Kind, other: DfaStateIndex) -> Result<(), AllocError>
+        ensures written { OnOk result (self.new.written ≡ record {
+          rows = self.old.written.rows ++ record {
+            kind = kind;
+            tests = self.old.written.tests;
+            other = other;
+            items = set;
+          } ∷ [];
+          tests = [];
+        }) }
+        ensures same { OnOk result (self.new ≡ record self.old { written = self.new.written }) }
+    {
+        self.writer.end_row(set, kind, other)
+    }
+
+    // The row of the next number, whose set this is.
+    fn row(&mut self, set: ItemSet) -> Result<(), DfaConstructionError>
+        requires built { IsBuilt self.old }
+        requires here { slice_get self.old.kernels.list (length self.old.written.rows) ≡ Some set }
+        ensures built { OnOk result (IsBuilt self.new) }
+        ensures one { OnOk result (length self.new.written.rows
+            ≡ length self.old.written.rows + 1) }
+        ensures place { OnOk result (self.new.kernels.place ≡ self.old.kernels.place) }
+        ensures automata { OnOk result (self.new.automata ≡ self.old.automata) }
+        ensures precedences { OnOk result (self.new.precedences ≡ self.old.precedences) }
+        ensures err { IfErr result (IsTieOf self.old.precedences set
+            (word self.old.origins (length self.old.written.rows))) }
+    {
+        let kind = self.kind(&set)?;
+        self.begin(&set)?;
+        self.blocks(&set)?;
+        let other = self.other(&set)?;
+        self.end(set, kind, other)?;
+        Ok(())
+    }
+
+    // The rows of all numbers in turn, until no set is left without one.
+    fn run(&mut self) -> Result<(), DfaConstructionError>
+        requires built { IsBuilt self.old }
+        requires place { self.old.kernels.place ≡ length self.old.written.rows }
+        ensures ok { OnOk result (IsBuiltTo self.old.automata.graphs self.old.precedences
+            self.new.kernels.list self.new.origins self.new.written.rows
+            (length self.new.kernels.list)) }
+        ensures automata { OnOk result (self.new.automata ≡ self.old.automata) }
+        ensures err { IfErr result (λ e. (ts : List Tree) → AreCompiled ts self.old.automata.graphs
+            → IsClashOf ts self.old.precedences e) }
+    {
+        while let Some(set) = self.next()? {
+            self.row(set)?;
+        }
+        Ok(())
+    }
+
+    /// How many rows there are.
+    pub(crate) fn len(&self) -> usize
+        ensures { result ≡ length self.now.written.rows }
+    {
+        self.writer.len()
+    }
+
+    /// The set that has the row with this number.
+    pub(crate) fn item_set(&self, number: usize) -> &ItemSet
+        requires { number < length self.now.written.rows }
+        ensures { IsSomeAnd (slice_get self.now.written.rows number) (λ r. result.now ≡ r.items) }
+    {
+        self.writer.item_set(number)
+    }
+
+    /// Where each set was first met.
+    pub(crate) fn origins(&self) -> &[Origin]
+        ensures { result.now ≡ self.now.origins }
+    {
+        &self.sets.origins
+    }
+
+    /// The strongest of the patterns that the set accepts by these precedences, in order.
+    pub(crate) fn strongest(
+        &self,
+        precedences: &[Precedence],
+        set: &ItemSet,
+    ) -> Result<Vec<NfaIndex>, AllocError>
+        requires same_len { length self.now.automata.graphs ≡ length precedences.now }
+        requires inside { AreItemsOf self.now.automata.graphs set.now }
+        requires ascending { AreAscendingItems set.now }
+        ensures all { IfOk result (λ found. (i : ℕ)
+            → Contains found.items i ↔ IsStrongestIn (map (λ p. p.0) precedences.now) set.now i) }
+        ensures ascending { IfOk result (λ found. AreAscending found.items) }
+    {
+        self.automata.strongest(self.alloc, precedences, set)
+    }
+
+    /// The rows.
+    fn into_rows(self) -> Rows
+        ensures { result ≡ self.entry.written.rows }
+    {
+        let Expansion { writer, .. } = self;
+        writer.into_rows()
+    }
+}
+
+// What is reported where the strongest patterns of the set with this number tie.
+fn clash_of(alloc: Global, origins: &[Origin], number: usize, tie: Tie) -> DfaConstructionError
+    requires within { number < length origins.now }
+    requires earlier { AreEarlier origins.now }
+    ensures { IsClashAt (word origins.now number) tie.greatest tie.second result }
+{
+    match word_to(alloc, origins, number) {
+        Ok(word) => DfaConstructionError::Ambiguity {
+            match0: tie.greatest,
+            match1: tie.second,
+            word,
+        },
+        Err(_) => DfaConstructionError::OutOfMemory,
+    }
+}
+
+/// The sets that all words lead to, and the row of each, or the clash of two patterns.
+pub(crate) fn expanded<'given>(
+    alloc: Global,
+    nfas: &'given [Nfa],
+    precedences: &'given [Precedence],
+) -> Result<Expansion<'given>, DfaConstructionError>
+    requires same_len { length nfas.now ≡ length precedences.now }
+    requires automata { AreAutomata nfas.now }
+    ensures ok { IfOk result (λ e. IsBuiltTo nfas.now (map (λ p. p.0) precedences.now)
+        e.kernels.list e.origins e.written.rows (length e.kernels.list)) }
+    ensures graphs { IfOk result (λ e. e.automata.graphs ≡ nfas.now) }
+    ensures err { IfErr result (λ e. let ps = map (λ p. p.0) precedences.now in
+        (ts : List Tree) → AreCompiled ts nfas.now → IsClashOf ts ps e) }
+{
+    let mut expansion = Expansion::new(alloc, nfas, precedences)?;
+    expansion.run()?;
+    Ok(expansion)
+}
+
+/// The automaton of the patterns with these automata and precedences, or the clash of two of them.
+pub(super) fn build(
+    alloc: Global,
+    nfas: &[Nfa],
+    precedences: &[Precedence],
+) -> Result<Dfa, DfaConstructionError>
+    requires same_len { length nfas.now ≡ length precedences.now }
+    requires automata { AreAutomata nfas.now }
+    ensures stands { IfOk result (λ dfa. let ps = map (λ p. p.0) precedences.now in
+        (ts : List Tree) → AreCompiled ts nfas.now → NoClash ts ps × Recognizes dfa ts ps) }
+    ensures bound { IfOk result (λ dfa. (ts : List Tree) → AreCompiled ts nfas.now
+        → length dfa ≤ state_bound ts) }
+    ensures items { IfOk result (HoldsItems nfas.now) }
+    ensures others { IfOk result OthersReject }
+    ensures order { IfOk result IsInWordOrder }
+    ensures err { IfErr result (λ e. let ps = map (λ p. p.0) precedences.now in
+        (ts : List Tree) → AreCompiled ts nfas.now → IsClashOf ts ps e) }
+{
+    let expansion = expanded(alloc, nfas, precedences)?;
+    Ok(Dfa::new(alloc, expansion.into_rows())?)
 }

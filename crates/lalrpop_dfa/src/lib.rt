@@ -2,12 +2,7 @@
 #![tactic(auto)]
 
 mod all_clashes;
-mod automata;
-mod best;
 mod build;
-mod builder;
-mod origin;
-mod room;
 mod ties;
 
 pub use all_clashes::{Clash, clashes};
@@ -16,4 +11,4 @@ pub use lalrpop_book::{DfaConstructionError, NfaIndex, Precedence};
 pub use lalrpop_items::{DfaStateIndex, START};
 pub use lalrpop_kernels as kernel_set;
 pub use lalrpop_ranges::overlap;
-pub use lalrpop_table::{Dfa, Kind, State, interpret};
+pub use lalrpop_table::{Dfa, Kind, State, interpret, lookahead};

@@ -5,7 +5,7 @@ ghost use Rattle.lalrpop_dfa.specs.Internal.Ties.{ArePairsOf, AreAscending, HasT
 
 use super::NfaIndex;
 use super::all_clashes::Clash;
-use super::origin::{Origin, word_to};
+use crate::build::origin::{Origin, word_to};
 use std::alloc::{AllocError, Global};
 use std::collections::BTreeSet;
 

@@ -3,3 +3,7 @@ mod Cutting
 mod LexerTokens
 mod Position
 mod Rules
+mod Lines
+pub mod Line
+pub mod Terminals
+mod Counting

@@ -22,7 +22,7 @@ after_prefix : (p text : List ℕ) (b : IsPrefix p text) → b.0 ≡ drop (lengt
 after_prefix p text b = sym (ap (drop (length p)) b.1.0 ∙ drop_at p b.0 (length p) refl)
 
 -- a text that isn't empty has a character
-some_char : (text : List ℕ) → IsUtf8 text → text ≢ [] → 0 < length (chars text)
+pub some_char : (text : List ℕ) → IsUtf8 text → text ≢ [] → 0 < length (chars text)
 some_char text u some = has (chars text) (encodes-chars text u)
   where
     has : (cs : List ℕ) → encode_utf8_all cs ≡ text → 0 < length cs
@@ -39,10 +39,10 @@ rest_utf8 s j p u b e =
     subst IsUtf8 (drop-drop (length p) s.at s.text ∙ sym (ap (λ (x : Cutting). rest_of x) e))
     (IsUtf8-drop (rest_of s) (length p) u (cut_behind p (rest_of s) u b))
 
-left_on : (s : Cutting) → s.is_over ≡ false → left_of s ≡ length (chars (rest_of s))
+pub left_on : (s : Cutting) → s.is_over ≡ false → left_of s ≡ length (chars (rest_of s))
 left_on s on = rw on
 
-left_over : (s : Cutting) → s.is_over ≡ true → left_of s ≡ 0
+pub left_over : (s : Cutting) → s.is_over ≡ true → left_of s ≡ 0
 left_over s over = rw over
 
 -- each item is one less

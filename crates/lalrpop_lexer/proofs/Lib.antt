@@ -1,8 +1,14 @@
-mod Cases
+pub mod Cases
 -- what the calls that cut a text give
 pub mod Cuttings
 pub mod LexerCuttings
+pub mod Costs
 pub mod Places
+-- what lines say
+pub mod LineLemmas
+pub mod LineParts
+pub mod TerminalLemmas
+pub mod TerminalLaws
 -- what the definitions mean: there is one clash, one list of clashes, and one longest match
 pub use Rattle.lalrpop_book.proofs.ClashLaws
 pub use Rattle.lalrpop_dfa.proofs.ClashListLaws

@@ -1,7 +1,11 @@
 pub mod Cutting
 pub mod LexerTokens
+pub mod Counting
 pub mod Position
 pub mod Rules
+pub mod Lines
+pub mod Line
+pub mod Terminals
 -- what the public contracts of the crates below name: of the book,
 pub use Rattle.lalrpop_book.specs.Word
 pub use Rattle.lalrpop_book.specs.Range
@@ -50,6 +54,7 @@ pub use Rattle.lalrpop_kernels.specs.Kernels
 pub use Rattle.lalrpop_items.specs.Automata
 pub use Rattle.lalrpop_table.specs.Dfa
 pub use Rattle.lalrpop_table.specs.Counts as StateCounts
+pub use Rattle.lalrpop_table.specs.Lookahead
 pub use Rattle.lalrpop_table.specs.SameAutomata
 pub use Rattle.lalrpop_dfa.specs.Items
 pub use Rattle.lalrpop_dfa.specs.Agree

@@ -5,10 +5,11 @@ use Rattle.lalrpop_book.specs.Tree.{Tree}
 use Rattle.lalrpop_book.specs.Clash.{NoClash}
 use Rattle.lalrpop_table.specs.Dfa.{Row, Recognizes}
 
--- the trees of a list of patterns, and their precedences
+-- the trees of a list of patterns, their precedences, and the states of the automaton
 pub record Rules : Type 0 where
   pub trees : List Tree
   pub precedences : List ℕ
+  pub automaton : List Row
 
 -- no word is ambiguous, and the automaton recognizes the trees and precedences
 pub record IsBuiltFrom (ts : List Tree) (ps : List ℕ) (d : List Row) : Type 0 where

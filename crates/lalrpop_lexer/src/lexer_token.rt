@@ -4,13 +4,15 @@ ghost use Rattle.std.specs.Prelude.{◌≡◌};
 
 use crate::token::Tokens;
 use lalrpop_book::{Token, TokenFault};
+use lalrpop_dense::DenseDfa;
+use lalrpop_ranges::Steps;
 use std::iter::FusedIterator;
 use std::marker::Model;
 
 /// Cuts a text into tokens, as `Tokens`, and says where each begins.
 #[derive(Debug, Drop)]
 pub struct LexerTokens<'text> {
-    tokens: Tokens<'text>,
+    tokens: Tokens<'text, DenseDfa>,
 }
 
 impl<'text> Model for LexerTokens<'text> {
@@ -22,9 +24,12 @@ impl<'text> Model for LexerTokens<'text> {
 }
 
 impl<'text> LexerTokens<'text> {
-    ghost use Rattle.lalrpop_lexer.specs.Cutting.{rest_of};
+    ghost use Rattle.std.specs.Prelude.{ℕ, ◌+◌, ◌*◌, ◌≤◌, ◌<◌, OnSome};
+    ghost use Rattle.lalrpop_table.specs.Lookahead.{LooksAtMost};
+    ghost use Rattle.lalrpop_lexer.specs.Cutting.{rest_of, left_of};
+    ghost use Rattle.lalrpop_lexer.specs.LexerTokens.{GivesToken};
 
-    pub(crate) fn new(tokens: Tokens<'text>) -> LexerTokens<'text>
+    pub(crate) fn new(tokens: Tokens<'text, DenseDfa>) -> LexerTokens<'text>
         ensures same { result ≡ tokens.entry }
     {
         LexerTokens { tokens }
@@ -35,6 +40,29 @@ impl<'text> LexerTokens<'text> {
         ensures rest { result.now ≡ rest_of self.now }
     {
         self.tokens.rest()
+    }
+
+    // What `next` gives. A step is counted for each character that is read.
+    pub(crate) fn next_counted(
+        &mut self,
+        steps: &mut Steps,
+    ) -> Option<Result<Token<'text>, TokenFault>>
+        ensures gives { GivesToken self.old result self.new }
+        ensures goes { OnSome result (left_of self.new < left_of self.old) }
+        ensures never_falls { steps.old ≤ steps.new }
+        ensures paid { (n : ℕ) → LooksAtMost self.old.automaton n
+            → steps.new + (n + 2) * left_of self.new ≤ steps.old + (n + 2) * left_of self.old }
+    {
+        let start = self.tokens.offset();
+        match self.tokens.next_counted(steps) {
+            Some(Ok(found)) => Some(Ok(Token {
+                index: found.0,
+                slice: found.1,
+                start,
+            })),
+            Some(Err(fault)) => Some(Err(fault)),
+            None => None,
+        }
     }
 }
 
@@ -50,16 +78,7 @@ impl<'text> Iterator for LexerTokens<'text> {
     ghost remaining = { λ s. at_most (left_of s) };
 
     fn next(&mut self) -> Option<Result<Token<'text>, TokenFault>> {
-        let start = self.tokens.offset();
-        match self.tokens.next() {
-            Some(Ok(found)) => Some(Ok(Token {
-                index: found.0,
-                slice: found.1,
-                start,
-            })),
-            Some(Err(fault)) => Some(Err(fault)),
-            None => None,
-        }
+        self.next_counted(&mut Steps::new())
     }
 }
 

@@ -1,20 +1,29 @@
 //! A lexer layer: patterns with precedences are compiled to one automaton, which finds the longest match of a text
-//! and the one strongest pattern that matches it, and cuts whole texts into such matches.
+//! and the one strongest pattern that matches it, and cuts whole texts into such matches. Patterns come as trees, or as
+//! terminals that are lines, such as `1 l class` or `0 r [a-z]+`.
 //!
 //! It hands out the crates below too.
 #![tactic(auto)]
 
+mod counted;
 mod cut;
 pub mod lexer;
 mod lexer_token;
+mod line;
+mod longest;
+mod meaning;
 mod position;
 mod rules;
+mod terminals;
 mod token;
 
+pub use counted::CountedTokens;
 pub use cut::tokens;
 pub use lalrpop_kernels as kernel_set;
 pub use lalrpop_book::{Token, TokenFault};
 pub use lexer_token::LexerTokens;
+pub use longest::longest_match;
 pub use position::{Position, Positions};
 pub use rules::Lexer;
+pub use terminals::{Terminals, read_terminals};
 pub use token::Tokens;

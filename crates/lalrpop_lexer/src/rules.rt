@@ -1,11 +1,13 @@
 //! A lexer: built once, run over many texts.
 
-ghost use Rattle.std.specs.Prelude.{◌≡◌, ℕ, ◌≤◌, ◌++◌, List, Option, Result, map, length, None, IfOk, OnOk, IfErr, IfSome, IfNone};
+ghost use Rattle.std.specs.Prelude.{◌≡◌, ℕ, ◌+◌, ◌*◌, ◌≤◌, ◌++◌, List, Option, Result, map, length, None, IfOk, OnOk, IfErr, IfSome, IfNone, Some, true, slice_get, ◌<◌, ◌↔◌};
 ghost use Rattle.std.specs.Iterator.{Drains, Yields};
 ghost use Rattle.std.specs.Str.{chars};
 ghost use Rattle.lalrpop_book.specs.Clash.{NoClash};
 ghost use Rattle.lalrpop_book.specs.Report.{NoFault, IsReport};
 ghost use Rattle.lalrpop_book.specs.Longest.{IsLongest};
+ghost use Rattle.lalrpop_table.specs.Lookahead.{IsLookahead, IsSettledAfter, LooksAtMost, StaysOpenEver};
+ghost use Rattle.lalrpop_lexer.specs.Counting.{Counting, GivesCounted, counting_of};
 ghost use Rattle.lalrpop_lexer.specs.Cutting.{Cutting, start_of, rest_of};
 ghost use Rattle.lalrpop_book.specs.Tokens.{slices};
 ghost use Rattle.lalrpop_lexer.specs.LexerTokens.{GivesToken};
@@ -14,13 +16,15 @@ ghost use Rattle.lalrpop_lexer.specs.Rules.{IsBuiltFrom};
 ghost use Rattle.lalrpop_book.specs.declared.token.Token.{Token as TokenValue};
 ghost use Rattle.lalrpop_book.specs.declared.token.TokenFault.{TokenFault as FaultValue};
 
-use crate::cut;
+use crate::counted::CountedTokens;
 use crate::lexer_token::LexerTokens;
+use crate::token::Tokens;
 use lalrpop_book::Token;
-use lalrpop_dfa::interpret::interpret;
-use lalrpop_dfa::{Dfa, DfaConstructionError, Precedence, build_dfa};
+use lalrpop_dense::DenseDfa;
+use lalrpop_dfa::lookahead::{lookahead, open_patterns};
+use lalrpop_dfa::{DfaConstructionError, Precedence, build_dfa};
 use lalrpop_re::Regex;
-use std::alloc::Global;
+use std::alloc::{AllocError, Global};
 use std::marker::Model;
 
 /// Patterns with their precedences, and the automaton of both.
@@ -31,7 +35,7 @@ use std::marker::Model;
 pub struct Lexer {
     regexs: Vec<Regex>,
     precedences: Vec<Precedence>,
-    dfa: Dfa,
+    dense: DenseDfa,
 }
 
 impl Model for Lexer {
@@ -44,10 +48,14 @@ impl Model for Lexer {
     ghost coded = { rules_code };
 
     ghost view = { λ l.
-        record { trees = l.regexs.items; precedences = map (λ p. p.0) l.precedences.items } };
+        record {
+          trees = l.regexs.items;
+          precedences = map (λ p. p.0) l.precedences.items;
+          automaton = l.dense;
+        } };
 
     ghost invariant = { λ l.
-        IsBuiltFrom l.regexs.items (map (λ p. p.0) l.precedences.items) l.dfa };
+        IsBuiltFrom l.regexs.items (map (λ p. p.0) l.precedences.items) l.dense };
 }
 
 impl Lexer {
@@ -74,10 +82,11 @@ impl Lexer {
             (λ e. IsReport regexs.items (map (λ p. p.0) precedences.items) e) }
     {
         let dfa = build_dfa(alloc, &regexs, &precedences)?;
+        let dense = DenseDfa::new(alloc, dfa)?;
         Ok(Lexer {
             regexs,
             precedences,
-            dfa,
+            dense,
         })
     }
 
@@ -95,7 +104,7 @@ impl Lexer {
             IsToken self.now.trees self.now.precedences text.now 0 token) }
         ensures none { IfNone result (IsLongest self.now.trees self.now.precedences text.now None) }
     {
-        match interpret(&self.dfa, text) {
+        match self.dense.longest(text) {
             Some(found) => Some(Token {
                 index: found.0,
                 slice: found.1,
@@ -111,6 +120,7 @@ impl Lexer {
     /// No memory is taken, and there are at most as many tokens and faults as the text has characters.
     pub fn tokens<'text>(&'text self, text: &'text str) -> LexerTokens<'text>
         ensures start { result ≡ start_of result.automaton text.now }
+        ensures automaton { result.automaton ≡ self.now.automaton }
         ensures built { IsBuiltFrom self.now.trees self.now.precedences result.automaton }
         ensures tokens { (xs : List (Result TokenValue FaultValue)) → Drains GivesToken result xs
             → AreTokens self.now.trees self.now.precedences text.now 0 xs }
@@ -121,6 +131,52 @@ impl Lexer {
         ensures fused { (s t u : Cutting) (x : Option (Result TokenValue FaultValue))
             → GivesToken s None t → GivesToken t x u → x ≡ None }
     {
-        LexerTokens::new(cut::tokens(&self.dfa, text))
+        LexerTokens::new(Tokens::new(&self.dense, text))
+    }
+
+    /// The tokens of `tokens`, with a step counted for each character that is read, as often as it is read: where at most n
+    /// characters after a match leave it open, a whole text costs at most n + 2 steps a character.
+    ///
+    /// No memory is taken. When it runs it is `tokens`: the steps are for contracts alone.
+    pub fn tokens_counted<'text>(&'text self, text: &'text str) -> CountedTokens<'text>
+        ensures start { result ≡ counting_of self.now.automaton text.now }
+        ensures tokens { (xs : List (Result TokenValue FaultValue)) → Drains GivesCounted result xs
+            → AreTokens self.now.trees self.now.precedences text.now 0 xs }
+        ensures cost { (xs : List (Result TokenValue FaultValue)) (s : Counting)
+            → Yields GivesCounted result xs s → (n : ℕ) → LooksAtMost self.now.automaton n
+            → s.steps ≤ (n + 2) * length (chars text.now) }
+    {
+        CountedTokens::new(self.tokens(text))
+    }
+
+    /// The greatest number of characters that can follow a match and leave it open whether a longer one comes; nothing
+    /// where there is no greatest.
+    ///
+    /// Where it is n, no token is decided by looking more than n + 1 characters past its end.
+    ///
+    /// # Errors
+    ///
+    /// `AllocError` where a request for memory was refused.
+    pub fn lookahead(&self, alloc: Global) -> Result<Option<usize>, AllocError>
+        ensures answer { IfOk result (λ found. IsLookahead self.now.automaton found) }
+        ensures settled { IfOk result (λ found.
+            IfSome found (λ n. IsSettledAfter self.now.trees n)) }
+    {
+        lookahead(alloc, self.dense.dfa())
+    }
+
+    /// For each pattern, in the order of their places, whether a token by it can stay open for ever: there is no number of
+    /// characters that settles that no longer one comes. Where `lookahead` gives a number none is, else one is.
+    ///
+    /// # Errors
+    ///
+    /// `AllocError` where a request for memory was refused.
+    pub fn open_patterns(&self, alloc: Global) -> Result<Vec<bool>, AllocError>
+        ensures same_length { IfOk result (λ found.
+            length found.items ≡ length self.now.trees) }
+        ensures each { IfOk result (λ found. (i : ℕ) → i < length self.now.trees
+            → (slice_get found.items i ≡ Some true) ↔ StaysOpenEver self.now.automaton i) }
+    {
+        open_patterns(alloc, self.dense.dfa(), self.regexs().len())
     }
 }

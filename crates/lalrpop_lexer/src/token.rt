@@ -3,8 +3,9 @@
 ghost use Rattle.std.specs.Prelude.{◌≡◌};
 
 use lalrpop_book::{NfaIndex, TokenFault};
+use lalrpop_dense::Matcher;
 use lalrpop_dfa::Dfa;
-use lalrpop_dfa::interpret::interpret;
+use lalrpop_ranges::Steps;
 use std::iter::FusedIterator;
 use std::marker::Model;
 
@@ -12,36 +13,42 @@ use std::marker::Model;
 ///
 /// It takes no memory: the tokens are slices of the text.
 #[derive(Debug, Drop)]
-pub struct Tokens<'text> {
-    dfa: &'text Dfa,
+pub struct Tokens<'text, M: Matcher = Dfa> {
+    matcher: &'text M,
     text: &'text str,
     // The rest of the text begins here.
     at: usize,
     is_over: bool,
 }
 
-impl<'text> Model for Tokens<'text> {
+impl<'text, M: Matcher> Model for Tokens<'text, M> {
     ghost use Rattle.std.specs.Str.{IsCharBoundary};
     ghost use Rattle.lalrpop_lexer.specs.Cutting.{Cutting};
 
     ghost Value = { Cutting };
 
     ghost view = { λ t.
-        record { automaton = t.dfa.now; text = t.text.now; at = t.at; is_over = t.is_over } };
+        record {
+          automaton = M.rows t.matcher.now;
+          text = t.text.now;
+          at = t.at;
+          is_over = t.is_over;
+        } };
 
     ghost invariant = { λ t. IsCharBoundary t.text.now t.at };
 }
 
-impl<'text> Tokens<'text> {
-    ghost use Rattle.std.specs.Prelude.{false};
-    ghost use Rattle.lalrpop_lexer.specs.Cutting.{start_of, rest_of};
+impl<'text, M: Matcher> Tokens<'text, M> {
+    ghost use Rattle.std.specs.Prelude.{false, ℕ, ◌+◌, ◌*◌, ◌≤◌, ◌<◌, OnSome};
+    ghost use Rattle.lalrpop_table.specs.Lookahead.{LooksAtMost};
+    ghost use Rattle.lalrpop_lexer.specs.Cutting.{start_of, rest_of, GivesItem, left_of};
 
     // The text as it is before the first token.
-    pub(crate) fn new(dfa: &'text Dfa, text: &'text str) -> Tokens<'text>
-        ensures start { result ≡ start_of dfa.now text.now }
+    pub(crate) fn new(matcher: &'text M, text: &'text str) -> Tokens<'text, M>
+        ensures start { result ≡ start_of (M.rows matcher.now) text.now }
     {
         Tokens {
-            dfa,
+            matcher,
             text,
             at: 0,
             is_over: false,
@@ -61,23 +68,22 @@ impl<'text> Tokens<'text> {
     {
         &self.text[self.at..]
     }
-}
 
-impl<'text> Iterator for Tokens<'text> {
-    ghost use Rattle.std.specs.Iterator.{at_most};
-    ghost use Rattle.lalrpop_lexer.specs.Cutting.{GivesItem, left_of};
-
-    type Item = Result<(NfaIndex, &'text str), TokenFault>;
-
-    ghost next_gives = { GivesItem };
-
-    ghost remaining = { λ s. at_most (left_of s) };
-
-    fn next(&mut self) -> Option<Result<(NfaIndex, &'text str), TokenFault>> {
+    // What `next` gives. A step is counted for each character that is read.
+    pub(crate) fn next_counted(
+        &mut self,
+        steps: &mut Steps,
+    ) -> Option<Result<(NfaIndex, &'text str), TokenFault>>
+        ensures gives { GivesItem self.old result self.new }
+        ensures goes { OnSome result (left_of self.new < left_of self.old) }
+        ensures never_falls { steps.old ≤ steps.new }
+        ensures paid { (n : ℕ) → LooksAtMost self.old.automaton n
+            → steps.new + (n + 2) * left_of self.new ≤ steps.old + (n + 2) * left_of self.old }
+    {
         if self.is_over || self.at == self.text.len() {
             return None;
         }
-        match interpret(self.dfa, &self.text[self.at..]) {
+        match self.matcher.longest_match(&self.text[self.at..], steps) {
             Some(found) => {
                 self.at += found.1.len();
                 Some(Ok(found))
@@ -90,4 +96,19 @@ impl<'text> Iterator for Tokens<'text> {
     }
 }
 
-impl<'text> FusedIterator for Tokens<'text> {}
+impl<'text, M: Matcher> Iterator for Tokens<'text, M> {
+    ghost use Rattle.std.specs.Iterator.{at_most};
+    ghost use Rattle.lalrpop_lexer.specs.Cutting.{GivesItem, left_of};
+
+    type Item = Result<(NfaIndex, &'text str), TokenFault>;
+
+    ghost next_gives = { GivesItem };
+
+    ghost remaining = { λ s. at_most (left_of s) };
+
+    fn next(&mut self) -> Option<Result<(NfaIndex, &'text str), TokenFault>> {
+        self.next_counted(&mut Steps::new())
+    }
+}
+
+impl<'text, M: Matcher> FusedIterator for Tokens<'text, M> {}

@@ -2,3 +2,4 @@
 pub mod Dfa
 mod SameAutomata
 mod Counts
+mod Lookahead

@@ -50,16 +50,16 @@ says_of d ts ps w state r seen k h reached at is kind =
 pub reject_at : (d : List Row) (state : ℕ) (r : Row) (seen : Kind) → slice_get d state ≡ Some r → seen ≡ r.kind → seen ≡ Reject → IsReject d state
 reject_at d state r seen at is kind = subst (λ o. IsSomeAnd o (λ x. x.kind ≡ Reject)) (sym at) (sym is ∙ kind)
 
-stays_reject : (d : List Row) (ts : List Tree) (ps : List ℕ) (p : ℕ) (w : List ℕ) → Recognizes d ts ps → IsReject d p → IsReject d (run d p w)
+pub stays_reject : (d : List Row) (ts : List Tree) (ps : List ℕ) (p : ℕ) (w : List ℕ) → Recognizes d ts ps → IsReject d p → IsReject d (run d p w)
 stays_reject d ts ps p [] h r = r
 stays_reject d ts ps p (c ∷ w) h r = stays_reject d ts ps (step d p c) w h (h.stays p c r)
 
-unmatched : (ts : List Tree) (ps w : List ℕ) (o : Option Row) → IsSomeAnd o (λ r. r.kind ≡ Reject) → IsSomeAnd o (λ r. IsRightKind ts ps w r.kind) → ¬ Matched ts w
+pub unmatched : (ts : List Tree) (ps w : List ℕ) (o : Option Row) → IsSomeAnd o (λ r. r.kind ≡ Reject) → IsSomeAnd o (λ r. IsRightKind ts ps w r.kind) → ¬ Matched ts w
 unmatched ts ps w None r s = absurd r
 unmatched ts ps w (Some x) r s = subst (IsRightKind ts ps w) r s
 
 -- after a reject state no tree matches
-none_after : (d : List Row) (ts : List Tree) (ps v w : List ℕ) (state : ℕ) → Recognizes d ts ps → state ≡ after d v → IsReject d state → ¬ Matched ts (v ++ w)
+pub none_after : (d : List Row) (ts : List Tree) (ps v w : List ℕ) (state : ℕ) → Recognizes d ts ps → state ≡ after d v → IsReject d state → ¬ Matched ts (v ++ w)
 none_after d ts ps v w state h reached r =
     let there : after d (v ++ w) ≡ run d state w = run_append d 0 v w ∙ ap (λ p. run d p w) (sym reached) in
     unmatched ts ps (v ++ w) (slice_get d (after d (v ++ w))) (subst (IsReject d) (sym there) (stays_reject d ts ps state w h r)) (h.kinds (v ++ w))

@@ -2,3 +2,4 @@
 pub mod Written
 pub mod SameLaws
 pub mod Stored
+pub mod Marks

@@ -6,6 +6,7 @@ pub use Rattle.lalrpop_book.specs.Winners
 pub use Rattle.lalrpop_book.specs.Longest
 pub mod Dfa
 pub mod Counts
+pub mod Lookahead
 pub mod SameAutomata
 -- what private functions promise one another, which no promise to a caller names
 pub mod Internal

@@ -8,6 +8,7 @@
 mod clone;
 mod equality;
 pub mod interpret;
+pub mod lookahead;
 mod rows;
 mod search;
 

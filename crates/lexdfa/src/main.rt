@@ -12,7 +12,7 @@ use std::io::{self, ErrorKind, Read, Write};
 use std::process::ExitCode;
 use std::rt::Env;
 
-// An argument that is no text is an error of `args`, and so is out of memory.
+// An argument that isn't UTF-8 is an error of `args`, and so is out of memory.
 fn without_arguments(error: &io::Error) -> Failure
     ensures memory { error_kind error.now ≡ ErrorKind.OutOfMemory
         → result ≡ Failure.Run RunError.OutOfMemory }

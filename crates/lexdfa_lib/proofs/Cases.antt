@@ -4,9 +4,6 @@ mod Status
 mod Ending
 mod Word
 mod Printed
-mod Lines
-mod Line
-mod Terminals
 mod Answer
 mod Whole
 mod Words

@@ -3,9 +3,6 @@ pub mod Status
 pub mod Ending
 pub mod Word
 pub mod Printed
-pub mod Lines
-pub mod Line
-pub mod Terminals
 pub mod Answer
 pub mod Whole
 pub mod Words

@@ -2,21 +2,20 @@
 ghost use Rattle.std.specs.Prelude.{◌≡◌, ◌≢◌, ℕ, List, false, true, map, length, IfOk, OnOk, IfErr, OnErr};
 ghost use Rattle.std.specs.Io.KnownBytes.{Appends};
 ghost use Rattle.lexdfa_lib.specs.Answer.{IsOutcome, ReadsOutcome, WritesPrefix};
-ghost use Rattle.lexdfa_lib.specs.Lines.{lines};
+ghost use Rattle.lalrpop_lexer.specs.Lines.{lines};
 ghost use Rattle.lexdfa_lib.specs.Printed.{line_of};
-ghost use Rattle.lexdfa_lib.specs.Terminals.{AreTerminals};
+ghost use Rattle.lalrpop_lexer.specs.Terminals.{AreTerminals};
 ghost use Rattle.lexdfa_lib.specs.Watch.{AppendsPrefix};
 ghost use Rattle.lexdfa_lib.specs.declared.outcome.Outcome.{Outcome};
 
 use crate::ends::{read_whole, write_whole};
 use crate::error::RunError;
-use crate::longest::longest_match;
 use crate::outcome::{Outcome, outcome_line};
 use crate::report::reported;
-use crate::terminals::{Terminals, read_terminals};
 use crate::watched::Watched;
 use lalrpop_lexer::lexer::dfa::Precedence;
 use lalrpop_lexer::lexer::re::Regex;
+use lalrpop_lexer::{Terminals, longest_match, read_terminals};
 use std::alloc::{AllocError, Global};
 use std::io::{Read, Write};
 

@@ -3,21 +3,20 @@ ghost use Rattle.std.specs.Prelude.{◌≡◌, ◌++◌, ℕ, List, length, map,
 ghost use Rattle.lalrpop_book.specs.Tree.{Tree};
 ghost use Rattle.lalrpop_lexer.specs.Dfa.{Recognizes};
 ghost use Rattle.lexdfa_lib.specs.Answer.{IsReported, HaveAutomaton};
-ghost use Rattle.lexdfa_lib.specs.Lines.{lines};
+ghost use Rattle.lalrpop_lexer.specs.Lines.{lines};
 ghost use Rattle.lexdfa_lib.specs.Printed.{line_of};
-ghost use Rattle.lexdfa_lib.specs.Terminals.{AreTerminals};
+ghost use Rattle.lalrpop_lexer.specs.Terminals.{AreTerminals};
 ghost use Rattle.lexdfa_lib.specs.Whole.{Token, Cuts, AreAnswers, token_line};
 ghost use Rattle.lexdfa_lib.specs.declared.outcome.Outcome.{Outcome};
 
 use crate::outcome::{Outcome, outcome_line};
 use crate::report::reported;
-use crate::terminals::{Terminals, read_terminals};
 use lalrpop_lexer::lexer::dfa::{Dfa, NfaIndex, Precedence, build_dfa};
 use lalrpop_lexer::lexer::re::Regex;
-use lalrpop_lexer::tokens;
+use lalrpop_lexer::{Terminals, read_terminals, tokens};
 use std::alloc::{AllocError, Global};
 
-/// What is found of a whole text, and all lines that tell it.
+/// What is found in a whole text, and all its lines.
 #[derive(Drop)]
 pub(crate) struct Answers {
     pub(crate) outcome: Outcome,

@@ -19,7 +19,7 @@ pub enum RunError {
 }
 
 impl RunError {
-    /// The exit status that tells of the error: 5 for memory, 6 for an end that failed.
+    /// The exit status: 5 for out of memory, 6 for a stream that failed.
     pub fn status(&self) -> u8
         ensures status { result ≡ error_status self.now }
     {

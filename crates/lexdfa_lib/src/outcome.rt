@@ -1,4 +1,4 @@
-//! What a run finds, and the line that tells it.
+//! What a run finds, and its line.
 ghost use Rattle.std.specs.Prelude.{◌≡◌, IfOk, string_bytes};
 ghost use Rattle.lexdfa_lib.specs.Status.{outcome_status};
 ghost use Rattle.lexdfa_lib.specs.Printed.{name_of, line_of};
@@ -10,18 +10,18 @@ use std::alloc::{AllocError, Global};
 /// What a run found. Terminals and lines are numbered from 0.
 #[derive(Debug, PartialEq, Eq, Drop)]
 pub enum Outcome {
-    /// The terminal's match is the longest, and has so many bytes.
+    /// This terminal has the longest match, of this many bytes.
     Match {
         terminal: usize,
         bytes: usize,
     },
     /// No terminal matches a nonempty prefix of the text.
     NoMatch,
-    /// The whole text was cut into so many tokens.
+    /// The whole text was cut into this many tokens.
     All {
         tokens: usize,
     },
-    /// Behind so many tokens, no terminal matches a nonempty prefix of the rest, which begins at this byte of the text.
+    /// Behind this many tokens, no terminal matches a nonempty prefix of the rest, which begins at this byte of the text.
     Stopped {
         tokens: usize,
         at: usize,
@@ -37,18 +37,18 @@ pub enum Outcome {
         match1: usize,
         word: Word,
     },
-    /// The terminal's pattern is none.
+    /// The terminal's pattern doesn't parse.
     Syntax {
         terminal: usize,
     },
-    /// The line is no terminal.
+    /// The line has another form.
     Line {
         line: usize,
     },
 }
 
 impl Outcome {
-    /// The exit status that tells of the outcome: 0 for a match and for all tokens of a text, 1 where nothing matches the text
+    /// The exit status: 0 for a match and for all tokens of a text, 1 where nothing matches the text
     /// or its rest, 2 where no automaton was made, 3 where the input is wrong.
     pub fn status(&self) -> u8
         ensures status { result ≡ outcome_status self.now }
@@ -96,7 +96,7 @@ pub fn clash_line(
     format!(in alloc; "ambiguous {match0} {match1}{word}\n")
 }
 
-/// The line that tells the outcome, with its line feed. It is empty for `All`, whose tokens have a line each.
+/// The line of the outcome, with its line feed. It is empty for `All`, whose tokens have a line each.
 ///
 /// # Errors
 ///

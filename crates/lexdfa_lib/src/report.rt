@@ -3,8 +3,8 @@ ghost use Rattle.std.specs.Prelude.{◌≡◌, ℕ, List, IfOk, OnErr};
 ghost use Rattle.lalrpop_book.specs.Tree.{Tree};
 ghost use Rattle.lalrpop_lexer.specs.Report.{IsReport};
 ghost use Rattle.lexdfa_lib.specs.Answer.{IsReported};
-ghost use Rattle.lexdfa_lib.specs.Lines.{lines};
-ghost use Rattle.lexdfa_lib.specs.Terminals.{AreTerminals};
+ghost use Rattle.lalrpop_lexer.specs.Lines.{lines};
+ghost use Rattle.lalrpop_lexer.specs.Terminals.{AreTerminals};
 
 use crate::outcome::Outcome;
 use crate::word::Word;

@@ -1,8 +1,7 @@
-//! A text is cut in three ways, which find the same.
+//! A text is cut in four ways, which find the same.
 
 use crate::lists::List;
-use lalrpop_lexer::lexer::dfa::interpret::interpret;
-use lalrpop_lexer::lexer::dfa::{Dfa, NfaIndex};
+use lalrpop_lexer::lexer::dfa::{DenseDfa, Dfa, Matcher, NfaIndex};
 use lalrpop_lexer::{Lexer, tokens};
 use std::alloc::Global;
 
@@ -11,14 +10,17 @@ use std::alloc::Global;
 pub(crate) enum Way {
     /// By a loop over `interpret`, which skips a character where nothing matches.
     Loop,
+    /// By the same loop over the table of the automaton.
+    Table,
     /// By the tokens of an automaton, which end where nothing matches.
     Tokens,
     /// By the tokens of a lexer, which end there too.
     Lexer,
 }
 
-pub(crate) const WAYS: [(Way, &str); 3] = [
+pub(crate) const WAYS: [(Way, &str); 4] = [
     (Way::Loop, "loop"),
+    (Way::Table, "table"),
     (Way::Tokens, "tokens"),
     (Way::Lexer, "lexer"),
 ];
@@ -56,10 +58,11 @@ impl Cut {
     }
 }
 
-/// The same patterns as an automaton and as a lexer.
+/// The same patterns as an automaton, as a table and as a lexer.
 #[derive(Drop)]
 pub(crate) struct Cutters {
     dfa: Dfa,
+    dense: DenseDfa,
     lexer: Lexer,
 }
 
@@ -75,12 +78,14 @@ impl Cutters {
             return None;
         }
         let lexer = Lexer::new(alloc, patterns, precedences).ok()?;
-        Some(Cutters { dfa, lexer })
+        let dense = DenseDfa::new(alloc, dfa.clone().ok()?).ok()?;
+        Some(Cutters { dfa, dense, lexer })
     }
 
     pub(crate) fn cut(&self, way: Way, text: &str) -> Cut {
         match way {
             Way::Loop => cut_by_loop(&self.dfa, text),
+            Way::Table => cut_by_loop(&self.dense, text),
             Way::Tokens => cut_by_tokens(&self.dfa, text),
             Way::Lexer => cut_by_lexer(&self.lexer, text),
         }
@@ -92,14 +97,14 @@ fn behind(text: &str, length: usize) -> &str {
     text.get(length..).unwrap_or("")
 }
 
-fn cut_by_loop(dfa: &Dfa, text: &str) -> Cut {
+fn cut_by_loop<M: Matcher>(matcher: &M, text: &str) -> Cut {
     let mut cut = Cut::none();
     let mut rest = text;
     for _ in 0..text.len() {
         let Some(first) = rest.chars().next() else {
             break;
         };
-        rest = match interpret(dfa, rest) {
+        rest = match matcher.longest_match(rest) {
             Some((terminal, word)) => {
                 cut.add(terminal, word.len());
                 behind(rest, word.len())

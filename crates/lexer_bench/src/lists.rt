@@ -93,6 +93,20 @@ fn c_list(alloc: Global) -> Result<List, RegexError> {
     Ok(list)
 }
 
+// The terminals of JSON that no word is.
+const JSON_PATTERNS: [&str; 3] = [
+    "\"([^\"\\\\\\x00-\\x1f]|\\\\.)*\"",
+    "-?(0|[1-9][0-9]*)(\\.[0-9]+)?([eE][-+]?[0-9]+)?",
+    "[ \\t\\n\\r]+",
+];
+
+fn json_list(alloc: Global) -> Result<List, RegexError> {
+    let mut list = List::new(alloc);
+    list.words(&["{", "}", "[", "]", ":", ",", "true", "false", "null"])?;
+    list.patterns(&JSON_PATTERNS)?;
+    Ok(list)
+}
+
 // Ten terminals that clash with those of C: five keywords once more, and five patterns with words that others have.
 const PLANTED_WORDS: [&str; 5] = ["while", "return", "++", "<<=", "_Bool"];
 
@@ -202,7 +216,8 @@ fn list_of_rows(alloc: Global, name: &str) -> Result<Option<List>, RegexError> {
 /// The list of this name.
 pub(crate) fn list_named(alloc: Global, name: &str) -> Result<Option<List>, RegexError> {
     match name {
-        "c" => Ok(Some(c_list(alloc)?)),
+        "c" | "long" => Ok(Some(c_list(alloc)?)),
+        "json" => Ok(Some(json_list(alloc)?)),
         "unicode" => Ok(Some(unicode_list(alloc)?)),
         "c and ten clashes" => Ok(Some(c_and_clashes(alloc)?)),
         "equal 1000" => Ok(Some(equal_words(alloc, 1_000)?)),

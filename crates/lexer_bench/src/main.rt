@@ -11,7 +11,9 @@ mod patterns;
 mod texts;
 
 use cuts::{Cut, Cutters, WAYS};
-use lalrpop_lexer::lexer::dfa::{Dfa, DfaStateIndex, Kind, START, State, build_dfa, clashes};
+use lalrpop_lexer::lexer::dfa::{
+    DenseDfa, Dfa, DfaStateIndex, Kind, START, State, build_dfa, clashes,
+};
 use lalrpop_lexer::lexer::nfa::Test;
 use lalrpop_lexer::lexer::re::RegexError;
 use lists::{List, list_named};
@@ -21,11 +23,13 @@ use std::alloc::{AllocError, Global};
 use std::rt::Env;
 use std::time::{CpuClock, Duration};
 use std::{env, io};
-use texts::{c_text, unicode_text};
+use texts::{c_text, json_text, long_text, unicode_text};
 
 // Without an argument, these.
-const LISTS: [&str; 6] = [
+const LISTS: [&str; 8] = [
     "c",
+    "long",
+    "json",
     "unicode",
     "words 100",
     "words 1000",
@@ -195,10 +199,44 @@ fn tell_shape<R: Print + AllocGlobal>(rt: &R, dfa: &Dfa) -> io::Result<()> {
     println!(rt; "  {states} states, {edges} edges, sum {sum:x}")
 }
 
+// Whether a table of a copy of the automaton is made, and the time that making it takes.
+fn table_of<R: CpuClock + AllocGlobal>(rt: &R, dfa: &Dfa) -> io::Result<(bool, Duration)> {
+    let Ok(copy) = dfa.clone() else {
+        return Ok((false, Duration::ZERO));
+    };
+    let from = rt.process_cpu_time()?;
+    let dense = DenseDfa::new(rt.alloc(), copy);
+    let spent = rt.process_cpu_time()?.saturating_sub(from);
+    match dense {
+        Ok(dense) => Ok((dense.has_table(), spent)),
+        Err(_) => Ok((false, spent)),
+    }
+}
+
+fn tell_table<R: CpuClock + Print + AllocGlobal>(
+    rt: &R,
+    dfa: &Dfa,
+    is_timed: bool,
+) -> io::Result<()> {
+    let (has_table, first) = table_of(rt, dfa)?;
+    println!(rt; "  {} table", if has_table { "a" } else { "no" })?;
+    if !is_timed {
+        return Ok(());
+    }
+    let mut least = first;
+    for _ in 1..BUILDS {
+        least = least.min(table_of(rt, dfa)?.1);
+    }
+    tell_time(rt, "first table", first)?;
+    tell_time(rt, "least table", least)
+}
+
 // The text that a list is to cut, where there is one.
 fn text_for(alloc: Global, name: &str) -> Result<Option<String>, AllocError> {
     match name {
         "c" => Ok(Some(c_text(alloc)?)),
+        "long" => Ok(Some(long_text(alloc)?)),
+        "json" => Ok(Some(json_text(alloc)?)),
         "unicode" => Ok(Some(unicode_text(alloc)?)),
         _ => Ok(None),
     }
@@ -254,6 +292,7 @@ fn tell_automaton<R: CpuClock + Print + AllocGlobal>(
     match build(rt.alloc(), &list) {
         Some(dfa) => {
             tell_shape(rt, &dfa)?;
+            tell_table(rt, &dfa, is_timed)?;
             tell_text(rt, name, dfa, list, is_timed)
         }
         None => println!(rt; "  no automaton"),

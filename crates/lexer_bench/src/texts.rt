@@ -116,6 +116,63 @@ pub(crate) fn c_text(alloc: Global) -> Result<String, AllocError> {
     Ok(text)
 }
 
+const COMMENTS: [&str; 3] = [
+    "/* A node has a left and a right part, and the parts of a node are nodes again. */",
+    "// Goes from the root to a leaf, and counts the nodes that it meets on the way down.",
+    "/* What is said here takes several lines:\n * the list ascends,\n * and nothing is twice in it.\n */",
+];
+
+const STRINGS: [&str; 2] = [
+    "\"a file of this name is there already, and is not written over\"",
+    "\"usage: cut [-n] RULES FILE, where RULES has a line for each terminal\\n\"",
+];
+
+/// A text of C whose tokens are long comments, long strings and names.
+pub(crate) fn long_text(alloc: Global) -> Result<String, AllocError> {
+    let mut numbers = Numbers { state: 3 };
+    let mut text = String::new(alloc);
+    for _ in 0..LENGTH {
+        if text.len() >= LENGTH {
+            break;
+        }
+        match numbers.below(4) {
+            0 => text.push_str(numbers.one_of(&COMMENTS))?,
+            1 => text.push_str(numbers.one_of(&STRINGS))?,
+            _ => text.push_str(numbers.one_of(&NAMES))?,
+        }
+        text.push_str("\n        ")?;
+    }
+    Ok(text)
+}
+
+fn push_json_value(numbers: &mut Numbers, text: &mut String) -> Result<(), AllocError> {
+    match numbers.below(6) {
+        0 => text.push_str("true"),
+        1 => text.push_str("null"),
+        2 => text.push_str("-12.5e3"),
+        3 => text.push_str("1024"),
+        4 => text.push_str("[1, 2, 3]"),
+        _ => text.push_str("\"a value\\twith an escape\""),
+    }
+}
+
+/// A text of the tokens of JSON: names, and values of all kinds.
+pub(crate) fn json_text(alloc: Global) -> Result<String, AllocError> {
+    let mut numbers = Numbers { state: 4 };
+    let mut text = String::new(alloc);
+    for _ in 0..LENGTH {
+        if text.len() >= LENGTH {
+            break;
+        }
+        text.push_str("{\"")?;
+        text.push_str(numbers.one_of(&NAMES))?;
+        text.push_str("\": ")?;
+        push_json_value(&mut numbers, &mut text)?;
+        text.push_str("},\n  ")?;
+    }
+    Ok(text)
+}
+
 /// A text of keywords, and of names in the letters of many scripts.
 pub(crate) fn unicode_text(alloc: Global) -> Result<String, AllocError> {
     let mut numbers = Numbers { state: 2 };

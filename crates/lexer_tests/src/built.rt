@@ -40,7 +40,8 @@ fn add_tree(alloc: Global, trees: &mut Vec<Hir>, word: &str) -> Result<(), Alloc
     Ok(())
 }
 
-fn trees_of(alloc: Global, words: &str) -> Result<Vec<Hir>, AllocError> {
+/// The trees of words that spaces part.
+pub(crate) fn trees_of(alloc: Global, words: &str) -> Result<Vec<Hir>, AllocError> {
     let mut trees = Vec::new(alloc);
     for word in words.split_whitespace() {
         add_tree(alloc, &mut trees, word)?;

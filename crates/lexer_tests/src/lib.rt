@@ -14,6 +14,8 @@ mod cutting;
 #[cfg(test)]
 mod equality;
 #[cfg(test)]
+mod lookaheads;
+#[cfg(test)]
 mod order;
 #[cfg(test)]
 mod printed;
@@ -23,3 +25,5 @@ mod ranges;
 mod runs;
 #[cfg(test)]
 mod shapes;
+#[cfg(test)]
+mod tables;

@@ -3,7 +3,7 @@
 use crate::shared::{expect_same, terminals};
 use lalrpop_lexer::lexer::dfa::{DfaConstructionError, Precedence};
 use lalrpop_lexer::lexer::re::{Class, ClassBytes, ClassBytesRange, Hir, Regex};
-use lexdfa_lib::longest_match;
+use lalrpop_lexer::longest_match;
 use std::alloc::{AllocError, Global};
 use std::process::Abort;
 

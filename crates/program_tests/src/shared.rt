@@ -3,7 +3,8 @@ ghost use Rattle.std.specs.Prelude.{◌≡◌, false};
 
 use lalrpop_lexer::lexer::dfa::Precedence;
 use lalrpop_lexer::lexer::re::Regex;
-use lexdfa_lib::{Outcome, RunError, Terminals, Watched, read_terminals, run, run_all};
+use lalrpop_lexer::{Terminals, read_terminals};
+use lexdfa_lib::{Outcome, RunError, Watched, run, run_all};
 use std::alloc::Global;
 use std::io::{Read, Write};
 use std::process::Abort;

@@ -5,8 +5,8 @@ use Rattle.lalrpop_book.specs.Tree.{Tree}
 use Rattle.lalrpop_lexer.proofs.ClashListLaws.{first_is_clash}
 use Rattle.lalrpop_lexer.specs.Clashes.{Entry, AreClashes}
 use Rattle.lalrpop_lexer.specs.Report.{NoFault}
-use Rattle.lexdfa_lib.specs.Lines.{lines}
-use Rattle.lexdfa_lib.specs.Terminals.{AreTerminals}
+use Rattle.lalrpop_lexer.specs.Lines.{lines}
+use Rattle.lalrpop_lexer.specs.Terminals.{AreTerminals}
 use Rattle.lexdfa_lib.specs.declared.outcome.Outcome.{Outcome}
 use Rattle.tokens_lib.specs.ClashesShown.{entry_line, first_reported, AreClashesShown}
 

@@ -6,9 +6,9 @@ use Rattle.lalrpop_book.specs.Tree.{Tree}
 use Rattle.lalrpop_lexer.specs.Clashes.{Entry, AreClashes}
 use Rattle.lalrpop_lexer.specs.Report.{NoFault}
 use Rattle.lexdfa_lib.specs.Answer.{IsReported}
-use Rattle.lexdfa_lib.specs.Lines.{lines}
+use Rattle.lalrpop_lexer.specs.Lines.{lines}
 use Rattle.lexdfa_lib.specs.Printed.{line_of}
-use Rattle.lexdfa_lib.specs.Terminals.{AreTerminals}
+use Rattle.lalrpop_lexer.specs.Terminals.{AreTerminals}
 use Rattle.lexdfa_lib.specs.Watch.{AppendsPrefix}
 use Rattle.lexdfa_lib.specs.declared.outcome.Outcome.{Outcome}
 use Rattle.lexdfa_lib.specs.declared.outcome.Outcome.TheVariants.{Ambiguous}

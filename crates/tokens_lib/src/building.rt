@@ -4,8 +4,8 @@ ghost use Rattle.lexdfa_lib.specs.Answer.{HaveAutomaton};
 ghost use Rattle.tokens_lib.specs.Building.{IsBuildError};
 ghost use Rattle.tokens_lib.specs.declared.building.BuildError.TheVariants.{OutOfMemory};
 
-use lalrpop_lexer::Lexer;
-use lexdfa_lib::{Outcome, Terminals, read_terminals, reported};
+use lalrpop_lexer::{Lexer, Terminals, read_terminals};
+use lexdfa_lib::{Outcome, reported};
 use std::alloc::{AllocError, Global};
 use thiserror::Error;
 

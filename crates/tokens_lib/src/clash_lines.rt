@@ -2,15 +2,14 @@
 ghost use Rattle.std.specs.Prelude.{◌≡◌, ◌≢◌, ◌++◌, [], ℕ, List, Some, false, true, length, map, flat_map, string_bytes, IfOk, OnOk, IfErr};
 ghost use Rattle.lalrpop_book.specs.Tree.{Tree};
 ghost use Rattle.lalrpop_lexer.specs.Report.{IsFaultOf};
-ghost use Rattle.lexdfa_lib.specs.Lines.{lines};
-ghost use Rattle.lexdfa_lib.specs.Terminals.{AreTerminals};
+ghost use Rattle.lalrpop_lexer.specs.Lines.{lines};
+ghost use Rattle.lalrpop_lexer.specs.Terminals.{AreTerminals};
 ghost use Rattle.tokens_lib.specs.ClashesShown.{entry_line, first_reported, AreClashesShown, WritesClashes, WritesClashesPrefix};
 
 use lalrpop_lexer::lexer::dfa::{Clash, DfaConstructionError, Precedence, clashes};
 use lalrpop_lexer::lexer::re::Regex;
-use lexdfa_lib::{
-    Outcome, RunError, Terminals, Watched, Word, clash_line, read_terminals, write_whole,
-};
+use lalrpop_lexer::{Terminals, read_terminals};
+use lexdfa_lib::{Outcome, RunError, Watched, Word, clash_line, write_whole};
 use std::alloc::{AllocError, Global};
 use std::io::Write;
 
@@ -61,7 +60,7 @@ fn fault_reported(error: DfaConstructionError) -> Result<Outcome, AllocError>
             terminal: index.index(),
             error,
         }),
-        // A clash is listed and is no error.
+        // A clash is listed. It isn't an error.
         DfaConstructionError::Ambiguity { .. } | DfaConstructionError::OutOfMemory => {
             Err(AllocError)
         }

@@ -4,7 +4,7 @@ ghost use Rattle.tokens_lib.specs.Quoted.{short_escape, told, quoted};
 
 use std::alloc::{AllocError, Global};
 
-// What stands for a character that is told by a backslash and one character.
+// The escape of a character, if it has a short one.
 fn short_escape(c: char) -> Option<&'static str>
     ensures { option_map (λ escape. escape.now) result ≡ short_escape c }
 {
@@ -32,7 +32,7 @@ pub(crate) fn push_told(text: &mut String, c: char) -> Result<(), AllocError>
     text.push(c)
 }
 
-/// The slice between quotes, where quotes, backslashes and control characters are told by what begins with a backslash.
+/// The slice between quotes. Quotes, backslashes and control characters are escaped by a backslash.
 ///
 /// # Errors
 ///

@@ -11,7 +11,7 @@ use lexdfa_lib::{Outcome, RunError, Watched, write_whole};
 use std::alloc::{AllocError, Global};
 use std::io::Write;
 
-// Lines are written where there are so many bytes of them.
+// Lines are written once they have this many bytes.
 const CHUNK: usize = 65536;
 
 // The place of an offset, where the file is named: `FILE:LINE:COLUMN: `.

@@ -8,6 +8,7 @@ ghost use Rattle.lalrpop_book.specs.Prefix.{IsPrefix};
 ghost use Rattle.lalrpop_table.specs.Counts.{HaveAtMost};
 ghost use Rattle.lalrpop_table.specs.Dfa.{Recognizes};
 ghost use Rattle.lalrpop_book.specs.Longest.{IsLongest};
+ghost use Rattle.lalrpop_table.specs.Lookahead.{LooksAtMost};
 
 use lalrpop_items::NfaIndex;
 use lalrpop_ranges::Steps;
@@ -24,7 +25,7 @@ pub fn longest<'text>(dfa: &Dfa, text: &'text str) -> Option<(NfaIndex, &'text s
     interpret(dfa, text)
 }
 
-// Needs lalrpop_table::interpret_counted: answer, prefix, never_falls, cost.
+// Needs lalrpop_table::interpret_counted: answer, prefix, never_falls, cost, looked.
 /// Runs the automaton over two texts, on one counter.
 pub fn counted_over_two<'text>(
     dfa: &Dfa,
@@ -37,12 +38,14 @@ pub fn counted_over_two<'text>(
     ensures prefix { IfSome result (λ m. IsPrefix m.1.now second.now × (m.1.now ≢ [])) }
     ensures never_falls { steps.old ≤ steps.new }
     ensures cost { steps.new ≤ steps.old + length (chars first.now) + length (chars second.now) }
+    ensures looked { (n : ℕ) → LooksAtMost dfa.now n → IfSome result (λ m.
+        steps.new ≤ steps.old + length (chars first.now) + length (chars m.1.now) + n + 1) }
 {
     let _ = interpret_counted(dfa, first, steps);
     interpret_counted(dfa, second, steps)
 }
 
-// Needs lalrpop_table::interpret_probed: answer, prefix, never_falls, cost, probed.
+// Needs lalrpop_table::interpret_probed: answer, prefix, never_falls, cost, looked, probed.
 /// Runs the automaton over a text, and counts the ranges that are compared too.
 pub fn probed<'text>(
     dfa: &Dfa,
@@ -55,6 +58,8 @@ pub fn probed<'text>(
     ensures prefix { IfSome result (λ m. IsPrefix m.1.now text.now × (m.1.now ≢ [])) }
     ensures never_falls { (steps.old ≤ steps.new) × (probes.old ≤ probes.new) }
     ensures cost { steps.new ≤ steps.old + length (chars text.now) }
+    ensures looked { (n : ℕ) → LooksAtMost dfa.now n → IfSome result (λ m.
+        steps.new ≤ steps.old + length (chars m.1.now) + n + 1) }
     ensures probed { (n d : ℕ) → HaveAtMost dfa.now n → n < 2 ^ d
         → probes.new ≤ probes.old + length (chars text.now) * d }
 {

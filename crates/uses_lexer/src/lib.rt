@@ -6,6 +6,7 @@ pub mod count_places;
 pub mod cut_a_text;
 pub mod cut_by_automaton;
 pub mod end_a_program;
+pub mod look_ahead;
 pub mod match_a_text;
 pub mod read_lines;
 pub mod run_over_ends;

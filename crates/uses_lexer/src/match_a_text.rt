@@ -8,10 +8,10 @@ ghost use Rattle.lalrpop_lexer.specs.Winners.{IsOnlyStrongest};
 
 use lalrpop_lexer::lexer::dfa::{DfaConstructionError, Precedence};
 use lalrpop_lexer::lexer::re::Regex;
-use lexdfa_lib::longest_match;
+use lalrpop_lexer::longest_match;
 use std::alloc::Global;
 
-// Needs lexdfa_lib::longest_match: no_fault, no_clash, longest, strongest, report.
+// Needs lalrpop_lexer::longest_match: no_fault, no_clash, longest, strongest, report.
 /// The place of the pattern with the longest match, and how many bytes it matches.
 ///
 /// # Errors

@@ -1,17 +1,16 @@
 //! Terminals are read from lines, and a lexer is built of them.
 ghost use Rattle.std.specs.Prelude.{◌⊎◌, ℕ, List, IfOk, IfSome, MatchOption};
 ghost use Rattle.lalrpop_lexer.specs.Tree.{Tree};
-ghost use Rattle.lexdfa_lib.specs.Lines.{lines};
-ghost use Rattle.lexdfa_lib.specs.Terminals.{AreTerminals, FirstSays};
-ghost use Rattle.lexdfa_lib.specs.declared.meaning.Meaning.TheVariants.{Bad, NoTree};
+ghost use Rattle.lalrpop_lexer.specs.Lines.{lines};
+ghost use Rattle.lalrpop_lexer.specs.Terminals.{AreTerminals, FirstSays};
+ghost use Rattle.lalrpop_lexer.specs.declared.meaning.Meaning.TheVariants.{Bad, NoTree};
 
-use lalrpop_lexer::Lexer;
 use lalrpop_lexer::lexer::dfa::DfaConstructionError;
-use lexdfa_lib::{Terminals, read_terminals};
+use lalrpop_lexer::{Lexer, Terminals, read_terminals};
 use std::alloc::{AllocError, Global};
 
-// Needs lexdfa_lib::read_terminals: said.
-/// The first line that is no terminal, if there is one.
+// Needs lalrpop_lexer::read_terminals: said.
+/// The first bad line, if there is one.
 ///
 /// # Errors
 ///
@@ -28,7 +27,7 @@ pub fn first_wrong_line(alloc: Global, bytes: &[u8]) -> Result<Option<usize>, Al
     }
 }
 
-// Needs lexdfa_lib::read_terminals: said.
+// Needs lalrpop_lexer::read_terminals: said.
 /// The lexer of the terminals that the lines are; `None` where one of them is none.
 ///
 /// # Errors

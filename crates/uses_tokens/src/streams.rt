@@ -5,8 +5,8 @@ ghost use Rattle.lalrpop_lexer.specs.Tree.{Tree};
 ghost use Rattle.lalrpop_lexer.specs.Report.{IsReport};
 ghost use Rattle.lexdfa_lib.specs.Answer.{IsReported};
 ghost use Rattle.lexdfa_lib.specs.Ending.{ending_status};
-ghost use Rattle.lexdfa_lib.specs.Lines.{lines};
-ghost use Rattle.lexdfa_lib.specs.Terminals.{AreTerminals};
+ghost use Rattle.lalrpop_lexer.specs.Lines.{lines};
+ghost use Rattle.lalrpop_lexer.specs.Terminals.{AreTerminals};
 ghost use Rattle.lexdfa_lib.specs.Watch.{AppendsPrefix, ReadsAll};
 
 use lalrpop_lexer::lexer::dfa::DfaConstructionError;

@@ -10,7 +10,7 @@ use Rattle.lalrpop_alphabet.specs.declared.Cell.{Cell}
 use Rattle.lalrpop_items.specs.Automata.{Item}
 use Rattle.lalrpop_dfa.specs.Items.{IsLeaving}
 use Rattle.lalrpop_items.specs.declared.transitions.Transition.{Transition}
-use Rattle.lalrpop_dfa.specs.declared.room.Transitions.{Transitions}
+use Rattle.lalrpop_dfa.specs.declared.build.scratch.Transitions.{Transitions}
 use Rattle.lalrpop_dfa.specs.Internal.Blocks.{Block}
 use Rattle.lalrpop_items.specs.Internal.Transitions.{transition_cmp, AreTransitions}
 
@@ -37,12 +37,12 @@ AreGathered a items by_class = (length by_class ≡ a.count)
     × ((c : ℕ) (t : Transitions) → slice_get by_class c ≡ Some t → (l : Transition) → Contains t.list.items l ↔ (Contains items l.item × LeadsBy a l.item.0 l.item.1 c l.to))
 
 -- the cells at which labels of the items begin or are over
-abbrev pub AreCutsOf : Classes → List Item → List ℕ → Type 0
-AreCutsOf a items cuts = (k : ℕ) → Contains cuts k ↔ ((x : Item) × (Contains items x × CutsAt a x.0 x.1 k))
+abbrev pub AreBoundariesOf : Classes → List Item → List ℕ → Type 0
+AreBoundariesOf a items boundaries = (k : ℕ) → Contains boundaries k ↔ ((x : Item) × (Contains items x × CutsAt a x.0 x.1 k))
 
--- the labels that leave a set begin or are over at the cuts, and its values take the edges of their classes
-pub record IsLaidOut (ns : List Graph) (s : List Item) (cells : List Cell) (cuts : List ℕ) (by_class : List Transitions) : Type 0 where
-  pub ends : (v : ℕ) → ((r : Range) × (IsLeaving ns s r × IsEndOf r v)) ↔ ((k : ℕ) × (Contains cuts k × IsFirstOf cells k v))
+-- the labels that leave a set begin or are over at the boundaries, and its values take the edges of their classes
+pub record IsLaidOut (ns : List Graph) (s : List Item) (cells : List Cell) (boundaries : List ℕ) (by_class : List Transitions) : Type 0 where
+  pub ends : (v : ℕ) → ((r : Range) × (IsLeaving ns s r × IsEndOf r v)) ↔ ((k : ℕ) × (Contains boundaries k × IsFirstOf cells k v))
   pub taken : (k c v : ℕ) (t : Transitions) → IsInCell cells k c v → slice_get by_class c ≡ Some t → AreTransitions ns s v t.list.items
 
 -- the values of each block take the edges of its class

@@ -1,6 +1,7 @@
 //! The automaton of a list of patterns.
 
+pub use lalrpop_dense::{DenseDfa, Matcher};
 pub use lalrpop_dfa::{
     Clash, Dfa, DfaConstructionError, DfaStateIndex, Kind, NfaIndex, Precedence, START, State,
-    build_dfa, clashes, interpret, overlap,
+    build_dfa, clashes, interpret, lookahead, overlap,
 };

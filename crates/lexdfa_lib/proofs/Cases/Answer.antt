@@ -18,8 +18,8 @@ use Rattle.lexdfa_lib.specs.Printed.{line_of}
 use Rattle.lexdfa_lib.specs.declared.outcome.Outcome.{Outcome}
 use Rattle.lexdfa_lib.specs.declared.outcome.Outcome.TheVariants.{Match, NoMatch, All, Ambiguous, Syntax, Line}
 use Rattle.lexdfa_lib.proofs.Unique.{outcome-unique}
-use Rattle.lexdfa_lib.proofs.Cases.Line.{line_of_a_literal_is_not_bad, x_is_bad, line_says_no_tree, line_of_a_literal_has_a_tree, x_is_not_without_a_tree}
-use Rattle.lexdfa_lib.proofs.Cases.Terminals.{lines_are_terminals}
+use Rattle.lalrpop_lexer.proofs.Cases.Line.{line_of_a_literal_is_not_bad, x_is_bad, line_says_no_tree, line_of_a_literal_has_a_tree, x_is_not_without_a_tree}
+use Rattle.lalrpop_lexer.proofs.Cases.Terminals.{lines_are_terminals}
 
 abbrev a : Tree
 a = literal (codes "a")

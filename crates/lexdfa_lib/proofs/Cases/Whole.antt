@@ -8,7 +8,7 @@ use Rattle.lexdfa_lib.specs.Answer.{IsOutcome}
 use Rattle.lexdfa_lib.specs.Whole.{Token, Cuts, IsWhole, token_line, AreAnswers, ReadsAnswers, WritesAnswers, WritesAnswersPrefix}
 use Rattle.lexdfa_lib.specs.declared.outcome.Outcome.TheVariants.{Match, NoMatch, All, Stopped, Line}
 use Rattle.lexdfa_lib.proofs.UniqueWhole.{answers-unique}
-use Rattle.lexdfa_lib.proofs.Cases.Line.{x_is_bad}
+use Rattle.lalrpop_lexer.proofs.Cases.Line.{x_is_bad}
 use Rattle.lexdfa_lib.proofs.Cases.Answer.{no_lines_have_automaton, nothing_matches}
 
 -- ---- what trees cut a text into

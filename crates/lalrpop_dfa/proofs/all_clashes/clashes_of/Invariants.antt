@@ -7,6 +7,6 @@ use Rattle.std.proofs.Common.{map}
 
 abbrev pub invariant-loop-number : goal.invariant-loop-number
 invariant-loop-number l = record {
-  listed : AreListedTo (subset_automaton l.nfas) l.table.sets.kernels.list l.table.sets.origins.items (AreTiedIn (map (λ p. p.0) l.precedences)) l.number l.ties.clashes.items;
+  listed : AreListedTo (subset_automaton l.nfas) l.expansion-inside.sets.kernels.list l.expansion-inside.sets.origins.items (AreTiedIn (map (λ p. p.0) l.precedences)) l.number l.ties.clashes.items;
   pairs : ArePairsOf l.ties.pairs l.ties.clashes.items;
 }

@@ -7,6 +7,7 @@ use Rattle.lalrpop_book.specs.Prefix.{IsPrefix}
 use Rattle.lalrpop_table.specs.Counts.{HaveAtMost}
 use Rattle.lalrpop_table.specs.Dfa.{Recognizes}
 use Rattle.lalrpop_table.proofs.LongestLemmas.{IsAfter, IsLongestUpTo}
+use Rattle.lalrpop_table.proofs.Trails.{HasTrail}
 use Rattle.lalrpop_nfa.proofs.Cuts.{IsCut}
 use Rattle.lalrpop_table.proofs.interpret.interpret_probed.Given as goal
 
@@ -20,4 +21,5 @@ invariant-loop-offset l = record {
   cost : l.steps ≡ l.initial.steps + length (chars (take (char_indices_offset l.offset-iterator) l.input));
   never_falls : l.initial.probes ≤ l.probes;
   probed : (n d : ℕ) → HaveAtMost l.dfa n → n < 2 ^ d → l.probes ≤ l.initial.probes + length (chars (take (char_indices_offset l.offset-iterator) l.input)) * d;
+  trail : IfSome l.longest (λ m. HasTrail l.dfa l.input (char_indices_offset l.offset-iterator) m.1.now);
 }

@@ -1,7 +1,7 @@
 use Rattle.std.proofs.Common.{◌≡◌, length, inl, ◌∙◌}
 use Rattle.std.proofs.lemmas.List.{length-map}
 use Rattle.std.proofs.lemmas.Result.{IfOk-weaker}
-use Rattle.lexdfa_lib.proofs.TerminalLemmas.{length-AreTerminals}
+use Rattle.lalrpop_lexer.proofs.TerminalLemmas.{length-AreTerminals}
 use Rattle.lexdfa_lib.proofs.Unique.{outcome-unique}
 use Rattle.lexdfa_lib.proofs.answer.outcome_of.Goals as goal
 

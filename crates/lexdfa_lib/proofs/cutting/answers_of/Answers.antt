@@ -3,7 +3,7 @@ use Rattle.std.proofs.lemmas.List.{length-map}
 use Rattle.std.proofs.lemmas.Result.{IfOk-weaker}
 use Rattle.lexdfa_lib.specs.Answer.{IsReported}
 use Rattle.lexdfa_lib.proofs.CutLemmas.{told_alone}
-use Rattle.lexdfa_lib.proofs.TerminalLemmas.{length-AreTerminals}
+use Rattle.lalrpop_lexer.proofs.TerminalLemmas.{length-AreTerminals}
 use Rattle.lexdfa_lib.proofs.UniqueWhole.{answers-unique}
 use Rattle.lexdfa_lib.proofs.cutting.answers_of.Goals as goal
 use Rattle.lexdfa_lib.proofs.cutting.answers_of.Goals.{in-Bad, in-NoTree}

@@ -1,6 +1,6 @@
 use Rattle.std.proofs.Common.{◌∙◌}
 use Rattle.std.proofs.lemmas.List.{length-map}
-use Rattle.lexdfa_lib.proofs.TerminalLemmas.{length-AreTerminals}
+use Rattle.lalrpop_lexer.proofs.TerminalLemmas.{length-AreTerminals}
 use Rattle.tokens_lib.proofs.building.lexer_of.Goals as goal
 
 pub new-requires : goal.new-requires

@@ -1,6 +1,6 @@
 use Rattle.std.proofs.Common.{◌≡◌, length, ◌∙◌}
 use Rattle.std.proofs.lemmas.List.{length-map}
-use Rattle.lexdfa_lib.proofs.TerminalLemmas.{length-AreTerminals}
+use Rattle.lalrpop_lexer.proofs.TerminalLemmas.{length-AreTerminals}
 use Rattle.tokens_lib.proofs.clash_lines.listing_of.Goals as goal
 
 pub listing_by-requires : goal.listing_by-requires

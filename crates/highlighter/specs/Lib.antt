@@ -1,0 +1,3 @@
+pub mod Marks
+-- what serves the proofs alone
+pub mod Internal

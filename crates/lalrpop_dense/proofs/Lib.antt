@@ -1,0 +1,3 @@
+pub mod Rights
+pub mod Pages
+pub mod Walks

@@ -1,0 +1,23 @@
+use Rattle.std.proofs.Common.{◌≡◌, ℕ, ◌+◌, ◌-◌, List, length, take}
+use Rattle.std.specs.Option.{option_map, IfSome}
+use Rattle.std.specs.Str.{chars}
+use Rattle.lalrpop_book.specs.Tree.{Tree}
+use Rattle.lalrpop_table.specs.Dfa.{Recognizes}
+use Rattle.lalrpop_table.proofs.LongestLemmas.{IsLongestUpTo}
+use Rattle.lalrpop_table.proofs.Trails.{HasTrail}
+use Rattle.lalrpop_dense.specs.Internal.Reading.{IsPlace, found}
+use Rattle.lalrpop_dense.proofs.Walks.{IsWalked}
+use Rattle.lalrpop_dense.proofs.run.walk.Given as goal
+
+-- the text was read up to the place, and of the matches up to there the longest is known
+abbrev pub invariant-walk : goal.invariant-walk
+invariant-walk g l = record {
+  walked : IsWalked l.layout l.dfa l.text l.at l.state;
+  best : (ts : List Tree) (ps : List ℕ) → Recognizes l.dfa ts ps → IsLongestUpTo ts ps l.text l.at (option_map (found l.layout (g.C.Cells.numbers l.cells) l.text) l.longest);
+  place : IfSome l.longest (IsPlace l.layout (g.C.Cells.numbers l.cells) l.text);
+  cost : l.steps ≡ l.initial.steps + length (chars (take l.at l.text));
+  trail : IfSome l.longest (λ m. HasTrail l.dfa l.text l.at (take m.1 l.text));
+}
+
+abbrev pub decreases-walk : goal.decreases-walk
+decreases-walk g l = length l.text - l.at

@@ -1,0 +1,56 @@
+-- A table of where characters lead, and the automaton that it is the table of.
+use Rattle.std.specs.Prelude.{◌≡◌, ℕ, ◌+◌, ◌-◌, ◌*◌, ◌/◌, ◌%◌, ◌^◌, ◌<◌, ◌≤◌, List, length, min, slice_get, slice_index, Some}
+use Rattle.lalrpop_table.specs.Dfa.{Row, step}
+use Rattle.lalrpop_table.specs.declared.Kind.{Kind}
+use Rattle.lalrpop_table.specs.declared.Kind.TheVariants.{Accepts, Reject, Neither}
+use Rattle.lalrpop_dense.specs.declared.table.Layout.{Layout}
+use Rattle.lalrpop_dense.specs.declared.table.StoredCells.{StoredCells}
+use Rattle.lalrpop_dense.specs.declared.table.StoredCells.TheVariants.{Narrow, Wide}
+use Rattle.lalrpop_dense.specs.declared.table.Table.{Table}
+
+-- the block of the page with this number; pages behind the last one have its block
+abbrev pub page_of : Layout → ℕ → ℕ
+page_of t k = slice_index t.pages.items (min k (length t.pages.items - 1))
+
+-- the class of a character
+abbrev pub class_of : Layout → ℕ → ℕ
+class_of t c = slice_index t.blocks.items (page_of t (c / 128) * 128 + c % 128)
+
+-- where the row of the state p begins
+abbrev pub row_of : Layout → ℕ → ℕ
+row_of t p = slice_index t.rows.items p
+
+-- each character has a class, and the block of ASCII is the first
+pub record HasClasses (t : Layout) : Type 0 where
+  pub pages : 0 < length t.pages.items
+  pub ascii : slice_index t.pages.items 0 ≡ 0
+  pub blocks : (k : ℕ) → k < length t.pages.items → slice_index t.pages.items k * 128 + 128 ≤ length t.blocks.items
+  pub below : (k : ℕ) → k < length t.blocks.items → slice_index t.blocks.items k < t.width
+
+-- the row stands among those of its kind, and behind the row of a state that accepts stands the pattern
+abbrev pub IsRowOfKind : Layout → List ℕ → ℕ → Kind → Type 0
+IsRowOfKind t cells row Reject = row < t.live
+IsRowOfKind t cells row Neither = (t.live ≤ row) × (row < t.accept)
+IsRowOfKind t cells row (Accepts i) = (t.live ≤ row) × (t.accept ≤ row) × (slice_index cells (row + t.width) ≡ i)
+
+-- the cell of each character's class tells the row of the state that the character leads to
+abbrev pub LeadsRight : Layout → List ℕ → List Row → ℕ → Type 0
+LeadsRight t cells d p = (c : ℕ) → c < 1114112 → slice_index cells (row_of t p + class_of t c) ≡ row_of t (step d p c)
+
+-- each state has a row of its kind, which tells where the characters lead
+pub record IsTableOf (t : Layout) (cells : List ℕ) (d : List Row) : Type 0 where
+  pub short : length cells < 2 ^ 64
+  pub classes : HasClasses t
+  pub rows : length t.rows.items ≡ length d
+  pub within : (p : ℕ) → p < length t.rows.items → row_of t p + t.width < length cells
+  pub kinds : (p : ℕ) (r : Row) → slice_get d p ≡ Some r → IsRowOfKind t cells (row_of t p) r.kind
+  pub leads : (p : ℕ) → p < length d → LeadsRight t cells d p
+
+-- cells of either size are numbers
+abbrev pub numbers_of : StoredCells → List ℕ
+numbers_of (Narrow cells) = cells.items
+numbers_of (Wide cells) = cells.items
+
+-- the table is that of the automaton
+abbrev pub IsTable : Table → List Row → Type 0
+IsTable t d = IsTableOf t.layout (numbers_of t.cells) d

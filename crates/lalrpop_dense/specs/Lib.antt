@@ -1,0 +1,2 @@
+-- what serves the proofs alone
+pub mod Internal

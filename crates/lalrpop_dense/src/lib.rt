@@ -1,0 +1,15 @@
+//! The automaton of a list of patterns as a dense table over classes of characters.
+//!
+//! A table is a second form of an automaton: a row of cells for each state, a cell for each class. What is promised of it is
+//! said of that automaton, so that whatever holds of the one holds of the other.
+#![tactic(auto)]
+
+mod candidate;
+mod check;
+mod dense;
+mod matcher;
+mod run;
+mod table;
+
+pub use dense::DenseDfa;
+pub use matcher::Matcher;

@@ -1,0 +1,28 @@
+-- cases: proofs/Cases/Terminals.antt
+-- What all lines say.
+use Rattle.std.specs.Prelude.{ℕ, zero, suc, List, [], ◌∷◌, map}
+use Rattle.lalrpop_book.specs.Tree.{Tree}
+use Rattle.lalrpop_lexer.specs.Lines.{lines}
+use Rattle.lalrpop_lexer.specs.Line.{LineSays}
+use Rattle.lalrpop_lexer.specs.declared.meaning.Meaning.{Meaning}
+use Rattle.lalrpop_lexer.specs.declared.meaning.Meaning.TheVariants as meaning
+use Rattle.lalrpop_lexer.specs.declared.terminals.Terminals.{Terminals}
+use Rattle.lalrpop_lexer.specs.declared.terminals.Terminals.TheVariants.{All, Bad, NoTree}
+
+-- each line is a terminal, and these are their trees and precedences
+abbrev pub AreTerminals : List (List ℕ) → List Tree → List ℕ → Type 0
+AreTerminals [] [] [] = Unit {0}
+AreTerminals (line ∷ rest) (t ∷ ts) (p ∷ ps) = LineSays line (meaning.Terminal p t) × AreTerminals rest ts ps
+AreTerminals _ _ _ = ⊥
+
+-- the line with this number says this, and each line before it is a terminal
+abbrev pub FirstSays : List (List ℕ) → ℕ → Meaning → Type 0
+FirstSays [] i said = ⊥
+FirstSays (line ∷ rest) zero said = LineSays line said
+FirstSays (line ∷ rest) (suc i) said = ((p : ℕ) × ((t : Tree) × LineSays line (meaning.Terminal p t))) × FirstSays rest i said
+
+-- this is what the lines of the bytes say
+abbrev pub AreSaid : List ℕ → Terminals → Type 0
+AreSaid bytes (All regexs precedences) = AreTerminals (lines bytes) regexs.items (map (λ p. p.0) precedences.items)
+AreSaid bytes (Bad line) = FirstSays (lines bytes) line meaning.Bad
+AreSaid bytes (NoTree line) = FirstSays (lines bytes) line meaning.NoTree

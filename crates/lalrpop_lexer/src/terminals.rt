@@ -1,0 +1,57 @@
+//! Terminals that are lines.
+ghost use Rattle.std.specs.Prelude.{IfOk};
+ghost use Rattle.lalrpop_lexer.specs.Terminals.{AreSaid};
+
+use crate::line::split_line;
+use crate::meaning::{Meaning, meaning_of};
+use lalrpop_dfa::Precedence;
+use lalrpop_re::Regex;
+use std::alloc::{AllocError, Global};
+
+/// What all lines say. Lines are numbered from 0.
+#[derive(Drop)]
+pub enum Terminals {
+    /// Each line is a terminal; their patterns and precedences in order.
+    All {
+        regexs: Vec<Regex>,
+        precedences: Vec<Precedence>,
+    },
+    /// This is the first bad line: it has another form.
+    Bad {
+        line: usize,
+    },
+    /// This is the first bad line: its pattern doesn't parse.
+    NoTree {
+        line: usize,
+    },
+}
+
+/// Reads terminals, one a line, up to the first bad line: `P l TEXT` or `P r PATTERN`, where P is a precedence of 1 to 20
+/// decimal digits, and one space stands at both places. Each line ends at a line feed, which the last may lack.
+///
+/// # Errors
+///
+/// `AllocError` where a request for memory was refused.
+pub fn read_terminals(alloc: Global, bytes: &[u8]) -> Result<Terminals, AllocError>
+    ensures said { IfOk result (λ terminals. AreSaid bytes.now terminals) }
+{
+    let mut regexs = Vec::new(alloc);
+    let mut precedences = Vec::new(alloc);
+    let mut rest = bytes;
+    while let Some((line, after)) = split_line(rest) {
+        let number = regexs.len();
+        match meaning_of(alloc, line)? {
+            Meaning::Bad => return Ok(Terminals::Bad { line: number }),
+            Meaning::NoTree => return Ok(Terminals::NoTree { line: number }),
+            Meaning::Terminal { precedence, regex } => {
+                regexs.push(regex)?;
+                precedences.push(Precedence(precedence))?;
+            }
+        }
+        rest = after;
+    }
+    Ok(Terminals::All {
+        regexs,
+        precedences,
+    })
+}

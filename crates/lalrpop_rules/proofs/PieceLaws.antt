@@ -1,0 +1,147 @@
+-- What the calls of `next` give of a text that is cut to its end.
+use Rattle.std.proofs.Common.{◌≡◌, ◌≢◌, ℕ, ◌+◌, ◌<◌, ◌≤◌, Bool, inl, inr, List, [], ◌∷◌, ◌++◌, length, drop, arith, refl, sym, ap, subst, ◌∙◌, append_assoc, length-append}
+use Rattle.std.specs.Prelude.{Option, Some, None}
+use Rattle.std.specs.Iterator.{Yields, Drains}
+use Rattle.std.specs.Str.{chars, IsUtf8}
+use Rattle.std.proofs.lemmas.Str.{IsUtf8-drop, chars-append}
+use Rattle.std.proofs.lemmas.List.{append-nil, drop_at, drop-drop}
+use Rattle.lalrpop_book.specs.Tree.{Tree}
+use Rattle.lalrpop_book.specs.Prefix.{IsPrefix}
+use Rattle.lalrpop_lexer.specs.Rules.{Rules}
+use Rattle.lalrpop_book.specs.Tokens.{AreTokens}
+use Rattle.lalrpop_rules.specs.Found.{MatchesAt}
+use Rattle.lalrpop_rules.specs.Pieces.{IsFault, IsPiece, ArePieces, AreApart, slice_of, joined, up_to_fault}
+use Rattle.lalrpop_rules.specs.CutToEnd.{CutToEnd, uncut, left_text, pieces_left, GivesPiece}
+use Rattle.lalrpop_rules.specs.declared.item.Item.{Item}
+use Rattle.lalrpop_rules.specs.declared.item.Item.TheVariants.{Token, Skipped, Fault}
+use Rattle.lalrpop_rules.proofs.FirstMatches.{some_length, cut_behind, some_char}
+
+-- a piece is a prefix of the rest
+pub is_front : (ts : List Tree) (ps : List ℕ) (skips : List Bool) (text : List ℕ) (at : ℕ) (x : Item) → IsPiece ts ps skips text at x
+    → IsPrefix (slice_of x) (drop at text)
+is_front ts ps skips text at (Token token) is = is.0.1.0.0
+is_front ts ps skips text at (Skipped token) is = is.0.1.0.0
+is_front ts ps skips text at (Fault start slice) is = is.1.front
+
+-- and not empty
+pub is_some : (ts : List Tree) (ps : List ℕ) (skips : List Bool) (text : List ℕ) (at : ℕ) (x : Item) → IsPiece ts ps skips text at x → slice_of x ≢ []
+is_some ts ps skips text at (Token token) is = is.0.1.0.1
+is_some ts ps skips text at (Skipped token) is = is.0.1.0.1
+is_some ts ps skips text at (Fault start slice) is = is.1.some
+
+-- so there is a rest
+rest_some : (p rest : List ℕ) → IsPrefix p rest → p ≢ [] → rest ≢ []
+rest_some p rest b some none = omega (arith, some_length p some, ap length b.1.0, length-append p b.0, ap length none)
+
+-- what is left behind a prefix of the rest
+pub split_at : (text : List ℕ) (at : ℕ) (p : List ℕ) → IsPrefix p (drop at text) → drop at text ≡ p ++ drop (at + length p) text
+split_at text at p b =
+    let behind : b.0 ≡ drop (length p) (drop at text) = sym (ap (drop (length p)) b.1.0 ∙ drop_at p b.0 (length p) refl) in
+    b.1.0 ∙ ap (λ (r : List ℕ). p ++ r) (behind ∙ drop-drop (length p) at text)
+
+pub utf8_behind : (text : List ℕ) (at : ℕ) (p : List ℕ) → IsUtf8 (drop at text) → IsPrefix p (drop at text) → IsUtf8 (drop (at + length p) text)
+utf8_behind text at p u b =
+    subst IsUtf8 (drop-drop (length p) at text) (IsUtf8-drop (drop at text) (length p) u (cut_behind p (drop at text) u b))
+
+-- fewer characters are left
+pub fewer_left : (text : List ℕ) (at : ℕ) (p : List ℕ) → IsUtf8 (drop at text) → IsPrefix p (drop at text) → p ≢ []
+    → length (chars (drop (at + length p) text)) < length (chars (drop at text))
+fewer_left text at p u b some =
+    let count : length (chars (drop at text)) ≡ length (chars p) + length (chars (drop (at + length p) text)) =
+    ap (λ (t : List ℕ). length (chars t)) (split_at text at p b) ∙ ap length (chars-append p (drop (at + length p) text) b.1.1)
+    ∙ length-append (chars p) (chars (drop (at + length p) text)) in
+    omega (arith, count, some_char p b.1.1 some)
+
+-- ---- all pieces
+
+-- the pieces, up to the first `None`
+pub pieces_of : (s t u : CutToEnd) (xs : List Item) → Yields GivesPiece s xs t → GivesPiece t None u
+    → ArePieces s.rules.trees s.rules.precedences s.skips s.text s.at xs
+pieces_of s t u [] y (same, end) = ap (λ (w : CutToEnd). left_text w) y ∙ end
+pieces_of s t u (x ∷ xs) (j, g, y) last =
+    (g.0, subst (λ (w : CutToEnd). ArePieces w.rules.trees w.rules.precedences w.skips w.text w.at xs) g.1 (pieces_of j t u xs y last))
+
+step_splits : (s j : CutToEnd) (x : Item) → GivesPiece s (Some x) j → left_text s ≡ slice_of x ++ left_text j
+step_splits s j x g =
+    split_at s.text s.at (slice_of x) (is_front s.rules.trees s.rules.precedences s.skips s.text s.at x g.0)
+    ∙ ap (λ (w : CutToEnd). slice_of x ++ left_text w) (sym g.1)
+
+-- the joined and the rest are what was left
+pub parts_of : (s t : CutToEnd) (xs : List Item) → Yields GivesPiece s xs t → left_text s ≡ joined xs ++ left_text t
+parts_of s t [] y = ap (λ (w : CutToEnd). left_text w) y
+parts_of s t (x ∷ xs) (j, g, y) =
+    step_splits s j x g ∙ ap (λ (r : List ℕ). slice_of x ++ r) (parts_of j t xs y) ∙ sym (append_assoc (slice_of x) (joined xs) (left_text t))
+
+pub count_of : (s t : CutToEnd) (xs : List Item) → IsUtf8 (left_text s) → Yields GivesPiece s xs t → length xs ≤ pieces_left s
+count_of s t [] u y = omega arith
+count_of s t (x ∷ xs) u (j, g, y) =
+    let front = is_front s.rules.trees s.rules.precedences s.skips s.text s.at x g.0 in
+    let some = is_some s.rules.trees s.rules.precedences s.skips s.text s.at x g.0 in
+    let less = fewer_left s.text s.at (slice_of x) u front some in
+    let left : pieces_left j ≡ length (chars (drop (s.at + length (slice_of x)) s.text)) = ap (λ (w : CutToEnd). pieces_left w) g.1 in
+    let later : IsUtf8 (left_text j) = subst (λ (w : CutToEnd). IsUtf8 (left_text w)) (sym g.1) (utf8_behind s.text s.at (slice_of x) u front) in
+    let more : length xs ≤ pieces_left j = count_of j t xs later y in
+    omega arith
+
+-- behind the first `None` there is `None` for good
+pub none_for_good : (s t u : CutToEnd) (x : Option Item) → GivesPiece s None t → GivesPiece t x u → x ≡ None
+none_for_good s t u None end g = refl
+none_for_good s t u (Some x) (same, end) g =
+    let front = is_front t.rules.trees t.rules.precedences t.skips t.text t.at x g.0 in
+    let some = is_some t.rules.trees t.rules.precedences t.skips t.text t.at x g.0 in
+    absurd (rest_some (slice_of x) (left_text t) front some (ap (λ (w : CutToEnd). left_text w) same ∙ end))
+
+-- ---- what holds of the pieces of a text
+
+-- no fault stands right behind a fault
+two_faults : (ts : List Tree) (text : List ℕ) (at : ℕ) (p q : List ℕ) → IsFault ts (drop at text) p → IsFault ts (drop (at + length p) text) q → ⊥
+two_faults ts text at p q first second = elim first.ends [
+  | inl whole ↦ rest_some q (drop (at + length p) text) second.front second.some
+      (sym (drop-drop (length p) at text) ∙ ap (λ (n : ℕ). drop n (drop at text)) (ap length whole) ∙ drop_all (drop at text))
+  | inr m ↦ second.nothing 0 (some_length q second.some) (subst (λ (t : List ℕ). MatchesAt ts t 0) (drop-drop (length p) at text) m)
+]
+  where
+    drop_all : (xs : List ℕ) → drop (length xs) xs ≡ []
+    drop_all xs = ap (drop (length xs)) (sym (append-nil xs)) ∙ drop_at xs [] (length xs) refl
+
+pub are_apart : (ts : List Tree) (ps : List ℕ) (skips : List Bool) (text : List ℕ) (at : ℕ) (xs : List Item) → ArePieces ts ps skips text at xs → AreApart xs
+are_apart ts ps skips text at [] are = tt
+are_apart ts ps skips text at (Token token ∷ xs) are = are_apart ts ps skips text (at + length token.slice.now) xs are.1
+are_apart ts ps skips text at (Skipped token ∷ xs) are = are_apart ts ps skips text (at + length token.slice.now) xs are.1
+are_apart ts ps skips text at (Fault start slice ∷ []) are = tt
+are_apart ts ps skips text at (Fault start slice ∷ Token token ∷ xs) are = are_apart ts ps skips text (at + length slice.now) (Token token ∷ xs) are.1
+are_apart ts ps skips text at (Fault start slice ∷ Skipped token ∷ xs) are = are_apart ts ps skips text (at + length slice.now) (Skipped token ∷ xs) are.1
+are_apart ts ps skips text at (Fault start slice ∷ Fault start2 slice2 ∷ xs) are =
+    two_faults ts text at slice.now slice2.now are.0.1 are.1.0.1
+
+-- up to the first fault they are the tokens of the text
+pub tokens_of : (ts : List Tree) (ps : List ℕ) (skips : List Bool) (text : List ℕ) (at : ℕ) (xs : List Item) → ArePieces ts ps skips text at xs
+    → AreTokens ts ps text at (up_to_fault xs)
+tokens_of ts ps skips text at [] are = are
+tokens_of ts ps skips text at (Token token ∷ xs) are = (are.0.0, tokens_of ts ps skips text (at + length token.slice.now) xs are.1)
+tokens_of ts ps skips text at (Skipped token ∷ xs) are = (are.0.0, tokens_of ts ps skips text (at + length token.slice.now) xs are.1)
+tokens_of ts ps skips text at (Fault start slice ∷ xs) are =
+    let fault = are.0.1 in
+    (rest_some slice.now (drop at text) fault.front fault.some, (λ p m. fault.nothing 0 (some_length slice.now fault.some) (p, m)), are.0.0, refl)
+
+-- ---- from the start
+
+pub pieces_from_start : (s : CutToEnd) (rules : Rules) (skips : List Bool) (text : List ℕ) → s ≡ uncut rules skips text → (xs : List Item)
+    → Drains GivesPiece s xs → ArePieces rules.trees rules.precedences skips text 0 xs
+pieces_from_start s rules skips text e xs (u, (t, y, last)) =
+    subst (λ (w : CutToEnd). ArePieces w.rules.trees w.rules.precedences w.skips w.text w.at xs) e (pieces_of s t u xs y last)
+
+pub parts_from_start : (s : CutToEnd) (rules : Rules) (skips : List Bool) (text : List ℕ) → s ≡ uncut rules skips text → (xs : List Item) (t : CutToEnd)
+    → Yields GivesPiece s xs t → text ≡ joined xs ++ left_text t
+parts_from_start s rules skips text e xs t y = sym (ap (λ (w : CutToEnd). left_text w) e) ∙ parts_of s t xs y
+
+pub whole_from_start : (s : CutToEnd) (rules : Rules) (skips : List Bool) (text : List ℕ) → s ≡ uncut rules skips text → (xs : List Item)
+    → Drains GivesPiece s xs → joined xs ≡ text
+whole_from_start s rules skips text e xs (u, (t, y, last)) =
+    sym (append-nil (joined xs)) ∙ ap (λ (r : List ℕ). joined xs ++ r) (sym last.1) ∙ sym (parts_from_start s rules skips text e xs t y)
+
+pub count_from_start : (s : CutToEnd) (rules : Rules) (skips : List Bool) (text : List ℕ) → s ≡ uncut rules skips text → IsUtf8 text → (xs : List Item)
+    (t : CutToEnd) → Yields GivesPiece s xs t → length xs ≤ length (chars text)
+count_from_start s rules skips text e u xs t y =
+    let left : pieces_left s ≡ length (chars text) = ap (λ (w : CutToEnd). pieces_left w) e in
+    omega (arith, left, count_of s t xs (subst (λ (w : CutToEnd). IsUtf8 (left_text w)) (sym e) u) y)

@@ -1,0 +1,4 @@
+pub mod Found
+pub mod Pieces
+pub mod CutToEnd
+pub mod Internal

@@ -1,0 +1,64 @@
+-- cases: proofs/Cases/Pieces.antt
+-- The pieces of a text that is cut to its end.
+use Rattle.std.specs.Prelude.{◌≡◌, ◌≢◌, ℕ, ◌+◌, ◌⊎◌, Bool, true, List, [], ◌∷◌, ◌++◌, length, drop, slice_get, Some, Result, Ok, Err}
+use Rattle.lalrpop_book.specs.Prefix.{IsPrefix}
+use Rattle.lalrpop_book.specs.Tree.{Tree}
+use Rattle.lalrpop_book.specs.Tokens.{IsToken}
+use Rattle.lalrpop_book.specs.declared.token.Token.{Token as Cut}
+use Rattle.lalrpop_book.specs.declared.token.TokenFault.{TokenFault}
+use Rattle.lalrpop_rules.specs.Found.{MatchesAt, NoMatchBefore}
+use Rattle.lalrpop_rules.specs.declared.item.Item.{Item}
+use Rattle.lalrpop_rules.specs.declared.item.Item.TheVariants.{Token, Skipped, Fault}
+
+-- the piece of the text
+abbrev pub slice_of : Item → List ℕ
+slice_of (Token token) = token.slice.now
+slice_of (Skipped token) = token.slice.now
+slice_of (Fault start slice) = slice.now
+
+-- where it begins
+abbrev pub start_of : Item → ℕ
+start_of (Token token) = token.start
+start_of (Skipped token) = token.start
+start_of (Fault start slice) = start
+
+-- the pattern at this place is skipped
+abbrev pub IsSkipped : List Bool → ℕ → Type 0
+IsSkipped skips i = slice_get skips i ≡ Some true
+
+-- a fault at the front of a text: characters, one or more, from none of which on a tree matches; behind them the text ends, or
+-- some tree matches
+pub record IsFault (ts : List Tree) (text slice : List ℕ) : Type 0 where
+  pub front : IsPrefix slice text
+  pub some : slice ≢ []
+  pub nothing : NoMatchBefore ts text (length slice)
+  pub ends : (slice ≡ text) ⊎ MatchesAt ts text (length slice)
+
+-- the piece of the text at this place: a token, which is skipped or not, or a fault
+abbrev pub IsPiece : List Tree → List ℕ → List Bool → List ℕ → ℕ → Item → Type 0
+IsPiece ts ps skips text at (Token token) = IsToken ts ps text at token × ¬ IsSkipped skips token.index
+IsPiece ts ps skips text at (Skipped token) = IsToken ts ps text at token × IsSkipped skips token.index
+IsPiece ts ps skips text at (Fault start slice) = (start ≡ at) × IsFault ts (drop at text) slice.now
+
+-- all pieces of the text from a place on, up to its end
+abbrev pub ArePieces : List Tree → List ℕ → List Bool → List ℕ → ℕ → List Item → Type 0
+ArePieces ts ps skips text at [] = drop at text ≡ []
+ArePieces ts ps skips text at (x ∷ xs) = IsPiece ts ps skips text at x × ArePieces ts ps skips text (at + length (slice_of x)) xs
+
+-- the pieces, one after another
+abbrev pub joined : List Item → List ℕ
+joined [] = []
+joined (x ∷ xs) = slice_of x ++ joined xs
+
+-- no fault stands right behind a fault
+abbrev pub AreApart : List Item → Type 0
+AreApart [] = Unit {0}
+AreApart (Fault start slice ∷ Fault start2 slice2 ∷ xs) = ⊥
+AreApart (x ∷ xs) = AreApart xs
+
+-- the tokens, skipped or not, up to the first fault, which ends them
+abbrev pub up_to_fault : List Item → List (Result Cut TokenFault)
+up_to_fault [] = []
+up_to_fault (Token token ∷ xs) = Ok token ∷ up_to_fault xs
+up_to_fault (Skipped token ∷ xs) = Ok token ∷ up_to_fault xs
+up_to_fault (Fault start slice ∷ xs) = Err (record { at = start }) ∷ []

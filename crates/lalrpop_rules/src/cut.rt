@@ -1,0 +1,36 @@
+//! Cutting a text to its end: tokens, what is skipped, and faults.
+
+ghost use Rattle.std.specs.Prelude.{◌≡◌, ◌≤◌, ◌++◌, List, None, Option, length};
+ghost use Rattle.std.specs.Iterator.{Drains, Yields};
+ghost use Rattle.std.specs.Str.{chars};
+ghost use Rattle.lalrpop_book.specs.Tokens.{AreTokens};
+ghost use Rattle.lalrpop_rules.specs.Pieces.{ArePieces, AreApart, joined, up_to_fault};
+ghost use Rattle.lalrpop_rules.specs.CutToEnd.{CutToEnd, uncut, left_text, GivesPiece};
+ghost use Rattle.lalrpop_rules.specs.declared.item.Item.{Item as ItemValue};
+
+use crate::pieces::Items;
+use lalrpop_lexer::Lexer;
+
+/// The pieces of the text, from its beginning to its end, whatever it is: where a pattern matches, the token there, or the
+/// same as skipped, if `skipped` has `true` at the place of its pattern; and else a fault, the characters up to the next
+/// place where a pattern matches, or to the end of the text. So between two faults stands a token or a skipped piece.
+///
+/// No memory is taken, and there are at most as many pieces as the text has characters. Each fault is found by `find`, at
+/// its cost.
+pub fn items<'text>(lexer: &'text Lexer, skipped: &'text [bool], text: &'text str) -> Items<'text>
+    ensures start { result ≡ uncut lexer.now skipped.now text.now }
+    ensures items { (xs : List ItemValue) → Drains GivesPiece result xs
+        → ArePieces lexer.now.trees lexer.now.precedences skipped.now text.now 0 xs }
+    ensures whole { (xs : List ItemValue) → Drains GivesPiece result xs → joined xs ≡ text.now }
+    ensures apart { (xs : List ItemValue) → Drains GivesPiece result xs → AreApart xs }
+    ensures tokens { (xs : List ItemValue) → Drains GivesPiece result xs
+        → AreTokens lexer.now.trees lexer.now.precedences text.now 0 (up_to_fault xs) }
+    ensures parts { (xs : List ItemValue) (s : CutToEnd) → Yields GivesPiece result xs s
+        → text.now ≡ joined xs ++ left_text s }
+    ensures count { (xs : List ItemValue) (s : CutToEnd) → Yields GivesPiece result xs s
+        → length xs ≤ length (chars text.now) }
+    ensures fused { (s t u : CutToEnd) (x : Option ItemValue) → GivesPiece s None t → GivesPiece t x u
+        → x ≡ None }
+{
+    Items::new(lexer, skipped, text)
+}

@@ -1,0 +1,44 @@
+//! The pieces of a text that is cut to its end.
+
+ghost use Rattle.std.specs.Prelude.{◌≡◌};
+ghost use Rattle.lalrpop_rules.specs.Pieces.{slice_of, start_of};
+
+use lalrpop_lexer::Token;
+
+/// A piece of a text.
+#[derive(Clone, Copy, Debug, PartialEq, Eq)]
+pub enum Item<'text> {
+    /// A token.
+    Token(Token<'text>),
+    /// A token of a pattern that is skipped.
+    Skipped(Token<'text>),
+    /// Characters, one or more, from none of which on a pattern matches. Behind them a pattern matches, or the text ends.
+    Fault {
+        /// Where they begin in the text, in bytes.
+        start: usize,
+        /// The characters.
+        slice: &'text str,
+    },
+}
+
+impl<'text> Item<'text> {
+    /// The piece of the text. It isn't empty.
+    pub fn slice(&self) -> &'text str
+        ensures slice { result.now ≡ slice_of self.now }
+    {
+        match self {
+            Item::Token(token) | Item::Skipped(token) => token.slice,
+            Item::Fault { start: _, slice } => slice,
+        }
+    }
+
+    /// Where the piece begins in the text, in bytes.
+    pub fn start(&self) -> usize
+        ensures start { result ≡ start_of self.now }
+    {
+        match self {
+            Item::Token(token) | Item::Skipped(token) => token.start,
+            Item::Fault { start, slice: _ } => *start,
+        }
+    }
+}

@@ -1,0 +1,121 @@
+//! Cutting a text to its end: tokens, what is skipped, and faults.
+
+ghost use Rattle.std.specs.Prelude.{◌≡◌, ◌<◌, true, false, length};
+ghost use Rattle.std.specs.Str.{IsCharBoundary};
+ghost use Rattle.lalrpop_rules.specs.Pieces.{IsPiece, IsSkipped};
+ghost use Rattle.lalrpop_rules.specs.CutToEnd.{uncut, left_text};
+
+use crate::item::Item;
+use crate::leftmost::find;
+use lalrpop_lexer::{Lexer, Token};
+use std::iter::FusedIterator;
+use std::marker::Model;
+
+/// Cuts a text into pieces, from its beginning to its end, whatever it is.
+///
+/// It takes no memory: the pieces are joined of the text.
+#[derive(Debug, Drop)]
+pub struct Items<'text> {
+    lexer: &'text Lexer,
+    skipped: &'text [bool],
+    text: &'text str,
+    // The rest of the text begins here.
+    at: usize,
+}
+
+impl<'text> Model for Items<'text> {
+    ghost use Rattle.std.specs.Str.{IsUtf8, IsCharBoundary};
+    ghost use Rattle.lalrpop_rules.specs.CutToEnd.{CutToEnd};
+    ghost use Rattle.lalrpop_rules.specs.Internal.Code.{cut_code};
+
+    ghost Value = { CutToEnd };
+
+    ghost coded = { cut_code };
+
+    ghost view = { λ t. record { rules = t.lexer.now; skips = t.skipped.now; text = t.text.now; at = t.at } };
+
+    ghost invariant = { λ t. IsUtf8 t.text.now × IsCharBoundary t.text.now t.at };
+}
+
+impl<'text> Items<'text> {
+    // The text as it is before the first piece.
+    pub(crate) fn new(lexer: &'text Lexer, skipped: &'text [bool], text: &'text str) -> Items<'text>
+        ensures start { result ≡ uncut lexer.now skipped.now text.now }
+    {
+        Items {
+            lexer,
+            skipped,
+            text,
+            at: 0,
+        }
+    }
+
+    /// The rest of the text: what stands behind the last piece. All of it, before the first call of `next`.
+    pub fn rest(&self) -> &'text str
+        ensures rest { result.now ≡ left_text self.now }
+    {
+        &self.text[self.at..]
+    }
+}
+
+// Whether the pattern at this place is skipped.
+fn is_skipped(skipped: &[bool], index: usize) -> bool
+    ensures yes { result ≡ true → IsSkipped skipped.now index }
+    ensures no { result ≡ false → ¬ IsSkipped skipped.now index }
+{
+    match skipped.get(index) {
+        Some(skips) => *skips,
+        None => false,
+    }
+}
+
+// The piece of the text at this place.
+fn item_at<'text>(lexer: &Lexer, skipped: &[bool], text: &'text str, at: usize) -> Item<'text>
+    requires boundary { IsCharBoundary text.now at }
+    requires some { at < length text.now }
+    ensures item { IsPiece lexer.now.trees lexer.now.precedences skipped.now text.now at result }
+{
+    let rest = &text[at..];
+    let Some(found) = find(lexer, rest) else {
+        return Item::Fault {
+            start: at,
+            slice: rest,
+        };
+    };
+    if found.start > 0 {
+        let slice = &rest[..found.start];
+        return Item::Fault { start: at, slice };
+    }
+    let token = Token {
+        index: found.index,
+        slice: found.slice,
+        start: at,
+    };
+    if is_skipped(skipped, token.index.index()) {
+        Item::Skipped(token)
+    } else {
+        Item::Token(token)
+    }
+}
+
+impl<'text> Iterator for Items<'text> {
+    ghost use Rattle.std.specs.Iterator.{at_most};
+    ghost use Rattle.lalrpop_rules.specs.CutToEnd.{GivesPiece, pieces_left};
+
+    type Item = Item<'text>;
+
+    ghost next_gives = { GivesPiece };
+
+    ghost remaining = { λ s. at_most (pieces_left s) };
+
+    fn next(&mut self) -> Option<Item<'text>> {
+        if self.at == self.text.len() {
+            return None;
+        }
+        let item = item_at(self.lexer, self.skipped, self.text, self.at);
+        self.at += item.slice().len();
+        Some(item)
+    }
+}
+
+impl<'text> FusedIterator for Items<'text> {}

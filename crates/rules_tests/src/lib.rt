@@ -1,0 +1,7 @@
+//! Tests of the public calls of `lalrpop_rules`, with values.
+#![tactic(auto)]
+
+#[cfg(test)]
+mod pieces;
+#[cfg(test)]
+mod shared;

@@ -1,0 +1,9 @@
+-- What two runs on one counter come to.
+use Rattle.std.proofs.Common.{ℕ, ◌+◌, ◌≤◌, arith}
+use Rattle.std.specs.Prelude.{Option, Some, None, IfSome}
+
+-- what was counted before
+pub counted_on : {A : Type 0} (size : A → ℕ) (found : Option A) (before first middle after n : ℕ) → middle ≤ before + first
+    → IfSome found (λ m. after ≤ middle + size m + n + 1) → IfSome found (λ m. after ≤ before + first + size m + n + 1)
+counted_on size None before first middle after n few more = tt
+counted_on size (Some m) before first middle after n few more = omega arith

@@ -1,0 +1,54 @@
+//! How far an automaton reads past a match.
+
+ghost use Rattle.std.specs.Prelude.{◌≡◌, ℕ, ◌<◌, ◌↔◌, List, Some, length, slice_get, true, false, IfOk, IfSome};
+ghost use Rattle.lalrpop_book.specs.Tree.{Tree};
+ghost use Rattle.lalrpop_table.specs.Dfa.{Recognizes};
+ghost use Rattle.lalrpop_table.specs.Lookahead.{CanStayOpen, IsLookahead, IsSettledAfter, LooksAtMost, StaysOpenEver};
+
+use lalrpop_table::Dfa;
+use lalrpop_table::lookahead::{lookahead, open_patterns};
+use std::alloc::{AllocError, Global};
+
+// Needs lalrpop_table::lookahead: answer, settled.
+/// How many characters past its end may leave a match open, at most.
+///
+/// # Errors
+///
+/// `AllocError` where a request for memory was refused.
+pub fn greatest(alloc: Global, dfa: &Dfa) -> Result<Option<usize>, AllocError>
+    ensures answer { IfOk result (λ found. IsLookahead dfa.now found) }
+    ensures settled { IfOk result (λ found. IfSome found (λ n. (ts : List Tree) (ps : List ℕ)
+        → Recognizes dfa.now ts ps → IsSettledAfter ts n)) }
+{
+    lookahead(alloc, dfa)
+}
+
+// Needs lalrpop_table::open_patterns: same_length, each.
+/// Of so many patterns those by which a match can stay open for ever.
+///
+/// # Errors
+///
+/// `AllocError` where a request for memory was refused.
+pub fn open_for_ever(alloc: Global, dfa: &Dfa, count: usize) -> Result<Vec<bool>, AllocError>
+    ensures same_length { IfOk result (λ found. length found.items ≡ count) }
+    ensures each { IfOk result (λ found. (i : ℕ) → i < count
+        → (slice_get found.items i ≡ Some true) ↔ StaysOpenEver dfa.now i) }
+{
+    open_patterns(alloc, dfa, count)
+}
+
+// Needs lalrpop_table::lookahead: answer.
+/// Whether each match is decided within some number of characters past its end.
+///
+/// # Errors
+///
+/// `AllocError` where a request for memory was refused.
+pub fn is_decided_soon(alloc: Global, dfa: &Dfa) -> Result<bool, AllocError>
+    ensures soon { IfOk result (λ soon. soon ≡ true → (n : ℕ) × LooksAtMost dfa.now n) }
+    ensures never { IfOk result (λ soon. soon ≡ false → (m : ℕ) → CanStayOpen dfa.now m) }
+{
+    match lookahead(alloc, dfa)? {
+        Some(_) => Ok(true),
+        None => Ok(false),
+    }
+}

@@ -1,0 +1,110 @@
+//! An automaton with a table beside it, run over a text.
+
+ghost use Rattle.std.specs.Prelude.{◌≡◌, ◌≢◌, ℕ, ◌+◌, ◌≤◌, [], length, List, IfOk, IfSome};
+ghost use Rattle.std.specs.Option.{option_map};
+ghost use Rattle.std.specs.Str.{chars};
+ghost use Rattle.lalrpop_book.specs.Tree.{Tree};
+ghost use Rattle.lalrpop_book.specs.Prefix.{IsPrefix};
+ghost use Rattle.lalrpop_table.specs.Dfa.{Recognizes};
+ghost use Rattle.lalrpop_table.specs.Lookahead.{LooksAtMost};
+ghost use Rattle.lalrpop_book.specs.Longest.{IsLongest};
+
+use lalrpop_book::NfaIndex;
+use lalrpop_dense::{DenseDfa, Matcher};
+use lalrpop_ranges::Steps;
+use lalrpop_table::Dfa;
+use lalrpop_table::interpret::interpret;
+use std::alloc::{AllocError, Global};
+
+// Needs lalrpop_dense::DenseDfa::new: same.
+/// The automaton with its table recognizes what the automaton does.
+///
+/// # Errors
+///
+/// `AllocError` where a request for memory was refused.
+pub fn with_a_table(alloc: Global, dfa: Dfa) -> Result<DenseDfa, AllocError>
+    ensures { IfOk result (λ dense. (ts : List Tree) (ps : List ℕ) → Recognizes dfa ts ps
+        → Recognizes dense ts ps) }
+{
+    DenseDfa::new(alloc, dfa)
+}
+
+// Needs lalrpop_dense::DenseDfa::longest: answer, prefix.
+/// The longest match of the text, with the strongest pattern that matches it.
+pub fn longest_by_table<'text>(dense: &DenseDfa, text: &'text str) -> Option<(NfaIndex, &'text str)>
+    ensures answer { (ts : List Tree) (ps : List ℕ) → Recognizes dense.now ts ps
+        → IsLongest ts ps text.now (option_map (λ m. (m.0, m.1.now)) result) }
+    ensures prefix { IfSome result (λ m. IsPrefix m.1.now text.now × (m.1.now ≢ [])) }
+{
+    dense.longest(text)
+}
+
+// Needs lalrpop_dense::DenseDfa::dfa: same.
+/// The longest match of the text by the automaton alone.
+pub fn longest_by_automaton<'text>(
+    dense: &DenseDfa,
+    text: &'text str,
+) -> Option<(NfaIndex, &'text str)>
+    ensures answer { (ts : List Tree) (ps : List ℕ) → Recognizes dense.now ts ps
+        → IsLongest ts ps text.now (option_map (λ m. (m.0, m.1.now)) result) }
+{
+    interpret(dense.dfa(), text)
+}
+
+// Needs lalrpop_dense::DenseDfa::longest_counted: answer, prefix, never_falls, cost, looked.
+/// The longest match of the second text, after that of the first, with a step for each character that is read.
+pub fn counted_by_table<'text>(
+    dense: &DenseDfa,
+    first: &str,
+    second: &'text str,
+    steps: &mut Steps,
+) -> Option<(NfaIndex, &'text str)>
+    ensures answer { (ts : List Tree) (ps : List ℕ) → Recognizes dense.now ts ps
+        → IsLongest ts ps second.now (option_map (λ m. (m.0, m.1.now)) result) }
+    ensures prefix { IfSome result (λ m. IsPrefix m.1.now second.now × (m.1.now ≢ [])) }
+    ensures never_falls { steps.old ≤ steps.new }
+    ensures cost { steps.new ≤ steps.old + length (chars first.now) + length (chars second.now) }
+    ensures looked { (n : ℕ) → LooksAtMost dense.now n → IfSome result (λ m.
+        steps.new ≤ steps.old + length (chars first.now) + length (chars m.1.now) + n + 1) }
+{
+    let _ = dense.longest_counted(first, steps);
+    dense.longest_counted(second, steps)
+}
+
+// Needs lalrpop_dense::Matcher::longest_match: answer, prefix, never_falls, cost, looked.
+/// The longest match of the second text, after that of the first, whatever finds it.
+pub fn longest_of_second<'text, M: Matcher>(
+    matcher: &M,
+    first: &str,
+    second: &'text str,
+    steps: &mut Steps,
+) -> Option<(NfaIndex, &'text str)>
+    ensures answer { (ts : List Tree) (ps : List ℕ) → Recognizes (M.rows matcher.now) ts ps
+        → IsLongest ts ps second.now (option_map (λ m. (m.0, m.1.now)) result) }
+    ensures prefix { IfSome result (λ m. IsPrefix m.1.now second.now × (m.1.now ≢ [])) }
+    ensures never_falls { steps.old ≤ steps.new }
+    ensures cost { steps.new ≤ steps.old + length (chars first.now) + length (chars second.now) }
+    ensures looked { (n : ℕ) → LooksAtMost (M.rows matcher.now) n → IfSome result (λ m.
+        steps.new ≤ steps.old + length (chars first.now) + length (chars m.1.now) + n + 1) }
+{
+    let _ = matcher.longest_match(first, steps);
+    matcher.longest_match(second, steps)
+}
+
+// Needs lalrpop_dense::Dfa::longest_match: ghost rows.
+/// An automaton matches by itself.
+pub fn match_of_automaton<'text>(dfa: &Dfa, text: &'text str) -> Option<(NfaIndex, &'text str)>
+    ensures answer { (ts : List Tree) (ps : List ℕ) → Recognizes dfa.now ts ps
+        → IsLongest ts ps text.now (option_map (λ m. (m.0, m.1.now)) result) }
+{
+    longest_of_second(dfa, "", text, &mut Steps::new())
+}
+
+// Needs lalrpop_dense::DenseDfa::longest_match: ghost rows.
+/// An automaton with a table matches by itself too.
+pub fn match_of_table<'text>(dense: &DenseDfa, text: &'text str) -> Option<(NfaIndex, &'text str)>
+    ensures answer { (ts : List Tree) (ps : List ℕ) → Recognizes dense.now ts ps
+        → IsLongest ts ps text.now (option_map (λ m. (m.0, m.1.now)) result) }
+{
+    longest_of_second(dense, "", text, &mut Steps::new())
+}

@@ -1,0 +1,74 @@
+//! How far a lexer looks ahead, and what a whole text costs.
+
+ghost use Rattle.std.specs.Prelude.{◌≡◌, ℕ, ◌+◌, ◌*◌, ◌<◌, ◌≤◌, ◌⊎◌, ◌↔◌, [], length, slice_get, Some, true, IfOk, IfSome};
+ghost use Rattle.std.specs.Str.{chars};
+ghost use Rattle.lalrpop_lexer.specs.Counting.{counting_of};
+ghost use Rattle.lalrpop_lexer.specs.Cutting.{rest_of, start_of};
+ghost use Rattle.lalrpop_lexer.specs.Lookahead.{IsLookahead, IsSettledAfter, LooksAtMost, StaysOpenEver};
+
+use lalrpop_lexer::{CountedTokens, Lexer, LexerTokens};
+use std::alloc::{AllocError, Global};
+
+// Needs lalrpop_lexer::Lexer::lookahead: answer, settled.
+/// The greatest number of characters that leave a match open.
+///
+/// # Errors
+///
+/// `AllocError` where a request for memory was refused.
+pub fn open_characters(alloc: Global, lexer: &Lexer) -> Result<Option<usize>, AllocError>
+    ensures answer { IfOk result (λ found. IsLookahead lexer.now.automaton found) }
+    ensures settled { IfOk result (λ found. IfSome found (λ n. IsSettledAfter lexer.now.trees n)) }
+{
+    lexer.lookahead(alloc)
+}
+
+// Needs lalrpop_lexer::Lexer::open_patterns: same_length, each.
+/// The patterns by which a token can stay open for ever.
+///
+/// # Errors
+///
+/// `AllocError` where a request for memory was refused.
+pub fn open_for_ever(alloc: Global, lexer: &Lexer) -> Result<Vec<bool>, AllocError>
+    ensures same_length { IfOk result (λ found. length found.items ≡ length lexer.now.trees) }
+    ensures each { IfOk result (λ found. (i : ℕ) → i < length lexer.now.trees
+        → (slice_get found.items i ≡ Some true) ↔ StaysOpenEver lexer.now.automaton i) }
+{
+    lexer.open_patterns(alloc)
+}
+
+// Needs lalrpop_lexer::Lexer::tokens: start, automaton.
+/// The tokens of the text, cut by the automaton that `lookahead` speaks of.
+pub fn cut_by_the_same<'text>(lexer: &'text Lexer, text: &'text str) -> LexerTokens<'text>
+    ensures start { result ≡ start_of lexer.now.automaton text.now }
+{
+    lexer.tokens(text)
+}
+
+// Needs lalrpop_lexer::Lexer::tokens_counted: start, cost.
+// Needs lalrpop_lexer::CountedTokens::next: ghost next_gives, ghost remaining.
+/// Cuts the whole text.
+pub fn cut_to_the_end<'text>(lexer: &'text Lexer, text: &'text str) -> CountedTokens<'text>
+    ensures all { (result.cutting.is_over ≡ true) ⊎ (rest_of result.cutting ≡ []) }
+    ensures cost { (n : ℕ) → LooksAtMost lexer.now.automaton n
+        → result.steps ≤ (n + 2) * length (chars text.now) }
+{
+    let mut items = lexer.tokens_counted(text);
+    while let Some(_) = items.next() {}
+    items
+}
+
+// Needs lalrpop_lexer::Lexer::tokens_counted: start.
+/// Before the first token nothing was read.
+pub fn begin<'text>(lexer: &'text Lexer, text: &'text str) -> CountedTokens<'text>
+    ensures start { result ≡ counting_of lexer.now.automaton text.now }
+{
+    lexer.tokens_counted(text)
+}
+
+// Needs lalrpop_lexer::Lexer::tokens_counted: tokens.
+/// Whether there is neither a token nor a fault: then there is no text.
+pub fn is_no_text(lexer: &Lexer, text: &str) -> bool
+    ensures empty { result ≡ true → text.now ≡ [] }
+{
+    lexer.tokens_counted(text).next().is_none()
+}
