@@ -8,7 +8,10 @@ use lalrpop_lexer::lexer::re::{parse_literal, parse_regex};
 
 fn main(rt: HostRuntime) -> Result<()> {
     let alloc = rt.alloc();
-    let regexs = vec![in alloc; parse_literal(alloc, "if")?, parse_regex(alloc, "[a-z]+| +")?]?;
+    let regexs = vec![in alloc;
+        parse_literal(alloc, "if")?,
+        parse_regex(alloc, "[a-z]+| +")?,
+    ]?;
     let precedences = vec![in alloc; Precedence(1), Precedence(0)]?;
     let lexer = Lexer::new(alloc, regexs, precedences)?;
     for item in lexer.tokens("if iffy!") {

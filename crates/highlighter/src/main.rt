@@ -1,5 +1,6 @@
 //! A highlighter: shows a text with keywords in bold and numbers in green, by the marks of a terminal.
 #![tactic(auto)]
+
 ghost use Rattle.std.specs.Prelude.{◌≡◌, ◌++◌, ℕ, List, [], string_bytes, IfOk, OnOk};
 ghost use Rattle.std.specs.List.{list_all};
 ghost use Rattle.highlighter.specs.Marks.{without_marks};

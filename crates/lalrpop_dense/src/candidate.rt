@@ -15,6 +15,9 @@ const PAGES: u32 = END / 128;
 // So many cells are told apart by 16 bits.
 const NARROW: usize = 65536;
 
+// So many steps take a few milliseconds.
+const SHORT: usize = 1 << 20;
+
 fn mark(marks: &mut [u64], value: u32) {
     if let Some(mark) = marks.get_mut(value as usize / 64) {
         *mark |= 1 << (value % 64);
@@ -71,6 +74,15 @@ fn target_at(
     }
 }
 
+// Where the value leads by these edges, found by halving.
+fn target_of(edges: &[(Test, DfaStateIndex)], other: DfaStateIndex, value: u32) -> usize {
+    let place = edges.partition_point(|edge| edge.0.end() < value);
+    match edges.get(place) {
+        Some((test, target)) if test.start() <= value => target.index(),
+        _ => other.index(),
+    }
+}
+
 fn hashed(hash: u64, number: u64) -> u64 {
     (hash ^ number)
         .wrapping_mul(0x9E37_79B9_7F4A_7C15)
@@ -98,31 +110,31 @@ struct Classes {
     cuts: Vec<u32>,
     // The class of each cut.
     classes: Vec<u8>,
-    // How many classes there are.
-    count: usize,
+    // The first cut of each class.
+    firsts: Vec<u32>,
 }
 
 // The classes of the values, by hashes.
-fn classes_of(alloc: Global, dfa: &Dfa) -> Result<Classes, AllocError> {
-    let cuts = cuts_of(alloc, dfa)?;
+fn classes_of(alloc: Global, dfa: &Dfa, cuts: Vec<u32>) -> Result<Classes, AllocError> {
     let hashes = hashes_of(alloc, dfa, &cuts)?;
     let mut numbers: BTreeMap<u64, u8> = BTreeMap::new(alloc);
     let mut classes = Vec::new(alloc);
-    for hash in &hashes {
+    let mut firsts = Vec::new(alloc);
+    for (hash, cut) in hashes.iter().zip(&cuts) {
         match numbers.get(hash) {
             Some(number) => classes.push(*number)?,
             None => {
                 let number = (numbers.len() & 255) as u8;
                 numbers.insert(*hash, number)?;
                 classes.push(number)?;
+                firsts.push(*cut)?;
             }
         }
     }
-    let count = numbers.len();
     Ok(Classes {
         cuts,
         classes,
-        count,
+        firsts,
     })
 }
 
@@ -177,25 +189,21 @@ fn cells_of(
     classes: &Classes,
     rows: &[u32],
 ) -> Result<Vec<u32>, AllocError> {
-    let stride = classes.count.wrapping_add(1);
+    let width = classes.firsts.len();
+    let stride = width.wrapping_add(1);
     let mut cells = vec![in alloc; 0; rows.len().wrapping_mul(stride)]?;
     for number in 0..dfa.states().len() {
         let index = DfaStateIndex::new(number);
         let edges = dfa.test_edges(index);
         let other = dfa.state(index).other_edge();
         let row = rows.get(number).copied().unwrap_or(0) as usize;
-        let mut place = 0usize;
-        for (cut, class) in classes.cuts.iter().zip(&classes.classes) {
-            let target = target_at(edges, other, &mut place, *cut);
+        for (class, first) in classes.firsts.iter().enumerate() {
+            let target = target_of(edges, other, *first);
             let cell = rows.get(target).copied().unwrap_or(0);
-            set(&mut cells, row.wrapping_add(*class as usize), cell);
+            set(&mut cells, row.wrapping_add(class), cell);
         }
         if let Kind::Accepts(pattern) = dfa.state(index).kind() {
-            set(
-                &mut cells,
-                row.wrapping_add(classes.count),
-                low(pattern.index()),
-            );
+            set(&mut cells, row.wrapping_add(width), low(pattern.index()));
         }
     }
     Ok(cells)
@@ -300,18 +308,41 @@ fn blocks_of(alloc: Global, classes: &Classes) -> Result<Blocks, AllocError> {
     Ok(blocks)
 }
 
-// Whether a table of so many cells takes not much more memory than the automaton.
-fn has_room(dfa: &Dfa, count: usize) -> bool {
-    let states = dfa.states().len();
-    let mut room = states.wrapping_mul(32);
-    for number in 0..states {
-        let edges = dfa.test_edges(DfaStateIndex::new(number)).len();
-        room = room.wrapping_add(edges.wrapping_mul(4));
-    }
-    count <= NARROW || count <= room
+// How many states and test edges there are, by which what a table may take is bounded.
+#[derive(Clone, Copy)]
+struct Size {
+    states: usize,
+    edges: usize,
 }
 
-/// A table of the automaton, if it is right. None where there would be too many cells or classes.
+impl Size {
+    fn of(dfa: &Dfa) -> Size {
+        let states = dfa.states().len();
+        let mut edges = 0usize;
+        for number in 0..states {
+            edges = edges.wrapping_add(dfa.test_edges(DfaStateIndex::new(number)).len());
+        }
+        Size { states, edges }
+    }
+
+    // Whether a table of so many cells takes not much more memory than the automaton.
+    fn has_room(self, cells: usize) -> bool {
+        let room = self
+            .states
+            .wrapping_mul(32)
+            .wrapping_add(self.edges.wrapping_mul(4));
+        cells <= NARROW || cells <= room
+    }
+
+    // Whether to go over so many cuts for each state takes not much longer than to go over the edges.
+    fn has_time(self, cuts: usize) -> bool {
+        let steps = self.states.wrapping_add(self.edges).wrapping_mul(16);
+        let all = self.states.wrapping_mul(cuts);
+        all <= SHORT || all <= steps
+    }
+}
+
+/// A table of the automaton, if it is right. None where there would be too many cells or classes, or too many cuts.
 ///
 /// # Errors
 ///
@@ -320,14 +351,15 @@ pub(crate) fn candidate_of(
     alloc: Global,
     dfa: &Dfa,
 ) -> Result<Option<(Layout, Vec<u32>)>, AllocError> {
-    let states = dfa.states().len();
-    let classes = classes_of(alloc, dfa)?;
-    let width = classes.count;
-    if width > 255 || states > 0x100_0000 {
+    let size = Size::of(dfa);
+    let cuts = cuts_of(alloc, dfa)?;
+    if size.states > 0x100_0000 || !size.has_time(cuts.len()) {
         return Ok(None);
     }
+    let classes = classes_of(alloc, dfa, cuts)?;
+    let width = classes.firsts.len();
     let stride = width.wrapping_add(1);
-    if !has_room(dfa, states.wrapping_mul(stride)) {
+    if width > 255 || !size.has_room(size.states.wrapping_mul(stride)) {
         return Ok(None);
     }
     let Places { rows, live, accept } = places_of(alloc, dfa, stride)?;

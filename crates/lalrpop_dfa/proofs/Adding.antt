@@ -103,7 +103,7 @@ first_added empty first s none is =
     let list : empty.list ≡ [] = ap (λ (k : Kernels (List Item)). k.list) none in
     (ap (λ (k : Kernels (List Item)). k.list) is ∙ ap (λ ks. added set_cmp ks s) list, ap (λ (k : Kernels (List Item)). k.place) is ∙ ap (λ (k : Kernels (List Item)). k.place) none)
 
--- ---- numbers that are memo
+-- ---- sets that are added keep their numbers
 pub added_stays : (sets : List (List Item)) (origins : List (ℕ × ℕ)) (n v : ℕ) (t : List Item) (j : ℕ) (sets2 : List (List Item)) (origins2 : List (ℕ × ℕ)) → AddedTo sets origins n v t j sets2 origins2
     → (k : ℕ) (s : List Item) → slice_get sets k ≡ Some s → slice_get sets2 k ≡ Some s
 added_stays sets origins n v t j sets2 origins2 (inl (e, a, b)) k s h = rw a h
@@ -123,18 +123,6 @@ lead_exact x y e =
 -- lists that compare as equal are equal
 pub transitions_exact : (x y : Transitions) → transitions_cmp x y ≡ Equal → x.list.items ≡ y.list.items
 transitions_exact x y e = lists_exact lead_exact x.list.items y.list.items e
-
-pub edge_memo_more : (ns : List Graph) (s : List Item) (memo known2 : BTreeMap Transitions ℕ) (sets : List (List Item)) (origins : List (ℕ × ℕ)) (n v : ℕ) (leads : Transitions) (j : ℕ) (sets2 : List (List Item)) (origins2 : List (ℕ × ℕ))
-    → IsEdgeMemo ns s memo sets → AreTransitions ns s v leads.list.items → AddedTo sets origins n v (move ns s v) j sets2 origins2 → Updates transitions_cmp memo known2 leads (Some j) → IsEdgeMemo ns s known2 sets2
-edge_memo_more ns s memo known2 sets origins n v leads j sets2 origins2 k these add u other i w h are = elim (cases_Bool (is_eq (transitions_cmp leads other))) [
-  | inl same ↦
-      (let e : leads.list.items ≡ other.list.items = transitions_exact leads other ((Equal-is (transitions_cmp leads other)).0 same) in
-      let found : Some j ≡ Some i = sym (u.0 other ∙ rw same refl) ∙ h in
-      let number : j ≡ i = cc in
-      let to : move ns s v ≡ move ns s w = leads_move ns s leads.list.items v w these (subst (AreTransitions ns s w) (sym e) are) in
-      rw (← number, ← to) (added_at sets origins n v (move ns s v) j sets2 origins2 add))
-  | inr apart ↦ added_stays sets origins n v (move ns s v) j sets2 origins2 add i (move ns s w) (k other i w (sym (u.0 other ∙ rw apart refl) ∙ h) are)
-]
 
 -- ---- edges in order
 transition_total : IsTotalOrder transition_cmp
@@ -162,8 +150,3 @@ pub sorted_by_test : (ls : List Transition) → ((k : ℕ) (d : Transition) → 
 sorted_by_test ls h k d low l = turned_order (transition_cmp (get_or ls (k + 1) d) (get_or ls k d))
     (subst (λ (o : Ordering). is_some_and is_le (Some o) ≡ true) (transition_total.antisymm (get_or ls k d) (get_or ls (k + 1) d))
     (subst (λ (o : Option Ordering). is_some_and is_le o ≡ true) (partial_is (get_or ls k d) (get_or ls (k + 1) d)) (h k d l)))
-
--- the numbers that are memo stay right while sets are added
-pub edge_memo_stays : (ns : List Graph) (s : List Item) (memo : BTreeMap Transitions ℕ) (sets : List (List Item)) (origins : List (ℕ × ℕ)) (n v : ℕ) (t : List Item) (j : ℕ) (sets2 : List (List Item)) (origins2 : List (ℕ × ℕ))
-    → IsEdgeMemo ns s memo sets → AddedTo sets origins n v t j sets2 origins2 → IsEdgeMemo ns s memo sets2
-edge_memo_stays ns s memo sets origins n v t j sets2 origins2 k add leads i w found are = added_stays sets origins n v t j sets2 origins2 add i (move ns s w) (k leads i w found are)

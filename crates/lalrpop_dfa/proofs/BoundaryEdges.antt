@@ -46,11 +46,6 @@ is_block cells count by_class boundaries read k x y are same l before at less so
 pub some_values : (x y : Cell) (none : Bool) → IsTrue none ↔ (y.first ≤ x.first) → none ≡ false → x.first < y.first
 some_values x y none is some = elim (cases_lt x.first y.first) [ inl less ↦ less | inr above ↦ (let yes : none ≡ true = is.1 above in cc) ]
 
--- the class of the values before a boundary, where there are some
-pub class_within : (cells : List Cell) (count : ℕ) (boundaries read : List ℕ) (k : ℕ) (x y : Cell) → AreCells cells count → IsBefore cells boundaries k x → slice_get cells (get_or read k 0) ≡ Some y → x.first < y.first → x.class < count
-class_within cells count boundaries read zero x y are before at less = absurd (omega (arith, before, less, (are.within (get_or read 0 0) y at).0))
-class_within cells count boundaries read (suc k) x y are before at less = (are.within (get_or boundaries k 0) x before).1
-
 -- the cell at a boundary is the one before the next boundary
 pub before_next : (cells : List Cell) (boundaries read : List ℕ) (k : ℕ) (y : Cell) → read ≡ boundaries → slice_get cells (get_or read k 0) ≡ Some y → IsBefore cells boundaries (k + 1) y
 before_next cells boundaries read k y same at = rw add-one (subst (λ (ks : List ℕ). slice_get cells (get_or ks k 0) ≡ Some y) same at)

@@ -35,9 +35,6 @@ pub added_from : (m : Automaton (List Item)) (sets : List (List Item)) (origins 
 added_from m sets origins n v t j sets2 origins2 (inl (e, a, b)) = inl (slice_get_within sets j t e, get_or_from_slice_get sets j t m.start e, a, b)
 added_from m sets origins n v t j sets2 origins2 (inr (none, e, a, b)) = inr (λ k l is. none k (slice_get-get_or sets k m.start l ∙ ap (λ s. Some s) is), e, a, b)
 
-pub added_of : (sets : List (List Item)) (origins : List (ℕ × ℕ)) (o : ℕ × ℕ) (n v : ℕ) (t : List Item) (j : ℕ) (sets2 : List (List Item)) (origins2 : List (ℕ × ℕ)) → o ≡ (n, v) → AddedTo sets origins o.0 o.1 t j sets2 origins2 → AddedTo sets origins n v t j sets2 origins2
-added_of sets origins o n v t j sets2 origins2 e h = subst (λ (p : ℕ × ℕ). AddedTo sets origins p.0 p.1 t j sets2 origins2) e h
-
 small_push : (origins : List (ℕ × ℕ)) (n v : ℕ) → v ≤ 4294967295 → AreSmall origins → AreSmall (origins ++ (n, v) ∷ [])
 small_push [] n v l f zero = l
 small_push [] n v l f (suc k) = omega arith
@@ -214,9 +211,6 @@ next_none (Some t) A P h never = absurd (never t refl)
 
 pub at_rows : (list : List (List Item)) (place n : ℕ) (s : List Item) → slice_get list place ≡ Some s → place ≡ n → slice_get list n ≡ Some s
 at_rows list place n s at is = rw (← is) at
-
-pub given_at : (list : List (List Item)) (place n : ℕ) (q s : List Item) → slice_get list place ≡ Some q → s ≡ q → place ≡ n → slice_get list n ≡ Some s
-given_at list place n q s at same is = rw (same, ← is) at
 
 -- a tie of a set, told with its word
 pub tie_told : (ps : List ℕ) (s : List Item) (v : List ℕ) (i j : ℕ) (e : DfaConstructionError) → IsTied ps s i j → IsClashAt v i j e → IsTieOf ps s v e

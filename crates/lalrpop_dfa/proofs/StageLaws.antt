@@ -134,9 +134,6 @@ block_written e s x y a ps sets number scratch w w2 j some to rows tests = recor
   cases = inr (j, record { some = some; added = to.added; tests = tests ∙ ap (λ ts. ts ++ (record { start = x.first; end = y.first - 1 }, j) ∷ []) to.tests });
 }
 
-pub same_row : (e : Stage) → IsSameRow e e
-same_row e = record { automata = refl; precedences = refl; number = refl; place = refl; rows = refl; boundaries = refl; by_class = refl }
-
 pub same_then : (e e2 e3 : Stage) → IsSameRow e e2 → IsSameRow e2 e3 → IsSameRow e e3
 same_then e e2 e3 a b = record {
   automata = b.automata ∙ a.automata;

@@ -65,7 +65,7 @@ fn clashes_of(
     for number in 0..expansion.len() {
         let set = expansion.item_set(number);
         let strongest = expansion.strongest(precedences, set)?;
-        ties.add_all(alloc, &strongest, expansion.origins(), number)?;
+        ties.add_all(&strongest, expansion.origins(), number)?;
     }
     Ok(ties.clashes)
 }

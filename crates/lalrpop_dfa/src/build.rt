@@ -9,12 +9,9 @@ ghost use Rattle.std.proofs.Common.{get_or};
 ghost use Rattle.lalrpop_book.specs.Tree.{Tree};
 ghost use Rattle.lalrpop_kernels.specs.Kernels.{moved};
 ghost use Rattle.lalrpop_nfa.specs.Graph.{Graph};
-ghost use Rattle.lalrpop_alphabet.specs.Internal.Alphabet.{IsSound};
 ghost use Rattle.lalrpop_items.specs.Internal.Ascending.{AreAscendingItems};
 ghost use Rattle.lalrpop_items.specs.Internal.Given.{AreAutomata, AreItemsOf};
 ghost use Rattle.lalrpop_items.specs.Automata.{AreCompiled};
-ghost use Rattle.lalrpop_items.specs.Internal.Subsets.{first_set_of};
-ghost use Rattle.lalrpop_items.specs.Internal.Transitions.{AreTransitions};
 ghost use Rattle.lalrpop_table.specs.Counts.{state_bound};
 ghost use Rattle.lalrpop_table.specs.Dfa.{Recognizes};
 ghost use Rattle.lalrpop_book.specs.Clash.{NoClash};
@@ -23,10 +20,10 @@ ghost use Rattle.lalrpop_book.specs.Report.{NoFault, IsReport};
 ghost use Rattle.lalrpop_dfa.specs.Internal.Blocks.{has_edges};
 ghost use Rattle.lalrpop_dfa.specs.Internal.BreadthFirst.{AreEarlier, IsBreadthFirst, word};
 ghost use Rattle.lalrpop_dfa.specs.Internal.Built.{subset_automaton, IsKindOf, IsStrongestIn};
-ghost use Rattle.lalrpop_dfa.specs.Internal.Expansion.{AreTested, IsEdged, IsBuiltTo, IsTieOf, IsClashAt, IsClashOf};
+ghost use Rattle.lalrpop_dfa.specs.Internal.Expansion.{AreTested, IsBuiltTo, IsTieOf, IsClashAt, IsClashOf};
 ghost use Rattle.lalrpop_dfa.specs.Internal.Scratch.{IsFilled};
 ghost use Rattle.lalrpop_dfa.specs.Internal.Ties.{AreAscending};
-ghost use Rattle.lalrpop_dfa.specs.Internal.Stage.{IsSameRow, IsTarget, IsBlockDone, Take, IsBuilt};
+ghost use Rattle.lalrpop_dfa.specs.Internal.Stage.{IsAt, IsSameRow, IsTarget, IsBlockDone, Take, IsBuilt};
 
 pub(crate) mod automata;
 mod best;
@@ -78,6 +75,47 @@ pub fn build_dfa(
 {
     let nfas = compile_all(alloc, regexs)?;
     build(alloc, &nfas, precedences)
+}
+
+/// The automaton of the patterns with these automata and precedences, or the clash of two of them.
+pub(super) fn build(
+    alloc: Global,
+    nfas: &[Nfa],
+    precedences: &[Precedence],
+) -> Result<Dfa, DfaConstructionError>
+    requires same_len { length nfas.now ≡ length precedences.now }
+    requires automata { AreAutomata nfas.now }
+    ensures stands { IfOk result (λ dfa. let ps = map (λ p. p.0) precedences.now in
+        (ts : List Tree) → AreCompiled ts nfas.now → NoClash ts ps × Recognizes dfa ts ps) }
+    ensures bound { IfOk result (λ dfa. (ts : List Tree) → AreCompiled ts nfas.now
+        → length dfa ≤ state_bound ts) }
+    ensures items { IfOk result (HoldsItems nfas.now) }
+    ensures others { IfOk result OthersReject }
+    ensures order { IfOk result IsInWordOrder }
+    ensures err { IfErr result (λ e. let ps = map (λ p. p.0) precedences.now in
+        (ts : List Tree) → AreCompiled ts nfas.now → IsClashOf ts ps e) }
+{
+    let expansion = expanded(alloc, nfas, precedences)?;
+    Ok(Dfa::new(alloc, expansion.into_rows())?)
+}
+
+/// The sets that all words lead to, and the row of each, or the clash of two patterns.
+pub(crate) fn expanded<'given>(
+    alloc: Global,
+    nfas: &'given [Nfa],
+    precedences: &'given [Precedence],
+) -> Result<Expansion<'given>, DfaConstructionError>
+    requires same_len { length nfas.now ≡ length precedences.now }
+    requires automata { AreAutomata nfas.now }
+    ensures ok { IfOk result (λ e. IsBuiltTo nfas.now (map (λ p. p.0) precedences.now)
+        e.kernels.list e.origins e.written.rows (length e.kernels.list)) }
+    ensures graphs { IfOk result (λ e. e.automata.graphs ≡ nfas.now) }
+    ensures err { IfErr result (λ e. let ps = map (λ p. p.0) precedences.now in
+        (ts : List Tree) → AreCompiled ts nfas.now → IsClashOf ts ps e) }
+{
+    let mut expansion = Expansion::new(alloc, nfas, precedences)?;
+    expansion.run()?;
+    Ok(expansion)
 }
 
 /// An automaton under construction: the sets of items by number, the number that is expanded, what leaves its set, the
@@ -137,6 +175,23 @@ impl<'given> Expansion<'given> {
         })
     }
 
+    // The rows of all numbers in turn, until no set is left without one.
+    fn run(&mut self) -> Result<(), DfaConstructionError>
+        requires built { IsBuilt self.old }
+        requires place { self.old.kernels.place ≡ length self.old.written.rows }
+        ensures ok { OnOk result (IsBuiltTo self.old.automata.graphs self.old.precedences
+            self.new.kernels.list self.new.origins self.new.written.rows
+            (length self.new.kernels.list)) }
+        ensures automata { OnOk result (self.new.automata ≡ self.old.automata) }
+        ensures err { IfErr result (λ e. (ts : List Tree) → AreCompiled ts self.old.automata.graphs
+            → IsClashOf ts self.old.precedences e) }
+    {
+        while let Some(set) = self.next()? {
+            self.row(set)?;
+        }
+        Ok(())
+    }
+
     // The next set in the order of the numbers.
     fn next(&mut self) -> Result<Option<ItemSet>, AllocError>
         ensures given { IfOk result (λ o. MatchOption o
@@ -146,6 +201,27 @@ impl<'given> Expansion<'given> {
             ≡ record self.old { kernels = moved self.old.kernels o }) }
     {
         self.sets.kernels.next()
+    }
+
+    // The row of the next number, whose set this is.
+    fn row(&mut self, set: ItemSet) -> Result<(), DfaConstructionError>
+        requires built { IsBuilt self.old }
+        requires here { slice_get self.old.kernels.list (length self.old.written.rows) ≡ Some set }
+        ensures built { OnOk result (IsBuilt self.new) }
+        ensures one { OnOk result (length self.new.written.rows
+            ≡ length self.old.written.rows + 1) }
+        ensures place { OnOk result (self.new.kernels.place ≡ self.old.kernels.place) }
+        ensures automata { OnOk result (self.new.automata ≡ self.old.automata) }
+        ensures precedences { OnOk result (self.new.precedences ≡ self.old.precedences) }
+        ensures err { IfErr result (IsTieOf self.old.precedences set
+            (word self.old.origins (length self.old.written.rows))) }
+    {
+        let kind = self.kind(&set)?;
+        self.begin(&set)?;
+        self.blocks(&set)?;
+        let other = self.other(&set)?;
+        self.end(set, kind, other)?;
+        Ok(())
     }
 
     // The kind of the next row's set, or the clash of its strongest patterns.
@@ -181,74 +257,6 @@ impl<'given> Expansion<'given> {
         self.automata.fill(&mut self.scratch, set)
     }
 
-    // The number of the set that the number's set leads to by the values of a class.
-    #[inline(never)]
-    fn target(
-        &mut self,
-        set: &ItemSet,
-        class: usize,
-        origin: Origin,
-    ) -> Result<DfaStateIndex, AllocError>
-        requires here { slice_get self.old.kernels.list self.old.number ≡ Some set.now }
-        requires inside { AreItemsOf self.old.automata.graphs set.now }
-        requires same_length { length self.old.origins ≡ length self.old.kernels.list }
-        requires number { origin.0 ≡ self.old.number }
-        requires some { has_edges (slice_get self.old.by_class class) ≡ true }
-        requires take { Take self.old set.now class origin.1 }
-        ensures { IfOk result (λ j. IsTarget self.old set.now origin.1 j self.new) }
-    {
-        let number = match self.memo.find(&self.scratch.edges, class) {
-            Some(number) => number,
-            None => {
-                let transitions = &self.scratch.edges.lists[class].list;
-                let number = self.sets.closure(&self.automata, set, transitions, origin)?;
-                self.memo.insert(&self.scratch.edges, class, number)?;
-                number
-            }
-        };
-        self.memo.note(class, number);
-        Ok(number)
-    }
-
-    // How many boundaries the labels that leave the set have.
-    fn boundary_count(&self) -> usize
-        ensures { result ≡ length self.now.boundaries }
-    {
-        self.scratch.boundaries.places.len()
-    }
-
-    // The cell at a boundary.
-    fn boundary(&self, index: usize) -> Cell
-        requires within { index < length self.now.boundaries }
-        requires cells { get_or self.now.boundaries index 0 < length self.now.automata.alphabet.cells }
-        ensures automata { AreAutomata self.now.automata.graphs }
-        ensures cell { slice_get self.now.automata.alphabet.cells
-            (get_or self.now.boundaries index 0) ≡ Some result }
-    {
-        self.automata.cell(self.scratch.boundaries.places[index])
-    }
-
-    // Writes the edge of a block, unless its values take none. Only the first block of a class looks its target up.
-    fn edge(&mut self, set: &ItemSet, block: Block) -> Result<(), AllocError>
-        requires here { slice_get self.old.kernels.list self.old.number ≡ Some set.now }
-        requires inside { AreItemsOf self.old.automata.graphs set.now }
-        requires same_length { length self.old.origins ≡ length self.old.kernels.list }
-        requires class { block.from.class < length self.old.by_class }
-        requires less { block.from.first < block.to.first }
-        requires small { block.to.first ≤ 2 ^ 32 }
-        requires take { Take self.old set.now block.from.class block.from.first }
-        ensures { OnOk result (IsBlockDone self.old set.now block.from block.to self.new) }
-    {
-        let class = block.from.class;
-        let target = match self.memo.by_class[class] {
-            Some(target) => target,
-            None if self.scratch.edges.is_bare(class) => return Ok(()),
-            None => self.target(set, class, block.origin(self.number))?,
-        };
-        block.write_edge(target, &mut self.writer)?;
-        Ok(())
-    }
-
     // Writes the edges of the blocks, in order: of the values from one boundary up to the next.
     fn blocks(&mut self, set: &ItemSet) -> Result<(), AllocError>
         requires breadth_first { IsBreadthFirst (subset_automaton self.old.automata.graphs)
@@ -276,12 +284,75 @@ impl<'given> Expansion<'given> {
         Ok(())
     }
 
+    // How many boundaries the labels that leave the set have.
+    fn boundary_count(&self) -> usize
+        ensures { result ≡ length self.now.boundaries }
+    {
+        self.scratch.boundaries.places.len()
+    }
+
+    // The cell at a boundary.
+    fn boundary(&self, index: usize) -> Cell
+        requires within { index < length self.now.boundaries }
+        requires cells { get_or self.now.boundaries index 0 < length self.now.automata.alphabet.cells }
+        ensures automata { AreAutomata self.now.automata.graphs }
+        ensures cell { slice_get self.now.automata.alphabet.cells
+            (get_or self.now.boundaries index 0) ≡ Some result }
+    {
+        self.automata.cell(self.scratch.boundaries.places[index])
+    }
+
+    // Writes the edge of a block, unless its values take none. Only the first block of a class looks its target up.
+    fn edge(&mut self, set: &ItemSet, block: Block) -> Result<(), AllocError>
+        requires at { IsAt self.old set.now }
+        requires class { block.from.class < length self.old.by_class }
+        requires less { block.from.first < block.to.first }
+        requires small { block.to.first ≤ 2 ^ 32 }
+        requires take { Take self.old set.now block.from.class block.from.first }
+        ensures { OnOk result (IsBlockDone self.old set.now block.from block.to self.new) }
+    {
+        let class = block.from.class;
+        let target = match self.memo.by_class[class] {
+            Some(target) => target,
+            None if self.scratch.edges.is_bare(class) => return Ok(()),
+            None => self.target(set, class, block.origin(self.number))?,
+        };
+        block.write_edge(target, &mut self.writer)?;
+        Ok(())
+    }
+
+    // The number of the set that the number's set leads to by the values of a class: found in the memo, or the closure of the
+    // states that their test edges lead to. It stands apart in the machine code, so that the loop over the blocks stays small.
+    #[inline(never)]
+    fn target(
+        &mut self,
+        set: &ItemSet,
+        class: usize,
+        origin: Origin,
+    ) -> Result<DfaStateIndex, AllocError>
+        requires at { IsAt self.old set.now }
+        requires number { origin.0 ≡ self.old.number }
+        requires some { has_edges (slice_get self.old.by_class class) ≡ true }
+        requires take { Take self.old set.now class origin.1 }
+        ensures { IfOk result (λ j. IsTarget self.old set.now origin.1 j self.new) }
+    {
+        let number = match self.memo.find(&self.scratch.edges, class) {
+            Some(number) => number,
+            None => {
+                let transitions = &self.scratch.edges.lists[class].list;
+                let number = self.sets.closure(&self.automata, set, transitions, origin)?;
+                self.memo.insert(&self.scratch.edges, class, number)?;
+                number
+            }
+        };
+        self.memo.note(class, number);
+        Ok(number)
+    }
+
     // The number of the set that the number's set leads to by all other values. No label reaches the greatest number, so that
     // it takes no test edge.
     fn other(&mut self, set: &ItemSet) -> Result<DfaStateIndex, AllocError>
-        requires here { slice_get self.old.kernels.list self.old.number ≡ Some set.now }
-        requires inside { AreItemsOf self.old.automata.graphs set.now }
-        requires same_length { length self.old.origins ≡ length self.old.kernels.list }
+        requires at { IsAt self.old set.now }
         ensures target { IfOk result (λ j. IsTarget self.old set.now 4294967295 j self.new) }
         ensures automata { AreAutomata self.old.automata.graphs }
     {
@@ -303,44 +374,6 @@ impl<'given> Expansion<'given> {
         ensures same { OnOk result (self.new ≡ record self.old { written = self.new.written }) }
     {
         self.writer.end_row(set, kind, other)
-    }
-
-    // The row of the next number, whose set this is.
-    fn row(&mut self, set: ItemSet) -> Result<(), DfaConstructionError>
-        requires built { IsBuilt self.old }
-        requires here { slice_get self.old.kernels.list (length self.old.written.rows) ≡ Some set }
-        ensures built { OnOk result (IsBuilt self.new) }
-        ensures one { OnOk result (length self.new.written.rows
-            ≡ length self.old.written.rows + 1) }
-        ensures place { OnOk result (self.new.kernels.place ≡ self.old.kernels.place) }
-        ensures automata { OnOk result (self.new.automata ≡ self.old.automata) }
-        ensures precedences { OnOk result (self.new.precedences ≡ self.old.precedences) }
-        ensures err { IfErr result (IsTieOf self.old.precedences set
-            (word self.old.origins (length self.old.written.rows))) }
-    {
-        let kind = self.kind(&set)?;
-        self.begin(&set)?;
-        self.blocks(&set)?;
-        let other = self.other(&set)?;
-        self.end(set, kind, other)?;
-        Ok(())
-    }
-
-    // The rows of all numbers in turn, until no set is left without one.
-    fn run(&mut self) -> Result<(), DfaConstructionError>
-        requires built { IsBuilt self.old }
-        requires place { self.old.kernels.place ≡ length self.old.written.rows }
-        ensures ok { OnOk result (IsBuiltTo self.old.automata.graphs self.old.precedences
-            self.new.kernels.list self.new.origins self.new.written.rows
-            (length self.new.kernels.list)) }
-        ensures automata { OnOk result (self.new.automata ≡ self.old.automata) }
-        ensures err { IfErr result (λ e. (ts : List Tree) → AreCompiled ts self.old.automata.graphs
-            → IsClashOf ts self.old.precedences e) }
-    {
-        while let Some(set) = self.next()? {
-            self.row(set)?;
-        }
-        Ok(())
     }
 
     /// How many rows there are.
@@ -404,45 +437,4 @@ fn clash_of(alloc: Global, origins: &[Origin], number: usize, tie: Tie) -> DfaCo
         },
         Err(_) => DfaConstructionError::OutOfMemory,
     }
-}
-
-/// The sets that all words lead to, and the row of each, or the clash of two patterns.
-pub(crate) fn expanded<'given>(
-    alloc: Global,
-    nfas: &'given [Nfa],
-    precedences: &'given [Precedence],
-) -> Result<Expansion<'given>, DfaConstructionError>
-    requires same_len { length nfas.now ≡ length precedences.now }
-    requires automata { AreAutomata nfas.now }
-    ensures ok { IfOk result (λ e. IsBuiltTo nfas.now (map (λ p. p.0) precedences.now)
-        e.kernels.list e.origins e.written.rows (length e.kernels.list)) }
-    ensures graphs { IfOk result (λ e. e.automata.graphs ≡ nfas.now) }
-    ensures err { IfErr result (λ e. let ps = map (λ p. p.0) precedences.now in
-        (ts : List Tree) → AreCompiled ts nfas.now → IsClashOf ts ps e) }
-{
-    let mut expansion = Expansion::new(alloc, nfas, precedences)?;
-    expansion.run()?;
-    Ok(expansion)
-}
-
-/// The automaton of the patterns with these automata and precedences, or the clash of two of them.
-pub(super) fn build(
-    alloc: Global,
-    nfas: &[Nfa],
-    precedences: &[Precedence],
-) -> Result<Dfa, DfaConstructionError>
-    requires same_len { length nfas.now ≡ length precedences.now }
-    requires automata { AreAutomata nfas.now }
-    ensures stands { IfOk result (λ dfa. let ps = map (λ p. p.0) precedences.now in
-        (ts : List Tree) → AreCompiled ts nfas.now → NoClash ts ps × Recognizes dfa ts ps) }
-    ensures bound { IfOk result (λ dfa. (ts : List Tree) → AreCompiled ts nfas.now
-        → length dfa ≤ state_bound ts) }
-    ensures items { IfOk result (HoldsItems nfas.now) }
-    ensures others { IfOk result OthersReject }
-    ensures order { IfOk result IsInWordOrder }
-    ensures err { IfErr result (λ e. let ps = map (λ p. p.0) precedences.now in
-        (ts : List Tree) → AreCompiled ts nfas.now → IsClashOf ts ps e) }
-{
-    let expansion = expanded(alloc, nfas, precedences)?;
-    Ok(Dfa::new(alloc, expansion.into_rows())?)
 }

@@ -12,6 +12,7 @@ use std::collections::BTreeSet;
 /// The clashes that were found, in order, and their pairs.
 #[derive(Drop)]
 pub(super) struct Ties {
+    alloc: Global,
     pub(super) clashes: Vec<Clash>,
     pairs: BTreeSet<(NfaIndex, NfaIndex)>,
 }
@@ -22,6 +23,7 @@ impl Ties {
         ensures pairs { ArePairsOf result.pairs result.clashes.items }
     {
         Ties {
+            alloc,
             clashes: Vec::new(alloc),
             pairs: BTreeSet::new(alloc),
         }
@@ -30,7 +32,6 @@ impl Ties {
     // Adds the clash of a pair that ties in the set with this number, unless the pair was met before.
     fn add(
         &mut self,
-        alloc: Global,
         match0: NfaIndex,
         match1: NfaIndex,
         origins: &[Origin],
@@ -45,7 +46,7 @@ impl Ties {
         ensures pairs { OnOk result (ArePairsOf self.new.pairs self.new.clashes.items) }
     {
         if self.pairs.insert((match0, match1))? {
-            let word = word_to(alloc, origins, number)?;
+            let word = word_to(self.alloc, origins, number)?;
             self.clashes.push(Clash {
                 match0,
                 match1,
@@ -59,7 +60,6 @@ impl Ties {
     /// strongest patterns, in order.
     pub(super) fn add_all(
         &mut self,
-        alloc: Global,
         strongest: &[NfaIndex],
         origins: &[Origin],
         number: usize,
@@ -74,7 +74,7 @@ impl Ties {
     {
         for upper in (0..strongest.len()).rev() {
             for lower in (0..upper).rev() {
-                self.add(alloc, strongest[upper], strongest[lower], origins, number)?;
+                self.add(strongest[upper], strongest[lower], origins, number)?;
             }
         }
         Ok(())

@@ -34,8 +34,8 @@ token_pays s t m before after n u on b some e more =
     let split : rest_of s ≡ m ++ rest_of t = rest_behind s t m b e in
     let still : t.is_over ≡ false = ap (λ (x : Cutting). x.is_over) e ∙ on in
     let count : left_of s ≡ length (chars m) + left_of t =
-        left_on s on ∙ ap (λ (w : List ℕ). length (chars w)) split ∙ ap length (chars-append m (rest_of t) b.1.1) ∙ length-append (chars m) (chars (rest_of t))
-        ∙ ap (λ (k : ℕ). length (chars m) + k) (sym (left_on t still)) in
+    left_on s on ∙ ap (λ (w : List ℕ). length (chars w)) split ∙ ap length (chars-append m (rest_of t) b.1.1) ∙ length-append (chars m) (chars (rest_of t))
+    ∙ ap (λ (k : ℕ). length (chars m) + k) (sym (left_on t still)) in
     rw count (pays n (length (chars m)) (left_of t) before after (some_char m b.1.1 some) more)
 
 pub fault_pays : (s t : Cutting) (before after n : ℕ) → s.is_over ≡ false → t ≡ record s { is_over = true } → after ≤ before + length (chars (rest_of s))

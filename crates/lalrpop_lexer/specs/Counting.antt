@@ -1,6 +1,6 @@
 -- cases: proofs/Cases/Counting.antt
 -- What it costs to cut a text into tokens.
-use Rattle.std.specs.Prelude.{ℕ, ◌+◌, ◌*◌, ◌≤◌, List, Option, Result}
+use Rattle.std.specs.Prelude.{◌≡◌, ℕ, ◌+◌, ◌*◌, ◌≤◌, List, Option, Result, IfNone}
 use Rattle.lalrpop_table.specs.Dfa.{Row}
 use Rattle.lalrpop_table.specs.Lookahead.{LooksAtMost}
 use Rattle.lalrpop_lexer.specs.Cutting.{Cutting, start_of, left_of}
@@ -23,6 +23,8 @@ IsPaid old new =
     (n : ℕ) → LooksAtMost old.cutting.automaton n
     → new.steps + (n + 2) * left_of new.cutting ≤ old.steps + (n + 2) * left_of old.cutting
 
--- what one call gives: what `tokens` gives, and the characters that it cuts off pay for those that it reads
+-- what one call gives: what `tokens` gives; the characters that it cuts off pay for those that it reads; and where it gives nothing it
+-- reads nothing
 abbrev pub GivesCounted : Counting → Option (Result Token TokenFault) → Counting → Type 0
-GivesCounted old x new = GivesToken old.cutting x new.cutting × (old.steps ≤ new.steps) × IsPaid old new
+GivesCounted old x new =
+    GivesToken old.cutting x new.cutting × (old.steps ≤ new.steps) × IsPaid old new × IfNone x (new.steps ≡ old.steps)

@@ -24,7 +24,7 @@ impl<'text> Model for LexerTokens<'text> {
 }
 
 impl<'text> LexerTokens<'text> {
-    ghost use Rattle.std.specs.Prelude.{ℕ, ◌+◌, ◌*◌, ◌≤◌, ◌<◌, OnSome};
+    ghost use Rattle.std.specs.Prelude.{ℕ, ◌+◌, ◌*◌, ◌≤◌, ◌<◌, IfNone, OnSome};
     ghost use Rattle.lalrpop_table.specs.Lookahead.{LooksAtMost};
     ghost use Rattle.lalrpop_lexer.specs.Cutting.{rest_of, left_of};
     ghost use Rattle.lalrpop_lexer.specs.LexerTokens.{GivesToken};
@@ -50,6 +50,7 @@ impl<'text> LexerTokens<'text> {
         ensures gives { GivesToken self.old result self.new }
         ensures goes { OnSome result (left_of self.new < left_of self.old) }
         ensures never_falls { steps.old ≤ steps.new }
+        ensures idle { IfNone result (steps.new ≡ steps.old) }
         ensures paid { (n : ℕ) → LooksAtMost self.old.automaton n
             → steps.new + (n + 2) * left_of self.new ≤ steps.old + (n + 2) * left_of self.old }
     {
@@ -77,6 +78,7 @@ impl<'text> Iterator for LexerTokens<'text> {
 
     ghost remaining = { λ s. at_most (left_of s) };
 
+    #[inline(always)]
     fn next(&mut self) -> Option<Result<Token<'text>, TokenFault>> {
         self.next_counted(&mut Steps::new())
     }

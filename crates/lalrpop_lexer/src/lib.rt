@@ -19,8 +19,8 @@ mod token;
 
 pub use counted::CountedTokens;
 pub use cut::tokens;
-pub use lalrpop_kernels as kernel_set;
 pub use lalrpop_book::{Token, TokenFault};
+pub use lalrpop_kernels as kernel_set;
 pub use lexer_token::LexerTokens;
 pub use longest::longest_match;
 pub use position::{Position, Positions};

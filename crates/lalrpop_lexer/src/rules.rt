@@ -166,7 +166,7 @@ impl Lexer {
     }
 
     /// For each pattern, in the order of their places, whether a token by it can stay open for ever: there is no number of
-    /// characters that settles that no longer one comes. Where `lookahead` gives a number none is, else one is.
+    /// characters that settles that no longer one comes. Where `lookahead` gives a number none is.
     ///
     /// # Errors
     ///

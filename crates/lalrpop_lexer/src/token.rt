@@ -39,7 +39,7 @@ impl<'text, M: Matcher> Model for Tokens<'text, M> {
 }
 
 impl<'text, M: Matcher> Tokens<'text, M> {
-    ghost use Rattle.std.specs.Prelude.{false, ℕ, ◌+◌, ◌*◌, ◌≤◌, ◌<◌, OnSome};
+    ghost use Rattle.std.specs.Prelude.{false, ℕ, ◌+◌, ◌*◌, ◌≤◌, ◌<◌, IfNone, OnSome};
     ghost use Rattle.lalrpop_table.specs.Lookahead.{LooksAtMost};
     ghost use Rattle.lalrpop_lexer.specs.Cutting.{start_of, rest_of, GivesItem, left_of};
 
@@ -77,6 +77,7 @@ impl<'text, M: Matcher> Tokens<'text, M> {
         ensures gives { GivesItem self.old result self.new }
         ensures goes { OnSome result (left_of self.new < left_of self.old) }
         ensures never_falls { steps.old ≤ steps.new }
+        ensures idle { IfNone result (steps.new ≡ steps.old) }
         ensures paid { (n : ℕ) → LooksAtMost self.old.automaton n
             → steps.new + (n + 2) * left_of self.new ≤ steps.old + (n + 2) * left_of self.old }
     {
@@ -106,6 +107,7 @@ impl<'text, M: Matcher> Iterator for Tokens<'text, M> {
 
     ghost remaining = { λ s. at_most (left_of s) };
 
+    #[inline(always)]
     fn next(&mut self) -> Option<Result<(NfaIndex, &'text str), TokenFault>> {
         self.next_counted(&mut Steps::new())
     }

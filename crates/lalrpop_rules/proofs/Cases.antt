@@ -2,3 +2,4 @@
 mod Found
 mod Pieces
 mod CutToEnd
+mod RuleSet

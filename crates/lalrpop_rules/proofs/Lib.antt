@@ -1,6 +1,10 @@
 mod Cases
 -- the first place of a text where something matches
 pub mod FirstMatches
+-- what follows from the promises, for callers
+pub mod CallerLaws
+-- the trees of rules
+pub mod RuleTrees
 -- the pieces of a text
 pub mod Fronts
 pub mod PieceLaws

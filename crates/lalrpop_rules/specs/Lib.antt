@@ -1,4 +1,5 @@
 pub mod Found
 pub mod Pieces
 pub mod CutToEnd
+pub mod RuleSet
 pub mod Internal

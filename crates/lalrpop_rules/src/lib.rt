@@ -1,12 +1,20 @@
-//! Rules as people write them, over a lexer: what a rule skips, and going on behind a fault, so that each text is cut to its end.
+//! Rules as people write them, over a lexer: names, what is skipped, and going on behind a fault, so that each text is cut to its
+//! end.
 #![tactic(auto)]
 
 mod cut;
+mod error;
 mod item;
 mod leftmost;
 mod pieces;
+mod reading;
+mod rule;
+mod rule_lexer;
 
 pub use cut::items;
+pub use error::RulesError;
 pub use item::Item;
 pub use leftmost::find;
 pub use pieces::Items;
+pub use rule::{Form, Rule};
+pub use rule_lexer::RuleLexer;

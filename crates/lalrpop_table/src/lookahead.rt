@@ -159,7 +159,10 @@ pub fn open_patterns(alloc: Global, dfa: &Dfa, count: usize) -> Result<Vec<bool>
     let marks = ever_open(alloc, dfa)?;
     let mut found = vec![in alloc; false; count]?;
     for number in 0..marks.len() {
-        mark(&mut found, entering(dfa, DfaStateIndex::new(number), &marks));
+        mark(
+            &mut found,
+            entering(dfa, DfaStateIndex::new(number), &marks),
+        );
     }
     Ok(found)
 }

@@ -2,6 +2,7 @@
 
 use crate::lists::List;
 use lalrpop_lexer::lexer::dfa::{DenseDfa, Dfa, Matcher, NfaIndex};
+use lalrpop_lexer::lexer::nfa::Steps;
 use lalrpop_lexer::{Lexer, tokens};
 use std::alloc::Global;
 
@@ -104,7 +105,7 @@ fn cut_by_loop<M: Matcher>(matcher: &M, text: &str) -> Cut {
         let Some(first) = rest.chars().next() else {
             break;
         };
-        rest = match matcher.longest_match(rest) {
+        rest = match matcher.longest_match(rest, &mut Steps::new()) {
             Some((terminal, word)) => {
                 cut.add(terminal, word.len());
                 behind(rest, word.len())

@@ -81,8 +81,16 @@ fn open_of(alloc: Global, words: &str) -> Result<String, AllocError> {
 #[test]
 fn patterns_that_stay_open(rt: HostRuntime) {
     expect(&rt, open_of(rt.alloc(), "'a' a*b"), "[true, false]");
-    expect(&rt, open_of(rt.alloc(), r"x '/' /\*([^*]|\*+[^*/])*\*+/"), "[false, true, false]");
-    expect(&rt, open_of(rt.alloc(), "'if' [a-z]+ '.' '..'"), "[false, false, false, false]");
+    expect(
+        &rt,
+        open_of(rt.alloc(), r"x '/' /\*([^*]|\*+[^*/])*\*+/"),
+        "[false, true, false]",
+    );
+    expect(
+        &rt,
+        open_of(rt.alloc(), "'if' [a-z]+ '.' '..'"),
+        "[false, false, false, false]",
+    );
     expect(&rt, open_of(rt.alloc(), ""), "[]");
 }
 
@@ -93,7 +101,12 @@ fn counted(alloc: Global, words: &str, text: &str) -> Result<String, AllocError>
     let mut items = lexer.tokens_counted(text);
     for item in items.by_ref() {
         let line = match item {
-            Ok(token) => format!(in alloc; "{} {:?} at {}, ", token.index.index(), token.slice, token.start)?,
+            Ok(token) => format!(in alloc;
+                "{} {:?} at {}, ",
+                token.index.index(),
+                token.slice,
+                token.start
+            )?,
             Err(fault) => format!(in alloc; "{fault}, ")?,
         };
         given.push_str(&line)?;
@@ -105,7 +118,8 @@ fn counted(alloc: Global, words: &str, text: &str) -> Result<String, AllocError>
 
 #[test]
 fn counted_tokens(rt: HostRuntime) {
-    let wanted = r#"0 "a" at 0, 1 "abcd" at 1, 0 "a" at 5, no pattern matches at byte 6, None, None"#;
+    let wanted =
+        r#"0 "a" at 0, 1 "abcd" at 1, 0 "a" at 5, no pattern matches at byte 6, None, None"#;
     expect(&rt, counted(rt.alloc(), "'a' 'abcd'", "aabcdabc"), wanted);
     expect(&rt, counted(rt.alloc(), "'a' 'abcd'", ""), "None, None");
 }

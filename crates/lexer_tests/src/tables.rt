@@ -57,7 +57,8 @@ fn words_by_a_table(rt: HostRuntime) {
 }
 
 // The first is stronger than the others. No letter of the second needs more than 16 bits.
-const SCRIPTS: &str = r"'été' [\w--[\x{10000}-\x{10ffff}]]+ \x20+ → [\x{7f}-\x{80}]+ [\x{10000}-\x{10ffff}]";
+const SCRIPTS: &str =
+    r"'été' [\w--[\x{10000}-\x{10ffff}]]+ \x20+ → [\x{7f}-\x{80}]+ [\x{10000}-\x{10ffff}]";
 
 const SCRIPTS_CUT: &str = "
 été étés → 日本 => 0 été, 2  , 1 étés, 2  , 3 →, 2  , 1 日本, 

@@ -2,6 +2,8 @@
 #![tactic(auto)]
 
 #[cfg(test)]
+mod named;
+#[cfg(test)]
 mod pieces;
 #[cfg(test)]
 mod shared;

@@ -31,10 +31,20 @@ const FOUND: &str = r#"
 fn shown(alloc: Global, item: &Item) -> Result<String> {
     Ok(match item {
         Item::Token(token) => {
-            format!(in alloc; "{} {:?} {}, ", token.index.index(), token.slice, token.start)?
+            format!(in alloc;
+                "{} {:?} {}, ",
+                token.index.index(),
+                token.slice,
+                token.start
+            )?
         }
         Item::Skipped(token) => {
-            format!(in alloc; "({} {:?} {}), ", token.index.index(), token.slice, token.start)?
+            format!(in alloc;
+                "({} {:?} {}), ",
+                token.index.index(),
+                token.slice,
+                token.start
+            )?
         }
         Item::Fault { start, slice } => format!(in alloc; "! {slice:?} {start}, ")?,
     })
@@ -55,9 +65,12 @@ fn pieces(alloc: Global, text: &str) -> Result<String> {
 fn first(alloc: Global, text: &str) -> Result<String> {
     let lexer = small_lexer(alloc)?;
     match find(&lexer, text) {
-        Some(token) => Ok(
-            format!(in alloc; "{} {:?} {}", token.index.index(), token.slice, token.start)?,
-        ),
+        Some(token) => Ok(format!(in alloc;
+            "{} {:?} {}",
+            token.index.index(),
+            token.slice,
+            token.start
+        )?),
         None => Ok(String::from_str(alloc, "None")?),
     }
 }

@@ -50,23 +50,31 @@ pub fn plain_lines<W: Write>(
     write_tokens(alloc, lexer, None, text, writer)
 }
 
-// The place where cutting stopped, as people count it.
-// Needs tokens_lib::write_tokens: boundary.
-pub fn stop_of<W: Write>(
+// The lines of a text with places.
+// Needs tokens_lib::write_tokens: written, boundary.
+pub fn lines_with_places<W: Write>(
     alloc: Global,
     lexer: &Lexer,
     file: &str,
     text: &str,
     writer: &mut Watched<W>,
-) -> Result<Option<Position>, RunError>
+) -> Result<Outcome, RunError>
     requires writer_good { writer.old.failed ≡ false }
-    ensures stop { IfOk result (λ place. IfSome place (λ p. (n at : ℕ)
-        × (WritesTokens lexer.now.trees lexer.now.precedences (Some file.now) text.now
-            (W.contents writer.old.inner) (W.contents writer.new.inner) (Outcome.Stopped n at)
-        × (p ≡ position_of text.now at)))) }
+    ensures written { IfOk result (λ outcome. WritesTokens lexer.now.trees lexer.now.precedences
+        (Some file.now) text.now (W.contents writer.old.inner) (W.contents writer.new.inner) outcome) }
+    ensures boundary { IfOk result (IsStopOf text.now) }
 {
-    match write_tokens(alloc, lexer, Some(file), text, writer)? {
-        Outcome::Stopped { at, .. } => Ok(Some(Position::of(text, at))),
-        _ => Ok(None),
+    write_tokens(alloc, lexer, Some(file), text, writer)
+}
+
+// The place where cutting stopped, as people count it.
+pub fn place_of_stop(text: &str, outcome: &Outcome) -> Option<Position>
+    requires boundary { IsStopOf text.now outcome.now }
+    ensures place { IfSome result (λ p. (n at : ℕ)
+        × ((outcome.now ≡ Outcome.Stopped n at) × (p ≡ position_of text.now at))) }
+{
+    match outcome {
+        Outcome::Stopped { at, .. } => Some(Position::of(text, *at)),
+        _ => None,
     }
 }

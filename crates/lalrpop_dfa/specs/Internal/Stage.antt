@@ -3,7 +3,7 @@ use Rattle.std.specs.Prelude.{◌≡◌, ◌≢◌, ℕ, ◌-◌, ◌+◌, ◌�
 use Rattle.lalrpop_book.specs.Range.{Range}
 use Rattle.lalrpop_kernels.specs.Kernels.{Kernels}
 use Rattle.lalrpop_items.specs.Automata.{Item}
-use Rattle.lalrpop_items.specs.Internal.Given.{AreAutomata}
+use Rattle.lalrpop_items.specs.Internal.Given.{AreAutomata, AreItemsOf}
 use Rattle.lalrpop_items.specs.Internal.Subsets.{move}
 use Rattle.lalrpop_items.specs.Internal.Transitions.{AreTransitions}
 use Rattle.lalrpop_table.specs.Internal.Written.{Written}
@@ -55,6 +55,12 @@ pub record IsExpansion (a : Labelled) (pattern_count : ℕ) (sets : List (List I
 -- each set keeps its number
 abbrev pub Extends : List (List Item) → List (List Item) → Type 0
 Extends sets sets2 = (k : ℕ) (s : List Item) → slice_get sets k ≡ Some s → slice_get sets2 k ≡ Some s
+
+-- the number's set is s, which holds items
+pub record IsAt (e : Stage) (s : List Item) : Type 0 where
+  pub here : slice_get e.kernels.list e.number ≡ Some s
+  pub inside : AreItemsOf e.automata.graphs s
+  pub same_length : length e.origins ≡ length e.kernels.list
 
 -- what stays while a row is written
 pub record IsSameRow (e e2 : Stage) : Type 0 where

@@ -98,7 +98,7 @@ impl EdgesByClass {
 }
 
 impl Boundaries {
-    // No boundaries, with scratch for the marks of so many groups.
+    // No boundaries, and a mark for each group.
     fn new(alloc: Global, group_count: usize) -> Result<Boundaries, AllocError>
         ensures count { IfOk result (λ boundaries. length boundaries.marks.items ≡ group_count) }
         ensures marked { IfOk result (λ boundaries. AreMarked boundaries.marks.items boundaries.groups.items) }
@@ -171,7 +171,7 @@ fn add_item(
     Ok(())
 }
 
-// So many classes with no edge.
+// Classes with no edge.
 fn bare_classes(alloc: Global, count: usize) -> Result<Vec<Transitions>, AllocError>
     ensures count { IfOk result (λ classes. length classes.items ≡ count) }
     ensures bare { IfOk result (λ classes. AreBare classes.items) }
@@ -185,7 +185,7 @@ fn bare_classes(alloc: Global, count: usize) -> Result<Vec<Transitions>, AllocEr
     Ok(classes)
 }
 
-// What leaves the items, into scratch where nothing is.
+// Gathers what leaves the items, where nothing was gathered yet.
 fn gather(
     alphabet: &Alphabet,
     items: &[Item],

@@ -30,7 +30,10 @@ a_step_has_to_be_paid paid = omega (arith, paid 0 looks_at_none)
 
 -- behind a fault nothing is given, and nothing read
 nothing_behind_a_fault : GivesCounted (over 3) None (over 3)
-nothing_behind_a_fault = ((refl, inl refl), omega arith, nothing_is_free)
+nothing_behind_a_fault = ((refl, inl refl), omega arith, nothing_is_free, refl)
 
 steps_never_fall : ¬ GivesCounted (over 3) None (over 2)
 steps_never_fall gives = omega (arith, gives.1)
+
+nothing_is_read_at_the_end : ¬ GivesCounted (over 3) None (over 4)
+nothing_is_read_at_the_end gives = omega (arith, gives.3)

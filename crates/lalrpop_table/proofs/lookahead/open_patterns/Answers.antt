@@ -10,9 +10,9 @@ loop-number-preserved c =
     let marks = c.in_ok-marks.marks.items in
     let place = c.entering.result in
     let at : (i : ℕ) → (place ≡ Some i) ↔ EntersBy d c.deref.result.now i c.loop-number.number =
-        subst (λ q. (i : ℕ) → (place ≡ Some i) ↔ EntersBy d c.deref.result.now i q) c.new.ensures.value c.entering.ensures in
+    subst (λ q. (i : ℕ) → (place ≡ Some i) ↔ EntersBy d c.deref.result.now i q) c.new.ensures.value c.entering.ensures in
     let here : (i : ℕ) → (place ≡ Some i) ↔ EntersBy d marks i c.loop-number.number =
-        subst (λ ms. (i : ℕ) → (place ≡ Some i) ↔ EntersBy d ms i c.loop-number.number) c.deref.ensures.value at in
+    subst (λ ms. (i : ℕ) → (place ≡ Some i) ↔ EntersBy d ms i c.loop-number.number) c.deref.ensures.value at in
     record {
       same_length = c.mark.ensures.same_length ∙ c.loop-number.invariant.same_length;
       each =

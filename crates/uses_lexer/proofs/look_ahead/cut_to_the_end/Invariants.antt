@@ -3,13 +3,13 @@ use Rattle.std.specs.Prelude.{Result}
 use Rattle.std.specs.Iterator.{Yields}
 use Rattle.lalrpop_lexer.specs.Counting.{counting_of, GivesCounted}
 use Rattle.lalrpop_lexer.specs.Cutting.{left_of}
-use Rattle.lalrpop_book.specs.declared.token.Token.{Token}
-use Rattle.lalrpop_book.specs.declared.token.TokenFault.{TokenFault}
+use Rattle.lalrpop_lexer.specs.declared.Token.{Token}
+use Rattle.lalrpop_lexer.specs.declared.TokenFault.{TokenFault}
 use Rattle.uses_lexer.proofs.look_ahead.cut_to_the_end.Given as goal
 
 -- all that was given so far
-abbrev pub invariant-loop-items : goal.invariant-loop-items
-invariant-loop-items l = (xs : List (Result Token TokenFault)) × Yields GivesCounted (counting_of l.fn.lexer.automaton l.fn.text) xs l.items
+abbrev pub invariant-loop : goal.invariant-loop
+invariant-loop l = (xs : List (Result Token TokenFault)) × Yields GivesCounted (counting_of l.fn.lexer.automaton l.fn.text) xs l.items
 
-abbrev pub decreases-loop-items : goal.decreases-loop-items
-decreases-loop-items l = left_of l.items.cutting
+abbrev pub decreases-loop : goal.decreases-loop
+decreases-loop l = left_of l.items.cutting

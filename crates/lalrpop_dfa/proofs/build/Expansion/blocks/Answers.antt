@@ -20,13 +20,15 @@ boundary-to-requires-clause-cells c =
     let l : k < length boundaries = omega (arith, c.loop-index-test.true, c.boundary_count-index-end.ensures) in
     rw (same.automata, same.boundaries) (c.requires.filled.within (get_or boundaries k 0) (Contains-get_or boundaries k 0 l))
 
-pub edge-requires-clause-here : goal.edge-requires-clause-here
-edge-requires-clause-here c = rw c.loop-index.invariant.same.number c.loop-index.invariant.here
-
-pub edge-requires-clause-inside : goal.edge-requires-clause-inside
-edge-requires-clause-inside c =
-    rw c.loop-index.invariant.same.automata
-    (set_holds c.args.self.now.automata.graphs c.args.self.now.kernels.list c.args.self.now.origins c.args.self.now.number 0 c.args.self.now.number c.args.set.now c.requires.breadth_first c.requires.here).0
+pub edge-requires-clause-at : goal.edge-requires-clause-at
+edge-requires-clause-at c =
+    let now = c.args.self.now in
+    let inv = c.loop-index.invariant in
+    record {
+      here = rw inv.same.number inv.here;
+      inside = rw inv.same.automata (set_holds now.automata.graphs now.kernels.list now.origins now.number 0 now.number c.args.set.now c.requires.breadth_first c.requires.here).0;
+      same_length = inv.edging.breadth_first.same_length;
+    }
 
 pub edge-requires-clause-take : goal.edge-requires-clause-take
 edge-requires-clause-take c some =

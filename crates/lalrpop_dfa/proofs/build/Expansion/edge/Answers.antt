@@ -25,7 +25,7 @@ returns c =
           let (t, (at, are)) = (rw (← c.self.view_is) at c.requires.take) (c.self.invariant.some class w.in-Some.target found) in
           rw (w.target-is, w.self-is, ← c.self.view_is)
           (target_of_found c.self.inside.automata (map (λ p. p.0) c.self.inside.precedences.now) c.self.inside.sets c.self.inside.number c.self.inside.scratch c.self.inside.writer c.args.set.now c.args.block.from.first w.in-Some.target
-          ((c.self.invariant.memo_is c.args.set.now (rw (← c.self.view_is) at c.requires.here)).classes class w.in-Some.target c.args.block.from.first t found at are)))
+          ((c.self.invariant.memo_is c.args.set.now (rw (← c.self.view_is) at c.requires.at.here)).classes class w.in-Some.target c.args.block.from.first t found at are)))
       | in-None-2+in_ok-target-in-None-2 w ↦
           rw (w.target-is, w.self-is) (subst (λ (o : ℕ × ℕ). IsTarget c.args.self.now c.args.set.now o.1 w.in_ok-target-in-None-2.target w.target-in-None-2.new.self) w.origin.ensures w.in_ok-target-in-None-2.ensures)
     ] in

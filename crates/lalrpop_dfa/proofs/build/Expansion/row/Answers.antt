@@ -28,15 +28,19 @@ begin-requires c =
     let n = length now.written.rows in
     record { inside = (set_holds now.automata.graphs now.kernels.list now.origins n 0 n c.args.set c.requires.built.built.breadth_first c.requires.here).0 }
 
-pub other-requires-clause-here : goal.other-requires-clause-here
-other-requires-clause-here c = c.in_ok-blocks.ensures.here
-
-pub other-requires-clause-inside : goal.other-requires-clause-inside
-other-requires-clause-inside c =
+pub other-requires : goal.other-requires
+other-requires c =
     let now = c.args.self.now in
     let n = length now.written.rows in
     let same : c.blocks-2.new.self.automata ≡ now.automata = c.in_ok-blocks.ensures.same.automata ∙ ap (λ (z : Stage). z.automata) c.in_ok-begin.ensures.same in
-    rw same (set_holds now.automata.graphs now.kernels.list now.origins n 0 n c.args.set c.requires.built.built.breadth_first c.requires.here).0
+    let (xs, (partition, edging)) = c.in_ok-blocks.ensures.tested in
+    record {
+      at = record {
+        here = c.in_ok-blocks.ensures.here;
+        inside = rw same (set_holds now.automata.graphs now.kernels.list now.origins n 0 n c.args.set c.requires.built.built.breadth_first c.requires.here).0;
+        same_length = edging.breadth_first.same_length;
+      };
+    }
 
 pub returns-clause-built : goal.returns-clause-built
 returns-clause-built c =

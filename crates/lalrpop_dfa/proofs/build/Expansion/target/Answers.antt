@@ -8,7 +8,7 @@ use Rattle.lalrpop_dfa.proofs.build.Expansion.target.Goals as goal
 use Rattle.lalrpop_dfa.proofs.build.Expansion.target.Goals.{in-Some, in-None+in_ok-number-in-None+in_ok-insert-in-None}
 
 pub closure-requires-clause-inside : goal.closure-requires-clause-inside
-closure-requires-clause-inside c = rw (← c.self.view_is) at c.requires.inside
+closure-requires-clause-inside c = rw (← c.self.view_is) at c.requires.at.inside
 
 pub closure-requires-clause-transitions : goal.closure-requires-clause-transitions
 closure-requires-clause-transitions c =
@@ -16,7 +16,7 @@ closure-requires-clause-transitions c =
     rw c.deref.ensures.value (class_takes c.self.inside.automata.graphs c.args.set.now c.self.inside.scratch.edges.lists.items c.args.class c.args.origin.1 c.index.result.now c.index.ensures takes)
 
 pub invariant_of-self : goal.invariant_of-self
-invariant_of-self c = expansion_grows _ _ _ _ _ _ _ c.args.set.now c.self.invariant (rw (← c.self.view_is) at c.requires.here) c.in_err-number-in-None.ensures.kept
+invariant_of-self c = expansion_grows _ _ _ _ _ _ _ c.args.set.now c.self.invariant (rw (← c.self.view_is) at c.requires.at.here) c.in_err-number-in-None.ensures.kept
 
 pub insert-requires : goal.insert-requires
 insert-requires c =
@@ -25,7 +25,7 @@ insert-requires c =
 
 pub invariant_of-self-in_err-insert-in-None : goal.invariant_of-self-in_err-insert-in-None
 invariant_of-self-in_err-insert-in-None c =
-    let here = rw (← c.self.view_is) at c.requires.here in
+    let here = rw (← c.self.view_is) at c.requires.at.here in
     let takes = (rw (← c.self.view_is) at c.requires.take) (rw (← c.self.view_is) at c.requires.some) in
     let added = c.in_ok-number-in-None.ensures.added.0 in
     let kept = c.in_ok-number-in-None.ensures.kept in
@@ -47,7 +47,7 @@ invariant_of-self-2 c =
     let a = c.self.inside.automata in
     let n = length c.self.inside.precedences.now in
     let scratch = c.self.inside.scratch in
-    let here = rw (← c.self.view_is) at c.requires.here in
+    let here = rw (← c.self.view_is) at c.requires.at.here in
     let edges = rw (← c.self.view_is) at c.requires.some in
     let takes = (rw (← c.self.view_is) at c.requires.take) edges in
     elim c.match-find.branch [
@@ -73,7 +73,7 @@ returns c =
     let a = c.self.inside.automata in
     let ps = map (λ p. p.0) c.self.inside.precedences.now in
     let scratch = c.self.inside.scratch in
-    let here = rw (← c.self.view_is) at c.requires.here in
+    let here = rw (← c.self.view_is) at c.requires.at.here in
     let takes = (rw (← c.self.view_is) at c.requires.take) (rw (← c.self.view_is) at c.requires.some) in
     let origin : c.args.origin ≡ (c.self.inside.number, c.args.origin.1) = ap (λ (k : ℕ). (k, c.args.origin.1)) (rw (← c.self.view_is) at c.requires.number) in
     rw (← c.self.view_is)

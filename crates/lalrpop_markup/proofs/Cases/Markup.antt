@@ -1,0 +1,31 @@
+-- Cases of specs/Markup.antt.
+use Rattle.std.proofs.Common.{◌≡◌, ◌≢◌, length, codes, refl, ap, arith}
+use Rattle.std.specs.Prelude.{Some, None}
+use Rattle.lalrpop_markup.specs.Markup.{entity, outside}
+
+less_has_an_entity : entity 60 ≡ Some (codes "&lt;")
+less_has_an_entity = refl
+
+letter_has_none : entity 97 ≡ None
+letter_has_none = refl
+
+apostrophe_has_none : entity 39 ≡ None
+apostrophe_has_none = refl
+
+-- tags are taken out, and entities undone
+text_of_a_span : outside (codes "<b>a&lt;b</b>!") ≡ codes "a<b!"
+text_of_a_span = refl
+
+each_entity_is_undone : outside (codes "&lt;&gt;&amp;&quot;") ≡ codes "<>&\""
+each_entity_is_undone = refl
+
+-- an ampersand that begins no entity is lost, so it is never written as itself
+ampersand_left_alone : outside (codes "a&b") ≢ codes "a&b"
+ampersand_left_alone e = let n : 1 ≡ 3 = ap length e in omega (arith, n)
+
+less_left_alone : outside (codes "a<b") ≢ codes "a<b"
+less_left_alone e = let n : 1 ≡ 3 = ap length e in omega (arith, n)
+
+-- what stands in a tag is no text
+class_is_no_text : outside (codes "<i class=\"x\">y") ≡ codes "y"
+class_is_no_text = refl

@@ -1,0 +1,3 @@
+mod Cases
+-- the text of markup
+pub mod Readings

@@ -1,0 +1,128 @@
+-- The text of markup is the text that it was made of.
+use Rattle.std.proofs.Common.{◌≡◌, ◌≢◌, ℕ, ◌+◌, ◌⊎◌, ⊎_elim, inl, inr, ◌<◌, Bool, true, false, List, [], ◌∷◌, ◌++◌, suc, length, get_or, refl, sym, ap, subst, ◌∙◌, arith, append_assoc, flat_map, codes}
+use Rattle.std.specs.Prelude.{Option, None, unwrap_or, slice_get, nat_eq}
+use Rattle.std.specs.Str.{chars, IsUtf8, encode_utf8_all}
+use Rattle.std.specs.Char.{encode_utf8}
+use Rattle.std.specs.Iterator.{Yields, Drains}
+use Rattle.std.proofs.lemmas.Str.{encodes-chars, encode_ascii, inside_one}
+use Rattle.std.proofs.lemmas.Bool.Decides.{eqb_tells}
+use Rattle.std.proofs.lemmas.List.{append-nil}
+use Rattle.lalrpop_book.specs.Tree.{Tree}
+use Rattle.lalrpop_rules.specs.Pieces.{ArePieces, slice_of, joined}
+use Rattle.lalrpop_rules.specs.declared.item.Item.{Item}
+use Rattle.lalrpop_rules.specs.declared.item.Item.TheVariants.{Token, Skipped, Fault}
+use Rattle.lalrpop_rules.proofs.PieceLaws.{is_front}
+use Rattle.lalrpop_markup.specs.Markup.{told, escaped, span, marked, outside, inside, entity_from}
+
+-- none of the bytes is this one
+Lacks : ℕ → List ℕ → Type 0
+Lacks x [] = Unit {0}
+Lacks x (b ∷ bs) = (b ≢ x) × Lacks x bs
+
+differs : (b x : ℕ) → b ≢ x → nat_eq b x ≡ false
+differs b x other = ⊎_elim (λ (same : (nat_eq b x ≡ true) × (b ≡ x)). absurd (other same.1)) (λ (no_more : (nat_eq b x ≡ false) × (b ≢ x)). no_more.0) (eqb_tells b x)
+
+-- a character below 128 that is another has none of it among its bytes
+lacks_all : (x : ℕ) (bs : List ℕ) → ((k : ℕ) → k < length bs → get_or bs k 0 ≢ x) → Lacks x bs
+unfolding Lacks
+lacks_all x [] h = tt
+lacks_all x (b ∷ bs) h = (h 0 (omega arith), lacks_all x bs (λ k l. h (suc k) (omega arith)))
+
+lacks_char : (x c : ℕ) → x < 128 → c ≢ x → Lacks x (encode_utf8 c)
+lacks_char x c small other =
+    lacks_all x (encode_utf8 c) (λ k within is. other (inside_one c [] (encode_utf8 c) k (sym (append-nil (encode_utf8 c))) within (omega arith) ∙ is))
+
+byte_out : (b : ℕ) (r : List ℕ) → nat_eq b 60 ≡ false → nat_eq b 38 ≡ false → outside (b ∷ r) ≡ b ∷ outside r
+byte_out b r no_tag no_entity =
+    subst (λ (t : Bool). elim t as (λ _. List ℕ) [ true ↦ inside r | false ↦ elim (nat_eq b 38) as (λ _. List ℕ) [ true ↦ entity_from [] r | false ↦ b ∷ outside r ] ] ≡ b ∷ outside r) (sym no_tag)
+    (subst (λ (t : Bool). elim t as (λ _. List ℕ) [ true ↦ entity_from [] r | false ↦ b ∷ outside r ] ≡ b ∷ outside r) (sym no_entity) refl)
+
+byte_in : (b : ℕ) (r : List ℕ) → nat_eq b 62 ≡ false → inside (b ∷ r) ≡ inside r
+byte_in b r no_end = subst (λ (t : Bool). elim t as (λ _. List ℕ) [ true ↦ outside r | false ↦ inside r ] ≡ inside r) (sym no_end) refl
+
+-- bytes without `<` and `&` are themselves outside a tag
+outside_plain : (bs rest : List ℕ) → Lacks 60 bs → Lacks 38 bs → outside (bs ++ rest) ≡ bs ++ outside rest
+unfolding Lacks
+outside_plain [] rest no_tag no_entity = refl
+outside_plain (b ∷ bs) rest no_tag no_entity =
+    byte_out b (bs ++ rest) (differs b 60 no_tag.0) (differs b 38 no_entity.0) ∙ ap (λ (r : List ℕ). b ∷ r) (outside_plain bs rest no_tag.1 no_entity.1)
+
+-- and bytes without `>` are nothing inside one
+inside_plain : (bs rest : List ℕ) → Lacks 62 bs → inside (bs ++ rest) ≡ inside rest
+unfolding Lacks
+inside_plain [] rest no_end = refl
+inside_plain (b ∷ bs) rest no_end = byte_in b (bs ++ rest) (differs b 62 no_end.0) ∙ inside_plain bs rest no_end.1
+
+-- ---- one character
+
+abbrev Tells : ℕ → ℕ → Type 0
+Tells c x = ((nat_eq c x ≡ true) × (c ≡ x)) ⊎ ((nat_eq c x ≡ false) × (c ≢ x))
+
+plain_told : (c : ℕ) → nat_eq c 60 ≡ false → nat_eq c 62 ≡ false → nat_eq c 38 ≡ false → nat_eq c 34 ≡ false → told c ≡ encode_utf8 c
+plain_told c lt gt amp quot = rw (lt, gt, amp, quot) refl
+
+one_byte : (c : ℕ) (rest : List ℕ) → c < 128 → c ∷ outside rest ≡ encode_utf8 c ++ outside rest
+one_byte c rest small = sym (ap (λ (p : List ℕ). p ++ outside rest) (encode_ascii c small))
+
+told_out : (c : ℕ) (rest : List ℕ) → outside (told c ++ rest) ≡ encode_utf8 c ++ outside rest
+told_out c rest = by (eqb_tells c 60) (eqb_tells c 62) (eqb_tells c 38) (eqb_tells c 34)
+  where
+    by : Tells c 60 → Tells c 62 → Tells c 38 → Tells c 34 → outside (told c ++ rest) ≡ encode_utf8 c ++ outside rest
+    by (inl lt) g a q = subst (λ (d : ℕ). outside (told d ++ rest) ≡ encode_utf8 d ++ outside rest) (sym lt.1) (one_byte 60 rest (omega arith))
+    by (inr l) (inl gt) a q = subst (λ (d : ℕ). outside (told d ++ rest) ≡ encode_utf8 d ++ outside rest) (sym gt.1) (one_byte 62 rest (omega arith))
+    by (inr l) (inr g) (inl amp) q = subst (λ (d : ℕ). outside (told d ++ rest) ≡ encode_utf8 d ++ outside rest) (sym amp.1) (one_byte 38 rest (omega arith))
+    by (inr l) (inr g) (inr a) (inl quot) = subst (λ (d : ℕ). outside (told d ++ rest) ≡ encode_utf8 d ++ outside rest) (sym quot.1) (one_byte 34 rest (omega arith))
+    by (inr l) (inr g) (inr a) (inr q) =
+        ap (λ (p : List ℕ). outside (p ++ rest)) (plain_told c l.0 g.0 a.0 q.0)
+        ∙ outside_plain (encode_utf8 c) rest (lacks_char 60 c (omega arith) l.1) (lacks_char 38 c (omega arith) a.1)
+
+told_in : (c : ℕ) (rest : List ℕ) → inside (told c ++ rest) ≡ inside rest
+told_in c rest = by (eqb_tells c 60) (eqb_tells c 62) (eqb_tells c 38) (eqb_tells c 34)
+  where
+    by : Tells c 60 → Tells c 62 → Tells c 38 → Tells c 34 → inside (told c ++ rest) ≡ inside rest
+    by (inl lt) g a q = subst (λ (d : ℕ). inside (told d ++ rest) ≡ inside rest) (sym lt.1) refl
+    by (inr l) (inl gt) a q = subst (λ (d : ℕ). inside (told d ++ rest) ≡ inside rest) (sym gt.1) refl
+    by (inr l) (inr g) (inl amp) q = subst (λ (d : ℕ). inside (told d ++ rest) ≡ inside rest) (sym amp.1) refl
+    by (inr l) (inr g) (inr a) (inl quot) = subst (λ (d : ℕ). inside (told d ++ rest) ≡ inside rest) (sym quot.1) refl
+    by (inr l) (inr g) (inr a) (inr q) =
+        ap (λ (p : List ℕ). inside (p ++ rest)) (plain_told c l.0 g.0 a.0 q.0) ∙ inside_plain (encode_utf8 c) rest (lacks_char 62 c (omega arith) g.1)
+
+-- ---- texts
+
+all_out : (cs rest : List ℕ) → outside (flat_map told cs ++ rest) ≡ encode_utf8_all cs ++ outside rest
+all_out [] rest = refl
+all_out (c ∷ cs) rest =
+    ap outside (append_assoc (told c) (flat_map told cs) rest) ∙ told_out c (flat_map told cs ++ rest)
+    ∙ ap (λ (p : List ℕ). encode_utf8 c ++ p) (all_out cs rest) ∙ sym (append_assoc (encode_utf8 c) (encode_utf8_all cs) (outside rest))
+
+all_in : (cs rest : List ℕ) → inside (flat_map told cs ++ rest) ≡ inside rest
+all_in [] rest = refl
+all_in (c ∷ cs) rest = ap inside (append_assoc (told c) (flat_map told cs) rest) ∙ told_in c (flat_map told cs ++ rest) ∙ all_in cs rest
+
+text_out : (text rest : List ℕ) → IsUtf8 text → outside (escaped text ++ rest) ≡ text ++ outside rest
+text_out text rest u = all_out (chars text) rest ∙ ap (λ (p : List ℕ). p ++ outside rest) (encodes-chars text u)
+
+span_out : (class text rest : List ℕ) → IsUtf8 text → outside (span class text ++ rest) ≡ text ++ outside rest
+span_out class text rest u =
+    let behind : List ℕ = codes "\">" ++ (escaped text ++ codes "</span>") in
+    ap inside (append_assoc (escaped class) behind rest) ∙ all_in (chars class) (behind ++ rest)
+    ∙ ap outside (append_assoc (escaped text) (codes "</span>") rest) ∙ text_out text (codes "</span>" ++ rest) u
+
+-- ---- pieces
+
+marked_out : (names : List (List ℕ)) (x : Item) (rest : List ℕ) → IsUtf8 (slice_of x) → outside (marked names x ++ rest) ≡ slice_of x ++ outside rest
+marked_out names (Token token) rest u = span_out (unwrap_or (slice_get names token.index) []) token.slice.now rest u
+marked_out names (Skipped token) rest u = text_out token.slice.now rest u
+marked_out names (Fault start slice) rest u = span_out (codes "fault") slice.now rest u
+
+pub pieces_out : (names : List (List ℕ)) (ts : List Tree) (ps : List ℕ) (skips : List Bool) (text : List ℕ) (at : ℕ) (xs : List Item)
+    → ArePieces ts ps skips text at xs → outside (flat_map (marked names) xs) ≡ joined xs
+pieces_out names ts ps skips text at [] are = refl
+pieces_out names ts ps skips text at (x ∷ xs) are =
+    marked_out names x (flat_map (marked names) xs) (is_front ts ps skips text at x are.0).1.1
+    ∙ ap (λ (r : List ℕ). slice_of x ++ r) (pieces_out names ts ps skips text (at + length (slice_of x)) xs are.1)
+
+-- no item behind those that there are
+pub no_more : {S A : Type 0} (gives : S → Option A → S → Type 0) (s r t u : S) (xs : List A) (o : Option A) → r ≡ s → Yields gives r xs t → o ≡ None
+    → gives t o u → Drains gives s xs
+no_more {S} {A} gives s r t u xs o same y is g = (u, (t, subst (λ (r : S). Yields gives r xs t) same y, subst (λ (o : Option A). gives t o u) is g))

@@ -1,0 +1,11 @@
+use Rattle.std.proofs.Common.{ap, ◌∙◌}
+use Rattle.lalrpop_rules.specs.CutToEnd.{GivesPiece}
+use Rattle.lalrpop_markup.specs.Markup.{outside}
+use Rattle.lalrpop_markup.proofs.Readings.{pieces_out, no_more}
+use Rattle.lalrpop_markup.proofs.page.html.Goals as goal
+
+pub returns-clause-text : goal.returns-clause-text
+returns-clause-text c =
+    let all = no_more GivesPiece _ _ _ _ _ _ c.into_iter-item-iterator.ensures.into_iter_gives c.loop-item.yielded_by c.in-None.is c.next.ensures.steps in
+    let given = c.items-item-items.ensures in
+    ap outside c.loop-item.invariant ∙ pieces_out _ _ _ _ _ _ _ (given.items _ all) ∙ given.whole _ all

@@ -1,0 +1,58 @@
+-- cases: proofs/Cases/Markup.antt
+-- A text as markup, and the text of markup.
+use Rattle.std.specs.Prelude.{ℕ, true, false, List, [], ◌∷◌, ◌++◌, Option, Some, None, codes, chars, encode_utf8, flat_map, slice_get, unwrap_or, if◌then◌else◌, ◌==◌}
+use Rattle.std.specs.Str.{bytes_eq}
+use Rattle.lalrpop_rules.specs.declared.item.Item.{Item}
+use Rattle.lalrpop_rules.specs.declared.item.Item.TheVariants.{Token, Skipped, Fault}
+
+-- ---- writing
+
+-- what stands for `<`, `>`, `&` and the quote
+abbrev pub entity : ℕ → Option (List ℕ)
+entity c =
+    if c == 60 then Some (codes "&lt;") else (
+    if c == 62 then Some (codes "&gt;") else (
+    if c == 38 then Some (codes "&amp;") else (
+    if c == 34 then Some (codes "&quot;") else None)))
+
+-- and for any character: itself, if it has no entity
+abbrev pub told : ℕ → List ℕ
+told c = unwrap_or (entity c) (encode_utf8 c)
+
+abbrev pub escaped : List ℕ → List ℕ
+escaped text = flat_map told (chars text)
+
+-- a text in tags with a class
+abbrev pub span : List ℕ → List ℕ → List ℕ
+span class text = codes "<span class=\"" ++ (escaped class ++ (codes "\">" ++ (escaped text ++ codes "</span>")))
+
+-- a piece of a text: a token with the name of its rule, or a fault
+abbrev pub marked : List (List ℕ) → Item → List ℕ
+marked names (Token token) = span (unwrap_or (slice_get names token.index) []) token.slice.now
+marked names (Skipped token) = escaped token.slice.now
+marked names (Fault start slice) = span (codes "fault") slice.now
+
+-- ---- reading: the text of markup is what stands outside tags, with entities undone
+
+-- the byte that the entity of this name stands for
+abbrev pub byte_of : List ℕ → ℕ
+byte_of name =
+    if bytes_eq name (codes "lt") then 60 else (
+    if bytes_eq name (codes "gt") then 62 else (
+    if bytes_eq name (codes "amp") then 38 else 34))
+
+abbrev mutual
+  -- outside tags: `<` begins one, and `&` an entity
+  pub outside : List ℕ → List ℕ
+  outside [] = []
+  outside (b ∷ bs) = elim (b == 60) [ true ↦ inside bs | false ↦ elim (b == 38) [ true ↦ entity_from [] bs | false ↦ b ∷ outside bs ] ]
+
+  -- inside a tag, which `>` ends
+  pub inside : List ℕ → List ℕ
+  inside [] = []
+  inside (b ∷ bs) = elim (b == 62) [ true ↦ outside bs | false ↦ inside bs ]
+
+  -- inside an entity, which `;` ends, and whose name is this so far
+  pub entity_from : List ℕ → List ℕ → List ℕ
+  entity_from name [] = []
+  entity_from name (b ∷ bs) = elim (b == 59) [ true ↦ byte_of name ∷ outside bs | false ↦ entity_from (name ++ b ∷ []) bs ]

@@ -1,0 +1,86 @@
+//! A text as a page of HTML.
+ghost use Rattle.std.specs.Prelude.{◌≡◌, ◌++◌, List, flat_map, option_map, string_bytes, IfOk, OnOk};
+ghost use Rattle.lalrpop_rules.specs.Pieces.{ArePieces};
+ghost use Rattle.lalrpop_rules.specs.declared.item.Item.{Item as ItemValue};
+ghost use Rattle.lalrpop_markup.specs.Markup.{entity, told, escaped, span, marked, outside};
+
+use lalrpop_rules::{Item, RuleLexer};
+use std::alloc::{AllocError, Global};
+
+// What stands for a character that means something in markup.
+fn entity(c: char) -> Option<&'static str>
+    ensures { option_map (λ text. text.now) result ≡ entity c }
+{
+    match c {
+        '<' => Some("&lt;"),
+        '>' => Some("&gt;"),
+        '&' => Some("&amp;"),
+        '"' => Some("&quot;"),
+        _ => None,
+    }
+}
+
+fn push_told(page: &mut String, c: char) -> Result<(), AllocError>
+    ensures { OnOk result (string_bytes page.new ≡ string_bytes page.old ++ told c) }
+{
+    match entity(c) {
+        Some(text) => page.push_str(text),
+        None => page.push(c),
+    }
+}
+
+fn push_escaped(page: &mut String, text: &str) -> Result<(), AllocError>
+    ensures { OnOk result (string_bytes page.new ≡ string_bytes page.old ++ escaped text.now) }
+{
+    for c in text.chars() {
+        push_told(page, c)?;
+    }
+    Ok(())
+}
+
+fn push_span(page: &mut String, class: &str, text: &str) -> Result<(), AllocError>
+    ensures { OnOk result (string_bytes page.new
+        ≡ string_bytes page.old ++ span class.now text.now) }
+{
+    page.push_str("<span class=\"")?;
+    push_escaped(page, class)?;
+    page.push_str("\">")?;
+    push_escaped(page, text)?;
+    page.push_str("</span>")
+}
+
+fn push_item(page: &mut String, lexer: &RuleLexer, item: &Item) -> Result<(), AllocError>
+    ensures { OnOk result (string_bytes page.new
+        ≡ string_bytes page.old ++ marked lexer.now.names item.now) }
+{
+    match item {
+        Item::Token(token) => {
+            let name = match lexer.name(token.index) {
+                Some(name) => name,
+                None => "",
+            };
+            push_span(page, name, token.slice)
+        }
+        Item::Skipped(token) => push_escaped(page, token.slice),
+        Item::Fault { start: _, slice } => push_span(page, "fault", slice),
+    }
+}
+
+/// The text as markup of HTML: each token in a `span` whose class is the name of its rule, each fault in one of the class
+/// `fault`, and what is skipped in none. With the tags taken out and the entities undone it is the text.
+///
+/// # Errors
+///
+/// `AllocError` where a request for memory was refused.
+pub fn html(alloc: Global, lexer: &RuleLexer, text: &str) -> Result<String, AllocError>
+    ensures pieces { IfOk result (λ page. (xs : List ItemValue)
+        × (ArePieces lexer.now.trees lexer.now.precedences lexer.now.skips text.now 0 xs
+        × (string_bytes page ≡ flat_map (marked lexer.now.names) xs))) }
+    ensures text { IfOk result (λ page. outside (string_bytes page) ≡ text.now) }
+{
+    let mut page = String::new(alloc);
+    for item in lexer.items(text) {
+        push_item(&mut page, lexer, &item)?;
+    }
+    Ok(page)
+}

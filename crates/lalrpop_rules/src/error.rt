@@ -1,0 +1,53 @@
+//! Why some rules give no lexer.
+ghost use Rattle.std.specs.Prelude.{◌≡◌};
+ghost use Rattle.lalrpop_rules.specs.declared.error.RulesError.TheVariants.{OutOfMemory};
+
+use lalrpop_lexer::lexer::nfa::NfaConstructionError;
+use lalrpop_lexer::lexer::re::SyntaxKind;
+use std::alloc::{AllocError, AllocFailed};
+use thiserror::Error;
+
+/// Why some rules give no lexer. Rules are counted from 0.
+#[derive(Debug, Drop, Error)]
+pub enum RulesError {
+    /// The text of this rule is no pattern: `kind` says why, and `position` where, as an offset in bytes.
+    #[error("rule {rule} is no pattern: {kind:?} at byte {position}")]
+    NoPattern {
+        rule: usize,
+        position: usize,
+        kind: SyntaxKind,
+    },
+    /// This rule was not compiled.
+    #[error("rule {rule} can't be compiled: {error:?}")]
+    NotCompiled {
+        rule: usize,
+        error: NfaConstructionError,
+    },
+    /// Two rules are the strongest that match some word: `word` is the least such word, `rule` the greatest place of the
+    /// strongest ones on it, `other` the second greatest.
+    #[error("rules {other} and {rule} clash")]
+    Clash {
+        rule: usize,
+        other: usize,
+        word: Vec<u32>,
+    },
+    /// A request for memory was refused.
+    #[error("out of memory")]
+    OutOfMemory,
+}
+
+impl From<AllocError> for RulesError {
+    ghost from_gives = { λ _ e. e ≡ OutOfMemory };
+
+    fn from(_error: AllocError) -> RulesError {
+        RulesError::OutOfMemory
+    }
+}
+
+impl<T: Drop> From<AllocFailed<T>> for RulesError {
+    ghost from_gives = { λ _ e. e ≡ OutOfMemory };
+
+    fn from(_error: AllocFailed<T>) -> RulesError {
+        RulesError::OutOfMemory
+    }
+}

@@ -1,0 +1,157 @@
+//! A lexer of named rules.
+
+ghost use Rattle.std.specs.Prelude.{◌≡◌, ◌≤◌, ◌++◌, ℕ, List, Option, None, length, slice_get, option_map, IfOk, IfErr, IsSome};
+ghost use Rattle.std.specs.Iterator.{Drains, Yields};
+ghost use Rattle.std.specs.Str.{chars};
+ghost use Rattle.lalrpop_book.specs.Clash.{NoClash};
+ghost use Rattle.lalrpop_book.specs.Report.{NoFault};
+ghost use Rattle.lalrpop_book.specs.Tokens.{IsToken, AreTokens};
+ghost use Rattle.lalrpop_book.specs.declared.token.Token.{Token as TokenValue};
+ghost use Rattle.lalrpop_rules.specs.Pieces.{ArePieces, AreApart, joined, up_to_fault};
+ghost use Rattle.lalrpop_rules.specs.CutToEnd.{CutToEnd, uncut, left_text, GivesPiece};
+ghost use Rattle.lalrpop_rules.specs.RuleSet.{AreTrees, IsRulesError, names_of, precedences_of, skips_of, recognized};
+ghost use Rattle.lalrpop_rules.specs.Internal.Reported.{SaysTheSame};
+ghost use Rattle.lalrpop_rules.specs.declared.item.Item.{Item as ItemValue};
+
+use crate::cut;
+use crate::error::RulesError;
+use crate::pieces::Items;
+use crate::reading::{name_list, precedence_list, skip_list, trees_of};
+use crate::rule::Rule;
+use lalrpop_lexer::Lexer;
+use lalrpop_lexer::lexer::dfa::{DfaConstructionError, NfaIndex};
+use std::alloc::Global;
+use std::marker::Model;
+
+/// Named rules, and the lexer of them.
+#[derive(Debug, Drop)]
+pub struct RuleLexer {
+    names: Vec<String>,
+    skips: Vec<bool>,
+    lexer: Lexer,
+}
+
+impl Model for RuleLexer {
+    ghost use Rattle.std.specs.Prelude.{◌≡◌, length, map, string_bytes};
+    ghost use Rattle.lalrpop_rules.specs.RuleSet.{RuleSet};
+    ghost use Rattle.lalrpop_rules.specs.Internal.Code.{rule_set_code};
+
+    ghost Value = { RuleSet };
+
+    ghost coded = { rule_set_code };
+
+    ghost view = { λ l. record {
+      names = map (λ s. string_bytes s) l.names.items;
+      trees = l.lexer.trees;
+      precedences = l.lexer.precedences;
+      skips = l.skips.items;
+      automaton = l.lexer.automaton;
+    } };
+
+    ghost invariant = { λ l. length l.names.items ≡ length l.lexer.trees };
+}
+
+// What the construction reports of the rules.
+fn reported(error: DfaConstructionError) -> RulesError
+    ensures same { SaysTheSame error result }
+{
+    match error {
+        DfaConstructionError::NfaConstructionError { index, error } => RulesError::NotCompiled {
+            rule: index.index(),
+            error,
+        },
+        DfaConstructionError::Ambiguity {
+            match0,
+            match1,
+            word,
+        } => RulesError::Clash {
+            rule: match0.index(),
+            other: match1.index(),
+            word,
+        },
+        DfaConstructionError::OutOfMemory => RulesError::OutOfMemory,
+    }
+}
+
+impl RuleLexer {
+    /// Builds the lexer of these rules.
+    ///
+    /// # Errors
+    ///
+    /// The first rule whose text is no pattern; else the first that can't be compiled; else the two last strongest rules on
+    /// the shortest, then least, word that has no one strongest rule; and out of memory.
+    pub fn from_rules(alloc: Global, rules: &[Rule]) -> Result<RuleLexer, RulesError>
+        ensures names { IfOk result (λ lexer. lexer.names ≡ names_of rules.now) }
+        ensures trees { IfOk result (λ lexer. AreTrees rules.now lexer.trees) }
+        ensures precedences { IfOk result (λ lexer.
+            lexer.precedences ≡ precedences_of rules.now) }
+        ensures skips { IfOk result (λ lexer. lexer.skips ≡ skips_of rules.now) }
+        ensures no_fault { IfOk result (λ lexer. NoFault lexer.trees) }
+        ensures no_clash { IfOk result (λ lexer. NoClash lexer.trees lexer.precedences) }
+        ensures error { IfErr result (λ e. IsRulesError rules.now e) }
+    {
+        let trees = trees_of(alloc, rules)?;
+        let precedences = precedence_list(alloc, rules)?;
+        let skips = skip_list(alloc, rules)?;
+        let names = name_list(alloc, rules)?;
+        match Lexer::new(alloc, trees, precedences) {
+            Ok(lexer) => Ok(RuleLexer {
+                names,
+                skips,
+                lexer,
+            }),
+            Err(error) => Err(reported(error)),
+        }
+    }
+
+    /// The lexer of the rules, to which they are trees with precedences.
+    pub fn lexer(&self) -> &Lexer
+        ensures rules { result.now ≡ recognized self.now }
+    {
+        &self.lexer
+    }
+
+    /// Which rules are skipped.
+    pub fn skips(&self) -> &[bool]
+        ensures skips { result.now ≡ self.now.skips }
+    {
+        &self.skips
+    }
+
+    /// The name of the rule at this place; `None` where there are not so many rules. The rule of a token has a name.
+    pub fn name(&self, index: NfaIndex) -> Option<&str>
+        ensures name { option_map (λ s. s.now) result ≡ slice_get self.now.names index }
+        ensures token { (text : List ℕ) (at : ℕ) (token : TokenValue)
+            → IsToken self.now.trees self.now.precedences text at token
+            → token.index ≡ index → IsSome result }
+    {
+        match self.names.get(index.index()) {
+            Some(name) => Some(name.as_str()),
+            None => None,
+        }
+    }
+
+    /// The pieces of the text, from its beginning to its end, whatever it is: where a rule matches, the token there, which
+    /// is skipped if its rule is; and else a fault, the characters up to the next place where a rule matches, or to the end
+    /// of the text.
+    ///
+    /// No memory is taken, and there are at most as many pieces as the text has characters.
+    pub fn items<'text>(&'text self, text: &'text str) -> Items<'text>
+        ensures start { result ≡ uncut (recognized self.now) self.now.skips text.now }
+        ensures items { (xs : List ItemValue) → Drains GivesPiece result xs
+            → ArePieces self.now.trees self.now.precedences self.now.skips text.now 0 xs }
+        ensures whole { (xs : List ItemValue) → Drains GivesPiece result xs
+            → joined xs ≡ text.now }
+        ensures apart { (xs : List ItemValue) → Drains GivesPiece result xs → AreApart xs }
+        ensures tokens { (xs : List ItemValue) → Drains GivesPiece result xs
+            → AreTokens self.now.trees self.now.precedences text.now 0 (up_to_fault xs) }
+        ensures parts { (xs : List ItemValue) (s : CutToEnd) → Yields GivesPiece result xs s
+            → text.now ≡ joined xs ++ left_text s }
+        ensures count { (xs : List ItemValue) (s : CutToEnd) → Yields GivesPiece result xs s
+            → length xs ≤ length (chars text.now) }
+        ensures fused { (s t u : CutToEnd) (x : Option ItemValue) → GivesPiece s None t
+            → GivesPiece t x u → x ≡ None }
+    {
+        cut::items(&self.lexer, &self.skips, text)
+    }
+}

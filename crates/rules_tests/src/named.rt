@@ -1,0 +1,106 @@
+//! Lexers of named rules, and what they refuse.
+
+use crate::shared::halves;
+use anyhow::Result;
+use lalrpop_markup::html;
+use lalrpop_rules::{Item, Rule, RuleLexer, RulesError};
+use std::alloc::Global;
+
+const CUT: &str = r#"
+if a => IF "if", NAME "a"
+iffy! => NAME "iffy", ! "!"
+a  == 12 => NAME "a", EQUAL "==", ! "12"
+ => nothing
+"#;
+
+// A lexer of three rules, and of spaces, which are skipped.
+fn lexer(alloc: Global) -> Result<RuleLexer> {
+    let rules = [
+        Rule::literal("IF", "if"),
+        Rule::pattern("NAME", "[a-z]+"),
+        Rule::pattern("SPACE", " +").skipped(),
+        Rule::literal("EQUAL", "=="),
+    ];
+    Ok(RuleLexer::from_rules(alloc, &rules)?)
+}
+
+// What it makes of a text.
+fn named(alloc: Global, text: &str) -> Result<String> {
+    let lexer = lexer(alloc)?;
+    let mut line = String::new(alloc);
+    for item in lexer.items(text) {
+        let part = match item {
+            Item::Token(token) => {
+                let name = lexer.name(token.index).unwrap_or("no name");
+                format!(in alloc; "{name} {:?}", token.slice)?
+            }
+            Item::Skipped(_) => continue,
+            Item::Fault { start: _, slice } => format!(in alloc; "! {slice:?}")?,
+        };
+        if !line.is_empty() {
+            line.push_str(", ")?;
+        }
+        line.push_str(&part)?;
+    }
+    if line.is_empty() {
+        line.push_str("nothing")?;
+    }
+    Ok(line)
+}
+
+// The error of two rules of which one is the text, and the other the name `a`.
+fn refused(alloc: Global, text: &str) -> Result<String> {
+    let rules = [Rule::pattern("A", "a"), Rule::pattern("OTHER", text)];
+    match RuleLexer::from_rules(alloc, &rules) {
+        Ok(_) => Ok(String::from_str(alloc, "none")?),
+        Err(RulesError::Clash { rule, other, word }) => {
+            Ok(format!(in alloc; "{rule} {other} {word:?}")?)
+        }
+        Err(error) => Ok(format!(in alloc; "{error}")?),
+    }
+}
+
+fn shown(alloc: Global, text: &str) -> Result<String> {
+    let lexer = lexer(alloc)?;
+    Ok(html(alloc, &lexer, text)?)
+}
+
+const SHOWN: &str = r#"
+if a => <span class="IF">if</span> <span class="NAME">a</span>
+a<&"> => <span class="NAME">a</span><span class="fault">&lt;&amp;&quot;&gt;</span>
+é == => <span class="fault">é</span> <span class="EQUAL">==</span>
+"#;
+
+const REFUSED: &str = r#"
+b => none
+[a-c] => 1 0 [97]
+(b => rule 1 is no pattern: UnclosedGroup at byte 0
+b*? => rule 1 can't be compiled: NonGreedy
+"#;
+
+#[test]
+fn texts_are_cut_by_named_rules(rt: HostRuntime) {
+    for row in CUT.trim_matches('\n').lines() {
+        let (text, wanted) = halves(row, " => ");
+        let found = named(rt.alloc(), text).expect(&rt, "memory");
+        assert_eq!(&rt; found.as_str(), wanted);
+    }
+}
+
+#[test]
+fn rules_are_refused(rt: HostRuntime) {
+    for row in REFUSED.trim_matches('\n').lines() {
+        let (text, wanted) = halves(row, " => ");
+        let found = refused(rt.alloc(), text).expect(&rt, "memory");
+        assert_eq!(&rt; found.as_str(), wanted);
+    }
+}
+
+#[test]
+fn texts_are_shown(rt: HostRuntime) {
+    for row in SHOWN.trim_matches('\n').lines() {
+        let (text, wanted) = halves(row, " => ");
+        let found = shown(rt.alloc(), text).expect(&rt, "memory");
+        assert_eq!(&rt; found.as_str(), wanted);
+    }
+}

@@ -1,0 +1,60 @@
+//! A text is cut to its end by named rules.
+ghost use Rattle.std.specs.Prelude.{◌≡◌, ◌≤◌, ◌++◌, List, false, IfSome, length};
+ghost use Rattle.std.specs.Str.{chars};
+ghost use Rattle.lalrpop_book.specs.Tokens.{AreTokens};
+ghost use Rattle.lalrpop_rules.specs.Pieces.{ArePieces, AreApart, joined, up_to_fault};
+ghost use Rattle.lalrpop_rules.specs.declared.item.Item.{Item as ItemValue};
+
+use lalrpop_rules::RuleLexer;
+
+// Needs lalrpop_rules::RuleLexer::items: items, whole, apart, tokens, count.
+/// How many pieces a text is.
+pub fn piece_count(lexer: &RuleLexer, text: &str) -> usize
+    ensures all { (xs : List ItemValue)
+        × (ArePieces lexer.now.trees lexer.now.precedences lexer.now.skips text.now 0 xs
+        × (joined xs ≡ text.now) × AreApart xs
+        × AreTokens lexer.now.trees lexer.now.precedences text.now 0 (up_to_fault xs)
+        × (result ≡ length xs)) }
+    ensures few { result ≤ length (chars text.now) }
+{
+    let mut count = 0;
+    for _piece in lexer.items(text) {
+        count += 1;
+    }
+    count
+}
+
+// Needs lalrpop_rules::RuleLexer::items: start.
+/// Before the first piece the rest is the whole text.
+pub fn rest_at_first<'text>(lexer: &'text RuleLexer, text: &'text str) -> &'text str
+    ensures whole { result.now ≡ text.now }
+{
+    lexer.items(text).rest()
+}
+
+// Needs lalrpop_rules::RuleLexer::items: parts.
+/// The first piece's slice and what stands behind it.
+pub fn cut_once<'text>(
+    lexer: &'text RuleLexer,
+    text: &'text str,
+) -> Option<(&'text str, &'text str)>
+    ensures parts { IfSome result (λ m. text.now ≡ m.0.now ++ m.1.now) }
+{
+    let mut pieces = lexer.items(text);
+    match pieces.next() {
+        Some(piece) => Some((piece.slice(), pieces.rest())),
+        None => None,
+    }
+}
+
+// Needs lalrpop_rules::RuleLexer::items: fused.
+/// Whether something comes behind the end of the pieces: never.
+pub fn comes_behind_the_end(lexer: &RuleLexer, text: &str) -> bool
+    ensures never { result ≡ false }
+{
+    let mut pieces = lexer.items(text);
+    if pieces.next().is_some() {
+        return false;
+    }
+    pieces.next().is_some()
+}

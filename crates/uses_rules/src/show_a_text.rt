@@ -1,0 +1,22 @@
+//! A text as markup.
+ghost use Rattle.std.specs.Prelude.{◌≡◌, List, flat_map, string_bytes, IfOk};
+ghost use Rattle.lalrpop_rules.specs.declared.item.Item.{Item as ItemValue};
+ghost use Rattle.lalrpop_markup.specs.Markup.{marked, outside};
+
+use lalrpop_markup::html;
+use lalrpop_rules::RuleLexer;
+use std::alloc::{AllocError, Global};
+
+// Needs lalrpop_markup::html: text, pieces.
+/// A page of a text, from which the text can be read back.
+///
+/// # Errors
+///
+/// `AllocError` where a request for memory was refused.
+pub fn page_of(alloc: Global, lexer: &RuleLexer, text: &str) -> Result<String, AllocError>
+    ensures read { IfOk result (λ page. outside (string_bytes page) ≡ text.now) }
+    ensures marked { IfOk result (λ page. (xs : List ItemValue)
+        × (string_bytes page ≡ flat_map (marked lexer.now.names) xs)) }
+{
+    html(alloc, lexer, text)
+}
