@@ -24,8 +24,6 @@ pub fn tokens<'text>(dfa: &'text Dfa, text: &'text str) -> Tokens<'text>
         → text.now ≡ slices xs ++ rest_of s }
     ensures count { (xs : List Item) (s : Cutting) → Yields GivesItem result xs s
         → length xs ≤ length (chars text.now) }
-    ensures fused { (s t u : Cutting) (x : Option Item) → GivesItem s None t → GivesItem t x u
-        → x ≡ None }
 {
     Tokens::new(dfa, text)
 }

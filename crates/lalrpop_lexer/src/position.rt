@@ -1,6 +1,6 @@
 //! Places in a text as people count them.
 
-ghost use Rattle.std.specs.Prelude.{◌≡◌, ◌≤◌, ◌<◌};
+ghost use Rattle.std.specs.Prelude.{◌≡◌, ◌≤◌, ◌<◌, ◌↔◌, IfSome, IsSome};
 ghost use Rattle.std.specs.Str.{IsCharBoundary};
 ghost use Rattle.lalrpop_lexer.specs.Position.{position_of};
 ghost use Rattle.lalrpop_lexer.specs.Internal.Places.{next_place};
@@ -24,6 +24,18 @@ impl Position {
         ensures position { result ≡ position_of text.now offset }
     {
         Positions::new(text).at(offset)
+    }
+
+    /// The place of an offset of the text, in bytes, or `None` if the offset is past the text or inside a character.
+    pub fn get(text: &str, offset: usize) -> Option<Position>
+        ensures boundary { IsSome result ↔ IsCharBoundary text.now offset }
+        ensures position { IfSome result (λ p. p ≡ position_of text.now offset) }
+    {
+        if text.is_char_boundary(offset) {
+            Some(Position::of(text, offset))
+        } else {
+            None
+        }
     }
 
     // The place behind the character that stands at this one.

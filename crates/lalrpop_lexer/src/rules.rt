@@ -128,8 +128,6 @@ impl Lexer {
             → Yields GivesToken result xs s → text.now ≡ slices (map bare xs) ++ rest_of s }
         ensures count { (xs : List (Result TokenValue FaultValue)) (s : Cutting)
             → Yields GivesToken result xs s → length xs ≤ length (chars text.now) }
-        ensures fused { (s t u : Cutting) (x : Option (Result TokenValue FaultValue))
-            → GivesToken s None t → GivesToken t x u → x ≡ None }
     {
         LexerTokens::new(Tokens::new(&self.dense, text))
     }

@@ -29,8 +29,6 @@ pub fn items<'text>(lexer: &'text Lexer, skipped: &'text [bool], text: &'text st
         → text.now ≡ joined xs ++ left_text s }
     ensures count { (xs : List ItemValue) (s : CutToEnd) → Yields GivesPiece result xs s
         → length xs ≤ length (chars text.now) }
-    ensures fused { (s t u : CutToEnd) (x : Option ItemValue) → GivesPiece s None t → GivesPiece t x u
-        → x ≡ None }
 {
     Items::new(lexer, skipped, text)
 }

@@ -149,8 +149,6 @@ impl RuleLexer {
             → text.now ≡ joined xs ++ left_text s }
         ensures count { (xs : List ItemValue) (s : CutToEnd) → Yields GivesPiece result xs s
             → length xs ≤ length (chars text.now) }
-        ensures fused { (s t u : CutToEnd) (x : Option ItemValue) → GivesPiece s None t
-            → GivesPiece t x u → x ≡ None }
     {
         cut::items(&self.lexer, &self.skips, text)
     }

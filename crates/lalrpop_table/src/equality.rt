@@ -15,7 +15,6 @@ impl PartialEq for State {
 
     /// Whether the kinds are equal, and the other edges. Test edges are compared by the automata.
     fn eq(&self, other: &State) -> bool
-        ensures value { result ≡ same_state (bare self.now) (bare other.now) }
         ensures same { IsTrue result ↔ IsSameState (bare self.now) (bare other.now) }
     {
         self.kind == other.kind && self.other_edge == other.other_edge
@@ -33,7 +32,6 @@ impl PartialEq for Dfa {
 
     /// Whether there are as many states, and at each number equal ones with equal test edges.
     fn eq(&self, other: &Dfa) -> bool
-        ensures value { result ≡ same_automaton self.now other.now }
         ensures same { IsTrue result ↔ IsSameAutomaton self.now other.now }
     {
         if self.rows.len() != other.rows.len() {

@@ -30,9 +30,10 @@ fn show(rt: &impl Print, lexer: &Lexer, text: &str) -> Result<()> {
     for item in lexer.tokens(text) {
         match item {
             Ok(token) => {
-                let Position { line, column } = Position::of(text, token.start);
                 let kind = kind_of(token.index.index());
-                println!(rt; "{line}:{column} {kind:?} {:?}", token.slice)?;
+                if let Some(Position { line, column }) = Position::get(text, token.start) {
+                    println!(rt; "{line}:{column} {kind:?} {:?}", token.slice)?;
+                }
             }
             Err(fault) => println!(rt; "{fault}")?,
         }

@@ -91,10 +91,9 @@ pub fn copy_of_start(dfa: &Dfa) -> Result<State, AllocError>
     dfa.states()[START.index()].clone()
 }
 
-// Needs lalrpop_table::State::eq: value, same.
+// Needs lalrpop_table::State::eq: same.
 /// Whether the states are equal but for their test edges.
 pub fn are_alike(left: &State, right: &State) -> bool
-    ensures value { result ≡ same_state (bare left.now) (bare right.now) }
     ensures same { IsTrue result ↔ IsSameState (bare left.now) (bare right.now) }
 {
     *left == *right
@@ -108,10 +107,9 @@ pub fn is_among(states: &[State], state: &State) -> bool
     states.contains(state)
 }
 
-// Needs lalrpop_table::Dfa::eq: value, same.
+// Needs lalrpop_table::Dfa::eq: same.
 /// Whether the automata are equal.
 pub fn are_equal(left: &Dfa, right: &Dfa) -> bool
-    ensures value { result ≡ same_automaton left.now right.now }
     ensures same { IsTrue result ↔ IsSameAutomaton left.now right.now }
 {
     *left == *right

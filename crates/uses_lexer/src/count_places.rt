@@ -1,5 +1,5 @@
 //! Places of a text as people count them.
-ghost use Rattle.std.specs.Prelude.{◌≡◌, ◌≤◌};
+ghost use Rattle.std.specs.Prelude.{◌≡◌, ◌≤◌, ◌↔◌, IfSome, IsSome};
 ghost use Rattle.std.specs.Str.{IsCharBoundary};
 ghost use Rattle.lalrpop_lexer.specs.Position.{position_of};
 
@@ -12,6 +12,18 @@ pub fn line_at(text: &str, offset: usize) -> usize
     ensures line { result ≡ (position_of text.now offset).line }
 {
     Position::of(text, offset).line
+}
+
+// Needs lalrpop_lexer::Position::get: boundary, position.
+/// The line of an offset in bytes, whatever the offset is.
+pub fn line_if_any(text: &str, offset: usize) -> Option<usize>
+    ensures some { IsSome result ↔ IsCharBoundary text.now offset }
+    ensures line { IfSome result (λ line. line ≡ (position_of text.now offset).line) }
+{
+    match Position::get(text, offset) {
+        Some(position) => Some(position.line),
+        None => None,
+    }
 }
 
 // Needs lalrpop_lexer::Positions::new: start.

@@ -80,7 +80,7 @@ pub fn first_length(lexer: &Lexer, text: &str) -> Option<usize>
     }
 }
 
-// Needs lalrpop_lexer::Lexer::tokens: fused.
+// Needs lalrpop_lexer::LexerTokens::next: ghost next_gives.
 /// Whether something comes behind the end of the tokens: never.
 pub fn comes_behind_the_end(lexer: &Lexer, text: &str) -> bool
     ensures never { result ≡ false }

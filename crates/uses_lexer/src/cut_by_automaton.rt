@@ -55,7 +55,7 @@ pub fn cut_once<'text>(dfa: &'text Dfa, text: &'text str) -> Option<(&'text str,
     }
 }
 
-// Needs lalrpop_lexer::tokens: fused.
+// Needs lalrpop_lexer::Tokens::next: ghost next_gives.
 /// Whether something comes behind the end of the tokens: never.
 pub fn comes_behind_the_end(dfa: &Dfa, text: &str) -> bool
     ensures never { result ≡ false }

@@ -47,7 +47,7 @@ pub fn cut_once<'text>(
     }
 }
 
-// Needs lalrpop_rules::RuleLexer::items: fused.
+// Needs lalrpop_rules::Items::next: ghost next_gives.
 /// Whether something comes behind the end of the pieces: never.
 pub fn comes_behind_the_end(lexer: &RuleLexer, text: &str) -> bool
     ensures never { result ≡ false }

@@ -67,7 +67,7 @@ pub fn place(piece: &Item) -> usize
     piece.start()
 }
 
-// Needs lalrpop_rules::items: fused.
+// Needs lalrpop_rules::Items::next: ghost next_gives.
 /// Whether something comes behind the end of the pieces: never.
 pub fn comes_behind_the_end(lexer: &Lexer, skipped: &[bool], text: &str) -> bool
     ensures never { result ≡ false }

@@ -1,4 +1,4 @@
-use Rattle.lalrpop_rules.proofs.PieceLaws.{pieces_from_start, whole_from_start, parts_from_start, count_from_start, are_apart, tokens_of, none_for_good}
+use Rattle.lalrpop_rules.proofs.PieceLaws.{pieces_from_start, whole_from_start, parts_from_start, count_from_start, are_apart, tokens_of}
 use Rattle.lalrpop_rules.proofs.cut.items.Goals as goal
 
 pub returns-clause-items : goal.returns-clause-items
@@ -18,6 +18,3 @@ returns-clause-parts c = parts_from_start _ _ _ _ c.new.ensures.start
 
 pub returns-clause-count : goal.returns-clause-count
 returns-clause-count c = count_from_start _ _ _ _ c.new.ensures.start c.utf8.text
-
-pub returns-clause-fused : goal.returns-clause-fused
-returns-clause-fused c = none_for_good

@@ -1,6 +1,6 @@
 use Rattle.std.proofs.Common.{◌≡◌, refl, ◌∙◌}
 use Rattle.lalrpop_lexer.specs.Cutting.{start_of}
-use Rattle.lalrpop_lexer.proofs.LexerCuttings.{tokens_from_start, token_parts_from_start, token_count_from_start, no_token_for_good}
+use Rattle.lalrpop_lexer.proofs.LexerCuttings.{tokens_from_start, token_parts_from_start, token_count_from_start}
 use Rattle.lalrpop_lexer.proofs.rules.Lexer.tokens.Goals as goal
 
 begins : (c : goal.After-new-2) → c.new-2.result ≡ start_of c.self.inside.dense c.args.text.now
@@ -23,6 +23,3 @@ returns-clause-parts c = token_parts_from_start _ _ _ (begins c)
 
 pub returns-clause-count : goal.returns-clause-count
 returns-clause-count c = token_count_from_start _ _ _ (begins c) c.utf8.text
-
-pub returns-clause-fused : goal.returns-clause-fused
-returns-clause-fused c = no_token_for_good
