@@ -5,10 +5,10 @@ use Rattle.std.specs.Cmp.{IsTotalOrder}
 use Rattle.std.proofs.lemmas.Cmp.{nat_cmp_total, on_total, then_total}
 use Rattle.std.proofs.lemmas.Map.Lookups.{CmpEqualImpliesEq}
 use Rattle.lalrpop_book.specs.Range.{Range}
-use Rattle.lalrpop_alphabet.specs.Internal.Leading.{range_cmp}
+use Rattle.lalrpop_alphabet.specs.Internal.EdgeGroups.{range_cmp}
 use Rattle.lalrpop_book.proofs.Orders.{then_equal, nat_exact}
 
--- a label with the fields of another one is that one
+-- a label with the fields of another one equals it
 pub range_same : (a b r s : Range) → a ≡ r → b ≡ s → b.start ≡ a.start → b.end ≡ a.end → s ≡ r
 range_same a b r s p q start end = sym q ∙ ap₂ (λ x y. let t : Range = record { start = x; end = y } in t) start end ∙ p
 

@@ -1,9 +1,9 @@
 mod Cases
 mod Assembling
 pub mod LabelOrder
-pub mod Cuts
-pub mod CutsLabels
-pub mod GroupLeads
+pub mod Boundaries
+pub mod BoundaryLabels
+pub mod EdgeGroupLaws
 mod Classing
 pub mod Marking
 mod Numbering

@@ -1,4 +1,4 @@
--- Numbers of lists are added to the cells that their labels cover.
+-- The numbers of lists are added to the cells that their labels cover.
 use Rattle.std.proofs.Common.{◌≡◌, ℕ, zero, suc, ◌+◌, ◌<◌, ◌≤◌, ◌⊎◌, inl, inr, List, [], ◌∷◌, ◌++◌, length, slice_set, get_or, take, nat_lt, true, false, ltb-true, ltb-false, refl, ap, sym, ◌∙◌, subst, arith}
 use Rattle.std.specs.Prelude.{slice_get, Some, ◌↔◌}
 use Rattle.std.specs.List.{Contains}
@@ -11,7 +11,7 @@ use Rattle.lalrpop_kernels.proofs.NumberedLemmas.{pushed_cases, pushed_keeps, pu
 use Rattle.lalrpop_alphabet.specs.declared.signatures.Signature.{Signature}
 use Rattle.lalrpop_alphabet.specs.declared.Group.{Group}
 use Rattle.lalrpop_alphabet.specs.declared.groups.Labels.{Labels}
-use Rattle.lalrpop_alphabet.specs.Internal.Alphabet.{HasCut}
+use Rattle.lalrpop_alphabet.specs.Internal.Alphabet.{HasBoundary}
 use Rattle.lalrpop_alphabet.specs.Internal.Grouped.{HasLabel}
 use Rattle.lalrpop_alphabet.specs.Internal.Signatures.{AreRising, IsEndAt, EndsAt, CoversAny, CoversIn, Added, Marked, Gained, AreSigned, HaveEnds, AreBare}
 
@@ -62,7 +62,7 @@ module _ {X : Type 0} where
   pub none_has : (x : X) → Contains [] x → ⊥
   none_has x (k, l, e) = absurd (omega (arith, l))
 
-  -- one element more
+  -- one more element
   pub taken_more : (xs : List X) (i : ℕ) (y x : X) → i < length xs → y ≡ get_or xs i y → Contains (take (i + 1) xs) x ↔ (Contains (take i xs) x ⊎ (x ≡ y))
   taken_more xs i y x l is =
       let more : take (i + 1) xs ≡ take i xs ++ y ∷ [] = take_more xs i y l ∙ ap (λ z. take i xs ++ z ∷ []) (sym is) in (
@@ -70,25 +70,25 @@ module _ {X : Type 0} where
         λ h. rw more (elim h [ inl a ↦ Contains-append_left (take i xs) (y ∷ []) x a | inr b ↦ Contains-append_right (take i xs) (y ∷ []) x (rw b (0, omega arith, refl)) ]),
       )
 
--- ---- the place of a cut
-pub rises : (cuts : List ℕ) → AreRising cuts → (i j : ℕ) (d : ℕ) → i ≤ j → j < length cuts → suc (get_or cuts i d) ≤ suc (get_or cuts j d)
-rises cuts rising i j d l m = elim (cases_lt i j) [
-  | inl before ↦ (let a = rising i j (get_or cuts i d) (get_or cuts j d) (slice_get-get_or cuts i d (omega (arith, before, m))) (slice_get-get_or cuts j d m) before in omega (arith, a))
+-- ---- the place of a boundary
+pub rises : (boundaries : List ℕ) → AreRising boundaries → (i j : ℕ) (d : ℕ) → i ≤ j → j < length boundaries → suc (get_or boundaries i d) ≤ suc (get_or boundaries j d)
+rises boundaries rising i j d l m = elim (cases_lt i j) [
+  | inl before ↦ (let a = rising i j (get_or boundaries i d) (get_or boundaries j d) (slice_get-get_or boundaries i d (omega (arith, before, m))) (slice_get-get_or boundaries j d m) before in omega (arith, a))
   | inr same ↦ (let e : i ≡ j = omega (arith, l, same) in rw e (omega arith))
 ]
 
-pub placed : (cuts : List ℕ) (value i : ℕ) → AreRising cuts → Contains cuts value → ((k : ℕ) (d : ℕ) → k < i → nat_lt (get_or cuts k d) value ≡ true) → ((k : ℕ) (d : ℕ) → i ≤ k → k < length cuts → nat_lt (get_or cuts k d) value ≡ false)
-    → slice_get cuts i ≡ Some value
-placed cuts value i rising there below above =
-    let (k, at) = contains_at cuts value there in
-    let within : k < length cuts = slice_get_within cuts k value at in
-    let is : get_or cuts k 0 ≡ value = get_or_from_slice_get cuts k value 0 at in
+pub placed : (boundaries : List ℕ) (value i : ℕ) → AreRising boundaries → Contains boundaries value → ((k : ℕ) (d : ℕ) → k < i → nat_lt (get_or boundaries k d) value ≡ true) → ((k : ℕ) (d : ℕ) → i ≤ k → k < length boundaries → nat_lt (get_or boundaries k d) value ≡ false)
+    → slice_get boundaries i ≡ Some value
+placed boundaries value i rising there below above =
+    let (k, at) = contains_at boundaries value there in
+    let within : k < length boundaries = slice_get_within boundaries k value at in
+    let is : get_or boundaries k 0 ≡ value = get_or_from_slice_get boundaries k value 0 at in
     elim (cases_lt k i) [
       | inl before ↦ absurd (let t = ltb-true _ _ (below k 0 before) in omega (arith, t, is))
       | inr from ↦ elim (cases_lt i k) [
         | inl apart ↦ absurd (
             let t = ltb-false _ _ (above i 0 (omega arith) (omega (arith, apart, within))) in
-            let u = rising i k (get_or cuts i 0) value (slice_get-get_or cuts i 0 (omega (arith, apart, within))) at apart in
+            let u = rising i k (get_or boundaries i 0) value (slice_get-get_or boundaries i 0 (omega (arith, apart, within))) at apart in
             omega (arith, t, u))
         | inr past ↦ (let e : k ≡ i = omega (arith, from, past) in rw (← e) at)
       ]
@@ -134,14 +134,14 @@ marked_all a b stop number old new m l inside = marked_like old new m (λ k n. (
 ))
 
 -- ---- the cells of a label
-module _ (cuts : List ℕ) (rising : AreRising cuts) where
-  pub not_after : (i j u v : ℕ) → slice_get cuts i ≡ Some u → slice_get cuts j ≡ Some v → i ≤ j → u ≤ v
+module _ (boundaries : List ℕ) (rising : AreRising boundaries) where
+  pub not_after : (i j u v : ℕ) → slice_get boundaries i ≡ Some u → slice_get boundaries j ≡ Some v → i ≤ j → u ≤ v
   not_after i j u v a b l = elim (cases_lt i j) [
     | inl before ↦ (let h = rising i j u v a b before in omega (arith, h))
-    | inr same ↦ (let e : i ≡ j = omega (arith, l, same) in let s : u ≡ v = (let at : slice_get cuts j ≡ Some u = rw (← e) a in cc) in omega (arith, s))
+    | inr same ↦ (let e : i ≡ j = omega (arith, l, same) in let s : u ≡ v = (let at : slice_get boundaries j ≡ Some u = rw (← e) a in cc) in omega (arith, s))
   ]
 
-  same_place : (i j v : ℕ) → slice_get cuts i ≡ Some v → slice_get cuts j ≡ Some v → i ≡ j
+  same_place : (i j v : ℕ) → slice_get boundaries i ≡ Some v → slice_get boundaries j ≡ Some v → i ≡ j
   same_place i j v a b = elim (cases_lt i j) [
     | inl before ↦ absurd (let h = rising i j v v a b before in omega (arith, h))
     | inr from ↦ elim (cases_lt j i) [
@@ -150,30 +150,30 @@ module _ (cuts : List ℕ) (rising : AreRising cuts) where
     ]
   ]
 
-  pub label_marked : (r : Range) (from until number : ℕ) (old new : List Signature) → slice_get cuts from ≡ Some r.start → slice_get cuts until ≡ Some (r.end + 1) → Marked old new (λ k n. (n ≡ number) × (from ≤ k) × (k < until))
-      → Gained cuts old new (λ v n. (n ≡ number) × Covers r v)
+  pub label_marked : (r : Range) (from until number : ℕ) (old new : List Signature) → slice_get boundaries from ≡ Some r.start → slice_get boundaries until ≡ Some (r.end + 1) → Marked old new (λ k n. (n ≡ number) × (from ≤ k) × (k < until))
+      → Gained boundaries old new (λ v n. (n ≡ number) × Covers r v)
   label_marked r from until number old new start end m = (
     m.0,
-    λ k v s s2 cut was will n.
+    λ k v s s2 boundary was will n.
         let g = m.1 k s s2 was will n in (
           λ h. elim (g.0 h) [
             | inl x ↦ inl x
             | inr x ↦
-                (let low : r.start ≤ v = not_after from k r.start v start cut x.1 in
-                let high : v < r.end + 1 = rising k until v (r.end + 1) cut end x.2 in
+                (let low : r.start ≤ v = not_after from k r.start v start boundary x.1 in
+                let high : v < r.end + 1 = rising k until v (r.end + 1) boundary end x.2 in
                 inr (x.0, (low, omega (arith, high))))
           ],
           λ h. g.1 (elim h [
             | inl x ↦ inl x
             | inr x ↦
-                (let low : from ≤ k = elim (cases_lt k from) [ inl before ↦ absurd (let b = rising k from v r.start cut start before in omega (arith, b, x.1.0)) | inr a ↦ a ] in
-                let high : k < until = elim (cases_lt k until) [ inl a ↦ a | inr past ↦ absurd (let b = not_after until k (r.end + 1) v end cut past in omega (arith, b, x.1.1)) ] in
+                (let low : from ≤ k = elim (cases_lt k from) [ inl before ↦ absurd (let b = rising k from v r.start boundary start before in omega (arith, b, x.1.0)) | inr a ↦ a ] in
+                let high : k < until = elim (cases_lt k until) [ inl a ↦ a | inr past ↦ absurd (let b = not_after until k (r.end + 1) v end boundary past in omega (arith, b, x.1.1)) ] in
                 inr (x.0, low, high))
           ]),
         ),
   )
 
-  pub ends_added : (r : Range) (from until : ℕ) (xs ys zs : List ℕ) → r.start ≤ r.end → slice_get cuts from ≡ Some r.start → slice_get cuts until ≡ Some (r.end + 1) → Added xs ys (λ n. n ≡ from) → Added ys zs (λ n. n ≡ until) → Added xs zs (IsEndAt cuts r)
+  pub ends_added : (r : Range) (from until : ℕ) (xs ys zs : List ℕ) → r.start ≤ r.end → slice_get boundaries from ≡ Some r.start → slice_get boundaries until ≡ Some (r.end + 1) → Added xs ys (λ n. n ≡ from) → Added ys zs (λ n. n ≡ until) → Added xs zs (IsEndAt boundaries r)
   ends_added r from until xs ys zs some start end a b n = (
     λ h. elim ((b n).0 h) [
       | inl x ↦ elim ((a n).0 x) [ inl y ↦ inl y | inr y ↦ inr (r.start, (rw y start, (some, inl refl))) ]
@@ -182,21 +182,21 @@ module _ (cuts : List ℕ) (rising : AreRising cuts) where
     λ h. (b n).1 (elim h [ inl x ↦ inl ((a n).1 (inl x)) | inr x ↦ is_end x.0 x.1.0 x.1.1.1 ]),
   )
     where
-      is_end : (v : ℕ) → slice_get cuts n ≡ Some v → (v ≡ r.start) ⊎ (v ≡ r.end + 1) → Contains ys n ⊎ (n ≡ until)
+      is_end : (v : ℕ) → slice_get boundaries n ≡ Some v → (v ≡ r.start) ⊎ (v ≡ r.end + 1) → Contains ys n ⊎ (n ≡ until)
       is_end v at (inl e) = inl ((a n).1 (inr (same_place n from r.start (rw e at at) start)))
       is_end v at (inr e) = inr (same_place n until (r.end + 1) (rw e at at) end)
 
-gained_same : {E : ℕ → ℕ → Type 0} → (cuts : List ℕ) (old : List Signature) → ((v n : ℕ) → E v n → ⊥) → Gained cuts old old E
-gained_same cuts old none = (refl, λ k v s s2 cut was will n. (let e : s2 ≡ s = cc in (λ h. inl (rw (← e) h), λ h. elim h [ inl x ↦ rw e x | inr x ↦ absurd (none v n x) ])))
+gained_same : {E : ℕ → ℕ → Type 0} → (boundaries : List ℕ) (old : List Signature) → ((v n : ℕ) → E v n → ⊥) → Gained boundaries old old E
+gained_same boundaries old none = (refl, λ k v s s2 boundary was will n. (let e : s2 ≡ s = cc in (λ h. inl (rw (← e) h), λ h. elim h [ inl x ↦ rw e x | inr x ↦ absurd (none v n x) ])))
 
 -- by one step, and then by another
-gained_then : {E F G : ℕ → ℕ → Type 0} → (cuts : List ℕ) (old cur new : List Signature) → Gained cuts old cur E → Gained cuts cur new F → ((v n : ℕ) → (E v n ⊎ F v n) ↔ G v n) → Gained cuts old new G
-gained_then {E} {F} {G} cuts old cur new f g both = (
+gained_then : {E F G : ℕ → ℕ → Type 0} → (boundaries : List ℕ) (old cur new : List Signature) → Gained boundaries old cur E → Gained boundaries cur new F → ((v n : ℕ) → (E v n ⊎ F v n) ↔ G v n) → Gained boundaries old new G
+gained_then {E} {F} {G} boundaries old cur new f g both = (
   g.0 ∙ f.0,
-  λ k v s s2 cut was will n.
+  λ k v s s2 boundary was will n.
       let (q, at) = at_within cur k (omega (arith, slice_get_within old k s was, f.0)) in
-      let a = f.1 k v s q cut was at n in
-      let b = g.1 k v q s2 cut at will n in
+      let a = f.1 k v s q boundary was at n in
+      let b = g.1 k v q s2 boundary at will n in
       let c = both v n in (
         λ h. elim (b.0 h) [ inl x ↦ elim (a.0 x) [ inl y ↦ inl y | inr y ↦ inr (c.0 (inl y)) ] | inr x ↦ inr (c.0 (inr x)) ],
         λ h. elim h [ inl x ↦ b.1 (inl (a.1 (inl x))) | inr x ↦ elim (c.1 x) [ inl y ↦ b.1 (inl (a.1 (inr y))) | inr y ↦ b.1 (inr y) ] ],
@@ -204,9 +204,9 @@ gained_then {E} {F} {G} cuts old cur new f g both = (
 )
 
 -- ---- label by label
-pub label_gained : (cuts : List ℕ) (rs : List Range) (i number : ℕ) (r : Range) (old cur new : List Signature) → Gained cuts old cur (λ v n. (n ≡ number) × CoversAny (take i rs) v) → Gained cuts cur new (λ v n. (n ≡ number) × Covers r v)
-    → i < length rs → r ≡ get_or rs i r → Gained cuts old new (λ v n. (n ≡ number) × CoversAny (take (i + 1) rs) v)
-label_gained cuts rs i number r old cur new f g l is = gained_then cuts old cur new f g (λ v n. (to v n, from v n))
+pub label_gained : (boundaries : List ℕ) (rs : List Range) (i number : ℕ) (r : Range) (old cur new : List Signature) → Gained boundaries old cur (λ v n. (n ≡ number) × CoversAny (take i rs) v) → Gained boundaries cur new (λ v n. (n ≡ number) × Covers r v)
+    → i < length rs → r ≡ get_or rs i r → Gained boundaries old new (λ v n. (n ≡ number) × CoversAny (take (i + 1) rs) v)
+label_gained boundaries rs i number r old cur new f g l is = gained_then boundaries old cur new f g (λ v n. (to v n, from v n))
   where
     to : (v n : ℕ) → ((n ≡ number) × CoversAny (take i rs) v) ⊎ ((n ≡ number) × Covers r v) → (n ≡ number) × CoversAny (take (i + 1) rs) v
     to v n (inl (e, (q, (has, low)))) = (e, (q, ((taken_more rs i r q l is).1 (inl has), low)))
@@ -215,27 +215,27 @@ label_gained cuts rs i number r old cur new f g l is = gained_then cuts old cur 
     from : (v n : ℕ) → (n ≡ number) × CoversAny (take (i + 1) rs) v → ((n ≡ number) × CoversAny (take i rs) v) ⊎ ((n ≡ number) × Covers r v)
     from v n (e, (q, (has, low))) = elim ((taken_more rs i r q l is).0 has) [ inl x ↦ inl (e, (q, (x, low))) | inr x ↦ inr (e, subst (λ (p : Range). Covers p v) x low) ]
 
-pub label_ends : (cuts : List ℕ) (rs : List Range) (i : ℕ) (r : Range) (xs ys : List ℕ) → ((k : ℕ) → Contains xs k ↔ EndsAt cuts (take i rs) k) → Added xs ys (IsEndAt cuts r) → i < length rs → r ≡ get_or rs i r → (k : ℕ) → Contains ys k ↔ EndsAt cuts (take (i + 1) rs) k
-label_ends cuts rs i r xs ys f g l is k = (to, from)
+pub label_ends : (boundaries : List ℕ) (rs : List Range) (i : ℕ) (r : Range) (xs ys : List ℕ) → ((k : ℕ) → Contains xs k ↔ EndsAt boundaries (take i rs) k) → Added xs ys (IsEndAt boundaries r) → i < length rs → r ≡ get_or rs i r → (k : ℕ) → Contains ys k ↔ EndsAt boundaries (take (i + 1) rs) k
+label_ends boundaries rs i r xs ys f g l is k = (to, from)
   where
-    to : Contains ys k → EndsAt cuts (take (i + 1) rs) k
+    to : Contains ys k → EndsAt boundaries (take (i + 1) rs) k
     to h = elim ((g k).0 h) [
       | inl x ↦ (let (q, (has, end)) = (f k).0 x in (q, ((taken_more rs i r q l is).1 (inl has), end)))
       | inr x ↦ (r, ((taken_more rs i r r l is).1 (inr refl), x))
     ]
 
-    from : EndsAt cuts (take (i + 1) rs) k → Contains ys k
-    from (q, (has, end)) = (g k).1 (elim ((taken_more rs i r q l is).0 has) [ inl x ↦ inl ((f k).1 (q, (x, end))) | inr x ↦ inr (subst (λ (p : Range). IsEndAt cuts p k) x end) ])
+    from : EndsAt boundaries (take (i + 1) rs) k → Contains ys k
+    from (q, (has, end)) = (g k).1 (elim ((taken_more rs i r q l is).0 has) [ inl x ↦ inl ((f k).1 (q, (x, end))) | inr x ↦ inr (subst (λ (p : Range). IsEndAt boundaries p k) x end) ])
 
 -- ---- list by list
-pub list_gained : (cuts : List ℕ) (lists : List Labels) (i : ℕ) (ls : Labels) (old new : List Signature) → slice_get lists i ≡ Some ls → AreSigned cuts old (λ v n. (n < i) × CoversIn lists n v) → Gained cuts old new (λ v n. (n ≡ i) × CoversAny ls.list.items v)
-    → AreSigned cuts new (λ v n. (n < i + 1) × CoversIn lists n v)
-list_gained cuts lists i ls old new at signed g = (
+pub list_gained : (boundaries : List ℕ) (lists : List Labels) (i : ℕ) (ls : Labels) (old new : List Signature) → slice_get lists i ≡ Some ls → AreSigned boundaries old (λ v n. (n < i) × CoversIn lists n v) → Gained boundaries old new (λ v n. (n ≡ i) × CoversAny ls.list.items v)
+    → AreSigned boundaries new (λ v n. (n < i + 1) × CoversIn lists n v)
+list_gained boundaries lists i ls old new at signed g = (
   g.0 ∙ signed.0,
-  λ k v s2 cut will n.
+  λ k v s2 boundary will n.
       let (s, was) = at_within old k (omega (arith, slice_get_within new k s2 will, g.0)) in
-      let a = signed.1 k v s cut was n in
-      let b = g.1 k v s s2 cut was will n in (
+      let a = signed.1 k v s boundary was n in
+      let b = g.1 k v s s2 boundary was will n in (
         λ h. elim (b.0 h) [ inl x ↦ (omega (arith, (a.0 x).0), (a.0 x).1) | inr x ↦ (omega (arith, x.0), covers_here v n x.0 x.1) ],
         λ h. b.1 (elim (cases_lt n i) [ inl before ↦ inl (a.1 (before, h.1)) | inr from ↦ (let e : n ≡ i = omega (arith, from, h.0) in inr (e, there v n e h.1)) ]),
       ),
@@ -249,22 +249,22 @@ list_gained cuts lists i ls old new at signed g = (
 
 -- the groups of the lists below i have the ends of their labels
 abbrev pub HaveEndsBelow : ℕ → List Labels → List ℕ → List Group → Type 0
-HaveEndsBelow i lists cuts groups = (n k : ℕ) → HasCut groups n k ↔ ((n < i) × ((r : Range) × (HasLabel lists n r × IsEndAt cuts r k)))
+HaveEndsBelow i lists boundaries groups = (n k : ℕ) → HasBoundary groups n k ↔ ((n < i) × ((r : Range) × (HasLabel lists n r × IsEndAt boundaries r k)))
 
-pub group_ends : (cuts : List ℕ) (lists : List Labels) (i : ℕ) (ls : Labels) (groups : List Group) (group : Group) → slice_get lists i ≡ Some ls → length groups ≡ i → HaveEndsBelow i lists cuts groups → ((k : ℕ) → Contains group.cuts.items k ↔ EndsAt cuts ls.list.items k)
-    → HaveEndsBelow (i + 1) lists cuts (groups ++ group ∷ [])
-group_ends cuts lists i ls groups group at len f g n k = (to, from)
+pub group_ends : (boundaries : List ℕ) (lists : List Labels) (i : ℕ) (ls : Labels) (groups : List Group) (group : Group) → slice_get lists i ≡ Some ls → length groups ≡ i → HaveEndsBelow i lists boundaries groups → ((k : ℕ) → Contains group.boundaries.items k ↔ EndsAt boundaries ls.list.items k)
+    → HaveEndsBelow (i + 1) lists boundaries (groups ++ group ∷ [])
+group_ends boundaries lists i ls groups group at len f g n k = (to, from)
   where
-    to : HasCut (groups ++ group ∷ []) n k → (n < i + 1) × ((r : Range) × (HasLabel lists n r × IsEndAt cuts r k))
+    to : HasBoundary (groups ++ group ∷ []) n k → (n < i + 1) × ((r : Range) × (HasLabel lists n r × IsEndAt boundaries r k))
     to (x, (here, has)) = elim (pushed_cases groups group n x here) [
       | inl was ↦ (let h = (f n k).0 (x, (was, has)) in (omega (arith, h.0), h.1))
       | inr new ↦
           (let e : n ≡ i = omega (arith, new.0, len) in
-          let (r, (m, end)) = (g k).0 (subst (λ (y : Group). Contains y.cuts.items k) new.1 has) in
+          let (r, (m, end)) = (g k).0 (subst (λ (y : Group). Contains y.boundaries.items k) new.1 has) in
           (omega (arith, e), (r, ((ls, (rw e at, m)), end))))
     ]
 
-    from : (n < i + 1) × ((r : Range) × (HasLabel lists n r × IsEndAt cuts r k)) → HasCut (groups ++ group ∷ []) n k
+    from : (n < i + 1) × ((r : Range) × (HasLabel lists n r × IsEndAt boundaries r k)) → HasBoundary (groups ++ group ∷ []) n k
     from (l, (r, ((ms, (here, has)), end))) = elim (cases_lt n i) [
       | inl before ↦ (let (x, (was, m)) = (f n k).1 (before, (r, ((ms, (here, has)), end))) in (x, (pushed_keeps groups group n x was, m)))
       | inr past ↦
@@ -280,21 +280,21 @@ still_bare groups group bare none n c (x, (at, has)) = elim (pushed_cases groups
   | inr new ↦ none_has c (subst (λ ys. Contains ys c) none (subst (λ (y : Group). Contains y.classes.items c) new.1 has))
 ]
 
-pub none_signed : (cuts : List ℕ) (lists : List Labels) (signatures : List Signature) → length signatures ≡ length cuts → ((k : ℕ) (s : Signature) → slice_get signatures k ≡ Some s → (n : ℕ) → Contains s.lists.items n → ⊥)
-    → AreSigned cuts signatures (λ v n. (n < 0) × CoversIn lists n v)
-none_signed cuts lists signatures len none = (len, λ k v s cut at n. (λ h. absurd (none k s at n h), λ h. absurd (omega (arith, h.0))))
+pub none_signed : (boundaries : List ℕ) (lists : List Labels) (signatures : List Signature) → length signatures ≡ length boundaries → ((k : ℕ) (s : Signature) → slice_get signatures k ≡ Some s → (n : ℕ) → Contains s.lists.items n → ⊥)
+    → AreSigned boundaries signatures (λ v n. (n < 0) × CoversIn lists n v)
+none_signed boundaries lists signatures len none = (len, λ k v s boundary at n. (λ h. absurd (none k s at n h), λ h. absurd (omega (arith, h.0))))
 
-pub all_signed : (cuts : List ℕ) (lists : List Labels) (signatures : List Signature) (i : ℕ) → length lists ≤ i → AreSigned cuts signatures (λ v n. (n < i) × CoversIn lists n v) → AreSigned cuts signatures (λ v n. CoversIn lists n v)
-all_signed cuts lists signatures i all signed = (
+pub all_signed : (boundaries : List ℕ) (lists : List Labels) (signatures : List Signature) (i : ℕ) → length lists ≤ i → AreSigned boundaries signatures (λ v n. (n < i) × CoversIn lists n v) → AreSigned boundaries signatures (λ v n. CoversIn lists n v)
+all_signed boundaries lists signatures i all signed = (
   signed.0,
-  λ k v s cut at n. (λ h. ((signed.1 k v s cut at n).0 h).1, λ h. (signed.1 k v s cut at n).1 (inside n h.1.0, h)),
+  λ k v s boundary at n. (λ h. ((signed.1 k v s boundary at n).0 h).1, λ h. (signed.1 k v s boundary at n).1 (inside n h.1.0, h)),
 )
   where
     inside : {r : Range} → (n : ℕ) → HasLabel lists n r → n < i
     inside n (ls, (at, has)) = omega (arith, slice_get_within lists n ls at, all)
 
-pub all_ends : (cuts : List ℕ) (lists : List Labels) (groups : List Group) (i : ℕ) → length lists ≤ i → HaveEndsBelow i lists cuts groups → HaveEnds lists cuts groups
-all_ends cuts lists groups i all f n k = (λ h. ((f n k).0 h).1, λ h. (f n k).1 (inside h.1.0, h))
+pub all_ends : (boundaries : List ℕ) (lists : List Labels) (groups : List Group) (i : ℕ) → length lists ≤ i → HaveEndsBelow i lists boundaries groups → HaveEnds lists boundaries groups
+all_ends boundaries lists groups i all f n k = (λ h. ((f n k).0 h).1, λ h. (f n k).1 (inside h.1.0, h))
   where
     inside : {r : Range} → HasLabel lists n r → n < i
     inside (ls, (at, has)) = omega (arith, slice_get_within lists n ls at, all)
@@ -302,14 +302,14 @@ all_ends cuts lists groups i all f n k = (λ h. ((f n k).0 h).1, λ h. (f n k).1
 pub no_bare : AreBare []
 no_bare n c (x, (at, has)) = cc
 
-pub no_ends : (cuts : List ℕ) (lists : List Labels) → HaveEndsBelow 0 lists cuts []
-no_ends cuts lists n k = (λ (x, (at, has)). cc, λ h. absurd (omega (arith, h.0)))
+pub no_ends : (boundaries : List ℕ) (lists : List Labels) → HaveEndsBelow 0 lists boundaries []
+no_ends boundaries lists n k = (λ (x, (at, has)). cc, λ h. absurd (omega (arith, h.0)))
 
-pub none_gained : (cuts : List ℕ) (rs : List Range) (number : ℕ) (old : List Signature) → Gained cuts old old (λ v n. (n ≡ number) × CoversAny (take 0 rs) v)
-none_gained cuts rs number old = gained_same cuts old (λ v n (e, (r, (has, low))). none_has r has)
+pub none_gained : (boundaries : List ℕ) (rs : List Range) (number : ℕ) (old : List Signature) → Gained boundaries old old (λ v n. (n ≡ number) × CoversAny (take 0 rs) v)
+none_gained boundaries rs number old = gained_same boundaries old (λ v n (e, (r, (has, low))). none_has r has)
 
-pub none_end : (cuts : List ℕ) (rs : List Range) (ends : List ℕ) → ends ≡ [] → (k : ℕ) → Contains ends k ↔ EndsAt cuts (take 0 rs) k
-none_end cuts rs ends none k = (λ h. absurd (none_has k (subst (λ xs. Contains xs k) none h)), λ (r, (has, end)). absurd (none_has r has))
+pub none_end : (boundaries : List ℕ) (rs : List Range) (ends : List ℕ) → ends ≡ [] → (k : ℕ) → Contains ends k ↔ EndsAt boundaries (take 0 rs) k
+none_end boundaries rs ends none k = (λ h. absurd (none_has k (subst (λ xs. Contains xs k) none h)), λ (r, (has, end)). absurd (none_has r has))
 
 pub none_more : (signatures new : List Signature) (s : Signature) → ((k : ℕ) (t : Signature) → slice_get signatures k ≡ Some t → (n : ℕ) → Contains t.lists.items n → ⊥) → s.lists.items ≡ [] → new ≡ signatures ++ s ∷ []
     → (k : ℕ) (t : Signature) → slice_get new k ≡ Some t → (n : ℕ) → Contains t.lists.items n → ⊥

@@ -1,4 +1,4 @@
--- Classes are given to groups, and numbers to signatures.
+-- Groups are given classes, and signatures numbers.
 use Rattle.std.proofs.Common.{◌≡◌, ℕ, suc, ◌+◌, ◌<◌, ◌⊎◌, inl, inr, List, [], ◌∷◌, ◌++◌, length, slice_set, get_or, take, refl, ap, sym, ◌∙◌, subst, arith}
 use Rattle.std.specs.Prelude.{slice_get, Some, None, ◌↔◌}
 use Rattle.std.specs.Map.{lookup}
@@ -14,7 +14,7 @@ use Rattle.lalrpop_book.proofs.Orders.{nat_exact, lists_exact}
 use Rattle.lalrpop_alphabet.specs.declared.Cell.{Cell}
 use Rattle.lalrpop_alphabet.specs.declared.Group.{Group}
 use Rattle.lalrpop_alphabet.specs.declared.signatures.Signature.{Signature}
-use Rattle.lalrpop_alphabet.specs.Internal.Alphabet.{HasClass, HasCut}
+use Rattle.lalrpop_alphabet.specs.Internal.Alphabet.{HasClass, HasBoundary}
 use Rattle.lalrpop_alphabet.specs.Internal.Signatures.{AreBare}
 use Rattle.lalrpop_alphabet.specs.Internal.Numbered.{signature_cmp, GotClasses, IsClassOf, AreNumbered, IsNumbered, AreClassed}
 use Rattle.lalrpop_alphabet.proofs.Marking.{set_at, set_there, set_elsewhere, set_length, one_has, none_has, taken_more}
@@ -23,16 +23,16 @@ use Rattle.lalrpop_alphabet.proofs.Marking.{set_at, set_there, set_elsewhere, se
 pub got_none : (groups : List Group) (numbers : List ℕ) (class : ℕ) → GotClasses groups groups (λ n c. Contains (take 0 numbers) n × (c ≡ class))
 got_none groups numbers class = record {
   same_length = refl;
-  cuts = λ n k. (λ h. h, λ h. h);
+  boundaries = λ n k. (λ h. h, λ h. h);
   classes = λ n c. (λ h. inl h, λ h. elim h [ inl x ↦ x | inr x ↦ absurd (none_has n x.0) ]);
 }
 
 -- one group gets it
-module _ (groups : List Group) (i class : ℕ) (now new : Group) (within : i < length groups) (at : slice_get groups i ≡ Some now) (cuts : new.cuts ≡ now.cuts) (classes : new.classes.items ≡ now.classes.items ++ class ∷ []) where
-  group_cuts : (n k : ℕ) → HasCut (slice_set groups i new) n k ↔ HasCut groups n k
-  group_cuts n k = (
+module _ (groups : List Group) (i class : ℕ) (now new : Group) (within : i < length groups) (at : slice_get groups i ≡ Some now) (boundaries : new.boundaries ≡ now.boundaries) (classes : new.classes.items ≡ now.classes.items ++ class ∷ []) where
+  group_boundaries : (n k : ℕ) → HasBoundary (slice_set groups i new) n k ↔ HasBoundary groups n k
+  group_boundaries n k = (
     λ (x, (here, has)). elim (set_at groups i new n x within here) [
-      | inl e ↦ (now, (rw e.0 at, subst (λ ys. Contains ys.items k) cuts (subst (λ (y : Group). Contains y.cuts.items k) e.1 has)))
+      | inl e ↦ (now, (rw e.0 at, subst (λ ys. Contains ys.items k) boundaries (subst (λ (y : Group). Contains y.boundaries.items k) e.1 has)))
       | inr e ↦ (x, (e.1, has))
     ],
     λ (x, (here, has)). elim (cases_lt n i) [
@@ -42,7 +42,7 @@ module _ (groups : List Group) (i class : ℕ) (now new : Group) (within : i < l
         | inr m ↦
             (let e : n ≡ i = omega (arith, l, m) in
             let same : x ≡ now = (let both : slice_get groups i ≡ Some x = rw (← e) here in cc) in
-            (new, (rw e (set_there groups i new within), subst (λ ys. Contains ys.items k) (sym cuts) (subst (λ (y : Group). Contains y.cuts.items k) same has))))
+            (new, (rw e (set_there groups i new within), subst (λ ys. Contains ys.items k) (sym boundaries) (subst (λ (y : Group). Contains y.boundaries.items k) same has))))
       ]
     ],
   )
@@ -77,12 +77,12 @@ module _ (groups : List Group) (i class : ℕ) (now new : Group) (within : i < l
       from (inr (e, b)) = here_has e (inr b)
 
 pub got_more : (old cur : List Group) (numbers : List ℕ) (j i class : ℕ) (now new : Group) → GotClasses old cur (λ n c. Contains (take j numbers) n × (c ≡ class)) → j < length numbers → i ≡ get_or numbers j 0 → i < length cur → slice_get cur i ≡ Some now
-    → new.cuts ≡ now.cuts → new.classes.items ≡ now.classes.items ++ class ∷ [] → GotClasses old (slice_set cur i new) (λ n c. Contains (take (j + 1) numbers) n × (c ≡ class))
-got_more old cur numbers j i class now new got l is within at cuts classes = record {
+    → new.boundaries ≡ now.boundaries → new.classes.items ≡ now.classes.items ++ class ∷ [] → GotClasses old (slice_set cur i new) (λ n c. Contains (take (j + 1) numbers) n × (c ≡ class))
+got_more old cur numbers j i class now new got l is within at boundaries classes = record {
   same_length = set_length cur i new ∙ got.same_length;
-  cuts = λ n k. (let a = group_cuts cur i class now new within at cuts classes n k in let b = got.cuts n k in (λ h. b.0 (a.0 h), λ h. a.1 (b.1 h)));
+  boundaries = λ n k. (let a = group_boundaries cur i class now new within at boundaries classes n k in let b = got.boundaries n k in (λ h. b.0 (a.0 h), λ h. a.1 (b.1 h)));
   classes = λ n c.
-      let a = group_classes cur i class now new within at cuts classes n c in
+      let a = group_classes cur i class now new within at boundaries classes n c in
       let b = got.classes n c in
       let same : get_or numbers j i ≡ get_or numbers j 0 = get_or_from_slice_get numbers j (get_or numbers j 0) i (slice_get-get_or numbers j 0 l) in
       let t = taken_more numbers j i n l (is ∙ sym same) in (
@@ -120,7 +120,7 @@ module _ (groups groups2 : List Group) (count : ℕ) (s : Signature) (known know
   pub number_new : IsNumbered groups groups2 count (count + 1) s count
   number_new = record {
     same_length = got.same_length;
-    cuts = got.cuts;
+    boundaries = got.boundaries;
     kept = kept_class;
     more = (omega arith, omega arith);
     within = omega arith;
@@ -130,7 +130,7 @@ module _ (groups groups2 : List Group) (count : ℕ) (s : Signature) (known know
 pub number_known : (groups : List Group) (count : ℕ) (s : Signature) (known : BTreeMap Signature ℕ) (c : ℕ) → AreNumbered known groups count → get signature_cmp known s ≡ Some c → IsNumbered groups groups count count s c
 number_known groups count s known c numbered found = record {
   same_length = refl;
-  cuts = λ n k. (λ h. h, λ h. h);
+  boundaries = λ n k. (λ h. h, λ h. h);
   kept = λ n d l. (λ h. h, λ h. h);
   more = (omega arith, omega arith);
   within = (numbered.classes s c found).0;
@@ -138,9 +138,9 @@ number_known groups count s known c numbered found = record {
 }
 
 -- ---- cell by cell
-pub classed_more : (cuts : List ℕ) (signatures : List Signature) (cells : List Cell) (groups groups2 : List Group) (count count2 : ℕ) (s : Signature) (c : ℕ) (cell : Cell) → AreClassed cuts signatures cells groups count → IsNumbered groups groups2 count count2 s c
-    → slice_get signatures (length cells) ≡ Some s → slice_get cuts (length cells) ≡ Some cell.first → cell.class ≡ c → AreClassed cuts signatures (cells ++ cell ∷ []) groups2 count2
-classed_more cuts signatures cells groups groups2 count count2 s c cell classed numbered here first is = record {
+pub classed_more : (boundaries : List ℕ) (signatures : List Signature) (cells : List Cell) (groups groups2 : List Group) (count count2 : ℕ) (s : Signature) (c : ℕ) (cell : Cell) → AreClassed boundaries signatures cells groups count → IsNumbered groups groups2 count count2 s c
+    → slice_get signatures (length cells) ≡ Some s → slice_get boundaries (length cells) ≡ Some cell.first → cell.class ≡ c → AreClassed boundaries signatures (cells ++ cell ∷ []) groups2 count2
+classed_more boundaries signatures cells groups groups2 count count2 s c cell classed numbered here first is = record {
   firsts = λ k x at. elim (pushed_cases cells cell k x at) [ inl was ↦ classed.firsts k x was | inr new ↦ rw (new.0, new.1) first ];
   classes = λ k x t at sig. elim (pushed_cases cells cell k x at) [
     | inl was ↦
@@ -153,8 +153,8 @@ classed_more cuts signatures cells groups groups2 count count2 s c cell classed 
   ];
 }
 
-pub classed_none : (cuts : List ℕ) (signatures : List Signature) (groups : List Group) → AreClassed cuts signatures [] groups 0
-classed_none cuts signatures groups = record {
+pub classed_none : (boundaries : List ℕ) (signatures : List Signature) (groups : List Group) → AreClassed boundaries signatures [] groups 0
+classed_none boundaries signatures groups = record {
   firsts = λ k x at. cc;
   classes = λ k x s at sig. cc;
 }

@@ -1,8 +1,8 @@
 -- what the crates above name
 pub mod Alphabet
--- what private functions promise one another
+-- what private functions promise each other
 pub mod Grouped
-pub mod Cuts
-pub mod Leading
+pub mod Boundaries
+pub mod EdgeGroups
 pub mod Signatures
 pub mod Numbered

@@ -1,2 +1,2 @@
--- what this crate promises those above it, and what its private functions promise one another
+-- what this crate promises those above it, and what its private functions promise each other
 pub mod Internal

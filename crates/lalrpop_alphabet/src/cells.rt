@@ -1,11 +1,11 @@
-//! The values at which labels begin or are over.
+//! The boundaries: values at which a label begins or is over.
 
 ghost use Rattle.std.specs.Prelude.{ℕ, ◌≤◌, ◌↔◌, IfOk, OnOk};
 ghost use Rattle.std.specs.List.{Contains};
 ghost use Rattle.lalrpop_book.specs.Range.{Range};
 ghost use Rattle.lalrpop_ranges.specs.Partition.{AreAscending};
-ghost use Rattle.lalrpop_alphabet.specs.Internal.Grouped.{HasLabel, AreCuts};
-ghost use Rattle.lalrpop_alphabet.specs.Internal.Cuts.{AreRising, HoldOne, HasAlso, AreEndsOf, HasAllOf};
+ghost use Rattle.lalrpop_alphabet.specs.Internal.Grouped.{HasLabel, AreBoundaries};
+ghost use Rattle.lalrpop_alphabet.specs.Internal.Boundaries.{AreRising, HoldOne, HasAlso, AreEndsOf, HasAllOf};
 
 use crate::groups::Labels;
 use lalrpop_ranges::Test;
@@ -36,38 +36,38 @@ fn labels_of(alloc: Global, lists: &[Labels]) -> Result<BTreeSet<Test>, AllocErr
     Ok(labels)
 }
 
-// Adds a cut that is not below the last one, unless it is that one.
-fn add_cut(cuts: &mut Vec<u64>, cut: u64) -> Result<(), AllocError>
-    requires rising { AreRising cuts.old.items }
-    requires not_below { (v : ℕ) → Contains cuts.old.items v → v ≤ cut }
-    ensures rising { OnOk result (AreRising cuts.new.items) }
-    ensures cuts { OnOk result (HasAlso cuts.old.items cut cuts.new.items) }
+// Adds a boundary that is not below the last one, unless it equals that one.
+fn add_boundary(boundaries: &mut Vec<u64>, boundary: u64) -> Result<(), AllocError>
+    requires rising { AreRising boundaries.old.items }
+    requires not_below { (v : ℕ) → Contains boundaries.old.items v → v ≤ boundary }
+    ensures rising { OnOk result (AreRising boundaries.new.items) }
+    ensures boundaries { OnOk result (HasAlso boundaries.old.items boundary boundaries.new.items) }
 {
-    if cuts.last() != Some(&cut) {
-        cuts.push(cut)?;
+    if boundaries.last() != Some(&boundary) {
+        boundaries.push(boundary)?;
     }
     Ok(())
 }
 
-// Where the blocks begin, and where they are over.
+// The values at which the blocks begin and at which they are over.
 fn ends_of(alloc: Global, blocks: &[Test]) -> Result<Vec<u64>, AllocError>
     requires ascending { AreAscending blocks.now }
     requires hold_one { HoldOne blocks.now }
-    ensures rising { IfOk result (λ cuts. AreRising cuts.items) }
-    ensures within { IfOk result (λ cuts. (v : ℕ) → Contains cuts.items v → v ≤ 4294967296) }
-    ensures ends { IfOk result (λ cuts. AreEndsOf blocks.now cuts.items) }
+    ensures rising { IfOk result (λ boundaries. AreRising boundaries.items) }
+    ensures within { IfOk result (λ boundaries. (v : ℕ) → Contains boundaries.items v → v ≤ 4294967296) }
+    ensures ends { IfOk result (λ boundaries. AreEndsOf blocks.now boundaries.items) }
 {
-    let mut cuts = Vec::new(alloc);
+    let mut boundaries = Vec::new(alloc);
     for block in blocks {
-        add_cut(&mut cuts, u64::from(block.start()))?;
-        add_cut(&mut cuts, u64::from(block.end()) + 1)?;
+        add_boundary(&mut boundaries, u64::from(block.start()))?;
+        add_boundary(&mut boundaries, u64::from(block.end()) + 1)?;
     }
-    Ok(cuts)
+    Ok(boundaries)
 }
 
-/// Where the blocks of the partition of all labels begin, and where they are over, ascending.
-pub(crate) fn cuts_of(alloc: Global, lists: &[Labels]) -> Result<Vec<u64>, AllocError>
-    ensures { IfOk result (λ cuts. AreCuts lists.now cuts.items) }
+/// The values at which the blocks of the partition of all labels begin or are over, in ascending order.
+pub(crate) fn boundaries_of(alloc: Global, lists: &[Labels]) -> Result<Vec<u64>, AllocError>
+    ensures { IfOk result (λ boundaries. AreBoundaries lists.now boundaries.items) }
 {
     let labels = labels_of(alloc, lists)?;
     let blocks = remove_overlap(alloc, &labels)?;

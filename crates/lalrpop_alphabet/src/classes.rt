@@ -1,9 +1,9 @@
-//! The classes of cells: cells that lie in the same lists of labels are of one class.
+//! The classes of cells: cells that lie in the same lists of labels share a class.
 
 ghost use Rattle.std.specs.Prelude.{◌≡◌, ℕ, ◌+◌, ◌<◌, ◌^◌, length, slice_get, Some, IfOk, OnOk};
 ghost use Rattle.std.specs.List.{Contains};
 ghost use Rattle.lalrpop_alphabet.specs.Internal.Alphabet.{AreCells, AreGroups};
-ghost use Rattle.lalrpop_alphabet.specs.Internal.Grouped.{AreCuts, AreClasses};
+ghost use Rattle.lalrpop_alphabet.specs.Internal.Grouped.{AreBoundaries, AreClasses};
 ghost use Rattle.lalrpop_alphabet.specs.Internal.Signatures.{AreBare};
 ghost use Rattle.lalrpop_alphabet.specs.Internal.Numbered.{GotClasses, AreNumbered, IsNumbered, AreAllClassed};
 
@@ -13,7 +13,7 @@ use crate::{Cell, Group};
 use std::alloc::{AllocError, Global};
 use std::collections::BTreeMap;
 
-/// The cells with their classes, what each list of labels has of both, and the number of classes.
+/// The cells with their classes, the group of each list of labels, and the number of classes.
 #[derive(Drop)]
 pub(crate) struct Classed {
     pub(crate) cells: Vec<Cell>,
@@ -21,7 +21,7 @@ pub(crate) struct Classed {
     pub(crate) count: usize,
 }
 
-// The classes of the signatures that were met, and the groups that have those classes.
+// The classes of the signatures met so far, and the groups that have these classes.
 #[derive(Drop)]
 struct Numbering {
     known: BTreeMap<Signature, usize>,
@@ -42,7 +42,7 @@ fn add_class(groups: &mut Vec<Group>, numbers: &[usize], class: usize) -> Result
 }
 
 impl Numbering {
-    // The class of a signature: the next one, unless an equal signature was met.
+    // The class of a signature: the next one, unless an equal signature already has one.
     fn class_of(&mut self, signature: Signature) -> Result<usize, AllocError>
         requires within { (n : ℕ) → Contains signature.lists.items n
             → n < length self.old.groups.items }
@@ -64,13 +64,13 @@ impl Numbering {
     }
 }
 
-// Numbers the signatures of the cells that begin at these cuts.
-fn number_cells(alloc: Global, cuts: &[u64], marks: Marks) -> Result<Classed, AllocError>
-    requires same_length { length marks.signatures.items ≡ length cuts.now }
+// Numbers the signatures of the cells that begin at these boundaries.
+fn number_cells(alloc: Global, boundaries: &[u64], marks: Marks) -> Result<Classed, AllocError>
+    requires same_length { length marks.signatures.items ≡ length boundaries.now }
     requires within { (k n : ℕ) (s : Signature) → slice_get marks.signatures.items k ≡ Some s
         → Contains s.lists.items n → n < length marks.groups.items }
     requires bare { AreBare marks.groups.items }
-    ensures { IfOk result (λ x. AreAllClassed cuts.now marks.signatures.items marks.groups.items
+    ensures { IfOk result (λ x. AreAllClassed boundaries.now marks.signatures.items marks.groups.items
         x.cells.items x.groups.items x.count) }
 {
     let Marks { signatures, groups } = marks;
@@ -79,10 +79,10 @@ fn number_cells(alloc: Global, cuts: &[u64], marks: Marks) -> Result<Classed, Al
         groups,
         count: 0,
     };
-    let mut cells = Vec::with_capacity(alloc, cuts.len())?;
+    let mut cells = Vec::with_capacity(alloc, boundaries.len())?;
     for signature in signatures {
         let class = numbering.class_of(signature)?;
-        let first = cuts[cells.len()];
+        let first = boundaries[cells.len()];
         cells.push(Cell { first, class })?;
     }
     let Numbering { groups, count, .. } = numbering;
@@ -93,19 +93,19 @@ fn number_cells(alloc: Global, cuts: &[u64], marks: Marks) -> Result<Classed, Al
     })
 }
 
-/// The cells that begin at these cuts with their classes, and what each list of labels has of both.
+/// The cells that begin at these boundaries with their classes, and the group of each list of labels.
 ///
-/// No step is quadratic: a signature is looked up once for each cell, and gives its class to its lists once.
+/// No step is quadratic: a signature is looked up once for each cell, and its class is added to its lists once.
 pub(crate) fn classes_of(
     alloc: Global,
     lists: &[Labels],
-    cuts: &[u64],
+    boundaries: &[u64],
 ) -> Result<Classed, AllocError>
-    requires { AreCuts lists.now cuts.now }
+    requires { AreBoundaries lists.now boundaries.now }
     ensures cells { IfOk result (λ x. AreCells x.cells.items x.count) }
     ensures groups { IfOk result (λ x. AreGroups x.groups.items x.cells.items x.count) }
     ensures classes { IfOk result (λ x. AreClasses lists.now x.cells.items x.groups.items) }
 {
-    let marks = mark_lists(alloc, lists, cuts)?;
-    number_cells(alloc, cuts, marks)
+    let marks = mark_lists(alloc, lists, boundaries)?;
+    number_cells(alloc, boundaries, marks)
 }

@@ -1,10 +1,10 @@
-//! The labels of each state, by where they lead, in lists that are numbered.
+//! The labels of each state, grouped by the states that they lead to, in numbered lists.
 
 ghost use Rattle.std.specs.Prelude.{◌≡◌, ◌<◌, IfOk, OnOk, [], length};
 ghost use Rattle.lalrpop_alphabet.specs.Internal.Grouped.{AreGrouped};
-ghost use Rattle.lalrpop_alphabet.specs.Internal.Leading.{IsListOf, IsGrown, IsClosed, IsTurned, AreLeads, AreStatesTo};
+ghost use Rattle.lalrpop_alphabet.specs.Internal.EdgeGroups.{IsListOf, IsGrown, IsClosed, IsTurned, AreEdgeGroups, AreStatesTo};
 
-use crate::{Lead, NfaLeads, StateLeads};
+use crate::{EdgeGroup, NfaEdgeGroups, StateEdgeGroups};
 use lalrpop_nfa::{Nfa, NfaStateIndex, START};
 use lalrpop_ranges::Test;
 use smallvec::SmallVec;
@@ -12,7 +12,7 @@ use std::alloc::{AllocError, Global};
 use std::collections::BTreeMap;
 use std::marker::Model;
 
-/// Labels that lead from a state to one and the same state, in the order of its edges.
+/// Labels that lead from a state to the same state, in the order of its edges.
 #[derive(PartialEq, Eq, PartialOrd, Ord, Drop)]
 pub(crate) struct Labels {
     pub(crate) list: Vec<Test>,
@@ -30,14 +30,14 @@ impl Clone for Labels {
     }
 }
 
-/// Lists of labels, and where the labels of each state of each automaton lead.
+/// Lists of labels, and the edge groups of each state of each automaton.
 #[derive(Drop)]
 pub(crate) struct Grouped {
     pub(crate) lists: Vec<Labels>,
-    pub(crate) nfas: Vec<NfaLeads>,
+    pub(crate) nfas: Vec<NfaEdgeGroups>,
 }
 
-// Labels that were read last, and the state that they lead to.
+// The labels that were read last, and the state that they lead to.
 #[derive(Drop)]
 struct Run {
     labels: Labels,
@@ -54,7 +54,7 @@ struct Lists {
 impl Model for Lists {
     ghost use Rattle.std.specs.Prelude.{List};
     ghost use Rattle.lalrpop_alphabet.specs.declared.groups.Labels.{Labels};
-    ghost use Rattle.lalrpop_alphabet.specs.Internal.Leading.{AreNumbersOf};
+    ghost use Rattle.lalrpop_alphabet.specs.Internal.EdgeGroups.{AreNumbersOf};
 
     ghost Value = { List Labels };
 
@@ -64,7 +64,7 @@ impl Model for Lists {
 }
 
 impl Lists {
-    // The number of a list of labels, which is added unless it has one.
+    // The number of a list of labels. A list without a number is added.
     fn number_of(&mut self, labels: &Labels) -> Result<usize, AllocError>
         ensures number { IfOk result (λ n. IsListOf self.new n labels.now.list.items) }
         ensures grown { OnOk result (IsGrown self.old self.new) }
@@ -75,89 +75,93 @@ impl Lists {
         let number = self.lists.len();
         let key = labels.clone()?;
         let list = labels.clone()?;
-        // With room for the list, the map is the last to be refused.
+        // Memory for the list is reserved first, so that nothing fails after the insertion into the map.
         self.lists.reserve(1)?;
         self.numbers.insert(key, number)?;
         self.lists.push(list)?;
         Ok(number)
     }
 
-    // Ends a run: its labels, if there are any, lead to its state.
-    fn close(&mut self, run: &mut Run, leads: &mut SmallVec<Lead, 1>) -> Result<(), AllocError>
-        ensures closed { OnOk result (IsClosed self.old leads.old.items run.old.labels.list.items
-            run.old.to self.new leads.new.items) }
+    // Ends a run: its labels, if there are any, become an edge group that leads to its state.
+    fn close(
+        &mut self,
+        run: &mut Run,
+        edge_groups: &mut SmallVec<EdgeGroup, 1>,
+    ) -> Result<(), AllocError>
+        ensures closed { OnOk result (IsClosed self.old edge_groups.old.items run.old.labels.list.items
+            run.old.to self.new edge_groups.new.items) }
         ensures empty { OnOk result (run.new.labels.list.items ≡ []) }
     {
         if !run.labels.list.is_empty() {
             let group = self.number_of(&run.labels)?;
-            leads.push(Lead { group, to: run.to })?;
+            edge_groups.push(EdgeGroup { group, to: run.to })?;
             run.labels.list.clear();
         }
         Ok(())
     }
 
-    // Ends a run, unless it leads to this state as well.
+    // Ends a run, unless it leads to this state too.
     fn turn_to(
         &mut self,
         to: NfaStateIndex,
         run: &mut Run,
-        leads: &mut SmallVec<Lead, 1>,
+        edge_groups: &mut SmallVec<EdgeGroup, 1>,
     ) -> Result<(), AllocError>
         ensures here { OnOk result (run.new.to ≡ to) }
-        ensures turned { OnOk result (IsTurned self.old leads.old.items run.old.labels.list.items
-            run.old.to self.new leads.new.items run.new.labels.list.items run.new.to) }
+        ensures turned { OnOk result (IsTurned self.old edge_groups.old.items run.old.labels.list.items
+            run.old.to self.new edge_groups.new.items run.new.labels.list.items run.new.to) }
     {
         if to != run.to {
-            self.close(run, leads)?;
+            self.close(run, edge_groups)?;
             run.to = to;
         }
         Ok(())
     }
 
-    // Where the labels of a state lead. The run is there to be used again from state to state.
-    fn leads_of(
+    // The edge groups of a state. The run is passed in, so that its memory is reused from state to state.
+    fn edge_groups_of(
         &mut self,
         alloc: Global,
         nfa: &Nfa,
         state: NfaStateIndex,
         run: &mut Run,
-    ) -> Result<SmallVec<Lead, 1>, AllocError>
+    ) -> Result<SmallVec<EdgeGroup, 1>, AllocError>
         requires { state < length nfa.now.kinds }
         ensures grown { OnOk result (IsGrown self.old self.new) }
-        ensures leads { IfOk result (λ leads.
-            AreLeads self.new nfa.now.edges.tests state leads.items) }
+        ensures edge_groups { IfOk result (λ edge_groups.
+            AreEdgeGroups self.new nfa.now.edges.tests state edge_groups.items) }
     {
-        let mut leads = SmallVec::new(alloc);
+        let mut edge_groups = SmallVec::new(alloc);
         run.labels.list.clear();
         for edge in nfa.edges::<Test>(state) {
-            self.turn_to(edge.to, run, &mut leads)?;
+            self.turn_to(edge.to, run, &mut edge_groups)?;
             run.labels.list.push(edge.label.clone()?)?;
         }
-        self.close(run, &mut leads)?;
-        Ok(leads)
+        self.close(run, &mut edge_groups)?;
+        Ok(edge_groups)
     }
 
-    // Where the labels of the states of an automaton lead.
+    // The edge groups of the states of an automaton.
     fn states_of(
         &mut self,
         alloc: Global,
         nfa: &Nfa,
         run: &mut Run,
-    ) -> Result<Vec<StateLeads>, AllocError>
+    ) -> Result<Vec<StateEdgeGroups>, AllocError>
         ensures grown { OnOk result (IsGrown self.old self.new) }
         ensures states { IfOk result (λ states.
             AreStatesTo self.new nfa.now (length nfa.now.kinds) states.items) }
     {
         let mut states = Vec::with_capacity(alloc, nfa.len())?;
         for number in 0..nfa.len() {
-            let leads = self.leads_of(alloc, nfa, NfaStateIndex::new(number), run)?;
-            states.push(StateLeads { leads })?;
+            let edge_groups = self.edge_groups_of(alloc, nfa, NfaStateIndex::new(number), run)?;
+            states.push(StateEdgeGroups { edge_groups })?;
         }
         Ok(states)
     }
 }
 
-/// The labels of the states of some automata. Equal lists of labels have one number.
+/// The labels of the states of some automata. Equal lists of labels have the same number.
 pub(crate) fn groups_of(alloc: Global, nfas: &[Nfa]) -> Result<Grouped, AllocError>
     ensures { IfOk result (λ g. AreGrouped nfas.now g.lists.items g.nfas.items) }
 {
@@ -171,13 +175,13 @@ pub(crate) fn groups_of(alloc: Global, nfas: &[Nfa]) -> Result<Grouped, AllocErr
         },
         to: START,
     };
-    let mut leads = Vec::with_capacity(alloc, nfas.len())?;
+    let mut edge_groups = Vec::with_capacity(alloc, nfas.len())?;
     for nfa in nfas {
         let states = lists.states_of(alloc, nfa, &mut run)?;
-        leads.push(NfaLeads { states })?;
+        edge_groups.push(NfaEdgeGroups { states })?;
     }
     Ok(Grouped {
         lists: lists.lists,
-        nfas: leads,
+        nfas: edge_groups,
     })
 }

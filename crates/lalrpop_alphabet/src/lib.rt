@@ -1,12 +1,12 @@
-//! The alphabet of some automata: the values that their test edges read, in classes that no state tells apart.
+//! The alphabet of some automata: the values that their test edges read, in classes of values that each state treats alike.
 //!
-//! The partition of all labels cuts the values into cells. Cells that lie in the same labels of each state are of one
-//! class. So what a state does by a value is looked up by the value's class, and there are few of those: where names are
-//! of all scripts, some 800 ranges of letters make a handful.
+//! The partition of all labels divides the values into cells. Cells that lie in the same labels of each state share a
+//! class. So where a state leads by a value depends only on the value's class, and there are few classes: if names may be
+//! in any script, some 800 ranges of letters make a handful.
 #![tactic(auto)]
 
 ghost use Rattle.std.specs.Prelude.{◌≡◌, ◌<◌, length, slice_get, Some, IfOk};
-ghost use Rattle.lalrpop_alphabet.specs.Internal.Alphabet.{IsAlphabetOf, IsSound, HasState, AreLeadsOf};
+ghost use Rattle.lalrpop_alphabet.specs.Internal.Alphabet.{IsAlphabetOf, IsSound, HasState, AreEdgeGroupsOf};
 
 mod cells;
 mod classes;
@@ -20,56 +20,56 @@ use smallvec::SmallVec;
 use std::alloc::{AllocError, Global};
 use std::marker::Model;
 
-/// Values that lie in the same labels: those from the first up to the first of the next cell.
+/// An interval of values that lie in the same labels: from its first value up to the first value of the next cell.
 #[derive(Copy, Clone)]
 pub struct Cell {
-    /// The least value, or the number that follows the greatest one.
+    /// The least value; of the last cell, which has no values, the number after the greatest value of a label.
     pub first: u64,
     /// The number of its class.
     pub class: usize,
 }
 
-/// Labels that lead from a state to one and the same state, as cells and classes.
+/// Labels that lead from a state to the same state, as cells and classes.
 #[derive(Drop)]
 pub struct Group {
-    /// The cells at which one of the labels begins, or is over.
-    pub cuts: Vec<usize>,
-    /// The classes of the values that lie in some of the labels.
+    /// The cells at which one of the labels begins or is over.
+    pub boundaries: Vec<usize>,
+    /// The classes of the values that lie in any of the labels.
     pub classes: Vec<usize>,
 }
 
-/// Where labels of a state lead.
+/// An edge group: a group of labels of a state, and the state that they all lead to.
 #[derive(Copy, Clone)]
-pub struct Lead {
-    /// The number of the labels' group.
+pub struct EdgeGroup {
+    /// The number of the group.
     pub group: usize,
     /// The state that they lead to.
     pub to: NfaStateIndex,
 }
 
-// What stands in a place that no lead has taken.
-impl Default for Lead {
-    fn default() -> Lead {
-        Lead {
+// Fills the unused places of a `SmallVec`.
+impl Default for EdgeGroup {
+    fn default() -> EdgeGroup {
+        EdgeGroup {
             group: 0,
             to: START,
         }
     }
 }
 
-/// Where the labels of one state lead, in the order of its edges. Nearly all states have one lead, and it needs no
+/// The edge groups of one state, in the order of its edges. Nearly all states have one, which needs no
 /// allocation.
 #[derive(Drop)]
-pub struct StateLeads {
-    /// The leads, by ascending places of their first edges.
-    pub leads: SmallVec<Lead, 1>,
+pub struct StateEdgeGroups {
+    /// The edge groups, in the order of their first edges.
+    pub edge_groups: SmallVec<EdgeGroup, 1>,
 }
 
-/// Where the labels of each state of one automaton lead.
+/// The edge groups of each state of one automaton.
 #[derive(Drop)]
-pub struct NfaLeads {
-    /// By the number of the state.
-    pub states: Vec<StateLeads>,
+pub struct NfaEdgeGroups {
+    /// Indexed by the number of the state.
+    pub states: Vec<StateEdgeGroups>,
 }
 
 /// The classes of the values that some automata read.
@@ -77,7 +77,7 @@ pub struct NfaLeads {
 pub struct Alphabet {
     cells: Vec<Cell>,
     groups: Vec<Group>,
-    nfas: Vec<NfaLeads>,
+    nfas: Vec<NfaEdgeGroups>,
     count: usize,
 }
 
@@ -106,17 +106,17 @@ impl Alphabet {
     ///
     /// # Errors
     ///
-    /// `AllocError` where a request for memory was refused.
+    /// `AllocError` if a request for memory was refused.
     pub fn new(alloc: Global, automata: &[Nfa]) -> Result<Alphabet, AllocError>
         ensures alphabet { IfOk result (IsAlphabetOf automata.now) }
     {
         let Grouped { lists, nfas } = groups::groups_of(alloc, automata)?;
-        let cuts = cells::cuts_of(alloc, &lists)?;
+        let boundaries = cells::boundaries_of(alloc, &lists)?;
         let Classed {
             cells,
             groups,
             count,
-        } = classes::classes_of(alloc, &lists, &cuts)?;
+        } = classes::classes_of(alloc, &lists, &boundaries)?;
         Ok(Alphabet {
             cells,
             groups,
@@ -125,7 +125,7 @@ impl Alphabet {
         })
     }
 
-    /// The cell at a place. The last cell has no value: it stands where the last label is over.
+    /// The cell at a place. The last cell has no values: it begins where the last label is over.
     pub fn cell(&self, place: usize) -> Cell
         requires has_cell { place < length self.now.cells }
         ensures cell { slice_get self.now.cells place ≡ Some result }
@@ -142,7 +142,7 @@ impl Alphabet {
         &self.groups[number]
     }
 
-    /// How many classes there are: they are numbered from 0.
+    /// The number of classes, which are numbered from 0.
     pub fn count(&self) -> usize
         ensures count { result ≡ self.now.count }
         ensures sound { IsSound self.now }
@@ -150,19 +150,21 @@ impl Alphabet {
         self.count
     }
 
-    /// How many groups of labels there are: they are numbered from 0.
+    /// The number of groups, which are numbered from 0.
     pub fn group_count(&self) -> usize
         ensures count { result ≡ length self.now.groups }
     {
         self.groups.len()
     }
 
-    /// Where the labels of a state of an automaton lead, in the order of its edges.
-    pub fn leads(&self, automaton: usize, state: NfaStateIndex) -> &[Lead]
+    /// The edge groups of a state of an automaton, in the order of its edges.
+    pub fn edge_groups(&self, automaton: usize, state: NfaStateIndex) -> &[EdgeGroup]
         requires has_state { HasState self.now.nfas automaton state }
-        ensures leads { AreLeadsOf self.now.nfas automaton state result.now }
+        ensures edge_groups { AreEdgeGroupsOf self.now.nfas automaton state result.now }
         ensures sound { IsSound self.now }
     {
-        self.nfas[automaton].states[state.index()].leads.as_slice()
+        self.nfas[automaton].states[state.index()]
+            .edge_groups
+            .as_slice()
     }
 }

@@ -1,4 +1,4 @@
--- A clash is one.
+-- The clash of a list of trees is unique.
 use Rattle.std.proofs.Common.{◌≡◌, ℕ, ◌≤◌, ◌⊎◌, inl, inr, List, sym, subst, arith}
 use Rattle.lalrpop_book.specs.Word.{Shortlex}
 use Rattle.lalrpop_book.specs.Tree.{Tree}
@@ -22,7 +22,7 @@ module _ (ts : List Tree) (ps : List ℕ) where
         by_order (inr (inl e)) = e
         by_order (inr (inr h)) = absurd (c.least w h (ambiguous w k l d))
 
-    -- two clashes of the same trees and precedences are the same
+    -- two clashes of the same trees and precedences are equal
     pub clash-unique : (v ≡ w) × ((i ≡ k) × (j ≡ l))
     clash-unique =
         let to_w = subst (λ u. IsStrongest ts ps u i) same_word c.greatest in

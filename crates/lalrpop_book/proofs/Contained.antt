@@ -34,7 +34,7 @@ contains_from_map f (x ∷ xs) y h = elim (contains_cases (f x) (map f xs) y h) 
   | inr k ↦ (let r = contains_from_map f xs y k in (r.0, (contains_later x xs r.0 r.1.0, r.1.1)))
 ]
 
--- a list in which only what passes the test is kept
+-- the elements of a list that pass the test
 pub filter_in : {X : Type 0} (p : X → Bool) (xs : List X) (x : X) → Contains xs x → p x ≡ true → Contains (filter p xs) x
 filter_in p [] x h t = absurd (contains_none x h)
 filter_in {X} p (y ∷ xs) x h t =

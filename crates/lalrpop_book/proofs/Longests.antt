@@ -1,4 +1,4 @@
--- The longest match is one.
+-- The longest match is unique.
 use Rattle.std.proofs.Common.{◌≡◌, ℕ, ◌≤◌, List, length, take, Option, Some, None, refl, sym, ap, subst, ◌∙◌, arith}
 use Rattle.std.proofs.Math.Seq.{take-append_seam}
 use Rattle.std.specs.Str.{chars}
@@ -7,7 +7,7 @@ use Rattle.lalrpop_book.specs.Winners.{IsHighestStrongest}
 use Rattle.lalrpop_book.specs.Longest.{IsLongest}
 use Rattle.lalrpop_book.specs.Prefix.{IsPrefix}
 
--- two prefixes of one length are the same
+-- two prefixes of the same length are equal
 prefix-unique : (p q text : List ℕ) → IsPrefix p text → IsPrefix q text → length p ≡ length q → p ≡ q
 prefix-unique p q text h g e =
     sym (take-append_seam p h.0) ∙ ap (take (length p)) (sym h.1.0) ∙ ap (λ n. take n text) e ∙ ap (take (length q)) g.1.0 ∙ take-append_seam q g.0

@@ -115,7 +115,7 @@ module _ {X Y : Type 0} where
     | inr there ↦ (let r : (x : X) × (Has xs x × Has (f x) y) = flat_map_has f xs y there in (r.0, (inr r.1.0, r.1.1)))
   ]
 
--- what the first elements have, and what one more has
+-- the members of the first elements, and of one more
 pub taken_more : {X : Type 0} (xs : List X) (k : ℕ) (x y : X) → k < length xs → x ≡ get_or xs k x → (Contains (take k xs) y ⊎ (y ≡ x)) ↔ Contains (take (k + 1) xs) y
 taken_more xs k x y l is =
     let more : take (k + 1) xs ≡ take k xs ++ x ∷ [] = take_more xs k x l ∙ ap (λ z. take k xs ++ z ∷ []) (sym is) in (

@@ -1,4 +1,4 @@
--- What is equal in an order is one; and what a set has after an insertion.
+-- Values that an order calls equal are equal; and the members of a set after an insertion.
 use Rattle.std.proofs.Common.{◌≡◌, ℕ, ◌⊎◌, inl, inr, List, [], ◌∷◌, refl, sym, ◌∙◌, subst, arith, true}
 use Rattle.std.specs.List.{Contains}
 use Rattle.std.specs.Ordering.{is_eq, nat_cmp, ordering_then}
@@ -13,7 +13,7 @@ use Rattle.std.proofs.lemmas.Cmp.{tied_itself}
 use Rattle.std.proofs.lemmas.Map.Views.{btree_set_contains_iff}
 use Rattle.std.proofs.lemmas.Map.Lookups.{CmpEqualImpliesEq}
 
--- ---- what is equal is one
+-- ---- values that an order calls equal are equal
 pub then_equal : (a b : Ordering) → ordering_then a b ≡ Equal → (a ≡ Equal) × (b ≡ Equal)
 then_equal Less b e = absurd cc
 then_equal Equal b e = (refl, e)
@@ -28,7 +28,7 @@ lists_exact exact [] (y ∷ ys) e = cc
 lists_exact exact (x ∷ xs) [] e = cc
 lists_exact exact (x ∷ xs) (y ∷ ys) e = let h = then_equal _ _ e in let a : x ≡ y = exact x y h.0 in let b : xs ≡ ys = lists_exact exact xs ys h.1 in cc
 
--- ---- what a set has after an insertion
+-- ---- the members of a set after an insertion
 module _ {K : Type 0} {R : K → K → Ordering} (total : IsTotalOrder R) (exact : CmpEqualImpliesEq R) (s n : BTreeSet K) (k : K) (u : Updates R s n k true) where
   pub set_come : (x : K) → Contains n.keys x → Contains s.keys x ⊎ (k ≡ x)
   set_come x h =

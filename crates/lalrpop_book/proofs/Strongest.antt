@@ -1,4 +1,4 @@
--- Where no word is ambiguous, the greatest of the strongest trees is the only one.
+-- If no word is ambiguous, the greatest of the strongest trees is the only one.
 use Rattle.std.proofs.Common.{◌≡◌, ℕ, ◌<◌, ◌⊎◌, inl, inr, List, Some, None, arith}
 use Rattle.std.specs.Prelude.{Option, IfSome}
 use Rattle.std.specs.Option.{option_map}
@@ -17,7 +17,7 @@ IsOnlyStrongest-from_greatest ts ps w i none greatest = (greatest.0, λ j top. b
     by_order j top (inr (inl less)) = absurd (none w (i, j, (less, greatest.0, top)))
     by_order j top (inr (inr more)) = absurd (omega (arith, greatest.1 j top))
 
--- the same of a longest match, whose prefix is what the answer shows of itself
+-- the same for a longest match, whose prefix is what `shown` gives of the answer
 pub IsOnlyStrongest-from_longest : {A : Type 0} (shown : A → List ℕ) (ts : List Tree) (ps text : List ℕ) (found : Option (ℕ × A)) → NoClash ts ps
     → IsLongest ts ps text (option_map (λ m. (m.0, shown m.1)) found) → IfSome found (λ m. IsOnlyStrongest ts ps (chars (shown m.1)) m.0)
 IsOnlyStrongest-from_longest shown ts ps text None none longest = tt

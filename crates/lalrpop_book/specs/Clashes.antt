@@ -16,18 +16,18 @@ pub record Entry : Type 0 where
   pub match1 : ℕ
   pub word : List ℕ
 
--- the two trees tie on the word, and on no lesser one
+-- the two trees tie on the word and on no smaller one
 pub record IsFirstTie (ts : List Tree) (ps : List ℕ) (c : Entry) : Type 0 where
   pub word : IsWord c.word
   pub tie : AreTied ts ps c.word c.match0 c.match1
   pub least : (v : List ℕ) → Shortlex v c.word → ¬ AreTied ts ps v c.match0 c.match1
 
--- by words; at one word the greater first tree comes first, and then the greater second tree
+-- ordered by word, then by the first tree, greatest first, then by the second tree, greatest first
 abbrev pub StandsBefore : Entry → Entry → Type 0
 StandsBefore c d = Shortlex c.word d.word
     ⊎ ((c.word ≡ d.word) × ((d.match0 < c.match0) ⊎ ((c.match0 ≡ d.match0) × (d.match1 < c.match1))))
 
--- each entry stands before those behind it
+-- each entry stands before all later ones
 abbrev pub AreInOrder : List Entry → Type 0
 AreInOrder cs = (p q : ℕ) (c d : Entry) → p < q → slice_get cs p ≡ Some c → slice_get cs q ≡ Some d → StandsBefore c d
 

@@ -31,12 +31,12 @@ abbrev mutual
   fault (concat ts) = last_fault ts
   fault (alternation ts) = first_fault ts
 
-  -- of the last tree that has one
+  -- the fault of the last tree that has one
   pub last_fault : Trees → Fault
   last_fault none = None
   last_fault (also t ts) = option_or (last_fault ts) (fault t)
 
-  -- of the first tree that has one
+  -- the fault of the first tree that has one
   pub first_fault : Trees → Fault
   first_fault none = None
   first_fault (also t ts) = option_or (fault t) (first_fault ts)

@@ -22,7 +22,7 @@ abbrev pub Holds : Class → ℕ → Type 0
 Holds (unicode rs) c = Covered rs c
 Holds (bytes rs) c = Covered rs c
 
--- k is at least min, and at most max where there is a max
+-- k is at least min, and at most max if there is a max
 abbrev pub IsCount : ℕ → Option ℕ → ℕ → Type 0
 IsCount min None k = min ≤ k
 IsCount min (Some max) k = (min ≤ k) × (k ≤ max)
@@ -39,7 +39,7 @@ abbrev mutual
   Matches (concat ts) w = MatchInTurn ts w
   Matches (alternation ts) w = SomeMatches ts w
 
-  -- the word splits into as many pieces as there are trees, each matched by its tree
+  -- the word splits into one piece for each tree, in order, each matched by its tree
   pub MatchInTurn : Trees → List ℕ → Type 0
   MatchInTurn none w = w ≡ []
   MatchInTurn (also t ts) w = Then (Matches t) (MatchInTurn ts) w

@@ -10,7 +10,7 @@ use Rattle.lalrpop_book.specs.Winners.{Matched, IsHighestStrongest}
 abbrev pub IsMatch : List Tree → List ℕ → List ℕ → Type 0
 IsMatch ts text p = IsPrefix p text × (p ≢ []) × Matched ts (chars p)
 
--- the longest of these prefixes, with the greatest index of its strongest trees; none where there is none
+-- the longest of these prefixes, with the greatest index of its strongest trees; None if there is no such prefix
 abbrev pub IsLongest : List Tree → List ℕ → List ℕ → Option (ℕ × List ℕ) → Type 0
 IsLongest ts ps text None = (p : List ℕ) → ¬ IsMatch ts text p
 IsLongest ts ps text (Some m) =

@@ -12,14 +12,14 @@ use Rattle.lalrpop_book.specs.declared.error.DfaConstructionError.TheVariants.{N
 abbrev pub NoFault : List Tree → Type 0
 NoFault ts = (i : ℕ) (t : Tree) → slice_get ts i ≡ Some t → fault t ≡ None
 
--- tree i is the first with a fault, and that is its fault
+-- tree i is the first with a fault, and e is its fault
 pub record FirstFault (ts : List Tree) (i : ℕ) (e : NfaConstructionError) : Type 0 where
   pub tree : Tree
   pub at : slice_get ts i ≡ Some tree
   pub has : fault tree ≡ Some e
   pub none_before : (j : ℕ) (t : Tree) → j < i → slice_get ts j ≡ Some t → fault t ≡ None
 
--- a tree is the first with a fault, or memory was refused; there is no clash
+-- a right report of the first fault or of refused memory; a clash is neither
 abbrev pub IsFaultOf : List Tree → DfaConstructionError → Type 0
 IsFaultOf ts (Refused i e) = FirstFault ts i e
 IsFaultOf ts (Ambiguity i j w) = ⊥

@@ -13,8 +13,8 @@ use Rattle.lalrpop_book.specs.declared.token.TokenFault.{TokenFault}
 abbrev pub Item : Type 0
 Item = Result (ℕ × Bor (List ℕ)) TokenFault
 
--- all items of the text from a place on: a token is the longest match of the rest, and what follows are the items from its end on;
--- a fault stands where a rest is left and nothing matches, and nothing follows; and there is no item where no rest is left
+-- all items of the text from a place on. A token is the longest match of the rest, and the items from its end on follow it.
+-- A fault stands where a nonempty rest has no match, and nothing follows it. An empty rest has no items.
 abbrev pub AreItems : List Tree → List ℕ → List ℕ → ℕ → List Item → Type 0
 AreItems ts ps text at [] = drop at text ≡ []
 AreItems ts ps text at (Ok m ∷ xs) =
@@ -33,14 +33,14 @@ IsToken ts ps text at token =
     (token.start ≡ at) × IsLongest ts ps (drop at text) (Some (token.index, token.slice.now))
     × IsOnlyStrongest ts ps (chars token.slice.now) token.index
 
--- all tokens of the text from a place on: behind a token are those from its end on; a fault stands where a rest is left and nothing
--- matches, and nothing follows; and there is none where no rest is left
+-- all tokens of the text from a place on. After a token come those from its end on. A fault stands where a nonempty rest
+-- has no match, and nothing follows it. An empty rest has no tokens.
 abbrev pub AreTokens : List Tree → List ℕ → List ℕ → ℕ → List (Result Token TokenFault) → Type 0
 AreTokens ts ps text at [] = drop at text ≡ []
 AreTokens ts ps text at (Ok token ∷ xs) = IsToken ts ps text at token × AreTokens ts ps text (at + length token.slice.now) xs
 AreTokens ts ps text at (Err fault ∷ xs) = (drop at text ≢ []) × IsLongest ts ps (drop at text) None × (fault.at ≡ at) × (xs ≡ [])
 
--- without the place where it begins
+-- the item without the place where it begins
 abbrev pub bare : Result Token TokenFault → Item
 bare (Ok token) = Ok (token.index, token.slice)
 bare (Err fault) = Err fault

@@ -14,9 +14,9 @@ mutual
     literal : List ℕ → Tree
     class : Class → Tree
     look : Look → Tree
-    -- least and greatest number of turns, whether greedy, and what is repeated
+    -- least and greatest number of repetitions, whether it is greedy, and what is repeated
     repetition : ℕ → Option ℕ → Bool → Tree → Tree
-    -- the bytes of its name, and what is captured
+    -- the bytes of its name, if it has one, and what is captured
     capture : Option (List ℕ) → Tree → Tree
     concat : Trees → Tree
     alternation : Trees → Tree

@@ -12,11 +12,11 @@ TreeMatches ts w i = (t : Tree) × ((slice_get ts i ≡ Some t) × Matches t w)
 abbrev pub Matched : List Tree → List ℕ → Type 0
 Matched ts w = (i : ℕ) × TreeMatches ts w i
 
--- i matches the word, and no tree that matches it has a greater precedence
+-- tree i matches the word, and no tree that matches it has a greater precedence
 abbrev pub IsStrongest : List Tree → List ℕ → List ℕ → ℕ → Type 0
 IsStrongest ts ps w i = TreeMatches ts w i × ((j : ℕ) → TreeMatches ts w j → slice_index ps j ≤ slice_index ps i)
 
--- i is the only strongest tree
+-- tree i is the only strongest tree
 abbrev pub IsOnlyStrongest : List Tree → List ℕ → List ℕ → ℕ → Type 0
 IsOnlyStrongest ts ps w i = IsStrongest ts ps w i × ((j : ℕ) → IsStrongest ts ps w j → j ≡ i)
 

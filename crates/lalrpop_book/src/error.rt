@@ -1,4 +1,4 @@
-//! Why a pattern, or a list of patterns, has no automaton.
+//! Why a pattern or a list of patterns has no automaton.
 use crate::nfa_index::NfaIndex;
 use std::alloc::{AllocError, AllocFailed};
 use thiserror::Error;
@@ -15,7 +15,7 @@ pub enum NfaConstructionError {
     /// The pattern has a look-around.
     #[error("LookAround")]
     LookAround,
-    /// Never given: byte classes are compiled as any other.
+    /// Never reported: byte classes are compiled like other classes.
     #[error("ByteRegex")]
     ByteRegex,
     /// A request for memory was refused.
@@ -45,17 +45,17 @@ impl From<AllocError> for NfaConstructionError {
     }
 }
 
-/// Why no automaton was made.
+/// Why no automaton was built.
 #[derive(Debug, Drop, Error)]
 pub enum DfaConstructionError {
-    /// The pattern at this place was not compiled.
+    /// The pattern at this index was not compiled.
     #[error("NfaConstructionError")]
     NfaConstructionError {
         index: NfaIndex,
         error: NfaConstructionError,
     },
-    /// Two patterns are the strongest that match some word: `word` is the least such word, `match0` the greatest place of
-    /// the strongest ones on it, `match1` the second greatest.
+    /// Two patterns are the strongest on some word. `word` is the least such word; `match0` is the greatest index of the
+    /// strongest patterns on it, and `match1` the second greatest.
     #[error("Ambiguity")]
     Ambiguity {
         match0: NfaIndex,

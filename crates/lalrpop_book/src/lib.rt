@@ -1,7 +1,7 @@
-//! The book: what a lexer has to do, said of trees, words and texts. No automaton is named in it.
+//! The book: what a lexer has to do, in terms of trees, words and texts. It names no automaton.
 //!
-//! The files of specs/ are the definitions, in the order of `specs/Lib.antt`. What stands here are the values that they name:
-//! the index and the precedence of a pattern, the errors, tokens and faults.
+//! The definitions are the files of specs/, in the order of `specs/Lib.antt`. The modules here declare the values that
+//! they name: the index and the precedence of a pattern, errors, tokens and faults.
 #![tactic(auto)]
 
 mod error;

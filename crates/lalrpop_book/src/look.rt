@@ -1,17 +1,17 @@
-//! What a pattern can ask of a place in a text.
+//! What a pattern can require of a position in a text.
 
-/// What a pattern asks of a place in a text, as that a line or a word begins there. It takes no character.
+/// What a pattern requires of a position in a text: that a line or a word begins there, say. It reads no character.
 ///
-/// Trees can hold one, but in this port no automaton is built of such a tree.
+/// A tree can hold one, but this port builds no automaton for such a tree.
 #[derive(Clone, Copy, Debug, PartialEq, Eq)]
 pub enum Look {
     /// The text begins here.
     Start,
     /// The text ends here.
     End,
-    /// A line begins here: the text does, or a line feed stands in front.
+    /// A line begins here: at the start of the text, or after a line feed.
     StartLF,
-    /// A line ends here: the text does, or a line feed follows.
+    /// A line ends here: at the end of the text, or before a line feed.
     EndLF,
     /// A word begins or ends here.
     WordUnicode,
@@ -21,8 +21,8 @@ pub enum Look {
     WordStartUnicode,
     /// A word ends here.
     WordEndUnicode,
-    /// No character of a word stands in front.
+    /// No word character comes before.
     WordStartHalfUnicode,
-    /// No character of a word follows.
+    /// No word character follows.
     WordEndHalfUnicode,
 }

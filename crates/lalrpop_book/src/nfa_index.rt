@@ -3,7 +3,7 @@ ghost use Rattle.std.specs.Prelude.{◌≡◌};
 
 use std::marker::Model;
 
-/// The place of a pattern in the list, from 0.
+/// The index of a pattern in its list, from 0.
 #[derive(Copy, Clone, Debug, PartialEq, Eq, PartialOrd, Ord, Hash)]
 pub struct NfaIndex(usize);
 
@@ -18,14 +18,14 @@ impl Model for NfaIndex {
 }
 
 impl NfaIndex {
-    /// The pattern at this place.
+    /// The pattern at this index.
     pub fn new(number: usize) -> NfaIndex
         ensures value { result ≡ number }
     {
         NfaIndex(number)
     }
 
-    /// The place as a number.
+    /// The index as a number.
     pub fn index(self) -> usize
         ensures value { result ≡ self }
     {

@@ -1,14 +1,14 @@
-//! A token of a text, and the place where there is none.
+//! A token of a text, and the fault where no token begins.
 
 use crate::nfa_index::NfaIndex;
 use thiserror::Error;
 
-/// A token: a slice of a text, and the pattern that it was cut by.
+/// A token: a slice of a text, and the pattern that matched it.
 #[derive(Clone, Copy, Debug, PartialEq, Eq)]
 pub struct Token<'text> {
-    /// The place of the pattern in the list.
+    /// The index of the pattern in the list.
     pub index: NfaIndex,
-    /// The slice, which isn't empty.
+    /// The slice, never empty.
     pub slice: &'text str,
     /// Where the slice begins in the text, in bytes.
     pub start: usize,
@@ -18,6 +18,6 @@ pub struct Token<'text> {
 #[derive(Clone, Copy, Debug, PartialEq, Eq, Error)]
 #[error("no pattern matches at byte {at}")]
 pub struct TokenFault {
-    /// Where the rest begins, in bytes from the beginning of the text.
+    /// Where the rest begins in the text, in bytes.
     pub at: usize,
 }

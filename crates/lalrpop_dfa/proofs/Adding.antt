@@ -1,4 +1,4 @@
--- What adding a set to the numbered ones does.
+-- Adding a set to the numbered ones.
 use Rattle.std.proofs.Common.{◌≡◌, ℕ, suc, ◌+◌, ◌<◌, inl, inr, List, [], ◌∷◌, ◌++◌, length, drop, get_or, refl, ap, ap₂, sym, ◌∙◌, subst, arith, Bool, true, false, cond, append_assoc, add-one, drop-cons}
 use Rattle.std.specs.Prelude.{slice_get, Option, Some}
 use Rattle.std.specs.BTreeMap.{BTreeMap, Updates}
@@ -43,7 +43,7 @@ set_exact x y e =
     lists_exact item_exact x y (then_equal (ordering_then (slice_cmp item_cmp (live_of x) (live_of y)) (rejects_cmp x y)) (slice_cmp item_cmp x y) items).1
 
 module _ (sets : List (List Item)) (set : List Item) where
-  -- a set that is there passes the test
+  -- a set that is in the list passes the test
   there : (k : ℕ) → slice_get sets k ≡ Some set → list_any (λ q. is_eq (set_cmp set q)) sets ≡ true
   there k h = any_passes_from_place (λ q. is_eq (set_cmp set q)) sets k set h ((Equal-is (set_cmp set set)).1 (tied_itself set_total set))
 
@@ -68,7 +68,7 @@ module _ (sets : List (List Item)) (set : List Item) where
   pub number_new : (n : ℕ) (sets2 : List (List Item)) → sets2 ≡ added set_cmp sets set → IsNumberOf set_cmp sets2 set n → n ≡ length sets → ((k : ℕ) → slice_get sets k ≡ Some set → ⊥) × (sets2 ≡ sets ++ set ∷ [])
   number_new n sets2 is h new = new_by (list_any (λ q. is_eq (set_cmp set q)) sets) n sets2 refl is h new
 
--- the sets that are there keep their numbers
+-- the sets in the list keep their numbers
 extends_by : (sets : List (List Item)) (set : List Item) (b : Bool) (sets2 : List (List Item)) → sets2 ≡ cond b sets (sets ++ set ∷ []) → Extends sets sets2
 extends_by sets set true sets2 is k s h = rw is h
 extends_by sets set false sets2 is k s h = rw is (pushed_keeps sets set k s h)
@@ -97,7 +97,7 @@ starts_inside ns a x h =
     let k = compiled_at a.0 ns a.1 x.0 r.1 at in
     (r.1, (at, omega (arith, r.2.2, k.1.1.start_in)))
 
--- the first set is alone
+-- the first set is the only one
 pub first_added : (empty first : Kernels (List Item)) (s : List Item) → empty ≡ record { list = []; place = 0 } → first ≡ record { list = added set_cmp empty.list s; place = empty.place } → (first.list ≡ s ∷ []) × (first.place ≡ 0)
 first_added empty first s none is =
     let list : empty.list ≡ [] = ap (λ (k : Kernels (List Item)). k.list) none in
@@ -128,7 +128,7 @@ transitions_exact x y e = lists_exact lead_exact x.list.items y.list.items e
 transition_total : IsTotalOrder transition_cmp
 transition_total = then_total (on_total (λ (l : Transition). l.item) item_total) (on_total (λ (l : Transition). l.to) nat_cmp_total)
 
--- what `partial_cmp` answers
+-- what `partial_cmp` returns
 abbrev partial : Transition → Transition → Option Ordering
 partial x y = partial_ordering_then (Some (item_cmp x.item y.item)) (Some (nat_cmp x.to y.to))
 

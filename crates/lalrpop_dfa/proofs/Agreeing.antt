@@ -1,5 +1,5 @@
--- One tree: the longest match of its own automaton and that of the automaton of a list of one agree, by what the two runs
--- promise.
+-- One tree: the longest match of its own automaton and that of the automaton of a list of only this tree agree, by the clauses
+-- of the two runs.
 use Rattle.std.proofs.Common.{◌≡◌, ℕ, zero, suc, ◌≤◌, List, [], ◌∷◌, length, take, Option, Some, None, arith, refl, sym, ap, ap₂, subst, ◌∙◌}
 use Rattle.std.specs.List.{slice_get}
 use Rattle.std.specs.Str.{chars}
@@ -12,7 +12,7 @@ use Rattle.lalrpop_book.specs.Winners.{TreeMatches, Matched}
 use Rattle.lalrpop_book.specs.Longest.{IsLongest}
 use Rattle.lalrpop_dfa.specs.Agree.{Agree}
 
--- a list of one tree has it at the place 0, and none elsewhere
+-- a list of one tree has it at the index 0, and no other
 only_place : (t u : Tree) (i : ℕ) → slice_get (t ∷ []) i ≡ Some u → (i ≡ 0) × (t ≡ u)
 only_place t u zero at = (refl, same_Some t u at)
 only_place t u (suc i) at = absurd (none-some u at)
@@ -23,7 +23,7 @@ who_matches t w i who = subst (λ u. Matches u w) (sym (only_place t who.0 i who
 matches_matched : (t : Tree) (w : List ℕ) → Matches t w → Matched (t ∷ []) w
 matches_matched t w matches = (0, (t, (refl, matches)))
 
--- two prefixes of one length are one
+-- two prefixes of the same length are equal
 same_prefix : (p q text : List ℕ) → IsPrefix p text → IsPrefix q text → length p ≡ length q → p ≡ q
 same_prefix p q text a b size =
     sym (take_at p a.0 (length p) refl) ∙ ap (take (length p)) (sym a.1.0 ∙ b.1.0) ∙ take_at q b.0 (length p) (sym size)

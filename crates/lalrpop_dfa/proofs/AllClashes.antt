@@ -33,7 +33,7 @@ abbrev pub AreTiedIn : List ℕ → List Item → ℕ → ℕ → Type 0
 AreTiedIn ps s i j = (j < i) × IsStrongestIn ps s i × IsStrongestIn ps s j
 
 module _ (ts : List Tree) (ps : List ℕ) where
-  -- the list of the ties of all sets is that of all clashes
+  -- the list of the ties of all sets is the list of all clashes
   pub all_listed : (ns : List Graph) → AreCompiled ts ns → (sets : List (List Item)) (origins : List (ℕ × ℕ)) → IsBreadthFirst (subset_automaton ns) sets origins (length sets) 0
       → ((k : ℕ) → value_of origins k ≤ 4294967295)
       → (cs : List Entry) → AreListedTo (subset_automaton ns) sets origins (AreTiedIn ps) (length sets) cs → AreClashesOf (AreTied ts ps) cs
@@ -46,7 +46,7 @@ module _ (ts : List Tree) (ps : List ℕ) where
       ))
       (λ k. word_is_word origins small k) cs listed
 
--- where each tree has a precedence of its own there is no clash: so a builder that is given such precedences makes all sets
+-- if each tree has a precedence of its own there is no clash: so a builder with such precedences makes all sets
 pub apart_no_clash : (ts : List Tree) (ps : List ℕ) → ((i : ℕ) → i < length ts → slice_index ps i ≡ i) → NoClash ts ps
 apart_no_clash ts ps apart w (i, j, (less, a, b)) =
     let il : i < length ts = slice_get_within ts i a.0.0 a.0.1.0 in
@@ -60,7 +60,7 @@ module _ (ps : List ℕ) (ns : List Graph) (sets : List (List Item)) (origins : 
     strong : (p i : ℕ) → slice_get strongest p ≡ Some i → IsStrongestIn ps (nth (subset_automaton ns) sets n) i
     strong p i e = (all i).0 (contains_from strongest i (has_at strongest p i e))
 
-    -- the greater of two has the greater place
+    -- the greater of two is at the greater place
     in_places : (p q i j : ℕ) → j < i → slice_get strongest p ≡ Some i → slice_get strongest q ≡ Some j → q < p
     in_places p q i j l x y = ⊎_elim
         (λ (a : q < p). a)
@@ -99,20 +99,20 @@ row_set ns ps sets origins rows h k r s at is =
     let holds = nth_holds ns sets origins (length sets) 0 h.breadth_first k l in
     (l, same, subst (AreItemsOf ns) (sym same) holds.0, subst AreAscendingItems (sym same) holds.1)
 
--- all sets were gone through
+-- all sets were visited
 pub all_found : (ns : List Graph) (apart ps : List ℕ) (sets : List (List Item)) (origins : List (ℕ × ℕ)) (rows : List Row) → IsBuiltTo ns apart sets origins rows (length sets)
     → (n : ℕ) → n ≡ length rows → (cs : List Entry) → AreListedTo (subset_automaton ns) sets origins (AreTiedIn ps) n cs → (ts : List Tree) → AreCompiled ts ns → AreClashes ts ps cs
 all_found ns apart ps sets origins rows h n e cs listed ts k =
     clashes_from ts ps cs (all_listed ts ps ns k sets origins h.breadth_first h.small cs
     (subst (λ i. AreListedTo (subset_automaton ns) sets origins (AreTiedIn ps) i cs) (e ∙ h.counted) listed))
 
--- with precedences that are all distinct there is no clash, so that only memory can be refused
+-- with precedences that are all different there is no clash, so the only error is refused memory
 pub distinct_fault : (ts : List Tree) (ps : List ℕ) (e : DfaConstructionError) → AreOwn (length ts) ps → IsClashOf ts ps e → IsFaultOf ts e
 distinct_fault ts ps (Refused i f) own c = absurd c
 distinct_fault ts ps (Ambiguity i j w) own c = apart_no_clash ts ps own.1 w.items (i, j, (c.less, c.greatest, c.second))
 distinct_fault ts ps OutOfMemory own c = tt
 
--- ---- precedences of which no two are equal
+-- ---- precedences that are all different
 pub own_none : (ps : List ℕ) → ps ≡ [] → AreOwn 0 ps
 own_none ps e = (ap length e, λ i l. absurd (omega arith))
 

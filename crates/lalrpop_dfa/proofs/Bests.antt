@@ -41,7 +41,7 @@ match_on : {A B : Type 0} {P Q : ℕ → Type 0} (o : Option ℕ) → (A → B) 
 match_on None f g h = f h
 match_on (Some n) f g h = g n h
 
--- ---- a further tree, greater than those before
+-- ---- one more tree, greater than those before
 module _ (ps is : List ℕ) (i p : ℕ) (fresh : (j : ℕ) → Contains is j → j < i) (weight : p ≡ slice_index ps i) where
   here : Contains (is ++ i ∷ []) i
   here = Contains-push is i
@@ -83,7 +83,7 @@ module _ (ps is : List ℕ) (i p : ℕ) (fresh : (j : ℕ) → Contains is j →
           tied = only;
         }
 
-    -- one as strong
+    -- an equally strong one
     pub best_equal : b.precedence ≡ p → IsBestOf ps (is ++ i ∷ []) (record { index = i; precedence = p; tied = Some b.index })
     best_equal same =
         let back : (j : ℕ) → IsStrong ps (is ++ i ∷ []) j → Contains is j → IsStrong ps is j =
@@ -251,7 +251,7 @@ module _ (ps : List ℕ) (items : List Item) (k p : ℕ) (x : Item) (l : k < len
   pub with_taken : (x.1 == accept_state) ≡ true → (slice_index ps x.0 == p) ≡ true → accepts_with ps (take (k + 1) items) p ≡ accepts_with ps (take k items) p ++ x.0 ∷ []
   with_taken final is = ap (filter (λ i. slice_index ps i == p)) (with_accepted final) ∙ (filter_push (λ i. slice_index ps i == p) (accepts (take k items)) x.0 ∙ (rw is))
 
--- those of the best's precedence are the strongest
+-- those with the best's precedence are the strongest
 pub with_best : (ps : List ℕ) (s : List Item) (b : Best) → IsBestOf ps (accepts s) b → (i : ℕ) → Contains (accepts_with ps s b.precedence) i ↔ IsStrongestIn ps s i
 with_best ps s b h i = (
   λ m. (let (there, e) = filter_has (λ j. slice_index ps j == b.precedence) (accepts s) i (has_from (accepts_with ps s b.precedence) i m) in
@@ -268,7 +268,7 @@ pub with_none : (ps : List ℕ) (s : List Item) → accepts s ≡ [] → (i : �
 with_none ps s none i = (λ m. absurd (contains_none i m), λ t. absurd (contains_none i (rw none at (accepts_has s i t.0))))
 
 -- ---- they ascend
--- each is less than those behind it
+-- each is less than all later ones
 abbrev pub AreRising : List ℕ → Type 0
 AreRising [] = Unit {0}
 AreRising (i ∷ is) = ((j : ℕ) → Has is j → i < j) × AreRising is

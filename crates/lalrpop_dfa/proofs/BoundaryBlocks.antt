@@ -10,7 +10,7 @@ use Rattle.std.proofs.lemmas.Option.{slice_get-get_or, slice_get_cases, get_or_f
 use Rattle.lalrpop_book.specs.Range.{Range}
 use Rattle.lalrpop_nfa.specs.Graph.{Graph}
 use Rattle.lalrpop_ranges.specs.Partition.{IsCovered, IsPartition}
-use Rattle.lalrpop_ranges.proofs.Cells.{BlocksBelow, IsCut, parts_none, parts_kept, parts_passed, zero_is_cut}
+use Rattle.lalrpop_ranges.proofs.Cells.{BlocksBelow, IsBoundary, parts_none, parts_kept, parts_passed, zero_is_boundary}
 use Rattle.lalrpop_ranges.proofs.Partition.{IsPartition-from_parts}
 use Rattle.lalrpop_alphabet.specs.Internal.Alphabet.{AreCells, IsInCell, IsFirstOf}
 use Rattle.lalrpop_alphabet.specs.declared.Cell.{Cell}
@@ -46,7 +46,7 @@ module _ (cells : List Cell) (count : ℕ) (are : AreCells cells count) (boundar
       let equal : first_of cells boundaries i ≡ first_of cells boundaries j = ap (λ k. (get_or cells k no_cell).first) same in omega arith))
       (cases_lt (get_or boundaries i 0) (get_or boundaries j 0))
 
-  -- where the first value of the next boundary is greater, the first value of this one lies in its cell
+  -- if the first value of the next boundary is greater, the first value of this one lies in its cell
   pub lies_in : (i : ℕ) (x : Cell) → i + 1 < length boundaries → slice_get cells (get_or boundaries i 0) ≡ Some x → x.first < first_of cells boundaries (i + 1) → IsInCell cells (get_or boundaries i 0) x.class x.first
   lies_in i x l at less =
       let first : first_of cells boundaries i ≡ x.first = first_is cells boundaries i x at in
@@ -62,7 +62,7 @@ module _ (cells : List Cell) (count : ℕ) (are : AreCells cells count) (boundar
 
   module _ (ns : List Graph) (s : List Item) (by_class : List Transitions) (laid : IsLaidOut ns s cells boundaries by_class) where
     -- a label begins or is over at each boundary, and nowhere else
-    place_of : (v : ℕ) → IsCut (IsLeaving ns s) v → (j : ℕ) × ((j < length boundaries) × (first_of cells boundaries j ≡ v))
+    place_of : (v : ℕ) → IsBoundary (IsLeaving ns s) v → (j : ℕ) × ((j < length boundaries) × (first_of cells boundaries j ≡ v))
     place_of v (r, (leaves, some, ends)) = found ((laid.ends v).0 (r, (leaves, (some, ends))))
       where
         found : (k : ℕ) × (Contains boundaries k × IsFirstOf cells k v) → (j : ℕ) × ((j < length boundaries) × (first_of cells boundaries j ≡ v))
@@ -71,7 +71,7 @@ module _ (cells : List Cell) (count : ℕ) (are : AreCells cells count) (boundar
             let at : slice_get cells k ≡ Some (get_or cells (get_or boundaries j 0) no_cell) = ap (slice_get cells) (sym place) ∙ cell_there j l in
             (j, (l, (rw at at first)))
 
-    boundary_of : (j : ℕ) → j < length boundaries → IsCut (IsLeaving ns s) (first_of cells boundaries j)
+    boundary_of : (j : ℕ) → j < length boundaries → IsBoundary (IsLeaving ns s) (first_of cells boundaries j)
     boundary_of j l = (let (r, (leaves, (some, ends))) = (laid.ends (first_of cells boundaries j)).1 (get_or boundaries j 0, (Contains-get_or boundaries j 0 l, (rw (cell_there j l) refl))) in (r, (leaves, some, ends)))
 
     covered_of : (v : ℕ) (l : Transition) → IsTransition ns s v l.item l.to → IsCovered (IsLeaving ns s) v
@@ -86,12 +86,12 @@ module _ (cells : List Cell) (count : ℕ) (are : AreCells cells count) (boundar
         (λ (some : 0 < first_of cells boundaries 0).
         parts_passed (IsLeaving ns s) [] 0 (first_of cells boundaries 0) (parts_none (IsLeaving ns s))
         (λ v low high boundary. (let (j, (l, e)) = place_of v boundary in omega (arith, e, high, firsts_rise 0 j (omega arith) l)))
-        (λ over. (let (j, (l, e)) = place_of 0 (zero_is_cut (IsLeaving ns s) 0 refl over) in omega (arith, e, some, firsts_rise 0 j (omega arith) l)))
+        (λ over. (let (j, (l, e)) = place_of 0 (zero_is_boundary (IsLeaving ns s) 0 refl over) in omega (arith, e, some, firsts_rise 0 j (omega arith) l)))
         (omega arith))
         (λ (none : first_of cells boundaries 0 ≤ 0). (let e : 0 ≡ first_of cells boundaries 0 = omega (arith, none) in subst (BlocksBelow (IsLeaving ns s) []) e (parts_none (IsLeaving ns s))))
         (cases_lt 0 (first_of cells boundaries 0))
 
-    no_boundary_between : (i v : ℕ) → i + 1 < length boundaries → first_of cells boundaries i < v → v < first_of cells boundaries (i + 1) → ¬ IsCut (IsLeaving ns s) v
+    no_boundary_between : (i v : ℕ) → i + 1 < length boundaries → first_of cells boundaries i < v → v < first_of cells boundaries (i + 1) → ¬ IsBoundary (IsLeaving ns s) v
     no_boundary_between i v l low high boundary =
         let (j, (m, e)) = place_of v boundary in
         ⊎_elim (λ (before : j < i + 1). omega (arith, e, low, firsts_rise j i (omega (arith, before)) (omega (arith, l))))
@@ -115,7 +115,7 @@ module _ (cells : List Cell) (count : ℕ) (are : AreCells cells count) (boundar
           (parts_kept (IsLeaving ns s) ranges (first_of cells boundaries i) (first_of cells boundaries (i + 1)) done (omega (arith, first, less)) (boundary_of i (omega (arith, l))) (λ v. no_boundary_between i v l)
           (subst (IsCovered (IsLeaving ns s)) (sym first) (covered_of x.first e ((takes less e).0 member))))
 
-      -- the others are passed over
+      -- the others are skipped
       pub passed : (first_of cells boundaries (i + 1) ≤ x.first) ⊎ (t.list.items ≡ []) → BlocksBelow (IsLeaving ns s) ranges (first_of cells boundaries (i + 1))
       passed why =
           let first : first_of cells boundaries i ≡ x.first = first_is cells boundaries i x at in
@@ -132,7 +132,7 @@ module _ (cells : List Cell) (count : ℕ) (are : AreCells cells count) (boundar
           (λ (more : first_of cells boundaries (i + 1) ≤ x.first). (let same : first_of cells boundaries i ≡ first_of cells boundaries (i + 1) = omega (arith, more, first, rise) in subst (BlocksBelow (IsLeaving ns s) ranges) same done))
           (cases_lt x.first (first_of cells boundaries (i + 1)))
 
-    -- behind the last boundary no label is left
+    -- after the last boundary no label is left
     pub finish : (i : ℕ) (ranges : List Range) → length boundaries ≤ i + 1 → (1 ≤ length boundaries → i + 1 ≤ length boundaries) → BlocksBelow (IsLeaving ns s) ranges (first_of cells boundaries i) → IsPartition (IsLeaving ns s) ranges
     finish i ranges past within done =
         IsPartition-from_parts (IsLeaving ns s) ranges (first_of cells boundaries i) done
@@ -140,7 +140,7 @@ module _ (cells : List Cell) (count : ℕ) (are : AreCells cells count) (boundar
         let some : 1 ≤ length boundaries = omega (arith, l) in
         omega (arith, e, more, firsts_rise j i (omega (arith, l, past)) (omega (arith, within some)))))
 
--- no edge is in the class, and some is
+-- the class has no edges, and has some
 abbrev pub HasNone : List Transitions → ℕ → Type 0
 HasNone by_class c = (t : Transitions) → slice_get by_class c ≡ Some t → t.list.items ≡ []
 
@@ -155,7 +155,7 @@ some_edges by_class c some t at none =
 no_edges : (by_class : List Transitions) (c : ℕ) → has_edges (slice_get by_class c) ≡ false → HasNone by_class c
 no_edges by_class c none t at = nil_from t.list.items (let l : length t.list.items ≤ 0 = ltb-false 0 (length t.list.items) (rw at at none) in omega (arith, l))
 
--- one turn from boundary to boundary: a block is added, or none
+-- one iteration, from boundary to boundary: a block is added, or none
 abbrev IsKept : List Cell → List ℕ → List Transitions → ℕ → Cell → List Block → List Block → Type 0
 IsKept cells boundaries by_class i x blocks new = (x.first < first_of cells boundaries (i + 1)) × HasSome by_class x.class × (new ≡ blocks ++ record { range = record { start = x.first; end = first_of cells boundaries (i + 1) - 1 }; class = x.class } ∷ [])
 
@@ -235,7 +235,7 @@ module _ (cells : List Cell) (by_class : List Transitions) (boundaries : List �
       let e : j + suc d ≡ suc (j + d) = omega arith in
       (rest ++ block_to cells by_class boundaries (j + d), rw e (ap (λ bs. bs ++ block_to cells by_class boundaries (j + d)) is ∙ append_assoc (blocks_to cells by_class boundaries j) rest (block_to cells by_class boundaries (j + d))))
 
-  -- where a block stands that is the last up to a boundary
+  -- where a block is the last up to a boundary
   pub block_stands : (k : ℕ) (b : Block) → k < length boundaries → blocks_to cells by_class boundaries (k + 1) ≡ blocks_to cells by_class boundaries k ++ b ∷ [] → slice_get (blocks_of cells by_class boundaries) (length (blocks_to cells by_class boundaries k)) ≡ Some b
   block_stands k b l is =
       let (rest, whole) = more_blocks (k + 1) (length boundaries - (k + 1)) in

@@ -78,7 +78,7 @@ module _ (ns : List Graph) (s : List Item) (cells : List Cell) (by_class : List 
         subst (λ q. IsEdging ns sets0 origins0 n s xs q sets2 origins2 tests2) long
         (edging_more ns automata sets0 origins0 n s xs partition here p j x.first (move ns s x.first) (block x y).range (block x y).range sets origins tests tests2 sets2 origins2 h read.0 read.1 refl refl refl add new)
 
-  -- where there is no block the edges stay
+  -- if there is no block the edges stay
   pub edging_passed : (read : List ℕ) (k : ℕ) (x y : Cell) (sets0 : List (List Item)) (origins0 : List (ℕ × ℕ)) (n : ℕ) (sets : List (List Item)) (origins : List (ℕ × ℕ)) (tests : List (Range × ℕ))
       → read ≡ boundaries → IsBefore cells boundaries k x → slice_get cells (get_or read k 0) ≡ Some y → (y.first ≤ x.first) ⊎ (has_edges (slice_get by_class x.class) ≡ false)
       → IsEdging ns sets0 origins0 n s (map range_of (blocks_of cells by_class boundaries)) (length (blocks_to cells by_class boundaries k)) sets origins tests

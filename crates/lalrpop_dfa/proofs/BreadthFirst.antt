@@ -1,4 +1,4 @@
--- What a breadth-first numbering gives.
+-- Laws of a breadth-first numbering.
 use Rattle.std.proofs.Common.{◌≡◌, ℕ, ◌<◌, ◌≤◌, ◌⊎◌, inl, inr, ⊎_elim, List, [], ◌∷◌, ◌++◌, length, refl, sym, ap, ◌∙◌, arith, Bool, true, zero, suc}
 use Rattle.std.proofs.lemmas.Bool.{cases_order, cases_lt}
 use Rattle.lalrpop_book.specs.Word.{Shortlex}
@@ -55,7 +55,7 @@ module _ {S : Type 0} (m : Automaton S) (sets : List S) (origins : List (ℕ × 
   pub word_reaches : (k : ℕ) → k < length sets → after m m.start (word origins k) ≡ nth m sets k
   word_reaches k l = word_reaches_at k k (omega arith) l
 
-  -- a number that a move leads to has a word of at most that of the move
+  -- the word of a number that a move leads to is at most the word of the move
   pub covered_at_most : (i j c : ℕ) (u : List ℕ) → i < length sets → j < length sets → ShortlexAtMost (word origins i) u
       → ((j ≡ 0) ⊎ NotAfter (from_of origins j) (value_of origins j) i c) → ShortlexAtMost (word origins j) (u ++ c ∷ [])
   covered_at_most i zero c u il jl below place = inr (nil_less u c)
@@ -111,7 +111,7 @@ settle {S} m stays sets origins n h l = from_the_end (λ (w : List ℕ). Settled
         next u c below found.0 found.1 found.2 found.3 (h.covered found.0 c (omega arith) (inl found.1)))
         now
 
--- all words below the word of the number that is expanded lead to a dead set or to an earlier number
+-- all words below the word of the number being expanded lead to a dead set or to an earlier number
 pub settled_below : {S : Type 0} (m : Automaton S) → DeadStays m → (sets : List S) (origins : List (ℕ × ℕ)) (n : ℕ)
     → IsBreadthFirst m sets origins n 0 → n < length sets → (w : List ℕ) → Shortlex w (word origins n) → Settled m sets origins n w
 settled_below m stays sets origins n h l w less =
@@ -130,7 +130,7 @@ pub settled_all : {S : Type 0} (m : Automaton S) → DeadStays m → (sets : Lis
 settled_all m stays sets origins h w =
     settle m stays sets origins (length sets) h (omega arith) w (λ (k : ℕ) (a : length sets ≤ k) (b : k < length sets). absurd (omega arith))
 
--- where number n is the first of a kind that dead sets are not, its word is the least of that kind
+-- if number n is the first with a property that dead sets lack, its word is the least with the property
 pub first_is_least : {S : Type 0} (m : Automaton S) → DeadStays m → (sets : List S) (origins : List (ℕ × ℕ)) (n : ℕ)
     → IsBreadthFirst m sets origins n 0 → n < length sets
     → (q : S → Bool) → ((s : S) → m.dead s ≡ true → q s ≡ true → ⊥)

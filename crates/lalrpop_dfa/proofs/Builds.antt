@@ -93,7 +93,7 @@ module _ (ns : List Graph) (a : AreAutomata ns) (sets0 : List (List Item)) (orig
       }
 
 -- ---- the table
--- the sets that are numbered hold items, ascending
+-- the numbered sets hold items, and ascend
 module _ (ns : List Graph) (sets : List (List Item)) (origins : List (ℕ × ℕ)) (n v : ℕ) (num : IsBreadthFirst (subset_automaton ns) sets origins n v) where
   pub nth_holds : (k : ℕ) → k < length sets → AreItemsOf ns (nth (subset_automaton ns) sets k) × AreAscendingItems (nth (subset_automaton ns) sets k)
   nth_holds zero l = subst (λ s. AreItemsOf ns s × AreAscendingItems s) (sym num.first) (first_set_items ns, first_set_ascends ns)
@@ -147,7 +147,7 @@ built_more ns ps sets origins rows n s sets2 origins2 row rows2 h at e kind item
       otherwise = (e.otherwise.0, e.otherwise.1 ∙ ap (λ (u : List Item). move ns u 4294967295) (sym same));
     }
 
--- the same, with what the calls of one round say
+-- the same, with what the calls of one iteration promise
 pub built_pushed : (ns : List Graph) (ps : List ℕ) (sets : List (List Item)) (origins : List (ℕ × ℕ)) (rows : List Row) (n : ℕ) (s : List Item) (sets1 : List (List Item)) (origins1 : List (ℕ × ℕ)) (rows1 : List Row) (row : Row)
     (sets2 : List (List Item)) (origins2 : List (ℕ × ℕ)) (rows2 : List Row)
     → IsBuiltTo ns ps sets origins rows (length rows) → slice_get sets (length rows) ≡ Some s → n ≡ length rows → IsEdged ns sets origins n s sets1 origins1 row.tests row.other → row.items ≡ s
@@ -173,7 +173,7 @@ pub built_all : (ns : List Graph) (ps : List ℕ) (sets : List (List Item)) (ori
     → (ts : List Tree) → AreCompiled ts ns → NoClash ts ps × Recognizes rows ts ps × IsWellFormed rows × HoldsItems ns rows × OthersReject rows × IsInWordOrder rows
 built_all ns ps sets origins rows h ts k = built_stands ts ps ns sets origins rows k h.breadth_first h.counted h.rows_are h.small
 
--- the sets are few
+-- the number of sets is bounded
 pub built_few : (ns : List Graph) (ps : List ℕ) (sets : List (List Item)) (origins : List (ℕ × ℕ)) (rows : List Row) (s : List Item) → IsBuiltTo ns ps sets origins rows (length rows) → slice_get sets (length rows) ≡ Some s → length rows < 2 ^ length (all_items ns)
 built_few ns ps sets origins rows s h at = omega (arith, states_bound ns sets origins (length rows) 0 h.breadth_first, slice_get_within sets (length rows) s at)
 
@@ -212,7 +212,7 @@ next_none (Some t) A P h never = absurd (never t refl)
 pub at_rows : (list : List (List Item)) (place n : ℕ) (s : List Item) → slice_get list place ≡ Some s → place ≡ n → slice_get list n ≡ Some s
 at_rows list place n s at is = rw (← is) at
 
--- a tie of a set, told with its word
+-- a tie of a set, with its word
 pub tie_told : (ps : List ℕ) (s : List Item) (v : List ℕ) (i j : ℕ) (e : DfaConstructionError) → IsTied ps s i j → IsClashAt v i j e → IsTieOf ps s v e
 tie_told ps s v i j (Refused k f) t c = c
 tie_told ps s v i j (Ambiguity k l w) t c = (rw (c.0, c.1) t, c.2)

@@ -1,4 +1,4 @@
--- The finished table: it stands, and its states hold what words lead to.
+-- The finished table is well formed, and its states hold what words lead to.
 use Rattle.std.proofs.Common.{◌≡◌, ℕ, ◌<◌, ◌≤◌, ◌↔◌, ◌⊎◌, inl, inr, List, [], ◌∷◌, length, map, refl, ap, sym, subst, ◌∙◌, arith, Bool, true, false, ◌&&◌, nat_le, leb-true, le-leb, Some, None, Option, IsSomeAnd}
 use Rattle.std.specs.List.{Contains, slice_get}
 use Rattle.std.proofs.lemmas.Bool.{and_parts, and_from}
@@ -29,7 +29,7 @@ use Rattle.lalrpop_dfa.proofs.SetWinners.{dead_kind, reject_kind, kind_says, kin
 is_some_and : {A : Type 0} (o : Option A) (P : A → Type 0) (x : A) → o ≡ Some x → P x → IsSomeAnd o P
 is_some_and o P x e p = rw e p
 
--- where a value leads: to the target of a test that covers it, or by the other edge where none does
+-- where a value leads: to the target of a test that covers it, or by the other edge if none does
 abbrev LeadsBy : List (Range × ℕ) → ℕ → ℕ → Type 0
 LeadsBy tests other c = ((t : Range × ℕ) × (Has tests t × Covers t.0 c × (edge_target tests other c ≡ t.1)))
     ⊎ (((t : Range × ℕ) → Has tests t → Covers t.0 c → ⊥) × (edge_target tests other c ≡ other))
@@ -52,7 +52,7 @@ leads_cases : (tests : List (Range × ℕ)) (other c : ℕ) → LeadsBy tests ot
 leads_cases [] other c = inr ((λ t h k. absurd h), refl)
 leads_cases (t ∷ ts) other c = leads_step t ts other c (leads_cases ts other c) (nat_le t.0.start c && nat_le c t.0.end) refl
 
--- the tests of runs are not empty and ascend
+-- the tests of runs are nonempty and ascend
 tests_ascend : (tests : List (Range × ℕ)) → AreAscending (map (λ t. t.0) tests) → ((t : Range × ℕ) → Has tests t → t.0.start ≤ t.0.end) → AreAscendingTests tests
 tests_ascend [] a f = tt
 tests_ascend (t ∷ []) a f = f t (inl refl)

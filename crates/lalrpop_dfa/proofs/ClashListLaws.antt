@@ -1,4 +1,4 @@
--- Laws of the list of all clashes: there is one, its first entry is the clash, and it is empty just where no word is ambiguous.
+-- Laws of the list of all clashes: it is unique, its first entry is the clash, and it is empty exactly if no word is ambiguous.
 use Rattle.std.proofs.Common.{◌≡◌, ℕ, zero, suc, ◌<◌, ◌≤◌, ◌⊎◌, inl, inr, ⊎_elim, List, [], ◌∷◌, refl, arith}
 use Rattle.std.specs.Prelude.{Some}
 use Rattle.std.proofs.lemmas.Bool.{cases_lt}
@@ -35,7 +35,7 @@ module _ (ts : List Tree) (ps : List ℕ) where
           (λ (a : k ≤ c.match0). a)
           (cases_lt c.match0 k)
 
-  -- none where no word is ambiguous, and only there
+  -- none exactly if no word is ambiguous
   none_of : (cs : List Entry) → AreClashesOf (AreTied ts ps) cs → NoClash ts ps → cs ≡ []
   none_of cs h none = empty-from_none (AreTied ts ps) cs h (λ w i j t. none w (i, j, t))
 
@@ -72,7 +72,7 @@ module _ (ts : List Tree) (ps : List ℕ) where
     in_order = order_to cs h.in_order;
   }
 
-  -- there is one list
+  -- the list is unique
   pub clashes-unique : (cs ds : List Entry) → AreClashes ts ps cs → AreClashes ts ps ds → cs ≡ ds
   clashes-unique cs ds h k = unique (AreTied ts ps) cs ds (clashes_by cs h) (clashes_by ds k)
 
@@ -80,7 +80,7 @@ module _ (ts : List Tree) (ps : List ℕ) where
   pub first_is_clash : (c : Entry) (cs : List Entry) → AreClashes ts ps (c ∷ cs) → IsClash ts ps c.word c.match0 c.match1
   first_is_clash c cs h = first_is ts ps c cs (clashes_by (c ∷ cs) h)
 
-  -- it is empty just where no word is ambiguous
+  -- it is empty exactly if no word is ambiguous
   pub empty-no_clash : (cs : List Entry) → AreClashes ts ps cs → NoClash ts ps → cs ≡ []
   empty-no_clash cs h none = none_of ts ps cs (clashes_by cs h) none
 

@@ -1,4 +1,4 @@
--- The list of clashes, with membership by recursion and any tie T: there is one, and it is found number by number.
+-- The list of clashes, with membership by recursion and any tie T: it is unique, and it is found number by number.
 use Rattle.std.proofs.Common.{◌≡◌, ℕ, ◌+◌, ◌<◌, ◌≤◌, ◌⊎◌, ◌↔◌, inl, inr, ⊎_elim, List, [], ◌∷◌, ◌++◌, length, refl, sym, ap, ◌∙◌, subst, arith, true}
 use Rattle.std.proofs.lemmas.Bool.{cases_lt}
 use Rattle.lalrpop_book.specs.Word.{IsWord, Shortlex}
@@ -14,7 +14,7 @@ abbrev pub IsOrdered : List Entry → Type 0
 IsOrdered [] = Unit {0}
 IsOrdered (c ∷ cs) = ((d : Entry) → Has cs d → StandsBefore c d) × IsOrdered cs
 
--- the two trees tie on the word, and on no lesser one
+-- the two trees tie on the word and on no smaller one
 pub record IsFirstTieOf (T : List ℕ → ℕ → ℕ → Type 0) (c : Entry) : Type 0 where
   pub word : IsWord c.word
   pub tie : T c.word c.match0 c.match1
@@ -69,7 +69,7 @@ entry_same c d f s e =
     let three : record { match0 = d.match0; match1 = d.match1; word = c.word } ≡ d = ap (λ (w : List ℕ). let x : Entry = record { match0 = d.match0; match1 = d.match1; word = w } in x) e in
     one ∙ two ∙ three
 
--- ---- the clashes are one list
+-- ---- the list of the clashes is unique
 module _ (T : List ℕ → ℕ → ℕ → Type 0) where
   -- two entries of one pair are equal
   same_entry : (c d : Entry) → IsFirstTieOf T c → IsFirstTieOf T d → c.match0 ≡ d.match0 → c.match1 ≡ d.match1 → c ≡ d
@@ -95,7 +95,7 @@ module _ (T : List ℕ → ℕ → ℕ → Type 0) where
   pub clashes-unique : (cs ds : List Entry) → AreClashesOf T cs → AreClashesOf T ds → cs ≡ ds
   clashes-unique cs ds h k = same_list cs ds h.in_order k.in_order (has_also cs ds h k) (has_also ds cs k h)
 
-  -- the list is empty just where no two trees tie
+  -- the list is empty exactly if no two trees tie
   pub none-from_empty : AreClashesOf T [] → (w : List ℕ) (i j : ℕ) → ¬ T w i j
   none-from_empty h w i j t = (let (c, (m, f, s)) = h.all w i j t in m)
 
@@ -103,7 +103,7 @@ module _ (T : List ℕ → ℕ → ℕ → Type 0) where
   empty-from_none [] h none = refl
   empty-from_none (c ∷ cs) h none = absurd (none c.word c.match0 c.match1 (h.each c (inl refl)).tie)
 
-  -- the first entry has the least word on which any two trees tie, of its ties the greatest first tree, and then the
+  -- the first entry has the least word on which any two trees tie, and of its ties the greatest first tree, and then the
   -- greatest second one
   pub head_is_clash : (c : Entry) (cs : List Entry) → AreClashesOf T (c ∷ cs)
       → ((v : List ℕ) → Shortlex v c.word → (i j : ℕ) → ¬ T v i j)
@@ -149,7 +149,7 @@ module _ (T : List ℕ → ℕ → ℕ → Type 0) where
 
 -- ---- found number by number: Q s i j says that i and the lower j tie in the set s
 module _ {S : Type 0} (m : Automaton S) (sets : List S) (origins : List (ℕ × ℕ)) (Q : S → ℕ → ℕ → Type 0) where
-  -- the entry's pair ties in the set of number k, and in none before it; its word is that of k
+  -- the entry's pair ties in the set of number k and in no earlier one; its word is that of k
   pub record IsListedAt (c : Entry) (k : ℕ) : Type 0 where
     pub word : c.word ≡ word origins k
     pub tie : Q (nth m sets k) c.match0 c.match1
@@ -179,7 +179,7 @@ module _ {S : Type 0} (m : Automaton S) (sets : List S) (origins : List (ℕ × 
   pub listed_none : AreListedTo m sets origins Q 0 []
   listed_none = record { each = λ c h. absurd h; all = λ k i j l q. absurd (omega arith); in_order = tt }
 
-  -- one number more
+  -- one more number
   pub listed_more : (at v n : ℕ) (cs es : List Entry) → IsBreadthFirst m sets origins at v → n < length sets
       → AreListedTo m sets origins Q n cs → AreNew m sets origins Q n cs es → AreListedTo m sets origins Q (n + 1) (cs ++ es)
   listed_more at v n cs es b l h new = record {
@@ -203,7 +203,7 @@ module _ {S : Type 0} (m : Automaton S) (sets : List S) (origins : List (ℕ × 
           let (k, (kl, is)) = h.each c x in
           inl (rw (is.word, (new.each d y).0) (words_ascend m sets origins at v b k n kl l))
 
-  -- the list of all numbers is that of the clashes
+  -- the list of all numbers is the list of the clashes
   pub listed_all : (T : List ℕ → ℕ → ℕ → Type 0) → DeadStays m → IsBreadthFirst m sets origins (length sets) 0
       → ((s : S) (i j : ℕ) → m.dead s ≡ true → Q s i j → ⊥)
       → ((w : List ℕ) (i j : ℕ) → T w i j ↔ Q (after m m.start w) i j)

@@ -1,4 +1,4 @@
--- Dead sets, and values that the labels don't tell apart.
+-- Dead sets, and values that the labels treat alike.
 use Rattle.std.proofs.Common.{◌≡◌, ℕ, ◌<◌, ◌≤◌, inl, inr, List, [], refl, arith, true, Some}
 use Rattle.std.specs.List.{Contains, slice_get}
 use Rattle.lalrpop_book.specs.Range.{Range, Covers}
@@ -22,7 +22,7 @@ use Rattle.lalrpop_items.proofs.Targets.{compiled_at}
 use Rattle.lalrpop_items.proofs.Moved.{dead_states, dead_from, reject_path, IsMoved, moved, TakeAlso, reads_moves}
 
 module _ (ts : List Tree) (ns : List Graph) (h : AreCompiled ts ns) where
-  -- where each edge that is taken is an other edge, the moved set is dead
+  -- if each edge that is taken is an other edge, the moved set is dead
   otherwise_dead : (s : List Item) (c : ℕ) → ((x : Item) (g : Graph) (r : Range) (q : ℕ) → Has s x → slice_get ns x.0 ≡ Some g → Contains g.edges.tests (test x.1 r q) → Covers r c → ⊥) → is_dead (move ns s c) ≡ true
   otherwise_dead s c none = dead_from (move ns s c) (λ x k. ends x (moved ns s c x k))
     where
@@ -35,7 +35,7 @@ module _ (ts : List Tree) (ns : List Graph) (h : AreCompiled ts ns) where
           let k : (t : Tree) × IsCompiled t m.graph = (let z = compiled_at ts ns h x.0 m.graph m.at in (z.0, z.1.1)) in
           reject_path k.0 m.graph k.1 x.1 m.second [] m.end refl (lands x m.graph k.0 k.1 m.at m.first m.second m.member m.edge)
 
-  -- dead sets are left for dead sets alone
+  -- dead sets lead only to dead sets
   pub dead_stays : DeadStays (subset_automaton ns)
   dead_stays s c d = otherwise_dead s c (λ x g r q m at k n.
       let z = compiled_at ts ns h x.0 g at in

@@ -15,7 +15,7 @@ use Rattle.lalrpop_dfa.specs.declared.build.scratch.Transitions.{Transitions}
 
 -- the boundaries of items are cells
 pub boundaries_below : (a : Classes) (items : List Item) (boundaries : List ℕ) → IsSound a → AreBoundariesOf a items boundaries → AreBelow (length a.cells) boundaries
-boundaries_below a items boundaries sound are k h = (let (x, (member, (l, (lead, boundary)))) = (are k).0 h in sound.groups.cuts_in l.group k boundary)
+boundaries_below a items boundaries sound are k h = (let (x, (member, (l, (edge_group, boundary)))) = (are k).0 h in sound.groups.boundaries_in l.group k boundary)
 
 module _ (ns : List Graph) (a : Classes) (alphabet : IsAlphabetOf ns a) (items : List Item) (inside : AreItemsOf ns items) where
   pub have_states : (x : Item) → Contains items x → HasState a.nfas x.0 x.1
@@ -29,14 +29,14 @@ module _ (ns : List Graph) (a : Classes) (alphabet : IsAlphabetOf ns a) (items :
     end_has_boundary v (r, ((x, g, q, (member, at, edge)), end)) =
         let (h, (there, l)) = inside x member in
         let here : Contains h.edges.tests (test x.1 r q) = subst (λ (f : Graph). Contains f.edges.tests (test x.1 r q)) (same_graph x g h at there) edge in
-        let (k, (at_boundary, first)) = (alphabet.cuts x.0 x.1 v h there l).0 (r, q, (here, end)) in
+        let (k, (at_boundary, first)) = (alphabet.boundaries x.0 x.1 v h there l).0 (r, q, (here, end)) in
         (k, ((boundary k).1 (x, (member, at_boundary)), first))
 
     boundary_has_end : (v : ℕ) → ((k : ℕ) × (Contains boundaries k × IsFirstOf a.cells k v)) → (r : Range) × (IsLeaving ns items r × IsEndOf r v)
     boundary_has_end v (k, (h, first)) =
         let (x, (member, at_boundary)) = (boundary k).0 h in
         let (g, (there, l)) = inside x member in
-        let (r, q, (edge, end)) = (alphabet.cuts x.0 x.1 v g there l).1 (k, (at_boundary, first)) in
+        let (r, q, (edge, end)) = (alphabet.boundaries x.0 x.1 v g there l).1 (k, (at_boundary, first)) in
         (r, ((x, g, q, (member, there, edge)), end))
 
     taken : (k c v : ℕ) (t : Transitions) → IsInCell a.cells k c v → slice_get by_class c ≡ Some t → AreTransitions ns items v t.list.items

@@ -1,4 +1,4 @@
--- The runs of the labels that leave a set of items: a value in none is not covered, and values of one lead to one set.
+-- The runs of the labels that leave a set of items: a value in no run is not covered, and values of one run lead to one set.
 use Rattle.std.proofs.Common.{◌≡◌, ℕ, ◌↔◌, inl, inr, List, map, filter, refl, ap₂, sym, subst, true, ◌==◌, eqb-true, eq-eqb, Some}
 use Rattle.std.specs.List.{Contains, slice_get, flat_map}
 use Rattle.std.proofs.lemmas.Option.{slice_get_cases}

@@ -5,11 +5,11 @@ use Rattle.std.specs.List.{Contains}
 use Rattle.std.proofs.lemmas.Option.{slice_get_read, slice_get_within, slice_get-get_or}
 use Rattle.std.proofs.lemmas.List.{get_or_default, length-set}
 use Rattle.std.proofs.lemmas.List.Elements.{Contains-append_left, Contains-append_right, Contains-append_cases}
-use Rattle.lalrpop_alphabet.specs.Internal.Alphabet.{Classes, AreLeadsOf, IsLeadOf, HasClass, HasCut, LeadsBy, CutsAt}
+use Rattle.lalrpop_alphabet.specs.Internal.Alphabet.{Classes, AreEdgeGroupsOf, IsEdgeGroupOf, HasClass, HasBoundary, LeadsBy, HasBoundaryAt}
 use Rattle.lalrpop_alphabet.specs.declared.Group.{Group}
-use Rattle.lalrpop_alphabet.specs.declared.Lead.{Lead}
-use Rattle.lalrpop_alphabet.specs.declared.NfaLeads.{NfaLeads}
-use Rattle.lalrpop_alphabet.specs.declared.StateLeads.{StateLeads}
+use Rattle.lalrpop_alphabet.specs.declared.EdgeGroup.{EdgeGroup}
+use Rattle.lalrpop_alphabet.specs.declared.NfaEdgeGroups.{NfaEdgeGroups}
+use Rattle.lalrpop_alphabet.specs.declared.StateEdgeGroups.{StateEdgeGroups}
 use Rattle.lalrpop_items.specs.Automata.{Item}
 use Rattle.lalrpop_dfa.specs.Internal.Transitions.{AreBare, Gained, AreGathered, AreBoundariesOf}
 use Rattle.lalrpop_items.specs.declared.transitions.Transition.{Transition}
@@ -67,69 +67,69 @@ class_more cs k d edge within c l =
       λ h. elim (more.1 h.0) [ inl x ↦ inl (x, h.1) | inr x ↦ inr (x, h.1) ],
     )
 
--- ---- one item, lead by lead
--- some of the leads goes to q by a group with the class c
-abbrev pub EdgeTo : List Group → List Lead → ℕ → ℕ → Type 0
-EdgeTo groups leads c q = (l : Lead) × (Contains leads l × (l.to ≡ q) × HasClass groups l.group c)
+-- ---- one item, group by group
+-- some edge group goes to q, by a group with the class c
+abbrev pub EdgeTo : List Group → List EdgeGroup → ℕ → ℕ → Type 0
+EdgeTo groups edge_groups c q = (l : EdgeGroup) × (Contains edge_groups l × (l.to ≡ q) × HasClass groups l.group c)
 
 -- one of their groups has the boundary k
-abbrev pub EdgeBoundary : List Group → List Lead → ℕ → Type 0
-EdgeBoundary groups leads k = (l : Lead) × (Contains leads l × HasCut groups l.group k)
+abbrev pub EdgeBoundary : List Group → List EdgeGroup → ℕ → Type 0
+EdgeBoundary groups edge_groups k = (l : EdgeGroup) × (Contains edge_groups l × HasBoundary groups l.group k)
 
--- the leads of a state are these
-pub leads_are : (nfas : List NfaLeads) (i p : ℕ) (ls : List Lead) (l : Lead) → AreLeadsOf nfas i p ls → IsLeadOf nfas i p l ↔ Contains ls l
-leads_are nfas i p ls l are = (λ h. there are h, λ h. (ls, (are, h)))
+-- these are the edge groups of a state
+pub edge_groups_are : (nfas : List NfaEdgeGroups) (i p : ℕ) (ls : List EdgeGroup) (l : EdgeGroup) → AreEdgeGroupsOf nfas i p ls → IsEdgeGroupOf nfas i p l ↔ Contains ls l
+edge_groups_are nfas i p ls l are = (λ h. there are h, λ h. (ls, (are, h)))
   where
-    there : AreLeadsOf nfas i p ls → IsLeadOf nfas i p l → Contains ls l
+    there : AreEdgeGroupsOf nfas i p ls → IsEdgeGroupOf nfas i p l → Contains ls l
     there (x, y, (at, own, is)) (ks, ((z, w, (at2, own2, is2)), h)) =
         let e : z ≡ x = (let f : Some z ≡ Some x = sym at2 ∙ at in cc) in
-        let g : w ≡ y = (let f : Some w ≡ Some y = sym (subst (λ (n : NfaLeads). slice_get n.states.items p ≡ Some w) e own2) ∙ own in cc) in
-        subst (λ (xs : List Lead). Contains xs l) (is2 ∙ (ap (λ (s : StateLeads). s.leads.items) g ∙ sym is)) h
+        let g : w ≡ y = (let f : Some w ≡ Some y = sym (subst (λ (n : NfaEdgeGroups). slice_get n.states.items p ≡ Some w) e own2) ∙ own in cc) in
+        subst (λ (xs : List EdgeGroup). Contains xs l) (is2 ∙ (ap (λ (s : StateEdgeGroups). s.edge_groups.items) g ∙ sym is)) h
 
-module _ (groups : List Group) (leads : List Lead) (k : ℕ) (lead : Lead) (within : k < length leads) (read : lead ≡ get_or leads k lead) where
-  -- the boundaries of one more lead
-  pub boundary_more : (old boundaries new : List ℕ) (j : ℕ) → Contains boundaries j ↔ (Contains old j ⊎ EdgeBoundary groups (take k leads) j) → Contains new j ↔ (Contains boundaries j ⊎ HasCut groups lead.group j)
-      → Contains new j ↔ (Contains old j ⊎ EdgeBoundary groups (take (k + 1) leads) j)
+module _ (groups : List Group) (edge_groups : List EdgeGroup) (k : ℕ) (edge_group : EdgeGroup) (within : k < length edge_groups) (read : edge_group ≡ get_or edge_groups k edge_group) where
+  -- the boundaries of one more edge group
+  pub boundary_more : (old boundaries new : List ℕ) (j : ℕ) → Contains boundaries j ↔ (Contains old j ⊎ EdgeBoundary groups (take k edge_groups) j) → Contains new j ↔ (Contains boundaries j ⊎ HasBoundary groups edge_group.group j)
+      → Contains new j ↔ (Contains old j ⊎ EdgeBoundary groups (take (k + 1) edge_groups) j)
   boundary_more old boundaries new j had more = (
     λ h. elim (more.0 h) [
-      | inl x ↦ elim (had.0 x) [ inl y ↦ inl y | inr (m, (member, boundary)) ↦ inr (m, ((taken_more leads k lead m within read).0 (inl member), boundary)) ]
-      | inr boundary ↦ inr (lead, ((taken_more leads k lead lead within read).0 (inr refl), boundary))
+      | inl x ↦ elim (had.0 x) [ inl y ↦ inl y | inr (m, (member, boundary)) ↦ inr (m, ((taken_more edge_groups k edge_group m within read).0 (inl member), boundary)) ]
+      | inr boundary ↦ inr (edge_group, ((taken_more edge_groups k edge_group edge_group within read).0 (inr refl), boundary))
     ],
     λ h. more.1 (elim h [
       | inl y ↦ inl (had.1 (inl y))
-      | inr (m, (member, boundary)) ↦ elim ((taken_more leads k lead m within read).1 member) [
+      | inr (m, (member, boundary)) ↦ elim ((taken_more edge_groups k edge_group m within read).1 member) [
         | inl before ↦ inl (had.1 (inr (m, (before, boundary))))
-        | inr here ↦ inr (subst (λ (x : Lead). HasCut groups x.group j) here boundary)
+        | inr here ↦ inr (subst (λ (x : EdgeGroup). HasBoundary groups x.group j) here boundary)
       ]
     ]),
   )
 
-  module _ (group : Group) (at : slice_get groups lead.group ≡ Some group) where
-    the_group : (l : Lead) (x : Group) → l ≡ lead → slice_get groups l.group ≡ Some x → x ≡ group
-    the_group l x same there = (let f : Some x ≡ Some group = sym there ∙ (ap (λ (m : Lead). slice_get groups m.group) same ∙ at) in cc)
+  module _ (group : Group) (at : slice_get groups edge_group.group ≡ Some group) where
+    the_group : (l : EdgeGroup) (x : Group) → l ≡ edge_group → slice_get groups l.group ≡ Some x → x ≡ group
+    the_group l x same there = (let f : Some x ≡ Some group = sym there ∙ (ap (λ (m : EdgeGroup). slice_get groups m.group) same ∙ at) in cc)
 
     -- its edges
-    pub edge_more : (item : Item) (edge : Transition) → edge ≡ record { item = item; to = lead.to } → (c : ℕ) (l : Transition)
-        → (((l.item ≡ item) × EdgeTo groups (take k leads) c l.to) ⊎ (Contains group.classes.items c × (l ≡ edge))) ↔ ((l.item ≡ item) × EdgeTo groups (take (k + 1) leads) c l.to)
+    pub edge_more : (item : Item) (edge : Transition) → edge ≡ record { item = item; to = edge_group.to } → (c : ℕ) (l : Transition)
+        → (((l.item ≡ item) × EdgeTo groups (take k edge_groups) c l.to) ⊎ (Contains group.classes.items c × (l ≡ edge))) ↔ ((l.item ≡ item) × EdgeTo groups (take (k + 1) edge_groups) c l.to)
     edge_more item edge is c l = (
       λ h. elim h [
-        | inl (same, (m, (member, to, has))) ↦ (same, (m, ((taken_more leads k lead m within read).0 (inl member), to, has)))
+        | inl (same, (m, (member, to, has))) ↦ (same, (m, ((taken_more edge_groups k edge_group m within read).0 (inl member), to, has)))
         | inr (has, same) ↦ (
           ap (λ (x : Transition). x.item) (same ∙ is),
-          (lead, ((taken_more leads k lead lead within read).0 (inr refl), sym (ap (λ (x : Transition). x.to) (same ∙ is)), (group, (at, has)))),
+          (edge_group, ((taken_more edge_groups k edge_group edge_group within read).0 (inr refl), sym (ap (λ (x : Transition). x.to) (same ∙ is)), (group, (at, has)))),
         )
       ],
-      λ (same, (m, (member, to, has))). elim ((taken_more leads k lead m within read).1 member) [
+      λ (same, (m, (member, to, has))). elim ((taken_more edge_groups k edge_group m within read).1 member) [
         | inl before ↦ inl (same, (m, (before, to, has)))
         | inr here ↦
             (let e : has.0 ≡ group = the_group m has.0 here has.1.0 in
-            let target : l.to ≡ lead.to = sym to ∙ ap (λ (x : Lead). x.to) here in
-            let all : l ≡ record { item = item; to = lead.to } = ap₂ (λ (x : Item) (q : ℕ). let y : Transition = record { item = x; to = q } in y) same target in
+            let target : l.to ≡ edge_group.to = sym to ∙ ap (λ (x : EdgeGroup). x.to) here in
+            let all : l ≡ record { item = item; to = edge_group.to } = ap₂ (λ (x : Item) (q : ℕ). let y : Transition = record { item = x; to = q } in y) same target in
             inr (subst (λ (x : Group). Contains x.classes.items c) e has.1.1, all ∙ sym is))
       ],
     )
 
--- gained by another name
+-- the same under another name
 pub gained_like : {E F : ℕ → Transition → Type 0} → (old new : List Transitions) → Gained old new E → ((c : ℕ) (l : Transition) → E c l ↔ F c l) → Gained old new F
 gained_like old new g same = (
   g.0,
@@ -139,25 +139,25 @@ gained_like old new g same = (
   ),
 )
 
--- a lead that is read from the leads of a state is a lead of it
-pub edge_there : (nfas : List NfaLeads) (i p : ℕ) (ls : List Lead) (k : ℕ) (l : Lead) → AreLeadsOf nfas i p ls → k < length ls → l ≡ get_or ls k l → IsLeadOf nfas i p l
+-- an edge group that is read from the edge groups of a state is an edge group of it
+pub edge_there : (nfas : List NfaEdgeGroups) (i p : ℕ) (ls : List EdgeGroup) (k : ℕ) (l : EdgeGroup) → AreEdgeGroupsOf nfas i p ls → k < length ls → l ≡ get_or ls k l → IsEdgeGroupOf nfas i p l
 edge_there nfas i p ls k l are within is = (ls, (are, (k, within, sym is)))
 
--- once all leads are taken
-pub edges_of_state : (a : Classes) (x : Item) (leads : List Lead) → AreLeadsOf a.nfas x.0 x.1 leads → (c : ℕ) (l : Transition) → ((l.item ≡ x) × EdgeTo a.groups leads c l.to) ↔ ((l.item ≡ x) × LeadsBy a x.0 x.1 c l.to)
-edges_of_state a x leads are c l = (
-  λ (same, (m, (member, to, has))). (same, (m, ((leads_are a.nfas x.0 x.1 leads m are).1 member, to, has))),
-  λ (same, (m, (member, to, has))). (same, (m, ((leads_are a.nfas x.0 x.1 leads m are).0 member, to, has))),
+-- once all edge groups are visited
+pub edges_of_state : (a : Classes) (x : Item) (edge_groups : List EdgeGroup) → AreEdgeGroupsOf a.nfas x.0 x.1 edge_groups → (c : ℕ) (l : Transition) → ((l.item ≡ x) × EdgeTo a.groups edge_groups c l.to) ↔ ((l.item ≡ x) × LeadsBy a x.0 x.1 c l.to)
+edges_of_state a x edge_groups are c l = (
+  λ (same, (m, (member, to, has))). (same, (m, ((edge_groups_are a.nfas x.0 x.1 edge_groups m are).1 member, to, has))),
+  λ (same, (m, (member, to, has))). (same, (m, ((edge_groups_are a.nfas x.0 x.1 edge_groups m are).0 member, to, has))),
 )
 
-pub boundaries_of_state : (a : Classes) (i p : ℕ) (leads : List Lead) (old new : List ℕ) → AreLeadsOf a.nfas i p leads → ((k : ℕ) → Contains new k ↔ (Contains old k ⊎ EdgeBoundary a.groups leads k)) → (k : ℕ) → Contains new k ↔ (Contains old k ⊎ CutsAt a i p k)
-boundaries_of_state a i p leads old new are had k = (
-  λ h. elim ((had k).0 h) [ inl x ↦ inl x | inr (m, (member, boundary)) ↦ inr (m, ((leads_are a.nfas i p leads m are).1 member, boundary)) ],
-  λ h. (had k).1 (elim h [ inl x ↦ inl x | inr (m, (member, boundary)) ↦ inr (m, ((leads_are a.nfas i p leads m are).0 member, boundary)) ]),
+pub boundaries_of_state : (a : Classes) (i p : ℕ) (edge_groups : List EdgeGroup) (old new : List ℕ) → AreEdgeGroupsOf a.nfas i p edge_groups → ((k : ℕ) → Contains new k ↔ (Contains old k ⊎ EdgeBoundary a.groups edge_groups k)) → (k : ℕ) → Contains new k ↔ (Contains old k ⊎ HasBoundaryAt a i p k)
+boundaries_of_state a i p edge_groups old new are had k = (
+  λ h. elim ((had k).0 h) [ inl x ↦ inl x | inr (m, (member, boundary)) ↦ inr (m, ((edge_groups_are a.nfas i p edge_groups m are).1 member, boundary)) ],
+  λ h. (had k).1 (elim h [ inl x ↦ inl x | inr (m, (member, boundary)) ↦ inr (m, ((edge_groups_are a.nfas i p edge_groups m are).0 member, boundary)) ]),
 )
 
 -- ---- item by item
--- one more class has no edge
+-- one more class without edges
 pub bare_more : (by_class new : List Transitions) (t : Transitions) → AreBare by_class → t.list.items ≡ [] → new ≡ by_class ++ t ∷ [] → AreBare new
 bare_more by_class new t bare empty is c u at = elim (pushed_cases by_class t c u (rw is at at)) [
   | inl before ↦ bare c u before
@@ -180,7 +180,7 @@ module _ (a : Classes) (items : List Item) (k : ℕ) (item : Item) (within : k <
   )
 
   -- its boundaries
-  pub item_boundaries : (old new : List ℕ) → AreBoundariesOf a (take k items) old → ((j : ℕ) → Contains new j ↔ (Contains old j ⊎ CutsAt a item.0 item.1 j)) → AreBoundariesOf a (take (k + 1) items) new
+  pub item_boundaries : (old new : List ℕ) → AreBoundariesOf a (take k items) old → ((j : ℕ) → Contains new j ↔ (Contains old j ⊎ HasBoundaryAt a item.0 item.1 j)) → AreBoundariesOf a (take (k + 1) items) new
   item_boundaries old new had more j = (
     λ h. elim ((more j).0 h) [
       | inl x ↦ (let (y, (member, boundary)) = (had j).0 x in (y, ((taken_more items k item y within read).0 (inl member), boundary)))
@@ -188,11 +188,11 @@ module _ (a : Classes) (items : List Item) (k : ℕ) (item : Item) (within : k <
     ],
     λ (y, (member, boundary)). (more j).1 (elim ((taken_more items k item y within read).1 member) [
       | inl before ↦ inl ((had j).1 (y, (before, boundary)))
-      | inr same ↦ inr (subst (λ (x : Item). CutsAt a x.0 x.1 j) same boundary)
+      | inr same ↦ inr (subst (λ (x : Item). HasBoundaryAt a x.0 x.1 j) same boundary)
     ]),
   )
 
--- once all are taken
+-- once all are visited
 pub all_gathered : (a : Classes) (items : List Item) (bare new : List Transitions) → length bare ≡ a.count → AreBare bare → Gained bare new (λ c l. Contains items l.item × LeadsBy a l.item.0 l.item.1 c l.to) → AreGathered a items new
 all_gathered a items bare new count none got = (
   got.0 ∙ count,

@@ -47,7 +47,7 @@ numbers_then i d used numbers l read within are = record {
 pub numbers_last : (i : ℕ) (used : List ℕ) (numbers : List (Option ℕ)) → length used ≤ i → AreNumbersFrom i used numbers → IsEmptyMemo numbers
 numbers_last i used numbers end are c j at = (let (k, (low, high, is)) = are.from c j at in omega (arith, low, high, end))
 
--- ---- what it knows
+-- ---- what it holds
 pub memo_empty : (ns : List Graph) (s : List Item) (by_class : List Transitions) (memo : Memo) (sets : List (List Item)) → IsEmptyMemo memo.by_class.items → IsEmpty memo.by_edges → IsMemoOf ns s by_class memo sets
 memo_empty ns s by_class memo sets none empty = record {
   edges = λ e j v found are. (let clash : None ≡ Some j = sym (no_entry e) ∙ found in cc);
@@ -71,7 +71,7 @@ memo_found ns s by_class memo sets c j v is (t, (at, are)) (inr (u, (there, foun
     let same : u ≡ t = (let f : Some u ≡ Some t = sym there ∙ at in cc) in
     is.edges u j v found (subst (λ (z : Transitions). AreTransitions ns s v z.list.items) (sym same) are)
 
--- a number comes to the edges of a class, then to the class
+-- a number is recorded for the edges of a class, then for the class
 pub memo_inserted : (ns : List Graph) (s : List Item) (by_class : List Transitions) (old new : BTreeMap Transitions ℕ) (sets : List (List Item)) (c j v : ℕ) → IsEdgeMemo ns s old sets
     → (t : Transitions) × ((slice_get by_class c ≡ Some t) × AreTransitions ns s v t.list.items) → slice_get sets j ≡ Some (move ns s v) → OnlyAdds old by_class c j new → IsEdgeMemo ns s new sets
 memo_inserted ns s by_class old new sets c j v is (t, (at, these)) to only e i w found are = elim (only e t i found at) [

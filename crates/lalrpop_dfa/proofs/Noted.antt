@@ -1,4 +1,4 @@
--- Which classes are noted while edges come to a scratch, and while it is cleared.
+-- Which classes are noted while edges are added to a scratch, and while it is cleared.
 use Rattle.std.proofs.Common.{◌≡◌, ℕ, ◌<◌, ◌⊎◌, inl, inr, List, [], ◌∷◌, ◌++◌, length, slice_set, refl, sym, subst, arith}
 use Rattle.std.specs.Prelude.{slice_get, Some}
 use Rattle.std.specs.List.{Contains}
@@ -15,7 +15,7 @@ last used i = Contains-append_right used (i ∷ []) i (0, omega arith, refl)
 before_last : (used : List ℕ) (i c : ℕ) → Contains (used ++ i ∷ []) c → Contains used c ⊎ (c ≡ i)
 before_last used i c h = elim (Contains-append_cases used (i ∷ []) c h) [ inl x ↦ inl x | inr x ↦ inr (sym (contains_only i c x)) ]
 
--- another edge comes to a class that is noted
+-- another edge is added to a class that is noted
 pub noted_again : (by_class : List Transitions) (used : List ℕ) (i : ℕ) (more : Transitions) → AreNoted by_class used → i < length by_class → Contains used i → AreNoted (slice_set by_class i more) used
 noted_again by_class used i more noted within has = record {
   within = λ k h. (let below = noted.within k h in omega (arith, below, length-set by_class i more));
@@ -25,7 +25,7 @@ noted_again by_class used i more noted within has = record {
   ];
 }
 
--- the first edge comes to a class, which is noted
+-- the first edge is added to a class, which is noted
 pub noted_first : (by_class : List Transitions) (used used2 : List ℕ) (i : ℕ) (more : Transitions) → AreNoted by_class used → i < length by_class → used2 ≡ used ++ i ∷ [] → AreNoted (slice_set by_class i more) used2
 noted_first by_class used used2 i more noted within is = rw is (noted_again by_class (used ++ i ∷ []) i more with_it within (last used i))
   where
@@ -52,6 +52,6 @@ noted_less by_class used used2 i none noted is empty = record {
 pub has_noted : (by_class : List Transitions) (used : List ℕ) (c : ℕ) (t : Transitions) → AreNoted by_class used → slice_get by_class c ≡ Some t → (t.list.items ≡ [] → ⊥) → Contains used c
 has_noted by_class used c t noted at some = elim (noted.all c t at) [ inl none ↦ absurd (some none) | inr has ↦ has ]
 
--- the last of the noted classes is within
+-- the last of the noted classes is within bounds
 pub pushed_within : (by_class : List Transitions) (used used2 : List ℕ) (i : ℕ) → AreNoted by_class used → used ≡ used2 ++ i ∷ [] → i < length by_class
 pushed_within by_class used used2 i noted is = noted.within i (rw is (last used2 i))

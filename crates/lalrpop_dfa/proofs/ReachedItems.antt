@@ -21,7 +21,7 @@ use Rattle.lalrpop_items.proofs.Targets.{item_targets_parts, item_targets_have, 
 use Rattle.lalrpop_items.proofs.Sets.{closed_parts, closed_has, move_parts, move_has, first_set_ascends, move_ascends}
 use Rattle.lalrpop_items.proofs.Follows.{follows_place, follows_path, path_follows}
 
--- where START states stand
+-- where the START states are
 starts_parts : (i : ℕ) (gs : List Graph) (y : Item) → Has (starts_from i gs) y → y.1 ≡ start_state
 starts_parts i [] y h = absurd h
 starts_parts i (g ∷ gs) y (inl e) = ap (λ z. z.1) (sym e)

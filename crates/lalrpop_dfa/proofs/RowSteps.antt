@@ -20,14 +20,14 @@ use Rattle.lalrpop_dfa.proofs.Steps.{breadth_first_gap, breadth_first_added, bre
 use Rattle.lalrpop_dfa.proofs.Dead.{uncovered_dead, covered_small}
 use Rattle.lalrpop_dfa.proofs.LeavingBlocks.{outside_blocks, inside_block}
 
--- sets that have a number keep it
+-- sets with a number keep it
 pub added_keeps : {S : Type 0} (m : Automaton S) (sets : List S) (origins : List (ℕ × ℕ)) (n v : ℕ) (t : S) (j : ℕ) (sets2 : List S) (origins2 : List (ℕ × ℕ))
     → Added m sets origins n v t j sets2 origins2 → (k : ℕ) → k < length sets → (k < length sets2) × (nth m sets2 k ≡ nth m sets k)
 added_keeps m sets origins n v t j sets2 origins2 (inl (l, e, a, b)) k kl = rw a (kl, refl)
 added_keeps m sets origins n v t j sets2 origins2 (inr (none, e, a, b)) k kl =
     rw a (omega (arith, length_push sets t), get_or_append_left sets (t ∷ []) m.start k kl)
 
--- the number that is given is that of the set
+-- the number that is returned is that of the set
 pub added_is : {S : Type 0} (m : Automaton S) (sets : List S) (origins : List (ℕ × ℕ)) (n v : ℕ) (t : S) (j : ℕ) (sets2 : List S) (origins2 : List (ℕ × ℕ))
     → Added m sets origins n v t j sets2 origins2 → (j < length sets2) × (nth m sets2 j ≡ t)
 added_is m sets origins n v t j sets2 origins2 (inl (l, e, a, b)) = rw a (l, e)
@@ -179,7 +179,7 @@ module _ (ts : List Tree) (ns : List Graph) (h : AreCompiled ts ns) (s : List It
     | inr (inr none) ↦ absurd none
   ]
 
-  -- they lead there still when another set is added
+  -- they still lead there when another set is added
   pub tests_lead_kept : (sets : List (List Item)) (origins : List (ℕ × ℕ)) (n v j : ℕ) (u : List Item) (sets2 : List (List Item)) (origins2 : List (ℕ × ℕ)) (tests : List (Range × ℕ))
       → Added (subset_automaton ns) sets origins n v u j sets2 origins2 → TestsLead sets tests → TestsLead sets2 tests
   tests_lead_kept sets origins n v j u sets2 origins2 tests added before t c m k =

@@ -22,7 +22,7 @@ use Rattle.lalrpop_items.proofs.Moved.{dead_states}
 pub dead_accepts_none : (s : List Item) → is_dead s ≡ true → (i : ℕ) → Contains s (i, accept_state) → ⊥
 dead_accepts_none s d i h = let e : accept_state ≡ reject_state = dead_states s d (i, accept_state) (has_from s (i, accept_state) h) in omega arith
 
--- a set has one kind
+-- a set has only one kind
 pub kinds_same : (ps : List ℕ) (s : List Item) (k l : Kind) → IsKindOf ps s k → IsKindOf ps s l → k ≡ l
 kinds_same ps s (Accepts i) (Accepts j) a b = ap (λ (n : ℕ). Accepts n) (b.1 i a.0)
 kinds_same ps s (Accepts i) Reject a b = absurd (dead_accepts_none s b i a.0.0)
@@ -34,7 +34,7 @@ kinds_same ps s Neither (Accepts i) a b = absurd (a.1 i b.0.0)
 kinds_same ps s Neither Reject a b = let e : is_dead s ≡ false = a.0 in cc
 kinds_same ps s Neither Neither a b = refl
 
--- a dead set is of kind Reject, and no other is
+-- a set is of kind Reject exactly if it is dead
 pub dead_kind : (ps : List ℕ) (s : List Item) (k : Kind) → IsKindOf ps s k → is_dead s ≡ true → k ≡ Reject
 dead_kind ps s k a d = kinds_same ps s k Reject a d
 

@@ -47,7 +47,7 @@ expansion_numbers a n sets number scratch memo is = record {
       has_noted scratch.edges.lists.items scratch.edges.used.items c t is.scratch_is.tidy.noted there some;
 }
 
--- sets are added, of which the number's is none
+-- sets are added, and the number's set stays
 pub expansion_grows : (a : Labelled) (n : ℕ) (sets sets2 : List (List Item)) (number : ℕ) (scratch : Scratch) (memo : Memo) (s : List Item) → IsExpansion a n sets number scratch memo → slice_get sets number ≡ Some s → Extends sets sets2
     → IsExpansion a n sets2 number scratch memo
 expansion_grows a n sets sets2 number scratch memo s is here more = record {
@@ -66,7 +66,7 @@ module _ (a : Labelled) (n : ℕ) (sets : List (List Item)) (number : ℕ) (scra
   only : (t : List Item) → slice_get sets number ≡ Some t → IsMemoOf a.graphs s scratch.edges.lists.items memo2 sets → IsMemoOf a.graphs t scratch.edges.lists.items memo2 sets
   only t at memo_of = (let same : s ≡ t = (let f : Some s ≡ Some t = sym here ∙ at in cc) in subst (λ u. IsMemoOf a.graphs u scratch.edges.lists.items memo2 sets) same memo_of)
 
-  -- a number that was found comes to the edges of the class
+  -- a number that was found is recorded for the edges of the class
   pub expansion_inserted : memo2.by_class.items ≡ memo.by_class.items → OnlyAdds memo.by_edges scratch.edges.lists.items c j memo2.by_edges → IsExpansion a n sets number scratch memo2
   expansion_inserted same adds = record {
     automata_are = is.automata_are;
@@ -83,7 +83,7 @@ module _ (a : Labelled) (n : ℕ) (sets : List (List Item)) (number : ℕ) (scra
   within : c < length memo.by_class.items
   within = (let (t, (at, are)) = takes in omega (arith, is.count, slice_get_within scratch.edges.lists.items c t at))
 
-  -- and to the class
+  -- and for the class
   pub expansion_noted : has_edges (slice_get scratch.edges.lists.items c) ≡ true → memo2.by_class.items ≡ slice_set memo.by_class.items c (Some j) → memo2.by_edges ≡ memo.by_edges → IsExpansion a n sets number scratch memo2
   expansion_noted edges notes same = record {
     automata_are = is.automata_are;

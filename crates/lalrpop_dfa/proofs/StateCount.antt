@@ -42,7 +42,7 @@ code_same (true ∷ xs) (false ∷ ys) l e = absurd (omega arith)
 code_same (false ∷ xs) (true ∷ ys) l e = absurd (omega arith)
 code_same (false ∷ xs) (false ∷ ys) l e = ap (λ (bs : List Bool). false ∷ bs) (code_same xs ys (omega arith) (omega arith))
 
--- distinct things that k tests tell apart are at most 2 ^ k
+-- at most 2 ^ k things differ in k tests
 at_most_power : {S : Type 0} (f : S → List Bool) (sets : List S) (k : ℕ) (d : S) → ((s : S) → length (f s) ≡ k)
     → ((i j : ℕ) → i < length sets → j < length sets → f (get_or sets i d) ≡ f (get_or sets j d) → i ≡ j) → length sets ≤ 2 ^ k
 at_most_power {S} f sets k d long one =
@@ -107,7 +107,7 @@ module _ (ns : List Graph) where
   after_items = from_the_end (λ (w : List ℕ). (x : Item) → Contains (after (subset_automaton ns) (first_set_of ns) w) x → IsItemOf ns x) (first_set_items ns)
       (λ w c _. rw (after_push (subset_automaton ns) (first_set_of ns) w c) (move_items ns (after (subset_automaton ns) (first_set_of ns) w) c))
 
-  -- a numbering has no more sets than there are sets of items
+  -- a numbering has at most as many sets as there are sets of items
   pub states_bound : (sets : List (List Item)) (origins : List (ℕ × ℕ)) (n v : ℕ) → IsBreadthFirst (subset_automaton ns) sets origins n v → length sets ≤ 2 ^ length (all_items ns)
   states_bound sets origins n v num = at_most_power (bits (all_items ns)) sets (length (all_items ns)) (first_set_of ns) (λ s. length-map (all_items ns) (λ x. list_any (same_item x) s)) one
     where

@@ -9,7 +9,7 @@ below_push xs y k l =
     let e : length (xs ++ y ∷ []) ≡ length xs + 1 = length_push xs y in
     ⊎_elim (λ (a : k < length xs). inl a) (λ (a : length xs ≤ k). inr (omega arith)) (cases_lt k (length xs))
 
--- a place that is behind (n, a) is behind (n, b)
+-- a place that is after (n, a) is after (n, b)
 before_more : (o x n a b : ℕ) → a ≤ b → Before o x n a → Before o x n b
 before_more o x n a b l (inl h) = inl h
 before_more o x n a b l (inr h) = inr (h.0, omega (arith, h.1))

@@ -47,7 +47,7 @@ module _ (old new : BTreeSet (ℕ × ℕ)) (cs : List Entry) (c : Entry) (h : Ar
   key_pair : (i j : ℕ) → c.match0 ≡ i → c.match1 ≡ j → let k : ℕ × ℕ = (c.match0, c.match1) in let q : ℕ × ℕ = (i, j) in k ≡ q
   key_pair i j e f = ap₂ (λ (a b : ℕ). let z : ℕ × ℕ = (a, b) in z) e f
 
-  -- it is new: it is added
+  -- it has no entry: it is added
   pub pairs_more : (cs2 : List Entry) → cs2 ≡ cs ++ c ∷ [] → ArePairsOf new cs2
   pairs_more cs2 more i j = (
     λ k. rw more (elim (set_come item_total item_exact old new (c.match0, c.match1) u (i, j) k) [
@@ -60,7 +60,7 @@ module _ (old new : BTreeSet (ℕ × ℕ)) (cs : List Entry) (c : Entry) (h : Ar
     ],
   )
 
-  -- it was there
+  -- it has an entry
   pub pairs_same : (cs2 : List Entry) → HasPair cs c.match0 c.match1 → cs2 ≡ cs → ArePairsOf new cs2
   pairs_same cs2 there same i j = (
     λ k. rw same (elim (set_come item_total item_exact old new (c.match0, c.match1) u (i, j) k) [
@@ -128,7 +128,7 @@ module _ (strongest w : List ℕ) (cs : List Entry) where
       narrow p q l (inl a) = ⊎_elim (λ (b : k < p). inl b) (λ (b : p ≤ k). inr (omega (arith, e), omega arith)) (cases_lt k p)
       narrow p q l (inr a) = absurd (omega (arith, a.0, a.1))
 
-  -- one pair more
+  -- one more pair
   module _ (ascending : AreAscending strongest) (cs2 cs3 : List Entry) (u v i j : ℕ) (at_u : slice_get strongest u ≡ Some i) (at_v : slice_get strongest v ≡ Some j) (below : v < u) where
     abbrev c : Entry
     c = record { match0 = i; match1 = j; word = w }
@@ -159,7 +159,7 @@ module _ (strongest w : List ℕ) (cs : List Entry) where
       in_order = t.in_order;
     }
 
-    -- those before stand before it
+    -- the earlier entries stand before it
     before_it : (es : List Entry) → AreTiesTo strongest w cs es u (v + 1) → (d : Entry) → Contains es d → StandsBefore d c
     before_it es t d h = (let f = t.each d h in inr (f.0, places f.1.0 f.1.1 f.1.2.1 f.1.2.2 f.1.2.3))
       where

@@ -110,7 +110,7 @@ tied_is_clash ts ps ns sets origins n i j h num l kinds tied small = record {
         (tied_true ps (nth (subset_automaton ns) sets n) i j tied.less tied.greatest tied.second)
         (λ k m t. let a = kinds k m in kind_not_tied_true ps (nth (subset_automaton ns) sets k) a.0 a.1 t)
 
--- the same, where each number below has its row
+-- the same, if each number below has its row
 pub tied_is_clash_after_rows : (ts : List Tree) (ps : List ℕ) (ns : List Graph) (sets : List (List Item)) (origins : List (ℕ × ℕ)) (d : List Row) (n i j : ℕ) → AreCompiled ts ns
     → IsBreadthFirst (subset_automaton ns) sets origins n 0 → n < length sets → length d ≡ n
     → ((k : ℕ) (r : Row) → slice_get d k ≡ Some r → IsRowOf ns ps sets k r)

@@ -1,5 +1,5 @@
 -- cases: proofs/Cases/Agree.antt
--- When the longest match of a pattern's own automaton, and that of the automaton of a list of this pattern alone, agree.
+-- When two longest matches agree: one of a pattern's own automaton, one of the automaton of a list of only this pattern.
 use Rattle.std.specs.Prelude.{◌≡◌, ℕ, List, [], ◌∷◌, Option, Some, None}
 
 -- both give the same nonempty prefix, the second with the index 0, or neither gives a nonempty one

@@ -30,14 +30,14 @@ pub record HoldsItems (ns : List Graph) (d : List Row) : Type 0 where
   -- no two states hold the same items
   pub distinct : (p q : ℕ) (r s : Row) → slice_get d p ≡ Some r → slice_get d q ≡ Some s
       → ((x : Item) → Contains r.items x ↔ Contains s.items x) → p ≡ q
-  -- a state is a reject state where it holds nothing but REJECT states
+  -- a state is a reject state exactly if it holds only REJECT states
   pub rejects : (p : ℕ) (r : Row) → slice_get d p ≡ Some r → (r.kind ≡ Reject) ↔ ((x : Item) → Contains r.items x → x.1 ≡ reject_state)
 
 -- the other edges lead to reject states
 abbrev pub OthersReject : List Row → Type 0
 OthersReject d = (p : ℕ) (r s : Row) → slice_get d p ≡ Some r → slice_get d r.other ≡ Some s → s.kind ≡ Reject
 
--- states that aren't reject states stand in the shortlex order of the least words that lead to them
+-- the states that aren't reject states are in the shortlex order of the least words that lead to them
 abbrev pub IsInWordOrder : List Row → Type 0
 IsInWordOrder d = (p q : ℕ) (r s : Row) → p < q → slice_get d p ≡ Some r → slice_get d q ≡ Some s → r.kind ≢ Reject → s.kind ≢ Reject
     → (v : List ℕ) × (IsWord v × (after d v ≡ p) × ((w : List ℕ) → after d w ≡ q → Shortlex v w))

@@ -1,4 +1,4 @@
--- of the book, what the contracts of this crate name
+-- from the book: what this crate's contracts name
 pub use Rattle.lalrpop_book.specs.Word
 pub use Rattle.lalrpop_book.specs.Tree
 pub use Rattle.lalrpop_book.specs.Language
@@ -9,7 +9,7 @@ pub use Rattle.lalrpop_book.specs.Longest
 pub use Rattle.lalrpop_book.specs.Clash
 pub use Rattle.lalrpop_book.specs.Clashes
 pub use Rattle.lalrpop_book.specs.Report
--- what the contracts of this crate name of those below
+-- from the crates below: what this crate's contracts name
 pub use Rattle.lalrpop_ranges.specs.Partition
 pub use Rattle.lalrpop_kernels.specs.Kernels
 pub use Rattle.lalrpop_items.specs.Automata
@@ -19,5 +19,5 @@ pub use Rattle.lalrpop_table.specs.Lookahead
 pub use Rattle.lalrpop_table.specs.SameAutomata
 pub mod Items
 pub mod Agree
--- what private functions promise one another, which no promise to a caller names
+-- what private functions promise each other; public clauses do not name it
 pub mod Internal

@@ -16,12 +16,12 @@ use lalrpop_nfa::Nfa;
 use std::alloc::{AllocError, Global};
 use std::marker::Model;
 
-/// Two patterns that are two of the strongest on some word, and the least such word.
+/// Two patterns that are both among the strongest on some word, and the least such word.
 #[derive(Debug, Drop)]
 pub struct Clash {
-    /// The greater place of the two in the list of patterns.
+    /// The greater index of the two in the list of patterns.
     pub match0: NfaIndex,
-    /// The other place.
+    /// The other index.
     pub match1: NfaIndex,
     /// The shortest, then least, word on which both are among the strongest, by the code values of its characters.
     pub word: Vec<u32>,
@@ -35,7 +35,7 @@ impl Model for Clash {
     ghost view = { λ c. record { match0 = c.match0; match1 = c.match1; word = c.word.items } };
 }
 
-// Precedences of which no two are equal.
+// Precedences that are all different.
 fn distinct_precedences(alloc: Global, count: usize) -> Result<Vec<Precedence>, AllocError>
     ensures { IfOk result (λ ps. AreOwn count (map (λ p. p.0) ps.items)) }
 {
@@ -58,7 +58,7 @@ fn clashes_of(
         → AreClashes ts (map (λ p. p.0) precedences.now) found.items) }
     ensures err { IfErr result (λ e. (ts : List Tree) → AreCompiled ts nfas.now → IsFaultOf ts e) }
 {
-    // Where no two precedences are equal, no two patterns tie, so that all sets are made.
+    // If all precedences differ, no two patterns tie, so all sets are made.
     let distinct = distinct_precedences(alloc, nfas.len())?;
     let expansion = expanded(alloc, nfas, &distinct)?;
     let mut ties = Ties::new(alloc);
@@ -70,13 +70,13 @@ fn clashes_of(
     Ok(ties.clashes)
 }
 
-/// All pairs of patterns that clash anywhere: that are two of the strongest on some word, each with the least such word. They
-/// stand in the order of their words; at one word the greater `match0` comes first, then the greater `match1`. The list is
-/// empty where `build_dfa` makes an automaton; else its first entry is the clash that `build_dfa` reports.
+/// All pairs of patterns that clash: both are among the strongest on some word. Each comes with the least such word, in the
+/// order of these words; at one word the greater `match0` comes first, then the greater `match1`. The list is empty if
+/// `build_dfa` makes an automaton; otherwise its first entry is the clash that `build_dfa` reports.
 ///
 /// # Errors
 ///
-/// The first pattern that has a fault, and out of memory; never `Ambiguity`.
+/// The first pattern that has a fault, or out of memory; never `Ambiguity`.
 pub fn clashes(
     alloc: Global,
     regexs: &[Regex],

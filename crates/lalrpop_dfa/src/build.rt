@@ -1,7 +1,7 @@
 //! The subset construction.
 //!
-//! The patterns are compiled one by one. The sets of items that words lead to are numbered as they are first met, and
-//! expanded number by number: the labels that leave a set cut the values into blocks, and each block leads to one set.
+//! The patterns are compiled one by one. The sets of items that words lead to are numbered in the order in which they are
+//! met, and expanded in that order: the labels that leave a set divide the values into blocks, and each block leads to one set.
 
 ghost use Rattle.std.specs.Prelude.{◌≡◌, ◌+◌, ◌^◌, ◌<◌, ◌≤◌, ◌↔◌, ◌++◌, ◌∷◌, [], ℕ, List, length, map, slice_get, Some, true, IfOk, IfErr, OnOk, MatchOption, IsSomeAnd, None};
 ghost use Rattle.std.specs.List.{Contains};
@@ -51,13 +51,13 @@ use sets::Sets;
 use std::alloc::{AllocError, Global};
 use std::marker::Model;
 
-/// Builds the automaton of the patterns with these precedences: one precedence for each pattern. After each word its
-/// state names the only strongest pattern that matches the word.
+/// Builds the automaton of the patterns, with one precedence for each pattern. After each word, its state names the only
+/// strongest pattern that matches the word, if any does.
 ///
 /// # Errors
 ///
-/// The first pattern that has a fault; where none has, the clash on the least word on which two patterns are the
-/// strongest; and out of memory.
+/// The first pattern that has a fault; if none has, the clash on the least word on which two patterns are the
+/// strongest; or out of memory.
 pub fn build_dfa(
     alloc: Global,
     regexs: &[Regex],
@@ -99,7 +99,7 @@ pub(super) fn build(
     Ok(Dfa::new(alloc, expansion.into_rows())?)
 }
 
-/// The sets that all words lead to, and the row of each, or the clash of two patterns.
+/// The sets that words lead to, and the row of each, or the clash of two patterns.
 pub(crate) fn expanded<'given>(
     alloc: Global,
     nfas: &'given [Nfa],
@@ -118,8 +118,8 @@ pub(crate) fn expanded<'given>(
     Ok(expansion)
 }
 
-/// An automaton under construction: the sets of items by number, the number that is expanded, what leaves its set, the
-/// numbers that were found for what leaves it, and the rows of the numbers before it.
+/// An automaton under construction: the sets of items by number, the number being expanded, what leaves its set, the
+/// numbers found so far for what leaves it, and the rows of the numbers before it.
 #[derive(Drop)]
 pub(crate) struct Expansion<'given> {
     alloc: Global,
@@ -146,7 +146,7 @@ impl<'given> Model for Expansion<'given> {
 }
 
 impl<'given> Expansion<'given> {
-    /// The set that the empty word leads to, and no row.
+    /// The set that the empty word leads to, and no rows.
     fn new(
         alloc: Global,
         nfas: &'given [Nfa],
@@ -175,7 +175,7 @@ impl<'given> Expansion<'given> {
         })
     }
 
-    // The rows of all numbers in turn, until no set is left without one.
+    // Writes the rows of all numbers in order, until each set has one.
     fn run(&mut self) -> Result<(), DfaConstructionError>
         requires built { IsBuilt self.old }
         requires place { self.old.kernels.place ≡ length self.old.written.rows }
@@ -203,7 +203,7 @@ impl<'given> Expansion<'given> {
         self.sets.kernels.next()
     }
 
-    // The row of the next number, whose set this is.
+    // Writes the row of the next number, whose set this is.
     fn row(&mut self, set: ItemSet) -> Result<(), DfaConstructionError>
         requires built { IsBuilt self.old }
         requires here { slice_get self.old.kernels.list (length self.old.written.rows) ≡ Some set }
@@ -240,7 +240,7 @@ impl<'given> Expansion<'given> {
         }
     }
 
-    // Begins the next row: lays out what leaves its set, for which no number was found yet.
+    // Begins the next row: lays out what leaves its set, and empties the memo.
     fn begin(&mut self, set: &ItemSet) -> Result<(), AllocError>
         requires inside { AreItemsOf self.old.automata.graphs set.now }
         ensures number { OnOk result (self.new.number ≡ length self.old.written.rows) }
@@ -257,7 +257,7 @@ impl<'given> Expansion<'given> {
         self.automata.fill(&mut self.scratch, set)
     }
 
-    // Writes the edges of the blocks, in order: of the values from one boundary up to the next.
+    // Writes the edges of the blocks, in order. A block is the values from one boundary up to the next.
     fn blocks(&mut self, set: &ItemSet) -> Result<(), AllocError>
         requires breadth_first { IsBreadthFirst (subset_automaton self.old.automata.graphs)
             self.old.kernels.list self.old.origins self.old.number 0 }
@@ -284,7 +284,7 @@ impl<'given> Expansion<'given> {
         Ok(())
     }
 
-    // How many boundaries the labels that leave the set have.
+    // The number of boundaries of the labels that leave the set.
     fn boundary_count(&self) -> usize
         ensures { result ≡ length self.now.boundaries }
     {
@@ -321,8 +321,8 @@ impl<'given> Expansion<'given> {
         Ok(())
     }
 
-    // The number of the set that the number's set leads to by the values of a class: found in the memo, or the closure of the
-    // states that their test edges lead to. It stands apart in the machine code, so that the loop over the blocks stays small.
+    // The number of the set that the current set leads to by the values of a class: found in the memo, or the closure of the
+    // targets of their test edges. It is a call of its own in the machine code, so that the loop over the blocks stays small.
     #[inline(never)]
     fn target(
         &mut self,
@@ -349,7 +349,7 @@ impl<'given> Expansion<'given> {
         Ok(number)
     }
 
-    // The number of the set that the number's set leads to by all other values. No label reaches the greatest number, so that
+    // The number of the set that the current set leads to by all other values. No label covers the greatest value, so
     // it takes no test edge.
     fn other(&mut self, set: &ItemSet) -> Result<DfaStateIndex, AllocError>
         requires at { IsAt self.old set.now }
@@ -360,7 +360,7 @@ impl<'given> Expansion<'given> {
         self.sets.closure(&self.automata, set, &[], origin)
     }
 
-    // Ends the row of the number, whose set this is.
+    // Ends the row of the current number, whose set this is.
     fn end(&mut self, set: ItemSet, kind: Kind, other: DfaStateIndex) -> Result<(), AllocError>
         ensures written { OnOk result (self.new.written ≡ record {
           rows = self.old.written.rows ++ record {
@@ -376,7 +376,7 @@ impl<'given> Expansion<'given> {
         self.writer.end_row(set, kind, other)
     }
 
-    /// How many rows there are.
+    /// The number of rows.
     pub(crate) fn len(&self) -> usize
         ensures { result ≡ length self.now.written.rows }
     {
@@ -423,7 +423,7 @@ impl<'given> Expansion<'given> {
     }
 }
 
-// What is reported where the strongest patterns of the set with this number tie.
+// What is reported if the strongest patterns of the set with this number tie.
 fn clash_of(alloc: Global, origins: &[Origin], number: usize, tie: Tie) -> DfaConstructionError
     requires within { number < length origins.now }
     requires earlier { AreEarlier origins.now }

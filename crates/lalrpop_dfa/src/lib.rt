@@ -1,4 +1,4 @@
-//! Building the automaton of a list of patterns. The automaton itself, and what runs it, stand in lalrpop_table.
+//! Building the automaton of a list of patterns. The automaton itself, and what runs it, are in lalrpop_table.
 #![tactic(auto)]
 
 mod all_clashes;

@@ -1,4 +1,4 @@
-//! The pairs of patterns that tie in sets of items, each where it is first met.
+//! The pairs of patterns that tie in sets of items, each where it first ties.
 ghost use Rattle.std.specs.Prelude.{◌≡◌, ◌<◌, [], length, OnOk};
 ghost use Rattle.lalrpop_dfa.specs.Internal.BreadthFirst.{AreEarlier, word};
 ghost use Rattle.lalrpop_dfa.specs.Internal.Ties.{ArePairsOf, AreAscending, HasTiesTo, IsAddedOnce};
@@ -9,7 +9,7 @@ use crate::build::origin::{Origin, word_to};
 use std::alloc::{AllocError, Global};
 use std::collections::BTreeSet;
 
-/// The clashes that were found, in order, and their pairs.
+/// The clashes found so far, in order, and their pairs.
 #[derive(Drop)]
 pub(super) struct Ties {
     alloc: Global,
@@ -29,7 +29,7 @@ impl Ties {
         }
     }
 
-    // Adds the clash of a pair that ties in the set with this number, unless the pair was met before.
+    // Adds the clash of a pair that ties in the set with this number, unless the pair already has one.
     fn add(
         &mut self,
         match0: NfaIndex,
@@ -56,7 +56,7 @@ impl Ties {
         Ok(())
     }
 
-    /// Adds the clashes of the pairs of patterns that tie in the set with this number and in none before it. These are its
+    /// Adds the clashes of the pairs of patterns that tie in the set with this number and in no earlier one. These are its
     /// strongest patterns, in order.
     pub(super) fn add_all(
         &mut self,

@@ -1,4 +1,4 @@
--- The reading of brackets finds what the grammar has.
+-- The reader of brackets finds what the grammar has.
 use Rattle.std.proofs.Common.{◌≡◌, ℕ, zero, suc, ◌+◌, ◌-◌, ◌<◌, ◌≤◌, max, Bool, true, false, cond, not, nat_le, ◌==◌, List, [], ◌∷◌, ◌++◌, length, drop, Option, Some, None, refl, arith, codes, sym, ap, ◌∙◌, subst, inl, inr, append_assoc, length-append, IsTrue}
 use Rattle.std.specs.List.{list_all}
 use Rattle.std.specs.Char.{is_ascii_lowercase}
@@ -105,7 +105,7 @@ Posix-complete (a_complement {s = s} {r = r} name l e) = posix_named_complete tr
 pub no_posix : (t : Text) → posix t ≡ None → NoPosix t
 no_posix t h = λ r s n p. let k : ◌≡◌ {A = Option (Set × Bool × Text)} (Some (s, n, r)) None = sym (Posix-complete p) ∙ h in absurd cc
 
--- where no class is spelled the reading finds none
+-- where no class begins, the reader finds none
 posix_none : (t : Text) → NoPosix t → posix t ≡ None
 posix_none t h = go (posix t) refl
   where
@@ -329,7 +329,7 @@ unfolding bracket
 bracket_sound f zero t p e = absurd cc
 bracket_sound f (suc m) t p e = bracket_with_sound f m (bracket f m) (bracket_sound f m) t p e
 
--- ---- a loop that may turn more often than there are characters reads the same
+-- ---- a loop that may run more often than there are characters reads the same
 
 module _ (f : Flags) (room : ℕ) (inner : Text → Option SetPart) (sound : IsSound f room inner) where
   pub operand_enough : (n m : ℕ) (u : Union) → length u.rest < n → length u.rest < m → operand f inner n u ≡ operand f inner m u

@@ -1,4 +1,4 @@
--- The reading of escapes finds what the grammar has.
+-- The reader of escapes finds what the grammar has.
 use Rattle.std.proofs.Common.{◌≡◌, ℕ, suc, ◌<◌, ◌≤◌, Bool, true, false, cond, nat_lt, ◌&&◌, ◌==◌, List, [], ◌∷◌, ◌++◌, length, drop, take, Option, Some, None, refl, arith, codes, sym, ap, ◌∙◌, subst, inl, inr, length-append}
 use Rattle.std.specs.List.{list_all}
 use Rattle.std.specs.Char.{is_ascii_hexdigit}
@@ -50,7 +50,7 @@ first_and_last : (t : Text) → nat_lt 0 (length t) ≡ true → (d : ℕ) × (d
 first_and_last [] h = absurd cc
 first_and_last (d ∷ ds) h = (d, ds, refl)
 
--- what stands in braces
+-- what is in braces
 braced : (test : ℕ → Bool) (t : Text) → begins "{" t ≡ true → begins "}" (span test (drop 1 t)).1 ≡ true → t ≡ 123 ∷ ((span test (drop 1 t)).0 ++ 125 ∷ drop 1 (span test (drop 1 t)).1)
 braced test t h k =
     let close : 125 ∷ drop 1 (span test (drop 1 t)).1 ≡ (span test (drop 1 t)).1 = starts_is (codes "}") _ k in

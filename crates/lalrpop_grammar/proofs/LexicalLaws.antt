@@ -1,4 +1,4 @@
--- Counts, operators, flags and names: the reading finds what the grammar has.
+-- Counts, operators, flags and names: the reader finds what the grammar has.
 use Rattle.std.proofs.Common.{◌≡◌, ℕ, ◌<◌, ◌≤◌, ◌^◌, Bool, true, false, nat_lt, nat_le, ◌&&◌, ◌==◌, [], ◌∷◌, ◌++◌, length, drop, Option, Some, None, refl, arith, codes, sym, ap, ◌∙◌, subst, inl, inr, length-append}
 use Rattle.std.specs.List.{list_all}
 use Rattle.std.specs.Char.{is_ascii_digit, is_whitespace}
@@ -31,7 +31,7 @@ digit_no_space c h = sym (is_white_space-std c) ∙ std c h
     std : (c : ℕ) → is_ascii_digit c ≡ true → is_whitespace c ≡ false
     std c h = grind (arith, nat_tests)
 
--- where no character of the class stands next, written as a test on what follows
+-- the next character is not of the class, written as a test on what follows
 no_digit_next : (behind r : Text) → list_all is_white_space behind ≡ true → stops is_ascii_digit r ≡ true → stops is_ascii_digit (behind ++ r) ≡ true
 no_digit_next [] r h k = k
 no_digit_next (c ∷ behind) r h k = elim (decided (is_ascii_digit c)) [

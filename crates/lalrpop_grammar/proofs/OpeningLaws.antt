@@ -1,4 +1,4 @@
--- Flags, names and what stands behind a `(`.
+-- Flags, names and what follows a `(`.
 use Rattle.std.proofs.Common.{◌≡◌, ℕ, ◌<◌, Bool, true, false, not, nat_lt, ◌&&◌, ◌==◌, ◌⊎◌, List, [], ◌∷◌, ◌++◌, length, drop, Some, refl, codes, sym, ap, ◌∙◌, subst, inl, inr, IsTrue}
 use Rattle.std.specs.List.{list_all}
 use Rattle.std.proofs.lemmas.Bool.{lt-ltb, ltb-true, and_parts, eqb-true}
@@ -93,7 +93,7 @@ name_ends (c ∷ cs) h =
     let both = and_parts (begins_name c) _ h in
     rw (not_of begins_name 62 c no_mark_begins both.0) (all_weaker continues_name ends_name (λ d k. rw (not_of continues_name 62 d no_mark_in_name k) refl) cs both.1)
 
--- ---- what stands behind a `(`
+-- ---- what follows a `(`
 
 -- the text begins so
 abbrev pub Opens : Text → Opening → Type 0

@@ -1,4 +1,4 @@
--- The reading of patterns finds what the grammar has.
+-- The reader of patterns finds what the grammar has.
 use Rattle.std.proofs.Common.{◌≡◌, ℕ, zero, suc, ◌+◌, ◌-◌, ◌<◌, ◌≤◌, max, encode_utf8_all, Bool, true, false, cond, not, nat_lt, ◌&&◌, ◌||◌, ◌==◌, List, [], ◌∷◌, ◌++◌, length, drop, Option, Some, None, refl, arith, codes, sym, ap, ◌∙◌, subst, inl, inr, append_assoc, length-append}
 use Rattle.std.proofs.lemmas.List.{append-nil}
 use Rattle.std.proofs.lemmas.Bool.{ltb-true, lt-ltb, and_parts, eqb-true}
@@ -503,7 +503,7 @@ mutual
   Expression-complete (of_branches {f = f} {g = g} {t = t} {r = r} {bs = bs} {d = d} b) room le =
       inside_is room f t (record { parts = bs; flags = g; depth = d; rest = r }) (Branches-complete b room le (suc (length t)) [] 0 (omega arith) ∙ same_line bs bs g (max 0 d) d r refl (omega arith))
 
--- ---- a text has one tree at most
+-- ---- a text has at most one tree
 
 pub one_tree : (s : Text) (a b : Tree) → Pattern s a → Pattern s b → a ≡ b
 one_tree s a b p q =
@@ -511,7 +511,7 @@ one_tree s a b p q =
     sym (Expression-complete p.reads most_levels p.flat) ∙ Expression-complete q.reads most_levels q.flat in
     ap (λ (w : Whole). w.tree) (some_is _ _ same)
 
--- ---- what the reading finds is the one tree of the pattern, and it finds nothing only where there is none
+-- ---- the reader finds the only tree of the pattern, and finds nothing only if there is none
 
 nothing_is : (t : Text) → is_nothing t ≡ true → t ≡ []
 nothing_is [] h = refl

@@ -41,7 +41,7 @@ apply SymmetricDifference s t c = xor (s c) (t c)
 abbrev pub begins_operator : Text → Bool
 begins_operator t = begins "&&" t || begins "--" t || begins "~~" t
 
--- an operand ends here: at the place of an item this is looked for first
+-- an operand ends here; where an item may begin, this is tried first
 abbrev pub ends_operand : Text → Bool
 ends_operand t = begins "]" t || begins_operator t
 
@@ -53,12 +53,12 @@ begins_range (c ∷ d ∷ t) = is_one_of "-" c && not (is_one_of "]-" d)
 
 -- ---- POSIX classes
 
--- `[:name:]`, or `[:^name:]` for the complement. Each name is of lower-case letters.
+-- `[:name:]`, or `[:^name:]` for the complement. A name is lower-case letters.
 pub data Posix : Text → Text → Set → Bool → Type 0 where
   a_class : {s : Set} {r : Text} (name : List ℕ) → IsTrue (list_all is_ascii_lowercase name) → posix_set name ≡ Some s → Posix (codes "[:" ▸ name ▸ codes ":]" ▸ r) r s false
   a_complement : {s : Set} {r : Text} (name : List ℕ) → IsTrue (list_all is_ascii_lowercase name) → posix_set name ≡ Some s → Posix (codes "[:^" ▸ name ▸ codes ":]" ▸ r) r s true
 
--- no class is spelled at the place
+-- no POSIX class begins here
 abbrev pub NoPosix : Text → Type 0
 NoPosix t = (r : Text) (s : Set) (negated : Bool) → Posix t r s negated → ⊥
 
@@ -69,18 +69,18 @@ pub data Primary : Text → Text → Escaped → Type 0 where
   escaped : {t r : Text} {e : Escaped} → Escape t r e → Primary (codes "\\" ▸ t) r e
   plain : {c : ℕ} {r : Text} → IsFalse (is_one_of "\\" c) → Primary (c ∷ r) r (character c)
 
--- the set of a primary that makes no range; a look has none
+-- the set of a primary that is not an end of a range; a look has none
 pub data Stands (f : Flags) : Escaped → Set → Type 0 where
   a_character : {c : ℕ} → Stands f (character c) (leaf f (just c))
   a_set : {s : Set} {negated : Bool} → Stands f (set s negated) (leaf_or_complement f s negated)
 
--- at the place of an item a primary stands: neither does the operand end there, nor does a `[` stand there
+-- where an item may begin, a primary begins: the operand does not end here, and no `[` stands here
 abbrev pub begins_primary : Text → Bool
 begins_primary t = not (ends_operand t) && not (begins "[" t)
 
--- ---- the lead, which belongs to the first operand and begins no range
+-- ---- the lead, which belongs to the first operand and does not begin a range
 
--- one `-` or more, and then none
+-- one or more `-`, and no `-` after them
 pub data Hyphens : Text → Text → Type 0 where
   last : {r : Text} → IsFalse (begins "-" r) → Hyphens (codes "-" ▸ r) r
   more : {t r : Text} → Hyphens t r → Hyphens (codes "-" ▸ t) r
@@ -93,11 +93,11 @@ pub data Lead : Text → Text → List ℕ → Type 0 where
 
 -- ---- brackets
 
--- `X f t r s d`: under the flags f the text from t up to r spells an X with the set s, and its places are inside at most
--- d brackets of their own, where d is the most that any place is inside.
+-- `X f t r s d`: under the flags f the text from t up to r spells an X with the set s, and d is the nesting depth of its
+-- own brackets: the greatest number of them that a place of it is inside.
 mutual
-  -- At the place of an item the first of these that fits stands: a POSIX class, a nested bracket, or else a primary. A primary
-  -- that `begins_range` follows is the low end of a range, whose other end is the primary behind the `-`.
+  -- An item is the first of these that fits: a POSIX class, a nested bracket, or else a primary. If `begins_range` holds
+  -- after a primary, it is the low end of a range, and the primary after the `-` is the high end.
   pub data Item (f : Flags) : Text → Text → Set → ℕ → Type 0 where
     a_posix : {t r : Text} {s : Set} {negated : Bool} → Posix t r s negated → Item f t r (leaf_or_complement f s negated) 0
     a_bracket : {t r : Text} {s : Set} {d : ℕ} → NoPosix t → Bracket f t r s d → Item f t r s d
@@ -110,7 +110,7 @@ mutual
     no_item : {r : Text} → IsTrue (ends_operand r) → Operand f r r [] 0
     item_then : {t u r : Text} {s : Set} {ss : List Set} {d e : ℕ} → Item f t u s d → Operand f u r ss e → Operand f t r (s ∷ ss) (max d e)
 
-  -- operands with operators between them, which have equal precedence and are taken from the left
+  -- operands with operators between them, which have equal precedence and associate to the left
   pub data Operands (f : Flags) : Text → Text → Set → ℕ → Type 0 where
     first : {t u r : Text} {cs : List ℕ} {ss : List Set} {d : ℕ} → Lead t u cs → Operand f u r ss d → Operands f t r (union_all (leaves f cs ++ ss)) d
     operated : {t u r : Text} {s : Set} {ss : List Set} {d e : ℕ} (o : SetOperator) → Operands f t (spelling o ▸ u) s d → Operand f u r ss e →

@@ -1,5 +1,5 @@
 -- cases: proofs/Cases/Escape.antt
--- Escapes: what stands after a backslash.
+-- Escapes: what follows a backslash.
 use Rattle.std.specs.Prelude.{◌≡◌, ℕ, suc, ◌+◌, ◌*◌, ◌<◌, Bool, true, false, not, ◌&&◌, ◌||◌, IsTrue, IsFalse, List, [], ◌∷◌, length, Some, if◌then◌else◌, codes}
 use Rattle.std.specs.List.{list_all}
 use Rattle.std.specs.Char.{is_ascii, is_ascii_alphanumeric, is_ascii_hexdigit, digit_value}
@@ -10,7 +10,7 @@ use Rattle.lalrpop_grammar.specs.Text.{Text, ◌▸◌, begins}
 use Rattle.lalrpop_sets.specs.CharacterSet.{Set, is_scalar, is_one_of}
 use Rattle.lalrpop_sets.specs.NamedSet.{named}
 
--- what an escape stands for: a character, a set before folding and whether its complement is meant, or a look
+-- what an escape stands for: a character, a set before folding and whether it is complemented, or a look
 pub data Escaped : Type 0 where
   character : ℕ → Escaped
   set : Set → Bool → Escaped
@@ -22,16 +22,16 @@ pub data Escaped : Type 0 where
 pub data Sign : Type 0 where
   -- the whole escape
   this : Escaped → Sign
-  -- so many hexadecimal digits follow, or some in braces
+  -- this many hexadecimal digits follow, or one or more in braces
   code : ℕ → Sign
-  -- a set's name follows; whether its complement is meant
+  -- the name of a set follows; whether the set is complemented
   property : Bool → Sign
   -- `\b`
   edge : Sign
   -- refused
   unknown : Sign
 
--- an ASCII character that is no letter, no digit, not `<` and not `>`
+-- an ASCII character other than letters, digits, `<` and `>`
 abbrev pub is_mark : ℕ → Bool
 is_mark c = is_ascii c && not (is_ascii_alphanumeric c) && not (is_one_of "<>" c)
 
@@ -66,13 +66,13 @@ unfoldable pub hex_value : List ℕ → ℕ → ℕ
 hex_value [] n = n
 hex_value (d ∷ ds) n = hex_value ds (n * 16 + digit_value d)
 
--- What the digits write. A hexadecimal value has to be a scalar value.
+-- The hexadecimal digits write c, which is a scalar value.
 pub record IsHex (digits : List ℕ) (c : ℕ) : Type 0 where
   pub digits_only : IsTrue (list_all is_ascii_hexdigit digits)
   pub value : c ≡ hex_value digits 0
   pub scalar : IsTrue (is_scalar c)
 
--- the name is one or more characters of a set's name, and stands for the set
+-- the name is one or more characters of a set's name, and the set has this name
 pub record IsSetName (name : List ℕ) (s : Set) : Type 0 where
   pub not_empty : 0 < length name
   pub spelled : IsTrue (list_all is_set_name_char name)
@@ -82,7 +82,7 @@ pub record IsSetName (name : List ℕ) (s : Set) : Type 0 where
 pub data Signed : Sign → Text → Text → Escaped → Type 0 where
   -- `\n`, `\.`, `\d`, `\A` and the like
   at_once : {e : Escaped} {r : Text} → Signed (this e) r r e
-  -- `\x41`: just so many digits, one at least
+  -- `\x41`: exactly that many digits, at least one
   digits_alone : {n v : ℕ} {r : Text} (d : ℕ) (ds : List ℕ) → suc (length ds) ≡ n → IsHex (d ∷ ds) v → Signed (code n) (d ∷ ds ▸ r) r (character v)
   -- `\x{41}`
   digits_braced : {n v : ℕ} {r : Text} (digits : List ℕ) → 0 < length digits → IsHex digits v → Signed (code n) (codes "{" ▸ digits ▸ codes "}" ▸ r) r (character v)

@@ -7,7 +7,7 @@ use Rattle.lalrpop_sets.specs.CharacterSet.{is_one_of}
 abbrev pub is_escaped : ℕ → Bool
 is_escaped c = is_one_of "\\.+*?()|[]{}^$#&-~" c
 
--- each character, with a backslash before it where it is one of these
+-- each character, with a backslash before it if it is one of these
 unfoldable pub escaped : List ℕ → Text
 escaped [] = []
 escaped (c ∷ cs) = if is_escaped c then codes "\\" ▸ c ∷ escaped cs else c ∷ escaped cs

@@ -6,11 +6,11 @@ use Rattle.lalrpop_grammar.specs.declared.flags.Flags.{Flags}
 use Rattle.lalrpop_grammar.specs.Text.{◌▸◌}
 use Rattle.lalrpop_sets.specs.CharacterSet.{is_one_of}
 
--- reading begins so
+-- the flags under which reading begins
 abbrev pub no_flags : Flags
 no_flags = record { case_insensitive = false; dot_matches_new_line = false; multi_line = false; swap_greed = false }
 
--- The flags with the one of this letter set to a value: `i` for case_insensitive, `s` for dot_matches_new_line, `m` for
+-- The flags with one of them set to a value, by its letter: `i` for case_insensitive, `s` for dot_matches_new_line, `m` for
 -- multi_line, `U` for swap_greed. `u` changes nothing.
 abbrev pub with_flag : Bool → Flags → ℕ → Flags
 with_flag on f c =
@@ -21,13 +21,13 @@ abbrev pub with_flags : Bool → Flags → List ℕ → Flags
 with_flags on f [] = f
 with_flags on f (c ∷ cs) = with_flags on (with_flag on f c) cs
 
--- no letter stands twice
+-- no letter occurs twice
 abbrev pub is_distinct : List ℕ → Bool
 is_distinct [] = true
 is_distinct (c ∷ cs) = not (list_any (λ d. d == c) cs) && is_distinct cs
 
--- The letters turn the flags f into others: those before a `-` are switched on, those after it off. After the `-`
--- stands one letter at least, and not `u`; no letter stands twice, on whichever side.
+-- The flags f after these letters: those before a `-` are switched on, those after it off. At least one letter follows
+-- the `-`, and `u` does not; no letter occurs twice, on either side.
 pub data FlagLetters (f : Flags) : List ℕ → Flags → Type 0 where
   on : (letters : List ℕ) → IsTrue (list_all (is_one_of "ismUu") letters) → IsTrue (is_distinct letters) → FlagLetters f letters (with_flags true f letters)
   on_and_off : (letters others : List ℕ) → IsTrue (list_all (is_one_of "ismUu") letters) → IsTrue (list_all (is_one_of "ismU") others) → 0 < length others →

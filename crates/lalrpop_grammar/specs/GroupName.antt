@@ -13,7 +13,7 @@ use Rattle.lalrpop_sets.specs.CharacterSet.{is_one_of}
 abbrev pub begins_name : ℕ → Bool
 begins_name c = is_one_of "_" c || is_alphabetic c
 
--- these, and characters of the general categories Nd, Nl and No, which are those of the group N, and `.`, `[`, `]`
+-- these, `.`, `[`, `]`, and the characters of the general categories Nd, Nl and No, which together are N
 abbrev pub continues_name : ℕ → Bool
 continues_name c = begins_name c || in_group Number (general_category c) || is_one_of ".[]" c
 
@@ -21,7 +21,7 @@ abbrev pub is_name : List ℕ → Bool
 is_name [] = false
 is_name (c ∷ cs) = begins_name c && list_all continues_name cs
 
--- ---- no name stands twice in a pattern
+-- ---- no two groups of a pattern have the same name
 
 abbrev pub name_of : Option (List ℕ) → List (List ℕ)
 name_of None = []
@@ -47,7 +47,7 @@ abbrev pub are_distinct : List (List ℕ) → Bool
 are_distinct [] = true
 are_distinct (n ∷ ns) = not (list_any (bytes_eq n) ns) && are_distinct ns
 
--- the place of the first name that repeats one: those before it differ, and it is one of them
+-- the index of the first name that repeats an earlier one: the names before it differ, and it is one of them
 pub record IsFirstRepeated (ns : List (List ℕ)) (i : ℕ) : Type 0 where
   pub distinct : IsTrue (are_distinct (take i ns))
   pub repeats : IsSomeAnd (slice_get ns i) (λ name. Contains (take i ns) name)

@@ -7,7 +7,7 @@ pub mod Bracket
 pub mod Operator
 pub mod Pattern
 pub mod Escaped
--- what serves the proofs alone
+-- used by proofs only
 pub mod Internal
 -- the definitions of the trees, for callers
 pub use Rattle.lalrpop_book.specs.Word

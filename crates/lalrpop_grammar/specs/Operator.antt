@@ -1,5 +1,5 @@
 -- cases: proofs/Cases/Operator.antt
--- Operators: what is written behind a piece to repeat it.
+-- Operators: what follows a piece to repeat it.
 use Rattle.std.specs.Prelude.{◌≡◌, ℕ, ◌<◌, ◌≤◌, ◌^◌, ◌+◌, ◌*◌, Bool, not, IsTrue, IsFalse, List, [], ◌∷◌, length, Option, Some, None, codes}
 use Rattle.std.specs.List.{list_all}
 use Rattle.std.specs.Char.{digit_value, is_ascii_digit}
@@ -7,7 +7,7 @@ use Rattle.unicode.specs.Binary.{is_white_space}
 use Rattle.lalrpop_grammar.specs.Text.{Text, ◌▸◌, begins}
 use Rattle.lalrpop_grammar.specs.declared.flags.Flags.{Flags}
 
--- the number that decimal digits write, behind those that are read already
+-- the number that decimal digits write, after those that are read already
 unfoldable pub decimal : List ℕ → ℕ → ℕ
 decimal [] n = n
 decimal (d ∷ ds) n = decimal ds (n * 10 + digit_value d)
@@ -17,8 +17,8 @@ pub data Count : Text → Text → ℕ → Type 0 where
   count : {n : ℕ} {r : Text} (before digits behind : List ℕ) → IsTrue (list_all is_white_space before) → IsTrue (list_all is_ascii_digit digits) → 0 < length digits →
       IsTrue (list_all is_white_space behind) → n ≡ decimal digits 0 → n < 2 ^ 32 → Count (before ▸ digits ▸ behind ▸ r) r n
 
--- `?`, `*`, `+`, `{n}`, `{n,}` and `{n,m}`, with the least and the greatest number of repetitions. No white
--- space stands between the `,` and the `}` of `{n,}`; n is at most m.
+-- `?`, `*`, `+`, `{n}`, `{n,}` and `{n,m}`, with the least and the greatest number of repetitions. There is no white
+-- space between the `,` and the `}` of `{n,}`; n is at most m.
 pub data Bounds : Text → Text → ℕ → Option ℕ → Type 0 where
   optional : {r : Text} → Bounds (codes "?" ▸ r) r 0 (Some 1)
   any_number : {r : Text} → Bounds (codes "*" ▸ r) r 0 None
@@ -27,8 +27,8 @@ pub data Bounds : Text → Text → ℕ → Option ℕ → Type 0 where
   at_least : {t r : Text} {n : ℕ} → Count t (codes ",}" ▸ r) n → Bounds (codes "{" ▸ t) r n None
   between : {t u r : Text} {n m : ℕ} → Count t (codes "," ▸ u) n → Count u (codes "}" ▸ r) m → n ≤ m → Bounds (codes "{" ▸ t) r n (Some m)
 
--- An operator with its greed. A `?` directly behind it belongs to it and turns its greed round; it is greedy without the flag
--- `U` and lazy under it.
+-- An operator and whether it is greedy: it is greedy without the flag `U` and lazy under it. A `?` directly after it
+-- belongs to it and reverses that.
 pub data Operator (f : Flags) : Text → Text → ℕ → Option ℕ → Bool → Type 0 where
   alone : {t r : Text} {n : ℕ} {m : Option ℕ} → Bounds t r n m → IsFalse (begins "?" r) → Operator f t r n m (not f.swap_greed)
   turned : {t r : Text} {n : ℕ} {m : Option ℕ} → Bounds t (codes "?" ▸ r) n m → Operator f t r n m f.swap_greed

@@ -65,8 +65,8 @@ ends_branch (c ∷ t) = is_one_of "|)" c
 
 -- ---- the grammar
 
--- `X f t r .. d`: under the flags f the text from t up to r spells an X, and d is the most groups, brackets and repetitions
--- of this X that a place is inside. g are the flags that it leaves.
+-- `X f t r .. d`: under the flags f the text from t up to r spells an X, and d is the nesting depth of X: the greatest number
+-- of its groups, brackets and repetitions that a place of it is inside. g are the flags after it.
 mutual
   pub data Atom : Flags → Text → Text → Tree → ℕ → Type 0 where
     a_literal : {f : Flags} {c : ℕ} {r : Text} → IsFalse (is_special c) → Atom f (c ∷ r) r (literal_tree f c) 0
@@ -106,12 +106,12 @@ mutual
   pub data Expression : Flags → Text → Text → Tree → Flags → ℕ → Type 0 where
     of_branches : {f g : Flags} {t r : Text} {bs : List Tree} {d : ℕ} → Branches f t r bs g d → Expression f t r (choice bs) g d
 
--- the most groups, brackets and repetitions that a place of a pattern is inside
+-- the greatest number of groups, brackets and repetitions that a place of a pattern may be inside
 abbrev pub most_levels : ℕ
 most_levels = 250
 
--- The whole text spells the tree: reading begins with no flag set, no place is inside too many levels, and no two groups have one
--- name.
+-- The whole text spells the tree: reading begins with no flag set, no place is inside too many levels, and no two groups
+-- have the same name.
 pub record Pattern (s : Text) (e : Tree) : Type 0 where
   pub flags : Flags
   pub levels : ℕ

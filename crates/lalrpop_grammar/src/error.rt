@@ -1,4 +1,4 @@
-//! Why a text is no pattern, and where.
+//! Why a text does not parse as a pattern, and where.
 ghost use Rattle.std.specs.Prelude.{◌≡◌};
 ghost use Rattle.lalrpop_grammar.specs.declared.error.RegexError.TheVariants.{OutOfMemory};
 
@@ -16,38 +16,38 @@ pub enum SyntaxKind {
     UnclosedClass,
     /// A range in brackets whose start is above its end.
     ClassRangeInvalid,
-    /// A range in brackets whose end is no single character.
+    /// A range in brackets whose end is not a single character.
     ClassRangeLiteral,
-    /// An escape that has no place in brackets.
+    /// An escape that is not allowed in brackets.
     ClassEscapeInvalid,
     /// The text ends inside an escape.
     EscapeUnexpectedEof,
-    /// A backslash in front of a character that makes no escape.
+    /// A backslash before a character that it can't escape.
     EscapeUnrecognized,
     /// An escape by a hexadecimal number that is malformed or names no character.
     EscapeHex,
-    /// An escape that names a set of characters that is not known.
+    /// An escape that names an unknown set of characters.
     UnicodeSetUnknown,
-    /// An operator of repetition with nothing in front of it.
+    /// An operator of repetition with nothing before it.
     RepetitionMissing,
     /// Counts in braces that are malformed, too great or in the wrong order.
     RepetitionCount,
     /// A flag that is unknown, missing or written twice.
     Flag,
-    /// The name of a group that is malformed, missing or written twice.
+    /// The name of a group that is malformed, missing or used twice.
     GroupName,
-    /// A look ahead or behind, which patterns don't have.
+    /// A look-ahead or look-behind, which patterns don't have.
     UnsupportedLookAround,
-    /// A reference back to a group, which patterns don't have.
+    /// A back-reference to a group, which patterns don't have.
     UnsupportedBackreference,
-    /// Groups, brackets and repetitions stand in one another too deeply.
+    /// Groups, brackets and repetitions are nested too deeply.
     NestLimitExceeded,
 }
 
-/// Why a text was not made into a tree.
+/// Why a text was not read into a tree.
 #[derive(Debug, Drop, Error)]
 pub enum RegexError {
-    /// The text is no pattern: `kind` says why, and `position` where, as an offset in bytes.
+    /// The text does not parse: `kind` says why, and `position` where, as an offset in bytes.
     #[error("Syntax")]
     Syntax { position: usize, kind: SyntaxKind },
     /// A request for memory was refused.

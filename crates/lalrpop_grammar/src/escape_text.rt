@@ -1,4 +1,4 @@
-//! Texts as patterns that match them alone.
+//! Patterns that match one given text.
 ghost use Rattle.std.specs.Prelude.{◌≡◌, ◌↔◌, ◌++◌, ◌∷◌, [], ℕ, List, IfOk, IfErr, OnOk, string_bytes, encode_utf8_all};
 ghost use Rattle.std.specs.Str.{chars};
 ghost use Rattle.lalrpop_book.specs.Tree.{Tree};
@@ -9,16 +9,16 @@ ghost use Rattle.lalrpop_grammar.specs.Escaped.{is_escaped, escaped};
 use crate::error::RegexError;
 use std::alloc::{AllocError, Global};
 
-// The characters with a meaning of their own, in brackets or outside, and others that other dialects give one.
+// The characters that are special, in brackets or outside, and others that are special in other dialects.
 const ESCAPED: [char; 18] = [
     '\\', '.', '+', '*', '?', '(', ')', '|', '[', ']', '{', '}', '^', '$', '#', '&', '-', '~',
 ];
 
-/// The pattern that matches the text `s` alone: its characters, with a backslash before each that may have a meaning.
+/// The pattern that matches only the text `s`: its characters, with a backslash before each that may be special.
 ///
 /// # Errors
 ///
-/// `RegexError::OutOfMemory` where a request for memory was refused, and no other.
+/// `RegexError::OutOfMemory` if a request for memory was refused, and no other error.
 pub fn escape(alloc: Global, s: &str) -> Result<String, RegexError>
     ensures text { IfOk result (λ p. chars (string_bytes p) ≡ escaped (chars s.now)) }
     ensures tree { IfOk result (λ p. (t : Tree) × Pattern (chars (string_bytes p)) t

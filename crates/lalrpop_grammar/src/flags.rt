@@ -5,10 +5,10 @@
 pub struct Flags {
     /// `i`: each leaf stands for all characters that share a simple case folding with one of its own.
     pub case_insensitive: bool,
-    /// `s`: `.` takes the line feed too.
+    /// `s`: `.` matches the line feed too.
     pub dot_matches_new_line: bool,
-    /// `m`: `^` and `$` stand at the ends of lines.
+    /// `m`: `^` and `$` match at the start and the end of each line.
     pub multi_line: bool,
-    /// `U`: operators are lazy, and greedy with a `?` behind them.
+    /// `U`: operators are lazy, and greedy if a `?` follows.
     pub swap_greed: bool,
 }

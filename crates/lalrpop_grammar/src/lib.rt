@@ -1,5 +1,5 @@
-//! The grammar of patterns as text, and what needs no reading: the trees of leaves, the names of groups, texts that stand
-//! for themselves. The files of `specs/` are the grammar.
+//! The grammar of patterns as text (the files of `specs/`), and what needs no parser: the trees of leaves, the names of
+//! groups, and literal texts.
 #![tactic(auto)]
 
 mod error;

@@ -1,4 +1,4 @@
-//! The names of a pattern's groups, no two of which may be equal.
+//! The names of a pattern's groups, which must differ.
 ghost use Rattle.std.specs.Prelude.{◌≡◌, ◌++◌, map, not, is_some, option_map, IfSome, IfOk, OnOk};
 ghost use Rattle.lalrpop_hir.specs.Parts.{trees};
 ghost use Rattle.lalrpop_grammar.specs.GroupName.{name_of, names, all_names, are_distinct, IsFirstRepeated};
@@ -7,11 +7,11 @@ use lalrpop_hir::{Hir, HirKind};
 use std::alloc::{AllocError, Global};
 use std::collections::BTreeSet;
 
-/// The place of the first name, counted among those of the tree's groups, that equals one before it.
+/// The index of the first name that equals an earlier one, among the names of the tree's groups from left to right.
 ///
 /// # Errors
 ///
-/// `AllocError` where a request for memory was refused.
+/// `AllocError` if a request for memory was refused.
 pub fn repeated_name(alloc: Global, tree: &Hir) -> Result<Option<usize>, AllocError>
     ensures repeated { IfOk result (λ place. is_some place ≡ not (are_distinct (names tree.now))) }
     ensures first { IfOk result (λ place. IfSome place (IsFirstRepeated (names tree.now))) }
@@ -61,7 +61,7 @@ fn add_name<'a>(name: Option<&'a str>, found: &mut Vec<&'a str>) -> Result<(), A
     Ok(())
 }
 
-// The place of the first name that equals one before it.
+// The index of the first name that equals an earlier one.
 fn first_repeated(alloc: Global, found: &[&str]) -> Result<Option<usize>, AllocError>
     ensures repeated { IfOk result (λ place.
         is_some place ≡ not (are_distinct (map (λ n. n.now) found.now))) }

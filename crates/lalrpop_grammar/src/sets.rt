@@ -9,11 +9,11 @@ use lalrpop_hir::{Class, ClassUnicode, Hir};
 use lalrpop_sets::{fold, range_class};
 use std::alloc::{AllocError, Global};
 
-/// The set of a leaf of characters from `low` to `high`: under the flag `i` with all their foldings.
+/// The set of a leaf with the characters from `low` to `high`; under the flag `i`, with all their foldings too.
 ///
 /// # Errors
 ///
-/// `AllocError` where a request for memory was refused.
+/// `AllocError` if a request for memory was refused.
 pub fn leaf_of_range(
     alloc: Global,
     flags: Flags,
@@ -26,11 +26,11 @@ pub fn leaf_of_range(
     leaf_of_set(alloc, flags, range_class(alloc, low, high)?, false)
 }
 
-/// The set of a leaf that is the given set, folded under the flag `i`, or all other characters.
+/// The set of a leaf with the members of `class`, folded under the flag `i`; its complement if `negated`.
 ///
 /// # Errors
 ///
-/// `AllocError` where a request for memory was refused.
+/// `AllocError` if a request for memory was refused.
 pub fn leaf_of_set(
     alloc: Global,
     flags: Flags,
@@ -59,11 +59,11 @@ pub fn tree_of_class(class: ClassUnicode) -> Hir
     Hir::class(Class::Unicode(class))
 }
 
-/// The tree of a literal character outside brackets: under the flag `i` that of all its foldings.
+/// The tree of a literal character outside brackets; under the flag `i`, the tree of all its foldings.
 ///
 /// # Errors
 ///
-/// `AllocError` where a request for memory was refused.
+/// `AllocError` if a request for memory was refused.
 pub fn tree_of_character(alloc: Global, flags: Flags, c: char) -> Result<Hir, AllocError>
     ensures tree { IfOk result (λ t. t ≡ literal_tree flags c) }
 {
@@ -81,7 +81,7 @@ pub fn tree_of_character(alloc: Global, flags: Flags, c: char) -> Result<Hir, Al
 ///
 /// # Errors
 ///
-/// `AllocError` where a request for memory was refused.
+/// `AllocError` if a request for memory was refused.
 pub fn tree_of_dot(alloc: Global, flags: Flags) -> Result<Hir, AllocError>
     ensures tree { IfOk result (λ t. t ≡ dot_tree flags) }
 {

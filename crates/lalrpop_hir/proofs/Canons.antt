@@ -1,4 +1,4 @@
--- The list of maximal runs of a set is one alone.
+-- The list of maximal runs of a set is unique.
 use Rattle.std.proofs.Common.{◌≡◌, ℕ, ◌<◌, ◌≤◌, ◌⊎◌, inl, inr, List, [], ◌∷◌, true, refl, sym, ap, ◌∙◌, arith}
 use Rattle.std.proofs.lemmas.Bool.{cases_lt}
 use Rattle.std.proofs.Math.Utf8.{scalar, scalar_cases}
@@ -30,7 +30,7 @@ byte_steps = record { above = λ c. omega arith; member = λ c d s u h. omega ar
 pub IsScalar-from_char : (c : ℕ) → scalar c ≡ true → IsScalar c
 IsScalar-from_char c h = elim (scalar_cases c h) [ inl a ↦ inl (omega arith) | inr b ↦ inr (b.0, omega (arith, b.1)) ]
 
--- what a class keeps, as `next` counts the values of S
+-- the invariant of a class, where `next` gives the next value of S
 abbrev pub AreKept : (ℕ → ℕ) → (ℕ → Type 0) → List Range → Type 0
 AreKept next S rs = AreApart next rs × HaveEndsIn S rs
 
@@ -56,7 +56,7 @@ from_start next S steps x ys a c (inr h) =
 pub range-same : (x y : Range) → x.start ≡ y.start → x.end ≡ y.end → x ≡ y
 range-same x y s e = ap (λ a. let r : Range = record { start = a; end = x.end } in r) s ∙ ap (λ b. let r : Range = record { start = y.start; end = b } in r) e
 
--- each member of S that the first list covers, the second covers
+-- the second list covers each member of S that the first one covers
 abbrev IsWithin : (ℕ → Type 0) → List Range → List Range → Type 0
 IsWithin S rs ss = (c : ℕ) → S c → Covered rs c → Covered ss c
 
@@ -97,12 +97,12 @@ kept-unique next S steps (r ∷ rs) (s ∷ ss) k l f g =
     let rest = kept-unique next S steps rs ss (tail-apart next r rs k.0, k.1.2) (tail-apart next s ss l.0, l.1.2) (tail-same next S steps r rs s ss k same f) (tail-same next S steps s ss r rs l (sym same) g) in
     ap (λ x. x ∷ rs) same ∙ ap (λ xs. s ∷ xs) rest
 
--- two canons of one set of scalar values are the same list
+-- two canons of one set of scalar values are equal
 pub canon-unique : (S : ℕ → Type 0) (rs ss : List Range) → IsCanon S rs → IsCanon S ss → rs ≡ ss
 canon-unique S rs ss k l =
     kept-unique next_scalar IsScalar scalar_steps rs ss k.0 l.0 (λ c u h. (l.1 c u).0 ((k.1 c u).1 h)) (λ c u h. (k.1 c u).0 ((l.1 c u).1 h))
 
--- two canons of one set of bytes are the same list
+-- two canons of one set of bytes are equal
 pub byte_canon-unique : (S : ℕ → Type 0) (rs ss : List Range) → IsByteCanon S rs → IsByteCanon S ss → rs ≡ ss
 byte_canon-unique S rs ss k l =
     kept-unique next_byte IsByte byte_steps rs ss k.0 l.0 (λ c u h. (l.1 c u).0 ((k.1 c u).1 h)) (λ c u h. (k.1 c u).0 ((l.1 c u).1 h))

@@ -20,7 +20,7 @@ covered-or_not (r ∷ rs) c = by_head (covers-or_not r c) (covered-or_not rs c)
     by_head (inr h) (inl k) = inl (inr k)
     by_head (inr h) (inr k) = inr (λ m. elim m [ inl x ↦ h x | inr x ↦ k x ])
 
--- a canon of a set is one of each set with the same characters
+-- a canon of a set is a canon of each set with the same characters
 pub IsCanon-same : (S T : ℕ → Type 0) (rs : List Range) → ((c : ℕ) → IsScalar c → T c ↔ S c) → IsCanon S rs → IsCanon T rs
 IsCanon-same S T rs f k = (k.0, λ c m. (λ t. (k.1 c m).0 ((f c m).0 t), λ h. (f c m).1 ((k.1 c m).1 h)))
 

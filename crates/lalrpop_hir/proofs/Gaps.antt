@@ -1,4 +1,4 @@
--- The runs between the runs of a canonical list, which are the runs of the characters that it leaves out.
+-- The gaps between the runs of a canonical list are the runs of the characters that it leaves out.
 use Rattle.std.proofs.Common.{◌≡◌, ℕ, ◌+◌, ◌-◌, ◌<◌, ◌≤◌, ◌⊎◌, inl, inr, List, [], ◌∷◌, ◌++◌, length, drop, min, max, if◌then◌else◌, eqb, refl, sym, ap, subst, ◌∙◌, append_assoc, arith}
 use Rattle.std.proofs.lemmas.Bool.{cases_lt}
 use Rattle.std.proofs.lemmas.List.{drop_all}
@@ -51,7 +51,7 @@ by_place P low s ss f g =
     elim (cases_lt low s.start)
     [ inl h ↦ subst P (sym (gaps-behind low s ss h)) (f h) | inr h ↦ subst P (sym (gaps-beside low s ss h)) (g h) ]
 
--- a scalar value or the one behind all
+-- a scalar value, or the value after the last one
 abbrev pub IsPlace : ℕ → Type 0
 IsPlace low = IsScalar low ⊎ (low ≡ 1114112)
 
@@ -75,7 +75,7 @@ prev-reaches c d s u h = grind arith
 prev-below : (c : ℕ) → 0 < c → prev_scalar c < c
 prev-below c h = grind arith
 
--- the value before c is the one alone whose next one is c
+-- the value before c is the only one whose next value is c
 pub prev-unique : (c b : ℕ) → IsScalar b → next_scalar b ≡ c → b ≡ prev_scalar c
 prev-unique c b s e = grind arith
 
@@ -171,12 +171,12 @@ below-zero (s ∷ ss) = omega arith
 zero-place : IsPlace 0
 zero-place = inl (inl (omega arith))
 
--- all gaps are the runs of what the list leaves out
+-- the gaps are the runs of what the list leaves out
 pub gaps-canon : (ss : List Range) → IsCanonical ss → IsCanon (λ c. ¬ Covered ss c) (gaps 0 ss)
 gaps-canon ss k =
     ((gaps-apart 0 ss k (below-zero ss) zero-place, gaps-ends 0 ss k (below-zero ss) zero-place), λ c m. (gaps-complete 0 ss c m k (omega arith), gaps-sound 0 ss c k.0 (below-zero ss)))
 
--- after i ranges: the gaps that are done and those of what is left are all gaps
+-- after i ranges: the gaps so far and those of what is left are all gaps
 pub record IsLeavingOut (ss : List Range) (i : ℕ) (done : List Range) (low : ℕ) : Type 0 where
   pub gaps_are : done ++ gaps low (drop i ss) ≡ gaps 0 ss
   pub place : IsPlace low

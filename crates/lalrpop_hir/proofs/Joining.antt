@@ -1,5 +1,5 @@
--- Joining ascending ranges into runs: a run takes in each next range that begins inside it or beside it.
--- `next` counts values, and `S` is the set of values that count.
+-- Joining ascending ranges into runs: a run takes in each next range that starts inside it or next to it.
+-- `next` gives the next value, and `S` is the set of values.
 use Rattle.std.proofs.Common.{◌≡◌, ℕ, zero, suc, ◌+◌, ◌<◌, ◌≤◌, ◌⊎◌, ◌↔◌, inl, inr, List, [], ◌∷◌, ◌++◌, length, get_or, take, drop, max, true, refl, sym, ap, subst, ◌∙◌, append_assoc, add-one, drop-cons, arith}
 use Rattle.std.specs.List.{All, Contains}
 use Rattle.std.specs.List.Sorted.{IsNonDecreasingBy, IsPermutation}
@@ -26,13 +26,13 @@ joined r s = record { start = r.start; end = max r.end s.end }
 pub max-is : (a b : ℕ) → ord_max nat_cmp a b ≡ max a b
 max-is a b = grind (arith, common_steps)
 
--- the runs of a range and the ranges behind it
+-- the runs of a range and the ranges after it
 abbrev pub join : (ℕ → ℕ) → Range → List Range → List Range
 join next r [] = r ∷ []
 join next r (s ∷ ss) =
     elim (cases_lt (next r.end) s.start) as (λ _. List Range) [ inl h ↦ r ∷ join next s ss | inr h ↦ join next (joined r s) ss ]
 
--- no range of the list starts before a, nor before the one in front of it
+-- no range of the list starts before a, or before the range before it
 abbrev pub Ascend : ℕ → List Range → Type 0
 Ascend a [] = Unit {0}
 Ascend a (s ∷ ss) = (a ≤ s.start) × Ascend s.start ss
@@ -47,7 +47,7 @@ join-beside next r s ss h =
     elim (cases_lt (next r.end) s.start) as (λ o. elim o as (λ _. List Range) [ inl _ ↦ r ∷ join next s ss | inr _ ↦ join next (joined r s) ss ] ≡ join next (joined r s) ss)
     [ inl g ↦ absurd (omega arith) | inr _ ↦ refl ]
 
--- what holds of the runs of ranges may be shown for each place of the second range
+-- a statement about the runs of ranges may be shown for each place of the second range
 by_place : (next : ℕ → ℕ) (P : List Range → Type 0) (r s : Range) (ss : List Range) → (next r.end < s.start → P (r ∷ join next s ss)) → (s.start ≤ next r.end → P (join next (joined r s) ss)) → P (join next r (s ∷ ss))
 by_place next P r s ss f g =
     elim (cases_lt (next r.end) s.start)
@@ -88,7 +88,7 @@ join-ends next S r (s ∷ ss) p q =
     let others = All-tail (IsProper S) s ss q in
     by_place next (HaveEndsIn S) r s ss (λ _. (p.0, p.1, join-ends next S s ss first others)) (λ _. join-ends next S (joined r s) ss (joined-proper S r s p first) others)
 
--- what two neighbours cover is what they cover as one
+-- two neighbours cover what they cover when joined into one range
 joined-covers : (next : ℕ → ℕ) (S : ℕ → Type 0) (r s : Range) (c : ℕ) → Steps next S → IsProper S r → S c → s.start ≤ next r.end → Covers (joined r s) c → Covers r c ⊎ Covers s c
 joined-covers next S r s c steps p m h g = by_order (cases_lt r.end c)
   where
@@ -152,7 +152,7 @@ join-runs next S r ss steps p q order =
     let up = ascend-from_order r ss order in
     ((join-apart next S r ss p q, join-ends next S r ss p q), λ c m. (join-complete next c r ss up, join-sound next S c steps m r ss p q))
 
--- after i ranges of the rest: the runs that are done, with those of the last run and what is left, are the runs of all
+-- after i ranges of the rest: the finished runs, with the runs of the last run and what is left, are the runs of all
 pub record IsJoining (next : ℕ → ℕ) (S : ℕ → Type 0) (first : Range) (rest : List Range) (i : ℕ) (done : List Range) (run : Range) : Type 0 where
   pub joins : done ++ join next run (drop i rest) ≡ join next first rest
   pub proper : IsProper S run
@@ -171,7 +171,7 @@ left rest i s a = rw add-one (drop-cons rest i s a.0 ∙ ap (λ x. x ∷ drop (s
 seen-more : (S : ℕ → Type 0) (rest : List Range) (i : ℕ) (s : Range) → IsAt rest i s → IsProper S s → All (IsProper S) (take i rest) → All (IsProper S) (take (i + 1) rest)
 seen-more S rest i s a p q = All-more (IsProper S) rest i s a.0 q (subst (IsProper S) a.1 p)
 
--- a range behind a gap begins a run
+-- a range after a gap begins a run
 pub IsJoining-behind : (next : ℕ → ℕ) (S : ℕ → Type 0) (first : Range) (rest : List Range) (i : ℕ) (done : List Range) (run s : Range) → IsJoining next S first rest i done run → IsAt rest i s → IsProper S s → next run.end < s.start → IsJoining next S first rest (i + 1) (done ++ run ∷ []) s
 IsJoining-behind next S first rest i done run s k a p h =
     let turn : join next run (drop i rest) ≡ run ∷ join next s (drop (i + 1) rest) =
@@ -193,7 +193,7 @@ IsJoining-beside next S first rest i done run s k a p h =
       seen = seen-more S rest i s a p k.seen;
     }
 
--- after all ranges, the runs that are done and the last run are the runs of all
+-- after all ranges, the finished runs and the last run are the runs of all
 pub IsJoining-end : (next : ℕ → ℕ) (S : ℕ → Type 0) (first : Range) (rest : List Range) (i : ℕ) (done : List Range) (run : Range) → Steps next S → IsProper S first → IsNonDecreasingBy (λ x. x.start) (first ∷ rest) → IsJoining next S first rest i done run → length rest ≤ i → AreRuns next S (first ∷ rest) (done ++ run ∷ [])
 IsJoining-end next S first rest i done run steps p order k h =
     let all : All (IsProper S) rest = subst (All (IsProper S)) (take_all i rest h) k.seen in

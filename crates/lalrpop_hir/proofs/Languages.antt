@@ -7,7 +7,7 @@ use Rattle.lalrpop_book.specs.Tree.{Tree, repetition, concat, alternation, none,
 use Rattle.lalrpop_hir.specs.Parts.{of_text}
 use Rattle.lalrpop_book.specs.Language.{Words, Then, Power, Matches}
 
--- a concatenation without parts matches the empty word alone
+-- a concatenation without parts matches only the empty word
 pub Matches-concat-none : (w : List ℕ) → Matches (concat none) w ↔ (w ≡ [])
 Matches-concat-none w = (λ h. h, λ h. h)
 
@@ -27,7 +27,7 @@ power-at-most-zero : (k : ℕ) (L : Words) (w : List ℕ) → k ≤ 0 → Power 
 power-at-most-zero zero L w h p = p
 power-at-most-zero (suc k) L w h p = absurd (omega arith)
 
--- no turns: the empty word alone
+-- no repetitions: only the empty word
 pub Matches-no-turns : (greedy : Bool) (t : Tree) (w : List ℕ) → Matches (repetition 0 (Some 0) greedy t) w ↔ (w ≡ [])
 Matches-no-turns greedy t w = (λ h. power-at-most-zero h.0 (Matches t) w h.1.0.1 h.1.1, λ h. (0, ((omega arith, omega arith), h)))
 
@@ -36,15 +36,15 @@ power-one zero L w h g p = absurd (omega arith)
 power-one (suc zero) L w h g p = (then-nothing L w).0 p
 power-one (suc (suc k)) L w h g p = absurd (omega arith)
 
--- one turn: what the part matches
+-- one repetition: what the part matches
 pub Matches-one-turn : (greedy : Bool) (t : Tree) (w : List ℕ) → Matches (repetition 1 (Some 1) greedy t) w ↔ Matches t w
 Matches-one-turn greedy t w = (λ h. power-one h.0 (Matches t) w h.1.0.0 h.1.0.1 h.1.1, λ h. (1, ((omega arith, omega arith), (then-nothing (Matches t) w).1 h)))
 
--- greed plays no part
+-- greed makes no difference
 pub Matches-greed : (min : ℕ) (max : Option ℕ) (g h : Bool) (t : Tree) (w : List ℕ) → Matches (repetition min max g t) w → Matches (repetition min max h t) w
 Matches-greed min max g h t w m = m
 
--- the tree of a text matches the text's word alone
+-- the tree of a text matches only the text's word
 pub Matches-of_text : (bs w : List ℕ) → Matches (of_text bs) w ↔ (w ≡ chars bs)
 Matches-of_text [] w = (λ h. h ∙ sym chars-nil, λ h. h ∙ chars-nil)
 Matches-of_text (b ∷ bs) w = (λ h. h, λ h. h)

@@ -117,7 +117,7 @@ merge-nil : (xs : List Range) → merge xs [] ≡ xs
 merge-nil [] = refl
 merge-nil (x ∷ xs) = ap (λ l. x ∷ l) (merge-nil xs)
 
--- after i and j ranges: the ranges that are done and the merge of what is left are the merge of all
+-- after i and j ranges: the ranges so far and the merge of what is left are the merge of all
 pub record IsMerging (xs ys : List Range) (i j : ℕ) (done : List Range) : Type 0 where
   pub merges : done ++ merge (drop i xs) (drop j ys) ≡ merge xs ys
   pub in_first : i ≤ length xs
@@ -130,6 +130,6 @@ IsMerging-end xs ys i j done k (inl h) =
 IsMerging-end xs ys i j done k (inr h) =
     ap (λ l. done ++ (drop i xs ++ l)) (drop_all j ys h) ∙ (ap (λ l. done ++ l) (append-nil (drop i xs) ∙ sym (merge-nil (drop i xs))) ∙ (ap (λ l. done ++ merge (drop i xs) l) (sym (drop_all j ys h)) ∙ k.merges))
 
--- the slice from i on is all that is left
+-- the slice from i on is what is left
 pub tail-left : (i : ℕ) (xs : List Range) → take (length xs - i) (drop i xs) ≡ drop i xs
 tail-left i xs = take_all (length xs - i) (drop i xs) (omega (arith, length-drop i xs))

@@ -46,7 +46,7 @@ up_to zero (suc k) L w h p = absurd (omega arith)
 up_to (suc n) zero L w h p = ([], w, (refl, inl refl, up_to n zero L w (omega arith) p))
 up_to (suc n) (suc k) L w h p = (p.0, p.1, (p.2.0, inr p.2.1, up_to n k L p.1 (omega arith) p.2.2))
 
--- min to max turns: min copies, then max - min optional ones
+-- min to max repetitions: min copies, then max - min optional ones
 pub Matches-counted : (min max : ℕ) (g : Bool) (t : Tree) (w : List ℕ) → min ≤ max → Matches (repetition min (Some max) g t) w ↔ Then (Power min (Matches t)) (Power (max - min) (Optional (Matches t))) w
 Matches-counted min max g t w o = (
   λ h. let n : h.0 ≡ min + (h.0 - min) = omega (arith, h.1.0.0) in
@@ -56,7 +56,7 @@ Matches-counted min max g t w o = (
       (min + r.0, ((omega arith, omega (arith, r.1.0)), Power-join min r.0 (Matches t) h.0 h.1 w h.2.0 h.2.1 r.1.1)),
 )
 
--- min turns or more: min copies, then a loop
+-- min repetitions or more: min copies, then a loop
 pub Matches-open : (min : ℕ) (g : Bool) (t : Tree) (w : List ℕ) → Matches (repetition min None g t) w ↔ Then (Power min (Matches t)) (Star (Matches t)) w
 Matches-open min g t w = (
   λ h. let n : h.0 ≡ min + (h.0 - min) = omega (arith, h.1.0) in

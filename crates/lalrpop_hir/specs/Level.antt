@@ -1,5 +1,5 @@
 -- cases: proofs/Cases/Level.antt
--- One level of a tree's representation, with the trees of its parts in their places.
+-- One level of a tree's representation, with the trees of its parts.
 use Rattle.std.specs.Str.{chars}
 use Rattle.lalrpop_book.specs.Tree as tree
 use Rattle.lalrpop_book.specs.Tree.{Tree}

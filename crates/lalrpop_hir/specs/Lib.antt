@@ -1,4 +1,4 @@
--- of the book, what the contracts of this crate name
+-- from the book: what this crate's contracts name
 pub use Rattle.lalrpop_book.specs.Word
 pub use Rattle.lalrpop_book.specs.Range
 pub use Rattle.lalrpop_book.specs.Tree
@@ -8,5 +8,5 @@ pub mod Counts
 pub mod Parts
 pub mod Size
 pub mod Level
--- what serves the proofs alone: trees as lists of numbers, and how deeply they stand in one another
+-- used by proofs only: trees as lists of numbers, and their depth
 pub mod Internal

@@ -3,7 +3,7 @@
 use Rattle.std.specs.Prelude.{ℕ, ◌+◌, ◌<◌, ◌≤◌, ◌⊎◌, ◌↔◌, List, [], ◌∷◌, if◌then◌else◌, eqb}
 use Rattle.lalrpop_book.specs.Range.{Range, Covered}
 
--- the value lies in the one list or the other, in both, in the first alone, in just one of them
+-- the value lies in either list, in both, in the first alone, in exactly one of them
 abbrev pub InEither : List Range → List Range → ℕ → Type 0
 InEither rs ss c = Covered rs c ⊎ Covered ss c
 
@@ -16,7 +16,7 @@ InFirstAlone rs ss c = Covered rs c × ¬ Covered ss c
 abbrev pub InJustOne : List Range → List Range → ℕ → Type 0
 InJustOne rs ss c = InFirstAlone rs ss c ⊎ InFirstAlone ss rs c
 
--- a scalar value: a code value that is no surrogate
+-- a scalar value: a code value that is not a surrogate
 abbrev pub IsScalar : ℕ → Type 0
 IsScalar c = (c ≤ 55295) ⊎ ((57344 ≤ c) × (c ≤ 1114111))
 
@@ -32,8 +32,8 @@ next_scalar c = if eqb c 55295 then 57344 else c + 1
 abbrev pub next_byte : ℕ → ℕ
 next_byte c = c + 1
 
--- ranges that are not empty, ascend, and leave out some value between each two neighbours,
--- as `next` counts values
+-- the ranges are nonempty and ascend, and any two neighbours leave out a value between them,
+-- where `next` gives the value after a value
 abbrev pub AreApart : (ℕ → ℕ) → List Range → Type 0
 AreApart next [] = Unit {0}
 AreApart next (r ∷ []) = r.start ≤ r.end
@@ -44,7 +44,7 @@ abbrev pub HaveEndsIn : (ℕ → Type 0) → List Range → Type 0
 HaveEndsIn S [] = Unit {0}
 HaveEndsIn S (r ∷ rs) = S r.start × S r.end × HaveEndsIn S rs
 
--- what every class over characters keeps
+-- the invariant of a class of characters
 abbrev pub IsCanonical : List Range → Type 0
 IsCanonical rs = AreApart next_scalar rs × HaveEndsIn IsScalar rs
 
@@ -52,7 +52,7 @@ IsCanonical rs = AreApart next_scalar rs × HaveEndsIn IsScalar rs
 abbrev pub IsCanon : (ℕ → Type 0) → List Range → Type 0
 IsCanon S rs = IsCanonical rs × ((c : ℕ) → IsScalar c → S c ↔ Covered rs c)
 
--- what every class over bytes keeps
+-- the invariant of a class of bytes
 abbrev pub AreByteRuns : List Range → Type 0
 AreByteRuns rs = AreApart next_byte rs × HaveEndsIn IsByte rs
 

@@ -1,16 +1,16 @@
 -- cases: proofs/Cases/Size.antt
--- The size of a tree, by which the number of its automaton's states is bounded.
+-- The size of a tree, which bounds the number of its automaton's states.
 use Rattle.std.specs.Prelude.{ℕ, zero, suc, ◌+◌, ◌-◌, ◌*◌, length, Option, Some, None}
 use Rattle.lalrpop_book.specs.Tree.{Tree, empty, literal, class, look, repetition, capture, concat, alternation, Trees, none, also}
 
--- the states of n to m turns of a part that has z
+-- the states of n to m repetitions of a part that has z states
 abbrev pub repeated_size : ℕ → Option ℕ → ℕ → ℕ
 repeated_size n (Some m) z = m * z + (m - n)
 repeated_size zero None z = z + 1
 repeated_size (suc zero) None z = z + 1
 repeated_size (suc (suc n)) None z = suc (suc n) * z + z + 1
 
--- the number of states that a tree's automaton needs, but for three
+-- an upper bound on the states of a tree's automaton, START, ACCEPT and REJECT not counted
 abbrev mutual
   pub size : Tree → ℕ
   size empty = 0

@@ -10,8 +10,8 @@ use std::marker::Model;
 
 /// A range of characters, from its start to its end, both included. It is never empty.
 ///
-/// The ends are characters, but the range counts as one of code values: where it begins at U+D7FF or below
-/// and ends at U+E000 or above, it also contains the surrogates between.
+/// The ends are characters, but the range is one of code values: if it starts at U+D7FF or below and ends at U+E000
+/// or above, it also contains the surrogates between.
 #[derive(Clone, Copy, Debug, PartialEq, Eq)]
 pub struct ClassUnicodeRange {
     start: char,
@@ -53,8 +53,8 @@ impl Model for ClassBytesRange {
 
 /// A set of characters, kept as the ascending list of its maximal runs.
 ///
-/// U+D7FF and U+E000 count as neighbours, since only surrogates stand between them and no character is one.
-/// So the list of a set is one alone, however the set was given.
+/// U+D7FF and U+E000 count as neighbours, since only surrogates lie between them, and a surrogate is not a character.
+/// So each set has exactly one list, however it was given.
 #[derive(Clone, Debug, Drop)]
 pub struct ClassUnicode {
     ranges: Vec<ClassUnicodeRange>,

@@ -1,4 +1,4 @@
-//! Trees of patterns: how they are made, and one level of them.
+//! Trees of patterns: their constructors, and a view of one level.
 ghost use Rattle.std.specs.Prelude.{◌≡◌, ◌≢◌, ◌≤◌, IfOk, map, Option, option_map, List, [], string_bytes};
 ghost use Rattle.std.specs.Str.{chars};
 ghost use Rattle.lalrpop_hir.specs.Counts.{AreOrdered};
@@ -31,7 +31,7 @@ impl Model for Literal {
 }
 
 impl Literal {
-    /// The text, which has a character or more.
+    /// The text, never empty.
     pub fn as_str(&self) -> &str
         ensures value { result.now ≡ self.now }
         ensures not_empty { self.now ≢ [] }
@@ -50,29 +50,29 @@ pub struct Hir {
 /// A regular expression, under the name that the layers above use.
 pub type Regex = Hir;
 
-/// What stands at the top of a tree, and the trees below it.
+/// The top of a tree, with the trees below it.
 #[derive(Debug, Drop)]
 #[cycle(tree)]
 pub enum HirKind {
-    /// Matches the empty text alone.
+    /// Matches only the empty text.
     Empty,
-    /// Matches its text alone.
+    /// Matches only its text.
     Literal(Literal),
     /// Matches one value of the set.
     Class(Class),
-    /// Asks something of a place.
+    /// Requires something of a position.
     Look(Look),
-    /// Matches pieces, one after another, that its part matches.
+    /// Matches a number of pieces, one after another, each matched by its part.
     Repetition(Repetition),
     /// Matches what its part matches.
     Capture(Capture),
-    /// Matches a piece for each part, one after another; without parts the empty text alone.
+    /// Matches one piece for each part, in order; with no parts, only the empty text.
     Concat(Vec<Hir>),
-    /// Matches what some part matches; without parts nothing.
+    /// Matches what any of its parts matches; with no parts, nothing.
     Alternation(Vec<Hir>),
 }
 
-/// A part that is matched several times in a row: at least `min` times, and at most `max` times where there is
+/// A part that is matched a number of times in a row: at least `min` times, and at most `max` times if there is
 /// a `max`, which is never below `min`.
 #[derive(Debug, Drop)]
 #[cycle(tree)]
@@ -83,7 +83,7 @@ pub struct Repetition {
     pub(crate) sub: Box<Hir>,
 }
 
-/// A group, with a name or without.
+/// A group, with or without a name.
 #[derive(Debug, Drop)]
 #[cycle(tree)]
 pub struct Capture {
@@ -152,7 +152,7 @@ impl Model for Capture {
 }
 
 impl Hir {
-    /// The tree that matches the empty text alone.
+    /// The tree that matches only the empty text.
     pub fn empty() -> Hir
         ensures tree { result ≡ empty }
     {
@@ -161,11 +161,11 @@ impl Hir {
         }
     }
 
-    /// The tree that matches the text `s` alone: a literal, or the empty tree where `s` is empty.
+    /// The tree that matches only the text `s`: a literal, or the empty tree if `s` is empty.
     ///
     /// # Errors
     ///
-    /// `AllocError` where a request for memory was refused.
+    /// `AllocError` if a request for memory was refused.
     pub fn literal(alloc: Global, s: &str) -> Result<Hir, AllocError>
         ensures tree { IfOk result (λ t. t ≡ of_text s.now) }
     {
@@ -187,7 +187,7 @@ impl Hir {
         }
     }
 
-    /// The tree that asks `at` of a place. No word is matched by it alone.
+    /// The tree that requires `at` of a position. By itself it matches no word.
     pub fn look(at: Look) -> Hir
         ensures tree { result ≡ look at }
     {
@@ -196,7 +196,7 @@ impl Hir {
         }
     }
 
-    /// The tree that matches as many pieces in a row as the counts of `r` allow, each matched by the part of `r`.
+    /// The tree that matches pieces in a row, each matched by the part of `r`, in a number that the counts of `r` allow.
     pub fn repetition(r: Repetition) -> Hir
         ensures tree { result ≡ repetition r.min r.max r.greedy r.sub }
     {
@@ -214,7 +214,7 @@ impl Hir {
         }
     }
 
-    /// The tree that matches a piece for each of `subs`, in their order. It is kept as given, also with one part
+    /// The tree that matches one piece for each of `subs`, in order. It is kept as given, even with one part
     /// or none.
     pub fn concat(subs: Vec<Hir>) -> Hir
         ensures tree { result ≡ concat (trees subs.items) }
@@ -224,7 +224,7 @@ impl Hir {
         }
     }
 
-    /// The tree that matches what some of `subs` matches. It is kept as given, also with one part or none.
+    /// The tree that matches what any of `subs` matches. It is kept as given, even with one part or none.
     pub fn alternation(subs: Vec<Hir>) -> Hir
         ensures tree { result ≡ alternation (trees subs.items) }
     {
@@ -233,7 +233,7 @@ impl Hir {
         }
     }
 
-    /// What stands at the top of the tree, and the trees below it.
+    /// The top of the tree, with the trees below it.
     pub fn kind(&self) -> &HirKind
         ensures level { kind_tree result.now ≡ self.now }
     {

@@ -1,4 +1,4 @@
-//! Regular expressions as trees, which a program makes by hand, or reads from a text with the crate `lalrpop_re`.
+//! Regular expressions as trees, which a program builds by hand, or reads from a text with the crate `lalrpop_re`.
 //! The file `Language.antt` of the book (crates/lalrpop_book/specs) says which words each tree matches.
 #![tactic(auto)]
 

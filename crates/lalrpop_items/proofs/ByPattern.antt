@@ -82,7 +82,7 @@ closed_append ns xs ys apart =
           | inr b ↦ has_right (closed ns xs) (closed ns ys) x (closed_has ns ys x r.0 item b r.1.1)
         ]
 
--- nothing is led to from no item
+-- the closure of no items is empty
 pub closed_none : (ns : List Graph) → closed ns [] ≡ []
 closed_none ns = nothing (closed ns []) (λ x h. (let (item, r) = closed_parts ns [] x h in r.1.0))
   where
@@ -104,7 +104,7 @@ drop_parts d xs zero m x h = let r = take_parts d xs m x h in (r.0, omega arith,
 drop_parts d [] (suc n) m x h = let r = take_parts d [] m x h in absurd (omega (arith, r.2))
 drop_parts d (y ∷ xs) (suc n) m x h = let r = drop_parts d xs n m x h in (suc r.0, omega (arith, r.1), omega (arith, r.2), omega (arith, r.3), r.4)
 
--- the first items are of patterns before those behind them
+-- the patterns of the first items come before those of the items after them
 pub record AreApart (items : List Item) (from : ℕ) : Type 0 where
   pub apart : (k j : ℕ) → k < from → from ≤ j → j < length items → pattern_at items k < pattern_at items j
 

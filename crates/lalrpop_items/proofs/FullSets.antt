@@ -1,4 +1,4 @@
--- What the full list of a set's items holds.
+-- The members of the full list of a set's items.
 use Rattle.std.proofs.Common.{IsTrue, ◌↔◌, ◌≡◌, ◌≢◌, ℕ, zero, suc, ◌<◌, ◌⊎◌, inl, inr, List, [], ◌∷◌, ◌++◌, map, refl, ap, ap₂, sym, ◌∙◌, subst, arith, Bool, true, false, not, cond, ◌==◌, ◌&&◌, eqb-true, eq-eqb}
 use Rattle.std.specs.List.{Contains, filter, list_any}
 use Rattle.std.specs.List.Sorted.{IsStrictlySortedBy}
@@ -37,13 +37,13 @@ live_is x h e = let t : (x.1 == reject_state) ≡ true = eq-eqb x.1 reject_state
 pub item_is : (x : Item) (i q : ℕ) → x.0 ≡ i → x.1 ≡ q → x ≡ (i, q)
 item_is x i q a b = ap₂ (λ (j p : ℕ). let z : Item = (j, p) in z) a b
 
-spared_any : (spared : List ℕ) (i : ℕ) → Has spared i → list_any (λ j. j == i) spared ≡ true
-spared_any spared i h = any_from_has (λ j. j == i) spared i h (eq-eqb i i refl)
+live_pattern_any : (live_patterns : List ℕ) (i : ℕ) → Has live_patterns i → list_any (λ j. j == i) live_patterns ≡ true
+live_pattern_any live_patterns i h = any_from_has (λ j. j == i) live_patterns i h (eq-eqb i i refl)
 
-any_spared : (spared : List ℕ) (i : ℕ) → list_any (λ j. j == i) spared ≡ true → Has spared i
-any_spared spared i h =
-    let r : (j : ℕ) × (Has spared j × ((j == i) ≡ true)) = has_from_any (λ j. j == i) spared h in
-    subst (λ j. Has spared j) (eqb-true r.0 i r.1.1) r.1.0
+any_live_pattern : (live_patterns : List ℕ) (i : ℕ) → list_any (λ j. j == i) live_patterns ≡ true → Has live_patterns i
+any_live_pattern live_patterns i h =
+    let r : (j : ℕ) × (Has live_patterns j × ((j == i) ≡ true)) = has_from_any (λ j. j == i) live_patterns h in
+    subst (λ j. Has live_patterns j) (eqb-true r.0 i r.1.1) r.1.0
 
 -- ---- the items of one pattern
 one_reject : (i : ℕ) (x : Item) (b : Bool) → Has (cond b [] ((i, reject_state) ∷ [])) x → (b ≡ false) × ((i, reject_state) ≡ x)
@@ -51,22 +51,22 @@ one_reject i x true h = absurd h
 one_reject i x false (inl e) = (refl, e)
 one_reject i x false (inr h) = absurd h
 
--- what a full list holds: live items, and REJECT items of patterns that aren't spared
+-- the members of a full list: live items, and REJECT items of patterns that aren't live
 abbrev pub IsHeld : List ℕ → List Item → Item → Type 0
-IsHeld spared live x = Has live x ⊎ ((x.1 ≡ reject_state) × (Has spared x.0 → ⊥))
+IsHeld live_patterns live x = Has live x ⊎ ((x.1 ≡ reject_state) × (Has live_patterns x.0 → ⊥))
 
-module _ (spared : List ℕ) (live : List Item) (i : ℕ) where
+module _ (live_patterns : List ℕ) (live : List Item) (i : ℕ) where
   abbrev is_accept : Item → Bool
   is_accept x = (x.0 == i) && (x.1 == accept_state)
 
   abbrev is_other : Item → Bool
   is_other x = (x.0 == i) && not (x.1 == accept_state)
 
-  rejects_parts : (x : Item) → Has (reject_of spared i) x → (x.0 ≡ i) × (x.1 ≡ reject_state) × (Has spared x.0 → ⊥)
+  rejects_parts : (x : Item) → Has (reject_of live_patterns i) x → (x.0 ≡ i) × (x.1 ≡ reject_state) × (Has live_patterns x.0 → ⊥)
   rejects_parts x h =
-      let r : (list_any (λ j. j == i) spared ≡ false) × ((i, reject_state) ≡ x) = one_reject i x (list_any (λ j. j == i) spared) h in
+      let r : (list_any (λ j. j == i) live_patterns ≡ false) × ((i, reject_state) ≡ x) = one_reject i x (list_any (λ j. j == i) live_patterns) h in
       let at : x.0 ≡ i = ap (λ (z : Item). z.0) (sym r.1) in
-      (at, ap (λ (z : Item). z.1) (sym r.1), λ s. let t : list_any (λ j. j == i) spared ≡ true = spared_any spared i (subst (λ j. Has spared j) at s) in let clash : true ≡ false = sym t ∙ r.0 in cc)
+      (at, ap (λ (z : Item). z.1) (sym r.1), λ s. let t : list_any (λ j. j == i) live_patterns ≡ true = live_pattern_any live_patterns i (subst (λ j. Has live_patterns j) at s) in let clash : true ≡ false = sym t ∙ r.0 in cc)
 
   accepts_parts : (x : Item) → Has (filter is_accept live) x → (x.0 ≡ i) × (x.1 ≡ accept_state) × Has live x
   accepts_parts x h =
@@ -81,29 +81,29 @@ module _ (spared : List ℕ) (live : List Item) (i : ℕ) where
       let f : (x.1 == accept_state) ≡ false = true_not (x.1 == accept_state) b.1 in
       (eqb-true x.0 i b.0, λ e. (let t : (x.1 == accept_state) ≡ true = eq-eqb x.1 accept_state e in let clash : true ≡ false = sym t ∙ f in cc), r.0)
 
-  pub items_parts : (x : Item) → Has (items_of spared live i) x → (x.0 ≡ i) × IsHeld spared live x
-  items_parts x h = elim (has_cases (filter is_accept live) (reject_of spared i ++ filter is_other live) x h) [
+  pub items_parts : (x : Item) → Has (items_of live_patterns live i) x → (x.0 ≡ i) × IsHeld live_patterns live x
+  items_parts x h = elim (has_cases (filter is_accept live) (reject_of live_patterns i ++ filter is_other live) x h) [
     | inl a ↦ (let r = accepts_parts x a in (r.0, inl r.2))
-    | inr b ↦ elim (has_cases (reject_of spared i) (filter is_other live) x b) [
+    | inr b ↦ elim (has_cases (reject_of live_patterns i) (filter is_other live) x b) [
       | inl a ↦ (let r = rejects_parts x a in (r.0, inr (r.1, r.2)))
       | inr c ↦ (let r = others_parts x c in (r.0, inl r.2))
     ]
   ]
 
-  pub items_live : (x : Item) → Has live x → x.0 ≡ i → Has (items_of spared live i) x
+  pub items_live : (x : Item) → Has live x → x.0 ≡ i → Has (items_of live_patterns live i) x
   items_live x h e = elim (cases_Bool (x.1 == accept_state)) [
-    | inl t ↦ has_left (filter is_accept live) (reject_of spared i ++ filter is_other live) x (has_filter is_accept live x h (and_from (x.0 == i) (x.1 == accept_state) (eq-eqb x.0 i e) t))
+    | inl t ↦ has_left (filter is_accept live) (reject_of live_patterns i ++ filter is_other live) x (has_filter is_accept live x h (and_from (x.0 == i) (x.1 == accept_state) (eq-eqb x.0 i e) t))
     | inr f ↦
-        has_right (filter is_accept live) (reject_of spared i ++ filter is_other live) x
-        (has_right (reject_of spared i) (filter is_other live) x (has_filter is_other live x h (and_from (x.0 == i) (not (x.1 == accept_state)) (eq-eqb x.0 i e) (not_true (x.1 == accept_state) f))))
+        has_right (filter is_accept live) (reject_of live_patterns i ++ filter is_other live) x
+        (has_right (reject_of live_patterns i) (filter is_other live) x (has_filter is_other live x h (and_from (x.0 == i) (not (x.1 == accept_state)) (eq-eqb x.0 i e) (not_true (x.1 == accept_state) f))))
   ]
 
-  pub items_reject : (Has spared i → ⊥) → Has (items_of spared live i) (i, reject_state)
-  items_reject none = has_right (filter is_accept live) (reject_of spared i ++ filter is_other live) (i, reject_state) (has_left (reject_of spared i) (filter is_other live) (i, reject_state) here)
+  pub items_reject : (Has live_patterns i → ⊥) → Has (items_of live_patterns live i) (i, reject_state)
+  items_reject none = has_right (filter is_accept live) (reject_of live_patterns i ++ filter is_other live) (i, reject_state) (has_left (reject_of live_patterns i) (filter is_other live) (i, reject_state) here)
     where
-      here : Has (reject_of spared i) (i, reject_state)
-      here = elim (cases_Bool (list_any (λ j. j == i) spared)) [
-        | inl t ↦ absurd (none (any_spared spared i t))
+      here : Has (reject_of live_patterns i) (i, reject_state)
+      here = elim (cases_Bool (list_any (λ j. j == i) live_patterns)) [
+        | inl t ↦ absurd (none (any_live_pattern live_patterns i t))
         | inr f ↦ rw f (inl refl)
       ]
 
@@ -120,64 +120,64 @@ one_ascends i false = sorted_cons item_cmp (i, reject_state) [] (λ y h. absurd 
 above_one : (q : ℕ) → q ≢ 0 → q ≢ 1 → 1 < q
 above_one q a b = omega arith
 
-module _ (spared : List ℕ) (live : List Item) (sorted : AreAscendingItems live) (alive : (x : Item) → Has live x → x.1 ≢ reject_state) where
-  items_ascend : (i : ℕ) → AreAscendingItems (items_of spared live i)
+module _ (live_patterns : List ℕ) (live : List Item) (sorted : AreAscendingItems live) (alive : (x : Item) → Has live x → x.1 ≢ reject_state) where
+  items_ascend : (i : ℕ) → AreAscendingItems (items_of live_patterns live i)
   items_ascend i =
-      sorted_append item_cmp (filter (is_accept spared live i) live) (reject_of spared i ++ filter (is_other spared live i) live)
-      (IsStrictlySortedBy-filter item_cmp (is_accept spared live i) live sorted)
-      (sorted_append item_cmp (reject_of spared i) (filter (is_other spared live i) live) (one_ascends i (list_any (λ j. j == i) spared)) (IsStrictlySortedBy-filter item_cmp (is_other spared live i) live sorted) behind)
+      sorted_append item_cmp (filter (is_accept live_patterns live i) live) (reject_of live_patterns i ++ filter (is_other live_patterns live i) live)
+      (IsStrictlySortedBy-filter item_cmp (is_accept live_patterns live i) live sorted)
+      (sorted_append item_cmp (reject_of live_patterns i) (filter (is_other live_patterns live i) live) (one_ascends i (list_any (λ j. j == i) live_patterns)) (IsStrictlySortedBy-filter item_cmp (is_other live_patterns live i) live sorted) behind)
       before
     where
-      behind : (x y : Item) → Has (reject_of spared i) x → Has (filter (is_other spared live i) live) y → item_cmp x y ≡ Less
+      behind : (x y : Item) → Has (reject_of live_patterns i) x → Has (filter (is_other live_patterns live i) live) y → item_cmp x y ≡ Less
       behind x y h k =
-          let a = rejects_parts spared live i x h in
-          let b = others_parts spared live i y k in
+          let a = rejects_parts live_patterns live i x h in
+          let b = others_parts live_patterns live i y k in
           let high : 1 < y.1 = above_one y.1 b.1 (alive y b.2) in
           less_state x y (a.0 ∙ sym b.0) (omega (arith, a.1, high))
 
-      before : (x y : Item) → Has (filter (is_accept spared live i) live) x → Has (reject_of spared i ++ filter (is_other spared live i) live) y → item_cmp x y ≡ Less
+      before : (x y : Item) → Has (filter (is_accept live_patterns live i) live) x → Has (reject_of live_patterns i ++ filter (is_other live_patterns live i) live) y → item_cmp x y ≡ Less
       before x y h k =
-          let a = accepts_parts spared live i x h in
-          elim (has_cases (reject_of spared i) (filter (is_other spared live i) live) y k) [
-            | inl r ↦ (let b = rejects_parts spared live i y r in less_state x y (a.0 ∙ sym b.0) (omega (arith, a.1, b.1)))
-            | inr o ↦ (let b = others_parts spared live i y o in let high : 1 < y.1 = above_one y.1 b.1 (alive y b.2) in less_state x y (a.0 ∙ sym b.0) (omega (arith, a.1, high)))
+          let a = accepts_parts live_patterns live i x h in
+          elim (has_cases (reject_of live_patterns i) (filter (is_other live_patterns live i) live) y k) [
+            | inl r ↦ (let b = rejects_parts live_patterns live i y r in less_state x y (a.0 ∙ sym b.0) (omega (arith, a.1, b.1)))
+            | inr o ↦ (let b = others_parts live_patterns live i y o in let high : 1 < y.1 = above_one y.1 b.1 (alive y b.2) in less_state x y (a.0 ∙ sym b.0) (omega (arith, a.1, high)))
           ]
 
 -- ---- the items of all patterns
-module _ (spared : List ℕ) (live : List Item) where
-  pub full_parts : (n : ℕ) (x : Item) → Has (full n spared live) x → (x.0 < n) × IsHeld spared live x
+module _ (live_patterns : List ℕ) (live : List Item) where
+  pub full_parts : (n : ℕ) (x : Item) → Has (full n live_patterns live) x → (x.0 < n) × IsHeld live_patterns live x
   unfolding full
   full_parts zero x h = absurd h
-  full_parts (suc n) x h = elim (has_cases (full n spared live) (items_of spared live n) x h) [
+  full_parts (suc n) x h = elim (has_cases (full n live_patterns live) (items_of live_patterns live n) x h) [
     | inl a ↦ (let r = full_parts n x a in (omega (arith, r.0), r.1))
-    | inr b ↦ (let r = items_parts spared live n x b in (omega (arith, r.0), r.1))
+    | inr b ↦ (let r = items_parts live_patterns live n x b in (omega (arith, r.0), r.1))
   ]
 
-  pub full_live : (n : ℕ) (x : Item) → Has live x → x.0 < n → Has (full n spared live) x
+  pub full_live : (n : ℕ) (x : Item) → Has live x → x.0 < n → Has (full n live_patterns live) x
   unfolding full
   full_live zero x h l = absurd (omega arith)
   full_live (suc n) x h l = elim (cases_Bool (x.0 == n)) [
-    | inl t ↦ has_right (full n spared live) (items_of spared live n) x (items_live spared live n x h (eqb-true x.0 n t))
-    | inr f ↦ has_left (full n spared live) (items_of spared live n) x (full_live n x h (grind (arith, nat_tests)))
+    | inl t ↦ has_right (full n live_patterns live) (items_of live_patterns live n) x (items_live live_patterns live n x h (eqb-true x.0 n t))
+    | inr f ↦ has_left (full n live_patterns live) (items_of live_patterns live n) x (full_live n x h (grind (arith, nat_tests)))
   ]
 
-  pub full_reject : (n i : ℕ) → i < n → (Has spared i → ⊥) → Has (full n spared live) (i, reject_state)
+  pub full_reject : (n i : ℕ) → i < n → (Has live_patterns i → ⊥) → Has (full n live_patterns live) (i, reject_state)
   unfolding full
   full_reject zero i l none = absurd (omega arith)
   full_reject (suc n) i l none = elim (cases_Bool (i == n)) [
     | inl t ↦
         (let e : n ≡ i = sym (eqb-true i n t) in
-        has_right (full n spared live) (items_of spared live n) (i, reject_state)
-        (subst (λ j. Has (items_of spared live n) (j, reject_state)) e (items_reject spared live n (λ h. none (subst (λ j. Has spared j) e h)))))
-    | inr f ↦ has_left (full n spared live) (items_of spared live n) (i, reject_state) (full_reject n i (grind (arith, nat_tests)) none)
+        has_right (full n live_patterns live) (items_of live_patterns live n) (i, reject_state)
+        (subst (λ j. Has (items_of live_patterns live n) (j, reject_state)) e (items_reject live_patterns live n (λ h. none (subst (λ j. Has live_patterns j) e h)))))
+    | inr f ↦ has_left (full n live_patterns live) (items_of live_patterns live n) (i, reject_state) (full_reject n i (grind (arith, nat_tests)) none)
   ]
 
-  pub full_ascends : (n : ℕ) → AreAscendingItems live → ((x : Item) → Has live x → x.1 ≢ reject_state) → AreAscendingItems (full n spared live)
+  pub full_ascends : (n : ℕ) → AreAscendingItems live → ((x : Item) → Has live x → x.1 ≢ reject_state) → AreAscendingItems (full n live_patterns live)
   unfolding full
   full_ascends zero sorted alive = sorted_nil item_cmp
   full_ascends (suc n) sorted alive =
-      sorted_append item_cmp (full n spared live) (items_of spared live n) (full_ascends n sorted alive) (items_ascend spared live sorted alive n)
-      (λ x y h k. less_place x y (let a : x.0 < n = (full_parts n x h).0 in let b : y.0 ≡ n = (items_parts spared live n y k).0 in omega arith))
+      sorted_append item_cmp (full n live_patterns live) (items_of live_patterns live n) (full_ascends n sorted alive) (items_ascend live_patterns live sorted alive n)
+      (λ x y h k. less_place x y (let a : x.0 < n = (full_parts n x h).0 in let b : y.0 ≡ n = (items_parts live_patterns live n y k).0 in omega arith))
 
 -- ---- what a split set is
 pub rejects_have : (s : List Item) (i : ℕ) → Has s (i, reject_state) → Has (rejects_of s) i
@@ -207,54 +207,54 @@ rejects_rise s sorted =
     places_rise (filter (λ (x : Item). x.1 == reject_state) s) (IsStrictlySortedBy-filter item_cmp (λ (x : Item). x.1 == reject_state) s sorted)
     (λ x h. eqb-true x.1 reject_state (filter_has (λ (x : Item). x.1 == reject_state) s x h).1)
 
-module _ (n : ℕ) (spared : List ℕ) (live : List Item) (is : IsSplit n spared live) where
+module _ (n : ℕ) (live_patterns : List ℕ) (live : List Item) (is : IsSplit n live_patterns live) where
   alive : (x : Item) → Has live x → x.1 ≢ reject_state
   alive x h = is.alive x (contains_from live x h)
 
-  pub split_ascends : AreAscendingItems (full n spared live)
-  split_ascends = full_ascends spared live n is.ascending alive
+  pub split_ascends : AreAscendingItems (full n live_patterns live)
+  split_ascends = full_ascends live_patterns live n is.ascending alive
 
-  pub split_live : (x : Item) → Has live x → Has (full n spared live) x
-  split_live x h = full_live spared live n x h (is.within x (contains_from live x h))
+  pub split_live : (x : Item) → Has live x → Has (full n live_patterns live) x
+  split_live x h = full_live live_patterns live n x h (is.within x (contains_from live x h))
 
-  -- a list is the full one if it holds the same items
-  pub split_is : (s : List Item) → AreAscendingItems s → ((x : Item) → Has s x → (x.0 < n) × IsHeld spared live x) → ((x : Item) → Has live x → Has s x) → ((i : ℕ) → i < n → (Has spared i → ⊥) → Has s (i, reject_state)) → full n spared live ≡ s
+  -- a list is the full one if it has the same items
+  pub split_is : (s : List Item) → AreAscendingItems s → ((x : Item) → Has s x → (x.0 < n) × IsHeld live_patterns live x) → ((x : Item) → Has live x → Has s x) → ((i : ℕ) → i < n → (Has live_patterns i → ⊥) → Has s (i, reject_state)) → full n live_patterns live ≡ s
   split_is s sorted parts lives rejects =
-      sorted_same item_total (full n spared live) s split_ascends sorted
-      (λ x h. let r = full_parts spared live n x h in elim r.1 [
+      sorted_same item_total (full n live_patterns live) s split_ascends sorted
+      (λ x h. let r = full_parts live_patterns live n x h in elim r.1 [
         | inl a ↦ lives x a
         | inr b ↦ subst (λ z. Has s z) (sym (item_is x x.0 reject_state refl b.0)) (rejects x.0 r.0 b.1)
       ])
       (λ x h. let r = parts x h in elim r.1 [
         | inl a ↦ split_live x a
-        | inr b ↦ subst (λ z. Has (full n spared live) z) (sym (item_is x x.0 reject_state refl b.0)) (full_reject spared live n x.0 r.0 b.1)
+        | inr b ↦ subst (λ z. Has (full n live_patterns live) z) (sym (item_is x x.0 reject_state refl b.0)) (full_reject live_patterns live n x.0 r.0 b.1)
       ])
 
   -- the live items of the full list
-  pub live_is_of : live_of (full n spared live) ≡ live
+  pub live_is_of : live_of (full n live_patterns live) ≡ live
   live_is_of =
-      sorted_same item_total (live_of (full n spared live)) live (IsStrictlySortedBy-filter item_cmp is_live (full n spared live) split_ascends) is.ascending
-      (λ x h. let f : Has (full n spared live) x × (is_live x ≡ true) = filter_has is_live (full n spared live) x h in elim (full_parts spared live n x f.0).1 [
+      sorted_same item_total (live_of (full n live_patterns live)) live (IsStrictlySortedBy-filter item_cmp is_live (full n live_patterns live) split_ascends) is.ascending
+      (λ x h. let f : Has (full n live_patterns live) x × (is_live x ≡ true) = filter_has is_live (full n live_patterns live) x h in elim (full_parts live_patterns live n x f.0).1 [
         | inl a ↦ a
         | inr b ↦ absurd (live_is x f.1 b.0)
       ])
-      (λ x h. has_filter is_live (full n spared live) x (split_live x h) (is_live_from x (alive x h)))
+      (λ x h. has_filter is_live (full n live_patterns live) x (split_live x h) (is_live_from x (alive x h)))
 
-  -- a pattern has a REJECT item unless it is spared
-  pub reject_parts : (i : ℕ) → Has (full n spared live) (i, reject_state) → (i < n) × (Has spared i → ⊥)
-  reject_parts i h = let r = full_parts spared live n (i, reject_state) h in elim r.1 [
+  -- a pattern has a REJECT item unless it is live
+  pub reject_parts : (i : ℕ) → Has (full n live_patterns live) (i, reject_state) → (i < n) × (Has live_patterns i → ⊥)
+  reject_parts i h = let r = full_parts live_patterns live n (i, reject_state) h in elim r.1 [
     | inl a ↦ absurd (alive (i, reject_state) a refl)
     | inr b ↦ (r.0, b.1)
   ]
 
-  pub spared_told : (i : ℕ) (b : Bool) (s : List Item) → full n spared live ≡ s → i < n → b ≡ list_any (λ j. j == i) spared → IsTrue (not b) ↔ Contains s (i, reject_state)
-  spared_told i b s view l told = subst (λ t. IsTrue (not b) ↔ Contains t (i, reject_state)) view (
-    λ h. contains_from (full n spared live) (i, reject_state) (full_reject spared live n i l (λ k. (let e : b ≡ true = told ∙ spared_any spared i k in let clash : not true ≡ true = rw e at h in cc))),
+  pub live_pattern_found : (i : ℕ) (b : Bool) (s : List Item) → full n live_patterns live ≡ s → i < n → b ≡ list_any (λ j. j == i) live_patterns → IsTrue (not b) ↔ Contains s (i, reject_state)
+  live_pattern_found i b s view l told = subst (λ t. IsTrue (not b) ↔ Contains t (i, reject_state)) view (
+    λ h. contains_from (full n live_patterns live) (i, reject_state) (full_reject live_patterns live n i l (λ k. (let e : b ≡ true = told ∙ live_pattern_any live_patterns i k in let clash : not true ≡ true = rw e at h in cc))),
     λ h. elim (cases_Bool b) [
-      | inl t ↦ absurd ((reject_parts i (has_from (full n spared live) (i, reject_state) h)).1 (any_spared spared i (sym told ∙ t)))
+      | inl t ↦ absurd ((reject_parts i (has_from (full n live_patterns live) (i, reject_state) h)).1 (any_live_pattern live_patterns i (sym told ∙ t)))
       | inr f ↦ not_true b f
     ],
   )
 
-  pub reject_below : (i : ℕ) (s : List Item) → full n spared live ≡ s → Contains s (i, reject_state) → i < n
-  reject_below i s view h = (reject_parts i (has_from (full n spared live) (i, reject_state) (rw (← view) at h))).0
+  pub reject_below : (i : ℕ) (s : List Item) → full n live_patterns live ≡ s → Contains s (i, reject_state) → i < n
+  reject_below i s view h = (reject_parts i (has_from (full n live_patterns live) (i, reject_state) (rw (← view) at h))).0

@@ -1,4 +1,4 @@
--- What noting items does to a worklist.
+-- A worklist after items are recorded.
 use Rattle.std.proofs.Common.{◌≡◌, ℕ, ◌+◌, List, [], ◌∷◌, ◌++◌, length, refl, ap, sym, ◌∙◌, subst, arith, inl, inr, Bool, true, false, cond, not, length-append, append_assoc, map}
 use Rattle.std.specs.Prelude.{slice_get, Some}
 use Rattle.std.specs.List.{Contains, filter}
@@ -31,7 +31,7 @@ item_exact x y e =
     let b : x.1 ≡ y.1 = nat_exact x.1 y.1 h.1 in
     pair_same x.0 y.0 x.1 y.1 a b
 
--- no item
+-- no items
 pub inserted_none : (o p : List Item) → IsInserted o p [] o p
 inserted_none o p = record {
   ordered = λ h. h;
@@ -86,7 +86,7 @@ module _ (s n : BTreeSet Item) (item : Item) (pending pending2 : List Item) (u :
         even = omega (arith, len2, ap length pushed, length-append pending (item ∷ []));
       }
 
-  -- one that was
+  -- an item that was observed
   pub inserted_old : (added : Bool) → added ≡ false → added ≡ not (contains item_cmp s item) → length n.keys ≡ length s.keys + cond added 1 0 → pending2 ≡ pending → IsInserted s.keys pending (item ∷ []) n.keys pending2
   inserted_old added is test len same =
       let len2 : length n.keys ≡ length s.keys + 0 = rw is at len in
@@ -106,7 +106,7 @@ module _ (s n : BTreeSet Item) (item : Item) (pending pending2 : List Item) (u :
 pub graph_here : (ns : List Graph) (i : ℕ) (g : Graph) → slice_get ns i ≡ Some g → graph_at ns i ≡ g
 graph_here ns i g h = get_or_from_slice_get ns i g no_graph h
 
--- where one edge that reads nothing leads, from the edges that leave the state
+-- the targets of a single edge that reads nothing, from the edges that leave the state
 pub steps_here : (ns : List Graph) (x : Item) (g : Graph) (q : ℕ) (es : List (Edge Noop)) → slice_get ns x.0 ≡ Some g → q ≡ x.1 → es ≡ filter (leaves q) g.edges.noops → map (λ e. (x.0, e.to)) es ≡ epsilon_targets ns x
 unfolding epsilon_targets
 steps_here ns x g q es at same is = rw (is, same, graph_here ns x.0 g at) refl

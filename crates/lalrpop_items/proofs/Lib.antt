@@ -4,7 +4,7 @@ pub mod Epsilon
 pub mod FullSets
 pub mod SetOrder
 pub mod LiveSets
-pub mod Sparing
+pub mod StillLive
 pub mod Marks
 pub mod ByPattern
 pub mod Targets

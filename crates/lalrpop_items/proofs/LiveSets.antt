@@ -1,4 +1,4 @@
--- Sets of items that are followed by their live items alone.
+-- Sets of items of which only the live items are followed.
 use Rattle.std.proofs.Common.{◌≡◌, ℕ, zero, suc, ◌+◌, ◌<◌, ◌⊎◌, inl, inr, ◌↔◌, List, [], ◌∷◌, ◌++◌, length, take, cond, get_or, refl, ap, ap₂, sym, ◌∙◌, subst, arith, Bool, IsTrue, true, false, not, ◌==◌, ◌&&◌, Some, eqb-true, eq-eqb}
 use Rattle.std.specs.List.{Contains, filter, list_any, flat_map, slice_get, range_with_len}
 use Rattle.std.specs.List.Sorted.{IsStrictlySortedBy}
@@ -19,7 +19,7 @@ use Rattle.lalrpop_items.specs.Automata.{Item}
 use Rattle.lalrpop_items.specs.Internal.Ascending.{item_cmp, AreAscendingItems}
 use Rattle.lalrpop_items.specs.Internal.Given.{IsItemOf, AreAutomata, AreItemsOf}
 use Rattle.lalrpop_items.specs.Internal.LiveItems.{is_live, live_of}
-use Rattle.lalrpop_items.specs.Internal.Split.{full, still_spared, AreWithin, AreSpared, IsSplit}
+use Rattle.lalrpop_items.specs.Internal.Split.{full, still_live, AreWithin, AreLivePatterns, IsSplit}
 use Rattle.lalrpop_items.specs.Internal.Subsets.{graph_at, is_epsilon_path, follows_by_epsilon, closed, item_targets, move}
 use Rattle.lalrpop_items.specs.Internal.Transitions.{AreTransitions}
 use Rattle.lalrpop_items.specs.Internal.Taken.{AreTargetsBy}
@@ -51,7 +51,7 @@ same_bool true b f g = sym (f refl)
 same_bool false true f g = g refl
 same_bool false false f g = refl
 
--- items are asked for a REJECT item
+-- whether items have a REJECT item
 pub reject_told : (items : List Item) (i : ℕ) (b : Bool) → IsTrue b ↔ Contains items (i, reject_state) → b ≡ list_any (is_reject_of i) items
 reject_told items i b told = same_bool b (list_any (is_reject_of i) items) (λ t. reject_any items i (has_from items (i, reject_state) (told.0 t))) (λ t. told.1 (contains_from items (i, reject_state) (any_reject items i t)))
 
@@ -59,33 +59,33 @@ still_not : (items : List Item) (i : ℕ) → not (list_any (is_reject_of i) ite
 still_not items i h k = let t : list_any (is_reject_of i) items ≡ true = reject_any items i k in let clash : not true ≡ true = rw t at h in cc
 
 -- ---- splitting items
-module _ (n : ℕ) (items : List Item) (spared : List ℕ) where
-  -- a pattern that stays spared was spared, and has no REJECT item
-  pub still_parts : (i : ℕ) → Has (still_spared items spared) i → Has spared i × (Has items (i, reject_state) → ⊥)
+module _ (n : ℕ) (items : List Item) (live_patterns : List ℕ) where
+  -- a pattern that stays live was live, and has no REJECT item
+  pub still_parts : (i : ℕ) → Has (still_live items live_patterns) i → Has live_patterns i × (Has items (i, reject_state) → ⊥)
   still_parts i h =
-      let f = filter_has (λ (j : ℕ). not (list_any (is_reject_of j) items)) spared i h in
+      let f = filter_has (λ (j : ℕ). not (list_any (is_reject_of j) items)) live_patterns i h in
       (f.0, still_not items i f.1)
 
-  -- a spared pattern that doesn't stay spared has one
-  still_told : (i : ℕ) → Has spared i → (Has (still_spared items spared) i → ⊥) → Has items (i, reject_state)
+  -- a live pattern that doesn't stay live has one
+  still_told : (i : ℕ) → Has live_patterns i → (Has (still_live items live_patterns) i → ⊥) → Has items (i, reject_state)
   still_told i h none = elim (cases_Bool (list_any (is_reject_of i) items)) [
     | inl t ↦ any_reject items i t
-    | inr f ↦ absurd (none (has_filter (λ (j : ℕ). not (list_any (is_reject_of j) items)) spared i h (rw f refl)))
+    | inr f ↦ absurd (none (has_filter (λ (j : ℕ). not (list_any (is_reject_of j) items)) live_patterns i h (rw f refl)))
   ]
 
-  pub split_of : AreAscendingItems items → AreWithin n items → AreSpared n spared → IsSplit n (still_spared items spared) (live_of items)
+  pub split_of : AreAscendingItems items → AreWithin n items → AreLivePatterns n live_patterns → IsSplit n (still_live items live_patterns) (live_of items)
   split_of sorted within s = record {
     ascending = IsStrictlySortedBy-filter item_cmp is_live items sorted;
     alive = λ x h. live_is x (filter_has is_live items x (has_from (live_of items) x h)).1;
     within = λ x h. within x (contains_from items x (filter_has is_live items x (has_from (live_of items) x h)).0);
     rising = record {
-      rising = IsStrictlySortedBy-filter nat_cmp (λ (j : ℕ). not (list_any (is_reject_of j) items)) spared s.rising;
-      within = λ i h. s.within i (contains_from spared i (still_parts i (has_from (still_spared items spared) i h)).0);
+      rising = IsStrictlySortedBy-filter nat_cmp (λ (j : ℕ). not (list_any (is_reject_of j) items)) live_patterns s.rising;
+      within = λ i h. s.within i (contains_from live_patterns i (still_parts i (has_from (still_live items live_patterns) i h)).0);
     };
   }
 
-  -- what the items hold, the split set holds
-  held_of : (x : Item) → Has items x → IsHeld (still_spared items spared) (live_of items) x
+  -- the split set has the items that the list has
+  held_of : (x : Item) → Has items x → IsHeld (still_live items live_patterns) (live_of items) x
   held_of x h = elim (cases_Bool (x.1 == reject_state)) [
     | inl t ↦
         (let e : x.1 ≡ reject_state = eqb-true x.1 reject_state t in
@@ -113,16 +113,16 @@ range_rises : (n a : ℕ) → IsStrictlySortedBy nat_cmp (range_with_len a n)
 range_rises zero a = sorted_nil nat_cmp
 range_rises (suc n) a = sorted_cons nat_cmp a (range_with_len (a + 1) n) (λ i h. less_cmp a i (let r = (range_parts (a + 1) n i h).1 in omega (arith, r))) (range_rises n (a + 1))
 
-pub all_spared : (n : ℕ) → AreSpared n (range_with_len 0 n)
-all_spared n = record {
+pub all_live_patterns : (n : ℕ) → AreLivePatterns n (range_with_len 0 n)
+all_live_patterns n = record {
   rising = range_rises n 0;
   within = λ i h. (let r = (range_parts 0 n i (has_from (range_with_len 0 n) i h)).0 in omega (arith, r));
 }
 
--- the items of a set all of whose patterns were spared
-pub split_all : (n : ℕ) (items : List Item) → AreAscendingItems items → AreWithin n items → full n (still_spared items (range_with_len 0 n)) (live_of items) ≡ items
+-- the items of a set whose patterns were all live
+pub split_all : (n : ℕ) (items : List Item) → AreAscendingItems items → AreWithin n items → full n (still_live items (range_with_len 0 n)) (live_of items) ≡ items
 split_all n items sorted within =
-    split_is n (still_spared items (range_with_len 0 n)) (live_of items) (split_of n items (range_with_len 0 n) sorted within (all_spared n)) items sorted
+    split_is n (still_live items (range_with_len 0 n)) (live_of items) (split_of n items (range_with_len 0 n) sorted within (all_live_patterns n)) items sorted
     (λ x h. (within x (contains_from items x h), held_of n items (range_with_len 0 n) x h))
     (λ x h. (filter_has is_live items x h).0)
     (λ i l none. still_told n items (range_with_len 0 n) i (range_has n 0 i (omega arith) (omega arith)) none)
@@ -131,14 +131,14 @@ module _ (ns : List Graph) (given items : List Item) (keys : items ≡ closed ns
   pub closed_within : AreWithin (length ns) items
   closed_within x h = (let item : IsItemOf ns x = (closed_parts ns given x (rw keys at (has_from items x h))).0 in slice_get_within ns x.0 item.0 item.1.0)
 
-  pub split_closed : full (length ns) (still_spared items (range_with_len 0 (length ns))) (live_of items) ≡ closed ns given
+  pub split_closed : full (length ns) (still_live items (range_with_len 0 (length ns))) (live_of items) ≡ closed ns given
   split_closed = split_all (length ns) items (rw keys (closed_ascends ns given)) closed_within ∙ keys
 
 -- one more pattern
-pub still_more : (items : List Item) (spared : List ℕ) (k i : ℕ) (b : Bool) (still still2 : List ℕ) → still ≡ still_spared items (take k spared) → k < length spared → i ≡ get_or spared k 0 → b ≡ list_any (is_reject_of i) items
-    → still2 ≡ still ++ cond b [] (i ∷ []) → still2 ≡ still_spared items (take (k + 1) spared)
-still_more items spared k i b still still2 was l read told next =
-    let more = filter_more (λ (j : ℕ). not (list_any (is_reject_of j) items)) spared k 0 l in
+pub still_more : (items : List Item) (live_patterns : List ℕ) (k i : ℕ) (b : Bool) (still still2 : List ℕ) → still ≡ still_live items (take k live_patterns) → k < length live_patterns → i ≡ get_or live_patterns k 0 → b ≡ list_any (is_reject_of i) items
+    → still2 ≡ still ++ cond b [] (i ∷ []) → still2 ≡ still_live items (take (k + 1) live_patterns)
+still_more items live_patterns k i b still still2 was l read told next =
+    let more = filter_more (λ (j : ℕ). not (list_any (is_reject_of j) items)) live_patterns k 0 l in
     next ∙ (ap₂ (λ xs ys. xs ++ ys) was (flip ∙ ap (λ j. cond (not (list_any (is_reject_of j) items)) (j ∷ []) []) read) ∙ sym more)
   where
     by : (d : Bool) → cond d [] (i ∷ []) ≡ cond (not d) (i ∷ []) []
@@ -166,81 +166,81 @@ module _ (ns : List Graph) (a : AreAutomata ns) where
   follows_self x = and_from (x.0 == x.0) (is_epsilon_path (graph_at ns x.0) x.1 x.1) (eq-eqb x.0 x.0 refl) (epsilon_self (graph_at ns x.0) x.1)
 
   -- ---- a split set
-  module _ (n : ℕ) (spared : List ℕ) (live : List Item) (is : IsSplit n spared live) where
-    pub live_inside : AreItemsOf ns (full n spared live) → AreItemsOf ns live
-    live_inside inside x h = inside x (contains_from (full n spared live) x (split_live n spared live is x (has_from live x h)))
+  module _ (n : ℕ) (live_patterns : List ℕ) (live : List Item) (is : IsSplit n live_patterns live) where
+    pub live_inside : AreItemsOf ns (full n live_patterns live) → AreItemsOf ns live
+    live_inside inside x h = inside x (contains_from (full n live_patterns live) x (split_live n live_patterns live is x (has_from live x h)))
 
     -- no test edge leaves REJECT
-    tested_live : (x : Item) (g : Graph) (r : Range) (q : ℕ) → slice_get ns x.0 ≡ Some g → Contains g.edges.tests (test x.1 r q) → Contains (full n spared live) x → Contains live x
-    tested_live x g r q at h k = elim (full_parts spared live n x (has_from (full n spared live) x k)).1 [
+    tested_live : (x : Item) (g : Graph) (r : Range) (q : ℕ) → slice_get ns x.0 ≡ Some g → Contains g.edges.tests (test x.1 r q) → Contains (full n live_patterns live) x → Contains live x
+    tested_live x g r q at h k = elim (full_parts live_patterns live n x (has_from (full n live_patterns live) x k)).1 [
       | inl l ↦ contains_from live x l
       | inr d ↦ absurd (((compiled_at a.0 ns a.1 x.0 g at).1.1.tests_in (test x.1 r q) h).2 d.0)
     ]
 
     -- the test edges that are taken leave live items
-    pub edges_leave_live : (v : ℕ) (edges : List Transition) → AreTransitions ns (full n spared live) v edges → (l : Transition) → Contains edges l → Contains live l.item
+    pub edges_leave_live : (v : ℕ) (edges : List Transition) → AreTransitions ns (full n live_patterns live) v edges → (l : Transition) → Contains edges l → Contains live l.item
     edges_leave_live v edges have l h = (let (g, r, (m, at, e, c)) = (have l).0 h in tested_live l.item g r l.to at e m)
 
     -- by those edges, the live items lead to what the value leads to
-    pub targets_alike : (v : ℕ) (edges : List Transition) (items given : List Item) → AreItemsOf ns (full n spared live) → AreTransitions ns (full n spared live) v edges → items ≡ live → AreTargetsBy ns items edges given
+    pub targets_alike : (v : ℕ) (edges : List Transition) (items given : List Item) → AreItemsOf ns (full n live_patterns live) → AreTransitions ns (full n live_patterns live) v edges → items ≡ live → AreTargetsBy ns items edges given
         → (z : Item) → Contains given z ↔ Contains (flat_map (item_targets ns v) live) z
     targets_alike v edges items given inside have same led =
-        taken_targets ns (full n spared live) live v edges have (live_inside inside) (λ x h. contains_from (full n spared live) x (split_live n spared live is x h)) given (subst (λ (xs : List Item). AreTargetsBy ns xs edges given) same led)
+        taken_targets ns (full n live_patterns live) live v edges have (live_inside inside) (λ x h. contains_from (full n live_patterns live) x (split_live n live_patterns live is x h)) given (subst (λ (xs : List Item). AreTargetsBy ns xs edges given) same led)
 
     -- and then by reading nothing
-    pub closed_from_live : (v : ℕ) (edges : List Transition) (items given given2 found : List Item) → AreItemsOf ns (full n spared live) → AreTransitions ns (full n spared live) v edges → items ≡ live → AreTargetsBy ns items edges given
+    pub closed_from_live : (v : ℕ) (edges : List Transition) (items given given2 found : List Item) → AreItemsOf ns (full n live_patterns live) → AreTransitions ns (full n live_patterns live) v edges → items ≡ live → AreTargetsBy ns items edges given
         → given2 ≡ given → found ≡ closed ns given2 → found ≡ closed ns (flat_map (item_targets ns v) live)
     closed_from_live v edges items given given2 found inside have same led again is =
         is ∙ (ap (closed ns) again ∙ closed_alike ns given (flat_map (item_targets ns v) live) (targets_alike v edges items given inside have same led))
 
-    -- the set that it leads to by a value
-    module _ (c : ℕ) (inside : AreItemsOf ns (full n spared live)) (items : List Item) (keys : items ≡ closed ns (flat_map (item_targets ns c) live)) where
+    -- the set to which it leads by a value
+    module _ (c : ℕ) (inside : AreItemsOf ns (full n live_patterns live)) (items : List Item) (keys : items ≡ closed ns (flat_map (item_targets ns c) live)) where
       sorted : AreAscendingItems items
       sorted = rw keys (closed_ascends ns (flat_map (item_targets ns c) live))
 
-      pub moved_from_live : (x : Item) → Has items x → Has (move ns (full n spared live) c) x
+      pub moved_from_live : (x : Item) → Has items x → Has (move ns (full n live_patterns live) c) x
       moved_from_live x h =
           let (item, (z, (given, led))) = closed_parts ns (flat_map (item_targets ns c) live) x (rw keys at h) in
           let (y, (there, leads)) = flat_map_has (item_targets ns c) live z given in
-          move_has ns (full n spared live) c x y z item (split_live n spared live is y there) leads led
+          move_has ns (full n live_patterns live) c x y z item (split_live n live_patterns live is y there) leads led
 
-      moved_place : (x : Item) → Has (move ns (full n spared live) c) x → x.0 < n
-      moved_place x h = (full_parts spared live n (x.0, (moved ns (full n spared live) c x h).first) (moved ns (full n spared live) c x h).member).0
+      moved_place : (x : Item) → Has (move ns (full n live_patterns live) c) x → x.0 < n
+      moved_place x h = (full_parts live_patterns live n (x.0, (moved ns (full n live_patterns live) c x h).first) (moved ns (full n live_patterns live) c x h).member).0
 
       pub moved_within : AreWithin n items
       moved_within x h = moved_place x (moved_from_live x (has_from items x h))
 
-      moved_held : (x : Item) → IsMoved ns (full n spared live) c x → IsHeld (still_spared items spared) (live_of items) x
-      moved_held x m = elim (full_parts spared live n (x.0, m.first) m.member).1 [
+      moved_held : (x : Item) → IsMoved ns (full n live_patterns live) c x → IsHeld (still_live items live_patterns) (live_of items) x
+      moved_held x m = elim (full_parts live_patterns live n (x.0, m.first) m.member).1 [
         | inl l ↦
-            held_of n items spared x
+            held_of n items live_patterns x
             (rw keys (closed_has ns (flat_map (item_targets ns c) live) x (x.0, m.second) m.item
             (has_flat_map (item_targets ns c) live (x.0, m.first) (x.0, m.second) l (item_targets_have ns c (x.0, m.first) m.second m.graph m.at m.edge)) m.follows))
         | inr d ↦
             (let landed : m.second ≡ reject_state = reject_leads x.0 c m.second m.graph m.at (subst (λ p. Reads m.graph.edges p c m.second) d.0 m.edge) in
             let k = compiled_at a.0 ns a.1 x.0 m.graph m.at in
-            inr (reject_path k.0 m.graph k.1.1 x.1 m.second [] m.end refl landed, λ h. d.1 (still_parts n items spared x.0 h).0))
+            inr (reject_path k.0 m.graph k.1.1 x.1 m.second [] m.end refl landed, λ h. d.1 (still_parts n items live_patterns x.0 h).0))
       ]
 
-      failed_stay : (i : ℕ) → i < n → (Has spared i → ⊥) → Has (move ns (full n spared live) c) (i, reject_state)
+      failed_stay : (i : ℕ) → i < n → (Has live_patterns i → ⊥) → Has (move ns (full n live_patterns live) c) (i, reject_state)
       failed_stay i l none =
-          let here : Has (full n spared live) (i, reject_state) = full_reject spared live n i l none in
-          let item : IsItemOf ns (i, reject_state) = inside (i, reject_state) (contains_from (full n spared live) (i, reject_state) here) in
-          move_has ns (full n spared live) c (i, reject_state) (i, reject_state) (i, reject_state) item here
+          let here : Has (full n live_patterns live) (i, reject_state) = full_reject live_patterns live n i l none in
+          let item : IsItemOf ns (i, reject_state) = inside (i, reject_state) (contains_from (full n live_patterns live) (i, reject_state) here) in
+          move_has ns (full n live_patterns live) c (i, reject_state) (i, reject_state) (i, reject_state) item here
           (item_targets_have ns c (i, reject_state) reject_state item.0 item.1.0 (reject_reads i c item.0 item.1.0)) (follows_self (i, reject_state))
 
-      any_spared : (i : ℕ) → (Has spared i) ⊎ (Has spared i → ⊥)
-      any_spared i = elim (cases_Bool (list_any (λ j. j == i) spared)) [
-        | inl t ↦ (let r : (j : ℕ) × (Has spared j × ((j == i) ≡ true)) = has_from_any (λ j. j == i) spared t in inl (subst (λ j. Has spared j) (eqb-true r.0 i r.1.1) r.1.0))
-        | inr f ↦ inr (λ h. let t : list_any (λ j. j == i) spared ≡ true = any_from_has (λ j. j == i) spared i h (eq-eqb i i refl) in let clash : true ≡ false = sym t ∙ f in cc)
+      any_live_pattern : (i : ℕ) → (Has live_patterns i) ⊎ (Has live_patterns i → ⊥)
+      any_live_pattern i = elim (cases_Bool (list_any (λ j. j == i) live_patterns)) [
+        | inl t ↦ (let r : (j : ℕ) × (Has live_patterns j × ((j == i) ≡ true)) = has_from_any (λ j. j == i) live_patterns t in inl (subst (λ j. Has live_patterns j) (eqb-true r.0 i r.1.1) r.1.0))
+        | inr f ↦ inr (λ h. let t : list_any (λ j. j == i) live_patterns ≡ true = any_from_has (λ j. j == i) live_patterns i h (eq-eqb i i refl) in let clash : true ≡ false = sym t ∙ f in cc)
       ]
 
-      pub moved_is : full n (still_spared items spared) (live_of items) ≡ move ns (full n spared live) c
+      pub moved_is : full n (still_live items live_patterns) (live_of items) ≡ move ns (full n live_patterns live) c
       moved_is =
-          split_is n (still_spared items spared) (live_of items) (split_of n items spared sorted moved_within is.rising) (move ns (full n spared live) c) (move_ascends ns (full n spared live) c)
-          (λ x h. (moved_place x h, moved_held x (moved ns (full n spared live) c x h)))
+          split_is n (still_live items live_patterns) (live_of items) (split_of n items live_patterns sorted moved_within is.rising) (move ns (full n live_patterns live) c) (move_ascends ns (full n live_patterns live) c)
+          (λ x h. (moved_place x h, moved_held x (moved ns (full n live_patterns live) c x h)))
           (λ x h. moved_from_live x (filter_has is_live items x h).0)
-          (λ i l none. elim (any_spared i) [
-            | inl s ↦ moved_from_live (i, reject_state) (still_told n items spared i s none)
+          (λ i l none. elim (any_live_pattern i) [
+            | inl s ↦ moved_from_live (i, reject_state) (still_told n items live_patterns i s none)
             | inr f ↦ failed_stay i l f
           ])

@@ -1,4 +1,4 @@
--- Items of one pattern, told by marks at their states.
+-- Items of one pattern, as marks at their states.
 use Rattle.std.proofs.Common.{◌≡◌, ◌≢◌, ℕ, zero, suc, ◌+◌, ◌<◌, ◌≤◌, ◌⊎◌, inl, inr, List, [], ◌∷◌, ◌++◌, length, get_or, drop, refl, ap, ap₂, sym, ◌∙◌, subst, arith, Bool, true, false, cond, ◌==◌, eqb-true, append_assoc, append-nil, length-append, drop-cons, add-one}
 use Rattle.std.specs.List.{Contains}
 use Rattle.std.specs.declared.cmp.Ordering.TheVariants.{Less}
@@ -26,7 +26,7 @@ in_rest i q rest x false h = h
 less_state : (x y : Item) → x.0 ≡ y.0 → x.1 < y.1 → item_cmp x y ≡ Less
 less_state x y e h = grind (arith, nat_tests)
 
--- what is read of a mark
+-- what is read from a mark
 pub read_mark : (marks : List Bool) (k n : ℕ) (b d : Bool) → k ≡ n → b ≡ get_or marks k b → b ≡ d → k < length marks → get_or marks n false ≡ d
 read_mark marks k n b d same read is l = sym (sym is ∙ (read ∙ (get_or_default marks k b false l ∙ ap (λ j. get_or marks j false) same)))
 
@@ -155,7 +155,7 @@ module _ (i : ℕ) where
       even = omega (arith, ap (λ ms. length (marked i ms)) is, ap length same);
     }
 
-  -- ---- the marks one after the other
+  -- ---- the marks in a row
   pub marks_start : (marks : List Bool) (old : List Item) → old ++ marked_from i 0 (drop 0 marks) ≡ old ++ marked i marks
   unfolding marked
   marks_start marks old = refl

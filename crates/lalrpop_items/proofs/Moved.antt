@@ -1,4 +1,4 @@
--- What an item of a moved set comes from, and values by which the items of a set take the same edges.
+-- Where an item of a moved set comes from, and values by which the items of a set take the same edges.
 use Rattle.std.proofs.Common.{◌≡◌, ℕ, List, [], sym, subst, ◌∙◌, true, ◌==◌, Some, eqb-true, eq-eqb}
 use Rattle.std.specs.List.{slice_get}
 use Rattle.lalrpop_book.specs.Tree.{Tree}
@@ -20,14 +20,14 @@ dead_states s d x h = eqb-true x.1 reject_state (all_has (λ (x : Item). x.1 == 
 pub dead_from : (s : List Item) → ((x : Item) → Has s x → x.1 ≡ reject_state) → is_dead s ≡ true
 dead_from s f = all_from_has (λ (x : Item). x.1 == reject_state) s (λ x h. eq-eqb x.1 reject_state (f x h))
 
--- no edge leaves REJECT but its other edge
+-- only its other edge leaves REJECT
 pub reject_path : (t : Tree) (g : Graph) → IsCompiled t g → (q p : ℕ) (w : List ℕ) → Path g.edges q p w → w ≡ [] → p ≡ reject_state → q ≡ reject_state
 reject_path t g c q p w (here a same) e r = sym same ∙ r
 reject_path t g c q p w (epsilon a b u k s) e r = absurd ((c.noops_in (noop a b) k).2 r)
 reject_path t g c q p w (read a b u x d k n s) e r = cc
 reject_path t g c q p w (otherwise a b u d k n s) e r = cc
 
--- what an item of a moved set comes from: an item of the set, an edge and a path that reads nothing
+-- where an item of a moved set comes from: an item of the set, an edge and a path that reads nothing
 pub record IsMoved (ns : List Graph) (s : List Item) (c : ℕ) (x : Item) : Type 0 where
   pub graph : Graph
   pub at : slice_get ns x.0 ≡ Some graph
@@ -62,7 +62,7 @@ moved ns s c x h =
       follows = subst (λ (i : ℕ). follows_by_epsilon ns (i, z.1) x ≡ true) second p.1.2.2;
     }
 
--- what the items take by c they take by d
+-- the items take by d what they take by c
 abbrev pub TakeAlso : List Graph → List Item → ℕ → ℕ → Type 0
 TakeAlso ns s c d = (x : Item) (g : Graph) (p q : ℕ) → slice_get ns x.0 ≡ Some g → Has s (x.0, p) → Reads g.edges p c q → Reads g.edges p d q
 

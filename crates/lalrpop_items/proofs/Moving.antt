@@ -26,12 +26,12 @@ module _ {L : Type 0} (i p : ℕ) where
         | false ↦ default_start es
       ]
 
--- where there is no test edge, the other edges lead
+-- if there is no test edge, the other edges lead
 pub bare_run : (ns : List Graph) (x : Item) (g : Graph) → slice_get ns x.0 ≡ Some g → map (λ q. let z : Item = (x.0, q) in z) (default_targets g x.1) ≡ targets_of_run ns x []
 unfolding targets_of_run
 bare_run ns x g at = rw (graph_here ns x.0 g at) refl
 
--- and else they alone
+-- otherwise only the test edges do
 pub edges_run : (ns : List Graph) (x : Item) (run : List Transition) → (length run ≡ 0 → ⊥) → map (λ (e : Transition). let z : Item = (x.0, e.to) in z) run ≡ targets_of_run ns x run
 unfolding targets_of_run
 edges_run ns x [] some = absurd (some refl)
@@ -41,7 +41,7 @@ edges_run ns x (e ∷ run) some = ap (λ ys. let z : Item = (x.0, e.to) in z ∷
     rest [] = refl
     rest (e ∷ es) = ap (λ ys. let z : Item = (x.0, e.to) in z ∷ ys) (rest es)
 
--- where a value leads from an item is an item
+-- the target of an item by a value is an item
 pub targets_inside : (ns : List Graph) (c : ℕ) (s : List Item) → AreAutomata ns → AreItemsOf ns s → AreItemsOf ns (flat_map (item_targets ns c) s)
 targets_inside ns c s a inside z h =
     let (y, f) = flat_map_has (item_targets ns c) s z (has_from (flat_map (item_targets ns c) s) z h) in

@@ -1,4 +1,4 @@
--- The order of sets, from their live items and the patterns that they spare.
+-- The order of sets, from their live items and their live patterns.
 use Rattle.std.proofs.Common.{◌≡◌, ◌≢◌, ℕ, ◌+◌, ◌<◌, ◌≤◌, Bool, true, false, not, nat_eq, eqb-true, IsTrue, inl, inr, take, get_or, ◌↔◌, List, [], ◌∷◌, length, refl, ap, ap₂, sym, ◌∙◌, subst, arith}
 use mathlib.Core.Bool.{beq}
 use Rattle.std.specs.List.{Contains}
@@ -137,30 +137,30 @@ bools_same false true h = cc
 bools_same false false h = refl
 
 -- two split sets
-module _ (n m : ℕ) (spared spared2 : List ℕ) (live live2 : List Item) (is : IsSplit n spared live) (is2 : IsSplit m spared2 live2) (s t : List Item) (view : full n spared live ≡ s) (view2 : full m spared2 live2 ≡ t) where
+module _ (n m : ℕ) (live_patterns live_patterns2 : List ℕ) (live live2 : List Item) (is : IsSplit n live_patterns live) (is2 : IsSplit m live_patterns2 live2) (s t : List Item) (view : full n live_patterns live ≡ s) (view2 : full m live_patterns2 live2 ≡ t) where
   s_ascends : AreAscendingItems s
-  s_ascends = subst AreAscendingItems view (split_ascends n spared live is)
+  s_ascends = subst AreAscendingItems view (split_ascends n live_patterns live is)
 
   t_ascends : AreAscendingItems t
-  t_ascends = subst AreAscendingItems view2 (split_ascends m spared2 live2 is2)
+  t_ascends = subst AreAscendingItems view2 (split_ascends m live_patterns2 live2 is2)
 
-  spared_same : n ≡ m → spared ≡ spared2 → (j : ℕ) → SameReject s t j
-  spared_same e f j = (
-    λ h. (let r = reject_parts n spared live is j (has_from (full n spared live) (j, reject_state) (rw (← view) at h)) in
-        subst (λ u. Contains u (j, reject_state)) view2 (contains_from (full m spared2 live2) (j, reject_state) (full_reject spared2 live2 m j (omega (arith, r.0, e)) (λ k. r.1 (rw (← f) at k))))),
-    λ h. (let r = reject_parts m spared2 live2 is2 j (has_from (full m spared2 live2) (j, reject_state) (rw (← view2) at h)) in
-        subst (λ u. Contains u (j, reject_state)) view (contains_from (full n spared live) (j, reject_state) (full_reject spared live n j (omega (arith, r.0, e)) (λ k. r.1 (rw f at k))))),
+  live_patterns_same : n ≡ m → live_patterns ≡ live_patterns2 → (j : ℕ) → SameReject s t j
+  live_patterns_same e f j = (
+    λ h. (let r = reject_parts n live_patterns live is j (has_from (full n live_patterns live) (j, reject_state) (rw (← view) at h)) in
+        subst (λ u. Contains u (j, reject_state)) view2 (contains_from (full m live_patterns2 live2) (j, reject_state) (full_reject live_patterns2 live2 m j (omega (arith, r.0, e)) (λ k. r.1 (rw (← f) at k))))),
+    λ h. (let r = reject_parts m live_patterns2 live2 is2 j (has_from (full m live_patterns2 live2) (j, reject_state) (rw (← view2) at h)) in
+        subst (λ u. Contains u (j, reject_state)) view (contains_from (full n live_patterns live) (j, reject_state) (full_reject live_patterns live n j (omega (arith, r.0, e)) (λ k. r.1 (rw f at k))))),
   )
 
-  pub told_equal : n ≡ m → spared ≡ spared2 → Equal ≡ rejects_cmp s t
-  told_equal e f = sym (rejects_equal s t s_ascends t_ascends (spared_same e f))
+  pub told_equal : n ≡ m → live_patterns ≡ live_patterns2 → Equal ≡ rejects_cmp s t
+  told_equal e f = sym (rejects_equal s t s_ascends t_ascends (live_patterns_same e f))
 
-  pub spared_alike : n ≡ m → (i : ℕ) → AreAlikeBelow i spared spared2 → (j : ℕ) → j < i → SameReject s t j
-  spared_alike e i alike j l = (
-    λ h. (let r = reject_parts n spared live is j (has_from (full n spared live) (j, reject_state) (rw (← view) at h)) in
-        subst (λ u. Contains u (j, reject_state)) view2 (contains_from (full m spared2 live2) (j, reject_state) (full_reject spared2 live2 m j (omega (arith, r.0, e)) (λ k. r.1 (has_from spared j ((alike j l).1 (contains_from spared2 j k))))))),
-    λ h. (let r = reject_parts m spared2 live2 is2 j (has_from (full m spared2 live2) (j, reject_state) (rw (← view2) at h)) in
-        subst (λ u. Contains u (j, reject_state)) view (contains_from (full n spared live) (j, reject_state) (full_reject spared live n j (omega (arith, r.0, e)) (λ k. r.1 (has_from spared2 j ((alike j l).0 (contains_from spared j k))))))),
+  pub live_patterns_alike : n ≡ m → (i : ℕ) → AreAlikeBelow i live_patterns live_patterns2 → (j : ℕ) → j < i → SameReject s t j
+  live_patterns_alike e i alike j l = (
+    λ h. (let r = reject_parts n live_patterns live is j (has_from (full n live_patterns live) (j, reject_state) (rw (← view) at h)) in
+        subst (λ u. Contains u (j, reject_state)) view2 (contains_from (full m live_patterns2 live2) (j, reject_state) (full_reject live_patterns2 live2 m j (omega (arith, r.0, e)) (λ k. r.1 (has_from live_patterns j ((alike j l).1 (contains_from live_patterns2 j k))))))),
+    λ h. (let r = reject_parts m live_patterns2 live2 is2 j (has_from (full m live_patterns2 live2) (j, reject_state) (rw (← view2) at h)) in
+        subst (λ u. Contains u (j, reject_state)) view (contains_from (full n live_patterns live) (j, reject_state) (full_reject live_patterns live n j (omega (arith, r.0, e)) (λ k. r.1 (has_from live_patterns2 j ((alike j l).0 (contains_from live_patterns j k))))))),
   )
 
   pub told_same : (i : ℕ) → n ≤ i → m ≤ i → ((j : ℕ) → j < i → SameReject s t j) → Equal ≡ rejects_cmp s t
@@ -170,8 +170,8 @@ module _ (n m : ℕ) (spared spared2 : List ℕ) (live live2 : List Item) (is : 
       all j = elim (cases_lt j i) [
         | inl below ↦ same j below
         | inr above ↦ (
-          λ h. absurd (omega (arith, (reject_parts n spared live is j (has_from (full n spared live) (j, reject_state) (rw (← view) at h))).0)),
-          λ h. absurd (omega (arith, (reject_parts m spared2 live2 is2 j (has_from (full m spared2 live2) (j, reject_state) (rw (← view2) at h))).0)),
+          λ h. absurd (omega (arith, (reject_parts n live_patterns live is j (has_from (full n live_patterns live) (j, reject_state) (rw (← view) at h))).0)),
+          λ h. absurd (omega (arith, (reject_parts m live_patterns2 live2 is2 j (has_from (full m live_patterns2 live2) (j, reject_state) (rw (← view2) at h))).0)),
         )
       ]
 
@@ -192,22 +192,22 @@ module _ (n m : ℕ) (spared spared2 : List ℕ) (live live2 : List Item) (is : 
   ]
 
   held_too : live ≡ live2 → rejects_of s ≡ rejects_of t → (x : Item) → Has s x → Has t x
-  held_too e f x h = elim (full_parts spared live n x (rw (← view) at h)).1 [
-    | inl l ↦ subst (λ u. Has u x) view2 (split_live m spared2 live2 is2 x (rw e at l))
+  held_too e f x h = elim (full_parts live_patterns live n x (rw (← view) at h)).1 [
+    | inl l ↦ subst (λ u. Has u x) view2 (split_live m live_patterns2 live2 is2 x (rw e at l))
     | inr d ↦
         (let is_reject : x ≡ (x.0, reject_state) = ap (λ q. let z : Item = (x.0, q) in z) d.0 in
         let there : Has (rejects_of s) x.0 = rejects_have s x.0 (subst (λ z. Has s z) is_reject h) in
         subst (λ z. Has t z) (sym is_reject) (rejects_held t x.0 (rw f at there)))
   ]
 
--- ---- where two ascending lists differ first
+-- ---- the first difference of two ascending lists
 module _ (xs ys : List ℕ) (i : ℕ) (same : take i xs ≡ take i ys) (within : i ≤ length ys) (j : ℕ) where
   in_front : (k : ℕ) → k < length xs → get_or xs k j ≡ j → k < i → Contains ys j
   in_front k m is front =
       let e : get_or xs k j ≡ get_or ys k j = sym (get_or-take i xs k j front) ∙ (ap (λ zs. get_or zs k j) same ∙ get_or-take i ys k j front) in
       (k, omega arith, sym e ∙ is)
 
-  -- a number before the place of the first list
+  -- a number before the place in the first list
   before : IsStrictlySortedBy nat_cmp xs → i < length xs → j < get_or xs i 0 → Contains xs j → Contains ys j
   before sorted l below (k, m, is) = elim (cases_lt k i) [
     | inl front ↦ in_front k m is front
@@ -220,7 +220,7 @@ module _ (xs ys : List ℕ) (i : ℕ) (same : take i xs ≡ take i ys) (within :
         | inr at ↦ (let e : k ≡ i = omega arith in omega (arith, ap (λ n. get_or xs n 0) e))
       ]
 
-  -- any number where the first list ends at the place
+  -- any number, if the first list ends at the place
   whole : length xs ≤ i → Contains xs j → Contains ys j
   whole l (k, m, is) = in_front k m is (omega arith)
 
@@ -241,14 +241,14 @@ pub alike_none : (n : ℕ) (xs ys : List ℕ) → n ≡ 0 → AreAlikeBelow n xs
 alike_none n xs ys e j h = absurd (omega (arith, e))
 
 -- the order of two split sets
-module _ (n m : ℕ) (spared spared2 : List ℕ) (live live2 : List Item) (is : IsSplit n spared live) (is2 : IsSplit m spared2 live2) (s t : List Item) (view : full n spared live ≡ s) (view2 : full m spared2 live2 ≡ t) where
+module _ (n m : ℕ) (live_patterns live_patterns2 : List ℕ) (live live2 : List Item) (is : IsSplit n live_patterns live) (is2 : IsSplit m live_patterns2 live2) (s t : List Item) (view : full n live_patterns live ≡ s) (view2 : full m live_patterns2 live2 ≡ t) where
   all_same : live ≡ live2 → rejects_of s ≡ rejects_of t → s ≡ t
   all_same e f =
-      sorted_same item_total s t (subst AreAscendingItems view (split_ascends n spared live is)) (subst AreAscendingItems view2 (split_ascends m spared2 live2 is2))
-      (held_too n m spared spared2 live live2 is is2 s t view view2 e f) (held_too m n spared2 spared live2 live is2 is t s view2 view (sym e) (sym f))
+      sorted_same item_total s t (subst AreAscendingItems view (split_ascends n live_patterns live is)) (subst AreAscendingItems view2 (split_ascends m live_patterns2 live2 is2))
+      (held_too n m live_patterns live_patterns2 live live2 is is2 s t view view2 e f) (held_too m n live_patterns2 live_patterns live2 live is2 is t s view2 view (sym e) (sym f))
 
   lives : slice_cmp item_cmp (live_of s) (live_of t) ≡ slice_cmp item_cmp live live2
-  lives = ap₂ (λ a b. slice_cmp item_cmp a b) (ap live_of (sym view) ∙ live_is_of n spared live is) (ap live_of (sym view2) ∙ live_is_of m spared2 live2 is2)
+  lives = ap₂ (λ a b. slice_cmp item_cmp a b) (ap live_of (sym view) ∙ live_is_of n live_patterns live is) (ap live_of (sym view2) ∙ live_is_of m live_patterns2 live2 is2)
 
   pub cmp_apart : (o : Ordering) → o ≡ slice_cmp item_cmp live live2 → o ≢ Equal → o ≡ items_cmp s t
   cmp_apart o e apart =
@@ -266,8 +266,8 @@ module _ (n m : ℕ) (spared spared2 : List ℕ) (live live2 : List Item) (is : 
   module _ (hash hash2 : ℕ) (hashed : hash ≡ hash_of live) (hashed2 : hash2 ≡ hash_of live2) where
     hashes : nat_cmp (hash_of (live_of s)) (hash_of (live_of t)) ≡ nat_cmp hash hash2
     hashes =
-        ap₂ nat_cmp (ap hash_of (ap live_of (sym view) ∙ live_is_of n spared live is) ∙ sym hashed)
-        (ap hash_of (ap live_of (sym view2) ∙ live_is_of m spared2 live2 is2) ∙ sym hashed2)
+        ap₂ nat_cmp (ap hash_of (ap live_of (sym view) ∙ live_is_of n live_patterns live is) ∙ sym hashed)
+        (ap hash_of (ap live_of (sym view2) ∙ live_is_of m live_patterns2 live2 is2) ∙ sym hashed2)
 
     pub hashes_apart : (o : Ordering) → o ≡ nat_cmp hash hash2 → o ≢ Equal → o ≡ set_cmp s t
     hashes_apart o e apart = sym (ap (λ a. ordering_then a (items_cmp s t)) (hashes ∙ sym e) ∙ then_apart o (items_cmp s t) apart)

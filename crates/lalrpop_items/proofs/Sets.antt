@@ -1,4 +1,4 @@
--- Sets of items: they ascend, what they hold, and that what they hold tells them apart.
+-- Sets of items ascend, and are equal if they have the same members.
 use Rattle.std.proofs.Common.{◌≡◌, ℕ, zero, suc, ◌+◌, ◌<◌, ◌≤◌, ◌↔◌, inl, inr, List, [], ◌∷◌, length, refl, ap, sym, subst, arith, true, Some}
 use Rattle.std.specs.Cmp.{IsTotalOrder}
 use Rattle.std.specs.Ordering.{nat_cmp}
@@ -55,7 +55,7 @@ below_ascend i (suc n) =
     apart x y h (inl e) = let r : (x.0 ≡ i) × (x.1 < n) = below_parts i n x h in rw (← e) (less_state x (i, n) r.0 r.1)
     apart x y h (inr e) = absurd e
 
--- the items of automata from a place on
+-- the items of the automata from an index on
 abbrev IsItemFrom : ℕ → List Graph → Item → Type 0
 IsItemFrom i gs x = (j : ℕ) × (g : Graph) × ((x.0 ≡ i + j) × (slice_get gs j ≡ Some g) × (x.1 < length g.kinds))
 
@@ -99,7 +99,7 @@ module _ (ns : List Graph) where
   unfolding all_items
   all_items_have x r = from_has ns 0 x.0 r.0 x (omega arith) r.1.0 r.1.1
 
-  -- what a closed set holds
+  -- the members of a closed set
   pub closed_ascends : (given : List Item) → AreAscendingItems (closed ns given)
   unfolding closed
   closed_ascends given = IsStrictlySortedBy-filter item_cmp (λ x. list_any (λ y. follows_by_epsilon ns y x) given) (all_items ns) all_items_ascend
@@ -150,10 +150,10 @@ module _ (ns : List Graph) where
   unfolding move
   move_has s c x y z i h k f = closed_has (flat_map (item_targets ns c) s) x z i (has_flat_map (item_targets ns c) s y z h k) f
 
-  -- ascending lists of items are no longer than the list of all
+  -- an ascending list of items is no longer than the list of all items
   pub at_most_all_items : (s : List Item) → AreAscendingItems s → ((x : Item) → Contains s x → IsItemOf ns x) → length s ≤ length (all_items ns)
   at_most_all_items s a f = sorted_at_most item_total (all_items ns) s a all_items_ascend (λ x h. all_items_have x (f x (contains_from s x h)))
 
--- ascending lists that hold the same items are equal
+-- ascending lists with the same items are equal
 pub same_items : (s t : List Item) → AreAscendingItems s → AreAscendingItems t → ((x : Item) → Contains s x ↔ Contains t x) → s ≡ t
 same_items s t a b f = sorted_same item_total s t a b (λ x h. has_from t x ((f x).0 (contains_from s x h))) (λ x h. has_from s x ((f x).1 (contains_from t x h)))

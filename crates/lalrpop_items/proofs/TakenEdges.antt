@@ -1,4 +1,4 @@
--- Where items lead, told by the test edges that are taken.
+-- The targets of items, given the test edges that are taken.
 use Rattle.std.proofs.Common.{◌≡◌, ℕ, zero, suc, ◌+◌, ◌-◌, ◌<◌, ◌≤◌, inl, inr, ◌↔◌, List, [], ◌∷◌, ◌++◌, length, map, take, drop, get_or, refl, ap, sym, ◌∙◌, subst, arith, true, false, cond, ◌==◌}
 use Rattle.std.specs.Prelude.{slice_get, Some}
 use Rattle.std.specs.Cmp.{IsTotalOrder, IsStrictWeakOrder}
@@ -118,7 +118,7 @@ run_targets ns leads run x z all each = (
     bare (l ∷ ls) f = absurd (f l (inl refl))
 
 -- ---- item by item
--- the first i items led to the targets, by the edges before a place
+-- the targets of the first i items, by the edges before a place
 pub record IsWalked (ns : List Graph) (items : List Item) (leads : List Transition) (i from : ℕ) (targets : List Item) : Type 0 where
   pub within : from ≤ length leads
   pub before : (k : ℕ) (l : Transition) → k < from → slice_get leads k ≡ Some l → (j : ℕ) × (j < i) × (slice_get items j ≡ Some l.item)
@@ -270,7 +270,7 @@ module _ (ns : List Graph) (s live : List Item) (v : ℕ) (leads : List Transiti
       edge_of : (x : Item) (q : ℕ) (g : Graph) (r : Range) → Has live x → slice_get ns x.0 ≡ Some g → Contains g.edges.tests (test x.1 r q) → Covers r v → Contains leads (edge x q)
       edge_of x q g r member at t c = (are (edge x q)).1 (g, r, (within x member, at, t, c))
 
-  -- they lead to what the value leads to
+  -- they lead where the value leads
   pub taken_targets : (targets : List Item) → AreTargetsBy ns live leads targets → (z : Item) → Contains targets z ↔ Contains (flat_map (item_targets ns v) live) z
   taken_targets targets led z = (
     λ h. (let (x, (member, way)) = (led z).0 h in

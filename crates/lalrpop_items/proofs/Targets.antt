@@ -1,4 +1,4 @@
--- Where one value leads from an item: the computed targets, and edges.
+-- The targets of an item by one value, as computed and by edges.
 use Rattle.std.proofs.Common.{◌≡◌, ℕ, ◌<◌, ◌⊎◌, inl, inr, List, [], ◌∷◌, length, filter, refl, ap, ap₂, sym, subst, arith, Bool, true, ◌&&◌, ◌==◌, nat_le, eqb-true, eq-eqb, leb-true, le-leb, Some}
 use Rattle.std.specs.List.{Contains, slice_get}
 use Rattle.std.proofs.lemmas.Bool.{and_parts, and_from}
@@ -15,7 +15,7 @@ use Rattle.lalrpop_items.specs.Automata.{Item, AreCompiled}
 use Rattle.lalrpop_items.specs.Internal.Subsets.{no_graph, graph_at, test_targets, default_targets, or_instead, targets, item_targets}
 use Rattle.lalrpop_book.proofs.Members.{Has, has_from, contains_from, has_filter, filter_has, has_map, map_has}
 
--- the first list, or the second where it is empty
+-- the first list, or the second if the first is empty
 pub instead_cases : (ts qs : List ℕ) (q : ℕ) → Has (or_instead ts qs) q → Has ts q ⊎ ((ts ≡ []) × Has qs q)
 instead_cases [] qs q h = inr (refl, h)
 instead_cases (t ∷ ts) qs q h = inl h
@@ -80,7 +80,7 @@ module _ (g : Graph) (p c : ℕ) where
   targets_have q (inl h) = instead_first (test_targets g p c) (default_targets g p) q (tested_has h.0 q h.1.0 h.1.1)
   targets_have q (inr h) = subst (λ (ts : List ℕ). Has (or_instead ts (default_targets g p)) q) (sym (untested_nil h.1)) (default_has q h.0)
 
--- the automaton at a place
+-- the automaton with an index
 pub graph_is : (ns : List Graph) (i : ℕ) (g : Graph) → slice_get ns i ≡ Some g → graph_at ns i ≡ g
 graph_is ns i g h = get_or_from_slice_get ns i g no_graph h
 

@@ -32,6 +32,6 @@ module _ (ns : List Graph) (s : List Item) (leads : List Transition) where
   pub leads_move : (c d : ℕ) → AreTransitions ns s c leads → AreTransitions ns s d leads → move ns s c ≡ move ns s d
   leads_move c d a b = reads_moves ns s c d (also_take c d a b) (also_take d c b a)
 
--- in another order they are the same edges
+-- in another order the edges are the same
 pub takes_sorted : (ns : List Graph) (s : List Item) (v : ℕ) (leads sorted : List Transition) → IsPermutation leads sorted → AreTransitions ns s v leads → AreTransitions ns s v sorted
 takes_sorted ns s v leads sorted same are l = (λ h. (are l).0 (Contains-permutation sorted leads l (IsPermutation-sym leads sorted same) h), λ h. Contains-permutation leads sorted l same ((are l).1 h))

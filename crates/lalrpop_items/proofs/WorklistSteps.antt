@@ -47,7 +47,7 @@ step_inside ns x y a is h =
     let l = c.1.1.noops_in e (contains_from is.0.edges.noops e here) in
     rw f.2 (is.0, (is.1.0, l.1))
 
--- there is a mark for where an edge that reads nothing leads
+-- the target of an edge that reads nothing has a mark
 pub step_below : (ns : List Graph) (x y : Item) (done : List Item) (es rest : List (Edge Noop)) (e : Edge Noop) (marks marks2 : List Bool) → AreAutomata ns → IsItemOf ns x → AreMarksOf ns x.0 marks → length marks2 ≡ length marks
     → done ++ map (λ (f : Edge Noop). let z : Item = (x.0, f.to) in z) es ≡ epsilon_targets ns x → es ≡ e ∷ rest → y ≡ (x.0, e.to) → y.1 < length marks2
 step_below ns x y done es rest e marks marks2 a is room len all cut same =
@@ -130,7 +130,7 @@ pub closing_few : (ns : List Graph) (given observed pending : List Item) → IsC
 closing_few ns given observed pending k =
     at_most_all_items ns observed k.ordered k.within
 
--- twice the items that are not observed yet, and the pending ones
+-- twice the number of items that are not observed yet, and the pending ones
 abbrev pub left : List Graph → List Item → List Item → ℕ
 left ns observed pending = 2 * (length (all_items ns) - length observed) + length pending
 
@@ -140,7 +140,7 @@ closing_less ns given observed before pending x observed2 pending2 popped k n =
     omega (arith, closing_few ns given observed2 pending2 k, n.more, n.even, ap length popped, length-append pending (x ∷ []))
 
 -- ---- the end
--- a set that has the steps of its items has what edges lead to
+-- a set that has the steps of its items has all that edges lead to
 module _ (ns : List Graph) (i : ℕ) (S : Item → Type 0) (closed_under : (x y : Item) → S x → Has (epsilon_targets ns x) y → S y) where
   joins_stay : (n p q : ℕ) → joins (graph_at ns i) n p q ≡ true → S (i, p) → S (i, q)
   unfolding joins
@@ -179,7 +179,7 @@ closing_done ns given observed pending none k =
     done : (x y : Item) → Contains observed x → Has (epsilon_targets ns x) y → Contains observed y
     done x y h s = elim (k.followed x h) [ inl waits ↦ absurd (no_item x (rw none at waits)) | inr all ↦ all y (contains_from (epsilon_targets ns x) y s) ]
 
--- an item from which no edge leads on that reads nothing
+-- an item that no edge that reads nothing leaves
 pub closed_alone : (ns : List Graph) (x : Item) → IsItemOf ns x → epsilon_targets ns x ≡ [] → x ∷ [] ≡ closed ns (x ∷ [])
 closed_alone ns x is none = closing_done ns (x ∷ []) (x ∷ []) [] refl (record {
   ordered = sorted_cons item_cmp x [] (λ y h. absurd h) (sorted_nil item_cmp);

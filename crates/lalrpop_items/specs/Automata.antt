@@ -5,7 +5,7 @@ use Rattle.lalrpop_book.specs.Tree.{Tree}
 use Rattle.lalrpop_nfa.specs.Graph.{Graph}
 use Rattle.lalrpop_nfa.specs.Compiled.{IsCompiled}
 
--- a place of a list of automata, and a state of the automaton at that place
+-- the index of an automaton in a list, and a state of that automaton
 abbrev pub Item : Type 0
 Item = ℕ × ℕ
 

@@ -5,7 +5,7 @@ pub mod LiveItems
 pub mod ItemOrder
 pub mod Subsets
 pub mod Transitions
--- what private functions promise one another
+-- what private functions promise each other
 pub mod Split
 pub mod OrderLaws
 pub mod Worklist

@@ -9,7 +9,7 @@ ghost use Rattle.lalrpop_items.specs.Internal.Ascending.{item_cmp, AreAscendingI
 ghost use Rattle.lalrpop_items.specs.Automata.{Item};
 ghost use Rattle.lalrpop_items.specs.Internal.Given.{IsItemOf, AreAutomata, AreItemsOf};
 ghost use Rattle.lalrpop_items.specs.Internal.LiveItems.{live_of};
-ghost use Rattle.lalrpop_items.specs.Internal.Split.{full, still_spared, AreBefore, AreSpared, AreWithin};
+ghost use Rattle.lalrpop_items.specs.Internal.Split.{full, still_live, AreBefore, AreLivePatterns, AreWithin};
 ghost use Rattle.lalrpop_items.specs.Internal.Subsets.{closed, move};
 ghost use Rattle.lalrpop_items.specs.Internal.Transitions.{transition_cmp, AreTransitions};
 ghost use Rattle.lalrpop_items.specs.Internal.Worklist.{IsInserted, epsilon_targets, marked, AreOfPattern, AreStatesBelow, AreMarksOf, pattern_at};
@@ -23,11 +23,11 @@ use lalrpop_nfa::{Nfa, NfaStateIndex, Noop, REJECT};
 use std::alloc::{AllocError, Global};
 use std::marker::Model;
 
-// Marks are used where a pattern has at most so many states for each of its items that are given.
+// Marks are used if a pattern has at most this many states for each of its given items.
 const STATES_FOR_AN_ITEM: usize = 16;
 
-/// Lists that a set of items is computed in, which are used again from set to set: where the items lead, the items found,
-/// those of a pattern, and the parts of the set. What is in them is taken out before they are used.
+/// The lists in which a set of items is computed, reused from set to set: the targets of the items, the items found,
+/// those of a pattern, and the parts of the set. They are emptied before each use.
 #[derive(Drop)]
 pub struct Workspace {
     targets: Vec<Item>,
@@ -41,13 +41,13 @@ impl Model for Workspace {
 
     ghost Value = { ℕ };
 
-    // How many things are in it.
+    // The number of entries in it.
     ghost view = { λ w. length w.targets.items + length w.found.items + length w.worklist.marks.items
-        + length w.worklist.pending.items + length w.parts.live.items + length w.parts.spared.items };
+        + length w.worklist.pending.items + length w.parts.live.items + length w.parts.live_patterns.items };
 }
 
 impl Workspace {
-    /// A workspace with nothing in it.
+    /// An empty workspace.
     pub fn new(alloc: Global) -> Workspace
         ensures empty { result ≡ 0 }
     {
@@ -60,21 +60,21 @@ impl Workspace {
             },
             parts: Parts {
                 live: Vec::new(alloc),
-                spared: Vec::new(alloc),
+                live_patterns: Vec::new(alloc),
             },
         }
     }
 }
 
-// The live items of a set, and the patterns that it spares. The set gets copies, which are no longer than they need be.
+// The live items of a set and its live patterns. The set gets copies of exactly the length needed.
 #[derive(Drop)]
 struct Parts {
     live: Vec<Item>,
-    spared: Vec<usize>,
+    live_patterns: Vec<usize>,
 }
 
-// The items of one pattern that were found so far, by marks at their states, and those of them that are still to be
-// looked at.
+// The items of one pattern found so far, as marks at their states, and those of them that are still to be
+// followed.
 #[derive(Drop)]
 struct Worklist {
     marks: Vec<bool>,
@@ -82,7 +82,7 @@ struct Worklist {
 }
 
 impl Worklist {
-    // Makes it ready for a pattern of so many states, of which none is found yet.
+    // Prepares it for a pattern with `states` states, none of which is found yet.
     fn begin(&mut self, states: usize) -> Result<(), AllocError>
         ensures marks { OnOk result (self.new.marks.items ≡ replicate states false) }
         ensures pending { OnOk result (self.new.pending.items ≡ []) }
@@ -93,7 +93,7 @@ impl Worklist {
         Ok(())
     }
 
-    // Notes an item, unless it was found before.
+    // Records an item, unless it was found before.
     fn insert(&mut self, item: Item) -> Result<(), AllocError>
         requires { item.1 < length self.old.marks.items }
         ensures inserted { OnOk result
@@ -109,7 +109,7 @@ impl Worklist {
         Ok(())
     }
 
-    // Notes the items that one edge leads to which reads nothing.
+    // Records the items to which a single edge that reads nothing leads.
     fn follow(&mut self, nfas: &[Nfa], item: Item) -> Result<(), AllocError>
         requires automata { AreAutomata nfas.now }
         requires inside { IsItemOf nfas.now item }
@@ -141,7 +141,7 @@ impl Worklist {
     }
 }
 
-// Adds the items of a pattern at whose states there is a mark.
+// Adds the items of a pattern whose states have a mark.
 fn push_marked(pattern: NfaIndex, marks: &[bool], found: &mut Vec<Item>) -> Result<(), AllocError>
     ensures { OnOk result (found.new.items ≡ found.old.items ++ marked pattern marks.now) }
 {
@@ -156,7 +156,7 @@ fn push_marked(pattern: NfaIndex, marks: &[bool], found: &mut Vec<Item>) -> Resu
     Ok(())
 }
 
-// Adds the given items, which are of one pattern, and all that they lead to by reading nothing. Marks cost a step for
+// Adds the given items, all of one pattern, and all that they lead to by reading nothing. Marks cost a step for
 // each state of the pattern.
 fn follow_by_marks(
     nfas: &[Nfa],
@@ -179,7 +179,7 @@ fn follow_by_marks(
     push_marked(pattern, &worklist.marks, found)
 }
 
-// Whether no edge leads on from an item by reading nothing.
+// Whether no edge that reads nothing leaves the item's state.
 fn stays(nfas: &[Nfa], item: Item) -> bool
     requires { IsItemOf nfas.now item }
     ensures { IsTrue result ↔ (epsilon_targets nfas.now item ≡ []) }
@@ -188,8 +188,8 @@ fn stays(nfas: &[Nfa], item: Item) -> bool
     edges.next().is_none()
 }
 
-// The items of one pattern, and all that they lead to by reading nothing: by marks where many are given, else by an ordered set,
-// so that the time doesn't grow with the pattern where few are.
+// The items of one pattern, and all that they lead to by reading nothing: by marks if many are given, otherwise by an
+// ordered set, so that the time doesn't grow with the pattern if few are given.
 fn follow_pattern(
     alloc: Global,
     nfas: &[Nfa],
@@ -219,7 +219,7 @@ fn follow_pattern(
     Ok(())
 }
 
-// The first place behind a place at which there is an item of another pattern.
+// The first place after `from` at which there is an item of another pattern.
 fn end_of_pattern(items: &[Item], from: usize) -> usize
     requires from { from < length items.now }
     ensures behind { from < result }
@@ -267,7 +267,7 @@ fn follow_all(
     Ok(())
 }
 
-// The first place, from this one on, at which there is no item before the given one.
+// The first place, from this one on, whose item is not before the given one.
 fn place_of(items: &[Item], from: usize, item: Item) -> usize
     requires within { from ≤ length items.now }
     requires before { AreBefore items.now from item }
@@ -282,15 +282,19 @@ fn place_of(items: &[Item], from: usize, item: Item) -> usize
     place
 }
 
-// Finds those of the patterns that have no REJECT item among the items. Both ascend, so that one walk finds them.
-fn spared_by(items: &[Item], spared: &[usize], still: &mut Vec<usize>) -> Result<(), AllocError>
+// Finds the patterns that have no REJECT item among the items. Both lists ascend, so one walk is enough.
+fn still_live_among(
+    items: &[Item],
+    live_patterns: &[usize],
+    still: &mut Vec<usize>,
+) -> Result<(), AllocError>
     requires ascending { AreAscendingItems items.now }
-    requires rising { IsStrictlySortedBy nat_cmp spared.now }
-    ensures { OnOk result (still.new.items ≡ still_spared items.now spared.now) }
+    requires rising { IsStrictlySortedBy nat_cmp live_patterns.now }
+    ensures { OnOk result (still.new.items ≡ still_live items.now live_patterns.now) }
 {
     still.clear();
     let mut place = 0;
-    for pattern in spared {
+    for pattern in live_patterns {
         let reject = Item {
             nfa_index: NfaIndex::new(*pattern),
             nfa_state: REJECT,
@@ -303,7 +307,7 @@ fn spared_by(items: &[Item], spared: &[usize], still: &mut Vec<usize>) -> Result
     Ok(())
 }
 
-// Finds those of the items that are no REJECT states.
+// Finds the items that are not REJECT states.
 fn live_among(items: &[Item], live: &mut Vec<Item>) -> Result<(), AllocError>
     ensures { OnOk result (live.new.items ≡ live_of items.now) }
 {
@@ -316,27 +320,27 @@ fn live_among(items: &[Item], live: &mut Vec<Item>) -> Result<(), AllocError>
     Ok(())
 }
 
-// The set of the items, where these patterns had no REJECT item before.
+// The set of the items, given the patterns that were live before.
 fn set_of(
     parts: &mut Parts,
     patterns: usize,
-    spared: &[usize],
+    live_patterns: &[usize],
     items: &[Item],
 ) -> Result<ItemSet, AllocError>
     requires ascending { AreAscendingItems items.now }
     requires within { AreWithin patterns items.now }
-    requires spared { AreSpared patterns spared.now }
+    requires live_patterns { AreLivePatterns patterns live_patterns.now }
     ensures { IfOk result (λ s.
-        s ≡ full patterns (still_spared items.now spared.now) (live_of items.now)) }
+        s ≡ full patterns (still_live items.now live_patterns.now) (live_of items.now)) }
 {
-    spared_by(items, spared, &mut parts.spared)?;
+    still_live_among(items, live_patterns, &mut parts.live_patterns)?;
     live_among(items, &mut parts.live)?;
     let live = parts.live.clone()?;
-    let spared = parts.spared.clone()?;
+    let live_patterns = parts.live_patterns.clone()?;
     let hash = hash_items(&live);
     Ok(ItemSet {
         live,
-        spared,
+        live_patterns,
         patterns,
         hash,
     })
@@ -346,7 +350,7 @@ fn set_of(
 ///
 /// # Errors
 ///
-/// `AllocError` where a request for memory was refused.
+/// `AllocError` if a request for memory was refused.
 pub fn closure(alloc: Global, nfas: &[Nfa], given: &[Item]) -> Result<ItemSet, AllocError>
     requires automata { AreAutomata nfas.now }
     requires inside { AreItemsOf nfas.now given.now }
@@ -366,19 +370,19 @@ pub fn closure(alloc: Global, nfas: &[Nfa], given: &[Item]) -> Result<ItemSet, A
     set_of(parts, patterns, &all, found)
 }
 
-// The places of all patterns, which all are spared at first.
+// The indices of all patterns, which are all live at first.
 fn patterns_below(alloc: Global, patterns: usize) -> Result<Vec<usize>, AllocError>
     ensures { IfOk result (λ v. v.items ≡ range_with_len 0 patterns) }
 {
     (0..patterns).collect(alloc)
 }
 
-/// The set that a set leads to by the values that take these test edges. A pattern with a REJECT item keeps it, so that the
-/// live items are followed alone.
+/// The set to which a set leads by the values that take these test edges. A pattern with a REJECT item keeps it, so only
+/// the live items are followed.
 ///
 /// # Errors
 ///
-/// `AllocError` where a request for memory was refused.
+/// `AllocError` if a request for memory was refused.
 pub fn advance(
     alloc: Global,
     workspace: &mut Workspace,
@@ -401,5 +405,5 @@ pub fn advance(
     } = workspace;
     targets_by(nfas, &set.live, transitions, targets)?;
     follow_all(alloc, nfas, worklist, targets, found)?;
-    set_of(parts, set.patterns, &set.spared, found)
+    set_of(parts, set.patterns, &set.live_patterns, found)
 }

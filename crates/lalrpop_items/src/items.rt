@@ -1,4 +1,4 @@
-//! Items, which are a pattern and a state of its automaton, and sets of them.
+//! Items, each a pattern and a state of its automaton, and sets of them.
 ghost use Rattle.std.specs.Prelude.{◌≡◌, ◌<◌, ◌↔◌, IsTrue, length, slice_get, Some, refl};
 ghost use Rattle.std.specs.List.{Contains};
 ghost use Rattle.std.specs.Cmp.{on_equiv, on_total, on_per, on_po, partial_order_from_agreeing_total};
@@ -102,7 +102,7 @@ impl Item {
         self.nfa_index
     }
 
-    /// The state of that automaton.
+    /// The item's state.
     pub fn state(self) -> NfaStateIndex
         ensures { result ≡ self.1 }
     {
@@ -120,7 +120,7 @@ impl Item {
     }
 }
 
-// What one item adds to the hash of a list. The factors are odd and great, so that few lists share a hash.
+// What one item adds to the hash of a list. The factors are odd and large, so that few lists share a hash.
 fn hash_one(item: Item) -> u64
     ensures { result ≡ item_hash item }
 {
@@ -130,7 +130,7 @@ fn hash_one(item: Item) -> u64
         .wrapping_add(item.nfa_state.index() as u64)
 }
 
-// A number by which most lists of items are told apart at once.
+// The hash of a list of items, by which most lists differ at once.
 #[tactic(auto, unfolding(crate::specs::Internal::ItemOrder::hash_of))]
 pub(super) fn hash_items(items: &[Item]) -> u64
     ensures { result ≡ hash_of items.now }
@@ -144,7 +144,7 @@ pub(super) fn hash_items(items: &[Item]) -> u64
     hash
 }
 
-// No number below this one is in just one of the two ascending lists.
+// A number below which the two ascending lists have the same numbers.
 fn first_apart(left: &[usize], right: &[usize]) -> usize
     requires left { IsStrictlySortedBy nat_cmp left.now }
     requires right { IsStrictlySortedBy nat_cmp right.now }
@@ -165,12 +165,12 @@ fn first_apart(left: &[usize], right: &[usize]) -> usize
     }
 }
 
-/// The items that a state holds, ascending: the live ones, which are no REJECT states, and the REJECT item of each pattern
-/// that isn't spared.
+/// The items that a state holds, ascending: the live ones, which are not REJECT states, and the REJECT item of each
+/// pattern that is not live.
 #[derive(Debug, Drop)]
 pub struct ItemSet {
     pub(super) live: Vec<Item>,
-    pub(super) spared: Vec<usize>,
+    pub(super) live_patterns: Vec<usize>,
     pub(super) patterns: usize,
     // The hash of the live items.
     pub(super) hash: u64,
@@ -182,13 +182,13 @@ impl Model for ItemSet {
 
     ghost Value = { List (ℕ × ℕ) };
 
-    ghost view = { λ s. full s.patterns s.spared.items s.live.items };
+    ghost view = { λ s. full s.patterns s.live_patterns.items s.live.items };
 
-    ghost invariant = { λ s. IsHashed s.patterns s.spared.items s.live.items s.hash };
+    ghost invariant = { λ s. IsHashed s.patterns s.live_patterns.items s.live.items s.hash };
 }
 
 impl ItemSet {
-    /// Those of its items that are no REJECT states.
+    /// The items of the set that are not REJECT states.
     pub fn live(&self) -> &[Item]
         ensures value { result.now ≡ live_of self.now }
     {
@@ -199,18 +199,18 @@ impl ItemSet {
     fn has_reject(&self, pattern: usize) -> bool
         ensures { IsTrue result ↔ Contains self.now (pattern, reject_state) }
     {
-        pattern < self.patterns && !self.spared.contains(&pattern)
+        pattern < self.patterns && !self.live_patterns.contains(&pattern)
     }
 
     // The order of sets by the patterns that have a REJECT item.
     fn cmp_rejects(&self, other: &ItemSet) -> Ordering
         ensures { result ≡ rejects_cmp self.now other.now }
     {
-        if self.patterns == other.patterns && self.spared == other.spared {
+        if self.patterns == other.patterns && self.live_patterns == other.live_patterns {
             return Ordering::Equal;
         }
         let first = if self.patterns == other.patterns {
-            first_apart(&self.spared, &other.spared)
+            first_apart(&self.live_patterns, &other.live_patterns)
         } else {
             0
         };
@@ -227,7 +227,7 @@ impl ItemSet {
         Ordering::Equal
     }
 
-    // The order of sets by their items alone.
+    // The order of sets by their items.
     fn cmp_items(&self, other: &ItemSet) -> Ordering
         ensures { result ≡ items_cmp self.now other.now }
     {
@@ -285,7 +285,7 @@ impl Clone for ItemSet {
     fn clone(&self) -> Result<ItemSet, AllocError> {
         Ok(ItemSet {
             live: self.live.clone()?,
-            spared: self.spared.clone()?,
+            live_patterns: self.live_patterns.clone()?,
             patterns: self.patterns,
             hash: self.hash,
         })

@@ -1,4 +1,4 @@
-//! Where the items of a set lead by a value, told by the test edges that the value takes.
+//! Where a value leads from the items of a set, given the test edges that it takes.
 
 ghost use Rattle.std.specs.Prelude.{◌≡◌, ◌<◌, ◌≤◌, ◌++◌, length, map, OnOk};
 ghost use Rattle.std.specs.List.{Contains};
@@ -14,7 +14,7 @@ use super::transitions::Transition;
 use lalrpop_nfa::{Nfa, Other};
 use std::alloc::AllocError;
 
-// The first place, from this one on, at which there is no edge of the item.
+// The first place, from this one on, that has no edge of the item.
 fn end_of_item(transitions: &[Transition], from: usize, item: Item) -> usize
     requires { from ≤ length transitions.now }
     ensures { IsRunOf transitions.now item from result }
@@ -26,7 +26,7 @@ fn end_of_item(transitions: &[Transition], from: usize, item: Item) -> usize
     end
 }
 
-// Adds where the other edges of the item's state lead.
+// Adds the targets of the other edges of the item's state.
 fn push_default_targets(nfa: &Nfa, item: Item, targets: &mut Vec<Item>) -> Result<(), AllocError>
     requires { item.1 < length nfa.now.kinds }
     ensures { OnOk result (targets.new.items
@@ -38,7 +38,7 @@ fn push_default_targets(nfa: &Nfa, item: Item, targets: &mut Vec<Item>) -> Resul
     Ok(())
 }
 
-// Adds where an item leads: by these test edges of it, and where there is none by its other edges.
+// Adds the targets of an item: by these test edges of it, or if there are none by its other edges.
 fn push_targets(
     nfas: &[Nfa],
     item: Item,
@@ -58,8 +58,8 @@ fn push_targets(
     Ok(())
 }
 
-/// Finds where the items lead, of whose test edges these are taken. Both ascend, so that one walk finds the edges of each
-/// item. A target that items of a pattern share, as REJECT, is mostly given once.
+/// Finds the targets of the items, whose taken test edges are these. Both lists ascend, so one walk finds the edges of
+/// each item. A target that items of a pattern share, such as REJECT, is mostly listed once.
 pub(super) fn targets_by(
     nfas: &[Nfa],
     items: &[Item],

@@ -1,4 +1,4 @@
-//! Items that are followed by edges that read nothing, where the found ones are kept in an ordered set.
+//! Following edges that read nothing, with the items found so far in an ordered set.
 
 ghost use Rattle.std.specs.Prelude.{◌≡◌, ◌∷◌, [], IfOk, OnOk};
 ghost use Rattle.lalrpop_items.specs.Internal.Given.{IsItemOf, AreAutomata, AreItemsOf};
@@ -10,7 +10,7 @@ use lalrpop_nfa::{Nfa, Noop};
 use std::alloc::{AllocError, Global};
 use std::collections::BTreeSet;
 
-// The items found so far, and those of them that are still to be looked at.
+// The items found so far, and those of them that are still to be followed.
 #[derive(Drop)]
 struct Ordered {
     observed: BTreeSet<Item>,
@@ -18,7 +18,7 @@ struct Ordered {
 }
 
 impl Ordered {
-    // Notes an item, unless it was found before.
+    // Records an item, unless it was found before.
     fn insert(&mut self, item: Item) -> Result<(), AllocError>
         ensures { OnOk result
             (IsInserted self.old.observed.keys self.old.pending.items
@@ -30,7 +30,7 @@ impl Ordered {
         Ok(())
     }
 
-    // Notes the items that one edge leads to which reads nothing.
+    // Records the items to which a single edge that reads nothing leads.
     fn follow(&mut self, nfas: &[Nfa], item: Item) -> Result<(), AllocError>
         requires { IsItemOf nfas.now item }
         ensures { OnOk result

@@ -1,4 +1,4 @@
--- The map tells the numbers of the kernels, before and after one is added.
+-- The map gives the numbers of the kernels, before and after one is added.
 use Rattle.std.proofs.Common.{◌≡◌, ℕ, zero, suc, ◌<◌, ◌≤◌, List, [], ◌∷◌, ◌++◌, length, drop, refl, ap, sym, ◌∙◌, subst, arith, ◌⊎◌, inl, inr, Bool, true, false, ◌||◌, length-append}
 use Rattle.std.specs.Prelude.{Some, None, slice_get, cond, ◌==◌, ◌^◌}
 use Rattle.std.specs.List.{list_any, All, AllZip}
@@ -15,7 +15,7 @@ use Rattle.std.proofs.lemmas.Map.Views.{All-values-insert_entry}
 use Rattle.lalrpop_kernels.specs.Kernels.{IsNumberOf, AreDistinct, added}
 use Rattle.lalrpop_kernels.specs.Internal.Numbered.{key_with, by_number, in_order, IsNumbered, IsKernelSet}
 
--- a list with one more element, last
+-- a list with one more element at the end
 pub pushed_cases : {X : Type 0} (xs : List X) (y : X) (q : ℕ) (x : X) → slice_get (xs ++ y ∷ []) q ≡ Some x → (slice_get xs q ≡ Some x) ⊎ ((q ≡ length xs) × (x ≡ y))
 pushed_cases [] y zero x h = inr (refl, cc)
 pushed_cases [] y (suc q) x h = cc
@@ -83,7 +83,7 @@ module _ {K : Type 0} {cmp : K → K → Ordering} (total : IsTotalOrder cmp) (m
       ];
     }
 
--- ---- a new key among the entries of a map, with the number n that no entry has
+-- ---- a new key among the entries of a map, with a number n that no entry has
 same_number : (n : ℕ) → (n == n) ≡ true
 same_number n = grind (arith, nat_tests)
 

@@ -1,3 +1,3 @@
 pub mod Kernels
--- what private functions promise one another, which no promise to a caller names
+-- what private functions promise each other; public clauses do not name it
 pub mod Internal

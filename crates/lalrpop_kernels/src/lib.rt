@@ -1,4 +1,4 @@
-//! Distinct kernels, numbered from 0 in the order in which they were added, and a place that goes over them.
+//! Distinct kernels, numbered from 0 in the order in which they are added, and a place that goes over them.
 //!
 //! A subset construction adds the sets that it meets, and expands each once, in the order of their numbers.
 #![tactic(auto)]
@@ -11,25 +11,25 @@ use std::alloc::{AllocError, Global};
 use std::collections::{BTreeMap, VecDeque};
 use std::marker::Model;
 
-/// What a kernel set numbers: two kernels are the same where their order says `Equal`.
+/// What a kernel set numbers. Two kernels are equal if their order says `Equal`.
 pub trait Kernel: Ord + Clone + Drop {
-    /// What a number is handed out as.
+    /// The type of the indices.
     type Index;
 
-    /// The index that stands for a number.
+    /// The index for a number.
     ghost index_of: { ℕ → Self.Index };
 
-    /// The index that stands for the number `c`.
+    /// The index for the number `c`.
     fn index(c: usize) -> Self::Index
         ensures value { result ≡ index_of c };
 }
 
-/// A list of distinct kernels, which only grows, and a place in it.
+/// A list of distinct kernels, which only grows, and a place in it: the number of the kernel that comes next.
 #[derive(Drop)]
 pub struct KernelSet<K: Kernel> {
     // The kernels, with their numbers.
     numbers: BTreeMap<K, usize>,
-    // Clones of those from the place on, in order, which `next` gives away.
+    // Clones of the kernels from the place on, in order, which `next` hands out.
     waiting: VecDeque<K>,
     place: usize,
 }
@@ -46,7 +46,7 @@ impl<K: Kernel> Model for KernelSet<K> {
 }
 
 impl<K: Kernel> KernelSet<K> {
-    /// No kernels, and the place at their end.
+    /// No kernels, and the place at the end.
     pub fn new(alloc: Global) -> KernelSet<K>
         ensures empty { result ≡ record { list = []; place = 0 } }
     {
@@ -57,11 +57,11 @@ impl<K: Kernel> KernelSet<K> {
         }
     }
 
-    /// Gives the index of the number of an equal kernel, where there is one. Else adds `kernel` last, with the next number.
+    /// Returns the index of an equal kernel, if there is one. Otherwise adds `kernel` last, with the next number.
     ///
     /// # Errors
     ///
-    /// `AllocError` where a request for memory was refused; the set stays as it was.
+    /// `AllocError` if a request for memory was refused; the set stays as it was.
     pub fn add_state(&mut self, kernel: K) -> Result<K::Index, AllocError>
         requires clones { ClonesEqual K.cmp K.is_clone }
         ensures number { IfOk result (λ i. (n : ℕ) × (i ≡ K.index_of n)
@@ -76,7 +76,7 @@ impl<K: Kernel> KernelSet<K> {
             None => {
                 let number = self.numbers.len();
                 let copy = kernel.clone()?;
-                // With room for the copy, the map is the last to be refused.
+                // Memory for the copy is reserved first, so that nothing fails after the insertion into the map.
                 self.waiting.reserve(1)?;
                 self.numbers.insert(kernel, number)?;
                 self.waiting.push_back(copy)?;
@@ -85,12 +85,12 @@ impl<K: Kernel> KernelSet<K> {
         }
     }
 
-    /// Gives a clone of the kernel at the place, and moves the place on to the next number; `None` at the end, where the
-    /// place stays until a kernel is added.
+    /// Returns a clone of the kernel at the place, and moves the place to the next number. At the end it returns `None`, and
+    /// the place stays until a kernel is added.
     ///
     /// # Errors
     ///
-    /// `AllocError` where a request for memory was refused; the set stays as it was.
+    /// `AllocError` if a request for memory was refused; the set stays as it was.
     pub fn next(&mut self) -> Result<Option<K>, AllocError>
         requires clones { ClonesEqual K.cmp K.is_clone }
         ensures given { IfOk result (λ o. MatchOption o

@@ -21,7 +21,7 @@ use Rattle.lalrpop_lexer.proofs.LexerCuttings.{tokens_from_start}
 
 -- ---- one call
 
--- a characters are cut off, and b are left
+-- `a` characters are cut off, and `b` are left
 pays : (n a b before after : ℕ) → 0 < a → after ≤ before + a + n + 1 → after + (n + 2) * b ≤ before + (n + 2) * (a + b)
 pays n zero b before after some more = absurd (omega arith)
 pays n (suc k) b before after some more =

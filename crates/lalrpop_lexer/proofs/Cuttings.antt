@@ -1,4 +1,4 @@
--- What the calls of `next` give of a text that is being cut.
+-- What the calls of `next` return for a text that is being cut.
 use Rattle.std.proofs.Common.{◌≡◌, ◌≢◌, ℕ, ◌+◌, ◌<◌, ◌≤◌, true, false, inl, inr, List, [], ◌∷◌, ◌++◌, length, take, drop, arith, refl, sym, ap, subst, ◌∙◌, length-append, append_assoc}
 use Rattle.std.specs.Prelude.{Option, Some, None, Ok, Err}
 use Rattle.std.specs.Iterator.{Yields, Drains}
@@ -11,7 +11,7 @@ use Rattle.lalrpop_table.specs.Dfa.{Row, Recognizes}
 use Rattle.lalrpop_lexer.specs.Cutting.{Cutting, start_of, rest_of, left_of, GivesItem}
 use Rattle.lalrpop_book.specs.Tokens.{Item, AreItems, slices}
 
--- a prefix of a text ends where the text may be cut
+-- a prefix of a text ends where the text may be split
 pub cut_behind : (p text : List ℕ) → IsUtf8 text → IsPrefix p text → IsCharBoundary text (length p)
 cut_behind p text u b =
     IsCharBoundary-from_take text (length p) u (omega (arith, ap length b.1.0, length-append p b.0))
@@ -21,7 +21,7 @@ cut_behind p text u b =
 after_prefix : (p text : List ℕ) (b : IsPrefix p text) → b.0 ≡ drop (length p) text
 after_prefix p text b = sym (ap (drop (length p)) b.1.0 ∙ drop_at p b.0 (length p) refl)
 
--- a text that isn't empty has a character
+-- a nonempty text has a character
 pub some_char : (text : List ℕ) → IsUtf8 text → text ≢ [] → 0 < length (chars text)
 some_char text u some = has (chars text) (encodes-chars text u)
   where
@@ -29,7 +29,7 @@ some_char text u some = has (chars text) (encodes-chars text u)
     has [] e = absurd (some (sym e))
     has (c ∷ cs) e = omega arith
 
--- what is left behind a token
+-- what is left after a token
 pub rest_behind : (s j : Cutting) (p : List ℕ) → IsPrefix p (rest_of s) → j ≡ record s { at = s.at + length p } → rest_of s ≡ p ++ rest_of j
 rest_behind s j p b e =
     b.1.0 ∙ ap (λ (r : List ℕ). p ++ r) (after_prefix p (rest_of s) b ∙ drop-drop (length p) s.at s.text ∙ sym (ap (λ (x : Cutting). rest_of x) e))
@@ -45,7 +45,7 @@ left_on s on = rw on
 pub left_over : (s : Cutting) → s.is_over ≡ true → left_of s ≡ 0
 left_over s over = rw over
 
--- each item is one less
+-- each item leaves one fewer
 pub fewer : (s j : Cutting) (x : Item) → IsUtf8 (rest_of s) → GivesItem s (Some x) j → left_of j < left_of s
 fewer s j (Ok m) u (on, b, some, next, e) =
     let split : rest_of s ≡ m.1.now ++ rest_of j = rest_behind s j m.1.now b e in
@@ -57,7 +57,7 @@ fewer s j (Err fault) u (on, some, at, next, e) =
     let over : j.is_over ≡ true = ap (λ (x : Cutting). x.is_over) e in
     omega (arith, left_on s on, left_over j over, some_char (rest_of s) u some)
 
--- nothing comes behind a fault
+-- nothing comes after a fault
 none_over : (s t : Cutting) (xs : List Item) → s.is_over ≡ true → Yields GivesItem s xs t → xs ≡ []
 none_over s t [] over y = refl
 none_over s t (Ok m ∷ xs) over (j, g, y) = cc (g.0, over)
@@ -94,7 +94,7 @@ items_of ts ps s t u (Err f ∷ xs) r on (j, g, y) last =
     let over : j.is_over ≡ true = ap (λ (x : Cutting). x.is_over) g.4 in
     (g.1, g.3 ts ps r, g.2, none_over j t xs over y)
 
--- behind the first `None` there is `None` for good
+-- after the first `None` every call returns `None`
 pub none_for_good : (s t u : Cutting) (x : Option Item) → GivesItem s None t → GivesItem t x u → x ≡ None
 none_for_good s t u None (same, end) g = refl
 none_for_good s t u (Some (Ok m)) (same, end) g = elim end [

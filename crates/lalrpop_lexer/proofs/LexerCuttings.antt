@@ -1,4 +1,4 @@
--- What the calls of `next` give of a text that a lexer cuts.
+-- What the calls of `next` return for a text that a lexer cuts.
 use Rattle.std.proofs.Common.{◌≡◌, ℕ, ◌+◌, ◌≤◌, List, [], ◌∷◌, ◌++◌, length, map, arith, refl, ap, ◌∙◌}
 use Rattle.std.specs.Prelude.{Option, Some, None, Result, Ok, Err}
 use Rattle.std.specs.Iterator.{Yields, Drains}
@@ -17,7 +17,7 @@ use Rattle.lalrpop_book.specs.declared.token.Token.{Token}
 use Rattle.lalrpop_book.specs.declared.token.TokenFault.{TokenFault}
 use Rattle.lalrpop_lexer.proofs.Cuttings.{items_from_start, parts_from_start, count_from_start, none_for_good}
 
--- the automaton gave the same, bare of the places
+-- the automaton returned the same, without the places
 bare_step : (s t : Cutting) (x : Result Token TokenFault) → GivesToken s (Some x) t → GivesItem s (Some (bare x)) t
 bare_step s t (Ok token) g = g.1
 bare_step s t (Err fault) g = g
@@ -26,7 +26,7 @@ bare_steps : (s t : Cutting) (xs : List (Result Token TokenFault)) → Yields Gi
 bare_steps s t [] y = y
 bare_steps s t (x ∷ xs) (j, g, y) = (j, bare_step s j x g, bare_steps j t xs y)
 
--- the place behind an item
+-- the place after an item
 moves_on : (s j : Cutting) (m : _) → GivesItem s (Some (Ok m)) j → j.at ≡ s.at + length m.1.now
 moves_on s j m g = ap (λ (x : Cutting). x.at) g.4
 

@@ -1,5 +1,5 @@
 pub mod Cases
--- what the calls that cut a text give
+-- what the calls that cut a text return
 pub mod Cuttings
 pub mod LexerCuttings
 pub mod Costs
@@ -9,11 +9,11 @@ pub mod LineLemmas
 pub mod LineParts
 pub mod TerminalLemmas
 pub mod TerminalLaws
--- what the definitions mean: there is one clash, one list of clashes, and one longest match
+-- what the definitions mean: the clash, the list of clashes and the longest match are unique
 pub use Rattle.lalrpop_book.proofs.ClashLaws
 pub use Rattle.lalrpop_dfa.proofs.ClashListLaws
 pub use Rattle.lalrpop_book.proofs.Longests
--- what follows from the promises, for callers
+-- what follows from the clauses, for callers
 pub use Rattle.lalrpop_ranges.proofs.PartitionLaws
 pub use Rattle.lalrpop_book.proofs.Strongest
 pub use Rattle.lalrpop_dfa.proofs.Agreeing

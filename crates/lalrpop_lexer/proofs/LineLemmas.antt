@@ -14,7 +14,7 @@ lines-at_feed (b ∷ bytes) (suc at) inside feed before =
     rw (ne_eqb b 10 (before 0 (omega arith)))
     (ap (begin_with b) (lines-at_feed bytes at (omega arith) feed (λ k h. before (suc k) (omega arith))))
 
--- where a line feed stands, the first line ends
+-- at a line feed the first line ends
 pub lines-position : (bytes : List ℕ) (at : ℕ) → position (λ b. b == 10) bytes ≡ Some at → lines bytes ≡ take at bytes ∷ lines (drop (at + 1) bytes)
 lines-position bytes at e =
     let found = position-Some (λ b. b == 10) bytes at 0 e in

@@ -21,7 +21,7 @@ pub shown-text : {E : Type 0} (r : Result (Bor (List ℕ)) E) (s : Bor (List ℕ
 shown-text (Ok t) s bytes Q e h = let same : s ≡ t = cc in sym (ap (λ u. u.now) same ∙ h.0)
 shown-text (Err x) s bytes Q e h = cc
 
--- such a line, cut at its first space
+-- such a line, split at its first space
 pub line-split : (line : List ℕ) (n : ℕ) (kind : Kind) (text : List ℕ) (h : IsLine line n kind text) (r : Option (Bor (List ℕ) × Bor (List ℕ))) → IsSplitOnceResult 32 line r → MatchOption r ⊥ (λ x. (x.0.now ≡ h.digits) × (x.1.now ≡ letter kind ++ (codes " " ++ text)))
 line-split line n kind text h r s =
     split_after 32 line h.digits (letter kind ++ (codes " " ++ text)) r s (lit< tt) h.parts
@@ -30,7 +30,7 @@ line-split line n kind text h r s =
 is_ascii_digit-true : (c : ℕ) → IsInRange 48 57 c → is_ascii_digit c ≡ true
 is_ascii_digit-true c r = grind arith
 
--- digits are digits to the test of each byte
+-- the test of each byte accepts digits
 pub list_all-digits : (ds : List ℕ) → AllDigits 10 ds → list_all is_ascii_digit ds ≡ true
 list_all-digits [] h = refl
 list_all-digits (c ∷ ds) h = and_from _ _ (is_ascii_digit-true c (digit_from_value c h.0)) (list_all-digits ds h.1)

@@ -1,4 +1,4 @@
--- The place behind one character more, and how far a text was walked over.
+-- The place after one more character, and how far a text was walked.
 use Rattle.std.proofs.Common.{◌≡◌, ℕ, ◌+◌, ◌-◌, ◌≤◌, Bool, true, false, cond, List, [], ◌∷◌, ◌++◌, length, take, drop, arith, refl, sym, ap, ◌∙◌, length-append, length-drop, length-take, append_assoc, append-nil}
 use Rattle.std.specs.Prelude.{not}
 use Rattle.std.specs.List.{count_by, after_last, prefix_len, suffix_len}
@@ -48,14 +48,14 @@ place_more cs c = by (is_line_feed c) refl
         let k = rw e at column in
         rw e (same_place _ _ _ _ (omega (arith, l)) (omega (arith, k)))
 
--- no line and no column is farther than the characters are many
+-- no line and no column is greater than the number of characters
 pub line_within : (cs : List ℕ) → (place_behind cs).line ≤ 1 + length cs
 line_within cs = omega (arith, count_by-le-length is_line_feed cs)
 
 pub column_within : (cs : List ℕ) → (place_behind cs).column ≤ 1 + length cs
 column_within cs = omega (arith, length-after_last is_line_feed cs, suffix_len-le-length (λ x. not (is_line_feed x)) cs)
 
--- the characters up to one place and those from there up to another
+-- the characters up to one place, and those from there up to another
 pub chars_up_to : (text : List ℕ) (i j : ℕ) → IsUtf8 text → IsCharBoundary text i → i ≤ j
     → chars (take j text) ≡ chars (take i text) ++ chars (take (j - i) (drop i text))
 chars_up_to text i j u b h =
@@ -95,7 +95,7 @@ walk_more text i j read left after p q c w e next =
 length-chars-le : (bs : List ℕ) → IsUtf8 bs → length (chars bs) ≤ length bs
 length-chars-le bs u = omega (arith, length-le-encodes (chars bs), ap length (encodes-chars bs u))
 
--- neither number is farther from 0 than the text is long, and one more character
+-- both numbers are at most one more than the length of the text
 pub walk_room : (text : List ℕ) (i j : ℕ) (read left : List ℕ) (p : Position) → IsUtf8 text → IsCharBoundary text j → IsWalk text i j read left p
     → (p.line ≤ 1 + length text) × (p.column ≤ 1 + length text)
 walk_room text i j read left p u b w =

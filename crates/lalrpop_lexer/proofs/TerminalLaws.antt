@@ -1,4 +1,4 @@
--- What the lines of some bytes say is one.
+-- What the lines of some bytes say is unique.
 use Rattle.std.proofs.Common.{◌≡◌, ℕ, zero, suc, List, [], ◌∷◌, ◌++◌, get_or, refl, sym, ap, subst, ◌∙◌, arith}
 use Rattle.std.specs.Prelude.{codes}
 use Rattle.std.specs.Str.{chars}
@@ -16,7 +16,7 @@ use Rattle.lalrpop_lexer.specs.declared.meaning.Meaning.TheVariants.{Bad, NoTree
 no_space : (c : ℕ) (cs : List ℕ) → AllDigits 10 (c ∷ cs) → c ≡ 32 → ⊥
 no_space c cs digits e = omega (arith, (digit_from_value c digits.0).0)
 
--- the digits in front of a space are fixed
+-- the digits before a space are fixed
 cut-unique : (xs ys us vs : List ℕ) → AllDigits 10 xs → AllDigits 10 ys → xs ++ 32 ∷ us ≡ ys ++ 32 ∷ vs → (xs ≡ ys) × (us ≡ vs)
 cut-unique [] [] us vs h g e = (refl, cc)
 cut-unique [] (y ∷ ys) us vs h g e = absurd (no_space y ys g (cc))
@@ -28,14 +28,14 @@ cut-unique (x ∷ xs) (y ∷ ys) us vs h g e =
     let tail : xs ≡ ys = same.0 in
     (cc, same.1)
 
--- what stands behind the first space fixes the kind and the text
+-- what follows the first space fixes the kind and the text
 kind-unique : (k l : Kind) (t u : List ℕ) → letter k ++ (codes " " ++ t) ≡ letter l ++ (codes " " ++ u) → (k ≡ l) × (t ≡ u)
 kind-unique Literal Literal t u e = (refl, cc)
 kind-unique Literal Regex t u e = let first : ◌≡◌ {A = ℕ} 108 114 = ap (λ (l : List ℕ). get_or l 0 0) e in absurd (omega arith)
 kind-unique Regex Literal t u e = let first : ◌≡◌ {A = ℕ} 114 108 = ap (λ (l : List ℕ). get_or l 0 0) e in absurd (omega arith)
 kind-unique Regex Regex t u e = (refl, cc)
 
--- a line has its parts once
+-- a line splits into its parts in one way
 line-unique : (line : List ℕ) (n m : ℕ) (k l : Kind) (t u : List ℕ) → IsLine line n k t → IsLine line m l u → (n ≡ m) × ((k ≡ l) × (t ≡ u))
 line-unique line n m k l t u h g =
     let same = cut-unique h.digits g.digits (letter k ++ (codes " " ++ t)) (letter l ++ (codes " " ++ u)) h.precedence.numeral.1 g.precedence.numeral.1 (sym h.parts ∙ g.parts) in
@@ -60,7 +60,7 @@ terminal-unique line p q t u h g =
     let numbers : p ≡ q = same.0 in
     cc
 
--- a line says one thing
+-- a line says only one thing
 says-unique : (line : List ℕ) (a b : Meaning) → LineSays line a → LineSays line b → a ≡ b
 says-unique line Bad Bad h g = refl
 says-unique line Bad NoTree h g = absurd (h g.0 Regex g.1.0 g.1.1.0)
@@ -101,7 +101,7 @@ stop_or_terminals (l ∷ ls) i said (t ∷ ts) [] none h g = g
 stop_or_terminals (l ∷ ls) zero said (t ∷ ts) (p ∷ ps) none h g = none p t (says-unique l said (Terminal p t) h g.0)
 stop_or_terminals (l ∷ ls) (suc i) said (t ∷ ts) (p ∷ ps) none h g = stop_or_terminals ls i said ts ps none h.1 g.1
 
--- the first line that is no terminal is one, and says one thing
+-- the first line that is not a terminal is unique, and says only one thing
 pub stop-unique : (ls : List (List ℕ)) (i j : ℕ) (a b : Meaning) → NoTerminal a → NoTerminal b → FirstSays ls i a → FirstSays ls j b → (i ≡ j) × (a ≡ b)
 stop-unique [] i j a b no_a no_b h g = absurd h
 stop-unique (l ∷ ls) zero zero a b no_a no_b h g = (refl, says-unique l a b h g)

@@ -1,5 +1,5 @@
 -- cases: proofs/Cases/Counting.antt
--- What it costs to cut a text into tokens.
+-- The cost of cutting a text into tokens.
 use Rattle.std.specs.Prelude.{◌≡◌, ℕ, ◌+◌, ◌*◌, ◌≤◌, List, Option, Result, IfNone}
 use Rattle.lalrpop_table.specs.Dfa.{Row}
 use Rattle.lalrpop_table.specs.Lookahead.{LooksAtMost}
@@ -8,7 +8,7 @@ use Rattle.lalrpop_lexer.specs.LexerTokens.{GivesToken}
 use Rattle.lalrpop_book.specs.declared.token.Token.{Token}
 use Rattle.lalrpop_book.specs.declared.token.TokenFault.{TokenFault}
 
--- a text that is being cut, and how many characters were read so far, each counted as often as it was read
+-- a text that is being cut, and the number of characters read so far, each counted each time that it was read
 pub record Counting : Type 0 where
   pub cutting : Cutting
   pub steps : ℕ
@@ -17,14 +17,14 @@ pub record Counting : Type 0 where
 abbrev pub counting_of : List Row → List ℕ → Counting
 counting_of d text = record { cutting = start_of d text; steps = 0 }
 
--- where at most n values after a match leave it open, each character that is cut off pays for n + 2 steps
+-- if at most n values after a match leave it open, each character that is cut off pays for n + 2 steps
 abbrev pub IsPaid : Counting → Counting → Type 0
 IsPaid old new =
     (n : ℕ) → LooksAtMost old.cutting.automaton n
     → new.steps + (n + 2) * left_of new.cutting ≤ old.steps + (n + 2) * left_of old.cutting
 
--- what one call gives: what `tokens` gives; the characters that it cuts off pay for those that it reads; and where it gives nothing it
--- reads nothing
+-- what one call returns: what `tokens` returns; the characters that it cuts off pay for those that it reads; and if it returns
+-- nothing, it reads nothing
 abbrev pub GivesCounted : Counting → Option (Result Token TokenFault) → Counting → Type 0
 GivesCounted old x new =
     GivesToken old.cutting x new.cutting × (old.steps ≤ new.steps) × IsPaid old new × IfNone x (new.steps ≡ old.steps)

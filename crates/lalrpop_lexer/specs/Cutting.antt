@@ -23,16 +23,16 @@ start_of d text = record { automaton = d; text = text; at = 0; is_over = false }
 abbrev pub rest_of : Cutting → List ℕ
 rest_of s = drop s.at s.text
 
--- no more items than this are left: none behind a fault, and else one for each character
+-- no more items than this are left: none after a fault, otherwise one for each character
 abbrev pub left_of : Cutting → ℕ
 left_of s = if s.is_over then 0 else length (chars (rest_of s))
 
--- whatever trees the automaton recognizes, this is the longest match of the rest
+-- for all trees that the automaton recognizes, this is the longest match of the rest
 abbrev pub IsNext : Cutting → Option (ℕ × List ℕ) → Type 0
 IsNext s m = (ts : List Tree) (ps : List ℕ) → Recognizes s.automaton ts ps → IsLongest ts ps (rest_of s) m
 
--- what one call gives: nothing behind a fault and where no rest is left; the token at the front of the rest, which then begins
--- behind it; or a fault at the rest, where nothing matches
+-- what one call returns: nothing after a fault or if no rest is left; the token at the front of the rest, after which the new rest
+-- begins; or a fault at the rest, if nothing matches
 abbrev pub GivesItem : Cutting → Option Item → Cutting → Type 0
 GivesItem old None new = (new ≡ old) × ((old.is_over ≡ true) ⊎ (rest_of old ≡ []))
 GivesItem old (Some (Ok m)) new =

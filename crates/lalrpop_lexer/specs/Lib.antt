@@ -6,7 +6,7 @@ pub mod Rules
 pub mod Lines
 pub mod Line
 pub mod Terminals
--- what the public contracts of the crates below name: of the book,
+-- what the public contracts of the crates below name: from the book,
 pub use Rattle.lalrpop_book.specs.Word
 pub use Rattle.lalrpop_book.specs.Range
 pub use Rattle.lalrpop_book.specs.Tree
@@ -19,13 +19,13 @@ pub use Rattle.lalrpop_book.specs.Clash
 pub use Rattle.lalrpop_book.specs.Clashes
 pub use Rattle.lalrpop_book.specs.Report
 pub use Rattle.lalrpop_book.specs.Tokens
--- of patterns,
+-- from patterns,
 pub use Rattle.lalrpop_hir.specs.Runs
 pub use Rattle.lalrpop_hir.specs.Counts
 pub use Rattle.lalrpop_hir.specs.Parts
 pub use Rattle.lalrpop_hir.specs.Size
 pub use Rattle.lalrpop_hir.specs.Level
--- of patterns as texts,
+-- from patterns as texts,
 pub use Rattle.lalrpop_re.specs.CharacterSet
 pub use Rattle.lalrpop_re.specs.NamedSet
 pub use Rattle.lalrpop_re.specs.PosixSet
@@ -38,7 +38,7 @@ pub use Rattle.lalrpop_re.specs.Operator
 pub use Rattle.lalrpop_re.specs.Pattern
 pub use Rattle.lalrpop_re.specs.Escaped
 pub use Rattle.lalrpop_re.specs.Refusal
--- of ranges and of the automaton of one pattern,
+-- from ranges and the automaton of one pattern,
 pub use Rattle.lalrpop_ranges.specs.Meet
 pub use Rattle.lalrpop_ranges.specs.Partition
 pub use Rattle.lalrpop_nfa.specs.Graph
@@ -49,7 +49,7 @@ pub use Rattle.lalrpop_nfa.specs.Firsts
 pub use Rattle.lalrpop_nfa.specs.StateView
 pub use Rattle.lalrpop_nfa.specs.Lending
 pub use Rattle.lalrpop_nfa.specs.Contiguous
--- and of the automaton of a list of patterns; `Counts` is taken by that of trees
+-- and from the automaton of a list of patterns; the name `Counts` is taken by that of trees
 pub use Rattle.lalrpop_kernels.specs.Kernels
 pub use Rattle.lalrpop_items.specs.Automata
 pub use Rattle.lalrpop_table.specs.Dfa
@@ -58,5 +58,5 @@ pub use Rattle.lalrpop_table.specs.Lookahead
 pub use Rattle.lalrpop_table.specs.SameAutomata
 pub use Rattle.lalrpop_dfa.specs.Items
 pub use Rattle.lalrpop_dfa.specs.Agree
--- what serves the proofs alone
+-- used by proofs only
 pub mod Internal

@@ -31,12 +31,12 @@ pub record IsLine (line : List ℕ) (n : ℕ) (kind : Kind) (text : List ℕ) : 
   pub precedence : IsPrecedence digits n
   pub utf8 : IsUtf8 line
 
--- the text of a line of this kind spells the tree: a literal that of the text itself, a pattern that of the grammar
+-- the text of a line of this kind spells the tree: as a literal or by the grammar
 abbrev pub Spells : Kind → List ℕ → Tree → Type 0
 Spells Literal text t = t ≡ of_text text
 Spells Regex text t = Pattern (chars text) t
 
--- the line says this: it is bad, or a pattern without a tree, or a terminal of this precedence and this tree
+-- the line says this: it is bad, or its pattern doesn't parse, or it is a terminal of this precedence and this tree
 abbrev pub LineSays : List ℕ → Meaning → Type 0
 LineSays line Bad = (n : ℕ) (kind : Kind) (text : List ℕ) → ¬ IsLine line n kind text
 LineSays line NoTree = (n : ℕ) × ((text : List ℕ) × (IsLine line n Regex text × ((t : Tree) → ¬ Pattern (chars text) t)))

@@ -8,12 +8,12 @@ use Rattle.lalrpop_lexer.specs.declared.position.Position.{Position}
 abbrev pub is_line_feed : ℕ → Bool
 is_line_feed c = c == 10
 
--- the place behind some characters: lines and columns count from 1, a line feed ends its line, and a column counts the characters
--- behind the last line feed
+-- the place after some characters: lines and columns count from 1, a line feed ends its line, and a column counts the characters
+-- after the last line feed
 abbrev pub place_behind : List ℕ → Position
 place_behind cs = record { line = 1 + count_by is_line_feed cs; column = 1 + length (after_last is_line_feed cs) }
 
--- the place of an offset in bytes: that behind the characters before it
+-- the place of an offset in bytes: the place after the characters before it
 abbrev pub position_of : List ℕ → ℕ → Position
 position_of text offset = place_behind (chars (take offset text))
 

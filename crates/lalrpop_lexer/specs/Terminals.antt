@@ -1,5 +1,5 @@
 -- cases: proofs/Cases/Terminals.antt
--- What all lines say.
+-- What the lines of a list say.
 use Rattle.std.specs.Prelude.{ℕ, zero, suc, List, [], ◌∷◌, map}
 use Rattle.lalrpop_book.specs.Tree.{Tree}
 use Rattle.lalrpop_lexer.specs.Lines.{lines}
@@ -15,7 +15,7 @@ AreTerminals [] [] [] = Unit {0}
 AreTerminals (line ∷ rest) (t ∷ ts) (p ∷ ps) = LineSays line (meaning.Terminal p t) × AreTerminals rest ts ps
 AreTerminals _ _ _ = ⊥
 
--- the line with this number says this, and each line before it is a terminal
+-- the line with this number says this, and each earlier line is a terminal
 abbrev pub FirstSays : List (List ℕ) → ℕ → Meaning → Type 0
 FirstSays [] i said = ⊥
 FirstSays (line ∷ rest) zero said = LineSays line said

@@ -11,11 +11,11 @@ ghost use Rattle.lalrpop_book.specs.Tokens.{Item, AreItems, slices};
 use crate::token::Tokens;
 use lalrpop_dfa::Dfa;
 
-/// The tokens of the text: each is the longest nonempty prefix, of what those before it leave, that some pattern
-/// matches, with the strongest pattern that matches it. They end where nothing is left, or with one fault at the first
-/// place where no pattern matches. From then on there is `None` for good.
+/// The tokens of the text: each is the longest nonempty prefix of the rest that some pattern matches, with the strongest
+/// pattern that matches it. They end at the end of the text, or with one fault at the first place where no pattern
+/// matches. After that, every call returns `None`.
 ///
-/// No memory is taken, and there are at most as many tokens and faults as the text has characters.
+/// It takes no memory, and there are at most as many tokens and faults as the text has characters.
 pub fn tokens<'text>(dfa: &'text Dfa, text: &'text str) -> Tokens<'text>
     ensures start { result ≡ start_of dfa.now text.now }
     ensures items { (xs : List Item) → Drains GivesItem result xs

@@ -9,7 +9,7 @@ use lalrpop_ranges::Steps;
 use std::iter::FusedIterator;
 use std::marker::Model;
 
-/// Cuts a text into tokens, as `Tokens`, and says where each begins.
+/// Cuts a text into tokens, like `Tokens`, and says where each begins.
 #[derive(Debug, Drop)]
 pub struct LexerTokens<'text> {
     tokens: Tokens<'text, DenseDfa>,
@@ -35,14 +35,14 @@ impl<'text> LexerTokens<'text> {
         LexerTokens { tokens }
     }
 
-    /// The rest of the text: what stands behind the last token. All of it, before the first call of `next`.
+    /// The rest of the text, after the last token. Before the first call of `next` it is all of the text.
     pub fn rest(&self) -> &'text str
         ensures rest { result.now ≡ rest_of self.now }
     {
         self.tokens.rest()
     }
 
-    // What `next` gives. A step is counted for each character that is read.
+    // What `next` returns. Counts a step for each character read.
     pub(crate) fn next_counted(
         &mut self,
         steps: &mut Steps,

@@ -1,8 +1,8 @@
 //! A lexer layer: patterns with precedences are compiled to one automaton, which finds the longest match of a text
-//! and the one strongest pattern that matches it, and cuts whole texts into such matches. Patterns come as trees, or as
+//! and its only strongest pattern, and cuts whole texts into such matches. Patterns come as trees, or as
 //! terminals that are lines, such as `1 l class` or `0 r [a-z]+`.
 //!
-//! It hands out the crates below too.
+//! It also exports the crates below.
 #![tactic(auto)]
 
 mod counted;

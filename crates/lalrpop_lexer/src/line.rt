@@ -5,7 +5,7 @@ ghost use Rattle.std.specs.List.{list_all};
 ghost use Rattle.lalrpop_lexer.specs.Lines.{lines};
 ghost use Rattle.lalrpop_lexer.specs.Line.{IsPrecedence, letter, IsLine};
 
-// Enough for each `usize`, with zeros in front where it is shorter.
+// Enough for each `usize`, with leading zeros if it is shorter.
 const MAX_DIGITS: usize = 20;
 
 // The place of the first line feed.
@@ -15,7 +15,7 @@ fn line_feed(bytes: &[u8]) -> Option<usize>
     bytes.iter().position(|byte| *byte == b'\n')
 }
 
-/// The first line without its line feed, and the bytes after it; None where there is no byte.
+/// The first line without its line feed, and the bytes after it; None if there are no bytes.
 pub fn split_line(bytes: &[u8]) -> Option<(&[u8], &[u8])>
     ensures none { IfNone result (bytes.now ≡ []) }
     ensures lines { IfSome result (λ parts. lines bytes.now ≡ parts.0.now ∷ lines parts.1.now) }
@@ -37,22 +37,22 @@ fn has_digits_alone(text: &str) -> bool
     text.bytes().all(|byte| byte.is_ascii_digit())
 }
 
-// The number that 1 to 20 decimal digits write, where it is a `usize`.
+// The number that 1 to 20 decimal digits write, if it is a `usize`.
 fn precedence_of(digits: &str) -> Option<usize>
     ensures some { IfSome result (λ n. IsPrecedence digits.now n) }
     ensures none { IfNone result ((n : ℕ) → ¬ IsPrecedence digits.now n) }
 {
-    // `parse` alone would take a sign and any number of zeros in front.
+    // `parse` alone would take a sign and any number of leading zeros.
     if digits.len() > MAX_DIGITS || !has_digits_alone(digits) {
         return None;
     }
     digits.parse().ok()
 }
 
-/// How the text of a line stands for a tree.
+/// How the text of a line is read.
 #[derive(Clone, Copy)]
 pub enum Kind {
-    /// As it is: no character has a special meaning.
+    /// As it is: no character is special.
     Literal,
     /// As a pattern.
     Regex,
@@ -71,7 +71,7 @@ fn kind_of(rest: &str) -> Option<(Kind, &str)>
     Some((Kind::Regex, text))
 }
 
-/// The precedence, the kind and the text of a line `P l TEXT` or `P r PATTERN`; None where the line is bad.
+/// The precedence, the kind and the text of a line `P l TEXT` or `P r PATTERN`; None if the line is bad.
 pub fn line_parts(line: &[u8]) -> Option<(usize, Kind, &str)>
     ensures some { IfSome result (λ m. IsLine line.now m.0 m.1 m.2.now) }
     ensures none { IfNone result

@@ -13,7 +13,7 @@ use std::alloc::{AllocError, Global};
 pub enum Meaning {
     /// The line is of another form, or isn't UTF-8.
     Bad,
-    /// The line's pattern has no tree.
+    /// The line's pattern doesn't parse.
     NoTree,
     /// The line is a terminal.
     Terminal { precedence: usize, regex: Regex },
@@ -35,7 +35,7 @@ fn tree_of(alloc: Global, kind: Kind, text: &str) -> Result<Regex, RegexError>
 ///
 /// # Errors
 ///
-/// `AllocError` where a request for memory was refused.
+/// `AllocError` if a request for memory was refused.
 pub fn meaning_of(alloc: Global, line: &[u8]) -> Result<Meaning, AllocError>
     ensures said { IfOk result (λ meaning. LineSays line.now meaning) }
 {

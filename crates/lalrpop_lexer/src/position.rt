@@ -12,13 +12,13 @@ use std::marker::Model;
 pub struct Position {
     /// One more than the number of line feeds before the place.
     pub line: usize,
-    /// One more than the number of characters between the last line feed before the place and the place. Where there is
+    /// One more than the number of characters between the last line feed before the place and the place. If there is
     /// no line feed before it, they are counted from the beginning of the text.
     pub column: usize,
 }
 
 impl Position {
-    /// The place of an offset of the text, in bytes. To find the places of many offsets, take `Positions`.
+    /// The place of an offset of the text, in bytes. For the places of many offsets, use `Positions`.
     pub fn of(text: &str, offset: usize) -> Position
         requires boundary { IsCharBoundary text.now offset }
         ensures position { result ≡ position_of text.now offset }
@@ -38,7 +38,7 @@ impl Position {
         }
     }
 
-    // The place behind the character that stands at this one.
+    // The place after this character.
     fn next(self, c: char) -> Position
         requires line { self.line < usize.MAX }
         requires column { self.column < usize.MAX }
@@ -62,7 +62,7 @@ impl Position {
 #[derive(Debug, Drop)]
 pub struct Positions<'text> {
     text: &'text str,
-    // How far the text was walked over, and the place there.
+    // How far the text was walked, and the place there.
     offset: usize,
     position: Position,
 }
@@ -81,7 +81,7 @@ impl<'text> Model for Positions<'text> {
 }
 
 impl<'text> Positions<'text> {
-    /// Begins at the beginning of the text.
+    /// Starts at the beginning of the text.
     pub fn new(text: &'text str) -> Positions<'text>
         ensures start { result ≡ record { text = text.now; offset = 0 } }
     {
@@ -92,7 +92,7 @@ impl<'text> Positions<'text> {
         }
     }
 
-    /// The place of an offset in bytes, which isn't before that of the last call.
+    /// The place of an offset in bytes, which must not be before that of the last call.
     pub fn at(&mut self, offset: usize) -> Position
         requires boundary { IsCharBoundary self.old.text offset }
         requires ascending { self.old.offset ≤ offset }

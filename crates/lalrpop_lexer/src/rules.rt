@@ -27,10 +27,10 @@ use lalrpop_re::Regex;
 use std::alloc::{AllocError, Global};
 use std::marker::Model;
 
-/// Patterns with their precedences, and the automaton of both.
+/// Patterns with their precedences, and their automaton.
 ///
-/// That they belong together, and that no word is ambiguous, is an invariant of the type, so only building it has a
-/// condition.
+/// An invariant of the type says that they belong together and that no word is ambiguous, so only building a lexer has
+/// a condition.
 #[derive(Debug, Drop)]
 pub struct Lexer {
     regexs: Vec<Regex>,
@@ -59,12 +59,12 @@ impl Model for Lexer {
 }
 
 impl Lexer {
-    /// Builds the automaton of the patterns: one precedence for each pattern.
+    /// Builds the automaton of the patterns, with one precedence for each pattern.
     ///
     /// # Errors
     ///
-    /// The first pattern that can't be compiled; else the two last strongest patterns on the shortest, then least, word
-    /// that has no one strongest pattern; and out of memory.
+    /// The first pattern that can't be compiled; otherwise the last two strongest patterns on the shortest, then least, word
+    /// that has two or more; or out of memory.
     pub fn new(
         alloc: Global,
         regexs: Vec<Regex>,
@@ -90,15 +90,15 @@ impl Lexer {
         })
     }
 
-    /// The patterns, in the order of their places.
+    /// The patterns, in the order of their indices.
     pub fn regexs(&self) -> &[Regex]
         ensures trees { result.now ≡ self.now.trees }
     {
         &self.regexs
     }
 
-    /// The token at the front of the text: the longest nonempty prefix that some pattern matches, with the one pattern
-    /// of the greatest precedence that matches it. `None` where no pattern matches any.
+    /// The token at the front of the text: the longest nonempty prefix that some pattern matches, with the only pattern
+    /// of the greatest precedence that matches it. `None` if no pattern matches one.
     pub fn token<'text>(&self, text: &'text str) -> Option<Token<'text>>
         ensures token { IfSome result (λ token.
             IsToken self.now.trees self.now.precedences text.now 0 token) }
@@ -114,10 +114,10 @@ impl Lexer {
         }
     }
 
-    /// The tokens of the text, each the token at the front of what those before it leave. They end where nothing is
-    /// left, or with one fault at the first place where no pattern matches. From then on there is `None` for good.
+    /// The tokens of the text, each the token at the front of the rest. They end at the end of the text, or with one
+    /// fault at the first place where no pattern matches. After that, every call returns `None`.
     ///
-    /// No memory is taken, and there are at most as many tokens and faults as the text has characters.
+    /// It takes no memory, and there are at most as many tokens and faults as the text has characters.
     pub fn tokens<'text>(&'text self, text: &'text str) -> LexerTokens<'text>
         ensures start { result ≡ start_of result.automaton text.now }
         ensures automaton { result.automaton ≡ self.now.automaton }
@@ -132,10 +132,10 @@ impl Lexer {
         LexerTokens::new(Tokens::new(&self.dense, text))
     }
 
-    /// The tokens of `tokens`, with a step counted for each character that is read, as often as it is read: where at most n
-    /// characters after a match leave it open, a whole text costs at most n + 2 steps a character.
+    /// The tokens of `tokens`, with a step counted each time that a character is read. If at most n characters after a
+    /// match leave it open, a whole text costs at most n + 2 steps a character.
     ///
-    /// No memory is taken. When it runs it is `tokens`: the steps are for contracts alone.
+    /// It takes no memory. A running program cannot tell it from `tokens`: only contracts see the steps.
     pub fn tokens_counted<'text>(&'text self, text: &'text str) -> CountedTokens<'text>
         ensures start { result ≡ counting_of self.now.automaton text.now }
         ensures tokens { (xs : List (Result TokenValue FaultValue)) → Drains GivesCounted result xs
@@ -147,14 +147,14 @@ impl Lexer {
         CountedTokens::new(self.tokens(text))
     }
 
-    /// The greatest number of characters that can follow a match and leave it open whether a longer one comes; nothing
-    /// where there is no greatest.
+    /// The greatest number of characters that can follow a match and leave it open whether a longer one comes; `None` if
+    /// the number has no bound.
     ///
-    /// Where it is n, no token is decided by looking more than n + 1 characters past its end.
+    /// If it is n, no token is decided by looking more than n + 1 characters past its end.
     ///
     /// # Errors
     ///
-    /// `AllocError` where a request for memory was refused.
+    /// `AllocError` if a request for memory was refused.
     pub fn lookahead(&self, alloc: Global) -> Result<Option<usize>, AllocError>
         ensures answer { IfOk result (λ found. IsLookahead self.now.automaton found) }
         ensures settled { IfOk result (λ found.
@@ -163,12 +163,12 @@ impl Lexer {
         lookahead(alloc, self.dense.dfa())
     }
 
-    /// For each pattern, in the order of their places, whether a token by it can stay open for ever: there is no number of
-    /// characters that settles that no longer one comes. Where `lookahead` gives a number none is.
+    /// For each pattern, in order, whether a token by it can stay open forever: no number of characters after it is enough
+    /// to settle that no longer one comes. If `lookahead` returns a number, none can.
     ///
     /// # Errors
     ///
-    /// `AllocError` where a request for memory was refused.
+    /// `AllocError` if a request for memory was refused.
     pub fn open_patterns(&self, alloc: Global) -> Result<Vec<bool>, AllocError>
         ensures same_length { IfOk result (λ found.
             length found.items ≡ length self.now.trees) }

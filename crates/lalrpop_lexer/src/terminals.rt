@@ -8,30 +8,30 @@ use lalrpop_dfa::Precedence;
 use lalrpop_re::Regex;
 use std::alloc::{AllocError, Global};
 
-/// What all lines say. Lines are numbered from 0.
+/// What the lines say. Lines are numbered from 0.
 #[derive(Drop)]
 pub enum Terminals {
-    /// Each line is a terminal; their patterns and precedences in order.
+    /// Each line is a terminal; these are their patterns and precedences, in order.
     All {
         regexs: Vec<Regex>,
         precedences: Vec<Precedence>,
     },
-    /// This is the first bad line: it has another form.
+    /// The first bad line: it has another form.
     Bad {
         line: usize,
     },
-    /// This is the first bad line: its pattern doesn't parse.
+    /// The first bad line: its pattern doesn't parse.
     NoTree {
         line: usize,
     },
 }
 
 /// Reads terminals, one a line, up to the first bad line: `P l TEXT` or `P r PATTERN`, where P is a precedence of 1 to 20
-/// decimal digits, and one space stands at both places. Each line ends at a line feed, which the last may lack.
+/// decimal digits, and both gaps are exactly one space. Each line ends at a line feed, which the last may lack.
 ///
 /// # Errors
 ///
-/// `AllocError` where a request for memory was refused.
+/// `AllocError` if a request for memory was refused.
 pub fn read_terminals(alloc: Global, bytes: &[u8]) -> Result<Terminals, AllocError>
     ensures said { IfOk result (λ terminals. AreSaid bytes.now terminals) }
 {

@@ -43,7 +43,7 @@ impl<'text, M: Matcher> Tokens<'text, M> {
     ghost use Rattle.lalrpop_table.specs.Lookahead.{LooksAtMost};
     ghost use Rattle.lalrpop_lexer.specs.Cutting.{start_of, rest_of, GivesItem, left_of};
 
-    // The text as it is before the first token.
+    // The whole text, before the first token.
     pub(crate) fn new(matcher: &'text M, text: &'text str) -> Tokens<'text, M>
         ensures start { result ≡ start_of (M.rows matcher.now) text.now }
     {
@@ -62,14 +62,14 @@ impl<'text, M: Matcher> Tokens<'text, M> {
         self.at
     }
 
-    /// The rest of the text: what stands behind the last token. All of it, before the first call of `next`.
+    /// The rest of the text, after the last token. Before the first call of `next` it is all of the text.
     pub fn rest(&self) -> &'text str
         ensures rest { result.now ≡ rest_of self.now }
     {
         &self.text[self.at..]
     }
 
-    // What `next` gives. A step is counted for each character that is read.
+    // What `next` returns. Counts a step for each character read.
     pub(crate) fn next_counted(
         &mut self,
         steps: &mut Steps,

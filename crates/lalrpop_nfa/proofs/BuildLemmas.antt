@@ -37,7 +37,7 @@ filter_map_none f s same q (a ∷ xs) ne = rw (same a, ne_eqb s q ne) (filter_ma
 kinds_with : (g : Graph) (kind : StateKind) → length (with_kind g kind).kinds ≡ length g.kinds + 1
 kinds_with g kind = rw length-append refl
 
--- a new state still has no edge that reads nothing, once others have theirs
+-- a new state still has no edge that reads nothing after other states got theirs
 pub noops_new : (g h k : Graph) (s : ℕ) → s ≡ length g.kinds → h ≡ with_kind g Neither → edges_from s h.edges ≡ no_edges → KeepsNoops h k → filter (leaves s) k.edges.noops ≡ []
 noops_new g h k s t u bare kept =
     let m : length h.kinds ≡ length g.kinds + 1 = rw u (kinds_with g Neither) in

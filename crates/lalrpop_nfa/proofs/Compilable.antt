@@ -1,4 +1,4 @@
--- Trees that can be compiled, as one recursion: what soundness and the lack of a fault say together.
+-- Trees that can be compiled, as one recursion: validity and the lack of a fault together.
 use Rattle.std.proofs.Common.{◌≡◌, ℕ, zero, suc, ◌+◌, ◌<◌, ◌≤◌, List, [], ◌∷◌, refl, subst, arith, inl, inr, true, false}
 use Rattle.std.specs.Prelude.{Option, Some, None}
 use Rattle.std.specs.List.{Contains}

@@ -79,7 +79,7 @@ module _ (t : Tree) where
   agrees_start : Agrees 2 3 whole from_start
   agrees_start = Agrees-right whole 2 3 2 3 3 end own from_start (late 2 3 (omega arith)) (omega arith) (omega arith) (inr (omega arith)) (fragment_within t accept_state 3)
 
-  -- only other edges leave ACCEPT and REJECT, and they lead to REJECT
+  -- ACCEPT and REJECT have only other edges, and they lead to REJECT
   no_noop : (p q : ℕ) → p < 2 → Contains whole.noops (noop p q) → ⊥
   no_noop p q l m = let w = late_within.noops (noop p q) m in omega (arith, w.0)
 
@@ -197,7 +197,7 @@ lists a b c = record { noops = a; tests = b; others = c }
 same_lists : (a d : List (Edge Noop)) (b e : List (Edge Range)) (c f : List (Edge Other)) → a ≡ d → b ≡ e → c ≡ f → lists a b c ≡ lists d e f
 same_lists a d b e c f x y z = cc
 
--- beside edges of further states, ACCEPT and REJECT have the edges that they began with, and START the one to the entry
+-- beside edges of further states, ACCEPT and REJECT have their first edges, and START has the one to the entry
 module _ (e : Lists) (entry end : ℕ) (w : Within 3 end e) where
   noops : (q : ℕ) → q < 3 → filter (leaves q) (e.noops ++ noop start_state entry ∷ []) ≡ filter (leaves q) (noop start_state entry ∷ [])
   noops q l = rest q e.noops (noop start_state entry ∷ []) (λ x m h. let k = w.noops x m in absurd (omega (arith, k.0, h)))

@@ -1,4 +1,4 @@
--- How a walk along a text cuts it: what was read, and what is left.
+-- How a walk along a text divides it: what was read, and what is left.
 use Rattle.std.proofs.Common.{◌≡◌, ℕ, ◌+◌, ◌<◌, ◌≤◌, ◌⊎◌, ⊎_elim, inl, inr, List, [], ◌∷◌, ◌++◌, length, take, drop, refl, sym, ap, subst, ◌∙◌, arith, append_assoc, length-append}
 use Rattle.std.specs.Char.{encode_utf8}
 use Rattle.std.specs.Str.{chars, IsUtf8, IsCharBoundary, encode_utf8_all}
@@ -53,7 +53,7 @@ word_after text rest rest2 at at2 c h e l =
     ap chars (front_after text rest rest2 at at2 c h e l) ∙ chars-append (take at text) (encode_utf8 c) h.seen_utf8
     ∙ ap (λ w. chars (take at text) ++ w) (chars_past_char (encode_utf8 c) [] c one (sym (append-nil (encode_utf8 c))) ∙ ap (λ w. c ∷ w) chars-nil)
 
--- a character more was read
+-- one more character was read
 pub count_more : (text rest rest2 : List ℕ) (at at2 c : ℕ) → IsCut text at rest → rest ≡ encode_utf8 c ++ rest2 → at2 ≡ at + length (encode_utf8 c)
     → length (chars (take at2 text)) ≡ length (chars (take at text)) + 1
 count_more text rest rest2 at at2 c h e l = ap length (word_after text rest rest2 at at2 c h e l) ∙ length-append (chars (take at text)) (c ∷ [])
@@ -64,7 +64,7 @@ count_within text rest at h =
     let whole : chars text ≡ chars (take at text) ++ chars rest = ap chars h.split ∙ chars-append (take at text) rest h.seen_utf8 in
     omega (arith, ap length whole, length-append (chars (take at text)) (chars rest))
 
--- a prefix at least as long as the cut goes on from it by whole characters
+-- a prefix at least as long as what was read extends it by whole characters
 pub record GoesOn (text rest : List ℕ) (at : ℕ) (q : List ℕ) : Type 0 where
   pub more : List ℕ
   pub left : List ℕ
@@ -95,7 +95,7 @@ first_char more left rest2 c (d ∷ ds) e same =
     let first : d ≡ c = (encode_same d c (encode_utf8_all ds ++ left) rest2 joined).0 in
     inr (ds, sym e ∙ ap (λ x. encode_utf8 x ++ encode_utf8_all ds) first)
 
--- a prefix past the cut, and not past the next character, ends with it
+-- a prefix that is longer than what was read, and ends no later than the next character, ends with it
 pub ends_there : (text rest rest2 q : List ℕ) (at at2 c : ℕ) → IsCut text at rest → rest ≡ encode_utf8 c ++ rest2 → at2 ≡ at + length (encode_utf8 c)
     → IsPrefix q text → at < length q → length q ≤ at2 → q ≡ take at2 text
 ends_there text rest rest2 q at at2 c h e l b above below =

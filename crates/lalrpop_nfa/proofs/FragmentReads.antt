@@ -1,4 +1,4 @@
--- What a fragment reads, wherever the edges of its states are the graph's.
+-- What a fragment reads, if the edges of its states are the graph's.
 use Rattle.std.proofs.Common.{◌≡◌, ℕ, zero, suc, ◌<◌, ◌≤◌, ◌+◌, ◌-◌, ◌↔◌, List, [], ◌∷◌, ◌++◌, refl, ap, sym, ◌∙◌, subst, arith, ◌⊎◌, inl, inr}
 use Rattle.std.specs.Prelude.{Some, None, Bool}
 use Rattle.std.specs.List.{Contains}
@@ -82,7 +82,7 @@ module _ (e : Lists) where
   }
 
   module _ (dead : (w : List ℕ) → Path e accept_state reject_state w → ⊥) where
-    -- where the graph agrees with the fragment's edges on the new states, the entry reads L up to the target
+    -- if the graph agrees with the fragment's edges on the new states, the entry reads L up to the target
     abbrev pub ReadsBy : Words → Construction → Type 0
     ReadsBy L x = (target n : ℕ) → 0 < n → Agrees n (n + (x target n).size) e (x target n).edges → Reads e L target (x target n).entry
 

@@ -1,4 +1,4 @@
--- The test edges of a fragment: what their labels are, and that no two of one state meet.
+-- The test edges of a fragment: their labels, and that no two of one state meet.
 use Rattle.std.proofs.Common.{◌≡◌, ◌≢◌, ℕ, zero, suc, ◌<◌, ◌≤◌, ◌+◌, ◌-◌, ◌⊎◌, List, [], ◌∷◌, ◌++◌, map, ap, sym, ◌∙◌, subst, arith, inl, inr}
 use Rattle.std.specs.Prelude.{Some, None, slice_get}
 use Rattle.std.specs.List.{Contains}

@@ -28,12 +28,12 @@ pub record Fits (P : ℕ → Type 0) (a b : ℕ) (e : Lists) : Type 0 where
 abbrev pub HoldsFrom : (ℕ → Type 0) → ℕ → ℕ → Type 0
 HoldsFrom P n z = (q : ℕ) → n ≤ q → q < n + z → P q
 
--- where the target and the new states have P, so have the entry and the states to which edges lead
+-- if the target and the new states have P, so do the entry and the states to which edges lead
 pub record Leads (P : ℕ → Type 0) (x : Construction) : Type 0 where
   pub entry : (target n : ℕ) → P target → HoldsFrom P n (x target n).size → P (x target n).entry
   pub edges : (target n : ℕ) → P target → HoldsFrom P n (x target n).size → Fits P n (n + (x target n).size) (x target n).edges
 
--- the same for trees side by side
+-- the same for branches
 pub record LeadsEach (P : ℕ → Type 0) (bs : ℕ → ℕ → Branches) : Type 0 where
   pub entries : (target n : ℕ) → P target → HoldsFrom P n (bs target n).size → (q : ℕ) → Contains (bs target n).entries q → P q
   pub edges : (target n : ℕ) → P target → HoldsFrom P n (bs target n).size → Fits P n (n + (bs target n).size) (bs target n).edges

@@ -60,7 +60,7 @@ module _ (e : Lists) (q c : ℕ) where
   pub path_split : (p : ℕ) (w : List ℕ) → Path e q p (w ++ c ∷ []) → ReadsLast e q c p w
   path_split p w t = split_from p (w ++ c ∷ []) t w refl
 
-  -- the edge alone
+  -- a single edge
   pub path_edge : (p b : ℕ) → Reads e p c b → Path e q b [] → Path e q p (c ∷ [])
   path_edge p b (inl h) t = read p b [] h.0 c h.1.0 h.1.1 t
   path_edge p b (inr h) t = otherwise p b [] c h.0 h.1 t

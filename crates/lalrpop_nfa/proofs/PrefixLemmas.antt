@@ -9,7 +9,7 @@ use Rattle.std.proofs.lemmas.Str.{chars-nil, chars-append}
 use Rattle.lalrpop_nfa.proofs.Cuts.{IsCut, cut_within, goes_on, ends_there}
 use Rattle.lalrpop_book.specs.Prefix.{IsPrefix, IsLongestOf}
 
--- of the prefixes of at most n bytes, the longest whose word is in the language
+-- the longest prefix of at most n bytes whose word is in the language
 abbrev pub IsLongestOfUpTo : (List ℕ → Type 0) → List ℕ → ℕ → Option (List ℕ) → Type 0
 IsLongestOfUpTo L text n None = (p : List ℕ) → IsPrefix p text → L (chars p) → length p ≤ n → ⊥
 IsLongestOfUpTo L text n (Some m) =

@@ -32,7 +32,7 @@ module _ {L : Type 0} (q : ℕ) (es : List (Edge L)) (f : Edge L) (n : ℕ) wher
   IsContiguous-open None is same (inr o) r = absurd (not_nil (leaves q) (filter (leaves q) o.0) o.1 (sym (filter_last_this (leaves q) o.0 o.1 (eq-eqb o.1.from q o.3)) ∙ (ap (filter (leaves q)) (sym o.2) ∙ r.all)))
   IsContiguous-open (Some i) is same (inr o) r = IsContiguous-next q es f (Some i) o.0 o.1 same o.2 o.3 r
 
--- t has the kind and the indices of s, save the index of this kind of labels
+-- t has the kind and the indices of s, except the index of this kind of labels
 abbrev SameFirstsBut : LabelKind → State → State → Type 0
 SameFirstsBut Noops s t = (t.kind ≡ s.kind) × (t.first_test_edge ≡ s.first_test_edge) × (t.first_other_edge ≡ s.first_other_edge)
 SameFirstsBut Tests s t = (t.kind ≡ s.kind) × (t.first_noop_edge ≡ s.first_noop_edge) × (t.first_other_edge ≡ s.first_other_edge)
@@ -53,7 +53,7 @@ SameFirstsBut-self Noops s = (refl, refl, refl)
 SameFirstsBut-self Tests s = (refl, refl, refl)
 SameFirstsBut-self Others s = (refl, refl, refl)
 
--- the runs of the other kinds stay, where their lists and indices do
+-- the runs of the other kinds stay if their lists and indices do
 AreContiguous-kept : (j k : LabelKind) (e f : Lists) (s t : State) (q : ℕ) → SameListsBut j e f → SameFirstsBut j s t → AreContiguous j f t q → AreContiguous k e s q → AreContiguous k f t q
 AreContiguous-kept Noops Noops e f s t q x y r o = r
 AreContiguous-kept Noops Tests e f s t q x y r o = rw (x.0, y.1) o
@@ -98,7 +98,7 @@ module _ {L : Type 0} (kind : LabelKind) (list : Lists → List (Edge L)) (with_
 pub kinds-pushed : (kind : LabelKind) (states : List State) (from : ℕ) (s t : State) (i : Option ℕ) → s ≡ state_at states from → t ≡ with_index kind s i → kinds_of (set states from t) ≡ kinds_of states
 kinds-pushed kind states from s t i here is = map-set_same (λ v. v.kind) states from t (edgeless Neither) (ap (λ v. v.kind) is ∙ (kind_kept kind s i ∙ ap (λ v. v.kind) here))
 
--- a number below that of the kinds is that of a state
+-- a number below the number of kinds is a state's
 module _ (states : List State) (q from : ℕ) (g : Graph) (e : Lists) (shown : record { kinds = kinds_of states; edges = e } ≡ g) (same : q ≡ from) (below : from < length g.kinds) where
   pub state_inside : q < length states
   state_inside = let h = length-map states (λ (s : State). s.kind) in let v = ap (λ (n : Graph). length n.kinds) shown in omega arith
@@ -113,7 +113,7 @@ edgeless_index Noops kind = refl
 edgeless_index Tests kind = refl
 edgeless_index Others kind = refl
 
--- with a further state that no edge leaves, each index is as it was
+-- with one more state that no edge leaves, each index is as it was
 indices_kept : (k : LabelKind) (kind : StateKind) (states : List State) (q : ℕ) → index_of k (state_at (states ++ edgeless kind ∷ []) q) ≡ index_of k (state_at states q)
 indices_kept k kind [] zero = edgeless_index k kind ∙ sym (edgeless_index k Neither)
 indices_kept k kind [] (suc q) = refl

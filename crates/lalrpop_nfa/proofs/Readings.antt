@@ -1,4 +1,4 @@
--- What is read from a state to ACCEPT, where it is known what is read from others.
+-- What is read from a state to ACCEPT, in terms of what is read from other states.
 use Rattle.std.proofs.Common.{◌≡◌, ◌≢◌, ℕ, zero, suc, ◌<◌, ◌≤◌, List, [], ◌∷◌, ◌++◌, refl, ap, sym, ◌∙◌, subst, arith, ◌⊎◌, inl, inr, append_assoc}
 use Rattle.std.specs.List.{Contains}
 use Rattle.std.proofs.Math.Nat.{le_refl}
@@ -11,7 +11,7 @@ use Rattle.lalrpop_nfa.specs.Path.{noop, test, other, Path, here, epsilon, read,
 use Rattle.lalrpop_nfa.specs.Compiled.{accept_state, reject_state}
 use Rattle.lalrpop_book.proofs.Contained.{contains_none, contains_cases, contains_first, contains_later, contains_only}
 
--- how many edges the steps take
+-- the number of edges of a path
 abbrev pub steps : (e : Lists) (last p : ℕ) (w : List ℕ) → Path e last p w → ℕ
 steps e last _ _ (here p s) = 0
 steps e last _ _ (epsilon p q w m h) = suc (steps e last q w h)
@@ -33,7 +33,7 @@ joined_words : (w u v a b : List ℕ) → w ≡ u ++ v → v ≡ a ++ b → w �
 joined_words w u v a b i j = i ∙ ap (λ z. u ++ z) j ∙ sym (append_assoc u a b)
 
 module _ (e : Lists) where
-  -- the word is one with P, and then one that is read from target, in at most so many steps
+  -- the word is one with P followed by one that is read from target, in at most `most` steps
   pub record Cut (P : Words) (target : ℕ) (w : List ℕ) (most : ℕ) : Type 0 where
     pub first : List ℕ
     pub rest : List ℕ
@@ -42,7 +42,7 @@ module _ (e : Lists) where
     pub is : P first
     pub few : steps e accept_state target rest path ≤ most
 
-  -- from entry a word is read just where it is one with P and then one that is read from target, in no more steps
+  -- a word is read from entry exactly if it is one with P followed by one that is read from target, in no more steps
   pub record Reads (P : Words) (target entry : ℕ) : Type 0 where
     pub into : (u v : List ℕ) → P u → Path e accept_state target v → Path e accept_state entry (u ++ v)
     pub out : (w : List ℕ) (h : Path e accept_state entry w) → Cut P target w (steps e accept_state entry w h)
@@ -52,7 +52,7 @@ module _ (e : Lists) where
     pub into : (u v : List ℕ) → P u → Path e accept_state target v → (q : ℕ) × (Contains qs q × Path e accept_state q (u ++ v))
     pub out : (q : ℕ) → Contains qs q → (w : List ℕ) (h : Path e accept_state q w) → Cut P target w (steps e accept_state q w h)
 
-  -- `Noop` edges to these states leave s, and nothing else
+  -- only `Noop` edges to these states leave s
   pub record Forks (s : ℕ) (qs : List ℕ) : Type 0 where
     pub all : (q : ℕ) → Contains qs q → Contains e.noops (noop s q)
     pub only : (q : ℕ) → Contains e.noops (noop s q) → Contains qs q

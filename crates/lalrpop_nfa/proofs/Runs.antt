@@ -29,7 +29,7 @@ run_start g text v u same h = record {
   after = subst (λ w. IsAfterWord g w v.states) (sym chars-nil) (after_none g v.states h);
 }
 
--- one character more is read
+-- one more character is read
 module _ (g : Graph) (text rest rest2 : List ℕ) (at at2 c : ℕ) (v : Visited) (u : IsUtf8 text) (r : IsRun g text at rest v) (e : rest ≡ encode_utf8 c ++ rest2) (l : at2 ≡ at + length (encode_utf8 c)) where
   pub cut_next : IsCut text at2 rest2
   cut_next = cut_more text rest rest2 at at2 c u r.cut e l
@@ -46,7 +46,7 @@ module _ (g : Graph) (text rest rest2 : List ℕ) (at at2 c : ℕ) (v : Visited)
   pub boundary_next : IsCharBoundary text at2
   boundary_next = let long = cut_within text rest2 at2 cut_next in IsCharBoundary-from_take text at2 u (omega arith) cut_next.seen_utf8
 
-  -- so many steps were taken, and a run takes at most n for the character
+  -- this many steps were taken, and a run takes at most n for the character
   pub cost_next : (n old before after : ℕ) → before ≤ old + n * (length (chars (take at text)) + 1) → after ≤ before + n → after ≤ old + n * (length (chars (take at2 text)) + 1)
   cost_next n old before after i one =
       let more : n * (length (chars (take at2 text)) + 1) ≡ n * (length (chars (take at text)) + 1 + 1) = ap (λ k. n * (k + 1)) (count_more text rest rest2 at at2 c r.cut e l) in
@@ -83,7 +83,7 @@ pub if_mapped : {X Y : Type 0} (f : X → Y) (P : Y → Type 0) (a : Option X) �
 if_mapped f P None h = tt
 if_mapped f P (Some x) h = h
 
--- no more steps than the whole text asks for
+-- no more steps than the bound for the whole text
 pub cost_within : (text rest : List ℕ) (at n steps old : ℕ) → IsCut text at rest → steps ≤ old + n * (length (chars (take at text)) + 1) → steps ≤ old + n * (length (chars text) + 1)
 cost_within text rest at n steps old cut h =
     let within = count_within text rest at cut in

@@ -1,4 +1,4 @@
--- The fragment of a tree that can be compiled has as many states as the tree's size says.
+-- The fragment of a tree that can be compiled has exactly as many states as the size of the tree.
 use Rattle.std.proofs.Common.{◌≡◌, ℕ, zero, suc, ◌≤◌, ◌+◌, ◌-◌, ◌*◌, List, [], ◌∷◌, length, refl, ap, ◌∙◌, arith}
 use Rattle.std.proofs.Math.Nat.{suc-mul}
 use Rattle.std.specs.Prelude.{Some, None}

@@ -39,7 +39,7 @@ marked_within marks q e =
 pub listed_within : (states : List ℕ) (marks : List Bool) → IsStateSet states marks → (q : ℕ) → Contains states q → q < length marks
 listed_within states marks h q k = marked_within marks q ((h.marked q).0 k)
 
--- a state read from the list, in the words of the call that gives it
+-- a state read from the list, in the words of the call that returns it
 pub read_at : (states items : List ℕ) (k p : ℕ) → items ≡ states → k < length items → p ≡ get_or items k p → p ≡ get_or states k 0
 read_at states items k p same l at = at ∙ get_or_default items k p 0 l ∙ ap (λ xs. get_or xs k 0) same
 
@@ -99,7 +99,7 @@ grown_twice old mid new T U g h = record {
       ⊎_elim (λ (a : T q). grown_keeps mid new U q h (g.complete q a l)) (λ (a : U q). h.complete q a (rw g.room l)) t;
 }
 
--- ---- a loop over the edges that leave a state, which adds the ends of those that `want` holds of
+-- ---- a loop over the edges that leave a state, which adds the ends of the edges that `want` holds of
 
 -- the edges of the list from the state that are wanted and lead to q
 abbrev pub Ends : {L : Type 0} → List (Edge L) → ℕ → (Edge L → Type 0) → ℕ → Type 0
@@ -195,7 +195,7 @@ ends_test e from c q t =
 pub test_ends : (e : Lists) (from c q : ℕ) → Tests e from c q → Ends e.tests from (λ x. Covers x.label c) q
 test_ends e from c q t = (test from t.0 q, (t.1.0, refl, t.1.1, refl))
 
--- a test covers the value: the tests alone say where it leads
+-- a test covers the value: only the tests count
 pub grown_tested : (e : Lists) (from c : ℕ) (old new : StateList) → (q : ℕ) × Tests e from c q → IsGrown old new (Ends e.tests from (λ x. Covers x.label c))
     → IsGrown old new (Reads e from c)
 grown_tested e from c old new some h =
@@ -204,7 +204,7 @@ grown_tested e from c old new some h =
     (λ (a : Contains e.others (other from q) × IsUntested e from c). absurd (a.1 some.1.0 some.0 some.1.1.0 some.1.1.1))
     t)
 
--- none does: nothing was added for them, and the other edges say it
+-- none does: nothing was added for the tests, and the other edges count
 pub grown_untested : (e : Lists) (from c : ℕ) (old mid new : StateList) → IsUntested e from c → IsGrown old mid (Ends e.tests from (λ x. Covers x.label c))
     → IsGrown mid new (Ends e.others from (λ x. Unit {0})) → IsGrown old new (Reads e from c)
 grown_untested e from c old mid new none g h =
@@ -219,12 +219,12 @@ grown_untested e from c old mid new none g h =
     (λ (a : Contains e.others (other from q) × IsUntested e from c). inr (other_ends e from q a.0))
     t)
 
--- ---- a list that is gone through while it grows
+-- ---- a list that is walked while it grows
 
 same_front : (old new : StateList) (T : ℕ → Type 0) (k : ℕ) → IsGrown old new T → k < length old.states → get_or new.states k 0 ≡ get_or old.states k 0
 same_front old new T k h l = ap (λ xs. get_or xs k 0) h.kept.1 ∙ get_or_append_left old.states h.kept.0 0 k l
 
--- the states before the place have their followers listed
+-- the followers of the states before the place are listed
 pub record IsClosing (e : Lists) (given now : StateList) (place : ℕ) : Type 0 where
   pub room : now.room ≡ given.room
   pub kept : (q : ℕ) → Contains given.states q → Contains now.states q
@@ -269,7 +269,7 @@ closing_end e given now place h l = record {
   closed = λ p q k s m. let at = contains_at now.states p k in h.passed at.0 q (omega (arith, at.1.0)) (subst (λ r. IsEpsilonEdge e r q) (sym at.1.1) s) m;
 }
 
--- the states before the place have those listed that they lead to by the value
+-- the states to which the states before the place lead by the value are listed
 pub record IsMoving (e : Lists) (c : ℕ) (given now : StateList) (place : ℕ) : Type 0 where
   pub room : now.room ≡ given.room
   pub sound : (q : ℕ) → Contains now.states q → (p : ℕ) × (Contains given.states p × Reads e p c q)
@@ -423,7 +423,7 @@ from_reject t g h p w (epsilon a b u k s) e = (h.noops_in (noop a b) k).2 e
 from_reject t g h p w (read a b u r d k cov s) e = (h.tests_in (test a r b) k).2 e
 from_reject t g h p w (otherwise a b u d k un s) e = from_reject t g h b u s (h.others_in (other a b) k).1
 
--- where each listed state is REJECT, no longer word matches
+-- if each listed state is REJECT, no longer word matches
 pub none_on : (t : Tree) (g : Graph) (w : List ℕ) (set : StateList) → IsCompiled t g → IsAfterWord g w set
     → Rejects (record { graph = g; states = set }) → (v : List ℕ) → ¬ Matches t (w ++ v)
 none_on t g w set h a dead v m =

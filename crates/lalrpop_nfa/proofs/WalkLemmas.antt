@@ -1,4 +1,4 @@
--- Runs of edges, where an edge is added last.
+-- Runs of edges to which an edge is added last.
 use Rattle.std.proofs.Common.{◌≡◌, ◌≢◌, ℕ, suc, ◌<◌, ◌≤◌, List, [], ◌∷◌, ◌++◌, length, drop, take, refl, ap, sym, ◌∙◌, subst, arith, length-append, length-drop, get_or, Bool, true, false, cond}
 use Rattle.std.specs.Prelude.{Option, Some, None}
 use Rattle.std.specs.List.{filter}
@@ -29,7 +29,7 @@ module _ {X : Type 0} (p : X → Bool) where
   tail_same : (x : X) (xs ys : List X) → x ∷ xs ≡ x ∷ ys → xs ≡ ys
   tail_same x xs ys h = cc
 
-  -- where a walk takes all that pass, and the last passes, all pass: so a further one that passes is taken too
+  -- if a walk takes all that pass, and the last one passes, all pass: so another one that passes is taken too
   walk_goes_on : (xs : List X) (e f : X) → p e ≡ true → p f ≡ true → filter p (xs ++ e ∷ []) ≡ walk p (xs ++ e ∷ []) → filter p ((xs ++ e ∷ []) ++ f ∷ []) ≡ walk p ((xs ++ e ∷ []) ++ f ∷ [])
   walk_goes_on [] e f h k w = rw (h, k)
   walk_goes_on (x ∷ xs) e f h k w = walk_step (p x) x xs e f h k (λ v. walk_goes_on xs e f h k v) w
@@ -73,7 +73,7 @@ module _ {L : Type 0} (q : ℕ) (es : List (Edge L)) (f : Edge L) where
         all = filter_last_this (leaves q) es f yes ∙ (ap (λ ys. ys ++ f ∷ []) none ∙ sym (ap (walk (leaves q)) cut ∙ (rw yes)));
       }
 
-  -- a further edge goes to the end of the run, which is the end of the list
+  -- another edge of the state goes to the end of the run, which is the end of the list
   pub IsContiguous-next : (first : Option ℕ) (before : List (Edge L)) (e : Edge L) → f.from ≡ q → es ≡ before ++ e ∷ [] → e.from ≡ q → IsContiguous q es first → IsContiguous q (es ++ f ∷ []) first
   IsContiguous-next None before e same is here r =
       absurd (not_nil (leaves q) (filter (leaves q) before) e (sym (filter_last_this (leaves q) before e (eq-eqb e.from q here)) ∙ (ap (filter (leaves q)) (sym is) ∙ r.all)))
@@ -96,6 +96,6 @@ module _ {L : Type 0} (q : ℕ) (es : List (Edge L)) (f : Edge L) where
 pub IsAt-read : {L : Type 0} (q i : ℕ) (es : List (Edge L)) (x : Edge L) → i < length es → x ≡ get_or es i x → x.from ≡ q → IsAt q es (Some i)
 IsAt-read q i es x inside read same = (x, drop (suc i) es, drop-cons es i x inside ∙ ap (λ y. y ∷ drop (suc i) es) (sym read), same)
 
--- what an iterator over the run has left, and that it stands at an edge
+-- what an iterator over the run has left, and that it is at an edge
 pub IsContiguous-elsewhere : {L : Type 0} (q r : ℕ) (es fs : List (Edge L)) (i j : Option ℕ) → q ≡ r → es ≡ fs → i ≡ j → IsContiguous q es i → IsContiguous r fs j
 IsContiguous-elsewhere q r es fs i j a b d run = rw (← a, ← b, ← d) run

@@ -31,7 +31,7 @@ IsClassLabel (unicode rs) r = Contains rs r
 IsClassLabel (bytes rs) r = Contains rs r
 
 abbrev mutual
-  -- the range is one of a class, or one character of a literal, inside the tree
+  -- the range is one of a class, or a character of a literal, inside the tree
   pub IsLabel : Tree → Range → Type 0
   IsLabel empty r = ⊥
   IsLabel (literal cs) r = (c : ℕ) × (Contains cs c × (r ≡ record { start = c; end = c }))
@@ -56,14 +56,14 @@ pub record IsCompiled (t : Tree) (g : Graph) : Type 0 where
   pub reads : ReadsWordsOf t g
   pub few : length g.kinds ≤ 3 + size t
   pub start_in : start_state < length g.kinds
-  -- ACCEPT alone is of kind Accept, REJECT alone of kind Reject
+  -- only ACCEPT is of kind Accept, only REJECT of kind Reject
   pub accepting : (p : ℕ) → slice_get g.kinds p ≡ Some Accept ↔ (p ≡ accept_state)
   pub rejecting : (p : ℕ) → slice_get g.kinds p ≡ Some Reject ↔ (p ≡ reject_state)
-  -- edges join states; none but its other edge leaves REJECT, and no test leads there
+  -- edges join states; only its other edge leaves REJECT, and no test leads there
   pub noops_in : (e : Edge Noop) → Contains g.edges.noops e → (e.from < length g.kinds) × (e.to < length g.kinds) × (e.from ≢ reject_state)
   pub tests_in : (e : Edge Range) → Contains g.edges.tests e → (e.from < length g.kinds) × (e.to < length g.kinds) × (e.from ≢ reject_state) × (e.to ≢ reject_state)
   pub others_in : (e : Edge Other) → Contains g.edges.others e → (e.from < length g.kinds) × (e.to ≡ reject_state)
-  -- each label is of the tree, and is a range of code values
+  -- each label is one of the tree, and is a range of code values
   pub labels : (e : Edge Range) → Contains g.edges.tests e → IsLabel t e.label × (e.label.start ≤ e.label.end) × (e.label.end ≤ 1114111)
   -- test edges at two places of the list that leave one state have no value in common
   pub apart : (i j : ℕ) (e f : Edge Range) → slice_get g.edges.tests i ≡ Some e → slice_get g.edges.tests j ≡ Some f → i ≢ j → e.from ≡ f.from → ¬ Meet e.label f.label
@@ -72,11 +72,11 @@ pub record IsCompiled (t : Tree) (g : Graph) : Type 0 where
 abbrev pub edges_from : ℕ → Lists → Lists
 edges_from q e = record { noops = filter (leaves q) e.noops; tests = filter (leaves q) e.tests; others = filter (leaves q) e.others }
 
--- one edge, to REJECT, that reads any value
+-- only an edge to REJECT that reads any value
 abbrev pub only_other : ℕ → Lists
 only_other q = record { noops = []; tests = []; others = other q reject_state ∷ [] }
 
--- one edge, to the entry, that reads nothing
+-- only an edge to the entry that reads nothing
 abbrev pub only_noop : ℕ → ℕ → Lists
 only_noop q entry = record { noops = noop q entry ∷ []; tests = []; others = [] }
 

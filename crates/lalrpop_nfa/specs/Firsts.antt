@@ -9,7 +9,7 @@ pub data LabelKind : Type 0 where
   Tests : LabelKind
   Others : LabelKind
 
--- f has the lists of e, save that of this kind
+-- f has the lists of e, except the list of this kind
 abbrev pub SameListsBut : LabelKind → Lists → Lists → Type 0
 SameListsBut Noops e f = (f.tests ≡ e.tests) × (f.others ≡ e.others)
 SameListsBut Tests e f = (f.noops ≡ e.noops) × (f.others ≡ e.others)
@@ -21,7 +21,7 @@ index_of Noops s = s.first_noop_edge
 index_of Tests s = s.first_test_edge
 index_of Others s = s.first_other_edge
 
--- the state, save that its edges of this kind begin here
+-- the state, except that its edges of this kind begin here
 abbrev pub with_index : LabelKind → State → Option ℕ → State
 with_index Noops s i = record s { first_noop_edge = i }
 with_index Tests s i = record s { first_test_edge = i }

@@ -1,11 +1,11 @@
--- of the book, what the contracts of this crate name
+-- from the book: what this crate's contracts name
 pub use Rattle.lalrpop_book.specs.Word
 pub use Rattle.lalrpop_book.specs.Range
 pub use Rattle.lalrpop_book.specs.Tree
 pub use Rattle.lalrpop_book.specs.Language
 pub use Rattle.lalrpop_book.specs.Fault
 pub use Rattle.lalrpop_book.specs.Prefix
--- what the contracts of this crate name of the one below
+-- from the crate below: what this crate's contracts name
 pub use Rattle.lalrpop_ranges.specs.Meet
 pub mod Walk
 pub mod Firsts
@@ -15,5 +15,5 @@ pub mod Contiguous
 pub mod Graph
 pub mod Path
 pub mod Compiled
--- what private functions promise one another, which no promise to a caller names
+-- what private functions promise each other; public clauses do not name it
 pub mod Internal

@@ -16,7 +16,7 @@ noop p q = record { from = p; label = record {}; to = q }
 abbrev pub test : ℕ → Range → ℕ → Edge Range
 test p r q = record { from = p; label = r; to = q }
 
--- the edge from p to q that reads a value which no test of p covers
+-- the edge from p to q that reads a value that no test of p covers
 abbrev pub other : ℕ → ℕ → Edge Other
 other p q = record { from = p; label = record {}; to = q }
 
@@ -26,7 +26,7 @@ IsUntested e p c = (r : Range) (q : ℕ) → Contains e.tests (test p r q) → C
 
 -- steps lead from a state to the last one and read a word
 pub data Path (e : Lists) (last : ℕ) : ℕ → List ℕ → Type 0 where
-  -- no step
+  -- no steps
   here : (p : ℕ) → p ≡ last → Path e last p []
   -- a `Noop` edge reads nothing
   epsilon : (p q : ℕ) (w : List ℕ) → Contains e.noops (noop p q) → Path e last q w → Path e last p w

@@ -1,4 +1,4 @@
-//! Compiling a pattern: each tree is compiled towards a target state, which is where its words end.
+//! Compiling a pattern: each tree is compiled towards a target state, in which its words end.
 ghost use Rattle.std.specs.Prelude.{◌≡◌, ◌≢◌, ◌<◌, ◌⊎◌, ◌∷◌, [], Some, None, OnOk, IfOk, IfErr, length};
 ghost use Rattle.std.specs.List.{filter};
 ghost use Rattle.std.specs.Str.{chars};
@@ -20,7 +20,7 @@ use super::{
 use lalrpop_hir::{Class, Hir, HirKind, Repetition};
 use std::alloc::{AllocError, Global};
 
-// Refuses what is never compiled, where it stands at the top of the tree: what is below is not looked at.
+// Refuses what is never compiled, if it is at the top of the tree. It doesn't look further down.
 fn refuse_unsupported(hir: &Hir) -> Result<(), NfaConstructionError>
     ensures plain { OnOk result (IsPlain hir.now) }
     ensures err { IfErr result (λ e. fault hir.now ≡ Some e) }
@@ -43,7 +43,7 @@ fn refuse_unsupported(hir: &Hir) -> Result<(), NfaConstructionError>
 }
 
 impl Nfa {
-    // Adds a state, which no edge leaves.
+    // Adds a state that no edge leaves.
     fn new_state(&mut self, kind: StateKind) -> Result<NfaStateIndex, AllocError>
         ensures number { IfOk result (λ q. q ≡ length self.old.kinds) }
         ensures added { OnOk result (self.new ≡ with_kind self.old kind) }
@@ -75,7 +75,7 @@ impl Nfa {
         Ok(())
     }
 
-    // The states ACCEPT, REJECT and START, which no edge leaves.
+    // The states ACCEPT, REJECT and START, without edges.
     fn fixed_states(alloc: Global) -> Result<Nfa, AllocError>
         ensures { IfOk result (λ nfa. nfa ≡ record {
           kinds = StateKind.Accept ∷ StateKind.Reject ∷ StateKind.Neither ∷ [];
@@ -178,7 +178,7 @@ impl Nfa {
         Ok(state)
     }
 
-    // Compiles the tree towards the target, and gives the state at which it begins.
+    // Compiles the tree towards the target, and returns the state at which it begins.
     #[cycle(expr)]
     pub(super) fn expr(
         &mut self,
@@ -245,7 +245,7 @@ impl Nfa {
         }
     }
 
-    // Any number of repetitions (the star): gives the state that may leave the sub out, and the entry of the sub.
+    // Any number of repetitions (the star). Returns the state from which the sub may be left out, and the entry of the sub.
     //
     //     [state] --noop--> [target]
     //      |   ^
@@ -253,7 +253,7 @@ impl Nfa {
     //      v   |
     //     [sub_entry: the sub]
     //
-    // From `state` the words of the star are read, and then those of the target: `By-star_expr` of proofs/FragmentReads, by
+    // From `state` a word of the star is read, and then a word from the target on: `By-star_expr` of proofs/FragmentReads, by
     // `Reads-star` of proofs/Readings.
     #[cycle(expr)]
     fn star_expr(
@@ -274,7 +274,7 @@ impl Nfa {
         Ok((state, sub_entry))
     }
 
-    // So many copies, one towards the other; the last copy is made first. For three of them:
+    // `count` copies, each compiled towards the next; the last is made first. For three of them:
     //
     //     [entry: the sub] --> [the sub] --> [the sub] --> [target]
     #[cycle(expr)]
@@ -297,7 +297,7 @@ impl Nfa {
         Ok(entry)
     }
 
-    // So many copies, one towards the other, of which each may be left out. The last copy is made first. For two of them:
+    // `count` copies, each compiled towards the next, and each of them optional. The last is made first. For two of them:
     //
     //     [state] --noop-----------------> [ ] --noop-----------------> [target]
     //        |                             ^ |                             ^
@@ -323,7 +323,7 @@ impl Nfa {
         Ok(entry)
     }
 
-    // What may be left out. The sub is made before the state.
+    // An optional part. The sub is made before the state.
     //
     //     [state] --noop------------------> [target]
     //        |                                 ^
@@ -345,7 +345,7 @@ impl Nfa {
         Ok(state)
     }
 
-    // One tree after another, the last first. For three of them:
+    // The trees in a row, the last made first. For three of them:
     //
     //     [entry: first] --> [second] --> [third] --> [target]
     #[cycle(expr)]
@@ -367,7 +367,7 @@ impl Nfa {
         Ok(entry)
     }
 
-    // One state, and then each tree towards the target. For two of them:
+    // One state, and then each of the trees towards the target. For two of them:
     //
     //     [state] --noop--> [first] ---> [target]
     //        |                              ^

@@ -51,22 +51,22 @@ impl fmt::Debug for NfaStateIndex {
 #[derive(Debug, PartialEq, Eq, Drop)]
 pub struct Noop;
 
-/// The label of an edge that reads a value which no test of its state covers.
+/// The label of an edge that reads a value that no test of its state covers.
 #[derive(Debug, PartialEq, Eq, Drop)]
 pub struct Other;
 
-/// What a state is for.
+/// The kind of a state.
 #[derive(Copy, Clone, Debug, PartialEq, Eq, PartialOrd, Ord)]
 pub enum StateKind {
-    /// The word that leads here is matched.
+    /// The word that leads here matches.
     Accept,
-    /// No continuation of the word that leads here is matched.
+    /// No continuation of the word that leads here matches.
     Reject,
     /// Any other state.
     Neither,
 }
 
-/// A state: its kind, and where its edges of each label kind begin in the list of that kind.
+/// A state: its kind, and for each kind of label where its edges begin in the list of that kind.
 #[derive(Debug, Drop)]
 pub struct State {
     pub(super) kind: StateKind,
@@ -108,7 +108,7 @@ impl<L: fmt::Debug> fmt::Debug for Edge<L> {
     }
 }
 
-/// The edges of an automaton: a list for each kind of label, in which the edges of one state stand side by side.
+/// The edges of an automaton: a list for each kind of label, in which the edges of one state are contiguous.
 #[derive(Debug, Drop)]
 pub struct Edges {
     pub(super) noop_edges: Vec<Edge<Noop>>,
@@ -128,8 +128,8 @@ impl Model for Edges {
     } };
 }
 
-/// A kind of label, with its list of edges and its index in a state. Writing through the `_mut` calls leaves the lists
-/// and the indices of the other kinds alone.
+/// A kind of label, with its list of edges and its index in a state. Writing through the `_mut` calls changes neither the
+/// lists nor the indices of the other kinds.
 pub trait EdgeLabel: Sized {
     ghost use Rattle.std.specs.Prelude.{Some, None};
     ghost use Rattle.lalrpop_nfa.specs.declared.edge.Edge.{Edge};
@@ -139,7 +139,7 @@ pub trait EdgeLabel: Sized {
     ghost use Rattle.lalrpop_nfa.specs.Contiguous.{IsContiguous, AreContiguous};
     ghost use Rattle.lalrpop_nfa.specs.Lending.{LendsList, LendsFirst};
 
-    // Which of the three lists, and which of the three indices, are this label's.
+    // Which of the three lists, and which of the three indices, belong to this label.
     ghost kind: { LabelKind };
 
     ghost list: { Lists → List (Edge Self) };
@@ -160,7 +160,7 @@ pub trait EdgeLabel: Sized {
     fn first(state: &State) -> &Option<usize>
         ensures value { result.now ≡ index_of kind state.now };
 
-    // What is written to the list is what the list is, and the two other lists stay.
+    // The list is what was written to it, and the other two lists stay.
     ghost list_written: { (e : Lists) (es : List (Edge Self)) → list (with_list e es) ≡ es };
 
     ghost list_unwritten: { (e : Lists) → with_list e (list e) ≡ e };
@@ -168,7 +168,7 @@ pub trait EdgeLabel: Sized {
     ghost other_lists_kept: { (e : Lists) (es : List (Edge Self))
         → SameListsBut kind e (with_list e es) };
 
-    // The run of this kind is the run of this list from this index on.
+    // The edges of this kind are contiguous in this list, from this index on.
     ghost run_in: { (e : Lists) (s : State) (q : ℕ) → AreContiguous kind e s q
         → IsContiguous q (list e) (index_of kind s) };
 
@@ -287,7 +287,7 @@ impl EdgeLabel for Other {
     }
 }
 
-// Notes the index where the state has no first index of this kind yet.
+// Sets the index, unless the state already has a first index of this kind.
 pub(super) fn set_first<L: EdgeLabel>(state: &mut State, edge_index: usize)
     ensures { state.new
         ≡ with_index L.kind state.old (first_set (index_of L.kind state.old) edge_index) }

@@ -15,12 +15,12 @@ use super::{Nfa, NfaStateIndex, Noop, Other, START, Steps, Test};
 use std::alloc::{AllocError, Global};
 use std::marker::Model;
 
-/// The longest prefix of the text, the empty one included, that the automaton's pattern matches: a slice of the
-/// text, or `None` where the pattern matches no prefix.
+/// The longest prefix of the text that the automaton's pattern matches, the empty one included: a slice of the
+/// text, or `None` if the pattern matches no prefix.
 ///
 /// # Errors
 ///
-/// `AllocError` where a request for memory was refused.
+/// `AllocError` if a request for memory was refused.
 pub fn interpret<'text>(
     alloc: Global,
     nfa: &Nfa,
@@ -33,11 +33,11 @@ pub fn interpret<'text>(
     interpret_counted(alloc, nfa, text, &mut Steps::new())
 }
 
-/// The same answer. A step is counted for each pair of a state and an offset that is visited, and none is taken back.
+/// The same answer. Counts a step for each pair of a state and an offset that it visits; the count never falls.
 ///
 /// # Errors
 ///
-/// `AllocError` where a request for memory was refused.
+/// `AllocError` if a request for memory was refused.
 pub fn interpret_counted<'text>(
     alloc: Global,
     nfa: &Nfa,
@@ -62,8 +62,8 @@ pub fn interpret_counted<'text>(
     Ok(longest)
 }
 
-// The run of one automaton: the states that a prefix leads to, and a set in which those after one more character are
-// listed.
+// The run of one automaton: the states that a prefix leads to, and a second set for the states after one more
+// character.
 #[derive(Drop)]
 struct Simulation<'nfa> {
     nfa: &'nfa Nfa,
@@ -103,7 +103,7 @@ impl<'nfa> Simulation<'nfa> {
         Ok(Simulation { nfa, states, next })
     }
 
-    // The states that those lead to by reading the value.
+    // The states that these lead to by reading the value.
     fn read(self, value: u32, steps: &mut Steps) -> Result<Simulation<'nfa>, AllocError>
         ensures graph { IfOk result (λ s. s.graph ≡ self.entry.graph) }
         ensures states { IfOk result (λ s.
@@ -166,7 +166,7 @@ impl<'nfa> Simulation<'nfa> {
 }
 
 impl StateSet {
-    // Adds the states that edges which read nothing lead to from the state.
+    // Adds the states to which edges that read nothing lead from the state.
     fn add_epsilon_targets(&mut self, nfa: &Nfa, from: NfaStateIndex) -> Result<(), AllocError>
         requires is_state { from < length nfa.now.kinds }
         ensures { OnOk result (IsGrown self.old self.new (IsEpsilonEdge nfa.now.edges from)) }
@@ -177,7 +177,7 @@ impl StateSet {
         Ok(())
     }
 
-    // Adds the states that the state leads to by the value: by the tests that cover it, or else by its other edges.
+    // Adds the states to which the state leads by the value: by the tests that cover it, otherwise by its other edges.
     fn add_read(&mut self, nfa: &Nfa, from: NfaStateIndex, value: u32) -> Result<(), AllocError>
         requires is_state { from < length nfa.now.kinds }
         ensures { OnOk result (IsGrown self.old self.new (Reads nfa.now.edges from value)) }
@@ -198,8 +198,8 @@ impl StateSet {
         Ok(())
     }
 
-    // Adds the states that the listed ones lead to by reading nothing, and counts each listed state as its edges are
-    // followed. A state is listed once, so this ends on each cycle of such edges.
+    // Adds the states that the listed ones lead to by reading nothing, and counts a step for each listed state when its edges
+    // are followed. A state is listed once, so cycles of such edges end.
     fn close(&mut self, nfa: &Nfa, steps: &mut Steps) -> Result<(), AllocError>
         requires room { self.old.room ≡ length nfa.now.kinds }
         ensures states { OnOk result (IsClosure nfa.now.edges self.old self.new) }

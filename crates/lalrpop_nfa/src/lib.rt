@@ -20,10 +20,10 @@ pub use lalrpop_ranges::{Steps, Test};
 use std::alloc::{AllocError, Global};
 use std::marker::Model;
 
-/// The state in which a word is matched.
+/// The state in which a word matches.
 pub const ACCEPT: NfaStateIndex = NfaStateIndex(0);
 
-/// The state in which no continuation of the word is matched.
+/// The state from which no continuation of the word matches.
 pub const REJECT: NfaStateIndex = NfaStateIndex(1);
 
 /// The state in which each run begins.
@@ -68,7 +68,7 @@ impl Nfa {
         }
     }
 
-    // Pushes an edge to the list of its kind, and sets the state's first index where it is the first of this kind.
+    // Pushes an edge to the list of its kind, and sets the state's first index if it is the first of this kind.
     fn push_edge<L: EdgeLabel + Drop>(
         &mut self,
         from: NfaStateIndex,
@@ -91,13 +91,13 @@ impl Nfa {
     }
 
     /// Compiles a pattern to an automaton that reads exactly the pattern's words, from START to ACCEPT. It has at most
-    /// three states more than the pattern's size. One edge leaves each of ACCEPT and REJECT, an `Other` edge to REJECT, and
-    /// one leaves START, a `Noop` edge.
+    /// three states more than the pattern's size. ACCEPT and REJECT have one edge each, an `Other` edge to REJECT, and
+    /// START has one, a `Noop` edge.
     ///
     /// # Errors
     ///
-    /// The pattern's fault: in a concatenation the last faulty part's, in an alternation the first faulty branch's. What is
-    /// never repeated has none. `OutOfMemory` where a request for memory was refused.
+    /// The pattern's fault: the last faulty part's in a concatenation, the first faulty branch's in an alternation. A part that is
+    /// never repeated has none. `OutOfMemory` if a request for memory was refused.
     pub fn from_re(alloc: Global, regex: &Regex) -> Result<Nfa, NfaConstructionError>
         ensures ok { IfOk result (λ nfa. (fault regex.now ≡ None) × IsCompiled regex.now nfa) }
         ensures fixed_edges { IfOk result (λ nfa. HasFixedEdges nfa.edges) }
@@ -111,12 +111,12 @@ impl Nfa {
     }
 }
 
-// Which states there are, and what they are for.
+// The states, and their kinds.
 impl Nfa {
     ghost use Rattle.std.specs.Prelude.{length, slice_get};
     ghost use Rattle.lalrpop_nfa.specs.declared.edge.StateKind.TheVariants.{Accept, Reject};
 
-    /// What the state is for.
+    /// The kind of the state.
     pub fn kind(&self, from: NfaStateIndex) -> StateKind
         requires is_state { from < length self.now.kinds }
         ensures kind { slice_get self.now.kinds from ≡ Some result }
@@ -124,7 +124,7 @@ impl Nfa {
         self.states[from.0].kind
     }
 
-    /// Whether the state is one in which a word is matched.
+    /// Whether a word that leads to the state matches.
     pub fn is_accepting_state(&self, from: NfaStateIndex) -> bool
         requires is_state { from < length self.now.kinds }
         ensures answer { IsTrue result ↔ (slice_get self.now.kinds from ≡ Some Accept) }
@@ -132,7 +132,7 @@ impl Nfa {
         self.kind(from) == StateKind::Accept
     }
 
-    /// Whether the state is one in which no continuation of the word is matched.
+    /// Whether no continuation of a word that leads to the state matches.
     pub fn is_rejecting_state(&self, from: NfaStateIndex) -> bool
         requires is_state { from < length self.now.kinds }
         ensures answer { IsTrue result ↔ (slice_get self.now.kinds from ≡ Some Reject) }
@@ -140,7 +140,7 @@ impl Nfa {
         self.kind(from) == StateKind::Reject
     }
 
-    /// Whether the index is that of a state of this automaton.
+    /// Whether the automaton has a state with this index.
     pub fn contains_state(&self, index: NfaStateIndex) -> bool
         ensures answer { IsTrue result ↔ (index < length self.now.kinds) }
     {

@@ -8,7 +8,7 @@ use super::NfaStateIndex;
 use std::alloc::{AllocError, Global};
 use std::marker::Model;
 
-// The states, each listed once, and for each state that there is room for whether it is listed.
+// The states, each listed once, and for each state that there is room for, whether it is listed.
 #[derive(Drop)]
 pub(super) struct StateSet {
     states: Vec<NfaStateIndex>,
@@ -27,7 +27,7 @@ impl Model for StateSet {
 }
 
 impl StateSet {
-    // No state, with room for those below the number.
+    // The empty set, with room for the states below `room`.
     pub(super) fn new(alloc: Global, room: usize) -> Result<StateSet, AllocError>
         ensures { IfOk result (λ s. s ≡ record { states = []; room = room }) }
     {
@@ -37,7 +37,7 @@ impl StateSet {
         })
     }
 
-    // Lists no state, with the memory that is there.
+    // Empties the set and keeps its memory.
     pub(super) fn clear(&mut self)
         ensures { self.new ≡ record { states = []; room = self.old.room } }
     {
@@ -57,7 +57,7 @@ impl StateSet {
         Ok(())
     }
 
-    // The states, the one found first at the front.
+    // The states, in the order in which they were found.
     pub(super) fn states(&self) -> &[NfaStateIndex]
         ensures value { result.now ≡ self.now.states }
         ensures within { (q : ℕ) → Contains result.now q → q < self.now.room }

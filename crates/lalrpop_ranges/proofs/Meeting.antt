@@ -1,4 +1,4 @@
--- Two ranges share a value exactly where the later start is at most the earlier end.
+-- Two ranges share a value exactly if the later start is at most the earlier end.
 use Rattle.std.proofs.Common.{◌≡◌, ℕ, ◌↔◌, ◌≤◌, min, max, arith, IsTrue, leb}
 use Rattle.std.proofs.lemmas.Bool.{leb-true, le-leb}
 use Rattle.lalrpop_book.specs.Range.{Range}

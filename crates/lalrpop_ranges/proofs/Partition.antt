@@ -1,4 +1,4 @@
--- The partition of a set of ranges: what shows a list to be it, and what follows.
+-- The partition of a set of ranges: how to show that a list is the partition, and what follows.
 use Rattle.std.proofs.Common.{◌≡◌, ℕ, ◌+◌, ◌-◌, ◌<◌, ◌≤◌, ◌⊎◌, inl, inr, ⊎_elim, min, max, List, [], ◌∷◌, length, sym, subst, ◌∙◌, arith, suc}
 use Rattle.std.specs.List.{Contains}
 use Rattle.std.proofs.lemmas.List.{get_or_default}
@@ -7,9 +7,9 @@ use Rattle.std.proofs.lemmas.Bool.{cases_lt, cases_order}
 use Rattle.lalrpop_book.specs.Range.{Range, Covers}
 use Rattle.lalrpop_hir.proofs.Canons.{range-same}
 use Rattle.lalrpop_ranges.specs.Partition.{Ranges, IsCovered, Alike, IsUniform, IsBlock, AreAscending, IsPartition}
-use Rattle.lalrpop_ranges.proofs.Cells.{at, BlocksBelow, IsCut, alike_sym, alike_trans, covered_along, last_covers}
+use Rattle.lalrpop_ranges.proofs.Cells.{at, BlocksBelow, IsBoundary, alike_sym, alike_trans, covered_along, last_covers}
 
--- two maximal intervals that share a value are one
+-- two maximal intervals that share a value are equal
 module _ (R : Ranges) (x z : Range) (f : IsBlock R x) (g : IsBlock R z) (p : ℕ) (in_x : Covers x p) (in_z : Covers z p) where
   both : Range
   both = record { start = min x.start z.start; end = max x.end z.end }
@@ -47,8 +47,8 @@ ascending_from [] h = tt
 ascending_from (x ∷ []) h = tt
 ascending_from (x ∷ y ∷ ys) h = (h 0 1 (omega arith) (omega arith), ascending_from (y ∷ ys) (λ j k a l. h (suc j) (suc k) (omega arith) (omega arith)))
 
--- the blocks below the last cut are all
-module _ (R : Ranges) (blocks : List Range) (p : ℕ) (h : BlocksBelow R blocks p) (none : (c : ℕ) → p < c → ¬ IsCut R c) where
+-- the blocks below the last boundary are all blocks
+module _ (R : Ranges) (blocks : List Range) (p : ℕ) (h : BlocksBelow R blocks p) (none : (c : ℕ) → p < c → ¬ IsBoundary R c) where
   covers : (c : ℕ) → IsCovered R c → (k : ℕ) × ((k < length blocks) × Covers (at blocks k) c)
   covers = last_covers R blocks p h none
 

@@ -18,7 +18,7 @@ module _ (R : Ranges) (xs : List Range) (h : IsPartition R xs) where
   pub blocks_nonempty : (x : Range) → Contains xs x → x.start ≤ x.end
   blocks_nonempty x a = (h.are_blocks x a).uniform.holds_one
 
-  -- blocks that share a value are one
+  -- blocks that share a value are equal
   pub blocks_disjoint : (x y : Range) (c : ℕ) → Contains xs x → Contains xs y → Covers x c → Covers y c → x ≡ y
   blocks_disjoint x y c a b = same_block R x y (h.are_blocks x a) (h.are_blocks y b) c
 

@@ -1,4 +1,4 @@
--- There is one list of the runs of a set of ranges.
+-- The list of the runs of a set of ranges is unique.
 use Rattle.std.proofs.Common.{◌≡◌, ◌<◌, ◌≤◌, ◌⊎◌, inl, inr, List, [], ◌∷◌, refl, sym, ap, ◌∙◌, arith, zero, suc}
 use Rattle.std.specs.List.{Contains}
 use Rattle.lalrpop_book.specs.Range.{Range}
@@ -28,7 +28,7 @@ ascends_later x (y ∷ ys) a = a.1
 hold_later : (x : Range) (xs : List Range) → HoldOne (x ∷ xs) → HoldOne xs
 hold_later x xs n z h = n z (later_in x xs z h)
 
--- each later element begins behind the first
+-- each later element begins after the first
 behind : (x : Range) (xs : List Range) → AreAscending (x ∷ xs) → HoldOne xs → (z : Range) → Contains xs z → x.end < z.start
 behind x [] a n z h = absurd (none_in z h)
 behind x (y ∷ ys) a n z h = by_place (behind y ys a.1 (hold_later y ys n) z) (first_or_later y ys z h)

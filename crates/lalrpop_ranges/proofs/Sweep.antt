@@ -11,10 +11,10 @@ use Rattle.std.proofs.lemmas.Bool.Decides.{nat_tests}
 use Rattle.lalrpop_book.specs.Range.{Range, Covers}
 use Rattle.lalrpop_ranges.specs.Partition.{IsCovered, has_value, IsPartition}
 use Rattle.lalrpop_ranges.specs.Internal.Sweep.{starts_of, ends_of}
-use Rattle.lalrpop_ranges.proofs.Cells.{IsCut, BlocksBelow, parts_none, parts_kept, parts_passed, zero_is_cut}
+use Rattle.lalrpop_ranges.proofs.Cells.{IsBoundary, BlocksBelow, parts_none, parts_kept, parts_passed, zero_is_boundary}
 use Rattle.lalrpop_ranges.proofs.Partition.{IsPartition-from_parts}
 
--- the numbers of the first list, from the least
+-- the numbers of the first list, in ascending order
 pub record IsSortOf (xs ys : List ℕ) : Type 0 where
   pub permutation : IsPermutation xs ys
   pub ascending : IsNonDecreasing ys
@@ -28,7 +28,7 @@ pub record Split (d : ℕ) (xs : List ℕ) (n v w : ℕ) : Type 0 where
 abbrev tick : Bool → ℕ
 tick b = cond b 1 0
 
--- how many numbers, with d added to each, are at most v
+-- the number of entries that, with d added, are at most v
 abbrev up_to : ℕ → ℕ → List ℕ → ℕ
 up_to d v xs = count_by (λ x. leb (x + d) v) xs
 
@@ -61,7 +61,7 @@ one_open s e v l = grind (arith, nat_tests)
 none_open : (s e v : ℕ) → e < s → tick (leb s v && leb v e) ≡ 0
 none_open s e v l = grind (arith, nat_tests)
 
--- what is said of both lists where the head contains some value, and where not
+-- what holds of both lists if the head is nonempty, and if it is empty
 count_step : (r : Range) (rs : List Range) (v : ℕ) → up_to 0 v (starts_of rs) ≡ up_to 1 v (ends_of rs) + count_by (contains v) rs → (b : Bool) → has_value r ≡ b
     → up_to 0 v (map (λ x. x.start) (cond b (r ∷ filter has_value rs) (filter has_value rs))) ≡ up_to 1 v (map (λ x. x.end) (cond b (r ∷ filter has_value rs) (filter has_value rs))) + count_by (contains v) (r ∷ rs)
 count_step r rs v rest true e =
@@ -108,7 +108,7 @@ counted_covered (x ∷ rs) v h =
     (r, ((suc k, omega arith, g), a)))
     (cases_Bool (contains v x))
 
--- a range that contains some value gives its number
+-- a nonempty range gives its number
 listed_here : (f : Range → ℕ) (x : Range) (rs : List Range) (r : Range) (b : Bool) → has_value x ≡ b → x ≡ r → r.start ≤ r.end → Contains (map f (cond b (x ∷ filter has_value rs) (filter has_value rs))) (f r)
 listed_here f x rs r true h e a = (0, omega arith, ap f e)
 listed_here f x rs r false h e a =
@@ -125,7 +125,7 @@ listed f [] r k l e a = absurd (omega arith)
 listed f (x ∷ rs) r zero l e a = listed_here f x rs r (has_value x) refl e a
 listed f (x ∷ rs) r (suc k) l e a = listed_there f x rs (f r) (has_value x) (listed f rs r k (omega arith) e a)
 
--- and each number comes from one
+-- and each number comes from a nonempty range
 abbrev ComesFrom : (Range → ℕ) → List Range → ℕ → Type 0
 ComesFrom f rs c = (r : Range) × (Contains rs r × (r.start ≤ r.end) × (c ≡ f r))
 
@@ -157,9 +157,9 @@ turn_count : (blocks parts2 : List Range) (i j from next : ℕ) → Turn blocks 
 turn_count blocks parts2 i j from next (inl (a, b, e)) h = rw e (omega (arith, h, b, length_push blocks (record { start = from; end = next - 1 })))
 turn_count blocks parts2 i j from next (inr (a, e)) h = rw e (omega (arith, h))
 
--- one step: so many of the starts and of the ends lie at `from` or below, and the others at `next` or above
+-- one step: i of the starts and j of the ends are at `from` or below, and the others at `next` or above
 module _ (rs : List Range) (starts ends : List ℕ) (ss : IsSortOf (starts_of rs) starts) (es : IsSortOf (ends_of rs) ends) (i j from next : ℕ) (s : Split 0 starts i from next) (t : Split 1 ends j from next) where
-  -- more ranges have begun than are over exactly where some range contains `from`
+  -- more ranges have begun than are over exactly if some range contains `from`
   open_is_covered : from < next → (j < i → IsCovered (Contains rs) from) × (IsCovered (Contains rs) from → j < i)
   open_is_covered l =
       let a : up_to 0 from starts ≡ i = split_count 0 starts i from next s l in
@@ -171,27 +171,27 @@ module _ (rs : List Range) (starts ends : List ℕ) (ss : IsSortOf (starts_of rs
         λ (r, ((k, kl, e), c)). let m : 0 < count_by (contains from) rs = covered_count rs from r k kl e c in omega arith,
       )
 
-  no_cut_between : (c : ℕ) → from < c → c < next → ¬ IsCut (Contains rs) c
-  no_cut_between c a b (r, ((k, l, e), some, inl is)) =
+  no_boundary_between : (c : ℕ) → from < c → c < next → ¬ IsBoundary (Contains rs) c
+  no_boundary_between c a b (r, ((k, l, e), some, inl is)) =
       apart 0 (starts_of rs) starts i from next r.start ss s (listed (λ (x : Range). x.start) rs r k l e some) (omega arith) (omega arith)
-  no_cut_between c a b (r, ((k, l, e), some, inr is)) =
+  no_boundary_between c a b (r, ((k, l, e), some, inr is)) =
       apart 1 (ends_of rs) ends j from next r.end es t (listed (λ (x : Range). x.end) rs r k l e some) (omega arith) (omega arith)
 
-  swept : (blocks parts2 : List Range) → BlocksBelow (Contains rs) blocks from → (IsCut (Contains rs) from) ⊎ (from ≡ 0) → from ≤ next → Turn blocks parts2 i j from next → BlocksBelow (Contains rs) parts2 next
-  swept blocks parts2 h cut l (inl (a, b, e)) =
+  swept : (blocks parts2 : List Range) → BlocksBelow (Contains rs) blocks from → (IsBoundary (Contains rs) from) ⊎ (from ≡ 0) → from ≤ next → Turn blocks parts2 i j from next → BlocksBelow (Contains rs) parts2 next
+  swept blocks parts2 h boundary l (inl (a, b, e)) =
       let covered : IsCovered (Contains rs) from = (open_is_covered a).0 b in
-      let is : IsCut (Contains rs) from = ⊎_elim (λ (x : IsCut (Contains rs) from). x) (λ (z : from ≡ 0). zero_is_cut (Contains rs) from z covered) cut in
-      rw e (parts_kept (Contains rs) blocks from next h a is no_cut_between covered)
-  swept blocks parts2 h cut l (inr (none, e)) =
+      let is : IsBoundary (Contains rs) from = ⊎_elim (λ (x : IsBoundary (Contains rs) from). x) (λ (z : from ≡ 0). zero_is_boundary (Contains rs) from z covered) boundary in
+      rw e (parts_kept (Contains rs) blocks from next h a is no_boundary_between covered)
+  swept blocks parts2 h boundary l (inr (none, e)) =
       rw e (⊎_elim
-      (λ (a : from < next). parts_passed (Contains rs) blocks from next h no_cut_between (λ c. omega (arith, (open_is_covered a).1 c, none a)) l)
+      (λ (a : from < next). parts_passed (Contains rs) blocks from next h no_boundary_between (λ c. omega (arith, (open_is_covered a).1 c, none a)) l)
       (λ (a : next ≤ from). let same : next ≡ from = omega arith in rw same h)
       (cases_lt from next))
 
--- past the last end the blocks are all
+-- past the last end the blocks are all blocks
 swept_all : (rs : List Range) (ends : List ℕ) (blocks : List Range) (from : ℕ) → IsSortOf (ends_of rs) ends → ((k : ℕ) → k < length ends → get_or ends k 0 + 1 ≤ from) → BlocksBelow (Contains rs) blocks from
     → IsPartition (Contains rs) blocks
-swept_all rs ends blocks from es past h = IsPartition-from_parts (Contains rs) blocks from h no_cut_after
+swept_all rs ends blocks from es past h = IsPartition-from_parts (Contains rs) blocks from h no_boundary_after
   where
     over : (r : Range) → Contains rs r → r.start ≤ r.end → r.end + 1 ≤ from
     over r (k, l, e) some =
@@ -199,9 +199,9 @@ swept_all rs ends blocks from es past h = IsPartition-from_parts (Contains rs) b
         let g : get_or ends m 0 ≡ r.end = get_or_default ends m 0 r.end ml ∙ f in
         omega (arith, past m ml)
 
-    no_cut_after : (c : ℕ) → from < c → ¬ IsCut (Contains rs) c
-    no_cut_after c a (r, (k, some, inl is)) = omega (arith, over r k some)
-    no_cut_after c a (r, (k, some, inr is)) = omega (arith, over r k some)
+    no_boundary_after : (c : ℕ) → from < c → ¬ IsBoundary (Contains rs) c
+    no_boundary_after c a (r, (k, some, inl is)) = omega (arith, over r k some)
+    no_boundary_after c a (r, (k, some, inr is)) = omega (arith, over r k some)
 
 -- the next number is taken up
 split_taken : (d : ℕ) (xs : List ℕ) (n from next : ℕ) → IsNonDecreasing xs → Split d xs n from from → n < length xs → next ≡ get_or xs n 0 + d → Split d xs (n + 1) next next
@@ -211,7 +211,7 @@ split_taken d xs n from next up h l e = record {
   above = λ k a b. omega (arith, up n k 0 (omega arith) b);
 }
 
--- the next one lies at the next cut or above
+-- the next number is at the next boundary or above
 split_left : (d : ℕ) (xs : List ℕ) (n from next : ℕ) → IsNonDecreasing xs → Split d xs n from from → (n < length xs → next ≤ get_or xs n 0 + d) → Split d xs n from next
 split_left d xs n from next up h least = record {
   within = h.within;
@@ -229,18 +229,18 @@ split_kept d xs n from next h l = record {
 split_none : (d : ℕ) (xs : List ℕ) → Split d xs 0 0 0
 split_none d xs = record { within = omega arith; below = λ k a. absurd (omega arith); above = λ k a b. omega arith }
 
--- at a start, and behind an end, there is a cut
-start_is_cut : (rs : List Range) (starts : List ℕ) (i : ℕ) → IsSortOf (starts_of rs) starts → i < length starts → IsCut (Contains rs) (get_or starts i 0)
-start_is_cut rs starts i s l =
+-- a start, and the value after an end, are boundaries
+start_is_boundary : (rs : List Range) (starts : List ℕ) (i : ℕ) → IsSortOf (starts_of rs) starts → i < length starts → IsBoundary (Contains rs) (get_or starts i 0)
+start_is_boundary rs starts i s l =
     let (r, (k, some, e)) = comes_from (λ (x : Range). x.start) rs (get_or starts i 0) (Contains-permutation starts (starts_of rs) (get_or starts i 0) (IsPermutation-sym (starts_of rs) starts s.permutation) (Contains-get_or starts i 0 l)) in
     (r, (k, some, inl e))
 
-end_is_cut : (rs : List Range) (ends : List ℕ) (i : ℕ) → IsSortOf (ends_of rs) ends → i < length ends → IsCut (Contains rs) (get_or ends i 0 + 1)
-end_is_cut rs ends i s l =
+end_is_boundary : (rs : List Range) (ends : List ℕ) (i : ℕ) → IsSortOf (ends_of rs) ends → i < length ends → IsBoundary (Contains rs) (get_or ends i 0 + 1)
+end_is_boundary rs ends i s l =
     let (r, (k, some, e)) = comes_from (λ (x : Range). x.end) rs (get_or ends i 0) (Contains-permutation ends (ends_of rs) (get_or ends i 0) (IsPermutation-sym (ends_of rs) ends s.permutation) (Contains-get_or ends i 0 l)) in
     (r, (k, some, inr (ap (λ (x : ℕ). x + 1) e)))
 
--- there are as many starts, and ends, as ranges that contain some value
+-- there are as many starts, and as many ends, as nonempty ranges
 sort_length : (f : Range → ℕ) (rs : List Range) (ys : List ℕ) → IsSortOf (map f (filter has_value rs)) ys → length ys ≡ count_by has_value rs
 sort_length f rs ys s = length_permutation (map f (filter has_value rs)) ys s.permutation ∙ length-map (filter has_value rs) f ∙ length-filter has_value rs
 
@@ -249,7 +249,7 @@ pub record Swept (rs : List Range) (starts ends : List ℕ) (blocks : List Range
   pub starts_sorted : IsSortOf (starts_of rs) starts
   pub ends_sorted : IsSortOf (ends_of rs) ends
   pub blocks_below : BlocksBelow (Contains rs) blocks from
-  pub cut : (IsCut (Contains rs) from) ⊎ (from ≡ 0)
+  pub boundary : (IsBoundary (Contains rs) from) ⊎ (from ≡ 0)
   pub count : length blocks ≤ (i + j) - 1
   pub starts_split : Split 0 starts i from from
   pub ends_split : Split 1 ends j from from
@@ -259,7 +259,7 @@ swept_none rs starts ends ss es = record {
   starts_sorted = ss;
   ends_sorted = es;
   blocks_below = parts_none (Contains rs);
-  cut = inr refl;
+  boundary = inr refl;
   count = omega arith;
   starts_split = split_none 0 starts;
   ends_split = split_none 1 ends;
@@ -275,14 +275,14 @@ module _ (rs : List Range) (starts ends : List ℕ) (blocks parts2 : List Range)
       record {
         starts_sorted = h.starts_sorted;
         ends_sorted = h.ends_sorted;
-        blocks_below = swept rs starts ends h.starts_sorted h.ends_sorted i j from next s t blocks parts2 h.blocks_below h.cut up turn;
-        cut = inl (rw e (start_is_cut rs starts i h.starts_sorted l));
+        blocks_below = swept rs starts ends h.starts_sorted h.ends_sorted i j from next s t blocks parts2 h.blocks_below h.boundary up turn;
+        boundary = inl (rw e (start_is_boundary rs starts i h.starts_sorted l));
         count = omega (arith, turn_count blocks parts2 i j from next turn h.count);
         starts_split = split_taken 0 starts i from next h.starts_sorted.ascending h.starts_split l (omega arith);
         ends_split = split_kept 1 ends j from next t up;
       }
 
-  -- the next end is
+  -- the next end is taken up
   pub swept_end : j < length ends → next ≡ get_or ends j 0 + 1 → (i < length starts → next ≤ get_or starts i 0) → Swept rs starts ends parts2 i (j + 1) next
   swept_end l e least =
       let up : from ≤ next = omega (arith, h.ends_split.above j (omega arith) l) in
@@ -291,8 +291,8 @@ module _ (rs : List Range) (starts ends : List ℕ) (blocks parts2 : List Range)
       record {
         starts_sorted = h.starts_sorted;
         ends_sorted = h.ends_sorted;
-        blocks_below = swept rs starts ends h.starts_sorted h.ends_sorted i j from next s t blocks parts2 h.blocks_below h.cut up turn;
-        cut = inl (rw e (end_is_cut rs ends j h.ends_sorted l));
+        blocks_below = swept rs starts ends h.starts_sorted h.ends_sorted i j from next s t blocks parts2 h.blocks_below h.boundary up turn;
+        boundary = inl (rw e (end_is_boundary rs ends j h.ends_sorted l));
         count = omega (arith, turn_count blocks parts2 i j from next turn h.count);
         starts_split = split_kept 0 starts i from next s up;
         ends_split = split_taken 1 ends j from next h.ends_sorted.ascending h.ends_split l e;
@@ -306,12 +306,12 @@ pub swept_count : (rs : List Range) (starts ends : List ℕ) (blocks : List Rang
 swept_count rs starts ends blocks i j from h =
     omega (arith, h.count, h.starts_split.within, h.ends_split.within, sort_length (λ (x : Range). x.start) rs starts h.starts_sorted, sort_length (λ (x : Range). x.end) rs ends h.ends_sorted)
 
--- so many starts and ends are taken up, at most two for each range that contains some value
+-- the starts and ends taken up are at most two for each nonempty range
 pub swept_spent : (rs : List Range) (starts ends : List ℕ) (blocks : List Range) (i j from : ℕ) → Swept rs starts ends blocks i j from → i + j ≤ 2 * count_by has_value rs
 swept_spent rs starts ends blocks i j from h =
     omega (arith, h.starts_split.within, h.ends_split.within, sort_length (λ (x : Range). x.start) rs starts h.starts_sorted, sort_length (λ (x : Range). x.end) rs ends h.ends_sorted)
 
--- and one less where an end is left
+-- and one less if an end is left
 pub swept_spent_before : (rs : List Range) (starts ends : List ℕ) (blocks : List Range) (i j from : ℕ) → Swept rs starts ends blocks i j from → j < length ends → i + j + 1 ≤ 2 * count_by has_value rs
 swept_spent_before rs starts ends blocks i j from h l =
     omega (arith, l, h.starts_split.within, sort_length (λ (x : Range). x.start) rs starts h.starts_sorted, sort_length (λ (x : Range). x.end) rs ends h.ends_sorted)

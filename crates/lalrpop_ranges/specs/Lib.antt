@@ -1,4 +1,4 @@
 pub mod Meet
 pub mod Partition
--- what private functions promise one another, which no promise to a caller names
+-- what private functions promise each other; public clauses do not name it
 pub mod Internal

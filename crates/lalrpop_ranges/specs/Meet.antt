@@ -1,5 +1,5 @@
 -- cases: proofs/Cases/Meet.antt
--- What two ranges have in common.
+-- Whether two ranges have a value in common.
 use Rattle.std.specs.Prelude.{ℕ}
 use Rattle.lalrpop_book.specs.Range.{Range, Covers}
 

@@ -26,7 +26,7 @@ pub record IsUniform (R : Ranges) (x : Range) : Type 0 where
   pub covered : (c : ℕ) → Covers x c → IsCovered R c
   pub constant : (c d : ℕ) → Covers x c → Covers x d → Alike R c d
 
--- a maximal one: no other contains it
+-- a maximal interval of this kind: no other contains it
 pub record IsBlock (R : Ranges) (x : Range) : Type 0 where
   pub uniform : IsUniform R x
   pub maximal : (y : Range) → IsUniform R y → y.start ≤ x.start → x.end ≤ y.end → y ≡ x
@@ -37,7 +37,7 @@ AreAscending [] = Unit {0}
 AreAscending (x ∷ []) = Unit {0}
 AreAscending (x ∷ y ∷ ys) = (x.end < y.start) × AreAscending (y ∷ ys)
 
--- all maximal intervals, ascending
+-- all maximal intervals, in ascending order
 pub record IsPartition (R : Ranges) (xs : List Range) : Type 0 where
   pub ascending : AreAscending xs
   pub are_blocks : (x : Range) → Contains xs x → IsBlock R x

@@ -1,4 +1,4 @@
-//! Ranges of values, and the partition of a set of them; and a counter, by which contracts bound what a call does.
+//! Ranges of values, the partition of a set of them, and a counter by which contracts bound the steps of a call.
 #![tactic(auto)]
 
 pub mod overlap;

@@ -9,14 +9,14 @@ use crate::{Steps, Test};
 use std::alloc::{AllocError, Global};
 use std::collections::BTreeSet;
 
-/// The maximal intervals of values that lie in the same ranges, and in some, ascending: at most 2n - 1 of them, for n
-/// ranges that contain some value. Ranges that contain none leave no trace.
+/// The maximal intervals of values that lie in the same ranges, and in at least one, in ascending order: at most 2n - 1 of
+/// them for n nonempty ranges. Empty ranges have no effect.
 ///
 /// It sorts the starts and the ends, and goes over them once.
 ///
 /// # Errors
 ///
-/// `AllocError` where a request for memory was refused.
+/// `AllocError` if a request for memory was refused.
 pub fn remove_overlap(alloc: Global, ranges: &BTreeSet<Test>) -> Result<Vec<Test>, AllocError>
     ensures partition { IfOk result (λ blocks.
         IsPartition (Contains ranges.now.keys) blocks.items) }
@@ -26,12 +26,12 @@ pub fn remove_overlap(alloc: Global, ranges: &BTreeSet<Test>) -> Result<Vec<Test
     remove_overlap_counted(alloc, ranges, &mut Steps::new())
 }
 
-/// The same answer. A step is counted for each start and each end that is taken up: at most two for each range that
-/// contains some value, whatever the answer is.
+/// The same answer. Counts a step for each start and each end that it takes up: at most two for each nonempty range,
+/// whether it succeeds or fails.
 ///
 /// # Errors
 ///
-/// `AllocError` where a request for memory was refused.
+/// `AllocError` if a request for memory was refused.
 pub fn remove_overlap_counted(
     alloc: Global,
     ranges: &BTreeSet<Test>,
@@ -51,18 +51,18 @@ pub fn remove_overlap_counted(
     starts.sort_unstable();
     ends.sort_unstable();
     let mut blocks = Vec::new(alloc);
-    // The values below `from` are done, and so many starts and ends are taken up. Where there are more starts, some range
-    // is open. Equal cuts in a row do no harm, since nothing lies between them.
+    // The values below `from` are done: `begun` starts and `ended` ends are taken up. If `begun` is greater, some range
+    // is open. Equal boundaries in a row do no harm, since nothing lies between them.
     let mut from = 0;
     let mut begun = 0;
     let mut ended = 0;
     while ended < ends.len() {
         steps.tick();
-        let (cut, is_start) = next_cut(&starts, &ends, begun, ended);
-        if from < cut && ended < begun {
-            blocks.push(Test::new(from as u32..=(cut - 1) as u32))?;
+        let (boundary, is_start) = next_boundary(&starts, &ends, begun, ended);
+        if from < boundary && ended < begun {
+            blocks.push(Test::new(from as u32..=(boundary - 1) as u32))?;
         }
-        from = cut;
+        from = boundary;
         if is_start {
             begun += 1;
         } else {
@@ -94,8 +94,8 @@ fn ends_of_ranges(alloc: Global, ranges: &BTreeSet<Test>) -> Result<Ends, AllocE
     Ok(Ends { starts, ends })
 }
 
-// The next place where a range starts, or where one is over, and whether one starts there.
-fn next_cut(starts: &[u32], ends: &[u32], begun: usize, ended: usize) -> (u64, bool)
+// The next value at which a range starts or is over, and whether one starts there.
+fn next_boundary(starts: &[u32], ends: &[u32], begun: usize, ended: usize) -> (u64, bool)
     requires { ended < length ends.now }
     ensures start_in { IsTrue result.1 → begun < length starts.now }
     ensures start { IsTrue result.1 → result.0 ≡ slice_index starts.now begun }

@@ -26,7 +26,7 @@ impl Tally {
     {}
 }
 
-/// How many steps were taken: a number that contracts read and a running program cannot. It takes no bytes, and only
+/// The number of steps taken, which contracts read and a running program cannot. It takes no bytes, and only
 /// its calls change it.
 #[derive(Drop)]
 pub struct Steps {
@@ -40,7 +40,7 @@ impl Model for Steps {
 }
 
 impl Steps {
-    /// No step yet.
+    /// No steps yet.
     pub fn new() -> Steps
         ensures value { result ≡ 0 }
     {

@@ -9,7 +9,7 @@ use std::fmt;
 use std::marker::Model;
 use std::ops::RangeInclusive;
 
-/// The values from a start to an end, both included; none where the start is above the end.
+/// The values from a start to an end, both included; empty if the start is above the end.
 #[derive(Clone, PartialEq, Eq, PartialOrd, Ord, Hash, Drop)]
 pub struct Test {
     start: u32,
@@ -56,7 +56,7 @@ impl Test {
         }
     }
 
-    /// The codes from that of `s` to that of `e`.
+    /// The codes from `s` to `e`, both included.
     pub fn inclusive_range(s: char, e: char) -> Test
         ensures value { result ≡ record { start = s; end = e } }
     {
@@ -66,7 +66,7 @@ impl Test {
         }
     }
 
-    /// The bytes from `s` to `e`.
+    /// The bytes from `s` to `e`, both included.
     pub fn inclusive_byte_range(s: u8, e: u8) -> Test
         ensures value { result ≡ record { start = s; end = e } }
     {
@@ -76,7 +76,7 @@ impl Test {
         }
     }
 
-    /// The codes from that of `s` to the one before that of `e`.
+    /// The codes from `s` up to `e`, with `e` left out.
     pub fn exclusive_range(s: char, e: char) -> Test
         requires above_nul { 0 < e }
         ensures value { result ≡ record { start = s; end = e - 1 } }
@@ -87,28 +87,28 @@ impl Test {
         }
     }
 
-    /// The least value, unless there is none.
+    /// The least value, if there are any.
     pub fn start(&self) -> u32
         ensures value { result ≡ self.now.start }
     {
         self.start
     }
 
-    /// The greatest value, unless there is none.
+    /// The greatest value, if there are any.
     pub fn end(&self) -> u32
         ensures value { result ≡ self.now.end }
     {
         self.end
     }
 
-    /// Whether there is one value.
+    /// Whether there is exactly one value.
     pub fn is_char(&self) -> bool
         ensures answer { IsTrue result ↔ (self.now.start ≡ self.now.end) }
     {
         self.start == self.end
     }
 
-    /// How many values there are.
+    /// The number of values.
     pub fn len(&self) -> u32
         requires below_max { self.now.end < 4294967295 }
         requires ordered { self.now.start ≤ self.now.end + 1 }
@@ -131,21 +131,21 @@ impl Test {
         self.contains_u32(c as u32)
     }
 
-    /// Whether some value is in both.
+    /// Whether some value is in both ranges.
     pub fn intersects(&self, r: &Test) -> bool
         ensures answer { IsTrue result ↔ Meet self.now r.now }
     {
         self.start.max(r.start) <= self.end.min(r.end)
     }
 
-    /// Whether no value is in both.
+    /// Whether no value is in both ranges.
     pub fn is_disjoint(&self, r: &Test) -> bool
         ensures answer { IsTrue result ↔ (¬ Meet self.now r.now) }
     {
         !self.intersects(r)
     }
 
-    /// Whether there is no value.
+    /// Whether the range has no values.
     pub fn is_empty(&self) -> bool
         ensures answer { IsTrue result ↔ (self.now.end < self.now.start) }
     {
@@ -173,8 +173,8 @@ impl From<ClassBytesRange> for Test {
     }
 }
 
-// Characters where both ends are codes of characters, and else numbers. A lone character that patterns read as an
-// operator has a backslash before it.
+// Characters if both ends are codes of characters, otherwise numbers. A lone character that patterns read as an
+// operator gets a backslash before it.
 impl fmt::Debug for Test {
     fn fmt<W: fmt::Write>(&self, f: &mut fmt::Formatter<W>) -> fmt::Result {
         let start = self.start;

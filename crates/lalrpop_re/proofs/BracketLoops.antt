@@ -1,4 +1,4 @@
--- One turn of each loop of the parser of brackets, and its ends.
+-- One iteration of each loop of the bracket parser, and how the loops end.
 use Rattle.std.proofs.Common.{◌≡◌, ◌≢◌, ℕ, suc, ◌+◌, ◌-◌, ◌<◌, ◌≤◌, ◌==◌, max, true, false, [], ◌∷◌, ◌++◌, length, drop, IsTrue, IsFalse, MatchOption, take, Bool, Option, Some, None, refl, arith, sym, ap, ◌∙◌, subst, inl, inr, slice_get, length-drop}
 use Rattle.std.specs.Bool.{then_some}
 use Rattle.std.specs.List.{prefix_len}
@@ -19,7 +19,7 @@ use Rattle.lalrpop_re.specs.Internal.Views.{Refuses}
 use Rattle.lalrpop_grammar.proofs.Steps.{decided, span_joins}
 use Rattle.lalrpop_grammar.proofs.BracketLaws.{Item-shorter, Operand-shorter, spelling-shorter, operator_sound, item_sound, operand_sound, operand_enough, operations_enough, operand_end, operand_go, item_is_posix, item_is_bracket, bracket_sound}
 
--- a refusal passes on where the one reading fails with the other
+-- a refusal is passed on, since the two readings fail together
 pub refuses_on : {A B : Type 0} (e : RegexError) (o : Option A) (r : Option B) → Refuses e o → (o ≡ None → r ≡ None) → Refuses e r
 refuses_on (Syntax position kind) o r h k = k h
 refuses_on OutOfMemory o r h k = tt
@@ -54,7 +54,7 @@ span_front test t = rw (sym (span_len test t)) (ap (take (length (span test t).0
 span_rest : (test : ℕ → Bool) (t : Text) → drop (prefix_len test t) t ≡ (span test t).1
 span_rest test t = rw (sym (span_len test t)) (ap (drop (length (span test t).0)) (sym (span_joins test t)) ∙ drop-append_seam (span test t).0 (span test t).1)
 
--- where `:]` follows the letters, they are a name
+-- if `:]` follows the letters, they are a name
 pub name_found : (o : Option ℕ) (b : Bool) (n : ℕ) (t : Text) → o ≡ then_some b n → b ≡ begins ":]" (drop n t) → n ≡ prefix_len is_ascii_lowercase t
     → MatchOption o (IsFalse (begins ":]" (span is_ascii_lowercase t).1)) (λ k. IsTrue (begins ":]" (span is_ascii_lowercase t).1) × (k ≡ length (span is_ascii_lowercase t).0))
 name_found o true n t e k l =

@@ -117,7 +117,7 @@ Gains-plain f low high rs qs le plain e =
     let same : leaf f (range low high) ≡ range low high = rw plain refl in
     subst (λ (q : Set). Gains rs qs q) (sym same) (subst (λ (x : List Range). Gains rs x (range low high)) (sym e) all)
 
--- ---- what the functions that add a set answer
+-- ---- what the functions that add a set return
 
 pub where_ok : {T E P Q : Type 0} (r : Result T E) → OnOk r P → (P → Q) → OnOk r Q
 where_ok (Ok a) h k = k h

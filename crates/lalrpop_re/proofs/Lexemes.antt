@@ -1,4 +1,4 @@
--- The parts that code cuts off a text are those that the reading finds.
+-- The parts that the code splits off a text are those that the reader finds.
 use Rattle.std.proofs.Common.{◌≡◌, ℕ, ◌+◌, ◌^◌, Bool, true, false, cond, nat_lt, ◌&&◌, ◌==◌, [], ◌∷◌, ◌++◌, length, slice_get, take, drop, Option, Some, None, refl, arith, sym, ap, ◌∙◌, subst, inl, inr}
 use Rattle.std.specs.Char.{is_ascii_digit, is_ascii_hexdigit}
 use Rattle.std.specs.List.{list_all, prefix_len}
@@ -27,7 +27,7 @@ span_of_prefix test (c ∷ t) = elim (decided (test c)) [
 span_at : (test : ℕ → Bool) (t : Text) (n : ℕ) → n ≡ prefix_len test t → span test t ≡ (take n t, drop n t)
 span_at test t n e = subst (λ m. span test t ≡ (take m t, drop m t)) (sym e) (span_of_prefix test t)
 
--- the front that passes the test, as the code cuts it off
+-- the front that passes the test, as the code splits it off
 pub cut_at : (test : ℕ → Bool) (t inside front back : Text) (n : ℕ) → inside ≡ t → n ≡ prefix_len test inside → front ≡ take n inside → back ≡ drop n inside → span test t ≡ (front, back)
 cut_at test t inside front back n e k f b = subst (λ (u : Text). span test u ≡ (front, back)) e (span_at test inside n k ∙ ap (λ (u : Text). (u, drop n inside)) (sym f) ∙ ap (λ (u : Text). (front, u)) (sym b))
 

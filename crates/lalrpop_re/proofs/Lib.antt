@@ -5,5 +5,5 @@ mod ItemLaws
 mod BracketLoops
 mod ParserLoops
 mod Numbers
--- that a text spells one tree at most
+-- that a text spells at most one tree
 pub use Rattle.lalrpop_grammar.proofs.PatternLaws

@@ -1,4 +1,4 @@
--- The numbers that digits write, as code reads them.
+-- The numbers that digits write, as the code reads them.
 use Rattle.std.proofs.Common.{◌≡◌, ℕ, ◌+◌, ◌*◌, ◌^◌, ◌<◌, ◌≤◌, Bool, true, false, cond, nat_lt, ◌&&◌, ◌==◌, List, [], ◌∷◌, length, drop, get_or, Option, Some, None, refl, arith, sym, ap, ◌∙◌, inl, inr}
 use Rattle.std.specs.List.{list_all}
 use Rattle.std.specs.Char.{is_digit, digit_value, is_ascii_digit, is_ascii_hexdigit, IsScalar, InScalarRange, OutOfScalarRange}
@@ -16,7 +16,7 @@ use Rattle.lalrpop_grammar.proofs.Steps.{decided, guarded, some_is}
 
 -- ---- a loop over digits
 
--- the number that the digits write behind those of n, where no step is too great
+-- the number that the digits write after those of n, if no step is too great
 unfoldable pub number : ℕ → List ℕ → ℕ → Option ℕ
 number radix [] n = Some n
 number radix (c ∷ cs) n = cond (is_digit c radix && nat_lt (n * radix + digit_value c) (2 ^ 32)) (number radix cs (n * radix + digit_value c)) None
@@ -28,7 +28,7 @@ value_grows radix n (c ∷ cs) h =
     let b : n ≤ n * radix = le-mul_of_pos_right n h in
     omega (arith, a, b)
 
--- what the digits write behind those of n, as a test on all of them
+-- what the digits write after those of n, as a test on all of them
 abbrev pub written : ℕ → List ℕ → ℕ → Option ℕ
 written radix ds n = cond (list_all (λ c. is_digit c radix) ds && nat_lt (digits_value_after radix n ds) (2 ^ 32)) (Some (digits_value_after radix n ds)) None
 
@@ -50,7 +50,7 @@ number_written radix (c ∷ cs) n h lt = elim (decided (is_digit c radix)) [
   | inr d ↦ rw d refl
 ]
 
--- the digit c stands at i, behind the digits of n
+-- the digit c is at i, after the digits of n
 module _ (radix : ℕ) (ds : List ℕ) (i n c : ℕ) (so_far : number radix (drop i ds) n ≡ number radix ds 0) (more : i < length ds) (here : c ≡ get_or ds i c) where
   number_next : number radix (c ∷ drop (i + 1) ds) n ≡ number radix ds 0
   number_next =

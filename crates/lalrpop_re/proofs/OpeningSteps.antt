@@ -1,4 +1,4 @@
--- Steps of the code that reads what stands behind a `(`.
+-- Steps of the code that reads what follows a `(`.
 use Rattle.std.proofs.Common.{◌≡◌, ℕ, zero, suc, ◌+◌, ◌-◌, ◌<◌, ◌≤◌, Bool, true, false, cond, not, ltb, ◌==◌, List, [], ◌∷◌, ◌++◌, length, take, drop, get_or, Option, Some, None, unwrap_or, refl, sym, ap, ◌∙◌, subst, inl, inr, arith, encode_utf8_all}
 use Rattle.std.proofs.Math.Seq.{take-length}
 use Rattle.std.specs.List.{list_any, list_all, position_or_len, prefix_len}
@@ -85,7 +85,7 @@ name_of_parts (c ∷ cs) first others h e b k =
     let all : suc (length cs) - 1 ≡ length cs = omega arith in
     rw begins (k ∙ rw (all, take-length) refl)
 
--- ---- flags and the mark behind them
+-- ---- flags and the mark after them
 
 pub group_found : (f g : Flags) {t front behind : Text} → IsCut ends_letters t front behind → begins ":" behind ≡ true → flags_of f front ≡ Some g → (u : Text)
     → opened_of f (letters_at t) u ≡ Some (a_flagged_group g, drop (length front + 1) t)
@@ -145,7 +145,7 @@ distinct_past_hyphen (c ∷ v) w h k =
 off_without_hyphen : (w : List ℕ) → IsOff w → list_all no_hyphen w ≡ true
 off_without_hyphen w h = all_weaker (is_one_of "ismU") no_hyphen off_no_hyphen w h
 
--- what the code tests of letters that a hyphen parts
+-- what the code tests of the letters on both sides of a hyphen
 pub record AreFlags (letters front behind : List ℕ) : Type 0 where
   pub switched_on : IsOn front
   pub switched_off : IsOff (drop 1 behind)

@@ -1,4 +1,4 @@
--- One turn of each loop of the parser, and its ends.
+-- One iteration of each loop of the parser, and how the loops end.
 use Rattle.std.proofs.Common.{◌≡◌, ℕ, zero, suc, ◌+◌, ◌<◌, ◌≤◌, max, Bool, true, false, cond, encode_utf8_all, List, [], ◌∷◌, ◌++◌, length, drop, Option, Some, None, refl, arith, codes, sym, ap, ◌∙◌, subst, inl, inr, length-append}
 use Rattle.std.proofs.lemmas.Bool.{lt-ltb, le-ltb}
 use Rattle.lalrpop_book.specs.Tree.{Tree, repetition, capture}
@@ -14,7 +14,7 @@ use Rattle.lalrpop_grammar.proofs.Steps.{bind_some, bind_same, some_is, decided,
 use Rattle.lalrpop_grammar.proofs.LexicalLaws.{Operator-shorter, operator_sound}
 use Rattle.lalrpop_grammar.proofs.PatternLaws.{IsSound, Piece-shorter, Row-shorter, piece_sound, row_sound, inside_sound, directive_at_opening, directive_elsewhere, directive_sound, operators_enough, row_end, branches_end}
 
--- a refusal passes on where the one reading fails with the other
+-- a refusal is passed on, since the two readings fail together
 pub refuses_on : {A B : Type 0} (e : RegexError) (o : Option A) (r : Option B) → Refuses e o → (o ≡ None → r ≡ None) → Refuses e r
 refuses_on (Syntax position kind) o r h k = k h
 refuses_on OutOfMemory o r h k = tt

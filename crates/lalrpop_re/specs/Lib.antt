@@ -1,6 +1,6 @@
 -- What a refusal says.
 pub mod Refusal
--- what serves the proofs alone
+-- used by proofs only
 pub mod Internal
 -- the grammar, for callers
 pub use Rattle.lalrpop_grammar.specs.Text

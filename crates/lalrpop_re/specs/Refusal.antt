@@ -7,7 +7,7 @@ use Rattle.lalrpop_grammar.specs.Pattern.{Pattern}
 use Rattle.lalrpop_grammar.specs.declared.error.RegexError.{RegexError}
 use Rattle.lalrpop_grammar.specs.declared.error.RegexError.TheVariants.{Syntax, OutOfMemory}
 
--- a syntax error means that the text is no pattern
+-- a syntax error means that the text does not parse
 abbrev pub HasNoTree : List ℕ → RegexError → Type 0
 HasNoTree s (Syntax position kind) = (t : Tree) → Pattern s t → ⊥
 HasNoTree s OutOfMemory = Unit {0}

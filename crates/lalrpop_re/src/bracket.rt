@@ -36,7 +36,7 @@ pub(crate) enum BracketOperator {
     SymmetricDifference,
 }
 
-/// Reads a bracket with its `[` and its `]`, where so many levels are left.
+/// Reads a bracket, from its `[` to its `]`, with `room` levels left.
 #[cycle(bracket)]
 pub(crate) fn parse_bracket(cursor: &mut Cursor, room: u32) -> Result<BracketSet, RegexError>
     ensures value { Finds (λ b x. HasRuns b.class x.set × (b.depth ≡ x.depth)
@@ -51,7 +51,7 @@ pub(crate) fn parse_bracket(cursor: &mut Cursor, room: u32) -> Result<BracketSet
     parse_enclosed(cursor, room - 1)
 }
 
-// Reads a bracket inside which so many levels are left.
+// Reads a bracket inside which `room` levels are left.
 #[cycle(bracket)]
 #[tactic(auto, unfolding(lalrpop_grammar::specs::Internal::Reading::bracket_with))]
 fn parse_enclosed(cursor: &mut Cursor, room: u32) -> Result<BracketSet, RegexError>
@@ -87,7 +87,7 @@ fn parse_enclosed(cursor: &mut Cursor, room: u32) -> Result<BracketSet, RegexErr
     })
 }
 
-// The set of all other characters.
+// The complement of the class.
 fn complemented(alloc: Global, class: &ClassUnicode) -> Result<ClassUnicode, AllocError>
     ensures { IfOk result (λ r. (s : Set) → HasRuns class.now s → HasRuns r (complement s)) }
 {
@@ -148,7 +148,7 @@ fn parse_operations(
     Ok(BracketSet { class, depth })
 }
 
-// The left set and the right one under an operator.
+// The operator applied to the left and the right set.
 fn applied(
     alloc: Global,
     operator: BracketOperator,
@@ -165,7 +165,7 @@ fn applied(
     }
 }
 
-// The operator that follows.
+// The operator that follows, if any.
 #[tactic(auto, unfolding(lalrpop_grammar::specs::Internal::Reading::operator_of))]
 fn set_operator_at(cursor: &Cursor) -> Option<BracketOperator>
     ensures { option_map operator_view result ≡ operator_of (text cursor.now) }
@@ -182,7 +182,7 @@ fn set_operator_at(cursor: &Cursor) -> Option<BracketOperator>
     None
 }
 
-// Reads the hyphens or the `]` at the front of the first operand, and gives the character that they stand for.
+// Reads the hyphens or the `]` at the start of the first operand, and returns the character that they stand for.
 #[tactic(auto, unfolding(lalrpop_grammar::specs::Internal::Reading::lead))]
 fn parse_lead(cursor: &mut Cursor) -> Option<char>
     ensures value { lead (text cursor.old) ≡ (option_to_list result, text cursor.new) }
@@ -200,7 +200,7 @@ fn parse_lead(cursor: &mut Cursor) -> Option<char>
     None
 }
 
-// Passes over the hyphens that follow.
+// Skips the hyphens that follow.
 fn pass_hyphens(cursor: &mut Cursor)
     ensures text { text cursor.new ≡ past_hyphens (text cursor.old) }
     ensures flags { cursor.new.flags ≡ cursor.old.flags }
@@ -211,7 +211,7 @@ fn pass_hyphens(cursor: &mut Cursor)
     }
 }
 
-// Reads the items of an operand, behind its lead.
+// Reads the items of an operand, after its lead.
 #[cycle(bracket)]
 fn parse_operand(
     cursor: &mut Cursor,
@@ -248,8 +248,8 @@ fn parse_operand(
     Ok(BracketSet { class, depth })
 }
 
-// Joins the ranges where they are more than twice as many as they were once joined, and gives how many they are then.
-// So items that overlap take no more memory than about twice what their union takes.
+// Joins the ranges once their number has more than doubled since the last join, and returns their number after the last
+// join. So items that overlap take at most about twice the memory of their union.
 fn join_doubled(ranges: &mut Vec<ClassUnicodeRange>, joined: usize) -> Result<usize, AllocError>
     ensures { OnOk result ((s : Set) → HasMembers ranges.old.items s
         → HasMembers ranges.new.items s) }
@@ -264,7 +264,7 @@ fn join_doubled(ranges: &mut Vec<ClassUnicodeRange>, joined: usize) -> Result<us
     Ok(ranges.len())
 }
 
-// Ranges that cover the character of a lead alone.
+// Ranges that cover only the character of a lead.
 fn lead_ranges(
     alloc: Global,
     flags: Flags,
@@ -290,7 +290,7 @@ fn ends_operand(cursor: &Cursor) -> bool
         || cursor.begins(&['~', '~'])
 }
 
-// Reads an item, adds its set to the ranges, and gives its depth.
+// Reads an item, adds its set to the ranges, and returns its depth.
 #[cycle(bracket)]
 #[tactic(auto, unfolding(lalrpop_grammar::specs::Internal::Reading::item, lalrpop_grammar::specs::Internal::Reading::item_or))]
 fn parse_item(
@@ -320,14 +320,14 @@ fn parse_item(
     Ok(depth)
 }
 
-// What a POSIX class names, and whether all other characters are meant.
+// The set that a POSIX class names, and whether it is complemented.
 #[derive(Drop)]
 struct PosixClass {
     class: ClassUnicode,
     negated: bool,
 }
 
-// Reads the POSIX class that begins with the next character, where there is one.
+// Reads the POSIX class that begins with the next character, if there is one.
 #[tactic(auto, unfolding(lalrpop_grammar::specs::Internal::Reading::posix))]
 fn parse_posix(cursor: &mut Cursor) -> Result<Option<PosixClass>, AllocError>
     ensures value { IfOk result (λ found.
@@ -345,7 +345,7 @@ fn parse_posix(cursor: &mut Cursor) -> Result<Option<PosixClass>, AllocError>
     Ok(None)
 }
 
-// Reads the name of a POSIX class, which begins behind so many characters, and its `:]`.
+// Reads the name of a POSIX class, which begins after `front` characters, and its `:]`.
 fn parse_posix_name(
     cursor: &mut Cursor,
     front: usize,
@@ -371,7 +371,7 @@ fn parse_posix_name(
     Ok(Some(PosixClass { class, negated }))
 }
 
-// How long the name at the front of the text is, where a `:]` follows it.
+// The length of the name at the front of the text, if a `:]` follows it.
 fn name_len(text: &[char]) -> Option<usize>
     ensures value { MatchOption result (IsFalse (begins ":]" (span is_ascii_lowercase text.now).1))
         (λ n. IsTrue (begins ":]" (span is_ascii_lowercase text.now).1)
@@ -382,7 +382,7 @@ fn name_len(text: &[char]) -> Option<usize>
     text[len..].starts_with(&[':', ']']).then_some(len)
 }
 
-// How many lower-case letters stand at the front of the text.
+// The number of lower-case letters at the front of the text.
 fn letters_len(text: &[char]) -> usize
     ensures value { result ≡ prefix_len is_ascii_lowercase text.now }
     ensures within { result ≤ length text.now }
@@ -450,7 +450,7 @@ fn is_at_range(text: &[char]) -> bool
     }
 }
 
-// Adds the set of a primary that makes no range.
+// Adds the set of a primary that is not an end of a range.
 fn push_primary(
     ranges: &mut Vec<ClassUnicodeRange>,
     flags: Flags,
@@ -494,7 +494,7 @@ fn push_range(
     Ok(())
 }
 
-// Adds the set of a leaf that is the given set, or of all other characters.
+// Adds the set of a leaf with the members of the given set, or its complement.
 fn push_set(
     ranges: &mut Vec<ClassUnicodeRange>,
     flags: Flags,

@@ -1,4 +1,4 @@
-//! A place in a pattern, with the flags that hold there.
+//! A place in a pattern, with the flags in force there.
 ghost use Rattle.std.specs.Prelude.{◌≡◌, ◌<◌, ◌≤◌, ◌++◌, ◌∷◌, [], nat_eq, length, drop, vec_len, slice_get, unwrap_or, IsTrue, IfOk, OnOk};
 ghost use Rattle.std.specs.List.{starts_with};
 ghost use Rattle.std.specs.Str.{chars};
@@ -6,14 +6,14 @@ ghost use Rattle.std.specs.Str.{chars};
 use lalrpop_grammar::{Flags, RegexError, SyntaxKind};
 use std::alloc::{AllocError, Global};
 
-/// The characters of a pattern, how far they are read, and the flags that hold there.
+/// The characters of a pattern, the number of them that are read, and the flags in force.
 #[derive(Drop)]
 pub(crate) struct Cursor {
     chars: Vec<char>,
     // counts characters
     position: usize,
     flags: Flags,
-    // where the groups with names opened
+    // where the named groups opened
     named: Vec<usize>,
     ghost within: { position ≤ vec_len chars },
 }
@@ -22,7 +22,7 @@ impl Cursor {
     ghost use Rattle.lalrpop_grammar.specs.Flag.{no_flags};
     ghost use Rattle.lalrpop_re.specs.Internal.Views.{text_from, text, unread, place_of};
 
-    /// Stands before the first character, with no flag set.
+    /// The cursor before the first character, with no flag set.
     #[tactic(auto, unfolding(crate::specs::Internal::Views::text_from), using(std::proofs::lemmas::Str::chars_from_encodes))]
     pub(crate) fn new(alloc: Global, pattern: &str) -> Result<Cursor, AllocError>
         ensures { IfOk result (λ c. (text c ≡ chars pattern.now) × (c.flags ≡ no_flags)) }
@@ -45,12 +45,12 @@ impl Cursor {
         *self.chars.allocator()
     }
 
-    /// How many characters are read.
+    /// The number of characters read.
     pub(crate) fn position(&self) -> usize {
         self.position
     }
 
-    /// What is still to read.
+    /// The characters that are still to be read.
     #[tactic(auto, unfolding(crate::specs::Internal::Views::text_from))]
     pub(crate) fn rest(&self) -> &[char]
         ensures { result.now ≡ text self.now }
@@ -72,7 +72,7 @@ impl Cursor {
         self.rest().starts_with(word)
     }
 
-    /// Passes over so many characters.
+    /// Skips this many characters.
     #[tactic(auto, unfolding(crate::specs::Internal::Views::text_from))]
     pub(crate) fn advance(&mut self, count: usize)
         requires { count ≤ unread self.old }
@@ -95,7 +95,7 @@ impl Cursor {
         self.flags = flags;
     }
 
-    /// Keeps that a group with a name opened at this place.
+    /// Records that a named group opened at this place.
     pub(crate) fn note_name(&mut self, place: usize) -> Result<(), AllocError>
         ensures text { text self.new ≡ text self.old }
         ensures flags { self.new.flags ≡ self.old.flags }
@@ -105,7 +105,7 @@ impl Cursor {
         Ok(())
     }
 
-    /// Where the group with the name of this number opened.
+    /// Where the named group of this number opened.
     pub(crate) fn named_place(&self, number: usize) -> usize
         ensures { result ≡ place_of self.now number }
     {
@@ -121,7 +121,7 @@ impl Cursor {
     }
 }
 
-/// The refusal that points behind so many characters. The call that reads the whole pattern turns them into bytes.
+/// The refusal that points after this many characters. The call that reads the whole pattern converts them to bytes.
 pub(crate) fn error_at(position: usize, kind: SyntaxKind) -> RegexError
     ensures { result ≡ RegexError.Syntax position kind }
 {

@@ -1,4 +1,4 @@
-//! Escapes: what stands behind a backslash.
+//! Escapes: what follows a backslash.
 ghost use Rattle.std.specs.Prelude.{◌≡◌, ◌<◌, ◌≤◌, ◌&&◌, length, drop, Some, None, OnOk, IfOk, IfSome, MatchOption};
 ghost use Rattle.std.specs.Char.{is_ascii_hexdigit};
 ghost use Rattle.std.specs.List.{list_all, prefix_len};
@@ -19,22 +19,22 @@ use std::alloc::{AllocError, Global};
 #[derive(Drop)]
 pub(crate) enum EscapedPart {
     Character(char),
-    /// The characters before folding, and whether all others are meant.
+    /// The characters before folding, and whether their complement is meant.
     Set { class: ClassUnicode, negated: bool },
     Assertion(Look),
 }
 
-// What the character behind the backslash says of the escape.
+// What the character after the backslash says of the escape.
 #[derive(Clone, Copy)]
 enum EscapeSign {
     Character(char),
     Perl { class: PerlClass, negated: bool },
     Assertion(Look),
-    /// So many hexadecimal digits follow, or some in braces.
+    /// This many hexadecimal digits follow, or one or more in braces.
     Code(usize),
     /// The name of a set follows.
     Property { negated: bool },
-    /// `\b`, which may go on in braces.
+    /// `\b`, which may continue in braces.
     Edge,
     Unknown(SyntaxKind),
 }
@@ -47,14 +47,14 @@ enum PerlClass {
     Words,
 }
 
-// Characters, and how many they are with the braces around them.
+// Characters, and their number with the braces around them.
 #[derive(Clone, Copy)]
 struct Argument<'a> {
     inner: &'a [char],
     width: usize,
 }
 
-/// Reads an escape behind its backslash.
+/// Reads an escape after its backslash.
 pub(crate) fn parse_escape(cursor: &mut Cursor) -> Result<EscapedPart, RegexError>
     ensures value { Finds (λ e x. StandsForEscaped e x.0
         × (text cursor.new ≡ x.1)) result (escape (text cursor.old)) }
@@ -69,7 +69,7 @@ pub(crate) fn parse_escape(cursor: &mut Cursor) -> Result<EscapedPart, RegexErro
     parse_signed(cursor, sign_of(c))
 }
 
-// Reads what follows the first character of an escape, which says `sign`.
+// Reads what follows the first character of an escape, whose sign is `sign`.
 #[tactic(auto, unfolding(lalrpop_grammar::specs::Internal::Reading::signed))]
 fn parse_signed(cursor: &mut Cursor, sign: EscapeSign) -> Result<EscapedPart, RegexError>
     requires { HasDigits sign }
@@ -95,7 +95,7 @@ fn parse_signed(cursor: &mut Cursor, sign: EscapeSign) -> Result<EscapedPart, Re
     }
 }
 
-// What a character behind a backslash says of the escape.
+// What a character after a backslash says of the escape.
 #[tactic(auto, unfolding(lalrpop_grammar::specs::Escape::sign))]
 fn sign_of(c: char) -> EscapeSign
     ensures value { sign_view result ≡ sign c }
@@ -133,7 +133,7 @@ fn perl(class: PerlClass, negated: bool) -> EscapeSign
     EscapeSign::Perl { class, negated }
 }
 
-// Whether the character stands for itself behind a backslash.
+// Whether the character stands for itself after a backslash.
 fn is_mark(c: char) -> bool
     ensures { result ≡ is_mark c }
 {
@@ -150,7 +150,7 @@ fn perl_class(alloc: Global, class: PerlClass) -> Result<ClassUnicode, AllocErro
     }
 }
 
-// Reads the digits of a code: so many, or any number in braces.
+// Reads the digits of a code: `count` digits, or any number in braces.
 #[tactic(auto, unfolding(lalrpop_grammar::specs::Internal::Reading::signed))]
 fn parse_code(cursor: &mut Cursor, count: usize) -> Result<char, RegexError>
     requires { 0 < count }
@@ -179,7 +179,7 @@ fn argument_kind(cursor: &Cursor, kind: SyntaxKind) -> SyntaxKind {
     }
 }
 
-// The digits of a code at the front of the text, where they are so many, or one or more in braces.
+// The digits of a code at the front of the text, if there are that many, or one or more in braces.
 #[tactic(auto, unfolding(lalrpop_grammar::specs::Internal::Reading::digits_of))]
 fn digits_at(text: &[char], count: usize) -> Option<Argument<'_>>
     requires { 0 < count }
@@ -257,7 +257,7 @@ fn name_at(text: &[char]) -> Option<Argument<'_>>
     })
 }
 
-// Whether all characters can stand in the name of a set.
+// Whether all the characters may occur in the name of a set.
 fn is_spelled_like_set(name: &[char]) -> bool
     ensures { result ≡ list_all is_set_name_char name.now }
 {
@@ -301,7 +301,7 @@ fn edge_at(cursor: &Cursor) -> (Look, usize)
     }
 }
 
-// How many hexadecimal digits stand at the front of the text.
+// The number of hexadecimal digits at the front of the text.
 fn leading_hex_digits(text: &[char]) -> usize
     ensures value { result ≡ prefix_len is_ascii_hexdigit text.now }
     ensures within { result ≤ length text.now }
@@ -309,7 +309,7 @@ fn leading_hex_digits(text: &[char]) -> usize
     text.iter().take_while(|c| c.is_ascii_hexdigit()).count()
 }
 
-// How many characters of a set's name stand at the front of the text.
+// The number of characters of a set's name at the front of the text.
 fn leading_name(text: &[char]) -> usize
     ensures value { result ≡ prefix_len is_set_name_char text.now }
     ensures within { result ≤ length text.now }

@@ -4,8 +4,8 @@ ghost use Rattle.std.specs.Char.{is_digit};
 ghost use Rattle.std.specs.List.{list_all};
 ghost use Rattle.std.specs.Str.Parse.{digits_value};
 
-/// The number that the digits write, where all are digits of the radix and it fits. They may be many: zeros in front
-/// add nothing.
+/// The number that the digits write, if all are digits of the radix and it fits. There may be any number of
+/// leading zeros.
 pub(crate) fn number_of(digits: &[char], radix: u32) -> Option<u32>
     requires low { 2 ≤ radix }
     requires high { radix ≤ 36 }

@@ -1,4 +1,4 @@
-//! What stands behind the `(` of a group or of a flag directive.
+//! What follows the `(` of a group or of a flag directive.
 ghost use Rattle.std.specs.Prelude.{◌≡◌, ◌≤◌, ◌==◌, ℕ, not, drop, OnOk, IfOk, string_bytes, encode_utf8_all};
 ghost use Rattle.std.specs.List.{list_any, list_all};
 ghost use Rattle.lalrpop_grammar.specs.Flag.{with_flag, with_flags, is_distinct};
@@ -16,7 +16,7 @@ use unicode::properties::{GeneralCategory, GeneralCategoryGroup, is_alphabetic};
 // The letters that switch flags on.
 const ON_LETTERS: [char; 5] = ['i', 's', 'm', 'U', 'u'];
 
-// The letters that switch flags off, behind a `-`.
+// The letters that switch flags off, after a `-`.
 const OFF_LETTERS: [char; 4] = ['i', 's', 'm', 'U'];
 
 /// What a `(` begins.
@@ -32,7 +32,7 @@ pub(crate) enum GroupOpening {
     Directive(Flags),
 }
 
-/// Reads what stands behind a `(`, up to the expression of the group, or to the end of the directive.
+/// Reads what follows a `(`, up to the expression of the group or the end of the directive.
 #[tactic(auto, unfolding(lalrpop_grammar::specs::Internal::Reading::opened, lalrpop_grammar::specs::Internal::Reading::opening))]
 pub(crate) fn parse_opening(cursor: &mut Cursor) -> Result<GroupOpening, RegexError>
     ensures value { Gives (λ o.
@@ -40,7 +40,7 @@ pub(crate) fn parse_opening(cursor: &mut Cursor) -> Result<GroupOpening, RegexEr
     ensures flags { cursor.new.flags ≡ cursor.old.flags }
     ensures moves { OnOk result (unread cursor.new ≤ unread cursor.old) }
 {
-    // where the `(` stands
+    // where the `(` is
     let open = cursor.position().saturating_sub(1);
     if cursor.begins(&['?', 'P', '<']) {
         cursor.advance(3);
@@ -63,7 +63,7 @@ pub(crate) fn parse_opening(cursor: &mut Cursor) -> Result<GroupOpening, RegexEr
     Ok(GroupOpening::Plain)
 }
 
-// The text up to the first of these marks, and what stands there. It is all of the text where there is none.
+// The text up to the first of these marks, and the text from there on. The first part is all of it if there is no mark.
 fn split_before<'a>(text: &'a [char], marks: &[char]) -> (&'a [char], &'a [char])
     ensures { (result.0.now, result.1.now)
         ≡ span (λ c. not (list_any (λ d. d == c) marks.now)) text.now }
@@ -75,7 +75,7 @@ fn split_before<'a>(text: &'a [char], marks: &[char]) -> (&'a [char], &'a [char]
     text.split_at(length)
 }
 
-// Reads the name of a group with the `>` behind it. A refusal is of this kind and points at the `(`.
+// Reads the name of a group and the `>` after it. A refusal is of this kind and points at the `(`.
 #[tactic(auto, unfolding(lalrpop_grammar::specs::Internal::Reading::name_at))]
 fn parse_name(
     cursor: &mut Cursor,
@@ -130,7 +130,7 @@ fn continues_name(c: char) -> bool
         || c == ']'
 }
 
-// Reads the flags of a group with the `:` behind them, or those of a directive with its `)`.
+// Reads the flags of a group and the `:` after them, or those of a directive and its `)`.
 #[tactic(auto, unfolding(lalrpop_grammar::specs::Internal::Reading::letters_at))]
 fn parse_letters(cursor: &mut Cursor, open: usize) -> Result<GroupOpening, RegexError>
     ensures value { (t : Text)
@@ -156,7 +156,7 @@ fn parse_letters(cursor: &mut Cursor, open: usize) -> Result<GroupOpening, Regex
     Err(letters_refusal(open, letters, behind.is_empty()))
 }
 
-// Why no flags stand behind `(?`. The text may end there.
+// Why no flags follow `(?`. The text may end there.
 fn letters_refusal(open: usize, letters: &[char], at_end: bool) -> RegexError
     ensures { (p : ℕ) × (k : SyntaxKind) × (result ≡ RegexError.Syntax p k) }
 {
@@ -173,7 +173,7 @@ fn letters_refusal(open: usize, letters: &[char], at_end: bool) -> RegexError
     }
 }
 
-// The flags as these letters turn them, if they do.
+// The flags after these letters, if the letters are right.
 fn flags_of(flags: Flags, letters: &[char]) -> Option<Flags>
     ensures { result ≡ flags_of flags letters.now }
 {
@@ -183,7 +183,7 @@ fn flags_of(flags: Flags, letters: &[char]) -> Option<Flags>
     if is_hyphen_alone || !are_among(on, &ON_LETTERS) || !are_among(off, &OFF_LETTERS) {
         return None;
     }
-    // only now, when few letters can be different
+    // tested last, when all letters are valid, so that few can differ
     if !is_distinct(letters) {
         return None;
     }
@@ -205,7 +205,7 @@ fn are_among(letters: &[char], known: &[char]) -> bool
     letters.iter().all(|c| known.contains(c))
 }
 
-// Whether no letter stands twice. It looks for no more letters than there are different ones.
+// Whether no letter occurs twice. It looks at no more letters than there are different ones.
 fn is_distinct(letters: &[char]) -> bool
     ensures { result ≡ is_distinct letters.now }
 {

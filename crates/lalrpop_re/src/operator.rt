@@ -1,4 +1,4 @@
-//! Operators: what stands behind a piece to repeat it.
+//! Operators: what follows a piece to repeat it.
 ghost use Rattle.std.specs.Prelude.{◌≡◌, ◌<◌, ◌≤◌, ◌^◌, ◌&&◌, nat_lt, length, take, drop, Some, None, true, OnOk, IfOk, if◌then◌else◌};
 ghost use Rattle.std.specs.Char.{is_ascii_digit};
 ghost use Rattle.std.specs.List.{list_all, prefix_len};
@@ -35,7 +35,7 @@ pub(crate) fn is_at_operator(cursor: &Cursor) -> bool
     matches!(cursor.peek(), Some('?' | '*' | '+' | '{'))
 }
 
-/// Reads an operator with the `?` that belongs to it.
+/// Reads an operator and the `?` that belongs to it.
 #[tactic(auto, unfolding(lalrpop_grammar::specs::Internal::Reading::operator))]
 pub(crate) fn parse_operator(cursor: &mut Cursor) -> Result<RepetitionOperator, RegexError>
     ensures value { Gives (λ o.
@@ -133,7 +133,7 @@ fn parse_count(cursor: &mut Cursor) -> Result<u32, RegexError>
     Ok(count)
 }
 
-// The number that one or more decimal digits write, where it fits.
+// The number that one or more decimal digits write, if it fits.
 fn decimal_of(digits: &[char]) -> Option<u32>
     requires { list_all is_ascii_digit digits.now ≡ true }
     ensures { result ≡ (if nat_lt 0 (length digits.now) && nat_lt (decimal digits.now 0)
@@ -145,7 +145,7 @@ fn decimal_of(digits: &[char]) -> Option<u32>
     number_of(digits, 10)
 }
 
-// Passes over white space.
+// Skips white space.
 fn skip_white_space(cursor: &mut Cursor)
     ensures text { text cursor.new ≡ (span is_white_space (text cursor.old)).1 }
     ensures flags { cursor.new.flags ≡ cursor.old.flags }
@@ -155,7 +155,7 @@ fn skip_white_space(cursor: &mut Cursor)
     cursor.advance(length);
 }
 
-// How much white space stands at the front of the text.
+// The number of white space characters at the front of the text.
 fn leading_white_space(text: &[char]) -> usize
     ensures value { result ≡ prefix_len is_white_space text.now }
     ensures within { result ≤ length text.now }
@@ -163,7 +163,7 @@ fn leading_white_space(text: &[char]) -> usize
     text.iter().take_while(|c| is_white_space(**c)).count()
 }
 
-// How many decimal digits stand at the front of the text.
+// The number of decimal digits at the front of the text.
 fn leading_digits(text: &[char]) -> usize
     ensures value { result ≡ prefix_len is_ascii_digit text.now }
     ensures within { result ≤ length text.now }

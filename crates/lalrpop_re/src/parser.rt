@@ -25,7 +25,7 @@ use lalrpop_grammar::{
 use lalrpop_hir::{Capture, Hir, Look, Regex, Repetition};
 use std::alloc::{AllocError, Global};
 
-// The most levels that a place of a pattern can be inside.
+// The greatest number of levels that a place of a pattern may be inside.
 const NEST_LIMIT: u32 = 250;
 
 // A tree, and how deep its syntax is nested.
@@ -65,11 +65,11 @@ impl Row {
     }
 }
 
-/// The tree of a pattern, by the grammar that the files of `specs/` in the crate `lalrpop_grammar` give.
+/// The tree of a pattern, by the grammar in the files of `specs/` of the crate `lalrpop_grammar`.
 ///
 /// # Errors
 ///
-/// `RegexError::Syntax` where the text is no pattern, with what is wrong and where, in bytes. `RegexError::OutOfMemory` where
+/// `RegexError::Syntax` if the text does not parse, with what is wrong and where, in bytes. `RegexError::OutOfMemory` if
 /// a request for memory was refused.
 pub fn parse_regex(alloc: Global, s: &str) -> Result<Regex, RegexError>
     ensures tree { IfOk result (λ t. Pattern (chars s.now) t) }
@@ -87,7 +87,7 @@ pub fn parse_regex(alloc: Global, s: &str) -> Result<Regex, RegexError>
     }
 }
 
-// How many bytes the first characters take, or all where there are fewer.
+// The number of bytes of the first characters, or of all if there are fewer.
 fn byte_offset(s: &str, characters: usize) -> usize
     ensures { IsCharBoundary s.now result }
 {
@@ -119,7 +119,7 @@ fn parse_to_end(cursor: &mut Cursor) -> Result<Hir, RegexError>
     Ok(tree)
 }
 
-// Refuses a tree with a name that two of its groups have, at the group with the first name that repeats one.
+// Refuses a tree in which two groups have the same name, at the group with the first name that repeats an earlier one.
 fn check_names(cursor: &Cursor, tree: &Hir) -> Result<(), RegexError>
     ensures value { Gives (λ _. tree.now) result
         (if are_distinct (names tree.now) then Some tree.now else None) }
@@ -131,7 +131,7 @@ fn check_names(cursor: &Cursor, tree: &Hir) -> Result<(), RegexError>
     }
 }
 
-// Reads an expression that no group encloses, where all levels are left.
+// Reads an expression that no group encloses, with all levels left.
 fn parse_at_top(cursor: &mut Cursor) -> Result<Nested, RegexError>
     ensures { Gives (λ p. whole p cursor.new) result
         (inside (suc most_levels) cursor.old.flags (text cursor.old)) }
@@ -139,7 +139,7 @@ fn parse_at_top(cursor: &mut Cursor) -> Result<Nested, RegexError>
     parse_expression(cursor, NEST_LIMIT)
 }
 
-// Reads an expression, where so many levels are left.
+// Reads an expression, with `room` levels left.
 #[cycle(parser)]
 #[tactic(auto, unfolding(lalrpop_grammar::specs::Internal::Reading::inside, lalrpop_grammar::specs::Internal::Reading::expression_with))]
 fn parse_expression(cursor: &mut Cursor, room: u32) -> Result<Nested, RegexError>
@@ -202,7 +202,7 @@ fn ends_branch(cursor: &Cursor) -> bool
     }
 }
 
-// Reads a piece. `None` stands for a directive, whose flags hold from there on.
+// Reads a piece, or a directive, whose flags hold from there on and for which it returns `None`.
 #[cycle(parser)]
 #[tactic(auto, unfolding(crate::specs::Internal::Parts::step))]
 fn parse_step(cursor: &mut Cursor, room: u32) -> Result<Option<Nested>, RegexError>
@@ -220,7 +220,7 @@ fn parse_step(cursor: &mut Cursor, room: u32) -> Result<Option<Nested>, RegexErr
     }
 }
 
-// Reads a group or a directive, for which `None` stands.
+// Reads a group, or a directive, for which it returns `None`.
 #[cycle(parser)]
 #[tactic(auto, unfolding(crate::specs::Internal::Parts::group_or_directive, crate::specs::Internal::Parts::group_or_directive_of))]
 fn parse_parenthesis(cursor: &mut Cursor, room: u32) -> Result<Option<Nested>, RegexError>
@@ -251,7 +251,7 @@ fn parse_parenthesis(cursor: &mut Cursor, room: u32) -> Result<Option<Nested>, R
     }
 }
 
-// Reads the expression of a group under the flags, and the `)`. The group began at `start`.
+// Reads the expression of a group under the flags, and its `)`. The group began at `start`.
 #[cycle(parser)]
 #[tactic(auto, unfolding(lalrpop_grammar::specs::Internal::Reading::enclosed))]
 fn parse_enclosed(
@@ -283,7 +283,7 @@ fn parse_enclosed(
     })
 }
 
-// Passes over the `)` of a group, and sets back the flags that hold outside.
+// Skips the `)` of a group, and restores the flags that hold outside.
 fn leave_group(cursor: &mut Cursor, outside: Flags)
     requires { 0 < unread cursor.old }
     ensures text { text cursor.new ≡ drop 1 (text cursor.old) }
@@ -306,7 +306,7 @@ fn captured(alloc: Global, name: Option<String>, group: Nested) -> Result<Nested
     })
 }
 
-// Reads an atom that is no group, and its operators.
+// Reads an atom that is not a group, and its operators.
 #[tactic(auto, unfolding(lalrpop_grammar::specs::Internal::Reading::piece))]
 fn parse_piece(cursor: &mut Cursor, room: u32) -> Result<Nested, RegexError>
     requires { begins "(" (text cursor.old) ≡ false }
@@ -321,7 +321,7 @@ fn parse_piece(cursor: &mut Cursor, room: u32) -> Result<Nested, RegexError>
     parse_operators(cursor, room, atom)
 }
 
-// Reads an atom that is no group.
+// Reads an atom that is not a group.
 #[tactic(auto, unfolding(lalrpop_grammar::specs::Internal::Reading::atom, crate::specs::Internal::Parts::escaped_part, crate::specs::Internal::Parts::bracket_part))]
 fn parse_atom(cursor: &mut Cursor, room: u32) -> Result<Nested, RegexError>
     requires { begins "(" (text cursor.old) ≡ false }
@@ -363,7 +363,7 @@ fn is_special(c: char) -> bool
     )
 }
 
-// What `^` asks.
+// The look of `^`.
 fn line_start(flags: Flags) -> Look
     ensures { result ≡ (if flags.multi_line then Look.StartLF else Look.Start) }
 {
@@ -374,7 +374,7 @@ fn line_start(flags: Flags) -> Look
     }
 }
 
-// What `$` asks.
+// The look of `$`.
 fn line_end(flags: Flags) -> Look
     ensures { result ≡ (if flags.multi_line then Look.EndLF else Look.End) }
 {
@@ -385,7 +385,7 @@ fn line_end(flags: Flags) -> Look
     }
 }
 
-// Passes over the one character that the tree stands for.
+// Skips the one character that the tree stands for.
 fn single(cursor: &mut Cursor, tree: Hir) -> Nested
     requires { 0 < unread cursor.old }
     ensures tree { result.tree ≡ tree }
@@ -397,7 +397,7 @@ fn single(cursor: &mut Cursor, tree: Hir) -> Nested
     Nested { tree, depth: 0 }
 }
 
-// Reads an escape behind its backslash.
+// Reads an escape after its backslash.
 #[tactic(auto, unfolding(crate::specs::Internal::Parts::escaped_part))]
 fn parse_escaped(cursor: &mut Cursor) -> Result<Nested, RegexError>
     ensures value { Gives (λ p.
@@ -460,7 +460,7 @@ fn parse_operators(cursor: &mut Cursor, room: u32, atom: Nested) -> Result<Neste
     Ok(piece)
 }
 
-// The piece under the operator.
+// The piece, repeated by the operator.
 fn repeated(
     alloc: Global,
     operator: RepetitionOperator,
@@ -481,7 +481,7 @@ fn repeated(
     })
 }
 
-// One tree for a branch of these pieces.
+// The tree of a branch with these pieces.
 fn branch_of(mut pieces: Vec<Hir>) -> Hir
     ensures { result ≡ branch pieces.items }
 {
@@ -491,7 +491,7 @@ fn branch_of(mut pieces: Vec<Hir>) -> Hir
     pieces.pop().unwrap_or(Hir::empty())
 }
 
-// One tree for an expression of these branches.
+// The tree of an expression with these branches.
 fn choice_of(mut branches: Vec<Hir>) -> Hir
     ensures { result ≡ choice branches.items }
 {

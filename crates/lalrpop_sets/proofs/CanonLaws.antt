@@ -26,7 +26,7 @@ by_neighbour : (P : List Range → Type 0) (c : ℕ) (r : Range) (rs : List Rang
 by_neighbour P c r rs f g =
     cond_both (next_scalar c == r.start) (to c r.end ∷ rs) (to c c ∷ r ∷ rs) P (λ e. f (eqb-true _ _ e)) (λ e. g (eqb-false _ _ e))
 
--- the first range starts behind c
+-- the first range starts after c
 abbrev StartsBehind : ℕ → List Range → Type 0
 StartsBehind c [] = Unit {0}
 StartsBehind c (r ∷ rs) = c < r.start
@@ -89,7 +89,7 @@ starts_behind n s [] k = tt
 starts_behind n s (r ∷ rs) k =
     omega (arith, ((k.covers r.start k.canonical.1.0).1 (inl (omega arith, head_holds r rs k.canonical.0))).0)
 
--- a member comes in front
+-- a member is put in front
 with_member : (n : ℕ) (s : Set) (rs : List Range) → IsScalar n → Members s n → AreRunsFrom (suc n) s rs → AreRunsFrom n s (with_least n rs)
 with_member n s rs u m k =
     let b = starts_behind n s rs k in
@@ -126,7 +126,7 @@ runs_down (suc n) s rs k =
     (λ e. let p = and_parts (is_scalar n) (s n) e in with_member n s rs (is_scalar-IsScalar n p.0) p.1 k)
     (λ e. without_member n s rs (λ u m. let t = and_from (is_scalar n) (s n) (IsScalar-is_scalar n u) m in absurd cc) k))
 
--- at a variable, so that nothing computes the runs
+-- stated at a variable, so that the checker doesn't compute the runs
 runs_within : (n : ℕ) (s : Set) → ((c : ℕ) → IsScalar c → c < n) → IsCanon (Members s) (runs_below n s [])
 runs_within n s all =
     let start : AreRunsFrom n s [] = record { canonical = (tt, tt); covers = λ c u. (λ h. absurd (omega (arith, h.0, all c u)), λ h. absurd h) } in
@@ -137,6 +137,6 @@ pub canon-is : (s : Set) → IsCanon (λ c. s c ≡ true) (canon s)
 unfolding canon
 canon-is s = runs_within 0x11_0000 s IsScalar-below
 
--- the runs of a set are its canon alone
+-- the canon of a set is its only list of runs
 pub HasRuns-canon : (rs : List Range) (s : Set) → HasRuns rs s → rs ≡ canon s
 HasRuns-canon rs s k = canon-unique (Members s) rs (canon s) k (canon-is s)

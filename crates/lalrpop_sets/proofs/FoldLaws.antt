@@ -32,7 +32,7 @@ some_below-from (suc n) test d lt s t =
 abbrev Folds : Set → ℕ → Type 0
 Folds s c = (d : ℕ) × IsScalar d × Members s d × (simple_fold d ≡ simple_fold c)
 
--- at a variable, so that nothing computes the test
+-- stated at a variable, so that the checker doesn't compute the test
 folds_within : (n : ℕ) (s : Set) (c : ℕ) → ((d : ℕ) → IsScalar d → d < n) → (some_below n (λ d. s d && (simple_fold d == simple_fold c)) ≡ true) ↔ Folds s c
 folds_within n s c all = (
   λ h. let f = some_below-to n _ h in let p = and_parts (s f.0) (simple_fold f.0 == simple_fold c) f.2 in
@@ -46,7 +46,7 @@ fold-is s c u =
     let k = folds_within 0x11_0000 s c IsScalar-below in
     (λ h. k.0 (and_parts _ _ h).1, λ f. and_from _ _ (IsScalar-is_scalar c u) (k.1 f))
 
--- what a class covers, and the partners of that, are what folding gives
+-- folding gives what a class covers, and the partners of that
 pub folded-is : (rs : List Range) (s : Set) → HasRuns rs s → (c : ℕ) → IsScalar c → Members (fold s) c ↔ (Covered rs c ⊎ HasPartner rs c)
 folded-is rs s k c u = (
   λ h. by_same ((fold-is s c u).0 h),
@@ -92,7 +92,7 @@ Leads-Contains (p ∷ ps) c =
     at d zero f lt e = inl (ap (λ q. q.1) e)
     at d (suc i) f lt e = inr (f (d, (i, le_of_suc-le-suc lt, e)))
 
--- the ranges cover what they did at first, and what the pairs lead to
+-- the ranges cover what they covered at first, and what the pairs lead to
 abbrev pub HasTaken : List Range → List (ℕ × ℕ) → List Range → Type 0
 HasTaken base ps rs = (c : ℕ) → IsScalar c → Covered rs c ↔ (Covered base c ⊎ Leads ps c)
 
@@ -129,7 +129,7 @@ only : (r : Range) (d : ℕ) → Covered (r ∷ []) d → Covers r d
 only r d (inl h) = h
 only r d (inr h) = absurd h
 
--- what pairs of the table lead to, are partners of the range
+-- what pairs of the table lead to are partners of the range
 pub all_taken : (base rs : List Range) (ps : List (ℕ × ℕ)) (r : Range) → HasTaken base ps rs → ((d c : ℕ) → Contains ps (d, c) ↔ ((r.start ≤ d) × (d ≤ r.end) × AreAlike d c)) → (c : ℕ) → IsScalar c → Covered rs c ↔ (Covered base c ⊎ HasPartner (r ∷ []) c)
 all_taken base rs ps r k e c u =
     let leads = Leads-Contains ps c in

@@ -36,7 +36,7 @@ abbrev pub union_all : List Set → Set
 union_all [] = nothing
 union_all (s ∷ ss) = union s (union_all ss)
 
--- all scalar values that are no members
+-- all scalar values that are not members
 abbrev pub complement : Set → Set
 complement s c = is_scalar c && not (s c)
 
@@ -58,7 +58,7 @@ with_least c (r ∷ rs) =
     if next_scalar c == r.start then record { start = c; end = r.end } ∷ rs
     else record { start = c; end = c } ∷ r ∷ rs
 
--- the runs of the members below n, before those that are there
+-- the runs of the members below n, put before the given runs
 unfoldable pub runs_below : ℕ → Set → List Range → List Range
 runs_below zero s above = above
 runs_below (suc n) s above = runs_below n s (if is_scalar n && s n then with_least n above else above)
@@ -73,7 +73,7 @@ set_tree s = class (unicode (canon s))
 
 -- ---- the ranges of a class
 
--- the members of a set, as a fact
+-- membership, as a statement
 abbrev pub Members : Set → ℕ → Type 0
 Members s c = s c ≡ true
 

@@ -1,6 +1,6 @@
--- Sets of characters and their runs, those that have a name, POSIX classes.
+-- Sets of characters and their runs, named sets, POSIX classes.
 pub mod CharacterSet
 pub mod NamedSet
 pub mod PosixSet
--- what serves the proofs alone
+-- used by proofs only
 pub mod Internal

@@ -1,5 +1,5 @@
 -- cases: proofs/Cases/NamedSet.antt
--- The sets that `\p{name}` names: two of its own, and those of Unicode.
+-- The sets that `\p{name}` names: two of this grammar, and those of Unicode.
 use Rattle.std.specs.Prelude.{ℕ, ◌&&◌, List, Option, Some, option_map, if◌then◌else◌, codes, bytes_eq}
 use Rattle.std.specs.Char.{is_ascii}
 use Rattle.unicode.specs.Loose.{normalize}

@@ -8,12 +8,12 @@ ghost use Rattle.lalrpop_sets.specs.Internal.Sets.{AreAlike, HasPartner};
 use lalrpop_hir::{ClassUnicode, ClassUnicodeRange};
 use std::alloc::{AllocError, Global};
 
-/// All characters that share a simple case folding with a member of `class`, as `unicode` has it, and so each member.
+/// All characters that share a simple case folding, by the crate `unicode`, with a member of `class`; so each member too.
 /// Takes time n log n for n runs and partners.
 ///
 /// # Errors
 ///
-/// `AllocError` where a request for memory was refused.
+/// `AllocError` if a request for memory was refused.
 pub fn fold(alloc: Global, class: &ClassUnicode) -> Result<ClassUnicode, AllocError>
     ensures runs { IfOk result (λ r. (s : Set) → HasRuns class.now s → HasRuns r (fold s)) }
 {
@@ -24,7 +24,7 @@ pub fn fold(alloc: Global, class: &ClassUnicode) -> Result<ClassUnicode, AllocEr
     ClassUnicode::new(alloc, ranges)
 }
 
-// Appends the characters that fold as another one inside the range does.
+// Appends the characters that fold like another character in the range.
 fn push_partners(
     ranges: &mut Vec<ClassUnicodeRange>,
     range: &ClassUnicodeRange,
@@ -41,7 +41,7 @@ fn push_partners(
     Ok(())
 }
 
-// The pairs of characters that fold alike, where the first lies between the two. The table of all pairs is sorted.
+// The pairs of characters that fold alike whose first is between the two, ends included. The table of all pairs is sorted.
 fn pairs_from(low: char, high: char) -> &'static [(u32, u32)]
     ensures { (d c : ℕ) → Contains result.now (d, c) ↔ ((low ≤ d) × (d ≤ high) × AreAlike d c) }
 {

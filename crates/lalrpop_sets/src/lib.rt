@@ -1,4 +1,4 @@
-//! Sets of characters as classes: ranges, simple case folding, and the sets that have a name.
+//! Sets of characters as classes: ranges, simple case folding, and named sets.
 #![tactic(auto)]
 
 ghost use Rattle.std.specs.Prelude.{◌≤◌, IfOk};
@@ -18,7 +18,7 @@ use std::alloc::{AllocError, Global};
 ///
 /// # Errors
 ///
-/// `AllocError` where a request for memory was refused.
+/// `AllocError` if a request for memory was refused.
 pub fn range_class(alloc: Global, low: char, high: char) -> Result<ClassUnicode, AllocError>
     requires ordered { low ≤ high }
     ensures runs { IfOk result (λ r. HasRuns r (range low high)) }

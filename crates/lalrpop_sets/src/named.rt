@@ -11,11 +11,11 @@ use lalrpop_hir::{ClassUnicode, ClassUnicodeRange};
 use std::alloc::{AllocError, Global};
 
 /// The set that `name`, a list of characters, stands for in `\p{name}`: `any`, `ascii`, or a name of `unicode`. Case,
-/// spaces, `_` and `-` make no difference. `None` where the name stands for no set.
+/// spaces, `_` and `-` make no difference. `None` if no set has this name.
 ///
 /// # Errors
 ///
-/// `AllocError` where a request for memory was refused.
+/// `AllocError` if a request for memory was refused.
 pub fn named_set(alloc: Global, name: &[char]) -> Result<Option<ClassUnicode>, AllocError>
     ensures found { IfOk result (λ found. MatchOption found (named name.now ≡ None)
         (λ r. (s : Set) × (named name.now ≡ Some s) × HasRuns r s)) }
@@ -37,7 +37,7 @@ pub fn named_set(alloc: Global, name: &[char]) -> Result<Option<ClassUnicode>, A
 ///
 /// # Errors
 ///
-/// `AllocError` where a request for memory was refused.
+/// `AllocError` if a request for memory was refused.
 pub fn digits(alloc: Global) -> Result<ClassUnicode, AllocError>
     ensures runs { IfOk result (λ r. HasRuns r is_digit_char) }
 {
@@ -48,25 +48,25 @@ pub fn digits(alloc: Global) -> Result<ClassUnicode, AllocError>
 ///
 /// # Errors
 ///
-/// `AllocError` where a request for memory was refused.
+/// `AllocError` if a request for memory was refused.
 pub fn spaces(alloc: Global) -> Result<ClassUnicode, AllocError>
     ensures runs { IfOk result (λ r. HasRuns r is_space_char) }
 {
     class_of_codes(alloc, &unicode::perl::space_ranges(alloc)?)
 }
 
-/// The characters of `\w`: those of words, as Unicode has them.
+/// The characters of `\w`: the word characters of Unicode.
 ///
 /// # Errors
 ///
-/// `AllocError` where a request for memory was refused.
+/// `AllocError` if a request for memory was refused.
 pub fn words(alloc: Global) -> Result<ClassUnicode, AllocError>
     ensures runs { IfOk result (λ r. HasRuns r is_word_char) }
 {
     class_of_codes(alloc, &unicode::perl::word_ranges(alloc)?)
 }
 
-// The characters with a code in one of the ranges, which may have surrogates too.
+// The characters whose code is in one of the ranges. The ranges may contain surrogates.
 fn class_of_codes(alloc: Global, codes: &[(u32, u32)]) -> Result<ClassUnicode, AllocError>
     requires { AreRanges codes.now }
     ensures { IfOk result (λ r. HasRuns r (in_ranges codes.now)) }

@@ -8,7 +8,7 @@ ghost use Rattle.lalrpop_sets.specs.Internal.Sets.{IsFound};
 use lalrpop_hir::{ClassUnicode, ClassUnicodeRange};
 use std::alloc::{AllocError, Global};
 
-// A class, as `alpha` in `[:alpha:]`.
+// A class, like `alpha` in `[:alpha:]`.
 struct PosixClass {
     name: &'static str,
     ranges: &'static [(char, char)],
@@ -80,11 +80,11 @@ fn posix_classes() -> &'static [PosixClass]
     &POSIX_CLASSES
 }
 
-/// The set of the POSIX class `name`, as `alpha` in `[:alpha:]`. `None` where no class has this name to the letter.
+/// The set of the POSIX class `name`, like `alpha` in `[:alpha:]`. `None` if no class has exactly this name.
 ///
 /// # Errors
 ///
-/// `AllocError` where a request for memory was refused.
+/// `AllocError` if a request for memory was refused.
 pub fn posix_class(alloc: Global, name: &[char]) -> Result<Option<ClassUnicode>, AllocError>
     ensures found { IfOk result (λ found. MatchOption found (posix_set name.now ≡ None)
         (λ r. (s : Set) × (posix_set name.now ≡ Some s) × HasRuns r s)) }

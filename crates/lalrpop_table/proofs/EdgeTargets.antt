@@ -1,4 +1,4 @@
--- Where a value leads, found by halving the tests, which ascend.
+-- Where a value leads, by binary search in the tests, which ascend.
 use Rattle.std.proofs.Common.{◌≡◌, ℕ, zero, suc, Bool, true, false, inl, inr, ◌+◌, ◌-◌, ◌*◌, ◌^◌, ◌<◌, ◌≤◌, List, [], ◌∷◌, length, get_or, refl, sym, ap, ◌∙◌, ⊎_elim, subst, arith}
 use Rattle.std.specs.Prelude.{slice_get, Option, Some, None, IsSomeAnd, if◌then◌else◌}
 use Rattle.std.specs.List.{Contains}
@@ -37,7 +37,7 @@ has_value_at (u ∷ []) a zero t e = let same : u ≡ t = cc in subst (λ (x : R
 has_value_at (u ∷ v ∷ ts) a zero t e = let same : u ≡ t = cc in subst (λ (x : Range × ℕ). x.0.start ≤ x.0.end) same a.0
 has_value_at (u ∷ ts) a (suc k) t e = has_value_at ts (rest_ascends u ts a) k t e
 
--- each test ends before those behind it begin
+-- each test ends before all later ones begin
 before_rest : (u : Range × ℕ) (ts : List (Range × ℕ)) → AreAscendingTests (u ∷ ts) → (k : ℕ) (t : Range × ℕ) → slice_get ts k ≡ Some t → u.0.end < t.0.start
 before_rest u [] a k t e = cc
 before_rest u (v ∷ ts) a zero t e = let same : v ≡ t = cc in subst (λ (x : Range × ℕ). u.0.end < x.0.start) same a.1
@@ -64,8 +64,8 @@ pub leads_none : (ts : List (Range × ℕ)) (o c : ℕ) → ((t : Range × ℕ) 
 leads_none [] o c f = refl
 leads_none (u ∷ ts) o c f = leads_later u ts o c (f u (0, omega arith, refl)) ∙ leads_none ts o c (λ t (k, l, e). f t (suc k, omega arith, e))
 
--- ---- halving
--- a test that covers the value stands at first or behind it, and before end
+-- ---- binary search
+-- a test that covers the value is at first or after it, and before end
 pub record IsNarrowed (ts : List (Range × ℕ)) (value first end : ℕ) : Type 0 where
   pub within : end ≤ length ts
   pub inside : (k : ℕ) (t : Range × ℕ) → slice_get ts k ≡ Some t → Covers t.0 value → (first ≤ k) × (k < end)
@@ -87,7 +87,7 @@ module _ (ts : List (Range × ℕ)) (a : AreAscendingTests ts) (value first end 
           (λ (y : k ≤ m). let i : k ≡ m = omega arith in let same : t ≡ u = (let g : Some t ≡ Some u = sym e ∙ (ap (slice_get ts) i ∙ at) in cc) in let low : u.0.start ≤ value = subst (λ (x : Range × ℕ). x.0.start ≤ value) same c.0 in omega arith)
           (cases_lt m k)
 
-  -- it lies behind the test
+  -- it lies after the test
   pub narrowed_above : u.0.end < value → IsNarrowed ts value (m + 1) end
   narrowed_above more = record {
     within = h.within;
@@ -101,7 +101,7 @@ module _ (ts : List (Range × ℕ)) (a : AreAscendingTests ts) (value first end 
           (cases_lt k m)
 
 -- ---- walking
--- the tests before the place end before the value, and that at the place begins behind it
+-- the tests before the place end before the value, and the one at the place begins after it
 pub leads_between : (ts : List (Range × ℕ)) → AreAscendingTests ts → (place o c : ℕ) → EndBefore ts place c → ((t : Range × ℕ) → slice_get ts place ≡ Some t → c < t.0.start)
     → edge_target ts o c ≡ o
 leads_between ts a place o c passed behind = leads_none ts o c (λ t m h. let p = place_of ts t m in out p.0 t p.1 h)
@@ -119,7 +119,7 @@ leads_between ts a place o c passed behind = leads_none ts o c (λ t m h. let p 
         ]
 
 -- ---- its cost
--- for n tests, fewer than 2 ^ d, so many probes were made that d are enough for all: what is left has fewer than 2 ^ e
+-- for n tests, fewer than 2 ^ d, the probes made so far and e more are at most d: what is left has fewer than 2 ^ e
 abbrev pub AreProbed : ℕ → ℕ → ℕ → ℕ → Type 0
 AreProbed n left before probes = (d : ℕ) → n < 2 ^ d → (e : ℕ) × ((left < 2 ^ e) × (probes + e ≤ before + d))
 
@@ -130,7 +130,7 @@ probed_more n left left2 before probes probes2 h some half more d l = again (h d
     again (zero, (less, at)) = absurd (let one : 2 ^ 0 ≡ 1 = refl in omega arith)
     again (suc e, (less, at)) = (e, ((let two : 2 ^ suc e ≡ 2 * 2 ^ e = grind arith in omega arith), omega arith))
 
--- so many probes for each of k characters, and for one more
+-- at most n probes for each of k characters, and for one more
 pub probed_turn : (before probes probes2 k k2 d : ℕ) → probes ≤ before + k * d → probes2 ≤ probes + d → k2 ≡ k + 1 → probes2 ≤ before + k2 * d
 probed_turn before probes probes2 k k2 d h more next =
     let e : (k + 1) * d ≡ k * d + d = grind arith in
@@ -143,11 +143,11 @@ probed_end before probes k n d h l =
     omega arith
 
 -- ---- states
--- the step from a state is by its row
+-- the step from a state is the step of its row
 pub step_of : (d : List Row) (p c : ℕ) (r : Row) → slice_get d p ≡ Some r → step d p c ≡ edge_target r.tests r.other c
 step_of d p c r e = rw e
 
--- what is there, of which it holds
+-- a row that is there has the property
 pub the_some : {A : Type 0} (o : Option A) (P : A → Type 0) → IsSomeAnd o P → (x : A) × ((o ≡ Some x) × P x)
 the_some None P h = absurd h
 the_some (Some x) P h = (x, (refl, h))

@@ -21,7 +21,7 @@ pub record IsAfter (d : List Row) (text : List ℕ) (at : ℕ) (state : ℕ) : T
   pub reached : state ≡ after d (chars (take at text))
   pub within : state < length d
 
--- of the prefixes of at most n bytes, the longest that some tree matches
+-- the longest prefix of at most n bytes that some tree matches
 abbrev pub IsLongestUpTo : List Tree → List ℕ → List ℕ → ℕ → Option (ℕ × List ℕ) → Type 0
 IsLongestUpTo ts ps text n None = (p : List ℕ) → IsMatch ts text p → length p ≤ n → ⊥
 IsLongestUpTo ts ps text n (Some m) =
@@ -94,7 +94,7 @@ longest_pass ts ps text rest rest2 at at2 c (Some best) h e l not up = (
   up.2,
 )
 
--- where no longer prefix matches, the longest so far is the longest
+-- if no longer prefix matches, the longest so far is the longest
 done : (ts : List Tree) (ps text : List ℕ) (at : ℕ) (best : Option (ℕ × List ℕ)) → ((p : List ℕ) → IsMatch ts text p → length p ≤ at)
     → IsLongestUpTo ts ps text at best → IsLongest ts ps text best
 done ts ps text at None all up = λ p m. up p m (all p m)

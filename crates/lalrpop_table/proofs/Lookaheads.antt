@@ -1,4 +1,4 @@
--- How far an automaton reads past a match: what is found round by round.
+-- How far an automaton reads past a match: what is found in each iteration.
 use Rattle.std.proofs.Common.{◌≡◌, ℕ, zero, suc, ◌+◌, ◌-◌, ◌<◌, ◌≤◌, ⊎_elim, List, [], ◌∷◌, length, refl, subst, arith, add-zero, add-suc}
 use Rattle.std.proofs.lemmas.Bool.{cases_lt}
 use Rattle.lalrpop_table.specs.Dfa.{Row, step}
@@ -44,7 +44,7 @@ module _ (d : List Row) where
   can_entered n (p, [], (a, s, e)) = absurd (omega arith)
   can_entered n (p, c ∷ w, (a, s, e)) = (p, c, (a, (s.0, (w, (s.1, omega arith)))))
 
-  -- where no match leads to a state that stays open for n, n is the most
+  -- if no match leads to a state that stays open for n, n is the most
   pub at_most : (n : ℕ) → (Enters n → ⊥) → (m : ℕ) → CanStayOpen d m → m ≤ n
   at_most n none m h =
       ⊎_elim
@@ -52,7 +52,7 @@ module _ (d : List Row) where
       (λ (a : m ≤ n). a)
       (cases_lt n m)
 
-  -- where those that stay open for n stay open for one more, they stay so for ever
+  -- if all states that stay open for n stay open for one more, they stay so forever
   pub open_ever : (n : ℕ) → ((p : ℕ) → OpenFor d n p → OpenFor d (suc n) p) → (k p : ℕ) → OpenFor d n p → OpenFor d (n + k) p
   open_ever n more zero p o = rw add-zero o
   open_ever n more (suc k) p o =
@@ -63,9 +63,9 @@ module _ (d : List Row) where
   for_ever n more (p, c, (a, o)) m =
       can_at_most (suc n) m (subst (λ (k : ℕ). CanStayOpen d k) (omega arith) (entered_can (n + m) (p, c, (a, open_ever n more m (step d p c) o))))
 
--- ---- the same for states of a kind
+-- ---- the same for states with a property
 module _ (d : List Row) (A : ℕ → Type 0) where
-  -- from some state of the kind some n values lead through open states
+  -- from some state with the property, some n values lead through open states
   abbrev pub CanBy : ℕ → Type 0
   CanBy n = (p : ℕ) × (w : List ℕ) × (A p × StaysOpen d p w × (length w ≡ n))
 
@@ -76,7 +76,7 @@ module _ (d : List Row) (A : ℕ → Type 0) where
   by_at_most zero n h = rw add-zero at h
   by_at_most (suc k) n h = by_at_most k n (by_fewer (n + k) (rw add-suc at h))
 
-  -- a state that stays open for n values, where those of which this holds do for one more
+  -- a state that stays open for n values, if those with the property do for one more
   pub ever_from : (n : ℕ) → ((p : ℕ) → OpenFor d n p → OpenFor d (suc n) p) → (p c : ℕ) → A p → OpenFor d n (step d p c) → (m : ℕ) → CanBy m
   ever_from n more p c a o m = at (open_ever d n more m (step d p c) o)
     where

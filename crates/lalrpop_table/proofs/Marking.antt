@@ -1,4 +1,4 @@
--- States that are marked: where edges lead, and the rounds of `lookahead`.
+-- Marked states: where edges lead, and the iterations of `lookahead`.
 use Rattle.std.proofs.Common.{◌≡◌, ℕ, zero, suc, ◌+◌, ◌<◌, ◌≤◌, ◌↔◌, ◌⊎◌, inl, inr, ⊎_elim, List, [], ◌∷◌, ◌++◌, length, refl, sym, ap, ◌∙◌, subst, arith, Bool, true, false, get_or, length-append}
 use Rattle.std.specs.Prelude.{slice_get, Option, Some, None, IsSomeAnd, if◌then◌else◌}
 use Rattle.std.proofs.lemmas.Option.{slice_get_within, slice_get_cases, slice_get-get_or}
@@ -47,7 +47,7 @@ by_test ts other k t a at = leads_at ts a k other t.0.start t at (omega arith, h
 pub by_other : (ts : List (Range × ℕ)) (other : ℕ) → edge_target ts other (top ts) ≡ other
 by_other ts other = leads_none ts other (top ts) (λ t m h. (let (k, at) = place_of ts t m in omega (arith, top_above ts k t at, h.1)))
 
--- of a state, where one of its edges leads to a marked state, and where none does
+-- a state of which one edge leads to a marked state, and one of which none does
 module _ (d : List Row) (marks : List Bool) (p : ℕ) (r : Row) (at : slice_get d p ≡ Some r) where
   pub leads_by_test : (k : ℕ) (t : Range × ℕ) → AreAscendingTests r.tests → slice_get r.tests k ≡ Some t → Marked marks t.1 → LeadsInto d marks p
   leads_by_test k t a here m = (t.0.start, subst (Marked marks) (sym (step_of d p t.0.start r at ∙ by_test r.tests r.other k t a here)) m)
@@ -64,13 +64,13 @@ module _ (d : List Row) (marks : List Bool) (p : ℕ) (r : Row) (at : slice_get 
 pub row_tests : (d : List Row) (p : ℕ) (ts : List (Range × ℕ)) → IsSomeAnd (slice_get d p) (λ x. ts ≡ x.tests) → (r : Row) × ((slice_get d p ≡ Some r) × (ts ≡ r.tests))
 row_tests d p ts h = the_some (slice_get d p) (λ x. ts ≡ x.tests) h
 
--- ---- the rounds
--- of the marked states those that lead into a marked one
+-- ---- the iterations
+-- of the marked states, those that lead into a marked one
 pub record AreStaying (d : List Row) (marks : List Bool) (n : ℕ) (next : List Bool) : Type 0 where
   pub same_length : length next ≡ n
   pub each : (p : ℕ) → p < n → Marked next p ↔ (Marked marks p × LeadsInto d marks p)
 
--- they can stay open for one value more
+-- they can stay open for one more value
 pub staying_open : (d : List Row) (marks next : List Bool) (n : ℕ) → ((p c : ℕ) → p < length d → step d p c < length d) → AreOpenFor d n marks → AreStaying d marks (length d) next → AreOpenFor d (n + 1) next
 staying_open d marks next n within h s = record {
   same_length = s.same_length;
@@ -100,7 +100,7 @@ of_entered d marks n within h p c a o =
     let l : p < length d = accepting_within d p a in
     (p, (l, a, (c, (h.each (step d p c) (within p c l)).1 o)))
 
--- ---- how many are marked
+-- ---- the number of marked states
 abbrev pub marked_count : List Bool → ℕ
 marked_count [] = 0
 marked_count (true ∷ bs) = suc (marked_count bs)
@@ -111,7 +111,7 @@ count_at_most [] = omega arith
 count_at_most (true ∷ bs) = omega (arith, count_at_most bs)
 count_at_most (false ∷ bs) = omega (arith, count_at_most bs)
 
--- where fewer are marked, either the marks are the same or their count is less
+-- if fewer are marked, either the marks are the same or their count is smaller
 pub fewer_marks : (xs ys : List Bool) → length xs ≡ length ys → ((k : ℕ) → Marked xs k → Marked ys k) → (xs ≡ ys) ⊎ (marked_count xs < marked_count ys)
 fewer_marks [] [] e f = inl refl
 fewer_marks [] (y ∷ ys) e f = absurd (omega arith)
@@ -167,14 +167,14 @@ open_read d states p s kind b are l is same told = elim (slice_get_cases d p).1 
   | inr past ↦ absurd (omega (arith, past.0, are.same_length))
 ]
 
--- the open states are those that can stay open for no value
+-- the open states are those that can stay open for no values
 pub opens_none : (d : List Row) (marks : List Bool) (n : ℕ) → length d ≤ n → n ≤ length d → length marks ≡ n → ((p : ℕ) → p < n → Marked marks p ↔ IsOpen d p) → AreOpenFor d 0 marks
 opens_none d marks n low high long h = record {
   same_length = omega arith;
   each = λ p l. (λ m. open_none d p ((h p (omega arith)).0 m), λ o. (h p (omega arith)).1 o.0);
 }
 
--- ---- one round of `lookahead`
+-- ---- one iteration of `lookahead`
 open_within : (d : List Row) (p : ℕ) → IsOpen d p → p < length d
 open_within d p o = elim (slice_get_cases d p).1 [
   | inl x ↦ slice_get_within d p x.0 x.2
@@ -185,14 +185,14 @@ module _ (d : List Row) (h : IsWellFormed d) (marks next : List Bool) (n : ℕ) 
   add_one : n + 1 ≡ suc n
   add_one = omega arith
 
-  -- fewer are marked after it, or the same are
+  -- fewer are marked after it, or the same ones are
   pub round_fewer : (next ≡ marks) ⊎ (marked_count next < marked_count marks)
   round_fewer = fewer_marks next marks (omega (arith, stay.same_length, after.same_length)) (λ k m.
       let l : k < length d = (let w : k < length next = slice_get_within next k true m in omega (arith, after.same_length)) in
       let up : OpenFor d (suc n) k = rw add_one at ((after.each k l).0 m) in
       (stay.each k l).1 (open_fewer d n k up))
 
-  -- where the same are, they are for ever
+  -- if the same ones are, they are forever
   pub round_ever : next ≡ marks → IsEntered d marks → IsLookahead d None
   round_ever same entered =
       for_ever d n
@@ -220,9 +220,9 @@ bits_decide false false = (λ e. refl, λ e. refl)
 pub same_marks : (xs ys : List Bool) → (pointwise beq xs ys ≡ true → xs ≡ ys) × (xs ≡ ys → pointwise beq xs ys ≡ true)
 same_marks xs ys = pointwise_decides bits_decide xs ys
 
--- ---- the patterns that can stay open for ever
+-- ---- the patterns that can stay open forever
 
--- one state more: those that one of the states so far accepts and enters by
+-- one more state: those that one of the states so far accepts and enters by
 pub entered_more : (d : List Row) (marks old new : List Bool) (count number : ℕ) (place : Option ℕ) → length old ≡ count
     → ((i : ℕ) → i < count → Marked old i ↔ ((p : ℕ) × ((p < number) × EntersBy d marks i p)))
     → ((i : ℕ) → (place ≡ Some i) ↔ EntersBy d marks i number)

@@ -1,4 +1,4 @@
--- Equality of automata, in words of their numbers.
+-- Equality of automata, by the numbers of states.
 use Rattle.std.proofs.Common.{◌≡◌, ℕ, zero, suc, Bool, true, false, ◌&&◌, ◌==◌, ◌<◌, inl, inr, arith, List, [], ◌∷◌, length, slice_get, Some, Decides, refl, ap, subst}
 use Rattle.std.proofs.lemmas.Bool.{and_parts, and_from}
 use Rattle.std.proofs.lemmas.Bool.Decides.{Decides-eqb}
@@ -96,14 +96,14 @@ same_automaton_decides d e = (
   rows_from d e,
 )
 
--- automata of one length are equal where their states are at each number
+-- automata with the same number of states are equal if their states are equal at each number
 pub all_same : (d e : List Row) → length d ≡ length e → ((p : ℕ) (r s : Row) → slice_get d p ≡ Some r → slice_get e p ≡ Some s → same_row r s ≡ true) → same_automaton d e ≡ true
 all_same [] [] long f = refl
 all_same [] (y ∷ e) long f = cc
 all_same (x ∷ d) [] long f = cc
 all_same (x ∷ d) (y ∷ e) long f = and_from (same_row x y) (same_automaton d e) (f 0 x y refl refl) (let shorter : length d ≡ length e = cc in all_same d e shorter (λ p r s a b. f (suc p) r s a b))
 
--- and differ where two of them do
+-- and differ if two of them differ
 pub some_differ : (d e : List Row) (p : ℕ) → p < length d → p < length e → ((r s : Row) → slice_get d p ≡ Some r → slice_get e p ≡ Some s → false ≡ same_row r s) → same_automaton d e ≡ false
 some_differ d e p within_d within_e differ = by_test (same_automaton d e) refl
   where

@@ -1,4 +1,4 @@
--- Once enough values after a match have brought no further one, none comes.
+-- Once enough values after a match bring no further match, none comes later.
 use Rattle.std.proofs.Common.{◌≡◌, ◌≢◌, ℕ, ◌≤◌, ◌⊎◌, inl, inr, List, [], ◌∷◌, ◌++◌, length, refl, sym, ap, subst, arith, append_assoc}
 use Rattle.std.specs.Prelude.{slice_get, Option, Some, None, IsSomeAnd}
 use Rattle.lalrpop_book.specs.Tree.{Tree}
@@ -36,14 +36,14 @@ not_matched (Some r) ts ps w h (inl e) = subst (IsRightKind ts ps w) e h
 not_matched (Some r) ts ps w h (inr e) = subst (IsRightKind ts ps w) e h
 
 module _ (d : List Row) (ts : List Tree) (ps : List ℕ) (h : Recognizes d ts ps) where
-  -- where a word is matched the state after it accepts
+  -- if a word matches, the state after it accepts
   matched_accepts : (w : List ℕ) → Matched ts w → IsAccepting d (after d w)
   matched_accepts w m = elim (kind_ways (slice_get d (after d w)) (IsRightKind ts ps w) (h.kinds w)) [
     | inl a ↦ accepting_of (slice_get d (after d w)) (IsRightKind ts ps w) a
     | inr o ↦ absurd (not_matched (slice_get d (after d w)) ts ps w (h.kinds w) o m)
   ]
 
-  -- where none of its prefixes is matched behind v, the states along x are open, or the last is a reject state
+  -- if no prefix of x matches after v, the states along x are open, or the last is a reject state
   along : (v x : List ℕ) → ((u z : List ℕ) → x ≡ u ++ z → u ≢ [] → ¬ Matched ts (v ++ u)) → StaysOpen d (after d v) x ⊎ IsReject d (run d (after d v) x)
   along v [] none = inl tt
   along v (c ∷ x) none = elim (kind_ways (slice_get d (after d (v ++ c ∷ []))) (IsRightKind ts ps (v ++ c ∷ [])) (h.kinds (v ++ c ∷ []))) [

@@ -1,4 +1,4 @@
--- Lists of where values lead: what they tell once more states have theirs.
+-- The lists of where values lead, as more states get theirs.
 use Rattle.std.proofs.Common.{◌≡◌, ℕ, inl, inr, ◌+◌, ◌<◌, List, [], ◌∷◌, ◌++◌, length, get_or, refl, sym, ap, ◌∙◌, arith, length-append}
 use Rattle.std.specs.Prelude.{slice_get, Option, Some, None, IfSome}
 use Rattle.std.specs.List.{AllZip}
@@ -10,7 +10,7 @@ use Rattle.lalrpop_table.specs.Internal.Stored.{AreSteps, AreListed}
 use Rattle.lalrpop_kernels.proofs.NumberedLemmas.{pushed_cases, pushed_keeps, pushed_last}
 use Rattle.lalrpop_table.proofs.EdgeTargets.{step_of}
 
--- the places that stand there name lists of their states
+-- the places so far name lists of their states
 abbrev pub TellSteps : List Row → List (Option ℕ) → List (List ℕ) → Type 0
 TellSteps d places lists = (p k : ℕ) → slice_get places p ≡ Some (Some k) → (targets : List ℕ) × ((slice_get lists k ≡ Some targets) × AreSteps d p targets)
 
@@ -20,7 +20,7 @@ pub steps_by_edges : (d : List Row) (p : ℕ) (r : Row) (ts : List (Range × ℕ
 steps_by_edges d p r ts other None at same_tests same_other h = tt
 steps_by_edges d p r ts other (Some targets) at same_tests same_other h = λ c l. h c l ∙ rw (same_tests, same_other) (ap (λ n. Some n) (sym (step_of d p c r at)))
 
--- one more state, with no list
+-- one more state, without a list
 pub told_without : (d : List Row) (places places2 : List (Option ℕ)) (lists lists2 : List (List ℕ)) (n : ℕ) → length places ≡ n → TellSteps d places lists
     → places2 ≡ places ++ None ∷ [] → lists2 ≡ lists → (length places2 ≡ n + 1) × TellSteps d places2 lists2
 told_without d places places2 lists lists2 n long h e f = (omega (arith, ap length e, length-append places (None ∷ []), long), rw (e, f) told)
@@ -43,7 +43,7 @@ told_with d places places2 lists lists2 n m targets long h own last e f = (omega
           (targets, (ap (slice_get (lists ++ targets ∷ [])) (same ∙ last) ∙ pushed_last lists targets, rw (new.0, long) own)))
     ]
 
--- what the list of a state tells
+-- what the list of a state says
 pub told_step : (d : List Row) (places : List (Option ℕ)) (lists : List (List ℕ)) → TellSteps d places lists
     → (p c k : ℕ) (targets : List ℕ) → slice_get places p ≡ Some (Some k) → slice_get lists k ≡ Some targets → c < 128 → get_or targets c 0 ≡ step d p c
 told_step d places lists h p c k targets e f l =

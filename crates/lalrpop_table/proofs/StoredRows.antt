@@ -1,11 +1,11 @@
--- States whose test edges stand in one list: what they are once edges are added.
+-- States whose test edges are in one list, after edges are added.
 use Rattle.std.proofs.Common.{◌≡◌, ℕ, suc, ◌+◌, ◌≤◌, List, [], ◌∷◌, ◌++◌, length, take, drop, refl, ap, ap₂, ◌∙◌, arith}
 use Rattle.std.proofs.lemmas.List.{take-append-le, drop-append-le, length-drop}
 use Rattle.lalrpop_book.specs.Range.{Range}
 use Rattle.lalrpop_table.specs.Dfa.{StoredState}
 use Rattle.lalrpop_table.specs.Internal.Stored.{rows_of, AreWithin}
 
--- edges behind those of a state don't matter to it
+-- edges after those of a state make no difference to it
 part_kept : (edges more : List (Range × ℕ)) (first count : ℕ) → first + count ≤ length edges → take count (drop first (edges ++ more)) ≡ take count (drop first edges)
 part_kept edges more first count l =
     let long : count ≤ length (drop first edges) = omega (arith, length-drop first edges) in

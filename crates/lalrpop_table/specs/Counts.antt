@@ -6,7 +6,7 @@ use Rattle.lalrpop_hir.specs.Size.{size}
 use Rattle.lalrpop_table.specs.Dfa.{Row}
 
 -- each tree's own automaton has at most three states more than the tree's size, and each state of the list's automaton
--- holds another set of all these states
+-- holds a different set of all these states
 abbrev pub state_bound : List Tree → ℕ
 state_bound ts = 2 ^ sum_by (λ t. 3 + size t) ts
 

@@ -9,14 +9,14 @@ use Rattle.lalrpop_table.specs.declared.Kind.{Kind}
 use Rattle.lalrpop_table.specs.declared.Kind.TheVariants.{Accepts, Reject, Neither}
 
 -- a state: its kind, where its tests lead, where all other values lead, and the items that it holds,
--- each a place of a tree in the list and a state of that tree's automaton
+-- each the index of a tree in the list and a state of that tree's automaton
 pub record Row : Type 0 where
   pub kind : Kind
   pub tests : List (Range × ℕ)
   pub other : ℕ
   pub items : List (ℕ × ℕ)
 
--- a state as its automaton keeps it: its test edges stand in a list of all test edges, `count` of them from the place
+-- a state as its automaton stores it: its test edges are in a list of all test edges, `count` of them from the place
 -- `first` on
 pub record StoredState : Type 0 where
   pub kind : Kind
@@ -25,7 +25,7 @@ pub record StoredState : Type 0 where
   pub first : ℕ
   pub count : ℕ
 
--- without its test edges
+-- the state without its test edges
 abbrev pub bare : StoredState → Row
 bare s = record { kind = s.kind; tests = []; other = s.other; items = s.items }
 
@@ -41,7 +41,7 @@ pub record AreStored (d : List Row) (states : List StoredState) : Type 0 where
   pub same_length : length states ≡ length d
   pub each : (p : ℕ) (r : Row) (s : StoredState) → slice_get d p ≡ Some r → slice_get states p ≡ Some s → IsStored r s
 
--- where the value leads
+-- the state that the value leads to
 abbrev pub edge_target : List (Range × ℕ) → ℕ → ℕ → ℕ
 edge_target [] other c = other
 edge_target (t ∷ ts) other c = if nat_le t.0.start c && nat_le c t.0.end then t.1 else edge_target ts other c
@@ -78,13 +78,13 @@ pub record Recognizes (d : List Row) (ts : List Tree) (ps : List ℕ) : Type 0 w
   pub kinds : (w : List ℕ) → IsSomeAnd (slice_get d (after d w)) (λ r. IsRightKind ts ps w r.kind)
   pub stays : (p c : ℕ) → IsReject d p → IsReject d (step d p c)
 
--- the ranges are not empty, and each ends before the next begins
+-- the ranges are nonempty, and each ends before the next begins
 abbrev pub AreAscendingTests : List (Range × ℕ) → Type 0
 AreAscendingTests [] = Unit {0}
 AreAscendingTests (t ∷ []) = t.0.start ≤ t.0.end
 AreAscendingTests (t ∷ u ∷ ts) = (t.0.start ≤ t.0.end) × (t.0.end < u.0.start) × AreAscendingTests (u ∷ ts)
 
--- what holds of the states of every automaton: there is one, and each edge leads to a state
+-- what holds of the states of every automaton: there is at least one, and each edge leads to a state
 pub record IsWellFormed (d : List Row) : Type 0 where
   pub some : 0 < length d
   pub ascending : (p : ℕ) (r : Row) → slice_get d p ≡ Some r → AreAscendingTests r.tests

@@ -1,4 +1,4 @@
--- of the book, what the contracts of this crate name
+-- from the book: what this crate's contracts name
 pub use Rattle.lalrpop_book.specs.Tree
 pub use Rattle.lalrpop_book.specs.Language
 pub use Rattle.lalrpop_book.specs.Prefix
@@ -8,5 +8,5 @@ pub mod Dfa
 pub mod Counts
 pub mod Lookahead
 pub mod SameAutomata
--- what private functions promise one another, which no promise to a caller names
+-- what private functions promise each other; public clauses do not name it
 pub mod Internal

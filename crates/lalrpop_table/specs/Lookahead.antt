@@ -27,17 +27,17 @@ CanStayOpen d n = (p : ℕ) × (w : List ℕ) × (IsAccepting d p × StaysOpen d
 abbrev pub LooksAtMost : List Row → ℕ → Type 0
 LooksAtMost d n = (m : ℕ) → CanStayOpen d m → m ≤ n
 
--- n is the greatest number of values after a match that leave it open; None where there is no greatest
+-- n is the greatest number of values after a match that leave it open, or 0 if there are none; None if there is no bound
 abbrev pub IsLookahead : List Row → Option ℕ → Type 0
 IsLookahead d (Some n) = LooksAtMost d n × ((n ≡ 0) ⊎ CanStayOpen d n)
 IsLookahead d None = (m : ℕ) → CanStayOpen d m
 
--- so long as one likes, values after a match by the tree i can leave it open
+-- for every n, some n values after a match by the tree i leave it open
 abbrev pub StaysOpenEver : List Row → ℕ → Type 0
 StaysOpenEver d i =
     (n : ℕ) → (p : ℕ) × (w : List ℕ) × (IsSomeAnd (slice_get d p) (λ r. r.kind ≡ Accepts i) × StaysOpen d p w × (length w ≡ n))
 
--- once n + 1 values after a match have brought no further one, none comes any more
+-- if n + 1 values after a match bring no further match, none comes later
 abbrev pub IsSettledAfter : List Tree → ℕ → Type 0
 IsSettledAfter ts n = (v x w : List ℕ) → Matched ts v → length x ≡ n + 1 → ((u z : List ℕ) → x ≡ u ++ z → u ≢ [] → ¬ Matched ts (v ++ u))
     → ¬ Matched ts ((v ++ x) ++ w)

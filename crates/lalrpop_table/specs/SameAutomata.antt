@@ -18,7 +18,7 @@ same_kind k l = false
 abbrev pub same_test : Range × ℕ → Range × ℕ → Bool
 same_test t u = (t.0.start == u.0.start) && (t.0.end == u.0.end) && (t.1 == u.1)
 
--- the states are equal: their kinds are, and their other edges
+-- the states are equal: their kinds and their other edges
 abbrev pub same_state : Row → Row → Bool
 same_state r s = same_kind r.kind s.kind && (r.other == s.other)
 
@@ -26,7 +26,7 @@ same_state r s = same_kind r.kind s.kind && (r.other == s.other)
 abbrev pub same_row : Row → Row → Bool
 same_row r s = same_state r s && pointwise same_test r.tests s.tests
 
--- the automata are equal: they have as many states, and at each number equal states with equal test edges
+-- the automata are equal: they have the same number of states, and at each number equal states with equal test edges
 abbrev pub same_automaton : List Row → List Row → Bool
 same_automaton d e = pointwise same_row d e
 

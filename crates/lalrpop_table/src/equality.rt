@@ -13,7 +13,7 @@ impl PartialEq for State {
 
     ghost laws = { Cmp.partial_equiv_from_equiv stored_equiv };
 
-    /// Whether the kinds are equal, and the other edges. Test edges are compared by the automata.
+    /// Whether the kinds and the other edges are equal. Test edges are compared by the `eq` of the automata.
     fn eq(&self, other: &State) -> bool
         ensures same { IsTrue result ↔ IsSameState (bare self.now) (bare other.now) }
     {
@@ -30,7 +30,7 @@ impl PartialEq for Dfa {
 
     ghost laws = { Cmp.partial_equiv_from_equiv automaton_equiv };
 
-    /// Whether there are as many states, and at each number equal ones with equal test edges.
+    /// Whether both have the same number of states, and at each number equal states with equal test edges.
     fn eq(&self, other: &Dfa) -> bool
         ensures same { IsTrue result ↔ IsSameAutomaton self.now other.now }
     {
@@ -50,7 +50,7 @@ impl Eq for Dfa {
     ghost laws = { automaton_equiv };
 }
 
-// Whether the states with this number are equal, and their test edges.
+// Whether the states with this number are equal, and so are their test edges.
 fn is_same_at(left: &Dfa, right: &Dfa, index: DfaStateIndex) -> bool
     requires left { index < length left.now }
     requires right { index < length right.now }

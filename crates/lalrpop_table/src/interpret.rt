@@ -14,7 +14,7 @@ use super::{Dfa, Kind, NfaIndex, START};
 use lalrpop_ranges::Steps;
 
 /// The longest nonempty prefix of the text that some pattern matches, with the strongest pattern that matches it.
-/// `None` where no pattern matches any. Whatever automaton it is, the slice is a nonempty prefix of the text.
+/// `None` if no pattern matches one. For every automaton, the slice is a nonempty prefix of the text.
 pub fn interpret<'text>(dfa: &Dfa, input: &'text str) -> Option<(NfaIndex, &'text str)>
     ensures answer { (ts : List Tree) (ps : List ℕ) → Recognizes dfa.now ts ps
         → IsLongest ts ps input.now (option_map (λ m. (m.0, m.1.now)) result) }
@@ -23,7 +23,7 @@ pub fn interpret<'text>(dfa: &Dfa, input: &'text str) -> Option<(NfaIndex, &'tex
     interpret_counted(dfa, input, &mut Steps::new())
 }
 
-/// The same answer. A step is counted for each character read.
+/// The same answer. Counts a step for each character read.
 pub fn interpret_counted<'text>(
     dfa: &Dfa,
     input: &'text str,
@@ -40,8 +40,8 @@ pub fn interpret_counted<'text>(
     interpret_probed(dfa, input, steps, &mut Steps::new())
 }
 
-/// The same answer and the same steps. A probe is counted for each range of an edge that is compared with a character:
-/// for each character at most as many as the greatest number of test edges of a state has binary digits.
+/// The same answer and the same steps. Counts a probe for each range of an edge that is compared with a character: for
+/// each character, at most the number of binary digits of the greatest number of test edges of a state.
 pub fn interpret_probed<'text>(
     dfa: &Dfa,
     input: &'text str,
@@ -58,7 +58,7 @@ pub fn interpret_probed<'text>(
     ensures probed { (n d : ℕ) → HaveAtMost dfa.now n → n < 2 ^ d
         → probes.new ≤ probes.old + length (chars input.now) * d }
 {
-    // There is a state, so START is one.
+    // There is a state, so START exists.
     let _states = dfa.states();
     let mut state = START;
     let mut longest = None;

@@ -1,8 +1,8 @@
 //! The automaton of a list of patterns: its states and edges, and running it.
 //!
-//! A state says of the word that leads to it which pattern matches it, and has test edges, ascending, and an other edge. The
-//! test edges of all states stand in one list. What builds an automaton writes its states, one by one, as rows, and an
-//! automaton is made of them once each edge leads to a state.
+//! The kind of a state says which pattern matches the words that lead to it. A state has test edges, in ascending order, and
+//! an other edge. The test edges of all states are in one list. A builder writes the states one by one, as rows, and the
+//! rows become an automaton once each edge leads to a state.
 #![tactic(auto)]
 
 mod clone;
@@ -25,7 +25,7 @@ use std::marker::Model;
 /// What a state says of the word that leads to it.
 #[derive(Clone, Debug, PartialEq, Eq, Drop)]
 pub enum Kind {
-    /// The pattern at this place matches the word, and is the only strongest one.
+    /// The pattern with this index matches the word, and is the only strongest one.
     Accepts(NfaIndex),
     /// No pattern matches the word or any continuation of it.
     Reject,
@@ -38,7 +38,7 @@ pub enum Kind {
 pub struct State {
     item_set: ItemSet,
     kind: Kind,
-    // Of the automaton's test edges so many are the state's, from this place on.
+    // The state's test edges are `edge_count` of the automaton's, from this place on.
     first_edge: usize,
     edge_count: usize,
     other_edge: DfaStateIndex,
@@ -66,7 +66,7 @@ impl State {
         &self.kind
     }
 
-    /// The state that a value leads to which no test edge covers.
+    /// The state to which all values lead that no test edge covers.
     pub fn other_edge(&self) -> DfaStateIndex
         ensures other { result ≡ self.now.other }
     {
@@ -78,9 +78,9 @@ impl State {
 #[derive(Debug, Drop)]
 pub struct Dfa {
     rows: Rows,
-    // The place of each state's list among the lists, where it has one.
+    // The place of each state's list among the lists, if it has one.
     places: Vec<Option<usize>>,
-    // Where the values of ASCII lead from a state.
+    // Where the values of ASCII lead from a state that has a list.
     lists: Vec<[u32; LISTED]>,
 }
 

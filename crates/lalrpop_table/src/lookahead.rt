@@ -45,7 +45,7 @@ fn open_states(alloc: Global, dfa: &Dfa) -> Result<Vec<bool>, AllocError>
     Ok(marks)
 }
 
-// Of the states that can stay open for n values those that can for one more.
+// Of the states that can stay open for n values, those that can for n + 1.
 fn staying(alloc: Global, dfa: &Dfa, marks: &[bool]) -> Result<Vec<bool>, AllocError>
     requires same_length { length marks.now ≡ length dfa.now }
     ensures { IfOk result (λ next. (n : ℕ) → AreOpenFor dfa.now n marks.now
@@ -75,12 +75,12 @@ fn is_entered(dfa: &Dfa, marks: &[bool]) -> bool
     false
 }
 
-/// The greatest number of values that can follow a match and leave it open whether a longer one comes; nothing where
-/// there is no greatest.
+/// The greatest number of values that can follow a match and leave it open whether a longer one comes; `None` if the
+/// number has no bound.
 ///
 /// # Errors
 ///
-/// `AllocError` where a request for memory was refused.
+/// `AllocError` if a request for memory was refused.
 pub fn lookahead(alloc: Global, dfa: &Dfa) -> Result<Option<usize>, AllocError>
     ensures answer { IfOk result (λ n. IsLookahead dfa.now n) }
     ensures settled { IfOk result (λ found. IfSome found (λ n. (ts : List Tree) (ps : List ℕ)
@@ -99,7 +99,7 @@ pub fn lookahead(alloc: Global, dfa: &Dfa) -> Result<Option<usize>, AllocError>
     Ok(Some(count))
 }
 
-// The states that can stay open for ever.
+// The states that can stay open forever.
 fn ever_open(alloc: Global, dfa: &Dfa) -> Result<Vec<bool>, AllocError>
     ensures marks { IfOk result (λ marks. AreOpenEver dfa.now marks.items) }
     ensures well_formed { OnOk result (IsWellFormed dfa.now) }
@@ -114,7 +114,7 @@ fn ever_open(alloc: Global, dfa: &Dfa) -> Result<Vec<bool>, AllocError>
     }
 }
 
-// The pattern that the state accepts, where some value leads from it to a marked one.
+// The pattern that the state accepts, if some value leads from it to a marked state.
 fn entering(dfa: &Dfa, state: DfaStateIndex, marks: &[bool]) -> Option<usize>
     requires within { state < length dfa.now }
     requires same_length { length marks.now ≡ length dfa.now }
@@ -132,7 +132,7 @@ fn entering(dfa: &Dfa, state: DfaStateIndex, marks: &[bool]) -> Option<usize>
     }
 }
 
-// Marks the place too, if it is one.
+// Marks the place too, if there is one and the list has it.
 fn mark(marks: &mut Vec<bool>, place: Option<usize>)
     ensures same_length { length marks.new.items ≡ length marks.old.items }
     ensures marked { (i : ℕ) → i < length marks.old.items
@@ -145,12 +145,12 @@ fn mark(marks: &mut Vec<bool>, place: Option<usize>)
     }
 }
 
-/// For each of so many patterns, in their order, whether a match by it can stay open for ever: there is no number of characters
-/// that settles that no longer match comes.
+/// For each of `count` patterns, in order, whether a match by it can stay open forever: no number of characters after it is
+/// enough to settle that no longer match comes.
 ///
 /// # Errors
 ///
-/// `AllocError` where a request for memory was refused.
+/// `AllocError` if a request for memory was refused.
 pub fn open_patterns(alloc: Global, dfa: &Dfa, count: usize) -> Result<Vec<bool>, AllocError>
     ensures same_length { IfOk result (λ found. length found.items ≡ count) }
     ensures each { IfOk result (λ found. (i : ℕ) → i < count

@@ -1,4 +1,4 @@
-//! States with their test edges, which stand in one list for all of them.
+//! States with their test edges, which are in one list for all states.
 
 ghost use Rattle.std.specs.Prelude.{◌≡◌, ◌<◌, ◌++◌, ◌∷◌, [], length, slice_get, IsSomeAnd, OnOk};
 ghost use Rattle.lalrpop_table.specs.Dfa.{IsStored, AreStored};
@@ -9,7 +9,7 @@ use lalrpop_ranges::Test;
 use std::alloc::{AllocError, Global};
 use std::marker::Model;
 
-/// States, each with the place of its first test edge in the list of all of them, where its edges stand side by side.
+/// States, each with the place of its first test edge in the list of all test edges, where its edges are contiguous.
 #[derive(Debug, Drop)]
 pub struct Rows {
     states: Vec<State>,
@@ -68,13 +68,13 @@ impl Clone for Rows {
     }
 }
 
-/// Rows that are being written: the states that are there, and the test edges, so far, of the next one.
+/// Rows that are being written: the finished states, and the test edges so far of the next one.
 #[derive(Drop)]
 pub struct RowWriter {
     states: Vec<State>,
-    // The test edges of the states, and behind them those of the next one.
+    // The test edges of the states, and after them those of the next one.
     edges: Vec<(Test, DfaStateIndex)>,
-    // Where those of the next one begin.
+    // Where the edges of the next state begin.
     first_edge: usize,
 }
 
@@ -95,7 +95,7 @@ impl Model for RowWriter {
 }
 
 impl RowWriter {
-    /// No states, and no edge of the first one.
+    /// No states, and no edges of the first one.
     pub fn new(alloc: Global) -> RowWriter
         ensures rows { result.rows ≡ [] }
         ensures tests { result.tests ≡ [] }
@@ -107,7 +107,7 @@ impl RowWriter {
         }
     }
 
-    /// How many states there are.
+    /// The number of states.
     pub fn len(&self) -> usize
         ensures { result ≡ length self.now.rows }
     {
@@ -126,7 +126,7 @@ impl RowWriter {
     ///
     /// # Errors
     ///
-    /// `AllocError` where a request for memory was refused.
+    /// `AllocError` if a request for memory was refused.
     pub fn add_edge(&mut self, label: Test, target: DfaStateIndex) -> Result<(), AllocError>
         ensures rows { OnOk result (self.new.rows ≡ self.old.rows) }
         ensures tests { OnOk result (self.new.tests ≡ self.old.tests ++ (label, target) ∷ []) }
@@ -135,11 +135,11 @@ impl RowWriter {
         Ok(())
     }
 
-    /// Ends the next state, which holds the items: all values that no test edge holds lead to the other state.
+    /// Ends the next state, which holds these items. All values that no test edge covers lead to the other state.
     ///
     /// # Errors
     ///
-    /// `AllocError` where a request for memory was refused.
+    /// `AllocError` if a request for memory was refused.
     pub fn end_row(
         &mut self,
         item_set: ItemSet,
@@ -167,7 +167,7 @@ impl RowWriter {
         Ok(())
     }
 
-    /// The states. Edges of a next one are left out.
+    /// The states. Edges of an unfinished state are left out.
     pub fn into_rows(self) -> Rows
         ensures { result ≡ self.rows }
     {

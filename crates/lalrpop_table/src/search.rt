@@ -1,4 +1,4 @@
-//! Where a value leads from a state, found among the state's test edges.
+//! Finding where a value leads from a state, among the state's test edges.
 
 ghost use Rattle.std.specs.Prelude.{◌≡◌, ℕ, ◌+◌, ◌^◌, ◌<◌, ◌≤◌, length, slice_get, Some, IfSome, IfNone, IfOk};
 ghost use Rattle.std.specs.List.{Contains};
@@ -12,18 +12,18 @@ use super::{Dfa, DfaStateIndex};
 use lalrpop_ranges::{Steps, Test};
 use std::alloc::{AllocError, Global};
 
-/// So many values have their targets from a state in its list: those of ASCII.
+/// The number of values whose targets a state's list has: those of ASCII.
 pub(super) const LISTED: usize = 128;
 
-// A state with fewer test edges has no list: so the lists take at most 128 bytes for each test edge.
+// A state with fewer test edges has no list, so the lists take at most 128 bytes for each test edge.
 const LEAST_EDGES: usize = 4;
 
 impl Dfa {
-    /// The automaton of these states.
+    /// The automaton with these states.
     ///
     /// # Errors
     ///
-    /// `AllocError` where a request for memory was refused.
+    /// `AllocError` if a request for memory was refused.
     pub fn new(alloc: Global, rows: Rows) -> Result<Dfa, AllocError>
         requires { IsWellFormed rows }
         ensures { IfOk result (λ dfa. dfa ≡ rows) }
@@ -67,7 +67,7 @@ impl Dfa {
 }
 
 impl Rows {
-    // Where the values of ASCII lead from the state; nothing where it has few test edges, or a target beyond 32 bits.
+    // Where the values of ASCII lead from the state; `None` if it has few test edges, or a target beyond 32 bits.
     fn list_of(&self, state: DfaStateIndex) -> Option<[u32; LISTED]>
         requires well_formed { IsWellFormed self.now }
         requires within { state < length self.now }
@@ -80,7 +80,7 @@ impl Rows {
         list_by(edges, self.state(state).other_edge())
     }
 
-    /// The state that the value leads to: by the test edge that holds it, or else by the other edge.
+    /// The state that the value leads to: by the test edge that covers it, otherwise by the other edge.
     fn step(&self, state: DfaStateIndex, value: u32, probes: &mut Steps) -> DfaStateIndex
         requires well_formed { IsWellFormed self.now }
         requires within { state < length self.now }
@@ -97,7 +97,7 @@ impl Rows {
     }
 }
 
-// Where the values of ASCII lead by these edges, or else by the other edge; nothing where a target is beyond 32 bits.
+// Where the values of ASCII lead by these edges, otherwise by the other edge; `None` if a target is beyond 32 bits.
 fn list_by(edges: &[(Test, DfaStateIndex)], other: DfaStateIndex) -> Option<[u32; LISTED]>
     requires { AreAscendingTests edges.now }
     ensures { IfSome result (λ targets. (c : ℕ) → c < 128
@@ -112,7 +112,7 @@ fn list_by(edges: &[(Test, DfaStateIndex)], other: DfaStateIndex) -> Option<[u32
     Some(targets)
 }
 
-// Where the value leads. The place goes on to the first edge that does not end before the value.
+// Where the value leads. The place moves on to the first edge that does not end before the value.
 fn walk_to(
     value: u32,
     edges: &[(Test, DfaStateIndex)],
@@ -133,7 +133,7 @@ fn walk_to(
     }
 }
 
-// Where the edge leads whose range holds the value. The edges ascend, so each probe leaves less than half of them.
+// The target of the edge whose range covers the value. The edges ascend, so each probe leaves less than half of them.
 fn target_of(
     edges: &[(Test, DfaStateIndex)],
     value: u32,

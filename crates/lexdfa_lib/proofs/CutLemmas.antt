@@ -1,4 +1,4 @@
--- What the calls of `next` give of a text, as tokens and as lines.
+-- What the calls of `next` return for a text, as tokens and as lines.
 use Rattle.std.proofs.Common.{◌≡◌, ℕ, ◌+◌, ◌≤◌, true, inl, List, [], ◌∷◌, ◌++◌, length, map, refl, sym, ap, subst, ◌∙◌, append-nil, arith, length-append}
 use Rattle.std.specs.Prelude.{Option, Some, Ok, Err, flat_map}
 use Rattle.std.specs.Iterator.{Yields, Drains}
@@ -17,7 +17,7 @@ use Rattle.lexdfa_lib.specs.Whole.{Token, Cuts, token_line, AreAnswers}
 use Rattle.lexdfa_lib.specs.declared.outcome.Outcome.{Outcome}
 use Rattle.lexdfa_lib.specs.declared.outcome.Outcome.TheVariants.{Stopped}
 
--- one item more
+-- one more item
 pub items_more : (s r t u : Cutting) (xs : List Item) (o : Option Item) (x : Item) → r ≡ s → Yields GivesItem r xs t → o ≡ Some x → GivesItem t o u
     → Yields GivesItem s (xs ++ x ∷ []) u
 items_more s r t u xs o x same y is g =
@@ -31,14 +31,14 @@ fault_is_last s r t u xs o x fault same y is failed g =
     let over : u.is_over ≡ true = ap (λ (x : Cutting). x.is_over) gives.4 in
     (u, (u, items_more s r t u xs o x same y is g, (refl, inl over)))
 
--- there are fewer items than bytes where one more is there
+-- there are fewer items than bytes if one more item comes
 pub one_more : (text : List ℕ) (xs : List Item) (x : Item) (n : ℕ) (tokens : List Token) → IsUtf8 text → length (xs ++ x ∷ []) ≤ length (chars text) → xs ≡ map Ok tokens
     → n ≡ length tokens → n + 1 ≤ length text
 one_more text xs x n tokens u le are count =
     let same : length xs ≡ length tokens = rw (are, length-map) refl in
     omega (arith, length-append xs (x ∷ []), length-le-encodes (chars text), ap length (encodes-chars text u))
 
--- one token more
+-- one more token
 pub tokens_more : (xs : List Item) (x : Item) (tokens : List Token) (token : Token) → xs ≡ map Ok tokens → x ≡ Ok token → xs ++ x ∷ [] ≡ map Ok (tokens ++ token ∷ [])
 tokens_more xs x tokens token are is = rw (are, is, map-append) refl
 
@@ -52,7 +52,7 @@ lines_more v w tokens token is before =
     ∙ ap (λ (l : List ℕ). flat_map token_line tokens ++ l) (sym (append-nil (token_line token)))
     ∙ sym (flat_map-append token_line tokens (token ∷ []))
 
--- the lines of tokens, and then that of the outcome
+-- the lines of tokens, and then the line of the outcome
 pub told : (ts : List Tree) (ps text : List ℕ) (tokens : List Token) (a o : Outcome) (v w : List ℕ) → a ≡ o → v ≡ w ++ line_of o → w ≡ flat_map token_line tokens
     → Cuts ts ps text tokens o → Cuts ts ps text tokens a × (v ≡ flat_map token_line tokens ++ line_of a)
 told ts ps text tokens a o v w same lines before cuts =
@@ -65,7 +65,7 @@ fault_ends ts ps text tokens xs x fault n are is count items =
     let parts : xs ++ x ∷ [] ≡ map Ok tokens ++ Err fault ∷ [] = rw (are, is) refl in
     (subst (λ (ys : List Item). AreItems ts ps text 0 ys) parts items, count)
 
--- what is reported is all that is told
+-- if something is reported, nothing else is written
 pub told_alone : (bytes text : List ℕ) (a o : Outcome) (v w : List ℕ) → a ≡ o → v ≡ w ++ line_of o → w ≡ [] → IsReported bytes o → AreAnswers bytes text a v
 told_alone bytes text a o v w same lines none reported =
     ([], (inl (subst (λ (x : Outcome). IsReported bytes x) (sym same) reported, refl), lines ∙ ap (λ (l : List ℕ). l ++ line_of o) none ∙ ap (λ (x : Outcome). line_of x) (sym same)))

@@ -1,4 +1,4 @@
--- The answer to some bytes and a text is one.
+-- The answer to some bytes and a text is unique.
 use Rattle.std.proofs.Common.{◌≡◌, ℕ, ◌<◌, ◌⊎◌, inl, inr, List, length, Some, None, refl, sym, ap, subst}
 use Rattle.std.specs.Prelude.{slice_get}
 use Rattle.std.proofs.lemmas.Bool.{cases_order}
@@ -88,7 +88,7 @@ told-unique bytes a b h g =
     let here = subst (λ ps. Reports h.0 ps b) (sym same.1) there in
     reports-unique h.0 h.1.0 a b h.1.1.1 here
 
--- the outcome that tells that a line is no terminal
+-- the outcome that says that a line is not a terminal
 abbrev stop : Meaning → ℕ → Outcome
 stop Bad i = Line i
 stop NoTree i = Syntax i
@@ -123,7 +123,7 @@ stops-unique bytes a b h g =
     let also : b ≡ stop g.said g.line = g.told in
     cc
 
--- the bytes report one thing
+-- the bytes report only one thing
 pub reported-unique : (bytes : List ℕ) (a b : Outcome) → IsReported bytes a → IsReported bytes b → a ≡ b
 reported-unique bytes a b h g = by_kind (stops_or_told bytes a h) (stops_or_told bytes b g)
   where

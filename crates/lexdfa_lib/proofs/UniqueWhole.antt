@@ -1,4 +1,4 @@
--- The answer to some bytes and a text that is cut into tokens is one.
+-- The answer to some bytes and a text that is cut into tokens is unique.
 use Rattle.std.proofs.Common.{◌≡◌, ℕ, suc, ◌+◌, inl, inr, List, [], ◌∷◌, ◌++◌, length, map, drop, refl, sym, ap, subst, ◌∙◌, append-nil}
 use Rattle.std.specs.Prelude.{Option, Some, None, Ok, Err, flat_map}
 use Rattle.lalrpop_book.specs.Tree.{Tree}
@@ -11,7 +11,7 @@ use Rattle.lexdfa_lib.specs.declared.outcome.Outcome.{Outcome}
 use Rattle.lexdfa_lib.specs.declared.outcome.Outcome.TheVariants.{Match, NoMatch, All, Stopped, Refused, Ambiguous, Syntax, Line}
 use Rattle.lexdfa_lib.proofs.Unique.{parts-unique, reported-unique, automaton-unique, reported_or_automaton}
 
--- the fault behind the tokens, if any
+-- the fault after the tokens, if any
 abbrev end : Option ℕ → List Item
 end None = []
 end (Some at) = Err (record { at = at }) ∷ []
@@ -29,7 +29,7 @@ match_at_end ts rest p e m = m.1 (no_part p m.0.0 (sym e ∙ m.0.1.0))
     no_part [] q e = refl
     no_part (b ∷ p) q e = absurd (cc)
 
--- there is no token where there is none
+-- where nothing matches there is no token
 end_or_token : (ts : List Tree) (ps text : List ℕ) (at : ℕ) (l : Token) (f : Option ℕ) → AreItems ts ps text at (end f) → IsLongest ts ps (drop at text) (Some (l.0, l.1.now)) → ⊥
 end_or_token ts ps text at l None h g = match_at_end ts (drop at text) l.1.now h g.0
 end_or_token ts ps text at l (Some a) h g = h.1 l.1.now g.0

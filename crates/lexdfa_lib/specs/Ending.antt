@@ -7,13 +7,13 @@ use Rattle.lexdfa_lib.specs.declared.ending.Failure.TheVariants.{Usage, Run}
 use Rattle.lexdfa_lib.specs.declared.error.RunError.TheVariants.{OutOfMemory, Read, Write}
 use Rattle.lexdfa_lib.specs.declared.outcome.Outcome.{Outcome}
 
--- the exit status: 4 where the arguments are wrong
+-- the exit status: 4 if the arguments are wrong
 abbrev pub ending_status : Result Outcome Failure → ℕ
 ending_status (Ok outcome) = outcome_status outcome
 ending_status (Err Usage) = 4
 ending_status (Err (Run error)) = error_status error
 
--- the line on standard error, where there is no outcome
+-- the line on standard error, if there is no outcome
 abbrev pub ending_message : Result Outcome Failure → Option (List ℕ)
 ending_message (Ok outcome) = None
 ending_message (Err Usage) = Some (codes "lexdfa: usage: lexdfa [--all] TEXT\n")

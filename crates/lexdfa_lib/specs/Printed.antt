@@ -1,5 +1,5 @@
 -- cases: proofs/Cases/Printed.antt
--- The line that tells an outcome.
+-- The line of an outcome.
 use Rattle.std.specs.Prelude.{ℕ, List, [], ◌++◌, codes, decimal, flat_map}
 use Rattle.lalrpop_book.specs.declared.error.NfaConstructionError.{NfaConstructionError}
 use Rattle.lalrpop_book.specs.declared.error.NfaConstructionError.TheVariants.{NamedCaptures, NonGreedy, LookAround, ByteRegex, OutOfMemory}
@@ -15,7 +15,7 @@ name_of LookAround = codes "LookAround"
 name_of ByteRegex = codes "ByteRegex"
 name_of OutOfMemory = codes "OutOfMemory"
 
--- the line, with its line feed; none where all of a text was cut, since each token has its own
+-- the line, with its line feed; empty if all of a text was cut, since each token has its own
 abbrev pub line_of : Outcome → List ℕ
 line_of (Match terminal bytes) = codes "match " ++ decimal terminal ++ (codes " " ++ decimal bytes ++ codes "\n")
 line_of NoMatch = codes "none\n"

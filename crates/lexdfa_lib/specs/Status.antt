@@ -6,8 +6,8 @@ use Rattle.lexdfa_lib.specs.declared.error.RunError.TheVariants.{OutOfMemory, Re
 use Rattle.lexdfa_lib.specs.declared.outcome.Outcome.{Outcome}
 use Rattle.lexdfa_lib.specs.declared.outcome.Outcome.TheVariants.{Match, NoMatch, All, Stopped, Refused, Ambiguous, Syntax, Line}
 
--- 0 for a match and for a text that is tokens alone, 1 where nothing matches at its front or at a fault, 2 where no automaton was
--- made, 3 where the input is wrong
+-- 0 for a match and for a text cut to its end, 1 if nothing matches at its front or at a fault, 2 if no automaton was
+-- made, 3 if the input is wrong
 abbrev pub outcome_status : Outcome → ℕ
 outcome_status (Match terminal bytes) = 0
 outcome_status NoMatch = 1

@@ -9,7 +9,7 @@ pub record Watch (T : Type 0) : Type 0 where
   pub failed : Bool
   pub late : ℕ
 
--- so many late calls there are after one more
+-- the number of late calls after one more call
 abbrev pub late_after : {T : Type 0} → Watch T → ℕ
 late_after w = if w.failed then w.late + 1 else w.late
 
@@ -18,7 +18,7 @@ abbrev pub read_failed : {E : Type 0} → Result ℕ E → Bool
 read_failed (Ok n) = false
 read_failed (Err e) = true
 
--- the call failed, or took nothing of some bytes
+-- the call failed, or took none of some bytes
 abbrev pub write_failed : {E : Type 0} → List ℕ → Result ℕ E → Bool
 write_failed buf (Ok n) = (n == 0) && not (length buf == 0)
 write_failed buf (Err e) = true
@@ -27,6 +27,6 @@ write_failed buf (Err e) = true
 abbrev pub ReadsAll : Option (List ℕ) → Option (List ℕ) → List ℕ → Type 0
 ReadsAll old new bytes = Consumes old new bytes × IsAtEnd new
 
--- known bytes grow by a prefix of these
+-- the bytes so far grow by a prefix of these
 abbrev pub AppendsPrefix : Option (List ℕ) → Option (List ℕ) → List ℕ → Type 0
 AppendsPrefix old new bytes = (n : ℕ) × (n ≤ length bytes) × Appends old new (take n bytes)

@@ -11,17 +11,17 @@ use Rattle.lexdfa_lib.specs.Watch.{ReadsAll, AppendsPrefix}
 use Rattle.lexdfa_lib.specs.declared.outcome.Outcome.{Outcome}
 use Rattle.lexdfa_lib.specs.declared.outcome.Outcome.TheVariants.{Match, All, Stopped}
 
--- a token: the place of a terminal, and a slice
+-- a token: the index of a terminal, and a slice
 abbrev pub Token : Type 0
 Token = ℕ × Bor (List ℕ)
 
--- what trees with these precedences cut the text into where there is an automaton: tokens up to its end, or up to a fault
+-- what trees with these precedences cut the text into if they have an automaton: tokens up to its end, or up to a fault
 abbrev pub Cuts : List Tree → List ℕ → List ℕ → List Token → Outcome → Type 0
 Cuts ts ps text tokens (All n) = AreItems ts ps text 0 (map Ok tokens) × (n ≡ length tokens)
 Cuts ts ps text tokens (Stopped n at) = AreItems ts ps text 0 (map Ok tokens ++ Err (record { at = at }) ∷ []) × (n ≡ length tokens)
 Cuts ts ps text tokens _ = ⊥
 
--- the outcome for the bytes and the text, and the tokens before it: what the bytes report, behind no token; else what the
+-- the outcome for the bytes and the text, and the tokens before it: what the bytes report, with no tokens; otherwise what the
 -- terminals cut the text into
 abbrev pub IsWhole : List ℕ → List ℕ → List Token → Outcome → Type 0
 IsWhole bytes text tokens outcome =

@@ -2,7 +2,7 @@
 -- The program's arguments.
 use Rattle.std.specs.Prelude.{◌≡◌, ℕ, Bool, true, false, List, [], ◌∷◌, codes}
 
--- the words are a text alone; or they are `--all` and a text, all of which is to be cut
+-- the arguments are one text; or they are `--all` and a text, all of which is to be cut
 abbrev pub AreArguments : List (List ℕ) → Bool → List ℕ → Type 0
 AreArguments words false text = words ≡ text ∷ []
 AreArguments words true text = words ≡ codes "--all" ∷ text ∷ []

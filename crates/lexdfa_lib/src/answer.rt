@@ -1,4 +1,4 @@
-//! The whole run: bytes are read, terminals are built, one line is written.
+//! The whole run: read bytes, build terminals, write one line.
 ghost use Rattle.std.specs.Prelude.{◌≡◌, ◌≢◌, ℕ, List, false, true, map, length, IfOk, OnOk, IfErr, OnErr};
 ghost use Rattle.std.specs.Io.KnownBytes.{Appends};
 ghost use Rattle.lexdfa_lib.specs.Answer.{IsOutcome, ReadsOutcome, WritesPrefix};
@@ -100,15 +100,15 @@ fn write_outcome<W: Write>(
     write_whole(writer, line.as_bytes())
 }
 
-/// Reads the reader to its end, and writes the line for what was read and the text.
+/// Reads the reader to its end, and writes the line for the bytes and the text.
 ///
 /// Each line of input is a terminal `P l TEXT` or `P r PATTERN`: a precedence of 1 to 20 decimal digits, a space, the letter
-/// `l` or `r`, a space, and a literal or a pattern. Each line ends at a line feed, which the last may lack. No error is tried
-/// again: whatever comes, no call of an end is made after one that failed.
+/// `l` or `r`, a space, and a literal or a pattern. Each line ends at a line feed, which the last may lack. Nothing is tried
+/// again: after a call of the reader or the writer failed, no further call of it is made.
 ///
 /// # Errors
 ///
-/// `OutOfMemory` where a request for memory was refused, and `Read` where a read failed: nothing was written. `Write` where a
+/// `OutOfMemory` if a request for memory was refused, and `Read` if a read failed: nothing was written. `Write` if a
 /// write failed or took no byte: a prefix of the line was written.
 pub fn run<R: Read, W: Write>(
     alloc: Global,

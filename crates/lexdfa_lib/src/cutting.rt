@@ -1,4 +1,4 @@
-//! A text cut into tokens: the line of each, and what they come to.
+//! A text cut into tokens: the line of each, and the outcome.
 ghost use Rattle.std.specs.Prelude.{◌≡◌, ◌++◌, ℕ, List, length, map, flat_map, string_bytes, IfOk, OnOk};
 ghost use Rattle.lalrpop_book.specs.Tree.{Tree};
 ghost use Rattle.lalrpop_lexer.specs.Dfa.{Recognizes};
@@ -16,7 +16,7 @@ use lalrpop_lexer::lexer::re::Regex;
 use lalrpop_lexer::{Terminals, read_terminals, tokens};
 use std::alloc::{AllocError, Global};
 
-/// What is found in a whole text, and all its lines.
+/// The outcome for a whole text, and all its lines.
 #[derive(Drop)]
 pub(crate) struct Answers {
     pub(crate) outcome: Outcome,
@@ -32,7 +32,7 @@ fn push_token(lines: &mut String, index: NfaIndex, slice: &str) -> Result<(), Al
     write!(lines, "match {terminal} {bytes}\n")
 }
 
-// These lines, and behind them that of the outcome.
+// These lines, and after them the line of the outcome.
 fn with_outcome(alloc: Global, mut lines: String, outcome: Outcome) -> Result<Answers, AllocError>
     ensures { IfOk result (λ answers. (answers.outcome ≡ outcome)
         × (string_bytes answers.lines ≡ string_bytes lines ++ line_of outcome)) }
@@ -68,7 +68,7 @@ fn cut(alloc: Global, dfa: &Dfa, text: &str) -> Result<Answers, AllocError>
     with_outcome(alloc, lines, Outcome::All { tokens: count })
 }
 
-// What the patterns cut the text into.
+// The tokens into which the patterns cut the text.
 fn cut_by(
     alloc: Global,
     regexs: &[Regex],
@@ -90,7 +90,7 @@ fn cut_by(
 ///
 /// # Errors
 ///
-/// `AllocError` where a request for memory was refused.
+/// `AllocError` if a request for memory was refused.
 pub(crate) fn answers_of(alloc: Global, bytes: &[u8], text: &str) -> Result<Answers, AllocError>
     ensures answers { IfOk result (λ answers.
         AreAnswers bytes.now text.now answers.outcome (string_bytes answers.lines)) }

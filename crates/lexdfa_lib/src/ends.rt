@@ -8,11 +8,11 @@ use crate::watched::Watched;
 use std::alloc::Global;
 use std::io::{Read, Write};
 
-/// All bytes that the reader has left. No error is tried again, and the first ends the reading.
+/// All bytes that the reader has left. Nothing is tried again: the first error ends the reading.
 ///
 /// # Errors
 ///
-/// `Read` where a read failed, and `OutOfMemory` where a request for memory was refused.
+/// `Read` if a read failed, and `OutOfMemory` if a request for memory was refused.
 pub fn read_whole<R: Read>(alloc: Global, reader: &mut Watched<R>) -> Result<Vec<u8>, RunError>
     requires reader_good { reader.old.failed ≡ false }
     ensures no_late_read { reader.new.late ≡ reader.old.late }
@@ -38,11 +38,11 @@ pub fn read_whole<R: Read>(alloc: Global, reader: &mut Watched<R>) -> Result<Vec
     }
 }
 
-/// Writes all bytes. No error is tried again, and the first ends the writing.
+/// Writes all bytes. Nothing is tried again: the first error ends the writing.
 ///
 /// # Errors
 ///
-/// `Write` where a write failed or took no byte: a prefix of the bytes was written.
+/// `Write` if a write failed or took no byte: a prefix of the bytes was written.
 pub fn write_whole<W: Write>(writer: &mut Watched<W>, bytes: &[u8]) -> Result<(), RunError>
     requires writer_good { writer.old.failed ≡ false }
     ensures no_late_write { writer.new.late ≡ writer.old.late }

@@ -21,17 +21,17 @@ pub enum Outcome {
     All {
         tokens: usize,
     },
-    /// Behind this many tokens, no terminal matches a nonempty prefix of the rest, which begins at this byte of the text.
+    /// After this many tokens, no terminal matches a nonempty prefix of the rest, which begins at this byte of the text.
     Stopped {
         tokens: usize,
         at: usize,
     },
-    /// The terminal is the first that can't be compiled.
+    /// This terminal is the first that can't be compiled.
     Refused {
         terminal: usize,
         error: NfaConstructionError,
     },
-    /// The word is the shortest, then least, that has no one strongest terminal; these are its two last strongest terminals.
+    /// The word is the shortest, then least, with two or more strongest terminals; these are the last two of them.
     Ambiguous {
         match0: usize,
         match1: usize,
@@ -48,8 +48,8 @@ pub enum Outcome {
 }
 
 impl Outcome {
-    /// The exit status: 0 for a match and for all tokens of a text, 1 where nothing matches the text
-    /// or its rest, 2 where no automaton was made, 3 where the input is wrong.
+    /// The exit status: 0 for a match and for all tokens of a text, 1 if nothing matches the text
+    /// or its rest, 2 if no automaton was made, 3 if the input is wrong.
     pub fn status(&self) -> u8
         ensures status { result ≡ outcome_status self.now }
     {
@@ -78,12 +78,12 @@ fn error_name(error: &NfaConstructionError) -> &'static str
     }
 }
 
-/// The line of a clash, with its line feed: the two terminals in decimal digits, and each value of the word in lower-case
-/// hexadecimal digits.
+/// The line of a clash, with its line feed: the numbers of the two terminals in decimal, and each value of the word in
+/// lower-case hexadecimal.
 ///
 /// # Errors
 ///
-/// `AllocError` where a request for memory was refused.
+/// `AllocError` if a request for memory was refused.
 pub fn clash_line(
     alloc: Global,
     match0: usize,
@@ -100,7 +100,7 @@ pub fn clash_line(
 ///
 /// # Errors
 ///
-/// `AllocError` where a request for memory was refused.
+/// `AllocError` if a request for memory was refused.
 pub fn outcome_line(alloc: Global, outcome: &Outcome) -> Result<String, AllocError>
     ensures line { IfOk result (λ line. string_bytes line ≡ line_of outcome.now) }
 {

@@ -1,4 +1,4 @@
-//! What is reported of terminals where there is no automaton.
+//! What is reported of terminals that have no automaton.
 ghost use Rattle.std.specs.Prelude.{◌≡◌, ℕ, List, IfOk, OnErr};
 ghost use Rattle.lalrpop_book.specs.Tree.{Tree};
 ghost use Rattle.lalrpop_lexer.specs.Report.{IsReport};
@@ -11,11 +11,11 @@ use crate::word::Word;
 use lalrpop_lexer::lexer::dfa::DfaConstructionError;
 use std::alloc::AllocError;
 
-/// The outcome of terminals for which no automaton was made, or whose clashes can't be listed.
+/// The outcome for terminals of which no automaton was made, or whose clashes can't be listed.
 ///
 /// # Errors
 ///
-/// `AllocError` where a request for memory was refused.
+/// `AllocError` if a request for memory was refused.
 pub fn reported(error: DfaConstructionError) -> Result<Outcome, AllocError>
     ensures ok { IfOk result (λ outcome. (bytes : List ℕ) (ts : List Tree) (ps : List ℕ)
         → AreTerminals (lines bytes) ts ps → IsReport ts ps error → IsReported bytes outcome) }

@@ -13,7 +13,7 @@ use std::marker::Model;
 pub struct Watched<T> {
     inner: T,
     failed: bool,
-    // The calls after one that failed, counted for contracts alone.
+    // The number of calls after one that failed, which only contracts read.
     late: Steps,
 }
 
@@ -26,7 +26,7 @@ impl<T> Model for Watched<T> {
 }
 
 impl<T> Watched<T> {
-    /// Holds an end, of which no call has failed.
+    /// Holds a reader or a writer of which no call has failed.
     pub fn new(inner: T) -> Watched<T>
         ensures new { result ≡ record { inner = inner; failed = false; late = 0 } }
     {
@@ -44,7 +44,7 @@ impl<T> Watched<T> {
         self.failed
     }
 
-    /// Gives the end back.
+    /// Returns the reader or the writer.
     pub fn into_inner(self) -> T
         ensures inner { result ≡ self.inner }
     {
@@ -56,7 +56,7 @@ impl<T> Watched<T> {
         inner
     }
 
-    // Each call of the end begins with this.
+    // Each call begins with this.
     fn note_call(&mut self)
         ensures { self.new ≡ record self.old { late = late_after self.old } }
     {
@@ -67,7 +67,7 @@ impl<T> Watched<T> {
 }
 
 impl<R: Read> Watched<R> {
-    /// Passes one `read` on: gives the number of bytes that were put at the front of `buf`.
+    /// Passes one `read` on, and returns the number of bytes that were put at the front of `buf`.
     ///
     /// # Errors
     ///
@@ -89,7 +89,7 @@ impl<R: Read> Watched<R> {
 }
 
 impl<W: Write> Watched<W> {
-    /// Passes one `write` on: gives the number of bytes of `buf` that were taken. A write that takes nothing of some bytes
+    /// Passes one `write` on, and returns the number of bytes of `buf` that were taken. A write that takes none of some bytes
     /// counts as failed.
     ///
     /// # Errors

@@ -1,4 +1,4 @@
-//! The run over a whole text: bytes are read, terminals are built, a line is written for each token.
+//! The run over a whole text: read bytes, build terminals, write a line for each token.
 ghost use Rattle.std.specs.Prelude.{◌≡◌, ◌≢◌, false, true, string_bytes, IfOk, OnOk, IfErr};
 ghost use Rattle.lexdfa_lib.specs.Whole.{ReadsAnswers, WritesAnswers, WritesAnswersPrefix};
 
@@ -31,14 +31,14 @@ fn read_answers<R: Read>(
 }
 
 /// Reads the reader to its end, cuts the whole text into tokens by the terminals that were read, and writes a line for each
-/// token, and behind them a line where a fault ends them. Where there is no automaton it writes the one line of `run`.
+/// token, and then a line for the fault, if there is one. If there is no automaton, it writes the one line of `run`.
 ///
-/// Input is read as `run` reads it. All lines are made before the first is written. No error is tried again: whatever comes, no
-/// call of an end is made after one that failed.
+/// Input is read as by `run`. All lines are made before the first is written. Nothing is tried again: after a call of the
+/// reader or the writer failed, no further call of it is made.
 ///
 /// # Errors
 ///
-/// `OutOfMemory` where a request for memory was refused, and `Read` where a read failed: nothing was written. `Write` where a
+/// `OutOfMemory` if a request for memory was refused, and `Read` if a read failed: nothing was written. `Write` if a
 /// write failed or took no byte: a prefix of the lines was written.
 pub fn run_all<R: Read, W: Write>(
     alloc: Global,

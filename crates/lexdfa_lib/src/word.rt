@@ -7,7 +7,7 @@ ghost use Rattle.lexdfa_lib.specs.Word.{value_text};
 use std::fmt;
 use std::marker::Model;
 
-/// A word: the code values of its characters, in order. Two words are equal where their values are.
+/// A word: the code values of its characters, in order. Two words are equal if their values are.
 #[derive(Debug, Drop)]
 pub struct Word {
     values: Vec<u32>,
@@ -36,7 +36,7 @@ impl Word {
         &self.values
     }
 
-    /// Gives the values back. This takes no memory.
+    /// Returns the values. This takes no memory.
     pub fn into_vec(self) -> Vec<u32>
         ensures values { result.items ≡ self }
     {
@@ -45,7 +45,7 @@ impl Word {
     }
 }
 
-/// Each value behind a space, in lower-case hexadecimal digits.
+/// Each value after a space, in lower-case hexadecimal.
 impl fmt::Display for Word {
     ghost output = { λ word. Some (flat_map value_text word) };
 

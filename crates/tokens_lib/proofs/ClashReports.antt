@@ -1,4 +1,4 @@
--- What is written and reported of all clashes.
+-- What is written and reported for all clashes.
 use Rattle.std.proofs.Common.{◌≡◌, ℕ, List, [], ◌∷◌, flat_map, sym, subst}
 use Rattle.std.specs.Prelude.{Option}
 use Rattle.lalrpop_book.specs.Tree.{Tree}

@@ -1,5 +1,5 @@
--- The first tokens of a text, as the calls of `next` give them: their places, and that what is written of them is what any list of
--- all tokens begins with.
+-- The first tokens of a text, as the calls of `next` return them: their places, and that what is written for them begins what
+-- is written for any list of all tokens.
 use Rattle.std.proofs.Common.{◌≡◌, ℕ, ◌+◌, List, [], ◌∷◌, ◌++◌, length, drop, codes, decimal, refl, sym, ap, subst, ◌∙◌, append_assoc, arith, length-append, add-zero, zero-add}
 use Rattle.std.proofs.lemmas.Str.{IsUtf8-nil, IsUtf8-append}
 use Rattle.std.specs.Prelude.{Option, Some, None, Result, Ok, Err, unwrap_or}
@@ -47,7 +47,7 @@ nothing_left ts ps rest p i none h = h.0.1 (empty_front p h.0.0.0 (sym none ∙ 
     empty_front [] q e = refl
     empty_front (b ∷ p) q e = absurd (cc)
 
--- two matches that are the same have one number and one slice
+-- two equal matches have the same number and the same slice
 same_parts : (i j : ℕ) (p q : List ℕ) → ◌≡◌ {A = Option (ℕ × List ℕ)} (Some (i, p)) (Some (j, q)) → (i ≡ j) × (p ≡ q)
 same_parts i j p q e =
     let both : ◌≡◌ {A = ℕ × List ℕ} (i, p) (j, q) = ap (λ (o : Option (ℕ × List ℕ)). unwrap_or o (i, p)) e in
@@ -61,7 +61,7 @@ abbrev line_with : Option (List ℕ) → List ℕ → ℕ → ℕ → List ℕ �
 line_with file text start index slice =
     place_text file text start ++ (decimal index ++ (codes " " ++ (decimal (length slice) ++ (codes " " ++ (quoted slice ++ codes "\n")))))
 
--- tokens of one place that are the longest match there have one line
+-- tokens at one place that are the longest match there have the same line
 same_token : (file : Option (List ℕ)) (ts : List Tree) (ps text : List ℕ) (at : ℕ) (x y : Token) → y.start ≡ at → x.start ≡ at
     → IsLongest ts ps (drop at text) (Some (y.index, y.slice.now)) → IsLongest ts ps (drop at text) (Some (x.index, x.slice.now))
     → (token_line file text x ≡ token_line file text y) × (length x.slice.now ≡ length y.slice.now)
@@ -91,7 +91,7 @@ begins file ts ps text at (Ok y ∷ ys) (Ok x ∷ xs) f a =
           ∙ sym (append_assoc (token_line file text y) (token_lines file text ys) others.0),
     )
 
--- there is one list of all lines
+-- the list of all lines is unique
 pub lines-unique : (file : Option (List ℕ)) (ts : List Tree) (ps text : List ℕ) (at n : ℕ) (xs ys : List (Result Token TokenFault))
     → AreTokens ts ps text at xs → AreTokens ts ps text at ys → (token_lines file text xs ≡ token_lines file text ys) × (outcome_behind n xs ≡ outcome_behind n ys)
 lines-unique file ts ps text at n [] [] a b = (refl, refl)
@@ -115,7 +115,7 @@ all-unique file ts ps text xs ys a b = let same = lines-unique file ts ps text 0
 
 -- ---- places
 
--- the place where the rest begins lies behind the tokens, which are UTF-8
+-- the place where the rest begins is after the tokens, which are UTF-8
 moved : (s t : Cutting) (ys : List (Result Token TokenFault)) → Yields GivesToken s ys t
     → (front : List ℕ) × ((rest_of s ≡ front ++ rest_of t) × (IsUtf8 front × (t.at ≡ s.at + length front)))
 moved s t [] y = ([], (ap (λ (x : Cutting). rest_of x) y, (IsUtf8-nil, sym (ap (λ (x : Cutting). x.at) y) ∙ sym (add-zero s.at))))

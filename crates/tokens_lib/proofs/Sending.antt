@@ -1,4 +1,4 @@
--- Lines that are written part by part, and what an error leaves of them.
+-- Lines that are written part by part, and what is written after an error.
 use Rattle.std.proofs.Common.{◌≡◌, ◌≢◌, ℕ, ◌+◌, ◌≤◌, Bool, true, false, inl, List, [], ◌∷◌, ◌++◌, length, take, refl, sym, ap, subst, ◌∙◌, append_assoc, arith, length-append}
 use Rattle.std.proofs.Math.Seq.{take-append_seam, take-append-add}
 use Rattle.std.proofs.lemmas.List.{append-nil, take-append-le}
@@ -76,7 +76,7 @@ sent_last file ts ps text xs sent kept last a b c are e h k ys all =
     ap (λ (l : List ℕ). sent ++ l) (append-nil (kept ++ last)) ∙ sym (append_assoc sent kept last) ∙ e ∙ all-unique file ts ps text xs ys are all in
     subst (AppendsPrefix a c) bytes (AppendsPrefix-behind a b c sent (kept ++ last) [] h k)
 
--- nothing of them was
+-- nothing of them was sent
 pub sent_before : (file : Option (List ℕ)) (ts : List Tree) (ps text : List ℕ) (xs : List (Result Token TokenFault)) (sent kept last : List ℕ) (a b c : Option (List ℕ))
     → AreTokens ts ps text 0 xs → (sent ++ kept) ++ last ≡ text_lines file text xs → Appends a b sent → c ≡ b
     → WritesTokensPrefix ts ps file text a c
@@ -98,7 +98,7 @@ at_the_last contents (Err OutOfMemory) old new file ts ps text xs sent kept last
 at_the_last contents (Err Read) old new file ts ps text xs sent kept last a are e h nothing part =
     sent_before file ts ps text xs sent kept last a (contents old.inner) (contents new.inner) are e h (ap (λ w. contents w.inner) (nothing (λ x. absurd (cc))))
 
--- ---- one token more
+-- ---- one more token
 
 pub step_of : (s u : Cutting) (x : Result Token TokenFault) (token : Token) → x ≡ Ok token → GivesToken s (Some x) u
     → (token.start ≡ s.at) × (s.at ≤ u.at)
@@ -130,7 +130,7 @@ pub yields_more : (s r t u : Cutting) (ys : List (Result Token TokenFault)) (x :
     → Yields GivesToken s (ys ++ x ∷ []) u
 yields_more s r t u ys x same y g = Yields-more GivesToken s ys t x u (subst (λ (r : Cutting). Yields GivesToken r ys t) same y) g
 
--- the first tokens that a lexer gives, and where the rest begins behind them
+-- the first tokens that a lexer returns, and where the rest begins after them
 pub first_of : (ts : List Tree) (ps : List ℕ) (s r t : Cutting) (text : List ℕ) (ys : List (Result Token TokenFault)) → r ≡ s → s ≡ start_of s.automaton text
     → IsBuiltFrom ts ps s.automaton → Yields GivesToken r ys t → AreFirst ts ps text 0 ys
 first_of ts ps s r t text ys same start built y =
@@ -160,7 +160,7 @@ count_fits text ys x count u e le = omega (arith, length-append ys (x ∷ []), l
 
 -- ---- the last line
 
--- nothing comes behind a fault
+-- nothing comes after a fault
 pub fault_ends : (s r t u : Cutting) (ys : List (Result Token TokenFault)) (x : Result Token TokenFault) (fault : TokenFault) → r ≡ s → Yields GivesToken r ys t
     → x ≡ Err fault → GivesToken t (Some x) u → Drains GivesToken s (ys ++ Err fault ∷ []) × (fault.at ≡ t.at)
 fault_ends s r t u ys x fault same y is g =

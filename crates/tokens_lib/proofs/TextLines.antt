@@ -7,7 +7,7 @@ use Rattle.lalrpop_book.specs.declared.token.TokenFault.{TokenFault}
 use Rattle.lexdfa_lib.specs.declared.outcome.Outcome.TheVariants.{All, Stopped}
 use Rattle.tokens_lib.specs.TokenLines.{token_line, token_lines, outcome_behind, last_line, text_lines}
 
--- these are tokens, so many, and their lines: whatever follows, what is written of all begins with them
+-- these are tokens, this many, and their lines; whatever follows, what is written for all begins with them
 pub record AreLinesOf (file : Option (List ℕ)) (text : List ℕ) (xs : List (Result Token TokenFault)) (lines : List ℕ) (count : ℕ) : Type 0 where
   pub on : (more : List (Result Token TokenFault)) → token_lines file text (xs ++ more) ≡ lines ++ token_lines file text more
   pub outcome : (more : List (Result Token TokenFault)) → outcome_behind 0 (xs ++ more) ≡ outcome_behind count more
@@ -24,7 +24,7 @@ one_more file text xs lines count token are = record {
   counted = omega (arith, are.counted, length-append xs (Ok token ∷ []));
 }
 
--- where nothing follows
+-- if nothing follows
 pub then_the_end : (file : Option (List ℕ)) (text : List ℕ) (xs : List (Result Token TokenFault)) (lines : List ℕ) (count : ℕ) → AreLinesOf file text xs lines count
     → (All count ≡ outcome_behind 0 xs) × (lines ++ last_line (All count) ≡ text_lines file text xs)
 then_the_end file text xs lines count are =
@@ -32,7 +32,7 @@ then_the_end file text xs lines count are =
     let tokens : lines ≡ token_lines file text xs = sym (append-nil lines) ∙ sym (are.on []) ∙ ap (token_lines file text) (append-nil xs) in
     (outcome, ap (λ l. l ++ last_line (All count)) tokens ∙ ap (λ o. token_lines file text xs ++ last_line o) outcome)
 
--- where a fault follows
+-- if a fault follows
 pub then_a_fault : (file : Option (List ℕ)) (text : List ℕ) (xs : List (Result Token TokenFault)) (lines : List ℕ) (count : ℕ) (fault : TokenFault) → AreLinesOf file text xs lines count
     → (Stopped count fault.at ≡ outcome_behind 0 (xs ++ Err fault ∷ [])) × (lines ++ last_line (Stopped count fault.at) ≡ text_lines file text (xs ++ Err fault ∷ []))
 then_a_fault file text xs lines count fault are =

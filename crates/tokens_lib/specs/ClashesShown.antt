@@ -1,5 +1,5 @@
 -- cases: proofs/Cases/ClashesShown.antt
--- What is written of all clashes of some terminals.
+-- What is written for all clashes of some terminals.
 use Rattle.std.specs.Prelude.{◌≡◌, ℕ, List, [], ◌∷◌, Option, Some, None, flat_map}
 use Rattle.std.specs.Io.KnownBytes.{Appends}
 use Rattle.lalrpop_book.specs.Tree.{Tree}
@@ -13,7 +13,7 @@ use Rattle.lexdfa_lib.specs.Watch.{AppendsPrefix}
 use Rattle.lexdfa_lib.specs.declared.outcome.Outcome.{Outcome}
 use Rattle.lexdfa_lib.specs.declared.outcome.Outcome.TheVariants.{Ambiguous}
 
--- the line of a clash, as that of a report
+-- the line of a clash, like that of a report
 abbrev pub entry_line : Entry → List ℕ
 entry_line c = line_of (Ambiguous c.match0 c.match1 c.word)
 
@@ -27,17 +27,17 @@ abbrev pub HaveClashes : List ℕ → List Entry → Type 0
 HaveClashes bytes cs =
     (ts : List Tree) × ((ps : List ℕ) × (AreTerminals (lines bytes) ts ps × (NoFault ts × AreClashes ts ps cs)))
 
--- what is written beside a report: for a clash a line for each clash in order, and else nothing
+-- what is written beside a report: for a clash, a line for each clash in order; otherwise nothing
 abbrev pub AreListed : List ℕ → List ℕ → Outcome → Type 0
 AreListed bytes written (Ambiguous i j word) = (cs : List Entry) × (HaveClashes bytes cs × (written ≡ flat_map entry_line cs))
 AreListed bytes written outcome = written ≡ []
 
--- what is written, and what the terminals report: nothing where no terminals clash
+-- what is written, and what the terminals report: nothing if no terminals clash
 abbrev pub AreClashesShown : List ℕ → List ℕ → Option Outcome → Type 0
 AreClashesShown bytes written None = HaveClashes bytes [] × (written ≡ [])
 AreClashesShown bytes written (Some outcome) = IsReported bytes outcome × AreListed bytes written outcome
 
--- a writer took exactly what is written of the clashes of some bytes
+-- a writer took exactly what is written for the clashes of some bytes
 abbrev pub WritesClashes : List ℕ → Option (List ℕ) → Option (List ℕ) → Option Outcome → Type 0
 WritesClashes bytes held held_now reported =
     (written : List ℕ) × (AreClashesShown bytes written reported × Appends held held_now written)

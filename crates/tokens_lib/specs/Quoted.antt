@@ -4,7 +4,7 @@ use Rattle.std.specs.Prelude.{ℕ, false, List, ◌++◌, Option, Some, None, co
 use Rattle.std.specs.Char.{is_control}
 use Rattle.std.specs.Fmt.{digits}
 
--- a quote, a backslash, a line feed, a carriage return, a tab and the character 0 are told by a backslash and one character
+-- a quote, a backslash, a line feed, a carriage return, a tab and the character 0 are written as a backslash and one character
 abbrev pub short_escape : ℕ → Option (List ℕ)
 short_escape c =
     if c == 34 then Some (codes "\\\"") else (
@@ -14,8 +14,8 @@ short_escape c =
     if c == 9 then Some (codes "\\t") else (
     if c == 0 then Some (codes "\\0") else None)))))
 
--- what stands for a character that has this short escape: it, or for other control characters the number in hexadecimal
--- digits, or the character itself
+-- what is written for a character with this short escape: the escape; without one, for other control characters the number in
+-- hexadecimal, otherwise the character itself
 abbrev pub told_by : Option (List ℕ) → ℕ → List ℕ
 told_by (Some escape) c = escape
 told_by None c = if is_control c then codes "\\u{" ++ (digits 16 false c ++ codes "}") else encode_utf8 c

@@ -33,8 +33,8 @@ impl From<AllocError> for BuildError {
 ///
 /// # Errors
 ///
-/// What the lines report: the first line that is bad or whose pattern doesn't parse; else the first terminal that can't be
-/// compiled; else the clash. And out of memory.
+/// What the lines report: the first line that is bad or whose pattern doesn't parse; otherwise the first terminal that can't be
+/// compiled; otherwise the clash. Or out of memory.
 pub fn lexer_of(alloc: Global, bytes: &[u8]) -> Result<Lexer, BuildError>
     ensures automaton { IfOk result (λ lexer.
         HaveAutomaton bytes.now lexer.trees lexer.precedences) }

@@ -49,7 +49,7 @@ fn first_report(found: &[Clash]) -> Result<Option<Outcome>, AllocError>
     }))
 }
 
-// What is reported where there is no list.
+// What is reported if there is no list.
 fn fault_reported(error: DfaConstructionError) -> Result<Outcome, AllocError>
     ensures { IfOk result (λ outcome. (bytes : List ℕ) (ts : List Tree) (ps : List ℕ)
         → AreTerminals (lines bytes) ts ps → IsFaultOf ts error
@@ -60,7 +60,7 @@ fn fault_reported(error: DfaConstructionError) -> Result<Outcome, AllocError>
             terminal: index.index(),
             error,
         }),
-        // A clash is listed. It isn't an error.
+        // A clash is listed, and is not an error.
         DfaConstructionError::Ambiguity { .. } | DfaConstructionError::OutOfMemory => {
             Err(AllocError)
         }
@@ -74,7 +74,7 @@ struct Listing {
     report: Option<Outcome>,
 }
 
-// What is written of these terminals.
+// What is written for these terminals.
 fn listing_by(
     alloc: Global,
     regexs: &[Regex],
@@ -98,7 +98,7 @@ fn listing_by(
     }
 }
 
-// What is written of the terminals that the bytes name.
+// What is written for the terminals that the bytes name.
 fn listing_of(alloc: Global, bytes: &[u8]) -> Result<Listing, AllocError>
     ensures { IfOk result (λ listing.
         AreClashesShown bytes.now (string_bytes listing.lines) listing.report) }
@@ -117,13 +117,13 @@ fn listing_of(alloc: Global, bytes: &[u8]) -> Result<Listing, AllocError>
     })
 }
 
-/// Writes a line for each pair of terminals that clashes, with the least word on which it does, as that of a report: the bytes
-/// name the terminals. Gives what the terminals report: the first clash, or why they can't be compiled, of which nothing is
-/// written; or `None` where they make a lexer.
+/// Writes a line, like that of a report, for each pair of terminals that clash, with the least word on which they do. The bytes
+/// name the terminals. Returns what the terminals report: the first clash, or why they can't be compiled, and then nothing is
+/// written; or `None` if they make a lexer.
 ///
 /// # Errors
 ///
-/// `OutOfMemory` where a request for memory was refused: nothing was written. `Write` where a write failed or took no byte: a
+/// `OutOfMemory` if a request for memory was refused: nothing was written. `Write` if a write failed or took no byte: a
 /// prefix of the lines was written.
 pub fn write_clashes<W: Write>(
     alloc: Global,

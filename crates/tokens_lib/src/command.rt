@@ -3,10 +3,10 @@ ghost use Rattle.std.specs.Prelude.{IfSome, IfNone, map, string_bytes};
 ghost use Rattle.tokens_lib.specs.Command.{IsCommand};
 ghost use Rattle.tokens_lib.specs.declared.command.Command.{Command as Found};
 
-/// What the program is to do.
+/// What the program has to do.
 #[derive(Clone, Copy)]
 pub enum Command<'words> {
-    /// Cut each of the files, or standard input where there are none, by the terminals of the file `rules`.
+    /// Cut each of the files, or standard input if there are none, by the terminals of the file `rules`.
     Cut {
         /// Whether the line of a token begins with its place.
         places: bool,
@@ -19,8 +19,8 @@ pub enum Command<'words> {
     },
 }
 
-/// The command of some words: `RULES [FILE ..]` or `--places RULES [FILE ..]`, or `--clashes RULES`. A first word that begins
-/// with `--` names no file. `None` of any other words.
+/// The command of these arguments: `RULES [FILE ..]` or `--places RULES [FILE ..]`, or `--clashes RULES`. A first argument that
+/// begins with `--` does not name a file. `None` for any other arguments.
 pub fn command_of(words: &[String]) -> Option<Command<'_>>
     ensures some { IfSome result (λ found. IsCommand (map string_bytes words.now) found) }
     ensures none { IfNone result ((found : Found)

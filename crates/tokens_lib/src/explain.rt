@@ -6,7 +6,7 @@ use lalrpop_lexer::lexer::re::{RegexError, SyntaxKind, parse_regex};
 use lexdfa_lib::Outcome;
 use std::alloc::{AllocError, Global};
 
-// The line with this number, from 0, or nothing where it isn't UTF-8.
+// The line with this number, from 0, or nothing if it isn't UTF-8.
 fn line_at(bytes: &[u8], number: usize) -> Option<&str> {
     let line = bytes.split(|byte| *byte == b'\n').nth(number)?;
     str::from_utf8(line).ok()
@@ -44,7 +44,7 @@ fn refusal_text(error: NfaConstructionError) -> &'static str {
     }
 }
 
-// How many characters of the text stand before this byte.
+// The number of characters of the text before this byte.
 fn characters_before(text: &str, byte: usize) -> usize {
     text.char_indices()
         .take_while(|found| found.0 < byte)
@@ -63,7 +63,7 @@ fn syntax_of(alloc: Global, line: &str) -> Result<Option<(usize, SyntaxKind)>, A
         Ok(_) => Ok(None),
         Err(RegexError::OutOfMemory) => Err(AllocError),
         Err(RegexError::Syntax { position, kind }) => {
-            // A space, the letter and a space stand between the precedence and the pattern.
+            // A space, the letter and a space are between the precedence and the pattern.
             let before = precedence.len().saturating_add(3);
             let inside = characters_before(pattern, position);
             Ok(Some((before.saturating_add(inside), kind)))
@@ -112,7 +112,7 @@ fn bad_line_explained(
     }
 }
 
-// The word as a text, where each value is a character.
+// The word as a text, if each value is a character.
 fn text_of(alloc: Global, word: &[u32]) -> Result<Option<String>, AllocError> {
     let mut text = String::new(alloc);
     for value in word {
@@ -133,7 +133,7 @@ fn values_of(alloc: Global, word: &[u32]) -> Result<String, AllocError> {
     Ok(values)
 }
 
-// The word in quotes where it is a text, else its values in hexadecimal.
+// The word in quotes if it is a text, otherwise its values in hexadecimal.
 fn word_shown(alloc: Global, word: &[u32]) -> Result<String, AllocError> {
     match text_of(alloc, word)? {
         Some(text) => quoted(alloc, text.as_str()),
@@ -141,7 +141,7 @@ fn word_shown(alloc: Global, word: &[u32]) -> Result<String, AllocError> {
     }
 }
 
-// What a clash is and how to mend it: both lines, and the word.
+// What the clash is and how to resolve it: both lines, and the word.
 fn clash_explained(
     alloc: Global,
     file: &str,
@@ -165,7 +165,7 @@ fn clash_explained(
 ///
 /// # Errors
 ///
-/// `AllocError` where a request for memory was refused.
+/// `AllocError` if a request for memory was refused.
 pub(crate) fn explanation(
     alloc: Global,
     file: &str,

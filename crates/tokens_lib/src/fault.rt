@@ -1,4 +1,4 @@
-//! What is said of a place where no terminal matches.
+//! The message for a place where no terminal matches.
 
 ghost use Rattle.std.specs.Str.{IsCharBoundary};
 
@@ -6,11 +6,11 @@ use crate::quote::push_told;
 use lalrpop_lexer::Position;
 use std::alloc::{AllocError, Global};
 
-/// The line that says where the text couldn't be cut further, and shows the character that stands there.
+/// The line that says where the text couldn't be cut further, and shows the character there.
 ///
 /// # Errors
 ///
-/// `AllocError` where a request for memory was refused.
+/// `AllocError` if a request for memory was refused.
 pub(crate) fn fault_message(
     alloc: Global,
     file: &str,

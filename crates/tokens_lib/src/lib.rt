@@ -1,4 +1,4 @@
-//! Terminals as lines of a file, the lexer that they give, and the program `tokens`, which cuts files by it.
+//! Terminals as lines of a file, their lexer, and the program `tokens`, which cuts files into tokens.
 #![tactic(auto)]
 
 mod building;

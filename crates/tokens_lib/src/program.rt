@@ -21,7 +21,7 @@ use std::rt::{Env, Files};
 
 const USAGE: &str = "tokens: usage: tokens [--places] RULES [FILE ..], or tokens --clashes RULES\n";
 
-// What standard input is called where a place in it is named.
+// The name of standard input in places.
 const INPUT: &str = "<stdin>";
 
 // The status of files that gave no text.
@@ -31,7 +31,7 @@ fn out_of_memory(_error: AllocError) -> Failure {
     Failure::Run(RunError::OutOfMemory)
 }
 
-// Where standard error fails too, the status still tells.
+// If standard error fails too, the status still tells.
 fn say(rt: &impl Eprint, message: &str) {
     let _ = eprint!(rt; "{message}");
 }
@@ -48,7 +48,7 @@ fn opened<R: Files>(rt: &R, name: &str) -> io::Result<R::File> {
     Ok(file)
 }
 
-// An argument that isn't UTF-8 is an error of `args`, and so is out of memory.
+// `args` fails on an argument that isn't UTF-8, and when it is out of memory.
 fn without_arguments(error: io::Error) -> Failure {
     match error.kind() {
         ErrorKind::OutOfMemory => Failure::Run(RunError::OutOfMemory),
@@ -56,7 +56,7 @@ fn without_arguments(error: io::Error) -> Failure {
     }
 }
 
-// Opens a file; where it can't be opened or is a folder, says so.
+// Opens a file. If it can't be opened or is a folder, says so.
 fn open<R: Files + Eprint>(rt: &R, name: &str) -> Result<Option<R::File>, Failure> {
     match opened(rt, name) {
         Ok(file) => Ok(Some(file)),
@@ -70,7 +70,7 @@ fn open<R: Files + Eprint>(rt: &R, name: &str) -> Result<Option<R::File>, Failur
     }
 }
 
-// All bytes of the file of rules; where it can't be read, says so.
+// All bytes of the file of rules. If it can't be read, says so.
 fn read_rules<R: Files + Eprint + AllocGlobal>(
     rt: &R,
     name: &str,
@@ -88,7 +88,7 @@ fn read_rules<R: Files + Eprint + AllocGlobal>(
     }
 }
 
-// Says what is wrong with the rules, and gives the status.
+// Says what is wrong with the rules, and returns the status.
 fn report(
     rt: &(impl Eprint + AllocGlobal),
     rules: &str,
@@ -102,7 +102,7 @@ fn report(
     Ok(outcome.status())
 }
 
-// Cuts what a reader has, and gives the status.
+// Cuts what a reader has, and returns the status.
 fn cut<R: Read, W: Write>(
     rt: &(impl Eprint + AllocGlobal),
     lexer: &Lexer,
@@ -135,7 +135,7 @@ fn cut<R: Read, W: Write>(
     Ok(outcome.status())
 }
 
-// Cuts a file, and gives the status.
+// Cuts a file, and returns the status.
 fn cut_file<W: Write>(
     rt: &(impl Files + Eprint + AllocGlobal),
     lexer: &Lexer,
@@ -153,7 +153,7 @@ fn cut_file<W: Write>(
     cut(rt, lexer, places, name, &mut Watched::new(file), writer)
 }
 
-// Cuts each file, or standard input where there is none, and gives the greatest status.
+// Cuts each file, or standard input if there are none, and returns the greatest status.
 fn cut_all<W: Write>(
     rt: &(impl Files + Input + Eprint + AllocGlobal),
     lexer: &Lexer,
@@ -182,7 +182,7 @@ fn cut_all<W: Write>(
     Ok(status)
 }
 
-// Standard output has no buffer of its own: a flush finds what the system still holds.
+// Standard output has no buffer of its own: a flush reports failures of what the system still holds.
 fn flushed<W: Write + Drop>(status: u8, writer: Watched<W>) -> Result<u8, Failure>
     ensures { IfOk result (λ found. found ≡ status) }
 {
@@ -224,7 +224,7 @@ fn list_clashes<R: Files + Print + Eprint + AllocGlobal>(rt: &R, rules: &str) ->
     let found = write_clashes(rt.alloc(), &bytes, &mut writer).map_err(Failure::Run)?;
     let status = match &found {
         None => 0,
-        // The list says it all.
+        // The list says everything.
         Some(Outcome::Ambiguous { .. }) => 2,
         Some(outcome) => report(rt, rules, &bytes, outcome)?,
     };
@@ -259,12 +259,12 @@ fn failure_text(failure: &Failure) -> &'static str {
 }
 
 /// Cuts the files that the arguments name into tokens, by the terminals of the file of rules that they name first, and writes the
-/// lines of `write_tokens` to standard output; or lists all clashes of the terminals (`write_clashes`). Where no file is named,
-/// standard input is cut. What is wrong is said on standard error.
+/// lines of `write_tokens` to standard output; or lists all clashes of the terminals (`write_clashes`). If no file is named,
+/// standard input is cut. Errors are explained on standard error.
 ///
-/// The exit status is 0 where each text was cut to its end and where no terminals clash, 1 where a text was not, 2 where terminals
-/// can't be compiled or clash, 3 where a line of the rules is bad or its pattern doesn't parse, 4 for wrong arguments, 5 for out of
-/// memory, and 6 where a file gave no text or an end failed; of several files the greatest counts.
+/// The exit status is 0 if each text was cut to its end or no terminals clash, 1 if a text was not, 2 if terminals can't be
+/// compiled or clash, 3 if a line of the rules is bad or its pattern doesn't parse, 4 for wrong arguments, 5 for out of
+/// memory, and 6 if a file gave no text or a stream failed. Of several files, the greatest status counts.
 pub fn run_program<R: Env + Files + Input + Print + Eprint + AllocGlobal>(rt: &R) -> ExitCode
     ensures status { exit_status result ≤ 6 }
 {

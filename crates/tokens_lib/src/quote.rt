@@ -36,7 +36,7 @@ pub(crate) fn push_told(text: &mut String, c: char) -> Result<(), AllocError>
 ///
 /// # Errors
 ///
-/// `AllocError` where a request for memory was refused.
+/// `AllocError` if a request for memory was refused.
 pub fn quoted(alloc: Global, slice: &str) -> Result<String, AllocError>
     ensures quoted { IfOk result (λ text. string_bytes text ≡ quoted slice.now) }
 {

@@ -11,7 +11,7 @@ use thiserror::Error;
 /// Why a file gave no text.
 #[derive(Debug, Drop, Error)]
 pub enum TextError {
-    /// The file holds no byte.
+    /// The file is empty.
     #[error("the file is empty")]
     Empty,
     /// The bytes before this one are UTF-8, and no character begins there.
@@ -25,11 +25,11 @@ pub enum TextError {
     OutOfMemory,
 }
 
-/// Reads a text to its end: all bytes that the reader has left, of which there is one at least.
+/// Reads a text to its end: all bytes that the reader has left, at least one.
 ///
 /// # Errors
 ///
-/// `Empty` where there is no byte, `NotText` where the bytes aren't UTF-8, `Read` where a read failed, and `OutOfMemory` where a
+/// `Empty` if there are no bytes, `NotText` if the bytes aren't UTF-8, `Read` if a read failed, and `OutOfMemory` if a
 /// request for memory was refused.
 pub fn read_text<R: Read>(alloc: Global, reader: &mut Watched<R>) -> Result<String, TextError>
     requires reader_good { reader.old.failed ≡ false }

@@ -14,7 +14,7 @@ use std::io::Write;
 // Lines are written once they have this many bytes.
 const CHUNK: usize = 65536;
 
-// The place of an offset, where the file is named: `FILE:LINE:COLUMN: `.
+// The place of an offset, if the file is named: `FILE:LINE:COLUMN: `.
 fn push_place(
     lines: &mut String,
     file: Option<&str>,
@@ -58,7 +58,7 @@ fn push_token(
     write!(lines, "{terminal} {bytes} {slice}\n")
 }
 
-// Writes the lines and takes them away, where there are enough of them.
+// Writes the lines and empties them, if there are enough of them.
 fn pass_on<W: Write>(lines: &mut String, writer: &mut Watched<W>) -> Result<(), RunError>
     requires writer_good { writer.old.failed ≡ false }
     ensures passed { OnOk result ((sent : List ℕ)
@@ -88,7 +88,7 @@ fn push_last(lines: &mut String, outcome: &Outcome) -> Result<(), AllocError>
     }
 }
 
-// Writes the lines, and behind them the last line of an outcome.
+// Writes the lines, and then the last line of an outcome.
 fn write_last<W: Write>(
     mut lines: String,
     outcome: Outcome,
@@ -114,14 +114,14 @@ fn write_last<W: Write>(
 }
 
 /// Cuts the text into tokens, and writes a line for each: the number of its terminal, its length in bytes, and its slice in quotes.
-/// Behind them comes the line `end`, or `none N` where no terminal matches at byte N. Where the text's file is named, the line of a
+/// After them comes the line `end`, or `none N` if no terminal matches at byte N. If the text's file is named, the line of a
 /// token begins with its place, `FILE:LINE:COLUMN: `, with lines and columns from 1 and columns in characters.
 ///
-/// Lines are written as they come, some 64 KiB at a time. The outcome is `All` or `Stopped`. No error is tried again.
+/// Lines are written as they come, some 64 KiB at a time. The outcome is `All` or `Stopped`. Nothing is tried again.
 ///
 /// # Errors
 ///
-/// `OutOfMemory` where a request for memory was refused, and `Write` where a write failed or took no byte: a prefix of the lines
+/// `OutOfMemory` if a request for memory was refused, and `Write` if a write failed or took no byte: a prefix of the lines
 /// was written.
 pub fn write_tokens<W: Write>(
     alloc: Global,

@@ -1,9 +1,9 @@
 //! The classes of the values that some automata tell apart.
 
 ghost use Rattle.std.specs.Prelude.{◌≡◌, ◌<◌, ◌-◌, Some, length, slice_get, IsSomeAnd, IfSome, IfNone, IfOk};
-ghost use Rattle.lalrpop_alphabet.specs.Internal.Alphabet.{IsAlphabetOf, IsSound, HasState, AreLeadsOf, LeadsBy};
+ghost use Rattle.lalrpop_alphabet.specs.Internal.Alphabet.{IsAlphabetOf, IsSound, HasState, AreEdgeGroupsOf, LeadsBy};
 
-use lalrpop_alphabet::{Alphabet, Group, Lead};
+use lalrpop_alphabet::{Alphabet, EdgeGroup, Group};
 use lalrpop_nfa::{Nfa, NfaStateIndex};
 use std::alloc::{AllocError, Global};
 
@@ -61,17 +61,17 @@ pub fn classes_in(alphabet: &Alphabet, number: usize) -> &[usize]
     &alphabet.group(number).classes
 }
 
-// Needs lalrpop_alphabet::Alphabet::leads: leads, sound.
-/// Where labels of the state lead.
-pub fn leads_from(alphabet: &Alphabet, automaton: usize, state: NfaStateIndex) -> &[Lead]
+// Needs lalrpop_alphabet::Alphabet::edge_groups: edge_groups, sound.
+/// The edge groups of the state.
+pub fn edge_groups_of(alphabet: &Alphabet, automaton: usize, state: NfaStateIndex) -> &[EdgeGroup]
     requires { HasState alphabet.now.nfas automaton state }
-    ensures leads { AreLeadsOf alphabet.now.nfas automaton state result.now }
+    ensures edge_groups { AreEdgeGroupsOf alphabet.now.nfas automaton state result.now }
     ensures sound { IsSound alphabet.now }
 {
-    alphabet.leads(automaton, state)
+    alphabet.edge_groups(automaton, state)
 }
 
-// Needs lalrpop_alphabet::Alphabet::leads: leads, sound.
+// Needs lalrpop_alphabet::Alphabet::edge_groups: edge_groups, sound.
 // Needs lalrpop_alphabet::Alphabet::group: group.
 /// A state that the values of the class lead to.
 pub fn target_by(
@@ -83,9 +83,9 @@ pub fn target_by(
     requires { HasState alphabet.now.nfas automaton state }
     ensures { IfSome result (LeadsBy alphabet.now automaton state class) }
 {
-    for lead in alphabet.leads(automaton, state) {
-        if alphabet.group(lead.group).classes.contains(&class) {
-            return Some(lead.to);
+    for edge_group in alphabet.edge_groups(automaton, state) {
+        if alphabet.group(edge_group.group).classes.contains(&class) {
+            return Some(edge_group.to);
         }
     }
     None

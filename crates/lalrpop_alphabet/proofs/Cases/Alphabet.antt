@@ -13,10 +13,10 @@ use Rattle.lalrpop_nfa.specs.declared.edge.Edge.{Edge}
 use Rattle.lalrpop_nfa.specs.declared.edge.StateKind.TheVariants.{Accept, Reject, Neither}
 use Rattle.lalrpop_alphabet.specs.declared.Cell.{Cell}
 use Rattle.lalrpop_alphabet.specs.declared.Group.{Group}
-use Rattle.lalrpop_alphabet.specs.declared.Lead.{Lead}
-use Rattle.lalrpop_alphabet.specs.declared.StateLeads.{StateLeads}
-use Rattle.lalrpop_alphabet.specs.declared.NfaLeads.{NfaLeads}
-use Rattle.lalrpop_alphabet.specs.Internal.Alphabet.{Classes, IsLeadOf, HasState, IsInCell, HasClass, HasCut, LeadsBy, CutsAt, IsEndOf, IsFirstOf, AreCells, AreGroups, IsSound, IsAlphabetOf}
+use Rattle.lalrpop_alphabet.specs.declared.EdgeGroup.{EdgeGroup}
+use Rattle.lalrpop_alphabet.specs.declared.StateEdgeGroups.{StateEdgeGroups}
+use Rattle.lalrpop_alphabet.specs.declared.NfaEdgeGroups.{NfaEdgeGroups}
+use Rattle.lalrpop_alphabet.specs.Internal.Alphabet.{Classes, IsEdgeGroupOf, HasState, IsInCell, HasClass, HasBoundary, LeadsBy, HasBoundaryAt, IsEndOf, IsFirstOf, AreCells, AreGroups, IsSound, IsAlphabetOf}
 
 -- the letters from b to d
 abbrev b_to_d : Range
@@ -38,8 +38,8 @@ over = record { first = 101; class = 1 }
 abbrev two_cells : List Cell
 two_cells = letters ∷ over ∷ []
 
-abbrev lead : Lead
-lead = record { group = 0; to = 0 }
+abbrev edge_group : EdgeGroup
+edge_group = record { group = 0; to = 0 }
 
 -- ---- where a label begins and is over
 
@@ -58,7 +58,7 @@ range_without_values_has_no_end v h = omega (arith, h.0)
 first_and_last_value_of_a_cell : IsInCell two_cells 0 0 98 × IsInCell two_cells 0 0 100
 first_and_last_value_of_a_cell = ((letters, over, (refl, refl, refl, omega arith, omega arith)), (letters, over, (refl, refl, refl, omega arith, omega arith)))
 
--- a cell has its values, and the last cell has none
+-- a cell has its values, and the last cell has no values
 values_of_the_cells : (k c v : ℕ) → IsInCell two_cells k c v → (c ≡ 0) × (98 ≤ v) × (v ≤ 100)
 values_of_the_cells zero c v (x, y, (here, next, is, from, until)) =
     let first : letters ≡ x = cc in
@@ -103,81 +103,81 @@ cells_turned_do_not_ascend h = omega (arith, h.rising 0 1 over letters refl refl
 class_of_the_end_is_counted : ¬ AreCells two_cells 1
 class_of_the_end_is_counted h = omega (arith, (h.within 1 over refl).1)
 
--- the leads of one state
-abbrev state_of : List Lead → StateLeads
-state_of ls = record { leads = record { items = ls; capacity = 1 } }
+-- the edge groups of one state
+abbrev state_of : List EdgeGroup → StateEdgeGroups
+state_of ls = record { edge_groups = record { items = ls; capacity = 1 } }
 
 module _ (alloc : Global) where
   -- a vector of these elements
   abbrev vector : {X : Type 0} (xs : List X) → length xs < 2 ^ 63 → Vec X Global
   vector xs small = record { ptr = null_ptr; len = length xs; cap = length xs; alloc = alloc; items = xs; ok = (refl, omega arith); small = small }
 
-  -- a group with these cuts and classes, of at most two each
-  abbrev group_of : (cuts classes : List ℕ) → length cuts ≤ 2 → length classes ≤ 2 → Group
-  group_of cuts classes l m = record { cuts = vector cuts (omega (arith, l)); classes = vector classes (omega (arith, m)) }
+  -- a group with these boundaries and classes, of at most two each
+  abbrev group_of : (boundaries classes : List ℕ) → length boundaries ≤ 2 → length classes ≤ 2 → Group
+  group_of boundaries classes l m = record { boundaries = vector boundaries (omega (arith, l)); classes = vector classes (omega (arith, m)) }
 
   abbrev group : Group
   group = group_of (0 ∷ 1 ∷ []) (0 ∷ []) (omega arith) (omega arith)
 
-  -- the leads of the three states, of which the third has this one
-  abbrev nfa_by : Lead → NfaLeads
+  -- the edge groups of the three states, of which the third has this one
+  abbrev nfa_by : EdgeGroup → NfaEdgeGroups
   nfa_by l = record { states = vector (state_of [] ∷ state_of [] ∷ state_of (l ∷ []) ∷ []) (omega arith) }
 
-  -- the alphabet with this group and this lead
-  abbrev alphabet_by : Group → Lead → Classes
+  -- the alphabet with this group and this edge group
+  abbrev alphabet_by : Group → EdgeGroup → Classes
   alphabet_by g l = record { cells = two_cells; groups = g ∷ []; nfas = nfa_by l ∷ []; count = 2 }
 
   abbrev alphabet : Classes
-  alphabet = alphabet_by group lead
+  alphabet = alphabet_by group edge_group
 
-  -- ---- states and their leads
+  -- ---- states and their edge groups
 
-  same_nfa : (by : Lead) (x : NfaLeads) → Some (nfa_by by) ≡ Some x → nfa_by by ≡ x
+  same_nfa : (by : EdgeGroup) (x : NfaEdgeGroups) → Some (nfa_by by) ≡ Some x → nfa_by by ≡ x
   same_nfa by x e = cc
 
   states_of_the_automaton : HasState alphabet.nfas 0 2
-  states_of_the_automaton = (nfa_by lead, (refl, omega arith))
+  states_of_the_automaton = (nfa_by edge_group, (refl, omega arith))
 
   there_is_no_fourth_state : ¬ HasState alphabet.nfas 0 3
-  there_is_no_fourth_state (x, (e, l)) = let n : 3 ≡ length x.states.items = ap (λ (z : NfaLeads). length z.states.items) (same_nfa lead x e) in omega (arith, n, l)
+  there_is_no_fourth_state (x, (e, l)) = let n : 3 ≡ length x.states.items = ap (λ (z : NfaEdgeGroups). length z.states.items) (same_nfa edge_group x e) in omega (arith, n, l)
 
   there_is_no_second_automaton : ¬ HasState alphabet.nfas 1 0
   there_is_no_second_automaton (x, (e, l)) = absurd (cc)
 
-  module _ (by : Lead) where
-    third_has_the_lead : IsLeadOf (nfa_by by ∷ []) 0 2 by
-    third_has_the_lead = (by ∷ [], ((nfa_by by, state_of (by ∷ []), (refl, refl, refl)), (0, omega arith, refl)))
+  module _ (by : EdgeGroup) where
+    third_has_the_edge_group : IsEdgeGroupOf (nfa_by by ∷ []) 0 2 by
+    third_has_the_edge_group = (by ∷ [], ((nfa_by by, state_of (by ∷ []), (refl, refl, refl)), (0, omega arith, refl)))
 
-    -- the lists of leads, by the number of the state
-    leads_at : (p : ℕ) (y : StateLeads) → slice_get (nfa_by by).states.items p ≡ Some y → ((p ≡ 2) × (y.leads.items ≡ by ∷ [])) ⊎ (y.leads.items ≡ [])
-    leads_at zero y e = let same : state_of [] ≡ y = cc in inr (ap (λ (z : StateLeads). z.leads.items) (sym same))
-    leads_at (suc zero) y e = let same : state_of [] ≡ y = cc in inr (ap (λ (z : StateLeads). z.leads.items) (sym same))
-    leads_at (suc (suc zero)) y e = let same : state_of (by ∷ []) ≡ y = cc in inl (refl, ap (λ (z : StateLeads). z.leads.items) (sym same))
-    leads_at (suc (suc (suc p))) y e = absurd (cc)
+    -- the lists of edge groups, by the number of the state
+    edge_groups_at : (p : ℕ) (y : StateEdgeGroups) → slice_get (nfa_by by).states.items p ≡ Some y → ((p ≡ 2) × (y.edge_groups.items ≡ by ∷ [])) ⊎ (y.edge_groups.items ≡ [])
+    edge_groups_at zero y e = let same : state_of [] ≡ y = cc in inr (ap (λ (z : StateEdgeGroups). z.edge_groups.items) (sym same))
+    edge_groups_at (suc zero) y e = let same : state_of [] ≡ y = cc in inr (ap (λ (z : StateEdgeGroups). z.edge_groups.items) (sym same))
+    edge_groups_at (suc (suc zero)) y e = let same : state_of (by ∷ []) ≡ y = cc in inl (refl, ap (λ (z : StateEdgeGroups). z.edge_groups.items) (sym same))
+    edge_groups_at (suc (suc (suc p))) y e = absurd (cc)
 
-    one_has : (l : Lead) → Contains (by ∷ []) l → by ≡ l
+    one_has : (l : EdgeGroup) → Contains (by ∷ []) l → by ≡ l
     one_has l (zero, m, e) = e
     one_has l (suc k, m, e) = absurd (omega (arith, m))
 
-    -- and no state has another one
-    only_lead : (i p : ℕ) (l : Lead) → IsLeadOf (nfa_by by ∷ []) i p l → (i ≡ 0) × (p ≡ 2) × (by ≡ l)
-    only_lead zero p l (ls, ((x, y, (here, state, is)), has)) =
-        let at : slice_get (nfa_by by).states.items p ≡ Some y = subst (λ (z : NfaLeads). slice_get z.states.items p ≡ Some y) (sym (same_nfa by x here)) state in
-        elim (leads_at p y at) [
+    -- and no state has another edge group
+    only_edge_group : (i p : ℕ) (l : EdgeGroup) → IsEdgeGroupOf (nfa_by by ∷ []) i p l → (i ≡ 0) × (p ≡ 2) × (by ≡ l)
+    only_edge_group zero p l (ls, ((x, y, (here, state, is)), has)) =
+        let at : slice_get (nfa_by by).states.items p ≡ Some y = subst (λ (z : NfaEdgeGroups). slice_get z.states.items p ≡ Some y) (sym (same_nfa by x here)) state in
+        elim (edge_groups_at p y at) [
           | inl third ↦ (refl, third.0, one_has l (subst (λ zs. Contains zs l) (is ∙ third.1) has))
           | inr none ↦ absurd (let h = subst (λ zs. Contains zs l) (is ∙ none) has in omega (arith, h.1))
         ]
-    only_lead (suc i) p l (ls, ((x, y, (here, state, is)), has)) = absurd (cc)
+    only_edge_group (suc i) p l (ls, ((x, y, (here, state, is)), has)) = absurd (cc)
 
-  first_state_has_no_lead : (l : Lead) → ¬ IsLeadOf alphabet.nfas 0 0 l
-  first_state_has_no_lead l h = omega (arith, (only_lead lead 0 0 l h).1)
+  first_state_has_no_edge_group : (l : EdgeGroup) → ¬ IsEdgeGroupOf alphabet.nfas 0 0 l
+  first_state_has_no_edge_group l h = omega (arith, (only_edge_group edge_group 0 0 l h).1)
 
   -- ---- groups
 
-  group_has_its_class_and_its_cuts : HasClass alphabet.groups 0 0 × HasCut alphabet.groups 0 0 × HasCut alphabet.groups 0 1
-  group_has_its_class_and_its_cuts = ((group, (refl, (0, omega arith, refl))), (group, (refl, (0, omega arith, refl))), (group, (refl, (1, omega arith, refl))))
+  group_has_its_class_and_its_boundaries : HasClass alphabet.groups 0 0 × HasBoundary alphabet.groups 0 0 × HasBoundary alphabet.groups 0 1
+  group_has_its_class_and_its_boundaries = ((group, (refl, (0, omega arith, refl))), (group, (refl, (0, omega arith, refl))), (group, (refl, (1, omega arith, refl))))
 
-  -- a group of an alphabet with one group is that one
+  -- a group of an alphabet with one group is that group
   only_group : (g x : Group) (n : ℕ) → slice_get (g ∷ []) n ≡ Some x → (n ≡ 0) × (g ≡ x)
   only_group g x zero e = (refl, cc)
   only_group g x (suc n) e = absurd (cc)
@@ -189,8 +189,8 @@ module _ (alloc : Global) where
       one (zero, l, e) = sym e
       one (suc k, l, e) = absurd (omega (arith, l))
 
-  only_cuts : (n k : ℕ) → HasCut alphabet.groups n k → (n ≡ 0) × (k ≤ 1)
-  only_cuts n k (x, (at, has)) = let here = only_group group x n at in (here.0, two (subst (λ (z : Group). Contains z.cuts.items k) (sym here.1) has))
+  only_boundaries : (n k : ℕ) → HasBoundary alphabet.groups n k → (n ≡ 0) × (k ≤ 1)
+  only_boundaries n k (x, (at, has)) = let here = only_group group x n at in (here.0, two (subst (λ (z : Group). Contains z.boundaries.items k) (sym here.1) has))
     where
       two : Contains (0 ∷ 1 ∷ []) k → k ≤ 1
       two (zero, l, e) = omega (arith, e)
@@ -200,43 +200,43 @@ module _ (alloc : Global) where
   -- ---- where classes lead, and where labels end
 
   class_of_the_letters_leads_from_the_third_state : LeadsBy alphabet 0 2 0 0
-  class_of_the_letters_leads_from_the_third_state = (lead, (third_has_the_lead lead, refl, group_has_its_class_and_its_cuts.0))
+  class_of_the_letters_leads_from_the_third_state = (edge_group, (third_has_the_edge_group edge_group, refl, group_has_its_class_and_its_boundaries.0))
 
   it_leads_nowhere_else : (i p c q : ℕ) → LeadsBy alphabet i p c q → (i ≡ 0) × (p ≡ 2) × (c ≡ 0) × (q ≡ 0)
   it_leads_nowhere_else i p c q (l, (by, to, has)) =
-      let only = only_lead lead i p l by in
-      let target : 0 ≡ l.to = ap (λ (z : Lead). z.to) only.2 in
+      let only = only_edge_group edge_group i p l by in
+      let target : 0 ≡ l.to = ap (λ (z : EdgeGroup). z.to) only.2 in
       (only.0, only.1, (only_class l.group c has).1, omega (arith, target, to))
 
-  label_begins_and_is_over : CutsAt alphabet 0 2 0 × CutsAt alphabet 0 2 1
-  label_begins_and_is_over = ((lead, (third_has_the_lead lead, group_has_its_class_and_its_cuts.1)), (lead, (third_has_the_lead lead, group_has_its_class_and_its_cuts.2)))
+  label_begins_and_is_over : HasBoundaryAt alphabet 0 2 0 × HasBoundaryAt alphabet 0 2 1
+  label_begins_and_is_over = ((edge_group, (third_has_the_edge_group edge_group, group_has_its_class_and_its_boundaries.1)), (edge_group, (third_has_the_edge_group edge_group, group_has_its_class_and_its_boundaries.2)))
 
-  no_label_ends_elsewhere : (i p k : ℕ) → CutsAt alphabet i p k → (p ≡ 2) × (k ≤ 1)
-  no_label_ends_elsewhere i p k (l, (by, cut)) = ((only_lead lead i p l by).1, (only_cuts l.group k cut).1)
+  no_label_ends_elsewhere : (i p k : ℕ) → HasBoundaryAt alphabet i p k → (p ≡ 2) × (k ≤ 1)
+  no_label_ends_elsewhere i p k (l, (by, boundary)) = ((only_edge_group edge_group i p l by).1, (only_boundaries l.group k boundary).1)
 
   -- ---- bounds
 
   groups_are_within : AreGroups alphabet.groups two_cells 2
   groups_are_within = record {
-    cuts_in = λ n k h. omega (arith, (only_cuts n k h).1);
+    boundaries_in = λ n k h. omega (arith, (only_boundaries n k h).1);
     classes_in = λ n c h. omega (arith, (only_class n c h).1);
   }
 
-  cut_beyond_the_cells : ¬ AreGroups alphabet.groups (letters ∷ []) 2
-  cut_beyond_the_cells h = omega (arith, h.cuts_in 0 1 group_has_its_class_and_its_cuts.2)
+  boundary_beyond_the_cells : ¬ AreGroups alphabet.groups (letters ∷ []) 2
+  boundary_beyond_the_cells h = omega (arith, h.boundaries_in 0 1 group_has_its_class_and_its_boundaries.2)
 
   class_that_is_not_counted : ¬ AreGroups alphabet.groups two_cells 0
-  class_that_is_not_counted h = omega (arith, h.classes_in 0 0 group_has_its_class_and_its_cuts.0)
+  class_that_is_not_counted h = omega (arith, h.classes_in 0 0 group_has_its_class_and_its_boundaries.0)
 
   alphabet_is_sound : IsSound alphabet
   alphabet_is_sound = record {
     cells = cells_ascend;
     groups = groups_are_within;
-    groups_in = λ i p l h. (let is : 0 ≡ l.group = ap (λ (z : Lead). z.group) (only_lead lead i p l h).2 in omega (arith, is));
+    groups_in = λ i p l h. (let is : 0 ≡ l.group = ap (λ (z : EdgeGroup). z.group) (only_edge_group edge_group i p l h).2 in omega (arith, is));
   }
 
-  lead_with_no_group : ¬ IsSound (alphabet_by group (record { group = 1; to = 0 }))
-  lead_with_no_group h = omega (arith, h.groups_in 0 2 (record { group = 1; to = 0 }) (third_has_the_lead (record { group = 1; to = 0 })))
+  edge_group_with_no_group : ¬ IsSound (alphabet_by group (record { group = 1; to = 0 }))
+  edge_group_with_no_group h = omega (arith, h.groups_in 0 2 (record { group = 1; to = 0 }) (third_has_the_edge_group (record { group = 1; to = 0 })))
 
   -- ---- the alphabet of the automaton
 
@@ -254,14 +254,14 @@ module _ (alloc : Global) where
   same_graph g e = cc
 
   alphabet_of_the_automaton : IsAlphabetOf (graph ∷ []) alphabet
-  alphabet_of_the_automaton = record { states = states; leads = leads; cuts = cuts }
+  alphabet_of_the_automaton = record { states = states; leads = leads; boundaries = boundaries }
     where
       states : (i p : ℕ) (g : Graph) → slice_get (graph ∷ []) i ≡ Some g → p < length g.kinds → HasState alphabet.nfas i p
-      states zero p g e l = (nfa_by lead, (refl, (let n : 3 ≡ length g.kinds = ap (λ (h : Graph). length h.kinds) (same_graph g e) in omega (arith, n, l))))
+      states zero p g e l = (nfa_by edge_group, (refl, (let n : 3 ≡ length g.kinds = ap (λ (h : Graph). length h.kinds) (same_graph g e) in omega (arith, n, l))))
       states (suc i) p g e l = absurd (cc)
 
-      lead_of : (p q c v : ℕ) → (c ≡ 0) × (98 ≤ v) × (v ≤ 100) → ((r : Range) × (Contains graph.edges.tests (test p r q) × Covers r v)) ↔ LeadsBy alphabet 0 p c q
-      lead_of p q c v within = (
+      leads_by : (p q c v : ℕ) → (c ≡ 0) × (98 ≤ v) × (v ≤ 100) → ((r : Range) × (Contains graph.edges.tests (test p r q) × Covers r v)) ↔ LeadsBy alphabet 0 p c q
+      leads_by p q c v within = (
         λ (r, (edge, low)). (let only = only_edge p q r edge in rw (only.0, only.2, within.0) class_of_the_letters_leads_from_the_third_state),
         λ h. (let only = it_leads_nowhere_else 0 p c q h in (b_to_d, (the_edge p q only.1 only.3, (omega (arith, within.1), omega (arith, within.2))))),
       )
@@ -269,7 +269,7 @@ module _ (alloc : Global) where
       leads : (i p q k c v : ℕ) (g : Graph) → slice_get (graph ∷ []) i ≡ Some g → p < length g.kinds → IsInCell alphabet.cells k c v
           → ((r : Range) × (Contains g.edges.tests (test p r q) × Covers r v)) ↔ LeadsBy alphabet i p c q
       leads zero p q k c v g e l inside =
-          subst (λ (h : Graph). ((r : Range) × (Contains h.edges.tests (test p r q) × Covers r v)) ↔ LeadsBy alphabet 0 p c q) (same_graph g e) (lead_of p q c v (values_of_the_cells k c v inside))
+          subst (λ (h : Graph). ((r : Range) × (Contains h.edges.tests (test p r q) × Covers r v)) ↔ LeadsBy alphabet 0 p c q) (same_graph g e) (leads_by p q c v (values_of_the_cells k c v inside))
       leads (suc i) p q k c v g e l inside = absurd (cc)
 
       end_of : (r : Range) (v : ℕ) → b_to_d ≡ r → IsEndOf r v → (v ≡ 98) ⊎ (v ≡ 101)
@@ -283,23 +283,23 @@ module _ (alloc : Global) where
       first_of (suc zero) v l e = (omega arith, inr (sym e))
       first_of (suc (suc k)) v l e = absurd (omega (arith, l))
 
-      cuts_of : (p v : ℕ) → ((r : Range) × (q : ℕ) × (Contains graph.edges.tests (test p r q) × IsEndOf r v)) ↔ ((k : ℕ) × (CutsAt alphabet 0 p k × IsFirstOf two_cells k v))
-      cuts_of p v = (
+      boundaries_of : (p v : ℕ) → ((r : Range) × (q : ℕ) × (Contains graph.edges.tests (test p r q) × IsEndOf r v)) ↔ ((k : ℕ) × (HasBoundaryAt alphabet 0 p k × IsFirstOf two_cells k v))
+      boundaries_of p v = (
         λ (r, q, (edge, end)). (let only = only_edge p q r edge in
             elim (end_of r v only.1 end) [
               | inl e ↦ (0, (rw only.0 label_begins_and_is_over.0, sym e))
               | inr e ↦ (1, (rw only.0 label_begins_and_is_over.1, sym e))
             ]),
-        λ (k, (cut, first)). (let only = no_label_ends_elsewhere 0 p k cut in (b_to_d, 0, (the_edge p 0 only.0 refl, first_of k v only.1 first))),
+        λ (k, (boundary, first)). (let only = no_label_ends_elsewhere 0 p k boundary in (b_to_d, 0, (the_edge p 0 only.0 refl, first_of k v only.1 first))),
       )
 
-      cuts : (i p v : ℕ) (g : Graph) → slice_get (graph ∷ []) i ≡ Some g → p < length g.kinds
-          → ((r : Range) × (q : ℕ) × (Contains g.edges.tests (test p r q) × IsEndOf r v)) ↔ ((k : ℕ) × (CutsAt alphabet i p k × IsFirstOf alphabet.cells k v))
-      cuts zero p v g e l =
-          subst (λ (h : Graph). ((r : Range) × (q : ℕ) × (Contains h.edges.tests (test p r q) × IsEndOf r v)) ↔ ((k : ℕ) × (CutsAt alphabet 0 p k × IsFirstOf two_cells k v))) (same_graph g e) (cuts_of p v)
-      cuts (suc i) p v g e l = absurd (cc)
+      boundaries : (i p v : ℕ) (g : Graph) → slice_get (graph ∷ []) i ≡ Some g → p < length g.kinds
+          → ((r : Range) × (q : ℕ) × (Contains g.edges.tests (test p r q) × IsEndOf r v)) ↔ ((k : ℕ) × (HasBoundaryAt alphabet i p k × IsFirstOf alphabet.cells k v))
+      boundaries zero p v g e l =
+          subst (λ (h : Graph). ((r : Range) × (q : ℕ) × (Contains h.edges.tests (test p r q) × IsEndOf r v)) ↔ ((k : ℕ) × (HasBoundaryAt alphabet 0 p k × IsFirstOf two_cells k v))) (same_graph g e) (boundaries_of p v)
+      boundaries (suc i) p v g e l = absurd (cc)
 
-  -- ---- what is no alphabet of it
+  -- ---- what is not an alphabet of it
 
   missing_automaton : ¬ IsAlphabetOf (graph ∷ graph ∷ []) alphabet
   missing_automaton h = there_is_no_second_automaton (h.states 1 0 graph refl (omega arith))
@@ -308,30 +308,30 @@ module _ (alloc : Global) where
   b_leads : (r : Range) × (Contains graph.edges.tests (test 2 r 0) × Covers r 98)
   b_leads = (b_to_d, (the_edge 2 0 refl refl, (omega arith, omega arith)))
 
-  lead_to_another_state : ¬ IsAlphabetOf (graph ∷ []) (alphabet_by group (record { group = 0; to = 1 }))
-  lead_to_another_state h =
+  edge_group_to_another_state : ¬ IsAlphabetOf (graph ∷ []) (alphabet_by group (record { group = 0; to = 1 }))
+  edge_group_to_another_state h =
       let (l, (by, to, has)) = (h.leads 0 2 0 0 0 98 graph refl (omega arith) first_and_last_value_of_a_cell.0).0 b_leads in
-      let target : 1 ≡ l.to = ap (λ (z : Lead). z.to) (only_lead (record { group = 0; to = 1 }) 0 2 l by).2 in
+      let target : 1 ≡ l.to = ap (λ (z : EdgeGroup). z.to) (only_edge_group (record { group = 0; to = 1 }) 0 2 l by).2 in
       omega (arith, target, to)
 
   -- the class of the letters is left out
   abbrev group_of_no_class : Group
   group_of_no_class = group_of (0 ∷ 1 ∷ []) [] (omega arith) (omega arith)
 
-  class_left_out : ¬ IsAlphabetOf (graph ∷ []) (alphabet_by group_of_no_class lead)
+  class_left_out : ¬ IsAlphabetOf (graph ∷ []) (alphabet_by group_of_no_class edge_group)
   class_left_out h =
       let (l, (by, to, (x, (at, has)))) = (h.leads 0 2 0 0 0 98 graph refl (omega arith) first_and_last_value_of_a_cell.0).0 b_leads in
       let (place, inside, e) = subst (λ (z : Group). Contains z.classes.items 0) (sym (only_group group_of_no_class x l.group at).1) has in
       omega (arith, inside)
 
   -- the cell at which the label is over is left out
-  abbrev group_of_one_cut : Group
-  group_of_one_cut = group_of (0 ∷ []) (0 ∷ []) (omega arith) (omega arith)
+  abbrev group_of_one_boundary : Group
+  group_of_one_boundary = group_of (0 ∷ []) (0 ∷ []) (omega arith) (omega arith)
 
-  end_left_out : ¬ IsAlphabetOf (graph ∷ []) (alphabet_by group_of_one_cut lead)
+  end_left_out : ¬ IsAlphabetOf (graph ∷ []) (alphabet_by group_of_one_boundary edge_group)
   end_left_out h =
-      let (k, ((l, (by, (x, (at, has)))), first)) = (h.cuts 0 2 101 graph refl (omega arith)).0 (b_to_d, 0, (the_edge 2 0 refl refl, ends_of_a_range.1)) in
-      no_first k (subst (λ (z : Group). Contains z.cuts.items k) (sym (only_group group_of_one_cut x l.group at).1) has) first
+      let (k, ((l, (by, (x, (at, has)))), first)) = (h.boundaries 0 2 101 graph refl (omega arith)).0 (b_to_d, 0, (the_edge 2 0 refl refl, ends_of_a_range.1)) in
+      no_first k (subst (λ (z : Group). Contains z.boundaries.items k) (sym (only_group group_of_one_boundary x l.group at).1) has) first
     where
       no_first : (k : ℕ) → Contains (0 ∷ []) k → ¬ IsFirstOf two_cells k 101
       no_first zero (place, inside, e) first = omega (arith, first)

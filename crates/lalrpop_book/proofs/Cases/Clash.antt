@@ -55,7 +55,7 @@ clash_on_the_empty_word = record {
     two (suc zero) h = omega arith
     two (suc (suc n)) h = let e : None ≡ Some h.0 = h.1.0 in absurd (cc)
 
--- two equal literals with one precedence do clash, with two they don't, and two different ones neither
+-- two equal literals clash with equal precedences and not with different ones; two different literals don't
 equal_literals_have_a_clash : ¬ NoClash (a ∷ a ∷ []) (0 ∷ 0 ∷ [])
 equal_literals_have_a_clash n = n (97 ∷ []) equal_precedences_are_ambiguous
 

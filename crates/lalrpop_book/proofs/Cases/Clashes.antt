@@ -7,7 +7,7 @@ use Rattle.lalrpop_book.specs.Clashes.{Entry, AreTied, IsFirstTie, StandsBefore,
 use Rattle.lalrpop_book.proofs.Cases.Winners.{a, b}
 use Rattle.lalrpop_book.proofs.Cases.Clash.{who_matches_a, equal_literals_clash, different_literals_have_no_clash}
 
--- `a` twice, of one precedence: they tie on their word alone
+-- `a` twice, with equal precedences: they tie only on their word
 abbrev pair : Entry
 pair = record { match0 = 1; match1 = 0; word = 97 ∷ [] }
 
@@ -34,7 +34,7 @@ equal_literals_have_one_clash = record {
   in_order = λ p q c d l x y. absurd (omega (arith, slice_get_within (pair ∷ []) q d y));
 }
 
--- it is not left out, and stands in the list once
+-- it is not left out, and is in the list once
 equal_literals_have_some_clash : ¬ AreClashes (a ∷ a ∷ []) (0 ∷ 0 ∷ []) []
 equal_literals_have_some_clash h = let f = h.all (97 ∷ []) 1 0 equal_literals_tie_first.tie in contains_none f.0 f.1.0
 
@@ -46,7 +46,7 @@ never_before_itself (inr (e, inr (f, l))) = omega arith
 no_clash_stands_twice : ¬ AreClashes (a ∷ a ∷ []) (0 ∷ 0 ∷ []) (pair ∷ pair ∷ [])
 no_clash_stands_twice h = never_before_itself (h.in_order 0 1 pair pair (omega arith) refl refl)
 
--- `a` and `b` have none
+-- `a` and `b` have no clash
 different_literals_have_none : AreClashes (a ∷ b ∷ []) (0 ∷ 0 ∷ []) []
 different_literals_have_none = record {
   each = λ c h. absurd (contains_none c h);

@@ -12,7 +12,7 @@ a = literal (97 ∷ [])
 abbrev named : Tree
 named = capture (Some (110 ∷ [])) a
 
--- leaves but for looks have none
+-- leaves other than looks have no fault
 leaves_have_no_fault : (fault empty ≡ None) × (fault a ≡ None)
 leaves_have_no_fault = (refl, refl)
 
@@ -26,7 +26,7 @@ greedy_repetition_has_no_fault = refl
 lazy_repetition_has_a_fault : (fault (repetition 0 None false a) ≡ Some NonGreedy) × (fault (repetition 0 (Some 0) false a) ≡ Some NonGreedy)
 lazy_repetition_has_a_fault = (refl, refl)
 
--- what is never repeated has none, and what is repeated once keeps its own
+-- a part that is never repeated has no fault, and one that is repeated once keeps its own
 fault_of_what_is_never_repeated : (fault (repetition 0 (Some 0) true (look Start)) ≡ None) × (greedy_fault (Some 0) (Some LookAround) ≡ None)
 fault_of_what_is_never_repeated = (refl, refl)
 
@@ -40,10 +40,10 @@ name_is_a_fault = (refl, refl)
 group_without_a_name_keeps_the_fault : (group_fault None (Some LookAround) ≡ Some LookAround) × (fault (capture None a) ≡ None)
 group_without_a_name_keeps_the_fault = (refl, refl)
 
--- of a look and a named group, one after another, the last is reported
+-- in a concatenation of a look and a named group, the last is reported
 concatenation_reports_the_last : fault (concat (also (look Start) (also named (also a none)))) ≡ Some NamedCaptures
 concatenation_reports_the_last = refl
 
--- and side by side the first
+-- in an alternation of them, the first
 alternation_reports_the_first : fault (alternation (also a (also (look Start) (also named none)))) ≡ Some LookAround
 alternation_reports_the_first = refl

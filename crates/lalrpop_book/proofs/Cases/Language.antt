@@ -28,14 +28,14 @@ a_without_b h =
     let two : length h.1 ≡ 1 = ap length h.2.2 in
     omega (arith, whole, length-append h.0 h.1, one, two)
 
--- no words after one another are the empty word
+-- a row of no words is the empty word
 zero_words : Power 0 (Matches a) []
 zero_words = refl
 
 zero_words_are_not_one : ¬ Power 0 (Matches a) (97 ∷ [])
 zero_words_are_not_one h = absurd (cc)
 
--- two are two
+-- a row of two words
 two_words : Power 2 (Matches a) (97 ∷ 97 ∷ [])
 two_words = (97 ∷ [], 97 ∷ [], (refl, refl, (97 ∷ [], [], (refl, refl, refl))))
 
@@ -74,7 +74,7 @@ counts_without_a_limit = (omega arith, λ h. omega arith)
 
 -- ---- trees
 
--- the empty tree matches the empty word alone
+-- the empty tree matches only the empty word
 empty_tree_matches_the_empty_word : Matches empty []
 empty_tree_matches_the_empty_word = refl
 
@@ -102,7 +102,7 @@ class_does_not_match_two_values h = let e : 97 ∷ 98 ∷ [] ≡ h.0 ∷ [] = h.
 class_does_not_match_the_empty_word : ¬ Matches (class a_to_c) []
 class_does_not_match_the_empty_word h = let e : [] ≡ h.0 ∷ [] = h.1.0 in absurd (cc)
 
--- a look matches no word, the empty one neither
+-- a look matches no word, not even the empty one
 look_matches_nothing : (w : List ℕ) → ¬ Matches (look Start) w
 look_matches_nothing w h = h
 
@@ -124,7 +124,7 @@ any_number_matches_the_empty_word greedy = (0, (omega arith, refl))
 one_or_more_does_not_match_the_empty_word : ¬ Matches (repetition 1 None true a) []
 one_or_more_does_not_match_the_empty_word m = omega (arith, m.1.0, length_of_turns m.0 [] m.1.1)
 
--- a group matches what it holds, with a name or without
+-- a group matches what it holds, with or without a name
 group_matches_what_it_holds : Matches (capture None a) (97 ∷ []) × Matches (capture (Some (110 ∷ [])) a) (97 ∷ [])
 group_matches_what_it_holds = (refl, refl)
 

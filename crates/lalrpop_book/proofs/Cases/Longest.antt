@@ -32,11 +32,11 @@ pub prefix_that_matches : IsMatch (a ∷ []) (97 ∷ 98 ∷ []) (97 ∷ [])
 unfolding lib.Utf8.encode
 prefix_that_matches = ((98 ∷ [], (refl, (97 ∷ [], (refl, refl)))), (λ e. cc), (0, (a, (refl, chars_a))))
 
--- the empty prefix is no match, also where a tree matches the empty word
+-- the empty prefix is not a match, even if a tree matches the empty word
 empty_prefix_is_no_match : ¬ IsMatch (repetition 0 None true a ∷ []) (97 ∷ 98 ∷ []) []
 empty_prefix_is_no_match m = m.1 refl
 
--- and `b` is no prefix
+-- and `b` is not a prefix
 part_inside_is_no_match : ¬ IsMatch (literal (98 ∷ []) ∷ []) (97 ∷ 98 ∷ []) (98 ∷ [])
 part_inside_is_no_match m = let n : 97 ≡ 98 = ap (λ v. get_or v 0 0) m.0.1.0 in omega (arith, n)
 
@@ -74,7 +74,7 @@ longest_match_is_a = (prefix_that_matches, one_byte, (((a, (refl, chars_a)), λ 
     zeros zero = refl
     zeros (suc j) = refl
 
--- and there is one; it is neither the empty prefix nor the whole text
+-- and there is one: neither the empty prefix nor the whole text
 longest_match_is_not_none : ¬ IsLongest (a ∷ []) (0 ∷ []) (97 ∷ 98 ∷ []) None
 longest_match_is_not_none h = h (97 ∷ []) prefix_that_matches
 
@@ -84,7 +84,7 @@ longest_match_is_not_empty i h = h.0.1 refl
 longest_match_is_not_the_whole_text : (i : ℕ) → ¬ IsLongest (a ∷ []) (0 ∷ []) (97 ∷ 98 ∷ []) (Some (i, 97 ∷ 98 ∷ []))
 longest_match_is_not_the_whole_text i h = omega (arith, one_byte (97 ∷ 98 ∷ []) h.0)
 
--- of two equal trees with one precedence the later one is named
+-- of two equal trees with equal precedences the later one is named
 earlier_tree_is_not_named : ¬ IsLongest (a ∷ a ∷ []) (0 ∷ 0 ∷ []) (97 ∷ 98 ∷ []) (Some (0, 97 ∷ []))
 earlier_tree_is_not_named h = let l = h.2.1 1 ((a, (refl, chars_a)), λ j w. omega (arith, zeros j)) in omega (arith, l)
   where
@@ -93,7 +93,7 @@ earlier_tree_is_not_named h = let l = h.2.1 1 ((a, (refl, chars_a)), λ j w. ome
     zeros (suc zero) = refl
     zeros (suc (suc j)) = refl
 
--- `b` has none
+-- `b` has no match
 no_match_in_b : IsLongest (a ∷ []) (0 ∷ []) (98 ∷ []) None
 no_match_in_b [] m = m.1 refl
 no_match_in_b (x ∷ p) m =

@@ -8,7 +8,7 @@ pub prefixes : IsPrefix [] (codes "ab") × IsPrefix (codes "a") (codes "ab") × 
 unfolding lib.Utf8.encode
 prefixes = ((codes "ab", (refl, ([], (refl, refl)))), (codes "b", (refl, (codes "a", (refl, refl)))), ([], (refl, (codes "ab", (refl, refl)))))
 
--- another text isn't, nor a longer one
+-- another text isn't a prefix, nor is a longer one
 other_text_is_no_prefix : ¬ IsPrefix (codes "b") (codes "ab")
 other_text_is_no_prefix h = let n : 97 ≡ 98 = ap (λ u. get_or u 0 0) h.1.0 in omega (arith, n)
 
@@ -23,7 +23,7 @@ chars_ab : chars (codes "ab") ≡ codes "ab"
 unfolding chars
 chars_ab = refl
 
--- a prefix of `ab` whose word has one character at most has one byte
+-- a prefix of `ab` whose word has at most one character has one byte
 one_byte : (p : List ℕ) → IsPrefix p (codes "ab") → AtMostA (chars p) → length p ≤ 1
 one_byte [] b m = omega arith
 one_byte (x ∷ []) b m = omega arith
@@ -41,7 +41,7 @@ longest_is_a : IsLongestOf AtMostA (codes "ab") (Some (codes "a"))
 unfolding chars
 longest_is_a = (prefixes.1, omega arith, one_byte)
 
--- not the empty one, and not none
+-- not the empty prefix, and not None
 longest_is_not_empty : ¬ IsLongestOf AtMostA (codes "ab") (Some [])
 unfolding chars
 longest_is_not_empty h = let l = h.2 (codes "a") prefixes.1 (omega arith) in omega (arith, l)
@@ -50,7 +50,7 @@ longest_is_not_none : ¬ IsLongestOf AtMostA (codes "ab") None
 unfolding chars
 longest_is_not_none h = h [] prefixes.0 (omega arith)
 
--- where no word is in the set there is none, the empty one neither
+-- if no word is in the set there is none, not even the empty one
 longest_of_no_words : IsLongestOf (λ w. ⊥) (codes "ab") None
 longest_of_no_words p b h = h
 

@@ -28,6 +28,6 @@ not_covered_between_ranges (inl h) = omega (arith, h.1)
 not_covered_between_ranges (inr (inl h)) = omega (arith, h.0)
 not_covered_between_ranges (inr (inr h)) = h
 
--- no ranges, no value
+-- an empty list of ranges covers no value
 nothing_is_covered_by_no_ranges : (c : ℕ) → ¬ Covered [] c
 nothing_is_covered_by_no_ranges c h = h

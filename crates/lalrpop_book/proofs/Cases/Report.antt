@@ -28,7 +28,7 @@ literals_have_no_fault (suc (suc i)) t e = absurd (cc)
 look_has_a_fault : ¬ NoFault third_is_lazy
 look_has_a_fault n = let e : Some LookAround ≡ None = n 1 (look Start) refl in absurd (cc)
 
--- the first tree with a fault is named, and not a later one
+-- the first tree with a fault is named, not a later one
 pub first_fault_is_that_of_the_look : FirstFault third_is_lazy 1 LookAround
 first_fault_is_that_of_the_look = record { tree = look Start; at = refl; has = refl; none_before = before }
   where
@@ -39,7 +39,7 @@ first_fault_is_that_of_the_look = record { tree = look Start; at = refl; has = r
 pub first_fault_is_not_a_later_one : ¬ FirstFault third_is_lazy 2 NonGreedy
 first_fault_is_not_a_later_one f = let e : Some LookAround ≡ None = f.none_before 1 (look Start) (omega arith) refl in absurd (cc)
 
--- by its own fault
+-- with its own fault
 first_fault_is_not_another_one : ¬ FirstFault third_is_lazy 1 NonGreedy
 first_fault_is_not_another_one f =
     let same : Some (look Start) ≡ Some f.tree = f.at in
@@ -61,7 +61,7 @@ report_of_the_clash w e = (literals_have_no_fault, subst (λ v. IsClash (a ∷ a
 no_report_of_the_clash_turned : (w : Vec ℕ Global) → ¬ IsReport (a ∷ a ∷ []) (0 ∷ 0 ∷ []) (Ambiguity 0 1 w)
 no_report_of_the_clash_turned w r = omega (arith, r.1.less)
 
--- on another word it is not right
+-- with another word the report is wrong
 no_report_of_the_clash_on_another_word : (w : Vec ℕ Global) → w.items ≡ 98 ∷ [] → ¬ IsReport (a ∷ a ∷ []) (0 ∷ 0 ∷ []) (Ambiguity 1 0 w)
 no_report_of_the_clash_on_another_word w e r =
     let same = clash-unique (a ∷ a ∷ []) (0 ∷ 0 ∷ []) w.items (97 ∷ []) 1 0 1 0 r.1 equal_literals_clash in

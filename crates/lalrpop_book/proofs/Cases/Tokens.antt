@@ -29,7 +29,7 @@ token_and_fault : (ts : List Tree) (ps : List ℕ) (a : Bor (List ℕ)) → a.no
     → IsLongest ts ps (codes "b") None → AreItems ts ps (codes "ab") 0 (item a ∷ fault 1 ∷ [])
 token_and_fault ts ps a one longest none = (longest, subst (λ p. AreItems ts ps (codes "ab") (0 + length p) (fault 1 ∷ [])) (sym one) ((λ e. absurd (cc)), none, refl, refl))
 
--- a fault is told by its place in bytes: behind the two bytes of é it isn't 1
+-- a fault gives its place in bytes: after the two bytes of é it isn't 1
 fault_counted_in_characters : (ts : List Tree) (ps text : List ℕ) (é : Bor (List ℕ)) → é.now ≡ 195 ∷ 169 ∷ []
     → ¬ AreItems ts ps text 0 (item é ∷ fault 1 ∷ [])
 fault_counted_in_characters ts ps text é two are =
@@ -42,7 +42,7 @@ fault_of_the_empty_text ts ps xs are = are.0 refl
 fault_told_twice : (ts : List Tree) (ps text : List ℕ) → ¬ AreItems ts ps text 0 (fault 0 ∷ fault 0 ∷ [])
 fault_told_twice ts ps text are = let e = are.3 in absurd (cc)
 
--- a character that nothing matches isn't passed over
+-- a character that nothing matches isn't skipped
 character_skipped : (ts : List Tree) (ps : List ℕ) (b : Bor (List ℕ)) (xs : List Item) → b.now ≡ codes "b"
     → ¬ AreItems ts ps (codes "ab") 0 (item b ∷ xs)
 character_skipped ts ps b xs one are =
@@ -144,7 +144,7 @@ second_begins_at_0 ts ps text a b one again are =
 token_behind_a_fault : (ts : List Tree) (ps text : List ℕ) (fault : TokenFault) (token : Token) → ¬ AreTokens ts ps text 0 (Err fault ∷ Ok token ∷ [])
 token_behind_a_fault ts ps text fault token are = let e = are.3 in absurd (cc)
 
--- ---- without the place
+-- ---- items without places
 
 bare_has_the_pattern_and_the_slice : (token : Token) → bare (Ok token) ≡ Ok (token.index, token.slice)
 bare_has_the_pattern_and_the_slice token = refl

@@ -41,7 +41,7 @@ second_tree_does_not_match h = by_tree 1 (omega arith) (one_of_two a b (97 ∷ [
     by_tree i p (inl m) = omega (arith, p, m.0)
     by_tree i p (inr m) = a_is_not_b (97 ∷ []) refl m.1
 
--- no tree stands behind the last
+-- there is no tree after the last
 no_tree_behind_the_last : ¬ TreeMatches (a ∷ b ∷ []) (97 ∷ []) 2
 no_tree_behind_the_last h = let e : None ≡ Some h.0 = h.1.0 in absurd (cc)
 
@@ -90,7 +90,7 @@ both_zero zero = refl
 both_zero (suc zero) = refl
 both_zero (suc (suc n)) = refl
 
--- `a` twice, with one precedence: both are the strongest
+-- `a` twice, with equal precedences: both are the strongest
 pub both_are_strongest : IsStrongest (a ∷ a ∷ []) (0 ∷ 0 ∷ []) (97 ∷ []) 0 × IsStrongest (a ∷ a ∷ []) (0 ∷ 0 ∷ []) (97 ∷ []) 1
 both_are_strongest = (((a, (refl, refl)), λ j h. omega (arith, both_zero j)), ((a, (refl, refl)), λ j h. omega (arith, both_zero j)))
 

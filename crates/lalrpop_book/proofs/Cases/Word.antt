@@ -6,11 +6,11 @@ use Rattle.lalrpop_book.specs.Word.{IsWord, FirstDifferenceLess, Shortlex}
 empty_word_is_a_word : IsWord []
 empty_word_is_a_word = tt
 
--- the greatest value of 32 bits stands in a word
+-- the greatest value of 32 bits can be in a word
 greatest_value_is_in_a_word : IsWord (97 ∷ 4294967295 ∷ [])
 greatest_value_is_in_a_word = (omega arith, (omega arith, tt))
 
--- one more doesn't
+-- a greater one can't
 value_beyond_32_bits_is_in_no_word : ¬ IsWord (97 ∷ 4294967296 ∷ [])
 value_beyond_32_bits_is_in_no_word h = omega (arith, h.1.0)
 
@@ -32,16 +32,16 @@ prefix_has_no_difference (inr h) = h.1
 shorter_comes_first : Shortlex (98 ∷ []) (97 ∷ 97 ∷ [])
 shorter_comes_first = inl (omega arith)
 
--- and `aa` not before `b`
+-- and `aa` doesn't come before `b`
 longer_does_not_come_first : ¬ Shortlex (97 ∷ 97 ∷ []) (98 ∷ [])
 longer_does_not_come_first (inl h) = omega arith
 longer_does_not_come_first (inr h) = omega (arith, h.0)
 
--- of two words of one length, `ab` comes before `ba`
+-- of two words of the same length, `ab` comes before `ba`
 less_comes_first : Shortlex (97 ∷ 98 ∷ []) (98 ∷ 97 ∷ [])
 less_comes_first = inr (refl, inl (omega arith))
 
--- and `ba` not before `ab`
+-- and `ba` doesn't come before `ab`
 greater_does_not_come_first : ¬ Shortlex (98 ∷ 97 ∷ []) (97 ∷ 98 ∷ [])
 greater_does_not_come_first (inl h) = omega arith
 greater_does_not_come_first (inr h) = later_place_decides_nothing h.1

@@ -18,7 +18,7 @@ abbrev first : Option (ℕ × List ℕ) → ℕ
 first None = 0
 first (Some m) = get_or m.1 0 0
 
--- not with another index, not another prefix, and not in one of the two alone
+-- not with another index, not another prefix, and not only one of the two
 other_index : ¬ Agree (Some (97 ∷ [])) (Some (1, 97 ∷ []))
 other_index h = let n : 1 ≡ 0 = ap index h in omega (arith, n)
 

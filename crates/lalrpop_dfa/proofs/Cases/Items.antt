@@ -33,7 +33,7 @@ graph_of_a = record {
 before_the_letter_is_reached : IsReached (graph_of_a ∷ []) [] (0, 3)
 before_the_letter_is_reached = (graph_of_a, (refl, epsilon 2 3 [] (0, omega arith, refl) (here 3 refl)))
 
--- and not to any of a second automaton, which isn't there
+-- and not to any state of a second automaton, which isn't there
 state_of_no_automaton_is_not_reached : (w : List ℕ) (p : ℕ) → ¬ IsReached (graph_of_a ∷ []) w (1, p)
 state_of_no_automaton_is_not_reached w p (g, (e, path)) = absurd (cc)
 
@@ -46,7 +46,7 @@ no_label_leaves_no_items r h = omega (arith, h.3.0.1)
 
 -- ---- what the automata of lists hold
 
--- a tree has to have its automaton
+-- a tree must have its automaton
 missing_automaton_is_not_compiled : ¬ AreCompiled (literal (97 ∷ []) ∷ []) []
 missing_automaton_is_not_compiled c = omega (arith, c.same_length)
 
@@ -57,7 +57,7 @@ no_trees_have_no_automata = record { same_length = refl; each = λ i t g e f. ab
 abbrev automaton_of_nothing : List Row
 automaton_of_nothing = record { kind = Reject; tests = []; other = 0; items = [] } ∷ []
 
--- it is that of no trees
+-- it is the automaton of no trees
 automaton_of_nothing_holds_nothing : HoldsItems [] automaton_of_nothing
 automaton_of_nothing_holds_nothing = record {
   reached = λ p l. ([], search (arith, is_first p l));
@@ -203,7 +203,7 @@ empty_tree_has_its_automaton = record { same_length = refl; each = each }
         subst (λ u. IsCompiled u g) same_tree (subst (λ u. IsCompiled empty u) same_graph graph_is_compiled)
     each (suc i) t g e f = absurd (cc)
 
--- a literal hasn't
+-- a literal doesn't
 literal_has_another_automaton : ¬ AreCompiled (literal (97 ∷ []) ∷ []) (graph_of_empty ∷ [])
 literal_has_another_automaton c =
     let path = ((c.each 0 _ _ refl refl).reads (97 ∷ [])).1 refl in
@@ -357,7 +357,7 @@ with_joined_ranges =
     ∷ record { kind = Reject; tests = []; other = 2; items = (0, 1) ∷ [] }
     ∷ []
 
--- it doesn't hold its items: the ranges of a state are cut where its labels are
+-- it doesn't hold its items: the ranges of a state end where its labels do
 joined_ranges_do_not_hold_items : (ns : List Graph) → AreCompiled (ab_or_c ∷ []) ns → ¬ HoldsItems ns with_joined_ranges
 joined_ranges_do_not_hold_items ns c h =
     let uniform = ((h.labels 0 _ refl).are_blocks (between 97 99) (0, omega arith, refl)).uniform in
@@ -433,7 +433,7 @@ numbered_backwards =
     ∷ record { kind = Reject; tests = []; other = 3; items = [] }
     ∷ []
 
--- `b` leads to the state before that of `a`
+-- `b` leads to a state with a smaller number than that of `a`
 states_out_of_the_order_of_words : ¬ IsInWordOrder numbered_backwards
 states_out_of_the_order_of_words o =
     let found = o 1 2 _ _ (omega arith) refl refl (λ e. cc) (λ e. cc) in

@@ -20,21 +20,21 @@ cell_at cells boundaries k = get_or cells (get_or boundaries k 0) no_cell
 abbrev pub first_of : List Cell → List ℕ → ℕ → ℕ
 first_of cells boundaries k = (cell_at cells boundaries k).first
 
--- values take some edge
+-- the values take some edge
 abbrev pub has_edges : Option Transitions → Bool
 has_edges None = false
 has_edges (Some t) = nat_lt 0 (length t.list.items)
 
--- the values from a cell up to another one, where there are some and they take some edge
+-- the values from a cell up to another one, if there are any and they take some edge
 abbrev pub between : List Transitions → Cell → Cell → List Block
 between by_class x y = cond (nat_lt x.first y.first) (cond (has_edges (slice_get by_class x.class)) (record { range = record { start = x.first; end = y.first - 1 }; class = x.class } ∷ []) []) []
 
--- those up to the k-th boundary from the one before it
+-- the block up to the k-th boundary from the one before it
 abbrev pub block_to : List Cell → List Transitions → List ℕ → ℕ → List Block
 block_to cells by_class boundaries zero = []
 block_to cells by_class boundaries (suc k) = between by_class (cell_at cells boundaries k) (cell_at cells boundaries (suc k))
 
--- those up to the first k of the boundaries, and up to all of them
+-- the blocks up to the first k of the boundaries, and up to all of them
 abbrev pub blocks_to : List Cell → List Transitions → List ℕ → ℕ → List Block
 blocks_to cells by_class boundaries zero = []
 blocks_to cells by_class boundaries (suc k) = blocks_to cells by_class boundaries k ++ block_to cells by_class boundaries k

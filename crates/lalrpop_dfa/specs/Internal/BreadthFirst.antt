@@ -7,7 +7,7 @@ use Rattle.lalrpop_book.specs.Word.{Shortlex}
 abbrev pub ShortlexAtMost : List ℕ → List ℕ → Type 0
 ShortlexAtMost v w = (v ≡ w) ⊎ Shortlex v w
 
--- sets, the one a set goes to by a value, and the sets that are never left for another kind
+-- sets, the set that a set leads to by a value, and which sets are dead
 pub record Automaton (S : Type 0) : Type 0 where
   pub start : S
   pub move : S → ℕ → S
@@ -33,14 +33,14 @@ from_of origins k = (get_or origins k (0, 0)).0
 abbrev pub value_of : List (ℕ × ℕ) → ℕ → ℕ
 value_of origins k = (get_or origins k (0, 0)).1
 
--- the place (o, x) stands before (p, y): a smaller number, or the same and a smaller value
+-- the place (o, x) is before (p, y): a smaller number, or the same number and a smaller value
 abbrev pub Before : ℕ → ℕ → ℕ → ℕ → Type 0
 Before o x p y = (o < p) ⊎ ((o ≡ p) × (x < y))
 
 abbrev pub NotAfter : ℕ → ℕ → ℕ → ℕ → Type 0
 NotAfter o x p y = (o < p) ⊎ ((o ≡ p) × (x ≤ y))
 
--- the move from number i by c was looked at: it leads to a dead set, or to one that has a number
+-- the move from number i by c was examined: it leads to a dead set, or to one that has a number
 -- and was first met here or before
 abbrev pub Covered : {S : Type 0} → Automaton S → List S → List (ℕ × ℕ) → ℕ → ℕ → Type 0
 Covered m sets origins i c =
@@ -48,7 +48,7 @@ Covered m sets origins i c =
     ⊎ ((j : ℕ) × (j < length sets) × (nth m sets j ≡ m.move (nth m sets i) c)
     × ((j ≡ 0) ⊎ NotAfter (from_of origins j) (value_of origins j) i c))
 
--- the numbering as far as the place (n, v): all moves from numbers below n were looked at, and those
+-- the numbering up to the place (n, v): all moves from numbers below n were examined, and those
 -- from n by values below v
 pub record IsBreadthFirst {S : Type 0} (m : Automaton S) (sets : List S) (origins : List (ℕ × ℕ)) (n v : ℕ) : Type 0 where
   pub same_length : length origins ≡ length sets
@@ -61,7 +61,7 @@ pub record IsBreadthFirst {S : Type 0} (m : Automaton S) (sets : List S) (origin
   pub behind : (k : ℕ) → 0 < k → k < length sets → Before (from_of origins k) (value_of origins k) n v
   pub covered : (i c : ℕ) → i < length sets → Before i c n v → Covered m sets origins i c
 
--- each number but 0 was first met from an earlier one
+-- each number but 0 was first met from a smaller one
 abbrev pub AreEarlier : List (ℕ × ℕ) → Type 0
 AreEarlier origins = (k : ℕ) → 0 < k → k < length origins → from_of origins k < k
 
@@ -74,7 +74,7 @@ word_of origins (suc f) (suc k) = word_of origins f (from_of origins (suc k)) ++
 abbrev pub word : List (ℕ × ℕ) → ℕ → List ℕ
 word origins k = word_of origins k k
 
--- what adding a set does: it has a number, or gets the next one with its origin
+-- what adding a set does: it already has a number, or gets the next one with its origin
 abbrev pub Added : {S : Type 0} → Automaton S → List S → List (ℕ × ℕ) → ℕ → ℕ → S → ℕ → List S → List (ℕ × ℕ) → Type 0
 Added m sets origins n v t j sets2 origins2 =
     ((j < length sets) × (nth m sets j ≡ t) × (sets2 ≡ sets) × (origins2 ≡ origins))

@@ -25,17 +25,17 @@ use Rattle.lalrpop_book.specs.declared.error.NfaConstructionError.TheVariants.{O
 use Rattle.lalrpop_book.specs.declared.error.DfaConstructionError.{DfaConstructionError}
 use Rattle.lalrpop_book.specs.declared.error.DfaConstructionError.TheVariants.{NfaConstructionError as Refused, Ambiguity, OutOfMemory}
 
--- the set has the number j: it had it, or it was added last, with its origin
+-- the set has the number j: it already had it, or it was added last, with its origin
 abbrev pub AddedTo : List (List Item) → List (ℕ × ℕ) → ℕ → ℕ → List Item → ℕ → List (List Item) → List (ℕ × ℕ) → Type 0
 AddedTo sets origins n v t j sets2 origins2 =
     ((slice_get sets j ≡ Some t) × (sets2 ≡ sets) × (origins2 ≡ origins))
     ⊎ (((k : ℕ) → slice_get sets k ≡ Some t → ⊥) × (j ≡ length sets) × (sets2 ≡ sets ++ t ∷ []) × (origins2 ≡ origins ++ (n, v) ∷ []))
 
--- the same of numbered sets, whose place stays
+-- the same for numbered sets, whose place stays
 abbrev pub IsAdded : Sets → ℕ × ℕ → List Item → ℕ → Sets → Type 0
 IsAdded sets o t j sets2 = AddedTo sets.kernels.list sets.origins.items o.0 o.1 t j sets2.kernels.list sets2.origins.items × (sets2.kernels.place ≡ sets.kernels.place)
 
--- each number of the map is that of the set to which the set s leads by the values that take these test edges
+-- each number of the map is that of the set to which s leads by the values that take these test edges
 abbrev pub IsEdgeMemo : List Graph → List Item → BTreeMap Transitions ℕ → List (List Item) → Type 0
 IsEdgeMemo ns s memo sets = (leads : Transitions) (j v : ℕ) → get transitions_cmp memo leads ≡ Some j → AreTransitions ns s v leads.list.items → slice_get sets j ≡ Some (move ns s v)
 
@@ -56,7 +56,7 @@ IsNumberOfEqual by_class memo c j = (d : ℕ) × (t u : Transitions) × ((slice_
 abbrev pub AreSmall : List (ℕ × ℕ) → Type 0
 AreSmall origins = (k : ℕ) → value_of origins k ≤ 4294967295
 
--- sets that have a number keep it
+-- sets with a number keep it
 abbrev pub Keep : List Graph → List (List Item) → List (List Item) → Type 0
 Keep ns sets sets2 = (k : ℕ) → k < length sets → (k < length sets2) × (nth (subset_automaton ns) sets2 k ≡ nth (subset_automaton ns) sets k)
 
@@ -104,7 +104,7 @@ IsTieOf ps s v (Refused i e) = ⊥
 IsTieOf ps s v (Ambiguity i j w) = IsTied ps s i j × (w.items ≡ v)
 IsTieOf ps s v OutOfMemory = Unit {0}
 
--- it is said that trees i and j clash on the word v, or memory was refused
+-- the error says that trees i and j clash on the word v, or that memory was refused
 abbrev pub IsClashAt : List ℕ → ℕ → ℕ → DfaConstructionError → Type 0
 IsClashAt v i j (Refused k e) = ⊥
 IsClashAt v i j (Ambiguity k l w) = (k ≡ i) × (l ≡ j) × (w.items ≡ v)
@@ -128,7 +128,7 @@ pub record IsCompiledAt (ts : List Tree) (i : ℕ) (g : Graph) : Type 0 where
   pub compiled : IsCompiled tree g
   pub fixed : HasFixedEdges g.edges
 
--- it is said that pattern i was not compiled, and why
+-- the error says that pattern i was not compiled, and why
 abbrev pub IsRefusalOf : ℕ → NfaConstructionError → DfaConstructionError → Type 0
 IsRefusalOf i e (Refused j f) = (j ≡ i) × (f ≡ e) × (e ≢ NoMemory)
 IsRefusalOf i e (Ambiguity j k w) = ⊥

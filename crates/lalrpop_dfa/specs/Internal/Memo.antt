@@ -1,4 +1,4 @@
--- What a memo of the sets that a set leads to knows.
+-- What a memo holds of the sets that a set leads to.
 use Rattle.std.specs.Prelude.{◌≡◌, ℕ, ◌<◌, ◌⊎◌, List, length, slice_get, Option, Some}
 use Rattle.std.specs.List.{Contains}
 use Rattle.std.specs.BTreeMap.{BTreeMap, get}
@@ -9,13 +9,13 @@ use Rattle.lalrpop_dfa.specs.Internal.Transitions.{transitions_cmp}
 use Rattle.lalrpop_dfa.specs.declared.build.memo.Memo.{Memo}
 use Rattle.lalrpop_dfa.specs.declared.build.scratch.Transitions.{Transitions}
 
--- the number is that of another class whose values take the same edges, or stands beside these edges
+-- the number is that of another class whose values take the same edges, or the map has it for these edges
 abbrev pub IsFound : List Transitions → Memo → ℕ → ℕ → Type 0
 IsFound by_class memo c j =
     IsNumberOfEqual by_class memo.by_class.items c j
     ⊎ ((t : Transitions) × ((slice_get by_class c ≡ Some t) × (get transitions_cmp memo.by_edges t ≡ Some j)))
 
--- only these classes have numbers, and they are within
+-- only these classes have numbers, and they are within bounds
 pub record AreNumbersIn (used : List ℕ) (numbers : List (Option ℕ)) : Type 0 where
   pub within : (c : ℕ) → Contains used c → c < length numbers
   pub all : (c j : ℕ) → slice_get numbers c ≡ Some (Some j) → Contains used c

@@ -18,7 +18,7 @@ use Rattle.lalrpop_dfa.specs.declared.build.scratch.Scratch.{Scratch}
 use Rattle.lalrpop_dfa.specs.declared.build.scratch.Transitions.{Transitions}
 use Rattle.lalrpop_dfa.specs.declared.build.sets.Sets.{Sets}
 
--- the automata and the precedences that are given, the sets by number and where each was first met, the number that is expanded,
+-- the automata and the precedences that are given, the sets by number and where each was first met, the number being expanded,
 -- the rows that are written, and what leaves the number's set
 pub record Stage : Type 0 where
   pub automata : Labelled
@@ -30,7 +30,7 @@ pub record Stage : Type 0 where
   pub boundaries : List ℕ
   pub by_class : List Transitions
 
--- the stage of a construction with these sets, of which the number is expanded
+-- the stage of a construction with these sets, of which this number is being expanded
 abbrev pub stage : Labelled → List ℕ → Sets → ℕ → Scratch → Written → Stage
 stage a ps sets number scratch written = record {
   automata = a;
@@ -56,7 +56,7 @@ pub record IsExpansion (a : Labelled) (pattern_count : ℕ) (sets : List (List I
 abbrev pub Extends : List (List Item) → List (List Item) → Type 0
 Extends sets sets2 = (k : ℕ) (s : List Item) → slice_get sets k ≡ Some s → slice_get sets2 k ≡ Some s
 
--- the number's set is s, which holds items
+-- the number's set is s, whose members are items
 pub record IsAt (e : Stage) (s : List Item) : Type 0 where
   pub here : slice_get e.kernels.list e.number ≡ Some s
   pub inside : AreItemsOf e.automata.graphs s

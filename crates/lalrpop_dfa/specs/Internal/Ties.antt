@@ -8,20 +8,20 @@ use Rattle.lalrpop_book.specs.Clashes.{Entry, AreInOrder}
 abbrev pub HasPair : List Entry → ℕ → ℕ → Type 0
 HasPair cs i j = (c : Entry) × (Contains cs c × (c.match0 ≡ i) × (c.match1 ≡ j))
 
--- the set has just the pairs of the entries
+-- the set has exactly the pairs of the entries
 abbrev pub ArePairsOf : BTreeSet (ℕ × ℕ) → List Entry → Type 0
 ArePairsOf pairs cs = (i j : ℕ) → Contains pairs.keys (i, j) ↔ HasPair cs i j
 
--- the entry was added last, unless its pair was there
+-- the entry was added last, unless its pair had one
 abbrev pub IsAddedOnce : List Entry → Entry → List Entry → Type 0
 IsAddedOnce cs c cs2 =
     (HasPair cs c.match0 c.match1 × (cs2 ≡ cs)) ⊎ ((¬ HasPair cs c.match0 c.match1) × (cs2 ≡ cs ++ c ∷ []))
 
--- a number is greater than those at the places before it
+-- each number is greater than those at earlier places
 abbrev pub AreAscending : List ℕ → Type 0
 AreAscending is = (p q i j : ℕ) → q < p → slice_get is p ≡ Some i → slice_get is q ≡ Some j → j < i
 
--- places p and q were reached, where pairs of places are gone through from the last one down to u and v
+-- places p and q were reached, when pairs of places are visited from the last one down to u and v
 abbrev pub IsReached : ℕ → ℕ → ℕ → ℕ → Type 0
 IsReached u v p q = (u < p) ⊎ ((p ≡ u) × (v ≤ q))
 
@@ -29,8 +29,8 @@ IsReached u v p q = (u < p) ⊎ ((p ≡ u) × (v ≤ q))
 abbrev pub AreOwn : ℕ → List ℕ → Type 0
 AreOwn n ps = (length ps ≡ n) × ((i : ℕ) → i < n → slice_index ps i ≡ i)
 
--- behind the entries cs, those of the pairs of strongest trees that were reached, in order, each with the word w; none of a pair
--- that cs has
+-- after the entries cs come those of the pairs of strongest trees that were reached, in order, each with the word w, without
+-- the pairs that cs has
 pub record AreTiesTo (strongest w : List ℕ) (cs es : List Entry) (u v : ℕ) : Type 0 where
   pub each : (c : Entry) → Contains es c → (c.word ≡ w)
       × ((p q : ℕ) × ((q < p) × (slice_get strongest p ≡ Some c.match0) × (slice_get strongest q ≡ Some c.match1) × IsReached u v p q))

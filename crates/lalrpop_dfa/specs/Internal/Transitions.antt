@@ -5,7 +5,7 @@ use Rattle.std.specs.Cmp.Lexicographic.{slice_cmp}
 use Rattle.std.specs.declared.cmp.Ordering.{Ordering}
 use Rattle.lalrpop_book.specs.Range.{Range}
 use Rattle.lalrpop_nfa.specs.Graph.{Graph}
-use Rattle.lalrpop_alphabet.specs.Internal.Alphabet.{Classes, LeadsBy, CutsAt, IsEndOf, IsInCell, IsFirstOf}
+use Rattle.lalrpop_alphabet.specs.Internal.Alphabet.{Classes, LeadsBy, HasBoundaryAt, IsEndOf, IsInCell, IsFirstOf}
 use Rattle.lalrpop_alphabet.specs.declared.Cell.{Cell}
 use Rattle.lalrpop_items.specs.Automata.{Item}
 use Rattle.lalrpop_dfa.specs.Items.{IsLeaving}
@@ -26,7 +26,7 @@ AreBelow n ks = (k : ℕ) → Contains ks k → k < n
 abbrev pub AreBare : List Transitions → Type 0
 AreBare by_class = (c : ℕ) (t : Transitions) → slice_get by_class c ≡ Some t → t.list.items ≡ []
 
--- to the edges of each class come those that E allows for it
+-- the edges of each class gain those that E allows for it
 abbrev pub Gained : List Transitions → List Transitions → (ℕ → Transition → Type 0) → Type 0
 Gained old new E = (length new ≡ length old)
     × ((c : ℕ) (t t2 : Transitions) → slice_get old c ≡ Some t → slice_get new c ≡ Some t2 → (l : Transition) → Contains t2.list.items l ↔ (Contains t.list.items l ⊎ E c l))
@@ -38,7 +38,7 @@ AreGathered a items by_class = (length by_class ≡ a.count)
 
 -- the cells at which labels of the items begin or are over
 abbrev pub AreBoundariesOf : Classes → List Item → List ℕ → Type 0
-AreBoundariesOf a items boundaries = (k : ℕ) → Contains boundaries k ↔ ((x : Item) × (Contains items x × CutsAt a x.0 x.1 k))
+AreBoundariesOf a items boundaries = (k : ℕ) → Contains boundaries k ↔ ((x : Item) × (Contains items x × HasBoundaryAt a x.0 x.1 k))
 
 -- the labels that leave a set begin or are over at the boundaries, and its values take the edges of their classes
 pub record IsLaidOut (ns : List Graph) (s : List Item) (cells : List Cell) (boundaries : List ℕ) (by_class : List Transitions) : Type 0 where

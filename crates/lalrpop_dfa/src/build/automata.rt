@@ -1,6 +1,6 @@
 //! The automata of some trees, with the alphabet of their labels.
 //!
-//! The type carries what is memo of them, so that the functions of the construction need not ask for it.
+//! The type carries what is known of them, so that the functions of the construction need not require it.
 
 ghost use Rattle.std.specs.Prelude.{◌≡◌, ℕ, ◌<◌, ◌↔◌, length, map, slice_get, Some, IfOk, IfErr, OnOk};
 ghost use Rattle.std.specs.List.{Contains};

@@ -15,7 +15,7 @@ use lalrpop_items::{Item, ItemSet};
 use lalrpop_nfa::Nfa;
 use std::alloc::{AllocError, Global};
 
-// The greatest of the strongest patterns, its precedence, and the second greatest where there are two.
+// The greatest of the strongest patterns, its precedence, and the second greatest if there are two or more.
 #[derive(Clone, Copy)]
 struct Best {
     index: NfaIndex,
@@ -23,14 +23,14 @@ struct Best {
     tied: Option<NfaIndex>,
 }
 
-/// Two patterns that are the strongest, where there is to be one.
+/// Two strongest patterns, where there may be only one.
 #[derive(Clone, Copy)]
 pub(super) struct Tie {
     pub(super) greatest: NfaIndex,
     pub(super) second: NfaIndex,
 }
 
-// The best once a further pattern is met, which is greater than those before.
+// The best after one more pattern, which is greater than those before.
 fn raise(best: Option<Best>, index: NfaIndex, precedence: usize) -> Best
     ensures { result ≡ raised best index precedence }
 {

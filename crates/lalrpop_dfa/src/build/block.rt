@@ -9,7 +9,7 @@ use lalrpop_ranges::Test;
 use lalrpop_table::RowWriter;
 use std::alloc::AllocError;
 
-/// No value lies before the first boundary, so that no edge ends there.
+/// No value lies before the first boundary, so no edge ends there.
 pub(super) const BEFORE_ALL: Cell = Cell {
     first: u64::MAX,
     class: 0,
@@ -30,7 +30,7 @@ impl Block {
         self.to.first <= self.from.first
     }
 
-    /// The origin of a set that is first met as the one to which they lead from a number.
+    /// The origin of a set that is first met when these values lead to it from a number.
     pub(super) fn origin(&self, number: usize) -> Origin
         requires { self.now.from.first < 2 ^ 32 }
         ensures { result ≡ (number, self.now.from.first) }

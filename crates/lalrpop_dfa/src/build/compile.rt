@@ -10,7 +10,7 @@ use lalrpop_hir::Regex;
 use lalrpop_nfa::{Nfa, NfaConstructionError};
 use std::alloc::Global;
 
-// What is reported where the pattern at this place was not compiled.
+// What is reported if the pattern with this index was not compiled.
 fn refusal(index: NfaIndex, error: NfaConstructionError) -> DfaConstructionError
     ensures { IsRefusalOf index error result }
 {
@@ -20,7 +20,7 @@ fn refusal(index: NfaIndex, error: NfaConstructionError) -> DfaConstructionError
     }
 }
 
-// The automaton of the pattern at this place, where no pattern before it has a fault, or what is reported of it.
+// The automaton of the pattern with this index, or what is reported of it. No pattern before it has a fault.
 fn compile(alloc: Global, regexs: &[Regex], index: usize) -> Result<Nfa, DfaConstructionError>
     requires within { index < length regexs.now }
     requires no_fault { NoFaultBefore regexs.now index }

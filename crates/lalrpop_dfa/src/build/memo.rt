@@ -10,12 +10,12 @@ use crate::DfaStateIndex;
 use std::alloc::{AllocError, Global};
 use std::collections::BTreeMap;
 
-// Up to this number of classes with edges, edges are not looked up: most sets have at most two, and a look-up finds next to
-// nothing there and costs more than it saves.
+// Up to this number of classes with edges, edges are not looked up: most sets have at most two, for which a look-up finds
+// almost nothing and costs more than it saves.
 const FEW: usize = 3;
 
-/// The numbers of the sets that a set leads to, as far as they were found: by the class of a value, and by the test edges
-/// that a value takes. The class that got its number last is the first one to be asked: neighbours often take the same edges.
+/// The numbers found so far for the sets that a set leads to: by the class of a value, and by the test edges that a value
+/// takes. The class that got its number last is tried first, since neighbours often take the same edges.
 #[derive(Drop)]
 pub(super) struct Memo {
     pub(super) by_class: Vec<Option<DfaStateIndex>>,
@@ -49,7 +49,7 @@ impl Memo {
         })
     }
 
-    // The number of the class that got one last, where its values take the same test edges as those of a class.
+    // The number of the class that got one last, if its values take the same test edges as those of a class.
     fn number_of_last(&self, edges: &EdgesByClass, class: usize) -> Option<DfaStateIndex>
         requires { class < length edges.now.lists.items }
         ensures { IfSome result (IsNumberOfEqual edges.now.lists.items self.now.by_class.items class) }
@@ -79,7 +79,7 @@ impl Memo {
         }
     }
 
-    /// Keeps a number by the test edges of a class.
+    /// Records a number for the test edges of a class.
     pub(super) fn insert(
         &mut self,
         edges: &EdgesByClass,
@@ -96,7 +96,7 @@ impl Memo {
         Ok(())
     }
 
-    /// Keeps a number by a class.
+    /// Records a number for a class.
     pub(super) fn note(&mut self, class: usize, number: DfaStateIndex)
         requires { class < length self.old.by_class.items }
         ensures class { self.new.by_class.items ≡ slice_set self.old.by_class.items class (Some number) }
@@ -106,7 +106,7 @@ impl Memo {
         self.last_class = class;
     }
 
-    /// Forgets all numbers. Only these classes have some.
+    /// Forgets all numbers. Only these classes have any.
     pub(super) fn clear(&mut self, used: &[usize])
         requires { AreNumbersIn used.now self.old.by_class.items }
         ensures none { IsEmptyMemo self.new.by_class.items }

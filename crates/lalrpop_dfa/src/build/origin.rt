@@ -30,8 +30,8 @@ impl Origin {
     }
 }
 
-/// The word by which the set with this number was first met: the values of the origins from it back to number 0, the last
-/// one first.
+/// The word by which the set with this number was first met: the values of the origins from it back to number 0, in
+/// reverse.
 pub(crate) fn word_to(
     alloc: Global,
     origins: &[Origin],

@@ -3,7 +3,7 @@
 ghost use Rattle.std.specs.Prelude.{◌≡◌, ℕ, ◌<◌, ◌⊎◌, ◌↔◌, [], length, slice_get, not, IfOk, OnOk};
 ghost use Rattle.lalrpop_dfa.specs.Internal.Blocks.{has_edges};
 ghost use Rattle.std.specs.List.{Contains};
-ghost use Rattle.lalrpop_alphabet.specs.Internal.Alphabet.{HasState, HasCut, LeadsBy, CutsAt, IsAlphabetOf};
+ghost use Rattle.lalrpop_alphabet.specs.Internal.Alphabet.{HasState, HasBoundary, LeadsBy, HasBoundaryAt, IsAlphabetOf};
 ghost use Rattle.lalrpop_items.specs.Internal.Given.{AreAutomata, AreItemsOf};
 ghost use Rattle.lalrpop_dfa.specs.Internal.Scratch.{AreNoted, AreMarked, AreUnmarked, HoldMarked, IsTidy, StaysTidy, IsCleared, IsScratchOf, IsFilled};
 ghost use Rattle.lalrpop_items.specs.Automata.{Item as ItemValue};
@@ -30,15 +30,15 @@ impl Clone for Transitions {
     }
 }
 
-/// For each class the test edges that its values take, and the classes that have some.
+/// For each class, the test edges that its values take; and the classes that have any.
 #[derive(Drop)]
 pub(super) struct EdgesByClass {
     pub(super) lists: Vec<Transitions>,
     pub(super) used: Vec<usize>,
 }
 
-/// The cells at which labels begin or are over, those of each group of labels once: a mark for each group whose boundaries are
-/// there, and the list of these groups.
+/// The cells at which labels begin or are over, added once for each group of labels: a mark for each group whose boundaries
+/// are present, and the list of these groups.
 #[derive(Drop)]
 pub(super) struct Boundaries {
     pub(super) places: Vec<usize>,
@@ -46,10 +46,10 @@ pub(super) struct Boundaries {
     groups: Vec<usize>,
 }
 
-/// Scratch for what leaves a set of items, which is used again from set to set: the cells at which labels begin or are over,
-/// the test edges by class, and the numbers that are memo of them.
+/// Scratch for what leaves a set of items, reused from set to set: the cells at which labels begin or are over, and
+/// the test edges by class.
 ///
-/// So a set costs what leaves it, whatever the number of classes is, and its lists are not allocated again.
+/// So the cost of a set is that of what leaves it, however many classes there are, and the lists are not allocated again.
 #[derive(Drop)]
 pub(super) struct Scratch {
     pub(super) boundaries: Boundaries,
@@ -57,7 +57,7 @@ pub(super) struct Scratch {
 }
 
 impl EdgesByClass {
-    /// No value of the class takes an edge.
+    /// Whether no value of the class takes an edge.
     pub(super) fn is_bare(&self, class: usize) -> bool
         requires { class < length self.now.lists.items }
         ensures { has_edges (slice_get self.now.lists.items class) ≡ not result }
@@ -65,7 +65,7 @@ impl EdgesByClass {
         self.lists[class].list.is_empty()
     }
 
-    // Adds an edge to a class, which is noted when its first one comes.
+    // Adds an edge to a class, which is noted when it gets its first one.
     fn add(&mut self, class: usize, transition: Transition) -> Result<(), AllocError>
         requires within { class < length self.old.lists.items }
         requires noted { AreNoted self.old.lists.items self.old.used.items }
@@ -98,7 +98,7 @@ impl EdgesByClass {
 }
 
 impl Boundaries {
-    // No boundaries, and a mark for each group.
+    // No boundaries, and an unset mark for each group.
     fn new(alloc: Global, group_count: usize) -> Result<Boundaries, AllocError>
         ensures count { IfOk result (λ boundaries. length boundaries.marks.items ≡ group_count) }
         ensures marked { IfOk result (λ boundaries. AreMarked boundaries.marks.items boundaries.groups.items) }
@@ -110,12 +110,12 @@ impl Boundaries {
         })
     }
 
-    // Adds the boundaries of a group, unless they are there.
+    // Adds the boundaries of a group, unless they are present.
     fn add(&mut self, alphabet: &Alphabet, number: usize) -> Result<(), AllocError>
         requires has_group { number < length alphabet.now.groups }
         requires marked { HoldMarked alphabet.now.groups self.old }
         ensures boundaries { OnOk result ((k : ℕ) → Contains self.new.places.items k
-            ↔ (Contains self.old.places.items k ⊎ HasCut alphabet.now.groups number k)) }
+            ↔ (Contains self.old.places.items k ⊎ HasBoundary alphabet.now.groups number k)) }
         ensures marked { OnOk result (HoldMarked alphabet.now.groups self.new) }
         ensures listed { AreMarked self.new.marks.items self.new.groups.items }
         ensures count { length self.new.marks.items ≡ length self.old.marks.items }
@@ -125,11 +125,12 @@ impl Boundaries {
         }
         self.groups.push(number)?;
         self.marks[number] = true;
-        self.places.extend_from_slice(&alphabet.group(number).cuts)?;
+        self.places
+            .extend_from_slice(&alphabet.group(number).boundaries)?;
         Ok(())
     }
 
-    // Takes out all boundaries: of the marks only those that are set are looked at.
+    // Removes all boundaries. Of the marks, only those that are set are visited.
     fn clear(&mut self)
         requires { AreMarked self.old.marks.items self.old.groups.items }
         ensures places { self.new.places.items ≡ [] }
@@ -156,13 +157,13 @@ fn add_item(
     requires noted { AreNoted edges.old.lists.items edges.old.used.items }
     requires marked { HoldMarked alphabet.now.groups boundaries.old }
     ensures boundaries { OnOk result ((k : ℕ) → Contains boundaries.new.places.items k
-        ↔ (Contains boundaries.old.places.items k ⊎ CutsAt alphabet.now item.0 item.1 k)) }
+        ↔ (Contains boundaries.old.places.items k ⊎ HasBoundaryAt alphabet.now item.0 item.1 k)) }
     ensures marked { OnOk result (HoldMarked alphabet.now.groups boundaries.new) }
     ensures classes { OnOk result (Gained edges.old.lists.items edges.new.lists.items
         (λ c l. (l.item ≡ item) × LeadsBy alphabet.now item.0 item.1 c l.to)) }
     ensures tidy { StaysTidy boundaries.old boundaries.new edges.old edges.new }
 {
-    for edge in alphabet.leads(item.pattern().index(), item.state()) {
+    for edge in alphabet.edge_groups(item.pattern().index(), item.state()) {
         let group = alphabet.group(edge.group);
         let to = edge.to;
         boundaries.add(alphabet, edge.group)?;
@@ -171,7 +172,7 @@ fn add_item(
     Ok(())
 }
 
-// Classes with no edge.
+// Classes without edges.
 fn bare_classes(alloc: Global, count: usize) -> Result<Vec<Transitions>, AllocError>
     ensures count { IfOk result (λ classes. length classes.items ≡ count) }
     ensures bare { IfOk result (λ classes. AreBare classes.items) }
@@ -185,7 +186,7 @@ fn bare_classes(alloc: Global, count: usize) -> Result<Vec<Transitions>, AllocEr
     Ok(classes)
 }
 
-// Gathers what leaves the items, where nothing was gathered yet.
+// Gathers what leaves the items, into empty scratch.
 fn gather(
     alphabet: &Alphabet,
     items: &[Item],
@@ -224,7 +225,7 @@ impl Scratch {
         })
     }
 
-    // Takes out what leaves the set before: of the classes only those that were used are looked at.
+    // Empties the scratch. Of the classes, only those that were used are visited.
     fn clear(&mut self)
         requires { IsTidy self.old }
         ensures cleared { IsCleared self.new }
@@ -240,8 +241,8 @@ impl Scratch {
     /// Gathers the boundaries of the labels that leave the items of a set, in order, and the test edges that the values of each
     /// class take.
     ///
-    /// The cost is that of the labels' classes, and of the boundaries of each group of labels once; the boundaries of a group are
-    /// sorted already, and a sort only merges them.
+    /// The cost is that of the labels' classes, and of the boundaries of each group of labels once. The boundaries of a group are
+    /// already sorted, so the sort only merges them.
     pub(super) fn fill(
         &mut self,
         nfas: &[Nfa],

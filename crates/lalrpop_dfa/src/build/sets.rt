@@ -16,7 +16,7 @@ use lalrpop_items::{ItemSet, Transition};
 use lalrpop_kernels::KernelSet;
 use std::alloc::{AllocError, Global};
 
-/// The sets of items by number, and where each was first met. A set that is to be added is computed in the workspace.
+/// The sets of items by number, and where each was first met. A set to be added is computed in the workspace.
 #[derive(Drop)]
 pub(super) struct Sets {
     alloc: Global,
@@ -44,7 +44,7 @@ impl Sets {
         })
     }
 
-    // The number of a set, which is added with its origin unless it has one.
+    // The number of a set. A set without a number is added with its origin.
     fn add(&mut self, set: ItemSet, origin: Origin) -> Result<DfaStateIndex, AllocError>
         requires { length self.old.origins.items ≡ length self.old.kernels.list }
         ensures added { IfOk result (λ j. IsAdded self.old origin set j self.new) }
@@ -78,7 +78,7 @@ impl Sets {
     }
 
     /// The number of the set that a set leads to by the origin's value, which takes these test edges: the closure of the
-    /// states that they lead to. They nearly always are in order, and are copied only where they are not.
+    /// states that they lead to. Those are nearly always in order, and are copied only if they are not.
     pub(super) fn closure(
         &mut self,
         automata: &Automata,

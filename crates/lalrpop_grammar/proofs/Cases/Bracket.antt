@@ -59,7 +59,7 @@ in_one_operand_alone = (
   (refl, refl, refl, refl),
 )
 
--- `[!-&&b]`: at the far end of a range `&` stands for itself, and the one behind it for itself too
+-- `[!-&&b]`: at the far end of a range `&` stands for itself, and so does the one after it
 range_up_to_an_ampersand : Spells (codes "[!-&&b]") (λ s. (s 33 ≡ true) × (s 34 ≡ true) × (s 38 ≡ true) × (s 98 ≡ true) × (s 97 ≡ false))
 range_up_to_an_ampersand = (
   _,
@@ -121,9 +121,9 @@ nested_bracket_begins_no_range = (
   (refl, refl, refl, refl),
 )
 
--- ---- by computing the reading, which finds just what is spelled
+-- ---- by computing the reader, which finds exactly what is spelled
 
--- `[\d-x]` has none
+-- `[\d-x]` spells no set
 set_as_an_end_of_a_range : (r : Text) (s : Set) (d : ℕ) → Bracket no_flags (codes "[\\d-x]") r s d → ⊥
 unfolding reading.bracket reading.bracket_with reading.operands reading.lead reading.operand reading.item reading.item_or reading.posix reading.simple_item reading.primary reading.escape reading.signed sign
 set_as_an_end_of_a_range r s d b =
@@ -131,7 +131,7 @@ set_as_an_end_of_a_range r s d b =
     let k : ◌≡◌ {A = Option reading.SetPart} (Some (record { set = s; depth = d; rest = r })) None = sym (Bracket-complete b (suc d) (omega arith)) ∙ none in
     absurd cc
 
--- `[a-&&b]` has none: `a-&` is a range, with its ends reversed
+-- `[a-&&b]` spells no set: `a-&` is a range with its ends reversed
 range_down_to_an_ampersand : (r : Text) (s : Set) (d : ℕ) → Bracket no_flags (codes "[a-&&b]") r s d → ⊥
 unfolding reading.bracket reading.bracket_with reading.operands reading.lead reading.operand reading.item reading.item_or reading.posix reading.simple_item reading.primary
 range_down_to_an_ampersand r s d b =
@@ -139,7 +139,7 @@ range_down_to_an_ampersand r s d b =
     let k : ◌≡◌ {A = Option reading.SetPart} (Some (record { set = s; depth = d; rest = r })) None = sym (Bracket-complete b (suc d) (omega arith)) ∙ none in
     absurd cc
 
--- `[[:foo:]]`: no class has that name, so a bracket begins, and `]` stands behind it
+-- `[[:foo:]]`: no class has that name, so a bracket begins, and `]` follows it
 no_posix_class_of_this_name : Spells (codes "[[:foo:]]") (λ s. (s 58 ≡ true) × (s 102 ≡ true) × (s 111 ≡ true) × (s 97 ≡ false))
 unfolding reading.bracket reading.bracket_with reading.operands reading.lead reading.operand reading.item reading.item_or reading.posix reading.posix_named reading.simple_item reading.primary reading.operations reading.operator_of
 no_posix_class_of_this_name = (_, _, (bracket_sound no_flags 2 (codes "[[:foo:]]") _ refl).0, (refl, refl, refl, refl))

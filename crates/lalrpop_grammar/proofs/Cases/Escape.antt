@@ -13,7 +13,7 @@ use Rattle.lalrpop_grammar.proofs.Escapes.{Escape-complete}
 marks : (is_mark 46 ≡ true) × (is_mark 45 ≡ true) × (is_mark 97 ≡ false) × (is_mark 49 ≡ false) × (is_mark 60 ≡ false) × (is_mark 0xE9 ≡ false)
 marks = (refl, refl, refl, refl, refl, refl)
 
--- what the character behind the backslash says
+-- what the character after the backslash says
 signs : (sign 46 ≡ this (character 46)) × (sign 110 ≡ this (character 10)) × (sign 120 ≡ code 2) × (sign 113 ≡ unknown) × (sign 0xE9 ≡ unknown)
 unfolding sign
 signs = (refl, refl, refl, refl, refl)
@@ -28,12 +28,12 @@ escape_by_two_digits : Escape (codes "x412") (codes "2") (character 0x41)
 unfolding sign hex_value
 escape_by_two_digits = escape_of (digits_alone 52 (49 ∷ []) refl (record { digits_only = refl; value = refl; scalar = refl }))
 
--- `\x{1F600}` as many as stand there
+-- `\x{1F600}` takes all digits in the braces
 escape_by_digits_in_braces : Escape (codes "x{1F600}") [] (character 0x1F600)
 unfolding sign hex_value
 escape_by_digits_in_braces = escape_of (digits_braced (codes "1F600") (lit< tt) (record { digits_only = refl; value = refl; scalar = refl }))
 
--- a surrogate is no character
+-- a surrogate is not a character
 digits_of_a_surrogate : (c : ℕ) → ¬ IsHex (codes "D800") c
 unfolding hex_value
 digits_of_a_surrogate c h =
@@ -42,7 +42,7 @@ digits_of_a_surrogate c h =
     let k : false ≡ true = s in
     absurd (cc)
 
--- nor is `g` a digit
+-- and `g` is not a digit
 letter_is_no_digit : (c : ℕ) → ¬ IsHex (codes "4g") c
 letter_is_no_digit c h = let k : false ≡ true = h.digits_only in absurd (cc)
 
@@ -62,17 +62,17 @@ characters_of_set_names = (refl, refl, refl)
 not_nothing : (x : Escaped × Text) → Some x ≡ None → ⊥
 not_nothing x e = absurd (cc)
 
--- `\q` is none
+-- `\q` is not an escape
 unknown_escape : (r : Text) (e : Escaped) → ¬ Escape (codes "q") r e
 unfolding reading.escape reading.signed sign
 unknown_escape r e h = let none : reading.escape (codes "q") ≡ None = refl in not_nothing (e, r) (sym (Escape-complete h) ∙ none)
 
--- nor `\x4`
+-- and `\x4` is not one either
 escape_with_a_digit_too_few : (r : Text) (e : Escaped) → ¬ Escape (codes "x4") r e
 unfolding reading.escape reading.signed sign reading.digits_of
 escape_with_a_digit_too_few r e h = let none : reading.escape (codes "x4") ≡ None = refl in not_nothing (e, r) (sym (Escape-complete h) ∙ none)
 
--- `any` is the name of a set; nothing at all is none
+-- `any` is the name of a set; the empty name is not
 name_of_all_characters : IsSetName (codes "any") is_scalar
 unfolding named normalize
 name_of_all_characters = record { not_empty = omega arith; spelled = refl; found = refl }

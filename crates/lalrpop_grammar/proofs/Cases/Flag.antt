@@ -14,7 +14,7 @@ letters_set_flags_in_turn : (with_flags true no_flags (codes "sm") ≡ record no
     × (with_flags false (with_flags true no_flags (codes "sm")) (codes "m") ≡ record no_flags { dot_matches_new_line = true })
 letters_set_flags_in_turn = (refl, refl)
 
--- no letter stands twice, neither side by side nor apart
+-- no letter occurs twice, side by side or apart
 distinct_letters : (is_distinct (codes "is") ≡ true) × (is_distinct (codes "ii") ≡ false) × (is_distinct (codes "isi") ≡ false)
 distinct_letters = (refl, refl, refl)
 
@@ -22,7 +22,7 @@ distinct_letters = (refl, refl, refl)
 letters_on_and_off : FlagLetters no_flags (codes "U-s") (record no_flags { swap_greed = true })
 letters_on_and_off = on_and_off (codes "U") (codes "s") refl refl (lit< tt) refl
 
--- none at all
+-- no letters at all
 no_letters : FlagLetters no_flags (codes "") no_flags
 no_letters = on (codes "") refl refl
 

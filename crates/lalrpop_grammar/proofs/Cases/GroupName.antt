@@ -3,11 +3,11 @@ use Rattle.std.proofs.Common.{◌≡◌, [], ◌∷◌, true, false, Some, None,
 use Rattle.lalrpop_book.specs.Tree.{empty, repetition, capture, concat, none, also}
 use Rattle.lalrpop_grammar.specs.GroupName.{begins_name, is_name, names, are_distinct}
 
--- `_` begins a name, and is one
+-- `_` begins a name, and is a name
 underscore_is_a_name : (begins_name 95 ≡ true) × (is_name (codes "_") ≡ true)
 underscore_is_a_name = (refl, refl)
 
--- a name has a character
+-- a name has at least one character
 empty_name_is_none : is_name (codes "") ≡ false
 empty_name_is_none = refl
 
@@ -21,6 +21,6 @@ no_names_of_a_group_without_one : names (capture None empty) ≡ []
 unfolding names
 no_names_of_a_group_without_one = refl
 
--- no name stands twice, but one may begin with another
+-- no two names are equal, but one may begin with another
 distinct_names : (are_distinct (codes "a" ∷ codes "ab" ∷ []) ≡ true) × (are_distinct (codes "a" ∷ codes "b" ∷ codes "a" ∷ []) ≡ false)
 distinct_names = (refl, refl)

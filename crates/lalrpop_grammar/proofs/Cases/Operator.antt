@@ -43,12 +43,12 @@ not_nothing x e = absurd (cc)
 greedy_is_not_lazy : (r s : Text) → ◌≡◌ {A = Option Given} (Some (0, None, true, r)) (Some (0, None, false, s)) → ⊥
 greedy_is_not_lazy r s e = let b : true ≡ false = ap greed e in absurd (cc)
 
--- a letter is no operator
+-- a letter is not an operator
 letter_is_no_operator : (r : Text) (n : ℕ) (m : Option ℕ) (g : Bool) → ¬ Operator no_flags (codes "a*") r n m g
 unfolding reading.operator reading.bounds reading.braces reading.count
 letter_is_no_operator r n m g h = let none : reading.operator no_flags (codes "a*") ≡ None = refl in not_nothing (n, m, g, r) (sym (operator_complete h) ∙ none)
 
--- a `?` directly behind an operator belongs to it
+-- a `?` directly after an operator belongs to it
 mark_of_laziness_is_not_left : ¬ Operator no_flags (codes "*?") (codes "?") 0 None true
 unfolding reading.operator reading.bounds reading.braces reading.count
 mark_of_laziness_is_not_left h = let lazy : reading.operator no_flags (codes "*?") ≡ Some (0, None, false, []) = refl in greedy_is_not_lazy (codes "?") [] (sym (operator_complete h) ∙ lazy)

@@ -1,4 +1,4 @@
--- Patterns that are easy to get wrong: each spells the tree that stands behind it, and no other (`one_tree`), or none at all.
+-- Patterns that are easy to get wrong: each spells the tree given here and no other (`one_tree`), or none.
 use Rattle.std.proofs.Common.{◌≡◌, ℕ, zero, suc, max, sym, ap, ◌∙◌, arith, add-one, Bool, true, false, not, cond, Option, List, [], ◌∷◌, Some, None, refl, codes, lit<, lit≤, ◌++◌}
 use lib.Utf8.{encode}
 use Rattle.lalrpop_book.specs.Range.{Range}
@@ -27,7 +27,7 @@ a_lazy_one_under_a_greedy_one = record {
   distinct = refl;
 }
 
--- a directive is no part
+-- a directive is not a part
 directive_alone : Pattern (codes "(?i-s)") empty
 unfolding names
 directive_alone = record {
@@ -38,7 +38,7 @@ directive_alone = record {
   distinct = refl;
 }
 
--- a character leaves no name, folded or not
+-- the tree of a character has no names, folded or not
 literal-names : (f : Flags) (c : ℕ) → names (literal_tree f c) ≡ []
 unfolding names
 literal-names f c = either (not f.case_insensitive) (is_one_member (canon (fold (just c)))) (canon (fold (just c)))
@@ -48,7 +48,7 @@ literal-names f c = either (not f.case_insensitive) (is_one_member (canon (fold 
     either false true rs = refl
     either false false rs = refl
 
--- a directive holds for the branches behind it too
+-- a directive holds for the branches after it too
 directive_over_a_bar : Pattern (codes "a(?i)b|c") (alternation (trees (
     concat (trees (literal (codes "a") ∷ literal_tree (record no_flags { case_insensitive = true }) 98 ∷ []))
     ∷ literal_tree (record no_flags { case_insensitive = true }) 99 ∷ [])))
@@ -105,7 +105,7 @@ repeated_twice = record {
 
 -- ---- how deep a place may be, and names
 
--- a text behind n times `*`
+-- a text with n times `*` before it
 stars : ℕ → Text → Text
 stars zero r = r
 stars (suc n) r = stars n (codes "*" ++ r)
@@ -162,17 +162,17 @@ two_names = record {
   distinct = refl;
 }
 
--- and no two the same one
+-- but no two may have the same name
 name_stands_twice : (t : Tree) → Pattern (codes "(?<_>)(?<_>)") t → ⊥
 unfolding reading.read reading.inside reading.expression_with reading.branches reading.row reading.row_step reading.directive_at reading.opening reading.piece reading.atom reading.group reading.enclosed reading.operators reading.name_at names encode
 name_stands_twice = missing (codes "(?<_>)(?<_>)") refl
 
--- an operator has to have something before it
+-- an operator must have something before it
 pub operator_alone : (t : Tree) → Pattern (codes "*a") t → ⊥
 unfolding reading.read reading.inside reading.expression_with reading.branches reading.row reading.row_step reading.directive_at reading.piece reading.atom
 operator_alone = missing (codes "*a") refl
 
--- a group has to end
+-- a group must end
 open_group : (t : Tree) → Pattern (codes "(") t → ⊥
 unfolding reading.read reading.inside reading.expression_with reading.branches reading.row reading.row_step reading.directive_at reading.opening reading.piece reading.atom reading.group reading.enclosed
 open_group = missing (codes "(") refl

@@ -2,11 +2,11 @@
 use Rattle.std.proofs.Common.{◌≡◌, [], true, false, codes, refl}
 use Rattle.lalrpop_grammar.specs.Text.{◌▸◌, begins}
 
--- a word, and the text behind it
+-- a word, and the text after it
 word_stands_before_a_text : codes "ab" ▸ codes "c" ≡ codes "abc"
 word_stands_before_a_text = refl
 
--- a text begins with a word where all of the word stands there
+-- a text begins with a word if all of the word is there
 text_begins_with_a_word : (begins "ab" (codes "abc") ≡ true) × (begins "" [] ≡ true)
 text_begins_with_a_word = (refl, refl)
 

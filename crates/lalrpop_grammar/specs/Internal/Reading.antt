@@ -1,4 +1,4 @@
--- One reading from the left. The proofs show that it finds exactly what the grammar has; contracts of private functions cite it.
+-- A reader from left to right. Proofs show that it finds exactly what the grammar has; contracts of private functions name it.
 use Rattle.std.specs.Prelude.{ℕ, zero, suc, ◌+◌, ◌^◌, max, Bool, true, false, not, ◌&&◌, ◌==◌, nat_lt, nat_le, List, [], ◌∷◌, ◌++◌, length, take, drop, Option, Some, None, option_and_then, if◌then◌else◌, codes, encode_utf8_all}
 use Rattle.std.specs.List.{list_all}
 use Rattle.std.specs.Char.{is_ascii_hexdigit, is_ascii_lowercase, is_ascii_digit}
@@ -74,7 +74,7 @@ escape (c ∷ t) = signed (sign c) t
 
 -- ---- brackets
 
--- the set, whether its complement is meant, and what follows
+-- the set, whether it is complemented, and what follows
 unfoldable pub posix_named : Bool → Text → Option (Set × Bool × Text)
 posix_named negated t =
     let found = span is_ascii_lowercase t in
@@ -174,7 +174,7 @@ module _ (f : Flags) where
         else if begins "[" t then (operands (drop 1 t) >>= λ p. Some (close false p))
         else None
 
-  -- a bracket where this many levels are left
+  -- a bracket with this many levels left
   unfoldable pub bracket : ℕ → Text → Option SetPart
   bracket zero t = None
   bracket (suc room) t = bracket_with (bracket room) t
@@ -208,7 +208,7 @@ operator f t = do
   (least, most, after) ← bounds t
   if begins "?" after then Some (least, most, f.swap_greed, drop 1 after) else Some (least, most, not f.swap_greed, after)
 
--- ---- flags, names and what stands behind a `(`
+-- ---- flags, names and what follows a `(`
 
 unfoldable pub flags_of : Flags → List ℕ → Option Flags
 flags_of f letters =
@@ -258,7 +258,7 @@ as_directive no_opening = None
 unfoldable pub directive_at : Text → Option (List ℕ × Text)
 directive_at t = if begins "(" t then as_directive (opening (drop 1 t)) else None
 
--- what stands behind a `(`, with its letters turned into flags and its name into bytes
+-- what follows a `(`, with the flags that its letters give and the bytes of its name
 pub data Opened : Type 0 where
   a_plain_group : Opened
   a_named_group : List ℕ → Opened
@@ -345,7 +345,7 @@ module _ (room : ℕ) where
     unfoldable pub piece : Flags → Text → Option Part
     piece f t = atom f t >>= all_operators f
 
-    -- at no directive a piece is read
+    -- where there is no directive, a piece is read
     unfoldable pub row_step : (Line → Option Line) → Option (List ℕ × Text) → Line → Option Line
     row_step others (Some found) l = flags_of l.flags found.0 >>= λ g. others (record l { flags = g; rest = found.1 })
     row_step others None l = do
@@ -372,7 +372,7 @@ module _ (room : ℕ) where
     unfoldable pub expression_with : Reader
     expression_with f t = all_branches (begin f t) >>= λ l. Some (record { tree = choice l.parts; flags = l.flags; depth = l.depth; rest = l.rest })
 
--- what a group can read where this many levels are left: nothing where none is
+-- the reader inside a group with this many levels left; with none left it reads nothing
 unfoldable pub inside : ℕ → Reader
 inside zero f t = None
 inside (suc room) f t = expression_with room (inside room) f t

@@ -10,7 +10,7 @@ a = literal (97 ∷ [])
 abbrev b : Tree
 b = literal (98 ∷ [])
 
--- a tree without parts has none, whatever it is
+-- a tree without parts has depth 0
 depth_of_a_leaf : (depth (look Start) ≡ 0) × (depth a ≡ 0)
 depth_of_a_leaf = (refl, refl)
 

@@ -14,7 +14,7 @@ b = literal (98 ∷ [])
 list_keeps_the_order : trees (a ∷ b ∷ []) ≡ also a (also b none)
 list_keeps_the_order = refl
 
--- the empty text is the empty tree, and no literal
+-- the empty text is the empty tree, not a literal
 empty_text_is_the_empty_tree : of_text [] ≡ empty
 empty_text_is_the_empty_tree = refl
 

@@ -13,7 +13,7 @@ abbrev pub range_code : Coded Range
 range_code =
     code_by (ℕ × ℕ) (coded× coded_ℕ coded_ℕ) (λ r. (r.start, r.end)) (λ p. record { start = p.0; end = p.1 }) (λ _. refl)
 
--- a number for the tokens that carry nothing, else what the token carries
+-- a number for a token that carries nothing, otherwise what the token carries
 abbrev pub Token : Type 0
 Token = ℕ ⊎ (List ℕ ⊎ (List Range ⊎ (List Range ⊎ (ℕ ⊎ ((ℕ × (Option ℕ × Bool)) ⊎ Option (List ℕ))))))
 
@@ -61,7 +61,7 @@ abbrev mutual
   list_before none k = plain 3 ∷ k
   list_before (also t ts) k = tokens_before t (list_before ts (plain 4 ∷ k))
 
--- the trees and the lists of trees that were read and not used yet, the newest first
+-- the trees and the lists of trees that were read and are not used yet, the newest first
 abbrev Seen : Type 0
 Seen = List Tree × List Trees
 

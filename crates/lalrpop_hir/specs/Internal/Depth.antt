@@ -1,9 +1,9 @@
 -- cases: proofs/Cases/Depth.antt
--- How deeply trees stand in trees, by which walks over trees end.
+-- The depth of a tree, which decreases in a walk over trees.
 use Rattle.std.specs.Prelude.{ℕ, ◌+◌, max}
 use Rattle.lalrpop_book.specs.Tree.{Tree, empty, literal, class, look, repetition, capture, concat, alternation, Trees, none, also}
 
--- how deeply trees stand in trees
+-- the depth of a tree, and the greatest depth in a list
 abbrev mutual
   pub depth : Tree → ℕ
   depth empty = 0

@@ -24,7 +24,7 @@ deep-le-depth (Capture c) = omega arith
 deep-le-depth (Concat ts) = omega (arith, most-greatest_depth ts.items)
 deep-le-depth (Alternation ts) = omega (arith, most-greatest_depth ts.items)
 
--- a tree of a list is at most as deep as the deepest
+-- a tree of a list is at most as deep as the deepest one
 pub depth-le-greatest : (ts : List Tree) (i : ℕ) (t : Tree) → i < length ts → depth (get_or ts i t) ≤ greatest_depth (trees ts)
 depth-le-greatest [] i t h = absurd (omega arith)
 depth-le-greatest (u ∷ ts) zero t h = omega arith

@@ -37,12 +37,12 @@ impl ClassBytesRange {
 }
 
 impl ClassBytes {
-    /// The set of the bytes that lie in some of the ranges, which may overlap and come in any order.
-    /// Without ranges it is the empty set. Takes time n log n for n ranges.
+    /// The set of the bytes that lie in any of the ranges, which may overlap and come in any order.
+    /// With no ranges it is empty. Takes time n log n for n ranges.
     ///
     /// # Errors
     ///
-    /// `AllocError` where a request for memory was refused.
+    /// `AllocError` if a request for memory was refused.
     pub fn new(alloc: Global, mut ranges: Vec<ClassBytesRange>) -> Result<ClassBytes, AllocError>
         ensures runs { IfOk result (λ class. IsByteCanon (Covered ranges.items) class) }
     {
@@ -51,7 +51,7 @@ impl ClassBytes {
         Ok(ClassBytes { ranges })
     }
 
-    /// The runs of the set, from the least on. Between two of them some byte is left out.
+    /// The runs of the set, in ascending order. Between any two of them lies a byte that is not in the set.
     pub fn ranges(&self) -> &[ClassBytesRange]
         ensures value { result.now ≡ self.now }
         ensures canonical { AreByteRuns self.now }
@@ -67,8 +67,8 @@ fn byte_after(b: u8) -> u16
     u16::from(b) + 1
 }
 
-// The maximal runs of what the ranges cover. Since they ascend by their starts, one pass over them is enough:
-// a range that begins behind the value after the last run's end leaves a gap, and so begins the next run.
+// The maximal runs of what the ranges cover. The ranges ascend by their starts, so one pass is enough:
+// a range that starts beyond the value after the last run's end leaves a gap, and so begins the next run.
 fn join_bytes(alloc: Global, ranges: &[ClassBytesRange]) -> Result<Vec<ClassBytesRange>, AllocError>
     requires { IsNonDecreasingBy (λ range. range.start) ranges.now }
     ensures { IfOk result (λ runs. IsByteCanon (Covered ranges.now) runs.items) }

@@ -37,12 +37,12 @@ impl ClassUnicodeRange {
 }
 
 impl ClassUnicode {
-    /// The set of the characters that lie in some of the ranges, which may overlap and come in any order.
-    /// Without ranges it is the empty set. Takes time n log n for n ranges.
+    /// The set of the characters that lie in any of the ranges, which may overlap and come in any order.
+    /// With no ranges it is empty. Takes time n log n for n ranges.
     ///
     /// # Errors
     ///
-    /// `AllocError` where a request for memory was refused.
+    /// `AllocError` if a request for memory was refused.
     pub fn new(
         alloc: Global,
         mut ranges: Vec<ClassUnicodeRange>,
@@ -54,7 +54,7 @@ impl ClassUnicode {
         Ok(ClassUnicode { ranges })
     }
 
-    /// The runs of the set, from the least on. Between two of them some character is left out.
+    /// The runs of the set, in ascending order. Between any two of them lies a character that is not in the set.
     pub fn ranges(&self) -> &[ClassUnicodeRange]
         ensures value { result.now ≡ self.now }
         ensures canonical { IsCanonical self.now }
@@ -74,8 +74,8 @@ pub(super) fn code_after(c: char) -> u32
     }
 }
 
-// The maximal runs of what the ranges cover. Since they ascend by their starts, one pass over them is enough:
-// a range that begins behind the value after the last run's end leaves a gap, and so begins the next run.
+// The maximal runs of what the ranges cover. The ranges ascend by their starts, so one pass is enough:
+// a range that starts beyond the value after the last run's end leaves a gap, and so begins the next run.
 pub(super) fn join_characters(
     alloc: Global,
     ranges: &[ClassUnicodeRange],

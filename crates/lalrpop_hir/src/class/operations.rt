@@ -13,7 +13,7 @@ impl ClassUnicode {
     ///
     /// # Errors
     ///
-    /// `AllocError` where a request for memory was refused.
+    /// `AllocError` if a request for memory was refused.
     pub fn union(&self, alloc: Global, other: &ClassUnicode) -> Result<ClassUnicode, AllocError>
         ensures runs { IfOk result (λ class. IsCanon (InEither self.now other.now) class) }
     {
@@ -26,7 +26,7 @@ impl ClassUnicode {
     ///
     /// # Errors
     ///
-    /// `AllocError` where a request for memory was refused.
+    /// `AllocError` if a request for memory was refused.
     pub fn intersection(
         &self,
         alloc: Global,
@@ -44,7 +44,7 @@ impl ClassUnicode {
     ///
     /// # Errors
     ///
-    /// `AllocError` where a request for memory was refused.
+    /// `AllocError` if a request for memory was refused.
     pub fn difference(
         &self,
         alloc: Global,
@@ -60,7 +60,7 @@ impl ClassUnicode {
     ///
     /// # Errors
     ///
-    /// `AllocError` where a request for memory was refused.
+    /// `AllocError` if a request for memory was refused.
     pub fn symmetric_difference(
         &self,
         alloc: Global,
@@ -77,7 +77,7 @@ impl ClassUnicode {
     ///
     /// # Errors
     ///
-    /// `AllocError` where a request for memory was refused.
+    /// `AllocError` if a request for memory was refused.
     pub fn complement(&self, alloc: Global) -> Result<ClassUnicode, AllocError>
         ensures runs { IfOk result (λ class. IsCanon (λ c. ¬ Covered self.now c) class) }
     {
@@ -116,7 +116,7 @@ fn merge_characters(
     Ok(ranges)
 }
 
-// The runs between the runs, and those before the first and behind the last.
+// The gaps between the runs, before the first and after the last.
 fn character_gaps(
     alloc: Global,
     runs: &[ClassUnicodeRange],

@@ -6,7 +6,7 @@ use Rattle.std.specs.declared.cmp.Ordering.TheVariants.{Less, Equal, Greater}
 use Rattle.lalrpop_items.specs.Automata.{Item}
 use Rattle.lalrpop_items.specs.Internal.Ascending.{item_cmp, AreAscendingItems, AreByPattern}
 
--- the pattern decides, and the state where the patterns are equal
+-- the pattern decides, and the state if the patterns are equal
 first_pattern_is_less : (item_cmp (0, 3) (1, 0) ≡ Less) × (item_cmp (1, 0) (0, 3) ≡ Greater)
 first_pattern_is_less = (refl, refl)
 
@@ -26,7 +26,7 @@ item_that_stands_twice : ¬ AreAscendingItems ((0, 3) ∷ (0, 3) ∷ [])
 unfolding IsStrictlySortedBy
 item_that_stands_twice h = let e = h.0.0 in absurd (cc)
 
--- the states of one pattern may stand in any order
+-- the states of one pattern may be in any order
 items_by_pattern : AreByPattern ((0, 3) ∷ (0, 1) ∷ (1, 0) ∷ [])
 items_by_pattern = ((λ y h. omega arith), ((λ y h. omega arith), (none_after, tt)))
   where

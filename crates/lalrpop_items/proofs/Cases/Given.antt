@@ -143,7 +143,7 @@ label_is e h =
     subst (λ (r : Range). IsLabel letters r × (r.start ≤ r.end) × (r.end ≤ 1114111)) (test_is e.from e.to e.label h).1
     ((0, omega arith, refl), omega arith, omega arith)
 
--- test edges are apart, as there is one
+-- test edges are apart, as there is only one
 one_edge_by_place : (i j : ℕ) (e f : Edge Range) → slice_get letter.edges.tests i ≡ Some e
     → slice_get letter.edges.tests j ≡ Some f → i ≢ j → e.from ≡ f.from → ¬ Meet e.label f.label
 one_edge_by_place zero zero e f h g n same m = n refl

@@ -61,7 +61,7 @@ edge_leads_nowhere_else h = omega (arith, (only_transition set 98 1 (0, 3) h).2)
 value_that_no_edge_reads : (x : Item) (q : ℕ) → ¬ IsTransition automata set 122 x q
 value_that_no_edge_reads x q h = omega (arith, (only_transition set 122 q x h).4)
 
--- an item that isn't in the set has none
+-- an item that isn't in the set has no edges
 item_outside_the_set : ¬ IsTransition automata ((1, 0) ∷ []) 98 (0, 3) 0
 item_outside_the_set (g, r, ((zero, l, e), at, edge, covers)) =
     let n : 1 ≡ 0 = ap (λ (x : Item). x.0) e in omega (arith, n)

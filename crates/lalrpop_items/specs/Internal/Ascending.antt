@@ -7,11 +7,11 @@ use Rattle.std.specs.declared.cmp.Ordering.{Ordering}
 use Rattle.lalrpop_items.specs.Automata.{Item}
 use Rattle.std.specs.List.{Contains}
 
--- first by the automaton's place, then by the state
+-- first by the automaton, then by the state
 abbrev pub item_cmp : Item → Item → Ordering
 item_cmp x y = ordering_then (nat_cmp x.0 y.0) (nat_cmp x.1 y.1)
 
--- each item is before those after it in the list
+-- each item is before all later items of the list
 abbrev pub AreAscendingItems : List Item → Type 0
 AreAscendingItems s = IsStrictlySortedBy item_cmp s
 

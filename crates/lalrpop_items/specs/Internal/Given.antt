@@ -1,5 +1,5 @@
 -- cases: proofs/Cases/Given.antt
--- What sets of items are made of: automata as they are built, and their items.
+-- What sets of items are made of: compiled automata, and their items.
 use Rattle.std.specs.Prelude.{◌≡◌, ℕ, ◌<◌, List, length, slice_get, Some}
 use Rattle.std.specs.List.{Contains}
 use Rattle.lalrpop_book.specs.Tree.{Tree}

@@ -12,27 +12,27 @@ use Rattle.lalrpop_items.specs.Internal.LiveItems.{live_of, rejects_of}
 abbrev pub item_eq : Item → Item → Bool
 item_eq x y = (x.0 == y.0) && (x.1 == y.1)
 
--- the set with the first REJECT item that the other has not is the greater
+-- the set with the first REJECT item that isn't in both is the greater
 abbrev pub rejects_cmp : List Item → List Item → Ordering
 rejects_cmp s t = slice_cmp (λ i j. nat_cmp j i) (rejects_of s) (rejects_of t)
 
--- a number of 64 bits for an item, of its pattern and its state
+-- a number of 64 bits for an item, from its pattern and its state
 abbrev pub item_hash : Item → ℕ
 item_hash x = ((x.0 * 1442695040888963407) % 2 ^ 64 + x.1) % 2 ^ 64
 
--- the hash of a list, from that of the items before the last one
+-- the hash of a list, from the hash of the items before the last one
 abbrev pub next_hash : ℕ → Item → ℕ
 next_hash hash x = ((hash * 6364136223846793005) % 2 ^ 64 + item_hash x) % 2 ^ 64
 
--- a number of 64 bits that is computed from a list item by item, such that few lists share one
+-- a number of 64 bits computed from a list item by item, such that few lists share one
 unfoldable pub hash_of : List Item → ℕ
 hash_of items = fold next_hash 0 items
 
--- first by the live items, then by the patterns that have a REJECT item. Sets that ascend and tie in these two are equal
+-- first by the live items, then by the patterns that have a REJECT item. Ascending sets that tie in both are equal
 abbrev pub items_cmp : List Item → List Item → Ordering
 items_cmp s t = ordering_then (ordering_then (slice_cmp item_cmp (live_of s) (live_of t)) (rejects_cmp s t)) (slice_cmp item_cmp s t)
 
--- first by the hashes of the live items, by which most sets are told apart at once, then by the items
+-- first by the hashes of the live items, which differ for most sets, then by the items
 abbrev pub set_cmp : List Item → List Item → Ordering
 set_cmp s t = ordering_then (nat_cmp (hash_of (live_of s)) (hash_of (live_of t))) (items_cmp s t)
 

@@ -5,11 +5,11 @@ use Rattle.std.specs.List.{filter}
 use Rattle.lalrpop_nfa.specs.Compiled.{reject_state}
 use Rattle.lalrpop_items.specs.Automata.{Item}
 
--- the item is no REJECT state
+-- the item is not a REJECT state
 abbrev pub is_live : Item → Bool
 is_live x = not (x.1 == reject_state)
 
--- the items that are no REJECT states
+-- the items that are not REJECT states
 abbrev pub live_of : List Item → List Item
 live_of s = filter is_live s
 

@@ -1,4 +1,4 @@
--- Items inserted into a worklist: each once, in the list of those observed and in that of those still to be looked at.
+-- Items inserted into a worklist: each once, in the list of observed items and in the list of pending ones.
 use Rattle.std.specs.Prelude.{◌≡◌, ℕ, suc, ◌+◌, ◌<◌, ◌≤◌, ◌⊎◌, Bool, cond, List, [], ◌∷◌, length, map, slice_get, slice_index_or, Some}
 use Rattle.std.specs.List.{Contains, filter}
 use Rattle.lalrpop_nfa.specs.Graph.{Graph}
@@ -22,12 +22,12 @@ pub record IsInserted (observed pending items observed2 pending2 : List Item) : 
 unfoldable pub epsilon_targets : List Graph → Item → List Item
 epsilon_targets ns x = map (λ e. (x.0, e.to)) (filter (leaves x.1) (graph_at ns x.0).edges.noops)
 
--- the items of pattern i at whose states there is a mark, where the first mark is that of state q
+-- the items of pattern i whose states have a mark, if the first mark is for state q
 abbrev pub marked_from : ℕ → ℕ → List Bool → List Item
 marked_from i q [] = []
 marked_from i q (b ∷ marks) = cond b ((i, q) ∷ marked_from i (suc q) marks) (marked_from i (suc q) marks)
 
--- the items of pattern i at whose states there is a mark
+-- the items of pattern i whose states have a mark
 unfoldable pub marked : ℕ → List Bool → List Item
 marked i marks = marked_from i 0 marks
 

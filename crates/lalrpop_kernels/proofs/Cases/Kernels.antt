@@ -8,7 +8,7 @@ use Rattle.lalrpop_kernels.specs.Kernels.{IsNumberOf, AreDistinct, added, Clones
 abbrev compare : ℕ → ℕ → Ordering
 compare m n = cond (eqb (m % 2) (n % 2)) Equal Less
 
--- 7 equals 5, which stands at 1
+-- 7 equals 5, which has the number 1
 number_of_an_equal_kernel : IsNumberOf compare (4 ∷ 5 ∷ []) 7 1
 number_of_an_equal_kernel = (5, refl, refl)
 
@@ -36,7 +36,7 @@ one_of_each_is_distinct (suc zero) (suc (suc j)) x y e f s = absurd (cc)
 two_equal_kernels_are_not_distinct : ¬ AreDistinct compare (4 ∷ 6 ∷ [])
 two_equal_kernels_are_not_distinct d = let e = d 0 1 4 6 refl refl refl in omega (arith, e)
 
--- a new kernel is added last, an equal one not again
+-- a new kernel is added last, an equal one is not added again
 new_kernel_is_added_last : added compare (4 ∷ []) 5 ≡ 4 ∷ 5 ∷ []
 new_kernel_is_added_last = refl
 
@@ -50,7 +50,7 @@ copies_equal_their_source x y h = rw (h.0, h.1) refl
 changed_copies_do_not_equal_their_source : ¬ ClonesEqual compare (λ x y. (x ≡ 4) × (y ≡ 5))
 changed_copies_do_not_equal_their_source c = let equal : compare 4 5 ≡ Equal = c 4 5 (refl, refl) in absurd (cc)
 
--- the place moves on where there was a kernel, and stays at the end
+-- the place moves on if there was a kernel, and stays at the end
 place_moves_on : moved {K = ℕ} (record { list = 4 ∷ []; place = 0 }) (Some 4) ≡ record { list = 4 ∷ []; place = 1 }
 place_moves_on = refl
 

@@ -17,18 +17,18 @@ looks_at_none m (zero, c ∷ w, (a, s, e)) = cc (s.0)
 looks_at_none m (suc zero, w, (a, s, e)) = cc (a.1)
 looks_at_none m (suc (suc p), w, (a, s, e)) = absurd a
 
--- an empty text, over which so many steps were taken
+-- an empty text, over which this many steps were taken
 abbrev over : ℕ → Counting
 over steps = record { cutting = record { automaton = closed; text = []; at = 0; is_over = true }; steps = steps }
 
--- where nothing is cut off, nothing may be read
+-- if nothing is cut off, nothing may be read
 nothing_is_free : IsPaid (over 3) (over 3)
 nothing_is_free n most = omega arith
 
 a_step_has_to_be_paid : ¬ IsPaid (over 3) (over 4)
 a_step_has_to_be_paid paid = omega (arith, paid 0 looks_at_none)
 
--- behind a fault nothing is given, and nothing read
+-- after a fault nothing is returned, and nothing read
 nothing_behind_a_fault : GivesCounted (over 3) None (over 3)
 nothing_behind_a_fault = ((refl, inl refl), omega arith, nothing_is_free, refl)
 

@@ -29,7 +29,7 @@ not_twenty_one_zeros n h = omega (arith, h.short)
 greatest_precedence : IsPrecedence (codes "18446744073709551615") 18446744073709551615
 greatest_precedence = record { numeral = search arith; short = omega arith; value = refl; fits = omega arith }
 
--- one more doesn't fit
+-- a greater one doesn't fit
 not_one_more : (n : ℕ) → ¬ IsPrecedence (codes "18446744073709551616") n
 not_one_more n h = let v : n ≡ 18446744073709551616 = h.value in omega (arith, v, h.fits)
 
@@ -75,7 +75,7 @@ line_has_one_precedence n kind text h = by_digits h.digits h.parts h.precedence.
     by_digits (d ∷ []) e all v = let k : 48 ≡ d = ap (λ u. get_or u 0 0) e in subst (λ x. n ≡ digits_value 10 (x ∷ [])) (sym k) v
     by_digits (d ∷ c ∷ ds) e all v = let k : 32 ≡ c = ap (λ u. get_or u 1 0) e in absurd (no_digit c all.1.0 (sym k))
 
--- `x` is no line
+-- `x` is not a line
 pub x_is_no_line : (n : ℕ) (kind : Kind) (text : List ℕ) → ¬ IsLine (codes "x") n kind text
 x_is_no_line n kind text h = by_digits h.digits h.parts
   where
@@ -84,7 +84,7 @@ x_is_no_line n kind text h = by_digits h.digits h.parts
     by_digits (d ∷ []) e = absurd (cc)
     by_digits (d ∷ c ∷ ds) e = absurd (cc)
 
--- `0 x a` is none: there are two letters
+-- `0 x a` is not one: the letter must be `l` or `r`
 other_letter_is_in_no_line : (n : ℕ) (kind : Kind) (text : List ℕ) → ¬ IsLine (codes "0 x a") n kind text
 other_letter_is_in_no_line n kind text h = by_digits h.digits kind h.parts h.precedence.numeral.1
   where
@@ -96,7 +96,7 @@ other_letter_is_in_no_line n kind text h = by_digits h.digits kind h.parts h.pre
 
 -- ---- what a line says
 
--- a literal spells its text, whatever stands in it
+-- a literal spells its text, whatever characters it has
 literal_spells_its_text : Spells Literal (codes "a*") (literal (codes "a*"))
 unfolding chars
 literal_spells_its_text = refl
@@ -118,7 +118,7 @@ empty_pattern_spells_the_empty_tree = record { flags = _; levels = _; reads = of
 pub line_says_a_literal : LineSays (codes "0 l a") (Terminal 0 (of_text (codes "a")))
 line_says_a_literal = (Literal, (codes "a", (line_of_a_literal, refl)))
 
--- of no other precedence
+-- not of another precedence
 pub line_does_not_say_another_precedence : (t : Tree) → ¬ LineSays (codes "0 l a") (Terminal 1 t)
 line_does_not_say_another_precedence t h = let e = line_has_one_precedence 1 h.0 h.1.0 h.1.1.0 in omega (arith, e)
 
@@ -133,7 +133,7 @@ x_is_bad = x_is_no_line
 pub x_says_no_terminal : (n : ℕ) (t : Tree) → ¬ LineSays (codes "x") (Terminal n t)
 x_says_no_terminal n t h = x_is_no_line n h.0 h.1.0 h.1.1.0
 
--- `0 r *a` is a line whose pattern has no tree, since an operator has to have something before it
+-- `0 r *a` is a line whose pattern doesn't parse, since an operator must have something before it
 line_of_no_pattern : IsLine (codes "0 r *a") 0 Regex (codes "*a")
 unfolding lib.Utf8.encode
 line_of_no_pattern = record { digits = codes "0"; parts = refl; precedence = zero_is_a_precedence; utf8 = (codes "0 r *a", (refl, refl)) }
@@ -149,7 +149,7 @@ operator_alone = missing (codes "*a") refl
 pub line_says_no_tree : LineSays (codes "0 r *a") NoTree
 line_says_no_tree = (0, (codes "*a", (line_of_no_pattern, λ t h. operator_alone t (subst (λ w. Pattern w t) chars_of_no_pattern h))))
 
--- it isn't bad, and no terminal
+-- it is neither bad nor a terminal
 pub line_of_no_pattern_is_not_bad : ¬ LineSays (codes "0 r *a") Bad
 line_of_no_pattern_is_not_bad h = h 0 Regex (codes "*a") line_of_no_pattern
 
@@ -171,6 +171,6 @@ line_of_the_empty_pattern_has_a_tree h = h.1.1.1 empty (subst (λ w. Spells Rege
     by_digits (d ∷ []) e all = ap (drop 4) e
     by_digits (d ∷ c ∷ ds) e all = let m : 32 ≡ c = ap (λ u. get_or u 1 0) e in absurd (no_digit c all.1.0 (sym m))
 
--- `x` is bad, and not without a tree
+-- `x` is bad, which differs from a pattern that doesn't parse
 pub x_is_not_without_a_tree : ¬ LineSays (codes "x") NoTree
 x_is_not_without_a_tree h = x_is_no_line h.0 Regex h.1.0 h.1.1.0

@@ -2,7 +2,7 @@
 use Rattle.std.proofs.Common.{◌≡◌, [], ◌∷◌, codes, refl}
 use Rattle.lalrpop_lexer.specs.Lines.{begin_with, lines}
 
--- nothing has no lines
+-- no bytes, no lines
 no_bytes_have_no_lines : lines (codes "") ≡ []
 no_bytes_have_no_lines = refl
 
@@ -10,7 +10,7 @@ no_bytes_have_no_lines = refl
 line_without_a_line_feed : lines (codes "a\nb") ≡ codes "a" ∷ codes "b" ∷ []
 line_without_a_line_feed = refl
 
--- a line feed at the end begins no further line
+-- a line feed at the end does not begin another line
 line_feed_at_the_end : lines (codes "a\nb\n") ≡ codes "a" ∷ codes "b" ∷ []
 line_feed_at_the_end = refl
 
@@ -22,6 +22,6 @@ line_feeds_at_the_end = refl
 carriage_return_stays : lines (codes "a\r\n") ≡ codes "a\r" ∷ []
 carriage_return_stays = refl
 
--- a byte before lines belongs to the first
+-- a byte before lines belongs to the first one
 byte_before_lines : (begin_with 97 (codes "b" ∷ codes "c" ∷ []) ≡ codes "ab" ∷ codes "c" ∷ []) × (begin_with 97 [] ≡ codes "a" ∷ [])
 byte_before_lines = (refl, refl)

@@ -20,7 +20,7 @@ columns_count_characters : position_of (195 ∷ 169 ∷ codes "b") 2 ≡ place 1
 unfolding chars
 columns_count_characters = refl
 
--- a line feed stands at the end of its line
+-- a line feed is at the end of its line
 of_a_line_feed : position_of (codes "ab\ncd") 2 ≡ place 1 3
 unfolding chars
 of_a_line_feed = refl

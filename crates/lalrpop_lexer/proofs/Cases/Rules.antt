@@ -22,7 +22,7 @@ second_is_strongest = ((empty, (refl, refl)), λ j h. omega (arith, no_precedenc
 trees_that_tie_have_no_automaton : (d : List Row) → ¬ IsBuiltFrom (empty ∷ empty ∷ []) (0 ∷ 0 ∷ []) d
 trees_that_tie_have_no_automaton d built = built.no_clash [] (1, 0, (omega arith, second_is_strongest, first_is_strongest))
 
--- no states are no automaton: the state after the empty word has a kind
+-- an empty list of states is not an automaton: the state after the empty word has a kind
 no_states_are_no_automaton : (ts : List Tree) (ps : List ℕ) → ¬ IsBuiltFrom ts ps []
 no_states_are_no_automaton ts ps built = built.stands.kinds []
 

@@ -11,7 +11,7 @@ use Rattle.lalrpop_lexer.proofs.Cases.Line.{line_says_a_literal, line_does_not_s
 pub lines_are_terminals : AreTerminals (codes "0 l a" ∷ []) (of_text (codes "a") ∷ []) (0 ∷ [])
 lines_are_terminals = (line_says_a_literal, tt)
 
--- no other precedence
+-- not another precedence
 other_precedence_is_not_of_the_line : (t : Tree) → ¬ AreTerminals (codes "0 l a" ∷ []) (t ∷ []) (1 ∷ [])
 other_precedence_is_not_of_the_line t h = line_does_not_say_another_precedence t h.0
 
@@ -33,7 +33,7 @@ terminal_is_no_bad_line h = line_of_a_literal_is_not_bad h
 later_bad_line_is_not_the_first : ¬ FirstSays (codes "x" ∷ codes "x" ∷ []) 1 meaning.Bad
 later_bad_line_is_not_the_first h = x_says_no_terminal h.0.0 h.0.1.0 h.0.1.1
 
--- no lines, no bad one
+-- no lines, no bad line
 no_line_says_nothing : (i : ℕ) → ¬ FirstSays [] i meaning.Bad
 no_line_says_nothing i h = h
 
@@ -44,11 +44,11 @@ bytes_with_a_bad_line = first_bad_line
 bytes_without_a_bad_line : ¬ AreSaid (codes "0 l a\n") (Bad 0)
 bytes_without_a_bad_line h = line_of_a_literal_is_not_bad h
 
--- of `0 l a` and `0 r *a` the second line is the first that is no terminal, and its pattern has no tree
+-- of `0 l a` and `0 r *a` the second line is the first that is not a terminal, and its pattern doesn't parse
 bytes_with_a_pattern_without_a_tree : AreSaid (codes "0 l a\n0 r *a\n") (NoTree 1)
 bytes_with_a_pattern_without_a_tree = ((0, (of_text (codes "a"), line_says_a_literal)), line_says_no_tree)
 
--- it isn't told as a bad line, nor a bad line or a terminal as one without a tree
+-- it isn't reported as a bad line, and neither a bad line nor a terminal as one that doesn't parse
 pattern_without_a_tree_is_no_bad_line : ¬ AreSaid (codes "0 r *a\n") (Bad 0)
 pattern_without_a_tree_is_no_bad_line h = line_of_no_pattern_is_not_bad h
 

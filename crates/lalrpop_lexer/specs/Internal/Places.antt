@@ -1,4 +1,4 @@
--- The place behind one character more.
+-- The place after one more character.
 use Rattle.std.specs.Prelude.{ℕ, ◌+◌, if◌then◌else◌}
 use Rattle.lalrpop_lexer.specs.Position.{is_line_feed}
 use Rattle.lalrpop_lexer.specs.declared.position.Position.{Position}

@@ -24,7 +24,7 @@ graph_of_a = record { kinds = Accept ∷ Reject ∷ Neither ∷ Neither ∷ []; 
 abbrev two_ranges : List Range
 two_ranges = record { start = 97; end = 99 } ∷ record { start = 120; end = 122 } ∷ []
 
--- a label of a class is one of its ranges, and no part of one
+-- a label of a class is one of its ranges, not a part of one
 range_of_a_class : IsClassLabel (unicode two_ranges) (record { start = 120; end = 122 })
 range_of_a_class = (1, omega arith, refl)
 
@@ -42,7 +42,7 @@ empty_tree_has_no_label r h = h
 
 -- ---- words
 
--- the automaton reads the words of `a`, and of no other tree
+-- the automaton reads the words of `a` and of no other tree
 reads_the_words_of_a : ReadsWordsOf a graph_of_a
 reads_the_words_of_a w = (path_reads_a_alone w, λ e. subst (λ v. Path edges_of_a 0 2 v) (sym e) path_of_a)
 
@@ -74,7 +74,7 @@ label_of_a e h =
     subst (λ r. IsLabel a r × (r.start ≤ r.end) × (r.end ≤ 1114111)) (sym is)
     ((97, ((0, omega arith, refl), refl)), omega arith, omega arith)
 
--- test edges are apart, as there is one
+-- test edges are apart, as there is only one
 one_edge_by_place : (i j : ℕ) (e f : Edge Range) → slice_get graph_of_a.edges.tests i ≡ Some e → slice_get graph_of_a.edges.tests j ≡ Some f → i ≢ j → e.from ≡ f.from → ¬ Meet e.label f.label
 one_edge_by_place zero zero e f h g n same m = n refl
 one_edge_by_place zero (suc j) e f h g n same m = absurd (cc)

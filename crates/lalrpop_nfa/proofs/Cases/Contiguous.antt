@@ -20,11 +20,11 @@ walk_ends_at_another_state = refl
 walk_of_another_state_is_empty : walk (leaves 5) three_edges ≡ []
 walk_of_another_state_is_empty = refl
 
--- from an index on, or from none
+-- from an index on, or without an index
 walk_from_an_index : (walk_at 5 three_edges (Some 2) ≡ noop 5 6 ∷ []) × (walk_at 2 three_edges (Some 1) ≡ noop 2 4 ∷ []) × (walk_at 2 three_edges None ≡ [])
 walk_from_an_index = (refl, refl, refl)
 
--- an edge of state 5 stands at 2, and no edge of state 2
+-- an edge of state 5 is at 2, and no edge of state 2 is
 edge_stands_at_an_index : IsAt 5 three_edges (Some 2)
 edge_stands_at_an_index = (noop 5 6, [], refl, refl)
 
@@ -34,18 +34,18 @@ other_edge_stands_at_the_index (e, others, h, k) = let n : 5 ≡ 2 = ap (λ (x :
     first : (e : Edge Noop) (others : List (Edge Noop)) → noop 5 6 ∷ [] ≡ e ∷ others → noop 5 6 ≡ e
     first e others h = cc
 
--- the edges of state 2 stand side by side from 0 on
+-- the edges of state 2 are contiguous, from 0 on
 edges_side_by_side : IsContiguous 2 three_edges (Some 0)
 edges_side_by_side = record { at = (noop 2 3, noop 2 4 ∷ noop 5 6 ∷ [], refl, refl); all = refl }
 
--- not from 1 on, and not from nowhere on
+-- not from 1 on, and not without an index
 edges_from_a_later_index : ¬ IsContiguous 2 three_edges (Some 1)
 edges_from_a_later_index r = let n : 2 ≡ 1 = ap length r.all in omega (arith, n)
 
 edges_from_no_index : ¬ IsContiguous 2 three_edges None
 edges_from_no_index r = let n : 2 ≡ 0 = ap length r.all in omega (arith, n)
 
--- nor where an edge of another state stands between them
+-- nor if an edge of another state is between them
 edges_apart : ¬ IsContiguous 2 (noop 2 3 ∷ noop 5 6 ∷ noop 2 4 ∷ []) (Some 0)
 edges_apart r = let n : 2 ≡ 1 = ap length r.all in omega (arith, n)
 

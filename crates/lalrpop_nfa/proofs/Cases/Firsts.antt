@@ -13,7 +13,7 @@ no_edges = record { noops = []; tests = []; others = [] }
 abbrev one_noop : Lists
 one_noop = record { noops = noop 0 1 ∷ []; tests = []; others = [] }
 
--- they differ in their edges that read nothing, and in no others
+-- they differ only in the edges that read nothing
 lists_that_differ_in_noops : SameListsBut Noops no_edges one_noop
 lists_that_differ_in_noops = (refl, refl)
 
@@ -30,7 +30,7 @@ begun = record { kind = Accept; first_noop_edge = Some 0; first_test_edge = Some
 indices_of_begun : (index_of Noops begun ≡ Some 0) × (index_of Tests begun ≡ Some 1) × (index_of Others begun ≡ None)
 indices_of_begun = (refl, refl, refl)
 
--- one index is written, and the others and the kind of the state are left alone
+-- one index is written; the others and the kind of the state stay as they are
 begun_with_tests_elsewhere : with_index Tests begun (Some 7) ≡ record { kind = Accept; first_noop_edge = Some 0; first_test_edge = Some 7; first_other_edge = None }
 begun_with_tests_elsewhere = refl
 

@@ -1,4 +1,4 @@
--- Edges of one state stand side by side: in every `Nfa`, and where a further one is pushed.
+-- The edges of one state are contiguous: in every `Nfa`, and where an edge is pushed.
 use Rattle.std.specs.Prelude.{◌≡◌, ℕ, List, [], ◌∷◌, ◌++◌, ◌⊎◌, None, slice_index_or}
 use Rattle.std.specs.List.{filter}
 use Rattle.lalrpop_nfa.specs.declared.edge.Edge.{Edge}
@@ -14,15 +14,15 @@ use Rattle.lalrpop_nfa.specs.Contiguous.{AreContiguous}
 abbrev pub edgeless : StateKind → State
 edgeless kind = record { kind = kind; first_noop_edge = None; first_test_edge = None; first_other_edge = None }
 
--- the state of this number: past the last, one that no edge leaves
+-- the state of this number, or one that no edge leaves if there is none
 abbrev pub state_at : List State → ℕ → State
 state_at states q = slice_index_or states q (edgeless Neither)
 
--- the edges of each kind that leave each state stand side by side from the state's index on, and none leaves a number
--- past the last state's
+-- for each state and kind, the edges are contiguous from the state's index on, and no edge leaves a number
+-- past the last state
 abbrev pub AllContiguous : List State → Lists → Type 0
 AllContiguous states e = (k : LabelKind) (q : ℕ) → AreContiguous k e (state_at states q) q
 
--- a further edge of this state can stand beside the others: there is none, or one of them is last
+-- another edge of this state may be pushed: the list has none, or one of them is last
 abbrev pub IsOpen : {L : Type 0} → ℕ → List (Edge L) → Type 0
 IsOpen {L} q es = (filter (leaves q) es ≡ []) ⊎ ((before : List (Edge L)) × (e : Edge L) × (es ≡ before ++ e ∷ []) × (e.from ≡ q))

@@ -24,7 +24,7 @@ pub record Extends (construction : Construction) (target : ℕ) (g h : Graph) (e
 abbrev pub beside : Branches → Fragment
 beside b = record { size = b.size; entry = 0; edges = b.edges }
 
--- h is g with the first branches, which begin at these states: what the others add to h makes all of them
+-- h is g with the first branches, which begin at these states; with what the other branches add, h has all branches
 pub record Branched (target : ℕ) (all others : Trees) (g h : Graph) (entries : List ℕ) : Type 0 where
   pub begin : entries ++ (branches others target (length h.kinds)).entries ≡ (branches all target (length g.kinds)).entries
   pub graph : extended h (beside (branches others target (length h.kinds))) ≡ extended g (beside (branches all target (length g.kinds)))
@@ -35,6 +35,6 @@ pub record IsCompilable (t : Tree) : Type 0 where
   pub no_fault : fault t ≡ None
   pub valid : IsValid t
 
--- a call that fails with this error is out of memory, or has met this fault
+-- a call that fails with this error was refused memory, or has met this fault
 abbrev pub IsFaultOf : Fault → NfaConstructionError → Type 0
 IsFaultOf f e = e ≢ OutOfMemory → f ≡ Some e

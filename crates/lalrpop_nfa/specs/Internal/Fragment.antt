@@ -7,13 +7,13 @@ use Rattle.lalrpop_nfa.specs.Path.{noop, test, other}
 use Rattle.lalrpop_nfa.specs.Compiled.{accept_state, reject_state, start_state}
 use Rattle.lalrpop_nfa.specs.declared.edge.StateKind.TheVariants.{Accept, Reject, Neither}
 
--- how many states are added, the state at which the tree begins, and the edges, each last in its list
+-- the number of states added, the state at which the tree begins, and the edges, which go to the ends of their lists
 pub record Fragment : Type 0 where
   pub size : ℕ
   pub entry : ℕ
   pub edges : Lists
 
--- what is added towards a target, where so many states are there
+-- what is added towards a target, to this many states
 abbrev pub Construction : Type 0
 Construction = ℕ → ℕ → Fragment
 
@@ -28,7 +28,7 @@ noops_to s qs = record { noops = map (noop s) qs; tests = []; others = [] }
 abbrev pub joined : Lists → Lists → Lists
 joined e f = record { noops = e.noops ++ f.noops; tests = e.tests ++ f.tests; others = e.others ++ f.others }
 
--- no state: the entry is the target
+-- no states: the entry is the target
 abbrev pub nothing : Construction
 nothing target n = record { size = 0; entry = target; edges = no_edges }
 
@@ -53,29 +53,29 @@ abbrev pub literal_expr : List ℕ → Construction
 literal_expr [] = nothing
 literal_expr (c ∷ cs) = before (character_expr c) (literal_expr cs)
 
--- k copies, one towards the other
+-- k copies, each towards the next
 abbrev pub copies : Construction → ℕ → Construction
 copies x zero = nothing
 copies x (suc k) = before x (copies x k)
 
--- what may be left out: then one state, from which nothing is read towards the target or the entry
+-- an optional part: the part, then one state with edges that read nothing to the target and to the entry
 abbrev pub optional_expr : Construction → Construction
 optional_expr x target n =
     let a = x target n in
     record { size = a.size + 1; entry = n + a.size; edges = joined a.edges (noops_to (n + a.size) (target ∷ a.entry ∷ [])) }
 
--- k of these, one towards the other
+-- k optional copies, each towards the next
 abbrev pub optional_copies : Construction → ℕ → Construction
 optional_copies x zero = nothing
 optional_copies x (suc k) = before (optional_expr x) (optional_copies x k)
 
--- any number of repetitions: one state, from which nothing is read towards the target or a copy that leads back to it
+-- any number of repetitions: one state with edges that read nothing to the target and to a copy that leads back to the state
 abbrev pub star_expr : Construction → Construction
 star_expr x target n =
     let a = x n (n + 1) in
     record { size = a.size + 1; entry = n; edges = joined a.edges (noops_to n (target ∷ a.entry ∷ [])) }
 
--- the same, begun with the copy
+-- the same, beginning with the copy
 abbrev pub plus_expr : Construction → Construction
 plus_expr x target n =
     let a = x n (n + 1) in
@@ -88,13 +88,13 @@ repeat_expr x zero None = star_expr x
 repeat_expr x (suc zero) None = plus_expr x
 repeat_expr x (suc (suc k)) None = before (copies x (suc (suc k))) (star_expr x)
 
--- trees side by side: their states, where each begins, and their edges
+-- branches: the number of their states, where each begins, and their edges
 pub record Branches : Type 0 where
   pub size : ℕ
   pub entries : List ℕ
   pub edges : Lists
 
--- one state, from which nothing is read towards the entry of each branch
+-- one state with an edge that reads nothing to the entry of each branch
 abbrev pub alternation_expr : (ℕ → ℕ → Branches) → Construction
 alternation_expr bs target n =
     let b = bs target (n + 1) in

@@ -6,12 +6,12 @@ use Rattle.lalrpop_nfa.specs.Path.{Path, noop}
 use Rattle.lalrpop_nfa.specs.Internal.Reads.{Reads}
 use Rattle.lalrpop_nfa.specs.declared.edge.StateKind.TheVariants.{Accept, Reject}
 
--- a set of states: the listed ones, and the number that each of them is below
+-- a set of states: the listed ones, and the number below which they all are
 pub record StateList : Type 0 where
   pub states : List ℕ
   pub room : ℕ
 
--- one state, with room for those below n
+-- one state, with room for the states below n
 abbrev pub only : ℕ → ℕ → StateList
 only q n = record { states = q ∷ []; room = n }
 
@@ -24,14 +24,14 @@ pub record IsStateSet (states : List ℕ) (marks : List Bool) : Type 0 where
 abbrev pub IsEpsilonEdge : Lists → ℕ → ℕ → Type 0
 IsEpsilonEdge e p q = Contains e.noops (noop p q)
 
--- states were added at the end: only ones that T holds of, and each of those that there is room for
+-- states were added at the end: only states that T holds of, and all of those that there is room for
 pub record IsGrown (old new : StateList) (T : ℕ → Type 0) : Type 0 where
   pub room : new.room ≡ old.room
   pub kept : (more : List ℕ) × (new.states ≡ old.states ++ more)
   pub sound : (q : ℕ) → Contains new.states q → Contains old.states q ⊎ T q
   pub complete : (q : ℕ) → T q → q < old.room → Contains new.states q
 
--- with a state, those below n that edges lead to by reading nothing are listed too
+-- with each state, the states below n that edges lead to by reading nothing are listed too
 abbrev pub IsClosed : Lists → ℕ → List ℕ → Type 0
 IsClosed e n states = (p q : ℕ) → Contains states p → IsEpsilonEdge e p q → q < n → Contains states q
 
@@ -54,15 +54,15 @@ pub record Visited : Type 0 where
   pub graph : Graph
   pub states : StateList
 
--- some state listed is an accepting one
+-- some listed state is accepting
 abbrev pub Accepts : Visited → Type 0
 Accepts v = (q : ℕ) × (Contains v.states.states q × (slice_get v.graph.kinds q ≡ Some Accept))
 
--- each state listed is a rejecting one
+-- each listed state is rejecting
 abbrev pub Rejects : Visited → Type 0
 Rejects v = (q : ℕ) → Contains v.states.states q → slice_get v.graph.kinds q ≡ Some Reject
 
--- the text, if some state listed is an accepting one
+-- the text, if some listed state is accepting
 abbrev pub IsIfAccepted : Visited → List ℕ → Option (List ℕ) → Type 0
 IsIfAccepted v text None = ¬ Accepts v
 IsIfAccepted v text (Some found) = Accepts v × (found ≡ text)

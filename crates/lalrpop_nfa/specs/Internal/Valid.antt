@@ -13,7 +13,7 @@ abbrev pub IsValidClass : Class → Type 0
 IsValidClass (unicode rs) = IsCanonical rs
 IsValidClass (bytes rs) = AreByteRuns rs
 
--- nothing is asked of a sub that is never repeated, since it isn't compiled
+-- a sub that is never repeated may be anything, since it isn't compiled
 abbrev pub IsValidRepeated : Option ℕ → Type 0 → Type 0
 IsValidRepeated None S = S
 IsValidRepeated (Some zero) S = Unit {0}
@@ -34,7 +34,7 @@ abbrev mutual
   AreValid none = Unit {0}
   AreValid (also t ts) = IsValid t × AreValid ts
 
--- what is not refused at the top of the tree: no look, no lazy repetition, and no group with a name
+-- what is not refused at the top of the tree: anything but a look, a lazy repetition and a named group
 abbrev pub IsPlain : Tree → Type 0
 IsPlain empty = Unit {0}
 IsPlain (literal cs) = Unit {0}

@@ -43,13 +43,13 @@ by_four P a b c d r (suc (suc (suc (suc n))), l, e) = absurd (omega arith)
 range_of_one_value : (has_value (between 97 97) ≡ true) × (has_value (between 98 97) ≡ false)
 range_of_one_value = (refl, refl)
 
--- `u` lies in some of the four, and `v` in none
+-- `u` lies in one of the four, and `v` in none
 covered_by_one_of_four : IsCovered R 117
 covered_by_one_of_four = (between 97 117, (has_au, (omega arith, omega arith)))
 
 -- no block has both p and p + 1
-abbrev IsCutAfter : ℕ → Type 0
-IsCutAfter p = (y : Range) → IsUniform R y → y.start ≤ p → p + 1 ≤ y.end → ⊥
+abbrev IsBoundaryAfter : ℕ → Type 0
+IsBoundaryAfter p = (y : Range) → IsUniform R y → y.start ≤ p → p + 1 ≤ y.end → ⊥
 
 least : (c : ℕ) → IsCovered R c → 97 ≤ c
 least c (r, (h, k)) = by_four (λ r. Covers r c → 97 ≤ c) (λ k. omega (arith, k.0)) (λ k. omega (arith, k.0)) (λ k. omega (arith, k.0)) (λ k. omega (arith, k.0)) r h k
@@ -69,23 +69,23 @@ in_the_same_ranges = by_four (λ r. (Covers r 102 → Covers r 103) × (Covers r
 not_in_the_same_ranges : ¬ Alike R 101 102
 not_in_the_same_ranges a = let k = (a (between 102 104) has_fh).1 (omega arith, omega arith) in omega (arith, k.0)
 
-cut_96 : IsCutAfter 96
-cut_96 y b s e = omega (arith, least 96 (b.covered 96 (s, omega arith)))
+boundary_96 : IsBoundaryAfter 96
+boundary_96 y b s e = omega (arith, least 96 (b.covered 96 (s, omega arith)))
 
-cut_117 : IsCutAfter 117
-cut_117 y b s e = omega (arith, greatest 118 (b.covered 118 (omega arith, e)))
+boundary_117 : IsBoundaryAfter 117
+boundary_117 y b s e = omega (arith, greatest 118 (b.covered 118 (omega arith, e)))
 
-cut_101 : IsCutAfter 101
-cut_101 y b s e = let to = (b.constant 102 101 (omega arith, e) (s, omega arith) (between 102 104) has_fh).0 (omega arith, omega arith) in omega (arith, to.0)
+boundary_101 : IsBoundaryAfter 101
+boundary_101 y b s e = let to = (b.constant 102 101 (omega arith, e) (s, omega arith) (between 102 104) has_fh).0 (omega arith, omega arith) in omega (arith, to.0)
 
-cut_104 : IsCutAfter 104
-cut_104 y b s e = let to = (b.constant 104 105 (s, omega arith) (omega arith, e) (between 102 104) has_fh).0 (omega arith, omega arith) in omega (arith, to.1)
+boundary_104 : IsBoundaryAfter 104
+boundary_104 y b s e = let to = (b.constant 104 105 (s, omega arith) (omega arith, e) (between 102 104) has_fh).0 (omega arith, omega arith) in omega (arith, to.1)
 
-cut_106 : IsCutAfter 106
-cut_106 y b s e = let to = (b.constant 106 107 (s, omega arith) (omega arith, e) (between 97 106) has_aj).0 (omega arith, omega arith) in omega (arith, to.1)
+boundary_106 : IsBoundaryAfter 106
+boundary_106 y b s e = let to = (b.constant 106 107 (s, omega arith) (omega arith, e) (between 97 106) has_aj).0 (omega arith, omega arith) in omega (arith, to.1)
 
-cut_112 : IsCutAfter 112
-cut_112 y b s e = let to = (b.constant 112 113 (s, omega arith) (omega arith, e) (between 102 112) has_fp).0 (omega arith, omega arith) in omega (arith, to.1)
+boundary_112 : IsBoundaryAfter 112
+boundary_112 y b s e = let to = (b.constant 112 113 (s, omega arith) (omega arith, e) (between 102 112) has_fp).0 (omega arith, omega arith) in omega (arith, to.1)
 
 -- a range in which the four are constant, and which a-u covers
 uniform : (l h : ℕ) → l ≤ h → 97 ≤ l → h ≤ 117
@@ -113,7 +113,7 @@ uniform l h one low high aj fh fp = record {
 same_range : (y : Range) (l h : ℕ) → y.start ≡ l → y.end ≡ h → y ≡ between l h
 same_range y l h s e = ap (λ n. between n y.end) s ∙ ap (between l) e
 
-run_between : (p l h : ℕ) → p + 1 ≡ l → IsUniform R (between l h) → IsCutAfter p → IsCutAfter h → IsBlock R (between l h)
+run_between : (p l h : ℕ) → p + 1 ≡ l → IsUniform R (between l h) → IsBoundaryAfter p → IsBoundaryAfter h → IsBlock R (between l h)
 run_between p l h next b low high = record {
   uniform = b;
   maximal = λ y k s e. same_range y l h (starts y k s e (cases_lt y.start l)) (ends y k s e (cases_lt h y.end));
@@ -143,15 +143,15 @@ b5 : IsUniform R (between 113 117)
 b5 = uniform 113 117 (omega arith) (omega arith) (omega arith) (inr (omega arith)) (inr (inr (omega arith))) (inr (inr (omega arith)))
 
 each_block : (x : Range) → Contains five_blocks x → IsBlock R x
-each_block x (zero, l, e) = subst (IsBlock R) e (run_between 96 97 101 refl b1 cut_96 cut_101)
-each_block x (suc zero, l, e) = subst (IsBlock R) e (run_between 101 102 104 refl b2 cut_101 cut_104)
-each_block x (suc (suc zero), l, e) = subst (IsBlock R) e (run_between 104 105 106 refl b3 cut_104 cut_106)
-each_block x (suc (suc (suc zero)), l, e) = subst (IsBlock R) e (run_between 106 107 112 refl b4 cut_106 cut_112)
-each_block x (suc (suc (suc (suc zero))), l, e) = subst (IsBlock R) e (run_between 112 113 117 refl b5 cut_112 cut_117)
+each_block x (zero, l, e) = subst (IsBlock R) e (run_between 96 97 101 refl b1 boundary_96 boundary_101)
+each_block x (suc zero, l, e) = subst (IsBlock R) e (run_between 101 102 104 refl b2 boundary_101 boundary_104)
+each_block x (suc (suc zero), l, e) = subst (IsBlock R) e (run_between 104 105 106 refl b3 boundary_104 boundary_106)
+each_block x (suc (suc (suc zero)), l, e) = subst (IsBlock R) e (run_between 106 107 112 refl b4 boundary_106 boundary_112)
+each_block x (suc (suc (suc (suc zero))), l, e) = subst (IsBlock R) e (run_between 112 113 117 refl b5 boundary_112 boundary_117)
 each_block x (suc (suc (suc (suc (suc n)))), l, e) = absurd (omega arith)
 
 -- a run that begins in a block ends in it, and so is the block
-within : (x : Range) (l h : ℕ) → IsBlock R x → IsUniform R (between l h) → IsCutAfter h → l ≤ x.start → x.start ≤ h → between l h ≡ x
+within : (x : Range) (l h : ℕ) → IsBlock R x → IsUniform R (between l h) → IsBoundaryAfter h → l ≤ x.start → x.start ≤ h → between l h ≡ x
 within x l h run b high s e = run.maximal (between l h) b s (by_end (cases_lt h x.end))
   where
     by_end : (h < x.end) ⊎ (x.end ≤ h) → x.end ≤ h
@@ -165,13 +165,13 @@ every_block x run = by_start (cases_lt x.start 102) (cases_lt x.start 105) (case
     here = run.uniform.covered x.start (omega arith, run.uniform.holds_one)
 
     by_start : (x.start < 102) ⊎ (102 ≤ x.start) → (x.start < 105) ⊎ (105 ≤ x.start) → (x.start < 107) ⊎ (107 ≤ x.start) → (x.start < 113) ⊎ (113 ≤ x.start) → Contains five_blocks x
-    by_start (inl a) b c d = (0, omega arith, within x 97 101 run b1 cut_101 (least x.start here) (omega (arith, a)))
-    by_start (inr a) (inl b) c d = (1, omega arith, within x 102 104 run b2 cut_104 a (omega (arith, b)))
-    by_start (inr a) (inr b) (inl c) d = (2, omega arith, within x 105 106 run b3 cut_106 b (omega (arith, c)))
-    by_start (inr a) (inr b) (inr c) (inl d) = (3, omega arith, within x 107 112 run b4 cut_112 c (omega (arith, d)))
-    by_start (inr a) (inr b) (inr c) (inr d) = (4, omega arith, within x 113 117 run b5 cut_117 d (greatest x.start here))
+    by_start (inl a) b c d = (0, omega arith, within x 97 101 run b1 boundary_101 (least x.start here) (omega (arith, a)))
+    by_start (inr a) (inl b) c d = (1, omega arith, within x 102 104 run b2 boundary_104 a (omega (arith, b)))
+    by_start (inr a) (inr b) (inl c) d = (2, omega arith, within x 105 106 run b3 boundary_106 b (omega (arith, c)))
+    by_start (inr a) (inr b) (inr c) (inl d) = (3, omega arith, within x 107 112 run b4 boundary_112 c (omega (arith, d)))
+    by_start (inr a) (inr b) (inr c) (inr d) = (4, omega arith, within x 113 117 run b5 boundary_117 d (greatest x.start here))
 
--- each is uniform, and a block; a part of a block is uniform and no block
+-- each is uniform, and a block; a part of a block is uniform and not a block
 piece_is_a_block : IsUniform R (between 97 101) × IsBlock R (between 97 101)
 piece_is_a_block = (b1, each_block (between 97 101) (0, omega arith, refl))
 
@@ -184,7 +184,7 @@ part_of_a_block_is_no_block r =
     omega (arith, e)
 
 two_blocks_are_not_uniform : ¬ IsUniform R (between 97 104)
-two_blocks_are_not_uniform k = cut_101 (between 97 104) k (omega arith) (omega arith)
+two_blocks_are_not_uniform k = boundary_101 (between 97 104) k (omega arith) (omega arith)
 
 -- ranges ascend where each ends before the next begins
 neighbours_ascend : AreAscending (between 97 101 ∷ between 102 104 ∷ [])
@@ -203,18 +203,18 @@ five_blocks_are_the_partition = record {
 
 -- their union isn't
 one_block_is_not_the_partition : ¬ IsPartition R (between 97 117 ∷ [])
-one_block_is_not_the_partition p = cut_101 (between 97 117) (p.are_blocks (between 97 117) (0, omega arith, refl)).uniform (omega arith) (omega arith)
+one_block_is_not_the_partition p = boundary_101 (between 97 117) (p.are_blocks (between 97 117) (0, omega arith, refl)).uniform (omega arith) (omega arith)
 
--- nor are they, with one of them cut in two
-cut_block_is_not_in_the_partition : ¬ IsPartition R (between 97 98 ∷ between 99 101 ∷ between 102 104 ∷ between 105 106 ∷ between 107 112 ∷ between 113 117 ∷ [])
-cut_block_is_not_in_the_partition p =
+-- nor are they with one of them split in two
+split_block_is_not_in_the_partition : ¬ IsPartition R (between 97 98 ∷ between 99 101 ∷ between 102 104 ∷ between 105 106 ∷ between 107 112 ∷ between 113 117 ∷ [])
+split_block_is_not_in_the_partition p =
     let whole = (p.are_blocks (between 97 98) (0, omega arith, refl)).maximal (between 97 101) b1 (omega arith) (omega arith) in
     let e : 101 ≡ 98 = ap (λ (r : Range). r.end) whole in
     omega (arith, e)
 
 -- nor with one of them left out
 missing_block_is_in_the_partition : ¬ IsPartition R (between 97 101 ∷ between 102 104 ∷ between 105 106 ∷ between 107 112 ∷ [])
-missing_block_is_in_the_partition p = by_place (p.all_blocks (between 113 117) (run_between 112 113 117 refl b5 cut_112 cut_117))
+missing_block_is_in_the_partition p = by_place (p.all_blocks (between 113 117) (run_between 112 113 117 refl b5 boundary_112 boundary_117))
   where
     by_place : Contains (between 97 101 ∷ between 102 104 ∷ between 105 106 ∷ between 107 112 ∷ []) (between 113 117) → ⊥
     by_place (zero, l, e) = let f : 97 ≡ 113 = ap (λ (r : Range). r.start) e in omega (arith, f)

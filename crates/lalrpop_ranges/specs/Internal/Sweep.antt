@@ -4,10 +4,10 @@ use Rattle.std.specs.List.{filter}
 use Rattle.lalrpop_book.specs.Range.{Range}
 use Rattle.lalrpop_ranges.specs.Partition.{has_value}
 
--- the starts of those that contain some value
+-- the starts of the nonempty ranges
 abbrev pub starts_of : List Range → List ℕ
 starts_of rs = map (λ r. r.start) (filter has_value rs)
 
--- their ends
+-- the ends of the nonempty ranges
 abbrev pub ends_of : List Range → List ℕ
 ends_of rs = map (λ r. r.end) (filter has_value rs)

@@ -12,7 +12,7 @@ use Rattle.lalrpop_grammar.proofs.Cases.Pattern.{operator_alone}
 refusal_of_no_pattern : HasNoTree (codes "*a") (Syntax 0 RepetitionMissing)
 refusal_of_no_pattern = operator_alone
 
--- `a` may not be, but where memory runs out
+-- `a` is not, unless memory runs out
 refusal_of_a_pattern : ¬ HasNoTree (codes "a") (Syntax 0 RepetitionMissing)
 unfolding names
 refusal_of_a_pattern h =
@@ -27,11 +27,11 @@ refusal_of_a_pattern h =
 want_of_memory_says_nothing : HasNoTree (codes "a") OutOfMemory
 want_of_memory_says_nothing = tt
 
--- before and behind `é`, which has two bytes, a position is on a boundary
+-- before and after `é`, which has two bytes, a position is on a boundary
 positions_beside_a_character : PointsInto (0xC3 ∷ 0xA9 ∷ []) (Syntax 0 RepetitionMissing) × PointsInto (0xC3 ∷ 0xA9 ∷ []) (Syntax 2 RepetitionMissing)
 positions_beside_a_character = ((omega arith, λ l h. omega arith), (omega arith, λ l h. absurd (omega (arith, l))))
 
--- between them, and past the end, it isn't
+-- inside it, and past the end, it isn't
 position_inside_a_character : ¬ PointsInto (0xC3 ∷ 0xA9 ∷ []) (Syntax 1 RepetitionMissing)
 position_inside_a_character h = let k : 192 ≤ 0xA9 = h.1 (omega arith) (omega arith) in omega (arith, k)
 

@@ -1,4 +1,4 @@
--- One step of a row, and what the parser's parts are in the reading.
+-- One step of a row, and how the parser's parts relate to the reader's.
 use Rattle.std.specs.Prelude.{ℕ, max, List, [], ◌∷◌, ◌++◌, Option, Some, None, drop, option_map, if◌then◌else◌}
 use Rattle.lalrpop_book.specs.Tree.{Tree, capture}
 use Rattle.lalrpop_re.specs.declared.cursor.Cursor.{Cursor}
@@ -13,7 +13,7 @@ use Rattle.lalrpop_re.specs.Internal.Views.{text}
 
 -- ---- one step of a row
 
--- a piece with its depth, or none where a directive is read, the flags that hold behind it, and what follows
+-- a piece with its depth, or none for a directive; the flags after it; and what follows
 pub record Step : Type 0 where
   pub piece : Option (Tree × ℕ)
   pub flags : Flags
@@ -35,7 +35,7 @@ module _ (room : ℕ) where
   operated_by (Some p) f t = all_operators room f (record { tree = p.0; depth = p.1; rest = t }) >>= to_piece f
   operated_by None f t = Some (record { piece = None; flags = f; rest = t })
 
-  -- the step with the operators behind its piece
+  -- the step with the operators after its piece
   abbrev pub operated : Step → Option Step
   operated s = operated_by s.piece s.flags s.rest
 
@@ -49,7 +49,7 @@ module _ (room : ℕ) where
     group_or_directive_of f (a_flagged_group g) t = enclosed room inside (λ e. e) g t >>= to_piece f
     group_or_directive_of f (a_directive_to g) t = Some (record { piece = None; flags = g; rest = t })
 
-    -- what begins behind a `(`
+    -- what begins after a `(`
     unfoldable pub group_or_directive : Flags → Text → Option Step
     group_or_directive f t = opened f t >>= λ x. group_or_directive_of f x.0 x.1
 
@@ -58,7 +58,7 @@ module _ (room : ℕ) where
 
 -- ---- atoms
 
--- what stands behind a `\`
+-- what follows a `\`
 unfoldable pub escaped_part : Flags → Text → Option Part
 escaped_part f t = escape t >>= λ x. Some (record { tree = escaped_tree f x.0; depth = 0; rest = x.1 })
 

@@ -1,4 +1,4 @@
--- How the parser's signs of escapes stand to those of the grammar.
+-- How the parser's signs of escapes relate to those of the grammar.
 use Rattle.std.specs.Prelude.{◌<◌}
 use Rattle.unicode.specs.Perl.{is_digit_char, is_space_char, is_word_char}
 use Rattle.lalrpop_sets.specs.CharacterSet.{Set}
@@ -22,7 +22,7 @@ sign_view (read.Property negated) = property negated
 sign_view read.Edge = edge
 sign_view (read.Unknown kind) = unknown
 
--- a code has one digit at least
+-- a code has at least one digit
 abbrev pub HasDigits : EscapeSign → Type 0
 HasDigits (read.Code count) = 0 < count
 HasDigits (read.Character c) = Unit {0}

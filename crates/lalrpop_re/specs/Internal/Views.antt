@@ -1,4 +1,4 @@
--- How the parser's values stand to those of the grammar.
+-- How the parser's values relate to those of the grammar.
 use Rattle.std.specs.Prelude.{◌≡◌, ◌↔◌, ℕ, List, length, drop, slice_get, unwrap_or, Option, Some, None, Result, Ok, Err, string_bytes}
 use Rattle.lalrpop_book.specs.Range.{Range, Covered}
 use Rattle.lalrpop_hir.specs.Runs.{IsScalar}
@@ -22,20 +22,20 @@ use Rattle.lalrpop_grammar.specs.Internal.Reading.{Opened, a_plain_group, a_name
 unfoldable pub text_from : ℕ → Text → Text
 text_from = drop
 
--- the characters that are still to read
+-- the characters that are still to be read
 abbrev pub text : Cursor → Text
 text c = text_from c.position c.chars.items
 
 abbrev pub unread : Cursor → ℕ
 unread c = length (text c)
 
--- where the group with the name of this number opened
+-- where the named group of this number opened
 abbrev pub place_of : Cursor → ℕ → ℕ
 place_of c number = unwrap_or (slice_get c.named.items number) c.position
 
 -- ---- sets
 
--- the ranges cover just the scalar values of the set, in any order
+-- the ranges cover exactly the scalar values of the set, in any order
 abbrev pub HasMembers : List Range → Set → Type 0
 HasMembers rs s = (c : ℕ) → IsScalar c → Members s c ↔ Covered rs c
 
@@ -61,12 +61,12 @@ operator_view operator.SymmetricDifference = SymmetricDifference
 
 -- ---- answers
 
--- a refusal: for memory, or since the text has no reading
+-- a refusal: memory was refused, or the text does not parse
 abbrev pub Refuses : {B : Type 0} → RegexError → Option B → Type 0
 Refuses (Syntax position kind) reading = reading ≡ None
 Refuses OutOfMemory reading = Unit {0}
 
--- the refusal points at the group with the first name that repeats one
+-- the refusal points at the group with the first name that repeats an earlier one
 abbrev pub PointsAtRepeated : List (List ℕ) → Cursor → RegexError → Type 0
 PointsAtRepeated ns c (Syntax position kind) = (number : ℕ) × IsFirstRepeated ns number × (position ≡ place_of c number) × (kind ≡ GroupName)
 PointsAtRepeated ns c OutOfMemory = Unit {0}

@@ -68,7 +68,7 @@ other_letter_is_not_folded h =
 least_member_of_a_run : (with_least 97 (between 98 99 ∷ []) ≡ between 97 99 ∷ []) × (with_least 96 (between 98 99 ∷ []) ≡ between 96 96 ∷ between 98 99 ∷ [])
 least_member_of_a_run = (refl, refl)
 
--- the value before the surrogates is a neighbour of the one behind them
+-- the value before the surrogates is a neighbour of the one after them
 least_member_before_the_surrogates : with_least 0xD7FF (between 0xE000 0xE000 ∷ []) ≡ between 0xD7FF 0xE000 ∷ []
 least_member_before_the_surrogates = refl
 

@@ -1,4 +1,4 @@
--- What the steps of folding and of sets by name speak of.
+-- What the steps of folding and of named sets promise each other.
 use Rattle.std.specs.Prelude.{◌≡◌, ◌≢◌, ℕ, true, false, List, [], ◌∷◌, Option, Some, None, bytes_eq}
 use Rattle.unicode.specs.CaseFolding.{simple_fold}
 use Rattle.unicode.specs.Rows.{AreRanges, HasExactly}
@@ -11,11 +11,11 @@ use Rattle.lalrpop_sets.specs.CharacterSet.{Set}
 abbrev pub AreAlike : ℕ → ℕ → Type 0
 AreAlike d c = IsScalar d × (d ≢ c) × (simple_fold d ≡ simple_fold c)
 
--- the ranges cover a scalar value that folds as c does, and is another one
+-- the ranges cover some other scalar value that folds like c
 abbrev pub HasPartner : List Range → ℕ → Type 0
 HasPartner rs c = (d : ℕ) × Covered rs d × AreAlike d c
 
--- the first class with the name has the ranges of the set that is found, and where no class has it none is found
+-- the set that is found has the ranges of the first class with the name; if no class has the name, none is found
 abbrev pub IsFound : List ℕ → List PosixClass → Option Set → Type 0
 IsFound name [] found = found ≡ None
 IsFound name (p ∷ ps) found =

@@ -5,11 +5,11 @@ use Rattle.lalrpop_table.specs.Dfa.{Row}
 use Rattle.lalrpop_table.specs.Counts.{state_bound, HaveAtMost}
 use Rattle.lalrpop_table.proofs.Cases.Dfa.{automaton_of_a}
 
--- no tree: one state, which holds nothing
+-- no trees: one state, which holds nothing
 no_tree : state_bound [] ≡ 1
 no_tree = refl
 
--- the empty tree: any of the three states that each tree's automaton has
+-- the empty tree: any set of the three states that each tree's automaton has
 empty_tree : state_bound (empty ∷ []) ≡ 8
 empty_tree = refl
 

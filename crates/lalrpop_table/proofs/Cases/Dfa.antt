@@ -32,7 +32,7 @@ abbrev accepts_at_start : List Row
 accepts_at_start =
     record { kind = Accepts 0; tests = (between 97 97, 1) ∷ []; other = 2; items = (0, 2) ∷ (0, 3) ∷ [] } ∷ accepting ∷ rejecting ∷ []
 
--- the same, but that the reject state is left
+-- the same, but the reject state is left
 abbrev leaves_reject : List Row
 leaves_reject =
     record { kind = Neither; tests = (between 97 97, 1) ∷ []; other = 2; items = (0, 2) ∷ (0, 3) ∷ [] } ∷ accepting
@@ -53,7 +53,7 @@ stored_accepting = record { kind = Accepts 0; other = 2; items = (0, 0) ∷ []; 
 abbrev stored_rejecting : StoredState
 stored_rejecting = record { kind = Reject; other = 2; items = (0, 1) ∷ []; first = 1; count = 0 }
 
--- where its edges stand is the list's affair, and how many there are is the state's
+-- the list says where its edges are, the state how many there are
 state_is_stored : IsStored starting stored_starting × IsStored starting (record stored_starting { first = 7 })
 state_is_stored = (record { kind = refl; other = refl; items = refl; count = refl }, record { kind = refl; other = refl; items = refl; count = refl })
 
@@ -124,21 +124,21 @@ zeros (suc j) = refl
 no_match_but_a : (w : List ℕ) → w ≢ 97 ∷ [] → ¬ Matched (a ∷ []) w
 no_match_but_a w n m = n (only_a_matches w m.0 m.1).0
 
--- of `a` an accepting state speaks the truth, and a reject state doesn't
+-- of `a`, an accepting state is right and a reject state is wrong
 accepting_state_is_right_of_a : IsRightKind (a ∷ []) (0 ∷ []) (97 ∷ []) (Accepts 0)
 accepting_state_is_right_of_a = (((a, (refl, refl)), λ j h. omega (arith, zeros j)), λ j t. (only_a_matches (97 ∷ []) j t.0).1)
 
 reject_state_is_wrong_of_a : ¬ IsRightKind (a ∷ []) (0 ∷ []) (97 ∷ []) Reject
 reject_state_is_wrong_of_a n = n (0, (a, (refl, refl)))
 
--- of the empty word it is the other way round
+-- of the empty word, it is the other way round
 reject_state_is_right_of_nothing : IsRightKind (a ∷ []) (0 ∷ []) [] Reject
 reject_state_is_right_of_nothing = no_match_but_a [] (λ e. cc)
 
 accepting_state_is_wrong_of_nothing : ¬ IsRightKind (a ∷ []) (0 ∷ []) [] (Accepts 0)
 accepting_state_is_wrong_of_nothing top = let e = (only_a_matches [] 0 top.0.0).0 in absurd (cc)
 
--- the third state is a reject state; the first isn't, and no fourth is there
+-- the third state is a reject state; the first isn't, and there is no fourth
 third_state_is_a_reject_state : IsReject automaton_of_a 2
 third_state_is_a_reject_state = refl
 
@@ -148,7 +148,7 @@ first_state_is_no_reject_state h = let e : Neither ≡ Reject = h in absurd (cc)
 missing_state_is_no_reject_state : ¬ IsReject automaton_of_a 3
 missing_state_is_no_reject_state h = h
 
--- ---- that an automaton stands for trees
+-- ---- that an automaton recognizes trees
 
 reject_stays : (w : List ℕ) → run automaton_of_a 2 w ≡ 2
 reject_stays [] = refl
@@ -178,7 +178,7 @@ right_after (c ∷ w) = by_step (first_step c)
         by_rest [] = subst (λ d. IsRightAt (d ∷ []) 1) (sym h.0) accepting_state_is_right_of_a
         by_rest (d ∷ v) = subst (IsRightAt (c ∷ d ∷ v)) (sym (reject_stays v)) (no_match_but_a (c ∷ d ∷ v) (λ e. cc))
 
--- it stands for `a`
+-- it recognizes `a`
 automaton_stands : Recognizes automaton_of_a (a ∷ []) (0 ∷ [])
 automaton_stands = record { kinds = right_after; stays = stays }
   where
@@ -188,7 +188,7 @@ automaton_stands = record { kinds = right_after; stays = stays }
     stays (suc (suc zero)) c h = refl
     stays (suc (suc (suc p))) c h = absurd h
 
--- and doesn't where a kind is wrong, or the reject state is left
+-- and doesn't if a kind is wrong, or the reject state is left
 wrong_kind_does_not_stand : ¬ Recognizes accepts_at_start (a ∷ []) (0 ∷ [])
 wrong_kind_does_not_stand s = accepting_state_is_wrong_of_nothing (s.kinds [])
 
@@ -197,7 +197,7 @@ reject_state_that_is_left_does_not_stand s = let e : Neither ≡ Reject = s.stay
 
 -- ---- tables
 
--- a-c and d-f may stand side by side, and c lies in one range alone
+-- a-c and d-f may be side by side, and c lies in only one range
 neighbours_ascend : AreAscendingTests ((between 97 99, 1) ∷ (between 100 102, 2) ∷ [])
 neighbours_ascend = (omega arith, omega arith, omega arith)
 

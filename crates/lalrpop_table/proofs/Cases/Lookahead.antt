@@ -17,11 +17,11 @@ leads_to kind p = record { kind = kind; tests = []; other = p; items = [] }
 abbrev closed : List Row
 closed = leads_to (Accepts 0) 1 ∷ leads_to Reject 1 ∷ []
 
--- one value behind the match leaves it open, and a second does not
+-- one value after the match leaves it open, and a second does not
 abbrev open_once : List Row
 open_once = leads_to (Accepts 0) 1 ∷ leads_to Neither 2 ∷ leads_to Reject 2 ∷ []
 
--- every value behind the match leaves it open
+-- every value after the match leaves it open
 abbrev open_ever : List Row
 open_ever = leads_to (Accepts 0) 1 ∷ leads_to Neither 1 ∷ []
 
@@ -69,7 +69,7 @@ open_ever_has_no_greatest (suc m) = (let (w, (s, e)) = stays m in (0, 7 ∷ w, (
 no_number_is_enough : (n : ℕ) → ¬ IsLookahead open_ever (Some n)
 no_number_is_enough n h = omega (arith, h.0 (n + 1) (open_ever_has_no_greatest (n + 1)))
 
--- its one pattern stays open for ever, and no other does
+-- its only pattern stays open forever, and no other does
 pattern_stays_open : StaysOpenEver open_ever 0
 pattern_stays_open zero = (0, [], (refl, tt, refl))
 pattern_stays_open (suc m) = (let (w, (s, e)) = stays m in (0, 7 ∷ w, (refl, (refl, s), omega arith)))
@@ -91,7 +91,7 @@ open_once_is_not_for_ever ever = omega (arith, one_behind 2 (at (ever 2)))
     at (suc (suc zero), w, (a, s, e)) = absurd (cc)
     at (suc (suc (suc p)), w, (a, s, e)) = absurd a
 
--- ---- of trees alone: of `a` and `b`, one value behind a match settles that no more comes; of `a` and `abc` it doesn't
+-- ---- only trees: of `a` and `b`, one value after a match settles that no more comes; of `a` and `abc` it doesn't
 
 abbrev a : Tree
 a = literal (97 ∷ [])

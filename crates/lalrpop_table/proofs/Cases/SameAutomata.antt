@@ -20,7 +20,7 @@ with_an_item = record rejecting { items = (0, 1) ∷ [] }
 abbrev with_another_edge : Row
 with_another_edge = record rejecting { other = 1 }
 
--- kinds are equal where they are one kind, and accept the same tree
+-- kinds are equal if they are the same kind, and accept the same tree
 kinds_that_are_equal : (same_kind (Accepts 1) (Accepts 1) ≡ true) × (same_kind Neither Neither ≡ true)
 kinds_that_are_equal = (refl, refl)
 

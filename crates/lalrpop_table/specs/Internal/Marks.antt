@@ -12,11 +12,11 @@ Marked marks p = slice_get marks p ≡ Some true
 abbrev pub LeadsInto : List Row → List Bool → ℕ → Type 0
 LeadsInto d marks p = (c : ℕ) × Marked marks (step d p c)
 
--- the state is open, and some n values more leave it so
+-- the state is open, and some n more values leave it so
 abbrev pub OpenFor : List Row → ℕ → ℕ → Type 0
 OpenFor d n p = IsOpen d p × ((w : List ℕ) × (StaysOpen d p w × (length w ≡ n)))
 
--- the states that can stay open for n values are marked, and no others
+-- exactly the states that can stay open for n values are marked
 pub record AreOpenFor (d : List Row) (n : ℕ) (marks : List Bool) : Type 0 where
   pub same_length : length marks ≡ length d
   pub each : (p : ℕ) → p < length d → Marked marks p ↔ OpenFor d n p
@@ -25,10 +25,10 @@ pub record AreOpenFor (d : List Row) (n : ℕ) (marks : List Bool) : Type 0 wher
 abbrev pub IsEntered : List Row → List Bool → Type 0
 IsEntered d marks = (p : ℕ) × ((p < length d) × IsAccepting d p × LeadsInto d marks p)
 
--- the states that can stay open for ever are marked: those that can for n values, and no fewer for one more
+-- the marked states are those that can stay open for n values, and also those that can for n + 1: so they can forever
 abbrev pub AreOpenEver : List Row → List Bool → Type 0
 AreOpenEver d marks = (n : ℕ) × (AreOpenFor d n marks × AreOpenFor d (n + 1) marks)
 
--- the state is one of a match by the tree i, and some value leads from it to a marked one
+-- the state accepts the tree i, and some value leads from it to a marked one
 abbrev pub EntersBy : List Row → List Bool → ℕ → ℕ → Type 0
 EntersBy d marks i p = IsSomeAnd (slice_get d p) (λ r. r.kind ≡ Accepts i) × LeadsInto d marks p

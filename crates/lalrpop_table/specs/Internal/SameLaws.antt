@@ -43,7 +43,7 @@ kind_equiv = record { refl = kind_itself; symm = kind_back; congr = kind_along }
 pub state_equiv : IsEquivalence same_state
 state_equiv = and_equiv (on_equiv (λ (r : Row). r.kind) kind_equiv) (on_equiv (λ (r : Row). r.other) nat_eq_equiv)
 
--- the same of states as automata keep them
+-- the same for states as automata store them
 pub stored_equiv : IsEquivalence (λ (s t : StoredState). same_state (bare s) (bare t))
 stored_equiv = on_equiv bare state_equiv
 

@@ -1,4 +1,4 @@
--- States whose test edges stand in a list of all test edges.
+-- States whose test edges are in one list of all test edges.
 use Rattle.std.specs.Prelude.{◌≡◌, ℕ, ◌+◌, ◌<◌, ◌≤◌, List, length, map, take, drop, slice_get, Option, Some}
 use Rattle.lalrpop_book.specs.Range.{Range}
 use Rattle.lalrpop_table.specs.Dfa.{Row, StoredState, step}
@@ -22,7 +22,7 @@ AreSteps d p targets = (c : ℕ) → c < 128 → slice_get targets c ≡ Some (s
 abbrev pub EndBefore : List (Range × ℕ) → ℕ → ℕ → Type 0
 EndBefore ts place value = (k : ℕ) (t : Range × ℕ) → k < place → slice_get ts k ≡ Some t → t.0.end < value
 
--- each state has a place, and where it names one of the lists, that list tells where values lead from the state
+-- each state has a place, and if it names one of the lists, that list says where the values of ASCII lead from the state
 pub record AreListed (d : List Row) (places : List (Option ℕ)) (lists : List (List ℕ)) : Type 0 where
   pub same_length : length places ≡ length d
   pub each : (p k : ℕ) → slice_get places p ≡ Some (Some k) → (targets : List ℕ) × ((slice_get lists k ≡ Some targets) × AreSteps d p targets)

@@ -3,7 +3,7 @@ use Rattle.std.specs.Prelude.{ℕ, List}
 use Rattle.lalrpop_book.specs.Range.{Range}
 use Rattle.lalrpop_table.specs.Dfa.{Row}
 
--- the states that are there, and the test edges, so far, of the next one
+-- the finished states, and the test edges so far of the next one
 pub record Written : Type 0 where
   pub rows : List Row
   pub tests : List (Range × ℕ)

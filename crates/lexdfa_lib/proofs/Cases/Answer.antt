@@ -65,7 +65,7 @@ longest = (
 literal_finds_itself : Finds (a ∷ []) (0 ∷ []) (codes "a") (Match 0 1)
 literal_finds_itself = (codes "a", (longest, refl))
 
--- two equal literals of one precedence clash on their word, and on no other, the later one first
+-- two equal literals with equal precedences clash on their word and no other, the later one first
 
 abbrev aa : List Tree
 aa = a ∷ a ∷ []
@@ -104,7 +104,7 @@ clash_is_reported = (
 clash_is_on_no_other_word : (w : List ℕ) → Reports aa both_zero (Ambiguous 1 0 w) → w ≡ codes "a"
 clash_is_on_no_other_word w h = (who_matches_twice w 1 h.1.greatest.0).0
 
--- trees report no wrong lines, and no match
+-- trees report neither wrong lines nor matches
 trees_report_no_wrong_line : (i : ℕ) → (¬ Reports (a ∷ []) (0 ∷ []) (Line i)) × (¬ Reports (a ∷ []) (0 ∷ []) (Syntax i))
 trees_report_no_wrong_line i = ((λ h. h), (λ h. h))
 
@@ -131,7 +131,7 @@ abbrev bytes_of : Outcome → ℕ
 bytes_of (Match i n) = n
 bytes_of o = 0
 
--- neither none, nor another terminal, nor another length, nor a bad line
+-- not None, not another terminal, not another length, not a bad line
 none_is_not_the_outcome : ¬ IsOutcome (codes "0 l a\n") (codes "a") NoMatch
 none_is_not_the_outcome h = let e : Match 0 1 ≡ NoMatch = outcome-unique (codes "0 l a\n") (codes "a") _ _ match_is_the_outcome h in absurd (cc)
 
@@ -148,18 +148,18 @@ bad_line_is_not_the_outcome h = let e : Match 0 1 ≡ Line 0 = outcome-unique (c
 whole_text_is_not_the_outcome : ¬ IsOutcome (codes "0 l a\n") (codes "a") (All 1)
 whole_text_is_not_the_outcome h = let e : Match 0 1 ≡ All 1 = outcome-unique (codes "0 l a\n") (codes "a") _ _ match_is_the_outcome h in absurd (cc)
 
--- the input `x`: line 0 is bad, and nothing else is said
+-- the input `x`: line 0 is bad, and nothing else is reported
 bad_line_is_the_outcome : IsOutcome (codes "x\n") (codes "a") (Line 0)
 bad_line_is_the_outcome = inl x_is_bad
 
 none_is_not_the_outcome_of_a_bad_line : ¬ IsOutcome (codes "x\n") (codes "a") NoMatch
 none_is_not_the_outcome_of_a_bad_line h = let e : Line 0 ≡ NoMatch = outcome-unique (codes "x\n") (codes "a") _ _ bad_line_is_the_outcome h in absurd (cc)
 
--- the input `0 r *a`: the pattern of line 0 has no tree
+-- the input `0 r *a`: the pattern of line 0 doesn't parse
 syntax_is_the_outcome : IsOutcome (codes "0 r *a\n") (codes "a") (Syntax 0)
 syntax_is_the_outcome = inl line_says_no_tree
 
--- neither of a terminal nor of a bad line
+-- it is neither a terminal nor a bad line
 syntax_is_not_reported : (¬ IsReported (codes "0 l a\n") (Syntax 0)) × (¬ IsReported (codes "x\n") (Syntax 0))
 syntax_is_not_reported = (line_of_a_literal_has_a_tree, x_is_not_without_a_tree)
 

@@ -13,11 +13,11 @@ line_of_a_match = refl
 line_of_no_match : line_of NoMatch ≡ codes "none\n"
 line_of_no_match = refl
 
--- where all tokens were cut there is no further line
+-- if all tokens were cut there is no further line
 line_of_a_whole_text : line_of (All 3) ≡ []
 line_of_a_whole_text = refl
 
--- the place, and not the number of tokens
+-- the place, not the number of tokens
 line_of_a_fault : line_of (Stopped 2 6) ≡ codes "stop 6\n"
 unfolding digits
 line_of_a_fault = refl

@@ -6,7 +6,7 @@ use Rattle.lexdfa_lib.specs.Watch.{Watch, late_after, read_failed, write_failed,
 abbrev end : Bool → ℕ → Watch ℕ
 end failed late = record { inner = 0; failed = failed; late = late }
 
--- a call counts where one before it has failed, and not before that
+-- a call counts if an earlier one failed, and not otherwise
 call_behind_a_failure : (late_after (end true 0) ≡ 1) × (late_after (end true 4) ≡ 5)
 call_behind_a_failure = (refl, refl)
 
@@ -16,23 +16,23 @@ call_before_a_failure = refl
 call_behind_a_failure_not_counted : late_after (end true 4) ≢ 4
 call_behind_a_failure_not_counted e = let n : 5 ≡ 4 = e in omega (arith, n)
 
--- a read fails by an error; to read nothing is no failure
+-- a read fails by an error; reading nothing is not a failure
 reads_that_fail : (read_failed {E = ℕ} (Err 0) ≡ true) × (read_failed {E = ℕ} (Ok 0) ≡ false)
 reads_that_fail = (refl, refl)
 
--- a write fails by an error, or where it takes nothing of some bytes
+-- a write fails by an error, or if it takes none of some bytes
 writes_that_fail : (write_failed {E = ℕ} (97 ∷ []) (Err 0) ≡ true) × (write_failed {E = ℕ} (97 ∷ []) (Ok 0) ≡ true)
 writes_that_fail = (refl, refl)
 
--- and not where it takes some of them, or there are none
+-- and not if it takes some of them, or there are none
 writes_that_do_not_fail : (write_failed {E = ℕ} (97 ∷ 98 ∷ []) (Ok 1) ≡ false) × (write_failed {E = ℕ} [] (Ok 0) ≡ false)
 writes_that_do_not_fail = (refl, refl)
 
--- a reader that had `ab` and has nothing has given `ab`
+-- a reader that had `ab` and now has nothing has given `ab`
 reader_has_given_all : ReadsAll (Some (97 ∷ 98 ∷ [])) (Some []) (97 ∷ 98 ∷ [])
 reader_has_given_all = (refl, refl)
 
--- not `a` alone, and not where `b` is left
+-- not `a` alone, and not if `b` is left
 reader_has_not_given_less : ¬ ReadsAll (Some (97 ∷ 98 ∷ [])) (Some []) (97 ∷ [])
 reader_has_not_given_less h = let n : 2 ≡ 1 = ap length h.0 in omega (arith, n)
 

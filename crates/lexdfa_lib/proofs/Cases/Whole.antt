@@ -29,7 +29,7 @@ module _ (ts : List Tree) (ps : List ℕ) (a b : Bor (List ℕ)) (one : a.now �
       left : drop (0 + length a.now + length b.now) (codes "ab") ≡ []
       left = ap (λ (l : List ℕ). drop (0 + length l + length b.now) (codes "ab")) one ∙ ap (λ (l : List ℕ). drop (1 + length l) (codes "ab")) other
 
-  -- `b` doesn't match: a fault at byte 1, behind one token
+  -- `b` doesn't match: a fault at byte 1, after one token
   text_with_a_fault : IsLongest ts ps (codes "ab") (Some (0, a.now)) → IsLongest ts ps (codes "b") None → Cuts ts ps (codes "ab") ((0, a) ∷ []) (Stopped 1 1)
   text_with_a_fault first none =
       ((first, ((λ e. some (rest e)), subst (λ n. IsLongest ts ps (drop n (codes "ab")) None) (sym behind) none, sym behind, refl)), refl)
@@ -43,13 +43,13 @@ module _ (ts : List Tree) (ps : List ℕ) (a b : Bor (List ℕ)) (one : a.now �
       some : codes "b" ≡ [] → ⊥
       some e = cc
 
-  -- the text isn't all tokens where a rest is left
+  -- the text isn't all tokens if a rest is left
   fault_dropped : ¬ Cuts ts ps (codes "ab") ((0, a) ∷ []) (All 1)
   fault_dropped h =
       let rest : codes "b" ≡ [] = sym (ap (λ (l : List ℕ). drop (0 + length l) (codes "ab")) one) ∙ h.0.1 in
       absurd (cc)
 
-  -- nor is the fault one of the tokens, nor its place another
+  -- the fault isn't one of the tokens, and its place isn't another
   fault_counted : ¬ Cuts ts ps (codes "ab") ((0, a) ∷ []) (Stopped 2 1)
   fault_counted h = let n : 2 ≡ 1 = h.1 in omega (arith, n)
 
@@ -64,12 +64,12 @@ stopped_at_the_start = inr ([], ([], (no_lines_have_automaton, (((λ e. cc), not
 bad_line_is_reported : (text : List ℕ) → IsWhole (codes "x\n") text [] (Line 0)
 bad_line_is_reported text = inl (x_is_bad, refl)
 
--- no token stands before what is reported
+-- no token comes before what is reported
 no_token_before_a_bad_line : (text : List ℕ) (token : Token) → ¬ IsWhole (codes "x\n") text (token ∷ []) (Line 0)
 no_token_before_a_bad_line text token (inl h) = let e = h.1 in absurd (cc)
 no_token_before_a_bad_line text token (inr h) = h.1.1.1
 
--- a whole text is never told as one match or none, nor the longest match as a whole text
+-- a whole text is never reported as one match or none, nor the longest match as a whole text
 never_one_match : (bytes text : List ℕ) (tokens : List Token) (i n : ℕ) → (¬ IsWhole bytes text tokens (Match i n)) × (¬ IsWhole bytes text tokens NoMatch)
 never_one_match bytes text tokens i n = (match, none)
   where

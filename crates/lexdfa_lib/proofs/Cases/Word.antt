@@ -3,7 +3,7 @@ use Rattle.std.proofs.Common.{◌≡◌, ◌≢◌, ℕ, List, codes, get_or, re
 use Rattle.std.specs.Fmt.{digits}
 use Rattle.lexdfa_lib.specs.Word.{value_text}
 
--- the value 0 has a digit, others have no zero in front
+-- the value 0 has a digit, others have no leading zeros
 values_of_words : (value_text 0 ≡ codes " 0") × (value_text 10 ≡ codes " a") × (value_text 55296 ≡ codes " d800")
 unfolding digits
 values_of_words = (refl, refl, refl)

@@ -2,18 +2,18 @@
 use Rattle.std.proofs.Common.{◌≡◌, ℕ, Bool, true, false, List, [], ◌∷◌, get_or, refl, ap, codes, arith}
 use Rattle.lexdfa_lib.specs.Words.{AreArguments}
 
--- one word is the text, the empty one and `--all` too
+-- one argument is the text, even if it is empty or `--all`
 one_word : (text : List ℕ) → AreArguments (text ∷ []) false text
 one_word text = refl
 
 all_alone_is_a_text : (text : List ℕ) → (AreArguments (codes "--all" ∷ []) false (codes "--all")) × (¬ AreArguments (codes "--all" ∷ []) true text)
 all_alone_is_a_text text = (refl, λ h. let e = h in absurd (cc))
 
--- the text behind `--all`, which may be that again
+-- the text after `--all`, which may be `--all` again
 text_behind_all : AreArguments (codes "--all" ∷ codes "--all" ∷ []) true (codes "--all")
 text_behind_all = refl
 
--- no word is none, nor are two others
+-- neither no arguments nor two others
 no_word : (all : Bool) (text : List ℕ) → ¬ AreArguments [] all text
 no_word false text h = let e = h in absurd (cc)
 no_word true text h = let e = h in absurd (cc)

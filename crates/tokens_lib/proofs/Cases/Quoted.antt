@@ -4,14 +4,14 @@ use Rattle.std.specs.Fmt.{digits}
 use Rattle.std.specs.Str.{chars}
 use Rattle.tokens_lib.specs.Quoted.{short_escape, told, quoted}
 
--- a quote and a line feed have a short escape, a letter and the character 1 haven't
+-- a quote and a line feed have a short escape, a letter and the character 1 don't
 characters_with_a_short_escape : (short_escape 34 ≡ Some (codes "\\\"")) × (short_escape 10 ≡ Some (codes "\\n"))
 characters_with_a_short_escape = (refl, refl)
 
 characters_without_a_short_escape : (short_escape 97 ≡ None) × (short_escape 1 ≡ None)
 characters_without_a_short_escape = (refl, refl)
 
--- a letter and `'` are told as they are
+-- a letter and `'` are written as they are
 characters_that_stand_for_themselves : (told 97 ≡ codes "a") × (told 39 ≡ codes "'")
 unfolding lib.Utf8.encode
 characters_that_stand_for_themselves = (refl, refl)
@@ -26,7 +26,7 @@ slices_in_quotes : (quoted (codes "a\n") ≡ codes "\"a\\n\"") × (quoted [] ≡
 unfolding chars lib.Utf8.encode
 slices_in_quotes = (refl, refl, refl)
 
--- not without the quotes, and a line feed isn't told as it is
+-- not without the quotes, and a line feed isn't written as it is
 slice_without_quotes : quoted (codes "a") ≢ codes "a"
 unfolding chars lib.Utf8.encode
 slice_without_quotes e = let n : 3 ≡ 1 = ap length e in omega (arith, n)

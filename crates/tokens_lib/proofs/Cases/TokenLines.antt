@@ -42,7 +42,7 @@ line_of_another_terminal text token i s e =
     let n : 51 ≡ 50 = ap (λ u. get_or u 0 0) (sym (line_of_a_token text token i s) ∙ e) in
     omega (arith, n)
 
--- nothing matches behind one byte
+-- nothing matches after one byte
 abbrev behind_one_byte : TokenFault
 behind_one_byte = record { at = 1 }
 
@@ -57,7 +57,7 @@ outcomes token = (refl, refl)
 fault_is_no_token : (token : Token) → outcome_behind 0 (Ok token ∷ Err behind_one_byte ∷ []) ≢ All 2
 fault_is_no_token token e = absurd (cc)
 
--- a text without a token is its last line
+-- a text without tokens is its last line
 lines_of_nothing : (file : Option (List ℕ)) → text_lines file [] [] ≡ codes "end\n"
 lines_of_nothing file = refl
 

@@ -1,7 +1,7 @@
 use Rattle.std.proofs.Common.{◌<◌, length, subst}
 use Rattle.std.proofs.lemmas.List.{take_all}
-use Rattle.lalrpop_alphabet.specs.Internal.Cuts.{HasAllOf}
-use Rattle.lalrpop_alphabet.proofs.CutsLabels.{labels_more}
+use Rattle.lalrpop_alphabet.specs.Internal.Boundaries.{HasAllOf}
+use Rattle.lalrpop_alphabet.proofs.BoundaryLabels.{labels_more}
 use Rattle.lalrpop_alphabet.proofs.LabelOrder.{range_same}
 use Rattle.lalrpop_alphabet.proofs.cells.insert_labels.Goals as goal
 

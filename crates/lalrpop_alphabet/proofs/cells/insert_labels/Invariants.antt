@@ -1,5 +1,5 @@
 use Rattle.std.proofs.Common.{take}
-use Rattle.lalrpop_alphabet.specs.Internal.Cuts.{HasAllOf}
+use Rattle.lalrpop_alphabet.specs.Internal.Boundaries.{HasAllOf}
 use Rattle.lalrpop_alphabet.proofs.cells.insert_labels.Given as goal
 
 abbrev pub invariant-loop-label : goal.invariant-loop-label

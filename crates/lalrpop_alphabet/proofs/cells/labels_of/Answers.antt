@@ -3,8 +3,8 @@ use Rattle.std.specs.List.{Contains}
 use Rattle.std.proofs.lemmas.List.{take_all}
 use Rattle.lalrpop_book.specs.Range.{Range}
 use Rattle.lalrpop_alphabet.specs.Internal.Grouped.{HasLabel}
-use Rattle.lalrpop_alphabet.specs.Internal.Cuts.{HasAllOf}
-use Rattle.lalrpop_alphabet.proofs.CutsLabels.{lists_more}
+use Rattle.lalrpop_alphabet.specs.Internal.Boundaries.{HasAllOf}
+use Rattle.lalrpop_alphabet.proofs.BoundaryLabels.{lists_more}
 use Rattle.lalrpop_alphabet.proofs.cells.labels_of.Goals as goal
 
 pub loop-list-preserved : goal.loop-list-preserved

@@ -26,7 +26,7 @@ loop-number-preserved c =
     let same = c.loop-number.invariant.same_length in
     let within : number < length c.loop-number.groups.items = omega (arith, h, same) in
     let at : slice_get c.loop-number.groups.items number ≡ Some c.index_mut.result.now = slice_get_read c.loop-number.groups.items (length c.loop-number.groups.items) number c.index_mut.result.now refl within c.index_mut.ensures.value in
-    got_more c.args.groups.now.items c.loop-number.groups.items numbers c.loop-number.number-index number c.args.class c.index_mut.result.now (record { cuts = c.index_mut.result.now.cuts; classes = c.push.new.self })
+    got_more c.args.groups.now.items c.loop-number.groups.items numbers c.loop-number.number-index number c.args.class c.index_mut.result.now (record { boundaries = c.index_mut.result.now.boundaries; classes = c.push.new.self })
     c.loop-number.invariant l refl within at refl c.in_ok-push.ensures.items
 
 pub returns : goal.returns

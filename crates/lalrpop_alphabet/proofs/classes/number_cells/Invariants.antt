@@ -1,7 +1,7 @@
 use Rattle.std.proofs.Common.{◌≡◌, ℕ, ◌+◌, ◌≤◌, length, slice_get, Some}
 use Rattle.std.specs.Prelude.{◌↔◌}
 use Rattle.lalrpop_alphabet.specs.declared.signatures.Signature.{Signature}
-use Rattle.lalrpop_alphabet.specs.Internal.Alphabet.{HasCut}
+use Rattle.lalrpop_alphabet.specs.Internal.Alphabet.{HasBoundary}
 use Rattle.lalrpop_alphabet.specs.Internal.Numbered.{AreNumbered, AreClassed}
 use Rattle.lalrpop_alphabet.proofs.classes.number_cells.Given as goal
 
@@ -10,8 +10,8 @@ invariant-loop-signature l = record {
   rest : (k : ℕ) (s : Signature) → slice_get l.signature-iterator.rest.items k ≡ Some s → slice_get l.fn.marks.signatures.items (length l.cells.items + k) ≡ Some s;
   places : length l.cells.items + length l.signature-iterator.rest.items ≡ length l.fn.marks.signatures.items;
   same_length : length l.numbering.groups.items ≡ length l.fn.marks.groups.items;
-  cuts : (n k : ℕ) → HasCut l.numbering.groups.items n k ↔ HasCut l.fn.marks.groups.items n k;
+  boundaries : (n k : ℕ) → HasBoundary l.numbering.groups.items n k ↔ HasBoundary l.fn.marks.groups.items n k;
   few : l.numbering.count ≤ length l.cells.items;
   numbered : AreNumbered l.numbering.known l.numbering.groups.items l.numbering.count;
-  classed : AreClassed l.cuts l.fn.marks.signatures.items l.cells.items l.numbering.groups.items l.numbering.count;
+  classed : AreClassed l.boundaries l.fn.marks.signatures.items l.cells.items l.numbering.groups.items l.numbering.count;
 }

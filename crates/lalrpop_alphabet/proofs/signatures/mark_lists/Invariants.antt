@@ -6,7 +6,7 @@ use Rattle.lalrpop_alphabet.proofs.signatures.mark_lists.Given as goal
 abbrev pub invariant-loop-number : goal.invariant-loop-number
 invariant-loop-number l = record {
   same_length : length l.groups.items ≡ l.number;
-  signed : AreSigned l.cuts l.signatures.items (λ v n. (n < l.number) × CoversIn l.lists n v);
-  ends : HaveEndsBelow l.number l.lists l.cuts l.groups.items;
+  signed : AreSigned l.boundaries l.signatures.items (λ v n. (n < l.number) × CoversIn l.lists n v);
+  ends : HaveEndsBelow l.number l.lists l.boundaries l.groups.items;
   bare : AreBare l.groups.items;
 }

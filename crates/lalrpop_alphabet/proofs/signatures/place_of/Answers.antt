@@ -5,8 +5,8 @@ use Rattle.lalrpop_alphabet.proofs.signatures.place_of.Goals as goal
 
 pub returns : goal.returns
 returns c =
-    let cuts : List ℕ = c.args.cuts.now in
+    let boundaries : List ℕ = c.args.boundaries.now in
     let value : ℕ = c.args.value in
-    let at = IsPartitionPoint-from_clause (λ (y : ℕ). nat_lt y value) cuts c.partition_point.result c.partition_point.ensures.partitioned
-    (IsPartitionedBy-leb (λ (y : ℕ). suc y) cuts value (rises cuts c.requires.rising)) (λ a r f k. search rules) in
-    placed cuts value c.partition_point.result c.requires.rising c.requires.there (λ k d l. at.0 k d (omega arith) l) (λ k d l m. at.1 k d l m)
+    let at = IsPartitionPoint-from_clause (λ (y : ℕ). nat_lt y value) boundaries c.partition_point.result c.partition_point.ensures.partitioned
+    (IsPartitionedBy-leb (λ (y : ℕ). suc y) boundaries value (rises boundaries c.requires.rising)) (λ a r f k. search rules) in
+    placed boundaries value c.partition_point.result c.requires.rising c.requires.there (λ k d l. at.0 k d (omega arith) l) (λ k d l m. at.1 k d l m)

@@ -5,7 +5,7 @@ use Rattle.lalrpop_items.specs.Automata.{Item}
 use Rattle.lalrpop_items.specs.Internal.Ascending.{AreAscendingItems, AreByPattern}
 use Rattle.lalrpop_items.specs.Internal.Given.{AreItemsOf}
 use Rattle.lalrpop_items.specs.Internal.LiveItems.{live_of}
-use Rattle.lalrpop_items.specs.Internal.Split.{still_spared, full}
+use Rattle.lalrpop_items.specs.Internal.Split.{still_live, full}
 use Rattle.lalrpop_items.specs.Internal.Subsets.{move}
 use Rattle.lalrpop_items.specs.Internal.Transitions.{AreTransitions}
 use Rattle.lalrpop_items.proofs.Moving.{targets_inside}
@@ -17,7 +17,7 @@ use Rattle.lalrpop_items.proofs.closure.advance.Goals as goal
 pub targets_by-requires-clause-inside : goal.targets_by-requires-clause-inside
 targets_by-requires-clause-inside c =
     subst (AreItemsOf c.args.nfas.now) (sym c.deref.ensures.value)
-    (live_inside c.args.nfas.now c.requires.automata c.set.inside.patterns c.set.inside.spared.items c.set.inside.live.items c.set.invariant.split (subst (AreItemsOf c.args.nfas.now) (sym c.set.view_is) c.requires.inside))
+    (live_inside c.args.nfas.now c.requires.automata c.set.inside.patterns c.set.inside.live_patterns.items c.set.inside.live.items c.set.invariant.split (subst (AreItemsOf c.args.nfas.now) (sym c.set.view_is) c.requires.inside))
 
 pub targets_by-requires-clause-ascending : goal.targets_by-requires-clause-ascending
 targets_by-requires-clause-ascending c = subst AreAscendingItems (sym c.deref.ensures.value) c.set.invariant.split.ascending
@@ -25,20 +25,20 @@ targets_by-requires-clause-ascending c = subst AreAscendingItems (sym c.deref.en
 pub targets_by-requires-clause-leave : goal.targets_by-requires-clause-leave
 targets_by-requires-clause-leave c l h =
     subst (λ (xs : List Item). Contains xs l.item) (sym c.deref.ensures.value)
-    (edges_leave_live c.args.nfas.now c.requires.automata c.set.inside.patterns c.set.inside.spared.items c.set.inside.live.items c.set.invariant.split c.requires.taken.0 c.args.transitions.now
+    (edges_leave_live c.args.nfas.now c.requires.automata c.set.inside.patterns c.set.inside.live_patterns.items c.set.inside.live.items c.set.invariant.split c.requires.taken.0 c.args.transitions.now
     (subst (λ (s : List Item). AreTransitions c.args.nfas.now s c.requires.taken.0 c.args.transitions.now) (sym c.set.view_is) c.requires.taken.1) l h)
 
 pub follow_all-requires-clause-inside : goal.follow_all-requires-clause-inside
 follow_all-requires-clause-inside c =
     let ns = c.args.nfas.now in
     let n = c.set.inside.patterns in
-    let spared = c.set.inside.spared.items in
+    let live_patterns = c.set.inside.live_patterns.items in
     let live = c.set.inside.live.items in
     let v : ℕ = c.requires.taken.0 in
-    let held : AreItemsOf ns (full n spared live) = subst (AreItemsOf ns) (sym c.set.view_is) c.requires.inside in
-    let have : AreTransitions ns (full n spared live) v c.args.transitions.now = subst (λ (s : List Item). AreTransitions ns s v c.args.transitions.now) (sym c.set.view_is) c.requires.taken.1 in
-    let alike = targets_alike ns c.requires.automata n spared live c.set.invariant.split v c.args.transitions.now c.deref.result.now c.targets_by.new.targets.items held have c.deref.ensures.value c.in_ok-targets_by.ensures.targets in
-    subst (AreItemsOf ns) (sym c.deref-2.ensures.value) (λ z h. targets_inside ns v live c.requires.automata (live_inside ns c.requires.automata n spared live c.set.invariant.split held) z ((alike z).0 h))
+    let held : AreItemsOf ns (full n live_patterns live) = subst (AreItemsOf ns) (sym c.set.view_is) c.requires.inside in
+    let have : AreTransitions ns (full n live_patterns live) v c.args.transitions.now = subst (λ (s : List Item). AreTransitions ns s v c.args.transitions.now) (sym c.set.view_is) c.requires.taken.1 in
+    let alike = targets_alike ns c.requires.automata n live_patterns live c.set.invariant.split v c.args.transitions.now c.deref.result.now c.targets_by.new.targets.items held have c.deref.ensures.value c.in_ok-targets_by.ensures.targets in
+    subst (AreItemsOf ns) (sym c.deref-2.ensures.value) (λ z h. targets_inside ns v live c.requires.automata (live_inside ns c.requires.automata n live_patterns live c.set.invariant.split held) z ((alike z).0 h))
 
 pub follow_all-requires-clause-by_pattern : goal.follow_all-requires-clause-by_pattern
 follow_all-requires-clause-by_pattern c = subst AreByPattern (sym c.deref-2.ensures.value) c.in_ok-targets_by.ensures.by_pattern
@@ -47,14 +47,14 @@ pub set_of-requires-clause-within : goal.set_of-requires-clause-within
 set_of-requires-clause-within c =
     let ns = c.args.nfas.now in
     let n = c.set.inside.patterns in
-    let spared = c.set.inside.spared.items in
+    let live_patterns = c.set.inside.live_patterns.items in
     let live = c.set.inside.live.items in
     let v : ℕ = c.requires.taken.0 in
-    let held : AreItemsOf ns (full n spared live) = subst (AreItemsOf ns) (sym c.set.view_is) c.requires.inside in
-    let have : AreTransitions ns (full n spared live) v c.args.transitions.now = subst (λ (s : List Item). AreTransitions ns s v c.args.transitions.now) (sym c.set.view_is) c.requires.taken.1 in
-    let keys = closed_from_live ns c.requires.automata n spared live c.set.invariant.split v c.args.transitions.now c.deref.result.now c.targets_by.new.targets.items c.deref-2.result.now c.deref-4.result.now held have c.deref.ensures.value c.in_ok-targets_by.ensures.targets
+    let held : AreItemsOf ns (full n live_patterns live) = subst (AreItemsOf ns) (sym c.set.view_is) c.requires.inside in
+    let have : AreTransitions ns (full n live_patterns live) v c.args.transitions.now = subst (λ (s : List Item). AreTransitions ns s v c.args.transitions.now) (sym c.set.view_is) c.requires.taken.1 in
+    let keys = closed_from_live ns c.requires.automata n live_patterns live c.set.invariant.split v c.args.transitions.now c.deref.result.now c.targets_by.new.targets.items c.deref-2.result.now c.deref-4.result.now held have c.deref.ensures.value c.in_ok-targets_by.ensures.targets
     c.deref-2.ensures.value (c.deref-4.ensures.value ∙ c.in_ok-follow_all.ensures) in
-    moved_within ns c.requires.automata n spared live c.set.invariant.split v held c.deref-4.result.now keys
+    moved_within ns c.requires.automata n live_patterns live c.set.invariant.split v held c.deref-4.result.now keys
 
 pub set_of-requires-clause-ascending : goal.set_of-requires-clause-ascending
 set_of-requires-clause-ascending c = rw (c.deref-4.ensures.value, c.in_ok-follow_all.ensures) (closed_ascends c.args.nfas.now c.deref-2.result.now)
@@ -63,15 +63,15 @@ pub returns : goal.returns
 returns c =
     let ns = c.args.nfas.now in
     let n = c.set.inside.patterns in
-    let spared = c.set.inside.spared.items in
+    let live_patterns = c.set.inside.live_patterns.items in
     let live = c.set.inside.live.items in
     let v : ℕ = c.requires.taken.0 in
     let items = c.deref-4.result.now in
-    let held : AreItemsOf ns (full n spared live) = subst (AreItemsOf ns) (sym c.set.view_is) c.requires.inside in
-    let have : AreTransitions ns (full n spared live) v c.args.transitions.now = subst (λ (s : List Item). AreTransitions ns s v c.args.transitions.now) (sym c.set.view_is) c.requires.taken.1 in
-    let keys = closed_from_live ns c.requires.automata n spared live c.set.invariant.split v c.args.transitions.now c.deref.result.now c.targets_by.new.targets.items c.deref-2.result.now items held have c.deref.ensures.value c.in_ok-targets_by.ensures.targets
+    let held : AreItemsOf ns (full n live_patterns live) = subst (AreItemsOf ns) (sym c.set.view_is) c.requires.inside in
+    let have : AreTransitions ns (full n live_patterns live) v c.args.transitions.now = subst (λ (s : List Item). AreTransitions ns s v c.args.transitions.now) (sym c.set.view_is) c.requires.taken.1 in
+    let keys = closed_from_live ns c.requires.automata n live_patterns live c.set.invariant.split v c.args.transitions.now c.deref.result.now c.targets_by.new.targets.items c.deref-2.result.now items held have c.deref.ensures.value c.in_ok-targets_by.ensures.targets
     c.deref-2.ensures.value (c.deref-4.ensures.value ∙ c.in_ok-follow_all.ensures) in
-    let to = moved_is ns c.requires.automata n spared live c.set.invariant.split v held items keys in
-    let is : full n (still_spared items c.deref-3.result.now) (live_of items) ≡ move ns c.args.set.now v = ap (λ sp. full n (still_spared items sp) (live_of items)) c.deref-3.ensures.value ∙ (to ∙ ap (λ s. move ns s v) c.set.view_is) in
-    IfOk-weaker c.set_of.result (λ s. s ≡ full n (still_spared items c.deref-3.result.now) (live_of items)) (λ s. (w : ℕ) → AreTransitions ns c.args.set.now w c.args.transitions.now → s ≡ move ns c.args.set.now w)
+    let to = moved_is ns c.requires.automata n live_patterns live c.set.invariant.split v held items keys in
+    let is : full n (still_live items c.deref-3.result.now) (live_of items) ≡ move ns c.args.set.now v = ap (λ sp. full n (still_live items sp) (live_of items)) c.deref-3.ensures.value ∙ (to ∙ ap (λ s. move ns s v) c.set.view_is) in
+    IfOk-weaker c.set_of.result (λ s. s ≡ full n (still_live items c.deref-3.result.now) (live_of items)) (λ s. (w : ℕ) → AreTransitions ns c.args.set.now w c.args.transitions.now → s ≡ move ns c.args.set.now w)
     (λ s same w are. same ∙ (is ∙ leads_move ns c.args.set.now c.args.transitions.now v w c.requires.taken.1 are)) c.set_of.ensures

@@ -13,7 +13,7 @@ alone [] x l read = absurd (omega (arith, l))
 alone (y ∷ []) x l read = ap (λ z. z ∷ []) (sym read)
 alone (y ∷ z ∷ xs) x l read = absurd (omega (arith, l))
 
--- what is added where no edge leads on from it
+-- what is added if no edge leads on from it
 alone_added : (ns : List Graph) (x : Item) (given old new : List Item) → given ≡ x ∷ [] → IsItemOf ns x → epsilon_targets ns x ≡ [] → new ≡ old ++ x ∷ [] → new ≡ old ++ closed ns given
 alone_added ns x given old new one is none pushed =
     let all : x ∷ [] ≡ closed ns given = closed_alone ns x is none ∙ ap (closed ns) (sym one) in

@@ -12,7 +12,7 @@ by_bool : (b : Bool) → false ≡ not b → IsTrue b
 by_bool true e = refl
 by_bool false e = cc
 
--- there is no first edge where there is none
+-- if there is no edge there is no first edge
 told : (r : Option (Bor (Edge Noop))) (es rest : List (Edge Noop)) (i : ℕ) (all : List Item) (b : Bool) → MatchOption r ((es ≡ []) × (rest ≡ [])) (λ e. es ≡ e.now ∷ rest) → is_some r ≡ not b
     → map (λ (e : Edge Noop). let z : Item = (i, e.to) in z) es ≡ all → IsTrue b ↔ (all ≡ [])
 told None es rest i all b h tells is = (λ t. sym is ∙ ap (map (λ (e : Edge Noop). let z : Item = (i, e.to) in z)) h.0, λ n. by_bool b tells)

@@ -3,7 +3,7 @@ use Rattle.std.proofs.lemmas.List.Sorted.{IsNonDecreasingBy-from_sort}
 use Rattle.lalrpop_ranges.specs.Internal.Sweep.{starts_of, ends_of}
 use Rattle.lalrpop_ranges.proofs.Sweep.{IsSortOf, Turn, swept_none, swept_start, swept_end, swept_blocks, swept_count, swept_spent, swept_spent_before}
 use Rattle.lalrpop_ranges.proofs.overlap.remove_overlap_counted.Goals as goal
-use Rattle.lalrpop_ranges.proofs.overlap.remove_overlap_counted.Goals.{then-from-cut+then-ended-begun+in_ok-push, else-from-cut, else-from-cut-via-then-from-cut+else-ended-begun, else-from-cut-via-else-from-cut}
+use Rattle.lalrpop_ranges.proofs.overlap.remove_overlap_counted.Goals.{then-from-boundary+then-ended-begun+in_ok-push, else-from-boundary, else-from-boundary-via-then-from-boundary+else-ended-begun, else-from-boundary-via-else-from-boundary}
 
 pub loop-ended-init : goal.loop-ended-init
 loop-ended-init c =
@@ -19,40 +19,40 @@ loop-ended-init c =
 
 pub loop-ended-preserved-then-is_start : goal.loop-ended-preserved-then-is_start
 loop-ended-preserved-then-is_start c =
-    let turn : Turn c.loop-ended.blocks.items c.if-from-cut.blocks.items c.loop-ended.begun c.loop-ended.ended c.loop-ended.from c.next_cut-cut.result.0 =
-    elim c.if-from-cut.branch [
-      | then-from-cut+then-ended-begun+in_ok-push w ↦ inl (w.if-from-cut.true, w.if-ended-begun.true, search rules)
-      | else-from-cut w ↦
+    let turn : Turn c.loop-ended.blocks.items c.if-from-boundary.blocks.items c.loop-ended.begun c.loop-ended.ended c.loop-ended.from c.next_boundary-boundary.result.0 =
+    elim c.if-from-boundary.branch [
+      | then-from-boundary+then-ended-begun+in_ok-push w ↦ inl (w.if-from-boundary.true, w.if-ended-begun.true, search rules)
+      | else-from-boundary w ↦
           inr (
-            elim w.else-from-cut.branch [
-              | else-from-cut-via-then-from-cut+else-ended-begun v ↦ (λ x. v.if-ended-begun.false)
-              | else-from-cut-via-else-from-cut v ↦ (λ x. absurd (omega (arith, v.if-from-cut.false)))
+            elim w.else-from-boundary.branch [
+              | else-from-boundary-via-then-from-boundary+else-ended-begun v ↦ (λ x. v.if-ended-begun.false)
+              | else-from-boundary-via-else-from-boundary v ↦ (λ x. absurd (omega (arith, v.if-from-boundary.false)))
             ],
             search rules,
           )
     ] in
     let more : c.loop-ended.begun < length c.sort_unstable.new.self.items = search rules in
-    let is : c.next_cut-cut.result.0 ≡ get_or c.sort_unstable.new.self.items c.loop-ended.begun 0 = search rules in
-    let least : c.next_cut-cut.result.0 ≤ get_or c.sort_unstable-2.new.self.items c.loop-ended.ended 0 + 1 = search rules in
+    let is : c.next_boundary-boundary.result.0 ≡ get_or c.sort_unstable.new.self.items c.loop-ended.begun 0 = search rules in
+    let least : c.next_boundary-boundary.result.0 ≤ get_or c.sort_unstable-2.new.self.items c.loop-ended.ended 0 + 1 = search rules in
     record { swept = swept_start _ _ _ _ _ _ _ _ _ c.loop-ended.invariant.swept turn more is least; spent = search rules }
 
 pub loop-ended-preserved : goal.loop-ended-preserved
 loop-ended-preserved c =
-    let turn : Turn c.loop-ended.blocks.items c.if-from-cut.blocks.items c.loop-ended.begun c.loop-ended.ended c.loop-ended.from c.next_cut-cut.result.0 =
-    elim c.if-from-cut.branch [
-      | then-from-cut+then-ended-begun+in_ok-push w ↦ inl (w.if-from-cut.true, w.if-ended-begun.true, search rules)
-      | else-from-cut w ↦
+    let turn : Turn c.loop-ended.blocks.items c.if-from-boundary.blocks.items c.loop-ended.begun c.loop-ended.ended c.loop-ended.from c.next_boundary-boundary.result.0 =
+    elim c.if-from-boundary.branch [
+      | then-from-boundary+then-ended-begun+in_ok-push w ↦ inl (w.if-from-boundary.true, w.if-ended-begun.true, search rules)
+      | else-from-boundary w ↦
           inr (
-            elim w.else-from-cut.branch [
-              | else-from-cut-via-then-from-cut+else-ended-begun v ↦ (λ x. v.if-ended-begun.false)
-              | else-from-cut-via-else-from-cut v ↦ (λ x. absurd (omega (arith, v.if-from-cut.false)))
+            elim w.else-from-boundary.branch [
+              | else-from-boundary-via-then-from-boundary+else-ended-begun v ↦ (λ x. v.if-ended-begun.false)
+              | else-from-boundary-via-else-from-boundary v ↦ (λ x. absurd (omega (arith, v.if-from-boundary.false)))
             ],
             search rules,
           )
     ] in
     let more : c.loop-ended.ended < length c.sort_unstable-2.new.self.items = search rules in
-    let is : c.next_cut-cut.result.0 ≡ get_or c.sort_unstable-2.new.self.items c.loop-ended.ended 0 + 1 = search rules in
-    let least : c.loop-ended.begun < length c.sort_unstable.new.self.items → c.next_cut-cut.result.0 ≤ get_or c.sort_unstable.new.self.items c.loop-ended.begun 0 = λ x. search rules in
+    let is : c.next_boundary-boundary.result.0 ≡ get_or c.sort_unstable-2.new.self.items c.loop-ended.ended 0 + 1 = search rules in
+    let least : c.loop-ended.begun < length c.sort_unstable.new.self.items → c.next_boundary-boundary.result.0 ≤ get_or c.sort_unstable.new.self.items c.loop-ended.begun 0 = λ x. search rules in
     record { swept = swept_end _ _ _ _ _ _ _ _ _ c.loop-ended.invariant.swept turn more is least; spent = search rules }
 
 pub returns-clause-partition : goal.returns-clause-partition

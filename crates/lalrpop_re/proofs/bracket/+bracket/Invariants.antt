@@ -5,7 +5,7 @@ use Rattle.lalrpop_grammar.specs.Internal.Reading.{whole_operand, all_operations
 use Rattle.lalrpop_re.specs.Internal.Views.{text, unread, HasMembers}
 use Rattle.lalrpop_re.proofs.bracket.+bracket.Given as goal
 
--- each bracket takes one of the levels that are left
+-- each bracket takes one of the remaining levels
 abbrev pub decreases-parse_operands : goal.decreases-parse_operands
 decreases-parse_operands l = 8 * l.room + 4
 

@@ -4,7 +4,7 @@ use Rattle.lalrpop_re.specs.Internal.Views.{text, unread}
 use Rattle.lalrpop_re.specs.Internal.Parts.{line}
 use Rattle.lalrpop_re.proofs.parser.+parser.Given as goal
 
--- each group takes one of the levels that are left
+-- each group takes one of the remaining levels
 abbrev pub decreases-parse_expression : goal.decreases-parse_expression
 decreases-parse_expression l = 8 * l.room + 5
 

@@ -3,7 +3,7 @@ use Rattle.std.specs.Prelude.{IfOk}
 use Rattle.std.specs.Result.{result_or}
 use Rattle.lexdfa_lib.proofs.answer.read_outcome.Goals as goal
 
--- what follows from what is said of a value, where another error stands in place of the one that was given
+-- what follows from a statement about a value, with another error in place of the one that was given
 IfOk-result_or : {A D E : Type 0} (P Q : A → Type 0) (r : Result A E) (e : D) → ((a : A) → P a → Q a) → IfOk r P → IfOk (result_or r (Err e)) Q
 IfOk-result_or P Q (Ok a) e f h = f a h
 IfOk-result_or P Q (Err d) e f h = h

@@ -2,7 +2,7 @@ use Rattle.std.proofs.Common.{◌≡◌, ℕ, ◌<◌, ◌≤◌, List, [], ◌�
 use Rattle.std.specs.Cmp.Lexicographic.{bytes_decides}
 use Rattle.lexdfa_lib.proofs.words.arguments.Goals as goal
 
--- a list of two items is both of them
+-- a list of two items is made of both
 two_items : {X : Type 0} (g : X → List ℕ) (xs : List X) (a b : X) (v w : List ℕ) → 2 ≤ length xs → length xs < 3 → a ≡ get_or xs 0 a → b ≡ get_or xs 1 b → g a ≡ v → g b ≡ w
     → map g xs ≡ v ∷ w ∷ []
 two_items g [] a b v w l m d e f h = absurd (omega arith)

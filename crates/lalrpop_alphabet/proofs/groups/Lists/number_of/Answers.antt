@@ -1,7 +1,7 @@
 use Rattle.std.proofs.Common.{◌≡◌, ◌++◌, ◌∷◌, [], Some, length, sym, ◌∙◌, ap}
 use Rattle.std.specs.BTreeMap.{get}
-use Rattle.lalrpop_alphabet.specs.Internal.Leading.{labels_cmp}
-use Rattle.lalrpop_alphabet.proofs.GroupLeads.{numbers_kept, numbers_pushed, pushed_list, grown_pushed}
+use Rattle.lalrpop_alphabet.specs.Internal.EdgeGroups.{labels_cmp}
+use Rattle.lalrpop_alphabet.proofs.EdgeGroupLaws.{numbers_kept, numbers_pushed, pushed_list, grown_pushed}
 use Rattle.lalrpop_alphabet.proofs.groups.Lists.number_of.Goals as goal
 
 pub returns-in-Some-clause-number : goal.returns-in-Some-clause-number

@@ -1,4 +1,4 @@
-use Rattle.lalrpop_alphabet.specs.Internal.Leading.{IsGrown, AreStatesTo}
+use Rattle.lalrpop_alphabet.specs.Internal.EdgeGroups.{IsGrown, AreStatesTo}
 use Rattle.lalrpop_alphabet.proofs.groups.Lists.states_of.Given as goal
 
 abbrev pub invariant-loop-number : goal.invariant-loop-number

@@ -2,8 +2,8 @@ use Rattle.std.proofs.Common.{◌≡◌, ℕ, List, ◌⊎◌, inl, inr, sym, �
 use Rattle.std.specs.Prelude.{◌↔◌}
 use Rattle.std.specs.List.{Contains}
 use Rattle.std.proofs.lemmas.List.{take_all}
-use Rattle.lalrpop_alphabet.specs.Internal.Alphabet.{HasState, AreLeadsOf}
-use Rattle.lalrpop_alphabet.specs.declared.Lead.{Lead}
+use Rattle.lalrpop_alphabet.specs.Internal.Alphabet.{HasState, AreEdgeGroupsOf}
+use Rattle.lalrpop_alphabet.specs.declared.EdgeGroup.{EdgeGroup}
 use Rattle.lalrpop_dfa.specs.Internal.Transitions.{Gained}
 use Rattle.lalrpop_items.specs.declared.transitions.Transition.{Transition}
 use Rattle.lalrpop_book.proofs.Contained.{contains_none}
@@ -18,20 +18,20 @@ loop-edge-init c = record {
   noted = c.requires.noted;
 }
 
-pub leads-edge-items-requires : goal.leads-edge-items-requires
-leads-edge-items-requires c = record {
+pub edge_groups-edge-items-requires : goal.edge_groups-edge-items-requires
+edge_groups-edge-items-requires c = record {
   has_state = subst (λ i. HasState c.args.alphabet.now.nfas i c.state.result) (sym (c.index.ensures.value ∙ c.pattern.ensures)) (subst (λ p. HasState c.args.alphabet.now.nfas c.args.item.0 p) (sym c.state.ensures) c.requires.state);
 }
 
 pub group-group-requires : goal.group-group-requires
 group-group-requires c = record {
-  has_group = c.leads-edge-items.ensures.sound.groups_in c.index.result c.state.result c.edge-item.result
-      (edge_there c.args.alphabet.now.nfas c.index.result c.state.result c.leads-edge-items.result.now c.loop-edge.edge-index c.edge-item.result c.leads-edge-items.ensures.leads c.loop-edge-test.true c.edge-item.is);
+  has_group = c.edge_groups-edge-items.ensures.sound.groups_in c.index.result c.state.result c.edge-item.result
+      (edge_there c.args.alphabet.now.nfas c.index.result c.state.result c.edge_groups-edge-items.result.now c.loop-edge.edge-index c.edge-item.result c.edge_groups-edge-items.ensures.edge_groups c.loop-edge-test.true c.edge-item.is);
 }
 
 pub add_to_all-requires-clause-within : goal.add_to_all-requires-clause-within
 add_to_all-requires-clause-within c k h =
-    let below = c.leads-edge-items.ensures.sound.groups.classes_in c.edge-item.result.group k (c.group-group.result.now, (c.group-group.ensures.group, subst (λ (ks : List ℕ). Contains ks k) c.deref.ensures.value h)) in
+    let below = c.edge_groups-edge-items.ensures.sound.groups.classes_in c.edge-item.result.group k (c.group-group.result.now, (c.group-group.ensures.group, subst (λ (ks : List ℕ). Contains ks k) c.deref.ensures.value h)) in
     omega (arith, below, c.requires.classes, c.loop-edge.invariant.classes.0)
 
 pub loop-edge-preserved : goal.loop-edge-preserved
@@ -39,26 +39,26 @@ loop-edge-preserved c =
     let edge : Transition = record { item = c.args.item; to = c.edge-item.result.to } in
     let got = subst (λ (cs : List ℕ). Gained c.loop-edge.edges.lists.items c.add_to_all.new.self.lists.items (λ i l. Contains cs i × (l ≡ edge))) c.deref.ensures.value c.in_ok-add_to_all.ensures.gained in
     record {
-      boundaries = λ j. boundary_more c.args.alphabet.now.groups c.leads-edge-items.result.now c.loop-edge.edge-index c.edge-item.result c.loop-edge-test.true c.edge-item.is c.args.boundaries.now.places.items c.loop-edge.boundaries.places.items c.add.new.self.places.items j (c.loop-edge.invariant.boundaries j) (c.in_ok-add.ensures.boundaries j);
+      boundaries = λ j. boundary_more c.args.alphabet.now.groups c.edge_groups-edge-items.result.now c.loop-edge.edge-index c.edge-item.result c.loop-edge-test.true c.edge-item.is c.args.boundaries.now.places.items c.loop-edge.boundaries.places.items c.add.new.self.places.items j (c.loop-edge.invariant.boundaries j) (c.in_ok-add.ensures.boundaries j);
       marked = c.in_ok-add.ensures.marked;
       classes = gained_then c.args.edges.now.lists.items c.loop-edge.edges.lists.items c.add_to_all.new.self.lists.items c.loop-edge.invariant.classes got
-          (edge_more c.args.alphabet.now.groups c.leads-edge-items.result.now c.loop-edge.edge-index c.edge-item.result c.loop-edge-test.true c.edge-item.is c.group-group.result.now c.group-group.ensures.group c.args.item edge refl);
+          (edge_more c.args.alphabet.now.groups c.edge_groups-edge-items.result.now c.loop-edge.edge-index c.edge-item.result c.loop-edge-test.true c.edge-item.is c.group-group.result.now c.group-group.ensures.group c.args.item edge refl);
       noted = c.in_ok-add_to_all.ensures.noted;
     }
 
 pub returns : goal.returns
 returns c =
     let nfas = c.args.alphabet.now.nfas in
-    let leads = c.leads-edge-items.result.now in
-    let all : take c.loop-edge.edge-index leads ≡ leads = take_all c.loop-edge.edge-index leads c.loop-edge-test.false in
-    let are : AreLeadsOf nfas c.args.item.0 c.args.item.1 leads =
-    subst (λ i. AreLeadsOf nfas i c.args.item.1 leads) (c.index.ensures.value ∙ c.pattern.ensures) (subst (λ p. AreLeadsOf nfas c.index.result p leads) c.state.ensures c.leads-edge-items.ensures.leads) in
+    let edge_groups = c.edge_groups-edge-items.result.now in
+    let all : take c.loop-edge.edge-index edge_groups ≡ edge_groups = take_all c.loop-edge.edge-index edge_groups c.loop-edge-test.false in
+    let are : AreEdgeGroupsOf nfas c.args.item.0 c.args.item.1 edge_groups =
+    subst (λ i. AreEdgeGroupsOf nfas i c.args.item.1 edge_groups) (c.index.ensures.value ∙ c.pattern.ensures) (subst (λ p. AreEdgeGroupsOf nfas c.index.result p edge_groups) c.state.ensures c.edge_groups-edge-items.ensures.edge_groups) in
     record {
-      boundaries = boundaries_of_state c.args.alphabet.now c.args.item.0 c.args.item.1 leads c.args.boundaries.now.places.items c.loop-edge.boundaries.places.items are
-          (subst (λ (ls : List Lead). (k : ℕ) → Contains c.loop-edge.boundaries.places.items k ↔ (Contains c.args.boundaries.now.places.items k ⊎ EdgeBoundary c.args.alphabet.now.groups ls k)) all c.loop-edge.invariant.boundaries);
+      boundaries = boundaries_of_state c.args.alphabet.now c.args.item.0 c.args.item.1 edge_groups c.args.boundaries.now.places.items c.loop-edge.boundaries.places.items are
+          (subst (λ (ls : List EdgeGroup). (k : ℕ) → Contains c.loop-edge.boundaries.places.items k ↔ (Contains c.args.boundaries.now.places.items k ⊎ EdgeBoundary c.args.alphabet.now.groups ls k)) all c.loop-edge.invariant.boundaries);
       classes = gained_like c.args.edges.now.lists.items c.loop-edge.edges.lists.items
-          (subst (λ (ls : List Lead). Gained c.args.edges.now.lists.items c.loop-edge.edges.lists.items (λ i x. (x.item ≡ c.args.item) × EdgeTo c.args.alphabet.now.groups ls i x.to)) all c.loop-edge.invariant.classes)
-          (edges_of_state c.args.alphabet.now c.args.item leads are);
+          (subst (λ (ls : List EdgeGroup). Gained c.args.edges.now.lists.items c.loop-edge.edges.lists.items (λ i x. (x.item ≡ c.args.item) × EdgeTo c.args.alphabet.now.groups ls i x.to)) all c.loop-edge.invariant.classes)
+          (edges_of_state c.args.alphabet.now c.args.item edge_groups are);
       marked = c.loop-edge.invariant.marked;
       tidy = record {
         noted = c.loop-edge.invariant.noted;

@@ -5,5 +5,5 @@ use Rattle.lalrpop_items.proofs.items.ItemSet.live.Goals as goal
 
 pub returns : goal.returns
 returns c =
-    let own = live_is_of c.self.inside.patterns c.self.inside.spared.items c.self.inside.live.items c.self.invariant.split in
+    let own = live_is_of c.self.inside.patterns c.self.inside.live_patterns.items c.self.inside.live.items c.self.invariant.split in
     record { value = c.deref.ensures.value ∙ (sym own ∙ ap live_of c.self.view_is) }

@@ -1,4 +1,4 @@
--- Nothing runs; the number is one more once the borrow ends.
+-- Nothing runs; the number is one greater once the borrow ends.
 use Rattle.std.proofs.Common.{◌+◌, [], ◌∷◌, refl}
 use Rattle.std.proofs.raw_atomic.Walks.{proved}
 use base.Fml.{ftrue, flft}

@@ -3,7 +3,7 @@ use Rattle.std.specs.Prelude.{◌↔◌}
 use Rattle.std.specs.List.{Contains}
 use Rattle.std.specs.List.Sorted.{IsNonDecreasing, IsPermutation}
 use Rattle.std.proofs.lemmas.List.Sorted.{IsNonDecreasingBy-from_sort, Contains-permutation, IsPermutation-sym}
-use Rattle.lalrpop_alphabet.specs.Internal.Alphabet.{HasState, CutsAt}
+use Rattle.lalrpop_alphabet.specs.Internal.Alphabet.{HasState, HasBoundaryAt}
 use Rattle.lalrpop_items.specs.Automata.{Item}
 use Rattle.lalrpop_items.specs.Internal.LiveItems.{live_of}
 use Rattle.lalrpop_alphabet.specs.Internal.Alphabet.{Classes}
@@ -27,7 +27,7 @@ gather-requires-clause-states c =
     let inside = live_inside c.args.nfas.now c.args.set.now c.requires.inside in
     subst (λ (xs : List Item). (x : Item) → Contains xs x → HasState c.args.alphabet.now.nfas x.0 x.1) (sym c.live.ensures.value) (have_states c.args.nfas.now c.args.alphabet.now c.requires.alphabet live inside)
 
--- no boundary is there before
+-- no boundary is present before
 pub gather-requires-clause-marked : goal.gather-requires-clause-marked
 gather-requires-clause-marked c = record {
   count = c.clear.ensures.groups ∙ c.requires.scratch.groups;
@@ -42,7 +42,7 @@ returns-clause-filled c =
     let live = live_of c.args.set.now in
     let inside = live_inside ns c.args.set.now c.requires.inside in
     let boundaries = c.sort.new.self.items in
-    let boundary : AreBoundariesOf a live boundaries = sorted_boundaries c.gather.new.boundaries.places.items boundaries (λ k. (x : Item) × (Contains live x × CutsAt a x.0 x.1 k)) c.in_ok-sort.ensures.permutation
+    let boundary : AreBoundariesOf a live boundaries = sorted_boundaries c.gather.new.boundaries.places.items boundaries (λ k. (x : Item) × (Contains live x × HasBoundaryAt a x.0 x.1 k)) c.in_ok-sort.ensures.permutation
     (subst (λ (xs : List Item). AreBoundariesOf a xs c.gather.new.boundaries.places.items) c.live.ensures.value c.in_ok-gather.ensures.boundaries) in
     let by_class = c.gather.new.edges.lists.items in
     let blocks = blocks_of a.cells by_class boundaries in

@@ -1,4 +1,4 @@
--- One walk over items and patterns, which both ascend, finds the patterns that stay spared.
+-- One walk over items and patterns, which both ascend, finds the patterns that stay live.
 use Rattle.std.proofs.Common.{◌≡◌, ◌≢◌, ℕ, ◌+◌, ◌<◌, ◌≤◌, ◌↔◌, inl, inr, List, [], ◌∷◌, ◌++◌, length, take, get_or, refl, ap, sym, ◌∙◌, subst, arith, Bool, IsTrue, true, false, not, cond, Option, Some, None, MatchOption, Bor}
 use Rattle.std.specs.List.{Contains, HoldsAt, slice_get}
 use Rattle.std.specs.List.Sorted.{IsStrictlySortedBy}
@@ -13,7 +13,7 @@ use Rattle.lalrpop_items.specs.Automata.{Item}
 use Rattle.lalrpop_items.specs.Internal.Ascending.{item_cmp, AreAscendingItems}
 use Rattle.lalrpop_items.specs.Internal.ItemOrder.{item_eq}
 use Rattle.lalrpop_items.specs.Internal.OrderLaws.{item_total, item_equiv}
-use Rattle.lalrpop_items.specs.Internal.Split.{still_spared, AreBefore}
+use Rattle.lalrpop_items.specs.Internal.Split.{still_live, AreBefore}
 use Rattle.lalrpop_items.proofs.FullSets.{less_place}
 use Rattle.lalrpop_book.proofs.SortedLists.{never_less}
 use Rattle.lalrpop_items.proofs.TakenEdges.{item_same}
@@ -23,9 +23,9 @@ use Rattle.lalrpop_items.proofs.LiveSets.{reject_told, still_more}
 same_eq : (x y : Item) → x ≡ y → item_eq x y ≡ true
 same_eq x y e = rw e (item_equiv.refl y)
 
--- the items before the place are before x, and that at the place is not
+-- the items before the place are before x, and the one at the place is not
 module _ (items : List Item) (x : Item) (place : ℕ) (sorted : AreAscendingItems items) (before : AreBefore items place x) (next : (y : Item) → slice_get items place ≡ Some y → item_cmp y x ≢ Less) where
-  -- x stands there or nowhere
+  -- x is there or nowhere
   standing : Contains items x → slice_get items place ≡ Some x
   standing (k, l, is) =
       let at : slice_get items k ≡ Some x = slice_get_read items (length items) k x refl l (sym is) in
@@ -41,7 +41,7 @@ module _ (items : List Item) (x : Item) (place : ℕ) (sorted : AreAscendingItem
         ]
       ]
 
-  -- what is read there tells whether x is among the items
+  -- what is read there says whether x is among the items
   read_told : (o : Option (Bor Item)) (b : Bor Item) → b.now ≡ x → MatchOption o (length items ≤ place) (λ z. (place < length items) × HoldsAt (λ y. z.now ≡ y) items place)
       → IsTrue (option_eq (λ y z. item_eq y.now z.now) o (Some b)) ↔ Contains items x
   read_told None b is past = (
@@ -55,33 +55,33 @@ module _ (items : List Item) (x : Item) (place : ℕ) (sorted : AreAscendingItem
       )
 
 -- ---- the walk
--- the first patterns are walked: those that stay spared are found, and the items before the place are before the REJECT
+-- the first patterns are walked: those that stay live are found, and the items before the place are before the REJECT
 -- items of all others
-pub record IsSparing (items : List Item) (spared : List ℕ) (k place : ℕ) (still : List ℕ) : Type 0 where
-  pub found : still ≡ still_spared items (take k spared)
+pub record IsStillLive (items : List Item) (live_patterns : List ℕ) (k place : ℕ) (still : List ℕ) : Type 0 where
+  pub found : still ≡ still_live items (take k live_patterns)
   pub within : place ≤ length items
-  pub before : (j : ℕ) → k ≤ j → j < length spared → AreBefore items place (get_or spared j 0, reject_state)
+  pub before : (j : ℕ) → k ≤ j → j < length live_patterns → AreBefore items place (get_or live_patterns j 0, reject_state)
 
 -- what is before the REJECT item of a pattern is before those of later patterns
-before_later : (items : List Item) (spared : List ℕ) (k place : ℕ) → IsStrictlySortedBy nat_cmp spared → AreBefore items place (get_or spared k 0, reject_state)
-    → (j : ℕ) → k + 1 ≤ j → j < length spared → AreBefore items place (get_or spared j 0, reject_state)
-before_later items spared k place rising before j l m n y below at =
-    item_total.trans y (get_or spared k 0, reject_state) (get_or spared j 0, reject_state) (before n y below at)
-    (less_place (get_or spared k 0, reject_state) (get_or spared j 0, reject_state) (below_from_sorted spared k j 0 rising (omega arith) m))
+before_later : (items : List Item) (live_patterns : List ℕ) (k place : ℕ) → IsStrictlySortedBy nat_cmp live_patterns → AreBefore items place (get_or live_patterns k 0, reject_state)
+    → (j : ℕ) → k + 1 ≤ j → j < length live_patterns → AreBefore items place (get_or live_patterns j 0, reject_state)
+before_later items live_patterns k place rising before j l m n y below at =
+    item_total.trans y (get_or live_patterns k 0, reject_state) (get_or live_patterns j 0, reject_state) (before n y below at)
+    (less_place (get_or live_patterns k 0, reject_state) (get_or live_patterns j 0, reject_state) (below_from_sorted live_patterns k j 0 rising (omega arith) m))
 
-pub sparing_more : (items : List Item) (spared : List ℕ) (k place place2 : ℕ) (still still2 : List ℕ) (o : Option (Bor Item)) (b : Bor Item) (ne : Bool)
-    → AreAscendingItems items → IsStrictlySortedBy nat_cmp spared → IsSparing items spared k place still → k < length spared
-    → place2 ≤ length items → AreBefore items place2 (get_or spared k 0, reject_state) → ((y : Item) → slice_get items place2 ≡ Some y → item_cmp y (get_or spared k 0, reject_state) ≢ Less)
-    → b.now ≡ (get_or spared k 0, reject_state) → MatchOption o (length items ≤ place2) (λ z. (place2 < length items) × HoldsAt (λ y. z.now ≡ y) items place2)
-    → ne ≡ not (option_eq (λ y z. item_eq y.now z.now) o (Some b)) → still2 ≡ still ++ cond ne (get_or spared k 0 ∷ []) [] → IsSparing items spared (k + 1) place2 still2
-sparing_more items spared k place place2 still still2 o b ne sorted rising was l within before next is read tested grown =
-    let i = get_or spared k 0 in
+pub still_live_more : (items : List Item) (live_patterns : List ℕ) (k place place2 : ℕ) (still still2 : List ℕ) (o : Option (Bor Item)) (b : Bor Item) (ne : Bool)
+    → AreAscendingItems items → IsStrictlySortedBy nat_cmp live_patterns → IsStillLive items live_patterns k place still → k < length live_patterns
+    → place2 ≤ length items → AreBefore items place2 (get_or live_patterns k 0, reject_state) → ((y : Item) → slice_get items place2 ≡ Some y → item_cmp y (get_or live_patterns k 0, reject_state) ≢ Less)
+    → b.now ≡ (get_or live_patterns k 0, reject_state) → MatchOption o (length items ≤ place2) (λ z. (place2 < length items) × HoldsAt (λ y. z.now ≡ y) items place2)
+    → ne ≡ not (option_eq (λ y z. item_eq y.now z.now) o (Some b)) → still2 ≡ still ++ cond ne (get_or live_patterns k 0 ∷ []) [] → IsStillLive items live_patterns (k + 1) place2 still2
+still_live_more items live_patterns k place place2 still still2 o b ne sorted rising was l within before next is read tested grown =
+    let i = get_or live_patterns k 0 in
     let e = option_eq (λ (y z : Bor Item). item_eq y.now z.now) o (Some b) in
     let told = reject_told items i e (read_told items (i, reject_state) place2 sorted before next o b is read) in
     record {
-      found = still_more items spared k i e still still2 was.found l refl told (grown ∙ ap (λ t. still ++ t) (ap (λ t. cond t (i ∷ []) []) tested ∙ flip i e));
+      found = still_more items live_patterns k i e still still2 was.found l refl told (grown ∙ ap (λ t. still ++ t) (ap (λ t. cond t (i ∷ []) []) tested ∙ flip i e));
       within = within;
-      before = before_later items spared k place2 rising before;
+      before = before_later items live_patterns k place2 rising before;
     }
   where
     flip : (i : ℕ) (e : Bool) → cond (not e) (i ∷ []) [] ≡ cond e [] (i ∷ [])

@@ -1,4 +1,4 @@
--- Cuts of values: numbers that rise, and where the blocks of a partition begin and are over.
+-- Boundaries: numbers that ascend, and the values at which the blocks of a partition begin and are over.
 use Rattle.std.proofs.Common.{◌≡◌, ℕ, zero, suc, ◌+◌, ◌-◌, ◌<◌, ◌≤◌, inl, inr, ◌↔◌, List, [], ◌∷◌, ◌++◌, length, take, get_or, refl, sym, ap, ◌∙◌, arith, Bool, true, false, not, nat_eq, eq-eqb, Bor, length-take}
 use Rattle.std.specs.Prelude.{slice_get, Some, None, Option, Result, Ok, Err, IfOk}
 use Rattle.std.specs.List.{Contains}
@@ -14,14 +14,14 @@ use Rattle.lalrpop_ranges.proofs.PartitionLaws.{block_in_or_out}
 use Rattle.lalrpop_kernels.proofs.NumberedLemmas.{pushed_cases}
 use Rattle.lalrpop_alphabet.specs.declared.groups.Labels.{Labels}
 use Rattle.lalrpop_alphabet.specs.Internal.Alphabet.{IsEndOf}
-use Rattle.lalrpop_alphabet.specs.Internal.Grouped.{HasLabel, AreCuts}
-use Rattle.lalrpop_alphabet.specs.Internal.Cuts.{AreRising, HoldOne, HasAlso, AreEndsOf}
+use Rattle.lalrpop_alphabet.specs.Internal.Grouped.{HasLabel, AreBoundaries}
+use Rattle.lalrpop_alphabet.specs.Internal.Boundaries.{AreRising, HoldOne, HasAlso, AreEndsOf}
 
 -- the element at a place is an element
 element_at : {X : Type 0} (xs : List X) (k : ℕ) (x : X) → slice_get xs k ≡ Some x → Contains xs x
 element_at xs k x h = (k, slice_get_within xs k x h, get_or_from_slice_get xs k x x h)
 
--- ---- one more cut
+-- ---- one more boundary
 -- one more that is above all of them
 pub rising_more : (vs : List ℕ) (w : ℕ) → AreRising vs → ((v : ℕ) → Contains vs v → v < w) → AreRising (vs ++ w ∷ [])
 rising_more vs w a above j k u v p q l = elim (pushed_cases vs w k v q) [
@@ -35,7 +35,7 @@ rising_more vs w a above j k u v p q l = elim (pushed_cases vs w k v q) [
   ]
 ]
 
--- all are below what is not below them, and is not the last one
+-- all are below a number that is not below them and is not the last one
 pub above_all : (vs : List ℕ) (w : ℕ) → AreRising vs → ((v : ℕ) → Contains vs v → v ≤ w) → ¬ (slice_get vs (length vs - 1) ≡ Some w) → (v : ℕ) → Contains vs v → v < w
 above_all vs w a within other v (k, l, e) =
     let d : ℕ = get_or vs (length vs - 1) 0 in
@@ -53,7 +53,7 @@ above_all vs w a within other v (k, l, e) =
       | inr not_less ↦ (let is : d ≡ w = omega arith in absurd (other (last ∙ ap (λ x. Some x) is)))
     ]
 
--- what the code compares with the last one, and finds unlike it, is not the last one
+-- what the code finds to differ from the last one is not the last one
 pub not_last : (o : Option (Bor ℕ)) (b : Bor ℕ) (w : ℕ) (t : Bool) → t ≡ not (option_eq (λ x y. nat_eq x.now y.now) o (Some b)) → t ≡ true → b.now ≡ w → option_copied o ≡ Some w → ⊥
 not_last None b w t e f is h = cc
 not_last (Some x) b w t e f is h =
@@ -78,11 +78,11 @@ ascends_by_place (x ∷ y ∷ ys) zero (suc (suc i)) d f a n l m =
 ascends_by_place (x ∷ y ∷ ys) (suc j) (suc i) d f a n l m = ascends_by_place (y ∷ ys) j i d f a.1 (later_hold_one x (y ∷ ys) n) (omega arith) (omega arith)
 
 -- one more block
-module _ (xs : List Range) (i : ℕ) (x : Range) (cuts : List ℕ) (a : AreAscending xs) (n : HoldOne xs) (l : i < length xs) (is : x ≡ get_or xs i x) (ends : AreEndsOf (take i xs) cuts) where
+module _ (xs : List Range) (i : ℕ) (x : Range) (boundaries : List ℕ) (a : AreAscending xs) (n : HoldOne xs) (l : i < length xs) (is : x ≡ get_or xs i x) (ends : AreEndsOf (take i xs) boundaries) where
   pub holds_one : x.start ≤ x.end
   holds_one = n x (i, l, sym is)
 
-  pub start_not_below : (v : ℕ) → Contains cuts v → v ≤ x.start
+  pub start_not_below : (v : ℕ) → Contains boundaries v → v ≤ x.start
   start_not_below v h =
       let (y, ((j, m, e), (some, place))) = (ends v).0 h in
       let k : j < i = omega (arith, m, length-take i xs) in
@@ -90,21 +90,21 @@ module _ (xs : List Range) (i : ℕ) (x : Range) (cuts : List ℕ) (a : AreAscen
       let before : y.end < x.start = rw (← at, is) (ascends_by_place xs j i y x a n k l) in
       elim place [ inl s ↦ omega (arith, s, some) | inr t ↦ omega (arith, t) ]
 
-  module _ (cuts2 : List ℕ) (started : HasAlso cuts x.start cuts2) where
-    pub end_not_below : (v : ℕ) → Contains cuts2 v → v ≤ x.end + 1
+  module _ (boundaries2 : List ℕ) (started : HasAlso boundaries x.start boundaries2) where
+    pub end_not_below : (v : ℕ) → Contains boundaries2 v → v ≤ x.end + 1
     end_not_below v h = elim ((started v).0 h) [
       | inl old ↦ omega (arith, start_not_below v old, holds_one)
       | inr s ↦ omega (arith, s, holds_one)
     ]
 
-    module _ (cuts3 : List ℕ) (ended : HasAlso cuts2 (x.end + 1) cuts3) where
-      pub still_within : ((v : ℕ) → Contains cuts v → v ≤ 4294967296) → x.end < 4294967296 → (v : ℕ) → Contains cuts3 v → v ≤ 4294967296
+    module _ (boundaries3 : List ℕ) (ended : HasAlso boundaries2 (x.end + 1) boundaries3) where
+      pub still_within : ((v : ℕ) → Contains boundaries v → v ≤ 4294967296) → x.end < 4294967296 → (v : ℕ) → Contains boundaries3 v → v ≤ 4294967296
       still_within within fits v h = elim ((ended v).0 h) [
         | inl old ↦ elim ((started v).0 old) [ inl older ↦ within v older | inr s ↦ omega (arith, s, holds_one) ]
         | inr t ↦ omega (arith, t)
       ]
 
-      pub ends_more : AreEndsOf (take (i + 1) xs) cuts3
+      pub ends_more : AreEndsOf (take (i + 1) xs) boundaries3
       ends_more v = (to, from)
         where
           more : take (i + 1) xs ≡ take i xs ++ x ∷ []
@@ -113,7 +113,7 @@ module _ (xs : List Range) (i : ℕ) (x : Range) (cuts : List ℕ) (a : AreAscen
           new : Contains (take (i + 1) xs) x
           new = rw more (Contains-push (take i xs) x)
 
-          to : Contains cuts3 v → (y : Range) × (Contains (take (i + 1) xs) y × IsEndOf y v)
+          to : Contains boundaries3 v → (y : Range) × (Contains (take (i + 1) xs) y × IsEndOf y v)
           to h = elim ((ended v).0 h) [
             | inl old ↦ elim ((started v).0 old) [
               | inl older ↦ (let (y, (at, end)) = (ends v).0 older in (y, (rw more (Contains-append_left (take i xs) (x ∷ []) y at), end)))
@@ -122,7 +122,7 @@ module _ (xs : List Range) (i : ℕ) (x : Range) (cuts : List ℕ) (a : AreAscen
             | inr t ↦ (x, (new, (holds_one, inr t)))
           ]
 
-          from : ((y : Range) × (Contains (take (i + 1) xs) y × IsEndOf y v)) → Contains cuts3 v
+          from : ((y : Range) × (Contains (take (i + 1) xs) y × IsEndOf y v)) → Contains boundaries3 v
           from (y, (at, end)) = elim (Contains-push_cases (take i xs) x y (rw more at at)) [
             | inl old ↦ (ended v).1 (inl ((started v).1 (inl ((ends v).1 (y, (old, end))))))
             | inr e ↦ elim end.1 [
@@ -154,15 +154,15 @@ module _ (rs xs : List Range) (h : IsPartition (Contains rs) xs) (r : Range) (m 
       (x, (a, (here, inr (omega (arith, l.1, t)))))
 
 module _ (lists : List Labels) (labels blocks : List Range) where
-  are_cuts : (cuts : List ℕ) → ((r : Range) → Contains labels r ↔ ((n : ℕ) × HasLabel lists n r)) → IsPartition (Contains labels) blocks → AreRising cuts → ((v : ℕ) → Contains cuts v → v ≤ 4294967296) → AreEndsOf blocks cuts → AreCuts lists cuts
-  are_cuts cuts same partition rising within ends = record {
+  are_boundaries : (boundaries : List ℕ) → ((r : Range) → Contains labels r ↔ ((n : ℕ) × HasLabel lists n r)) → IsPartition (Contains labels) blocks → AreRising boundaries → ((v : ℕ) → Contains boundaries v → v ≤ 4294967296) → AreEndsOf blocks boundaries → AreBoundaries lists boundaries
+  are_boundaries boundaries same partition rising within ends = record {
     rising = rising;
     within = within;
     all = λ n v r here end. (ends v).1 (ends_of_blocks labels blocks partition r ((same r).1 (n, here)) end.0 v end);
   }
 
   -- the ends of the blocks of all labels
-  pub cuts_are : {X E : Type 0} (result : Result X E) (items : X → List ℕ) → ((r : Range) → Contains labels r ↔ ((n : ℕ) × HasLabel lists n r)) → IsPartition (Contains labels) blocks
-      → IfOk result (λ x. AreRising (items x)) → IfOk result (λ x. (v : ℕ) → Contains (items x) v → v ≤ 4294967296) → IfOk result (λ x. AreEndsOf blocks (items x)) → IfOk result (λ x. AreCuts lists (items x))
-  cuts_are (Ok x) items same partition rising within ends = are_cuts (items x) same partition rising within ends
-  cuts_are (Err e) items same partition rising within ends = tt
+  pub boundaries_are : {X E : Type 0} (result : Result X E) (items : X → List ℕ) → ((r : Range) → Contains labels r ↔ ((n : ℕ) × HasLabel lists n r)) → IsPartition (Contains labels) blocks
+      → IfOk result (λ x. AreRising (items x)) → IfOk result (λ x. (v : ℕ) → Contains (items x) v → v ≤ 4294967296) → IfOk result (λ x. AreEndsOf blocks (items x)) → IfOk result (λ x. AreBoundaries lists (items x))
+  boundaries_are (Ok x) items same partition rising within ends = are_boundaries (items x) same partition rising within ends
+  boundaries_are (Err e) items same partition rising within ends = tt

@@ -2,15 +2,15 @@ use Rattle.std.proofs.Common.{◌≡◌, ℕ, ◌<◌, List, length, get_or, Som
 use Rattle.std.specs.Prelude.{slice_get}
 use Rattle.std.proofs.lemmas.Option.{slice_get_within}
 use Rattle.lalrpop_alphabet.specs.Internal.Alphabet.{Classes, HasState, IsSound}
-use Rattle.lalrpop_alphabet.specs.declared.NfaLeads.{NfaLeads}
+use Rattle.lalrpop_alphabet.specs.declared.NfaEdgeGroups.{NfaEdgeGroups}
 use Rattle.lalrpop_alphabet.proofs.Assembling.{at}
-use Rattle.lalrpop_alphabet.proofs.Alphabet.leads.Goals as goal
+use Rattle.lalrpop_alphabet.proofs.Alphabet.edge_groups.Goals as goal
 
--- the automaton's place is within, and the state's place within the automaton that stands there
-within : (nfas : List NfaLeads) (i p : ℕ) (x : NfaLeads) → HasState nfas i p → x ≡ get_or nfas i x → p < length x.states.items
+-- the automaton's place is within the list, and the state's place within that automaton
+within : (nfas : List NfaEdgeGroups) (i p : ℕ) (x : NfaEdgeGroups) → HasState nfas i p → x ≡ get_or nfas i x → p < length x.states.items
 within nfas i p x (y, (there, l)) e =
     let same : y ≡ x = (let f : Some y ≡ Some x = sym there ∙ at nfas i x (slice_get_within nfas i y there) e in cc) in
-    subst (λ (z : NfaLeads). p < length z.states.items) same l
+    subst (λ (z : NfaEdgeGroups). p < length z.states.items) same l
 
 pub index-requires : goal.index-requires
 index-requires c =
@@ -30,4 +30,4 @@ returns c =
     ap (λ (a : Classes). slice_get a.nfas c.args.automaton) (sym c.self.view_is) ∙ at c.self.inside.nfas.items c.args.automaton c.index.result.now (slice_get_within c.self.inside.nfas.items c.args.automaton h.0 h.1.0) c.index.ensures in
     let second : slice_get c.index.result.now.states.items c.args.state ≡ Some c.index-3.result.now =
     at c.index.result.now.states.items c.args.state c.index-3.result.now l (subst (λ (k : ℕ). c.index-3.result.now ≡ get_or c.index.result.now.states.items k c.index-3.result.now) c.index-2.ensures.value c.index-3.ensures) in
-    record { leads = (c.index.result.now, c.index-3.result.now, (first, second, c.as_slice.ensures)); sound = subst IsSound c.self.view_is c.self.invariant }
+    record { edge_groups = (c.index.result.now, c.index-3.result.now, (first, second, c.as_slice.ensures)); sound = subst IsSound c.self.view_is c.self.invariant }

@@ -7,9 +7,9 @@ use Rattle.std.proofs.lemmas.List.Elements.{Contains-push, Contains-push_cases, 
 use Rattle.lalrpop_book.specs.Range.{Range}
 use Rattle.lalrpop_alphabet.specs.declared.groups.Labels.{Labels}
 use Rattle.lalrpop_alphabet.specs.Internal.Grouped.{HasLabel}
-use Rattle.lalrpop_alphabet.specs.Internal.Cuts.{HasAllOf}
+use Rattle.lalrpop_alphabet.specs.Internal.Boundaries.{HasAllOf}
 use Rattle.lalrpop_kernels.proofs.NumberedLemmas.{pushed_cases, pushed_keeps, pushed_last}
-use Rattle.lalrpop_alphabet.specs.Internal.Leading.{range_cmp}
+use Rattle.lalrpop_alphabet.specs.Internal.EdgeGroups.{range_cmp}
 use Rattle.lalrpop_alphabet.proofs.LabelOrder.{range_total, range_exact}
 use Rattle.lalrpop_book.proofs.Orders.{set_come, set_has, set_kept}
 
