@@ -2,7 +2,7 @@
 -- Ranges of values.
 use Rattle.std.specs.Prelude.{ℕ, ◌≤◌, ◌⊎◌, List, [], ◌∷◌}
 
--- the values from start to end, both included; none where start is above end
+-- the values from start to end, both included; none if start is above end
 pub record Range : Type 0 where
   pub start : ℕ
   pub end : ℕ

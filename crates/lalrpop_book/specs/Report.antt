@@ -19,7 +19,7 @@ pub record FirstFault (ts : List Tree) (i : ℕ) (e : NfaConstructionError) : Ty
   pub has : fault tree ≡ Some e
   pub none_before : (j : ℕ) (t : Tree) → j < i → slice_get ts j ≡ Some t → fault t ≡ None
 
--- a right report of the first fault or of refused memory; a clash is neither
+-- the error reports the first fault or refused memory, and never a clash
 abbrev pub IsFaultOf : List Tree → DfaConstructionError → Type 0
 IsFaultOf ts (Refused i e) = FirstFault ts i e
 IsFaultOf ts (Ambiguity i j w) = ⊥

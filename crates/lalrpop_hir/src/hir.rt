@@ -196,7 +196,7 @@ impl Hir {
         }
     }
 
-    /// The tree that matches pieces in a row, each matched by the part of `r`, in a number that the counts of `r` allow.
+    /// The tree that matches the part of `r` repeated, a number of times that the counts of `r` allow.
     pub fn repetition(r: Repetition) -> Hir
         ensures tree { result ≡ repetition r.min r.max r.greedy r.sub }
     {

@@ -76,7 +76,7 @@ impl Test {
         }
     }
 
-    /// The codes from `s` up to `e`, with `e` left out.
+    /// The codes from `s` to `e`, without `e`.
     pub fn exclusive_range(s: char, e: char) -> Test
         requires above_nul { 0 < e }
         ensures value { result ≡ record { start = s; end = e - 1 } }

@@ -8,7 +8,7 @@ ghost use Rattle.lalrpop_sets.specs.Internal.Sets.{AreAlike, HasPartner};
 use lalrpop_hir::{ClassUnicode, ClassUnicodeRange};
 use std::alloc::{AllocError, Global};
 
-/// All characters that share a simple case folding, by the crate `unicode`, with a member of `class`; so each member too.
+/// The members of `class`, and all characters that share a simple case folding with one, by the crate `unicode`.
 /// Takes time n log n for n runs and partners.
 ///
 /// # Errors

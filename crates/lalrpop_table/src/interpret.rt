@@ -64,7 +64,7 @@ pub fn interpret_probed<'text>(
     let mut longest = None;
     for (offset, c) in input.char_indices() {
         steps.tick();
-        state = dfa.step(state, u32::from(c), probes);
+        state = dfa.step_probed(state, u32::from(c), probes);
         match dfa.state(state).kind() {
             Kind::Accepts(index) => longest = Some((*index, &input[..offset + c.len_utf8()])),
             Kind::Reject => break,

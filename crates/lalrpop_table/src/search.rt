@@ -47,8 +47,23 @@ impl Dfa {
         })
     }
 
-    /// The state that the value leads to.
-    pub(super) fn step(&self, state: DfaStateIndex, value: u32, probes: &mut Steps) -> DfaStateIndex
+    /// The state that the value leads to from this one: by the test edge that holds it, or else by the other edge. So a text
+    /// that comes in parts can be run as it comes, from `START` on.
+    pub fn step(&self, from: DfaStateIndex, value: u32) -> DfaStateIndex
+        requires within { from < length self.now }
+        ensures leads { result ≡ step self.now from value }
+        ensures within { result < length self.now }
+    {
+        self.step_probed(from, value, &mut Steps::new())
+    }
+
+    /// The same state. A probe is counted for each range of a test edge that is compared with the value.
+    pub(super) fn step_probed(
+        &self,
+        state: DfaStateIndex,
+        value: u32,
+        probes: &mut Steps,
+    ) -> DfaStateIndex
         requires { state < length self.now }
         ensures leads { result ≡ step self.now state value }
         ensures within { result < length self.now }

@@ -3,7 +3,7 @@ use Rattle.lalrpop_table.specs.Dfa.{step, Row}
 use Rattle.lalrpop_table.specs.Counts.{HaveAtMost}
 use Rattle.lalrpop_table.proofs.EdgeTargets.{step_within}
 use Rattle.lalrpop_table.proofs.StepLists.{listed_step}
-use Rattle.lalrpop_table.proofs.Dfa.step.Goals as goal
+use Rattle.lalrpop_table.proofs.Dfa.step_probed.Goals as goal
 
 pub returns-clause-probed : goal.returns-clause-probed
 returns-clause-probed c = λ n d h l. c.step.ensures.probed n d (subst (λ (x : List Row). HaveAtMost x n) (sym c.self.view_is) h) l
