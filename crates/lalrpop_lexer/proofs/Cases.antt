@@ -7,3 +7,4 @@ mod Lines
 pub mod Line
 pub mod Terminals
 mod Counting
+mod LinearCutting

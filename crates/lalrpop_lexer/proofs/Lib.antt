@@ -3,6 +3,7 @@ pub mod Cases
 pub mod Cuttings
 pub mod LexerCuttings
 pub mod Costs
+pub mod LinearCosts
 pub mod Places
 -- what lines say
 pub mod LineLemmas

@@ -1,6 +1,7 @@
 pub mod Cutting
 pub mod LexerTokens
 pub mod Counting
+pub mod LinearCutting
 pub mod Position
 pub mod Rules
 pub mod Lines

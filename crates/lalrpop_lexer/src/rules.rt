@@ -8,6 +8,8 @@ ghost use Rattle.lalrpop_book.specs.Report.{NoFault, IsReport};
 ghost use Rattle.lalrpop_book.specs.Longest.{IsLongest};
 ghost use Rattle.lalrpop_table.specs.Lookahead.{IsLookahead, IsSettledAfter, LooksAtMost, StaysOpenEver};
 ghost use Rattle.lalrpop_lexer.specs.Counting.{Counting, GivesCounted, counting_of};
+ghost use Rattle.lalrpop_linear.specs.Matching.{open_states};
+ghost use Rattle.lalrpop_lexer.specs.LinearCutting.{LinearCutting, GivesLinear};
 ghost use Rattle.lalrpop_lexer.specs.Cutting.{Cutting, start_of, rest_of};
 ghost use Rattle.lalrpop_book.specs.Tokens.{slices};
 ghost use Rattle.lalrpop_lexer.specs.LexerTokens.{GivesToken};
@@ -18,11 +20,13 @@ ghost use Rattle.lalrpop_book.specs.declared.token.TokenFault.{TokenFault as Fau
 
 use crate::counted::CountedTokens;
 use crate::lexer_token::LexerTokens;
+use crate::linear::LinearTokens;
 use crate::token::Tokens;
 use lalrpop_book::Token;
 use lalrpop_dense::DenseDfa;
 use lalrpop_dfa::lookahead::{lookahead, open_patterns};
 use lalrpop_dfa::{DfaConstructionError, Precedence, build_dfa};
+use lalrpop_linear::LinearMatches;
 use lalrpop_re::Regex;
 use std::alloc::{AllocError, Global};
 use std::marker::Model;
@@ -145,6 +149,36 @@ impl Lexer {
             → s.steps ≤ (n + 2) * length (chars text.now) }
     {
         CountedTokens::new(self.tokens(text))
+    }
+
+    /// The tokens of `tokens`, in time linear in the text whatever the patterns are: a whole text costs at most 65 steps a character, and
+    /// for each open state of the automaton, one that neither accepts a pattern nor rejects, a step a byte and 64 in all.
+    /// A step is counted for each character that is read, as often as it is read.
+    ///
+    /// Where `lookahead` is a small number `tokens` costs less. The memory is taken here: a byte for each open state
+    /// and each 64 bytes of the text.
+    ///
+    /// # Errors
+    ///
+    /// `AllocError` where a request for memory was refused.
+    pub fn tokens_linear<'text>(
+        &'text self,
+        alloc: Global,
+        text: &'text str,
+    ) -> Result<LinearTokens<'text>, AllocError>
+        ensures start { IfOk result (λ s.
+            (s.cutting ≡ start_of self.now.automaton text.now) × (s.steps ≡ 0)) }
+        ensures tokens { IfOk result (λ s. (xs : List (Result TokenValue FaultValue))
+            → Drains GivesLinear s xs
+            → AreTokens self.now.trees self.now.precedences text.now 0 xs) }
+        ensures cost { IfOk result (λ s.
+            (xs : List (Result TokenValue FaultValue)) (t : LinearCutting)
+            → Yields GivesLinear s xs t
+            → t.steps ≤ 65 * length (chars text.now)
+            + open_states self.now.automaton * (length text.now + 64)) }
+    {
+        let matches = LinearMatches::new(alloc, self.dense.dfa(), text)?;
+        Ok(LinearTokens::new(matches))
     }
 
     /// The greatest number of characters that can follow a match and leave it open whether a longer one comes; `None` if

@@ -95,7 +95,7 @@ longest_pass ts ps text rest rest2 at at2 c (Some best) h e l not up = (
 )
 
 -- if no longer prefix matches, the longest so far is the longest
-done : (ts : List Tree) (ps text : List ℕ) (at : ℕ) (best : Option (ℕ × List ℕ)) → ((p : List ℕ) → IsMatch ts text p → length p ≤ at)
+pub done : (ts : List Tree) (ps text : List ℕ) (at : ℕ) (best : Option (ℕ × List ℕ)) → ((p : List ℕ) → IsMatch ts text p → length p ≤ at)
     → IsLongestUpTo ts ps text at best → IsLongest ts ps text best
 done ts ps text at None all up = λ p m. up p m (all p m)
 done ts ps text at (Some best) all up = (up.0, λ p m. up.1 p m (all p m), up.2)

@@ -29,7 +29,7 @@ its_tree : (o : Option Row) (P : Kind → Type 0) → IsSomeAnd o (λ r. (i : �
 its_tree None P h = absurd h
 its_tree (Some r) P h = (h.0, h.1.1)
 
-not_matched : (o : Option Row) (ts : List Tree) (ps w : List ℕ) → IsSomeAnd o (λ r. IsRightKind ts ps w r.kind) → IsSomeAnd o (λ r. r.kind ≡ Neither) ⊎ IsSomeAnd o (λ r. r.kind ≡ Reject) → ¬ Matched ts w
+pub not_matched : (o : Option Row) (ts : List Tree) (ps w : List ℕ) → IsSomeAnd o (λ r. IsRightKind ts ps w r.kind) → IsSomeAnd o (λ r. r.kind ≡ Neither) ⊎ IsSomeAnd o (λ r. r.kind ≡ Reject) → ¬ Matched ts w
 not_matched None ts ps w h (inl e) = absurd e
 not_matched None ts ps w h (inr e) = absurd e
 not_matched (Some r) ts ps w h (inl e) = subst (IsRightKind ts ps w) e h

@@ -1,0 +1,23 @@
+-- cases: proofs/Cases/LinearCutting.antt
+-- Cutting a text into tokens in linear time, whatever the automaton is.
+use Rattle.std.specs.Prelude.{◌≡◌, ℕ, ◌+◌, ◌*◌, ◌≤◌, Option, Result, IfNone}
+use Rattle.lalrpop_lexer.specs.Cutting.{Cutting, left_of}
+use Rattle.lalrpop_lexer.specs.LexerTokens.{GivesToken}
+use Rattle.lalrpop_book.specs.declared.token.Token.{Token}
+use Rattle.lalrpop_book.specs.declared.token.TokenFault.{TokenFault}
+
+-- a text that is being cut; how many pairs of an open state and a place no run has passed yet; and how many characters were read so
+-- far, each counted as often as it was read
+pub record LinearCutting : Type 0 where
+  pub cutting : Cutting
+  pub unseen : ℕ
+  pub steps : ℕ
+
+-- what is left pays: each character that is not cut off yet for 65 steps, each pair that is not passed yet for 64
+abbrev pub with_credit : LinearCutting → ℕ
+with_credit s = s.steps + 65 * left_of s.cutting + 64 * s.unseen
+
+-- what one call gives: what `tokens` gives; what was left pays for the characters that it reads; and where it gives nothing it reads
+-- nothing
+abbrev pub GivesLinear : LinearCutting → Option (Result Token TokenFault) → LinearCutting → Type 0
+GivesLinear old x new = GivesToken old.cutting x new.cutting × (with_credit new ≤ with_credit old) × IfNone x (new.steps ≡ old.steps)

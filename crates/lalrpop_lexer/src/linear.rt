@@ -1,0 +1,112 @@
+//! The tokens of a text, cut in linear time whatever the patterns are.
+
+ghost use Rattle.std.specs.Prelude.{◌≡◌};
+
+use lalrpop_book::{Token, TokenFault};
+use lalrpop_linear::LinearMatches;
+use lalrpop_ranges::Steps;
+use std::iter::FusedIterator;
+use std::marker::Model;
+
+/// Cuts a text into the tokens of `LexerTokens`. It remembers which states were passed at which places of the text, so that no run goes
+/// where one before it has gone in vain. It counts a step for each character that is read, as often as it is read; steps are for
+/// contracts alone.
+#[derive(Drop)]
+pub struct LinearTokens<'text> {
+    matches: LinearMatches<'text>,
+    is_over: bool,
+    steps: Steps,
+}
+
+impl<'text> Model for LinearTokens<'text> {
+    ghost use Rattle.lalrpop_lexer.specs.LinearCutting.{LinearCutting};
+
+    ghost Value = { LinearCutting };
+
+    ghost view = { λ t.
+        record {
+          cutting = record {
+            automaton = t.matches.automaton;
+            text = t.matches.text;
+            at = t.matches.at;
+            is_over = t.is_over;
+          };
+          unseen = t.matches.unseen;
+          steps = t.steps;
+        } };
+}
+
+impl<'text> LinearTokens<'text> {
+    ghost use Rattle.std.specs.Prelude.{◌<◌, false, OnSome};
+    ghost use Rattle.lalrpop_lexer.specs.Cutting.{rest_of, left_of};
+    ghost use Rattle.lalrpop_lexer.specs.LinearCutting.{GivesLinear};
+
+    // The text as it is before the first token.
+    pub(crate) fn new(matches: LinearMatches<'text>) -> LinearTokens<'text>
+        ensures start { result
+            ≡ record {
+              cutting = record {
+                automaton = matches.entry.automaton;
+                text = matches.entry.text;
+                at = matches.entry.at;
+                is_over = false;
+              };
+              unseen = matches.entry.unseen;
+              steps = 0;
+            } }
+    {
+        LinearTokens {
+            matches,
+            is_over: false,
+            steps: Steps::new(),
+        }
+    }
+
+    /// The rest of the text: what stands behind the last token. All of it, before the first call of `next`.
+    pub fn rest(&self) -> &'text str
+        ensures rest { result.now ≡ rest_of self.now.cutting }
+    {
+        self.matches.rest()
+    }
+
+    // What `next` gives.
+    fn next_token(&mut self) -> Option<Result<Token<'text>, TokenFault>>
+        ensures gives { GivesLinear self.old result self.new }
+        ensures goes { OnSome result (left_of self.new.cutting < left_of self.old.cutting) }
+    {
+        let rest = self.matches.rest();
+        if self.is_over || rest.is_empty() {
+            return None;
+        }
+        let start = self.matches.offset();
+        match self.matches.next_match(&mut self.steps) {
+            Some(found) => Some(Ok(Token {
+                index: found.0,
+                slice: found.1,
+                start,
+            })),
+            None => {
+                self.is_over = true;
+                Some(Err(TokenFault { at: start }))
+            }
+        }
+    }
+}
+
+impl<'text> Iterator for LinearTokens<'text> {
+    ghost use Rattle.std.specs.Iterator.{at_most};
+    ghost use Rattle.lalrpop_lexer.specs.Cutting.{left_of};
+    ghost use Rattle.lalrpop_lexer.specs.LinearCutting.{GivesLinear};
+
+    type Item = Result<Token<'text>, TokenFault>;
+
+    ghost next_gives = { GivesLinear };
+
+    ghost remaining = { λ s. at_most (left_of s.cutting) };
+
+    fn next(&mut self) -> Option<Result<Token<'text>, TokenFault>> {
+        self.next_token()
+    }
+}
+
+impl<'text> FusedIterator for LinearTokens<'text> {}

@@ -1,0 +1,8 @@
+pub mod Cases
+-- states from which no match comes, and what a run knows of those that are noted
+pub mod Hopes
+pub mod Kept
+pub mod Walks
+-- the memory, and where a text stands
+pub mod Marks
+pub mod Standings

@@ -1,0 +1,3 @@
+pub mod Memory
+pub mod Hopeless
+pub mod Standing

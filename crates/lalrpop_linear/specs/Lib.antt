@@ -1,0 +1,3 @@
+pub mod Matching
+-- what serves the proofs alone
+pub mod Internal

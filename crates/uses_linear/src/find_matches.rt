@@ -1,0 +1,75 @@
+//! The longest matches of a text, one behind another.
+
+ghost use Rattle.std.specs.Prelude.{◌≡◌, ◌≢◌, ℕ, ◌+◌, ◌*◌, ◌≤◌, [], length, List, IfOk, IfNone, IfSome};
+ghost use Rattle.std.specs.Option.{option_map};
+ghost use Rattle.std.specs.Str.{chars};
+ghost use Rattle.lalrpop_book.specs.Longest.{IsLongest};
+ghost use Rattle.lalrpop_book.specs.Prefix.{IsPrefix};
+ghost use Rattle.lalrpop_book.specs.Tree.{Tree};
+ghost use Rattle.lalrpop_linear.specs.Matching.{characters_of, open_states, rest_of};
+ghost use Rattle.lalrpop_table.specs.Dfa.{Recognizes};
+
+use lalrpop_linear::LinearMatches;
+use lalrpop_ranges::Steps;
+use lalrpop_table::{Dfa, NfaIndex};
+use std::alloc::{AllocError, Global};
+
+// Needs lalrpop_linear::LinearMatches::new: start.
+// Needs lalrpop_linear::LinearMatches::rest: rest.
+/// Before the first match the rest is the whole text.
+///
+/// # Errors
+///
+/// `AllocError` where a request for memory was refused.
+pub fn rest_at_first<'text>(
+    alloc: Global,
+    dfa: &'text Dfa,
+    text: &'text str,
+) -> Result<&'text str, AllocError>
+    ensures { IfOk result (λ rest. rest.now ≡ text.now) }
+{
+    let matches = LinearMatches::new(alloc, dfa, text)?;
+    Ok(matches.rest())
+}
+
+// Needs lalrpop_linear::LinearMatches::next_match: answer, prefix.
+/// The next match, whatever trees the automaton recognizes.
+pub fn find_next<'text>(matches: &mut LinearMatches<'text>) -> Option<(NfaIndex, &'text str)>
+    ensures answer { (ts : List Tree) (ps : List ℕ) → Recognizes matches.old.automaton ts ps
+        → IsLongest ts ps (rest_of matches.old) (option_map (λ m. (m.0, m.1.now)) result) }
+    ensures prefix { IfSome result (λ m.
+        IsPrefix m.1.now (rest_of matches.old) × (m.1.now ≢ [])) }
+{
+    matches.next_match(&mut Steps::new())
+}
+
+// Needs lalrpop_linear::LinearMatches::next_match: goes_on, stays.
+// Needs lalrpop_linear::LinearMatches::offset: offset.
+/// Passes over a match, if there is one, and says where the rest begins then.
+pub fn pass_over(matches: &mut LinearMatches) -> usize
+    ensures { matches.old.at ≤ result }
+{
+    let _found = matches.next_match(&mut Steps::new());
+    matches.offset()
+}
+
+// Needs lalrpop_linear::LinearMatches::new: unseen.
+// Needs lalrpop_linear::LinearMatches::next_match: paid.
+/// The first match of the text, and what it costs.
+///
+/// # Errors
+///
+/// `AllocError` where a request for memory was refused.
+pub fn find_first<'text>(
+    alloc: Global,
+    dfa: &'text Dfa,
+    text: &'text str,
+    steps: &mut Steps,
+) -> Result<Option<(NfaIndex, &'text str)>, AllocError>
+    ensures cost { IfOk result (λ found. steps.new
+        ≤ steps.old + characters_of (option_map (λ m. m.1.now) found)
+        + open_states dfa.now * (length text.now + 64) + 64) }
+{
+    let mut matches = LinearMatches::new(alloc, dfa, text)?;
+    Ok(matches.next_match(steps))
+}
