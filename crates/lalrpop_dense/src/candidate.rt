@@ -12,10 +12,10 @@ const END: u32 = 0x11_0000;
 
 const PAGES: u32 = END / 128;
 
-// So many cells are told apart by 16 bits.
+// The most cells that 16 bits can number.
 const NARROW: usize = 65536;
 
-// So many steps take a few milliseconds.
+// The most steps that take only a few milliseconds.
 const SHORT: usize = 1 << 20;
 
 fn mark(marks: &mut [u64], value: u32) {
@@ -24,20 +24,20 @@ fn mark(marks: &mut [u64], value: u32) {
     }
 }
 
-// Adds the values that are marked, of the 64 from the first on.
-fn push_marked(cuts: &mut Vec<u32>, marks: u64, first: u32) -> Result<(), AllocError> {
+// Adds the marked values among the 64 from the first on.
+fn push_marked(boundaries: &mut Vec<u32>, marks: u64, first: u32) -> Result<(), AllocError> {
     if marks != 0 {
         for place in 0..64 {
             if marks >> place & 1 == 1 {
-                cuts.push(first.wrapping_add(place))?;
+                boundaries.push(first.wrapping_add(place))?;
             }
         }
     }
     Ok(())
 }
 
-// The values at which some test of some state begins, and those behind its end, ascending, 0 first.
-fn cuts_of(alloc: Global, dfa: &Dfa) -> Result<Vec<u32>, AllocError> {
+// The boundaries: 0, each value at which a test edge of some state begins, and each value after the end of one, ascending.
+fn boundaries_of(alloc: Global, dfa: &Dfa) -> Result<Vec<u32>, AllocError> {
     let mut marks = vec![in alloc; 0u64; 0x11_0000 / 64]?;
     mark(&mut marks, 0);
     for number in 0..dfa.states().len() {
@@ -46,16 +46,16 @@ fn cuts_of(alloc: Global, dfa: &Dfa) -> Result<Vec<u32>, AllocError> {
             mark(&mut marks, test.end().wrapping_add(1));
         }
     }
-    let mut cuts = Vec::new(alloc);
+    let mut boundaries = Vec::new(alloc);
     let mut first = 0u32;
     for word in &marks {
-        push_marked(&mut cuts, *word, first)?;
+        push_marked(&mut boundaries, *word, first)?;
         first = first.wrapping_add(64);
     }
-    Ok(cuts)
+    Ok(boundaries)
 }
 
-// Where the value leads by these edges. The place goes on by one where the edge there ends before the value.
+// Where the value leads by these edges. The place moves on by one if the edge there ends before the value.
 #[inline(always)]
 fn target_at(
     edges: &[(Test, DfaStateIndex)],
@@ -74,7 +74,7 @@ fn target_at(
     }
 }
 
-// Where the value leads by these edges, found by halving.
+// Where the value leads by these edges, by binary search.
 fn target_of(edges: &[(Test, DfaStateIndex)], other: DfaStateIndex, value: u32) -> usize {
     let place = edges.partition_point(|edge| edge.0.end() < value);
     match edges.get(place) {
@@ -89,50 +89,50 @@ fn hashed(hash: u64, number: u64) -> u64 {
         .rotate_left(23)
 }
 
-// A hash of where each cut leads from all states.
-fn hashes_of(alloc: Global, dfa: &Dfa, cuts: &[u32]) -> Result<Vec<u64>, AllocError> {
-    let mut hashes = vec![in alloc; 0u64; cuts.len()]?;
+// For each boundary, a hash of where it leads from all states.
+fn hashes_of(alloc: Global, dfa: &Dfa, boundaries: &[u32]) -> Result<Vec<u64>, AllocError> {
+    let mut hashes = vec![in alloc; 0u64; boundaries.len()]?;
     for number in 0..dfa.states().len() {
         let index = DfaStateIndex::new(number);
         let edges = dfa.test_edges(index);
         let other = dfa.state(index).other_edge();
         let mut place = 0usize;
-        for (cut, hash) in cuts.iter().zip(hashes.iter_mut()) {
-            *hash = hashed(*hash, target_at(edges, other, &mut place, *cut) as u64);
+        for (boundary, hash) in boundaries.iter().zip(hashes.iter_mut()) {
+            *hash = hashed(*hash, target_at(edges, other, &mut place, *boundary) as u64);
         }
     }
     Ok(hashes)
 }
 
-// The values from a cut on and before the next one are of one class.
+// The values from a boundary up to the next one have one class.
 #[derive(Drop)]
 struct Classes {
-    cuts: Vec<u32>,
-    // The class of each cut.
+    boundaries: Vec<u32>,
+    // The class of each boundary.
     classes: Vec<u8>,
-    // The first cut of each class.
+    // The first boundary of each class.
     firsts: Vec<u32>,
 }
 
 // The classes of the values, by hashes.
-fn classes_of(alloc: Global, dfa: &Dfa, cuts: Vec<u32>) -> Result<Classes, AllocError> {
-    let hashes = hashes_of(alloc, dfa, &cuts)?;
+fn classes_of(alloc: Global, dfa: &Dfa, boundaries: Vec<u32>) -> Result<Classes, AllocError> {
+    let hashes = hashes_of(alloc, dfa, &boundaries)?;
     let mut numbers: BTreeMap<u64, u8> = BTreeMap::new(alloc);
     let mut classes = Vec::new(alloc);
     let mut firsts = Vec::new(alloc);
-    for (hash, cut) in hashes.iter().zip(&cuts) {
+    for (hash, boundary) in hashes.iter().zip(&boundaries) {
         match numbers.get(hash) {
             Some(number) => classes.push(*number)?,
             None => {
                 let number = (numbers.len() & 255) as u8;
                 numbers.insert(*hash, number)?;
                 classes.push(number)?;
-                firsts.push(*cut)?;
+                firsts.push(*boundary)?;
             }
         }
     }
     Ok(Classes {
-        cuts,
+        boundaries,
         classes,
         firsts,
     })
@@ -150,7 +150,7 @@ struct Places {
     accept: usize,
 }
 
-// The rows of the states, where they are so long: those of reject states first, those of states that accept last.
+// The rows of the states, all of this length: those of reject states first, those of accepting states last.
 fn places_of(alloc: Global, dfa: &Dfa, stride: usize) -> Result<Places, AllocError> {
     let mut rows = vec![in alloc; 0; dfa.states().len()]?;
     let mut next = 0usize;
@@ -214,7 +214,7 @@ fn cells_of(
 struct Blocks {
     blocks: Vec<u8>,
     pages: Vec<u16>,
-    // By their hashes, the blocks that are there.
+    // The blocks so far, by their hashes.
     numbers: BTreeMap<u64, u16>,
 }
 
@@ -238,12 +238,12 @@ impl Blocks {
     }
 }
 
-// A place among the cuts.
+// A place among the boundaries.
 #[derive(Clone, Copy)]
 struct Walk {
-    // The place of the cut at or before the value.
+    // The place of the last boundary that is not after the value.
     place: usize,
-    // All values before it are of the class of that cut.
+    // All values before this one have the class of that boundary.
     end: u32,
     class: u8,
 }
@@ -253,7 +253,7 @@ impl Walk {
         Walk {
             place,
             end: classes
-                .cuts
+                .boundaries
                 .get(place.wrapping_add(1))
                 .copied()
                 .unwrap_or(END),
@@ -290,7 +290,7 @@ fn blocks_of(alloc: Global, classes: &Classes) -> Result<Blocks, AllocError> {
         let is_whole = first + 128 <= walk.end;
         if let Some((class, number)) = last {
             if is_whole && class == walk.class {
-                // All pages behind are like the last one.
+                // All later pages are like the last one.
                 if walk.end == END {
                     break;
                 }
@@ -308,7 +308,7 @@ fn blocks_of(alloc: Global, classes: &Classes) -> Result<Blocks, AllocError> {
     Ok(blocks)
 }
 
-// How many states and test edges there are, by which what a table may take is bounded.
+// The numbers of states and test edges, which bound the size of the table.
 #[derive(Clone, Copy)]
 struct Size {
     states: usize,
@@ -325,7 +325,7 @@ impl Size {
         Size { states, edges }
     }
 
-    // Whether a table of so many cells takes not much more memory than the automaton.
+    // Whether a table of this many cells takes not much more memory than the automaton.
     fn has_room(self, cells: usize) -> bool {
         let room = self
             .states
@@ -334,29 +334,29 @@ impl Size {
         cells <= NARROW || cells <= room
     }
 
-    // Whether to go over so many cuts for each state takes not much longer than to go over the edges.
-    fn has_time(self, cuts: usize) -> bool {
+    // Whether visiting this many boundaries for each state takes not much longer than visiting the edges.
+    fn has_time(self, boundaries: usize) -> bool {
         let steps = self.states.wrapping_add(self.edges).wrapping_mul(16);
-        let all = self.states.wrapping_mul(cuts);
+        let all = self.states.wrapping_mul(boundaries);
         all <= SHORT || all <= steps
     }
 }
 
-/// A table of the automaton, if it is right. None where there would be too many cells or classes, or too many cuts.
+/// A table that may be that of the automaton: the caller checks it. None if it would have too many cells, classes or boundaries.
 ///
 /// # Errors
 ///
-/// `AllocError` where a request for memory was refused.
+/// `AllocError` if a request for memory was refused.
 pub(crate) fn candidate_of(
     alloc: Global,
     dfa: &Dfa,
 ) -> Result<Option<(Layout, Vec<u32>)>, AllocError> {
     let size = Size::of(dfa);
-    let cuts = cuts_of(alloc, dfa)?;
-    if size.states > 0x100_0000 || !size.has_time(cuts.len()) {
+    let boundaries = boundaries_of(alloc, dfa)?;
+    if size.states > 0x100_0000 || !size.has_time(boundaries.len()) {
         return Ok(None);
     }
-    let classes = classes_of(alloc, dfa, cuts)?;
+    let classes = classes_of(alloc, dfa, boundaries)?;
     let width = classes.firsts.len();
     let stride = width.wrapping_add(1);
     if width > 255 || !size.has_room(size.states.wrapping_mul(stride)) {

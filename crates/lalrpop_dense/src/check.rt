@@ -1,4 +1,4 @@
-//! Whether a table is that of an automaton.
+//! Whether a table is right for an automaton.
 
 ghost use Rattle.std.specs.Prelude.{◌≡◌, ℕ, ◌+◌, ◌*◌, ◌<◌, ◌≤◌, length, slice_index, EachIndex, IsTrue, IfOk};
 ghost use Rattle.std.specs.List.{All};
@@ -112,8 +112,8 @@ fn is_row_of_kind(layout: &Layout, cells: &[u32], row: usize, kind: &Kind) -> bo
     }
 }
 
-// Where the value leads by these edges, or else by the other edge, and the place below which all values behind it lead
-// there too. `place` goes on to the first edge that does not end before the value.
+// Where the value leads, by the edge that holds it or else by the other edge, and up to which value all later ones lead there
+// too. `place` moves on to the first edge that does not end before the value.
 fn segment_at(
     value: u32,
     edges: &[(Test, DfaStateIndex)],
@@ -137,7 +137,7 @@ fn segment_at(
     }
 }
 
-// Whether the row of the state tells where all characters lead.
+// Whether the row of the state says where each character leads.
 fn leads_right(
     layout: &Layout,
     cells: &[u32],
@@ -176,11 +176,11 @@ fn leads_right(
     value == END
 }
 
-/// Whether the table is that of the automaton.
+/// Whether the table is right for the automaton.
 ///
 /// # Errors
 ///
-/// `AllocError` where a request for memory was refused.
+/// `AllocError` if a request for memory was refused.
 pub(crate) fn is_table_of(
     alloc: Global,
     layout: &Layout,

@@ -67,11 +67,11 @@ fn push_item(page: &mut String, lexer: &RuleLexer, item: &Item) -> Result<(), Al
 }
 
 /// The text as markup of HTML: each token in a `span` whose class is the name of its rule, each fault in one of the class
-/// `fault`, and what is skipped in none. With the tags taken out and the entities undone it is the text.
+/// `fault`, and skipped text in none. Strip the tags and decode the entities, and you have the text again.
 ///
 /// # Errors
 ///
-/// `AllocError` where a request for memory was refused.
+/// `AllocError` if a request for memory was refused.
 pub fn html(alloc: Global, lexer: &RuleLexer, text: &str) -> Result<String, AllocError>
     ensures pieces { IfOk result (λ page. (xs : List ItemValue)
         × (ArePieces lexer.now.trees lexer.now.precedences lexer.now.skips text.now 0 xs

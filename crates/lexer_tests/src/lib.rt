@@ -14,6 +14,8 @@ mod cutting;
 #[cfg(test)]
 mod equality;
 #[cfg(test)]
+mod linear;
+#[cfg(test)]
 mod lookaheads;
 #[cfg(test)]
 mod order;

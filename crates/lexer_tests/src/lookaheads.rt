@@ -42,7 +42,7 @@ fn lexer_from(
     }
 }
 
-fn lexer_of(alloc: Global, words: &str) -> Result<Lexer, AllocError> {
+pub(crate) fn lexer_of(alloc: Global, words: &str) -> Result<Lexer, AllocError> {
     let regexs = trees_of(alloc, words)?;
     let precedences = falling(alloc, regexs.len())?;
     lexer_from(alloc, regexs, precedences)

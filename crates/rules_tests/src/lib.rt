@@ -1,6 +1,8 @@
-//! Tests of the public calls of `lalrpop_rules`, with values.
+//! Tests of the public calls of `lalrpop_rules` and `lalrpop_rule_file`, with values.
 #![tactic(auto)]
 
+#[cfg(test)]
+mod files;
 #[cfg(test)]
 mod named;
 #[cfg(test)]

@@ -1,8 +1,9 @@
-//! How lalrpop_rules is called: for each promise of a public call a small function that needs it.
+//! How lalrpop_rules, lalrpop_rule_file and lalrpop_markup are called: for each promise of a public call a small function that needs it.
 #![tactic(auto)]
 
 pub mod cut_by_rules;
 pub mod cut_to_the_end;
 pub mod find_a_match;
 pub mod name_rules;
+pub mod read_a_file;
 pub mod show_a_text;

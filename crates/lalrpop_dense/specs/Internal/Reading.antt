@@ -5,17 +5,17 @@ use Rattle.std.specs.Str.{IsCharBoundary}
 use Rattle.lalrpop_book.specs.Prefix.{IsPrefix}
 use Rattle.lalrpop_dense.specs.declared.table.Layout.{Layout}
 
--- between the two places of the text stands the character
+-- the text from the one place to the other is the character
 pub record ReadsChar (text : List ℕ) (at at2 c : ℕ) : Type 0 where
   pub split : drop at text ≡ encode_utf8 c ++ drop at2 text
   pub place : at2 ≡ at + length (encode_utf8 c)
   pub scalar : c < 1114112
 
--- the pattern that stands behind the row, and the text up to the place
+-- the pattern in the cell after the row, and the text up to the place
 abbrev pub found : Layout → List ℕ → List ℕ → ℕ × ℕ → ℕ × List ℕ
 found t cells text m = (slice_index cells (m.0 + t.width), take m.1 text)
 
--- a row with a pattern, and a place behind a nonempty prefix of the text
+-- a row with a pattern, and the end of a nonempty prefix of the text
 pub record IsPlace (t : Layout) (cells text : List ℕ) (m : ℕ × ℕ) : Type 0 where
   pub cell : m.0 + t.width < length cells
   pub boundary : IsCharBoundary text m.1

@@ -1,0 +1,4 @@
+pub mod RuleLine
+pub mod RuleFile
+-- what serves the proofs alone
+pub mod Internal

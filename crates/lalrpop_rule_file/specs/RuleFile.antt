@@ -1,0 +1,46 @@
+-- cases: proofs/Cases/RuleFile.antt
+-- What the lines of a file of rules say.
+use Rattle.std.specs.Prelude.{◌≡◌, ◌⊎◌, ℕ, zero, suc, ◌==◌, if◌then◌else◌, Option, Some, None, List, [], ◌∷◌, ◌++◌, codes}
+use Rattle.std.specs.Str.{IsUtf8}
+use Rattle.lalrpop_lexer.specs.Lines.{lines}
+use Rattle.lalrpop_rules.specs.declared.rule.Rule.{Rule}
+use Rattle.lalrpop_rule_file.specs.RuleLine.{AreBlanks, IsRule}
+use Rattle.lalrpop_rule_file.specs.declared.error.RuleFileError.{RuleFileError}
+use Rattle.lalrpop_rule_file.specs.declared.error.RuleFileError.TheVariants.{BadLine, OutOfMemory}
+
+-- the line without the carriage return, 13, at its end
+abbrev pub without_return : List ℕ → List ℕ
+without_return [] = []
+without_return (b ∷ []) = if b == 13 then [] else b ∷ []
+without_return (b ∷ c ∷ bs) = b ∷ without_return (c ∷ bs)
+
+-- blanks alone, or a comment: behind blanks a `#` and anything
+abbrev pub IsBlankOrComment : List ℕ → Type 0
+IsBlankOrComment line = AreBlanks line ⊎ ((lead : List ℕ) × ((comment : List ℕ) × ((line ≡ lead ++ (codes "#" ++ comment)) × AreBlanks lead)))
+
+-- the line, which ends before any carriage return, says nothing or is a rule
+abbrev pub Says : List ℕ → Option Rule → Type 0
+Says line None = IsBlankOrComment line
+Says line (Some rule) = IsRule line rule
+
+abbrev pub LineSays : List ℕ → Option Rule → Type 0
+LineSays line said = IsUtf8 line × Says (without_return line) said
+
+-- each line says nothing or is a rule, and these are the rules in order
+abbrev pub AreRules : List (List ℕ) → List Rule → Type 0
+AreRules [] [] = Unit {0}
+AreRules [] (r ∷ rs) = ⊥
+AreRules (line ∷ rest) [] = LineSays line None × AreRules rest []
+AreRules (line ∷ rest) (r ∷ rs) = (LineSays line None × AreRules rest (r ∷ rs)) ⊎ (LineSays line (Some r) × AreRules rest rs)
+
+-- the line with this number, counted from 1, is the first that is neither
+abbrev pub IsFirstBad : List (List ℕ) → ℕ → Type 0
+IsFirstBad [] n = ⊥
+IsFirstBad (line ∷ rest) zero = ⊥
+IsFirstBad (line ∷ rest) (suc zero) = (said : Option Rule) → ¬ LineSays line said
+IsFirstBad (line ∷ rest) (suc (suc n)) = ((said : Option Rule) × LineSays line said) × IsFirstBad rest (suc n)
+
+-- the error is right: it names the first bad line, or memory was refused
+abbrev pub IsRuleFileError : List ℕ → RuleFileError → Type 0
+IsRuleFileError bytes (BadLine n column fault) = IsFirstBad (lines bytes) n
+IsRuleFileError bytes OutOfMemory = Unit {0}

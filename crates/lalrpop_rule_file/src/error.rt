@@ -1,0 +1,68 @@
+//! Why a file of rules can't be read.
+ghost use Rattle.std.specs.Prelude.{◌≡◌};
+ghost use Rattle.lalrpop_rule_file.specs.declared.error.RuleFileError.TheVariants.{OutOfMemory};
+
+use std::alloc::{AllocError, AllocFailed};
+use std::fmt::{self, Display, Formatter, Write};
+use thiserror::Error;
+
+/// What is wrong with a line.
+#[derive(Clone, Copy, Debug, PartialEq, Eq)]
+pub enum LineFault {
+    /// It isn't UTF-8.
+    NotUtf8,
+    /// No name stands where the line begins.
+    NoName,
+    /// Behind the name, or `skip`, stands no `=`.
+    NoEquals,
+    /// The precedence has more than 20 digits or doesn't fit 64 bits.
+    PrecedenceTooLarge,
+    /// Neither an apostrophe nor a slash stands where the text begins.
+    NoText,
+    /// The line doesn't end with the delimiter that its text begins with.
+    NotClosed,
+}
+
+impl Display for LineFault {
+    fn fmt<W: Write>(&self, f: &mut Formatter<W>) -> Result<(), fmt::Error> {
+        f.write_str(match self {
+            LineFault::NotUtf8 => "this isn't UTF-8",
+            LineFault::NoName => "a name is missing: a letter or `_`, then letters, digits and `_`",
+            LineFault::NoEquals => "`=` is missing",
+            LineFault::PrecedenceTooLarge => "the precedence is too large",
+            LineFault::NoText => "a literal such as 'if' or a pattern such as /[0-9]+/ is missing",
+            LineFault::NotClosed => "the line doesn't end with the delimiter of its text",
+        })
+    }
+}
+
+/// Why a file of rules can't be read.
+#[derive(Debug, Drop, Error)]
+pub enum RuleFileError {
+    /// The first line that is neither a rule nor a comment nor blank. Lines and columns count from 1, columns in characters.
+    #[error("line {line}, column {column}: {fault}")]
+    BadLine {
+        line: usize,
+        column: usize,
+        fault: LineFault,
+    },
+    /// A request for memory was refused.
+    #[error("out of memory")]
+    OutOfMemory,
+}
+
+impl From<AllocError> for RuleFileError {
+    ghost from_gives = { λ _ e. e ≡ OutOfMemory };
+
+    fn from(_error: AllocError) -> RuleFileError {
+        RuleFileError::OutOfMemory
+    }
+}
+
+impl<T: Drop> From<AllocFailed<T>> for RuleFileError {
+    ghost from_gives = { λ _ e. e ≡ OutOfMemory };
+
+    fn from(_error: AllocFailed<T>) -> RuleFileError {
+        RuleFileError::OutOfMemory
+    }
+}

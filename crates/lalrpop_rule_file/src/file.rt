@@ -1,0 +1,129 @@
+//! A whole file.
+ghost use Rattle.std.specs.Prelude.{◌≡◌, ◌==◌, ◌<◌, [], ◌∷◌, length, position, Option, IfSome, IfNone, IfOk, IfErr};
+ghost use Rattle.lalrpop_lexer.specs.Lines.{lines};
+ghost use Rattle.lalrpop_rule_file.specs.RuleFile.{LineSays, AreRules, IsRuleFileError, without_return as without_return_of};
+ghost use Rattle.lalrpop_rules.specs.declared.rule.Rule.{Rule as RuleValue};
+
+use crate::error::{LineFault, RuleFileError};
+use crate::line::said_by;
+use lalrpop_rules::Rule;
+use std::alloc::Global;
+
+// What is wrong with a line, and in which column, counted in characters from 1.
+#[derive(Clone, Copy, Debug)]
+struct Fault {
+    column: usize,
+    fault: LineFault,
+}
+
+// The place of the first line feed.
+fn line_feed(bytes: &[u8]) -> Option<usize>
+    ensures { result ≡ position (λ b. b == 10) bytes.now }
+{
+    bytes.iter().position(|byte| *byte == b'\n')
+}
+
+// The first line without its line feed, and the bytes after it; `None` where there is no byte.
+fn split_line(bytes: &[u8]) -> Option<(&[u8], &[u8])>
+    ensures none { IfNone result (bytes.now ≡ []) }
+    ensures lines { IfSome result (λ parts. lines bytes.now ≡ parts.0.now ∷ lines parts.1.now) }
+    ensures shorter { IfSome result (λ parts. length parts.1.now < length bytes.now) }
+{
+    if bytes.is_empty() {
+        return None;
+    }
+    match line_feed(bytes) {
+        Some(at) => Some((&bytes[..at], &bytes[at + 1..])),
+        None => Some((bytes, &[])),
+    }
+}
+
+// The line without the carriage return at its end.
+fn without_return(line: &str) -> &str
+    ensures { result.now ≡ without_return_of line.now }
+{
+    match line.strip_suffix('\r') {
+        Some(before) => before,
+        None => line,
+    }
+}
+
+// The column behind the characters before the rest of a line.
+fn column_of(line: &str, rest: &str) -> usize {
+    let before = line.chars().count().saturating_sub(rest.chars().count());
+    before.saturating_add(1)
+}
+
+// The column behind the characters at the front of some bytes.
+fn column_behind(bytes: &[u8]) -> usize {
+    match str::from_utf8(bytes) {
+        Ok(front) => column_of(front, ""),
+        Err(_) => 1,
+    }
+}
+
+// What a line says: a rule, or nothing.
+fn said(line: &[u8]) -> Result<Option<Rule<'_>>, Fault>
+    ensures says { IfOk result (λ said. LineSays line.now said) }
+    ensures none { IfErr result (λ _. (said : Option RuleValue) → ¬ LineSays line.now said) }
+{
+    let text = match str::from_utf8(line) {
+        Ok(text) => text,
+        Err(error) => {
+            return Err(Fault {
+                column: column_behind(&line[..error.valid_up_to()]),
+                fault: LineFault::NotUtf8,
+            });
+        }
+    };
+    let content = without_return(text);
+    match said_by(content) {
+        Ok(said) => Ok(said),
+        Err(stop) => Err(Fault {
+            column: column_of(content, stop.rest),
+            fault: stop.fault,
+        }),
+    }
+}
+
+/// The rules of a file, in the order of their lines: `NAME [skip] = [PRECEDENCE] 'LITERAL'` or
+/// `NAME [skip] = [PRECEDENCE] /PATTERN/`. They borrow names and texts from its bytes.
+///
+/// The file is UTF-8. A line ends at a line feed, which the last may lack; a carriage return at its end isn't part of it.
+/// Blank lines say nothing, and neither do comments, which begin with `#`. Spaces and tabs may stand around the parts of a rule.
+/// A name is an ASCII letter or `_`, and behind it letters, digits and `_`; several rules may have one name. A precedence is
+/// 1 to 20 decimal digits that fit 64 bits; where none is written it is 1 for a literal and 0 for a pattern. The text stands
+/// between its delimiter and the same one at the end of the line, so it may hold delimiters too.
+///
+/// A pattern isn't parsed here: `RuleLexer::from_rules` does it.
+///
+/// # Errors
+///
+/// The first line that is neither a rule nor a comment nor blank, and out of memory.
+pub fn read_rules<'text>(
+    alloc: Global,
+    bytes: &'text [u8],
+) -> Result<Vec<Rule<'text>>, RuleFileError>
+    ensures rules { IfOk result (λ rules. AreRules (lines bytes.now) rules.items) }
+    ensures error { IfErr result (λ e. IsRuleFileError bytes.now e) }
+{
+    let mut rules = Vec::new(alloc);
+    let mut number = 0;
+    let mut rest = bytes;
+    while let Some((line, after)) = split_line(rest) {
+        number += 1;
+        match said(line) {
+            Ok(Some(rule)) => rules.push(rule)?,
+            Ok(None) => {}
+            Err(Fault { column, fault }) => {
+                return Err(RuleFileError::BadLine {
+                    line: number,
+                    column,
+                    fault,
+                });
+            }
+        }
+        rest = after;
+    }
+    Ok(rules)
+}

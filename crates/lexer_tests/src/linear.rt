@@ -1,0 +1,93 @@
+//! Texts that are cut in linear time: the tokens are those of `tokens`.
+
+use crate::built::expect;
+use crate::lookaheads::lexer_of;
+use lalrpop_lexer::{LexerTokens, LinearTokens};
+use std::alloc::{AllocError, Global};
+
+// Whether both give the same, one for one.
+fn are_same(mut plain: LexerTokens, linear: LinearTokens) -> bool {
+    for item in linear {
+        if plain.next() != Some(item) {
+            return false;
+        }
+    }
+    plain.next().is_none()
+}
+
+// How many tokens of each pattern there are, from the left as far as they go, and where the fault is, if there is one.
+fn told(alloc: Global, items: LinearTokens) -> Result<String, AllocError> {
+    let mut counts = vec![in alloc; 0usize; 4]?;
+    let mut end = String::new(alloc);
+    for item in items {
+        match item {
+            Ok(token) => {
+                if let Some(count) = counts.get_mut(token.index.index()) {
+                    *count = count.wrapping_add(1);
+                }
+            }
+            Err(fault) => end = format!(in alloc; "{fault}")?,
+        }
+    }
+    let counts = counts.as_slice();
+    format!(in alloc; "{counts:?} {end}")
+}
+
+fn repeated(alloc: Global, part: &str, count: usize, end: &str) -> Result<String, AllocError> {
+    let mut text = String::new(alloc);
+    for _ in 0..count {
+        text.push_str(part)?;
+    }
+    text.push_str(end)?;
+    Ok(text)
+}
+
+// Of the patterns, and of so many parts and an end.
+fn of(
+    alloc: Global,
+    words: &str,
+    part: &str,
+    count: usize,
+    end: &str,
+) -> Result<String, AllocError> {
+    let lexer = lexer_of(alloc, words)?;
+    let text = repeated(alloc, part, count, end)?;
+    if !are_same(lexer.tokens(&text), lexer.tokens_linear(alloc, &text)?) {
+        return String::from_str(alloc, "other tokens than `tokens`");
+    }
+    told(alloc, lexer.tokens_linear(alloc, &text)?)
+}
+
+#[test]
+fn tokens_in_linear_time(rt: HostRuntime) {
+    let alloc = rt.alloc();
+    expect(&rt, of(alloc, "'a' a*b", "a", 300, ""), "[300, 0, 0, 0] ");
+    expect(&rt, of(alloc, "'a' a*b", "a", 300, "b"), "[0, 1, 0, 0] ");
+    expect(
+        &rt,
+        of(alloc, "'a' a*b", "a", 300, "c"),
+        "[300, 0, 0, 0] no pattern matches at byte 300",
+    );
+    expect(&rt, of(alloc, "'a' a*b", "", 0, ""), "[0, 0, 0, 0] ");
+    // A character of two bytes, and one of four.
+    expect(&rt, of(alloc, "é é*😀", "é", 200, ""), "[200, 0, 0, 0] ");
+    expect(&rt, of(alloc, "é é*😀", "é", 200, "😀"), "[0, 1, 0, 0] ");
+    // Two states that stay open: where one run came to nothing another goes on.
+    expect(
+        &rt,
+        of(alloc, "'a' 'b' a[ab]*c b[ab]*d", "ab", 100, "d"),
+        "[1, 0, 0, 1] ",
+    );
+    // A comment that is never closed.
+    expect(
+        &rt,
+        of(
+            alloc,
+            r"'/' '*' 'x' /\*([^*]|\*+[^*/])*\*+/",
+            "/*x",
+            200,
+            "",
+        ),
+        "[200, 200, 200, 0] ",
+    );
+}

@@ -1,0 +1,68 @@
+//! Rules are read from a file.
+ghost use Rattle.std.specs.Prelude.{◌≡◌, List, IfOk, IfErr, IfSome, MatchOption};
+ghost use Rattle.lalrpop_lexer.specs.Lines.{lines};
+ghost use Rattle.lalrpop_rules.specs.RuleSet.{names_of};
+ghost use Rattle.lalrpop_rules.specs.declared.rule.Rule.{Rule as RuleValue};
+ghost use Rattle.lalrpop_rule_file.specs.RuleFile.{AreRules, IsFirstBad};
+
+use lalrpop_rule_file::{RuleFileError, read_rules};
+use lalrpop_rules::{RuleLexer, RulesError};
+use std::alloc::{AllocError, Global};
+
+// Needs lalrpop_rule_file::read_rules: rules, error.
+/// The first bad line of a file, counted from 1, if there is one.
+///
+/// # Errors
+///
+/// A refused request for memory.
+pub fn first_bad_line(alloc: Global, bytes: &[u8]) -> Result<Option<usize>, AllocError>
+    ensures wrong { IfOk result (λ wrong. MatchOption wrong
+        ((rs : List RuleValue) × AreRules (lines bytes.now) rs)
+        (λ n. IsFirstBad (lines bytes.now) n)) }
+{
+    match read_rules(alloc, bytes) {
+        Ok(_) => Ok(None),
+        Err(RuleFileError::BadLine { line, .. }) => Ok(Some(line)),
+        Err(RuleFileError::OutOfMemory) => Err(AllocError),
+    }
+}
+
+// Needs lalrpop_rule_file::read_rules: rules.
+/// The lexer of a file of rules; `None` where the file isn't one.
+///
+/// # Errors
+///
+/// Why the rules give no lexer, and out of memory.
+pub fn lexer_of_file(alloc: Global, bytes: &[u8]) -> Result<Option<RuleLexer>, RulesError>
+    ensures names { IfOk result (λ found. IfSome found (λ lexer. (rs : List RuleValue)
+        × (AreRules (lines bytes.now) rs × (lexer.names ≡ names_of rs)))) }
+{
+    match read_rules(alloc, bytes) {
+        Ok(rules) => match RuleLexer::from_rules(alloc, &rules) {
+            Ok(lexer) => Ok(Some(lexer)),
+            Err(error) => Err(error),
+        },
+        Err(_) => Ok(None),
+    }
+}
+
+// Needs lalrpop_rule_file::RuleFileError::from: ghost from_gives.
+/// Refused memory is told as such.
+pub fn refused(error: AllocError) -> RuleFileError
+    ensures memory { result ≡ RuleFileError.OutOfMemory }
+{
+    RuleFileError::from(error)
+}
+
+// Needs lalrpop_rule_file::RuleFileError::from: ghost from_gives.
+/// One number more.
+///
+/// # Errors
+///
+/// Out of memory.
+pub fn add_number(numbers: &mut Vec<usize>, number: usize) -> Result<(), RuleFileError>
+    ensures memory { IfErr result (λ e. e ≡ RuleFileError.OutOfMemory) }
+{
+    numbers.push(number)?;
+    Ok(())
+}
