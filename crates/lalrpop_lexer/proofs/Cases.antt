@@ -3,6 +3,8 @@ mod Cutting
 mod LexerTokens
 mod Position
 mod Rules
+mod LexerErrors
+mod Spelled
 mod Lines
 pub mod Line
 pub mod Terminals

@@ -10,6 +10,8 @@ pub mod LineLemmas
 pub mod LineParts
 pub mod TerminalLemmas
 pub mod TerminalLaws
+-- texts and their trees
+pub mod SpelledTexts
 -- what the definitions mean: the clash, the list of clashes and the longest match are unique
 pub use Rattle.lalrpop_book.proofs.ClashLaws
 pub use Rattle.lalrpop_dfa.proofs.ClashListLaws

@@ -11,7 +11,7 @@ use Rattle.std.proofs.lemmas.Bool.{and_from}
 use Rattle.std.proofs.lemmas.Str.Parse.{IsNumeralModel, numerals_by_value, tells_digits, not_in_digits, digit_from_value}
 use Rattle.std.proofs.lemmas.Str.Pattern.{IsSplitOnceResult, split_after}
 use Rattle.lalrpop_lexer.specs.Line.{letter, IsLine}
-use Rattle.lalrpop_lexer.specs.declared.line.Kind.{Kind}
+use Rattle.lalrpop_lexer.specs.declared.form.Form.{Form}
 
 pub own : IsNumeralModel (AllDigits 10) (digits_value 10)
 own = numerals_by_value (AllDigits 10) tells_digits
@@ -22,9 +22,9 @@ shown-text (Ok t) s bytes Q e h = let same : s ≡ t = cc in sym (ap (λ u. u.no
 shown-text (Err x) s bytes Q e h = cc
 
 -- such a line, split at its first space
-pub line-split : (line : List ℕ) (n : ℕ) (kind : Kind) (text : List ℕ) (h : IsLine line n kind text) (r : Option (Bor (List ℕ) × Bor (List ℕ))) → IsSplitOnceResult 32 line r → MatchOption r ⊥ (λ x. (x.0.now ≡ h.digits) × (x.1.now ≡ letter kind ++ (codes " " ++ text)))
-line-split line n kind text h r s =
-    split_after 32 line h.digits (letter kind ++ (codes " " ++ text)) r s (lit< tt) h.parts
+pub line-split : (line : List ℕ) (n : ℕ) (form : Form) (text : List ℕ) (h : IsLine line n form text) (r : Option (Bor (List ℕ) × Bor (List ℕ))) → IsSplitOnceResult 32 line r → MatchOption r ⊥ (λ x. (x.0.now ≡ h.digits) × (x.1.now ≡ letter form ++ (codes " " ++ text)))
+line-split line n form text h r s =
+    split_after 32 line h.digits (letter form ++ (codes " " ++ text)) r s (lit< tt) h.parts
     (not_in_digits own h.digits 32 h.precedence.numeral.1 (λ r. omega (arith, r.0)))
 
 is_ascii_digit-true : (c : ℕ) → IsInRange 48 57 c → is_ascii_digit c ≡ true

@@ -6,10 +6,11 @@ use Rattle.std.specs.Str.Parse.{AllDigits, digits_value}
 use Rattle.std.proofs.lemmas.Str.Parse.{digit_from_value}
 use Rattle.lalrpop_book.specs.Tree.{Tree}
 use Rattle.lalrpop_re.proofs.PatternLaws.{one_tree}
-use Rattle.lalrpop_lexer.specs.Line.{letter, IsLine, Spells, LineSays}
+use Rattle.lalrpop_lexer.specs.Line.{letter, IsLine, LineSays}
+use Rattle.lalrpop_lexer.specs.Spelled.{Spells}
 use Rattle.lalrpop_lexer.specs.Terminals.{AreTerminals, FirstSays}
-use Rattle.lalrpop_lexer.specs.declared.line.Kind.{Kind}
-use Rattle.lalrpop_lexer.specs.declared.line.Kind.TheVariants.{Literal, Regex}
+use Rattle.lalrpop_lexer.specs.declared.form.Form.{Form}
+use Rattle.lalrpop_lexer.specs.declared.form.Form.TheVariants.{Literal, Pattern}
 use Rattle.lalrpop_lexer.specs.declared.meaning.Meaning.{Meaning}
 use Rattle.lalrpop_lexer.specs.declared.meaning.Meaning.TheVariants.{Bad, NoTree, Terminal}
 
@@ -28,34 +29,34 @@ cut-unique (x ∷ xs) (y ∷ ys) us vs h g e =
     let tail : xs ≡ ys = same.0 in
     (cc, same.1)
 
--- what follows the first space fixes the kind and the text
-kind-unique : (k l : Kind) (t u : List ℕ) → letter k ++ (codes " " ++ t) ≡ letter l ++ (codes " " ++ u) → (k ≡ l) × (t ≡ u)
-kind-unique Literal Literal t u e = (refl, cc)
-kind-unique Literal Regex t u e = let first : ◌≡◌ {A = ℕ} 108 114 = ap (λ (l : List ℕ). get_or l 0 0) e in absurd (omega arith)
-kind-unique Regex Literal t u e = let first : ◌≡◌ {A = ℕ} 114 108 = ap (λ (l : List ℕ). get_or l 0 0) e in absurd (omega arith)
-kind-unique Regex Regex t u e = (refl, cc)
+-- what follows the first space fixes the form and the text
+form-unique : (k l : Form) (t u : List ℕ) → letter k ++ (codes " " ++ t) ≡ letter l ++ (codes " " ++ u) → (k ≡ l) × (t ≡ u)
+form-unique Literal Literal t u e = (refl, cc)
+form-unique Literal Pattern t u e = let first : ◌≡◌ {A = ℕ} 108 114 = ap (λ (l : List ℕ). get_or l 0 0) e in absurd (omega arith)
+form-unique Pattern Literal t u e = let first : ◌≡◌ {A = ℕ} 114 108 = ap (λ (l : List ℕ). get_or l 0 0) e in absurd (omega arith)
+form-unique Pattern Pattern t u e = (refl, cc)
 
 -- a line splits into its parts in one way
-line-unique : (line : List ℕ) (n m : ℕ) (k l : Kind) (t u : List ℕ) → IsLine line n k t → IsLine line m l u → (n ≡ m) × ((k ≡ l) × (t ≡ u))
+line-unique : (line : List ℕ) (n m : ℕ) (k l : Form) (t u : List ℕ) → IsLine line n k t → IsLine line m l u → (n ≡ m) × ((k ≡ l) × (t ≡ u))
 line-unique line n m k l t u h g =
     let same = cut-unique h.digits g.digits (letter k ++ (codes " " ++ t)) (letter l ++ (codes " " ++ u)) h.precedence.numeral.1 g.precedence.numeral.1 (sym h.parts ∙ g.parts) in
-    (h.precedence.value ∙ ap (digits_value 10) same.0 ∙ sym g.precedence.value, kind-unique k l t u same.1)
+    (h.precedence.value ∙ ap (digits_value 10) same.0 ∙ sym g.precedence.value, form-unique k l t u same.1)
 
-tree-unique : (k : Kind) (text : List ℕ) (t u : Tree) → Spells k text t → Spells k text u → t ≡ u
+tree-unique : (k : Form) (text : List ℕ) (t u : Tree) → Spells k text t → Spells k text u → t ≡ u
 tree-unique Literal text t u h g = h ∙ sym g
-tree-unique Regex text t u h g = one_tree (chars text) t u h g
+tree-unique Pattern text t u h g = one_tree (chars text) t u h g
 
 no_tree_or_tree : (line : List ℕ) (p : ℕ) (t : Tree) → LineSays line NoTree → LineSays line (Terminal p t) → ⊥
 no_tree_or_tree line p t h g =
-    let same = line-unique line h.0 p Regex g.0 h.1.0 g.1.0 h.1.1.0 g.1.1.0 in
+    let same = line-unique line h.0 p Pattern g.0 h.1.0 g.1.0 h.1.1.0 g.1.1.0 in
     let as_pattern = subst (λ k. Spells k g.1.0 t) (sym same.1.0) g.1.1.1 in
-    h.1.1.1 t (subst (λ text. Spells Regex text t) (sym same.1.1) as_pattern)
+    h.1.1.1 t (subst (λ text. Spells Pattern text t) (sym same.1.1) as_pattern)
 
 terminal-unique : (line : List ℕ) (p q : ℕ) (t u : Tree) → LineSays line (Terminal p t) → LineSays line (Terminal q u) → Terminal p t ≡ Terminal q u
 terminal-unique line p q t u h g =
     let same = line-unique line p q h.0 g.0 h.1.0 g.1.0 h.1.1.0 g.1.1.0 in
-    let of_kind = subst (λ k. Spells k g.1.0 u) (sym same.1.0) g.1.1.1 in
-    let of_text = subst (λ text. Spells h.0 text u) (sym same.1.1) of_kind in
+    let of_form = subst (λ k. Spells k g.1.0 u) (sym same.1.0) g.1.1.1 in
+    let of_text = subst (λ text. Spells h.0 text u) (sym same.1.1) of_form in
     let trees : t ≡ u = tree-unique h.0 h.1.0 t u h.1.1.1 of_text in
     let numbers : p ≡ q = same.0 in
     cc
@@ -63,9 +64,9 @@ terminal-unique line p q t u h g =
 -- a line says only one thing
 says-unique : (line : List ℕ) (a b : Meaning) → LineSays line a → LineSays line b → a ≡ b
 says-unique line Bad Bad h g = refl
-says-unique line Bad NoTree h g = absurd (h g.0 Regex g.1.0 g.1.1.0)
+says-unique line Bad NoTree h g = absurd (h g.0 Pattern g.1.0 g.1.1.0)
 says-unique line Bad (Terminal q u) h g = absurd (h q g.0 g.1.0 g.1.1.0)
-says-unique line NoTree Bad h g = absurd (g h.0 Regex h.1.0 h.1.1.0)
+says-unique line NoTree Bad h g = absurd (g h.0 Pattern h.1.0 h.1.1.0)
 says-unique line NoTree NoTree h g = refl
 says-unique line NoTree (Terminal q u) h g = absurd (no_tree_or_tree line q u h g)
 says-unique line (Terminal p t) Bad h g = absurd (g p h.0 h.1.0 h.1.1.0)

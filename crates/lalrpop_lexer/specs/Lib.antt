@@ -4,6 +4,8 @@ pub mod Counting
 pub mod LinearCutting
 pub mod Position
 pub mod Rules
+pub mod LexerErrors
+pub mod Spelled
 pub mod Lines
 pub mod Line
 pub mod Terminals

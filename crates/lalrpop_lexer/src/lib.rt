@@ -7,12 +7,15 @@
 
 mod counted;
 mod cut;
+mod error;
+mod form;
 pub mod lexer;
 mod lexer_token;
 mod line;
 mod linear;
 mod longest;
 mod meaning;
+mod patterns;
 mod position;
 mod rules;
 mod terminals;
@@ -20,6 +23,8 @@ mod token;
 
 pub use counted::CountedTokens;
 pub use cut::tokens;
+pub use error::LexerError;
+pub use form::Form;
 pub use lalrpop_book::{Token, TokenFault};
 pub use lalrpop_kernels as kernel_set;
 pub use lexer_token::LexerTokens;

@@ -5,6 +5,8 @@ ghost use Rattle.std.specs.List.{list_all};
 ghost use Rattle.lalrpop_lexer.specs.Lines.{lines};
 ghost use Rattle.lalrpop_lexer.specs.Line.{IsPrecedence, letter, IsLine};
 
+use crate::form::Form;
+
 // Enough for each `usize`, with leading zeros if it is shorter.
 const MAX_DIGITS: usize = 20;
 
@@ -49,37 +51,28 @@ fn precedence_of(digits: &str) -> Option<usize>
     digits.parse().ok()
 }
 
-/// How the text of a line is read.
-#[derive(Clone, Copy)]
-pub enum Kind {
-    /// As it is: no character is special.
-    Literal,
-    /// As a pattern.
-    Regex,
-}
-
-// The kind and the text of `l TEXT` or `r PATTERN`.
-fn kind_of(rest: &str) -> Option<(Kind, &str)>
+// The form and the text of `l TEXT` or `r PATTERN`.
+fn form_of(rest: &str) -> Option<(Form, &str)>
     ensures some { IfSome result (λ m. rest.now ≡ letter m.0 ++ (codes " " ++ m.1.now)) }
-    ensures none { IfNone result ((kind : Kind) (text : List ℕ)
-        → rest.now ≢ letter kind ++ (codes " " ++ text)) }
+    ensures none { IfNone result ((form : Form) (text : List ℕ)
+        → rest.now ≢ letter form ++ (codes " " ++ text)) }
 {
     if let Some(text) = rest.strip_prefix("l ") {
-        return Some((Kind::Literal, text));
+        return Some((Form::Literal, text));
     }
     let text = rest.strip_prefix("r ")?;
-    Some((Kind::Regex, text))
+    Some((Form::Pattern, text))
 }
 
-/// The precedence, the kind and the text of a line `P l TEXT` or `P r PATTERN`; None if the line is bad.
-pub fn line_parts(line: &[u8]) -> Option<(usize, Kind, &str)>
+/// The precedence, the form and the text of a line `P l TEXT` or `P r PATTERN`; None where the line is bad.
+pub fn line_parts(line: &[u8]) -> Option<(usize, Form, &str)>
     ensures some { IfSome result (λ m. IsLine line.now m.0 m.1 m.2.now) }
     ensures none { IfNone result
-        ((n : ℕ) (kind : Kind) (text : List ℕ) → ¬ IsLine line.now n kind text) }
+        ((n : ℕ) (form : Form) (text : List ℕ) → ¬ IsLine line.now n form text) }
 {
     let line = str::from_utf8(line).ok()?;
     let (digits, rest) = line.split_once(' ')?;
-    let (kind, text) = kind_of(rest)?;
+    let (form, text) = form_of(rest)?;
     let precedence = precedence_of(digits)?;
-    Some((precedence, kind, text))
+    Some((precedence, form, text))
 }

@@ -1,11 +1,10 @@
 //! What a line says: the tree of its terminal.
-ghost use Rattle.std.specs.Prelude.{◌≡◌, ◌≢◌, IfOk, IfErr};
-ghost use Rattle.std.specs.Str.{chars};
-ghost use Rattle.lalrpop_re.specs.Refusal.{HasNoTree};
-ghost use Rattle.lalrpop_lexer.specs.Line.{Spells, LineSays};
+ghost use Rattle.std.specs.Prelude.{IfOk};
+ghost use Rattle.lalrpop_lexer.specs.Line.{LineSays};
 
-use crate::line::{Kind, line_parts};
-use lalrpop_re::{Regex, RegexError, parse_literal, parse_regex};
+use crate::form::tree_of;
+use crate::line::line_parts;
+use lalrpop_re::{Regex, RegexError};
 use std::alloc::{AllocError, Global};
 
 /// What a line says.
@@ -19,18 +18,6 @@ pub enum Meaning {
     Terminal { precedence: usize, regex: Regex },
 }
 
-// The tree of a line's text.
-fn tree_of(alloc: Global, kind: Kind, text: &str) -> Result<Regex, RegexError>
-    ensures tree { IfOk result (λ t. Spells kind text.now t) }
-    ensures pattern { IfErr result (λ e. e ≢ RegexError.OutOfMemory → kind ≡ Kind.Regex) }
-    ensures none { IfErr result (HasNoTree (chars text.now)) }
-{
-    match kind {
-        Kind::Literal => parse_literal(alloc, text),
-        Kind::Regex => parse_regex(alloc, text),
-    }
-}
-
 /// What the line says. A line whose pattern doesn't parse is `NoTree`, and not `Bad`.
 ///
 /// # Errors
@@ -39,10 +26,10 @@ fn tree_of(alloc: Global, kind: Kind, text: &str) -> Result<Regex, RegexError>
 pub fn meaning_of(alloc: Global, line: &[u8]) -> Result<Meaning, AllocError>
     ensures said { IfOk result (λ meaning. LineSays line.now meaning) }
 {
-    let Some((precedence, kind, text)) = line_parts(line) else {
+    let Some((precedence, form, text)) = line_parts(line) else {
         return Ok(Meaning::Bad);
     };
-    match tree_of(alloc, kind, text) {
+    match tree_of(alloc, form, text) {
         Ok(regex) => Ok(Meaning::Terminal { precedence, regex }),
         Err(RegexError::Syntax { .. }) => Ok(Meaning::NoTree),
         Err(RegexError::OutOfMemory) => Err(AllocError),

@@ -6,8 +6,8 @@ use Rattle.std.specs.Str.Pattern.{RFindsChar, SplitsAroundMatch}
 use Rattle.std.proofs.lemmas.Bool.{false≢true}
 use Rattle.std.proofs.lemmas.List.{take-append-drop}
 use Rattle.std.proofs.lemmas.Str.Pattern.{NoCharPasses-char, drop_at_char}
-use Rattle.lalrpop_rules.specs.declared.rule.Form.{Form}
-use Rattle.lalrpop_rules.specs.declared.rule.Form.TheVariants.{Literal, Pattern}
+use Rattle.lalrpop_lexer.specs.declared.form.Form.{Form}
+use Rattle.lalrpop_lexer.specs.declared.form.Form.TheVariants.{Literal, Pattern}
 use Rattle.lalrpop_rule_file.specs.RuleLine.{AreBlanks, is_blank, delimiter}
 use Rattle.lalrpop_rule_file.specs.Internal.Spans.{IsSpan}
 use Rattle.lalrpop_rule_file.specs.Internal.Parts.{IsClosed, IsQuoted}

@@ -6,8 +6,8 @@ use Rattle.std.specs.Str.Parse.{AllDigits, digits_value}
 use Rattle.std.proofs.lemmas.Bool.{false≢true}
 use Rattle.std.proofs.lemmas.Str.Parse.{digit_from_value}
 use Rattle.lalrpop_lexer.specs.Line.{IsPrecedence}
-use Rattle.lalrpop_rules.specs.declared.rule.Form.{Form}
-use Rattle.lalrpop_rules.specs.declared.rule.Form.TheVariants.{Literal, Pattern}
+use Rattle.lalrpop_lexer.specs.declared.form.Form.{Form}
+use Rattle.lalrpop_lexer.specs.declared.form.Form.TheVariants.{Literal, Pattern}
 use Rattle.lalrpop_rule_file.specs.RuleLine.{EachByte, AreBlanks, is_blank, delimiter, IsWritten, IsRight}
 use Rattle.lalrpop_rule_file.specs.Internal.Spans.{Stops, IsSpan}
 use Rattle.lalrpop_rule_file.specs.Internal.Parts.{IsNumbered, IsQuoted}

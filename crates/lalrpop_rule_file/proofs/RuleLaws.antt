@@ -1,6 +1,6 @@
 -- What the lines of a file of rules say is one.
 use Rattle.std.proofs.Common.{◌≡◌, ℕ, zero, suc, Option, Some, None, List, [], ◌∷◌, refl, sym, ap, subst, ◌∙◌, inl, inr}
-use Rattle.lalrpop_rules.specs.declared.rule.Form.{Form}
+use Rattle.lalrpop_lexer.specs.declared.form.Form.{Form}
 use Rattle.lalrpop_rules.specs.declared.rule.Rule.{Rule}
 use Rattle.lalrpop_rule_file.specs.RuleLine.{precedence_or, IsRight, IsRule}
 use Rattle.lalrpop_rule_file.specs.RuleFile.{without_return, IsBlankOrComment, AreRules, IsFirstBad}

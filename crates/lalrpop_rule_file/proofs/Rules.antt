@@ -1,6 +1,6 @@
 -- A line that is no rule.
 use Rattle.std.proofs.Common.{ℕ, Bool, Option, List, subst}
-use Rattle.lalrpop_rules.specs.declared.rule.Form.{Form}
+use Rattle.lalrpop_lexer.specs.declared.form.Form.{Form}
 use Rattle.lalrpop_rules.specs.declared.rule.Rule.{Rule}
 use Rattle.lalrpop_rule_file.specs.RuleLine.{IsLeft, IsRight, IsRule}
 use Rattle.lalrpop_rule_file.proofs.Lefts.{right_unique}

@@ -3,8 +3,8 @@
 use Rattle.std.specs.Prelude.{◌≡◌, ℕ, ◌<◌, Bool, true, false, ◌==◌, ◌||◌, Option, Some, None, List, [], ◌∷◌, ◌++◌, length, codes}
 use Rattle.std.specs.Char.{is_ascii_alphabetic, is_ascii_alphanumeric}
 use Rattle.lalrpop_lexer.specs.Line.{IsPrecedence}
-use Rattle.lalrpop_rules.specs.declared.rule.Form.{Form}
-use Rattle.lalrpop_rules.specs.declared.rule.Form.TheVariants.{Literal, Pattern}
+use Rattle.lalrpop_lexer.specs.declared.form.Form.{Form}
+use Rattle.lalrpop_lexer.specs.declared.form.Form.TheVariants.{Literal, Pattern}
 use Rattle.lalrpop_rules.specs.declared.rule.Rule.{Rule}
 
 -- each byte passes the test

@@ -8,7 +8,7 @@ ghost use Rattle.std.specs.Char.{is_ascii_digit};
 ghost use Rattle.lalrpop_rule_file.specs.RuleFile.{IsBlankOrComment, Says};
 ghost use Rattle.std.specs.Bool.{MatchBool};
 ghost use Rattle.lalrpop_rules.specs.declared.rule.Rule.{Rule as RuleValue};
-ghost use Rattle.lalrpop_rules.specs.declared.rule.Form.{Form as FormValue};
+ghost use Rattle.lalrpop_lexer.specs.declared.form.Form.{Form as FormValue};
 
 use crate::error::LineFault;
 use crate::span::{Class, split_front};

@@ -3,8 +3,6 @@ mod Cases
 pub mod FirstMatches
 -- what follows from the promises, for callers
 pub mod CallerLaws
--- the trees of rules
-pub mod RuleTrees
 -- the pieces of a text
 pub mod Fronts
 pub mod PieceLaws

@@ -10,8 +10,8 @@ use thiserror::Error;
 /// Why some rules give no lexer. Rules are counted from 0.
 #[derive(Debug, Drop, Error)]
 pub enum RulesError {
-    /// The text of this rule is no pattern: `kind` says why, and `position` where, as an offset in bytes.
-    #[error("rule {rule} is no pattern: {kind:?} at byte {position}")]
+    /// The text of this rule does not parse: `kind` says why, and `position` where, as an offset in bytes.
+    #[error("the text of rule {rule} does not parse: {kind:?} at byte {position}")]
     NoPattern {
         rule: usize,
         position: usize,

@@ -2,16 +2,8 @@
 
 ghost use Rattle.std.specs.Prelude.{◌≡◌, true, false};
 
+use lalrpop_lexer::Form;
 use lalrpop_lexer::lexer::dfa::Precedence;
-
-/// How the text of a rule is meant.
-#[derive(Clone, Copy, Debug, PartialEq, Eq)]
-pub enum Form {
-    /// As it stands.
-    Literal,
-    /// As a pattern.
-    Pattern,
-}
 
 /// A named rule.
 #[derive(Clone, Copy, Debug, PartialEq, Eq)]

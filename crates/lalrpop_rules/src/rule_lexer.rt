@@ -1,25 +1,26 @@
 //! A lexer of named rules.
 
-ghost use Rattle.std.specs.Prelude.{◌≡◌, ◌≤◌, ◌++◌, ℕ, List, Option, None, length, slice_get, option_map, IfOk, IfErr, IsSome};
+ghost use Rattle.std.specs.Prelude.{◌≡◌, ◌<◌, ◌≤◌, ◌++◌, ℕ, List, Option, None, length, slice_get, option_map, IfOk, IfErr, IfSome, IfNone, IsSome};
 ghost use Rattle.std.specs.Iterator.{Drains, Yields};
 ghost use Rattle.std.specs.Str.{chars};
 ghost use Rattle.lalrpop_book.specs.Clash.{NoClash};
 ghost use Rattle.lalrpop_book.specs.Report.{NoFault};
 ghost use Rattle.lalrpop_book.specs.Tokens.{IsToken, AreTokens};
 ghost use Rattle.lalrpop_book.specs.declared.token.Token.{Token as TokenValue};
+ghost use Rattle.lalrpop_rules.specs.Found.{IsFound, NothingFound};
 ghost use Rattle.lalrpop_rules.specs.Pieces.{ArePieces, AreApart, joined, up_to_fault};
 ghost use Rattle.lalrpop_rules.specs.CutToEnd.{CutToEnd, uncut, left_text, GivesPiece};
 ghost use Rattle.lalrpop_rules.specs.RuleSet.{AreTrees, IsRulesError, names_of, precedences_of, skips_of, recognized};
-ghost use Rattle.lalrpop_rules.specs.Internal.Reported.{SaysTheSame};
+ghost use Rattle.lalrpop_rules.specs.Internal.Reported.{NamesPattern, as_patterns};
 ghost use Rattle.lalrpop_rules.specs.declared.item.Item.{Item as ItemValue};
 
-use crate::cut;
 use crate::error::RulesError;
 use crate::pieces::Items;
-use crate::reading::{name_list, precedence_list, skip_list, trees_of};
+use crate::reading::{name_list, patterns_of, skip_list};
 use crate::rule::Rule;
-use lalrpop_lexer::Lexer;
-use lalrpop_lexer::lexer::dfa::{DfaConstructionError, NfaIndex};
+use crate::{cut, leftmost};
+use lalrpop_lexer::lexer::dfa::NfaIndex;
+use lalrpop_lexer::{Lexer, LexerError, Token};
 use std::alloc::Global;
 use std::marker::Model;
 
@@ -51,25 +52,36 @@ impl Model for RuleLexer {
     ghost invariant = { λ l. length l.names.items ≡ length l.lexer.trees };
 }
 
-// What the construction reports of the rules.
-fn reported(error: DfaConstructionError) -> RulesError
-    ensures same { SaysTheSame error result }
+// What is reported of the rules, by what is reported of their patterns.
+fn reported(error: LexerError) -> RulesError
+    requires listed { NamesPattern error }
+    ensures same { error ≡ as_patterns result }
 {
     match error {
-        DfaConstructionError::NfaConstructionError { index, error } => RulesError::NotCompiled {
-            rule: index.index(),
+        LexerError::Syntax { .. } => unreachable!(),
+        LexerError::NotParsed {
+            pattern,
+            position,
+            kind,
+        } => RulesError::NoPattern {
+            rule: pattern,
+            position,
+            kind,
+        },
+        LexerError::NotCompiled { pattern, error } => RulesError::NotCompiled {
+            rule: pattern,
             error,
         },
-        DfaConstructionError::Ambiguity {
-            match0,
-            match1,
+        LexerError::Clash {
+            pattern,
+            other,
             word,
         } => RulesError::Clash {
-            rule: match0.index(),
-            other: match1.index(),
+            rule: pattern,
+            other,
             word,
         },
-        DfaConstructionError::OutOfMemory => RulesError::OutOfMemory,
+        LexerError::OutOfMemory => RulesError::OutOfMemory,
     }
 }
 
@@ -78,7 +90,7 @@ impl RuleLexer {
     ///
     /// # Errors
     ///
-    /// The first rule whose text is no pattern; else the first that can't be compiled; else the two last strongest rules on
+    /// The first rule whose text does not parse; else the first that can't be compiled; else the two last strongest rules on
     /// the shortest, then least, word that has no one strongest rule; and out of memory.
     pub fn from_rules(alloc: Global, rules: &[Rule]) -> Result<RuleLexer, RulesError>
         ensures names { IfOk result (λ lexer. lexer.names ≡ names_of rules.now) }
@@ -90,11 +102,10 @@ impl RuleLexer {
         ensures no_clash { IfOk result (λ lexer. NoClash lexer.trees lexer.precedences) }
         ensures error { IfErr result (λ e. IsRulesError rules.now e) }
     {
-        let trees = trees_of(alloc, rules)?;
-        let precedences = precedence_list(alloc, rules)?;
+        let patterns = patterns_of(alloc, rules)?;
         let skips = skip_list(alloc, rules)?;
         let names = name_list(alloc, rules)?;
-        match Lexer::new(alloc, trees, precedences) {
+        match Lexer::from_patterns(alloc, &patterns) {
             Ok(lexer) => Ok(RuleLexer {
                 names,
                 skips,
@@ -129,6 +140,20 @@ impl RuleLexer {
             Some(name) => Some(name.as_str()),
             None => None,
         }
+    }
+
+    /// The token at the first place of the text where some rule matches, skipped or not: the longest nonempty match from
+    /// there on, with the one rule of the greatest precedence that matches it, which has a name. `None` where no rule
+    /// matches anywhere.
+    ///
+    /// No memory is taken. It costs what `find` does.
+    pub fn find<'text>(&self, text: &'text str) -> Option<Token<'text>>
+        ensures found { IfSome result (λ token.
+            IsFound self.now.trees self.now.precedences text.now token) }
+        ensures none { IfNone result (NothingFound self.now.trees text.now) }
+        ensures named { IfSome result (λ token. token.index < length self.now.names) }
+    {
+        leftmost::find(&self.lexer, text)
     }
 
     /// The pieces of the text, from its beginning to its end, whatever it is: where a rule matches, the token there, which

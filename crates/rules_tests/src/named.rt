@@ -48,6 +48,26 @@ fn named(alloc: Global, text: &str) -> Result<String> {
     Ok(line)
 }
 
+const FOUND: &str = r#"
+if a => IF "if" 0
+?? iffy => SPACE " " 2
+é==if => EQUAL "==" 2
+?!? => None
+ => None
+"#;
+
+// The name of the rule that matches first, and where it does.
+fn first(alloc: Global, text: &str) -> Result<String> {
+    let lexer = lexer(alloc)?;
+    match lexer.find(text) {
+        Some(token) => {
+            let name = lexer.name(token.index).unwrap_or("no name");
+            Ok(format!(in alloc; "{name} {:?} {}", token.slice, token.start)?)
+        }
+        None => Ok(String::from_str(alloc, "None")?),
+    }
+}
+
 // The error of two rules of which one is the text, and the other the name `a`.
 fn refused(alloc: Global, text: &str) -> Result<String> {
     let rules = [Rule::pattern("A", "a"), Rule::pattern("OTHER", text)];
@@ -74,7 +94,7 @@ a<&"> => <span class="NAME">a</span><span class="fault">&lt;&amp;&quot;&gt;</spa
 const REFUSED: &str = r#"
 b => none
 [a-c] => 1 0 [97]
-(b => rule 1 is no pattern: UnclosedGroup at byte 0
+(b => the text of rule 1 does not parse: UnclosedGroup at byte 0
 b*? => rule 1 can't be compiled: NonGreedy
 "#;
 
@@ -83,6 +103,15 @@ fn texts_are_cut_by_named_rules(rt: HostRuntime) {
     for row in CUT.trim_matches('\n').lines() {
         let (text, wanted) = halves(row, " => ");
         let found = named(rt.alloc(), text).expect(&rt, "memory");
+        assert_eq!(&rt; found.as_str(), wanted);
+    }
+}
+
+#[test]
+fn first_matches_have_names(rt: HostRuntime) {
+    for row in FOUND.trim_matches('\n').lines() {
+        let (text, wanted) = halves(row, " => ");
+        let found = first(rt.alloc(), text).expect(&rt, "memory");
         assert_eq!(&rt; found.as_str(), wanted);
     }
 }

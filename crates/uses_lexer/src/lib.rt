@@ -2,6 +2,7 @@
 #![tactic(auto)]
 
 pub mod build_a_lexer;
+pub mod build_from_texts;
 pub mod count_places;
 pub mod cut_a_text;
 pub mod cut_by_automaton;

@@ -1,10 +1,10 @@
 //! The leftmost longest match anywhere in a text.
-ghost use Rattle.std.specs.Prelude.{◌≡◌, ℕ, true, IfSome, IfNone, length};
+ghost use Rattle.std.specs.Prelude.{◌≡◌, ℕ, true, Some, IfSome, IfNone, length, slice_get};
 ghost use Rattle.lalrpop_rules.specs.Found.{MatchesAt, IsFound, NothingFound};
 ghost use Rattle.lalrpop_book.specs.declared.token.Token.{Token as TokenValue};
 
 use lalrpop_lexer::Lexer;
-use lalrpop_rules::find;
+use lalrpop_rules::{RuleLexer, find};
 
 // Needs lalrpop_rules::find: found, none.
 /// Where the first match begins, and its length, both in bytes.
@@ -28,5 +28,22 @@ pub fn contains(lexer: &Lexer, text: &str) -> bool
     match find(lexer, text) {
         Some(_) => true,
         None => false,
+    }
+}
+
+// Needs lalrpop_rules::RuleLexer::find: found, none, named.
+/// Where the first match of some rule begins, and the name of the rule.
+pub fn first_name<'rules>(lexer: &'rules RuleLexer, text: &str) -> Option<(usize, &'rules str)>
+    ensures found { IfSome result (λ m. (token : TokenValue)
+        × (IsFound lexer.now.trees lexer.now.precedences text.now token
+        × (m.0 ≡ token.start) × (slice_get lexer.now.names token.index ≡ Some m.1.now))) }
+    ensures none { IfNone result (NothingFound lexer.now.trees text.now) }
+{
+    match lexer.find(text) {
+        Some(token) => match lexer.name(token.index) {
+            Some(name) => Some((token.start, name)),
+            None => None,
+        },
+        None => None,
     }
 }

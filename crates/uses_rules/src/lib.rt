@@ -4,6 +4,7 @@
 pub mod cut_by_rules;
 pub mod cut_to_the_end;
 pub mod find_a_match;
+pub mod follow_laws;
 pub mod name_rules;
 pub mod read_a_file;
 pub mod show_a_text;

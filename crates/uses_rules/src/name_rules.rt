@@ -9,7 +9,8 @@ ghost use Rattle.lalrpop_book.specs.declared.token.Token.{Token as TokenValue};
 ghost use Rattle.lalrpop_lexer.specs.Parts.{of_text};
 ghost use Rattle.lalrpop_lexer.specs.Pattern.{Pattern};
 ghost use Rattle.lalrpop_rules.specs.Found.{IsFound};
-ghost use Rattle.lalrpop_rules.specs.RuleSet.{Spells, AreTrees, IsRulesError, names_of, precedences_of, skips_of};
+ghost use Rattle.lalrpop_lexer.specs.Spelled.{Spells};
+ghost use Rattle.lalrpop_rules.specs.RuleSet.{AreTrees, IsRulesError, names_of, precedences_of, skips_of};
 
 use lalrpop_lexer::Token;
 use lalrpop_rules::{Rule, RuleLexer, RulesError, find};

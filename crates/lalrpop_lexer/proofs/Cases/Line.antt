@@ -4,15 +4,16 @@ use Rattle.std.specs.Char.{digit_value}
 use Rattle.std.specs.Str.{chars}
 use Rattle.std.specs.Str.Parse.{AllDigits, digits_value}
 use Rattle.std.proofs.lemmas.Str.Parse.{digit_from_value}
-use Rattle.lalrpop_book.specs.Tree.{Tree, empty, literal}
+use Rattle.lalrpop_book.specs.Tree.{Tree, empty}
 use Rattle.lalrpop_hir.specs.Parts.{of_text}
 use Rattle.lalrpop_re.specs.GroupName.{names}
 use Rattle.lalrpop_re.specs.Pattern.{Pattern, no_piece, last_branch, of_branches}
 use Rattle.lalrpop_grammar.specs.Internal.Reading as reading
 use Rattle.lalrpop_re.proofs.PatternLaws.{missing}
-use Rattle.lalrpop_lexer.specs.Line.{IsPrecedence, letter, IsLine, Spells, LineSays}
-use Rattle.lalrpop_lexer.specs.declared.line.Kind.{Kind}
-use Rattle.lalrpop_lexer.specs.declared.line.Kind.TheVariants.{Literal, Regex}
+use Rattle.lalrpop_lexer.specs.Line.{IsPrecedence, letter, IsLine, LineSays}
+use Rattle.lalrpop_lexer.specs.Spelled.{Spells}
+use Rattle.lalrpop_lexer.specs.declared.form.Form.{Form}
+use Rattle.lalrpop_lexer.specs.declared.form.Form.TheVariants as forms
 use Rattle.lalrpop_lexer.specs.declared.meaning.Meaning.TheVariants.{Bad, NoTree, Terminal}
 
 -- ---- precedences
@@ -47,18 +48,18 @@ not_another_number h = let v : 21 ≡ 12 = h.value in omega (arith, v)
 
 -- ---- lines
 
-letters_of_kinds : (letter Literal ≡ codes "l") × (letter Regex ≡ codes "r")
-letters_of_kinds = (refl, refl)
+letters_of_forms : (letter forms.Literal ≡ codes "l") × (letter forms.Pattern ≡ codes "r")
+letters_of_forms = (refl, refl)
 
 zero_is_a_precedence : IsPrecedence (codes "0") 0
 zero_is_a_precedence = record { numeral = (omega arith, (omega arith, tt)); short = omega arith; value = refl; fits = omega arith }
 
 -- `0 l a` is a line of a literal, and `0 r ` one of the empty pattern
-pub line_of_a_literal : IsLine (codes "0 l a") 0 Literal (codes "a")
+pub line_of_a_literal : IsLine (codes "0 l a") 0 forms.Literal (codes "a")
 unfolding lib.Utf8.encode
 line_of_a_literal = record { digits = codes "0"; parts = refl; precedence = zero_is_a_precedence; utf8 = (codes "0 l a", (refl, refl)) }
 
-line_of_the_empty_pattern : IsLine (codes "0 r ") 0 Regex []
+line_of_the_empty_pattern : IsLine (codes "0 r ") 0 forms.Pattern []
 unfolding lib.Utf8.encode
 line_of_the_empty_pattern = record { digits = codes "0"; parts = refl; precedence = zero_is_a_precedence; utf8 = (codes "0 r ", (refl, refl)) }
 
@@ -67,56 +68,43 @@ no_digit : (c : ℕ) → digit_value c < 10 → c ≡ 32 → ⊥
 no_digit c h e = omega (arith, (digit_from_value c h).0, e)
 
 -- `0 l a` has no other precedence
-pub line_has_one_precedence : (n : ℕ) (kind : Kind) (text : List ℕ) → IsLine (codes "0 l a") n kind text → n ≡ 0
-line_has_one_precedence n kind text h = by_digits h.digits h.parts h.precedence.numeral.1 h.precedence.value
+pub line_has_one_precedence : (n : ℕ) (form : Form) (text : List ℕ) → IsLine (codes "0 l a") n form text → n ≡ 0
+line_has_one_precedence n form text h = by_digits h.digits h.parts h.precedence.numeral.1 h.precedence.value
   where
-    by_digits : (ds : List ℕ) → codes "0 l a" ≡ ds ++ (codes " " ++ (letter kind ++ (codes " " ++ text))) → AllDigits 10 ds → n ≡ digits_value 10 ds → n ≡ 0
+    by_digits : (ds : List ℕ) → codes "0 l a" ≡ ds ++ (codes " " ++ (letter form ++ (codes " " ++ text))) → AllDigits 10 ds → n ≡ digits_value 10 ds → n ≡ 0
     by_digits [] e all v = let k : 48 ≡ 32 = ap (λ u. get_or u 0 0) e in absurd (omega (arith, k))
     by_digits (d ∷ []) e all v = let k : 48 ≡ d = ap (λ u. get_or u 0 0) e in subst (λ x. n ≡ digits_value 10 (x ∷ [])) (sym k) v
     by_digits (d ∷ c ∷ ds) e all v = let k : 32 ≡ c = ap (λ u. get_or u 1 0) e in absurd (no_digit c all.1.0 (sym k))
 
 -- `x` is not a line
-pub x_is_no_line : (n : ℕ) (kind : Kind) (text : List ℕ) → ¬ IsLine (codes "x") n kind text
-x_is_no_line n kind text h = by_digits h.digits h.parts
+pub x_is_no_line : (n : ℕ) (form : Form) (text : List ℕ) → ¬ IsLine (codes "x") n form text
+x_is_no_line n form text h = by_digits h.digits h.parts
   where
-    by_digits : (ds : List ℕ) → codes "x" ≡ ds ++ (codes " " ++ (letter kind ++ (codes " " ++ text))) → ⊥
+    by_digits : (ds : List ℕ) → codes "x" ≡ ds ++ (codes " " ++ (letter form ++ (codes " " ++ text))) → ⊥
     by_digits [] e = let k : 120 ≡ 32 = ap (λ u. get_or u 0 0) e in omega (arith, k)
     by_digits (d ∷ []) e = absurd (cc)
     by_digits (d ∷ c ∷ ds) e = absurd (cc)
 
 -- `0 x a` is not one: the letter must be `l` or `r`
-other_letter_is_in_no_line : (n : ℕ) (kind : Kind) (text : List ℕ) → ¬ IsLine (codes "0 x a") n kind text
-other_letter_is_in_no_line n kind text h = by_digits h.digits kind h.parts h.precedence.numeral.1
+other_letter_is_in_no_line : (n : ℕ) (form : Form) (text : List ℕ) → ¬ IsLine (codes "0 x a") n form text
+other_letter_is_in_no_line n form text h = by_digits h.digits form h.parts h.precedence.numeral.1
   where
-    by_digits : (ds : List ℕ) (k : Kind) → codes "0 x a" ≡ ds ++ (codes " " ++ (letter k ++ (codes " " ++ text))) → AllDigits 10 ds → ⊥
+    by_digits : (ds : List ℕ) (k : Form) → codes "0 x a" ≡ ds ++ (codes " " ++ (letter k ++ (codes " " ++ text))) → AllDigits 10 ds → ⊥
     by_digits [] k e all = let m : 48 ≡ 32 = ap (λ u. get_or u 0 0) e in omega (arith, m)
-    by_digits (d ∷ []) Literal e all = let m : 120 ≡ 108 = ap (λ u. get_or u 2 0) e in omega (arith, m)
-    by_digits (d ∷ []) Regex e all = let m : 120 ≡ 114 = ap (λ u. get_or u 2 0) e in omega (arith, m)
+    by_digits (d ∷ []) forms.Literal e all = let m : 120 ≡ 108 = ap (λ u. get_or u 2 0) e in omega (arith, m)
+    by_digits (d ∷ []) forms.Pattern e all = let m : 120 ≡ 114 = ap (λ u. get_or u 2 0) e in omega (arith, m)
     by_digits (d ∷ c ∷ ds) k e all = let m : 32 ≡ c = ap (λ u. get_or u 1 0) e in absurd (no_digit c all.1.0 (sym m))
 
 -- ---- what a line says
 
--- a literal spells its text, whatever characters it has
-literal_spells_its_text : Spells Literal (codes "a*") (literal (codes "a*"))
-unfolding chars
-literal_spells_its_text = refl
-
-abbrev first_of : Tree → ℕ
-first_of (literal cs) = get_or cs 0 0
-first_of t = 0
-
-literal_does_not_spell_another_text : ¬ Spells Literal (codes "a") (literal (codes "b"))
-unfolding chars
-literal_does_not_spell_another_text e = let m : 98 ≡ 97 = ap first_of e in omega (arith, m)
-
 -- the empty pattern spells the empty tree
-empty_pattern_spells_the_empty_tree : Spells Regex [] empty
+empty_pattern_spells_the_empty_tree : Spells forms.Pattern [] empty
 unfolding chars names
 empty_pattern_spells_the_empty_tree = record { flags = _; levels = _; reads = of_branches (last_branch (no_piece refl) refl); flat = lit≤ tt; distinct = refl }
 
 -- `0 l a` says that the literal `a` is a terminal of the precedence 0
 pub line_says_a_literal : LineSays (codes "0 l a") (Terminal 0 (of_text (codes "a")))
-line_says_a_literal = (Literal, (codes "a", (line_of_a_literal, refl)))
+line_says_a_literal = (forms.Literal, (codes "a", (line_of_a_literal, refl)))
 
 -- not of another precedence
 pub line_does_not_say_another_precedence : (t : Tree) → ¬ LineSays (codes "0 l a") (Terminal 1 t)
@@ -124,7 +112,7 @@ line_does_not_say_another_precedence t h = let e = line_has_one_precedence 1 h.0
 
 -- and isn't bad
 pub line_of_a_literal_is_not_bad : ¬ LineSays (codes "0 l a") Bad
-line_of_a_literal_is_not_bad h = h 0 Literal (codes "a") line_of_a_literal
+line_of_a_literal_is_not_bad h = h 0 forms.Literal (codes "a") line_of_a_literal
 
 -- `x` is
 pub x_is_bad : LineSays (codes "x") Bad
@@ -134,7 +122,7 @@ pub x_says_no_terminal : (n : ℕ) (t : Tree) → ¬ LineSays (codes "x") (Termi
 x_says_no_terminal n t h = x_is_no_line n h.0 h.1.0 h.1.1.0
 
 -- `0 r *a` is a line whose pattern doesn't parse, since an operator must have something before it
-line_of_no_pattern : IsLine (codes "0 r *a") 0 Regex (codes "*a")
+line_of_no_pattern : IsLine (codes "0 r *a") 0 forms.Pattern (codes "*a")
 unfolding lib.Utf8.encode
 line_of_no_pattern = record { digits = codes "0"; parts = refl; precedence = zero_is_a_precedence; utf8 = (codes "0 r *a", (refl, refl)) }
 
@@ -151,26 +139,26 @@ line_says_no_tree = (0, (codes "*a", (line_of_no_pattern, λ t h. operator_alone
 
 -- it is neither bad nor a terminal
 pub line_of_no_pattern_is_not_bad : ¬ LineSays (codes "0 r *a") Bad
-line_of_no_pattern_is_not_bad h = h 0 Regex (codes "*a") line_of_no_pattern
+line_of_no_pattern_is_not_bad h = h 0 forms.Pattern (codes "*a") line_of_no_pattern
 
 -- a line with a literal has a tree
 pub line_of_a_literal_has_a_tree : ¬ LineSays (codes "0 l a") NoTree
 line_of_a_literal_has_a_tree h = by_digits h.1.1.0.digits h.1.1.0.parts h.1.1.0.precedence.numeral.1
   where
-    by_digits : (ds : List ℕ) → codes "0 l a" ≡ ds ++ (codes " " ++ (letter Regex ++ (codes " " ++ h.1.0))) → AllDigits 10 ds → ⊥
+    by_digits : (ds : List ℕ) → codes "0 l a" ≡ ds ++ (codes " " ++ (letter forms.Pattern ++ (codes " " ++ h.1.0))) → AllDigits 10 ds → ⊥
     by_digits [] e all = let m : 48 ≡ 32 = ap (λ u. get_or u 0 0) e in omega (arith, m)
     by_digits (d ∷ []) e all = let m : 108 ≡ 114 = ap (λ u. get_or u 2 0) e in omega (arith, m)
     by_digits (d ∷ c ∷ ds) e all = let m : 32 ≡ c = ap (λ u. get_or u 1 0) e in absurd (no_digit c all.1.0 (sym m))
 
 -- so has one with the empty pattern
 line_of_the_empty_pattern_has_a_tree : ¬ LineSays (codes "0 r ") NoTree
-line_of_the_empty_pattern_has_a_tree h = h.1.1.1 empty (subst (λ w. Spells Regex w empty) (by_digits h.1.1.0.digits h.1.1.0.parts h.1.1.0.precedence.numeral.1) empty_pattern_spells_the_empty_tree)
+line_of_the_empty_pattern_has_a_tree h = h.1.1.1 empty (subst (λ w. Spells forms.Pattern w empty) (by_digits h.1.1.0.digits h.1.1.0.parts h.1.1.0.precedence.numeral.1) empty_pattern_spells_the_empty_tree)
   where
-    by_digits : (ds : List ℕ) → codes "0 r " ≡ ds ++ (codes " " ++ (letter Regex ++ (codes " " ++ h.1.0))) → AllDigits 10 ds → [] ≡ h.1.0
+    by_digits : (ds : List ℕ) → codes "0 r " ≡ ds ++ (codes " " ++ (letter forms.Pattern ++ (codes " " ++ h.1.0))) → AllDigits 10 ds → [] ≡ h.1.0
     by_digits [] e all = let m : 48 ≡ 32 = ap (λ u. get_or u 0 0) e in absurd (omega (arith, m))
     by_digits (d ∷ []) e all = ap (drop 4) e
     by_digits (d ∷ c ∷ ds) e all = let m : 32 ≡ c = ap (λ u. get_or u 1 0) e in absurd (no_digit c all.1.0 (sym m))
 
 -- `x` is bad, which differs from a pattern that doesn't parse
 pub x_is_not_without_a_tree : ¬ LineSays (codes "x") NoTree
-x_is_not_without_a_tree h = x_is_no_line h.0 Regex h.1.0 h.1.1.0
+x_is_not_without_a_tree h = x_is_no_line h.0 forms.Pattern h.1.0 h.1.1.0

@@ -3,7 +3,7 @@ use Rattle.std.proofs.Common.{◌≡◌, ℕ, true, false, List, [], ◌∷◌, 
 use Rattle.std.specs.Borrow.{Bor}
 use Rattle.std.proofs.lemmas.Bool.{false≢true}
 use Rattle.lalrpop_lexer.specs.Line.{IsPrecedence}
-use Rattle.lalrpop_rules.specs.declared.rule.Form.TheVariants.{Literal, Pattern}
+use Rattle.lalrpop_lexer.specs.declared.form.Form.TheVariants.{Literal, Pattern}
 use Rattle.lalrpop_rules.specs.declared.rule.Rule.{Rule}
 use Rattle.lalrpop_rule_file.specs.RuleLine.{AreBlanks, IsName, IsMark, IsLeft, IsWritten, IsRight, precedence_or, IsRule}
 use Rattle.lalrpop_rule_file.proofs.Lefts.{one_skipped}

@@ -2,7 +2,7 @@
 use Rattle.std.specs.Prelude.{◌≡◌, ℕ, Bool, false, Option, Some, None, List, [], ◌∷◌, ◌++◌}
 use Rattle.std.specs.Char.{is_ascii_digit}
 use Rattle.lalrpop_lexer.specs.Line.{IsPrecedence}
-use Rattle.lalrpop_rules.specs.declared.rule.Form.{Form}
+use Rattle.lalrpop_lexer.specs.declared.form.Form.{Form}
 use Rattle.lalrpop_rule_file.specs.RuleLine.{AreBlanks, IsName, begins_name, is_blank, is_of_name, delimiter}
 use Rattle.lalrpop_rule_file.specs.Internal.Spans.{Stops}
 

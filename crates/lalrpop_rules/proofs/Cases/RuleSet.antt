@@ -1,12 +1,11 @@
 -- Cases of specs/RuleSet.antt.
-use Rattle.std.proofs.Common.{◌≡◌, ◌≢◌, ℕ, true, false, List, [], ◌∷◌, codes, refl, sym, subst}
-use Rattle.std.specs.Prelude.{Some}
+use Rattle.std.proofs.Common.{◌≡◌, ℕ, true, false, List, [], ◌∷◌, codes, refl}
 use Rattle.std.specs.Borrow.{Bor}
 use Rattle.lalrpop_book.specs.Tree.{Tree}
-use Rattle.lalrpop_lexer.specs.Parts.{of_text}
-use Rattle.lalrpop_rules.specs.RuleSet.{Spells, AreTrees, IsNoPattern, IsRulesError, names_of, precedences_of, skips_of}
+use Rattle.lalrpop_lexer.specs.Spelled.{IsNotSpelled}
+use Rattle.lalrpop_lexer.specs.declared.form.Form.TheVariants as form
+use Rattle.lalrpop_rules.specs.RuleSet.{AreTrees, IsRulesError, forms_of, names_of, precedences_of, skips_of}
 use Rattle.lalrpop_rules.specs.declared.error.RulesError.TheVariants.{OutOfMemory}
-use Rattle.lalrpop_rules.specs.declared.rule.Form.TheVariants as form
 use Rattle.lalrpop_rules.specs.declared.rule.Rule.{Rule}
 
 -- a keyword, and spaces, which are skipped
@@ -15,12 +14,6 @@ keyword name text = record { name = name; form = form.Literal; text = text; prec
 
 abbrev spaces : Bor (List ℕ) → Bor (List ℕ) → Rule
 spaces name text = record { name = name; form = form.Pattern; text = text; precedence = record { 0 = 0 }; is_skipped = true }
-
-literal_spells_its_text : (text : List ℕ) → Spells form.Literal text (of_text text)
-literal_spells_its_text text = refl
-
-literal_of_another_text : (t : Tree) → t ≢ of_text (codes "a") → ¬ Spells form.Literal (codes "a") t
-literal_of_another_text t other says = other says
 
 no_rules : AreTrees [] []
 no_rules = tt
@@ -41,18 +34,12 @@ precedences_in_their_order a b c d = refl
 second_is_skipped : (a b c d : Bor (List ℕ)) → skips_of (keyword a b ∷ spaces c d ∷ []) ≡ false ∷ true ∷ []
 second_is_skipped a b c d = refl
 
--- a literal is never no pattern
-literal_refused : (a b : Bor (List ℕ)) (position : ℕ) → ¬ IsNoPattern (keyword a b ∷ []) 0 position
-literal_refused a b position is = none_of is.rule is.at is.none
-  where
-    none_of : (r : Rule) → Some (keyword a b) ≡ Some r → ((t : Tree) → ¬ Spells r.form r.text.now t) → ⊥
-    none_of r same none =
-        let is : keyword a b ≡ r = cc in
-        let literal : (t : Tree) → ¬ Spells form.Literal b.now t = subst (λ (q : Rule). (t : Tree) → ¬ Spells q.form q.text.now t) (sym is) none in
-        literal (of_text b.now) refl
+-- no rule of none is refused
+none_of_no_rules : (i position : ℕ) → ¬ IsNotSpelled (forms_of []) i position
+none_of_no_rules i position is = let e = is.at in absurd (cc)
 
-no_pattern_of_no_rules : (i position : ℕ) → ¬ IsNoPattern [] i position
-no_pattern_of_no_rules i position is = let e = is.at in absurd (cc)
+forms_in_their_order : (a b c d : Bor (List ℕ)) → forms_of (keyword a b ∷ spaces c d ∷ []) ≡ (form.Literal, b.now) ∷ (form.Pattern, d.now) ∷ []
+forms_in_their_order a b c d = refl
 
 refused_memory_is_right : (rs : List Rule) → IsRulesError rs OutOfMemory
 refused_memory_is_right rs = tt

@@ -1,12 +1,16 @@
--- An error of the construction as one of rules.
-use Rattle.std.specs.Prelude.{◌≡◌}
-use Rattle.lalrpop_book.specs.declared.error.DfaConstructionError.{DfaConstructionError}
-use Rattle.lalrpop_book.specs.declared.error.DfaConstructionError.TheVariants as built
+-- An error of rules as one of their patterns.
+use Rattle.lalrpop_lexer.specs.declared.error.LexerError.{LexerError}
+use Rattle.lalrpop_lexer.specs.declared.error.LexerError.TheVariants as patterns
 use Rattle.lalrpop_rules.specs.declared.error.RulesError.{RulesError}
-use Rattle.lalrpop_rules.specs.declared.error.RulesError.TheVariants.{NotCompiled, Clash, OutOfMemory}
+use Rattle.lalrpop_rules.specs.declared.error.RulesError.TheVariants.{NoPattern, NotCompiled, Clash, OutOfMemory}
 
-abbrev pub SaysTheSame : DfaConstructionError → RulesError → Type 0
-SaysTheSame (built.NfaConstructionError i e) (NotCompiled j f) = (j ≡ i) × (f ≡ e)
-SaysTheSame (built.Ambiguity i j w) (Clash k l v) = (k ≡ i) × (l ≡ j) × (v.items ≡ w.items)
-SaysTheSame built.OutOfMemory OutOfMemory = Unit {0}
-SaysTheSame _ _ = ⊥
+abbrev pub as_patterns : RulesError → LexerError
+as_patterns (NoPattern i position kind) = patterns.NotParsed i position kind
+as_patterns (NotCompiled i e) = patterns.NotCompiled i e
+as_patterns (Clash i j w) = patterns.Clash i j w
+as_patterns OutOfMemory = patterns.OutOfMemory
+
+-- it is no error of a text that was read by itself
+abbrev pub NamesPattern : LexerError → Type 0
+NamesPattern (patterns.Syntax position kind) = ⊥
+NamesPattern _ = Unit {0}

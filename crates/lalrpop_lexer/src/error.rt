@@ -1,0 +1,98 @@
+//! Why some texts give no lexer.
+ghost use Rattle.std.specs.Prelude.{◌≡◌};
+ghost use Rattle.lalrpop_lexer.specs.LexerErrors.{of_regex, of_construction};
+ghost use Rattle.lalrpop_lexer.specs.declared.error.LexerError.TheVariants.{OutOfMemory};
+
+use lalrpop_dfa::DfaConstructionError;
+use lalrpop_nfa::NfaConstructionError;
+use lalrpop_re::{RegexError, SyntaxKind};
+use std::alloc::{AllocError, AllocFailed};
+use thiserror::Error;
+
+/// Why there is no lexer: one type for what reading patterns, building their automaton and asking for memory can fail with.
+/// Patterns are counted from 0.
+#[derive(Debug, Drop, Error)]
+pub enum LexerError {
+    /// A text that was read by itself does not parse: `kind` says why, and `position` where, as an offset in bytes.
+    #[error("a pattern does not parse: {kind:?} at byte {position}")]
+    Syntax {
+        position: usize,
+        kind: SyntaxKind,
+    },
+    /// The text of this pattern of a list does not parse.
+    #[error("the text of pattern {pattern} does not parse: {kind:?} at byte {position}")]
+    NotParsed {
+        pattern: usize,
+        position: usize,
+        kind: SyntaxKind,
+    },
+    /// This pattern was not compiled.
+    #[error("pattern {pattern} can't be compiled: {error:?}")]
+    NotCompiled {
+        pattern: usize,
+        error: NfaConstructionError,
+    },
+    /// Two patterns are the strongest that match some word: `word` is the least such word, `pattern` the greatest place of
+    /// the strongest ones on it, `other` the second greatest.
+    #[error("patterns {other} and {pattern} clash")]
+    Clash {
+        pattern: usize,
+        other: usize,
+        word: Vec<u32>,
+    },
+    /// A request for memory was refused.
+    #[error("out of memory")]
+    OutOfMemory,
+}
+
+impl From<RegexError> for LexerError {
+    ghost from_gives = { λ error e. e ≡ of_regex error };
+
+    fn from(error: RegexError) -> LexerError {
+        match error {
+            RegexError::Syntax { position, kind } => LexerError::Syntax { position, kind },
+            RegexError::OutOfMemory => LexerError::OutOfMemory,
+        }
+    }
+}
+
+impl From<DfaConstructionError> for LexerError {
+    ghost from_gives = { λ error e. e ≡ of_construction error };
+
+    fn from(error: DfaConstructionError) -> LexerError {
+        match error {
+            DfaConstructionError::NfaConstructionError { index, error } => {
+                LexerError::NotCompiled {
+                    pattern: index.index(),
+                    error,
+                }
+            }
+            DfaConstructionError::Ambiguity {
+                match0,
+                match1,
+                word,
+            } => LexerError::Clash {
+                pattern: match0.index(),
+                other: match1.index(),
+                word,
+            },
+            DfaConstructionError::OutOfMemory => LexerError::OutOfMemory,
+        }
+    }
+}
+
+impl From<AllocError> for LexerError {
+    ghost from_gives = { λ _ e. e ≡ OutOfMemory };
+
+    fn from(_error: AllocError) -> LexerError {
+        LexerError::OutOfMemory
+    }
+}
+
+impl<T: Drop> From<AllocFailed<T>> for LexerError {
+    ghost from_gives = { λ _ e. e ≡ OutOfMemory };
+
+    fn from(_error: AllocFailed<T>) -> LexerError {
+        LexerError::OutOfMemory
+    }
+}

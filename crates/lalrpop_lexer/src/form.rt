@@ -1,0 +1,30 @@
+//! Texts that stand for trees.
+ghost use Rattle.std.specs.Prelude.{◌≡◌, ◌≢◌, IfOk, IfErr};
+ghost use Rattle.std.specs.Str.{chars};
+ghost use Rattle.lalrpop_re.specs.Refusal.{HasNoTree, PointsInto};
+ghost use Rattle.lalrpop_lexer.specs.Spelled.{Spells};
+
+use lalrpop_re::{Regex, RegexError, parse_literal, parse_regex};
+use std::alloc::Global;
+
+/// How a text is meant.
+#[derive(Clone, Copy, Debug, PartialEq, Eq)]
+pub enum Form {
+    /// As it stands: no character has a special meaning.
+    Literal,
+    /// As a pattern.
+    Pattern,
+}
+
+// The tree of a text.
+pub(crate) fn tree_of(alloc: Global, form: Form, text: &str) -> Result<Regex, RegexError>
+    ensures tree { IfOk result (λ t. Spells form text.now t) }
+    ensures pattern { IfErr result (λ e. e ≢ RegexError.OutOfMemory → form ≡ Form.Pattern) }
+    ensures none { IfErr result (HasNoTree (chars text.now)) }
+    ensures position { IfErr result (PointsInto text.now) }
+{
+    match form {
+        Form::Literal => parse_literal(alloc, text),
+        Form::Pattern => parse_regex(alloc, text),
+    }
+}

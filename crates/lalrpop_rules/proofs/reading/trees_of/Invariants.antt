@@ -1,6 +1,0 @@
-use Rattle.std.proofs.Common.{take}
-use Rattle.lalrpop_rules.specs.RuleSet.{AreTrees}
-use Rattle.lalrpop_rules.proofs.reading.trees_of.Given as goal
-
-abbrev pub invariant-loop-rule : goal.invariant-loop-rule
-invariant-loop-rule l = AreTrees (take l.rule-index l.rules) l.trees.items
