@@ -1,3 +1,5 @@
+pub mod Fused
+pub mod Marks
 pub mod Reading
 pub mod Runs
 pub mod Table

@@ -1,2 +1,3 @@
+pub mod Leading
 -- what serves the proofs alone
 pub mod Internal

@@ -1,19 +1,26 @@
 //! An automaton with a table beside it.
 
-ghost use Rattle.std.specs.Prelude.{◌≡◌, ◌≢◌, ℕ, ◌+◌, ◌≤◌, [], length, List, IfOk, IfSome};
+ghost use Rattle.std.specs.Prelude.{◌≡◌, ◌≢◌, ℕ, ◌+◌, ◌<◌, ◌≤◌, ◌++◌, [], drop, length, List, None, IfOk, IfNone, IfSome};
 ghost use Rattle.std.specs.Option.{option_map};
-ghost use Rattle.std.specs.Str.{chars};
+ghost use Rattle.std.specs.Str.{IsCharBoundary, chars};
 ghost use Rattle.lalrpop_book.specs.Tree.{Tree};
 ghost use Rattle.lalrpop_book.specs.Prefix.{IsPrefix};
 ghost use Rattle.lalrpop_table.specs.Dfa.{Recognizes};
 ghost use Rattle.lalrpop_table.specs.Lookahead.{LooksAtMost};
 ghost use Rattle.lalrpop_book.specs.Longest.{IsLongest};
-ghost use Rattle.lalrpop_dense.specs.Internal.Table.{IsTable};
+ghost use Rattle.lalrpop_book.specs.declared.token.Token.{Token as TokenValue};
+ghost use Rattle.lalrpop_dense.specs.Leading.{LeadTo};
+ghost use Rattle.lalrpop_dense.specs.Internal.Fused.{IsFusedOf, IsTable};
 
+use crate::block::push_marked;
 use crate::candidate::candidate_of;
 use crate::check::is_table_of;
+use crate::fused::{Fused, is_fused_of};
+use crate::fusing::fusing_of;
+use crate::mark::{Engine, Marks, mark_block};
 use crate::run::longest_by;
-use crate::table::{StoredCells, Table, stored};
+use crate::table::{Layout, StoredCells, Table, stored};
+use lalrpop_book::Token;
 use lalrpop_ranges::Steps;
 use lalrpop_table::interpret::interpret_counted;
 use lalrpop_table::{Dfa, NfaIndex};
@@ -31,7 +38,7 @@ pub struct DenseDfa {
 impl Model for DenseDfa {
     ghost use Rattle.std.specs.Prelude.{List, IfSome};
     ghost use Rattle.lalrpop_table.specs.Dfa.{Row};
-    ghost use Rattle.lalrpop_dense.specs.Internal.Table.{IsTable};
+    ghost use Rattle.lalrpop_dense.specs.Internal.Fused.{IsTable};
 
     ghost Value = { List Row };
 
@@ -97,6 +104,107 @@ impl DenseDfa {
             None => interpret_counted(&self.dfa, text, steps),
         }
     }
+
+    /// Adds the tokens of the text from a place on, those of one block at most, and answers where the last one ends: each is the
+    /// longest match where it begins, with the strongest pattern that matches it. `None` where no pattern matches at the
+    /// place; then no token is added.
+    ///
+    /// A block has some thousand bytes. The tokens are found with no branch at a token's end where there is a fused table.
+    ///
+    /// # Errors
+    ///
+    /// `AllocError` where a request for memory was refused.
+    pub fn cut_block<'text>(
+        &self,
+        text: &'text str,
+        at: usize,
+        marks: &mut Marks,
+        tokens: &mut Vec<Token<'text>>,
+    ) -> Result<Option<usize>, AllocError>
+        requires boundary { IsCharBoundary text.now at }
+        ensures tokens { IfOk result (λ found. IfSome found (λ to. (xs : List TokenValue)
+            × (tokens.new.items ≡ tokens.old.items ++ xs)
+            × ((ts : List Tree) (ps : List ℕ) → Recognizes self.now ts ps → LeadTo ts ps text.now at to xs))) }
+        ensures goes { IfOk result (λ found. IfSome found (λ to.
+            (at < to) × IsCharBoundary text.now to)) }
+        ensures same { IfOk result (λ found. IfNone found (tokens.new ≡ tokens.old)) }
+        ensures none { IfOk result (λ found. IfNone found ((ts : List Tree) (ps : List ℕ)
+            → Recognizes self.now ts ps → IsLongest ts ps (drop at text.now) None)) }
+    {
+        match self.cut_fused(text, at, marks, tokens)? {
+            Some(to) => Ok(Some(to)),
+            None => self.cut_one(text, at, tokens),
+        }
+    }
+
+    // Adds the tokens that the fused table finds in a block. None where it finds none.
+    fn cut_fused<'text>(
+        &self,
+        text: &'text str,
+        at: usize,
+        marks: &mut Marks,
+        tokens: &mut Vec<Token<'text>>,
+    ) -> Result<Option<usize>, AllocError>
+        requires boundary { IsCharBoundary text.now at }
+        ensures tokens { IfOk result (λ found. IfSome found (λ to. (xs : List TokenValue)
+            × (tokens.new.items ≡ tokens.old.items ++ xs)
+            × ((ts : List Tree) (ps : List ℕ) → Recognizes self.now ts ps → LeadTo ts ps text.now at to xs))) }
+        ensures goes { IfOk result (λ found. IfSome found (λ to.
+            (at < to) × IsCharBoundary text.now to)) }
+        ensures same { IfOk result (λ found. IfNone found (tokens.new ≡ tokens.old)) }
+    {
+        let Some(table) = &self.table else {
+            return Ok(None);
+        };
+        let Some(fused) = &table.fused else {
+            return Ok(None);
+        };
+        let engine = Engine {
+            dfa: &self.dfa,
+            layout: &table.layout,
+            cells: &table.cells,
+            fused,
+        };
+        let count = mark_block(&engine, text, at, &mut marks.marks);
+        if count == 0 {
+            return Ok(None);
+        }
+        let to = push_marked(&engine, text, at, &marks.marks[..count], tokens)?;
+        Ok(Some(to))
+    }
+
+    // Adds the longest match at the place, and answers where it ends.
+    fn cut_one<'text>(
+        &self,
+        text: &'text str,
+        at: usize,
+        tokens: &mut Vec<Token<'text>>,
+    ) -> Result<Option<usize>, AllocError>
+        requires boundary { IsCharBoundary text.now at }
+        ensures tokens { IfOk result (λ found. IfSome found (λ to. (xs : List TokenValue)
+            × (tokens.new.items ≡ tokens.old.items ++ xs)
+            × ((ts : List Tree) (ps : List ℕ) → Recognizes self.now ts ps → LeadTo ts ps text.now at to xs))) }
+        ensures goes { IfOk result (λ found. IfSome found (λ to.
+            (at < to) × IsCharBoundary text.now to)) }
+        ensures same { IfOk result (λ found. IfNone found (tokens.new ≡ tokens.old)) }
+        ensures none { IfOk result (λ found. IfNone found ((ts : List Tree) (ps : List ℕ)
+            → Recognizes self.now ts ps → IsLongest ts ps (drop at text.now) None)) }
+    {
+        match self.longest(&text[at..]) {
+            Some(found) => {
+                let token = Token {
+                    index: found.0,
+                    slice: found.1,
+                    start: at,
+                };
+                match tokens.push(token) {
+                    Ok(()) => Ok(Some(at + found.1.len())),
+                    Err(_) => Err(AllocError),
+                }
+            }
+            None => Ok(None),
+        }
+    }
 }
 
 // The longest match at the start of the text, by the table of the automaton.
@@ -122,6 +230,20 @@ fn longest_in<'text>(
     }
 }
 
+// The fused table of the table, which is made and then checked. None where none was made.
+fn fused_of(alloc: Global, layout: &Layout, cells: &[u32]) -> Result<Option<Fused>, AllocError>
+    ensures { IfOk result (λ made. IfSome made (λ fused.
+        IsFusedOf fused layout.now cells.now)) }
+{
+    let Some(fused) = fusing_of(alloc, layout, cells)? else {
+        return Ok(None);
+    };
+    if !is_fused_of(&fused, layout, cells) {
+        return Ok(None);
+    }
+    Ok(Some(fused))
+}
+
 // The table of the automaton, which is made and then checked. None where none was made.
 fn table_of(alloc: Global, dfa: &Dfa) -> Result<Option<Table>, AllocError>
     ensures { IfOk result (λ made. IfSome made (λ table. IsTable table dfa.now)) }
@@ -132,6 +254,11 @@ fn table_of(alloc: Global, dfa: &Dfa) -> Result<Option<Table>, AllocError>
     if !is_table_of(alloc, &layout, &cells, dfa)? {
         return Ok(None);
     }
+    let fused = fused_of(alloc, &layout, &cells)?;
     let cells = stored(alloc, cells)?;
-    Ok(Some(Table { layout, cells }))
+    Ok(Some(Table {
+        layout,
+        cells,
+        fused,
+    }))
 }

@@ -4,12 +4,17 @@
 //! said of that automaton, so that whatever holds of the one holds of the other.
 #![tactic(auto)]
 
+mod block;
 mod candidate;
 mod check;
 mod dense;
+mod fused;
+mod fusing;
+mod mark;
 mod matcher;
 mod run;
 mod table;
 
 pub use dense::DenseDfa;
+pub use mark::Marks;
 pub use matcher::Matcher;

@@ -31,7 +31,7 @@ fn char_at(text: &str, at: usize) -> char
 
 // The class of the character that stands at the place, which goes on behind it.
 #[inline(always)]
-fn read_class(layout: &Layout, text: &str, at: &mut usize) -> u8
+pub(crate) fn read_class(layout: &Layout, text: &str, at: &mut usize) -> u8
     requires classes { HasClasses layout.now }
     requires boundary { IsCharBoundary text.now at.old }
     requires within { at.old < length text.now }

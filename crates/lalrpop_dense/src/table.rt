@@ -3,6 +3,7 @@
 ghost use Rattle.std.specs.Prelude.{◌≡◌, ℕ, ◌<◌, List, length, slice_index, IfOk, IfSome};
 ghost use Rattle.lalrpop_dense.specs.Internal.Table.{numbers_of};
 
+use crate::fused::Fused;
 use std::alloc::{AllocError, Global};
 
 /// How the cells of a table lie: a row for each state, with a cell for each class of characters and a last one for the
@@ -81,6 +82,17 @@ pub(crate) enum StoredCells {
     Wide(Vec<u32>),
 }
 
+impl Cells for StoredCells {
+    ghost numbers = { numbers_of };
+
+    fn at(&self, place: usize) -> usize {
+        match self {
+            StoredCells::Narrow(cells) => cells.at(place),
+            StoredCells::Wide(cells) => cells.at(place),
+        }
+    }
+}
+
 // The same cells in 16 bits, if they fit.
 fn narrow(alloc: Global, cells: &[u32]) -> Result<Option<Vec<u16>>, AllocError>
     ensures { IfOk result (λ found. IfSome found (λ narrow. narrow.items ≡ cells.now)) }
@@ -109,9 +121,11 @@ pub(crate) fn stored(alloc: Global, cells: Vec<u32>) -> Result<StoredCells, Allo
     }
 }
 
-/// A table: its cells, and how they lie.
+/// A table: its cells, how they lie, and the fused table of it.
 #[derive(Debug, Drop)]
 pub(crate) struct Table {
     pub(crate) layout: Layout,
     pub(crate) cells: StoredCells,
+    // None where it would be too large.
+    pub(crate) fused: Option<Fused>,
 }

@@ -2,6 +2,7 @@ pub mod Cases
 -- what the calls that cut a text return
 pub mod Cuttings
 pub mod LexerCuttings
+pub mod TokenLists
 pub mod Costs
 pub mod LinearCosts
 pub mod Places

@@ -20,6 +20,7 @@ mod position;
 mod rules;
 mod terminals;
 mod token;
+mod token_list;
 
 pub use counted::CountedTokens;
 pub use cut::tokens;
@@ -34,3 +35,4 @@ pub use position::{Position, Positions};
 pub use rules::Lexer;
 pub use terminals::{Terminals, read_terminals};
 pub use token::Tokens;
+pub use token_list::TokenList;

@@ -1,6 +1,6 @@
 //! A lexer: built once, run over many texts.
 
-ghost use Rattle.std.specs.Prelude.{◌≡◌, ℕ, ◌+◌, ◌*◌, ◌≤◌, ◌++◌, List, Option, Result, map, length, None, IfOk, OnOk, IfErr, IfSome, IfNone, Some, true, slice_get, ◌<◌, ◌↔◌};
+ghost use Rattle.std.specs.Prelude.{◌≡◌, ℕ, ◌+◌, ◌*◌, ◌≤◌, ◌++◌, ◌∷◌, [], List, Option, Result, Ok, Err, map, length, None, IfOk, OnOk, IfErr, IfSome, IfNone, Some, true, slice_get, ◌<◌, ◌↔◌};
 ghost use Rattle.std.specs.Iterator.{Drains, Yields};
 ghost use Rattle.std.specs.Str.{chars};
 ghost use Rattle.lalrpop_book.specs.Clash.{NoClash};
@@ -22,8 +22,9 @@ use crate::counted::CountedTokens;
 use crate::lexer_token::LexerTokens;
 use crate::linear::LinearTokens;
 use crate::token::Tokens;
-use lalrpop_book::Token;
-use lalrpop_dense::DenseDfa;
+use crate::token_list::TokenList;
+use lalrpop_book::{Token, TokenFault};
+use lalrpop_dense::{DenseDfa, Marks};
 use lalrpop_dfa::lookahead::{lookahead, open_patterns};
 use lalrpop_dfa::{DfaConstructionError, Precedence, build_dfa};
 use lalrpop_linear::LinearMatches;
@@ -134,6 +135,42 @@ impl Lexer {
             → Yields GivesToken result xs s → length xs ≤ length (chars text.now) }
     {
         LexerTokens::new(Tokens::new(&self.dense, text))
+    }
+
+    /// All tokens of the text at once, those that `tokens` gives, and the fault at which they end.
+    ///
+    /// They are found by blocks, which is faster than one by one. The list takes 32 bytes a token.
+    ///
+    /// # Errors
+    ///
+    /// `AllocError` where a request for memory was refused.
+    pub fn token_list<'text>(
+        &self,
+        alloc: Global,
+        text: &'text str,
+    ) -> Result<TokenList<'text>, AllocError>
+        ensures all { IfOk result (λ list. IfNone list.fault (AreTokens self.now.trees
+            self.now.precedences text.now 0 (map Ok list.tokens.items))) }
+        ensures fault { IfOk result (λ list. IfSome list.fault (λ fault. AreTokens
+            self.now.trees self.now.precedences text.now 0
+            (map Ok list.tokens.items ++ Err fault ∷ []))) }
+    {
+        let mut marks = Marks::new(alloc)?;
+        let mut tokens = Vec::new(alloc);
+        let mut at = 0;
+        'cutting: while at < text.len() {
+            match self.dense.cut_block(text, at, &mut marks, &mut tokens)? {
+                Some(to) => at = to,
+                None => {
+                    let fault = Some(TokenFault { at });
+                    return Ok(TokenList { tokens, fault });
+                }
+            }
+        }
+        Ok(TokenList {
+            tokens,
+            fault: None,
+        })
     }
 
     /// The tokens of `tokens`, with a step counted each time that a character is read. If at most n characters after a

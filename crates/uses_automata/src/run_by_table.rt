@@ -1,6 +1,6 @@
 //! An automaton with a table beside it, run over a text.
 
-ghost use Rattle.std.specs.Prelude.{◌≡◌, ◌≢◌, ℕ, ◌+◌, ◌≤◌, [], length, List, IfOk, IfSome};
+ghost use Rattle.std.specs.Prelude.{◌≡◌, ◌≢◌, ℕ, ◌+◌, ◌<◌, ◌≤◌, [], length, List, None, IfOk, IfNone, IfSome};
 ghost use Rattle.std.specs.Option.{option_map};
 ghost use Rattle.std.specs.Str.{chars};
 ghost use Rattle.lalrpop_book.specs.Tree.{Tree};
@@ -8,9 +8,10 @@ ghost use Rattle.lalrpop_book.specs.Prefix.{IsPrefix};
 ghost use Rattle.lalrpop_table.specs.Dfa.{Recognizes};
 ghost use Rattle.lalrpop_table.specs.Lookahead.{LooksAtMost};
 ghost use Rattle.lalrpop_book.specs.Longest.{IsLongest};
+ghost use Rattle.lalrpop_dense.specs.Leading.{LeadTo};
 
-use lalrpop_book::NfaIndex;
-use lalrpop_dense::{DenseDfa, Matcher};
+use lalrpop_book::{NfaIndex, Token};
+use lalrpop_dense::{DenseDfa, Marks, Matcher};
 use lalrpop_ranges::Steps;
 use lalrpop_table::Dfa;
 use lalrpop_table::interpret::interpret;
@@ -69,6 +70,30 @@ pub fn counted_by_table<'text>(
 {
     let _ = dense.longest_counted(first, steps);
     dense.longest_counted(second, steps)
+}
+
+// Needs lalrpop_dense::DenseDfa::cut_block: tokens, goes, same, none.
+/// The tokens of the first block of a text, and where they end; no place where no pattern matches there.
+///
+/// # Errors
+///
+/// `AllocError` where a request for memory was refused.
+pub fn first_block<'text>(
+    alloc: Global,
+    dense: &DenseDfa,
+    text: &'text str,
+) -> Result<(Vec<Token<'text>>, Option<usize>), AllocError>
+    ensures some { IfOk result (λ found. IfSome found.1 (λ to. (0 < to) × (to ≤ length text.now)
+        × ((ts : List Tree) (ps : List ℕ) → Recognizes dense.now ts ps
+        → LeadTo ts ps text.now 0 to found.0.items))) }
+    ensures none { IfOk result (λ found. IfNone found.1 ((found.0.items ≡ [])
+        × ((ts : List Tree) (ps : List ℕ) → Recognizes dense.now ts ps
+        → IsLongest ts ps text.now None))) }
+{
+    let mut marks = Marks::new(alloc)?;
+    let mut tokens = Vec::new(alloc);
+    let to = dense.cut_block(text, 0, &mut marks, &mut tokens)?;
+    Ok((tokens, to))
 }
 
 // Needs lalrpop_dense::Matcher::longest_match: answer, prefix, never_falls, cost, looked.

@@ -3,8 +3,10 @@ ghost use Rattle.std.specs.Prelude.{◌≡◌, ℕ, ◌++◌, ◌∷◌, [], Lis
 ghost use Rattle.lalrpop_lexer.specs.Tokens.{IsToken, AreTokens};
 ghost use Rattle.lalrpop_lexer.specs.Longest.{IsLongest};
 ghost use Rattle.lalrpop_lexer.specs.declared.Token.{Token as TokenValue};
+ghost use Rattle.lalrpop_lexer.specs.declared.TokenFault.{TokenFault as FaultValue};
 
 use lalrpop_lexer::{Lexer, TokenFault};
+use std::alloc::{AllocError, Global};
 
 // Needs lalrpop_lexer::Lexer::token: token, none.
 /// The pattern and the length of the token at the front of a text, if there is one.
@@ -43,6 +45,27 @@ pub fn token_count(lexer: &Lexer, text: &str) -> Result<usize, TokenFault>
         }
     }
     Ok(count)
+}
+
+// Needs lalrpop_lexer::Lexer::token_list: all, fault.
+/// How many tokens the whole text is, counted in the list of them; none where no pattern matches at some place.
+///
+/// # Errors
+///
+/// `AllocError` where a request for memory was refused.
+pub fn listed_count(lexer: &Lexer, alloc: Global, text: &str) -> Result<Option<usize>, AllocError>
+    ensures all { IfOk result (λ found. IfSome found (λ n. (tokens : List TokenValue)
+        × (AreTokens lexer.now.trees lexer.now.precedences text.now 0 (map Ok tokens)
+        × (n ≡ length tokens)))) }
+    ensures fault { IfOk result (λ found. IfNone found ((tokens : List TokenValue)
+        × (fault : FaultValue) × AreTokens lexer.now.trees lexer.now.precedences text.now 0
+        (map Ok tokens ++ Err fault ∷ []))) }
+{
+    let list = lexer.token_list(alloc, text)?;
+    match list.fault {
+        None => Ok(Some(list.tokens.len())),
+        Some(_) => Ok(None),
+    }
 }
 
 // Needs lalrpop_lexer::Lexer::tokens: start.

@@ -6,7 +6,6 @@ use Rattle.lalrpop_table.specs.declared.Kind.TheVariants.{Accepts, Reject, Neith
 use Rattle.lalrpop_dense.specs.declared.table.Layout.{Layout}
 use Rattle.lalrpop_dense.specs.declared.table.StoredCells.{StoredCells}
 use Rattle.lalrpop_dense.specs.declared.table.StoredCells.TheVariants.{Narrow, Wide}
-use Rattle.lalrpop_dense.specs.declared.table.Table.{Table}
 
 -- the block of the page with this number; pages behind the last one have its block
 abbrev pub page_of : Layout → ℕ → ℕ
@@ -50,7 +49,3 @@ pub record IsTableOf (t : Layout) (cells : List ℕ) (d : List Row) : Type 0 whe
 abbrev pub numbers_of : StoredCells → List ℕ
 numbers_of (Narrow cells) = cells.items
 numbers_of (Wide cells) = cells.items
-
--- the table is that of the automaton
-abbrev pub IsTable : Table → List Row → Type 0
-IsTable t d = IsTableOf t.layout (numbers_of t.cells) d

@@ -1,0 +1,201 @@
+-- The run of a fused table along a text: what holds after each character.
+use Rattle.std.proofs.Common.{◌≡◌, ◌≢◌, ℕ, ◌+◌, ◌-◌, ◌<◌, ◌≤◌, inl, inr, List, [], ◌∷◌, ◌++◌, length, take, drop, get_or, slice_set, ◌⊎◌, refl, sym, ap, subst, ◌∙◌, arith}
+use Rattle.std.specs.Prelude.{Some}
+use Rattle.std.specs.Char.{encode_utf8}
+use Rattle.std.specs.Str.{chars, IsUtf8, IsCharBoundary}
+use Rattle.std.proofs.lemmas.List.{drop-drop, take-append-drop, length-take-le, take-set, take_more_set}
+use Rattle.std.proofs.lemmas.Bool.{cases_lt}
+use Rattle.std.proofs.lemmas.Str.{chars-nil, IsCharBoundary-from_take, IsUtf8-drop, IsUtf8-take}
+use Rattle.lalrpop_book.specs.Longest.{IsLongest}
+use Rattle.lalrpop_nfa.proofs.Cuts.{IsCut, cut_start, cut_within, cut_more}
+use Rattle.lalrpop_table.specs.Dfa.{Row, after, IsWellFormed}
+use Rattle.lalrpop_dense.specs.Internal.Table.{IsTableOf, class_of, row_of}
+use Rattle.lalrpop_dense.specs.Internal.Fused.{IsRow, EndsBefore, IsFusedOf}
+use Rattle.lalrpop_dense.specs.Internal.Marks.{IsMark, AreMarks}
+use Rattle.lalrpop_dense.specs.Internal.Reading.{ReadsChar, found}
+use Rattle.lalrpop_dense.specs.declared.table.Layout.{Layout}
+use Rattle.lalrpop_dense.specs.declared.fused.Fused.{Fused}
+use Rattle.lalrpop_dense.specs.declared.mark.Mark.{Mark}
+use Rattle.lalrpop_dense.proofs.Walks.{IsWalked, walked_more, walk_accepts, walk_rejects, class_below}
+
+-- from `begin` on n bytes were read, and this is the fused row that they lead to
+pub record IsOpen (f : Fused) (t : Layout) (d : List Row) (text : List ℕ) (begin n row : ℕ) : Type 0 where
+  pub utf8 : IsUtf8 (drop begin text)
+  pub origin : ℕ
+  pub is_row : IsRow f row origin
+  pub walked : IsWalked t d (drop begin text) n origin
+
+-- the text was read up to the place, and the ends of tokens up to there are marked
+pub record IsMarked (f : Fused) (t : Layout) (d : List Row) (text : List ℕ) (from at row : ℕ) (marks : List Mark) : Type 0 where
+  pub cut : IsCut text at (drop at text)
+  pub begin : ℕ
+  pub read : ℕ
+  pub place : at ≡ begin + read
+  pub marked : AreMarks f t d text from begin marks
+  pub is_open : IsOpen f t d text begin read row
+
+-- the character stands in what is left from `begin` on
+reads_from : (text : List ℕ) (begin n n2 at at2 c : ℕ) → ReadsChar text at at2 c → at ≡ begin + n → n2 ≡ n + length (encode_utf8 c) → ReadsChar (drop begin text) n n2 c
+reads_from text begin n n2 at at2 c r e l =
+    let from : drop n (drop begin text) ≡ drop at text = drop-drop n begin text ∙ ap (λ (k : ℕ). drop k text) (sym e) in
+    let to_at : begin + n2 ≡ at2 = omega (arith, e, l, r.place) in
+    let to : drop n2 (drop begin text) ≡ drop at2 text = drop-drop n2 begin text ∙ ap (λ (k : ℕ). drop k text) to_at in
+    record {
+      split = from ∙ r.split ∙ ap (λ (xs : List ℕ). encode_utf8 c ++ xs) (sym to);
+      place = l;
+      scalar = r.scalar;
+    }
+
+at_start : (t : Layout) (d : List Row) (text : List ℕ) → IsUtf8 text → 0 < length d → IsWalked t d text 0 (row_of t 0)
+at_start t d text u some =
+    let start : after d (chars (take 0 text)) ≡ 0 = ap (after d) chars-nil in
+    record { cut = cut_start text u; within = omega (arith, start, some); row = ap (row_of t) (sym start) }
+
+pub marked_start : (f : Fused) (t : Layout) (cells : List ℕ) (d : List Row) (text : List ℕ) (from row : ℕ) → IsTableOf t cells d → IsFusedOf f t cells → IsUtf8 text → 0 < length d
+    → IsCharBoundary text from → row ≡ f.first → IsMarked f t d text from from row []
+marked_start f t cells d text from row h k u some b e =
+    let rest : IsUtf8 (drop from text) = IsUtf8-drop text from u b in
+    record {
+      cut = record { split = sym (take-append-drop from text); place = length-take-le from text b.0; seen_utf8 = IsUtf8-take text from u b; rest_utf8 = rest };
+      begin = from;
+      read = 0;
+      place = omega arith;
+      marked = refl;
+      is_open = record {
+        utf8 = rest;
+        origin = row_of t 0;
+        is_row = subst (λ (x : ℕ). IsRow f x (row_of t 0)) (sym e) k.start;
+        walked = at_start t d (drop from text) rest some;
+      };
+    }
+
+-- the cell of a character stands in the fused table
+pub in_fused_row : (f : Fused) (t : Layout) (cells : List ℕ) (d : List Row) (text : List ℕ) (from at row class c : ℕ) (marks : List Mark) → IsTableOf t cells d → IsFusedOf f t cells
+    → IsMarked f t d text from at row marks → class ≡ class_of t c → row + class < length f.cells.items
+in_fused_row f t cells d text from at row class c marks h k m e =
+    omega (arith, e, class_below t c h.classes, (k.rows record { start = row; origin = m.is_open.origin } m.is_open.is_row).within)
+
+pub marked_boundary : (f : Fused) (t : Layout) (d : List Row) (text : List ℕ) (from at row : ℕ) (marks : List Mark) → IsUtf8 text → IsMarked f t d text from at row marks → IsCharBoundary text at
+marked_boundary f t d text from at row marks u m =
+    IsCharBoundary-from_take text at u (omega (arith, cut_within text (drop at text) at m.cut)) m.cut.seen_utf8
+
+-- ---- one character more
+
+marks_push : (f : Fused) (t : Layout) (d : List Row) (text : List ℕ) (from to : ℕ) (ms : List Mark) (m : Mark) → AreMarks f t d text from to ms → IsMark f t d text to m
+    → AreMarks f t d text from m.place (ms ++ m ∷ [])
+marks_push f t d text from to [] m h k = (subst (λ (n : ℕ). IsMark f t d text n m) (sym h) k, refl)
+marks_push f t d text from to (x ∷ ms) m h k = (h.0, marks_push f t d text x.place to ms m h.1 k)
+
+-- a row that isn't START's was reached by some character
+some_read : (t : Layout) (d : List Row) (left : List ℕ) (n row : ℕ) → IsWalked t d left n row → row ≢ row_of t 0 → 0 < n
+some_read t d left n row w later = elim (cases_lt 0 n) [
+  | inl above ↦ above
+  | inr below ↦ (
+      let none : n ≡ 0 = omega (arith, below) in
+      let start : after d (chars (take n left)) ≡ 0 = ap (λ (m : ℕ). after d (chars (take m left))) none ∙ ap (after d) chars-nil in
+      absurd (later (w.row ∙ ap (row_of t) start))
+      )
+]
+
+-- the begin match goes on
+open_on : (f : Fused) (t : Layout) (cells : List ℕ) (d : List Row) (text : List ℕ) (begin n n2 row next class c at at2 : ℕ) → IsTableOf t cells d → IsWellFormed d
+    → (o : IsOpen f t d text begin n row) → ReadsChar text at at2 c → at ≡ begin + n → n2 ≡ n + length (encode_utf8 c) → class ≡ class_of t c
+    → IsRow f next (get_or cells (o.origin + class) 0) → IsOpen f t d text begin n2 next
+open_on f t cells d text begin n n2 row next class c at at2 h wf o r e l k leads =
+    record {
+      utf8 = o.utf8;
+      origin = get_or cells (o.origin + class) 0;
+      is_row = leads;
+      walked = walked_more t cells d (drop begin text) n n2 o.origin (get_or cells (o.origin + class) 0) class c h wf o.utf8 o.walked (reads_from text begin n n2 at at2 c r e l) k refl;
+    }
+
+-- a match begins with the character
+open_new : (f : Fused) (t : Layout) (cells : List ℕ) (d : List Row) (text : List ℕ) (next class c at at2 n2 : ℕ) → IsTableOf t cells d → IsWellFormed d
+    → IsUtf8 (drop at text) → ReadsChar text at at2 c → n2 ≡ length (encode_utf8 c) → class ≡ class_of t c
+    → IsRow f next (get_or cells (row_of t 0 + class) 0) → IsOpen f t d text at n2 next
+open_new f t cells d text next class c at at2 n2 h wf u r l k leads =
+    record {
+      utf8 = u;
+      origin = get_or cells (row_of t 0 + class) 0;
+      is_row = leads;
+      walked = walked_more t cells d (drop at text) 0 n2 (row_of t 0) (get_or cells (row_of t 0 + class) 0) class c h wf u
+          (at_start t d (drop at text) u wf.some) (reads_from text at 0 n2 at at2 c r (omega arith) (omega (arith, l))) k refl;
+    }
+
+-- a match has ended before the character
+mark_of : (f : Fused) (t : Layout) (cells : List ℕ) (d : List Row) (text : List ℕ) (begin n row class c at at2 : ℕ) → IsTableOf t cells d → IsFusedOf f t cells → IsWellFormed d
+    → (o : IsOpen f t d text begin n row) → IsCharBoundary text at → ReadsChar text at at2 c → at ≡ begin + n → class ≡ class_of t c → EndsBefore t cells o.origin class
+    → IsMark f t d text begin (record { place = at; row = row })
+mark_of f t cells d text begin n row class c at at2 h k wf o b r e same ends =
+    let left = drop begin text in
+    let right = k.rows record { start = row; origin = o.origin } o.is_row in
+    let n2 = n + length (encode_utf8 c) in
+    let read : ReadsChar left n n2 c = reads_from text begin n n2 at at2 c r e refl in
+    let some : 0 < n = some_read t d left n o.origin o.walked ends.later in
+    let w2 : IsWalked t d left n2 (get_or cells (o.origin + class) 0) = walked_more t cells d left n n2 o.origin (get_or cells (o.origin + class) 0) class c h wf o.utf8 o.walked read same refl in
+    let size : at - begin ≡ n = omega (arith, e) in
+    record {
+      some = omega (arith, some, e);
+      boundary = b;
+      within = right.within;
+      longest = λ ts ps s.
+          subst (λ (i : ℕ). IsLongest ts ps left (Some (i, take (at - begin) left))) (sym right.pattern)
+          (subst (λ (m : ℕ). IsLongest ts ps left (Some (get_or cells (o.origin + t.width) 0, take m left))) (sym size)
+          (walk_rejects t cells d left n n2 o.origin (get_or cells (o.origin + class) 0) c (Some (found t cells left (o.origin, n))) h o.walked w2 read ends.dead ts ps s
+          (walk_accepts t cells d left n o.origin h o.walked some ends.live ends.accepts ts ps s)));
+    }
+
+-- one character more: the marks are kept, or one is added
+pub marked_more : (f : Fused) (t : Layout) (cells : List ℕ) (d : List Row) (text : List ℕ) (from at at2 row next class c : ℕ) (ms : List Mark) → IsTableOf t cells d → IsFusedOf f t cells → IsWellFormed d
+    → IsUtf8 text → IsMarked f t d text from at row ms → ReadsChar text at at2 c → class ≡ class_of t c → next ≡ get_or f.cells.items (row + class) 0 → next ≢ 0
+    → (next < f.emit → IsMarked f t d text from at2 next ms) × (f.emit ≤ next → IsMarked f t d text from at2 next (ms ++ record { place = at; row = row } ∷ []))
+marked_more f t cells d text from at at2 row next class c ms h k wf u m r same e some =
+    let o = m.is_open in
+    let right = k.rows record { start = row; origin = o.origin } o.is_row in
+    let below : class < t.width = omega (arith, same, class_below t c h.classes) in
+    let cut : IsCut text at2 (drop at2 text) = cut_more text (drop at text) (drop at2 text) at at2 c u m.cut r.split r.place in
+    elim (right.leads class below) [
+      | inl nowhere ↦ absurd (some (e ∙ nowhere))
+      | inr (inl on) ↦ (
+        λ below. record {
+          cut = cut;
+          begin = m.begin;
+          read = m.read + length (encode_utf8 c);
+          place = omega (arith, m.place, r.place);
+          marked = m.marked;
+          is_open = open_on f t cells d text m.begin m.read (m.read + length (encode_utf8 c)) row next class c at at2 h wf o r m.place refl same
+              (subst (λ (x : ℕ). IsRow f x (get_or cells (o.origin + class) 0)) (sym e) on.1);
+        },
+        λ above. absurd (omega (arith, e, on.0, above)),
+      )
+      | inr (inr ends) ↦ (
+        λ below. absurd (omega (arith, e, ends.0, below)),
+        λ above. record {
+          cut = cut;
+          begin = at;
+          read = length (encode_utf8 c);
+          place = r.place;
+          marked = marks_push f t d text from m.begin ms (record { place = at; row = row }) m.marked
+              (mark_of f t cells d text m.begin m.read row class c at at2 h k wf o (marked_boundary f t d text from at row ms u m) r m.place same ends.1);
+          is_open = open_new f t cells d text next class c at at2 (length (encode_utf8 c)) h wf m.cut.rest_utf8 r refl same
+              (subst (λ (x : ℕ). IsRow f x (get_or cells (row_of t 0 + class) 0)) (sym e) ends.2);
+        },
+      )
+    ]
+
+-- of the marks that are kept, where one more was written
+pub marked_kept : (f : Fused) (t : Layout) (d : List Row) (text : List ℕ) (from at2 next place row count one : ℕ) (all all2 : List Mark)
+    → (next < f.emit → IsMarked f t d text from at2 next (take count all)) × (f.emit ≤ next → IsMarked f t d text from at2 next (take count all ++ record { place = place; row = row } ∷ []))
+    → count < length all → all2 ≡ slice_set all count (record { place = place; row = row })
+    → ((next < f.emit) × (one ≡ 0)) ⊎ ((f.emit ≤ next) × (one ≡ 1)) → IsMarked f t d text from at2 next (take (count + one) all2)
+marked_kept f t d text from at2 next place row count one all all2 m within e (inl below) =
+    let same : count + one ≡ count = omega (arith, below.1) in
+    subst (IsMarked f t d text from at2 next) (sym (ap (λ (n : ℕ). take n all2) same ∙ ap (take count) e ∙ take-set all count (record { place = place; row = row }))) (m.0 below.0)
+marked_kept f t d text from at2 next place row count one all all2 m within e (inr above) =
+    let same : count + one ≡ count + 1 = omega (arith, above.1) in
+    subst (IsMarked f t d text from at2 next) (sym (ap (λ (n : ℕ). take n all2) same ∙ ap (take (count + 1)) e ∙ take_more_set all count (record { place = place; row = row }) within)) (m.1 above.0)
+
+-- at most one
+pub kept_few : (next emit one : ℕ) → ((next < emit) × (one ≡ 0)) ⊎ ((emit ≤ next) × (one ≡ 1)) → one ≤ 1
+kept_few next emit one (inl below) = omega (arith, below.1)
+kept_few next emit one (inr above) = omega (arith, above.1)

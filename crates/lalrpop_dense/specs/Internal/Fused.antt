@@ -1,0 +1,45 @@
+-- A fused table beside a table: where a match has ended before a character, it leads on to where START leads, in rows of their own.
+use Rattle.std.specs.Prelude.{◌≡◌, ◌≢◌, ℕ, ◌+◌, ◌<◌, ◌≤◌, ◌⊎◌, List, length, slice_index, IfSome}
+use Rattle.std.specs.List.{Contains}
+use Rattle.lalrpop_table.specs.Dfa.{Row}
+use Rattle.lalrpop_dense.specs.Internal.Table.{IsTableOf, numbers_of, row_of}
+use Rattle.lalrpop_dense.specs.declared.table.Layout.{Layout}
+use Rattle.lalrpop_dense.specs.declared.table.Table.{Table}
+use Rattle.lalrpop_dense.specs.declared.fused.Fused.{Fused}
+use Rattle.lalrpop_dense.specs.declared.fused.FusedRow.{FusedRow}
+
+-- a fused row begins at `start`, and stands for the row of the table that begins at `origin`
+abbrev pub IsRow : Fused → ℕ → ℕ → Type 0
+IsRow f start origin = Contains f.rows.items (record { start = start; origin = origin })
+
+-- a match ends in this row before a character of the class: the state accepts, isn't START, and the character leads to a reject state
+pub record EndsBefore (t : Layout) (cells : List ℕ) (row class : ℕ) : Type 0 where
+  pub live : t.live ≤ row
+  pub accepts : t.accept ≤ row
+  pub later : row ≢ row_of t 0
+  pub dead : slice_index cells (row + class) < t.live
+
+-- where a fused row leads by a class: nowhere, to where its state leads, or where a match has ended to where START leads
+abbrev pub Leads : Fused → Layout → List ℕ → FusedRow → ℕ → Type 0
+Leads f t cells r class =
+    (slice_index f.cells.items (r.start + class) ≡ 0)
+    ⊎ (((slice_index f.cells.items (r.start + class) < f.emit)
+    × IsRow f (slice_index f.cells.items (r.start + class)) (slice_index cells (r.origin + class)))
+    ⊎ ((f.emit ≤ slice_index f.cells.items (r.start + class)) × EndsBefore t cells r.origin class
+    × IsRow f (slice_index f.cells.items (r.start + class)) (slice_index cells (row_of t 0 + class))))
+
+-- a fused row has a cell for each class, and behind them the pattern
+pub record IsRightRow (f : Fused) (t : Layout) (cells : List ℕ) (r : FusedRow) : Type 0 where
+  pub within : r.start + t.width < length f.cells.items
+  pub pattern : slice_index f.cells.items (r.start + t.width) ≡ slice_index cells (r.origin + t.width)
+  pub leads : (class : ℕ) → class < t.width → Leads f t cells r class
+
+-- it begins in a row of START, and all its rows are right
+pub record IsFusedOf (f : Fused) (t : Layout) (cells : List ℕ) : Type 0 where
+  pub start : IsRow f f.first (row_of t 0)
+  pub rows : (r : FusedRow) → Contains f.rows.items r → IsRightRow f t cells r
+
+-- the table is that of the automaton, and a fused table beside it is that of the table
+pub record IsTable (t : Table) (d : List Row) : Type 0 where
+  pub plain : IsTableOf t.layout (numbers_of t.cells) d
+  pub fused : IfSome t.fused (λ f. IsFusedOf f t.layout (numbers_of t.cells))

@@ -1,0 +1,13 @@
+-- cases: proofs/Cases/Leading.antt
+-- Tokens that lead from one place of a text to another.
+use Rattle.std.specs.Prelude.{◌≡◌, ℕ, ◌+◌, List, [], ◌∷◌, length, drop, Some}
+use Rattle.lalrpop_book.specs.Tree.{Tree}
+use Rattle.lalrpop_book.specs.Longest.{IsLongest}
+use Rattle.lalrpop_book.specs.declared.token.Token.{Token}
+
+-- one token after another, from the one place to the other: each is the longest match of the rest where it begins
+abbrev pub LeadTo : List Tree → List ℕ → List ℕ → ℕ → ℕ → List Token → Type 0
+LeadTo ts ps text at to [] = at ≡ to
+LeadTo ts ps text at to (token ∷ xs) =
+    (token.start ≡ at) × IsLongest ts ps (drop at text) (Some (token.index, token.slice.now))
+    × LeadTo ts ps text (at + length token.slice.now) to xs

@@ -1,0 +1,55 @@
+//! The tokens of a block of a text.
+
+ghost use Rattle.std.specs.Prelude.{◌≡◌, ℕ, ◌<◌, ◌++◌, List, length, IfOk};
+ghost use Rattle.std.specs.Str.{IsCharBoundary};
+ghost use Rattle.lalrpop_book.specs.Tree.{Tree};
+ghost use Rattle.lalrpop_book.specs.declared.token.Token.{Token as TokenValue};
+ghost use Rattle.lalrpop_table.specs.Dfa.{Recognizes};
+ghost use Rattle.lalrpop_dense.specs.Leading.{LeadTo};
+ghost use Rattle.lalrpop_dense.specs.Internal.Marks.{AreMarks};
+
+use crate::mark::{Engine, Mark};
+use crate::table::Cells;
+use lalrpop_book::Token;
+use lalrpop_table::NfaIndex;
+use std::alloc::AllocError;
+
+/// Adds the tokens that end at the marks. Answers where the last one ends.
+///
+/// # Errors
+///
+/// `AllocError` where a request for memory was refused.
+pub(crate) fn push_marked<'text, C: Cells>(
+    engine: &Engine<C>,
+    text: &'text str,
+    from: usize,
+    marks: &[Mark],
+    tokens: &mut Vec<Token<'text>>,
+) -> Result<usize, AllocError>
+    requires boundary { IsCharBoundary text.now from }
+    requires marks { (to : ℕ) × AreMarks engine.now.fused.now engine.now.layout.now engine.now.dfa.now
+        text.now from to marks.now }
+    ensures tokens { IfOk result (λ to. (xs : List TokenValue) × (tokens.new.items ≡ tokens.old.items ++ xs)
+        × ((ts : List Tree) (ps : List ℕ) → Recognizes engine.now.dfa.now ts ps
+        → LeadTo ts ps text.now from to xs)) }
+    ensures boundary { IfOk result (λ to. IsCharBoundary text.now to) }
+    ensures goes { IfOk result (λ to. 0 < length marks.now → from < to) }
+{
+    let fused = engine.fused;
+    let width = engine.layout.width;
+    let mut start = from;
+    for mark in marks {
+        let pattern = fused.cells[mark.row as usize + width];
+        // A `?` would give the token back.
+        let token = Token {
+            index: NfaIndex::new(pattern as usize),
+            slice: &text[start..mark.place],
+            start,
+        };
+        match tokens.push(token) {
+            Ok(()) => start = mark.place,
+            Err(_) => return Err(AllocError),
+        }
+    }
+    Ok(start)
+}

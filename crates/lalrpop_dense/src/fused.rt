@@ -1,0 +1,113 @@
+//! A table that leads on behind the end of a match, so that a whole text can be cut with no branch at a token's end.
+
+ghost use Rattle.std.specs.Prelude.{◌≡◌, ℕ, ◌+◌, ◌<◌, length, IsTrue};
+ghost use Rattle.lalrpop_dense.specs.Internal.Fused.{IsRow, EndsBefore, Leads, IsRightRow, IsFusedOf};
+
+use crate::table::Layout;
+use std::alloc::{AllocError, Global};
+
+/// A row of a fused table.
+#[derive(Clone, Copy, Debug)]
+pub(crate) struct FusedRow {
+    // Where it begins.
+    pub(crate) start: u32,
+    // Where the row of its state begins in the table that was fused.
+    pub(crate) origin: u32,
+}
+
+/// A table of which an accepting state that can't go on leads straight to where START leads by the same character. Then it
+/// leads to one of the rows behind `emit`, which are copies.
+#[derive(Debug, Drop)]
+pub(crate) struct Fused {
+    // Of each row a cell for each class of characters, and the pattern. The first row is of no state: a cell of 0 leads nowhere.
+    pub(crate) cells: Vec<u16>,
+    pub(crate) rows: Vec<FusedRow>,
+    // The row of START.
+    pub(crate) first: u16,
+    // Where the first copy begins.
+    pub(crate) emit: u16,
+}
+
+// Whether there is such a row. Rows stand in order, one behind another, without the first.
+fn is_row(fused: &Fused, width: usize, start: u32, origin: u32) -> bool
+    requires { width < 65536 }
+    ensures { IsTrue result → IsRow fused.now start origin }
+{
+    let place = (start as usize / (width + 1)).wrapping_sub(1);
+    match fused.rows.get(place) {
+        Some(row) => row.start == start && row.origin == origin,
+        None => false,
+    }
+}
+
+fn ends_before(layout: &Layout, cells: &[u32], row: usize, class: usize) -> bool
+    requires rows { 0 < length layout.now.rows.items }
+    requires within { row + class < length cells.now }
+    ensures { IsTrue result → EndsBefore layout.now cells.now row class }
+{
+    layout.live <= row
+        && layout.accept <= row
+        && row != layout.rows[0] as usize
+        && (cells[row + class] as usize) < layout.live
+}
+
+// Whether the cell of the class leads where it should.
+fn leads_right(fused: &Fused, layout: &Layout, cells: &[u32], row: FusedRow, class: usize) -> bool
+    requires narrow { layout.now.width < 65536 }
+    requires class { class < layout.now.width }
+    requires start { row.start + layout.now.width < length fused.now.cells.items }
+    requires origin { row.origin + layout.now.width < length cells.now }
+    ensures { IsTrue result → Leads fused.now layout.now cells.now row class }
+{
+    let to = fused.cells[row.start as usize + class];
+    if to == 0 {
+        return true;
+    }
+    if to < fused.emit {
+        let target = cells[row.origin as usize + class];
+        return is_row(fused, layout.width, u32::from(to), target);
+    }
+    if layout.rows.is_empty() || layout.rows[0] as usize + layout.width >= cells.len() {
+        return false;
+    }
+    let target = cells[layout.rows[0] as usize + class];
+    ends_before(layout, cells, row.origin as usize, class)
+        && is_row(fused, layout.width, u32::from(to), target)
+}
+
+fn is_right_row(fused: &Fused, layout: &Layout, cells: &[u32], row: FusedRow) -> bool
+    requires { layout.now.width < 65536 }
+    ensures { IsTrue result → IsRightRow fused.now layout.now cells.now row }
+{
+    if row.start as usize + layout.width >= fused.cells.len()
+        || row.origin as usize + layout.width >= cells.len()
+        || u32::from(fused.cells[row.start as usize + layout.width])
+            != cells[row.origin as usize + layout.width]
+    {
+        return false;
+    }
+    for class in 0..layout.width {
+        if !leads_right(fused, layout, cells, row, class) {
+            return false;
+        }
+    }
+    true
+}
+
+/// Whether the fused table is that of the table.
+pub(crate) fn is_fused_of(fused: &Fused, layout: &Layout, cells: &[u32]) -> bool
+    ensures { IsTrue result → IsFusedOf fused.now layout.now cells.now }
+{
+    if layout.rows.is_empty()
+        || layout.width > 65535
+        || !is_row(fused, layout.width, u32::from(fused.first), layout.rows[0])
+    {
+        return false;
+    }
+    for row in &fused.rows {
+        if !is_right_row(fused, layout, cells, *row) {
+            return false;
+        }
+    }
+    true
+}

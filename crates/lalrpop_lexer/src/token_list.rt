@@ -1,0 +1,12 @@
+//! All tokens of a text.
+
+use lalrpop_book::{Token, TokenFault};
+
+/// The tokens of a whole text, and the fault at which they end, if there is one.
+#[derive(Debug, Drop)]
+pub struct TokenList<'text> {
+    /// The tokens, in the order of their places.
+    pub tokens: Vec<Token<'text>>,
+    /// The first place where no pattern matches. `None` where the tokens are the whole text.
+    pub fault: Option<TokenFault>,
+}
