@@ -16,6 +16,8 @@ mod equality;
 #[cfg(test)]
 mod linear;
 #[cfg(test)]
+mod lists;
+#[cfg(test)]
 mod lookaheads;
 #[cfg(test)]
 mod order;

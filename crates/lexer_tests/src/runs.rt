@@ -2,7 +2,7 @@
 
 use crate::built::{built_with, expect, halves, nfa_for};
 use lalrpop_lexer::lexer::dfa::interpret::{interpret, interpret_counted, interpret_probed};
-use lalrpop_lexer::lexer::dfa::{Dfa, Precedence};
+use lalrpop_lexer::lexer::dfa::{Dfa, DfaStateIndex, Kind, Precedence, START};
 use lalrpop_lexer::lexer::nfa::{self, Nfa, Steps};
 use std::alloc::{AllocError, Global};
 
@@ -46,6 +46,64 @@ fn class_and_words(alloc: Global) -> Result<bool, AllocError> {
 #[test]
 fn built_once_and_run(rt: HostRuntime) {
     assert!(rt; class_and_words(rt.alloc()) == Ok(true));
+}
+
+// The kinds of the states that the characters of a text lead to from this one, and the last state.
+fn kinds_from(
+    alloc: Global,
+    dfa: &Dfa,
+    from: DfaStateIndex,
+    text: &str,
+) -> Result<(String, DfaStateIndex), AllocError> {
+    let mut kinds = String::new(alloc);
+    let mut state = from;
+    for c in text.chars() {
+        if state.index() >= dfa.states().len() {
+            break;
+        }
+        state = dfa.step(state, u32::from(c));
+        match dfa.state(state).kind() {
+            Kind::Accepts(index) => kinds.push_str(&format!(in alloc; "{}", index.index())?)?,
+            Kind::Reject => kinds.push('x')?,
+            Kind::Neither => kinds.push('-')?,
+        }
+    }
+    Ok((kinds, state))
+}
+
+// The same of a text that comes in parts, with spaces between them.
+fn kinds_of_parts(alloc: Global, parts: &str) -> Result<String, AllocError> {
+    let dfa = built_with(
+        alloc,
+        r"'class' [a-zé]+ '>>' '>>='",
+        &[Precedence(1), Precedence(0), Precedence(0), Precedence(0)],
+    )?;
+    let mut kinds = String::new(alloc);
+    let mut state = START;
+    for part in parts.split_whitespace() {
+        let (more, last) = kinds_from(alloc, &dfa, state, part)?;
+        kinds.push_str(&more)?;
+        state = last;
+    }
+    Ok(kinds)
+}
+
+// A number is the pattern that is matched, `-` stands for none yet, and `x` for none any more.
+const IN_PARTS: &str = "
+cla ss => 11110
+class é => 111101
+clasé => 11111
+> >= => -23
+>> > = => -2xx
+! a => xx
+";
+
+#[test]
+fn run_in_parts(rt: HostRuntime) {
+    for row in IN_PARTS.trim().lines() {
+        let (parts, wanted) = halves(row, " => ");
+        expect(&rt, kinds_of_parts(rt.alloc(), parts), wanted);
+    }
 }
 
 // What the automaton of one pattern finds in a text, the empty match included. `memory_tests` has more rows.

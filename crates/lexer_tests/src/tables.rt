@@ -1,7 +1,8 @@
 //! Automata that are run by their tables.
 
-use crate::built::{built, built_with, expect, halves};
-use lalrpop_lexer::lexer::dfa::{DenseDfa, Dfa, Precedence};
+use crate::built::{built, built_with, expect, halves, trees_of};
+use lalrpop_lexer::lexer::dfa::{DenseDfa, Dfa, Marks, Precedence};
+use lalrpop_lexer::{Lexer, TokenList};
 use std::alloc::{AllocError, Global};
 use std::process::Abort;
 
@@ -96,4 +97,109 @@ fn nothing_by_a_table(rt: HostRuntime) {
     expect_rows(&rt, rt.alloc(), empty, "a => a");
     let any = built(rt.alloc(), "a*").expect(&rt, "an automaton");
     expect_rows(&rt, rt.alloc(), any, "b => b");
+}
+
+// The tokens, and what stands behind them.
+fn told(alloc: Global, list: &TokenList, text: &str) -> Result<String, AllocError> {
+    let mut found = String::new(alloc);
+    for token in &list.tokens {
+        let index = token.index.index();
+        let slice = token.slice;
+        let line = format!(in alloc; "{index} {slice}, ")?;
+        found.push_str(&line)?;
+    }
+    if let Some(fault) = &list.fault {
+        found.push_str(text.get(fault.at..).unwrap_or(""))?;
+    }
+    Ok(found)
+}
+
+fn list_by(alloc: Global, lexer: &Lexer, text: &str) -> Result<String, AllocError> {
+    let list = lexer.token_list(alloc, text)?;
+    told(alloc, &list, text)
+}
+
+// The first pattern is stronger than the others.
+fn lexer_of(rt: &impl Abort, alloc: Global, words: &str) -> Lexer {
+    let trees = trees_of(alloc, words).expect(rt, "trees");
+    let mut precedences = vec![in alloc; WEAK; trees.len()].expect(rt, "memory");
+    if let Some(first) = precedences.first_mut() {
+        *first = Precedence(1);
+    }
+    assert!(rt; trees.len() == precedences.len());
+    Lexer::new(alloc, trees, precedences).expect(rt, "a lexer")
+}
+
+// Each row's text is cut so into a list.
+fn expect_lists(rt: &impl Abort, alloc: Global, lexer: &Lexer, table: &str) {
+    for row in table.trim_matches('\n').lines() {
+        let (text, wanted) = halves(row, " => ");
+        expect(rt, list_by(alloc, lexer, text), wanted);
+    }
+}
+
+#[test]
+fn words_in_a_list(rt: HostRuntime) {
+    let lexer = lexer_of(&rt, rt.alloc(), WORDS);
+    expect_lists(&rt, rt.alloc(), &lexer, WORDS_CUT);
+    expect(&rt, list_by(rt.alloc(), &lexer, ""), "");
+}
+
+#[test]
+fn scripts_in_a_list(rt: HostRuntime) {
+    let lexer = lexer_of(&rt, rt.alloc(), SCRIPTS);
+    expect_lists(&rt, rt.alloc(), &lexer, SCRIPTS_CUT);
+}
+
+// Seven hundred times the six bytes of a keyword and a space, a name of 5,000 letters, which no block holds, and a character that
+// no pattern begins with.
+fn long_text(alloc: Global) -> Result<String, AllocError> {
+    let mut text = String::new(alloc);
+    for _ in 0..700u32 {
+        text.push_str("class ")?;
+    }
+    for _ in 0..5000u32 {
+        text.push_str("n")?;
+    }
+    text.push_str(".")?;
+    Ok(text)
+}
+
+// How many tokens there are, where the last one begins and how long it is, and where no pattern matches.
+fn shape_of(alloc: Global, list: &TokenList) -> Result<String, AllocError> {
+    let count = list.tokens.len();
+    let last = list.tokens.last();
+    let (start, length) = last.map_or((0, 0), |token| (token.start, token.slice.len()));
+    let at = list.fault.map_or(0, |fault| fault.at);
+    format!(in alloc; "{count} {start} {length} {at}")
+}
+
+fn long_list(alloc: Global, lexer: &Lexer) -> Result<String, AllocError> {
+    let text = long_text(alloc)?;
+    let list = lexer.token_list(alloc, &text)?;
+    shape_of(alloc, &list)
+}
+
+#[test]
+fn a_list_of_many_blocks(rt: HostRuntime) {
+    let lexer = lexer_of(&rt, rt.alloc(), WORDS);
+    expect(&rt, long_list(rt.alloc(), &lexer), "1401 4200 5000 9200");
+}
+
+// How many tokens are found at once.
+fn first_block(alloc: Global, dense: &DenseDfa, text: &str) -> Result<usize, AllocError> {
+    let mut marks = Marks::new(alloc)?;
+    let mut tokens = Vec::new(alloc);
+    let _end = dense.cut_block(text, 0, &mut marks, &mut tokens)?;
+    Ok(tokens.len())
+}
+
+// There is a fused table: without one only the first token would be found. Whether a longer match comes is open at the end.
+#[test]
+fn a_block_at_once(rt: HostRuntime) {
+    let precedences = [Precedence(1), WEAK, WEAK, WEAK, WEAK, WEAK];
+    let dfa = built_with(rt.alloc(), WORDS, &precedences).expect(&rt, "an automaton");
+    let dense = with_table(&rt, rt.alloc(), dfa);
+    let found = first_block(rt.alloc(), &dense, "class >>classes").expect(&rt, "memory");
+    assert!(rt; found == 3);
 }

@@ -5,8 +5,11 @@ use crate::trees::tree_of;
 use lalrpop_hir::Hir;
 use lalrpop_lexer::lexer::dfa::interpret::interpret;
 use lalrpop_lexer::lexer::dfa::overlap::{remove_overlap, remove_overlap_counted};
-use lalrpop_lexer::lexer::dfa::{Dfa, DfaConstructionError, Precedence, State, build_dfa};
+use lalrpop_lexer::lexer::dfa::{
+    DenseDfa, Dfa, DfaConstructionError, Precedence, State, build_dfa,
+};
 use lalrpop_lexer::lexer::nfa::{self, Nfa, NfaConstructionError, Steps, Test};
+use lalrpop_lexer::{Lexer, TokenList};
 use std::alloc::{AllocError, Global};
 use std::collections::BTreeSet;
 use std::env::{self, VarError};
@@ -341,4 +344,104 @@ fn automata_are_copied(rt: HostRuntime) {
     let table = "\
 1 class / 0 [a-zA-Z_][a-zA-Z0-9_]* / 0 [0-9]+ / 0  + / 0 >> / 0 > <- classz Foo => 1 classz";
     expect(&rt, rt.alloc(), Call::AutomatonCopy, table, 1);
+}
+
+// What the table of the automaton finds at the front of the text.
+fn found_by_table(alloc: Global, dense: &DenseDfa, text: &str) -> Result<String, AllocError> {
+    if !dense.has_table() {
+        return String::from_str(alloc, "no table");
+    }
+    match dense.longest(text) {
+        Some((index, matched)) => format!(in alloc; "{} {matched}", index.index()),
+        None => String::from_str(alloc, "none"),
+    }
+}
+
+// What the table of the automaton of the patterns in `PATTERNS <- TEXT` finds in the text.
+pub(crate) fn by_table(alloc: Global, row: &str) -> Result<String, AllocError> {
+    let (rows, text) = halves(row, " <- ");
+    let dense = DenseDfa::new(alloc, dfa_for(alloc, rows)?)?;
+    found_by_table(alloc, &dense, text)
+}
+
+#[test]
+fn tables_are_made(rt: HostRuntime) {
+    let table = "\
+1 class / 0 [a-zé]+ / 0 [0-9]+ <- classé 1 => 1 classé
+0 a <- b => none";
+    expect(&rt, rt.alloc(), Call::Table, table, 2);
+}
+
+fn lexer_for(alloc: Global, rows: &str) -> Result<Lexer, AllocError> {
+    let trees = trees_of(alloc, rows)?;
+    let precedences = precedences_of(alloc, rows)?;
+    if trees.len() != precedences.len() {
+        return Err(AllocError);
+    }
+    match Lexer::new(alloc, trees, precedences) {
+        Ok(lexer) => Ok(lexer),
+        Err(_) => Err(AllocError),
+    }
+}
+
+fn told_list(alloc: Global, list: &TokenList) -> Result<String, AllocError> {
+    let mut line = String::new(alloc);
+    for token in &list.tokens {
+        let index = token.index.index();
+        let part = format!(in alloc; "{index}")?;
+        add(&mut line, " ", part.as_str())?;
+    }
+    if let Some(fault) = &list.fault {
+        let at = fault.at;
+        let part = format!(in alloc; "fault {at}")?;
+        add(&mut line, " ", part.as_str())?;
+    }
+    Ok(line)
+}
+
+fn list_by(alloc: Global, lexer: &Lexer, text: &str) -> Result<String, AllocError> {
+    let list = lexer.token_list(alloc, text)?;
+    told_list(alloc, &list)
+}
+
+// The patterns of all tokens of the text in `PATTERNS <- TEXT`, and the place of the fault.
+pub(crate) fn listed(alloc: Global, row: &str) -> Result<String, AllocError> {
+    let (rows, text) = halves(row, " <- ");
+    let lexer = lexer_for(alloc, rows)?;
+    list_by(alloc, &lexer, text)
+}
+
+#[test]
+fn texts_are_cut_into_lists(rt: HostRuntime) {
+    let table = "\
+1 class / 0 [a-z]+ / 0  +|> <- class classes>a => 0 2 1 2 1
+1 class / 0 [a-z]+ / 0  +|> <- a 1 => 1 2 fault 2";
+    expect(&rt, rt.alloc(), Call::List, table, 2);
+}
+
+fn linear_by(alloc: Global, lexer: &Lexer, text: &str) -> Result<String, AllocError> {
+    let mut line = String::new(alloc);
+    for item in lexer.tokens_linear(alloc, text)? {
+        let part = match item {
+            Ok(token) => format!(in alloc; "{}", token.index.index())?,
+            Err(fault) => format!(in alloc; "fault {}", fault.at)?,
+        };
+        add(&mut line, " ", part.as_str())?;
+    }
+    Ok(line)
+}
+
+// The same, cut in linear time.
+pub(crate) fn listed_linear(alloc: Global, row: &str) -> Result<String, AllocError> {
+    let (rows, text) = halves(row, " <- ");
+    let lexer = lexer_for(alloc, rows)?;
+    linear_by(alloc, &lexer, text)
+}
+
+#[test]
+fn texts_are_cut_in_linear_time(rt: HostRuntime) {
+    let table = "\
+0 a / 0 a*b <- aaab => 1
+0 a / 0 a*b <- aac => 0 0 fault 2";
+    expect(&rt, rt.alloc(), Call::Linear, table, 2);
 }

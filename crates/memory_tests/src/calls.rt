@@ -1,6 +1,6 @@
 //! Tables of rows `argument => answer`, and calls that are made again where they were refused memory.
 
-use crate::{automata, clashes, trees};
+use crate::{automata, clashes, rules, trees};
 use std::alloc::{AllocError, Global};
 use std::process::Abort;
 
@@ -32,8 +32,15 @@ pub(crate) enum Call {
     Cut,
     CountedCut,
     Build,
+    List,
+    Linear,
     Clashes,
     AutomatonCopy,
+    Table,
+    Patterns,
+    Rules,
+    RuleFile,
+    Page,
 }
 
 // The answer on one line, or out of memory.
@@ -52,8 +59,15 @@ fn answer(alloc: Global, call: Call, argument: &str) -> Result<String, AllocErro
         Call::Cut => automata::parts(alloc, argument, false),
         Call::CountedCut => automata::parts(alloc, argument, true),
         Call::Build => automata::tokens(alloc, argument),
+        Call::List => automata::listed(alloc, argument),
+        Call::Linear => automata::listed_linear(alloc, argument),
         Call::Clashes => clashes::all(alloc, argument),
         Call::AutomatonCopy => automata::copied(alloc, argument),
+        Call::Table => automata::by_table(alloc, argument),
+        Call::Patterns => rules::first_of_patterns(alloc, argument),
+        Call::Rules => rules::named(alloc, argument),
+        Call::RuleFile => rules::in_file(alloc, argument),
+        Call::Page => rules::page(alloc, argument),
     }
 }
 

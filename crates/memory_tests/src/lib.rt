@@ -14,6 +14,8 @@ mod kernels;
 #[cfg(test)]
 mod program;
 #[cfg(test)]
+mod rules;
+#[cfg(test)]
 mod trees;
 #[cfg(test)]
 mod without;

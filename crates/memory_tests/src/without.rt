@@ -283,12 +283,23 @@ fn have_other_edges_to(dfa: &Dfa, target: usize) -> bool {
     true
 }
 
+// Whether the text leads from the start to this state, step by step.
+fn leads_to(dfa: &Dfa, text: &str, target: usize) -> bool {
+    let _ = dfa.states();
+    let mut state = dfa::START;
+    for c in text.chars() {
+        state = dfa.step(state, u32::from(c));
+    }
+    state.index() == target
+}
+
 fn automaton_is_shown(dfa: &Dfa) -> bool {
     find_class(dfa, "class Foo", true)
         && find_class(dfa, "clasz", false)
         && dfa.states().len() == 7
         && has_one_edge_at_start(dfa)
         && have_other_edges_to(dfa, 2)
+        && leads_to(dfa, "clasz", 2)
 }
 
 fn many_trees_are_shown(alloc: Global) -> Result<bool, AllocError> {
