@@ -21,16 +21,24 @@ fn lexer(alloc: Global) -> Result<RuleLexer> {
     Ok(RuleLexer::from_rules(alloc, &rules)?)
 }
 
-// Writes the place, the name and the slice of each token, and `!` for the name where no rule matches.
-fn show(rt: &impl Print, lexer: &RuleLexer, text: &str) -> Result<()> {
+// Writes the place of a piece of the text, its name and its characters.
+fn show_piece(rt: &impl Print, text: &str, start: usize, name: &str, slice: &str) -> Result<()> {
+    if let Some(Position { line, column }) = Position::get(text, start) {
+        println!(rt; "{line}:{column} {name} {slice:?}")?;
+    }
+    Ok(())
+}
+
+// Writes each token, and `!` for the name where no rule matches.
+fn show<'x>(rt: &impl Print, lexer: &'x RuleLexer, text: &'x str) -> Result<()> {
     for item in lexer.items(text) {
-        let name = match item {
-            Item::Token(token) => lexer.name(token.index).unwrap_or("?"),
-            Item::Skipped(_) => continue,
-            Item::Fault { .. } => "!",
-        };
-        if let Some(Position { line, column }) = Position::get(text, item.start()) {
-            println!(rt; "{line}:{column} {name} {:?}", item.slice())?;
+        match item {
+            Item::Token(token) => {
+                let name = lexer.name(token.index).unwrap_or("?");
+                show_piece(rt, text, token.start, name, token.slice)?;
+            }
+            Item::Skipped(_) => {}
+            Item::Fault { start, slice } => show_piece(rt, text, start, "!", slice)?,
         }
     }
     Ok(())

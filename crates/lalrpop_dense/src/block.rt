@@ -18,7 +18,7 @@ use std::alloc::AllocError;
 ///
 /// # Errors
 ///
-/// `AllocError` where a request for memory was refused.
+/// `AllocError` if a request for memory was refused.
 pub(crate) fn push_marked<'text, C: Cells>(
     engine: &Engine<C>,
     text: &'text str,

@@ -48,12 +48,12 @@ impl Model for DenseDfa {
 }
 
 impl DenseDfa {
-    /// The automaton with its table, which it is run by. There is none where it would take much more memory than the automaton,
+    /// The automaton with the table that runs it. There is no table if it would take much more memory than the automaton,
     /// or has more than 255 classes of characters; then the automaton is run as it is.
     ///
     /// # Errors
     ///
-    /// `AllocError` where a request for memory was refused.
+    /// `AllocError` if a request for memory was refused.
     pub fn new(alloc: Global, dfa: Dfa) -> Result<DenseDfa, AllocError>
         ensures same { IfOk result (λ dense. dense ≡ dfa) }
     {
@@ -113,7 +113,7 @@ impl DenseDfa {
     ///
     /// # Errors
     ///
-    /// `AllocError` where a request for memory was refused.
+    /// `AllocError` if a request for memory was refused.
     pub fn cut_block<'text>(
         &self,
         text: &'text str,

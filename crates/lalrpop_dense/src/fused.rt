@@ -94,7 +94,7 @@ fn is_right_row(fused: &Fused, layout: &Layout, cells: &[u32], row: FusedRow) ->
     true
 }
 
-/// Whether the fused table is that of the table.
+/// Whether the fused table is right for the table.
 pub(crate) fn is_fused_of(fused: &Fused, layout: &Layout, cells: &[u32]) -> bool
     ensures { IsTrue result → IsFusedOf fused.now layout.now cells.now }
 {

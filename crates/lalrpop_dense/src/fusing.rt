@@ -4,7 +4,7 @@ use crate::fused::{Fused, FusedRow};
 use crate::table::Layout;
 use std::alloc::{AllocError, Global};
 
-// So many cells are told apart by 16 bits.
+// The most cells that 16 bits can number.
 const MOST: usize = 65536;
 
 fn narrow(number: usize) -> u16 {
@@ -57,7 +57,7 @@ struct Origins {
     plain: usize,
 }
 
-// A fused row for each row that is no reject state's, then a copy of each to which START leads.
+// A fused row for each row of a state other than reject states, then a copy of each to which START leads.
 fn origins_of(alloc: Global, table: &Plain, count: usize) -> Result<Origins, AllocError> {
     let mut origins = Vec::new(alloc);
     for row in table.dead..count {
@@ -83,7 +83,7 @@ fn origins_of(alloc: Global, table: &Plain, count: usize) -> Result<Origins, All
     })
 }
 
-// The number of the fused row to which the fused row of this row leads by the class. 0 is nowhere.
+// The number of the fused row to which the fused row of this row leads by the class, or 0 if it leads nowhere.
 fn leads_to(table: &Plain, origins: &Origins, row: usize, class: usize) -> usize {
     let target = table.target(row, class);
     if target >= table.dead {
@@ -120,7 +120,7 @@ fn push_row(
 ///
 /// # Errors
 ///
-/// `AllocError` where a request for memory was refused.
+/// `AllocError` if a request for memory was refused.
 pub(crate) fn fusing_of(
     alloc: Global,
     layout: &Layout,

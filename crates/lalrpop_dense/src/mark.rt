@@ -36,7 +36,7 @@ impl Marks {
     ///
     /// # Errors
     ///
-    /// `AllocError` where a request for memory was refused.
+    /// `AllocError` if a request for memory was refused.
     pub fn new(alloc: Global) -> Result<Marks, AllocError> {
         let none = Mark { place: 0, row: 0 };
         let marks = vec![in alloc; none; BLOCK]?;

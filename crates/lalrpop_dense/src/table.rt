@@ -18,7 +18,7 @@ pub(crate) struct Layout {
     pub(crate) rows: Vec<u32>,
     // How long a row is, without the pattern.
     pub(crate) width: usize,
-    // Where the first row that is no reject state's begins.
+    // Where the first row of a state other than reject states begins.
     pub(crate) live: usize,
     // Where the first row of an accepting state begins.
     pub(crate) accept: usize,
@@ -111,7 +111,7 @@ fn narrow(alloc: Global, cells: &[u32]) -> Result<Option<Vec<u16>>, AllocError>
 ///
 /// # Errors
 ///
-/// `AllocError` where a request for memory was refused.
+/// `AllocError` if a request for memory was refused.
 pub(crate) fn stored(alloc: Global, cells: Vec<u32>) -> Result<StoredCells, AllocError>
     ensures { IfOk result (λ stored. numbers_of stored ≡ cells.items) }
 {

@@ -13,7 +13,7 @@ pub record LinearCutting : Type 0 where
   pub unseen : ℕ
   pub steps : ℕ
 
--- what is left pays: each character that is not cut off yet for 65 steps, each pair that is not passed yet for 64
+-- what is left pays: 65 steps for each character that is not cut off yet, 64 for each pair that is not passed yet
 abbrev pub with_credit : LinearCutting → ℕ
 with_credit s = s.steps + 65 * left_of s.cutting + 64 * s.unseen
 

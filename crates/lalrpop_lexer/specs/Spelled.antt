@@ -14,7 +14,7 @@ use Rattle.lalrpop_lexer.specs.declared.form.Form.TheVariants as forms
 use Rattle.lalrpop_lexer.specs.declared.error.LexerError.{LexerError}
 use Rattle.lalrpop_lexer.specs.declared.error.LexerError.TheVariants.{Syntax, NotParsed, NotCompiled, Clash, OutOfMemory}
 
--- the text of this form spells the tree: a literal that of the text itself, a pattern that of the grammar
+-- the text of this form spells the tree: a literal the tree of the text itself, a pattern the tree of the grammar
 abbrev pub Spells : Form → List ℕ → Tree → Type 0
 Spells forms.Literal text t = t ≡ of_text text
 Spells forms.Pattern text t = Pattern (chars text) t

@@ -9,7 +9,7 @@ use lalrpop_re::{RegexError, SyntaxKind};
 use std::alloc::{AllocError, AllocFailed};
 use thiserror::Error;
 
-/// Why there is no lexer: one type for what reading patterns, building their automaton and asking for memory can fail with.
+/// Why no lexer was made: one type for the errors of reading patterns, of building their automaton, and of memory.
 /// Patterns are counted from 0.
 #[derive(Debug, Drop, Error)]
 pub enum LexerError {

@@ -62,7 +62,7 @@ impl<'text> LinearTokens<'text> {
         }
     }
 
-    /// The rest of the text: what stands behind the last token. All of it, before the first call of `next`.
+    /// The rest of the text after the last token. All of it, before the first call of `next`.
     pub fn rest(&self) -> &'text str
         ensures rest { result.now ≡ rest_of self.now.cutting }
     {

@@ -143,7 +143,7 @@ impl Lexer {
     ///
     /// # Errors
     ///
-    /// `AllocError` where a request for memory was refused.
+    /// `AllocError` if a request for memory was refused.
     pub fn token_list<'text>(
         &self,
         alloc: Global,
@@ -197,7 +197,7 @@ impl Lexer {
     ///
     /// # Errors
     ///
-    /// `AllocError` where a request for memory was refused.
+    /// `AllocError` if a request for memory was refused.
     pub fn tokens_linear<'text>(
         &'text self,
         alloc: Global,

@@ -53,7 +53,7 @@ impl<'text> LinearMatches<'text> {
     ///
     /// # Errors
     ///
-    /// `AllocError` where a request for memory was refused.
+    /// `AllocError` if a request for memory was refused.
     pub fn new(
         alloc: Global,
         dfa: &'text Dfa,
@@ -81,7 +81,7 @@ impl<'text> LinearMatches<'text> {
         self.at
     }
 
-    /// The rest of the text: what stands behind the last match.
+    /// The rest of the text after the last match.
     pub fn rest(&self) -> &'text str
         ensures rest { result.now ≡ rest_of self.now }
     {

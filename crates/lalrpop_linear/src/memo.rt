@@ -8,7 +8,7 @@ use lalrpop_table::{Dfa, DfaStateIndex, Kind};
 use std::alloc::{AllocError, Global};
 use std::marker::Model;
 
-/// So many characters lie between two places at which a state is noted.
+/// The number of characters from one place at which states are noted to the next.
 pub(crate) const STRIDE: usize = 64;
 
 /// The pairs of a state and a place that runs have passed. Only every 64th place of a text is one here.
@@ -16,7 +16,7 @@ pub(crate) const STRIDE: usize = 64;
 pub(crate) struct Memo {
     // Where the marks of each open state begin; nothing for other states.
     firsts: Vec<Option<usize>>,
-    // Each open state has so many marks, one for each place.
+    // The marks of each open state, one for each place.
     places: usize,
     marks: Vec<bool>,
 }
@@ -42,7 +42,7 @@ fn is_open(kind: &Kind) -> bool
     }
 }
 
-// The sum of two sizes. No memory has so many bytes where it is too great.
+// The sum of two sizes. If it overflows, no memory has that many bytes.
 fn sum(size: usize, more: usize) -> Result<usize, AllocError>
     ensures { IfOk result (λ n. n ≡ size + more) }
 {
@@ -50,11 +50,11 @@ fn sum(size: usize, more: usize) -> Result<usize, AllocError>
 }
 
 impl Memo {
-    /// Nothing is noted, and there is room for each open state of the automaton at so many places.
+    /// Nothing is noted, and there is room for each open state of the automaton at this many places.
     ///
     /// # Errors
     ///
-    /// `AllocError` where a request for memory was refused.
+    /// `AllocError` if a request for memory was refused.
     pub(crate) fn new(alloc: Global, dfa: &Dfa, places: usize) -> Result<Memo, AllocError>
         ensures places { IfOk result (λ m. m.places ≡ places) }
         ensures open { IfOk result (λ m. IsFor dfa.now m) }
@@ -101,7 +101,7 @@ impl Memo {
         false
     }
 
-    /// Whether the state was noted at the place of this index, in characters. If it is a place, it is noted from now on.
+    /// Whether the state was noted at the character of this index. If states are noted there, it is noted from now on.
     #[inline(always)]
     pub(crate) fn is_known(&mut self, state: DfaStateIndex, index: usize) -> bool
         ensures same { self.new ≡ record self.old { marks = self.new.marks } }

@@ -35,7 +35,7 @@ fn begins_name(text: &str) -> bool
     }
 }
 
-// The name at the front of a line, and what stands behind it and blanks.
+// The name at the front of a line, and what follows it and blanks.
 fn name_and_rest(line: &str) -> Result<(&str, &str), Stop<'_>>
     ensures named { IfOk result (λ m. IsNamed line.now m.0.now m.1.now) }
     ensures none { IfErr result (λ _. (name rest : List ℕ) → ¬ IsNamed line.now name rest) }
@@ -52,7 +52,7 @@ fn name_and_rest(line: &str) -> Result<(&str, &str), Stop<'_>>
     Ok((name, rest))
 }
 
-// What stands behind a mark of ASCII at the front.
+// What follows a mark of ASCII at the front.
 fn behind(text: &str, mark: char) -> Option<&str>
     requires { mark < 128 }
     ensures some { IfSome result (λ rest. text.now ≡ mark ∷ rest.now) }
@@ -62,7 +62,7 @@ fn behind(text: &str, mark: char) -> Option<&str>
     Some(rest)
 }
 
-// What stands behind an `=`.
+// What follows an `=`.
 fn behind_equals(rest: &str) -> Result<&str, Stop<'_>>
     ensures equals { IfOk result (λ right. rest.now ≡ codes "=" ++ right.now) }
     ensures none { IfErr result (λ _. (right : List ℕ) → rest.now ≢ codes "=" ++ right) }
@@ -108,7 +108,7 @@ fn precedence_of(digits: &str) -> Option<usize>
     digits.parse().ok()
 }
 
-// The precedence that is written at the front, if one is, and what stands behind it and blanks.
+// The precedence written at the front, if there is one, and what follows it and blanks.
 fn numbered(text: &str) -> Result<(Option<usize>, &str), Stop<'_>>
     requires { Stops is_blank text.now }
     ensures numbered { IfOk result (λ m. IsNumbered text.now m.0 m.1.now × Stops is_blank m.1.now) }

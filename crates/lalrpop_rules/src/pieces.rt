@@ -50,7 +50,7 @@ impl<'text> Items<'text> {
         }
     }
 
-    /// The rest of the text: what stands behind the last piece. All of it, before the first call of `next`.
+    /// The rest of the text after the last piece. All of it, before the first call of `next`.
     pub fn rest(&self) -> &'text str
         ensures rest { result.now ≡ left_text self.now }
     {

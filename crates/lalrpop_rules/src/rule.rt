@@ -14,7 +14,7 @@ pub struct Rule<'text> {
     pub form: Form,
     /// The text of its literal or pattern.
     pub text: &'text str,
-    /// Where two rules match as much, the one with the greater precedence wins.
+    /// Between two matches of one length, the rule with the greater precedence wins.
     pub precedence: Precedence,
     /// Whether its tokens are skipped.
     pub is_skipped: bool,

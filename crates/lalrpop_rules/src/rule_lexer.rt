@@ -129,7 +129,7 @@ impl RuleLexer {
         &self.skips
     }
 
-    /// The name of the rule at this place; `None` where there are not so many rules. The rule of a token has a name.
+    /// The name of the rule with this index, or `None` if there are fewer rules. The rule of a token has a name.
     pub fn name(&self, index: NfaIndex) -> Option<&str>
         ensures name { option_map (λ s. s.now) result ≡ slice_get self.now.names index }
         ensures token { (text : List ℕ) (at : ℕ) (token : TokenValue)

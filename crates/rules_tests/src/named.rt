@@ -62,7 +62,9 @@ fn first(alloc: Global, text: &str) -> Result<String> {
     match lexer.find(text) {
         Some(token) => {
             let name = lexer.name(token.index).unwrap_or("no name");
-            Ok(format!(in alloc; "{name} {:?} {}", token.slice, token.start)?)
+            let slice = token.slice;
+            let start = token.start;
+            Ok(format!(in alloc; "{name} {slice:?} {start}")?)
         }
         None => Ok(String::from_str(alloc, "None")?),
     }

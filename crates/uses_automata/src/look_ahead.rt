@@ -14,7 +14,7 @@ use std::alloc::{AllocError, Global};
 ///
 /// # Errors
 ///
-/// `AllocError` where a request for memory was refused.
+/// `AllocError` if a request for memory was refused.
 pub fn greatest(alloc: Global, dfa: &Dfa) -> Result<Option<usize>, AllocError>
     ensures answer { IfOk result (λ found. IsLookahead dfa.now found) }
     ensures settled { IfOk result (λ found. IfSome found (λ n. (ts : List Tree) (ps : List ℕ)
@@ -28,7 +28,7 @@ pub fn greatest(alloc: Global, dfa: &Dfa) -> Result<Option<usize>, AllocError>
 ///
 /// # Errors
 ///
-/// `AllocError` where a request for memory was refused.
+/// `AllocError` if a request for memory was refused.
 pub fn open_for_ever(alloc: Global, dfa: &Dfa, count: usize) -> Result<Vec<bool>, AllocError>
     ensures same_length { IfOk result (λ found. length found.items ≡ count) }
     ensures each { IfOk result (λ found. (i : ℕ) → i < count
@@ -42,7 +42,7 @@ pub fn open_for_ever(alloc: Global, dfa: &Dfa, count: usize) -> Result<Vec<bool>
 ///
 /// # Errors
 ///
-/// `AllocError` where a request for memory was refused.
+/// `AllocError` if a request for memory was refused.
 pub fn is_decided_soon(alloc: Global, dfa: &Dfa) -> Result<bool, AllocError>
     ensures soon { IfOk result (λ soon. soon ≡ true → (n : ℕ) × LooksAtMost dfa.now n) }
     ensures never { IfOk result (λ soon. soon ≡ false → (m : ℕ) → CanStayOpen dfa.now m) }

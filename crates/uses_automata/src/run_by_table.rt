@@ -22,7 +22,7 @@ use std::alloc::{AllocError, Global};
 ///
 /// # Errors
 ///
-/// `AllocError` where a request for memory was refused.
+/// `AllocError` if a request for memory was refused.
 pub fn with_a_table(alloc: Global, dfa: Dfa) -> Result<DenseDfa, AllocError>
     ensures { IfOk result (λ dense. (ts : List Tree) (ps : List ℕ) → Recognizes dfa ts ps
         → Recognizes dense ts ps) }
@@ -77,7 +77,7 @@ pub fn counted_by_table<'text>(
 ///
 /// # Errors
 ///
-/// `AllocError` where a request for memory was refused.
+/// `AllocError` if a request for memory was refused.
 pub fn first_block<'text>(
     alloc: Global,
     dense: &DenseDfa,

@@ -52,7 +52,7 @@ pub fn token_count(lexer: &Lexer, text: &str) -> Result<usize, TokenFault>
 ///
 /// # Errors
 ///
-/// `AllocError` where a request for memory was refused.
+/// `AllocError` if a request for memory was refused.
 pub fn listed_count(lexer: &Lexer, alloc: Global, text: &str) -> Result<Option<usize>, AllocError>
     ensures all { IfOk result (λ found. IfSome found (λ n. (tokens : List TokenValue)
         × (AreTokens lexer.now.trees lexer.now.precedences text.now 0 (map Ok tokens)

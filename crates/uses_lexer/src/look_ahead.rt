@@ -14,7 +14,7 @@ use std::alloc::{AllocError, Global};
 ///
 /// # Errors
 ///
-/// `AllocError` where a request for memory was refused.
+/// `AllocError` if a request for memory was refused.
 pub fn open_characters(alloc: Global, lexer: &Lexer) -> Result<Option<usize>, AllocError>
     ensures answer { IfOk result (λ found. IsLookahead lexer.now.automaton found) }
     ensures settled { IfOk result (λ found. IfSome found (λ n. IsSettledAfter lexer.now.trees n)) }
@@ -27,7 +27,7 @@ pub fn open_characters(alloc: Global, lexer: &Lexer) -> Result<Option<usize>, Al
 ///
 /// # Errors
 ///
-/// `AllocError` where a request for memory was refused.
+/// `AllocError` if a request for memory was refused.
 pub fn open_for_ever(alloc: Global, lexer: &Lexer) -> Result<Vec<bool>, AllocError>
     ensures same_length { IfOk result (λ found. length found.items ≡ length lexer.now.trees) }
     ensures each { IfOk result (λ found. (i : ℕ) → i < length lexer.now.trees

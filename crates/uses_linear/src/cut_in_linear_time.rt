@@ -14,7 +14,7 @@ use std::alloc::{AllocError, Global};
 ///
 /// # Errors
 ///
-/// `AllocError` where a request for memory was refused.
+/// `AllocError` if a request for memory was refused.
 pub fn cut_to_the_end<'text>(
     alloc: Global,
     lexer: &'text Lexer,
@@ -35,7 +35,7 @@ pub fn cut_to_the_end<'text>(
 ///
 /// # Errors
 ///
-/// `AllocError` where a request for memory was refused.
+/// `AllocError` if a request for memory was refused.
 pub fn rest_at_first<'text>(
     alloc: Global,
     lexer: &'text Lexer,
@@ -52,7 +52,7 @@ pub fn rest_at_first<'text>(
 ///
 /// # Errors
 ///
-/// `AllocError` where a request for memory was refused.
+/// `AllocError` if a request for memory was refused.
 pub fn is_no_text(alloc: Global, lexer: &Lexer, text: &str) -> Result<bool, AllocError>
     ensures empty { IfOk result (λ none. none ≡ true → text.now ≡ []) }
 {

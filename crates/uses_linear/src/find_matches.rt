@@ -20,7 +20,7 @@ use std::alloc::{AllocError, Global};
 ///
 /// # Errors
 ///
-/// `AllocError` where a request for memory was refused.
+/// `AllocError` if a request for memory was refused.
 pub fn rest_at_first<'text>(
     alloc: Global,
     dfa: &'text Dfa,
@@ -59,7 +59,7 @@ pub fn pass_over(matches: &mut LinearMatches) -> usize
 ///
 /// # Errors
 ///
-/// `AllocError` where a request for memory was refused.
+/// `AllocError` if a request for memory was refused.
 pub fn find_first<'text>(
     alloc: Global,
     dfa: &'text Dfa,

@@ -12,7 +12,7 @@ use std::alloc::{AllocError, Global};
 ///
 /// # Errors
 ///
-/// `AllocError` where a request for memory was refused.
+/// `AllocError` if a request for memory was refused.
 pub fn page_of(alloc: Global, lexer: &RuleLexer, text: &str) -> Result<String, AllocError>
     ensures read { IfOk result (λ page. outside (string_bytes page) ≡ text.now) }
     ensures marked { IfOk result (λ page. (xs : List ItemValue)
