@@ -3,6 +3,7 @@ ghost use Rattle.std.specs.Prelude.{◌≡◌};
 ghost use Rattle.lalrpop_lexer.specs.LexerErrors.{of_regex, of_construction};
 ghost use Rattle.lalrpop_lexer.specs.declared.error.LexerError.TheVariants.{OutOfMemory};
 
+use crate::shown_word::ShownWord;
 use lalrpop_dfa::DfaConstructionError;
 use lalrpop_nfa::NfaConstructionError;
 use lalrpop_re::{RegexError, SyntaxKind};
@@ -34,7 +35,7 @@ pub enum LexerError {
     },
     /// Two patterns are the strongest that match some word: `word` is the least such word, `pattern` the greatest place of
     /// the strongest ones on it, `other` the second greatest.
-    #[error("patterns {other} and {pattern} clash")]
+    #[error("patterns {other} and {pattern} clash on {shown}", shown = ShownWord(.word))]
     Clash {
         pattern: usize,
         other: usize,

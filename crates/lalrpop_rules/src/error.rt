@@ -2,6 +2,7 @@
 ghost use Rattle.std.specs.Prelude.{◌≡◌};
 ghost use Rattle.lalrpop_rules.specs.declared.error.RulesError.TheVariants.{OutOfMemory};
 
+use lalrpop_lexer::ShownWord;
 use lalrpop_lexer::lexer::nfa::NfaConstructionError;
 use lalrpop_lexer::lexer::re::SyntaxKind;
 use std::alloc::{AllocError, AllocFailed};
@@ -25,7 +26,7 @@ pub enum RulesError {
     },
     /// Two rules are the strongest that match some word: `word` is the least such word, `rule` the greatest place of the
     /// strongest ones on it, `other` the second greatest.
-    #[error("rules {other} and {rule} clash")]
+    #[error("rules {other} and {rule} clash on {shown}", shown = ShownWord(.word))]
     Clash {
         rule: usize,
         other: usize,

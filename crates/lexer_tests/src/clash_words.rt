@@ -1,6 +1,7 @@
 //! Patterns that clash, and the least word on which they do.
 
 use crate::built::{expect, made, made_with};
+use lalrpop_lexer::ShownWord;
 use lalrpop_lexer::lexer::dfa::{Dfa, DfaConstructionError, Precedence};
 use std::alloc::{AllocError, Global};
 
@@ -64,4 +65,20 @@ fn a_clash_beside_stronger_patterns(rt: HostRuntime) {
         clash_with(rt.alloc(), words, &precedences),
         "1 0 [55296]",
     );
+}
+
+#[test]
+fn words_are_shown_in_quotes(rt: HostRuntime) {
+    let rows: [(&[u32], &str); 4] = [
+        (&[], r#""""#),
+        (&[97, 0xe9, 32], r#""aé ""#),
+        (&[34, 92, 10, 13, 9], r#""\"\\\n\r\t""#),
+        (
+            &[0, 0x7f, 0xd800, 0x110000],
+            r#""\u{0}\u{7f}\u{d800}\u{110000}""#,
+        ),
+    ];
+    for (word, wanted) in rows {
+        expect(&rt, format!(in rt.alloc(); "{}", ShownWord(word)), wanted);
+    }
 }

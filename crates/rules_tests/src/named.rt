@@ -3,7 +3,7 @@
 use crate::shared::halves;
 use anyhow::Result;
 use lalrpop_markup::html;
-use lalrpop_rules::{Item, Rule, RuleLexer, RulesError};
+use lalrpop_rules::{Item, Rule, RuleLexer};
 use std::alloc::Global;
 
 const CUT: &str = r#"
@@ -75,9 +75,6 @@ fn refused(alloc: Global, text: &str) -> Result<String> {
     let rules = [Rule::pattern("A", "a"), Rule::pattern("OTHER", text)];
     match RuleLexer::from_rules(alloc, &rules) {
         Ok(_) => Ok(String::from_str(alloc, "none")?),
-        Err(RulesError::Clash { rule, other, word }) => {
-            Ok(format!(in alloc; "{rule} {other} {word:?}")?)
-        }
         Err(error) => Ok(format!(in alloc; "{error}")?),
     }
 }
@@ -95,7 +92,7 @@ a<&"> => <span class="NAME">a</span><span class="fault">&lt;&amp;&quot;&gt;</spa
 
 const REFUSED: &str = r#"
 b => none
-[a-c] => 1 0 [97]
+[a-c] => rules 0 and 1 clash on "a"
 (b => the text of rule 1 does not parse: UnclosedGroup at byte 0
 b*? => rule 1 can't be compiled: NonGreedy
 "#;
