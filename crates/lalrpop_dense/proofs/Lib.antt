@@ -4,3 +4,4 @@ pub mod Pages
 pub mod Walks
 pub mod Marking
 pub mod Leads
+pub mod Lanes

@@ -1,16 +1,19 @@
 -- The run of a fused table along a text: what holds after each character.
-use Rattle.std.proofs.Common.{◌≡◌, ◌≢◌, ℕ, ◌+◌, ◌-◌, ◌<◌, ◌≤◌, inl, inr, List, [], ◌∷◌, ◌++◌, length, take, drop, get_or, slice_set, ◌⊎◌, refl, sym, ap, subst, ◌∙◌, arith}
+use Rattle.std.proofs.Common.{◌≡◌, ◌≢◌, ℕ, zero, suc, ◌+◌, ◌-◌, ◌*◌, ◌/◌, ◌%◌, ◌<◌, ◌≤◌, min, add-zero, add-one, drop-cons, inl, inr, List, [], ◌∷◌, ◌++◌, length, take, drop, get_or, slice_set, ◌⊎◌, refl, sym, ap, subst, ◌∙◌, arith}
 use Rattle.std.specs.Prelude.{Some}
 use Rattle.std.specs.Char.{encode_utf8}
 use Rattle.std.specs.Str.{chars, IsUtf8, IsCharBoundary}
 use Rattle.std.proofs.lemmas.List.{drop-drop, take-append-drop, length-take-le, take-set, take_more_set}
 use Rattle.std.proofs.lemmas.Bool.{cases_lt}
-use Rattle.std.proofs.lemmas.Str.{chars-nil, IsCharBoundary-from_take, IsUtf8-drop, IsUtf8-take}
+use Rattle.std.proofs.lemmas.Str.{chars-nil, encode_ascii, IsCharBoundary-from_take, IsUtf8-drop, IsUtf8-take}
 use Rattle.lalrpop_book.specs.Longest.{IsLongest}
 use Rattle.lalrpop_nfa.proofs.Cuts.{IsCut, cut_start, cut_within, cut_more}
 use Rattle.lalrpop_table.specs.Dfa.{Row, after, IsWellFormed}
-use Rattle.lalrpop_dense.specs.Internal.Table.{IsTableOf, class_of, row_of}
-use Rattle.lalrpop_dense.specs.Internal.Fused.{IsRow, EndsBefore, IsFusedOf}
+use Rattle.lalrpop_dense.specs.Internal.Table.{HasClasses, IsTableOf, class_of, page_of, row_of}
+use Rattle.lalrpop_dense.specs.Internal.Stays.{IsIn, AreIn}
+use Rattle.std.specs.List.{Contains}
+use Rattle.lalrpop_dense.specs.declared.stay.Stay.{Stay}
+use Rattle.lalrpop_dense.specs.Internal.Fused.{IsRow, EndsBefore, IsFusedOf, StaysOn}
 use Rattle.lalrpop_dense.specs.Internal.Marks.{IsMark, AreMarks}
 use Rattle.lalrpop_dense.specs.Internal.Reading.{ReadsChar, found}
 use Rattle.lalrpop_dense.specs.declared.table.Layout.{Layout}
@@ -199,3 +202,92 @@ marked_kept f t d text from at2 next place row count one all all2 m within e (in
 pub kept_few : (next emit one : ℕ) → ((next < emit) × (one ≡ 0)) ⊎ ((emit ≤ next) × (one ≡ 1)) → one ≤ 1
 kept_few next emit one (inl below) = omega (arith, below.1)
 kept_few next emit one (inr above) = omega (arith, above.1)
+
+-- one character more, with its mark written
+pub marked_next : (f : Fused) (t : Layout) (cells : List ℕ) (d : List Row) (text : List ℕ) (from at at2 row next class c count one : ℕ) (all all2 : List Mark) → IsTableOf t cells d → IsFusedOf f t cells → IsWellFormed d
+    → IsUtf8 text → IsMarked f t d text from at row (take count all) → ReadsChar text at at2 c → class ≡ class_of t c → next ≡ get_or f.cells.items (row + class) 0 → next ≢ 0
+    → count < length all → all2 ≡ slice_set all count (record { place = at; row = row })
+    → ((next < f.emit) × (one ≡ 0)) ⊎ ((f.emit ≤ next) × (one ≡ 1)) → IsMarked f t d text from at2 next (take (count + one) all2)
+marked_next f t cells d text from at at2 row next class c count one all all2 h k wf u m r same e some within set is_kept =
+    marked_kept f t d text from at2 next at row count one all all2 (marked_more f t cells d text from at at2 row next class c (take count all) h k wf u m r same e some) within set is_kept
+
+-- ---- bytes of ASCII
+
+-- a byte of ASCII is a character
+pub reads_ascii : (text : List ℕ) (at : ℕ) → at < length text → get_or text at 0 < 128 → ReadsChar text at (at + 1) (get_or text at 0)
+reads_ascii text at within low =
+    let byte = get_or text at 0 in
+    let one : encode_utf8 byte ≡ byte ∷ [] = encode_ascii byte low in
+    record {
+      split = rw (one, add-one, drop-cons text at 0);
+      place = omega (arith, ap (length {A = ℕ}) one);
+      scalar = omega (arith, low);
+    }
+
+-- its class stands in the first block
+pub class_ascii : (t : Layout) (byte : ℕ) → HasClasses t → byte < 128 → (byte < length t.blocks.items) × (get_or t.blocks.items byte 0 ≡ class_of t byte)
+class_ascii t byte h low =
+    let zero : min (byte / 128) (length t.pages.items - 1) ≡ 0 = omega (arith, low) in
+    let page : page_of t (byte / 128) ≡ 0 = ap (λ (k : ℕ). get_or t.pages.items k 0) zero ∙ h.ascii in
+    let place : page_of t (byte / 128) * 128 + byte % 128 ≡ byte = omega (arith, page, low) in (
+      omega (arith, low, h.blocks 0 h.pages, h.ascii),
+      ap (λ (k : ℕ). get_or t.blocks.items k 0) (sym place),
+    )
+
+-- bytes on which the row stays
+pub marked_stay : (f : Fused) (t : Layout) (cells : List ℕ) (d : List Row) (text : List ℕ) (from at row : ℕ) (ms : List Mark) (s : Stay) → IsTableOf t cells d → IsFusedOf f t cells → IsWellFormed d
+    → IsUtf8 text → Contains f.stays.items s → s.row ≡ row → IsMarked f t d text from at row ms → (n : ℕ) → at + n ≤ length text → AreIn s text at (at + n)
+    → IsMarked f t d text from (at + n) row ms
+marked_stay f t cells d text from at row ms s h k wf u has same m zero within are = subst (λ (x : ℕ). IsMarked f t d text from x row ms) (sym (add-zero at)) m
+marked_stay f t cells d text from at row ms s h k wf u has same m (suc n) within are =
+    let place = at + n in
+    let byte = get_or text place 0 in
+    let before : IsMarked f t d text from place row ms = marked_stay f t cells d text from at row ms s h k wf u has same m n (omega (arith, within)) (λ j from to. are j from (omega (arith, to))) in
+    let back = k.stays s has in
+    let is_in : IsIn s byte = are place (omega arith) (omega arith) in
+    let low : byte < 128 = omega (arith, is_in.last, back.ascii) in
+    let next : row ≡ get_or f.cells.items (row + class_of t byte) 0 = sym (subst (λ (x : ℕ). get_or f.cells.items (x + class_of t byte) 0 ≡ x) same (back.back byte is_in)) in
+    let more = marked_more f t cells d text from place (place + 1) row row (class_of t byte) byte ms h k wf u before (reads_ascii text place (omega (arith, within)) low) refl next (λ none. omega (arith, none, same, back.some)) in
+    let end : place + 1 ≡ at + suc n = omega arith in
+    subst (λ (x : ℕ). IsMarked f t d text from x row ms) end (more.0 (omega (arith, same, back.plain)))
+
+-- the bytes up to which a row is said to stay
+pub marked_stays : (f : Fused) (t : Layout) (cells : List ℕ) (d : List Row) (text : List ℕ) (from at to row : ℕ) (ms : List Mark) → IsTableOf t cells d → IsFusedOf f t cells → IsWellFormed d
+    → IsUtf8 text → IsMarked f t d text from at row ms → at ≤ to → to ≤ length text → StaysOn f row text at to → IsMarked f t d text from to row ms
+marked_stays f t cells d text from at to row ms h k wf u m on within (inl same) = subst (λ (x : ℕ). IsMarked f t d text from x row ms) same m
+marked_stays f t cells d text from at to row ms h k wf u m on within (inr (s, has, same, are)) =
+    let place : at + (to - at) ≡ to = omega (arith, on) in
+    subst (λ (x : ℕ). IsMarked f t d text from x row ms) place
+    (marked_stay f t cells d text from at row ms s h k wf u has same m (to - at) (omega (arith, place, within)) (λ j above below. are j above (omega (arith, place, below))))
+
+-- the class of a byte, as slices tell it
+class_byte : (t : Layout) (text bytes blocks : List ℕ) (at : ℕ) → HasClasses t → bytes ≡ text → blocks ≡ t.blocks.items → get_or bytes at 0 < 128
+    → get_or blocks (get_or bytes at 0) 0 ≡ class_of t (get_or text at 0)
+class_byte t text bytes blocks at h same lent low =
+    let byte : get_or bytes at 0 ≡ get_or text at 0 = ap (λ (xs : List ℕ). get_or xs at 0) same in
+    ap (λ (xs : List ℕ). get_or xs (get_or bytes at 0) 0) lent ∙ ap (λ (k : ℕ). get_or t.blocks.items k 0) byte
+    ∙ (class_ascii t (get_or text at 0) h (omega (arith, byte, low))).1
+
+-- the cell of a byte stands in the fused table
+pub byte_in_row : (f : Fused) (t : Layout) (cells : List ℕ) (d : List Row) (text : List ℕ) (from at row : ℕ) (marks : List Mark) (bytes blocks numbers : List ℕ) → IsTableOf t cells d → IsFusedOf f t cells
+    → bytes ≡ text → blocks ≡ t.blocks.items → numbers ≡ f.cells.items → IsMarked f t d text from at row marks → get_or bytes at 0 < 128
+    → row + get_or blocks (get_or bytes at 0) 0 < length numbers
+byte_in_row f t cells d text from at row marks bytes blocks numbers h k same lent shown m low =
+    omega (
+      arith,
+      ap (length {A = ℕ}) shown,
+      in_fused_row f t cells d text from at row (get_or blocks (get_or bytes at 0) 0) (get_or text at 0) marks h k m (class_byte t text bytes blocks at h.classes same lent low),
+    )
+
+-- one byte of ASCII more, with its mark written
+pub marked_byte : (f : Fused) (t : Layout) (cells : List ℕ) (d : List Row) (text : List ℕ) (from at at2 row count one : ℕ) (all all2 : List Mark) (bytes blocks numbers : List ℕ) → IsTableOf t cells d → IsFusedOf f t cells
+    → IsWellFormed d → IsUtf8 text → bytes ≡ text → blocks ≡ t.blocks.items → numbers ≡ f.cells.items → IsMarked f t d text from at row (take count all) → at < length text → get_or bytes at 0 < 128 → at2 ≡ at + 1
+    → get_or numbers (row + get_or blocks (get_or bytes at 0) 0) 0 ≢ 0 → count < length all → all2 ≡ slice_set all count (record { place = at; row = row })
+    → ((get_or numbers (row + get_or blocks (get_or bytes at 0) 0) 0 < f.emit) × (one ≡ 0)) ⊎ ((f.emit ≤ get_or numbers (row + get_or blocks (get_or bytes at 0) 0) 0) × (one ≡ 1))
+    → IsMarked f t d text from at2 (get_or numbers (row + get_or blocks (get_or bytes at 0) 0) 0) (take (count + one) all2)
+marked_byte f t cells d text from at at2 row count one all all2 bytes blocks numbers h k wf u same lent shown m inside low on some within set is_kept =
+    let class = get_or blocks (get_or bytes at 0) 0 in
+    let byte : get_or bytes at 0 ≡ get_or text at 0 = ap (λ (xs : List ℕ). get_or xs at 0) same in
+    let read : ReadsChar text at at2 (get_or text at 0) = subst (λ (n : ℕ). ReadsChar text at n (get_or text at 0)) (sym on) (reads_ascii text at inside (omega (arith, byte, low))) in
+    marked_next f t cells d text from at at2 row (get_or numbers (row + class) 0) class (get_or text at 0) count one all all2 h k wf u m read (class_byte t text bytes blocks at h.classes same lent low)
+    (ap (λ (xs : List ℕ). get_or xs (row + class) 0) shown) some within set is_kept

@@ -35,11 +35,11 @@ pub(crate) fn push_marked<'text, C: Cells>(
     ensures boundary { IfOk result (λ to. IsCharBoundary text.now to) }
     ensures goes { IfOk result (λ to. 0 < length marks.now → from < to) }
 {
-    let fused = engine.fused;
+    let cells = engine.fused.cells.as_slice();
     let width = engine.layout.width;
     let mut start = from;
     for mark in marks {
-        let pattern = fused.cells[mark.row as usize + width];
+        let pattern = cells[mark.row + width];
         // A `?` would give the token back.
         let token = Token {
             index: NfaIndex::new(pattern as usize),

@@ -11,6 +11,7 @@ ghost use Rattle.lalrpop_book.specs.Longest.{IsLongest};
 ghost use Rattle.lalrpop_book.specs.declared.token.Token.{Token as TokenValue};
 ghost use Rattle.lalrpop_dense.specs.Leading.{LeadTo};
 ghost use Rattle.lalrpop_dense.specs.Internal.Fused.{IsFusedOf, IsTable};
+ghost use Rattle.lalrpop_dense.specs.Internal.Table.{HasClasses};
 
 use crate::block::push_marked;
 use crate::candidate::candidate_of;
@@ -232,6 +233,7 @@ fn longest_in<'text>(
 
 // The fused table of the table, which is made and then checked. None where none was made.
 fn fused_of(alloc: Global, layout: &Layout, cells: &[u32]) -> Result<Option<Fused>, AllocError>
+    requires { HasClasses layout.now }
     ensures { IfOk result (λ made. IfSome made (λ fused.
         IsFusedOf fused layout.now cells.now)) }
 {

@@ -1,8 +1,10 @@
 //! A table that leads on behind the end of a match, so that a whole text can be cut with no branch at a token's end.
 
-ghost use Rattle.std.specs.Prelude.{◌≡◌, ℕ, ◌+◌, ◌<◌, length, IsTrue};
-ghost use Rattle.lalrpop_dense.specs.Internal.Fused.{IsRow, EndsBefore, Leads, IsRightRow, IsFusedOf};
+ghost use Rattle.std.specs.Prelude.{◌≡◌, ℕ, ◌+◌, ◌<◌, ◌≤◌, length, slice_index, IsTrue};
+ghost use Rattle.lalrpop_dense.specs.Internal.Fused.{IsRow, EndsBefore, Leads, IsRightRow, LeadsBack, IsFusedOf, StaysOn};
+ghost use Rattle.lalrpop_dense.specs.Internal.Table.{HasClasses, class_of};
 
+use crate::stay::Stay;
 use crate::table::Layout;
 use std::alloc::{AllocError, Global};
 
@@ -26,6 +28,37 @@ pub(crate) struct Fused {
     pub(crate) first: u16,
     // Where the first copy begins.
     pub(crate) emit: u16,
+    // The bytes on which rows stay, at the place of a row shifted by so many bits.
+    pub(crate) stays: Vec<Stay>,
+    pub(crate) shift: u8,
+}
+
+impl Fused {
+    /// A place up to which the row leads back to itself, from the place on. The place itself unless the row was the
+    /// row before.
+    #[inline(always)]
+    pub(crate) fn stay_end(
+        &self,
+        before: usize,
+        row: usize,
+        bytes: &[u8],
+        at: usize,
+        end: usize,
+    ) -> usize
+        requires ordered { at ≤ end }
+        requires within { end ≤ length bytes.now }
+        ensures on { at ≤ result }
+        ensures within { result ≤ end }
+        ensures stays { StaysOn self.now row bytes.now at result }
+    {
+        if before != row {
+            return at;
+        }
+        match self.stays.get(row >> (self.shift % 16)) {
+            Some(stay) if stay.row as usize == row => stay.end(bytes, at, end),
+            _ => at,
+        }
+    }
 }
 
 // Whether there is such a row. Rows stand in order, one behind another, without the first.
@@ -94,8 +127,37 @@ fn is_right_row(fused: &Fused, layout: &Layout, cells: &[u32], row: FusedRow) ->
     true
 }
 
+fn is_back(fused: &Fused, layout: &Layout, row: u16, byte: u8) -> bool
+    requires { HasClasses layout.now }
+    ensures { IsTrue result
+        → slice_index fused.now.cells.items (row + class_of layout.now byte) ≡ row }
+{
+    let class = layout.class(u32::from(byte));
+    match fused.cells.get(row as usize + class as usize) {
+        Some(cell) => *cell == row,
+        None => false,
+    }
+}
+
+// Whether the row leads back to itself on each of the bytes.
+fn leads_back(fused: &Fused, layout: &Layout, stay: Stay) -> bool
+    requires { HasClasses layout.now }
+    ensures { IsTrue result → LeadsBack fused.now layout.now stay }
+{
+    if stay.row == 0 || stay.row >= fused.emit || stay.last >= 128 {
+        return false;
+    }
+    for byte in 0..128 {
+        if stay.has(byte) && !is_back(fused, layout, stay.row, byte) {
+            return false;
+        }
+    }
+    true
+}
+
 /// Whether the fused table is right for the table.
 pub(crate) fn is_fused_of(fused: &Fused, layout: &Layout, cells: &[u32]) -> bool
+    requires { HasClasses layout.now }
     ensures { IsTrue result → IsFusedOf fused.now layout.now cells.now }
 {
     if layout.rows.is_empty()
@@ -106,6 +168,11 @@ pub(crate) fn is_fused_of(fused: &Fused, layout: &Layout, cells: &[u32]) -> bool
     }
     for row in &fused.rows {
         if !is_right_row(fused, layout, cells, *row) {
+            return false;
+        }
+    }
+    for stay in &fused.stays {
+        if !leads_back(fused, layout, *stay) {
             return false;
         }
     }

@@ -1,6 +1,7 @@
 //! A fused table that is to be checked. Nothing is promised of how it is made.
 
 use crate::fused::{Fused, FusedRow};
+use crate::stay::Stay;
 use crate::table::Layout;
 use std::alloc::{AllocError, Global};
 
@@ -116,6 +117,128 @@ fn push_row(
     Ok(())
 }
 
+// How many bits of the numbers of two rows may be left out, so that they still differ.
+fn shift_of(stride: usize) -> u8 {
+    (stride.checked_ilog2().unwrap_or(0) & 15) as u8
+}
+
+// The bytes on which rows stay are sought below.
+const ASCII_END: u8 = 128;
+
+// How much is gained where a row stays on the byte. There are more blanks in a row than anything else.
+fn weight_of(byte: u8) -> u32 {
+    if byte == b' ' { LEAST_WEIGHT } else { 1 }
+}
+
+// Bytes of less weight aren't worth a look.
+const LEAST_WEIGHT: u32 = 8;
+
+// Bytes that follow one another, with three gaps at the most.
+#[derive(Clone, Copy)]
+struct Window {
+    first: u8,
+    // From the left; no gaps are `ASCII_END`.
+    gaps: (u8, u8, u8),
+    // The weights of the parts between the gaps.
+    weights: (u32, u32, u32, u32),
+}
+
+impl Window {
+    fn new() -> Window {
+        Window {
+            first: 0,
+            gaps: (ASCII_END, ASCII_END, ASCII_END),
+            weights: (0, 0, 0, 0),
+        }
+    }
+
+    // With a gap more. Before a fourth one it begins behind the first.
+    fn with_gap(self, byte: u8) -> Window {
+        let first = if self.gaps.0 < ASCII_END {
+            self.gaps.0.wrapping_add(1)
+        } else {
+            self.first
+        };
+        Window {
+            first,
+            gaps: (self.gaps.1, self.gaps.2, byte),
+            weights: (self.weights.1, self.weights.2, self.weights.3, 0),
+        }
+    }
+
+    fn with_byte(self, byte: u8) -> Window {
+        let mut window = self;
+        window.weights.3 = window.weights.3.wrapping_add(weight_of(byte));
+        window
+    }
+
+    fn weight(&self) -> u32 {
+        let front = self.weights.0.wrapping_add(self.weights.1);
+        let back = self.weights.2.wrapping_add(self.weights.3);
+        front.wrapping_add(back)
+    }
+
+    fn stay(&self, row: u16, last: u8) -> Stay {
+        Stay {
+            row,
+            first: self.first,
+            last,
+            gaps: self.gaps,
+        }
+    }
+}
+
+fn stays_on(fused: &Fused, layout: &Layout, row: u16, byte: u8) -> bool {
+    let class = layout.blocks.get(byte as usize).copied().unwrap_or(0);
+    let cell = fused.cells.get((row as usize).wrapping_add(class as usize));
+    cell.copied() == Some(row)
+}
+
+// The heaviest window of bytes on which the row stays, if it is worth a look.
+fn stay_of(fused: &Fused, layout: &Layout, row: u16) -> Option<Stay> {
+    let mut best = None;
+    let mut weight = LEAST_WEIGHT.wrapping_sub(1);
+    let mut window = Window::new();
+    for byte in 0..ASCII_END {
+        if !stays_on(fused, layout, row, byte) {
+            window = window.with_gap(byte);
+            continue;
+        }
+        window = window.with_byte(byte);
+        if window.weight() > weight {
+            weight = window.weight();
+            best = Some(window.stay(row, byte));
+        }
+    }
+    best
+}
+
+// For each row that is no copy the bytes on which it stays, at the place of its number shifted.
+fn push_stays(fused: &mut Fused, layout: &Layout, plain: usize) -> Result<(), AllocError> {
+    let shift = fused.shift % 16;
+    let none = Stay {
+        row: fused.first,
+        first: 1,
+        last: 0,
+        gaps: (0, 0, 0),
+    };
+    for _ in 0..(fused.cells.len() >> shift).wrapping_add(1) {
+        fused.stays.push(none)?;
+    }
+    for place in 0..plain {
+        let Some(row) = fused.rows.get(place).copied() else {
+            break;
+        };
+        let start = narrow(row.start as usize);
+        if let Some(stay) = stay_of(fused, layout, start)
+            && let Some(slot) = fused.stays.get_mut((start >> shift) as usize)
+        {
+            *slot = stay;
+        }
+    }
+    Ok(())
+}
+
 /// A fused table of the table, if it is right. None where there would be too many cells.
 ///
 /// # Errors
@@ -147,9 +270,12 @@ pub(crate) fn fusing_of(
         rows: Vec::new(alloc),
         first: narrow(first.wrapping_mul(stride)),
         emit: narrow(origins.plain.wrapping_add(1).wrapping_mul(stride)),
+        stays: Vec::new(alloc),
+        shift: shift_of(stride),
     };
     for row in &origins.origins {
         push_row(&mut fused, &table, &origins, *row)?;
     }
+    push_stays(&mut fused, layout, origins.plain)?;
     Ok(Some(fused))
 }

@@ -13,6 +13,7 @@ mod fusing;
 mod mark;
 mod matcher;
 mod run;
+mod stay;
 mod table;
 
 pub use dense::DenseDfa;

@@ -1,6 +1,6 @@
 //! The ends of the tokens of a text, found by a fused table.
 
-ghost use Rattle.std.specs.Prelude.{◌≡◌, ℕ, ◌<◌, ◌≤◌, ◌⊎◌, length, take, vec_len};
+ghost use Rattle.std.specs.Prelude.{◌≡◌, ℕ, ◌+◌, ◌<◌, ◌≤◌, ◌⊎◌, length, slice_index, take, vec_len, IsTrue};
 ghost use Rattle.std.specs.Str.{IsCharBoundary};
 ghost use Rattle.lalrpop_dense.specs.Internal.Table.{IsTableOf};
 ghost use Rattle.lalrpop_dense.specs.Internal.Fused.{IsFusedOf};
@@ -11,17 +11,21 @@ use crate::run::read_class;
 use crate::table::{Cells, Layout};
 use lalrpop_table::Dfa;
 use std::alloc::{AllocError, Global};
+use std::simd::prelude::*;
 
 /// How many bytes are marked at once, up to the end of a character.
 const BLOCK: usize = 2048;
+
+// So many bytes of ASCII are read with no look at each of them.
+const EIGHT: usize = 8;
 
 /// The end of a token.
 #[derive(Clone, Copy, Debug)]
 pub(crate) struct Mark {
     // Where it ends.
     pub(crate) place: usize,
-    // The fused row, behind which its pattern stands.
-    pub(crate) row: u16,
+    // The fused row, behind which its pattern stands. As wide as the place, so that one write takes both.
+    pub(crate) row: usize,
 }
 
 /// Room for the ends of the tokens of a block.
@@ -55,16 +59,37 @@ pub(crate) struct Engine<'table, C: Cells> {
 
 // How many marks are kept where this row is reached: one where it is a copy.
 #[inline(always)]
-fn kept(row: u16, emit: u16) -> usize
+fn kept(row: usize, emit: usize) -> usize
     ensures { ((row < emit) × (result ≡ 0)) ⊎ ((emit ≤ row) × (result ≡ 1)) }
 {
     (row >= emit) as usize
 }
 
+// Whether bytes of ASCII stand at the place, of which so many are read at once.
+#[inline(always)]
+fn are_ascii(bytes: &[u8], at: usize, end: usize) -> bool
+    requires ordered { at ≤ end }
+    requires within { end ≤ length bytes.now }
+    ensures { IsTrue result → (at + EIGHT ≤ end)
+        × ((k : ℕ) → at ≤ k → k < at + EIGHT → slice_index bytes.now k < 128) }
+{
+    end - at >= EIGHT && no_high_bit(bytes, at)
+}
+
+#[inline(always)]
+fn no_high_bit(bytes: &[u8], at: usize) -> bool
+    requires { at + EIGHT ≤ length bytes.now }
+    ensures { IsTrue result
+        → (k : ℕ) → at ≤ k → k < at + EIGHT → slice_index bytes.now k < 128 }
+{
+    let lanes = u8x8::from_slice(&bytes[at..]);
+    lanes.simd_ge(u8x8::splat(128)).to_bitmask() == 0
+}
+
 /// Marks the ends of the tokens from the place on, in one block at most. Answers how many there are.
 ///
 /// A mark is written at each character, and it is kept where a token has ended before that character, so that no branch
-/// depends on it.
+/// depends on it. Where the row is the same as eight bytes before, the bytes on which it stays are passed.
 pub(crate) fn mark_block<C: Cells>(
     engine: &Engine<C>,
     text: &str,
@@ -82,21 +107,42 @@ pub(crate) fn mark_block<C: Cells>(
 {
     // There is a state, so START is one.
     let _states = engine.dfa.states();
-    let fused = engine.fused;
-    let layout = engine.layout;
+    let (fused, layout) = (engine.fused, engine.layout);
+    let (cells, blocks) = (fused.cells.as_slice(), layout.blocks.as_slice());
+    let (bytes, emit) = (text.as_bytes(), fused.emit as usize);
     let end = text.len().min(from + BLOCK);
-    let mut row = fused.first;
+    let mut row = fused.first as usize;
     let mut at = from;
     let mut count = 0;
     'marking: while at < end {
+        'eights: while are_ascii(bytes, at, end) {
+            let before = row;
+            'eight: for step in 0..EIGHT {
+                let class = blocks[bytes[at + step] as usize];
+                let next = cells[row + class as usize] as usize;
+                if next == 0 {
+                    return count;
+                }
+                marks[count] = Mark {
+                    place: at + step,
+                    row,
+                };
+                count += kept(next, emit);
+                row = next;
+            }
+            at = fused.stay_end(before, row, bytes, at + EIGHT, end);
+        }
+        if at >= end {
+            return count;
+        }
         let place = at;
         let class = read_class(layout, text, &mut at);
-        let next = fused.cells[row as usize + class as usize];
+        let next = cells[row + class as usize] as usize;
         if next == 0 {
-            break;
+            return count;
         }
         marks[count] = Mark { place, row };
-        count += kept(next, fused.emit);
+        count += kept(next, emit);
         row = next;
     }
     count

@@ -2,11 +2,13 @@
 use Rattle.std.specs.Prelude.{◌≡◌, ◌≢◌, ℕ, ◌+◌, ◌<◌, ◌≤◌, ◌⊎◌, List, length, slice_index, IfSome}
 use Rattle.std.specs.List.{Contains}
 use Rattle.lalrpop_table.specs.Dfa.{Row}
-use Rattle.lalrpop_dense.specs.Internal.Table.{IsTableOf, numbers_of, row_of}
+use Rattle.lalrpop_dense.specs.Internal.Table.{IsTableOf, class_of, numbers_of, row_of}
+use Rattle.lalrpop_dense.specs.Internal.Stays.{IsIn, AreIn}
 use Rattle.lalrpop_dense.specs.declared.table.Layout.{Layout}
 use Rattle.lalrpop_dense.specs.declared.table.Table.{Table}
 use Rattle.lalrpop_dense.specs.declared.fused.Fused.{Fused}
 use Rattle.lalrpop_dense.specs.declared.fused.FusedRow.{FusedRow}
+use Rattle.lalrpop_dense.specs.declared.stay.Stay.{Stay}
 
 -- a fused row begins at `start`, and stands for the row of the table that begins at `origin`
 abbrev pub IsRow : Fused → ℕ → ℕ → Type 0
@@ -34,10 +36,22 @@ pub record IsRightRow (f : Fused) (t : Layout) (cells : List ℕ) (r : FusedRow)
   pub pattern : slice_index f.cells.items (r.start + t.width) ≡ slice_index cells (r.origin + t.width)
   pub leads : (class : ℕ) → class < t.width → Leads f t cells r class
 
--- it begins in a row of START, and all its rows are right
+-- the row, which is no copy, leads back to itself on each of the bytes
+pub record LeadsBack (f : Fused) (t : Layout) (s : Stay) : Type 0 where
+  pub some : 0 < s.row
+  pub plain : s.row < f.emit
+  pub ascii : s.last < 128
+  pub back : (byte : ℕ) → IsIn s byte → slice_index f.cells.items (s.row + class_of t byte) ≡ s.row
+
+-- it begins in a row of START, all its rows are right, and rows stay on the bytes that are said to
 pub record IsFusedOf (f : Fused) (t : Layout) (cells : List ℕ) : Type 0 where
   pub start : IsRow f f.first (row_of t 0)
   pub rows : (r : FusedRow) → Contains f.rows.items r → IsRightRow f t cells r
+  pub stays : (s : Stay) → Contains f.stays.items s → LeadsBack f t s
+
+-- the row is said to stay on the bytes from the one place to the other, if there are any
+abbrev pub StaysOn : Fused → ℕ → List ℕ → ℕ → ℕ → Type 0
+StaysOn f row bytes at to = (at ≡ to) ⊎ ((s : Stay) × Contains f.stays.items s × (s.row ≡ row) × AreIn s bytes at to)
 
 -- the table is that of the automaton, and a fused table beside it is that of the table
 pub record IsTable (t : Table) (d : List Row) : Type 0 where

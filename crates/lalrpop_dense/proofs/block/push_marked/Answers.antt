@@ -26,7 +26,7 @@ loop-mark-preserved g c =
     let cells = f.cells in
     let token : Token = record { index = c.new.result; slice = c.range.result; start = start } in
     let index : c.new.result ≡ get_or cells.items (m.row + t.width) 0 =
-    c.new.ensures.value ∙ get_or_read cells.items (m.row + t.width) c.index-pattern.result.now all.0.within c.index-pattern.ensures 0 in
+    c.new.ensures.value ∙ ap (λ (xs : List ℕ). get_or xs (m.row + t.width) 0) c.as_slice-cells.ensures.value in
     let pushed : c.push.new.self.items ≡ c.loop-mark.tokens.items ++ token ∷ [] = c.in-Ok.ensures.items in
     record {
       tokens = (

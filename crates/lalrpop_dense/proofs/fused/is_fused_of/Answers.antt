@@ -2,7 +2,7 @@ use Rattle.std.proofs.Common.{◌≡◌, ℕ, arith, rules, subst}
 use Rattle.std.proofs.lemmas.List.{get_or_read}
 use Rattle.std.proofs.lemmas.List.Elements.{All-contains}
 use Rattle.lalrpop_dense.specs.Internal.Table.{row_of}
-use Rattle.lalrpop_dense.specs.Internal.Fused.{IsRow, IsRightRow}
+use Rattle.lalrpop_dense.specs.Internal.Fused.{IsRow, IsRightRow, LeadsBack}
 use Rattle.lalrpop_dense.proofs.fused.is_fused_of.Goals as goal
 
 pub returns : goal.returns
@@ -14,4 +14,5 @@ returns c =
     λ is. record {
       start = subst (λ (o : ℕ). IsRow f f.first o) origin (subst (λ (s : ℕ). IsRow f s c.index.result.now) c.from.ensures start);
       rows = λ r has. All-contains (IsRightRow f t c.args.cells.now) f.rows.items r (λ k d below. c.loop-row.invariant k d (omega arith)) has;
+      stays = λ s has. All-contains (LeadsBack f t) f.stays.items s (λ k d below. c.loop-stay.invariant k d (omega arith)) has;
     }

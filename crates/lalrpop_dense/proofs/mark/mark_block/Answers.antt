@@ -1,7 +1,8 @@
-use Rattle.std.proofs.Common.{◌≡◌, ◌+◌, ◌<◌, length, get_or, arith, refl, ◌∙◌}
-use Rattle.std.proofs.lemmas.List.{get_or_read, length-set}
+use Rattle.std.proofs.Common.{◌≡◌, ℕ, ◌+◌, ◌<◌, ◌≤◌, List, length, take, get_or, slice_set, arith, rules, refl, ap, subst, ◌∙◌}
+use Rattle.std.proofs.lemmas.List.{length-set}
+use Rattle.lalrpop_dense.specs.Internal.Fused.{StaysOn}
 use Rattle.lalrpop_dense.proofs.Walks.{walked_on}
-use Rattle.lalrpop_dense.proofs.Marking.{marked_start, in_fused_row, marked_boundary, marked_more, marked_kept, kept_few}
+use Rattle.lalrpop_dense.proofs.Marking.{IsMarked, marked_start, in_fused_row, marked_boundary, marked_next, marked_byte, byte_in_row, marked_stays, kept_few}
 use Rattle.lalrpop_dense.proofs.mark.mark_block.Goals as goal
 
 pub marking-init : goal.marking-init
@@ -15,47 +16,137 @@ marking-init g c =
       room = refl;
     }
 
+pub overflow_add-next : goal.overflow_add-next
+overflow_add-next g c =
+    let e = c.args.engine.now in
+    let text = c.args.text.now in
+    let place = c.eights.at + c.eight.step in
+    let ascii = c.are_ascii.ensures c.eights-test.true in
+    let low : get_or c.as_bytes-bytes.result.now place 0 < 128 = ascii.1 place (omega arith) (omega (arith, c.eight-test.true)) in
+    let inside = byte_in_row e.fused.now e.layout.now (g.C.Cells.numbers e.cells.now) e.dfa.now text c.args.from place c.eight.row (take c.eight.count c.eight.marks) c.as_bytes-bytes.result.now c.as_slice-blocks.result.now c.as_slice-cells.result.now
+    c.requires.table c.requires.fused c.as_bytes-bytes.ensures.value c.as_slice-blocks.ensures.value c.as_slice-cells.ensures.value c.eight.invariant.marked low in
+    search (rules, inside, e.fused.now.cells.ok.0, c.as_slice-cells.ensures.len)
+
+pub offset_bounds-cells-row : goal.offset_bounds-cells-row
+offset_bounds-cells-row g c =
+    let e = c.args.engine.now in
+    let text = c.args.text.now in
+    let place = c.eights.at + c.eight.step in
+    let ascii = c.are_ascii.ensures c.eights-test.true in
+    let low : get_or c.as_bytes-bytes.result.now place 0 < 128 = ascii.1 place (omega arith) (omega (arith, c.eight-test.true)) in
+    let inside = byte_in_row e.fused.now e.layout.now (g.C.Cells.numbers e.cells.now) e.dfa.now text c.args.from place c.eight.row (take c.eight.count c.eight.marks) c.as_bytes-bytes.result.now c.as_slice-blocks.result.now c.as_slice-cells.result.now
+    c.requires.table c.requires.fused c.as_bytes-bytes.ensures.value c.as_slice-blocks.ensures.value c.as_slice-cells.ensures.value c.eight.invariant.marked low in
+    search (rules, inside, e.fused.now.cells.ok.0, c.as_slice-cells.ensures.len)
+
+pub bounds-cells-row : goal.bounds-cells-row
+bounds-cells-row g c =
+    let e = c.args.engine.now in
+    let text = c.args.text.now in
+    let place = c.eights.at + c.eight.step in
+    let ascii = c.are_ascii.ensures c.eights-test.true in
+    let low : get_or c.as_bytes-bytes.result.now place 0 < 128 = ascii.1 place (omega arith) (omega (arith, c.eight-test.true)) in
+    byte_in_row e.fused.now e.layout.now (g.C.Cells.numbers e.cells.now) e.dfa.now text c.args.from place c.eight.row (take c.eight.count c.eight.marks) c.as_bytes-bytes.result.now c.as_slice-blocks.result.now c.as_slice-cells.result.now
+    c.requires.table c.requires.fused c.as_bytes-bytes.ensures.value c.as_slice-blocks.ensures.value c.as_slice-cells.ensures.value c.eight.invariant.marked low
+
+pub overflow_add-next-in-marking : goal.overflow_add-next-in-marking
+overflow_add-next-in-marking g c =
+    let e = c.args.engine.now in
+    let text = c.args.text.now in
+    let read = c.read_class-class.ensures in
+    let cells : c.as_slice-cells.result.now ≡ e.fused.now.cells.items = c.as_slice-cells.ensures.value in
+    let inside = in_fused_row e.fused.now e.layout.now (g.C.Cells.numbers e.cells.now) e.dfa.now text c.args.from c.eights.at c.eights.row c.read_class-class.result read.0 (take c.eights.count c.eights.marks)
+    c.requires.table c.requires.fused c.eights.invariant.marked read.1.1 in
+    search (rules, inside, ap (length {A = ℕ}) cells, e.fused.now.cells.ok.0, c.as_slice-cells.ensures.len)
+
+pub offset_bounds-cells-row-in-marking : goal.offset_bounds-cells-row-in-marking
+offset_bounds-cells-row-in-marking g c =
+    let e = c.args.engine.now in
+    let text = c.args.text.now in
+    let read = c.read_class-class.ensures in
+    let cells : c.as_slice-cells.result.now ≡ e.fused.now.cells.items = c.as_slice-cells.ensures.value in
+    let inside = in_fused_row e.fused.now e.layout.now (g.C.Cells.numbers e.cells.now) e.dfa.now text c.args.from c.eights.at c.eights.row c.read_class-class.result read.0 (take c.eights.count c.eights.marks)
+    c.requires.table c.requires.fused c.eights.invariant.marked read.1.1 in
+    search (rules, inside, ap (length {A = ℕ}) cells, e.fused.now.cells.ok.0, c.as_slice-cells.ensures.len)
+
+pub bounds-cells-row-in-marking : goal.bounds-cells-row-in-marking
+bounds-cells-row-in-marking g c =
+    let e = c.args.engine.now in
+    let text = c.args.text.now in
+    let read = c.read_class-class.ensures in
+    let cells : c.as_slice-cells.result.now ≡ e.fused.now.cells.items = c.as_slice-cells.ensures.value in
+    let inside = in_fused_row e.fused.now e.layout.now (g.C.Cells.numbers e.cells.now) e.dfa.now text c.args.from c.eights.at c.eights.row c.read_class-class.result read.0 (take c.eights.count c.eights.marks)
+    c.requires.table c.requires.fused c.eights.invariant.marked read.1.1 in
+    omega (arith, inside, ap (length {A = ℕ}) cells)
+
+pub eight-preserved : goal.eight-preserved
+eight-preserved g c =
+    let e = c.args.engine.now in
+    let text = c.args.text.now in
+    let place = c.eights.at + c.eight.step in
+    let ascii = c.are_ascii.ensures c.eights-test.true in
+    let low : get_or c.as_bytes-bytes.result.now place 0 < 128 = ascii.1 place (omega arith) (omega (arith, c.eight-test.true)) in
+    let room : c.eight.count < length c.eight.marks =
+    omega (arith, ascii.0, c.eight-test.true, c.min-end.ensures, c.eight.invariant.few, c.eight.invariant.room, c.eights.invariant.room, c.marking.invariant.room, c.requires.room) in
+    let one = kept_few _ _ _ c.kept-count.ensures in
+    record {
+      marked = marked_byte e.fused.now e.layout.now (g.C.Cells.numbers e.cells.now) e.dfa.now text c.args.from place (c.eights.at + (c.eight.step + 1)) c.eight.row c.eight.count c.kept-count.result c.eight.marks _
+          c.as_bytes-bytes.result.now c.as_slice-blocks.result.now c.as_slice-cells.result.now c.requires.table c.requires.fused c.states-states.ensures.well_formed c.utf8.text
+          c.as_bytes-bytes.ensures.value c.as_slice-blocks.ensures.value c.as_slice-cells.ensures.value c.eight.invariant.marked (omega (arith, ascii.0, c.eight-test.true, c.min-end.ensures)) low (omega arith)
+          c.if-next-eq0.false room refl c.kept-count.ensures;
+      kept = omega (arith, room, length-set c.eight.marks c.eight.count (record { place = place; row = c.eight.row }), one);
+      few = omega (arith, c.eight.invariant.few, one);
+      room = length-set c.eight.marks c.eight.count _ ∙ c.eight.invariant.room;
+    }
+
+pub eights-preserved : goal.eights-preserved
+eights-preserved g c =
+    let e = c.args.engine.now in
+    let f = e.fused.now in
+    let text = c.args.text.now in
+    let to = c.stay_end-at.result in
+    let ascii = c.are_ascii.ensures c.eights-test.true in
+    let all : c.eight.step ≡ 8 = omega (arith, c.eight-test.false, c.eight.auto.step-end) in
+    let marked : IsMarked f e.layout.now e.dfa.now text c.args.from (c.eights.at + 8) c.eight.row (take c.eight.count c.eight.marks) =
+    subst (λ (n : ℕ). IsMarked f e.layout.now e.dfa.now text c.args.from (c.eights.at + n) c.eight.row (take c.eight.count c.eight.marks)) all c.eight.invariant.marked in
+    let stays : StaysOn f c.eight.row text (c.eights.at + 8) to =
+    subst (λ (xs : List ℕ). StaysOn f c.eight.row xs (c.eights.at + 8) to) c.as_bytes-bytes.ensures.value c.stay_end-at.ensures.stays in
+    record {
+      marked = marked_stays f e.layout.now (g.C.Cells.numbers e.cells.now) e.dfa.now text c.args.from (c.eights.at + 8) to c.eight.row (take c.eight.count c.eight.marks)
+          c.requires.table c.requires.fused c.states-states.ensures.well_formed c.utf8.text marked c.stay_end-at.ensures.on (omega (arith, c.stay_end-at.ensures.within, c.min-end.ensures)) stays;
+      kept = c.eight.invariant.kept;
+      few = omega (arith, all, c.eight.invariant.few, c.stay_end-at.ensures.on);
+      room = c.eight.invariant.room ∙ c.eights.invariant.room;
+      on = omega (arith, c.eights.invariant.on, c.stay_end-at.ensures.on);
+      within = c.stay_end-at.ensures.within;
+    }
+
 pub read_class-class-requires-clause-boundary : goal.read_class-class-requires-clause-boundary
 read_class-class-requires-clause-boundary g c =
     let e = c.args.engine.now in
-    marked_boundary e.fused.now e.layout.now e.dfa.now c.args.text.now c.args.from c.marking.at c.marking.row _ c.utf8.text c.marking.invariant.marked
-
-pub index-next-requires : goal.index-next-requires
-index-next-requires g c =
-    let e = c.args.engine.now in
-    let read = c.read_class-class.ensures in
-    let cells = e.fused.now.cells in
-    omega (
-      arith,
-      cells.ok.0,
-      in_fused_row e.fused.now e.layout.now (g.C.Cells.numbers e.cells.now) e.dfa.now c.args.text.now c.args.from c.marking.at c.marking.row c.read_class-class.result read.0 _
-          c.requires.table c.requires.fused c.marking.invariant.marked read.1.1,
-    )
+    marked_boundary e.fused.now e.layout.now e.dfa.now c.args.text.now c.args.from c.eights.at c.eights.row (take c.eights.count c.eights.marks) c.utf8.text c.eights.invariant.marked
 
 pub marking-smaller : goal.marking-smaller
 marking-smaller g c =
     let read = c.read_class-class.ensures in
-    omega (arith, c.marking-test.true, c.min-end.ensures, walked_on c.args.text.now c.marking.at c.read_class-class.new.at read.0 read.1.0)
+    omega (arith, c.if-at-end.false, c.min-end.ensures, c.eights.invariant.on, walked_on c.args.text.now c.eights.at c.read_class-class.new.at read.0 read.1.0)
 
 pub marking-preserved : goal.marking-preserved
 marking-preserved g c =
     let e = c.args.engine.now in
     let text = c.args.text.now in
-    let cells = e.fused.now.cells in
     let read = c.read_class-class.ensures in
-    let on : c.marking.at < c.read_class-class.new.at = walked_on text c.marking.at c.read_class-class.new.at read.0 read.1.0 in
-    let within : c.marking.row + c.read_class-class.result < length cells.items =
-    in_fused_row e.fused.now e.layout.now (g.C.Cells.numbers e.cells.now) e.dfa.now text c.args.from c.marking.at c.marking.row c.read_class-class.result read.0 _
-    c.requires.table c.requires.fused c.marking.invariant.marked read.1.1 in
-    let next : c.index-next.result.now ≡ get_or cells.items (c.marking.row + c.read_class-class.result) 0 =
-    get_or_read cells.items (c.marking.row + c.read_class-class.result) c.index-next.result.now within c.index-next.ensures 0 in
-    let room : c.marking.count < length c.marking.marks =
-    omega (arith, c.marking-test.true, c.min-end.ensures, c.marking.invariant.few, c.marking.invariant.room, c.requires.room) in
+    let cells : c.as_slice-cells.result.now ≡ e.fused.now.cells.items = c.as_slice-cells.ensures.value in
+    let inside = in_fused_row e.fused.now e.layout.now (g.C.Cells.numbers e.cells.now) e.dfa.now text c.args.from c.eights.at c.eights.row c.read_class-class.result read.0 (take c.eights.count c.eights.marks)
+    c.requires.table c.requires.fused c.eights.invariant.marked read.1.1 in
+    let on : c.eights.at < c.read_class-class.new.at = walked_on text c.eights.at c.read_class-class.new.at read.0 read.1.0 in
+    let room : c.eights.count < length c.eights.marks =
+    omega (arith, c.if-at-end.false, c.min-end.ensures, c.eights.invariant.few, c.eights.invariant.room, c.marking.invariant.room, c.requires.room) in
+    let one = kept_few _ _ _ c.kept-count-in-marking.ensures in
     record {
-      marked = marked_kept e.fused.now e.layout.now e.dfa.now text c.args.from c.read_class-class.new.at c.index-next.result.now c.marking.at c.marking.row c.marking.count c.kept-count.result c.marking.marks _
-          (marked_more e.fused.now e.layout.now (g.C.Cells.numbers e.cells.now) e.dfa.now text c.args.from c.marking.at c.read_class-class.new.at c.marking.row c.index-next.result.now c.read_class-class.result read.0 _
-          c.requires.table c.requires.fused c.states-states.ensures.well_formed c.utf8.text c.marking.invariant.marked read.1.0 read.1.1 next c.if-next-eq0.false) room refl c.kept-count.ensures;
-      kept = omega (arith, room, length-set c.marking.marks c.marking.count (record { place = c.marking.at; row = c.marking.row }), kept_few c.index-next.result.now e.fused.now.emit c.kept-count.result c.kept-count.ensures);
-      few = omega (arith, on, c.marking.invariant.few, kept_few c.index-next.result.now e.fused.now.emit c.kept-count.result c.kept-count.ensures);
-      room = length-set c.marking.marks c.marking.count _ ∙ c.marking.invariant.room;
+      marked = marked_next e.fused.now e.layout.now (g.C.Cells.numbers e.cells.now) e.dfa.now text c.args.from c.eights.at c.read_class-class.new.at c.eights.row _ c.read_class-class.result read.0 c.eights.count
+          c.kept-count-in-marking.result c.eights.marks _ c.requires.table c.requires.fused c.states-states.ensures.well_formed c.utf8.text c.eights.invariant.marked read.1.0 read.1.1
+          (ap (λ (xs : List ℕ). get_or xs (c.eights.row + c.read_class-class.result) 0) cells) c.if-next-eq0-2.false room refl c.kept-count-in-marking.ensures;
+      kept = omega (arith, room, length-set c.eights.marks c.eights.count (record { place = c.eights.at; row = c.eights.row }), one);
+      few = omega (arith, on, c.eights.invariant.few, one);
+      room = length-set c.eights.marks c.eights.count _ ∙ c.eights.invariant.room ∙ c.marking.invariant.room;
     }
