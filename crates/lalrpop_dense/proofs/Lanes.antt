@@ -65,29 +65,29 @@ equal a b = cond (eqb a b) 255 0
 -- the lanes at which a load stops
 abbrev pub lanes_of : Stay → List ℕ → List ℕ
 lanes_of s v =
-    zip2 bit_or (zip2 bit_or (zip2 bit_or (zip2 bit_or (zip2 below v (replicate 16 s.first)) (zip2 below (replicate 16 s.last) v)) (zip2 equal v (replicate 16 s.gaps.0)))
-    (zip2 equal v (replicate 16 s.gaps.1))) (zip2 equal v (replicate 16 s.gaps.2))
+    zip2 bit_or (zip2 bit_or (zip2 bit_or (zip2 bit_or (zip2 below v (replicate 32 s.first)) (zip2 below (replicate 32 s.last) v)) (zip2 equal v (replicate 32 s.gaps.0)))
+    (zip2 equal v (replicate 32 s.gaps.1))) (zip2 equal v (replicate 32 s.gaps.2))
 
-lanes_are : (s : Stay) (v : List ℕ) → length v ≡ 16 → lanes_of s v ≡ map (bits_of (stops s)) v
+lanes_are : (s : Stay) (v : List ℕ) → length v ≡ 32 → lanes_of s v ≡ map (bits_of (stops s)) v
 lanes_are s v long =
     either (λ x. ((ltb x s.first || ltb s.last x) || eqb x s.gaps.0) || eqb x s.gaps.1) (λ x. eqb x s.gaps.2) v
     (either (λ x. (ltb x s.first || ltb s.last x) || eqb x s.gaps.0) (λ x. eqb x s.gaps.1) v
     (either (λ x. ltb x s.first || ltb s.last x) (λ x. eqb x s.gaps.0) v
-    (either (λ x. ltb x s.first) (λ x. ltb s.last x) v (zip2_splat below v 16 s.first long) (zip2_splat_left below s.last 16 v long))
-    (zip2_splat equal v 16 s.gaps.0 long)) (zip2_splat equal v 16 s.gaps.1 long)) (zip2_splat equal v 16 s.gaps.2 long)
+    (either (λ x. ltb x s.first) (λ x. ltb s.last x) v (zip2_splat below v 32 s.first long) (zip2_splat_left below s.last 32 v long))
+    (zip2_splat equal v 32 s.gaps.0 long)) (zip2_splat equal v 32 s.gaps.1 long)) (zip2_splat equal v 32 s.gaps.2 long)
 
 -- the bytes before the first lane that stops
-pub run_is_in : (s : Stay) (bytes : List ℕ) (at run : ℕ) → at + 16 ≤ length bytes
-    → run ≡ first_set (mask_l (map (top 7) (lanes_of s (chunk at 16 bytes))) % 2 ^ 64) → (run ≤ 16) × AreIn s bytes at (at + run)
+pub run_is_in : (s : Stay) (bytes : List ℕ) (at run : ℕ) → at + 32 ≤ length bytes
+    → run ≡ first_set (mask_l (map (top 7) (lanes_of s (chunk at 32 bytes))) % 2 ^ 64) → (run ≤ 32) × AreIn s bytes at (at + run)
 run_is_in s bytes at run room found =
-    let v = chunk at 16 bytes in
-    let long : length v ≡ 16 = length-chunk at 16 bytes room in
+    let v = chunk at 32 bytes in
+    let long : length v ≡ 32 = length-chunk at 32 bytes room in
     let mask : mask_l (map (top 7) (lanes_of s v)) % 2 ^ 64 ≡ mask_l (map (stops s) v) =
     ap (λ (l : List ℕ). mask_l (map (top 7) l) % 2 ^ 64) (lanes_are s v long) ∙ ap (λ (l : List Bool). mask_l l % 2 ^ 64) (tops (stops s) v)
     ∙ mask_l-mod (map (stops s) v) 64 (omega (arith, length-map v (stops s), long)) in
-    let counted : run ≡ prefix_len (λ x. not (stops s x)) v = found ∙ ap first_set mask ∙ first_set_mask_l (stops s) v 16 long (lit≤ tt) in (
-      run_in_chunk_le (stops s) bytes at 16 run 0 room counted,
-      λ k from to. is_in s (get_or bytes k 0) (run_in_chunk_fails (stops s) bytes at 16 run 0 room counted k from to),
+    let counted : run ≡ prefix_len (λ x. not (stops s x)) v = found ∙ ap first_set mask ∙ first_set_mask_l (stops s) v 32 long (lit≤ tt) in (
+      run_in_chunk_le (stops s) bytes at 32 run 0 room counted,
+      λ k from to. is_in s (get_or bytes k 0) (run_in_chunk_fails (stops s) bytes at 32 run 0 room counted k from to),
     )
 
 abbrev at_most : ℕ → ℕ → ℕ

@@ -280,14 +280,13 @@ byte_in_row f t cells d text from at row marks bytes blocks numbers h k same len
     )
 
 -- one byte of ASCII more, with its mark written
-pub marked_byte : (f : Fused) (t : Layout) (cells : List ℕ) (d : List Row) (text : List ℕ) (from at at2 row count one : ℕ) (all all2 : List Mark) (bytes blocks numbers : List ℕ) → IsTableOf t cells d → IsFusedOf f t cells
+pub marked_byte : (f : Fused) (t : Layout) (cells : List ℕ) (d : List Row) (text : List ℕ) (from at at2 row next count one : ℕ) (all all2 : List Mark) (bytes blocks numbers : List ℕ) → IsTableOf t cells d → IsFusedOf f t cells
     → IsWellFormed d → IsUtf8 text → bytes ≡ text → blocks ≡ t.blocks.items → numbers ≡ f.cells.items → IsMarked f t d text from at row (take count all) → at < length text → get_or bytes at 0 < 128 → at2 ≡ at + 1
-    → get_or numbers (row + get_or blocks (get_or bytes at 0) 0) 0 ≢ 0 → count < length all → all2 ≡ slice_set all count (record { place = at; row = row })
-    → ((get_or numbers (row + get_or blocks (get_or bytes at 0) 0) 0 < f.emit) × (one ≡ 0)) ⊎ ((f.emit ≤ get_or numbers (row + get_or blocks (get_or bytes at 0) 0) 0) × (one ≡ 1))
-    → IsMarked f t d text from at2 (get_or numbers (row + get_or blocks (get_or bytes at 0) 0) 0) (take (count + one) all2)
-marked_byte f t cells d text from at at2 row count one all all2 bytes blocks numbers h k wf u same lent shown m inside low on some within set is_kept =
+    → next ≡ get_or numbers (row + get_or blocks (get_or bytes at 0) 0) 0 → next ≢ 0 → count < length all → all2 ≡ slice_set all count (record { place = at; row = row })
+    → ((next < f.emit) × (one ≡ 0)) ⊎ ((f.emit ≤ next) × (one ≡ 1)) → IsMarked f t d text from at2 next (take (count + one) all2)
+marked_byte f t cells d text from at at2 row next count one all all2 bytes blocks numbers h k wf u same lent shown m inside low on e some within set is_kept =
     let class = get_or blocks (get_or bytes at 0) 0 in
     let byte : get_or bytes at 0 ≡ get_or text at 0 = ap (λ (xs : List ℕ). get_or xs at 0) same in
     let read : ReadsChar text at at2 (get_or text at 0) = subst (λ (n : ℕ). ReadsChar text at n (get_or text at 0)) (sym on) (reads_ascii text at inside (omega (arith, byte, low))) in
-    marked_next f t cells d text from at at2 row (get_or numbers (row + class) 0) class (get_or text at 0) count one all all2 h k wf u m read (class_byte t text bytes blocks at h.classes same lent low)
-    (ap (λ (xs : List ℕ). get_or xs (row + class) 0) shown) some within set is_kept
+    marked_next f t cells d text from at at2 row next class (get_or text at 0) count one all all2 h k wf u m read (class_byte t text bytes blocks at h.classes same lent low)
+    (e ∙ ap (λ (xs : List ℕ). get_or xs (row + class) 0) shown) some within set is_kept

@@ -65,6 +65,15 @@ fn kept(row: usize, emit: usize) -> usize
     (row >= emit) as usize
 }
 
+// The cell of the row for the class. The class is added first, since it's known before the row is.
+#[inline(always)]
+fn cell(cells: &[u16], row: usize, class: u8) -> usize
+    requires { row + class < length cells.now }
+    ensures { result ≡ slice_index cells.now (row + class) }
+{
+    cells[class as usize..][row] as usize
+}
+
 // Whether bytes of ASCII stand at the place, of which so many are read at once.
 #[inline(always)]
 fn are_ascii(bytes: &[u8], at: usize, end: usize) -> bool
@@ -119,7 +128,7 @@ pub(crate) fn mark_block<C: Cells>(
             let before = row;
             'eight: for step in 0..EIGHT {
                 let class = blocks[bytes[at + step] as usize];
-                let next = cells[row + class as usize] as usize;
+                let next = cell(cells, row, class);
                 if next == 0 {
                     return count;
                 }
@@ -137,7 +146,7 @@ pub(crate) fn mark_block<C: Cells>(
         }
         let place = at;
         let class = read_class(layout, text, &mut at);
-        let next = cells[row + class as usize] as usize;
+        let next = cell(cells, row, class);
         if next == 0 {
             return count;
         }

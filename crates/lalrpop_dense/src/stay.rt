@@ -6,7 +6,7 @@ ghost use Rattle.lalrpop_dense.specs.Internal.Stays.{IsIn, AreIn, first_set};
 use std::simd::prelude::*;
 
 // How many bytes are looked at at once.
-const LANES: usize = 16;
+const LANES: usize = 32;
 
 // The place of the lowest bit that is set, or so many places as there are.
 #[inline(always)]
@@ -48,12 +48,12 @@ impl Stay {
         ensures short { result ≤ LANES }
         ensures within { AreIn self bytes.now at (at + result) }
     {
-        let lanes = u8x16::from_slice(&bytes[at..]);
-        let stops = lanes.simd_lt(u8x16::splat(self.first))
-            | lanes.simd_gt(u8x16::splat(self.last))
-            | lanes.simd_eq(u8x16::splat(self.gaps.0))
-            | lanes.simd_eq(u8x16::splat(self.gaps.1))
-            | lanes.simd_eq(u8x16::splat(self.gaps.2));
+        let lanes = u8x32::from_slice(&bytes[at..]);
+        let stops = lanes.simd_lt(u8x32::splat(self.first))
+            | lanes.simd_gt(u8x32::splat(self.last))
+            | lanes.simd_eq(u8x32::splat(self.gaps.0))
+            | lanes.simd_eq(u8x32::splat(self.gaps.1))
+            | lanes.simd_eq(u8x32::splat(self.gaps.2));
         first_set(stops.to_bitmask())
     }
 

@@ -15,6 +15,6 @@ pub record IsIn (s : Stay) (byte : ℕ) : Type 0 where
 abbrev pub AreIn : Stay → List ℕ → ℕ → ℕ → Type 0
 AreIn s bytes at to = (k : ℕ) → at ≤ k → k < to → IsIn s (slice_index bytes k)
 
--- the place of the lowest bit that is set, or 16
+-- the place of the lowest bit that is set, or 32
 abbrev pub first_set : ℕ → ℕ
-first_set mask = if mask == 0 then 16 else trailing_zeros w64 mask
+first_set mask = if mask == 0 then 32 else trailing_zeros w64 mask

@@ -16,30 +16,8 @@ marking-init g c =
       room = refl;
     }
 
-pub overflow_add-next : goal.overflow_add-next
-overflow_add-next g c =
-    let e = c.args.engine.now in
-    let text = c.args.text.now in
-    let place = c.eights.at + c.eight.step in
-    let ascii = c.are_ascii.ensures c.eights-test.true in
-    let low : get_or c.as_bytes-bytes.result.now place 0 < 128 = ascii.1 place (omega arith) (omega (arith, c.eight-test.true)) in
-    let inside = byte_in_row e.fused.now e.layout.now (g.C.Cells.numbers e.cells.now) e.dfa.now text c.args.from place c.eight.row (take c.eight.count c.eight.marks) c.as_bytes-bytes.result.now c.as_slice-blocks.result.now c.as_slice-cells.result.now
-    c.requires.table c.requires.fused c.as_bytes-bytes.ensures.value c.as_slice-blocks.ensures.value c.as_slice-cells.ensures.value c.eight.invariant.marked low in
-    search (rules, inside, e.fused.now.cells.ok.0, c.as_slice-cells.ensures.len)
-
-pub offset_bounds-cells-row : goal.offset_bounds-cells-row
-offset_bounds-cells-row g c =
-    let e = c.args.engine.now in
-    let text = c.args.text.now in
-    let place = c.eights.at + c.eight.step in
-    let ascii = c.are_ascii.ensures c.eights-test.true in
-    let low : get_or c.as_bytes-bytes.result.now place 0 < 128 = ascii.1 place (omega arith) (omega (arith, c.eight-test.true)) in
-    let inside = byte_in_row e.fused.now e.layout.now (g.C.Cells.numbers e.cells.now) e.dfa.now text c.args.from place c.eight.row (take c.eight.count c.eight.marks) c.as_bytes-bytes.result.now c.as_slice-blocks.result.now c.as_slice-cells.result.now
-    c.requires.table c.requires.fused c.as_bytes-bytes.ensures.value c.as_slice-blocks.ensures.value c.as_slice-cells.ensures.value c.eight.invariant.marked low in
-    search (rules, inside, e.fused.now.cells.ok.0, c.as_slice-cells.ensures.len)
-
-pub bounds-cells-row : goal.bounds-cells-row
-bounds-cells-row g c =
+pub cell-next-requires : goal.cell-next-requires
+cell-next-requires g c =
     let e = c.args.engine.now in
     let text = c.args.text.now in
     let place = c.eights.at + c.eight.step in
@@ -47,36 +25,6 @@ bounds-cells-row g c =
     let low : get_or c.as_bytes-bytes.result.now place 0 < 128 = ascii.1 place (omega arith) (omega (arith, c.eight-test.true)) in
     byte_in_row e.fused.now e.layout.now (g.C.Cells.numbers e.cells.now) e.dfa.now text c.args.from place c.eight.row (take c.eight.count c.eight.marks) c.as_bytes-bytes.result.now c.as_slice-blocks.result.now c.as_slice-cells.result.now
     c.requires.table c.requires.fused c.as_bytes-bytes.ensures.value c.as_slice-blocks.ensures.value c.as_slice-cells.ensures.value c.eight.invariant.marked low
-
-pub overflow_add-next-in-marking : goal.overflow_add-next-in-marking
-overflow_add-next-in-marking g c =
-    let e = c.args.engine.now in
-    let text = c.args.text.now in
-    let read = c.read_class-class.ensures in
-    let cells : c.as_slice-cells.result.now ≡ e.fused.now.cells.items = c.as_slice-cells.ensures.value in
-    let inside = in_fused_row e.fused.now e.layout.now (g.C.Cells.numbers e.cells.now) e.dfa.now text c.args.from c.eights.at c.eights.row c.read_class-class.result read.0 (take c.eights.count c.eights.marks)
-    c.requires.table c.requires.fused c.eights.invariant.marked read.1.1 in
-    search (rules, inside, ap (length {A = ℕ}) cells, e.fused.now.cells.ok.0, c.as_slice-cells.ensures.len)
-
-pub offset_bounds-cells-row-in-marking : goal.offset_bounds-cells-row-in-marking
-offset_bounds-cells-row-in-marking g c =
-    let e = c.args.engine.now in
-    let text = c.args.text.now in
-    let read = c.read_class-class.ensures in
-    let cells : c.as_slice-cells.result.now ≡ e.fused.now.cells.items = c.as_slice-cells.ensures.value in
-    let inside = in_fused_row e.fused.now e.layout.now (g.C.Cells.numbers e.cells.now) e.dfa.now text c.args.from c.eights.at c.eights.row c.read_class-class.result read.0 (take c.eights.count c.eights.marks)
-    c.requires.table c.requires.fused c.eights.invariant.marked read.1.1 in
-    search (rules, inside, ap (length {A = ℕ}) cells, e.fused.now.cells.ok.0, c.as_slice-cells.ensures.len)
-
-pub bounds-cells-row-in-marking : goal.bounds-cells-row-in-marking
-bounds-cells-row-in-marking g c =
-    let e = c.args.engine.now in
-    let text = c.args.text.now in
-    let read = c.read_class-class.ensures in
-    let cells : c.as_slice-cells.result.now ≡ e.fused.now.cells.items = c.as_slice-cells.ensures.value in
-    let inside = in_fused_row e.fused.now e.layout.now (g.C.Cells.numbers e.cells.now) e.dfa.now text c.args.from c.eights.at c.eights.row c.read_class-class.result read.0 (take c.eights.count c.eights.marks)
-    c.requires.table c.requires.fused c.eights.invariant.marked read.1.1 in
-    omega (arith, inside, ap (length {A = ℕ}) cells)
 
 pub eight-preserved : goal.eight-preserved
 eight-preserved g c =
@@ -89,10 +37,10 @@ eight-preserved g c =
     omega (arith, ascii.0, c.eight-test.true, c.min-end.ensures, c.eight.invariant.few, c.eight.invariant.room, c.eights.invariant.room, c.marking.invariant.room, c.requires.room) in
     let one = kept_few _ _ _ c.kept-count.ensures in
     record {
-      marked = marked_byte e.fused.now e.layout.now (g.C.Cells.numbers e.cells.now) e.dfa.now text c.args.from place (c.eights.at + (c.eight.step + 1)) c.eight.row c.eight.count c.kept-count.result c.eight.marks _
+      marked = marked_byte e.fused.now e.layout.now (g.C.Cells.numbers e.cells.now) e.dfa.now text c.args.from place (c.eights.at + (c.eight.step + 1)) c.eight.row c.cell-next.result c.eight.count c.kept-count.result c.eight.marks _
           c.as_bytes-bytes.result.now c.as_slice-blocks.result.now c.as_slice-cells.result.now c.requires.table c.requires.fused c.states-states.ensures.well_formed c.utf8.text
           c.as_bytes-bytes.ensures.value c.as_slice-blocks.ensures.value c.as_slice-cells.ensures.value c.eight.invariant.marked (omega (arith, ascii.0, c.eight-test.true, c.min-end.ensures)) low (omega arith)
-          c.if-next-eq0.false room refl c.kept-count.ensures;
+          c.cell-next.ensures c.if-next-eq0.false room refl c.kept-count.ensures;
       kept = omega (arith, room, length-set c.eight.marks c.eight.count (record { place = place; row = c.eight.row }), one);
       few = omega (arith, c.eight.invariant.few, one);
       room = length-set c.eight.marks c.eight.count _ ∙ c.eight.invariant.room;
@@ -125,6 +73,16 @@ read_class-class-requires-clause-boundary g c =
     let e = c.args.engine.now in
     marked_boundary e.fused.now e.layout.now e.dfa.now c.args.text.now c.args.from c.eights.at c.eights.row (take c.eights.count c.eights.marks) c.utf8.text c.eights.invariant.marked
 
+pub cell-next-requires-in-marking : goal.cell-next-requires-in-marking
+cell-next-requires-in-marking g c =
+    let e = c.args.engine.now in
+    let text = c.args.text.now in
+    let read = c.read_class-class.ensures in
+    let cells : c.as_slice-cells.result.now ≡ e.fused.now.cells.items = c.as_slice-cells.ensures.value in
+    let inside = in_fused_row e.fused.now e.layout.now (g.C.Cells.numbers e.cells.now) e.dfa.now text c.args.from c.eights.at c.eights.row c.read_class-class.result read.0 (take c.eights.count c.eights.marks)
+    c.requires.table c.requires.fused c.eights.invariant.marked read.1.1 in
+    omega (arith, inside, ap (length {A = ℕ}) cells)
+
 pub marking-smaller : goal.marking-smaller
 marking-smaller g c =
     let read = c.read_class-class.ensures in
@@ -143,9 +101,9 @@ marking-preserved g c =
     omega (arith, c.if-at-end.false, c.min-end.ensures, c.eights.invariant.few, c.eights.invariant.room, c.marking.invariant.room, c.requires.room) in
     let one = kept_few _ _ _ c.kept-count-in-marking.ensures in
     record {
-      marked = marked_next e.fused.now e.layout.now (g.C.Cells.numbers e.cells.now) e.dfa.now text c.args.from c.eights.at c.read_class-class.new.at c.eights.row _ c.read_class-class.result read.0 c.eights.count
+      marked = marked_next e.fused.now e.layout.now (g.C.Cells.numbers e.cells.now) e.dfa.now text c.args.from c.eights.at c.read_class-class.new.at c.eights.row c.cell-next-in-marking.result c.read_class-class.result read.0 c.eights.count
           c.kept-count-in-marking.result c.eights.marks _ c.requires.table c.requires.fused c.states-states.ensures.well_formed c.utf8.text c.eights.invariant.marked read.1.0 read.1.1
-          (ap (λ (xs : List ℕ). get_or xs (c.eights.row + c.read_class-class.result) 0) cells) c.if-next-eq0-2.false room refl c.kept-count-in-marking.ensures;
+          (c.cell-next-in-marking.ensures ∙ ap (λ (xs : List ℕ). get_or xs (c.eights.row + c.read_class-class.result) 0) cells) c.if-next-eq0-2.false room refl c.kept-count-in-marking.ensures;
       kept = omega (arith, room, length-set c.eights.marks c.eights.count (record { place = c.eights.at; row = c.eights.row }), one);
       few = omega (arith, on, c.eights.invariant.few, one);
       room = length-set c.eights.marks c.eights.count _ ∙ c.eights.invariant.room ∙ c.marking.invariant.room;
