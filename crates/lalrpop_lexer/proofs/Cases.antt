@@ -10,3 +10,4 @@ pub mod Line
 pub mod Terminals
 mod Counting
 mod LinearCutting
+mod BoundedCutting

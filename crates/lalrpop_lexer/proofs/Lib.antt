@@ -5,6 +5,7 @@ pub mod LexerCuttings
 pub mod TokenLists
 pub mod Costs
 pub mod LinearCosts
+pub mod BoundedCuttings
 pub mod Places
 -- what lines say
 pub mod LineLemmas

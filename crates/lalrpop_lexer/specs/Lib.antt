@@ -2,6 +2,7 @@ pub mod Cutting
 pub mod LexerTokens
 pub mod Counting
 pub mod LinearCutting
+pub mod BoundedCutting
 pub mod Position
 pub mod Rules
 pub mod LexerErrors
@@ -60,6 +61,7 @@ pub use Rattle.lalrpop_table.specs.Counts as StateCounts
 pub use Rattle.lalrpop_table.specs.Lookahead
 pub use Rattle.lalrpop_table.specs.SameAutomata
 pub use Rattle.lalrpop_dense.specs.Leading
+pub use Rattle.lalrpop_linear.specs.Matching
 pub use Rattle.lalrpop_dfa.specs.Items
 pub use Rattle.lalrpop_dfa.specs.Agree
 -- used by proofs only

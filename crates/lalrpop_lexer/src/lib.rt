@@ -5,6 +5,7 @@
 //! It also exports the crates below.
 #![tactic(auto)]
 
+mod bounded;
 mod counted;
 mod cut;
 mod error;
@@ -23,12 +24,14 @@ mod terminals;
 mod token;
 mod token_list;
 
+pub use bounded::BoundedTokens;
 pub use counted::CountedTokens;
 pub use cut::tokens;
 pub use error::LexerError;
 pub use form::Form;
 pub use lalrpop_book::{Token, TokenFault};
 pub use lalrpop_kernels as kernel_set;
+pub use lalrpop_linear::LinearMatches;
 pub use lexer_token::LexerTokens;
 pub use linear::LinearTokens;
 pub use longest::longest_match;

@@ -10,6 +10,8 @@ ghost use Rattle.lalrpop_table.specs.Lookahead.{IsLookahead, IsSettledAfter, Loo
 ghost use Rattle.lalrpop_lexer.specs.Counting.{Counting, GivesCounted, counting_of};
 ghost use Rattle.lalrpop_linear.specs.Matching.{open_states};
 ghost use Rattle.lalrpop_lexer.specs.LinearCutting.{LinearCutting, GivesLinear};
+ghost use Rattle.lalrpop_lexer.specs.BoundedCutting.{cutting_of, steps_of, GivesBounded, most_steps};
+ghost use Rattle.lalrpop_lexer.specs.declared.bounded.BoundedTokens.{BoundedTokens as BoundedValue};
 ghost use Rattle.lalrpop_lexer.specs.Cutting.{Cutting, start_of, rest_of};
 ghost use Rattle.lalrpop_book.specs.Tokens.{slices};
 ghost use Rattle.lalrpop_lexer.specs.LexerTokens.{GivesToken};
@@ -18,6 +20,7 @@ ghost use Rattle.lalrpop_lexer.specs.Rules.{IsBuiltFrom};
 ghost use Rattle.lalrpop_book.specs.declared.token.Token.{Token as TokenValue};
 ghost use Rattle.lalrpop_book.specs.declared.token.TokenFault.{TokenFault as FaultValue};
 
+use crate::bounded::BoundedTokens;
 use crate::counted::CountedTokens;
 use crate::lexer_token::LexerTokens;
 use crate::linear::LinearTokens;
@@ -214,8 +217,63 @@ impl Lexer {
             → t.steps ≤ 65 * length (chars text.now)
             + open_states self.now.automaton * (length text.now + 64)) }
     {
-        let matches = LinearMatches::new(alloc, self.dense.dfa(), text)?;
+        let matches = self.matches_linear(alloc, text)?;
         Ok(LinearTokens::new(matches))
+    }
+
+    /// The longest matches of the text, one behind another, for a caller that goes on where nothing matches. All of the text is left.
+    /// The memory is taken here, as by `tokens_linear`.
+    ///
+    /// # Errors
+    ///
+    /// `AllocError` if a request for memory was refused.
+    pub fn matches_linear<'text>(
+        &'text self,
+        alloc: Global,
+        text: &'text str,
+    ) -> Result<LinearMatches<'text>, AllocError>
+        ensures start { IfOk result (λ s. s ≡ record {
+          automaton = self.now.automaton;
+          text = text.now;
+          at = 0;
+          unseen = s.unseen;
+        }) }
+        ensures built { IfOk result (λ s.
+            IsBuiltFrom self.now.trees self.now.precedences s.automaton) }
+        ensures unseen { IfOk result (λ s. 64 * s.unseen
+            ≤ open_states self.now.automaton * (length text.now + 64)) }
+    {
+        LinearMatches::new(alloc, self.dense.dfa(), text)
+    }
+
+    /// The tokens of `tokens`, in whichever way has a bound on its cost: by `tokens` if `lookahead` is a number, and else by
+    /// `tokens_linear`. It asks `lookahead` first, which takes memory of its own and gives it back.
+    ///
+    /// # Errors
+    ///
+    /// `AllocError` if a request for memory was refused.
+    pub fn tokens_bounded<'text>(
+        &'text self,
+        alloc: Global,
+        text: &'text str,
+    ) -> Result<BoundedTokens<'text>, AllocError>
+        ensures start { IfOk result (λ s.
+            (cutting_of s ≡ start_of self.now.automaton text.now) × (steps_of s ≡ 0)) }
+        ensures built { IfOk result (λ s. IsBuiltFrom self.now.trees self.now.precedences
+            (cutting_of s).automaton) }
+        ensures tokens { IfOk result (λ s. (xs : List (Result TokenValue FaultValue))
+            → Drains GivesBounded s xs
+            → AreTokens self.now.trees self.now.precedences text.now 0 xs) }
+        ensures cost { IfOk result (λ s. (found : Option ℕ)
+            × (IsLookahead self.now.automaton found
+            × ((xs : List (Result TokenValue FaultValue)) (t : BoundedValue)
+            → Yields GivesBounded s xs t
+            → steps_of t ≤ most_steps self.now.automaton text.now found))) }
+    {
+        match lookahead(alloc, self.dense.dfa())? {
+            Some(_) => Ok(BoundedTokens::Looking(self.tokens_counted(text))),
+            None => Ok(BoundedTokens::Remembering(self.tokens_linear(alloc, text)?)),
+        }
     }
 
     /// The greatest number of characters that can follow a match and leave it open whether a longer one comes; `None` if

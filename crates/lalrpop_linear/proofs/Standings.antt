@@ -1,14 +1,15 @@
 -- Where a text stands whose matches are found: at its start, and behind a match.
-use Rattle.std.proofs.Common.{◌≡◌, ℕ, ◌+◌, ◌*◌, ◌^◌, ◌/◌, ◌<◌, ◌≤◌, List, ◌++◌, length, take, drop, refl, sym, ap, subst, ◌∙◌, arith, length-append}
+use Rattle.std.proofs.Common.{◌≡◌, ℕ, suc, ◌+◌, ◌*◌, ◌^◌, ◌/◌, ◌<◌, ◌≤◌, List, ◌∷◌, ◌++◌, length, take, drop, refl, sym, ap, subst, ◌∙◌, arith, length-append}
+use Rattle.std.specs.Char.{encode_utf8, len_utf8}
 use Rattle.std.specs.Str.{chars, IsUtf8}
 use Rattle.std.proofs.Math.Nat.{mul-le-mul_left}
 use Rattle.std.proofs.Math.Seq.{drop-append_seam}
 use Rattle.std.proofs.lemmas.List.{take_at, drop_at, drop-drop}
-use Rattle.std.proofs.lemmas.Str.{IsCharBoundary-start, IsCharBoundary-from_take, IsCharBoundary-from_rest, chars-append, length-le-encodes, encodes-chars}
+use Rattle.std.proofs.lemmas.Str.{IsCharBoundary-start, IsCharBoundary-from_take, IsCharBoundary-from_rest, IsCharBoundary-past_char, chars-append, chars_past_char, length-le-encodes, encodes-chars}
 use Rattle.lalrpop_book.specs.Prefix.{IsPrefix}
 use Rattle.lalrpop_table.specs.Dfa.{Row}
 use Rattle.lalrpop_linear.specs.Internal.Memory.{Memory, IsFor, IsNoted}
-use Rattle.lalrpop_linear.specs.Internal.Hopeless.{IsSound}
+use Rattle.lalrpop_linear.specs.Internal.Hopeless.{IsHopeless, IsSound}
 use Rattle.lalrpop_linear.specs.Internal.Standing.{IsStanding}
 
 -- a text has no more characters than bytes
@@ -64,4 +65,24 @@ standing_behind d text p at index index2 m m2 u b same moved sound h =
           subst (λ (n : ℕ). index2 + length (chars (drop (at + length p) text)) < 64 * n) (sym (ap (λ (x : Memory). x.places) same)) most;
       fits = subst (λ (x : Memory). IsFor d x) (sym same) h.fits;
       sound = subst (IsSound d m2 index2) left sound;
+    }
+
+-- the same that is noted serves what is left behind k characters
+pub sound_behind : (d : List Row) (m : Memory) (index index2 k : ℕ) (w : List ℕ) → index2 ≡ index + k → IsSound d m index w → IsSound d m index2 (drop k w)
+sound_behind d m index index2 k w moved sound = λ p place i noted e.
+    subst (IsHopeless d p) (sym (drop-drop i k w)) (sound p place (k + i) noted (omega arith))
+
+-- behind a character
+pub standing_past : (d : List Row) (text : List ℕ) (at index c : ℕ) (m : Memory) → IsUtf8 (drop at text) → drop at text ≡ encode_utf8 c ++ drop (at + len_utf8 c) text
+    → IsStanding d text at index m → IsStanding d text (at + len_utf8 c) (index + 1) m
+standing_past d text at index c m u split h =
+    let rest : List ℕ = drop (at + len_utf8 c) text in
+    let word : chars (drop at text) ≡ c ∷ chars rest = chars_past_char (drop at text) rest c u split in
+    let more : length (chars (drop at text)) ≡ suc (length (chars rest)) = ap length word in
+    record {
+      boundary = IsCharBoundary-past_char text rest at c h.boundary.0 u split;
+      small = omega (arith, h.small);
+      places = omega (arith, h.places);
+      fits = h.fits;
+      sound = subst (IsSound d m (index + 1)) (ap (drop 1) word) (sound_behind d m index (index + 1) 1 (chars (drop at text)) refl h.sound);
     }

@@ -40,8 +40,9 @@ impl<'text> Model for LinearMatches<'text> {
 }
 
 impl<'text> LinearMatches<'text> {
-    ghost use Rattle.std.specs.Prelude.{◌≢◌, ℕ, ◌+◌, ◌*◌, ◌≤◌, [], length, List, IfOk, IfNone, IfSome};
+    ghost use Rattle.std.specs.Prelude.{◌≢◌, ℕ, ◌+◌, ◌*◌, ◌≤◌, ◌++◌, [], length, List, IfOk, IfNone, IfSome};
     ghost use Rattle.std.specs.Option.{option_map};
+    ghost use Rattle.std.specs.Char.{encode_utf8};
     ghost use Rattle.std.specs.Str.{chars};
     ghost use Rattle.lalrpop_book.specs.Tree.{Tree};
     ghost use Rattle.lalrpop_book.specs.Prefix.{IsPrefix};
@@ -110,5 +111,25 @@ impl<'text> LinearMatches<'text> {
             self.at += slice.len();
         }
         found
+    }
+
+    /// Passes over the first character of the rest: from then on the rest begins behind it. `None` at the end of the text.
+    ///
+    /// So a caller goes on where `next_match` finds nothing.
+    pub fn pass_char(&mut self) -> Option<char>
+        ensures first { IfSome result (λ c.
+            rest_of self.old ≡ encode_utf8 c ++ rest_of self.new) }
+        ensures passes { IfSome result (λ c.
+            self.new ≡ record self.old { at = self.old.at + length (encode_utf8 c) }) }
+        ensures end { IfNone result ((rest_of self.old ≡ []) × (self.new ≡ self.old)) }
+    {
+        match self.rest().chars().next() {
+            Some(first) => {
+                self.at += first.len_utf8();
+                self.index += 1;
+                Some(first)
+            }
+            None => None,
+        }
     }
 }

@@ -1,6 +1,6 @@
 -- What the calls of `next` return for a text, as tokens and as lines.
 use Rattle.std.proofs.Common.{◌≡◌, ℕ, ◌+◌, ◌≤◌, true, inl, List, [], ◌∷◌, ◌++◌, length, map, refl, sym, ap, subst, ◌∙◌, append-nil, arith, length-append}
-use Rattle.std.specs.Prelude.{Option, Some, Ok, Err, flat_map}
+use Rattle.std.specs.Prelude.{Option, Some, None, Result, Ok, Err, flat_map}
 use Rattle.std.specs.Iterator.{Yields, Drains}
 use Rattle.std.specs.Str.{chars, IsUtf8}
 use Rattle.std.proofs.lemmas.Grind.{flat_map-append}
@@ -8,39 +8,62 @@ use Rattle.std.proofs.lemmas.List.{length-map, map-append}
 use Rattle.std.proofs.lemmas.Str.{encodes-chars, length-le-encodes}
 use Rattle.std.proofs.iter.Next.{Yields-more}
 use Rattle.lalrpop_book.specs.Tree.{Tree}
-use Rattle.lalrpop_lexer.specs.Cutting.{Cutting, GivesItem}
-use Rattle.lalrpop_book.specs.Tokens.{Item, AreItems}
+use Rattle.lalrpop_book.specs.Tokens.{Item, AreItems, AreTokens, bare}
+use Rattle.lalrpop_book.specs.declared.token.Token.{Token as Cut}
 use Rattle.lalrpop_book.specs.declared.token.TokenFault.{TokenFault}
+use Rattle.lalrpop_lexer.specs.BoundedCutting.{cutting_of, GivesBounded}
+use Rattle.lalrpop_lexer.specs.Cutting.{Cutting, start_of}
+use Rattle.lalrpop_lexer.specs.Dfa.{Row}
+use Rattle.lalrpop_lexer.specs.LexerTokens.{GivesToken}
+use Rattle.lalrpop_lexer.specs.Rules.{IsBuiltFrom}
+use Rattle.lalrpop_lexer.specs.declared.bounded.BoundedTokens.{BoundedTokens}
+use Rattle.lalrpop_lexer.proofs.BoundedCuttings.{bounded_step, bounded_steps}
+use Rattle.lalrpop_lexer.proofs.LexerCuttings.{tokens_from_start, token_count_from_start}
 use Rattle.lexdfa_lib.specs.Answer.{IsReported}
 use Rattle.lexdfa_lib.specs.Printed.{line_of}
 use Rattle.lexdfa_lib.specs.Whole.{Token, Cuts, token_line, AreAnswers}
 use Rattle.lexdfa_lib.specs.declared.outcome.Outcome.{Outcome}
-use Rattle.lexdfa_lib.specs.declared.outcome.Outcome.TheVariants.{Stopped}
+use Rattle.lexdfa_lib.specs.declared.outcome.Outcome.TheVariants.{All, Stopped}
 
--- one more item
-pub items_more : (s r t u : Cutting) (xs : List Item) (o : Option Item) (x : Item) → r ≡ s → Yields GivesItem r xs t → o ≡ Some x → GivesItem t o u
-    → Yields GivesItem s (xs ++ x ∷ []) u
+-- one more token or fault
+pub items_more : (s r t u : BoundedTokens) (xs : List (Result Cut TokenFault)) (o : Option (Result Cut TokenFault)) (x : Result Cut TokenFault) → r ≡ s
+    → Yields GivesBounded r xs t → o ≡ Some x → GivesBounded t o u → Yields GivesToken (cutting_of s) (xs ++ x ∷ []) (cutting_of u)
 items_more s r t u xs o x same y is g =
-    Yields-more GivesItem s xs t x u (subst (λ (r : Cutting). Yields GivesItem r xs t) same y) (subst (λ (o : Option Item). GivesItem t o u) is g)
+    let before = bounded_steps s t xs (subst (λ (r : BoundedTokens). Yields GivesBounded r xs t) same y) in
+    Yields-more GivesToken (cutting_of s) xs (cutting_of t) x (cutting_of u) before (bounded_step t u (Some x) (subst (λ (o : Option (Result Cut TokenFault)). GivesBounded t o u) is g))
 
--- a fault is the last item
-pub fault_is_last : (s r t u : Cutting) (xs : List Item) (o : Option Item) (x : Item) (fault : TokenFault) → r ≡ s → Yields GivesItem r xs t → o ≡ Some x → x ≡ Err fault
-    → GivesItem t o u → Drains GivesItem s (xs ++ x ∷ [])
+-- a fault is the last
+pub fault_is_last : (s r t u : BoundedTokens) (xs : List (Result Cut TokenFault)) (o : Option (Result Cut TokenFault)) (x : Result Cut TokenFault) (fault : TokenFault) → r ≡ s
+    → Yields GivesBounded r xs t → o ≡ Some x → x ≡ Err fault → GivesBounded t o u → Drains GivesToken (cutting_of s) (xs ++ x ∷ [])
 fault_is_last s r t u xs o x fault same y is failed g =
-    let gives : GivesItem t (Some (Err fault)) u = subst (λ (o : Option Item). GivesItem t o u) (is ∙ ap Some failed) g in
-    let over : u.is_over ≡ true = ap (λ (x : Cutting). x.is_over) gives.4 in
-    (u, (u, items_more s r t u xs o x same y is g, (refl, inl over)))
+    let gives : GivesToken (cutting_of t) (Some (Err fault)) (cutting_of u) =
+    bounded_step t u (Some (Err fault)) (subst (λ (o : Option (Result Cut TokenFault)). GivesBounded t o u) (is ∙ ap Some failed) g) in
+    let over : (cutting_of u).is_over ≡ true = ap (λ (x : Cutting). x.is_over) gives.4 in
+    (cutting_of u, (cutting_of u, items_more s r t u xs o x same y is g, (refl, inl over)))
 
--- there are fewer items than bytes if one more item comes
-pub one_more : (text : List ℕ) (xs : List Item) (x : Item) (n : ℕ) (tokens : List Token) → IsUtf8 text → length (xs ++ x ∷ []) ≤ length (chars text) → xs ≡ map Ok tokens
-    → n ≡ length tokens → n + 1 ≤ length text
-one_more text xs x n tokens u le are count =
-    let same : length xs ≡ length tokens = rw (are, length-map) refl in
-    omega (arith, length-append xs (x ∷ []), length-le-encodes (chars text), ap length (encodes-chars text u))
+-- and where nothing more is given, these are all
+pub these_are_all : (s r t u : BoundedTokens) (xs : List (Result Cut TokenFault)) (o : Option (Result Cut TokenFault)) → r ≡ s
+    → Yields GivesBounded r xs t → o ≡ None → GivesBounded t o u → Drains GivesToken (cutting_of s) xs
+these_are_all s r t u xs o same y is g =
+    let before = bounded_steps s t xs (subst (λ (r : BoundedTokens). Yields GivesBounded r xs t) same y) in
+    (cutting_of u, (cutting_of t, before, bounded_step t u None (subst (λ (o : Option (Result Cut TokenFault)). GivesBounded t o u) is g)))
+
+-- there are fewer of them than bytes if one more comes
+pub one_more : (s : Cutting) (t : Cutting) (d : List Row) (text : List ℕ) (xs : List (Result Cut TokenFault)) (x : Result Cut TokenFault) (n : ℕ) (tokens : List Token) → s ≡ start_of d text
+    → IsUtf8 text → Yields GivesToken s (xs ++ x ∷ []) t → map bare xs ≡ map Ok tokens → n ≡ length tokens → n + 1 ≤ length text
+one_more s t d text xs x n tokens start u y are count =
+    let few : length (xs ++ x ∷ []) ≤ length (chars text) = token_count_from_start s d text start u (xs ++ x ∷ []) t y in
+    let same : length xs ≡ length tokens = sym (length-map xs bare) ∙ ap length are ∙ length-map tokens Ok in
+    omega (arith, few, same, length-append xs (x ∷ []), length-le-encodes (chars text), ap length (encodes-chars text u))
+
+-- a token as the index of a terminal and a slice
+abbrev pub pair_of : Cut → Token
+pair_of token = (token.index, token.slice)
 
 -- one more token
-pub tokens_more : (xs : List Item) (x : Item) (tokens : List Token) (token : Token) → xs ≡ map Ok tokens → x ≡ Ok token → xs ++ x ∷ [] ≡ map Ok (tokens ++ token ∷ [])
-tokens_more xs x tokens token are is = rw (are, is, map-append) refl
+pub tokens_more : (xs : List (Result Cut TokenFault)) (x : Result Cut TokenFault) (tokens : List Token) (token : Cut) → map bare xs ≡ map Ok tokens → x ≡ Ok token
+    → map bare (xs ++ x ∷ []) ≡ map Ok (tokens ++ pair_of token ∷ [])
+tokens_more xs x tokens token are is = rw (map-append, are, is, map-append) refl
 
 pub count_more : (n : ℕ) (tokens : List Token) (token : Token) → n ≡ length tokens → n + 1 ≡ length (tokens ++ token ∷ [])
 count_more n tokens token is = omega (arith, length-append tokens (token ∷ []))
@@ -58,12 +81,25 @@ pub told : (ts : List Tree) (ps text : List ℕ) (tokens : List Token) (a o : Ou
 told ts ps text tokens a o v w same lines before cuts =
     (subst (λ (x : Outcome). Cuts ts ps text tokens x) (sym same) cuts, lines ∙ ap (λ (l : List ℕ). l ++ line_of o) before ∙ ap (λ x. flat_map token_line tokens ++ line_of x) (sym same))
 
+-- tokens without their places
+items_of : (ts : List Tree) (ps text : List ℕ) (at : ℕ) (xs : List (Result Cut TokenFault)) → AreTokens ts ps text at xs → AreItems ts ps text at (map bare xs)
+items_of ts ps text at [] are = are
+items_of ts ps text at (Ok token ∷ xs) are = (are.0.1, items_of ts ps text (at + length token.slice.now) xs are.1)
+items_of ts ps text at (Err fault ∷ xs) are = (are.0, are.1, are.2, ap (map bare) are.3)
+
 -- a fault ends the tokens
-pub fault_ends : (ts : List Tree) (ps text : List ℕ) (tokens : List Token) (xs : List Item) (x : Item) (fault : TokenFault) (n : ℕ) → xs ≡ map Ok tokens → x ≡ Err fault
-    → n ≡ length tokens → AreItems ts ps text 0 (xs ++ x ∷ []) → Cuts ts ps text tokens (Stopped n fault.at)
-fault_ends ts ps text tokens xs x fault n are is count items =
-    let parts : xs ++ x ∷ [] ≡ map Ok tokens ++ Err fault ∷ [] = rw (are, is) refl in
-    (subst (λ (ys : List Item). AreItems ts ps text 0 ys) parts items, count)
+pub fault_ends : (s : Cutting) (d : List Row) (ts : List Tree) (ps text : List ℕ) (tokens : List Token) (xs : List (Result Cut TokenFault)) (x : Result Cut TokenFault) (fault : TokenFault) (n : ℕ)
+    → s ≡ start_of d text → IsBuiltFrom ts ps d → Drains GivesToken s (xs ++ x ∷ []) → map bare xs ≡ map Ok tokens → x ≡ Err fault → n ≡ length tokens
+    → Cuts ts ps text tokens (Stopped n fault.at)
+fault_ends s d ts ps text tokens xs x fault n start built all are is count =
+    let parts : map bare (xs ++ x ∷ []) ≡ map Ok tokens ++ Err fault ∷ [] = rw (map-append, are, is) refl in
+    (subst (λ (ys : List Item). AreItems ts ps text 0 ys) parts (items_of ts ps text 0 (xs ++ x ∷ []) (tokens_from_start s ts ps d text start built (xs ++ x ∷ []) all)), count)
+
+-- and so does the end of the text
+pub end_ends : (s : Cutting) (d : List Row) (ts : List Tree) (ps text : List ℕ) (tokens : List Token) (xs : List (Result Cut TokenFault)) (n : ℕ)
+    → s ≡ start_of d text → IsBuiltFrom ts ps d → Drains GivesToken s xs → map bare xs ≡ map Ok tokens → n ≡ length tokens → Cuts ts ps text tokens (All n)
+end_ends s d ts ps text tokens xs n start built all are count =
+    (subst (λ (ys : List Item). AreItems ts ps text 0 ys) are (items_of ts ps text 0 xs (tokens_from_start s ts ps d text start built xs all)), count)
 
 -- if something is reported, nothing else is written
 pub told_alone : (bytes text : List ℕ) (a o : Outcome) (v w : List ℕ) → a ≡ o → v ≡ w ++ line_of o → w ≡ [] → IsReported bytes o → AreAnswers bytes text a v

@@ -1,7 +1,5 @@
 //! A text cut into tokens: the line of each, and the outcome.
 ghost use Rattle.std.specs.Prelude.{◌≡◌, ◌++◌, ℕ, List, length, map, flat_map, string_bytes, IfOk, OnOk};
-ghost use Rattle.lalrpop_book.specs.Tree.{Tree};
-ghost use Rattle.lalrpop_lexer.specs.Dfa.{Recognizes};
 ghost use Rattle.lexdfa_lib.specs.Answer.{IsReported, HaveAutomaton};
 ghost use Rattle.lalrpop_lexer.specs.Lines.{lines};
 ghost use Rattle.lexdfa_lib.specs.Printed.{line_of};
@@ -11,9 +9,9 @@ ghost use Rattle.lexdfa_lib.specs.declared.outcome.Outcome.{Outcome};
 
 use crate::outcome::{Outcome, outcome_line};
 use crate::report::reported;
-use lalrpop_lexer::lexer::dfa::{Dfa, NfaIndex, Precedence, build_dfa};
+use lalrpop_lexer::lexer::dfa::{NfaIndex, Precedence};
 use lalrpop_lexer::lexer::re::Regex;
-use lalrpop_lexer::{Terminals, read_terminals, tokens};
+use lalrpop_lexer::{Lexer, Terminals, read_terminals};
 use std::alloc::{AllocError, Global};
 
 /// The outcome for a whole text, and all its lines.
@@ -43,17 +41,17 @@ fn with_outcome(alloc: Global, mut lines: String, outcome: Outcome) -> Result<An
 }
 
 // The tokens of the text, and its fault, if any.
-fn cut(alloc: Global, dfa: &Dfa, text: &str) -> Result<Answers, AllocError>
-    ensures { IfOk result (λ answers. (ts : List Tree) (ps : List ℕ) → Recognizes dfa.now ts ps
-        → (tokens : List Token) × (Cuts ts ps text.now tokens answers.outcome
+fn cut(alloc: Global, lexer: &Lexer, text: &str) -> Result<Answers, AllocError>
+    ensures { IfOk result (λ answers. (tokens : List Token)
+        × (Cuts lexer.now.trees lexer.now.precedences text.now tokens answers.outcome
         × (string_bytes answers.lines ≡ flat_map token_line tokens ++ line_of answers.outcome))) }
 {
     let mut lines = String::new(alloc);
     let mut count = 0;
-    for item in tokens(dfa, text) {
+    for item in lexer.tokens_bounded(alloc, text)? {
         match item {
             Ok(token) => {
-                push_token(&mut lines, token.0, token.1)?;
+                push_token(&mut lines, token.index, token.slice)?;
                 count += 1;
             }
             Err(fault) => {
@@ -71,17 +69,17 @@ fn cut(alloc: Global, dfa: &Dfa, text: &str) -> Result<Answers, AllocError>
 // The tokens into which the patterns cut the text.
 fn cut_by(
     alloc: Global,
-    regexs: &[Regex],
-    precedences: &[Precedence],
+    regexs: Vec<Regex>,
+    precedences: Vec<Precedence>,
     text: &str,
 ) -> Result<Answers, AllocError>
-    requires same_len { length regexs.now ≡ length precedences.now }
+    requires same_len { length regexs.items ≡ length precedences.items }
     ensures { IfOk result (λ answers. (bytes : List ℕ)
-        → AreTerminals (lines bytes) regexs.now (map (λ p. p.0) precedences.now)
+        → AreTerminals (lines bytes) regexs.items (map (λ p. p.0) precedences.items)
         → AreAnswers bytes text.now answers.outcome (string_bytes answers.lines)) }
 {
-    match build_dfa(alloc, regexs, precedences) {
-        Ok(dfa) => cut(alloc, &dfa, text),
+    match Lexer::new(alloc, regexs, precedences) {
+        Ok(lexer) => cut(alloc, &lexer, text),
         Err(error) => with_outcome(alloc, String::new(alloc), reported(error)?),
     }
 }
@@ -102,7 +100,7 @@ pub(crate) fn answers_of(alloc: Global, bytes: &[u8], text: &str) -> Result<Answ
         Terminals::All {
             regexs,
             precedences,
-        } => return cut_by(alloc, &regexs, &precedences, text),
+        } => return cut_by(alloc, regexs, precedences, text),
         Terminals::Bad { line } => Outcome::Line { line },
         Terminals::NoTree { line } => Outcome::Syntax { terminal: line },
     };

@@ -1,7 +1,8 @@
 //! The longest matches of a text, one behind another.
 
-ghost use Rattle.std.specs.Prelude.{◌≡◌, ◌≢◌, ℕ, ◌+◌, ◌*◌, ◌≤◌, [], length, List, IfOk, IfNone, IfSome};
+ghost use Rattle.std.specs.Prelude.{◌≡◌, ◌≢◌, ℕ, ◌+◌, ◌*◌, ◌≤◌, ◌++◌, [], drop, length, List, true, IfOk, IfNone, IfSome};
 ghost use Rattle.std.specs.Option.{option_map};
+ghost use Rattle.std.specs.Char.{encode_utf8};
 ghost use Rattle.std.specs.Str.{chars};
 ghost use Rattle.lalrpop_book.specs.Longest.{IsLongest};
 ghost use Rattle.lalrpop_book.specs.Prefix.{IsPrefix};
@@ -51,6 +52,24 @@ pub fn pass_over(matches: &mut LinearMatches) -> usize
 {
     let _found = matches.next_match(&mut Steps::new());
     matches.offset()
+}
+
+// Needs lalrpop_linear::LinearMatches::pass_char: first, passes.
+/// Passes over the first character of the rest, if there is one. The rest is then what stands behind it in the text.
+pub fn pass_first(matches: &mut LinearMatches) -> Option<char>
+    ensures { IfSome result (λ c. rest_of matches.old
+        ≡ encode_utf8 c ++ drop (matches.old.at + length (encode_utf8 c)) matches.old.text) }
+{
+    matches.pass_char()
+}
+
+// Needs lalrpop_linear::LinearMatches::pass_char: end.
+/// Whether nothing is left of the text. If something is left, its first character is passed over.
+pub fn is_at_the_end(matches: &mut LinearMatches) -> bool
+    ensures end { result ≡ true → rest_of matches.old ≡ [] }
+    ensures same { result ≡ true → matches.new ≡ matches.old }
+{
+    matches.pass_char().is_none()
 }
 
 // Needs lalrpop_linear::LinearMatches::new: unseen.

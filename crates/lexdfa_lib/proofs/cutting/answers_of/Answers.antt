@@ -12,12 +12,12 @@ pub cut_by-requires : goal.cut_by-requires
 cut_by-requires c =
     let said = rw c.in-All.is at c.in_ok-regexs.ensures.said in
     let same : length c.in-All.regexs.items ≡ length c.in-All.precedences.items = length-AreTerminals _ _ _ said ∙ length-map _ _ in
-    record { same_len = rw (c.deref.ensures.value, c.deref-in-All.ensures.value) same }
+    record { same_len = same }
 
 pub returns-in-All-clause-answers : goal.returns-in-All-clause-answers
 returns-in-All-clause-answers c =
     let said = rw c.in-All.is at c.in_ok-regexs.ensures.said in
-    IfOk-weaker c.cut_by.result _ _ (λ answers are. are c.args.bytes.now (rw (c.deref.ensures.value, c.deref-in-All.ensures.value) said)) c.cut_by.ensures
+    IfOk-weaker c.cut_by.result _ _ (λ answers are. are c.args.bytes.now said) c.cut_by.ensures
 
 pub returns-in-All-clause-only : goal.returns-in-All-clause-only
 returns-in-All-clause-only c =

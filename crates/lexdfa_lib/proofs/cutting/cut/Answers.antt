@@ -1,24 +1,24 @@
-use Rattle.std.proofs.Common.{◌+◌, ◌≤◌, [], ◌∷◌, ◌++◌, length, arith}
+use Rattle.std.proofs.Common.{◌≡◌, ◌+◌, ◌≤◌, [], ◌∷◌, ◌++◌, length, arith}
 use Rattle.std.proofs.lemmas.Result.{IfOk-weaker}
-use Rattle.lexdfa_lib.proofs.CutLemmas.{items_more, fault_is_last, one_more, tokens_more, count_more, lines_more, told, fault_ends}
+use Rattle.lexdfa_lib.proofs.CutLemmas.{items_more, fault_is_last, these_are_all, one_more, pair_of, tokens_more, count_more, lines_more, told, fault_ends, end_ends}
 use Rattle.lexdfa_lib.proofs.cutting.cut.Goals as goal
 
 pub overflow_add-count : goal.overflow_add-count
 overflow_add-count c =
     let so_far = c.loop-item.invariant in
     let more = items_more _ _ _ _ _ _ _ c.into_iter-item-iterator.ensures.into_iter_gives c.loop-item.yielded_by c.in-Some.is c.next.ensures.steps in
-    let few = c.tokens-item-items.ensures.count _ _ more in
-    let less : c.loop-item.count + 1 ≤ length c.args.text.now = one_more c.args.text.now c.loop-item.yielded c.in-Some.item _ so_far.0 c.utf8.text few so_far.1.0 so_far.1.1 in
+    let less : c.loop-item.count + 1 ≤ length c.args.text.now =
+    one_more _ _ _ c.args.text.now c.loop-item.yielded c.in-Some.item _ so_far.0 c.in_ok-item-items.ensures.start.0 c.utf8.text more so_far.1.0 so_far.1.1 in
     omega arith
 
 pub loop-item-preserved : goal.loop-item-preserved
 loop-item-preserved c =
     let so_far = c.loop-item.invariant in (
-      so_far.0 ++ c.in-Ok.token ∷ [],
+      so_far.0 ++ pair_of c.in-Ok.token ∷ [],
       (
         tokens_more _ _ so_far.0 _ so_far.1.0 c.in-Ok.is,
-        count_more _ so_far.0 c.in-Ok.token so_far.1.1,
-        lines_more _ _ so_far.0 c.in-Ok.token c.in_ok-push_token-in-Ok.ensures so_far.1.2,
+        count_more _ so_far.0 (pair_of c.in-Ok.token) so_far.1.1,
+        lines_more _ _ so_far.0 (pair_of c.in-Ok.token) c.in_ok-push_token-in-Ok.ensures so_far.1.2,
       ),
     )
 
@@ -26,10 +26,24 @@ pub returns-in-Err : goal.returns-in-Err
 returns-in-Err c =
     let so_far = c.loop-item.invariant in
     let all = fault_is_last _ _ _ _ _ _ _ _ c.into_iter-item-iterator.ensures.into_iter_gives c.loop-item.yielded_by c.in-Some.is c.in-Err.is c.next.ensures.steps in
+    let start = c.in_ok-item-items.ensures.start.0 in
     IfOk-weaker c.with_outcome.result _ _
-    (λ answers same ts ps recognizes. (
+    (λ answers same. (
       so_far.0,
-      told ts ps c.args.text.now so_far.0 answers.outcome _ _ _ same.0 same.1 so_far.1.2
-          (fault_ends ts ps c.args.text.now so_far.0 _ _ _ _ so_far.1.0 c.in-Err.is so_far.1.1 (c.tokens-item-items.ensures.items _ all ts ps recognizes)),
+      told _ _ c.args.text.now so_far.0 answers.outcome _ _ _ same.0 same.1 so_far.1.2
+          (fault_ends _ _ _ _ c.args.text.now so_far.0 _ _ _ _ start (rw start at c.in_ok-item-items.ensures.built) all so_far.1.0 c.in-Err.is so_far.1.1),
     ))
     c.with_outcome.ensures
+
+pub returns : goal.returns
+returns c =
+    let so_far = c.loop-item.invariant in
+    let all = these_are_all _ _ _ _ _ _ c.into_iter-item-iterator.ensures.into_iter_gives c.loop-item.yielded_by c.in-None.is c.next.ensures.steps in
+    let start = c.in_ok-item-items.ensures.start.0 in
+    IfOk-weaker c.with_outcome-2.result _ _
+    (λ answers same. (
+      so_far.0,
+      told _ _ c.args.text.now so_far.0 answers.outcome _ _ _ same.0 same.1 so_far.1.2
+          (end_ends _ _ _ _ c.args.text.now so_far.0 _ _ start (rw start at c.in_ok-item-items.ensures.built) all so_far.1.0 so_far.1.1),
+    ))
+    c.with_outcome-2.ensures
