@@ -1,3 +1,6 @@
 mod Cases
--- the text of markup
+pub mod Characters
+pub mod Names
+-- the text of markup, and of a page for a terminal
 pub mod Readings
+pub mod TerminalReadings

@@ -1,36 +1,17 @@
 -- The text of markup is the text that it was made of.
-use Rattle.std.proofs.Common.{◌≡◌, ◌≢◌, ℕ, ◌+◌, ◌⊎◌, ⊎_elim, inl, inr, ◌<◌, Bool, true, false, List, [], ◌∷◌, ◌++◌, suc, length, get_or, refl, sym, ap, subst, ◌∙◌, arith, append_assoc, flat_map, codes}
-use Rattle.std.specs.Prelude.{Option, None, unwrap_or, slice_get, nat_eq}
+use Rattle.std.proofs.Common.{◌≡◌, ◌≢◌, ℕ, ◌+◌, ◌⊎◌, inl, inr, ◌<◌, Bool, true, false, List, [], ◌∷◌, ◌++◌, length, refl, sym, ap, subst, ◌∙◌, arith, append_assoc, flat_map, codes}
+use Rattle.std.specs.Prelude.{unwrap_or, slice_get, nat_eq}
 use Rattle.std.specs.Str.{chars, IsUtf8, encode_utf8_all}
 use Rattle.std.specs.Char.{encode_utf8}
-use Rattle.std.specs.Iterator.{Yields, Drains}
-use Rattle.std.proofs.lemmas.Str.{encodes-chars, encode_ascii, inside_one}
+use Rattle.std.proofs.lemmas.Str.{encodes-chars, encode_ascii}
 use Rattle.std.proofs.lemmas.Bool.Decides.{eqb_tells}
-use Rattle.std.proofs.lemmas.List.{append-nil}
 use Rattle.lalrpop_book.specs.Tree.{Tree}
 use Rattle.lalrpop_rules.specs.Pieces.{ArePieces, slice_of, joined}
 use Rattle.lalrpop_rules.specs.declared.item.Item.{Item}
 use Rattle.lalrpop_rules.specs.declared.item.Item.TheVariants.{Token, Skipped, Fault}
 use Rattle.lalrpop_rules.proofs.PieceLaws.{is_front}
+use Rattle.lalrpop_markup.proofs.Characters.{Lacks, differs, lacks_char}
 use Rattle.lalrpop_markup.specs.Markup.{told, escaped, span, marked, outside, inside, entity_from}
-
--- none of the bytes is this one
-Lacks : ℕ → List ℕ → Type 0
-Lacks x [] = Unit {0}
-Lacks x (b ∷ bs) = (b ≢ x) × Lacks x bs
-
-differs : (b x : ℕ) → b ≢ x → nat_eq b x ≡ false
-differs b x other = ⊎_elim (λ (same : (nat_eq b x ≡ true) × (b ≡ x)). absurd (other same.1)) (λ (no_more : (nat_eq b x ≡ false) × (b ≢ x)). no_more.0) (eqb_tells b x)
-
--- a character below 128 that is another has none of it among its bytes
-lacks_all : (x : ℕ) (bs : List ℕ) → ((k : ℕ) → k < length bs → get_or bs k 0 ≢ x) → Lacks x bs
-unfolding Lacks
-lacks_all x [] h = tt
-lacks_all x (b ∷ bs) h = (h 0 (omega arith), lacks_all x bs (λ k l. h (suc k) (omega arith)))
-
-lacks_char : (x c : ℕ) → x < 128 → c ≢ x → Lacks x (encode_utf8 c)
-lacks_char x c small other =
-    lacks_all x (encode_utf8 c) (λ k within is. other (inside_one c [] (encode_utf8 c) k (sym (append-nil (encode_utf8 c))) within (omega arith) ∙ is))
 
 byte_out : (b : ℕ) (r : List ℕ) → nat_eq b 60 ≡ false → nat_eq b 38 ≡ false → outside (b ∷ r) ≡ b ∷ outside r
 byte_out b r no_tag no_entity =
@@ -42,14 +23,12 @@ byte_in b r no_end = subst (λ (t : Bool). elim t as (λ _. List ℕ) [ true ↦
 
 -- bytes without `<` and `&` are themselves outside a tag
 outside_plain : (bs rest : List ℕ) → Lacks 60 bs → Lacks 38 bs → outside (bs ++ rest) ≡ bs ++ outside rest
-unfolding Lacks
 outside_plain [] rest no_tag no_entity = refl
 outside_plain (b ∷ bs) rest no_tag no_entity =
     byte_out b (bs ++ rest) (differs b 60 no_tag.0) (differs b 38 no_entity.0) ∙ ap (λ (r : List ℕ). b ∷ r) (outside_plain bs rest no_tag.1 no_entity.1)
 
 -- and bytes without `>` are nothing inside one
 inside_plain : (bs rest : List ℕ) → Lacks 62 bs → inside (bs ++ rest) ≡ inside rest
-unfolding Lacks
 inside_plain [] rest no_end = refl
 inside_plain (b ∷ bs) rest no_end = byte_in b (bs ++ rest) (differs b 62 no_end.0) ∙ inside_plain bs rest no_end.1
 
@@ -121,8 +100,3 @@ pieces_out names ts ps skips text at [] are = refl
 pieces_out names ts ps skips text at (x ∷ xs) are =
     marked_out names x (flat_map (marked names) xs) (is_front ts ps skips text at x are.0).1.1
     ∙ ap (λ (r : List ℕ). slice_of x ++ r) (pieces_out names ts ps skips text (at + length (slice_of x)) xs are.1)
-
--- no item behind those that there are
-pub no_more : {S A : Type 0} (gives : S → Option A → S → Type 0) (s r t u : S) (xs : List A) (o : Option A) → r ≡ s → Yields gives r xs t → o ≡ None
-    → gives t o u → Drains gives s xs
-no_more {S} {A} gives s r t u xs o same y is g = (u, (t, subst (λ (r : S). Yields gives r xs t) same y, subst (λ (o : Option A). gives t o u) is g))

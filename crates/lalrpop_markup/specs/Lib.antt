@@ -1,1 +1,2 @@
 pub mod Markup
+pub mod Terminal

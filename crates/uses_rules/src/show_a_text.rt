@@ -1,9 +1,10 @@
-//! A text as markup.
+//! A text as markup, and in a terminal's colours.
 ghost use Rattle.std.specs.Prelude.{◌≡◌, List, flat_map, string_bytes, IfOk};
 ghost use Rattle.lalrpop_rules.specs.declared.item.Item.{Item as ItemValue};
 ghost use Rattle.lalrpop_markup.specs.Markup.{marked, outside};
+ghost use Rattle.lalrpop_markup.specs.Terminal.{painted, unpainted};
 
-use lalrpop_markup::html;
+use lalrpop_markup::{ansi, html};
 use lalrpop_rules::RuleLexer;
 use std::alloc::{AllocError, Global};
 
@@ -19,4 +20,18 @@ pub fn page_of(alloc: Global, lexer: &RuleLexer, text: &str) -> Result<String, A
         × (string_bytes page ≡ flat_map (marked lexer.now.names) xs)) }
 {
     html(alloc, lexer, text)
+}
+
+// Needs lalrpop_markup::ansi: text, pieces.
+/// A text in colours, from which the text can be read back.
+///
+/// # Errors
+///
+/// `AllocError` if a request for memory was refused.
+pub fn in_colours(alloc: Global, lexer: &RuleLexer, text: &str) -> Result<String, AllocError>
+    ensures read { IfOk result (λ page. unpainted (string_bytes page) ≡ text.now) }
+    ensures painted { IfOk result (λ page. (xs : List ItemValue)
+        × (string_bytes page ≡ flat_map (painted lexer.now.names) xs)) }
+{
+    ansi(alloc, lexer, text)
 }

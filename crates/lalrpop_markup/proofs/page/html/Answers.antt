@@ -1,7 +1,8 @@
 use Rattle.std.proofs.Common.{ap, ◌∙◌}
 use Rattle.lalrpop_rules.specs.CutToEnd.{GivesPiece}
 use Rattle.lalrpop_markup.specs.Markup.{outside}
-use Rattle.lalrpop_markup.proofs.Readings.{pieces_out, no_more}
+use Rattle.lalrpop_markup.proofs.Characters.{no_more}
+use Rattle.lalrpop_markup.proofs.Readings.{pieces_out}
 use Rattle.lalrpop_markup.proofs.page.html.Goals as goal
 
 pub returns-clause-text : goal.returns-clause-text

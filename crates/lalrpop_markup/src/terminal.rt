@@ -1,0 +1,180 @@
+//! A text in colours for a terminal.
+ghost use Rattle.std.specs.Prelude.{◌≡◌, ◌++◌, ◌∷◌, ◌%◌, ◌+◌, ◌<◌, [], List, Some, flat_map, chars, length, slice_get, slice_index_or, string_bytes, IfOk, OnOk, true};
+ghost use Rattle.std.specs.List.{position_or_len};
+ghost use Rattle.std.specs.Str.{bytes_eq};
+ghost use Rattle.lalrpop_rules.specs.Pieces.{ArePieces};
+ghost use Rattle.lalrpop_rules.specs.declared.item.Item.{Item as ItemValue};
+ghost use Rattle.lalrpop_markup.specs.Terminal.{sequence, is_hidden as is_hidden_of, sign, letter, visible, visible_in, coloured, colour_of, painted, unpainted};
+
+use lalrpop_lexer::lexer::dfa::NfaIndex;
+use lalrpop_rules::{Item, RuleLexer};
+use std::alloc::{AllocError, Global};
+
+// The parameters of a sequence that ends colours, and of one that begins the colour of faults.
+const RESET: &str = "0";
+
+const FAULT: &str = "41";
+
+// Whether a terminal must not get this character.
+fn is_hidden(c: char) -> bool
+    ensures { result ≡ is_hidden_of c }
+{
+    c.is_control() && c != '\n' && c != '\t'
+}
+
+// The two letters that stand for a control character.
+fn letters(c: char) -> (char, char)
+    requires { is_hidden_of c ≡ true }
+    ensures values { (result.0 ≡ sign c) × (result.1 ≡ letter c) }
+    ensures ascii { (result.0 < 128) × (result.1 < 128) }
+{
+    let code = c as u8;
+    if code < 128 {
+        ('^', ((code + 64) % 128) as char)
+    } else {
+        ('~', (code - 64) as char)
+    }
+}
+
+fn push_sequence(page: &mut String, parameters: &str) -> Result<(), AllocError>
+    ensures { OnOk result (string_bytes page.new ≡ string_bytes page.old ++ sequence parameters.now) }
+{
+    page.push_str("\x1b[")?;
+    page.push_str(parameters)?;
+    page.push('m')
+}
+
+fn push_visible(page: &mut String, c: char) -> Result<(), AllocError>
+    ensures { OnOk result (string_bytes page.new ≡ string_bytes page.old ++ visible c) }
+{
+    if is_hidden(c) {
+        let (first, second) = letters(c);
+        push_sequence(page, "7")?;
+        page.push(first)?;
+        page.push(second)?;
+        push_sequence(page, "27")
+    } else {
+        page.push(c)
+    }
+}
+
+fn push_plain(page: &mut String, text: &str) -> Result<(), AllocError>
+    ensures { OnOk result (string_bytes page.new
+        ≡ string_bytes page.old ++ flat_map visible (chars text.now)) }
+{
+    for c in text.chars() {
+        push_visible(page, c)?;
+    }
+    Ok(())
+}
+
+// One character in colour. No colour goes over the end of a line, since a pager that begins at the next would not show it.
+fn push_visible_in(page: &mut String, colour: &str, c: char) -> Result<(), AllocError>
+    ensures { OnOk result (string_bytes page.new
+        ≡ string_bytes page.old ++ visible_in colour.now c) }
+{
+    if c != '\n' {
+        return push_visible(page, c);
+    }
+    push_sequence(page, RESET)?;
+    page.push('\n')?;
+    push_sequence(page, colour)
+}
+
+fn push_characters(page: &mut String, colour: &str, text: &str) -> Result<(), AllocError>
+    ensures { OnOk result (string_bytes page.new
+        ≡ string_bytes page.old ++ flat_map (visible_in colour.now) (chars text.now)) }
+{
+    for c in text.chars() {
+        push_visible_in(page, colour, c)?;
+    }
+    Ok(())
+}
+
+fn push_coloured(page: &mut String, colour: &str, text: &str) -> Result<(), AllocError>
+    ensures { OnOk result (string_bytes page.new
+        ≡ string_bytes page.old ++ coloured colour.now text.now) }
+{
+    push_sequence(page, colour)?;
+    push_characters(page, colour, text)?;
+    push_sequence(page, RESET)
+}
+
+// Whether the rule with this number has this name.
+fn has_name(lexer: &RuleLexer, number: usize, name: &str) -> bool
+    requires { number < length lexer.now.names }
+    ensures { result ≡ bytes_eq name.now (slice_index_or lexer.now.names number []) }
+{
+    match lexer.name(NfaIndex::new(number)) {
+        Some(other) => name == other,
+        None => false,
+    }
+}
+
+// The number of the first rule with the name of this one.
+fn first_of_name(lexer: &RuleLexer, index: NfaIndex, name: &str) -> usize
+    requires { slice_get lexer.now.names index ≡ Some name.now }
+    ensures { result ≡ position_or_len (bytes_eq name.now) lexer.now.names }
+{
+    for number in 0..index.index() {
+        if has_name(lexer, number, name) {
+            return number;
+        }
+    }
+    index.index()
+}
+
+// Red, green, yellow, blue, magenta and cyan, in turn.
+fn colour_at(number: usize) -> &'static str
+    ensures { result.now ≡ 51 ∷ (49 + number % 6) ∷ [] }
+{
+    match number % 6 {
+        0 => "31",
+        1 => "32",
+        2 => "33",
+        3 => "34",
+        4 => "35",
+        _ => "36",
+    }
+}
+
+fn push_painted(page: &mut String, lexer: &RuleLexer, item: &Item) -> Result<(), AllocError>
+    ensures { OnOk result (string_bytes page.new
+        ≡ string_bytes page.old ++ painted lexer.now.names item.now) }
+{
+    match item {
+        Item::Token(token) => match lexer.name(token.index) {
+            Some(name) => {
+                let number = first_of_name(lexer, token.index, name);
+                push_coloured(page, colour_at(number), token.slice)
+            }
+            None => push_plain(page, token.slice),
+        },
+        Item::Skipped(token) => push_plain(page, token.slice),
+        Item::Fault { start: _, slice } => push_coloured(page, FAULT, slice),
+    }
+}
+
+/// The text in colours for a terminal, by escape sequences. The tokens of a rule have one of six colours, by the number of
+/// the first rule with its name: red, green, yellow, blue, magenta, cyan, and red again. Faults stand on red, and skipped text
+/// has no colour. Each line ends its colours, so a pager can begin anywhere.
+///
+/// The text can't control the terminal: each control character but the newline and the tab is shown by two letters in reverse,
+/// as `^[` for ESC, `^M` for a carriage return and `~[` for the character 155. Take out the sequences and put the control
+/// characters back, and you have the text again.
+///
+/// # Errors
+///
+/// `AllocError` if a request for memory was refused.
+pub fn ansi(alloc: Global, lexer: &RuleLexer, text: &str) -> Result<String, AllocError>
+    ensures pieces { IfOk result (λ page. (xs : List ItemValue)
+        × (ArePieces lexer.now.trees lexer.now.precedences lexer.now.skips text.now 0 xs
+        × (string_bytes page ≡ flat_map (painted lexer.now.names) xs))) }
+    ensures text { IfOk result (λ page. unpainted (string_bytes page) ≡ text.now) }
+{
+    let mut page = String::new(alloc);
+    for item in lexer.items(text) {
+        push_painted(&mut page, lexer, &item)?;
+    }
+    Ok(page)
+}
