@@ -24,7 +24,7 @@ PARTS = [
     ("The automata", "What the calls say that hand out an automaton. Who only builds a lexer and runs it needs none of them.",
      ["lalrpop_hir/Size", "lalrpop_ranges/Meet", "lalrpop_ranges/Partition", "lalrpop_nfa/Graph", "lalrpop_nfa/Path", "lalrpop_nfa/Walk",
       "lalrpop_nfa/Compiled", "lalrpop_items/Automata", "lalrpop_table/Dfa", "lalrpop_table/Counts", "lalrpop_dfa/Items",
-      "lalrpop_table/SameAutomata", "lalrpop_table/Lookahead"]),
+      "lalrpop_table/SameAutomata", "lalrpop_table/Lookahead", "lalrpop_witness/Witness"]),
     ("Rules with names", "What `from_patterns`, `lalrpop_rules`, `lalrpop_rule_file` and `lalrpop_markup` say: texts and their trees, the first match anywhere, a text cut to its end, named rules, a file of them, a page of a text.",
      ["lalrpop_lexer/Spelled", "lalrpop_rules/Found", "lalrpop_rules/Pieces", "lalrpop_rules/RuleSet",
       "lalrpop_rule_file/RuleLine", "lalrpop_rule_file/RuleFile", "lalrpop_markup/Markup", "lalrpop_markup/Terminal"]),

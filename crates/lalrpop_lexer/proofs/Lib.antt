@@ -23,3 +23,4 @@ pub use Rattle.lalrpop_ranges.proofs.PartitionLaws
 pub use Rattle.lalrpop_book.proofs.Strongest
 pub use Rattle.lalrpop_dfa.proofs.Agreeing
 pub use Rattle.lalrpop_dfa.proofs.AfterLaws
+pub use Rattle.lalrpop_witness.proofs.WitnessLaws

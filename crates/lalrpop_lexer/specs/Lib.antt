@@ -59,6 +59,7 @@ pub use Rattle.lalrpop_items.specs.Automata
 pub use Rattle.lalrpop_table.specs.Dfa
 pub use Rattle.lalrpop_table.specs.Counts as StateCounts
 pub use Rattle.lalrpop_table.specs.Lookahead
+pub use Rattle.lalrpop_witness.specs.Witness
 pub use Rattle.lalrpop_table.specs.SameAutomata
 pub use Rattle.lalrpop_dense.specs.Leading
 pub use Rattle.lalrpop_linear.specs.Matching

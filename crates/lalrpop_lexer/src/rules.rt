@@ -7,6 +7,7 @@ ghost use Rattle.lalrpop_book.specs.Clash.{NoClash};
 ghost use Rattle.lalrpop_book.specs.Report.{NoFault, IsReport};
 ghost use Rattle.lalrpop_book.specs.Longest.{IsLongest};
 ghost use Rattle.lalrpop_table.specs.Lookahead.{IsLookahead, IsSettledAfter, LooksAtMost, StaysOpenEver};
+ghost use Rattle.lalrpop_witness.specs.Witness.{IsWitness, LeavesOpen};
 ghost use Rattle.lalrpop_lexer.specs.Counting.{Counting, GivesCounted, counting_of};
 ghost use Rattle.lalrpop_linear.specs.Matching.{open_states};
 ghost use Rattle.lalrpop_lexer.specs.LinearCutting.{LinearCutting, GivesLinear};
@@ -32,6 +33,7 @@ use lalrpop_dfa::lookahead::{lookahead, open_patterns};
 use lalrpop_dfa::{DfaConstructionError, Precedence, build_dfa};
 use lalrpop_linear::LinearMatches;
 use lalrpop_re::Regex;
+use lalrpop_witness::{Witness, lookahead_witness};
 use std::alloc::{AllocError, Global};
 use std::marker::Model;
 
@@ -305,5 +307,27 @@ impl Lexer {
             → (slice_get found.items i ≡ Some true) ↔ StaysOpenEver self.now.automaton i) }
     {
         open_patterns(alloc, self.dense.dfa(), self.regexs().len())
+    }
+
+    /// The shortest, then least, word that a pattern matches and that some `count` characters behind it leave open: they don't
+    /// settle whether a longer match comes. With it come the least such characters, all by their code values. `None` if there
+    /// is no such word.
+    ///
+    /// If `count` is what `lookahead` returned, it shows what makes the lexer look that far ahead.
+    ///
+    /// # Errors
+    ///
+    /// `AllocError` if a request for memory was refused.
+    pub fn lookahead_witness(
+        &self,
+        alloc: Global,
+        count: usize,
+    ) -> Result<Option<Witness>, AllocError>
+        ensures least { IfOk result (λ found. IfSome found (λ witness.
+            IsWitness self.now.automaton count witness.word witness.after)) }
+        ensures none { IfOk result (λ found. IfNone found
+            ((v x : List ℕ) → ¬ LeavesOpen self.now.automaton count v x)) }
+    {
+        lookahead_witness(alloc, self.dense.dfa(), count)
     }
 }

@@ -1,11 +1,13 @@
 //! How far a lexer looks ahead, and what a whole text costs.
 
-ghost use Rattle.std.specs.Prelude.{◌≡◌, ℕ, ◌+◌, ◌*◌, ◌<◌, ◌≤◌, ◌⊎◌, ◌↔◌, [], length, slice_get, Some, true, IfOk, IfSome};
+ghost use Rattle.std.specs.Prelude.{◌≡◌, ℕ, ◌+◌, ◌*◌, ◌<◌, ◌≤◌, ◌⊎◌, ◌↔◌, [], List, length, slice_get, Some, true, IfOk, IfSome, IfNone};
 ghost use Rattle.std.specs.Str.{chars};
 ghost use Rattle.lalrpop_lexer.specs.Counting.{counting_of};
 ghost use Rattle.lalrpop_lexer.specs.Cutting.{rest_of, start_of};
 ghost use Rattle.lalrpop_lexer.specs.Lookahead.{IsLookahead, IsSettledAfter, LooksAtMost, StaysOpenEver};
+ghost use Rattle.lalrpop_lexer.specs.Witness.{IsWitness, LeavesOpen};
 
+use lalrpop_lexer::lexer::dfa::Witness;
 use lalrpop_lexer::{CountedTokens, Lexer, LexerTokens};
 use std::alloc::{AllocError, Global};
 
@@ -34,6 +36,21 @@ pub fn open_for_ever(alloc: Global, lexer: &Lexer) -> Result<Vec<bool>, AllocErr
         → (slice_get found.items i ≡ Some true) ↔ StaysOpenEver lexer.now.automaton i) }
 {
     lexer.open_patterns(alloc)
+}
+
+// Needs lalrpop_lexer::Lexer::lookahead_witness: least, none.
+/// The least match that so many characters behind it leave open, and the least such characters.
+///
+/// # Errors
+///
+/// `AllocError` if a request for memory was refused.
+pub fn left_open(alloc: Global, lexer: &Lexer, count: usize) -> Result<Option<Witness>, AllocError>
+    ensures least { IfOk result (λ found. IfSome found (λ witness.
+        IsWitness lexer.now.automaton count witness.word witness.after)) }
+    ensures none { IfOk result (λ found. IfNone found
+        ((v x : List ℕ) → ¬ LeavesOpen lexer.now.automaton count v x)) }
+{
+    lexer.lookahead_witness(alloc, count)
 }
 
 // Needs lalrpop_lexer::Lexer::tokens: start, automaton.

@@ -5,3 +5,4 @@ pub use lalrpop_dfa::{
     Clash, Dfa, DfaConstructionError, DfaStateIndex, Kind, NfaIndex, Precedence, START, State,
     build_dfa, clashes, interpret, lookahead, overlap,
 };
+pub use lalrpop_witness::{Witness, lookahead_witness};
