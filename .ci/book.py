@@ -27,7 +27,7 @@ PARTS = [
       "lalrpop_table/SameAutomata", "lalrpop_table/Lookahead", "lalrpop_witness/Witness"]),
     ("Rules with names", "What `from_patterns`, `lalrpop_rules`, `lalrpop_rule_file` and `lalrpop_markup` say: texts and their trees, the first match anywhere, a text cut to its end, named rules, a file of them, a page of a text.",
      ["lalrpop_lexer/Spelled", "lalrpop_rules/Found", "lalrpop_rules/Pieces", "lalrpop_rules/RuleSet",
-      "lalrpop_rule_file/RuleLine", "lalrpop_rule_file/RuleFile", "lalrpop_markup/Markup", "lalrpop_markup/Terminal"]),
+      "lalrpop_rule_file/RuleLine", "lalrpop_rule_file/RuleFault", "lalrpop_rule_file/RuleFile", "lalrpop_markup/Markup", "lalrpop_markup/Terminal"]),
 ]
 # The enums and numbers that the first part names, as the code declares them.
 VALUES = ["nfa_index", "precedence", "look", "error", "token"]

@@ -5,11 +5,16 @@ made with it:
     cd examples/c && ../tokens.py $(cat args) > stdout
 
 Usage: tokens.py [--places] RULES FILE ...
+       tokens.py --named RULES FILE ...
 
 Each line of RULES is a terminal, `P l TEXT` for a literal or `P r PATTERN` for a pattern, with the precedence P. At
 each place the longest match wins; among terminals with a match of that length, the one with the greatest precedence.
 Each token is a line `TERMINAL BYTES "SLICE"`, which --places begins with `FILE:LINE:COLUMN: `. The last line of a text
-is `end`, or `none N` if no terminal matches at byte N. The exit status is 0, or 1 if there was a `none`."""
+is `end`, or `none N` if no terminal matches at byte N. The exit status is 0, or 1 if there was a `none`.
+
+With --named the lines of RULES are named rules, `NAME [skip] = [P] 'TEXT'` or `NAME [skip] = [P] /PATTERN/`, blank or comments, `#`.
+A token is a line `LINE:COLUMN NAME "SLICE"`, begun by `FILE:` if there are several files, and skipped ones are left out. Where no
+rule matches, the file is cut no further, and the exit status is 1."""
 import functools
 import re
 import sys
@@ -61,6 +66,18 @@ def terminals(rules):
         yield int(precedence), {"l": re.escape, "r": translated}[kind](text)
 
 
+RULE = re.compile(r"[ \t]*([A-Za-z_]\w*)([ \t]+skip)?[ \t]*=[ \t]*([0-9]+)?[ \t]*(['/])(.*)\4[ \t]*", re.ASCII)
+
+
+def named_rules(rules):
+    """The name, whether it is skipped, the precedence and the pattern of each rule."""
+    for line in rules.split("\n"):
+        if not re.fullmatch(r"[ \t]*(#.*)?", line):
+            name, skip, precedence, mark, text = RULE.fullmatch(line).groups()
+            pattern, usual = (re.escape(text), 1) if mark == "'" else (translated(text), 0)
+            yield name, bool(skip), int(precedence or usual), pattern
+
+
 @functools.cache
 def at_least(pattern, length):
     """The pattern, if it matches at least `length` characters: the look-behind needs so many before the match's end."""
@@ -100,7 +117,28 @@ def quoted(token):
     return '"' + "".join(map(shown, token)) + '"'
 
 
+def place_behind(before):
+    return f"{before.count(chr(10)) + 1}:{len(before) - (before.rfind(chr(10)) + 1) + 1}"
+
+
+def named(rules_file, *files):
+    rules = list(named_rules(Path(rules_file).read_bytes().decode()))
+    patterns = [(precedence, pattern) for _, _, precedence, pattern in rules]
+    status = 0
+    for file in files:
+        text, before = Path(file).read_bytes().decode(), ""
+        for number, token in cut(patterns, text):
+            name, is_skipped, _, _ = rules[number]
+            if not is_skipped:
+                print(f"{file + ':' if len(files) > 1 else ''}{place_behind(before)} {name} {quoted(token)}")
+            before += token
+        status |= before != text
+    return status
+
+
 def main(words):
+    if words[:1] == ["--named"]:
+        return named(*words[1:])
     places = words[:1] == ["--places"]
     rules_file, *files = words[places:]
     rules = list(terminals(Path(rules_file).read_bytes().decode()))
@@ -109,8 +147,7 @@ def main(words):
         text = Path(file).read_bytes().decode()
         before = ""
         for terminal, token in cut(rules, text):
-            line, column = before.count("\n") + 1, len(before) - (before.rfind("\n") + 1) + 1
-            place = f"{file}:{line}:{column}: " if places else ""
+            place = f"{file}:{place_behind(before)}: " if places else ""
             print(f"{place}{terminal} {len(token.encode())} {quoted(token)}")
             before += token
         if before == text:

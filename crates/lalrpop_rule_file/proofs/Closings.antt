@@ -8,46 +8,42 @@ use Rattle.std.proofs.lemmas.List.{take-append-drop}
 use Rattle.std.proofs.lemmas.Str.Pattern.{NoCharPasses-char, drop_at_char}
 use Rattle.lalrpop_lexer.specs.declared.form.Form.{Form}
 use Rattle.lalrpop_lexer.specs.declared.form.Form.TheVariants.{Literal, Pattern}
-use Rattle.lalrpop_rule_file.specs.RuleLine.{AreBlanks, is_blank, delimiter}
-use Rattle.lalrpop_rule_file.specs.Internal.Spans.{IsSpan}
+use Rattle.lalrpop_rule_file.specs.RuleLine.{AreBlanks, is_blank, delimiter, IsSpan}
 use Rattle.lalrpop_rule_file.specs.Internal.Parts.{IsClosed, IsQuoted}
 use Rattle.lalrpop_rule_file.proofs.Spans.{passes_all, nothing_left}
 
-Lacks : ℕ → List ℕ → Type 0
-Lacks c bs = (i : ℕ) → i < length bs → get_or bs i 0 ≢ c
+-- the byte stands nowhere
+abbrev pub AtNoPlace : ℕ → List ℕ → Type 0
+AtNoPlace c bs = (i : ℕ) → i < length bs → get_or bs i 0 ≢ c
 
-lacks_next : (c b : ℕ) (bs : List ℕ) → Lacks c (b ∷ bs) → Lacks c bs
-unfolding Lacks
+lacks_next : (c b : ℕ) (bs : List ℕ) → AtNoPlace c (b ∷ bs) → AtNoPlace c bs
 lacks_next c b bs h = λ i below. h (suc i) (omega arith)
 
-lacks_none : (c : ℕ) (xs us : List ℕ) → Lacks c (xs ++ (c ∷ us)) → ⊥
-unfolding Lacks
+pub lacks_none : (c : ℕ) (xs us : List ℕ) → AtNoPlace c (xs ++ (c ∷ us)) → ⊥
 lacks_none c [] us h = h 0 (omega arith) refl
 lacks_none c (x ∷ xs) us h = lacks_none c xs us (lacks_next c x (xs ++ (c ∷ us)) h)
 
 -- the last delimiter is one
-last_unique : (c : ℕ) (xs us ys vs : List ℕ) → Lacks c us → Lacks c vs → xs ++ (c ∷ us) ≡ ys ++ (c ∷ vs) → (xs ≡ ys) × (us ≡ vs)
+pub last_unique : (c : ℕ) (xs us ys vs : List ℕ) → AtNoPlace c us → AtNoPlace c vs → xs ++ (c ∷ us) ≡ ys ++ (c ∷ vs) → (xs ≡ ys) × (us ≡ vs)
 last_unique c [] us [] vs a b e = (refl, cc)
 last_unique c [] us (y ∷ ys) vs a b e =
-    let same : us ≡ ys ++ (c ∷ vs) = cc in absurd (lacks_none c ys vs (subst (Lacks c) same a))
+    let same : us ≡ ys ++ (c ∷ vs) = cc in absurd (lacks_none c ys vs (subst (AtNoPlace c) same a))
 last_unique c (x ∷ xs) us [] vs a b e =
-    let same : xs ++ (c ∷ us) ≡ vs = cc in absurd (lacks_none c xs us (subst (Lacks c) (sym same) b))
+    let same : xs ++ (c ∷ us) ≡ vs = cc in absurd (lacks_none c xs us (subst (AtNoPlace c) (sym same) b))
 last_unique c (x ∷ xs) us (y ∷ ys) vs a b e =
     let same : xs ++ (c ∷ us) ≡ ys ++ (c ∷ vs) = cc in
     let rest = last_unique c xs us ys vs a b same in (cc, rest.1)
 
-blanks_lack : (c : ℕ) (bs : List ℕ) → is_blank c ≡ false → AreBlanks bs → Lacks c bs
-unfolding Lacks
+blanks_lack : (c : ℕ) (bs : List ℕ) → is_blank c ≡ false → AreBlanks bs → AtNoPlace c bs
 blanks_lack c [] fails h = λ i below. absurd (omega arith)
 blanks_lack c (b ∷ bs) fails h = by_place (blanks_lack c bs fails h.1)
   where
-    by_place : Lacks c bs → (i : ℕ) → i < length (b ∷ bs) → get_or (b ∷ bs) i 0 ≢ c
+    by_place : AtNoPlace c bs → (i : ℕ) → i < length (b ∷ bs) → get_or (b ∷ bs) i 0 ≢ c
     by_place rest zero below e = false≢true (sym fails ∙ sym (ap is_blank e) ∙ h.0)
     by_place rest (suc i) below e = rest i (omega arith) e
 
 -- a text that is cut at its last delimiter
-split_last : (c : ℕ) (inner text trail : List ℕ) → c < 128 → SplitsAroundMatch (RFindsChar c) inner text trail → (inner ≡ text ++ (c ∷ trail)) × Lacks c trail
-unfolding Lacks
+pub split_last : (c : ℕ) (inner text trail : List ℕ) → c < 128 → SplitsAroundMatch (RFindsChar c) inner text trail → (inner ≡ text ++ (c ∷ trail)) × AtNoPlace c trail
 split_last c inner text trail ascii (i, j, found, front, back, ordered, front_len, back_len) =
     let here : drop i inner ≡ c ∷ drop j inner = drop_at_char c inner i j found.1 ascii in
     let whole : inner ≡ take i inner ++ (c ∷ drop j inner) = sym (take-append-drop i inner) ∙ ap (λ (x : List ℕ). take i inner ++ x) here in (
@@ -55,13 +51,12 @@ split_last c inner text trail ascii (i, j, found, front, back, ordered, front_le
       subst (λ (x : List ℕ). (k : ℕ) → k < length x → get_or x k 0 ≢ c) (sym back) (λ k below. NoCharPasses-char c (drop j inner) k found.0 ascii below),
     )
 
-no_char : (c : ℕ) (inner : List ℕ) → c < 128 → NoCharPasses (λ d. d == c) inner → Lacks c inner
-unfolding Lacks
+pub no_char : (c : ℕ) (inner : List ℕ) → c < 128 → NoCharPasses (λ d. d == c) inner → AtNoPlace c inner
 no_char c inner ascii none = λ i below. NoCharPasses-char c inner i none ascii below
 
 -- a text without the delimiter isn't closed
 pub not_closed : (c : ℕ) (inner : List ℕ) → c < 128 → NoCharPasses (λ d. d == c) inner → (text : List ℕ) → ¬ IsClosed inner c text
-not_closed c inner ascii none text (trail, (parts, blanks)) = lacks_none c text trail (subst (Lacks c) parts (no_char c inner ascii none))
+not_closed c inner ascii none text (trail, (parts, blanks)) = lacks_none c text trail (subst (AtNoPlace c) parts (no_char c inner ascii none))
 
 -- nor one with more than blanks behind the last
 pub not_closed_behind : (c : ℕ) (inner text trail front rest : List ℕ) → c < 128 → is_blank c ≡ false → SplitsAroundMatch (RFindsChar c) inner text trail → IsSpan is_blank trail front rest → (length rest ≡ 0 → ⊥) → (own : List ℕ) → ¬ IsClosed inner c own

@@ -3,9 +3,8 @@ use Rattle.std.proofs.Common.{◌≡◌, ◌≢◌, ℕ, inl, inr, Option, Some,
 use Rattle.std.specs.Prelude.{IfSome, IfNone, codes}
 use Rattle.std.specs.Option.{is_some}
 use Rattle.std.specs.Bool.{MatchBool}
-use Rattle.lalrpop_rule_file.specs.RuleLine.{is_blank}
+use Rattle.lalrpop_rule_file.specs.RuleLine.{is_blank, IsSpan}
 use Rattle.lalrpop_rule_file.specs.RuleFile.{IsBlankOrComment}
-use Rattle.lalrpop_rule_file.specs.Internal.Spans.{IsSpan}
 use Rattle.lalrpop_rule_file.proofs.Spans.{IsSpan-unique, nothing_left}
 
 -- behind blanks stands a `#` or something else

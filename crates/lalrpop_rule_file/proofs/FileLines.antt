@@ -1,5 +1,8 @@
 -- What the lines of a file say, line by line.
 use Rattle.std.proofs.Common.{◌≡◌, ℕ, suc, ◌+◌, inl, inr, Option, Some, None, List, [], ◌∷◌, ◌++◌, length, refl, ap, subst, add-one, ◌<◌, ◌≤◌, sym, ◌∙◌, append_assoc, length-append, append-nil, arith}
+use Rattle.std.specs.Prelude.{slice_get, ◌-◌}
+use Rattle.std.proofs.Math.Seq.{get_or-append_seam}
+use Rattle.std.proofs.lemmas.Option.{slice_get-get_or}
 use Rattle.lalrpop_lexer.specs.Lines.{lines}
 use Rattle.lalrpop_rules.specs.declared.rule.Rule.{Rule}
 use Rattle.lalrpop_rule_file.specs.RuleFile.{LineSays, AreRules, IsFirstBad}
@@ -65,6 +68,18 @@ read_rule bytes rest after line number rs ts rule h split shorter says more =
 pub read_bad : (bytes rest after line : List ℕ) (number : ℕ) (rs : List Rule) → HasRead bytes rest number rs → lines rest ≡ line ∷ lines after → ((said : Option Rule) → ¬ LineSays line said) → IsFirstBad (lines bytes) (number + 1)
 read_bad bytes rest after line number rs h split bad =
     rw (h.parts, split, h.counted) (IsFirstBad-behind h.done rs line (lines after) h.are_rules bad)
+
+stands_at : (ls : List (List ℕ)) (line : List ℕ) (rest : List (List ℕ)) → slice_get (ls ++ line ∷ rest) (length ls) ≡ Some line
+stands_at ls line rest =
+    let within : length ls < length (ls ++ line ∷ rest) = omega (arith, length-append ls (line ∷ rest)) in
+    slice_get-get_or (ls ++ line ∷ rest) (length ls) [] within ∙ ap (λ (x : List ℕ). Some x) (get_or-append_seam ls line rest [])
+
+-- the next line has this number
+pub read_line : (bytes rest after line : List ℕ) (number : ℕ) (rs : List Rule) → HasRead bytes rest number rs → lines rest ≡ line ∷ lines after → slice_get (lines bytes) (number + 1 - 1) ≡ Some line
+read_line bytes rest after line number rs h split =
+    let whole : lines bytes ≡ h.done ++ line ∷ lines after = h.parts ∙ ap (λ (x : List (List ℕ)). h.done ++ x) split in
+    let place : number + 1 - 1 ≡ length h.done = (omega arith) ∙ h.counted in
+    ap (λ (x : List (List ℕ)). slice_get x (number + 1 - 1)) whole ∙ ap (λ (n : ℕ). slice_get (h.done ++ line ∷ lines after) n) place ∙ stands_at h.done line (lines after)
 
 -- no line is left
 pub read_all : (bytes rest : List ℕ) (number : ℕ) (rs : List Rule) → HasRead bytes rest number rs → rest ≡ [] → AreRules (lines bytes) rs

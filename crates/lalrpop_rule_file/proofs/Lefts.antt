@@ -2,10 +2,10 @@
 use Rattle.std.proofs.Common.{◌≡◌, ◌≢◌, ℕ, ◌<◌, Bool, true, false, List, [], ◌∷◌, ◌++◌, length, get_or, drop, codes, refl, sym, ap, subst, ◌∙◌, append_assoc, arith, inl, inr}
 use Rattle.std.specs.Str.Pattern.{StripsPrefix, FindsTextPrefix}
 use Rattle.std.proofs.lemmas.Bool.{false≢true}
-use Rattle.lalrpop_rule_file.specs.RuleLine.{EachByte, AreBlanks, is_blank, is_of_name, begins_name, IsName, IsLeft}
+use Rattle.lalrpop_rule_file.specs.RuleLine.{EachByte, AreBlanks, is_blank, is_of_name, begins_name, IsName, IsLeft, Stops, IsSpan}
+use Rattle.lalrpop_rule_file.specs.RuleFault.{IsNamed}
 use Rattle.lalrpop_rule_file.specs.RuleFile.{IsBlankOrComment}
-use Rattle.lalrpop_rule_file.specs.Internal.Spans.{Stops, IsSpan}
-use Rattle.lalrpop_rule_file.specs.Internal.Parts.{begins, IsNamed}
+use Rattle.lalrpop_rule_file.specs.Internal.Parts.{begins}
 use Rattle.lalrpop_rule_file.proofs.Bytes.{begins_of_name, begins_not_blank, blank_not_of_name}
 use Rattle.lalrpop_rule_file.proofs.Spans.{IsSpan-unique, cut_unique, nothing_left}
 
@@ -22,7 +22,7 @@ pub begins-name : (name : List ℕ) → IsName name → begins name ≡ true
 begins-name [] h = absurd h
 begins-name (b ∷ bs) h = h.0
 
-named_span : (line name rest : List ℕ) (h : IsNamed line name rest) → IsSpan is_blank line h.lead (name ++ (h.gap ++ rest))
+pub named_span : (line name rest : List ℕ) (h : IsNamed line name rest) → IsSpan is_blank line h.lead (name ++ (h.gap ++ rest))
 named_span line name rest h = record { parts = h.parts; passes = h.blanks.0; stops = name_stops name (h.gap ++ rest) h.is_name }
 
 -- blanks, and then a name, are read so
@@ -135,7 +135,7 @@ left_skipped line name rest behind front here right named skip span equals =
 equals_off : (right other : List ℕ) → codes "=" ++ right ≡ codes "=" ++ other → right ≡ other
 equals_off right other e = ap (drop 1) e
 
-skip_off : (x y : List ℕ) → codes "skip" ++ x ≡ codes "skip" ++ y → x ≡ y
+pub skip_off : (x y : List ℕ) → codes "skip" ++ x ≡ codes "skip" ++ y → x ≡ y
 skip_off x y e = ap (drop 4) e
 
 both_skipped : (line name own right other : List ℕ) → IsLeft line name true right → IsLeft line own true other → right ≡ other

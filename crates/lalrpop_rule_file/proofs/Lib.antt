@@ -8,6 +8,9 @@ pub mod Rights
 pub mod Closings
 pub mod Rules
 pub mod Comments
+-- where reading a line stops, and that it does so at one place, for one reason
+pub mod Stopping
+pub mod StoppingLaws
 -- the lines of a file
 pub mod Returns
 pub mod FileLines

@@ -8,9 +8,9 @@ use Rattle.std.proofs.lemmas.Str.Parse.{digit_from_value}
 use Rattle.lalrpop_lexer.specs.Line.{IsPrecedence}
 use Rattle.lalrpop_lexer.specs.declared.form.Form.{Form}
 use Rattle.lalrpop_lexer.specs.declared.form.Form.TheVariants.{Literal, Pattern}
-use Rattle.lalrpop_rule_file.specs.RuleLine.{EachByte, AreBlanks, is_blank, delimiter, IsWritten, IsRight}
-use Rattle.lalrpop_rule_file.specs.Internal.Spans.{Stops, IsSpan}
-use Rattle.lalrpop_rule_file.specs.Internal.Parts.{IsNumbered, IsQuoted}
+use Rattle.lalrpop_rule_file.specs.RuleLine.{EachByte, AreBlanks, is_blank, delimiter, IsWritten, IsRight, Stops, IsSpan}
+use Rattle.lalrpop_rule_file.specs.RuleFault.{IsNumbered}
+use Rattle.lalrpop_rule_file.specs.Internal.Parts.{IsQuoted}
 use Rattle.lalrpop_rule_file.proofs.Bytes.{digit_not_blank, blank_not_digit}
 use Rattle.lalrpop_rule_file.proofs.Closings.{IsQuoted-unique}
 use Rattle.lalrpop_rule_file.proofs.Spans.{IsSpan-unique, cut_unique}

@@ -6,8 +6,7 @@ use Rattle.std.proofs.lemmas.List.{take-append-drop}
 use Rattle.std.proofs.lemmas.Bool.{false≢true}
 use Rattle.std.proofs.lemmas.Str.{IsCharBoundary-start, IsCharBoundary-after_ascii}
 use Rattle.std.proofs.lemmas.List.Sums.{prefix_len-le-length, prefix_len_passes}
-use Rattle.lalrpop_rule_file.specs.RuleLine.{EachByte}
-use Rattle.lalrpop_rule_file.specs.Internal.Spans.{Stops, IsSpan}
+use Rattle.lalrpop_rule_file.specs.RuleLine.{EachByte, Stops, IsSpan}
 
 pub cut_unique : (p : ℕ → Bool) (xs us ys vs : List ℕ) → EachByte p xs → Stops p us → EachByte p ys → Stops p vs → xs ++ us ≡ ys ++ vs → (xs ≡ ys) × (us ≡ vs)
 cut_unique p [] us [] vs a b c d e = (refl, e)

@@ -1,4 +1,5 @@
 pub mod RuleLine
+pub mod RuleFault
 pub mod RuleFile
 -- what serves the proofs alone
 pub mod Internal

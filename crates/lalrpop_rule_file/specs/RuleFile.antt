@@ -1,10 +1,15 @@
 -- cases: proofs/Cases/RuleFile.antt
 -- What the lines of a file of rules say.
-use Rattle.std.specs.Prelude.{◌≡◌, ◌⊎◌, ℕ, zero, suc, ◌==◌, if◌then◌else◌, Option, Some, None, List, [], ◌∷◌, ◌++◌, codes}
+use Rattle.std.specs.Prelude.{◌≡◌, ◌⊎◌, ℕ, zero, suc, ◌-◌, ◌==◌, if◌then◌else◌, Option, Some, None, List, [], ◌∷◌, ◌++◌, length, codes, slice_get}
 use Rattle.std.specs.Str.{IsUtf8}
+use Rattle.std.specs.Str.Lossy.{utf8_valid_len}
 use Rattle.lalrpop_lexer.specs.Lines.{lines}
+use Rattle.lalrpop_lexer.specs.Position.{position_of}
 use Rattle.lalrpop_rules.specs.declared.rule.Rule.{Rule}
+use Rattle.lalrpop_rule_file.specs.RuleFault.{StopsBefore}
 use Rattle.lalrpop_rule_file.specs.RuleLine.{AreBlanks, IsRule}
+use Rattle.lalrpop_rule_file.specs.declared.error.LineFault.{LineFault}
+use Rattle.lalrpop_rule_file.specs.declared.error.LineFault.TheVariants.{NotUtf8}
 use Rattle.lalrpop_rule_file.specs.declared.error.RuleFileError.{RuleFileError}
 use Rattle.lalrpop_rule_file.specs.declared.error.RuleFileError.TheVariants.{BadLine, OutOfMemory}
 
@@ -40,7 +45,15 @@ IsFirstBad (line ∷ rest) zero = ⊥
 IsFirstBad (line ∷ rest) (suc zero) = (said : Option Rule) → ¬ LineSays line said
 IsFirstBad (line ∷ rest) (suc (suc n)) = ((said : Option Rule) × LineSays line said) × IsFirstBad rest (suc n)
 
--- the error is right: it names the first bad line, or memory was refused
+-- what is wrong with a line, and in which column: where its bytes stop being UTF-8, or where it stops being a rule
+abbrev pub IsLineFault : List ℕ → ℕ → LineFault → Type 0
+IsLineFault line column NotUtf8 = ¬ IsUtf8 line × (column ≡ (position_of line (utf8_valid_len line)).column)
+IsLineFault line column fault =
+    IsUtf8 line × ((front : List ℕ) × ((rest : List ℕ) × ((without_return line ≡ front ++ rest)
+    × ((column ≡ (position_of (without_return line) (length front)).column) × StopsBefore (without_return line) rest fault))))
+
+-- the error is right: it names the first bad line, and where and why it is bad; or memory was refused
 abbrev pub IsRuleFileError : List ℕ → RuleFileError → Type 0
-IsRuleFileError bytes (BadLine n column fault) = IsFirstBad (lines bytes) n
+IsRuleFileError bytes (BadLine n column fault) =
+    IsFirstBad (lines bytes) n × ((line : List ℕ) × ((slice_get (lines bytes) (n - 1) ≡ Some line) × IsLineFault line column fault))
 IsRuleFileError bytes OutOfMemory = Unit {0}

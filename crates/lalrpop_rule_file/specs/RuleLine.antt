@@ -12,6 +12,17 @@ abbrev pub EachByte : (ℕ → Bool) → List ℕ → Type 0
 EachByte p [] = Unit {0}
 EachByte p (b ∷ bs) = (p b ≡ true) × EachByte p bs
 
+-- the first byte, if there is one, fails the test
+abbrev pub Stops : (ℕ → Bool) → List ℕ → Type 0
+Stops p [] = Unit {0}
+Stops p (b ∷ bs) = p b ≡ false
+
+-- the text is the bytes at its front that pass the test, and the rest
+pub record IsSpan (p : ℕ → Bool) (text front rest : List ℕ) : Type 0 where
+  pub parts : text ≡ front ++ rest
+  pub passes : EachByte p front
+  pub stops : Stops p rest
+
 -- a space or a tab
 abbrev pub is_blank : ℕ → Bool
 is_blank b = b == 32 || b == 9

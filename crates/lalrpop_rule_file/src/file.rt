@@ -1,11 +1,14 @@
 //! A whole file.
-ghost use Rattle.std.specs.Prelude.{◌≡◌, ◌==◌, ◌<◌, [], ◌∷◌, length, position, Option, IfSome, IfNone, IfOk, IfErr};
+ghost use Rattle.std.specs.Prelude.{◌≡◌, ◌==◌, ◌<◌, ◌≤◌, ◌-◌, ℕ, List, [], ◌∷◌, ◌++◌, length, take, position, Option, IfSome, IfNone, IfOk, IfErr};
+ghost use Rattle.std.specs.Str.{IsUtf8};
 ghost use Rattle.lalrpop_lexer.specs.Lines.{lines};
-ghost use Rattle.lalrpop_rule_file.specs.RuleFile.{LineSays, AreRules, IsRuleFileError, without_return as without_return_of};
+ghost use Rattle.lalrpop_lexer.specs.Position.{position_of};
+ghost use Rattle.lalrpop_rule_file.specs.RuleFile.{LineSays, AreRules, IsLineFault, IsRuleFileError, without_return as without_return_of};
 ghost use Rattle.lalrpop_rules.specs.declared.rule.Rule.{Rule as RuleValue};
 
 use crate::error::{LineFault, RuleFileError};
 use crate::line::said_by;
+use lalrpop_lexer::Position;
 use lalrpop_rules::Rule;
 use std::alloc::Global;
 
@@ -48,15 +51,20 @@ fn without_return(line: &str) -> &str
     }
 }
 
-// The column behind the characters before the rest of a line.
-fn column_of(line: &str, rest: &str) -> usize {
-    let before = line.chars().count().saturating_sub(rest.chars().count());
-    before.saturating_add(1)
+// The column in which the rest of a line begins.
+fn column_of(line: &str, rest: &str) -> usize
+    requires { (front : List ℕ) × (line.now ≡ front ++ rest.now) }
+    ensures { result ≡ (position_of line.now (length line.now - length rest.now)).column }
+{
+    Position::of(line, line.len() - rest.len()).column
 }
 
-// The column behind the characters at the front of some bytes.
-fn column_behind(bytes: &[u8]) -> usize {
-    match str::from_utf8(bytes) {
+// The column behind the characters at the front of some bytes, up to this place.
+fn column_behind(bytes: &[u8], at: usize) -> usize
+    requires at { at ≤ length bytes.now }
+    ensures { IsUtf8 (take at bytes.now) → result ≡ (position_of bytes.now at).column }
+{
+    match str::from_utf8(&bytes[..at]) {
         Ok(front) => column_of(front, ""),
         Err(_) => 1,
     }
@@ -66,12 +74,13 @@ fn column_behind(bytes: &[u8]) -> usize {
 fn said(line: &[u8]) -> Result<Option<Rule<'_>>, Fault>
     ensures says { IfOk result (λ said. LineSays line.now said) }
     ensures none { IfErr result (λ _. (said : Option RuleValue) → ¬ LineSays line.now said) }
+    ensures fault { IfErr result (λ e. IsLineFault line.now e.column e.fault) }
 {
     let text = match str::from_utf8(line) {
         Ok(text) => text,
         Err(error) => {
             return Err(Fault {
-                column: column_behind(&line[..error.valid_up_to()]),
+                column: column_behind(line, error.valid_up_to()),
                 fault: LineFault::NotUtf8,
             });
         }
@@ -99,7 +108,15 @@ fn said(line: &[u8]) -> Result<Option<Rule<'_>>, Fault>
 ///
 /// # Errors
 ///
-/// The first line that is neither a rule nor a comment nor blank, and out of memory.
+/// The first line that is neither a rule nor a comment nor blank, with the column where it stops being a rule, and why; and out of
+/// memory. The column is
+///
+/// - of `NotUtf8`, behind the characters before the first bytes that aren't UTF-8;
+/// - of `NoName`, behind the blanks at the front;
+/// - of `NoEquals`, behind the name, `skip` if it is there, and blanks;
+/// - of `PrecedenceTooLarge`, that of its first digit;
+/// - of `NoText`, where the literal or the pattern has to begin;
+/// - of `NotClosed`, behind the end of a line without a second delimiter, or that of what isn't blank behind the last one.
 pub fn read_rules<'text>(
     alloc: Global,
     bytes: &'text [u8],

@@ -1,9 +1,9 @@
 //! What one line says.
 ghost use Rattle.std.specs.Prelude.{◌≡◌, ◌≢◌, ◌∷◌, ◌++◌, ℕ, List, Option, Bool, codes, IfOk, IfErr, IfSome, IfNone, ◌<◌, length};
 ghost use Rattle.lalrpop_lexer.specs.Line.{IsPrecedence};
-ghost use Rattle.lalrpop_rule_file.specs.RuleLine.{IsLeft, IsRight, IsRule, EachByte, is_blank, delimiter, precedence_or as precedence_or_else};
-ghost use Rattle.lalrpop_rule_file.specs.Internal.Parts.{begins, IsNamed, IsNumbered, IsQuoted, IsClosed};
-ghost use Rattle.lalrpop_rule_file.specs.Internal.Spans.{Stops};
+ghost use Rattle.lalrpop_rule_file.specs.RuleLine.{IsLeft, IsRight, IsRule, EachByte, is_blank, delimiter, precedence_or as precedence_or_else, Stops};
+ghost use Rattle.lalrpop_rule_file.specs.RuleFault.{IsNamed, IsNumbered, IsOpen, IsTooLarge, StopsBefore, StopsRight, StopsText};
+ghost use Rattle.lalrpop_rule_file.specs.Internal.Parts.{begins, IsQuoted, IsClosed};
 ghost use Rattle.std.specs.Char.{is_ascii_digit};
 ghost use Rattle.lalrpop_rule_file.specs.RuleFile.{IsBlankOrComment, Says};
 ghost use Rattle.std.specs.Bool.{MatchBool};
@@ -39,6 +39,7 @@ fn begins_name(text: &str) -> bool
 fn name_and_rest(line: &str) -> Result<(&str, &str), Stop<'_>>
     ensures named { IfOk result (λ m. IsNamed line.now m.0.now m.1.now) }
     ensures none { IfErr result (λ _. (name rest : List ℕ) → ¬ IsNamed line.now name rest) }
+    ensures stops { IfErr result (λ stop. StopsBefore line.now stop.rest.now stop.fault) }
 {
     let (_, here) = split_front(line, Class::Blank);
     let (name, behind) = split_front(here, Class::Name);
@@ -66,6 +67,8 @@ fn behind(text: &str, mark: char) -> Option<&str>
 fn behind_equals(rest: &str) -> Result<&str, Stop<'_>>
     ensures equals { IfOk result (λ right. rest.now ≡ codes "=" ++ right.now) }
     ensures none { IfErr result (λ _. (right : List ℕ) → rest.now ≢ codes "=" ++ right) }
+    ensures stops { IfErr result (λ stop.
+        (stop.fault ≡ LineFault.NoEquals) × (stop.rest.now ≡ rest.now)) }
 {
     match behind(rest, '=') {
         Some(right) => Ok(right),
@@ -81,6 +84,7 @@ fn left_part(line: &str) -> Result<(&str, bool, &str), Stop<'_>>
     ensures left { IfOk result (λ m. IsLeft line.now m.0.now m.1 m.2.now) }
     ensures none { IfErr result (λ _. (name : List ℕ) (skipped : Bool) (right : List ℕ)
         → ¬ IsLeft line.now name skipped right) }
+    ensures stops { IfErr result (λ stop. StopsBefore line.now stop.rest.now stop.fault) }
 {
     let (name, rest) = name_and_rest(line)?;
     match rest.strip_prefix("skip") {
@@ -114,6 +118,8 @@ fn numbered(text: &str) -> Result<(Option<usize>, &str), Stop<'_>>
     ensures numbered { IfOk result (λ m. IsNumbered text.now m.0 m.1.now × Stops is_blank m.1.now) }
     ensures none { IfErr result (λ _. (written : Option ℕ) (rest : List ℕ)
         → ¬ IsNumbered text.now written rest) }
+    ensures stops { IfErr result (λ stop. (stop.fault ≡ LineFault.PrecedenceTooLarge)
+        × ((stop.rest.now ≡ text.now) × IsTooLarge text.now)) }
 {
     let (digits, behind) = split_front(text, Class::Digit);
     if digits.is_empty() {
@@ -143,6 +149,8 @@ fn delimiter_of(form: Form) -> char
 fn closed(inner: &str, form: Form) -> Result<&str, Stop<'_>>
     ensures closed { IfOk result (λ text. IsClosed inner.now (delimiter form) text.now) }
     ensures none { IfErr result (λ _. (text : List ℕ) → ¬ IsClosed inner.now (delimiter form) text) }
+    ensures stops { IfErr result (λ stop. (stop.fault ≡ LineFault.NotClosed)
+        × IsOpen (delimiter form) inner.now stop.rest.now) }
 {
     let Some((text, trail)) = inner.rsplit_once(delimiter_of(form)) else {
         return Err(Stop {
@@ -164,6 +172,7 @@ fn closed(inner: &str, form: Form) -> Result<&str, Stop<'_>>
 fn quoted(rest: &str) -> Result<(Form, &str), Stop<'_>>
     ensures quoted { IfOk result (λ m. IsQuoted rest.now m.0 m.1.now) }
     ensures none { IfErr result (λ _. (form : FormValue) (text : List ℕ) → ¬ IsQuoted rest.now form text) }
+    ensures stops { IfErr result (λ stop. StopsText rest.now stop.rest.now stop.fault) }
 {
     if let Some(inner) = behind(rest, '\'') {
         let text = closed(inner, Form::Literal)?;
@@ -184,6 +193,7 @@ fn right_part(right: &str) -> Result<(Option<usize>, Form, &str), Stop<'_>>
     ensures right { IfOk result (λ m. IsRight right.now m.0 m.1 m.2.now) }
     ensures none { IfErr result (λ _. (written : Option ℕ) (form : FormValue) (text : List ℕ)
         → ¬ IsRight right.now written form text) }
+    ensures stops { IfErr result (λ stop. StopsRight right.now stop.rest.now stop.fault) }
 {
     let (_, here) = split_front(right, Class::Blank);
     let (written, rest) = numbered(here)?;
@@ -206,6 +216,7 @@ fn precedence_or(form: Form, written: Option<usize>) -> usize
 fn rule_of(line: &str) -> Result<Rule<'_>, Stop<'_>>
     ensures rule { IfOk result (λ rule. IsRule line.now rule) }
     ensures none { IfErr result (λ _. (rule : RuleValue) → ¬ IsRule line.now rule) }
+    ensures stops { IfErr result (λ stop. StopsBefore line.now stop.rest.now stop.fault) }
 {
     let (name, is_skipped, right) = left_part(line)?;
     let (written, form, text) = right_part(right)?;
@@ -233,6 +244,7 @@ fn says_nothing(line: &str) -> bool
 pub(crate) fn said_by(line: &str) -> Result<Option<Rule<'_>>, Stop<'_>>
     ensures says { IfOk result (λ said. Says line.now said) }
     ensures none { IfErr result (λ _. (said : Option RuleValue) → ¬ Says line.now said) }
+    ensures stops { IfErr result (λ stop. StopsBefore line.now stop.rest.now stop.fault) }
 {
     if says_nothing(line) {
         return Ok(None);

@@ -1,7 +1,8 @@
 //! The characters at the front of a text that belong to a class.
 ghost use Rattle.std.specs.Prelude.{◌≡◌};
 ghost use Rattle.std.specs.List.{prefix_len};
-ghost use Rattle.lalrpop_rule_file.specs.Internal.Spans.{members, IsSpan};
+ghost use Rattle.lalrpop_rule_file.specs.Internal.Spans.{members};
+ghost use Rattle.lalrpop_rule_file.specs.RuleLine.{IsSpan};
 
 /// A class of ASCII characters.
 #[derive(Clone, Copy)]

@@ -1,11 +1,11 @@
 //! Rules are read from a file.
-ghost use Rattle.std.specs.Prelude.{◌≡◌, List, IfOk, IfErr, IfSome, MatchOption};
+ghost use Rattle.std.specs.Prelude.{◌≡◌, ℕ, List, IfOk, IfErr, IfSome, MatchOption, Some, slice_get};
 ghost use Rattle.lalrpop_lexer.specs.Lines.{lines};
 ghost use Rattle.lalrpop_rules.specs.RuleSet.{names_of};
 ghost use Rattle.lalrpop_rules.specs.declared.rule.Rule.{Rule as RuleValue};
-ghost use Rattle.lalrpop_rule_file.specs.RuleFile.{AreRules, IsFirstBad};
+ghost use Rattle.lalrpop_rule_file.specs.RuleFile.{AreRules, IsFirstBad, IsLineFault};
 
-use lalrpop_rule_file::{RuleFileError, read_rules};
+use lalrpop_rule_file::{LineFault, RuleFileError, read_rules};
 use lalrpop_rules::{RuleLexer, RulesError};
 use std::alloc::{AllocError, Global};
 
@@ -23,6 +23,29 @@ pub fn first_bad_line(alloc: Global, bytes: &[u8]) -> Result<Option<usize>, Allo
     match read_rules(alloc, bytes) {
         Ok(_) => Ok(None),
         Err(RuleFileError::BadLine { line, .. }) => Ok(Some(line)),
+        Err(RuleFileError::OutOfMemory) => Err(AllocError),
+    }
+}
+
+// Needs lalrpop_rule_file::read_rules: error.
+/// In which column the first bad line is bad, and why.
+///
+/// # Errors
+///
+/// A refused request for memory.
+pub fn first_fault(alloc: Global, bytes: &[u8]) -> Result<Option<(usize, LineFault)>, AllocError>
+    ensures fault { IfOk result (λ found. IfSome found (λ f. (n : ℕ) × ((line : List ℕ)
+        × ((slice_get (lines bytes.now) n ≡ Some line) × IsLineFault line f.0 f.1)))) }
+{
+    match read_rules(alloc, bytes) {
+        Ok(_) => Ok(None),
+        Err(
+            RuleFileError::BadLine {
+                line: _,
+                column,
+                fault,
+            },
+        ) => Ok(Some((column, fault))),
         Err(RuleFileError::OutOfMemory) => Err(AllocError),
     }
 }

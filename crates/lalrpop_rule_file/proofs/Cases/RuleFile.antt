@@ -3,11 +3,14 @@ use Rattle.std.proofs.Common.{◌≡◌, ℕ, inl, inr, List, [], ◌∷◌, get
 use Rattle.std.proofs.lemmas.Bool.{false≢true}
 use Rattle.lalrpop_rules.specs.declared.rule.Rule.{Rule}
 use Rattle.lalrpop_rule_file.specs.RuleLine.{is_blank, IsRule}
-use Rattle.lalrpop_rule_file.specs.RuleFile.{without_return, IsBlankOrComment, LineSays, AreRules, IsFirstBad, IsRuleFileError}
+use Rattle.lalrpop_rule_file.specs.RuleFile.{without_return, IsBlankOrComment, LineSays, AreRules, IsFirstBad, IsLineFault, IsRuleFileError}
 use Rattle.lalrpop_rule_file.specs.declared.error.LineFault.TheVariants.{NoEquals}
 use Rattle.lalrpop_rule_file.specs.declared.error.RuleFileError.TheVariants.{BadLine, OutOfMemory}
-use Rattle.lalrpop_rule_file.specs.Internal.Parts.{IsNamed}
 use Rattle.lalrpop_rule_file.proofs.Lefts.{no_left_kept}
+use Rattle.lalrpop_rule_file.proofs.StoppingLaws.{IsLineFault-unique}
+use Rattle.std.specs.Str.{IsUtf8, chars}
+use lib.Utf8.{encode}
+use Rattle.lalrpop_rule_file.specs.RuleFault.{IsNamed, StopsBefore}
 
 -- one carriage return at the end isn't part of a line
 return_at_the_end : without_return (codes "a\r") ≡ codes "a"
@@ -73,8 +76,23 @@ no_line_0 h = h
 line_behind_a_bad_one : ¬ IsFirstBad (codes "x" ∷ codes "x" ∷ []) 2
 line_behind_a_bad_one h = x_says_neither h.0.0 h.0.1
 
+-- it stops behind its name
+x_stops : StopsBefore (codes "x") [] NoEquals
+x_stops = (codes "x", ([], (named_x, (inr ((λ behind e. absurd (cc)), refl), λ right e. absurd (cc)))))
+
+x_is_text : IsUtf8 (codes "x")
+unfolding encode
+x_is_text = (codes "x", (refl, refl))
+
+x_fault : IsLineFault (codes "x") 2 NoEquals
+unfolding chars
+x_fault = (x_is_text, (codes "x", ([], (refl, (refl, x_stops)))))
+
 error_of_a_file : IsRuleFileError (codes "\nx") (BadLine 2 2 NoEquals)
-error_of_a_file = first_bad_line
+error_of_a_file = (first_bad_line, (codes "x", (refl, x_fault)))
+
+not_in_the_first_column : ¬ IsLineFault (codes "x") 1 NoEquals
+not_in_the_first_column fault = let k : 1 ≡ 2 = (IsLineFault-unique (codes "x") 1 2 NoEquals NoEquals fault x_fault).0 in omega (arith, k)
 
 refused_memory_is_right : (bytes : List ℕ) → IsRuleFileError bytes OutOfMemory
 refused_memory_is_right bytes = tt

@@ -1,12 +1,14 @@
-use Rattle.lalrpop_rule_file.proofs.FileLines.{read_start, read_nothing, read_rule, read_bad}
+use Rattle.lalrpop_rule_file.proofs.FileLines.{read_start, read_nothing, read_rule, read_bad, read_line}
 use Rattle.lalrpop_rule_file.proofs.file.read_rules.Goals as goal
 
 pub loop-line-init : goal.loop-line-init
 loop-line-init c = rw c.new-rules.ensures.items (read_start c.args.bytes.now)
 
 pub returns-in-Err-clause-error : goal.returns-in-Err-clause-error
-returns-in-Err-clause-error c =
-    read_bad _ _ c.in-Some.after.now _ _ _ c.loop-line.invariant c.in-Some.ensures.lines c.in-Err.ensures.none
+returns-in-Err-clause-error c = (
+  read_bad _ _ c.in-Some.after.now _ _ _ c.loop-line.invariant c.in-Some.ensures.lines c.in-Err.ensures.none,
+  (c.in-Some.line.now, (read_line _ _ c.in-Some.after.now _ _ _ c.loop-line.invariant c.in-Some.ensures.lines, c.in-Err.ensures.fault)),
+)
 
 pub loop-line-preserved-in_ok-push-in-Ok-Some : goal.loop-line-preserved-in_ok-push-in-Ok-Some
 loop-line-preserved-in_ok-push-in-Ok-Some c =

@@ -1,7 +1,8 @@
-use Rattle.std.proofs.Common.{sym}
+use Rattle.std.proofs.Common.{length, refl, sym, ap, inl, inr}
 use Rattle.std.proofs.lemmas.Bool.{eqb-false, eqb-true}
 use Rattle.lalrpop_rule_file.specs.RuleLine.{delimiter}
-use Rattle.lalrpop_rule_file.proofs.Closings.{not_closed, not_closed_behind, closed_before, delimiter_ascii}
+use Rattle.lalrpop_rule_file.proofs.Closings.{not_closed, not_closed_behind, closed_before, delimiter_ascii, no_char, split_last}
+use Rattle.lalrpop_rule_file.proofs.Stopping.{lacks_each}
 use Rattle.lalrpop_rule_file.proofs.line.closed.Goals as goal
 
 pub returns-in_default-clause-none : goal.returns-in_default-clause-none
@@ -19,3 +20,16 @@ pub returns-clause-closed : goal.returns-clause-closed
 returns-clause-closed c =
     let split = rw c.delimiter_of.ensures at c.in-Some.ensures.cases in
     closed_before (delimiter c.args.form) c.args.inner.now c.in-Some.text.now c.in-Some.trail.now _ _ (delimiter_ascii c.args.form).0 split c.split_front.ensures.span (eqb-true _ _ (sym c.if-not-is_empty.ensures))
+
+pub returns-in_default-clause-stops : goal.returns-in_default-clause-stops
+returns-in_default-clause-stops c =
+    let none = rw c.delimiter_of.ensures at c.in_default.ensures.cases in
+    let mark = delimiter c.args.form in
+    (refl, inl (lacks_each mark c.args.inner.now (no_char mark c.args.inner.now (delimiter_ascii c.args.form).0 none), refl))
+
+pub returns-then-not-is_empty-clause-stops : goal.returns-then-not-is_empty-clause-stops
+returns-then-not-is_empty-clause-stops c =
+    let split = rw c.delimiter_of.ensures at c.in-Some.ensures.cases in
+    let mark = delimiter c.args.form in
+    let last = split_last mark c.args.inner.now c.in-Some.text.now c.in-Some.trail.now (delimiter_ascii c.args.form).0 split in
+    (refl, inr (_, (_, (_, (last.0, (lacks_each mark c.in-Some.trail.now last.1, (c.split_front.ensures.span, λ e. eqb-false _ _ (sym c.if-not-is_empty.ensures) (ap length e))))))))
