@@ -1,10 +1,13 @@
--- The witness is unique, and what it says of the lookahead.
-use Rattle.std.proofs.Common.{◌≡◌, ℕ, ◌≤◌, ◌⊎◌, inl, inr, List, sym, subst}
-use Rattle.std.specs.Prelude.{Some}
-use Rattle.lalrpop_book.specs.Word.{Shortlex}
+-- The witness is unique, what it says of the lookahead, and where there is one.
+use Rattle.std.proofs.Common.{◌≡◌, ℕ, ◌<◌, ◌≤◌, ◌⊎◌, inl, inr, List, length, refl, sym, subst}
+use Rattle.std.specs.Prelude.{slice_get, Some}
+use Rattle.std.proofs.lemmas.Option.{slice_get_within}
+use Rattle.lalrpop_book.specs.Word.{IsWord, Shortlex}
 use Rattle.lalrpop_book.proofs.Words.{Shortlex-total}
 use Rattle.lalrpop_table.specs.Dfa.{Row, after}
-use Rattle.lalrpop_table.specs.Lookahead.{CanStayOpen, IsLookahead}
+use Rattle.lalrpop_table.specs.Lookahead.{IsAccepting, StaysOpen, CanStayOpen, IsLookahead}
+use Rattle.lalrpop_table.specs.declared.Kind.TheVariants.{Accepts}
+use Rattle.lalrpop_table.proofs.EdgeTargets.{the_some}
 use Rattle.lalrpop_witness.specs.Witness.{LeavesOpen, IsLeast, IsWitness}
 
 -- two least words with a property are equal
@@ -29,3 +32,13 @@ open_can d n v x o = (after d v, x, (o.accepted, o.stays, o.long))
 -- no more values than the lookahead leave a match open
 pub open_at_most : (d : List Row) (m n : ℕ) (v x : List ℕ) → IsLookahead d (Some m) → LeavesOpen d n v x → n ≤ m
 open_at_most d m n v x h o = h.0 n (open_can d n v x o)
+
+accepting_within : (d : List Row) (p : ℕ) → IsAccepting d p → p < length d
+accepting_within d p a = (let (r, at) = the_some (slice_get d p) (λ r. (i : ℕ) × (r.kind ≡ Accepts i)) a in slice_get_within d p r at.0)
+
+-- where a word leads to each state, as in an automaton that was built, values that leave an accepting state open leave a match open
+pub open_from_state : (d : List Row) → ((p : ℕ) → p < length d → (w : List ℕ) × (IsWord w × (after d w ≡ p))) → (p : ℕ) (x : List ℕ) → IsAccepting d p → IsWord x → StaysOpen d p x
+    → (v : List ℕ) × LeavesOpen d (length x) v x
+open_from_state d reached p x a f s =
+    let (v, (g, e)) = reached p (accepting_within d p a) in
+    (v, record { word = g; values = f; accepted = subst (IsAccepting d) (sym e) a; stays = subst (λ q. StaysOpen d q x) (sym e) s; long = refl })

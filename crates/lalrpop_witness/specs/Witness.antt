@@ -10,7 +10,7 @@ pub record OpenMatch : Type 0 where
   pub word : List ℕ
   pub after : List ℕ
 
--- a tree matches v, and the n values x behind it leave it open whether a longer match comes
+-- a tree matches v, and the n values x behind it leave it open whether a longer match comes; all values fit 32 bits
 pub record LeavesOpen (d : List Row) (n : ℕ) (v x : List ℕ) : Type 0 where
   pub word : IsWord v
   pub values : IsWord x

@@ -84,6 +84,8 @@ fn open_values(
 ///
 /// If `count` is what `lookahead` returns, it shows what makes the automaton look that far ahead.
 ///
+/// All edges are gone over at most once for each of the `count` values, and once for each state.
+///
 /// # Errors
 ///
 /// `AllocError` if a request for memory was refused.

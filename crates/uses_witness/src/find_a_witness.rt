@@ -1,6 +1,7 @@
 //! What makes an automaton look ahead.
 
-ghost use Rattle.std.specs.Prelude.{◌≡◌, ℕ, ◌≤◌, List, length, Some, Ok, true, false, IfOk, IfSome, IfNone};
+ghost use Rattle.std.specs.Prelude.{◌≡◌, ℕ, ◌<◌, List, length, Some, Ok, true, false, IfOk, IfSome, IfNone};
+ghost use Rattle.lalrpop_book.specs.Word.{IsWord};
 ghost use Rattle.lalrpop_table.specs.Dfa.{after};
 ghost use Rattle.lalrpop_table.specs.Lookahead.{IsAccepting, IsLookahead, StaysOpen};
 ghost use Rattle.lalrpop_witness.specs.Witness.{IsWitness, LeavesOpen};
@@ -59,4 +60,20 @@ pub fn farthest(alloc: Global, dfa: &Dfa) -> Result<Option<Witness>, AllocError>
         Some(count) if count > 0 => lookahead_witness(alloc, dfa, count),
         _ => Ok(None),
     }
+}
+
+// Needs lalrpop_witness::lookahead_witness: none.
+/// Whether so many values leave a match open, in an automaton where a word leads to each state, as `build_dfa` makes it. If
+/// not, no accepting state is left open by them.
+///
+/// # Errors
+///
+/// `AllocError` if a request for memory was refused.
+pub fn is_some_state_left_open(alloc: Global, dfa: &Dfa, count: usize) -> Result<bool, AllocError>
+    requires reached { (p : ℕ) → p < length dfa.now
+        → (w : List ℕ) × (IsWord w × (after dfa.now w ≡ p)) }
+    ensures is_closed { result ≡ Ok false → (p : ℕ) (x : List ℕ) → IsAccepting dfa.now p → IsWord x
+        → length x ≡ count → ¬ StaysOpen dfa.now p x }
+{
+    is_left_open(alloc, dfa, count)
 }
