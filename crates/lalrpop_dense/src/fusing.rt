@@ -194,8 +194,22 @@ fn stays_on(fused: &Fused, layout: &Layout, row: u16, byte: u8) -> bool {
     cell.copied() == Some(row)
 }
 
+// Whether the row leads to itself at all. Most rows don't.
+fn leads_to_itself(fused: &Fused, width: usize, row: u16) -> bool {
+    for class in 0..width {
+        let cell = fused.cells.get((row as usize).wrapping_add(class));
+        if cell.copied() == Some(row) {
+            return true;
+        }
+    }
+    false
+}
+
 // The heaviest window of bytes on which the row stays, if it is worth a look.
 fn stay_of(fused: &Fused, layout: &Layout, row: u16) -> Option<Stay> {
+    if !leads_to_itself(fused, layout.width, row) {
+        return None;
+    }
     let mut best = None;
     let mut weight = LEAST_WEIGHT.wrapping_sub(1);
     let mut window = Window::new();
