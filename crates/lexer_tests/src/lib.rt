@@ -31,3 +31,5 @@ mod runs;
 mod shapes;
 #[cfg(test)]
 mod tables;
+#[cfg(test)]
+mod witnesses;

@@ -1,0 +1,79 @@
+//! What makes a lexer look ahead: a match, and characters behind it that leave it open, by their code values.
+
+use crate::built::{built, expect, halves};
+use crate::lookaheads::lexer_of;
+use lalrpop_lexer::lexer::dfa::{Witness, lookahead_witness};
+use std::alloc::{AllocError, Global};
+
+// Patterns, the stronger before the weaker, a number of characters, and the witness.
+const WITNESSES: &str = r"
+'a' 'abcd' 2 => [97] [98, 99]
+'a' 'abcd' 1 => [97] [98]
+'a' 'abcd' 0 => [97] []
+'a' 'abcd' 3 => none
+'if' [a-z]+ [0-9]+ [0-9]+\.[0-9]+ '.' '..' 1 => [48] [46]
+'if' [a-z]+ [0-9]+ [0-9]+\.[0-9]+ '.' '..' 2 => none
+[0-9]+ [0-9]+e[+-][0-9]+ 2 => [48] [101, 43]
+a* 0 => [] []
+a* 1 => none
+'a' a*b 3 => [97] [97, 97, 97]
+'/' /\*([^*]|\*+[^*/])*\*+/ 2 => [47] [42, 0]
+é éàüx 2 => [233] [224, 252]
+'b' 'ab' 'abcd' 'bcd' 1 => [98] [99]
+'bb' 'ab' 'abcd' 'bbcd' 1 => [97, 98] [99]
+";
+
+fn shown(alloc: Global, found: &Option<Witness>) -> Result<String, AllocError> {
+    match found {
+        Some(witness) => {
+            let word = witness.word.as_slice();
+            let after = witness.after.as_slice();
+            format!(in alloc; "{word:?} {after:?}")
+        }
+        None => String::from_str(alloc, "none"),
+    }
+}
+
+// The patterns and the number of characters behind them, with a blank between.
+fn of_lexer(alloc: Global, row: &str) -> Result<String, AllocError> {
+    let (words, count) = row.rsplit_once(' ').unwrap_or((row, ""));
+    let lexer = lexer_of(alloc, words)?;
+    let found = lexer.lookahead_witness(alloc, count.parse().unwrap_or(0))?;
+    shown(alloc, &found)
+}
+
+fn of_automaton(alloc: Global, words: &str, count: usize) -> Result<String, AllocError> {
+    let dfa = built(alloc, words)?;
+    let found = lookahead_witness(alloc, &dfa, count)?;
+    shown(alloc, &found)
+}
+
+#[test]
+fn what_leaves_a_match_open(rt: HostRuntime) {
+    for row in WITNESSES.trim_matches('\n').lines() {
+        let (patterns, wanted) = halves(row, " => ");
+        expect(&rt, of_lexer(rt.alloc(), patterns), wanted);
+    }
+    expect(&rt, of_lexer(rt.alloc(), " 0"), "none");
+    expect(
+        &rt,
+        of_automaton(rt.alloc(), "'a' 'abcd'", 2),
+        "[97] [98, 99]",
+    );
+    expect(&rt, of_automaton(rt.alloc(), "'a' 'abcd'", 3), "none");
+}
+
+fn printed(alloc: Global) -> Result<String, AllocError> {
+    let dfa = built(alloc, "'a' 'abcd'")?;
+    let found = lookahead_witness(alloc, &dfa, 2)?;
+    format!(in alloc; "{found:?}")
+}
+
+#[test]
+fn a_witness_is_printed(rt: HostRuntime) {
+    expect(
+        &rt,
+        printed(rt.alloc()),
+        "Some(Witness { word: [97], after: [98, 99] })",
+    );
+}
