@@ -188,12 +188,12 @@ impl Lexer {
         CountedTokens::new(self.tokens(text))
     }
 
-    /// The tokens of `tokens`, in time linear in the text whatever the patterns are: a whole text costs at most 65 steps a character, and
-    /// for each open state of the automaton, one that neither accepts a pattern nor rejects, a step a byte and 64 in all.
-    /// A step is counted for each character that is read, as often as it is read.
+    /// The tokens of `tokens`, in time linear in the text whatever the patterns are: a whole text costs at most 66 steps a character and
+    /// one a byte, and for each open state of the automaton, one that neither accepts a pattern nor rejects, a step a byte and 64 in
+    /// all. A step is counted for each character that is read, as often as it is read.
     ///
-    /// Where `lookahead` is a small number `tokens` costs less. The memory is taken here: a byte for each open state
-    /// and each 64 bytes of the text.
+    /// Where no more than 16 bytes are read past each token, the table of `tokens` cuts the whole text. The memory is taken here: a byte
+    /// for each open state and each 64 bytes of the text.
     ///
     /// # Errors
     ///
@@ -211,10 +211,10 @@ impl Lexer {
         ensures cost { IfOk result (λ s.
             (xs : List (Result TokenValue FaultValue)) (t : LinearCutting)
             → Yields GivesLinear s xs t
-            → t.steps ≤ 65 * length (chars text.now)
+            → t.steps ≤ 66 * length (chars text.now) + length text.now
             + open_states self.now.automaton * (length text.now + 64)) }
     {
-        let matches = LinearMatches::new(alloc, self.dense.dfa(), text)?;
+        let matches = LinearMatches::new(alloc, &self.dense, text)?;
         Ok(LinearTokens::new(matches))
     }
 
