@@ -1,6 +1,6 @@
 -- The run of a table along a text: what holds after each character.
 use Rattle.std.proofs.Common.{◌≡◌, ℕ, ◌+◌, ◌*◌, ◌/◌, ◌%◌, ◌<◌, ◌≤◌, inl, inr, List, length, take, drop, get_or, refl, sym, ap, subst, ◌∙◌, arith, ◌-◌, min}
-use Rattle.std.specs.Prelude.{slice_get, Option, Some, IfSome}
+use Rattle.std.specs.Prelude.{slice_get, Option, Some, None, IfSome}
 use Rattle.std.specs.Str.{chars, IsUtf8, IsCharBoundary}
 use Rattle.std.proofs.lemmas.List.{get_or_read}
 use Rattle.std.proofs.lemmas.Option.{slice_get_cases}
@@ -16,7 +16,7 @@ use Rattle.lalrpop_table.proofs.EdgeTargets.{step_within}
 use Rattle.lalrpop_table.proofs.LongestLemmas.{IsLongestUpTo, says_of, reject_at, longest_accept, longest_pass, longest_end, longest_stop, part_accept}
 use Rattle.lalrpop_table.proofs.Trails.{HasTrail, trail_accept, trail_pass}
 use Rattle.lalrpop_dense.specs.Internal.Table.{HasClasses, IsTableOf, IsRowOfKind, class_of, row_of, page_of}
-use Rattle.lalrpop_dense.specs.Internal.Reading.{ReadsChar, IsPlace, found}
+use Rattle.lalrpop_dense.specs.Internal.Reading.{ReadsChar, IsPlace, PaysPast, found}
 use Rattle.lalrpop_dense.specs.declared.table.Layout.{Layout}
 
 -- the state after the first `at` bytes has this row
@@ -170,3 +170,13 @@ walk_trails t cells d text at at2 state state2 c o h w w2 read live accept trail
     let r = row_at t cells d text at2 state2 h w2 in
     trail_pass (λ m. take m.1 text) d text (drop at text) (drop at2 text) at at2 c (after d (chars (take at2 text))) r.0 o w.cut read.split read.place refl r.1.0
     (kind_neither t cells state2 r.0.kind r.1.1 live accept) trail
+
+-- a character more behind the match is paid for by its bytes
+pub past_more : (text : List ℕ) (at at2 before after after2 : ℕ) (o : Option (ℕ × ℕ)) → after2 ≡ after + 1 → at < at2 → PaysPast text at before after o → PaysPast text at2 before after2 o
+past_more text at at2 before after after2 None one on h = omega arith
+past_more text at at2 before after after2 (Some m) one on h = (omega (arith, h.0), omega (arith, h.1))
+
+-- where so many steps came before
+pub past_of : (text : List ℕ) (at before after count : ℕ) (o : Option (ℕ × ℕ)) → after ≡ before + count → PaysPast text at 0 count o → PaysPast text at before after o
+past_of text at before after count None more h = omega arith
+past_of text at before after count (Some m) more h = (h.0, omega (arith, h.1))

@@ -1,6 +1,6 @@
 //! An automaton with a table beside it.
 
-ghost use Rattle.std.specs.Prelude.{◌≡◌, ◌≢◌, ℕ, ◌+◌, ◌<◌, ◌≤◌, ◌++◌, [], drop, length, List, None, IfOk, IfNone, IfSome};
+ghost use Rattle.std.specs.Prelude.{◌≡◌, ◌≢◌, ℕ, ◌+◌, ◌<◌, ◌≤◌, ◌++◌, [], drop, length, List, None, IfOk, IfNone, IfSome, MatchOption};
 ghost use Rattle.std.specs.Option.{option_map};
 ghost use Rattle.std.specs.Str.{IsCharBoundary, chars};
 ghost use Rattle.lalrpop_book.specs.Tree.{Tree};
@@ -19,7 +19,7 @@ use crate::check::is_table_of;
 use crate::fused::{Fused, is_fused_of};
 use crate::fusing::fusing_of;
 use crate::mark::{Engine, Marks, mark_block};
-use crate::run::longest_by;
+use crate::run::{Settled, longest_by, longest_within_by};
 use crate::table::{Layout, StoredCells, Table, stored};
 use lalrpop_book::Token;
 use lalrpop_ranges::Steps;
@@ -103,6 +103,30 @@ impl DenseDfa {
         match &self.table {
             Some(table) => longest_in(table, &self.dfa, text, steps),
             None => interpret_counted(&self.dfa, text, steps),
+        }
+    }
+
+    /// The longest match at the start of the text, if it is settled by the characters that begin within so many bytes. `None`
+    /// if it isn't, or if there is no table. A step is counted for each character read: there are at most as many as those bytes.
+    #[inline(always)]
+    pub fn longest_within<'text>(
+        &self,
+        text: &'text str,
+        limit: usize,
+        steps: &mut Steps,
+    ) -> Option<Settled<'text>>
+        ensures answer { (ts : List Tree) (ps : List ℕ) → Recognizes self.now ts ps
+            → IfSome result (λ s.
+            IsLongest ts ps text.now (option_map (λ m. (m.0, m.1.now)) s.longest)) }
+        ensures prefix { IfSome result (λ s. IfSome s.longest (λ m.
+            IsPrefix m.1.now text.now × (m.1.now ≢ []))) }
+        ensures limit { steps.new ≤ steps.old + limit }
+        ensures past { IfSome result (λ s. MatchOption s.longest (steps.new ≤ steps.old + s.past)
+            (λ m. steps.new ≤ steps.old + length (chars m.1.now) + s.past)) }
+    {
+        match &self.table {
+            Some(table) => longest_in_within(table, &self.dfa, text, limit, steps),
+            None => None,
         }
     }
 
@@ -228,6 +252,32 @@ fn longest_in<'text>(
     match &table.cells {
         StoredCells::Narrow(cells) => longest_by(cells, &table.layout, dfa, text, steps),
         StoredCells::Wide(cells) => longest_by(cells, &table.layout, dfa, text, steps),
+    }
+}
+
+// The longest match at the start of the text, if it is settled by the characters that begin within so many bytes.
+#[inline(always)]
+fn longest_in_within<'text>(
+    table: &Table,
+    dfa: &Dfa,
+    text: &'text str,
+    limit: usize,
+    steps: &mut Steps,
+) -> Option<Settled<'text>>
+    requires { IsTable table.now dfa.now }
+    ensures answer { (ts : List Tree) (ps : List ℕ) → Recognizes dfa.now ts ps
+        → IfSome result (λ s.
+        IsLongest ts ps text.now (option_map (λ m. (m.0, m.1.now)) s.longest)) }
+    ensures prefix { IfSome result (λ s. IfSome s.longest (λ m.
+        IsPrefix m.1.now text.now × (m.1.now ≢ []))) }
+    ensures limit { steps.new ≤ steps.old + limit }
+    ensures past { IfSome result (λ s. MatchOption s.longest (steps.new ≤ steps.old + s.past)
+        (λ m. steps.new ≤ steps.old + length (chars m.1.now) + s.past)) }
+{
+    let layout = &table.layout;
+    match &table.cells {
+        StoredCells::Narrow(cells) => longest_within_by(cells, layout, dfa, text, limit, steps),
+        StoredCells::Wide(cells) => longest_within_by(cells, layout, dfa, text, limit, steps),
     }
 }
 

@@ -19,3 +19,4 @@ mod table;
 pub use dense::DenseDfa;
 pub use mark::Marks;
 pub use matcher::Matcher;
+pub use run::Settled;

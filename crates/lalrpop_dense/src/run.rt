@@ -1,6 +1,6 @@
 //! The run of a table over a text.
 
-ghost use Rattle.std.specs.Prelude.{◌≡◌, ◌≢◌, ℕ, ◌+◌, ◌<◌, ◌≤◌, ◌++◌, [], length, drop, take, List, IfSome};
+ghost use Rattle.std.specs.Prelude.{◌≡◌, ◌≢◌, ℕ, ◌+◌, ◌<◌, ◌≤◌, ◌++◌, [], length, drop, take, List, true, IfSome, MatchOption};
 ghost use Rattle.std.specs.Option.{option_map};
 ghost use Rattle.std.specs.Char.{encode_utf8};
 ghost use Rattle.std.specs.Str.{IsCharBoundary, chars};
@@ -10,7 +10,7 @@ ghost use Rattle.lalrpop_table.specs.Dfa.{Recognizes};
 ghost use Rattle.lalrpop_table.specs.Lookahead.{LooksAtMost};
 ghost use Rattle.lalrpop_book.specs.Longest.{IsLongest};
 ghost use Rattle.lalrpop_dense.specs.Internal.Table.{HasClasses, IsTableOf, class_of};
-ghost use Rattle.lalrpop_dense.specs.Internal.Reading.{ReadsChar, IsPlace, found};
+ghost use Rattle.lalrpop_dense.specs.Internal.Reading.{ReadsChar, IsPlace, PaysPast, found};
 
 use crate::table::{Cells, Layout};
 use lalrpop_ranges::Steps;
@@ -48,42 +48,67 @@ pub(crate) fn read_class(layout: &Layout, text: &str, at: &mut usize) -> u8
     layout.class(u32::from(c))
 }
 
-// The row of the state after the longest match at the start of the text, and where the match ends.
+// Where a walk along a text stopped.
+#[derive(Clone, Copy)]
+struct Stop {
+    // The row of the state after the longest match so far, and where the match ends.
+    longest: Option<(usize, usize)>,
+    // What was read ends here.
+    at: usize,
+    // Whether it is the longest match of the whole text.
+    is_settled: bool,
+}
+
+// Walks along the text until no longer match can come, but reads no character that begins at the limit or behind it.
 #[inline(always)]
 fn walk<C: Cells>(
     cells: &C,
     layout: &Layout,
     dfa: &Dfa,
     text: &str,
+    limit: usize,
     steps: &mut Steps,
-) -> Option<(usize, usize)>
-    requires { IsTableOf layout.now (C.numbers cells.now) dfa.now }
+) -> Stop
+    requires table { IsTableOf layout.now (C.numbers cells.now) dfa.now }
+    requires within { limit ≤ length text.now }
     ensures answer { (ts : List Tree) (ps : List ℕ) → Recognizes dfa.now ts ps
-        → IsLongest ts ps text.now
-        (option_map (found layout.now (C.numbers cells.now) text.now) result) }
-    ensures place { IfSome result (IsPlace layout.now (C.numbers cells.now) text.now) }
+        → result.is_settled ≡ true → IsLongest ts ps text.now
+        (option_map (found layout.now (C.numbers cells.now) text.now) result.longest) }
+    ensures settled { limit ≡ length text.now → result.is_settled ≡ true }
+    ensures place { IfSome result.longest
+        (IsPlace layout.now (C.numbers cells.now) text.now) }
     ensures never_falls { steps.old ≤ steps.new }
     ensures cost { steps.new ≤ steps.old + length (chars text.now) }
-    ensures looked { (n : ℕ) → LooksAtMost dfa.now n → IfSome result (λ m.
+    ensures looked { (n : ℕ) → LooksAtMost dfa.now n → IfSome result.longest (λ m.
         steps.new ≤ steps.old + length (chars (take m.1 text.now)) + n + 1) }
+    ensures limit { steps.new ≤ steps.old + limit }
+    ensures past { PaysPast text.now result.at steps.old steps.new result.longest }
 {
     // There is a state, so START is one.
     let _states = dfa.states();
     let mut state = layout.rows[0] as usize;
     let mut longest = None;
     let mut at = 0;
-    'walk: while at < text.len() {
+    'walk: while at < limit {
         let class = read_class(layout, text, &mut at);
         steps.tick();
         state = cells.at(state + class as usize);
         if state < layout.live {
-            return longest;
+            return Stop {
+                longest,
+                at,
+                is_settled: true,
+            };
         }
         if state >= layout.accept {
             longest = Some((state, at));
         }
     }
-    longest
+    Stop {
+        longest,
+        at,
+        is_settled: at >= text.len(),
+    }
 }
 
 /// The longest match at the start of the text, by the table of the automaton. A step is counted for each cell read.
@@ -104,11 +129,61 @@ pub(crate) fn longest_by<'text, C: Cells>(
     ensures looked { (n : ℕ) → LooksAtMost dfa.now n → IfSome result (λ m.
         steps.new ≤ steps.old + length (chars m.1.now) + n + 1) }
 {
-    match walk(cells, layout, dfa, text, steps) {
+    let stop = walk(cells, layout, dfa, text, text.len(), steps);
+    match stop.longest {
         Some((row, end)) => {
             let pattern = cells.at(row + layout.width);
             Some((NfaIndex::new(pattern), &text[..end]))
         }
         None => None,
+    }
+}
+
+/// The longest match at the start of a text.
+#[derive(Clone, Copy, Debug)]
+pub struct Settled<'text> {
+    /// The match, if there is one.
+    pub longest: Option<(NfaIndex, &'text str)>,
+    /// How many bytes behind it were read to see that no longer one comes.
+    pub past: usize,
+}
+
+/// The longest match at the start of the text, by the table of the automaton. `None` if it isn't settled by the characters
+/// that begin within so many bytes. A step is counted for each cell read.
+#[inline(always)]
+pub(crate) fn longest_within_by<'text, C: Cells>(
+    cells: &C,
+    layout: &Layout,
+    dfa: &Dfa,
+    text: &'text str,
+    limit: usize,
+    steps: &mut Steps,
+) -> Option<Settled<'text>>
+    requires { IsTableOf layout.now (C.numbers cells.now) dfa.now }
+    ensures answer { (ts : List Tree) (ps : List ℕ) → Recognizes dfa.now ts ps
+        → IfSome result (λ s.
+        IsLongest ts ps text.now (option_map (λ m. (m.0, m.1.now)) s.longest)) }
+    ensures prefix { IfSome result (λ s. IfSome s.longest (λ m.
+        IsPrefix m.1.now text.now × (m.1.now ≢ []))) }
+    ensures limit { steps.new ≤ steps.old + limit }
+    ensures past { IfSome result (λ s. MatchOption s.longest (steps.new ≤ steps.old + s.past)
+        (λ m. steps.new ≤ steps.old + length (chars m.1.now) + s.past)) }
+{
+    let stop = walk(cells, layout, dfa, text, limit.min(text.len()), steps);
+    if !stop.is_settled {
+        return None;
+    }
+    match stop.longest {
+        Some((row, end)) => {
+            let pattern = cells.at(row + layout.width);
+            Some(Settled {
+                longest: Some((NfaIndex::new(pattern), &text[..end])),
+                past: stop.at - end,
+            })
+        }
+        None => Some(Settled {
+            longest: None,
+            past: stop.at,
+        }),
     }
 }

@@ -18,17 +18,17 @@ use Rattle.lalrpop_lexer.proofs.Cuttings.{left_on, left_over, some_char}
 use Rattle.lalrpop_lexer.proofs.LexerCuttings.{tokens_from_start}
 
 -- ---- one call
-pub linear_token : (s t : Cutting) (m : List ℕ) (before after unseen unseen2 : ℕ) → IsUtf8 (rest_of s) → s.is_over ≡ false → IsPrefix m (rest_of s) → m ≢ []
-    → t ≡ record s { at = s.at + length m } → after + 64 * unseen2 ≤ before + length (chars m) + 64 * unseen + 64
-    → after + 65 * left_of t + 64 * unseen2 ≤ before + 65 * left_of s + 64 * unseen
-linear_token s t m before after unseen unseen2 u on b some e more =
-    let pays : after + 64 * unseen2 + (63 + 2) * left_of t ≤ before + 64 * unseen + (63 + 2) * left_of s =
-    token_pays s t m (before + 64 * unseen) (after + 64 * unseen2) 63 u on b some e (omega arith) in
+pub linear_token : (s t : Cutting) (m : List ℕ) (before after spare spare2 : ℕ) → IsUtf8 (rest_of s) → s.is_over ≡ false → IsPrefix m (rest_of s) → m ≢ []
+    → t ≡ record s { at = s.at + length m } → after + spare2 ≤ before + length (chars m) + spare + 64
+    → after + 65 * left_of t + spare2 ≤ before + 65 * left_of s + spare
+linear_token s t m before after spare spare2 u on b some e more =
+    let pays : after + spare2 + (63 + 2) * left_of t ≤ before + spare + (63 + 2) * left_of s =
+    token_pays s t m (before + spare) (after + spare2) 63 u on b some e (omega arith) in
     omega (arith, pays)
 
-pub linear_fault : (s t : Cutting) (before after unseen unseen2 : ℕ) → IsUtf8 (rest_of s) → s.is_over ≡ false → rest_of s ≢ [] → t ≡ record s { is_over = true }
-    → after + 64 * unseen2 ≤ before + 64 * unseen + 64 → after + 65 * left_of t + 64 * unseen2 ≤ before + 65 * left_of s + 64 * unseen
-linear_fault s t before after unseen unseen2 u on some e more =
+pub linear_fault : (s t : Cutting) (before after spare spare2 : ℕ) → IsUtf8 (rest_of s) → s.is_over ≡ false → rest_of s ≢ [] → t ≡ record s { is_over = true }
+    → after + spare2 ≤ before + spare + 64 → after + 65 * left_of t + spare2 ≤ before + 65 * left_of s + spare
+linear_fault s t before after spare spare2 u on some e more =
     let none : left_of t ≡ 0 = left_over t (ap (λ (x : Cutting). x.is_over) e) in
     let all : left_of s ≡ length (chars (rest_of s)) = left_on s on in
     omega (arith, none, all, some_char (rest_of s) u some)
@@ -43,8 +43,8 @@ linear_paid s t [] y = let same : with_credit s ≡ with_credit t = ap (λ (x : 
 linear_paid s t (x ∷ xs) (j, g, y) = omega (arith, g.1, linear_paid j t xs y)
 
 -- ---- from the start
-pub linear_cost : (s : LinearCutting) (d : List Row) (text : List ℕ) (most : ℕ) → s.cutting ≡ start_of d text → s.steps ≡ 0 → 64 * s.unseen ≤ most
-    → (xs : List (Result Token TokenFault)) (t : LinearCutting) → Yields GivesLinear s xs t → t.steps ≤ 65 * length (chars text) + most
+pub linear_cost : (s : LinearCutting) (d : List Row) (text : List ℕ) (most : ℕ) → s.cutting ≡ start_of d text → s.steps ≡ 0 → s.spare ≤ length (chars text) + length text + most
+    → (xs : List (Result Token TokenFault)) (t : LinearCutting) → Yields GivesLinear s xs t → t.steps ≤ 66 * length (chars text) + length text + most
 linear_cost s d text most e none room xs t y =
     let left : left_of s.cutting ≡ length (chars text) = ap (λ (x : Cutting). left_of x) e in
     omega (arith, left, linear_paid s t xs y)

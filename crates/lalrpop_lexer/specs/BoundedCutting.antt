@@ -28,8 +28,8 @@ GivesBounded (Looking old) x (Looking new) = GivesCounted old x new
 GivesBounded (Remembering old) x (Remembering new) = GivesLinear old x new
 GivesBounded _ x _ = ⊥
 
--- no more characters are read than this: n + 2 for each of the text, where at most n characters after a match leave it open; and 65 where
--- nothing limits them, and for each open state one for each byte and 64 in all
+-- no more characters are read than this: n + 2 for each of the text, where at most n characters after a match leave it open; where
+-- nothing limits them, 66 for each and one for each byte, and for each open state one for each byte and 64 in all
 abbrev pub most_steps : List Row → List ℕ → Option ℕ → ℕ
 most_steps d text (Some n) = (n + 2) * length (chars text)
-most_steps d text None = 65 * length (chars text) + open_states d * (length text + 64)
+most_steps d text None = 66 * length (chars text) + length text + open_states d * (length text + 64)

@@ -6,16 +6,16 @@ use Rattle.lalrpop_lexer.specs.LexerTokens.{GivesToken}
 use Rattle.lalrpop_book.specs.declared.token.Token.{Token}
 use Rattle.lalrpop_book.specs.declared.token.TokenFault.{TokenFault}
 
--- a text that is being cut; how many pairs of an open state and a place no run has passed yet; and how many characters were read so
--- far, each counted as often as it was read
+-- a text that is being cut; how many characters may still be read besides those of the tokens and 64 for each call; and how many were
+-- read so far, each counted as often as it was read
 pub record LinearCutting : Type 0 where
   pub cutting : Cutting
-  pub unseen : ℕ
+  pub spare : ℕ
   pub steps : ℕ
 
--- what is left pays: 65 steps for each character that is not cut off yet, 64 for each pair that is not passed yet
+-- what is left pays: 65 steps for each character that is not cut off yet, and those to spare
 abbrev pub with_credit : LinearCutting → ℕ
-with_credit s = s.steps + 65 * left_of s.cutting + 64 * s.unseen
+with_credit s = s.steps + 65 * left_of s.cutting + s.spare
 
 -- what one call gives: what `tokens` gives; what was left pays for the characters that it reads; and where it gives nothing it reads
 -- nothing

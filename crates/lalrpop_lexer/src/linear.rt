@@ -8,9 +8,9 @@ use lalrpop_ranges::Steps;
 use std::iter::FusedIterator;
 use std::marker::Model;
 
-/// Cuts a text into the tokens of `LexerTokens`. It remembers which states were passed at which places of the text, so that no run goes
-/// where one before it has gone in vain. It counts a step for each character that is read, as often as it is read; steps are for
-/// contracts alone.
+/// Cuts a text into the tokens of `LexerTokens`, by the same table as long as it reads little in vain. Then it remembers which states
+/// were passed at which places of the text, so that no run goes where one before it has gone in vain. It counts a step for each
+/// character that is read, as often as it is read; steps are for contracts alone.
 #[derive(Drop)]
 pub struct LinearTokens<'text> {
     matches: LinearMatches<'text>,
@@ -31,7 +31,7 @@ impl<'text> Model for LinearTokens<'text> {
             at = t.matches.at;
             is_over = t.is_over;
           };
-          unseen = t.matches.unseen;
+          spare = t.matches.spare;
           steps = t.steps;
         } };
 }
@@ -51,7 +51,7 @@ impl<'text> LinearTokens<'text> {
                 at = matches.entry.at;
                 is_over = false;
               };
-              unseen = matches.entry.unseen;
+              spare = matches.entry.spare;
               steps = 0;
             } }
     {

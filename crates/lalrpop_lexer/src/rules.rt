@@ -193,12 +193,12 @@ impl Lexer {
         CountedTokens::new(self.tokens(text))
     }
 
-    /// The tokens of `tokens`, in time linear in the text whatever the patterns are: a whole text costs at most 65 steps a character, and
-    /// for each open state of the automaton, one that neither accepts a pattern nor rejects, a step a byte and 64 in all.
-    /// A step is counted for each character that is read, as often as it is read.
+    /// The tokens of `tokens`, in time linear in the text whatever the patterns are: a whole text costs at most 66 steps a character and
+    /// one a byte, and for each open state of the automaton, one that neither accepts a pattern nor rejects, a step a byte and 64 in
+    /// all. A step is counted for each character that is read, as often as it is read.
     ///
-    /// Where `lookahead` is a small number `tokens` costs less. The memory is taken here: a byte for each open state
-    /// and each 64 bytes of the text.
+    /// Where no more than 16 bytes are read past each token, the table of `tokens` cuts the whole text. The memory is taken here: a byte
+    /// for each open state and each 64 bytes of the text.
     ///
     /// # Errors
     ///
@@ -216,7 +216,7 @@ impl Lexer {
         ensures cost { IfOk result (λ s.
             (xs : List (Result TokenValue FaultValue)) (t : LinearCutting)
             → Yields GivesLinear s xs t
-            → t.steps ≤ 65 * length (chars text.now)
+            → t.steps ≤ 66 * length (chars text.now) + length text.now
             + open_states self.now.automaton * (length text.now + 64)) }
     {
         let matches = self.matches_linear(alloc, text)?;
@@ -238,14 +238,14 @@ impl Lexer {
           automaton = self.now.automaton;
           text = text.now;
           at = 0;
-          unseen = s.unseen;
+          spare = s.spare;
         }) }
         ensures built { IfOk result (λ s.
             IsBuiltFrom self.now.trees self.now.precedences s.automaton) }
-        ensures unseen { IfOk result (λ s. 64 * s.unseen
-            ≤ open_states self.now.automaton * (length text.now + 64)) }
+        ensures spare { IfOk result (λ s. s.spare ≤ length (chars text.now) + length text.now
+            + open_states self.now.automaton * (length text.now + 64)) }
     {
-        LinearMatches::new(alloc, self.dense.dfa(), text)
+        LinearMatches::new(alloc, &self.dense, text)
     }
 
     /// The tokens of `tokens`, in whichever way has a bound on its cost: by `tokens` if `lookahead` is a number, and else by

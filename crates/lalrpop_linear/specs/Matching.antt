@@ -6,13 +6,13 @@ use Rattle.lalrpop_table.specs.Dfa.{Row}
 use Rattle.lalrpop_table.specs.declared.Kind.{Kind}
 use Rattle.lalrpop_table.specs.declared.Kind.TheVariants.{Accepts, Reject, Neither}
 
--- a text in which an automaton finds matches: where its rest begins, in bytes, and how many pairs of an open state and a place no run
--- has passed yet
+-- a text in which an automaton finds matches: where its rest begins, in bytes, and how many characters may still be read besides those
+-- of the matches and 64 for each call
 pub record Matching : Type 0 where
   pub automaton : List Row
   pub text : List ℕ
   pub at : ℕ
-  pub unseen : ℕ
+  pub spare : ℕ
 
 -- the rest of the text
 abbrev pub rest_of : Matching → List ℕ

@@ -15,29 +15,41 @@ use crate::memo::Memo;
 use lalrpop_ranges::Steps;
 use lalrpop_table::{Dfa, Kind, NfaIndex, START};
 
+/// What a run finds.
+#[derive(Clone, Copy)]
+pub(crate) struct Found<'text> {
+    /// The longest match, if there is one.
+    pub(crate) longest: Option<(NfaIndex, &'text str)>,
+    /// How many characters of the longer text stand in front of what the match leaves.
+    pub(crate) end: usize,
+    /// How many characters behind the match were read.
+    pub(crate) past: usize,
+}
+
 /// The longest nonempty prefix of the text that some pattern matches, with the strongest pattern that matches it. The text
-/// is what is left of a longer one behind `start` characters, of which the memo knows; the number of those in front of what the match
-/// leaves is given too. A step is counted for each character read.
+/// is what is left of a longer one behind `start` characters, of which the memo knows. A step is counted for each character read.
 pub(crate) fn longest_remembering<'text>(
     dfa: &Dfa,
     memo: &mut Memo,
     start: usize,
     text: &'text str,
     steps: &mut Steps,
-) -> (Option<(NfaIndex, &'text str)>, usize)
+) -> Found<'text>
     requires fits { IsFor dfa.now memo.old }
     requires places { start + length (chars text.now) < 64 * memo.old.places }
     requires index { start + length (chars text.now) ≤ usize.MAX }
     requires sound { IsSound dfa.now memo.old start (chars text.now) }
     ensures answer { (ts : List Tree) (ps : List ℕ) → Recognizes dfa.now ts ps
-        → IsLongest ts ps text.now (option_map (λ m. (m.0, m.1.now)) result.0) }
-    ensures prefix { IfSome result.0 (λ m. IsPrefix m.1.now text.now × (m.1.now ≢ [])) }
-    ensures end { result.1 ≡ start + characters_of (option_map (λ m. m.1.now) result.0) }
+        → IsLongest ts ps text.now (option_map (λ m. (m.0, m.1.now)) result.longest) }
+    ensures prefix { IfSome result.longest (λ m. IsPrefix m.1.now text.now × (m.1.now ≢ [])) }
+    ensures end { result.end ≡ start + characters_of (option_map (λ m. m.1.now) result.longest) }
     ensures same { memo.new ≡ record memo.old { marks = memo.new.marks } }
-    ensures sound { (k : ℕ) → result.1 ≡ start + k
-        → IsSound dfa.now memo.new result.1 (drop k (chars text.now)) }
+    ensures sound { (k : ℕ) → result.end ≡ start + k
+        → IsSound dfa.now memo.new result.end (drop k (chars text.now)) }
     ensures paid { steps.new + start + 64 * room memo.new
-        ≤ steps.old + result.1 + 64 * room memo.old + 64 }
+        ≤ steps.old + result.end + 64 * room memo.old + 64 }
+    ensures fewer { room memo.new ≤ room memo.old }
+    ensures read { steps.new + start ≤ steps.old + result.end + result.past }
 {
     // There is a state, so START is one.
     let _states = dfa.states();
@@ -62,5 +74,9 @@ pub(crate) fn longest_remembering<'text>(
             }
         }
     }
-    (longest, end)
+    Found {
+        longest,
+        end,
+        past: index - end,
+    }
 }

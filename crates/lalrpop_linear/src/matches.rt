@@ -1,49 +1,72 @@
 //! The longest matches of a text, one behind another.
 
-ghost use Rattle.std.specs.Prelude.{◌≡◌};
+ghost use Rattle.std.specs.Prelude.{◌≡◌, ◌+◌, length};
+ghost use Rattle.std.specs.Str.{chars};
 
 use crate::longest::longest_remembering;
 use crate::memo::{Memo, STRIDE};
+use lalrpop_dense::DenseDfa;
 use lalrpop_ranges::Steps;
-use lalrpop_table::{Dfa, NfaIndex};
+use lalrpop_table::NfaIndex;
 use std::alloc::{AllocError, Global};
 use std::marker::Model;
 
-/// Finds the longest matches of a text, each in what the one before it leaves. It remembers which states the runs before have gone
-/// on from, at every 64th character.
+// How many bytes a call may read past its match, so that the credit of the table doesn't fall.
+const ALLOWED: usize = 16;
+
+/// Finds the longest matches of a text, each in what the one before it leaves.
+///
+/// A table finds them as long as it has read little in vain. Where it reads much, runs remember which states those before have
+/// gone on from, at every 64th character, and go on from none of them again.
 #[derive(Debug, Drop)]
 pub struct LinearMatches<'text> {
-    dfa: &'text Dfa,
+    dense: &'text DenseDfa,
     text: &'text str,
-    // Where the rest begins, in bytes and in characters.
+    // Where the rest begins, in bytes.
     at: usize,
-    index: usize,
+    // How many bytes the table may still read in vain.
+    credit: usize,
     memo: Memo,
+    // The memo is for what is left behind this place, in bytes and in characters.
+    counted: usize,
+    index: usize,
+}
+
+// How many characters the text has. A step is counted for each.
+fn count_chars(text: &str, steps: &mut Steps) -> usize
+    ensures count { result ≡ length (chars text.now) }
+    ensures steps { steps.new ≡ steps.old + length (chars text.now) }
+{
+    let mut count = 0;
+    for _ in text.chars() {
+        steps.tick();
+        count += 1;
+    }
+    count
 }
 
 impl<'text> Model for LinearMatches<'text> {
     ghost use Rattle.lalrpop_linear.specs.Matching.{Matching};
-    ghost use Rattle.lalrpop_linear.specs.Internal.Memory.{room};
-    ghost use Rattle.lalrpop_linear.specs.Internal.Standing.{IsStanding};
+    ghost use Rattle.lalrpop_linear.specs.Internal.Standing.{IsReached, spare_of};
 
     ghost Value = { Matching };
 
     ghost view = { λ s.
         record {
-          automaton = s.dfa.now;
+          automaton = s.dense.now;
           text = s.text.now;
           at = s.at;
-          unseen = room s.memo;
+          spare = spare_of s.text.now s.credit s.counted s.memo;
         } };
 
-    ghost invariant = { λ s. IsStanding s.dfa.now s.text.now s.at s.index s.memo };
+    ghost invariant = { λ s.
+        IsReached s.dense.now s.text.now s.at s.counted s.index s.memo };
 }
 
 impl<'text> LinearMatches<'text> {
-    ghost use Rattle.std.specs.Prelude.{◌≢◌, ℕ, ◌+◌, ◌*◌, ◌≤◌, ◌++◌, [], length, List, IfOk, IfNone, IfSome};
+    ghost use Rattle.std.specs.Prelude.{◌≢◌, ℕ, ◌*◌, ◌≤◌, ◌++◌, [], List, IfOk, IfNone, IfSome};
     ghost use Rattle.std.specs.Option.{option_map};
     ghost use Rattle.std.specs.Char.{encode_utf8};
-    ghost use Rattle.std.specs.Str.{chars};
     ghost use Rattle.lalrpop_book.specs.Tree.{Tree};
     ghost use Rattle.lalrpop_book.specs.Prefix.{IsPrefix};
     ghost use Rattle.lalrpop_book.specs.Longest.{IsLongest};
@@ -57,21 +80,23 @@ impl<'text> LinearMatches<'text> {
     /// `AllocError` if a request for memory was refused.
     pub fn new(
         alloc: Global,
-        dfa: &'text Dfa,
+        dense: &'text DenseDfa,
         text: &'text str,
     ) -> Result<LinearMatches<'text>, AllocError>
         ensures start { IfOk result (λ s.
-            s ≡ record { automaton = dfa.now; text = text.now; at = 0; unseen = s.unseen }) }
-        ensures unseen { IfOk result (λ s.
-            64 * s.unseen ≤ open_states dfa.now * (length text.now + 64)) }
+            s ≡ record { automaton = dense.now; text = text.now; at = 0; spare = s.spare }) }
+        ensures spare { IfOk result (λ s. s.spare ≤ length (chars text.now) + length text.now
+            + open_states dense.now * (length text.now + 64)) }
     {
-        let memo = Memo::new(alloc, dfa, text.len() / STRIDE + 1)?;
+        let memo = Memo::new(alloc, dense.dfa(), text.len() / STRIDE + 1)?;
         Ok(LinearMatches {
-            dfa,
+            dense,
             text,
             at: 0,
-            index: 0,
+            credit: text.len(),
             memo,
+            counted: 0,
+            index: 0,
         })
     }
 
@@ -91,26 +116,64 @@ impl<'text> LinearMatches<'text> {
 
     /// The longest nonempty prefix of the rest that some pattern matches, with the strongest pattern that matches it; from then on the
     /// rest begins behind it. `None` where no pattern matches any; then the rest stays. A step is counted for each character read.
+    #[inline(always)]
     pub fn next_match(&mut self, steps: &mut Steps) -> Option<(NfaIndex, &'text str)>
         ensures answer { (ts : List Tree) (ps : List ℕ) → Recognizes self.old.automaton ts ps
             → IsLongest ts ps (rest_of self.old) (option_map (λ m. (m.0, m.1.now)) result) }
         ensures prefix { IfSome result (λ m.
             IsPrefix m.1.now (rest_of self.old) × (m.1.now ≢ [])) }
         ensures goes_on { IfSome result (λ m. self.new
-            ≡ record self.old { at = self.old.at + length m.1.now; unseen = self.new.unseen }) }
+            ≡ record self.old { at = self.old.at + length m.1.now; spare = self.new.spare }) }
         ensures stays { IfNone result
-            (self.new ≡ record self.old { unseen = self.new.unseen }) }
-        ensures paid { steps.new + 64 * self.new.unseen
+            (self.new ≡ record self.old { spare = self.new.spare }) }
+        ensures paid { steps.new + self.new.spare
             ≤ steps.old + characters_of (option_map (λ m. m.1.now) result)
-            + 64 * self.old.unseen + 64 }
+            + self.old.spare + 64 }
     {
         let rest = self.rest();
-        let (found, end) = longest_remembering(self.dfa, &mut self.memo, self.index, rest, steps);
-        self.index = end;
-        if let Some((_, slice)) = found {
+        let Some(settled) = self.dense.longest_within(rest, self.credit, steps) else {
+            self.credit = 0;
+            return self.next_remembered(steps);
+        };
+        self.credit = self
+            .credit
+            .saturating_sub(settled.past)
+            .saturating_add(ALLOWED);
+        if let Some((_, slice)) = settled.longest {
             self.at += slice.len();
         }
-        found
+        settled.longest
+    }
+
+    // What `next_match` gives, by a run that remembers.
+    #[cold]
+    #[inline(never)]
+    fn next_remembered(&mut self, steps: &mut Steps) -> Option<(NfaIndex, &'text str)>
+        ensures answer { (ts : List Tree) (ps : List ℕ) → Recognizes self.old.automaton ts ps
+            → IsLongest ts ps (rest_of self.old) (option_map (λ m. (m.0, m.1.now)) result) }
+        ensures prefix { IfSome result (λ m.
+            IsPrefix m.1.now (rest_of self.old) × (m.1.now ≢ [])) }
+        ensures goes_on { IfSome result (λ m. self.new
+            ≡ record self.old { at = self.old.at + length m.1.now; spare = self.new.spare }) }
+        ensures stays { IfNone result
+            (self.new ≡ record self.old { spare = self.new.spare }) }
+        ensures paid { steps.new + self.new.spare
+            ≤ steps.old + characters_of (option_map (λ m. m.1.now) result)
+            + self.old.spare + 64 }
+    {
+        let rest = self.rest();
+        let start = self.index + count_chars(&self.text[self.counted..self.at], steps);
+        let found = longest_remembering(self.dense.dfa(), &mut self.memo, start, rest, steps);
+        self.credit = self
+            .credit
+            .saturating_add(ALLOWED.saturating_sub(found.past));
+        self.counted = self.at;
+        self.index = found.end;
+        if let Some((_, matched)) = found.longest {
+            self.at += matched.len();
+            self.counted = self.at;
+        }
+        found.longest
     }
 
     /// Passes over the first character of the rest: from then on the rest begins behind it. `None` at the end of the text.
@@ -126,7 +189,6 @@ impl<'text> LinearMatches<'text> {
         match self.rest().chars().next() {
             Some(first) => {
                 self.at += first.len_utf8();
-                self.index += 1;
                 Some(first)
             }
             None => None,

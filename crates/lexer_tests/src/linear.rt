@@ -69,6 +69,12 @@ fn tokens_in_linear_time(rt: HostRuntime) {
         "[300, 0, 0, 0] no pattern matches at byte 300",
     );
     expect(&rt, of(alloc, "'a' a*b", "", 0, ""), "[0, 0, 0, 0] ");
+    // Much is read in vain at first, and nothing behind that.
+    expect(
+        &rt,
+        of(alloc, "'a' a*b c", "a", 300, "ccccc"),
+        "[300, 0, 5, 0] ",
+    );
     // A character of two bytes, and one of four.
     expect(&rt, of(alloc, "é é*😀", "é", 200, ""), "[200, 0, 0, 0] ");
     expect(&rt, of(alloc, "é é*😀", "é", 200, "😀"), "[0, 1, 0, 0] ");

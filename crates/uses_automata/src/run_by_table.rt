@@ -1,6 +1,6 @@
 //! An automaton with a table beside it, run over a text.
 
-ghost use Rattle.std.specs.Prelude.{◌≡◌, ◌≢◌, ℕ, ◌+◌, ◌<◌, ◌≤◌, [], length, List, None, IfOk, IfNone, IfSome};
+ghost use Rattle.std.specs.Prelude.{◌≡◌, ◌≢◌, ℕ, ◌+◌, ◌<◌, ◌≤◌, [], length, List, None, IfOk, IfNone, IfSome, MatchOption};
 ghost use Rattle.std.specs.Option.{option_map};
 ghost use Rattle.std.specs.Str.{chars};
 ghost use Rattle.lalrpop_book.specs.Tree.{Tree};
@@ -70,6 +70,39 @@ pub fn counted_by_table<'text>(
 {
     let _ = dense.longest_counted(first, steps);
     dense.longest_counted(second, steps)
+}
+
+// Needs lalrpop_dense::DenseDfa::longest_within: answer, prefix.
+/// The longest match of the text: it is settled by its first thousand bytes, or all of it is read.
+pub fn longest_in_two_runs<'text>(
+    dense: &DenseDfa,
+    text: &'text str,
+) -> Option<(NfaIndex, &'text str)>
+    ensures answer { (ts : List Tree) (ps : List ℕ) → Recognizes dense.now ts ps
+        → IsLongest ts ps text.now (option_map (λ m. (m.0, m.1.now)) result) }
+    ensures prefix { IfSome result (λ m. IsPrefix m.1.now text.now × (m.1.now ≢ [])) }
+{
+    match dense.longest_within(text, 1000, &mut Steps::new()) {
+        Some(settled) => settled.longest,
+        None => dense.longest(text),
+    }
+}
+
+// Needs lalrpop_dense::DenseDfa::longest_within: limit, past.
+/// Whether a match, or none, is settled by the first thousand bytes, and how many were read past it.
+pub fn read_past<'text>(
+    dense: &DenseDfa,
+    text: &'text str,
+    steps: &mut Steps,
+) -> Option<(Option<(NfaIndex, &'text str)>, usize)>
+    ensures limit { steps.new ≤ steps.old + 1000 }
+    ensures past { IfSome result (λ found. MatchOption found.0 (steps.new ≤ steps.old + found.1)
+        (λ m. steps.new ≤ steps.old + length (chars m.1.now) + found.1)) }
+{
+    match dense.longest_within(text, 1000, steps) {
+        Some(settled) => Some((settled.longest, settled.past)),
+        None => None,
+    }
 }
 
 // Needs lalrpop_dense::DenseDfa::cut_block: tokens, goes, same, none.

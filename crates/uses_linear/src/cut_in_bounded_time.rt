@@ -2,6 +2,7 @@
 
 ghost use Rattle.std.specs.Prelude.{◌≡◌, ℕ, ◌+◌, ◌*◌, ◌≤◌, ◌⊎◌, [], length, true, Option, IfOk};
 ghost use Rattle.std.specs.Option.{option_map};
+ghost use Rattle.std.specs.Str.{chars};
 ghost use Rattle.lalrpop_book.specs.Longest.{IsLongest};
 ghost use Rattle.lalrpop_linear.specs.Matching.{characters_of, open_states};
 ghost use Rattle.lalrpop_table.specs.Lookahead.{IsLookahead};
@@ -69,7 +70,7 @@ pub fn is_no_text(alloc: Global, lexer: &Lexer, text: &str) -> Result<bool, Allo
     Ok(items.next().is_none())
 }
 
-// Needs lalrpop_lexer::Lexer::matches_linear: start, built, unseen.
+// Needs lalrpop_lexer::Lexer::matches_linear: start, built, spare.
 /// The first match of the text, and what it costs.
 ///
 /// # Errors
@@ -86,6 +87,7 @@ pub fn find_first<'text>(
         (option_map (λ m. (m.0, m.1.now)) found)) }
     ensures cost { IfOk result (λ found. steps.new
         ≤ steps.old + characters_of (option_map (λ m. m.1.now) found)
+        + length (chars text.now) + length text.now
         + open_states lexer.now.automaton * (length text.now + 64) + 64) }
 {
     let mut matches = lexer.matches_linear(alloc, text)?;

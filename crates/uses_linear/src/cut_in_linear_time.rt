@@ -21,7 +21,7 @@ pub fn cut_to_the_end<'text>(
     text: &'text str,
 ) -> Result<LinearTokens<'text>, AllocError>
     ensures all { IfOk result (λ s. (s.cutting.is_over ≡ true) ⊎ (rest_of s.cutting ≡ [])) }
-    ensures cost { IfOk result (λ s. s.steps ≤ 65 * length (chars text.now)
+    ensures cost { IfOk result (λ s. s.steps ≤ 66 * length (chars text.now) + length text.now
         + open_states lexer.now.automaton * (length text.now + 64)) }
 {
     let mut items = lexer.tokens_linear(alloc, text)?;

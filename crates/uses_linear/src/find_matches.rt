@@ -10,9 +10,10 @@ ghost use Rattle.lalrpop_book.specs.Tree.{Tree};
 ghost use Rattle.lalrpop_linear.specs.Matching.{characters_of, open_states, rest_of};
 ghost use Rattle.lalrpop_table.specs.Dfa.{Recognizes};
 
+use lalrpop_dense::DenseDfa;
 use lalrpop_linear::LinearMatches;
 use lalrpop_ranges::Steps;
-use lalrpop_table::{Dfa, NfaIndex};
+use lalrpop_table::NfaIndex;
 use std::alloc::{AllocError, Global};
 
 // Needs lalrpop_linear::LinearMatches::new: start.
@@ -24,12 +25,12 @@ use std::alloc::{AllocError, Global};
 /// `AllocError` if a request for memory was refused.
 pub fn rest_at_first<'text>(
     alloc: Global,
-    dfa: &'text Dfa,
+    dense: &'text DenseDfa,
     text: &'text str,
 ) -> Result<&'text str, AllocError>
     ensures { IfOk result (λ rest. rest.now ≡ text.now) }
 {
-    let matches = LinearMatches::new(alloc, dfa, text)?;
+    let matches = LinearMatches::new(alloc, dense, text)?;
     Ok(matches.rest())
 }
 
@@ -72,7 +73,7 @@ pub fn is_at_the_end(matches: &mut LinearMatches) -> bool
     matches.pass_char().is_none()
 }
 
-// Needs lalrpop_linear::LinearMatches::new: unseen.
+// Needs lalrpop_linear::LinearMatches::new: spare.
 // Needs lalrpop_linear::LinearMatches::next_match: paid.
 /// The first match of the text, and what it costs.
 ///
@@ -81,14 +82,15 @@ pub fn is_at_the_end(matches: &mut LinearMatches) -> bool
 /// `AllocError` if a request for memory was refused.
 pub fn find_first<'text>(
     alloc: Global,
-    dfa: &'text Dfa,
+    dense: &'text DenseDfa,
     text: &'text str,
     steps: &mut Steps,
 ) -> Result<Option<(NfaIndex, &'text str)>, AllocError>
     ensures cost { IfOk result (λ found. steps.new
         ≤ steps.old + characters_of (option_map (λ m. m.1.now) found)
-        + open_states dfa.now * (length text.now + 64) + 64) }
+        + length (chars text.now) + length text.now
+        + open_states dense.now * (length text.now + 64) + 64) }
 {
-    let mut matches = LinearMatches::new(alloc, dfa, text)?;
+    let mut matches = LinearMatches::new(alloc, dense, text)?;
     Ok(matches.next_match(steps))
 }

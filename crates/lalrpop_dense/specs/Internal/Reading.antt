@@ -1,7 +1,7 @@
 -- What the run of a table reads and finds.
-use Rattle.std.specs.Prelude.{◌≡◌, ◌≢◌, ℕ, ◌+◌, ◌<◌, ◌++◌, List, [], length, take, drop, slice_index}
+use Rattle.std.specs.Prelude.{◌≡◌, ◌≢◌, ℕ, ◌+◌, ◌<◌, ◌≤◌, ◌++◌, List, [], length, take, drop, slice_index, Option, Some, None}
 use Rattle.std.specs.Char.{encode_utf8}
-use Rattle.std.specs.Str.{IsCharBoundary}
+use Rattle.std.specs.Str.{IsCharBoundary, chars}
 use Rattle.lalrpop_book.specs.Prefix.{IsPrefix}
 use Rattle.lalrpop_dense.specs.declared.table.Layout.{Layout}
 
@@ -21,3 +21,8 @@ pub record IsPlace (t : Layout) (cells text : List ℕ) (m : ℕ × ℕ) : Type 
   pub boundary : IsCharBoundary text m.1
   pub prefix : IsPrefix (take m.1 text) text
   pub some : take m.1 text ≢ []
+
+-- the text was read up to `at`: the characters of the match pay for steps, and the bytes behind it
+abbrev pub PaysPast : List ℕ → ℕ → ℕ → ℕ → Option (ℕ × ℕ) → Type 0
+PaysPast text at before after None = after ≤ before + at
+PaysPast text at before after (Some m) = (m.1 ≤ at) × (after + m.1 ≤ before + length (chars (take m.1 text)) + at)

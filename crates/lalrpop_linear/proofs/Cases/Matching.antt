@@ -17,7 +17,7 @@ no_state_is_open : open_states [] ≡ 0
 no_state_is_open = refl
 
 -- `b` is left of `ab`
-behind_a_byte : rest_of (record { automaton = []; text = 97 ∷ 98 ∷ []; at = 1; unseen = 5 }) ≡ 98 ∷ []
+behind_a_byte : rest_of (record { automaton = []; text = 97 ∷ 98 ∷ []; at = 1; spare = 5 }) ≡ 98 ∷ []
 behind_a_byte = refl
 
 no_match_has_none : characters_of None ≡ 0

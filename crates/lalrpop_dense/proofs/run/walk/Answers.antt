@@ -1,19 +1,23 @@
 use Rattle.std.proofs.Common.{◌≡◌, ◌<◌, [], length, take, ap, arith}
 use Rattle.std.specs.Option.{option_map}
 use Rattle.std.specs.Str.{chars}
+use Rattle.std.proofs.lemmas.Bool.{leb-true}
 use Rattle.std.proofs.lemmas.Str.{chars-nil}
 use Rattle.lalrpop_table.proofs.LongestLemmas.{longest_start}
 use Rattle.lalrpop_dense.specs.Internal.Reading.{found}
-use Rattle.lalrpop_dense.proofs.Walks.{walked_start, walked_more, in_row, walked_on, walked_boundary, walk_accepts, walk_place, walk_passes, walk_rejects, walk_ends, walk_counts, walk_count, walk_trail, walk_trails}
+use Rattle.lalrpop_dense.proofs.Walks.{walked_start, walked_more, in_row, walked_on, walked_boundary, walk_accepts, walk_place, walk_passes, walk_rejects, walk_ends, walk_counts, walk_count, walk_trail, walk_trails, past_more, past_of}
 use Rattle.lalrpop_table.proofs.Trails.{trail_cost}
 use Rattle.lalrpop_dense.proofs.run.walk.Goals as goal
 
 pub walk-init : goal.walk-init
 walk-init g c = record {
-  walked = walked_start c.args.layout.now c.args.dfa.now c.args.text.now c.index.result.now c.utf8.text c.states-states.ensures.well_formed.some c.requires.rows c.index.ensures;
+  walked = walked_start c.args.layout.now c.args.dfa.now c.args.text.now c.index.result.now c.utf8.text c.states-states.ensures.well_formed.some c.requires.table.rows c.index.ensures;
   best = λ ts ps s. longest_start ts ps c.args.text.now;
   place = tt;
   cost = let none : length (chars []) ≡ 0 = ap length chars-nil in omega arith;
+  below = let none : length (chars []) ≡ 0 = ap length chars-nil in omega arith;
+  limit = let none : length (chars []) ≡ 0 = ap length chars-nil in omega arith;
+  past = let none : length (chars []) ≡ 0 = ap length chars-nil in omega arith;
   trail = tt;
 }
 
@@ -21,13 +25,13 @@ pub read_class-class-requires-clause-boundary : goal.read_class-class-requires-c
 read_class-class-requires-clause-boundary g c = walked_boundary c.args.layout.now c.args.dfa.now c.args.text.now c.walk.at c.walk.state c.utf8.text c.walk.invariant.walked
 
 pub returns-then-state-layout-clause-answer : goal.returns-then-state-layout-clause-answer
-returns-then-state-layout-clause-answer g c = λ ts ps s.
+returns-then-state-layout-clause-answer g c = λ ts ps s settled.
     let read = c.read_class-class.ensures in
     let w = c.walk.invariant.walked in
     let w2 = walked_more c.args.layout.now (g.C.Cells.numbers c.args.cells.now) c.args.dfa.now c.args.text.now c.walk.at c.read_class-class.new.at c.walk.state c.at-state.result c.read_class-class.result read.0
-    c.requires c.states-states.ensures.well_formed c.utf8.text w read.1.0 read.1.1 c.at-state.ensures in
+    c.requires.table c.states-states.ensures.well_formed c.utf8.text w read.1.0 read.1.1 c.at-state.ensures in
     walk_rejects c.args.layout.now (g.C.Cells.numbers c.args.cells.now) c.args.dfa.now c.args.text.now c.walk.at c.read_class-class.new.at c.walk.state c.at-state.result read.0 (option_map (found c.args.layout.now (g.C.Cells.numbers c.args.cells.now) c.args.text.now) c.walk.longest)
-    c.requires w w2 read.1.0 c.if-state-layout.true ts ps s (c.walk.invariant.best ts ps s)
+    c.requires.table w w2 read.1.0 c.if-state-layout.true ts ps s (c.walk.invariant.best ts ps s)
 
 pub walk-smaller-then-state-layout-2 : goal.walk-smaller-then-state-layout-2
 walk-smaller-then-state-layout-2 g c = let read = c.read_class-class.ensures in omega (arith, c.walk-test.true, walked_on c.args.text.now c.walk.at c.read_class-class.new.at read.0 read.1.0)
@@ -40,14 +44,19 @@ walk-preserved-then-state-layout-2 g c =
     let read = c.read_class-class.ensures in
     let w = c.walk.invariant.walked in
     let w2 = walked_more c.args.layout.now (g.C.Cells.numbers c.args.cells.now) c.args.dfa.now c.args.text.now c.walk.at c.read_class-class.new.at c.walk.state c.at-state.result c.read_class-class.result read.0
-    c.requires c.states-states.ensures.well_formed c.utf8.text w read.1.0 read.1.1 c.at-state.ensures in
+    c.requires.table c.states-states.ensures.well_formed c.utf8.text w read.1.0 read.1.1 c.at-state.ensures in
     let some : 0 < c.read_class-class.new.at = omega (arith, walked_on c.args.text.now c.walk.at c.read_class-class.new.at read.0 read.1.0) in
+    let more = walk_counts c.args.layout.now c.args.dfa.now c.args.text.now c.walk.at c.read_class-class.new.at c.walk.state read.0 w read.1.0 in
+    let on = walked_on c.args.text.now c.walk.at c.read_class-class.new.at read.0 read.1.0 in
     record {
       walked = w2;
-      best = walk_accepts c.args.layout.now (g.C.Cells.numbers c.args.cells.now) c.args.dfa.now c.args.text.now c.read_class-class.new.at c.at-state.result c.requires w2 some c.if-state-layout.false c.if-state-layout-2.true;
-      place = walk_place c.args.layout.now (g.C.Cells.numbers c.args.cells.now) c.args.dfa.now c.args.text.now c.read_class-class.new.at c.at-state.result c.requires c.utf8.text w2 some;
-      cost = let more = walk_counts c.args.layout.now c.args.dfa.now c.args.text.now c.walk.at c.read_class-class.new.at c.walk.state read.0 w read.1.0 in omega (arith, c.walk.invariant.cost);
-      trail = walk_trail c.args.layout.now (g.C.Cells.numbers c.args.cells.now) c.args.dfa.now c.args.text.now c.read_class-class.new.at c.at-state.result c.requires w2 c.if-state-layout.false c.if-state-layout-2.true;
+      best = walk_accepts c.args.layout.now (g.C.Cells.numbers c.args.cells.now) c.args.dfa.now c.args.text.now c.read_class-class.new.at c.at-state.result c.requires.table w2 some c.if-state-layout.false c.if-state-layout-2.true;
+      place = walk_place c.args.layout.now (g.C.Cells.numbers c.args.cells.now) c.args.dfa.now c.args.text.now c.read_class-class.new.at c.at-state.result c.requires.table c.utf8.text w2 some;
+      cost = omega (arith, c.walk.invariant.cost);
+      below = omega (arith, c.walk.invariant.below);
+      limit = omega (arith, c.walk.invariant.below, c.walk-test.true);
+      past = (omega arith, omega arith);
+      trail = walk_trail c.args.layout.now (g.C.Cells.numbers c.args.cells.now) c.args.dfa.now c.args.text.now c.read_class-class.new.at c.at-state.result c.requires.table w2 c.if-state-layout.false c.if-state-layout-2.true;
     }
 
 pub walk-preserved : goal.walk-preserved
@@ -55,42 +64,47 @@ walk-preserved g c =
     let read = c.read_class-class.ensures in
     let w = c.walk.invariant.walked in
     let w2 = walked_more c.args.layout.now (g.C.Cells.numbers c.args.cells.now) c.args.dfa.now c.args.text.now c.walk.at c.read_class-class.new.at c.walk.state c.at-state.result c.read_class-class.result read.0
-    c.requires c.states-states.ensures.well_formed c.utf8.text w read.1.0 read.1.1 c.at-state.ensures in
+    c.requires.table c.states-states.ensures.well_formed c.utf8.text w read.1.0 read.1.1 c.at-state.ensures in
+    let more = walk_counts c.args.layout.now c.args.dfa.now c.args.text.now c.walk.at c.read_class-class.new.at c.walk.state read.0 w read.1.0 in
+    let on = walked_on c.args.text.now c.walk.at c.read_class-class.new.at read.0 read.1.0 in
     record {
       walked = w2;
       best = λ ts ps s. walk_passes c.args.layout.now (g.C.Cells.numbers c.args.cells.now) c.args.dfa.now c.args.text.now c.walk.at c.read_class-class.new.at c.walk.state c.at-state.result read.0 (option_map (found c.args.layout.now (g.C.Cells.numbers c.args.cells.now) c.args.text.now) c.walk.longest)
-          c.requires w w2 read.1.0 c.if-state-layout.false c.if-state-layout-2.false ts ps s (c.walk.invariant.best ts ps s);
+          c.requires.table w w2 read.1.0 c.if-state-layout.false c.if-state-layout-2.false ts ps s (c.walk.invariant.best ts ps s);
       place = c.walk.invariant.place;
-      cost = let more = walk_counts c.args.layout.now c.args.dfa.now c.args.text.now c.walk.at c.read_class-class.new.at c.walk.state read.0 w read.1.0 in omega (arith, c.walk.invariant.cost);
-      trail = walk_trails c.args.layout.now (g.C.Cells.numbers c.args.cells.now) c.args.dfa.now c.args.text.now c.walk.at c.read_class-class.new.at c.walk.state c.at-state.result read.0 c.walk.longest c.requires w w2 read.1.0 c.if-state-layout.false c.if-state-layout-2.false c.walk.invariant.trail;
+      cost = omega (arith, c.walk.invariant.cost);
+      below = omega (arith, c.walk.invariant.below);
+      limit = omega (arith, c.walk.invariant.below, c.walk-test.true);
+      past = past_more c.args.text.now c.walk.at c.read_class-class.new.at 0 (length (chars (take c.walk.at c.args.text.now))) (length (chars (take c.read_class-class.new.at c.args.text.now))) c.walk.longest more on c.walk.invariant.past;
+      trail = walk_trails c.args.layout.now (g.C.Cells.numbers c.args.cells.now) c.args.dfa.now c.args.text.now c.walk.at c.read_class-class.new.at c.walk.state c.at-state.result read.0 c.walk.longest c.requires.table w w2 read.1.0 c.if-state-layout.false c.if-state-layout-2.false c.walk.invariant.trail;
     }
 
 pub returns-clause-answer : goal.returns-clause-answer
-returns-clause-answer g c = λ ts ps s.
-    walk_ends c.args.layout.now c.args.dfa.now c.args.text.now c.walk.at c.walk.state (option_map (found c.args.layout.now (g.C.Cells.numbers c.args.cells.now) c.args.text.now) c.walk.longest) c.walk.invariant.walked (omega (arith, c.walk-test.false)) ts ps (c.walk.invariant.best ts ps s)
+returns-clause-answer g c = λ ts ps s settled.
+    walk_ends c.args.layout.now c.args.dfa.now c.args.text.now c.walk.at c.walk.state (option_map (found c.args.layout.now (g.C.Cells.numbers c.args.cells.now) c.args.text.now) c.walk.longest) c.walk.invariant.walked (leb-true (length c.args.text.now) c.walk.at settled) ts ps (c.walk.invariant.best ts ps s)
 
 pub overflow_add-state : goal.overflow_add-state
 overflow_add-state g c =
     let read = c.read_class-class.ensures in
     omega (
       arith,
-      c.requires.short,
+      c.requires.table.short,
       in_row c.args.layout.now (g.C.Cells.numbers c.args.cells.now) c.args.dfa.now c.args.text.now c.walk.at c.read_class-class.new.at c.walk.state c.read_class-class.result read.0
-          c.requires c.walk.invariant.walked read.1.0 read.1.1,
+          c.requires.table c.walk.invariant.walked read.1.0 read.1.1,
     )
 
 pub at-state-requires : goal.at-state-requires
 at-state-requires g c =
     let read = c.read_class-class.ensures in
     in_row c.args.layout.now (g.C.Cells.numbers c.args.cells.now) c.args.dfa.now c.args.text.now c.walk.at c.read_class-class.new.at c.walk.state c.read_class-class.result read.0
-    c.requires c.walk.invariant.walked read.1.0 read.1.1
+    c.requires.table c.walk.invariant.walked read.1.0 read.1.1
 
 pub returns-then-state-layout-clause-cost : goal.returns-then-state-layout-clause-cost
 returns-then-state-layout-clause-cost g c =
     let read = c.read_class-class.ensures in
     let w = c.walk.invariant.walked in
     let w2 = walked_more c.args.layout.now (g.C.Cells.numbers c.args.cells.now) c.args.dfa.now c.args.text.now c.walk.at c.read_class-class.new.at c.walk.state c.at-state.result c.read_class-class.result read.0
-    c.requires c.states-states.ensures.well_formed c.utf8.text w read.1.0 read.1.1 c.at-state.ensures in
+    c.requires.table c.states-states.ensures.well_formed c.utf8.text w read.1.0 read.1.1 c.at-state.ensures in
     let more = walk_counts c.args.layout.now c.args.dfa.now c.args.text.now c.walk.at c.read_class-class.new.at c.walk.state read.0 w read.1.0 in
     let few = walk_count c.args.layout.now c.args.dfa.now c.args.text.now c.read_class-class.new.at c.at-state.result w2 in
     omega (arith, c.walk.invariant.cost)
@@ -107,3 +121,15 @@ returns-clause-cost g c =
 pub returns-clause-looked : goal.returns-clause-looked
 returns-clause-looked g c = λ n most.
     trail_cost (λ m. take m.1 c.args.text.now) c.args.dfa.now c.args.text.now c.walk.at n c.args.steps.now c.walk.steps c.walk.longest most (omega (arith, c.walk.invariant.cost)) c.walk.invariant.trail
+
+pub returns-then-state-layout-clause-past : goal.returns-then-state-layout-clause-past
+returns-then-state-layout-clause-past g c =
+    let read = c.read_class-class.ensures in
+    let w = c.walk.invariant.walked in
+    let more = walk_counts c.args.layout.now c.args.dfa.now c.args.text.now c.walk.at c.read_class-class.new.at c.walk.state read.0 w read.1.0 in
+    let on = walked_on c.args.text.now c.walk.at c.read_class-class.new.at read.0 read.1.0 in
+    past_of c.args.text.now c.read_class-class.new.at c.args.steps.now c.tick.new.self (length (chars (take c.read_class-class.new.at c.args.text.now))) c.walk.longest (omega (arith, c.walk.invariant.cost))
+    (past_more c.args.text.now c.walk.at c.read_class-class.new.at 0 (length (chars (take c.walk.at c.args.text.now))) (length (chars (take c.read_class-class.new.at c.args.text.now))) c.walk.longest more on c.walk.invariant.past)
+
+pub returns-clause-past : goal.returns-clause-past
+returns-clause-past g c = past_of c.args.text.now c.walk.at c.args.steps.now c.walk.steps (length (chars (take c.walk.at c.args.text.now))) c.walk.longest c.walk.invariant.cost c.walk.invariant.past

@@ -16,8 +16,8 @@ returns-in-Some-clause-gives c =
     let moved : t ≡ record s { at = s.at + length m } = ap cut c.in-Some.ensures.goes_on in
     let u : IsUtf8 (rest_of s) = subst IsUtf8 c.rest-rest.ensures.rest c.rest-rest.utf8 in
     let p = c.in-Some.ensures.prefix in
-    let pays : c.next_match.new.steps + 65 * left_of t + 64 * c.next_match.new.self.unseen ≤ c.self.inside.steps + 65 * left_of s + 64 * c.self.inside.matches.unseen =
-    linear_token s t m c.self.inside.steps c.next_match.new.steps c.self.inside.matches.unseen c.next_match.new.self.unseen u c.if-self.false p.0 p.1 moved c.in-Some.ensures.paid in
+    let pays : c.next_match.new.steps + 65 * left_of t + c.next_match.new.self.spare ≤ c.self.inside.steps + 65 * left_of s + c.self.inside.matches.spare =
+    linear_token s t m c.self.inside.steps c.next_match.new.steps c.self.inside.matches.spare c.next_match.new.self.spare u c.if-self.false p.0 p.1 moved c.in-Some.ensures.paid in
     rw (← c.self.view_is) ((c.offset-start.ensures.offset, (c.if-self.false, p.0, p.1, c.in-Some.ensures.answer, moved)), pays, tt)
 
 pub returns-in-Some-clause-goes : goal.returns-in-Some-clause-goes
@@ -42,8 +42,8 @@ returns-in-None-clause-gives c =
     let moved : t ≡ record s { is_over = true } = ap cut c.in-None.ensures.stays in
     let u : IsUtf8 (rest_of s) = subst IsUtf8 c.rest-rest.ensures.rest c.rest-rest.utf8 in
     let some : rest_of s ≢ [] = subst (λ (r : List ℕ). r ≢ []) c.rest-rest.ensures.rest (some_left c.rest-rest.result.now c.is_empty.result c.if-is_empty.false c.is_empty.ensures) in
-    let pays : c.next_match.new.steps + 65 * left_of t + 64 * c.next_match.new.self.unseen ≤ c.self.inside.steps + 65 * left_of s + 64 * c.self.inside.matches.unseen =
-    linear_fault s t c.self.inside.steps c.next_match.new.steps c.self.inside.matches.unseen c.next_match.new.self.unseen u c.if-self.false some moved (omega (arith, c.in-None.ensures.paid)) in
+    let pays : c.next_match.new.steps + 65 * left_of t + c.next_match.new.self.spare ≤ c.self.inside.steps + 65 * left_of s + c.self.inside.matches.spare =
+    linear_fault s t c.self.inside.steps c.next_match.new.steps c.self.inside.matches.spare c.next_match.new.self.spare u c.if-self.false some moved (omega (arith, c.in-None.ensures.paid)) in
     rw (← c.self.view_is) ((c.if-self.false, some, c.offset-start.ensures.offset, c.in-None.ensures.answer, moved), pays, tt)
 
 pub returns-in-None-clause-goes : goal.returns-in-None-clause-goes

@@ -1,5 +1,5 @@
-use Rattle.std.proofs.Common.{◌≡◌, ◌∙◌, ◌+◌, ◌*◌, ◌≤◌, ap, subst, length, false, List}
-use Rattle.lalrpop_table.specs.Dfa.{Row}
+use Rattle.std.proofs.Common.{◌≡◌, ◌∙◌, ◌+◌, ◌*◌, ◌≤◌, ap, length, false}
+use Rattle.std.specs.Str.{chars}
 use Rattle.lalrpop_linear.specs.Matching.{Matching, open_states}
 use Rattle.lalrpop_lexer.specs.Cutting.{Cutting, start_of}
 use Rattle.lalrpop_lexer.specs.LinearCutting.{LinearCutting}
@@ -19,6 +19,8 @@ returns-clause-tokens c =
 
 pub returns-clause-cost : goal.returns-clause-cost
 returns-clause-cost c =
-    let most = open_states c.args.self.now.automaton * (length c.args.text.now + 64) in
-    let room : 64 * c.new.result.unseen ≤ most = rw (ap (λ (x : LinearCutting). x.unseen) c.new.ensures.start) c.in_ok-matches.ensures.unseen in
-    linear_cost c.new.result c.args.self.now.automaton c.args.text.now most (begins c) (ap (λ (x : LinearCutting). x.steps) c.new.ensures.start) room
+    let text = c.args.text.now in
+    let d = c.args.self.now.automaton in
+    let most = open_states d * (length text + 64) in
+    let room : c.new.result.spare ≤ length (chars text) + length text + most = rw (ap (λ (x : LinearCutting). x.spare) c.new.ensures.start) c.in_ok-matches.ensures.spare in
+    linear_cost c.new.result d text most (begins c) (ap (λ (x : LinearCutting). x.steps) c.new.ensures.start) room
