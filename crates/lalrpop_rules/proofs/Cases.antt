@@ -2,4 +2,5 @@
 mod Found
 mod Pieces
 mod CutToEnd
+mod LinearCutToEnd
 mod RuleSet

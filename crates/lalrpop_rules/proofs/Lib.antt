@@ -6,3 +6,8 @@ pub mod CallerLaws
 -- the pieces of a text
 pub mod Fronts
 pub mod PieceLaws
+-- and in linear time
+pub mod FrontPieces
+pub mod Seeking
+pub mod Waiting
+pub mod LinearPieces

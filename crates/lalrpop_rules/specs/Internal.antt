@@ -1,2 +1,3 @@
 pub mod Code
+pub mod FirstMatch
 pub mod Reported

@@ -4,18 +4,22 @@
 
 mod cut;
 mod error;
+mod front;
 mod item;
 mod leftmost;
+mod linear_items;
 mod pieces;
 mod reading;
 mod rule;
 mod rule_lexer;
+mod seek;
 
 pub use cut::items;
 pub use error::RulesError;
 pub use item::Item;
 pub use lalrpop_lexer::Form;
 pub use leftmost::find;
+pub use linear_items::LinearItems;
 pub use pieces::Items;
 pub use rule::Rule;
 pub use rule_lexer::RuleLexer;

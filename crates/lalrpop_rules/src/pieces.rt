@@ -1,13 +1,14 @@
 //! Cutting a text to its end: tokens, what is skipped, and faults.
 
-ghost use Rattle.std.specs.Prelude.{◌≡◌, ◌<◌, true, false, length};
+ghost use Rattle.std.specs.Prelude.{◌≡◌, ◌<◌, length};
 ghost use Rattle.std.specs.Str.{IsCharBoundary};
-ghost use Rattle.lalrpop_rules.specs.Pieces.{IsPiece, IsSkipped};
+ghost use Rattle.lalrpop_rules.specs.Pieces.{IsPiece};
 ghost use Rattle.lalrpop_rules.specs.CutToEnd.{uncut, left_text};
 
+use crate::front::front_of;
 use crate::item::Item;
 use crate::leftmost::find;
-use lalrpop_lexer::{Lexer, Token};
+use lalrpop_lexer::Lexer;
 use std::iter::FusedIterator;
 use std::marker::Model;
 
@@ -58,17 +59,6 @@ impl<'text> Items<'text> {
     }
 }
 
-// Whether the pattern at this place is skipped.
-fn is_skipped(skipped: &[bool], index: usize) -> bool
-    ensures yes { result ≡ true → IsSkipped skipped.now index }
-    ensures no { result ≡ false → ¬ IsSkipped skipped.now index }
-{
-    match skipped.get(index) {
-        Some(skips) => *skips,
-        None => false,
-    }
-}
-
 // The piece of the text at this place.
 fn item_at<'text>(lexer: &Lexer, skipped: &[bool], text: &'text str, at: usize) -> Item<'text>
     requires boundary { IsCharBoundary text.now at }
@@ -76,26 +66,9 @@ fn item_at<'text>(lexer: &Lexer, skipped: &[bool], text: &'text str, at: usize) 
     ensures item { IsPiece lexer.now.trees lexer.now.precedences skipped.now text.now at result }
 {
     let rest = &text[at..];
-    let Some(found) = find(lexer, rest) else {
-        return Item::Fault {
-            start: at,
-            slice: rest,
-        };
-    };
-    if found.start > 0 {
-        let slice = &rest[..found.start];
-        return Item::Fault { start: at, slice };
-    }
-    let token = Token {
-        index: found.index,
-        slice: found.slice,
-        start: at,
-    };
-    if is_skipped(skipped, token.index.index()) {
-        Item::Skipped(token)
-    } else {
-        Item::Token(token)
-    }
+    let found = find(lexer, rest);
+    let (item, _) = front_of(skipped, rest, at, &found);
+    item
 }
 
 impl<'text> Iterator for Items<'text> {

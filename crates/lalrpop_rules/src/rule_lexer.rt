@@ -1,6 +1,6 @@
 //! A lexer of named rules.
 
-ghost use Rattle.std.specs.Prelude.{◌≡◌, ◌<◌, ◌≤◌, ◌++◌, ℕ, List, Option, None, length, slice_get, option_map, IfOk, IfErr, IfSome, IfNone, IsSome};
+ghost use Rattle.std.specs.Prelude.{◌≡◌, ◌<◌, ◌≤◌, ◌+◌, ◌*◌, ◌++◌, ℕ, List, Option, None, length, slice_get, option_map, IfOk, IfErr, IfSome, IfNone, IsSome};
 ghost use Rattle.std.specs.Iterator.{Drains, Yields};
 ghost use Rattle.std.specs.Str.{chars};
 ghost use Rattle.lalrpop_book.specs.Clash.{NoClash};
@@ -10,18 +10,21 @@ ghost use Rattle.lalrpop_book.specs.declared.token.Token.{Token as TokenValue};
 ghost use Rattle.lalrpop_rules.specs.Found.{IsFound, NothingFound};
 ghost use Rattle.lalrpop_rules.specs.Pieces.{ArePieces, AreApart, joined, up_to_fault};
 ghost use Rattle.lalrpop_rules.specs.CutToEnd.{CutToEnd, uncut, left_text, GivesPiece};
+ghost use Rattle.lalrpop_lexer.specs.Matching.{open_states};
+ghost use Rattle.lalrpop_rules.specs.LinearCutToEnd.{LinearCutToEnd, GivesLinearPiece};
 ghost use Rattle.lalrpop_rules.specs.RuleSet.{AreTrees, IsRulesError, names_of, precedences_of, skips_of, recognized};
 ghost use Rattle.lalrpop_rules.specs.Internal.Reported.{NamesPattern, as_patterns};
 ghost use Rattle.lalrpop_rules.specs.declared.item.Item.{Item as ItemValue};
 
 use crate::error::RulesError;
+use crate::linear_items::LinearItems;
 use crate::pieces::Items;
 use crate::reading::{name_list, patterns_of, skip_list};
 use crate::rule::Rule;
 use crate::{cut, leftmost};
 use lalrpop_lexer::lexer::dfa::NfaIndex;
 use lalrpop_lexer::{Lexer, LexerError, Token};
-use std::alloc::Global;
+use std::alloc::{AllocError, Global};
 use std::marker::Model;
 
 /// Named rules, and the lexer of them.
@@ -176,5 +179,40 @@ impl RuleLexer {
             → length xs ≤ length (chars text.now) }
     {
         cut::items(&self.lexer, &self.skips, text)
+    }
+
+    /// The pieces of `items`, one for one, in time linear in the text whatever the rules are and however many faults it has: a whole
+    /// text costs at most 66 steps a character and one a byte, and for each open state of the automaton, one that neither accepts a
+    /// pattern nor rejects, a step a byte and 64 in all. A step is counted for each character that is read, as often as it is read.
+    ///
+    /// The memory is taken here: a byte for each open state and each 64 bytes of the text.
+    ///
+    /// # Errors
+    ///
+    /// `AllocError` if a request for memory was refused.
+    pub fn items_linear<'text>(
+        &'text self,
+        alloc: Global,
+        text: &'text str,
+    ) -> Result<LinearItems<'text>, AllocError>
+        ensures start { IfOk result (λ s. (s.steps ≡ 0)
+            × (s.cut ≡ uncut (recognized self.now) self.now.skips text.now)) }
+        ensures items { IfOk result (λ s. (xs : List ItemValue) → Drains GivesLinearPiece s xs
+            → ArePieces self.now.trees self.now.precedences self.now.skips text.now 0 xs) }
+        ensures whole { IfOk result (λ s. (xs : List ItemValue) → Drains GivesLinearPiece s xs
+            → joined xs ≡ text.now) }
+        ensures apart { IfOk result (λ s. (xs : List ItemValue) → Drains GivesLinearPiece s xs
+            → AreApart xs) }
+        ensures tokens { IfOk result (λ s. (xs : List ItemValue) → Drains GivesLinearPiece s xs
+            → AreTokens self.now.trees self.now.precedences text.now 0 (up_to_fault xs)) }
+        ensures parts { IfOk result (λ s. (xs : List ItemValue) (t : LinearCutToEnd)
+            → Yields GivesLinearPiece s xs t → text.now ≡ joined xs ++ left_text t.cut) }
+        ensures count { IfOk result (λ s. (xs : List ItemValue) (t : LinearCutToEnd)
+            → Yields GivesLinearPiece s xs t → length xs ≤ length (chars text.now)) }
+        ensures cost { IfOk result (λ s. (xs : List ItemValue) (t : LinearCutToEnd)
+            → Yields GivesLinearPiece s xs t → t.steps ≤ 66 * length (chars text.now)
+            + length text.now + open_states self.now.automaton * (length text.now + 64)) }
+    {
+        LinearItems::new(alloc, self, text)
     }
 }

@@ -2,6 +2,7 @@
 #![tactic(auto)]
 
 pub mod cut_by_rules;
+pub mod cut_linearly;
 pub mod cut_to_the_end;
 pub mod find_a_match;
 pub mod follow_laws;

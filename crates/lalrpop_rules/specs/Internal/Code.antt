@@ -5,11 +5,17 @@ use Rattle.lalrpop_lexer.specs.Internal.Code.{rules_code}
 use Rattle.lalrpop_lexer.specs.Rules.{Rules}
 use Rattle.lalrpop_rules.specs.RuleSet.{RuleSet, recognized}
 use Rattle.lalrpop_rules.specs.CutToEnd.{CutToEnd}
+use Rattle.lalrpop_rules.specs.LinearCutToEnd.{LinearCutToEnd}
 
 abbrev pub cut_code : Coded CutToEnd
 cut_code =
     code_by (Rules × (List Bool × (List ℕ × ℕ))) (coded× rules_code (coded× (coded_list coded_bool) (coded× (coded_list coded_ℕ) coded_ℕ)))
     (λ w. (w.rules, (w.skips, (w.text, w.at)))) (λ p. record { rules = p.0; skips = p.1.0; text = p.1.1.0; at = p.1.1.1 }) (λ _. refl)
+
+abbrev pub linear_cut_code : Coded LinearCutToEnd
+linear_cut_code =
+    code_by (CutToEnd × (ℕ × (ℕ × ℕ))) (coded× cut_code (coded× coded_ℕ (coded× coded_ℕ coded_ℕ)))
+    (λ w. (w.cut, (w.unsought, (w.spare, w.steps)))) (λ p. record { cut = p.0; unsought = p.1.0; spare = p.1.1.0; steps = p.1.1.1 }) (λ _. refl)
 
 abbrev pub rule_set_code : Coded RuleSet
 rule_set_code =

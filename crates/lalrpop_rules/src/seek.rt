@@ -1,0 +1,60 @@
+//! The first match in what is left of a text, found in linear time.
+
+ghost use Rattle.std.specs.Prelude.{◌≡◌, ℕ, ◌+◌, ◌≤◌, List, Some, IfSome, IfNone};
+ghost use Rattle.lalrpop_book.specs.Tree.{Tree};
+ghost use Rattle.lalrpop_lexer.specs.Matching.{rest_of};
+ghost use Rattle.lalrpop_lexer.specs.Rules.{IsBuiltFrom};
+ghost use Rattle.lalrpop_rules.specs.Internal.FirstMatch.{IsFirstMatch, bytes_passed, credit_of};
+
+use lalrpop_lexer::lexer::nfa::Steps;
+use lalrpop_lexer::{LinearMatches, Token};
+
+// The token at the first place of the rest where some pattern matches, counted from where the rest begins; from then on the
+// rest begins behind the token. `None` where no pattern matches anywhere in it; then no rest is left.
+fn find_next<'text>(matches: &mut LinearMatches<'text>, steps: &mut Steps) -> Option<Token<'text>>
+    ensures found { (ts : List Tree) (ps : List ℕ) → IsBuiltFrom ts ps matches.old.automaton
+        → IsFirstMatch ts ps (rest_of matches.old) result }
+    ensures goes_on { matches.new ≡ record matches.old {
+      at = matches.old.at + bytes_passed (rest_of matches.old) result;
+      spare = matches.new.spare;
+    } }
+    ensures paid { steps.new + credit_of matches.new ≤ steps.old + credit_of matches.old }
+{
+    for (start, _) in matches.rest().char_indices() {
+        if let Some(found) = matches.next_match(steps) {
+            return Some(Token {
+                index: found.0,
+                slice: found.1,
+                start,
+            });
+        }
+        matches.pass_char();
+    }
+    None
+}
+
+/// The match that is kept, which is kept no longer. If none is, the token at the first place of the rest where some pattern
+/// matches, counted from where the rest begins; from then on the rest begins behind the token. `None` where no pattern matches
+/// anywhere in it; then no rest is left.
+pub(crate) fn take_or_find<'text>(
+    kept: &mut Option<Token<'text>>,
+    matches: &mut LinearMatches<'text>,
+    steps: &mut Steps,
+) -> Option<Token<'text>>
+    ensures same { IfSome kept.old (λ token. (result ≡ Some token)
+        × (matches.new ≡ matches.old) × (steps.new ≡ steps.old)) }
+    ensures found { IfNone kept.old ((ts : List Tree) (ps : List ℕ)
+        → IsBuiltFrom ts ps matches.old.automaton
+        → IsFirstMatch ts ps (rest_of matches.old) result) }
+    ensures goes_on { IfNone kept.old (matches.new ≡ record matches.old {
+      at = matches.old.at + bytes_passed (rest_of matches.old) result;
+      spare = matches.new.spare;
+    }) }
+    ensures paid { IfNone kept.old
+        (steps.new + credit_of matches.new ≤ steps.old + credit_of matches.old) }
+{
+    match kept.take() {
+        Some(token) => Some(token),
+        None => find_next(matches, steps),
+    }
+}
