@@ -6,7 +6,7 @@ use lalrpop_hir::Hir;
 use lalrpop_lexer::lexer::dfa::interpret::interpret;
 use lalrpop_lexer::lexer::dfa::overlap::{remove_overlap, remove_overlap_counted};
 use lalrpop_lexer::lexer::dfa::{
-    DenseDfa, Dfa, DfaConstructionError, Precedence, State, build_dfa,
+    DenseDfa, Dfa, DfaConstructionError, Precedence, State, Witness, build_dfa,
 };
 use lalrpop_lexer::lexer::nfa::{self, Nfa, NfaConstructionError, Steps, Test};
 use lalrpop_lexer::{Lexer, TokenList};
@@ -444,4 +444,40 @@ fn texts_are_cut_in_linear_time(rt: HostRuntime) {
 0 a / 0 a*b <- aaab => 1
 0 a / 0 a*b <- aac => 0 0 fault 2";
     expect(&rt, rt.alloc(), Call::Linear, table, 2);
+}
+
+fn told_witness(
+    alloc: Global,
+    number: usize,
+    found: &Option<Witness>,
+) -> Result<String, AllocError> {
+    match found {
+        Some(witness) => {
+            let word = witness.word.as_slice();
+            let after = witness.after.as_slice();
+            format!(in alloc; "{number} {word:?} {after:?}")
+        }
+        None => format!(in alloc; "{number} none"),
+    }
+}
+
+fn looked_ahead_by(alloc: Global, lexer: &Lexer) -> Result<String, AllocError> {
+    let number = lexer.lookahead(alloc)?.unwrap_or(3);
+    let found = lexer.lookahead_witness(alloc, number)?;
+    told_witness(alloc, number, &found)
+}
+
+// How many characters the patterns look ahead, 3 if nothing limits it, and the witness for that number.
+pub(crate) fn looked_ahead(alloc: Global, rows: &str) -> Result<String, AllocError> {
+    let lexer = lexer_for(alloc, rows)?;
+    looked_ahead_by(alloc, &lexer)
+}
+
+#[test]
+fn matches_are_left_open(rt: HostRuntime) {
+    let table = "\
+0 a / 0 abcd => 2 [97] [98, 99]
+0 a / 0 a*b => 3 [97] [97, 97, 97]
+0 b => 0 [98] []";
+    expect(&rt, rt.alloc(), Call::Witness, table, 3);
 }
