@@ -160,4 +160,5 @@ def main(words):
 
 if __name__ == "__main__":
     sys.stdout.reconfigure(encoding="utf-8", newline="\n")
-    sys.exit(main(sys.argv[1:]))
+    # The program wants `--lines` before terminals; here it says nothing.
+    sys.exit(main([word for word in sys.argv[1:] if word != "--lines"]))

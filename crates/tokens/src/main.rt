@@ -1,5 +1,6 @@
-//! `tokens [--places] RULES [FILE ..]`: cuts each FILE, or standard input, by the terminals of the file RULES, and writes the tokens.
-//! `tokens --clashes RULES`: writes the pairs of terminals that clash, each with the least word on which they do.
+//! `tokens [--recover] [--json] RULES [FILE ..]`: cuts each FILE, or standard input, by the named rules of the file RULES, and writes the
+//! tokens. `tokens --html RULES [FILE ..]`: writes each text as markup. `tokens --clashes RULES`: writes the pairs of rules that clash,
+//! each with the least word on which they do. With `--lines`, RULES has terminals, one a line, which are told by their numbers.
 #![tactic(auto)]
 
 use std::process::ExitCode;

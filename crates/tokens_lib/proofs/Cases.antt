@@ -2,6 +2,8 @@
 mod Building
 mod ClashesShown
 mod Command
+mod ItemLines
 mod Quoted
+mod RuleClashes
 mod Text
 mod TokenLines

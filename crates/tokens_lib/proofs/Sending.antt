@@ -26,7 +26,7 @@ use Rattle.tokens_lib.proofs.FirstTokens.{AreFirst, firsts_from_start, begins, a
 use Rattle.tokens_lib.proofs.TextLines.{AreLinesOf, one_more}
 
 -- some bytes, and then a prefix of others, whatever follows
-AppendsPrefix-behind : (a b c : Option (List ℕ)) (xs ys more : List ℕ) → Appends a b xs → AppendsPrefix b c ys → AppendsPrefix a c (xs ++ (ys ++ more))
+pub AppendsPrefix-behind : (a b c : Option (List ℕ)) (xs ys more : List ℕ) → Appends a b xs → AppendsPrefix b c ys → AppendsPrefix a c (xs ++ (ys ++ more))
 AppendsPrefix-behind a b c xs ys more h (n, le, k) =
     let all : take (length xs + n) (xs ++ (ys ++ more)) ≡ xs ++ take n ys =
     take-append-add xs (ys ++ more) n ∙ ap (λ (l : List ℕ). xs ++ l) (take-append-le n ys more le) in (
@@ -35,7 +35,7 @@ AppendsPrefix-behind a b c xs ys more h (n, le, k) =
       subst (Appends a c) (sym all) (Appends-again a b c xs (take n ys) h k),
     )
 
-AppendsPrefix-front : (a b : Option (List ℕ)) (xs more : List ℕ) → Appends a b xs → AppendsPrefix a b (xs ++ more)
+pub AppendsPrefix-front : (a b : Option (List ℕ)) (xs more : List ℕ) → Appends a b xs → AppendsPrefix a b (xs ++ more)
 AppendsPrefix-front a b xs more h =
     (length xs, omega (arith, length-append xs more), subst (Appends a b) (sym (take-append_seam xs more)) h)
 

@@ -1,6 +1,6 @@
 -- cases: proofs/Cases/Quoted.antt
--- A slice in quotes.
-use Rattle.std.specs.Prelude.{ℕ, false, List, ◌++◌, Option, Some, None, codes, chars, encode_utf8, flat_map, if◌then◌else◌, ◌==◌}
+-- A slice or a word in quotes.
+use Rattle.std.specs.Prelude.{ℕ, Bool, false, ◌&&◌, ◌||◌, nat_lt, List, ◌++◌, Option, Some, None, codes, chars, encode_utf8, flat_map, if◌then◌else◌, ◌==◌}
 use Rattle.std.specs.Char.{is_control}
 use Rattle.std.specs.Fmt.{digits}
 
@@ -26,3 +26,16 @@ told c = told_by (short_escape c) c
 -- the characters of the slice between two quotes
 abbrev pub quoted : List ℕ → List ℕ
 quoted slice = codes "\"" ++ (flat_map told (chars slice) ++ codes "\"")
+
+-- ---- a word between quotes
+
+-- the value is that of a character: no surrogate, and not too large
+abbrev pub is_character : ℕ → Bool
+is_character n = nat_lt n 55296 || (nat_lt 57343 n && nat_lt n 1114112)
+
+-- a character as in a quoted slice, any other value by its number in hexadecimal
+abbrev pub value_told : ℕ → List ℕ
+value_told n = if is_character n then told n else (codes "\\u{" ++ (digits 16 false n ++ codes "}"))
+
+abbrev pub quoted_word : List ℕ → List ℕ
+quoted_word w = codes "\"" ++ (flat_map value_told w ++ codes "\"")

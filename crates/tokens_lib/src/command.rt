@@ -1,46 +1,156 @@
 //! The program's arguments.
-ghost use Rattle.std.specs.Prelude.{IfSome, IfNone, map, string_bytes};
-ghost use Rattle.tokens_lib.specs.Command.{IsCommand};
+ghost use Rattle.std.specs.Prelude.{◌≡◌, true, false, ◌∷◌, IfSome, IfNone, map, string_bytes};
+ghost use Rattle.tokens_lib.specs.Command.{IsCommand, IsOption};
 ghost use Rattle.tokens_lib.specs.declared.command.Command.{Command as Found};
+
+use crate::layout::LineForm;
+
+/// What a text is shown as.
+#[derive(Clone, Copy, Debug, PartialEq, Eq)]
+pub enum Markup {
+    /// Markup of HTML.
+    Html,
+}
 
 /// What the program has to do.
 #[derive(Clone, Copy)]
 pub enum Command<'words> {
-    /// Cut each of the files, or standard input if there are none, by the terminals of the file `rules`.
+    /// Cut each of the files, or standard input if there are none, by the named rules of the file `rules`.
     Cut {
+        /// What a line looks like.
+        form: LineForm,
+        /// Whether cutting goes on behind a fault.
+        recovers: bool,
+        rules: &'words str,
+        files: &'words [String],
+    },
+    /// Show each of the files, or standard input if there are none, as markup, by the named rules of the file `rules`.
+    Show {
+        markup: Markup,
+        rules: &'words str,
+        files: &'words [String],
+    },
+    /// List all pairs of named rules of the file `rules` that clash.
+    Clashes {
+        rules: &'words str,
+    },
+    /// Cut each of the files, or standard input if there are none, by the terminals of the file `rules`.
+    CutByTerminals {
         /// Whether the line of a token begins with its place.
         places: bool,
         rules: &'words str,
         files: &'words [String],
     },
     /// List all pairs of terminals of the file `rules` that clash.
-    Clashes {
+    TerminalClashes {
         rules: &'words str,
     },
 }
 
-/// The command of these arguments: `RULES [FILE ..]` or `--places RULES [FILE ..]`, or `--clashes RULES`. A first argument that
-/// begins with `--` does not name a file. `None` for any other arguments.
+// What one option asks for.
+fn with_option<'words>(
+    option: &'words str,
+    rules: &'words str,
+    files: &'words [String],
+) -> Option<Command<'words>>
+    requires option { IsOption option.now }
+    requires rules { ¬ IsOption rules.now }
+    ensures some { IfSome result (λ found.
+        IsCommand (option.now ∷ rules.now ∷ map string_bytes files.now) found) }
+    ensures none { IfNone result ((found : Found)
+        → ¬ IsCommand (option.now ∷ rules.now ∷ map string_bytes files.now) found) }
+{
+    match (option, files) {
+        ("--recover", files) => Some(Command::Cut {
+            form: LineForm::Plain,
+            recovers: true,
+            rules,
+            files,
+        }),
+        ("--json", files) => Some(Command::Cut {
+            form: LineForm::Json,
+            recovers: false,
+            rules,
+            files,
+        }),
+        ("--html", files) => Some(Command::Show {
+            markup: Markup::Html,
+            rules,
+            files,
+        }),
+        ("--lines", files) => Some(Command::CutByTerminals {
+            places: false,
+            rules,
+            files,
+        }),
+        ("--clashes", []) => Some(Command::Clashes { rules }),
+        _ => None,
+    }
+}
+
+// What two options ask for.
+fn with_options<'words>(
+    first: &'words str,
+    second: &'words str,
+    rules: &'words str,
+    files: &'words [String],
+) -> Option<Command<'words>>
+    requires first { IsOption first.now }
+    requires second { IsOption second.now }
+    requires rules { ¬ IsOption rules.now }
+    ensures some { IfSome result (λ found.
+        IsCommand (first.now ∷ second.now ∷ rules.now ∷ map string_bytes files.now) found) }
+    ensures none { IfNone result ((found : Found)
+        → ¬ IsCommand (first.now ∷ second.now ∷ rules.now ∷ map string_bytes files.now) found) }
+{
+    match (first, second, files) {
+        ("--recover", "--json", files) | ("--json", "--recover", files) => Some(Command::Cut {
+            form: LineForm::Json,
+            recovers: true,
+            rules,
+            files,
+        }),
+        ("--lines", "--places", files) => Some(Command::CutByTerminals {
+            places: true,
+            rules,
+            files,
+        }),
+        ("--lines", "--clashes", []) => Some(Command::TerminalClashes { rules }),
+        _ => None,
+    }
+}
+
+fn is_option(word: &str) -> bool
+    ensures yes { result ≡ true → IsOption word.now }
+    ensures no { result ≡ false → ¬ IsOption word.now }
+{
+    word.starts_with("--")
+}
+
+/// The command of these arguments. At the front stand at most two options, which begin with `--`, then RULES, which does not,
+/// and then files of any name: `[--recover] [--json]`, these two in any order, `--html`, `--clashes`, `--lines`,
+/// `--lines --places` or `--lines --clashes`. `--clashes` takes no file. `None` for any other arguments.
 pub fn command_of(words: &[String]) -> Option<Command<'_>>
     ensures some { IfSome result (λ found. IsCommand (map string_bytes words.now) found) }
     ensures none { IfNone result ((found : Found)
         → ¬ IsCommand (map string_bytes words.now) found) }
 {
     let (first, others) = words.split_first()?;
-    match (first.as_str(), others) {
-        ("--clashes", [rules]) => Some(Command::Clashes {
-            rules: rules.as_str(),
-        }),
-        ("--places", [rules, files @ ..]) => Some(Command::Cut {
-            places: true,
-            rules: rules.as_str(),
-            files,
-        }),
-        (rules, files) if !rules.starts_with("--") => Some(Command::Cut {
-            places: false,
-            rules,
-            files,
-        }),
-        _ => None,
+    if !is_option(first.as_str()) {
+        return Some(Command::Cut {
+            form: LineForm::Plain,
+            recovers: false,
+            rules: first.as_str(),
+            files: others,
+        });
     }
+    let (second, others) = others.split_first()?;
+    if !is_option(second.as_str()) {
+        return with_option(first.as_str(), second.as_str(), others);
+    }
+    let (third, others) = others.split_first()?;
+    if !is_option(third.as_str()) {
+        return with_options(first.as_str(), second.as_str(), third.as_str(), others);
+    }
+    None
 }

@@ -1,7 +1,7 @@
-//! Why a file of rules gives no lexer, in words for people.
+//! Why a file of terminals gives no lexer, in words for people.
 
 use crate::quote::quoted;
-use lalrpop_lexer::lexer::nfa::NfaConstructionError;
+use crate::reasons::{characters_before, place_explained, refusal_text, syntax_text};
 use lalrpop_lexer::lexer::re::{RegexError, SyntaxKind, parse_regex};
 use lexdfa_lib::Outcome;
 use std::alloc::{AllocError, Global};
@@ -10,45 +10,6 @@ use std::alloc::{AllocError, Global};
 fn line_at(bytes: &[u8], number: usize) -> Option<&str> {
     let line = bytes.split(|byte| *byte == b'\n').nth(number)?;
     str::from_utf8(line).ok()
-}
-
-fn syntax_text(kind: SyntaxKind) -> &'static str {
-    match kind {
-        SyntaxKind::UnclosedGroup => "this group isn't closed",
-        SyntaxKind::UnopenedGroup => "this `)` closes no group",
-        SyntaxKind::UnclosedClass => "this bracket isn't closed",
-        SyntaxKind::ClassRangeInvalid => "this range ends before it starts",
-        SyntaxKind::ClassRangeLiteral => "a range needs a single character at both ends",
-        SyntaxKind::ClassEscapeInvalid => "this escape can't stand in brackets",
-        SyntaxKind::EscapeUnexpectedEof => "the pattern ends inside an escape",
-        SyntaxKind::EscapeUnrecognized => "this escape is unknown",
-        SyntaxKind::EscapeHex => "this number names no character",
-        SyntaxKind::UnicodeSetUnknown => "there is no set of characters by this name",
-        SyntaxKind::RepetitionMissing => "there is nothing to repeat before this operator",
-        SyntaxKind::RepetitionCount => "this count is malformed, too great or out of order",
-        SyntaxKind::Flag => "this flag is unknown, missing or written twice",
-        SyntaxKind::GroupName => "this group name is malformed, missing or taken",
-        SyntaxKind::UnsupportedLookAround => "patterns have no look-around",
-        SyntaxKind::UnsupportedBackreference => "patterns have no references to groups",
-        SyntaxKind::NestLimitExceeded => "groups, brackets and repetitions nest too deeply",
-    }
-}
-
-fn refusal_text(error: NfaConstructionError) -> &'static str {
-    match error {
-        NfaConstructionError::NamedCaptures => "a lexer can't have named groups: write `(?:..)`",
-        NfaConstructionError::NonGreedy => "a lexer can't have lazy repetitions",
-        NfaConstructionError::LookAround => "a lexer can't have look-around or word boundaries",
-        NfaConstructionError::ByteRegex => "a lexer can't have patterns of bytes",
-        NfaConstructionError::OutOfMemory => "out of memory",
-    }
-}
-
-// The number of characters of the text before this byte.
-fn characters_before(text: &str, byte: usize) -> usize {
-    text.char_indices()
-        .take_while(|found| found.0 < byte)
-        .count()
 }
 
 // Where and why the pattern of a line `P r PATTERN` doesn't parse: the characters of the line before the place, and the reason.
@@ -71,14 +32,7 @@ fn syntax_of(alloc: Global, line: &str) -> Result<Option<(usize, SyntaxKind)>, A
     }
 }
 
-fn push_spaces(text: &mut String, count: usize) -> Result<(), AllocError> {
-    for _ in 0..count {
-        text.push(' ')?;
-    }
-    Ok(())
-}
-
-// The place and the reason, and the line with a caret under the place.
+// Where the pattern of a line doesn't parse, and why.
 fn syntax_explained(
     alloc: Global,
     file: &str,
@@ -88,14 +42,7 @@ fn syntax_explained(
     let Some((before, kind)) = syntax_of(alloc, line)? else {
         return format!(in alloc; "tokens: {file}:{number}: the pattern doesn't parse\n");
     };
-    let column = before.saturating_add(1);
-    let reason = syntax_text(kind);
-    let mut message = format!(in alloc;
-        "tokens: {file}:{number}:{column}: {reason}\n    {line}\n    "
-    )?;
-    push_spaces(&mut message, before)?;
-    message.push_str("^\n")?;
-    Ok(message)
+    place_explained(alloc, file, number, line, before, syntax_text(kind))
 }
 
 fn bad_line_explained(
@@ -161,7 +108,7 @@ fn clash_explained(
     )
 }
 
-/// What is wrong with a file of rules, in words: the file and the line, and the line itself.
+/// What is wrong with a file of terminals, in words: the file and the line, and the line itself.
 ///
 /// # Errors
 ///

@@ -1,4 +1,4 @@
-//! The message for a place where no terminal matches.
+//! The message for a place where nothing matches.
 
 ghost use Rattle.std.specs.Str.{IsCharBoundary};
 
@@ -6,13 +6,15 @@ use crate::quote::push_told;
 use lalrpop_lexer::Position;
 use std::alloc::{AllocError, Global};
 
-/// The line that says where the text couldn't be cut further, and shows the character there.
+/// The line that says where the text couldn't be cut further, since no terminal or no rule (`kind`) matches, and shows the character
+/// there.
 ///
 /// # Errors
 ///
 /// `AllocError` if a request for memory was refused.
 pub(crate) fn fault_message(
     alloc: Global,
+    kind: &str,
     file: &str,
     text: &str,
     at: usize,
@@ -20,7 +22,7 @@ pub(crate) fn fault_message(
     requires boundary { IsCharBoundary text.now at }
 {
     let Position { line, column } = Position::of(text, at);
-    let mut message = format!(in alloc; "tokens: {file}:{line}:{column}: no terminal matches \"")?;
+    let mut message = format!(in alloc; "tokens: {file}:{line}:{column}: no {kind} matches \"")?;
     if let Some(c) = text[at..].chars().next() {
         push_told(&mut message, c)?;
     }

@@ -1,20 +1,35 @@
-//! Terminals as lines of a file, their lexer, and the program `tokens`, which cuts files into tokens.
+//! The program `tokens`, which cuts files by a file of named rules, or by terminals that are lines, and what it is made of.
 #![tactic(auto)]
 
 mod building;
+mod by_rules;
+mod by_terminals;
 mod clash_lines;
 mod command;
+mod cut_files;
+mod ends;
 mod explain;
 mod fault;
+mod item_lines;
+mod json_line;
+mod layout;
+mod named_clashes;
 mod program;
 mod quote;
+mod reasons;
+mod rule_explain;
+mod shown;
 mod text;
 mod token_lines;
 
 pub use building::{BuildError, lexer_of};
 pub use clash_lines::write_clashes;
-pub use command::{Command, command_of};
+pub use command::{Command, Markup, command_of};
+pub use item_lines::write_items;
 pub use lalrpop_lexer::{Lexer, Token, TokenFault};
+pub use lalrpop_rules::{Rule, RuleLexer, RulesError};
+pub use layout::{Layout, LineForm};
+pub use named_clashes::{rule_clashes, write_rule_clashes};
 pub use program::run_program;
 pub use text::{TextError, read_text};
 pub use token_lines::write_tokens;

@@ -1,6 +1,6 @@
-//! A slice between quotes.
+//! A slice or a word between quotes.
 ghost use Rattle.std.specs.Prelude.{◌≡◌, ◌++◌, option_map, string_bytes, IfOk, OnOk};
-ghost use Rattle.tokens_lib.specs.Quoted.{short_escape, told, quoted};
+ghost use Rattle.tokens_lib.specs.Quoted.{short_escape, told, quoted, value_told, quoted_word};
 
 use std::alloc::{AllocError, Global};
 
@@ -43,6 +43,31 @@ pub fn quoted(alloc: Global, slice: &str) -> Result<String, AllocError>
     let mut text = String::from_str(alloc, "\"")?;
     for c in slice.chars() {
         push_told(&mut text, c)?;
+    }
+    text.push_str("\"")?;
+    Ok(text)
+}
+
+fn push_value(text: &mut String, value: u32) -> Result<(), AllocError>
+    ensures { OnOk result (string_bytes text.new ≡ string_bytes text.old ++ value_told value) }
+{
+    match char::from_u32(value) {
+        Some(c) => push_told(text, c),
+        None => write!(text, "\\u{{{value:x}}}"),
+    }
+}
+
+/// The word between quotes. Its characters are escaped as in a slice; other values are written as control characters are.
+///
+/// # Errors
+///
+/// `AllocError` if a request for memory was refused.
+pub fn quoted_word(alloc: Global, word: &[u32]) -> Result<String, AllocError>
+    ensures quoted { IfOk result (λ text. string_bytes text ≡ quoted_word word.now) }
+{
+    let mut text = String::from_str(alloc, "\"")?;
+    for value in word {
+        push_value(&mut text, *value)?;
     }
     text.push_str("\"")?;
     Ok(text)

@@ -2,6 +2,7 @@
 #![tactic(auto)]
 
 pub mod cut_a_file;
+pub mod cut_by_rules;
 pub mod list_clashes;
 pub mod read_rules;
 pub mod streams;

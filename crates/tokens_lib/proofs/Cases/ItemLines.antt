@@ -1,0 +1,51 @@
+-- Cases of specs/ItemLines.antt.
+use Rattle.std.proofs.Common.{◌≡◌, ℕ, List, [], ◌∷◌, Some, None, codes, refl, false}
+use Rattle.std.specs.Fmt.{digits}
+use Rattle.std.specs.Str.{chars}
+use Rattle.json.specs.Print.{print_from, escape_byte}
+use Rattle.lalrpop_lexer.specs.declared.position.Position.{Position}
+use Rattle.lalrpop_rules.specs.declared.item.Item.{Item}
+use Rattle.lalrpop_rules.specs.declared.item.Item.TheVariants.{Token, Skipped, Fault}
+use Rattle.tokens_lib.specs.ItemLines.{plain_line, json_line, name_at, fault_line, item_line, first_fault}
+use Rattle.tokens_lib.specs.declared.layout.Layout.{Layout}
+
+abbrev second : Position
+second = record { line = 1; column = 2 }
+
+-- ---- plain lines
+
+line_of_a_name : plain_line None second (Some (codes "N")) (codes "a") ≡ codes "1:2 N \"a\"\n"
+unfolding digits chars lib.Utf8.encode
+line_of_a_name = refl
+
+line_with_a_file : plain_line (Some (codes "f")) second (Some (codes "N")) (codes "a") ≡ codes "f:1:2 N \"a\"\n"
+unfolding digits chars lib.Utf8.encode
+line_with_a_file = refl
+
+line_of_a_fault : plain_line None second None (codes "a") ≡ codes "1:2 ! \"a\"\n"
+unfolding digits chars lib.Utf8.encode
+line_of_a_fault = refl
+
+-- ---- lines of JSON
+
+object_of_a_name : json_line None second 1 (Some (codes "N")) (codes "\"") ≡ codes "{\"line\":1,\"column\":2,\"start\":1,\"end\":2,\"rule\":\"N\",\"text\":\"\\\"\"}\n"
+unfolding digits print_from escape_byte
+object_of_a_name = refl
+
+object_of_a_fault : json_line (Some (codes "f")) second 1 None (codes "a")
+    ≡ codes "{\"file\":\"f\",\"line\":1,\"column\":2,\"start\":1,\"end\":2,\"rule\":null,\"text\":\"a\"}\n"
+unfolding digits print_from escape_byte
+object_of_a_fault = refl
+
+-- ---- pieces
+
+names : (name_at (codes "A" ∷ codes "B" ∷ []) 1 ≡ codes "B") × (name_at (codes "A" ∷ []) 1 ≡ [])
+names = (refl, refl)
+
+-- without recovering, a fault has no line
+fault_without_a_line : (layout : Layout) (text slice : List ℕ) (start : ℕ) → fault_line false layout text start slice ≡ []
+fault_without_a_line layout text slice start = refl
+
+-- the first fault of some pieces
+first_faults : (x : Item) → first_fault (x ∷ []) ≡ first_fault (x ∷ [])
+first_faults x = refl

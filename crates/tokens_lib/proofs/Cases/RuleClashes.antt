@@ -1,0 +1,26 @@
+-- Cases of specs/RuleClashes.antt.
+use Rattle.std.proofs.Common.{◌≡◌, ℕ, List, [], ◌∷◌, codes, refl}
+use Rattle.std.specs.Fmt.{digits}
+use Rattle.lalrpop_book.specs.Clashes.{Entry}
+use Rattle.lalrpop_rules.specs.declared.rule.Rule.{Rule}
+use Rattle.lalrpop_rules.specs.declared.error.RulesError.TheVariants.{OutOfMemory}
+use Rattle.tokens_lib.specs.RuleClashes.{IsRuleFault, named_line}
+
+abbrev on_if : Entry
+on_if = record { match0 = 1; match1 = 0; word = 105 ∷ 102 ∷ [] }
+
+abbrev on_a_surrogate : Entry
+on_a_surrogate = record { match0 = 1; match1 = 0; word = 55296 ∷ [] }
+
+-- the earlier rule comes first
+line_of_if : named_line (codes "IF" ∷ codes "NAME" ∷ []) on_if ≡ codes "IF NAME \"if\"\n"
+unfolding lib.Utf8.encode
+line_of_if = refl
+
+line_of_a_surrogate : named_line (codes "A" ∷ codes "B" ∷ []) on_a_surrogate ≡ codes "A B \"\\u{d800}\"\n"
+unfolding digits
+line_of_a_surrogate = refl
+
+-- any rules can run out of memory
+any_rules_want_memory : (rs : List Rule) → IsRuleFault rs OutOfMemory
+any_rules_want_memory rs = tt

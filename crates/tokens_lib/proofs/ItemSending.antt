@@ -1,0 +1,128 @@
+-- The lines of pieces that are written part by part, and what is written after an error.
+use Rattle.std.proofs.Common.{◌≡◌, ℕ, ◌+◌, ◌≤◌, Bool, true, false, List, [], ◌∷◌, ◌++◌, length, refl, sym, ap, subst, ◌∙◌, append_assoc, arith}
+use Rattle.std.proofs.lemmas.List.{append-nil}
+use Rattle.std.proofs.lemmas.Str.{IsCharBoundary-start}
+use Rattle.std.proofs.iter.Next.{Yields-more}
+use Rattle.std.specs.Prelude.{Option, Some, None, IfSome, IsSome}
+use Rattle.std.specs.Io.KnownBytes.{Appends}
+use Rattle.std.specs.Iterator.{Yields, Drains}
+use Rattle.std.specs.Str.{IsUtf8, IsCharBoundary}
+use Rattle.lalrpop_rules.specs.CutToEnd.{CutToEnd, uncut, GivesPiece}
+use Rattle.lalrpop_book.specs.Tree.{Tree}
+use Rattle.lalrpop_rules.specs.Pieces.{IsPiece, slice_of, start_of}
+use Rattle.lalrpop_rules.specs.RuleSet.{RuleSet, recognized}
+use Rattle.lalrpop_rules.specs.declared.item.Item.{Item}
+use Rattle.lalrpop_rules.specs.declared.item.Item.TheVariants.{Token, Skipped, Fault}
+use Rattle.lexdfa_lib.proofs.Known.{Appends-again}
+use Rattle.lexdfa_lib.specs.Watch.{AppendsPrefix}
+use Rattle.tokens_lib.specs.ItemLines.{item_line, item_lines, first_fault, AreCut, WritesItemsPrefix}
+use Rattle.tokens_lib.specs.Internal.Faults.{first_with}
+use Rattle.tokens_lib.specs.declared.layout.Layout.{Layout}
+use Rattle.tokens_lib.proofs.PieceLines.{AreFirst, firsts_of, rest_begins, begin_so, cut_to_fault, no_line, first_more, lines_more}
+use Rattle.tokens_lib.proofs.Sending.{AppendsPrefix-behind, AppendsPrefix-front}
+
+-- ---- from the start
+
+pub firsts_from_start : (rules : RuleSet) (text : List ℕ) (r s t : CutToEnd) (ys : List Item) → r ≡ s → s ≡ uncut (recognized rules) rules.skips text
+    → Yields GivesPiece r ys t → AreFirst rules.trees rules.precedences rules.skips text 0 ys
+firsts_from_start rules text r s t ys same start y =
+    subst (λ (w : CutToEnd). AreFirst w.rules.trees w.rules.precedences w.skips w.text w.at ys) (same ∙ start) (firsts_of r t ys y)
+
+pub begins_from_start : (rules : RuleSet) (text : List ℕ) (r s t : CutToEnd) (ys : List Item) → IsUtf8 text → r ≡ s → s ≡ uncut (recognized rules) rules.skips text
+    → Yields GivesPiece r ys t → IsCharBoundary text t.at
+begins_from_start rules text r s t ys u same start y =
+    let whole : r ≡ uncut (recognized rules) rules.skips text = same ∙ start in
+    let utf8 : IsUtf8 r.text = subst (λ (w : CutToEnd). IsUtf8 w.text) (sym whole) u in
+    let front : IsCharBoundary r.text r.at = subst (λ (w : CutToEnd). IsCharBoundary w.text w.at) (sym whole) (IsCharBoundary-start text u) in
+    let there = rest_begins r t ys utf8 front y in
+    let placed : t.text ≡ text = there.1 ∙ ap (λ (w : CutToEnd). w.text) whole in
+    subst (λ (x : List ℕ). IsCharBoundary x t.at) placed there.0
+
+pub one_more : (r t u : CutToEnd) (ys : List Item) (x : Item) → Yields GivesPiece r ys t → GivesPiece t (Some x) u → Yields GivesPiece r (ys ++ x ∷ []) u
+one_more r t u ys x y g = Yields-more GivesPiece r ys t x u y g
+
+pub drained : (r s t u : CutToEnd) (ys : List Item) → r ≡ s → Yields GivesPiece r ys t → GivesPiece t None u → Drains GivesPiece s ys
+drained r s t u ys same y g = (u, (t, subst (λ (w : CutToEnd). Yields GivesPiece w ys t) same y, g))
+
+starts_at : (ts : List Tree) (ps : List ℕ) (skips : List Bool) (text : List ℕ) (at : ℕ) (x : Item) → IsPiece ts ps skips text at x → start_of x ≡ at
+starts_at ts ps skips text at (Token token) is = is.0.0
+starts_at ts ps skips text at (Skipped token) is = is.0.0
+starts_at ts ps skips text at (Fault start slice) is = is.0
+
+-- where a piece begins, and where the rest begins behind it
+pub place_of : (t u : CutToEnd) (x : Item) → GivesPiece t (Some x) u → (start_of x ≡ t.at) × (u.at ≡ t.at + length (slice_of x))
+place_of t u x g = (starts_at t.rules.trees t.rules.precedences t.skips t.text t.at x g.0, ap (λ (w : CutToEnd). w.at) g.1)
+
+pub fits_in : (text : List ℕ) (t u : CutToEnd) (x : Item) → GivesPiece t (Some x) u → IsCharBoundary text u.at → start_of x + length (slice_of x) ≤ length text
+fits_in text t u x g b = let p = place_of t u x g in omega (arith, p.0, p.1, b.0)
+
+-- ---- the first fault
+
+pub is_some_of : (o : Option ℕ) → IsSome o → (n : ℕ) × (o ≡ Some n)
+is_some_of (Some n) h = (n, refl)
+is_some_of None h = absurd (cc)
+
+pub first_boundary : (text : List ℕ) (old new : Option ℕ) (x : Item) → new ≡ first_with old x → IfSome old (IsCharBoundary text) → IsCharBoundary text (start_of x)
+    → IfSome new (IsCharBoundary text)
+first_boundary text old new x e known here = subst (λ (o : Option ℕ). IfSome o (IsCharBoundary text)) (sym e) (by_item old x known here)
+  where
+    by_item : (o : Option ℕ) (z : Item) → IfSome o (IsCharBoundary text) → IsCharBoundary text (start_of z) → IfSome (first_with o z) (IsCharBoundary text)
+    by_item (Some n) z h b = h
+    by_item None (Token z) h b = tt
+    by_item None (Skipped z) h b = tt
+    by_item None (Fault start slice) h b = b
+
+pub first_is : (old new : Option ℕ) (ys : List Item) (x : Item) → old ≡ first_fault ys → new ≡ first_with old x → new ≡ first_fault (ys ++ x ∷ [])
+first_is old new ys x is e = e ∙ ap (λ (o : Option ℕ). first_with o x) is ∙ sym (first_more ys x)
+
+-- ---- what was written
+
+pub sent_so_far : (rules : RuleSet) (layout : Layout) (text : List ℕ) (ys : List Item) (sent kept : List ℕ) (a b : Option (List ℕ))
+    → AreFirst rules.trees rules.precedences rules.skips text 0 ys → (layout.recovers ≡ false → first_fault ys ≡ None)
+    → sent ++ kept ≡ item_lines layout rules.names text ys → Appends a b sent → WritesItemsPrefix rules layout text a b
+sent_so_far rules layout text ys sent kept a b f none are h xs cut =
+    let all = begin_so rules layout text ys f none xs cut in
+    let lines : item_lines layout rules.names text xs ≡ sent ++ (kept ++ all.0) = all.1 ∙ ap (λ (l : List ℕ). l ++ all.0) (sym are) ∙ append_assoc sent kept all.0 in
+    subst (AppendsPrefix a b) (sym lines) (AppendsPrefix-front a b sent (kept ++ all.0) h)
+
+pub sent_in_part : (rules : RuleSet) (layout : Layout) (text : List ℕ) (ys : List Item) (sent kept bytes : List ℕ) (a b c : Option (List ℕ))
+    → AreFirst rules.trees rules.precedences rules.skips text 0 ys → (layout.recovers ≡ false → first_fault ys ≡ None)
+    → sent ++ kept ≡ item_lines layout rules.names text ys → Appends a b sent → bytes ≡ kept → AppendsPrefix b c bytes → WritesItemsPrefix rules layout text a c
+sent_in_part rules layout text ys sent kept bytes a b c f none are h same k xs cut =
+    let all = begin_so rules layout text ys f none xs cut in
+    let lines : item_lines layout rules.names text xs ≡ sent ++ (kept ++ all.0) = all.1 ∙ ap (λ (l : List ℕ). l ++ all.0) (sym are) ∙ append_assoc sent kept all.0 in
+    subst (AppendsPrefix a c) (sym lines) (AppendsPrefix-behind a b c sent kept all.0 h (subst (AppendsPrefix b c) same k))
+
+pub sent_whole : (sent kept bytes lines : List ℕ) (a b c : Option (List ℕ)) → sent ++ kept ≡ lines → Appends a b sent → bytes ≡ kept → Appends b c bytes → Appends a c lines
+sent_whole sent kept bytes lines a b c are h same k =
+    subst (Appends a c) (ap (λ (l : List ℕ). sent ++ l) same ∙ are) (Appends-again a b c sent bytes h k)
+
+-- the lines with one more piece, of which some are passed on
+pub kept_on : (layout : Layout) (names : List (List ℕ)) (text placed : List ℕ) (ys : List Item) (x : Item) (sent old pushed more now : List ℕ)
+    → sent ++ old ≡ item_lines layout names text ys → placed ≡ text → pushed ≡ old ++ item_line layout names placed x → pushed ≡ more ++ now
+    → (sent ++ more) ++ now ≡ item_lines layout names text (ys ++ x ∷ [])
+kept_on layout names text placed ys x sent old pushed more now are p e k =
+    append_assoc sent more now ∙ ap (λ (l : List ℕ). sent ++ l) (sym k ∙ e ∙ ap (λ (t : List ℕ). old ++ item_line layout names t x) p)
+    ∙ sym (append_assoc sent old (item_line layout names text x)) ∙ ap (λ (l : List ℕ). l ++ item_line layout names text x) are ∙ sym (lines_more layout names text ys x)
+
+pub kept_all : (layout : Layout) (names : List (List ℕ)) (text placed : List ℕ) (ys : List Item) (x : Item) (sent old pushed : List ℕ)
+    → sent ++ old ≡ item_lines layout names text ys → placed ≡ text → pushed ≡ old ++ item_line layout names placed x
+    → sent ++ pushed ≡ item_lines layout names text (ys ++ x ∷ [])
+kept_all layout names text placed ys x sent old pushed are p e =
+    ap (λ (l : List ℕ). l ++ pushed) (sym (append-nil sent)) ∙ kept_on layout names text placed ys x sent old pushed [] pushed are p e refl
+
+-- ---- a fault where cutting ends
+
+-- the pieces up to it, and their lines
+pub up_to_it : (rules : RuleSet) (layout : Layout) (text : List ℕ) (ys : List Item) (x : Item) (old new : Option ℕ) (lines : List ℕ)
+    → AreFirst rules.trees rules.precedences rules.skips text 0 (ys ++ x ∷ []) → old ≡ first_fault ys → (layout.recovers ≡ false → old ≡ None)
+    → new ≡ first_with old x → IsSome new × (layout.recovers ≡ false) → lines ≡ item_lines layout rules.names text ys
+    → AreCut layout.recovers rules text (ys ++ x ∷ []) × (lines ≡ item_lines layout rules.names text (ys ++ x ∷ []))
+up_to_it rules layout text ys x old new lines f is none e ends are =
+    let found = is_some_of new ends.0 in
+    let nothing : old ≡ None = none ends.1 in
+    let here : first_with None x ≡ Some found.0 = ap (λ (o : Option ℕ). first_with o x) (sym nothing) ∙ sym e ∙ found.1 in (
+      cut_to_fault layout.recovers rules text found.0 ys x ends.1 f (sym is ∙ nothing) here,
+      are ∙ sym (append-nil (item_lines layout rules.names text ys)) ∙ ap (λ (l : List ℕ). item_lines layout rules.names text ys ++ l) (sym (no_line layout rules.names text found.0 x ends.1 here))
+          ∙ sym (lines_more layout rules.names text ys x),
+    )

@@ -1,0 +1,244 @@
+-- The first pieces of a text, as the calls of `next` return them, and their lines: any list of all pieces begins with the same lines.
+use Rattle.std.proofs.Common.{◌≡◌, ◌≢◌, ℕ, ◌+◌, ◌<◌, ◌≤◌, ◌⊎◌, inl, inr, Bool, true, false, List, [], ◌∷◌, ◌++◌, length, take, drop, flat_map, refl, sym, ap, subst, ◌∙◌, append_assoc, arith, length-append}
+use Rattle.std.proofs.lemmas.Bool.{cases_order}
+use Rattle.std.proofs.lemmas.Grind.{flat_map-append}
+use Rattle.std.proofs.lemmas.List.{append-nil, take_at}
+use Rattle.std.proofs.lemmas.Str.{IsUtf8-drop}
+use Rattle.std.specs.Prelude.{Option, Some, None, unwrap_or}
+use Rattle.std.specs.Iterator.{Yields}
+use Rattle.std.specs.Str.{IsUtf8, IsCharBoundary}
+use Rattle.lalrpop_book.specs.Prefix.{IsPrefix}
+use Rattle.lalrpop_book.specs.Tree.{Tree}
+use Rattle.lalrpop_book.specs.Longest.{IsLongest}
+use Rattle.lalrpop_book.specs.declared.token.Token.{Token as Cut}
+use Rattle.lalrpop_book.proofs.Longests.{longest-unique}
+use Rattle.lalrpop_rules.specs.CutToEnd.{CutToEnd, GivesPiece}
+use Rattle.lalrpop_rules.specs.Pieces.{IsFault, IsPiece, ArePieces, IsSkipped, slice_of, start_of}
+use Rattle.lalrpop_rules.specs.RuleSet.{RuleSet}
+use Rattle.lalrpop_rules.specs.declared.item.Item.{Item}
+use Rattle.lalrpop_rules.specs.declared.item.Item.TheVariants.{Token, Skipped, Fault}
+use Rattle.lalrpop_rules.proofs.FirstMatches.{some_length}
+use Rattle.lalrpop_rules.proofs.Fronts.{boundary_behind}
+use Rattle.lalrpop_rules.proofs.PieceLaws.{is_front, is_some}
+use Rattle.tokens_lib.specs.ItemLines.{line_at, fault_line, item_line, item_lines, name_at, AreUpToFault, AreCut, first_fault}
+use Rattle.tokens_lib.specs.Internal.Faults.{first_with}
+use Rattle.tokens_lib.specs.declared.layout.Layout.{Layout}
+
+-- each is the piece at its place
+abbrev pub AreFirst : List Tree → List ℕ → List Bool → List ℕ → ℕ → List Item → Type 0
+AreFirst ts ps skips text at [] = Unit {0}
+AreFirst ts ps skips text at (y ∷ ys) = IsPiece ts ps skips text at y × AreFirst ts ps skips text (at + length (slice_of y)) ys
+
+pub firsts_of : (s t : CutToEnd) (ys : List Item) → Yields GivesPiece s ys t → AreFirst s.rules.trees s.rules.precedences s.skips s.text s.at ys
+firsts_of s t [] y = tt
+firsts_of s t (x ∷ ys) (j, g, y) =
+    (g.0, subst (λ (w : CutToEnd). AreFirst w.rules.trees w.rules.precedences w.skips w.text w.at ys) g.1 (firsts_of j t ys y))
+
+-- ---- there is one piece at a place
+
+-- two equal matches have the same number and the same slice
+same_parts : (i j : ℕ) (p q : List ℕ) → ◌≡◌ {A = Option (ℕ × List ℕ)} (Some (i, p)) (Some (j, q)) → (i ≡ j) × (p ≡ q)
+same_parts i j p q e =
+    let both : ◌≡◌ {A = ℕ × List ℕ} (i, p) (j, q) = ap (λ (o : Option (ℕ × List ℕ)). unwrap_or o (i, p)) e in
+    (ap (λ (m : ℕ × List ℕ). m.0) both, ap (λ (m : ℕ × List ℕ). m.1) both)
+
+same_match : (ts : List Tree) (ps rest : List ℕ) (x y : Cut) → IsLongest ts ps rest (Some (x.index, x.slice.now)) → IsLongest ts ps rest (Some (y.index, y.slice.now))
+    → (x.index ≡ y.index) × (x.slice.now ≡ y.slice.now)
+same_match ts ps rest x y a b = same_parts x.index y.index x.slice.now y.slice.now (longest-unique ts ps rest _ _ a b)
+
+-- a match begins no fault
+no_fault_here : (ts : List Tree) (ps rest slice : List ℕ) (x : Cut) → IsLongest ts ps rest (Some (x.index, x.slice.now)) → IsFault ts rest slice → ⊥
+no_fault_here ts ps rest slice x a f = f.nothing 0 (some_length slice f.some) (x.slice.now, a.0)
+
+-- two faults at one place end at one place
+not_shorter : (ts : List Tree) (rest p q : List ℕ) → IsFault ts rest p → IsFault ts rest q → length p < length q → ⊥
+not_shorter ts rest p q f g less = elim f.ends [
+  | inl whole ↦ omega (arith, less, ap length whole, ap length g.front.1.0, length-append q g.front.0)
+  | inr m ↦ g.nothing (length p) less m
+]
+
+same_length : (ts : List Tree) (rest p q : List ℕ) → IsFault ts rest p → IsFault ts rest q → length p ≡ length q
+same_length ts rest p q f g = by_order (cases_order (length p) (length q))
+  where
+    by_order : (length p ≡ length q) ⊎ ((length p < length q) ⊎ (length q < length p)) → length p ≡ length q
+    by_order (inl same) = same
+    by_order (inr (inl less)) = absurd (not_shorter ts rest p q f g less)
+    by_order (inr (inr more)) = absurd (not_shorter ts rest q p g f more)
+
+-- a prefix is what its length takes
+taken : (p rest : List ℕ) → IsPrefix p rest → p ≡ take (length p) rest
+taken p rest b = sym (ap (take (length p)) b.1.0 ∙ take_at p b.0 (length p) refl)
+
+same_fault : (ts : List Tree) (rest p q : List ℕ) → IsFault ts rest p → IsFault ts rest q → p ≡ q
+same_fault ts rest p q f g =
+    taken p rest f.front ∙ ap (λ (n : ℕ). take n rest) (same_length ts rest p q f g) ∙ sym (taken q rest g.front)
+
+-- pieces at one place have one line, and end at one place
+pub same_piece : (layout : Layout) (names : List (List ℕ)) (ts : List Tree) (ps : List ℕ) (skips : List Bool) (text : List ℕ) (at : ℕ) (x y : Item)
+    → IsPiece ts ps skips text at x → IsPiece ts ps skips text at y → (item_line layout names text x ≡ item_line layout names text y) × (slice_of x ≡ slice_of y)
+same_piece layout names ts ps skips text at (Token x) (Token y) a b =
+    let same = same_match ts ps (drop at text) x y a.0.1 b.0.1 in
+    let start : x.start ≡ y.start = a.0.0 ∙ sym b.0.0 in (
+      ap (λ s. line_at layout text s (Some (name_at names x.index)) x.slice.now) start
+          ∙ ap (λ i. line_at layout text y.start (Some (name_at names i)) x.slice.now) same.0
+          ∙ ap (λ (l : List ℕ). line_at layout text y.start (Some (name_at names y.index)) l) same.1,
+      same.1,
+    )
+same_piece layout names ts ps skips text at (Token x) (Skipped y) a b =
+    let same = same_match ts ps (drop at text) x y a.0.1 b.0.1 in absurd (a.1 (subst (λ i. IsSkipped skips i) (sym same.0) b.1))
+same_piece layout names ts ps skips text at (Token x) (Fault start slice) a b = absurd (no_fault_here ts ps (drop at text) slice.now x a.0.1 b.1)
+same_piece layout names ts ps skips text at (Skipped x) (Token y) a b =
+    let same = same_match ts ps (drop at text) x y a.0.1 b.0.1 in absurd (b.1 (subst (λ i. IsSkipped skips i) same.0 a.1))
+same_piece layout names ts ps skips text at (Skipped x) (Skipped y) a b = (refl, (same_match ts ps (drop at text) x y a.0.1 b.0.1).1)
+same_piece layout names ts ps skips text at (Skipped x) (Fault start slice) a b = absurd (no_fault_here ts ps (drop at text) slice.now x a.0.1 b.1)
+same_piece layout names ts ps skips text at (Fault start slice) (Token y) a b = absurd (no_fault_here ts ps (drop at text) slice.now y b.0.1 a.1)
+same_piece layout names ts ps skips text at (Fault start slice) (Skipped y) a b = absurd (no_fault_here ts ps (drop at text) slice.now y b.0.1 a.1)
+same_piece layout names ts ps skips text at (Fault start slice) (Fault start2 slice2) a b =
+    let same : slice.now ≡ slice2.now = same_fault ts (drop at text) slice.now slice2.now a.1 b.1 in (
+      ap (λ s. fault_line layout.recovers layout text s slice.now) (a.0 ∙ sym b.0) ∙ ap (λ (l : List ℕ). fault_line layout.recovers layout text start2 l) same,
+      same,
+    )
+
+-- ---- the lines of first pieces begin the lines of all
+
+piece_left : (ts : List Tree) (ps : List ℕ) (skips : List Bool) (text : List ℕ) (at : ℕ) (y : Item) → IsPiece ts ps skips text at y → drop at text ≢ []
+piece_left ts ps skips text at y is none =
+    let front = is_front ts ps skips text at y is in
+    omega (arith, some_length (slice_of y) (is_some ts ps skips text at y is), ap length front.1.0, length-append (slice_of y) front.0, ap length none)
+
+-- one more piece in front
+in_front : (layout : Layout) (names : List (List ℕ)) (text : List ℕ) (x y : Item) (xs ys : List Item) → item_line layout names text x ≡ item_line layout names text y
+    → (more : List ℕ) × (item_lines layout names text xs ≡ item_lines layout names text ys ++ more)
+    → (more : List ℕ) × (item_lines layout names text (x ∷ xs) ≡ item_lines layout names text (y ∷ ys) ++ more)
+in_front layout names text x y xs ys same (more, rest) = (
+  more,
+  ap (λ l. l ++ item_lines layout names text xs) same ∙ ap (λ l. item_line layout names text y ++ l) rest
+      ∙ sym (append_assoc (item_line layout names text y) (item_lines layout names text ys) more),
+)
+
+begins_all : (layout : Layout) (names : List (List ℕ)) (ts : List Tree) (ps : List ℕ) (skips : List Bool) (text : List ℕ) (at : ℕ) (ys xs : List Item)
+    → AreFirst ts ps skips text at ys → ArePieces ts ps skips text at xs
+    → (more : List ℕ) × (item_lines layout names text xs ≡ item_lines layout names text ys ++ more)
+begins_all layout names ts ps skips text at [] xs f a = (item_lines layout names text xs, refl)
+begins_all layout names ts ps skips text at (y ∷ ys) [] f a = absurd (piece_left ts ps skips text at y f.0 a)
+begins_all layout names ts ps skips text at (y ∷ ys) (x ∷ xs) f a =
+    let same = same_piece layout names ts ps skips text at x y a.0 f.0 in
+    let there : ArePieces ts ps skips text (at + length (slice_of y)) xs = subst (λ (l : List ℕ). ArePieces ts ps skips text (at + length l) xs) same.1 a.1 in
+    in_front layout names text x y xs ys same.0 (begins_all layout names ts ps skips text (at + length (slice_of y)) ys xs f.1 there)
+
+-- no fault is among these, so all begin with a token or a skipped piece
+no_fault_first : (n : ℕ) → ◌≡◌ {A = Option ℕ} (Some n) None → ⊥
+no_fault_first n e = absurd (cc)
+
+no_other : (ts : List Tree) (ps : List ℕ) (skips : List Bool) (text : List ℕ) (at n : ℕ) (y x : Item) (ys : List Item) → IsPiece ts ps skips text at y → IsPiece ts ps skips text at x
+    → first_with None x ≡ Some n → first_fault (y ∷ ys) ≡ None → ⊥
+no_other ts ps skips text at n (Fault start slice) x ys a b e none = no_fault_first start none
+no_other ts ps skips text at n (Token y) (Token x) ys a b e none = no_fault_first n (sym e)
+no_other ts ps skips text at n (Token y) (Skipped x) ys a b e none = no_fault_first n (sym e)
+no_other ts ps skips text at n (Token y) (Fault start slice) ys a b e none = no_fault_here ts ps (drop at text) slice.now y a.0.1 b.1
+no_other ts ps skips text at n (Skipped y) (Token x) ys a b e none = no_fault_first n (sym e)
+no_other ts ps skips text at n (Skipped y) (Skipped x) ys a b e none = no_fault_first n (sym e)
+no_other ts ps skips text at n (Skipped y) (Fault start slice) ys a b e none = no_fault_here ts ps (drop at text) slice.now y a.0.1 b.1
+
+fault_behind : (y : Item) (ys : List Item) → first_fault (y ∷ ys) ≡ None → first_fault ys ≡ None
+fault_behind (Token y) ys none = none
+fault_behind (Skipped y) ys none = none
+fault_behind (Fault start slice) ys none = absurd (no_fault_first start none)
+
+begins_up_to_fault : (layout : Layout) (names : List (List ℕ)) (ts : List Tree) (ps : List ℕ) (skips : List Bool) (text : List ℕ) (at : ℕ) (ys xs : List Item)
+    → AreFirst ts ps skips text at ys → first_fault ys ≡ None → AreUpToFault ts ps skips text at xs
+    → (more : List ℕ) × (item_lines layout names text xs ≡ item_lines layout names text ys ++ more)
+begins_up_to_fault layout names ts ps skips text at [] xs f none a = (item_lines layout names text xs, refl)
+begins_up_to_fault layout names ts ps skips text at (y ∷ ys) [] f none a = absurd (piece_left ts ps skips text at y f.0 a)
+begins_up_to_fault layout names ts ps skips text at (y ∷ ys) (Fault start slice ∷ xs) f none a =
+    absurd (no_other ts ps skips text at start y (Fault start slice) ys f.0 a.0 refl none)
+begins_up_to_fault layout names ts ps skips text at (y ∷ ys) (Token x ∷ xs) f none a =
+    let same = same_piece layout names ts ps skips text at (Token x) y a.0 f.0 in
+    let there : AreUpToFault ts ps skips text (at + length (slice_of y)) xs = subst (λ (l : List ℕ). AreUpToFault ts ps skips text (at + length l) xs) same.1 a.1 in
+    in_front layout names text (Token x) y xs ys same.0
+    (begins_up_to_fault layout names ts ps skips text (at + length (slice_of y)) ys xs f.1 (fault_behind y ys none) there)
+begins_up_to_fault layout names ts ps skips text at (y ∷ ys) (Skipped x ∷ xs) f none a =
+    let same = same_piece layout names ts ps skips text at (Skipped x) y a.0 f.0 in
+    let there : AreUpToFault ts ps skips text (at + length (slice_of y)) xs = subst (λ (l : List ℕ). AreUpToFault ts ps skips text (at + length l) xs) same.1 a.1 in
+    in_front layout names text (Skipped x) y xs ys same.0
+    (begins_up_to_fault layout names ts ps skips text (at + length (slice_of y)) ys xs f.1 (fault_behind y ys none) there)
+
+-- these lines begin whatever is written for the text
+abbrev pub Begins : RuleSet → Layout → List ℕ → List ℕ → Type 0
+Begins rules layout text lines =
+    (xs : List Item) → AreCut layout.recovers rules text xs → (more : List ℕ) × (item_lines layout rules.names text xs ≡ lines ++ more)
+
+pub begin_so : (rules : RuleSet) (layout : Layout) (text : List ℕ) (ys : List Item) → AreFirst rules.trees rules.precedences rules.skips text 0 ys
+    → (layout.recovers ≡ false → first_fault ys ≡ None) → Begins rules layout text (item_lines layout rules.names text ys)
+begin_so rules layout text ys f none xs are = by_kind layout.recovers refl are
+  where
+    by_kind : (b : Bool) → layout.recovers ≡ b → AreCut b rules text xs
+        → (more : List ℕ) × (item_lines layout rules.names text xs ≡ item_lines layout rules.names text ys ++ more)
+    by_kind true is a = begins_all layout rules.names rules.trees rules.precedences rules.skips text 0 ys xs f a
+    by_kind false is a = begins_up_to_fault layout rules.names rules.trees rules.precedences rules.skips text 0 ys xs f (none is) a
+
+-- ---- the pieces that are cut
+
+-- where there is no fault, these are all up to a fault
+no_fault_at_all : (ts : List Tree) (ps : List ℕ) (skips : List Bool) (text : List ℕ) (at : ℕ) (xs : List Item) → ArePieces ts ps skips text at xs
+    → first_fault xs ≡ None → AreUpToFault ts ps skips text at xs
+no_fault_at_all ts ps skips text at [] are none = are
+no_fault_at_all ts ps skips text at (Token x ∷ xs) are none = (are.0, no_fault_at_all ts ps skips text (at + length x.slice.now) xs are.1 none)
+no_fault_at_all ts ps skips text at (Skipped x ∷ xs) are none = (are.0, no_fault_at_all ts ps skips text (at + length x.slice.now) xs are.1 none)
+no_fault_at_all ts ps skips text at (Fault start slice ∷ xs) are none = absurd (no_fault_first start none)
+
+pub cut_to_end : (b : Bool) (rules : RuleSet) (text : List ℕ) (xs : List Item) → ArePieces rules.trees rules.precedences rules.skips text 0 xs
+    → (b ≡ false → first_fault xs ≡ None) → AreCut b rules text xs
+cut_to_end true rules text xs are none = are
+cut_to_end false rules text xs are none = no_fault_at_all rules.trees rules.precedences rules.skips text 0 xs are (none refl)
+
+-- and with a fault behind them too
+fault_last : (ts : List Tree) (ps : List ℕ) (skips : List Bool) (text : List ℕ) (at n : ℕ) (ys : List Item) (x : Item) → AreFirst ts ps skips text at (ys ++ x ∷ [])
+    → first_fault ys ≡ None → first_with None x ≡ Some n → AreUpToFault ts ps skips text at (ys ++ x ∷ [])
+fault_last ts ps skips text at n [] (Token x) f none e = absurd (no_fault_first n (sym e))
+fault_last ts ps skips text at n [] (Skipped x) f none e = absurd (no_fault_first n (sym e))
+fault_last ts ps skips text at n [] (Fault start slice) f none e = (f.0, refl)
+fault_last ts ps skips text at n (Token y ∷ ys) x f none e = (f.0, fault_last ts ps skips text (at + length y.slice.now) n ys x f.1 none e)
+fault_last ts ps skips text at n (Skipped y ∷ ys) x f none e = (f.0, fault_last ts ps skips text (at + length y.slice.now) n ys x f.1 none e)
+fault_last ts ps skips text at n (Fault start slice ∷ ys) x f none e = absurd (no_fault_first start none)
+
+pub cut_to_fault : (b : Bool) (rules : RuleSet) (text : List ℕ) (n : ℕ) (ys : List Item) (x : Item) → b ≡ false → AreFirst rules.trees rules.precedences rules.skips text 0 (ys ++ x ∷ [])
+    → first_fault ys ≡ None → first_with None x ≡ Some n → AreCut b rules text (ys ++ x ∷ [])
+cut_to_fault true rules text n ys x is f none e = absurd (cc)
+cut_to_fault false rules text n ys x is f none e = fault_last rules.trees rules.precedences rules.skips text 0 n ys x f none e
+
+-- a fault where cutting ends has no line
+pub no_line : (layout : Layout) (names : List (List ℕ)) (text : List ℕ) (n : ℕ) (x : Item) → layout.recovers ≡ false → first_with None x ≡ Some n
+    → item_line layout names text x ≡ []
+no_line layout names text n (Token x) is e = absurd (no_fault_first n (sym e))
+no_line layout names text n (Skipped x) is e = absurd (no_fault_first n (sym e))
+no_line layout names text n (Fault start slice) is e = ap (λ (b : Bool). fault_line b layout text start slice.now) is
+
+-- ---- one more piece
+
+pub first_more : (ys : List Item) (x : Item) → first_fault (ys ++ x ∷ []) ≡ first_with (first_fault ys) x
+first_more [] (Token x) = refl
+first_more [] (Skipped x) = refl
+first_more [] (Fault start slice) = refl
+first_more (Token y ∷ ys) x = first_more ys x
+first_more (Skipped y ∷ ys) x = first_more ys x
+first_more (Fault start slice ∷ ys) x = refl
+
+pub lines_more : (layout : Layout) (names : List (List ℕ)) (text : List ℕ) (ys : List Item) (x : Item)
+    → item_lines layout names text (ys ++ x ∷ []) ≡ item_lines layout names text ys ++ item_line layout names text x
+lines_more layout names text ys x =
+    flat_map-append (item_line layout names text) ys (x ∷ []) ∙ ap (λ l. item_lines layout names text ys ++ l) (append-nil (item_line layout names text x))
+
+-- ---- places
+
+-- the rest begins where a character does
+pub rest_begins : (s t : CutToEnd) (ys : List Item) → IsUtf8 s.text → IsCharBoundary s.text s.at → Yields GivesPiece s ys t → IsCharBoundary t.text t.at × (t.text ≡ s.text)
+rest_begins s t [] u b y =
+    (subst (λ (w : CutToEnd). IsCharBoundary w.text w.at) y b, sym (ap (λ (w : CutToEnd). w.text) y))
+rest_begins s t (x ∷ ys) u b (j, g, y) =
+    let front = is_front s.rules.trees s.rules.precedences s.skips s.text s.at x g.0 in
+    let behind : IsCharBoundary s.text (s.at + length (slice_of x)) = boundary_behind s.text s.at (slice_of x) b (IsUtf8-drop s.text s.at u b) front in
+    let same : j.text ≡ s.text = ap (λ (w : CutToEnd). w.text) g.1 in
+    let there : IsCharBoundary j.text j.at = subst (λ (w : CutToEnd). IsCharBoundary w.text w.at) (sym g.1) behind in
+    let others = rest_begins j t ys (subst IsUtf8 (sym same) u) there y in
+    (others.0, others.1 ∙ same)

@@ -1,0 +1,209 @@
+//! Texts of files, one after another: each is cut, and its lines or its markup are written.
+ghost use Rattle.std.specs.Prelude.{◌≡◌, ◌≤◌, false, IfOk, OnOk};
+ghost use Rattle.tokens_lib.specs.Internal.Endings.{StopsIn};
+
+use crate::command::Markup;
+use crate::ends::{NO_TEXT, open, out_of_memory, say, say_of};
+use crate::fault::fault_message;
+use crate::item_lines::write_items;
+use crate::layout::{Layout, LineForm};
+use crate::text::{TextError, read_text};
+use crate::token_lines::write_tokens;
+use lalrpop_lexer::Lexer;
+use lalrpop_markup::html;
+use lalrpop_rules::{Item, RuleLexer};
+use lexdfa_lib::{Failure, Outcome, RunError, Watched, write_whole};
+use std::alloc::Global;
+use std::io::{Eprint, Read, Write};
+use std::rt::Files;
+
+// The name of standard input in places.
+const INPUT: &str = "<stdin>";
+
+/// What is done with each text.
+#[derive(Clone, Copy)]
+pub(crate) enum Task<'rules> {
+    /// The lines of its tokens are written, by terminals.
+    Tokens {
+        lexer: &'rules Lexer,
+        /// Whether the line of a token begins with its place.
+        places: bool,
+    },
+    /// The lines of its pieces are written, by named rules.
+    Pieces {
+        lexer: &'rules RuleLexer,
+        form: LineForm,
+        /// Whether cutting goes on behind a fault.
+        recovers: bool,
+        /// Whether each line names the file.
+        named: bool,
+    },
+    /// It is written as markup, by named rules.
+    Markup {
+        lexer: &'rules RuleLexer,
+        markup: Markup,
+    },
+}
+
+// What came of a text.
+#[derive(Clone, Copy)]
+enum Ending {
+    /// It was cut to its end, and has no fault.
+    Whole,
+    /// It was cut to its end, and has faults.
+    Faulty,
+    /// It was cut up to a fault at this byte: nothing of this kind matches there.
+    Stopped { kind: &'static str, at: usize },
+}
+
+fn has_fault(lexer: &RuleLexer, text: &str) -> bool {
+    for item in lexer.items(text) {
+        if let Item::Fault { .. } = item {
+            return true;
+        }
+    }
+    false
+}
+
+fn write_markup<W: Write>(
+    alloc: Global,
+    lexer: &RuleLexer,
+    markup: Markup,
+    text: &str,
+    writer: &mut Watched<W>,
+) -> Result<(), RunError>
+    requires writer_good { writer.old.failed ≡ false }
+    ensures good { OnOk result (writer.new.failed ≡ false) }
+{
+    let shown = match markup {
+        Markup::Html => html(alloc, lexer, text),
+    };
+    match shown {
+        Ok(page) => write_whole(writer, page.as_bytes()),
+        Err(_) => Err(RunError::OutOfMemory),
+    }
+}
+
+// Does what is to be done with a text.
+fn perform<W: Write>(
+    alloc: Global,
+    task: &Task<'_>,
+    name: &str,
+    text: &str,
+    writer: &mut Watched<W>,
+) -> Result<Ending, RunError>
+    requires writer_good { writer.old.failed ≡ false }
+    ensures boundary { IfOk result (λ ending. StopsIn text.now ending) }
+    ensures good { OnOk result (writer.new.failed ≡ false) }
+{
+    match *task {
+        Task::Tokens { lexer, places } => {
+            let file = if places { Some(name) } else { None };
+            match write_tokens(alloc, lexer, file, text, writer)? {
+                Outcome::Stopped { at, .. } => Ok(Ending::Stopped {
+                    kind: "terminal",
+                    at,
+                }),
+                _ => Ok(Ending::Whole),
+            }
+        }
+        Task::Pieces {
+            lexer,
+            form,
+            recovers,
+            named,
+        } => {
+            let file = if named { Some(name) } else { None };
+            let layout = Layout {
+                form,
+                recovers,
+                file,
+            };
+            match write_items(alloc, lexer, &layout, text, writer)? {
+                None => Ok(Ending::Whole),
+                Some(_) if recovers => Ok(Ending::Faulty),
+                Some(at) => Ok(Ending::Stopped { kind: "rule", at }),
+            }
+        }
+        Task::Markup { lexer, markup } => {
+            write_markup(alloc, lexer, markup, text, writer)?;
+            if has_fault(lexer, text) {
+                Ok(Ending::Faulty)
+            } else {
+                Ok(Ending::Whole)
+            }
+        }
+    }
+}
+
+// Does it with what a reader has, and returns the status.
+fn cut<R: Read, W: Write>(
+    rt: &(impl Eprint + AllocGlobal),
+    task: &Task<'_>,
+    name: &str,
+    reader: &mut Watched<R>,
+    writer: &mut Watched<W>,
+) -> Result<u8, Failure>
+    requires reader_good { reader.old.failed ≡ false }
+    requires writer_good { writer.old.failed ≡ false }
+    ensures status { IfOk result (λ status. status ≤ 6) }
+    ensures good { OnOk result (writer.new.failed ≡ false) }
+{
+    let text = match read_text(rt.alloc(), reader) {
+        Ok(text) => text,
+        Err(TextError::OutOfMemory) => return Err(Failure::Run(RunError::OutOfMemory)),
+        Err(error) => {
+            say_of(rt, name, &error);
+            return Ok(NO_TEXT);
+        }
+    };
+    match perform(rt.alloc(), task, name, text.as_str(), writer).map_err(Failure::Run)? {
+        Ending::Whole => Ok(0),
+        Ending::Faulty => Ok(1),
+        Ending::Stopped { kind, at } => {
+            let message = fault_message(rt.alloc(), kind, name, text.as_str(), at).map_err(
+                out_of_memory,
+            )?;
+            say(rt, message.as_str());
+            Ok(1)
+        }
+    }
+}
+
+// Does it with a file, and returns the status.
+fn cut_file<W: Write>(
+    rt: &(impl Files + Eprint + AllocGlobal),
+    task: &Task<'_>,
+    name: &str,
+    writer: &mut Watched<W>,
+) -> Result<u8, Failure>
+    requires writer_good { writer.old.failed ≡ false }
+    ensures status { IfOk result (λ status. status ≤ 6) }
+    ensures good { OnOk result (writer.new.failed ≡ false) }
+{
+    let Some(file) = open(rt, name)? else {
+        return Ok(NO_TEXT);
+    };
+    cut(rt, task, name, &mut Watched::new(file), writer)
+}
+
+/// Does it with each file, or with standard input if there are none, and returns the greatest status.
+pub(crate) fn cut_all<W: Write>(
+    rt: &(impl Files + Input + Eprint + AllocGlobal),
+    task: &Task<'_>,
+    files: &[String],
+    writer: &mut Watched<W>,
+) -> Result<u8, Failure>
+    requires writer_good { writer.old.failed ≡ false }
+    ensures status { IfOk result (λ status. status ≤ 6) }
+{
+    if files.is_empty() {
+        return cut(rt, task, INPUT, &mut Watched::new(rt.reader()), writer);
+    }
+    let mut status = 0u8;
+    for name in files {
+        let own = cut_file(rt, task, name.as_str(), writer)?;
+        status = status.max(own);
+    }
+    Ok(status)
+}

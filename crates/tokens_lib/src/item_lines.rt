@@ -1,0 +1,201 @@
+//! The lines of the pieces of a text, written as they come.
+ghost use Rattle.std.specs.Prelude.{◌≡◌, ◌≢◌, ◌+◌, ◌≤◌, ◌++◌, ℕ, List, length, false, true, option_map, string_bytes, None, IfOk, IfSome, IsSome, OnOk, OnErr, IfErr};
+ghost use Rattle.std.specs.Io.KnownBytes.{Appends};
+ghost use Rattle.std.specs.Str.{IsCharBoundary};
+ghost use Rattle.lalrpop_rules.specs.Pieces.{slice_of, start_of};
+ghost use Rattle.lexdfa_lib.specs.Watch.{AppendsPrefix};
+ghost use Rattle.tokens_lib.specs.ItemLines.{plain_line, line_in, item_line, name_at, WritesItems, WritesItemsPrefix};
+ghost use Rattle.tokens_lib.specs.Internal.Faults.{first_with};
+
+use crate::json_line::push_json;
+use crate::layout::{Layout, LineForm};
+use crate::quote::quoted;
+use crate::shown::Shown;
+use lalrpop_lexer::lexer::dfa::NfaIndex;
+use lalrpop_lexer::{Position, Positions};
+use lalrpop_rules::{Item, RuleLexer};
+use lexdfa_lib::{RunError, Watched, write_whole};
+use std::alloc::{AllocError, Global};
+use std::io::Write;
+
+// Lines are written once they have this many bytes.
+const CHUNK: usize = 65536;
+
+fn plain_line_of(
+    alloc: Global,
+    file: Option<&str>,
+    position: Position,
+    shown: &Shown<'_, '_>,
+) -> Result<String, AllocError>
+    ensures { IfOk result (λ line. string_bytes line ≡ plain_line (option_map (λ f. f.now) file.entry)
+        position (option_map (λ n. n.now) shown.now.name) shown.now.slice.now) }
+{
+    let mut text = String::new(alloc);
+    if let Some(file) = file {
+        write!(text, "{file}:")?;
+    }
+    let line = position.line;
+    let column = position.column;
+    let name = shown.name.unwrap_or("!");
+    let slice = quoted(alloc, shown.slice)?;
+    write!(text, "{line}:{column} {name} {slice}\n")?;
+    Ok(text)
+}
+
+fn push_line(
+    alloc: Global,
+    lines: &mut Vec<u8>,
+    layout: &Layout<'_>,
+    position: Position,
+    shown: &Shown<'_, '_>,
+) -> Result<(), AllocError>
+    requires fits { shown.now.start + length shown.now.slice.now ≤ usize.MAX }
+    ensures { OnOk result (lines.new.items ≡ lines.old.items
+        ++ line_in layout.now.form (option_map (λ f. f.now) layout.now.file) position shown.now.start
+        (option_map (λ n. n.now) shown.now.name) shown.now.slice.now) }
+{
+    match layout.form {
+        LineForm::Plain => {
+            let line = plain_line_of(alloc, layout.file, position, shown)?;
+            lines.extend_from_slice(line.as_bytes())
+        }
+        LineForm::Json => push_json(alloc, lines, layout.file, position, shown),
+    }
+}
+
+// The name of a rule. The rule of a token has one.
+fn name_of(lexer: &RuleLexer, index: NfaIndex) -> &str
+    ensures { result.now ≡ name_at lexer.now.names index }
+{
+    match lexer.name(index) {
+        Some(name) => name,
+        None => "",
+    }
+}
+
+// The line of a piece, if it has one.
+fn push_item(
+    alloc: Global,
+    lines: &mut Vec<u8>,
+    lexer: &RuleLexer,
+    layout: &Layout<'_>,
+    places: &mut Positions<'_>,
+    item: &Item<'_>,
+) -> Result<(), AllocError>
+    requires boundary { IsCharBoundary places.old.text (start_of item.now) }
+    requires ascending { places.old.offset ≤ start_of item.now }
+    requires fits { start_of item.now + length (slice_of item.now) ≤ usize.MAX }
+    ensures line { OnOk result (lines.new.items ≡ lines.old.items
+        ++ item_line layout.now lexer.now.names places.old.text item.now) }
+    ensures text { places.new.text ≡ places.old.text }
+    ensures walked { places.new.offset ≤ start_of item.now }
+{
+    let shown = match item {
+        Item::Token(token) => Shown {
+            start: token.start,
+            name: Some(name_of(lexer, token.index)),
+            slice: token.slice,
+        },
+        Item::Fault { start, slice } if layout.recovers => Shown {
+            start: *start,
+            name: None,
+            slice,
+        },
+        Item::Skipped(_) | Item::Fault { .. } => return Ok(()),
+    };
+    let position = places.at(shown.start);
+    push_line(alloc, lines, layout, position, &shown)
+}
+
+// Writes the lines and empties them, if there are enough of them.
+fn pass_on<W: Write>(lines: &mut Vec<u8>, writer: &mut Watched<W>) -> Result<(), RunError>
+    requires writer_good { writer.old.failed ≡ false }
+    ensures passed { OnOk result ((sent : List ℕ)
+        × (Appends (W.contents writer.old.inner) (W.contents writer.new.inner) sent
+        × (lines.old.items ≡ sent ++ lines.new.items))) }
+    ensures good { OnOk result (writer.new.failed ≡ false) }
+    ensures prefix { OnErr result (AppendsPrefix (W.contents writer.old.inner)
+        (W.contents writer.new.inner) lines.old.items) }
+    ensures failed { OnErr result (writer.new.failed ≡ true) }
+    ensures write { IfErr result (λ e. e ≡ RunError.Write) }
+    ensures no_late_write { writer.new.late ≡ writer.old.late }
+{
+    if lines.len() >= CHUNK {
+        write_whole(writer, lines)?;
+        lines.clear();
+    }
+    Ok(())
+}
+
+// Where the first fault begins, after one more piece.
+fn first_fault_with(first: Option<usize>, item: &Item<'_>) -> Option<usize>
+    ensures { result ≡ first_with first item.now }
+{
+    match (first, item) {
+        (Some(start), _) => Some(start),
+        (None, Item::Fault { start, .. }) => Some(*start),
+        (None, _) => None,
+    }
+}
+
+// Whether cutting ends, since a fault was found.
+fn ends(layout: &Layout<'_>, first_fault: Option<usize>) -> bool
+    ensures yes { result ≡ true → IsSome first_fault × (layout.now.recovers ≡ false) }
+    ensures no { result ≡ false → layout.now.recovers ≡ false → first_fault ≡ None }
+{
+    first_fault.is_some() && !layout.recovers
+}
+
+/// Cuts the text by named rules, and writes a line for each token and for each fault; skipped pieces have none. A plain line is
+/// `LINE:COLUMN NAME "SLICE"`, behind `FILE:` if the file is named, with lines and columns from 1, columns in characters,
+/// and `!` in place of the name of a fault. A line of JSON is an object with the members `file`, if the file is named, `line`,
+/// `column`, `start` and `end`, which are offsets in bytes, `rule`, which is `null` for a fault, and `text`.
+///
+/// If the layout doesn't recover, the text is cut up to its first fault, which has no line. Returns where the first fault begins,
+/// in bytes, or `None` if there is none.
+///
+/// Lines are written as they come, some 64 KiB at a time. Nothing is tried again.
+///
+/// # Errors
+///
+/// `OutOfMemory` if a request for memory was refused, and `Write` if a write failed or took no byte: a prefix of the lines
+/// was written.
+pub fn write_items<W: Write>(
+    alloc: Global,
+    lexer: &RuleLexer,
+    layout: &Layout<'_>,
+    text: &str,
+    writer: &mut Watched<W>,
+) -> Result<Option<usize>, RunError>
+    requires writer_good { writer.old.failed ≡ false }
+
+    ensures written { IfOk result (λ fault. WritesItems lexer.now layout.now text.now
+        (W.contents writer.old.inner) (W.contents writer.new.inner) fault) }
+    ensures boundary { IfOk result (λ fault. IfSome fault (IsCharBoundary text.now)) }
+    ensures good { OnOk result (writer.new.failed ≡ false) }
+
+    ensures prefix { OnErr result (WritesItemsPrefix lexer.now layout.now text.now
+        (W.contents writer.old.inner) (W.contents writer.new.inner)) }
+    ensures memory { IfErr result (λ e. e ≡ RunError.OutOfMemory → writer.new.failed ≡ false) }
+    ensures write { IfErr result (λ e. e ≡ RunError.Write → writer.new.failed ≡ true) }
+    ensures read { IfErr result (λ e. e ≢ RunError.Read) }
+
+    ensures no_late_write { writer.new.late ≡ writer.old.late }
+{
+    let mut places = Positions::new(text);
+    let mut lines = Vec::new(alloc);
+    let mut first_fault = None;
+    for item in lexer.items(text) {
+        first_fault = first_fault_with(first_fault, &item);
+        if ends(layout, first_fault) {
+            write_whole(writer, &lines)?;
+            return Ok(first_fault);
+        }
+        if push_item(alloc, &mut lines, lexer, layout, &mut places, &item).is_err() {
+            return Err(RunError::OutOfMemory);
+        }
+        pass_on(&mut lines, writer)?;
+    }
+    write_whole(writer, &lines)?;
+    Ok(first_fault)
+}

@@ -1,0 +1,82 @@
+//! What is wrong with a pattern, in words for people, and the place in its line.
+
+use lalrpop_lexer::lexer::nfa::NfaConstructionError;
+use lalrpop_lexer::lexer::re::SyntaxKind;
+use std::alloc::{AllocError, Global};
+
+/// Why a pattern doesn't parse.
+pub(crate) fn syntax_text(kind: SyntaxKind) -> &'static str {
+    match kind {
+        SyntaxKind::UnclosedGroup => "this group isn't closed",
+        SyntaxKind::UnopenedGroup => "this `)` closes no group",
+        SyntaxKind::UnclosedClass => "this bracket isn't closed",
+        SyntaxKind::ClassRangeInvalid => "this range ends before it starts",
+        SyntaxKind::ClassRangeLiteral => "a range needs a single character at both ends",
+        SyntaxKind::ClassEscapeInvalid => "this escape can't stand in brackets",
+        SyntaxKind::EscapeUnexpectedEof => "the pattern ends inside an escape",
+        SyntaxKind::EscapeUnrecognized => "this escape is unknown",
+        SyntaxKind::EscapeHex => "this number names no character",
+        SyntaxKind::UnicodeSetUnknown => "there is no set of characters by this name",
+        SyntaxKind::RepetitionMissing => "there is nothing to repeat before this operator",
+        SyntaxKind::RepetitionCount => "this count is malformed, too great or out of order",
+        SyntaxKind::Flag => "this flag is unknown, missing or written twice",
+        SyntaxKind::GroupName => "this group name is malformed, missing or taken",
+        SyntaxKind::UnsupportedLookAround => "patterns have no look-around",
+        SyntaxKind::UnsupportedBackreference => "patterns have no references to groups",
+        SyntaxKind::NestLimitExceeded => "groups, brackets and repetitions nest too deeply",
+    }
+}
+
+/// Why a pattern can't be compiled.
+pub(crate) fn refusal_text(error: NfaConstructionError) -> &'static str {
+    match error {
+        NfaConstructionError::NamedCaptures => "a lexer can't have named groups: write `(?:..)`",
+        NfaConstructionError::NonGreedy => "a lexer can't have lazy repetitions",
+        NfaConstructionError::LookAround => "a lexer can't have look-around or word boundaries",
+        NfaConstructionError::ByteRegex => "a lexer can't have patterns of bytes",
+        NfaConstructionError::OutOfMemory => "out of memory",
+    }
+}
+
+/// The number of characters of the text before this byte.
+pub(crate) fn characters_before(text: &str, byte: usize) -> usize {
+    text.char_indices()
+        .take_while(|found| found.0 < byte)
+        .count()
+}
+
+// Blanks as wide as the first characters of the line.
+fn push_blanks(text: &mut String, line: &str, count: usize) -> Result<(), AllocError> {
+    let mut left = count;
+    for c in line.chars() {
+        if left == 0 {
+            return Ok(());
+        }
+        text.push(if c == '\t' { '\t' } else { ' ' })?;
+        left = left.saturating_sub(1);
+    }
+    Ok(())
+}
+
+/// The place and the reason, and the line with a caret under the place, which stands behind `before` characters of it. Lines count
+/// from 1.
+///
+/// # Errors
+///
+/// `AllocError` if a request for memory was refused.
+pub(crate) fn place_explained(
+    alloc: Global,
+    file: &str,
+    number: usize,
+    line: &str,
+    before: usize,
+    reason: &str,
+) -> Result<String, AllocError> {
+    let column = before.saturating_add(1);
+    let mut message = format!(in alloc;
+        "tokens: {file}:{number}:{column}: {reason}\n    {line}\n    "
+    )?;
+    push_blanks(&mut message, line, before)?;
+    message.push_str("^\n")?;
+    Ok(message)
+}
