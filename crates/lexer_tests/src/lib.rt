@@ -6,6 +6,8 @@
 #[cfg(test)]
 mod automata;
 #[cfg(test)]
+mod bounded;
+#[cfg(test)]
 mod built;
 #[cfg(test)]
 mod clash_words;

@@ -9,7 +9,7 @@ use lalrpop_lexer::lexer::dfa::{
     DenseDfa, Dfa, DfaConstructionError, Precedence, State, Witness, build_dfa,
 };
 use lalrpop_lexer::lexer::nfa::{self, Nfa, NfaConstructionError, Steps, Test};
-use lalrpop_lexer::{Lexer, TokenList};
+use lalrpop_lexer::{Lexer, Token, TokenFault, TokenList};
 use std::alloc::{AllocError, Global};
 use std::collections::BTreeSet;
 use std::env::{self, VarError};
@@ -419,14 +419,30 @@ fn texts_are_cut_into_lists(rt: HostRuntime) {
     expect(&rt, rt.alloc(), Call::List, table, 2);
 }
 
+fn add_item(
+    alloc: Global,
+    line: &mut String,
+    item: &Result<Token, TokenFault>,
+) -> Result<(), AllocError> {
+    let part = match item {
+        Ok(token) => format!(in alloc; "{}", token.index.index())?,
+        Err(fault) => format!(in alloc; "fault {}", fault.at)?,
+    };
+    add(line, " ", part.as_str())
+}
+
 fn linear_by(alloc: Global, lexer: &Lexer, text: &str) -> Result<String, AllocError> {
     let mut line = String::new(alloc);
     for item in lexer.tokens_linear(alloc, text)? {
-        let part = match item {
-            Ok(token) => format!(in alloc; "{}", token.index.index())?,
-            Err(fault) => format!(in alloc; "fault {}", fault.at)?,
-        };
-        add(&mut line, " ", part.as_str())?;
+        add_item(alloc, &mut line, &item)?;
+    }
+    Ok(line)
+}
+
+fn bounded_by(alloc: Global, lexer: &Lexer, text: &str) -> Result<String, AllocError> {
+    let mut line = String::new(alloc);
+    for item in lexer.tokens_bounded(alloc, text)? {
+        add_item(alloc, &mut line, &item)?;
     }
     Ok(line)
 }
@@ -436,6 +452,13 @@ pub(crate) fn listed_linear(alloc: Global, row: &str) -> Result<String, AllocErr
     let (rows, text) = halves(row, " <- ");
     let lexer = lexer_for(alloc, rows)?;
     linear_by(alloc, &lexer, text)
+}
+
+// The same, in the way whose cost has a bound.
+pub(crate) fn listed_bounded(alloc: Global, row: &str) -> Result<String, AllocError> {
+    let (rows, text) = halves(row, " <- ");
+    let lexer = lexer_for(alloc, rows)?;
+    bounded_by(alloc, &lexer, text)
 }
 
 #[test]
@@ -480,4 +503,12 @@ fn matches_are_left_open(rt: HostRuntime) {
 0 a / 0 a*b => 3 [97] [97, 97, 97]
 0 b => 0 [98] []";
     expect(&rt, rt.alloc(), Call::Witness, table, 3);
+}
+
+#[test]
+fn texts_are_cut_in_bounded_time(rt: HostRuntime) {
+    let table = "\
+0 a / 0 a*b <- aac => 0 0 fault 2
+0 a / 0 ab <- aabc => 0 1 fault 3";
+    expect(&rt, rt.alloc(), Call::Bounded, table, 2);
 }

@@ -142,12 +142,13 @@ fn all_lines_or_nothing(rt: HostRuntime) {
 1 l class;0 r [a-zA-Z_][a-zA-Z0-9_]*;0 r  +; / class Foo => match 0 5;match 2 1;match 1 3;, 0
 1 l class;0 r [a-zA-Z_][a-zA-Z0-9_]*;0 r  +; / class \u{e9} => match 0 5;match 2 1;stop 6;, 1
 1 l class; /  => , 0
+0 r a;0 r a*b; / aac => match 0 1;match 0 1;stop 2;, 1
  / a => stop 0;, 1
 0 l a;0 r a; / b => ambiguous 1 0 61;, 2
 0 r a;0 r \\bb; / a => refused 1 LookAround;, 2
 0 r \\ba;0 r (; / a => syntax 1;, 3
 x l a; / a => line 0;, 3";
-    assert!(rt; table.lines().count() == 8);
+    assert!(rt; table.lines().count() == 9);
     for row in table.lines() {
         assert!(rt; at_last!(&rt; holds(rt.alloc(), true, row)), "{row}");
     }

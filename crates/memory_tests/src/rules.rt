@@ -83,6 +83,32 @@ fn names_in(alloc: Global, lexer: &RuleLexer, text: &str) -> Result<String, Allo
     Ok(line)
 }
 
+fn names_in_linear_time(
+    alloc: Global,
+    lexer: &RuleLexer,
+    text: &str,
+) -> Result<String, AllocError> {
+    let mut line = String::new(alloc);
+    for item in lexer.items_linear(alloc, text)? {
+        let name = match item {
+            Item::Token(token) => lexer.name(token.index).unwrap_or("no name"),
+            Item::Skipped(_) => "-",
+            Item::Fault { slice, .. } => slice,
+        };
+        add(&mut line, " ", name)?;
+    }
+    Ok(line)
+}
+
+// The names of all pieces of the text in `RULES <- TEXT`, `-` for what is skipped and the slice of a fault.
+pub(crate) fn named_in_linear_time(alloc: Global, row: &str) -> Result<String, AllocError> {
+    let (rows, text) = halves(row, " <- ");
+    match rule_lexer_of(alloc, rows)? {
+        Ok(lexer) => names_in_linear_time(alloc, &lexer, text),
+        Err(error) => told(alloc, error),
+    }
+}
+
 // The names of the tokens of the text in `RULES <- TEXT`, or why the rules have no lexer.
 pub(crate) fn named(alloc: Global, row: &str) -> Result<String, AllocError> {
     let (rows, text) = halves(row, " <- ");
@@ -123,7 +149,7 @@ fn patterns_are_made_a_lexer(rt: HostRuntime) {
     let table = "\
 1 l if / 0 r [a-z]+ <- iffy => 1 iffy
 0 l (a / 0 r (a <-  => the text of pattern 1 does not parse: UnclosedGroup at byte 0
-0 l a / 0 r [a-b]+ <- a => patterns 0 and 1 clash";
+0 l a / 0 r [a-b]+ <- a => patterns 0 and 1 clash on \"a\"";
     expect(&rt, rt.alloc(), Call::Patterns, table, 3);
 }
 
@@ -132,8 +158,16 @@ fn rules_are_made_a_lexer(rt: HostRuntime) {
     let table = "\
 IF l if / NAME r [a-z]+ / SPACE s \\x20+ <- if iffy ! a => IF NAME NAME
 A l (a / B r b) <-  => the text of rule 1 does not parse: UnopenedGroup at byte 1
-A r a / B r [ab] <-  => rules 0 and 1 clash";
+A r a / B r [ab] <-  => rules 0 and 1 clash on \"a\"";
     expect(&rt, rt.alloc(), Call::Rules, table, 3);
+}
+
+#[test]
+fn pieces_are_named_in_linear_time(rt: HostRuntime) {
+    let table = "\
+A r a / LONG r a*b / SPACE s \\x20+ <- aa  !!b?aab => A A - !! LONG ? LONG
+A r a / LONG r a*b <-  => ";
+    expect(&rt, rt.alloc(), Call::LinearRules, table, 2);
 }
 
 #[test]

@@ -4,6 +4,7 @@ use crate::shared::answered_by;
 use lexdfa_lib::Outcome;
 use std::alloc::Global;
 use std::process::Abort;
+use std::test::Fail;
 
 const WORDS: &[u8] = b"1 l class\n0 r [a-zA-Z_][a-zA-Z0-9_]*\n0 r  +\n";
 
@@ -57,4 +58,16 @@ fn tokens_are_counted(rt: HostRuntime) {
     expect_outcome(&rt, alloc, "class Foo", Outcome::All { tokens: 3 });
     expect_outcome(&rt, alloc, "", Outcome::All { tokens: 0 });
     expect_outcome(&rt, alloc, "class é", Outcome::Stopped { tokens: 2, at: 6 });
+}
+
+// Behind each `a` another match may end at any later letter. Match by match this would take five thousand million steps.
+#[test]
+fn no_text_is_slow(rt: HostRuntime) -> Result<(), Fail> {
+    let letters = vec![in rt.alloc(); b'a'; 100_000]?;
+    let text = str::from_utf8(&letters)?;
+    let terminals = b"0 r a\n0 r a*b\n";
+    let (outcome, lines) = answered_by(&rt, rt.alloc(), true, terminals, text)?;
+    assert!(rt; outcome == Outcome::All { tokens: 100_000 });
+    assert!(rt; lines.len() == 1_000_000 && lines.starts_with(b"match 0 1\nmatch 0 1\n"));
+    Ok(())
 }

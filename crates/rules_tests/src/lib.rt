@@ -4,6 +4,8 @@
 #[cfg(test)]
 mod files;
 #[cfg(test)]
+mod linear;
+#[cfg(test)]
 mod named;
 #[cfg(test)]
 mod pieces;
