@@ -44,6 +44,7 @@ pub(crate) enum Call {
     LinearRules,
     RuleFile,
     Page,
+    Terminal,
 }
 
 // The answer on one line, or out of memory.
@@ -74,6 +75,7 @@ fn answer(alloc: Global, call: Call, argument: &str) -> Result<String, AllocErro
         Call::LinearRules => rules::named_in_linear_time(alloc, argument),
         Call::RuleFile => rules::in_file(alloc, argument),
         Call::Page => rules::page(alloc, argument),
+        Call::Terminal => rules::in_colours(alloc, argument),
     }
 }
 

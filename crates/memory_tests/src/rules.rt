@@ -1,9 +1,9 @@
-//! Lexers of texts and of named rules, and texts as pages.
+//! Lexers of texts and of named rules, and texts as pages and in colours.
 
 use crate::calls::{Call, add, expect, halves, number};
 use lalrpop_lexer::lexer::dfa::Precedence;
 use lalrpop_lexer::{Form, Lexer, LexerError};
-use lalrpop_markup::html;
+use lalrpop_markup::{ansi, html};
 use lalrpop_rule_file::{RuleFileError, read_rules};
 use lalrpop_rules::{Item, Rule, RuleLexer, RulesError};
 use std::alloc::{AllocError, Global};
@@ -127,6 +127,15 @@ pub(crate) fn page(alloc: Global, row: &str) -> Result<String, AllocError> {
     }
 }
 
+// The text in `RULES <- TEXT` in colours.
+pub(crate) fn in_colours(alloc: Global, row: &str) -> Result<String, AllocError> {
+    let (rows, text) = halves(row, " <- ");
+    match rule_lexer_of(alloc, rows)? {
+        Ok(lexer) => ansi(alloc, &lexer, text),
+        Err(error) => told(alloc, error),
+    }
+}
+
 fn names_of(alloc: Global, rules: &[Rule]) -> Result<String, AllocError> {
     let mut line = String::new(alloc);
     for rule in rules {
@@ -176,6 +185,14 @@ fn texts_are_made_pages(rt: HostRuntime) {
 IF l if / LESS l < <- if < => <span class=\"IF\">if</span><span class=\"fault\"> </span><span class=\"LESS\">&lt;</span>
 A s a+ <- aa => aa";
     expect(&rt, rt.alloc(), Call::Page, table, 2);
+}
+
+#[test]
+fn texts_are_coloured(rt: HostRuntime) {
+    let table = "\
+IF l if / LESS l < <- if < => \x1b[31mif\x1b[0m\x1b[41m \x1b[0m\x1b[32m<\x1b[0m
+A s a+ <- a\ra => a\x1b[41m\x1b[7m^M\x1b[27m\x1b[0ma";
+    expect(&rt, rt.alloc(), Call::Terminal, table, 2);
 }
 
 #[test]

@@ -2,7 +2,7 @@
 
 use crate::shared::halves;
 use anyhow::Result;
-use lalrpop_markup::html;
+use lalrpop_markup::{ansi, html};
 use lalrpop_rules::{Item, Rule, RuleLexer};
 use std::alloc::Global;
 
@@ -90,6 +90,30 @@ a<&"> => <span class="NAME">a</span><span class="fault">&lt;&amp;&quot;&gt;</spa
 é == => <span class="fault">é</span> <span class="EQUAL">==</span>
 "#;
 
+fn painted(alloc: Global, text: &str) -> Result<String> {
+    let lexer = lexer(alloc)?;
+    Ok(ansi(alloc, &lexer, text)?)
+}
+
+// A text, and what a terminal gets of it.
+const PAINTED: [(&str, &str); 6] = [
+    ("if a", "\x1b[31mif\x1b[0m \x1b[32ma\x1b[0m"),
+    ("==é", "\x1b[34m==\x1b[0m\x1b[41mé\x1b[0m"),
+    (
+        "a\n\t\nb",
+        "\x1b[32ma\x1b[0m\x1b[41m\x1b[0m\n\x1b[41m\t\x1b[0m\n\x1b[41m\x1b[0m\x1b[32mb\x1b[0m",
+    ),
+    (
+        "\x1b[7ma",
+        "\x1b[41m\x1b[7m^[\x1b[27m[7\x1b[0m\x1b[32mma\x1b[0m",
+    ),
+    (
+        "\0\r\x7f\u{9b}",
+        "\x1b[41m\x1b[7m^@\x1b[27m\x1b[7m^M\x1b[27m\x1b[7m^?\x1b[27m\x1b[7m~[\x1b[27m\x1b[0m",
+    ),
+    ("", ""),
+];
+
 const REFUSED: &str = r#"
 b => none
 [a-c] => rules 0 and 1 clash on "a"
@@ -131,4 +155,29 @@ fn texts_are_shown(rt: HostRuntime) {
         let found = shown(rt.alloc(), text).expect(&rt, "memory");
         assert_eq!(&rt; found.as_str(), wanted);
     }
+}
+
+#[test]
+fn texts_are_painted(rt: HostRuntime) {
+    for (text, wanted) in PAINTED {
+        let found = painted(rt.alloc(), text).expect(&rt, "memory");
+        assert_eq!(&rt; found.as_str(), wanted);
+    }
+}
+
+// Two rules have the first one's name, and the seventh has the first colour again.
+#[test]
+fn rules_of_a_name_have_its_colour(rt: HostRuntime) {
+    let names = ["A", "B", "A", "C", "D", "E", "F"];
+    let texts = ["a", "b", "c", "d", "e", "f", "g"];
+    let mut rules = Vec::new(rt.alloc());
+    for (name, text) in names.into_iter().zip(texts) {
+        rules.push(Rule::literal(name, text)).expect(&rt, "memory");
+    }
+    let lexer = RuleLexer::from_rules(rt.alloc(), &rules).expect(&rt, "rules");
+    let found = ansi(rt.alloc(), &lexer, "cbg").expect(&rt, "memory");
+    assert_eq!(&rt;
+        found.as_str(),
+        "\x1b[31mc\x1b[0m\x1b[32mb\x1b[0m\x1b[31mg\x1b[0m"
+    );
 }
