@@ -1,4 +1,4 @@
-use Rattle.std.proofs.Common.{◌≡◌, ◌∙◌, ◌+◌, ◌*◌, ◌≤◌, ap, length, false}
+use Rattle.std.proofs.Common.{◌≡◌, ◌∙◌, ◌+◌, ◌*◌, ◌≤◌, ap, length, subst, false}
 use Rattle.std.specs.Str.{chars}
 use Rattle.lalrpop_linear.specs.Matching.{Matching, open_states}
 use Rattle.lalrpop_lexer.specs.Cutting.{Cutting, start_of}
