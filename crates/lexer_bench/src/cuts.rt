@@ -1,10 +1,10 @@
-//! A text is cut in four ways, which find the same.
+//! A text is cut in six ways, which find the same.
 
 use crate::lists::List;
-use lalrpop_lexer::lexer::dfa::{DenseDfa, Dfa, Matcher, NfaIndex};
+use lalrpop_lexer::lexer::dfa::{DenseDfa, Dfa, Marks, Matcher, NfaIndex};
 use lalrpop_lexer::lexer::nfa::Steps;
 use lalrpop_lexer::{Lexer, tokens};
-use std::alloc::Global;
+use std::alloc::{AllocError, Global};
 
 /// How a text is cut.
 #[derive(Clone, Copy)]
@@ -17,13 +17,19 @@ pub(crate) enum Way {
     Tokens,
     /// By the tokens of a lexer, which end there too.
     Lexer,
+    /// By the blocks of the table, the tokens of each in one list.
+    Blocks,
+    /// By a lexer's list of all tokens.
+    List,
 }
 
-pub(crate) const WAYS: [(Way, &str); 4] = [
+pub(crate) const WAYS: [(Way, &str); 6] = [
     (Way::Loop, "loop"),
     (Way::Table, "table"),
     (Way::Tokens, "tokens"),
     (Way::Lexer, "lexer"),
+    (Way::Blocks, "blocks"),
+    (Way::List, "list"),
 ];
 
 /// What one cut of a text found.
@@ -62,6 +68,7 @@ impl Cut {
 /// The same patterns as an automaton, as a table and as a lexer.
 #[derive(Drop)]
 pub(crate) struct Cutters {
+    alloc: Global,
     dfa: Dfa,
     dense: DenseDfa,
     lexer: Lexer,
@@ -80,15 +87,22 @@ impl Cutters {
         }
         let lexer = Lexer::new(alloc, patterns, precedences).ok()?;
         let dense = DenseDfa::new(alloc, dfa.clone().ok()?).ok()?;
-        Some(Cutters { dfa, dense, lexer })
+        Some(Cutters {
+            alloc,
+            dfa,
+            dense,
+            lexer,
+        })
     }
 
-    pub(crate) fn cut(&self, way: Way, text: &str) -> Cut {
+    pub(crate) fn cut(&self, way: Way, text: &str) -> Result<Cut, AllocError> {
         match way {
-            Way::Loop => cut_by_loop(&self.dfa, text),
-            Way::Table => cut_by_loop(&self.dense, text),
-            Way::Tokens => cut_by_tokens(&self.dfa, text),
-            Way::Lexer => cut_by_lexer(&self.lexer, text),
+            Way::Loop => Ok(cut_by_loop(&self.dfa, text)),
+            Way::Table => Ok(cut_by_loop(&self.dense, text)),
+            Way::Tokens => Ok(cut_by_tokens(&self.dfa, text)),
+            Way::Lexer => Ok(cut_by_lexer(&self.lexer, text)),
+            Way::Blocks => cut_by_blocks(self.alloc, &self.dense, text),
+            Way::List => cut_by_list(self.alloc, &self.lexer, text),
         }
     }
 }
@@ -139,4 +153,37 @@ fn cut_by_lexer(lexer: &Lexer, text: &str) -> Cut {
         }
     }
     cut
+}
+
+fn cut_by_blocks(alloc: Global, dense: &DenseDfa, text: &str) -> Result<Cut, AllocError> {
+    let mut cut = Cut::none();
+    let mut marks = Marks::new(alloc)?;
+    let mut tokens = Vec::new(alloc);
+    let mut at = 0;
+    'cutting: while at < text.len() {
+        tokens.clear();
+        match dense.cut_block(text, at, &mut marks, &mut tokens)? {
+            Some(to) => at = to,
+            None => {
+                cut.add_fault();
+                return Ok(cut);
+            }
+        }
+        for token in &tokens {
+            cut.add(token.index, token.slice.len());
+        }
+    }
+    Ok(cut)
+}
+
+fn cut_by_list(alloc: Global, lexer: &Lexer, text: &str) -> Result<Cut, AllocError> {
+    let mut cut = Cut::none();
+    let list = lexer.token_list(alloc, text)?;
+    for token in &list.tokens {
+        cut.add(token.index, token.slice.len());
+    }
+    if list.fault.is_some() {
+        cut.add_fault();
+    }
+    Ok(cut)
 }

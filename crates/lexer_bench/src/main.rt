@@ -67,7 +67,7 @@ fn tell_cuts<R: CpuClock + Print>(
     for _ in 0..if is_timed { CUTS } else { 1 } {
         for place in 0..WAYS.len() {
             let from = rt.process_cpu_time()?;
-            cuts[place] = cutters.cut(WAYS[place].0, text);
+            cuts[place] = cutters.cut(WAYS[place].0, text)?;
             let spent = rt.process_cpu_time()?.saturating_sub(from);
             least[place] = least[place].min(spent);
         }
