@@ -4,7 +4,7 @@ use Rattle.std.specs.Prelude.{◌≡◌, ◌⊎◌, ℕ, true, false, List, [], 
 use Rattle.tokens_lib.specs.declared.command.Command.{Command}
 use Rattle.tokens_lib.specs.declared.command.Command.TheVariants.{Cut, Show, Clashes, CutByTerminals, TerminalClashes}
 use Rattle.tokens_lib.specs.declared.layout.LineForm.TheVariants.{Plain, Json}
-use Rattle.tokens_lib.specs.declared.command.Markup.TheVariants.{Html}
+use Rattle.tokens_lib.specs.declared.command.Markup.TheVariants.{Html, Ansi}
 
 -- the argument begins with two dashes, and so names an option
 abbrev pub IsOption : List ℕ → Type 0
@@ -23,6 +23,7 @@ IsCommand words (Cut Json true rules files) =
     IsAsked words (codes "--recover" ∷ codes "--json" ∷ []) rules.now (map string_bytes files.now)
     ⊎ IsAsked words (codes "--json" ∷ codes "--recover" ∷ []) rules.now (map string_bytes files.now)
 IsCommand words (Show Html rules files) = IsAsked words (codes "--html" ∷ []) rules.now (map string_bytes files.now)
+IsCommand words (Show Ansi rules files) = IsAsked words (codes "--ansi" ∷ []) rules.now (map string_bytes files.now)
 IsCommand words (Clashes rules) = IsAsked words (codes "--clashes" ∷ []) rules.now []
 IsCommand words (CutByTerminals false rules files) = IsAsked words (codes "--lines" ∷ []) rules.now (map string_bytes files.now)
 IsCommand words (CutByTerminals true rules files) =

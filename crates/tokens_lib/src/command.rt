@@ -10,6 +10,8 @@ use crate::layout::LineForm;
 pub enum Markup {
     /// Markup of HTML.
     Html,
+    /// In a terminal's colours.
+    Ansi,
 }
 
 /// What the program has to do.
@@ -78,6 +80,11 @@ fn with_option<'words>(
             rules,
             files,
         }),
+        ("--ansi", files) => Some(Command::Show {
+            markup: Markup::Ansi,
+            rules,
+            files,
+        }),
         ("--lines", files) => Some(Command::CutByTerminals {
             places: false,
             rules,
@@ -128,7 +135,7 @@ fn is_option(word: &str) -> bool
 }
 
 /// The command of these arguments. At the front stand at most two options, which begin with `--`, then RULES, which does not,
-/// and then files of any name: `[--recover] [--json]`, these two in any order, `--html`, `--clashes`, `--lines`,
+/// and then files of any name: `[--recover] [--json]`, these two in any order, `--html`, `--ansi`, `--clashes`, `--lines`,
 /// `--lines --places` or `--lines --clashes`. `--clashes` takes no file. `None` for any other arguments.
 pub fn command_of(words: &[String]) -> Option<Command<'_>>
     ensures some { IfSome result (λ found. IsCommand (map string_bytes words.now) found) }

@@ -10,10 +10,10 @@ use crate::layout::{Layout, LineForm};
 use crate::text::{TextError, read_text};
 use crate::token_lines::write_tokens;
 use lalrpop_lexer::Lexer;
-use lalrpop_markup::html;
+use lalrpop_markup::{ansi, html};
 use lalrpop_rules::{Item, RuleLexer};
 use lexdfa_lib::{Failure, Outcome, RunError, Watched, write_whole};
-use std::alloc::Global;
+use std::alloc::{AllocError, Global};
 use std::io::{Eprint, Read, Write};
 use std::rt::Files;
 
@@ -56,13 +56,13 @@ enum Ending {
     Stopped { kind: &'static str, at: usize },
 }
 
-fn has_fault(lexer: &RuleLexer, text: &str) -> bool {
-    for item in lexer.items(text) {
+fn has_fault(alloc: Global, lexer: &RuleLexer, text: &str) -> Result<bool, AllocError> {
+    for item in lexer.items_linear(alloc, text)? {
         if let Item::Fault { .. } = item {
-            return true;
+            return Ok(true);
         }
     }
-    false
+    Ok(false)
 }
 
 fn write_markup<W: Write>(
@@ -77,6 +77,7 @@ fn write_markup<W: Write>(
 {
     let shown = match markup {
         Markup::Html => html(alloc, lexer, text),
+        Markup::Ansi => ansi(alloc, lexer, text),
     };
     match shown {
         Ok(page) => write_whole(writer, page.as_bytes()),
@@ -127,10 +128,10 @@ fn perform<W: Write>(
         }
         Task::Markup { lexer, markup } => {
             write_markup(alloc, lexer, markup, text, writer)?;
-            if has_fault(lexer, text) {
-                Ok(Ending::Faulty)
-            } else {
-                Ok(Ending::Whole)
+            match has_fault(alloc, lexer, text) {
+                Ok(true) => Ok(Ending::Faulty),
+                Ok(false) => Ok(Ending::Whole),
+                Err(_) => Err(RunError::OutOfMemory),
             }
         }
     }

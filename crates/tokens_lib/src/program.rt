@@ -14,6 +14,7 @@ use std::rt::{Env, Files};
 
 const USAGE: &str = "tokens: usage: tokens [--recover] [--json] RULES [FILE ..]
        tokens --html RULES [FILE ..]
+       tokens --ansi RULES [FILE ..]
        tokens --clashes RULES
        tokens --lines [--places] RULES [FILE ..]
        tokens --lines --clashes RULES
