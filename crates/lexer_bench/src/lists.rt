@@ -107,6 +107,14 @@ fn json_list(alloc: Global) -> Result<List, RegexError> {
     Ok(list)
 }
 
+// Behind each `a` a longer match may come, up to the end of a text.
+fn open_list(alloc: Global) -> Result<List, RegexError> {
+    let mut list = List::new(alloc);
+    list.word("a")?;
+    list.pattern("a*b")?;
+    Ok(list)
+}
+
 // Ten terminals that clash with those of C: five keywords once more, and five patterns with words that others have.
 const PLANTED_WORDS: [&str; 5] = ["while", "return", "++", "<<=", "_Bool"];
 
@@ -219,6 +227,7 @@ pub(crate) fn list_named(alloc: Global, name: &str) -> Result<Option<List>, Rege
         "c" | "long" => Ok(Some(c_list(alloc)?)),
         "json" => Ok(Some(json_list(alloc)?)),
         "unicode" => Ok(Some(unicode_list(alloc)?)),
+        "open" => Ok(Some(open_list(alloc)?)),
         "c and ten clashes" => Ok(Some(c_and_clashes(alloc)?)),
         "equal 1000" => Ok(Some(equal_words(alloc, 1_000)?)),
         _ => list_of_rows(alloc, name),

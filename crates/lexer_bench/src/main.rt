@@ -1,10 +1,12 @@
 //! A benchmark: builds the automata of lists of terminals, cuts a text of 5 MB by those that have one, and reads patterns. It
 //! writes what it found, so that two builds can be compared. An argument names one list or one pattern alone, or is `parts`,
-//! for the parts that automata are built with; then the processor time is written too.
+//! for the parts that automata are built with, or `linear`, for texts that are cut in linear time; then the processor time is
+//! written too.
 #![tactic(auto)]
 
 mod cuts;
 mod keywords;
+mod linear;
 mod lists;
 mod parts;
 mod patterns;
@@ -16,6 +18,7 @@ use lalrpop_lexer::lexer::dfa::{
 };
 use lalrpop_lexer::lexer::nfa::Test;
 use lalrpop_lexer::lexer::re::RegexError;
+use linear::tell_linear;
 use lists::{List, list_named};
 use parts::{blocks_of, cycled, kernels_of};
 use patterns::{ROWS, Row};
@@ -380,6 +383,9 @@ fn tell_all<R: CpuClock + Print + AllocGlobal>(rt: &R) -> io::Result<()> {
 fn tell_named<R: CpuClock + Print + AllocGlobal>(rt: &R, name: &str) -> io::Result<()> {
     if name == "parts" {
         return tell_parts(rt);
+    }
+    if name == "linear" {
+        return tell_linear(rt);
     }
     for row in &ROWS {
         if row.name == name {
