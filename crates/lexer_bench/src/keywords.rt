@@ -151,3 +151,19 @@ pub(crate) const C_OPERATORS: [&str; 46] = [
     "<<", ">>", "<", ">", "<=", ">=", "==", "!=", "^", "|", "&&", "||", "?", ":", ";", "...", "=",
     "*=", "/=", "%=", "+=", "-=", "<<=", ">>=", "&=", "^=", "|=", ",",
 ];
+
+/// The keywords of Rust.
+pub(crate) const RUST_KEYWORDS: [&str; 38] = [
+    "as", "break", "const", "continue", "crate", "else", "enum", "extern", "false", "fn", "for",
+    "if", "impl", "in", "let", "loop", "match", "mod", "move", "mut", "pub", "ref", "return",
+    "self", "Self", "static", "struct", "super", "trait", "true", "type", "unsafe", "use", "where",
+    "while", "async", "await", "dyn",
+];
+
+/// The operators of Rust.
+pub(crate) const RUST_OPERATORS: [&str; 51] = [
+    "+", "-", "*", "/", "%", "^", "!", "&", "|", "&&", "||", "<<", ">>", "+=", "-=", "*=", "/=",
+    "%=", "^=", "&=", "|=", "<<=", ">>=", "=", "==", "!=", ">", "<", ">=", "<=", "@", ".", "..",
+    "...", "..=", ",", ";", ":", "::", "->", "=>", "#", "$", "?", "~", "{", "}", "[", "]", "(",
+    ")",
+];

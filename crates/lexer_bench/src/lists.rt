@@ -1,6 +1,6 @@
 //! The lists of terminals that automata are built of.
 
-use crate::keywords::{C_KEYWORDS, C_OPERATORS, KEYWORDS};
+use crate::keywords::{C_KEYWORDS, C_OPERATORS, KEYWORDS, RUST_KEYWORDS, RUST_OPERATORS};
 use lalrpop_lexer::lexer::dfa::Precedence;
 use lalrpop_lexer::lexer::re::{Hir, Regex, RegexError, parse_regex};
 use std::alloc::{AllocError, Global};
@@ -90,6 +90,27 @@ fn c_list(alloc: Global) -> Result<List, RegexError> {
     list.words(&C_KEYWORDS)?;
     list.words(&C_OPERATORS)?;
     list.patterns(&C_PATTERNS)?;
+    Ok(list)
+}
+
+// The terminals of Rust that no word is.
+const RUST_PATTERNS: [&str; 9] = [
+    "[A-Za-z_][A-Za-z0-9_]*",
+    "'[A-Za-z_][A-Za-z0-9_]*",
+    "'([^'\\\\\\n]|\\\\.)'",
+    "[0-9][0-9_]*([iu](8|16|32|64|128|size))?",
+    "0x[0-9a-fA-F_]+",
+    "[0-9][0-9_]*\\.[0-9][0-9_]*(e[-+]?[0-9]+)?",
+    "\"([^\"\\\\]|\\\\.)*\"",
+    "//[^\\n]*|/\\*([^*]|\\*+[^*/])*\\*+/",
+    "[ \\t\\n]+",
+];
+
+fn rust_list(alloc: Global) -> Result<List, RegexError> {
+    let mut list = List::new(alloc);
+    list.words(&RUST_KEYWORDS)?;
+    list.words(&RUST_OPERATORS)?;
+    list.patterns(&RUST_PATTERNS)?;
     Ok(list)
 }
 
@@ -225,6 +246,7 @@ fn list_of_rows(alloc: Global, name: &str) -> Result<Option<List>, RegexError> {
 pub(crate) fn list_named(alloc: Global, name: &str) -> Result<Option<List>, RegexError> {
     match name {
         "c" | "long" => Ok(Some(c_list(alloc)?)),
+        "rust" => Ok(Some(rust_list(alloc)?)),
         "json" => Ok(Some(json_list(alloc)?)),
         "unicode" => Ok(Some(unicode_list(alloc)?)),
         "open" => Ok(Some(open_list(alloc)?)),

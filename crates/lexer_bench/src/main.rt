@@ -26,7 +26,7 @@ use std::alloc::{AllocError, Global};
 use std::rt::Env;
 use std::time::{CpuClock, Duration};
 use std::{env, io};
-use texts::{c_text, json_text, long_text, unicode_text};
+use texts::{c_text, json_text, long_text, rust_text, unicode_text};
 
 // Without an argument, these.
 const LISTS: [&str; 8] = [
@@ -239,6 +239,7 @@ fn text_for(alloc: Global, name: &str) -> Result<Option<String>, AllocError> {
     match name {
         "c" => Ok(Some(c_text(alloc)?)),
         "long" => Ok(Some(long_text(alloc)?)),
+        "rust" => Ok(Some(rust_text(alloc)?)),
         "json" => Ok(Some(json_text(alloc)?)),
         "unicode" => Ok(Some(unicode_text(alloc)?)),
         _ => Ok(None),

@@ -1,6 +1,6 @@
 //! Texts to be cut.
 
-use crate::keywords::{C_KEYWORDS, C_OPERATORS, KEYWORDS};
+use crate::keywords::{C_KEYWORDS, C_OPERATORS, KEYWORDS, RUST_KEYWORDS, RUST_OPERATORS};
 use std::alloc::{AllocError, Global};
 
 // How long a text is, in bytes, or a little longer.
@@ -111,6 +111,34 @@ pub(crate) fn c_text(alloc: Global) -> Result<String, AllocError> {
             break;
         }
         push_c_token(&mut numbers, &mut text)?;
+        text.push_str(" ")?;
+    }
+    Ok(text)
+}
+
+fn push_rust_token(numbers: &mut Numbers, text: &mut String) -> Result<(), AllocError> {
+    match numbers.below(20) {
+        0..=3 => text.push_str(numbers.one_of(&RUST_KEYWORDS)),
+        4..=9 => text.push_str(numbers.one_of(&NAMES)),
+        10 => text.push_str("42usize"),
+        11 => text.push_str("'text"),
+        12 => text.push_str("0.25"),
+        13 => text.push_str("\"a text\\n\""),
+        14 => text.push_str("// what it does, and why\n"),
+        15 => text.push_str("\n        "),
+        _ => text.push_str(numbers.one_of(&RUST_OPERATORS)),
+    }
+}
+
+/// A text of the tokens of Rust, with blanks between them.
+pub(crate) fn rust_text(alloc: Global) -> Result<String, AllocError> {
+    let mut numbers = Numbers { state: 5 };
+    let mut text = String::new(alloc);
+    for _ in 0..LENGTH {
+        if text.len() >= LENGTH {
+            break;
+        }
+        push_rust_token(&mut numbers, &mut text)?;
         text.push_str(" ")?;
     }
     Ok(text)

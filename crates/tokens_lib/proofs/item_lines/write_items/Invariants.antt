@@ -17,5 +17,5 @@ invariant-loop-item g l = record {
   good : l.writer.failed ≡ false;
   no_late : l.writer.late ≡ l.fn.writer.late;
   text : l.places.text ≡ l.text;
-  walked : l.places.offset ≤ l.item-iterator.cut.at;
+  walked : l.places.offset ≤ l.item-iterator.at;
 }
