@@ -1,10 +1,11 @@
 -- The bytes of characters, and the pieces that a loop gave.
-use Rattle.std.proofs.Common.{◌≡◌, ◌≢◌, ℕ, ⊎_elim, ◌<◌, true, false, List, [], ◌∷◌, suc, length, get_or, sym, subst, ◌∙◌, arith}
+use Rattle.std.proofs.Common.{◌≡◌, ◌≢◌, ℕ, ⊎_elim, ◌<◌, true, false, List, [], ◌∷◌, ◌++◌, suc, length, get_or, ap, flat_map, sym, subst, ◌∙◌, arith}
 use Rattle.std.specs.Prelude.{Option, None, nat_eq}
 use Rattle.std.specs.Char.{encode_utf8}
 use Rattle.std.specs.Iterator.{Yields, Drains}
 use Rattle.std.proofs.lemmas.Str.{inside_one}
 use Rattle.std.proofs.lemmas.Bool.Decides.{eqb_tells}
+use Rattle.std.proofs.lemmas.Grind.{flat_map-append}
 use Rattle.std.proofs.lemmas.List.{append-nil}
 
 -- none of the bytes is this one
@@ -24,7 +25,7 @@ pub lacks_char : (x c : ℕ) → x < 128 → c ≢ x → Lacks x (encode_utf8 c)
 lacks_char x c small other =
     lacks_all x (encode_utf8 c) (λ k within is. other (inside_one c [] (encode_utf8 c) k (sym (append-nil (encode_utf8 c))) within (omega arith) ∙ is))
 
--- no item behind those that there are
-pub no_more : {S A : Type 0} (gives : S → Option A → S → Type 0) (s r t u : S) (xs : List A) (o : Option A) → r ≡ s → Yields gives r xs t → o ≡ None
-    → gives t o u → Drains gives s xs
-no_more {S} {A} gives s r t u xs o same y is g = (u, (t, subst (λ (r : S). Yields gives r xs t) same y, subst (λ (o : Option A). gives t o u) is g))
+-- what is written for one more item
+pub one_more : {A : Type 0} (f : A → List ℕ) (xs : List A) (x : A) (old new : List ℕ) → old ≡ flat_map f xs → new ≡ old ++ f x → new ≡ flat_map f (xs ++ x ∷ [])
+one_more f xs x old new so_far line =
+    line ∙ ap (λ l. l ++ f x) so_far ∙ sym (flat_map-append f xs (x ∷ []) ∙ ap (λ l. flat_map f xs ++ l) (append-nil (f x)))

@@ -78,8 +78,9 @@ pub fn html(alloc: Global, lexer: &RuleLexer, text: &str) -> Result<String, Allo
         × (string_bytes page ≡ flat_map (marked lexer.now.names) xs))) }
     ensures text { IfOk result (λ page. outside (string_bytes page) ≡ text.now) }
 {
+    let mut items = lexer.items_linear(alloc, text)?;
     let mut page = String::new(alloc);
-    for item in lexer.items(text) {
+    'marking: while let Some(item) = items.next() {
         push_item(&mut page, lexer, &item)?;
     }
     Ok(page)

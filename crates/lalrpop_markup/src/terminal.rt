@@ -172,8 +172,9 @@ pub fn ansi(alloc: Global, lexer: &RuleLexer, text: &str) -> Result<String, Allo
         × (string_bytes page ≡ flat_map (painted lexer.now.names) xs))) }
     ensures text { IfOk result (λ page. unpainted (string_bytes page) ≡ text.now) }
 {
+    let mut items = lexer.items_linear(alloc, text)?;
     let mut page = String::new(alloc);
-    for item in lexer.items(text) {
+    'painting: while let Some(item) = items.next() {
         push_painted(&mut page, lexer, &item)?;
     }
     Ok(page)

@@ -8,6 +8,7 @@ use Rattle.std.specs.Io.KnownBytes.{Appends}
 use Rattle.std.specs.Iterator.{Yields, Drains}
 use Rattle.std.specs.Str.{IsUtf8, IsCharBoundary}
 use Rattle.lalrpop_rules.specs.CutToEnd.{CutToEnd, uncut, GivesPiece}
+use Rattle.lalrpop_rules.specs.LinearCutToEnd.{LinearCutToEnd, GivesLinearPiece}
 use Rattle.lalrpop_book.specs.Tree.{Tree}
 use Rattle.lalrpop_rules.specs.Pieces.{IsPiece, slice_of, start_of}
 use Rattle.lalrpop_rules.specs.RuleSet.{RuleSet, recognized}
@@ -41,8 +42,8 @@ begins_from_start rules text r s t ys u same start y =
 pub one_more : (r t u : CutToEnd) (ys : List Item) (x : Item) → Yields GivesPiece r ys t → GivesPiece t (Some x) u → Yields GivesPiece r (ys ++ x ∷ []) u
 one_more r t u ys x y g = Yields-more GivesPiece r ys t x u y g
 
-pub drained : (r s t u : CutToEnd) (ys : List Item) → r ≡ s → Yields GivesPiece r ys t → GivesPiece t None u → Drains GivesPiece s ys
-drained r s t u ys same y g = (u, (t, subst (λ (w : CutToEnd). Yields GivesPiece w ys t) same y, g))
+pub linear_drained : (s t u : LinearCutToEnd) (ys : List Item) → Yields GivesLinearPiece s ys t → GivesLinearPiece t None u → Drains GivesLinearPiece s ys
+linear_drained s t u ys y g = (u, (t, y, g))
 
 starts_at : (ts : List Tree) (ps : List ℕ) (skips : List Bool) (text : List ℕ) (at : ℕ) (x : Item) → IsPiece ts ps skips text at x → start_of x ≡ at
 starts_at ts ps skips text at (Token token) is = is.0.0

@@ -182,10 +182,13 @@ pub fn write_items<W: Write>(
 
     ensures no_late_write { writer.new.late ≡ writer.old.late }
 {
+    let Ok(mut items) = lexer.items_linear(alloc, text) else {
+        return Err(RunError::OutOfMemory);
+    };
     let mut places = Positions::new(text);
     let mut lines = Vec::new(alloc);
     let mut first_fault = None;
-    for item in lexer.items(text) {
+    'cutting: while let Some(item) = items.next() {
         first_fault = first_fault_with(first_fault, &item);
         if ends(layout, first_fault) {
             write_whole(writer, &lines)?;

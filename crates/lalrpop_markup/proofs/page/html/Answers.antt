@@ -1,12 +1,28 @@
-use Rattle.std.proofs.Common.{ap, ◌∙◌}
-use Rattle.lalrpop_rules.specs.CutToEnd.{GivesPiece}
-use Rattle.lalrpop_markup.specs.Markup.{outside}
-use Rattle.lalrpop_markup.proofs.Characters.{no_more}
+use Rattle.std.proofs.Common.{[], ◌∷◌, ◌++◌, ap, ◌∙◌, rules}
+use Rattle.std.specs.Iterator.{Drains}
+use Rattle.std.proofs.iter.Next.{Yields-more}
+use Rattle.lalrpop_rules.specs.LinearCutToEnd.{GivesLinearPiece}
+use Rattle.lalrpop_markup.specs.Markup.{marked, outside}
+use Rattle.lalrpop_markup.proofs.Characters.{one_more}
 use Rattle.lalrpop_markup.proofs.Readings.{pieces_out}
 use Rattle.lalrpop_markup.proofs.page.html.Goals as goal
 
+pub marking-init : goal.marking-init
+marking-init c = ([], search rules)
+
+pub marking-preserved : goal.marking-preserved
+marking-preserved c =
+    let i = c.marking.invariant in
+    (i.0 ++ c.in-Some.item ∷ [], (Yields-more GivesLinearPiece _ i.0 c.marking.items c.in-Some.item _ i.1.0 c.in-Some.ensures.steps, one_more (marked c.args.lexer.now.names) i.0 c.in-Some.item _ _ i.1.1 c.in_ok-push_item.ensures))
+
+pub returns-clause-pieces : goal.returns-clause-pieces
+returns-clause-pieces c =
+    let i = c.marking.invariant in
+    (i.0, (c.in_ok-items.ensures.items i.0 (_, (_, i.1.0, c.in_default.ensures.steps)), i.1.1))
+
 pub returns-clause-text : goal.returns-clause-text
 returns-clause-text c =
-    let all = no_more GivesPiece _ _ _ _ _ _ c.into_iter-item-iterator.ensures.into_iter_gives c.loop-item.yielded_by c.in-None.is c.next.ensures.steps in
-    let given = c.items-item-items.ensures in
-    ap outside c.loop-item.invariant ∙ pieces_out _ _ _ _ _ _ _ (given.items _ all) ∙ given.whole _ all
+    let i = c.marking.invariant in
+    let given = c.in_ok-items.ensures in
+    let all : Drains GivesLinearPiece c.in_ok-items.items i.0 = (_, (_, i.1.0, c.in_default.ensures.steps)) in
+    ap outside i.1.1 ∙ pieces_out _ _ _ _ _ _ _ (given.items i.0 all) ∙ given.whole i.0 all

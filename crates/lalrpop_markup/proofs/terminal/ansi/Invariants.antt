@@ -1,7 +1,14 @@
-use Rattle.std.proofs.Common.{◌≡◌, flat_map, string_bytes}
+use Rattle.std.proofs.Common.{◌≡◌, List, flat_map, string_bytes}
+use Rattle.std.specs.Iterator.{Yields}
+use Rattle.lalrpop_rules.specs.CutToEnd.{pieces_left}
+use Rattle.lalrpop_rules.specs.LinearCutToEnd.{GivesLinearPiece}
+use Rattle.lalrpop_rules.specs.declared.item.Item.{Item}
 use Rattle.lalrpop_markup.specs.Terminal.{painted}
 use Rattle.lalrpop_markup.proofs.terminal.ansi.Given as goal
 
 -- the pieces so far
-abbrev pub invariant-loop-item : goal.invariant-loop-item
-invariant-loop-item l = string_bytes l.page ≡ flat_map (painted l.lexer.names) l.yielded
+abbrev pub invariant-painting : goal.invariant-painting
+invariant-painting l = (xs : List Item) × (Yields GivesLinearPiece l.initial.items xs l.items × (string_bytes l.page ≡ flat_map (painted l.lexer.names) xs))
+
+abbrev pub decreases-painting : goal.decreases-painting
+decreases-painting l = pieces_left l.items.cut
