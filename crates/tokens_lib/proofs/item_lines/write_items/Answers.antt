@@ -66,24 +66,26 @@ cutting-preserved g c =
     let passed = c.in_ok-pass_on.ensures.passed in
     let line = where_it_is_ok _ c.push_item.result _ c.is_err.ensures.value c.if-is_err.false c.push_item.ensures.line in
     let place = place_of _ _ c.in-Some.item c.in-Some.ensures.steps.0 in
-    let here = begins_from_start c.args.lexer.now c.args.text.now _ _ _ c.cutting.invariant.0 c.utf8.text refl c.in-Ok.ensures.start.1 (linear_steps _ _ _ c.cutting.invariant.1.given) in
-    (c.cutting.invariant.0 ++ c.in-Some.item ∷ [], record {
-      given = Yields-more GivesLinearPiece _ c.cutting.invariant.0 c.cutting.items c.in-Some.item _ c.cutting.invariant.1.given c.in-Some.ensures.steps;
-      written = (
-        _,
-        (
-          Appends-again _ _ _ i.written.0 passed.0 i.written.1.0 passed.1.0,
-          kept_on c.args.layout.now c.args.lexer.now.names c.args.text.now _ c.cutting.invariant.0 c.in-Some.item i.written.0 _ _ passed.0 _ i.written.1.1 i.text line passed.1.1,
-        ),
-      );
-      first = first_is _ _ c.cutting.invariant.0 c.in-Some.item i.first c.first_fault_with-first_fault.ensures;
-      none = c.ends.ensures.no c.if-ends.false;
-      boundary = first_boundary c.args.text.now _ _ c.in-Some.item c.first_fault_with-first_fault.ensures i.boundary (boundary_of _ _ _ _ refl place.0 here);
-      good = c.in_ok-pass_on.ensures.good;
-      no_late = c.pass_on.ensures.no_late_write ∙ i.no_late;
-      text = c.push_item.ensures.text ∙ i.text;
-      walked = omega (arith, place.0, place.1, c.push_item.ensures.walked);
-    })
+    let here = begins_from_start c.args.lexer.now c.args.text.now _ _ _ c.cutting.invariant.0 c.utf8.text refl c.in-Ok.ensures.start.1 (linear_steps _ _ _ c.cutting.invariant.1.given) in (
+      c.cutting.invariant.0 ++ c.in-Some.item ∷ [],
+      record {
+        given = Yields-more GivesLinearPiece _ c.cutting.invariant.0 c.cutting.items c.in-Some.item _ c.cutting.invariant.1.given c.in-Some.ensures.steps;
+        written = (
+          _,
+          (
+            Appends-again _ _ _ i.written.0 passed.0 i.written.1.0 passed.1.0,
+            kept_on c.args.layout.now c.args.lexer.now.names c.args.text.now _ c.cutting.invariant.0 c.in-Some.item i.written.0 _ _ passed.0 _ i.written.1.1 i.text line passed.1.1,
+          ),
+        );
+        first = first_is _ _ c.cutting.invariant.0 c.in-Some.item i.first c.first_fault_with-first_fault.ensures;
+        none = c.ends.ensures.no c.if-ends.false;
+        boundary = first_boundary c.args.text.now _ _ c.in-Some.item c.first_fault_with-first_fault.ensures i.boundary (boundary_of _ _ _ _ refl place.0 here);
+        good = c.in_ok-pass_on.ensures.good;
+        no_late = c.pass_on.ensures.no_late_write ∙ i.no_late;
+        text = c.push_item.ensures.text ∙ i.text;
+        walked = omega (arith, place.0, place.1, c.push_item.ensures.walked);
+      },
+    )
 
 pub returns-in_err-pass_on-clause-prefix : goal.returns-in_err-pass_on-clause-prefix
 returns-in_err-pass_on-clause-prefix g c =
