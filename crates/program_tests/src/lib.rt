@@ -16,6 +16,8 @@ mod files;
 #[cfg(test)]
 mod input;
 #[cfg(test)]
+mod items;
+#[cfg(test)]
 mod longest;
 #[cfg(test)]
 mod shared;
