@@ -69,11 +69,6 @@ impl DenseDfa {
         &self.dfa
     }
 
-    /// Whether there is a table.
-    pub fn has_table(&self) -> bool {
-        self.table.is_some()
-    }
-
     /// The longest nonempty prefix of the text that some pattern matches, with the strongest pattern that matches it.
     /// `None` where no pattern matches any. Whatever automaton it is, the slice is a nonempty prefix of the text.
     #[inline(always)]

@@ -16,7 +16,7 @@ use cuts::{Cut, Cutters, WAYS};
 use lalrpop_lexer::lexer::dfa::{
     DenseDfa, Dfa, DfaStateIndex, Kind, START, State, build_dfa, clashes,
 };
-use lalrpop_lexer::lexer::nfa::Test;
+use lalrpop_lexer::lexer::nfa::{Steps, Test};
 use lalrpop_lexer::lexer::re::RegexError;
 use linear::tell_linear;
 use lists::{List, list_named};
@@ -202,6 +202,11 @@ fn tell_shape<R: Print + AllocGlobal>(rt: &R, dfa: &Dfa) -> io::Result<()> {
     println!(rt; "  {states} states, {edges} edges, sum {sum:x}")
 }
 
+// By a table, an empty text is settled at once.
+fn has_table(dense: &DenseDfa) -> bool {
+    dense.longest_within("", 0, &mut Steps::new()).is_some()
+}
+
 // Whether a table of a copy of the automaton is made, and the time that making it takes.
 fn table_of<R: CpuClock + AllocGlobal>(rt: &R, dfa: &Dfa) -> io::Result<(bool, Duration)> {
     let Ok(copy) = dfa.clone() else {
@@ -211,7 +216,7 @@ fn table_of<R: CpuClock + AllocGlobal>(rt: &R, dfa: &Dfa) -> io::Result<(bool, D
     let dense = DenseDfa::new(rt.alloc(), copy);
     let spent = rt.process_cpu_time()?.saturating_sub(from);
     match dense {
-        Ok(dense) => Ok((dense.has_table(), spent)),
+        Ok(dense) => Ok((has_table(&dense), spent)),
         Err(_) => Ok((false, spent)),
     }
 }
@@ -221,8 +226,8 @@ fn tell_table<R: CpuClock + Print + AllocGlobal>(
     dfa: &Dfa,
     is_timed: bool,
 ) -> io::Result<()> {
-    let (has_table, first) = table_of(rt, dfa)?;
-    println!(rt; "  {} table", if has_table { "a" } else { "no" })?;
+    let (is_made, first) = table_of(rt, dfa)?;
+    println!(rt; "  {} table", if is_made { "a" } else { "no" })?;
     if !is_timed {
         return Ok(());
     }

@@ -1,7 +1,7 @@
 //! Automata of patterns that stand in one text, and what is expected of them.
 
-use lalrpop_lexer::lexer::dfa::{Dfa, DfaConstructionError, Precedence, build_dfa};
-use lalrpop_lexer::lexer::nfa::{Nfa, NfaConstructionError};
+use lalrpop_lexer::lexer::dfa::{DenseDfa, Dfa, DfaConstructionError, Precedence, build_dfa};
+use lalrpop_lexer::lexer::nfa::{Nfa, NfaConstructionError, Steps};
 use lalrpop_lexer::lexer::re::{Hir, RegexError, parse_literal, parse_regex};
 use std::alloc::{AllocError, Global};
 use std::process::Abort;
@@ -10,6 +10,11 @@ use std::process::Abort;
 pub(crate) fn expect(rt: &impl Abort, found: Result<String, AllocError>, wanted: &str) {
     let found = found.expect(rt, "memory");
     assert_eq!(rt; found.as_str(), wanted);
+}
+
+/// Whether the automaton is run by a table: by one, an empty text is settled at once.
+pub(crate) fn has_table(dense: &DenseDfa) -> bool {
+    dense.longest_within("", 0, &mut Steps::new()).is_some()
 }
 
 /// The two parts of a row. Where it has no second part that is empty, and no call has such an answer.

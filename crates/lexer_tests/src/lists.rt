@@ -1,5 +1,6 @@
 //! Lists of terminals as people have them, and that a lexer of each has its table: no clause says which automata have one.
 
+use crate::built::has_table;
 use lalrpop_lexer::lexer::dfa::{DenseDfa, Dfa, Precedence, build_dfa};
 use lalrpop_lexer::lexer::re::Regex;
 use lalrpop_lexer::{Terminals, read_terminals};
@@ -292,15 +293,15 @@ fn automaton_by(alloc: Global, lines: &str) -> Result<Option<Dfa>, AllocError> {
     }
 }
 
-fn has_table(alloc: Global, lines: &str) -> Result<bool, AllocError> {
+fn list_has_table(alloc: Global, lines: &str) -> Result<bool, AllocError> {
     match automaton_by(alloc, lines)? {
-        Some(dfa) => Ok(DenseDfa::new(alloc, dfa)?.has_table()),
+        Some(dfa) => Ok(has_table(&DenseDfa::new(alloc, dfa)?)),
         None => Ok(false),
     }
 }
 
 fn expect_table(rt: &impl Abort, alloc: Global, name: &str, lines: &str) {
-    assert!(rt; has_table(alloc, lines) == Ok(true), "{name}");
+    assert!(rt; list_has_table(alloc, lines) == Ok(true), "{name}");
 }
 
 #[test]

@@ -1,6 +1,6 @@
 //! Automata that are run by their tables.
 
-use crate::built::{built, built_with, expect, halves, trees_of};
+use crate::built::{built, built_with, expect, halves, has_table, trees_of};
 use lalrpop_lexer::lexer::dfa::{DenseDfa, Dfa, Marks, Precedence};
 use lalrpop_lexer::{Lexer, TokenList};
 use std::alloc::{AllocError, Global};
@@ -24,7 +24,7 @@ fn cut_by(alloc: Global, dense: &DenseDfa, text: &str) -> Result<String, AllocEr
 
 fn with_table(rt: &impl Abort, alloc: Global, dfa: Dfa) -> DenseDfa {
     let dense = DenseDfa::new(alloc, dfa).expect(rt, "memory");
-    assert!(rt; dense.has_table());
+    assert!(rt; has_table(&dense));
     dense
 }
 

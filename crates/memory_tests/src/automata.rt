@@ -348,7 +348,8 @@ fn automata_are_copied(rt: HostRuntime) {
 
 // What the table of the automaton finds at the front of the text.
 fn found_by_table(alloc: Global, dense: &DenseDfa, text: &str) -> Result<String, AllocError> {
-    if !dense.has_table() {
+    // By a table, an empty text is settled at once.
+    if dense.longest_within("", 0, &mut Steps::new()).is_none() {
         return String::from_str(alloc, "no table");
     }
     match dense.longest(text) {
