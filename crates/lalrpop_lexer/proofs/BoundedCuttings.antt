@@ -1,4 +1,4 @@
--- What the calls of `next` give for a text that is cut in the way whose cost has a bound.
+-- What the calls of `next` give for a text that is cut in the way that has a bounded cost.
 use Rattle.std.proofs.Common.{◌≡◌, ℕ, ◌≤◌, List, [], ◌∷◌, refl, ap, sym}
 use Rattle.std.specs.Prelude.{Option, Some, None, Result}
 use Rattle.std.specs.Iterator.{Yields, Drains}

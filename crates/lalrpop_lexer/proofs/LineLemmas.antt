@@ -1,4 +1,4 @@
--- The lines of some bytes, by the place of the first line feed.
+-- Splitting bytes into lines at the first line feed.
 use Rattle.std.proofs.Common.{◌≡◌, ◌≢◌, ℕ, zero, suc, ◌+◌, ◌<◌, ◌≤◌, List, [], ◌∷◌, length, take, drop, get_or, refl, ap, Bool, true, false, arith, add-one, Some, None}
 use Rattle.std.specs.Prelude.{◌==◌, position, if◌then◌else◌}
 use Rattle.std.proofs.lemmas.Bool.{eq-eqb, eqb-true, ne_eqb, eqb-false, ltb-false}

@@ -1,4 +1,4 @@
--- What is left of a text pays for cutting it in linear time, and what that gives.
+-- What is left of a text pays for cutting it in linear time, and what the cuts are.
 use Rattle.std.proofs.Common.{◌≡◌, ◌≢◌, ℕ, ◌+◌, ◌*◌, ◌≤◌, true, false, List, [], ◌∷◌, length, arith, ap}
 use Rattle.std.specs.Prelude.{Result}
 use Rattle.std.specs.Iterator.{Yields, Drains}

@@ -1,4 +1,4 @@
--- The place after one more character, and how far a text was walked.
+-- The place after one more character, and how much of a text has been passed.
 use Rattle.std.proofs.Common.{◌≡◌, ℕ, ◌+◌, ◌-◌, ◌≤◌, Bool, true, false, cond, List, [], ◌∷◌, ◌++◌, length, take, drop, arith, refl, sym, ap, ◌∙◌, length-append, length-drop, length-take, append_assoc, append-nil}
 use Rattle.std.specs.Prelude.{not}
 use Rattle.std.specs.List.{count_by, after_last, prefix_len, suffix_len}

@@ -1,5 +1,5 @@
 -- cases: proofs/Cases/BoundedCutting.antt
--- Cutting a text into tokens in the way whose cost has a bound.
+-- Cutting a text into tokens in the way that has a bounded cost.
 use Rattle.std.specs.Prelude.{ℕ, ◌+◌, ◌*◌, List, length, Option, Some, None, Result}
 use Rattle.std.specs.Str.{chars}
 use Rattle.lalrpop_table.specs.Dfa.{Row}
@@ -17,19 +17,19 @@ abbrev pub cutting_of : BoundedTokens → Cutting
 cutting_of (Looking s) = s.cutting
 cutting_of (Remembering s) = s.cutting
 
--- how many characters were read so far, each counted as often as it was read
+-- the number of characters read so far, each counted as often as it was read
 abbrev pub steps_of : BoundedTokens → ℕ
 steps_of (Looking s) = s.steps
 steps_of (Remembering s) = s.steps
 
--- what one call gives: what it gives in the way that is taken, which stays the same
+-- what one call gives: what a call gives in the chosen way, which never changes
 abbrev pub GivesBounded : BoundedTokens → Option (Result Token TokenFault) → BoundedTokens → Type 0
 GivesBounded (Looking old) x (Looking new) = GivesCounted old x new
 GivesBounded (Remembering old) x (Remembering new) = GivesLinear old x new
 GivesBounded _ x _ = ⊥
 
--- no more characters are read than this: n + 2 for each of the text, where at most n characters after a match leave it open; where
--- nothing limits them, 66 for each and one for each byte, and for each open state one for each byte and 64 in all
+-- the most characters that are read: n + 2 for each character of the text, if at most n characters after a match leave it open; if
+-- there is no such n, 66 for each character and one for each byte, and for each open state one for each byte and 64 more
 abbrev pub most_steps : List Row → List ℕ → Option ℕ → ℕ
 most_steps d text (Some n) = (n + 2) * length (chars text)
 most_steps d text None = 66 * length (chars text) + length text + open_states d * (length text + 64)

@@ -8,7 +8,7 @@ use Rattle.lalrpop_lexer.specs.LexerTokens.{GivesToken}
 use Rattle.lalrpop_book.specs.declared.token.Token.{Token}
 use Rattle.lalrpop_book.specs.declared.token.TokenFault.{TokenFault}
 
--- a text that is being cut, and the number of characters read so far, each counted each time that it was read
+-- a text that is being cut, and the number of characters read so far, each counted as often as it was read
 pub record Counting : Type 0 where
   pub cutting : Cutting
   pub steps : ℕ

@@ -23,7 +23,7 @@ start_of d text = record { automaton = d; text = text; at = 0; is_over = false }
 abbrev pub rest_of : Cutting → List ℕ
 rest_of s = drop s.at s.text
 
--- no more items than this are left: none after a fault, otherwise one for each character
+-- the most items that are left: none after a fault, otherwise one for each character of the rest
 abbrev pub left_of : Cutting → ℕ
 left_of s = if s.is_over then 0 else length (chars (rest_of s))
 

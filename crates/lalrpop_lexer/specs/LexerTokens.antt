@@ -6,7 +6,7 @@ use Rattle.lalrpop_book.specs.declared.token.Token.{Token}
 use Rattle.lalrpop_book.specs.declared.token.TokenFault.{TokenFault}
 use Rattle.lalrpop_lexer.specs.Cutting.{Cutting, GivesItem}
 
--- what one call returns: what the automaton returns, with a token's place, which is where the rest began
+-- what one call returns: what the automaton returns, where each token comes with its place, which is where the rest began
 abbrev pub GivesToken : Cutting → Option (Result Token TokenFault) → Cutting → Type 0
 GivesToken old None new = GivesItem old None new
 GivesToken old (Some (Ok token)) new = (token.start ≡ old.at) × GivesItem old (Some (bare (Ok token))) new

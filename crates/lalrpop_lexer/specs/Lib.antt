@@ -53,7 +53,7 @@ pub use Rattle.lalrpop_nfa.specs.Firsts
 pub use Rattle.lalrpop_nfa.specs.StateView
 pub use Rattle.lalrpop_nfa.specs.Lending
 pub use Rattle.lalrpop_nfa.specs.Contiguous
--- and from the automaton of a list of patterns; the name `Counts` is taken by that of trees
+-- and from the automaton of a list of patterns; the name `Counts` is taken by the one for trees
 pub use Rattle.lalrpop_kernels.specs.Kernels
 pub use Rattle.lalrpop_items.specs.Automata
 pub use Rattle.lalrpop_table.specs.Dfa

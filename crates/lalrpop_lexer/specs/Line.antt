@@ -11,7 +11,7 @@ use Rattle.lalrpop_lexer.specs.declared.form.Form.TheVariants as forms
 use Rattle.lalrpop_lexer.specs.declared.meaning.Meaning.{Meaning}
 use Rattle.lalrpop_lexer.specs.declared.meaning.Meaning.TheVariants.{Bad, NoTree, Terminal}
 
--- 1 to 20 decimal digits that write n, which fits 64 bits
+-- 1 to 20 decimal digits whose value is n, which fits 64 bits
 pub record IsPrecedence (digits : List ℕ) (n : ℕ) : Type 0 where
   pub numeral : IsNumeral 10 digits
   pub short : length digits ≤ 20
@@ -31,7 +31,7 @@ pub record IsLine (line : List ℕ) (n : ℕ) (form : Form) (text : List ℕ) : 
   pub precedence : IsPrecedence digits n
   pub utf8 : IsUtf8 line
 
--- the line says this: it is bad, or its pattern doesn't parse, or it is a terminal of this precedence and this tree
+-- the line says this: it is bad, or its pattern doesn't parse, or it is a terminal with this precedence and this tree
 abbrev pub LineSays : List ℕ → Meaning → Type 0
 LineSays line Bad = (n : ℕ) (form : Form) (text : List ℕ) → ¬ IsLine line n form text
 LineSays line NoTree = (n : ℕ) × ((text : List ℕ) × (IsLine line n forms.Pattern text × ((t : Tree) → ¬ Pattern (chars text) t)))

@@ -6,14 +6,14 @@ use Rattle.lalrpop_lexer.specs.LexerTokens.{GivesToken}
 use Rattle.lalrpop_book.specs.declared.token.Token.{Token}
 use Rattle.lalrpop_book.specs.declared.token.TokenFault.{TokenFault}
 
--- a text that is being cut; how many characters may still be read besides those of the tokens and 64 for each call; and how many were
--- read so far, each counted as often as it was read
+-- a text that is being cut; how many characters may still be read besides those of the tokens and 64 for each call; and how many have
+-- been read so far, each counted as often as it was read
 pub record LinearCutting : Type 0 where
   pub cutting : Cutting
   pub spare : ℕ
   pub steps : ℕ
 
--- what is left pays: 65 steps for each character that is not cut off yet, and those to spare
+-- the steps so far, and what is left to pay for more: 65 for each character that is not cut off yet, and those to spare
 abbrev pub with_credit : LinearCutting → ℕ
 with_credit s = s.steps + 65 * left_of s.cutting + s.spare
 

@@ -1,5 +1,5 @@
 -- cases: proofs/Cases/Position.antt
--- The place of an offset of a text, as people count it.
+-- The line and the column of an offset in a text.
 use Rattle.std.specs.Prelude.{ℕ, ◌+◌, Bool, ◌==◌, List, length, take}
 use Rattle.std.specs.List.{count_by, after_last}
 use Rattle.std.specs.Str.{chars}

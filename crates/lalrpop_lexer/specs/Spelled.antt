@@ -25,7 +25,7 @@ AreSpelled [] [] = Unit {0}
 AreSpelled (x ∷ xs) (t ∷ ts) = Spells x.0 x.1 t × AreSpelled xs ts
 AreSpelled _ _ = ⊥
 
--- text i is the first that spells no tree, and the place lies at the beginning of a character of it or at its end
+-- text i is the first that spells no tree, and the place is where one of its characters begins, or its end
 pub record IsNotSpelled (xs : List (Form × List ℕ)) (i position : ℕ) : Type 0 where
   pub form : Form
   pub text : List ℕ

@@ -10,7 +10,7 @@ use std::iter::FusedIterator;
 pub enum BoundedTokens<'text> {
     /// As `Lexer::tokens` does, where `Lexer::lookahead` is a number.
     Looking(CountedTokens<'text>),
-    /// As `Lexer::tokens_linear` does, where it isn't.
+    /// As `Lexer::tokens_linear` does, where it is `None`.
     Remembering(LinearTokens<'text>),
 }
 

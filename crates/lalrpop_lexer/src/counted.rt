@@ -8,8 +8,8 @@ use lalrpop_ranges::Steps;
 use std::iter::FusedIterator;
 use std::marker::Model;
 
-/// Cuts a text into the tokens of `LexerTokens`, and counts a step each time that it reads a character. Only contracts
-/// see the steps: a running program cannot tell it from `LexerTokens`.
+/// Cuts a text into the tokens of `LexerTokens`, and counts a step for each character it reads. Only contracts see the
+/// steps: a running program can't tell it from `LexerTokens`.
 #[derive(Drop)]
 pub struct CountedTokens<'text> {
     tokens: LexerTokens<'text>,

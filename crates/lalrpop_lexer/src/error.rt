@@ -1,4 +1,4 @@
-//! Why some texts give no lexer.
+//! Why a lexer can't be built.
 ghost use Rattle.std.specs.Prelude.{◌≡◌};
 ghost use Rattle.lalrpop_lexer.specs.LexerErrors.{of_regex, of_construction};
 ghost use Rattle.lalrpop_lexer.specs.declared.error.LexerError.TheVariants.{OutOfMemory};
@@ -10,31 +10,31 @@ use lalrpop_re::{RegexError, SyntaxKind};
 use std::alloc::{AllocError, AllocFailed};
 use thiserror::Error;
 
-/// Why no lexer was made: one type for the errors of reading patterns, of building their automaton, and of memory.
-/// Patterns are counted from 0.
+/// Why a lexer can't be built: one type for errors in parsing patterns and in building their automaton, and for running
+/// out of memory. Patterns are numbered from 0.
 #[derive(Debug, Drop, Error)]
 pub enum LexerError {
-    /// A text that was read by itself does not parse: `kind` says why, and `position` where, as an offset in bytes.
+    /// A pattern that isn't in a list does not parse: `kind` says why, and `position` where, as an offset in bytes.
     #[error("a pattern does not parse: {kind:?} at byte {position}")]
     Syntax {
         position: usize,
         kind: SyntaxKind,
     },
-    /// The text of this pattern of a list does not parse.
+    /// The text of a pattern in a list does not parse: `pattern` is its index, and the rest is as in `Syntax`.
     #[error("the text of pattern {pattern} does not parse: {kind:?} at byte {position}")]
     NotParsed {
         pattern: usize,
         position: usize,
         kind: SyntaxKind,
     },
-    /// This pattern was not compiled.
+    /// This pattern can't be compiled.
     #[error("pattern {pattern} can't be compiled: {error:?}")]
     NotCompiled {
         pattern: usize,
         error: NfaConstructionError,
     },
-    /// Two patterns are the strongest that match some word: `word` is the least such word, `pattern` the greatest place of
-    /// the strongest ones on it, `other` the second greatest.
+    /// Some word has more than one strongest pattern: `word` is the shortest, then least, such word, `pattern` the greatest
+    /// index of its strongest patterns, and `other` the second greatest.
     #[error("patterns {other} and {pattern} clash on {shown}", shown = ShownWord(.word))]
     Clash {
         pattern: usize,

@@ -1,4 +1,4 @@
-//! Texts that stand for trees.
+//! Parsing a text, as a literal or as a pattern.
 ghost use Rattle.std.specs.Prelude.{◌≡◌, ◌≢◌, IfOk, IfErr};
 ghost use Rattle.std.specs.Str.{chars};
 ghost use Rattle.lalrpop_re.specs.Refusal.{HasNoTree, PointsInto};
@@ -7,16 +7,16 @@ ghost use Rattle.lalrpop_lexer.specs.Spelled.{Spells};
 use lalrpop_re::{Regex, RegexError, parse_literal, parse_regex};
 use std::alloc::Global;
 
-/// How a text is meant.
+/// How a text is to be read.
 #[derive(Clone, Copy, Debug, PartialEq, Eq)]
 pub enum Form {
-    /// As it stands: no character has a special meaning.
+    /// As it is: no character has a special meaning.
     Literal,
     /// As a pattern.
     Pattern,
 }
 
-// The tree of a text.
+// Parses a text into its tree.
 pub(crate) fn tree_of(alloc: Global, form: Form, text: &str) -> Result<Regex, RegexError>
     ensures tree { IfOk result (λ t. Spells form text.now t) }
     ensures pattern { IfErr result (λ e. e ≢ RegexError.OutOfMemory → form ≡ Form.Pattern) }

@@ -1,4 +1,4 @@
-//! The tokens that a lexer cuts a text into, with the places where they begin.
+//! The tokens that a lexer cuts a text into, with their offsets.
 
 ghost use Rattle.std.specs.Prelude.{◌≡◌};
 
@@ -9,7 +9,7 @@ use lalrpop_ranges::Steps;
 use std::iter::FusedIterator;
 use std::marker::Model;
 
-/// Cuts a text into tokens, like `Tokens`, and says where each begins.
+/// Cuts a text into tokens, like `Tokens`, and gives the offset where each begins.
 #[derive(Debug, Drop)]
 pub struct LexerTokens<'text> {
     tokens: Tokens<'text, DenseDfa>,

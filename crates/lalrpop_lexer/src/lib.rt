@@ -1,8 +1,8 @@
-//! A lexer layer: patterns with precedences are compiled to one automaton, which finds the longest match of a text
-//! and its only strongest pattern, and cuts whole texts into such matches. Patterns come as trees, or as
-//! terminals that are lines, such as `1 l class` or `0 r [a-z]+`.
+//! Patterns with precedences are compiled to one automaton. It finds the longest match at the front of a text and the one
+//! strongest pattern that matches it, and cuts whole texts into such matches. Patterns are given as trees, as texts, or as
+//! a list of terminals, one a line, such as `1 l class` or `0 r [a-z]+`.
 //!
-//! It also exports the crates below.
+//! The crates below are re-exported.
 #![tactic(auto)]
 
 mod bounded;

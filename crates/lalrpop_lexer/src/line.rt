@@ -7,7 +7,7 @@ ghost use Rattle.lalrpop_lexer.specs.Line.{IsPrecedence, letter, IsLine};
 
 use crate::form::Form;
 
-// Enough for each `usize`, with leading zeros if it is shorter.
+// Enough for every `usize`, padded with zeros if it is shorter.
 const MAX_DIGITS: usize = 20;
 
 // The place of the first line feed.
@@ -32,19 +32,19 @@ pub fn split_line(bytes: &[u8]) -> Option<(&[u8], &[u8])>
     }
 }
 
-// Whether all characters are decimal digits.
+// Whether every character is a decimal digit.
 fn has_digits_alone(text: &str) -> bool
     ensures { result ≡ list_all is_ascii_digit text.now }
 {
     text.bytes().all(|byte| byte.is_ascii_digit())
 }
 
-// The number that 1 to 20 decimal digits write, if it is a `usize`.
+// The value of 1 to 20 decimal digits, if it fits a `usize`.
 fn precedence_of(digits: &str) -> Option<usize>
     ensures some { IfSome result (λ n. IsPrecedence digits.now n) }
     ensures none { IfNone result ((n : ℕ) → ¬ IsPrecedence digits.now n) }
 {
-    // `parse` alone would take a sign and any number of leading zeros.
+    // `parse` alone would accept a sign and any number of leading zeros.
     if digits.len() > MAX_DIGITS || !has_digits_alone(digits) {
         return None;
     }
@@ -64,7 +64,7 @@ fn form_of(rest: &str) -> Option<(Form, &str)>
     Some((Form::Pattern, text))
 }
 
-/// The precedence, the form and the text of a line `P l TEXT` or `P r PATTERN`; None where the line is bad.
+/// The precedence, the form and the text of a line `P l TEXT` or `P r PATTERN`; None if the line is bad.
 pub fn line_parts(line: &[u8]) -> Option<(usize, Form, &str)>
     ensures some { IfSome result (λ m. IsLine line.now m.0 m.1 m.2.now) }
     ensures none { IfNone result

@@ -8,9 +8,9 @@ use lalrpop_ranges::Steps;
 use std::iter::FusedIterator;
 use std::marker::Model;
 
-/// Cuts a text into the tokens of `LexerTokens`, by the same table as long as it reads little in vain. Then it remembers which states
-/// were passed at which places of the text, so that no run goes where one before it has gone in vain. It counts a step for each
-/// character that is read, as often as it is read; steps are for contracts alone.
+/// Cuts a text into the tokens of `LexerTokens`, by the same table as long as it reads little in vain. After that it remembers
+/// which states it passed at which places of the text, so it never repeats a run that came to nothing. It counts a step for
+/// each character it reads, as often as it reads it; only contracts see the steps.
 #[derive(Drop)]
 pub struct LinearTokens<'text> {
     matches: LinearMatches<'text>,
@@ -41,7 +41,7 @@ impl<'text> LinearTokens<'text> {
     ghost use Rattle.lalrpop_lexer.specs.Cutting.{rest_of, left_of};
     ghost use Rattle.lalrpop_lexer.specs.LinearCutting.{GivesLinear};
 
-    // The text as it is before the first token.
+    // The whole text, before the first token.
     pub(crate) fn new(matches: LinearMatches<'text>) -> LinearTokens<'text>
         ensures start { result
             ≡ record {
@@ -62,14 +62,14 @@ impl<'text> LinearTokens<'text> {
         }
     }
 
-    /// The rest of the text after the last token. All of it, before the first call of `next`.
+    /// The rest of the text, after the last token. Before the first call of `next` it is all of the text.
     pub fn rest(&self) -> &'text str
         ensures rest { result.now ≡ rest_of self.now.cutting }
     {
         self.matches.rest()
     }
 
-    // What `next` gives.
+    // What `next` returns.
     fn next_token(&mut self) -> Option<Result<Token<'text>, TokenFault>>
         ensures gives { GivesLinear self.old result self.new }
         ensures goes { OnSome result (left_of self.new.cutting < left_of self.old.cutting) }

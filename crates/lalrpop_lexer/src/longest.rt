@@ -11,13 +11,13 @@ use lalrpop_dfa::{DfaConstructionError, NfaIndex, Precedence, build_dfa};
 use lalrpop_re::Regex;
 use std::alloc::Global;
 
-/// The longest nonempty prefix of the text that some pattern matches, with the index of the only pattern of the
-/// greatest precedence that matches it, or None if no pattern matches a nonempty prefix.
+/// The longest nonempty prefix of the text that some pattern matches, with the index of the one pattern of the
+/// greatest precedence that matches it; `None` if no pattern matches a nonempty prefix.
 ///
 /// # Errors
 ///
-/// The first pattern that can't be compiled; otherwise the last two strongest patterns on the shortest, then least, word
-/// that has two or more, and that word; or out of memory.
+/// The first pattern that can't be compiled; otherwise the shortest, then least, word with two or more strongest patterns,
+/// and the last two of those; or out of memory.
 pub fn longest_match<'text>(
     alloc: Global,
     regexs: &[Regex],

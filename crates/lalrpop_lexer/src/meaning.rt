@@ -10,7 +10,7 @@ use std::alloc::{AllocError, Global};
 /// What a line says.
 #[derive(Drop)]
 pub enum Meaning {
-    /// The line is of another form, or isn't UTF-8.
+    /// The line has another form, or isn't UTF-8.
     Bad,
     /// The line's pattern doesn't parse.
     NoTree,
@@ -18,7 +18,7 @@ pub enum Meaning {
     Terminal { precedence: usize, regex: Regex },
 }
 
-/// What the line says. A line whose pattern doesn't parse is `NoTree`, and not `Bad`.
+/// What the line says. A line whose pattern doesn't parse is `NoTree`, not `Bad`.
 ///
 /// # Errors
 ///

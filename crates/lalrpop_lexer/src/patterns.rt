@@ -1,4 +1,4 @@
-//! A lexer from patterns that are texts.
+//! A lexer built from the texts of its patterns.
 ghost use Rattle.std.specs.Prelude.{◌≡◌, map, IfOk, IfErr};
 ghost use Rattle.lalrpop_book.specs.Clash.{NoClash};
 ghost use Rattle.lalrpop_book.specs.Report.{NoFault};
@@ -11,7 +11,7 @@ use lalrpop_dfa::Precedence;
 use lalrpop_re::{Regex, RegexError};
 use std::alloc::{AllocError, Global};
 
-// The trees of all texts, or the first text that does not parse.
+// The trees of all patterns, or the first text that does not parse.
 fn trees_of(alloc: Global, patterns: &[(Precedence, Form, &str)]) -> Result<Vec<Regex>, LexerError>
     ensures trees { IfOk result (λ trees. AreSpelled (texts_of patterns.now) trees.items) }
     ensures error { IfErr result (λ e.
@@ -50,13 +50,13 @@ fn precedences_of(
 }
 
 impl Lexer {
-    /// Builds the lexer of these patterns, each a text with its precedence, and how the text is meant: as a literal or as a
-    /// pattern.
+    /// Builds the lexer of these patterns. Each is a precedence, a form, which says whether the text is a literal or a pattern,
+    /// and the text.
     ///
     /// # Errors
     ///
-    /// The first text that does not parse, as `NotParsed`; else the first pattern that can't be compiled; else the two last
-    /// strongest patterns on the shortest, then least, word that has no one strongest pattern; and out of memory.
+    /// The first text that does not parse, as `NotParsed`; otherwise the first pattern that can't be compiled; otherwise the
+    /// shortest, then least, word with two or more strongest patterns, and the last two of those; or out of memory.
     pub fn from_patterns(
         alloc: Global,
         patterns: &[(Precedence, Form, &str)],

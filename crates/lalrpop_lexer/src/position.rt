@@ -1,4 +1,4 @@
-//! Places in a text as people count them.
+//! Places in a text, as line and column.
 
 ghost use Rattle.std.specs.Prelude.{◌≡◌, ◌≤◌, ◌<◌, ◌↔◌, IfSome, IsSome};
 ghost use Rattle.std.specs.Str.{IsCharBoundary};
@@ -12,13 +12,13 @@ use std::marker::Model;
 pub struct Position {
     /// One more than the number of line feeds before the place.
     pub line: usize,
-    /// One more than the number of characters between the last line feed before the place and the place. If there is
-    /// no line feed before it, they are counted from the beginning of the text.
+    /// One more than the number of characters between the last line feed before the place and the place itself. If there
+    /// is no such line feed, characters are counted from the beginning of the text.
     pub column: usize,
 }
 
 impl Position {
-    /// The place of an offset of the text, in bytes. For the places of many offsets, use `Positions`.
+    /// The place of a byte offset in the text. For many offsets, use `Positions`.
     pub fn of(text: &str, offset: usize) -> Position
         requires boundary { IsCharBoundary text.now offset }
         ensures position { result ≡ position_of text.now offset }
@@ -26,7 +26,7 @@ impl Position {
         Positions::new(text).at(offset)
     }
 
-    /// The place of an offset of the text, in bytes, or `None` if the offset is past the text or inside a character.
+    /// The place of a byte offset in the text, or `None` if the offset is past the end or inside a character.
     pub fn get(text: &str, offset: usize) -> Option<Position>
         ensures boundary { IsSome result ↔ IsCharBoundary text.now offset }
         ensures position { IfSome result (λ p. p ≡ position_of text.now offset) }
@@ -58,11 +58,11 @@ impl Position {
     }
 }
 
-/// The places of ascending offsets of a text, found in one walk over it.
+/// The places of ascending offsets in a text, found in one pass over it.
 #[derive(Debug, Drop)]
 pub struct Positions<'text> {
     text: &'text str,
-    // How far the text was walked, and the place there.
+    // How much of the text has been passed, in bytes, and the place there.
     offset: usize,
     position: Position,
 }
@@ -92,7 +92,7 @@ impl<'text> Positions<'text> {
         }
     }
 
-    /// The place of an offset in bytes, which must not be before that of the last call.
+    /// The place of a byte offset, which must not be less than the offset of the last call.
     pub fn at(&mut self, offset: usize) -> Position
         requires boundary { IsCharBoundary self.old.text offset }
         requires ascending { self.old.offset ≤ offset }

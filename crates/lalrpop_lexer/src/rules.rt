@@ -39,8 +39,8 @@ use std::marker::Model;
 
 /// Patterns with their precedences, and their automaton.
 ///
-/// An invariant of the type says that they belong together and that no word is ambiguous, so only building a lexer has
-/// a condition.
+/// The invariant of the type says that they belong together and that no word is ambiguous, so only building a lexer has a
+/// precondition.
 #[derive(Debug, Drop)]
 pub struct Lexer {
     regexs: Vec<Regex>,
@@ -73,8 +73,8 @@ impl Lexer {
     ///
     /// # Errors
     ///
-    /// The first pattern that can't be compiled; otherwise the last two strongest patterns on the shortest, then least, word
-    /// that has two or more; or out of memory.
+    /// The first pattern that can't be compiled; otherwise the shortest, then least, word with two or more strongest patterns,
+    /// and the last two of those; or out of memory.
     pub fn new(
         alloc: Global,
         regexs: Vec<Regex>,
@@ -107,8 +107,8 @@ impl Lexer {
         &self.regexs
     }
 
-    /// The token at the front of the text: the longest nonempty prefix that some pattern matches, with the only pattern
-    /// of the greatest precedence that matches it. `None` if no pattern matches one.
+    /// The token at the front of the text: the longest nonempty prefix that some pattern matches, with the one pattern of
+    /// the greatest precedence that matches it. `None` if no pattern matches a nonempty prefix.
     pub fn token<'text>(&self, text: &'text str) -> Option<Token<'text>>
         ensures token { IfSome result (λ token.
             IsToken self.now.trees self.now.precedences text.now 0 token) }
@@ -124,8 +124,8 @@ impl Lexer {
         }
     }
 
-    /// The tokens of the text, each the token at the front of the rest. They end at the end of the text, or with one
-    /// fault at the first place where no pattern matches. After that, every call returns `None`.
+    /// The tokens of the text, in order, each at the front of the rest. They end at the end of the text, or with one fault
+    /// at the first place where no pattern matches. After that, every call returns `None`.
     ///
     /// It takes no memory, and there are at most as many tokens and faults as the text has characters.
     pub fn tokens<'text>(&'text self, text: &'text str) -> LexerTokens<'text>
@@ -142,9 +142,9 @@ impl Lexer {
         LexerTokens::new(Tokens::new(&self.dense, text))
     }
 
-    /// All tokens of the text at once, those that `tokens` gives, and the fault at which they end.
+    /// All tokens that `tokens` gives, in one list, with the fault at which they end, if there is one.
     ///
-    /// They are found by blocks, which is faster than one by one. The list takes 32 bytes a token.
+    /// The text is cut block by block, which is faster than token by token. The list takes 32 bytes a token.
     ///
     /// # Errors
     ///
@@ -178,10 +178,10 @@ impl Lexer {
         })
     }
 
-    /// The tokens of `tokens`, with a step counted each time that a character is read. If at most n characters after a
-    /// match leave it open, a whole text costs at most n + 2 steps a character.
+    /// The tokens of `tokens`, with a step counted each time a character is read. If at most n characters after a match
+    /// leave it open, a whole text costs at most n + 2 steps a character.
     ///
-    /// It takes no memory. A running program cannot tell it from `tokens`: only contracts see the steps.
+    /// It takes no memory. A running program can't tell it from `tokens`: only contracts see the steps.
     pub fn tokens_counted<'text>(&'text self, text: &'text str) -> CountedTokens<'text>
         ensures start { result ≡ counting_of self.now.automaton text.now }
         ensures tokens { (xs : List (Result TokenValue FaultValue)) → Drains GivesCounted result xs
@@ -193,12 +193,12 @@ impl Lexer {
         CountedTokens::new(self.tokens(text))
     }
 
-    /// The tokens of `tokens`, in time linear in the text whatever the patterns are: a whole text costs at most 66 steps a character and
-    /// one a byte, and for each open state of the automaton, one that neither accepts a pattern nor rejects, a step a byte and 64 in
-    /// all. A step is counted for each character that is read, as often as it is read.
+    /// The tokens of `tokens`, in time linear in the length of the text, whatever the patterns are. A state of the automaton is
+    /// open if it neither accepts a pattern nor rejects. A whole text costs at most 66 steps a character and one a byte, and for
+    /// each open state one step a byte and 64 more. A step is counted each time a character is read.
     ///
-    /// Where no more than 16 bytes are read past each token, the table of `tokens` cuts the whole text. The memory is taken here: a byte
-    /// for each open state and each 64 bytes of the text.
+    /// If no more than 16 bytes are read past each token, the table of `tokens` cuts the whole text. All memory is taken by this
+    /// call: a byte for each open state and each 64 bytes of the text.
     ///
     /// # Errors
     ///
@@ -223,8 +223,8 @@ impl Lexer {
         Ok(LinearTokens::new(matches))
     }
 
-    /// The longest matches of the text, one behind another, for a caller that goes on where nothing matches. All of the text is left.
-    /// The memory is taken here, as by `tokens_linear`.
+    /// The longest matches of the text, one after another, for a caller that goes on where nothing matches. It starts with all
+    /// of the text left. All memory is taken by this call, as in `tokens_linear`.
     ///
     /// # Errors
     ///
@@ -248,8 +248,8 @@ impl Lexer {
         LinearMatches::new(alloc, &self.dense, text)
     }
 
-    /// The tokens of `tokens`, in whichever way has a bound on its cost: by `tokens` if `lookahead` is a number, and else by
-    /// `tokens_linear`. It asks `lookahead` first, which takes memory of its own and gives it back.
+    /// The tokens of `tokens`, at a bounded cost whatever the patterns are: as `tokens` finds them if `lookahead` is a number,
+    /// and otherwise by `tokens_linear`. It calls `lookahead` first, which takes memory and gives it back.
     ///
     /// # Errors
     ///
@@ -278,10 +278,10 @@ impl Lexer {
         }
     }
 
-    /// The greatest number of characters that can follow a match and leave it open whether a longer one comes; `None` if
-    /// the number has no bound.
+    /// The greatest number of characters that can follow a match and still leave it open whether a longer one comes; `None`
+    /// if there is no bound.
     ///
-    /// If it is n, no token is decided by looking more than n + 1 characters past its end.
+    /// If it is n, no more than n + 1 characters past the end of a token are read to decide it.
     ///
     /// # Errors
     ///
@@ -294,8 +294,8 @@ impl Lexer {
         lookahead(alloc, self.dense.dfa())
     }
 
-    /// For each pattern, in order, whether a token by it can stay open forever: no number of characters after it is enough
-    /// to settle that no longer one comes. If `lookahead` returns a number, none can.
+    /// For each pattern, in order, whether a token it matches can stay open forever: no number of characters after the token
+    /// is enough to settle that no longer one comes. If `lookahead` returns a number, no token can.
     ///
     /// # Errors
     ///
@@ -309,11 +309,11 @@ impl Lexer {
         open_patterns(alloc, self.dense.dfa(), self.regexs().len())
     }
 
-    /// The shortest, then least, word that a pattern matches and that some `count` characters behind it leave open: they don't
-    /// settle whether a longer match comes. With it come the least such characters, all by their code values. `None` if there
-    /// is no such word.
+    /// The shortest, then least, word that a pattern matches and that `count` characters after it can leave open: they don't
+    /// settle whether a longer match comes. The least such characters come with it, all as code values. `None` if there is no
+    /// such word.
     ///
-    /// If `count` is what `lookahead` returned, it shows what makes the lexer look that far ahead.
+    /// With the `count` that `lookahead` returned, it shows what makes the lexer look that far ahead.
     ///
     /// # Errors
     ///

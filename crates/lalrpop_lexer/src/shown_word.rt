@@ -2,8 +2,8 @@
 
 use std::fmt::{self, Display, Formatter, Write};
 
-/// A word as messages show it: in quotes, and a quote, a backslash, a control character or a value that is no character as an
-/// escape, `\n` or `\u{d800}` say.
+/// A word as messages show it: in quotes. A quote, a backslash, a control character or a value that isn't a character is
+/// shown as an escape sequence, such as `\n` or `\u{d800}`.
 #[derive(Clone, Copy, Debug)]
 pub struct ShownWord<'word>(pub &'word [u32]);
 

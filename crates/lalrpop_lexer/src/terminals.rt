@@ -1,4 +1,4 @@
-//! Terminals that are lines.
+//! Reading terminals, one a line.
 ghost use Rattle.std.specs.Prelude.{IfOk};
 ghost use Rattle.lalrpop_lexer.specs.Terminals.{AreSaid};
 
@@ -16,7 +16,7 @@ pub enum Terminals {
         regexs: Vec<Regex>,
         precedences: Vec<Precedence>,
     },
-    /// The first bad line: it has another form.
+    /// The first bad line: it doesn't have the form of a terminal.
     Bad {
         line: usize,
     },

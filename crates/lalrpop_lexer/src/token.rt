@@ -69,7 +69,7 @@ impl<'text, M: Matcher> Tokens<'text, M> {
         &self.text[self.at..]
     }
 
-    // What `next` returns. Counts a step for each character read.
+    // What `next` returns. It counts a step for each character it reads.
     pub(crate) fn next_counted(
         &mut self,
         steps: &mut Steps,

@@ -5,8 +5,8 @@ use lalrpop_book::{Token, TokenFault};
 /// The tokens of a whole text, and the fault at which they end, if there is one.
 #[derive(Debug, Drop)]
 pub struct TokenList<'text> {
-    /// The tokens, in the order of their places.
+    /// The tokens, in the order of the text.
     pub tokens: Vec<Token<'text>>,
-    /// The first place where no pattern matches. `None` where the tokens are the whole text.
+    /// The first place where no pattern matches. `None` if the tokens are the whole text.
     pub fault: Option<TokenFault>,
 }

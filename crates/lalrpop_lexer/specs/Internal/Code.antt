@@ -1,4 +1,4 @@
--- Rules as pairs of lists, by which proofs tell rules apart.
+-- Rules as pairs of lists, which proofs use to tell rules apart.
 use Rattle.std.specs.Prelude.{◌≡◌, ℕ, List, Option, Some, None, refl}
 use Rattle.std.specs.Coded.{Coded, code_by, coded×, coded_list, coded_option, coded_ℕ}
 use Rattle.lalrpop_hir.specs.Internal.Code.{range_code, tree_code}
