@@ -1,5 +1,5 @@
 -- cases: proofs/Cases/Markup.antt
--- A text as markup, and the text of markup.
+-- A text as HTML, and the text of HTML.
 use Rattle.std.specs.Prelude.{ℕ, true, false, List, [], ◌∷◌, ◌++◌, Option, Some, None, codes, chars, encode_utf8, flat_map, slice_get, unwrap_or, if◌then◌else◌, ◌==◌}
 use Rattle.std.specs.Str.{bytes_eq}
 use Rattle.lalrpop_rules.specs.declared.item.Item.{Item}
@@ -7,7 +7,7 @@ use Rattle.lalrpop_rules.specs.declared.item.Item.TheVariants.{Token, Skipped, F
 
 -- ---- writing
 
--- what stands for `<`, `>`, `&` and the quote
+-- the entities of `<`, `>`, `&` and the quote
 abbrev pub entity : ℕ → Option (List ℕ)
 entity c =
     if c == 60 then Some (codes "&lt;") else (
@@ -15,7 +15,7 @@ entity c =
     if c == 38 then Some (codes "&amp;") else (
     if c == 34 then Some (codes "&quot;") else None)))
 
--- and for any character: itself, if it has no entity
+-- the entity of a character, or the character itself if it has none
 abbrev pub told : ℕ → List ℕ
 told c = unwrap_or (entity c) (encode_utf8 c)
 
@@ -32,7 +32,7 @@ marked names (Token token) = span (unwrap_or (slice_get names token.index) []) t
 marked names (Skipped token) = escaped token.slice.now
 marked names (Fault start slice) = span (codes "fault") slice.now
 
--- ---- reading: the text of markup is what stands outside tags, with entities undone
+-- ---- reading: the text of HTML is what is outside tags, with entities decoded
 
 -- the byte that the entity of this name stands for
 abbrev pub byte_of : List ℕ → ℕ

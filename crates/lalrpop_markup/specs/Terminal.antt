@@ -9,7 +9,7 @@ use Rattle.lalrpop_rules.specs.declared.item.Item.TheVariants.{Token, Skipped, F
 
 -- ---- writing
 
--- a sequence: the character ESC, 27, and then `[`, parameters and `m`
+-- an escape sequence: the character ESC, 27, and then `[`, parameters and `m`
 abbrev pub sequence : List ℕ → List ℕ
 sequence parameters = 27 ∷ 91 ∷ (parameters ++ codes "m")
 
@@ -17,29 +17,29 @@ sequence parameters = 27 ∷ 91 ∷ (parameters ++ codes "m")
 abbrev pub reset : List ℕ
 reset = sequence (codes "0")
 
--- a control character that a terminal must not get: each but the newline and the tab
+-- a control character that must not be sent to a terminal: any but the newline and the tab
 abbrev pub is_hidden : ℕ → Bool
 is_hidden c = is_control c && not (c == 10 || c == 9)
 
--- its two letters: `^` and the character 64 places on, round from 128 to 0; from 128 on `~` and the one 64 places back
+-- its two letters: below 128, `^` and the character whose code value is 64 more, modulo 128; from 128 on, `~` and the one 64 less
 abbrev pub sign : ℕ → ℕ
 sign c = if nat_lt c 128 then 94 else 126
 
 abbrev pub letter : ℕ → ℕ
 letter c = if nat_lt c 128 then (c + 64) % 128 else c - 64
 
--- what stands for a character: itself, or its two letters in reverse
+-- a character as it is shown: itself, or its two letters in reverse video
 abbrev pub visible : ℕ → List ℕ
 visible c = if is_hidden c then sequence (codes "7") ++ (sign c ∷ letter c ∷ sequence (codes "27")) else encode_utf8 c
 
--- and in colour: no colour goes over the end of a line
+-- and in colour: no colour runs past the end of a line
 abbrev pub visible_in : List ℕ → ℕ → List ℕ
 visible_in colour c = if c == 10 then reset ++ (10 ∷ sequence colour) else visible c
 
 abbrev pub coloured : List ℕ → List ℕ → List ℕ
 coloured colour text = sequence colour ++ (flat_map (visible_in colour) (chars text) ++ reset)
 
--- the colours 31 to 36 in turn, by the number of the first rule with this name
+-- the colours 31 to 36 in turn, by the index of the first rule with this name
 abbrev pub colour_of : List (List ℕ) → List ℕ → List ℕ
 colour_of names name = 51 ∷ (49 + position_or_len (bytes_eq name) names % 6) ∷ []
 
@@ -54,7 +54,7 @@ painted names (Token token) = by_name names (slice_get names token.index) token.
 painted names (Skipped token) = flat_map visible (chars token.slice.now)
 painted names (Fault start slice) = coloured (codes "41") slice.now
 
--- ---- reading: the text of a page is what stands outside sequences, with control characters in place of their letters
+-- ---- reading: the text of a page is what is outside sequences, with control characters in place of their letters
 
 -- the bytes of the control character with these letters
 abbrev pub hidden_of : ℕ → ℕ → List ℕ

@@ -1,4 +1,4 @@
-//! A text shown by its tokens, as markup or in a terminal's colours, from which the text can be read back.
+//! A text with its tokens marked, as HTML or in colours for a terminal. The text can be read back from either.
 #![tactic(auto)]
 
 mod page;

@@ -1,4 +1,4 @@
-//! A text as a page of HTML.
+//! A text as HTML.
 ghost use Rattle.std.specs.Prelude.{◌≡◌, ◌++◌, List, flat_map, option_map, string_bytes, IfOk, OnOk};
 ghost use Rattle.lalrpop_rules.specs.Pieces.{ArePieces};
 ghost use Rattle.lalrpop_rules.specs.declared.item.Item.{Item as ItemValue};
@@ -7,7 +7,7 @@ ghost use Rattle.lalrpop_markup.specs.Markup.{entity, told, escaped, span, marke
 use lalrpop_rules::{Item, RuleLexer};
 use std::alloc::{AllocError, Global};
 
-// What stands for a character that means something in markup.
+// The entity of a character that has a meaning in HTML.
 fn entity(c: char) -> Option<&'static str>
     ensures { option_map (λ text. text.now) result ≡ entity c }
 {
@@ -66,8 +66,8 @@ fn push_item(page: &mut String, lexer: &RuleLexer, item: &Item) -> Result<(), Al
     }
 }
 
-/// The text as markup of HTML: each token in a `span` whose class is the name of its rule, each fault in one of the class
-/// `fault`, and skipped text in none. Strip the tags and decode the entities, and you have the text again.
+/// The text as HTML: each token in a `span` whose class is the name of its rule, each fault in a `span` of the class `fault`,
+/// and skipped text in none. Strip the tags and decode the entities, and you have the text again.
 ///
 /// # Errors
 ///

@@ -10,12 +10,12 @@ use lalrpop_lexer::lexer::dfa::NfaIndex;
 use lalrpop_rules::{Item, RuleLexer};
 use std::alloc::{AllocError, Global};
 
-// The parameters of a sequence that ends colours, and of one that begins the colour of faults.
+// The parameters of the escape sequences that end colours and begin the colour of faults.
 const RESET: &str = "0";
 
 const FAULT: &str = "41";
 
-// Whether a terminal must not get this character.
+// Whether this character must not be sent to a terminal.
 fn is_hidden(c: char) -> bool
     ensures { result ≡ is_hidden_of c }
 {
@@ -68,7 +68,7 @@ fn push_plain(page: &mut String, text: &str) -> Result<(), AllocError>
     Ok(())
 }
 
-// One character in colour. No colour goes over the end of a line, since a pager that begins at the next would not show it.
+// One character in colour. No colour runs past the end of a line, since a pager that begins at the next would not show it.
 fn push_visible_in(page: &mut String, colour: &str, c: char) -> Result<(), AllocError>
     ensures { OnOk result (string_bytes page.new
         ≡ string_bytes page.old ++ visible_in colour.now c) }
@@ -100,7 +100,7 @@ fn push_coloured(page: &mut String, colour: &str, text: &str) -> Result<(), Allo
     push_sequence(page, RESET)
 }
 
-// Whether the rule with this number has this name.
+// Whether the rule with this index has this name.
 fn has_name(lexer: &RuleLexer, number: usize, name: &str) -> bool
     requires { number < length lexer.now.names }
     ensures { result ≡ bytes_eq name.now (slice_index_or lexer.now.names number []) }
@@ -111,7 +111,7 @@ fn has_name(lexer: &RuleLexer, number: usize, name: &str) -> bool
     }
 }
 
-// The number of the first rule with the name of this one.
+// The index of the first rule with this name.
 fn first_of_name(lexer: &RuleLexer, index: NfaIndex, name: &str) -> usize
     requires { slice_get lexer.now.names index ≡ Some name.now }
     ensures { result ≡ position_or_len (bytes_eq name.now) lexer.now.names }
@@ -155,13 +155,13 @@ fn push_painted(page: &mut String, lexer: &RuleLexer, item: &Item) -> Result<(),
     }
 }
 
-/// The text in colours for a terminal, by escape sequences. The tokens of a rule have one of six colours, by the number of
-/// the first rule with its name: red, green, yellow, blue, magenta, cyan, and red again. Faults stand on red, and skipped text
-/// has no colour. Each line ends its colours, so a pager can begin anywhere.
+/// The text in colours for a terminal, by escape sequences. The tokens of a rule have one of six colours, by the index of the
+/// first rule with its name: red, green, yellow, blue, magenta, cyan, and then red again. Faults have a red background, and
+/// skipped text has no colour. No colour runs past the end of a line, so a pager can begin at any line.
 ///
-/// The text can't control the terminal: each control character but the newline and the tab is shown by two letters in reverse,
-/// as `^[` for ESC, `^M` for a carriage return and `~[` for the character 155. Take out the sequences and put the control
-/// characters back, and you have the text again.
+/// The text can't control the terminal: each control character but the newline and the tab is shown as two characters in
+/// reverse video, such as `^[` for ESC, `^M` for a carriage return and `~[` for the character with code value 155. Take out the
+/// escape sequences and put the control characters back, and you have the text again.
 ///
 /// # Errors
 ///

@@ -1,4 +1,4 @@
--- Which bytes are blanks, which are of names, and which are digits.
+-- Which bytes are blanks, which may be in names, and which are digits.
 use Rattle.std.proofs.Common.{◌≡◌, ℕ, ◌<◌, true, false, arith}
 use Rattle.std.specs.Char.{is_ascii_digit}
 use Rattle.lalrpop_rule_file.specs.RuleLine.{is_blank, is_of_name, begins_name}

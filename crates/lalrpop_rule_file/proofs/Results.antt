@@ -1,4 +1,4 @@
--- What is said of every error.
+-- What holds of every error.
 use Rattle.std.proofs.Common.{Result, Ok, Err}
 use Rattle.std.specs.Prelude.{IfErr}
 

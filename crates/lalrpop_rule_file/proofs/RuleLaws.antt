@@ -1,4 +1,4 @@
--- What the lines of a file of rules say is one.
+-- What the lines of a file of rules say is unique.
 use Rattle.std.proofs.Common.{◌≡◌, ℕ, zero, suc, Option, Some, None, List, [], ◌∷◌, refl, sym, ap, subst, ◌∙◌, inl, inr}
 use Rattle.lalrpop_lexer.specs.declared.form.Form.{Form}
 use Rattle.lalrpop_rules.specs.declared.rule.Rule.{Rule}

@@ -1,4 +1,4 @@
--- A line that is no rule.
+-- A line that isn't a rule.
 use Rattle.std.proofs.Common.{ℕ, Bool, Option, List, subst}
 use Rattle.lalrpop_lexer.specs.declared.form.Form.{Form}
 use Rattle.lalrpop_rules.specs.declared.rule.Rule.{Rule}

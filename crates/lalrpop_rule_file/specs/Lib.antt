@@ -1,5 +1,5 @@
 pub mod RuleLine
 pub mod RuleFault
 pub mod RuleFile
--- what serves the proofs alone
+-- used by proofs only
 pub mod Internal

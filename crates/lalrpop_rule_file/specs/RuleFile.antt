@@ -19,11 +19,11 @@ without_return [] = []
 without_return (b ∷ []) = if b == 13 then [] else b ∷ []
 without_return (b ∷ c ∷ bs) = b ∷ without_return (c ∷ bs)
 
--- blanks alone, or a comment: behind blanks a `#` and anything
+-- only blanks, or a comment: blanks, a `#` and anything
 abbrev pub IsBlankOrComment : List ℕ → Type 0
 IsBlankOrComment line = AreBlanks line ⊎ ((lead : List ℕ) × ((comment : List ℕ) × ((line ≡ lead ++ (codes "#" ++ comment)) × AreBlanks lead)))
 
--- the line, which ends before any carriage return, says nothing or is a rule
+-- the line, without its carriage return, says nothing or is a rule
 abbrev pub Says : List ℕ → Option Rule → Type 0
 Says line None = IsBlankOrComment line
 Says line (Some rule) = IsRule line rule
@@ -45,7 +45,7 @@ IsFirstBad (line ∷ rest) zero = ⊥
 IsFirstBad (line ∷ rest) (suc zero) = (said : Option Rule) → ¬ LineSays line said
 IsFirstBad (line ∷ rest) (suc (suc n)) = ((said : Option Rule) × LineSays line said) × IsFirstBad rest (suc n)
 
--- what is wrong with a line, and in which column: where its bytes stop being UTF-8, or where it stops being a rule
+-- what is wrong with a line, and the column: where its bytes stop being UTF-8, or where it stops being a rule
 abbrev pub IsLineFault : List ℕ → ℕ → LineFault → Type 0
 IsLineFault line column NotUtf8 = ¬ IsUtf8 line × (column ≡ (position_of line (utf8_valid_len line)).column)
 IsLineFault line column fault =

@@ -30,7 +30,7 @@ is_blank b = b == 32 || b == 9
 abbrev pub AreBlanks : List ℕ → Type 0
 AreBlanks bs = EachByte is_blank bs
 
--- an ASCII letter or `_`, and a digit too
+-- the first character of a name is an ASCII letter or `_`; the others may be digits too
 abbrev pub begins_name : ℕ → Bool
 begins_name b = is_ascii_alphabetic b || b == 95
 
@@ -41,12 +41,12 @@ abbrev pub IsName : List ℕ → Type 0
 IsName [] = ⊥
 IsName (b ∷ bs) = (begins_name b ≡ true) × EachByte is_of_name bs
 
--- what stands behind the name: nothing, or blanks and `skip`
+-- what follows the name: nothing, or blanks and `skip`
 abbrev pub IsMark : Bool → List ℕ → Type 0
 IsMark false mark = mark ≡ []
 IsMark true mark = (gap : List ℕ) × ((mark ≡ gap ++ codes "skip") × (AreBlanks gap × (0 < length gap)))
 
--- the line up to its first `=`, and what stands right of that
+-- the line up to its first `=`, and what is right of that
 pub record IsLeft (line name : List ℕ) (skipped : Bool) (right : List ℕ) : Type 0 where
   pub lead : List ℕ
   pub mark : List ℕ
@@ -56,12 +56,12 @@ pub record IsLeft (line name : List ℕ) (skipped : Bool) (right : List ℕ) : T
   pub is_name : IsName name
   pub is_mark : IsMark skipped mark
 
--- what stands before a literal or a pattern: nothing, or the digits of a precedence and blanks
+-- what comes before a literal or a pattern: nothing, or the digits of a precedence and blanks
 abbrev pub IsWritten : Option ℕ → List ℕ → Type 0
 IsWritten None part = part ≡ []
 IsWritten (Some n) part = (digits : List ℕ) × ((gap : List ℕ) × ((part ≡ digits ++ gap) × (IsPrecedence digits n × AreBlanks gap)))
 
--- a literal stands between apostrophes, a pattern between slashes
+-- a literal is between apostrophes, a pattern between slashes
 abbrev pub delimiter : Form → ℕ
 delimiter Literal = 39
 delimiter Pattern = 47
@@ -74,7 +74,7 @@ pub record IsRight (right : List ℕ) (written : Option ℕ) (form : Form) (text
   pub blanks : AreBlanks lead × AreBlanks trail
   pub is_written : IsWritten written part
 
--- the precedence is the one that is written, and else 1 of a literal and 0 of a pattern
+-- the precedence is the one that is written, or else 1 for a literal and 0 for a pattern
 abbrev pub precedence_or : Form → Option ℕ → ℕ
 precedence_or form (Some n) = n
 precedence_or Literal None = 1

@@ -11,13 +11,13 @@ use thiserror::Error;
 pub enum LineFault {
     /// It isn't UTF-8.
     NotUtf8,
-    /// No name stands where the line begins.
+    /// The line doesn't begin with a name.
     NoName,
-    /// Behind the name, or `skip`, stands no `=`.
+    /// There is no `=` after the name, or after `skip`.
     NoEquals,
     /// The precedence has more than 20 digits or doesn't fit 64 bits.
     PrecedenceTooLarge,
-    /// Neither an apostrophe nor a slash stands where the text begins.
+    /// There is neither an apostrophe nor a slash where the text should begin.
     NoText,
     /// The line doesn't end with the delimiter that its text begins with.
     NotClosed,

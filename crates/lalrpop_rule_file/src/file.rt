@@ -12,7 +12,7 @@ use lalrpop_lexer::Position;
 use lalrpop_rules::Rule;
 use std::alloc::Global;
 
-// What is wrong with a line, and in which column, counted in characters from 1.
+// What is wrong with a line, and the column, counted in characters from 1.
 #[derive(Clone, Copy, Debug)]
 struct Fault {
     column: usize,
@@ -59,7 +59,7 @@ fn column_of(line: &str, rest: &str) -> usize
     Position::of(line, line.len() - rest.len()).column
 }
 
-// The column behind the characters at the front of some bytes, up to this place.
+// The column after the first `at` bytes; 1 if they aren't UTF-8.
 fn column_behind(bytes: &[u8], at: usize) -> usize
     requires at { at ≤ length bytes.now }
     ensures { IsUtf8 (take at bytes.now) → result ≡ (position_of bytes.now at).column }
@@ -99,24 +99,24 @@ fn said(line: &[u8]) -> Result<Option<Rule<'_>>, Fault>
 /// `NAME [skip] = [PRECEDENCE] /PATTERN/`. They borrow names and texts from its bytes.
 ///
 /// The file is UTF-8. A line ends at a line feed, which the last may lack; a carriage return at its end isn't part of it.
-/// Blank lines say nothing, and neither do comments, which begin with `#`. Spaces and tabs may stand around the parts of a rule.
-/// A name is an ASCII letter or `_`, and behind it letters, digits and `_`; several rules may have one name. A precedence is
-/// 1 to 20 decimal digits that fit 64 bits; where none is written it is 1 for a literal and 0 for a pattern. The text stands
-/// between its delimiter and the same one at the end of the line, so it may hold delimiters too.
+/// Blank lines say nothing, and neither do comments, which begin with `#`. Spaces and tabs may surround the parts of a rule.
+/// A name is an ASCII letter or `_`, followed by ASCII letters, digits and `_`; several rules may share one name. A precedence
+/// is 1 to 20 decimal digits whose value fits 64 bits; if there is none, it is 1 for a literal and 0 for a pattern. The text
+/// ends at the last delimiter of the line, so it may contain delimiters too.
 ///
-/// A pattern isn't parsed here: `RuleLexer::from_rules` does it.
+/// Patterns aren't parsed here: `RuleLexer::from_rules` does that.
 ///
 /// # Errors
 ///
-/// The first line that is neither a rule nor a comment nor blank, with the column where it stops being a rule, and why; and out of
-/// memory. The column is
+/// The first line that is neither a rule nor a comment nor blank, with the column where it stops being a rule, and why; or out
+/// of memory. The column is
 ///
-/// - of `NotUtf8`, behind the characters before the first bytes that aren't UTF-8;
-/// - of `NoName`, behind the blanks at the front;
-/// - of `NoEquals`, behind the name, `skip` if it is there, and blanks;
-/// - of `PrecedenceTooLarge`, that of its first digit;
-/// - of `NoText`, where the literal or the pattern has to begin;
-/// - of `NotClosed`, behind the end of a line without a second delimiter, or that of what isn't blank behind the last one.
+/// - for `NotUtf8`, where the first bytes that aren't UTF-8 begin;
+/// - for `NoName`, after the blanks at the front;
+/// - for `NoEquals`, after the name, `skip` if it is there, and blanks;
+/// - for `PrecedenceTooLarge`, at its first digit;
+/// - for `NoText`, where the literal or the pattern should begin;
+/// - for `NotClosed`, after the end of a line without a second delimiter, or else at the first nonblank after the last one.
 pub fn read_rules<'text>(
     alloc: Global,
     bytes: &'text [u8],

@@ -15,17 +15,17 @@ use crate::span::{Class, split_front};
 use lalrpop_lexer::lexer::dfa::Precedence;
 use lalrpop_rules::{Form, Rule};
 
-// Enough for each `usize`, with zeros in front where it is shorter.
+// Enough for every `usize`, padded with zeros if it is shorter.
 const MAX_DIGITS: usize = 20;
 
-/// Where a line stops being a rule: before `rest`, its last characters.
+/// Where a line stops being a rule: before `rest`, with which it ends.
 #[derive(Clone, Copy, Debug)]
 pub(crate) struct Stop<'text> {
     pub fault: LineFault,
     pub rest: &'text str,
 }
 
-// Whether the text begins like a name.
+// Whether the first character can begin a name.
 fn begins_name(text: &str) -> bool
     ensures { result ≡ begins text.now }
 {
@@ -35,7 +35,7 @@ fn begins_name(text: &str) -> bool
     }
 }
 
-// The name at the front of a line, and what follows it and blanks.
+// The name at the front of a line, and what follows it after blanks.
 fn name_and_rest(line: &str) -> Result<(&str, &str), Stop<'_>>
     ensures named { IfOk result (λ m. IsNamed line.now m.0.now m.1.now) }
     ensures none { IfErr result (λ _. (name rest : List ℕ) → ¬ IsNamed line.now name rest) }
@@ -53,7 +53,7 @@ fn name_and_rest(line: &str) -> Result<(&str, &str), Stop<'_>>
     Ok((name, rest))
 }
 
-// What follows a mark of ASCII at the front.
+// What follows an ASCII mark at the front.
 fn behind(text: &str, mark: char) -> Option<&str>
     requires { mark < 128 }
     ensures some { IfSome result (λ rest. text.now ≡ mark ∷ rest.now) }
@@ -63,7 +63,7 @@ fn behind(text: &str, mark: char) -> Option<&str>
     Some(rest)
 }
 
-// What follows an `=`.
+// What follows an `=` at the front.
 fn behind_equals(rest: &str) -> Result<&str, Stop<'_>>
     ensures equals { IfOk result (λ right. rest.now ≡ codes "=" ++ right.now) }
     ensures none { IfErr result (λ _. (right : List ℕ) → rest.now ≢ codes "=" ++ right) }
@@ -79,7 +79,7 @@ fn behind_equals(rest: &str) -> Result<&str, Stop<'_>>
     }
 }
 
-// The name, whether it is marked `skip`, and what stands right of the `=`.
+// The name, whether it is marked `skip`, and what is right of the `=`.
 fn left_part(line: &str) -> Result<(&str, bool, &str), Stop<'_>>
     ensures left { IfOk result (λ m. IsLeft line.now m.0.now m.1 m.2.now) }
     ensures none { IfErr result (λ _. (name : List ℕ) (skipped : Bool) (right : List ℕ)
@@ -100,7 +100,7 @@ fn left_part(line: &str) -> Result<(&str, bool, &str), Stop<'_>>
     }
 }
 
-// The number that decimal digits write, 20 at most, where it is a `usize`.
+// The value of at most 20 decimal digits, if it fits a `usize`.
 fn precedence_of(digits: &str) -> Option<usize>
     requires { EachByte is_ascii_digit digits.now × (0 < length digits.now) }
     ensures some { IfSome result (λ n. IsPrecedence digits.now n) }
@@ -112,7 +112,7 @@ fn precedence_of(digits: &str) -> Option<usize>
     digits.parse().ok()
 }
 
-// The precedence written at the front, if there is one, and what follows it and blanks.
+// The precedence at the front, if there is one, and what follows it after blanks.
 fn numbered(text: &str) -> Result<(Option<usize>, &str), Stop<'_>>
     requires { Stops is_blank text.now }
     ensures numbered { IfOk result (λ m. IsNumbered text.now m.0 m.1.now × Stops is_blank m.1.now) }
@@ -135,7 +135,7 @@ fn numbered(text: &str) -> Result<(Option<usize>, &str), Stop<'_>>
     Ok((Some(precedence), rest))
 }
 
-// The character before and behind the text of a rule of this form.
+// The character on both sides of the text of a rule of this form.
 fn delimiter_of(form: Form) -> char
     ensures { result ≡ delimiter form }
 {
@@ -145,7 +145,7 @@ fn delimiter_of(form: Form) -> char
     }
 }
 
-// The text before the last delimiter, behind which there are blanks alone.
+// The text before the last delimiter, which only blanks may follow.
 fn closed(inner: &str, form: Form) -> Result<&str, Stop<'_>>
     ensures closed { IfOk result (λ text. IsClosed inner.now (delimiter form) text.now) }
     ensures none { IfErr result (λ _. (text : List ℕ) → ¬ IsClosed inner.now (delimiter form) text) }
@@ -168,7 +168,7 @@ fn closed(inner: &str, form: Form) -> Result<&str, Stop<'_>>
     Ok(text)
 }
 
-// The form and the text of a literal or a pattern that stands alone.
+// The form and the text of a literal or a pattern without a precedence.
 fn quoted(rest: &str) -> Result<(Form, &str), Stop<'_>>
     ensures quoted { IfOk result (λ m. IsQuoted rest.now m.0 m.1.now) }
     ensures none { IfErr result (λ _. (form : FormValue) (text : List ℕ) → ¬ IsQuoted rest.now form text) }
@@ -201,7 +201,7 @@ fn right_part(right: &str) -> Result<(Option<usize>, Form, &str), Stop<'_>>
     Ok((written, form, text))
 }
 
-// The precedence of a rule of this form for which this one is written.
+// The precedence that is written, or else the default of the form.
 fn precedence_or(form: Form, written: Option<usize>) -> usize
     ensures { result ≡ precedence_or_else form written }
 {

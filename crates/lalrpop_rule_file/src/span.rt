@@ -26,7 +26,7 @@ fn belongs(class: Class, byte: u8) -> bool
     }
 }
 
-// How many bytes at the front of the text belong to the class.
+// The number of bytes at the front of the text that belong to the class.
 fn front_len(text: &str, class: Class) -> usize
     ensures { result ≡ prefix_len (members class) text.now }
 {

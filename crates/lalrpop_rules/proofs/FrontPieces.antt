@@ -1,4 +1,4 @@
--- The piece at the front of a rest, by the first match in it.
+-- The piece at the front of a rest, given the first match in it.
 use Rattle.std.proofs.Common.{◌≡◌, ◌≢◌, ℕ, ◌<◌, List, [], take, drop, subst}
 use Rattle.std.specs.Prelude.{Option, Some, None}
 use Rattle.std.specs.Str.{IsUtf8}

@@ -1,4 +1,4 @@
--- What the calls of `next` give of a text that is cut to its end in linear time, and what they cost.
+-- What the calls of `next` give for a text that is cut to its end in linear time, and what they cost.
 use Rattle.std.proofs.Common.{◌≡◌, ℕ, ◌+◌, ◌*◌, ◌≤◌, Bool, List, [], ◌∷◌, length, arith, ap}
 use Rattle.std.specs.Prelude.{Some}
 use Rattle.std.specs.Iterator.{Yields, Drains}

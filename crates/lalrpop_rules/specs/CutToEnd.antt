@@ -6,7 +6,7 @@ use Rattle.lalrpop_lexer.specs.Rules.{Rules}
 use Rattle.lalrpop_rules.specs.Pieces.{IsPiece, slice_of}
 use Rattle.lalrpop_rules.specs.declared.item.Item.{Item}
 
--- a text that is cut: by what, which patterns are skipped, and where its rest begins, in bytes
+-- a text that is cut: by which rules, which of them are skipped, and where its rest begins, in bytes
 pub record CutToEnd : Type 0 where
   pub rules : Rules
   pub skips : List Bool
@@ -21,11 +21,11 @@ uncut rules skips text = record { rules = rules; skips = skips; text = text; at 
 abbrev pub left_text : CutToEnd → List ℕ
 left_text s = drop s.at s.text
 
--- no more pieces than this are left: one for each character
+-- the most pieces that are left: one for each character of the rest
 abbrev pub pieces_left : CutToEnd → ℕ
 pieces_left s = length (chars (left_text s))
 
--- what one call gives: nothing where no rest is left; else the piece at the front of the rest, which then begins behind it
+-- what one call gives: nothing if no rest is left; otherwise the piece at the front of the rest, and the new rest begins after it
 abbrev pub GivesPiece : CutToEnd → Option Item → CutToEnd → Type 0
 GivesPiece old None new = (new ≡ old) × (left_text old ≡ [])
 GivesPiece old (Some item) new =

@@ -6,7 +6,7 @@ use Rattle.lalrpop_book.specs.Longest.{IsMatch}
 use Rattle.lalrpop_book.specs.Tokens.{IsToken}
 use Rattle.lalrpop_book.specs.declared.token.Token.{Token}
 
--- some tree matches a nonempty prefix of what stands in the text from this place on, in bytes
+-- some tree matches a nonempty prefix of the text from this place on; places are in bytes
 abbrev pub MatchesAt : List Tree → List ℕ → ℕ → Type 0
 MatchesAt ts text at = (p : List ℕ) × IsMatch ts (drop at text) p
 

@@ -4,15 +4,15 @@ use Rattle.std.specs.Prelude.{◌≡◌, ℕ, ◌+◌, ◌*◌, ◌≤◌, Optio
 use Rattle.lalrpop_rules.specs.CutToEnd.{CutToEnd, GivesPiece}
 use Rattle.lalrpop_rules.specs.declared.item.Item.{Item}
 
--- a text that is cut; how many of its characters stand behind the last match that was found; how many characters may still be read
--- besides those of the matches and 64 for each call; and how many were read so far, each counted as often as it was read
+-- a text that is cut; how many of its characters come after the last match that was found; how many characters may still be read
+-- besides those of the matches and 64 for each call; and how many have been read so far, each counted as often as it was read
 pub record LinearCutToEnd : Type 0 where
   pub cut : CutToEnd
   pub unsought : ℕ
   pub spare : ℕ
   pub steps : ℕ
 
--- what is left pays: 65 steps for each character behind the last match, and those to spare
+-- the steps so far, and what is left to pay for more: 65 for each character after the last match, and those to spare
 abbrev pub with_credit : LinearCutToEnd → ℕ
 with_credit s = s.steps + 65 * s.unsought + s.spare
 

@@ -22,12 +22,12 @@ start_of (Token token) = token.start
 start_of (Skipped token) = token.start
 start_of (Fault start slice) = start
 
--- the pattern at this place is skipped
+-- the pattern with this index is skipped
 abbrev pub IsSkipped : List Bool → ℕ → Type 0
 IsSkipped skips i = slice_get skips i ≡ Some true
 
--- a fault at the front of a text: characters, one or more, from none of which on a tree matches; behind them the text ends, or
--- some tree matches
+-- a fault at the front of a text: one or more characters at none of which a tree matches; after them the text ends, or some tree
+-- matches
 pub record IsFault (ts : List Tree) (text slice : List ℕ) : Type 0 where
   pub front : IsPrefix slice text
   pub some : slice ≢ []
@@ -45,12 +45,12 @@ abbrev pub ArePieces : List Tree → List ℕ → List Bool → List ℕ → ℕ
 ArePieces ts ps skips text at [] = drop at text ≡ []
 ArePieces ts ps skips text at (x ∷ xs) = IsPiece ts ps skips text at x × ArePieces ts ps skips text (at + length (slice_of x)) xs
 
--- the pieces, one after another
+-- the text of the pieces, one after another
 abbrev pub joined : List Item → List ℕ
 joined [] = []
 joined (x ∷ xs) = slice_of x ++ joined xs
 
--- no fault stands right behind a fault
+-- no fault comes right after another
 abbrev pub AreApart : List Item → Type 0
 AreApart [] = Unit {0}
 AreApart (Fault start slice ∷ Fault start2 slice2 ∷ xs) = ⊥

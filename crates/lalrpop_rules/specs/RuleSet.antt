@@ -20,7 +20,7 @@ pub record RuleSet : Type 0 where
   pub skips : List Bool
   pub automaton : List Row
 
--- how the text of each rule is meant, with the text
+-- the form of each rule, with its text
 abbrev pub forms_of : List Rule → List (Form × List ℕ)
 forms_of rs = map (λ r. (r.form, r.text.now)) rs
 

@@ -1,4 +1,4 @@
-//! Cutting a text to its end: tokens, what is skipped, and faults.
+//! Cutting a text to its end: tokens, skipped pieces and faults.
 
 ghost use Rattle.std.specs.Prelude.{◌≡◌, ◌≤◌, ◌++◌, List, None, Option, length};
 ghost use Rattle.std.specs.Iterator.{Drains, Yields};
@@ -11,11 +11,11 @@ ghost use Rattle.lalrpop_rules.specs.declared.item.Item.{Item as ItemValue};
 use crate::pieces::Items;
 use lalrpop_lexer::Lexer;
 
-/// The pieces of the text, from its beginning to its end, whatever it is: where a pattern matches, the token there, or the
-/// same as skipped, if `skipped` has `true` at the place of its pattern; and else a fault, the characters up to the next
-/// place where a pattern matches, or to the end of the text. So between two faults stands a token or a skipped piece.
+/// The pieces of any text, from its beginning to its end. Where a pattern matches, the piece is the token there, skipped if
+/// `skipped` has `true` at the index of its pattern. Elsewhere it is a fault: the characters up to the next place where a
+/// pattern matches, or to the end of the text. So no fault comes right after another.
 ///
-/// No memory is taken, and there are at most as many pieces as the text has characters. Each fault is found by `find`, at
+/// It takes no memory, and there are at most as many pieces as the text has characters. Each fault is found by `find`, at
 /// its cost.
 pub fn items<'text>(lexer: &'text Lexer, skipped: &'text [bool], text: &'text str) -> Items<'text>
     ensures start { result ≡ uncut lexer.now skipped.now text.now }

@@ -1,4 +1,4 @@
-//! Why some rules give no lexer.
+//! Why rules can't be made into a lexer.
 ghost use Rattle.std.specs.Prelude.{◌≡◌};
 ghost use Rattle.lalrpop_rules.specs.declared.error.RulesError.TheVariants.{OutOfMemory};
 
@@ -8,7 +8,7 @@ use lalrpop_lexer::lexer::re::SyntaxKind;
 use std::alloc::{AllocError, AllocFailed};
 use thiserror::Error;
 
-/// Why some rules give no lexer. Rules are counted from 0.
+/// Why rules can't be made into a lexer. Rules are numbered from 0.
 #[derive(Debug, Drop, Error)]
 pub enum RulesError {
     /// The text of this rule does not parse: `kind` says why, and `position` where, as an offset in bytes.
@@ -18,14 +18,14 @@ pub enum RulesError {
         position: usize,
         kind: SyntaxKind,
     },
-    /// This rule was not compiled.
+    /// This rule can't be compiled.
     #[error("rule {rule} can't be compiled: {error:?}")]
     NotCompiled {
         rule: usize,
         error: NfaConstructionError,
     },
-    /// Two rules are the strongest that match some word: `word` is the least such word, `rule` the greatest place of the
-    /// strongest ones on it, `other` the second greatest.
+    /// Some word has more than one strongest rule: `word` is the shortest, then least, such word, `rule` the greatest index of
+    /// its strongest rules, and `other` the second greatest.
     #[error("rules {other} and {rule} clash on {shown}", shown = ShownWord(.word))]
     Clash {
         rule: usize,

@@ -9,7 +9,7 @@ ghost use Rattle.lalrpop_rules.specs.Internal.FirstMatch.{IsFirstMatch, bytes_pa
 use crate::item::Item;
 use lalrpop_lexer::Token;
 
-// Whether the pattern at this place is skipped.
+// Whether the pattern with this index is skipped.
 fn is_skipped(skipped: &[bool], index: usize) -> bool
     ensures yes { result ≡ true → IsSkipped skipped.now index }
     ensures no { result ≡ false → ¬ IsSkipped skipped.now index }
@@ -20,8 +20,8 @@ fn is_skipped(skipped: &[bool], index: usize) -> bool
     }
 }
 
-/// The piece at the front of the rest, which begins at this byte of the text, by the first match in the rest. If the piece is
-/// a fault in front of the match, the match comes along, with its place behind the fault.
+/// The piece at the front of the rest, which begins at byte `at` of the text, given the first match in the rest. If the piece
+/// is a fault before that match, the match is returned too, with its start counted from the end of the fault.
 pub(crate) fn front_of<'text>(
     skipped: &[bool],
     rest: &'text str,

@@ -12,7 +12,7 @@ pub enum Item<'text> {
     Token(Token<'text>),
     /// A token of a pattern that is skipped.
     Skipped(Token<'text>),
-    /// Characters, one or more, from none of which on a pattern matches. Behind them a pattern matches, or the text ends.
+    /// One or more characters at none of which a pattern matches. After them a pattern matches, or the text ends.
     Fault {
         /// Where they begin in the text, in bytes.
         start: usize,

@@ -5,11 +5,11 @@ ghost use Rattle.lalrpop_rules.specs.Found.{IsFound, NothingFound};
 
 use lalrpop_lexer::{Lexer, Token};
 
-/// The token at the first place of the text where some pattern matches: the longest nonempty match from there on, with
-/// the one pattern of the greatest precedence that matches it. `None` where no pattern matches anywhere.
+/// The token at the first place of the text where some pattern matches: the longest nonempty match there, with the one
+/// pattern of the greatest precedence that matches it. `None` if no pattern matches anywhere.
 ///
-/// No memory is taken. From each place before the match the text is read as far as some pattern could still match, so the
-/// cost is at most the square of the length.
+/// It takes no memory. From each place before the match it reads as far as some pattern could still match, so the cost is at
+/// most quadratic in the length of the text.
 pub fn find<'text>(lexer: &Lexer, text: &'text str) -> Option<Token<'text>>
     ensures found { IfSome result (λ token.
         IsFound lexer.now.trees lexer.now.precedences text.now token) }

@@ -1,5 +1,4 @@
-//! Rules as people write them, over a lexer: names, what is skipped, and going on behind a fault, so that each text is cut to its
-//! end.
+//! Named rules over a lexer. Their tokens may be skipped, and cutting goes on after a fault, so every text is cut to its end.
 #![tactic(auto)]
 
 mod cut;

@@ -12,8 +12,8 @@ use std::alloc::{AllocError, Global};
 use std::iter::FusedIterator;
 use std::marker::Model;
 
-/// Cuts a text into the pieces of `Items`. It finds each match once: the one in front of which a fault ends is kept for the next call. It
-/// counts a step for each character that is read, as often as it is read; steps are for contracts alone.
+/// Cuts a text into the pieces of `Items`. It finds each match once: the match right after a fault is kept for the next call.
+/// It counts a step for each character it reads, as often as it reads it; only contracts see the steps.
 #[derive(Drop)]
 pub struct LinearItems<'text> {
     rules: &'text RuleLexer,
@@ -22,7 +22,7 @@ pub struct LinearItems<'text> {
     at: usize,
     // The match at the front of the rest, if it is known.
     kept: Option<Token<'text>>,
-    // Finds the matches behind that one.
+    // Finds the matches after that one.
     matches: LinearMatches<'text>,
     steps: Steps,
 }
@@ -64,7 +64,7 @@ impl<'text> LinearItems<'text> {
     ghost use Rattle.lalrpop_rules.specs.CutToEnd.{uncut, left_text, pieces_left};
     ghost use Rattle.lalrpop_rules.specs.LinearCutToEnd.{GivesLinearPiece};
 
-    // The text as it is before the first piece.
+    // The whole text, before the first piece.
     pub(crate) fn new(
         alloc: Global,
         rules: &'text RuleLexer,
@@ -88,14 +88,14 @@ impl<'text> LinearItems<'text> {
         })
     }
 
-    /// The rest of the text after the last piece. All of it, before the first call of `next`.
+    /// The rest of the text, after the last piece. Before the first call of `next` it is all of the text.
     pub fn rest(&self) -> &'text str
         ensures rest { result.now ≡ left_text self.now.cut }
     {
         &self.text[self.at..]
     }
 
-    // What `next` gives.
+    // What `next` returns.
     fn next_item(&mut self) -> Option<Item<'text>>
         ensures gives { GivesLinearPiece self.old result self.new }
         ensures goes { OnSome result (pieces_left self.new.cut < pieces_left self.old.cut) }

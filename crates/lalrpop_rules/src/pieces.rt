@@ -1,4 +1,4 @@
-//! Cutting a text to its end: tokens, what is skipped, and faults.
+//! Cutting a text to its end: tokens, skipped pieces and faults.
 
 ghost use Rattle.std.specs.Prelude.{◌≡◌, ◌<◌, length};
 ghost use Rattle.std.specs.Str.{IsCharBoundary};
@@ -12,9 +12,9 @@ use lalrpop_lexer::Lexer;
 use std::iter::FusedIterator;
 use std::marker::Model;
 
-/// Cuts a text into pieces, from its beginning to its end, whatever it is.
+/// Cuts any text into pieces, from its beginning to its end.
 ///
-/// It takes no memory: the pieces are joined of the text.
+/// It takes no memory: the pieces are slices of the text.
 #[derive(Debug, Drop)]
 pub struct Items<'text> {
     lexer: &'text Lexer,
@@ -39,7 +39,7 @@ impl<'text> Model for Items<'text> {
 }
 
 impl<'text> Items<'text> {
-    // The text as it is before the first piece.
+    // The whole text, before the first piece.
     pub(crate) fn new(lexer: &'text Lexer, skipped: &'text [bool], text: &'text str) -> Items<'text>
         ensures start { result ≡ uncut lexer.now skipped.now text.now }
     {
@@ -51,7 +51,7 @@ impl<'text> Items<'text> {
         }
     }
 
-    /// The rest of the text after the last piece. All of it, before the first call of `next`.
+    /// The rest of the text, after the last piece. Before the first call of `next` it is all of the text.
     pub fn rest(&self) -> &'text str
         ensures rest { result.now ≡ left_text self.now }
     {

@@ -1,4 +1,4 @@
-//! What rules say: their patterns, names, and which are skipped.
+//! What rules say: their patterns, their names, and which of them are skipped.
 ghost use Rattle.std.specs.Prelude.{◌≡◌, map, IfOk, string_bytes};
 ghost use Rattle.lalrpop_lexer.specs.Spelled.{texts_of};
 ghost use Rattle.lalrpop_rules.specs.RuleSet.{forms_of, names_of, precedences_of, skips_of};

@@ -10,11 +10,11 @@ use lalrpop_lexer::lexer::dfa::Precedence;
 pub struct Rule<'text> {
     /// What its tokens are called.
     pub name: &'text str,
-    /// How its text is meant.
+    /// How its text is to be read.
     pub form: Form,
     /// The text of its literal or pattern.
     pub text: &'text str,
-    /// Between two matches of one length, the rule with the greater precedence wins.
+    /// Of two rules that match the same longest text, the one with the greater precedence wins.
     pub precedence: Precedence,
     /// Whether its tokens are skipped.
     pub is_skipped: bool,
@@ -66,7 +66,7 @@ impl<'text> Rule<'text> {
         }
     }
 
-    /// The same rule, whose tokens are skipped.
+    /// The same rule, with its tokens skipped.
     pub fn skipped(self) -> Rule<'text>
         ensures rule { result ≡ record self.entry { is_skipped = true } }
     {

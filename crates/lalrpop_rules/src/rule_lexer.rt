@@ -27,7 +27,7 @@ use lalrpop_lexer::{Lexer, LexerError, Token};
 use std::alloc::{AllocError, Global};
 use std::marker::Model;
 
-/// Named rules, and the lexer of them.
+/// Named rules, and their lexer.
 #[derive(Debug, Drop)]
 pub struct RuleLexer {
     names: Vec<String>,
@@ -55,7 +55,7 @@ impl Model for RuleLexer {
     ghost invariant = { λ l. length l.names.items ≡ length l.lexer.trees };
 }
 
-// What is reported of the rules, by what is reported of their patterns.
+// The error of the rules for an error of their patterns.
 fn reported(error: LexerError) -> RulesError
     requires listed { NamesPattern error }
     ensures same { error ≡ as_patterns result }
@@ -93,8 +93,8 @@ impl RuleLexer {
     ///
     /// # Errors
     ///
-    /// The first rule whose text does not parse; else the first that can't be compiled; else the two last strongest rules on
-    /// the shortest, then least, word that has no one strongest rule; and out of memory.
+    /// The first rule whose text does not parse; otherwise the first that can't be compiled; otherwise the shortest, then
+    /// least, word with two or more strongest rules, and the last two of those; or out of memory.
     pub fn from_rules(alloc: Global, rules: &[Rule]) -> Result<RuleLexer, RulesError>
         ensures names { IfOk result (λ lexer. lexer.names ≡ names_of rules.now) }
         ensures trees { IfOk result (λ lexer. AreTrees rules.now lexer.trees) }
@@ -118,21 +118,21 @@ impl RuleLexer {
         }
     }
 
-    /// The lexer of the rules, to which they are trees with precedences.
+    /// The lexer of the rules, which knows them as trees with precedences.
     pub fn lexer(&self) -> &Lexer
         ensures rules { result.now ≡ recognized self.now }
     {
         &self.lexer
     }
 
-    /// Which rules are skipped.
+    /// For each rule, in order, whether it is skipped.
     pub fn skips(&self) -> &[bool]
         ensures skips { result.now ≡ self.now.skips }
     {
         &self.skips
     }
 
-    /// The name of the rule with this index, or `None` if there are fewer rules. The rule of a token has a name.
+    /// The name of the rule with this index, or `None` if there is no such rule. The rule of a token always has a name.
     pub fn name(&self, index: NfaIndex) -> Option<&str>
         ensures name { option_map (λ s. s.now) result ≡ slice_get self.now.names index }
         ensures token { (text : List ℕ) (at : ℕ) (token : TokenValue)
@@ -145,11 +145,10 @@ impl RuleLexer {
         }
     }
 
-    /// The token at the first place of the text where some rule matches, skipped or not: the longest nonempty match from
-    /// there on, with the one rule of the greatest precedence that matches it, which has a name. `None` where no rule
-    /// matches anywhere.
+    /// The token at the first place of the text where some rule matches, skipped or not: the longest nonempty match there,
+    /// with the one rule of the greatest precedence that matches it, which has a name. `None` if no rule matches anywhere.
     ///
-    /// No memory is taken. It costs what `find` does.
+    /// It takes no memory, and costs as much as the function `find`.
     pub fn find<'text>(&self, text: &'text str) -> Option<Token<'text>>
         ensures found { IfSome result (λ token.
             IsFound self.now.trees self.now.precedences text.now token) }
@@ -159,11 +158,11 @@ impl RuleLexer {
         leftmost::find(&self.lexer, text)
     }
 
-    /// The pieces of the text, from its beginning to its end, whatever it is: where a rule matches, the token there, which
-    /// is skipped if its rule is; and else a fault, the characters up to the next place where a rule matches, or to the end
-    /// of the text.
+    /// The pieces of any text, from its beginning to its end. Where a rule matches, the piece is the token there, skipped if
+    /// its rule is. Elsewhere it is a fault: the characters up to the next place where a rule matches, or to the end of the
+    /// text.
     ///
-    /// No memory is taken, and there are at most as many pieces as the text has characters.
+    /// It takes no memory, and there are at most as many pieces as the text has characters.
     pub fn items<'text>(&'text self, text: &'text str) -> Items<'text>
         ensures start { result ≡ uncut (recognized self.now) self.now.skips text.now }
         ensures items { (xs : List ItemValue) → Drains GivesPiece result xs
@@ -181,11 +180,12 @@ impl RuleLexer {
         cut::items(&self.lexer, &self.skips, text)
     }
 
-    /// The pieces of `items`, one for one, in time linear in the text whatever the rules are and however many faults it has: a whole
-    /// text costs at most 66 steps a character and one a byte, and for each open state of the automaton, one that neither accepts a
-    /// pattern nor rejects, a step a byte and 64 in all. A step is counted for each character that is read, as often as it is read.
+    /// The same pieces as `items`, in time linear in the length of the text, whatever the rules are and however many faults there
+    /// are. A state of the automaton is open if it neither accepts a pattern nor rejects. A whole text costs at most 66 steps a
+    /// character and one a byte, and for each open state one step a byte and 64 more. A step is counted each time a character is
+    /// read.
     ///
-    /// The memory is taken here: a byte for each open state and each 64 bytes of the text.
+    /// All memory is taken by this call: a byte for each open state and each 64 bytes of the text.
     ///
     /// # Errors
     ///

@@ -9,8 +9,8 @@ ghost use Rattle.lalrpop_rules.specs.Internal.FirstMatch.{IsFirstMatch, bytes_pa
 use lalrpop_lexer::lexer::nfa::Steps;
 use lalrpop_lexer::{LinearMatches, Token};
 
-// The token at the first place of the rest where some pattern matches, counted from where the rest begins; from then on the
-// rest begins behind the token. `None` where no pattern matches anywhere in it; then no rest is left.
+// The token at the first place of the rest where some pattern matches, with its start counted from where the rest began. The
+// new rest begins after the token. `None` if no pattern matches anywhere in the rest; then no rest is left.
 fn find_next<'text>(matches: &mut LinearMatches<'text>, steps: &mut Steps) -> Option<Token<'text>>
     ensures found { (ts : List Tree) (ps : List ℕ) → IsBuiltFrom ts ps matches.old.automaton
         → IsFirstMatch ts ps (rest_of matches.old) result }
@@ -33,9 +33,7 @@ fn find_next<'text>(matches: &mut LinearMatches<'text>, steps: &mut Steps) -> Op
     None
 }
 
-/// The match that is kept, which is kept no longer. If none is, the token at the first place of the rest where some pattern
-/// matches, counted from where the rest begins; from then on the rest begins behind the token. `None` where no pattern matches
-/// anywhere in it; then no rest is left.
+/// Takes the match that is kept. If there is none, it finds one, as `find_next` does.
 pub(crate) fn take_or_find<'text>(
     kept: &mut Option<Token<'text>>,
     matches: &mut LinearMatches<'text>,

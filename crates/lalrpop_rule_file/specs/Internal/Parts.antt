@@ -3,7 +3,7 @@ use Rattle.std.specs.Prelude.{◌≡◌, ℕ, Bool, false, List, [], ◌∷◌, 
 use Rattle.lalrpop_lexer.specs.declared.form.Form.{Form}
 use Rattle.lalrpop_rule_file.specs.RuleLine.{AreBlanks, begins_name, delimiter}
 
--- whether a text begins like a name
+-- whether the first character can begin a name
 abbrev pub begins : List ℕ → Bool
 begins [] = false
 begins (b ∷ bs) = begins_name b
@@ -12,6 +12,6 @@ begins (b ∷ bs) = begins_name b
 abbrev pub IsQuoted : List ℕ → Form → List ℕ → Type 0
 IsQuoted rest form text = (trail : List ℕ) × ((rest ≡ delimiter form ∷ (text ++ (delimiter form ∷ trail))) × AreBlanks trail)
 
--- text, the delimiter and blanks
+-- a text, the delimiter and blanks
 abbrev pub IsClosed : List ℕ → ℕ → List ℕ → Type 0
 IsClosed inner mark text = (trail : List ℕ) × ((inner ≡ text ++ (mark ∷ trail)) × AreBlanks trail)

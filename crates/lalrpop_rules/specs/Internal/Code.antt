@@ -1,4 +1,4 @@
--- What is cut to its end, as a tuple of lists and a number, by which proofs tell one from another.
+-- A text that is cut to its end, as a tuple of lists and a number, which proofs use to tell one from another.
 use Rattle.std.specs.Prelude.{ℕ, Bool, List, refl}
 use Rattle.std.specs.Coded.{Coded, code_by, coded×, coded_list, coded_ℕ, coded_bool}
 use Rattle.lalrpop_lexer.specs.Internal.Code.{rules_code}

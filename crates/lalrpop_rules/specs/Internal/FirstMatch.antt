@@ -13,7 +13,7 @@ abbrev pub IsFirstMatch : List Tree → List ℕ → List ℕ → Option Token �
 IsFirstMatch ts ps rest None = NothingFound ts rest
 IsFirstMatch ts ps rest (Some token) = IsFound ts ps rest token
 
--- how many bytes of the rest stand before the end of the first match, or before its own end
+-- the number of bytes of the rest up to the end of the first match, or all of them if there is no match
 abbrev pub bytes_passed : List ℕ → Option Token → ℕ
 bytes_passed rest None = length rest
 bytes_passed rest (Some token) = token.start + length token.slice.now
@@ -22,7 +22,7 @@ bytes_passed rest (Some token) = token.start + length token.slice.now
 abbrev pub credit_of : Matching → ℕ
 credit_of m = 65 * length (chars (rest_of m)) + m.spare
 
--- a text between two calls: its rest begins here; matches are sought where it begins, or behind the match at its front, which is kept then
+-- a text between two calls: its rest begins at `at`, and matches are sought from there, or, if the match at its front is kept, after it
 pub record IsWaiting (r : RuleSet) (text : List ℕ) (at : ℕ) (kept : Option Token) (m : Matching) : Type 0 where
   pub utf8 : IsUtf8 text
   pub boundary : IsCharBoundary text at

@@ -1,4 +1,4 @@
--- An error of rules as one of their patterns.
+-- An error of rules as an error of their patterns.
 use Rattle.lalrpop_lexer.specs.declared.error.LexerError.{LexerError}
 use Rattle.lalrpop_lexer.specs.declared.error.LexerError.TheVariants as patterns
 use Rattle.lalrpop_rules.specs.declared.error.RulesError.{RulesError}
@@ -10,7 +10,7 @@ as_patterns (NotCompiled i e) = patterns.NotCompiled i e
 as_patterns (Clash i j w) = patterns.Clash i j w
 as_patterns OutOfMemory = patterns.OutOfMemory
 
--- it is no error of a text that was read by itself
+-- it isn't an error of a pattern that isn't in a list
 abbrev pub NamesPattern : LexerError → Type 0
 NamesPattern (patterns.Syntax position kind) = ⊥
 NamesPattern _ = Unit {0}
