@@ -34,7 +34,7 @@ tops : (p : ℕ → Bool) (xs : List ℕ) → map (top 7) (map (bits_of p) xs) �
 tops p [] = refl
 tops p (x ∷ xs) = ap₂ (λ (b : Bool) (bs : List Bool). b ∷ bs) (top_bit (p x)) (tops p xs)
 
--- the byte is none of them
+-- the byte isn't one of them
 abbrev pub stops : Stay → ℕ → Bool
 stops s x = (((ltb x s.first || ltb s.last x) || eqb x s.gaps.0) || eqb x s.gaps.1) || eqb x s.gaps.2
 
@@ -93,7 +93,7 @@ run_is_in s bytes at run room found =
 abbrev at_most : ℕ → ℕ → ℕ
 at_most a b = cond (leb a b) 255 0
 
--- the bytes of a load of which none has its highest bit
+-- the bytes of a load, none of which has its highest bit set
 pub no_high : (bytes : List ℕ) (at : ℕ) → at + 8 ≤ length bytes → mask_l (map (top 7) (zip2 at_most (replicate 8 128) (chunk at 8 bytes))) % 2 ^ 64 ≡ 0
     → (k : ℕ) → at ≤ k → k < at + 8 → get_or bytes k 0 < 128
 no_high bytes at room none k from to =

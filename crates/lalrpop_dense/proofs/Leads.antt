@@ -1,4 +1,4 @@
--- Tokens that lead from one place to another, one more at the end.
+-- Tokens that lead from one place to another, with one more at the end.
 use Rattle.std.proofs.Common.{◌≡◌, ◌≢◌, ℕ, ◌+◌, ◌<◌, ◌≤◌, List, [], ◌∷◌, ◌++◌, length, take, drop, refl, sym, ap, subst, ◌∙◌, arith, length-append}
 use Rattle.std.specs.Prelude.{Some}
 use Rattle.std.specs.Str.{IsUtf8, IsCharBoundary}
@@ -10,7 +10,7 @@ use Rattle.lalrpop_book.specs.Longest.{IsLongest}
 use Rattle.lalrpop_book.specs.declared.token.Token.{Token}
 use Rattle.lalrpop_dense.specs.Leading.{LeadTo}
 
--- one token more at the end
+-- one more token at the end
 pub lead_push : (ts : List Tree) (ps text : List ℕ) (from to next : ℕ) (xs : List Token) (token : Token) → LeadTo ts ps text from to xs
     → token.start ≡ to → IsLongest ts ps (drop to text) (Some (token.index, token.slice.now)) → next ≡ to + length token.slice.now
     → LeadTo ts ps text from next (xs ++ token ∷ [])
@@ -19,7 +19,7 @@ lead_push ts ps text from to next [] token h start longest e =
 lead_push ts ps text from to next (x ∷ xs) token h start longest e =
     (h.0, h.1, lead_push ts ps text (from + length x.slice.now) to next xs token h.2 start longest e)
 
--- a prefix of the rest ends where the text may be cut, behind the place where the rest begins
+-- a prefix of the rest ends where the text may be cut, after the place where the rest begins
 pub lead_behind : (p text : List ℕ) (at : ℕ) → IsUtf8 (drop at text) → at ≤ length text → IsPrefix p (drop at text) × (p ≢ []) → (at < at + length p) × IsCharBoundary text (at + length p)
 lead_behind p text at u within (b, some) =
     let size : length (drop at text) ≡ length p + length b.0 = ap length b.1.0 ∙ length-append p b.0 in

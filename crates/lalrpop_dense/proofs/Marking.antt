@@ -37,7 +37,7 @@ pub record IsMarked (f : Fused) (t : Layout) (d : List Row) (text : List ℕ) (f
   pub marked : AreMarks f t d text from begin marks
   pub is_open : IsOpen f t d text begin read row
 
--- the character stands in what is left from `begin` on
+-- the character is in what is left from `begin` on
 reads_from : (text : List ℕ) (begin n n2 at at2 c : ℕ) → ReadsChar text at at2 c → at ≡ begin + n → n2 ≡ n + length (encode_utf8 c) → ReadsChar (drop begin text) n n2 c
 reads_from text begin n n2 at at2 c r e l =
     let from : drop n (drop begin text) ≡ drop at text = drop-drop n begin text ∙ ap (λ (k : ℕ). drop k text) (sym e) in
@@ -72,7 +72,7 @@ marked_start f t cells d text from row h k u some b e =
       };
     }
 
--- the cell of a character stands in the fused table
+-- the cell of a character is in the fused table
 pub in_fused_row : (f : Fused) (t : Layout) (cells : List ℕ) (d : List Row) (text : List ℕ) (from at row class c : ℕ) (marks : List Mark) → IsTableOf t cells d → IsFusedOf f t cells
     → IsMarked f t d text from at row marks → class ≡ class_of t c → row + class < length f.cells.items
 in_fused_row f t cells d text from at row class c marks h k m e =
@@ -100,7 +100,7 @@ some_read t d left n row w later = elim (cases_lt 0 n) [
       )
 ]
 
--- the begin match goes on
+-- the match that began at `begin` goes on
 open_on : (f : Fused) (t : Layout) (cells : List ℕ) (d : List Row) (text : List ℕ) (begin n n2 row next class c at at2 : ℕ) → IsTableOf t cells d → IsWellFormed d
     → (o : IsOpen f t d text begin n row) → ReadsChar text at at2 c → at ≡ begin + n → n2 ≡ n + length (encode_utf8 c) → class ≡ class_of t c
     → IsRow f next (get_or cells (o.origin + class) 0) → IsOpen f t d text begin n2 next
@@ -186,7 +186,7 @@ marked_more f t cells d text from at at2 row next class c ms h k wf u m r same e
       )
     ]
 
--- of the marks that are kept, where one more was written
+-- the marks that are kept, after one more was written
 pub marked_kept : (f : Fused) (t : Layout) (d : List Row) (text : List ℕ) (from at2 next place row count one : ℕ) (all all2 : List Mark)
     → (next < f.emit → IsMarked f t d text from at2 next (take count all)) × (f.emit ≤ next → IsMarked f t d text from at2 next (take count all ++ record { place = place; row = row } ∷ []))
     → count < length all → all2 ≡ slice_set all count (record { place = place; row = row })
@@ -224,7 +224,7 @@ reads_ascii text at within low =
       scalar = omega (arith, low);
     }
 
--- its class stands in the first block
+-- its class is in the first block
 pub class_ascii : (t : Layout) (byte : ℕ) → HasClasses t → byte < 128 → (byte < length t.blocks.items) × (get_or t.blocks.items byte 0 ≡ class_of t byte)
 class_ascii t byte h low =
     let zero : min (byte / 128) (length t.pages.items - 1) ≡ 0 = omega (arith, low) in
@@ -251,7 +251,7 @@ marked_stay f t cells d text from at row ms s h k wf u has same m (suc n) within
     let end : place + 1 ≡ at + suc n = omega arith in
     subst (λ (x : ℕ). IsMarked f t d text from x row ms) end (more.0 (omega (arith, same, back.plain)))
 
--- the bytes up to which a row is said to stay
+-- the bytes up to which a row is listed as staying
 pub marked_stays : (f : Fused) (t : Layout) (cells : List ℕ) (d : List Row) (text : List ℕ) (from at to row : ℕ) (ms : List Mark) → IsTableOf t cells d → IsFusedOf f t cells → IsWellFormed d
     → IsUtf8 text → IsMarked f t d text from at row ms → at ≤ to → to ≤ length text → StaysOn f row text at to → IsMarked f t d text from to row ms
 marked_stays f t cells d text from at to row ms h k wf u m on within (inl same) = subst (λ (x : ℕ). IsMarked f t d text from x row ms) same m
@@ -260,7 +260,7 @@ marked_stays f t cells d text from at to row ms h k wf u m on within (inr (s, ha
     subst (λ (x : ℕ). IsMarked f t d text from x row ms) place
     (marked_stay f t cells d text from at row ms s h k wf u has same m (to - at) (omega (arith, place, within)) (λ j above below. are j above (omega (arith, place, below))))
 
--- the class of a byte, as slices tell it
+-- the class of a byte, read from slices
 class_byte : (t : Layout) (text bytes blocks : List ℕ) (at : ℕ) → HasClasses t → bytes ≡ text → blocks ≡ t.blocks.items → get_or bytes at 0 < 128
     → get_or blocks (get_or bytes at 0) 0 ≡ class_of t (get_or text at 0)
 class_byte t text bytes blocks at h same lent low =
@@ -268,7 +268,7 @@ class_byte t text bytes blocks at h same lent low =
     ap (λ (xs : List ℕ). get_or xs (get_or bytes at 0) 0) lent ∙ ap (λ (k : ℕ). get_or t.blocks.items k 0) byte
     ∙ (class_ascii t (get_or text at 0) h (omega (arith, byte, low))).1
 
--- the cell of a byte stands in the fused table
+-- the cell of a byte is in the fused table
 pub byte_in_row : (f : Fused) (t : Layout) (cells : List ℕ) (d : List Row) (text : List ℕ) (from at row : ℕ) (marks : List Mark) (bytes blocks numbers : List ℕ) → IsTableOf t cells d → IsFusedOf f t cells
     → bytes ≡ text → blocks ≡ t.blocks.items → numbers ≡ f.cells.items → IsMarked f t d text from at row marks → get_or bytes at 0 < 128
     → row + get_or blocks (get_or bytes at 0) 0 < length numbers

@@ -5,7 +5,7 @@ use Rattle.lalrpop_dense.specs.Internal.Table.{class_of, page_of}
 use Rattle.lalrpop_dense.specs.Internal.Runs.{IsPageAgain}
 use Rattle.lalrpop_dense.specs.declared.table.Layout.{Layout}
 
--- a character of a page that comes again is of the class of that of the page before
+-- a page with the block of the page before it: each character has the class of the one 128 before it
 again : (t : Layout) (value c : ℕ) → IsPageAgain t value → value ≤ c → c < value + 128 → class_of t c ≡ class_of t (c - 128)
 again t value c p from below =
     let page : c / 128 ≡ value / 128 = omega (arith, p.begins) in
@@ -16,7 +16,7 @@ again t value c p from below =
     ∙ ap (λ (k : ℕ). get_or t.blocks.items (page_of t k * 128 + c % 128) 0) (sym before)
     ∙ ap (λ (k : ℕ). get_or t.blocks.items (page_of t ((c - 128) / 128) * 128 + k) 0) place
 
--- where all characters from `start` on are of one class, and the page before is among them, those of the page are of it too
+-- if all characters from `start` on are of one class, and the page before is among them, those of the page are of it too
 pub same_on_next_page : (t : Layout) (class start value : ℕ) → IsPageAgain t value → start + 128 ≤ value
     → ((c : ℕ) → start ≤ c → c < value → class_of t c ≡ class) → (c : ℕ) → start ≤ c → c < value + 128 → class_of t c ≡ class
 same_on_next_page t class start value p room alike c from below =

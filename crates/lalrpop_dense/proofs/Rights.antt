@@ -1,4 +1,4 @@
--- The row of a state tells where characters lead.
+-- The row of a state leads each character where the state does.
 use Rattle.std.proofs.Common.{◌≡◌, ℕ, ◌+◌, ◌<◌, ◌≤◌, ⊎_elim, List, get_or, arith, sym, ap, ap₂, subst, ◌∙◌}
 use Rattle.std.specs.Prelude.{slice_get, Some, IsSomeAnd}
 use Rattle.std.proofs.lemmas.Bool.{cases_lt}

@@ -60,7 +60,7 @@ walked_start t d text state u some rows e =
       row = get_or_read t.rows.items 0 state (omega arith) e 0 ∙ ap (row_of t) (sym start);
     }
 
--- the cell of a character stands in the table
+-- the cell of a character is in the table
 pub in_row : (t : Layout) (cells : List ℕ) (d : List Row) (text : List ℕ) (at at2 state class c : ℕ) → IsTableOf t cells d
     → IsWalked t d text at state → ReadsChar text at at2 c → class ≡ class_of t c → state + class < length cells
 in_row t cells d text at at2 state class c h w r k =
@@ -171,12 +171,12 @@ walk_trails t cells d text at at2 state state2 c o h w w2 read live accept trail
     trail_pass (λ m. take m.1 text) d text (drop at text) (drop at2 text) at at2 c (after d (chars (take at2 text))) r.0 o w.cut read.split read.place refl r.1.0
     (kind_neither t cells state2 r.0.kind r.1.1 live accept) trail
 
--- a character more behind the match is paid for by its bytes
+-- one more character after the match is paid for by its bytes
 pub past_more : (text : List ℕ) (at at2 before after after2 : ℕ) (o : Option (ℕ × ℕ)) → after2 ≡ after + 1 → at < at2 → PaysPast text at before after o → PaysPast text at2 before after2 o
 past_more text at at2 before after after2 None one on h = omega arith
 past_more text at at2 before after after2 (Some m) one on h = (omega (arith, h.0), omega (arith, h.1))
 
--- where so many steps came before
+-- the same after `before` steps
 pub past_of : (text : List ℕ) (at before after count : ℕ) (o : Option (ℕ × ℕ)) → after ≡ before + count → PaysPast text at 0 count o → PaysPast text at before after o
 past_of text at before after count None more h = omega arith
 past_of text at before after count (Some m) more h = (h.0, omega (arith, h.1))

@@ -14,7 +14,7 @@ use lalrpop_book::Token;
 use lalrpop_table::NfaIndex;
 use std::alloc::AllocError;
 
-/// Adds the tokens that end at the marks. Answers where the last one ends.
+/// Adds the tokens that end at the marks. Returns where the last one ends.
 ///
 /// # Errors
 ///

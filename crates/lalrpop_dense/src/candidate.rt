@@ -1,4 +1,4 @@
-//! A table that is to be checked. Nothing is promised of how it is made: classes and blocks that are equal are found by
+//! A table that is yet to be checked. Nothing is promised about how it is made: equal classes and equal blocks are found by
 //! hashes.
 
 use crate::table::Layout;
@@ -7,7 +7,7 @@ use lalrpop_table::{Dfa, DfaStateIndex, Kind};
 use std::alloc::{AllocError, Global};
 use std::collections::BTreeMap;
 
-// Characters are below.
+// All characters are below this.
 const END: u32 = 0x11_0000;
 
 const PAGES: u32 = END / 128;
@@ -219,7 +219,7 @@ struct Blocks {
 }
 
 impl Blocks {
-    // The classes of the next page.
+    // Adds the classes of the next page.
     fn add(&mut self, block: &[u8; 128]) -> Result<(), AllocError> {
         let mut hash = 0u64;
         for class in block {
@@ -283,7 +283,7 @@ fn blocks_of(alloc: Global, classes: &Classes) -> Result<Blocks, AllocError> {
         numbers: BTreeMap::new(alloc),
     };
     let mut walk = Walk::at(classes, 0);
-    // The class of all of the last page, and its block.
+    // The class and the block of the last page, if all of it is of one class.
     let mut last = None;
     for page in 0..PAGES {
         let first = page * 128;
@@ -325,7 +325,7 @@ impl Size {
         Size { states, edges }
     }
 
-    // Whether a table of this many cells takes not much more memory than the automaton.
+    // Whether a table of this many cells doesn't take much more memory than the automaton.
     fn has_room(self, cells: usize) -> bool {
         let room = self
             .states
@@ -334,7 +334,7 @@ impl Size {
         cells <= NARROW || cells <= room
     }
 
-    // Whether visiting this many boundaries for each state takes not much longer than visiting the edges.
+    // Whether visiting this many boundaries for each state doesn't take much longer than visiting the edges.
     fn has_time(self, boundaries: usize) -> bool {
         let steps = self.states.wrapping_add(self.edges).wrapping_mul(16);
         let all = self.states.wrapping_mul(boundaries);
@@ -342,7 +342,8 @@ impl Size {
     }
 }
 
-/// A table that may be that of the automaton: the caller checks it. None if it would have too many cells, classes or boundaries.
+/// A table that may be right for the automaton: the caller checks it. None if it would have too many cells, classes or
+/// boundaries.
 ///
 /// # Errors
 ///

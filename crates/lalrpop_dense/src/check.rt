@@ -12,7 +12,7 @@ use lalrpop_ranges::Test;
 use lalrpop_table::{Dfa, DfaStateIndex, Kind};
 use std::alloc::{AllocError, Global};
 
-// Characters are below.
+// All characters are below this.
 const END: u32 = 1_114_112;
 
 // Characters from `start` on and below `end`, all of one class.
@@ -61,7 +61,7 @@ fn is_same_page(layout: &Layout, value: u32) -> bool
     value % 128 == 0 && page > 0 && layout.page(page) == layout.page(page - 1)
 }
 
-// The longest run that begins there. A page that has the block of the page before it is passed at once.
+// The longest run that begins at `start`. A page that has the block of the page before it is skipped as a whole.
 fn run_from(layout: &Layout, start: u32) -> Run
     requires classes { HasClasses layout.now }
     requires within { start < 1114112 }
@@ -112,8 +112,8 @@ fn is_row_of_kind(layout: &Layout, cells: &[u32], row: usize, kind: &Kind) -> bo
     }
 }
 
-// Where the value leads, by the edge that holds it or else by the other edge, and up to which value all later ones lead there
-// too. `place` moves on to the first edge that does not end before the value.
+// Where the value leads, by the edge that holds it or else by the other edge, and the first value after it that may lead
+// elsewhere. `place` moves on to the first edge that doesn't end before the value.
 fn segment_at(
     value: u32,
     edges: &[(Test, DfaStateIndex)],
@@ -137,7 +137,7 @@ fn segment_at(
     }
 }
 
-// Whether the row of the state says where each character leads.
+// Whether the row of the state leads each character where the state does.
 fn leads_right(
     layout: &Layout,
     cells: &[u32],

@@ -28,11 +28,11 @@ use lalrpop_table::{Dfa, NfaIndex};
 use std::alloc::{AllocError, Global};
 use std::marker::Model;
 
-/// An automaton that is run by a dense table. To contracts it is that automaton.
+/// An automaton that is run by a dense table. In contracts it is that automaton.
 #[derive(Debug, Drop)]
 pub struct DenseDfa {
     dfa: Dfa,
-    // None where it would be too large.
+    // None if it would be too large.
     table: Option<Table>,
 }
 
@@ -50,7 +50,7 @@ impl Model for DenseDfa {
 
 impl DenseDfa {
     /// The automaton with the table that runs it. There is no table if it would take much more memory than the automaton,
-    /// or has more than 255 classes of characters; then the automaton is run as it is.
+    /// or if there are more than 255 classes of characters. Then the automaton is run as it is.
     ///
     /// # Errors
     ///
@@ -70,7 +70,7 @@ impl DenseDfa {
     }
 
     /// The longest nonempty prefix of the text that some pattern matches, with the strongest pattern that matches it.
-    /// `None` where no pattern matches any. Whatever automaton it is, the slice is a nonempty prefix of the text.
+    /// `None` if no pattern matches any. Whatever the automaton is, the slice is a nonempty prefix of the text.
     #[inline(always)]
     pub fn longest<'text>(&self, text: &'text str) -> Option<(NfaIndex, &'text str)>
         ensures answer { (ts : List Tree) (ps : List ℕ) → Recognizes self.now ts ps
@@ -80,7 +80,7 @@ impl DenseDfa {
         self.longest_counted(text, &mut Steps::new())
     }
 
-    /// The same answer. A step is counted for each character read: a cell of the table is read for it.
+    /// The same answer. A step is counted for each character read, since each takes a cell of the table.
     #[inline(always)]
     pub fn longest_counted<'text>(
         &self,
@@ -101,8 +101,8 @@ impl DenseDfa {
         }
     }
 
-    /// The longest match at the start of the text, if it is settled by the characters that begin within so many bytes. `None`
-    /// if it isn't, or if there is no table. A step is counted for each character read: there are at most as many as those bytes.
+    /// The longest match at the start of the text, if the characters that begin within the first `limit` bytes settle it. `None`
+    /// if they don't, or if there is no table. A step is counted for each character read: at most `limit` in all.
     #[inline(always)]
     pub fn longest_within<'text>(
         &self,
@@ -125,11 +125,11 @@ impl DenseDfa {
         }
     }
 
-    /// Adds the tokens of the text from a place on, those of one block at most, and answers where the last one ends: each is the
-    /// longest match where it begins, with the strongest pattern that matches it. `None` where no pattern matches at the
-    /// place; then no token is added.
+    /// Adds the tokens of the text from a place on, at most those of one block, and returns where the last one ends. Each is the
+    /// longest match where it begins, with the strongest pattern that matches it. `None` if no pattern matches at the place;
+    /// then no token is added.
     ///
-    /// A block has some thousand bytes. The tokens are found with no branch at a token's end where there is a fused table.
+    /// A block has about 2000 bytes. With a fused table, the tokens are found without a branch at a token's end.
     ///
     /// # Errors
     ///
@@ -157,7 +157,7 @@ impl DenseDfa {
         }
     }
 
-    // Adds the tokens that the fused table finds in a block. None where it finds none.
+    // Adds the tokens that the fused table finds in a block. None if it finds none.
     fn cut_fused<'text>(
         &self,
         text: &'text str,
@@ -193,7 +193,7 @@ impl DenseDfa {
         Ok(Some(to))
     }
 
-    // Adds the longest match at the place, and answers where it ends.
+    // Adds the longest match at the place, and returns where it ends.
     fn cut_one<'text>(
         &self,
         text: &'text str,
@@ -250,7 +250,7 @@ fn longest_in<'text>(
     }
 }
 
-// The longest match at the start of the text, if it is settled by the characters that begin within so many bytes.
+// The longest match at the start of the text, if the characters that begin within the first `limit` bytes settle it.
 #[inline(always)]
 fn longest_in_within<'text>(
     table: &Table,
@@ -276,7 +276,7 @@ fn longest_in_within<'text>(
     }
 }
 
-// The fused table of the table, which is made and then checked. None where none was made.
+// Makes the fused table of the table, and checks it. None if none was made.
 fn fused_of(alloc: Global, layout: &Layout, cells: &[u32]) -> Result<Option<Fused>, AllocError>
     requires { HasClasses layout.now }
     ensures { IfOk result (λ made. IfSome made (λ fused.
@@ -291,7 +291,7 @@ fn fused_of(alloc: Global, layout: &Layout, cells: &[u32]) -> Result<Option<Fuse
     Ok(Some(fused))
 }
 
-// The table of the automaton, which is made and then checked. None where none was made.
+// Makes the table of the automaton, and checks it. None if none was made.
 fn table_of(alloc: Global, dfa: &Dfa) -> Result<Option<Table>, AllocError>
     ensures { IfOk result (λ made. IfSome made (λ table. IsTable table dfa.now)) }
 {

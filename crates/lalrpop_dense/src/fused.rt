@@ -1,4 +1,4 @@
-//! A table that leads on behind the end of a match, so that a whole text can be cut with no branch at a token's end.
+//! A table that leads on past the end of a match, so that a whole text can be cut without a branch at a token's end.
 
 ghost use Rattle.std.specs.Prelude.{◌≡◌, ℕ, ◌+◌, ◌<◌, ◌≤◌, length, slice_index, IsTrue};
 ghost use Rattle.lalrpop_dense.specs.Internal.Fused.{IsRow, EndsBefore, Leads, IsRightRow, LeadsBack, IsFusedOf, StaysOn};
@@ -17,25 +17,25 @@ pub(crate) struct FusedRow {
     pub(crate) origin: u32,
 }
 
-/// A table of which an accepting state that can't go on leads straight to where START leads by the same character. Then it
-/// leads to one of the rows behind `emit`, which are copies.
+/// A table in which an accepting state that can't go on leads straight to where START leads by the same character. There it
+/// leads to a copy of the row: the copies are the rows from `emit` on.
 #[derive(Debug, Drop)]
 pub(crate) struct Fused {
-    // Of each row a cell for each class of characters, and the pattern. The first row is of no state: a cell of 0 leads nowhere.
+    // For each row a cell for each class of characters, and the pattern. The first row has no state: a cell of 0 leads nowhere.
     pub(crate) cells: Vec<u16>,
     pub(crate) rows: Vec<FusedRow>,
     // The row of START.
     pub(crate) first: u16,
     // Where the first copy begins.
     pub(crate) emit: u16,
-    // The bytes on which rows stay, at the place of a row shifted by so many bits.
+    // The bytes on which rows stay: those of a row are at its start shifted right by `shift` bits.
     pub(crate) stays: Vec<Stay>,
     pub(crate) shift: u8,
 }
 
 impl Fused {
-    /// A place up to which the row leads back to itself, from the place on. The place itself unless the row was the
-    /// row before.
+    /// A place up to which the row leads back to itself from `at` on. It is `at` itself unless the row is the same as
+    /// `before`.
     #[inline(always)]
     pub(crate) fn stay_end(
         &self,
@@ -61,7 +61,7 @@ impl Fused {
     }
 }
 
-// Whether there is such a row. Rows stand in order, one behind another, without the first.
+// Whether the fused row at `start` is for the row at `origin`. The rows are listed in order, without the first.
 fn is_row(fused: &Fused, width: usize, start: u32, origin: u32) -> bool
     requires { width < 65536 }
     ensures { IsTrue result → IsRow fused.now start origin }

@@ -1,4 +1,4 @@
-//! A fused table that is to be checked. Nothing is promised of how it is made.
+//! A fused table that is yet to be checked. Nothing is promised about how it is made.
 
 use crate::fused::{Fused, FusedRow};
 use crate::stay::Stay;
@@ -16,14 +16,14 @@ fn low(number: usize) -> u32 {
     (number & 0xFFFF_FFFF) as u32
 }
 
-// The table that is fused. Its rows are numbered from 0, those of reject states first.
+// The table to fuse. Its rows are numbered from 0, those of reject states first.
 #[derive(Clone, Copy)]
 struct Plain<'table> {
     layout: &'table Layout,
     cells: &'table [u32],
     // How long a row is, with the pattern.
     stride: usize,
-    // How many rows are those of reject states.
+    // How many rows are of reject states.
     dead: usize,
     // The row of START.
     start: usize,
@@ -48,17 +48,17 @@ impl<'table> Plain<'table> {
     }
 }
 
-// The fused rows: for each the row that it stands for.
+// For each fused row, the row that it stands for.
 #[derive(Drop)]
 struct Origins {
     origins: Vec<usize>,
-    // By the number of a row, that of its copy, or 0.
+    // For each row, the number of its copy, or 0.
     copies: Vec<usize>,
-    // How many of them are no copies.
+    // How many fused rows aren't copies.
     plain: usize,
 }
 
-// A fused row for each row of a state other than reject states, then a copy of each to which START leads.
+// A fused row for each row of a state that doesn't reject, then a copy of each one that START leads to.
 fn origins_of(alloc: Global, table: &Plain, count: usize) -> Result<Origins, AllocError> {
     let mut origins = Vec::new(alloc);
     for row in table.dead..count {
@@ -84,7 +84,7 @@ fn origins_of(alloc: Global, table: &Plain, count: usize) -> Result<Origins, All
     })
 }
 
-// The number of the fused row to which the fused row of this row leads by the class, or 0 if it leads nowhere.
+// The number of the fused row that the fused row of this one leads to by the class, or 0 if it leads nowhere.
 fn leads_to(table: &Plain, origins: &Origins, row: usize, class: usize) -> usize {
     let target = table.target(row, class);
     if target >= table.dead {
@@ -117,27 +117,27 @@ fn push_row(
     Ok(())
 }
 
-// How many bits of the numbers of two rows may be left out, so that they still differ.
+// How many low bits of two rows' starts can be dropped so that they still differ.
 fn shift_of(stride: usize) -> u8 {
     (stride.checked_ilog2().unwrap_or(0) & 15) as u8
 }
 
-// The bytes on which rows stay are sought below.
+// Only bytes below this are tried as ones on which rows stay.
 const ASCII_END: u8 = 128;
 
-// How much is gained where a row stays on the byte. There are more blanks in a row than anything else.
+// How much is gained if a row stays on the byte. Blanks follow one another more often than any other byte.
 fn weight_of(byte: u8) -> u32 {
     if byte == b' ' { LEAST_WEIGHT } else { 1 }
 }
 
-// Bytes of less weight aren't worth a look.
+// A window of less weight isn't worth a look.
 const LEAST_WEIGHT: u32 = 8;
 
-// Bytes that follow one another, with three gaps at the most.
+// A range of bytes with at most three gaps.
 #[derive(Clone, Copy)]
 struct Window {
     first: u8,
-    // From the left; no gaps are `ASCII_END`.
+    // From left to right; `ASCII_END` for a gap that isn't there.
     gaps: (u8, u8, u8),
     // The weights of the parts between the gaps.
     weights: (u32, u32, u32, u32),
@@ -152,7 +152,7 @@ impl Window {
         }
     }
 
-    // With a gap more. Before a fourth one it begins behind the first.
+    // With one more gap. If that is a fourth one, the window now begins after the first.
     fn with_gap(self, byte: u8) -> Window {
         let first = if self.gaps.0 < ASCII_END {
             self.gaps.0.wrapping_add(1)
@@ -227,7 +227,7 @@ fn stay_of(fused: &Fused, layout: &Layout, row: u16) -> Option<Stay> {
     best
 }
 
-// For each row that is no copy the bytes on which it stays, at the place of its number shifted.
+// Adds the bytes on which each row that isn't a copy stays, at the row's start shifted.
 fn push_stays(fused: &mut Fused, layout: &Layout, plain: usize) -> Result<(), AllocError> {
     let shift = fused.shift % 16;
     let none = Stay {
@@ -253,7 +253,7 @@ fn push_stays(fused: &mut Fused, layout: &Layout, plain: usize) -> Result<(), Al
     Ok(())
 }
 
-/// A fused table of the table, if it is right. None where there would be too many cells.
+/// A fused table that may be right for the table: the caller checks it. None if it would have too many cells.
 ///
 /// # Errors
 ///

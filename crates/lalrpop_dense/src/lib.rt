@@ -1,7 +1,7 @@
 //! The automaton of a list of patterns as a dense table over classes of characters.
 //!
-//! A table is a second form of an automaton: a row of cells for each state, a cell for each class. What is promised of it is
-//! said of that automaton, so that whatever holds of the one holds of the other.
+//! A table is a second form of an automaton: a row of cells for each state, a cell for each class. Its contracts are about that
+//! automaton, so whatever holds of the automaton holds of the table.
 #![tactic(auto)]
 
 mod block;

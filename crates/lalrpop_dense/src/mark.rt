@@ -13,10 +13,10 @@ use lalrpop_table::Dfa;
 use std::alloc::{AllocError, Global};
 use std::simd::prelude::*;
 
-/// How many bytes are marked at once, up to the end of a character.
+/// How many bytes are marked at once, and on to the end of the last character.
 const BLOCK: usize = 2048;
 
-// So many bytes of ASCII are read with no look at each of them.
+// How many bytes of ASCII are read at once, without a test of each.
 const EIGHT: usize = 8;
 
 /// The end of a token.
@@ -24,7 +24,7 @@ const EIGHT: usize = 8;
 pub(crate) struct Mark {
     // Where it ends.
     pub(crate) place: usize,
-    // The fused row, behind which its pattern stands. As wide as the place, so that one write takes both.
+    // The fused row, which its pattern follows. As wide as the place, so that one write stores both.
     pub(crate) row: usize,
 }
 
@@ -48,7 +48,7 @@ impl Marks {
     }
 }
 
-/// An automaton, its table, and the fused table of that.
+/// An automaton, its table, and its fused table.
 #[derive(Clone, Copy)]
 pub(crate) struct Engine<'table, C: Cells> {
     pub(crate) dfa: &'table Dfa,
@@ -57,7 +57,7 @@ pub(crate) struct Engine<'table, C: Cells> {
     pub(crate) fused: &'table Fused,
 }
 
-// How many marks are kept where this row is reached: one where it is a copy.
+// How many marks are kept when this row is reached: one if it is a copy, else none.
 #[inline(always)]
 fn kept(row: usize, emit: usize) -> usize
     ensures { ((row < emit) × (result ≡ 0)) ⊎ ((emit ≤ row) × (result ≡ 1)) }
@@ -74,7 +74,7 @@ fn cell(cells: &[u16], row: usize, class: u8) -> usize
     cells[class as usize..][row] as usize
 }
 
-// Whether bytes of ASCII stand at the place, of which so many are read at once.
+// Whether the next `EIGHT` bytes come before the end and are all ASCII.
 #[inline(always)]
 fn are_ascii(bytes: &[u8], at: usize, end: usize) -> bool
     requires ordered { at ≤ end }
@@ -95,10 +95,10 @@ fn no_high_bit(bytes: &[u8], at: usize) -> bool
     lanes.simd_ge(u8x8::splat(128)).to_bitmask() == 0
 }
 
-/// Marks the ends of the tokens from the place on, in one block at most. Answers how many there are.
+/// Marks the ends of the tokens from the place on, in one block at most. Returns how many there are.
 ///
-/// A mark is written at each character, and it is kept where a token has ended before that character, so that no branch
-/// depends on it. Where the row is the same as eight bytes before, the bytes on which it stays are passed.
+/// A mark is written at each character, and kept if a token ended before it, so that no branch depends on that. If the row is
+/// the same as eight bytes before, the bytes on which it stays are skipped.
 pub(crate) fn mark_block<C: Cells>(
     engine: &Engine<C>,
     text: &str,

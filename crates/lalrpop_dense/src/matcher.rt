@@ -20,7 +20,7 @@ pub trait Matcher: Drop {
     ghost rows: { Self → List Row };
 
     /// The longest nonempty prefix of the text that some pattern matches, with the strongest pattern that matches it.
-    /// `None` where no pattern matches any. Whatever automaton it is, the slice is a nonempty prefix of the text. A step is
+    /// `None` if no pattern matches any. Whatever the automaton is, the slice is a nonempty prefix of the text. A step is
     /// counted for each character read.
     fn longest_match<'text>(
         &self,

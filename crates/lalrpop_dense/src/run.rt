@@ -16,7 +16,7 @@ use crate::table::{Cells, Layout};
 use lalrpop_ranges::Steps;
 use lalrpop_table::{Dfa, NfaIndex};
 
-// The character that stands at the place.
+// The character at the place.
 #[inline(always)]
 fn char_at(text: &str, at: usize) -> char
     requires boundary { IsCharBoundary text.now at }
@@ -29,7 +29,7 @@ fn char_at(text: &str, at: usize) -> char
     }
 }
 
-// The class of the character that stands at the place, which goes on behind it.
+// The class of the character at the place, which moves past it.
 #[inline(always)]
 pub(crate) fn read_class(layout: &Layout, text: &str, at: &mut usize) -> u8
     requires classes { HasClasses layout.now }
@@ -53,13 +53,13 @@ pub(crate) fn read_class(layout: &Layout, text: &str, at: &mut usize) -> u8
 struct Stop {
     // The row of the state after the longest match so far, and where the match ends.
     longest: Option<(usize, usize)>,
-    // What was read ends here.
+    // How far the text was read.
     at: usize,
-    // Whether it is the longest match of the whole text.
+    // Whether the match is the longest one of the whole text.
     is_settled: bool,
 }
 
-// Walks along the text until no longer match can come, but reads no character that begins at the limit or behind it.
+// Walks along the text until no longer match can come, but reads no character that begins at the limit or after it.
 #[inline(always)]
 fn walk<C: Cells>(
     cells: &C,
@@ -144,12 +144,12 @@ pub(crate) fn longest_by<'text, C: Cells>(
 pub struct Settled<'text> {
     /// The match, if there is one.
     pub longest: Option<(NfaIndex, &'text str)>,
-    /// How many bytes behind it were read to see that no longer one comes.
+    /// How many bytes after it were read to see that there is no longer one.
     pub past: usize,
 }
 
-/// The longest match at the start of the text, by the table of the automaton. `None` if it isn't settled by the characters
-/// that begin within so many bytes. A step is counted for each cell read.
+/// The longest match at the start of the text, by the table of the automaton. `None` if the characters that begin within the
+/// first `limit` bytes don't settle it. A step is counted for each cell read.
 #[inline(always)]
 pub(crate) fn longest_within_by<'text, C: Cells>(
     cells: &C,

@@ -5,10 +5,10 @@ ghost use Rattle.lalrpop_dense.specs.Internal.Stays.{IsIn, AreIn, first_set};
 
 use std::simd::prelude::*;
 
-// How many bytes are looked at at once.
+// How many bytes are tested at once.
 const LANES: usize = 32;
 
-// The place of the lowest bit that is set, or so many places as there are.
+// The place of the lowest bit that is set, or `LANES` if none is.
 #[inline(always)]
 fn first_set(mask: u64) -> usize
     ensures { result ≡ first_set mask }
@@ -20,7 +20,7 @@ fn first_set(mask: u64) -> usize
     }
 }
 
-/// Bytes on which a row leads back to itself: those from the first to the last, without three.
+/// Bytes on which a row leads back to itself: those from the first to the last, except three.
 #[derive(Clone, Copy, Debug)]
 pub(crate) struct Stay {
     pub(crate) row: u16,
@@ -41,7 +41,7 @@ impl Stay {
             && byte != self.gaps.2
     }
 
-    // How many bytes from the place on are, of those that are looked at at once.
+    // How many bytes from the place on are among them, `LANES` at most.
     #[inline(always)]
     fn run(self, bytes: &[u8], at: usize) -> usize
         requires { at + LANES ≤ length bytes.now }
@@ -57,7 +57,7 @@ impl Stay {
         first_set(stops.to_bitmask())
     }
 
-    /// A place up to which all bytes are, from the place on.
+    /// A place up to which all bytes from `at` on are among them.
     #[inline(always)]
     pub(crate) fn end(self, bytes: &[u8], at: usize, end: usize) -> usize
         requires ordered { at ≤ end }

@@ -6,19 +6,19 @@ ghost use Rattle.lalrpop_dense.specs.Internal.Table.{numbers_of};
 use crate::fused::Fused;
 use std::alloc::{AllocError, Global};
 
-/// How the cells of a table lie: a row for each state, with a cell for each class of characters and a last one for the
-/// pattern that the state accepts. The rows of reject states stand first, those of accepting states last.
+/// The layout of a table's cells: a row for each state, with a cell for each class of characters and a last one for the
+/// pattern that the state accepts. The rows of reject states come first, those of accepting states last.
 #[derive(Debug, Drop)]
 pub(crate) struct Layout {
     // The classes of the characters, in blocks of 128.
     pub(crate) blocks: Vec<u8>,
-    // For each 128 characters the number of their block, up to the last one that differs from the one before.
+    // For each page of 128 characters the number of its block, up to the last page that differs from the one before.
     pub(crate) pages: Vec<u16>,
     // Where the row of each state begins.
     pub(crate) rows: Vec<u32>,
     // How long a row is, without the pattern.
     pub(crate) width: usize,
-    // Where the first row of a state other than reject states begins.
+    // Where the first row of a state that doesn't reject begins.
     pub(crate) live: usize,
     // Where the first row of an accepting state begins.
     pub(crate) accept: usize,
@@ -47,7 +47,7 @@ impl Layout {
     }
 }
 
-/// Cells, which tell where the rows of states begin, and patterns.
+/// Cells: each is where a state's row begins, or a pattern.
 pub(crate) trait Cells {
     ghost numbers: { Self → List ℕ };
 
@@ -75,7 +75,7 @@ impl Cells for Vec<u32> {
     }
 }
 
-/// Cells of 16 bits, or of 32 where those don't do.
+/// Cells of 16 bits, or of 32 if they don't fit.
 #[derive(Debug, Drop)]
 pub(crate) enum StoredCells {
     Narrow(Vec<u16>),
@@ -107,7 +107,7 @@ fn narrow(alloc: Global, cells: &[u32]) -> Result<Option<Vec<u16>>, AllocError>
     Ok(Some(narrow))
 }
 
-/// Stores cells in as few bits as they take.
+/// Stores the cells in 16 bits if they fit, else in 32.
 ///
 /// # Errors
 ///
@@ -121,11 +121,11 @@ pub(crate) fn stored(alloc: Global, cells: Vec<u32>) -> Result<StoredCells, Allo
     }
 }
 
-/// A table: its cells, how they lie, and the fused table of it.
+/// A table: its cells, their layout, and its fused table.
 #[derive(Debug, Drop)]
 pub(crate) struct Table {
     pub(crate) layout: Layout,
     pub(crate) cells: StoredCells,
-    // None where it would be too large.
+    // None if it would be too large.
     pub(crate) fused: Option<Fused>,
 }

@@ -1,4 +1,4 @@
--- What it means of a text that no match comes from a state.
+-- What it means for a text that no match comes from a state.
 use Rattle.std.proofs.Common.{◌≡◌, ℕ, ◌<◌, ◌≤◌, ⊎_elim, inl, inr, List, [], ◌∷◌, ◌++◌, length, take, sym, ap, subst, ◌∙◌, arith, append_assoc, length-append}
 use Rattle.std.specs.Prelude.{slice_get, Option}
 use Rattle.std.specs.Str.{chars, encode_utf8_all}
@@ -24,7 +24,7 @@ pub stays_join : (d : List Row) (p : ℕ) (u : List ℕ) (c : ℕ) → StaysOpen
 stays_join d p [] c s o = (o, tt)
 stays_join d p (b ∷ u) c s o = (s.0, stays_join d (step d p b) u c s.1 o)
 
--- no prefix of the word, but the empty one, goes on to a match from what was read
+-- what was read, followed by a nonempty prefix of the word, isn't a match
 pub hopeless_none : (d : List Row) (ts : List Tree) (ps : List ℕ) → Recognizes d ts ps → (u v z : List ℕ) (q c : ℕ) → q ≡ after d v → IsHopeless d q (c ∷ (u ++ z))
     → ¬ Matched ts (v ++ c ∷ u)
 hopeless_none d ts ps h u v z q c reached (inl r) =

@@ -1,4 +1,4 @@
--- What a run that remembers knows of the pairs that are noted: no match comes from them, or they led, along open states, to where it stands.
+-- What a run that remembers knows about the noted pairs: no match comes from them, or they led, along open states, to where it is.
 use Rattle.std.proofs.Common.{◌≡◌, ℕ, ◌+◌, ◌-◌, ◌*◌, ◌≤◌, ◌⊎◌, ⊎_elim, inl, inr, List, [], ◌∷◌, ◌++◌, length, drop, sym, ap, subst, ◌∙◌, arith, append_assoc, length-append, length-drop}
 use Rattle.std.proofs.lemmas.List.{drop-drop}
 use Rattle.lalrpop_table.specs.Dfa.{Row, step, run}
@@ -15,19 +15,19 @@ pub record IsPending (d : List Row) (p : ℕ) (from rest : List ℕ) (state : �
   pub stays : StaysOpen d p along
   pub leads : run d p along ≡ state
 
--- `all` is what was left of the text behind `at` characters, `rest` what is left of it now: of the pairs noted behind its first `bound` characters
+-- `all` is what was left of the text after `at` characters, `rest` is what is left now: this holds of the pairs noted after the first `bound` characters of `all`
 abbrev pub IsKept : List Row → Memory → ℕ → List ℕ → ℕ → List ℕ → ℕ → Type 0
 IsKept d m at all bound rest state =
     (p k i : ℕ) → IsNoted m p k → 64 * k ≡ at + i → bound ≤ i → IsHopeless d p (drop i all) ⊎ IsPending d p (drop i all) rest state
 
--- how long what is pending is
+-- how long `rest` may be where a pair is pending
 pending_length : (d : List Row) (p i state : ℕ) (all rest : List ℕ) → IsPending d p (drop i all) rest state → length rest ≤ length all - i
 pending_length d p i state all rest h = omega (arith, ap length h.split, length-append h.along rest, length-drop i all)
 
 pub kept_start : (d : List Row) (m : Memory) (at bound : ℕ) (all rest : List ℕ) (state : ℕ) → IsSound d m at all → IsKept d m at all bound rest state
 kept_start d m at bound all rest state s = λ p k i n e l. inl (s p k i n e)
 
--- a match ends here, behind the first j characters
+-- a match ends here, after the first j characters
 pub kept_accept : (d : List Row) (m : Memory) (at bound j c state state2 : ℕ) (all rest : List ℕ) → length all ≡ j + length rest → bound ≤ j
     → IsKept d m at all bound (c ∷ rest) state → IsKept d m at all j rest state2
 kept_accept d m at bound j c state state2 all rest long up h = λ p k i n e l.
@@ -44,7 +44,7 @@ onward d p c state from rest o h = record {
   leads = run_append d p h.along (c ∷ []) ∙ ap (λ (q : ℕ). step d q c) h.leads;
 }
 
--- a character more leads to an open state, which may have been noted
+-- one more character leads to an open state, which may have been noted
 pub kept_open : (d : List Row) (m m2 : Memory) (at bound j index c state state2 : ℕ) (all rest : List ℕ) → drop j all ≡ rest → index ≡ at + j → state2 ≡ step d state c → IsOpen d state2
     → ((p k : ℕ) → IsNoted m2 p k → IsNoted m p k ⊎ ((p ≡ state2) × (64 * k ≡ index)))
     → IsKept d m at all bound (c ∷ rest) state → IsKept d m2 at all bound rest state2

@@ -3,6 +3,6 @@ pub mod Cases
 pub mod Hopes
 pub mod Kept
 pub mod Walks
--- the memory, and where a text stands
+-- the memory, and how far the matches have been found
 pub mod Marks
 pub mod Standings

@@ -80,7 +80,7 @@ pushed_ways : (firsts : List (Option ℕ)) (o : Option ℕ) (p a : ℕ) → Begi
 pushed_ways firsts o p a h =
     ⊎_elim (λ (x : slice_get firsts p ≡ Some (Some a)). inl x) (λ (x : (p ≡ length firsts) × (Some a ≡ o)). inr (x.0, sym x.1)) (pushed_cases firsts o p (Some a) h)
 
--- an open state, whose marks begin behind those before it
+-- an open state, whose marks begin after those of the states before it
 pub laid_open : (d : List Row) (n : ℕ) (firsts : List (Option ℕ)) (places end : ℕ) (r : Row) → slice_get d n ≡ Some r → is_open_kind r.kind ≡ true → AreLaid d n firsts places end
     → AreLaid d (n + 1) (firsts ++ Some end ∷ []) places (end + places)
 laid_open d n firsts places end r at kind h = record {

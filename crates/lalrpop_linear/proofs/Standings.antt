@@ -1,4 +1,4 @@
--- Where a text stands whose matches are found: at its start, and behind a match.
+-- How far the matches of a text have been found: at its start, and after a match.
 use Rattle.std.proofs.Common.{◌≡◌, ℕ, ◌+◌, ◌*◌, ◌^◌, ◌/◌, ◌<◌, ◌≤◌, ◌-◌, List, ◌++◌, length, take, drop, refl, sym, ap, subst, ◌∙◌, arith, length-append, length-drop}
 use Rattle.std.specs.Char.{encode_utf8, len_utf8}
 use Rattle.std.specs.Str.{chars, IsUtf8, IsCharBoundary}
@@ -34,7 +34,7 @@ all_spare text m states places most is =
     let swap : states * (64 * places) ≡ 64 * (states * places) = grind arith in
     omega arith
 
--- the same place, and more that is noted
+-- the same place, with more pairs noted
 pub standing_here : (d : List Row) (text : List ℕ) (at index index2 : ℕ) (m m2 : Memory) → m2 ≡ record m { marks = m2.marks } → index2 ≡ index → IsSound d m2 index2 (chars (drop at text)) → IsStanding d text at index m → IsStanding d text at index2 m2
 standing_here d text at index index2 m m2 same stays sound h = record {
   boundary = h.boundary;
@@ -55,14 +55,14 @@ boundary_behind text p at u b h =
 left_behind : (text p : List ℕ) (at : ℕ) → IsPrefix p (drop at text) → drop at text ≡ p ++ drop (at + length p) text
 left_behind text p at b = b.1.0 ∙ ap (λ (r : List ℕ). p ++ r) (sym (ap (drop (length p)) b.1.0 ∙ drop_at p b.0 (length p) refl) ∙ drop-drop (length p) at text)
 
--- fewer characters are left behind a match
+-- fewer characters are left after a match
 pub fewer_behind : (text p : List ℕ) (at : ℕ) → IsPrefix p (drop at text) → length (chars (drop (at + length p) text)) ≤ length (chars (drop at text))
 fewer_behind text p at b =
     let count : length (chars (drop at text)) ≡ length (chars p) + length (chars (drop (at + length p) text)) =
     ap (λ (t : List ℕ). length (chars t)) (left_behind text p at b) ∙ ap length (chars-append p (drop (at + length p) text) b.1.1) ∙ length-append (chars p) (chars (drop (at + length p) text)) in
     omega arith
 
--- behind a match of k characters
+-- after a match of k characters
 pub standing_behind : (d : List Row) (text p : List ℕ) (at index index2 : ℕ) (m m2 : Memory) → IsUtf8 (drop at text) → IsPrefix p (drop at text) → m2 ≡ record m { marks = m2.marks }
     → index2 ≡ index + length (chars p) → IsSound d m2 index2 (drop (length (chars p)) (chars (drop at text))) → IsStanding d text at index m → IsStanding d text (at + length p) index2 m2
 standing_behind d text p at index index2 m m2 u b same moved sound h =
@@ -81,19 +81,19 @@ standing_behind d text p at index index2 m m2 u b same moved sound h =
       sound = subst (IsSound d m2 index2) left sound;
     }
 
--- the same that is noted serves what is left behind k characters
+-- the same noted pairs serve what is left after k characters
 pub sound_behind : (d : List Row) (m : Memory) (index index2 k : ℕ) (w : List ℕ) → index2 ≡ index + k → IsSound d m index w → IsSound d m index2 (drop k w)
 sound_behind d m index index2 k w moved sound = λ p place i noted e.
     subst (IsHopeless d p) (sym (drop-drop i k w)) (sound p place (k + i) noted (omega arith))
 
--- the text between two places, and what is left behind the second one
+-- the text between two places, and what is left after the second one
 split_between : (text p : List ℕ) (counted at : ℕ) → counted ≤ at → p ≡ take (at - counted) (drop counted text) → drop counted text ≡ p ++ drop at text
 split_between text p counted at ahead is =
     let there : counted + (at - counted) ≡ at = omega arith in
     sym (take-append-drop (at - counted) (drop counted text)) ∙ ap (λ (r : List ℕ). take (at - counted) (drop counted text) ++ r) (drop-drop (at - counted) counted text ∙ ap (λ (n : ℕ). drop n text) there)
     ∙ ap (λ (x : List ℕ). x ++ drop at text) (sym is)
 
--- what the memory knows of the text serves behind more of it, once its characters are counted
+-- what the memory knows about the text serves further on, once the characters up to there are counted
 pub standing_counted : (d : List Row) (text p : List ℕ) (counted at index count : ℕ) (m : Memory) → IsUtf8 (drop at text) → at ≤ length text → counted ≤ at → p ≡ take (at - counted) (drop counted text)
     → IsUtf8 p → count ≡ length (chars p) → IsStanding d text counted index m → IsStanding d text at (index + count) m
 standing_counted d text p counted at index count m u within ahead is v moved h =
@@ -104,7 +104,7 @@ standing_counted d text p counted at index count m u within ahead is v moved h =
     (standing_behind d text p counted index (index + count) m m (subst IsUtf8 (sym split) (IsUtf8-append p (drop at text) v u)) (drop at text, (split, v)) refl more
     (sound_behind d m index (index + count) (length (chars p)) (chars (drop counted text)) more h.sound) h)
 
--- the characters that are still to be counted, in front of a place and behind it
+-- the characters that are still to be counted, before a place and after it
 pub count_between : (text p : List ℕ) (counted at : ℕ) → counted ≤ at → p ≡ take (at - counted) (drop counted text) → IsUtf8 p
     → length (chars (drop counted text)) ≡ length (chars p) + length (chars (drop at text))
 count_between text p counted at ahead is v =
@@ -123,7 +123,7 @@ reached_start d text m u small places fits none = record {
 pub reached_here : (d : List Row) (text : List ℕ) (at index : ℕ) (m : Memory) → IsStanding d text at index m → IsReached d text at at index m
 reached_here d text at index m h = record { boundary = h.boundary; behind = omega arith; standing = h }
 
--- behind a match that the table found
+-- after a match that the table found
 pub reached_on : (d : List Row) (text p : List ℕ) (at counted index : ℕ) (m : Memory) → IsUtf8 (drop at text) → IsPrefix p (drop at text) → IsReached d text at counted index m
     → IsReached d text (at + length p) counted index m
 reached_on d text p at counted index m u b h = record {
@@ -132,13 +132,13 @@ reached_on d text p at counted index m u b h = record {
   standing = h.standing;
 }
 
--- the text at a place is the character, and what is left behind it
+-- the text at a place is the character, and what is left after it
 pub split_past : (text rest rest2 : List ℕ) (at c : ℕ) → rest ≡ drop at text → rest ≡ encode_utf8 c ++ rest2 → drop at text ≡ encode_utf8 c ++ drop (at + len_utf8 c) text
 split_past text rest rest2 at c here e =
     let first : drop at text ≡ encode_utf8 c ++ rest2 = sym here ∙ e in
     first ∙ ap (λ (r : List ℕ). encode_utf8 c ++ r) (sym (drop_past_char text rest2 at c first))
 
--- behind a character
+-- after a character
 pub reached_past : (d : List Row) (text : List ℕ) (at counted index c : ℕ) (m : Memory) → IsUtf8 (drop at text) → drop at text ≡ encode_utf8 c ++ drop (at + len_utf8 c) text
     → IsReached d text at counted index m → IsReached d text (at + len_utf8 c) counted index m
 reached_past d text at counted index c m u split h = record {

@@ -1,5 +1,5 @@
 -- cases: proofs/Cases/Matching.antt
--- Finding the longest matches of a text, one behind another, and what that costs.
+-- Finding the longest matches of a text, one after another, and what that costs.
 use Rattle.std.specs.Prelude.{ℕ, Bool, true, false, List, Option, Some, None, length, drop, count_by}
 use Rattle.std.specs.Str.{chars}
 use Rattle.lalrpop_table.specs.Dfa.{Row}

@@ -1,8 +1,7 @@
-//! The longest matches of a text, one behind another, in linear time in all, whatever the patterns are.
+//! The longest matches of a text, one after another, in linear time overall, whatever the patterns are.
 //!
-//! A run that reads past a match, and on in states that accept nothing, may come to nothing; another run may come to the
-//! same state at the same place later. So the states and places of the runs are noted, and no run goes on from one that a run
-//! before it has gone on from.
+//! A run that reads on past a match through open states may find nothing, and a later run may reach the same state at the same
+//! place. So the states and places of the runs are noted, and no run goes on from one that an earlier run has gone on from.
 #![tactic(auto)]
 
 mod longest;

@@ -20,14 +20,14 @@ use lalrpop_table::{Dfa, Kind, NfaIndex, START};
 pub(crate) struct Found<'text> {
     /// The longest match, if there is one.
     pub(crate) longest: Option<(NfaIndex, &'text str)>,
-    /// How many characters of the longer text stand in front of what the match leaves.
+    /// How many characters of the longer text come before what the match leaves.
     pub(crate) end: usize,
-    /// How many characters behind the match were read.
+    /// How many characters after the match were read.
     pub(crate) past: usize,
 }
 
 /// The longest nonempty prefix of the text that some pattern matches, with the strongest pattern that matches it. The text
-/// is what is left of a longer one behind `start` characters, of which the memo knows. A step is counted for each character read.
+/// is what is left of a longer one, which the memo is for, after `start` characters. A step is counted for each character read.
 pub(crate) fn longest_remembering<'text>(
     dfa: &Dfa,
     memo: &mut Memo,

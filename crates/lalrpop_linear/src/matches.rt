@@ -1,4 +1,4 @@
-//! The longest matches of a text, one behind another.
+//! The longest matches of a text, one after another.
 
 ghost use Rattle.std.specs.Prelude.{◌≡◌, ◌+◌, length};
 ghost use Rattle.std.specs.Str.{chars};
@@ -11,13 +11,13 @@ use lalrpop_table::NfaIndex;
 use std::alloc::{AllocError, Global};
 use std::marker::Model;
 
-// How many bytes a call may read past its match, so that the credit of the table doesn't fall.
+// How many bytes a call may read past its match before the credit of the table falls.
 const ALLOWED: usize = 16;
 
 /// Finds the longest matches of a text, each in what the one before it leaves.
 ///
-/// A table finds them as long as it has read little in vain. Where it reads much, runs remember which states those before have
-/// gone on from, at every 64th character, and go on from none of them again.
+/// The table finds them as long as it has read little in vain. Once it has read much, runs remember the states that earlier ones
+/// have gone on from, at every 64th character, and go on from none of them again.
 #[derive(Debug, Drop)]
 pub struct LinearMatches<'text> {
     dense: &'text DenseDfa,
@@ -27,7 +27,7 @@ pub struct LinearMatches<'text> {
     // How many bytes the table may still read in vain.
     credit: usize,
     memo: Memo,
-    // The memo is for what is left behind this place, in bytes and in characters.
+    // The memo is for what is left after this place, in bytes and in characters.
     counted: usize,
     index: usize,
 }
@@ -73,7 +73,7 @@ impl<'text> LinearMatches<'text> {
     ghost use Rattle.lalrpop_table.specs.Dfa.{Recognizes};
     ghost use Rattle.lalrpop_linear.specs.Matching.{rest_of, characters_of, open_states};
 
-    /// All of the text is left. The memory is taken here: a byte for each open state of the automaton and each 64 bytes of the text.
+    /// All of the text is left. The memory is taken here: a byte for each open state of the automaton for every 64 bytes of text.
     ///
     /// # Errors
     ///
@@ -114,8 +114,9 @@ impl<'text> LinearMatches<'text> {
         &self.text[self.at..]
     }
 
-    /// The longest nonempty prefix of the rest that some pattern matches, with the strongest pattern that matches it; from then on the
-    /// rest begins behind it. `None` where no pattern matches any; then the rest stays. A step is counted for each character read.
+    /// The longest nonempty prefix of the rest that some pattern matches, with the strongest pattern that matches it. From then
+    /// on the rest begins after it. `None` if no pattern matches any; then the rest stays. A step is counted for each character
+    /// read.
     #[inline(always)]
     pub fn next_match(&mut self, steps: &mut Steps) -> Option<(NfaIndex, &'text str)>
         ensures answer { (ts : List Tree) (ps : List ℕ) → Recognizes self.old.automaton ts ps
@@ -145,7 +146,7 @@ impl<'text> LinearMatches<'text> {
         settled.longest
     }
 
-    // What `next_match` gives, by a run that remembers.
+    // What `next_match` returns, by a run that remembers.
     #[cold]
     #[inline(never)]
     fn next_remembered(&mut self, steps: &mut Steps) -> Option<(NfaIndex, &'text str)>
@@ -176,9 +177,9 @@ impl<'text> LinearMatches<'text> {
         found.longest
     }
 
-    /// Passes over the first character of the rest: from then on the rest begins behind it. `None` at the end of the text.
+    /// Skips the first character of the rest: from then on the rest begins after it. `None` at the end of the text.
     ///
-    /// So a caller goes on where `next_match` finds nothing.
+    /// For a caller that goes on where `next_match` finds nothing.
     pub fn pass_char(&mut self) -> Option<char>
         ensures first { IfSome result (λ c.
             rest_of self.old ≡ encode_utf8 c ++ rest_of self.new) }

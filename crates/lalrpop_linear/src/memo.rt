@@ -1,4 +1,4 @@
-//! What is known of the places of a text: from which states no match comes there.
+//! What is known about the places of a text: from which states no match comes there.
 
 ghost use Rattle.std.specs.Prelude.{◌≡◌, ◌≢◌, ℕ, ◌+◌, ◌*◌, ◌%◌, ◌<◌, ◌≤◌, ◌⊎◌, false, length, IsTrue, IfOk};
 ghost use Rattle.lalrpop_linear.specs.Internal.Memory.{IsNoted, HasMark, IsFor, room};
@@ -8,13 +8,13 @@ use lalrpop_table::{Dfa, DfaStateIndex, Kind};
 use std::alloc::{AllocError, Global};
 use std::marker::Model;
 
-/// The number of characters from one place at which states are noted to the next.
+/// States are noted at places this many characters apart.
 pub(crate) const STRIDE: usize = 64;
 
-/// The pairs of a state and a place that runs have passed. Only every 64th place of a text is one here.
+/// The pairs of a state and a place that runs have passed. Only every 64th character of a text is a place.
 #[derive(Debug, Drop)]
 pub(crate) struct Memo {
-    // Where the marks of each open state begin; nothing for other states.
+    // Where the marks of each open state begin; None for other states.
     firsts: Vec<Option<usize>>,
     // The marks of each open state, one for each place.
     places: usize,

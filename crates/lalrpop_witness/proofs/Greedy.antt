@@ -64,7 +64,7 @@ module _ (d : List Row) where
   pub goal_of : (n : ℕ) (v x : List ℕ) → LeavesOpen d n v x → IsGoal d n (after d v)
   goal_of n v x o = (o.accepted, (x, (o.values, o.stays, o.long)))
 
-  -- the word that leads to the nearest goal, and the values behind it, are the witness
+  -- the word that leads to the nearest goal, and the values after it, are the witness
   pub greedy_witness : (n m : ℕ) (v x : List ℕ) → IsNear d n m 0 → ((u : List ℕ) → IsWord u → IsGoal d n (after d u) → m ≤ length u)
       → IsGreedy d (IsNear d n) m 0 v → IsGreedy d (StaysFor d) n (after d v) x → IsWitness d n v x
   greedy_witness n m v x near none g h = record {

@@ -10,7 +10,7 @@ use Rattle.lalrpop_table.specs.Internal.Stored.{EndBefore}
 use Rattle.lalrpop_table.proofs.EdgeTargets.{before_at, has_value_at, leads_at, leads_between, step_of}
 use Rattle.lalrpop_witness.specs.Internal.Ranks.{IsLeastInto}
 
--- the tests before the place k end before the value `next`, the others begin there or behind it, and no value before it leads to W
+-- the tests before the place k end before the value `next`, the others begin there or after it, and no value before it leads to W
 pub record IsPassed (d : List Row) (W : ℕ → Type 0) (p : ℕ) (ts : List (Range × ℕ)) (k next : ℕ) : Type 0 where
   pub none : (c : ℕ) → c < next → ¬ W (step d p c)
   pub behind : EndBefore ts k next
@@ -20,7 +20,7 @@ pub passed_first : (d : List Row) (W : ℕ → Type 0) (p : ℕ) (ts : List (Ran
 passed_first d W p ts = record { none = λ c l. absurd (omega arith); behind = λ k t l e. absurd (omega arith); before = λ j t l e. omega arith }
 
 module _ (d : List Row) (W : ℕ → Type 0) (p : ℕ) (r : Row) (at : slice_get d p ≡ Some r) (a : AreAscendingTests r.tests) where
-  -- a value behind the passed tests and before the next one leads along the other edge
+  -- a value after the passed tests and before the next one leads along the other edge
   by_other : (k next c : ℕ) → IsPassed d W p r.tests k next → next ≤ c → ((t : Range × ℕ) → slice_get r.tests k ≡ Some t → c < t.0.start) → step d p c ≡ r.other
   by_other k next c h l less =
       step_of d p c r at ∙ leads_between r.tests a k r.other c (λ j t b e. let f : t.0.end < next = h.behind j t b e in omega arith) less
@@ -97,7 +97,7 @@ module _ (d : List Row) (W : ℕ → Type 0) (p : ℕ) (r : Row) (at : slice_get
         (λ (x : next ≤ c). not (subst W (by_other (length r.tests) next c h x (λ t e. nothing t e)) w))
         (cases_lt c next)
 
-    -- the value behind all tests, if it fits
+    -- the value after all tests, if it fits
     pub least_fitting : {E : Type 0} (found : Result ℕ E) (o : Option ℕ) → OkIff found (next < 4294967296) next → o ≡ result_ok found → W r.other → IsLeastInto d W p o
     least_fitting (Ok v) o (fits, same) e w = rw (e, same) (least_behind (omega arith) w)
     least_fitting (Err f) o not e w = rw e (none_fits (⊎_elim (λ (x : next < 4294967296). absurd (not x)) (λ (x : 4294967296 ≤ next). omega arith) (cases_lt next 4294967296)))

@@ -1,4 +1,4 @@
--- Reading off the least word that leads to a goal, and the least values behind it.
+-- Reading off the least word that leads to a goal, and the least values after it.
 use Rattle.std.proofs.Common.{◌≡◌, ℕ, suc, ◌↔◌, ◌+◌, ◌<◌, ◌≤◌, ⊎_elim, List, [], ◌∷◌, ◌++◌, length, get_or, refl, subst, arith}
 use Rattle.std.specs.Prelude.{Option, Some, None, IsSome}
 use Rattle.std.proofs.lemmas.Bool.{cases_lt}
@@ -14,7 +14,7 @@ use Rattle.lalrpop_witness.proofs.Greedy.{greedy_more, greedy_goal, greedy_witne
 use Rattle.lalrpop_witness.proofs.Ranked.{wanted_depth, near_on, near_by}
 
 -- ---- the values that leave it open
--- so many values leave it open
+-- some n values leave it open
 abbrev pub CanStay : List Row → ℕ → ℕ → Type 0
 CanStay d n p = (w : List ℕ) × (IsWord w × StaysOpen d p w × (length w ≡ n))
 

@@ -1,16 +1,16 @@
 -- cases: proofs/Cases/Witness.antt
--- The least match that some values behind it leave open, and the least such values.
+-- The least match that some values after it leave open, and the least such values.
 use Rattle.std.specs.Prelude.{◌≡◌, ℕ, List, length}
 use Rattle.lalrpop_book.specs.Word.{IsWord, Shortlex}
 use Rattle.lalrpop_table.specs.Dfa.{Row, after}
 use Rattle.lalrpop_table.specs.Lookahead.{IsAccepting, StaysOpen}
 
--- a match, and the values behind it
+-- a match, and the values after it
 pub record OpenMatch : Type 0 where
   pub word : List ℕ
   pub after : List ℕ
 
--- a tree matches v, and the n values x behind it leave it open whether a longer match comes; all values fit 32 bits
+-- a tree matches v, and the n values x after it leave it open whether a longer match comes; all values fit in 32 bits
 pub record LeavesOpen (d : List Row) (n : ℕ) (v x : List ℕ) : Type 0 where
   pub word : IsWord v
   pub values : IsWord x
@@ -23,7 +23,7 @@ pub record IsLeast (P : List ℕ → Type 0) (w : List ℕ) : Type 0 where
   pub holds : P w
   pub least : (u : List ℕ) → Shortlex u w → ¬ P u
 
--- v is the least word that some n values behind it leave open, and x the least such values
+-- v is the least word that some n values after it leave open, and x the least such values
 pub record IsWitness (d : List Row) (n : ℕ) (v x : List ℕ) : Type 0 where
   pub word : IsLeast (λ u. (y : List ℕ) × LeavesOpen d n u y) v
   pub after : IsLeast (LeavesOpen d n v) x

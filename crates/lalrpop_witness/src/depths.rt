@@ -29,7 +29,7 @@ fn first_depths(alloc: Global, dfa: &Dfa) -> Result<Vec<usize>, AllocError>
     Ok(depths)
 }
 
-// Of the states of this depth, those that lead to one as deep become deeper by one. Says whether there was one.
+// Each state of this depth that leads to one as deep becomes one deeper. Returns whether there was one.
 fn deepen(dfa: &Dfa, depths: &mut [usize], depth: usize) -> bool
     requires some { 0 < depth }
     requires fits { depth < usize.MAX }

@@ -46,8 +46,8 @@ fn first_distances(
     Ok(distances)
 }
 
-// One more step: the states whose distance isn't known and that lead to one whose distance is at most `distance` are one
-// further. Says whether there was one.
+// One more round: each state whose distance isn't known, and that leads to one at most `distance` away, is one further away.
+// Returns whether there was one.
 fn spread(dfa: &Dfa, distances: &mut [usize], distance: usize) -> bool
     requires fits { distance + 1 < usize.MAX }
     requires same_length { length distances.old ≡ length dfa.now }

@@ -29,7 +29,7 @@ pub(crate) fn least_value(
     ensures well_formed { IsWellFormed dfa.now }
 {
     let by_other = is_wanted(ranks, dfa.state(state).other_edge(), least, most);
-    // The least value behind the edges so far: those below it lead to no such state.
+    // The least value after the edges so far: the values below it lead to no such state.
     let mut next: u64 = 0;
     for (test, target) in dfa.test_edges(state) {
         if by_other && next < u64::from(test.start()) {

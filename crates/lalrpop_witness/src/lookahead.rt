@@ -1,4 +1,4 @@
-//! The least match that some values behind it leave open.
+//! The least match that some values after it leave open.
 
 ghost use Rattle.std.specs.Prelude.{◌≡◌, ℕ, ◌<◌, List, length, slice_index, IfOk, IfSome, IfNone};
 ghost use Rattle.lalrpop_table.specs.Dfa.{after, IsWellFormed};
@@ -12,12 +12,12 @@ use lalrpop_table::{Dfa, DfaStateIndex, START};
 use std::alloc::{AllocError, Global};
 use std::marker::Model;
 
-/// A match, and values behind it that leave it open whether a longer match comes.
+/// A match, and values after it that leave it open whether a longer match comes.
 #[derive(Debug, Drop)]
 pub struct Witness {
     /// The match, by the code values of its characters.
     pub word: Vec<u32>,
-    /// The values behind it.
+    /// The values after it.
     pub after: Vec<u32>,
 }
 
@@ -79,12 +79,12 @@ fn open_values(
     Ok(values)
 }
 
-/// The shortest, then least, word that a pattern matches and that some `count` values behind it leave open: they don't settle
-/// whether a longer match comes. With it come the least such values. `None` if there is no such word.
+/// The shortest, then least, word that a pattern matches and that some `count` values after it leave open: they don't settle
+/// whether a longer match comes. The least such values come with it. `None` if there is no such word.
 ///
 /// If `count` is what `lookahead` returns, it shows what makes the automaton look that far ahead.
 ///
-/// All edges are gone over at most once for each of the `count` values, and once for each state.
+/// It goes over all edges at most once for each of the `count` values, and once for each state.
 ///
 /// # Errors
 ///

@@ -1,4 +1,4 @@
--- A fused table beside a table: where a match has ended before a character, it leads on to where START leads, in rows of their own.
+-- The fused table of a table: where a match ends before a character, it leads on to a copy of the row that START leads to.
 use Rattle.std.specs.Prelude.{◌≡◌, ◌≢◌, ℕ, ◌+◌, ◌<◌, ◌≤◌, ◌⊎◌, List, length, slice_index, IfSome}
 use Rattle.std.specs.List.{Contains}
 use Rattle.lalrpop_table.specs.Dfa.{Row}
@@ -21,7 +21,7 @@ pub record EndsBefore (t : Layout) (cells : List ℕ) (row class : ℕ) : Type 0
   pub later : row ≢ row_of t 0
   pub dead : slice_index cells (row + class) < t.live
 
--- where a fused row leads by a class: nowhere, to where its state leads, or where a match has ended to where START leads
+-- where a fused row leads by a class: nowhere, to where its state leads, or, if a match ends there, to where START leads
 abbrev pub Leads : Fused → Layout → List ℕ → FusedRow → ℕ → Type 0
 Leads f t cells r class =
     (slice_index f.cells.items (r.start + class) ≡ 0)
@@ -30,30 +30,30 @@ Leads f t cells r class =
     ⊎ ((f.emit ≤ slice_index f.cells.items (r.start + class)) × EndsBefore t cells r.origin class
     × IsRow f (slice_index f.cells.items (r.start + class)) (slice_index cells (row_of t 0 + class))))
 
--- a fused row has a cell for each class, and behind them the pattern
+-- a fused row has a cell for each class, and the pattern after them
 pub record IsRightRow (f : Fused) (t : Layout) (cells : List ℕ) (r : FusedRow) : Type 0 where
   pub within : r.start + t.width < length f.cells.items
   pub pattern : slice_index f.cells.items (r.start + t.width) ≡ slice_index cells (r.origin + t.width)
   pub leads : (class : ℕ) → class < t.width → Leads f t cells r class
 
--- the row, which is no copy, leads back to itself on each of the bytes
+-- the row isn't a copy, and leads back to itself on each of the bytes
 pub record LeadsBack (f : Fused) (t : Layout) (s : Stay) : Type 0 where
   pub some : 0 < s.row
   pub plain : s.row < f.emit
   pub ascii : s.last < 128
   pub back : (byte : ℕ) → IsIn s byte → slice_index f.cells.items (s.row + class_of t byte) ≡ s.row
 
--- it begins in a row of START, all its rows are right, and rows stay on the bytes that are said to
+-- it begins in the row of START, all its rows are right, and each stays on the bytes listed for it
 pub record IsFusedOf (f : Fused) (t : Layout) (cells : List ℕ) : Type 0 where
   pub start : IsRow f f.first (row_of t 0)
   pub rows : (r : FusedRow) → Contains f.rows.items r → IsRightRow f t cells r
   pub stays : (s : Stay) → Contains f.stays.items s → LeadsBack f t s
 
--- the row is said to stay on the bytes from the one place to the other, if there are any
+-- the bytes from one place to the other, if there are any, are listed as ones on which the row stays
 abbrev pub StaysOn : Fused → ℕ → List ℕ → ℕ → ℕ → Type 0
 StaysOn f row bytes at to = (at ≡ to) ⊎ ((s : Stay) × Contains f.stays.items s × (s.row ≡ row) × AreIn s bytes at to)
 
--- the table is that of the automaton, and a fused table beside it is that of the table
+-- the table is right for the automaton, and its fused table, if it has one, is right for the table
 pub record IsTable (t : Table) (d : List Row) : Type 0 where
   pub plain : IsTableOf t.layout (numbers_of t.cells) d
   pub fused : IfSome t.fused (λ f. IsFusedOf f t.layout (numbers_of t.cells))

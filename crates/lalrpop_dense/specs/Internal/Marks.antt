@@ -8,7 +8,7 @@ use Rattle.lalrpop_dense.specs.declared.table.Layout.{Layout}
 use Rattle.lalrpop_dense.specs.declared.fused.Fused.{Fused}
 use Rattle.lalrpop_dense.specs.declared.mark.Mark.{Mark}
 
--- from `begin` up to the mark's place goes the longest match of what is left, by the pattern behind the mark's row
+-- the longest match of what is left from `begin` on ends at the mark's place, by the pattern after the mark's row
 pub record IsMark (f : Fused) (t : Layout) (d : List Row) (text : List ℕ) (begin : ℕ) (m : Mark) : Type 0 where
   pub some : begin < m.place
   pub boundary : IsCharBoundary text m.place

@@ -22,7 +22,7 @@ pub record IsPlace (t : Layout) (cells text : List ℕ) (m : ℕ × ℕ) : Type 
   pub prefix : IsPrefix (take m.1 text) text
   pub some : take m.1 text ≢ []
 
--- the text was read up to `at`: the characters of the match pay for steps, and the bytes behind it
+-- the text was read up to `at`: the characters of the match and the bytes after it pay for the steps
 abbrev pub PaysPast : List ℕ → ℕ → ℕ → ℕ → Option (ℕ × ℕ) → Type 0
 PaysPast text at before after None = after ≤ before + at
 PaysPast text at before after (Some m) = (m.1 ≤ at) × (after + m.1 ≤ before + length (chars (take m.1 text)) + at)

@@ -9,7 +9,7 @@ use Rattle.lalrpop_dense.specs.declared.check.Run.{Run}
 abbrev pub IsRun : Layout → Run → Type 0
 IsRun t r = (c : ℕ) → r.start ≤ c → c < r.end → class_of t c ≡ r.class
 
--- the cells of characters below the value tell where they lead from the state p
+-- the row of the state p leads each character below the value where the state does
 abbrev pub LeadsRightBelow : Layout → List ℕ → List Row → ℕ → ℕ → Type 0
 LeadsRightBelow t cells d p value = (c : ℕ) → c < value → slice_index cells (row_of t p + class_of t c) ≡ row_of t (step d p c)
 

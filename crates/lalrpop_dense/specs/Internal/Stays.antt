@@ -3,7 +3,7 @@ use Rattle.std.specs.Prelude.{◌≡◌, ◌≢◌, ℕ, ◌<◌, ◌≤◌, ◌
 use Rattle.std.specs.Int.{w64, trailing_zeros}
 use Rattle.lalrpop_dense.specs.declared.stay.Stay.{Stay}
 
--- the byte stands between the first and the last, and in no gap
+-- the byte is from the first to the last, and in no gap
 pub record IsIn (s : Stay) (byte : ℕ) : Type 0 where
   pub first : s.first ≤ byte
   pub last : byte ≤ s.last
@@ -11,7 +11,7 @@ pub record IsIn (s : Stay) (byte : ℕ) : Type 0 where
   pub gap2 : byte ≢ s.gaps.1
   pub gap3 : byte ≢ s.gaps.2
 
--- so do the bytes from the one place to the other
+-- so are the bytes from one place to the other
 abbrev pub AreIn : Stay → List ℕ → ℕ → ℕ → Type 0
 AreIn s bytes at to = (k : ℕ) → at ≤ k → k < to → IsIn s (slice_index bytes k)
 

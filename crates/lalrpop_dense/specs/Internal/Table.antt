@@ -1,4 +1,4 @@
--- A table of where characters lead, and the automaton that it is the table of.
+-- A table of where characters lead, and when it is right for an automaton.
 use Rattle.std.specs.Prelude.{◌≡◌, ℕ, ◌+◌, ◌-◌, ◌*◌, ◌/◌, ◌%◌, ◌^◌, ◌<◌, ◌≤◌, List, length, min, slice_get, slice_index, Some}
 use Rattle.lalrpop_table.specs.Dfa.{Row, step}
 use Rattle.lalrpop_table.specs.declared.Kind.{Kind}
@@ -7,7 +7,7 @@ use Rattle.lalrpop_dense.specs.declared.table.Layout.{Layout}
 use Rattle.lalrpop_dense.specs.declared.table.StoredCells.{StoredCells}
 use Rattle.lalrpop_dense.specs.declared.table.StoredCells.TheVariants.{Narrow, Wide}
 
--- the block of the page with this number; pages behind the last one have its block
+-- the block of the page with this number; pages after the last one have its block
 abbrev pub page_of : Layout → ℕ → ℕ
 page_of t k = slice_index t.pages.items (min k (length t.pages.items - 1))
 
@@ -26,17 +26,17 @@ pub record HasClasses (t : Layout) : Type 0 where
   pub blocks : (k : ℕ) → k < length t.pages.items → slice_index t.pages.items k * 128 + 128 ≤ length t.blocks.items
   pub below : (k : ℕ) → k < length t.blocks.items → slice_index t.blocks.items k < t.width
 
--- the row stands among those of its kind, and behind the row of a state that accepts stands the pattern
+-- the row is among those of its kind, and the pattern follows the row of an accepting state
 abbrev pub IsRowOfKind : Layout → List ℕ → ℕ → Kind → Type 0
 IsRowOfKind t cells row Reject = row < t.live
 IsRowOfKind t cells row Neither = (t.live ≤ row) × (row < t.accept)
 IsRowOfKind t cells row (Accepts i) = (t.live ≤ row) × (t.accept ≤ row) × (slice_index cells (row + t.width) ≡ i)
 
--- the cell of each character's class tells the row of the state that the character leads to
+-- the cell of each character's class is the start of the row of the state that the character leads to
 abbrev pub LeadsRight : Layout → List ℕ → List Row → ℕ → Type 0
 LeadsRight t cells d p = (c : ℕ) → c < 1114112 → slice_index cells (row_of t p + class_of t c) ≡ row_of t (step d p c)
 
--- each state has a row of its kind, which tells where the characters lead
+-- each state has a row of its kind, which leads each character where the state does
 pub record IsTableOf (t : Layout) (cells : List ℕ) (d : List Row) : Type 0 where
   pub short : length cells < 2 ^ 64
   pub classes : HasClasses t

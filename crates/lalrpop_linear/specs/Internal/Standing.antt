@@ -1,11 +1,11 @@
--- Where a text stands whose matches are found.
+-- How far the matches of a text have been found.
 use Rattle.std.specs.Prelude.{ℕ, ◌+◌, ◌*◌, ◌^◌, ◌<◌, ◌≤◌, List, length, drop}
 use Rattle.std.specs.Str.{chars, IsCharBoundary}
 use Rattle.lalrpop_table.specs.Dfa.{Row}
 use Rattle.lalrpop_linear.specs.Internal.Memory.{Memory, IsFor, room}
 use Rattle.lalrpop_linear.specs.Internal.Hopeless.{IsSound}
 
--- the memory is for what is left of the text behind this byte, which stands behind so many characters
+-- the memory is for what is left of the text from the byte `at` on, after `index` characters
 pub record IsStanding (d : List Row) (text : List ℕ) (at index : ℕ) (m : Memory) : Type 0 where
   pub boundary : IsCharBoundary text at
   pub small : index + length (chars (drop at text)) < 2 ^ 64
@@ -13,7 +13,7 @@ pub record IsStanding (d : List Row) (text : List ℕ) (at index : ℕ) (m : Mem
   pub fits : IsFor d m
   pub sound : IsSound d m index (chars (drop at text))
 
--- the rest begins at `at`, and the memory is for what is left behind `counted`
+-- the rest begins at `at`, and the memory is for what is left after `counted`
 pub record IsReached (d : List Row) (text : List ℕ) (at counted index : ℕ) (m : Memory) : Type 0 where
   pub boundary : IsCharBoundary text at
   pub behind : counted ≤ at

@@ -30,7 +30,7 @@ IsNear d n m p = (w : List ℕ) × (IsWord w × IsGoal d n (run d p w) × (lengt
 abbrev pub IsDepth : List Row → ℕ → ℕ → ℕ → Type 0
 IsDepth d most p k = (j : ℕ) → j < most → (j < k) ↔ StaysFor d j p
 
--- of each state the depth, up to `most`
+-- the depth of each state, up to `most`
 pub record AreDepths (d : List Row) (most : ℕ) (depths : List ℕ) : Type 0 where
   pub same_length : length depths ≡ length d
   pub each : (p : ℕ) → p < length d → IsDepth d most p (slice_index depths p)
@@ -49,7 +49,7 @@ unknown = 18446744073709551615
 abbrev pub IsDistance : List Row → ℕ → ℕ → ℕ → ℕ → Type 0
 IsDistance d n most p k = (j : ℕ) → j ≤ most → (k ≤ j) ↔ IsNear d n j p
 
--- of each state the distance from a goal, up to `most`
+-- the distance of each state from a goal, up to `most`
 pub record AreDistances (d : List Row) (n most : ℕ) (distances : List ℕ) : Type 0 where
   pub same_length : length distances ≡ length d
   pub each : (p : ℕ) → p < length d → IsDistance d n most p (slice_index distances p)
@@ -63,7 +63,7 @@ pub record AreSpread (d : List Row) (n most : ℕ) (distances : List ℕ) : Type
 abbrev pub unknown_count : List ℕ → ℕ
 unknown_count distances = count_by (λ k. k == unknown) distances
 
--- from the state p the values lead, each the least that does, to a state with the property of what is left
+-- from the state p on, each value is the least that leads to a state with the property for the number of values left
 abbrev pub IsGreedy : List Row → (ℕ → ℕ → Type 0) → ℕ → ℕ → List ℕ → Type 0
 IsGreedy d Q zero p [] = Unit {0}
 IsGreedy d Q zero p (c ∷ w) = ⊥

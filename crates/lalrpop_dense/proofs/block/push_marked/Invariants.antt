@@ -7,7 +7,7 @@ use Rattle.lalrpop_dense.specs.Leading.{LeadTo}
 use Rattle.lalrpop_dense.specs.Internal.Marks.{AreMarks}
 use Rattle.lalrpop_dense.proofs.block.push_marked.Given as goal
 
--- tokens up to the place were added, and the marks behind it are left
+-- tokens up to the place were added, and the marks after it are left
 abbrev pub invariant-loop-mark : goal.invariant-loop-mark
 invariant-loop-mark g l = record {
   tokens : (xs : List Token) × (l.tokens.items ≡ l.initial.tokens.items ++ xs)

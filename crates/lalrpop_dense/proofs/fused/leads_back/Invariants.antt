@@ -3,6 +3,6 @@ use Rattle.lalrpop_dense.specs.Internal.Stays.{IsIn}
 use Rattle.lalrpop_dense.specs.Internal.Table.{class_of}
 use Rattle.lalrpop_dense.proofs.fused.leads_back.Given as goal
 
--- on each byte below that is one of them the row leads back
+-- the row leads back on each byte below that is one of them
 abbrev pub invariant-loop-byte : goal.invariant-loop-byte
 invariant-loop-byte l = (byte : ℕ) → byte < l.byte → IsIn l.stay byte → get_or l.fused.cells.items (l.stay.row + class_of l.layout byte) 0 ≡ l.stay.row
