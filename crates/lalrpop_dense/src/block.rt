@@ -40,7 +40,7 @@ pub(crate) fn push_marked<'text, C: Cells>(
     let mut start = from;
     for mark in marks {
         let pattern = cells[mark.row + width];
-        // A `?` would give the token back.
+        // A refused `push` hands its token back, which `?` would have to convert.
         let token = Token {
             index: NfaIndex::new(pattern as usize),
             slice: &text[start..mark.place],

@@ -32,7 +32,7 @@ use std::marker::Model;
 #[derive(Debug, Drop)]
 pub struct DenseDfa {
     dfa: Dfa,
-    // None if it would be too large.
+    // None if it would be too large, or take too long to make.
     table: Option<Table>,
 }
 
@@ -49,8 +49,9 @@ impl Model for DenseDfa {
 }
 
 impl DenseDfa {
-    /// The automaton with the table that runs it. There is no table if it would take much more memory than the automaton,
-    /// or if there are more than 255 classes of characters. Then the automaton is run as it is.
+    /// The automaton with the table that runs it. There is no table if it would take much more memory than the automaton, if
+    /// making it would take much longer than visiting the automaton's edges, or if there are more than 255 classes of
+    /// characters. Then the automaton is run as it is.
     ///
     /// # Errors
     ///
@@ -80,7 +81,7 @@ impl DenseDfa {
         self.longest_counted(text, &mut Steps::new())
     }
 
-    /// The same answer. A step is counted for each character read, since each takes a cell of the table.
+    /// The same answer. A step is counted for each character read: each takes a cell of the table, or an edge of the automaton.
     #[inline(always)]
     pub fn longest_counted<'text>(
         &self,
@@ -276,7 +277,7 @@ fn longest_in_within<'text>(
     }
 }
 
-// Makes the fused table of the table, and checks it. None if none was made.
+// Makes the fused table of the table. None if it would be too large, or fails the check.
 fn fused_of(alloc: Global, layout: &Layout, cells: &[u32]) -> Result<Option<Fused>, AllocError>
     requires { HasClasses layout.now }
     ensures { IfOk result (λ made. IfSome made (λ fused.
@@ -291,7 +292,7 @@ fn fused_of(alloc: Global, layout: &Layout, cells: &[u32]) -> Result<Option<Fuse
     Ok(Some(fused))
 }
 
-// Makes the table of the automaton, and checks it. None if none was made.
+// Makes the table of the automaton. None if it would be too large or take too long, or fails the check.
 fn table_of(alloc: Global, dfa: &Dfa) -> Result<Option<Table>, AllocError>
     ensures { IfOk result (λ made. IfSome made (λ table. IsTable table dfa.now)) }
 {

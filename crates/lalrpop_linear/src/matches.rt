@@ -11,7 +11,7 @@ use lalrpop_table::NfaIndex;
 use std::alloc::{AllocError, Global};
 use std::marker::Model;
 
-// How many bytes a call may read past its match before the credit of the table falls.
+// How many bytes, or for runs by the memo characters, a call may read past its match before the credit of the table falls.
 const ALLOWED: usize = 16;
 
 /// Finds the longest matches of a text, each in what the one before it leaves.

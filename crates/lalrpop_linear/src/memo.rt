@@ -16,8 +16,8 @@ pub(crate) const STRIDE: usize = 64;
 pub(crate) struct Memo {
     // Where the marks of each open state begin; None for other states.
     firsts: Vec<Option<usize>>,
-    // The marks of each open state, one for each place.
     places: usize,
+    // The marks of each open state, one for each place.
     marks: Vec<bool>,
 }
 

@@ -66,7 +66,7 @@ step_splits s j x g =
     split_at s.text s.at (slice_of x) (is_front s.rules.trees s.rules.precedences s.skips s.text s.at x g.0)
     ∙ ap (λ (w : CutToEnd). slice_of x ++ left_text w) (sym g.1)
 
--- the joined and the rest are what was left
+-- the slices and the rest are what was left
 pub parts_of : (s t : CutToEnd) (xs : List Item) → Yields GivesPiece s xs t → left_text s ≡ joined xs ++ left_text t
 parts_of s t [] y = ap (λ (w : CutToEnd). left_text w) y
 parts_of s t (x ∷ xs) (j, g, y) =
