@@ -1,2 +1,4 @@
 pub mod Markup
 pub mod Terminal
+-- what serves the proofs alone
+pub mod Internal

@@ -4,6 +4,7 @@ ghost use Rattle.std.specs.List.{position_or_len};
 ghost use Rattle.std.specs.Str.{bytes_eq};
 ghost use Rattle.lalrpop_rules.specs.Pieces.{ArePieces};
 ghost use Rattle.lalrpop_rules.specs.declared.item.Item.{Item as ItemValue};
+ghost use Rattle.lalrpop_markup.specs.Internal.Colours.{AreColours};
 ghost use Rattle.lalrpop_markup.specs.Terminal.{sequence, is_hidden as is_hidden_of, sign, letter, visible, visible_in, coloured, colour_of, painted, unpainted};
 
 use lalrpop_lexer::lexer::dfa::NfaIndex;
@@ -138,15 +139,45 @@ fn colour_at(number: usize) -> &'static str
     }
 }
 
-fn push_painted(page: &mut String, lexer: &RuleLexer, item: &Item) -> Result<(), AllocError>
-    ensures { OnOk result (string_bytes page.new
+// The colour of the rule with this number and name, which is noted for its next token.
+fn colour_of_rule(
+    colours: &mut [Option<&'static str>],
+    lexer: &RuleLexer,
+    index: NfaIndex,
+    name: &str,
+) -> &'static str
+    requires name { slice_get lexer.now.names index ≡ Some name.now }
+    requires noted { AreColours lexer.now.names colours.old }
+    ensures colour { result.now ≡ colour_of lexer.now.names name.now }
+    ensures noted { AreColours lexer.now.names colours.new }
+{
+    let number = index.index();
+    if let Some(Some(colour)) = colours.get(number) {
+        return colour;
+    }
+    let colour = colour_at(first_of_name(lexer, index, name));
+    if number < colours.len() {
+        colours[number] = Some(colour);
+    }
+    colour
+}
+
+fn push_painted(
+    page: &mut String,
+    lexer: &RuleLexer,
+    colours: &mut [Option<&'static str>],
+    item: &Item,
+) -> Result<(), AllocError>
+    requires noted { AreColours lexer.now.names colours.old }
+    ensures painted { OnOk result (string_bytes page.new
         ≡ string_bytes page.old ++ painted lexer.now.names item.now) }
+    ensures noted { AreColours lexer.now.names colours.new }
 {
     match item {
         Item::Token(token) => match lexer.name(token.index) {
             Some(name) => {
-                let number = first_of_name(lexer, token.index, name);
-                push_coloured(page, colour_at(number), token.slice)
+                let colour = colour_of_rule(colours, lexer, token.index, name);
+                push_coloured(page, colour, token.slice)
             }
             None => push_plain(page, token.slice),
         },
@@ -173,9 +204,10 @@ pub fn ansi(alloc: Global, lexer: &RuleLexer, text: &str) -> Result<String, Allo
     ensures text { IfOk result (λ page. unpainted (string_bytes page) ≡ text.now) }
 {
     let mut items = lexer.items_linear(alloc, text)?;
+    let mut colours = vec![in alloc; None; lexer.skips().len()]?;
     let mut page = String::new(alloc);
     'painting: while let Some(item) = items.next() {
-        push_painted(&mut page, lexer, &item)?;
+        push_painted(&mut page, lexer, &mut colours, &item)?;
     }
     Ok(page)
 }

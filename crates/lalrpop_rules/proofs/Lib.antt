@@ -6,6 +6,7 @@ pub mod CallerLaws
 -- the pieces of a text
 pub mod Fronts
 pub mod PieceLaws
+pub mod UniquePieces
 -- and in linear time
 pub mod FrontPieces
 pub mod Seeking

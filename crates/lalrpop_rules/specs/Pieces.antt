@@ -62,3 +62,16 @@ up_to_fault [] = []
 up_to_fault (Token token ∷ xs) = Ok token ∷ up_to_fault xs
 up_to_fault (Skipped token ∷ xs) = Ok token ∷ up_to_fault xs
 up_to_fault (Fault start slice ∷ xs) = Err (record { at = start }) ∷ []
+
+-- equal pieces: of one kind, by one pattern, at one place, with the same bytes
+abbrev pub IsSame : Item → Item → Type 0
+IsSame (Token a) (Token b) = (a.index ≡ b.index) × (a.start ≡ b.start) × (a.slice.now ≡ b.slice.now)
+IsSame (Skipped a) (Skipped b) = (a.index ≡ b.index) × (a.start ≡ b.start) × (a.slice.now ≡ b.slice.now)
+IsSame (Fault start slice) (Fault start2 slice2) = (start ≡ start2) × (slice.now ≡ slice2.now)
+IsSame _ _ = ⊥
+
+-- equal lists of pieces
+abbrev pub AreSame : List Item → List Item → Type 0
+AreSame [] [] = Unit {0}
+AreSame (x ∷ xs) (y ∷ ys) = IsSame x y × AreSame xs ys
+AreSame _ _ = ⊥

@@ -1,5 +1,5 @@
 //! What follows of tokens and pieces by the laws for callers, which the proofs here cite.
-ghost use Rattle.std.specs.Prelude.{◌≡◌, ◌≢◌, ◌++◌, ◌<◌, ℕ, List, [], true, Result, Ok, Some, IfSome, length, slice_get, slice_index};
+ghost use Rattle.std.specs.Prelude.{◌≡◌, ◌≢◌, ◌++◌, ◌<◌, ℕ, List, [], true, Result, Ok, Some, IfOk, IfSome, length, slice_get, slice_index};
 ghost use Rattle.std.specs.Iterator.{Drains};
 ghost use Rattle.std.specs.Str.{chars};
 ghost use Rattle.lalrpop_book.specs.Tokens.{IsToken};
@@ -8,12 +8,14 @@ ghost use Rattle.lalrpop_book.specs.declared.token.Token.{Token as TokenValue};
 ghost use Rattle.lalrpop_book.specs.declared.token.TokenFault.{TokenFault as FaultValue};
 ghost use Rattle.lalrpop_lexer.specs.LexerTokens.{GivesToken};
 ghost use Rattle.lalrpop_rules.specs.CutToEnd.{GivesPiece};
-ghost use Rattle.lalrpop_rules.specs.Pieces.{IsPiece, start_of};
+ghost use Rattle.lalrpop_rules.specs.LinearCutToEnd.{GivesLinearPiece};
+ghost use Rattle.lalrpop_rules.specs.Pieces.{AreSame, IsPiece, start_of};
 ghost use Rattle.lalrpop_rules.specs.declared.item.Item.{Item as ItemValue};
 
 use lalrpop_lexer::lexer::dfa::Precedence;
 use lalrpop_lexer::{Lexer, LexerTokens, Token};
-use lalrpop_rules::{Items, RuleLexer};
+use lalrpop_rules::{Items, LinearItems, RuleLexer};
+use std::alloc::{AllocError, Global};
 
 /// How strong the pattern of the token at the front of the text is. The pattern of a token is one of the list.
 pub fn strength_at_front(
@@ -58,6 +60,23 @@ pub fn pieces_at_their_places<'text>(lexer: &'text RuleLexer, text: &'text str) 
         (start_of x) x }
 {
     lexer.items(text)
+}
+
+/// The pieces of the text, by `items` and by `items_linear`. They are the same.
+///
+/// # Errors
+///
+/// `AllocError` if a request for memory was refused.
+pub fn pieces_either_way<'text>(
+    alloc: Global,
+    lexer: &'text RuleLexer,
+    text: &'text str,
+) -> Result<(Items<'text>, LinearItems<'text>), AllocError>
+    ensures same { IfOk result (λ both. (xs ys : List ItemValue) → Drains GivesPiece both.0 xs
+        → Drains GivesLinearPiece both.1 ys → AreSame xs ys) }
+{
+    let linear = lexer.items_linear(alloc, text)?;
+    Ok((lexer.items(text), linear))
 }
 
 /// The token at the front of the text. Its characters are the first ones of the text.
