@@ -13,7 +13,7 @@ use std::iter::FusedIterator;
 use std::marker::Model;
 
 /// Cuts a text into the pieces of `Items`. It finds each match once: the match right after a fault is kept for the next call.
-/// It counts a step for each character it reads, as often as it reads it; only contracts see the steps.
+/// It counts a step for each character the automaton reads, as often as it reads it; only contracts see the steps.
 #[derive(Drop)]
 pub struct LinearItems<'text> {
     rules: &'text RuleLexer,

@@ -182,8 +182,8 @@ impl RuleLexer {
 
     /// The same pieces as `items`, in time linear in the length of the text, whatever the rules are and however many faults there
     /// are. A state of the automaton is open if it neither accepts a pattern nor rejects. A whole text costs at most 66 steps a
-    /// character and one a byte, and for each open state one step a byte and 64 more. A step is counted each time a character is
-    /// read.
+    /// character and one a byte, and for each open state one step a byte and 64 more. A step is counted each time the
+    /// automaton reads a character.
     ///
     /// All memory is taken by this call: a byte for each open state and each 64 bytes of the text.
     ///
