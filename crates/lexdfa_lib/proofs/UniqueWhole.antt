@@ -1,4 +1,4 @@
--- The answer to some bytes and a text that is cut into tokens is unique.
+-- The answer for bytes and a text that is cut into tokens is unique.
 use Rattle.std.proofs.Common.{◌≡◌, ℕ, suc, ◌+◌, inl, inr, List, [], ◌∷◌, ◌++◌, length, map, drop, refl, sym, ap, subst, ◌∙◌, append-nil}
 use Rattle.std.specs.Prelude.{Option, Some, None, Ok, Err, flat_map}
 use Rattle.lalrpop_book.specs.Tree.{Tree}

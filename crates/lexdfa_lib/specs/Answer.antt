@@ -1,5 +1,5 @@
 -- cases: proofs/Cases/Answer.antt
--- The answer to some bytes and a text: one outcome, and its line.
+-- The answer for bytes and a text: one outcome, and its line.
 use Rattle.std.specs.Prelude.{◌≡◌, ℕ, ◌⊎◌, List, length, Option, Some, None}
 use Rattle.lalrpop_book.specs.Tree.{Tree}
 use Rattle.lalrpop_lexer.specs.Clash.{IsClash, NoClash}

@@ -1,9 +1,9 @@
 -- cases: proofs/Cases/Watch.antt
--- An end that remembers whether a call of it has failed.
+-- A reader or a writer that remembers whether one of its calls has failed.
 use Rattle.std.specs.Prelude.{ℕ, ◌+◌, ◌≤◌, Bool, true, false, ◌&&◌, ◌==◌, not, if◌then◌else◌, List, length, take, Option, Result, Ok, Err}
 use Rattle.std.specs.Io.KnownBytes.{Appends, Consumes, IsAtEnd}
 
--- the end, whether some call of it has failed, and how many calls were made after one that failed
+-- the reader or writer, whether one of its calls has failed, and how many calls were made after that
 pub record Watch (T : Type 0) : Type 0 where
   pub inner : T
   pub failed : Bool
@@ -18,12 +18,12 @@ abbrev pub read_failed : {E : Type 0} → Result ℕ E → Bool
 read_failed (Ok n) = false
 read_failed (Err e) = true
 
--- the call failed, or took none of some bytes
+-- the call failed, or took no byte though there were some
 abbrev pub write_failed : {E : Type 0} → List ℕ → Result ℕ E → Bool
 write_failed buf (Ok n) = (n == 0) && not (length buf == 0)
 write_failed buf (Err e) = true
 
--- a reader gave these bytes and is at its end
+-- the reader has given these bytes and is at its end
 abbrev pub ReadsAll : Option (List ℕ) → Option (List ℕ) → List ℕ → Type 0
 ReadsAll old new bytes = Consumes old new bytes × IsAtEnd new
 

@@ -1,5 +1,5 @@
 -- cases: proofs/Cases/Whole.antt
--- The answer to some bytes and a text that is cut into tokens: one outcome, and the lines of the tokens and of the outcome.
+-- The answer for bytes and a text that is cut into tokens: one outcome, and the lines of the tokens and of the outcome.
 use Rattle.std.specs.Prelude.{◌≡◌, ℕ, ◌⊎◌, List, [], ◌∷◌, ◌++◌, length, map, flat_map, Option, Ok, Err}
 use Rattle.std.specs.Borrow.{Bor}
 use Rattle.std.specs.Io.KnownBytes.{Appends}
@@ -32,7 +32,7 @@ IsWhole bytes text tokens outcome =
 abbrev pub token_line : Token → List ℕ
 token_line token = line_of (Match token.0 (length token.1.now))
 
--- the outcome for the bytes and the text, and all lines: one for each token, and then that of the outcome
+-- the outcome for the bytes and the text, and all lines: one for each token, and then one for the outcome
 abbrev pub AreAnswers : List ℕ → List ℕ → Outcome → List ℕ → Type 0
 AreAnswers bytes text outcome written =
     (tokens : List Token) × (IsWhole bytes text tokens outcome × (written ≡ flat_map token_line tokens ++ line_of outcome))

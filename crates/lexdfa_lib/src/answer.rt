@@ -1,4 +1,4 @@
-//! The whole run: read bytes, build terminals, write one line.
+//! The whole run: reads bytes, builds the automaton of their terminals, and writes one line.
 ghost use Rattle.std.specs.Prelude.{◌≡◌, ◌≢◌, ℕ, List, false, true, map, length, IfOk, OnOk, IfErr, OnErr};
 ghost use Rattle.std.specs.Io.KnownBytes.{Appends};
 ghost use Rattle.lexdfa_lib.specs.Answer.{IsOutcome, ReadsOutcome, WritesPrefix};
@@ -57,7 +57,7 @@ fn outcome_of(alloc: Global, bytes: &[u8], text: &str) -> Result<Outcome, AllocE
     }
 }
 
-// The outcome for all bytes that the reader has left, and the text.
+// The outcome for all bytes that the reader has left, and for the text.
 fn read_outcome<R: Read>(
     alloc: Global,
     reader: &mut Watched<R>,
@@ -100,11 +100,11 @@ fn write_outcome<W: Write>(
     write_whole(writer, line.as_bytes())
 }
 
-/// Reads the reader to its end, and writes the line for the bytes and the text.
+/// Reads the reader to its end, and writes the line of the outcome for the bytes and the text.
 ///
 /// Each line of input is a terminal `P l TEXT` or `P r PATTERN`: a precedence of 1 to 20 decimal digits, a space, the letter
-/// `l` or `r`, a space, and a literal or a pattern. Each line ends at a line feed, which the last may lack. Nothing is tried
-/// again: after a call of the reader or the writer failed, no further call of it is made.
+/// `l` or `r`, a space, and a literal or a pattern. Each line ends with a line feed, which the last line may lack. No call is
+/// tried again: once a call of the reader or the writer has failed, it is not called any more.
 ///
 /// # Errors
 ///

@@ -1,4 +1,4 @@
-//! A text cut into tokens: the line of each, and the outcome.
+//! Cutting a text into tokens: a line for each, and the outcome.
 ghost use Rattle.std.specs.Prelude.{◌≡◌, ◌++◌, ℕ, List, length, map, flat_map, string_bytes, IfOk, OnOk};
 ghost use Rattle.lexdfa_lib.specs.Answer.{IsReported, HaveAutomaton};
 ghost use Rattle.lalrpop_lexer.specs.Lines.{lines};
@@ -30,7 +30,7 @@ fn push_token(lines: &mut String, index: NfaIndex, slice: &str) -> Result<(), Al
     write!(lines, "match {terminal} {bytes}\n")
 }
 
-// These lines, and after them the line of the outcome.
+// These lines, followed by the line of the outcome.
 fn with_outcome(alloc: Global, mut lines: String, outcome: Outcome) -> Result<Answers, AllocError>
     ensures { IfOk result (λ answers. (answers.outcome ≡ outcome)
         × (string_bytes answers.lines ≡ string_bytes lines ++ line_of outcome)) }

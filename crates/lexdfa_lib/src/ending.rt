@@ -23,7 +23,7 @@ pub struct Ending {
     pub message: Option<&'static str>,
 }
 
-/// The exit status of a program that found this: the status of the outcome or of the error, and 4 for wrong arguments.
+/// The exit status of a program with this result: the status of the outcome or of the error, or 4 for wrong arguments.
 pub fn status_of(found: &Result<Outcome, Failure>) -> u8
     ensures status { result ≡ ending_status found.now }
 {
@@ -35,7 +35,7 @@ pub fn status_of(found: &Result<Outcome, Failure>) -> u8
 }
 
 impl Ending {
-    /// How the program `lexdfa` ends if it found this. There is a message only if there is no outcome.
+    /// How the program `lexdfa` ends with this result. There is a message only if there is no outcome.
     pub fn of(found: &Result<Outcome, Failure>) -> Ending
         ensures status { result.status ≡ ending_status found.now }
         ensures message { option_map (λ m. m.now) result.message ≡ ending_message found.now }

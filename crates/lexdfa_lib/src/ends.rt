@@ -1,4 +1,4 @@
-//! A reader read to its end, and bytes written whole.
+//! Reading a reader to its end, and writing all of some bytes.
 ghost use Rattle.std.specs.Prelude.{◌≡◌, ◌≢◌, false, true, IfOk, OnOk, IfErr, OnErr};
 ghost use Rattle.std.specs.Io.KnownBytes.{Appends};
 ghost use Rattle.lexdfa_lib.specs.Watch.{AppendsPrefix, ReadsAll};
@@ -8,7 +8,7 @@ use crate::watched::Watched;
 use std::alloc::Global;
 use std::io::{Read, Write};
 
-/// All bytes that the reader has left. Nothing is tried again: the first error ends the reading.
+/// All bytes that the reader has left. No call is tried again: the first error ends the reading.
 ///
 /// # Errors
 ///
@@ -38,7 +38,7 @@ pub fn read_whole<R: Read>(alloc: Global, reader: &mut Watched<R>) -> Result<Vec
     }
 }
 
-/// Writes all bytes. Nothing is tried again: the first error ends the writing.
+/// Writes all bytes. No call is tried again: the first error ends the writing.
 ///
 /// # Errors
 ///

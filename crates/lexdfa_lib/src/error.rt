@@ -10,16 +10,16 @@ pub enum RunError {
     /// A request for memory was refused.
     #[error("OutOfMemory")]
     OutOfMemory,
-    /// The reader has failed.
+    /// The reader failed.
     #[error("Read")]
     Read,
-    /// The writer has failed.
+    /// The writer failed.
     #[error("Write")]
     Write,
 }
 
 impl RunError {
-    /// The exit status: 5 for out of memory, 6 for a stream that failed.
+    /// The exit status: 5 for out of memory, 6 for a reader or a writer that failed.
     pub fn status(&self) -> u8
         ensures status { result ≡ error_status self.now }
     {

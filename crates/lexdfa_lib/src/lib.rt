@@ -1,6 +1,6 @@
 //! The longest match of a text, by terminals that are read from a stream. `run` reads lines such as `1 l class` or
-//! `0 r [a-z]+`, a precedence and a literal or a pattern, finds the longest prefix of a text that one of them matches, and
-//! writes one line. `run_all` cuts the whole text into such matches, and writes a line for each.
+//! `0 r [a-z]+`, each a precedence and a literal or a pattern, finds the longest prefix of a text that one of them matches,
+//! and writes one line. `run_all` cuts the whole text into such matches, and writes a line for each.
 #![tactic(auto)]
 
 mod answer;

@@ -31,7 +31,8 @@ pub enum Outcome {
         terminal: usize,
         error: NfaConstructionError,
     },
-    /// The word is the shortest, then least, with two or more strongest terminals; these are the last two of them.
+    /// Some word has two or more strongest terminals: `word` is the shortest, then least, such word, and `match0` and `match1`
+    /// are the last two of its strongest terminals.
     Ambiguous {
         match0: usize,
         match1: usize,
@@ -48,8 +49,8 @@ pub enum Outcome {
 }
 
 impl Outcome {
-    /// The exit status: 0 for a match and for all tokens of a text, 1 if nothing matches the text
-    /// or its rest, 2 if no automaton was made, 3 if the input is wrong.
+    /// The exit status: 0 for a match and for a text that was cut to its end, 1 if nothing matches the text or its rest, 2 if
+    /// no automaton was built, 3 if the input is wrong.
     pub fn status(&self) -> u8
         ensures status { result ≡ outcome_status self.now }
     {

@@ -1,4 +1,4 @@
-//! What is reported of terminals that have no automaton.
+//! What is reported about terminals that have no automaton.
 ghost use Rattle.std.specs.Prelude.{◌≡◌, ℕ, List, IfOk, OnErr};
 ghost use Rattle.lalrpop_book.specs.Tree.{Tree};
 ghost use Rattle.lalrpop_lexer.specs.Report.{IsReport};
@@ -11,7 +11,7 @@ use crate::word::Word;
 use lalrpop_lexer::lexer::dfa::DfaConstructionError;
 use std::alloc::AllocError;
 
-/// The outcome for terminals of which no automaton was made, or whose clashes can't be listed.
+/// The outcome for terminals whose automaton can't be built, or whose clashes can't be listed.
 ///
 /// # Errors
 ///

@@ -8,12 +8,12 @@ use lalrpop_lexer::lexer::nfa::Steps;
 use std::io::{self, Read, Write};
 use std::marker::Model;
 
-/// A reader or a writer that remembers whether a call of it has failed.
+/// A reader or a writer that remembers whether one of its calls has failed.
 #[derive(Drop)]
 pub struct Watched<T> {
     inner: T,
     failed: bool,
-    // The number of calls after one that failed, which only contracts read.
+    // The number of calls after one that failed. Only contracts read it.
     late: Steps,
 }
 
@@ -26,7 +26,7 @@ impl<T> Model for Watched<T> {
 }
 
 impl<T> Watched<T> {
-    /// Holds a reader or a writer of which no call has failed.
+    /// Wraps a reader or a writer, none of whose calls has failed.
     pub fn new(inner: T) -> Watched<T>
         ensures new { result ≡ record { inner = inner; failed = false; late = 0 } }
     {
@@ -67,7 +67,7 @@ impl<T> Watched<T> {
 }
 
 impl<R: Read> Watched<R> {
-    /// Passes one `read` on, and returns the number of bytes that were put at the front of `buf`.
+    /// Calls `read` once, and returns the number of bytes that were put at the front of `buf`.
     ///
     /// # Errors
     ///
@@ -89,8 +89,8 @@ impl<R: Read> Watched<R> {
 }
 
 impl<W: Write> Watched<W> {
-    /// Passes one `write` on, and returns the number of bytes of `buf` that were taken. A write that takes none of some bytes
-    /// counts as failed.
+    /// Calls `write` once, and returns the number of bytes of `buf` that were taken. If `buf` isn't empty and no byte was
+    /// taken, the call counts as failed.
     ///
     /// # Errors
     ///

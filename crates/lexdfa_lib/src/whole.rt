@@ -1,4 +1,4 @@
-//! The run over a whole text: read bytes, build terminals, write a line for each token.
+//! The run over a whole text: reads bytes, builds the automaton of their terminals, and writes a line for each token.
 ghost use Rattle.std.specs.Prelude.{◌≡◌, ◌≢◌, false, true, string_bytes, IfOk, OnOk, IfErr};
 ghost use Rattle.lexdfa_lib.specs.Whole.{ReadsAnswers, WritesAnswers, WritesAnswersPrefix};
 
@@ -10,7 +10,7 @@ use crate::watched::Watched;
 use std::alloc::Global;
 use std::io::{Read, Write};
 
-// The outcome and all lines for all bytes that the reader has left, and the text.
+// The outcome and all lines for all bytes that the reader has left, and for the text.
 fn read_answers<R: Read>(
     alloc: Global,
     reader: &mut Watched<R>,
@@ -31,10 +31,10 @@ fn read_answers<R: Read>(
 }
 
 /// Reads the reader to its end, cuts the whole text into tokens by the terminals that were read, and writes a line for each
-/// token, and then a line for the fault, if there is one. If there is no automaton, it writes the one line of `run`.
+/// token, and then one for the fault, if there is one. If the terminals have no automaton, it writes the one line of `run`.
 ///
-/// Input is read as by `run`. All lines are made before the first is written. Nothing is tried again: after a call of the
-/// reader or the writer failed, no further call of it is made.
+/// The input has the form that `run` reads. All lines are made before the first is written. No call is tried again: once a call
+/// of the reader or the writer has failed, it is not called any more.
 ///
 /// # Errors
 ///

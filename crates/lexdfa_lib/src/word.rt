@@ -22,7 +22,7 @@ impl Model for Word {
 }
 
 impl Word {
-    /// The word of these values.
+    /// The word with these values.
     pub fn new(values: Vec<u32>) -> Word
         ensures values { result ≡ values.items }
     {
@@ -36,7 +36,7 @@ impl Word {
         &self.values
     }
 
-    /// Returns the values. This takes no memory.
+    /// Returns the values. It takes no memory.
     pub fn into_vec(self) -> Vec<u32>
         ensures values { result.items ≡ self }
     {

@@ -2,8 +2,8 @@
 ghost use Rattle.std.specs.Prelude.{Bool, List, ℕ, map, string_bytes, IfSome, IfNone};
 ghost use Rattle.lexdfa_lib.specs.Words.{AreArguments};
 
-/// The text, and whether all of it is to be cut. A single argument is the text, whatever it is; `--all` and a text mean all of it.
-/// None for any other arguments.
+/// Whether all of the text is to be cut, and the text. A single argument is the text, whatever it is; after `--all`, all of the
+/// text is cut. `None` for any other arguments.
 pub fn arguments(words: &[String]) -> Option<(bool, &str)>
     ensures text { IfSome result (λ found.
         AreArguments (map string_bytes words.now) found.0 found.1.now) }

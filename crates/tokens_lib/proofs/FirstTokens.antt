@@ -1,5 +1,5 @@
--- The first tokens of a text, as the calls of `next` return them: their places, and that what is written for them begins what
--- is written for any list of all tokens.
+-- The first tokens of a text, as the calls of `next` return them: their places, and that what is written for any list of all
+-- tokens begins with what is written for them.
 use Rattle.std.proofs.Common.{◌≡◌, ℕ, ◌+◌, List, [], ◌∷◌, ◌++◌, length, drop, codes, decimal, refl, sym, ap, subst, ◌∙◌, append_assoc, arith, length-append, add-zero, zero-add}
 use Rattle.std.proofs.lemmas.Str.{IsUtf8-nil, IsUtf8-append}
 use Rattle.std.specs.Prelude.{Option, Some, None, Result, Ok, Err, unwrap_or}

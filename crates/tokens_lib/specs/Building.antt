@@ -1,5 +1,5 @@
 -- cases: proofs/Cases/Building.antt
--- Why some lines give no lexer.
+-- Why no lexer can be built from lines of terminals.
 use Rattle.std.specs.Prelude.{ℕ, List}
 use Rattle.lexdfa_lib.specs.Answer.{IsReported}
 use Rattle.tokens_lib.specs.declared.building.BuildError.{BuildError}

@@ -1,5 +1,5 @@
 -- cases: proofs/Cases/ClashesShown.antt
--- What is written for all clashes of some terminals.
+-- What is written for all clashes of terminals.
 use Rattle.std.specs.Prelude.{◌≡◌, ℕ, List, [], ◌∷◌, Option, Some, None, flat_map}
 use Rattle.std.specs.Io.KnownBytes.{Appends}
 use Rattle.lalrpop_book.specs.Tree.{Tree}
@@ -27,7 +27,7 @@ abbrev pub HaveClashes : List ℕ → List Entry → Type 0
 HaveClashes bytes cs =
     (ts : List Tree) × ((ps : List ℕ) × (AreTerminals (lines bytes) ts ps × (NoFault ts × AreClashes ts ps cs)))
 
--- what is written beside a report: for a clash, a line for each clash in order; otherwise nothing
+-- what is written along with a report: a line for each clash, in order, if the report is a clash; otherwise nothing
 abbrev pub AreListed : List ℕ → List ℕ → Outcome → Type 0
 AreListed bytes written (Ambiguous i j word) = (cs : List Entry) × (HaveClashes bytes cs × (written ≡ flat_map entry_line cs))
 AreListed bytes written outcome = written ≡ []
@@ -37,7 +37,7 @@ abbrev pub AreClashesShown : List ℕ → List ℕ → Option Outcome → Type 0
 AreClashesShown bytes written None = HaveClashes bytes [] × (written ≡ [])
 AreClashesShown bytes written (Some outcome) = IsReported bytes outcome × AreListed bytes written outcome
 
--- a writer took exactly what is written for the clashes of some bytes
+-- a writer took exactly what is written for the clashes of these bytes
 abbrev pub WritesClashes : List ℕ → Option (List ℕ) → Option (List ℕ) → Option Outcome → Type 0
 WritesClashes bytes held held_now reported =
     (written : List ℕ) × (AreClashesShown bytes written reported × Appends held held_now written)

@@ -6,11 +6,11 @@ use Rattle.tokens_lib.specs.declared.command.Command.TheVariants.{Cut, Show, Cla
 use Rattle.tokens_lib.specs.declared.layout.LineForm.TheVariants.{Plain, Json}
 use Rattle.tokens_lib.specs.declared.command.Markup.TheVariants.{Html, Ansi}
 
--- the argument begins with two dashes, and so names an option
+-- the argument begins with two dashes, so it is an option
 abbrev pub IsOption : List ℕ → Type 0
 IsOption word = (rest : List ℕ) × (word ≡ codes "--" ++ rest)
 
--- options, then the file of rules, whose name is none, then files
+-- options, then the file of rules, whose name isn't an option, then files
 abbrev pub IsAsked : List (List ℕ) → List (List ℕ) → List ℕ → List (List ℕ) → Type 0
 IsAsked words options rules files = ¬ IsOption rules × (words ≡ options ++ rules ∷ files)
 

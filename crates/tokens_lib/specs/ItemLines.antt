@@ -29,7 +29,7 @@ abbrev pub plain_line : Option (List ℕ) → Position → Option (List ℕ) →
 plain_line file p name slice =
     file_text file ++ (decimal p.line ++ (codes ":" ++ (decimal p.column ++ (codes " " ++ (unwrap_or name (codes "!") ++ (codes " " ++ (quoted slice ++ codes "\n")))))))
 
--- ---- a line of JSON
+-- ---- a JSON line
 
 -- members of an object: a name, and a number or a string
 abbrev pub number_member : List ℕ → ℕ → List json.Token
@@ -69,7 +69,7 @@ line_in Json file p start name slice = json_line file p start name slice
 abbrev pub line_at : Layout → List ℕ → ℕ → Option (List ℕ) → List ℕ → List ℕ
 line_at layout text start name slice = line_in layout.form (option_map (λ f. f.now) layout.file) (position_of text start) start name slice
 
--- a fault has a line only where cutting goes on behind it
+-- a fault has a line only if cutting goes on after it
 abbrev pub fault_line : Bool → Layout → List ℕ → ℕ → List ℕ → List ℕ
 fault_line true layout text start slice = line_at layout text start None slice
 fault_line false layout text start slice = []
@@ -86,13 +86,13 @@ item_line layout names text (Fault start slice) = fault_line layout.recovers lay
 
 -- ---- the lines of a text
 
--- the pieces of the text from a place on, up to its end or up to the first fault, which is then the last of them
+-- the pieces of the text from a place on: to its end, or up to the first fault, which is then the last piece
 abbrev pub AreUpToFault : List Tree → List ℕ → List Bool → List ℕ → ℕ → List Item → Type 0
 AreUpToFault ts ps skips text at [] = drop at text ≡ []
 AreUpToFault ts ps skips text at (Fault start slice ∷ xs) = IsPiece ts ps skips text at (Fault start slice) × (xs ≡ [])
 AreUpToFault ts ps skips text at (x ∷ xs) = IsPiece ts ps skips text at x × AreUpToFault ts ps skips text (at + length (slice_of x)) xs
 
--- the pieces that are cut: all, where cutting goes on behind a fault
+-- the pieces that are cut: all of them if cutting goes on after a fault
 abbrev pub AreCut : Bool → RuleSet → List ℕ → List Item → Type 0
 AreCut true rules text xs = ArePieces rules.trees rules.precedences rules.skips text 0 xs
 AreCut false rules text xs = AreUpToFault rules.trees rules.precedences rules.skips text 0 xs

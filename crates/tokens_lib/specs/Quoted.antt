@@ -14,8 +14,8 @@ short_escape c =
     if c == 9 then Some (codes "\\t") else (
     if c == 0 then Some (codes "\\0") else None)))))
 
--- what is written for a character with this short escape: the escape; without one, for other control characters the number in
--- hexadecimal, otherwise the character itself
+-- what is written for a character: its short escape, if it has one; for other control characters, the number in hexadecimal;
+-- otherwise the character itself
 abbrev pub told_by : Option (List ℕ) → ℕ → List ℕ
 told_by (Some escape) c = escape
 told_by None c = if is_control c then codes "\\u{" ++ (digits 16 false c ++ codes "}") else encode_utf8 c
@@ -27,13 +27,13 @@ told c = told_by (short_escape c) c
 abbrev pub quoted : List ℕ → List ℕ
 quoted slice = codes "\"" ++ (flat_map told (chars slice) ++ codes "\"")
 
--- ---- a word between quotes
+-- ---- a word in quotes
 
--- the value is that of a character: no surrogate, and not too large
+-- the value is a character: neither a surrogate nor too large
 abbrev pub is_character : ℕ → Bool
 is_character n = nat_lt n 55296 || (nat_lt 57343 n && nat_lt n 1114112)
 
--- a character as in a quoted slice, any other value by its number in hexadecimal
+-- a character is written as in a quoted slice, any other value as its number in hexadecimal
 abbrev pub value_told : ℕ → List ℕ
 value_told n = if is_character n then told n else (codes "\\u{" ++ (digits 16 false n ++ codes "}"))
 

@@ -15,14 +15,14 @@ use Rattle.tokens_lib.specs.Quoted.{quoted_word}
 abbrev pub AreRuleClashes : List Rule → List Entry → Type 0
 AreRuleClashes rs cs = (ts : List Tree) × (AreTrees rs ts × (NoFault ts × AreClashes ts (precedences_of rs) cs))
 
--- the error is right, and is no clash
+-- the error is right, and isn't a clash
 abbrev pub IsRuleFault : List Rule → RulesError → Type 0
 IsRuleFault rs (NoPattern i position kind) = IsRulesError rs (NoPattern i position kind)
 IsRuleFault rs (NotCompiled i e) = IsRulesError rs (NotCompiled i e)
 IsRuleFault rs (Clash i j w) = ⊥
 IsRuleFault rs OutOfMemory = Unit {0}
 
--- the line of a clash: the name of the rule that stands first in the file, that of the other, and the word
+-- the line of a clash: the name of the rule that is first in the file, the name of the other rule, and the word
 abbrev pub named_line : List (List ℕ) → Entry → List ℕ
 named_line names c =
     name_at names c.match1 ++ (codes " " ++ (name_at names c.match0 ++ (codes " " ++ (quoted_word c.word ++ codes "\n"))))

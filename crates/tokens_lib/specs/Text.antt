@@ -1,5 +1,5 @@
 -- cases: proofs/Cases/Text.antt
--- Why a file gives no text.
+-- Why no text could be read.
 use Rattle.std.specs.Prelude.{ℕ, List, [], Option}
 use Rattle.std.specs.Str.{IsValidUpTo}
 use Rattle.lexdfa_lib.specs.Watch.{ReadsAll}

@@ -1,4 +1,4 @@
-//! A lexer of the terminals that some lines name.
+//! A lexer of terminals, one a line.
 ghost use Rattle.std.specs.Prelude.{◌≡◌, IfOk, IfErr};
 ghost use Rattle.lexdfa_lib.specs.Answer.{HaveAutomaton};
 ghost use Rattle.tokens_lib.specs.Building.{IsBuildError};
@@ -9,7 +9,7 @@ use lexdfa_lib::{Outcome, reported};
 use std::alloc::{AllocError, Global};
 use thiserror::Error;
 
-/// Why some lines give no lexer.
+/// Why no lexer can be built from lines of terminals.
 #[derive(Debug, Drop, Error)]
 pub enum BuildError {
     /// A line is bad, a pattern doesn't parse or can't be compiled, or two terminals clash.
@@ -28,13 +28,13 @@ impl From<AllocError> for BuildError {
     }
 }
 
-/// Builds the lexer of the terminals that some lines name: each is `P l TEXT` or `P r PATTERN`, a precedence and a
-/// literal or a pattern.
+/// Builds the lexer of terminals, one a line: each line is `P l TEXT` or `P r PATTERN`, a precedence and a literal or a
+/// pattern.
 ///
 /// # Errors
 ///
-/// What the lines report: the first line that is bad or whose pattern doesn't parse; otherwise the first terminal that can't be
-/// compiled; otherwise the clash. Or out of memory.
+/// The first line that is bad or whose pattern doesn't parse; otherwise the first terminal that can't be compiled; otherwise
+/// the clash; or out of memory.
 pub fn lexer_of(alloc: Global, bytes: &[u8]) -> Result<Lexer, BuildError>
     ensures automaton { IfOk result (λ lexer.
         HaveAutomaton bytes.now lexer.trees lexer.precedences) }

@@ -1,4 +1,4 @@
-//! The program over a file of terminals, one a line, which are told by their numbers.
+//! The program for a file of terminals, one a line, which are referred to by their numbers.
 ghost use Rattle.std.specs.Prelude.{◌≤◌, IfOk};
 
 use crate::building::{BuildError, lexer_of};

@@ -1,4 +1,4 @@
-//! The lines of all clashes of the terminals that some bytes name.
+//! A line for each clash of the terminals of a file.
 ghost use Rattle.std.specs.Prelude.{◌≡◌, ◌≢◌, ◌++◌, [], ℕ, List, Some, false, true, length, map, flat_map, string_bytes, IfOk, OnOk, IfErr};
 ghost use Rattle.lalrpop_book.specs.Tree.{Tree};
 ghost use Rattle.lalrpop_lexer.specs.Report.{IsFaultOf};
@@ -35,7 +35,7 @@ fn clash_lines(alloc: Global, found: Vec<Clash>) -> Result<String, AllocError>
     Ok(lines)
 }
 
-// The first of all clashes is the one that is reported.
+// Of all clashes the first is reported.
 fn first_report(found: &[Clash]) -> Result<Option<Outcome>, AllocError>
     ensures { IfOk result (λ report. report ≡ first_reported found.now) }
 {
@@ -49,7 +49,7 @@ fn first_report(found: &[Clash]) -> Result<Option<Outcome>, AllocError>
     }))
 }
 
-// What is reported if there is no list.
+// What is reported if the clashes can't be listed.
 fn fault_reported(error: DfaConstructionError) -> Result<Outcome, AllocError>
     ensures { IfOk result (λ outcome. (bytes : List ℕ) (ts : List Tree) (ps : List ℕ)
         → AreTerminals (lines bytes) ts ps → IsFaultOf ts error
@@ -67,7 +67,7 @@ fn fault_reported(error: DfaConstructionError) -> Result<Outcome, AllocError>
     }
 }
 
-// The lines of all clashes, and what the terminals report, if anything.
+// A line for each clash, and what the terminals report, if anything.
 #[derive(Drop)]
 struct Listing {
     lines: String,
@@ -98,7 +98,7 @@ fn listing_by(
     }
 }
 
-// What is written for the terminals that the bytes name.
+// What is written for the terminals of these bytes, one a line.
 fn listing_of(alloc: Global, bytes: &[u8]) -> Result<Listing, AllocError>
     ensures { IfOk result (λ listing.
         AreClashesShown bytes.now (string_bytes listing.lines) listing.report) }
@@ -117,9 +117,9 @@ fn listing_of(alloc: Global, bytes: &[u8]) -> Result<Listing, AllocError>
     })
 }
 
-/// Writes a line, like that of a report, for each pair of terminals that clash, with the least word on which they do. The bytes
-/// name the terminals. Returns what the terminals report: the first clash, or why they can't be compiled, and then nothing is
-/// written; or `None` if they make a lexer.
+/// Writes a line for each pair of terminals that clash, as `clash_line` does, with the least word on which they clash. The
+/// bytes are the terminals, one a line. Returns the first clash; or, if the terminals have no automaton for another reason,
+/// that reason, and then nothing is written; or `None` if they make a lexer.
 ///
 /// # Errors
 ///

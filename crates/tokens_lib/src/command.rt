@@ -5,12 +5,12 @@ ghost use Rattle.tokens_lib.specs.declared.command.Command.{Command as Found};
 
 use crate::layout::LineForm;
 
-/// What a text is shown as.
+/// How a text is shown.
 #[derive(Clone, Copy, Debug, PartialEq, Eq)]
 pub enum Markup {
-    /// Markup of HTML.
+    /// As HTML.
     Html,
-    /// In a terminal's colours.
+    /// In colours for a terminal.
     Ansi,
 }
 
@@ -21,12 +21,13 @@ pub enum Command<'words> {
     Cut {
         /// What a line looks like.
         form: LineForm,
-        /// Whether cutting goes on behind a fault.
+        /// Whether cutting goes on after a fault.
         recovers: bool,
         rules: &'words str,
         files: &'words [String],
     },
-    /// Show each of the files, or standard input if there are none, as markup, by the named rules of the file `rules`.
+    /// Show each of the files, or standard input if there are none, as HTML or in colours, by the named rules of the file
+    /// `rules`.
     Show {
         markup: Markup,
         rules: &'words str,
@@ -49,7 +50,7 @@ pub enum Command<'words> {
     },
 }
 
-// What one option asks for.
+// The command of one option.
 fn with_option<'words>(
     option: &'words str,
     rules: &'words str,
@@ -95,7 +96,7 @@ fn with_option<'words>(
     }
 }
 
-// What two options ask for.
+// The command of two options.
 fn with_options<'words>(
     first: &'words str,
     second: &'words str,
@@ -134,9 +135,9 @@ fn is_option(word: &str) -> bool
     word.starts_with("--")
 }
 
-/// The command of these arguments. At the front stand at most two options, which begin with `--`, then RULES, which does not,
-/// and then files of any name: `[--recover] [--json]`, these two in any order, `--html`, `--ansi`, `--clashes`, `--lines`,
-/// `--lines --places` or `--lines --clashes`. `--clashes` takes no file. `None` for any other arguments.
+/// The command of these arguments: at most two options, which begin with `--`, then RULES, which does not, and then files of
+/// any name. The options are `[--recover] [--json]`, in either order, `--html`, `--ansi`, `--clashes`, `--lines`,
+/// `--lines --places` or `--lines --clashes`. `--clashes` takes no files. `None` for any other arguments.
 pub fn command_of(words: &[String]) -> Option<Command<'_>>
     ensures some { IfSome result (λ found. IsCommand (map string_bytes words.now) found) }
     ensures none { IfNone result ((found : Found)

@@ -1,4 +1,4 @@
-//! Texts of files, one after another: each is cut, and its lines or its markup are written.
+//! Cutting files one after another: the lines or the markup of each are written.
 ghost use Rattle.std.specs.Prelude.{◌≡◌, ◌≤◌, false, IfOk, OnOk};
 ghost use Rattle.tokens_lib.specs.Internal.Endings.{StopsIn};
 
@@ -17,28 +17,28 @@ use std::alloc::{AllocError, Global};
 use std::io::{Eprint, Read, Write};
 use std::rt::Files;
 
-// The name of standard input in places.
+// The name that places in standard input have.
 const INPUT: &str = "<stdin>";
 
 /// What is done with each text.
 #[derive(Clone, Copy)]
 pub(crate) enum Task<'rules> {
-    /// The lines of its tokens are written, by terminals.
+    /// It is cut by terminals, and the lines of its tokens are written.
     Tokens {
         lexer: &'rules Lexer,
         /// Whether the line of a token begins with its place.
         places: bool,
     },
-    /// The lines of its pieces are written, by named rules.
+    /// It is cut by named rules, and the lines of its pieces are written.
     Pieces {
         lexer: &'rules RuleLexer,
         form: LineForm,
-        /// Whether cutting goes on behind a fault.
+        /// Whether cutting goes on after a fault.
         recovers: bool,
         /// Whether each line names the file.
         named: bool,
     },
-    /// It is written as markup, by named rules.
+    /// It is cut by named rules, and written as markup.
     Markup {
         lexer: &'rules RuleLexer,
         markup: Markup,
@@ -52,7 +52,7 @@ enum Ending {
     Whole,
     /// It was cut to its end, and has faults.
     Faulty,
-    /// It was cut up to a fault at this byte: nothing of this kind matches there.
+    /// It was cut up to a fault at byte `at`, where nothing of this kind, `terminal` or `rule`, matches.
     Stopped { kind: &'static str, at: usize },
 }
 
@@ -85,7 +85,7 @@ fn write_markup<W: Write>(
     }
 }
 
-// Does what is to be done with a text.
+// Performs the action on a text.
 fn perform<W: Write>(
     alloc: Global,
     task: &Task<'_>,
@@ -137,7 +137,7 @@ fn perform<W: Write>(
     }
 }
 
-// Does it with what a reader has, and returns the status.
+// Performs the action on all that a reader has left, and returns the status.
 fn cut<R: Read, W: Write>(
     rt: &(impl Eprint + AllocGlobal),
     task: &Task<'_>,
@@ -171,7 +171,7 @@ fn cut<R: Read, W: Write>(
     }
 }
 
-// Does it with a file, and returns the status.
+// Performs the action on a file, and returns the status.
 fn cut_file<W: Write>(
     rt: &(impl Files + Eprint + AllocGlobal),
     task: &Task<'_>,
@@ -188,7 +188,7 @@ fn cut_file<W: Write>(
     cut(rt, task, name, &mut Watched::new(file), writer)
 }
 
-/// Does it with each file, or with standard input if there are none, and returns the greatest status.
+/// Performs the action on each file, or on standard input if there are none, and returns the greatest status.
 pub(crate) fn cut_all<W: Write>(
     rt: &(impl Files + Input + Eprint + AllocGlobal),
     task: &Task<'_>,

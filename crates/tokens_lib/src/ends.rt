@@ -8,14 +8,14 @@ use std::fs::{File, OpenFile};
 use std::io::{self, Eprint, ErrorKind, Write};
 use std::rt::Files;
 
-/// The status of files that gave no text.
+/// The status if a file gave no text.
 pub(crate) const NO_TEXT: u8 = 6;
 
 pub(crate) fn out_of_memory(_error: AllocError) -> Failure {
     Failure::Run(RunError::OutOfMemory)
 }
 
-/// Writes a message to standard error. If that fails too, the status still tells.
+/// Writes a message to standard error. If that fails, the exit status still reports the error.
 pub(crate) fn say(rt: &impl Eprint, message: &str) {
     let _ = eprint!(rt; "{message}");
 }
@@ -47,7 +47,7 @@ pub(crate) fn open<R: Files + Eprint>(rt: &R, name: &str) -> Result<Option<R::Fi
     }
 }
 
-/// All bytes of the file of rules. If it can't be read, says so.
+/// All bytes of a file of rules. If it can't be read, says so.
 pub(crate) fn bytes_of<R: Files + Eprint + AllocGlobal>(
     rt: &R,
     name: &str,

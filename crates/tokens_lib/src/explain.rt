@@ -1,4 +1,4 @@
-//! Why a file of terminals gives no lexer, in words for people.
+//! Explaining to a user why a file of terminals gives no lexer.
 
 use crate::quote::quoted;
 use crate::reasons::{characters_before, place_explained, refusal_text, syntax_text};
@@ -6,13 +6,13 @@ use lalrpop_lexer::lexer::re::{RegexError, SyntaxKind, parse_regex};
 use lexdfa_lib::Outcome;
 use std::alloc::{AllocError, Global};
 
-// The line with this number, from 0, or nothing if it isn't UTF-8.
+// The line with this number, from 0, or `None` if it isn't UTF-8.
 fn line_at(bytes: &[u8], number: usize) -> Option<&str> {
     let line = bytes.split(|byte| *byte == b'\n').nth(number)?;
     str::from_utf8(line).ok()
 }
 
-// Where and why the pattern of a line `P r PATTERN` doesn't parse: the characters of the line before the place, and the reason.
+// Where and why the pattern of a line `P r PATTERN` doesn't parse: the number of characters before the place, and the reason.
 fn syntax_of(alloc: Global, line: &str) -> Result<Option<(usize, SyntaxKind)>, AllocError> {
     let Some((precedence, rest)) = line.split_once(' ') else {
         return Ok(None);
@@ -24,7 +24,7 @@ fn syntax_of(alloc: Global, line: &str) -> Result<Option<(usize, SyntaxKind)>, A
         Ok(_) => Ok(None),
         Err(RegexError::OutOfMemory) => Err(AllocError),
         Err(RegexError::Syntax { position, kind }) => {
-            // A space, the letter and a space are between the precedence and the pattern.
+            // Between the precedence and the pattern are a space, the letter and a space.
             let before = precedence.len().saturating_add(3);
             let inside = characters_before(pattern, position);
             Ok(Some((before.saturating_add(inside), kind)))
@@ -88,7 +88,7 @@ fn word_shown(alloc: Global, word: &[u32]) -> Result<String, AllocError> {
     }
 }
 
-// What the clash is and how to resolve it: both lines, and the word.
+// What the clash is, with both lines and the word, and how to resolve it.
 fn clash_explained(
     alloc: Global,
     file: &str,
@@ -108,7 +108,7 @@ fn clash_explained(
     )
 }
 
-/// What is wrong with a file of terminals, in words: the file and the line, and the line itself.
+/// What is wrong with a file of terminals: the name of the file, the number of the line, the reason, and the line itself.
 ///
 /// # Errors
 ///

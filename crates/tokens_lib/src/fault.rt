@@ -6,8 +6,8 @@ use crate::quote::push_told;
 use lalrpop_lexer::Position;
 use std::alloc::{AllocError, Global};
 
-/// The line that says where the text couldn't be cut further, since no terminal or no rule (`kind`) matches, and shows the character
-/// there.
+/// The line that says where no terminal or no rule (`kind`) matches, so that the text couldn't be cut further, and shows the
+/// character there.
 ///
 /// # Errors
 ///

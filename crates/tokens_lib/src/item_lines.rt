@@ -63,7 +63,7 @@ fn push_line(
     }
 }
 
-// The name of a rule. The rule of a token has one.
+// The name of a rule. The rule of a token always has one.
 fn name_of(lexer: &RuleLexer, index: NfaIndex) -> &str
     ensures { result.now ≡ name_at lexer.now.names index }
 {
@@ -107,7 +107,7 @@ fn push_item(
     push_line(alloc, lines, layout, position, &shown)
 }
 
-// Writes the lines and empties them, if there are enough of them.
+// Writes and clears the lines if they fill a chunk.
 fn pass_on<W: Write>(lines: &mut Vec<u8>, writer: &mut Watched<W>) -> Result<(), RunError>
     requires writer_good { writer.old.failed ≡ false }
     ensures passed { OnOk result ((sent : List ℕ)
@@ -138,7 +138,7 @@ fn first_fault_with(first: Option<usize>, item: &Item<'_>) -> Option<usize>
     }
 }
 
-// Whether cutting ends, since a fault was found.
+// Whether cutting ends because a fault was found.
 fn ends(layout: &Layout<'_>, first_fault: Option<usize>) -> bool
     ensures yes { result ≡ true → IsSome first_fault × (layout.now.recovers ≡ false) }
     ensures no { result ≡ false → layout.now.recovers ≡ false → first_fault ≡ None }
@@ -146,15 +146,15 @@ fn ends(layout: &Layout<'_>, first_fault: Option<usize>) -> bool
     first_fault.is_some() && !layout.recovers
 }
 
-/// Cuts the text by named rules, and writes a line for each token and for each fault; skipped pieces have none. A plain line is
-/// `LINE:COLUMN NAME "SLICE"`, behind `FILE:` if the file is named, with lines and columns from 1, columns in characters,
-/// and `!` in place of the name of a fault. A line of JSON is an object with the members `file`, if the file is named, `line`,
-/// `column`, `start` and `end`, which are offsets in bytes, `rule`, which is `null` for a fault, and `text`.
+/// Cuts the text by named rules, and writes a line for each token and for each fault, but none for skipped pieces. A plain line
+/// is `LINE:COLUMN NAME "SLICE"`, with `FILE:` before it if the file is named. Lines and columns count from 1, columns in
+/// characters, and a fault has `!` for its name. A line of JSON is an object with the members `file`, if the file is named,
+/// `line`, `column`, `start` and `end`, which are offsets in bytes, `rule`, which is `null` for a fault, and `text`.
 ///
 /// If the layout doesn't recover, the text is cut up to its first fault, which has no line. Returns where the first fault begins,
 /// in bytes, or `None` if there is none.
 ///
-/// Lines are written as they come, some 64 KiB at a time. Nothing is tried again.
+/// Lines are written while the text is cut, about 64 KiB at a time. No call is tried again.
 ///
 /// # Errors
 ///

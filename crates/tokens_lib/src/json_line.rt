@@ -1,4 +1,4 @@
-//! The line of a piece as an object of JSON.
+//! The line of a piece as a JSON object.
 ghost use Rattle.std.specs.Prelude.{◌≡◌, ◌+◌, ◌≤◌, ◌∷◌, [], ◌++◌, codes, length, option_map, OnOk};
 ghost use Rattle.json.specs.Token.{key, string};
 ghost use Rattle.tokens_lib.specs.ItemLines.{number_member, string_member, file_member, rule_member, object_of, json_line};
@@ -54,7 +54,7 @@ fn write_rule(writer: &mut Writer, name: Option<&str>) -> Result<(), AllocError>
     }
 }
 
-// Where the piece begins, and where it ends.
+// Where the piece begins and ends.
 fn write_places(
     writer: &mut Writer,
     position: Position,

@@ -1,4 +1,4 @@
-//! The program `tokens`, which cuts files by a file of named rules, or by terminals that are lines, and what it is made of.
+//! The program `tokens`, which cuts files by a file of named rules or of terminals, one a line, and its parts.
 #![tactic(auto)]
 
 mod building;

@@ -66,7 +66,7 @@ fn precedences_of(alloc: Global, rules: &[Rule<'_>]) -> Result<Vec<Precedence>, 
     Ok(all)
 }
 
-// What is wrong with the rules, by what is wrong with their trees.
+// The error of the rules for an error of their trees.
 fn fault_of(error: DfaConstructionError) -> RulesError
     ensures { (rs : List RuleValue) (ts : List Tree)
         → AreTrees rs ts → IsFaultOf ts error → IsRuleFault rs result }
@@ -84,11 +84,11 @@ fn fault_of(error: DfaConstructionError) -> RulesError
 }
 
 /// All pairs of rules that are both among the strongest on some word, each with the least such word, in the order of these
-/// words; at one word the later rules come first. The list is empty if the rules make a lexer.
+/// words; for the same word, later rules come first. The list is empty if the rules make a lexer.
 ///
 /// # Errors
 ///
-/// The first rule whose text does not parse; else the first that can't be compiled; or out of memory. Never `Clash`.
+/// The first rule whose text does not parse; otherwise the first that can't be compiled; or out of memory. Never `Clash`.
 pub fn rule_clashes(alloc: Global, rules: &[Rule<'_>]) -> Result<Vec<Clash>, RulesError>
     ensures clashes { IfOk result (λ found. AreRuleClashes rules.now found.items) }
     ensures error { IfErr result (λ e. IsRuleFault rules.now e) }
@@ -101,7 +101,7 @@ pub fn rule_clashes(alloc: Global, rules: &[Rule<'_>]) -> Result<Vec<Clash>, Rul
     }
 }
 
-/// The name of the rule with this index, or nothing if there are fewer rules.
+/// The name of the rule with this index, or the empty string if there is no such rule.
 pub(crate) fn name_of<'text>(rules: &[Rule<'text>], index: usize) -> &'text str
     ensures name { result.now ≡ name_at (names_of rules.now) index }
 {

@@ -1,4 +1,4 @@
-//! A slice or a word between quotes.
+//! A slice or a word in quotes.
 ghost use Rattle.std.specs.Prelude.{◌≡◌, ◌++◌, option_map, string_bytes, IfOk, OnOk};
 ghost use Rattle.tokens_lib.specs.Quoted.{short_escape, told, quoted, value_told, quoted_word};
 
@@ -32,7 +32,7 @@ pub(crate) fn push_told(text: &mut String, c: char) -> Result<(), AllocError>
     text.push(c)
 }
 
-/// The slice between quotes. Quotes, backslashes and control characters are escaped by a backslash.
+/// The slice in double quotes. Quotes, backslashes and control characters are escaped with a backslash.
 ///
 /// # Errors
 ///
@@ -57,7 +57,7 @@ fn push_value(text: &mut String, value: u32) -> Result<(), AllocError>
     }
 }
 
-/// The word between quotes. Its characters are escaped as in a slice; other values are written as control characters are.
+/// The word in double quotes. Characters are escaped as in a slice, and values that aren't characters are written as `\u{..}`.
 ///
 /// # Errors
 ///

@@ -1,11 +1,11 @@
-//! A piece that has a line.
+//! A piece that is written as a line.
 
-/// What the line of a piece shows, its place aside.
+/// What the line of a piece shows, apart from its line and column.
 #[derive(Clone, Copy, Debug)]
 pub(crate) struct Shown<'name, 'text> {
     /// Where the piece begins in the text, in bytes.
     pub start: usize,
-    /// The name of its rule; none for a fault.
+    /// The name of its rule; `None` for a fault.
     pub name: Option<&'name str>,
     /// The piece of the text.
     pub slice: &'text str,

@@ -1,4 +1,4 @@
-//! A text that is read from a file.
+//! A text read from a file.
 ghost use Rattle.std.specs.Prelude.{◌≡◌, ◌≢◌, [], false, true, string_bytes, IfOk, OnOk, IfErr};
 ghost use Rattle.lexdfa_lib.specs.Watch.{ReadsAll};
 ghost use Rattle.tokens_lib.specs.Text.{IsTextError};
@@ -8,13 +8,13 @@ use std::alloc::Global;
 use std::io::Read;
 use thiserror::Error;
 
-/// Why a file gave no text.
+/// Why no text could be read.
 #[derive(Debug, Drop, Error)]
 pub enum TextError {
     /// The file is empty.
     #[error("the file is empty")]
     Empty,
-    /// The bytes before this one are UTF-8, and no character begins there.
+    /// The bytes aren't UTF-8: `at` is the offset of the first byte at which no character begins.
     #[error("not UTF-8 from byte {at} on")]
     NotText { at: usize },
     /// A read failed.

@@ -58,7 +58,7 @@ fn push_token(
     write!(lines, "{terminal} {bytes} {slice}\n")
 }
 
-// Writes the lines and empties them, if there are enough of them.
+// Writes and clears the lines if they fill a chunk.
 fn pass_on<W: Write>(lines: &mut String, writer: &mut Watched<W>) -> Result<(), RunError>
     requires writer_good { writer.old.failed ≡ false }
     ensures passed { OnOk result ((sent : List ℕ)
@@ -88,7 +88,7 @@ fn push_last(lines: &mut String, outcome: &Outcome) -> Result<(), AllocError>
     }
 }
 
-// Writes the lines, and then the last line of an outcome.
+// Writes the lines, and then the last line, for the outcome.
 fn write_last<W: Write>(
     mut lines: String,
     outcome: Outcome,
@@ -117,7 +117,7 @@ fn write_last<W: Write>(
 /// After them comes the line `end`, or `none N` if no terminal matches at byte N. If the text's file is named, the line of a
 /// token begins with its place, `FILE:LINE:COLUMN: `, with lines and columns from 1 and columns in characters.
 ///
-/// Lines are written as they come, some 64 KiB at a time. The outcome is `All` or `Stopped`. Nothing is tried again.
+/// Lines are written while the text is cut, about 64 KiB at a time. The outcome is `All` or `Stopped`. No call is tried again.
 ///
 /// # Errors
 ///
