@@ -35,7 +35,7 @@ fn flushed(outcome: Outcome, flush: &io::Result<()>) -> Result<Outcome, Failure>
     }
 }
 
-// The outcome of a run over these ends, of which the writer is flushed behind the last line.
+// The outcome of a run with this reader and this writer, which is flushed after the last line.
 fn run_and_flush<R: Read + Drop, W: Write + Drop>(
     alloc: Global,
     all: bool,
@@ -65,7 +65,7 @@ fn answer(rt: &(impl Env + Input + Print + AllocGlobal)) -> Result<Outcome, Fail
 fn main(rt: HostRuntime) -> ExitCode {
     let Ending { status, message } = Ending::of(&answer(&rt));
     if let Some(message) = message {
-        // Where standard error fails too, the status still tells.
+        // If writing to standard error fails, the exit status still reports the error.
         let _ = eprint!(rt; "{message}");
     }
     ExitCode::from(status)
@@ -75,7 +75,7 @@ fn main(rt: HostRuntime) -> ExitCode {
 mod tests {
     use super::*;
 
-    // Takes all bytes, and fails where it is to flush them. Standard output has no buffer, so that its flush never fails.
+    // Takes all bytes, and fails when they are flushed. Standard output has no buffer, so its flush never fails.
     #[derive(Drop)]
     struct FailsToFlush;
 

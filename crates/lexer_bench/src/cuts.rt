@@ -1,4 +1,4 @@
-//! A text is cut in six ways, which find the same.
+//! Cutting a text in six ways, which find the same.
 
 use crate::lists::List;
 use lalrpop_lexer::lexer::dfa::{DenseDfa, Dfa, Marks, Matcher, NfaIndex};
@@ -38,7 +38,7 @@ pub(crate) struct Cut {
     pub(crate) tokens: u64,
     /// Places at which nothing matches.
     pub(crate) faults: u64,
-    /// Of the lengths and the terminals of the tokens.
+    /// A sum over the lengths and the terminals of the tokens.
     pub(crate) sum: u64,
 }
 
@@ -75,7 +75,7 @@ pub(crate) struct Cutters {
 }
 
 impl Cutters {
-    /// Nothing, where the list has no lexer.
+    /// `None` if the list has no lexer.
     pub(crate) fn new(alloc: Global, dfa: Dfa, list: List) -> Option<Cutters> {
         let List {
             patterns,
@@ -107,7 +107,7 @@ impl Cutters {
     }
 }
 
-// What stands behind the first bytes of the text.
+// What follows the first `length` bytes of the text.
 fn behind(text: &str, length: usize) -> &str {
     text.get(length..).unwrap_or("")
 }

@@ -1,4 +1,4 @@
-//! Keywords and operators that the lists of terminals are made of.
+//! The keywords and operators in the lists of terminals.
 
 /// A hundred keywords of several languages.
 pub(crate) const KEYWORDS: [&str; 100] = [

@@ -1,4 +1,4 @@
-//! Texts in which a lexer reads on and on behind a match, in vain, and ordinary ones: cut by `tokens` and by `tokens_linear`.
+//! Texts in which a lexer reads far past a match in vain, and ordinary texts: cut by `tokens` and by `tokens_linear`.
 
 use crate::lists::{List, list_named};
 use crate::texts::{c_text, long_text};
@@ -41,7 +41,7 @@ fn cases() -> [Case; 8] {
     ]
 }
 
-// What cutting a text gave.
+// The result of cutting a text.
 #[derive(Clone, Copy)]
 struct Found {
     tokens: u64,
@@ -139,7 +139,7 @@ fn tell_case<R: CpuClock + Print + AllocGlobal>(
     tell(rt, "tokens_linear", linear.0, linear.1)
 }
 
-/// Cuts each text in both ways, and writes what was found and the least time that it took.
+/// Cuts each text in both ways, and writes what was found and the least time it took.
 pub(crate) fn tell_linear<R: CpuClock + Print + AllocGlobal>(rt: &R) -> io::Result<()> {
     for case in &cases() {
         let Ok(Some(list)) = list_named(rt.alloc(), case.list) else {

@@ -1,4 +1,4 @@
-//! The lists of terminals that automata are built of.
+//! The lists of terminals that automata are built from.
 
 use crate::keywords::{C_KEYWORDS, C_OPERATORS, KEYWORDS, RUST_KEYWORDS, RUST_OPERATORS};
 use lalrpop_lexer::lexer::dfa::Precedence;
@@ -18,7 +18,7 @@ const STRONG: Precedence = Precedence(1);
 
 const WEAK: Precedence = Precedence(0);
 
-// As many words of five letters as there are.
+// The number of words of five letters.
 const FIVE_LETTERS: u64 = 26 * 26 * 26 * 26 * 26;
 
 impl List {
@@ -74,7 +74,7 @@ impl List {
     }
 }
 
-// The terminals of C that no word is.
+// The terminals of C that aren't fixed words.
 const C_PATTERNS: [&str; 7] = [
     "[A-Za-z_][A-Za-z0-9_]*",
     "[0-9]+[uUlL]*",
@@ -93,7 +93,7 @@ fn c_list(alloc: Global) -> Result<List, RegexError> {
     Ok(list)
 }
 
-// The terminals of Rust that no word is.
+// The terminals of Rust that aren't fixed words.
 const RUST_PATTERNS: [&str; 9] = [
     "[A-Za-z_][A-Za-z0-9_]*",
     "'[A-Za-z_][A-Za-z0-9_]*",
@@ -114,7 +114,7 @@ fn rust_list(alloc: Global) -> Result<List, RegexError> {
     Ok(list)
 }
 
-// The terminals of JSON that no word is.
+// The terminals of JSON that aren't fixed words.
 const JSON_PATTERNS: [&str; 3] = [
     "\"([^\"\\\\\\x00-\\x1f]|\\\\.)*\"",
     "-?(0|[1-9][0-9]*)(\\.[0-9]+)?([eE][-+]?[0-9]+)?",
@@ -128,7 +128,7 @@ fn json_list(alloc: Global) -> Result<List, RegexError> {
     Ok(list)
 }
 
-// Behind each `a` a longer match may come, up to the end of a text.
+// After each `a` a longer match may come, up to the end of the text.
 fn open_list(alloc: Global) -> Result<List, RegexError> {
     let mut list = List::new(alloc);
     list.word("a")?;
@@ -136,7 +136,7 @@ fn open_list(alloc: Global) -> Result<List, RegexError> {
     Ok(list)
 }
 
-// Ten terminals that clash with those of C: five keywords once more, and five patterns with words that others have.
+// Ten terminals that clash with those of C: five keywords repeated, and five patterns that share words with others.
 const PLANTED_WORDS: [&str; 5] = ["while", "return", "++", "<<=", "_Bool"];
 
 const PLANTED_PATTERNS: [&str; 5] = [
@@ -169,7 +169,7 @@ fn unicode_list(alloc: Global) -> Result<List, RegexError> {
     Ok(list)
 }
 
-// A list of so many words of five letters, and of a pattern behind them.
+// A list of `words` words of five letters, followed by a pattern, if any.
 struct Row {
     name: &'static str,
     words: u64,
@@ -242,7 +242,7 @@ fn list_of_rows(alloc: Global, name: &str) -> Result<Option<List>, RegexError> {
     Ok(None)
 }
 
-/// The list of this name.
+/// The list with this name.
 pub(crate) fn list_named(alloc: Global, name: &str) -> Result<Option<List>, RegexError> {
     match name {
         "c" | "long" => Ok(Some(c_list(alloc)?)),

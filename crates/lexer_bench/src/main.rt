@@ -58,7 +58,7 @@ fn tell_cut(rt: &impl Print, name: &str, cut: Cut) -> io::Result<()> {
 // How often a text is cut in each way to be timed: in turn, since the processor is now faster, now slower.
 const CUTS: u32 = 8;
 
-// What cutting the text in each way gives, and the least time that it takes.
+// What cutting the text in each way gives, and the least time it takes.
 fn tell_cuts<R: CpuClock + Print>(
     rt: &R,
     cutters: &Cutters,
@@ -168,7 +168,7 @@ fn shape_of(alloc: Global, dfa: &Dfa) -> Result<Shape, AllocError> {
     Ok(shape)
 }
 
-// Nothing, where the list has no automaton.
+// `None` if the list has no automaton.
 fn build(alloc: Global, list: &List) -> Option<Dfa> {
     if list.patterns.len() != list.precedences.len() {
         return None;
@@ -183,7 +183,7 @@ fn time_of_build<R: CpuClock + AllocGlobal>(rt: &R, list: &List) -> io::Result<D
     Ok(to.saturating_sub(from))
 }
 
-// How often a list's automaton is built to be timed: builds after the first find the memory that it had to ask the system for.
+// How often a list's automaton is built to be timed: builds after the first reuse the memory that it had to ask the system for.
 const BUILDS: u32 = 10;
 
 fn tell_builds<R: CpuClock + Print + AllocGlobal>(rt: &R, list: &List) -> io::Result<()> {
@@ -207,7 +207,7 @@ fn has_table(dense: &DenseDfa) -> bool {
     dense.longest_within("", 0, &mut Steps::new()).is_some()
 }
 
-// Whether a table of a copy of the automaton is made, and the time that making it takes.
+// Whether a table is made for a copy of the automaton, and the time that takes.
 fn table_of<R: CpuClock + AllocGlobal>(rt: &R, dfa: &Dfa) -> io::Result<(bool, Duration)> {
     let Ok(copy) = dfa.clone() else {
         return Ok((false, Duration::ZERO));
@@ -239,7 +239,7 @@ fn tell_table<R: CpuClock + Print + AllocGlobal>(
     tell_time(rt, "least table", least)
 }
 
-// The text that a list is to cut, where there is one.
+// The text that a list is to cut, if there is one.
 fn text_for(alloc: Global, name: &str) -> Result<Option<String>, AllocError> {
     match name {
         "c" => Ok(Some(c_text(alloc)?)),
@@ -251,7 +251,7 @@ fn text_for(alloc: Global, name: &str) -> Result<Option<String>, AllocError> {
     }
 }
 
-// What cutting the list's text gives, where there is one.
+// What cutting the list's text gives, if there is one.
 fn tell_text<R: CpuClock + Print + AllocGlobal>(
     rt: &R,
     name: &str,
@@ -268,7 +268,7 @@ fn tell_text<R: CpuClock + Print + AllocGlobal>(
     }
 }
 
-// How many pairs of the list's terminals clash, and of how many values the words of all are.
+// How many pairs of the list's terminals clash, and the total number of values in their words.
 fn clash_count(alloc: Global, list: &List) -> Option<(usize, usize)> {
     if list.patterns.len() != list.precedences.len() {
         return None;

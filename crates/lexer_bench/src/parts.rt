@@ -1,4 +1,4 @@
-//! The parts that automata are built with, each at growing sizes.
+//! The parts that automata are built with, each timed at growing sizes.
 
 use lalrpop_lexer::kernel_set::{Kernel, KernelSet};
 use lalrpop_lexer::lexer::dfa::overlap::remove_overlap;
@@ -27,7 +27,7 @@ fn scattered(place: u64) -> u64 {
     place.wrapping_mul(0x9E37_79B9_7F4A_7C15)
 }
 
-/// How many blocks the partition of so many ranges has, which overlap.
+/// How many blocks the partition of `count` overlapping ranges has.
 pub(crate) fn blocks_of(alloc: Global, count: u64) -> Result<usize, AllocError> {
     let mut ranges = BTreeSet::new(alloc);
     for place in 0..count {
@@ -37,7 +37,8 @@ pub(crate) fn blocks_of(alloc: Global, count: u64) -> Result<usize, AllocError> 
     Ok(remove_overlap(alloc, &ranges)?.len())
 }
 
-/// How many kernels are distinct of twice so many, each of which is added twice; all are taken out again.
+/// Adds `count` distinct kernels and as many that are already there, and takes all out again. Returns the index of the last
+/// distinct one.
 pub(crate) fn kernels_of(alloc: Global, count: u64) -> Result<usize, AllocError> {
     let mut kernels = KernelSet::new(alloc);
     let mut last = 0;
@@ -59,7 +60,7 @@ fn letters(alloc: Global, count: u64) -> Result<String, AllocError> {
     Ok(text)
 }
 
-// Calls with many clauses, made where there is little else to prove.
+// Calls with many clauses are made where there is little else to prove.
 fn tree_of(alloc: Global, pattern: &str) -> Option<Hir> {
     parse_regex(alloc, pattern).ok()
 }
@@ -75,7 +76,7 @@ fn matched(alloc: Global, nfa: &Nfa, text: &str) -> Result<usize, AllocError> {
     }
 }
 
-/// How many bytes of a text of so many letters the automaton of `(a*)*` matches, which has cycles that read nothing.
+/// How many bytes of a text of `count` letters the automaton of `(a*)*` matches, which has cycles that read nothing.
 pub(crate) fn cycled(alloc: Global, count: u64) -> Result<usize, AllocError> {
     let text = letters(alloc, count)?;
     let Some(tree) = tree_of(alloc, "(a*)*") else {

@@ -1,9 +1,9 @@
-//! Patterns that the reader of patterns is timed with: long ones that are read once, and short ones that are read often.
+//! Patterns that parsing is timed with: long ones that are parsed once, and short ones that are parsed often.
 
 use lalrpop_lexer::lexer::re::{Hir, HirKind, RegexError, parse_regex};
 use std::alloc::{AllocError, Global};
 
-/// A pattern, which is a word repeated, and how often it is read.
+/// A pattern, which is a word repeated, and how often it is parsed.
 pub(crate) struct Row {
     pub(crate) name: &'static str,
     word: &'static str,
@@ -66,7 +66,7 @@ fn size(tree: &Hir) -> usize {
     }
 }
 
-/// The size of the tree that the last reading gives: how many parts or branches it has.
+/// The size of the tree from the last parse: how many parts or branches it has.
 pub(crate) fn read(alloc: Global, row: &Row) -> Result<usize, RegexError> {
     let pattern = pattern(alloc, row)?;
     let mut found = 0;

@@ -3,7 +3,7 @@
 use crate::keywords::{C_KEYWORDS, C_OPERATORS, KEYWORDS, RUST_KEYWORDS, RUST_OPERATORS};
 use std::alloc::{AllocError, Global};
 
-// How long a text is, in bytes, or a little longer.
+// The length of a text in bytes; it may be a little longer.
 const LENGTH: usize = 5_000_000;
 
 const NAMES: [&str; 40] = [

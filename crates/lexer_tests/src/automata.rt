@@ -7,8 +7,9 @@ use lalrpop_lexer::lexer::re::Hir;
 use std::alloc::{AllocError, Global};
 use std::fmt::Write;
 
-// Lists of patterns, and below each what its states are for and where all that has no edge of its own leads, and then all edges:
-// no other state has one. States are numbered by the least words that lead to them, the shorter before the longer.
+// Lists of patterns, and below each what its states are for and where they lead by all values without an edge of their own,
+// and then all edges: no other state has one. States are numbered by the least words that lead to them, the shorter before the
+// longer.
 const AUTOMATA: &str = r#"
 ""
 Reject Dfa0
@@ -109,7 +110,7 @@ fn a_choice_of_nothing_rejects_all(rt: HostRuntime) {
     assert!(rt; nothing_rejects_all(rt.alloc()) == Ok(true));
 }
 
-// `a`, and behind it a choice of nothing.
+// `a`, followed by a choice of nothing.
 fn a_then_nothing(alloc: Global) -> Result<Hir, AllocError> {
     let parts = vec![in alloc;
         Hir::literal(alloc, "a")?,

@@ -1,4 +1,4 @@
-//! Texts that are cut in the way whose cost has a bound: which way that is, and its tokens.
+//! Texts that are cut in the way that has a bounded cost: which way that is, and its tokens.
 
 use crate::built::{expect, halves};
 use crate::lookaheads::lexer_of;

@@ -1,4 +1,4 @@
-//! Automata of patterns that stand in one text, and what is expected of them.
+//! Automata of patterns that are given in one text, and what is expected of them.
 
 use lalrpop_lexer::lexer::dfa::{DenseDfa, Dfa, DfaConstructionError, Precedence, build_dfa};
 use lalrpop_lexer::lexer::nfa::{Nfa, NfaConstructionError, Steps};
@@ -17,12 +17,12 @@ pub(crate) fn has_table(dense: &DenseDfa) -> bool {
     dense.longest_within("", 0, &mut Steps::new()).is_some()
 }
 
-/// The two parts of a row. Where it has no second part that is empty, and no call has such an answer.
+/// The two parts of a row. A row without a second part gets an empty one, and no call has that answer.
 pub(crate) fn halves<'a>(row: &'a str, between: &str) -> (&'a str, &'a str) {
     row.split_once(between).unwrap_or((row, ""))
 }
 
-// A word in apostrophes is meant as it stands, and any other is a pattern.
+// A word in apostrophes is read as it is, and any other is a pattern.
 fn read(alloc: Global, word: &str) -> Result<Hir, RegexError> {
     if word.starts_with('\'') {
         parse_literal(alloc, word.trim_matches('\''))
@@ -31,7 +31,7 @@ fn read(alloc: Global, word: &str) -> Result<Hir, RegexError> {
     }
 }
 
-/// The tree of a word. Here and below any error is told as out of memory, which ends a test.
+/// The tree of a word. Here and below any error is reported as out of memory, which ends a test.
 pub(crate) fn tree_of(alloc: Global, word: &str) -> Result<Hir, AllocError> {
     match read(alloc, word) {
         Ok(tree) => Ok(tree),
@@ -45,7 +45,7 @@ fn add_tree(alloc: Global, trees: &mut Vec<Hir>, word: &str) -> Result<(), Alloc
     Ok(())
 }
 
-/// The trees of words that spaces part.
+/// The trees of words, which are separated by spaces.
 pub(crate) fn trees_of(alloc: Global, words: &str) -> Result<Vec<Hir>, AllocError> {
     let mut trees = Vec::new(alloc);
     for word in words.split_whitespace() {
@@ -81,7 +81,7 @@ fn of_one_strength(
     Ok(build(alloc, trees, &precedences))
 }
 
-/// The automaton of the patterns, which spaces part, or why there is none. All are of one strength.
+/// The automaton of the patterns, which are separated by spaces, or why there is none. All have the same precedence.
 pub(crate) fn made(
     alloc: Global,
     words: &str,
@@ -90,12 +90,12 @@ pub(crate) fn made(
     of_one_strength(alloc, &trees)
 }
 
-/// The automaton of the patterns, which spaces part. All are of one strength.
+/// The automaton of the patterns, which are separated by spaces. All have the same precedence.
 pub(crate) fn built(alloc: Global, words: &str) -> Result<Dfa, AllocError> {
     given(made(alloc, words)?)
 }
 
-/// The automaton of the patterns, which spaces part, with these precedences, or why there is none.
+/// The automaton of the patterns, which are separated by spaces, with these precedences, or why there is none.
 pub(crate) fn made_with(
     alloc: Global,
     words: &str,
@@ -105,7 +105,7 @@ pub(crate) fn made_with(
     Ok(build(alloc, &trees, precedences))
 }
 
-/// The automaton of the patterns, which spaces part, with these precedences.
+/// The automaton of the patterns, which are separated by spaces, with these precedences.
 pub(crate) fn built_with(
     alloc: Global,
     words: &str,

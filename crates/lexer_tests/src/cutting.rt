@@ -5,7 +5,7 @@ use lalrpop_lexer::lexer::dfa::{Dfa, Precedence};
 use lalrpop_lexer::tokens;
 use std::alloc::{AllocError, Global};
 
-// What the calls of `next` give, the first two `None` too.
+// What the calls of `next` return, including the first two `None`.
 fn given_by(alloc: Global, dfa: &Dfa, text: &str) -> Result<String, AllocError> {
     let mut given = String::new(alloc);
     let mut items = tokens(dfa, text);

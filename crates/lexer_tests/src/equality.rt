@@ -1,4 +1,4 @@
-//! When automata and their states are equal, and that copies run.
+//! When automata and their states are equal, and that copies of them run.
 
 use crate::built::built;
 use crate::runs::finds;

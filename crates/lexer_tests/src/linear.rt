@@ -5,7 +5,7 @@ use crate::lookaheads::lexer_of;
 use lalrpop_lexer::{LexerTokens, LinearTokens};
 use std::alloc::{AllocError, Global};
 
-// Whether both give the same, one for one.
+// Whether both return the same items.
 fn are_same(mut plain: LexerTokens, linear: LinearTokens) -> bool {
     for item in linear {
         if plain.next() != Some(item) {
@@ -15,7 +15,7 @@ fn are_same(mut plain: LexerTokens, linear: LinearTokens) -> bool {
     plain.next().is_none()
 }
 
-// How many tokens of each pattern there are, from the left as far as they go, and where the fault is, if there is one.
+// How many tokens of each pattern there are before the fault, and where the fault is, if there is one.
 fn told(alloc: Global, items: LinearTokens) -> Result<String, AllocError> {
     let mut counts = vec![in alloc; 0usize; 4]?;
     let mut end = String::new(alloc);
@@ -42,7 +42,7 @@ fn repeated(alloc: Global, part: &str, count: usize, end: &str) -> Result<String
     Ok(text)
 }
 
-// Of the patterns, and of so many parts and an end.
+// For the patterns, and a text of `count` parts and an end.
 fn of(
     alloc: Global,
     words: &str,
@@ -69,7 +69,7 @@ fn tokens_in_linear_time(rt: HostRuntime) {
         "[300, 0, 0, 0] no pattern matches at byte 300",
     );
     expect(&rt, of(alloc, "'a' a*b", "", 0, ""), "[0, 0, 0, 0] ");
-    // Much is read in vain at first, and nothing behind that.
+    // Much is read in vain at first, and nothing after that.
     expect(
         &rt,
         of(alloc, "'a' a*b c", "a", 300, "ccccc"),

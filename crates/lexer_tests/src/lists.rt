@@ -1,4 +1,4 @@
-//! Lists of terminals as people have them, and that a lexer of each has its table: no clause says which automata have one.
+//! Realistic lists of terminals, and that a lexer of each has its table: no clause says which automata have one.
 
 use crate::built::has_table;
 use lalrpop_lexer::lexer::dfa::{DenseDfa, Dfa, Precedence, build_dfa};
@@ -282,7 +282,7 @@ fn automaton_of(alloc: Global, regexs: &[Regex], precedences: &[Precedence]) -> 
     build_dfa(alloc, regexs, precedences).ok()
 }
 
-// The automaton of the terminals, one a line, where there is one.
+// The automaton of the terminals, one a line, if there is one.
 fn automaton_by(alloc: Global, lines: &str) -> Result<Option<Dfa>, AllocError> {
     match read_terminals(alloc, lines.as_bytes())? {
         Terminals::All {

@@ -94,7 +94,7 @@ fn patterns_that_stay_open(rt: HostRuntime) {
     expect(&rt, open_of(rt.alloc(), ""), "[]");
 }
 
-// What the counting calls of `next` give, the first two `None` too.
+// What the counting calls of `next` return, including the first two `None`.
 fn counted(alloc: Global, words: &str, text: &str) -> Result<String, AllocError> {
     let lexer = lexer_of(alloc, words)?;
     let mut given = String::new(alloc);

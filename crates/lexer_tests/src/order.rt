@@ -19,7 +19,7 @@ fn order(a: NfaStateIndex, b: NfaStateIndex) -> Ordering
     a.cmp(&b)
 }
 
-// States are equal where their numbers are.
+// States are equal if their numbers are.
 fn equal(a: NfaStateIndex, b: NfaStateIndex) -> bool
     ensures { IsTrue result ↔ (a ≡ b) }
 {
@@ -141,7 +141,7 @@ fn comes_after_start(state: DfaStateIndex) -> bool {
         && !equal_states(state, start)
 }
 
-// Whether each state leads to START, or each to a state after it, by what has no edge of its own.
+// Whether each state leads to START, or each to a state after it, by the values without an edge of their own.
 fn lead_to(dfa: &Dfa, is_start: bool) -> bool {
     for state in dfa.states() {
         let target = state.other_edge();

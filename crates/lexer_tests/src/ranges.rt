@@ -1,4 +1,4 @@
-//! What ranges answer and print, how they are ordered.
+//! Ranges: what they answer, how they are printed, and how they are ordered.
 ghost use Rattle.std.specs.Prelude.{◌≡◌, ◌↔◌, IsTrue};
 ghost use Rattle.std.specs.Ordering.{nat_cmp, ordering_then};
 

@@ -6,7 +6,7 @@ use lalrpop_lexer::lexer::dfa::{Dfa, DfaStateIndex, Kind, Precedence, START};
 use lalrpop_lexer::lexer::nfa::{self, Nfa, Steps};
 use std::alloc::{AllocError, Global};
 
-/// Whether the whole text is found as the pattern of this place.
+/// Whether the whole text is found as the pattern with this index.
 pub(crate) fn finds(dfa: &Dfa, text: &str, place: usize) -> bool {
     match interpret(dfa, text) {
         Some((index, matched)) => index.index() == place && matched == text,
@@ -71,7 +71,7 @@ fn kinds_from(
     Ok((kinds, state))
 }
 
-// The same of a text that comes in parts, with spaces between them.
+// The same for a text that comes in parts, with spaces between them.
 fn kinds_of_parts(alloc: Global, parts: &str) -> Result<String, AllocError> {
     let dfa = built_with(
         alloc,
@@ -88,7 +88,7 @@ fn kinds_of_parts(alloc: Global, parts: &str) -> Result<String, AllocError> {
     Ok(kinds)
 }
 
-// A number is the pattern that is matched, `-` stands for none yet, and `x` for none any more.
+// A number is the pattern that is matched, `-` means none yet, and `x` means none any more.
 const IN_PARTS: &str = "
 cla ss => 11110
 class é => 111101

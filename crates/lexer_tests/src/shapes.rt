@@ -89,7 +89,7 @@ Nfa4 -a-> Nfa3
 Nfa4 -Other-> Nfa1
 ";
 
-// Writes the edge, and notes the state to which it leads.
+// Writes the edge, and notes the state it leads to.
 fn write_edge<L: Debug>(
     out: &mut String,
     reached: &mut Vec<NfaStateIndex>,

@@ -6,7 +6,7 @@ use lalrpop_lexer::{Lexer, TokenList};
 use std::alloc::{AllocError, Global};
 use std::process::Abort;
 
-// The matches of the text, each at the front of what those before it leave, and what is left.
+// The matches of the text, each at the front of what is left after the one before, and what is left at the end.
 fn cut_by(alloc: Global, dense: &DenseDfa, text: &str) -> Result<String, AllocError> {
     let mut found = String::new(alloc);
     let mut rest = text;
@@ -28,7 +28,7 @@ fn with_table(rt: &impl Abort, alloc: Global, dfa: Dfa) -> DenseDfa {
     dense
 }
 
-// Each row's text is cut so by the table of the automaton.
+// The table of the automaton cuts the text of each row as the row says.
 fn expect_rows(rt: &impl Abort, alloc: Global, dfa: Dfa, table: &str) {
     let dense = with_table(rt, alloc, dfa);
     for row in table.trim_matches('\n').lines() {
@@ -75,7 +75,7 @@ fn scripts_by_a_table(rt: HostRuntime) {
     expect_rows(&rt, rt.alloc(), dfa, SCRIPTS_CUT);
 }
 
-// Its automaton has 16,385 states and more, so that 16 bits don't tell the cells of its table apart.
+// Its automaton has at least 16,385 states, so 16 bits can't number the cells of its table.
 const WINDOW: &str = "(?:a|b)*a(?:a|b){13}";
 
 const WINDOW_CUT: &str = "
@@ -90,7 +90,7 @@ fn a_table_of_wide_cells(rt: HostRuntime) {
     expect_rows(&rt, rt.alloc(), dfa, WINDOW_CUT);
 }
 
-// Nothing matches, and the empty match is no match.
+// Nothing matches, and the empty match doesn't count.
 #[test]
 fn nothing_by_a_table(rt: HostRuntime) {
     let empty = built(rt.alloc(), "").expect(&rt, "an automaton");
@@ -99,7 +99,7 @@ fn nothing_by_a_table(rt: HostRuntime) {
     expect_rows(&rt, rt.alloc(), any, "b => b");
 }
 
-// The tokens, and what stands behind them.
+// The tokens, and what is left after them.
 fn told(alloc: Global, list: &TokenList, text: &str) -> Result<String, AllocError> {
     let mut found = String::new(alloc);
     for token in &list.tokens {
@@ -130,7 +130,7 @@ fn lexer_of(rt: &impl Abort, alloc: Global, words: &str) -> Lexer {
     Lexer::new(alloc, trees, precedences).expect(rt, "a lexer")
 }
 
-// Each row's text is cut so into a list.
+// The text of each row is cut into a list as the row says.
 fn expect_lists(rt: &impl Abort, alloc: Global, lexer: &Lexer, table: &str) {
     for row in table.trim_matches('\n').lines() {
         let (text, wanted) = halves(row, " => ");
@@ -151,8 +151,8 @@ fn scripts_in_a_list(rt: HostRuntime) {
     expect_lists(&rt, rt.alloc(), &lexer, SCRIPTS_CUT);
 }
 
-// Seven hundred times the six bytes of a keyword and a space, a name of 5,000 letters, which no block holds, and a character that
-// no pattern begins with.
+// A keyword and a space, six bytes, seven hundred times; a name of 5,000 letters, which doesn't fit a block; and a character
+// that no pattern begins with.
 fn long_text(alloc: Global) -> Result<String, AllocError> {
     let mut text = String::new(alloc);
     for _ in 0..700u32 {

@@ -1,4 +1,4 @@
-//! What makes a lexer look ahead: a match, and characters behind it that leave it open, by their code values.
+//! What makes a lexer look ahead: a match, and characters after it that leave it open, by their code values.
 
 use crate::built::{built, expect, halves};
 use crate::lookaheads::lexer_of;
@@ -34,7 +34,7 @@ fn shown(alloc: Global, found: &Option<Witness>) -> Result<String, AllocError> {
     }
 }
 
-// The patterns and the number of characters behind them, with a blank between.
+// The row is the patterns and, after a blank, the number of characters.
 fn of_lexer(alloc: Global, row: &str) -> Result<String, AllocError> {
     let (words, count) = row.rsplit_once(' ').unwrap_or((row, ""));
     let lexer = lexer_of(alloc, words)?;

@@ -37,7 +37,7 @@ pub(crate) fn compiled(alloc: Global, pattern: &str) -> Result<String, AllocErro
     compiled_or_fault(alloc, &tree)
 }
 
-// Any fault is told as out of memory.
+// Any fault is reported as out of memory.
 fn nfa_of(alloc: Global, tree: &Hir) -> Result<Nfa, AllocError> {
     match compile(alloc, tree) {
         Ok(nfa) => Ok(nfa),
@@ -109,7 +109,7 @@ fn cut_and_shown(alloc: Global, set: &BTreeSet<Test>, counts: bool) -> Result<St
     shown(alloc, &parts)
 }
 
-// The parts that the ranges are cut into.
+// The blocks of the partition of the ranges.
 pub(crate) fn parts(alloc: Global, ranges: &str, counts: bool) -> Result<String, AllocError> {
     let set = set_of(alloc, ranges)?;
     cut_and_shown(alloc, &set, counts)
@@ -177,7 +177,7 @@ fn tokens_of(alloc: Global, dfa: &Dfa, texts: &str) -> Result<String, AllocError
     Ok(line)
 }
 
-// The refusal for memory is one alone: that it came while a tree was compiled would be told as a fault.
+// There is only one refusal for memory: a refusal while a tree is compiled must not come as a fault of that tree.
 pub(crate) fn told(alloc: Global, error: DfaConstructionError) -> Result<String, AllocError> {
     match error {
         DfaConstructionError::NfaConstructionError { index, error } => {
@@ -232,7 +232,7 @@ fn great_count_is_refused(alloc: Global) -> Result<bool, AllocError> {
     Ok(compiled_or_fault(alloc, &tree).is_err())
 }
 
-// No memory holds the states of so many turns. `.ci/refusals` bounds the memory, and sets this variable; without it the
+// No memory holds the states of that many turns. `.ci/refusals` bounds the memory, and sets this variable; without it the
 // test has nothing to show.
 #[test]
 fn a_great_count_is_refused(rt: HostRuntime) {
@@ -298,7 +298,7 @@ fn many_trees_are_refused(rt: HostRuntime) {
     expect(&rt, rt.alloc(), Call::Build, table, 1);
 }
 
-// Any error is told as out of memory.
+// Any error is reported as out of memory.
 pub(crate) fn dfa_for(alloc: Global, rows: &str) -> Result<Dfa, AllocError> {
     match build_rows(alloc, rows)? {
         Ok(dfa) => Ok(dfa),
@@ -455,7 +455,7 @@ pub(crate) fn listed_linear(alloc: Global, row: &str) -> Result<String, AllocErr
     linear_by(alloc, &lexer, text)
 }
 
-// The same, in the way whose cost has a bound.
+// The same, cut in the way that has a bounded cost.
 pub(crate) fn listed_bounded(alloc: Global, row: &str) -> Result<String, AllocError> {
     let (rows, text) = halves(row, " <- ");
     let lexer = lexer_for(alloc, rows)?;

@@ -1,10 +1,10 @@
-//! Tables of rows `argument => answer`, and calls that are made again where they were refused memory.
+//! Tables of rows `argument => answer`, and calls that are made again if they were refused memory.
 
 use crate::{automata, clashes, rules, trees};
 use std::alloc::{AllocError, Global};
 use std::process::Abort;
 
-// What a call gives, made again where memory was refused: one request is refused in a run.
+// What a call returns, made again if memory was refused: only one request is refused in a run.
 macro_rules! at_last {
     ($rt:expr; $call:expr) => {
         match $call {
@@ -79,8 +79,8 @@ fn answer(alloc: Global, call: Call, argument: &str) -> Result<String, AllocErro
     }
 }
 
-// The two parts of a row or of an argument. Of a text that has no second part that part is empty, and its answer is not the
-// wanted one.
+// The two parts of a row or of an argument. A text without a second part gets an empty one, and its answer is not the wanted
+// one.
 pub(crate) fn halves<'a>(row: &'a str, between: &str) -> (&'a str, &'a str) {
     row.split_once(between).unwrap_or((row, ""))
 }
@@ -89,7 +89,7 @@ pub(crate) fn number(digits: &str) -> u32 {
     digits.parse().unwrap_or(0)
 }
 
-// Adds to the line, behind what stands between two parts.
+// Appends a part to the line, after what separates two parts.
 pub(crate) fn add(line: &mut String, between: &str, part: &str) -> Result<(), AllocError> {
     if !line.is_empty() {
         line.push_str(between)?;
@@ -97,7 +97,7 @@ pub(crate) fn add(line: &mut String, between: &str, part: &str) -> Result<(), Al
     line.push_str(part)
 }
 
-// The call answers so, or is refused memory and answers so when it is made again.
+// The call has this answer, or is refused memory and has it when it is made again.
 pub(crate) fn expect_answer(
     rt: &impl Abort,
     alloc: Global,
@@ -109,7 +109,7 @@ pub(crate) fn expect_answer(
     assert!(rt; found.as_str() == wanted, "{argument}: {found}");
 }
 
-// Each row of the table, and there are so many.
+// Each row of the table holds, and there are `rows` of them.
 pub(crate) fn expect(rt: &impl Abort, alloc: Global, call: Call, table: &str, rows: usize) {
     assert!(rt; table.lines().count() == rows);
     for row in table.lines() {

@@ -103,7 +103,7 @@ fn goes_so<K: OfNumber>(
     }
 }
 
-// Each step is made again where it was refused memory.
+// Each step is made again if it was refused memory.
 fn goes_on<K: OfNumber>(rt: &impl Abort, alloc: Global)
     requires { ClonesEqual K.cmp K.is_clone }
 {

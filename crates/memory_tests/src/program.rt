@@ -1,4 +1,4 @@
-//! The whole runs, from bytes to one line, and to the lines of a whole text.
+//! Whole runs, from bytes to one line, or to the lines of a whole text.
 ghost use Rattle.std.specs.Prelude.{◌≡◌, false};
 
 use crate::calls::{at_last, halves};
@@ -7,10 +7,10 @@ use std::alloc::{AllocError, Global};
 use std::io;
 use std::io::{Read, Write};
 
-// The status of a run that was refused memory, and of no other.
+// The status of a run that was refused memory, and only of such a run.
 const OUT_OF_MEMORY: u8 = 5;
 
-// A line that is wanted: what of it is left, and whether other bytes came. It takes no memory.
+// A line that is expected: what is left of it, and whether other bytes came. It takes no memory.
 #[derive(Drop)]
 struct Wanted<'a> {
     left: &'a [u8],
@@ -77,7 +77,7 @@ fn run_once(alloc: Global, all: bool, input: &[u8], text: &str, line: &[u8]) -> 
     }
 }
 
-// The lines and the status, or out of memory and they when the run is made again.
+// Whether a run has these lines and this status, or is out of memory and has them when it is made again.
 fn runs_so(alloc: Global, all: bool, input: &[u8], text: &str, line: &[u8], status: u8) -> bool {
     let first = run_once(alloc, all, input, text, line);
     let last = if first == Some(OUT_OF_MEMORY) {
@@ -88,7 +88,7 @@ fn runs_so(alloc: Global, all: bool, input: &[u8], text: &str, line: &[u8], stat
     last == Some(status)
 }
 
-// The byte of the character's number, and of `;` a line feed.
+// The byte with the character's number, or a line feed for `;`.
 fn byte_of(c: char) -> u8 {
     match u8::try_from(u32::from(c)) {
         Ok(b';') => b'\n',

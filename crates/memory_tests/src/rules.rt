@@ -1,4 +1,4 @@
-//! Lexers of texts and of named rules, and texts as pages and in colours.
+//! Lexers of texts and of named rules, and texts as HTML and in colours.
 
 use crate::calls::{Call, add, expect, halves, number};
 use lalrpop_lexer::lexer::dfa::Precedence;
@@ -100,7 +100,7 @@ fn names_in_linear_time(
     Ok(line)
 }
 
-// The names of all pieces of the text in `RULES <- TEXT`, `-` for what is skipped and the slice of a fault.
+// The names of all pieces of the text in `RULES <- TEXT`: `-` for a skipped piece, and for a fault its slice.
 pub(crate) fn named_in_linear_time(alloc: Global, row: &str) -> Result<String, AllocError> {
     let (rows, text) = halves(row, " <- ");
     match rule_lexer_of(alloc, rows)? {
@@ -118,7 +118,7 @@ pub(crate) fn named(alloc: Global, row: &str) -> Result<String, AllocError> {
     }
 }
 
-// The text in `RULES <- TEXT` as a page.
+// The text in `RULES <- TEXT` as HTML.
 pub(crate) fn page(alloc: Global, row: &str) -> Result<String, AllocError> {
     let (rows, text) = halves(row, " <- ");
     match rule_lexer_of(alloc, rows)? {

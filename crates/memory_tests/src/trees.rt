@@ -52,7 +52,7 @@ pub(crate) fn literal(alloc: Global, text: &str) -> Result<String, AllocError> {
     shown(alloc, &tree)
 }
 
-// The refusal for memory, or else that the text is no pattern.
+// The refusal for memory, or otherwise that the text isn't a pattern.
 fn told(alloc: Global, error: RegexError) -> Result<String, AllocError> {
     match error {
         RegexError::OutOfMemory => Err(AllocError),
@@ -75,7 +75,7 @@ pub(crate) fn pattern(alloc: Global, pattern: &str) -> Result<String, AllocError
     shown_or_told(alloc, parse_regex(alloc, pattern))
 }
 
-// The tree of the pattern. Any error is told as out of memory.
+// The tree of the pattern. Any error is reported as out of memory.
 pub(crate) fn tree_of(alloc: Global, pattern: &str) -> Result<Hir, AllocError> {
     match parse_regex(alloc, pattern) {
         Ok(tree) => Ok(tree),
@@ -83,7 +83,7 @@ pub(crate) fn tree_of(alloc: Global, pattern: &str) -> Result<Hir, AllocError> {
     }
 }
 
-// As many groups, each in the one before.
+// `levels` groups, each inside the one before.
 fn nested(alloc: Global, levels: u32) -> Result<String, AllocError> {
     let mut pattern = String::new(alloc);
     for bracket in ['(', ')'] {
@@ -134,7 +134,7 @@ fn copy_debugged(alloc: Global, tree: &Hir) -> Result<String, AllocError> {
     debugged(alloc, &copy)
 }
 
-// Where memory was refused, the same tree is copied again.
+// If memory was refused, the same tree is copied again.
 fn copy_debugged_at_last(alloc: Global, tree: &Hir) -> Result<String, AllocError> {
     match copy_debugged(alloc, tree) {
         Ok(copy) => Ok(copy),
@@ -142,7 +142,7 @@ fn copy_debugged_at_last(alloc: Global, tree: &Hir) -> Result<String, AllocError
     }
 }
 
-// Whether a copy of the tree shows what the tree shows, before and after, also where a copy was refused first.
+// Whether a copy of the tree prints like the tree, before and after, even if a copy was refused first.
 fn copies(alloc: Global, tree: &Hir) -> Result<bool, AllocError> {
     let before = debugged(alloc, tree)?;
     let copy = copy_debugged_at_last(alloc, tree)?;

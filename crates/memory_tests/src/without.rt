@@ -1,4 +1,4 @@
-//! Calls that take no memory. `.ci/refusals` refuses every request that is made after `from_here_on`: they have their answers.
+//! Calls that take no memory. `.ci/refusals` refuses every request that is made after `from_here_on`, and they still answer.
 
 use crate::automata::{dfa_for, nfa_for};
 use crate::calls::at_last;
@@ -17,7 +17,7 @@ use lalrpop_lexer::lexer::nfa::{
 use lexdfa_lib::{Outcome, RunError, Watched, Word, arguments};
 use std::alloc::{AllocError, Global};
 
-// A request of this size, whatever becomes of it, is the sign to refuse all that follow.
+// A request of this size, granted or not, is the sign to refuse all that follow.
 fn from_here_on(alloc: Global) {
     let _sign: Result<Vec<u8>, AllocError> = Vec::with_capacity(alloc, 54_321);
 }

@@ -1,4 +1,4 @@
-//! The line and the status that lines of terminals and a text are answered by.
+//! The line and the status for lines of terminals and a text.
 
 use crate::shared::{answered, expect_same};
 use std::alloc::{AllocError, Global};

@@ -1,4 +1,4 @@
-//! Trees of many levels, which no pattern from text has: the calls that go down a tree go down a thousand levels.
+//! Trees of a thousand levels, more than any pattern from text has, for the calls that descend a tree.
 
 use lalrpop_hir::{Capture, Hir, Repetition};
 use lalrpop_lexer::lexer::dfa::interpret::interpret;
@@ -41,7 +41,7 @@ fn one_more(alloc: Global, level: Level, tree: Hir) -> Result<Hir, AllocError> {
     }
 }
 
-// The literal `a`, with so many levels above it.
+// The literal `a`, nested in many levels.
 fn nested(alloc: Global, level: Level) -> Result<Hir, AllocError> {
     let mut tree = Hir::literal(alloc, "a")?;
     for _ in 0..LEVELS {
@@ -99,7 +99,7 @@ fn length_found(dfa: &Dfa, text: &str) -> usize {
     }
 }
 
-// Whether the automaton of the tree's clone finds so many bytes of `aab`.
+// Whether the automaton of the tree's clone matches `bytes` bytes of `aab`.
 fn finds(alloc: Global, level: Level, bytes: usize) -> bool {
     match automaton_of_clone(alloc, level) {
         Ok(dfa) => length_found(&dfa, "aab") == bytes,

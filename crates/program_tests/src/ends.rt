@@ -7,7 +7,7 @@ use std::io;
 use std::io::{Read, Write};
 use std::process::Abort;
 
-// A run for the longest match, or over all of the text, and what it writes where no end fails.
+// A run for the longest match, or over all of the text, and what it writes if neither the reader nor the writer fails.
 #[derive(Clone, Copy)]
 struct Job {
     all: bool,
@@ -31,7 +31,7 @@ const JOBS: [Job; 2] = [
     },
 ];
 
-// Errors that others try again, and one that nobody does.
+// Errors after which others try again, and one after which nobody does.
 pub(crate) const KINDS: [io::ErrorKind; 3] = [
     io::ErrorKind::Interrupted,
     io::ErrorKind::WouldBlock,
@@ -116,7 +116,7 @@ impl Write for FailsAfter {
     }
 }
 
-// What a run gave, and its writer behind it.
+// The result of a run, and its writer afterwards.
 fn run_into(
     alloc: Global,
     job: &Job,

@@ -1,5 +1,5 @@
-//! A text that is read from a file, and the lines of its tokens and of clashes: what they are, and what is read and written at ends
-//! that fail.
+//! A text that is read from a file, and the lines of its tokens and of clashes: what they are, and what is read and written
+//! when a reader or a writer fails.
 ghost use Rattle.std.specs.Prelude.{◌≡◌, false};
 
 use crate::ends::{FailsAfter, FailsAtEnd, KINDS};
@@ -19,7 +19,7 @@ fn is_text(alloc: Global, bytes: &[u8], wanted: &str) -> bool {
     }
 }
 
-// The first byte at which no character begins; of a file without a byte, none.
+// The first byte at which no character begins; `None` for an empty file.
 fn fault_of(alloc: Global, bytes: &[u8]) -> Option<usize> {
     match read_text(alloc, &mut Watched::new(bytes)) {
         Err(TextError::NotText { at }) => Some(at),
@@ -167,7 +167,7 @@ fn a_failed_write_leaves_a_prefix_of_the_lines(rt: HostRuntime) {
     }
 }
 
-// The lines of all clashes, and the status of what is reported, 0 where nothing is.
+// The lines of all clashes, and the status of what is reported, or 0 if nothing is.
 fn clash_answer(alloc: Global, rules: &[u8]) -> Option<(Vec<u8>, u8)> {
     let mut writer = Watched::new(Vec::new(alloc));
     let status = match write_clashes(alloc, rules, &mut writer) {

@@ -5,7 +5,7 @@ use std::alloc::Global;
 use std::process::Abort;
 use std::test::Fail;
 
-// What `0 l a` and a line feed are answered where this byte stands at this place, for the text `a`.
+// The answer to `0 l a` and a line feed with this byte at this place, for the text `a`.
 fn wanted(place: usize, byte: u8) -> &'static [u8] {
     let is_terminal = match place {
         0 => byte.is_ascii_digit(),
@@ -69,11 +69,11 @@ impl Numbers {
     }
 }
 
-// Characters with a meaning in lines and patterns, parts of characters, and bytes of no text.
+// Characters with a meaning in lines and patterns, parts of characters, and bytes that no text contains.
 const BYTES: &[u8] =
     b"ab012 lrpPxbdDwWsizUkn\n\n\r\0()[]{}<>*+?|.^$\\-&~,:=!#_'\xc3\xa9\xe2\x84\xaa\xf0\x9f\x98\x80\xed\xa0\x80\xc0\xff\xfe";
 
-// Some bytes, each drawn from `BYTES`, behind some that begin a line of a terminal.
+// Bytes drawn from `BYTES`, after some that begin a line of a terminal.
 fn drawn(alloc: Global, numbers: &mut Numbers) -> Result<Vec<u8>, Fail> {
     let starts: [&[u8]; 4] = [b"", b"0 r ", b"0 l a\n1 r ", b"0 r [a-c]\n0 r "];
     let mut input = Vec::new(alloc);
@@ -105,7 +105,7 @@ fn status_of(line: &[u8]) -> Option<u8> {
     None
 }
 
-// The status of a run, where it is that of the line.
+// The status of a run, if it is the status that goes with its line.
 fn known_status(rt: &impl Abort, alloc: Global, input: &[u8]) -> Result<u8, Fail> {
     let (status, line) = answered(rt, alloc, input, "ab0 \u{e9}")?;
     assert!(rt; status_of(&line) == Some(status), "{input:?}");

@@ -1,5 +1,5 @@
-//! The lines of the pieces of texts that named rules cut, and of clashes of rules: what they are, and what is written at ends that
-//! fail.
+//! The lines of the pieces of texts that named rules cut, and of clashes of rules: what they are, and what is written when a
+//! writer fails.
 ghost use Rattle.std.specs.Prelude.{◌≡◌, false};
 
 use crate::ends::FailsAfter;
@@ -21,7 +21,7 @@ fn lexer_of_rules(rt: &impl Abort, alloc: Global) -> RuleLexer {
     RuleLexer::from_rules(alloc, &rules).expect(rt, "a lexer")
 }
 
-// A text, what is written of it, and where its first fault begins.
+// A text, what is written for it, and where its first fault begins.
 #[derive(Clone, Copy)]
 struct Job {
     layout: Layout<'static>,
@@ -147,7 +147,7 @@ fn a_failed_write_leaves_a_prefix_of_the_pieces(rt: HostRuntime) {
     }
 }
 
-// Lines that are more than one write takes, by a writer that takes one byte a call.
+// More lines than one write takes, with a writer that takes one byte a call.
 #[test]
 fn many_pieces_are_written(rt: HostRuntime) {
     let lexer = lexer_of_rules(&rt, rt.alloc());

@@ -27,7 +27,7 @@ fn reported(alloc: Global, error: DfaConstructionError) -> Result<String, AllocE
     }
 }
 
-// What the trees find in the text, on one line: the place of the tree and the match.
+// What the trees find in the text, on one line: the index of the tree and the match.
 fn found(
     rt: &impl Abort,
     alloc: Global,
@@ -204,7 +204,7 @@ fn literals(rt: HostRuntime) {
     );
 }
 
-// A set of bytes, which no pattern from text is.
+// A set of bytes, which no pattern from text can be.
 fn high_bytes(alloc: Global) -> Result<Hir, AllocError> {
     let ranges = vec![in alloc; ClassBytesRange::new(200, 255)]?;
     Ok(Hir::class(Class::Bytes(ClassBytes::new(alloc, ranges)?)))

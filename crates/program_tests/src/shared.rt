@@ -44,7 +44,7 @@ pub(crate) fn run_over<R: Read, W: Write>(
     }
 }
 
-// The outcome of a run whose ends don't fail, and what it writes.
+// The outcome of a run whose reader and writer don't fail, and what it writes.
 pub(crate) fn answered_by(
     rt: &impl Abort,
     alloc: Global,

@@ -4,7 +4,7 @@ ghost use Rattle.std.specs.Prelude.{ℕ, ◌≡◌};
 use lalrpop_lexer::kernel_set::{Kernel, KernelSet};
 use std::alloc::AllocError;
 
-// A kernel of which a copy is refused where its number is 9.
+// A kernel that refuses to be copied if its number is 9.
 #[derive(PartialEq, Eq, PartialOrd, Ord, Drop)]
 struct Shy(u32);
 

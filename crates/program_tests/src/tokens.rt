@@ -1,4 +1,4 @@
-//! Lexers from patterns and from lines, and the tokens that they cut.
+//! Lexers from patterns and from lines, and the tokens they cut.
 
 use crate::shared::{expect_same, terminals};
 use lexdfa_lib::outcome_line;
@@ -22,7 +22,7 @@ fn push_token(line: &mut String, token: &Token<'_>) -> Result<(), AllocError> {
     line.push_str("]")
 }
 
-// The tokens, and the place of the fault behind them, if any.
+// The tokens, and the place of the fault after them, if any.
 fn cut(alloc: Global, lexer: &Lexer, text: &str) -> Result<String, AllocError> {
     let mut line = String::new(alloc);
     for item in lexer.tokens(text) {
@@ -76,7 +76,7 @@ fn lines_without_a_lexer_are_reported(rt: HostRuntime) {
     }
 }
 
-// A lexer of two patterns, of which the first takes `if`.
+// A lexer of two patterns, the first of which matches `if`.
 fn is_expected(lexer: &Lexer) -> bool {
     match lexer.token("if x") {
         Some(token) => {

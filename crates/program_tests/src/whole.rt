@@ -1,4 +1,4 @@
-//! The lines, the outcome and the status that lines of terminals and a text are answered by, where all of the text is cut.
+//! The lines, the outcome and the status for lines of terminals and a text that is cut to its end.
 
 use crate::shared::answered_by;
 use lexdfa_lib::Outcome;
@@ -60,7 +60,7 @@ fn tokens_are_counted(rt: HostRuntime) {
     expect_outcome(&rt, alloc, "class é", Outcome::Stopped { tokens: 2, at: 6 });
 }
 
-// Behind each `a` another match may end at any later letter. Match by match this would take five thousand million steps.
+// After each `a` another match may end at any later letter. Match by match this would take five thousand million steps.
 #[test]
 fn no_text_is_slow(rt: HostRuntime) -> Result<(), Fail> {
     let letters = vec![in rt.alloc(); b'a'; 100_000]?;

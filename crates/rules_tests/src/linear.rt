@@ -67,7 +67,7 @@ fn texts_are_cut_to_their_ends_in_linear_time(rt: HostRuntime) {
     }
 }
 
-// Whether both give the same, one for one.
+// Whether both return the same items.
 fn are_same(mut plain: Items, linear: LinearItems) -> bool {
     for item in linear {
         if plain.next() != Some(item) {
@@ -96,7 +96,7 @@ fn pieces_are_those_of_items(rt: HostRuntime) {
     }
 }
 
-// How many tokens and faults there are in a text of this part, so many times, cut in linear time.
+// How many tokens and faults there are in `count` copies of this part, cut in linear time.
 fn counts(alloc: Global, part: &str, count: usize) -> Result<(usize, usize)> {
     let lexer = lexer(alloc)?;
     let mut text = String::new(alloc);
@@ -116,7 +116,7 @@ fn counts(alloc: Global, part: &str, count: usize) -> Result<(usize, usize)> {
     Ok((tokens, faults))
 }
 
-// At each `/` a comment may begin, which is never closed: one by one that is read to the end.
+// At each `/` a comment may begin that is never closed: cut one by one, each reads to the end.
 #[test]
 fn no_text_is_slow(rt: HostRuntime) {
     let found = counts(rt.alloc(), "/*!", 40_000).expect(&rt, "memory");

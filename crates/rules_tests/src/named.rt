@@ -24,7 +24,7 @@ fn lexer(alloc: Global) -> Result<RuleLexer> {
     Ok(RuleLexer::from_rules(alloc, &rules)?)
 }
 
-// What it makes of a text.
+// The pieces it cuts a text into.
 fn named(alloc: Global, text: &str) -> Result<String> {
     let lexer = lexer(alloc)?;
     let mut line = String::new(alloc);
@@ -70,7 +70,7 @@ fn first(alloc: Global, text: &str) -> Result<String> {
     }
 }
 
-// The error of two rules of which one is the text, and the other the name `a`.
+// The error of two rules, whose patterns are `a` and the text.
 fn refused(alloc: Global, text: &str) -> Result<String> {
     let rules = [Rule::pattern("A", "a"), Rule::pattern("OTHER", text)];
     match RuleLexer::from_rules(alloc, &rules) {
@@ -95,7 +95,7 @@ fn painted(alloc: Global, text: &str) -> Result<String> {
     Ok(ansi(alloc, &lexer, text)?)
 }
 
-// A text, and what a terminal gets of it.
+// A text, and what is sent to a terminal for it.
 const PAINTED: [(&str, &str); 6] = [
     ("if a", "\x1b[31mif\x1b[0m \x1b[32ma\x1b[0m"),
     ("==é", "\x1b[34m==\x1b[0m\x1b[41mé\x1b[0m"),

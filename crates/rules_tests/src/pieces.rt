@@ -50,7 +50,7 @@ fn shown(alloc: Global, item: &Item) -> Result<String> {
     })
 }
 
-// What the calls of `next` give, the first two `None` too.
+// What the calls of `next` return, including the first two `None`.
 fn pieces(alloc: Global, text: &str) -> Result<String> {
     let lexer = small_lexer(alloc)?;
     let mut given = String::new(alloc);

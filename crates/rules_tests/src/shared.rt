@@ -19,7 +19,7 @@ pub(crate) fn small_lexer(alloc: Global) -> Result<Lexer> {
     Ok(Lexer::new(alloc, regexs, precedences)?)
 }
 
-/// The two parts of a row. Where it has no second part that is empty, and no call has such an answer.
+/// The two parts of a row. A row without a second part gets an empty one, and no call has that answer.
 pub(crate) fn halves<'a>(row: &'a str, between: &str) -> (&'a str, &'a str) {
     row.split_once(between).unwrap_or((row, ""))
 }

@@ -1,4 +1,4 @@
--- What two runs on one counter come to.
+-- What two runs count on one counter.
 use Rattle.std.proofs.Common.{ℕ, ◌+◌, ◌≤◌, arith}
 use Rattle.std.specs.Prelude.{Option, Some, None, IfSome}
 

@@ -1,4 +1,4 @@
-//! The automaton of a list of patterns with precedences: built, and what is known of it.
+//! Building the automaton of a list of patterns with precedences, and what is known about it.
 
 ghost use Rattle.std.specs.Prelude.{◌≡◌, ◌<◌, ◌≤◌, List, length, map, IfOk, IfErr, IfSome, IfNone};
 ghost use Rattle.std.specs.Option.{option_map};
@@ -35,7 +35,7 @@ pub fn match_once<'text>(
 }
 
 // Needs lalrpop_dfa::build_dfa: ok, err.
-/// Why there is no automaton; nothing where no pattern has a fault and no word is ambiguous.
+/// Why there is no automaton; `None` if no pattern has a fault and no word is ambiguous.
 pub fn why_not(
     alloc: Global,
     regexs: &[Regex],
@@ -66,8 +66,8 @@ pub fn state_count(
 }
 
 // Needs lalrpop_dfa::build_dfa: ok, items, others, order.
-/// The automaton, for one who draws it: each state holds the items that its words lead to, its ranges are the partition of
-/// the labels there, its other edge leads to a reject state, and states that don't reject stand in the order of their words.
+/// The automaton, to be drawn: each state holds the items that its words lead to, its ranges are the partition of the labels
+/// there, its other edge leads to a reject state, and states that don't reject are in the order of their words.
 pub fn to_be_drawn(
     alloc: Global,
     regexs: &[Regex],
@@ -86,7 +86,7 @@ pub fn to_be_drawn(
 
 // Needs lalrpop_book::DfaConstructionError::from: ghost from_gives.
 // Needs lalrpop_book::DfaConstructionError::from: ghost from_gives.
-/// A precedence for each pattern: as in a list of rules, those before are the stronger ones.
+/// A precedence for each pattern: earlier patterns are stronger.
 pub fn falling_precedences(
     alloc: Global,
     count: usize,

@@ -1,4 +1,4 @@
-//! The classes of the values that some automata tell apart.
+//! The classes of values that automata distinguish.
 
 ghost use Rattle.std.specs.Prelude.{◌≡◌, ◌<◌, ◌-◌, Some, length, slice_get, IsSomeAnd, IfSome, IfNone, IfOk};
 ghost use Rattle.lalrpop_alphabet.specs.Internal.Alphabet.{IsAlphabetOf, IsSound, HasState, AreEdgeGroupsOf, LeadsBy};
@@ -37,7 +37,7 @@ pub fn first_and_class(alphabet: &Alphabet, place: usize) -> (u64, usize)
 
 // Needs lalrpop_alphabet::Alphabet::group_count: count.
 // Needs lalrpop_alphabet::Alphabet::group: group.
-/// The last group of labels, where there is one.
+/// The last group of labels, if there is one.
 pub fn last_group(alphabet: &Alphabet) -> Option<&Group>
     ensures some { IfSome result (λ group.
         slice_get alphabet.now.groups (length alphabet.now.groups - 1) ≡ Some group.now) }

@@ -1,4 +1,4 @@
-//! The automaton of one pattern: compiled, looked at state by state, and run.
+//! The automaton of one pattern: compiled, inspected state by state, and run.
 
 ghost use Rattle.std.specs.Prelude.{◌≡◌, ◌≢◌, ◌+◌, ◌*◌, ◌^◌, ◌<◌, ◌≤◌, ◌++◌, [], ◌∷◌, None, Some, length, map, slice_get, IfSome, IfNone, IfOk, IfErr, OnOk, MatchBool, option_map};
 ghost use Rattle.std.specs.List.{filter};
@@ -31,7 +31,7 @@ pub fn why_not(alloc: Global, regex: &Regex) -> Option<NfaConstructionError>
 }
 
 // Needs lalrpop_nfa::Nfa::from_re: ok, fixed_edges.
-/// The automaton of the pattern, for one who looks at its states.
+/// The automaton of the pattern, to inspect its states.
 pub fn compiled(alloc: Global, regex: &Regex) -> Result<Nfa, NfaConstructionError>
     ensures compiled { IfOk result (IsCompiled regex.now) }
     ensures fixed_edges { IfOk result (λ nfa. HasFixedEdges nfa.edges) }
@@ -67,7 +67,7 @@ pub fn state_count(alloc: Global, regex: &Regex) -> Result<usize, NfaConstructio
 // Needs lalrpop_nfa::Nfa::kind: kind.
 // Needs lalrpop_nfa::Nfa::contains_state: answer.
 // Needs lalrpop_nfa::NfaStateIndex::new: value.
-/// What the state with this number is for, where there is one.
+/// What the state with this number is for, if there is one.
 pub fn kind_of(nfa: &Nfa, number: usize) -> Option<StateKind>
     ensures { result ≡ slice_get nfa.now.kinds number }
 {
@@ -136,7 +136,7 @@ pub fn least_values(alloc: Global, nfa: &Nfa, state: NfaStateIndex) -> Result<Ve
 }
 
 // Needs lalrpop_nfa::Noop::list: ghost list.
-/// The states that follow by reading nothing.
+/// The states that follow without reading a value.
 pub fn epsilon_targets(
     alloc: Global,
     nfa: &Nfa,
@@ -150,7 +150,7 @@ pub fn epsilon_targets(
 }
 
 // Needs lalrpop_nfa::Other::list: ghost list.
-/// The state that all values lead to which no test edge reads.
+/// The state that all values lead to that no test edge reads.
 pub fn other_target(nfa: &Nfa, state: NfaStateIndex) -> Option<NfaStateIndex>
     requires { state < length nfa.now.kinds }
     ensures { result

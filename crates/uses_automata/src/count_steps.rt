@@ -1,4 +1,4 @@
-//! Steps that are counted in contracts alone.
+//! Steps, which only contracts see.
 
 ghost use Rattle.std.specs.Prelude.{◌≡◌, ◌+◌, length};
 

@@ -1,4 +1,4 @@
-//! What follows of a partition and of two runs by the laws for callers, which the proofs here cite.
+//! What follows for a partition and for two runs from the laws for callers, which the proofs here cite.
 ghost use Rattle.std.specs.Prelude.{ℕ, ◌≡◌, ◌+◌, ◌≤◌, ◌↔◌, ◌⊎◌, List, [], ◌∷◌, IfOk};
 ghost use Rattle.std.specs.List.{Contains};
 ghost use Rattle.std.specs.Option.{option_map};
@@ -41,7 +41,7 @@ pub fn blocks_of(alloc: Global, ranges: &BTreeSet<Test>) -> Result<Vec<Test>, Al
     remove_overlap(alloc, ranges)
 }
 
-/// What the automaton of one tree finds in a text, and what that of a list of this tree alone finds: the same.
+/// What the automaton of one tree finds in a text, and what the automaton of a list of just this tree finds: the same.
 pub fn found_by_both<'text>(
     alloc: Global,
     nfa: &Nfa,

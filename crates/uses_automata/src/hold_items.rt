@@ -19,7 +19,7 @@ use std::cmp::Ordering;
 
 // Needs lalrpop_book::NfaIndex::new: value.
 // Needs lalrpop_book::NfaIndex::index: value.
-/// The pattern behind a pattern.
+/// The pattern after a pattern.
 pub fn pattern_after(pattern: NfaIndex) -> NfaIndex
     requires { pattern + 1 < 2 ^ 64 }
     ensures { result ≡ pattern + 1 }
@@ -29,7 +29,7 @@ pub fn pattern_after(pattern: NfaIndex) -> NfaIndex
 
 // Needs lalrpop_items::DfaStateIndex::new: value.
 // Needs lalrpop_items::DfaStateIndex::index: value.
-/// The state behind a state.
+/// The state after a state.
 pub fn state_after(state: DfaStateIndex) -> DfaStateIndex
     requires { state + 1 < 2 ^ 64 }
     ensures { result ≡ state + 1 }
@@ -82,7 +82,7 @@ pub fn sort(items: &mut Vec<Item>) -> Result<(), AllocError>
 }
 
 // Needs lalrpop_items::Item::partial_cmp: ghost partial_cmp.
-/// How two items stand to each other.
+/// How two items compare.
 pub fn order_of_items(left: &Item, right: &Item) -> Option<Ordering>
     ensures { result ≡ Some (item_cmp left.now right.now) }
 {
@@ -90,7 +90,7 @@ pub fn order_of_items(left: &Item, right: &Item) -> Option<Ordering>
 }
 
 // Needs lalrpop_items::closure: ensures.
-/// The items that the given ones lead to by reading nothing.
+/// The items that the given items lead to without reading a value.
 pub fn after_nothing(alloc: Global, nfas: &[Nfa], given: &[Item]) -> Result<ItemSet, AllocError>
     requires automata { AreAutomata nfas.now }
     requires inside { AreItemsOf nfas.now given.now }
@@ -127,7 +127,7 @@ pub fn workspace(alloc: Global) -> Workspace
 }
 
 // Needs lalrpop_items::ItemSet::live: value.
-/// The items of a set that are no REJECT states, in a list of their own.
+/// The items of a set that aren't REJECT states, in a list of their own.
 pub fn live_items(alloc: Global, set: &ItemSet) -> Result<Vec<Item>, AllocError>
     ensures { IfOk result (λ items. items.items ≡ live_of set.now) }
 {
@@ -135,7 +135,7 @@ pub fn live_items(alloc: Global, set: &ItemSet) -> Result<Vec<Item>, AllocError>
 }
 
 // Needs lalrpop_items::ItemSet::clone: ghost is_clone.
-/// The set, once more.
+/// A copy of the set.
 pub fn copy_of(set: &ItemSet) -> Result<ItemSet, AllocError>
     ensures { IfOk result (λ copy. copy ≡ set.now) }
 {
@@ -151,7 +151,7 @@ pub fn is_known(sets: &[ItemSet], set: &ItemSet) -> bool
 }
 
 // Needs lalrpop_items::ItemSet::cmp: ghost cmp.
-/// How two sets stand to each other in a map.
+/// How two sets compare as keys of a map.
 pub fn order_of_sets(left: &ItemSet, right: &ItemSet) -> Ordering
     ensures { result ≡ set_cmp left.now right.now }
 {
@@ -159,7 +159,7 @@ pub fn order_of_sets(left: &ItemSet, right: &ItemSet) -> Ordering
 }
 
 // Needs lalrpop_items::ItemSet::partial_cmp: ghost partial_cmp.
-/// The same, where it is asked as of a partial order.
+/// The same, as a partial order.
 pub fn partial_order_of_sets(left: &ItemSet, right: &ItemSet) -> Option<Ordering>
     ensures { result ≡ Some (set_cmp left.now right.now) }
 {

@@ -1,5 +1,5 @@
-//! How the automata are called: for each promise of their public calls a small function that needs it, and says what it got
-//! from it. The line `Needs` above a function names the promises.
+//! How the automata are called: for each promise of their public calls a small function that needs it, and promises what
+//! follows from it. The line `Needs` above a function names the promises.
 #![tactic(auto)]
 
 pub mod build_many;

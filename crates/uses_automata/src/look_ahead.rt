@@ -10,7 +10,7 @@ use lalrpop_table::lookahead::{lookahead, open_patterns};
 use std::alloc::{AllocError, Global};
 
 // Needs lalrpop_table::lookahead: answer, settled.
-/// How many characters past its end may leave a match open, at most.
+/// The greatest number of characters past its end that can leave a match open.
 ///
 /// # Errors
 ///
@@ -24,7 +24,7 @@ pub fn greatest(alloc: Global, dfa: &Dfa) -> Result<Option<usize>, AllocError>
 }
 
 // Needs lalrpop_table::open_patterns: same_length, each.
-/// Of so many patterns those by which a match can stay open for ever.
+/// For each of `count` patterns, whether a match can stay open for ever because of it.
 ///
 /// # Errors
 ///

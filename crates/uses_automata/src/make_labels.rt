@@ -1,4 +1,4 @@
-//! Ranges of values, as labels of edges: made, and asked.
+//! Ranges of values, as labels of edges: making and querying them.
 
 ghost use Rattle.std.specs.Prelude.{◌≡◌, ◌≢◌, ◌↔◌, ◌+◌, ◌-◌, ◌<◌, ◌≤◌, ◌^◌, ◌⊎◌, IsTrue, IfSome, IfNone};
 ghost use Rattle.lalrpop_book.specs.Range.{Covers};
@@ -10,7 +10,7 @@ use lalrpop_ranges::Test;
 // Needs lalrpop_ranges::Test::new: value.
 // Needs lalrpop_ranges::Test::start: value.
 // Needs lalrpop_ranges::Test::end: value.
-/// The values of the range, each so much greater.
+/// The values of the range, each increased by `by`.
 pub fn raised(range: &Test, by: u32) -> Test
     requires start { range.now.start + by < 2 ^ 32 }
     requires end { range.now.end + by < 2 ^ 32 }
@@ -30,7 +30,7 @@ pub fn in_both_cases(lower: char, upper: char) -> (Test, Test)
 
 // Needs lalrpop_ranges::Test::byte: value.
 // Needs lalrpop_ranges::Test::inclusive_byte_range: value.
-/// The label of a byte that marks the bytes behind it, and that of those.
+/// The label of a byte that marks the bytes after it, and the label of those bytes.
 pub fn marked_bytes(mark: u8, first: u8, last: u8) -> (Test, Test)
     ensures mark { result.0 ≡ record { start = mark; end = mark } }
     ensures bytes { result.1 ≡ record { start = first; end = last } }
@@ -69,7 +69,7 @@ pub fn label_of_bytes(range: ClassBytesRange) -> Test
 }
 
 // Needs lalrpop_ranges::Test::is_char: answer.
-/// The one value of a range, where it begins and ends with the same.
+/// The one value of a range that begins and ends with the same value.
 pub fn only_value(range: &Test) -> Option<u32>
     ensures one { IfSome result (λ value. range.now ≡ record { start = value; end = value }) }
     ensures none { IfNone result (range.now.start ≢ range.now.end) }
@@ -82,7 +82,7 @@ pub fn only_value(range: &Test) -> Option<u32>
 }
 
 // Needs lalrpop_ranges::Test::len: value.
-/// How many values two ranges have, which have none in common.
+/// How many values two ranges have together, if they have none in common.
 pub fn total_len(left: &Test, right: &Test) -> u32
     requires left_ordered { left.now.start ≤ left.now.end }
     requires right_ordered { right.now.start ≤ right.now.end }

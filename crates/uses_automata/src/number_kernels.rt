@@ -9,7 +9,7 @@ use lalrpop_kernels::{Kernel, KernelSet};
 use std::alloc::{AllocError, Global};
 
 // Needs lalrpop_kernels::Kernel::index: value.
-/// The index of the number that follows.
+/// The index of the next number.
 pub fn index_after<K: Kernel>(number: usize) -> K::Index
     requires { number + 1 < 2 ^ 64 }
     ensures { result ≡ K.index_of (number + 1) }
@@ -32,7 +32,7 @@ where
 }
 
 // Needs lalrpop_kernels::KernelSet::add_state: number, list, distinct, refused.
-/// Adds what a kernel leads to, and gives its index.
+/// Adds a kernel that another leads to, and returns its index.
 pub fn add_target<K: Kernel>(set: &mut KernelSet<K>, target: K) -> Result<K::Index, AllocError>
     requires { ClonesEqual K.cmp K.is_clone }
     ensures number { IfOk result (λ i. (n : ℕ) × (i ≡ K.index_of n)
@@ -46,7 +46,7 @@ pub fn add_target<K: Kernel>(set: &mut KernelSet<K>, target: K) -> Result<K::Ind
 }
 
 // Needs lalrpop_kernels::KernelSet::next: given, moves, refused.
-/// Takes the next kernel, which is to be expanded.
+/// Takes the next kernel, to be expanded.
 pub fn take<K: Kernel>(set: &mut KernelSet<K>) -> Result<Option<K>, AllocError>
     requires { ClonesEqual K.cmp K.is_clone }
     ensures given { IfOk result (λ o. MatchOption o

@@ -73,7 +73,7 @@ pub fn counted_by_table<'text>(
 }
 
 // Needs lalrpop_dense::DenseDfa::longest_within: answer, prefix.
-/// The longest match of the text: it is settled by its first thousand bytes, or all of it is read.
+/// The longest match of the text: either its first thousand bytes settle it, or all of the text is read.
 pub fn longest_in_two_runs<'text>(
     dense: &DenseDfa,
     text: &'text str,
@@ -89,7 +89,7 @@ pub fn longest_in_two_runs<'text>(
 }
 
 // Needs lalrpop_dense::DenseDfa::longest_within: limit, past.
-/// Whether a match, or none, is settled by the first thousand bytes, and how many were read past it.
+/// Whether the first thousand bytes settle what matches, and how many were read past the match.
 pub fn read_past<'text>(
     dense: &DenseDfa,
     text: &'text str,
@@ -106,7 +106,7 @@ pub fn read_past<'text>(
 }
 
 // Needs lalrpop_dense::DenseDfa::cut_block: tokens, goes, same, none.
-/// The tokens of the first block of a text, and where they end; no place where no pattern matches there.
+/// The tokens of the first block of a text, and where they end, or `None` for the place if no pattern matches there.
 ///
 /// # Errors
 ///

@@ -35,7 +35,7 @@ pub fn kind_of_parts<'dfa>(dfa: &'dfa Dfa, first: &str, second: &str) -> &'dfa K
 }
 
 // Needs lalrpop_table::Dfa::step: leads.
-/// The state behind one more character, where this is the state after what was read.
+/// The state after one more character, if `state` is the state after what was read.
 pub fn state_behind_one_more(dfa: &Dfa, state: DfaStateIndex, read: &str, c: char) -> DfaStateIndex
     requires { state ≡ after dfa.now (chars read.now) }
     ensures { result ≡ after dfa.now (chars read.now ++ c ∷ []) }

@@ -46,7 +46,7 @@ pub fn counted_over_two<'text>(
 }
 
 // Needs lalrpop_table::interpret_probed: answer, prefix, never_falls, cost, looked, probed.
-/// Runs the automaton over a text, and counts the ranges that are compared too.
+/// Runs the automaton over a text, and counts also the ranges that are compared.
 pub fn probed<'text>(
     dfa: &Dfa,
     text: &'text str,

@@ -13,7 +13,7 @@ use lalrpop_table::{Dfa, Kind, START, State};
 use std::alloc::AllocError;
 
 // Needs lalrpop_table::Dfa::states: states, well_formed.
-/// All states. There is one at least: the first is START.
+/// All states. There is at least one: the first is START.
 pub fn all_states(dfa: &Dfa) -> &[State]
     ensures states { AreStored dfa.now result.now }
     ensures well_formed { IsWellFormed dfa.now }
@@ -34,7 +34,7 @@ pub fn state_at(dfa: &Dfa, index: DfaStateIndex) -> &State
 
 // Needs lalrpop_table::Dfa::state: at, well_formed.
 // Needs lalrpop_table::State::other_edge: other.
-/// The state that all values lead to which no test edge holds.
+/// The state that all values lead to that are in no test edge.
 pub fn other_state(dfa: &Dfa, index: DfaStateIndex) -> DfaStateIndex
     requires { index < length dfa.now }
     ensures other { IsSomeAnd (slice_get dfa.now index) (λ r. result ≡ r.other) }
@@ -44,7 +44,7 @@ pub fn other_state(dfa: &Dfa, index: DfaStateIndex) -> DfaStateIndex
 }
 
 // Needs lalrpop_table::State::kind: kind.
-/// What the state says of the words that lead to it.
+/// What the state says about the words that lead to it.
 pub fn kind_at(dfa: &Dfa, index: DfaStateIndex) -> &Kind
     requires { index < length dfa.now }
     ensures { IsSomeAnd (slice_get dfa.now index) (λ r. result.now ≡ r.kind) }
@@ -76,7 +76,7 @@ pub fn edges_at(dfa: &Dfa, index: DfaStateIndex) -> &[(Test, DfaStateIndex)]
 }
 
 // Needs lalrpop_table::Dfa::clone: ghost is_clone.
-/// The automaton, once more.
+/// A copy of the automaton.
 pub fn copy_of(dfa: &Dfa) -> Result<Dfa, AllocError>
     ensures { IfOk result (λ copy. copy ≡ dfa.now) }
 {
@@ -84,7 +84,7 @@ pub fn copy_of(dfa: &Dfa) -> Result<Dfa, AllocError>
 }
 
 // Needs lalrpop_table::State::clone: ghost is_clone.
-/// START, in a value of its own.
+/// A copy of START.
 pub fn copy_of_start(dfa: &Dfa) -> Result<State, AllocError>
     ensures { IfOk result (λ start. IsSomeAnd (slice_get dfa.now 0) (λ r. IsStored r start)) }
 {

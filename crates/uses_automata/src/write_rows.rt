@@ -23,7 +23,7 @@ pub fn reject_state(alloc: Global, items: ItemSet) -> Result<RowWriter, AllocErr
 
 // Needs lalrpop_table::RowWriter::add_edge: rows, tests.
 // Needs lalrpop_table::RowWriter::end_row: rows, tests.
-/// Writes a state with one more test edge than it has so far.
+/// Writes a state, with one more test edge than it has so far.
 pub fn write_state(
     writer: &mut RowWriter,
     edge: (Test, DfaStateIndex),
@@ -47,7 +47,7 @@ pub fn write_state(
 
 // Needs lalrpop_table::RowWriter::len: ensures.
 // Needs lalrpop_table::RowWriter::item_set: ensures.
-/// The items of the last state, where there is one.
+/// The items of the last state, if there is one.
 pub fn last_items(writer: &RowWriter) -> Option<&ItemSet>
     ensures some { IfSome result (λ set. IsSomeAnd
         (slice_get writer.now.rows (length writer.now.rows - 1)) (λ r. set.now ≡ r.items)) }

@@ -1,4 +1,4 @@
--- What the calls of `next` have given: tokens, and a fault at the most.
+-- What the calls of `next` have returned: tokens, and at most one fault.
 use Rattle.std.proofs.Common.{◌≡◌, ℕ, ◌+◌, ◌≤◌, List, [], ◌∷◌, ◌++◌, length, map, refl, ap, subst, arith, length-append}
 use Rattle.std.specs.Prelude.{Option, Some, None, Result, Ok, Err}
 use Rattle.std.specs.Iterator.{Yields, Drains}

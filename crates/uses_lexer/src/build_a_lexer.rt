@@ -1,4 +1,4 @@
-//! A lexer is built of patterns and precedences, and tells its patterns.
+//! A lexer is built from patterns and precedences, and returns its patterns.
 ghost use Rattle.std.specs.Prelude.{◌≡◌, ◌∷◌, [], slice_get, IfOk, OnOk, IfErr};
 ghost use Rattle.std.specs.Option.{option_copied};
 ghost use Rattle.lalrpop_lexer.specs.Clash.{NoClash};
@@ -14,7 +14,7 @@ use std::alloc::Global;
 ///
 /// # Errors
 ///
-/// Why the two have no lexer, and out of memory.
+/// Why the two have no lexer, or out of memory.
 pub fn keyword_and_names(
     alloc: Global,
     keyword: Regex,
@@ -32,7 +32,7 @@ pub fn keyword_and_names(
 }
 
 // Needs lalrpop_lexer::Lexer::regexs: trees.
-/// The pattern with this number, if there is one.
+/// The pattern with this index, if there is one.
 pub fn pattern_at(lexer: &Lexer, number: usize) -> Option<&Regex>
     ensures pattern { option_copied result ≡ slice_get lexer.now.trees number }
 {

@@ -1,4 +1,4 @@
-//! A lexer is built of patterns that are texts, and one type of errors serves for all that can fail.
+//! A lexer is built from the texts of its patterns, and one error type covers all that can fail.
 ghost use Rattle.std.specs.Prelude.{◌≡◌, ◌∷◌, [], IfOk, IfErr};
 ghost use Rattle.std.specs.Str.{chars};
 ghost use Rattle.lalrpop_lexer.specs.Clash.{NoClash};
@@ -53,7 +53,7 @@ pub fn not_built(error: DfaConstructionError) -> LexerError
 }
 
 // Needs lalrpop_lexer::LexerError::from: ghost from_gives.
-/// Refused memory is told as such.
+/// Refused memory is reported as such.
 pub fn refused(error: AllocError) -> LexerError
     ensures memory { result ≡ LexerError.OutOfMemory }
 {
@@ -61,7 +61,7 @@ pub fn refused(error: AllocError) -> LexerError
 }
 
 // Needs lalrpop_lexer::LexerError::from: ghost from_gives.
-/// One precedence more.
+/// Adds a precedence.
 ///
 /// # Errors
 ///
@@ -73,11 +73,11 @@ pub fn add_precedence(all: &mut Vec<Precedence>, strength: usize) -> Result<(), 
     Ok(())
 }
 
-/// A lexer of one pattern, by calls that each have an error of their own.
+/// A lexer of one pattern, by calls that each have their own error type.
 ///
 /// # Errors
 ///
-/// Why the pattern has no lexer, and out of memory.
+/// Why the pattern has no lexer, or out of memory.
 pub fn lexer_of_one(alloc: Global, pattern: &str) -> Result<Lexer, LexerError>
     ensures tree { IfOk result (λ lexer. (t : Tree)
         × ((lexer.trees ≡ t ∷ []) × Pattern (chars pattern.now) t)) }

@@ -1,4 +1,4 @@
-//! Places of a text as people count them.
+//! Places in a text, as line and column.
 ghost use Rattle.std.specs.Prelude.{◌≡◌, ◌≤◌, ◌↔◌, IfSome, IsSome};
 ghost use Rattle.std.specs.Str.{IsCharBoundary};
 ghost use Rattle.lalrpop_lexer.specs.Position.{position_of};
@@ -15,7 +15,7 @@ pub fn line_at(text: &str, offset: usize) -> usize
 }
 
 // Needs lalrpop_lexer::Position::get: boundary, position.
-/// The line of an offset in bytes, whatever the offset is.
+/// The line of an offset in bytes, or `None` if the offset has none.
 pub fn line_if_any(text: &str, offset: usize) -> Option<usize>
     ensures some { IsSome result ↔ IsCharBoundary text.now offset }
     ensures line { IfSome result (λ line. line ≡ (position_of text.now offset).line) }

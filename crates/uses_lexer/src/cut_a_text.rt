@@ -48,7 +48,7 @@ pub fn token_count(lexer: &Lexer, text: &str) -> Result<usize, TokenFault>
 }
 
 // Needs lalrpop_lexer::Lexer::token_list: all, fault.
-/// How many tokens the whole text is, counted in the list of them; none where no pattern matches at some place.
+/// How many tokens the whole text is, counted in their list; `None` if at some place no pattern matches.
 ///
 /// # Errors
 ///
@@ -79,7 +79,7 @@ pub fn rest_at_first<'text>(lexer: &'text Lexer, text: &'text str) -> &'text str
 
 // Needs lalrpop_lexer::Lexer::tokens: parts.
 // Needs lalrpop_lexer::LexerTokens::next: ghost next_gives.
-/// The first token's slice and what stands behind it.
+/// The first token's slice and what follows it.
 pub fn cut_once<'text>(lexer: &'text Lexer, text: &'text str) -> Option<(&'text str, &'text str)>
     ensures parts { IfSome result (λ m. text.now ≡ m.0.now ++ m.1.now) }
 {
@@ -104,7 +104,7 @@ pub fn first_length(lexer: &Lexer, text: &str) -> Option<usize>
 }
 
 // Needs lalrpop_lexer::LexerTokens::next: ghost next_gives.
-/// Whether something comes behind the end of the tokens: never.
+/// Whether something comes after the end of the tokens: never.
 pub fn comes_behind_the_end(lexer: &Lexer, text: &str) -> bool
     ensures never { result ≡ false }
 {

@@ -44,7 +44,7 @@ pub fn rest_at_first<'text>(dfa: &'text Dfa, text: &'text str) -> &'text str
 
 // Needs lalrpop_lexer::tokens: parts.
 // Needs lalrpop_lexer::Tokens::next: ghost next_gives.
-/// The first token's slice and what stands behind it.
+/// The first token's slice and what follows it.
 pub fn cut_once<'text>(dfa: &'text Dfa, text: &'text str) -> Option<(&'text str, &'text str)>
     ensures parts { IfSome result (λ m. text.now ≡ m.0.now ++ m.1.now) }
 {
@@ -56,7 +56,7 @@ pub fn cut_once<'text>(dfa: &'text Dfa, text: &'text str) -> Option<(&'text str,
 }
 
 // Needs lalrpop_lexer::Tokens::next: ghost next_gives.
-/// Whether something comes behind the end of the tokens: never.
+/// Whether something comes after the end of the tokens: never.
 pub fn comes_behind_the_end(dfa: &Dfa, text: &str) -> bool
     ensures never { result ≡ false }
 {

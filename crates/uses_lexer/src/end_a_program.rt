@@ -10,7 +10,7 @@ use std::alloc::{AllocError, Global};
 
 // Needs lexdfa_lib::Outcome::status: status.
 // Needs lexdfa_lib::RunError::status: status.
-/// The exit status of what a run gave.
+/// The exit status for the result of a run.
 pub fn status_of(found: &Result<Outcome, RunError>) -> u8
     ensures outcome { IfOk found.now (λ outcome. result ≡ outcome_status outcome) }
     ensures error { IfErr found.now (λ error. result ≡ error_status error) }
@@ -35,11 +35,11 @@ pub fn status_and_message(found: &Result<Outcome, Failure>) -> (u8, usize)
 }
 
 // Needs lexdfa_lib::outcome_line: line.
-/// A text, and behind it the line of an outcome.
+/// A text, followed by the line of an outcome.
 ///
 /// # Errors
 ///
-/// A refused request for memory.
+/// `AllocError` if a request for memory was refused.
 pub fn with_line(alloc: Global, mut text: String, outcome: &Outcome) -> Result<String, AllocError>
     ensures line { IfOk result (λ whole. string_bytes whole
         ≡ string_bytes text ++ line_of outcome.now) }
@@ -54,7 +54,7 @@ pub fn with_line(alloc: Global, mut text: String, outcome: &Outcome) -> Result<S
 ///
 /// # Errors
 ///
-/// A refused request for memory.
+/// `AllocError` if a request for memory was refused.
 pub fn first_two_clash(alloc: Global, word: &Word) -> Result<String, AllocError>
     ensures line { IfOk result (λ line. string_bytes line
         ≡ line_of (Outcome.Ambiguous 1 0 word.now)) }

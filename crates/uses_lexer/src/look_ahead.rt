@@ -25,7 +25,7 @@ pub fn open_characters(alloc: Global, lexer: &Lexer) -> Result<Option<usize>, Al
 }
 
 // Needs lalrpop_lexer::Lexer::open_patterns: same_length, each.
-/// The patterns by which a token can stay open for ever.
+/// For each pattern, whether a token can stay open for ever because of it.
 ///
 /// # Errors
 ///
@@ -39,7 +39,7 @@ pub fn open_for_ever(alloc: Global, lexer: &Lexer) -> Result<Vec<bool>, AllocErr
 }
 
 // Needs lalrpop_lexer::Lexer::lookahead_witness: least, none.
-/// The least match that so many characters behind it leave open, and the least such characters.
+/// The least match that is still open after `count` more characters, and the least such characters.
 ///
 /// # Errors
 ///
@@ -54,7 +54,7 @@ pub fn left_open(alloc: Global, lexer: &Lexer, count: usize) -> Result<Option<Wi
 }
 
 // Needs lalrpop_lexer::Lexer::tokens: start, automaton.
-/// The tokens of the text, cut by the automaton that `lookahead` speaks of.
+/// The tokens of the text, cut by the automaton that `lookahead` is about.
 pub fn cut_by_the_same<'text>(lexer: &'text Lexer, text: &'text str) -> LexerTokens<'text>
     ensures start { result ≡ start_of lexer.now.automaton text.now }
 {
@@ -83,7 +83,7 @@ pub fn begin<'text>(lexer: &'text Lexer, text: &'text str) -> CountedTokens<'tex
 }
 
 // Needs lalrpop_lexer::Lexer::tokens_counted: tokens.
-/// Whether there is neither a token nor a fault: then there is no text.
+/// Whether there is neither a token nor a fault: then the text is empty.
 pub fn is_no_text(lexer: &Lexer, text: &str) -> bool
     ensures empty { result ≡ true → text.now ≡ [] }
 {

@@ -12,11 +12,11 @@ use lalrpop_lexer::longest_match;
 use std::alloc::Global;
 
 // Needs lalrpop_lexer::longest_match: no_fault, no_clash, longest, strongest, report.
-/// The place of the pattern with the longest match, and how many bytes it matches.
+/// The index of the pattern with the longest match, and how many bytes it matches.
 ///
 /// # Errors
 ///
-/// Why the patterns have no automaton, and out of memory.
+/// Why the patterns have no automaton, or out of memory.
 pub fn match_of(
     alloc: Global,
     regexs: &[Regex],

@@ -1,4 +1,4 @@
-//! Terminals are read from lines, and a lexer is built of them.
+//! Terminals are read from lines, and a lexer is built from them.
 ghost use Rattle.std.specs.Prelude.{◌⊎◌, ℕ, List, IfOk, IfSome, MatchOption};
 ghost use Rattle.lalrpop_lexer.specs.Tree.{Tree};
 ghost use Rattle.lalrpop_lexer.specs.Lines.{lines};
@@ -14,7 +14,7 @@ use std::alloc::{AllocError, Global};
 ///
 /// # Errors
 ///
-/// A refused request for memory.
+/// `AllocError` if a request for memory was refused.
 pub fn first_wrong_line(alloc: Global, bytes: &[u8]) -> Result<Option<usize>, AllocError>
     ensures wrong { IfOk result (λ wrong. MatchOption wrong
         ((ts : List Tree) × ((ps : List ℕ) × AreTerminals (lines bytes.now) ts ps))
@@ -28,11 +28,11 @@ pub fn first_wrong_line(alloc: Global, bytes: &[u8]) -> Result<Option<usize>, Al
 }
 
 // Needs lalrpop_lexer::read_terminals: said.
-/// The lexer of the terminals that the lines are; `None` where one of them is none.
+/// The lexer of the terminals in these lines; `None` if one of the lines isn't a terminal.
 ///
 /// # Errors
 ///
-/// Why the terminals have no lexer, and out of memory.
+/// Why the terminals have no lexer, or out of memory.
 pub fn lexer_of_lines(alloc: Global, bytes: &[u8]) -> Result<Option<Lexer>, DfaConstructionError>
     ensures terminals { IfOk result (λ found. IfSome found (λ lexer.
         AreTerminals (lines bytes.now) lexer.trees lexer.precedences)) }

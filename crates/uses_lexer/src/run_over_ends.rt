@@ -1,4 +1,4 @@
-//! A run reads one end and writes the other: what is written, which end has failed, and what may be tried again.
+//! A run has a reader and a writer: what is written, which of them has failed, and what may be tried again.
 ghost use Rattle.std.specs.Prelude.{◌≡◌, IfOk, false, true};
 ghost use Rattle.lexdfa_lib.specs.Answer.{IsOutcome, WritesPrefix};
 ghost use Rattle.lexdfa_lib.specs.Printed.{line_of};
@@ -27,7 +27,7 @@ pub fn line_for(alloc: Global, input: &[u8], text: &str) -> Result<(Outcome, Vec
 }
 
 // Needs lexdfa_lib::run_all: answers.
-/// The outcome for terminals in memory and a text that is cut whole, and all lines.
+/// The outcome for terminals in memory and a text that is cut to its end, and all lines.
 ///
 /// # Errors
 ///
@@ -43,7 +43,7 @@ pub fn lines_for(alloc: Global, input: &[u8], text: &str) -> Result<(Outcome, Ve
 
 // Needs lexdfa_lib::Watched::failed: failed.
 // Needs lexdfa_lib::run: good, memory, read, nothing_written, write.
-/// Whether a run names just the end that has failed, if one has: always.
+/// Whether a run names just the reader or the writer that has failed, if one has: always.
 pub fn names_the_failed_end<R: Read, W: Write>(
     alloc: Global,
     reader: &mut Watched<R>,
@@ -83,7 +83,7 @@ pub fn whole_names_the_failed_end<R: Read, W: Write>(
 }
 
 // Needs lexdfa_lib::run: memory, nothing_written, no_late_read, no_late_write.
-/// A run, and another where memory was refused: nothing is written by then, and no end has failed.
+/// A run, and another if memory was refused: nothing is written by then, and neither the reader nor the writer has failed.
 ///
 /// # Errors
 ///
@@ -129,7 +129,7 @@ pub fn run_all_again<R: Read, W: Write>(
 }
 
 // Needs lexdfa_lib::run: prefix.
-/// Whether a write has failed: a prefix of the line stands then.
+/// Whether a write has failed: then a prefix of the line is written.
 pub fn leaves_a_prefix<R: Read, W: Write>(
     alloc: Global,
     reader: &mut Watched<R>,
@@ -146,7 +146,7 @@ pub fn leaves_a_prefix<R: Read, W: Write>(
 }
 
 // Needs lexdfa_lib::run_all: prefix.
-/// The same of a run over a whole text: a prefix of all lines.
+/// The same for a run over a whole text: a prefix of all lines.
 pub fn leaves_a_prefix_of_all<R: Read, W: Write>(
     alloc: Global,
     reader: &mut Watched<R>,

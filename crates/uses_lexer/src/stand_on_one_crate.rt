@@ -1,4 +1,4 @@
-//! A crate that lists lalrpop_lexer alone calls what it hands out, and names what those calls promise.
+//! A crate that depends on lalrpop_lexer alone can call what it re-exports, and name what those calls promise.
 ghost use Rattle.std.specs.Prelude.{◌≡◌, ◌≢◌, ◌+◌, ◌*◌, ◌≤◌, Some, map, length, IfOk, IfErr};
 ghost use Rattle.std.specs.List.{Contains};
 ghost use Rattle.std.specs.Str.{chars};
@@ -24,7 +24,7 @@ use std::collections::BTreeSet;
 ///
 /// # Errors
 ///
-/// Why the text is no pattern, and out of memory.
+/// Why the text isn't a pattern, or out of memory.
 pub fn tree_of(alloc: Global, pattern: &str) -> Result<Regex, RegexError>
     ensures tree { IfOk result (λ t. Pattern (chars pattern.now) t) }
     ensures none { IfErr result (HasNoTree (chars pattern.now)) }
@@ -37,7 +37,7 @@ pub fn tree_of(alloc: Global, pattern: &str) -> Result<Regex, RegexError>
 ///
 /// # Errors
 ///
-/// The pattern's fault, and out of memory.
+/// The pattern's fault, or out of memory.
 pub fn compiled(alloc: Global, regex: &Regex) -> Result<Nfa, NfaConstructionError>
     ensures compiled { IfOk result (λ nfa. IsCompiled regex.now nfa) }
     ensures fault { IfErr result (λ e. e ≢ NfaConstructionError.OutOfMemory
@@ -51,7 +51,7 @@ pub fn compiled(alloc: Global, regex: &Regex) -> Result<Nfa, NfaConstructionErro
 ///
 /// # Errors
 ///
-/// A refused request for memory.
+/// `AllocError` if a request for memory was refused.
 pub fn blocks(alloc: Global, ranges: &BTreeSet<Test>) -> Result<Vec<Test>, AllocError>
     ensures partition { IfOk result (λ blocks.
         IsPartition (Contains ranges.now.keys) blocks.items) }
@@ -65,7 +65,7 @@ pub fn blocks(alloc: Global, ranges: &BTreeSet<Test>) -> Result<Vec<Test>, Alloc
 ///
 /// # Errors
 ///
-/// Why the patterns have no automaton, and out of memory.
+/// Why the patterns have no automaton, or out of memory.
 pub fn state_count(
     alloc: Global,
     regexs: &[Regex],
@@ -83,7 +83,7 @@ pub fn state_count(
 ///
 /// # Errors
 ///
-/// The first pattern with a fault, and out of memory.
+/// The first pattern with a fault, or out of memory.
 pub fn all_clashes(
     alloc: Global,
     regexs: &[Regex],
@@ -98,7 +98,7 @@ pub fn all_clashes(
 }
 
 // Needs lalrpop_table::interpret_probed: probed.
-/// Whether some pattern matches, where no state has more than 15 test edges: at most four of them are looked at for each
+/// Whether some pattern matches, if no state has more than 15 test edges: at most four of them are examined for each
 /// character.
 pub fn matches_in_few_probes(dfa: &Dfa, text: &str, probes: &mut Steps) -> bool
     requires narrow { HaveAtMost dfa.now 15 }

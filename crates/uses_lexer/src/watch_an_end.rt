@@ -1,4 +1,4 @@
-//! Ends are watched: what is read and written, whether an end has failed, and how often it was called after that.
+//! Readers and writers are watched: what is read and written, whether one has failed, and how often it was called after that.
 ghost use Rattle.std.specs.Prelude.{◌≡◌, ◌+◌, ◌<◌, ◌++◌, ◌∷◌, [], ℕ, List, length, IfOk, OnOk, OnErr, MatchOption, true, false};
 ghost use Rattle.std.specs.Io.KnownBytes.{Appends, Consumes, IsAtEnd, Keeps};
 
@@ -27,11 +27,11 @@ pub fn next_byte<R: Read>(reader: &mut Watched<R>) -> io::Result<Option<u8>>
 }
 
 // Needs lexdfa_lib::Watched::read: bound, bytes.
-/// Reads some bytes and adds them to others.
+/// Reads some bytes and appends them to `bytes`.
 ///
 /// # Errors
 ///
-/// The reader's own, and out of memory.
+/// The reader's own, or out of memory.
 pub fn read_some<R: Read>(reader: &mut Watched<R>, bytes: &mut Vec<u8>) -> io::Result<()>
     ensures read { OnOk result ((read : List ℕ) × ((bytes.new.items ≡ bytes.old.items ++ read)
         × Consumes (R.remaining reader.old.inner) (R.remaining reader.new.inner) read)) }
@@ -59,7 +59,7 @@ pub fn read_twice<R: Read>(reader: &mut Watched<R>, buffer: &mut [u8]) -> io::Re
 }
 
 // Needs lexdfa_lib::Watched::read: late.
-/// Reads though the reader has failed, which counts.
+/// Reads though the reader has failed: the call is counted.
 ///
 /// # Errors
 ///
@@ -72,7 +72,7 @@ pub fn read_late<R: Read>(reader: &mut Watched<R>, buffer: &mut [u8]) -> io::Res
 }
 
 // Needs lexdfa_lib::Watched::write: bound, bytes.
-/// Writes the front of some bytes, and gives the others.
+/// Writes the first of some bytes, and returns the others.
 ///
 /// # Errors
 ///
@@ -92,7 +92,7 @@ pub fn write_front<'bytes, W: Write>(
 }
 
 // Needs lexdfa_lib::Watched::write: failed, late.
-/// Writes the fronts of two lists of bytes, but makes no call after one that has failed or has taken nothing.
+/// Writes the first bytes of two slices, but makes no call after one that has failed or has taken nothing.
 ///
 /// # Errors
 ///
@@ -117,7 +117,7 @@ pub fn write_both<W: Write>(
 }
 
 // Needs lexdfa_lib::Watched::write: late.
-/// Writes though the writer has failed, which counts.
+/// Writes though the writer has failed: the call is counted.
 ///
 /// # Errors
 ///

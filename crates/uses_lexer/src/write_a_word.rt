@@ -8,7 +8,7 @@ use std::alloc::{AllocError, Global};
 
 // Needs lexdfa_lib::Word::new: values.
 // Needs lexdfa_lib::Word::into_vec: values.
-/// The values of a word, in the list that they were given in.
+/// The values of a word, in the list that it was made from.
 pub fn there_and_back(values: Vec<u32>) -> Vec<u32>
     ensures same { result.items ≡ values.items }
 {
@@ -24,7 +24,7 @@ pub fn word_length(word: &Word) -> usize
 }
 
 // Needs lexdfa_lib::Word::eq: ghost eq.
-/// Whether both words are of the same values.
+/// Whether both words have the same values.
 pub fn are_same(word: &Word, other: &Word) -> bool
     ensures same { IsTrue result ↔ (word.now ≡ other.now) }
 {
@@ -32,11 +32,11 @@ pub fn are_same(word: &Word, other: &Word) -> bool
 }
 
 // Needs lexdfa_lib::Word::fmt: ghost output.
-/// A word in brackets, each value behind a space and in hexadecimal digits.
+/// A word in brackets, each value after a space and in hexadecimal.
 ///
 /// # Errors
 ///
-/// A refused request for memory.
+/// `AllocError` if a request for memory was refused.
 pub fn in_brackets(alloc: Global, word: &Word) -> Result<String, AllocError>
     ensures text { IfOk result (λ text. string_bytes text
         ≡ codes "[" ++ (flat_map value_text word.now ++ codes " ]")) }
@@ -45,7 +45,7 @@ pub fn in_brackets(alloc: Global, word: &Word) -> Result<String, AllocError>
 }
 
 // Needs lexdfa_lib::arguments: text, other.
-/// Whether all of a text is to be cut; `None` where the arguments are wrong.
+/// Whether all of a text is to be cut; `None` if the arguments are wrong.
 pub fn cuts_all(words: &[String]) -> Option<bool>
     ensures found { IfSome result (λ all. (text : List ℕ)
         × AreArguments (map string_bytes words.now) all text) }

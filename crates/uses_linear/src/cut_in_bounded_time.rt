@@ -39,7 +39,7 @@ pub fn cut_to_the_end<'text>(
 }
 
 // Needs lalrpop_lexer::Lexer::tokens_bounded: start, built.
-/// Before the first token all of the text is left, and what cuts it is the lexer's.
+/// Before the first token all of the text is left, and it is the lexer's automaton that cuts it.
 ///
 /// # Errors
 ///
@@ -58,7 +58,7 @@ pub fn begin<'text>(
 }
 
 // Needs lalrpop_lexer::Lexer::tokens_bounded: tokens.
-/// Whether there is neither a token nor a fault: then there is no text.
+/// Whether there is neither a token nor a fault: then the text is empty.
 ///
 /// # Errors
 ///

@@ -48,7 +48,7 @@ pub fn rest_at_first<'text>(
 }
 
 // Needs lalrpop_lexer::Lexer::tokens_linear: tokens.
-/// Whether there is neither a token nor a fault: then there is no text.
+/// Whether there is neither a token nor a fault: then the text is empty.
 ///
 /// # Errors
 ///

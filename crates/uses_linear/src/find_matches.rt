@@ -1,4 +1,4 @@
-//! The longest matches of a text, one behind another.
+//! The longest matches of a text, one after another.
 
 ghost use Rattle.std.specs.Prelude.{◌≡◌, ◌≢◌, ℕ, ◌+◌, ◌*◌, ◌≤◌, ◌++◌, [], drop, length, List, true, IfOk, IfNone, IfSome};
 ghost use Rattle.std.specs.Option.{option_map};
@@ -47,7 +47,7 @@ pub fn find_next<'text>(matches: &mut LinearMatches<'text>) -> Option<(NfaIndex,
 
 // Needs lalrpop_linear::LinearMatches::next_match: goes_on, stays.
 // Needs lalrpop_linear::LinearMatches::offset: offset.
-/// Passes over a match, if there is one, and says where the rest begins then.
+/// Passes over a match, if there is one, and returns where the rest then begins.
 pub fn pass_over(matches: &mut LinearMatches) -> usize
     ensures { matches.old.at ≤ result }
 {
@@ -56,7 +56,7 @@ pub fn pass_over(matches: &mut LinearMatches) -> usize
 }
 
 // Needs lalrpop_linear::LinearMatches::pass_char: first, passes.
-/// Passes over the first character of the rest, if there is one. The rest is then what stands behind it in the text.
+/// Passes over the first character of the rest, if there is one. The rest then begins after it.
 pub fn pass_first(matches: &mut LinearMatches) -> Option<char>
     ensures { IfSome result (λ c. rest_of matches.old
         ≡ encode_utf8 c ++ drop (matches.old.at + length (encode_utf8 c)) matches.old.text) }

@@ -6,7 +6,7 @@ ghost use Rattle.lalrpop_hir.specs.Runs.{IsCanon, InEither, InBoth, InFirstAlone
 use lalrpop_hir::ClassUnicode;
 use std::alloc::{AllocError, Global};
 
-/// What may stand in a name: letters and digits.
+/// What may occur in a name: letters and digits.
 // Needs lalrpop_hir::ClassUnicode::union: runs.
 pub fn of_names(
     alloc: Global,
@@ -18,7 +18,7 @@ pub fn of_names(
     letters.union(alloc, digits)
 }
 
-/// What is a letter of the script too.
+/// The letters that are also in the script.
 // Needs lalrpop_hir::ClassUnicode::intersection: runs.
 pub fn of_script(
     alloc: Global,
@@ -30,7 +30,7 @@ pub fn of_script(
     letters.intersection(alloc, script)
 }
 
-/// The letters that are no vowels.
+/// The letters that aren't vowels.
 // Needs lalrpop_hir::ClassUnicode::difference: runs.
 pub fn consonants(
     alloc: Global,

@@ -16,7 +16,7 @@ pub fn twice(alloc: Global, tree: Hir) -> Result<Hir, AllocError>
     Ok(Hir::concat(vec![in alloc; copy, tree]?))
 }
 
-/// What stands at the top of the tree, as a value of its own.
+/// What is at the top of the tree, as a value of its own.
 // Needs lalrpop_hir::HirKind::clone: ghost is_clone.
 pub fn top(tree: &Hir) -> Result<HirKind, AllocError>
     ensures { IfOk result (λ kind. kind_tree kind ≡ tree.now) }

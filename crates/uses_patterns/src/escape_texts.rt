@@ -1,4 +1,4 @@
-//! Patterns that match a text as it stands.
+//! Patterns that match a text as it is.
 ghost use Rattle.std.specs.Prelude.{◌≡◌, ◌↔◌, ℕ, List, IfOk, IfErr, string_bytes};
 ghost use Rattle.std.specs.Str.{chars};
 ghost use Rattle.lalrpop_book.specs.Language.{Matches};
@@ -8,7 +8,7 @@ ghost use Rattle.lalrpop_grammar.specs.Escaped.{escaped};
 use lalrpop_re::{Hir, RegexError, escape, parse_literal, parse_regex};
 use std::alloc::Global;
 
-/// The text as a pattern: it has a backslash before each character that may have a meaning.
+/// The text as a pattern, with a backslash before each character that may have a special meaning.
 // Needs lalrpop_grammar::escape: text.
 pub fn quoted(alloc: Global, text: &str) -> Result<String, RegexError>
     ensures { IfOk result (λ p. chars (string_bytes p) ≡ escaped (chars text.now)) }
@@ -16,7 +16,7 @@ pub fn quoted(alloc: Global, text: &str) -> Result<String, RegexError>
     escape(alloc, text)
 }
 
-/// The tree of the escaped text, which matches the text alone. Nothing but memory can be refused.
+/// The tree of the escaped text, which matches only the text. Only memory can be refused.
 // Needs lalrpop_grammar::escape: tree, memory.
 // Needs lalrpop_re::parse_regex: only, none.
 pub fn tree_of_quoted(alloc: Global, text: &str) -> Result<Hir, RegexError>
@@ -27,7 +27,7 @@ pub fn tree_of_quoted(alloc: Global, text: &str) -> Result<Hir, RegexError>
     parse_regex(alloc, pattern.as_str())
 }
 
-/// The tree of the text itself, which matches it alone. Nothing but memory can be refused.
+/// The tree of the text itself, which matches only the text. Only memory can be refused.
 // Needs lalrpop_grammar::parse_literal: tree, matches, memory.
 pub fn tree_of_text(alloc: Global, text: &str) -> Result<Hir, RegexError>
     ensures tree { IfOk result (λ t. t ≡ of_text text.now) }

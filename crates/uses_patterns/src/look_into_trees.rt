@@ -1,4 +1,4 @@
-//! What stands at the top of a tree, and its parts.
+//! What is at the top of a tree, and its parts.
 ghost use Rattle.std.specs.Prelude.{◌≡◌, ◌≢◌, ℕ, List, [], option_map, IfSome, MatchOption};
 ghost use Rattle.std.specs.Str.{chars};
 ghost use Rattle.lalrpop_hir.specs.Counts.{AreOrdered};
@@ -28,7 +28,7 @@ pub fn first_byte(text: &Literal) -> u8
     text.as_str().as_bytes()[0]
 }
 
-/// How often at least.
+/// The least number of repetitions.
 // Needs lalrpop_hir::Repetition::min: value, ordered.
 pub fn least_turns(turns: &Repetition) -> u32
     ensures value { result ≡ turns.now.min }
@@ -37,7 +37,7 @@ pub fn least_turns(turns: &Repetition) -> u32
     turns.min()
 }
 
-/// How often at most.
+/// The greatest number of repetitions, if there is one.
 // Needs lalrpop_hir::Repetition::max: value, ordered.
 pub fn most_turns(turns: &Repetition) -> Option<u32>
     ensures value { result ≡ turns.now.max }
@@ -46,7 +46,7 @@ pub fn most_turns(turns: &Repetition) -> Option<u32>
     turns.max()
 }
 
-/// Whether more turns are preferred, and what is repeated.
+/// Whether the repetition is greedy, and what is repeated.
 // Needs lalrpop_hir::Repetition::greedy: greedy.
 // Needs lalrpop_hir::Repetition::sub: sub.
 pub fn turn_of(turns: &Repetition) -> (bool, &Hir)
@@ -56,7 +56,7 @@ pub fn turn_of(turns: &Repetition) -> (bool, &Hir)
     (turns.greedy(), turns.sub())
 }
 
-/// The name of a group and what stands in it.
+/// The name of a group, and what is in it.
 // Needs lalrpop_hir::Capture::name: name.
 // Needs lalrpop_hir::Capture::sub: sub.
 pub fn opened(group: &Capture) -> (Option<&str>, &Hir)

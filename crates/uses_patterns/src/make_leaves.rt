@@ -21,7 +21,7 @@ pub fn from_to(alloc: Global, flags: Flags, low: char, high: char) -> Result<Hir
     Ok(tree_of_class(leaf_of_range(alloc, flags, low, high)?))
 }
 
-/// One character that is a member, or that is none.
+/// One character that is a member, or one that isn't.
 // Needs lalrpop_grammar::leaf_of_set: runs.
 // Needs lalrpop_grammar::tree_of_class: tree.
 pub fn member_or_other(
@@ -44,7 +44,7 @@ pub fn character(alloc: Global, flags: Flags, c: char) -> Result<Hir, AllocError
     tree_of_character(alloc, flags, c)
 }
 
-/// Any character, as `.` stands for it.
+/// Any character, as `.` means it.
 // Needs lalrpop_grammar::tree_of_dot: tree.
 pub fn any_character(alloc: Global, flags: Flags) -> Result<Hir, AllocError>
     ensures { IfOk result (λ t. t ≡ dot_tree flags) }
@@ -52,7 +52,7 @@ pub fn any_character(alloc: Global, flags: Flags) -> Result<Hir, AllocError>
     tree_of_dot(alloc, flags)
 }
 
-/// Whether two groups of the tree have one name.
+/// Whether two groups of the tree have the same name.
 // Needs lalrpop_grammar::repeated_name: repeated.
 pub fn has_a_name_twice(alloc: Global, tree: &Hir) -> Result<bool, AllocError>
     ensures { IfOk result (λ twice. twice ≡ not (are_distinct (names tree.now))) }
@@ -60,7 +60,7 @@ pub fn has_a_name_twice(alloc: Global, tree: &Hir) -> Result<bool, AllocError>
     Ok(repeated_name(alloc, tree)?.is_some())
 }
 
-/// The number of the first group whose name stands before it too, among those with a name.
+/// The number of the first group whose name an earlier group has too, counted among the named groups.
 // Needs lalrpop_grammar::repeated_name: first.
 pub fn group_to_rename(alloc: Global, tree: &Hir) -> Result<Option<usize>, AllocError>
     ensures { IfOk result (λ number. IfSome number (IsFirstRepeated (names tree.now))) }

@@ -1,4 +1,4 @@
-//! Sets that have a name, ranges, and what folds alike.
+//! Named sets, ranges, and case folding.
 ghost use Rattle.std.specs.Prelude.{◌≡◌, ◌≤◌, IfOk, MatchOption, None, Some};
 ghost use Rattle.unicode.specs.Perl.{is_digit_char, is_space_char, is_word_char};
 ghost use Rattle.lalrpop_sets.specs.CharacterSet.{Set, range, fold, HasRuns};
@@ -18,7 +18,7 @@ pub fn from_to(alloc: Global, low: char, high: char) -> Result<ClassUnicode, All
     range_class(alloc, low, high)
 }
 
-/// All that differs from a member in case alone, and the members.
+/// The members, and all characters that differ from a member only in case.
 // Needs lalrpop_sets::fold: runs.
 pub fn in_any_case(alloc: Global, members: &ClassUnicode) -> Result<ClassUnicode, AllocError>
     ensures { IfOk result (λ class. (s : Set) → HasRuns members.now s → HasRuns class (fold s)) }
@@ -50,7 +50,7 @@ pub fn all_of_words(alloc: Global) -> Result<ClassUnicode, AllocError>
     words(alloc)
 }
 
-/// The set of a property, as `Greek`, where there is one of this name.
+/// The set of a property such as `Greek`, if there is one with this name.
 // Needs lalrpop_sets::named_set: found.
 pub fn property(alloc: Global, name: &[char]) -> Result<Option<ClassUnicode>, AllocError>
     ensures { IfOk result (λ found. MatchOption found (named name.now ≡ None)
@@ -59,7 +59,7 @@ pub fn property(alloc: Global, name: &[char]) -> Result<Option<ClassUnicode>, Al
     named_set(alloc, name)
 }
 
-/// The set of a POSIX class, as `alpha`, where there is one of this name.
+/// The set of a POSIX class such as `alpha`, if there is one with this name.
 // Needs lalrpop_sets::posix_class: found.
 pub fn posix(alloc: Global, name: &[char]) -> Result<Option<ClassUnicode>, AllocError>
     ensures { IfOk result (λ found. MatchOption found (posix_set name.now ≡ None)

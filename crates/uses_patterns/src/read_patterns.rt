@@ -1,4 +1,4 @@
-//! Patterns, read from text.
+//! Patterns, parsed from text.
 ghost use Rattle.std.specs.Prelude.{◌≡◌, ℕ, List, take, IfOk, IfErr, IfSome};
 ghost use Rattle.std.specs.Str.{chars, IsCharBoundary};
 ghost use Rattle.lalrpop_book.specs.Tree.{Tree};
@@ -8,7 +8,7 @@ ghost use Rattle.lalrpop_re.specs.Refusal.{HasNoTree};
 use lalrpop_re::{Hir, RegexError, parse_regex};
 use std::alloc::Global;
 
-/// The tree of a pattern, which is the only one. A pattern that is refused for its syntax has none.
+/// The only tree of a pattern. A pattern that is refused for its syntax has none.
 // Needs lalrpop_re::parse_regex: tree, only, none.
 pub fn tree_of(alloc: Global, pattern: &str) -> Result<Hir, RegexError>
     ensures tree { IfOk result (λ t. Pattern (chars pattern.now) t) }
@@ -18,7 +18,7 @@ pub fn tree_of(alloc: Global, pattern: &str) -> Result<Hir, RegexError>
     parse_regex(alloc, pattern)
 }
 
-/// What stands in front of the fault of a pattern, where it has one.
+/// The part of a pattern before its fault, if it has one.
 // Needs lalrpop_re::parse_regex: position.
 pub fn in_front_of_fault(alloc: Global, pattern: &str) -> Option<&str>
     ensures { IfSome result (λ front. (n : ℕ) × IsCharBoundary pattern.now n

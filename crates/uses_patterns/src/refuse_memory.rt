@@ -1,11 +1,11 @@
-//! Refusals of memory beside those of patterns.
+//! Refusals of memory other than those of parsing patterns.
 ghost use Rattle.std.specs.Prelude.{◌≡◌, ◌∷◌, [], IfErr};
 
 use lalrpop_grammar::RegexError;
 use lalrpop_hir::Hir;
 use std::alloc::Global;
 
-/// Room for the tree. There is one refusal.
+/// Room for the tree. The only error is refused memory.
 // Needs lalrpop_grammar::RegexError::from: ghost from_gives.
 pub fn boxed(alloc: Global, tree: Hir) -> Result<Box<Hir>, RegexError>
     ensures { IfErr result (λ e. e ≡ RegexError.OutOfMemory) }
@@ -13,7 +13,7 @@ pub fn boxed(alloc: Global, tree: Hir) -> Result<Box<Hir>, RegexError>
     Ok(Box::new(alloc, tree)?)
 }
 
-/// A text of its own. There is one refusal.
+/// A text of its own. The only error is refused memory.
 // Needs lalrpop_grammar::RegexError::from: ghost from_gives.
 pub fn kept(alloc: Global, pattern: &str) -> Result<String, RegexError>
     ensures { IfErr result (λ e. e ≡ RegexError.OutOfMemory) }

@@ -33,7 +33,7 @@ pub fn rest_at_first<'text>(lexer: &'text RuleLexer, text: &'text str) -> &'text
 }
 
 // Needs lalrpop_rules::RuleLexer::items: parts.
-/// The first piece's slice and what stands behind it.
+/// The first piece's slice and what follows it.
 pub fn cut_once<'text>(
     lexer: &'text RuleLexer,
     text: &'text str,
@@ -48,7 +48,7 @@ pub fn cut_once<'text>(
 }
 
 // Needs lalrpop_rules::Items::next: ghost next_gives.
-/// Whether something comes behind the end of the pieces: never.
+/// Whether something comes after the end of the pieces: never.
 pub fn comes_behind_the_end(lexer: &RuleLexer, text: &str) -> bool
     ensures never { result ≡ false }
 {

@@ -50,7 +50,7 @@ pub fn rest_at_first<'text>(
 }
 
 // Needs lalrpop_rules::RuleLexer::items_linear: parts.
-/// The first piece's slice and what stands behind it.
+/// The first piece's slice and what follows it.
 ///
 /// # Errors
 ///

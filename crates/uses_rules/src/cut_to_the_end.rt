@@ -43,7 +43,7 @@ pub fn rest_at_first<'text>(
 // Needs lalrpop_rules::items: parts.
 // Needs lalrpop_rules::Items::next: ghost next_gives.
 // Needs lalrpop_rules::Item::slice: slice.
-/// The first piece's slice and what stands behind it.
+/// The first piece's slice and what follows it.
 pub fn cut_once<'text>(
     lexer: &'text Lexer,
     skipped: &'text [bool],
@@ -68,7 +68,7 @@ pub fn place(piece: &Item) -> usize
 }
 
 // Needs lalrpop_rules::Items::next: ghost next_gives.
-/// Whether something comes behind the end of the pieces: never.
+/// Whether something comes after the end of the pieces: never.
 pub fn comes_behind_the_end(lexer: &Lexer, skipped: &[bool], text: &str) -> bool
     ensures never { result ≡ false }
 {

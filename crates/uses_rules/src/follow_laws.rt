@@ -1,4 +1,4 @@
-//! What follows of tokens and pieces by the laws for callers, which the proofs here cite.
+//! What follows for tokens and pieces from the laws for callers, which the proofs here cite.
 ghost use Rattle.std.specs.Prelude.{◌≡◌, ◌≢◌, ◌++◌, ◌<◌, ℕ, List, [], true, Result, Ok, Some, IfOk, IfSome, length, slice_get, slice_index};
 ghost use Rattle.std.specs.Iterator.{Drains};
 ghost use Rattle.std.specs.Str.{chars};
@@ -17,7 +17,7 @@ use lalrpop_lexer::{Lexer, LexerTokens, Token};
 use lalrpop_rules::{Items, LinearItems, RuleLexer};
 use std::alloc::{AllocError, Global};
 
-/// How strong the pattern of the token at the front of the text is. The pattern of a token is one of the list.
+/// How strong the pattern of the token at the front of the text is. The pattern of a token is in the list.
 pub fn strength_at_front(
     lexer: &Lexer,
     precedences: &[Precedence],
@@ -43,7 +43,7 @@ pub fn strongest_at_front<'text>(lexer: &Lexer, text: &'text str) -> Option<Toke
     lexer.token(text)
 }
 
-/// The tokens of the text, each of them the one at its place.
+/// The tokens of the text, each the one at its place.
 pub fn tokens_at_their_places<'text>(lexer: &'text Lexer, text: &'text str) -> LexerTokens<'text>
     ensures each { (xs : List (Result TokenValue FaultValue)) (i : ℕ) (token : TokenValue)
         → Drains GivesToken result xs → slice_get xs i ≡ Some (Ok token)
@@ -52,7 +52,7 @@ pub fn tokens_at_their_places<'text>(lexer: &'text Lexer, text: &'text str) -> L
     lexer.tokens(text)
 }
 
-/// The pieces of the text, each of them the one at its place.
+/// The pieces of the text, each the one at its place.
 pub fn pieces_at_their_places<'text>(lexer: &'text RuleLexer, text: &'text str) -> Items<'text>
     ensures each { (xs : List ItemValue) (i : ℕ) (x : ItemValue)
         → Drains GivesPiece result xs → slice_get xs i ≡ Some x
@@ -79,7 +79,7 @@ pub fn pieces_either_way<'text>(
     Ok((lexer.items(text), linear))
 }
 
-/// The token at the front of the text. Its characters are the first ones of the text.
+/// The token at the front of the text. Its characters are the first characters of the text.
 pub fn characters_at_front<'text>(lexer: &Lexer, text: &'text str) -> Option<Token<'text>>
     ensures characters { IfSome result (λ token. (w : List ℕ)
         × (chars text.now ≡ chars token.slice.now ++ w)) }

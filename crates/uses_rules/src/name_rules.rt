@@ -1,4 +1,4 @@
-//! Named rules, and the lexer of them.
+//! Named rules, and their lexer.
 ghost use Rattle.std.specs.Prelude.{◌≡◌, ℕ, true, false, List, length, IfOk, IfErr, IfSome, IsSome, slice_get, Some};
 ghost use Rattle.std.specs.Str.{chars};
 ghost use Rattle.lalrpop_book.specs.Clash.{NoClash};
@@ -41,7 +41,7 @@ pub fn names<'text>(name: &'text str, text: &'text str) -> Rule<'text>
 
 // Needs lalrpop_rules::Rule::skipped: rule.
 // Needs lalrpop_rules::Rule::with_precedence: rule.
-/// A rule that is skipped where it matches, whatever else does as much.
+/// A rule that is skipped where it matches, and wins over the others that match as much.
 pub fn skipped_first(rule: Rule) -> Rule
     ensures skipped { result.is_skipped ≡ true }
     ensures strong { result.precedence.0 ≡ 1000 }
@@ -51,7 +51,7 @@ pub fn skipped_first(rule: Rule) -> Rule
 }
 
 // Needs lalrpop_rules::RuleLexer::from_rules: names, trees, precedences, skips, no_fault, no_clash, error.
-/// The lexer of some rules.
+/// The lexer of these rules.
 ///
 /// # Errors
 ///
@@ -92,7 +92,7 @@ pub fn first_place(lexer: &RuleLexer, text: &str) -> Option<usize>
 }
 
 // Needs lalrpop_rules::RuleLexer::skips: skips.
-/// How many rules are marked as skipped or not.
+/// How many rules have a flag that says whether they are skipped.
 pub fn marked(lexer: &RuleLexer) -> usize
     ensures count { result ≡ length lexer.now.skips }
 {
@@ -100,7 +100,7 @@ pub fn marked(lexer: &RuleLexer) -> usize
 }
 
 // Needs lalrpop_rules::RulesError::from: ghost from_gives.
-/// Refused memory is told as such.
+/// Refused memory is reported as such.
 pub fn refused(error: AllocError) -> RulesError
     ensures memory { result ≡ RulesError.OutOfMemory }
 {
@@ -108,7 +108,7 @@ pub fn refused(error: AllocError) -> RulesError
 }
 
 // Needs lalrpop_rules::RulesError::from: ghost from_gives.
-/// One rule more.
+/// Adds a flag.
 ///
 /// # Errors
 ///

@@ -14,7 +14,7 @@ use std::alloc::{AllocError, Global};
 ///
 /// # Errors
 ///
-/// A refused request for memory.
+/// `AllocError` if a request for memory was refused.
 pub fn first_bad_line(alloc: Global, bytes: &[u8]) -> Result<Option<usize>, AllocError>
     ensures wrong { IfOk result (λ wrong. MatchOption wrong
         ((rs : List RuleValue) × AreRules (lines bytes.now) rs)
@@ -28,11 +28,11 @@ pub fn first_bad_line(alloc: Global, bytes: &[u8]) -> Result<Option<usize>, Allo
 }
 
 // Needs lalrpop_rule_file::read_rules: error.
-/// In which column the first bad line is bad, and why.
+/// In which column the first bad line stops being a rule, and why.
 ///
 /// # Errors
 ///
-/// A refused request for memory.
+/// `AllocError` if a request for memory was refused.
 pub fn first_fault(alloc: Global, bytes: &[u8]) -> Result<Option<(usize, LineFault)>, AllocError>
     ensures fault { IfOk result (λ found. IfSome found (λ f. (n : ℕ) × ((line : List ℕ)
         × ((slice_get (lines bytes.now) n ≡ Some line) × IsLineFault line f.0 f.1)))) }
@@ -51,11 +51,11 @@ pub fn first_fault(alloc: Global, bytes: &[u8]) -> Result<Option<(usize, LineFau
 }
 
 // Needs lalrpop_rule_file::read_rules: rules.
-/// The lexer of a file of rules; `None` where the file isn't one.
+/// The lexer of a file of rules; `None` if the file isn't one.
 ///
 /// # Errors
 ///
-/// Why the rules give no lexer, and out of memory.
+/// Why the rules give no lexer, or out of memory.
 pub fn lexer_of_file(alloc: Global, bytes: &[u8]) -> Result<Option<RuleLexer>, RulesError>
     ensures names { IfOk result (λ found. IfSome found (λ lexer. (rs : List RuleValue)
         × (AreRules (lines bytes.now) rs × (lexer.names ≡ names_of rs)))) }
@@ -70,7 +70,7 @@ pub fn lexer_of_file(alloc: Global, bytes: &[u8]) -> Result<Option<RuleLexer>, R
 }
 
 // Needs lalrpop_rule_file::RuleFileError::from: ghost from_gives.
-/// Refused memory is told as such.
+/// Refused memory is reported as such.
 pub fn refused(error: AllocError) -> RuleFileError
     ensures memory { result ≡ RuleFileError.OutOfMemory }
 {
@@ -78,7 +78,7 @@ pub fn refused(error: AllocError) -> RuleFileError
 }
 
 // Needs lalrpop_rule_file::RuleFileError::from: ghost from_gives.
-/// One number more.
+/// Adds a number.
 ///
 /// # Errors
 ///

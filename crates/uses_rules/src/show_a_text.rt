@@ -1,4 +1,4 @@
-//! A text as markup, and in a terminal's colours.
+//! A text as HTML, and in colours for a terminal.
 ghost use Rattle.std.specs.Prelude.{◌≡◌, List, flat_map, string_bytes, IfOk};
 ghost use Rattle.lalrpop_rules.specs.declared.item.Item.{Item as ItemValue};
 ghost use Rattle.lalrpop_markup.specs.Markup.{marked, outside};
@@ -9,7 +9,7 @@ use lalrpop_rules::RuleLexer;
 use std::alloc::{AllocError, Global};
 
 // Needs lalrpop_markup::html: text, pieces.
-/// A page of a text, from which the text can be read back.
+/// A text as HTML, from which the text can be read back.
 ///
 /// # Errors
 ///

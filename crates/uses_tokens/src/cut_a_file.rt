@@ -67,7 +67,7 @@ pub fn lines_with_places<W: Write>(
     write_tokens(alloc, lexer, Some(file), text, writer)
 }
 
-// The place where cutting stopped, as people count it.
+// The place where cutting stopped, as line and column.
 pub fn place_of_stop(text: &str, outcome: &Outcome) -> Option<Position>
     requires boundary { IsStopOf text.now outcome.now }
     ensures place { IfSome result (λ p. (n at : ℕ)

@@ -37,7 +37,7 @@ pub fn lines_of<W: Write>(
     write_items(alloc, lexer, layout, text, writer)
 }
 
-// The place of the first fault, as people count it.
+// The place of the first fault, as line and column.
 // Needs tokens_lib::write_items: boundary.
 pub fn place_of_first_fault<W: Write>(
     alloc: Global,

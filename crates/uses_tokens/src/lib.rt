@@ -1,4 +1,4 @@
-//! How the library of the program `tokens` is called: for each promise of it a small caller that needs it.
+//! How the library of the program `tokens` is called: for each of its promises a small caller that needs it.
 #![tactic(auto)]
 
 pub mod cut_a_file;

@@ -24,7 +24,7 @@ pub fn lexer_of_rules(alloc: Global, rules: &[u8]) -> Result<Lexer, BuildError>
     lexer_of(alloc, rules)
 }
 
-// What some rules report, if they make no lexer.
+// What rules report if they make no lexer.
 // Needs tokens_lib::lexer_of: error.
 // Needs tokens_lib::BuildError::from: ghost from_gives.
 pub fn report_of(alloc: Global, rules: &[u8]) -> Result<Option<Outcome>, BuildError>
@@ -47,7 +47,7 @@ pub fn asked_for(words: &[String]) -> Option<Command<'_>>
     command_of(words)
 }
 
-// The program itself, in a `main` of one's own.
+// The program itself, called from another `main`.
 // Needs tokens_lib::run_program: status.
 pub fn as_the_program<R: Env + Files + Input + Print + Eprint + AllocGlobal>(rt: &R) -> ExitCode
     ensures { exit_status result ≤ 6 }

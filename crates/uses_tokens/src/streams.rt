@@ -1,4 +1,4 @@
-//! Streams read to their end and written whole, reports as outcomes, and the one function of statuses.
+//! Readers read to their end, bytes written whole, reports as outcomes, and the one function for statuses.
 ghost use Rattle.std.specs.Prelude.{◌≡◌, ◌≢◌, ◌++◌, [], ℕ, List, Result, Option, Some, false, true, IfOk, OnOk, IfErr, OnErr};
 ghost use Rattle.std.specs.Io.KnownBytes.{Appends};
 ghost use Rattle.lalrpop_lexer.specs.Tree.{Tree};
@@ -31,7 +31,7 @@ pub fn all_bytes<R: Read>(alloc: Global, reader: &mut Watched<R>) -> Result<Vec<
     read_whole(alloc, reader)
 }
 
-// Bytes, and where a writer fails a prefix of them.
+// Writes bytes, or a prefix of them if the writer fails.
 // Needs lexdfa_lib::write_whole: no_late_write, ok, good, prefix, failed, write.
 pub fn send<W: Write>(writer: &mut Watched<W>, bytes: &[u8]) -> Result<(), RunError>
     requires writer_good { writer.old.failed ≡ false }

@@ -12,7 +12,7 @@ use lalrpop_witness::{Witness, lookahead_witness};
 use std::alloc::{AllocError, Global};
 
 // Needs lalrpop_witness::lookahead_witness: least.
-/// A match, and so many values behind it that leave it open.
+/// A match, and `count` values after it that leave it open.
 ///
 /// # Errors
 ///
@@ -30,7 +30,7 @@ pub fn open_match(alloc: Global, dfa: &Dfa, count: usize) -> Result<Option<Witne
 }
 
 // Needs lalrpop_witness::lookahead_witness: none.
-/// Whether some match is left open by so many values.
+/// Whether some match is left open by `count` values.
 ///
 /// # Errors
 ///
@@ -46,7 +46,7 @@ pub fn is_left_open(alloc: Global, dfa: &Dfa, count: usize) -> Result<bool, Allo
 }
 
 // Needs lalrpop_witness::lookahead_witness: least.
-/// What makes the automaton look ahead as far as it does; `None` if it doesn't look ahead, or if nothing limits how far.
+/// What makes the automaton look ahead as far as it does; `None` if it doesn't look ahead, or if its lookahead has no limit.
 ///
 /// # Errors
 ///
@@ -63,8 +63,8 @@ pub fn farthest(alloc: Global, dfa: &Dfa) -> Result<Option<Witness>, AllocError>
 }
 
 // Needs lalrpop_witness::lookahead_witness: none.
-/// Whether so many values leave a match open, in an automaton where a word leads to each state, as `build_dfa` makes it. If
-/// not, no accepting state is left open by them.
+/// Whether `count` values leave a match open, in an automaton where a word leads to each state, as in those that `build_dfa`
+/// builds. If not, no accepting state is left open by them.
 ///
 /// # Errors
 ///

@@ -7,7 +7,7 @@ use Rattle.lalrpop_lexer.specs.declared.Token.{Token}
 use Rattle.lalrpop_lexer.specs.declared.TokenFault.{TokenFault}
 use Rattle.uses_linear.proofs.cut_in_bounded_time.cut_to_the_end.Given as goal
 
--- all that was given so far
+-- all that was returned so far
 abbrev pub invariant-loop : goal.invariant-loop
 invariant-loop l = (xs : List (Result Token TokenFault)) × Yields GivesBounded l.initial.items xs l.items
 

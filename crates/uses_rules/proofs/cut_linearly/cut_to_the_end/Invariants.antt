@@ -5,7 +5,7 @@ use Rattle.lalrpop_rules.specs.LinearCutToEnd.{GivesLinearPiece}
 use Rattle.lalrpop_rules.specs.declared.item.Item.{Item}
 use Rattle.uses_rules.proofs.cut_linearly.cut_to_the_end.Given as goal
 
--- all that was given so far
+-- all that was returned so far
 abbrev pub invariant-loop : goal.invariant-loop
 invariant-loop l = (xs : List Item) × Yields GivesLinearPiece l.initial.pieces xs l.pieces
 
