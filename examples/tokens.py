@@ -18,7 +18,6 @@ rule matches, the file is cut no further, and the exit status is 1."""
 import functools
 import re
 import sys
-import unicodedata
 import warnings
 from pathlib import Path
 
@@ -26,6 +25,9 @@ from pathlib import Path
 warnings.simplefilter("error", FutureWarning)
 
 ESCAPES = {'"': '\\"', "\\": "\\\\", "\n": "\\n", "\r": "\\r", "\t": "\\t", "\0": "\\0"}
+
+# Characters that aren't seen: control characters, spaces of no width, joiners, marks of direction, the byte order mark.
+UNSEEN = re.compile("[\x00-\x1f\x7f-\x9f\u200b-\u200f\u202a-\u202e\u2060-\u206f\ufeff]")
 
 # An identifier in Python is an underscore or a character of XID_Start, and then characters of XID_Continue.
 PROPERTIES = {
@@ -112,7 +114,7 @@ def cut(rules, text):
 
 def quoted(token):
     def shown(c):
-        return ESCAPES.get(c) or (f"\\u{{{ord(c):x}}}" if unicodedata.category(c) == "Cc" else c)
+        return ESCAPES.get(c) or (f"\\u{{{ord(c):x}}}" if UNSEEN.match(c) else c)
 
     return '"' + "".join(map(shown, token)) + '"'
 

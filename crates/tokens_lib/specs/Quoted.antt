@@ -1,6 +1,6 @@
 -- cases: proofs/Cases/Quoted.antt
 -- A slice or a word in quotes.
-use Rattle.std.specs.Prelude.{ℕ, Bool, false, ◌&&◌, ◌||◌, nat_lt, List, ◌++◌, Option, Some, None, codes, chars, encode_utf8, flat_map, if◌then◌else◌, ◌==◌}
+use Rattle.std.specs.Prelude.{ℕ, Bool, false, not, ◌&&◌, ◌||◌, nat_lt, List, ◌++◌, Option, Some, None, codes, chars, encode_utf8, flat_map, if◌then◌else◌, ◌==◌}
 use Rattle.std.specs.Char.{is_control}
 use Rattle.std.specs.Fmt.{digits}
 
@@ -14,11 +14,19 @@ short_escape c =
     if c == 9 then Some (codes "\\t") else (
     if c == 0 then Some (codes "\\0") else None)))))
 
--- what is written for a character: its short escape, if it has one; for other control characters, the number in hexadecimal;
+-- from `low` to `high`
+abbrev pub is_from : ℕ → ℕ → ℕ → Bool
+is_from low high c = not (nat_lt c low) && not (nat_lt high c)
+
+-- a character that isn't seen: a control character, a space of no width, a joiner, a mark of direction, or the byte order mark
+abbrev pub is_unseen : ℕ → Bool
+is_unseen c = is_control c || is_from 8203 8207 c || is_from 8234 8238 c || is_from 8288 8303 c || c == 65279
+
+-- what is written for a character: its short escape, if it has one; for another that isn't seen, the number in hexadecimal;
 -- otherwise the character itself
 abbrev pub told_by : Option (List ℕ) → ℕ → List ℕ
 told_by (Some escape) c = escape
-told_by None c = if is_control c then codes "\\u{" ++ (digits 16 false c ++ codes "}") else encode_utf8 c
+told_by None c = if is_unseen c then codes "\\u{" ++ (digits 16 false c ++ codes "}") else encode_utf8 c
 
 abbrev pub told : ℕ → List ℕ
 told c = told_by (short_escape c) c

@@ -1,6 +1,6 @@
 //! A slice or a word in quotes.
 ghost use Rattle.std.specs.Prelude.{◌≡◌, ◌++◌, option_map, string_bytes, IfOk, OnOk};
-ghost use Rattle.tokens_lib.specs.Quoted.{short_escape, told, quoted, value_told, quoted_word};
+ghost use Rattle.tokens_lib.specs.Quoted.{is_unseen, short_escape, told, quoted, value_told, quoted_word};
 
 use std::alloc::{AllocError, Global};
 
@@ -19,20 +19,32 @@ fn short_escape(c: char) -> Option<&'static str>
     }
 }
 
+// Whether the character isn't seen: a control character, a space of no width, a joiner, a mark of direction, or the byte order
+// mark.
+fn is_unseen(c: char) -> bool
+    ensures { result ≡ is_unseen c }
+{
+    match c {
+        '\u{200b}'..='\u{200f}' | '\u{202a}'..='\u{202e}' => true,
+        '\u{2060}'..='\u{206f}' | '\u{feff}' => true,
+        _ => c.is_control(),
+    }
+}
+
 pub(crate) fn push_told(text: &mut String, c: char) -> Result<(), AllocError>
     ensures { OnOk result (string_bytes text.new ≡ string_bytes text.old ++ told c) }
 {
     if let Some(escape) = short_escape(c) {
         return text.push_str(escape);
     }
-    if c.is_control() {
+    if is_unseen(c) {
         let number = u32::from(c);
         return write!(text, "\\u{{{number:x}}}");
     }
     text.push(c)
 }
 
-/// The slice in double quotes. Quotes, backslashes and control characters are escaped with a backslash.
+/// The slice in double quotes. Quotes, backslashes and characters that aren't seen are escaped with a backslash.
 ///
 /// # Errors
 ///

@@ -16,10 +16,10 @@ characters_that_stand_for_themselves : (told 97 ≡ codes "a") × (told 39 ≡ c
 unfolding lib.Utf8.encode
 characters_that_stand_for_themselves = (refl, refl)
 
--- other control characters by their number
-control_characters_are_told_by_their_number : (told 1 ≡ codes "\\u{1}") × (told 127 ≡ codes "\\u{7f}")
+-- other characters that aren't seen by their number
+unseen_characters_are_written_by_their_number : (told 1 ≡ codes "\\u{1}") × (told 127 ≡ codes "\\u{7f}") × (told 65279 ≡ codes "\\u{feff}")
 unfolding digits
-control_characters_are_told_by_their_number = (refl, refl)
+unseen_characters_are_written_by_their_number = (refl, refl, refl)
 
 -- slices in quotes
 slices_in_quotes : (quoted (codes "a\n") ≡ codes "\"a\\n\"") × (quoted [] ≡ codes "\"\"") × (quoted (codes "\"") ≡ codes "\"\\\"\"")
