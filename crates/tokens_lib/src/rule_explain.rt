@@ -165,7 +165,17 @@ pub(crate) fn rules_explained(
     }
 }
 
-/// What is wrong with the first bad line of a file of rules, in words: the file, the line and the column, and the line itself.
+// Whether the line has the form of a terminal, `P l TEXT` or `P r PATTERN`.
+fn is_terminal(line: &str) -> bool {
+    let Some((precedence, rest)) = line.split_once(' ') else {
+        return false;
+    };
+    let is_number = !precedence.is_empty() && precedence.bytes().all(|byte| byte.is_ascii_digit());
+    is_number && (rest.strip_prefix("l ").is_some() || rest.strip_prefix("r ").is_some())
+}
+
+/// What is wrong with the first bad line of a file of rules, in words: the file, the line and the column, and the line itself; and
+/// how a file of terminals is read, if the line is one.
 ///
 /// # Errors
 ///
@@ -189,12 +199,16 @@ pub(crate) fn bad_line_explained(
     }
     let shown = line_at(bytes, *line);
     let reason = format!(in alloc; "{fault}")?;
-    place_explained(
+    let mut message = place_explained(
         alloc,
         name,
         shown.number,
         shown.text,
         column.saturating_sub(1),
         reason.as_str(),
-    )
+    )?;
+    if is_terminal(shown.text) {
+        message.push_str("This is a line of terminals: read such a file with --lines.\n")?;
+    }
+    Ok(message)
 }
