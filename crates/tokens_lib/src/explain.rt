@@ -1,7 +1,9 @@
 //! Explaining to a user why a file of terminals gives no lexer.
 
 use crate::quote::quoted;
-use crate::reasons::{characters_before, place_explained, refusal_text, syntax_text};
+use crate::reasons::{
+    characters_before, clash_advice, line_shown, place_explained, refusal_text, syntax_text,
+};
 use lalrpop_lexer::lexer::re::{RegexError, SyntaxKind, parse_regex};
 use lexdfa_lib::Outcome;
 use std::alloc::{AllocError, Global};
@@ -53,9 +55,12 @@ fn bad_line_explained(
 ) -> Result<String, AllocError> {
     match line {
         None => format!(in alloc; "tokens: {file}:{number}: this line isn't UTF-8\n"),
-        Some(line) => format!(in alloc;
-            "tokens: {file}:{number}: a line is `P l TEXT` or `P r PATTERN`, with a precedence P\n    {line}\n"
-        ),
+        Some(line) => {
+            let shown = line_shown(alloc, line)?;
+            format!(in alloc;
+                "tokens: {file}:{number}: a line is `P l TEXT` or `P r PATTERN`, with a precedence P\n    {shown}\n"
+            )
+        }
     }
 }
 
@@ -96,15 +101,16 @@ fn clash_explained(
     lines: (usize, usize),
     word: &[u32],
 ) -> Result<String, AllocError> {
-    let word = word_shown(alloc, word)?;
+    let shown = word_shown(alloc, word)?;
+    let advice = clash_advice(word);
     let (later, earlier) = lines;
-    let later_line = line_at(bytes, later).unwrap_or("");
-    let earlier_line = line_at(bytes, earlier).unwrap_or("");
+    let later_line = line_shown(alloc, line_at(bytes, later).unwrap_or(""))?;
+    let earlier_line = line_shown(alloc, line_at(bytes, earlier).unwrap_or(""))?;
     let later = later.saturating_add(1);
     let earlier = earlier.saturating_add(1);
     format!(in alloc;
-        "tokens: {file}:{later}: this terminal clashes with that of line {earlier}: both match the word {word}, and neither wins\n    \
-        {earlier}: {earlier_line}\n    {later}: {later_line}\nGive the one that should win a greater precedence.\n"
+        "tokens: {file}:{later}: this terminal clashes with that of line {earlier}: both match the word {shown}, and neither wins\n    \
+        {earlier}: {earlier_line}\n    {later}: {later_line}\n{advice}\n"
     )
 }
 
@@ -130,8 +136,8 @@ pub(crate) fn explanation(
         Outcome::Refused { terminal, error } => {
             let number = terminal.saturating_add(1);
             let reason = refusal_text(*error);
-            let line = line_at(bytes, *terminal).unwrap_or("");
-            format!(in alloc; "tokens: {file}:{number}: {reason}\n    {line}\n")
+            let shown = line_shown(alloc, line_at(bytes, *terminal).unwrap_or(""))?;
+            format!(in alloc; "tokens: {file}:{number}: {reason}\n    {shown}\n")
         }
         Outcome::Ambiguous {
             match0,

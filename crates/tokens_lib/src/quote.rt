@@ -19,9 +19,9 @@ fn short_escape(c: char) -> Option<&'static str>
     }
 }
 
-// Whether the character isn't seen: a control character, a space of no width, a joiner, a mark of direction, or the byte order
-// mark.
-fn is_unseen(c: char) -> bool
+/// Whether the character isn't seen: a control character, a space of no width, a joiner, a mark of direction, or the byte order
+/// mark.
+pub(crate) fn is_unseen(c: char) -> bool
     ensures { result ≡ is_unseen c }
 {
     match c {

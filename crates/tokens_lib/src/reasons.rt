@@ -1,5 +1,6 @@
 //! What is wrong with a pattern, in words for people, and the place in its line.
 
+use crate::quote::is_unseen;
 use lalrpop_lexer::lexer::nfa::NfaConstructionError;
 use lalrpop_lexer::lexer::re::SyntaxKind;
 use std::alloc::{AllocError, Global};
@@ -45,6 +46,30 @@ pub(crate) fn characters_before(text: &str, byte: usize) -> usize {
         .count()
 }
 
+/// The line as it can be shown: a sign in the place of each character that isn't seen, so that it can't steer a terminal and a caret
+/// under it is in the right place.
+///
+/// # Errors
+///
+/// `AllocError` if a request for memory was refused.
+pub(crate) fn line_shown(alloc: Global, line: &str) -> Result<String, AllocError> {
+    let mut shown = String::new(alloc);
+    for c in line.chars() {
+        let is_hidden = c != '\t' && is_unseen(c);
+        shown.push(if is_hidden { '\u{fffd}' } else { c })?;
+    }
+    Ok(shown)
+}
+
+/// How to resolve a clash on this word.
+pub(crate) fn clash_advice(word: &[u32]) -> &'static str {
+    if word.is_empty() {
+        "No token is empty: let them match one character or more, as by `+` in place of `*`."
+    } else {
+        "Give the one that should win a greater precedence."
+    }
+}
+
 // Blanks as wide as the first characters of the line.
 fn push_blanks(text: &mut String, line: &str, count: usize) -> Result<(), AllocError> {
     let mut left = count;
@@ -58,8 +83,8 @@ fn push_blanks(text: &mut String, line: &str, count: usize) -> Result<(), AllocE
     Ok(())
 }
 
-/// The place and the reason, and the line with a caret under the place, which stands behind `before` characters of it. Lines count
-/// from 1.
+/// The place and the reason, and the line with a caret under the place, which is after the first `before` characters. Lines count from
+/// 1.
 ///
 /// # Errors
 ///
@@ -73,8 +98,9 @@ pub(crate) fn place_explained(
     reason: &str,
 ) -> Result<String, AllocError> {
     let column = before.saturating_add(1);
+    let shown = line_shown(alloc, line)?;
     let mut message = format!(in alloc;
-        "tokens: {file}:{number}:{column}: {reason}\n    {line}\n    "
+        "tokens: {file}:{number}:{column}: {reason}\n    {shown}\n    "
     )?;
     push_blanks(&mut message, line, before)?;
     message.push_str("^\n")?;

@@ -2,7 +2,9 @@
 
 use crate::named_clashes::name_of;
 use crate::quote::quoted_word;
-use crate::reasons::{characters_before, place_explained, refusal_text, syntax_text};
+use crate::reasons::{
+    characters_before, clash_advice, line_shown, place_explained, refusal_text, syntax_text,
+};
 use lalrpop_rule_file::{LineFault, RuleFileError};
 use lalrpop_rules::{Rule, RulesError};
 use std::alloc::{AllocError, Global};
@@ -66,7 +68,7 @@ fn line_of_rule(bytes: &[u8], rule: usize) -> Line<'_> {
     Line { number, text: "" }
 }
 
-// The characters of a line before the text of its pattern, which stands behind the first slash behind the first `=`.
+// The characters of a line before the text of its pattern, which begins after the first slash after the first `=`.
 fn characters_before_pattern(line: &str) -> usize {
     let Some((left, right)) = line.split_once('=') else {
         return 0;
@@ -85,8 +87,9 @@ fn line_explained(
     line: &Line<'_>,
     reason: &str,
 ) -> Result<String, AllocError> {
-    let Line { number, text } = *line;
-    format!(in alloc; "tokens: {file}:{number}: {reason}\n    {text}\n")
+    let number = line.number;
+    let shown = line_shown(alloc, line.text)?;
+    format!(in alloc; "tokens: {file}:{number}: {reason}\n    {shown}\n")
 }
 
 // What the clash is and how to resolve it: both lines, and the word.
@@ -97,7 +100,8 @@ fn clash_explained(
     other: usize,
     word: &[u32],
 ) -> Result<String, AllocError> {
-    let word = quoted_word(alloc, word)?;
+    let quoted = quoted_word(alloc, word)?;
+    let advice = clash_advice(word);
     let later = line_of_rule(file.bytes, rule);
     let earlier = line_of_rule(file.bytes, other);
     let later_name = name_of(file.rules, rule);
@@ -105,11 +109,11 @@ fn clash_explained(
     let name = file.name;
     let later_number = later.number;
     let earlier_number = earlier.number;
-    let later_text = later.text;
-    let earlier_text = earlier.text;
+    let later_text = line_shown(alloc, later.text)?;
+    let earlier_text = line_shown(alloc, earlier.text)?;
     format!(in alloc;
-        "tokens: {name}:{later_number}: {later_name} clashes with {earlier_name} of line {earlier_number}: both match the word {word}, and neither wins\n    \
-        {earlier_number}: {earlier_text}\n    {later_number}: {later_text}\nGive the one that should win a greater precedence.\n"
+        "tokens: {name}:{later_number}: {later_name} clashes with {earlier_name} of line {earlier_number}: both match the word {quoted}, and neither wins\n    \
+        {earlier_number}: {earlier_text}\n    {later_number}: {later_text}\n{advice}\n"
     )
 }
 
