@@ -1,9 +1,8 @@
 -- The line up to its `=`.
 use Rattle.std.proofs.Common.{◌≡◌, ◌≢◌, ℕ, ◌<◌, Bool, true, false, List, [], ◌∷◌, ◌++◌, length, get_or, drop, codes, refl, sym, ap, subst, ◌∙◌, append_assoc, arith, inl, inr}
-use Rattle.std.specs.Str.Pattern.{StripsPrefix, FindsTextPrefix}
 use Rattle.std.proofs.lemmas.Bool.{false≢true}
 use Rattle.lalrpop_rule_file.specs.RuleLine.{EachByte, AreBlanks, is_blank, is_of_name, begins_name, IsName, IsLeft, Stops, IsSpan}
-use Rattle.lalrpop_rule_file.specs.RuleFault.{IsNamed}
+use Rattle.lalrpop_rule_file.specs.RuleFault.{IsNamed, IsSkip}
 use Rattle.lalrpop_rule_file.specs.RuleFile.{IsBlankOrComment}
 use Rattle.lalrpop_rule_file.specs.Internal.Parts.{begins}
 use Rattle.lalrpop_rule_file.proofs.Bytes.{begins_of_name, begins_not_blank, blank_not_of_name}
@@ -84,42 +83,40 @@ left_is_named line name true right h = (_, named_skipped line name right h)
 skip_not_equals : (behind right : List ℕ) → codes "skip" ++ behind ≡ codes "=" ++ right → ⊥
 skip_not_equals behind right e = let k : 115 ≡ 61 = ap (λ (x : List ℕ). get_or x 0 0) e in omega (arith, k)
 
--- a text that begins with `skip`
-pub skip_stripped : (s x : List ℕ) → StripsPrefix (FindsTextPrefix (codes "skip")) s x → s ≡ codes "skip" ++ x
-skip_stripped s x (n, found, is, len) = found.1 ∙ ap (λ (y : List ℕ). codes "skip" ++ y) (sym is)
-
 -- no name
 pub no_left : (line : List ℕ) → ((name rest : List ℕ) → ¬ IsNamed line name rest) → (name : List ℕ) (skipped : Bool) (right : List ℕ) → ¬ IsLeft line name skipped right
 no_left line none name skipped right h = let named = left_is_named line name skipped right h in none name named.0 named.1
 
 -- no `=` behind `skip`
-pub no_left_skipped : (line name rest behind front here : List ℕ) → IsNamed line name rest → rest ≡ codes "skip" ++ behind → IsSpan is_blank behind front here → ((right : List ℕ) → here ≢ codes "=" ++ right) → (own : List ℕ) (skipped : Bool) (right : List ℕ) → ¬ IsLeft line own skipped right
+pub no_left_skipped : (line name rest behind front here : List ℕ) → IsNamed line name rest → IsSkip rest behind → IsSpan is_blank behind front here → ((right : List ℕ) → here ≢ codes "=" ++ right) → (own : List ℕ) (skipped : Bool) (right : List ℕ) → ¬ IsLeft line own skipped right
 no_left_skipped line name rest behind front here named skip span none own false right h =
     let same : rest ≡ codes "=" ++ right = (IsNamed-unique line name rest own (codes "=" ++ right) named (named_kept line own right h)).1 in
-    absurd (skip_not_equals behind right (sym skip ∙ same))
+    absurd (skip_not_equals behind right (sym skip.0 ∙ same))
 no_left_skipped line name rest behind front here named skip span none own true right h =
     let other = codes "skip" ++ (h.gap ++ (codes "=" ++ right)) in
     let same : rest ≡ other = (IsNamed-unique line name rest own other named (named_skipped line own right h)).1 in
-    let both : codes "skip" ++ behind ≡ other = sym skip ∙ same in
+    let both : codes "skip" ++ behind ≡ other = sym skip.0 ∙ same in
     let ends : behind ≡ h.gap ++ (codes "=" ++ right) = ap (drop 4) both in
     let own_span : IsSpan is_blank behind h.gap (codes "=" ++ right) = record { parts = ends; passes = h.blanks.1; stops = refl } in
     none right (IsSpan-unique is_blank behind front here h.gap (codes "=" ++ right) span own_span).1
 
 -- neither `skip` nor `=` behind the name
-pub no_left_kept : (line name rest : List ℕ) → IsNamed line name rest → ((behind : List ℕ) → rest ≢ codes "skip" ++ behind) → ((right : List ℕ) → rest ≢ codes "=" ++ right) → (own : List ℕ) (skipped : Bool) (right : List ℕ) → ¬ IsLeft line own skipped right
+pub no_left_kept : (line name rest : List ℕ) → IsNamed line name rest → ((behind : List ℕ) → ¬ IsSkip rest behind) → ((right : List ℕ) → rest ≢ codes "=" ++ right) → (own : List ℕ) (skipped : Bool) (right : List ℕ) → ¬ IsLeft line own skipped right
 no_left_kept line name rest named no_skip none own false right h = none right (IsNamed-unique line name rest own (codes "=" ++ right) named (named_kept line own right h)).1
-no_left_kept line name rest named no_skip none own true right h = no_skip _ (IsNamed-unique line name rest own _ named (named_skipped line own right h)).1
+no_left_kept line name rest named no_skip none own true right h =
+    let same = (IsNamed-unique line name rest own _ named (named_skipped line own right h)).1 in
+    no_skip (h.gap ++ (codes "=" ++ right)) (same, blanks_end h.gap (codes "=" ++ right) h.blanks.1 refl)
 
 gap_before_skip : (gap behind : List ℕ) → Stops is_of_name (gap ++ (codes "skip" ++ behind)) → 0 < length gap
 gap_before_skip [] behind s = absurd (false≢true (sym s))
 gap_before_skip (b ∷ bs) behind s = omega arith
 
 -- a name, `skip` and `=`
-pub left_skipped : (line name rest behind front here right : List ℕ) → IsNamed line name rest → rest ≡ codes "skip" ++ behind → IsSpan is_blank behind front here → here ≡ codes "=" ++ right → IsLeft line name true right
+pub left_skipped : (line name rest behind front here right : List ℕ) → IsNamed line name rest → IsSkip rest behind → IsSpan is_blank behind front here → here ≡ codes "=" ++ right → IsLeft line name true right
 left_skipped line name rest behind front here right named skip span equals =
     let after = front ++ (codes "=" ++ right) in
     let ends : behind ≡ after = span.parts ∙ ap (λ (x : List ℕ). front ++ x) equals in
-    let all : rest ≡ codes "skip" ++ after = skip ∙ ap (λ (x : List ℕ). codes "skip" ++ x) ends in
+    let all : rest ≡ codes "skip" ++ after = skip.0 ∙ ap (λ (x : List ℕ). codes "skip" ++ x) ends in
     let parts : line ≡ named.lead ++ (name ++ (named.gap ++ (codes "skip" ++ after))) = subst (λ (x : List ℕ). line ≡ named.lead ++ (name ++ (named.gap ++ x))) all named.parts in
     let stops : Stops is_of_name (named.gap ++ (codes "skip" ++ after)) = subst (λ (x : List ℕ). Stops is_of_name (named.gap ++ x)) all named.ends in
     record {

@@ -29,7 +29,7 @@ ends_named line name rest h =
     (ends_behind name (h.gap ++ rest) rest (name ++ (h.gap ++ rest)) refl (h.gap, refl))
 
 ends_marked : (text rest : List ℕ) → IsMarked text rest → Ends text rest
-ends_marked text rest (inl (behind, (gap, (parts, span)))) = ends_behind (codes "skip") behind rest text parts (gap, span.parts)
+ends_marked text rest (inl (behind, (gap, (skip, span)))) = ends_behind (codes "skip") behind rest text skip.0 (gap, span.parts)
 ends_marked text rest (inr (none, same)) = ([], same)
 
 ends_left : (line name : List ℕ) (skipped : Bool) (right : List ℕ) → IsLeft line name skipped right → Ends line right
@@ -83,6 +83,12 @@ stops_at_end line rest NoEquals (name, (behind, (named, (marked, none)))) =
 stops_at_end line rest PrecedenceTooLarge (name, (skipped, (right, (left, stops)))) = ends_behind_left line rest name skipped right PrecedenceTooLarge left stops
 stops_at_end line rest NoText (name, (skipped, (right, (left, stops)))) = ends_behind_left line rest name skipped right NoText left stops
 stops_at_end line rest NotClosed (name, (skipped, (right, (left, stops)))) = ends_behind_left line rest name skipped right NotClosed left stops
+
+-- behind a name, and `skip` if it is there, stands no `=`
+pub no_equals : (line name behind here rest : List ℕ) (fault : LineFault) → IsNamed line name behind → IsMarked behind here → ((right : List ℕ) → here ≢ codes "=" ++ right) → rest ≡ here → fault ≡ NoEquals → StopsBefore line rest fault
+no_equals line name behind here rest fault named marked none same is =
+    let stops : StopsBefore line here NoEquals = (name, (behind, (named, (marked, none)))) in
+    subst (λ (f : LineFault). StopsBefore line rest f) (sym is) (subst (λ (x : List ℕ). StopsBefore line x NoEquals) (sym same) stops)
 
 -- ---- columns
 

@@ -33,17 +33,17 @@ nameless_left line rest name skipped right stops left = let named = left_is_name
 
 -- where no `=` stands there is no left part
 no_equals_left : (line rest name : List ℕ) (skipped : Bool) (right : List ℕ) → StopsBefore line rest NoEquals → ¬ IsLeft line name skipped right
-no_equals_left line rest name skipped right (own, (text, (named, (inl (behind, (gap, (parts, span))), none)))) left =
-    no_left_skipped line own text behind gap rest named parts span none name skipped right left
+no_equals_left line rest name skipped right (own, (text, (named, (inl (behind, (gap, (skip, span))), none)))) left =
+    no_left_skipped line own text behind gap rest named skip span none name skipped right left
 no_equals_left line rest name skipped right (own, (text, (named, (inr (no_skip, same), none)))) left =
     no_left_kept line own text named no_skip (λ r e. none r (sym same ∙ e)) name skipped right left
 
 IsMarked-unique : (text rest other : List ℕ) → IsMarked text rest → IsMarked text other → rest ≡ other
-IsMarked-unique text rest other (inl (behind, (gap, (parts, span)))) (inl (after, (space, (own, more)))) =
-    let same : behind ≡ after = skip_off behind after (sym parts ∙ own) in
+IsMarked-unique text rest other (inl (behind, (gap, (skip, span)))) (inl (after, (space, (own, more)))) =
+    let same : behind ≡ after = skip_off behind after (sym skip.0 ∙ own.0) in
     (IsSpan-unique is_blank after gap rest space other (subst (λ (x : List ℕ). IsSpan is_blank x gap rest) same span) more).1
-IsMarked-unique text rest other (inl (behind, (gap, (parts, span)))) (inr (none, same)) = absurd (none behind parts)
-IsMarked-unique text rest other (inr (none, same)) (inl (behind, (gap, (parts, span)))) = absurd (none behind parts)
+IsMarked-unique text rest other (inl (behind, (gap, (skip, span)))) (inr (none, same)) = absurd (none behind skip)
+IsMarked-unique text rest other (inr (none, same)) (inl (behind, (gap, (skip, span)))) = absurd (none behind skip)
 IsMarked-unique text rest other (inr (none, same)) (inr (no_more, is)) = sym same ∙ is
 
 one_place_without_equals : (line rest other : List ℕ) → StopsBefore line rest NoEquals → StopsBefore line other NoEquals → rest ≡ other

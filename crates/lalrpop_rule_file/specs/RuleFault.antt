@@ -20,11 +20,15 @@ pub record IsNamed (line name rest : List ℕ) : Type 0 where
   pub ends : Stops is_of_name (gap ++ rest)
   pub stops : Stops is_blank rest
 
+-- the word `skip`, and what is behind it: no character of a name
+abbrev pub IsSkip : List ℕ → List ℕ → Type 0
+IsSkip text behind = (text ≡ codes "skip" ++ behind) × Stops is_of_name behind
+
 -- what follows a name: `skip` with all blanks after it, if it is there, and the rest
 abbrev pub IsMarked : List ℕ → List ℕ → Type 0
 IsMarked text rest =
-    ((behind : List ℕ) × ((gap : List ℕ) × ((text ≡ codes "skip" ++ behind) × IsSpan is_blank behind gap rest)))
-    ⊎ (((behind : List ℕ) → text ≢ codes "skip" ++ behind) × (text ≡ rest))
+    ((behind : List ℕ) × ((gap : List ℕ) × (IsSkip text behind × IsSpan is_blank behind gap rest)))
+    ⊎ (((behind : List ℕ) → ¬ IsSkip text behind) × (text ≡ rest))
 
 -- ---- right of it
 

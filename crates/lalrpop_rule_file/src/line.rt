@@ -1,8 +1,8 @@
 //! What one line says.
 ghost use Rattle.std.specs.Prelude.{◌≡◌, ◌≢◌, ◌∷◌, ◌++◌, ℕ, List, Option, Bool, codes, IfOk, IfErr, IfSome, IfNone, ◌<◌, length};
 ghost use Rattle.lalrpop_lexer.specs.Line.{IsPrecedence};
-ghost use Rattle.lalrpop_rule_file.specs.RuleLine.{IsLeft, IsRight, IsRule, EachByte, is_blank, delimiter, precedence_or as precedence_or_else, Stops};
-ghost use Rattle.lalrpop_rule_file.specs.RuleFault.{IsNamed, IsNumbered, IsOpen, IsTooLarge, StopsBefore, StopsRight, StopsText};
+ghost use Rattle.lalrpop_rule_file.specs.RuleLine.{IsLeft, IsRight, IsRule, EachByte, is_blank, is_of_name, delimiter, precedence_or as precedence_or_else, Stops};
+ghost use Rattle.lalrpop_rule_file.specs.RuleFault.{IsNamed, IsSkip, IsNumbered, IsOpen, IsTooLarge, StopsBefore, StopsRight, StopsText};
 ghost use Rattle.lalrpop_rule_file.specs.Internal.Parts.{begins, IsQuoted, IsClosed};
 ghost use Rattle.std.specs.Char.{is_ascii_digit};
 ghost use Rattle.lalrpop_rule_file.specs.RuleFile.{IsBlankOrComment, Says};
@@ -63,6 +63,28 @@ fn behind(text: &str, mark: char) -> Option<&str>
     Some(rest)
 }
 
+// Whether the first character can stand in a name.
+fn goes_on(text: &str) -> bool
+    ensures { MatchBool result (¬ Stops is_of_name text.now) (Stops is_of_name text.now) }
+{
+    match text.as_bytes() {
+        [first, ..] => first.is_ascii_alphanumeric() || *first == b'_',
+        [] => false,
+    }
+}
+
+// What follows `skip` at the front, where that isn't the beginning of a longer word.
+fn behind_skip(rest: &str) -> Option<&str>
+    ensures some { IfSome result (λ behind. IsSkip rest.now behind.now) }
+    ensures none { IfNone result ((behind : List ℕ) → ¬ IsSkip rest.now behind) }
+{
+    let behind = rest.strip_prefix("skip")?;
+    if goes_on(behind) {
+        return None;
+    }
+    Some(behind)
+}
+
 // What follows an `=` at the front.
 fn behind_equals(rest: &str) -> Result<&str, Stop<'_>>
     ensures equals { IfOk result (λ right. rest.now ≡ codes "=" ++ right.now) }
@@ -87,7 +109,7 @@ fn left_part(line: &str) -> Result<(&str, bool, &str), Stop<'_>>
     ensures stops { IfErr result (λ stop. StopsBefore line.now stop.rest.now stop.fault) }
 {
     let (name, rest) = name_and_rest(line)?;
-    match rest.strip_prefix("skip") {
+    match behind_skip(rest) {
         Some(behind) => {
             let (_, here) = split_front(behind, Class::Blank);
             let right = behind_equals(here)?;

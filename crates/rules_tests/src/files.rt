@@ -31,7 +31,8 @@ A => 1 2 NoEquals
 A 'x' => 1 3 NoEquals
 A-B = 'x' => 1 2 NoEquals
 A skip 'x' => 1 8 NoEquals
-A skipped = 'x' => 1 7 NoEquals
+A skipped = 'x' => 1 3 NoEquals
+A skip1 = 'x' => 1 3 NoEquals
 A = 18446744073709551616 'x' => 1 5 PrecedenceTooLarge
 A = 000000000000000000000 'x' => 1 5 PrecedenceTooLarge
 A = x => 1 5 NoText

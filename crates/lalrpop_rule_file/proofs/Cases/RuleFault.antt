@@ -1,9 +1,9 @@
 -- Cases of specs/RuleFault.antt.
-use Rattle.std.proofs.Common.{◌≡◌, ℕ, inl, inr, None, List, [], get_or, codes, refl, sym, ap, arith}
+use Rattle.std.proofs.Common.{◌≡◌, ℕ, inl, inr, None, List, [], get_or, drop, codes, refl, sym, ap, subst, arith}
 use Rattle.std.proofs.lemmas.Bool.{false≢true}
 use Rattle.lalrpop_lexer.specs.declared.form.Form.TheVariants.{Literal}
-use Rattle.lalrpop_rule_file.specs.RuleLine.{IsSpan, is_blank}
-use Rattle.lalrpop_rule_file.specs.RuleFault.{IsNamed, IsMarked, IsBeforeText, StopsText, StopsRight, StopsBefore}
+use Rattle.lalrpop_rule_file.specs.RuleLine.{IsSpan, Stops, is_blank, is_of_name}
+use Rattle.lalrpop_rule_file.specs.RuleFault.{IsNamed, IsSkip, IsMarked, IsBeforeText, StopsText, StopsRight, StopsBefore}
 use Rattle.lalrpop_rule_file.specs.declared.error.LineFault.TheVariants.{NotUtf8, NoName, NoEquals, NoText, NotClosed}
 
 -- ` 1` stops at its digit
@@ -23,11 +23,20 @@ named_a = record { lead = []; gap = codes " "; parts = refl; blanks = (tt, (refl
 
 second_letter_is_no_equals : StopsBefore (codes "A B") (codes "B") NoEquals
 second_letter_is_no_equals =
-    (codes "A", (codes "B", (named_a, (inr ((λ behind e. let k : 66 ≡ 115 = ap (λ (x : List ℕ). get_or x 0 0) e in omega (arith, k)), refl), λ right e. let k : 66 ≡ 61 = ap (λ (x : List ℕ). get_or x 0 0) e in omega (arith, k)))))
+    (codes "A", (codes "B", (named_a, (inr ((λ behind e. let k : 66 ≡ 115 = ap (λ (x : List ℕ). get_or x 0 0) e.0 in omega (arith, k)), refl), λ right e. let k : 66 ≡ 61 = ap (λ (x : List ℕ). get_or x 0 0) e in omega (arith, k)))))
 
 -- `skip` and the blanks behind it are passed over
 behind_skip : IsMarked (codes "skip x") (codes "x")
-behind_skip = inl (codes " x", (codes " ", (refl, record { parts = refl; passes = (refl, tt); stops = refl })))
+behind_skip = inl (codes " x", (codes " ", ((refl, refl), record { parts = refl; passes = (refl, tt); stops = refl })))
+
+-- but not where a longer word begins so
+no_longer_word : (behind : List ℕ) → ¬ IsSkip (codes "skips") behind
+no_longer_word behind skip =
+    let same : codes "s" ≡ behind = ap (drop 4) skip.0 in
+    false≢true (sym (subst (Stops is_of_name) (sym same) skip.1))
+
+longer_word_is_no_mark : IsMarked (codes "skips") (codes "skips")
+longer_word_is_no_mark = inr (no_longer_word, refl)
 
 -- ` x` has no text, and stops at its letter
 before_x : IsBeforeText (codes " x") (codes "x")

@@ -1,5 +1,5 @@
 -- Cases of specs/RuleFile.antt.
-use Rattle.std.proofs.Common.{◌≡◌, ℕ, inl, inr, List, [], ◌∷◌, get_or, codes, refl, ap, false, ◌∙◌, Option, Some, None, arith}
+use Rattle.std.proofs.Common.{◌≡◌, ℕ, inl, inr, List, [], ◌∷◌, ◌++◌, get_or, codes, refl, ap, false, ◌∙◌, Option, Some, None, arith}
 use Rattle.std.proofs.lemmas.Bool.{false≢true}
 use Rattle.lalrpop_rules.specs.declared.rule.Rule.{Rule}
 use Rattle.lalrpop_rule_file.specs.RuleLine.{is_blank, IsRule}
@@ -44,8 +44,11 @@ empty_line_says_nothing = (([], (refl, refl)), inl tt)
 named_x : IsNamed (codes "x") (codes "x") []
 named_x = record { lead = []; gap = []; parts = refl; blanks = (tt, tt); is_name = (refl, tt); ends = tt; stops = tt }
 
+no_skip : (y : List ℕ) → [] ≡ codes "skip" ++ y → ⊥
+no_skip y e = absurd (cc)
+
 name_alone : (rule : Rule) → ¬ IsRule (codes "x") rule
-name_alone rule h = no_left_kept (codes "x") (codes "x") [] named_x (λ y e. absurd (cc)) (λ y e. absurd (cc)) rule.name.now rule.is_skipped h.right h.is_left
+name_alone rule h = no_left_kept (codes "x") (codes "x") [] named_x (λ y e. no_skip y e.0) (λ y e. absurd (cc)) rule.name.now rule.is_skipped h.right h.is_left
 
 x_says_neither : (said : Option Rule) → ¬ LineSays (codes "x") said
 x_says_neither None h = letter_is_no_comment h.1
@@ -78,7 +81,7 @@ line_behind_a_bad_one h = x_says_neither h.0.0 h.0.1
 
 -- it stops behind its name
 x_stops : StopsBefore (codes "x") [] NoEquals
-x_stops = (codes "x", ([], (named_x, (inr ((λ behind e. absurd (cc)), refl), λ right e. absurd (cc)))))
+x_stops = (codes "x", ([], (named_x, (inr ((λ behind e. no_skip behind e.0), refl), λ right e. absurd (cc)))))
 
 x_is_text : IsUtf8 (codes "x")
 unfolding encode
