@@ -124,7 +124,7 @@ def place_behind(before):
 
 
 def named(rules_file, *files):
-    rules = list(named_rules(Path(rules_file).read_bytes().decode()))
+    rules = list(named_rules(Path(rules_file).read_bytes().decode("utf-8-sig")))
     patterns = [(precedence, pattern) for _, _, precedence, pattern in rules]
     status = 0
     for file in files:

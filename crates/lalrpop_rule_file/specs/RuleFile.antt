@@ -1,7 +1,7 @@
 -- cases: proofs/Cases/RuleFile.antt
 -- What the lines of a file of rules say.
-use Rattle.std.specs.Prelude.{◌≡◌, ◌⊎◌, ℕ, zero, suc, ◌-◌, ◌==◌, if◌then◌else◌, Option, Some, None, List, [], ◌∷◌, ◌++◌, length, codes, slice_get}
-use Rattle.std.specs.Str.{IsUtf8}
+use Rattle.std.specs.Prelude.{◌≡◌, ◌⊎◌, ℕ, zero, suc, ◌-◌, ◌==◌, if◌then◌else◌, Option, Some, None, List, [], ◌∷◌, ◌++◌, length, take, drop, codes, slice_get}
+use Rattle.std.specs.Str.{IsUtf8, bytes_eq}
 use Rattle.std.specs.Str.Lossy.{utf8_valid_len}
 use Rattle.lalrpop_lexer.specs.Lines.{lines}
 use Rattle.lalrpop_lexer.specs.Position.{position_of}
@@ -12,6 +12,10 @@ use Rattle.lalrpop_rule_file.specs.declared.error.LineFault.{LineFault}
 use Rattle.lalrpop_rule_file.specs.declared.error.LineFault.TheVariants.{NotUtf8}
 use Rattle.lalrpop_rule_file.specs.declared.error.RuleFileError.{RuleFileError}
 use Rattle.lalrpop_rule_file.specs.declared.error.RuleFileError.TheVariants.{BadLine, OutOfMemory}
+
+-- the bytes without the byte order mark of UTF-8, 239 187 191, at their beginning
+abbrev pub without_mark : List ℕ → List ℕ
+without_mark bytes = if bytes_eq (take 3 bytes) (239 ∷ 187 ∷ 191 ∷ []) then drop 3 bytes else bytes
 
 -- the line without the carriage return, 13, at its end
 abbrev pub without_return : List ℕ → List ℕ

@@ -3,7 +3,7 @@ ghost use Rattle.std.specs.Prelude.{◌≡◌, ◌==◌, ◌<◌, ◌≤◌, ◌
 ghost use Rattle.std.specs.Str.{IsUtf8};
 ghost use Rattle.lalrpop_lexer.specs.Lines.{lines};
 ghost use Rattle.lalrpop_lexer.specs.Position.{position_of};
-ghost use Rattle.lalrpop_rule_file.specs.RuleFile.{LineSays, AreRules, IsLineFault, IsRuleFileError, without_return as without_return_of};
+ghost use Rattle.lalrpop_rule_file.specs.RuleFile.{LineSays, AreRules, IsLineFault, IsRuleFileError, without_mark as without_mark_of, without_return as without_return_of};
 ghost use Rattle.lalrpop_rules.specs.declared.rule.Rule.{Rule as RuleValue};
 
 use crate::error::{LineFault, RuleFileError};
@@ -95,29 +95,8 @@ fn said(line: &[u8]) -> Result<Option<Rule<'_>>, Fault>
     }
 }
 
-/// The rules of a file, in the order of their lines: `NAME [skip] = [PRECEDENCE] 'LITERAL'` or
-/// `NAME [skip] = [PRECEDENCE] /PATTERN/`. They borrow names and texts from its bytes.
-///
-/// The file is UTF-8. A line ends at a line feed, which the last may lack; a carriage return at its end isn't part of it.
-/// Blank lines say nothing, and neither do comments, which begin with `#`. Spaces and tabs may surround the parts of a rule.
-/// A name is an ASCII letter or `_`, followed by ASCII letters, digits and `_`; several rules may share one name. A precedence
-/// is 1 to 20 decimal digits whose value fits 64 bits; if there is none, it is 1 for a literal and 0 for a pattern. The text
-/// ends at the last delimiter of the line, so it may contain delimiters too.
-///
-/// Patterns aren't parsed here: `RuleLexer::from_rules` does that.
-///
-/// # Errors
-///
-/// The first line that is neither a rule nor a comment nor blank, with the column where it stops being a rule, and why; or out
-/// of memory. The column is
-///
-/// - for `NotUtf8`, where the first bytes that aren't UTF-8 begin;
-/// - for `NoName`, after the blanks at the front;
-/// - for `NoEquals`, after the name, `skip` if it is there, and blanks;
-/// - for `PrecedenceTooLarge`, at its first digit;
-/// - for `NoText`, where the literal or the pattern should begin;
-/// - for `NotClosed`, after the end of a line without a second delimiter, or else at the first nonblank after the last one.
-pub fn read_rules<'text>(
+// The rules that the lines of the bytes are.
+fn rules_of_lines<'text>(
     alloc: Global,
     bytes: &'text [u8],
 ) -> Result<Vec<Rule<'text>>, RuleFileError>
@@ -143,4 +122,51 @@ pub fn read_rules<'text>(
         rest = after;
     }
     Ok(rules)
+}
+
+/// The bytes of a file without the byte order mark, EF BB BF, at their beginning, if there is one.
+///
+/// `read_rules` reads these: who shows a line that it names takes the line from them too, so that the column fits.
+pub fn without_mark(bytes: &[u8]) -> &[u8]
+    ensures { result.now ≡ without_mark_of bytes.now }
+{
+    match bytes.strip_prefix(b"\xef\xbb\xbf") {
+        Some(rest) => rest,
+        None => bytes,
+    }
+}
+
+/// The rules of a file, in the order of their lines: `NAME [skip] = [PRECEDENCE] 'LITERAL'` or
+/// `NAME [skip] = [PRECEDENCE] /PATTERN/`. They borrow names and texts from its bytes.
+///
+/// The file is UTF-8. A byte order mark at its beginning is left out. A line ends at a line feed, which the last may lack; a
+/// carriage return at its end isn't part of it. Blank lines say nothing, and neither do comments: lines of their own that begin
+/// with `#`. Spaces and tabs may surround the parts of a rule. A name is an ASCII letter or `_`, followed by ASCII letters,
+/// digits and `_`; several rules may share one name. A precedence is 1 to 20 decimal digits whose value fits 64 bits; if there
+/// is none, it is 1 for a literal and 0 for a pattern.
+///
+/// The text ends at the last delimiter of the line, so it may contain delimiters too, and no comment stands behind it:
+/// `A = 'x' # 'y'` is the literal `x' # 'y`. A literal has no escapes: a line feed is the pattern `/\n/`.
+///
+/// Patterns aren't parsed here: `RuleLexer::from_rules` does that.
+///
+/// # Errors
+///
+/// The first line that is neither a rule nor a comment nor blank, with the column where it stops being a rule, and why; or out
+/// of memory. The columns of the first line count from after the mark. The column is
+///
+/// - for `NotUtf8`, where the first bytes that aren't UTF-8 begin;
+/// - for `NoName`, after the blanks at the front;
+/// - for `NoEquals`, after the name, `skip` if it is there, and blanks;
+/// - for `PrecedenceTooLarge`, at its first digit;
+/// - for `NoText`, where the literal or the pattern should begin;
+/// - for `NotClosed`, after the end of a line without a second delimiter, or else at the first nonblank after the last one.
+pub fn read_rules<'text>(
+    alloc: Global,
+    bytes: &'text [u8],
+) -> Result<Vec<Rule<'text>>, RuleFileError>
+    ensures rules { IfOk result (λ rules. AreRules (lines (without_mark_of bytes.now)) rules.items) }
+    ensures error { IfErr result (λ e. IsRuleFileError (without_mark_of bytes.now) e) }
+{
+    rules_of_lines(alloc, without_mark(bytes))
 }

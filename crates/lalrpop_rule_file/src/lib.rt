@@ -7,4 +7,4 @@ mod line;
 mod span;
 
 pub use error::{LineFault, RuleFileError};
-pub use file::read_rules;
+pub use file::{read_rules, without_mark};

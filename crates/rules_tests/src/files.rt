@@ -98,6 +98,20 @@ fn rules_are_read(rt: HostRuntime) {
 }
 
 #[test]
+fn a_mark_is_left_out(rt: HostRuntime) {
+    let rules = read(rt.alloc(), b"\xef\xbb\xbfA skip= 'x'").expect(&rt, "memory");
+    assert_eq!(&rt; rules.as_str(), "A Literal \"x\" 1 true\n");
+    let none = read(rt.alloc(), b"\xef\xbb\xbf").expect(&rt, "memory");
+    assert_eq!(&rt; none.as_str(), "");
+    let first = refused(rt.alloc(), b"\xef\xbb\xbfA 'x'").expect(&rt, "memory");
+    assert_eq!(&rt; first.as_str(), "1 3 NoEquals");
+    let second = refused(rt.alloc(), b"\xef\xbb\xbf\xef\xbb\xbfA = 'x'").expect(&rt, "memory");
+    assert_eq!(&rt; second.as_str(), "1 1 NoName");
+    let later = refused(rt.alloc(), b"A = 'x'\n\xef\xbb\xbfB = 'y'").expect(&rt, "memory");
+    assert_eq!(&rt; later.as_str(), "2 1 NoName");
+}
+
+#[test]
 fn bad_lines_are_named(rt: HostRuntime) {
     for row in BAD.trim_matches('\n').lines() {
         let (line, wanted) = halves(row, " => ");

@@ -7,7 +7,7 @@ use crate::ends::{NO_TEXT, bytes_of, flushed, out_of_memory, say};
 use crate::layout::LineForm;
 use crate::named_clashes::{rule_clashes, write_rule_clashes};
 use crate::rule_explain::{bad_line_explained, rules_explained};
-use lalrpop_rule_file::{RuleFileError, read_rules};
+use lalrpop_rule_file::{RuleFileError, read_rules, without_mark};
 use lalrpop_rules::{Rule, RuleLexer, RulesError};
 use lexdfa_lib::{Failure, RunError, Watched};
 use std::io::{self, Eprint};
@@ -28,6 +28,7 @@ fn report_line(
 ) -> Result<u8, Failure>
     ensures { IfOk result (λ status. status ≤ 6) }
 {
+    let bytes = without_mark(bytes);
     let message = bad_line_explained(rt.alloc(), name, bytes, error).map_err(out_of_memory)?;
     say(rt, message.as_str());
     Ok(BAD_LINE)
@@ -43,6 +44,7 @@ fn report_rules(
 ) -> Result<u8, Failure>
     ensures { IfOk result (λ status. status ≤ 6) }
 {
+    let bytes = without_mark(bytes);
     let message = rules_explained(rt.alloc(), name, bytes, rules, error).map_err(out_of_memory)?;
     say(rt, message.as_str());
     match error {

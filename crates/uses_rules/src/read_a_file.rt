@@ -1,13 +1,21 @@
 //! Rules are read from a file.
-ghost use Rattle.std.specs.Prelude.{◌≡◌, ℕ, List, IfOk, IfErr, IfSome, MatchOption, Some, slice_get};
+ghost use Rattle.std.specs.Prelude.{◌≡◌, ℕ, List, length, IfOk, IfErr, IfSome, MatchOption, Some, slice_get};
 ghost use Rattle.lalrpop_lexer.specs.Lines.{lines};
 ghost use Rattle.lalrpop_rules.specs.RuleSet.{names_of};
 ghost use Rattle.lalrpop_rules.specs.declared.rule.Rule.{Rule as RuleValue};
-ghost use Rattle.lalrpop_rule_file.specs.RuleFile.{AreRules, IsFirstBad, IsLineFault};
+ghost use Rattle.lalrpop_rule_file.specs.RuleFile.{AreRules, IsFirstBad, IsLineFault, without_mark as without_mark_of};
 
-use lalrpop_rule_file::{LineFault, RuleFileError, read_rules};
+use lalrpop_rule_file::{LineFault, RuleFileError, read_rules, without_mark};
 use lalrpop_rules::{RuleLexer, RulesError};
 use std::alloc::{AllocError, Global};
+
+// Needs lalrpop_rule_file::without_mark: ensures.
+/// How many bytes of a file are read as lines.
+pub fn bytes_of_lines(bytes: &[u8]) -> usize
+    ensures count { result ≡ length (without_mark_of bytes.now) }
+{
+    without_mark(bytes).len()
+}
 
 // Needs lalrpop_rule_file::read_rules: rules, error.
 /// The first bad line of a file, counted from 1, if there is one.
@@ -17,8 +25,8 @@ use std::alloc::{AllocError, Global};
 /// `AllocError` if a request for memory was refused.
 pub fn first_bad_line(alloc: Global, bytes: &[u8]) -> Result<Option<usize>, AllocError>
     ensures wrong { IfOk result (λ wrong. MatchOption wrong
-        ((rs : List RuleValue) × AreRules (lines bytes.now) rs)
-        (λ n. IsFirstBad (lines bytes.now) n)) }
+        ((rs : List RuleValue) × AreRules (lines (without_mark_of bytes.now)) rs)
+        (λ n. IsFirstBad (lines (without_mark_of bytes.now)) n)) }
 {
     match read_rules(alloc, bytes) {
         Ok(_) => Ok(None),
@@ -35,7 +43,7 @@ pub fn first_bad_line(alloc: Global, bytes: &[u8]) -> Result<Option<usize>, Allo
 /// `AllocError` if a request for memory was refused.
 pub fn first_fault(alloc: Global, bytes: &[u8]) -> Result<Option<(usize, LineFault)>, AllocError>
     ensures fault { IfOk result (λ found. IfSome found (λ f. (n : ℕ) × ((line : List ℕ)
-        × ((slice_get (lines bytes.now) n ≡ Some line) × IsLineFault line f.0 f.1)))) }
+        × ((slice_get (lines (without_mark_of bytes.now)) n ≡ Some line) × IsLineFault line f.0 f.1)))) }
 {
     match read_rules(alloc, bytes) {
         Ok(_) => Ok(None),
@@ -58,7 +66,7 @@ pub fn first_fault(alloc: Global, bytes: &[u8]) -> Result<Option<(usize, LineFau
 /// Why the rules give no lexer, or out of memory.
 pub fn lexer_of_file(alloc: Global, bytes: &[u8]) -> Result<Option<RuleLexer>, RulesError>
     ensures names { IfOk result (λ found. IfSome found (λ lexer. (rs : List RuleValue)
-        × (AreRules (lines bytes.now) rs × (lexer.names ≡ names_of rs)))) }
+        × (AreRules (lines (without_mark_of bytes.now)) rs × (lexer.names ≡ names_of rs)))) }
 {
     match read_rules(alloc, bytes) {
         Ok(rules) => match RuleLexer::from_rules(alloc, &rules) {

@@ -3,7 +3,7 @@ use Rattle.std.proofs.Common.{◌≡◌, ℕ, inl, inr, List, [], ◌∷◌, ◌
 use Rattle.std.proofs.lemmas.Bool.{false≢true}
 use Rattle.lalrpop_rules.specs.declared.rule.Rule.{Rule}
 use Rattle.lalrpop_rule_file.specs.RuleLine.{is_blank, IsRule}
-use Rattle.lalrpop_rule_file.specs.RuleFile.{without_return, IsBlankOrComment, LineSays, AreRules, IsFirstBad, IsLineFault, IsRuleFileError}
+use Rattle.lalrpop_rule_file.specs.RuleFile.{without_mark, without_return, IsBlankOrComment, LineSays, AreRules, IsFirstBad, IsLineFault, IsRuleFileError}
 use Rattle.lalrpop_rule_file.specs.declared.error.LineFault.TheVariants.{NoEquals}
 use Rattle.lalrpop_rule_file.specs.declared.error.RuleFileError.TheVariants.{BadLine, OutOfMemory}
 use Rattle.lalrpop_rule_file.proofs.Lefts.{no_left_kept}
@@ -11,6 +11,19 @@ use Rattle.lalrpop_rule_file.proofs.StoppingLaws.{IsLineFault-unique}
 use Rattle.std.specs.Str.{IsUtf8, chars}
 use lib.Utf8.{encode}
 use Rattle.lalrpop_rule_file.specs.RuleFault.{IsNamed, StopsBefore}
+
+-- one mark at the beginning is left out, and nothing else
+mark_at_the_beginning : without_mark (239 ∷ 187 ∷ 191 ∷ codes "a") ≡ codes "a"
+mark_at_the_beginning = refl
+
+two_marks : without_mark (239 ∷ 187 ∷ 191 ∷ 239 ∷ 187 ∷ 191 ∷ []) ≡ 239 ∷ 187 ∷ 191 ∷ []
+two_marks = refl
+
+mark_inside : without_mark (97 ∷ 239 ∷ 187 ∷ 191 ∷ []) ≡ 97 ∷ 239 ∷ 187 ∷ 191 ∷ []
+mark_inside = refl
+
+part_of_a_mark : without_mark (239 ∷ 187 ∷ []) ≡ 239 ∷ 187 ∷ []
+part_of_a_mark = refl
 
 -- one carriage return at the end isn't part of a line
 return_at_the_end : without_return (codes "a\r") ≡ codes "a"

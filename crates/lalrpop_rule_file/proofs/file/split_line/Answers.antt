@@ -1,4 +1,4 @@
-use Rattle.std.proofs.Common.{◌≡◌, ◌+◌, ◌-◌, length, take, drop, sym, arith, length-drop}
+use Rattle.std.proofs.Common.{◌≡◌, ◌+◌, ◌-◌, length, take, drop, sym, arith, rules, length-drop}
 use Rattle.std.proofs.lemmas.List.{take_all}
 use Rattle.std.proofs.lemmas.Bool.{eqb-false}
 use Rattle.lalrpop_lexer.proofs.LineLemmas.{lines-position, lines-position_none}
@@ -12,4 +12,4 @@ returns-in-Some-clause-lines c =
     rw all (lines-position bytes c.in-Some.at (sym c.in-Some.ensures))
 
 pub returns-in-None-clause-lines : goal.returns-in-None-clause-lines
-returns-in-None-clause-lines c = lines-position_none c.args.bytes.now (eqb-false _ _ (sym c.if-is_empty.ensures)) (sym c.in-None.ensures)
+returns-in-None-clause-lines c = search (rules, lines-position_none c.args.bytes.now (eqb-false (length c.args.bytes.now) 0 (sym c.if-is_empty.ensures)) (sym c.in-None.ensures))

@@ -1,5 +1,5 @@
 use Rattle.lalrpop_rule_file.proofs.FileLines.{read_start, read_nothing, read_rule, read_bad, read_line}
-use Rattle.lalrpop_rule_file.proofs.file.read_rules.Goals as goal
+use Rattle.lalrpop_rule_file.proofs.file.rules_of_lines.Goals as goal
 
 pub loop-line-init : goal.loop-line-init
 loop-line-init c = rw c.new-rules.ensures.items (read_start c.args.bytes.now)

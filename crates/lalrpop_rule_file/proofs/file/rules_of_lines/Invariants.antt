@@ -1,6 +1,6 @@
 use Rattle.std.proofs.Common.{length}
 use Rattle.lalrpop_rule_file.proofs.FileLines.{HasRead}
-use Rattle.lalrpop_rule_file.proofs.file.read_rules.Given as goal
+use Rattle.lalrpop_rule_file.proofs.file.rules_of_lines.Given as goal
 
 -- the lines so far are these rules
 abbrev pub invariant-loop-line : goal.invariant-loop-line
