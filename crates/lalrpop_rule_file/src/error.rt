@@ -13,7 +13,7 @@ pub enum LineFault {
     NotUtf8,
     /// The line doesn't begin with a name.
     NoName,
-    /// There is no `=` after the name, or after `skip`.
+    /// There is no `=` after the name, or after the word `skip`.
     NoEquals,
     /// The precedence has more than 20 digits or doesn't fit 64 bits.
     PrecedenceTooLarge,
@@ -27,11 +27,15 @@ impl Display for LineFault {
     fn fmt<W: Write>(&self, f: &mut Formatter<W>) -> Result<(), fmt::Error> {
         f.write_str(match self {
             LineFault::NotUtf8 => "this isn't UTF-8",
-            LineFault::NoName => "a name is missing: a letter or `_`, then letters, digits and `_`",
-            LineFault::NoEquals => "`=` is missing",
-            LineFault::PrecedenceTooLarge => "the precedence is too large",
-            LineFault::NoText => "a literal such as 'if' or a pattern such as /[0-9]+/ is missing",
-            LineFault::NotClosed => "the line doesn't end with the delimiter of its text",
+            LineFault::NoName =>
+                "a name is missing: names are ASCII letters, digits and `_`, and don't begin with a digit",
+            LineFault::NoEquals =>
+                "`=` is missing after the name: only `skip` may be between, and a name has only ASCII letters, digits and `_`",
+            LineFault::PrecedenceTooLarge =>
+                "the precedence is too large: at most 20 digits, and below 2^64",
+            LineFault::NoText => "a literal in apostrophes or a pattern in slashes is missing",
+            LineFault::NotClosed =>
+                "the line must end with the apostrophe or slash that its text begins with, and a comment is a line of its own",
         })
     }
 }

@@ -127,7 +127,10 @@ fn the_first_bad_line_is_named(rt: HostRuntime) {
     let bytes = refused(rt.alloc(), b"# \xc3\xa9\xff").expect(&rt, "memory");
     assert_eq!(&rt; bytes.as_str(), "1 4 NotUtf8");
     let said = explained(rt.alloc(), b"A 'x'").expect(&rt, "memory");
-    assert_eq!(&rt; said.as_str(), "line 1, column 3: `=` is missing");
+    assert_eq!(&rt;
+        said.as_str(),
+        "line 1, column 3: `=` is missing after the name: only `skip` may be between, and a name has only ASCII letters, digits and `_`"
+    );
 }
 
 #[test]
