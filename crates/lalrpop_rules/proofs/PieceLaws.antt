@@ -30,7 +30,7 @@ is_some ts ps skips text at (Skipped token) is = is.0.1.0.1
 is_some ts ps skips text at (Fault start slice) is = is.1.some
 
 -- so there is a rest
-rest_some : (p rest : List ℕ) → IsPrefix p rest → p ≢ [] → rest ≢ []
+pub rest_some : (p rest : List ℕ) → IsPrefix p rest → p ≢ [] → rest ≢ []
 rest_some p rest b some none = omega (arith, some_length p some, ap length b.1.0, length-append p b.0, ap length none)
 
 -- what is left behind a prefix of the rest

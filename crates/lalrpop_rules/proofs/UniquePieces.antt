@@ -1,6 +1,6 @@
 -- The pieces of a text are unique.
 use Rattle.std.proofs.Common.{◌≡◌, ◌≢◌, ℕ, ◌+◌, ◌<◌, ◌≤◌, ◌⊎◌, Bool, inl, inr, List, [], ◌∷◌, ◌++◌, length, take, drop, arith, refl, sym, ap, subst, ◌∙◌, length-append}
-use Rattle.std.specs.Prelude.{Some}
+use Rattle.std.specs.Prelude.{Option, Some, None}
 use Rattle.std.proofs.Math.Seq.{take-append_seam}
 use Rattle.std.proofs.lemmas.Bool.{cases_order}
 use Rattle.lalrpop_book.specs.Tree.{Tree}
@@ -36,12 +36,20 @@ same_fault ts text p q first second = same_prefix p q text first.front second.fr
     by_order (inr (inl less)) = absurd (no_longer ts text p q first second less)
     by_order (inr (inr more)) = absurd (no_longer ts text q p second first more)
 
+abbrev index_of : Option (ℕ × List ℕ) → ℕ
+index_of None = 0
+index_of (Some m) = m.0
+
+abbrev bytes_of : Option (ℕ × List ℕ) → List ℕ
+bytes_of None = []
+bytes_of (Some m) = m.1
+
 -- two tokens at one place are by one pattern and have one slice
 same_token : (ts : List Tree) (ps text : List ℕ) (at : ℕ) (a b : Cut) → IsToken ts ps text at a → IsToken ts ps text at b
     → (a.index ≡ b.index) × (a.start ≡ b.start) × (a.slice.now ≡ b.slice.now)
 same_token ts ps text at a b first second =
     let same = longest-unique ts ps (drop at text) (Some (a.index, a.slice.now)) (Some (b.index, b.slice.now)) first.1 second.1 in
-    (cc same, first.0 ∙ sym second.0, cc same)
+    (ap index_of same, first.0 ∙ sym second.0, ap bytes_of same)
 
 -- where a token is, no fault is
 no_fault : (ts : List Tree) (ps text : List ℕ) (at : ℕ) (a : Cut) (slice : List ℕ) → IsToken ts ps text at a → ¬ IsFault ts (drop at text) slice
