@@ -1,28 +1,32 @@
-use Rattle.std.proofs.Common.{[], ◌∷◌, ◌++◌, ap, ◌∙◌, rules}
+use Rattle.std.proofs.Common.{[], ◌∷◌, ◌++◌, ap, subst, sym, ◌∙◌, rules}
 use Rattle.std.specs.Iterator.{Drains}
 use Rattle.std.proofs.iter.Next.{Yields-more}
 use Rattle.lalrpop_rules.specs.LinearCutToEnd.{GivesLinearPiece}
+use Rattle.lalrpop_markup.specs.Internal.Colours.{AreColours}
 use Rattle.lalrpop_markup.specs.Terminal.{painted, unpainted}
 use Rattle.lalrpop_markup.proofs.Characters.{one_more}
+use Rattle.lalrpop_markup.proofs.Colours.{none_noted}
 use Rattle.lalrpop_markup.proofs.TerminalReadings.{pieces_out}
 use Rattle.lalrpop_markup.proofs.terminal.ansi.Goals as goal
 
 pub painting-init : goal.painting-init
-painting-init c = ([], search rules)
+painting-init c =
+    let none = c.in_ok-colours.ensures.items_if_clones_equal (λ y is. search rules) in
+    (([], search rules), subst (AreColours c.args.lexer.now.names) (sym none) (none_noted c.args.lexer.now.names _))
 
 pub painting-preserved : goal.painting-preserved
 painting-preserved c =
-    let i = c.painting.invariant in
-    (i.0 ++ c.in-Some.item ∷ [], (Yields-more GivesLinearPiece _ i.0 c.painting.items c.in-Some.item _ i.1.0 c.in-Some.ensures.steps, one_more (painted c.args.lexer.now.names) i.0 c.in-Some.item _ _ i.1.1 c.in_ok-push_painted.ensures))
+    let i = c.painting.invariant.0 in
+    ((i.0 ++ c.in-Some.item ∷ [], (Yields-more GivesLinearPiece _ i.0 c.painting.items c.in-Some.item _ i.1.0 c.in-Some.ensures.steps, one_more (painted c.args.lexer.now.names) i.0 c.in-Some.item _ _ i.1.1 c.in_ok-push_painted.ensures)), search rules)
 
 pub returns-clause-pieces : goal.returns-clause-pieces
 returns-clause-pieces c =
-    let i = c.painting.invariant in
+    let i = c.painting.invariant.0 in
     (i.0, (c.in_ok-items.ensures.items i.0 (_, (_, i.1.0, c.in_default.ensures.steps)), i.1.1))
 
 pub returns-clause-text : goal.returns-clause-text
 returns-clause-text c =
-    let i = c.painting.invariant in
+    let i = c.painting.invariant.0 in
     let given = c.in_ok-items.ensures in
     let all : Drains GivesLinearPiece c.in_ok-items.items i.0 = (_, (_, i.1.0, c.in_default.ensures.steps)) in
     ap unpainted i.1.1 ∙ pieces_out _ _ _ _ _ _ _ (given.items i.0 all) ∙ given.whole i.0 all
