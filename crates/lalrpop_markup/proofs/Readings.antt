@@ -11,21 +11,24 @@ use Rattle.lalrpop_rules.specs.declared.item.Item.{Item}
 use Rattle.lalrpop_rules.specs.declared.item.Item.TheVariants.{Token, Skipped, Fault}
 use Rattle.lalrpop_rules.proofs.PieceLaws.{is_front}
 use Rattle.lalrpop_markup.proofs.Characters.{Lacks, differs, lacks_char}
-use Rattle.lalrpop_markup.specs.Markup.{told, escaped, span, marked, outside, inside, entity_from}
+use Rattle.lalrpop_markup.specs.Markup.{told, escaped, span, mark, marked, outside, inside, entity_from}
 
-byte_out : (b : ℕ) (r : List ℕ) → nat_eq b 60 ≡ false → nat_eq b 38 ≡ false → outside (b ∷ r) ≡ b ∷ outside r
-byte_out b r no_tag no_entity =
-    subst (λ (t : Bool). elim t as (λ _. List ℕ) [ true ↦ inside r | false ↦ elim (nat_eq b 38) as (λ _. List ℕ) [ true ↦ entity_from [] r | false ↦ b ∷ outside r ] ] ≡ b ∷ outside r) (sym no_tag)
-    (subst (λ (t : Bool). elim t as (λ _. List ℕ) [ true ↦ entity_from [] r | false ↦ b ∷ outside r ] ≡ b ∷ outside r) (sym no_entity) refl)
+byte_out : (b : ℕ) (r : List ℕ) → nat_eq b 60 ≡ false → nat_eq b 38 ≡ false → nat_eq b 13 ≡ false → outside (b ∷ r) ≡ b ∷ outside r
+byte_out b r no_tag no_entity no_return =
+    let kept : ℕ → Bool → List ℕ = λ d t. elim t as (λ _. List ℕ) [ true ↦ outside r | false ↦ d ∷ outside r ] in
+    let after : ℕ → Bool → Bool → List ℕ = λ d t u. elim t as (λ _. List ℕ) [ true ↦ entity_from [] r | false ↦ kept d u ] in
+    subst (λ (t : Bool). elim t as (λ _. List ℕ) [ true ↦ inside r | false ↦ after b (nat_eq b 38) (nat_eq b 13) ] ≡ b ∷ outside r) (sym no_tag)
+    (subst (λ (t : Bool). after b t (nat_eq b 13) ≡ b ∷ outside r) (sym no_entity) (subst (λ (t : Bool). kept b t ≡ b ∷ outside r) (sym no_return) refl))
 
 byte_in : (b : ℕ) (r : List ℕ) → nat_eq b 62 ≡ false → inside (b ∷ r) ≡ inside r
 byte_in b r no_end = subst (λ (t : Bool). elim t as (λ _. List ℕ) [ true ↦ outside r | false ↦ inside r ] ≡ inside r) (sym no_end) refl
 
--- bytes without `<` and `&` are themselves outside a tag
-outside_plain : (bs rest : List ℕ) → Lacks 60 bs → Lacks 38 bs → outside (bs ++ rest) ≡ bs ++ outside rest
-outside_plain [] rest no_tag no_entity = refl
-outside_plain (b ∷ bs) rest no_tag no_entity =
-    byte_out b (bs ++ rest) (differs b 60 no_tag.0) (differs b 38 no_entity.0) ∙ ap (λ (r : List ℕ). b ∷ r) (outside_plain bs rest no_tag.1 no_entity.1)
+-- bytes without `<`, `&` and carriage returns are themselves outside a tag
+outside_plain : (bs rest : List ℕ) → Lacks 60 bs → Lacks 38 bs → Lacks 13 bs → outside (bs ++ rest) ≡ bs ++ outside rest
+outside_plain [] rest no_tag no_entity no_return = refl
+outside_plain (b ∷ bs) rest no_tag no_entity no_return =
+    byte_out b (bs ++ rest) (differs b 60 no_tag.0) (differs b 38 no_entity.0) (differs b 13 no_return.0)
+    ∙ ap (λ (r : List ℕ). b ∷ r) (outside_plain bs rest no_tag.1 no_entity.1 no_return.1)
 
 -- and bytes without `>` are nothing inside one
 inside_plain : (bs rest : List ℕ) → Lacks 62 bs → inside (bs ++ rest) ≡ inside rest
@@ -37,34 +40,36 @@ inside_plain (b ∷ bs) rest no_end = byte_in b (bs ++ rest) (differs b 62 no_en
 abbrev Tells : ℕ → ℕ → Type 0
 Tells c x = ((nat_eq c x ≡ true) × (c ≡ x)) ⊎ ((nat_eq c x ≡ false) × (c ≢ x))
 
-plain_told : (c : ℕ) → nat_eq c 60 ≡ false → nat_eq c 62 ≡ false → nat_eq c 38 ≡ false → nat_eq c 34 ≡ false → told c ≡ encode_utf8 c
-plain_told c lt gt amp quot = rw (lt, gt, amp, quot) refl
+plain_told : (c : ℕ) → nat_eq c 60 ≡ false → nat_eq c 62 ≡ false → nat_eq c 38 ≡ false → nat_eq c 34 ≡ false → nat_eq c 13 ≡ false → told c ≡ encode_utf8 c
+plain_told c lt gt amp quot cr = rw (lt, gt, amp, quot, cr) refl
 
 one_byte : (c : ℕ) (rest : List ℕ) → c < 128 → c ∷ outside rest ≡ encode_utf8 c ++ outside rest
 one_byte c rest small = sym (ap (λ (p : List ℕ). p ++ outside rest) (encode_ascii c small))
 
-told_out : (c : ℕ) (rest : List ℕ) → outside (told c ++ rest) ≡ encode_utf8 c ++ outside rest
-told_out c rest = by (eqb_tells c 60) (eqb_tells c 62) (eqb_tells c 38) (eqb_tells c 34)
+-- what holds of the five characters that have entities, and of all others
+by_entity : (P : ℕ → Type 0) → P 60 → P 62 → P 38 → P 34 → P 13 → ((c : ℕ) → c ≢ 60 → c ≢ 62 → c ≢ 38 → c ≢ 13 → told c ≡ encode_utf8 c → P c) → (c : ℕ) → P c
+by_entity P lt gt amp quot cr other c = by (eqb_tells c 60) (eqb_tells c 62) (eqb_tells c 38) (eqb_tells c 34) (eqb_tells c 13)
   where
-    by : Tells c 60 → Tells c 62 → Tells c 38 → Tells c 34 → outside (told c ++ rest) ≡ encode_utf8 c ++ outside rest
-    by (inl lt) g a q = subst (λ (d : ℕ). outside (told d ++ rest) ≡ encode_utf8 d ++ outside rest) (sym lt.1) (one_byte 60 rest (omega arith))
-    by (inr l) (inl gt) a q = subst (λ (d : ℕ). outside (told d ++ rest) ≡ encode_utf8 d ++ outside rest) (sym gt.1) (one_byte 62 rest (omega arith))
-    by (inr l) (inr g) (inl amp) q = subst (λ (d : ℕ). outside (told d ++ rest) ≡ encode_utf8 d ++ outside rest) (sym amp.1) (one_byte 38 rest (omega arith))
-    by (inr l) (inr g) (inr a) (inl quot) = subst (λ (d : ℕ). outside (told d ++ rest) ≡ encode_utf8 d ++ outside rest) (sym quot.1) (one_byte 34 rest (omega arith))
-    by (inr l) (inr g) (inr a) (inr q) =
-        ap (λ (p : List ℕ). outside (p ++ rest)) (plain_told c l.0 g.0 a.0 q.0)
-        ∙ outside_plain (encode_utf8 c) rest (lacks_char 60 c (omega arith) l.1) (lacks_char 38 c (omega arith) a.1)
+    by : Tells c 60 → Tells c 62 → Tells c 38 → Tells c 34 → Tells c 13 → P c
+    by (inl l) g a q r = subst P (sym l.1) lt
+    by (inr l) (inl g) a q r = subst P (sym g.1) gt
+    by (inr l) (inr g) (inl a) q r = subst P (sym a.1) amp
+    by (inr l) (inr g) (inr a) (inl q) r = subst P (sym q.1) quot
+    by (inr l) (inr g) (inr a) (inr q) (inl r) = subst P (sym r.1) cr
+    by (inr l) (inr g) (inr a) (inr q) (inr r) = other c l.1 g.1 a.1 r.1 (plain_told c l.0 g.0 a.0 q.0 r.0)
+
+told_out : (c : ℕ) (rest : List ℕ) → outside (told c ++ rest) ≡ encode_utf8 c ++ outside rest
+told_out c rest =
+    by_entity (λ d. outside (told d ++ rest) ≡ encode_utf8 d ++ outside rest)
+    (one_byte 60 rest (omega arith)) (one_byte 62 rest (omega arith)) (one_byte 38 rest (omega arith)) (one_byte 34 rest (omega arith)) (one_byte 13 rest (omega arith))
+    (λ d no_tag no_end no_entity no_return plain. ap (λ (p : List ℕ). outside (p ++ rest)) plain
+    ∙ outside_plain (encode_utf8 d) rest (lacks_char 60 d (omega arith) no_tag) (lacks_char 38 d (omega arith) no_entity) (lacks_char 13 d (omega arith) no_return)) c
 
 told_in : (c : ℕ) (rest : List ℕ) → inside (told c ++ rest) ≡ inside rest
-told_in c rest = by (eqb_tells c 60) (eqb_tells c 62) (eqb_tells c 38) (eqb_tells c 34)
-  where
-    by : Tells c 60 → Tells c 62 → Tells c 38 → Tells c 34 → inside (told c ++ rest) ≡ inside rest
-    by (inl lt) g a q = subst (λ (d : ℕ). inside (told d ++ rest) ≡ inside rest) (sym lt.1) refl
-    by (inr l) (inl gt) a q = subst (λ (d : ℕ). inside (told d ++ rest) ≡ inside rest) (sym gt.1) refl
-    by (inr l) (inr g) (inl amp) q = subst (λ (d : ℕ). inside (told d ++ rest) ≡ inside rest) (sym amp.1) refl
-    by (inr l) (inr g) (inr a) (inl quot) = subst (λ (d : ℕ). inside (told d ++ rest) ≡ inside rest) (sym quot.1) refl
-    by (inr l) (inr g) (inr a) (inr q) =
-        ap (λ (p : List ℕ). inside (p ++ rest)) (plain_told c l.0 g.0 a.0 q.0) ∙ inside_plain (encode_utf8 c) rest (lacks_char 62 c (omega arith) g.1)
+told_in c rest =
+    by_entity (λ d. inside (told d ++ rest) ≡ inside rest) refl refl refl refl refl
+    (λ d no_tag no_end no_entity no_return plain. ap (λ (p : List ℕ). inside (p ++ rest)) plain
+    ∙ inside_plain (encode_utf8 d) rest (lacks_char 62 d (omega arith) no_end)) c
 
 -- ---- texts
 
@@ -87,12 +92,15 @@ span_out class text rest u =
     ap inside (append_assoc (escaped class) behind rest) ∙ all_in (chars class) (behind ++ rest)
     ∙ ap outside (append_assoc (escaped text) (codes "</span>") rest) ∙ text_out text (codes "</span>" ++ rest) u
 
+mark_out : (text rest : List ℕ) → IsUtf8 text → outside (mark text ++ rest) ≡ text ++ outside rest
+mark_out text rest u = ap outside (append_assoc (escaped text) (codes "</mark>") rest) ∙ text_out text (codes "</mark>" ++ rest) u
+
 -- ---- pieces
 
 marked_out : (names : List (List ℕ)) (x : Item) (rest : List ℕ) → IsUtf8 (slice_of x) → outside (marked names x ++ rest) ≡ slice_of x ++ outside rest
 marked_out names (Token token) rest u = span_out (unwrap_or (slice_get names token.index) []) token.slice.now rest u
 marked_out names (Skipped token) rest u = text_out token.slice.now rest u
-marked_out names (Fault start slice) rest u = span_out (codes "fault") slice.now rest u
+marked_out names (Fault start slice) rest u = mark_out slice.now rest u
 
 pub pieces_out : (names : List (List ℕ)) (ts : List Tree) (ps : List ℕ) (skips : List Bool) (text : List ℕ) (at : ℕ) (xs : List Item)
     → ArePieces ts ps skips text at xs → outside (flat_map (marked names) xs) ≡ joined xs

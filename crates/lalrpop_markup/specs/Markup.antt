@@ -7,13 +7,14 @@ use Rattle.lalrpop_rules.specs.declared.item.Item.TheVariants.{Token, Skipped, F
 
 -- ---- writing
 
--- the entities of `<`, `>`, `&` and the quote
+-- the entities of `<`, `>`, `&`, the quote and the carriage return
 abbrev pub entity : ℕ → Option (List ℕ)
 entity c =
     if c == 60 then Some (codes "&lt;") else (
     if c == 62 then Some (codes "&gt;") else (
     if c == 38 then Some (codes "&amp;") else (
-    if c == 34 then Some (codes "&quot;") else None)))
+    if c == 34 then Some (codes "&quot;") else (
+    if c == 13 then Some (codes "&#13;") else None))))
 
 -- the entity of a character, or the character itself if it has none
 abbrev pub told : ℕ → List ℕ
@@ -26,26 +27,34 @@ escaped text = flat_map told (chars text)
 abbrev pub span : List ℕ → List ℕ → List ℕ
 span class text = codes "<span class=\"" ++ (escaped class ++ (codes "\">" ++ (escaped text ++ codes "</span>")))
 
+abbrev pub mark : List ℕ → List ℕ
+mark text = codes "<mark>" ++ (escaped text ++ codes "</mark>")
+
 -- a piece of a text: a token with the name of its rule, or a fault
 abbrev pub marked : List (List ℕ) → Item → List ℕ
 marked names (Token token) = span (unwrap_or (slice_get names token.index) []) token.slice.now
 marked names (Skipped token) = escaped token.slice.now
-marked names (Fault start slice) = span (codes "fault") slice.now
+marked names (Fault start slice) = mark slice.now
 
 -- ---- reading: the text of HTML is what is outside tags, with entities decoded
 
--- the byte that the entity of this name stands for
-abbrev pub byte_of : List ℕ → ℕ
-byte_of name =
-    if bytes_eq name (codes "lt") then 60 else (
-    if bytes_eq name (codes "gt") then 62 else (
-    if bytes_eq name (codes "amp") then 38 else 34))
+-- what the entity of this name stands for: nothing, if it is none of these
+abbrev pub bytes_of : List ℕ → List ℕ
+bytes_of name =
+    if bytes_eq name (codes "lt") then 60 ∷ [] else (
+    if bytes_eq name (codes "gt") then 62 ∷ [] else (
+    if bytes_eq name (codes "amp") then 38 ∷ [] else (
+    if bytes_eq name (codes "quot") then 34 ∷ [] else (
+    if bytes_eq name (codes "#13") then 13 ∷ [] else []))))
 
 abbrev mutual
-  -- outside tags: `<` begins one, and `&` an entity
+  -- outside tags: `<` begins one, and `&` an entity; a carriage return that is no entity is lost
   pub outside : List ℕ → List ℕ
   outside [] = []
-  outside (b ∷ bs) = elim (b == 60) [ true ↦ inside bs | false ↦ elim (b == 38) [ true ↦ entity_from [] bs | false ↦ b ∷ outside bs ] ]
+  outside (b ∷ bs) =
+      elim (b == 60) [ true ↦ inside bs | false ↦
+      elim (b == 38) [ true ↦ entity_from [] bs | false ↦
+      elim (b == 13) [ true ↦ outside bs | false ↦ b ∷ outside bs ] ] ]
 
   -- inside a tag, which `>` ends
   pub inside : List ℕ → List ℕ
@@ -55,4 +64,4 @@ abbrev mutual
   -- inside an entity, which `;` ends, and whose name is this so far
   pub entity_from : List ℕ → List ℕ → List ℕ
   entity_from name [] = []
-  entity_from name (b ∷ bs) = elim (b == 59) [ true ↦ byte_of name ∷ outside bs | false ↦ entity_from (name ++ b ∷ []) bs ]
+  entity_from name (b ∷ bs) = elim (b == 59) [ true ↦ bytes_of name ++ outside bs | false ↦ entity_from (name ++ b ∷ []) bs ]

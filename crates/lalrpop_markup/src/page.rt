@@ -2,12 +2,12 @@
 ghost use Rattle.std.specs.Prelude.{◌≡◌, ◌++◌, List, flat_map, option_map, string_bytes, IfOk, OnOk};
 ghost use Rattle.lalrpop_rules.specs.Pieces.{ArePieces};
 ghost use Rattle.lalrpop_rules.specs.declared.item.Item.{Item as ItemValue};
-ghost use Rattle.lalrpop_markup.specs.Markup.{entity, told, escaped, span, marked, outside};
+ghost use Rattle.lalrpop_markup.specs.Markup.{entity, told, escaped, span, mark, marked, outside};
 
 use lalrpop_rules::{Item, RuleLexer};
 use std::alloc::{AllocError, Global};
 
-// The entity of a character that has a meaning in HTML.
+// The entity of a character that has a meaning in HTML, or that a reader of HTML doesn't keep: the carriage return.
 fn entity(c: char) -> Option<&'static str>
     ensures { option_map (λ text. text.now) result ≡ entity c }
 {
@@ -16,6 +16,7 @@ fn entity(c: char) -> Option<&'static str>
         '>' => Some("&gt;"),
         '&' => Some("&amp;"),
         '"' => Some("&quot;"),
+        '\r' => Some("&#13;"),
         _ => None,
     }
 }
@@ -49,6 +50,14 @@ fn push_span(page: &mut String, class: &str, text: &str) -> Result<(), AllocErro
     page.push_str("</span>")
 }
 
+fn push_mark(page: &mut String, fault: &str) -> Result<(), AllocError>
+    ensures { OnOk result (string_bytes page.new ≡ string_bytes page.old ++ mark fault.now) }
+{
+    page.push_str("<mark>")?;
+    push_escaped(page, fault)?;
+    page.push_str("</mark>")
+}
+
 fn push_item(page: &mut String, lexer: &RuleLexer, item: &Item) -> Result<(), AllocError>
     ensures { OnOk result (string_bytes page.new
         ≡ string_bytes page.old ++ marked lexer.now.names item.now) }
@@ -62,12 +71,15 @@ fn push_item(page: &mut String, lexer: &RuleLexer, item: &Item) -> Result<(), Al
             push_span(page, name, token.slice)
         }
         Item::Skipped(token) => push_escaped(page, token.slice),
-        Item::Fault { start: _, slice } => push_span(page, "fault", slice),
+        Item::Fault { start: _, slice } => push_mark(page, slice),
     }
 }
 
-/// The text as HTML: each token in a `span` whose class is the name of its rule, each fault in a `span` of the class `fault`,
-/// and skipped text in none. Strip the tags and decode the entities, and you have the text again.
+/// The text as HTML: each token in a `span` whose class is the name of its rule, each fault in a `mark`, and skipped text in
+/// neither. Strip the tags and decode the entities, and you have the text again.
+///
+/// HTML can't hold NUL: a reader shows U+FFFD or nothing. In a `pre`, put a newline in front of the page, since a reader drops
+/// one there.
 ///
 /// # Errors
 ///

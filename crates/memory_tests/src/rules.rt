@@ -182,8 +182,8 @@ A r a / LONG r a*b <-  => ";
 #[test]
 fn texts_are_made_pages(rt: HostRuntime) {
     let table = "\
-IF l if / LESS l < <- if < => <span class=\"IF\">if</span><span class=\"fault\"> </span><span class=\"LESS\">&lt;</span>
-A s a+ <- aa => aa";
+IF l if / LESS l < <- if < => <span class=\"IF\">if</span><mark> </mark><span class=\"LESS\">&lt;</span>
+A s a+ <- a\ra => a<mark>&#13;</mark>a";
     expect(&rt, rt.alloc(), Call::Page, table, 2);
 }
 

@@ -86,8 +86,8 @@ fn shown(alloc: Global, text: &str) -> Result<String> {
 
 const SHOWN: &str = r#"
 if a => <span class="IF">if</span> <span class="NAME">a</span>
-a<&"> => <span class="NAME">a</span><span class="fault">&lt;&amp;&quot;&gt;</span>
-é == => <span class="fault">é</span> <span class="EQUAL">==</span>
+a<&"> => <span class="NAME">a</span><mark>&lt;&amp;&quot;&gt;</mark>
+é == => <mark>é</mark> <span class="EQUAL">==</span>
 "#;
 
 fn painted(alloc: Global, text: &str) -> Result<String> {

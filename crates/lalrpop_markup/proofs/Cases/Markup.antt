@@ -1,7 +1,7 @@
 -- Cases of specs/Markup.antt.
-use Rattle.std.proofs.Common.{◌≡◌, ◌≢◌, length, codes, refl, ap, arith}
+use Rattle.std.proofs.Common.{◌≡◌, ◌≢◌, ℕ, List, [], ◌∷◌, ◌++◌, length, get_or, codes, refl, ap, arith}
 use Rattle.std.specs.Prelude.{Some, None}
-use Rattle.lalrpop_markup.specs.Markup.{entity, outside}
+use Rattle.lalrpop_markup.specs.Markup.{entity, span, mark, outside}
 
 less_has_an_entity : entity 60 ≡ Some (codes "&lt;")
 less_has_an_entity = refl
@@ -16,8 +16,20 @@ apostrophe_has_none = refl
 text_of_a_span : outside (codes "<b>a&lt;b</b>!") ≡ codes "a<b!"
 text_of_a_span = refl
 
-each_entity_is_undone : outside (codes "&lt;&gt;&amp;&quot;") ≡ codes "<>&\""
+each_entity_is_undone : outside (codes "&lt;&gt;&amp;&quot;&#13;") ≡ codes "<>&\"" ++ 13 ∷ []
 each_entity_is_undone = refl
+
+-- another entity stands for nothing
+unknown_entity : outside (codes "a&nbsp;b") ≡ codes "ab"
+unknown_entity = refl
+
+-- a carriage return is kept as an entity alone
+carriage_return_left_alone : outside (13 ∷ 10 ∷ []) ≡ 10 ∷ []
+carriage_return_left_alone = refl
+
+-- no fault is confused with a token, whatever its rule is called
+mark_is_no_span : (class text other : List ℕ) → mark text ≢ span class other
+mark_is_no_span class text other e = let n : 109 ≡ 115 = ap (λ (bytes : List ℕ). get_or bytes 1 0) e in omega (arith, n)
 
 -- an ampersand that begins no entity is lost, so it is never written as itself
 ampersand_left_alone : outside (codes "a&b") ≢ codes "a&b"

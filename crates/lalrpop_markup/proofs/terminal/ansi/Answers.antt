@@ -1,11 +1,11 @@
-use Rattle.std.proofs.Common.{[], ◌∷◌, ◌++◌, ap, subst, sym, ◌∙◌, rules}
+use Rattle.std.proofs.Common.{◌≡◌, [], ◌∷◌, ◌++◌, length, ap, subst, sym, ◌∙◌, rules, arith}
 use Rattle.std.specs.Iterator.{Drains}
 use Rattle.std.proofs.iter.Next.{Yields-more}
 use Rattle.lalrpop_rules.specs.LinearCutToEnd.{GivesLinearPiece}
 use Rattle.lalrpop_markup.specs.Internal.Colours.{AreColours}
 use Rattle.lalrpop_markup.specs.Terminal.{painted, unpainted}
 use Rattle.lalrpop_markup.proofs.Characters.{one_more}
-use Rattle.lalrpop_markup.proofs.Colours.{none_noted}
+use Rattle.lalrpop_markup.proofs.Colours.{none_noted, same_slots}
 use Rattle.lalrpop_markup.proofs.TerminalReadings.{pieces_out}
 use Rattle.lalrpop_markup.proofs.terminal.ansi.Goals as goal
 
@@ -17,7 +17,9 @@ painting-init c =
 pub painting-preserved : goal.painting-preserved
 painting-preserved c =
     let i = c.painting.invariant.0 in
-    ((i.0 ++ c.in-Some.item ∷ [], (Yields-more GivesLinearPiece _ i.0 c.painting.items c.in-Some.item _ i.1.0 c.in-Some.ensures.steps, one_more (painted c.args.lexer.now.names) i.0 c.in-Some.item _ _ i.1.1 c.in_ok-push_painted.ensures)), search rules)
+    let painted_now = c.in_ok-push_painted.ensures in
+    let kept : c.painting.colours.len ≡ length c.push_painted.new.colours = omega arith in
+    ((i.0 ++ c.in-Some.item ∷ [], (Yields-more GivesLinearPiece _ i.0 c.painting.items c.in-Some.item _ i.1.0 c.in-Some.ensures.steps, one_more (painted c.args.lexer.now.names) i.0 c.in-Some.item _ _ i.1.1 painted_now.painted)), subst (AreColours c.args.lexer.now.names) (sym (same_slots c.painting.colours.len c.push_painted.new.colours _ kept)) painted_now.noted)
 
 pub returns-clause-pieces : goal.returns-clause-pieces
 returns-clause-pieces c =
