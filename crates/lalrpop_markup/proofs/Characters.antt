@@ -1,8 +1,7 @@
 -- The bytes of characters, and the pieces that a loop gave.
-use Rattle.std.proofs.Common.{◌≡◌, ◌≢◌, ℕ, ⊎_elim, ◌<◌, true, false, List, [], ◌∷◌, ◌++◌, suc, length, get_or, ap, flat_map, sym, subst, ◌∙◌, arith}
-use Rattle.std.specs.Prelude.{Option, None, nat_eq}
+use Rattle.std.proofs.Common.{◌≡◌, ◌≢◌, ℕ, ⊎_elim, ◌<◌, true, false, List, [], ◌∷◌, ◌++◌, suc, length, get_or, ap, flat_map, sym, ◌∙◌, arith}
+use Rattle.std.specs.Prelude.{nat_eq}
 use Rattle.std.specs.Char.{encode_utf8}
-use Rattle.std.specs.Iterator.{Yields, Drains}
 use Rattle.std.proofs.lemmas.Str.{inside_one}
 use Rattle.std.proofs.lemmas.Bool.Decides.{eqb_tells}
 use Rattle.std.proofs.lemmas.Grind.{flat_map-append}

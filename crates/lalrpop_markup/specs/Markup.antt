@@ -52,9 +52,15 @@ abbrev mutual
   pub outside : List ℕ → List ℕ
   outside [] = []
   outside (b ∷ bs) =
-      elim (b == 60) [ true ↦ inside bs | false ↦
-      elim (b == 38) [ true ↦ entity_from [] bs | false ↦
-      elim (b == 13) [ true ↦ outside bs | false ↦ b ∷ outside bs ] ] ]
+      elim (b == 60) [
+        | true ↦ inside bs
+        | false ↦
+            elim (b == 38) [
+              | true ↦ entity_from [] bs
+              | false ↦
+                  elim (b == 13) [ true ↦ outside bs | false ↦ b ∷ outside bs ]
+            ]
+      ]
 
   -- inside a tag, which `>` ends
   pub inside : List ℕ → List ℕ
