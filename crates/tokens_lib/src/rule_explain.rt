@@ -118,7 +118,7 @@ fn clash_explained(
 }
 
 /// What is wrong with the rules of a file, in words: the file and the line, and the line itself. The bytes are those that the rules
-/// were read from.
+/// were read from, without a byte order mark.
 ///
 /// # Errors
 ///
