@@ -30,12 +30,12 @@ impl Display for LineFault {
             LineFault::NoName =>
                 "a name is missing: names are ASCII letters, digits and `_`, and don't begin with a digit",
             LineFault::NoEquals =>
-                "`=` is missing after the name: only `skip` may be between, and a name has only ASCII letters, digits and `_`",
+                "`=` is missing: a name has only ASCII letters, digits and `_`, and only `skip` may follow it",
             LineFault::PrecedenceTooLarge =>
                 "the precedence is too large: at most 20 digits, and below 2^64",
             LineFault::NoText => "a literal in apostrophes or a pattern in slashes is missing",
             LineFault::NotClosed =>
-                "the line must end with the apostrophe or slash that its text begins with, and a comment is a line of its own",
+                "the line must end with the apostrophe or slash of its text: a comment is a line of its own",
         })
     }
 }

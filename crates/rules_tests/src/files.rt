@@ -129,7 +129,7 @@ fn the_first_bad_line_is_named(rt: HostRuntime) {
     let said = explained(rt.alloc(), b"A 'x'").expect(&rt, "memory");
     assert_eq!(&rt;
         said.as_str(),
-        "line 1, column 3: `=` is missing after the name: only `skip` may be between, and a name has only ASCII letters, digits and `_`"
+        "line 1, column 3: `=` is missing: a name has only ASCII letters, digits and `_`, and only `skip` may follow it"
     );
 }
 
