@@ -12,7 +12,7 @@ use tokens_lib::{
     Layout, LineForm, Rule, RuleLexer, RulesError, rule_clashes, write_items, write_rule_clashes,
 };
 
-fn lexer_of_rules(rt: &impl Abort, alloc: Global) -> RuleLexer {
+pub(crate) fn lexer_of_rules(rt: &impl Abort, alloc: Global) -> RuleLexer {
     let rules = [
         Rule::literal("IF", "if"),
         Rule::pattern("NAME", "[a-z]+"),

@@ -20,6 +20,8 @@ mod items;
 #[cfg(test)]
 mod longest;
 #[cfg(test)]
+mod pages;
+#[cfg(test)]
 mod shared;
 #[cfg(test)]
 mod shy_kernel;

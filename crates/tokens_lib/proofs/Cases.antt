@@ -3,6 +3,7 @@ mod Building
 mod ClashesShown
 mod Command
 mod ItemLines
+mod PageWritten
 mod Quoted
 mod RuleClashes
 mod Text

@@ -42,12 +42,12 @@ same_parts i j p q e =
     let both : ◌≡◌ {A = ℕ × List ℕ} (i, p) (j, q) = ap (λ (o : Option (ℕ × List ℕ)). unwrap_or o (i, p)) e in
     (ap (λ (m : ℕ × List ℕ). m.0) both, ap (λ (m : ℕ × List ℕ). m.1) both)
 
-same_match : (ts : List Tree) (ps rest : List ℕ) (x y : Cut) → IsLongest ts ps rest (Some (x.index, x.slice.now)) → IsLongest ts ps rest (Some (y.index, y.slice.now))
+pub same_match : (ts : List Tree) (ps rest : List ℕ) (x y : Cut) → IsLongest ts ps rest (Some (x.index, x.slice.now)) → IsLongest ts ps rest (Some (y.index, y.slice.now))
     → (x.index ≡ y.index) × (x.slice.now ≡ y.slice.now)
 same_match ts ps rest x y a b = same_parts x.index y.index x.slice.now y.slice.now (longest-unique ts ps rest _ _ a b)
 
 -- a match begins no fault
-no_fault_here : (ts : List Tree) (ps rest slice : List ℕ) (x : Cut) → IsLongest ts ps rest (Some (x.index, x.slice.now)) → IsFault ts rest slice → ⊥
+pub no_fault_here : (ts : List Tree) (ps rest slice : List ℕ) (x : Cut) → IsLongest ts ps rest (Some (x.index, x.slice.now)) → IsFault ts rest slice → ⊥
 no_fault_here ts ps rest slice x a f = f.nothing 0 (some_length slice f.some) (x.slice.now, a.0)
 
 -- two faults at one place end at one place
@@ -101,7 +101,7 @@ same_piece layout names ts ps skips text at (Fault start slice) (Fault start2 sl
 
 -- ---- the lines of first pieces begin the lines of all
 
-piece_left : (ts : List Tree) (ps : List ℕ) (skips : List Bool) (text : List ℕ) (at : ℕ) (y : Item) → IsPiece ts ps skips text at y → drop at text ≢ []
+pub piece_left : (ts : List Tree) (ps : List ℕ) (skips : List Bool) (text : List ℕ) (at : ℕ) (y : Item) → IsPiece ts ps skips text at y → drop at text ≢ []
 piece_left ts ps skips text at y is none =
     let front = is_front ts ps skips text at y is in
     omega (arith, some_length (slice_of y) (is_some ts ps skips text at y is), ap length front.1.0, length-append (slice_of y) front.0, ap length none)

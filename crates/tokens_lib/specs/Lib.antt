@@ -2,6 +2,7 @@ pub mod Building
 pub mod ClashesShown
 pub mod Command
 pub mod ItemLines
+pub mod PageWritten
 pub mod Quoted
 pub mod RuleClashes
 pub mod Text

@@ -5,4 +5,5 @@ pub mod cut_a_file;
 pub mod cut_by_rules;
 pub mod list_clashes;
 pub mod read_rules;
+pub mod show_a_text;
 pub mod streams;

@@ -1,0 +1,34 @@
+-- Cases of specs/PageWritten.antt.
+use Rattle.std.proofs.Common.{◌≡◌, ℕ, List, [], ◌∷◌, ◌++◌, codes, refl}
+use Rattle.std.specs.Prelude.{Some, None}
+use Rattle.std.specs.Borrow.{Bor}
+use Rattle.std.specs.Str.{chars}
+use Rattle.lalrpop_rules.specs.Pieces.{ArePieces}
+use Rattle.lalrpop_rules.specs.RuleSet.{RuleSet}
+use Rattle.lalrpop_rules.specs.declared.item.Item.{Item}
+use Rattle.lalrpop_rules.specs.declared.item.Item.TheVariants.{Fault}
+use Rattle.tokens_lib.specs.ItemLines.{first_fault}
+use Rattle.tokens_lib.specs.PageWritten.{page_of, WritesPage}
+use Rattle.tokens_lib.proofs.PieceLines.{piece_left}
+use Rattle.tokens_lib.specs.declared.command.Markup.TheVariants.{Html, Ansi}
+
+-- a fault as HTML, and on red
+fault_as_html : (names : List (List ℕ)) (slice : Bor (List ℕ)) → slice.now ≡ codes "<" → page_of Html names (Fault 0 slice ∷ []) ≡ codes "<mark>&lt;</mark>"
+unfolding chars lib.Utf8.encode
+fault_as_html names slice is = rw is refl
+
+fault_on_red : (names : List (List ℕ)) (slice : Bor (List ℕ)) → slice.now ≡ codes "a"
+    → page_of Ansi names (Fault 0 slice ∷ []) ≡ 27 ∷ (codes "[41ma" ++ (27 ∷ codes "[0m"))
+unfolding chars lib.Utf8.encode
+fault_on_red names slice is = rw is refl
+
+-- of an empty text nothing is written, and it has no fault
+nothing_is_written : (rules : RuleSet) → WritesPage rules Html [] (Some []) (Some []) None
+nothing_is_written rules = ([], (refl, (refl, refl)))
+
+nothing_has_no_fault : (rules : RuleSet) (xs : List Item) → ArePieces rules.trees rules.precedences rules.skips [] 0 xs → Some 0 ≡ first_fault xs → ⊥
+nothing_has_no_fault rules [] are first = absurd (cc)
+nothing_has_no_fault rules (x ∷ xs) are first = piece_left _ _ _ [] 0 x are.0 refl
+
+fault_of_nothing : (rules : RuleSet) → ¬ WritesPage rules Ansi [] (Some []) (Some []) (Some 0)
+fault_of_nothing rules h = nothing_has_no_fault rules h.0 h.1.0 h.1.1.0

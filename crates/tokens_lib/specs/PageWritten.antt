@@ -1,0 +1,28 @@
+-- cases: proofs/Cases/PageWritten.antt
+-- What is written for a text that is shown as markup.
+use Rattle.std.specs.Prelude.{◌≡◌, ℕ, List, Option, flat_map}
+use Rattle.std.specs.Io.KnownBytes.{Appends}
+use Rattle.lalrpop_markup.specs.Markup.{marked}
+use Rattle.lalrpop_markup.specs.Terminal.{painted}
+use Rattle.lalrpop_rules.specs.Pieces.{ArePieces}
+use Rattle.lalrpop_rules.specs.RuleSet.{RuleSet}
+use Rattle.lalrpop_rules.specs.declared.item.Item.{Item}
+use Rattle.lexdfa_lib.specs.Watch.{AppendsPrefix}
+use Rattle.tokens_lib.specs.ItemLines.{first_fault}
+use Rattle.tokens_lib.specs.declared.command.Markup.{Markup}
+use Rattle.tokens_lib.specs.declared.command.Markup.TheVariants.{Html, Ansi}
+
+-- the pieces as HTML, or in colours for a terminal, one after another
+abbrev pub page_of : Markup → List (List ℕ) → List Item → List ℕ
+page_of Html names xs = flat_map (marked names) xs
+page_of Ansi names xs = flat_map (painted names) xs
+
+-- a writer took exactly the page of all pieces of the text, and the first fault begins here
+abbrev pub WritesPage : RuleSet → Markup → List ℕ → Option (List ℕ) → Option (List ℕ) → Option ℕ → Type 0
+WritesPage rules markup text held held_now fault =
+    (xs : List Item) × (ArePieces rules.trees rules.precedences rules.skips text 0 xs × ((fault ≡ first_fault xs) × Appends held held_now (page_of markup rules.names xs)))
+
+-- a writer took a prefix of this page, which is unique
+abbrev pub WritesPagePrefix : RuleSet → Markup → List ℕ → Option (List ℕ) → Option (List ℕ) → Type 0
+WritesPagePrefix rules markup text held held_now =
+    (xs : List Item) → ArePieces rules.trees rules.precedences rules.skips text 0 xs → AppendsPrefix held held_now (page_of markup rules.names xs)
