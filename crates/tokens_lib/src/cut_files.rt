@@ -1,19 +1,19 @@
 //! Cutting files one after another: the lines or the markup of each are written.
-ghost use Rattle.std.specs.Prelude.{◌≡◌, ◌≤◌, false, IfOk, OnOk};
-ghost use Rattle.tokens_lib.specs.Internal.Endings.{StopsIn};
+ghost use Rattle.std.specs.Prelude.{◌≡◌, ◌≢◌, ◌≤◌, false, IfOk, OnOk};
+ghost use Rattle.tokens_lib.specs.Internal.Endings.{StopsIn, IsTokensEnding, IsPiecesEnding, Performs, ReadsAndPerforms};
 
 use crate::command::Markup;
 use crate::ends::{NO_TEXT, open, out_of_memory, say, say_of};
 use crate::fault::fault_message;
 use crate::item_lines::write_items;
 use crate::layout::{Layout, LineForm};
+use crate::page::write_page;
 use crate::text::{TextError, read_text};
 use crate::token_lines::write_tokens;
 use lalrpop_lexer::Lexer;
-use lalrpop_markup::{ansi, html};
-use lalrpop_rules::{Item, RuleLexer};
-use lexdfa_lib::{Failure, Outcome, RunError, Watched, write_whole};
-use std::alloc::{AllocError, Global};
+use lalrpop_rules::RuleLexer;
+use lexdfa_lib::{Failure, Outcome, RunError, Watched};
+use std::alloc::Global;
 use std::io::{Eprint, Read, Write};
 use std::rt::Files;
 
@@ -56,32 +56,27 @@ enum Ending {
     Stopped { kind: &'static str, at: usize },
 }
 
-fn has_fault(alloc: Global, lexer: &RuleLexer, text: &str) -> Result<bool, AllocError> {
-    for item in lexer.items_linear(alloc, text)? {
-        if let Item::Fault { .. } = item {
-            return Ok(true);
-        }
+// What came of a text that terminals cut.
+fn tokens_ending(outcome: &Outcome) -> Ending
+    ensures { IsTokensEnding outcome.now result }
+{
+    match outcome {
+        Outcome::Stopped { at, .. } => Ending::Stopped {
+            kind: "terminal",
+            at: *at,
+        },
+        _ => Ending::Whole,
     }
-    Ok(false)
 }
 
-fn write_markup<W: Write>(
-    alloc: Global,
-    lexer: &RuleLexer,
-    markup: Markup,
-    text: &str,
-    writer: &mut Watched<W>,
-) -> Result<(), RunError>
-    requires writer_good { writer.old.failed ≡ false }
-    ensures good { OnOk result (writer.new.failed ≡ false) }
+// What came of a text that named rules cut, by where its first fault begins.
+fn pieces_ending(recovers: bool, fault: Option<usize>) -> Ending
+    ensures { IsPiecesEnding recovers fault result }
 {
-    let shown = match markup {
-        Markup::Html => html(alloc, lexer, text),
-        Markup::Ansi => ansi(alloc, lexer, text),
-    };
-    match shown {
-        Ok(page) => write_whole(writer, page.as_bytes()),
-        Err(_) => Err(RunError::OutOfMemory),
+    match fault {
+        None => Ending::Whole,
+        Some(_) if recovers => Ending::Faulty,
+        Some(at) => Ending::Stopped { kind: "rule", at },
     }
 }
 
@@ -94,19 +89,15 @@ fn perform<W: Write>(
     writer: &mut Watched<W>,
 ) -> Result<Ending, RunError>
     requires writer_good { writer.old.failed ≡ false }
+    ensures performed { IfOk result (λ ending. Performs task.now name.entry text.now
+        (W.contents writer.old.inner) (W.contents writer.new.inner) ending) }
     ensures boundary { IfOk result (λ ending. StopsIn text.now ending) }
     ensures good { OnOk result (writer.new.failed ≡ false) }
 {
     match *task {
         Task::Tokens { lexer, places } => {
-            let file = if places { Some(name) } else { None };
-            match write_tokens(alloc, lexer, file, text, writer)? {
-                Outcome::Stopped { at, .. } => Ok(Ending::Stopped {
-                    kind: "terminal",
-                    at,
-                }),
-                _ => Ok(Ending::Whole),
-            }
+            let outcome = write_tokens(alloc, lexer, places.then_some(name), text, writer)?;
+            Ok(tokens_ending(&outcome))
         }
         Task::Pieces {
             lexer,
@@ -114,25 +105,17 @@ fn perform<W: Write>(
             recovers,
             named,
         } => {
-            let file = if named { Some(name) } else { None };
             let layout = Layout {
                 form,
                 recovers,
-                file,
+                file: named.then_some(name),
             };
-            match write_items(alloc, lexer, &layout, text, writer)? {
-                None => Ok(Ending::Whole),
-                Some(_) if recovers => Ok(Ending::Faulty),
-                Some(at) => Ok(Ending::Stopped { kind: "rule", at }),
-            }
+            let fault = write_items(alloc, lexer, &layout, text, writer)?;
+            Ok(pieces_ending(recovers, fault))
         }
         Task::Markup { lexer, markup } => {
-            write_markup(alloc, lexer, markup, text, writer)?;
-            match has_fault(alloc, lexer, text) {
-                Ok(true) => Ok(Ending::Faulty),
-                Ok(false) => Ok(Ending::Whole),
-                Err(_) => Err(RunError::OutOfMemory),
-            }
+            let fault = write_page(alloc, lexer, markup, text, writer)?;
+            Ok(pieces_ending(true, fault))
         }
     }
 }
@@ -147,6 +130,10 @@ fn cut<R: Read, W: Write>(
 ) -> Result<u8, Failure>
     requires reader_good { reader.old.failed ≡ false }
     requires writer_good { writer.old.failed ≡ false }
+    ensures performed { IfOk result (λ status. status ≢ 6 → ReadsAndPerforms task.now name.entry
+        (R.remaining reader.old.inner) (R.remaining reader.new.inner)
+        (W.contents writer.old.inner) (W.contents writer.new.inner) status) }
+    ensures no_text { IfOk result (λ status. status ≡ 6 → writer.new ≡ writer.old) }
     ensures status { IfOk result (λ status. status ≤ 6) }
     ensures good { OnOk result (writer.new.failed ≡ false) }
 {
