@@ -32,8 +32,10 @@ pub(crate) fn syntax_text(kind: SyntaxKind) -> &'static str {
 pub(crate) fn refusal_text(error: NfaConstructionError) -> &'static str {
     match error {
         NfaConstructionError::NamedCaptures => "a lexer can't have named groups: write `(?:..)`",
-        NfaConstructionError::NonGreedy => "a lexer can't have lazy repetitions",
-        NfaConstructionError::LookAround => "a lexer can't have look-around or word boundaries",
+        NfaConstructionError::NonGreedy =>
+            "a lexer can't have lazy repetitions: write `[^x]*x` for `.*?x`",
+        NfaConstructionError::LookAround =>
+            "a lexer can't have look-around, so no `^`, `$` or `\\b`: a match begins where the last one ended",
         NfaConstructionError::ByteRegex => "a lexer can't have patterns of bytes",
         NfaConstructionError::OutOfMemory => "out of memory",
     }
