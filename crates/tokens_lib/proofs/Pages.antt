@@ -5,7 +5,7 @@ use Rattle.std.specs.Borrow.{Bor}
 use Rattle.lalrpop_book.specs.Tree.{Tree}
 use Rattle.lalrpop_markup.specs.Markup.{escaped, span, mark, marked}
 use Rattle.lalrpop_markup.specs.Terminal.{visible, coloured, by_name, painted}
-use Rattle.lalrpop_rules.specs.Pieces.{IsPiece, ArePieces, IsSame, AreSame, slice_of}
+use Rattle.lalrpop_rules.specs.Pieces.{ArePieces, IsSame, AreSame, slice_of}
 use Rattle.lalrpop_rules.specs.RuleSet.{RuleSet}
 use Rattle.lalrpop_rules.specs.declared.item.Item.{Item}
 use Rattle.lalrpop_rules.specs.declared.item.Item.TheVariants.{Token, Skipped, Fault}

@@ -1,5 +1,5 @@
 -- The first pieces of a text, as the calls of `next` return them, and their lines: any list of all pieces begins with the same lines.
-use Rattle.std.proofs.Common.{◌≡◌, ◌≢◌, ℕ, ◌+◌, ◌<◌, ◌≤◌, ◌⊎◌, inl, inr, Bool, true, false, List, [], ◌∷◌, ◌++◌, length, take, drop, flat_map, refl, sym, ap, subst, ◌∙◌, append_assoc, arith, length-append}
+use Rattle.std.proofs.Common.{◌≡◌, ◌≢◌, ℕ, ◌+◌, ◌<◌, ◌⊎◌, inl, inr, Bool, true, false, List, [], ◌∷◌, ◌++◌, length, take, drop, refl, sym, ap, subst, ◌∙◌, append_assoc, arith, length-append}
 use Rattle.std.proofs.lemmas.Bool.{cases_order}
 use Rattle.std.proofs.lemmas.Grind.{flat_map-append}
 use Rattle.std.proofs.lemmas.List.{append-nil, take_at}
@@ -13,7 +13,7 @@ use Rattle.lalrpop_book.specs.Longest.{IsLongest}
 use Rattle.lalrpop_book.specs.declared.token.Token.{Token as Cut}
 use Rattle.lalrpop_book.proofs.Longests.{longest-unique}
 use Rattle.lalrpop_rules.specs.CutToEnd.{CutToEnd, GivesPiece}
-use Rattle.lalrpop_rules.specs.Pieces.{IsFault, IsPiece, ArePieces, IsSkipped, slice_of, start_of}
+use Rattle.lalrpop_rules.specs.Pieces.{IsFault, IsPiece, ArePieces, IsSkipped, slice_of}
 use Rattle.lalrpop_rules.specs.RuleSet.{RuleSet}
 use Rattle.lalrpop_rules.specs.declared.item.Item.{Item}
 use Rattle.lalrpop_rules.specs.declared.item.Item.TheVariants.{Token, Skipped, Fault}

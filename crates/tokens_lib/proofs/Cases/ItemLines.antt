@@ -5,8 +5,7 @@ use Rattle.std.specs.Str.{chars}
 use Rattle.json.specs.Print.{print_from, escape_byte}
 use Rattle.lalrpop_lexer.specs.declared.position.Position.{Position}
 use Rattle.lalrpop_rules.specs.declared.item.Item.{Item}
-use Rattle.lalrpop_rules.specs.declared.item.Item.TheVariants.{Token, Skipped, Fault}
-use Rattle.tokens_lib.specs.ItemLines.{plain_line, json_line, name_at, fault_line, item_line, first_fault}
+use Rattle.tokens_lib.specs.ItemLines.{plain_line, json_line, name_at, fault_line, first_fault}
 use Rattle.tokens_lib.specs.declared.layout.Layout.{Layout}
 
 abbrev second : Position

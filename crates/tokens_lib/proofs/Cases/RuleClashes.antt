@@ -1,5 +1,5 @@
 -- Cases of specs/RuleClashes.antt.
-use Rattle.std.proofs.Common.{◌≡◌, ℕ, List, [], ◌∷◌, codes, refl}
+use Rattle.std.proofs.Common.{◌≡◌, List, [], ◌∷◌, codes, refl}
 use Rattle.std.specs.Fmt.{digits}
 use Rattle.lalrpop_book.specs.Clashes.{Entry}
 use Rattle.lalrpop_rules.specs.declared.rule.Rule.{Rule}

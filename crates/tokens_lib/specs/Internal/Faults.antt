@@ -1,7 +1,7 @@
 -- The first fault of a text.
 use Rattle.std.specs.Prelude.{ℕ, Option, Some, None}
 use Rattle.lalrpop_rules.specs.declared.item.Item.{Item}
-use Rattle.lalrpop_rules.specs.declared.item.Item.TheVariants.{Token, Skipped, Fault}
+use Rattle.lalrpop_rules.specs.declared.item.Item.TheVariants.{Fault}
 
 -- where the first fault begins after one more piece
 abbrev pub first_with : Option ℕ → Item → Option ℕ

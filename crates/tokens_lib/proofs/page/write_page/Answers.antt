@@ -1,4 +1,3 @@
-use Rattle.std.proofs.Common.{string_bytes}
 use Rattle.tokens_lib.proofs.Pages.{prefix_of_each, at_an_error}
 use Rattle.tokens_lib.proofs.page.write_page.Goals as goal
 
