@@ -2,56 +2,10 @@
 //! `lexdfa --all TEXT`: cuts all of TEXT into such matches, and writes each.
 #![tactic(auto)]
 
-ghost use Rattle.std.specs.Prelude.{◌≡◌, ◌≢◌, Ok, Err, OnOk, OnErr};
-ghost use Rattle.std.specs.IoError.{error_kind};
-
-use lexdfa_lib::{Ending, Failure, Outcome, RunError, Watched, arguments, run, run_all};
-use std::alloc::Global;
-use std::env;
-use std::io::{self, ErrorKind, Read, Write};
+use lexdfa_lib::{Ending, Failure, Outcome, RunError, arguments, run_and_flush, without_arguments};
 use std::process::ExitCode;
 use std::rt::Env;
-
-// An argument that isn't UTF-8 is an error of `args`, and so is out of memory.
-fn without_arguments(error: &io::Error) -> Failure
-    ensures memory { error_kind error.now ≡ ErrorKind.OutOfMemory
-        → result ≡ Failure.Run RunError.OutOfMemory }
-    ensures usage { error_kind error.now ≢ ErrorKind.OutOfMemory → result ≡ Failure.Usage }
-{
-    match error.kind() {
-        ErrorKind::OutOfMemory => Failure::Run(RunError::OutOfMemory),
-        _ => Failure::Usage,
-    }
-}
-
-// The outcome, unless the flush of its lines has failed.
-fn flushed(outcome: Outcome, flush: &io::Result<()>) -> Result<Outcome, Failure>
-    ensures ok { OnOk flush.now (result ≡ Ok outcome) }
-    ensures write { OnErr flush.now (result ≡ Err (Failure.Run RunError.Write)) }
-{
-    match flush {
-        Ok(()) => Ok(outcome),
-        Err(_) => Err(Failure::Run(RunError::Write)),
-    }
-}
-
-// The outcome of a run with this reader and this writer, which is flushed after the last line.
-fn run_and_flush<R: Read + Drop, W: Write + Drop>(
-    alloc: Global,
-    all: bool,
-    reader: R,
-    text: &str,
-    writer: W,
-) -> Result<Outcome, Failure> {
-    let mut reader = Watched::new(reader);
-    let mut writer = Watched::new(writer);
-    let found = if all {
-        run_all(alloc, &mut reader, text, &mut writer)
-    } else {
-        run(alloc, &mut reader, text, &mut writer)
-    };
-    flushed(found.map_err(Failure::Run)?, &writer.into_inner().flush())
-}
+use std::{env, io};
 
 fn answer(rt: &(impl Env + Input + Print + AllocGlobal)) -> Result<Outcome, Failure> {
     let args = env::args(rt).map_err(|error| without_arguments(&error))?;
@@ -69,31 +23,4 @@ fn main(rt: HostRuntime) -> ExitCode {
         let _ = eprint!(rt; "{message}");
     }
     ExitCode::from(status)
-}
-
-#[cfg(test)]
-mod tests {
-    use super::*;
-
-    // Takes all bytes, and fails when they are flushed. Standard output has no buffer, so its flush never fails.
-    #[derive(Drop)]
-    struct FailsToFlush;
-
-    impl Write for FailsToFlush {
-        fn write(&mut self, buf: &[u8]) -> io::Result<usize> {
-            Ok(buf.len())
-        }
-
-        fn flush(&mut self) -> io::Result<()> {
-            Err(io::Error::from(ErrorKind::Other))
-        }
-    }
-
-    #[test]
-    fn a_failed_flush_is_a_failed_write(rt: HostRuntime) {
-        for all in [false, true] {
-            let found = run_and_flush(rt.alloc(), all, b"0 l a\n".as_slice(), "a", FailsToFlush);
-            assert!(rt; matches!(&found, Err(Failure::Run(RunError::Write))));
-        }
-    }
 }

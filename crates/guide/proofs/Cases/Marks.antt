@@ -1,6 +1,6 @@
 -- Cases of specs/Marks.antt.
 use Rattle.std.proofs.Common.{◌≡◌, true, refl, codes, ◌∷◌, ◌++◌}
-use Rattle.highlighter.specs.Marks.{left_from, without_marks}
+use Rattle.guide.specs.Marks.{left_from, without_marks}
 
 -- a mark in the middle is taken out, and one at the end that doesn't end
 mark_is_taken_out : without_marks (codes "a" ++ (27 ∷ codes "[1mb")) ≡ codes "ab"

@@ -9,8 +9,8 @@ use Rattle.lalrpop_lexer.specs.LexerTokens.{GivesToken}
 use Rattle.lalrpop_lexer.specs.declared.Token.{Token}
 use Rattle.lalrpop_lexer.specs.declared.TokenFault.{TokenFault}
 use Rattle.lalrpop_lexer.proofs.Cuttings.{rest_behind}
-use Rattle.highlighter.specs.Marks.{without_marks}
-use Rattle.highlighter.specs.Internal.Shows.{Shows, is_plain_byte}
+use Rattle.guide.specs.Marks.{without_marks}
+use Rattle.guide.specs.Internal.Shows.{Shows, is_plain_byte}
 
 -- bytes that begin no mark are left as they are
 plain-left : (xs rest : List ℕ) → AllPass is_plain_byte xs → without_marks (xs ++ rest) ≡ xs ++ without_marks rest

@@ -1,6 +1,6 @@
 use Rattle.std.proofs.Common.{string_bytes}
-use Rattle.highlighter.proofs.ShowLemmas.{ShowsFront}
-use Rattle.highlighter.proofs.highlighted.Given as goal
+use Rattle.guide.proofs.ShowLemmas.{ShowsFront}
+use Rattle.guide.proofs.highlighter.highlighted.Given as goal
 
 -- what is shown so far is the text in front of the rest
 abbrev pub invariant-loop-item : goal.invariant-loop-item

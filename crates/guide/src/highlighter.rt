@@ -1,10 +1,9 @@
 //! A highlighter: shows a text with keywords in bold and numbers in green, by the marks of a terminal.
-#![tactic(auto)]
 
 ghost use Rattle.std.specs.Prelude.{◌≡◌, ◌++◌, ℕ, List, [], string_bytes, IfOk, OnOk};
 ghost use Rattle.std.specs.List.{list_all};
-ghost use Rattle.highlighter.specs.Marks.{without_marks};
-ghost use Rattle.highlighter.specs.Internal.Shows.{Shows, is_plain_byte};
+ghost use Rattle.guide.specs.Marks.{without_marks};
+ghost use Rattle.guide.specs.Internal.Shows.{Shows, is_plain_byte};
 
 use lalrpop_lexer::Lexer;
 use lalrpop_lexer::lexer::dfa::Precedence;
@@ -81,7 +80,8 @@ pub fn highlighted(alloc: Global, lexer: &Lexer, text: &str) -> Result<String, S
     Ok(shown)
 }
 
-fn main(rt: HostRuntime) -> anyhow::Result<()> {
+/// Shows a text.
+pub fn run<R: Print + AllocGlobal>(rt: &R) -> anyhow::Result<()> {
     let alloc = rt.alloc();
     let regexs = vec![in alloc;
         parse_regex(alloc, "let|in")?,

@@ -1,6 +1,6 @@
 use Rattle.std.proofs.Common.{List, ◌++◌, ℕ, sym, ap, ◌∙◌}
-use Rattle.highlighter.proofs.ShowLemmas.{Shows-more}
-use Rattle.highlighter.proofs.push_marked.Goals as goal
+use Rattle.guide.proofs.ShowLemmas.{Shows-more}
+use Rattle.guide.proofs.highlighter.push_marked.Goals as goal
 
 pub returns : goal.returns
 returns c =

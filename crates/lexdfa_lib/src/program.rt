@@ -1,0 +1,70 @@
+//! What a program over a run does: it takes arguments, and flushes what it wrote.
+ghost use Rattle.std.specs.Prelude.{◌≡◌, ◌≢◌, ◌↔◌, ℕ, List, Option, false, true, IsOk, IfOk, IfErr};
+ghost use Rattle.std.specs.IoError.{error_kind};
+ghost use Rattle.lexdfa_lib.specs.Answer.{ReadsOutcome};
+ghost use Rattle.lexdfa_lib.specs.Whole.{ReadsAnswers};
+
+use crate::answer::run;
+use crate::ending::Failure;
+use crate::error::RunError;
+use crate::outcome::Outcome;
+use crate::watched::Watched;
+use crate::whole::run_all;
+use std::alloc::Global;
+use std::io::{self, ErrorKind, Read, Write};
+
+/// What an error of `std::env::args` is: out of memory, or an argument that isn't UTF-8.
+pub fn without_arguments(error: &io::Error) -> Failure
+    ensures memory { error_kind error.now ≡ ErrorKind.OutOfMemory
+        → result ≡ Failure.Run RunError.OutOfMemory }
+    ensures usage { error_kind error.now ≢ ErrorKind.OutOfMemory → result ≡ Failure.Usage }
+{
+    match error.kind() {
+        ErrorKind::OutOfMemory => Failure::Run(RunError::OutOfMemory),
+        _ => Failure::Usage,
+    }
+}
+
+/// What a program has found, unless the flush after its last line has failed.
+///
+/// # Errors
+///
+/// A failed flush is a failed write.
+pub fn flushed<T: Drop>(found: T, flush: &io::Result<()>) -> Result<T, Failure>
+    ensures ok { IsOk result ↔ IsOk flush.now }
+    ensures same { IfOk result (λ value. value ≡ found) }
+    ensures write { IfErr result (λ e. e ≡ Failure.Run RunError.Write) }
+{
+    match flush {
+        Ok(()) => Ok(found),
+        Err(_) => Err(Failure::Run(RunError::Write)),
+    }
+}
+
+/// `run_all` over this reader and this writer, or `run` if not all of the text is to be cut, and a flush after the last line.
+///
+/// # Errors
+///
+/// As `run`; a failed flush is a failed write.
+pub fn run_and_flush<R: Read + Drop, W: Write + Drop>(
+    alloc: Global,
+    all: bool,
+    reader: R,
+    text: &str,
+    writer: W,
+) -> Result<Outcome, Failure>
+    ensures one { IfOk result (λ outcome. all ≡ false → (left : Option (List ℕ))
+        × ReadsOutcome (R.remaining reader) left text.now outcome) }
+    ensures whole { IfOk result (λ outcome. all ≡ true → (left : Option (List ℕ)) × ((written : List ℕ)
+        × ReadsAnswers (R.remaining reader) left text.now outcome written)) }
+    ensures usage { IfErr result (λ e. e ≢ Failure.Usage) }
+{
+    let mut reader = Watched::new(reader);
+    let mut writer = Watched::new(writer);
+    let found = if all {
+        run_all(alloc, &mut reader, text, &mut writer)
+    } else {
+        run(alloc, &mut reader, text, &mut writer)
+    };
+    flushed(found.map_err(Failure::Run)?, &writer.into_inner().flush())
+}
