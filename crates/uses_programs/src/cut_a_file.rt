@@ -1,7 +1,7 @@
 //! The text of a file, and the lines of its tokens.
-ghost use Rattle.std.specs.Prelude.{◌≡◌, ◌≢◌, ℕ, [], Some, None, option_map, false, true, string_bytes, IfOk, IfSome, OnOk, OnErr, IfErr};
+ghost use Rattle.std.specs.Prelude.{◌≡◌, ◌≢◌, ℕ, List, [], length, Option, Some, None, false, true, IfOk, IfSome};
+ghost use Rattle.std.specs.Str.{IsValidUpTo};
 ghost use Rattle.lexdfa_lib.specs.Watch.{ReadsAll};
-ghost use Rattle.tokens_lib.specs.Text.{IsTextError};
 ghost use Rattle.tokens_lib.specs.TokenLines.{WritesTokens, WritesTokensPrefix, IsStopOf};
 ghost use Rattle.lalrpop_lexer.specs.Position.{position_of};
 
@@ -11,43 +11,83 @@ use std::alloc::Global;
 use std::io::{Read, Write};
 use tokens_lib::{TextError, read_text, write_tokens};
 
-// The text of a reader that hasn't failed, or why there is none.
-// Needs tokens_lib::read_text: text, some, error, good, read, others, no_late_read.
-pub fn text_of<R: Read>(alloc: Global, reader: &mut Watched<R>) -> Result<String, TextError>
+// How many bytes the text of a reader has.
+// Needs tokens_lib::read_text: text, some.
+pub fn text_length<R: Read>(alloc: Global, reader: &mut Watched<R>) -> Option<usize>
     requires reader_good { reader.old.failed ≡ false }
-    ensures text { IfOk result (λ text.
-        ReadsAll (R.remaining reader.old.inner) (R.remaining reader.new.inner) (string_bytes text)) }
-    ensures some { IfOk result (λ text. string_bytes text ≢ []) }
-    ensures error { IfErr result (λ e.
-        IsTextError (R.remaining reader.old.inner) (R.remaining reader.new.inner) e) }
-    ensures good { OnOk result (reader.new.failed ≡ false) }
-    ensures read { IfErr result (λ e. e ≡ TextError.Read → reader.new.failed ≡ true) }
-    ensures others { IfErr result (λ e. e ≢ TextError.Read → reader.new.failed ≡ false) }
-    ensures no_late_read { reader.new.late ≡ reader.old.late }
+    ensures length { IfSome result (λ n. (text : List ℕ)
+        × (ReadsAll (R.remaining reader.old.inner) (R.remaining reader.new.inner) text
+        × ((text ≢ []) × (n ≡ length text)))) }
 {
-    read_text(alloc, reader)
+    match read_text(alloc, reader) {
+        Ok(text) => Some(text.len()),
+        Err(_) => None,
+    }
 }
 
-// The lines of a text without places.
-// Needs tokens_lib::write_tokens: written, good, prefix, memory, write, read, no_late_write.
-pub fn plain_lines<W: Write>(
+// The first byte at which no character begins.
+// Needs tokens_lib::read_text: error.
+pub fn first_bad_byte<R: Read>(alloc: Global, reader: &mut Watched<R>) -> Option<usize>
+    requires reader_good { reader.old.failed ≡ false }
+    ensures bad { IfSome result (λ at. (bytes : List ℕ)
+        × (ReadsAll (R.remaining reader.old.inner) (R.remaining reader.new.inner) bytes
+        × IsValidUpTo bytes at)) }
+{
+    match read_text(alloc, reader) {
+        Err(TextError::NotText { at }) => Some(at),
+        _ => None,
+    }
+}
+
+// Whether the reader has failed.
+// Needs tokens_lib::read_text: good, read, others, no_late_read.
+pub fn fails_to_read<R: Read>(alloc: Global, reader: &mut Watched<R>) -> bool
+    requires reader_good { reader.old.failed ≡ false }
+    ensures failed { reader.new.failed ≡ result }
+    ensures no_late_read { reader.new.late ≡ reader.old.late }
+{
+    matches!(read_text(alloc, reader), Err(TextError::Read))
+}
+
+// The lines of two texts, one after the other.
+// Needs tokens_lib::write_tokens: written, good, no_late_write.
+pub fn both_texts<W: Write>(
+    alloc: Global,
+    lexer: &Lexer,
+    first: &str,
+    second: &str,
+    writer: &mut Watched<W>,
+) -> Result<(Outcome, Outcome), RunError>
+    requires writer_good { writer.old.failed ≡ false }
+    ensures written { IfOk result (λ both. (between : Option (List ℕ))
+        × (WritesTokens lexer.now.trees lexer.now.precedences None first.now
+        (W.contents writer.old.inner) between both.0
+        × WritesTokens lexer.now.trees lexer.now.precedences None second.now
+        between (W.contents writer.new.inner) both.1)) }
+    ensures no_late_write { writer.new.late ≡ writer.old.late }
+{
+    let one = write_tokens(alloc, lexer, None, first, writer)?;
+    let two = write_tokens(alloc, lexer, None, second, writer)?;
+    Ok((one, two))
+}
+
+// Whether the writer has failed: then it has a prefix of the lines.
+// Needs tokens_lib::write_tokens: good, prefix, memory, write, read.
+pub fn fails_to_write<W: Write>(
     alloc: Global,
     lexer: &Lexer,
     text: &str,
     writer: &mut Watched<W>,
-) -> Result<Outcome, RunError>
+) -> bool
     requires writer_good { writer.old.failed ≡ false }
-    ensures written { IfOk result (λ outcome. WritesTokens lexer.now.trees lexer.now.precedences
-        None text.now (W.contents writer.old.inner) (W.contents writer.new.inner) outcome) }
-    ensures good { OnOk result (writer.new.failed ≡ false) }
-    ensures prefix { OnErr result (WritesTokensPrefix lexer.now.trees lexer.now.precedences
-        None text.now (W.contents writer.old.inner) (W.contents writer.new.inner)) }
-    ensures memory { IfErr result (λ e. e ≡ RunError.OutOfMemory → writer.new.failed ≡ false) }
-    ensures write { IfErr result (λ e. e ≡ RunError.Write → writer.new.failed ≡ true) }
-    ensures read { IfErr result (λ e. e ≢ RunError.Read) }
-    ensures no_late_write { writer.new.late ≡ writer.old.late }
+    ensures failed { writer.new.failed ≡ result }
+    ensures prefix { result ≡ true → WritesTokensPrefix lexer.now.trees lexer.now.precedences
+        None text.now (W.contents writer.old.inner) (W.contents writer.new.inner) }
 {
-    write_tokens(alloc, lexer, None, text, writer)
+    matches!(
+        write_tokens(alloc, lexer, None, text, writer),
+        Err(RunError::Write)
+    )
 }
 
 // The lines of a text with places.

@@ -1,6 +1,7 @@
 //! The lines of the pieces of a text, and of clashes, by named rules.
-ghost use Rattle.std.specs.Prelude.{◌≡◌, ◌≢◌, flat_map, true, false, IfOk, OnOk, OnErr, IfErr};
+ghost use Rattle.std.specs.Prelude.{◌≡◌, ℕ, List, [], Option, flat_map, true, false, IfOk, IfErr};
 ghost use Rattle.std.specs.Io.KnownBytes.{Appends};
+ghost use Rattle.lalrpop_lexer.specs.Clashes.{Entry};
 ghost use Rattle.lalrpop_rules.specs.RuleSet.{names_of};
 ghost use Rattle.lexdfa_lib.specs.Watch.{AppendsPrefix};
 ghost use Rattle.tokens_lib.specs.ItemLines.{WritesItems, WritesItemsPrefix};
@@ -14,27 +15,45 @@ use std::alloc::Global;
 use std::io::Write;
 use tokens_lib::{Layout, LineForm, rule_clashes, write_items, write_rule_clashes};
 
-// The lines of a text, whatever they look like.
-// Needs tokens_lib::write_items: written, good, prefix, memory, write, read, no_late_write.
-pub fn lines_of<W: Write>(
+// The lines of two texts, one after the other, and the first fault of each.
+// Needs tokens_lib::write_items: written, good, no_late_write.
+pub fn both_texts<W: Write>(
+    alloc: Global,
+    lexer: &RuleLexer,
+    layout: &Layout<'_>,
+    first: &str,
+    second: &str,
+    writer: &mut Watched<W>,
+) -> Result<(Option<usize>, Option<usize>), RunError>
+    requires writer_good { writer.old.failed ≡ false }
+    ensures written { IfOk result (λ both. (between : Option (List ℕ))
+        × (WritesItems lexer.now layout.now first.now (W.contents writer.old.inner) between both.0
+        × WritesItems lexer.now layout.now second.now between (W.contents writer.new.inner) both.1)) }
+    ensures no_late_write { writer.new.late ≡ writer.old.late }
+{
+    let one = write_items(alloc, lexer, layout, first, writer)?;
+    let two = write_items(alloc, lexer, layout, second, writer)?;
+    Ok((one, two))
+}
+
+// Whether the writer has failed: then it has a prefix of the lines.
+// Needs tokens_lib::write_items: good, prefix, memory, write, read.
+pub fn fails_to_write<W: Write>(
     alloc: Global,
     lexer: &RuleLexer,
     layout: &Layout<'_>,
     text: &str,
     writer: &mut Watched<W>,
-) -> Result<Option<usize>, RunError>
+) -> bool
     requires writer_good { writer.old.failed ≡ false }
-    ensures written { IfOk result (λ fault. WritesItems lexer.now layout.now text.now
-        (W.contents writer.old.inner) (W.contents writer.new.inner) fault) }
-    ensures good { OnOk result (writer.new.failed ≡ false) }
-    ensures prefix { OnErr result (WritesItemsPrefix lexer.now layout.now text.now
-        (W.contents writer.old.inner) (W.contents writer.new.inner)) }
-    ensures memory { IfErr result (λ e. e ≡ RunError.OutOfMemory → writer.new.failed ≡ false) }
-    ensures write { IfErr result (λ e. e ≡ RunError.Write → writer.new.failed ≡ true) }
-    ensures read { IfErr result (λ e. e ≢ RunError.Read) }
-    ensures no_late_write { writer.new.late ≡ writer.old.late }
+    ensures failed { writer.new.failed ≡ result }
+    ensures prefix { result ≡ true → WritesItemsPrefix lexer.now layout.now text.now
+        (W.contents writer.old.inner) (W.contents writer.new.inner) }
 {
-    write_items(alloc, lexer, layout, text, writer)
+    matches!(
+        write_items(alloc, lexer, layout, text, writer),
+        Err(RunError::Write)
+    )
 }
 
 // The place of the first fault, as line and column.
@@ -46,7 +65,6 @@ pub fn place_of_first_fault<W: Write>(
     writer: &mut Watched<W>,
 ) -> Result<Option<Position>, RunError>
     requires writer_good { writer.old.failed ≡ false }
-    ensures good { OnOk result (writer.new.failed ≡ false) }
 {
     let layout = Layout {
         form: LineForm::Json,
@@ -59,34 +77,49 @@ pub fn place_of_first_fault<W: Write>(
     }
 }
 
-// All clashes of some rules, or why they have no trees.
+// Whether no rules clash, or why they have no trees.
 // Needs tokens_lib::rule_clashes: clashes, error.
-pub fn clashes_of(alloc: Global, rules: &[Rule<'_>]) -> Result<Vec<Clash>, RulesError>
-    ensures clashes { IfOk result (λ found. AreRuleClashes rules.now found.items) }
-    ensures error { IfErr result (λ e. IsRuleFault rules.now e) }
+pub fn have_no_clash(alloc: Global, rules: &[Rule<'_>]) -> Result<bool, RulesError>
+    ensures none { IfOk result (λ none. none ≡ true → AreRuleClashes rules.now []) }
+    ensures error { IfErr result (IsRuleFault rules.now) }
 {
-    rule_clashes(alloc, rules)
+    let found = rule_clashes(alloc, rules)?;
+    Ok(found.is_empty())
 }
 
-// A line for each of them.
-// Needs tokens_lib::write_rule_clashes: written, good, nothing_written, write, prefix, read, no_late_write.
-pub fn write_them<W: Write>(
+// Lists all clashes of the rules, and returns whether they are listed.
+// Needs tokens_lib::rule_clashes: clashes.
+// Needs tokens_lib::write_rule_clashes: written, good, no_late_write.
+pub fn are_listed<W: Write>(alloc: Global, rules: &[Rule<'_>], writer: &mut Watched<W>) -> bool
+    requires writer_good { writer.old.failed ≡ false }
+    ensures listed { result ≡ true → (found : List Entry)
+        × (AreRuleClashes rules.now found
+        × Appends (W.contents writer.old.inner) (W.contents writer.new.inner)
+        (flat_map (named_line (names_of rules.now)) found)) }
+    ensures good { result ≡ true → writer.new.failed ≡ false }
+    ensures no_late_write { writer.new.late ≡ writer.old.late }
+{
+    match rule_clashes(alloc, rules) {
+        Ok(found) => write_rule_clashes(alloc, rules, &found, writer).is_ok(),
+        Err(_) => false,
+    }
+}
+
+// Whether the writer has failed: then it has a prefix of the lines. Otherwise nothing is written or everything is.
+// Needs tokens_lib::write_rule_clashes: good, nothing_written, write, prefix, read.
+pub fn fails_to_list<W: Write>(
     alloc: Global,
     rules: &[Rule<'_>],
     found: &[Clash],
     writer: &mut Watched<W>,
-) -> Result<(), RunError>
+) -> bool
     requires writer_good { writer.old.failed ≡ false }
-    ensures written { OnOk result (Appends (W.contents writer.old.inner) (W.contents writer.new.inner)
-        (flat_map (named_line (names_of rules.now)) found.now)) }
-    ensures good { OnOk result (writer.new.failed ≡ false) }
-    ensures nothing_written { IfErr result (λ e. e ≢ RunError.Write → writer.new ≡ writer.old) }
-    ensures write { IfErr result (λ e. e ≡ RunError.Write → writer.new.failed ≡ true) }
-    ensures prefix { IfErr result (λ e. e ≡ RunError.Write →
-        AppendsPrefix (W.contents writer.old.inner) (W.contents writer.new.inner)
-        (flat_map (named_line (names_of rules.now)) found.now)) }
-    ensures read { IfErr result (λ e. e ≢ RunError.Read) }
-    ensures no_late_write { writer.new.late ≡ writer.old.late }
+    ensures failed { writer.new.failed ≡ result }
+    ensures prefix { result ≡ true → AppendsPrefix (W.contents writer.old.inner)
+        (W.contents writer.new.inner) (flat_map (named_line (names_of rules.now)) found.now) }
 {
-    write_rule_clashes(alloc, rules, found, writer)
+    matches!(
+        write_rule_clashes(alloc, rules, found, writer),
+        Err(RunError::Write)
+    )
 }

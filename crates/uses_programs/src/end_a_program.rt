@@ -70,6 +70,7 @@ pub fn first_two_clash(alloc: Global, word: &Word) -> Result<String, AllocError>
 }
 
 // Needs lexdfa_lib::without_arguments: memory, usage.
+// Needs lexdfa_lib::status_of: status.
 /// The status of a program whose arguments can't be read.
 pub fn status_without_arguments(error: &io::Error) -> u8
     ensures memory { error_kind error.now ≡ ErrorKind.OutOfMemory → result ≡ 5 }

@@ -1,27 +1,28 @@
 //! A lexer from a file of rules, and the program's arguments.
-ghost use Rattle.std.specs.Prelude.{◌≡◌, ◌≤◌, map, string_bytes, IfOk, IfErr, IfSome, IfNone};
+ghost use Rattle.std.specs.Prelude.{◌≡◌, ◌≤◌, ℕ, List, length, map, string_bytes, IfOk, IfErr, IfSome, IfNone};
 ghost use Rattle.std.specs.Process.{exit_status};
+ghost use Rattle.lalrpop_lexer.specs.Tree.{Tree};
 ghost use Rattle.lexdfa_lib.specs.Answer.{HaveAutomaton, IsReported};
-ghost use Rattle.tokens_lib.specs.Building.{IsBuildError};
 ghost use Rattle.tokens_lib.specs.Command.{IsCommand};
 ghost use Rattle.tokens_lib.specs.declared.building.BuildError.TheVariants.{OutOfMemory};
 ghost use Rattle.tokens_lib.specs.declared.command.Command.{Command as Found};
 
-use lalrpop_lexer::Lexer;
 use lexdfa_lib::Outcome;
 use std::alloc::{AllocError, Global};
 use std::process::ExitCode;
 use std::rt::{Env, Files};
 use tokens_lib::{BuildError, Command, command_of, lexer_of, run_program};
 
-// A lexer, and what is wrong with the rules: the error is passed on as it is.
-// Needs tokens_lib::lexer_of: automaton, error.
-pub fn lexer_of_rules(alloc: Global, rules: &[u8]) -> Result<Lexer, BuildError>
-    ensures automaton { IfOk result (λ lexer.
-        HaveAutomaton rules.now lexer.trees lexer.precedences) }
-    ensures error { IfErr result (λ e. IsBuildError rules.now e) }
+// How many terminals a file has.
+// Needs tokens_lib::lexer_of: automaton.
+pub fn terminal_count(alloc: Global, rules: &[u8]) -> Option<usize>
+    ensures count { IfSome result (λ n. (ts : List Tree) × ((ps : List ℕ)
+        × (HaveAutomaton rules.now ts ps × (n ≡ length ts)))) }
 {
-    lexer_of(alloc, rules)
+    match lexer_of(alloc, rules) {
+        Ok(lexer) => Some(lexer.regexs().len()),
+        Err(_) => None,
+    }
 }
 
 // What rules report if they make no lexer.
