@@ -22,7 +22,7 @@ pub use ends::{read_whole, write_whole};
 pub use error::RunError;
 pub use lalrpop_lexer::{TokenFault, Tokens, tokens};
 pub use outcome::{Outcome, clash_line, outcome_line};
-pub use program::{flushed, run_and_flush, without_arguments};
+pub use program::{flushed, run_and_flush, run_program, without_arguments};
 pub use report::reported;
 pub use watched::Watched;
 pub use whole::run_all;

@@ -1,17 +1,22 @@
-//! What a program over a run does: it takes arguments, and flushes what it wrote.
-ghost use Rattle.std.specs.Prelude.{◌≡◌, ◌≢◌, ◌↔◌, ℕ, List, Option, false, true, IsOk, IfOk, IfErr};
+//! The program `lexdfa`: its arguments, a flush after the last line, what it says if it fails, and its exit status.
+ghost use Rattle.std.specs.Prelude.{◌≡◌, ◌≢◌, ◌↔◌, ◌≤◌, ℕ, List, Option, false, true, IsOk, IfOk, IfErr};
 ghost use Rattle.std.specs.IoError.{error_kind};
+ghost use Rattle.std.specs.Process.{exit_status};
 ghost use Rattle.lexdfa_lib.specs.Answer.{ReadsOutcome};
 ghost use Rattle.lexdfa_lib.specs.Whole.{ReadsAnswers};
 
 use crate::answer::run;
-use crate::ending::Failure;
+use crate::ending::{Ending, Failure};
 use crate::error::RunError;
 use crate::outcome::Outcome;
 use crate::watched::Watched;
 use crate::whole::run_all;
+use crate::words::arguments;
 use std::alloc::Global;
-use std::io::{self, ErrorKind, Read, Write};
+use std::env;
+use std::io::{self, Eprint, ErrorKind, Read, Write};
+use std::process::ExitCode;
+use std::rt::Env;
 
 /// What an error of `std::env::args` is: out of memory, or an argument that isn't UTF-8.
 pub fn without_arguments(error: &io::Error) -> Failure
@@ -67,4 +72,26 @@ pub fn run_and_flush<R: Read + Drop, W: Write + Drop>(
         run(alloc, &mut reader, text, &mut writer)
     };
     flushed(found.map_err(Failure::Run)?, &writer.into_inner().flush())
+}
+
+fn answer(rt: &(impl Env + Input + Print + AllocGlobal)) -> Result<Outcome, Failure> {
+    let args = env::args(rt).map_err(|error| without_arguments(&error))?;
+    let Ok(words) = args.skip(1).collect::<Vec<String>>(rt.alloc()) else {
+        return Err(Failure::Run(RunError::OutOfMemory));
+    };
+    let (all, text) = arguments(&words).ok_or(Failure::Usage)?;
+    run_and_flush(rt.alloc(), all, rt.reader(), text, io::writer(rt))
+}
+
+/// Does what the arguments say (`arguments`): reads terminals from standard input, and writes the lines of `run` or of `run_all` to
+/// standard output. Errors are explained on standard error, and the exit status is that of `status_of`.
+pub fn run_program<R: Env + Input + Print + Eprint + AllocGlobal>(rt: &R) -> ExitCode
+    ensures status { exit_status result ≤ 6 }
+{
+    let Ending { status, message } = Ending::of(&answer(rt));
+    if let Some(message) = message {
+        // If writing to standard error fails, the exit status still reports the error.
+        let _ = eprint!(rt; "{message}");
+    }
+    ExitCode::from(status)
 }

@@ -2,6 +2,7 @@
 ghost use Rattle.std.specs.Prelude.{◌≡◌, ◌≢◌, ◌≤◌, ◌++◌, ℕ, List, Option, length, IfOk, IfErr, OnOk, OnErr, string_bytes};
 ghost use Rattle.std.specs.IoError.{error_kind};
 ghost use Rattle.std.specs.Option.{option_map_or};
+ghost use Rattle.std.specs.Process.{exit_status};
 ghost use Rattle.lexdfa_lib.specs.Answer.{ReadsOutcome};
 ghost use Rattle.lexdfa_lib.specs.Ending.{ending_status, ending_message};
 ghost use Rattle.lexdfa_lib.specs.Printed.{line_of};
@@ -10,10 +11,12 @@ ghost use Rattle.lexdfa_lib.specs.Whole.{ReadsAnswers};
 
 use lexdfa_lib::{
     Ending, Failure, Outcome, RunError, Word, clash_line, flushed, outcome_line, run_and_flush,
-    without_arguments,
+    run_program, without_arguments,
 };
 use std::alloc::{AllocError, Global};
-use std::io::{self, ErrorKind, Read, Write};
+use std::io::{self, Eprint, ErrorKind, Read, Write};
+use std::process::ExitCode;
+use std::rt::Env;
 
 // Needs lexdfa_lib::Outcome::status: status.
 // Needs lexdfa_lib::RunError::status: status.
@@ -132,4 +135,12 @@ pub fn whole_of<R: Read + Drop, W: Write + Drop>(
         Ok(outcome) => Ok(outcome),
         Err(failure) => Err(lexdfa_lib::status_of(&Err(failure))),
     }
+}
+
+// Needs lexdfa_lib::run_program: status.
+/// The program itself, called from another `main`.
+pub fn as_the_program<R: Env + Input + Print + Eprint + AllocGlobal>(rt: &R) -> ExitCode
+    ensures { exit_status result ≤ 6 }
+{
+    run_program(rt)
 }
