@@ -1,5 +1,6 @@
 //! The tokens of a small language, read from standard input: rules with names, white space and comments skipped, mistakes
 //! shown and passed over.
+#![tactic(auto)]
 
 use anyhow::Result;
 use lalrpop_lexer::Position;
@@ -44,9 +45,9 @@ fn show<'x>(rt: &impl Print, lexer: &'x RuleLexer, text: &'x str) -> Result<()> 
 }
 
 /// Cuts standard input and writes its tokens.
-pub fn run<R: Input + Print + AllocGlobal>(rt: &R) -> Result<()> {
+pub fn main(rt: HostRuntime) -> Result<()> {
     let alloc = rt.alloc();
     let lexer = lexer(alloc)?;
     let text = io::read_to_string(alloc, rt.reader())?;
-    show(rt, &lexer, &text)
+    show(&rt, &lexer, &text)
 }

@@ -1,11 +1,11 @@
 //! Cuts a text by the rules of a file, both named on the command line, and shows each token with a kind of this program's own.
+#![tactic(auto)]
 
 use anyhow::{Context, Result, bail};
 use lalrpop_lexer::Position;
 use lalrpop_rule_file::read_rules;
 use lalrpop_rules::{Item, RuleLexer};
 use std::io::Print;
-use std::rt::{Env, Files};
 use std::{env, fs};
 
 #[derive(Clone, Copy, Debug)]
@@ -52,17 +52,17 @@ fn show<'x>(rt: &impl Print, lexer: &'x RuleLexer, text: &'x str) -> Result<()> 
 }
 
 /// Reads both files and writes the tokens of the second.
-pub fn run<R: Env + Files + Print + AllocGlobal>(rt: &R) -> Result<()> {
+pub fn main(rt: HostRuntime) -> Result<()> {
     let alloc = rt.alloc();
-    let mut words = env::args(rt)?;
+    let mut words = env::args(&rt)?;
     // The first word is the name of the program.
     words.next();
     let (Some(rules_name), Some(text_name)) = (words.next(), words.next()) else {
         bail!("usage: config_reader RULES TEXT");
     };
-    let bytes = fs::read_to_string(rt, &rules_name).context(format_args!("{rules_name:?}"))?;
+    let bytes = fs::read_to_string(&rt, &rules_name).context(format_args!("{rules_name:?}"))?;
     let rules = read_rules(alloc, bytes.as_bytes()).context(format_args!("{rules_name:?}"))?;
     let lexer = RuleLexer::from_rules(alloc, &rules).context(format_args!("{rules_name:?}"))?;
-    let text = fs::read_to_string(rt, &text_name).context(format_args!("{text_name:?}"))?;
-    show(rt, &lexer, &text)
+    let text = fs::read_to_string(&rt, &text_name).context(format_args!("{text_name:?}"))?;
+    show(&rt, &lexer, &text)
 }

@@ -1,4 +1,5 @@
 //! A highlighter: shows a text with keywords in bold and numbers in green, by the marks of a terminal.
+#![tactic(auto)]
 
 ghost use Rattle.std.specs.Prelude.{◌≡◌, ◌++◌, ℕ, List, [], string_bytes, IfOk, OnOk};
 ghost use Rattle.std.specs.List.{list_all};
@@ -81,7 +82,7 @@ pub fn highlighted(alloc: Global, lexer: &Lexer, text: &str) -> Result<String, S
 }
 
 /// Shows a text.
-pub fn run<R: Print + AllocGlobal>(rt: &R) -> anyhow::Result<()> {
+pub fn main(rt: HostRuntime) -> anyhow::Result<()> {
     let alloc = rt.alloc();
     let regexs = vec![in alloc;
         parse_regex(alloc, "let|in")?,

@@ -7,8 +7,8 @@ mod highlighter;
 mod token_kinds;
 
 fn main(rt: HostRuntime) -> anyhow::Result<()> {
-    token_kinds::run(&rt)?;
-    calculator::run(&rt)?;
-    config_reader::run(&rt)?;
-    highlighter::run(&rt)
+    token_kinds::main(rt)?;
+    calculator::main(rt)?;
+    config_reader::main(rt)?;
+    highlighter::main(rt)
 }

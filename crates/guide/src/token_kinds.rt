@@ -1,4 +1,5 @@
 //! A lexer with kinds of tokens of its own, and the line and column of each token.
+#![tactic(auto)]
 
 use anyhow::Result;
 use lalrpop_lexer::lexer::dfa::Precedence;
@@ -41,7 +42,7 @@ fn show(rt: &impl Print, lexer: &Lexer, text: &str) -> Result<()> {
 }
 
 /// Cuts a text and writes its tokens.
-pub fn run<R: Print + AllocGlobal>(rt: &R) -> Result<()> {
+pub fn main(rt: HostRuntime) -> Result<()> {
     let alloc = rt.alloc();
     let regexs = vec![in alloc;
         parse_regex(alloc, "let|in")?,
@@ -52,5 +53,5 @@ pub fn run<R: Print + AllocGlobal>(rt: &R) -> Result<()> {
     // A keyword is a name too, and the stronger of the two.
     let precedences = vec![in alloc; Precedence(1), Precedence(0), Precedence(0), Precedence(0)]?;
     let lexer = Lexer::new(alloc, regexs, precedences)?;
-    show(rt, &lexer, "let é 7\nin été")
+    show(&rt, &lexer, "let é 7\nin été")
 }
