@@ -8,8 +8,7 @@ use lalrpop_lexer::lexer::dfa::{
 use lalrpop_lexer::lexer::nfa::Steps;
 use lalrpop_lexer::lexer::re::Regex;
 use lalrpop_lexer::{Lexer, Terminals, read_terminals, tokens};
-use lalrpop_rule_file::read_rules;
-use lalrpop_rules::{Item, RuleLexer};
+use lalrpop_rules::{Item, RuleLexer, read_rules};
 use std::alloc::{AllocError, Global};
 use std::time::{CpuClock, Duration};
 use std::{env, fs};

@@ -2,8 +2,7 @@
 
 use crate::built::{expect, halves};
 use crate::rules::lexer_from;
-use lalrpop_rule_file::{RuleFileError, read_rules};
-use lalrpop_rules::{Rule, RuleLexer};
+use lalrpop_rules::{Rule, RuleFileError, RuleLexer, read_rules};
 use std::alloc::{AllocError, Global};
 
 const FILE: &[u8] = b"# Names, and what is between them\r
