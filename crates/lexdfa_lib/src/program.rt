@@ -3,7 +3,7 @@ ghost use Rattle.std.specs.Prelude.{◌≡◌, ◌≢◌, ◌↔◌, ◌≤◌, 
 ghost use Rattle.std.specs.IoError.{error_kind};
 ghost use Rattle.std.specs.Process.{exit_status};
 ghost use Rattle.lexdfa_lib.specs.Answer.{ReadsOutcome};
-ghost use Rattle.lexdfa_lib.specs.Whole.{ReadsAnswers};
+ghost use Rattle.lexdfa_lib.specs.Whole.{WritesAnswers};
 
 use crate::answer::run;
 use crate::ending::{Ending, Failure};
@@ -46,6 +46,30 @@ pub fn flushed<T: Drop>(found: T, flush: &io::Result<()>) -> Result<T, Failure>
     }
 }
 
+// `run_all`, or `run` if not all of the text is to be cut.
+fn run_over<R: Read, W: Write>(
+    alloc: Global,
+    all: bool,
+    reader: &mut Watched<R>,
+    text: &str,
+    writer: &mut Watched<W>,
+) -> Result<Outcome, RunError>
+    requires reader_good { reader.old.failed ≡ false }
+    requires writer_good { writer.old.failed ≡ false }
+    ensures one { IfOk result (λ outcome. all ≡ false
+        → ReadsOutcome (R.remaining reader.old.inner) (R.remaining reader.new.inner)
+        text.now outcome) }
+    ensures whole { IfOk result (λ outcome. all ≡ true
+        → WritesAnswers (R.remaining reader.old.inner) (R.remaining reader.new.inner) text.now
+        (W.contents writer.old.inner) (W.contents writer.new.inner) outcome) }
+{
+    if all {
+        run_all(alloc, reader, text, writer)
+    } else {
+        run(alloc, reader, text, writer)
+    }
+}
+
 /// `run_all` over this reader and this writer, or `run` if not all of the text is to be cut, and a flush after the last line.
 ///
 /// # Errors
@@ -60,18 +84,16 @@ pub fn run_and_flush<R: Read + Drop, W: Write + Drop>(
 ) -> Result<Outcome, Failure>
     ensures one { IfOk result (λ outcome. all ≡ false → (left : Option (List ℕ))
         × ReadsOutcome (R.remaining reader) left text.now outcome) }
-    ensures whole { IfOk result (λ outcome. all ≡ true → (left : Option (List ℕ)) × ((written : List ℕ)
-        × ReadsAnswers (R.remaining reader) left text.now outcome written)) }
+    ensures whole { IfOk result (λ outcome. all ≡ true → (left held : Option (List ℕ))
+        × WritesAnswers (R.remaining reader) left text.now (W.contents writer) held outcome) }
     ensures usage { IfErr result (λ e. e ≢ Failure.Usage) }
 {
     let mut reader = Watched::new(reader);
     let mut writer = Watched::new(writer);
-    let found = if all {
-        run_all(alloc, &mut reader, text, &mut writer)
-    } else {
-        run(alloc, &mut reader, text, &mut writer)
-    };
-    flushed(found.map_err(Failure::Run)?, &writer.into_inner().flush())
+    match run_over(alloc, all, &mut reader, text, &mut writer) {
+        Ok(outcome) => flushed(outcome, &writer.into_inner().flush()),
+        Err(error) => Err(Failure::Run(error)),
+    }
 }
 
 fn answer(rt: &(impl Env + Input + Print + AllocGlobal)) -> Result<Outcome, Failure> {
