@@ -5,13 +5,21 @@ ghost use Rattle.std.specs.Prelude.{◌≡◌};
 use lalrpop_book::{NfaIndex, TokenFault};
 use lalrpop_dense::Matcher;
 use lalrpop_dfa::Dfa;
-use lalrpop_ranges::Steps;
+use lalrpop_nfa::Steps;
 use std::iter::FusedIterator;
 use std::marker::Model;
 
 /// Cuts a text into tokens, from its beginning to its end or to the first place where no pattern matches.
 ///
 /// It takes no memory: the tokens are slices of the text.
+///
+/// ```
+/// use lalrpop_lexer::tokens;
+///
+/// for item in tokens(&dfa, "let x") {
+///     let (index, slice) = item?;
+/// }
+/// ```
 #[derive(Debug, Drop)]
 pub struct Tokens<'text, M: Matcher = Dfa> {
     matcher: &'text M,
@@ -40,7 +48,7 @@ impl<'text, M: Matcher> Model for Tokens<'text, M> {
 
 impl<'text, M: Matcher> Tokens<'text, M> {
     ghost use Rattle.std.specs.Prelude.{false, ℕ, ◌+◌, ◌*◌, ◌≤◌, ◌<◌, IfNone, OnSome};
-    ghost use Rattle.lalrpop_table.specs.Lookahead.{LooksAtMost};
+    ghost use Rattle.lalrpop_dfa.specs.Lookahead.{LooksAtMost};
     ghost use Rattle.lalrpop_lexer.specs.Cutting.{start_of, rest_of, GivesItem, left_of};
 
     // The whole text, before the first token.
