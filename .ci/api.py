@@ -1,57 +1,45 @@
-#!/usr/bin/env -S python3 -B
-"""Writes docs/API.md: every public call of the libraries, with its signature and its clauses, as the sources have them.
-
-    .ci/api.py > docs/API.md
-
-`.ci/pages` fails where the page is another."""
+"""What a user's program can call, library by library, and docs/API.md, which prints it."""
 import re
-import sys
-from pathlib import Path
 
-from rattle_source import blocks, handed_out
+from rattle_source import LIBRARIES, TOP, items, of_users
 
-TOP = Path(__file__).resolve().parent.parent
-LIBRARIES = re.findall(r"^(lalrpop_\w+|\w+_lib):", (TOP / "crates.txt").read_text(), re.M)
+HEAD = """\
+# Every call
 
-
-def told(source, function):
-    """The first paragraph of a function's comment."""
-    head = re.escape(function.text.split("\n")[0].strip())
-    found = re.search(rf"((?: *///[^\n]*\n)+)(?: *#\[[^\n]*\n)* *{head}", source)
-    lines = [it.strip()[3:].strip() for it in found[1].splitlines()] if found else []
-    return " ".join(lines[: lines.index("")] if "" in lines else lines)
+What a program can call, library by library: comments, signatures and clauses, as the sources have them. `.ci/pages --write` writes this
+page. What a definition in a clause means: [BOOK.md](BOOK.md). How a call is used: the crates `crates/uses_*`."""
+# What an impl says to the prover, or of the representation: laws with their proofs, invariants, views and codes.
+UNSEEN = set("Value view invariant coded inverse laws total matches_eq matches_partial_cmp size size_decreases list_written"
+             " list_unwritten other_lists_kept run_in run_out".split())
+TYPES = ("struct", "enum", "trait")
 
 
-def calls(crate):
-    """The public calls of a crate, each as its heading, its comment and its text."""
-    names = set(handed_out(crate / "src/lib.rt"))
-    for path in sorted(crate.glob("src/**/*.rt")):
-        for block in (it for it in blocks(path) if it.name in names and not it.trait):
-            for function in block.functions:
-                if function.is_public or block.kind == "trait":
-                    heading = ("" if block.kind == "fn" else f"{block.name}::") + function.name
-                    yield heading, told(path.read_text(), function), unindented(function.text)
+def theirs():
+    """The libraries with items that users see, each with those: what is declared, and behind it its impls."""
+    for crate in LIBRARIES:
+        found = [it for path in sorted(TOP.glob(f"crates/{crate}/src/**/*.rt")) for it in items(path) if (crate, it.name) in of_users()]
+        declared = [it.name for it in found if it.kind != "impl"]
+        if found:
+            yield crate, sorted(found, key=lambda it: (declared.index(it.name), it.kind == "impl"))
 
 
-def unindented(text):
-    """The lines of a method, as those of a function; blank lines and comments are gone."""
-    lines = [it for it in text.split("\n") if it.strip()]
-    depth = len(lines[0]) - len(lines[0].lstrip())
-    return "\n".join(it[depth:].rstrip() for it in lines)
-
-
-def parts():
-    yield "# Every public call"
-    yield "Each library with its public calls: signatures and clauses as the sources have them, in the order of the files; what impls of\ntraits say stands in the sources alone. `.ci/api.py` writes this page. What a definition in a clause means: [BOOK.md](BOOK.md). How a call is used: the crates `crates/uses_*`."
-    for name in LIBRARIES:
-        yield f"## {name}"
-        for heading, comment, text in calls(TOP / "crates" / name):
-            yield f"### {heading}\n\n{comment}\n\n```rust\n{text}\n```"
+def seen(item):
+    """What users see of an item of theirs: titles, each with a comment and with code, which is a promise to them."""
+    if item.is_public and item.kind in TYPES:
+        is_open = item.kind == "enum" or item.kind == "struct" and "\n    pub " in item.text
+        yield item.name, item.about, item.text if is_open else ""
+    if item.trait not in ("", "Model"):
+        said = [f"{text};" for name, text in item.ghosts.items() if name not in UNSEEN] + [it.text for it in item.functions if "ensures" in it.text]
+        yield from [(f"{item.trait} for {item.name}", item.about, "\n".join([re.split(r" \{|\n", item.text)[0], *said]))] if said else []
+    for it in (it for it in item.functions if not item.trait and (it.is_public or item.kind == "trait")):
+        yield it.name if item.kind == "fn" else f"{item.name}::{it.name}", it.about, it.text
 
 
 def page():
-    return re.sub("\n{3,}", "\n\n", "\n\n".join(parts())) + "\n"
-
-
-if __name__ == "__main__":
-    sys.stdout.write(page())
+    parts = [HEAD]
+    for crate, found in theirs():
+        parts.append(f"## {crate}")
+        for title, about, code in (it for item in found for it in seen(item)):
+            comment = re.sub(r"^# (\w+)\n\n", r"\1: ", "\n".join(about), flags=re.M)
+            parts += [f"### {title}"] + [comment] * bool(comment) + [f"```rust\n{code}\n```"] * bool(code)
+    return "\n\n".join(parts) + "\n"

@@ -1,87 +1,90 @@
-"""Reads sources of Rattle, as rt fmt lays them out: an item begins its line, and clauses stand between a function's head and its
-body."""
+"""Reads sources of Rattle, as rt fmt lays them out: an item begins its line. Comments, strings and characters count as no code."""
+import functools
 import re
 from collections import namedtuple
+from pathlib import Path
 
-# `kind` is requires, ensures or ghost; `name` is empty where the clause has none; `said` is what stands in its braces.
-Clause = namedtuple("Clause", "kind name said line")
-# `text` is its head and its clauses.
-Function = namedtuple("Function", "name is_public clauses text")
-# An item: `kind` is fn, impl, trait, struct, enum, mod or use; `name` is its name, an impl's type, or what a `use` says.
-Block = namedtuple("Block", "kind name trait is_public functions ghosts")
+TOP = Path(__file__).resolve().parent.parent
+# Each library, with the crates below it.
+LIBRARIES = {name: below.split() for name, below in re.findall(r"^(lalrpop_\w+|\w+_lib):(.*)", (TOP / "crates.txt").read_text(), re.M)}
+# `kind` is fn, impl, trait, struct, enum, mod or use; `name` is its name, an impl's type, or what a `use` says.
+Item = namedtuple("Item", "kind name trait is_public text about functions ghosts file")
+# `text` is the head and the clauses, without comments.
+Function = namedtuple("Function", "name is_public text about")
 
+NO_CODE = re.compile(r"""//[^\n]*|/\*.*?\*/|(?<!\w)r(#*)".*?"\1|"(?:\\.|[^"\\])*"|(?<![\w'])'(?:\\.[^'\n]*|[^\\'\n])'""", re.S)
 BEFORE = r"(?:#\[[^\n]*?\] *)*(pub(?:\([^)]*\))? )?(?:const |unsafe )*"
 ITEM = re.compile(rf"^{BEFORE}(?:(use) ([^;]*)|(fn|impl|trait|struct|enum|mod)\b([^{{;]*))", re.M)
 FUNCTION = re.compile(rf"^ *{BEFORE}fn (\w+)", re.M)
-BEHIND_HEAD = re.compile(r"\s(?=(?:requires|ensures)\b)|\{|;$", re.M)
-CLAUSE = re.compile(r"\s*(requires|ensures)\b\*?(?:\s+(\w+))?\s*\{")
-GHOST = re.compile(r"^ *(ghost) (\w+)\s*[=:]\s*\{", re.M)
-TYPE = re.compile(r"\s*(?:&(?:'\w+ )?(?:mut )?)?(?:\w+::)*(\w+)")
-
-# What an impl says to the prover, or of the representation: laws with their proofs, invariants, views and codes.
-UNSEEN = set(
-    "view invariant coded inverse laws total matches_eq matches_partial_cmp size size_decreases list_written list_unwritten"
-    " other_lists_kept run_in run_out".split()
-)
+BRACE = re.compile(r"\{|;$", re.M)
+CLAUSE = re.compile(r"\b(?:requires|ensures)\b")
+GHOST = re.compile(r"^ *ghost (?!use\b)(\w+)[^{;]*\{", re.M)
+ABOUT = re.compile(r"((?:^ *///[^\n]*\n)+)(?: *#\[[^\]]*\]\n)*\Z", re.M)
 
 
-def bare(text, comment):
-    """The text with its comments blanked."""
-    return re.sub(comment + r"[^\n]*", "", text)
-
-
-def region(text, start):
-    """What stands in the braces that open before this place."""
+def closed(code, at):
+    """Where the brace closes that opens before this place."""
     depth = 1
-    for at in range(start, len(text)):
-        depth += {"{": 1, "}": -1}.get(text[at], 0)
-        if depth == 0:
-            return text[start:at]
-    return text[start:]
+    while depth:
+        depth += {"{": 1, "}": -1}.get(code[at], 0)
+        at += 1
+    return at
 
 
-def clause_of(text, found):
-    return Clause(found[1], found[2] or "", region(text, found.end()), text.count("\n", 0, found.start(1)) + 1)
+def body(code, at):
+    """Where the body of a function begins: at the first brace that no clause has, or the `;` of one without a body."""
+    while CLAUSE.search(code, at, (brace := BRACE.search(code, at).start())):
+        at = closed(code, brace + 1)
+    return brace
 
 
-def function_of(text, found):
-    """The function whose name ends at this place, with its clauses."""
-    at, clauses = BEHIND_HEAD.search(text, found.end()).end(), []
-    while clause := CLAUSE.match(text, at):
-        clauses.append(clause_of(text, clause))
-        at = clause.end() + len(clauses[-1].said) + 1
-    return Function(found[2], found[1] == "pub ", clauses, text[found.start() : at].rstrip(" {;\n"))
+def plain(text):
+    """The text without comments, blank lines and the indentation of its first line."""
+    lines = [it.rstrip() for it in NO_CODE.sub(lambda it: "" if it[0][0] == "/" else it[0], text).split("\n") if it.strip()]
+    return "\n".join(it[len(lines[0]) - len(lines[0].lstrip()) :] for it in lines)
 
 
-def named(kind, head):
-    """The trait of an impl, and the type of an impl or the name of another item, without parameters."""
-    while kind == "impl" and (shorter := re.sub(r"<[^<>]*>", "", head)) != head:
-        head = shorter
-    trait, _, name = head.rpartition(" for ") if kind == "impl" else ("", "", head)
-    return trait.strip(), TYPE.match(name)[1]
+def about(text, start):
+    """The lines of the comment before this place."""
+    found = ABOUT.search(text[: text.rfind("\n", 0, start) + 1])
+    return [it.strip()[4:] for it in found[1].splitlines()] if found else []
 
 
-def blocks(path):
+@functools.cache
+def items(file):
     """The items of a file."""
-    text = bare(path.read_text(), "//")
-    items = list(ITEM.finditer(text))
-    for item, end in zip(items, [it.start() for it in items[1:]] + [len(text)]):
-        kind = item[2] or item[4]
-        trait, name = ("", item[3]) if kind == "use" else named(kind, item[5])
-        functions = [function_of(text, it) for it in FUNCTION.finditer(text, item.start(), end)]
-        ghosts = [clause_of(text, it) for it in GHOST.finditer(text, item.start(), end)]
-        yield Block(kind, name, trait, item[1] == "pub ", functions, ghosts)
+    text, found = file.read_text(), []
+    code = NO_CODE.sub(lambda it: re.sub(r"[^\n]", " ", it[0]), text)
+    starts = [*ITEM.finditer(code)]
+    for item, end in zip(starts, [it.start() for it in starts[1:]] + [len(code)]):
+        kind, head = item[2] or item[4], item[3] or item[5]
+        while kind == "impl" and (shorter := re.sub(r"<[^<>]*>", "", head)) != head:
+            head = shorter
+        trait, _, name = head.rpartition(" for ") if kind == "impl" else ("", "", head)
+        name = name if kind == "use" else re.match(r"\s*(?:&(?:'\w+ )?(?:mut )?)?(?:\w+::)*(\w+)", name)[1]
+        last = closed(code, item.end() + 1) if code[item.end()] == "{" else item.end()
+        functions = [Function(it[2], it[1] == "pub ", plain(text[it.start() : body(code, it.end())]), about(text, it.start())) for it in FUNCTION.finditer(code, item.start(), end)]
+        ghosts = {it[1]: plain(text[it.start() : closed(code, it.end())]) for it in GHOST.finditer(code, item.start(), end)}
+        found.append(Item(kind, name, trait.strip(), item[1] == "pub ", text[item.start() : last], about(text, item.start()), functions, ghosts, file))
+    return found
 
 
-def handed_out(file):
-    """The names of what a module hands out."""
+def handed_out(file, wanted=None):
+    """What a module hands out, or what it hands out by this name: pairs of a crate and a name."""
     folder = file.parent if file.stem == "lib" else file.with_suffix("")
-    for block in (it for it in blocks(file) if it.is_public):
-        module, _, names = block.name.rpartition("::")
-        below = folder / (module.replace("::", "/") + ".rt")
-        if block.kind == "mod":
-            yield from handed_out(folder / f"{block.name}.rt")
-        elif block.kind != "use":
-            yield block.name
-        elif below.is_file():
-            yield from set(re.findall(r"\w+", names)) & set(handed_out(below))
+    for item in (it for it in items(file) if it.is_public):
+        if item.kind != "use" and wanted in (None, item.name):
+            yield from handed_out(folder / f"{item.name}.rt") if item.kind == "mod" else [(file.relative_to(TOP).parts[1], item.name)]
+        path, brace, names = item.name.partition("{")
+        for name in re.findall(r"\w+(?: as \w+)?", names) if brace else [""] * (item.kind == "use"):
+            name, _, shown = (path + name).partition(" as ")
+            module, *below = name.split("::")
+            found = next((it for it in (TOP / "crates" / module / "src/lib.rt", folder / f"{module}.rt") if it.is_file()), None)
+            yield from handed_out(found, *below) if found and wanted in (None, shown or name.split("::")[-1]) else []
+
+
+@functools.cache
+def of_users():
+    """What a user's program can call: what lalrpop_lexer and the libraries above it hand out."""
+    above = [it for it, below in LIBRARIES.items() if "lalrpop_lexer" in [it, *below]]
+    return {it for crate in above for it in handed_out(TOP / "crates" / crate / "src/lib.rt")}

@@ -4,6 +4,13 @@ use std::alloc::{AllocError, AllocFailed};
 use thiserror::Error;
 
 /// Why a pattern was not compiled.
+///
+/// ```
+/// use lalrpop_lexer::lexer::nfa::{Nfa, NfaConstructionError};
+///
+/// let lazy = parse_regex(alloc, "a*?")?;
+/// let is_lazy = matches!(Nfa::from_re(alloc, &lazy), Err(NfaConstructionError::NonGreedy)); // true
+/// ```
 #[derive(Clone, Copy, Debug, PartialEq, Eq, Error)]
 pub enum NfaConstructionError {
     /// The pattern has a named group.
@@ -46,6 +53,15 @@ impl From<AllocError> for NfaConstructionError {
 }
 
 /// Why no automaton was built.
+///
+/// ```
+/// use lalrpop_lexer::lexer::dfa::{DfaConstructionError, Precedence, build_dfa};
+///
+/// // Both patterns match "a", and neither is stronger.
+/// let regexs = vec![in alloc; parse_regex(alloc, "a|b")?, parse_regex(alloc, "[a-z]")?]?;
+/// let found = build_dfa(alloc, &regexs, &[Precedence(0), Precedence(0)]);
+/// let is_ambiguous = matches!(found, Err(DfaConstructionError::Ambiguity { .. })); // true
+/// ```
 #[derive(Debug, Drop, Error)]
 pub enum DfaConstructionError {
     /// The pattern at this index was not compiled.

@@ -3,6 +3,14 @@
 /// What a pattern requires of a position in a text: that a line or a word begins there, say. It reads no character.
 ///
 /// A tree can hold one, but this port builds no automaton for such a tree.
+///
+/// ```
+/// use lalrpop_lexer::lexer::re::{Hir, Look};
+///
+/// // The tree of `\Aa`.
+/// let parts = vec![in alloc; Hir::look(Look::Start), Hir::literal(alloc, "a")?]?;
+/// let tree = Hir::concat(parts);
+/// ```
 #[derive(Clone, Copy, Debug, PartialEq, Eq)]
 pub enum Look {
     /// The text begins here.

@@ -4,6 +4,13 @@ ghost use Rattle.std.specs.Prelude.{◌≡◌};
 use std::marker::Model;
 
 /// The index of a pattern in its list, from 0.
+///
+/// ```
+/// let names = ["KEYWORD", "NAME"];
+/// if let Some(token) = lexer.token("let x") {
+///     let name = names.get(token.index.index());
+/// }
+/// ```
 #[derive(Copy, Clone, Debug, PartialEq, Eq, PartialOrd, Ord, Hash)]
 pub struct NfaIndex(usize);
 

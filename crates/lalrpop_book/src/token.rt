@@ -4,6 +4,14 @@ use crate::nfa_index::NfaIndex;
 use thiserror::Error;
 
 /// A token: a slice of a text, and the pattern that matched it.
+///
+/// ```
+/// use lalrpop_lexer::Token;
+///
+/// if let Some(Token { index, slice, start }) = lexer.token("let x") {
+///     let length = slice.len(); // 3
+/// }
+/// ```
 #[derive(Clone, Copy, Debug, PartialEq, Eq)]
 pub struct Token<'text> {
     /// The index of the pattern in the list.
@@ -15,6 +23,15 @@ pub struct Token<'text> {
 }
 
 /// No pattern matches a nonempty prefix of the rest of a text.
+///
+/// ```
+/// use lalrpop_lexer::TokenFault;
+///
+/// let list = lexer.token_list(alloc, "let!")?;
+/// if let Some(TokenFault { at }) = list.fault {
+///     let rest = "let!".get(at..); // Some("!")
+/// }
+/// ```
 #[derive(Clone, Copy, Debug, PartialEq, Eq, Error)]
 #[error("no pattern matches at byte {at}")]
 pub struct TokenFault {

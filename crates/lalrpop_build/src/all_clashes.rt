@@ -17,6 +17,14 @@ use std::alloc::{AllocError, Global};
 use std::marker::Model;
 
 /// Two patterns that are both among the strongest on some word, and the least such word.
+///
+/// ```
+/// use lalrpop_lexer::lexer::dfa::{Precedence, clashes};
+///
+/// for clash in &clashes(alloc, &regexs, &[Precedence(0), Precedence(0)])? {
+///     let pair = (clash.match0.index(), clash.match1.index());
+/// }
+/// ```
 #[derive(Debug, Drop)]
 pub struct Clash {
     /// The greater index of the two in the list of patterns.

@@ -29,6 +29,13 @@ use std::alloc::{AllocError, Global};
 use std::marker::Model;
 
 /// An automaton that is run by a dense table. In contracts it is that automaton.
+///
+/// ```
+/// use lalrpop_lexer::lexer::dfa::DenseDfa;
+///
+/// let dense = DenseDfa::new(alloc, dfa)?;
+/// let found = dense.longest("let x"); // the index of a pattern, and "let"
+/// ```
 #[derive(Debug, Drop)]
 pub struct DenseDfa {
     dfa: Dfa,

@@ -29,6 +29,14 @@ pub(crate) struct Mark {
 }
 
 /// Room for the ends of the tokens of a block.
+///
+/// ```
+/// use lalrpop_lexer::lexer::dfa::Marks;
+///
+/// let mut marks = Marks::new(alloc)?;
+/// let mut tokens = Vec::new(alloc);
+/// let end = dense.cut_block("let x", 0, &mut marks, &mut tokens)?;
+/// ```
 #[derive(Debug, Drop)]
 pub struct TokenEnds {
     pub(crate) marks: Vec<Mark>,

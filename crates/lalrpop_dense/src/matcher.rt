@@ -15,6 +15,15 @@ use lalrpop_dfa::{Dfa, NfaIndex};
 use lalrpop_nfa::Steps;
 
 /// What finds the longest match at the start of a text by an automaton.
+///
+/// ```
+/// use lalrpop_lexer::lexer::dfa::{Matcher, NfaIndex};
+/// use lalrpop_lexer::lexer::nfa::Steps;
+///
+/// fn first<'text, M: Matcher>(matcher: &M, text: &'text str) -> Option<(NfaIndex, &'text str)> {
+///     matcher.longest_match(text, &mut Steps::new())
+/// }
+/// ```
 pub trait Matcher: Drop {
     /// The automaton.
     ghost rows: { Self → List Row };

@@ -5,6 +5,12 @@ use std::fmt;
 use std::marker::Model;
 
 /// The number of a state, from 0.
+///
+/// ```
+/// use lalrpop_lexer::lexer::dfa::{DfaStateIndex, START};
+///
+/// let is_start = DfaStateIndex::new(0) == START; // true
+/// ```
 #[derive(Copy, Clone, PartialEq, Eq, PartialOrd, Ord, Hash)]
 pub struct DfaStateIndex(pub(super) usize);
 

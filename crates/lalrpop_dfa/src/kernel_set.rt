@@ -10,6 +10,23 @@ use std::collections::{BTreeMap, VecDeque};
 use std::marker::Model;
 
 /// What a kernel set numbers. Two kernels are equal if their order says `Equal`.
+///
+/// ```
+/// use lalrpop_lexer::kernel_set::Kernel;
+///
+/// #[derive(Clone, PartialEq, Eq, PartialOrd, Ord, Drop)]
+/// struct Name(u32);
+///
+/// impl Kernel for Name {
+///     type Index = usize;
+///
+///     ghost index_of = { λ number. number };
+///
+///     fn index(number: usize) -> usize {
+///         number
+///     }
+/// }
+/// ```
 pub trait Kernel: Ord + Clone + Drop {
     /// The type of the indices.
     type Index;
@@ -23,6 +40,17 @@ pub trait Kernel: Ord + Clone + Drop {
 }
 
 /// A list of distinct kernels, which only grows, and a place in it: the number of the kernel that comes next.
+///
+/// ```
+/// use lalrpop_lexer::kernel_set::KernelSet;
+///
+/// let mut set = KernelSet::new(alloc);
+/// let first = set.add_state(Name(7))?; // 0
+/// let again = set.add_state(Name(7))?; // 0
+/// while let Some(name) = set.next()? {
+///     set.add_state(Name(name.0 / 2))?;
+/// }
+/// ```
 #[derive(Drop)]
 pub struct KernelSet<K: Kernel> {
     // The kernels, with their numbers.

@@ -28,6 +28,15 @@ use std::marker::Model;
 pub use witness::{Witness, lookahead_witness};
 
 /// What a state says of the word that leads to it.
+///
+/// ```
+/// use lalrpop_lexer::lexer::dfa::Kind;
+///
+/// let accepted = match dfa.state(START).kind() {
+///     Kind::Accepts(index) => Some(index.index()),
+///     Kind::Reject | Kind::Neither => None,
+/// };
+/// ```
 #[derive(Clone, Debug, PartialEq, Eq, Drop)]
 pub enum Kind {
     /// The pattern with this index matches the word, and is the only strongest one.
@@ -39,6 +48,14 @@ pub enum Kind {
 }
 
 /// A state of the automaton.
+///
+/// ```
+/// use lalrpop_lexer::lexer::dfa::State;
+///
+/// for state in dfa.states() {
+///     let otherwise = state.other_edge();
+/// }
+/// ```
 #[derive(Debug, Drop)]
 pub struct State {
     item_set: ItemSet,
@@ -80,6 +97,13 @@ impl State {
 }
 
 /// The automaton of a list of patterns. State 0 is START.
+///
+/// ```
+/// use lalrpop_lexer::lexer::dfa::{Precedence, build_dfa, interpret};
+///
+/// let dfa = build_dfa(alloc, &regexs, &[Precedence(1), Precedence(0)])?;
+/// let found = interpret::interpret(&dfa, "let x"); // the index of a pattern, and "let"
+/// ```
 #[derive(Debug, Drop)]
 pub struct Dfa {
     rows: Rows,

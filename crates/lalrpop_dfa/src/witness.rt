@@ -17,6 +17,15 @@ use std::alloc::{AllocError, Global};
 use std::marker::Model;
 
 /// A match, and values after it that leave it open whether a longer match comes.
+///
+/// ```
+/// use lalrpop_lexer::lexer::dfa::{Witness, lookahead_witness};
+///
+/// // What makes the automaton read one character more than its match.
+/// if let Some(Witness { word, after }) = lookahead_witness(alloc, &dfa, 1)? {
+///     let length = word.len();
+/// }
+/// ```
 #[derive(Debug, Drop)]
 pub struct Witness {
     /// The match, by the code values of its characters.

@@ -6,6 +6,15 @@ use std::alloc::{AllocError, AllocFailed};
 use thiserror::Error;
 
 /// What is wrong with the text of a pattern.
+///
+/// ```
+/// use lalrpop_lexer::lexer::re::{RegexError, SyntaxKind, parse_regex};
+///
+/// let is_open = match parse_regex(alloc, "(a") {
+///     Err(RegexError::Syntax { kind, .. }) => kind == SyntaxKind::UnclosedGroup, // true
+///     _ => false,
+/// };
+/// ```
 #[derive(Clone, Copy, Debug, PartialEq, Eq)]
 pub enum SyntaxKind {
     /// A `(` without its `)`.
@@ -45,6 +54,15 @@ pub enum SyntaxKind {
 }
 
 /// Why a text was not read into a tree.
+///
+/// ```
+/// use lalrpop_lexer::lexer::re::{RegexError, parse_regex};
+///
+/// let place = match parse_regex(alloc, "a)") {
+///     Err(RegexError::Syntax { position, .. }) => Some(position), // Some(1)
+///     _ => None,
+/// };
+/// ```
 #[derive(Debug, Drop, Error)]
 pub enum RegexError {
     /// The text does not parse: `kind` says why, and `position` where, as an offset in bytes.

@@ -12,6 +12,13 @@ use std::marker::Model;
 ///
 /// The ends are characters, but the range is one of code values: if it starts at U+D7FF or below and ends at U+E000
 /// or above, it also contains the surrogates between.
+///
+/// ```
+/// use lalrpop_lexer::lexer::re::ClassUnicodeRange;
+///
+/// let letters = ClassUnicodeRange::new('z', 'a');
+/// let ends = (letters.start(), letters.end()); // ('a', 'z')
+/// ```
 #[derive(Clone, Copy, Debug, PartialEq, Eq)]
 pub struct ClassUnicodeRange {
     start: char,
@@ -32,6 +39,13 @@ impl Model for ClassUnicodeRange {
 }
 
 /// A range of bytes, from its start to its end, both included. It is never empty.
+///
+/// ```
+/// use lalrpop_lexer::lexer::re::ClassBytesRange;
+///
+/// let digits = ClassBytesRange::new(b'0', b'9');
+/// let ends = (digits.start(), digits.end()); // (48, 57)
+/// ```
 #[derive(Clone, Copy, Debug, PartialEq, Eq)]
 pub struct ClassBytesRange {
     start: u8,
@@ -55,6 +69,14 @@ impl Model for ClassBytesRange {
 ///
 /// U+D7FF and U+E000 count as neighbours, since only surrogates lie between them, and a surrogate is not a character.
 /// So each set has exactly one list, however it was given.
+///
+/// ```
+/// use lalrpop_lexer::lexer::re::{ClassUnicode, ClassUnicodeRange};
+///
+/// let letters = ClassUnicode::new(alloc, vec![in alloc; ClassUnicodeRange::new('a', 'z')]?)?;
+/// let vowels = vec![in alloc; ClassUnicodeRange::new('a', 'a'), ClassUnicodeRange::new('e', 'e')]?;
+/// let others = letters.difference(alloc, &ClassUnicode::new(alloc, vowels)?)?; // b to d, f to z
+/// ```
 #[derive(Clone, Debug, Drop)]
 pub struct ClassUnicode {
     ranges: Vec<ClassUnicodeRange>,
@@ -73,6 +95,14 @@ impl Model for ClassUnicode {
 }
 
 /// A set of bytes, kept as the ascending list of its maximal runs.
+///
+/// ```
+/// use lalrpop_lexer::lexer::re::{ClassBytes, ClassBytesRange};
+///
+/// let ranges = vec![in alloc; ClassBytesRange::new(0, 31), ClassBytesRange::new(20, 127)]?;
+/// let class = ClassBytes::new(alloc, ranges)?;
+/// let count = class.ranges().len(); // 1: the ranges overlap
+/// ```
 #[derive(Clone, Debug, Drop)]
 pub struct ClassBytes {
     ranges: Vec<ClassBytesRange>,
@@ -91,6 +121,14 @@ impl Model for ClassBytes {
 }
 
 /// A set that one value of a text is matched against.
+///
+/// ```
+/// use lalrpop_lexer::lexer::re::{Class, ClassUnicode, ClassUnicodeRange, Hir};
+///
+/// // The tree of `[0-9]`.
+/// let digits = ClassUnicode::new(alloc, vec![in alloc; ClassUnicodeRange::new('0', '9')]?)?;
+/// let tree = Hir::class(Class::Unicode(digits));
+/// ```
 #[derive(Debug, Drop)]
 pub enum Class {
     /// A set of characters. It matches the code values inside its ranges.

@@ -15,6 +15,15 @@ use std::alloc::{AllocError, Global};
 use std::marker::Model;
 
 /// A text that matches itself. It is never empty.
+///
+/// ```
+/// use lalrpop_lexer::lexer::re::{Hir, HirKind};
+///
+/// let tree = Hir::literal(alloc, "if")?;
+/// if let HirKind::Literal(literal) = tree.kind() {
+///     let text = literal.as_str(); // "if"
+/// }
+/// ```
 #[derive(Clone, Debug, Drop)]
 pub struct Literal {
     text: String,
@@ -41,6 +50,14 @@ impl Literal {
 }
 
 /// A pattern as a tree. It is immutable, and made by the constructors below.
+///
+/// ```
+/// use lalrpop_lexer::lexer::re::Hir;
+///
+/// // The tree of `if|`, which matches "if" and the empty text.
+/// let branches = vec![in alloc; Hir::literal(alloc, "if")?, Hir::empty()]?;
+/// let tree = Hir::alternation(branches);
+/// ```
 #[derive(Debug, Drop)]
 #[cycle(tree)]
 pub struct Hir {
@@ -51,6 +68,16 @@ pub struct Hir {
 pub type Regex = Hir;
 
 /// The top of a tree, with the trees below it.
+///
+/// ```
+/// use lalrpop_lexer::lexer::re::{Hir, HirKind};
+///
+/// let tree = Hir::alternation(vec![in alloc; Hir::literal(alloc, "if")?, Hir::empty()]?);
+/// let count = match tree.kind() {
+///     HirKind::Alternation(branches) => branches.len(), // 2
+///     _ => 0,
+/// };
+/// ```
 #[derive(Debug, Drop)]
 #[cycle(tree)]
 pub enum HirKind {
@@ -74,6 +101,14 @@ pub enum HirKind {
 
 /// A part that is matched a number of times in a row: at least `min` times, and at most `max` times if there is
 /// a `max`, which is never below `min`.
+///
+/// ```
+/// use lalrpop_lexer::lexer::re::{Hir, Repetition};
+///
+/// // The tree of `a{2,3}`.
+/// let part = Box::new(alloc, Hir::literal(alloc, "a")?)?;
+/// let tree = Hir::repetition(Repetition::new(2, Some(3), true, part));
+/// ```
 #[derive(Debug, Drop)]
 #[cycle(tree)]
 pub struct Repetition {
@@ -84,6 +119,14 @@ pub struct Repetition {
 }
 
 /// A group, with or without a name.
+///
+/// ```
+/// use lalrpop_lexer::lexer::re::{Capture, Hir};
+///
+/// // The tree of `(if)`.
+/// let part = Box::new(alloc, Hir::literal(alloc, "if")?)?;
+/// let tree = Hir::capture(Capture::new(None, part));
+/// ```
 #[derive(Debug, Drop)]
 #[cycle(tree)]
 pub struct Capture {

@@ -12,6 +12,15 @@ use thiserror::Error;
 
 /// Why a lexer can't be built: one type for errors in parsing patterns and in building their automaton, and for running
 /// out of memory. Patterns are numbered from 0.
+///
+/// ```
+/// use lalrpop_lexer::{Form, Lexer, LexerError};
+///
+/// let place = match Lexer::from_patterns(alloc, &[(Precedence(0), Form::Pattern, "a)")]) {
+///     Err(LexerError::NotParsed { pattern, position, .. }) => Some((pattern, position)), // (0, 1)
+///     _ => None,
+/// };
+/// ```
 #[derive(Debug, Drop, Error)]
 pub enum LexerError {
     /// A pattern that isn't in a list does not parse: `kind` says why, and `position` where, as an offset in bytes.

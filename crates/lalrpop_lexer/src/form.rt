@@ -8,6 +8,13 @@ use lalrpop_re::{Regex, RegexError, parse_literal, parse_regex};
 use std::alloc::Global;
 
 /// How a text is to be read.
+///
+/// ```
+/// use lalrpop_lexer::{Form, Lexer};
+///
+/// let patterns = [(Precedence(1), Form::Literal, "*"), (Precedence(0), Form::Pattern, "[a-z]+")];
+/// let lexer = Lexer::from_patterns(alloc, &patterns)?;
+/// ```
 #[derive(Clone, Copy, Debug, PartialEq, Eq)]
 pub enum Form {
     /// As it is: no character has a special meaning.

@@ -18,6 +18,13 @@ const ALLOWED: usize = 16;
 ///
 /// The table finds them as long as it has read little in vain. Once it has read much, runs remember the states that earlier ones
 /// have gone on from, at every 64th character, and go on from none of them again.
+///
+/// ```
+/// use lalrpop_lexer::lexer::nfa::Steps;
+///
+/// let mut matches = lexer.matches_linear(alloc, "let x")?;
+/// let first = matches.next_match(&mut Steps::new()); // the index of a pattern, and "let"
+/// ```
 #[derive(Debug, Drop)]
 pub struct LinearMatches<'text> {
     dense: &'text DenseDfa,

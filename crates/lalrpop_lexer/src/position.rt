@@ -8,6 +8,12 @@ ghost use Rattle.lalrpop_lexer.specs.Internal.Places.{next_place};
 use std::marker::Model;
 
 /// A place in a text: its line and its column, both from 1. A line feed ends its line.
+///
+/// ```
+/// use lalrpop_lexer::Position;
+///
+/// let place = Position::get("a\nbc", 3); // line 2, column 2
+/// ```
 #[derive(Clone, Copy, Debug, PartialEq, Eq, PartialOrd, Ord)]
 pub struct Position {
     /// One more than the number of line feeds before the place.
@@ -59,6 +65,14 @@ impl Position {
 }
 
 /// The places of ascending offsets in a text, found in one pass over it.
+///
+/// ```
+/// use lalrpop_lexer::Positions;
+///
+/// let mut positions = Positions::new("a\nbc");
+/// let first = positions.at(0); // line 1, column 1
+/// let third = positions.at(3); // line 2, column 2
+/// ```
 #[derive(Debug, Drop)]
 pub struct Positions<'text> {
     text: &'text str,

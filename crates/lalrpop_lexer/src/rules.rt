@@ -41,6 +41,15 @@ use std::marker::Model;
 ///
 /// The invariant of the type says that they belong together and that no word is ambiguous, so only building a lexer has a
 /// precondition.
+///
+/// ```
+/// use lalrpop_lexer::lexer::dfa::Precedence;
+/// use lalrpop_lexer::{Form, Lexer};
+///
+/// let patterns = [(Precedence(1), Form::Literal, "if"), (Precedence(0), Form::Pattern, "[a-z]+| +")];
+/// let lexer = Lexer::from_patterns(alloc, &patterns)?;
+/// let count = lexer.tokens("if iffy").count(); // 3
+/// ```
 #[derive(Debug, Drop)]
 pub struct Lexer {
     regexs: Vec<Regex>,

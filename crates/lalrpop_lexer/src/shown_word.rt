@@ -4,6 +4,12 @@ use std::fmt::{self, Display, Formatter, Write};
 
 /// A word as messages show it: in quotes. A quote, a backslash, a control character or a value that isn't a character is
 /// shown as an escape sequence, such as `\n` or `\u{d800}`.
+///
+/// ```
+/// use lalrpop_lexer::ShownWord;
+///
+/// let shown = format!(in alloc; "{}", ShownWord(&[97, 10, 0xd800]))?; // "a\n\u{d800}"
+/// ```
 #[derive(Clone, Copy, Debug)]
 pub struct ShownWord<'word>(pub &'word [u32]);
 

@@ -9,6 +9,15 @@ use lalrpop_re::Regex;
 use std::alloc::{AllocError, Global};
 
 /// What the lines say. Lines are numbered from 0.
+///
+/// ```
+/// use lalrpop_lexer::{Terminals, read_terminals};
+///
+/// let regexs = match read_terminals(alloc, b"1 l class\n0 r [a-z]+\n")? {
+///     Terminals::All { regexs, .. } => regexs,
+///     Terminals::Bad { line } | Terminals::NoTree { line } => bail!("line {line}"),
+/// };
+/// ```
 #[derive(Drop)]
 pub enum Terminals {
     /// Each line is a terminal; these are their patterns and precedences, in order.

@@ -12,6 +12,14 @@ use std::marker::Model;
 /// Cuts a text into tokens, from its beginning to its end or to the first place where no pattern matches.
 ///
 /// It takes no memory: the tokens are slices of the text.
+///
+/// ```
+/// use lalrpop_lexer::tokens;
+///
+/// for item in tokens(&dfa, "let x") {
+///     let (index, slice) = item?;
+/// }
+/// ```
 #[derive(Debug, Drop)]
 pub struct Tokens<'text, M: Matcher = Dfa> {
     matcher: &'text M,

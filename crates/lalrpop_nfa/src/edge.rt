@@ -11,6 +11,12 @@ use std::fmt;
 use std::marker::Model;
 
 /// The number of a state of an automaton, from 0.
+///
+/// ```
+/// use lalrpop_lexer::lexer::nfa::{NfaStateIndex, START};
+///
+/// let is_start = NfaStateIndex::new(2) == START; // true
+/// ```
 #[derive(Copy, Clone, PartialEq, Eq, PartialOrd, Ord, Hash)]
 pub struct NfaStateIndex(pub(super) usize);
 
@@ -48,14 +54,36 @@ impl fmt::Debug for NfaStateIndex {
 }
 
 /// The label of an edge that reads nothing.
+///
+/// ```
+/// use lalrpop_lexer::lexer::nfa::{Noop, START};
+///
+/// for edge in nfa.edges::<Noop>(START) {
+///     let is_loop = edge.to == START;
+/// }
+/// ```
 #[derive(Debug, PartialEq, Eq, Drop)]
 pub struct Noop;
 
 /// The label of an edge that reads a value that no test of its state covers.
+///
+/// ```
+/// use lalrpop_lexer::lexer::nfa::{Other, START};
+///
+/// if let Some(edge) = nfa.edges::<Other>(START).next() {
+///     let is_dead = nfa.is_rejecting_state(edge.to);
+/// }
+/// ```
 #[derive(Debug, PartialEq, Eq, Drop)]
 pub struct Other;
 
 /// The kind of a state.
+///
+/// ```
+/// use lalrpop_lexer::lexer::nfa::{REJECT, StateKind};
+///
+/// let is_dead = nfa.kind(REJECT) == StateKind::Reject; // true
+/// ```
 #[derive(Copy, Clone, Debug, PartialEq, Eq, PartialOrd, Ord)]
 pub enum StateKind {
     /// The word that leads here matches.
@@ -67,6 +95,15 @@ pub enum StateKind {
 }
 
 /// A state: its kind, and for each kind of label where its edges begin in the list of that kind.
+///
+/// ```
+/// use lalrpop_lexer::lexer::nfa::{EdgeLabel, State, Test};
+///
+/// // Where the state's test edges begin in the list of all test edges, if it has any.
+/// fn first_test(state: &State) -> Option<usize> {
+///     *Test::first(state)
+/// }
+/// ```
 #[derive(Debug, Drop)]
 pub struct State {
     pub(super) kind: StateKind,
@@ -89,6 +126,14 @@ impl Model for State {
 }
 
 /// An edge from a state to a state.
+///
+/// ```
+/// use lalrpop_lexer::lexer::nfa::{Edge, START, Test};
+///
+/// for Edge { label, to, .. } in nfa.edges::<Test>(START) {
+///     let reads_a = label.contains_char('a');
+/// }
+/// ```
 #[derive(PartialEq, Eq, Drop)]
 pub struct Edge<L> {
     /// The state that it leaves.
@@ -109,6 +154,14 @@ impl<L: fmt::Debug> fmt::Debug for Edge<L> {
 }
 
 /// The edges of an automaton: a list for each kind of label, in which the edges of one state are contiguous.
+///
+/// ```
+/// use lalrpop_lexer::lexer::nfa::{EdgeLabel, Edges};
+///
+/// fn count<L: EdgeLabel>(edges: &Edges) -> usize {
+///     L::vec(edges).len()
+/// }
+/// ```
 #[derive(Debug, Drop)]
 pub struct Edges {
     pub(super) noop_edges: Vec<Edge<Noop>>,
@@ -130,6 +183,14 @@ impl Model for Edges {
 
 /// A kind of label, with its list of edges and its index in a state. Writing through the `_mut` calls changes neither the
 /// lists nor the indices of the other kinds.
+///
+/// ```
+/// use lalrpop_lexer::lexer::nfa::{EdgeLabel, Nfa, START};
+///
+/// fn leaves_start<L: EdgeLabel>(nfa: &Nfa) -> bool {
+///     nfa.edges::<L>(START).next().is_some()
+/// }
+/// ```
 pub trait EdgeLabel: Sized {
     ghost use Rattle.std.specs.Prelude.{Some, None};
     ghost use Rattle.lalrpop_nfa.specs.declared.edge.Edge.{Edge};
@@ -299,6 +360,13 @@ pub(super) fn set_first<L: EdgeLabel>(state: &mut State, edge_index: usize)
 }
 
 /// The edges of one label kind that leave one state, in the order of the list of that kind.
+///
+/// ```
+/// use lalrpop_lexer::lexer::nfa::{START, Test};
+///
+/// let mut edges = nfa.edges::<Test>(START);
+/// let first = edges.next();
+/// ```
 #[derive(Drop)]
 pub struct EdgeIterator<'nfa, L: EdgeLabel> {
     pub(super) edges: &'nfa [Edge<L>],

@@ -34,6 +34,13 @@ pub const REJECT: NfaStateIndex = NfaStateIndex(1);
 pub const START: NfaStateIndex = NfaStateIndex(2);
 
 /// The automaton of one pattern: states, and edges that read nothing, a value of a range, or any other value.
+///
+/// ```
+/// use lalrpop_lexer::lexer::nfa::{Nfa, interpret};
+///
+/// let nfa = Nfa::from_re(alloc, &parse_regex(alloc, "a+")?)?;
+/// let found = interpret::interpret(alloc, &nfa, "aab")?; // Some("aa")
+/// ```
 #[derive(Debug, Drop)]
 pub struct Nfa {
     states: Vec<State>,

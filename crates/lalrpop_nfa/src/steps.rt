@@ -28,6 +28,14 @@ impl Tally {
 
 /// The number of steps taken, which contracts read and a running program cannot. It takes no bytes, and only
 /// its calls change it.
+///
+/// ```
+/// use lalrpop_lexer::lexer::dfa::interpret::interpret_counted;
+/// use lalrpop_lexer::lexer::nfa::Steps;
+///
+/// let mut steps = Steps::new();
+/// let found = interpret_counted(&dfa, "let x", &mut steps); // its clauses bound `steps`
+/// ```
 #[derive(Drop)]
 pub struct Steps {
     tally: Tally,

@@ -10,6 +10,13 @@ use std::marker::Model;
 use std::ops::RangeInclusive;
 
 /// The values from a start to an end, both included; empty if the start is above the end.
+///
+/// ```
+/// use lalrpop_lexer::lexer::nfa::Test;
+///
+/// let letters = Test::inclusive_range('a', 'z');
+/// let has_x = letters.intersects(&Test::char('x')); // true
+/// ```
 #[derive(Clone, PartialEq, Eq, PartialOrd, Ord, Hash, Drop)]
 pub struct Test {
     start: u32,

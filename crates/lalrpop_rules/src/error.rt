@@ -9,6 +9,16 @@ use std::alloc::{AllocError, AllocFailed};
 use thiserror::Error;
 
 /// Why rules can't be made into a lexer. Rules are numbered from 0.
+///
+/// ```
+/// use lalrpop_rules::{Rule, RuleLexer, RulesError};
+///
+/// let rules = [Rule::literal("A", "a"), Rule::literal("B", "a")];
+/// let clash = match RuleLexer::from_rules(alloc, &rules) {
+///     Err(RulesError::Clash { rule, other, .. }) => Some((rule, other)), // (1, 0)
+///     _ => None,
+/// };
+/// ```
 #[derive(Debug, Drop, Error)]
 pub enum RulesError {
     /// The text of this rule does not parse: `kind` says why, and `position` where, as an offset in bytes.

@@ -6,6 +6,16 @@ ghost use Rattle.lalrpop_rules.specs.Pieces.{slice_of, start_of};
 use lalrpop_lexer::Token;
 
 /// A piece of a text.
+///
+/// ```
+/// use lalrpop_rules::Item;
+///
+/// match item {
+///     Item::Token(token) => println!(rt; "{:?}", token.slice)?,
+///     Item::Skipped(_) => {}
+///     Item::Fault { start, slice } => println!(rt; "byte {start}: {slice:?}")?,
+/// }
+/// ```
 #[derive(Clone, Copy, Debug, PartialEq, Eq)]
 pub enum Item<'text> {
     /// A token.

@@ -6,6 +6,16 @@ use lalrpop_lexer::Form;
 use lalrpop_lexer::lexer::dfa::Precedence;
 
 /// A named rule.
+///
+/// ```
+/// use lalrpop_rules::Rule;
+///
+/// let rules = [
+///     Rule::literal("LET", "let"),
+///     Rule::pattern("NAME", "[a-z]+"),
+///     Rule::pattern("SPACE", r"\s+").skipped(),
+/// ];
+/// ```
 #[derive(Clone, Copy, Debug, PartialEq, Eq)]
 pub struct Rule<'text> {
     /// What its tokens are called.

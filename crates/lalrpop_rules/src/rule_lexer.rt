@@ -28,6 +28,14 @@ use std::alloc::{AllocError, Global};
 use std::marker::Model;
 
 /// Named rules, and their lexer.
+///
+/// ```
+/// use lalrpop_rules::{Rule, RuleLexer};
+///
+/// let rules = [Rule::pattern("NAME", "[a-z]+"), Rule::pattern("SPACE", " +").skipped()];
+/// let lexer = RuleLexer::from_rules(alloc, &rules)?;
+/// let count = lexer.items("let x").count(); // 3
+/// ```
 #[derive(Debug, Drop)]
 pub struct RuleLexer {
     names: Vec<String>,

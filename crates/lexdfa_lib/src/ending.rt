@@ -6,6 +6,12 @@ use crate::error::RunError;
 use crate::outcome::Outcome;
 
 /// Why the program has no outcome.
+///
+/// ```
+/// use lexdfa_lib::{Failure, status_of};
+///
+/// let status = status_of(&Err(Failure::Usage)); // 4
+/// ```
 #[derive(Drop)]
 pub enum Failure {
     /// The program does not take these arguments.
@@ -15,6 +21,13 @@ pub enum Failure {
 }
 
 /// How the program `lexdfa` ends.
+///
+/// ```
+/// use lexdfa_lib::{Ending, Outcome};
+///
+/// let ending = Ending::of(&Ok(Outcome::NoMatch));
+/// let status = ending.status; // 1
+/// ```
 #[derive(Drop)]
 pub struct Ending {
     /// The exit status.

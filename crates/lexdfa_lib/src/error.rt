@@ -5,6 +5,12 @@ ghost use Rattle.lexdfa_lib.specs.Status.{error_status};
 use thiserror::Error;
 
 /// Why a run ended without an outcome.
+///
+/// ```
+/// use lexdfa_lib::RunError;
+///
+/// let status = RunError::Read.status(); // 6
+/// ```
 #[derive(Debug, Drop, Error)]
 pub enum RunError {
     /// A request for memory was refused.

@@ -8,6 +8,12 @@ use lalrpop_lexer::lexer::nfa::NfaConstructionError;
 use std::alloc::{AllocError, Global};
 
 /// What a run found. Terminals and lines are numbered from 0.
+///
+/// ```
+/// use lexdfa_lib::{Outcome, outcome_line};
+///
+/// let line = outcome_line(alloc, &Outcome::Match { terminal: 1, bytes: 6 })?; // "match 1 6\n"
+/// ```
 #[derive(Debug, PartialEq, Eq, Drop)]
 pub enum Outcome {
     /// This terminal has the longest match, of this many bytes.

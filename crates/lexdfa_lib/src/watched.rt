@@ -9,6 +9,15 @@ use std::io::{self, Read, Write};
 use std::marker::Model;
 
 /// A reader or a writer that remembers whether one of its calls has failed.
+///
+/// ```
+/// use lexdfa_lib::{Watched, run};
+///
+/// let mut reader = Watched::new("0 r [a-z]+\n".as_bytes());
+/// let mut writer = Watched::new(Vec::new(alloc));
+/// run(alloc, &mut reader, "let x", &mut writer)?;
+/// let line = writer.into_inner(); // the bytes of "match 0 3\n"
+/// ```
 #[derive(Drop)]
 pub struct Watched<T> {
     inner: T,

@@ -8,6 +8,13 @@ use std::fmt;
 use std::marker::Model;
 
 /// A word: the code values of its characters, in order. Two words are equal if their values are.
+///
+/// ```
+/// use lexdfa_lib::Word;
+///
+/// let word = Word::new(vec![in alloc; 97, 98]?);
+/// let line = format!(in alloc; "{word}")?; // " 61 62"
+/// ```
 #[derive(Debug, Drop)]
 pub struct Word {
     values: Vec<u32>,

@@ -10,6 +10,15 @@ use std::alloc::{AllocError, Global};
 use thiserror::Error;
 
 /// Why no lexer can be built from lines of terminals.
+///
+/// ```
+/// use tokens_lib::{BuildError, lexer_of};
+///
+/// let outcome = match lexer_of(alloc, b"0 r (\n") {
+///     Err(BuildError::Reported(outcome)) => Some(outcome), // the pattern of the first line has no tree
+///     _ => None,
+/// };
+/// ```
 #[derive(Debug, Drop, Error)]
 pub enum BuildError {
     /// A line is bad, a pattern doesn't parse or can't be compiled, or two terminals clash.

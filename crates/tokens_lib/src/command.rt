@@ -6,6 +6,14 @@ ghost use Rattle.tokens_lib.specs.declared.command.Command.{Command as Found};
 use crate::layout::LineForm;
 
 /// How a text is shown.
+///
+/// ```
+/// use lexdfa_lib::Watched;
+/// use tokens_lib::{Markup, write_page};
+///
+/// let mut writer = Watched::new(Vec::new(alloc));
+/// let fault = write_page(alloc, &rules, Markup::Html, "let x", &mut writer)?;
+/// ```
 #[derive(Clone, Copy, Debug, PartialEq, Eq)]
 pub enum Markup {
     /// As HTML.
@@ -15,6 +23,13 @@ pub enum Markup {
 }
 
 /// What the program has to do.
+///
+/// ```
+/// use tokens_lib::{Command, command_of};
+///
+/// let words = vec![in alloc; String::from_str(alloc, "--clashes")?, String::from_str(alloc, "c.rules")?]?;
+/// let lists_clashes = matches!(command_of(&words), Some(Command::Clashes { .. })); // true
+/// ```
 #[derive(Clone, Copy)]
 pub enum Command<'words> {
     /// Cut each of the files, or standard input if there are none, by the named rules of the file `rules`.

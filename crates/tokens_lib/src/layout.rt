@@ -1,6 +1,15 @@
 //! Which lines are written for a text.
 
 /// What the line of a piece looks like.
+///
+/// ```
+/// use lexdfa_lib::Watched;
+/// use tokens_lib::{Layout, LineForm, write_items};
+///
+/// let layout = Layout { form: LineForm::Json, recovers: true, file: None };
+/// let mut writer = Watched::new(Vec::new(alloc));
+/// let fault = write_items(alloc, &rules, &layout, "let x", &mut writer)?;
+/// ```
 #[derive(Clone, Copy, Debug, PartialEq, Eq)]
 pub enum LineForm {
     /// `LINE:COLUMN NAME "SLICE"`.
@@ -10,6 +19,13 @@ pub enum LineForm {
 }
 
 /// Which lines are written for a text, and what they look like.
+///
+/// ```
+/// use tokens_lib::{Layout, LineForm};
+///
+/// // Lines for people, which name the file, up to the first fault.
+/// let layout = Layout { form: LineForm::Plain, recovers: false, file: Some("a.txt") };
+/// ```
 #[derive(Clone, Copy, Debug)]
 pub struct Layout<'file> {
     /// What a line looks like.

@@ -9,6 +9,14 @@ use std::io::Read;
 use thiserror::Error;
 
 /// Why no text could be read.
+///
+/// ```
+/// use lexdfa_lib::Watched;
+/// use tokens_lib::{TextError, read_text};
+///
+/// let mut reader = Watched::new("".as_bytes());
+/// let is_empty = matches!(read_text(alloc, &mut reader), Err(TextError::Empty)); // true
+/// ```
 #[derive(Debug, Drop, Error)]
 pub enum TextError {
     /// The file is empty.

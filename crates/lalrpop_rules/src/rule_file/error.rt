@@ -7,6 +7,15 @@ use std::fmt::{self, Display, Formatter, Write};
 use thiserror::Error;
 
 /// What is wrong with a line.
+///
+/// ```
+/// use lalrpop_rules::{LineFault, RuleFileError, read_rules};
+///
+/// let lacks_equals = match read_rules(alloc, b"NAME /a/\n") {
+///     Err(RuleFileError::BadLine { fault, .. }) => fault == LineFault::NoEquals, // true
+///     _ => false,
+/// };
+/// ```
 #[derive(Clone, Copy, Debug, PartialEq, Eq)]
 pub enum LineFault {
     /// It isn't UTF-8.
@@ -41,6 +50,15 @@ impl Display for LineFault {
 }
 
 /// Why a file of rules can't be read.
+///
+/// ```
+/// use lalrpop_rules::{RuleFileError, read_rules};
+///
+/// let place = match read_rules(alloc, b"A = 'a'\nB /b/\n") {
+///     Err(RuleFileError::BadLine { line, column, .. }) => Some((line, column)), // (2, 3)
+///     _ => None,
+/// };
+/// ```
 #[derive(Debug, Drop, Error)]
 pub enum RuleFileError {
     /// The first line that is neither a rule nor a comment nor blank. Lines and columns count from 1, columns in characters.

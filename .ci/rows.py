@@ -1,0 +1,46 @@
+"""Reads and runs the commands of examples/sessions. The file lexdfa there says how they are written."""
+import os
+import subprocess
+import tempfile
+from collections import namedtuple
+from contextlib import contextmanager
+from pathlib import Path
+
+TOP = Path(__file__).resolve().parent.parent
+# The programs as rt ci leaves them in out/, built by LLVM and by Rattle's own compiler.
+BUILDS = ("", ".by-rattle")
+# `wanted` is what is written, what is said on standard error, and the exit status.
+Row = namedtuple("Row", "place command is_setup given wanted")
+
+
+def rows(file):
+    found = []
+    for number, line in enumerate((TOP / "examples/sessions" / file).read_text().splitlines(), 1):
+        mark, _, text = line.partition(" ")
+        if mark in ("$", "%"):
+            found.append({"row": (f"{file}:{number}", text, mark == "%"), "<": "", ">": "", "!": "", "=": "0"})
+        elif mark in ("<", ">", "!", ">-", "!-"):
+            found[-1][mark[0]] += text + "\n" * (len(mark) == 1)
+        elif mark == "=":
+            found[-1]["="] = text
+        elif mark not in ("", "#"):
+            raise SystemExit(f"{file}:{number}: no line of a row begins so")
+    return [Row(*it["row"], it["<"].encode(), (it[">"].encode(), it["!"].encode(), int(it["="]))) for it in found]
+
+
+@contextmanager
+def folder(build):
+    """A folder for the commands of a file, and the environment in which the programs' names stand for this build."""
+    with tempfile.TemporaryDirectory(prefix="rows-") as at, tempfile.TemporaryDirectory(prefix="programs-") as programs:
+        for name in ("lexdfa", "tokens"):
+            os.symlink(TOP / "crates" / name / "out" / (name + build), f"{programs}/{name}")
+        yield at, {**os.environ, "TOP": str(TOP), "PATH": f"{programs}:{os.environ['PATH']}"}
+
+
+def ran(words, given, at, env, **more):
+    """What a command comes to."""
+    try:
+        done = subprocess.run(words, input=given, capture_output=True, cwd=at, env=env, timeout=120, **more)
+    except (subprocess.TimeoutExpired, FileNotFoundError) as error:
+        return str(error)
+    return done.stdout, done.stderr, done.returncode
