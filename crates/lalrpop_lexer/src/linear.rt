@@ -2,9 +2,9 @@
 
 ghost use Rattle.std.specs.Prelude.{◌≡◌};
 
+use crate::LinearMatches;
 use lalrpop_book::{Token, TokenFault};
-use lalrpop_linear::LinearMatches;
-use lalrpop_ranges::Steps;
+use lalrpop_nfa::Steps;
 use std::iter::FusedIterator;
 use std::marker::Model;
 

@@ -1,8 +1,8 @@
 //! The automaton of a list of patterns.
 
+pub use lalrpop_build::{Clash, DfaConstructionError, NfaIndex, Precedence, build_dfa, clashes};
 pub use lalrpop_dense::{DenseDfa, Marks, Matcher};
 pub use lalrpop_dfa::{
-    Clash, Dfa, DfaConstructionError, DfaStateIndex, Kind, NfaIndex, Precedence, START, State,
-    build_dfa, clashes, interpret, lookahead, overlap,
+    Dfa, DfaStateIndex, Kind, START, State, Witness, interpret, lookahead, lookahead_witness,
 };
-pub use lalrpop_witness::{Witness, lookahead_witness};
+pub use lalrpop_nfa::overlap;
