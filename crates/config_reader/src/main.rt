@@ -3,7 +3,7 @@
 
 use anyhow::{Context, Result, bail};
 use lalrpop_lexer::Position;
-use lalrpop_rule_file::read_rules;
+use lalrpop_rules::read_rules;
 use lalrpop_rules::{Item, RuleLexer};
 use std::io::Print;
 use std::{env, fs};

@@ -3,8 +3,8 @@ use Rattle.std.proofs.Common.{◌≡◌, ℕ, ◌+◌, ◌<◌, ◌≤◌, ⊎_e
 use Rattle.std.specs.Prelude.{slice_get, Some, IsSomeAnd}
 use Rattle.std.proofs.lemmas.Bool.{cases_lt}
 use Rattle.lalrpop_book.specs.Range.{Range}
-use Rattle.lalrpop_table.specs.Dfa.{Row, StoredState, IsStored, step, edge_target}
-use Rattle.lalrpop_table.proofs.EdgeTargets.{the_some, step_of, tests_of}
+use Rattle.lalrpop_dfa.specs.Dfa.{Row, StoredState, IsStored, step, edge_target}
+use Rattle.lalrpop_dfa.proofs.EdgeTargets.{the_some, step_of, tests_of}
 use Rattle.lalrpop_dense.specs.Internal.Table.{row_of, IsRowOfKind}
 use Rattle.lalrpop_dense.specs.Internal.Runs.{IsRun, LeadsRightBelow}
 use Rattle.lalrpop_dense.specs.declared.table.Layout.{Layout}

@@ -4,14 +4,14 @@ ghost use Rattle.std.specs.Prelude.{◌≡◌, ℕ, ◌<◌, ◌++◌, List, len
 ghost use Rattle.std.specs.Str.{IsCharBoundary};
 ghost use Rattle.lalrpop_book.specs.Tree.{Tree};
 ghost use Rattle.lalrpop_book.specs.declared.token.Token.{Token as TokenValue};
-ghost use Rattle.lalrpop_table.specs.Dfa.{Recognizes};
+ghost use Rattle.lalrpop_dfa.specs.Dfa.{Recognizes};
 ghost use Rattle.lalrpop_dense.specs.Leading.{LeadTo};
 ghost use Rattle.lalrpop_dense.specs.Internal.Marks.{AreMarks};
 
 use crate::mark::{Engine, Mark};
 use crate::table::Cells;
 use lalrpop_book::Token;
-use lalrpop_table::NfaIndex;
+use lalrpop_dfa::NfaIndex;
 use std::alloc::AllocError;
 
 /// Adds the tokens that end at the marks. Returns where the last one ends.

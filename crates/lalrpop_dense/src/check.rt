@@ -2,14 +2,14 @@
 
 ghost use Rattle.std.specs.Prelude.{◌≡◌, ℕ, ◌+◌, ◌*◌, ◌<◌, ◌≤◌, length, slice_index, EachIndex, IsTrue, IfOk};
 ghost use Rattle.std.specs.List.{All};
-ghost use Rattle.lalrpop_table.specs.Dfa.{edge_target, AreAscendingTests};
-ghost use Rattle.lalrpop_table.specs.Internal.Stored.{EndBefore};
+ghost use Rattle.lalrpop_dfa.specs.Dfa.{edge_target, AreAscendingTests};
+ghost use Rattle.lalrpop_dfa.specs.Internal.Stored.{EndBefore};
 ghost use Rattle.lalrpop_dense.specs.Internal.Table.{HasClasses, IsRowOfKind, IsTableOf, LeadsRight};
 ghost use Rattle.lalrpop_dense.specs.Internal.Runs.{IsRun, IsPageAgain};
 
 use crate::table::Layout;
-use lalrpop_ranges::Test;
-use lalrpop_table::{Dfa, DfaStateIndex, Kind};
+use lalrpop_nfa::Test;
+use lalrpop_dfa::{Dfa, DfaStateIndex, Kind};
 use std::alloc::{AllocError, Global};
 
 // All characters are below this.

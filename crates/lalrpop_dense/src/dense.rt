@@ -5,8 +5,8 @@ ghost use Rattle.std.specs.Option.{option_map};
 ghost use Rattle.std.specs.Str.{IsCharBoundary, chars};
 ghost use Rattle.lalrpop_book.specs.Tree.{Tree};
 ghost use Rattle.lalrpop_book.specs.Prefix.{IsPrefix};
-ghost use Rattle.lalrpop_table.specs.Dfa.{Recognizes};
-ghost use Rattle.lalrpop_table.specs.Lookahead.{LooksAtMost};
+ghost use Rattle.lalrpop_dfa.specs.Dfa.{Recognizes};
+ghost use Rattle.lalrpop_dfa.specs.Lookahead.{LooksAtMost};
 ghost use Rattle.lalrpop_book.specs.Longest.{IsLongest};
 ghost use Rattle.lalrpop_book.specs.declared.token.Token.{Token as TokenValue};
 ghost use Rattle.lalrpop_dense.specs.Leading.{LeadTo};
@@ -22,9 +22,9 @@ use crate::mark::{Engine, Marks, mark_block};
 use crate::run::{Settled, longest_by, longest_within_by};
 use crate::table::{Layout, StoredCells, Table, stored};
 use lalrpop_book::Token;
-use lalrpop_ranges::Steps;
-use lalrpop_table::interpret::interpret_counted;
-use lalrpop_table::{Dfa, NfaIndex};
+use lalrpop_nfa::Steps;
+use lalrpop_dfa::interpret::interpret_counted;
+use lalrpop_dfa::{Dfa, NfaIndex};
 use std::alloc::{AllocError, Global};
 use std::marker::Model;
 
@@ -38,7 +38,7 @@ pub struct DenseDfa {
 
 impl Model for DenseDfa {
     ghost use Rattle.std.specs.Prelude.{List, IfSome};
-    ghost use Rattle.lalrpop_table.specs.Dfa.{Row};
+    ghost use Rattle.lalrpop_dfa.specs.Dfa.{Row};
     ghost use Rattle.lalrpop_dense.specs.Internal.Fused.{IsTable};
 
     ghost Value = { List Row };

@@ -9,7 +9,7 @@ ghost use Rattle.lalrpop_dense.specs.Internal.Marks.{AreMarks};
 use crate::fused::Fused;
 use crate::run::read_class;
 use crate::table::{Cells, Layout};
-use lalrpop_table::Dfa;
+use lalrpop_dfa::Dfa;
 use std::alloc::{AllocError, Global};
 use std::simd::prelude::*;
 

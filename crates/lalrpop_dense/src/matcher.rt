@@ -5,14 +5,14 @@ ghost use Rattle.std.specs.Option.{option_map};
 ghost use Rattle.std.specs.Str.{chars};
 ghost use Rattle.lalrpop_book.specs.Tree.{Tree};
 ghost use Rattle.lalrpop_book.specs.Prefix.{IsPrefix};
-ghost use Rattle.lalrpop_table.specs.Dfa.{Row, Recognizes};
-ghost use Rattle.lalrpop_table.specs.Lookahead.{LooksAtMost};
+ghost use Rattle.lalrpop_dfa.specs.Dfa.{Row, Recognizes};
+ghost use Rattle.lalrpop_dfa.specs.Lookahead.{LooksAtMost};
 ghost use Rattle.lalrpop_book.specs.Longest.{IsLongest};
 
 use crate::dense::DenseDfa;
-use lalrpop_ranges::Steps;
-use lalrpop_table::interpret::interpret_counted;
-use lalrpop_table::{Dfa, NfaIndex};
+use lalrpop_nfa::Steps;
+use lalrpop_dfa::interpret::interpret_counted;
+use lalrpop_dfa::{Dfa, NfaIndex};
 
 /// What finds the longest match at the start of a text by an automaton.
 pub trait Matcher: Drop {

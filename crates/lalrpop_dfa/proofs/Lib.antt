@@ -1,35 +1,27 @@
-mod Cases
-pub mod WordOrder
-pub mod Origins
-pub mod BreadthFirst
-pub mod Steps
-pub mod ReachedItems
-pub mod Dead
-pub mod Bests
-pub mod LeavingBlocks
-pub mod SetWinners
-pub mod BuiltTable
-pub mod TiedClash
-pub mod StateCount
-pub mod Firsts
-pub mod ClashLists
-pub mod ClashListLaws
-pub mod AllClashes
-pub mod TieSteps
-pub mod RowSteps
-pub mod Adding
-pub mod Builds
-pub mod Compiling
-mod Leavings
-mod Noted
-mod MarkedGroups
-mod BoundaryBlocks
-mod LaidOut
-mod ClassMemo
-mod MemoLaws
-mod StageLaws
-mod BoundaryEdges
-mod LiveItems
+pub mod Cases
+pub mod EdgeTargets
+pub mod StepLists
+pub mod StoredRows
+pub mod LongestLemmas
+pub mod SameTables
+pub mod Lookaheads
+pub mod Trails
+pub mod Settled
+pub mod Marking
+-- a law for callers
+pub mod AfterLaws
+-- numbers of kernels
+pub mod NumberedLemmas
+-- sets of items
+pub mod ItemTies
+pub mod FullSets
+pub mod SetOrder
+-- the least value by which the edges of a state lead to some states
+pub mod LeastValues
+-- words that are read off value by value are the least
+pub mod Greedy
+-- depths and distances of states, and the words that they lead to
+pub mod Ranked
+pub mod Walks
 -- laws for callers
-pub mod Agreeing
-pub use Rattle.lalrpop_table.proofs.AfterLaws
+pub mod WitnessLaws

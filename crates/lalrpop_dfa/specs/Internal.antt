@@ -1,11 +1,15 @@
-pub mod BreadthFirst
-pub mod Built
-pub mod Expansion
-pub mod Best
-pub mod Blocks
-pub mod Transitions
-pub mod Scratch
-pub mod Memo
-pub mod Stage
-pub mod Labelled
-pub mod Ties
+-- rows that are being written
+pub mod Written
+pub mod SameLaws
+pub mod Stored
+pub mod Marks
+-- numbers of kernels
+pub mod Numbered
+-- items, and sets of them
+pub mod Ascending
+pub mod LiveItems
+pub mod ItemOrder
+pub mod Split
+pub mod OrderLaws
+-- depths and distances of states
+pub mod Ranks

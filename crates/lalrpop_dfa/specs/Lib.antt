@@ -1,23 +1,18 @@
 -- from the book: what this crate's contracts name
-pub use Rattle.lalrpop_book.specs.Word
 pub use Rattle.lalrpop_book.specs.Tree
 pub use Rattle.lalrpop_book.specs.Language
-pub use Rattle.lalrpop_book.specs.Fault
 pub use Rattle.lalrpop_book.specs.Prefix
 pub use Rattle.lalrpop_book.specs.Winners
 pub use Rattle.lalrpop_book.specs.Longest
-pub use Rattle.lalrpop_book.specs.Clash
-pub use Rattle.lalrpop_book.specs.Clashes
-pub use Rattle.lalrpop_book.specs.Report
--- from the crates below: what this crate's contracts name
-pub use Rattle.lalrpop_ranges.specs.Partition
-pub use Rattle.lalrpop_kernels.specs.Kernels
-pub use Rattle.lalrpop_items.specs.Automata
-pub use Rattle.lalrpop_table.specs.Dfa
-pub use Rattle.lalrpop_table.specs.Counts
-pub use Rattle.lalrpop_table.specs.Lookahead
-pub use Rattle.lalrpop_table.specs.SameAutomata
-pub mod Items
-pub mod Agree
+-- numbered lists of distinct kernels
+pub mod Kernels
+-- the automata of some trees
+pub mod Automata
+-- the automaton of a list of patterns
+pub mod Dfa
+pub mod Counts
+pub mod Lookahead
+pub mod Witness
+pub mod SameAutomata
 -- what private functions promise each other; public clauses do not name it
 pub mod Internal

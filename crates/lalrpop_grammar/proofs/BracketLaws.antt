@@ -5,11 +5,11 @@ use Rattle.std.specs.Char.{is_ascii_lowercase}
 use Rattle.std.proofs.lemmas.List.{append-nil}
 use Rattle.std.proofs.lemmas.Bool.{leb-true, le-leb, and_parts, eqb-true}
 use Rattle.lalrpop_grammar.specs.Text.{Text, ◌▸◌, begins}
-use Rattle.lalrpop_sets.specs.CharacterSet.{is_one_of, Set, range, union_all, complement}
+use Rattle.lalrpop_grammar.specs.CharacterSet.{is_one_of, Set, range, union_all, complement}
 use Rattle.lalrpop_grammar.specs.declared.flags.Flags.{Flags}
 use Rattle.lalrpop_grammar.specs.Escape.{Escaped, character, set, assertion}
 use Rattle.lalrpop_grammar.specs.Bracket.{leaf, leaves, leaf_or_complement, SetOperator, Intersection, Difference, SymmetricDifference, spelling, apply, ends_operand, begins_range, begins_primary, Posix, a_class, a_complement, NoPosix, Primary, escaped, plain, Stands, a_character, a_set, Hyphens, last, more, Lead, hyphens, closing, none, Item, a_posix, a_bracket, a_primary, a_range, Operand, no_item, item_then, Operands, first, operated, Bracket, a_bracket_of, a_negated_of}
-use Rattle.lalrpop_sets.specs.PosixSet.{posix_set}
+use Rattle.lalrpop_grammar.specs.PosixSet.{posix_set}
 use Rattle.lalrpop_grammar.specs.Internal.Reading.{◌>>=◌, span, posix_named, posix, primary, range_of, operator_of, past_hyphens, lead, SetPart, Union, stands, simple_item, item_or, item, operand, whole_operand, operations, all_operations, operands, bracket_with, bracket}
 use Rattle.lalrpop_grammar.proofs.Steps.{bind_some, bind_same, some_is, chosen, guarded, decided, not_false, starts_is, span_joins, span_passes, span_is, is_one, or_parts}
 use Rattle.lalrpop_grammar.proofs.Escapes.{Escape-shorter, escape_sound, Escape-complete}

@@ -7,3 +7,6 @@ mod Bracket
 mod Operator
 pub mod Pattern
 mod Escaped
+pub mod CharacterSet
+mod NamedSet
+mod PosixSet

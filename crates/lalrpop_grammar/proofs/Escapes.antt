@@ -6,7 +6,7 @@ use Rattle.std.proofs.lemmas.List.{take-append-drop}
 use Rattle.std.proofs.Math.Seq.{take-append_seam, drop-append_seam}
 use Rattle.std.proofs.lemmas.Bool.{ltb-true, lt-ltb, eqb-true, eq-eqb, and_parts}
 use Rattle.lalrpop_grammar.specs.Text.{Text, ◌▸◌, begins}
-use Rattle.lalrpop_sets.specs.CharacterSet.{Set, is_scalar}
+use Rattle.lalrpop_grammar.specs.CharacterSet.{Set, is_scalar}
 use Rattle.lalrpop_book.specs.declared.look.Look.TheVariants.{WordUnicode, WordStartUnicode, WordEndUnicode, WordStartHalfUnicode, WordEndHalfUnicode}
 use Rattle.lalrpop_grammar.specs.Escape.{Escaped, character, set, assertion, Sign, this, code, property, edge, unknown, sign, hex_value, is_set_name_char, IsHex, IsSetName, Signed, at_once, digits_alone, digits_braced, letter_alone, name_braced, edge_alone, edge_start, edge_end, edge_half_start, edge_half_end, Escape, escape_of}
 use Rattle.lalrpop_grammar.specs.Internal.Reading.{span, hex, digits_of, name_of, set_named, signed, escape}

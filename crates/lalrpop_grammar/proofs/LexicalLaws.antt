@@ -8,7 +8,7 @@ use Rattle.unicode.specs.Binary.{is_white_space}
 use Rattle.unicode.proofs.PropsStdLemmas.{is_white_space-std}
 use Rattle.unicode.proofs.PropsComputing.{ucd_props}
 use Rattle.lalrpop_grammar.specs.Text.{Text, begins}
-use Rattle.lalrpop_sets.specs.CharacterSet.{is_one_of}
+use Rattle.lalrpop_grammar.specs.CharacterSet.{is_one_of}
 use Rattle.lalrpop_grammar.specs.declared.flags.Flags.{Flags}
 use Rattle.lalrpop_grammar.specs.Operator.{decimal, Count, count, Bounds, optional, any_number, one_or_more, exactly, at_least, between, Operator, alone, turned}
 use Rattle.lalrpop_grammar.specs.Internal.Reading as reading

@@ -8,3 +8,10 @@ pub mod PatternLaws
 pub mod SetLaws
 mod NameLaws
 mod EscapedLemmas
+-- sets of characters
+pub mod CanonLaws
+pub mod SpanLaws
+mod SetNameLaws
+mod PosixLaws
+mod FoldTable
+mod FoldLaws

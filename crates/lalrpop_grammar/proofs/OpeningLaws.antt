@@ -6,7 +6,7 @@ use Rattle.std.proofs.lemmas.List.{append-nil}
 use Rattle.unicode.proofs.DerivedComputing.{ucd_derived}
 use Rattle.unicode.proofs.CategoryComputing.{ucd_category}
 use Rattle.lalrpop_grammar.specs.Text.{Text, ◌▸◌, begins}
-use Rattle.lalrpop_sets.specs.CharacterSet.{is_one_of}
+use Rattle.lalrpop_grammar.specs.CharacterSet.{is_one_of}
 use Rattle.lalrpop_grammar.specs.declared.flags.Flags.{Flags}
 use Rattle.lalrpop_grammar.specs.Flag.{FlagLetters, on, on_and_off, is_distinct, with_flags}
 use Rattle.lalrpop_grammar.specs.GroupName.{is_name, begins_name, continues_name}

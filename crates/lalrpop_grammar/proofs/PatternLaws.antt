@@ -3,7 +3,7 @@ use Rattle.std.proofs.Common.{◌≡◌, ℕ, zero, suc, ◌+◌, ◌-◌, ◌<�
 use Rattle.std.proofs.lemmas.List.{append-nil}
 use Rattle.std.proofs.lemmas.Bool.{ltb-true, lt-ltb, and_parts, eqb-true}
 use Rattle.lalrpop_grammar.specs.Text.{Text, ◌▸◌, begins}
-use Rattle.lalrpop_sets.specs.CharacterSet.{is_one_of, Set, set_tree}
+use Rattle.lalrpop_grammar.specs.CharacterSet.{is_one_of, Set, set_tree}
 use Rattle.lalrpop_book.specs.Tree.{Tree, capture, look, repetition}
 use Rattle.lalrpop_grammar.specs.GroupName.{names}
 use Rattle.lalrpop_grammar.specs.declared.flags.Flags.{Flags}

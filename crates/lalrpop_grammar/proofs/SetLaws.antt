@@ -13,11 +13,11 @@ use Rattle.lalrpop_book.specs.Tree.{literal, class, unicode}
 use Rattle.lalrpop_hir.specs.Parts.{of_text}
 use Rattle.lalrpop_hir.proofs.Complements.{IsCanon-same}
 use Rattle.lalrpop_grammar.specs.declared.flags.Flags.{Flags}
-use Rattle.lalrpop_sets.specs.CharacterSet.{Set, is_scalar, nothing, just, range, complement, fold, canon, set_tree, Members, HasRuns}
+use Rattle.lalrpop_grammar.specs.CharacterSet.{Set, is_scalar, nothing, just, range, complement, fold, canon, set_tree, Members, HasRuns}
 use Rattle.lalrpop_grammar.specs.Bracket.{leaf}
 use Rattle.lalrpop_grammar.specs.Pattern.{is_one_member, literal_tree}
-use Rattle.lalrpop_sets.proofs.CanonLaws.{IsScalar-is_scalar, HasRuns-canon}
-use Rattle.lalrpop_sets.proofs.SpanLaws.{HasRuns-same}
+use Rattle.lalrpop_grammar.proofs.CanonLaws.{IsScalar-is_scalar, HasRuns-canon}
+use Rattle.lalrpop_grammar.proofs.SpanLaws.{HasRuns-same}
 
 is_not : (b : Bool) → (not b ≡ true) ↔ (¬ (b ≡ true))
 is_not true = (λ h. absurd cc, λ h. absurd (h refl))

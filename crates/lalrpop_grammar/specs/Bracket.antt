@@ -5,8 +5,8 @@ use Rattle.std.specs.Bool.{xor}
 use Rattle.std.specs.List.{list_all}
 use Rattle.std.specs.Char.{is_ascii_lowercase}
 use Rattle.lalrpop_grammar.specs.Text.{Text, ◌▸◌, begins}
-use Rattle.lalrpop_sets.specs.CharacterSet.{Set, just, range, union_all, complement, fold, is_one_of}
-use Rattle.lalrpop_sets.specs.PosixSet.{posix_set}
+use Rattle.lalrpop_grammar.specs.CharacterSet.{Set, just, range, union_all, complement, fold, is_one_of}
+use Rattle.lalrpop_grammar.specs.PosixSet.{posix_set}
 use Rattle.lalrpop_grammar.specs.declared.flags.Flags.{Flags}
 use Rattle.lalrpop_grammar.specs.Escape.{Escape, Escaped, character, set}
 

@@ -7,8 +7,8 @@ use Rattle.unicode.specs.Perl.{is_digit_char, is_space_char, is_word_char}
 use Rattle.lalrpop_book.specs.declared.look.Look.{Look}
 use Rattle.lalrpop_book.specs.declared.look.Look.TheVariants.{WordUnicode, WordUnicodeNegate, WordStartUnicode, WordEndUnicode, WordStartHalfUnicode, WordEndHalfUnicode, Start, End}
 use Rattle.lalrpop_grammar.specs.Text.{Text, ◌▸◌, begins}
-use Rattle.lalrpop_sets.specs.CharacterSet.{Set, is_scalar, is_one_of}
-use Rattle.lalrpop_sets.specs.NamedSet.{named}
+use Rattle.lalrpop_grammar.specs.CharacterSet.{Set, is_scalar, is_one_of}
+use Rattle.lalrpop_grammar.specs.NamedSet.{named}
 
 -- what an escape stands for: a character, a set before folding and whether it is complemented, or a look
 pub data Escaped : Type 0 where

@@ -2,7 +2,7 @@
 -- The text of a pattern in which each character stands for itself.
 use Rattle.std.specs.Prelude.{ℕ, Bool, List, [], ◌∷◌, if◌then◌else◌, codes}
 use Rattle.lalrpop_grammar.specs.Text.{Text, ◌▸◌}
-use Rattle.lalrpop_sets.specs.CharacterSet.{is_one_of}
+use Rattle.lalrpop_grammar.specs.CharacterSet.{is_one_of}
 
 abbrev pub is_escaped : ℕ → Bool
 is_escaped c = is_one_of "\\.+*?()|[]{}^$#&-~" c

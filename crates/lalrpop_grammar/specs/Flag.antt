@@ -4,7 +4,7 @@ use Rattle.std.specs.Prelude.{ℕ, ◌<◌, Bool, true, false, not, ◌&&◌, �
 use Rattle.std.specs.List.{list_all, list_any}
 use Rattle.lalrpop_grammar.specs.declared.flags.Flags.{Flags}
 use Rattle.lalrpop_grammar.specs.Text.{◌▸◌}
-use Rattle.lalrpop_sets.specs.CharacterSet.{is_one_of}
+use Rattle.lalrpop_grammar.specs.CharacterSet.{is_one_of}
 
 -- the flags under which reading begins
 abbrev pub no_flags : Flags

@@ -7,7 +7,7 @@ use Rattle.unicode.specs.GeneralCategory.{general_category}
 use Rattle.unicode.specs.GeneralCategoryGroup.{in_group}
 use Rattle.unicode.specs.declared.properties.GeneralCategoryGroup.TheVariants.{Number}
 use Rattle.lalrpop_book.specs.Tree.{Tree, empty, literal, class, look, repetition, capture, concat, alternation, Trees, none, also}
-use Rattle.lalrpop_sets.specs.CharacterSet.{is_one_of}
+use Rattle.lalrpop_grammar.specs.CharacterSet.{is_one_of}
 
 -- `_` or an Alphabetic character
 abbrev pub begins_name : ℕ → Bool

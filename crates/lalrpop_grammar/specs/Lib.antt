@@ -1,3 +1,7 @@
+-- Sets of characters and their runs, named sets, POSIX classes.
+pub mod CharacterSet
+pub mod NamedSet
+pub mod PosixSet
 -- What a pattern stands for, in reading order: characters, flags, names, escapes, brackets, operators, patterns.
 pub mod Text
 pub mod Flag
@@ -19,7 +23,3 @@ pub use Rattle.lalrpop_hir.specs.Parts
 pub use Rattle.lalrpop_hir.specs.Size
 pub use Rattle.lalrpop_hir.specs.Level
 pub use Rattle.lalrpop_book.specs.Language
--- the definitions of sets of characters, for callers
-pub use Rattle.lalrpop_sets.specs.CharacterSet
-pub use Rattle.lalrpop_sets.specs.NamedSet
-pub use Rattle.lalrpop_sets.specs.PosixSet

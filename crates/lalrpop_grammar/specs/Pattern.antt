@@ -6,7 +6,7 @@ use Rattle.lalrpop_book.specs.Tree.{Tree, empty, literal, look, repetition, capt
 use Rattle.lalrpop_hir.specs.Parts.{trees}
 use Rattle.lalrpop_book.specs.declared.look.Look.TheVariants.{Start, End, StartLF, EndLF}
 use Rattle.lalrpop_grammar.specs.Text.{Text, ◌▸◌}
-use Rattle.lalrpop_sets.specs.CharacterSet.{Set, just, complement, nothing, fold, canon, set_tree, is_one_of}
+use Rattle.lalrpop_grammar.specs.CharacterSet.{Set, just, complement, nothing, fold, canon, set_tree, is_one_of}
 use Rattle.lalrpop_grammar.specs.declared.flags.Flags.{Flags}
 use Rattle.lalrpop_grammar.specs.Flag.{no_flags, FlagLetters}
 use Rattle.lalrpop_grammar.specs.GroupName.{is_name, names, are_distinct}

@@ -1,12 +1,12 @@
 //! The sets of leaves and the trees of sets, under the flags.
 ghost use Rattle.std.specs.Prelude.{◌≡◌, ◌≤◌, IfOk};
-ghost use Rattle.lalrpop_sets.specs.CharacterSet.{Set, range, set_tree, HasRuns};
+ghost use Rattle.lalrpop_grammar.specs.CharacterSet.{Set, range, set_tree, HasRuns};
 ghost use Rattle.lalrpop_grammar.specs.Bracket.{leaf, leaf_or_complement};
 ghost use Rattle.lalrpop_grammar.specs.Pattern.{literal_tree, dot_tree, is_one_member};
 
 use crate::flags::Flags;
 use lalrpop_hir::{Class, ClassUnicode, Hir};
-use lalrpop_sets::{fold, range_class};
+use crate::{fold, range_class};
 use std::alloc::{AllocError, Global};
 
 /// The set of a leaf with the characters from `low` to `high`; under the flag `i`, with all their foldings too.

@@ -6,7 +6,7 @@ use Rattle.lalrpop_book.specs.Tree.{Tree}
 use Rattle.lalrpop_book.specs.Tokens.{AreTokens}
 use Rattle.lalrpop_book.specs.declared.token.Token.{Token}
 use Rattle.lalrpop_book.specs.declared.token.TokenFault.{TokenFault}
-use Rattle.lalrpop_table.specs.Dfa.{Row}
+use Rattle.lalrpop_dfa.specs.Dfa.{Row}
 use Rattle.lalrpop_lexer.specs.Cutting.{start_of}
 use Rattle.lalrpop_lexer.specs.Counting.{Counting, GivesCounted}
 use Rattle.lalrpop_lexer.specs.LinearCutting.{LinearCutting, GivesLinear}

@@ -11,3 +11,4 @@ pub mod Terminals
 mod Counting
 mod LinearCutting
 mod BoundedCutting
+pub mod Matching

@@ -6,8 +6,8 @@ use Rattle.std.specs.Str.{chars, IsUtf8}
 use Rattle.std.proofs.lemmas.Str.{chars-append}
 use Rattle.lalrpop_book.specs.Tree.{Tree}
 use Rattle.lalrpop_book.specs.Prefix.{IsPrefix}
-use Rattle.lalrpop_table.specs.Dfa.{Row}
-use Rattle.lalrpop_table.specs.Lookahead.{LooksAtMost}
+use Rattle.lalrpop_dfa.specs.Dfa.{Row}
+use Rattle.lalrpop_dfa.specs.Lookahead.{LooksAtMost}
 use Rattle.lalrpop_lexer.specs.Cutting.{Cutting, start_of, rest_of, left_of, GivesItem}
 use Rattle.lalrpop_book.specs.Tokens.{Item}
 use Rattle.lalrpop_lexer.specs.LexerTokens.{GivesToken}

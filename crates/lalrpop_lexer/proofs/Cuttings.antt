@@ -7,7 +7,7 @@ use Rattle.std.proofs.lemmas.Str.{IsCharBoundary-from_take, IsUtf8-drop, encodes
 use Rattle.std.proofs.lemmas.List.{take_at, drop_at, drop-drop}
 use Rattle.lalrpop_book.specs.Tree.{Tree}
 use Rattle.lalrpop_book.specs.Prefix.{IsPrefix}
-use Rattle.lalrpop_table.specs.Dfa.{Row, Recognizes}
+use Rattle.lalrpop_dfa.specs.Dfa.{Row, Recognizes}
 use Rattle.lalrpop_lexer.specs.Cutting.{Cutting, start_of, rest_of, left_of, GivesItem}
 use Rattle.lalrpop_book.specs.Tokens.{Item, AreItems, slices}
 

@@ -5,7 +5,7 @@ use Rattle.std.specs.Iterator.{Yields, Drains}
 use Rattle.std.specs.Str.{chars, IsUtf8}
 use Rattle.std.proofs.lemmas.List.{length-map}
 use Rattle.lalrpop_book.specs.Tree.{Tree}
-use Rattle.lalrpop_table.specs.Dfa.{Row}
+use Rattle.lalrpop_dfa.specs.Dfa.{Row}
 use Rattle.lalrpop_book.specs.Clash.{NoClash}
 use Rattle.lalrpop_book.proofs.Strongest.{IsOnlyStrongest-from_greatest}
 use Rattle.lalrpop_lexer.specs.Cutting.{Cutting, start_of, rest_of, GivesItem}

@@ -16,11 +16,18 @@ pub mod TerminalLaws
 pub mod SpelledTexts
 -- what the definitions mean: the clash, the list of clashes and the longest match are unique
 pub use Rattle.lalrpop_book.proofs.ClashLaws
-pub use Rattle.lalrpop_dfa.proofs.ClashListLaws
+pub use Rattle.lalrpop_build.proofs.ClashListLaws
 pub use Rattle.lalrpop_book.proofs.Longests
 -- what follows from the clauses, for callers
-pub use Rattle.lalrpop_ranges.proofs.PartitionLaws
+pub use Rattle.lalrpop_nfa.proofs.PartitionLaws
 pub use Rattle.lalrpop_book.proofs.Strongest
-pub use Rattle.lalrpop_dfa.proofs.Agreeing
-pub use Rattle.lalrpop_dfa.proofs.AfterLaws
-pub use Rattle.lalrpop_witness.proofs.WitnessLaws
+pub use Rattle.lalrpop_build.proofs.Agreeing
+pub use Rattle.lalrpop_build.proofs.AfterLaws
+pub use Rattle.lalrpop_dfa.proofs.WitnessLaws
+-- states from which no match comes, and what a run knows of those that are noted
+pub mod Hopes
+pub mod Kept
+pub mod Walks
+-- the memory, and how far the matches have been found
+pub mod Marks
+pub mod Standings

@@ -8,7 +8,7 @@ use Rattle.lalrpop_book.specs.Tokens.{AreTokens}
 use Rattle.lalrpop_book.specs.Tree.{Tree}
 use Rattle.lalrpop_book.specs.declared.token.Token.{Token}
 use Rattle.lalrpop_book.specs.declared.token.TokenFault.{TokenFault}
-use Rattle.lalrpop_table.specs.Dfa.{Row}
+use Rattle.lalrpop_dfa.specs.Dfa.{Row}
 use Rattle.lalrpop_lexer.specs.Cutting.{Cutting, start_of, rest_of, left_of}
 use Rattle.lalrpop_lexer.specs.LexerTokens.{GivesToken}
 use Rattle.lalrpop_lexer.specs.LinearCutting.{LinearCutting, with_credit, GivesLinear}

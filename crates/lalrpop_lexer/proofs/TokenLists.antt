@@ -10,7 +10,7 @@ use Rattle.lalrpop_book.specs.Tokens.{AreTokens}
 use Rattle.lalrpop_book.specs.declared.token.Token.{Token}
 use Rattle.lalrpop_book.specs.declared.token.TokenFault.{TokenFault}
 use Rattle.lalrpop_book.proofs.Strongest.{IsOnlyStrongest-from_greatest}
-use Rattle.lalrpop_table.specs.Dfa.{Row, Recognizes}
+use Rattle.lalrpop_dfa.specs.Dfa.{Row, Recognizes}
 use Rattle.lalrpop_dense.specs.Leading.{LeadTo}
 
 -- tokens that lead on from where others end

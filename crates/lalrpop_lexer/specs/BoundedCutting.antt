@@ -2,8 +2,8 @@
 -- Cutting a text into tokens in the way that has a bounded cost.
 use Rattle.std.specs.Prelude.{ℕ, ◌+◌, ◌*◌, List, length, Option, Some, None, Result}
 use Rattle.std.specs.Str.{chars}
-use Rattle.lalrpop_table.specs.Dfa.{Row}
-use Rattle.lalrpop_linear.specs.Matching.{open_states}
+use Rattle.lalrpop_dfa.specs.Dfa.{Row}
+use Rattle.lalrpop_lexer.specs.Matching.{open_states}
 use Rattle.lalrpop_lexer.specs.Cutting.{Cutting}
 use Rattle.lalrpop_lexer.specs.Counting.{GivesCounted}
 use Rattle.lalrpop_lexer.specs.LinearCutting.{GivesLinear}

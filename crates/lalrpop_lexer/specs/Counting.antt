@@ -1,8 +1,8 @@
 -- cases: proofs/Cases/Counting.antt
 -- The cost of cutting a text into tokens.
 use Rattle.std.specs.Prelude.{◌≡◌, ℕ, ◌+◌, ◌*◌, ◌≤◌, List, Option, Result, IfNone}
-use Rattle.lalrpop_table.specs.Dfa.{Row}
-use Rattle.lalrpop_table.specs.Lookahead.{LooksAtMost}
+use Rattle.lalrpop_dfa.specs.Dfa.{Row}
+use Rattle.lalrpop_dfa.specs.Lookahead.{LooksAtMost}
 use Rattle.lalrpop_lexer.specs.Cutting.{Cutting, start_of, left_of}
 use Rattle.lalrpop_lexer.specs.LexerTokens.{GivesToken}
 use Rattle.lalrpop_book.specs.declared.token.Token.{Token}

@@ -6,7 +6,7 @@ use Rattle.lalrpop_book.specs.Tree.{Tree}
 use Rattle.lalrpop_book.specs.Prefix.{IsPrefix}
 use Rattle.lalrpop_book.specs.Longest.{IsLongest}
 use Rattle.lalrpop_book.specs.Tokens.{Item}
-use Rattle.lalrpop_table.specs.Dfa.{Row, Recognizes}
+use Rattle.lalrpop_dfa.specs.Dfa.{Row, Recognizes}
 
 -- a text that an automaton cuts: where its rest begins, in bytes, and whether there was a fault
 pub record Cutting : Type 0 where

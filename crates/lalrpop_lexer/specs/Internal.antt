@@ -1,2 +1,6 @@
 pub mod Places
 pub mod Code
+-- matches in linear time
+pub mod Memory
+pub mod Hopeless
+pub mod Standing

@@ -1,3 +1,4 @@
+pub mod Matching
 pub mod Cutting
 pub mod LexerTokens
 pub mod Counting
@@ -43,8 +44,8 @@ pub use Rattle.lalrpop_re.specs.Pattern
 pub use Rattle.lalrpop_re.specs.Escaped
 pub use Rattle.lalrpop_re.specs.Refusal
 -- from ranges and the automaton of one pattern,
-pub use Rattle.lalrpop_ranges.specs.Meet
-pub use Rattle.lalrpop_ranges.specs.Partition
+pub use Rattle.lalrpop_nfa.specs.Meet
+pub use Rattle.lalrpop_nfa.specs.Partition
 pub use Rattle.lalrpop_nfa.specs.Graph
 pub use Rattle.lalrpop_nfa.specs.Path
 pub use Rattle.lalrpop_nfa.specs.Compiled
@@ -54,16 +55,15 @@ pub use Rattle.lalrpop_nfa.specs.StateView
 pub use Rattle.lalrpop_nfa.specs.Lending
 pub use Rattle.lalrpop_nfa.specs.Contiguous
 -- and from the automaton of a list of patterns; the name `Counts` is taken by the one for trees
-pub use Rattle.lalrpop_kernels.specs.Kernels
-pub use Rattle.lalrpop_items.specs.Automata
-pub use Rattle.lalrpop_table.specs.Dfa
-pub use Rattle.lalrpop_table.specs.Counts as StateCounts
-pub use Rattle.lalrpop_table.specs.Lookahead
-pub use Rattle.lalrpop_witness.specs.Witness
-pub use Rattle.lalrpop_table.specs.SameAutomata
+pub use Rattle.lalrpop_dfa.specs.Kernels
+pub use Rattle.lalrpop_dfa.specs.Automata
+pub use Rattle.lalrpop_dfa.specs.Dfa
+pub use Rattle.lalrpop_dfa.specs.Counts as StateCounts
+pub use Rattle.lalrpop_dfa.specs.Lookahead
+pub use Rattle.lalrpop_dfa.specs.Witness
+pub use Rattle.lalrpop_dfa.specs.SameAutomata
 pub use Rattle.lalrpop_dense.specs.Leading
-pub use Rattle.lalrpop_linear.specs.Matching
-pub use Rattle.lalrpop_dfa.specs.Items
-pub use Rattle.lalrpop_dfa.specs.Agree
+pub use Rattle.lalrpop_build.specs.Items
+pub use Rattle.lalrpop_build.specs.Agree
 -- used by proofs only
 pub mod Internal

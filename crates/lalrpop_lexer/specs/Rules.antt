@@ -3,7 +3,7 @@
 use Rattle.std.specs.Prelude.{ℕ, List}
 use Rattle.lalrpop_book.specs.Tree.{Tree}
 use Rattle.lalrpop_book.specs.Clash.{NoClash}
-use Rattle.lalrpop_table.specs.Dfa.{Row, Recognizes}
+use Rattle.lalrpop_dfa.specs.Dfa.{Row, Recognizes}
 
 -- the trees of a list of patterns, their precedences, and the states of the automaton
 pub record Rules : Type 0 where

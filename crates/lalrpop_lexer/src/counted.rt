@@ -4,7 +4,7 @@ ghost use Rattle.std.specs.Prelude.{◌≡◌};
 
 use crate::lexer_token::LexerTokens;
 use lalrpop_book::{Token, TokenFault};
-use lalrpop_ranges::Steps;
+use lalrpop_nfa::Steps;
 use std::iter::FusedIterator;
 use std::marker::Model;
 

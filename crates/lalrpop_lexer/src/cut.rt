@@ -4,7 +4,7 @@ ghost use Rattle.std.specs.Prelude.{◌≡◌, ℕ, ◌≤◌, ◌++◌, List, N
 ghost use Rattle.std.specs.Iterator.{Drains, Yields};
 ghost use Rattle.std.specs.Str.{chars};
 ghost use Rattle.lalrpop_book.specs.Tree.{Tree};
-ghost use Rattle.lalrpop_table.specs.Dfa.{Recognizes};
+ghost use Rattle.lalrpop_dfa.specs.Dfa.{Recognizes};
 ghost use Rattle.lalrpop_lexer.specs.Cutting.{Cutting, start_of, rest_of, GivesItem};
 ghost use Rattle.lalrpop_book.specs.Tokens.{Item, AreItems, slices};
 

@@ -4,7 +4,7 @@ ghost use Rattle.lalrpop_lexer.specs.LexerErrors.{of_regex, of_construction};
 ghost use Rattle.lalrpop_lexer.specs.declared.error.LexerError.TheVariants.{OutOfMemory};
 
 use crate::shown_word::ShownWord;
-use lalrpop_dfa::DfaConstructionError;
+use lalrpop_build::DfaConstructionError;
 use lalrpop_nfa::NfaConstructionError;
 use lalrpop_re::{RegexError, SyntaxKind};
 use std::alloc::{AllocError, AllocFailed};

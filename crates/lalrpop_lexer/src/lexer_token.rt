@@ -5,7 +5,7 @@ ghost use Rattle.std.specs.Prelude.{◌≡◌};
 use crate::token::Tokens;
 use lalrpop_book::{Token, TokenFault};
 use lalrpop_dense::DenseDfa;
-use lalrpop_ranges::Steps;
+use lalrpop_nfa::Steps;
 use std::iter::FusedIterator;
 use std::marker::Model;
 
@@ -25,7 +25,7 @@ impl<'text> Model for LexerTokens<'text> {
 
 impl<'text> LexerTokens<'text> {
     ghost use Rattle.std.specs.Prelude.{ℕ, ◌+◌, ◌*◌, ◌≤◌, ◌<◌, IfNone, OnSome};
-    ghost use Rattle.lalrpop_table.specs.Lookahead.{LooksAtMost};
+    ghost use Rattle.lalrpop_dfa.specs.Lookahead.{LooksAtMost};
     ghost use Rattle.lalrpop_lexer.specs.Cutting.{rest_of, left_of};
     ghost use Rattle.lalrpop_lexer.specs.LexerTokens.{GivesToken};
 

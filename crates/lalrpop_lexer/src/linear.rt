@@ -3,8 +3,8 @@
 ghost use Rattle.std.specs.Prelude.{◌≡◌};
 
 use lalrpop_book::{Token, TokenFault};
-use lalrpop_linear::LinearMatches;
-use lalrpop_ranges::Steps;
+use crate::LinearMatches;
+use lalrpop_nfa::Steps;
 use std::iter::FusedIterator;
 use std::marker::Model;
 

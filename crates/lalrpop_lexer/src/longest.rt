@@ -7,7 +7,7 @@ ghost use Rattle.lalrpop_book.specs.Longest.{IsLongest};
 ghost use Rattle.lalrpop_book.specs.Report.{NoFault, IsReport};
 
 use lalrpop_dfa::interpret::interpret;
-use lalrpop_dfa::{DfaConstructionError, NfaIndex, Precedence, build_dfa};
+use lalrpop_build::{DfaConstructionError, NfaIndex, Precedence, build_dfa};
 use lalrpop_re::Regex;
 use std::alloc::Global;
 

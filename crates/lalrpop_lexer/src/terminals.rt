@@ -4,7 +4,7 @@ ghost use Rattle.lalrpop_lexer.specs.Terminals.{AreSaid};
 
 use crate::line::split_line;
 use crate::meaning::{Meaning, meaning_of};
-use lalrpop_dfa::Precedence;
+use lalrpop_build::Precedence;
 use lalrpop_re::Regex;
 use std::alloc::{AllocError, Global};
 

@@ -5,7 +5,7 @@ ghost use Rattle.std.specs.Prelude.{◌≡◌};
 use lalrpop_book::{NfaIndex, TokenFault};
 use lalrpop_dense::Matcher;
 use lalrpop_dfa::Dfa;
-use lalrpop_ranges::Steps;
+use lalrpop_nfa::Steps;
 use std::iter::FusedIterator;
 use std::marker::Model;
 
@@ -40,7 +40,7 @@ impl<'text, M: Matcher> Model for Tokens<'text, M> {
 
 impl<'text, M: Matcher> Tokens<'text, M> {
     ghost use Rattle.std.specs.Prelude.{false, ℕ, ◌+◌, ◌*◌, ◌≤◌, ◌<◌, IfNone, OnSome};
-    ghost use Rattle.lalrpop_table.specs.Lookahead.{LooksAtMost};
+    ghost use Rattle.lalrpop_dfa.specs.Lookahead.{LooksAtMost};
     ghost use Rattle.lalrpop_lexer.specs.Cutting.{start_of, rest_of, GivesItem, left_of};
 
     // The whole text, before the first token.

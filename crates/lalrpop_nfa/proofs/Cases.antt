@@ -5,3 +5,5 @@ mod Contiguous
 mod Path
 mod Reads
 mod Compiled
+mod Meet
+mod Partition

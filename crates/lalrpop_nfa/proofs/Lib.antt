@@ -15,3 +15,12 @@ pub mod Cuts
 pub mod PrefixLemmas
 pub mod StateSetLemmas
 pub mod Runs
+-- the partition of ranges
+pub mod Meeting
+pub mod Cells
+pub mod Partition
+pub mod Sweep
+pub mod BlockCover
+pub mod PartitionUnique
+-- laws for callers
+pub mod PartitionLaws

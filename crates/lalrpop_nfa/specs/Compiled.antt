@@ -7,7 +7,7 @@ use Rattle.lalrpop_book.specs.Tree.{Tree, Class, unicode, bytes, empty, literal,
 use Rattle.lalrpop_hir.specs.Size.{size}
 use Rattle.lalrpop_book.specs.Language.{Matches}
 use Rattle.lalrpop_nfa.specs.Graph.{Graph, Lists}
-use Rattle.lalrpop_ranges.specs.Meet.{Meet}
+use Rattle.lalrpop_nfa.specs.Meet.{Meet}
 use Rattle.lalrpop_nfa.specs.Path.{noop, other, Path}
 use Rattle.lalrpop_nfa.specs.Walk.{leaves}
 use Rattle.lalrpop_nfa.specs.declared.edge.Edge.{Edge}

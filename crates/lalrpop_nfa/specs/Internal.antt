@@ -6,3 +6,4 @@ pub mod Fragment
 pub mod Valid
 pub mod Extends
 pub mod StateSets
+pub mod Sweep

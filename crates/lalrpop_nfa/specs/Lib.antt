@@ -5,8 +5,10 @@ pub use Rattle.lalrpop_book.specs.Tree
 pub use Rattle.lalrpop_book.specs.Language
 pub use Rattle.lalrpop_book.specs.Fault
 pub use Rattle.lalrpop_book.specs.Prefix
--- from the crate below: what this crate's contracts name
-pub use Rattle.lalrpop_ranges.specs.Meet
+-- ranges and their partition
+pub mod Meet
+pub mod Partition
+-- the automaton of one pattern
 pub mod Walk
 pub mod Firsts
 pub mod StateView

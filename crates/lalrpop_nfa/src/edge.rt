@@ -6,7 +6,7 @@ ghost use Rattle.lalrpop_nfa.specs.Internal.FirstSet.{first_set};
 ghost use Rattle.lalrpop_nfa.specs.Walk.{leaves};
 ghost use Rattle.lalrpop_nfa.specs.Contiguous.{walk, walk_at, IsAt};
 
-use lalrpop_ranges::Test;
+use crate::Test;
 use std::fmt;
 use std::marker::Model;
 

@@ -1,10 +1,13 @@
-//! The automaton of one pattern: compiling a tree to it, and running it.
+//! The automaton of one pattern: compiling a tree to it, and running it. Its labels are ranges of values; `overlap` partitions them.
 #![tactic(auto)]
 
 mod build;
 mod edge;
 pub mod interpret;
+pub mod overlap;
 mod state_set;
+mod steps;
+mod test;
 
 ghost use Rattle.std.specs.Prelude.{◌≡◌, ◌≢◌, ◌↔◌, ◌<◌, ◌++◌, ◌∷◌, [], Some, None, IfOk, IfErr, IsTrue};
 ghost use Rattle.std.specs.List.{filter};
@@ -16,9 +19,10 @@ pub use edge::{
 };
 pub use lalrpop_book::NfaConstructionError;
 use lalrpop_hir::Regex;
-pub use lalrpop_ranges::{Steps, Test};
 use std::alloc::{AllocError, Global};
 use std::marker::Model;
+pub use steps::Steps;
+pub use test::Test;
 
 /// The state in which a word matches.
 pub const ACCEPT: NfaStateIndex = NfaStateIndex(0);

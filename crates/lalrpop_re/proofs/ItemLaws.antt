@@ -5,8 +5,8 @@ use Rattle.std.proofs.lemmas.Bool.Decides.{nat_tests}
 use Rattle.unicode.specs.CaseFolding.{simple_fold}
 use Rattle.lalrpop_book.specs.Range.{Range, Covered}
 use Rattle.lalrpop_hir.specs.Runs.{IsScalar, IsCanon}
-use Rattle.lalrpop_sets.specs.CharacterSet.{Set, is_scalar, just, range, union_all, some_below, fold, Members, HasRuns}
-use Rattle.lalrpop_sets.proofs.CanonLaws.{IsScalar-is_scalar}
+use Rattle.lalrpop_grammar.specs.CharacterSet.{Set, is_scalar, just, range, union_all, some_below, fold, Members, HasRuns}
+use Rattle.lalrpop_grammar.proofs.CanonLaws.{IsScalar-is_scalar}
 use Rattle.lalrpop_grammar.specs.declared.flags.Flags.{Flags}
 use Rattle.lalrpop_re.specs.declared.escape_sequence.EscapedPart.{EscapedPart}
 use Rattle.lalrpop_re.specs.declared.escape_sequence.EscapedPart.TheVariants as code

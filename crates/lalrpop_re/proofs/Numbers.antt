@@ -8,7 +8,7 @@ use Rattle.std.proofs.Math.Nat.{le-mul_of_pos_right}
 use Rattle.std.proofs.lemmas.Bool.{lt-ltb, le-ltb, ltb-true, ltb-false, and_parts, eqb-true, eqb-false}
 use Rattle.std.proofs.lemmas.Bool.Decides.{nat_tests}
 use Rattle.std.proofs.lemmas.List.{at_drop_more, at_drop_all}
-use Rattle.lalrpop_sets.specs.CharacterSet.{is_scalar}
+use Rattle.lalrpop_grammar.specs.CharacterSet.{is_scalar}
 use Rattle.lalrpop_grammar.specs.Escape.{hex_value}
 use Rattle.lalrpop_grammar.specs.Operator.{decimal}
 use Rattle.lalrpop_grammar.specs.Internal.Reading.{hex}

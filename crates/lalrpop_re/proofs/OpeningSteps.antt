@@ -6,7 +6,7 @@ use Rattle.std.proofs.lemmas.Bool.{lt-ltb, and_parts, eqb-true}
 use Rattle.std.proofs.lemmas.List.{append-nil, length-append}
 use Rattle.std.proofs.lemmas.List.Sums.{prefix_len-le-length}
 use Rattle.lalrpop_grammar.specs.Text.{Text, begins}
-use Rattle.lalrpop_sets.specs.CharacterSet.{is_one_of}
+use Rattle.lalrpop_grammar.specs.CharacterSet.{is_one_of}
 use Rattle.lalrpop_grammar.specs.declared.flags.Flags.{Flags}
 use Rattle.lalrpop_grammar.specs.Flag.{FlagLetters, on, on_and_off, is_distinct, with_flags}
 use Rattle.lalrpop_grammar.specs.GroupName.{is_name, begins_name, continues_name}

@@ -22,6 +22,6 @@ pub use Rattle.lalrpop_hir.specs.Size
 pub use Rattle.lalrpop_hir.specs.Level
 pub use Rattle.lalrpop_book.specs.Language
 -- the definitions of sets of characters, for callers
-pub use Rattle.lalrpop_sets.specs.CharacterSet
-pub use Rattle.lalrpop_sets.specs.NamedSet
-pub use Rattle.lalrpop_sets.specs.PosixSet
+pub use Rattle.lalrpop_grammar.specs.CharacterSet
+pub use Rattle.lalrpop_grammar.specs.NamedSet
+pub use Rattle.lalrpop_grammar.specs.PosixSet

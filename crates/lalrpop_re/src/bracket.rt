@@ -3,7 +3,7 @@ ghost use Rattle.std.specs.Prelude.{◌≡◌, ◌+◌, ◌-◌, ◌^◌, ◌<�
 ghost use Rattle.std.specs.List.{prefix_len};
 ghost use Rattle.std.specs.Char.{is_ascii_lowercase};
 ghost use Rattle.lalrpop_grammar.specs.Text.{begins};
-ghost use Rattle.lalrpop_sets.specs.CharacterSet.{Set, just, range, complement, union_all, HasRuns};
+ghost use Rattle.lalrpop_grammar.specs.CharacterSet.{Set, just, range, complement, union_all, HasRuns};
 ghost use Rattle.lalrpop_grammar.specs.Escape.{Escaped};
 ghost use Rattle.lalrpop_grammar.specs.Bracket.{leaf, leaves, leaf_or_complement, apply, ends_operand, begins_range};
 ghost use Rattle.lalrpop_grammar.specs.Internal.Reading.{span, posix_named, posix, primary, operator_of, past_hyphens, lead, range_of, stands, simple_item, item, whole_operand, all_operations, operands, bracket_with, bracket};
@@ -14,7 +14,7 @@ use crate::cursor::{Cursor, error_at};
 use crate::escape_sequence::{EscapedPart, parse_escape};
 use lalrpop_grammar::{Flags, RegexError, SyntaxKind, leaf_of_range, leaf_of_set};
 use lalrpop_hir::{ClassUnicode, ClassUnicodeRange};
-use lalrpop_sets::posix_class;
+use lalrpop_grammar::posix_class;
 use std::alloc::{AllocError, Global};
 use std::mem;
 

@@ -6,13 +6,13 @@ ghost use Rattle.lalrpop_grammar.specs.Escape.{character, assertion, sign, is_ma
 ghost use Rattle.lalrpop_grammar.specs.Internal.Reading.{hex, digits_of, name_of, signed, escape};
 ghost use Rattle.lalrpop_re.specs.Internal.Signs.{HasDigits, perl_set, sign_view};
 ghost use Rattle.lalrpop_re.specs.Internal.Views.{text, unread, Gives, Finds, StandsForEscaped};
-ghost use Rattle.lalrpop_sets.specs.CharacterSet.{HasRuns};
+ghost use Rattle.lalrpop_grammar.specs.CharacterSet.{HasRuns};
 
 use crate::cursor::{Cursor, error_at};
 use crate::number::number_of;
 use lalrpop_grammar::{RegexError, SyntaxKind};
 use lalrpop_hir::{ClassUnicode, Look};
-use lalrpop_sets::named_set;
+use lalrpop_grammar::named_set;
 use std::alloc::{AllocError, Global};
 
 /// What an escape stands for.
@@ -144,9 +144,9 @@ fn perl_class(alloc: Global, class: PerlClass) -> Result<ClassUnicode, AllocErro
     ensures { IfOk result (λ r. HasRuns r (perl_set class)) }
 {
     match class {
-        PerlClass::Digits => lalrpop_sets::digits(alloc),
-        PerlClass::Spaces => lalrpop_sets::spaces(alloc),
-        PerlClass::Words => lalrpop_sets::words(alloc),
+        PerlClass::Digits => lalrpop_grammar::digits(alloc),
+        PerlClass::Spaces => lalrpop_grammar::spaces(alloc),
+        PerlClass::Words => lalrpop_grammar::words(alloc),
     }
 }
 

@@ -4,3 +4,6 @@ mod Pieces
 mod CutToEnd
 mod LinearCutToEnd
 mod RuleSet
+mod RuleLine
+mod RuleFault
+mod RuleFile

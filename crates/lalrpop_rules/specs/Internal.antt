@@ -1,3 +1,6 @@
 pub mod Code
 pub mod FirstMatch
 pub mod Reported
+-- a file of rules
+pub mod Spans
+pub mod Parts

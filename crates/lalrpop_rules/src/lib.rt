@@ -10,6 +10,7 @@ mod linear_items;
 mod pieces;
 mod reading;
 mod rule;
+mod rule_file;
 mod rule_lexer;
 mod seek;
 
@@ -21,4 +22,5 @@ pub use leftmost::find;
 pub use linear_items::LinearItems;
 pub use pieces::Items;
 pub use rule::Rule;
+pub use rule_file::{LineFault, RuleFileError, read_rules, without_mark};
 pub use rule_lexer::RuleLexer;

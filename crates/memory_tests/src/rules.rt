@@ -4,7 +4,7 @@ use crate::calls::{Call, add, expect, halves, number};
 use lalrpop_lexer::lexer::dfa::Precedence;
 use lalrpop_lexer::{Form, Lexer, LexerError};
 use lalrpop_markup::{ansi, html};
-use lalrpop_rule_file::{RuleFileError, read_rules};
+use lalrpop_rules::{RuleFileError, read_rules};
 use lalrpop_rules::{Item, Rule, RuleLexer, RulesError};
 use std::alloc::{AllocError, Global};
 

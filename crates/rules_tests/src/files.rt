@@ -2,7 +2,7 @@
 
 use crate::shared::halves;
 use anyhow::Result;
-use lalrpop_rule_file::{RuleFileError, read_rules};
+use lalrpop_rules::{RuleFileError, read_rules};
 use lalrpop_rules::RuleLexer;
 use std::alloc::Global;
 

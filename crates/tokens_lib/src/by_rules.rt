@@ -7,7 +7,7 @@ use crate::ends::{NO_TEXT, bytes_of, flushed, out_of_memory, say};
 use crate::layout::LineForm;
 use crate::named_clashes::{rule_clashes, write_rule_clashes};
 use crate::rule_explain::{bad_line_explained, rules_explained};
-use lalrpop_rule_file::{RuleFileError, read_rules, without_mark};
+use lalrpop_rules::{RuleFileError, read_rules, without_mark};
 use lalrpop_rules::{Rule, RuleLexer, RulesError};
 use lexdfa_lib::{Failure, RunError, Watched};
 use std::io::{self, Eprint};

@@ -3,22 +3,23 @@
 ghost use Rattle.std.specs.Prelude.{◌≡◌, ◌<◌, ◌≤◌, List, length, map, IfOk, IfErr, IfSome, IfNone};
 ghost use Rattle.std.specs.Option.{option_map};
 ghost use Rattle.lalrpop_book.specs.Clash.{NoClash};
-ghost use Rattle.lalrpop_dfa.specs.Items.{HoldsItems, OthersReject, IsInWordOrder};
+ghost use Rattle.lalrpop_build.specs.Items.{HoldsItems, OthersReject, IsInWordOrder};
 ghost use Rattle.lalrpop_book.specs.Report.{NoFault, IsReport};
 ghost use Rattle.lalrpop_book.specs.declared.error.DfaConstructionError.TheVariants.{OutOfMemory};
-ghost use Rattle.lalrpop_items.specs.Automata.{AreCompiled};
+ghost use Rattle.lalrpop_dfa.specs.Automata.{AreCompiled};
 ghost use Rattle.lalrpop_nfa.specs.Graph.{Graph};
-ghost use Rattle.lalrpop_table.specs.Counts.{state_bound};
-ghost use Rattle.lalrpop_table.specs.Dfa.{Recognizes};
+ghost use Rattle.lalrpop_dfa.specs.Counts.{state_bound};
+ghost use Rattle.lalrpop_dfa.specs.Dfa.{Recognizes};
 ghost use Rattle.lalrpop_book.specs.Longest.{IsLongest};
 
 use lalrpop_dfa::interpret::interpret;
-use lalrpop_dfa::{Dfa, DfaConstructionError, NfaIndex, Precedence, build_dfa};
+use lalrpop_dfa::Dfa;
+use lalrpop_build::{DfaConstructionError, NfaIndex, Precedence, build_dfa};
 use lalrpop_hir::Regex;
 use std::alloc::Global;
 
-// Needs lalrpop_dfa::build_dfa: ok.
-// Needs lalrpop_table::interpret: answer.
+// Needs lalrpop_build::build_dfa: ok.
+// Needs lalrpop_dfa::interpret: answer.
 /// The longest match of the text, with the strongest pattern that matches it.
 pub fn match_once<'text>(
     alloc: Global,
@@ -34,7 +35,7 @@ pub fn match_once<'text>(
     Ok(interpret(&dfa, text))
 }
 
-// Needs lalrpop_dfa::build_dfa: ok, err.
+// Needs lalrpop_build::build_dfa: ok, err.
 /// Why there is no automaton; `None` if no pattern has a fault and no word is ambiguous.
 pub fn why_not(
     alloc: Global,
@@ -50,8 +51,8 @@ pub fn why_not(
     build_dfa(alloc, regexs, precedences).err()
 }
 
-// Needs lalrpop_dfa::build_dfa: bound.
-// Needs lalrpop_table::Dfa::states: states.
+// Needs lalrpop_build::build_dfa: bound.
+// Needs lalrpop_dfa::Dfa::states: states.
 /// How many states the automaton has.
 pub fn state_count(
     alloc: Global,
@@ -65,7 +66,7 @@ pub fn state_count(
     Ok(dfa.states().len())
 }
 
-// Needs lalrpop_dfa::build_dfa: ok, items, others, order.
+// Needs lalrpop_build::build_dfa: ok, items, others, order.
 /// The automaton, to be drawn: each state holds the items that its words lead to, its ranges are the partition of the labels
 /// there, its other edge leads to a reject state, and states that don't reject are in the order of their words.
 pub fn to_be_drawn(

@@ -3,14 +3,14 @@
 ghost use Rattle.std.specs.Prelude.{◌≡◌, ◌+◌, ◌-◌, ◌*◌, ◌≤◌, List, length, IfOk};
 ghost use Rattle.std.specs.List.{Contains, count_by};
 ghost use Rattle.lalrpop_book.specs.Range.{Range};
-ghost use Rattle.lalrpop_ranges.specs.Partition.{IsPartition, has_value};
+ghost use Rattle.lalrpop_nfa.specs.Partition.{IsPartition, has_value};
 
-use lalrpop_ranges::overlap::{remove_overlap, remove_overlap_counted};
-use lalrpop_ranges::{Steps, Test};
+use lalrpop_nfa::overlap::{remove_overlap, remove_overlap_counted};
+use lalrpop_nfa::{Steps, Test};
 use std::alloc::{AllocError, Global};
 use std::collections::BTreeSet;
 
-// Needs lalrpop_ranges::remove_overlap: partition, count.
+// Needs lalrpop_nfa::remove_overlap: partition, count.
 /// How many blocks the ranges have.
 pub fn block_count(alloc: Global, ranges: &BTreeSet<Test>) -> Result<usize, AllocError>
     ensures blocks { IfOk result (λ count. (blocks : List Range)
@@ -21,7 +21,7 @@ pub fn block_count(alloc: Global, ranges: &BTreeSet<Test>) -> Result<usize, Allo
     Ok(blocks.len())
 }
 
-// Needs lalrpop_ranges::remove_overlap_counted: partition, count, never_falls, cost.
+// Needs lalrpop_nfa::remove_overlap_counted: partition, count, never_falls, cost.
 /// The blocks of each of two sets of ranges, on one counter.
 pub fn blocks_of_both(
     alloc: Global,

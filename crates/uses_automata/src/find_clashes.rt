@@ -4,11 +4,11 @@ ghost use Rattle.std.specs.Prelude.{◌≡◌, List, length, map, IfOk, IfErr};
 ghost use Rattle.lalrpop_book.specs.Clashes.{AreClashes, Entry};
 ghost use Rattle.lalrpop_book.specs.Report.{NoFault, IsFaultOf};
 
-use lalrpop_dfa::{DfaConstructionError, Precedence, clashes};
+use lalrpop_build::{DfaConstructionError, Precedence, clashes};
 use lalrpop_hir::Regex;
 use std::alloc::Global;
 
-// Needs lalrpop_dfa::clashes: no_fault, clashes, err.
+// Needs lalrpop_build::clashes: no_fault, clashes, err.
 /// How many pairs of patterns clash.
 pub fn clash_count(
     alloc: Global,

@@ -4,18 +4,18 @@ ghost use Rattle.std.specs.List.{Contains};
 ghost use Rattle.std.specs.Option.{option_map};
 ghost use Rattle.lalrpop_book.specs.Range.{Range, Covers};
 ghost use Rattle.lalrpop_book.specs.Tree.{Tree};
-ghost use Rattle.lalrpop_dfa.specs.Agree.{Agree};
+ghost use Rattle.lalrpop_build.specs.Agree.{Agree};
 ghost use Rattle.lalrpop_nfa.specs.Compiled.{IsCompiled};
-ghost use Rattle.lalrpop_ranges.specs.Partition.{Alike, IsCovered, IsUniform};
-ghost use Rattle.lalrpop_table.specs.Dfa.{Recognizes};
+ghost use Rattle.lalrpop_nfa.specs.Partition.{Alike, IsCovered, IsUniform};
+ghost use Rattle.lalrpop_dfa.specs.Dfa.{Recognizes};
 
-use lalrpop_items::NfaIndex;
+use lalrpop_book::NfaIndex;
 use lalrpop_nfa::Nfa;
 use lalrpop_nfa::interpret::interpret as run_alone;
-use lalrpop_ranges::Test;
-use lalrpop_ranges::overlap::remove_overlap;
-use lalrpop_table::Dfa;
-use lalrpop_table::interpret::interpret;
+use lalrpop_nfa::Test;
+use lalrpop_nfa::overlap::remove_overlap;
+use lalrpop_dfa::Dfa;
+use lalrpop_dfa::interpret::interpret;
 use std::alloc::{AllocError, Global};
 use std::collections::BTreeSet;
 

@@ -3,16 +3,18 @@
 ghost use Rattle.std.specs.Prelude.{◌≡◌, ◌+◌, ◌^◌, ◌<◌, ℕ, Some, slice_get, IfOk, OnOk};
 ghost use Rattle.std.specs.List.{list_any};
 ghost use Rattle.std.specs.List.Sorted.{IsSorted};
-ghost use Rattle.lalrpop_items.specs.Internal.Ascending.{AreByPattern, item_cmp};
-ghost use Rattle.lalrpop_items.specs.Internal.Given.{AreAutomata, AreItemsOf, IsItemOf};
-ghost use Rattle.lalrpop_items.specs.Internal.ItemOrder.{item_eq, set_cmp, set_eq};
-ghost use Rattle.lalrpop_items.specs.Internal.LiveItems.{live_of};
-ghost use Rattle.lalrpop_items.specs.Internal.Subsets.{closed, move};
-ghost use Rattle.lalrpop_items.specs.Internal.Transitions.{AreTransitions, transition_cmp};
+ghost use Rattle.lalrpop_dfa.specs.Internal.Ascending.{AreByPattern, item_cmp};
+ghost use Rattle.lalrpop_build.specs.Internal.Given.{AreAutomata, AreItemsOf, IsItemOf};
+ghost use Rattle.lalrpop_dfa.specs.Internal.ItemOrder.{item_eq, set_cmp, set_eq};
+ghost use Rattle.lalrpop_dfa.specs.Internal.LiveItems.{live_of};
+ghost use Rattle.lalrpop_build.specs.Internal.Subsets.{closed, move};
+ghost use Rattle.lalrpop_build.specs.Internal.Transitions.{AreTransitions, transition_cmp};
 ghost use Rattle.lalrpop_nfa.specs.Graph.{Graph};
 
-use lalrpop_items::closure::{Workspace, advance, closure};
-use lalrpop_items::{DfaStateIndex, Item, ItemSet, NfaIndex, Transition};
+use lalrpop_build::closure::{Workspace, advance, closure};
+use lalrpop_dfa::{DfaStateIndex, Item, ItemSet};
+use lalrpop_book::NfaIndex;
+use lalrpop_build::Transition;
 use lalrpop_nfa::{Nfa, START, StateKind};
 use std::alloc::{AllocError, Global};
 use std::cmp::Ordering;
@@ -27,8 +29,8 @@ pub fn pattern_after(pattern: NfaIndex) -> NfaIndex
     NfaIndex::new(pattern.index() + 1)
 }
 
-// Needs lalrpop_items::DfaStateIndex::new: value.
-// Needs lalrpop_items::DfaStateIndex::index: value.
+// Needs lalrpop_dfa::DfaStateIndex::new: value.
+// Needs lalrpop_dfa::DfaStateIndex::index: value.
 /// The state after a state.
 pub fn state_after(state: DfaStateIndex) -> DfaStateIndex
     requires { state + 1 < 2 ^ 64 }
@@ -37,7 +39,7 @@ pub fn state_after(state: DfaStateIndex) -> DfaStateIndex
     DfaStateIndex::new(state.index() + 1)
 }
 
-// Needs lalrpop_items::Item::new: value.
+// Needs lalrpop_dfa::Item::new: value.
 /// START of a pattern's automaton.
 pub fn start_of(pattern: NfaIndex) -> Item
     ensures { result ≡ (pattern, 2) }
@@ -45,8 +47,8 @@ pub fn start_of(pattern: NfaIndex) -> Item
     Item::new(pattern, START)
 }
 
-// Needs lalrpop_items::Item::pattern: ensures.
-// Needs lalrpop_items::Item::state: ensures.
+// Needs lalrpop_dfa::Item::pattern: ensures.
+// Needs lalrpop_dfa::Item::state: ensures.
 /// The item of the next pattern that has the same state.
 pub fn in_next_pattern(item: Item) -> Item
     requires { item.0 + 1 < 2 ^ 64 }
@@ -55,7 +57,7 @@ pub fn in_next_pattern(item: Item) -> Item
     Item::new(pattern_after(item.pattern()), item.state())
 }
 
-// Needs lalrpop_items::Item::nfa: ensures.
+// Needs lalrpop_dfa::Item::nfa: ensures.
 /// What the item's state is for.
 pub fn kind_of(nfas: &[Nfa], item: Item) -> StateKind
     requires { IsItemOf nfas.now item }
@@ -65,7 +67,7 @@ pub fn kind_of(nfas: &[Nfa], item: Item) -> StateKind
     item.nfa(nfas).kind(item.state())
 }
 
-// Needs lalrpop_items::Item::eq: ghost eq.
+// Needs lalrpop_dfa::Item::eq: ghost eq.
 /// Whether the item is one of these.
 pub fn is_one_of(items: &[Item], item: Item) -> bool
     ensures { result ≡ list_any (λ x. item_eq x item) items.now }
@@ -73,7 +75,7 @@ pub fn is_one_of(items: &[Item], item: Item) -> bool
     items.contains(&item)
 }
 
-// Needs lalrpop_items::Item::cmp: ghost cmp.
+// Needs lalrpop_dfa::Item::cmp: ghost cmp.
 /// Puts the items in order.
 pub fn sort(items: &mut Vec<Item>) -> Result<(), AllocError>
     ensures { OnOk result (IsSorted item_cmp items.new.items) }
@@ -81,7 +83,7 @@ pub fn sort(items: &mut Vec<Item>) -> Result<(), AllocError>
     items.sort()
 }
 
-// Needs lalrpop_items::Item::partial_cmp: ghost partial_cmp.
+// Needs lalrpop_dfa::Item::partial_cmp: ghost partial_cmp.
 /// How two items compare.
 pub fn order_of_items(left: &Item, right: &Item) -> Option<Ordering>
     ensures { result ≡ Some (item_cmp left.now right.now) }
@@ -89,7 +91,7 @@ pub fn order_of_items(left: &Item, right: &Item) -> Option<Ordering>
     left.partial_cmp(right)
 }
 
-// Needs lalrpop_items::closure: ensures.
+// Needs lalrpop_build::closure: ensures.
 /// The items that the given items lead to without reading a value.
 pub fn after_nothing(alloc: Global, nfas: &[Nfa], given: &[Item]) -> Result<ItemSet, AllocError>
     requires automata { AreAutomata nfas.now }
@@ -100,7 +102,7 @@ pub fn after_nothing(alloc: Global, nfas: &[Nfa], given: &[Item]) -> Result<Item
     closure(alloc, nfas, given)
 }
 
-// Needs lalrpop_items::advance: ensures.
+// Needs lalrpop_build::advance: ensures.
 /// The items that a set leads to by the values that take these test edges.
 pub fn after_value(
     alloc: Global,
@@ -118,7 +120,7 @@ pub fn after_value(
     advance(alloc, &mut Workspace::new(alloc), nfas, set, transitions)
 }
 
-// Needs lalrpop_items::Workspace::new: empty.
+// Needs lalrpop_build::Workspace::new: empty.
 /// A workspace for many sets.
 pub fn workspace(alloc: Global) -> Workspace
     ensures { result ≡ 0 }
@@ -126,7 +128,7 @@ pub fn workspace(alloc: Global) -> Workspace
     Workspace::new(alloc)
 }
 
-// Needs lalrpop_items::ItemSet::live: value.
+// Needs lalrpop_dfa::ItemSet::live: value.
 /// The items of a set that aren't REJECT states, in a list of their own.
 pub fn live_items(alloc: Global, set: &ItemSet) -> Result<Vec<Item>, AllocError>
     ensures { IfOk result (λ items. items.items ≡ live_of set.now) }
@@ -134,7 +136,7 @@ pub fn live_items(alloc: Global, set: &ItemSet) -> Result<Vec<Item>, AllocError>
     Vec::from_slice(alloc, set.live())
 }
 
-// Needs lalrpop_items::ItemSet::clone: ghost is_clone.
+// Needs lalrpop_dfa::ItemSet::clone: ghost is_clone.
 /// A copy of the set.
 pub fn copy_of(set: &ItemSet) -> Result<ItemSet, AllocError>
     ensures { IfOk result (λ copy. copy ≡ set.now) }
@@ -142,7 +144,7 @@ pub fn copy_of(set: &ItemSet) -> Result<ItemSet, AllocError>
     set.clone()
 }
 
-// Needs lalrpop_items::ItemSet::eq: ghost eq.
+// Needs lalrpop_dfa::ItemSet::eq: ghost eq.
 /// Whether the set is one of these.
 pub fn is_known(sets: &[ItemSet], set: &ItemSet) -> bool
     ensures { result ≡ list_any (λ s. set_eq s set.now) sets.now }
@@ -150,7 +152,7 @@ pub fn is_known(sets: &[ItemSet], set: &ItemSet) -> bool
     sets.contains(set)
 }
 
-// Needs lalrpop_items::ItemSet::cmp: ghost cmp.
+// Needs lalrpop_dfa::ItemSet::cmp: ghost cmp.
 /// How two sets compare as keys of a map.
 pub fn order_of_sets(left: &ItemSet, right: &ItemSet) -> Ordering
     ensures { result ≡ set_cmp left.now right.now }
@@ -158,7 +160,7 @@ pub fn order_of_sets(left: &ItemSet, right: &ItemSet) -> Ordering
     left.cmp(right)
 }
 
-// Needs lalrpop_items::ItemSet::partial_cmp: ghost partial_cmp.
+// Needs lalrpop_dfa::ItemSet::partial_cmp: ghost partial_cmp.
 /// The same, as a partial order.
 pub fn partial_order_of_sets(left: &ItemSet, right: &ItemSet) -> Option<Ordering>
     ensures { result ≡ Some (set_cmp left.now right.now) }

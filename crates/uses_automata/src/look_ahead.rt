@@ -2,14 +2,14 @@
 
 ghost use Rattle.std.specs.Prelude.{◌≡◌, ℕ, ◌<◌, ◌↔◌, List, Some, length, slice_get, true, false, IfOk, IfSome};
 ghost use Rattle.lalrpop_book.specs.Tree.{Tree};
-ghost use Rattle.lalrpop_table.specs.Dfa.{Recognizes};
-ghost use Rattle.lalrpop_table.specs.Lookahead.{CanStayOpen, IsLookahead, IsSettledAfter, LooksAtMost, StaysOpenEver};
+ghost use Rattle.lalrpop_dfa.specs.Dfa.{Recognizes};
+ghost use Rattle.lalrpop_dfa.specs.Lookahead.{CanStayOpen, IsLookahead, IsSettledAfter, LooksAtMost, StaysOpenEver};
 
-use lalrpop_table::Dfa;
-use lalrpop_table::lookahead::{lookahead, open_patterns};
+use lalrpop_dfa::Dfa;
+use lalrpop_dfa::lookahead::{lookahead, open_patterns};
 use std::alloc::{AllocError, Global};
 
-// Needs lalrpop_table::lookahead: answer, settled.
+// Needs lalrpop_dfa::lookahead: answer, settled.
 /// The greatest number of characters past its end that can leave a match open.
 ///
 /// # Errors
@@ -23,7 +23,7 @@ pub fn greatest(alloc: Global, dfa: &Dfa) -> Result<Option<usize>, AllocError>
     lookahead(alloc, dfa)
 }
 
-// Needs lalrpop_table::open_patterns: same_length, each.
+// Needs lalrpop_dfa::open_patterns: same_length, each.
 /// For each of `count` patterns, whether a match can stay open for ever because of it.
 ///
 /// # Errors
@@ -37,7 +37,7 @@ pub fn open_for_ever(alloc: Global, dfa: &Dfa, count: usize) -> Result<Vec<bool>
     open_patterns(alloc, dfa, count)
 }
 
-// Needs lalrpop_table::lookahead: answer.
+// Needs lalrpop_dfa::lookahead: answer.
 /// Whether each match is decided within some number of characters past its end.
 ///
 /// # Errors

@@ -2,13 +2,13 @@
 
 ghost use Rattle.std.specs.Prelude.{◌≡◌, ℕ, ◌+◌, ◌^◌, ◌<◌, [], ◌∷◌, IfOk, OnOk, OnErr, MatchOption, slice_get};
 ghost use Rattle.std.specs.declared.cmp.Ordering.TheVariants.{Equal};
-ghost use Rattle.lalrpop_kernels.specs.Kernels.{IsNumberOf, AreDistinct, ClonesEqual, added, moved};
+ghost use Rattle.lalrpop_dfa.specs.Kernels.{IsNumberOf, AreDistinct, ClonesEqual, added, moved};
 
-use lalrpop_items::{DfaStateIndex, ItemSet};
-use lalrpop_kernels::{Kernel, KernelSet};
+use lalrpop_dfa::{DfaStateIndex, ItemSet};
+use lalrpop_dfa::kernel_set::{Kernel, KernelSet};
 use std::alloc::{AllocError, Global};
 
-// Needs lalrpop_kernels::Kernel::index: value.
+// Needs lalrpop_dfa::kernel_set::Kernel::index: value.
 /// The index of the next number.
 pub fn index_after<K: Kernel>(number: usize) -> K::Index
     requires { number + 1 < 2 ^ 64 }
@@ -17,8 +17,8 @@ pub fn index_after<K: Kernel>(number: usize) -> K::Index
     K::index(number + 1)
 }
 
-// Needs lalrpop_kernels::KernelSet::new: empty.
-// Needs lalrpop_kernels::KernelSet::add_state: list.
+// Needs lalrpop_dfa::kernel_set::KernelSet::new: empty.
+// Needs lalrpop_dfa::kernel_set::KernelSet::add_state: list.
 /// A set with one kernel, which is the next to be taken.
 pub fn started<K: Kernel>(alloc: Global, first: K) -> Result<KernelSet<K>, AllocError>
 where
@@ -31,7 +31,7 @@ where
     Ok(set)
 }
 
-// Needs lalrpop_kernels::KernelSet::add_state: number, list, distinct, refused.
+// Needs lalrpop_dfa::kernel_set::KernelSet::add_state: number, list, distinct, refused.
 /// Adds a kernel that another leads to, and returns its index.
 pub fn add_target<K: Kernel>(set: &mut KernelSet<K>, target: K) -> Result<K::Index, AllocError>
     requires { ClonesEqual K.cmp K.is_clone }
@@ -45,7 +45,7 @@ pub fn add_target<K: Kernel>(set: &mut KernelSet<K>, target: K) -> Result<K::Ind
     set.add_state(target)
 }
 
-// Needs lalrpop_kernels::KernelSet::next: given, moves, refused.
+// Needs lalrpop_dfa::kernel_set::KernelSet::next: given, moves, refused.
 /// Takes the next kernel, to be expanded.
 pub fn take<K: Kernel>(set: &mut KernelSet<K>) -> Result<Option<K>, AllocError>
     requires { ClonesEqual K.cmp K.is_clone }
@@ -59,7 +59,7 @@ pub fn take<K: Kernel>(set: &mut KernelSet<K>) -> Result<Option<K>, AllocError>
     set.next()
 }
 
-// Needs lalrpop_items::ItemSet::index: ghost index_of.
+// Needs lalrpop_dfa::ItemSet::index: ghost index_of.
 /// The state that holds the set of items with this number.
 pub fn state_of_set(number: usize) -> DfaStateIndex
     ensures { result ≡ number }

@@ -5,16 +5,16 @@ ghost use Rattle.std.specs.Option.{option_map};
 ghost use Rattle.std.specs.Str.{chars};
 ghost use Rattle.lalrpop_book.specs.Tree.{Tree};
 ghost use Rattle.lalrpop_book.specs.Prefix.{IsPrefix};
-ghost use Rattle.lalrpop_table.specs.Dfa.{Recognizes};
-ghost use Rattle.lalrpop_table.specs.Lookahead.{LooksAtMost};
+ghost use Rattle.lalrpop_dfa.specs.Dfa.{Recognizes};
+ghost use Rattle.lalrpop_dfa.specs.Lookahead.{LooksAtMost};
 ghost use Rattle.lalrpop_book.specs.Longest.{IsLongest};
 ghost use Rattle.lalrpop_dense.specs.Leading.{LeadTo};
 
 use lalrpop_book::{NfaIndex, Token};
 use lalrpop_dense::{DenseDfa, Marks, Matcher};
-use lalrpop_ranges::Steps;
-use lalrpop_table::Dfa;
-use lalrpop_table::interpret::interpret;
+use lalrpop_nfa::Steps;
+use lalrpop_dfa::Dfa;
+use lalrpop_dfa::interpret::interpret;
 use std::alloc::{AllocError, Global};
 
 // Needs lalrpop_dense::DenseDfa::new: same.

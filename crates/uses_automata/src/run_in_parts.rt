@@ -3,12 +3,12 @@
 ghost use Rattle.std.specs.Prelude.{◌≡◌, ◌<◌, ◌++◌, ◌∷◌, [], ℕ, List, length};
 ghost use Rattle.std.specs.Str.{chars};
 ghost use Rattle.lalrpop_book.specs.Tree.{Tree};
-ghost use Rattle.lalrpop_table.specs.Dfa.{run, after, Recognizes, IsRightKind};
+ghost use Rattle.lalrpop_dfa.specs.Dfa.{run, after, Recognizes, IsRightKind};
 
-use lalrpop_items::DfaStateIndex;
-use lalrpop_table::{Dfa, Kind, START};
+use lalrpop_dfa::DfaStateIndex;
+use lalrpop_dfa::{Dfa, Kind, START};
 
-// Needs lalrpop_table::Dfa::step: leads, within.
+// Needs lalrpop_dfa::Dfa::step: leads, within.
 /// The state that a part of a text leads to from this one.
 pub fn state_behind(dfa: &Dfa, from: DfaStateIndex, part: &str) -> DfaStateIndex
     requires { from < length dfa.now }
@@ -34,7 +34,7 @@ pub fn kind_of_parts<'dfa>(dfa: &'dfa Dfa, first: &str, second: &str) -> &'dfa K
     dfa.state(state).kind()
 }
 
-// Needs lalrpop_table::Dfa::step: leads.
+// Needs lalrpop_dfa::Dfa::step: leads.
 /// The state after one more character, if `state` is the state after what was read.
 pub fn state_behind_one_more(dfa: &Dfa, state: DfaStateIndex, read: &str, c: char) -> DfaStateIndex
     requires { state ≡ after dfa.now (chars read.now) }

@@ -5,17 +5,17 @@ ghost use Rattle.std.specs.Option.{option_map};
 ghost use Rattle.std.specs.Str.{chars};
 ghost use Rattle.lalrpop_book.specs.Tree.{Tree};
 ghost use Rattle.lalrpop_book.specs.Prefix.{IsPrefix};
-ghost use Rattle.lalrpop_table.specs.Counts.{HaveAtMost};
-ghost use Rattle.lalrpop_table.specs.Dfa.{Recognizes};
+ghost use Rattle.lalrpop_dfa.specs.Counts.{HaveAtMost};
+ghost use Rattle.lalrpop_dfa.specs.Dfa.{Recognizes};
 ghost use Rattle.lalrpop_book.specs.Longest.{IsLongest};
-ghost use Rattle.lalrpop_table.specs.Lookahead.{LooksAtMost};
+ghost use Rattle.lalrpop_dfa.specs.Lookahead.{LooksAtMost};
 
-use lalrpop_items::NfaIndex;
-use lalrpop_ranges::Steps;
-use lalrpop_table::Dfa;
-use lalrpop_table::interpret::{interpret, interpret_counted, interpret_probed};
+use lalrpop_book::NfaIndex;
+use lalrpop_nfa::Steps;
+use lalrpop_dfa::Dfa;
+use lalrpop_dfa::interpret::{interpret, interpret_counted, interpret_probed};
 
-// Needs lalrpop_table::interpret: answer, prefix.
+// Needs lalrpop_dfa::interpret: answer, prefix.
 /// The longest match of the text, with the strongest pattern that matches it.
 pub fn longest<'text>(dfa: &Dfa, text: &'text str) -> Option<(NfaIndex, &'text str)>
     ensures answer { (ts : List Tree) (ps : List ℕ) → Recognizes dfa.now ts ps
@@ -25,7 +25,7 @@ pub fn longest<'text>(dfa: &Dfa, text: &'text str) -> Option<(NfaIndex, &'text s
     interpret(dfa, text)
 }
 
-// Needs lalrpop_table::interpret_counted: answer, prefix, never_falls, cost, looked.
+// Needs lalrpop_dfa::interpret_counted: answer, prefix, never_falls, cost, looked.
 /// Runs the automaton over two texts, on one counter.
 pub fn counted_over_two<'text>(
     dfa: &Dfa,
@@ -45,7 +45,7 @@ pub fn counted_over_two<'text>(
     interpret_counted(dfa, second, steps)
 }
 
-// Needs lalrpop_table::interpret_probed: answer, prefix, never_falls, cost, looked, probed.
+// Needs lalrpop_dfa::interpret_probed: answer, prefix, never_falls, cost, looked, probed.
 /// Runs the automaton over a text, and counts also the ranges that are compared.
 pub fn probed<'text>(
     dfa: &Dfa,

@@ -2,17 +2,17 @@
 
 ghost use Rattle.std.specs.Prelude.{◌≡◌, ◌<◌, length, slice_get, IsSomeAnd, IfOk, IsTrue, ◌↔◌};
 ghost use Rattle.std.specs.List.{list_any};
-ghost use Rattle.lalrpop_dfa.specs.Items.{OthersReject};
-ghost use Rattle.lalrpop_table.specs.Dfa.{IsStored, AreStored, IsWellFormed, bare};
-ghost use Rattle.lalrpop_table.specs.SameAutomata.{same_state, same_automaton, IsSameState, IsSameAutomaton};
-ghost use Rattle.lalrpop_table.specs.declared.Kind.TheVariants.{Reject};
+ghost use Rattle.lalrpop_build.specs.Items.{OthersReject};
+ghost use Rattle.lalrpop_dfa.specs.Dfa.{IsStored, AreStored, IsWellFormed, bare};
+ghost use Rattle.lalrpop_dfa.specs.SameAutomata.{same_state, same_automaton, IsSameState, IsSameAutomaton};
+ghost use Rattle.lalrpop_dfa.specs.declared.Kind.TheVariants.{Reject};
 
-use lalrpop_items::DfaStateIndex;
-use lalrpop_ranges::Test;
-use lalrpop_table::{Dfa, Kind, START, State};
+use lalrpop_dfa::DfaStateIndex;
+use lalrpop_nfa::Test;
+use lalrpop_dfa::{Dfa, Kind, START, State};
 use std::alloc::AllocError;
 
-// Needs lalrpop_table::Dfa::states: states, well_formed.
+// Needs lalrpop_dfa::Dfa::states: states, well_formed.
 /// All states. There is at least one: the first is START.
 pub fn all_states(dfa: &Dfa) -> &[State]
     ensures states { AreStored dfa.now result.now }
@@ -22,7 +22,7 @@ pub fn all_states(dfa: &Dfa) -> &[State]
     dfa.states()
 }
 
-// Needs lalrpop_table::Dfa::state: at, well_formed.
+// Needs lalrpop_dfa::Dfa::state: at, well_formed.
 /// The state with this number.
 pub fn state_at(dfa: &Dfa, index: DfaStateIndex) -> &State
     requires { index < length dfa.now }
@@ -32,8 +32,8 @@ pub fn state_at(dfa: &Dfa, index: DfaStateIndex) -> &State
     dfa.state(index)
 }
 
-// Needs lalrpop_table::Dfa::state: at, well_formed.
-// Needs lalrpop_table::State::other_edge: other.
+// Needs lalrpop_dfa::Dfa::state: at, well_formed.
+// Needs lalrpop_dfa::State::other_edge: other.
 /// The state that all values lead to that are in no test edge.
 pub fn other_state(dfa: &Dfa, index: DfaStateIndex) -> DfaStateIndex
     requires { index < length dfa.now }
@@ -43,7 +43,7 @@ pub fn other_state(dfa: &Dfa, index: DfaStateIndex) -> DfaStateIndex
     dfa.state(index).other_edge()
 }
 
-// Needs lalrpop_table::State::kind: kind.
+// Needs lalrpop_dfa::State::kind: kind.
 /// What the state says about the words that lead to it.
 pub fn kind_at(dfa: &Dfa, index: DfaStateIndex) -> &Kind
     requires { index < length dfa.now }
@@ -52,9 +52,9 @@ pub fn kind_at(dfa: &Dfa, index: DfaStateIndex) -> &Kind
     dfa.state(index).kind()
 }
 
-// Needs lalrpop_table::Dfa::state: at, well_formed.
-// Needs lalrpop_table::State::kind: kind.
-// Needs lalrpop_table::State::other_edge: other.
+// Needs lalrpop_dfa::Dfa::state: at, well_formed.
+// Needs lalrpop_dfa::State::kind: kind.
+// Needs lalrpop_dfa::State::other_edge: other.
 /// What the state says that values lead to which no test edge holds: nothing is matched from there on.
 pub fn kind_behind_other(dfa: &Dfa, index: DfaStateIndex) -> &Kind
     requires others { OthersReject dfa.now }
@@ -65,7 +65,7 @@ pub fn kind_behind_other(dfa: &Dfa, index: DfaStateIndex) -> &Kind
     dfa.state(other).kind()
 }
 
-// Needs lalrpop_table::Dfa::test_edges: tests, well_formed.
+// Needs lalrpop_dfa::Dfa::test_edges: tests, well_formed.
 /// The test edges of the state, and that they lead to states.
 pub fn edges_at(dfa: &Dfa, index: DfaStateIndex) -> &[(Test, DfaStateIndex)]
     requires { index < length dfa.now }
@@ -75,7 +75,7 @@ pub fn edges_at(dfa: &Dfa, index: DfaStateIndex) -> &[(Test, DfaStateIndex)]
     dfa.test_edges(index)
 }
 
-// Needs lalrpop_table::Dfa::clone: ghost is_clone.
+// Needs lalrpop_dfa::Dfa::clone: ghost is_clone.
 /// A copy of the automaton.
 pub fn copy_of(dfa: &Dfa) -> Result<Dfa, AllocError>
     ensures { IfOk result (λ copy. copy ≡ dfa.now) }
@@ -83,7 +83,7 @@ pub fn copy_of(dfa: &Dfa) -> Result<Dfa, AllocError>
     dfa.clone()
 }
 
-// Needs lalrpop_table::State::clone: ghost is_clone.
+// Needs lalrpop_dfa::State::clone: ghost is_clone.
 /// A copy of START.
 pub fn copy_of_start(dfa: &Dfa) -> Result<State, AllocError>
     ensures { IfOk result (λ start. IsSomeAnd (slice_get dfa.now 0) (λ r. IsStored r start)) }
@@ -91,7 +91,7 @@ pub fn copy_of_start(dfa: &Dfa) -> Result<State, AllocError>
     dfa.states()[START.index()].clone()
 }
 
-// Needs lalrpop_table::State::eq: same.
+// Needs lalrpop_dfa::State::eq: same.
 /// Whether the states are equal but for their test edges.
 pub fn are_alike(left: &State, right: &State) -> bool
     ensures same { IsTrue result ↔ IsSameState (bare left.now) (bare right.now) }
@@ -99,7 +99,7 @@ pub fn are_alike(left: &State, right: &State) -> bool
     *left == *right
 }
 
-// Needs lalrpop_table::State::eq: ghost eq.
+// Needs lalrpop_dfa::State::eq: ghost eq.
 /// Whether some of the states is equal to this one but for its test edges.
 pub fn is_among(states: &[State], state: &State) -> bool
     ensures { result ≡ list_any (λ s. same_state (bare s) (bare state.now)) states.now }
@@ -107,7 +107,7 @@ pub fn is_among(states: &[State], state: &State) -> bool
     states.contains(state)
 }
 
-// Needs lalrpop_table::Dfa::eq: same.
+// Needs lalrpop_dfa::Dfa::eq: same.
 /// Whether the automata are equal.
 pub fn are_equal(left: &Dfa, right: &Dfa) -> bool
     ensures same { IsTrue result ↔ IsSameAutomaton left.now right.now }
@@ -115,7 +115,7 @@ pub fn are_equal(left: &Dfa, right: &Dfa) -> bool
     *left == *right
 }
 
-// Needs lalrpop_table::Dfa::eq: ghost eq.
+// Needs lalrpop_dfa::Dfa::eq: ghost eq.
 /// Whether the automaton is one of these.
 pub fn is_one_of(automata: &[Dfa], dfa: &Dfa) -> bool
     ensures { result ≡ list_any (λ d. same_automaton d dfa.now) automata.now }

@@ -1,16 +1,16 @@
 //! An automaton made by hand, state by state.
 
 ghost use Rattle.std.specs.Prelude.{◌≡◌, ◌<◌, ◌++◌, ◌∷◌, [], ◌-◌, length, slice_get, IsSomeAnd, IfSome, IfNone, IfOk, OnOk};
-ghost use Rattle.lalrpop_table.specs.Dfa.{IsWellFormed};
-ghost use Rattle.lalrpop_table.specs.declared.Kind.TheVariants.{Reject};
+ghost use Rattle.lalrpop_dfa.specs.Dfa.{IsWellFormed};
+ghost use Rattle.lalrpop_dfa.specs.declared.Kind.TheVariants.{Reject};
 
-use lalrpop_items::{DfaStateIndex, ItemSet, START};
-use lalrpop_ranges::Test;
-use lalrpop_table::{Dfa, Kind, RowWriter, Rows};
+use lalrpop_dfa::{DfaStateIndex, ItemSet, START};
+use lalrpop_nfa::Test;
+use lalrpop_dfa::{Dfa, Kind, RowWriter, Rows};
 use std::alloc::{AllocError, Global};
 
-// Needs lalrpop_table::RowWriter::new: rows, tests.
-// Needs lalrpop_table::RowWriter::end_row: rows.
+// Needs lalrpop_dfa::RowWriter::new: rows, tests.
+// Needs lalrpop_dfa::RowWriter::end_row: rows.
 /// The states of an automaton that rejects all words.
 pub fn reject_state(alloc: Global, items: ItemSet) -> Result<RowWriter, AllocError>
     ensures { IfOk result (λ w. w.rows
@@ -21,8 +21,8 @@ pub fn reject_state(alloc: Global, items: ItemSet) -> Result<RowWriter, AllocErr
     Ok(writer)
 }
 
-// Needs lalrpop_table::RowWriter::add_edge: rows, tests.
-// Needs lalrpop_table::RowWriter::end_row: rows, tests.
+// Needs lalrpop_dfa::RowWriter::add_edge: rows, tests.
+// Needs lalrpop_dfa::RowWriter::end_row: rows, tests.
 /// Writes a state, with one more test edge than it has so far.
 pub fn write_state(
     writer: &mut RowWriter,
@@ -45,8 +45,8 @@ pub fn write_state(
     writer.end_row(items, kind, other)
 }
 
-// Needs lalrpop_table::RowWriter::len: ensures.
-// Needs lalrpop_table::RowWriter::item_set: ensures.
+// Needs lalrpop_dfa::RowWriter::len: ensures.
+// Needs lalrpop_dfa::RowWriter::item_set: ensures.
 /// The items of the last state, if there is one.
 pub fn last_items(writer: &RowWriter) -> Option<&ItemSet>
     ensures some { IfSome result (λ set. IsSomeAnd
@@ -60,8 +60,8 @@ pub fn last_items(writer: &RowWriter) -> Option<&ItemSet>
     }
 }
 
-// Needs lalrpop_table::RowWriter::into_rows: ensures.
-// Needs lalrpop_table::Dfa::new: ensures.
+// Needs lalrpop_dfa::RowWriter::into_rows: ensures.
+// Needs lalrpop_dfa::Dfa::new: ensures.
 /// The automaton of the states that were written.
 pub fn finished(alloc: Global, writer: RowWriter) -> Result<Dfa, AllocError>
     requires { IsWellFormed writer.rows }
@@ -70,7 +70,7 @@ pub fn finished(alloc: Global, writer: RowWriter) -> Result<Dfa, AllocError>
     Dfa::new(alloc, writer.into_rows())
 }
 
-// Needs lalrpop_table::Rows::clone: ghost is_clone.
+// Needs lalrpop_dfa::Rows::clone: ghost is_clone.
 /// The automaton of these states, which stay as they are.
 pub fn automaton_of_copies(alloc: Global, rows: &Rows) -> Result<Dfa, AllocError>
     requires { IsWellFormed rows.now }

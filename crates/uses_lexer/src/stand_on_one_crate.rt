@@ -46,7 +46,7 @@ pub fn compiled(alloc: Global, regex: &Regex) -> Result<Nfa, NfaConstructionErro
     Nfa::from_re(alloc, regex)
 }
 
-// Needs lalrpop_ranges::remove_overlap: partition.
+// Needs lalrpop_nfa::remove_overlap: partition.
 /// The partition of some ranges.
 ///
 /// # Errors
@@ -59,8 +59,8 @@ pub fn blocks(alloc: Global, ranges: &BTreeSet<Test>) -> Result<Vec<Test>, Alloc
     remove_overlap(alloc, ranges)
 }
 
-// Needs lalrpop_dfa::build_dfa: bound.
-// Needs lalrpop_table::Dfa::states: states.
+// Needs lalrpop_build::build_dfa: bound.
+// Needs lalrpop_dfa::Dfa::states: states.
 /// How many states the automaton of some patterns has.
 ///
 /// # Errors
@@ -78,7 +78,7 @@ pub fn state_count(
     Ok(dfa.states().len())
 }
 
-// Needs lalrpop_dfa::clashes: clashes, err.
+// Needs lalrpop_build::clashes: clashes, err.
 /// All clashes of some patterns.
 ///
 /// # Errors
@@ -97,7 +97,7 @@ pub fn all_clashes(
     clashes(alloc, regexs, precedences)
 }
 
-// Needs lalrpop_table::interpret_probed: probed.
+// Needs lalrpop_dfa::interpret_probed: probed.
 /// Whether some pattern matches, if no state has more than 15 test edges: at most four of them are examined for each
 /// character.
 pub fn matches_in_few_probes(dfa: &Dfa, text: &str, probes: &mut Steps) -> bool

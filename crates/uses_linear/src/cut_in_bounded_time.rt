@@ -4,15 +4,15 @@ ghost use Rattle.std.specs.Prelude.{◌≡◌, ℕ, ◌+◌, ◌*◌, ◌≤◌,
 ghost use Rattle.std.specs.Option.{option_map};
 ghost use Rattle.std.specs.Str.{chars};
 ghost use Rattle.lalrpop_book.specs.Longest.{IsLongest};
-ghost use Rattle.lalrpop_linear.specs.Matching.{characters_of, open_states};
-ghost use Rattle.lalrpop_table.specs.Lookahead.{IsLookahead};
+ghost use Rattle.lalrpop_lexer.specs.Matching.{characters_of, open_states};
+ghost use Rattle.lalrpop_dfa.specs.Lookahead.{IsLookahead};
 ghost use Rattle.lalrpop_lexer.specs.BoundedCutting.{cutting_of, steps_of, most_steps};
 ghost use Rattle.lalrpop_lexer.specs.Cutting.{rest_of};
 ghost use Rattle.lalrpop_lexer.specs.Rules.{IsBuiltFrom};
 
 use lalrpop_lexer::{BoundedTokens, Lexer};
-use lalrpop_ranges::Steps;
-use lalrpop_table::NfaIndex;
+use lalrpop_nfa::Steps;
+use lalrpop_dfa::NfaIndex;
 use std::alloc::{AllocError, Global};
 
 // Needs lalrpop_lexer::Lexer::tokens_bounded: cost.

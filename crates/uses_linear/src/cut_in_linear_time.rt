@@ -3,7 +3,7 @@
 ghost use Rattle.std.specs.Prelude.{◌≡◌, ◌+◌, ◌*◌, ◌≤◌, ◌⊎◌, [], length, true, IfOk};
 ghost use Rattle.std.specs.Str.{chars};
 ghost use Rattle.lalrpop_lexer.specs.Cutting.{rest_of};
-ghost use Rattle.lalrpop_linear.specs.Matching.{open_states};
+ghost use Rattle.lalrpop_lexer.specs.Matching.{open_states};
 
 use lalrpop_lexer::{Lexer, LinearTokens};
 use std::alloc::{AllocError, Global};

@@ -7,17 +7,17 @@ ghost use Rattle.std.specs.Str.{chars};
 ghost use Rattle.lalrpop_book.specs.Longest.{IsLongest};
 ghost use Rattle.lalrpop_book.specs.Prefix.{IsPrefix};
 ghost use Rattle.lalrpop_book.specs.Tree.{Tree};
-ghost use Rattle.lalrpop_linear.specs.Matching.{characters_of, open_states, rest_of};
-ghost use Rattle.lalrpop_table.specs.Dfa.{Recognizes};
+ghost use Rattle.lalrpop_lexer.specs.Matching.{characters_of, open_states, rest_of};
+ghost use Rattle.lalrpop_dfa.specs.Dfa.{Recognizes};
 
 use lalrpop_dense::DenseDfa;
-use lalrpop_linear::LinearMatches;
-use lalrpop_ranges::Steps;
-use lalrpop_table::NfaIndex;
+use lalrpop_lexer::LinearMatches;
+use lalrpop_nfa::Steps;
+use lalrpop_dfa::NfaIndex;
 use std::alloc::{AllocError, Global};
 
-// Needs lalrpop_linear::LinearMatches::new: start.
-// Needs lalrpop_linear::LinearMatches::rest: rest.
+// Needs lalrpop_lexer::LinearMatches::new: start.
+// Needs lalrpop_lexer::LinearMatches::rest: rest.
 /// Before the first match the rest is the whole text.
 ///
 /// # Errors
@@ -34,7 +34,7 @@ pub fn rest_at_first<'text>(
     Ok(matches.rest())
 }
 
-// Needs lalrpop_linear::LinearMatches::next_match: answer, prefix.
+// Needs lalrpop_lexer::LinearMatches::next_match: answer, prefix.
 /// The next match, whatever trees the automaton recognizes.
 pub fn find_next<'text>(matches: &mut LinearMatches<'text>) -> Option<(NfaIndex, &'text str)>
     ensures answer { (ts : List Tree) (ps : List ℕ) → Recognizes matches.old.automaton ts ps
@@ -45,8 +45,8 @@ pub fn find_next<'text>(matches: &mut LinearMatches<'text>) -> Option<(NfaIndex,
     matches.next_match(&mut Steps::new())
 }
 
-// Needs lalrpop_linear::LinearMatches::next_match: goes_on, stays.
-// Needs lalrpop_linear::LinearMatches::offset: offset.
+// Needs lalrpop_lexer::LinearMatches::next_match: goes_on, stays.
+// Needs lalrpop_lexer::LinearMatches::offset: offset.
 /// Passes over a match, if there is one, and returns where the rest then begins.
 pub fn pass_over(matches: &mut LinearMatches) -> usize
     ensures { matches.old.at ≤ result }
@@ -55,7 +55,7 @@ pub fn pass_over(matches: &mut LinearMatches) -> usize
     matches.offset()
 }
 
-// Needs lalrpop_linear::LinearMatches::pass_char: first, passes.
+// Needs lalrpop_lexer::LinearMatches::pass_char: first, passes.
 /// Passes over the first character of the rest, if there is one. The rest then begins after it.
 pub fn pass_first(matches: &mut LinearMatches) -> Option<char>
     ensures { IfSome result (λ c. rest_of matches.old
@@ -64,7 +64,7 @@ pub fn pass_first(matches: &mut LinearMatches) -> Option<char>
     matches.pass_char()
 }
 
-// Needs lalrpop_linear::LinearMatches::pass_char: end.
+// Needs lalrpop_lexer::LinearMatches::pass_char: end.
 /// Whether nothing is left of the text. If something is left, its first character is passed over.
 pub fn is_at_the_end(matches: &mut LinearMatches) -> bool
     ensures end { result ≡ true → rest_of matches.old ≡ [] }
@@ -73,8 +73,8 @@ pub fn is_at_the_end(matches: &mut LinearMatches) -> bool
     matches.pass_char().is_none()
 }
 
-// Needs lalrpop_linear::LinearMatches::new: spare.
-// Needs lalrpop_linear::LinearMatches::next_match: paid.
+// Needs lalrpop_lexer::LinearMatches::new: spare.
+// Needs lalrpop_lexer::LinearMatches::next_match: paid.
 /// The first match of the text, and what it costs.
 ///
 /// # Errors

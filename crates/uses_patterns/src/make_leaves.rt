@@ -1,6 +1,6 @@
 //! The trees of the leaves of a pattern, under its flags.
 ghost use Rattle.std.specs.Prelude.{◌≡◌, ◌≤◌, not, is_some, true, IfOk, IfSome};
-ghost use Rattle.lalrpop_sets.specs.CharacterSet.{Set, range, set_tree, HasRuns};
+ghost use Rattle.lalrpop_grammar.specs.CharacterSet.{Set, range, set_tree, HasRuns};
 ghost use Rattle.lalrpop_grammar.specs.Bracket.{leaf, leaf_or_complement};
 ghost use Rattle.lalrpop_grammar.specs.GroupName.{names, are_distinct, IsFirstRepeated};
 ghost use Rattle.lalrpop_grammar.specs.Pattern.{literal_tree, dot_tree};

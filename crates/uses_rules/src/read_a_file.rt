@@ -3,13 +3,13 @@ ghost use Rattle.std.specs.Prelude.{◌≡◌, ℕ, List, length, IfOk, IfErr, I
 ghost use Rattle.lalrpop_lexer.specs.Lines.{lines};
 ghost use Rattle.lalrpop_rules.specs.RuleSet.{names_of};
 ghost use Rattle.lalrpop_rules.specs.declared.rule.Rule.{Rule as RuleValue};
-ghost use Rattle.lalrpop_rule_file.specs.RuleFile.{AreRules, IsFirstBad, IsLineFault, without_mark as without_mark_of};
+ghost use Rattle.lalrpop_rules.specs.RuleFile.{AreRules, IsFirstBad, IsLineFault, without_mark as without_mark_of};
 
-use lalrpop_rule_file::{LineFault, RuleFileError, read_rules, without_mark};
+use lalrpop_rules::{LineFault, RuleFileError, read_rules, without_mark};
 use lalrpop_rules::{RuleLexer, RulesError};
 use std::alloc::{AllocError, Global};
 
-// Needs lalrpop_rule_file::without_mark: ensures.
+// Needs lalrpop_rules::without_mark: ensures.
 /// How many bytes of a file are read as lines.
 pub fn bytes_of_lines(bytes: &[u8]) -> usize
     ensures count { result ≡ length (without_mark_of bytes.now) }
@@ -17,7 +17,7 @@ pub fn bytes_of_lines(bytes: &[u8]) -> usize
     without_mark(bytes).len()
 }
 
-// Needs lalrpop_rule_file::read_rules: rules, error.
+// Needs lalrpop_rules::read_rules: rules, error.
 /// The first bad line of a file, counted from 1, if there is one.
 ///
 /// # Errors
@@ -35,7 +35,7 @@ pub fn first_bad_line(alloc: Global, bytes: &[u8]) -> Result<Option<usize>, Allo
     }
 }
 
-// Needs lalrpop_rule_file::read_rules: error.
+// Needs lalrpop_rules::read_rules: error.
 /// In which column the first bad line stops being a rule, and why.
 ///
 /// # Errors
@@ -58,7 +58,7 @@ pub fn first_fault(alloc: Global, bytes: &[u8]) -> Result<Option<(usize, LineFau
     }
 }
 
-// Needs lalrpop_rule_file::read_rules: rules.
+// Needs lalrpop_rules::read_rules: rules.
 /// The lexer of a file of rules; `None` if the file isn't one.
 ///
 /// # Errors
@@ -77,7 +77,7 @@ pub fn lexer_of_file(alloc: Global, bytes: &[u8]) -> Result<Option<RuleLexer>, R
     }
 }
 
-// Needs lalrpop_rule_file::RuleFileError::from: ghost from_gives.
+// Needs lalrpop_rules::RuleFileError::from: ghost from_gives.
 /// Refused memory is reported as such.
 pub fn refused(error: AllocError) -> RuleFileError
     ensures memory { result ≡ RuleFileError.OutOfMemory }
@@ -85,7 +85,7 @@ pub fn refused(error: AllocError) -> RuleFileError
     RuleFileError::from(error)
 }
 
-// Needs lalrpop_rule_file::RuleFileError::from: ghost from_gives.
+// Needs lalrpop_rules::RuleFileError::from: ghost from_gives.
 /// Adds a number.
 ///
 /// # Errors

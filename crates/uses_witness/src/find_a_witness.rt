@@ -2,16 +2,16 @@
 
 ghost use Rattle.std.specs.Prelude.{◌≡◌, ℕ, ◌<◌, List, length, Some, Ok, true, false, IfOk, IfSome, IfNone};
 ghost use Rattle.lalrpop_book.specs.Word.{IsWord};
-ghost use Rattle.lalrpop_table.specs.Dfa.{after};
-ghost use Rattle.lalrpop_table.specs.Lookahead.{IsAccepting, IsLookahead, StaysOpen};
-ghost use Rattle.lalrpop_witness.specs.Witness.{IsWitness, LeavesOpen};
+ghost use Rattle.lalrpop_dfa.specs.Dfa.{after};
+ghost use Rattle.lalrpop_dfa.specs.Lookahead.{IsAccepting, IsLookahead, StaysOpen};
+ghost use Rattle.lalrpop_dfa.specs.Witness.{IsWitness, LeavesOpen};
 
-use lalrpop_table::Dfa;
-use lalrpop_table::lookahead::lookahead;
-use lalrpop_witness::{Witness, lookahead_witness};
+use lalrpop_dfa::Dfa;
+use lalrpop_dfa::lookahead::lookahead;
+use lalrpop_dfa::{Witness, lookahead_witness};
 use std::alloc::{AllocError, Global};
 
-// Needs lalrpop_witness::lookahead_witness: least.
+// Needs lalrpop_dfa::lookahead_witness: least.
 /// A match, and `count` values after it that leave it open.
 ///
 /// # Errors
@@ -29,7 +29,7 @@ pub fn open_match(alloc: Global, dfa: &Dfa, count: usize) -> Result<Option<Witne
     lookahead_witness(alloc, dfa, count)
 }
 
-// Needs lalrpop_witness::lookahead_witness: none.
+// Needs lalrpop_dfa::lookahead_witness: none.
 /// Whether some match is left open by `count` values.
 ///
 /// # Errors
@@ -45,7 +45,7 @@ pub fn is_left_open(alloc: Global, dfa: &Dfa, count: usize) -> Result<bool, Allo
     }
 }
 
-// Needs lalrpop_witness::lookahead_witness: least.
+// Needs lalrpop_dfa::lookahead_witness: least.
 /// What makes the automaton look ahead as far as it does; `None` if it doesn't look ahead, or if its lookahead has no limit.
 ///
 /// # Errors
@@ -62,7 +62,7 @@ pub fn farthest(alloc: Global, dfa: &Dfa) -> Result<Option<Witness>, AllocError>
     }
 }
 
-// Needs lalrpop_witness::lookahead_witness: none.
+// Needs lalrpop_dfa::lookahead_witness: none.
 /// Whether `count` values leave a match open, in an automaton where a word leads to each state, as in those that `build_dfa`
 /// builds. If not, no accepting state is left open by them.
 ///

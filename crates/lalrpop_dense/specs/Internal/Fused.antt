@@ -1,7 +1,7 @@
 -- The fused table of a table: where a match ends before a character, it leads on to a copy of the row that START leads to.
 use Rattle.std.specs.Prelude.{◌≡◌, ◌≢◌, ℕ, ◌+◌, ◌<◌, ◌≤◌, ◌⊎◌, List, length, slice_index, IfSome}
 use Rattle.std.specs.List.{Contains}
-use Rattle.lalrpop_table.specs.Dfa.{Row}
+use Rattle.lalrpop_dfa.specs.Dfa.{Row}
 use Rattle.lalrpop_dense.specs.Internal.Table.{IsTableOf, class_of, numbers_of, row_of}
 use Rattle.lalrpop_dense.specs.Internal.Stays.{IsIn, AreIn}
 use Rattle.lalrpop_dense.specs.declared.table.Layout.{Layout}

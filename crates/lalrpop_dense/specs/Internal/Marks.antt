@@ -3,7 +3,7 @@ use Rattle.std.specs.Prelude.{◌≡◌, ℕ, ◌+◌, ◌-◌, ◌<◌, List, [
 use Rattle.std.specs.Str.{IsCharBoundary}
 use Rattle.lalrpop_book.specs.Tree.{Tree}
 use Rattle.lalrpop_book.specs.Longest.{IsLongest}
-use Rattle.lalrpop_table.specs.Dfa.{Row, Recognizes}
+use Rattle.lalrpop_dfa.specs.Dfa.{Row, Recognizes}
 use Rattle.lalrpop_dense.specs.declared.table.Layout.{Layout}
 use Rattle.lalrpop_dense.specs.declared.fused.Fused.{Fused}
 use Rattle.lalrpop_dense.specs.declared.mark.Mark.{Mark}

@@ -1,6 +1,6 @@
 -- Runs of characters of one class.
 use Rattle.std.specs.Prelude.{◌≡◌, ℕ, ◌+◌, ◌-◌, ◌/◌, ◌%◌, ◌<◌, ◌≤◌, List, slice_index}
-use Rattle.lalrpop_table.specs.Dfa.{Row, step}
+use Rattle.lalrpop_dfa.specs.Dfa.{Row, step}
 use Rattle.lalrpop_dense.specs.Internal.Table.{class_of, page_of, row_of}
 use Rattle.lalrpop_dense.specs.declared.table.Layout.{Layout}
 use Rattle.lalrpop_dense.specs.declared.check.Run.{Run}

@@ -1,8 +1,8 @@
 -- A table of where characters lead, and when it is right for an automaton.
 use Rattle.std.specs.Prelude.{◌≡◌, ℕ, ◌+◌, ◌-◌, ◌*◌, ◌/◌, ◌%◌, ◌^◌, ◌<◌, ◌≤◌, List, length, min, slice_get, slice_index, Some}
-use Rattle.lalrpop_table.specs.Dfa.{Row, step}
-use Rattle.lalrpop_table.specs.declared.Kind.{Kind}
-use Rattle.lalrpop_table.specs.declared.Kind.TheVariants.{Accepts, Reject, Neither}
+use Rattle.lalrpop_dfa.specs.Dfa.{Row, step}
+use Rattle.lalrpop_dfa.specs.declared.Kind.{Kind}
+use Rattle.lalrpop_dfa.specs.declared.Kind.TheVariants.{Accepts, Reject, Neither}
 use Rattle.lalrpop_dense.specs.declared.table.Layout.{Layout}
 use Rattle.lalrpop_dense.specs.declared.table.StoredCells.{StoredCells}
 use Rattle.lalrpop_dense.specs.declared.table.StoredCells.TheVariants.{Narrow, Wide}

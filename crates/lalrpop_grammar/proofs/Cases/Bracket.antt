@@ -2,22 +2,22 @@
 use Rattle.std.proofs.Common.{◌≡◌, ℕ, suc, ◌<◌, Bool, true, false, not, ◌||◌, IsTrue, IsFalse, List, [], ◌∷◌, ◌++◌, Option, Some, None, refl, codes, lit<, lit≤, ap, get_or, arith, sym, ◌∙◌}
 use mathlib.Core.Bool.{xor}
 use Rattle.lalrpop_grammar.specs.Text.{Text}
-use Rattle.lalrpop_sets.specs.CharacterSet.{Set}
+use Rattle.lalrpop_grammar.specs.CharacterSet.{Set}
 use Rattle.lalrpop_grammar.specs.Escape.{sign}
 use Rattle.lalrpop_grammar.specs.Bracket.{Posix, a_class, a_complement, NoPosix, Primary, escaped, plain, Stands, a_character, a_set, Hyphens, last, more, Lead, hyphens, closing, none, Item, a_posix, a_bracket, a_primary, a_range, Operand, no_item, item_then, Operands, first, operated, Bracket, a_bracket_of, a_negated_of, Difference, Intersection, SymmetricDifference}
 use Rattle.lalrpop_grammar.specs.Internal.Reading as reading
 use Rattle.lalrpop_grammar.proofs.BracketLaws.{bracket_sound, Bracket-complete}
 use Rattle.lalrpop_grammar.specs.declared.flags.Flags.{Flags}
 use Rattle.lalrpop_grammar.specs.Flag.{no_flags}
-use Rattle.lalrpop_sets.specs.CharacterSet.{just, fold}
-use Rattle.lalrpop_sets.proofs.Cases.CharacterSet.{other_case_is_folded, other_letter_is_not_folded}
+use Rattle.lalrpop_grammar.specs.CharacterSet.{just, fold}
+use Rattle.lalrpop_grammar.proofs.Cases.CharacterSet.{other_case_is_folded, other_letter_is_not_folded}
 
 -- a set that a whole bracket spells, which passes a test
 abbrev Spells : List ℕ → (Set → Type 0) → Type 0
 Spells text P = (s : Set) × (d : ℕ) × Bracket no_flags text [] s d × P s
 
 -- a character as an item alone
-alone_at : {c : ℕ} {r : Text} → IsTrue (Rattle.lalrpop_grammar.specs.Bracket.begins_primary (c ∷ r)) → IsFalse (Rattle.lalrpop_sets.specs.CharacterSet.is_one_of "\\" c) → IsFalse (Rattle.lalrpop_grammar.specs.Bracket.begins_range r) → Item no_flags (c ∷ r) r (λ d. Rattle.std.proofs.Common.nat_eq d c) 0
+alone_at : {c : ℕ} {r : Text} → IsTrue (Rattle.lalrpop_grammar.specs.Bracket.begins_primary (c ∷ r)) → IsFalse (Rattle.lalrpop_grammar.specs.CharacterSet.is_one_of "\\" c) → IsFalse (Rattle.lalrpop_grammar.specs.Bracket.begins_range r) → Item no_flags (c ∷ r) r (λ d. Rattle.std.proofs.Common.nat_eq d c) 0
 alone_at p q n = a_primary p (plain q) n a_character
 
 -- `[+--]`: `+`, and the empty operand taken away

@@ -2,8 +2,8 @@
 use Rattle.std.proofs.Common.{◌≡◌, ℕ, [], ◌∷◌, true, false, Some, None, codes, refl, sym, subst, ◌∙◌, lit<, arith}
 use Rattle.lalrpop_book.specs.declared.look.Look.TheVariants.{WordStartUnicode, WordUnicode}
 use Rattle.lalrpop_grammar.specs.Text.{Text}
-use Rattle.lalrpop_sets.specs.CharacterSet.{Set, is_scalar}
-use Rattle.lalrpop_sets.specs.NamedSet.{named}
+use Rattle.lalrpop_grammar.specs.CharacterSet.{Set, is_scalar}
+use Rattle.lalrpop_grammar.specs.NamedSet.{named}
 use Rattle.unicode.specs.Loose.{normalize}
 use Rattle.lalrpop_grammar.specs.Escape.{Escaped, character, assertion, this, code, unknown, is_mark, sign, begins_edge, is_set_name_char, hex_value, IsHex, IsSetName, at_once, digits_alone, digits_braced, edge_alone, edge_start, Escape, escape_of}
 use Rattle.lalrpop_grammar.specs.Internal.Reading as reading

@@ -6,7 +6,7 @@ use Rattle.lalrpop_book.specs.Tree.{Tree, literal, class, unicode, repetition, l
 use Rattle.lalrpop_hir.specs.Parts.{trees}
 use Rattle.lalrpop_book.specs.declared.look.Look.TheVariants.{WordUnicode}
 use Rattle.lalrpop_grammar.specs.Text.{Text, begins}
-use Rattle.lalrpop_sets.specs.CharacterSet.{fold, just, canon}
+use Rattle.lalrpop_grammar.specs.CharacterSet.{fold, just, canon}
 use Rattle.lalrpop_grammar.specs.declared.flags.Flags.{Flags}
 use Rattle.lalrpop_grammar.specs.Flag.{no_flags, on, on_and_off}
 use Rattle.lalrpop_grammar.specs.GroupName.{names, are_distinct}

@@ -6,14 +6,14 @@ use Rattle.unicode.specs.Binary.{is_white_space}
 use Rattle.lalrpop_book.specs.Tree.{Tree, look, repetition, capture}
 use Rattle.lalrpop_book.specs.declared.look.Look.TheVariants.{WordUnicode, WordStartUnicode, WordEndUnicode, WordStartHalfUnicode, WordEndHalfUnicode, Start, End, StartLF, EndLF}
 use Rattle.lalrpop_grammar.specs.Text.{Text, begins}
-use Rattle.lalrpop_sets.specs.CharacterSet.{Set, is_scalar, just, range, union_all, complement, set_tree, is_one_of}
+use Rattle.lalrpop_grammar.specs.CharacterSet.{Set, is_scalar, just, range, union_all, complement, set_tree, is_one_of}
 use Rattle.lalrpop_grammar.specs.declared.flags.Flags.{Flags}
 use Rattle.lalrpop_grammar.specs.Flag.{no_flags, is_distinct, with_flags}
 use Rattle.lalrpop_grammar.specs.GroupName.{is_name, names, are_distinct}
 use Rattle.lalrpop_grammar.specs.Escape.{Escaped, character, set, assertion, Sign, this, code, property, edge, unknown, sign, hex_value, is_set_name_char}
-use Rattle.lalrpop_sets.specs.NamedSet.{named}
+use Rattle.lalrpop_grammar.specs.NamedSet.{named}
 use Rattle.lalrpop_grammar.specs.Bracket.{leaf, leaves, leaf_or_complement, SetOperator, Intersection, Difference, SymmetricDifference, apply, ends_operand, begins_range}
-use Rattle.lalrpop_sets.specs.PosixSet.{posix_set}
+use Rattle.lalrpop_grammar.specs.PosixSet.{posix_set}
 use Rattle.lalrpop_grammar.specs.Operator.{decimal}
 use Rattle.lalrpop_grammar.specs.Pattern.{is_special, ends_branch, literal_tree, escaped_tree, dot_tree, branch, choice}
 

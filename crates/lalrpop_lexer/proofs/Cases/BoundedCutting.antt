@@ -7,8 +7,8 @@ use Rattle.lalrpop_lexer.specs.Counting.{Counting}
 use Rattle.lalrpop_lexer.specs.LinearCutting.{LinearCutting}
 use Rattle.lalrpop_lexer.specs.BoundedCutting.{cutting_of, steps_of, GivesBounded, most_steps}
 use Rattle.lalrpop_lexer.specs.declared.bounded.BoundedTokens.TheVariants.{Looking, Remembering}
-use Rattle.lalrpop_table.specs.Dfa.{Row}
-use Rattle.lalrpop_table.specs.declared.Kind.TheVariants.{Neither}
+use Rattle.lalrpop_dfa.specs.Dfa.{Row}
+use Rattle.lalrpop_dfa.specs.declared.Kind.TheVariants.{Neither}
 
 -- a text behind a fault
 abbrev over : Cutting

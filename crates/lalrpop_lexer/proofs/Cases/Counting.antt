@@ -1,9 +1,9 @@
 -- Cases of specs/Counting.antt: `a` and `b` are cut off a text by an automaton that looks at no more than the next character.
 use Rattle.std.proofs.Common.{◌≡◌, ℕ, zero, suc, ◌+◌, ◌*◌, ◌≤◌, true, List, [], ◌∷◌, inl, refl, arith}
 use Rattle.std.specs.Prelude.{None}
-use Rattle.lalrpop_table.specs.Dfa.{Row}
-use Rattle.lalrpop_table.specs.Lookahead.{LooksAtMost}
-use Rattle.lalrpop_table.specs.declared.Kind.TheVariants.{Accepts, Reject}
+use Rattle.lalrpop_dfa.specs.Dfa.{Row}
+use Rattle.lalrpop_dfa.specs.Lookahead.{LooksAtMost}
+use Rattle.lalrpop_dfa.specs.declared.Kind.TheVariants.{Accepts, Reject}
 use Rattle.lalrpop_lexer.specs.Cutting.{Cutting, left_of}
 use Rattle.lalrpop_lexer.specs.Counting.{Counting, counting_of, IsPaid, GivesCounted}
 

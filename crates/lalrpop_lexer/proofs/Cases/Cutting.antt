@@ -1,7 +1,7 @@
 -- Cases of specs/Cutting.antt.
 use Rattle.std.proofs.Common.{◌≡◌, ℕ, List, [], true, inl, inr, codes, refl}
 use Rattle.std.specs.Prelude.{Some, None, Ok, Err}
-use Rattle.lalrpop_table.specs.Dfa.{Row}
+use Rattle.lalrpop_dfa.specs.Dfa.{Row}
 use Rattle.lalrpop_lexer.specs.Cutting.{Cutting, start_of, left_of, GivesItem}
 use Rattle.lalrpop_book.specs.Tokens.{Item}
 

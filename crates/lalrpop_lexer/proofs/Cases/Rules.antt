@@ -2,8 +2,8 @@
 use Rattle.std.proofs.Common.{◌≡◌, ℕ, zero, suc, List, [], ◌∷◌, Some, None, refl, sym, subst, arith}
 use Rattle.std.specs.Prelude.{slice_get, slice_index, IsSomeAnd}
 use Rattle.lalrpop_book.specs.Tree.{Tree, empty}
-use Rattle.lalrpop_table.specs.Dfa.{Row, step, run, IsRightKind, IsReject}
-use Rattle.lalrpop_table.specs.declared.Kind.TheVariants.{Reject}
+use Rattle.lalrpop_dfa.specs.Dfa.{Row, step, run, IsRightKind, IsReject}
+use Rattle.lalrpop_dfa.specs.declared.Kind.TheVariants.{Reject}
 use Rattle.lalrpop_book.specs.Winners.{Matched, IsStrongest}
 use Rattle.lalrpop_lexer.specs.Rules.{IsBuiltFrom}
 

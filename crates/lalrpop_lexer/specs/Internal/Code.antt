@@ -4,9 +4,9 @@ use Rattle.std.specs.Coded.{Coded, code_by, coded×, coded_list, coded_option, c
 use Rattle.lalrpop_hir.specs.Internal.Code.{range_code, tree_code}
 use Rattle.lalrpop_book.specs.Range.{Range}
 use Rattle.lalrpop_book.specs.Tree.{Tree}
-use Rattle.lalrpop_table.specs.Dfa.{Row}
-use Rattle.lalrpop_table.specs.declared.Kind.{Kind}
-use Rattle.lalrpop_table.specs.declared.Kind.TheVariants.{Accepts, Reject, Neither}
+use Rattle.lalrpop_dfa.specs.Dfa.{Row}
+use Rattle.lalrpop_dfa.specs.declared.Kind.{Kind}
+use Rattle.lalrpop_dfa.specs.declared.Kind.TheVariants.{Accepts, Reject, Neither}
 use Rattle.lalrpop_lexer.specs.Rules.{Rules}
 
 abbrev option_of_kind : Kind → Option (Option ℕ)

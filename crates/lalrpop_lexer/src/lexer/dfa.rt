@@ -1,8 +1,7 @@
 //! The automaton of a list of patterns.
 
 pub use lalrpop_dense::{DenseDfa, Marks, Matcher};
-pub use lalrpop_dfa::{
-    Clash, Dfa, DfaConstructionError, DfaStateIndex, Kind, NfaIndex, Precedence, START, State,
-    build_dfa, clashes, interpret, lookahead, overlap,
-};
-pub use lalrpop_witness::{Witness, lookahead_witness};
+pub use lalrpop_build::{Clash, DfaConstructionError, NfaIndex, Precedence, build_dfa, clashes};
+pub use lalrpop_dfa::{Dfa, DfaStateIndex, Kind, START, State, interpret, lookahead};
+pub use lalrpop_nfa::overlap;
+pub use lalrpop_dfa::{Witness, lookahead_witness};

@@ -6,7 +6,7 @@ use Rattle.lalrpop_grammar.specs.declared.flags.Flags.{Flags}
 use Rattle.lalrpop_re.specs.declared.parser.Nested.{Nested}
 use Rattle.lalrpop_re.specs.declared.parser.Row.{Row}
 use Rattle.lalrpop_grammar.specs.Text.{Text, begins}
-use Rattle.lalrpop_sets.specs.CharacterSet.{set_tree}
+use Rattle.lalrpop_grammar.specs.CharacterSet.{set_tree}
 use Rattle.lalrpop_grammar.specs.Pattern.{escaped_tree}
 use Rattle.lalrpop_grammar.specs.Internal.Reading.{◌>>=◌, Opened, a_plain_group, a_named_group, a_flagged_group, a_directive_to, opened, escape, bracket, Part, Line, Whole, Reader, all_operators, enclosed, piece}
 use Rattle.lalrpop_re.specs.Internal.Views.{text}

@@ -14,7 +14,7 @@ use Rattle.lalrpop_re.specs.declared.bracket.BracketOperator.TheVariants as oper
 use Rattle.lalrpop_grammar.specs.declared.error.SyntaxKind.TheVariants.{GroupName}
 use Rattle.lalrpop_grammar.specs.GroupName.{IsFirstRepeated}
 use Rattle.lalrpop_grammar.specs.Text.{Text}
-use Rattle.lalrpop_sets.specs.CharacterSet.{Set, Members, HasRuns}
+use Rattle.lalrpop_grammar.specs.CharacterSet.{Set, Members, HasRuns}
 use Rattle.lalrpop_grammar.specs.Escape.{Escaped, character, set, assertion}
 use Rattle.lalrpop_grammar.specs.Bracket.{SetOperator, Intersection, Difference, SymmetricDifference}
 use Rattle.lalrpop_grammar.specs.Internal.Reading.{Opened, a_plain_group, a_named_group, a_flagged_group, a_directive_to}

@@ -2,7 +2,7 @@ use Rattle.std.proofs.Common.{◌≡◌, ℕ, ◌<◌, ◌≤◌, ◌++◌, List
 use Rattle.std.specs.Str.{IsCharBoundary}
 use Rattle.lalrpop_book.specs.Tree.{Tree}
 use Rattle.lalrpop_book.specs.declared.token.Token.{Token}
-use Rattle.lalrpop_table.specs.Dfa.{Recognizes}
+use Rattle.lalrpop_dfa.specs.Dfa.{Recognizes}
 use Rattle.lalrpop_dense.specs.Leading.{LeadTo}
 use Rattle.lalrpop_dense.specs.Internal.Marks.{AreMarks}
 use Rattle.lalrpop_dense.proofs.block.push_marked.Given as goal

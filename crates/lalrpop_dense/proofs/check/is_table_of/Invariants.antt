@@ -1,6 +1,6 @@
 use Rattle.std.proofs.Common.{◌≡◌, ℕ, ◌<◌, Some}
 use Rattle.std.specs.Prelude.{slice_get}
-use Rattle.lalrpop_table.specs.Dfa.{Row}
+use Rattle.lalrpop_dfa.specs.Dfa.{Row}
 use Rattle.lalrpop_dense.specs.Internal.Table.{IsRowOfKind, LeadsRight, row_of}
 use Rattle.lalrpop_dense.proofs.check.is_table_of.Given as goal
 

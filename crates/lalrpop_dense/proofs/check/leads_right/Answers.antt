@@ -1,7 +1,7 @@
 use Rattle.std.proofs.Common.{◌≡◌, ℕ, ◌<◌, ◌+◌, ◌∙◌, get_or, length, sym, ap, arith, refl}
 use Rattle.std.proofs.lemmas.List.{get_or_read_under}
-use Rattle.lalrpop_table.specs.Dfa.{step, edge_target}
-use Rattle.lalrpop_table.proofs.EdgeTargets.{step_within}
+use Rattle.lalrpop_dfa.specs.Dfa.{step, edge_target}
+use Rattle.lalrpop_dfa.proofs.EdgeTargets.{step_within}
 use Rattle.lalrpop_dense.specs.Internal.Table.{row_of}
 use Rattle.lalrpop_dense.specs.Internal.Runs.{IsRun}
 use Rattle.lalrpop_dense.proofs.Rights.{row_leads, right_on}

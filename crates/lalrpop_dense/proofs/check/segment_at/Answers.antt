@@ -1,6 +1,6 @@
 use Rattle.std.proofs.Common.{◌≡◌, ◌∙◌, Some, sym, ap, arith}
 use Rattle.std.proofs.lemmas.Option.{slice_get_within}
-use Rattle.lalrpop_table.proofs.EdgeTargets.{at_place, leads_at, leads_between}
+use Rattle.lalrpop_dfa.proofs.EdgeTargets.{at_place, leads_at, leads_between}
 use Rattle.lalrpop_dense.proofs.check.segment_at.Goals as goal
 
 pub returns-in-Some-clause-leads : goal.returns-in-Some-clause-leads

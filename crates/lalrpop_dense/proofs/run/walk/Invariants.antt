@@ -2,9 +2,9 @@ use Rattle.std.proofs.Common.{◌≡◌, ℕ, ◌+◌, ◌-◌, ◌≤◌, List,
 use Rattle.std.specs.Option.{option_map, IfSome}
 use Rattle.std.specs.Str.{chars}
 use Rattle.lalrpop_book.specs.Tree.{Tree}
-use Rattle.lalrpop_table.specs.Dfa.{Recognizes}
-use Rattle.lalrpop_table.proofs.LongestLemmas.{IsLongestUpTo}
-use Rattle.lalrpop_table.proofs.Trails.{HasTrail}
+use Rattle.lalrpop_dfa.specs.Dfa.{Recognizes}
+use Rattle.lalrpop_dfa.proofs.LongestLemmas.{IsLongestUpTo}
+use Rattle.lalrpop_dfa.proofs.Trails.{HasTrail}
 use Rattle.lalrpop_dense.specs.Internal.Reading.{IsPlace, PaysPast, found}
 use Rattle.lalrpop_dense.proofs.Walks.{IsWalked}
 use Rattle.lalrpop_dense.proofs.run.walk.Given as goal

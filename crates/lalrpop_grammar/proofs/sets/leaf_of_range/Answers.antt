@@ -1,6 +1,6 @@
 use Rattle.std.proofs.Common.{false}
 use Rattle.std.proofs.lemmas.Result.{IfOk-weaker}
-use Rattle.lalrpop_sets.specs.CharacterSet.{Set, range, HasRuns}
+use Rattle.lalrpop_grammar.specs.CharacterSet.{Set, range, HasRuns}
 use Rattle.lalrpop_grammar.specs.Bracket.{leaf, leaf_or_complement}
 use Rattle.lalrpop_grammar.proofs.sets.leaf_of_range.Goals as goal
 

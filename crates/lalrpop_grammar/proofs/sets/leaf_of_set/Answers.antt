@@ -2,7 +2,7 @@ use Rattle.std.proofs.Common.{sym, subst}
 use Rattle.std.proofs.lemmas.Result.{IfOk-weaker}
 use Rattle.lalrpop_book.specs.Range.{Covered}
 use Rattle.lalrpop_hir.specs.Runs.{IsCanon}
-use Rattle.lalrpop_sets.specs.CharacterSet.{Set, HasRuns}
+use Rattle.lalrpop_grammar.specs.CharacterSet.{Set, HasRuns}
 use Rattle.lalrpop_grammar.specs.Bracket.{leaf, leaf_or_complement}
 use Rattle.lalrpop_grammar.proofs.SetLaws.{HasRuns-complement, HasRuns-folded, HasRuns-unfolded}
 use Rattle.lalrpop_grammar.proofs.sets.leaf_of_set.Goals as goal

@@ -2,7 +2,7 @@ use Rattle.std.proofs.Common.{rules, ◌≡◌, ◌∷◌, [], sym, ◌∙◌}
 use Rattle.std.proofs.lemmas.Result.{IfOk-weaker}
 use Rattle.lalrpop_book.specs.Tree.{literal}
 use Rattle.lalrpop_hir.specs.Parts.{of_text}
-use Rattle.lalrpop_sets.specs.CharacterSet.{just, fold, HasRuns}
+use Rattle.lalrpop_grammar.specs.CharacterSet.{just, fold, HasRuns}
 use Rattle.lalrpop_grammar.specs.Pattern.{literal_tree}
 use Rattle.lalrpop_grammar.proofs.SetLaws.{HasRuns-just, text-one, literal-plain, literal-alone, literal-folded}
 use Rattle.lalrpop_grammar.proofs.sets.tree_of_character.Goals as goal

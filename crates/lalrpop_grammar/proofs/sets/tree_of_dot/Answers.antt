@@ -1,7 +1,7 @@
 use Rattle.std.proofs.Common.{cond, subst}
 use Rattle.lalrpop_book.specs.Range.{Covered}
 use Rattle.lalrpop_hir.specs.Runs.{IsCanon}
-use Rattle.lalrpop_sets.specs.CharacterSet.{Set, nothing, just, complement, HasRuns}
+use Rattle.lalrpop_grammar.specs.CharacterSet.{Set, nothing, just, complement, HasRuns}
 use Rattle.lalrpop_grammar.proofs.SetLaws.{HasRuns-nothing, HasRuns-just, HasRuns-complement}
 use Rattle.lalrpop_grammar.proofs.sets.tree_of_dot.Goals as goal
 use Rattle.lalrpop_grammar.proofs.sets.tree_of_dot.Goals.{then-flags+in_ok-left_out, else-flags+in_ok-left_out-2}

@@ -1,6 +1,6 @@
 use Rattle.std.proofs.Common.{◌≡◌, ◌∙◌, ◌+◌, [], ◌∷◌, ◌++◌, length, drop, option_to_list, option_map, max, sym, ap, refl, subst, arith, rules}
 use Rattle.std.proofs.lemmas.Result.{err_from_is_err_and}
-use Rattle.lalrpop_sets.specs.CharacterSet.{complement, union_all}
+use Rattle.lalrpop_grammar.specs.CharacterSet.{complement, union_all}
 use Rattle.lalrpop_grammar.specs.Bracket.{apply, leaves, leaf_or_complement}
 use Rattle.lalrpop_grammar.specs.Internal.Reading.{whole_operand, item, bracket}
 use Rattle.lalrpop_re.specs.Internal.Views.{text, operator_view, HasMembers}

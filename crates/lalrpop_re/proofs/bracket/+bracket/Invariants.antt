@@ -1,5 +1,5 @@
 use Rattle.std.proofs.Common.{◌≡◌, ◌≤◌, ◌+◌, ◌*◌, List, option_to_list}
-use Rattle.lalrpop_sets.specs.CharacterSet.{Set, union_all, HasRuns}
+use Rattle.lalrpop_grammar.specs.CharacterSet.{Set, union_all, HasRuns}
 use Rattle.lalrpop_grammar.specs.Bracket.{leaves}
 use Rattle.lalrpop_grammar.specs.Internal.Reading.{whole_operand, all_operations, bracket}
 use Rattle.lalrpop_re.specs.Internal.Views.{text, unread, HasMembers}

@@ -1,7 +1,7 @@
 use Rattle.std.proofs.Common.{◌≡◌, Bool, List, ap, ◌∙◌}
 use Rattle.lalrpop_book.specs.Range.{Range}
 use Rattle.lalrpop_book.specs.Tree.{Tree}
-use Rattle.lalrpop_sets.specs.CharacterSet.{Set, set_tree, HasRuns}
+use Rattle.lalrpop_grammar.specs.CharacterSet.{Set, set_tree, HasRuns}
 use Rattle.lalrpop_grammar.specs.declared.flags.Flags.{Flags}
 use Rattle.lalrpop_re.specs.declared.escape_sequence.EscapedPart.TheVariants as code
 use Rattle.lalrpop_grammar.specs.Escape.{Escaped, character, set, assertion}

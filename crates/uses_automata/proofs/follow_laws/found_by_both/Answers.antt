@@ -1,5 +1,5 @@
 use Rattle.std.proofs.Common.{[], ◌∷◌}
-use Rattle.lalrpop_dfa.proofs.Agreeing.{agree}
+use Rattle.lalrpop_build.proofs.Agreeing.{agree}
 use Rattle.uses_automata.proofs.follow_laws.found_by_both.Goals as goal
 
 pub returns : goal.returns

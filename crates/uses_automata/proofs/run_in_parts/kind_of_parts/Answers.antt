@@ -1,10 +1,10 @@
 use Rattle.std.proofs.Common.{◌≡◌, ◌++◌, sym, ap, ◌∙◌, refl}
 use Rattle.std.specs.Str.{chars}
 use Rattle.std.proofs.lemmas.Str.{chars-append}
-use Rattle.lalrpop_table.specs.Dfa.{run, after}
-use Rattle.lalrpop_table.proofs.AfterLaws.{run_append}
-use Rattle.lalrpop_table.proofs.EdgeTargets.{the_some}
-use Rattle.lalrpop_table.proofs.LongestLemmas.{says_of}
+use Rattle.lalrpop_dfa.specs.Dfa.{run, after}
+use Rattle.lalrpop_dfa.proofs.AfterLaws.{run_append}
+use Rattle.lalrpop_dfa.proofs.EdgeTargets.{the_some}
+use Rattle.lalrpop_dfa.proofs.LongestLemmas.{says_of}
 use Rattle.uses_automata.proofs.run_in_parts.kind_of_parts.Goals as goal
 
 pub returns : goal.returns

@@ -3,8 +3,8 @@ use Rattle.std.specs.Str.{chars}
 use Rattle.std.proofs.lemmas.List.{map-id}
 use Rattle.std.proofs.lemmas.Iterator.{YieldsList-from_chars}
 use Rattle.std.proofs.lemmas.Iterator.Consumers.{YieldsList-end}
-use Rattle.lalrpop_table.specs.Dfa.{run, step}
-use Rattle.lalrpop_table.proofs.AfterLaws.{run_append}
+use Rattle.lalrpop_dfa.specs.Dfa.{run, step}
+use Rattle.lalrpop_dfa.proofs.AfterLaws.{run_append}
 use Rattle.uses_automata.proofs.run_in_parts.state_behind.Goals as goal
 
 pub loop-c-preserved : goal.loop-c-preserved

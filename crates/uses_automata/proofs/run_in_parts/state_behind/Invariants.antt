@@ -1,5 +1,5 @@
 use Rattle.std.proofs.Common.{◌≡◌, ◌<◌, length}
-use Rattle.lalrpop_table.specs.Dfa.{run}
+use Rattle.lalrpop_dfa.specs.Dfa.{run}
 use Rattle.uses_automata.proofs.run_in_parts.state_behind.Given as goal
 
 -- the state after the characters so far

@@ -1,7 +1,7 @@
 use Rattle.std.proofs.Common.{sym, ap, ◌∙◌, subst, length, ◌<◌, ℕ}
 use Rattle.std.specs.Str.{chars}
-use Rattle.lalrpop_table.specs.Dfa.{step}
-use Rattle.lalrpop_table.proofs.AfterLaws.{after_push, after_within}
+use Rattle.lalrpop_dfa.specs.Dfa.{step}
+use Rattle.lalrpop_dfa.proofs.AfterLaws.{after_push, after_within}
 use Rattle.uses_automata.proofs.run_in_parts.state_behind_one_more.Goals as goal
 
 pub step-requires : goal.step-requires

@@ -1,8 +1,8 @@
 use Rattle.std.proofs.Common.{ℕ, List, length, Some, None, Ok, Err, sym, subst}
 use Rattle.std.specs.Prelude.{Option, Result, IfOk, IfSome}
-use Rattle.lalrpop_table.specs.Dfa.{Row}
-use Rattle.lalrpop_table.specs.Lookahead.{IsLookahead}
-use Rattle.lalrpop_witness.specs.Witness.{IsWitness, OpenMatch}
+use Rattle.lalrpop_dfa.specs.Dfa.{Row}
+use Rattle.lalrpop_dfa.specs.Lookahead.{IsLookahead}
+use Rattle.lalrpop_dfa.specs.Witness.{IsWitness, OpenMatch}
 use Rattle.uses_witness.proofs.find_a_witness.farthest.Goals as goal
 
 -- the number of values is that of the witness

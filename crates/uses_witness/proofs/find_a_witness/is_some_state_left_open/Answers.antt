@@ -1,6 +1,6 @@
 use Rattle.std.proofs.Common.{subst}
-use Rattle.lalrpop_witness.specs.Witness.{LeavesOpen}
-use Rattle.lalrpop_witness.proofs.WitnessLaws.{open_from_state}
+use Rattle.lalrpop_dfa.specs.Witness.{LeavesOpen}
+use Rattle.lalrpop_dfa.proofs.WitnessLaws.{open_from_state}
 use Rattle.uses_witness.proofs.find_a_witness.is_some_state_left_open.Goals as goal
 
 pub returns : goal.returns

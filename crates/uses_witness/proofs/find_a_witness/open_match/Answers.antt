@@ -1,8 +1,8 @@
 use Rattle.std.proofs.Common.{◌≡◌, ℕ, List, Some, None, Ok, Err}
 use Rattle.std.specs.Prelude.{Option, Result, IfOk, IfSome}
-use Rattle.lalrpop_table.specs.Dfa.{Row}
-use Rattle.lalrpop_witness.specs.Witness.{IsWitness, OpenMatch}
-use Rattle.lalrpop_witness.proofs.WitnessLaws.{witness-unique}
+use Rattle.lalrpop_dfa.specs.Dfa.{Row}
+use Rattle.lalrpop_dfa.specs.Witness.{IsWitness, OpenMatch}
+use Rattle.lalrpop_dfa.proofs.WitnessLaws.{witness-unique}
 use Rattle.uses_witness.proofs.find_a_witness.open_match.Goals as goal
 
 no_other : {E : Type 0} (d : List Row) (n : ℕ) (r : Result (Option OpenMatch) E) → IfOk r (λ found. IfSome found (λ w. IsWitness d n w.word w.after))

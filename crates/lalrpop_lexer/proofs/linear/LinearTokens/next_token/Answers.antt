@@ -1,7 +1,7 @@
 use Rattle.std.proofs.Common.{◌≡◌, ◌≢◌, ℕ, ◌+◌, ◌*◌, ◌<◌, ◌≤◌, List, [], length, sym, ap, subst, ◌∙◌, arith, Bool, true, false, nat_eq}
 use Rattle.std.specs.Prelude.{Ok}
 use Rattle.std.specs.Str.{IsUtf8}
-use Rattle.lalrpop_linear.specs.Matching.{Matching}
+use Rattle.lalrpop_lexer.specs.Matching.{Matching}
 use Rattle.lalrpop_lexer.specs.Cutting.{Cutting, rest_of, left_of}
 use Rattle.lalrpop_lexer.proofs.Cuttings.{fewer, left_on, some_char}
 use Rattle.lalrpop_lexer.proofs.LinearCosts.{linear_token, linear_fault}

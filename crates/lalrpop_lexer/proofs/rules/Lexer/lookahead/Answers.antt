@@ -1,8 +1,8 @@
 use Rattle.std.proofs.Common.{◌≡◌, ℕ, List}
 use Rattle.std.specs.Prelude.{Option, Some, None, Result, Ok, Err, IfOk, IfSome}
 use Rattle.lalrpop_book.specs.Tree.{Tree}
-use Rattle.lalrpop_table.specs.Dfa.{Row, Recognizes}
-use Rattle.lalrpop_table.specs.Lookahead.{IsSettledAfter}
+use Rattle.lalrpop_dfa.specs.Dfa.{Row, Recognizes}
+use Rattle.lalrpop_dfa.specs.Lookahead.{IsSettledAfter}
 use Rattle.lalrpop_lexer.proofs.rules.Lexer.lookahead.Goals as goal
 
 pub returns-clause-answer : goal.returns-clause-answer

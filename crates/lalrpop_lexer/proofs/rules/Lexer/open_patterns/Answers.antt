@@ -1,6 +1,6 @@
 use Rattle.std.proofs.Common.{◌≡◌, ◌<◌, ◌↔◌, ℕ, length, true, ap, subst, ◌∙◌}
 use Rattle.std.specs.Prelude.{Some, IfOk, slice_get}
-use Rattle.lalrpop_table.specs.Lookahead.{StaysOpenEver}
+use Rattle.lalrpop_dfa.specs.Lookahead.{StaysOpenEver}
 use Rattle.lalrpop_lexer.specs.Rules.{Rules}
 use Rattle.lalrpop_lexer.proofs.rules.Lexer.open_patterns.Goals as goal
 

@@ -1,7 +1,7 @@
 use Rattle.std.proofs.Common.{◌≡◌, ℕ, refl, ap, sym, subst, ◌∙◌, List}
 use Rattle.std.specs.Prelude.{Option, Some, None}
-use Rattle.lalrpop_table.specs.Dfa.{Row}
-use Rattle.lalrpop_table.specs.Lookahead.{IsLookahead}
+use Rattle.lalrpop_dfa.specs.Dfa.{Row}
+use Rattle.lalrpop_dfa.specs.Lookahead.{IsLookahead}
 use Rattle.lalrpop_lexer.specs.Cutting.{Cutting, start_of}
 use Rattle.lalrpop_lexer.specs.Counting.{Counting}
 use Rattle.lalrpop_lexer.specs.LinearCutting.{LinearCutting}

@@ -1,6 +1,6 @@
 use Rattle.std.proofs.Common.{◌≡◌, ◌∙◌, ◌+◌, ◌*◌, ◌≤◌, ap, length, subst, false}
 use Rattle.std.specs.Str.{chars}
-use Rattle.lalrpop_linear.specs.Matching.{Matching, open_states}
+use Rattle.lalrpop_lexer.specs.Matching.{Matching, open_states}
 use Rattle.lalrpop_lexer.specs.Cutting.{Cutting, start_of}
 use Rattle.lalrpop_lexer.specs.LinearCutting.{LinearCutting}
 use Rattle.lalrpop_lexer.specs.Rules.{IsBuiltFrom}

@@ -1,0 +1,4 @@
+use Rattle.lalrpop_build.proofs.build.Expansion.boundary.Goals as goal
+
+pub returns-clause-automata : goal.returns-clause-automata
+returns-clause-automata c = rw (← c.self.view_is) c.self.invariant.automata_are

@@ -1,5 +1,0 @@
-use Rattle.lalrpop_dfa.proofs.Adding.{clones_equal}
-use Rattle.lalrpop_dfa.proofs.build.Expansion.next.Goals as goal
-
-pub next-requires : goal.next-requires
-next-requires c = record { clones = clones_equal }

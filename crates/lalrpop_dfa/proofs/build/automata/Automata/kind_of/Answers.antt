@@ -1,4 +1,0 @@
-use Rattle.lalrpop_dfa.proofs.build.automata.Automata.kind_of.Goals as goal
-
-pub kind_of-requires-clause-inside : goal.kind_of-requires-clause-inside
-kind_of-requires-clause-inside c = rw (← c.self.view_is) at c.requires.inside

@@ -1,4 +1,0 @@
-use Rattle.lalrpop_dfa.proofs.build.automata.Automata.strongest.Goals as goal
-
-pub strongest_of-requires-clause-inside : goal.strongest_of-requires-clause-inside
-strongest_of-requires-clause-inside c = rw (← c.self.view_is) at c.requires.inside

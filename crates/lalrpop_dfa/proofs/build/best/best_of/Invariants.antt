@@ -1,6 +1,0 @@
-use Rattle.std.proofs.Common.{take, map}
-use Rattle.lalrpop_dfa.specs.Internal.Best.{IsBest, accepts}
-use Rattle.lalrpop_dfa.proofs.build.best.best_of.Given as goal
-
-abbrev pub invariant-loop-item : goal.invariant-loop-item
-invariant-loop-item l = IsBest (map (λ p. p.0) l.precedences) (accepts (take l.item-index l.item-items)) l.best

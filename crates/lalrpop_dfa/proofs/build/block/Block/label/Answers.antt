@@ -1,5 +1,0 @@
-use Rattle.std.proofs.Common.{refl, ◌∙◌}
-use Rattle.lalrpop_dfa.proofs.build.block.Block.label.Goals as goal
-
-pub returns : goal.returns
-returns c = c.new-2.ensures.value ∙ rw (c.new.ensures.start, c.new.ensures.end) refl

@@ -1,4 +1,0 @@
-use Rattle.lalrpop_dfa.proofs.build.block.Block.origin.Goals as goal
-
-pub returns : goal.returns
-returns c = c.new.ensures

@@ -1,0 +1,71 @@
+-- States with ranks, and the least values and words that lead to states of some ranks.
+use Rattle.std.specs.Prelude.{◌≡◌, ℕ, ◌<◌, ◌≤◌, ◌⊎◌, ◌↔◌, List, [], ◌∷◌, length, slice_index, count_by, ◌==◌, Option, Some, None}
+use Rattle.std.proofs.Common.{zero, suc}
+use Rattle.lalrpop_book.specs.Word.{IsWord}
+use Rattle.lalrpop_dfa.specs.Dfa.{Row, step, run}
+use Rattle.lalrpop_dfa.specs.Lookahead.{IsAccepting, IsOpen, StaysOpen}
+
+-- the rank of the state is one of those from `least` to `most`
+abbrev pub IsWanted : List ℕ → ℕ → ℕ → ℕ → Type 0
+IsWanted ranks least most p = (least ≤ slice_index ranks p) × (slice_index ranks p ≤ most)
+
+-- the least value that leads from the state p to a state with W, if one of 32 bits does
+abbrev pub IsLeastInto : List Row → (ℕ → Type 0) → ℕ → Option ℕ → Type 0
+IsLeastInto d W p None = (c : ℕ) → c ≤ 4294967295 → ¬ W (step d p c)
+IsLeastInto d W p (Some c) = (c ≤ 4294967295) × W (step d p c) × ((b : ℕ) → b < c → ¬ W (step d p b))
+
+-- the state is open, and some n more values leave it so
+abbrev pub StaysFor : List Row → ℕ → ℕ → Type 0
+StaysFor d n p = IsOpen d p × ((w : List ℕ) × (IsWord w × StaysOpen d p w × (length w ≡ n)))
+
+-- the state accepts a tree, and some n values leave it open
+abbrev pub IsGoal : List Row → ℕ → ℕ → Type 0
+IsGoal d n p = IsAccepting d p × ((w : List ℕ) × (IsWord w × StaysOpen d p w × (length w ≡ n)))
+
+-- at most m values lead from the state p to a goal
+abbrev pub IsNear : List Row → ℕ → ℕ → ℕ → Type 0
+IsNear d n m p = (w : List ℕ) × (IsWord w × IsGoal d n (run d p w) × (length w ≤ m))
+
+-- k open states in a row begin with the state p; k may be less than there are if it is `most` or more
+abbrev pub IsDepth : List Row → ℕ → ℕ → ℕ → Type 0
+IsDepth d most p k = (j : ℕ) → j < most → (j < k) ↔ StaysFor d j p
+
+-- the depth of each state, up to `most`
+pub record AreDepths (d : List Row) (most : ℕ) (depths : List ℕ) : Type 0 where
+  pub same_length : length depths ≡ length d
+  pub each : (p : ℕ) → p < length d → IsDepth d most p (slice_index depths p)
+  pub fits : (p : ℕ) → p < length d → slice_index depths p ≤ 18446744073709551615
+
+-- they are those depths, and none is counted further
+pub record AreDeep (d : List Row) (most : ℕ) (depths : List ℕ) : Type 0 where
+  pub are : AreDepths d most depths
+  pub counted : (p : ℕ) → p < length d → slice_index depths p ≤ most
+
+-- a distance that isn't known
+abbrev pub unknown : ℕ
+unknown = 18446744073709551615
+
+-- k is how far the state p is from a goal, or more than `most` if that is
+abbrev pub IsDistance : List Row → ℕ → ℕ → ℕ → ℕ → Type 0
+IsDistance d n most p k = (j : ℕ) → j ≤ most → (k ≤ j) ↔ IsNear d n j p
+
+-- the distance of each state from a goal, up to `most`
+pub record AreDistances (d : List Row) (n most : ℕ) (distances : List ℕ) : Type 0 where
+  pub same_length : length distances ≡ length d
+  pub each : (p : ℕ) → p < length d → IsDistance d n most p (slice_index distances p)
+
+-- they are those distances, and greater ones are unknown
+pub record AreSpread (d : List Row) (n most : ℕ) (distances : List ℕ) : Type 0 where
+  pub are : AreDistances d n most distances
+  pub known : (p : ℕ) → p < length d → (slice_index distances p ≤ most) ⊎ (slice_index distances p ≡ unknown)
+
+-- how many distances aren't known
+abbrev pub unknown_count : List ℕ → ℕ
+unknown_count distances = count_by (λ k. k == unknown) distances
+
+-- from the state p on, each value is the least that leads to a state with the property for the number of values left
+abbrev pub IsGreedy : List Row → (ℕ → ℕ → Type 0) → ℕ → ℕ → List ℕ → Type 0
+IsGreedy d Q zero p [] = Unit {0}
+IsGreedy d Q zero p (c ∷ w) = ⊥
+IsGreedy d Q (suc n) p [] = ⊥
+IsGreedy d Q (suc n) p (c ∷ w) = IsLeastInto d (Q n) p (Some c) × IsGreedy d Q n (step d p c) w

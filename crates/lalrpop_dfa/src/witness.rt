@@ -1,0 +1,115 @@
+//! The least match that some values after it leave open.
+
+ghost use Rattle.std.specs.Prelude.{◌≡◌, ℕ, ◌<◌, List, length, slice_index, IfOk, IfSome, IfNone};
+ghost use Rattle.lalrpop_dfa.specs.Dfa.{after, IsWellFormed};
+ghost use Rattle.lalrpop_dfa.specs.Witness.{IsWitness, LeavesOpen};
+ghost use Rattle.lalrpop_dfa.specs.Internal.Ranks.{AreDepths, AreDistances, IsGoal, IsGreedy, IsNear, StaysFor};
+
+mod depths;
+mod distances;
+mod least;
+
+use crate::witness::depths::depths;
+use crate::witness::distances::distances;
+use crate::witness::least::least_value;
+use crate::{Dfa, DfaStateIndex, START};
+use std::alloc::{AllocError, Global};
+use std::marker::Model;
+
+/// A match, and values after it that leave it open whether a longer match comes.
+#[derive(Debug, Drop)]
+pub struct Witness {
+    /// The match, by the code values of its characters.
+    pub word: Vec<u32>,
+    /// The values after it.
+    pub after: Vec<u32>,
+}
+
+impl Model for Witness {
+    ghost use Rattle.lalrpop_dfa.specs.Witness.{OpenMatch};
+
+    ghost Value = { OpenMatch };
+
+    ghost view = { λ w. record { word = w.word.items; after = w.after.items } };
+}
+
+// The least word that leads from START to a goal, and the goal.
+fn word_to_goal(
+    alloc: Global,
+    dfa: &Dfa,
+    distances: &[usize],
+) -> Result<(Vec<u32>, DfaStateIndex), AllocError>
+    requires well_formed { IsWellFormed dfa.now }
+    requires distances { (n : ℕ) × AreDistances dfa.now n (slice_index distances.now 0) distances.now }
+    ensures word { IfOk result (λ found. (n : ℕ)
+        → AreDistances dfa.now n (slice_index distances.now 0) distances.now
+        → IsGreedy dfa.now (IsNear dfa.now n) (slice_index distances.now 0) 0 found.0.items) }
+    ensures state { IfOk result (λ found. found.1 ≡ after dfa.now found.0.items) }
+{
+    let mut word = Vec::new(alloc);
+    let mut state = START;
+    let mut left = distances[START.index()];
+    while left > 0 {
+        left -= 1;
+        let value = least_value(dfa, state, distances, 0, left).unwrap();
+        word.push(value)?;
+        state = dfa.step(state, value);
+    }
+    Ok((word, state))
+}
+
+// The least `count` values that lead from the goal along open states.
+fn open_values(
+    alloc: Global,
+    dfa: &Dfa,
+    depths: &[usize],
+    goal: DfaStateIndex,
+    count: usize,
+) -> Result<Vec<u32>, AllocError>
+    requires within { goal < length dfa.now }
+    requires depths { AreDepths dfa.now count depths.now }
+    requires goal { IsGoal dfa.now count goal }
+    ensures { IfOk result (λ values. IsGreedy dfa.now (StaysFor dfa.now) count goal values.items) }
+{
+    let mut values = Vec::new(alloc);
+    let mut state = goal;
+    let mut left = count;
+    while left > 0 {
+        let value = least_value(dfa, state, depths, left, usize::MAX).unwrap();
+        values.push(value)?;
+        state = dfa.step(state, value);
+        left -= 1;
+    }
+    Ok(values)
+}
+
+/// The shortest, then least, word that a pattern matches and that some `count` values after it leave open: they don't settle
+/// whether a longer match comes. The least such values come with it. `None` if there is no such word.
+///
+/// If `count` is what `lookahead` returns, it shows what makes the automaton look that far ahead.
+///
+/// It goes over all edges at most once for each of the `count` values, and once for each state.
+///
+/// # Errors
+///
+/// `AllocError` if a request for memory was refused.
+pub fn lookahead_witness(
+    alloc: Global,
+    dfa: &Dfa,
+    count: usize,
+) -> Result<Option<Witness>, AllocError>
+    ensures least { IfOk result (λ found.
+        IfSome found (λ w. IsWitness dfa.now count w.word w.after)) }
+    ensures none { IfOk result (λ found.
+        IfNone found ((v x : List ℕ) → ¬ LeavesOpen dfa.now count v x)) }
+{
+    let depths = depths(alloc, dfa, count)?;
+    match distances(alloc, dfa, &depths, count)? {
+        Some(distances) => {
+            let (word, goal) = word_to_goal(alloc, dfa, &distances)?;
+            let after = open_values(alloc, dfa, &depths, goal, count)?;
+            Ok(Some(Witness { word, after }))
+        }
+        None => Ok(None),
+    }
+}

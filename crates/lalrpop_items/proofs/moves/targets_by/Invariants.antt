@@ -1,5 +1,0 @@
-use Rattle.lalrpop_items.proofs.TakenEdges.{IsWalked}
-use Rattle.lalrpop_items.proofs.moves.targets_by.Given as goal
-
-abbrev pub invariant-loop-item : goal.invariant-loop-item
-invariant-loop-item l = IsWalked l.nfas l.items l.transitions l.item-index l.from l.targets.items

@@ -1,0 +1,198 @@
+//! The longest matches of a text, one after another.
+
+ghost use Rattle.std.specs.Prelude.{◌≡◌, ◌+◌, length};
+ghost use Rattle.std.specs.Str.{chars};
+
+use crate::remembering::longest_remembering;
+use crate::memo::{Memo, STRIDE};
+use lalrpop_dense::DenseDfa;
+use lalrpop_nfa::Steps;
+use lalrpop_dfa::NfaIndex;
+use std::alloc::{AllocError, Global};
+use std::marker::Model;
+
+// How many bytes, or for runs by the memo characters, a call may read past its match before the credit of the table falls.
+const ALLOWED: usize = 16;
+
+/// Finds the longest matches of a text, each in what the one before it leaves.
+///
+/// The table finds them as long as it has read little in vain. Once it has read much, runs remember the states that earlier ones
+/// have gone on from, at every 64th character, and go on from none of them again.
+#[derive(Debug, Drop)]
+pub struct LinearMatches<'text> {
+    dense: &'text DenseDfa,
+    text: &'text str,
+    // Where the rest begins, in bytes.
+    at: usize,
+    // How many bytes the table may still read in vain.
+    credit: usize,
+    memo: Memo,
+    // The memo is for what is left after this place, in bytes and in characters.
+    counted: usize,
+    index: usize,
+}
+
+// How many characters the text has. A step is counted for each.
+fn count_chars(text: &str, steps: &mut Steps) -> usize
+    ensures count { result ≡ length (chars text.now) }
+    ensures steps { steps.new ≡ steps.old + length (chars text.now) }
+{
+    let mut count = 0;
+    for _ in text.chars() {
+        steps.tick();
+        count += 1;
+    }
+    count
+}
+
+impl<'text> Model for LinearMatches<'text> {
+    ghost use Rattle.lalrpop_lexer.specs.Matching.{Matching};
+    ghost use Rattle.lalrpop_lexer.specs.Internal.Standing.{IsReached, spare_of};
+
+    ghost Value = { Matching };
+
+    ghost view = { λ s.
+        record {
+          automaton = s.dense.now;
+          text = s.text.now;
+          at = s.at;
+          spare = spare_of s.text.now s.credit s.counted s.memo;
+        } };
+
+    ghost invariant = { λ s.
+        IsReached s.dense.now s.text.now s.at s.counted s.index s.memo };
+}
+
+impl<'text> LinearMatches<'text> {
+    ghost use Rattle.std.specs.Prelude.{◌≢◌, ℕ, ◌*◌, ◌≤◌, ◌++◌, [], List, IfOk, IfNone, IfSome};
+    ghost use Rattle.std.specs.Option.{option_map};
+    ghost use Rattle.std.specs.Char.{encode_utf8};
+    ghost use Rattle.lalrpop_book.specs.Tree.{Tree};
+    ghost use Rattle.lalrpop_book.specs.Prefix.{IsPrefix};
+    ghost use Rattle.lalrpop_book.specs.Longest.{IsLongest};
+    ghost use Rattle.lalrpop_dfa.specs.Dfa.{Recognizes};
+    ghost use Rattle.lalrpop_lexer.specs.Matching.{rest_of, characters_of, open_states};
+
+    /// All of the text is left. The memory is taken here: a byte for each open state of the automaton for every 64 bytes of text.
+    ///
+    /// # Errors
+    ///
+    /// `AllocError` if a request for memory was refused.
+    pub fn new(
+        alloc: Global,
+        dense: &'text DenseDfa,
+        text: &'text str,
+    ) -> Result<LinearMatches<'text>, AllocError>
+        ensures start { IfOk result (λ s.
+            s ≡ record { automaton = dense.now; text = text.now; at = 0; spare = s.spare }) }
+        ensures spare { IfOk result (λ s. s.spare ≤ length (chars text.now) + length text.now
+            + open_states dense.now * (length text.now + 64)) }
+    {
+        let memo = Memo::new(alloc, dense.dfa(), text.len() / STRIDE + 1)?;
+        Ok(LinearMatches {
+            dense,
+            text,
+            at: 0,
+            credit: text.len(),
+            memo,
+            counted: 0,
+            index: 0,
+        })
+    }
+
+    /// Where the rest begins, in bytes.
+    pub fn offset(&self) -> usize
+        ensures offset { result ≡ self.now.at }
+    {
+        self.at
+    }
+
+    /// The rest of the text after the last match.
+    pub fn rest(&self) -> &'text str
+        ensures rest { result.now ≡ rest_of self.now }
+    {
+        &self.text[self.at..]
+    }
+
+    /// The longest nonempty prefix of the rest that some pattern matches, with the strongest pattern that matches it. From then
+    /// on the rest begins after it. `None` if no pattern matches any; then the rest stays. A step is counted for each character
+    /// read.
+    #[inline(always)]
+    pub fn next_match(&mut self, steps: &mut Steps) -> Option<(NfaIndex, &'text str)>
+        ensures answer { (ts : List Tree) (ps : List ℕ) → Recognizes self.old.automaton ts ps
+            → IsLongest ts ps (rest_of self.old) (option_map (λ m. (m.0, m.1.now)) result) }
+        ensures prefix { IfSome result (λ m.
+            IsPrefix m.1.now (rest_of self.old) × (m.1.now ≢ [])) }
+        ensures goes_on { IfSome result (λ m. self.new
+            ≡ record self.old { at = self.old.at + length m.1.now; spare = self.new.spare }) }
+        ensures stays { IfNone result
+            (self.new ≡ record self.old { spare = self.new.spare }) }
+        ensures paid { steps.new + self.new.spare
+            ≤ steps.old + characters_of (option_map (λ m. m.1.now) result)
+            + self.old.spare + 64 }
+    {
+        let rest = self.rest();
+        let Some(settled) = self.dense.longest_within(rest, self.credit, steps) else {
+            self.credit = 0;
+            return self.next_remembered(steps);
+        };
+        self.credit = self
+            .credit
+            .saturating_sub(settled.past)
+            .saturating_add(ALLOWED);
+        if let Some((_, slice)) = settled.longest {
+            self.at += slice.len();
+        }
+        settled.longest
+    }
+
+    // What `next_match` returns, by a run that remembers.
+    #[cold]
+    #[inline(never)]
+    fn next_remembered(&mut self, steps: &mut Steps) -> Option<(NfaIndex, &'text str)>
+        ensures answer { (ts : List Tree) (ps : List ℕ) → Recognizes self.old.automaton ts ps
+            → IsLongest ts ps (rest_of self.old) (option_map (λ m. (m.0, m.1.now)) result) }
+        ensures prefix { IfSome result (λ m.
+            IsPrefix m.1.now (rest_of self.old) × (m.1.now ≢ [])) }
+        ensures goes_on { IfSome result (λ m. self.new
+            ≡ record self.old { at = self.old.at + length m.1.now; spare = self.new.spare }) }
+        ensures stays { IfNone result
+            (self.new ≡ record self.old { spare = self.new.spare }) }
+        ensures paid { steps.new + self.new.spare
+            ≤ steps.old + characters_of (option_map (λ m. m.1.now) result)
+            + self.old.spare + 64 }
+    {
+        let rest = self.rest();
+        let start = self.index + count_chars(&self.text[self.counted..self.at], steps);
+        let found = longest_remembering(self.dense.dfa(), &mut self.memo, start, rest, steps);
+        self.credit = self
+            .credit
+            .saturating_add(ALLOWED.saturating_sub(found.past));
+        self.counted = self.at;
+        self.index = found.end;
+        if let Some((_, matched)) = found.longest {
+            self.at += matched.len();
+            self.counted = self.at;
+        }
+        found.longest
+    }
+
+    /// Skips the first character of the rest: from then on the rest begins after it. `None` at the end of the text.
+    ///
+    /// For a caller that goes on where `next_match` finds nothing.
+    pub fn pass_char(&mut self) -> Option<char>
+        ensures first { IfSome result (λ c.
+            rest_of self.old ≡ encode_utf8 c ++ rest_of self.new) }
+        ensures passes { IfSome result (λ c.
+            self.new ≡ record self.old { at = self.old.at + length (encode_utf8 c) }) }
+        ensures end { IfNone result ((rest_of self.old ≡ []) × (self.new ≡ self.old)) }
+    {
+        match self.rest().chars().next() {
+            Some(first) => {
+                self.at += first.len_utf8();
+                Some(first)
+            }
+            None => None,
+        }
+    }
+}

@@ -1,3 +1,0 @@
-pub mod Memory
-pub mod Hopeless
-pub mod Standing

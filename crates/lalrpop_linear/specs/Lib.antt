@@ -1,3 +1,0 @@
-pub mod Matching
--- what serves the proofs alone
-pub mod Internal

@@ -1,4 +1,0 @@
-pub mod Meet
-pub mod Partition
--- what private functions promise each other; public clauses do not name it
-pub mod Internal

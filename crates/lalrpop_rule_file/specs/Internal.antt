@@ -1,3 +1,0 @@
--- What private functions promise one another.
-pub mod Spans
-pub mod Parts

@@ -1,0 +1,37 @@
+-- Which bytes are blanks, which may be in names, and which are digits.
+use Rattle.std.proofs.Common.{◌≡◌, ℕ, ◌<◌, true, false, arith}
+use Rattle.std.specs.Char.{is_ascii_digit}
+use Rattle.lalrpop_rules.specs.RuleLine.{is_blank, is_of_name, begins_name}
+use Rattle.lalrpop_rules.specs.Internal.Spans.{members}
+use Rattle.lalrpop_rules.specs.declared.rule_file.span.Class.{Class}
+use Rattle.lalrpop_rules.specs.declared.rule_file.span.Class.TheVariants.{Blank, Name, Digit}
+
+pub begins_of_name : (b : ℕ) → begins_name b ≡ true → is_of_name b ≡ true
+begins_of_name b h = grind arith
+
+pub begins_not_blank : (b : ℕ) → begins_name b ≡ true → is_blank b ≡ false
+begins_not_blank b h = grind arith
+
+pub blank_not_of_name : (b : ℕ) → is_blank b ≡ true → is_of_name b ≡ false
+blank_not_of_name b h = grind arith
+
+pub digit_not_blank : (b : ℕ) → is_ascii_digit b ≡ true → is_blank b ≡ false
+digit_not_blank b h = grind arith
+
+pub blank_not_digit : (b : ℕ) → is_blank b ≡ true → is_ascii_digit b ≡ false
+blank_not_digit b h = grind arith
+
+blank_ascii : (b : ℕ) → is_blank b ≡ true → b < 128
+blank_ascii b h = grind arith
+
+of_name_ascii : (b : ℕ) → is_of_name b ≡ true → b < 128
+of_name_ascii b h = grind arith
+
+digit_ascii : (b : ℕ) → is_ascii_digit b ≡ true → b < 128
+digit_ascii b h = grind arith
+
+-- each class is of ASCII
+pub members_ascii : (class : Class) (b : ℕ) → members class b ≡ true → b < 128
+members_ascii Blank b h = blank_ascii b h
+members_ascii Name b h = of_name_ascii b h
+members_ascii Digit b h = digit_ascii b h

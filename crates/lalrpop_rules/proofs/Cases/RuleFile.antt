@@ -1,0 +1,114 @@
+-- Cases of specs/RuleFile.antt.
+use Rattle.std.proofs.Common.{◌≡◌, ℕ, inl, inr, List, [], ◌∷◌, ◌++◌, get_or, codes, refl, ap, false, ◌∙◌, Option, Some, None, arith}
+use Rattle.std.proofs.lemmas.Bool.{false≢true}
+use Rattle.lalrpop_rules.specs.declared.rule.Rule.{Rule}
+use Rattle.lalrpop_rules.specs.RuleLine.{is_blank, IsRule}
+use Rattle.lalrpop_rules.specs.RuleFile.{without_mark, without_return, IsBlankOrComment, LineSays, AreRules, IsFirstBad, IsLineFault, IsRuleFileError}
+use Rattle.lalrpop_rules.specs.declared.rule_file.error.LineFault.TheVariants.{NoEquals}
+use Rattle.lalrpop_rules.specs.declared.rule_file.error.RuleFileError.TheVariants.{BadLine, OutOfMemory}
+use Rattle.lalrpop_rules.proofs.Lefts.{no_left_kept}
+use Rattle.lalrpop_rules.proofs.StoppingLaws.{IsLineFault-unique}
+use Rattle.std.specs.Str.{IsUtf8, chars}
+use lib.Utf8.{encode}
+use Rattle.lalrpop_rules.specs.RuleFault.{IsNamed, StopsBefore}
+
+-- one mark at the beginning is left out, and nothing else
+mark_at_the_beginning : without_mark (239 ∷ 187 ∷ 191 ∷ codes "a") ≡ codes "a"
+mark_at_the_beginning = refl
+
+two_marks : without_mark (239 ∷ 187 ∷ 191 ∷ 239 ∷ 187 ∷ 191 ∷ []) ≡ 239 ∷ 187 ∷ 191 ∷ []
+two_marks = refl
+
+mark_inside : without_mark (97 ∷ 239 ∷ 187 ∷ 191 ∷ []) ≡ 97 ∷ 239 ∷ 187 ∷ 191 ∷ []
+mark_inside = refl
+
+part_of_a_mark : without_mark (239 ∷ 187 ∷ []) ≡ 239 ∷ 187 ∷ []
+part_of_a_mark = refl
+
+-- one carriage return at the end isn't part of a line
+return_at_the_end : without_return (codes "a\r") ≡ codes "a"
+return_at_the_end = refl
+
+return_inside : without_return (codes "a\rb") ≡ codes "a\rb"
+return_inside = refl
+
+two_returns : without_return (codes "\r\r") ≡ codes "\r"
+two_returns = refl
+
+blank_line : IsBlankOrComment (codes " ")
+blank_line = inl (refl, tt)
+
+comment_behind_a_blank : IsBlankOrComment (codes "\t# a")
+comment_behind_a_blank = inr (codes "\t", (codes " a", (refl, (refl, tt))))
+
+letter_is_no_comment : ¬ IsBlankOrComment (codes "x")
+letter_is_no_comment (inl h) = false≢true h.0
+letter_is_no_comment (inr ([], (comment, (parts, blanks)))) = let k : 120 ≡ 35 = ap (λ (x : List ℕ). get_or x 0 0) parts in omega (arith, k)
+letter_is_no_comment (inr (b ∷ lead, (comment, (parts, blanks)))) =
+    let k : 120 ≡ b = ap (λ (x : List ℕ). get_or x 0 0) parts in false≢true (blank_letter b k ∙ blanks.0)
+  where
+    blank_letter : (c : ℕ) → 120 ≡ c → false ≡ is_blank c
+    blank_letter c e = ap is_blank e
+
+empty_line_says_nothing : LineSays [] None
+empty_line_says_nothing = (([], (refl, refl)), inl tt)
+
+-- a name alone is no rule
+named_x : IsNamed (codes "x") (codes "x") []
+named_x = record { lead = []; gap = []; parts = refl; blanks = (tt, tt); is_name = (refl, tt); ends = tt; stops = tt }
+
+no_skip : (y : List ℕ) → [] ≡ codes "skip" ++ y → ⊥
+no_skip y e = absurd (cc)
+
+name_alone : (rule : Rule) → ¬ IsRule (codes "x") rule
+name_alone rule h = no_left_kept (codes "x") (codes "x") [] named_x (λ y e. no_skip y e.0) (λ y e. absurd (cc)) rule.name.now rule.is_skipped h.right h.is_left
+
+x_says_neither : (said : Option Rule) → ¬ LineSays (codes "x") said
+x_says_neither None h = letter_is_no_comment h.1
+x_says_neither (Some rule) h = name_alone rule h.1
+
+no_lines_are_no_rules : AreRules [] []
+no_lines_are_no_rules = tt
+
+no_lines_are_not_a_rule : (rule : Rule) → ¬ AreRules [] (rule ∷ [])
+no_lines_are_not_a_rule rule h = h
+
+empty_line_is_no_rule : AreRules ([] ∷ []) []
+empty_line_is_no_rule = (empty_line_says_nothing, tt)
+
+bad_line_is_not_passed_over : ¬ AreRules (codes "x" ∷ []) []
+bad_line_is_not_passed_over h = x_says_neither None h.0
+
+-- of an empty line and `x` the second is the first bad one
+first_bad_line : IsFirstBad ([] ∷ codes "x" ∷ []) 2
+first_bad_line = ((None, empty_line_says_nothing), x_says_neither)
+
+empty_line_is_not_bad : ¬ IsFirstBad ([] ∷ codes "x" ∷ []) 1
+empty_line_is_not_bad h = h None empty_line_says_nothing
+
+no_line_0 : ¬ IsFirstBad (codes "x" ∷ []) 0
+no_line_0 h = h
+
+line_behind_a_bad_one : ¬ IsFirstBad (codes "x" ∷ codes "x" ∷ []) 2
+line_behind_a_bad_one h = x_says_neither h.0.0 h.0.1
+
+-- it stops behind its name
+x_stops : StopsBefore (codes "x") [] NoEquals
+x_stops = (codes "x", ([], (named_x, (inr ((λ behind e. no_skip behind e.0), refl), λ right e. absurd (cc)))))
+
+x_is_text : IsUtf8 (codes "x")
+unfolding encode
+x_is_text = (codes "x", (refl, refl))
+
+x_fault : IsLineFault (codes "x") 2 NoEquals
+unfolding chars
+x_fault = (x_is_text, (codes "x", ([], (refl, (refl, x_stops)))))
+
+error_of_a_file : IsRuleFileError (codes "\nx") (BadLine 2 2 NoEquals)
+error_of_a_file = (first_bad_line, (codes "x", (refl, x_fault)))
+
+not_in_the_first_column : ¬ IsLineFault (codes "x") 1 NoEquals
+not_in_the_first_column fault = let k : 1 ≡ 2 = (IsLineFault-unique (codes "x") 1 2 NoEquals NoEquals fault x_fault).0 in omega (arith, k)
+
+refused_memory_is_right : (bytes : List ℕ) → IsRuleFileError bytes OutOfMemory
+refused_memory_is_right bytes = tt

@@ -1,5 +1,0 @@
--- rows that are being written
-pub mod Written
-pub mod SameLaws
-pub mod Stored
-pub mod Marks

@@ -1,5 +1,0 @@
-use Rattle.lalrpop_witness.specs.Internal.Ranks.{AreDeep}
-use Rattle.lalrpop_witness.proofs.depths.depths.Given as goal
-
-abbrev pub invariant-loop-depth : goal.invariant-loop-depth
-invariant-loop-depth l = AreDeep l.dfa l.depth l.depths.items

@@ -1,9 +1,0 @@
-use Rattle.std.proofs.Common.{◌≡◌, ℕ, ◌<◌, length, get_or}
-use Rattle.lalrpop_witness.proofs.Ranked.{FirstDepth}
-use Rattle.lalrpop_witness.proofs.depths.first_depths.Given as goal
-
-abbrev pub invariant-loop-state : goal.invariant-loop-state
-invariant-loop-state l = record {
-  same_length : length l.depths.items ≡ l.state-index;
-  each : (p : ℕ) → p < l.state-index → FirstDepth l.dfa p (get_or l.depths.items p 0);
-}
