@@ -3,7 +3,7 @@
 
 use anyhow::{Context, Result, bail};
 use lalrpop_lexer::lexer::dfa::{
-    DenseDfa, Dfa, Marks, Matcher, NfaIndex, Precedence, build_dfa, clashes,
+    DenseDfa, Dfa, Matcher, NfaIndex, Precedence, TokenEnds, build_dfa, clashes,
 };
 use lalrpop_lexer::lexer::nfa::Steps;
 use lalrpop_lexer::lexer::re::Regex;
@@ -233,7 +233,7 @@ fn by_list(alloc: Global, lexer: &Lexer, text: &str) -> Result<Found, AllocError
 
 fn by_blocks(alloc: Global, dense: &DenseDfa, text: &str) -> Result<Found, AllocError> {
     let mut found = Found::none();
-    let mut marks = Marks::new(alloc)?;
+    let mut ends = TokenEnds::new(alloc)?;
     let mut tokens = Vec::new(alloc);
     let mut at = 0;
     for _ in 0..text.len() {
@@ -241,7 +241,7 @@ fn by_blocks(alloc: Global, dense: &DenseDfa, text: &str) -> Result<Found, Alloc
             break;
         }
         tokens.clear();
-        match dense.cut_block(text, at, &mut marks, &mut tokens)? {
+        match dense.cut_block(text, at, &mut ends, &mut tokens)? {
             Some(to) => at = to,
             None => {
                 found.add_fault();

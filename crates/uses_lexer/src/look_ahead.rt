@@ -26,18 +26,19 @@ pub fn is_limited(alloc: Global, lexer: &Lexer) -> Result<bool, AllocError>
 }
 
 // Needs lalrpop_lexer::Lexer::lookahead: settled.
-/// Whether just this many characters settle each match.
+/// How many characters to read past a match, and whether those settle each match. Where nothing limits their number it is
+/// `otherwise`.
 ///
 /// # Errors
 ///
 /// `AllocError` if a request for memory was refused.
-pub fn is_settled_by(alloc: Global, lexer: &Lexer, count: usize) -> Result<bool, AllocError>
-    ensures settled { IfOk result (λ settled. settled ≡ true
-        → IsSettledAfter lexer.now.trees count) }
+pub fn to_read(alloc: Global, lexer: &Lexer, otherwise: usize) -> Result<(usize, bool), AllocError>
+    ensures settled { IfOk result (λ found. found.1 ≡ true
+        → IsSettledAfter lexer.now.trees found.0) }
 {
     match lexer.lookahead(alloc)? {
-        Some(number) => Ok(number == count),
-        None => Ok(false),
+        Some(number) => Ok((number, true)),
+        None => Ok((otherwise, false)),
     }
 }
 

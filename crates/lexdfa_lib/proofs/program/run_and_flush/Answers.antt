@@ -1,4 +1,4 @@
-use Rattle.std.proofs.Common.{rules, ◌≡◌, ℕ, List, Option, Result, Ok, Err, IfOk, true, false, subst, sym}
+use Rattle.std.proofs.Common.{◌≡◌, ℕ, List, Option, Result, Ok, Err, IfOk, true, false, subst, sym}
 use Rattle.lexdfa_lib.specs.Answer.{ReadsOutcome}
 use Rattle.lexdfa_lib.specs.Whole.{WritesAnswers}
 use Rattle.lexdfa_lib.specs.declared.outcome.Outcome.{Outcome}
