@@ -94,93 +94,93 @@ tail_part n t = take_all (length t - n) (drop n t) (omega (arith, length-drop n 
 pub name_part : (front len : ℕ) (rest t : Text) → rest ≡ t → len ≡ length (span is_ascii_lowercase (drop front t)).0 → take (front + len - front) (drop front rest) ≡ take (length (span is_ascii_lowercase (drop front t)).0) (drop front t)
 name_part front len rest t e l = let k : front + len - front ≡ len = omega arith in rw (k, e, l) refl
 
-module _ (f : Flags) (room : ℕ) where
+module _ (f : Flags) (levels_left : ℕ) where
   -- ---- the items of an operand
 
-  pub operand_stop : (u : Union) → ends_operand u.rest ≡ true → whole_operand f (bracket f room) u ≡ Some u
-  operand_stop u h = operand_end f (bracket f room) (length u.rest) u h
+  pub operand_stop : (u : Union) → ends_operand u.rest ≡ true → whole_operand f (bracket f levels_left) u ≡ Some u
+  operand_stop u h = operand_end f (bracket f levels_left) (length u.rest) u h
 
-  pub operand_turn : (u : Union) (i : SetPart) → ends_operand u.rest ≡ false → item f (bracket f room) u.rest ≡ Some i
-      → whole_operand f (bracket f room) u ≡ whole_operand f (bracket f room) (record { sets = u.sets ++ i.set ∷ []; depth = max u.depth i.depth; rest = i.rest })
+  pub operand_turn : (u : Union) (i : SetPart) → ends_operand u.rest ≡ false → item f (bracket f levels_left) u.rest ≡ Some i
+      → whole_operand f (bracket f levels_left) u ≡ whole_operand f (bracket f levels_left) (record { sets = u.sets ++ i.set ∷ []; depth = max u.depth i.depth; rest = i.rest })
   operand_turn u i h k =
-      let s : length i.rest < length u.rest = Item-shorter (item_sound f room (bracket f room) (bracket_sound f room) u.rest i h k).0 in
-      operand_go f (bracket f room) (length u.rest) u i h k
-      ∙ operand_enough f room (bracket f room) (bracket_sound f room) (length u.rest) (suc (length i.rest)) (record { sets = u.sets ++ i.set ∷ []; depth = max u.depth i.depth; rest = i.rest }) s (omega arith)
+      let s : length i.rest < length u.rest = Item-shorter (item_sound f levels_left (bracket f levels_left) (bracket_sound f levels_left) u.rest i h k).0 in
+      operand_go f (bracket f levels_left) (length u.rest) u i h k
+      ∙ operand_enough f levels_left (bracket f levels_left) (bracket_sound f levels_left) (length u.rest) (suc (length i.rest)) (record { sets = u.sets ++ i.set ∷ []; depth = max u.depth i.depth; rest = i.rest }) s (omega arith)
 
-  pub operand_refused : (u : Union) → ends_operand u.rest ≡ false → item f (bracket f room) u.rest ≡ None → whole_operand f (bracket f room) u ≡ None
+  pub operand_refused : (u : Union) → ends_operand u.rest ≡ false → item f (bracket f levels_left) u.rest ≡ None → whole_operand f (bracket f levels_left) u ≡ None
   unfolding operand
   operand_refused u h k = rw (h, k) refl
 
-  item_open : item f (bracket f room) [] ≡ None
+  item_open : item f (bracket f levels_left) [] ≡ None
   unfolding item item_or posix simple_item primary
   item_open = refl
 
-  pub operand_open : (u : Union) → ends_operand u.rest ≡ false → u.rest ≡ [] → whole_operand f (bracket f room) u ≡ None
-  operand_open u h e = operand_refused u h (ap (λ (t : Text). item f (bracket f room) t) e ∙ item_open)
+  pub operand_open : (u : Union) → ends_operand u.rest ≡ false → u.rest ≡ [] → whole_operand f (bracket f levels_left) u ≡ None
+  operand_open u h e = operand_refused u h (ap (λ (t : Text). item f (bracket f levels_left) t) e ∙ item_open)
 
   -- ---- the operands of a bracket
 
-  pub operations_stop : (p : SetPart) → begins "]" p.rest ≡ true → all_operations f (bracket f room) p ≡ Some p
+  pub operations_stop : (p : SetPart) → begins "]" p.rest ≡ true → all_operations f (bracket f levels_left) p ≡ Some p
   unfolding operations
   operations_stop p h = rw h refl
 
   pub operations_turn : (p : SetPart) (o : SetOperator) (r : Union) → begins "]" p.rest ≡ false → operator_of p.rest ≡ Some o
-      → whole_operand f (bracket f room) (record { sets = []; depth = 0; rest = drop 2 p.rest }) ≡ Some r
-      → all_operations f (bracket f room) p ≡ all_operations f (bracket f room) (record { set = apply o p.set (union_all r.sets); depth = max p.depth r.depth; rest = r.rest })
+      → whole_operand f (bracket f levels_left) (record { sets = []; depth = 0; rest = drop 2 p.rest }) ≡ Some r
+      → all_operations f (bracket f levels_left) p ≡ all_operations f (bracket f levels_left) (record { set = apply o p.set (union_all r.sets); depth = max p.depth r.depth; rest = r.rest })
   unfolding operations
   operations_turn p o r h k e =
-      let s : length r.rest ≤ length (drop 2 p.rest) = Operand-shorter (operand_sound f room (bracket f room) (bracket_sound f room) (suc (length (drop 2 p.rest))) (record { sets = []; depth = 0; rest = drop 2 p.rest }) r e).4 in
+      let s : length r.rest ≤ length (drop 2 p.rest) = Operand-shorter (operand_sound f levels_left (bracket f levels_left) (bracket_sound f levels_left) (suc (length (drop 2 p.rest))) (record { sets = []; depth = 0; rest = drop 2 p.rest }) r e).4 in
       let long = operator_long p.rest o k in
-      rw (h, k, e) (operations_enough f room (bracket f room) (bracket_sound f room) (length p.rest) (suc (length r.rest)) (record { set = apply o p.set (union_all r.sets); depth = max p.depth r.depth; rest = r.rest }) (omega arith) (omega arith))
+      rw (h, k, e) (operations_enough f levels_left (bracket f levels_left) (bracket_sound f levels_left) (length p.rest) (suc (length r.rest)) (record { set = apply o p.set (union_all r.sets); depth = max p.depth r.depth; rest = r.rest }) (omega arith) (omega arith))
 
-  pub operations_lost : (p : SetPart) → begins "]" p.rest ≡ false → operator_of p.rest ≡ None → all_operations f (bracket f room) p ≡ None
+  pub operations_lost : (p : SetPart) → begins "]" p.rest ≡ false → operator_of p.rest ≡ None → all_operations f (bracket f levels_left) p ≡ None
   unfolding operations
   operations_lost p h k = rw (h, k) refl
 
   pub operations_refused : (p : SetPart) (o : SetOperator) → begins "]" p.rest ≡ false → operator_of p.rest ≡ Some o
-      → whole_operand f (bracket f room) (record { sets = []; depth = 0; rest = drop 2 p.rest }) ≡ None → all_operations f (bracket f room) p ≡ None
+      → whole_operand f (bracket f levels_left) (record { sets = []; depth = 0; rest = drop 2 p.rest }) ≡ None → all_operations f (bracket f levels_left) p ≡ None
   unfolding operations
   operations_refused p o h k e = rw (h, k, e) refl
 
   -- the same where what the code keeps is equal to what is asked
-  pub operand_turned : (g : Flags) (u : Union) (i : SetPart) (d e : ℕ) (t : Text) → ends_operand u.rest ≡ false → item f (bracket f room) u.rest ≡ Some i → g ≡ f → e ≡ i.depth → d ≡ max u.depth e → t ≡ i.rest
-      → whole_operand g (bracket g room) (record { sets = u.sets ++ i.set ∷ []; depth = d; rest = t }) ≡ whole_operand f (bracket f room) u
+  pub operand_turned : (g : Flags) (u : Union) (i : SetPart) (d e : ℕ) (t : Text) → ends_operand u.rest ≡ false → item f (bracket f levels_left) u.rest ≡ Some i → g ≡ f → e ≡ i.depth → d ≡ max u.depth e → t ≡ i.rest
+      → whole_operand g (bracket g levels_left) (record { sets = u.sets ++ i.set ∷ []; depth = d; rest = t }) ≡ whole_operand f (bracket f levels_left) u
   operand_turned g u i d e t h k same one deep rest = rw (same, deep, one, rest) (sym (operand_turn u i h k))
 
   pub operations_turned : (g h : Flags) (p : SetPart) (o : SetOperator) (r : Union) (d e : ℕ) (t u : Text) → begins "]" p.rest ≡ false → operator_of p.rest ≡ Some o → g ≡ f → t ≡ drop 2 p.rest
-      → whole_operand g (bracket g room) (record { sets = []; depth = 0; rest = t }) ≡ Some r → h ≡ f → e ≡ r.depth → d ≡ max p.depth e → u ≡ r.rest
-      → all_operations h (bracket h room) (record { set = apply o p.set (union_all r.sets); depth = d; rest = u }) ≡ all_operations f (bracket f room) p
+      → whole_operand g (bracket g levels_left) (record { sets = []; depth = 0; rest = t }) ≡ Some r → h ≡ f → e ≡ r.depth → d ≡ max p.depth e → u ≡ r.rest
+      → all_operations h (bracket h levels_left) (record { set = apply o p.set (union_all r.sets); depth = d; rest = u }) ≡ all_operations f (bracket f levels_left) p
   operations_turned g h p o r d e t u going found first behind right same one deep rest =
       rw (same, deep, one, rest) (sym (operations_turn p o r going found (rw (first, behind) at right)))
 
   pub operations_failed : (g : Flags) (p : SetPart) (o : SetOperator) (t : Text) → begins "]" p.rest ≡ false → operator_of p.rest ≡ Some o → g ≡ f → t ≡ drop 2 p.rest
-      → whole_operand g (bracket g room) (record { sets = []; depth = 0; rest = t }) ≡ None → all_operations f (bracket f room) p ≡ None
+      → whole_operand g (bracket g levels_left) (record { sets = []; depth = 0; rest = t }) ≡ None → all_operations f (bracket f levels_left) p ≡ None
   operations_failed g p o t going found first behind right = operations_refused p o going found (rw (first, behind) at right)
 
   -- ---- brackets and items
 
-  pub enclosed_negated : (g : Flags) (t u : Text) (p : SetPart) → begins "[^" t ≡ true → g ≡ f → u ≡ drop 2 t → operands g (bracket g room) u ≡ Some p
-      → bracket_with f (bracket f room) t ≡ Some (record { set = complement p.set; depth = p.depth + 1; rest = drop 1 p.rest })
+  pub enclosed_negated : (g : Flags) (t u : Text) (p : SetPart) → begins "[^" t ≡ true → g ≡ f → u ≡ drop 2 t → operands g (bracket g levels_left) u ≡ Some p
+      → bracket_with f (bracket f levels_left) t ≡ Some (record { set = complement p.set; depth = p.depth + 1; rest = drop 1 p.rest })
   unfolding bracket_with
   enclosed_negated g t u p h same behind e = let k = rw (same, behind) at e in rw (h, k) refl
 
-  pub enclosed_plain : (g : Flags) (t u : Text) (p : SetPart) → begins "[^" t ≡ false → begins "[" t ≡ true → g ≡ f → u ≡ drop 1 t → operands g (bracket g room) u ≡ Some p
-      → bracket_with f (bracket f room) t ≡ Some (record { set = p.set; depth = p.depth + 1; rest = drop 1 p.rest })
+  pub enclosed_plain : (g : Flags) (t u : Text) (p : SetPart) → begins "[^" t ≡ false → begins "[" t ≡ true → g ≡ f → u ≡ drop 1 t → operands g (bracket g levels_left) u ≡ Some p
+      → bracket_with f (bracket f levels_left) t ≡ Some (record { set = p.set; depth = p.depth + 1; rest = drop 1 p.rest })
   unfolding bracket_with
   enclosed_plain g t u p h here same behind e = let k = rw (same, behind) at e in rw (h, here, k) refl
 
-  pub item_posix : (t : Text) (x : Set × Bool × Text) → posix t ≡ Some x → item f (bracket f room) t ≡ Some (record { set = leaf_or_complement f x.0 x.1; depth = 0; rest = x.2 })
-  item_posix t x h = item_is_posix f (bracket f room) t x h
+  pub item_posix : (t : Text) (x : Set × Bool × Text) → posix t ≡ Some x → item f (bracket f levels_left) t ≡ Some (record { set = leaf_or_complement f x.0 x.1; depth = 0; rest = x.2 })
+  item_posix t x h = item_is_posix f (bracket f levels_left) t x h
 
-  pub item_bracket : (g : Flags) (t u : Text) (p : SetPart) → posix t ≡ None → begins "[" u ≡ true → g ≡ f → u ≡ t → bracket g room u ≡ Some p → item f (bracket f room) t ≡ Some p
-  item_bracket g t u p none here same e h = item_is_bracket f (bracket f room) t none (rw e at here) ∙ (rw (same, e) at h)
+  pub item_bracket : (g : Flags) (t u : Text) (p : SetPart) → posix t ≡ None → begins "[" u ≡ true → g ≡ f → u ≡ t → bracket g levels_left u ≡ Some p → item f (bracket f levels_left) t ≡ Some p
+  item_bracket g t u p none here same e h = item_is_bracket f (bracket f levels_left) t none (rw e at here) ∙ (rw (same, e) at h)
 
   -- ---- levels
 
-  pub bracket_full : (t : Text) → room ≡ 0 → bracket f room t ≡ None
+  pub bracket_full : (t : Text) → levels_left ≡ 0 → bracket f levels_left t ≡ None
   unfolding bracket
   bracket_full t e = subst (λ n. bracket f n t ≡ None) (sym e) refl
 
-  pub bracket_turn : (t : Text) → room ≢ 0 → bracket f room t ≡ bracket_with f (bracket f (room - 1)) t
+  pub bracket_turn : (t : Text) → levels_left ≢ 0 → bracket f levels_left t ≡ bracket_with f (bracket f (levels_left - 1)) t
   unfolding bracket
-  bracket_turn t h = let e : suc (room - 1) ≡ room = omega arith in subst (λ n. bracket f n t ≡ bracket_with f (bracket f (room - 1)) t) e refl
+  bracket_turn t h = let e : suc (levels_left - 1) ≡ levels_left = omega arith in subst (λ n. bracket f n t ≡ bracket_with f (bracket f (levels_left - 1)) t) e refl

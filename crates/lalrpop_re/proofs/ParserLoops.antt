@@ -28,29 +28,29 @@ nowhere = None
 
 -- ---- operators
 
-module _ (room : ℕ) (f : Flags) (p : Part) where
-  pub operators_turn : (o : ℕ × Option ℕ × Bool × Text) → is_at_operator p.rest ≡ true → operator f p.rest ≡ Some o → p.depth < room
-      → all_operators room f p ≡ all_operators room f (record { tree = repetition o.0 o.1 o.2 p.tree; depth = p.depth + 1; rest = o.3 })
+module _ (levels_left : ℕ) (f : Flags) (p : Part) where
+  pub operators_turn : (o : ℕ × Option ℕ × Bool × Text) → is_at_operator p.rest ≡ true → operator f p.rest ≡ Some o → p.depth < levels_left
+      → all_operators levels_left f p ≡ all_operators levels_left f (record { tree = repetition o.0 o.1 o.2 p.tree; depth = p.depth + 1; rest = o.3 })
   unfolding operators
   operators_turn o h e lt =
       let s : length o.3 < length p.rest = Operator-shorter (operator_sound f p.rest o e) in
-      rw (h, e, lt-ltb p.depth room lt) (operators_enough room (length p.rest) (suc (length o.3)) f (record { tree = repetition o.0 o.1 o.2 p.tree; depth = p.depth + 1; rest = o.3 }) s (omega arith))
+      rw (h, e, lt-ltb p.depth levels_left lt) (operators_enough levels_left (length p.rest) (suc (length o.3)) f (record { tree = repetition o.0 o.1 o.2 p.tree; depth = p.depth + 1; rest = o.3 }) s (omega arith))
 
-  pub operators_deep : is_at_operator p.rest ≡ true → room ≤ p.depth → all_operators room f p ≡ None
+  pub operators_deep : is_at_operator p.rest ≡ true → levels_left ≤ p.depth → all_operators levels_left f p ≡ None
   unfolding operators
-  operators_deep h le = rw (h, le-ltb p.depth room le) (nothing (operator f p.rest))
+  operators_deep h le = rw (h, le-ltb p.depth levels_left le) (nothing (operator f p.rest))
     where
       nothing : (o : Option (ℕ × Option ℕ × Bool × Text)) → (o >>= λ x. nowhere) ≡ None
       nothing (Some x) = refl
       nothing None = refl
 
-  pub operators_refused : is_at_operator p.rest ≡ true → operator f p.rest ≡ None → all_operators room f p ≡ None
+  pub operators_refused : is_at_operator p.rest ≡ true → operator f p.rest ≡ None → all_operators levels_left f p ≡ None
   unfolding operators
   operators_refused h e = rw (h, e) refl
 
 -- ---- a row by its steps
 
-module _ (room : ℕ) (inner : Reader) (others : Line → Option Line) where
+module _ (levels_left : ℕ) (inner : Reader) (others : Line → Option Line) where
   -- the row with a piece
   abbrev with_piece : Line → Part → Option Line
   with_piece l p = others (record { parts = l.parts ++ p.tree ∷ []; flags = l.flags; depth = max l.depth p.depth; rest = p.rest })
@@ -58,11 +58,11 @@ module _ (room : ℕ) (inner : Reader) (others : Line → Option Line) where
   abbrev with_step : Line → Step → Option Line
   with_step l s = others (joined l s)
 
-  by_group : (l : Line) (o : Option Part) → (o >>= all_operators room l.flags >>= with_piece l) ≡ (o >>= to_piece l.flags >>= operated room >>= with_step l)
-  by_group l (Some p) = sym (bind_chain (all_operators room l.flags p) (to_piece l.flags) (with_step l))
+  by_group : (l : Line) (o : Option Part) → (o >>= all_operators levels_left l.flags >>= with_piece l) ≡ (o >>= to_piece l.flags >>= operated levels_left >>= with_step l)
+  by_group l (Some p) = sym (bind_chain (all_operators levels_left l.flags p) (to_piece l.flags) (with_step l))
   by_group l None = refl
 
-  enclosed_as : (make : Tree → Tree) (f : Flags) (t : Text) → enclosed room inner make f t ≡ (enclosed room inner (λ e. e) f t >>= λ p. Some (record { tree = make p.tree; depth = p.depth; rest = p.rest }))
+  enclosed_as : (make : Tree → Tree) (f : Flags) (t : Text) → enclosed levels_left inner make f t ≡ (enclosed levels_left inner (λ e. e) f t >>= λ p. Some (record { tree = make p.tree; depth = p.depth; rest = p.rest }))
   unfolding enclosed
   enclosed_as make f t = go (inner f t)
     where
@@ -76,11 +76,11 @@ module _ (room : ℕ) (inner : Reader) (others : Line → Option Line) where
       go (Some w) = by_close (begins ")" w.rest) w
       go None = refl
 
-  by_capture : (l : Line) (name : Option (List ℕ)) (t : Text) → (enclosed room inner (capture name) l.flags t >>= all_operators room l.flags >>= with_piece l) ≡ (captured room inner name l.flags t >>= operated room >>= with_step l)
-  by_capture l name t = ap (λ o. o >>= all_operators room l.flags >>= with_piece l) (enclosed_as (capture name) l.flags t) ∙ go (enclosed room inner (λ e. e) l.flags t)
+  by_capture : (l : Line) (name : Option (List ℕ)) (t : Text) → (enclosed levels_left inner (capture name) l.flags t >>= all_operators levels_left l.flags >>= with_piece l) ≡ (captured levels_left inner name l.flags t >>= operated levels_left >>= with_step l)
+  by_capture l name t = ap (λ o. o >>= all_operators levels_left l.flags >>= with_piece l) (enclosed_as (capture name) l.flags t) ∙ go (enclosed levels_left inner (λ e. e) l.flags t)
     where
-      go : (o : Option Part) → (o >>= (λ p. Some (let q : Part = record { tree = capture name p.tree; depth = p.depth; rest = p.rest } in q)) >>= all_operators room l.flags >>= with_piece l)
-          ≡ (o >>= (λ p. to_piece l.flags (record { tree = capture name p.tree; depth = p.depth; rest = p.rest })) >>= operated room >>= with_step l)
+      go : (o : Option Part) → (o >>= (λ p. Some (let q : Part = record { tree = capture name p.tree; depth = p.depth; rest = p.rest } in q)) >>= all_operators levels_left l.flags >>= with_piece l)
+          ≡ (o >>= (λ p. to_piece l.flags (record { tree = capture name p.tree; depth = p.depth; rest = p.rest })) >>= operated levels_left >>= with_step l)
       go (Some p) = by_group l (Some (record { tree = capture name p.tree; depth = p.depth; rest = p.rest }))
       go None = refl
 
@@ -91,20 +91,20 @@ module _ (room : ℕ) (inner : Reader) (others : Line → Option Line) where
   to_directive u g = Some (a_directive_to g, u)
 
   by_flags : (l : Line) (u : Text) (o : Option Flags)
-      → (o >>= (λ g. enclosed room inner (λ e. e) g u) >>= all_operators room l.flags >>= with_piece l)
-      ≡ (o >>= to_flagged u >>= (λ x. group_or_directive_of room inner l.flags x.0 x.1) >>= operated room >>= with_step l)
+      → (o >>= (λ g. enclosed levels_left inner (λ e. e) g u) >>= all_operators levels_left l.flags >>= with_piece l)
+      ≡ (o >>= to_flagged u >>= (λ x. group_or_directive_of levels_left inner l.flags x.0 x.1) >>= operated levels_left >>= with_step l)
   unfolding group_or_directive_of
-  by_flags l u (Some g) = by_group l (enclosed room inner (λ e. e) g u)
+  by_flags l u (Some g) = by_group l (enclosed levels_left inner (λ e. e) g u)
   by_flags l u None = refl
 
   by_directive : (l : Line) (u : Text) (o : Option Flags) → (o >>= λ g. others (record l { flags = g; rest = u }))
-      ≡ (o >>= to_directive u >>= (λ x. group_or_directive_of room inner l.flags x.0 x.1) >>= operated room >>= with_step l)
+      ≡ (o >>= to_directive u >>= (λ x. group_or_directive_of levels_left inner l.flags x.0 x.1) >>= operated levels_left >>= with_step l)
   unfolding group_or_directive_of
   by_directive l u (Some g) = refl
   by_directive l u None = refl
 
   by_opening : (l : Line) (t : Text) (o : Opening) → opening t ≡ o
-      → row_step room inner others (as_directive o) (record l { rest = 40 ∷ t }) ≡ (step room inner l.flags (40 ∷ t) >>= with_step l)
+      → row_step levels_left inner others (as_directive o) (record l { rest = 40 ∷ t }) ≡ (step levels_left inner l.flags (40 ∷ t) >>= with_step l)
   unfolding row_step step group_or_directive group_or_directive_of opened piece atom group
   by_opening l t plain_group h = rw h (by_capture l None t)
   by_opening l t (named_group name u) h = rw h (by_capture l (Some (encode_utf8_all name)) u)
@@ -112,23 +112,23 @@ module _ (room : ℕ) (inner : Reader) (others : Line → Option Line) where
   by_opening l t (directive letters u) h = rw h (by_directive l u (flags_of l.flags letters))
   by_opening l t no_opening h = rw h refl
 
-  by_piece : (l : Line) → begins "(" l.rest ≡ false → row_step room inner others None l ≡ (step room inner l.flags l.rest >>= with_step l)
+  by_piece : (l : Line) → begins "(" l.rest ≡ false → row_step levels_left inner others None l ≡ (step levels_left inner l.flags l.rest >>= with_step l)
   unfolding row_step step
-  by_piece l h = rw h (sym (bind_chain (piece room inner l.flags l.rest) (to_piece l.flags) (with_step l)))
+  by_piece l h = rw h (sym (bind_chain (piece levels_left inner l.flags l.rest) (to_piece l.flags) (with_step l)))
 
-  by_step : (l : Line) → row_step room inner others (directive_at l.rest) l ≡ (step room inner l.flags l.rest >>= with_step l)
+  by_step : (l : Line) → row_step levels_left inner others (directive_at l.rest) l ≡ (step levels_left inner l.flags l.rest >>= with_step l)
   by_step l = elim (decided (begins "(" l.rest)) [
     | inl h ↦
         let here : 40 ∷ drop 1 l.rest ≡ l.rest = starts_is (codes "(") l.rest h in
-        subst (λ (t : Text). row_step room inner others (directive_at t) (record l { rest = t }) ≡ (step room inner l.flags t >>= with_step l)) here (at_group (drop 1 l.rest))
+        subst (λ (t : Text). row_step levels_left inner others (directive_at t) (record l { rest = t }) ≡ (step levels_left inner l.flags t >>= with_step l)) here (at_group (drop 1 l.rest))
     | inr h ↦ elsewhere h
   ]
     where
-      at_group : (t : Text) → row_step room inner others (directive_at (40 ∷ t)) (record l { rest = 40 ∷ t }) ≡ (step room inner l.flags (40 ∷ t) >>= with_step l)
-      at_group t = ap (λ o. row_step room inner others o (record l { rest = 40 ∷ t })) (directive_at_opening t (opening t) refl) ∙ by_opening l t (opening t) refl
+      at_group : (t : Text) → row_step levels_left inner others (directive_at (40 ∷ t)) (record l { rest = 40 ∷ t }) ≡ (step levels_left inner l.flags (40 ∷ t) >>= with_step l)
+      at_group t = ap (λ o. row_step levels_left inner others o (record l { rest = 40 ∷ t })) (directive_at_opening t (opening t) refl) ∙ by_opening l t (opening t) refl
 
-      elsewhere : begins "(" l.rest ≡ false → row_step room inner others (directive_at l.rest) l ≡ (step room inner l.flags l.rest >>= with_step l)
-      elsewhere h = ap (λ o. row_step room inner others o l) (directive_elsewhere l.rest h) ∙ by_piece l h
+      elsewhere : begins "(" l.rest ≡ false → row_step levels_left inner others (directive_at l.rest) l ≡ (step levels_left inner l.flags l.rest >>= with_step l)
+      elsewhere h = ap (λ o. row_step levels_left inner others o l) (directive_elsewhere l.rest h) ∙ by_piece l h
 
 -- what one step reads is shorter
 joined_rest : (l : Line) (s : Step) → (joined l s).rest ≡ s.rest
@@ -138,53 +138,53 @@ joined_rest l s = go s.piece
     go (Some p) = refl
     go None = refl
 
-module _ (room : ℕ) (inner : Reader) (sound : IsSound room inner) where
-  step_shorter : (f : Flags) (t : Text) (s : Step) → step room inner f t ≡ Some s → length s.rest < length t
+module _ (levels_left : ℕ) (inner : Reader) (sound : IsSound levels_left inner) where
+  step_shorter : (f : Flags) (t : Text) (s : Step) → step levels_left inner f t ≡ Some s → length s.rest < length t
   unfolding row_step
   step_shorter f t s e =
-      let same : row_step room inner (λ l. Some l) (directive_at t) (begin f t) ≡ Some (joined (begin f t) s) =
-      by_step room inner (λ l. Some l) (begin f t) ∙ ap (λ o. o >>= λ x. Some (joined (begin f t) x)) e in
+      let same : row_step levels_left inner (λ l. Some l) (directive_at t) (begin f t) ≡ Some (joined (begin f t) s) =
+      by_step levels_left inner (λ l. Some l) (begin f t) ∙ ap (λ o. o >>= λ x. Some (joined (begin f t) x)) e in
       let short : length (joined (begin f t) s).rest < length t = go (directive_at t) refl same in
       subst (λ (u : Text). length u < length t) (joined_rest (begin f t) s) short
     where
-      go : (o : Option (List ℕ × Text)) → directive_at t ≡ o → row_step room inner (λ l. Some l) o (begin f t) ≡ Some (joined (begin f t) s) → length (joined (begin f t) s).rest < length t
+      go : (o : Option (List ℕ × Text)) → directive_at t ≡ o → row_step levels_left inner (λ l. Some l) o (begin f t) ≡ Some (joined (begin f t) s) → length (joined (begin f t) s).rest < length t
       go (Some found) h q =
           let g = bind_some (flags_of f found.0) _ _ q in
-          let d = directive_sound room inner sound t found h in
+          let d = directive_sound levels_left inner sound t found h in
           let whole : length (40 ∷ 63 ∷ (found.0 ++ 41 ∷ found.1)) ≡ length t = ap length d.0 in
           let rest : found.1 ≡ (joined (begin f t) s).rest = ap (λ (l : Line). l.rest) (some_is _ _ g.2) in
           subst (λ (u : Text). length u < length t) rest (omega (arith, length-append found.0 (41 ∷ found.1)))
       go None h q =
-          let p = bind_some (piece room inner f t) _ _ q in
-          let short : length p.0.rest < length t = Piece-shorter (piece_sound room inner sound f t p.0 p.1).0 in
+          let p = bind_some (piece levels_left inner f t) _ _ q in
+          let short : length p.0.rest < length t = Piece-shorter (piece_sound levels_left inner sound f t p.0 p.1).0 in
           let rest : p.0.rest ≡ (joined (begin f t) s).rest = ap (λ (l : Line). l.rest) (some_is _ _ p.2) in
           subst (λ (u : Text). length u < length t) rest short
 
-  row_enough : (n m : ℕ) (l : Line) → length l.rest < n → length l.rest < m → row room inner n l ≡ row room inner m l
+  row_enough : (n m : ℕ) (l : Line) → length l.rest < n → length l.rest < m → row levels_left inner n l ≡ row levels_left inner m l
   unfolding row
   row_enough zero m l h k = absurd (omega arith)
   row_enough (suc n) zero l h k = absurd (omega arith)
   row_enough (suc n) (suc m) l h k =
       ap (cond (ends_branch l.rest) (Some l))
-      (by_step room inner (row room inner n) l
-      ∙ bind_same (step room inner l.flags l.rest) (λ s. row room inner n (joined l s)) (λ s. row room inner m (joined l s)) (λ s e.
+      (by_step levels_left inner (row levels_left inner n) l
+      ∙ bind_same (step levels_left inner l.flags l.rest) (λ s. row levels_left inner n (joined l s)) (λ s. row levels_left inner m (joined l s)) (λ s e.
       let short : length s.rest < length l.rest = step_shorter l.flags l.rest s e in
       let rest : length (joined l s).rest ≡ length s.rest = ap length (joined_rest l s) in
       row_enough n m (joined l s) (omega arith) (omega arith))
-      ∙ sym (by_step room inner (row room inner m) l))
+      ∙ sym (by_step levels_left inner (row levels_left inner m) l))
 
-  branches_enough : (n m : ℕ) (l : Line) → length l.rest < n → length l.rest < m → branches room inner n l ≡ branches room inner m l
+  branches_enough : (n m : ℕ) (l : Line) → length l.rest < n → length l.rest < m → branches levels_left inner n l ≡ branches levels_left inner m l
   unfolding branches
   branches_enough zero m l h k = absurd (omega arith)
   branches_enough (suc n) zero l h k = absurd (omega arith)
   branches_enough (suc n) (suc m) l h k =
       let with_it : Line → Line = λ (o : Line). record { parts = l.parts ++ branch o.parts ∷ []; flags = o.flags; depth = max l.depth o.depth; rest = o.rest } in
-      bind_same (row room inner (suc (length l.rest)) (begin l.flags l.rest))
-      (λ (o : Line). cond (begins "|" o.rest) (branches room inner n (record { parts = l.parts ++ branch o.parts ∷ []; flags = o.flags; depth = max l.depth o.depth; rest = drop 1 o.rest })) (Some (with_it o)))
-      (λ (o : Line). cond (begins "|" o.rest) (branches room inner m (record { parts = l.parts ++ branch o.parts ∷ []; flags = o.flags; depth = max l.depth o.depth; rest = drop 1 o.rest })) (Some (with_it o)))
+      bind_same (row levels_left inner (suc (length l.rest)) (begin l.flags l.rest))
+      (λ (o : Line). cond (begins "|" o.rest) (branches levels_left inner n (record { parts = l.parts ++ branch o.parts ∷ []; flags = o.flags; depth = max l.depth o.depth; rest = drop 1 o.rest })) (Some (with_it o)))
+      (λ (o : Line). cond (begins "|" o.rest) (branches levels_left inner m (record { parts = l.parts ++ branch o.parts ∷ []; flags = o.flags; depth = max l.depth o.depth; rest = drop 1 o.rest })) (Some (with_it o)))
       (λ o e. elim (decided (begins "|" o.rest)) [
         | inl b ↦
-            let s : length o.rest ≤ length l.rest = Row-shorter (row_sound room inner sound (suc (length l.rest)) (begin l.flags l.rest) o e).4 in
+            let s : length o.rest ≤ length l.rest = Row-shorter (row_sound levels_left inner sound (suc (length l.rest)) (begin l.flags l.rest) o e).4 in
             let long : suc (length (drop 1 o.rest)) ≡ length o.rest = ap length (starts_is (codes "|") o.rest b) in
             rw b (branches_enough n m (record { parts = l.parts ++ branch o.parts ∷ []; flags = o.flags; depth = max l.depth o.depth; rest = drop 1 o.rest }) (omega arith) (omega arith))
         | inr b ↦ rw b refl
@@ -192,43 +192,43 @@ module _ (room : ℕ) (inner : Reader) (sound : IsSound room inner) where
 
 -- ---- rows
 
-module _ (room : ℕ) (l : Line) where
-  pub row_stop : ends_branch l.rest ≡ true → whole_row room (inside room) l ≡ Some l
-  row_stop h = row_end room (inside room) (length l.rest) l h
+module _ (levels_left : ℕ) (l : Line) where
+  pub row_stop : ends_branch l.rest ≡ true → whole_row levels_left (inside levels_left) l ≡ Some l
+  row_stop h = row_end levels_left (inside levels_left) (length l.rest) l h
 
-  pub row_turn : (s : Step) → ends_branch l.rest ≡ false → step room (inside room) l.flags l.rest ≡ Some s → whole_row room (inside room) l ≡ whole_row room (inside room) (joined l s)
+  pub row_turn : (s : Step) → ends_branch l.rest ≡ false → step levels_left (inside levels_left) l.flags l.rest ≡ Some s → whole_row levels_left (inside levels_left) l ≡ whole_row levels_left (inside levels_left) (joined l s)
   unfolding row
   row_turn s h e =
-      let short : length s.rest < length l.rest = step_shorter room (inside room) (inside_sound room) l.flags l.rest s e in
+      let short : length s.rest < length l.rest = step_shorter levels_left (inside levels_left) (inside_sound levels_left) l.flags l.rest s e in
       let rest : length (joined l s).rest ≡ length s.rest = ap length (joined_rest l s) in
-      rw h (by_step room (inside room) (row room (inside room) (length l.rest)) l
-      ∙ ap (λ o. o >>= λ x. row room (inside room) (length l.rest) (joined l x)) e
-      ∙ row_enough room (inside room) (inside_sound room) (length l.rest) (suc (length (joined l s).rest)) (joined l s) (omega arith) (omega arith))
+      rw h (by_step levels_left (inside levels_left) (row levels_left (inside levels_left) (length l.rest)) l
+      ∙ ap (λ o. o >>= λ x. row levels_left (inside levels_left) (length l.rest) (joined l x)) e
+      ∙ row_enough levels_left (inside levels_left) (inside_sound levels_left) (length l.rest) (suc (length (joined l s).rest)) (joined l s) (omega arith) (omega arith))
 
-  pub row_refused : ends_branch l.rest ≡ false → step room (inside room) l.flags l.rest ≡ None → whole_row room (inside room) l ≡ None
+  pub row_refused : ends_branch l.rest ≡ false → step levels_left (inside levels_left) l.flags l.rest ≡ None → whole_row levels_left (inside levels_left) l ≡ None
   unfolding row
-  row_refused h e = rw h (by_step room (inside room) (row room (inside room) (length l.rest)) l ∙ ap (λ o. o >>= λ x. row room (inside room) (length l.rest) (joined l x)) e)
+  row_refused h e = rw h (by_step levels_left (inside levels_left) (row levels_left (inside levels_left) (length l.rest)) l ∙ ap (λ o. o >>= λ x. row levels_left (inside levels_left) (length l.rest) (joined l x)) e)
 
   -- ---- branches
 
-  pub branches_stop : (o : Line) → whole_row room (inside room) (begin l.flags l.rest) ≡ Some o → begins "|" o.rest ≡ false
-      → all_branches room (inside room) l ≡ Some (record { parts = l.parts ++ branch o.parts ∷ []; flags = o.flags; depth = max l.depth o.depth; rest = o.rest })
-  branches_stop o e h = branches_end room (inside room) (length l.rest) l o e h
+  pub branches_stop : (o : Line) → whole_row levels_left (inside levels_left) (begin l.flags l.rest) ≡ Some o → begins "|" o.rest ≡ false
+      → all_branches levels_left (inside levels_left) l ≡ Some (record { parts = l.parts ++ branch o.parts ∷ []; flags = o.flags; depth = max l.depth o.depth; rest = o.rest })
+  branches_stop o e h = branches_end levels_left (inside levels_left) (length l.rest) l o e h
 
-  pub branches_turn : (o : Line) → whole_row room (inside room) (begin l.flags l.rest) ≡ Some o → begins "|" o.rest ≡ true
-      → all_branches room (inside room) l ≡ all_branches room (inside room) (record { parts = l.parts ++ branch o.parts ∷ []; flags = o.flags; depth = max l.depth o.depth; rest = drop 1 o.rest })
+  pub branches_turn : (o : Line) → whole_row levels_left (inside levels_left) (begin l.flags l.rest) ≡ Some o → begins "|" o.rest ≡ true
+      → all_branches levels_left (inside levels_left) l ≡ all_branches levels_left (inside levels_left) (record { parts = l.parts ++ branch o.parts ∷ []; flags = o.flags; depth = max l.depth o.depth; rest = drop 1 o.rest })
   unfolding branches
   branches_turn o e h =
-      let s : length o.rest ≤ length l.rest = Row-shorter (row_sound room (inside room) (inside_sound room) (suc (length l.rest)) (begin l.flags l.rest) o e).4 in
+      let s : length o.rest ≤ length l.rest = Row-shorter (row_sound levels_left (inside levels_left) (inside_sound levels_left) (suc (length l.rest)) (begin l.flags l.rest) o e).4 in
       let long : suc (length (drop 1 o.rest)) ≡ length o.rest = ap length (starts_is (codes "|") o.rest h) in
-      rw (e, h) (branches_enough room (inside room) (inside_sound room) (length l.rest) (suc (length (drop 1 o.rest))) (record { parts = l.parts ++ branch o.parts ∷ []; flags = o.flags; depth = max l.depth o.depth; rest = drop 1 o.rest }) (omega arith) (omega arith))
+      rw (e, h) (branches_enough levels_left (inside levels_left) (inside_sound levels_left) (length l.rest) (suc (length (drop 1 o.rest))) (record { parts = l.parts ++ branch o.parts ∷ []; flags = o.flags; depth = max l.depth o.depth; rest = drop 1 o.rest }) (omega arith) (omega arith))
 
-  pub branches_refused : whole_row room (inside room) (begin l.flags l.rest) ≡ None → all_branches room (inside room) l ≡ None
+  pub branches_refused : whole_row levels_left (inside levels_left) (begin l.flags l.rest) ≡ None → all_branches levels_left (inside levels_left) l ≡ None
   unfolding branches
   branches_refused e = rw e refl
 
 -- ---- groups
 
-pub enclosed_full : (room : ℕ) (f : Flags) (t : Text) → room ≡ 0 → enclosed room (inside room) (λ e. e) f t ≡ None
+pub enclosed_full : (levels_left : ℕ) (f : Flags) (t : Text) → levels_left ≡ 0 → enclosed levels_left (inside levels_left) (λ e. e) f t ≡ None
 unfolding enclosed inside
-enclosed_full room f t e = subst (λ k. enclosed k (inside k) (λ e. e) f t ≡ None) (sym e) refl
+enclosed_full levels_left f t e = subst (λ k. enclosed k (inside k) (λ e. e) f t ≡ None) (sym e) refl

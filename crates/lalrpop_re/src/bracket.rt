@@ -35,38 +35,38 @@ pub(crate) enum BracketOperator {
     SymmetricDifference,
 }
 
-/// Reads a bracket, from its `[` to its `]`, with `room` levels left.
+/// Reads a bracket, from its `[` to its `]`, with `levels_left` levels left.
 #[cycle(bracket)]
-pub(crate) fn parse_bracket(cursor: &mut Cursor, room: u32) -> Result<BracketSet, RegexError>
+pub(crate) fn parse_bracket(cursor: &mut Cursor, levels_left: u32) -> Result<BracketSet, RegexError>
     ensures value { Finds (λ b x. HasRuns b.class x.set × (b.depth ≡ x.depth)
-        × (text cursor.new ≡ x.rest)) result (bracket cursor.old.flags room (text cursor.old)) }
+        × (text cursor.new ≡ x.rest)) result (bracket cursor.old.flags levels_left (text cursor.old)) }
     ensures flags { cursor.new.flags ≡ cursor.old.flags }
     ensures moves { OnOk result (unread cursor.new < unread cursor.old) }
-    ensures deep { IfOk result (λ b. b.depth ≤ room) }
+    ensures deep { IfOk result (λ b. b.depth ≤ levels_left) }
 {
-    if room == 0 {
+    if levels_left == 0 {
         return Err(cursor.error(SyntaxKind::NestLimitExceeded));
     }
-    parse_enclosed(cursor, room - 1)
+    parse_enclosed(cursor, levels_left - 1)
 }
 
-// Reads a bracket inside which `room` levels are left.
+// Reads a bracket inside which `levels_left` levels are left.
 #[cycle(bracket)]
 #[tactic(auto, unfolding(lalrpop_grammar::specs::Internal::Reading::bracket_with))]
-fn parse_enclosed(cursor: &mut Cursor, room: u32) -> Result<BracketSet, RegexError>
-    requires { room < 2 ^ 32 - 1 }
+fn parse_enclosed(cursor: &mut Cursor, levels_left: u32) -> Result<BracketSet, RegexError>
+    requires { levels_left < 2 ^ 32 - 1 }
     ensures value { Finds (λ b x. HasRuns b.class x.set × (b.depth ≡ x.depth)
         × (text cursor.new
         ≡ x.rest)) result
-        (bracket_with cursor.old.flags (bracket cursor.old.flags room) (text cursor.old)) }
+        (bracket_with cursor.old.flags (bracket cursor.old.flags levels_left) (text cursor.old)) }
     ensures flags { cursor.new.flags ≡ cursor.old.flags }
     ensures moves { OnOk result (unread cursor.new < unread cursor.old) }
-    ensures deep { IfOk result (λ b. b.depth ≤ room + 1) }
+    ensures deep { IfOk result (λ b. b.depth ≤ levels_left + 1) }
 {
     let opened = cursor.position();
     if cursor.begins(&['[', '^']) {
         cursor.advance(2);
-        let BracketSet { class, depth } = parse_operands(cursor, room, opened)?;
+        let BracketSet { class, depth } = parse_operands(cursor, levels_left, opened)?;
         cursor.advance(1);
         let class = complemented(cursor.alloc(), &class)?;
         return Ok(BracketSet {
@@ -78,7 +78,7 @@ fn parse_enclosed(cursor: &mut Cursor, room: u32) -> Result<BracketSet, RegexErr
         return Err(cursor.error(SyntaxKind::UnclosedClass));
     }
     cursor.advance(1);
-    let BracketSet { class, depth } = parse_operands(cursor, room, opened)?;
+    let BracketSet { class, depth } = parse_operands(cursor, levels_left, opened)?;
     cursor.advance(1);
     Ok(BracketSet {
         class,
@@ -96,39 +96,43 @@ fn complemented(alloc: Global, class: &ClassUnicode) -> Result<ClassUnicode, All
 // Reads the operands of the bracket that opened at a position, up to its `]`.
 #[cycle(bracket)]
 #[tactic(auto, unfolding(lalrpop_grammar::specs::Internal::Reading::operands))]
-fn parse_operands(cursor: &mut Cursor, room: u32, opened: usize) -> Result<BracketSet, RegexError>
+fn parse_operands(
+    cursor: &mut Cursor,
+    levels_left: u32,
+    opened: usize,
+) -> Result<BracketSet, RegexError>
     ensures value { Finds (λ b x. HasRuns b.class x.set × (b.depth ≡ x.depth)
         × (text cursor.new
         ≡ x.rest)) result
-        (operands cursor.old.flags (bracket cursor.old.flags room) (text cursor.old)) }
+        (operands cursor.old.flags (bracket cursor.old.flags levels_left) (text cursor.old)) }
     ensures flags { cursor.new.flags ≡ cursor.old.flags }
     ensures moves { OnOk result (unread cursor.new ≤ unread cursor.old) }
-    ensures deep { IfOk result (λ b. b.depth ≤ room) }
+    ensures deep { IfOk result (λ b. b.depth ≤ levels_left) }
     ensures closed { OnOk result (IsTrue (begins "]" (text cursor.new))) }
 {
     let lead = parse_lead(cursor);
-    let left = parse_operand(cursor, room, opened, lead)?;
-    parse_operations(cursor, room, opened, left)
+    let left = parse_operand(cursor, levels_left, opened, lead)?;
+    parse_operations(cursor, levels_left, opened, left)
 }
 
 // Reads the operators and operands that follow an operand, up to the `]`.
 #[cycle(bracket)]
 fn parse_operations(
     cursor: &mut Cursor,
-    room: u32,
+    levels_left: u32,
     opened: usize,
     left: BracketSet,
 ) -> Result<BracketSet, RegexError>
-    requires { left.depth ≤ room }
+    requires { left.depth ≤ levels_left }
     ensures value { (s : Set) → HasRuns left.class s
         → Finds (λ b x. HasRuns b.class x.set × (b.depth ≡ x.depth)
         × (text cursor.new
         ≡ x.rest)) result
-        (all_operations cursor.old.flags (bracket cursor.old.flags room)
+        (all_operations cursor.old.flags (bracket cursor.old.flags levels_left)
         (record { set = s; depth = left.depth; rest = text cursor.old })) }
     ensures flags { cursor.new.flags ≡ cursor.old.flags }
     ensures moves { OnOk result (unread cursor.new ≤ unread cursor.old) }
-    ensures deep { IfOk result (λ b. b.depth ≤ room) }
+    ensures deep { IfOk result (λ b. b.depth ≤ levels_left) }
     ensures closed { OnOk result (IsTrue (begins "]" (text cursor.new))) }
 {
     let BracketSet {
@@ -140,7 +144,7 @@ fn parse_operations(
             return Err(error_at(opened, SyntaxKind::UnclosedClass));
         };
         cursor.advance(2);
-        let right = parse_operand(cursor, room, opened, None)?;
+        let right = parse_operand(cursor, levels_left, opened, None)?;
         class = applied(cursor.alloc(), operator, &class, &right.class)?;
         depth = depth.max(right.depth);
     }
@@ -214,14 +218,14 @@ fn pass_hyphens(cursor: &mut Cursor)
 #[cycle(bracket)]
 fn parse_operand(
     cursor: &mut Cursor,
-    room: u32,
+    levels_left: u32,
     opened: usize,
     lead: Option<char>,
 ) -> Result<BracketSet, RegexError>
     ensures value { Finds (λ b x. HasRuns b.class (union_all x.sets) × (b.depth ≡ x.depth)
         × (text cursor.new
         ≡ x.rest)) result
-        (whole_operand cursor.old.flags (bracket cursor.old.flags room)
+        (whole_operand cursor.old.flags (bracket cursor.old.flags levels_left)
         (record {
           sets = leaves cursor.old.flags
               (option_to_list lead);
@@ -230,7 +234,7 @@ fn parse_operand(
         })) }
     ensures flags { cursor.new.flags ≡ cursor.old.flags }
     ensures moves { OnOk result (unread cursor.new ≤ unread cursor.old) }
-    ensures deep { IfOk result (λ b. b.depth ≤ room) }
+    ensures deep { IfOk result (λ b. b.depth ≤ levels_left) }
 {
     let mut ranges = lead_ranges(cursor.alloc(), cursor.flags(), lead)?;
     let mut joined = 0;
@@ -239,7 +243,7 @@ fn parse_operand(
         if cursor.rest().is_empty() {
             return Err(error_at(opened, SyntaxKind::UnclosedClass));
         }
-        let item_depth = parse_item(cursor, room, &mut ranges)?;
+        let item_depth = parse_item(cursor, levels_left, &mut ranges)?;
         depth = depth.max(item_depth);
         joined = join_doubled(&mut ranges, joined)?;
     }
@@ -294,17 +298,17 @@ fn ends_operand(cursor: &Cursor) -> bool
 #[tactic(auto, unfolding(lalrpop_grammar::specs::Internal::Reading::item, lalrpop_grammar::specs::Internal::Reading::item_or))]
 fn parse_item(
     cursor: &mut Cursor,
-    room: u32,
+    levels_left: u32,
     ranges: &mut Vec<ClassUnicodeRange>,
 ) -> Result<u32, RegexError>
     ensures value { Finds (λ depth x. Gains ranges.old.items ranges.new.items x.set
         × (depth ≡ x.depth)
         × (text cursor.new
         ≡ x.rest)) result
-        (item cursor.old.flags (bracket cursor.old.flags room) (text cursor.old)) }
+        (item cursor.old.flags (bracket cursor.old.flags levels_left) (text cursor.old)) }
     ensures flags { cursor.new.flags ≡ cursor.old.flags }
     ensures moves { OnOk result (unread cursor.new < unread cursor.old) }
-    ensures deep { IfOk result (λ depth. depth ≤ room) }
+    ensures deep { IfOk result (λ depth. depth ≤ levels_left) }
 {
     if let Some(PosixClass { class, negated }) = parse_posix(cursor)? {
         push_set(ranges, cursor.flags(), class, negated)?;
@@ -314,7 +318,7 @@ fn parse_item(
         parse_simple_item(cursor, ranges)?;
         return Ok(0);
     }
-    let BracketSet { class, depth } = parse_bracket(cursor, room)?;
+    let BracketSet { class, depth } = parse_bracket(cursor, levels_left)?;
     push_class(ranges, &class)?;
     Ok(depth)
 }

@@ -139,32 +139,32 @@ fn parse_at_top(cursor: &mut Cursor) -> Result<Nested, RegexError>
     parse_expression(cursor, NEST_LIMIT)
 }
 
-// Reads an expression, with `room` levels left.
+// Reads an expression, with `levels_left` levels left.
 #[cycle(parser)]
 #[tactic(auto, unfolding(lalrpop_grammar::specs::Internal::Reading::inside, lalrpop_grammar::specs::Internal::Reading::expression_with))]
-fn parse_expression(cursor: &mut Cursor, room: u32) -> Result<Nested, RegexError>
+fn parse_expression(cursor: &mut Cursor, levels_left: u32) -> Result<Nested, RegexError>
     ensures value { Gives (λ p.
-        whole p cursor.new) result (inside (suc room) cursor.old.flags (text cursor.old)) }
+        whole p cursor.new) result (inside (suc levels_left) cursor.old.flags (text cursor.old)) }
     ensures moves { OnOk result (unread cursor.new ≤ unread cursor.old) }
-    ensures deep { IfOk result (λ p. p.depth ≤ room) }
+    ensures deep { IfOk result (λ p. p.depth ≤ levels_left) }
 {
-    let Row { trees, depth } = parse_branches(cursor, room)?;
+    let Row { trees, depth } = parse_branches(cursor, levels_left)?;
     let tree = choice_of(trees);
     Ok(Nested { tree, depth })
 }
 
 // Reads the branches up to the end of the group or of the pattern.
 #[cycle(parser)]
-fn parse_branches(cursor: &mut Cursor, room: u32) -> Result<Row, RegexError>
+fn parse_branches(cursor: &mut Cursor, levels_left: u32) -> Result<Row, RegexError>
     ensures value { Gives (λ r.
         line r cursor.new) result
-        (all_branches room (inside room) (begin cursor.old.flags (text cursor.old))) }
+        (all_branches levels_left (inside levels_left) (begin cursor.old.flags (text cursor.old))) }
     ensures moves { OnOk result (unread cursor.new ≤ unread cursor.old) }
-    ensures deep { IfOk result (λ r. r.depth ≤ room) }
+    ensures deep { IfOk result (λ r. r.depth ≤ levels_left) }
 {
     let mut branches = Row::new(cursor.alloc());
     loop {
-        let Row { trees, depth } = parse_row(cursor, room)?;
+        let Row { trees, depth } = parse_row(cursor, levels_left)?;
         let tree = branch_of(trees);
         branches.push(Nested { tree, depth })?;
         if !cursor.begins(&['|']) {
@@ -176,16 +176,16 @@ fn parse_branches(cursor: &mut Cursor, room: u32) -> Result<Row, RegexError>
 
 // Reads the pieces and the directives of one branch.
 #[cycle(parser)]
-fn parse_row(cursor: &mut Cursor, room: u32) -> Result<Row, RegexError>
+fn parse_row(cursor: &mut Cursor, levels_left: u32) -> Result<Row, RegexError>
     ensures value { Gives (λ r.
         line r cursor.new) result
-        (whole_row room (inside room) (begin cursor.old.flags (text cursor.old))) }
+        (whole_row levels_left (inside levels_left) (begin cursor.old.flags (text cursor.old))) }
     ensures moves { OnOk result (unread cursor.new ≤ unread cursor.old) }
-    ensures deep { IfOk result (λ r. r.depth ≤ room) }
+    ensures deep { IfOk result (λ r. r.depth ≤ levels_left) }
 {
     let mut row = Row::new(cursor.alloc());
     while !ends_branch(cursor) {
-        let Some(piece) = parse_step(cursor, room)? else {
+        let Some(piece) = parse_step(cursor, levels_left)? else {
             continue;
         };
         row.push(piece)?;
@@ -205,17 +205,17 @@ fn ends_branch(cursor: &Cursor) -> bool
 // Reads a piece, or a directive, whose flags hold from there on and for which it returns `None`.
 #[cycle(parser)]
 #[tactic(auto, unfolding(crate::specs::Internal::Parts::step))]
-fn parse_step(cursor: &mut Cursor, room: u32) -> Result<Option<Nested>, RegexError>
+fn parse_step(cursor: &mut Cursor, levels_left: u32) -> Result<Option<Nested>, RegexError>
     ensures value { Gives (λ p.
-        step_of p cursor.new) result (step room (inside room) cursor.old.flags (text cursor.old)) }
+        step_of p cursor.new) result (step levels_left (inside levels_left) cursor.old.flags (text cursor.old)) }
     ensures moves { OnOk result (unread cursor.new < unread cursor.old) }
-    ensures deep { IfOk result (λ p. IfSome p (λ n. n.depth ≤ room)) }
+    ensures deep { IfOk result (λ p. IfSome p (λ n. n.depth ≤ levels_left)) }
 {
     if !cursor.begins(&['(']) {
-        return Ok(Some(parse_piece(cursor, room)?));
+        return Ok(Some(parse_piece(cursor, levels_left)?));
     }
-    match parse_parenthesis(cursor, room)? {
-        Some(group) => Ok(Some(parse_operators(cursor, room, group)?)),
+    match parse_parenthesis(cursor, levels_left)? {
+        Some(group) => Ok(Some(parse_operators(cursor, levels_left, group)?)),
         None => Ok(None),
     }
 }
@@ -223,27 +223,32 @@ fn parse_step(cursor: &mut Cursor, room: u32) -> Result<Option<Nested>, RegexErr
 // Reads a group, or a directive, for which it returns `None`.
 #[cycle(parser)]
 #[tactic(auto, unfolding(crate::specs::Internal::Parts::group_or_directive, crate::specs::Internal::Parts::group_or_directive_of))]
-fn parse_parenthesis(cursor: &mut Cursor, room: u32) -> Result<Option<Nested>, RegexError>
+fn parse_parenthesis(cursor: &mut Cursor, levels_left: u32) -> Result<Option<Nested>, RegexError>
     requires { IsTrue (begins "(" (text cursor.old)) }
     ensures value { Gives (λ p.
         step_of p cursor.new) result
-        (group_or_directive room (inside room) cursor.old.flags (drop 1 (text cursor.old))) }
+        (group_or_directive levels_left (inside levels_left) cursor.old.flags (drop 1 (text cursor.old))) }
     ensures moves { OnOk result (unread cursor.new < unread cursor.old) }
-    ensures deep { IfOk result (λ p. IfSome p (λ n. n.depth ≤ room)) }
+    ensures deep { IfOk result (λ p. IfSome p (λ n. n.depth ≤ levels_left)) }
 {
     let start = cursor.position();
     cursor.advance(1);
     match parse_opening(cursor)? {
         GroupOpening::Plain => {
-            let group = parse_enclosed(cursor, room, cursor.flags(), start)?;
+            let group = parse_enclosed(cursor, levels_left, cursor.flags(), start)?;
             Ok(Some(captured(cursor.alloc(), None, group)?))
         }
         GroupOpening::Named(name) => {
             cursor.note_name(start)?;
-            let group = parse_enclosed(cursor, room, cursor.flags(), start)?;
+            let group = parse_enclosed(cursor, levels_left, cursor.flags(), start)?;
             Ok(Some(captured(cursor.alloc(), Some(name), group)?))
         }
-        GroupOpening::Flagged(flags) => Ok(Some(parse_enclosed(cursor, room, flags, start)?)),
+        GroupOpening::Flagged(flags) => Ok(Some(parse_enclosed(
+            cursor,
+            levels_left,
+            flags,
+            start,
+        )?)),
         GroupOpening::Directive(flags) => {
             cursor.set_flags(flags);
             Ok(None)
@@ -256,23 +261,23 @@ fn parse_parenthesis(cursor: &mut Cursor, room: u32) -> Result<Option<Nested>, R
 #[tactic(auto, unfolding(lalrpop_grammar::specs::Internal::Reading::enclosed))]
 fn parse_enclosed(
     cursor: &mut Cursor,
-    room: u32,
+    levels_left: u32,
     flags: Flags,
     start: usize,
 ) -> Result<Nested, RegexError>
     ensures value { Gives (λ p.
-        part p (text cursor.new)) result (enclosed room (inside room) (λ e.
+        part p (text cursor.new)) result (enclosed levels_left (inside levels_left) (λ e.
         e) flags (text cursor.old)) }
     ensures flags { OnOk result (cursor.new.flags ≡ cursor.old.flags) }
     ensures moves { OnOk result (unread cursor.new ≤ unread cursor.old) }
-    ensures deep { IfOk result (λ p. p.depth ≤ room) }
+    ensures deep { IfOk result (λ p. p.depth ≤ levels_left) }
 {
-    if room == 0 {
+    if levels_left == 0 {
         return Err(error_at(start, SyntaxKind::NestLimitExceeded));
     }
     let outside = cursor.flags();
     cursor.set_flags(flags);
-    let Nested { tree, depth } = parse_expression(cursor, room - 1)?;
+    let Nested { tree, depth } = parse_expression(cursor, levels_left - 1)?;
     if !cursor.begins(&[')']) {
         return Err(error_at(start, SyntaxKind::UnclosedGroup));
     }
@@ -308,29 +313,29 @@ fn captured(alloc: Global, name: Option<String>, group: Nested) -> Result<Nested
 
 // Reads an atom that is not a group, and its operators.
 #[tactic(auto, unfolding(lalrpop_grammar::specs::Internal::Reading::piece))]
-fn parse_piece(cursor: &mut Cursor, room: u32) -> Result<Nested, RegexError>
+fn parse_piece(cursor: &mut Cursor, levels_left: u32) -> Result<Nested, RegexError>
     requires { begins "(" (text cursor.old) ≡ false }
     ensures value { Gives (λ p.
         part p (text cursor.new)) result
-        (piece room (inside room) cursor.old.flags (text cursor.old)) }
+        (piece levels_left (inside levels_left) cursor.old.flags (text cursor.old)) }
     ensures flags { cursor.new.flags ≡ cursor.old.flags }
     ensures moves { OnOk result (unread cursor.new < unread cursor.old) }
-    ensures deep { IfOk result (λ p. p.depth ≤ room) }
+    ensures deep { IfOk result (λ p. p.depth ≤ levels_left) }
 {
-    let atom = parse_atom(cursor, room)?;
-    parse_operators(cursor, room, atom)
+    let atom = parse_atom(cursor, levels_left)?;
+    parse_operators(cursor, levels_left, atom)
 }
 
 // Reads an atom that is not a group.
 #[tactic(auto, unfolding(lalrpop_grammar::specs::Internal::Reading::atom, crate::specs::Internal::Parts::escaped_part, crate::specs::Internal::Parts::bracket_part))]
-fn parse_atom(cursor: &mut Cursor, room: u32) -> Result<Nested, RegexError>
+fn parse_atom(cursor: &mut Cursor, levels_left: u32) -> Result<Nested, RegexError>
     requires { begins "(" (text cursor.old) ≡ false }
     ensures value { Gives (λ p.
         part p (text cursor.new)) result
-        (atom room (inside room) cursor.old.flags (text cursor.old)) }
+        (atom levels_left (inside levels_left) cursor.old.flags (text cursor.old)) }
     ensures flags { cursor.new.flags ≡ cursor.old.flags }
     ensures moves { OnOk result (unread cursor.new < unread cursor.old) }
-    ensures deep { IfOk result (λ p. p.depth ≤ room) }
+    ensures deep { IfOk result (λ p. p.depth ≤ levels_left) }
 {
     let Some(first) = cursor.peek() else {
         return Err(cursor.error(SyntaxKind::RepetitionMissing));
@@ -341,7 +346,7 @@ fn parse_atom(cursor: &mut Cursor, room: u32) -> Result<Nested, RegexError>
             cursor.advance(1);
             parse_escaped(cursor)
         }
-        '[' => parse_class(cursor, room),
+        '[' => parse_class(cursor, levels_left),
         '.' => Ok(single(cursor, tree_of_dot(cursor.alloc(), flags)?)),
         '^' => Ok(single(cursor, Hir::look(line_start(flags)))),
         '$' => Ok(single(cursor, Hir::look(line_end(flags)))),
@@ -427,31 +432,35 @@ fn tree_of_escape(alloc: Global, flags: Flags, escaped: EscapedPart) -> Result<H
 
 // Reads a bracket as an atom: the tree of its set.
 #[tactic(auto, unfolding(crate::specs::Internal::Parts::bracket_part))]
-fn parse_class(cursor: &mut Cursor, room: u32) -> Result<Nested, RegexError>
+fn parse_class(cursor: &mut Cursor, levels_left: u32) -> Result<Nested, RegexError>
     ensures value { Gives (λ p.
-        part p (text cursor.new)) result (bracket_part room cursor.old.flags (text cursor.old)) }
+        part p (text cursor.new)) result (bracket_part levels_left cursor.old.flags (text cursor.old)) }
     ensures flags { cursor.new.flags ≡ cursor.old.flags }
     ensures moves { OnOk result (unread cursor.new < unread cursor.old) }
-    ensures deep { IfOk result (λ p. p.depth ≤ room) }
+    ensures deep { IfOk result (λ p. p.depth ≤ levels_left) }
 {
-    let BracketSet { class, depth } = parse_bracket(cursor, room)?;
+    let BracketSet { class, depth } = parse_bracket(cursor, levels_left)?;
     let tree = tree_of_class(class);
     Ok(Nested { tree, depth })
 }
 
 // Puts the atom under each operator that follows.
-fn parse_operators(cursor: &mut Cursor, room: u32, atom: Nested) -> Result<Nested, RegexError>
-    requires { atom.depth ≤ room }
+fn parse_operators(
+    cursor: &mut Cursor,
+    levels_left: u32,
+    atom: Nested,
+) -> Result<Nested, RegexError>
+    requires { atom.depth ≤ levels_left }
     ensures value { Gives (λ p.
         part p (text cursor.new)) result
-        (all_operators room cursor.old.flags (part atom (text cursor.old))) }
+        (all_operators levels_left cursor.old.flags (part atom (text cursor.old))) }
     ensures flags { cursor.new.flags ≡ cursor.old.flags }
     ensures moves { OnOk result (unread cursor.new ≤ unread cursor.old) }
-    ensures deep { IfOk result (λ p. p.depth ≤ room) }
+    ensures deep { IfOk result (λ p. p.depth ≤ levels_left) }
 {
     let mut piece = atom;
     while is_at_operator(cursor) {
-        if piece.depth >= room {
+        if piece.depth >= levels_left {
             return Err(cursor.error(SyntaxKind::NestLimitExceeded));
         }
         let operator = parse_operator(cursor)?;

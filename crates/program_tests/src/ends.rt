@@ -1,7 +1,8 @@
-//! Readers and writers that fail: what is written then, that no call is made after one that failed, and that no run flushes.
+//! Readers and writers that fail: what is written then, that no call is made after one that failed, that no run flushes, and
+//! that a failed flush is told.
 
 use crate::shared::run_over;
-use lexdfa_lib::{Outcome, RunError, Watched};
+use lexdfa_lib::{Failure, Outcome, RunError, Watched, run_and_flush};
 use std::alloc::Global;
 use std::io;
 use std::io::{Read, Write};
@@ -175,5 +176,31 @@ fn writes_all_and_flushes_nothing(alloc: Global, job: &Job) -> bool {
 fn a_run_flushes_nothing(rt: HostRuntime) {
     for job in &JOBS {
         assert!(rt; writes_all_and_flushes_nothing(rt.alloc(), job));
+    }
+}
+
+// Takes all bytes, and fails when they are flushed. Standard output has no buffer, so its flush never fails.
+#[derive(Drop)]
+struct FailsToFlush;
+
+impl Write for FailsToFlush {
+    fn write(&mut self, buf: &[u8]) -> io::Result<usize> {
+        Ok(buf.len())
+    }
+
+    fn flush(&mut self) -> io::Result<()> {
+        Err(io::Error::from(io::ErrorKind::Other))
+    }
+}
+
+fn fails_to_flush(alloc: Global, job: &Job) -> bool {
+    let found = run_and_flush(alloc, job.all, job.input, job.text, FailsToFlush);
+    matches!(&found, Err(Failure::Run(RunError::Write)))
+}
+
+#[test]
+fn a_failed_flush_is_a_failed_write(rt: HostRuntime) {
+    for job in &JOBS {
+        assert!(rt; fails_to_flush(rt.alloc(), job));
     }
 }

@@ -3,13 +3,13 @@ ghost use Rattle.std.specs.Prelude.{◌≤◌, IfOk};
 
 use crate::command::Markup;
 use crate::cut_files::{Task, cut_all};
-use crate::ends::{NO_TEXT, bytes_of, flushed, out_of_memory, say};
+use crate::ends::{NO_TEXT, bytes_of, out_of_memory, say};
 use crate::layout::LineForm;
 use crate::named_clashes::{rule_clashes, write_rule_clashes};
 use crate::rule_explain::{bad_line_explained, rules_explained};
 use lalrpop_rules::{Rule, RuleFileError, RuleLexer, RulesError, read_rules, without_mark};
-use lexdfa_lib::{Failure, RunError, Watched};
-use std::io::{self, Eprint};
+use lexdfa_lib::{Failure, RunError, Watched, flushed};
+use std::io::{self, Eprint, Write};
 use std::rt::Files;
 
 // The status of a line that is no rule, and of a pattern that doesn't parse.
@@ -80,7 +80,7 @@ fn cut_by<R: Files + Input + Print + Eprint + AllocGlobal>(
     };
     let mut writer = Watched::new(io::writer(rt));
     let status = cut_all(rt, &task, files, &mut writer)?;
-    flushed(status, writer)
+    flushed(status, &writer.into_inner().flush())
 }
 
 /// Cuts the files by the rules of a file, and returns the status.
@@ -125,5 +125,6 @@ pub(crate) fn list_clashes<R: Files + Print + Eprint + AllocGlobal>(
     };
     let mut writer = Watched::new(io::writer(rt));
     write_rule_clashes(rt.alloc(), &rules, &found, &mut writer).map_err(Failure::Run)?;
-    flushed(if found.is_empty() { 0 } else { REFUSED }, writer)
+    let status = if found.is_empty() { 0 } else { REFUSED };
+    flushed(status, &writer.into_inner().flush())
 }

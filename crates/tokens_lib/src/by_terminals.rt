@@ -4,10 +4,10 @@ ghost use Rattle.std.specs.Prelude.{◌≤◌, IfOk};
 use crate::building::{BuildError, lexer_of};
 use crate::clash_lines::write_clashes;
 use crate::cut_files::{Task, cut_all};
-use crate::ends::{NO_TEXT, bytes_of, flushed, out_of_memory, say};
+use crate::ends::{NO_TEXT, bytes_of, out_of_memory, say};
 use crate::explain::explanation;
-use lexdfa_lib::{Failure, Outcome, RunError, Watched};
-use std::io::{self, Eprint};
+use lexdfa_lib::{Failure, Outcome, RunError, Watched, flushed};
+use std::io::{self, Eprint, Write};
 use std::rt::Files;
 
 // Says what is wrong with the terminals, and returns the status.
@@ -44,7 +44,7 @@ pub(crate) fn cut_by_terminals<R: Files + Input + Print + Eprint + AllocGlobal>(
                 places,
             };
             let status = cut_all(rt, &task, files, &mut writer)?;
-            flushed(status, writer)
+            flushed(status, &writer.into_inner().flush())
         }
         Err(BuildError::Reported(outcome)) => report(rt, rules, &bytes, &outcome),
         Err(BuildError::OutOfMemory) => Err(Failure::Run(RunError::OutOfMemory)),
@@ -69,5 +69,5 @@ pub(crate) fn list_terminal_clashes<R: Files + Print + Eprint + AllocGlobal>(
         Some(Outcome::Ambiguous { .. }) => 2,
         Some(outcome) => report(rt, rules, &bytes, outcome)?,
     };
-    flushed(status, writer)
+    flushed(status, &writer.into_inner().flush())
 }

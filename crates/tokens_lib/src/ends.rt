@@ -1,11 +1,9 @@
 //! The files that the program reads, and what it says on standard error.
-ghost use Rattle.std.specs.Prelude.{◌≡◌, IfOk};
-
 use lexdfa_lib::{Failure, RunError, Watched, read_whole};
 use std::alloc::AllocError;
 use std::fmt::Display;
 use std::fs::{File, OpenFile};
-use std::io::{self, Eprint, ErrorKind, Write};
+use std::io::{self, Eprint, ErrorKind};
 use std::rt::Files;
 
 /// The status if a file gave no text.
@@ -62,15 +60,5 @@ pub(crate) fn bytes_of<R: Files + Eprint + AllocGlobal>(
             say_of(rt, name, &"read failed");
             Ok(None)
         }
-    }
-}
-
-/// Standard output has no buffer of its own: a flush reports failures of what the system still holds.
-pub(crate) fn flushed<W: Write + Drop>(status: u8, writer: Watched<W>) -> Result<u8, Failure>
-    ensures { IfOk result (λ found. found ≡ status) }
-{
-    match writer.into_inner().flush() {
-        Ok(()) => Ok(status),
-        Err(_) => Err(Failure::Run(RunError::Write)),
     }
 }

@@ -6,9 +6,9 @@ use crate::by_rules::{Work, cut_by_rules, list_clashes};
 use crate::by_terminals::{cut_by_terminals, list_terminal_clashes};
 use crate::command::{Command, command_of};
 use crate::ends::{out_of_memory, say};
-use lexdfa_lib::{Failure, RunError, status_of};
+use lexdfa_lib::{Failure, RunError, status_of, without_arguments};
 use std::env;
-use std::io::{self, Eprint, ErrorKind};
+use std::io::Eprint;
 use std::process::ExitCode;
 use std::rt::{Env, Files};
 
@@ -20,18 +20,10 @@ const USAGE: &str = "tokens: usage: tokens [--recover] [--json] RULES [FILE ..]
        tokens --lines --clashes RULES
 ";
 
-// `args` fails on an argument that isn't UTF-8, and when it is out of memory.
-fn without_arguments(error: io::Error) -> Failure {
-    match error.kind() {
-        ErrorKind::OutOfMemory => Failure::Run(RunError::OutOfMemory),
-        _ => Failure::Usage,
-    }
-}
-
 fn perform<R: Env + Files + Input + Print + Eprint + AllocGlobal>(rt: &R) -> Result<u8, Failure>
     ensures { IfOk result (λ status. status ≤ 6) }
 {
-    let words = env::args(rt).map_err(without_arguments)?;
+    let words = env::args(rt).map_err(|error| without_arguments(&error))?;
     let words = words
         .skip(1)
         .collect::<Vec<String>>(rt.alloc())

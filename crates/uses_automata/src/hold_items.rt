@@ -15,7 +15,7 @@ use lalrpop_book::NfaIndex;
 use lalrpop_build::Transition;
 use lalrpop_build::closure::{Workspace, advance, closure};
 use lalrpop_dfa::{DfaStateIndex, Item, ItemSet};
-use lalrpop_nfa::{Nfa, START, StateKind};
+use lalrpop_nfa::{ACCEPT, Nfa, START, StateKind};
 use std::alloc::{AllocError, Global};
 use std::cmp::Ordering;
 
@@ -166,4 +166,24 @@ pub fn partial_order_of_sets(left: &ItemSet, right: &ItemSet) -> Option<Ordering
     ensures { result ≡ Some (set_cmp left.now right.now) }
 {
     left.partial_cmp(right)
+}
+
+// Needs lalrpop_dfa::Item::to: ensures.
+/// The accepting state of the item's pattern.
+pub fn accepting(item: Item) -> Item
+    ensures { result ≡ (item.0, 0) }
+{
+    item.to(ACCEPT)
+}
+
+// Needs lalrpop_dfa::ItemSet::new: items.
+// Needs lalrpop_dfa::ItemSet::live_patterns: split, items.
+/// The set, made anew of its parts.
+pub fn made_anew(alloc: Global, set: &ItemSet) -> Result<ItemSet, AllocError>
+    ensures { IfOk result (λ made. made ≡ set.now) }
+{
+    let (patterns, live_patterns) = set.live_patterns();
+    let live_patterns = Vec::from_slice(alloc, live_patterns)?;
+    let live = Vec::from_slice(alloc, set.live())?;
+    Ok(ItemSet::new(patterns, live_patterns, live))
 }

@@ -1,91 +1,74 @@
-//! How far a lexer looks ahead, and what a whole text costs.
+//! How far a lexer looks ahead.
 
-ghost use Rattle.std.specs.Prelude.{◌≡◌, ℕ, ◌+◌, ◌*◌, ◌<◌, ◌≤◌, ◌⊎◌, ◌↔◌, [], List, length, slice_get, Some, true, IfOk, IfSome, IfNone};
-ghost use Rattle.std.specs.Str.{chars};
-ghost use Rattle.lalrpop_lexer.specs.Counting.{counting_of};
-ghost use Rattle.lalrpop_lexer.specs.Cutting.{rest_of, start_of};
-ghost use Rattle.lalrpop_lexer.specs.Lookahead.{IsLookahead, IsSettledAfter, LooksAtMost, StaysOpenEver};
+ghost use Rattle.std.specs.Prelude.{◌≡◌, ℕ, ◌<◌, ◌↔◌, List, length, true, false, IfOk};
+ghost use Rattle.lalrpop_lexer.specs.Lookahead.{CanStayOpen, IsSettledAfter, LooksAtMost, StaysOpenEver};
 ghost use Rattle.lalrpop_lexer.specs.Witness.{IsWitness, LeavesOpen};
 
-use lalrpop_lexer::lexer::dfa::Witness;
-use lalrpop_lexer::{CountedTokens, Lexer, LexerTokens};
+use lalrpop_lexer::Lexer;
 use std::alloc::{AllocError, Global};
 
-// Needs lalrpop_lexer::Lexer::lookahead: answer, settled.
-/// The greatest number of characters that leave a match open.
+// Needs lalrpop_lexer::Lexer::lookahead: answer.
+/// Whether something limits how many characters leave a match open.
 ///
 /// # Errors
 ///
 /// `AllocError` if a request for memory was refused.
-pub fn open_characters(alloc: Global, lexer: &Lexer) -> Result<Option<usize>, AllocError>
-    ensures answer { IfOk result (λ found. IsLookahead lexer.now.automaton found) }
-    ensures settled { IfOk result (λ found. IfSome found (λ n. IsSettledAfter lexer.now.trees n)) }
+pub fn is_limited(alloc: Global, lexer: &Lexer) -> Result<bool, AllocError>
+    ensures limited { IfOk result (λ limited. limited ≡ true
+        → (n : ℕ) × LooksAtMost lexer.now.automaton n) }
+    ensures endless { IfOk result (λ limited. limited ≡ false
+        → (m : ℕ) → CanStayOpen lexer.now.automaton m) }
 {
-    lexer.lookahead(alloc)
+    match lexer.lookahead(alloc)? {
+        Some(_) => Ok(true),
+        None => Ok(false),
+    }
+}
+
+// Needs lalrpop_lexer::Lexer::lookahead: settled.
+/// Whether just this many characters settle each match.
+///
+/// # Errors
+///
+/// `AllocError` if a request for memory was refused.
+pub fn is_settled_by(alloc: Global, lexer: &Lexer, count: usize) -> Result<bool, AllocError>
+    ensures settled { IfOk result (λ settled. settled ≡ true
+        → IsSettledAfter lexer.now.trees count) }
+{
+    match lexer.lookahead(alloc)? {
+        Some(number) => Ok(number == count),
+        None => Ok(false),
+    }
 }
 
 // Needs lalrpop_lexer::Lexer::open_patterns: same_length, each.
-/// For each pattern, whether a token can stay open for ever because of it.
+/// Whether a token can stay open for ever because of this pattern.
 ///
 /// # Errors
 ///
 /// `AllocError` if a request for memory was refused.
-pub fn open_for_ever(alloc: Global, lexer: &Lexer) -> Result<Vec<bool>, AllocError>
-    ensures same_length { IfOk result (λ found. length found.items ≡ length lexer.now.trees) }
-    ensures each { IfOk result (λ found. (i : ℕ) → i < length lexer.now.trees
-        → (slice_get found.items i ≡ Some true) ↔ StaysOpenEver lexer.now.automaton i) }
+pub fn stays_open(alloc: Global, lexer: &Lexer, number: usize) -> Result<bool, AllocError>
+    requires { number < length lexer.now.trees }
+    ensures { IfOk result (λ stays. (stays ≡ true) ↔ StaysOpenEver lexer.now.automaton number) }
 {
-    lexer.open_patterns(alloc)
+    let found = lexer.open_patterns(alloc)?;
+    Ok(found[number])
 }
 
 // Needs lalrpop_lexer::Lexer::lookahead_witness: least, none.
-/// The least match that is still open after `count` more characters, and the least such characters.
+/// Whether some match is left open by this many characters.
 ///
 /// # Errors
 ///
 /// `AllocError` if a request for memory was refused.
-pub fn left_open(alloc: Global, lexer: &Lexer, count: usize) -> Result<Option<Witness>, AllocError>
-    ensures least { IfOk result (λ found. IfSome found (λ witness.
-        IsWitness lexer.now.automaton count witness.word witness.after)) }
-    ensures none { IfOk result (λ found. IfNone found
-        ((v x : List ℕ) → ¬ LeavesOpen lexer.now.automaton count v x)) }
+pub fn is_left_open(alloc: Global, lexer: &Lexer, count: usize) -> Result<bool, AllocError>
+    ensures is_open { IfOk result (λ left. left ≡ true
+        → (v x : List ℕ) × IsWitness lexer.now.automaton count v x) }
+    ensures is_closed { IfOk result (λ left. left ≡ false
+        → (v x : List ℕ) → ¬ LeavesOpen lexer.now.automaton count v x) }
 {
-    lexer.lookahead_witness(alloc, count)
-}
-
-// Needs lalrpop_lexer::Lexer::tokens: start, automaton.
-/// The tokens of the text, cut by the automaton that `lookahead` is about.
-pub fn cut_by_the_same<'text>(lexer: &'text Lexer, text: &'text str) -> LexerTokens<'text>
-    ensures start { result ≡ start_of lexer.now.automaton text.now }
-{
-    lexer.tokens(text)
-}
-
-// Needs lalrpop_lexer::Lexer::tokens_counted: start, cost.
-// Needs lalrpop_lexer::CountedTokens::next: ghost next_gives, ghost remaining.
-/// Cuts the whole text.
-pub fn cut_to_the_end<'text>(lexer: &'text Lexer, text: &'text str) -> CountedTokens<'text>
-    ensures all { (result.cutting.is_over ≡ true) ⊎ (rest_of result.cutting ≡ []) }
-    ensures cost { (n : ℕ) → LooksAtMost lexer.now.automaton n
-        → result.steps ≤ (n + 2) * length (chars text.now) }
-{
-    let mut items = lexer.tokens_counted(text);
-    while let Some(_) = items.next() {}
-    items
-}
-
-// Needs lalrpop_lexer::Lexer::tokens_counted: start.
-/// Before the first token nothing was read.
-pub fn begin<'text>(lexer: &'text Lexer, text: &'text str) -> CountedTokens<'text>
-    ensures start { result ≡ counting_of lexer.now.automaton text.now }
-{
-    lexer.tokens_counted(text)
-}
-
-// Needs lalrpop_lexer::Lexer::tokens_counted: tokens.
-/// Whether there is neither a token nor a fault: then the text is empty.
-pub fn is_no_text(lexer: &Lexer, text: &str) -> bool
-    ensures empty { result ≡ true → text.now ≡ [] }
-{
-    lexer.tokens_counted(text).next().is_none()
+    match lexer.lookahead_witness(alloc, count)? {
+        Some(_) => Ok(true),
+        None => Ok(false),
+    }
 }

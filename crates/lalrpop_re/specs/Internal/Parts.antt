@@ -30,9 +30,9 @@ joined_by None l = l
 abbrev pub joined : Line → Step → Line
 joined l s = joined_by s.piece (record { parts = l.parts; flags = s.flags; depth = l.depth; rest = s.rest })
 
-module _ (room : ℕ) where
+module _ (levels_left : ℕ) where
   abbrev pub operated_by : Option (Tree × ℕ) → Flags → Text → Option Step
-  operated_by (Some p) f t = all_operators room f (record { tree = p.0; depth = p.1; rest = t }) >>= to_piece f
+  operated_by (Some p) f t = all_operators levels_left f (record { tree = p.0; depth = p.1; rest = t }) >>= to_piece f
   operated_by None f t = Some (record { piece = None; flags = f; rest = t })
 
   -- the step with the operators after its piece
@@ -41,12 +41,12 @@ module _ (room : ℕ) where
 
   module _ (inside : Reader) where
     abbrev pub captured : Option (List ℕ) → Flags → Text → Option Step
-    captured name f t = enclosed room inside (λ e. e) f t >>= λ p. to_piece f (record { tree = capture name p.tree; depth = p.depth; rest = p.rest })
+    captured name f t = enclosed levels_left inside (λ e. e) f t >>= λ p. to_piece f (record { tree = capture name p.tree; depth = p.depth; rest = p.rest })
 
     unfoldable pub group_or_directive_of : Flags → Opened → Text → Option Step
     group_or_directive_of f a_plain_group t = captured None f t
     group_or_directive_of f (a_named_group name) t = captured (Some name) f t
-    group_or_directive_of f (a_flagged_group g) t = enclosed room inside (λ e. e) g t >>= to_piece f
+    group_or_directive_of f (a_flagged_group g) t = enclosed levels_left inside (λ e. e) g t >>= to_piece f
     group_or_directive_of f (a_directive_to g) t = Some (record { piece = None; flags = g; rest = t })
 
     -- what begins after a `(`
@@ -54,7 +54,7 @@ module _ (room : ℕ) where
     group_or_directive f t = opened f t >>= λ x. group_or_directive_of f x.0 x.1
 
     unfoldable pub step : Flags → Text → Option Step
-    step f t = if begins "(" t then (group_or_directive f (drop 1 t) >>= operated) else (piece room inside f t >>= to_piece f)
+    step f t = if begins "(" t then (group_or_directive f (drop 1 t) >>= operated) else (piece levels_left inside f t >>= to_piece f)
 
 -- ---- atoms
 
@@ -63,7 +63,7 @@ unfoldable pub escaped_part : Flags → Text → Option Part
 escaped_part f t = escape t >>= λ x. Some (record { tree = escaped_tree f x.0; depth = 0; rest = x.1 })
 
 unfoldable pub bracket_part : ℕ → Flags → Text → Option Part
-bracket_part room f t = bracket f room t >>= λ p. Some (record { tree = set_tree p.set; depth = p.depth; rest = p.rest })
+bracket_part levels_left f t = bracket f levels_left t >>= λ p. Some (record { tree = set_tree p.set; depth = p.depth; rest = p.rest })
 
 -- ---- the parser's parts
 

@@ -1,0 +1,336 @@
+//! What one call finds in a text, or makes of terminals, and the least time of some rounds. `../run` says how it is called.
+#![tactic(auto)]
+
+use anyhow::{Context, Result, bail};
+use lalrpop_lexer::lexer::dfa::{
+    DenseDfa, Dfa, Marks, Matcher, NfaIndex, Precedence, build_dfa, clashes,
+};
+use lalrpop_lexer::lexer::nfa::Steps;
+use lalrpop_lexer::lexer::re::Regex;
+use lalrpop_lexer::{Lexer, Terminals, read_terminals, tokens};
+use lalrpop_rules::{Item, RuleLexer, read_rules};
+use std::alloc::{AllocError, Global};
+use std::time::{CpuClock, Duration};
+use std::{env, fs};
+
+// What a round found: tokens, states, clashes or terminals; places at which nothing matches; and a sum over lengths and terminals.
+#[derive(Clone, Copy)]
+struct Found {
+    count: u64,
+    faults: u64,
+    sum: u64,
+}
+
+impl Found {
+    fn none() -> Found {
+        Found {
+            count: 0,
+            faults: 0,
+            sum: 0,
+        }
+    }
+
+    fn add(&mut self, terminal: NfaIndex, length: usize) {
+        self.count = self.count.wrapping_add(1);
+        self.sum = self
+            .sum
+            .wrapping_mul(31)
+            .wrapping_add(terminal.index() as u64)
+            .wrapping_add((length as u64) << 32);
+    }
+
+    fn add_fault(&mut self) {
+        self.faults = self.faults.wrapping_add(1);
+    }
+
+    fn add_item(&mut self, item: &Item) {
+        match item {
+            Item::Token(token) => self.add(token.index, token.slice.len()),
+            Item::Skipped(token) => self.add(token.index, token.slice.len()),
+            Item::Fault { .. } => self.add_fault(),
+        }
+    }
+
+    fn of(count: usize) -> Found {
+        Found {
+            count: count as u64,
+            ..Found::none()
+        }
+    }
+}
+
+trait Work {
+    fn round(&self, alloc: Global, call: &str, text: &str) -> Result<Found, AllocError>;
+}
+
+// The file of terminals as it is.
+#[derive(Drop)]
+struct Bytes<'a>(&'a [u8]);
+
+impl Work for Bytes<'_> {
+    fn round(&self, alloc: Global, _call: &str, _text: &str) -> Result<Found, AllocError> {
+        match read_terminals(alloc, self.0)? {
+            Terminals::All { regexs, .. } => Ok(Found::of(regexs.len())),
+            _ => Ok(Found::none()),
+        }
+    }
+}
+
+#[derive(Drop)]
+struct Listed {
+    regexs: Vec<Regex>,
+    precedences: Vec<Precedence>,
+}
+
+fn list_of(alloc: Global, bytes: &[u8]) -> Option<Listed> {
+    match read_terminals(alloc, bytes).ok()? {
+        Terminals::All {
+            regexs,
+            precedences,
+        } => Some(Listed {
+            regexs,
+            precedences,
+        }),
+        _ => None,
+    }
+}
+
+fn built(alloc: Global, list: &Listed) -> Option<Dfa> {
+    if list.regexs.len() != list.precedences.len() {
+        return None;
+    }
+    build_dfa(alloc, &list.regexs, &list.precedences).ok()
+}
+
+fn clash_count(alloc: Global, list: &Listed) -> Option<usize> {
+    if list.regexs.len() != list.precedences.len() {
+        return None;
+    }
+    let found = clashes(alloc, &list.regexs, &list.precedences).ok()?;
+    Some(found.len())
+}
+
+impl Work for Listed {
+    fn round(&self, alloc: Global, call: &str, _text: &str) -> Result<Found, AllocError> {
+        if call == "clashes" {
+            return Ok(Found::of(clash_count(alloc, self).unwrap_or(0)));
+        }
+        match built(alloc, self) {
+            Some(dfa) => Ok(Found::of(dfa.states().len())),
+            None => Ok(Found::none()),
+        }
+    }
+}
+
+#[derive(Drop)]
+struct Cutters {
+    dfa: Dfa,
+    dense: DenseDfa,
+    lexer: Lexer,
+}
+
+fn cutters_of(alloc: Global, list: Listed) -> Option<Cutters> {
+    let dfa = built(alloc, &list)?;
+    let Listed {
+        regexs,
+        precedences,
+    } = list;
+    if regexs.len() != precedences.len() {
+        return None;
+    }
+    let lexer = Lexer::new(alloc, regexs, precedences).ok()?;
+    let dense = DenseDfa::new(alloc, dfa.clone().ok()?).ok()?;
+    Some(Cutters { dfa, dense, lexer })
+}
+
+impl Work for Cutters {
+    fn round(&self, alloc: Global, call: &str, text: &str) -> Result<Found, AllocError> {
+        match call {
+            "interpret" => Ok(by_longest(&self.dfa, text)),
+            "longest" => Ok(by_longest(&self.dense, text)),
+            "dfa_tokens" => Ok(by_automaton(&self.dfa, text)),
+            "tokens" => Ok(by_tokens(&self.lexer, text)),
+            "tokens_linear" => by_tokens_linear(alloc, &self.lexer, text),
+            "token_list" => by_list(alloc, &self.lexer, text),
+            "cut_block" => by_blocks(alloc, &self.dense, text),
+            _ => made_again(alloc, &self.dfa),
+        }
+    }
+}
+
+fn made_again(alloc: Global, dfa: &Dfa) -> Result<Found, AllocError> {
+    let dense = DenseDfa::new(alloc, dfa.clone()?)?;
+    Ok(Found::of(dense.dfa().states().len()))
+}
+
+// A character is passed over where nothing matches.
+fn by_longest<M: Matcher>(matcher: &M, text: &str) -> Found {
+    let mut found = Found::none();
+    let mut rest = text;
+    for _ in 0..text.len() {
+        let Some(first) = rest.chars().next() else {
+            break;
+        };
+        let length = match matcher.longest_match(rest, &mut Steps::new()) {
+            Some((terminal, word)) => {
+                found.add(terminal, word.len());
+                word.len()
+            }
+            None => {
+                found.add_fault();
+                first.len_utf8()
+            }
+        };
+        rest = rest.get(length..).unwrap_or("");
+    }
+    found
+}
+
+fn by_automaton(dfa: &Dfa, text: &str) -> Found {
+    let mut found = Found::none();
+    for token in tokens(dfa, text) {
+        match token {
+            Ok((terminal, word)) => found.add(terminal, word.len()),
+            Err(_) => found.add_fault(),
+        }
+    }
+    found
+}
+
+fn by_tokens(lexer: &Lexer, text: &str) -> Found {
+    let mut found = Found::none();
+    for token in lexer.tokens(text) {
+        match token {
+            Ok(token) => found.add(token.index, token.slice.len()),
+            Err(_) => found.add_fault(),
+        }
+    }
+    found
+}
+
+fn by_tokens_linear(alloc: Global, lexer: &Lexer, text: &str) -> Result<Found, AllocError> {
+    let mut found = Found::none();
+    for token in lexer.tokens_linear(alloc, text)? {
+        match token {
+            Ok(token) => found.add(token.index, token.slice.len()),
+            Err(_) => found.add_fault(),
+        }
+    }
+    Ok(found)
+}
+
+fn by_list(alloc: Global, lexer: &Lexer, text: &str) -> Result<Found, AllocError> {
+    let mut found = Found::none();
+    let list = lexer.token_list(alloc, text)?;
+    for token in &list.tokens {
+        found.add(token.index, token.slice.len());
+    }
+    if list.fault.is_some() {
+        found.add_fault();
+    }
+    Ok(found)
+}
+
+fn by_blocks(alloc: Global, dense: &DenseDfa, text: &str) -> Result<Found, AllocError> {
+    let mut found = Found::none();
+    let mut marks = Marks::new(alloc)?;
+    let mut tokens = Vec::new(alloc);
+    let mut at = 0;
+    for _ in 0..text.len() {
+        if at >= text.len() || !text.is_char_boundary(at) {
+            break;
+        }
+        tokens.clear();
+        match dense.cut_block(text, at, &mut marks, &mut tokens)? {
+            Some(to) => at = to,
+            None => {
+                found.add_fault();
+                break;
+            }
+        }
+        for token in &tokens {
+            found.add(token.index, token.slice.len());
+        }
+    }
+    Ok(found)
+}
+
+fn rule_lexer(alloc: Global, bytes: &[u8]) -> Option<RuleLexer> {
+    let rules = read_rules(alloc, bytes).ok()?;
+    RuleLexer::from_rules(alloc, &rules).ok()
+}
+
+impl Work for RuleLexer {
+    fn round(&self, alloc: Global, call: &str, text: &str) -> Result<Found, AllocError> {
+        let mut found = Found::none();
+        if call == "items" {
+            for item in self.items(text) {
+                found.add_item(&item);
+            }
+        } else {
+            for item in self.items_linear(alloc, text)? {
+                found.add_item(&item);
+            }
+        }
+        Ok(found)
+    }
+}
+
+// The least time of the rounds, and what each of them found.
+fn tell<R: CpuClock + Print + AllocGlobal, W: Work>(
+    rt: &R,
+    work: &W,
+    call: &str,
+    text: &str,
+    rounds: u32,
+) -> Result<()> {
+    let mut found = Found::none();
+    let mut least = Duration::MAX;
+    for _ in 0..rounds {
+        let from = rt.process_cpu_time()?;
+        found = work.round(rt.alloc(), call, text)?;
+        least = least.min(rt.process_cpu_time()?.saturating_sub(from));
+    }
+    let Found { count, faults, sum } = found;
+    let micros = least.as_micros();
+    println!(rt; "{call}: {count} found, {faults} faults, sum {sum:x}, {micros} us")?;
+    if !text.is_empty() {
+        let hundredths = least.as_nanos().saturating_mul(100) / text.len() as u128;
+        println!(rt; "{}.{:02} ns a byte", hundredths / 100, hundredths % 100)?;
+    }
+    Ok(())
+}
+
+fn main(rt: HostRuntime) -> Result<()> {
+    let alloc = rt.alloc();
+    let mut words = env::args(&rt)?;
+    words.next();
+    let (Some(call), Some(list), Some(text), Some(rounds)) = (
+        words.next(),
+        words.next(),
+        words.next(),
+        words.next(),
+    ) else {
+        // `rt run` proves, builds and runs the program with no argument.
+        return Ok(());
+    };
+    let list = fs::read_to_string(&rt, &list).context(format_args!("{list}"))?;
+    let text = fs::read_to_string(&rt, &text).context(format_args!("{text}"))?;
+    let rounds = rounds.parse::<u32>().unwrap_or(1);
+    let bytes = list.as_bytes();
+    match call.as_str() {
+        "items" | "items_linear" => match rule_lexer(alloc, bytes) {
+            Some(lexer) => tell(&rt, &lexer, &call, &text, rounds),
+            None => bail!("no lexer of these rules"),
+        },
+        "read" => tell(&rt, &Bytes(bytes), &call, &text, rounds),
+        "build" | "clashes" => match list_of(alloc, bytes) {
+            Some(list) => tell(&rt, &list, &call, &text, rounds),
+            None => bail!("a line is no terminal"),
+        },
+        _ => match list_of(alloc, bytes).and_then(|list| cutters_of(alloc, list)) {
+            Some(cutters) => tell(&rt, &cutters, &call, &text, rounds),
+            None => bail!("no lexer of these terminals"),
+        },
+    }
+}

@@ -1,0 +1,65 @@
+-- Marks are taken out of what is shown, token by token.
+use Rattle.std.proofs.Common.{◌≡◌, ℕ, suc, true, false, inl, inr, List, [], ◌∷◌, ◌++◌, refl, sym, ap, ◌∙◌, append_assoc, append-nil, arith}
+use Rattle.std.specs.Prelude.{Some, None, Result, Ok}
+use Rattle.std.specs.List.{list_all, AllPass}
+use Rattle.std.proofs.lemmas.Bool.{not-true}
+use Rattle.std.proofs.lemmas.List.Sums.{AllPass-from_list_all}
+use Rattle.lalrpop_lexer.specs.Cutting.{Cutting, start_of, rest_of}
+use Rattle.lalrpop_lexer.specs.LexerTokens.{GivesToken}
+use Rattle.lalrpop_lexer.specs.declared.Token.{Token}
+use Rattle.lalrpop_lexer.specs.declared.TokenFault.{TokenFault}
+use Rattle.lalrpop_lexer.proofs.Cuttings.{rest_behind}
+use Rattle.guide.specs.Marks.{without_marks}
+use Rattle.guide.specs.Internal.Shows.{Shows, is_plain_byte}
+
+-- bytes that begin no mark are left as they are
+plain-left : (xs rest : List ℕ) → AllPass is_plain_byte xs → without_marks (xs ++ rest) ≡ xs ++ without_marks rest
+plain-left [] rest h = refl
+plain-left (b ∷ xs) rest h =
+    let first : is_plain_byte b ≡ true = h 0 0 (omega arith) in
+    rw (not-true _ first) (ap (λ (l : List ℕ). b ∷ l) (plain-left xs rest (λ k d l. h (suc k) d (omega arith))))
+
+-- a mark and a slice without marks more
+pub Shows-more : (old mark slice now text : List ℕ) → Shows mark [] → list_all is_plain_byte slice ≡ true → now ≡ (old ++ mark) ++ slice
+    → Shows old text → Shows now (text ++ slice)
+Shows-more old mark slice now text m p e h rest =
+    ap (λ (l : List ℕ). without_marks (l ++ rest)) e
+    ∙ ap without_marks (append_assoc (old ++ mark) slice rest ∙ append_assoc old mark (slice ++ rest))
+    ∙ h (mark ++ (slice ++ rest))
+    ∙ ap (λ (l : List ℕ). text ++ l) (m (slice ++ rest) ∙ plain-left slice rest (AllPass-from_list_all is_plain_byte slice p))
+    ∙ sym (append_assoc text slice (without_marks rest))
+
+-- what is shown so far is the text up to where the rest begins
+pub record ShowsFront (shown text : List ℕ) (s : Cutting) : Type 0 where
+  pub front : List ℕ
+  pub shows : Shows shown front
+  pub parts : text ≡ front ++ rest_of s
+  pub going : s.is_over ≡ false
+
+pub front-start : (shown : List ℕ) (s r : Cutting) (text : List ℕ) → shown ≡ [] → r ≡ s → s ≡ start_of s.automaton text → ShowsFront shown text r
+front-start shown s r text none same e = record {
+  front = [];
+  shows = λ rest. ap (λ (l : List ℕ). without_marks (l ++ rest)) none;
+  parts = sym (ap (λ (x : Cutting). rest_of x) (same ∙ e));
+  going = ap (λ (x : Cutting). x.is_over) (same ∙ e);
+}
+
+pub front-more : (old new text : List ℕ) (s t : Cutting) (x : Result Token TokenFault) (token : Token) → ShowsFront old text s → x ≡ Ok token → GivesToken s (Some x) t
+    → ((front : List ℕ) → Shows old front → Shows new (front ++ token.slice.now)) → ShowsFront new text t
+front-more old new text s t x token h is gives step =
+    let g : GivesToken s (Some (Ok token)) t = rw is at gives in
+    let slice = token.slice.now in
+    let split : rest_of s ≡ slice ++ rest_of t = rest_behind s t slice g.1.1 g.1.4 in
+    record {
+      front = h.front ++ slice;
+      shows = step h.front h.shows;
+      parts = h.parts ∙ ap (λ (l : List ℕ). h.front ++ l) split ∙ sym (append_assoc h.front slice (rest_of t));
+      going = ap (λ (x : Cutting). x.is_over) g.1.4 ∙ g.1.0;
+    }
+
+-- where no token follows, that is the whole text
+pub front-whole : (shown text : List ℕ) (s t : Cutting) → ShowsFront shown text s → GivesToken s None t → without_marks shown ≡ text
+front-whole shown text s t h (same, end) = elim end [
+  | inl over ↦ (let going = h.going in absurd (cc (over, going)))
+  | inr none ↦ ap without_marks (sym (append-nil shown)) ∙ h.shows [] ∙ sym (ap (λ (l : List ℕ). h.front ++ l) none) ∙ sym h.parts
+]

@@ -1,0 +1,14 @@
+//! The programs of docs/GUIDE.md, one after another. Each is a file that can be copied into a program of its own.
+#![tactic(auto)]
+
+mod calculator;
+mod config_reader;
+mod highlighter;
+mod token_kinds;
+
+fn main(rt: HostRuntime) -> anyhow::Result<()> {
+    token_kinds::main(rt)?;
+    calculator::main(rt)?;
+    config_reader::main(rt)?;
+    highlighter::main(rt)
+}

@@ -1,7 +1,0 @@
-use Rattle.std.proofs.Common.{string_bytes}
-use Rattle.highlighter.proofs.ShowLemmas.{ShowsFront}
-use Rattle.highlighter.proofs.highlighted.Given as goal
-
--- what is shown so far is the text in front of the rest
-abbrev pub invariant-loop-item : goal.invariant-loop-item
-invariant-loop-item l = ShowsFront (string_bytes l.shown) l.text l.item-iterator

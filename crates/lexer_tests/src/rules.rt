@@ -1,0 +1,70 @@
+//! Lexers of named rules, what is expected of them, and rules that are refused.
+
+use crate::built::{expect, halves};
+use lalrpop_rules::{Item, Rule, RuleLexer};
+use std::alloc::{AllocError, Global};
+
+/// The lexer of the rules. Any error is reported as out of memory, which ends a test.
+pub(crate) fn lexer_from(alloc: Global, rules: &[Rule]) -> Result<RuleLexer, AllocError> {
+    match RuleLexer::from_rules(alloc, rules) {
+        Ok(lexer) => Ok(lexer),
+        Err(_) => Err(AllocError),
+    }
+}
+
+/// A keyword, names, spaces, which are skipped, operators, and comments. A comment stays open for as long as it isn't closed.
+pub(crate) fn rule_lexer(alloc: Global) -> Result<RuleLexer, AllocError> {
+    let rules = [
+        Rule::literal("IF", "if"),
+        Rule::pattern("NAME", "[a-z]+"),
+        Rule::pattern("SPACE", " +").skipped(),
+        Rule::literal("EQUAL", "=="),
+        Rule::literal("SLASH", "/"),
+        Rule::literal("STAR", "*"),
+        Rule::pattern("COMMENT", r"/\*([^*]|\*+[^*/])*\*+/"),
+    ];
+    lexer_from(alloc, &rules)
+}
+
+/// A piece, with the name of its rule and its place.
+pub(crate) fn shown(alloc: Global, lexer: &RuleLexer, item: &Item) -> Result<String, AllocError> {
+    let slice = item.slice();
+    let start = item.start();
+    match item {
+        Item::Token(token) => {
+            let name = lexer.name(token.index).unwrap_or("no name");
+            format!(in alloc; "{name} {slice:?} {start}, ")
+        }
+        Item::Skipped(token) => {
+            let name = lexer.name(token.index).unwrap_or("no name");
+            format!(in alloc; "({name} {slice:?} {start}), ")
+        }
+        Item::Fault { .. } => format!(in alloc; "! {slice:?} {start}, "),
+    }
+}
+
+const REFUSED: &str = r#"
+b => none
+[a-c] => rules 0 and 1 clash on "a"
+(b => the text of rule 1 does not parse: UnclosedGroup at byte 0
+b*? => rule 1 can't be compiled: NonGreedy
+"#;
+
+// The error of two rules, whose patterns are `a` and the text.
+fn refused(alloc: Global, text: &str) -> Result<String, AllocError> {
+    match RuleLexer::from_rules(
+        alloc,
+        &[Rule::pattern("A", "a"), Rule::pattern("OTHER", text)],
+    ) {
+        Ok(_) => String::from_str(alloc, "none"),
+        Err(error) => format!(in alloc; "{error}"),
+    }
+}
+
+#[test]
+fn rules_are_refused(rt: HostRuntime) {
+    for row in REFUSED.trim_matches('\n').lines() {
+        let (text, wanted) = halves(row, " => ");
+        expect(&rt, refused(rt.alloc(), text), wanted);
+    }
+}

@@ -1,0 +1,14 @@
+//! Callers of the libraries of the two programs: a caller needs the promises that the line `Needs` above it names, and
+//! promises what follows from them.
+#![tactic(auto)]
+
+pub mod cut_a_file;
+pub mod cut_by_rules;
+pub mod end_a_program;
+pub mod list_clashes;
+pub mod read_rules;
+pub mod run_over_ends;
+pub mod show_a_text;
+pub mod streams;
+pub mod watch_an_end;
+pub mod write_a_word;
