@@ -1,5 +1,6 @@
 """Reads and runs the commands of examples/sessions. The file lexdfa there says how they are written."""
 import os
+import re
 import subprocess
 import tempfile
 from collections import namedtuple
@@ -10,22 +11,16 @@ TOP = Path(__file__).resolve().parent.parent
 # The programs as rt ci leaves them in out/, built by LLVM and by Rattle's own compiler.
 BUILDS = ("", ".by-rattle")
 # `wanted` is what is written, what is said on standard error, and the exit status.
-Row = namedtuple("Row", "place command is_setup given wanted")
+Row = namedtuple("Row", "command is_setup given wanted")
 
 
 def rows(file):
-    found = []
-    for number, line in enumerate((TOP / "examples/sessions" / file).read_text().splitlines(), 1):
-        mark, _, text = line.partition(" ")
-        if mark in ("$", "%"):
-            found.append({"row": (f"{file}:{number}", text, mark == "%"), "<": "", ">": "", "!": "", "=": "0"})
-        elif mark in ("<", ">", "!", ">-", "!-"):
-            found[-1][mark[0]] += text + "\n" * (len(mark) == 1)
-        elif mark == "=":
-            found[-1]["="] = text
-        elif mark not in ("", "#"):
-            raise SystemExit(f"{file}:{number}: no line of a row begins so")
-    return [Row(*it["row"], it["<"].encode(), (it[">"].encode(), it["!"].encode(), int(it["="]))) for it in found]
+    for row in re.split(r"^(?=[$%] )", (TOP / "examples/sessions" / file).read_text(), flags=re.M)[1:]:
+        said = dict.fromkeys("$%<>!=#", "")
+        for mark, _, text in (it.partition(" ") for it in row.splitlines() if it):
+            said[mark[0]] += text + "\n" * (mark in "<>!")
+        given, out, message = (said[it].encode() for it in "<>!")
+        yield Row(said["$"] or said["%"], not said["$"], given, (out, message, int(said["="] or 0)))
 
 
 @contextmanager
