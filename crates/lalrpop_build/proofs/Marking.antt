@@ -13,7 +13,7 @@ use Rattle.lalrpop_build.specs.declared.alphabet.Group.{Group}
 use Rattle.lalrpop_build.specs.declared.alphabet.groups.Labels.{Labels}
 use Rattle.lalrpop_build.specs.Internal.Alphabet.{HasBoundary}
 use Rattle.lalrpop_build.specs.Internal.Grouped.{HasLabel}
-use Rattle.lalrpop_build.specs.Internal.Signatures.{AreRising, IsEndAt, EndsAt, CoversAny, CoversIn, Added, Marked, Gained, AreSigned, HaveEnds, AreBare}
+use Rattle.lalrpop_build.specs.Internal.Signatures.{AreRising, IsEndAt, EndsAt, CoversAny, CoversIn, Added, Marked, Gained, AreSigned, HaveEnds, HaveNoClasses}
 
 -- ---- elements by their places
 module _ {X : Type 0} where
@@ -274,9 +274,9 @@ group_ends boundaries lists i ls groups group at len f g n k = (to, from)
           (group, (rw place (pushed_last groups group), (g k).1 (r, (subst (λ (x : Labels). Contains x.list.items r) same has, end)))))
     ]
 
-pub still_bare : (groups : List Group) (group : Group) → AreBare groups → group.classes.items ≡ [] → AreBare (groups ++ group ∷ [])
-still_bare groups group bare none n c (x, (at, has)) = elim (pushed_cases groups group n x at) [
-  | inl was ↦ bare n c (x, (was, has))
+pub still_no_classes : (groups : List Group) (group : Group) → HaveNoClasses groups → group.classes.items ≡ [] → HaveNoClasses (groups ++ group ∷ [])
+still_no_classes groups group no_classes none n c (x, (at, has)) = elim (pushed_cases groups group n x at) [
+  | inl was ↦ no_classes n c (x, (was, has))
   | inr new ↦ none_has c (subst (λ ys. Contains ys c) none (subst (λ (y : Group). Contains y.classes.items c) new.1 has))
 ]
 
@@ -299,8 +299,8 @@ all_ends boundaries lists groups i all f n k = (λ h. ((f n k).0 h).1, λ h. (f 
     inside : {r : Range} → HasLabel lists n r → n < i
     inside (ls, (at, has)) = omega (arith, slice_get_within lists n ls at, all)
 
-pub no_bare : AreBare []
-no_bare n c (x, (at, has)) = cc
+pub no_classes_yet : HaveNoClasses []
+no_classes_yet n c (x, (at, has)) = cc
 
 pub no_ends : (boundaries : List ℕ) (lists : List Labels) → HaveEndsBelow 0 lists boundaries []
 no_ends boundaries lists n k = (λ (x, (at, has)). cc, λ h. absurd (omega (arith, h.0)))

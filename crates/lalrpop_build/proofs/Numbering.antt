@@ -15,7 +15,7 @@ use Rattle.lalrpop_build.specs.declared.alphabet.Cell.{Cell}
 use Rattle.lalrpop_build.specs.declared.alphabet.Group.{Group}
 use Rattle.lalrpop_build.specs.declared.alphabet.signatures.Signature.{Signature}
 use Rattle.lalrpop_build.specs.Internal.Alphabet.{HasClass, HasBoundary}
-use Rattle.lalrpop_build.specs.Internal.Signatures.{AreBare}
+use Rattle.lalrpop_build.specs.Internal.Signatures.{HaveNoClasses}
 use Rattle.lalrpop_build.specs.Internal.Numbered.{signature_cmp, GotClasses, IsClassOf, AreNumbered, IsNumbered, AreClassed}
 use Rattle.lalrpop_build.proofs.Marking.{set_at, set_there, set_elsewhere, set_length, one_has, none_has, taken_more}
 
@@ -159,9 +159,9 @@ classed_none boundaries signatures groups = record {
   classes = λ k x s at sig. cc;
 }
 
-pub numbered_none : (known : BTreeMap Signature ℕ) (groups : List Group) → known.entries ≡ [] → AreBare groups → AreNumbered known groups 0
-numbered_none known groups empty bare = record {
-  counted = λ n c h. absurd (bare n c h);
+pub numbered_none : (known : BTreeMap Signature ℕ) (groups : List Group) → known.entries ≡ [] → HaveNoClasses groups → AreNumbered known groups 0
+numbered_none known groups empty no_classes = record {
+  counted = λ n c h. absurd (no_classes n c h);
   classes = λ s c h. (let none : get signature_cmp known s ≡ None = ap (λ es. lookup (λ k. is_eq (signature_cmp s k)) es) empty in let never : Some c ≡ None = sym h ∙ none in cc);
 }
 
