@@ -52,14 +52,15 @@ fn clashes_in(
     alloc: Global,
     expansion: &Expansion,
     precedences: &[Precedence],
-) -> Result<Vec<Clash>, AllocError>
+) -> Result<Vec<Clash>, DfaConstructionError>
     requires same_len { length expansion.now.automata.graphs ≡ length precedences.now }
     requires built { (ps : List ℕ) × IsBuiltTo expansion.now.automata.graphs ps
         expansion.now.kernels.list expansion.now.origins expansion.now.written.rows
         (length expansion.now.kernels.list) }
-    ensures { IfOk result (λ found. (ts : List Tree)
+    ensures ok { IfOk result (λ found. (ts : List Tree)
         → AreCompiled ts expansion.now.automata.graphs
         → AreClashes ts (map (λ p. p.0) precedences.now) found.items) }
+    ensures err { IfErr result (λ e. (ts : List Tree) → IsFaultOf ts e) }
 {
     let mut ties = Ties::new(alloc);
     for number in 0..expansion.len() {
@@ -85,7 +86,7 @@ fn clashes_of(
     // If all precedences differ, no two patterns tie, so all sets are made.
     let distinct = distinct_precedences(alloc, nfas.len())?;
     let expansion = expanded(alloc, nfas, &distinct)?;
-    Ok(clashes_in(alloc, &expansion, precedences)?)
+    clashes_in(alloc, &expansion, precedences)
 }
 
 /// All pairs of patterns that clash: both are among the strongest on some word. Each comes with the least such word, in the

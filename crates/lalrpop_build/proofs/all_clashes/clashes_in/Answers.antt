@@ -35,8 +35,8 @@ loop-number-preserved c =
       pairs = c.in_ok-add_all.ensures.pairs;
     }
 
-pub returns : goal.returns
-returns c =
+pub returns-clause-ok : goal.returns-clause-ok
+returns-clause-ok c =
     let e = c.args.expansion.now in
     let (apart, built) = c.requires.built in
     let end : c.loop-number.number ≡ length e.written.rows = search rules in
