@@ -29,7 +29,7 @@ use Rattle.lalrpop_dfa.specs.Internal.ItemOrder.{rejects_cmp, hash_of, items_cmp
 use Rattle.lalrpop_dfa.specs.Internal.OrderLaws.{item_total, set_total}
 use Rattle.lalrpop_dfa.specs.Internal.LiveItems.{live_of}
 use Rattle.lalrpop_build.specs.Internal.Stage.{Extends}
-use Rattle.lalrpop_build.specs.Internal.Expansion.{AddedTo, IsEdgeMemo}
+use Rattle.lalrpop_build.specs.Internal.Expansion.{AddedTo, IsEdgeCache}
 use Rattle.lalrpop_build.specs.Internal.Given.{AreAutomata, AreItemsOf}
 use Rattle.lalrpop_book.proofs.Members.{Has, has_from}
 use Rattle.lalrpop_build.proofs.Targets.{compiled_at}

@@ -22,7 +22,7 @@ use Rattle.lalrpop_build.specs.declared.build.scratch.Transitions.{Transitions}
 use Rattle.lalrpop_book.proofs.Members.{has_at, contains_from}
 use Rattle.lalrpop_build.proofs.Builds.{edging_more}
 use Rattle.lalrpop_build.proofs.BoundaryBlocks.{IsBefore, block, block_kept, block_passed, block_stands, has_some_to}
-use Rattle.lalrpop_build.proofs.ClassMemo.{range_at}
+use Rattle.lalrpop_build.proofs.ClassCache.{range_at}
 
 abbrev pub range_of : Block → Range
 range_of b = b.range

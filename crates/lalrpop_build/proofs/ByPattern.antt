@@ -9,13 +9,14 @@ use Rattle.std.proofs.lemmas.Option.{slice_get_within}
 use Rattle.lalrpop_nfa.specs.Graph.{Graph}
 use Rattle.lalrpop_dfa.specs.Automata.{Item}
 use Rattle.lalrpop_dfa.specs.Internal.Ascending.{item_cmp, AreByPattern}
+use Rattle.lalrpop_dfa.proofs.FullSets.{less_place}
 use Rattle.lalrpop_build.specs.Internal.Given.{AreItemsOf}
 use Rattle.lalrpop_build.specs.Internal.Subsets.{closed, starts_from}
 use Rattle.lalrpop_build.specs.Internal.Worklist.{pattern_at}
 use Rattle.lalrpop_book.proofs.Members.{Has, has_from, contains_from, has_left, has_right, has_cases}
 use Rattle.lalrpop_book.proofs.SortedLists.{sorted_append, sorted_same}
 use Rattle.lalrpop_build.proofs.Follows.{follows_place}
-use Rattle.lalrpop_build.proofs.Sets.{item_total, closed_ascends, closed_parts, closed_has}
+use Rattle.lalrpop_build.proofs.Sets.{nothing, item_total, closed_ascends, closed_parts, closed_has}
 
 -- ---- lists by pattern
 pub by_append : (xs ys : List Item) → AreByPattern xs → AreByPattern ys → ((x y : Item) → Has xs x → Has ys y → x.0 ≤ y.0) → AreByPattern (xs ++ ys)
@@ -62,11 +63,8 @@ closed_append ns xs ys apart =
     place : (zs : List Item) (x : Item) → Has (closed ns zs) x → (z : Item) × (Has zs z × (z.0 ≡ x.0))
     place zs x h = let (item, r) = closed_parts ns zs x h in (r.0, (r.1.0, follows_place ns r.0 x r.1.1))
 
-    by_place : (x y : Item) → x.0 < y.0 → item_cmp x y ≡ Less
-    by_place x y l = grind (arith, nat_tests)
-
     less : (x y : Item) → Has (closed ns xs) x → Has (closed ns ys) y → item_cmp x y ≡ Less
-    less x y h k = let a = place xs x h in let b = place ys y k in by_place x y (let l : a.0.0 < b.0.0 = apart a.0 b.0 a.1.0 b.1.0 in omega (arith, l, a.1.1, b.1.1))
+    less x y h k = let a = place xs x h in let b = place ys y k in less_place x y (let l : a.0.0 < b.0.0 = apart a.0 b.0 a.1.0 b.1.0 in omega (arith, l, a.1.1, b.1.1))
 
     to : (x : Item) → Has (closed ns xs ++ closed ns ys) x → Has (closed ns (xs ++ ys)) x
     to x h = elim (has_cases (closed ns xs) (closed ns ys) x h) [
@@ -85,10 +83,6 @@ closed_append ns xs ys apart =
 -- the closure of no items is empty
 pub closed_none : (ns : List Graph) → closed ns [] ≡ []
 closed_none ns = nothing (closed ns []) (λ x h. (let (item, r) = closed_parts ns [] x h in r.1.0))
-  where
-    nothing : (xs : List Item) → ((x : Item) → Has xs x → ⊥) → xs ≡ []
-    nothing [] f = refl
-    nothing (x ∷ xs) f = absurd (f x (inl refl))
 
 pub pattern_within : (ns : List Graph) (items : List Item) (k : ℕ) (x : Item) → AreItemsOf ns items → k < length items → x ≡ get_or items k x → x.0 < length ns
 pattern_within ns items k x inside l read = let (g, (at, m)) = inside x (k, l, sym read) in slice_get_within ns x.0 g at

@@ -11,7 +11,7 @@ use Rattle.lalrpop_book.specs.Range.{Range}
 use Rattle.lalrpop_nfa.specs.Graph.{Graph}
 use Rattle.lalrpop_nfa.specs.Path.{test}
 use Rattle.lalrpop_nfa.specs.Walk.{leaves}
-use Rattle.lalrpop_book.proofs.Contained.{filter_in, filter_out}
+use Rattle.lalrpop_book.proofs.Contained.{contains_none, filter_in, filter_out}
 use Rattle.lalrpop_nfa.specs.declared.edge.Edge.{Edge}
 use Rattle.lalrpop_dfa.proofs.NumberedLemmas.{pushed_cases, pushed_keeps, pushed_last}
 use Rattle.lalrpop_build.proofs.LabelOrder.{range_exact}
@@ -24,9 +24,6 @@ use Rattle.lalrpop_build.specs.declared.alphabet.StateEdgeGroups.{StateEdgeGroup
 use Rattle.lalrpop_build.specs.declared.alphabet.groups.Labels.{Labels}
 use Rattle.lalrpop_build.specs.Internal.Grouped.{HasLabel, LeadsTo, AreGrouped}
 use Rattle.lalrpop_build.specs.Internal.EdgeGroups.{labels_cmp, IsListOf, AreNumbersOf, IsGrown, IsClosed, IsTurned, HasEdgeGroup, AreWithin, AreEdgeGroups, AreStatesTo}
-
-none_has : {X : Type 0} (x : X) → Contains [] x → ⊥
-none_has x (k, l, e) = omega arith
 
 -- ---- growing lists
 pub grown_more : (a b c : List Labels) → IsGrown a b → IsGrown b c → IsGrown a c
@@ -137,11 +134,11 @@ read_closed lists lists2 edge_groups edge_groups2 rs rs2 to to2 done h (inl (non
   labels = λ r q. (
     λ edge. elim ((h.labels r q).0 edge) [
       | inl edge_group ↦ inl (rw (same, kept) edge_group)
-      | inr last ↦ absurd (none_has r (rw none at last.0))
+      | inr last ↦ absurd (contains_none r (rw none at last.0))
     ],
     λ k. elim k [
       | inl edge_group ↦ (h.labels r q).1 (inl (rw (same, kept) at edge_group))
-      | inr last ↦ absurd (none_has r (rw empty at last.0))
+      | inr last ↦ absurd (contains_none r (rw empty at last.0))
     ],
   );
 }
@@ -157,7 +154,7 @@ read_closed lists lists2 edge_groups edge_groups2 rs rs2 to to2 done h (inr (n, 
     ],
     λ k. elim k [
       | inl by ↦ from_edge_group r q by (Contains-push_cases edge_groups edge_group by.0 (rw pushed at by.1))
-      | inr last ↦ absurd (none_has r (rw empty at last.0))
+      | inr last ↦ absurd (contains_none r (rw empty at last.0))
     ],
   );
 }
@@ -219,7 +216,7 @@ reading_done first lists lists2 edge_groups edge_groups2 rs to p tests es h none
     to_edge_group : (r : Range) (q : ℕ) → Contains tests (test p r q) → HasEdgeGroup lists2 edge_groups2 r q
     to_edge_group r q edge = elim ((read.labels r q).0 (test p r q, subst (λ es. Contains es (test p r q)) (sym all) (filter_in (leaves p) tests (test p r q) edge (eq-eqb p p refl)), refl, refl)) [
       | inl edge_group ↦ edge_group
-      | inr last ↦ absurd (none_has r last.0)
+      | inr last ↦ absurd (contains_none r last.0)
     ]
 
     from_edge_group : (r : Range) (q : ℕ) → HasEdgeGroup lists2 edge_groups2 r q → Contains tests (test p r q)

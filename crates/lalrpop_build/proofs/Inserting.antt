@@ -2,7 +2,6 @@
 use Rattle.std.proofs.Common.{◌≡◌, ℕ, ◌+◌, List, [], ◌∷◌, ◌++◌, length, refl, ap, sym, ◌∙◌, subst, arith, inl, inr, Bool, true, false, cond, not, length-append, append_assoc, map}
 use Rattle.std.specs.Prelude.{slice_get, Some}
 use Rattle.std.specs.List.{Contains, filter}
-use Rattle.std.proofs.lemmas.Option.{get_or_from_slice_get}
 use Rattle.std.specs.BTreeSet.{BTreeSet, contains, Updates, IsOrdered}
 use Rattle.std.proofs.lemmas.Map.Views.{btree_set_contains_iff}
 use Rattle.std.proofs.lemmas.Map.Lookups.{CmpEqualImpliesEq}
@@ -13,7 +12,6 @@ use Rattle.lalrpop_dfa.specs.Automata.{Item}
 use Rattle.lalrpop_dfa.specs.Internal.Ascending.{item_cmp}
 use Rattle.lalrpop_dfa.specs.Internal.OrderLaws.{item_total}
 use Rattle.lalrpop_nfa.specs.Graph.{Graph}
-use Rattle.lalrpop_build.specs.Internal.Subsets.{graph_at, no_graph}
 use Rattle.lalrpop_dfa.proofs.ItemTies.{item_exact}
 use Rattle.lalrpop_nfa.specs.Walk.{leaves}
 use Rattle.lalrpop_nfa.specs.declared.edge.Edge.{Edge}
@@ -21,6 +19,7 @@ use Rattle.lalrpop_nfa.specs.declared.edge.Noop.{Noop}
 use Rattle.lalrpop_book.proofs.Contained.{contains_none, contains_only}
 use Rattle.lalrpop_build.specs.Internal.Worklist.{IsInserted, epsilon_targets}
 use Rattle.lalrpop_book.proofs.Members.{contains_from}
+use Rattle.lalrpop_build.proofs.Targets.{graph_is}
 
 -- no items
 pub inserted_none : (o p : List Item) → IsInserted o p [] o p
@@ -94,13 +93,10 @@ module _ (s n : BTreeSet Item) (item : Item) (pending pending2 : List Item) (u :
         even = omega (arith, len2, ap length same);
       }
 
-pub graph_here : (ns : List Graph) (i : ℕ) (g : Graph) → slice_get ns i ≡ Some g → graph_at ns i ≡ g
-graph_here ns i g h = get_or_from_slice_get ns i g no_graph h
-
 -- the targets of a single edge that reads nothing, from the edges that leave the state
 pub steps_here : (ns : List Graph) (x : Item) (g : Graph) (q : ℕ) (es : List (Edge Noop)) → slice_get ns x.0 ≡ Some g → q ≡ x.1 → es ≡ filter (leaves q) g.edges.noops → map (λ e. (x.0, e.to)) es ≡ epsilon_targets ns x
 unfolding epsilon_targets
-steps_here ns x g q es at same is = rw (is, same, graph_here ns x.0 g at) refl
+steps_here ns x g q es at same is = rw (is, same, graph_is ns x.0 g at) refl
 
 -- one of them is inserted
 pub steps_more : {L : Type 0} (done all : List Item) (es rest : List (Edge L)) (e : Edge L) (i : ℕ) (y : Item) → done ++ map (λ (f : Edge L). let z : Item = (i, f.to) in z) es ≡ all → es ≡ e ∷ rest → y ≡ (i, e.to)

@@ -11,7 +11,7 @@ use Rattle.lalrpop_build.specs.declared.alphabet.EdgeGroup.{EdgeGroup}
 use Rattle.lalrpop_build.specs.declared.alphabet.NfaEdgeGroups.{NfaEdgeGroups}
 use Rattle.lalrpop_build.specs.declared.alphabet.StateEdgeGroups.{StateEdgeGroups}
 use Rattle.lalrpop_dfa.specs.Automata.{Item}
-use Rattle.lalrpop_build.specs.Internal.ClassTransitions.{AreBare, Gained, AreGathered, AreBoundariesOf}
+use Rattle.lalrpop_build.specs.Internal.ClassTransitions.{HaveNoEdges, Gained, AreGathered, AreBoundariesOf}
 use Rattle.lalrpop_build.specs.declared.transitions.Transition.{Transition}
 use Rattle.lalrpop_build.specs.declared.build.scratch.Transitions.{Transitions}
 use Rattle.lalrpop_book.proofs.Contained.{contains_only, contains_none}
@@ -158,9 +158,9 @@ boundaries_of_state a i p edge_groups old new are had k = (
 
 -- ---- item by item
 -- one more class without edges
-pub bare_more : (by_class new : List Transitions) (t : Transitions) → AreBare by_class → t.list.items ≡ [] → new ≡ by_class ++ t ∷ [] → AreBare new
-bare_more by_class new t bare empty is c u at = elim (pushed_cases by_class t c u (rw is at at)) [
-  | inl before ↦ bare c u before
+pub no_edges_more : (by_class new : List Transitions) (t : Transitions) → HaveNoEdges by_class → t.list.items ≡ [] → new ≡ by_class ++ t ∷ [] → HaveNoEdges new
+no_edges_more by_class new t no_edges empty is c u at = elim (pushed_cases by_class t c u (rw is at at)) [
+  | inl before ↦ no_edges c u before
   | inr here ↦ rw here.1 empty
 ]
 
@@ -193,13 +193,13 @@ module _ (a : Classes) (items : List Item) (k : ℕ) (item : Item) (within : k <
   )
 
 -- once all are visited
-pub all_gathered : (a : Classes) (items : List Item) (bare new : List Transitions) → length bare ≡ a.count → AreBare bare → Gained bare new (λ c l. Contains items l.item × LeadsBy a l.item.0 l.item.1 c l.to) → AreGathered a items new
-all_gathered a items bare new count none got = (
+pub all_gathered : (a : Classes) (items : List Item) (old new : List Transitions) → length old ≡ a.count → HaveNoEdges old → Gained old new (λ c l. Contains items l.item × LeadsBy a l.item.0 l.item.1 c l.to) → AreGathered a items new
+all_gathered a items old new count none got = (
   got.0 ∙ count,
   λ c t at l.
-      let here : c < length bare = omega (arith, slice_get_within new c t at, got.0) in
-      let was : Transitions = get_or bare c t in
-      let there : slice_get bare c ≡ Some was = slice_get-get_or bare c t here in
+      let here : c < length old = omega (arith, slice_get_within new c t at, got.0) in
+      let was : Transitions = get_or old c t in
+      let there : slice_get old c ≡ Some was = slice_get-get_or old c t here in
       let has = got.1 c was t there at l in (
         λ h. elim (has.0 h) [ inl x ↦ absurd (contains_none l (rw (none c was there) at x)) | inr x ↦ x ],
         λ h. has.1 (inr h),

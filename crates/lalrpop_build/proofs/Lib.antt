@@ -25,8 +25,8 @@ mod Noted
 mod MarkedGroups
 mod BoundaryBlocks
 mod LaidOut
-mod ClassMemo
-mod MemoLaws
+mod ClassCache
+mod CacheLaws
 mod StageLaws
 mod BoundaryEdges
 mod LiveItems

@@ -28,7 +28,7 @@ use Rattle.lalrpop_book.proofs.Members.{Has, has_from, contains_from, has_filter
 use Rattle.lalrpop_book.proofs.SortedLists.{sorted_nil, sorted_cons}
 use Rattle.lalrpop_build.proofs.Epsilon.{epsilon_self}
 use Rattle.lalrpop_build.proofs.Targets.{compiled_at, item_targets_have}
-use Rattle.lalrpop_build.proofs.Sets.{closed_ascends, closed_parts, closed_has, move_ascends, move_has}
+use Rattle.lalrpop_build.proofs.Sets.{cmp_less, closed_ascends, closed_parts, closed_has, move_ascends, move_has}
 use Rattle.lalrpop_build.proofs.TakenEdges.{taken_targets, closed_alike}
 use Rattle.lalrpop_build.proofs.Moved.{reject_path, IsMoved, moved}
 use Rattle.lalrpop_dfa.proofs.FullSets.{IsHeld, live_is, item_is, split_live, split_is, full_parts, full_reject}
@@ -106,12 +106,9 @@ range_has (suc n) a i l m = elim (cases_Bool (a == i)) [
   | inr f ↦ inr (range_has n (a + 1) i (grind (arith, nat_tests)) (omega arith))
 ]
 
-less_cmp : (x y : ℕ) → x < y → nat_cmp x y ≡ Less
-less_cmp x y h = grind (arith, nat_tests)
-
 range_rises : (n a : ℕ) → IsStrictlySortedBy nat_cmp (range_with_len a n)
 range_rises zero a = sorted_nil nat_cmp
-range_rises (suc n) a = sorted_cons nat_cmp a (range_with_len (a + 1) n) (λ i h. less_cmp a i (let r = (range_parts (a + 1) n i h).1 in omega (arith, r))) (range_rises n (a + 1))
+range_rises (suc n) a = sorted_cons nat_cmp a (range_with_len (a + 1) n) (λ i h. cmp_less a i (let r = (range_parts (a + 1) n i h).1 in omega (arith, r))) (range_rises n (a + 1))
 
 pub all_live_patterns : (n : ℕ) → AreLivePatterns n (range_with_len 0 n)
 all_live_patterns n = record {

@@ -3,19 +3,13 @@ use Rattle.std.proofs.Common.{◌≡◌, ℕ, zero, suc, ◌<◌, ◌⊎◌, inl
 use Rattle.std.specs.Prelude.{slice_get, Some, replicate, ◌↔◌}
 use Rattle.std.specs.List.{Contains}
 use Rattle.std.proofs.lemmas.List.{length-set}
-use Rattle.std.proofs.lemmas.List.Elements.{Contains-append_left, Contains-append_right, Contains-append_cases}
-use Rattle.lalrpop_book.proofs.Contained.{contains_only, contains_none}
+use Rattle.std.proofs.lemmas.List.Elements.{Contains-append_left, Contains-append_right, Contains-append_cases, Contains-push, Contains-push_cases}
+use Rattle.lalrpop_book.proofs.Contained.{contains_none}
 use Rattle.lalrpop_build.specs.Internal.Alphabet.{HasBoundary}
 use Rattle.lalrpop_build.specs.declared.alphabet.Group.{Group}
 use Rattle.lalrpop_build.proofs.Marking.{set_at}
 use Rattle.lalrpop_build.specs.Internal.Scratch.{AreMarked, AreUnmarked, HoldMarked}
 use Rattle.lalrpop_build.specs.declared.build.scratch.Boundaries.{Boundaries}
-
-last : (listed : List ℕ) (i : ℕ) → Contains (listed ++ i ∷ []) i
-last listed i = Contains-append_right listed (i ∷ []) i (0, omega arith, refl)
-
-before_last : (listed : List ℕ) (i n : ℕ) → Contains (listed ++ i ∷ []) n → Contains listed n ⊎ (n ≡ i)
-before_last listed i n h = elim (Contains-append_cases listed (i ∷ []) n h) [ inl x ↦ inl x | inr x ↦ inr (sym (contains_only i n x)) ]
 
 -- at first there are no marks
 pub unmarked_first : (count : ℕ) → AreUnmarked (replicate count false)
@@ -35,27 +29,27 @@ unmarked_all marks listed marked none n at = contains_none n (rw none at (marked
 
 -- the last of the listed groups is within bounds
 pub listed_within : (marks : List Bool) (listed listed2 : List ℕ) (i : ℕ) → AreMarked marks listed → listed ≡ listed2 ++ i ∷ [] → i < length marks
-listed_within marks listed listed2 i marked is = marked.within i (rw is (last listed2 i))
+listed_within marks listed listed2 i marked is = marked.within i (rw is (Contains-push listed2 i))
 
 -- it loses its mark
 pub marked_less : (marks : List Bool) (listed listed2 : List ℕ) (i : ℕ) → AreMarked marks listed → listed ≡ listed2 ++ i ∷ [] → AreMarked (slice_set marks i false) listed2
 marked_less marks listed listed2 i marked is = record {
   within = λ k h. (let below = marked.within k (rw is (Contains-append_left listed2 (i ∷ []) k h)) in omega (arith, below, length-set marks i false));
-  all = λ n at. elim (set_at marks i false n true (marked.within i (rw is (last listed2 i))) at) [
+  all = λ n at. elim (set_at marks i false n true (marked.within i (rw is (Contains-push listed2 i))) at) [
     | inl here ↦ absurd (let clash : true ≡ false = here.1 in cc)
-    | inr other ↦ elim (before_last listed2 i n (rw is at (marked.all n other.1))) [ inl x ↦ x | inr same ↦ absurd (other.0 same) ]
+    | inr other ↦ elim (Contains-push_cases listed2 i n (rw is at (marked.all n other.1))) [ inl x ↦ x | inr same ↦ absurd (other.0 (sym same)) ]
   ];
 }
 
 -- a group is marked and listed
 pub marked_more : (marks : List Bool) (listed : List ℕ) (i : ℕ) → AreMarked marks listed → i < length marks → AreMarked (slice_set marks i true) (listed ++ i ∷ [])
 marked_more marks listed i marked within = record {
-  within = λ k h. elim (before_last listed i k h) [
+  within = λ k h. elim (Contains-push_cases listed i k h) [
     | inl x ↦ (let below = marked.within k x in omega (arith, below, length-set marks i true))
     | inr same ↦ omega (arith, same, within, length-set marks i true)
   ];
   all = λ n at. elim (set_at marks i true n true within at) [
-    | inl here ↦ subst (Contains (listed ++ i ∷ [])) (sym here.0) (last listed i)
+    | inl here ↦ subst (Contains (listed ++ i ∷ [])) (sym here.0) (Contains-push listed i)
     | inr other ↦ Contains-append_left listed (i ∷ []) n (marked.all n other.1)
   ];
 }

@@ -7,13 +7,14 @@ use Rattle.std.proofs.lemmas.List.{take_more}
 use Rattle.std.proofs.lemmas.List.Elements.{Contains-append_left, Contains-append_right, Contains-append_cases}
 use Rattle.std.proofs.lemmas.Option.{slice_get_read, slice_get_within, get_or_from_slice_get, slice_get-get_or}
 use Rattle.lalrpop_book.specs.Range.{Range, Covers}
+use Rattle.lalrpop_book.proofs.Contained.{contains_none}
 use Rattle.lalrpop_dfa.proofs.NumberedLemmas.{pushed_cases, pushed_keeps, pushed_last}
 use Rattle.lalrpop_build.specs.declared.alphabet.signatures.Signature.{Signature}
 use Rattle.lalrpop_build.specs.declared.alphabet.Group.{Group}
 use Rattle.lalrpop_build.specs.declared.alphabet.groups.Labels.{Labels}
 use Rattle.lalrpop_build.specs.Internal.Alphabet.{HasBoundary}
 use Rattle.lalrpop_build.specs.Internal.Grouped.{HasLabel}
-use Rattle.lalrpop_build.specs.Internal.Signatures.{AreRising, IsEndAt, EndsAt, CoversAny, CoversIn, Added, Marked, Gained, AreSigned, HaveEnds, AreBare}
+use Rattle.lalrpop_build.specs.Internal.Signatures.{AreRising, IsEndAt, EndsAt, CoversAny, CoversIn, Added, Marked, Gained, AreSigned, HaveEnds, HaveNoClasses}
 
 -- ---- elements by their places
 module _ {X : Type 0} where
@@ -58,9 +59,6 @@ module _ {X : Type 0} where
   pub one_has : (y x : X) → Contains (y ∷ []) x → x ≡ y
   one_has y x (zero, l, e) = sym e
   one_has y x (suc k, l, e) = absurd (omega (arith, l))
-
-  pub none_has : (x : X) → Contains [] x → ⊥
-  none_has x (k, l, e) = absurd (omega (arith, l))
 
   -- one more element
   pub taken_more : (xs : List X) (i : ℕ) (y x : X) → i < length xs → y ≡ get_or xs i y → Contains (take (i + 1) xs) x ↔ (Contains (take i xs) x ⊎ (x ≡ y))
@@ -274,10 +272,10 @@ group_ends boundaries lists i ls groups group at len f g n k = (to, from)
           (group, (rw place (pushed_last groups group), (g k).1 (r, (subst (λ (x : Labels). Contains x.list.items r) same has, end)))))
     ]
 
-pub still_bare : (groups : List Group) (group : Group) → AreBare groups → group.classes.items ≡ [] → AreBare (groups ++ group ∷ [])
-still_bare groups group bare none n c (x, (at, has)) = elim (pushed_cases groups group n x at) [
-  | inl was ↦ bare n c (x, (was, has))
-  | inr new ↦ none_has c (subst (λ ys. Contains ys c) none (subst (λ (y : Group). Contains y.classes.items c) new.1 has))
+pub still_no_classes : (groups : List Group) (group : Group) → HaveNoClasses groups → group.classes.items ≡ [] → HaveNoClasses (groups ++ group ∷ [])
+still_no_classes groups group no_classes none n c (x, (at, has)) = elim (pushed_cases groups group n x at) [
+  | inl was ↦ no_classes n c (x, (was, has))
+  | inr new ↦ contains_none c (subst (λ ys. Contains ys c) none (subst (λ (y : Group). Contains y.classes.items c) new.1 has))
 ]
 
 pub none_signed : (boundaries : List ℕ) (lists : List Labels) (signatures : List Signature) → length signatures ≡ length boundaries → ((k : ℕ) (s : Signature) → slice_get signatures k ≡ Some s → (n : ℕ) → Contains s.lists.items n → ⊥)
@@ -299,21 +297,21 @@ all_ends boundaries lists groups i all f n k = (λ h. ((f n k).0 h).1, λ h. (f 
     inside : {r : Range} → HasLabel lists n r → n < i
     inside (ls, (at, has)) = omega (arith, slice_get_within lists n ls at, all)
 
-pub no_bare : AreBare []
-no_bare n c (x, (at, has)) = cc
+pub no_classes_yet : HaveNoClasses []
+no_classes_yet n c (x, (at, has)) = cc
 
 pub no_ends : (boundaries : List ℕ) (lists : List Labels) → HaveEndsBelow 0 lists boundaries []
 no_ends boundaries lists n k = (λ (x, (at, has)). cc, λ h. absurd (omega (arith, h.0)))
 
 pub none_gained : (boundaries : List ℕ) (rs : List Range) (number : ℕ) (old : List Signature) → Gained boundaries old old (λ v n. (n ≡ number) × CoversAny (take 0 rs) v)
-none_gained boundaries rs number old = gained_same boundaries old (λ v n (e, (r, (has, low))). none_has r has)
+none_gained boundaries rs number old = gained_same boundaries old (λ v n (e, (r, (has, low))). contains_none r has)
 
 pub none_end : (boundaries : List ℕ) (rs : List Range) (ends : List ℕ) → ends ≡ [] → (k : ℕ) → Contains ends k ↔ EndsAt boundaries (take 0 rs) k
-none_end boundaries rs ends none k = (λ h. absurd (none_has k (subst (λ xs. Contains xs k) none h)), λ (r, (has, end)). absurd (none_has r has))
+none_end boundaries rs ends none k = (λ h. absurd (contains_none k (subst (λ xs. Contains xs k) none h)), λ (r, (has, end)). absurd (contains_none r has))
 
 pub none_more : (signatures new : List Signature) (s : Signature) → ((k : ℕ) (t : Signature) → slice_get signatures k ≡ Some t → (n : ℕ) → Contains t.lists.items n → ⊥) → s.lists.items ≡ [] → new ≡ signatures ++ s ∷ []
     → (k : ℕ) (t : Signature) → slice_get new k ≡ Some t → (n : ℕ) → Contains t.lists.items n → ⊥
 none_more signatures new s none bare is k t at n has = elim (pushed_cases signatures s k t (subst (λ ys. slice_get ys k ≡ Some t) is at)) [
   | inl was ↦ none k t was n has
-  | inr end ↦ none_has n (subst (λ ys. Contains ys n) bare (subst (λ (y : Signature). Contains y.lists.items n) end.1 has))
+  | inr end ↦ contains_none n (subst (λ ys. Contains ys n) bare (subst (λ (y : Signature). Contains y.lists.items n) end.1 has))
 ]

@@ -13,6 +13,7 @@ use Rattle.lalrpop_dfa.specs.Internal.Ascending.{item_cmp, AreAscendingItems}
 use Rattle.lalrpop_build.specs.Internal.Worklist.{IsInserted, marked_from, marked}
 use Rattle.lalrpop_book.proofs.Members.{Has, has_from, contains_from}
 use Rattle.lalrpop_book.proofs.SortedLists.{sorted_nil, sorted_cons}
+use Rattle.lalrpop_build.proofs.Sets.{less_state, nothing}
 
 one_more : (i q : ℕ) (rest : List Item) (x : Item) (b : Bool) → Has (cond b ((i, q) ∷ rest) rest) x → (((i, q) ≡ x) × (b ≡ true)) ⊎ Has rest x
 one_more i q rest x true (inl e) = inl (e, refl)
@@ -22,9 +23,6 @@ one_more i q rest x false h = inr h
 in_rest : (i q : ℕ) (rest : List Item) (x : Item) (b : Bool) → Has rest x → Has (cond b ((i, q) ∷ rest) rest) x
 in_rest i q rest x true h = inr h
 in_rest i q rest x false h = h
-
-less_state : (x y : Item) → x.0 ≡ y.0 → x.1 < y.1 → item_cmp x y ≡ Less
-less_state x y e h = grind (arith, nat_tests)
 
 -- what is read from a mark
 pub read_mark : (marks : List Bool) (k n : ℕ) (b d : Bool) → k ≡ n → b ≡ get_or marks k b → b ≡ d → k < length marks → get_or marks n false ≡ d
@@ -93,10 +91,6 @@ module _ (i : ℕ) where
   pub none_marked : (marks : List Bool) (n : ℕ) → marks ≡ replicate n false → marked i marks ≡ []
   none_marked marks n e = nothing (marked i marks) (λ x h. unmarked x.1 (marked_parts marks x h).1)
     where
-      nothing : (xs : List Item) → ((x : Item) → Has xs x → ⊥) → xs ≡ []
-      nothing [] f = refl
-      nothing (x ∷ xs) f = absurd (f x (inl refl))
-
       unmarked : (k : ℕ) → get_or marks k false ≡ true → ⊥
       unmarked k h = elim (cases_lt k n) [
         | inl l ↦ (let f : get_or marks k false ≡ false = ap (λ ms. get_or ms k false) e ∙ get_or-replicate n k false false l in let clash : true ≡ false = sym h ∙ f in cc)

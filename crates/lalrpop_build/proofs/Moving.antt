@@ -12,8 +12,7 @@ use Rattle.lalrpop_nfa.specs.declared.edge.Edge.{Edge}
 use Rattle.lalrpop_nfa.specs.Path.{test, other}
 use Rattle.lalrpop_build.specs.Internal.Given.{AreAutomata, AreItemsOf}
 use Rattle.lalrpop_book.proofs.Members.{has_from, contains_from, flat_map_has}
-use Rattle.lalrpop_build.proofs.Targets.{compiled_at, item_targets_parts}
-use Rattle.lalrpop_build.proofs.Inserting.{graph_here}
+use Rattle.lalrpop_build.proofs.Targets.{compiled_at, graph_is, item_targets_parts}
 
 module _ {L : Type 0} (i p : ℕ) where
   pub default_start : (es : List (Edge L)) → map (λ (e : Edge L). let z : Item = (i, e.to) in z) (filter (leaves p) es) ≡ map (λ q. let z : Item = (i, q) in z) (map (λ (e : Edge L). e.to) (filter (λ (e : Edge L). e.from == p) es))
@@ -29,7 +28,7 @@ module _ {L : Type 0} (i p : ℕ) where
 -- if there is no test edge, the other edges lead
 pub bare_run : (ns : List Graph) (x : Item) (g : Graph) → slice_get ns x.0 ≡ Some g → map (λ q. let z : Item = (x.0, q) in z) (default_targets g x.1) ≡ targets_of_run ns x []
 unfolding targets_of_run
-bare_run ns x g at = rw (graph_here ns x.0 g at) refl
+bare_run ns x g at = rw (graph_is ns x.0 g at) refl
 
 -- otherwise only the test edges do
 pub edges_run : (ns : List Graph) (x : Item) (run : List Transition) → (length run ≡ 0 → ⊥) → map (λ (e : Transition). let z : Item = (x.0, e.to) in z) run ≡ targets_of_run ns x run

@@ -10,21 +10,22 @@ use Rattle.std.proofs.lemmas.Bool.{cases_lt, cases_Bool}
 use Rattle.std.proofs.lemmas.Option.{get_or_from_slice_get, slice_get-get_or}
 use Rattle.std.proofs.lemmas.List.Elements.{Contains-append_left, Contains-append_right, Contains-append_cases}
 use Rattle.lalrpop_dfa.proofs.NumberedLemmas.{pushed_cases}
+use Rattle.lalrpop_book.proofs.Contained.{contains_none}
 use Rattle.lalrpop_book.proofs.Orders.{nat_exact, lists_exact}
 use Rattle.lalrpop_build.specs.declared.alphabet.Cell.{Cell}
 use Rattle.lalrpop_build.specs.declared.alphabet.Group.{Group}
 use Rattle.lalrpop_build.specs.declared.alphabet.signatures.Signature.{Signature}
 use Rattle.lalrpop_build.specs.Internal.Alphabet.{HasClass, HasBoundary}
-use Rattle.lalrpop_build.specs.Internal.Signatures.{AreBare}
+use Rattle.lalrpop_build.specs.Internal.Signatures.{HaveNoClasses}
 use Rattle.lalrpop_build.specs.Internal.Numbered.{signature_cmp, GotClasses, IsClassOf, AreNumbered, IsNumbered, AreClassed}
-use Rattle.lalrpop_build.proofs.Marking.{set_at, set_there, set_elsewhere, set_length, one_has, none_has, taken_more}
+use Rattle.lalrpop_build.proofs.Marking.{set_at, set_there, set_elsewhere, set_length, one_has, taken_more}
 
 -- ---- a class is given to groups
 pub got_none : (groups : List Group) (numbers : List ℕ) (class : ℕ) → GotClasses groups groups (λ n c. Contains (take 0 numbers) n × (c ≡ class))
 got_none groups numbers class = record {
   same_length = refl;
   boundaries = λ n k. (λ h. h, λ h. h);
-  classes = λ n c. (λ h. inl h, λ h. elim h [ inl x ↦ x | inr x ↦ absurd (none_has n x.0) ]);
+  classes = λ n c. (λ h. inl h, λ h. elim h [ inl x ↦ x | inr x ↦ absurd (contains_none n x.0) ]);
 }
 
 -- one group gets it
@@ -159,9 +160,9 @@ classed_none boundaries signatures groups = record {
   classes = λ k x s at sig. cc;
 }
 
-pub numbered_none : (known : BTreeMap Signature ℕ) (groups : List Group) → known.entries ≡ [] → AreBare groups → AreNumbered known groups 0
-numbered_none known groups empty bare = record {
-  counted = λ n c h. absurd (bare n c h);
+pub numbered_none : (known : BTreeMap Signature ℕ) (groups : List Group) → known.entries ≡ [] → HaveNoClasses groups → AreNumbered known groups 0
+numbered_none known groups empty no_classes = record {
+  counted = λ n c h. absurd (no_classes n c h);
   classes = λ s c h. (let none : get signature_cmp known s ≡ None = ap (λ es. lookup (λ k. is_eq (signature_cmp s k)) es) empty in let never : Some c ≡ None = sym h ∙ none in cc);
 }
 

@@ -9,6 +9,7 @@ use Rattle.std.proofs.lemmas.Cmp.{nat_cmp_total, on_total, then_total}
 use Rattle.std.proofs.lemmas.List.Kept.{IsStrictlySortedBy-filter}
 use Rattle.lalrpop_nfa.specs.Graph.{Graph}
 use Rattle.lalrpop_dfa.specs.Automata.{Item}
+use Rattle.lalrpop_dfa.proofs.FullSets.{less_place}
 use Rattle.lalrpop_dfa.specs.Internal.Ascending.{item_cmp, AreAscendingItems}
 use Rattle.lalrpop_build.specs.Internal.Given.{IsItemOf}
 use Rattle.lalrpop_build.specs.Internal.Subsets.{items_below, items_from, all_items, follows_by_epsilon, closed, item_targets, move, starts_from, first_set_of}
@@ -18,17 +19,18 @@ use Rattle.lalrpop_book.proofs.SortedLists.{sorted_nil, sorted_cons, sorted_appe
 pub item_total : IsTotalOrder item_cmp
 item_total = then_total (on_total (λ (x : Item). x.0) nat_cmp_total) (on_total (λ (x : Item). x.1) nat_cmp_total)
 
-cmp_less : (a b : ℕ) → a < b → nat_cmp a b ≡ Less
+pub cmp_less : (a b : ℕ) → a < b → nat_cmp a b ≡ Less
 cmp_less a b h = rw (lt-ltb a b h)
 
 cmp_equal : (a b : ℕ) → a ≡ b → nat_cmp a b ≡ Equal
 cmp_equal a b h = rw (le-ltb a b (omega arith), eq-eqb a b h)
 
-less_place : (x y : Item) → x.0 < y.0 → item_cmp x y ≡ Less
-less_place x y h = rw (cmp_less x.0 y.0 h)
-
-less_state : (x y : Item) → x.0 ≡ y.0 → x.1 < y.1 → item_cmp x y ≡ Less
+pub less_state : (x y : Item) → x.0 ≡ y.0 → x.1 < y.1 → item_cmp x y ≡ Less
 less_state x y e h = rw (cmp_equal x.0 y.0 e, cmp_less x.1 y.1 h)
+
+pub nothing : (xs : List Item) → ((x : Item) → Has xs x → ⊥) → xs ≡ []
+nothing [] f = refl
+nothing (x ∷ xs) f = absurd (f x (inl refl))
 
 -- the items of one automaton
 below_parts : (i n : ℕ) (x : Item) → Has (items_below i n) x → (x.0 ≡ i) × (x.1 < n)

@@ -15,11 +15,11 @@ use Rattle.lalrpop_build.specs.Internal.Subsets.{move}
 use Rattle.lalrpop_build.specs.Internal.Transitions.{AreTransitions}
 use Rattle.lalrpop_build.specs.Internal.Blocks.{has_edges, blocks_to, blocks_of}
 use Rattle.lalrpop_build.specs.Internal.Labelled.{Labelled}
-use Rattle.lalrpop_build.specs.Internal.Memo.{AreNumbersIn, IsFound, OnlyAdds, IsMemoOf}
+use Rattle.lalrpop_build.specs.Internal.TargetCache.{AreNumbersIn, IsFound, OnlyAdds, IsCacheOf}
 use Rattle.lalrpop_build.specs.Internal.Stage.{Stage, stage, IsExpansion, Extends, IsSameRow, IsTarget, IsBlockDone}
 use Rattle.lalrpop_build.specs.Internal.Expansion.{AddedTo, IsAdded}
 use Rattle.lalrpop_build.specs.declared.build.sets.Sets.{Sets}
-use Rattle.lalrpop_build.specs.declared.build.memo.Memo.{Memo}
+use Rattle.lalrpop_build.specs.declared.build.target_cache.TargetCache.{TargetCache}
 use Rattle.lalrpop_build.specs.declared.build.scratch.Scratch.{Scratch}
 use Rattle.lalrpop_build.specs.declared.build.scratch.Transitions.{Transitions}
 use Rattle.lalrpop_build.specs.Internal.Alphabet.{AreCells}
@@ -31,7 +31,7 @@ use Rattle.lalrpop_build.proofs.Adding.{added_stays}
 use Rattle.lalrpop_build.proofs.Noted.{has_noted}
 use Rattle.lalrpop_build.proofs.BoundaryBlocks.{IsBefore}
 use Rattle.lalrpop_build.proofs.BoundaryEdges.{range_of, is_block, edging_kept, edging_passed}
-use Rattle.lalrpop_build.proofs.MemoLaws.{memo_grows, memo_inserted, memo_noted}
+use Rattle.lalrpop_build.proofs.CacheLaws.{cache_grows, cache_inserted, cache_noted}
 
 -- a class with edges has a list of them
 edges_listed : (by_class : List Transitions) (c : ℕ) (o : Option Transitions) → slice_get by_class c ≡ o → has_edges o ≡ true → (t : Transitions) × ((slice_get by_class c ≡ Some t) × (t.list.items ≡ [] → ⊥))
@@ -39,8 +39,8 @@ edges_listed by_class c None at some = absurd (let clash : false ≡ true = some
 edges_listed by_class c (Some t) at some = (t, (at, λ none. (let clash : false ≡ true = (rw none at some) in cc)))
 
 -- only noted classes have numbers
-pub expansion_numbers : (a : Labelled) (n : ℕ) (sets : List (List Item)) (number : ℕ) (scratch : Scratch) (memo : Memo) → IsExpansion a n sets number scratch memo → AreNumbersIn scratch.edges.used.items memo.by_class.items
-expansion_numbers a n sets number scratch memo is = record {
+pub expansion_numbers : (a : Labelled) (n : ℕ) (sets : List (List Item)) (number : ℕ) (scratch : Scratch) (cache : TargetCache) → IsExpansion a n sets number scratch cache → AreNumbersIn scratch.edges.used.items cache.by_class.items
+expansion_numbers a n sets number scratch cache is = record {
   within = λ c h. (let below = is.scratch_is.tidy.noted.within c h in omega (arith, below, is.count));
   all = λ c j at.
       let (t, (there, some)) = edges_listed scratch.edges.lists.items c (slice_get scratch.edges.lists.items c) refl (is.some c j at) in
@@ -48,59 +48,59 @@ expansion_numbers a n sets number scratch memo is = record {
 }
 
 -- sets are added, and the number's set stays
-pub expansion_grows : (a : Labelled) (n : ℕ) (sets sets2 : List (List Item)) (number : ℕ) (scratch : Scratch) (memo : Memo) (s : List Item) → IsExpansion a n sets number scratch memo → slice_get sets number ≡ Some s → Extends sets sets2
-    → IsExpansion a n sets2 number scratch memo
-expansion_grows a n sets sets2 number scratch memo s is here more = record {
+pub expansion_grows : (a : Labelled) (n : ℕ) (sets sets2 : List (List Item)) (number : ℕ) (scratch : Scratch) (cache : TargetCache) (s : List Item) → IsExpansion a n sets number scratch cache → slice_get sets number ≡ Some s → Extends sets sets2
+    → IsExpansion a n sets2 number scratch cache
+expansion_grows a n sets sets2 number scratch cache s is here more = record {
   automata_are = is.automata_are;
   same_len = is.same_len;
   scratch_is = is.scratch_is;
   count = is.count;
   some = is.some;
-  memo_is = λ t at.
+  cache_is = λ t at.
       let same : s ≡ t = (let f : Some s ≡ Some t = sym (more number s here) ∙ at in cc) in
-      subst (λ u. IsMemoOf a.graphs u scratch.edges.lists.items memo sets2) same (memo_grows a.graphs s scratch.edges.lists.items memo sets sets2 more (is.memo_is s here));
+      subst (λ u. IsCacheOf a.graphs u scratch.edges.lists.items cache sets2) same (cache_grows a.graphs s scratch.edges.lists.items cache sets sets2 more (is.cache_is s here));
 }
 
-module _ (a : Labelled) (n : ℕ) (sets : List (List Item)) (number : ℕ) (scratch : Scratch) (memo memo2 : Memo) (s : List Item) (is : IsExpansion a n sets number scratch memo) (here : slice_get sets number ≡ Some s)
+module _ (a : Labelled) (n : ℕ) (sets : List (List Item)) (number : ℕ) (scratch : Scratch) (cache cache2 : TargetCache) (s : List Item) (is : IsExpansion a n sets number scratch cache) (here : slice_get sets number ≡ Some s)
     (c j v : ℕ) (takes : (t : Transitions) × ((slice_get scratch.edges.lists.items c ≡ Some t) × AreTransitions a.graphs s v t.list.items)) (to : slice_get sets j ≡ Some (move a.graphs s v)) where
-  only : (t : List Item) → slice_get sets number ≡ Some t → IsMemoOf a.graphs s scratch.edges.lists.items memo2 sets → IsMemoOf a.graphs t scratch.edges.lists.items memo2 sets
-  only t at memo_of = (let same : s ≡ t = (let f : Some s ≡ Some t = sym here ∙ at in cc) in subst (λ u. IsMemoOf a.graphs u scratch.edges.lists.items memo2 sets) same memo_of)
+  only : (t : List Item) → slice_get sets number ≡ Some t → IsCacheOf a.graphs s scratch.edges.lists.items cache2 sets → IsCacheOf a.graphs t scratch.edges.lists.items cache2 sets
+  only t at cache_of = (let same : s ≡ t = (let f : Some s ≡ Some t = sym here ∙ at in cc) in subst (λ u. IsCacheOf a.graphs u scratch.edges.lists.items cache2 sets) same cache_of)
 
   -- a number that was found is recorded for the edges of the class
-  pub expansion_inserted : memo2.by_class.items ≡ memo.by_class.items → OnlyAdds memo.by_edges scratch.edges.lists.items c j memo2.by_edges → IsExpansion a n sets number scratch memo2
+  pub expansion_inserted : cache2.by_class.items ≡ cache.by_class.items → OnlyAdds cache.by_edges scratch.edges.lists.items c j cache2.by_edges → IsExpansion a n sets number scratch cache2
   expansion_inserted same adds = record {
     automata_are = is.automata_are;
     same_len = is.same_len;
     scratch_is = is.scratch_is;
     count = ap length same ∙ is.count;
     some = λ d i at. is.some d i (rw same at at);
-    memo_is = λ t at. only t at (record {
-      edges = memo_inserted a.graphs s scratch.edges.lists.items memo.by_edges memo2.by_edges sets c j v (is.memo_is s here).edges takes to adds;
-      classes = λ d i w u found there are. (is.memo_is s here).classes d i w u (rw same at found) there are;
+    cache_is = λ t at. only t at (record {
+      edges = cache_inserted a.graphs s scratch.edges.lists.items cache.by_edges cache2.by_edges sets c j v (is.cache_is s here).edges takes to adds;
+      classes = λ d i w u found there are. (is.cache_is s here).classes d i w u (rw same at found) there are;
     });
   }
 
-  within : c < length memo.by_class.items
+  within : c < length cache.by_class.items
   within = (let (t, (at, are)) = takes in omega (arith, is.count, slice_get_within scratch.edges.lists.items c t at))
 
   -- and for the class
-  pub expansion_noted : has_edges (slice_get scratch.edges.lists.items c) ≡ true → memo2.by_class.items ≡ slice_set memo.by_class.items c (Some j) → memo2.by_edges ≡ memo.by_edges → IsExpansion a n sets number scratch memo2
+  pub expansion_noted : has_edges (slice_get scratch.edges.lists.items c) ≡ true → cache2.by_class.items ≡ slice_set cache.by_class.items c (Some j) → cache2.by_edges ≡ cache.by_edges → IsExpansion a n sets number scratch cache2
   expansion_noted edges notes same = record {
     automata_are = is.automata_are;
     same_len = is.same_len;
     scratch_is = is.scratch_is;
-    count = ap length notes ∙ (length-set memo.by_class.items c (Some j) ∙ is.count);
-    some = λ d i at. elim (set_at memo.by_class.items c (Some j) d (Some i) within (rw notes at at)) [
+    count = ap length notes ∙ (length-set cache.by_class.items c (Some j) ∙ is.count);
+    some = λ d i at. elim (set_at cache.by_class.items c (Some j) d (Some i) within (rw notes at at)) [
       | inl here2 ↦ subst (λ e. has_edges (slice_get scratch.edges.lists.items e) ≡ true) (sym here2.0) edges
       | inr other ↦ is.some d i other.1
     ];
-    memo_is = λ t at. only t at (record {
-      edges = λ e i w found are. (is.memo_is s here).edges e i w (rw same at found) are;
-      classes = λ d i w u found there are. memo_noted a.graphs s scratch.edges.lists.items memo.by_class.items sets c j v (is.memo_is s here).classes within takes to d i w u (rw notes at found) there are;
+    cache_is = λ t at. only t at (record {
+      edges = λ e i w found are. (is.cache_is s here).edges e i w (rw same at found) are;
+      classes = λ d i w u found there are. cache_noted a.graphs s scratch.edges.lists.items cache.by_class.items sets c j v (is.cache_is s here).classes within takes to d i w u (rw notes at found) there are;
     });
   }
 
--- a number that the memo has
+-- a number that the cache has
 pub number_read : (numbers : List (Option ℕ)) (c j : ℕ) (o : Option ℕ) → c < length numbers → o ≡ get_or numbers c o → o ≡ Some j → slice_get numbers c ≡ Some (Some j)
 number_read numbers c j o l is some = rw some at (slice_get_read numbers (length numbers) c o refl l is)
 

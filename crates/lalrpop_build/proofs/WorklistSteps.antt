@@ -14,15 +14,14 @@ use Rattle.lalrpop_build.specs.Internal.Worklist.{IsInserted, epsilon_targets, A
 use Rattle.lalrpop_nfa.specs.declared.edge.Edge.{Edge}
 use Rattle.lalrpop_nfa.specs.declared.edge.Noop.{Noop}
 use Rattle.lalrpop_book.proofs.Members.{Has, has_right, has_from, contains_from, has_map, map_has, has_filter, filter_has, any_from_has, has_from_any}
-use Rattle.lalrpop_book.proofs.Contained.{contains_only}
+use Rattle.lalrpop_book.proofs.Contained.{contains_none, contains_only}
 use Rattle.lalrpop_book.proofs.SortedLists.{sorted_nil, sorted_cons, sorted_same}
 use Rattle.std.specs.Prelude.{slice_get, Some}
 use Rattle.std.proofs.lemmas.Option.{slice_get-get_or}
 use Rattle.lalrpop_build.proofs.Marks.{marked_parts}
-use Rattle.lalrpop_build.proofs.Inserting.{graph_here}
 use Rattle.lalrpop_build.proofs.Epsilon.{epsilon_self, epsilon_edge, epsilon_trans}
 use Rattle.lalrpop_build.proofs.Sets.{closed_ascends, closed_has, closed_parts, at_most_all_items, item_total}
-use Rattle.lalrpop_build.proofs.Targets.{compiled_at}
+use Rattle.lalrpop_build.proofs.Targets.{compiled_at, graph_is}
 
 -- ---- one edge
 -- an edge that reads nothing makes a step
@@ -43,7 +42,7 @@ pub step_inside : (ns : List Graph) (x y : Item) → AreAutomata ns → IsItemOf
 step_inside ns x y a is h =
     let (e, f) = edge_from_step ns x y h in
     let c = compiled_at a.0 ns a.1 x.0 is.0 is.1.0 in
-    let here : Has is.0.edges.noops e = rw (graph_here ns x.0 is.0 is.1.0) at f.0 in
+    let here : Has is.0.edges.noops e = rw (graph_is ns x.0 is.0 is.1.0) at f.0 in
     let l = c.1.1.noops_in e (contains_from is.0.edges.noops e here) in
     rw f.2 (is.0, (is.1.0, l.1))
 
@@ -62,7 +61,7 @@ unfolding follows_by_epsilon
 step_led ns z x y is led h =
     let (e, f) = edge_from_step ns x y h in
     let blocks = and_parts (z.0 == x.0) (is_epsilon_path (graph_at ns x.0) z.1 x.1) led in
-    let inside : x.1 < length (graph_at ns x.0).kinds = rw (graph_here ns x.0 is.0 is.1.0) is.1.1 in
+    let inside : x.1 < length (graph_at ns x.0).kinds = rw (graph_is ns x.0 is.0 is.1.0) is.1.1 in
     let same : e ≡ noop x.1 e.to = ap (λ (p : ℕ). noop p e.to) f.1 in
     let edge : Contains (graph_at ns x.0).edges.noops (noop x.1 e.to) = contains_from (graph_at ns x.0).edges.noops (noop x.1 e.to) (rw same at f.0) in
     let far : is_epsilon_path (graph_at ns x.0) z.1 e.to ≡ true = epsilon_trans (graph_at ns x.0) z.1 x.1 e.to inside blocks.1 (epsilon_edge (graph_at ns x.0) x.1 e.to edge) in
@@ -87,17 +86,14 @@ led_more ns given x y is led h =
     let (z, f) = has_from_any (λ z. follows_by_epsilon ns z x) given led in
     any_from_has (λ z. follows_by_epsilon ns z y) given z f.0 (step_led ns z x y is f.1 h)
 
-no_item : (x : Item) → Contains [] x → ⊥
-no_item x h = has_from [] x h
-
 pub closing_start : (ns : List Graph) (given observed0 pending0 observed pending : List Item) → observed0 ≡ [] → pending0 ≡ [] → AreAscendingItems observed0 → AreItemsOf ns given → IsInserted observed0 pending0 given observed pending → IsClosing ns given observed pending
 closing_start ns given observed0 pending0 observed pending e f sorted inside n =
     let from : (x : Item) → Contains observed x → Contains given x × Contains pending x =
-    λ (x : Item) (h : Contains observed x). elim (n.come x h) [ inl was ↦ absurd (no_item x (rw e at was)) | inr new ↦ new ] in
+    λ (x : Item) (h : Contains observed x). elim (n.come x h) [ inl was ↦ absurd (contains_none x (rw e at was)) | inr new ↦ new ] in
     record {
       ordered = n.ordered sorted;
       given_in = n.inserted;
-      pending_in = λ x h. elim (n.pending_come x h) [ inl was ↦ absurd (no_item x (rw f at was)) | inr new ↦ n.inserted x new ];
+      pending_in = λ x h. elim (n.pending_come x h) [ inl was ↦ absurd (contains_none x (rw f at was)) | inr new ↦ n.inserted x new ];
       followed = λ x h. inl (from x h).1;
       within = λ x h. inside x (from x h).0;
       led = λ x h. led_self ns given x (from x h).0;
@@ -177,15 +173,15 @@ closing_done ns given observed pending none k =
     has_from observed x (led_in ns observed x y done (k.given_in y (contains_from given y f.0)) f.1))
   where
     done : (x y : Item) → Contains observed x → Has (epsilon_targets ns x) y → Contains observed y
-    done x y h s = elim (k.followed x h) [ inl waits ↦ absurd (no_item x (rw none at waits)) | inr all ↦ all y (contains_from (epsilon_targets ns x) y s) ]
+    done x y h s = elim (k.followed x h) [ inl waits ↦ absurd (contains_none x (rw none at waits)) | inr all ↦ all y (contains_from (epsilon_targets ns x) y s) ]
 
 -- an item that no edge that reads nothing leaves
 pub closed_alone : (ns : List Graph) (x : Item) → IsItemOf ns x → epsilon_targets ns x ≡ [] → x ∷ [] ≡ closed ns (x ∷ [])
 closed_alone ns x is none = closing_done ns (x ∷ []) (x ∷ []) [] refl (record {
   ordered = sorted_cons item_cmp x [] (λ y h. absurd h) (sorted_nil item_cmp);
   given_in = λ y h. h;
-  pending_in = λ y h. absurd (no_item y h);
-  followed = λ y h. inr (λ z s. absurd (no_item z (let same : y ≡ x = only y h in rw (same, none) at s)));
+  pending_in = λ y h. absurd (contains_none y h);
+  followed = λ y h. inr (λ z s. absurd (contains_none z (let same : y ≡ x = only y h in rw (same, none) at s)));
   within = λ y h. rw (only y h) is;
   led = λ y h. led_self ns (x ∷ []) y h;
 })

@@ -5,7 +5,7 @@ pub mod Best
 pub mod Blocks
 pub mod ClassTransitions
 pub mod Scratch
-pub mod Memo
+pub mod TargetCache
 pub mod Stage
 pub mod Labelled
 pub mod Ties

@@ -1,14 +1,15 @@
 //! All clashes of a list of patterns.
-ghost use Rattle.std.specs.Prelude.{◌≡◌, List, map, length, IfOk, IfErr};
+ghost use Rattle.std.specs.Prelude.{◌≡◌, ℕ, List, map, length, IfOk, IfErr};
 ghost use Rattle.lalrpop_book.specs.Tree.{Tree};
 ghost use Rattle.lalrpop_dfa.specs.Automata.{AreCompiled};
 ghost use Rattle.lalrpop_build.specs.Internal.Given.{AreAutomata};
 ghost use Rattle.lalrpop_book.specs.Clashes.{AreClashes};
+ghost use Rattle.lalrpop_build.specs.Internal.Expansion.{IsBuiltTo};
 ghost use Rattle.lalrpop_build.specs.Internal.Ties.{AreOwn};
 ghost use Rattle.lalrpop_book.specs.Report.{NoFault, IsFaultOf};
 
 use crate::build::compile::compile_all;
-use crate::build::expanded;
+use crate::build::{Expansion, expanded};
 use crate::ties::Ties;
 use crate::{DfaConstructionError, NfaIndex, Precedence};
 use lalrpop_hir::Regex;
@@ -54,6 +55,30 @@ fn distinct_precedences(alloc: Global, count: usize) -> Result<Vec<Precedence>, 
     Ok(precedences)
 }
 
+// The clashes by these precedences, found set by set. The expansion has all sets that words lead to.
+fn clashes_in(
+    alloc: Global,
+    expansion: &Expansion,
+    precedences: &[Precedence],
+) -> Result<Vec<Clash>, DfaConstructionError>
+    requires same_len { length expansion.now.automata.graphs ≡ length precedences.now }
+    requires built { (ps : List ℕ) × IsBuiltTo expansion.now.automata.graphs ps
+        expansion.now.kernels.list expansion.now.origins expansion.now.written.rows
+        (length expansion.now.kernels.list) }
+    ensures ok { IfOk result (λ found. (ts : List Tree)
+        → AreCompiled ts expansion.now.automata.graphs
+        → AreClashes ts (map (λ p. p.0) precedences.now) found.items) }
+    ensures err { IfErr result (λ e. (ts : List Tree) → IsFaultOf ts e) }
+{
+    let mut ties = Ties::new(alloc);
+    for number in 0..expansion.len() {
+        let set = expansion.item_set(number);
+        let strongest = expansion.strongest(precedences, set)?;
+        ties.add_all(&strongest, expansion.origins(), number)?;
+    }
+    Ok(ties.clashes)
+}
+
 // The clashes of the patterns with these automata and precedences.
 fn clashes_of(
     alloc: Global,
@@ -69,13 +94,7 @@ fn clashes_of(
     // If all precedences differ, no two patterns tie, so all sets are made.
     let distinct = distinct_precedences(alloc, nfas.len())?;
     let expansion = expanded(alloc, nfas, &distinct)?;
-    let mut ties = Ties::new(alloc);
-    for number in 0..expansion.len() {
-        let set = expansion.item_set(number);
-        let strongest = expansion.strongest(precedences, set)?;
-        ties.add_all(&strongest, expansion.origins(), number)?;
-    }
-    Ok(ties.clashes)
+    clashes_in(alloc, &expansion, precedences)
 }
 
 /// All pairs of patterns that clash: both are among the strongest on some word. Each comes with the least such word, in the

@@ -29,10 +29,10 @@ pub(crate) mod automata;
 mod best;
 mod block;
 pub(crate) mod compile;
-mod memo;
 pub(crate) mod origin;
 mod scratch;
 mod sets;
+mod target_cache;
 
 use crate::alphabet::Cell;
 use crate::{Dfa, DfaConstructionError, DfaStateIndex, Kind, NfaIndex, Precedence};
@@ -43,12 +43,12 @@ use compile::compile_all;
 use lalrpop_dfa::{ItemSet, RowWriter, Rows};
 use lalrpop_hir::Regex;
 use lalrpop_nfa::Nfa;
-use memo::Memo;
 use origin::{Origin, word_to};
 use scratch::Scratch;
 use sets::Sets;
 use std::alloc::{AllocError, Global};
 use std::marker::Model;
+use target_cache::TargetCache;
 
 /// Builds the automaton of the patterns, with one precedence for each pattern. After each word, its state names the only
 /// strongest pattern that matches the word, if any does.
@@ -127,7 +127,7 @@ pub(crate) struct Expansion<'given> {
     sets: Sets,
     number: usize,
     scratch: Scratch,
-    memo: Memo,
+    cache: TargetCache,
     writer: RowWriter,
 }
 
@@ -141,7 +141,7 @@ impl<'given> Model for Expansion<'given> {
         stage e.automata (map (λ p. p.0) e.precedences.now) e.sets e.number e.scratch e.writer };
 
     ghost invariant = { λ e.
-        IsExpansion e.automata (length e.precedences.now) e.sets.kernels.list e.number e.scratch e.memo };
+        IsExpansion e.automata (length e.precedences.now) e.sets.kernels.list e.number e.scratch e.cache };
 }
 
 impl<'given> Expansion<'given> {
@@ -161,7 +161,7 @@ impl<'given> Expansion<'given> {
         let automata = Automata::new(alloc, nfas)?;
         let sets = Sets::new(alloc, &automata)?;
         let scratch = automata.scratch(alloc)?;
-        let memo = Memo::new(alloc, scratch.edges.lists.len())?;
+        let cache = TargetCache::new(alloc, scratch.edges.lists.len())?;
         Ok(Expansion {
             alloc,
             automata,
@@ -169,7 +169,7 @@ impl<'given> Expansion<'given> {
             sets,
             number: 0,
             scratch,
-            memo,
+            cache,
             writer: RowWriter::new(alloc),
         })
     }
@@ -239,7 +239,7 @@ impl<'given> Expansion<'given> {
         }
     }
 
-    // Begins the next row: lays out what leaves its set, and empties the memo.
+    // Begins the next row: lays out what leaves its set, and empties the cache.
     fn begin(&mut self, set: &ItemSet) -> Result<(), AllocError>
         requires inside { AreItemsOf self.old.automata.graphs set.now }
         ensures number { OnOk result (self.new.number ≡ length self.old.written.rows) }
@@ -251,7 +251,7 @@ impl<'given> Expansion<'given> {
           by_class = self.new.by_class;
         } }
     {
-        self.memo.clear(&self.scratch.edges.used);
+        self.cache.clear(&self.scratch.edges.used);
         self.number = self.writer.len();
         self.automata.fill(&mut self.scratch, set)
     }
@@ -311,16 +311,16 @@ impl<'given> Expansion<'given> {
         ensures { OnOk result (IsBlockDone self.old set.now block.from block.to self.new) }
     {
         let class = block.from.class;
-        let target = match self.memo.by_class[class] {
+        let target = match self.cache.by_class[class] {
             Some(target) => target,
-            None if self.scratch.edges.is_bare(class) => return Ok(()),
+            None if self.scratch.edges.has_no_edges(class) => return Ok(()),
             None => self.target(set, class, block.origin(self.number))?,
         };
         block.write_edge(target, &mut self.writer)?;
         Ok(())
     }
 
-    // The number of the set that the current set leads to by the values of a class: found in the memo, or the closure of the
+    // The number of the set that the current set leads to by the values of a class: found in the cache, or the closure of the
     // targets of their test edges. It is a call of its own in the machine code, so that the loop over the blocks stays small.
     #[inline(never)]
     fn target(
@@ -335,16 +335,18 @@ impl<'given> Expansion<'given> {
         requires take { Take self.old set.now class origin.1 }
         ensures { IfOk result (λ j. IsTarget self.old set.now origin.1 j self.new) }
     {
-        let number = match self.memo.find(&self.scratch.edges, class) {
+        let number = match self.cache.find(&self.scratch.edges, class) {
             Some(number) => number,
             None => {
                 let transitions = &self.scratch.edges.lists[class].list;
-                let number = self.sets.closure(&self.automata, set, transitions, origin)?;
-                self.memo.insert(&self.scratch.edges, class, number)?;
+                let number = self
+                    .sets
+                    .successor(&self.automata, set, transitions, origin)?;
+                self.cache.insert(&self.scratch.edges, class, number)?;
                 number
             }
         };
-        self.memo.note(class, number);
+        self.cache.note(class, number);
         Ok(number)
     }
 
@@ -356,7 +358,7 @@ impl<'given> Expansion<'given> {
         ensures automata { AreAutomata self.old.automata.graphs }
     {
         let origin = Origin::new(self.number, u32::MAX);
-        self.sets.closure(&self.automata, set, &[], origin)
+        self.sets.successor(&self.automata, set, &[], origin)
     }
 
     // Ends the row of the current number, whose set this is.

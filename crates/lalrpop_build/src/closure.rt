@@ -142,7 +142,7 @@ impl Worklist {
 }
 
 // Adds the items of a pattern whose states have a mark.
-fn push_marked(pattern: NfaIndex, marks: &[bool], found: &mut Vec<Item>) -> Result<(), AllocError>
+fn push_states(pattern: NfaIndex, marks: &[bool], found: &mut Vec<Item>) -> Result<(), AllocError>
     ensures { OnOk result (found.new.items ≡ found.old.items ++ marked pattern marks.now) }
 {
     for state in 0..marks.len() {
@@ -173,7 +173,7 @@ fn follow_by_marks(
     while let Some(item) = worklist.pending.pop() {
         worklist.follow(nfas, item)?;
     }
-    push_marked(pattern, &worklist.marks, found)
+    push_states(pattern, &worklist.marks, found)
 }
 
 // Whether no edge that reads nothing leaves the item's state.
@@ -371,7 +371,7 @@ fn patterns_below(alloc: Global, patterns: usize) -> Result<Vec<usize>, AllocErr
 /// # Errors
 ///
 /// `AllocError` if a request for memory was refused.
-pub fn advance(
+pub fn goto(
     alloc: Global,
     workspace: &mut Workspace,
     nfas: &[Nfa],

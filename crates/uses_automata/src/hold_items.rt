@@ -13,7 +13,7 @@ ghost use Rattle.lalrpop_nfa.specs.Graph.{Graph};
 
 use lalrpop_book::NfaIndex;
 use lalrpop_build::Transition;
-use lalrpop_build::closure::{Workspace, advance, closure};
+use lalrpop_build::closure::{Workspace, closure, goto};
 use lalrpop_dfa::{DfaStateIndex, Item, ItemSet};
 use lalrpop_nfa::{ACCEPT, Nfa, START, StateKind};
 use std::alloc::{AllocError, Global};
@@ -102,7 +102,7 @@ pub fn after_nothing(alloc: Global, nfas: &[Nfa], given: &[Item]) -> Result<Item
     closure(alloc, nfas, given)
 }
 
-// Needs lalrpop_build::advance: ensures.
+// Needs lalrpop_build::goto: ensures.
 /// The items that a set leads to by the values that take these test edges.
 pub fn after_value(
     alloc: Global,
@@ -117,7 +117,7 @@ pub fn after_value(
     ensures { IfOk result (λ s. (v : ℕ) → AreTransitions nfas.now set.now v transitions.now
         → s ≡ move nfas.now set.now v) }
 {
-    advance(alloc, &mut Workspace::new(alloc), nfas, set, transitions)
+    goto(alloc, &mut Workspace::new(alloc), nfas, set, transitions)
 }
 
 // Needs lalrpop_build::Workspace::new: empty.

@@ -23,8 +23,8 @@ abbrev pub AreBelow : ℕ → List ℕ → Type 0
 AreBelow n ks = (k : ℕ) → Contains ks k → k < n
 
 -- no class has an edge
-abbrev pub AreBare : List Transitions → Type 0
-AreBare by_class = (c : ℕ) (t : Transitions) → slice_get by_class c ≡ Some t → t.list.items ≡ []
+abbrev pub HaveNoEdges : List Transitions → Type 0
+HaveNoEdges by_class = (c : ℕ) (t : Transitions) → slice_get by_class c ≡ Some t → t.list.items ≡ []
 
 -- the edges of each class gain those that E allows for it
 abbrev pub Gained : List Transitions → List Transitions → (ℕ → Transition → Type 0) → Type 0

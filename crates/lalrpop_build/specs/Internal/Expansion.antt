@@ -36,21 +36,21 @@ abbrev pub IsAdded : Sets → ℕ × ℕ → List Item → ℕ → Sets → Type
 IsAdded sets o t j sets2 = AddedTo sets.kernels.list sets.origins.items o.0 o.1 t j sets2.kernels.list sets2.origins.items × (sets2.kernels.place ≡ sets.kernels.place)
 
 -- each number of the map is that of the set to which s leads by the values that take these test edges
-abbrev pub IsEdgeMemo : List Graph → List Item → BTreeMap Transitions ℕ → List (List Item) → Type 0
-IsEdgeMemo ns s memo sets = (leads : Transitions) (j v : ℕ) → get transitions_cmp memo leads ≡ Some j → AreTransitions ns s v leads.list.items → slice_get sets j ≡ Some (move ns s v)
+abbrev pub IsEdgeCache : List Graph → List Item → BTreeMap Transitions ℕ → List (List Item) → Type 0
+IsEdgeCache ns s cache sets = (leads : Transitions) (j v : ℕ) → get transitions_cmp cache leads ≡ Some j → AreTransitions ns s v leads.list.items → slice_get sets j ≡ Some (move ns s v)
 
 -- no class has a number
-abbrev pub IsEmptyMemo : List (Option ℕ) → Type 0
-IsEmptyMemo memo = (c j : ℕ) → slice_get memo c ≡ Some (Some j) → ⊥
+abbrev pub IsEmptyCache : List (Option ℕ) → Type 0
+IsEmptyCache cache = (c j : ℕ) → slice_get cache c ≡ Some (Some j) → ⊥
 
 -- the same by the class of a value
-abbrev pub IsClassMemo : List Graph → List Item → List Transitions → List (Option ℕ) → List (List Item) → Type 0
-IsClassMemo ns s by_class memo sets = (c j v : ℕ) (t : Transitions) → slice_get memo c ≡ Some (Some j) → slice_get by_class c ≡ Some t
+abbrev pub IsClassCache : List Graph → List Item → List Transitions → List (Option ℕ) → List (List Item) → Type 0
+IsClassCache ns s by_class cache sets = (c j v : ℕ) (t : Transitions) → slice_get cache c ≡ Some (Some j) → slice_get by_class c ≡ Some t
     → AreTransitions ns s v t.list.items → slice_get sets j ≡ Some (move ns s v)
 
 -- another class has the number j, and its values take the same test edges as those of class c
 abbrev pub IsNumberOfEqual : List Transitions → List (Option ℕ) → ℕ → ℕ → Type 0
-IsNumberOfEqual by_class memo c j = (d : ℕ) × (t u : Transitions) × ((slice_get memo d ≡ Some (Some j)) × (slice_get by_class d ≡ Some t) × (slice_get by_class c ≡ Some u) × (t.list.items ≡ u.list.items))
+IsNumberOfEqual by_class cache c j = (d : ℕ) × (t u : Transitions) × ((slice_get cache d ≡ Some (Some j)) × (slice_get by_class d ≡ Some t) × (slice_get by_class c ≡ Some u) × (t.list.items ≡ u.list.items))
 
 -- the values of origins are of 32 bits
 abbrev pub AreSmall : List (ℕ × ℕ) → Type 0

@@ -9,7 +9,7 @@ use Rattle.lalrpop_build.specs.Internal.Alphabet.{Classes, HasBoundary, IsInCell
 use Rattle.lalrpop_build.specs.declared.alphabet.Cell.{Cell}
 use Rattle.lalrpop_build.specs.declared.alphabet.Group.{Group}
 use Rattle.lalrpop_build.specs.Internal.Blocks.{Block, blocks_of}
-use Rattle.lalrpop_build.specs.Internal.ClassTransitions.{AreBare, AreBelow, HaveTransitions}
+use Rattle.lalrpop_build.specs.Internal.ClassTransitions.{HaveNoEdges, AreBelow, HaveTransitions}
 use Rattle.lalrpop_build.specs.declared.build.scratch.Boundaries.{Boundaries}
 use Rattle.lalrpop_build.specs.declared.build.scratch.EdgesByClass.{EdgesByClass}
 use Rattle.lalrpop_build.specs.declared.build.scratch.Transitions.{Transitions}
@@ -52,7 +52,7 @@ pub record IsCleared (scratch : Scratch) : Type 0 where
   pub tidy : IsTidy scratch
   pub no_boundaries : scratch.boundaries.places.items ≡ []
   pub no_marks : AreUnmarked scratch.boundaries.marks.items
-  pub no_edges : AreBare scratch.edges.lists.items
+  pub no_edges : HaveNoEdges scratch.edges.lists.items
 
 -- scratch for the classes and the groups of an alphabet
 pub record IsScratchOf (a : Classes) (scratch : Scratch) : Type 0 where

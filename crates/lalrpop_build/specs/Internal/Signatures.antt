@@ -56,5 +56,5 @@ abbrev pub HaveEnds : List Labels → List ℕ → List Group → Type 0
 HaveEnds lists boundaries groups = (n k : ℕ) → HasBoundary groups n k ↔ ((r : Range) × (HasLabel lists n r × IsEndAt boundaries r k))
 
 -- no group has a class
-abbrev pub AreBare : List Group → Type 0
-AreBare groups = (n c : ℕ) → HasClass groups n c → ⊥
+abbrev pub HaveNoClasses : List Group → Type 0
+HaveNoClasses groups = (n c : ℕ) → HasClass groups n c → ⊥

@@ -11,9 +11,9 @@ use Rattle.lalrpop_build.specs.declared.alphabet.Cell.{Cell}
 use Rattle.lalrpop_build.specs.Internal.Blocks.{has_edges}
 use Rattle.lalrpop_build.specs.Internal.Expansion.{AddedTo, IsBuiltTo}
 use Rattle.lalrpop_build.specs.Internal.Labelled.{Labelled}
-use Rattle.lalrpop_build.specs.Internal.Memo.{IsMemoOf}
+use Rattle.lalrpop_build.specs.Internal.TargetCache.{IsCacheOf}
 use Rattle.lalrpop_build.specs.Internal.Scratch.{IsScratchOf}
-use Rattle.lalrpop_build.specs.declared.build.memo.Memo.{Memo}
+use Rattle.lalrpop_build.specs.declared.build.target_cache.TargetCache.{TargetCache}
 use Rattle.lalrpop_build.specs.declared.build.scratch.Scratch.{Scratch}
 use Rattle.lalrpop_build.specs.declared.build.scratch.Transitions.{Transitions}
 use Rattle.lalrpop_build.specs.declared.build.sets.Sets.{Sets}
@@ -44,13 +44,13 @@ stage a ps sets number scratch written = record {
 }
 
 -- only classes with edges have numbers, and each number is that of the set to which the number's set leads
-pub record IsExpansion (a : Labelled) (pattern_count : ℕ) (sets : List (List Item)) (number : ℕ) (scratch : Scratch) (memo : Memo) : Type 0 where
+pub record IsExpansion (a : Labelled) (pattern_count : ℕ) (sets : List (List Item)) (number : ℕ) (scratch : Scratch) (cache : TargetCache) : Type 0 where
   pub automata_are : AreAutomata a.graphs
   pub same_len : length a.graphs ≡ pattern_count
   pub scratch_is : IsScratchOf a.alphabet scratch
-  pub count : length memo.by_class.items ≡ length scratch.edges.lists.items
-  pub some : (c j : ℕ) → slice_get memo.by_class.items c ≡ Some (Some j) → has_edges (slice_get scratch.edges.lists.items c) ≡ true
-  pub memo_is : (s : List Item) → slice_get sets number ≡ Some s → IsMemoOf a.graphs s scratch.edges.lists.items memo sets
+  pub count : length cache.by_class.items ≡ length scratch.edges.lists.items
+  pub some : (c j : ℕ) → slice_get cache.by_class.items c ≡ Some (Some j) → has_edges (slice_get scratch.edges.lists.items c) ≡ true
+  pub cache_is : (s : List Item) → slice_get sets number ≡ Some s → IsCacheOf a.graphs s scratch.edges.lists.items cache sets
 
 -- each set keeps its number
 abbrev pub Extends : List (List Item) → List (List Item) → Type 0

@@ -4,11 +4,11 @@ ghost use Rattle.std.specs.Prelude.{◌≡◌, ℕ, ◌+◌, ◌<◌, ◌^◌, l
 ghost use Rattle.std.specs.List.{Contains};
 ghost use Rattle.lalrpop_build.specs.Internal.Alphabet.{AreCells, AreGroups};
 ghost use Rattle.lalrpop_build.specs.Internal.Grouped.{AreBoundaries, AreClasses};
-ghost use Rattle.lalrpop_build.specs.Internal.Signatures.{AreBare};
+ghost use Rattle.lalrpop_build.specs.Internal.Signatures.{HaveNoClasses};
 ghost use Rattle.lalrpop_build.specs.Internal.Numbered.{GotClasses, AreNumbered, IsNumbered, AreAllClassed};
 
 use crate::alphabet::groups::Labels;
-use crate::alphabet::signatures::{Marks, Signature, mark_lists};
+use crate::alphabet::signatures::{CellSignatures, Signature, mark_lists};
 use crate::alphabet::{Cell, Group};
 use std::alloc::{AllocError, Global};
 use std::collections::BTreeMap;
@@ -65,15 +65,19 @@ impl Numbering {
 }
 
 // Numbers the signatures of the cells that begin at these boundaries.
-fn number_cells(alloc: Global, boundaries: &[u64], marks: Marks) -> Result<Classed, AllocError>
-    requires same_length { length marks.signatures.items ≡ length boundaries.now }
-    requires within { (k n : ℕ) (s : Signature) → slice_get marks.signatures.items k ≡ Some s
-        → Contains s.lists.items n → n < length marks.groups.items }
-    requires bare { AreBare marks.groups.items }
-    ensures { IfOk result (λ x. AreAllClassed boundaries.now marks.signatures.items marks.groups.items
+fn number_cells(
+    alloc: Global,
+    boundaries: &[u64],
+    cell_signatures: CellSignatures,
+) -> Result<Classed, AllocError>
+    requires same_length { length cell_signatures.signatures.items ≡ length boundaries.now }
+    requires within { (k n : ℕ) (s : Signature) → slice_get cell_signatures.signatures.items k ≡ Some s
+        → Contains s.lists.items n → n < length cell_signatures.groups.items }
+    requires no_classes { HaveNoClasses cell_signatures.groups.items }
+    ensures { IfOk result (λ x. AreAllClassed boundaries.now cell_signatures.signatures.items cell_signatures.groups.items
         x.cells.items x.groups.items x.count) }
 {
-    let Marks { signatures, groups } = marks;
+    let CellSignatures { signatures, groups } = cell_signatures;
     let mut numbering = Numbering {
         known: BTreeMap::new(alloc),
         groups,
@@ -106,6 +110,6 @@ pub(crate) fn classes_of(
     ensures groups { IfOk result (λ x. AreGroups x.groups.items x.cells.items x.count) }
     ensures classes { IfOk result (λ x. AreClasses lists.now x.cells.items x.groups.items) }
 {
-    let marks = mark_lists(alloc, lists, boundaries)?;
-    number_cells(alloc, boundaries, marks)
+    let cell_signatures = mark_lists(alloc, lists, boundaries)?;
+    number_cells(alloc, boundaries, cell_signatures)
 }

@@ -4,7 +4,7 @@ ghost use Rattle.std.specs.Prelude.{◌≡◌, ℕ, ◌<◌, ◌≤◌, ◌↔�
 ghost use Rattle.std.specs.List.{Contains};
 ghost use Rattle.lalrpop_book.specs.Range.{Range, Covers};
 ghost use Rattle.lalrpop_build.specs.Internal.Grouped.{AreBoundaries};
-ghost use Rattle.lalrpop_build.specs.Internal.Signatures.{AreRising, HasEndsIn, IsEndAt, EndsAt, CoversAny, CoversIn, Added, Marked, Gained, AreSigned, HaveEnds, AreBare};
+ghost use Rattle.lalrpop_build.specs.Internal.Signatures.{AreRising, HasEndsIn, IsEndAt, EndsAt, CoversAny, CoversIn, Added, Marked, Gained, AreSigned, HaveEnds, HaveNoClasses};
 
 use crate::alphabet::Group;
 use crate::alphabet::groups::Labels;
@@ -19,7 +19,7 @@ pub(crate) struct Signature {
 
 /// The signature of each cell, and for each list a group that has no classes yet.
 #[derive(Drop)]
-pub(crate) struct Marks {
+pub(crate) struct CellSignatures {
     pub(crate) signatures: Vec<Signature>,
     pub(crate) groups: Vec<Group>,
 }
@@ -134,13 +134,13 @@ pub(crate) fn mark_lists(
     alloc: Global,
     lists: &[Labels],
     boundaries: &[u64],
-) -> Result<Marks, AllocError>
+) -> Result<CellSignatures, AllocError>
     requires { AreBoundaries lists.now boundaries.now }
     ensures signed { IfOk result (λ m.
         AreSigned boundaries.now m.signatures.items (λ v n. CoversIn lists.now n v)) }
     ensures same_length { IfOk result (λ m. length m.groups.items ≡ length lists.now) }
     ensures ends { IfOk result (λ m. HaveEnds lists.now boundaries.now m.groups.items) }
-    ensures bare { IfOk result (λ m. AreBare m.groups.items) }
+    ensures no_classes { IfOk result (λ m. HaveNoClasses m.groups.items) }
 {
     let mut signatures = blank(alloc, boundaries.len())?;
     let mut groups = Vec::with_capacity(alloc, lists.len())?;
@@ -151,5 +151,5 @@ pub(crate) fn mark_lists(
             classes: Vec::new(alloc),
         })?;
     }
-    Ok(Marks { signatures, groups })
+    Ok(CellSignatures { signatures, groups })
 }

@@ -16,7 +16,7 @@ ghost use Rattle.lalrpop_build.specs.Internal.Scratch.{IsScratchOf, IsFilled};
 use super::best::{Tie, kind_of, strongest_of};
 use super::scratch::Scratch;
 use crate::alphabet::{Alphabet, Cell};
-use crate::closure::{Workspace, advance, closure};
+use crate::closure::{Workspace, closure, goto};
 use crate::{Kind, NfaIndex, Precedence, Transition};
 use lalrpop_dfa::{Item, ItemSet};
 use lalrpop_nfa::{Nfa, START};
@@ -78,7 +78,7 @@ impl<'nfas> Automata<'nfas> {
     }
 
     /// The set that a set leads to by the values that take these test edges.
-    pub(super) fn advance(
+    pub(super) fn goto(
         &self,
         alloc: Global,
         workspace: &mut Workspace,
@@ -92,7 +92,7 @@ impl<'nfas> Automata<'nfas> {
             → AreTransitions self.now.graphs set.now v transitions.now
             → s ≡ move self.now.graphs set.now v) }
     {
-        advance(alloc, workspace, self.nfas, set, transitions)
+        goto(alloc, workspace, self.nfas, set, transitions)
     }
 
     /// The kind of a state that holds the set, or the tie of its strongest patterns.

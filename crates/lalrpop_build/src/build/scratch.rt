@@ -7,7 +7,7 @@ ghost use Rattle.lalrpop_build.specs.Internal.Alphabet.{HasState, HasBoundary, L
 ghost use Rattle.lalrpop_build.specs.Internal.Given.{AreAutomata, AreItemsOf};
 ghost use Rattle.lalrpop_build.specs.Internal.Scratch.{AreNoted, AreMarked, AreUnmarked, HoldMarked, IsTidy, StaysTidy, IsCleared, IsScratchOf, IsFilled};
 ghost use Rattle.lalrpop_dfa.specs.Automata.{Item as ItemValue};
-ghost use Rattle.lalrpop_build.specs.Internal.ClassTransitions.{AreBare, AreBelow, Gained, AreGathered, AreBoundariesOf};
+ghost use Rattle.lalrpop_build.specs.Internal.ClassTransitions.{HaveNoEdges, AreBelow, Gained, AreGathered, AreBoundariesOf};
 
 use crate::Transition;
 use crate::alphabet::Alphabet;
@@ -59,7 +59,7 @@ pub(super) struct Scratch {
 
 impl EdgesByClass {
     /// Whether no value of the class takes an edge.
-    pub(super) fn is_bare(&self, class: usize) -> bool
+    pub(super) fn has_no_edges(&self, class: usize) -> bool
         requires { class < length self.now.lists.items }
         ensures { has_edges (slice_get self.now.lists.items class) ≡ not result }
     {
@@ -174,9 +174,9 @@ fn add_item(
 }
 
 // Classes without edges.
-fn bare_classes(alloc: Global, count: usize) -> Result<Vec<Transitions>, AllocError>
+fn classes_without_edges(alloc: Global, count: usize) -> Result<Vec<Transitions>, AllocError>
     ensures count { IfOk result (λ classes. length classes.items ≡ count) }
-    ensures bare { IfOk result (λ classes. AreBare classes.items) }
+    ensures no_edges { IfOk result (λ classes. HaveNoEdges classes.items) }
 {
     let mut classes = Vec::with_capacity(alloc, count)?;
     for _ in 0..count {
@@ -198,7 +198,7 @@ fn gather(
     requires classes { length edges.old.lists.items ≡ alphabet.now.count }
     requires no_boundaries { boundaries.old.places.items ≡ [] }
     requires marked { HoldMarked alphabet.now.groups boundaries.old }
-    requires bare { AreBare edges.old.lists.items }
+    requires no_edges { HaveNoEdges edges.old.lists.items }
     requires noted { AreNoted edges.old.lists.items edges.old.used.items }
     ensures boundaries { OnOk result (AreBoundariesOf alphabet.now items.now boundaries.new.places.items) }
     ensures marked { OnOk result (HoldMarked alphabet.now.groups boundaries.new) }
@@ -220,7 +220,7 @@ impl Scratch {
         Ok(Scratch {
             boundaries: Boundaries::new(alloc, alphabet.group_count())?,
             edges: EdgesByClass {
-                lists: bare_classes(alloc, count)?,
+                lists: classes_without_edges(alloc, count)?,
                 used: Vec::new(alloc),
             },
         })

@@ -58,7 +58,7 @@ impl Sets {
     }
 
     // The number of the closure of a set by the origin's value, which takes these test edges.
-    fn closure_in_order(
+    fn successor_in_order(
         &mut self,
         automata: &Automata,
         set: &ItemSet,
@@ -73,13 +73,13 @@ impl Sets {
             IsAdded self.old origin (move automata.now.graphs set.now origin.1) j self.new) }
         ensures kept { Extends self.old.kernels.list self.new.kernels.list }
     {
-        let target = automata.advance(self.alloc, &mut self.workspace, set, transitions)?;
+        let target = automata.goto(self.alloc, &mut self.workspace, set, transitions)?;
         self.add(target, origin)
     }
 
     /// The number of the set that a set leads to by the origin's value, which takes these test edges: the closure of the
     /// states that they lead to. Those are nearly always in order, and are copied only if they are not.
-    pub(super) fn closure(
+    pub(super) fn successor(
         &mut self,
         automata: &Automata,
         set: &ItemSet,
@@ -94,10 +94,10 @@ impl Sets {
         ensures kept { Extends self.old.kernels.list self.new.kernels.list }
     {
         if transitions.is_sorted() {
-            return self.closure_in_order(automata, set, transitions, origin);
+            return self.successor_in_order(automata, set, transitions, origin);
         }
         let mut sorted = transitions.to_vec(self.alloc)?;
         sorted.sort()?;
-        self.closure_in_order(automata, set, &sorted, origin)
+        self.successor_in_order(automata, set, &sorted, origin)
     }
 }

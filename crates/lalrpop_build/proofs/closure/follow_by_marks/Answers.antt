@@ -56,4 +56,4 @@ returns c =
     let all : marked c.args.pattern c.deref.result.now ≡ closed c.args.nfas.now c.args.given.now =
     ap (marked c.args.pattern) c.deref.ensures.value
     ∙ closing_done c.args.nfas.now c.args.given.now (marked c.args.pattern c.loop-item.worklist.marks.items) c.loop-item.worklist.pending.items (nil_from c.loop-item.worklist.pending.items empty) c.loop-item.invariant.closing in
-    subst (λ ys. OnOk c.push_marked.result (c.push_marked.new.found.items ≡ c.args.found.now.items ++ ys)) all c.push_marked.ensures
+    subst (λ ys. OnOk c.push_states.result (c.push_states.new.found.items ≡ c.args.found.now.items ++ ys)) all c.push_states.ensures

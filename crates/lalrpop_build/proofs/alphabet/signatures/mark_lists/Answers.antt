@@ -4,10 +4,10 @@ use Rattle.std.proofs.lemmas.Option.{slice_get_read}
 use Rattle.lalrpop_book.specs.Range.{Range}
 use Rattle.lalrpop_build.specs.declared.alphabet.Group.{Group}
 use Rattle.lalrpop_build.specs.declared.alphabet.groups.Labels.{Labels}
-use Rattle.lalrpop_build.specs.Internal.Signatures.{AreBare, Gained, CoversAny, EndsAt}
+use Rattle.lalrpop_build.specs.Internal.Signatures.{HaveNoClasses, Gained, CoversAny, EndsAt}
 use Rattle.std.specs.List.{Contains}
 use Rattle.std.specs.Prelude.{◌↔◌}
-use Rattle.lalrpop_build.proofs.Marking.{HaveEndsBelow, list_gained, group_ends, still_bare, none_signed, all_signed, all_ends, no_bare, no_ends}
+use Rattle.lalrpop_build.proofs.Marking.{HaveEndsBelow, list_gained, group_ends, still_no_classes, none_signed, all_signed, all_ends, no_classes_yet, no_ends}
 use Rattle.lalrpop_build.proofs.alphabet.signatures.mark_lists.Goals as goal
 
 pub loop-number-init : goal.loop-number-init
@@ -17,7 +17,7 @@ loop-number-init c =
       same_length = search rules;
       signed = none_signed c.args.boundaries.now c.args.lists.now c.in_ok-signatures.signatures.items (search rules) c.in_ok-signatures.ensures.none;
       ends = subst (HaveEndsBelow 0 c.args.lists.now c.args.boundaries.now) (sym none) (no_ends c.args.boundaries.now c.args.lists.now);
-      bare = subst AreBare (sym none) no_bare;
+      no_classes = subst HaveNoClasses (sym none) no_classes_yet;
     }
 
 pub mark_list-requires-clause-ends_in : goal.mark_list-requires-clause-ends_in
@@ -40,7 +40,7 @@ loop-number-preserved c =
       same_length = grind (arith, common_steps);
       signed = list_gained c.args.boundaries.now c.args.lists.now c.loop-number.number ls c.loop-number.signatures.items c.mark_list.new.signatures.items at c.loop-number.invariant.signed gained;
       ends = subst (HaveEndsBelow (c.loop-number.number + 1) c.args.lists.now c.args.boundaries.now) (sym pushed) (group_ends c.args.boundaries.now c.args.lists.now c.loop-number.number ls c.loop-number.groups.items group at c.loop-number.invariant.same_length c.loop-number.invariant.ends ends);
-      bare = subst AreBare (sym pushed) (still_bare c.loop-number.groups.items group c.loop-number.invariant.bare c.new.ensures.items);
+      no_classes = subst HaveNoClasses (sym pushed) (still_no_classes c.loop-number.groups.items group c.loop-number.invariant.no_classes c.new.ensures.items);
     }
 
 pub returns-clause-signed : goal.returns-clause-signed

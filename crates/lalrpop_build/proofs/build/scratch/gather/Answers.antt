@@ -36,7 +36,7 @@ returns c =
     let all : take c.loop-item.item-index c.args.items.now ≡ c.args.items.now = take_all c.loop-item.item-index c.args.items.now c.loop-item-test.false in
     record {
       boundaries = subst (λ (xs : List Item). AreBoundariesOf c.args.alphabet.now xs c.loop-item.boundaries.places.items) all c.loop-item.invariant.boundaries;
-      classes = all_gathered c.args.alphabet.now c.args.items.now c.args.edges.now.lists.items c.loop-item.edges.lists.items c.requires.classes c.requires.bare
+      classes = all_gathered c.args.alphabet.now c.args.items.now c.args.edges.now.lists.items c.loop-item.edges.lists.items c.requires.classes c.requires.no_edges
           (subst (λ (xs : List Item). Gained c.args.edges.now.lists.items c.loop-item.edges.lists.items (λ i x. Contains xs x.item × LeadsBy c.args.alphabet.now x.item.0 x.item.1 i x.to)) all c.loop-item.invariant.classes);
       marked = c.loop-item.invariant.marked;
       tidy = record {

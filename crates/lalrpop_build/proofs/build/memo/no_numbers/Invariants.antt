@@ -1,9 +1,0 @@
-use Rattle.std.proofs.Common.{◌≡◌, length}
-use Rattle.lalrpop_build.specs.Internal.Expansion.{IsEmptyMemo}
-use Rattle.lalrpop_build.proofs.build.memo.no_numbers.Given as goal
-
-abbrev pub invariant-loop : goal.invariant-loop
-invariant-loop l = record {
-  count : length l.numbers.items ≡ l.counter;
-  none : IsEmptyMemo l.numbers.items;
-}
