@@ -2,7 +2,6 @@
 mod Found
 mod Pieces
 mod CutToEnd
-mod LinearCutToEnd
 mod RuleSet
 mod RuleLine
 mod RuleFault

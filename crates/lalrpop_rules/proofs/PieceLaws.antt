@@ -11,7 +11,7 @@ use Rattle.lalrpop_lexer.specs.Rules.{Rules}
 use Rattle.lalrpop_book.specs.Tokens.{AreTokens}
 use Rattle.lalrpop_rules.specs.Found.{MatchesAt}
 use Rattle.lalrpop_rules.specs.Pieces.{IsFault, IsPiece, ArePieces, AreApart, slice_of, joined, up_to_fault}
-use Rattle.lalrpop_rules.specs.CutToEnd.{CutToEnd, uncut, left_text, pieces_left, GivesPiece}
+use Rattle.lalrpop_rules.specs.CutToEnd.{CutToEnd, Memo, uncut, left_text, pieces_left, GivesPiece}
 use Rattle.lalrpop_rules.specs.declared.item.Item.{Item}
 use Rattle.lalrpop_rules.specs.declared.item.Item.TheVariants.{Token, Skipped, Fault}
 use Rattle.lalrpop_rules.proofs.FirstMatches.{some_length, cut_behind, some_char}
@@ -126,22 +126,22 @@ tokens_of ts ps skips text at (Fault start slice ∷ xs) are =
 
 -- ---- from the start
 
-pub pieces_from_start : (s : CutToEnd) (rules : Rules) (skips : List Bool) (text : List ℕ) → s ≡ uncut rules skips text → (xs : List Item)
+pub pieces_from_start : (s : CutToEnd) (rules : Rules) (skips : List Bool) (text : List ℕ) (memo : Option Memo) → s ≡ uncut rules skips text memo → (xs : List Item)
     → Drains GivesPiece s xs → ArePieces rules.trees rules.precedences skips text 0 xs
-pieces_from_start s rules skips text e xs (u, (t, y, last)) =
+pieces_from_start s rules skips text memo e xs (u, (t, y, last)) =
     subst (λ (w : CutToEnd). ArePieces w.rules.trees w.rules.precedences w.skips w.text w.at xs) e (pieces_of s t u xs y last)
 
-pub parts_from_start : (s : CutToEnd) (rules : Rules) (skips : List Bool) (text : List ℕ) → s ≡ uncut rules skips text → (xs : List Item) (t : CutToEnd)
+pub parts_from_start : (s : CutToEnd) (rules : Rules) (skips : List Bool) (text : List ℕ) (memo : Option Memo) → s ≡ uncut rules skips text memo → (xs : List Item) (t : CutToEnd)
     → Yields GivesPiece s xs t → text ≡ joined xs ++ left_text t
-parts_from_start s rules skips text e xs t y = sym (ap (λ (w : CutToEnd). left_text w) e) ∙ parts_of s t xs y
+parts_from_start s rules skips text memo e xs t y = sym (ap (λ (w : CutToEnd). left_text w) e) ∙ parts_of s t xs y
 
-pub whole_from_start : (s : CutToEnd) (rules : Rules) (skips : List Bool) (text : List ℕ) → s ≡ uncut rules skips text → (xs : List Item)
+pub whole_from_start : (s : CutToEnd) (rules : Rules) (skips : List Bool) (text : List ℕ) (memo : Option Memo) → s ≡ uncut rules skips text memo → (xs : List Item)
     → Drains GivesPiece s xs → joined xs ≡ text
-whole_from_start s rules skips text e xs (u, (t, y, last)) =
-    sym (append-nil (joined xs)) ∙ ap (λ (r : List ℕ). joined xs ++ r) (sym last.1) ∙ sym (parts_from_start s rules skips text e xs t y)
+whole_from_start s rules skips text memo e xs (u, (t, y, last)) =
+    sym (append-nil (joined xs)) ∙ ap (λ (r : List ℕ). joined xs ++ r) (sym last.1) ∙ sym (parts_from_start s rules skips text memo e xs t y)
 
-pub count_from_start : (s : CutToEnd) (rules : Rules) (skips : List Bool) (text : List ℕ) → s ≡ uncut rules skips text → IsUtf8 text → (xs : List Item)
+pub count_from_start : (s : CutToEnd) (rules : Rules) (skips : List Bool) (text : List ℕ) (memo : Option Memo) → s ≡ uncut rules skips text memo → IsUtf8 text → (xs : List Item)
     (t : CutToEnd) → Yields GivesPiece s xs t → length xs ≤ length (chars text)
-count_from_start s rules skips text e u xs t y =
+count_from_start s rules skips text memo e u xs t y =
     let left : pieces_left s ≡ length (chars text) = ap (λ (w : CutToEnd). pieces_left w) e in
     omega (arith, left, count_of s t xs (subst (λ (w : CutToEnd). IsUtf8 (left_text w)) (sym e) u) y)

@@ -1,21 +1,30 @@
 -- cases: proofs/Cases/CutToEnd.antt
--- What one call gives while a text is cut to its end.
-use Rattle.std.specs.Prelude.{◌≡◌, ℕ, ◌+◌, Bool, List, [], length, drop, Option, Some, None}
+-- What one call gives while a text is cut to its end, and what it costs with a memo.
+use Rattle.std.specs.Prelude.{◌≡◌, ℕ, ◌+◌, ◌*◌, ◌≤◌, Bool, List, [], length, drop, Option, Some, None}
 use Rattle.std.specs.Str.{chars}
 use Rattle.lalrpop_lexer.specs.Rules.{Rules}
 use Rattle.lalrpop_rules.specs.Pieces.{IsPiece, slice_of}
 use Rattle.lalrpop_rules.specs.declared.item.Item.{Item}
 
--- a text that is cut: by which rules, which of them are skipped, and where its rest begins, in bytes
+-- what a memo has left: how many characters of the text come after the last match that was found, and how many may still be read
+-- besides those of the matches and 64 for each call
+pub record Memo : Type 0 where
+  pub unsought : ℕ
+  pub spare : ℕ
+
+-- a text that is cut: by which rules, which of them are skipped, and where its rest begins, in bytes; with or without a memo; and how
+-- many characters have been read with the memo so far, each counted as often as it was read
 pub record CutToEnd : Type 0 where
   pub rules : Rules
   pub skips : List Bool
   pub text : List ℕ
   pub at : ℕ
+  pub memo : Option Memo
+  pub steps : ℕ
 
 -- nothing is cut yet
-abbrev pub uncut : Rules → List Bool → List ℕ → CutToEnd
-uncut rules skips text = record { rules = rules; skips = skips; text = text; at = 0 }
+abbrev pub uncut : Rules → List Bool → List ℕ → Option Memo → CutToEnd
+uncut rules skips text memo = record { rules = rules; skips = skips; text = text; at = 0; memo = memo; steps = 0 }
 
 -- the rest of the text
 abbrev pub left_text : CutToEnd → List ℕ
@@ -25,9 +34,21 @@ left_text s = drop s.at s.text
 abbrev pub pieces_left : CutToEnd → ℕ
 pieces_left s = length (chars (left_text s))
 
--- what one call gives: nothing if no rest is left; otherwise the piece at the front of the rest, and the new rest begins after it
+-- the steps so far, and what is left to pay for more: 65 for each character after the last match, and those to spare
+abbrev pub with_credit : ℕ → Memo → ℕ
+with_credit steps m = steps + 65 * m.unsought + m.spare
+
+-- a memo neither comes nor goes; with one, what was left pays for the characters that are read, and without one no step is counted
+abbrev pub IsPaid : ℕ → Option Memo → ℕ → Option Memo → Type 0
+IsPaid before None after None = after ≡ before
+IsPaid before (Some m) after (Some n) = with_credit after n ≤ with_credit before m
+IsPaid _ _ _ _ = ⊥
+
+-- what one call gives: nothing, and nothing changes, if no rest is left; otherwise the piece at the front of the rest, which is paid for,
+-- and the new rest begins after it
 abbrev pub GivesPiece : CutToEnd → Option Item → CutToEnd → Type 0
 GivesPiece old None new = (new ≡ old) × (left_text old ≡ [])
 GivesPiece old (Some item) new =
     IsPiece old.rules.trees old.rules.precedences old.skips old.text old.at item
-    × (new ≡ record old { at = old.at + length (slice_of item) })
+    × (new ≡ record old { at = old.at + length (slice_of item); memo = new.memo; steps = new.steps })
+    × IsPaid old.steps old.memo new.steps new.memo

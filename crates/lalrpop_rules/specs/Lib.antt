@@ -1,7 +1,6 @@
 pub mod Found
 pub mod Pieces
 pub mod CutToEnd
-pub mod LinearCutToEnd
 pub mod RuleSet
 -- a file of rules
 pub mod RuleLine

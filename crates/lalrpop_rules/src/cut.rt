@@ -18,7 +18,7 @@ use lalrpop_lexer::Lexer;
 /// It takes no memory, and there are at most as many pieces as the text has characters. Each fault is found by `find`, at
 /// its cost.
 pub fn items<'text>(lexer: &'text Lexer, skipped: &'text [bool], text: &'text str) -> Items<'text>
-    ensures start { result ≡ uncut lexer.now skipped.now text.now }
+    ensures start { result ≡ uncut lexer.now skipped.now text.now None }
     ensures items { (xs : List ItemValue) → Drains GivesPiece result xs
         → ArePieces lexer.now.trees lexer.now.precedences skipped.now text.now 0 xs }
     ensures whole { (xs : List ItemValue) → Drains GivesPiece result xs → joined xs ≡ text.now }

@@ -11,13 +11,12 @@ ghost use Rattle.lalrpop_rules.specs.Found.{IsFound, NothingFound};
 ghost use Rattle.lalrpop_rules.specs.Pieces.{ArePieces, AreApart, joined, up_to_fault};
 ghost use Rattle.lalrpop_rules.specs.CutToEnd.{CutToEnd, uncut, left_text, GivesPiece};
 ghost use Rattle.lalrpop_lexer.specs.Matching.{open_states};
-ghost use Rattle.lalrpop_rules.specs.LinearCutToEnd.{LinearCutToEnd, GivesLinearPiece};
 ghost use Rattle.lalrpop_rules.specs.RuleSet.{AreTrees, IsRulesError, names_of, precedences_of, skips_of, recognized};
 ghost use Rattle.lalrpop_rules.specs.Internal.Reported.{NamesPattern, as_patterns};
 ghost use Rattle.lalrpop_rules.specs.declared.item.Item.{Item as ItemValue};
 
 use crate::error::RulesError;
-use crate::linear_items::LinearItems;
+use crate::item::Item;
 use crate::pieces::Items;
 use crate::reading::{name_list, patterns_of, skip_list};
 use crate::rule::Rule;
@@ -64,7 +63,7 @@ impl Model for RuleLexer {
 }
 
 // The error of the rules for an error of their patterns.
-fn reported(error: LexerError) -> RulesError
+fn rules_error(error: LexerError) -> RulesError
     requires listed { NamesPattern error }
     ensures same { error ≡ as_patterns result }
 {
@@ -122,7 +121,7 @@ impl RuleLexer {
                 skips,
                 lexer,
             }),
-            Err(error) => Err(reported(error)),
+            Err(error) => Err(rules_error(error)),
         }
     }
 
@@ -172,7 +171,7 @@ impl RuleLexer {
     ///
     /// It takes no memory, and there are at most as many pieces as the text has characters.
     pub fn items<'text>(&'text self, text: &'text str) -> Items<'text>
-        ensures start { result ≡ uncut (recognized self.now) self.now.skips text.now }
+        ensures start { result ≡ uncut (recognized self.now) self.now.skips text.now None }
         ensures items { (xs : List ItemValue) → Drains GivesPiece result xs
             → ArePieces self.now.trees self.now.precedences self.now.skips text.now 0 xs }
         ensures whole { (xs : List ItemValue) → Drains GivesPiece result xs
@@ -202,25 +201,51 @@ impl RuleLexer {
         &'text self,
         alloc: Global,
         text: &'text str,
-    ) -> Result<LinearItems<'text>, AllocError>
-        ensures start { IfOk result (λ s. (s.steps ≡ 0)
-            × (s.cut ≡ uncut (recognized self.now) self.now.skips text.now)) }
-        ensures items { IfOk result (λ s. (xs : List ItemValue) → Drains GivesLinearPiece s xs
+    ) -> Result<Items<'text>, AllocError>
+        ensures start { IfOk result (λ s.
+            s ≡ uncut (recognized self.now) self.now.skips text.now s.memo) }
+        ensures memo { IfOk result (λ s. IsSome s.memo) }
+        ensures items { IfOk result (λ s. (xs : List ItemValue) → Drains GivesPiece s xs
             → ArePieces self.now.trees self.now.precedences self.now.skips text.now 0 xs) }
-        ensures whole { IfOk result (λ s. (xs : List ItemValue) → Drains GivesLinearPiece s xs
+        ensures whole { IfOk result (λ s. (xs : List ItemValue) → Drains GivesPiece s xs
             → joined xs ≡ text.now) }
-        ensures apart { IfOk result (λ s. (xs : List ItemValue) → Drains GivesLinearPiece s xs
+        ensures apart { IfOk result (λ s. (xs : List ItemValue) → Drains GivesPiece s xs
             → AreApart xs) }
-        ensures tokens { IfOk result (λ s. (xs : List ItemValue) → Drains GivesLinearPiece s xs
+        ensures tokens { IfOk result (λ s. (xs : List ItemValue) → Drains GivesPiece s xs
             → AreTokens self.now.trees self.now.precedences text.now 0 (up_to_fault xs)) }
-        ensures parts { IfOk result (λ s. (xs : List ItemValue) (t : LinearCutToEnd)
-            → Yields GivesLinearPiece s xs t → text.now ≡ joined xs ++ left_text t.cut) }
-        ensures count { IfOk result (λ s. (xs : List ItemValue) (t : LinearCutToEnd)
-            → Yields GivesLinearPiece s xs t → length xs ≤ length (chars text.now)) }
-        ensures cost { IfOk result (λ s. (xs : List ItemValue) (t : LinearCutToEnd)
-            → Yields GivesLinearPiece s xs t → t.steps ≤ 66 * length (chars text.now)
+        ensures parts { IfOk result (λ s. (xs : List ItemValue) (t : CutToEnd)
+            → Yields GivesPiece s xs t → text.now ≡ joined xs ++ left_text t) }
+        ensures count { IfOk result (λ s. (xs : List ItemValue) (t : CutToEnd)
+            → Yields GivesPiece s xs t → length xs ≤ length (chars text.now)) }
+        ensures cost { IfOk result (λ s. (xs : List ItemValue) (t : CutToEnd)
+            → Yields GivesPiece s xs t → t.steps ≤ 66 * length (chars text.now)
             + length text.now + open_states self.now.automaton * (length text.now + 64)) }
     {
-        LinearItems::new(alloc, self, text)
+        Items::with_memo(alloc, self.lexer(), self.skips(), text)
+    }
+
+    /// All pieces that `items` gives, in one list. They are found in linear time, by `items_linear`.
+    ///
+    /// # Errors
+    ///
+    /// `AllocError` if a request for memory was refused.
+    pub fn item_list<'text>(
+        &'text self,
+        alloc: Global,
+        text: &'text str,
+    ) -> Result<Vec<Item<'text>>, AllocError>
+        ensures all { IfOk result (λ list. ArePieces self.now.trees self.now.precedences
+            self.now.skips text.now 0 list.items) }
+    {
+        let mut items = self.items_linear(alloc, text)?;
+        let mut list = Vec::new(alloc);
+        'listing: while let Some(item) = items.next() {
+            // A refused `push` hands its piece back, which `?` would have to convert.
+            match list.push(item) {
+                Ok(()) => {}
+                Err(_) => return Err(AllocError),
+            }
+        }
+        Ok(list)
     }
 }

@@ -1,6 +1,6 @@
 //! The first match in what is left of a text, found in linear time.
 
-ghost use Rattle.std.specs.Prelude.{◌≡◌, ℕ, ◌+◌, ◌≤◌, List, Some, IfSome, IfNone};
+ghost use Rattle.std.specs.Prelude.{◌≡◌, ℕ, ◌+◌, ◌≤◌, List};
 ghost use Rattle.lalrpop_book.specs.Tree.{Tree};
 ghost use Rattle.lalrpop_lexer.specs.Matching.{rest_of};
 ghost use Rattle.lalrpop_lexer.specs.Rules.{IsBuiltFrom};
@@ -9,9 +9,12 @@ ghost use Rattle.lalrpop_rules.specs.Internal.FirstMatch.{IsFirstMatch, bytes_pa
 use lalrpop_lexer::lexer::nfa::Steps;
 use lalrpop_lexer::{LinearMatches, Token};
 
-// The token at the first place of the rest where some pattern matches, with its start counted from where the rest began. The
-// new rest begins after the token. `None` if no pattern matches anywhere in the rest; then no rest is left.
-fn find_next<'text>(matches: &mut LinearMatches<'text>, steps: &mut Steps) -> Option<Token<'text>>
+/// The token at the first place of the rest where some pattern matches, with its start counted from where the rest began. The
+/// new rest begins after the token. `None` if no pattern matches anywhere in the rest; then no rest is left.
+pub(crate) fn find_next<'text>(
+    matches: &mut LinearMatches<'text>,
+    steps: &mut Steps,
+) -> Option<Token<'text>>
     ensures found { (ts : List Tree) (ps : List ℕ) → IsBuiltFrom ts ps matches.old.automaton
         → IsFirstMatch ts ps (rest_of matches.old) result }
     ensures goes_on { matches.new ≡ record matches.old {
@@ -31,28 +34,4 @@ fn find_next<'text>(matches: &mut LinearMatches<'text>, steps: &mut Steps) -> Op
         matches.pass_char();
     }
     None
-}
-
-/// Takes the match that is kept. If there is none, it finds one, as `find_next` does.
-pub(crate) fn take_or_find<'text>(
-    kept: &mut Option<Token<'text>>,
-    matches: &mut LinearMatches<'text>,
-    steps: &mut Steps,
-) -> Option<Token<'text>>
-    ensures same { IfSome kept.old (λ token. (result ≡ Some token)
-        × (matches.new ≡ matches.old) × (steps.new ≡ steps.old)) }
-    ensures found { IfNone kept.old ((ts : List Tree) (ps : List ℕ)
-        → IsBuiltFrom ts ps matches.old.automaton
-        → IsFirstMatch ts ps (rest_of matches.old) result) }
-    ensures goes_on { IfNone kept.old (matches.new ≡ record matches.old {
-      at = matches.old.at + bytes_passed (rest_of matches.old) result;
-      spare = matches.new.spare;
-    }) }
-    ensures paid { IfNone kept.old
-        (steps.new + credit_of matches.new ≤ steps.old + credit_of matches.old) }
-{
-    match kept.take() {
-        Some(token) => Some(token),
-        None => find_next(matches, steps),
-    }
 }

@@ -1,4 +1,4 @@
-use Rattle.std.proofs.Common.{◌≡◌, ℕ, ◌+◌, ◌*◌, ◌≤◌, List, length, refl, sym, ap, subst, ◌∙◌, arith}
+use Rattle.std.proofs.Common.{◌≡◌, ℕ, ◌+◌, List, sym, ap, subst, ◌∙◌, arith}
 use Rattle.std.specs.Prelude.{Some, None}
 use Rattle.std.specs.Str.{IsUtf8}
 use Rattle.std.specs.Str.Iter.{char_indices_rest, char_indices_offset}
@@ -7,7 +7,7 @@ use Rattle.lalrpop_book.specs.Tree.{Tree}
 use Rattle.lalrpop_lexer.specs.Dfa.{Row, Recognizes}
 use Rattle.lalrpop_lexer.specs.Matching.{Matching, rest_of}
 use Rattle.lalrpop_lexer.specs.Rules.{IsBuiltFrom}
-use Rattle.lalrpop_nfa.proofs.Cuts.{IsCut, cut_more, cut_within}
+use Rattle.lalrpop_nfa.proofs.Cuts.{cut_more, cut_within}
 use Rattle.lalrpop_rules.proofs.FirstMatches.{before_next, nothing_found}
 use Rattle.lalrpop_rules.proofs.Seeking.{passed_on, left_there, found_there, pass_pays, match_pays, passed_char}
 use Rattle.lalrpop_rules.proofs.seek.find_next.Goals as goal
