@@ -17,6 +17,14 @@ use std::marker::Model;
 ///
 /// The match right after a fault is kept for the next call. With a memo each match is found once, in linear time: then a step is
 /// counted for each character the automaton reads, as often as it reads it. Only contracts see the steps.
+///
+/// ```
+/// use lalrpop_rules::{Rule, RuleLexer};
+///
+/// let rules = [Rule::literal("IF", "if"), Rule::pattern("SPACE", " +").skipped()];
+/// let lexer = RuleLexer::from_rules(alloc, &rules)?;
+/// let mut items = lexer.items("if if!"); // Token "if", Skipped " ", Token "if", Fault "!"
+/// ```
 #[derive(Drop)]
 #[derive_where(Debug)]
 pub struct Items<'text> {
