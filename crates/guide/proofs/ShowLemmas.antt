@@ -4,8 +4,9 @@ use Rattle.std.specs.Prelude.{Some, None, Result, Ok}
 use Rattle.std.specs.List.{list_all, AllPass}
 use Rattle.std.proofs.lemmas.Bool.{not-true}
 use Rattle.std.proofs.lemmas.List.Sums.{AllPass-from_list_all}
-use Rattle.lalrpop_lexer.specs.Cutting.{Cutting, start_of, rest_of}
-use Rattle.lalrpop_lexer.specs.LexerTokens.{GivesToken}
+use Rattle.lalrpop_lexer.specs.Cutting.{Cutting, rest_of}
+use Rattle.lalrpop_lexer.specs.Dfa.{Row}
+use Rattle.lalrpop_lexer.specs.LexerTokens.{LexerCutting, lexer_start, CutsToken}
 use Rattle.lalrpop_lexer.specs.declared.Token.{Token}
 use Rattle.lalrpop_lexer.specs.declared.TokenFault.{TokenFault}
 use Rattle.lalrpop_lexer.proofs.Cuttings.{rest_behind}
@@ -36,18 +37,18 @@ pub record ShowsFront (shown text : List ℕ) (s : Cutting) : Type 0 where
   pub parts : text ≡ front ++ rest_of s
   pub going : s.is_over ≡ false
 
-pub front-start : (shown : List ℕ) (s r : Cutting) (text : List ℕ) → shown ≡ [] → r ≡ s → s ≡ start_of s.automaton text → ShowsFront shown text r
-front-start shown s r text none same e = record {
+pub front-start : (shown : List ℕ) (s r : LexerCutting) (d : List Row) (text : List ℕ) → shown ≡ [] → r ≡ s → s ≡ lexer_start d text None → ShowsFront shown text r.cutting
+front-start shown s r d text none same e = record {
   front = [];
   shows = λ rest. ap (λ (l : List ℕ). without_marks (l ++ rest)) none;
-  parts = sym (ap (λ (x : Cutting). rest_of x) (same ∙ e));
-  going = ap (λ (x : Cutting). x.is_over) (same ∙ e);
+  parts = sym (ap (λ (x : LexerCutting). rest_of x.cutting) (same ∙ e));
+  going = ap (λ (x : LexerCutting). x.cutting.is_over) (same ∙ e);
 }
 
-pub front-more : (old new text : List ℕ) (s t : Cutting) (x : Result Token TokenFault) (token : Token) → ShowsFront old text s → x ≡ Ok token → GivesToken s (Some x) t
+pub front-more : (old new text : List ℕ) (s t : Cutting) (x : Result Token TokenFault) (token : Token) → ShowsFront old text s → x ≡ Ok token → CutsToken s (Some x) t
     → ((front : List ℕ) → Shows old front → Shows new (front ++ token.slice.now)) → ShowsFront new text t
 front-more old new text s t x token h is gives step =
-    let g : GivesToken s (Some (Ok token)) t = rw is at gives in
+    let g : CutsToken s (Some (Ok token)) t = rw is at gives in
     let slice = token.slice.now in
     let split : rest_of s ≡ slice ++ rest_of t = rest_behind s t slice g.1.1 g.1.4 in
     record {
@@ -58,7 +59,7 @@ front-more old new text s t x token h is gives step =
     }
 
 -- where no token follows, that is the whole text
-pub front-whole : (shown text : List ℕ) (s t : Cutting) → ShowsFront shown text s → GivesToken s None t → without_marks shown ≡ text
+pub front-whole : (shown text : List ℕ) (s t : Cutting) → ShowsFront shown text s → CutsToken s None t → without_marks shown ≡ text
 front-whole shown text s t h (same, end) = elim end [
   | inl over ↦ (let going = h.going in absurd (cc (over, going)))
   | inr none ↦ ap without_marks (sym (append-nil shown)) ∙ h.shows [] ∙ sym (ap (λ (l : List ℕ). h.front ++ l) none) ∙ sym h.parts

@@ -165,6 +165,7 @@ pub(crate) fn longest_within_by<'text, C: Cells>(
         IsLongest ts ps text.now (option_map (λ m. (m.0, m.1.now)) s.longest)) }
     ensures prefix { IfSome result (λ s. IfSome s.longest (λ m.
         IsPrefix m.1.now text.now × (m.1.now ≢ []))) }
+    ensures never_falls { steps.old ≤ steps.new }
     ensures limit { steps.new ≤ steps.old + limit }
     ensures past { IfSome result (λ s. MatchOption s.longest (steps.new ≤ steps.old + s.past)
         (λ m. steps.new ≤ steps.old + length (chars m.1.now) + s.past)) }

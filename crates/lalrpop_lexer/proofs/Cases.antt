@@ -8,7 +8,4 @@ mod Spelled
 mod Lines
 pub mod Line
 pub mod Terminals
-mod Counting
-mod LinearCutting
-mod BoundedCutting
 pub mod Matching

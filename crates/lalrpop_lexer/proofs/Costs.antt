@@ -1,25 +1,17 @@
 -- What the characters that are cut off a text pay for.
-use Rattle.std.proofs.Common.{◌≡◌, ◌≢◌, ℕ, zero, suc, ◌+◌, ◌*◌, ◌<◌, ◌≤◌, true, false, List, [], ◌∷◌, ◌++◌, length, arith, refl, sym, ap, subst, ◌∙◌, length-append}
-use Rattle.std.specs.Prelude.{Option, Some, None, Result, Ok, Err}
-use Rattle.std.specs.Iterator.{Yields, Drains}
+use Rattle.std.proofs.Common.{◌≡◌, ◌≢◌, ℕ, zero, suc, ◌+◌, ◌*◌, ◌<◌, ◌≤◌, true, false, List, [], ◌++◌, length, arith, sym, ap, ◌∙◌, length-append}
+use Rattle.std.specs.Prelude.{Option, Some, None, Ok, Err, IfSome}
+use Rattle.std.specs.Option.{option_map}
 use Rattle.std.specs.Str.{chars, IsUtf8}
 use Rattle.std.proofs.lemmas.Str.{chars-append}
-use Rattle.lalrpop_book.specs.Tree.{Tree}
 use Rattle.lalrpop_book.specs.Prefix.{IsPrefix}
-use Rattle.lalrpop_dfa.specs.Dfa.{Row}
-use Rattle.lalrpop_dfa.specs.Lookahead.{LooksAtMost}
-use Rattle.lalrpop_lexer.specs.Cutting.{Cutting, start_of, rest_of, left_of, GivesItem}
-use Rattle.lalrpop_book.specs.Tokens.{Item}
-use Rattle.lalrpop_lexer.specs.LexerTokens.{GivesToken}
-use Rattle.lalrpop_book.specs.Tokens.{AreTokens, bare}
-use Rattle.lalrpop_lexer.specs.Counting.{Counting, counting_of, GivesCounted}
-use Rattle.lalrpop_lexer.specs.Rules.{IsBuiltFrom}
 use Rattle.lalrpop_book.specs.declared.token.Token.{Token}
 use Rattle.lalrpop_book.specs.declared.token.TokenFault.{TokenFault}
-use Rattle.lalrpop_lexer.proofs.Cuttings.{rest_behind, left_on, left_over, some_char}
-use Rattle.lalrpop_lexer.proofs.LexerCuttings.{tokens_from_start}
-
--- ---- one call
+use Rattle.lalrpop_dfa.specs.Lookahead.{LooksAtMost}
+use Rattle.lalrpop_lexer.specs.Matching.{characters_of}
+use Rattle.lalrpop_lexer.specs.Cutting.{Cutting, rest_of, left_of, IsNext, GivesItem}
+use Rattle.lalrpop_lexer.specs.LexerTokens.{LexerCutting, IsPaidBy, GivesToken}
+use Rattle.lalrpop_lexer.proofs.Cuttings.{fewer, rest_behind, left_on, left_over, some_char}
 
 -- `a` characters are cut off, and `b` are left
 pays : (n a b before after : ℕ) → 0 < a → after ≤ before + a + n + 1 → after + (n + 2) * b ≤ before + (n + 2) * (a + b)
@@ -28,7 +20,7 @@ pays n (suc k) b before after some more =
     let e : (n + 2) * (suc k + b) ≡ (n + 2) + (n * k + 2 * k) + (n + 2) * b = grind arith in
     omega arith
 
-pub token_pays : (s t : Cutting) (m : List ℕ) (before after n : ℕ) → IsUtf8 (rest_of s) → s.is_over ≡ false → IsPrefix m (rest_of s) → m ≢ []
+token_pays : (s t : Cutting) (m : List ℕ) (before after n : ℕ) → IsUtf8 (rest_of s) → s.is_over ≡ false → IsPrefix m (rest_of s) → m ≢ []
     → t ≡ record s { at = s.at + length m } → after ≤ before + length (chars m) + n + 1 → after + (n + 2) * left_of t ≤ before + (n + 2) * left_of s
 token_pays s t m before after n u on b some e more =
     let split : rest_of s ≡ m ++ rest_of t = rest_behind s t m b e in
@@ -38,7 +30,7 @@ token_pays s t m before after n u on b some e more =
     ∙ ap (λ (k : ℕ). length (chars m) + k) (sym (left_on t still)) in
     rw count (pays n (length (chars m)) (left_of t) before after (some_char m b.1.1 some) more)
 
-pub fault_pays : (s t : Cutting) (before after n : ℕ) → s.is_over ≡ false → t ≡ record s { is_over = true } → after ≤ before + length (chars (rest_of s))
+fault_pays : (s t : Cutting) (before after n : ℕ) → s.is_over ≡ false → t ≡ record s { is_over = true } → after ≤ before + length (chars (rest_of s))
     → after + (n + 2) * left_of t ≤ before + (n + 2) * left_of s
 fault_pays s t before after n on e more =
     let none : left_of t ≡ 0 = left_over t (ap (λ (x : Cutting). x.is_over) e) in
@@ -48,32 +40,69 @@ fault_pays s t before after n on e more =
     at : (b : ℕ) → after ≤ before + b → after + (n + 2) * 0 ≤ before + (n + 2) * b
     at b h = let e : (n + 2) * b ≡ n * b + 2 * b = grind arith in let z : (n + 2) * 0 ≡ 0 = grind arith in omega arith
 
--- ---- call after call
+-- ---- with a memo
+linear_token : (s t : Cutting) (m : List ℕ) (before after spare spare2 : ℕ) → IsUtf8 (rest_of s) → s.is_over ≡ false → IsPrefix m (rest_of s) → m ≢ []
+    → t ≡ record s { at = s.at + length m } → after + spare2 ≤ before + length (chars m) + spare + 64
+    → after + 65 * left_of t + spare2 ≤ before + 65 * left_of s + spare
+linear_token s t m before after spare spare2 u on b some e more =
+    let pays : after + spare2 + (63 + 2) * left_of t ≤ before + spare + (63 + 2) * left_of s =
+    token_pays s t m (before + spare) (after + spare2) 63 u on b some e (omega arith) in
+    omega (arith, pays)
 
-same_automaton : (s t : Cutting) (x : Result Token TokenFault) → GivesToken s (Some x) t → t.automaton ≡ s.automaton
-same_automaton s t (Ok token) g = ap (λ (x : Cutting). x.automaton) g.1.4
-same_automaton s t (Err fault) g = ap (λ (x : Cutting). x.automaton) g.4
+linear_fault : (s t : Cutting) (before after spare spare2 : ℕ) → IsUtf8 (rest_of s) → s.is_over ≡ false → rest_of s ≢ [] → t ≡ record s { is_over = true }
+    → after + spare2 ≤ before + spare + 64 → after + 65 * left_of t + spare2 ≤ before + 65 * left_of s + spare
+linear_fault s t before after spare spare2 u on some e more =
+    let none : left_of t ≡ 0 = left_over t (ap (λ (x : Cutting). x.is_over) e) in
+    let all : left_of s ≡ length (chars (rest_of s)) = left_on s on in
+    omega (arith, none, all, some_char (rest_of s) u some)
 
-pub bare_of_steps : (s t : Counting) (xs : List (Result Token TokenFault)) → Yields GivesCounted s xs t → Yields GivesToken s.cutting xs t.cutting
-bare_of_steps s t [] y = ap (λ (x : Counting). x.cutting) y
-bare_of_steps s t (x ∷ xs) (j, g, y) = (j.cutting, g.0, bare_of_steps j t xs y)
+-- ---- in both ways
 
-paid_for : (s t : Counting) (xs : List (Result Token TokenFault)) (n : ℕ) → Yields GivesCounted s xs t → LooksAtMost s.cutting.automaton n
-    → t.steps + (n + 2) * left_of t.cutting ≤ s.steps + (n + 2) * left_of s.cutting
-paid_for s t [] n y most = subst (λ (x : Counting). x.steps + (n + 2) * left_of x.cutting ≤ s.steps + (n + 2) * left_of s.cutting) y (omega arith)
-paid_for s t (x ∷ xs) n (j, g, y) most =
-    let still : LooksAtMost j.cutting.automaton n = subst (λ (d : List Row). LooksAtMost d n) (sym (same_automaton s.cutting j.cutting x g.0)) most in
-    omega (arith, g.2 n most, paid_for j t xs n y still)
+-- what is read to find a match, with a memo or without
+abbrev pub Reads : LexerCutting → Option ℕ → Option ℕ → Option (List ℕ) → ℕ → Type 0
+Reads s None None m steps =
+    (steps ≤ s.steps + length (chars (rest_of s.cutting)))
+    × ((n : ℕ) → LooksAtMost s.cutting.automaton n → IfSome m (λ x. steps ≤ s.steps + length (chars x) + n + 1))
+Reads s (Some before) (Some after) m steps = steps + after ≤ s.steps + characters_of m + before + 64
+Reads s _ _ m steps = ⊥
 
--- ---- from the start
+-- the longest match of the rest is found
+pub record IsFound (s : LexerCutting) (m : Option (ℕ × List ℕ)) (spare : Option ℕ) (steps : ℕ) : Type 0 where
+  pub next : IsNext s.cutting m
+  pub prefix : IfSome m (λ x. IsPrefix x.1 (rest_of s.cutting) × (x.1 ≢ []))
+  pub never_falls : s.steps ≤ steps
+  pub reads : Reads s s.spare spare (option_map (λ x. x.1) m) steps
 
-pub cost_from_start : (s : Counting) (d : List Row) (text : List ℕ) → s ≡ counting_of d text → (xs : List (Result Token TokenFault)) (t : Counting)
-    → Yields GivesCounted s xs t → (n : ℕ) → LooksAtMost d n → t.steps ≤ (n + 2) * length (chars text)
-cost_from_start s d text e =
-    subst (λ (s : Counting). (xs : List (Result Token TokenFault)) (t : Counting) → Yields GivesCounted s xs t → (n : ℕ) → LooksAtMost d n → t.steps ≤ (n + 2) * length (chars text)) (sym e)
-    (λ xs t y n most. omega (arith, paid_for (counting_of d text) t xs n y most))
+-- it pays for what was read
+token_paid : (a b : Option ℕ) (s t : LexerCutting) (m : List ℕ) → IsUtf8 (rest_of s.cutting) → s.cutting.is_over ≡ false → IsPrefix m (rest_of s.cutting) → m ≢ []
+    → t.cutting ≡ record s.cutting { at = s.cutting.at + length m } → Reads s a b (Some m) t.steps → IsPaidBy a b s t
+token_paid None None s t m u on p some e reads = λ n most. token_pays s.cutting t.cutting m s.steps t.steps n u on p some e (reads.1 n most)
+token_paid (Some a) (Some b) s t m u on p some e reads = linear_token s.cutting t.cutting m s.steps t.steps a b u on p some e reads
+token_paid None (Some b) s t m u on p some e reads = reads
+token_paid (Some a) None s t m u on p some e reads = reads
 
-pub counted_from_start : (s : Counting) (ts : List Tree) (ps : List ℕ) (d : List Row) (text : List ℕ) → s ≡ counting_of d text → IsBuiltFrom ts ps d
-    → (xs : List (Result Token TokenFault)) → Drains GivesCounted s xs → AreTokens ts ps text 0 xs
-counted_from_start s ts ps d text e built xs (u, (t, y, last)) =
-    tokens_from_start s.cutting ts ps d text (ap (λ (x : Counting). x.cutting) e) built xs (u.cutting, (t.cutting, bare_of_steps s t xs y, last.0))
+fault_paid : (a b : Option ℕ) (s t : LexerCutting) → IsUtf8 (rest_of s.cutting) → s.cutting.is_over ≡ false → rest_of s.cutting ≢ []
+    → t.cutting ≡ record s.cutting { is_over = true } → Reads s a b None t.steps → IsPaidBy a b s t
+fault_paid None None s t u on some e reads = λ n most. fault_pays s.cutting t.cutting s.steps t.steps n on e reads.0
+fault_paid (Some a) (Some b) s t u on some e reads = linear_fault s.cutting t.cutting s.steps t.steps a b u on some e (omega (arith, reads))
+fault_paid None (Some b) s t u on some e reads = reads
+fault_paid (Some a) None s t u on some e reads = reads
+
+-- so one call gives the token that is found, and leaves less
+pub token_given : (s t : LexerCutting) (token : Token) → IsUtf8 (rest_of s.cutting) → s.cutting.is_over ≡ false → token.start ≡ s.cutting.at
+    → IsFound s (Some (token.index, token.slice.now)) t.spare t.steps → t.cutting ≡ record s.cutting { at = s.cutting.at + length token.slice.now }
+    → GivesToken s (Some (Ok token)) t × (left_of t.cutting < left_of s.cutting)
+token_given s t token u on start found e =
+    let cut : GivesItem s.cutting (Some (Ok (token.index, token.slice))) t.cutting = (on, found.prefix.0, found.prefix.1, found.next, e) in (
+      ((start, cut), found.never_falls, token_paid s.spare t.spare s t token.slice.now u on found.prefix.0 found.prefix.1 e found.reads, tt),
+      fewer s.cutting t.cutting (Ok (token.index, token.slice)) u cut,
+    )
+
+-- or the fault where none is
+pub fault_given : (s t : LexerCutting) (fault : TokenFault) → IsUtf8 (rest_of s.cutting) → s.cutting.is_over ≡ false → rest_of s.cutting ≢ [] → fault.at ≡ s.cutting.at
+    → IsFound s None t.spare t.steps → t.cutting ≡ record s.cutting { is_over = true } → GivesToken s (Some (Err fault)) t × (left_of t.cutting < left_of s.cutting)
+fault_given s t fault u on some at found e =
+    let cut : GivesItem s.cutting (Some (Err fault)) t.cutting = (on, some, at, found.next, e) in (
+      (cut, found.never_falls, fault_paid s.spare t.spare s t u on some e found.reads, tt),
+      fewer s.cutting t.cutting (Err fault) u cut,
+    )

@@ -4,8 +4,8 @@ pub mod Cuttings
 pub mod LexerCuttings
 pub mod TokenLists
 pub mod Costs
-pub mod LinearCosts
-pub mod BoundedCuttings
+pub mod Founds
+pub mod LexerCosts
 pub mod Places
 -- what lines say
 pub mod LineLemmas

@@ -1,9 +1,6 @@
 pub mod Matching
 pub mod Cutting
 pub mod LexerTokens
-pub mod Counting
-pub mod LinearCutting
-pub mod BoundedCutting
 pub mod Position
 pub mod Rules
 pub mod LexerErrors

@@ -5,15 +5,12 @@
 //! The crates below are re-exported.
 #![tactic(auto)]
 
-mod bounded;
-mod counted;
 mod cut;
 mod error;
 mod form;
 pub mod lexer;
 mod lexer_token;
 mod line;
-mod linear;
 mod linear_matches;
 mod longest;
 mod meaning;
@@ -27,15 +24,12 @@ mod terminals;
 mod token;
 mod token_list;
 
-pub use bounded::BoundedTokens;
-pub use counted::CountedTokens;
 pub use cut::tokens;
 pub use error::LexerError;
 pub use form::Form;
 pub use lalrpop_book::{Token, TokenFault};
 pub use lalrpop_dfa::kernel_set;
 pub use lexer_token::LexerTokens;
-pub use linear::LinearTokens;
 pub use linear_matches::LinearMatches;
 pub use longest::longest_match;
 pub use position::{Position, Positions};

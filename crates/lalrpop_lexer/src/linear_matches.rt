@@ -134,6 +134,7 @@ impl<'text> LinearMatches<'text> {
             ≡ record self.old { at = self.old.at + length m.1.now; spare = self.new.spare }) }
         ensures stays { IfNone result
             (self.new ≡ record self.old { spare = self.new.spare }) }
+        ensures never_falls { steps.old ≤ steps.new }
         ensures paid { steps.new + self.new.spare
             ≤ steps.old + characters_of (option_map (λ m. m.1.now) result)
             + self.old.spare + 64 }
@@ -165,6 +166,7 @@ impl<'text> LinearMatches<'text> {
             ≡ record self.old { at = self.old.at + length m.1.now; spare = self.new.spare }) }
         ensures stays { IfNone result
             (self.new ≡ record self.old { spare = self.new.spare }) }
+        ensures never_falls { steps.old ≤ steps.new }
         ensures paid { steps.new + self.new.spare
             ≤ steps.old + characters_of (option_map (λ m. m.1.now) result)
             + self.old.spare + 64 }

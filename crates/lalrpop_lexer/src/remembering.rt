@@ -46,6 +46,7 @@ pub(crate) fn longest_remembering<'text>(
     ensures same { memo.new ≡ record memo.old { marks = memo.new.marks } }
     ensures sound { (k : ℕ) → result.end ≡ start + k
         → IsSound dfa.now memo.new result.end (drop k (chars text.now)) }
+    ensures never_falls { steps.old ≤ steps.new }
     ensures paid { steps.new + start + 64 * room memo.new
         ≤ steps.old + result.end + 64 * room memo.old + 64 }
     ensures fewer { room memo.new ≤ room memo.old }

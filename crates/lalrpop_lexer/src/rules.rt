@@ -1,6 +1,6 @@
 //! A lexer: built once, run over many texts.
 
-ghost use Rattle.std.specs.Prelude.{◌≡◌, ℕ, ◌+◌, ◌*◌, ◌≤◌, ◌++◌, ◌∷◌, [], List, Option, Result, Ok, Err, map, length, None, IfOk, OnOk, IfErr, IfSome, IfNone, Some, true, slice_get, ◌<◌, ◌↔◌};
+ghost use Rattle.std.specs.Prelude.{◌≡◌, ℕ, ◌+◌, ◌*◌, ◌≤◌, ◌++◌, ◌∷◌, [], List, Option, Result, Ok, Err, map, length, None, IfOk, OnOk, IfErr, OnErr, IfSome, IfNone, IsSome, Some, true, slice_get, ◌<◌, ◌↔◌};
 ghost use Rattle.std.specs.Iterator.{Drains, Yields};
 ghost use Rattle.std.specs.Str.{chars};
 ghost use Rattle.lalrpop_book.specs.Clash.{NoClash};
@@ -8,25 +8,17 @@ ghost use Rattle.lalrpop_book.specs.Report.{NoFault, IsReport};
 ghost use Rattle.lalrpop_book.specs.Longest.{IsLongest};
 ghost use Rattle.lalrpop_dfa.specs.Lookahead.{IsLookahead, IsSettledAfter, LooksAtMost, StaysOpenEver};
 ghost use Rattle.lalrpop_dfa.specs.Witness.{IsWitness, LeavesOpen};
-ghost use Rattle.lalrpop_lexer.specs.Counting.{Counting, GivesCounted, counting_of};
 ghost use Rattle.lalrpop_lexer.specs.Matching.{open_states};
-ghost use Rattle.lalrpop_lexer.specs.LinearCutting.{LinearCutting, GivesLinear};
-ghost use Rattle.lalrpop_lexer.specs.BoundedCutting.{cutting_of, steps_of, GivesBounded, most_steps};
-ghost use Rattle.lalrpop_lexer.specs.declared.bounded.BoundedTokens.{BoundedTokens as BoundedValue};
-ghost use Rattle.lalrpop_lexer.specs.Cutting.{Cutting, start_of, rest_of};
+ghost use Rattle.lalrpop_lexer.specs.Cutting.{start_of, rest_of};
 ghost use Rattle.lalrpop_book.specs.Tokens.{slices};
-ghost use Rattle.lalrpop_lexer.specs.LexerTokens.{GivesToken};
+ghost use Rattle.lalrpop_lexer.specs.LexerTokens.{LexerCutting, lexer_start, GivesToken, most_steps};
 ghost use Rattle.lalrpop_book.specs.Tokens.{IsToken, AreTokens, bare};
 ghost use Rattle.lalrpop_lexer.specs.Rules.{IsBuiltFrom};
 ghost use Rattle.lalrpop_book.specs.declared.token.Token.{Token as TokenValue};
 ghost use Rattle.lalrpop_book.specs.declared.token.TokenFault.{TokenFault as FaultValue};
 
 use crate::LinearMatches;
-use crate::bounded::BoundedTokens;
-use crate::counted::CountedTokens;
 use crate::lexer_token::LexerTokens;
-use crate::linear::LinearTokens;
-use crate::token::Tokens;
 use crate::token_list::TokenList;
 use lalrpop_book::{Token, TokenFault};
 use lalrpop_build::{DfaConstructionError, Precedence, build_dfa};
@@ -55,10 +47,12 @@ pub struct Lexer {
     regexs: Vec<Regex>,
     precedences: Vec<Precedence>,
     dense: DenseDfa,
+    lookahead: Option<usize>,
 }
 
 impl Model for Lexer {
     ghost use Rattle.std.specs.Prelude.{map};
+    ghost use Rattle.lalrpop_dfa.specs.Lookahead.{IsLookahead};
     ghost use Rattle.lalrpop_lexer.specs.Rules.{Rules, IsBuiltFrom};
     ghost use Rattle.lalrpop_lexer.specs.Internal.Code.{rules_code};
 
@@ -74,7 +68,8 @@ impl Model for Lexer {
         } };
 
     ghost invariant = { λ l.
-        IsBuiltFrom l.regexs.items (map (λ p. p.0) l.precedences.items) l.dense };
+        IsBuiltFrom l.regexs.items (map (λ p. p.0) l.precedences.items) l.dense
+        × IsLookahead l.dense l.lookahead };
 }
 
 impl Lexer {
@@ -102,10 +97,12 @@ impl Lexer {
     {
         let dfa = build_dfa(alloc, &regexs, &precedences)?;
         let dense = DenseDfa::new(alloc, dfa)?;
+        let lookahead = lookahead(alloc, dense.dfa())?;
         Ok(Lexer {
             regexs,
             precedences,
             dense,
+            lookahead,
         })
     }
 
@@ -136,19 +133,24 @@ impl Lexer {
     /// The tokens of the text, in order, each at the front of the rest. They end at the end of the text, or with one fault
     /// at the first place where no pattern matches. After that, every call returns `None`.
     ///
-    /// It takes no memory, and there are at most as many tokens and faults as the text has characters.
+    /// It takes no memory, and there are at most as many tokens and faults as the text has characters. A step is counted each
+    /// time a character is read, which only contracts see. If `lookahead` is n, a whole text costs at most n + 2 steps a
+    /// character; if it is `None`, nothing bounds what a character costs, and `tokens_linear` is for long texts.
     pub fn tokens<'text>(&'text self, text: &'text str) -> LexerTokens<'text>
-        ensures start { result ≡ start_of result.automaton text.now }
-        ensures automaton { result.automaton ≡ self.now.automaton }
-        ensures built { IsBuiltFrom self.now.trees self.now.precedences result.automaton }
+        ensures start { result ≡ lexer_start self.now.automaton text.now None }
+        ensures built { IsBuiltFrom self.now.trees self.now.precedences result.cutting.automaton }
         ensures tokens { (xs : List (Result TokenValue FaultValue)) → Drains GivesToken result xs
             → AreTokens self.now.trees self.now.precedences text.now 0 xs }
-        ensures parts { (xs : List (Result TokenValue FaultValue)) (s : Cutting)
-            → Yields GivesToken result xs s → text.now ≡ slices (map bare xs) ++ rest_of s }
-        ensures count { (xs : List (Result TokenValue FaultValue)) (s : Cutting)
+        ensures parts { (xs : List (Result TokenValue FaultValue)) (s : LexerCutting)
+            → Yields GivesToken result xs s
+            → text.now ≡ slices (map bare xs) ++ rest_of s.cutting }
+        ensures count { (xs : List (Result TokenValue FaultValue)) (s : LexerCutting)
             → Yields GivesToken result xs s → length xs ≤ length (chars text.now) }
+        ensures cost { (xs : List (Result TokenValue FaultValue)) (s : LexerCutting)
+            → Yields GivesToken result xs s → (n : ℕ) → LooksAtMost self.now.automaton n
+            → s.steps ≤ (n + 2) * length (chars text.now) }
     {
-        LexerTokens::new(Tokens::new(&self.dense, text))
+        LexerTokens::new(&self.dense, text, None)
     }
 
     /// All tokens that `tokens` gives, in one list, with the fault at which they end, if there is one.
@@ -187,27 +189,13 @@ impl Lexer {
         })
     }
 
-    /// The tokens of `tokens`, with a step counted each time a character is read. If at most n characters after a match
-    /// leave it open, a whole text costs at most n + 2 steps a character.
+    /// The tokens of `tokens`, in time linear in the length of the text, whatever the patterns are.
     ///
-    /// It takes no memory. A running program can't tell it from `tokens`: only contracts see the steps.
-    pub fn tokens_counted<'text>(&'text self, text: &'text str) -> CountedTokens<'text>
-        ensures start { result ≡ counting_of self.now.automaton text.now }
-        ensures tokens { (xs : List (Result TokenValue FaultValue)) → Drains GivesCounted result xs
-            → AreTokens self.now.trees self.now.precedences text.now 0 xs }
-        ensures cost { (xs : List (Result TokenValue FaultValue)) (s : Counting)
-            → Yields GivesCounted result xs s → (n : ℕ) → LooksAtMost self.now.automaton n
-            → s.steps ≤ (n + 2) * length (chars text.now) }
-    {
-        CountedTokens::new(self.tokens(text))
-    }
-
-    /// The tokens of `tokens`, in time linear in the length of the text, whatever the patterns are. A state of the automaton is
-    /// open if it neither accepts a pattern nor rejects. A whole text costs at most 66 steps a character and one a byte, and for
-    /// each open state one step a byte and 64 more. A step is counted each time a character is read.
-    ///
-    /// If no more than 16 bytes are read past each token, the table of `tokens` cuts the whole text. All memory is taken by this
-    /// call: a byte for each open state and each 64 bytes of the text.
+    /// If `lookahead` is a number, they are those of `tokens`, and no memory is taken. Otherwise the table of `tokens` cuts the
+    /// text as long as it reads little in vain. After that the places of the text are remembered that were passed in vain, so no
+    /// run is repeated that came to nothing. A state of the automaton is open if it neither accepts a pattern nor rejects. A
+    /// whole text then costs at most 66 steps a character and one a byte, and for each open state one step a byte and 64 more.
+    /// All memory is taken by this call: a byte for each open state and each 64 bytes of the text.
     ///
     /// # Errors
     ///
@@ -216,20 +204,28 @@ impl Lexer {
         &'text self,
         alloc: Global,
         text: &'text str,
-    ) -> Result<LinearTokens<'text>, AllocError>
+    ) -> Result<LexerTokens<'text>, AllocError>
         ensures start { IfOk result (λ s.
             (s.cutting ≡ start_of self.now.automaton text.now) × (s.steps ≡ 0)) }
+        ensures memo { IfOk result (λ s.
+            IsSome s.spare → IsLookahead self.now.automaton None) }
+        ensures built { IfOk result (λ s.
+            IsBuiltFrom self.now.trees self.now.precedences s.cutting.automaton) }
         ensures tokens { IfOk result (λ s. (xs : List (Result TokenValue FaultValue))
-            → Drains GivesLinear s xs
+            → Drains GivesToken s xs
             → AreTokens self.now.trees self.now.precedences text.now 0 xs) }
-        ensures cost { IfOk result (λ s.
-            (xs : List (Result TokenValue FaultValue)) (t : LinearCutting)
-            → Yields GivesLinear s xs t
-            → t.steps ≤ 66 * length (chars text.now) + length text.now
-            + open_states self.now.automaton * (length text.now + 64)) }
+        ensures cost { IfOk result (λ s. (found : Option ℕ)
+            × (IsLookahead self.now.automaton found
+            × ((xs : List (Result TokenValue FaultValue)) (t : LexerCutting)
+            → Yields GivesToken s xs t
+            → t.steps ≤ most_steps self.now.automaton text.now found))) }
+        ensures refused { OnErr result (IsLookahead self.now.automaton None) }
     {
+        if self.lookahead.is_some() {
+            return Ok(self.tokens(text));
+        }
         let matches = self.matches_linear(alloc, text)?;
-        Ok(LinearTokens::new(matches))
+        Ok(LexerTokens::new(&self.dense, text, Some(matches)))
     }
 
     /// The longest matches of the text, one after another, for a caller that goes on where nothing matches. It starts with all
@@ -257,50 +253,15 @@ impl Lexer {
         LinearMatches::new(alloc, &self.dense, text)
     }
 
-    /// The tokens of `tokens`, at a bounded cost whatever the patterns are: as `tokens` finds them if `lookahead` is a number,
-    /// and otherwise by `tokens_linear`. It calls `lookahead` first, which takes memory and gives it back.
-    ///
-    /// # Errors
-    ///
-    /// `AllocError` if a request for memory was refused.
-    pub fn tokens_bounded<'text>(
-        &'text self,
-        alloc: Global,
-        text: &'text str,
-    ) -> Result<BoundedTokens<'text>, AllocError>
-        ensures start { IfOk result (λ s.
-            (cutting_of s ≡ start_of self.now.automaton text.now) × (steps_of s ≡ 0)) }
-        ensures built { IfOk result (λ s. IsBuiltFrom self.now.trees self.now.precedences
-            (cutting_of s).automaton) }
-        ensures tokens { IfOk result (λ s. (xs : List (Result TokenValue FaultValue))
-            → Drains GivesBounded s xs
-            → AreTokens self.now.trees self.now.precedences text.now 0 xs) }
-        ensures cost { IfOk result (λ s. (found : Option ℕ)
-            × (IsLookahead self.now.automaton found
-            × ((xs : List (Result TokenValue FaultValue)) (t : BoundedValue)
-            → Yields GivesBounded s xs t
-            → steps_of t ≤ most_steps self.now.automaton text.now found))) }
-    {
-        match lookahead(alloc, self.dense.dfa())? {
-            Some(_) => Ok(BoundedTokens::Looking(self.tokens_counted(text))),
-            None => Ok(BoundedTokens::Remembering(self.tokens_linear(alloc, text)?)),
-        }
-    }
-
     /// The greatest number of characters that can follow a match and still leave it open whether a longer one comes; `None`
     /// if there is no bound.
     ///
     /// If it is n, no more than n + 1 characters past the end of a token are read to decide it.
-    ///
-    /// # Errors
-    ///
-    /// `AllocError` if a request for memory was refused.
-    pub fn lookahead(&self, alloc: Global) -> Result<Option<usize>, AllocError>
-        ensures answer { IfOk result (λ found. IsLookahead self.now.automaton found) }
-        ensures settled { IfOk result (λ found.
-            IfSome found (λ n. IsSettledAfter self.now.trees n)) }
+    pub fn lookahead(&self) -> Option<usize>
+        ensures answer { IsLookahead self.now.automaton result }
+        ensures settled { IfSome result (IsSettledAfter self.now.trees) }
     {
-        lookahead(alloc, self.dense.dfa())
+        self.lookahead
     }
 
     /// For each pattern, in order, whether a token it matches can stay open forever: no number of characters after the token

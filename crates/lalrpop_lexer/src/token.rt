@@ -3,9 +3,8 @@
 ghost use Rattle.std.specs.Prelude.{◌≡◌};
 
 use lalrpop_book::{NfaIndex, TokenFault};
-use lalrpop_dense::Matcher;
 use lalrpop_dfa::Dfa;
-use lalrpop_nfa::Steps;
+use lalrpop_dfa::interpret::interpret;
 use std::iter::FusedIterator;
 use std::marker::Model;
 
@@ -21,15 +20,15 @@ use std::marker::Model;
 /// }
 /// ```
 #[derive(Debug, Drop)]
-pub struct Tokens<'text, M: Matcher = Dfa> {
-    matcher: &'text M,
+pub struct Tokens<'text> {
+    dfa: &'text Dfa,
     text: &'text str,
     // The rest of the text begins here.
     at: usize,
     is_over: bool,
 }
 
-impl<'text, M: Matcher> Model for Tokens<'text, M> {
+impl<'text> Model for Tokens<'text> {
     ghost use Rattle.std.specs.Str.{IsCharBoundary};
     ghost use Rattle.lalrpop_lexer.specs.Cutting.{Cutting};
 
@@ -37,7 +36,7 @@ impl<'text, M: Matcher> Model for Tokens<'text, M> {
 
     ghost view = { λ t.
         record {
-          automaton = M.rows t.matcher.now;
+          automaton = t.dfa.now;
           text = t.text.now;
           at = t.at;
           is_over = t.is_over;
@@ -46,28 +45,20 @@ impl<'text, M: Matcher> Model for Tokens<'text, M> {
     ghost invariant = { λ t. IsCharBoundary t.text.now t.at };
 }
 
-impl<'text, M: Matcher> Tokens<'text, M> {
-    ghost use Rattle.std.specs.Prelude.{false, ℕ, ◌+◌, ◌*◌, ◌≤◌, ◌<◌, IfNone, OnSome};
-    ghost use Rattle.lalrpop_dfa.specs.Lookahead.{LooksAtMost};
+impl<'text> Tokens<'text> {
+    ghost use Rattle.std.specs.Prelude.{◌<◌, OnSome};
     ghost use Rattle.lalrpop_lexer.specs.Cutting.{start_of, rest_of, GivesItem, left_of};
 
     // The whole text, before the first token.
-    pub(crate) fn new(matcher: &'text M, text: &'text str) -> Tokens<'text, M>
-        ensures start { result ≡ start_of (M.rows matcher.now) text.now }
+    pub(crate) fn new(dfa: &'text Dfa, text: &'text str) -> Tokens<'text>
+        ensures start { result ≡ start_of dfa.now text.now }
     {
         Tokens {
-            matcher,
+            dfa,
             text,
             at: 0,
             is_over: false,
         }
-    }
-
-    // Where the rest begins, in bytes.
-    pub(crate) fn offset(&self) -> usize
-        ensures offset { result ≡ self.now.at }
-    {
-        self.at
     }
 
     /// The rest of the text, after the last token. Before the first call of `next` it is all of the text.
@@ -77,22 +68,15 @@ impl<'text, M: Matcher> Tokens<'text, M> {
         &self.text[self.at..]
     }
 
-    // What `next` returns. It counts a step for each character it reads.
-    pub(crate) fn next_counted(
-        &mut self,
-        steps: &mut Steps,
-    ) -> Option<Result<(NfaIndex, &'text str), TokenFault>>
+    // What `next` returns.
+    fn next_item(&mut self) -> Option<Result<(NfaIndex, &'text str), TokenFault>>
         ensures gives { GivesItem self.old result self.new }
         ensures goes { OnSome result (left_of self.new < left_of self.old) }
-        ensures never_falls { steps.old ≤ steps.new }
-        ensures idle { IfNone result (steps.new ≡ steps.old) }
-        ensures paid { (n : ℕ) → LooksAtMost self.old.automaton n
-            → steps.new + (n + 2) * left_of self.new ≤ steps.old + (n + 2) * left_of self.old }
     {
         if self.is_over || self.at == self.text.len() {
             return None;
         }
-        match self.matcher.longest_match(&self.text[self.at..], steps) {
+        match interpret(self.dfa, &self.text[self.at..]) {
             Some(found) => {
                 self.at += found.1.len();
                 Some(Ok(found))
@@ -105,7 +89,7 @@ impl<'text, M: Matcher> Tokens<'text, M> {
     }
 }
 
-impl<'text, M: Matcher> Iterator for Tokens<'text, M> {
+impl<'text> Iterator for Tokens<'text> {
     ghost use Rattle.std.specs.Iterator.{at_most};
     ghost use Rattle.lalrpop_lexer.specs.Cutting.{GivesItem, left_of};
 
@@ -115,10 +99,9 @@ impl<'text, M: Matcher> Iterator for Tokens<'text, M> {
 
     ghost remaining = { λ s. at_most (left_of s) };
 
-    #[inline(always)]
     fn next(&mut self) -> Option<Result<(NfaIndex, &'text str), TokenFault>> {
-        self.next_counted(&mut Steps::new())
+        self.next_item()
     }
 }
 
-impl<'text, M: Matcher> FusedIterator for Tokens<'text, M> {}
+impl<'text> FusedIterator for Tokens<'text> {}

@@ -11,13 +11,11 @@ use Rattle.lalrpop_book.specs.Tree.{Tree}
 use Rattle.lalrpop_book.specs.Tokens.{Item, AreItems, AreTokens, bare}
 use Rattle.lalrpop_book.specs.declared.token.Token.{Token as Cut}
 use Rattle.lalrpop_book.specs.declared.token.TokenFault.{TokenFault}
-use Rattle.lalrpop_lexer.specs.BoundedCutting.{cutting_of, GivesBounded}
 use Rattle.lalrpop_lexer.specs.Cutting.{Cutting, start_of}
 use Rattle.lalrpop_lexer.specs.Dfa.{Row}
-use Rattle.lalrpop_lexer.specs.LexerTokens.{GivesToken}
+use Rattle.lalrpop_lexer.specs.LexerTokens.{LexerCutting, CutsToken, GivesToken}
 use Rattle.lalrpop_lexer.specs.Rules.{IsBuiltFrom}
-use Rattle.lalrpop_lexer.specs.declared.bounded.BoundedTokens.{BoundedTokens}
-use Rattle.lalrpop_lexer.proofs.BoundedCuttings.{bounded_step, bounded_steps}
+use Rattle.lalrpop_lexer.proofs.LexerCosts.{cut_steps}
 use Rattle.lalrpop_lexer.proofs.LexerCuttings.{tokens_from_start, token_count_from_start}
 use Rattle.lexdfa_lib.specs.Answer.{IsReported}
 use Rattle.lexdfa_lib.specs.Printed.{line_of}
@@ -26,31 +24,31 @@ use Rattle.lexdfa_lib.specs.declared.outcome.Outcome.{Outcome}
 use Rattle.lexdfa_lib.specs.declared.outcome.Outcome.TheVariants.{All, Stopped}
 
 -- one more token or fault
-pub items_more : (s r t u : BoundedTokens) (xs : List (Result Cut TokenFault)) (o : Option (Result Cut TokenFault)) (x : Result Cut TokenFault) → r ≡ s
-    → Yields GivesBounded r xs t → o ≡ Some x → GivesBounded t o u → Yields GivesToken (cutting_of s) (xs ++ x ∷ []) (cutting_of u)
+pub items_more : (s r t u : LexerCutting) (xs : List (Result Cut TokenFault)) (o : Option (Result Cut TokenFault)) (x : Result Cut TokenFault) → r ≡ s
+    → Yields GivesToken r xs t → o ≡ Some x → GivesToken t o u → Yields CutsToken s.cutting (xs ++ x ∷ []) u.cutting
 items_more s r t u xs o x same y is g =
-    let before = bounded_steps s t xs (subst (λ (r : BoundedTokens). Yields GivesBounded r xs t) same y) in
-    Yields-more GivesToken (cutting_of s) xs (cutting_of t) x (cutting_of u) before (bounded_step t u (Some x) (subst (λ (o : Option (Result Cut TokenFault)). GivesBounded t o u) is g))
+    let before = cut_steps s t xs (subst (λ (r : LexerCutting). Yields GivesToken r xs t) same y) in
+    Yields-more CutsToken s.cutting xs t.cutting x u.cutting before (subst (λ (o : Option (Result Cut TokenFault)). GivesToken t o u) is g).0
 
 -- a fault is the last
-pub fault_is_last : (s r t u : BoundedTokens) (xs : List (Result Cut TokenFault)) (o : Option (Result Cut TokenFault)) (x : Result Cut TokenFault) (fault : TokenFault) → r ≡ s
-    → Yields GivesBounded r xs t → o ≡ Some x → x ≡ Err fault → GivesBounded t o u → Drains GivesToken (cutting_of s) (xs ++ x ∷ [])
+pub fault_is_last : (s r t u : LexerCutting) (xs : List (Result Cut TokenFault)) (o : Option (Result Cut TokenFault)) (x : Result Cut TokenFault) (fault : TokenFault) → r ≡ s
+    → Yields GivesToken r xs t → o ≡ Some x → x ≡ Err fault → GivesToken t o u → Drains CutsToken s.cutting (xs ++ x ∷ [])
 fault_is_last s r t u xs o x fault same y is failed g =
-    let gives : GivesToken (cutting_of t) (Some (Err fault)) (cutting_of u) =
-    bounded_step t u (Some (Err fault)) (subst (λ (o : Option (Result Cut TokenFault)). GivesBounded t o u) (is ∙ ap Some failed) g) in
-    let over : (cutting_of u).is_over ≡ true = ap (λ (x : Cutting). x.is_over) gives.4 in
-    (cutting_of u, (cutting_of u, items_more s r t u xs o x same y is g, (refl, inl over)))
+    let gives : CutsToken t.cutting (Some (Err fault)) u.cutting =
+    (subst (λ (o : Option (Result Cut TokenFault)). GivesToken t o u) (is ∙ ap Some failed) g).0 in
+    let over : u.cutting.is_over ≡ true = ap (λ (x : Cutting). x.is_over) gives.4 in
+    (u.cutting, (u.cutting, items_more s r t u xs o x same y is g, (refl, inl over)))
 
 -- and where nothing more is given, these are all
-pub these_are_all : (s r t u : BoundedTokens) (xs : List (Result Cut TokenFault)) (o : Option (Result Cut TokenFault)) → r ≡ s
-    → Yields GivesBounded r xs t → o ≡ None → GivesBounded t o u → Drains GivesToken (cutting_of s) xs
+pub these_are_all : (s r t u : LexerCutting) (xs : List (Result Cut TokenFault)) (o : Option (Result Cut TokenFault)) → r ≡ s
+    → Yields GivesToken r xs t → o ≡ None → GivesToken t o u → Drains CutsToken s.cutting xs
 these_are_all s r t u xs o same y is g =
-    let before = bounded_steps s t xs (subst (λ (r : BoundedTokens). Yields GivesBounded r xs t) same y) in
-    (cutting_of u, (cutting_of t, before, bounded_step t u None (subst (λ (o : Option (Result Cut TokenFault)). GivesBounded t o u) is g)))
+    let before = cut_steps s t xs (subst (λ (r : LexerCutting). Yields GivesToken r xs t) same y) in
+    (u.cutting, (t.cutting, before, (subst (λ (o : Option (Result Cut TokenFault)). GivesToken t o u) is g).0))
 
 -- there are fewer of them than bytes if one more comes
 pub one_more : (s : Cutting) (t : Cutting) (d : List Row) (text : List ℕ) (xs : List (Result Cut TokenFault)) (x : Result Cut TokenFault) (n : ℕ) (tokens : List Token) → s ≡ start_of d text
-    → IsUtf8 text → Yields GivesToken s (xs ++ x ∷ []) t → map bare xs ≡ map Ok tokens → n ≡ length tokens → n + 1 ≤ length text
+    → IsUtf8 text → Yields CutsToken s (xs ++ x ∷ []) t → map bare xs ≡ map Ok tokens → n ≡ length tokens → n + 1 ≤ length text
 one_more s t d text xs x n tokens start u y are count =
     let few : length (xs ++ x ∷ []) ≤ length (chars text) = token_count_from_start s d text start u (xs ++ x ∷ []) t y in
     let same : length xs ≡ length tokens = sym (length-map xs bare) ∙ ap length are ∙ length-map tokens Ok in
@@ -89,7 +87,7 @@ items_of ts ps text at (Err fault ∷ xs) are = (are.0, are.1, are.2, ap (map ba
 
 -- a fault ends the tokens
 pub fault_ends : (s : Cutting) (d : List Row) (ts : List Tree) (ps text : List ℕ) (tokens : List Token) (xs : List (Result Cut TokenFault)) (x : Result Cut TokenFault) (fault : TokenFault) (n : ℕ)
-    → s ≡ start_of d text → IsBuiltFrom ts ps d → Drains GivesToken s (xs ++ x ∷ []) → map bare xs ≡ map Ok tokens → x ≡ Err fault → n ≡ length tokens
+    → s ≡ start_of d text → IsBuiltFrom ts ps d → Drains CutsToken s (xs ++ x ∷ []) → map bare xs ≡ map Ok tokens → x ≡ Err fault → n ≡ length tokens
     → Cuts ts ps text tokens (Stopped n fault.at)
 fault_ends s d ts ps text tokens xs x fault n start built all are is count =
     let parts : map bare (xs ++ x ∷ []) ≡ map Ok tokens ++ Err fault ∷ [] = rw (map-append, are, is) refl in
@@ -97,7 +95,7 @@ fault_ends s d ts ps text tokens xs x fault n start built all are is count =
 
 -- and so does the end of the text
 pub end_ends : (s : Cutting) (d : List Row) (ts : List Tree) (ps text : List ℕ) (tokens : List Token) (xs : List (Result Cut TokenFault)) (n : ℕ)
-    → s ≡ start_of d text → IsBuiltFrom ts ps d → Drains GivesToken s xs → map bare xs ≡ map Ok tokens → n ≡ length tokens → Cuts ts ps text tokens (All n)
+    → s ≡ start_of d text → IsBuiltFrom ts ps d → Drains CutsToken s xs → map bare xs ≡ map Ok tokens → n ≡ length tokens → Cuts ts ps text tokens (All n)
 end_ends s d ts ps text tokens xs n start built all are count =
     (subst (λ (ys : List Item). AreItems ts ps text 0 ys) are (items_of ts ps text 0 xs (tokens_from_start s ts ps d text start built xs all)), count)
 

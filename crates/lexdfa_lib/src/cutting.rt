@@ -48,7 +48,7 @@ fn cut(alloc: Global, lexer: &Lexer, text: &str) -> Result<Answers, AllocError>
 {
     let mut lines = String::new(alloc);
     let mut count = 0;
-    for item in lexer.tokens_bounded(alloc, text)? {
+    for item in lexer.tokens_linear(alloc, text)? {
         match item {
             Ok(token) => {
                 push_token(&mut lines, token.index, token.slice)?;

@@ -1,8 +1,8 @@
-//! Texts that are cut in the way that has a bounded cost: which way that is, and its tokens.
+//! Texts that are cut in linear time: whether anything bounds the lookahead, and the tokens.
 
 use crate::built::{expect, halves};
 use crate::lookaheads::lexer_of;
-use lalrpop_lexer::BoundedTokens;
+use lalrpop_lexer::Lexer;
 use std::alloc::{AllocError, Global};
 
 // Patterns, the stronger before the weaker, a text, the way, and what it is cut into.
@@ -14,18 +14,18 @@ const CUT: &str = r"
 é é*b <- éé => remembering: 0 é 0 0 é 2
 ";
 
-fn way_of(tokens: &BoundedTokens) -> &'static str {
-    match tokens {
-        BoundedTokens::Looking(_) => "looking:",
-        BoundedTokens::Remembering(_) => "remembering:",
+fn way_of(lexer: &Lexer) -> &'static str {
+    match lexer.lookahead() {
+        Some(_) => "looking:",
+        None => "remembering:",
     }
 }
 
 fn of(alloc: Global, argument: &str) -> Result<String, AllocError> {
     let (words, text) = halves(argument, " <- ");
     let lexer = lexer_of(alloc, words)?;
-    let tokens = lexer.tokens_bounded(alloc, text)?;
-    let mut line = String::from_str(alloc, way_of(&tokens))?;
+    let tokens = lexer.tokens_linear(alloc, text)?;
+    let mut line = String::from_str(alloc, way_of(&lexer))?;
     for item in tokens {
         let part = match item {
             Ok(token) => {
@@ -42,7 +42,7 @@ fn of(alloc: Global, argument: &str) -> Result<String, AllocError> {
 }
 
 #[test]
-fn tokens_in_bounded_time(rt: HostRuntime) {
+fn tokens_either_way(rt: HostRuntime) {
     for row in CUT.trim_matches('\n').lines() {
         let (argument, wanted) = halves(row, " => ");
         expect(&rt, of(rt.alloc(), argument), wanted);

@@ -2,11 +2,11 @@
 
 use crate::built::expect;
 use crate::lookaheads::lexer_of;
-use lalrpop_lexer::{LexerTokens, LinearTokens};
+use lalrpop_lexer::LexerTokens;
 use std::alloc::{AllocError, Global};
 
 // Whether both return the same items.
-fn are_same(mut plain: LexerTokens, linear: LinearTokens) -> bool {
+fn are_same(mut plain: LexerTokens, linear: LexerTokens) -> bool {
     for item in linear {
         if plain.next() != Some(item) {
             return false;
@@ -16,7 +16,7 @@ fn are_same(mut plain: LexerTokens, linear: LinearTokens) -> bool {
 }
 
 // How many tokens of each pattern there are before the fault, and where the fault is, if there is one.
-fn told(alloc: Global, items: LinearTokens) -> Result<String, AllocError> {
+fn told(alloc: Global, items: LexerTokens) -> Result<String, AllocError> {
     let mut counts = vec![in alloc; 0usize; 4]?;
     let mut end = String::new(alloc);
     for item in items {

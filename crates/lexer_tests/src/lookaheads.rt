@@ -1,4 +1,4 @@
-//! How many characters past a match leave it open, and lexers that count what they read.
+//! How many characters past a match leave it open, and the tokens of lexers that look ahead.
 
 use crate::built::{built, expect, halves, trees_of};
 use lalrpop_lexer::Lexer;
@@ -50,7 +50,7 @@ pub(crate) fn lexer_of(alloc: Global, words: &str) -> Result<Lexer, AllocError> 
 
 fn of_lexer(alloc: Global, words: &str) -> Result<String, AllocError> {
     let lexer = lexer_of(alloc, words)?;
-    let found = lexer.lookahead(alloc)?;
+    let found = lexer.lookahead();
     format!(in alloc; "{found:?}")
 }
 
@@ -94,11 +94,11 @@ fn patterns_that_stay_open(rt: HostRuntime) {
     expect(&rt, open_of(rt.alloc(), ""), "[]");
 }
 
-// What the counting calls of `next` return, including the first two `None`.
-fn counted(alloc: Global, words: &str, text: &str) -> Result<String, AllocError> {
+// What the calls of `next` return, including the first two `None`.
+fn given(alloc: Global, words: &str, text: &str) -> Result<String, AllocError> {
     let lexer = lexer_of(alloc, words)?;
-    let mut given = String::new(alloc);
-    let mut items = lexer.tokens_counted(text);
+    let mut shown = String::new(alloc);
+    let mut items = lexer.tokens(text);
     for item in items.by_ref() {
         let line = match item {
             Ok(token) => format!(in alloc;
@@ -109,17 +109,17 @@ fn counted(alloc: Global, words: &str, text: &str) -> Result<String, AllocError>
             )?,
             Err(fault) => format!(in alloc; "{fault}, ")?,
         };
-        given.push_str(&line)?;
+        shown.push_str(&line)?;
     }
     let none = format!(in alloc; "None, {:?}", items.next())?;
-    given.push_str(&none)?;
-    Ok(given)
+    shown.push_str(&none)?;
+    Ok(shown)
 }
 
 #[test]
-fn counted_tokens(rt: HostRuntime) {
+fn tokens_and_the_fault(rt: HostRuntime) {
     let wanted =
         r#"0 "a" at 0, 1 "abcd" at 1, 0 "a" at 5, no pattern matches at byte 6, None, None"#;
-    expect(&rt, counted(rt.alloc(), "'a' 'abcd'", "aabcdabc"), wanted);
-    expect(&rt, counted(rt.alloc(), "'a' 'abcd'", ""), "None, None");
+    expect(&rt, given(rt.alloc(), "'a' 'abcd'", "aabcdabc"), wanted);
+    expect(&rt, given(rt.alloc(), "'a' 'abcd'", ""), "None, None");
 }

@@ -440,14 +440,6 @@ fn linear_by(alloc: Global, lexer: &Lexer, text: &str) -> Result<String, AllocEr
     Ok(line)
 }
 
-fn bounded_by(alloc: Global, lexer: &Lexer, text: &str) -> Result<String, AllocError> {
-    let mut line = String::new(alloc);
-    for item in lexer.tokens_bounded(alloc, text)? {
-        add_item(alloc, &mut line, &item)?;
-    }
-    Ok(line)
-}
-
 // The same, cut in linear time.
 pub(crate) fn listed_linear(alloc: Global, row: &str) -> Result<String, AllocError> {
     let (rows, text) = halves(row, " <- ");
@@ -455,19 +447,13 @@ pub(crate) fn listed_linear(alloc: Global, row: &str) -> Result<String, AllocErr
     linear_by(alloc, &lexer, text)
 }
 
-// The same, cut in the way that has a bounded cost.
-pub(crate) fn listed_bounded(alloc: Global, row: &str) -> Result<String, AllocError> {
-    let (rows, text) = halves(row, " <- ");
-    let lexer = lexer_for(alloc, rows)?;
-    bounded_by(alloc, &lexer, text)
-}
-
 #[test]
 fn texts_are_cut_in_linear_time(rt: HostRuntime) {
     let table = "\
 0 a / 0 a*b <- aaab => 1
-0 a / 0 a*b <- aac => 0 0 fault 2";
-    expect(&rt, rt.alloc(), Call::Linear, table, 2);
+0 a / 0 a*b <- aac => 0 0 fault 2
+0 a / 0 ab <- aabc => 0 1 fault 3";
+    expect(&rt, rt.alloc(), Call::Linear, table, 3);
 }
 
 fn told_witness(
@@ -486,7 +472,7 @@ fn told_witness(
 }
 
 fn looked_ahead_by(alloc: Global, lexer: &Lexer) -> Result<String, AllocError> {
-    let number = lexer.lookahead(alloc)?.unwrap_or(3);
+    let number = lexer.lookahead().unwrap_or(3);
     let found = lexer.lookahead_witness(alloc, number)?;
     told_witness(alloc, number, &found)
 }
@@ -504,12 +490,4 @@ fn matches_are_left_open(rt: HostRuntime) {
 0 a / 0 a*b => 3 [97] [97, 97, 97]
 0 b => 0 [98] []";
     expect(&rt, rt.alloc(), Call::Witness, table, 3);
-}
-
-#[test]
-fn texts_are_cut_in_bounded_time(rt: HostRuntime) {
-    let table = "\
-0 a / 0 a*b <- aac => 0 0 fault 2
-0 a / 0 ab <- aabc => 0 1 fault 3";
-    expect(&rt, rt.alloc(), Call::Bounded, table, 2);
 }

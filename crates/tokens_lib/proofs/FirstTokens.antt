@@ -10,7 +10,7 @@ use Rattle.lalrpop_lexer.proofs.Cuttings.{cut_behind, rest_behind}
 use Rattle.lalrpop_lexer.proofs.Longests.{longest-unique}
 use Rattle.lalrpop_lexer.specs.Cutting.{Cutting, start_of, rest_of}
 use Rattle.lalrpop_lexer.specs.Dfa.{Row, Recognizes}
-use Rattle.lalrpop_lexer.specs.LexerTokens.{GivesToken}
+use Rattle.lalrpop_lexer.specs.LexerTokens.{CutsToken}
 use Rattle.lalrpop_book.specs.Tokens.{AreTokens}
 use Rattle.lalrpop_lexer.specs.Longest.{IsLongest}
 use Rattle.lalrpop_book.specs.declared.token.Token.{Token}
@@ -26,7 +26,7 @@ AreFirst ts ps text at (Ok y ∷ ys) =
 AreFirst ts ps text at (Err f ∷ ys) = Unit {0}
 
 pub firsts_of : (ts : List Tree) (ps : List ℕ) (s t : Cutting) (ys : List (Result Token TokenFault)) → Recognizes s.automaton ts ps
-    → Yields GivesToken s ys t → AreFirst ts ps s.text s.at ys
+    → Yields CutsToken s ys t → AreFirst ts ps s.text s.at ys
 firsts_of ts ps s t [] r y = tt
 firsts_of ts ps s t (Ok token ∷ ys) r (j, g, y) =
     let known : Recognizes j.automaton ts ps = subst (λ (x : Cutting). Recognizes x.automaton ts ps) (sym g.1.4) r in
@@ -35,7 +35,7 @@ firsts_of ts ps s t (Ok token ∷ ys) r (j, g, y) =
 firsts_of ts ps s t (Err f ∷ ys) r (j, g, y) = tt
 
 pub firsts_from_start : (ts : List Tree) (ps : List ℕ) (s t : Cutting) (d : List Row) (text : List ℕ) (ys : List (Result Token TokenFault)) → s ≡ start_of d text
-    → Recognizes d ts ps → Yields GivesToken s ys t → AreFirst ts ps text 0 ys
+    → Recognizes d ts ps → Yields CutsToken s ys t → AreFirst ts ps text 0 ys
 firsts_from_start ts ps s t d text ys e r y =
     subst (λ (x : Cutting). AreFirst ts ps x.text x.at ys) e (firsts_of ts ps s t ys (subst (λ (x : Cutting). Recognizes x.automaton ts ps) (sym e) r) y)
 
@@ -116,7 +116,7 @@ all-unique file ts ps text xs ys a b = let same = lines-unique file ts ps text 0
 -- ---- places
 
 -- the place where the rest begins is after the tokens, which are UTF-8
-moved : (s t : Cutting) (ys : List (Result Token TokenFault)) → Yields GivesToken s ys t
+moved : (s t : Cutting) (ys : List (Result Token TokenFault)) → Yields CutsToken s ys t
     → (front : List ℕ) × ((rest_of s ≡ front ++ rest_of t) × (IsUtf8 front × (t.at ≡ s.at + length front)))
 moved s t [] y = ([], (ap (λ (x : Cutting). rest_of x) y, (IsUtf8-nil, sym (ap (λ (x : Cutting). x.at) y) ∙ sym (add-zero s.at))))
 moved s t (Ok token ∷ ys) (j, g, y) =
@@ -137,7 +137,7 @@ moved s t (Err f ∷ ys) (j, g, y) =
     (others.0, (rest ∙ others.1.0, (others.1.1.0, others.1.1.1 ∙ ap (λ n. n + length others.0) at)))
 
 -- the rest begins where a character of the text begins
-pub rest_begins : (s t : Cutting) (d : List Row) (text : List ℕ) (ys : List (Result Token TokenFault)) → s ≡ start_of d text → IsUtf8 text → Yields GivesToken s ys t
+pub rest_begins : (s t : Cutting) (d : List Row) (text : List ℕ) (ys : List (Result Token TokenFault)) → s ≡ start_of d text → IsUtf8 text → Yields CutsToken s ys t
     → IsCharBoundary text t.at
 rest_begins s t d text ys e u y =
     let all = moved s t ys y in

@@ -10,7 +10,7 @@ use Rattle.std.specs.Iterator.{Yields, Drains}
 use Rattle.std.specs.Str.{chars, IsUtf8, IsCharBoundary}
 use Rattle.lalrpop_book.specs.Tree.{Tree}
 use Rattle.lalrpop_lexer.specs.Cutting.{Cutting, start_of}
-use Rattle.lalrpop_lexer.specs.LexerTokens.{GivesToken}
+use Rattle.lalrpop_lexer.specs.LexerTokens.{CutsToken}
 use Rattle.lalrpop_book.specs.Tokens.{AreTokens}
 use Rattle.lalrpop_book.specs.declared.token.Token.{Token}
 use Rattle.lalrpop_book.specs.declared.token.TokenFault.{TokenFault}
@@ -100,10 +100,10 @@ at_the_last contents (Err Read) old new file ts ps text xs sent kept last a are 
 
 -- ---- one more token
 
-pub step_of : (s u : Cutting) (x : Result Token TokenFault) (token : Token) → x ≡ Ok token → GivesToken s (Some x) u
+pub step_of : (s u : Cutting) (x : Result Token TokenFault) (token : Token) → x ≡ Ok token → CutsToken s (Some x) u
     → (token.start ≡ s.at) × (s.at ≤ u.at)
 step_of s u x token e g =
-    let h : GivesToken s (Some (Ok token)) u = subst (λ (y : Result Token TokenFault). GivesToken s (Some y) u) e g in
+    let h : CutsToken s (Some (Ok token)) u = subst (λ (y : Result Token TokenFault). CutsToken s (Some y) u) e g in
     let at : u.at ≡ s.at + length token.slice.now = ap (λ (y : Cutting). y.at) h.1.4 in
     (h.0, omega (arith, at))
 
@@ -126,20 +126,20 @@ kept_all file text placed ys x token lines pushed sent count are e p h =
     subst (λ (l : List ℕ). AreLinesOf file text (ys ++ x ∷ []) (l ++ pushed) (count + 1)) (append-nil sent)
     (kept_on file text placed ys x token lines pushed pushed sent [] count are e p h refl)
 
-pub yields_more : (s r t u : Cutting) (ys : List (Result Token TokenFault)) (x : Result Token TokenFault) → r ≡ s → Yields GivesToken r ys t → GivesToken t (Some x) u
-    → Yields GivesToken s (ys ++ x ∷ []) u
-yields_more s r t u ys x same y g = Yields-more GivesToken s ys t x u (subst (λ (r : Cutting). Yields GivesToken r ys t) same y) g
+pub yields_more : (s r t u : Cutting) (ys : List (Result Token TokenFault)) (x : Result Token TokenFault) → r ≡ s → Yields CutsToken r ys t → CutsToken t (Some x) u
+    → Yields CutsToken s (ys ++ x ∷ []) u
+yields_more s r t u ys x same y g = Yields-more CutsToken s ys t x u (subst (λ (r : Cutting). Yields CutsToken r ys t) same y) g
 
 -- the first tokens that a lexer returns, and where the rest begins after them
 pub first_of : (ts : List Tree) (ps : List ℕ) (s r t : Cutting) (text : List ℕ) (ys : List (Result Token TokenFault)) → r ≡ s → s ≡ start_of s.automaton text
-    → IsBuiltFrom ts ps s.automaton → Yields GivesToken r ys t → AreFirst ts ps text 0 ys
+    → IsBuiltFrom ts ps s.automaton → Yields CutsToken r ys t → AreFirst ts ps text 0 ys
 first_of ts ps s r t text ys same start built y =
-    firsts_from_start ts ps s t s.automaton text ys start built.stands (subst (λ (r : Cutting). Yields GivesToken r ys t) same y)
+    firsts_from_start ts ps s t s.automaton text ys start built.stands (subst (λ (r : Cutting). Yields CutsToken r ys t) same y)
 
 pub begins_at : (s r t : Cutting) (text : List ℕ) (ys : List (Result Token TokenFault)) → r ≡ s → s ≡ start_of s.automaton text → IsUtf8 text
-    → Yields GivesToken r ys t → IsCharBoundary text t.at
+    → Yields CutsToken r ys t → IsCharBoundary text t.at
 begins_at s r t text ys same start u y =
-    rest_begins s t s.automaton text ys start u (subst (λ (r : Cutting). Yields GivesToken r ys t) same y)
+    rest_begins s t s.automaton text ys start u (subst (λ (r : Cutting). Yields CutsToken r ys t) same y)
 
 pub boundary_of : (text placed : List ℕ) (at start : ℕ) → placed ≡ text → start ≡ at → IsCharBoundary text at → IsCharBoundary placed start
 boundary_of text placed at start p e h =
@@ -161,15 +161,15 @@ count_fits text ys x count u e le = omega (arith, length-append ys (x ∷ []), l
 -- ---- the last line
 
 -- nothing comes after a fault
-pub fault_ends : (s r t u : Cutting) (ys : List (Result Token TokenFault)) (x : Result Token TokenFault) (fault : TokenFault) → r ≡ s → Yields GivesToken r ys t
-    → x ≡ Err fault → GivesToken t (Some x) u → Drains GivesToken s (ys ++ Err fault ∷ []) × (fault.at ≡ t.at)
+pub fault_ends : (s r t u : Cutting) (ys : List (Result Token TokenFault)) (x : Result Token TokenFault) (fault : TokenFault) → r ≡ s → Yields CutsToken r ys t
+    → x ≡ Err fault → CutsToken t (Some x) u → Drains CutsToken s (ys ++ Err fault ∷ []) × (fault.at ≡ t.at)
 fault_ends s r t u ys x fault same y is g =
-    let gives : GivesToken t (Some (Err fault)) u = subst (λ (z : Result Token TokenFault). GivesToken t (Some z) u) is g in
+    let gives : CutsToken t (Some (Err fault)) u = subst (λ (z : Result Token TokenFault). CutsToken t (Some z) u) is g in
     let over : u.is_over ≡ true = ap (λ (z : Cutting). z.is_over) gives.4 in
     ((u, (u, yields_more s r t u ys (Err fault) same y gives, (refl, inl over))), gives.2)
 
-pub none_ends : (s r t u : Cutting) (ys : List (Result Token TokenFault)) → r ≡ s → Yields GivesToken r ys t → GivesToken t None u → Drains GivesToken s ys
-none_ends s r t u ys same y g = (u, (t, subst (λ (r : Cutting). Yields GivesToken r ys t) same y, g))
+pub none_ends : (s r t u : Cutting) (ys : List (Result Token TokenFault)) → r ≡ s → Yields CutsToken r ys t → CutsToken t None u → Drains CutsToken s ys
+none_ends s r t u ys same y g = (u, (t, subst (λ (r : Cutting). Yields CutsToken r ys t) same y, g))
 
 pub all_written : (r : Result Outcome RunError) (o : Outcome) (file : Option (List ℕ)) (ts : List Tree) (ps text : List ℕ) (xs : List (Result Token TokenFault))
     (sent kept : List ℕ) (a b c : Option (List ℕ)) → IfOk r (λ w. w ≡ o) → OnOk r (Appends b c (kept ++ last_line o)) → AreTokens ts ps text 0 xs

@@ -147,7 +147,7 @@ pub fn write_tokens<W: Write>(
 
     ensures no_late_write { writer.new.late ≡ writer.old.late }
 {
-    let Ok(tokens) = lexer.tokens_bounded(alloc, text) else {
+    let Ok(tokens) = lexer.tokens_linear(alloc, text) else {
         return Err(RunError::OutOfMemory);
     };
     let mut places = Positions::new(text);

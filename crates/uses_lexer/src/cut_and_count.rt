@@ -1,46 +1,46 @@
 //! A whole text is cut, and what that costs is counted.
 
-ghost use Rattle.std.specs.Prelude.{◌≡◌, ℕ, ◌+◌, ◌*◌, ◌≤◌, ◌⊎◌, [], length, true};
+ghost use Rattle.std.specs.Prelude.{◌≡◌, ℕ, ◌+◌, ◌*◌, ◌≤◌, ◌⊎◌, [], length, None, true};
 ghost use Rattle.std.specs.Str.{chars};
-ghost use Rattle.lalrpop_lexer.specs.Counting.{counting_of};
 ghost use Rattle.lalrpop_lexer.specs.Cutting.{rest_of, start_of};
+ghost use Rattle.lalrpop_lexer.specs.LexerTokens.{lexer_start};
 ghost use Rattle.lalrpop_lexer.specs.Lookahead.{LooksAtMost};
 
-use lalrpop_lexer::{CountedTokens, Lexer, LexerTokens};
+use lalrpop_lexer::{Lexer, LexerTokens};
 
-// Needs lalrpop_lexer::Lexer::tokens: start, automaton.
+// Needs lalrpop_lexer::Lexer::tokens: start.
 /// The tokens of the text, cut by the automaton that `lookahead` is about.
 pub fn cut_by_the_same<'text>(lexer: &'text Lexer, text: &'text str) -> LexerTokens<'text>
-    ensures start { result ≡ start_of lexer.now.automaton text.now }
+    ensures start { result.cutting ≡ start_of lexer.now.automaton text.now }
 {
     lexer.tokens(text)
 }
 
-// Needs lalrpop_lexer::Lexer::tokens_counted: start, cost.
-// Needs lalrpop_lexer::CountedTokens::next: ghost next_gives, ghost remaining.
+// Needs lalrpop_lexer::Lexer::tokens: start, cost.
+// Needs lalrpop_lexer::LexerTokens::next: ghost next_gives, ghost remaining.
 /// Cuts the whole text.
-pub fn cut_to_the_end<'text>(lexer: &'text Lexer, text: &'text str) -> CountedTokens<'text>
+pub fn cut_to_the_end<'text>(lexer: &'text Lexer, text: &'text str) -> LexerTokens<'text>
     ensures all { (result.cutting.is_over ≡ true) ⊎ (rest_of result.cutting ≡ []) }
     ensures cost { (n : ℕ) → LooksAtMost lexer.now.automaton n
         → result.steps ≤ (n + 2) * length (chars text.now) }
 {
-    let mut items = lexer.tokens_counted(text);
+    let mut items = lexer.tokens(text);
     while let Some(_) = items.next() {}
     items
 }
 
-// Needs lalrpop_lexer::Lexer::tokens_counted: start.
+// Needs lalrpop_lexer::Lexer::tokens: start.
 /// Before the first token nothing was read.
-pub fn begin<'text>(lexer: &'text Lexer, text: &'text str) -> CountedTokens<'text>
-    ensures start { result ≡ counting_of lexer.now.automaton text.now }
+pub fn begin<'text>(lexer: &'text Lexer, text: &'text str) -> LexerTokens<'text>
+    ensures start { result ≡ lexer_start lexer.now.automaton text.now None }
 {
-    lexer.tokens_counted(text)
+    lexer.tokens(text)
 }
 
-// Needs lalrpop_lexer::Lexer::tokens_counted: tokens.
+// Needs lalrpop_lexer::Lexer::tokens: tokens.
 /// Whether there is neither a token nor a fault: then the text is empty.
 pub fn is_no_text(lexer: &Lexer, text: &str) -> bool
     ensures empty { result ≡ true → text.now ≡ [] }
 {
-    lexer.tokens_counted(text).next().is_none()
+    lexer.tokens(text).next().is_none()
 }

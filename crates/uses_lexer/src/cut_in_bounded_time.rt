@@ -1,22 +1,22 @@
 //! A whole text, cut in the way whose cost has a bound; and its longest matches.
 
-ghost use Rattle.std.specs.Prelude.{◌≡◌, ℕ, ◌+◌, ◌*◌, ◌≤◌, ◌⊎◌, [], length, true, Option, IfOk};
+ghost use Rattle.std.specs.Prelude.{◌≡◌, ℕ, ◌+◌, ◌*◌, ◌≤◌, ◌⊎◌, [], IsSome, None, length, true, Option, IfOk, OnErr};
 ghost use Rattle.std.specs.Option.{option_map};
 ghost use Rattle.std.specs.Str.{chars};
 ghost use Rattle.lalrpop_book.specs.Longest.{IsLongest};
 ghost use Rattle.lalrpop_lexer.specs.Matching.{characters_of, open_states};
 ghost use Rattle.lalrpop_dfa.specs.Lookahead.{IsLookahead};
-ghost use Rattle.lalrpop_lexer.specs.BoundedCutting.{cutting_of, steps_of, most_steps};
 ghost use Rattle.lalrpop_lexer.specs.Cutting.{rest_of};
+ghost use Rattle.lalrpop_lexer.specs.LexerTokens.{most_steps};
 ghost use Rattle.lalrpop_lexer.specs.Rules.{IsBuiltFrom};
 
 use lalrpop_dfa::NfaIndex;
-use lalrpop_lexer::{BoundedTokens, Lexer};
+use lalrpop_lexer::{Lexer, LexerTokens};
 use lalrpop_nfa::Steps;
 use std::alloc::{AllocError, Global};
 
-// Needs lalrpop_lexer::Lexer::tokens_bounded: cost.
-// Needs lalrpop_lexer::BoundedTokens::next: ghost next_gives, ghost remaining.
+// Needs lalrpop_lexer::Lexer::tokens_linear: cost.
+// Needs lalrpop_lexer::LexerTokens::next: ghost next_gives, ghost remaining.
 /// Cuts the whole text.
 ///
 /// # Errors
@@ -26,19 +26,19 @@ pub fn cut_to_the_end<'text>(
     alloc: Global,
     lexer: &'text Lexer,
     text: &'text str,
-) -> Result<BoundedTokens<'text>, AllocError>
+) -> Result<LexerTokens<'text>, AllocError>
     ensures all { IfOk result (λ s.
-        ((cutting_of s).is_over ≡ true) ⊎ (rest_of (cutting_of s) ≡ [])) }
+        (s.cutting.is_over ≡ true) ⊎ (rest_of s.cutting ≡ [])) }
     ensures cost { IfOk result (λ s. (found : Option ℕ)
         × (IsLookahead lexer.now.automaton found
-        × (steps_of s ≤ most_steps lexer.now.automaton text.now found))) }
+        × (s.steps ≤ most_steps lexer.now.automaton text.now found))) }
 {
-    let mut items = lexer.tokens_bounded(alloc, text)?;
+    let mut items = lexer.tokens_linear(alloc, text)?;
     while let Some(_) = items.next() {}
     Ok(items)
 }
 
-// Needs lalrpop_lexer::Lexer::tokens_bounded: start, built.
+// Needs lalrpop_lexer::Lexer::tokens_linear: start, memo, built, refused.
 /// Before the first token all of the text is left, and it is the lexer's automaton that cuts it.
 ///
 /// # Errors
@@ -48,26 +48,15 @@ pub fn begin<'text>(
     alloc: Global,
     lexer: &'text Lexer,
     text: &'text str,
-) -> Result<BoundedTokens<'text>, AllocError>
-    ensures whole { IfOk result (λ s. rest_of (cutting_of s) ≡ text.now) }
+) -> Result<LexerTokens<'text>, AllocError>
+    ensures whole { IfOk result (λ s. rest_of s.cutting ≡ text.now) }
     ensures built { IfOk result (λ s. IsBuiltFrom lexer.now.trees lexer.now.precedences
-        (cutting_of s).automaton) }
-    ensures unread { IfOk result (λ s. steps_of s ≡ 0) }
+        s.cutting.automaton) }
+    ensures unread { IfOk result (λ s. s.steps ≡ 0) }
+    ensures memo { IfOk result (λ s. IsSome s.spare → IsLookahead lexer.now.automaton None) }
+    ensures refused { OnErr result (IsLookahead lexer.now.automaton None) }
 {
-    lexer.tokens_bounded(alloc, text)
-}
-
-// Needs lalrpop_lexer::Lexer::tokens_bounded: tokens.
-/// Whether there is neither a token nor a fault: then the text is empty.
-///
-/// # Errors
-///
-/// `AllocError` if a request for memory was refused.
-pub fn is_no_text(alloc: Global, lexer: &Lexer, text: &str) -> Result<bool, AllocError>
-    ensures empty { IfOk result (λ none. none ≡ true → text.now ≡ []) }
-{
-    let mut items = lexer.tokens_bounded(alloc, text)?;
-    Ok(items.next().is_none())
+    lexer.tokens_linear(alloc, text)
 }
 
 // Needs lalrpop_lexer::Lexer::matches_linear: start, built, spare.

@@ -9,36 +9,25 @@ use std::alloc::{AllocError, Global};
 
 // Needs lalrpop_lexer::Lexer::lookahead: answer.
 /// Whether something limits how many characters leave a match open.
-///
-/// # Errors
-///
-/// `AllocError` if a request for memory was refused.
-pub fn is_limited(alloc: Global, lexer: &Lexer) -> Result<bool, AllocError>
-    ensures limited { IfOk result (λ limited. limited ≡ true
-        → (n : ℕ) × LooksAtMost lexer.now.automaton n) }
-    ensures endless { IfOk result (λ limited. limited ≡ false
-        → (m : ℕ) → CanStayOpen lexer.now.automaton m) }
+pub fn is_limited(lexer: &Lexer) -> bool
+    ensures limited { result ≡ true → (n : ℕ) × LooksAtMost lexer.now.automaton n }
+    ensures endless { result ≡ false → (m : ℕ) → CanStayOpen lexer.now.automaton m }
 {
-    match lexer.lookahead(alloc)? {
-        Some(_) => Ok(true),
-        None => Ok(false),
+    match lexer.lookahead() {
+        Some(_) => true,
+        None => false,
     }
 }
 
 // Needs lalrpop_lexer::Lexer::lookahead: settled.
 /// How many characters to read past a match, and whether those settle each match. Where nothing limits their number it is
 /// `otherwise`.
-///
-/// # Errors
-///
-/// `AllocError` if a request for memory was refused.
-pub fn to_read(alloc: Global, lexer: &Lexer, otherwise: usize) -> Result<(usize, bool), AllocError>
-    ensures settled { IfOk result (λ found. found.1 ≡ true
-        → IsSettledAfter lexer.now.trees found.0) }
+pub fn to_read(lexer: &Lexer, otherwise: usize) -> (usize, bool)
+    ensures settled { result.1 ≡ true → IsSettledAfter lexer.now.trees result.0 }
 {
-    match lexer.lookahead(alloc)? {
-        Some(number) => Ok((number, true)),
-        None => Ok((otherwise, false)),
+    match lexer.lookahead() {
+        Some(number) => (number, true),
+        None => (otherwise, false),
     }
 }
 

@@ -4,7 +4,7 @@ use Rattle.lalrpop_book.specs.declared.error.DfaConstructionError.TheVariants as
 use Rattle.lalrpop_grammar.specs.declared.error.RegexError.TheVariants as read
 use Rattle.lalrpop_grammar.specs.declared.error.SyntaxKind.{SyntaxKind}
 use Rattle.lalrpop_lexer.specs.LexerErrors.{of_regex, of_construction}
-use Rattle.lalrpop_lexer.specs.declared.error.LexerError.TheVariants.{Syntax, Clash, OutOfMemory}
+use Rattle.lalrpop_lexer.specs.declared.error.LexerError.TheVariants.{Syntax, OutOfMemory}
 
 place_is_kept : (position : ℕ) (kind : SyntaxKind) → of_regex (read.Syntax position kind) ≡ Syntax position kind
 place_is_kept position kind = refl

@@ -1,7 +1,6 @@
 use Rattle.std.proofs.Common.{◌≡◌, ℕ, ◌≤◌, false, List, ◌++◌, string_bytes}
 use Rattle.std.specs.Prelude.{option_map}
 use Rattle.std.specs.Io.KnownBytes.{Appends}
-use Rattle.lalrpop_lexer.specs.BoundedCutting.{cutting_of}
 use Rattle.tokens_lib.proofs.TextLines.{AreLinesOf}
 use Rattle.tokens_lib.proofs.token_lines.write_tokens.Given as goal
 
@@ -14,5 +13,5 @@ invariant-loop-item g l = record {
   good : l.writer.failed ≡ false;
   no_late : l.writer.late ≡ l.fn.writer.late;
   text : l.places.text ≡ l.text;
-  walked : l.places.offset ≤ (cutting_of l.item-iterator).at;
+  walked : l.places.offset ≤ l.item-iterator.cutting.at;
 }

@@ -1,6 +1,7 @@
 use Rattle.std.proofs.Common.{◌≡◌, ◌+◌, ◌≤◌, [], ◌∷◌, ◌++◌, length, true, inl, refl, ap, subst, arith}
 use Rattle.lalrpop_lexer.specs.Cutting.{Cutting}
 use Rattle.lalrpop_lexer.specs.LexerTokens.{GivesToken}
+use Rattle.lalrpop_lexer.proofs.LexerCosts.{nothing_more}
 use Rattle.lalrpop_lexer.specs.Tokens.{AreTokens}
 use Rattle.uses_lexer.proofs.Tokens.{item_more, item_last, no_more, token_more, count_more, room_for_one_more, then_a_fault}
 use Rattle.uses_lexer.proofs.cut_a_text.token_count.Goals as goal
@@ -25,8 +26,8 @@ pub returns-in-Err : goal.returns-in-Err
 returns-in-Err c =
     let so_far = c.loop-item.invariant in
     let step = rw c.in-Err.is at c.in-Some.ensures.steps in
-    let over : c.next.new.self.is_over ≡ true = ap (λ (x : Cutting). x.is_over) step.4 in
-    let all = item_last GivesToken _ _ _ _ _ _ _ c.into_iter-item-iterator.ensures.into_iter_gives c.loop-item.yielded_by c.in-Some.is c.next.ensures.steps (refl, inl over) in
+    let over : c.next.new.self.cutting.is_over ≡ true = ap (λ (x : Cutting). x.is_over) step.0.4 in
+    let all = item_last GivesToken _ _ _ _ _ _ _ c.into_iter-item-iterator.ensures.into_iter_gives c.loop-item.yielded_by c.in-Some.is c.next.ensures.steps (nothing_more _ over) in
     record {
       all = tt;
       fault = (

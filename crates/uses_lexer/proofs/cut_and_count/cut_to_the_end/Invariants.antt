@@ -1,7 +1,7 @@
 use Rattle.std.proofs.Common.{List}
-use Rattle.std.specs.Prelude.{Result}
+use Rattle.std.specs.Prelude.{None, Result}
 use Rattle.std.specs.Iterator.{Yields}
-use Rattle.lalrpop_lexer.specs.Counting.{counting_of, GivesCounted}
+use Rattle.lalrpop_lexer.specs.LexerTokens.{lexer_start, GivesToken}
 use Rattle.lalrpop_lexer.specs.Cutting.{left_of}
 use Rattle.lalrpop_lexer.specs.declared.Token.{Token}
 use Rattle.lalrpop_lexer.specs.declared.TokenFault.{TokenFault}
@@ -9,7 +9,7 @@ use Rattle.uses_lexer.proofs.cut_and_count.cut_to_the_end.Given as goal
 
 -- all that was returned so far
 abbrev pub invariant-loop : goal.invariant-loop
-invariant-loop l = (xs : List (Result Token TokenFault)) × Yields GivesCounted (counting_of l.fn.lexer.automaton l.fn.text) xs l.items
+invariant-loop l = (xs : List (Result Token TokenFault)) × Yields GivesToken (lexer_start l.fn.lexer.automaton l.fn.text None) xs l.items
 
 abbrev pub decreases-loop : goal.decreases-loop
 decreases-loop l = left_of l.items.cutting

@@ -1,19 +1,17 @@
-use Rattle.std.proofs.Common.{◌≡◌, ℕ, List}
-use Rattle.std.specs.Prelude.{Option, Some, None, Result, Ok, Err, IfOk, IfSome}
+use Rattle.std.proofs.Common.{ℕ, List}
+use Rattle.std.specs.Prelude.{Option, Some, None, IfSome}
 use Rattle.lalrpop_book.specs.Tree.{Tree}
 use Rattle.lalrpop_dfa.specs.Dfa.{Row, Recognizes}
-use Rattle.lalrpop_dfa.specs.Lookahead.{IsSettledAfter}
+use Rattle.lalrpop_dfa.specs.Lookahead.{IsLookahead, IsSettledAfter}
+use Rattle.lalrpop_dfa.proofs.Settled.{settled_after}
 use Rattle.lalrpop_lexer.proofs.rules.Lexer.lookahead.Goals as goal
 
 pub returns-clause-answer : goal.returns-clause-answer
-returns-clause-answer c = rw (← c.self.view_is, ← c.dfa.ensures.same) c.lookahead.ensures.answer
+returns-clause-answer c = rw (← c.self.view_is) c.self.invariant.1
 
--- what holds of all trees that the automaton recognizes holds of these
-of_these : {E : Type 0} (d e : List Row) (ts : List Tree) (ps : List ℕ) (found : Result (Option ℕ) E) → d ≡ e → Recognizes e ts ps
-    → IfOk found (λ o. IfSome o (λ n. (ts : List Tree) (ps : List ℕ) → Recognizes d ts ps → IsSettledAfter ts n)) → IfOk found (λ o. IfSome o (λ n. IsSettledAfter ts n))
-of_these d e ts ps (Ok (Some n)) same h all = all ts ps (rw same h)
-of_these d e ts ps (Ok None) same h all = tt
-of_these d e ts ps (Err x) same h all = tt
+settled : (d : List Row) (ts : List Tree) (ps : List ℕ) (found : Option ℕ) → Recognizes d ts ps → IsLookahead d found → IfSome found (IsSettledAfter ts)
+settled d ts ps (Some n) h is = settled_after d ts ps h n is.0
+settled d ts ps None h is = tt
 
 pub returns-clause-settled : goal.returns-clause-settled
-returns-clause-settled c = rw (← c.self.view_is) (of_these _ _ _ _ c.lookahead.result c.dfa.ensures.same c.self.invariant.stands c.lookahead.ensures.settled)
+returns-clause-settled c = rw (← c.self.view_is) (settled _ _ _ c.self.inside.lookahead c.self.invariant.0.stands c.self.invariant.1)

@@ -13,7 +13,7 @@ cutting-init c = record {
 pub cutting-preserved : goal.cutting-preserved
 cutting-preserved c = record {
   led = rw (← c.self.view_is)
-      (lead_block _ _ c.args.text.now c.self.inside.dense c.cutting.at c.in-Some.to c.cutting.tokens.items c.cut_block.new.tokens.items c.self.invariant.stands
+      (lead_block _ _ c.args.text.now c.self.inside.dense c.cutting.at c.in-Some.to c.cutting.tokens.items c.cut_block.new.tokens.items c.self.invariant.0.stands
       (rw (← c.self.view_is) at c.cutting.invariant.led)
       (rw c.in-Some.is at c.in_ok-to.ensures.tokens));
   boundary = (rw c.in-Some.is at c.in_ok-to.ensures.goes).1;
@@ -23,11 +23,11 @@ pub returns-in-None-clause-fault : goal.returns-in-None-clause-fault
 returns-in-None-clause-fault c =
     let same : c.cut_block.new.tokens ≡ c.cutting.tokens = rw c.in-None.is at c.in_ok-to.ensures.same in
     rw (← c.self.view_is)
-    (fault_led _ _ c.args.text.now c.cutting.at c.cutting.tokens.items c.cut_block.new.tokens.items (record { at = c.cutting.at }) c.self.invariant.no_clash
+    (fault_led _ _ c.args.text.now c.cutting.at c.cutting.tokens.items c.cut_block.new.tokens.items (record { at = c.cutting.at }) c.self.invariant.0.no_clash
     (rw (← c.self.view_is) at c.cutting.invariant.led) (ap (λ tokens. tokens.items) same) c.cutting-test.true
-    ((rw c.in-None.is at c.in_ok-to.ensures.none) _ _ c.self.invariant.stands) refl)
+    ((rw c.in-None.is at c.in_ok-to.ensures.none) _ _ c.self.invariant.0.stands) refl)
 
 pub returns-clause-all : goal.returns-clause-all
 returns-clause-all c =
     rw (← c.self.view_is)
-    (all_led _ _ c.args.text.now c.cutting.at c.cutting.tokens.items c.self.invariant.no_clash (rw (← c.self.view_is) at c.cutting.invariant.led) c.cutting-test.false)
+    (all_led _ _ c.args.text.now c.cutting.at c.cutting.tokens.items c.self.invariant.0.no_clash (rw (← c.self.view_is) at c.cutting.invariant.led) c.cutting-test.false)

@@ -1,25 +1,31 @@
-use Rattle.std.proofs.Common.{◌≡◌, refl, ◌∙◌}
+use Rattle.std.proofs.Common.{◌≡◌, ◌∙◌, ap}
+use Rattle.std.specs.Prelude.{None}
 use Rattle.lalrpop_lexer.specs.Cutting.{start_of}
-use Rattle.lalrpop_lexer.proofs.LexerCuttings.{tokens_from_start, token_parts_from_start, token_count_from_start}
+use Rattle.lalrpop_lexer.specs.Rules.{Rules}
+use Rattle.lalrpop_lexer.specs.LexerTokens.{LexerCutting, lexer_start}
+use Rattle.lalrpop_lexer.proofs.LexerCosts.{lexer_tokens, lexer_parts, lexer_count, cost_without}
 use Rattle.lalrpop_lexer.proofs.rules.Lexer.tokens.Goals as goal
 
-begins : (c : goal.After-new-2) → c.new-2.result ≡ start_of c.self.inside.dense c.args.text.now
-begins c = c.new-2.ensures.same ∙ c.new.ensures.start
+begins : (c : goal.After-new) → c.new.result ≡ lexer_start c.args.self.now.automaton c.args.text.now None
+begins c = c.new.ensures.start ∙ ap (λ (r : Rules). lexer_start r.automaton c.args.text.now None) c.self.view_is
+
+cuts : (c : goal.After-new) → c.new.result.cutting ≡ start_of c.args.self.now.automaton c.args.text.now
+cuts c = ap (λ (s : LexerCutting). s.cutting) (begins c)
 
 pub returns-clause-start : goal.returns-clause-start
-returns-clause-start c = rw (begins c) refl
-
-pub returns-clause-automaton : goal.returns-clause-automaton
-returns-clause-automaton c = rw (← c.self.view_is, begins c) refl
+returns-clause-start c = begins c
 
 pub returns-clause-built : goal.returns-clause-built
-returns-clause-built c = rw (← c.self.view_is, begins c) c.self.invariant
+returns-clause-built c = rw (begins c, ← c.self.view_is) c.self.invariant.0
 
 pub returns-clause-tokens : goal.returns-clause-tokens
-returns-clause-tokens c = rw (← c.self.view_is) (tokens_from_start _ _ _ _ _ (begins c) c.self.invariant)
+returns-clause-tokens c = lexer_tokens _ _ _ _ _ (cuts c) (rw (← c.self.view_is) c.self.invariant.0)
 
 pub returns-clause-parts : goal.returns-clause-parts
-returns-clause-parts c = token_parts_from_start _ _ _ (begins c)
+returns-clause-parts c = lexer_parts _ _ _ (cuts c)
 
 pub returns-clause-count : goal.returns-clause-count
-returns-clause-count c = token_count_from_start _ _ _ (begins c) c.utf8.text
+returns-clause-count c = lexer_count _ _ _ (cuts c) c.utf8.text
+
+pub returns-clause-cost : goal.returns-clause-cost
+returns-clause-cost c = cost_without _ _ _ (begins c)
