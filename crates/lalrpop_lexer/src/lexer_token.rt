@@ -13,6 +13,14 @@ use std::marker::Model;
 /// Cuts a text into tokens, like `Tokens`, and gives the offset where each begins.
 ///
 /// A step is counted for each character it reads, as often as it reads it. Only contracts see the steps.
+///
+/// ```
+/// use lalrpop_lexer::lexer::dfa::Precedence;
+/// use lalrpop_lexer::{Form, Lexer};
+///
+/// let lexer = Lexer::from_patterns(alloc, &[(Precedence(0), Form::Pattern, "[a-z]+| +")])?;
+/// let mut tokens = lexer.tokens("ab c!"); // "ab" at 0, " " at 2, "c" at 3, and a fault at 4
+/// ```
 #[derive(Drop)]
 pub struct LexerTokens<'text> {
     dense: &'text DenseDfa,
