@@ -2,7 +2,7 @@
 
 use crate::shared::halves;
 use anyhow::Result;
-use lalrpop_rules::{Item, Items, LinearItems, Rule, RuleLexer};
+use lalrpop_rules::{Item, Items, Rule, RuleLexer};
 use std::alloc::Global;
 
 // The pieces, and the first two `None`.
@@ -68,7 +68,7 @@ fn texts_are_cut_to_their_ends_in_linear_time(rt: HostRuntime) {
 }
 
 // Whether both return the same items.
-fn are_same(mut plain: Items, linear: LinearItems) -> bool {
+fn are_same(mut plain: Items, linear: Items) -> bool {
     for item in linear {
         if plain.next() != Some(item) {
             return false;
