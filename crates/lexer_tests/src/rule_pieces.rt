@@ -3,7 +3,7 @@
 use crate::built::{expect, halves};
 use crate::lookaheads::lexer_of;
 use crate::rules::{rule_lexer, shown};
-use lalrpop_rules::{Item, Items, LinearItems, items};
+use lalrpop_rules::{Item, Items, items};
 use std::alloc::{AllocError, Global};
 
 // The pieces by rules, and the first two `None`.
@@ -107,7 +107,7 @@ fn repeated(alloc: Global, part: &str, count: usize) -> Result<String, AllocErro
 }
 
 // Whether both return the same items.
-fn are_same(mut plain: Items, linear: LinearItems) -> bool {
+fn are_same(mut plain: Items, linear: Items) -> bool {
     for item in linear {
         if plain.next() != Some(item) {
             return false;
@@ -117,7 +117,7 @@ fn are_same(mut plain: Items, linear: LinearItems) -> bool {
 }
 
 // How many tokens and faults there are.
-fn counts(pieces: LinearItems) -> (usize, usize) {
+fn counts(pieces: Items) -> (usize, usize) {
     let (mut tokens, mut faults) = (0usize, 0usize);
     for item in pieces {
         match item {

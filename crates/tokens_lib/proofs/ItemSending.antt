@@ -8,7 +8,6 @@ use Rattle.std.specs.Io.KnownBytes.{Appends}
 use Rattle.std.specs.Iterator.{Yields, Drains}
 use Rattle.std.specs.Str.{IsUtf8, IsCharBoundary}
 use Rattle.lalrpop_rules.specs.CutToEnd.{CutToEnd, uncut, GivesPiece}
-use Rattle.lalrpop_rules.specs.LinearCutToEnd.{LinearCutToEnd, GivesLinearPiece}
 use Rattle.lalrpop_book.specs.Tree.{Tree}
 use Rattle.lalrpop_rules.specs.Pieces.{IsPiece, slice_of, start_of}
 use Rattle.lalrpop_rules.specs.RuleSet.{RuleSet, recognized}
@@ -24,15 +23,15 @@ use Rattle.tokens_lib.proofs.Sending.{AppendsPrefix-behind, AppendsPrefix-front}
 
 -- ---- from the start
 
-pub firsts_from_start : (rules : RuleSet) (text : List ℕ) (r s t : CutToEnd) (ys : List Item) → r ≡ s → s ≡ uncut (recognized rules) rules.skips text
+pub firsts_from_start : (rules : RuleSet) (text : List ℕ) (r s t : CutToEnd) (ys : List Item) → r ≡ s → s ≡ uncut (recognized rules) rules.skips text s.memo
     → Yields GivesPiece r ys t → AreFirst rules.trees rules.precedences rules.skips text 0 ys
 firsts_from_start rules text r s t ys same start y =
     subst (λ (w : CutToEnd). AreFirst w.rules.trees w.rules.precedences w.skips w.text w.at ys) (same ∙ start) (firsts_of r t ys y)
 
-pub begins_from_start : (rules : RuleSet) (text : List ℕ) (r s t : CutToEnd) (ys : List Item) → IsUtf8 text → r ≡ s → s ≡ uncut (recognized rules) rules.skips text
+pub begins_from_start : (rules : RuleSet) (text : List ℕ) (r s t : CutToEnd) (ys : List Item) → IsUtf8 text → r ≡ s → s ≡ uncut (recognized rules) rules.skips text s.memo
     → Yields GivesPiece r ys t → IsCharBoundary text t.at
 begins_from_start rules text r s t ys u same start y =
-    let whole : r ≡ uncut (recognized rules) rules.skips text = same ∙ start in
+    let whole : r ≡ uncut (recognized rules) rules.skips text s.memo = same ∙ start in
     let utf8 : IsUtf8 r.text = subst (λ (w : CutToEnd). IsUtf8 w.text) (sym whole) u in
     let front : IsCharBoundary r.text r.at = subst (λ (w : CutToEnd). IsCharBoundary w.text w.at) (sym whole) (IsCharBoundary-start text u) in
     let there = rest_begins r t ys utf8 front y in
@@ -42,8 +41,8 @@ begins_from_start rules text r s t ys u same start y =
 pub one_more : (r t u : CutToEnd) (ys : List Item) (x : Item) → Yields GivesPiece r ys t → GivesPiece t (Some x) u → Yields GivesPiece r (ys ++ x ∷ []) u
 one_more r t u ys x y g = Yields-more GivesPiece r ys t x u y g
 
-pub linear_drained : (s t u : LinearCutToEnd) (ys : List Item) → Yields GivesLinearPiece s ys t → GivesLinearPiece t None u → Drains GivesLinearPiece s ys
-linear_drained s t u ys y g = (u, (t, y, g))
+pub all_given : (s t u : CutToEnd) (ys : List Item) → Yields GivesPiece s ys t → GivesPiece t None u → Drains GivesPiece s ys
+all_given s t u ys y g = (u, (t, y, g))
 
 starts_at : (ts : List Tree) (ps : List ℕ) (skips : List Bool) (text : List ℕ) (at : ℕ) (x : Item) → IsPiece ts ps skips text at x → start_of x ≡ at
 starts_at ts ps skips text at (Token token) is = is.0.0

@@ -7,7 +7,7 @@ ghost use Rattle.lalrpop_rules.specs.CutToEnd.{left_text};
 ghost use Rattle.lalrpop_rules.specs.Pieces.{ArePieces, AreApart, joined, up_to_fault};
 ghost use Rattle.lalrpop_rules.specs.declared.item.Item.{Item as ItemValue};
 
-use lalrpop_rules::{LinearItems, RuleLexer};
+use lalrpop_rules::{Items, RuleLexer};
 use std::alloc::{AllocError, Global};
 
 // Needs lalrpop_rules::RuleLexer::items_linear: items, whole, apart, tokens, count.
@@ -32,7 +32,7 @@ pub fn piece_count(alloc: Global, lexer: &RuleLexer, text: &str) -> Result<usize
 }
 
 // Needs lalrpop_rules::RuleLexer::items_linear: start.
-// Needs lalrpop_rules::LinearItems::rest: rest.
+// Needs lalrpop_rules::Items::rest: rest.
 /// Before the first piece the rest is the whole text.
 ///
 /// # Errors
@@ -70,7 +70,7 @@ pub fn cut_once<'text>(
 }
 
 // Needs lalrpop_rules::RuleLexer::items_linear: cost.
-// Needs lalrpop_rules::LinearItems::next: ghost next_gives, ghost remaining.
+// Needs lalrpop_rules::Items::next: ghost next_gives, ghost remaining.
 /// Cuts the whole text.
 ///
 /// # Errors
@@ -80,8 +80,8 @@ pub fn cut_to_the_end<'text>(
     alloc: Global,
     lexer: &'text RuleLexer,
     text: &'text str,
-) -> Result<LinearItems<'text>, AllocError>
-    ensures all { IfOk result (λ s. left_text s.cut ≡ []) }
+) -> Result<Items<'text>, AllocError>
+    ensures all { IfOk result (λ s. left_text s ≡ []) }
     ensures cost { IfOk result (λ s. s.steps ≤ 66 * length (chars text.now) + length text.now
         + open_states lexer.now.automaton * (length text.now + 64)) }
 {

@@ -8,13 +8,12 @@ ghost use Rattle.lalrpop_book.specs.declared.token.Token.{Token as TokenValue};
 ghost use Rattle.lalrpop_book.specs.declared.token.TokenFault.{TokenFault as FaultValue};
 ghost use Rattle.lalrpop_lexer.specs.LexerTokens.{GivesToken};
 ghost use Rattle.lalrpop_rules.specs.CutToEnd.{GivesPiece};
-ghost use Rattle.lalrpop_rules.specs.LinearCutToEnd.{GivesLinearPiece};
 ghost use Rattle.lalrpop_rules.specs.Pieces.{AreSame, IsPiece, start_of};
 ghost use Rattle.lalrpop_rules.specs.declared.item.Item.{Item as ItemValue};
 
 use lalrpop_lexer::lexer::dfa::Precedence;
 use lalrpop_lexer::{Lexer, LexerTokens, Token};
-use lalrpop_rules::{Items, LinearItems, RuleLexer};
+use lalrpop_rules::{Items, RuleLexer};
 use std::alloc::{AllocError, Global};
 
 /// How strong the pattern of the token at the front of the text is. The pattern of a token is in the list.
@@ -71,9 +70,9 @@ pub fn pieces_either_way<'text>(
     alloc: Global,
     lexer: &'text RuleLexer,
     text: &'text str,
-) -> Result<(Items<'text>, LinearItems<'text>), AllocError>
+) -> Result<(Items<'text>, Items<'text>), AllocError>
     ensures same { IfOk result (λ both. (xs ys : List ItemValue) → Drains GivesPiece both.0 xs
-        → Drains GivesLinearPiece both.1 ys → AreSame xs ys) }
+        → Drains GivesPiece both.1 ys → AreSame xs ys) }
 {
     let linear = lexer.items_linear(alloc, text)?;
     Ok((lexer.items(text), linear))

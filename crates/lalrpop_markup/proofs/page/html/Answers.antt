@@ -1,7 +1,7 @@
 use Rattle.std.proofs.Common.{[], ◌∷◌, ◌++◌, ap, ◌∙◌, rules}
 use Rattle.std.specs.Iterator.{Drains}
 use Rattle.std.proofs.iter.Next.{Yields-more}
-use Rattle.lalrpop_rules.specs.LinearCutToEnd.{GivesLinearPiece}
+use Rattle.lalrpop_rules.specs.CutToEnd.{GivesPiece}
 use Rattle.lalrpop_markup.specs.Markup.{marked, outside}
 use Rattle.lalrpop_markup.proofs.Characters.{one_more}
 use Rattle.lalrpop_markup.proofs.Readings.{pieces_out}
@@ -13,7 +13,7 @@ marking-init c = ([], search rules)
 pub marking-preserved : goal.marking-preserved
 marking-preserved c =
     let i = c.marking.invariant in
-    (i.0 ++ c.in-Some.item ∷ [], (Yields-more GivesLinearPiece _ i.0 c.marking.items c.in-Some.item _ i.1.0 c.in-Some.ensures.steps, one_more (marked c.args.lexer.now.names) i.0 c.in-Some.item _ _ i.1.1 c.in_ok-push_item.ensures))
+    (i.0 ++ c.in-Some.item ∷ [], (Yields-more GivesPiece _ i.0 c.marking.items c.in-Some.item _ i.1.0 c.in-Some.ensures.steps, one_more (marked c.args.lexer.now.names) i.0 c.in-Some.item _ _ i.1.1 c.in_ok-push_item.ensures))
 
 pub returns-clause-pieces : goal.returns-clause-pieces
 returns-clause-pieces c =
@@ -24,5 +24,5 @@ pub returns-clause-text : goal.returns-clause-text
 returns-clause-text c =
     let i = c.marking.invariant in
     let given = c.in_ok-items.ensures in
-    let all : Drains GivesLinearPiece c.in_ok-items.items i.0 = (_, (_, i.1.0, c.in_default.ensures.steps)) in
+    let all : Drains GivesPiece c.in_ok-items.items i.0 = (_, (_, i.1.0, c.in_default.ensures.steps)) in
     ap outside i.1.1 ∙ pieces_out _ _ _ _ _ _ _ (given.items i.0 all) ∙ given.whole i.0 all

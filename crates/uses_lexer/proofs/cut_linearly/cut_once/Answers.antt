@@ -6,7 +6,7 @@ use Rattle.uses_lexer.proofs.cut_linearly.cut_once.Goals as goal
 
 pub returns-in-Some : goal.returns-in-Some
 returns-in-Some c =
-    let left = left_text c.next.new.self.cut in
+    let left = left_text c.next.new.self in
     let whole : c.args.text.now ≡ (slice_of c.in-Some.piece ++ []) ++ left =
     c.in_ok-pieces.ensures.parts (c.in-Some.piece ∷ []) c.next.new.self (c.next.new.self, c.in-Some.ensures.steps, refl) in
     let parts : c.args.text.now ≡ slice_of c.in-Some.piece ++ left = whole ∙ ap (λ (l : List ℕ). l ++ left) (append-nil (slice_of c.in-Some.piece)) in

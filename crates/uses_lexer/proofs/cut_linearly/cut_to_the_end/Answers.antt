@@ -1,11 +1,11 @@
 use Rattle.std.proofs.Common.{◌++◌, ◌∷◌, [], subst}
 use Rattle.std.specs.Prelude.{Option}
 use Rattle.std.proofs.iter.Next.{Yields-more}
-use Rattle.lalrpop_rules.specs.LinearCutToEnd.{GivesLinearPiece}
+use Rattle.lalrpop_rules.specs.CutToEnd.{GivesPiece}
 use Rattle.lalrpop_rules.specs.declared.item.Item.{Item}
 use Rattle.uses_lexer.proofs.cut_linearly.cut_to_the_end.Goals as goal
 
 pub loop-preserved : goal.loop-preserved
 loop-preserved c =
     let so_far = c.loop.invariant in
-    (so_far.0 ++ c.in-Some.field-0 ∷ [], Yields-more GivesLinearPiece _ so_far.0 c.loop.pieces c.in-Some.field-0 _ so_far.1 (subst (λ (o : Option Item). GivesLinearPiece c.loop.pieces o c.next.new.self) c.in-Some.is c.next.ensures.steps))
+    (so_far.0 ++ c.in-Some.field-0 ∷ [], Yields-more GivesPiece _ so_far.0 c.loop.pieces c.in-Some.field-0 _ so_far.1 (subst (λ (o : Option Item). GivesPiece c.loop.pieces o c.next.new.self) c.in-Some.is c.next.ensures.steps))
