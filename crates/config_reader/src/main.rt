@@ -3,8 +3,7 @@
 
 use anyhow::{Context, Result, bail};
 use lalrpop_lexer::Position;
-use lalrpop_rules::read_rules;
-use lalrpop_rules::{Item, RuleLexer};
+use lalrpop_rules::{Item, RuleLexer, read_rules};
 use std::io::Print;
 use std::{env, fs};
 

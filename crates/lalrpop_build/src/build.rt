@@ -34,16 +34,15 @@ pub(crate) mod origin;
 mod scratch;
 mod sets;
 
+use crate::alphabet::Cell;
 use crate::{Dfa, DfaConstructionError, DfaStateIndex, Kind, NfaIndex, Precedence};
 use automata::Automata;
 use best::Tie;
 use block::{BEFORE_ALL, Block};
 use compile::compile_all;
-use crate::alphabet::Cell;
+use lalrpop_dfa::{ItemSet, RowWriter, Rows};
 use lalrpop_hir::Regex;
-use lalrpop_dfa::ItemSet;
 use lalrpop_nfa::Nfa;
-use lalrpop_dfa::{RowWriter, Rows};
 use memo::Memo;
 use origin::{Origin, word_to};
 use scratch::Scratch;

@@ -14,11 +14,11 @@ ghost use Rattle.lalrpop_build.specs.Internal.Subsets.{closed, move};
 ghost use Rattle.lalrpop_build.specs.Internal.Transitions.{transition_cmp, AreTransitions};
 ghost use Rattle.lalrpop_build.specs.Internal.Worklist.{IsInserted, epsilon_targets, marked, AreOfPattern, AreStatesBelow, AreMarksOf, pattern_at};
 
-use lalrpop_book::NfaIndex;
-use lalrpop_dfa::{Item, ItemSet};
 use super::moves::targets_by;
 use super::ordered::follow_ordered;
 use super::transitions::Transition;
+use lalrpop_book::NfaIndex;
+use lalrpop_dfa::{Item, ItemSet};
 use lalrpop_nfa::{Nfa, NfaStateIndex, Noop, REJECT};
 use std::alloc::{AllocError, Global};
 use std::marker::Model;

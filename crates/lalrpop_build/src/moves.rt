@@ -9,8 +9,8 @@ ghost use Rattle.lalrpop_build.specs.Internal.Subsets.{default_targets};
 ghost use Rattle.lalrpop_build.specs.Internal.Transitions.{transition_cmp};
 ghost use Rattle.lalrpop_build.specs.Internal.Taken.{IsRunOf, targets_of_run, AreTargetsBy};
 
-use lalrpop_dfa::Item;
 use super::transitions::Transition;
+use lalrpop_dfa::Item;
 use lalrpop_nfa::{Nfa, Other};
 use std::alloc::AllocError;
 

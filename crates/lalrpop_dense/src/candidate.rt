@@ -2,8 +2,8 @@
 //! hashes.
 
 use crate::table::Layout;
-use lalrpop_nfa::Test;
 use lalrpop_dfa::{Dfa, DfaStateIndex, Kind};
+use lalrpop_nfa::Test;
 use std::alloc::{AllocError, Global};
 use std::collections::BTreeMap;
 

@@ -8,8 +8,8 @@ ghost use Rattle.lalrpop_dense.specs.Internal.Table.{HasClasses, IsRowOfKind, Is
 ghost use Rattle.lalrpop_dense.specs.Internal.Runs.{IsRun, IsPageAgain};
 
 use crate::table::Layout;
-use lalrpop_nfa::Test;
 use lalrpop_dfa::{Dfa, DfaStateIndex, Kind};
+use lalrpop_nfa::Test;
 use std::alloc::{AllocError, Global};
 
 // All characters are below this.

@@ -22,9 +22,9 @@ use crate::mark::{Engine, Marks, mark_block};
 use crate::run::{Settled, longest_by, longest_within_by};
 use crate::table::{Layout, StoredCells, Table, stored};
 use lalrpop_book::Token;
-use lalrpop_nfa::Steps;
 use lalrpop_dfa::interpret::interpret_counted;
 use lalrpop_dfa::{Dfa, NfaIndex};
+use lalrpop_nfa::Steps;
 use std::alloc::{AllocError, Global};
 use std::marker::Model;
 

@@ -10,9 +10,9 @@ ghost use Rattle.lalrpop_dfa.specs.Lookahead.{LooksAtMost};
 ghost use Rattle.lalrpop_book.specs.Longest.{IsLongest};
 
 use crate::dense::DenseDfa;
-use lalrpop_nfa::Steps;
 use lalrpop_dfa::interpret::interpret_counted;
 use lalrpop_dfa::{Dfa, NfaIndex};
+use lalrpop_nfa::Steps;
 
 /// What finds the longest match at the start of a text by an automaton.
 pub trait Matcher: Drop {

@@ -13,8 +13,8 @@ ghost use Rattle.lalrpop_dense.specs.Internal.Table.{HasClasses, IsTableOf, clas
 ghost use Rattle.lalrpop_dense.specs.Internal.Reading.{ReadsChar, IsPlace, PaysPast, found};
 
 use crate::table::{Cells, Layout};
-use lalrpop_nfa::Steps;
 use lalrpop_dfa::{Dfa, NfaIndex};
+use lalrpop_nfa::Steps;
 
 // The character at the place.
 #[inline(always)]

@@ -18,9 +18,9 @@ mod witness;
 
 ghost use Rattle.std.specs.Prelude.{◌≡◌, ◌<◌, length, slice_get, Some, IsSomeAnd};
 
-pub use lalrpop_book::{NfaIndex, Precedence};
 pub use index::{DfaStateIndex, START};
 pub use items::{Item, ItemSet};
+pub use lalrpop_book::{NfaIndex, Precedence};
 use lalrpop_nfa::Test;
 pub use rows::{RowWriter, Rows};
 use search::LISTED;

@@ -5,8 +5,8 @@ ghost use Rattle.lalrpop_grammar.specs.Bracket.{leaf, leaf_or_complement};
 ghost use Rattle.lalrpop_grammar.specs.Pattern.{literal_tree, dot_tree, is_one_member};
 
 use crate::flags::Flags;
-use lalrpop_hir::{Class, ClassUnicode, Hir};
 use crate::{fold, range_class};
+use lalrpop_hir::{Class, ClassUnicode, Hir};
 use std::alloc::{AllocError, Global};
 
 /// The set of a leaf with the characters from `low` to `high`; under the flag `i`, with all their foldings too.

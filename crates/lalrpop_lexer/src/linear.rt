@@ -2,8 +2,8 @@
 
 ghost use Rattle.std.specs.Prelude.{◌≡◌};
 
-use lalrpop_book::{Token, TokenFault};
 use crate::LinearMatches;
+use lalrpop_book::{Token, TokenFault};
 use lalrpop_nfa::Steps;
 use std::iter::FusedIterator;
 use std::marker::Model;

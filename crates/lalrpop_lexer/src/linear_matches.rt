@@ -3,11 +3,11 @@
 ghost use Rattle.std.specs.Prelude.{◌≡◌, ◌+◌, length};
 ghost use Rattle.std.specs.Str.{chars};
 
-use crate::remembering::longest_remembering;
 use crate::memo::{Memo, STRIDE};
+use crate::remembering::longest_remembering;
 use lalrpop_dense::DenseDfa;
-use lalrpop_nfa::Steps;
 use lalrpop_dfa::NfaIndex;
+use lalrpop_nfa::Steps;
 use std::alloc::{AllocError, Global};
 use std::marker::Model;
 

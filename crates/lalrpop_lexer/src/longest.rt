@@ -6,8 +6,8 @@ ghost use Rattle.lalrpop_book.specs.Clash.{NoClash};
 ghost use Rattle.lalrpop_book.specs.Longest.{IsLongest};
 ghost use Rattle.lalrpop_book.specs.Report.{NoFault, IsReport};
 
-use lalrpop_dfa::interpret::interpret;
 use lalrpop_build::{DfaConstructionError, NfaIndex, Precedence, build_dfa};
+use lalrpop_dfa::interpret::interpret;
 use lalrpop_re::Regex;
 use std::alloc::Global;
 

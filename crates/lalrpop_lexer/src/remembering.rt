@@ -12,8 +12,8 @@ ghost use Rattle.lalrpop_lexer.specs.Internal.Memory.{IsFor, room};
 ghost use Rattle.lalrpop_lexer.specs.Internal.Hopeless.{IsSound};
 
 use crate::memo::Memo;
-use lalrpop_nfa::Steps;
 use lalrpop_dfa::{Dfa, Kind, NfaIndex, START};
+use lalrpop_nfa::Steps;
 
 /// What a run finds.
 #[derive(Clone, Copy)]

@@ -21,6 +21,7 @@ ghost use Rattle.lalrpop_lexer.specs.Rules.{IsBuiltFrom};
 ghost use Rattle.lalrpop_book.specs.declared.token.Token.{Token as TokenValue};
 ghost use Rattle.lalrpop_book.specs.declared.token.TokenFault.{TokenFault as FaultValue};
 
+use crate::LinearMatches;
 use crate::bounded::BoundedTokens;
 use crate::counted::CountedTokens;
 use crate::lexer_token::LexerTokens;
@@ -28,12 +29,11 @@ use crate::linear::LinearTokens;
 use crate::token::Tokens;
 use crate::token_list::TokenList;
 use lalrpop_book::{Token, TokenFault};
+use lalrpop_build::{DfaConstructionError, Precedence, build_dfa};
 use lalrpop_dense::{DenseDfa, Marks};
 use lalrpop_dfa::lookahead::{lookahead, open_patterns};
-use lalrpop_build::{DfaConstructionError, Precedence, build_dfa};
-use crate::LinearMatches;
-use lalrpop_re::Regex;
 use lalrpop_dfa::{Witness, lookahead_witness};
+use lalrpop_re::Regex;
 use std::alloc::{AllocError, Global};
 use std::marker::Model;
 

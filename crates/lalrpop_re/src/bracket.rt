@@ -12,9 +12,8 @@ ghost use Rattle.lalrpop_re.specs.Internal.Items.{Gains};
 
 use crate::cursor::{Cursor, error_at};
 use crate::escape_sequence::{EscapedPart, parse_escape};
-use lalrpop_grammar::{Flags, RegexError, SyntaxKind, leaf_of_range, leaf_of_set};
+use lalrpop_grammar::{Flags, RegexError, SyntaxKind, leaf_of_range, leaf_of_set, posix_class};
 use lalrpop_hir::{ClassUnicode, ClassUnicodeRange};
-use lalrpop_grammar::posix_class;
 use std::alloc::{AllocError, Global};
 use std::mem;
 

@@ -10,9 +10,8 @@ ghost use Rattle.lalrpop_grammar.specs.CharacterSet.{HasRuns};
 
 use crate::cursor::{Cursor, error_at};
 use crate::number::number_of;
-use lalrpop_grammar::{RegexError, SyntaxKind};
+use lalrpop_grammar::{RegexError, SyntaxKind, named_set};
 use lalrpop_hir::{ClassUnicode, Look};
-use lalrpop_grammar::named_set;
 use std::alloc::{AllocError, Global};
 
 /// What an escape stands for.

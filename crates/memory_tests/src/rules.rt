@@ -4,8 +4,7 @@ use crate::calls::{Call, add, expect, halves, number};
 use lalrpop_lexer::lexer::dfa::Precedence;
 use lalrpop_lexer::{Form, Lexer, LexerError};
 use lalrpop_markup::{ansi, html};
-use lalrpop_rules::{RuleFileError, read_rules};
-use lalrpop_rules::{Item, Rule, RuleLexer, RulesError};
+use lalrpop_rules::{Item, Rule, RuleFileError, RuleLexer, RulesError, read_rules};
 use std::alloc::{AllocError, Global};
 
 // The pattern of `PRECEDENCE l TEXT` or `PRECEDENCE r PATTERN`.

@@ -1,7 +1,7 @@
 //! Members of sets that are folded or have a name.
 
-use lalrpop_hir::ClassUnicode;
 use lalrpop_grammar::{fold, named_set, posix_class, range_class, words};
+use lalrpop_hir::ClassUnicode;
 use std::alloc::{AllocError, Global};
 
 fn has(class: &ClassUnicode, c: char) -> bool {

@@ -2,8 +2,7 @@
 
 use crate::shared::halves;
 use anyhow::Result;
-use lalrpop_rules::{RuleFileError, read_rules};
-use lalrpop_rules::RuleLexer;
+use lalrpop_rules::{RuleFileError, RuleLexer, read_rules};
 use std::alloc::Global;
 
 const FILE: &[u8] = b"# Names, and what is between them\r

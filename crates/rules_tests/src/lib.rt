@@ -1,4 +1,4 @@
-//! Tests of the public calls of `lalrpop_rules` and `lalrpop_rule_file`, with values.
+//! Tests of the public calls of `lalrpop_rules`, with values.
 #![tactic(auto)]
 
 #[cfg(test)]

@@ -5,8 +5,7 @@ use crate::quote::quoted_word;
 use crate::reasons::{
     characters_before, clash_advice, line_shown, place_explained, refusal_text, syntax_text,
 };
-use lalrpop_rules::{LineFault, RuleFileError};
-use lalrpop_rules::{Rule, RulesError};
+use lalrpop_rules::{LineFault, Rule, RuleFileError, RulesError};
 use std::alloc::{AllocError, Global};
 
 // A line of a file without its end. Lines count from 1.

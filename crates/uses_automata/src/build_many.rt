@@ -12,9 +12,9 @@ ghost use Rattle.lalrpop_dfa.specs.Counts.{state_bound};
 ghost use Rattle.lalrpop_dfa.specs.Dfa.{Recognizes};
 ghost use Rattle.lalrpop_book.specs.Longest.{IsLongest};
 
-use lalrpop_dfa::interpret::interpret;
-use lalrpop_dfa::Dfa;
 use lalrpop_build::{DfaConstructionError, NfaIndex, Precedence, build_dfa};
+use lalrpop_dfa::Dfa;
+use lalrpop_dfa::interpret::interpret;
 use lalrpop_hir::Regex;
 use std::alloc::Global;
 

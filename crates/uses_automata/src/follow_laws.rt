@@ -10,12 +10,11 @@ ghost use Rattle.lalrpop_nfa.specs.Partition.{Alike, IsCovered, IsUniform};
 ghost use Rattle.lalrpop_dfa.specs.Dfa.{Recognizes};
 
 use lalrpop_book::NfaIndex;
-use lalrpop_nfa::Nfa;
-use lalrpop_nfa::interpret::interpret as run_alone;
-use lalrpop_nfa::Test;
-use lalrpop_nfa::overlap::remove_overlap;
 use lalrpop_dfa::Dfa;
 use lalrpop_dfa::interpret::interpret;
+use lalrpop_nfa::interpret::interpret as run_alone;
+use lalrpop_nfa::overlap::remove_overlap;
+use lalrpop_nfa::{Nfa, Test};
 use std::alloc::{AllocError, Global};
 use std::collections::BTreeSet;
 

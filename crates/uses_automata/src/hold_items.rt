@@ -11,10 +11,10 @@ ghost use Rattle.lalrpop_build.specs.Internal.Subsets.{closed, move};
 ghost use Rattle.lalrpop_build.specs.Internal.Transitions.{AreTransitions, transition_cmp};
 ghost use Rattle.lalrpop_nfa.specs.Graph.{Graph};
 
-use lalrpop_build::closure::{Workspace, advance, closure};
-use lalrpop_dfa::{DfaStateIndex, Item, ItemSet};
 use lalrpop_book::NfaIndex;
 use lalrpop_build::Transition;
+use lalrpop_build::closure::{Workspace, advance, closure};
+use lalrpop_dfa::{DfaStateIndex, Item, ItemSet};
 use lalrpop_nfa::{Nfa, START, StateKind};
 use std::alloc::{AllocError, Global};
 use std::cmp::Ordering;

@@ -4,8 +4,8 @@ ghost use Rattle.std.specs.Prelude.{◌≡◌, ℕ, ◌+◌, ◌^◌, ◌<◌, [
 ghost use Rattle.std.specs.declared.cmp.Ordering.TheVariants.{Equal};
 ghost use Rattle.lalrpop_dfa.specs.Kernels.{IsNumberOf, AreDistinct, ClonesEqual, added, moved};
 
-use lalrpop_dfa::{DfaStateIndex, ItemSet};
 use lalrpop_dfa::kernel_set::{Kernel, KernelSet};
+use lalrpop_dfa::{DfaStateIndex, ItemSet};
 use std::alloc::{AllocError, Global};
 
 // Needs lalrpop_dfa::kernel_set::Kernel::index: value.

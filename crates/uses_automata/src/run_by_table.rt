@@ -12,9 +12,9 @@ ghost use Rattle.lalrpop_dense.specs.Leading.{LeadTo};
 
 use lalrpop_book::{NfaIndex, Token};
 use lalrpop_dense::{DenseDfa, Marks, Matcher};
-use lalrpop_nfa::Steps;
 use lalrpop_dfa::Dfa;
 use lalrpop_dfa::interpret::interpret;
+use lalrpop_nfa::Steps;
 use std::alloc::{AllocError, Global};
 
 // Needs lalrpop_dense::DenseDfa::new: same.

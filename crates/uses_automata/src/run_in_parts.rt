@@ -5,8 +5,7 @@ ghost use Rattle.std.specs.Str.{chars};
 ghost use Rattle.lalrpop_book.specs.Tree.{Tree};
 ghost use Rattle.lalrpop_dfa.specs.Dfa.{run, after, Recognizes, IsRightKind};
 
-use lalrpop_dfa::DfaStateIndex;
-use lalrpop_dfa::{Dfa, Kind, START};
+use lalrpop_dfa::{Dfa, DfaStateIndex, Kind, START};
 
 // Needs lalrpop_dfa::Dfa::step: leads, within.
 /// The state that a part of a text leads to from this one.

@@ -11,9 +11,9 @@ ghost use Rattle.lalrpop_book.specs.Longest.{IsLongest};
 ghost use Rattle.lalrpop_dfa.specs.Lookahead.{LooksAtMost};
 
 use lalrpop_book::NfaIndex;
-use lalrpop_nfa::Steps;
 use lalrpop_dfa::Dfa;
 use lalrpop_dfa::interpret::{interpret, interpret_counted, interpret_probed};
+use lalrpop_nfa::Steps;
 
 // Needs lalrpop_dfa::interpret: answer, prefix.
 /// The longest match of the text, with the strongest pattern that matches it.

@@ -7,9 +7,8 @@ ghost use Rattle.lalrpop_dfa.specs.Dfa.{IsStored, AreStored, IsWellFormed, bare}
 ghost use Rattle.lalrpop_dfa.specs.SameAutomata.{same_state, same_automaton, IsSameState, IsSameAutomaton};
 ghost use Rattle.lalrpop_dfa.specs.declared.Kind.TheVariants.{Reject};
 
-use lalrpop_dfa::DfaStateIndex;
+use lalrpop_dfa::{Dfa, DfaStateIndex, Kind, START, State};
 use lalrpop_nfa::Test;
-use lalrpop_dfa::{Dfa, Kind, START, State};
 use std::alloc::AllocError;
 
 // Needs lalrpop_dfa::Dfa::states: states, well_formed.

@@ -4,9 +4,8 @@ ghost use Rattle.std.specs.Prelude.{◌≡◌, ◌<◌, ◌++◌, ◌∷◌, [],
 ghost use Rattle.lalrpop_dfa.specs.Dfa.{IsWellFormed};
 ghost use Rattle.lalrpop_dfa.specs.declared.Kind.TheVariants.{Reject};
 
-use lalrpop_dfa::{DfaStateIndex, ItemSet, START};
+use lalrpop_dfa::{Dfa, DfaStateIndex, ItemSet, Kind, RowWriter, Rows, START};
 use lalrpop_nfa::Test;
-use lalrpop_dfa::{Dfa, Kind, RowWriter, Rows};
 use std::alloc::{AllocError, Global};
 
 // Needs lalrpop_dfa::RowWriter::new: rows, tests.

@@ -10,9 +10,9 @@ ghost use Rattle.lalrpop_lexer.specs.BoundedCutting.{cutting_of, steps_of, most_
 ghost use Rattle.lalrpop_lexer.specs.Cutting.{rest_of};
 ghost use Rattle.lalrpop_lexer.specs.Rules.{IsBuiltFrom};
 
+use lalrpop_dfa::NfaIndex;
 use lalrpop_lexer::{BoundedTokens, Lexer};
 use lalrpop_nfa::Steps;
-use lalrpop_dfa::NfaIndex;
 use std::alloc::{AllocError, Global};
 
 // Needs lalrpop_lexer::Lexer::tokens_bounded: cost.

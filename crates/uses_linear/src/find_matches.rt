@@ -11,9 +11,9 @@ ghost use Rattle.lalrpop_lexer.specs.Matching.{characters_of, open_states, rest_
 ghost use Rattle.lalrpop_dfa.specs.Dfa.{Recognizes};
 
 use lalrpop_dense::DenseDfa;
+use lalrpop_dfa::NfaIndex;
 use lalrpop_lexer::LinearMatches;
 use lalrpop_nfa::Steps;
-use lalrpop_dfa::NfaIndex;
 use std::alloc::{AllocError, Global};
 
 // Needs lalrpop_lexer::LinearMatches::new: start.

@@ -5,8 +5,8 @@ ghost use Rattle.lalrpop_grammar.specs.CharacterSet.{Set, range, fold, HasRuns};
 ghost use Rattle.lalrpop_grammar.specs.NamedSet.{named};
 ghost use Rattle.lalrpop_grammar.specs.PosixSet.{posix_set};
 
-use lalrpop_hir::ClassUnicode;
 use lalrpop_grammar::{digits, named_set, posix_class, range_class, spaces, words};
+use lalrpop_hir::ClassUnicode;
 use std::alloc::{AllocError, Global};
 
 /// The characters from one to another.

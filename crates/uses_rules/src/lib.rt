@@ -1,4 +1,4 @@
-//! How lalrpop_rules, lalrpop_rule_file and lalrpop_markup are called: for each promise of a public call a small function that needs it.
+//! How the rules, the files of rules and the markup of lalrpop_rules and lalrpop_markup are called: for each promise of a public call a small function that needs it.
 #![tactic(auto)]
 
 pub mod cut_by_rules;

@@ -5,8 +5,7 @@ ghost use Rattle.lalrpop_rules.specs.RuleSet.{names_of};
 ghost use Rattle.lalrpop_rules.specs.declared.rule.Rule.{Rule as RuleValue};
 ghost use Rattle.lalrpop_rules.specs.RuleFile.{AreRules, IsFirstBad, IsLineFault, without_mark as without_mark_of};
 
-use lalrpop_rules::{LineFault, RuleFileError, read_rules, without_mark};
-use lalrpop_rules::{RuleLexer, RulesError};
+use lalrpop_rules::{LineFault, RuleFileError, RuleLexer, RulesError, read_rules, without_mark};
 use std::alloc::{AllocError, Global};
 
 // Needs lalrpop_rules::without_mark: ensures.

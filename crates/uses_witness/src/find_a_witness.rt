@@ -6,9 +6,8 @@ ghost use Rattle.lalrpop_dfa.specs.Dfa.{after};
 ghost use Rattle.lalrpop_dfa.specs.Lookahead.{IsAccepting, IsLookahead, StaysOpen};
 ghost use Rattle.lalrpop_dfa.specs.Witness.{IsWitness, LeavesOpen};
 
-use lalrpop_dfa::Dfa;
 use lalrpop_dfa::lookahead::lookahead;
-use lalrpop_dfa::{Witness, lookahead_witness};
+use lalrpop_dfa::{Dfa, Witness, lookahead_witness};
 use std::alloc::{AllocError, Global};
 
 // Needs lalrpop_dfa::lookahead_witness: least.

@@ -15,11 +15,10 @@ ghost use Rattle.lalrpop_build.specs.Internal.Scratch.{IsScratchOf, IsFilled};
 
 use super::best::{Tie, kind_of, strongest_of};
 use super::scratch::Scratch;
-use crate::{Kind, NfaIndex, Precedence};
 use crate::alphabet::{Alphabet, Cell};
 use crate::closure::{Workspace, advance, closure};
+use crate::{Kind, NfaIndex, Precedence, Transition};
 use lalrpop_dfa::{Item, ItemSet};
-use crate::Transition;
 use lalrpop_nfa::{Nfa, START};
 use std::alloc::{AllocError, Global};
 use std::marker::Model;

@@ -5,8 +5,8 @@ ghost use Rattle.std.specs.Prelude.{◌≡◌, ◌-◌, ◌^◌, ◌↔◌, IsTr
 use super::origin::Origin;
 use crate::DfaStateIndex;
 use crate::alphabet::Cell;
-use lalrpop_nfa::Test;
 use lalrpop_dfa::RowWriter;
+use lalrpop_nfa::Test;
 use std::alloc::AllocError;
 
 /// No value lies before the first boundary, so no edge ends there.

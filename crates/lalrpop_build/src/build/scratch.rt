@@ -9,9 +9,9 @@ ghost use Rattle.lalrpop_build.specs.Internal.Scratch.{AreNoted, AreMarked, AreU
 ghost use Rattle.lalrpop_dfa.specs.Automata.{Item as ItemValue};
 ghost use Rattle.lalrpop_build.specs.Internal.ClassTransitions.{AreBare, AreBelow, Gained, AreGathered, AreBoundariesOf};
 
+use crate::Transition;
 use crate::alphabet::Alphabet;
 use lalrpop_dfa::{Item, ItemSet};
-use crate::Transition;
 use lalrpop_nfa::{Nfa, NfaStateIndex};
 use std::alloc::{AllocError, Global};
 

@@ -10,10 +10,9 @@ ghost use Rattle.lalrpop_build.specs.Internal.Stage.{Extends};
 
 use super::automata::Automata;
 use super::origin::Origin;
-use crate::DfaStateIndex;
 use crate::closure::Workspace;
+use crate::{DfaStateIndex, Transition};
 use lalrpop_dfa::ItemSet;
-use crate::Transition;
 use lalrpop_dfa::kernel_set::KernelSet;
 use std::alloc::{AllocError, Global};
 

@@ -1,7 +1,8 @@
 //! The automaton of a list of patterns.
 
-pub use lalrpop_dense::{DenseDfa, Marks, Matcher};
 pub use lalrpop_build::{Clash, DfaConstructionError, NfaIndex, Precedence, build_dfa, clashes};
-pub use lalrpop_dfa::{Dfa, DfaStateIndex, Kind, START, State, interpret, lookahead};
+pub use lalrpop_dense::{DenseDfa, Marks, Matcher};
+pub use lalrpop_dfa::{
+    Dfa, DfaStateIndex, Kind, START, State, Witness, interpret, lookahead, lookahead_witness,
+};
 pub use lalrpop_nfa::overlap;
-pub use lalrpop_dfa::{Witness, lookahead_witness};

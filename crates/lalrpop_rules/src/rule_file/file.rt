@@ -6,10 +6,10 @@ ghost use Rattle.lalrpop_lexer.specs.Position.{position_of};
 ghost use Rattle.lalrpop_rules.specs.RuleFile.{LineSays, AreRules, IsLineFault, IsRuleFileError, without_mark as without_mark_of, without_return as without_return_of};
 ghost use Rattle.lalrpop_rules.specs.declared.rule.Rule.{Rule as RuleValue};
 
+use crate::Rule;
 use crate::rule_file::error::{LineFault, RuleFileError};
 use crate::rule_file::line::said_by;
 use lalrpop_lexer::Position;
-use lalrpop_rules::Rule;
 use std::alloc::Global;
 
 // What is wrong with a line, and the column, counted in characters from 1.

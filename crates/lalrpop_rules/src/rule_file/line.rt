@@ -12,8 +12,8 @@ ghost use Rattle.lalrpop_lexer.specs.declared.form.Form.{Form as FormValue};
 
 use crate::rule_file::error::LineFault;
 use crate::rule_file::span::{Class, split_front};
+use crate::{Form, Rule};
 use lalrpop_lexer::lexer::dfa::Precedence;
-use lalrpop_rules::{Form, Rule};
 
 // Enough for every `usize`, padded with zeros if it is shorter.
 const MAX_DIGITS: usize = 20;
