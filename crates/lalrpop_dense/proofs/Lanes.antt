@@ -5,8 +5,8 @@ use Rattle.std.proofs.lemmas.Simd.{zip2_splat, zip2_splat_left, mask_l-mod, leng
 use Rattle.std.proofs.lemmas.List.{length-map}
 use Rattle.std.specs.List.{prefix_len}
 use lib.Lanes.{chunk, zip2, mask_l, top}
-use Rattle.lalrpop_dense.specs.Internal.Stays.{IsIn, AreIn, first_set}
-use Rattle.lalrpop_dense.specs.declared.stay.Stay.{Stay}
+use Rattle.lalrpop_dense.specs.Internal.SelfLoops.{IsIn, AreIn, first_set}
+use Rattle.lalrpop_dense.specs.declared.self_loop.SelfLoop.{SelfLoop}
 
 -- all bits of a lane, or none
 abbrev pub bits_of : (ℕ → Bool) → ℕ → ℕ
@@ -35,14 +35,14 @@ tops p [] = refl
 tops p (x ∷ xs) = ap₂ (λ (b : Bool) (bs : List Bool). b ∷ bs) (top_bit (p x)) (tops p xs)
 
 -- the byte isn't one of them
-abbrev pub stops : Stay → ℕ → Bool
+abbrev pub stops : SelfLoop → ℕ → Bool
 stops s x = (((ltb x s.first || ltb s.last x) || eqb x s.gaps.0) || eqb x s.gaps.1) || eqb x s.gaps.2
 
 neither : (a b : Bool) → (a || b) ≡ false → (a ≡ false) × (b ≡ false)
 neither false b e = (refl, e)
 neither true b e = (e, absurd (cc e))
 
-is_in : (s : Stay) (x : ℕ) → stops s x ≡ false → IsIn s x
+is_in : (s : SelfLoop) (x : ℕ) → stops s x ≡ false → IsIn s x
 is_in s x e =
     let h = neither (((ltb x s.first || ltb s.last x) || eqb x s.gaps.0) || eqb x s.gaps.1) (eqb x s.gaps.2) e in
     let i = neither ((ltb x s.first || ltb s.last x) || eqb x s.gaps.0) (eqb x s.gaps.1) h.0 in
@@ -63,12 +63,12 @@ abbrev equal : ℕ → ℕ → ℕ
 equal a b = cond (eqb a b) 255 0
 
 -- the lanes at which a load stops
-abbrev pub lanes_of : Stay → List ℕ → List ℕ
+abbrev pub lanes_of : SelfLoop → List ℕ → List ℕ
 lanes_of s v =
     zip2 bit_or (zip2 bit_or (zip2 bit_or (zip2 bit_or (zip2 below v (replicate 32 s.first)) (zip2 below (replicate 32 s.last) v)) (zip2 equal v (replicate 32 s.gaps.0)))
     (zip2 equal v (replicate 32 s.gaps.1))) (zip2 equal v (replicate 32 s.gaps.2))
 
-lanes_are : (s : Stay) (v : List ℕ) → length v ≡ 32 → lanes_of s v ≡ map (bits_of (stops s)) v
+lanes_are : (s : SelfLoop) (v : List ℕ) → length v ≡ 32 → lanes_of s v ≡ map (bits_of (stops s)) v
 lanes_are s v long =
     either (λ x. ((ltb x s.first || ltb s.last x) || eqb x s.gaps.0) || eqb x s.gaps.1) (λ x. eqb x s.gaps.2) v
     (either (λ x. (ltb x s.first || ltb s.last x) || eqb x s.gaps.0) (λ x. eqb x s.gaps.1) v
@@ -77,7 +77,7 @@ lanes_are s v long =
     (zip2_splat equal v 32 s.gaps.0 long)) (zip2_splat equal v 32 s.gaps.1 long)) (zip2_splat equal v 32 s.gaps.2 long)
 
 -- the bytes before the first lane that stops
-pub run_is_in : (s : Stay) (bytes : List ℕ) (at run : ℕ) → at + 32 ≤ length bytes
+pub run_is_in : (s : SelfLoop) (bytes : List ℕ) (at run : ℕ) → at + 32 ≤ length bytes
     → run ≡ first_set (mask_l (map (top 7) (lanes_of s (chunk at 32 bytes))) % 2 ^ 64) → (run ≤ 32) × AreIn s bytes at (at + run)
 run_is_in s bytes at run room found =
     let v = chunk at 32 bytes in

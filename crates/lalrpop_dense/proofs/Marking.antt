@@ -10,9 +10,9 @@ use Rattle.lalrpop_book.specs.Longest.{IsLongest}
 use Rattle.lalrpop_nfa.proofs.Cuts.{IsCut, cut_start, cut_within, cut_more}
 use Rattle.lalrpop_dfa.specs.Dfa.{Row, after, IsWellFormed}
 use Rattle.lalrpop_dense.specs.Internal.Table.{HasClasses, IsTableOf, class_of, page_of, row_of}
-use Rattle.lalrpop_dense.specs.Internal.Stays.{IsIn, AreIn}
+use Rattle.lalrpop_dense.specs.Internal.SelfLoops.{IsIn, AreIn}
 use Rattle.std.specs.List.{Contains}
-use Rattle.lalrpop_dense.specs.declared.stay.Stay.{Stay}
+use Rattle.lalrpop_dense.specs.declared.self_loop.SelfLoop.{SelfLoop}
 use Rattle.lalrpop_dense.specs.Internal.Fused.{IsRow, EndsBefore, IsFusedOf, StaysOn}
 use Rattle.lalrpop_dense.specs.Internal.Marks.{IsMark, AreMarks}
 use Rattle.lalrpop_dense.specs.Internal.Reading.{ReadsChar, found}
@@ -235,7 +235,7 @@ class_ascii t byte h low =
     )
 
 -- bytes on which the row stays
-pub marked_stay : (f : Fused) (t : Layout) (cells : List ℕ) (d : List Row) (text : List ℕ) (from at row : ℕ) (ms : List Mark) (s : Stay) → IsTableOf t cells d → IsFusedOf f t cells → IsWellFormed d
+pub marked_stay : (f : Fused) (t : Layout) (cells : List ℕ) (d : List Row) (text : List ℕ) (from at row : ℕ) (ms : List Mark) (s : SelfLoop) → IsTableOf t cells d → IsFusedOf f t cells → IsWellFormed d
     → IsUtf8 text → Contains f.stays.items s → s.row ≡ row → IsMarked f t d text from at row ms → (n : ℕ) → at + n ≤ length text → AreIn s text at (at + n)
     → IsMarked f t d text from (at + n) row ms
 marked_stay f t cells d text from at row ms s h k wf u has same m zero within are = subst (λ (x : ℕ). IsMarked f t d text from x row ms) (sym (add-zero at)) m

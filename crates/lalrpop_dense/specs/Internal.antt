@@ -2,5 +2,5 @@ pub mod Fused
 pub mod Marks
 pub mod Reading
 pub mod Runs
-pub mod Stays
+pub mod SelfLoops
 pub mod Table

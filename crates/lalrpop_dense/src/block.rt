@@ -19,7 +19,7 @@ use std::alloc::AllocError;
 /// # Errors
 ///
 /// `AllocError` if a request for memory was refused.
-pub(crate) fn push_marked<'text, C: Cells>(
+pub(crate) fn push_tokens<'text, C: Cells>(
     engine: &Engine<C>,
     text: &'text str,
     from: usize,

@@ -25,7 +25,7 @@ fn mark(marks: &mut [u64], value: u32) {
 }
 
 // Adds the marked values among the 64 from the first on.
-fn push_marked(boundaries: &mut Vec<u32>, marks: u64, first: u32) -> Result<(), AllocError> {
+fn push_boundaries(boundaries: &mut Vec<u32>, marks: u64, first: u32) -> Result<(), AllocError> {
     if marks != 0 {
         for place in 0..64 {
             if marks >> place & 1 == 1 {
@@ -49,7 +49,7 @@ fn boundaries_of(alloc: Global, dfa: &Dfa) -> Result<Vec<u32>, AllocError> {
     let mut boundaries = Vec::new(alloc);
     let mut first = 0u32;
     for word in &marks {
-        push_marked(&mut boundaries, *word, first)?;
+        push_boundaries(&mut boundaries, *word, first)?;
         first = first.wrapping_add(64);
     }
     Ok(boundaries)
@@ -348,7 +348,7 @@ impl Size {
 /// # Errors
 ///
 /// `AllocError` if a request for memory was refused.
-pub(crate) fn candidate_of(
+pub(crate) fn make_table(
     alloc: Global,
     dfa: &Dfa,
 ) -> Result<Option<(Layout, Vec<u32>)>, AllocError> {

@@ -13,13 +13,13 @@ ghost use Rattle.lalrpop_dense.specs.Leading.{LeadTo};
 ghost use Rattle.lalrpop_dense.specs.Internal.Fused.{IsFusedOf, IsTable};
 ghost use Rattle.lalrpop_dense.specs.Internal.Table.{HasClasses};
 
-use crate::block::push_marked;
-use crate::candidate::candidate_of;
+use crate::block::push_tokens;
+use crate::candidate::make_table;
 use crate::check::is_table_of;
 use crate::fused::{Fused, is_fused_of};
-use crate::fusing::fusing_of;
-use crate::mark::{Engine, Marks, mark_block};
-use crate::run::{Settled, longest_by, longest_within_by};
+use crate::fusing::make_fused;
+use crate::mark::{Engine, TokenEnds, mark_block};
+use crate::run::{BoundedMatch, longest_by, longest_within_by};
 use crate::table::{Layout, StoredCells, Table, stored};
 use lalrpop_book::Token;
 use lalrpop_dfa::interpret::interpret_counted;
@@ -59,7 +59,7 @@ impl DenseDfa {
     pub fn new(alloc: Global, dfa: Dfa) -> Result<DenseDfa, AllocError>
         ensures same { IfOk result (λ dense. dense ≡ dfa) }
     {
-        let table = table_of(alloc, &dfa)?;
+        let table = checked_table(alloc, &dfa)?;
         Ok(DenseDfa { dfa, table })
     }
 
@@ -110,7 +110,7 @@ impl DenseDfa {
         text: &'text str,
         limit: usize,
         steps: &mut Steps,
-    ) -> Option<Settled<'text>>
+    ) -> Option<BoundedMatch<'text>>
         ensures answer { (ts : List Tree) (ps : List ℕ) → Recognizes self.now ts ps
             → IfSome result (λ s.
             IsLongest ts ps text.now (option_map (λ m. (m.0, m.1.now)) s.longest)) }
@@ -139,7 +139,7 @@ impl DenseDfa {
         &self,
         text: &'text str,
         at: usize,
-        marks: &mut Marks,
+        marks: &mut TokenEnds,
         tokens: &mut Vec<Token<'text>>,
     ) -> Result<Option<usize>, AllocError>
         requires boundary { IsCharBoundary text.now at }
@@ -163,7 +163,7 @@ impl DenseDfa {
         &self,
         text: &'text str,
         at: usize,
-        marks: &mut Marks,
+        marks: &mut TokenEnds,
         tokens: &mut Vec<Token<'text>>,
     ) -> Result<Option<usize>, AllocError>
         requires boundary { IsCharBoundary text.now at }
@@ -190,7 +190,7 @@ impl DenseDfa {
         if count == 0 {
             return Ok(None);
         }
-        let to = push_marked(&engine, text, at, &marks.marks[..count], tokens)?;
+        let to = push_tokens(&engine, text, at, &marks.marks[..count], tokens)?;
         Ok(Some(to))
     }
 
@@ -259,7 +259,7 @@ fn longest_in_within<'text>(
     text: &'text str,
     limit: usize,
     steps: &mut Steps,
-) -> Option<Settled<'text>>
+) -> Option<BoundedMatch<'text>>
     requires { IsTable table.now dfa.now }
     ensures answer { (ts : List Tree) (ps : List ℕ) → Recognizes dfa.now ts ps
         → IfSome result (λ s.
@@ -278,12 +278,12 @@ fn longest_in_within<'text>(
 }
 
 // Makes the fused table of the table. None if it would be too large, or fails the check.
-fn fused_of(alloc: Global, layout: &Layout, cells: &[u32]) -> Result<Option<Fused>, AllocError>
+fn checked_fused(alloc: Global, layout: &Layout, cells: &[u32]) -> Result<Option<Fused>, AllocError>
     requires { HasClasses layout.now }
     ensures { IfOk result (λ made. IfSome made (λ fused.
         IsFusedOf fused layout.now cells.now)) }
 {
-    let Some(fused) = fusing_of(alloc, layout, cells)? else {
+    let Some(fused) = make_fused(alloc, layout, cells)? else {
         return Ok(None);
     };
     if !is_fused_of(&fused, layout, cells) {
@@ -293,16 +293,16 @@ fn fused_of(alloc: Global, layout: &Layout, cells: &[u32]) -> Result<Option<Fuse
 }
 
 // Makes the table of the automaton. None if it would be too large or take too long, or fails the check.
-fn table_of(alloc: Global, dfa: &Dfa) -> Result<Option<Table>, AllocError>
+fn checked_table(alloc: Global, dfa: &Dfa) -> Result<Option<Table>, AllocError>
     ensures { IfOk result (λ made. IfSome made (λ table. IsTable table dfa.now)) }
 {
-    let Some((layout, cells)) = candidate_of(alloc, dfa)? else {
+    let Some((layout, cells)) = make_table(alloc, dfa)? else {
         return Ok(None);
     };
     if !is_table_of(alloc, &layout, &cells, dfa)? {
         return Ok(None);
     }
-    let fused = fused_of(alloc, &layout, &cells)?;
+    let fused = checked_fused(alloc, &layout, &cells)?;
     let cells = stored(alloc, cells)?;
     Ok(Some(Table {
         layout,

@@ -4,7 +4,7 @@ ghost use Rattle.std.specs.Prelude.{◌≡◌, ℕ, ◌+◌, ◌<◌, ◌≤◌,
 ghost use Rattle.lalrpop_dense.specs.Internal.Fused.{IsRow, EndsBefore, Leads, IsRightRow, LeadsBack, IsFusedOf, StaysOn};
 ghost use Rattle.lalrpop_dense.specs.Internal.Table.{HasClasses, class_of};
 
-use crate::stay::Stay;
+use crate::self_loop::SelfLoop;
 use crate::table::Layout;
 use std::alloc::{AllocError, Global};
 
@@ -29,7 +29,7 @@ pub(crate) struct Fused {
     // Where the first copy begins.
     pub(crate) emit: u16,
     // The bytes on which rows stay: those of a row are at its start shifted right by `shift` bits.
-    pub(crate) stays: Vec<Stay>,
+    pub(crate) stays: Vec<SelfLoop>,
     pub(crate) shift: u8,
 }
 
@@ -140,7 +140,7 @@ fn is_back(fused: &Fused, layout: &Layout, row: u16, byte: u8) -> bool
 }
 
 // Whether the row leads back to itself on each of the bytes.
-fn leads_back(fused: &Fused, layout: &Layout, stay: Stay) -> bool
+fn leads_back(fused: &Fused, layout: &Layout, stay: SelfLoop) -> bool
     requires { HasClasses layout.now }
     ensures { IsTrue result → LeadsBack fused.now layout.now stay }
 {

@@ -1,7 +1,7 @@
 //! A fused table that is yet to be checked. Nothing is promised about how it is made.
 
 use crate::fused::{Fused, FusedRow};
-use crate::stay::Stay;
+use crate::self_loop::SelfLoop;
 use crate::table::Layout;
 use std::alloc::{AllocError, Global};
 
@@ -178,8 +178,8 @@ impl Window {
         front.wrapping_add(back)
     }
 
-    fn stay(&self, row: u16, last: u8) -> Stay {
-        Stay {
+    fn stay(&self, row: u16, last: u8) -> SelfLoop {
+        SelfLoop {
             row,
             first: self.first,
             last,
@@ -206,7 +206,7 @@ fn leads_to_itself(fused: &Fused, width: usize, row: u16) -> bool {
 }
 
 // The heaviest window of bytes on which the row stays, if it is worth a look.
-fn stay_of(fused: &Fused, layout: &Layout, row: u16) -> Option<Stay> {
+fn stay_of(fused: &Fused, layout: &Layout, row: u16) -> Option<SelfLoop> {
     if !leads_to_itself(fused, layout.width, row) {
         return None;
     }
@@ -230,7 +230,7 @@ fn stay_of(fused: &Fused, layout: &Layout, row: u16) -> Option<Stay> {
 // Adds the bytes on which each row that isn't a copy stays, at the row's start shifted.
 fn push_stays(fused: &mut Fused, layout: &Layout, plain: usize) -> Result<(), AllocError> {
     let shift = fused.shift % 16;
-    let none = Stay {
+    let none = SelfLoop {
         row: fused.first,
         first: 1,
         last: 0,
@@ -258,7 +258,7 @@ fn push_stays(fused: &mut Fused, layout: &Layout, plain: usize) -> Result<(), Al
 /// # Errors
 ///
 /// `AllocError` if a request for memory was refused.
-pub(crate) fn fusing_of(
+pub(crate) fn make_fused(
     alloc: Global,
     layout: &Layout,
     cells: &[u32],

@@ -13,10 +13,10 @@ mod fusing;
 mod mark;
 mod matcher;
 mod run;
-mod stay;
+mod self_loop;
 mod table;
 
 pub use dense::DenseDfa;
-pub use mark::Marks;
+pub use mark::TokenEnds;
 pub use matcher::Matcher;
-pub use run::Settled;
+pub use run::BoundedMatch;

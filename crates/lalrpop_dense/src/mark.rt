@@ -30,21 +30,21 @@ pub(crate) struct Mark {
 
 /// Room for the ends of the tokens of a block.
 #[derive(Debug, Drop)]
-pub struct Marks {
+pub struct TokenEnds {
     pub(crate) marks: Vec<Mark>,
     ghost room: { 2048 ≤ vec_len marks },
 }
 
-impl Marks {
+impl TokenEnds {
     /// Takes the memory that it needs, once for all texts.
     ///
     /// # Errors
     ///
     /// `AllocError` if a request for memory was refused.
-    pub fn new(alloc: Global) -> Result<Marks, AllocError> {
+    pub fn new(alloc: Global) -> Result<TokenEnds, AllocError> {
         let none = Mark { place: 0, row: 0 };
         let marks = vec![in alloc; none; BLOCK]?;
-        Ok(Marks { marks })
+        Ok(TokenEnds { marks })
     }
 }
 

@@ -141,7 +141,7 @@ pub(crate) fn longest_by<'text, C: Cells>(
 
 /// The longest match at the start of a text.
 #[derive(Clone, Copy, Debug)]
-pub struct Settled<'text> {
+pub struct BoundedMatch<'text> {
     /// The match, if there is one.
     pub longest: Option<(NfaIndex, &'text str)>,
     /// How many bytes after it were read to see that there is no longer one.
@@ -158,7 +158,7 @@ pub(crate) fn longest_within_by<'text, C: Cells>(
     text: &'text str,
     limit: usize,
     steps: &mut Steps,
-) -> Option<Settled<'text>>
+) -> Option<BoundedMatch<'text>>
     requires { IsTableOf layout.now (C.numbers cells.now) dfa.now }
     ensures answer { (ts : List Tree) (ps : List ℕ) → Recognizes dfa.now ts ps
         → IfSome result (λ s.
@@ -176,12 +176,12 @@ pub(crate) fn longest_within_by<'text, C: Cells>(
     match stop.longest {
         Some((row, end)) => {
             let pattern = cells.at(row + layout.width);
-            Some(Settled {
+            Some(BoundedMatch {
                 longest: Some((NfaIndex::new(pattern), &text[..end])),
                 past: stop.at - end,
             })
         }
-        None => Some(Settled {
+        None => Some(BoundedMatch {
             longest: None,
             past: stop.at,
         }),

@@ -30,7 +30,7 @@ use crate::token::Tokens;
 use crate::token_list::TokenList;
 use lalrpop_book::{Token, TokenFault};
 use lalrpop_build::{DfaConstructionError, Precedence, build_dfa};
-use lalrpop_dense::{DenseDfa, Marks};
+use lalrpop_dense::{DenseDfa, TokenEnds};
 use lalrpop_dfa::lookahead::{lookahead, open_patterns};
 use lalrpop_dfa::{Witness, lookahead_witness};
 use lalrpop_re::Regex;
@@ -160,7 +160,7 @@ impl Lexer {
             self.now.trees self.now.precedences text.now 0
             (map Ok list.tokens.items ++ Err fault ∷ []))) }
     {
-        let mut marks = Marks::new(alloc)?;
+        let mut marks = TokenEnds::new(alloc)?;
         let mut tokens = Vec::new(alloc);
         let mut at = 0;
         'cutting: while at < text.len() {

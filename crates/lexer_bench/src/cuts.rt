@@ -1,7 +1,7 @@
 //! Cutting a text in six ways, which find the same.
 
 use crate::lists::List;
-use lalrpop_lexer::lexer::dfa::{DenseDfa, Dfa, Marks, Matcher, NfaIndex};
+use lalrpop_lexer::lexer::dfa::{DenseDfa, Dfa, Matcher, NfaIndex, TokenEnds};
 use lalrpop_lexer::lexer::nfa::Steps;
 use lalrpop_lexer::{Lexer, tokens};
 use std::alloc::{AllocError, Global};
@@ -157,7 +157,7 @@ fn cut_by_lexer(lexer: &Lexer, text: &str) -> Cut {
 
 fn cut_by_blocks(alloc: Global, dense: &DenseDfa, text: &str) -> Result<Cut, AllocError> {
     let mut cut = Cut::none();
-    let mut marks = Marks::new(alloc)?;
+    let mut marks = TokenEnds::new(alloc)?;
     let mut tokens = Vec::new(alloc);
     let mut at = 0;
     'cutting: while at < text.len() {

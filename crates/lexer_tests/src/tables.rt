@@ -1,7 +1,7 @@
 //! Automata that are run by their tables.
 
 use crate::built::{built, built_with, expect, halves, has_table, trees_of};
-use lalrpop_lexer::lexer::dfa::{DenseDfa, Dfa, Marks, Precedence};
+use lalrpop_lexer::lexer::dfa::{DenseDfa, Dfa, Precedence, TokenEnds};
 use lalrpop_lexer::{Lexer, TokenList};
 use std::alloc::{AllocError, Global};
 use std::process::Abort;
@@ -188,7 +188,7 @@ fn a_list_of_many_blocks(rt: HostRuntime) {
 
 // How many tokens are found at once.
 fn first_block(alloc: Global, dense: &DenseDfa, text: &str) -> Result<usize, AllocError> {
-    let mut marks = Marks::new(alloc)?;
+    let mut marks = TokenEnds::new(alloc)?;
     let mut tokens = Vec::new(alloc);
     let _end = dense.cut_block(text, 0, &mut marks, &mut tokens)?;
     Ok(tokens.len())

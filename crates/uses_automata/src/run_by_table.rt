@@ -11,7 +11,7 @@ ghost use Rattle.lalrpop_book.specs.Longest.{IsLongest};
 ghost use Rattle.lalrpop_dense.specs.Leading.{LeadTo};
 
 use lalrpop_book::{NfaIndex, Token};
-use lalrpop_dense::{DenseDfa, Marks, Matcher};
+use lalrpop_dense::{DenseDfa, Matcher, TokenEnds};
 use lalrpop_dfa::Dfa;
 use lalrpop_dfa::interpret::interpret;
 use lalrpop_nfa::Steps;
@@ -123,7 +123,7 @@ pub fn first_block<'text>(
         × ((ts : List Tree) (ps : List ℕ) → Recognizes dense.now ts ps
         → IsLongest ts ps text.now None))) }
 {
-    let mut marks = Marks::new(alloc)?;
+    let mut marks = TokenEnds::new(alloc)?;
     let mut tokens = Vec::new(alloc);
     let to = dense.cut_block(text, 0, &mut marks, &mut tokens)?;
     Ok((tokens, to))

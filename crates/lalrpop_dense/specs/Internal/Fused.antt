@@ -3,12 +3,12 @@ use Rattle.std.specs.Prelude.{◌≡◌, ◌≢◌, ℕ, ◌+◌, ◌<◌, ◌�
 use Rattle.std.specs.List.{Contains}
 use Rattle.lalrpop_dfa.specs.Dfa.{Row}
 use Rattle.lalrpop_dense.specs.Internal.Table.{IsTableOf, class_of, numbers_of, row_of}
-use Rattle.lalrpop_dense.specs.Internal.Stays.{IsIn, AreIn}
+use Rattle.lalrpop_dense.specs.Internal.SelfLoops.{IsIn, AreIn}
 use Rattle.lalrpop_dense.specs.declared.table.Layout.{Layout}
 use Rattle.lalrpop_dense.specs.declared.table.Table.{Table}
 use Rattle.lalrpop_dense.specs.declared.fused.Fused.{Fused}
 use Rattle.lalrpop_dense.specs.declared.fused.FusedRow.{FusedRow}
-use Rattle.lalrpop_dense.specs.declared.stay.Stay.{Stay}
+use Rattle.lalrpop_dense.specs.declared.self_loop.SelfLoop.{SelfLoop}
 
 -- a fused row begins at `start`, and stands for the row of the table that begins at `origin`
 abbrev pub IsRow : Fused → ℕ → ℕ → Type 0
@@ -37,7 +37,7 @@ pub record IsRightRow (f : Fused) (t : Layout) (cells : List ℕ) (r : FusedRow)
   pub leads : (class : ℕ) → class < t.width → Leads f t cells r class
 
 -- the row isn't a copy, and leads back to itself on each of the bytes
-pub record LeadsBack (f : Fused) (t : Layout) (s : Stay) : Type 0 where
+pub record LeadsBack (f : Fused) (t : Layout) (s : SelfLoop) : Type 0 where
   pub some : 0 < s.row
   pub plain : s.row < f.emit
   pub ascii : s.last < 128
@@ -47,11 +47,11 @@ pub record LeadsBack (f : Fused) (t : Layout) (s : Stay) : Type 0 where
 pub record IsFusedOf (f : Fused) (t : Layout) (cells : List ℕ) : Type 0 where
   pub start : IsRow f f.first (row_of t 0)
   pub rows : (r : FusedRow) → Contains f.rows.items r → IsRightRow f t cells r
-  pub stays : (s : Stay) → Contains f.stays.items s → LeadsBack f t s
+  pub stays : (s : SelfLoop) → Contains f.stays.items s → LeadsBack f t s
 
 -- the bytes from one place to the other, if there are any, are listed as ones on which the row stays
 abbrev pub StaysOn : Fused → ℕ → List ℕ → ℕ → ℕ → Type 0
-StaysOn f row bytes at to = (at ≡ to) ⊎ ((s : Stay) × Contains f.stays.items s × (s.row ≡ row) × AreIn s bytes at to)
+StaysOn f row bytes at to = (at ≡ to) ⊎ ((s : SelfLoop) × Contains f.stays.items s × (s.row ≡ row) × AreIn s bytes at to)
 
 -- the table is right for the automaton, and its fused table, if it has one, is right for the table
 pub record IsTable (t : Table) (d : List Row) : Type 0 where

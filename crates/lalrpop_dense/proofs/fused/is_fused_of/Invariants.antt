@@ -1,7 +1,7 @@
 use Rattle.std.proofs.Common.{ℕ, ◌<◌, get_or}
 use Rattle.lalrpop_dense.specs.Internal.Fused.{IsRightRow, LeadsBack}
 use Rattle.lalrpop_dense.specs.declared.fused.FusedRow.{FusedRow}
-use Rattle.lalrpop_dense.specs.declared.stay.Stay.{Stay}
+use Rattle.lalrpop_dense.specs.declared.self_loop.SelfLoop.{SelfLoop}
 use Rattle.lalrpop_dense.proofs.fused.is_fused_of.Given as goal
 
 -- the rows that were looked at are right
@@ -10,4 +10,4 @@ invariant-loop-row l = (k : ℕ) (r : FusedRow) → k < l.row-index → IsRightR
 
 -- the rows that were looked at stay
 abbrev pub invariant-loop-stay : goal.invariant-loop-stay
-invariant-loop-stay l = (k : ℕ) (s : Stay) → k < l.stay-index → LeadsBack l.fused l.layout (get_or l.fused.stays.items k s)
+invariant-loop-stay l = (k : ℕ) (s : SelfLoop) → k < l.stay-index → LeadsBack l.fused l.layout (get_or l.fused.stays.items k s)

@@ -1,5 +1,5 @@
 use Rattle.std.proofs.Common.{◌≡◌, ℕ, ◌+◌, ◌<◌, get_or}
-use Rattle.lalrpop_dense.specs.Internal.Stays.{IsIn}
+use Rattle.lalrpop_dense.specs.Internal.SelfLoops.{IsIn}
 use Rattle.lalrpop_dense.specs.Internal.Table.{class_of}
 use Rattle.lalrpop_dense.proofs.fused.leads_back.Given as goal
 

@@ -6,7 +6,7 @@ use Rattle.lalrpop_book.specs.declared.token.Token.{Token}
 use Rattle.lalrpop_dense.specs.Internal.Marks.{IsMark, AreMarks}
 use Rattle.lalrpop_dense.specs.declared.mark.Mark.{Mark}
 use Rattle.lalrpop_dense.proofs.Leads.{lead_push}
-use Rattle.lalrpop_dense.proofs.block.push_marked.Goals as goal
+use Rattle.lalrpop_dense.proofs.block.push_tokens.Goals as goal
 
 pub loop-mark-preserved : goal.loop-mark-preserved
 loop-mark-preserved g c =

@@ -5,7 +5,7 @@ use Rattle.lalrpop_book.specs.declared.token.Token.{Token}
 use Rattle.lalrpop_dfa.specs.Dfa.{Recognizes}
 use Rattle.lalrpop_dense.specs.Leading.{LeadTo}
 use Rattle.lalrpop_dense.specs.Internal.Marks.{AreMarks}
-use Rattle.lalrpop_dense.proofs.block.push_marked.Given as goal
+use Rattle.lalrpop_dense.proofs.block.push_tokens.Given as goal
 
 -- tokens up to the place were added, and the marks after it are left
 abbrev pub invariant-loop-mark : goal.invariant-loop-mark

@@ -1,5 +1,5 @@
 use Rattle.lalrpop_dense.proofs.Lanes.{run_is_in}
-use Rattle.lalrpop_dense.proofs.stay.Stay.run.Goals as goal
+use Rattle.lalrpop_dense.proofs.self_loop.SelfLoop.run.Goals as goal
 
 pub returns : goal.returns
 returns c =

@@ -1,6 +1,6 @@
 use Rattle.std.proofs.Common.{◌≤◌, ◌-◌}
-use Rattle.lalrpop_dense.specs.Internal.Stays.{AreIn}
-use Rattle.lalrpop_dense.proofs.stay.Stay.end.Given as goal
+use Rattle.lalrpop_dense.specs.Internal.SelfLoops.{AreIn}
+use Rattle.lalrpop_dense.proofs.self_loop.SelfLoop.end.Given as goal
 
 -- the bytes up to the place are among them
 abbrev pub invariant-staying : goal.invariant-staying

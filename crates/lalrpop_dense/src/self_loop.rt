@@ -1,7 +1,7 @@
 //! Bytes on which a row of a fused table leads back to itself.
 
 ghost use Rattle.std.specs.Prelude.{◌≡◌, ◌↔◌, ℕ, ◌+◌, ◌<◌, ◌≤◌, length, slice_index, IsTrue};
-ghost use Rattle.lalrpop_dense.specs.Internal.Stays.{IsIn, AreIn, first_set};
+ghost use Rattle.lalrpop_dense.specs.Internal.SelfLoops.{IsIn, AreIn, first_set};
 
 use std::simd::prelude::*;
 
@@ -22,14 +22,14 @@ fn first_set(mask: u64) -> usize
 
 /// Bytes on which a row leads back to itself: those from the first to the last, except three.
 #[derive(Clone, Copy, Debug)]
-pub(crate) struct Stay {
+pub(crate) struct SelfLoop {
     pub(crate) row: u16,
     pub(crate) first: u8,
     pub(crate) last: u8,
     pub(crate) gaps: (u8, u8, u8),
 }
 
-impl Stay {
+impl SelfLoop {
     /// Whether the byte is one of them.
     pub(crate) fn has(&self, byte: u8) -> bool
         ensures { IsTrue result ↔ IsIn self.now byte }

@@ -1,10 +1,10 @@
 -- Bytes on which a row of a fused table leads back to itself.
 use Rattle.std.specs.Prelude.{◌≡◌, ◌≢◌, ℕ, ◌<◌, ◌≤◌, ◌==◌, if◌then◌else◌, List, slice_index}
 use Rattle.std.specs.Int.{w64, trailing_zeros}
-use Rattle.lalrpop_dense.specs.declared.stay.Stay.{Stay}
+use Rattle.lalrpop_dense.specs.declared.self_loop.SelfLoop.{SelfLoop}
 
 -- the byte is from the first to the last, and in no gap
-pub record IsIn (s : Stay) (byte : ℕ) : Type 0 where
+pub record IsIn (s : SelfLoop) (byte : ℕ) : Type 0 where
   pub first : s.first ≤ byte
   pub last : byte ≤ s.last
   pub gap : byte ≢ s.gaps.0
@@ -12,7 +12,7 @@ pub record IsIn (s : Stay) (byte : ℕ) : Type 0 where
   pub gap3 : byte ≢ s.gaps.2
 
 -- so are the bytes from one place to the other
-abbrev pub AreIn : Stay → List ℕ → ℕ → ℕ → Type 0
+abbrev pub AreIn : SelfLoop → List ℕ → ℕ → ℕ → Type 0
 AreIn s bytes at to = (k : ℕ) → at ≤ k → k < to → IsIn s (slice_index bytes k)
 
 -- the place of the lowest bit that is set, or 32
