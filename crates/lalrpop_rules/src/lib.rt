@@ -22,5 +22,5 @@ pub use leftmost::find;
 pub use linear_items::LinearItems;
 pub use pieces::Items;
 pub use rule::Rule;
-pub use rule_file::{LineFault, RuleFileError, read_rules, without_mark};
+pub use rule_file::{LineFault, RuleFile, RuleFileError, read_rules, without_mark};
 pub use rule_lexer::RuleLexer;

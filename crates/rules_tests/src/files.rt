@@ -45,7 +45,7 @@ A = 'x/ => 1 8 NotClosed
 // The rules of a file, one a line.
 fn read(alloc: Global, bytes: &[u8]) -> Result<String> {
     let mut lines = String::new(alloc);
-    for rule in &read_rules(alloc, bytes)? {
+    for rule in &read_rules(alloc, bytes)?.rules {
         let line = format!(in alloc;
             "{} {:?} {:?} {} {}\n",
             rule.name, rule.form, rule.text, rule.precedence.0, rule.is_skipped
@@ -79,8 +79,8 @@ fn explained(alloc: Global, bytes: &[u8]) -> Result<String> {
 
 // The slices of the pieces of a text, which is cut by the rules of a file.
 fn pieces(alloc: Global, bytes: &[u8], text: &str) -> Result<String> {
-    let rules = read_rules(alloc, bytes)?;
-    let lexer = RuleLexer::from_rules(alloc, &rules)?;
+    let file = read_rules(alloc, bytes)?;
+    let lexer = RuleLexer::from_rules(alloc, &file.rules)?;
     let mut line = String::new(alloc);
     for item in lexer.items(text) {
         line.push_str(&format!(in alloc; "{:?} ", item.slice())?)?;
