@@ -3,10 +3,11 @@ ghost use Rattle.std.specs.Prelude.{◌≡◌, ℕ, List, length, IfOk, IfErr, I
 ghost use Rattle.lalrpop_lexer.specs.Lines.{lines};
 ghost use Rattle.lalrpop_rules.specs.RuleSet.{names_of};
 ghost use Rattle.lalrpop_rules.specs.declared.rule.Rule.{Rule as RuleValue};
-ghost use Rattle.lalrpop_rules.specs.RuleFile.{AreRules, IsPlace, IsFirstBad, IsLineFault, without_mark as without_mark_of};
+ghost use Rattle.lalrpop_rules.specs.RuleFile.{AreRules, ArePlaces, IsFirstBad, IsLineFault, without_mark as without_mark_of};
 
-use lalrpop_lexer::Position;
-use lalrpop_rules::{LineFault, RuleFileError, RuleLexer, RulesError, read_rules, without_mark};
+use lalrpop_rules::{
+    LineFault, RuleFile, RuleFileError, RuleLexer, RulesError, read_rules, without_mark,
+};
 use std::alloc::{AllocError, Global};
 
 // Needs lalrpop_rules::without_mark: ensures.
@@ -78,27 +79,16 @@ pub fn lexer_of_file(alloc: Global, bytes: &[u8]) -> Result<Option<RuleLexer>, R
 }
 
 // Needs lalrpop_rules::read_rules: places.
-/// Where the literal or the pattern of a rule of a file begins; `None` if there is no such rule. Rules are numbered from 0.
+/// The rules of a file with the places where their literals and patterns begin.
 ///
 /// # Errors
 ///
-/// `AllocError` if a request for memory was refused.
-pub fn place_of_rule(
-    alloc: Global,
-    bytes: &[u8],
-    rule: usize,
-) -> Result<Option<Position>, AllocError>
-    ensures place { IfOk result (λ found. IfSome found (λ place. (before : List RuleValue)
-        × ((own : RuleValue) × IsPlace (lines (without_mark_of bytes.now)) before own place))) }
+/// The first bad line, or out of memory.
+pub fn rules_with_places(alloc: Global, bytes: &[u8]) -> Result<RuleFile<'_>, RuleFileError>
+    ensures places { IfOk result (λ file.
+        ArePlaces (lines (without_mark_of bytes.now)) file.rules.items file.places.items) }
 {
-    match read_rules(alloc, bytes) {
-        Ok(file) => match (file.rules.get(rule), file.places.get(rule)) {
-            (Some(_), Some(place)) => Ok(Some(*place)),
-            _ => Ok(None),
-        },
-        Err(RuleFileError::BadLine { .. }) => Ok(None),
-        Err(RuleFileError::OutOfMemory) => Err(AllocError),
-    }
+    read_rules(alloc, bytes)
 }
 
 // Needs lalrpop_rules::RuleFileError::from: ghost from_gives.
