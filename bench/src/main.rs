@@ -256,8 +256,8 @@ fn by_blocks(alloc: Global, dense: &DenseDfa, text: &str) -> Result<Found, Alloc
 }
 
 fn rule_lexer(alloc: Global, bytes: &[u8]) -> Option<RuleLexer> {
-    let rules = read_rules(alloc, bytes).ok()?;
-    RuleLexer::from_rules(alloc, &rules).ok()
+    let file = read_rules(alloc, bytes).ok()?;
+    RuleLexer::from_rules(alloc, &file.rules).ok()
 }
 
 impl Work for RuleLexer {

@@ -60,8 +60,8 @@ pub fn main(rt: HostRuntime) -> Result<()> {
         bail!("usage: config_reader RULES TEXT");
     };
     let bytes = fs::read_to_string(&rt, &rules_name).context(format_args!("{rules_name:?}"))?;
-    let rules = read_rules(alloc, bytes.as_bytes()).context(format_args!("{rules_name:?}"))?;
-    let lexer = RuleLexer::from_rules(alloc, &rules).context(format_args!("{rules_name:?}"))?;
+    let file = read_rules(alloc, bytes.as_bytes()).context(format_args!("{rules_name:?}"))?;
+    let lexer = RuleLexer::from_rules(alloc, &file.rules).context(format_args!("{rules_name:?}"))?;
     let text = fs::read_to_string(&rt, &text_name).context(format_args!("{text_name:?}"))?;
     show(&rt, &lexer, &text)
 }

@@ -34,7 +34,7 @@ last_unique c (x ∷ xs) us (y ∷ ys) vs a b e =
     let same : xs ++ (c ∷ us) ≡ ys ++ (c ∷ vs) = cc in
     let rest = last_unique c xs us ys vs a b same in (cc, rest.1)
 
-blanks_lack : (c : ℕ) (bs : List ℕ) → is_blank c ≡ false → AreBlanks bs → AtNoPlace c bs
+pub blanks_lack : (c : ℕ) (bs : List ℕ) → is_blank c ≡ false → AreBlanks bs → AtNoPlace c bs
 blanks_lack c [] fails h = λ i below. absurd (omega arith)
 blanks_lack c (b ∷ bs) fails h = by_place (blanks_lack c bs fails h.1)
   where

@@ -26,6 +26,7 @@ pub mod Stopping
 pub mod StoppingLaws
 -- the lines of a file
 pub mod Returns
+pub mod TextColumns
 pub mod FileLines
 pub mod Results
 -- what the definitions mean: lines are one list of rules, or have one first bad line

@@ -20,7 +20,7 @@ lacks_each mark (b ∷ bs) none = (ap not (ne_eqb b mark (none 0 (omega arith)))
 abbrev pub Ends : List ℕ → List ℕ → Type 0
 Ends line rest = (front : List ℕ) × (line ≡ front ++ rest)
 
-ends_behind : (front text rest line : List ℕ) → line ≡ front ++ text → Ends text rest → Ends line rest
+pub ends_behind : (front text rest line : List ℕ) → line ≡ front ++ text → Ends text rest → Ends line rest
 ends_behind front text rest line parts (more, is) = (front ++ more, parts ∙ ap (λ (x : List ℕ). front ++ x) is ∙ sym (append_assoc front more rest))
 
 ends_named : (line name rest : List ℕ) → IsNamed line name rest → Ends line rest
@@ -32,7 +32,7 @@ ends_marked : (text rest : List ℕ) → IsMarked text rest → Ends text rest
 ends_marked text rest (inl (behind, (gap, (skip, span)))) = ends_behind (codes "skip") behind rest text skip.0 (gap, span.parts)
 ends_marked text rest (inr (none, same)) = ([], same)
 
-ends_left : (line name : List ℕ) (skipped : Bool) (right : List ℕ) → IsLeft line name skipped right → Ends line right
+pub ends_left : (line name : List ℕ) (skipped : Bool) (right : List ℕ) → IsLeft line name skipped right → Ends line right
 ends_left line name skipped right h =
     let equals : List ℕ = codes "=" ++ right in
     ends_behind h.lead (name ++ (h.mark ++ (h.gap ++ equals))) right line h.parts

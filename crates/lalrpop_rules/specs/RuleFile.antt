@@ -1,13 +1,14 @@
 -- cases: proofs/Cases/RuleFile.antt
 -- What the lines of a file of rules say.
-use Rattle.std.specs.Prelude.{◌≡◌, ◌⊎◌, ℕ, zero, suc, ◌-◌, ◌==◌, if◌then◌else◌, Option, Some, None, List, [], ◌∷◌, ◌++◌, length, take, drop, codes, slice_get}
+use Rattle.std.specs.Prelude.{◌≡◌, ◌⊎◌, ℕ, zero, suc, ◌+◌, ◌-◌, ◌==◌, if◌then◌else◌, Option, Some, None, List, [], ◌∷◌, ◌++◌, length, take, drop, codes, slice_get}
 use Rattle.std.specs.Str.{IsUtf8, bytes_eq}
 use Rattle.std.specs.Str.Lossy.{utf8_valid_len}
 use Rattle.lalrpop_lexer.specs.Lines.{lines}
 use Rattle.lalrpop_lexer.specs.Position.{position_of}
+use Rattle.lalrpop_lexer.specs.declared.position.Position.{Position}
 use Rattle.lalrpop_rules.specs.declared.rule.Rule.{Rule}
 use Rattle.lalrpop_rules.specs.RuleFault.{StopsBefore}
-use Rattle.lalrpop_rules.specs.RuleLine.{AreBlanks, IsRule}
+use Rattle.lalrpop_rules.specs.RuleLine.{AreBlanks, IsRule, delimiter}
 use Rattle.lalrpop_rules.specs.declared.rule_file.error.LineFault.{LineFault}
 use Rattle.lalrpop_rules.specs.declared.rule_file.error.LineFault.TheVariants.{NotUtf8}
 use Rattle.lalrpop_rules.specs.declared.rule_file.error.RuleFileError.{RuleFileError}
@@ -41,6 +42,30 @@ AreRules [] [] = Unit {0}
 AreRules [] (r ∷ rs) = ⊥
 AreRules (line ∷ rest) [] = LineSays line None × AreRules rest []
 AreRules (line ∷ rest) (r ∷ rs) = (LineSays line None × AreRules rest (r ∷ rs)) ⊎ (LineSays line (Some r) × AreRules rest rs)
+
+-- the text of a line's rule begins in this column: from there on the line is the text, its delimiter and blanks
+pub record IsTextColumn (line : List ℕ) (rule : Rule) (column : ℕ) : Type 0 where
+  pub front : List ℕ
+  pub trail : List ℕ
+  pub parts : line ≡ front ++ (rule.text.now ++ (delimiter rule.form ∷ trail))
+  pub blanks : AreBlanks trail
+  pub counted : column ≡ (position_of line (length front)).column
+
+-- where a rule's text begins: the lines above its line, which is counted from 1, say the rules before it
+pub record IsPlace (ls : List (List ℕ)) (before : List Rule) (rule : Rule) (place : Position) : Type 0 where
+  pub above : List (List ℕ)
+  pub line : List ℕ
+  pub below : List (List ℕ)
+  pub parts : ls ≡ above ++ (line ∷ below)
+  pub are_rules : AreRules above before
+  pub says : LineSays line (Some rule)
+  pub is_line : place.line ≡ length above + 1
+  pub is_column : IsTextColumn (without_return line) rule place.column
+
+-- each of these rules has its place
+pub record ArePlaces (ls : List (List ℕ)) (rules : List Rule) (places : List Position) : Type 0 where
+  pub one_each : length places ≡ length rules
+  pub each : (i : ℕ) (rule : Rule) (place : Position) → slice_get rules i ≡ Some rule → slice_get places i ≡ Some place → IsPlace ls (take i rules) rule place
 
 -- the line with this number, counted from 1, is the first that is neither
 abbrev pub IsFirstBad : List (List ℕ) → ℕ → Type 0

@@ -20,5 +20,5 @@ pub use lalrpop_lexer::Form;
 pub use leftmost::find;
 pub use pieces::Items;
 pub use rule::Rule;
-pub use rule_file::{LineFault, RuleFileError, read_rules, without_mark};
+pub use rule_file::{LineFault, RuleFile, RuleFileError, read_rules, without_mark};
 pub use rule_lexer::RuleLexer;

@@ -6,4 +6,4 @@ mod line;
 mod span;
 
 pub use error::{LineFault, RuleFileError};
-pub use file::{read_rules, without_mark};
+pub use file::{RuleFile, read_rules, without_mark};

@@ -60,7 +60,7 @@ fn lines_of(alloc: Global, rules: &[Rule]) -> Result<String, AllocError> {
 // The rules of a file, one a line.
 fn read(alloc: Global, bytes: &[u8]) -> Result<String, AllocError> {
     match read_rules(alloc, bytes) {
-        Ok(rules) => lines_of(alloc, &rules),
+        Ok(file) => lines_of(alloc, &file.rules),
         Err(_) => Err(AllocError),
     }
 }
@@ -138,7 +138,7 @@ fn cut_by(alloc: Global, rules: &[Rule], text: &str) -> Result<String, AllocErro
 
 fn pieces(alloc: Global, bytes: &[u8], text: &str) -> Result<String, AllocError> {
     match read_rules(alloc, bytes) {
-        Ok(rules) => cut_by(alloc, &rules, text),
+        Ok(file) => cut_by(alloc, &file.rules, text),
         Err(_) => Err(AllocError),
     }
 }

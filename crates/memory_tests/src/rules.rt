@@ -146,7 +146,7 @@ fn names_of(alloc: Global, rules: &[Rule]) -> Result<String, AllocError> {
 // The names of the rules in a file of one line, or what is wrong with it.
 pub(crate) fn in_file(alloc: Global, line: &str) -> Result<String, AllocError> {
     match read_rules(alloc, line.as_bytes()) {
-        Ok(rules) => names_of(alloc, &rules),
+        Ok(file) => names_of(alloc, &file.rules),
         Err(RuleFileError::OutOfMemory) => Err(AllocError),
         Err(error) => format!(in alloc; "{error}"),
     }

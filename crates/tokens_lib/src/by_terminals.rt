@@ -38,13 +38,11 @@ pub(crate) fn cut_by_terminals<R: Files + Input + Print + Eprint + AllocGlobal>(
     };
     match lexer_of(rt.alloc(), &bytes) {
         Ok(lexer) => {
-            let mut writer = Watched::new(io::writer(rt));
             let task = Task::Tokens {
                 lexer: &lexer,
                 places,
             };
-            let status = cut_all(rt, &task, files, &mut writer)?;
-            flushed(status, &writer.into_inner().flush())
+            cut_all(rt, &task, files)
         }
         Err(BuildError::Reported(outcome)) => report(rt, rules, &bytes, &outcome),
         Err(BuildError::OutOfMemory) => Err(Failure::Run(RunError::OutOfMemory)),

@@ -1,5 +1,6 @@
 //! Cutting files one after another: the lines or the markup of each are written.
 ghost use Rattle.std.specs.Prelude.{◌≡◌, ◌≢◌, ◌≤◌, false, IfOk, OnOk};
+ghost use Rattle.std.specs.Str.{IsCharBoundary};
 ghost use Rattle.tokens_lib.specs.Internal.Endings.{StopsIn, IsTokensEnding, IsPiecesEnding, Performs, ReadsAndPerforms};
 
 use crate::command::Markup;
@@ -12,9 +13,9 @@ use crate::text::{TextError, read_text};
 use crate::token_lines::write_tokens;
 use lalrpop_lexer::Lexer;
 use lalrpop_rules::RuleLexer;
-use lexdfa_lib::{Failure, Outcome, RunError, Watched};
+use lexdfa_lib::{Failure, Outcome, RunError, Watched, flushed};
 use std::alloc::Global;
-use std::io::{Eprint, Read, Write};
+use std::io::{self, Eprint, Read, Write};
 use std::rt::Files;
 
 // The name that places in standard input have.
@@ -47,7 +48,7 @@ pub(crate) enum Task<'rules> {
 
 // What came of a text.
 #[derive(Clone, Copy)]
-enum Ending {
+enum CutResult {
     /// It was cut to its end, and has no fault.
     Whole,
     /// It was cut to its end, and has faults.
@@ -57,37 +58,37 @@ enum Ending {
 }
 
 // What came of a text that terminals cut.
-fn tokens_ending(outcome: &Outcome) -> Ending
+fn tokens_ending(outcome: &Outcome) -> CutResult
     ensures { IsTokensEnding outcome.now result }
 {
     match outcome {
-        Outcome::Stopped { at, .. } => Ending::Stopped {
+        Outcome::Stopped { at, .. } => CutResult::Stopped {
             kind: "terminal",
             at: *at,
         },
-        _ => Ending::Whole,
+        _ => CutResult::Whole,
     }
 }
 
 // What came of a text that named rules cut, by where its first fault begins.
-fn pieces_ending(recovers: bool, fault: Option<usize>) -> Ending
+fn pieces_ending(recovers: bool, fault: Option<usize>) -> CutResult
     ensures { IsPiecesEnding recovers fault result }
 {
     match fault {
-        None => Ending::Whole,
-        Some(_) if recovers => Ending::Faulty,
-        Some(at) => Ending::Stopped { kind: "rule", at },
+        None => CutResult::Whole,
+        Some(_) if recovers => CutResult::Faulty,
+        Some(at) => CutResult::Stopped { kind: "rule", at },
     }
 }
 
-// Performs the action on a text.
-fn perform<W: Write>(
+// Does the task for a text.
+fn run_task<W: Write>(
     alloc: Global,
     task: &Task<'_>,
     name: &str,
     text: &str,
     writer: &mut Watched<W>,
-) -> Result<Ending, RunError>
+) -> Result<CutResult, RunError>
     requires writer_good { writer.old.failed ≡ false }
     ensures performed { IfOk result (λ ending. Performs task.now name.entry text.now
         (W.contents writer.old.inner) (W.contents writer.new.inner) ending) }
@@ -120,7 +121,22 @@ fn perform<W: Write>(
     }
 }
 
-// Performs the action on all that a reader has left, and returns the status.
+// Says where cutting stopped.
+fn say_stopped(
+    rt: &(impl Eprint + AllocGlobal),
+    kind: &str,
+    name: &str,
+    text: &str,
+    at: usize,
+) -> Result<(), Failure>
+    requires boundary { IsCharBoundary text.now at }
+{
+    let message = fault_message(rt.alloc(), kind, name, text, at).map_err(out_of_memory)?;
+    say(rt, message.as_str());
+    Ok(())
+}
+
+// Does the task for all that a reader has left, and returns the status.
 fn cut<R: Read, W: Write>(
     rt: &(impl Eprint + AllocGlobal),
     task: &Task<'_>,
@@ -145,20 +161,17 @@ fn cut<R: Read, W: Write>(
             return Ok(NO_TEXT);
         }
     };
-    match perform(rt.alloc(), task, name, text.as_str(), writer).map_err(Failure::Run)? {
-        Ending::Whole => Ok(0),
-        Ending::Faulty => Ok(1),
-        Ending::Stopped { kind, at } => {
-            let message = fault_message(rt.alloc(), kind, name, text.as_str(), at).map_err(
-                out_of_memory,
-            )?;
-            say(rt, message.as_str());
+    match run_task(rt.alloc(), task, name, text.as_str(), writer).map_err(Failure::Run)? {
+        CutResult::Whole => Ok(0),
+        CutResult::Faulty => Ok(1),
+        CutResult::Stopped { kind, at } => {
+            say_stopped(rt, kind, name, text.as_str(), at)?;
             Ok(1)
         }
     }
 }
 
-// Performs the action on a file, and returns the status.
+// Does the task for a file, and returns the status.
 fn cut_file<W: Write>(
     rt: &(impl Files + Eprint + AllocGlobal),
     task: &Task<'_>,
@@ -175,8 +188,8 @@ fn cut_file<W: Write>(
     cut(rt, task, name, &mut Watched::new(file), writer)
 }
 
-/// Performs the action on each file, or on standard input if there are none, and returns the greatest status.
-pub(crate) fn cut_all<W: Write>(
+// Does the task for each file, or for standard input if there are none, and returns the greatest status.
+fn cut_each<W: Write>(
     rt: &(impl Files + Input + Eprint + AllocGlobal),
     task: &Task<'_>,
     files: &[String],
@@ -194,4 +207,17 @@ pub(crate) fn cut_all<W: Write>(
         status = status.max(own);
     }
     Ok(status)
+}
+
+/// Does the task for each file, or for standard input if there are none, writes to standard output, and returns the greatest status.
+pub(crate) fn cut_all<R: Files + Input + Print + Eprint + AllocGlobal>(
+    rt: &R,
+    task: &Task<'_>,
+    files: &[String],
+) -> Result<u8, Failure>
+    ensures status { IfOk result (λ status. status ≤ 6) }
+{
+    let mut writer = Watched::new(io::writer(rt));
+    let status = cut_each(rt, task, files, &mut writer)?;
+    flushed(status, &writer.into_inner().flush())
 }

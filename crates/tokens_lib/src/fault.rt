@@ -2,7 +2,7 @@
 
 ghost use Rattle.std.specs.Str.{IsCharBoundary};
 
-use crate::quote::push_told;
+use crate::quote::push_escaped_char;
 use lalrpop_lexer::Position;
 use std::alloc::{AllocError, Global};
 
@@ -24,7 +24,7 @@ pub(crate) fn fault_message(
     let Position { line, column } = Position::of(text, at);
     let mut message = format!(in alloc; "tokens: {file}:{line}:{column}: no {kind} matches \"")?;
     if let Some(c) = text[at..].chars().next() {
-        push_told(&mut message, c)?;
+        push_escaped_char(&mut message, c)?;
     }
     message.push_str("\"\n")?;
     Ok(message)

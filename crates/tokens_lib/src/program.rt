@@ -2,7 +2,7 @@
 ghost use Rattle.std.specs.Prelude.{◌≤◌, IfOk};
 ghost use Rattle.std.specs.Process.{exit_status};
 
-use crate::by_rules::{Work, cut_by_rules, list_clashes};
+use crate::by_rules::{cut_by_rules, list_clashes, show_by_rules};
 use crate::by_terminals::{cut_by_terminals, list_terminal_clashes};
 use crate::command::{Command, command_of};
 use crate::ends::{out_of_memory, say};
@@ -20,7 +20,8 @@ const USAGE: &str = "tokens: usage: tokens [--recover] [--json] RULES [FILE ..]
        tokens --lines --clashes RULES
 ";
 
-fn perform<R: Env + Files + Input + Print + Eprint + AllocGlobal>(rt: &R) -> Result<u8, Failure>
+// Does what the arguments say, and returns the status.
+fn run_command<R: Env + Files + Input + Print + Eprint + AllocGlobal>(rt: &R) -> Result<u8, Failure>
     ensures { IfOk result (λ status. status ≤ 6) }
 {
     let words = env::args(rt).map_err(|error| without_arguments(&error))?;
@@ -34,12 +35,12 @@ fn perform<R: Env + Files + Input + Print + Eprint + AllocGlobal>(rt: &R) -> Res
             recovers,
             rules,
             files,
-        } => cut_by_rules(rt, Work::Cut { form, recovers }, rules, files),
+        } => cut_by_rules(rt, form, recovers, rules, files),
         Command::Show {
             markup,
             rules,
             files,
-        } => cut_by_rules(rt, Work::Show(markup), rules, files),
+        } => show_by_rules(rt, markup, rules, files),
         Command::Clashes { rules } => list_clashes(rt, rules),
         Command::CutByTerminals {
             places,
@@ -70,7 +71,7 @@ fn failure_text(failure: &Failure) -> &'static str {
 pub fn run_program<R: Env + Files + Input + Print + Eprint + AllocGlobal>(rt: &R) -> ExitCode
     ensures status { exit_status result ≤ 6 }
 {
-    let status = match perform(rt) {
+    let status = match run_command(rt) {
         Ok(status) => status,
         Err(failure) => {
             say(rt, failure_text(&failure));

@@ -31,7 +31,7 @@ pub(crate) fn is_unseen(c: char) -> bool
     }
 }
 
-pub(crate) fn push_told(text: &mut String, c: char) -> Result<(), AllocError>
+pub(crate) fn push_escaped_char(text: &mut String, c: char) -> Result<(), AllocError>
     ensures { OnOk result (string_bytes text.new ≡ string_bytes text.old ++ told c) }
 {
     if let Some(escape) = short_escape(c) {
@@ -54,7 +54,7 @@ pub fn quoted(alloc: Global, slice: &str) -> Result<String, AllocError>
 {
     let mut text = String::from_str(alloc, "\"")?;
     for c in slice.chars() {
-        push_told(&mut text, c)?;
+        push_escaped_char(&mut text, c)?;
     }
     text.push_str("\"")?;
     Ok(text)
@@ -64,7 +64,7 @@ fn push_value(text: &mut String, value: u32) -> Result<(), AllocError>
     ensures { OnOk result (string_bytes text.new ≡ string_bytes text.old ++ value_told value) }
 {
     match char::from_u32(value) {
-        Some(c) => push_told(text, c),
+        Some(c) => push_escaped_char(text, c),
         None => write!(text, "\\u{{{value:x}}}"),
     }
 }

@@ -5,128 +5,124 @@ use crate::quote::quoted_word;
 use crate::reasons::{
     characters_before, clash_advice, line_shown, place_explained, refusal_text, syntax_text,
 };
-use lalrpop_rules::{LineFault, Rule, RuleFileError, RulesError};
+use lalrpop_lexer::lexer::nfa::NfaConstructionError;
+use lalrpop_lexer::lexer::re::SyntaxKind;
+use lalrpop_lexer::{Position, Terminals, read_terminals};
+use lalrpop_rules::{LineFault, RuleFile, RuleFileError, RulesError};
 use std::alloc::{AllocError, Global};
 
-// A line of a file without its end. Lines count from 1.
+/// The bytes of a file of rules, without a byte order mark.
 #[derive(Clone, Copy)]
-struct Line<'bytes> {
-    number: usize,
-    text: &'bytes str,
+pub(crate) struct Source<'bytes> {
+    /// What the file is called.
+    pub name: &'bytes str,
+    pub bytes: &'bytes [u8],
 }
 
-// A file of rules that are not wrong, by itself.
-#[derive(Clone, Copy)]
-struct RuleFile<'bytes> {
-    name: &'bytes str,
-    bytes: &'bytes [u8],
-    rules: &'bytes [Rule<'bytes>],
-}
-
-// The text of a line, or nothing if it isn't UTF-8.
-fn text_of(line: &[u8]) -> &str {
-    match str::from_utf8(line) {
+// The text of the line with this number, from 1, without its end; nothing if it isn't UTF-8.
+fn line_at(bytes: &[u8], number: usize) -> &str {
+    let line = bytes
+        .split(|byte| *byte == b'\n')
+        .nth(number.saturating_sub(1));
+    match str::from_utf8(line.unwrap_or(&[])) {
         Ok(text) => text.strip_suffix('\r').unwrap_or(text),
         Err(_) => "",
     }
 }
 
-// Whether a line that isn't wrong is a rule: neither blank nor a comment.
-fn is_rule(line: &str) -> bool {
-    match line.chars().find(|c| *c != ' ' && *c != '\t') {
-        Some(first) => first != '#',
-        None => false,
+// Where the text of the rule with this index begins.
+fn place_of(file: &RuleFile<'_>, rule: usize) -> Position {
+    match file.places.get(rule) {
+        Some(place) => *place,
+        None => Position { line: 1, column: 1 },
     }
 }
 
-// The line with this number.
-fn line_at(bytes: &[u8], number: usize) -> Line<'_> {
-    let line = bytes
-        .split(|byte| *byte == b'\n')
-        .nth(number.saturating_sub(1));
-    Line {
-        number,
-        text: text_of(line.unwrap_or(&[])),
-    }
-}
-
-// The line of the rule with this index, counted from 0.
-fn line_of_rule(bytes: &[u8], rule: usize) -> Line<'_> {
-    let mut number = 0usize;
-    let mut left = rule;
-    for line in bytes.split(|byte| *byte == b'\n') {
-        number = number.saturating_add(1);
-        let text = text_of(line);
-        if is_rule(text) {
-            if left == 0 {
-                return Line { number, text };
-            }
-            left = left.saturating_sub(1);
-        }
-    }
-    Line { number, text: "" }
-}
-
-// The characters of a line before the text of its pattern, which begins after the first slash after the first `=`.
-fn characters_before_pattern(line: &str) -> usize {
-    let Some((left, right)) = line.split_once('=') else {
-        return 0;
-    };
-    let Some((lead, _)) = right.split_once('/') else {
-        return 0;
-    };
-    let before = left.chars().count().saturating_add(lead.chars().count());
-    before.saturating_add(2)
-}
-
-// A reason without a place in the line.
-fn line_explained(
+// Where and why the pattern of a rule doesn't parse.
+fn syntax_explained(
     alloc: Global,
-    file: &str,
-    line: &Line<'_>,
-    reason: &str,
+    source: &Source<'_>,
+    place: Position,
+    inside: usize,
+    kind: SyntaxKind,
 ) -> Result<String, AllocError> {
-    let number = line.number;
-    let shown = line_shown(alloc, line.text)?;
+    let line = line_at(source.bytes, place.line);
+    let before = place.column.saturating_sub(1).saturating_add(inside);
+    place_explained(
+        alloc,
+        source.name,
+        place.line,
+        line,
+        before,
+        syntax_text(kind),
+    )
+}
+
+// The number of characters of a rule's text before this byte.
+fn characters_inside(file: &RuleFile<'_>, rule: usize, position: usize) -> usize {
+    match file.rules.get(rule) {
+        Some(rule) => characters_before(rule.text, position),
+        None => 0,
+    }
+}
+
+// Why the rule on a line can't be compiled.
+fn refusal_explained(
+    alloc: Global,
+    source: &Source<'_>,
+    number: usize,
+    error: NfaConstructionError,
+) -> Result<String, AllocError> {
+    let file = source.name;
+    let reason = refusal_text(error);
+    let shown = line_shown(alloc, line_at(source.bytes, number))?;
     format!(in alloc; "tokens: {file}:{number}: {reason}\n    {shown}\n")
+}
+
+// Both lines of a clash, the earlier first.
+fn lines_of_clash(
+    alloc: Global,
+    source: &Source<'_>,
+    earlier: usize,
+    later: usize,
+) -> Result<String, AllocError> {
+    let first = line_shown(alloc, line_at(source.bytes, earlier))?;
+    let second = line_shown(alloc, line_at(source.bytes, later))?;
+    format!(in alloc; "    {earlier}: {first}\n    {later}: {second}\n")
 }
 
 // What the clash is and how to resolve it: both lines, and the word.
 fn clash_explained(
     alloc: Global,
+    source: &Source<'_>,
     file: &RuleFile<'_>,
-    rule: usize,
-    other: usize,
+    rules: (usize, usize),
     word: &[u32],
 ) -> Result<String, AllocError> {
-    let quoted = quoted_word(alloc, word)?;
+    let (other, rule) = rules;
+    let name = source.name;
+    let earlier = place_of(file, other).line;
+    let later = place_of(file, rule).line;
+    let earlier_name = name_of(&file.rules, other);
+    let later_name = name_of(&file.rules, rule);
     let advice = clash_advice(word);
-    let later = line_of_rule(file.bytes, rule);
-    let earlier = line_of_rule(file.bytes, other);
-    let later_name = name_of(file.rules, rule);
-    let earlier_name = name_of(file.rules, other);
-    let name = file.name;
-    let later_number = later.number;
-    let earlier_number = earlier.number;
-    let later_text = line_shown(alloc, later.text)?;
-    let earlier_text = line_shown(alloc, earlier.text)?;
+    let quoted = quoted_word(alloc, word)?;
+    let lines = lines_of_clash(alloc, source, earlier, later)?;
     format!(in alloc;
-        "tokens: {name}:{later_number}: {later_name} clashes with {earlier_name} of line {earlier_number}: both match the word {quoted}, and neither wins\n    \
-        {earlier_number}: {earlier_text}\n    {later_number}: {later_text}\n{advice}\n"
+        "tokens: {name}:{later}: {later_name} clashes with {earlier_name} of line {earlier}: both match the word {quoted}, and neither wins\n\
+        {lines}{advice}\n"
     )
 }
 
-/// What is wrong with the rules of a file, in words: the file and the line, and the line itself. The bytes are those that the rules
-/// were read from, without a byte order mark.
+/// What is wrong with the rules of a file, in words: the file and the line, and the line itself.
 ///
 /// # Errors
 ///
 /// `AllocError` if a request for memory was refused.
 pub(crate) fn rules_explained(
     alloc: Global,
-    name: &str,
-    bytes: &[u8],
-    rules: &[Rule<'_>],
+    source: &Source<'_>,
+    file: &RuleFile<'_>,
     error: &RulesError,
 ) -> Result<String, AllocError> {
     match error {
@@ -135,46 +131,25 @@ pub(crate) fn rules_explained(
             position,
             kind,
         } => {
-            let line = line_of_rule(bytes, *rule);
-            let pattern = match rules.get(*rule) {
-                Some(rule) => rule.text,
-                None => "",
-            };
-            let before = characters_before_pattern(line.text).saturating_add(characters_before(
-                pattern, *position,
-            ));
-            place_explained(
-                alloc,
-                name,
-                line.number,
-                line.text,
-                before,
-                syntax_text(*kind),
-            )
+            let inside = characters_inside(file, *rule, *position);
+            syntax_explained(alloc, source, place_of(file, *rule), inside, *kind)
         }
         RulesError::NotCompiled { rule, error } => {
-            line_explained(
-                alloc,
-                name,
-                &line_of_rule(bytes, *rule),
-                refusal_text(*error),
-            )
+            refusal_explained(alloc, source, place_of(file, *rule).line, *error)
         }
         RulesError::Clash { rule, other, word } => {
-            let file = RuleFile { name, bytes, rules };
-            clash_explained(alloc, &file, *rule, *other, word)
+            clash_explained(alloc, source, file, (*other, *rule), word)
         }
         RulesError::OutOfMemory => Err(AllocError),
     }
 }
 
-// Whether the line has the form of a terminal, `P l TEXT` or `P r PATTERN`.
-fn is_terminal(line: &str) -> bool {
-    let Some((precedence, rest)) = line.split_once(' ') else {
-        return false;
-    };
-    let is_number = !precedence.is_empty() && precedence.bytes().all(|byte| byte.is_ascii_digit());
-    is_number && (rest.strip_prefix("l ").is_some() || rest.strip_prefix("r ").is_some())
+// Whether the line is a terminal, `P l TEXT` or `P r PATTERN`.
+fn is_terminal(alloc: Global, line: &str) -> Result<bool, AllocError> {
+    match read_terminals(alloc, line.as_bytes())? {
+        Terminals::Bad { .. } => Ok(false),
+        Terminals::All { .. } | Terminals::NoTree { .. } => Ok(true),
+    }
 }
 
 /// What is wrong with the first bad line of a file of rules, in words: the file, the line and the column, and the line itself; and
@@ -185,8 +160,7 @@ fn is_terminal(line: &str) -> bool {
 /// `AllocError` if a request for memory was refused.
 pub(crate) fn bad_line_explained(
     alloc: Global,
-    name: &str,
-    bytes: &[u8],
+    source: &Source<'_>,
     error: &RuleFileError,
 ) -> Result<String, AllocError> {
     let RuleFileError::BadLine {
@@ -197,20 +171,15 @@ pub(crate) fn bad_line_explained(
     else {
         return Err(AllocError);
     };
+    let name = source.name;
     if *fault == LineFault::NotUtf8 {
         return format!(in alloc; "tokens: {name}:{line}:{column}: {fault}\n");
     }
-    let shown = line_at(bytes, *line);
+    let shown = line_at(source.bytes, *line);
+    let before = column.saturating_sub(1);
     let reason = format!(in alloc; "{fault}")?;
-    let mut message = place_explained(
-        alloc,
-        name,
-        shown.number,
-        shown.text,
-        column.saturating_sub(1),
-        reason.as_str(),
-    )?;
-    if is_terminal(shown.text) {
+    let mut message = place_explained(alloc, name, *line, shown, before, reason.as_str())?;
+    if is_terminal(alloc, shown)? {
         message.push_str("This is a line of terminals: read such a file with --lines.\n")?;
     }
     Ok(message)

@@ -3,9 +3,11 @@ ghost use Rattle.std.specs.Prelude.{◌≡◌, ℕ, List, length, IfOk, IfErr, I
 ghost use Rattle.lalrpop_lexer.specs.Lines.{lines};
 ghost use Rattle.lalrpop_rules.specs.RuleSet.{names_of};
 ghost use Rattle.lalrpop_rules.specs.declared.rule.Rule.{Rule as RuleValue};
-ghost use Rattle.lalrpop_rules.specs.RuleFile.{AreRules, IsFirstBad, IsLineFault, without_mark as without_mark_of};
+ghost use Rattle.lalrpop_rules.specs.RuleFile.{AreRules, ArePlaces, IsFirstBad, IsLineFault, without_mark as without_mark_of};
 
-use lalrpop_rules::{LineFault, RuleFileError, RuleLexer, RulesError, read_rules, without_mark};
+use lalrpop_rules::{
+    LineFault, RuleFile, RuleFileError, RuleLexer, RulesError, read_rules, without_mark,
+};
 use std::alloc::{AllocError, Global};
 
 // Needs lalrpop_rules::without_mark: ensures.
@@ -68,12 +70,25 @@ pub fn lexer_of_file(alloc: Global, bytes: &[u8]) -> Result<Option<RuleLexer>, R
         × (AreRules (lines (without_mark_of bytes.now)) rs × (lexer.names ≡ names_of rs)))) }
 {
     match read_rules(alloc, bytes) {
-        Ok(rules) => match RuleLexer::from_rules(alloc, &rules) {
+        Ok(file) => match RuleLexer::from_rules(alloc, &file.rules) {
             Ok(lexer) => Ok(Some(lexer)),
             Err(error) => Err(error),
         },
         Err(_) => Ok(None),
     }
+}
+
+// Needs lalrpop_rules::read_rules: places.
+/// The rules of a file with the places where their literals and patterns begin.
+///
+/// # Errors
+///
+/// The first bad line, or out of memory.
+pub fn rules_with_places(alloc: Global, bytes: &[u8]) -> Result<RuleFile<'_>, RuleFileError>
+    ensures places { IfOk result (λ file.
+        ArePlaces (lines (without_mark_of bytes.now)) file.rules.items file.places.items) }
+{
+    read_rules(alloc, bytes)
 }
 
 // Needs lalrpop_rules::RuleFileError::from: ghost from_gives.

@@ -1,9 +1,12 @@
 -- Cases of specs/RuleFile.antt.
 use Rattle.std.proofs.Common.{◌≡◌, ℕ, inl, inr, List, [], ◌∷◌, ◌++◌, get_or, codes, refl, ap, false, ◌∙◌, Option, Some, None, arith}
 use Rattle.std.proofs.lemmas.Bool.{false≢true}
+use Rattle.std.specs.Prelude.{slice_get}
+use Rattle.lalrpop_lexer.specs.declared.form.Form.TheVariants.{Literal}
+use Rattle.lalrpop_lexer.specs.declared.position.Position.{Position}
 use Rattle.lalrpop_rules.specs.declared.rule.Rule.{Rule}
 use Rattle.lalrpop_rules.specs.RuleLine.{is_blank, IsRule}
-use Rattle.lalrpop_rules.specs.RuleFile.{without_mark, without_return, IsBlankOrComment, LineSays, AreRules, IsFirstBad, IsLineFault, IsRuleFileError}
+use Rattle.lalrpop_rules.specs.RuleFile.{without_mark, without_return, IsBlankOrComment, LineSays, AreRules, IsTextColumn, IsPlace, ArePlaces, IsFirstBad, IsLineFault, IsRuleFileError}
 use Rattle.lalrpop_rules.specs.declared.rule_file.error.LineFault.TheVariants.{NoEquals}
 use Rattle.lalrpop_rules.specs.declared.rule_file.error.RuleFileError.TheVariants.{BadLine, OutOfMemory}
 use Rattle.lalrpop_rules.proofs.Lefts.{no_left_kept}
@@ -112,3 +115,29 @@ not_in_the_first_column fault = let k : 1 ≡ 2 = (IsLineFault-unique (codes "x"
 
 refused_memory_is_right : (bytes : List ℕ) → IsRuleFileError bytes OutOfMemory
 refused_memory_is_right bytes = tt
+
+-- in `A = 'x'` the text begins in column 6, behind its first delimiter
+text_in_column_6 : (rule : Rule) → rule.text.now ≡ codes "x" → rule.form ≡ Literal → IsTextColumn (codes "A = 'x' ") rule 6
+unfolding chars
+text_in_column_6 rule text form =
+    record { front = codes "A = '"; trail = codes " "; parts = rw (text, form) refl; blanks = (refl, tt); counted = refl }
+
+no_lines_have_no_place : (before : List Rule) (rule : Rule) (place : Position) → ¬ IsPlace [] before rule place
+no_lines_have_no_place before rule place h = by h.above h.parts
+  where
+    by : (above : List (List ℕ)) → [] ≡ above ++ (h.line ∷ h.below) → ⊥
+    by [] e = absurd (cc)
+    by (l ∷ ls) e = absurd (cc)
+
+-- places count lines from 1
+no_place_on_line_0 : (ls : List (List ℕ)) (before : List Rule) (rule : Rule) (place : Position) → place.line ≡ 0 → ¬ IsPlace ls before rule place
+no_place_on_line_0 ls before rule place none h = omega (arith, none, h.is_line)
+
+no_rules_have_no_places : ArePlaces [] [] []
+no_rules_have_no_places = record { one_each = refl; each = λ i rule place a b. absurd (none i rule a) }
+  where
+    none : (i : ℕ) (rule : Rule) → slice_get [] i ≡ Some rule → ⊥
+    none i rule e = absurd (cc)
+
+each_place_has_its_rule : (place : Position) → ¬ ArePlaces [] [] (place ∷ [])
+each_place_has_its_rule place h = omega (arith, h.one_each)

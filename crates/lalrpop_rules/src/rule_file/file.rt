@@ -1,16 +1,34 @@
 //! A whole file.
-ghost use Rattle.std.specs.Prelude.{◌≡◌, ◌==◌, ◌<◌, ◌≤◌, ◌-◌, ℕ, List, [], ◌∷◌, ◌++◌, length, take, position, Option, IfSome, IfNone, IfOk, IfErr};
+ghost use Rattle.std.specs.Prelude.{◌≡◌, ◌==◌, ◌<◌, ◌≤◌, ◌-◌, ℕ, List, [], ◌∷◌, ◌++◌, length, take, position, Option, option_map, IfSome, IfNone, IfOk, IfErr};
 ghost use Rattle.std.specs.Str.{IsUtf8};
 ghost use Rattle.lalrpop_lexer.specs.Lines.{lines};
 ghost use Rattle.lalrpop_lexer.specs.Position.{position_of};
-ghost use Rattle.lalrpop_rules.specs.RuleFile.{LineSays, AreRules, IsLineFault, IsRuleFileError, without_mark as without_mark_of, without_return as without_return_of};
+ghost use Rattle.lalrpop_rules.specs.RuleFile.{LineSays, AreRules, ArePlaces, IsTextColumn, IsLineFault, IsRuleFileError, without_mark as without_mark_of, without_return as without_return_of};
+ghost use Rattle.lalrpop_rules.specs.RuleLine.{IsRule};
 ghost use Rattle.lalrpop_rules.specs.declared.rule.Rule.{Rule as RuleValue};
 
 use crate::Rule;
 use crate::rule_file::error::{LineFault, RuleFileError};
-use crate::rule_file::line::said_by;
+use crate::rule_file::line::{delimiter_of, said_by};
 use lalrpop_lexer::Position;
 use std::alloc::Global;
+
+/// The rules of a file, and where each stands in it.
+#[derive(Debug, Drop)]
+pub struct RuleFile<'text> {
+    /// The rules, in the order of their lines.
+    pub rules: Vec<Rule<'text>>,
+    /// For each rule the place at which its literal or pattern begins, after the first delimiter. Lines and columns count from 1,
+    /// columns in characters. The columns of the first line count from after a byte order mark.
+    pub places: Vec<Position>,
+}
+
+// A line's rule, and the column in which its text begins.
+#[derive(Clone, Copy, Debug)]
+struct RuleLine<'text> {
+    rule: Rule<'text>,
+    column: usize,
+}
 
 // What is wrong with a line, and the column, counted in characters from 1.
 #[derive(Clone, Copy, Debug)]
@@ -70,9 +88,22 @@ fn column_behind(bytes: &[u8], at: usize) -> usize
     }
 }
 
+// The column in which the text of a line's rule begins. The last delimiter is the one after it.
+fn text_column(line: &str, rule: &Rule<'_>) -> usize
+    requires { IsRule line.now rule.now }
+    ensures { IsTextColumn line.now rule.now result }
+{
+    match line.rsplit_once(delimiter_of(rule.form)) {
+        Some((before, _)) => column_of(before, rule.text),
+        None => unreachable!(),
+    }
+}
+
 // What a line says: a rule, or nothing.
-fn said(line: &[u8]) -> Result<Option<Rule<'_>>, Fault>
-    ensures says { IfOk result (λ said. LineSays line.now said) }
+fn said(line: &[u8]) -> Result<Option<RuleLine<'_>>, Fault>
+    ensures says { IfOk result (λ said. LineSays line.now (option_map (λ r. r.rule) said)) }
+    ensures column { IfOk result (λ said.
+        IfSome said (λ r. IsTextColumn (without_return_of line.now) r.rule r.column)) }
     ensures none { IfErr result (λ _. (said : Option RuleValue) → ¬ LineSays line.now said) }
     ensures fault { IfErr result (λ e. IsLineFault line.now e.column e.fault) }
 {
@@ -87,7 +118,11 @@ fn said(line: &[u8]) -> Result<Option<Rule<'_>>, Fault>
     };
     let content = without_return(text);
     match said_by(content) {
-        Ok(said) => Ok(said),
+        Ok(Some(rule)) => Ok(Some(RuleLine {
+            rule,
+            column: text_column(content, &rule),
+        })),
+        Ok(None) => Ok(None),
         Err(stop) => Err(Fault {
             column: column_of(content, stop.rest),
             fault: stop.fault,
@@ -95,21 +130,27 @@ fn said(line: &[u8]) -> Result<Option<Rule<'_>>, Fault>
     }
 }
 
-// The rules that the lines of the bytes are.
-fn rules_of_lines<'text>(
-    alloc: Global,
-    bytes: &'text [u8],
-) -> Result<Vec<Rule<'text>>, RuleFileError>
-    ensures rules { IfOk result (λ rules. AreRules (lines bytes.now) rules.items) }
+// The rules that the lines of the bytes are, and their places.
+fn rules_of_lines(alloc: Global, bytes: &[u8]) -> Result<RuleFile<'_>, RuleFileError>
+    ensures rules { IfOk result (λ file. AreRules (lines bytes.now) file.rules.items) }
+    ensures places { IfOk result (λ file.
+        ArePlaces (lines bytes.now) file.rules.items file.places.items) }
     ensures error { IfErr result (λ e. IsRuleFileError bytes.now e) }
 {
     let mut rules = Vec::new(alloc);
+    let mut places = Vec::new(alloc);
     let mut number = 0;
     let mut rest = bytes;
     while let Some((line, after)) = split_line(rest) {
         number += 1;
         match said(line) {
-            Ok(Some(rule)) => rules.push(rule)?,
+            Ok(Some(RuleLine { rule, column })) => {
+                rules.push(rule)?;
+                places.push(Position {
+                    line: number,
+                    column,
+                })?;
+            }
             Ok(None) => {}
             Err(Fault { column, fault }) => {
                 return Err(RuleFileError::BadLine {
@@ -121,7 +162,7 @@ fn rules_of_lines<'text>(
         }
         rest = after;
     }
-    Ok(rules)
+    Ok(RuleFile { rules, places })
 }
 
 /// The bytes of a file without the byte order mark, EF BB BF, at their beginning, if there is one.
@@ -136,7 +177,7 @@ pub fn without_mark(bytes: &[u8]) -> &[u8]
     }
 }
 
-/// The rules of a file, in the order of their lines: `NAME [skip] = [PRECEDENCE] 'LITERAL'` or
+/// The rules of a file, in the order of their lines, with their places: `NAME [skip] = [PRECEDENCE] 'LITERAL'` or
 /// `NAME [skip] = [PRECEDENCE] /PATTERN/`. They borrow names and texts from its bytes.
 ///
 /// The file is UTF-8. A byte order mark at its beginning is left out. A line ends at a line feed, which the last may lack; a
@@ -161,11 +202,11 @@ pub fn without_mark(bytes: &[u8]) -> &[u8]
 /// - for `PrecedenceTooLarge`, at its first digit;
 /// - for `NoText`, where the literal or the pattern should begin;
 /// - for `NotClosed`, after the end of a line without a second delimiter, or else at the first nonblank after the last one.
-pub fn read_rules<'text>(
-    alloc: Global,
-    bytes: &'text [u8],
-) -> Result<Vec<Rule<'text>>, RuleFileError>
-    ensures rules { IfOk result (λ rules. AreRules (lines (without_mark_of bytes.now)) rules.items) }
+pub fn read_rules(alloc: Global, bytes: &[u8]) -> Result<RuleFile<'_>, RuleFileError>
+    ensures rules { IfOk result (λ file.
+        AreRules (lines (without_mark_of bytes.now)) file.rules.items) }
+    ensures places { IfOk result (λ file.
+        ArePlaces (lines (without_mark_of bytes.now)) file.rules.items file.places.items) }
     ensures error { IfErr result (λ e. IsRuleFileError (without_mark_of bytes.now) e) }
 {
     rules_of_lines(alloc, without_mark(bytes))

@@ -157,8 +157,8 @@ fn numbered(text: &str) -> Result<(Option<usize>, &str), Stop<'_>>
     Ok((Some(precedence), rest))
 }
 
-// The character on both sides of the text of a rule of this form.
-fn delimiter_of(form: Form) -> char
+/// The character on both sides of the text of a rule of this form.
+pub(crate) fn delimiter_of(form: Form) -> char
     ensures { result ≡ delimiter form }
 {
     match form {

@@ -1,5 +1,5 @@
 use Rattle.std.proofs.Common.{◌≡◌, ◌≤◌, false}
-use Rattle.tokens_lib.proofs.cut_files.cut_all.Given as goal
+use Rattle.tokens_lib.proofs.cut_files.cut_each.Given as goal
 
 abbrev pub invariant-loop-name : goal.invariant-loop-name
 invariant-loop-name g l = (l.writer.failed ≡ false) × (l.status ≤ 6)
