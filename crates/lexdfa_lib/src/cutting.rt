@@ -48,7 +48,8 @@ fn cut(alloc: Global, lexer: &Lexer, text: &str) -> Result<Answers, AllocError>
 {
     let mut lines = String::new(alloc);
     let mut count = 0;
-    for item in lexer.tokens_linear(alloc, text)? {
+    let mut items = lexer.tokens_linear(alloc, text)?;
+    while let Some(item) = items.next() {
         match item {
             Ok(token) => {
                 push_token(&mut lines, token.index, token.slice)?;

@@ -147,13 +147,13 @@ pub fn write_tokens<W: Write>(
 
     ensures no_late_write { writer.new.late ≡ writer.old.late }
 {
-    let Ok(tokens) = lexer.tokens_linear(alloc, text) else {
+    let Ok(mut tokens) = lexer.tokens_linear(alloc, text) else {
         return Err(RunError::OutOfMemory);
     };
     let mut places = Positions::new(text);
     let mut lines = String::new(alloc);
     let mut count = 0;
-    for item in tokens {
+    while let Some(item) = tokens.next() {
         match item {
             Ok(token) => {
                 if push_token(alloc, &mut lines, file, &mut places, &token).is_err() {

@@ -38,7 +38,8 @@ pub fn token_count(lexer: &Lexer, text: &str) -> Result<usize, TokenFault>
         (map Ok tokens ++ Err fault ∷ [])) }
 {
     let mut count = 0;
-    for item in lexer.tokens(text) {
+    let mut items = lexer.tokens(text);
+    while let Some(item) = items.next() {
         match item {
             Ok(_) => count += 1,
             Err(fault) => return Err(fault),

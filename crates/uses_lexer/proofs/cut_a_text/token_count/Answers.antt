@@ -1,6 +1,10 @@
-use Rattle.std.proofs.Common.{◌≡◌, ◌+◌, ◌≤◌, [], ◌∷◌, ◌++◌, length, true, inl, refl, ap, subst, arith}
+use Rattle.std.proofs.Common.{◌≡◌, ◌+◌, ◌≤◌, List, [], ◌∷◌, ◌++◌, length, map, true, inl, refl, ap, subst, arith}
+use Rattle.std.specs.Prelude.{Ok, Result}
+use Rattle.std.specs.Iterator.{Yields}
 use Rattle.lalrpop_lexer.specs.Cutting.{Cutting}
 use Rattle.lalrpop_lexer.specs.LexerTokens.{GivesToken}
+use Rattle.lalrpop_lexer.specs.declared.Token.{Token}
+use Rattle.lalrpop_lexer.specs.declared.TokenFault.{TokenFault}
 use Rattle.lalrpop_lexer.proofs.LexerCosts.{nothing_more}
 use Rattle.lalrpop_lexer.specs.Tokens.{AreTokens}
 use Rattle.uses_lexer.proofs.Tokens.{item_more, item_last, no_more, token_more, count_more, room_for_one_more, then_a_fault}
@@ -8,43 +12,44 @@ use Rattle.uses_lexer.proofs.cut_a_text.token_count.Goals as goal
 
 pub overflow_add-count : goal.overflow_add-count
 overflow_add-count c =
-    let so_far = c.loop-item.invariant in
-    let more = item_more GivesToken _ _ _ _ _ _ _ c.into_iter-item-iterator.ensures.into_iter_gives c.loop-item.yielded_by c.in-Some.is c.next.ensures.steps in
-    let few = c.tokens-item-items.ensures.count _ _ more in
-    let room : c.loop-item.count + 1 ≤ length c.args.text.now = room_for_one_more c.args.text.now c.loop-item.yielded c.in-Some.item _ so_far.0 c.utf8.text few so_far.1.0 so_far.1.1 in
+    let so_far = c.loop.invariant in
+    let more = item_more GivesToken _ _ _ _ (map Ok so_far.0) _ _ refl so_far.1.0 c.in-Some.is c.next.ensures.steps in
+    let few = c.tokens-items.ensures.count _ _ more in
+    let room : c.loop.count + 1 ≤ length c.args.text.now = room_for_one_more c.args.text.now (map Ok so_far.0) c.in-Some.item _ so_far.0 c.utf8.text few refl so_far.1.1 in
     omega arith
 
-pub loop-item-preserved : goal.loop-item-preserved
-loop-item-preserved c =
-    let so_far = c.loop-item.invariant in
-    let token = c.in-Ok.field-0 in (
+pub loop-preserved : goal.loop-preserved
+loop-preserved c =
+    let so_far = c.loop.invariant in
+    let token = c.in-Ok.field-0 in
+    let more = item_more GivesToken _ _ _ _ (map Ok so_far.0) _ _ refl so_far.1.0 c.in-Some.is c.next.ensures.steps in (
       so_far.0 ++ token ∷ [],
-      (token_more _ _ so_far.0 token so_far.1.0 c.in-Ok.is, count_more _ so_far.0 token so_far.1.1),
+      (
+        subst (λ (xs : List (Result Token TokenFault)). Yields GivesToken c.loop.initial.items xs c.next.new.self) (token_more (map Ok so_far.0) c.in-Some.item so_far.0 token refl c.in-Ok.is) more,
+        count_more _ so_far.0 token so_far.1.1,
+      ),
     )
 
 pub returns-in-Err : goal.returns-in-Err
 returns-in-Err c =
-    let so_far = c.loop-item.invariant in
+    let so_far = c.loop.invariant in
     let step = rw c.in-Err.is at c.in-Some.ensures.steps in
     let over : c.next.new.self.cutting.is_over ≡ true = ap (λ (x : Cutting). x.is_over) step.0.4 in
-    let all = item_last GivesToken _ _ _ _ _ _ _ c.into_iter-item-iterator.ensures.into_iter_gives c.loop-item.yielded_by c.in-Some.is c.next.ensures.steps (nothing_more _ over) in
+    let all = item_last GivesToken _ _ _ _ (map Ok so_far.0) _ _ refl so_far.1.0 c.in-Some.is c.next.ensures.steps (nothing_more _ over) in
     record {
       all = tt;
       fault = (
         so_far.0,
-        subst (AreTokens c.args.lexer.now.trees c.args.lexer.now.precedences c.args.text.now 0) (then_a_fault _ _ so_far.0 c.in-Err.fault so_far.1.0 c.in-Err.is)
-            (c.tokens-item-items.ensures.tokens _ all),
+        subst (AreTokens c.args.lexer.now.trees c.args.lexer.now.precedences c.args.text.now 0) (then_a_fault (map Ok so_far.0) _ so_far.0 c.in-Err.fault refl c.in-Err.is)
+            (c.tokens-items.ensures.tokens _ all),
       );
     }
 
 pub returns : goal.returns
 returns c =
-    let so_far = c.loop-item.invariant in
-    let all = no_more GivesToken _ _ _ _ _ _ c.into_iter-item-iterator.ensures.into_iter_gives c.loop-item.yielded_by c.in-None.is c.next.ensures.steps in
+    let so_far = c.loop.invariant in
+    let all = no_more GivesToken _ _ _ _ (map Ok so_far.0) _ refl so_far.1.0 c.in-None.is c.next.ensures.steps in
     record {
-      all = (
-        so_far.0,
-        (subst (AreTokens c.args.lexer.now.trees c.args.lexer.now.precedences c.args.text.now 0) so_far.1.0 (c.tokens-item-items.ensures.tokens _ all), so_far.1.1),
-      );
+      all = (so_far.0, (c.tokens-items.ensures.tokens _ all, so_far.1.1));
       fault = tt;
     }
