@@ -10,19 +10,19 @@ use Rattle.lexdfa_lib.proofs.cutting.cut.Goals as goal
 
 pub overflow_add-count : goal.overflow_add-count
 overflow_add-count c =
-    let so_far = c.loop.invariant in
+    let so_far = c.loop-item.invariant in
     let more = items_more _ _ _ _ so_far.0 _ _ refl so_far.1.0 c.in-Some.is c.next.ensures.steps in
-    let less : c.loop.count + 1 ≤ length c.args.text.now =
+    let less : c.loop-item.count + 1 ≤ length c.args.text.now =
     one_more _ _ _ c.args.text.now so_far.0 c.in-Some.item _ so_far.1.1.0 c.in_ok-items.ensures.start.0 c.utf8.text more so_far.1.1.1.0 so_far.1.1.1.1 in
     omega arith
 
-pub loop-preserved : goal.loop-preserved
-loop-preserved c =
-    let so_far = c.loop.invariant in
+pub loop-item-preserved : goal.loop-item-preserved
+loop-item-preserved c =
+    let so_far = c.loop-item.invariant in
     let tokens = so_far.1.1 in (
       so_far.0 ++ c.in-Some.item ∷ [],
       (
-        Yields-more GivesToken _ so_far.0 c.loop.items c.in-Some.item _ so_far.1.0 (subst (λ (o : Option (Result Cut TokenFault)). GivesToken c.loop.items o c.next.new.self) c.in-Some.is c.next.ensures.steps),
+        Yields-more GivesToken _ so_far.0 c.loop-item.items c.in-Some.item _ so_far.1.0 (subst (λ (o : Option (Result Cut TokenFault)). GivesToken c.loop-item.items o c.next.new.self) c.in-Some.is c.next.ensures.steps),
         (
           tokens.0 ++ pair_of c.in-Ok.token ∷ [],
           (
@@ -36,7 +36,7 @@ loop-preserved c =
 
 pub returns-in-Err : goal.returns-in-Err
 returns-in-Err c =
-    let so_far = c.loop.invariant in
+    let so_far = c.loop-item.invariant in
     let tokens = so_far.1.1 in
     let all = fault_is_last _ _ _ _ so_far.0 _ _ _ refl so_far.1.0 c.in-Some.is c.in-Err.is c.next.ensures.steps in
     let start = c.in_ok-items.ensures.start.0 in
@@ -50,7 +50,7 @@ returns-in-Err c =
 
 pub returns : goal.returns
 returns c =
-    let so_far = c.loop.invariant in
+    let so_far = c.loop-item.invariant in
     let tokens = so_far.1.1 in
     let all = these_are_all _ _ _ _ so_far.0 _ refl so_far.1.0 c.in-None.is c.next.ensures.steps in
     let start = c.in_ok-items.ensures.start.0 in

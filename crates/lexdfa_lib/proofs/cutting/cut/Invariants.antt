@@ -10,10 +10,10 @@ use Rattle.lexdfa_lib.specs.Whole.{Token, token_line}
 use Rattle.lexdfa_lib.proofs.cutting.cut.Given as goal
 
 -- all items so far are tokens
-abbrev pub invariant-loop : goal.invariant-loop
-invariant-loop l =
+abbrev pub invariant-loop-item : goal.invariant-loop-item
+invariant-loop-item l =
     (xs : List (Result Cut TokenFault)) × (Yields GivesToken l.initial.items xs l.items
     × ((tokens : List Token) × ((map bare xs ≡ map Ok tokens) × (l.count ≡ length tokens) × (string_bytes l.lines ≡ flat_map token_line tokens))))
 
-abbrev pub decreases-loop : goal.decreases-loop
-decreases-loop l = left_of l.items.cutting
+abbrev pub decreases-loop-item : goal.decreases-loop-item
+decreases-loop-item l = left_of l.items.cutting

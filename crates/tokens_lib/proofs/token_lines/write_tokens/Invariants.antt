@@ -10,8 +10,8 @@ use Rattle.tokens_lib.proofs.TextLines.{AreLinesOf}
 use Rattle.tokens_lib.proofs.token_lines.write_tokens.Given as goal
 
 -- all items so far are tokens; of their lines some were sent, and the others are kept
-abbrev pub invariant-loop : goal.invariant-loop
-invariant-loop g l = record {
+abbrev pub invariant-loop-item : goal.invariant-loop-item
+invariant-loop-item g l = record {
   items : List (Result Token TokenFault);
   yields : Yields GivesToken l.initial.tokens items l.tokens;
   written : (sent : List ℕ)
@@ -23,5 +23,5 @@ invariant-loop g l = record {
   walked : l.places.offset ≤ l.tokens.cutting.at;
 }
 
-abbrev pub decreases-loop : goal.decreases-loop
-decreases-loop g l = left_of l.tokens.cutting
+abbrev pub decreases-loop-item : goal.decreases-loop-item
+decreases-loop-item g l = left_of l.tokens.cutting

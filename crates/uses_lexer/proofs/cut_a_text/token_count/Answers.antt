@@ -12,27 +12,27 @@ use Rattle.uses_lexer.proofs.cut_a_text.token_count.Goals as goal
 
 pub overflow_add-count : goal.overflow_add-count
 overflow_add-count c =
-    let so_far = c.loop.invariant in
+    let so_far = c.loop-item.invariant in
     let more = item_more GivesToken _ _ _ _ (map Ok so_far.0) _ _ refl so_far.1.0 c.in-Some.is c.next.ensures.steps in
     let few = c.tokens-items.ensures.count _ _ more in
-    let room : c.loop.count + 1 ≤ length c.args.text.now = room_for_one_more c.args.text.now (map Ok so_far.0) c.in-Some.item _ so_far.0 c.utf8.text few refl so_far.1.1 in
+    let room : c.loop-item.count + 1 ≤ length c.args.text.now = room_for_one_more c.args.text.now (map Ok so_far.0) c.in-Some.item _ so_far.0 c.utf8.text few refl so_far.1.1 in
     omega arith
 
-pub loop-preserved : goal.loop-preserved
-loop-preserved c =
-    let so_far = c.loop.invariant in
+pub loop-item-preserved : goal.loop-item-preserved
+loop-item-preserved c =
+    let so_far = c.loop-item.invariant in
     let token = c.in-Ok.field-0 in
     let more = item_more GivesToken _ _ _ _ (map Ok so_far.0) _ _ refl so_far.1.0 c.in-Some.is c.next.ensures.steps in (
       so_far.0 ++ token ∷ [],
       (
-        subst (λ (xs : List (Result Token TokenFault)). Yields GivesToken c.loop.initial.items xs c.next.new.self) (token_more (map Ok so_far.0) c.in-Some.item so_far.0 token refl c.in-Ok.is) more,
+        subst (λ (xs : List (Result Token TokenFault)). Yields GivesToken c.loop-item.initial.items xs c.next.new.self) (token_more (map Ok so_far.0) c.in-Some.item so_far.0 token refl c.in-Ok.is) more,
         count_more _ so_far.0 token so_far.1.1,
       ),
     )
 
 pub returns-in-Err : goal.returns-in-Err
 returns-in-Err c =
-    let so_far = c.loop.invariant in
+    let so_far = c.loop-item.invariant in
     let step = rw c.in-Err.is at c.in-Some.ensures.steps in
     let over : c.next.new.self.cutting.is_over ≡ true = ap (λ (x : Cutting). x.is_over) step.0.4 in
     let all = item_last GivesToken _ _ _ _ (map Ok so_far.0) _ _ refl so_far.1.0 c.in-Some.is c.next.ensures.steps (nothing_more _ over) in
@@ -47,7 +47,7 @@ returns-in-Err c =
 
 pub returns : goal.returns
 returns c =
-    let so_far = c.loop.invariant in
+    let so_far = c.loop-item.invariant in
     let all = no_more GivesToken _ _ _ _ (map Ok so_far.0) _ refl so_far.1.0 c.in-None.is c.next.ensures.steps in
     record {
       all = (so_far.0, (c.tokens-items.ensures.tokens _ all, so_far.1.1));

@@ -7,8 +7,8 @@ use Rattle.lalrpop_lexer.specs.declared.Token.{Token}
 use Rattle.uses_lexer.proofs.cut_a_text.token_count.Given as goal
 
 -- all items so far are tokens
-abbrev pub invariant-loop : goal.invariant-loop
-invariant-loop l = (tokens : List Token) × (Yields GivesToken l.initial.items (map Ok tokens) l.items × (l.count ≡ length tokens))
+abbrev pub invariant-loop-item : goal.invariant-loop-item
+invariant-loop-item l = (tokens : List Token) × (Yields GivesToken l.initial.items (map Ok tokens) l.items × (l.count ≡ length tokens))
 
-abbrev pub decreases-loop : goal.decreases-loop
-decreases-loop l = left_of l.items.cutting
+abbrev pub decreases-loop-item : goal.decreases-loop-item
+decreases-loop-item l = left_of l.items.cutting
