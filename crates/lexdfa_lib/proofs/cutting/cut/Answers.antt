@@ -52,7 +52,7 @@ pub returns : goal.returns
 returns c =
     let so_far = c.loop-item.invariant in
     let tokens = so_far.1.1 in
-    let all = these_are_all _ _ _ _ so_far.0 _ refl so_far.1.0 c.in-None.is c.next.ensures.steps in
+    let all = these_are_all _ _ _ _ so_far.0 _ refl so_far.1.0 refl c.in_default.ensures.steps in
     let start = c.in_ok-items.ensures.start.0 in
     IfOk-weaker c.with_outcome-2.result _ _
     (λ answers same. (

@@ -48,7 +48,7 @@ returns-in-Err c =
 pub returns : goal.returns
 returns c =
     let so_far = c.loop-item.invariant in
-    let all = no_more GivesToken _ _ _ _ (map Ok so_far.0) _ refl so_far.1.0 c.in-None.is c.next.ensures.steps in
+    let all = no_more GivesToken _ _ _ _ (map Ok so_far.0) _ refl so_far.1.0 refl c.in_default.ensures.steps in
     record {
       all = (so_far.0, (c.tokens-items.ensures.tokens _ all, so_far.1.1));
       fault = tt;
