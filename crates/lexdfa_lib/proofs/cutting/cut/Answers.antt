@@ -1,4 +1,4 @@
-use Rattle.std.proofs.Common.{◌≡◌, ◌+◌, ◌≤◌, [], ◌∷◌, ◌++◌, length, arith, refl, subst}
+use Rattle.std.proofs.Common.{◌≡◌, ◌+◌, ◌≤◌, [], ◌∷◌, ◌++◌, length, arith, refl, rules, subst}
 use Rattle.std.specs.Prelude.{Option, Result}
 use Rattle.std.proofs.iter.Next.{Yields-more}
 use Rattle.std.proofs.lemmas.Result.{IfOk-weaker}
@@ -7,6 +7,9 @@ use Rattle.lalrpop_book.specs.declared.token.TokenFault.{TokenFault}
 use Rattle.lalrpop_lexer.specs.LexerTokens.{GivesToken}
 use Rattle.lexdfa_lib.proofs.CutLemmas.{items_more, fault_is_last, these_are_all, one_more, pair_of, tokens_more, count_more, lines_more, told, fault_ends, end_ends}
 use Rattle.lexdfa_lib.proofs.cutting.cut.Goals as goal
+
+pub loop-item-init : goal.loop-item-init
+loop-item-init c = ([], (search rules, ([], search rules)))
 
 pub overflow_add-count : goal.overflow_add-count
 overflow_add-count c =

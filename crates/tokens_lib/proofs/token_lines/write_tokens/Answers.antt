@@ -1,4 +1,4 @@
-use Rattle.std.proofs.Common.{◌≡◌, ℕ, ◌≤◌, ◌+◌, List, [], ◌∷◌, ◌++◌, length, refl, sym, ap, ◌∙◌, arith}
+use Rattle.std.proofs.Common.{◌≡◌, ℕ, ◌≤◌, ◌+◌, List, [], ◌∷◌, ◌++◌, length, refl, rules, sym, ap, ◌∙◌, arith}
 use Rattle.std.proofs.iter.Next.{Yields-more}
 use Rattle.lalrpop_lexer.specs.Cutting.{Cutting, start_of}
 use Rattle.lalrpop_lexer.specs.Dfa.{Row}
@@ -12,6 +12,17 @@ use Rattle.tokens_lib.proofs.token_lines.write_tokens.Goals as goal
 
 starts : (s : Cutting) (d : List Row) (text : List ℕ) → s ≡ start_of d text → s ≡ start_of s.automaton text
 starts s d text e = e ∙ ap (λ (rows : List Row). start_of rows text) (sym (ap (λ (x : Cutting). x.automaton) e))
+
+pub loop-item-init : goal.loop-item-init
+loop-item-init g c = record {
+  items = [];
+  yields = search rules;
+  written = ([], search rules);
+  good = search rules;
+  no_late = search rules;
+  text = search rules;
+  walked = search rules;
+}
 
 pub push_token-requires-clause-boundary : goal.push_token-requires-clause-boundary
 push_token-requires-clause-boundary g c =

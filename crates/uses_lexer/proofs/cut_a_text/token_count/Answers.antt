@@ -1,4 +1,4 @@
-use Rattle.std.proofs.Common.{◌≡◌, ◌+◌, ◌≤◌, List, [], ◌∷◌, ◌++◌, length, map, true, inl, refl, ap, subst, arith}
+use Rattle.std.proofs.Common.{◌≡◌, ◌+◌, ◌≤◌, List, [], ◌∷◌, ◌++◌, length, map, true, inl, refl, rules, ap, subst, arith}
 use Rattle.std.specs.Prelude.{Ok, Result}
 use Rattle.std.specs.Iterator.{Yields}
 use Rattle.lalrpop_lexer.specs.Cutting.{Cutting}
@@ -9,6 +9,9 @@ use Rattle.lalrpop_lexer.proofs.LexerCosts.{nothing_more}
 use Rattle.lalrpop_lexer.specs.Tokens.{AreTokens}
 use Rattle.uses_lexer.proofs.Tokens.{item_more, item_last, no_more, token_more, count_more, room_for_one_more, then_a_fault}
 use Rattle.uses_lexer.proofs.cut_a_text.token_count.Goals as goal
+
+pub loop-item-init : goal.loop-item-init
+loop-item-init c = ([], search rules)
 
 pub overflow_add-count : goal.overflow_add-count
 overflow_add-count c =
