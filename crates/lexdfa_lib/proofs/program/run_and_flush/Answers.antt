@@ -12,9 +12,9 @@ of_same P (Err e) x same h = tt
 pub returns-in-Ok-clause-one : goal.returns-in-Ok-clause-one
 returns-in-Ok-clause-one g c =
     of_same (λ (o : Outcome). c.args.all ≡ false → (x : Option (List ℕ)) × ReadsOutcome (g.R.Read.remaining c.args.reader) x c.args.text.now o)
-        c.flushed.result c.in-Ok.outcome c.flushed.ensures.same (λ no. (_, rw c.new-reader.ensures.new at c.in-Ok.ensures.one no))
+    c.flushed.result c.in-Ok.outcome c.flushed.ensures.same (λ no. (_, rw c.new-reader.ensures.new at c.in-Ok.ensures.one no))
 
 pub returns-in-Ok-clause-whole : goal.returns-in-Ok-clause-whole
 returns-in-Ok-clause-whole g c =
     of_same (λ (o : Outcome). c.args.all ≡ true → (x : Option (List ℕ)) × (x' : Option (List ℕ)) × WritesAnswers (g.R.Read.remaining c.args.reader) x c.args.text.now (g.W.Write.contents c.args.writer) x' o)
-        c.flushed.result c.in-Ok.outcome c.flushed.ensures.same (λ yes. (_, _, rw (c.new-reader.ensures.new, c.new-writer.ensures.new) at c.in-Ok.ensures.whole yes))
+    c.flushed.result c.in-Ok.outcome c.flushed.ensures.same (λ yes. (_, _, rw (c.new-reader.ensures.new, c.new-writer.ensures.new) at c.in-Ok.ensures.whole yes))
