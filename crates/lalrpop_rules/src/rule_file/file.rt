@@ -14,6 +14,14 @@ use lalrpop_lexer::Position;
 use std::alloc::Global;
 
 /// The rules of a file, and where each stands in it.
+///
+/// ```
+/// use lalrpop_rules::{RuleLexer, read_rules};
+///
+/// let file = read_rules(alloc, b"IF = 'if'\nNAME = /[a-z]+/\n")?;
+/// let lexer = RuleLexer::from_rules(alloc, &file.rules)?;
+/// let place = file.places[1]; // line 2, column 9
+/// ```
 #[derive(Debug, Drop)]
 pub struct RuleFile<'text> {
     /// The rules, in the order of their lines.
