@@ -102,13 +102,13 @@ returns-in-Err-clause-prefix g c =
 pub returns-clause-written : goal.returns-clause-written
 returns-clause-written g c =
     let w = c.loop-item.invariant.written in
-    let ends = none_ends _ _ _ _ c.loop-item.invariant.items refl (cut_steps _ _ _ c.loop-item.invariant.yields) c.in_default.ensures.steps.0 in
+    let ends = none_ends _ _ _ _ c.loop-item.invariant.items refl (cut_steps _ _ _ c.loop-item.invariant.yields) c.in_default-next.ensures.steps.0 in
     all_written c.write_last-2.result _ _ _ _ c.args.text.now _ w.0 _ _ _ _ c.write_last-2.ensures.same c.write_last-2.ensures.written
     (tokens_from_start _ _ _ _ c.args.text.now (starts _ _ _ c.in-Ok.ensures.start.0) c.in-Ok.ensures.built _ ends) (then_the_end _ _ _ _ _ w.1.1) w.1.0
 
 pub returns-clause-prefix : goal.returns-clause-prefix
 returns-clause-prefix g c =
     let w = c.loop-item.invariant.written in
-    let ends = none_ends _ _ _ _ c.loop-item.invariant.items refl (cut_steps _ _ _ c.loop-item.invariant.yields) c.in_default.ensures.steps.0 in
+    let ends = none_ends _ _ _ _ c.loop-item.invariant.items refl (cut_steps _ _ _ c.loop-item.invariant.yields) c.in_default-next.ensures.steps.0 in
     at_the_last g.W.Write.contents c.write_last-2.result _ _ _ _ _ c.args.text.now _ w.0 _ _ _
     (tokens_from_start _ _ _ _ c.args.text.now (starts _ _ _ c.in-Ok.ensures.start.0) c.in-Ok.ensures.built _ ends) (then_the_end _ _ _ _ _ w.1.1).1 w.1.0 c.write_last-2.ensures.nothing_written c.write_last-2.ensures.prefix
