@@ -1,6 +1,7 @@
 use Rattle.std.proofs.Common.{refl, subst}
 use Rattle.std.specs.Prelude.{Some}
-use Rattle.lalrpop_lexer.specs.Cutting.{Cutting, rest_of}
+use Rattle.lalrpop_lexer.specs.Cutting.{rest_of}
+use Rattle.lalrpop_lexer.specs.LexerTokens.{LexerCutting}
 use Rattle.lalrpop_lexer.specs.Longest.{IsLongest}
 use Rattle.uses_lexer.proofs.cut_a_text.first_length.Goals as goal
 
@@ -9,13 +10,13 @@ returns-in-Some-Ok c =
     let rules = c.args.lexer.now in
     let token = c.in-Some-Ok.token in
     let step = rw c.in-Some-Ok.field-0-is at c.in-Some-Ok.ensures.steps in
-    let longest = step.1.3 rules.trees rules.precedences c.tokens.ensures.built.stands in
+    let longest = step.0.1.3 rules.trees rules.precedences c.tokens.ensures.built.stands in
     record {
       longest = (
         token.index,
         (
           token.slice.now,
-          (subst (λ (s : Cutting). IsLongest rules.trees rules.precedences (rest_of s) (Some (token.index, token.slice.now))) c.tokens.ensures.start longest, refl),
+          (subst (λ (s : LexerCutting). IsLongest rules.trees rules.precedences (rest_of s.cutting) (Some (token.index, token.slice.now))) c.tokens.ensures.start longest, refl),
         ),
       );
     }

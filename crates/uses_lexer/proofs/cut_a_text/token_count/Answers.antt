@@ -2,13 +2,16 @@ use Rattle.std.proofs.Common.{◌≡◌, ◌+◌, ◌≤◌, List, [], ◌∷◌
 use Rattle.std.specs.Prelude.{Ok, Result}
 use Rattle.std.specs.Iterator.{Yields}
 use Rattle.lalrpop_lexer.specs.Cutting.{Cutting}
-use Rattle.lalrpop_lexer.specs.LexerTokens.{GivesToken}
+use Rattle.lalrpop_lexer.specs.LexerTokens.{LexerCutting, GivesToken}
 use Rattle.lalrpop_lexer.specs.declared.Token.{Token}
 use Rattle.lalrpop_lexer.specs.declared.TokenFault.{TokenFault}
 use Rattle.lalrpop_lexer.proofs.LexerCosts.{nothing_more}
 use Rattle.lalrpop_lexer.specs.Tokens.{AreTokens}
 use Rattle.uses_lexer.proofs.Tokens.{item_more, item_last, no_more, token_more, count_more, room_for_one_more, then_a_fault}
 use Rattle.uses_lexer.proofs.cut_a_text.token_count.Goals as goal
+
+the_same : (s t : LexerCutting) (xs ys : List (Result Token TokenFault)) → xs ≡ ys → Yields GivesToken s xs t → Yields GivesToken s ys t
+the_same s t xs ys e given = subst (λ (zs : List (Result Token TokenFault)). Yields GivesToken s zs t) e given
 
 pub loop-item-init : goal.loop-item-init
 loop-item-init c = ([], search rules)
@@ -28,7 +31,7 @@ loop-item-preserved c =
     let more = item_more GivesToken _ _ _ _ (map Ok so_far.0) _ _ refl so_far.1.0 c.in-Some.is c.next.ensures.steps in (
       so_far.0 ++ token ∷ [],
       (
-        subst (λ (xs : List (Result Token TokenFault)). Yields GivesToken c.loop-item.initial.items xs c.next.new.self) (token_more (map Ok so_far.0) c.in-Some.item so_far.0 token refl c.in-Ok.is) more,
+        the_same _ _ _ _ (token_more (map Ok so_far.0) c.in-Some.item so_far.0 token refl c.in-Ok.is) more,
         count_more _ so_far.0 token so_far.1.1,
       ),
     )
