@@ -7,7 +7,7 @@ ghost use Rattle.lexdfa_lib.specs.Answer.{ReadsOutcome};
 ghost use Rattle.lexdfa_lib.specs.Ending.{ending_status, ending_message};
 ghost use Rattle.lexdfa_lib.specs.Printed.{line_of};
 ghost use Rattle.lexdfa_lib.specs.Status.{outcome_status, error_status};
-ghost use Rattle.lexdfa_lib.specs.Whole.{ReadsAnswers};
+ghost use Rattle.lexdfa_lib.specs.Whole.{WritesAnswers};
 
 use lexdfa_lib::{
     Ending, Failure, Outcome, RunError, Word, clash_line, flushed, outcome_line, run_and_flush,
@@ -128,8 +128,8 @@ pub fn whole_of<R: Read + Drop, W: Write + Drop>(
     text: &str,
     writer: W,
 ) -> Result<Outcome, u8>
-    ensures outcome { IfOk result (λ outcome. (left : Option (List ℕ)) × ((written : List ℕ)
-        × ReadsAnswers (R.remaining reader) left text.now outcome written)) }
+    ensures outcome { IfOk result (λ outcome. (left held : Option (List ℕ))
+        × WritesAnswers (R.remaining reader) left text.now (W.contents writer) held outcome) }
 {
     match run_and_flush(alloc, true, reader, text, writer) {
         Ok(outcome) => Ok(outcome),
