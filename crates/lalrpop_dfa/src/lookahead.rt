@@ -151,7 +151,7 @@ fn mark(marks: &mut Vec<bool>, place: Option<usize>)
 /// # Errors
 ///
 /// `AllocError` if a request for memory was refused.
-pub fn open_patterns(alloc: Global, dfa: &Dfa, count: usize) -> Result<Vec<bool>, AllocError>
+pub fn unbounded_patterns(alloc: Global, dfa: &Dfa, count: usize) -> Result<Vec<bool>, AllocError>
     ensures same_length { IfOk result (λ found. length found.items ≡ count) }
     ensures each { IfOk result (λ found. (i : ℕ) → i < count
         → (slice_get found.items i ≡ Some true) ↔ StaysOpenEver dfa.now i) }

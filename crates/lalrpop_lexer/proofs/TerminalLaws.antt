@@ -11,8 +11,8 @@ use Rattle.lalrpop_lexer.specs.Spelled.{Spells}
 use Rattle.lalrpop_lexer.specs.Terminals.{AreTerminals, FirstSays}
 use Rattle.lalrpop_lexer.specs.declared.form.Form.{Form}
 use Rattle.lalrpop_lexer.specs.declared.form.Form.TheVariants.{Literal, Pattern}
-use Rattle.lalrpop_lexer.specs.declared.meaning.Meaning.{Meaning}
-use Rattle.lalrpop_lexer.specs.declared.meaning.Meaning.TheVariants.{Bad, NoTree, Terminal}
+use Rattle.lalrpop_lexer.specs.declared.terminal_line.TerminalLine.{TerminalLine}
+use Rattle.lalrpop_lexer.specs.declared.terminal_line.TerminalLine.TheVariants.{Bad, NoTree, Terminal}
 
 no_space : (c : ℕ) (cs : List ℕ) → AllDigits 10 (c ∷ cs) → c ≡ 32 → ⊥
 no_space c cs digits e = omega (arith, (digit_from_value c digits.0).0)
@@ -62,7 +62,7 @@ terminal-unique line p q t u h g =
     cc
 
 -- a line says only one thing
-says-unique : (line : List ℕ) (a b : Meaning) → LineSays line a → LineSays line b → a ≡ b
+says-unique : (line : List ℕ) (a b : TerminalLine) → LineSays line a → LineSays line b → a ≡ b
 says-unique line Bad Bad h g = refl
 says-unique line Bad NoTree h g = absurd (h g.0 Pattern g.1.0 g.1.1.0)
 says-unique line Bad (Terminal q u) h g = absurd (h q g.0 g.1.0 g.1.1.0)
@@ -92,10 +92,10 @@ terminals-unique (l ∷ ls) (t ∷ ts) (u ∷ us) (p ∷ ps) (q ∷ qs) h g =
     let ps-same : ps ≡ qs = rest.1 in
     (cc, cc)
 
-abbrev pub NoTerminal : Meaning → Type 0
+abbrev pub NoTerminal : TerminalLine → Type 0
 NoTerminal said = (p : ℕ) (t : Tree) → said ≡ Terminal p t → ⊥
 
-pub stop_or_terminals : (ls : List (List ℕ)) (i : ℕ) (said : Meaning) (ts : List Tree) (ps : List ℕ) → NoTerminal said → FirstSays ls i said → AreTerminals ls ts ps → ⊥
+pub stop_or_terminals : (ls : List (List ℕ)) (i : ℕ) (said : TerminalLine) (ts : List Tree) (ps : List ℕ) → NoTerminal said → FirstSays ls i said → AreTerminals ls ts ps → ⊥
 stop_or_terminals [] i said ts ps none h g = h
 stop_or_terminals (l ∷ ls) i said [] ps none h g = g
 stop_or_terminals (l ∷ ls) i said (t ∷ ts) [] none h g = g
@@ -103,7 +103,7 @@ stop_or_terminals (l ∷ ls) zero said (t ∷ ts) (p ∷ ps) none h g = none p t
 stop_or_terminals (l ∷ ls) (suc i) said (t ∷ ts) (p ∷ ps) none h g = stop_or_terminals ls i said ts ps none h.1 g.1
 
 -- the first line that is not a terminal is unique, and says only one thing
-pub stop-unique : (ls : List (List ℕ)) (i j : ℕ) (a b : Meaning) → NoTerminal a → NoTerminal b → FirstSays ls i a → FirstSays ls j b → (i ≡ j) × (a ≡ b)
+pub stop-unique : (ls : List (List ℕ)) (i j : ℕ) (a b : TerminalLine) → NoTerminal a → NoTerminal b → FirstSays ls i a → FirstSays ls j b → (i ≡ j) × (a ≡ b)
 stop-unique [] i j a b no_a no_b h g = absurd h
 stop-unique (l ∷ ls) zero zero a b no_a no_b h g = (refl, says-unique l a b h g)
 stop-unique (l ∷ ls) zero (suc j) a b no_a no_b h g = absurd (no_a g.0.0 g.0.1.0 (says-unique l a (Terminal g.0.0 g.0.1.0) h g.0.1.1))

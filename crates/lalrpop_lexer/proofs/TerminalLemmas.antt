@@ -3,8 +3,8 @@ use Rattle.std.proofs.Common.{◌≡◌, ℕ, suc, List, [], ◌∷◌, ◌++◌
 use Rattle.lalrpop_book.specs.Tree.{Tree}
 use Rattle.lalrpop_lexer.specs.Line.{LineSays}
 use Rattle.lalrpop_lexer.specs.Terminals.{AreTerminals, FirstSays}
-use Rattle.lalrpop_lexer.specs.declared.meaning.Meaning.{Meaning}
-use Rattle.lalrpop_lexer.specs.declared.meaning.Meaning.TheVariants.{Terminal}
+use Rattle.lalrpop_lexer.specs.declared.terminal_line.TerminalLine.{TerminalLine}
+use Rattle.lalrpop_lexer.specs.declared.terminal_line.TerminalLine.TheVariants.{Terminal}
 
 -- one more terminal
 pub AreTerminals-push : (ls : List (List ℕ)) (ts : List Tree) (ps : List ℕ) (line : List ℕ) (t : Tree) (p : ℕ) → AreTerminals ls ts ps → LineSays line (Terminal p t) → AreTerminals (ls ++ line ∷ []) (ts ++ t ∷ []) (ps ++ p ∷ [])
@@ -16,7 +16,7 @@ AreTerminals-push (l ∷ ls) (u ∷ ts) [] line t p are says = absurd are
 AreTerminals-push (l ∷ ls) (u ∷ ts) (q ∷ ps) line t p are says = (are.0, AreTerminals-push ls ts ps line t p are.1 says)
 
 -- the line after some terminals, with what it says
-pub FirstSays-after : (ls : List (List ℕ)) (ts : List Tree) (ps : List ℕ) (line : List ℕ) (rest : List (List ℕ)) (said : Meaning) → AreTerminals ls ts ps → LineSays line said → FirstSays (ls ++ line ∷ rest) (length ts) said
+pub FirstSays-after : (ls : List (List ℕ)) (ts : List Tree) (ps : List ℕ) (line : List ℕ) (rest : List (List ℕ)) (said : TerminalLine) → AreTerminals ls ts ps → LineSays line said → FirstSays (ls ++ line ∷ rest) (length ts) said
 FirstSays-after [] [] [] line rest said are says = says
 FirstSays-after [] [] (q ∷ ps) line rest said are says = absurd are
 FirstSays-after [] (u ∷ ts) ps line rest said are says = absurd are

@@ -8,8 +8,8 @@ use Rattle.lalrpop_re.specs.Pattern.{Pattern}
 use Rattle.lalrpop_lexer.specs.Spelled.{Spells}
 use Rattle.lalrpop_lexer.specs.declared.form.Form.{Form}
 use Rattle.lalrpop_lexer.specs.declared.form.Form.TheVariants as forms
-use Rattle.lalrpop_lexer.specs.declared.meaning.Meaning.{Meaning}
-use Rattle.lalrpop_lexer.specs.declared.meaning.Meaning.TheVariants.{Bad, NoTree, Terminal}
+use Rattle.lalrpop_lexer.specs.declared.terminal_line.TerminalLine.{TerminalLine}
+use Rattle.lalrpop_lexer.specs.declared.terminal_line.TerminalLine.TheVariants.{Bad, NoTree, Terminal}
 
 -- 1 to 20 decimal digits whose value is n, which fits 64 bits
 pub record IsPrecedence (digits : List ℕ) (n : ℕ) : Type 0 where
@@ -32,7 +32,7 @@ pub record IsLine (line : List ℕ) (n : ℕ) (form : Form) (text : List ℕ) : 
   pub utf8 : IsUtf8 line
 
 -- the line says this: it is bad, or its pattern doesn't parse, or it is a terminal with this precedence and this tree
-abbrev pub LineSays : List ℕ → Meaning → Type 0
+abbrev pub LineSays : List ℕ → TerminalLine → Type 0
 LineSays line Bad = (n : ℕ) (form : Form) (text : List ℕ) → ¬ IsLine line n form text
 LineSays line NoTree = (n : ℕ) × ((text : List ℕ) × (IsLine line n forms.Pattern text × ((t : Tree) → ¬ Pattern (chars text) t)))
 LineSays line (Terminal n t) = (form : Form) × ((text : List ℕ) × (IsLine line n form text × Spells form text t))

@@ -4,8 +4,8 @@ use Rattle.std.specs.Prelude.{ℕ, zero, suc, List, [], ◌∷◌, map}
 use Rattle.lalrpop_book.specs.Tree.{Tree}
 use Rattle.lalrpop_lexer.specs.Lines.{lines}
 use Rattle.lalrpop_lexer.specs.Line.{LineSays}
-use Rattle.lalrpop_lexer.specs.declared.meaning.Meaning.{Meaning}
-use Rattle.lalrpop_lexer.specs.declared.meaning.Meaning.TheVariants as meaning
+use Rattle.lalrpop_lexer.specs.declared.terminal_line.TerminalLine.{TerminalLine}
+use Rattle.lalrpop_lexer.specs.declared.terminal_line.TerminalLine.TheVariants as meaning
 use Rattle.lalrpop_lexer.specs.declared.terminals.Terminals.{Terminals}
 use Rattle.lalrpop_lexer.specs.declared.terminals.Terminals.TheVariants.{All, Bad, NoTree}
 
@@ -16,7 +16,7 @@ AreTerminals (line ∷ rest) (t ∷ ts) (p ∷ ps) = LineSays line (meaning.Term
 AreTerminals _ _ _ = ⊥
 
 -- the line with this number says this, and each earlier line is a terminal
-abbrev pub FirstSays : List (List ℕ) → ℕ → Meaning → Type 0
+abbrev pub FirstSays : List (List ℕ) → ℕ → TerminalLine → Type 0
 FirstSays [] i said = ⊥
 FirstSays (line ∷ rest) zero said = LineSays line said
 FirstSays (line ∷ rest) (suc i) said = ((p : ℕ) × ((t : Tree) × LineSays line (meaning.Terminal p t))) × FirstSays rest i said

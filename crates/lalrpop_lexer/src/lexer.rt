@@ -1,5 +1,307 @@
-//! Patterns, the automaton of one pattern, and the automaton of a list of patterns.
+//! A lexer: built once, run over many texts. Below it patterns, the automaton of one, and that of a list of them.
+
+ghost use Rattle.std.specs.Prelude.{◌≡◌, ℕ, ◌+◌, ◌*◌, ◌≤◌, ◌++◌, ◌∷◌, [], List, Option, Result, Ok, Err, map, length, None, IfOk, OnOk, IfErr, OnErr, IfSome, IfNone, IsSome, Some, true, slice_get, ◌<◌, ◌↔◌};
+ghost use Rattle.std.specs.Iterator.{Drains, Yields};
+ghost use Rattle.std.specs.Str.{chars};
+ghost use Rattle.lalrpop_book.specs.Clash.{NoClash};
+ghost use Rattle.lalrpop_book.specs.Report.{NoFault, IsReport};
+ghost use Rattle.lalrpop_book.specs.Longest.{IsLongest};
+ghost use Rattle.lalrpop_dfa.specs.Lookahead.{IsLookahead, IsSettledAfter, LooksAtMost, StaysOpenEver};
+ghost use Rattle.lalrpop_dfa.specs.Witness.{IsWitness, LeavesOpen};
+ghost use Rattle.lalrpop_lexer.specs.Matching.{open_states};
+ghost use Rattle.lalrpop_lexer.specs.Cutting.{start_of, rest_of};
+ghost use Rattle.lalrpop_book.specs.Tokens.{slices};
+ghost use Rattle.lalrpop_lexer.specs.LexerTokens.{LexerCutting, lexer_start, GivesToken, most_steps};
+ghost use Rattle.lalrpop_book.specs.Tokens.{IsToken, AreTokens, bare};
+ghost use Rattle.lalrpop_lexer.specs.Rules.{IsBuiltFrom};
+ghost use Rattle.lalrpop_book.specs.declared.token.Token.{Token as TokenValue};
+ghost use Rattle.lalrpop_book.specs.declared.token.TokenFault.{TokenFault as FaultValue};
 
 pub mod dfa;
 pub mod nfa;
 pub mod re;
+
+use crate::LinearMatches;
+use crate::lexer_token::LexerTokens;
+use crate::token_list::TokenList;
+use lalrpop_book::{Token, TokenFault};
+use lalrpop_build::{DfaConstructionError, Precedence, build_dfa};
+use lalrpop_dense::{DenseDfa, TokenEnds};
+use lalrpop_dfa::lookahead::{lookahead, unbounded_patterns};
+use lalrpop_dfa::{Witness, lookahead_witness};
+use lalrpop_re::Regex;
+use std::alloc::{AllocError, Global};
+use std::marker::Model;
+
+/// Patterns with their precedences, and their automaton.
+///
+/// The invariant of the type says that they belong together and that no word is ambiguous, so only building a lexer has a
+/// precondition.
+///
+/// ```
+/// use lalrpop_lexer::lexer::dfa::Precedence;
+/// use lalrpop_lexer::{Form, Lexer};
+///
+/// let patterns = [(Precedence(1), Form::Literal, "if"), (Precedence(0), Form::Pattern, "[a-z]+| +")];
+/// let lexer = Lexer::from_patterns(alloc, &patterns)?;
+/// let count = lexer.tokens("if iffy").count(); // 3
+/// ```
+#[derive(Debug, Drop)]
+pub struct Lexer {
+    regexs: Vec<Regex>,
+    precedences: Vec<Precedence>,
+    dense: DenseDfa,
+    lookahead: Option<usize>,
+}
+
+impl Model for Lexer {
+    ghost use Rattle.std.specs.Prelude.{map};
+    ghost use Rattle.lalrpop_dfa.specs.Lookahead.{IsLookahead};
+    ghost use Rattle.lalrpop_lexer.specs.Rules.{Rules, IsBuiltFrom};
+    ghost use Rattle.lalrpop_lexer.specs.Internal.Code.{rules_code};
+
+    ghost Value = { Rules };
+
+    ghost coded = { rules_code };
+
+    ghost view = { λ l.
+        record {
+          trees = l.regexs.items;
+          precedences = map (λ p. p.0) l.precedences.items;
+          automaton = l.dense;
+        } };
+
+    ghost invariant = { λ l.
+        IsBuiltFrom l.regexs.items (map (λ p. p.0) l.precedences.items) l.dense
+        × IsLookahead l.dense l.lookahead };
+}
+
+impl Lexer {
+    /// Builds the automaton of the patterns, with one precedence for each pattern.
+    ///
+    /// # Errors
+    ///
+    /// The first pattern that can't be compiled; otherwise the shortest, then least, word with two or more strongest patterns,
+    /// and the last two of those; or out of memory.
+    pub fn new(
+        alloc: Global,
+        regexs: Vec<Regex>,
+        precedences: Vec<Precedence>,
+    ) -> Result<Lexer, DfaConstructionError>
+        requires same_len { length regexs.items ≡ length precedences.items }
+
+        ensures trees { IfOk result (λ lexer. lexer.trees ≡ regexs.items) }
+        ensures precedences { IfOk result (λ lexer.
+            lexer.precedences ≡ map (λ p. p.0) precedences.items) }
+        ensures no_fault { OnOk result (NoFault regexs.items) }
+        ensures no_clash { OnOk result (NoClash regexs.items (map (λ p. p.0) precedences.items)) }
+
+        ensures report { IfErr result
+            (λ e. IsReport regexs.items (map (λ p. p.0) precedences.items) e) }
+    {
+        let dfa = build_dfa(alloc, &regexs, &precedences)?;
+        let dense = DenseDfa::new(alloc, dfa)?;
+        let lookahead = lookahead(alloc, dense.dfa())?;
+        Ok(Lexer {
+            regexs,
+            precedences,
+            dense,
+            lookahead,
+        })
+    }
+
+    /// The patterns, in the order of their indices.
+    pub fn regexs(&self) -> &[Regex]
+        ensures trees { result.now ≡ self.now.trees }
+    {
+        &self.regexs
+    }
+
+    /// The token at the front of the text: the longest nonempty prefix that some pattern matches, with the one pattern of
+    /// the greatest precedence that matches it. `None` if no pattern matches a nonempty prefix.
+    pub fn token<'text>(&self, text: &'text str) -> Option<Token<'text>>
+        ensures token { IfSome result (λ token.
+            IsToken self.now.trees self.now.precedences text.now 0 token) }
+        ensures none { IfNone result (IsLongest self.now.trees self.now.precedences text.now None) }
+    {
+        match self.dense.longest(text) {
+            Some(found) => Some(Token {
+                index: found.0,
+                slice: found.1,
+                start: 0,
+            }),
+            None => None,
+        }
+    }
+
+    /// The tokens of the text, in order, each at the front of the rest. They end at the end of the text, or with one fault
+    /// at the first place where no pattern matches. After that, every call returns `None`.
+    ///
+    /// It takes no memory, and there are at most as many tokens and faults as the text has characters. A step is counted each
+    /// time a character is read, which only contracts see. If `lookahead` is n, a whole text costs at most n + 2 steps a
+    /// character; if it is `None`, nothing bounds what a character costs, and `tokens_linear` is for long texts.
+    pub fn tokens<'text>(&'text self, text: &'text str) -> LexerTokens<'text>
+        ensures start { result ≡ lexer_start self.now.automaton text.now None }
+        ensures built { IsBuiltFrom self.now.trees self.now.precedences result.cutting.automaton }
+        ensures tokens { (xs : List (Result TokenValue FaultValue)) → Drains GivesToken result xs
+            → AreTokens self.now.trees self.now.precedences text.now 0 xs }
+        ensures parts { (xs : List (Result TokenValue FaultValue)) (s : LexerCutting)
+            → Yields GivesToken result xs s
+            → text.now ≡ slices (map bare xs) ++ rest_of s.cutting }
+        ensures count { (xs : List (Result TokenValue FaultValue)) (s : LexerCutting)
+            → Yields GivesToken result xs s → length xs ≤ length (chars text.now) }
+        ensures cost { (xs : List (Result TokenValue FaultValue)) (s : LexerCutting)
+            → Yields GivesToken result xs s → (n : ℕ) → LooksAtMost self.now.automaton n
+            → s.steps ≤ (n + 2) * length (chars text.now) }
+    {
+        LexerTokens::new(&self.dense, text, None)
+    }
+
+    /// All tokens that `tokens` gives, in one list, with the fault at which they end, if there is one.
+    ///
+    /// The text is cut block by block, which is faster than token by token. The list takes 32 bytes a token.
+    ///
+    /// # Errors
+    ///
+    /// `AllocError` if a request for memory was refused.
+    pub fn token_list<'text>(
+        &self,
+        alloc: Global,
+        text: &'text str,
+    ) -> Result<TokenList<'text>, AllocError>
+        ensures all { IfOk result (λ list. IfNone list.fault (AreTokens self.now.trees
+            self.now.precedences text.now 0 (map Ok list.tokens.items))) }
+        ensures fault { IfOk result (λ list. IfSome list.fault (λ fault. AreTokens
+            self.now.trees self.now.precedences text.now 0
+            (map Ok list.tokens.items ++ Err fault ∷ []))) }
+    {
+        let mut marks = TokenEnds::new(alloc)?;
+        let mut tokens = Vec::new(alloc);
+        let mut at = 0;
+        'cutting: while at < text.len() {
+            match self.dense.cut_block(text, at, &mut marks, &mut tokens)? {
+                Some(to) => at = to,
+                None => {
+                    let fault = Some(TokenFault { at });
+                    return Ok(TokenList { tokens, fault });
+                }
+            }
+        }
+        Ok(TokenList {
+            tokens,
+            fault: None,
+        })
+    }
+
+    /// The tokens of `tokens`, in time linear in the length of the text, whatever the patterns are.
+    ///
+    /// If `lookahead` is a number, they are those of `tokens`, and no memory is taken. Otherwise the table of `tokens` cuts the
+    /// text as long as it reads little in vain. After that the places of the text are remembered that were passed in vain, so no
+    /// run is repeated that came to nothing. A state of the automaton is open if it neither accepts a pattern nor rejects. A
+    /// whole text then costs at most 66 steps a character and one a byte, and for each open state one step a byte and 64 more.
+    /// All memory is taken by this call: a byte for each open state and each 64 bytes of the text.
+    ///
+    /// # Errors
+    ///
+    /// `AllocError` if a request for memory was refused.
+    pub fn tokens_linear<'text>(
+        &'text self,
+        alloc: Global,
+        text: &'text str,
+    ) -> Result<LexerTokens<'text>, AllocError>
+        ensures start { IfOk result (λ s.
+            (s.cutting ≡ start_of self.now.automaton text.now) × (s.steps ≡ 0)) }
+        ensures memo { IfOk result (λ s.
+            IsSome s.spare → IsLookahead self.now.automaton None) }
+        ensures built { IfOk result (λ s.
+            IsBuiltFrom self.now.trees self.now.precedences s.cutting.automaton) }
+        ensures tokens { IfOk result (λ s. (xs : List (Result TokenValue FaultValue))
+            → Drains GivesToken s xs
+            → AreTokens self.now.trees self.now.precedences text.now 0 xs) }
+        ensures cost { IfOk result (λ s. (found : Option ℕ)
+            × (IsLookahead self.now.automaton found
+            × ((xs : List (Result TokenValue FaultValue)) (t : LexerCutting)
+            → Yields GivesToken s xs t
+            → t.steps ≤ most_steps self.now.automaton text.now found))) }
+        ensures refused { OnErr result (IsLookahead self.now.automaton None) }
+    {
+        if self.lookahead.is_some() {
+            return Ok(self.tokens(text));
+        }
+        let matches = self.matches_linear(alloc, text)?;
+        Ok(LexerTokens::new(&self.dense, text, Some(matches)))
+    }
+
+    /// The longest matches of the text, one after another, for a caller that goes on where nothing matches. It starts with all
+    /// of the text left. All memory is taken by this call, as in `tokens_linear`.
+    ///
+    /// # Errors
+    ///
+    /// `AllocError` if a request for memory was refused.
+    pub fn matches_linear<'text>(
+        &'text self,
+        alloc: Global,
+        text: &'text str,
+    ) -> Result<LinearMatches<'text>, AllocError>
+        ensures start { IfOk result (λ s. s ≡ record {
+          automaton = self.now.automaton;
+          text = text.now;
+          at = 0;
+          spare = s.spare;
+        }) }
+        ensures built { IfOk result (λ s.
+            IsBuiltFrom self.now.trees self.now.precedences s.automaton) }
+        ensures spare { IfOk result (λ s. s.spare ≤ length (chars text.now) + length text.now
+            + open_states self.now.automaton * (length text.now + 64)) }
+    {
+        LinearMatches::new(alloc, &self.dense, text)
+    }
+
+    /// The greatest number of characters that can follow a match and still leave it open whether a longer one comes; `None`
+    /// if there is no bound.
+    ///
+    /// If it is n, no more than n + 1 characters past the end of a token are read to decide it.
+    pub fn lookahead(&self) -> Option<usize>
+        ensures answer { IsLookahead self.now.automaton result }
+        ensures settled { IfSome result (IsSettledAfter self.now.trees) }
+    {
+        self.lookahead
+    }
+
+    /// For each pattern, in order, whether a token it matches can stay open forever: no number of characters after the token
+    /// is enough to settle that no longer one comes. If `lookahead` returns a number, no token can.
+    ///
+    /// # Errors
+    ///
+    /// `AllocError` if a request for memory was refused.
+    pub fn unbounded_patterns(&self, alloc: Global) -> Result<Vec<bool>, AllocError>
+        ensures same_length { IfOk result (λ found.
+            length found.items ≡ length self.now.trees) }
+        ensures each { IfOk result (λ found. (i : ℕ) → i < length self.now.trees
+            → (slice_get found.items i ≡ Some true) ↔ StaysOpenEver self.now.automaton i) }
+    {
+        unbounded_patterns(alloc, self.dense.dfa(), self.regexs().len())
+    }
+
+    /// The shortest, then least, word that a pattern matches and that `count` characters after it can leave open: they don't
+    /// settle whether a longer match comes. The least such characters come with it, all as code values. `None` if there is no
+    /// such word.
+    ///
+    /// With the `count` that `lookahead` returned, it shows what makes the lexer look that far ahead.
+    ///
+    /// # Errors
+    ///
+    /// `AllocError` if a request for memory was refused.
+    pub fn lookahead_witness(
+        &self,
+        alloc: Global,
+        count: usize,
+    ) -> Result<Option<Witness>, AllocError>
+        ensures least { IfOk result (λ found. IfSome found (λ witness.
+            IsWitness self.now.automaton count witness.word witness.after)) }
+        ensures none { IfOk result (λ found. IfNone found
+            ((v x : List ℕ) → ¬ LeavesOpen self.now.automaton count v x)) }
+    {
+        lookahead_witness(alloc, self.dense.dfa(), count)
+    }
+}

@@ -3,7 +3,7 @@
 ghost use Rattle.std.specs.Prelude.{◌≡◌, ◌+◌, length};
 ghost use Rattle.std.specs.Str.{chars};
 
-use crate::memo::{Memo, STRIDE};
+use crate::visited_pairs::{VisitedPairs, STRIDE};
 use crate::remembering::longest_remembering;
 use lalrpop_dense::DenseDfa;
 use lalrpop_dfa::NfaIndex;
@@ -33,7 +33,7 @@ pub struct LinearMatches<'text> {
     at: usize,
     // How many bytes the table may still read in vain.
     credit: usize,
-    memo: Memo,
+    memo: VisitedPairs,
     // The memo is for what is left after this place, in bytes and in characters.
     counted: usize,
     index: usize,
@@ -95,7 +95,7 @@ impl<'text> LinearMatches<'text> {
         ensures spare { IfOk result (λ s. s.spare ≤ length (chars text.now) + length text.now
             + open_states dense.now * (length text.now + 64)) }
     {
-        let memo = Memo::new(alloc, dense.dfa(), text.len() / STRIDE + 1)?;
+        let memo = VisitedPairs::new(alloc, dense.dfa(), text.len() / STRIDE + 1)?;
         Ok(LinearMatches {
             dense,
             text,

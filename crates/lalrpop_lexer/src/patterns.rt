@@ -6,7 +6,7 @@ ghost use Rattle.lalrpop_lexer.specs.Spelled.{AreSpelled, IsLexerError, texts_of
 
 use crate::error::LexerError;
 use crate::form::{Form, tree_of};
-use crate::rules::Lexer;
+use crate::lexer::Lexer;
 use lalrpop_build::Precedence;
 use lalrpop_re::{Regex, RegexError};
 use std::alloc::{AllocError, Global};

@@ -11,7 +11,7 @@ ghost use Rattle.lalrpop_lexer.specs.Matching.{characters_of};
 ghost use Rattle.lalrpop_lexer.specs.Internal.Memory.{IsFor, room};
 ghost use Rattle.lalrpop_lexer.specs.Internal.Hopeless.{IsSound};
 
-use crate::memo::Memo;
+use crate::visited_pairs::VisitedPairs;
 use lalrpop_dfa::{Dfa, Kind, NfaIndex, START};
 use lalrpop_nfa::Steps;
 
@@ -30,7 +30,7 @@ pub(crate) struct Found<'text> {
 /// is what is left of a longer one, which the memo is for, after `start` characters. A step is counted for each character read.
 pub(crate) fn longest_remembering<'text>(
     dfa: &Dfa,
-    memo: &mut Memo,
+    memo: &mut VisitedPairs,
     start: usize,
     text: &'text str,
     steps: &mut Steps,

@@ -3,7 +3,7 @@ ghost use Rattle.std.specs.Prelude.{IfOk};
 ghost use Rattle.lalrpop_lexer.specs.Terminals.{AreSaid};
 
 use crate::line::split_line;
-use crate::meaning::{Meaning, meaning_of};
+use crate::terminal_line::{TerminalLine, parse_terminal};
 use lalrpop_build::Precedence;
 use lalrpop_re::Regex;
 use std::alloc::{AllocError, Global};
@@ -49,10 +49,10 @@ pub fn read_terminals(alloc: Global, bytes: &[u8]) -> Result<Terminals, AllocErr
     let mut rest = bytes;
     while let Some((line, after)) = split_line(rest) {
         let number = regexs.len();
-        match meaning_of(alloc, line)? {
-            Meaning::Bad => return Ok(Terminals::Bad { line: number }),
-            Meaning::NoTree => return Ok(Terminals::NoTree { line: number }),
-            Meaning::Terminal { precedence, regex } => {
+        match parse_terminal(alloc, line)? {
+            TerminalLine::Bad => return Ok(Terminals::Bad { line: number }),
+            TerminalLine::NoTree => return Ok(Terminals::NoTree { line: number }),
+            TerminalLine::Terminal { precedence, regex } => {
                 regexs.push(regex)?;
                 precedences.push(Precedence(precedence))?;
             }

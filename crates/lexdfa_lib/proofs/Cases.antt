@@ -6,4 +6,4 @@ mod Word
 mod Printed
 mod Answer
 mod Whole
-mod Words
+mod Arguments

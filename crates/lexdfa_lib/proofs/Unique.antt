@@ -13,8 +13,8 @@ use Rattle.lalrpop_lexer.proofs.TerminalLaws.{terminals-unique, NoTerminal, stop
 use Rattle.lalrpop_lexer.specs.Lines.{lines}
 use Rattle.lalrpop_lexer.specs.Terminals.{AreTerminals, FirstSays}
 use Rattle.lexdfa_lib.specs.Answer.{HaveAutomaton, Reports, IsReported, Finds, IsOutcome}
-use Rattle.lalrpop_lexer.specs.declared.meaning.Meaning.{Meaning}
-use Rattle.lalrpop_lexer.specs.declared.meaning.Meaning.TheVariants.{Bad, NoTree, Terminal}
+use Rattle.lalrpop_lexer.specs.declared.terminal_line.TerminalLine.{TerminalLine}
+use Rattle.lalrpop_lexer.specs.declared.terminal_line.TerminalLine.TheVariants.{Bad, NoTree, Terminal}
 use Rattle.lexdfa_lib.specs.declared.outcome.Outcome.{Outcome}
 use Rattle.lexdfa_lib.specs.declared.outcome.Outcome.TheVariants.{Match, NoMatch, All, Stopped, Refused, Ambiguous, Syntax, Line}
 
@@ -89,14 +89,14 @@ told-unique bytes a b h g =
     reports-unique h.0 h.1.0 a b h.1.1.1 here
 
 -- the outcome that says that a line is not a terminal
-abbrev stop : Meaning → ℕ → Outcome
+abbrev stop : TerminalLine → ℕ → Outcome
 stop Bad i = Line i
 stop NoTree i = Syntax i
 stop (Terminal p t) i = Line i
 
 record Stops (bytes : List ℕ) (o : Outcome) : Type 0 where
   line : ℕ
-  said : Meaning
+  said : TerminalLine
   none : NoTerminal said
   told : o ≡ stop said line
   first : FirstSays (lines bytes) line said

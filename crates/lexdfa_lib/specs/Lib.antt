@@ -5,4 +5,4 @@ pub mod Word
 pub mod Printed
 pub mod Answer
 pub mod Whole
-pub mod Words
+pub mod Arguments

@@ -8,10 +8,10 @@ ghost use Rattle.lalrpop_lexer.specs.Terminals.{AreTerminals};
 ghost use Rattle.lexdfa_lib.specs.Watch.{AppendsPrefix};
 ghost use Rattle.lexdfa_lib.specs.declared.outcome.Outcome.{Outcome};
 
-use crate::ends::{read_whole, write_whole};
+use crate::streams::{read_whole, write_whole};
 use crate::error::RunError;
 use crate::outcome::{Outcome, outcome_line};
-use crate::report::reported;
+use crate::report::outcome_of_error;
 use crate::watched::Watched;
 use lalrpop_lexer::lexer::dfa::Precedence;
 use lalrpop_lexer::lexer::re::Regex;
@@ -37,7 +37,7 @@ fn find(
             bytes: matched.len(),
         }),
         Ok(None) => Ok(Outcome::NoMatch),
-        Err(error) => reported(error),
+        Err(error) => outcome_of_error(error),
     }
 }
 

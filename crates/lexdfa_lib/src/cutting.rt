@@ -8,7 +8,7 @@ ghost use Rattle.lexdfa_lib.specs.Whole.{Token, Cuts, AreAnswers, token_line};
 ghost use Rattle.lexdfa_lib.specs.declared.outcome.Outcome.{Outcome};
 
 use crate::outcome::{Outcome, outcome_line};
-use crate::report::reported;
+use crate::report::outcome_of_error;
 use lalrpop_lexer::lexer::dfa::{NfaIndex, Precedence};
 use lalrpop_lexer::lexer::re::Regex;
 use lalrpop_lexer::{Lexer, Terminals, read_terminals};
@@ -81,7 +81,7 @@ fn cut_by(
 {
     match Lexer::new(alloc, regexs, precedences) {
         Ok(lexer) => cut(alloc, &lexer, text),
-        Err(error) => with_outcome(alloc, String::new(alloc), reported(error)?),
+        Err(error) => with_outcome(alloc, String::new(alloc), outcome_of_error(error)?),
     }
 }
 

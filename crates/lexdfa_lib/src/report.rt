@@ -16,7 +16,7 @@ use std::alloc::AllocError;
 /// # Errors
 ///
 /// `AllocError` if a request for memory was refused.
-pub fn reported(error: DfaConstructionError) -> Result<Outcome, AllocError>
+pub fn outcome_of_error(error: DfaConstructionError) -> Result<Outcome, AllocError>
     ensures ok { IfOk result (λ outcome. (bytes : List ℕ) (ts : List Tree) (ps : List ℕ)
         → AreTerminals (lines bytes) ts ps → IsReport ts ps error → IsReported bytes outcome) }
     ensures memory { OnErr result (error ≡ DfaConstructionError.OutOfMemory) }

@@ -73,7 +73,7 @@ fn characters_that_leave_a_match_open(rt: HostRuntime) {
 
 fn open_of(alloc: Global, words: &str) -> Result<String, AllocError> {
     let lexer = lexer_of(alloc, words)?;
-    let open = lexer.open_patterns(alloc)?;
+    let open = lexer.unbounded_patterns(alloc)?;
     let open = open.as_slice();
     format!(in alloc; "{open:?}")
 }

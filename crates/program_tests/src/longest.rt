@@ -8,7 +8,7 @@ use std::alloc::{AllocError, Global};
 use std::process::Abort;
 
 // An error on one line.
-fn reported(alloc: Global, error: DfaConstructionError) -> Result<String, AllocError> {
+fn outcome_of_error(alloc: Global, error: DfaConstructionError) -> Result<String, AllocError> {
     match error {
         DfaConstructionError::NfaConstructionError { index, error } => {
             let index = index.index();
@@ -42,7 +42,7 @@ fn found(
             format!(in alloc; "{index} {matched}")
         }
         Ok(None) => String::from_str(alloc, "none"),
-        Err(error) => reported(alloc, error),
+        Err(error) => outcome_of_error(alloc, error),
     }
 }
 

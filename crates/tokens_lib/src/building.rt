@@ -5,7 +5,7 @@ ghost use Rattle.tokens_lib.specs.Building.{IsBuildError};
 ghost use Rattle.tokens_lib.specs.declared.building.BuildError.TheVariants.{OutOfMemory};
 
 use lalrpop_lexer::{Lexer, Terminals, read_terminals};
-use lexdfa_lib::{Outcome, reported};
+use lexdfa_lib::{Outcome, outcome_of_error};
 use std::alloc::{AllocError, Global};
 use thiserror::Error;
 
@@ -55,7 +55,7 @@ pub fn lexer_of(alloc: Global, bytes: &[u8]) -> Result<Lexer, BuildError>
             precedences,
         } => match Lexer::new(alloc, regexs, precedences) {
             Ok(lexer) => return Ok(lexer),
-            Err(error) => reported(error)?,
+            Err(error) => outcome_of_error(error)?,
         },
         Terminals::Bad { line } => Outcome::Line { line },
         Terminals::NoTree { line } => Outcome::Syntax { terminal: line },

@@ -6,7 +6,7 @@ ghost use Rattle.lalrpop_dfa.specs.Dfa.{Recognizes};
 ghost use Rattle.lalrpop_dfa.specs.Lookahead.{CanStayOpen, IsLookahead, IsSettledAfter, LooksAtMost, StaysOpenEver};
 
 use lalrpop_dfa::Dfa;
-use lalrpop_dfa::lookahead::{lookahead, open_patterns};
+use lalrpop_dfa::lookahead::{lookahead, unbounded_patterns};
 use std::alloc::{AllocError, Global};
 
 // Needs lalrpop_dfa::lookahead: answer, settled.
@@ -23,7 +23,7 @@ pub fn greatest(alloc: Global, dfa: &Dfa) -> Result<Option<usize>, AllocError>
     lookahead(alloc, dfa)
 }
 
-// Needs lalrpop_dfa::open_patterns: same_length, each.
+// Needs lalrpop_dfa::unbounded_patterns: same_length, each.
 /// For each of `count` patterns, whether a match can stay open for ever because of it.
 ///
 /// # Errors
@@ -34,7 +34,7 @@ pub fn open_for_ever(alloc: Global, dfa: &Dfa, count: usize) -> Result<Vec<bool>
     ensures each { IfOk result (λ found. (i : ℕ) → i < count
         → (slice_get found.items i ≡ Some true) ↔ StaysOpenEver dfa.now i) }
 {
-    open_patterns(alloc, dfa, count)
+    unbounded_patterns(alloc, dfa, count)
 }
 
 // Needs lalrpop_dfa::lookahead: answer.

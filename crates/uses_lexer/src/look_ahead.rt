@@ -31,7 +31,7 @@ pub fn to_read(lexer: &Lexer, otherwise: usize) -> (usize, bool)
     }
 }
 
-// Needs lalrpop_lexer::Lexer::open_patterns: same_length, each.
+// Needs lalrpop_lexer::Lexer::unbounded_patterns: same_length, each.
 /// Whether a token can stay open for ever because of this pattern.
 ///
 /// # Errors
@@ -41,7 +41,7 @@ pub fn stays_open(alloc: Global, lexer: &Lexer, number: usize) -> Result<bool, A
     requires { number < length lexer.now.trees }
     ensures { IfOk result (λ stays. (stays ≡ true) ↔ StaysOpenEver lexer.now.automaton number) }
 {
-    let found = lexer.open_patterns(alloc)?;
+    let found = lexer.unbounded_patterns(alloc)?;
     Ok(found[number])
 }
 

@@ -3,7 +3,7 @@ ghost use Rattle.std.specs.Prelude.{◌⊎◌, ℕ, List, IfOk, IfSome, MatchOpt
 ghost use Rattle.lalrpop_lexer.specs.Tree.{Tree};
 ghost use Rattle.lalrpop_lexer.specs.Lines.{lines};
 ghost use Rattle.lalrpop_lexer.specs.Terminals.{AreTerminals, FirstSays};
-ghost use Rattle.lalrpop_lexer.specs.declared.meaning.Meaning.TheVariants.{Bad, NoTree};
+ghost use Rattle.lalrpop_lexer.specs.declared.terminal_line.TerminalLine.TheVariants.{Bad, NoTree};
 
 use lalrpop_lexer::lexer::dfa::DfaConstructionError;
 use lalrpop_lexer::{Lexer, Terminals, read_terminals};

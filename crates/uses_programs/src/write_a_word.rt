@@ -1,7 +1,7 @@
 //! The words of clashes: their values, how they are compared and written, and the arguments of a program.
 ghost use Rattle.std.specs.Prelude.{◌≡◌, ◌↔◌, ◌++◌, Bool, ℕ, List, flat_map, codes, length, map, string_bytes, IsTrue, IfOk, IfSome, IfNone};
 ghost use Rattle.lexdfa_lib.specs.Word.{value_text};
-ghost use Rattle.lexdfa_lib.specs.Words.{AreArguments};
+ghost use Rattle.lexdfa_lib.specs.Arguments.{AreArguments};
 
 use lexdfa_lib::{Word, arguments};
 use std::alloc::{AllocError, Global};

@@ -14,7 +14,7 @@ use Rattle.lalrpop_lexer.specs.Line.{IsPrecedence, letter, IsLine, LineSays}
 use Rattle.lalrpop_lexer.specs.Spelled.{Spells}
 use Rattle.lalrpop_lexer.specs.declared.form.Form.{Form}
 use Rattle.lalrpop_lexer.specs.declared.form.Form.TheVariants as forms
-use Rattle.lalrpop_lexer.specs.declared.meaning.Meaning.TheVariants.{Bad, NoTree, Terminal}
+use Rattle.lalrpop_lexer.specs.declared.terminal_line.TerminalLine.TheVariants.{Bad, NoTree, Terminal}
 
 -- ---- precedences
 

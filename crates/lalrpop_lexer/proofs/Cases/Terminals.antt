@@ -3,7 +3,7 @@ use Rattle.std.proofs.Common.{ℕ, [], ◌∷◌, codes}
 use Rattle.lalrpop_book.specs.Tree.{Tree}
 use Rattle.lalrpop_hir.specs.Parts.{of_text}
 use Rattle.lalrpop_lexer.specs.Terminals.{AreTerminals, FirstSays, AreSaid}
-use Rattle.lalrpop_lexer.specs.declared.meaning.Meaning.TheVariants as meaning
+use Rattle.lalrpop_lexer.specs.declared.terminal_line.TerminalLine.TheVariants as meaning
 use Rattle.lalrpop_lexer.specs.declared.terminals.Terminals.TheVariants.{Bad, NoTree}
 use Rattle.lalrpop_lexer.proofs.Cases.Line.{line_says_a_literal, line_does_not_say_another_precedence, line_of_a_literal_is_not_bad, x_is_bad, x_says_no_terminal, line_says_no_tree, line_of_no_pattern_is_not_bad, line_of_a_literal_has_a_tree, x_is_not_without_a_tree}
 

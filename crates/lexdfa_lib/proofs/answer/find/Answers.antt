@@ -15,4 +15,4 @@ returns-in-Ok-None c =
     λ bytes are. inr (_, (_, (record { terminals = are; no_fault = e.no_fault; no_clash = e.no_clash }, longest)))
 
 pub returns-in-Err : goal.returns-in-Err
-returns-in-Err c = IfOk-weaker c.reported.result _ _ (λ outcome reports bytes are. inl (reports bytes _ _ are c.in-Err.ensures.report)) c.reported.ensures.ok
+returns-in-Err c = IfOk-weaker c.outcome_of_error.result _ _ (λ outcome reports bytes are. inl (reports bytes _ _ are c.in-Err.ensures.report)) c.outcome_of_error.ensures.ok

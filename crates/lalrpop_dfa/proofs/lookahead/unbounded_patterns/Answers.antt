@@ -1,0 +1,30 @@
+use Rattle.std.proofs.Common.{◌≡◌, ℕ, ◌<◌, ◌↔◌, ◌∙◌, length, subst, arith}
+use Rattle.std.specs.Prelude.{Some}
+use Rattle.lalrpop_dfa.specs.Internal.Marks.{Marked, EntersBy}
+use Rattle.lalrpop_dfa.proofs.Marking.{entered_more, ever_marked}
+use Rattle.lalrpop_dfa.proofs.lookahead.unbounded_patterns.Goals as goal
+
+pub loop-number-preserved : goal.loop-number-preserved
+loop-number-preserved c =
+    let d = c.args.dfa.now in
+    let marks = c.in_ok-marks.marks.items in
+    let place = c.entering.result in
+    let at : (i : ℕ) → (place ≡ Some i) ↔ EntersBy d c.deref.result.now i c.loop-number.number =
+    subst (λ q. (i : ℕ) → (place ≡ Some i) ↔ EntersBy d c.deref.result.now i q) c.new.ensures.value c.entering.ensures in
+    let here : (i : ℕ) → (place ≡ Some i) ↔ EntersBy d marks i c.loop-number.number =
+    subst (λ ms. (i : ℕ) → (place ≡ Some i) ↔ EntersBy d ms i c.loop-number.number) c.deref.ensures.value at in
+    record {
+      same_length = c.mark.ensures.same_length ∙ c.loop-number.invariant.same_length;
+      each =
+          entered_more d marks c.loop-number.found.items c.mark.new.marks.items c.args.count c.loop-number.number place
+          c.loop-number.invariant.same_length c.loop-number.invariant.each here c.mark.ensures.marked;
+    }
+
+pub returns-clause-each : goal.returns-clause-each
+returns-clause-each c =
+    let d = c.args.dfa.now in
+    let marks = c.in_ok-marks.marks.items in
+    let ever = c.in_ok-marks.ensures.marks in
+    let all : c.loop-number.number ≡ length d = omega (arith, c.loop-number-test.false, c.loop-number.auto.number-end, c.len-number-end.ensures, ever.1.0.same_length) in
+    ever_marked d c.in_ok-marks.ensures.well_formed marks c.loop-number.found.items c.args.count ever
+    (subst (λ k. (i : ℕ) → i < c.args.count → Marked c.loop-number.found.items i ↔ ((p : ℕ) × ((p < k) × EntersBy d marks i p))) all c.loop-number.invariant.each)
