@@ -3,8 +3,7 @@ import re
 
 from rattle_source import LIBRARIES, TOP, items, of_users
 
-HEAD = """\
-# Every call
+HEAD = """# Every call
 
 What a program can call, library by library: comments, signatures and clauses, as the sources have them. `.ci/pages --write` writes this
 page. What a definition in a clause means: [BOOK.md](BOOK.md). How a call is used: the crates `crates/uses_*`."""

@@ -1,5 +1,6 @@
 """Reads sources of Rattle, as rt fmt lays them out: an item begins its line. Comments, strings and characters count as no code."""
 import functools
+import itertools
 import re
 from collections import namedtuple
 from pathlib import Path
@@ -24,11 +25,8 @@ ABOUT = re.compile(r"((?:^ *///[^\n]*\n)+)(?: *#\[[^\]]*\]\n)*\Z", re.M)
 
 def closed(code, at):
     """Where the brace closes that opens before this place."""
-    depth = 1
-    while depth:
-        depth += {"{": 1, "}": -1}.get(code[at], 0)
-        at += 1
-    return at
+    depths = itertools.accumulate(({"{": 1, "}": -1}.get(it, 0) for it in code[at:]), initial=1)
+    return at + next(place for place, depth in enumerate(depths) if not depth)
 
 
 def body(code, at):
@@ -76,11 +74,10 @@ def handed_out(file, wanted=None):
         if item.kind != "use" and wanted in (None, item.name):
             yield from handed_out(folder / f"{item.name}.rt") if item.kind == "mod" else [(file.relative_to(TOP).parts[1], item.name)]
         path, brace, names = item.name.partition("{")
-        for name in re.findall(r"\w+(?: as \w+)?", names) if brace else [""] * (item.kind == "use"):
-            name, _, shown = (path + name).partition(" as ")
-            module, *below = name.split("::")
+        for name in re.findall(r"\w+", names) if brace else [""] * (item.kind == "use"):
+            module, *below = (path + name).split("::")
             found = next((it for it in (TOP / "crates" / module / "src/lib.rt", folder / f"{module}.rt") if it.is_file()), None)
-            yield from handed_out(found, *below) if found and wanted in (None, shown or name.split("::")[-1]) else []
+            yield from handed_out(found, *below) if found and wanted in (None, *below[-1:]) else []
 
 
 @functools.cache

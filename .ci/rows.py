@@ -2,6 +2,7 @@
 import os
 import re
 import subprocess
+import sys
 import tempfile
 from collections import namedtuple
 from contextlib import contextmanager
@@ -34,8 +35,12 @@ def folder(build):
 
 def ran(words, given, at, env, **more):
     """What a command comes to."""
-    try:
-        done = subprocess.run(words, input=given, capture_output=True, cwd=at, env=env, timeout=120, **more)
-    except (subprocess.TimeoutExpired, FileNotFoundError) as error:
-        return str(error)
+    done = subprocess.run(words, input=given, capture_output=True, cwd=at, env=env, timeout=120, **more)
     return done.stdout, done.stderr, done.returncode
+
+
+def told(found):
+    """Prints these pairs of a title and what is wrong, if anything is, and 'N passed, M failed'; the status is 1 where one fails."""
+    failed = [print(title + f"\n  {wrong}" * bool(wrong), flush=True) or bool(wrong) for title, wrong in found]
+    print(f"{failed.count(False)} passed, {failed.count(True)} failed")
+    sys.exit(any(failed))
