@@ -7,6 +7,7 @@ use thiserror::Error;
 ///
 /// ```
 /// use lalrpop_lexer::lexer::nfa::{Nfa, NfaConstructionError};
+/// use lalrpop_lexer::lexer::re::parse_regex;
 ///
 /// let lazy = parse_regex(alloc, "a*?")?;
 /// let is_lazy = matches!(Nfa::from_re(alloc, &lazy), Err(NfaConstructionError::NonGreedy)); // true
@@ -56,6 +57,7 @@ impl From<AllocError> for NfaConstructionError {
 ///
 /// ```
 /// use lalrpop_lexer::lexer::dfa::{DfaConstructionError, Precedence, build_dfa};
+/// use lalrpop_lexer::lexer::re::parse_regex;
 ///
 /// // Both patterns match "a", and neither is stronger.
 /// let regexs = vec![in alloc; parse_regex(alloc, "a|b")?, parse_regex(alloc, "[a-z]")?]?;

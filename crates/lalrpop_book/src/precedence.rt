@@ -3,6 +3,7 @@
 /// The strength of a pattern: if two patterns match a word, the one with the greater precedence wins.
 ///
 /// ```
+/// use lalrpop_lexer::Lexer;
 /// use lalrpop_lexer::lexer::dfa::Precedence;
 ///
 /// // A keyword is a name too, and the stronger of the two.

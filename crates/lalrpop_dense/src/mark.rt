@@ -31,11 +31,11 @@ pub(crate) struct Mark {
 /// Room for the ends of the tokens of a block.
 ///
 /// ```
-/// use lalrpop_lexer::lexer::dfa::Marks;
+/// use lalrpop_lexer::lexer::dfa::TokenEnds;
 ///
-/// let mut marks = Marks::new(alloc)?;
+/// let mut ends = TokenEnds::new(alloc)?;
 /// let mut tokens = Vec::new(alloc);
-/// let end = dense.cut_block("let x", 0, &mut marks, &mut tokens)?;
+/// let end = dense.cut_block("let x", 0, &mut ends, &mut tokens)?;
 /// ```
 #[derive(Debug, Drop)]
 pub struct TokenEnds {

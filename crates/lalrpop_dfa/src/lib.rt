@@ -30,7 +30,7 @@ pub use witness::{Witness, lookahead_witness};
 /// What a state says of the word that leads to it.
 ///
 /// ```
-/// use lalrpop_lexer::lexer::dfa::Kind;
+/// use lalrpop_lexer::lexer::dfa::{Kind, START};
 ///
 /// let accepted = match dfa.state(START).kind() {
 ///     Kind::Accepts(index) => Some(index.index()),

@@ -14,6 +14,7 @@ use thiserror::Error;
 /// out of memory. Patterns are numbered from 0.
 ///
 /// ```
+/// use lalrpop_lexer::lexer::dfa::Precedence;
 /// use lalrpop_lexer::{Form, Lexer, LexerError};
 ///
 /// let place = match Lexer::from_patterns(alloc, &[(Precedence(0), Form::Pattern, "a)")]) {

@@ -10,6 +10,7 @@ use std::alloc::Global;
 /// How a text is to be read.
 ///
 /// ```
+/// use lalrpop_lexer::lexer::dfa::Precedence;
 /// use lalrpop_lexer::{Form, Lexer};
 ///
 /// let patterns = [(Precedence(1), Form::Literal, "*"), (Precedence(0), Form::Pattern, "[a-z]+")];

@@ -22,7 +22,7 @@ pub mod nfa;
 pub mod re;
 
 use crate::LinearMatches;
-use crate::lexer_token::LexerTokens;
+use crate::lexer_tokens::LexerTokens;
 use crate::token_list::TokenList;
 use lalrpop_book::{Token, TokenFault};
 use lalrpop_build::{DfaConstructionError, Precedence, build_dfa};
@@ -139,7 +139,7 @@ impl Lexer {
     ///
     /// It takes no memory, and there are at most as many tokens and faults as the text has characters. A step is counted each
     /// time a character is read, which only contracts see. If `lookahead` is n, a whole text costs at most n + 2 steps a
-    /// character; if it is `None`, nothing bounds what a character costs, and `tokens_linear` is for long texts.
+    /// character; if it is `None`, the cost can be quadratic in the length of the text: use `tokens_linear` for long texts.
     pub fn tokens<'text>(&'text self, text: &'text str) -> LexerTokens<'text>
         ensures start { result ≡ lexer_start self.now.automaton text.now None }
         ensures built { IsBuiltFrom self.now.trees self.now.precedences result.cutting.automaton }
@@ -159,7 +159,7 @@ impl Lexer {
 
     /// All tokens that `tokens` gives, in one list, with the fault at which they end, if there is one.
     ///
-    /// The text is cut block by block, which is faster than token by token. The list takes 32 bytes a token.
+    /// The text is cut block by block. The list takes 32 bytes a token, and on short tokens most of the time goes into its memory.
     ///
     /// # Errors
     ///
@@ -175,11 +175,11 @@ impl Lexer {
             self.now.trees self.now.precedences text.now 0
             (map Ok list.tokens.items ++ Err fault ∷ []))) }
     {
-        let mut marks = TokenEnds::new(alloc)?;
+        let mut ends = TokenEnds::new(alloc)?;
         let mut tokens = Vec::new(alloc);
         let mut at = 0;
         'cutting: while at < text.len() {
-            match self.dense.cut_block(text, at, &mut marks, &mut tokens)? {
+            match self.dense.cut_block(text, at, &mut ends, &mut tokens)? {
                 Some(to) => at = to,
                 None => {
                     let fault = Some(TokenFault { at });

@@ -11,6 +11,7 @@ use std::alloc::{AllocError, Global};
 /// What the lines say. Lines are numbered from 0.
 ///
 /// ```
+/// use anyhow::bail;
 /// use lalrpop_lexer::{Terminals, read_terminals};
 ///
 /// let regexs = match read_terminals(alloc, b"1 l class\n0 r [a-z]+\n")? {

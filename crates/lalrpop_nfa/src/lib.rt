@@ -37,6 +37,7 @@ pub const START: NfaStateIndex = NfaStateIndex(2);
 ///
 /// ```
 /// use lalrpop_lexer::lexer::nfa::{Nfa, interpret};
+/// use lalrpop_lexer::lexer::re::parse_regex;
 ///
 /// let nfa = Nfa::from_re(alloc, &parse_regex(alloc, "a+")?)?;
 /// let found = interpret::interpret(alloc, &nfa, "aab")?; // Some("aa")

@@ -10,7 +10,7 @@ use Rattle.lalrpop_lexer.specs.Spelled.{AreSpelled, IsNotSpelled}
 use Rattle.lalrpop_lexer.specs.declared.form.Form.{Form}
 use Rattle.lalrpop_rules.specs.declared.rule.Rule.{Rule}
 use Rattle.lalrpop_rules.specs.declared.error.RulesError.{RulesError}
-use Rattle.lalrpop_rules.specs.declared.error.RulesError.TheVariants.{NoPattern, NotCompiled, Clash, OutOfMemory}
+use Rattle.lalrpop_rules.specs.declared.error.RulesError.TheVariants.{NotParsed, NotCompiled, Clash, OutOfMemory}
 
 -- a list of rules, as a lexer knows them: their names, trees and precedences, which are skipped, and the states of the automaton
 pub record RuleSet : Type 0 where
@@ -40,7 +40,7 @@ skips_of rs = map (λ r. r.is_skipped) rs
 -- the error is right: the first rule whose text does not parse; else the first that can't be compiled; else the clash; or memory
 -- was refused
 abbrev pub IsRulesError : List Rule → RulesError → Type 0
-IsRulesError rs (NoPattern i position kind) = IsNotSpelled (forms_of rs) i position
+IsRulesError rs (NotParsed i position kind) = IsNotSpelled (forms_of rs) i position
 IsRulesError rs (NotCompiled i e) = (ts : List Tree) × (AreTrees rs ts × FirstFault ts i e)
 IsRulesError rs (Clash i j w) = (ts : List Tree) × (AreTrees rs ts × NoFault ts × IsClash ts (precedences_of rs) w.items i j)
 IsRulesError rs OutOfMemory = Unit {0}

@@ -23,7 +23,7 @@ use thiserror::Error;
 pub enum RulesError {
     /// The text of this rule does not parse: `kind` says why, and `position` where, as an offset in bytes.
     #[error("the text of rule {rule} does not parse: {kind:?} at byte {position}")]
-    NoPattern {
+    NotParsed {
         rule: usize,
         position: usize,
         kind: SyntaxKind,

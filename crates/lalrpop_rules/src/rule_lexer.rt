@@ -73,7 +73,7 @@ fn rules_error(error: LexerError) -> RulesError
             pattern,
             position,
             kind,
-        } => RulesError::NoPattern {
+        } => RulesError::NotParsed {
             rule: pattern,
             position,
             kind,

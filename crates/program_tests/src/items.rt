@@ -230,7 +230,7 @@ fn rules_without_trees_have_no_clashes(rt: HostRuntime) {
     assert!(rt;
         matches!(
             rule_clashes(rt.alloc(), &open),
-            Err(RulesError::NoPattern { rule: 1, .. })
+            Err(RulesError::NotParsed { rule: 1, .. })
         )
     );
     let lazy = [Rule::literal("A", "a"), Rule::pattern("B", "a*?")];

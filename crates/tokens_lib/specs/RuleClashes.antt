@@ -7,7 +7,7 @@ use Rattle.lalrpop_book.specs.Report.{NoFault}
 use Rattle.lalrpop_rules.specs.RuleSet.{AreTrees, IsRulesError, precedences_of}
 use Rattle.lalrpop_rules.specs.declared.rule.Rule.{Rule}
 use Rattle.lalrpop_rules.specs.declared.error.RulesError.{RulesError}
-use Rattle.lalrpop_rules.specs.declared.error.RulesError.TheVariants.{NoPattern, NotCompiled, Clash, OutOfMemory}
+use Rattle.lalrpop_rules.specs.declared.error.RulesError.TheVariants.{NotParsed, NotCompiled, Clash, OutOfMemory}
 use Rattle.tokens_lib.specs.ItemLines.{name_at}
 use Rattle.tokens_lib.specs.Quoted.{quoted_word}
 
@@ -17,7 +17,7 @@ AreRuleClashes rs cs = (ts : List Tree) × (AreTrees rs ts × (NoFault ts × Are
 
 -- the error is right, and isn't a clash
 abbrev pub IsRuleFault : List Rule → RulesError → Type 0
-IsRuleFault rs (NoPattern i position kind) = IsRulesError rs (NoPattern i position kind)
+IsRuleFault rs (NotParsed i position kind) = IsRulesError rs (NotParsed i position kind)
 IsRuleFault rs (NotCompiled i e) = IsRulesError rs (NotCompiled i e)
 IsRuleFault rs (Clash i j w) = ⊥
 IsRuleFault rs OutOfMemory = Unit {0}

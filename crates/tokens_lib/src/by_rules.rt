@@ -3,7 +3,7 @@ ghost use Rattle.std.specs.Prelude.{◌≤◌, IfOk, IfErr};
 
 use crate::command::Markup;
 use crate::cut_files::{Task, cut_all};
-use crate::ends::{NO_TEXT, bytes_of, out_of_memory, say};
+use crate::files::{NO_TEXT, bytes_of, out_of_memory, say};
 use crate::layout::LineForm;
 use crate::named_clashes::{rule_clashes, write_rule_clashes};
 use crate::rule_explain::{Source, bad_line_explained, rules_explained};
@@ -43,7 +43,7 @@ fn report_rules(
     let message = rules_explained(rt.alloc(), source, file, error).map_err(out_of_memory)?;
     say(rt, message.as_str());
     match error {
-        RulesError::NoPattern { .. } => Ok(BAD_LINE),
+        RulesError::NotParsed { .. } => Ok(BAD_LINE),
         _ => Ok(REFUSED),
     }
 }

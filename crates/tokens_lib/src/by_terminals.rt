@@ -4,7 +4,7 @@ ghost use Rattle.std.specs.Prelude.{◌≤◌, IfOk};
 use crate::building::{BuildError, lexer_of};
 use crate::clash_lines::write_clashes;
 use crate::cut_files::{Task, cut_all};
-use crate::ends::{NO_TEXT, bytes_of, out_of_memory, say};
+use crate::files::{NO_TEXT, bytes_of, out_of_memory, say};
 use crate::explain::explanation;
 use lexdfa_lib::{Failure, Outcome, RunError, Watched, flushed};
 use std::io::{self, Eprint, Write};

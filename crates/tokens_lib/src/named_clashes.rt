@@ -44,7 +44,7 @@ fn trees_of(alloc: Global, rules: &[Rule<'_>]) -> Result<Vec<Regex>, RulesError>
         match tree_of(alloc, rule.form, rule.text) {
             Ok(tree) => trees.push(tree)?,
             Err(RegexError::Syntax { position, kind }) => {
-                return Err(RulesError::NoPattern {
+                return Err(RulesError::NotParsed {
                     rule: trees.len(),
                     position,
                     kind,

@@ -5,7 +5,7 @@ ghost use Rattle.std.specs.Process.{exit_status};
 use crate::by_rules::{cut_by_rules, list_clashes, show_by_rules};
 use crate::by_terminals::{cut_by_terminals, list_terminal_clashes};
 use crate::command::{Command, command_of};
-use crate::ends::{out_of_memory, say};
+use crate::files::{out_of_memory, say};
 use lexdfa_lib::{Failure, RunError, status_of, without_arguments};
 use std::env;
 use std::io::Eprint;

@@ -126,7 +126,7 @@ pub(crate) fn rules_explained(
     error: &RulesError,
 ) -> Result<String, AllocError> {
     match error {
-        RulesError::NoPattern {
+        RulesError::NotParsed {
             rule,
             position,
             kind,

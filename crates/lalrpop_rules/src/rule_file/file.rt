@@ -175,7 +175,7 @@ fn rules_of_lines(alloc: Global, bytes: &[u8]) -> Result<RuleFile<'_>, RuleFileE
 
 /// The bytes of a file without the byte order mark, EF BB BF, at their beginning, if there is one.
 ///
-/// `read_rules` reads these: who shows a line that it names takes the line from them too, so that the column fits.
+/// `read_rules` reads these bytes. To show a line that it names, take the line from them too, so that the column matches.
 pub fn without_mark(bytes: &[u8]) -> &[u8]
     ensures { result.now ≡ without_mark_of bytes.now }
 {
