@@ -2,6 +2,7 @@ pub mod Cases
 -- lists, their members and orders
 pub mod Contained
 pub mod Members
+pub mod Pushed
 pub mod SortedLists
 pub mod Orders
 pub mod Words

@@ -15,7 +15,7 @@ use Rattle.std.proofs.lemmas.Option.{slice_get_within}
 use Rattle.lalrpop_nfa.specs.Graph.{Graph}
 use Rattle.lalrpop_dfa.specs.Automata.{Item}
 use Rattle.lalrpop_dfa.specs.Kernels.{Kernels, IsNumberOf, added}
-use Rattle.lalrpop_dfa.proofs.NumberedLemmas.{pushed_cases, pushed_keeps, pushed_last}
+use Rattle.lalrpop_book.proofs.Pushed.{pushed_cases, pushed_keeps, pushed_last}
 use Rattle.lalrpop_nfa.specs.Compiled.{start_state}
 use Rattle.lalrpop_build.specs.Internal.Subsets.{starts_from, no_graph, move}
 use Rattle.std.specs.Cmp.Lexicographic.{slice_cmp}

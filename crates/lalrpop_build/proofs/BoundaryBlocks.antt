@@ -12,8 +12,8 @@ use Rattle.lalrpop_nfa.specs.Graph.{Graph}
 use Rattle.lalrpop_nfa.specs.Partition.{IsCovered, IsPartition}
 use Rattle.lalrpop_nfa.proofs.Cells.{BlocksBelow, IsBoundary, parts_none, parts_kept, parts_passed, zero_is_boundary}
 use Rattle.lalrpop_nfa.proofs.Partition.{IsPartition-from_parts}
-use Rattle.lalrpop_build.specs.Internal.Alphabet.{AreCells, IsInCell, IsFirstOf}
-use Rattle.lalrpop_build.specs.declared.alphabet.Cell.{Cell}
+use Rattle.lalrpop_alphabet.specs.Internal.Alphabet.{AreCells, IsInCell, IsFirstOf}
+use Rattle.lalrpop_alphabet.specs.declared.Cell.{Cell}
 use Rattle.lalrpop_dfa.specs.Automata.{Item}
 use Rattle.lalrpop_build.specs.Items.{IsLeaving}
 use Rattle.lalrpop_build.specs.Internal.Scratch.{IsTaken, AreTaken}

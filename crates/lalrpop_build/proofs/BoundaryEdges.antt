@@ -8,8 +8,8 @@ use Rattle.std.proofs.lemmas.List.{length_push}
 use Rattle.lalrpop_book.specs.Range.{Range}
 use Rattle.lalrpop_nfa.specs.Graph.{Graph}
 use Rattle.lalrpop_nfa.specs.Partition.{IsPartition}
-use Rattle.lalrpop_build.specs.Internal.Alphabet.{AreCells}
-use Rattle.lalrpop_build.specs.declared.alphabet.Cell.{Cell}
+use Rattle.lalrpop_alphabet.specs.Internal.Alphabet.{AreCells}
+use Rattle.lalrpop_alphabet.specs.declared.Cell.{Cell}
 use Rattle.lalrpop_dfa.specs.Automata.{Item}
 use Rattle.lalrpop_build.specs.Internal.Given.{AreAutomata}
 use Rattle.lalrpop_build.specs.Internal.Subsets.{move}

@@ -28,7 +28,7 @@ use Rattle.lalrpop_build.proofs.BuiltTable.{built_stands}
 use Rattle.lalrpop_build.proofs.TiedClash.{tied_is_clash_after_rows}
 use Rattle.lalrpop_dfa.specs.Counts.{state_bound}
 use Rattle.lalrpop_build.proofs.StateCount.{states_bound, items_bound}
-use Rattle.lalrpop_dfa.proofs.NumberedLemmas.{pushed_cases}
+use Rattle.lalrpop_book.proofs.Pushed.{pushed_cases}
 
 pub added_from : (m : Automaton (List Item)) (sets : List (List Item)) (origins : List (ℕ × ℕ)) (n v : ℕ) (t : List Item) (j : ℕ) (sets2 : List (List Item)) (origins2 : List (ℕ × ℕ))
     → AddedTo sets origins n v t j sets2 origins2 → Added m sets origins n v t j sets2 origins2

@@ -14,8 +14,8 @@ use Rattle.lalrpop_build.specs.Internal.Transitions.{AreTransitions}
 use Rattle.lalrpop_build.specs.declared.transitions.Transition.{Transition}
 use Rattle.lalrpop_build.specs.declared.build.scratch.Transitions.{Transitions}
 use Rattle.lalrpop_build.proofs.Adding.{added_stays, added_at}
-use Rattle.lalrpop_dfa.proofs.NumberedLemmas.{pushed_cases}
-use Rattle.lalrpop_build.proofs.Marking.{set_at}
+use Rattle.lalrpop_book.proofs.Pushed.{pushed_cases}
+use Rattle.lalrpop_alphabet.proofs.Marking.{set_at}
 use Rattle.lalrpop_build.proofs.TransitionMoves.{leads_move}
 
 -- a class that is read from the list has the edges that its values take

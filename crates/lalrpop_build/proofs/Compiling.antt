@@ -14,7 +14,7 @@ use Rattle.lalrpop_book.specs.declared.error.NfaConstructionError.TheVariants.{O
 use Rattle.lalrpop_book.specs.declared.error.NfaConstructionError.{NfaConstructionError}
 use Rattle.lalrpop_book.specs.declared.error.DfaConstructionError.{DfaConstructionError}
 use Rattle.lalrpop_book.specs.declared.error.DfaConstructionError.TheVariants.{NfaConstructionError as Refused, Ambiguity, OutOfMemory}
-use Rattle.lalrpop_dfa.proofs.NumberedLemmas.{pushed_cases}
+use Rattle.lalrpop_book.proofs.Pushed.{pushed_cases}
 
 -- the first k trees have no fault, and these automata
 pub record IsCompiledTo (ts : List Tree) (ns : List Graph) (k : ℕ) : Type 0 where

@@ -33,15 +33,6 @@ mod LiveItems
 -- laws for callers
 pub mod Agreeing
 pub use Rattle.lalrpop_dfa.proofs.AfterLaws
--- the alphabet
-mod Assembling
-pub mod LabelOrder
-pub mod Boundaries
-pub mod BoundaryLabels
-pub mod EdgeGroupLaws
-mod Classing
-pub mod Marking
-mod Numbering
 -- where items lead
 pub mod Sets
 pub mod Epsilon

@@ -8,8 +8,8 @@ use Rattle.std.specs.Prelude.{Result}
 use Rattle.std.specs.declared.alloc.AllocError.{AllocError}
 use Rattle.std.proofs.lemmas.Result.{IfOk-weaker}
 use Rattle.lalrpop_dfa.specs.Internal.Written.{Written}
-use Rattle.lalrpop_build.specs.declared.alphabet.Cell.{Cell}
-use Rattle.lalrpop_build.proofs.Marking.{set_at}
+use Rattle.lalrpop_alphabet.specs.declared.Cell.{Cell}
+use Rattle.lalrpop_alphabet.proofs.Marking.{set_at}
 use Rattle.lalrpop_dfa.specs.Automata.{Item}
 use Rattle.lalrpop_build.specs.Internal.Subsets.{move}
 use Rattle.lalrpop_build.specs.Internal.Transitions.{AreTransitions}
@@ -22,7 +22,7 @@ use Rattle.lalrpop_build.specs.declared.build.sets.Sets.{Sets}
 use Rattle.lalrpop_build.specs.declared.build.target_cache.TargetCache.{TargetCache}
 use Rattle.lalrpop_build.specs.declared.build.scratch.Scratch.{Scratch}
 use Rattle.lalrpop_build.specs.declared.build.scratch.Transitions.{Transitions}
-use Rattle.lalrpop_build.specs.Internal.Alphabet.{AreCells}
+use Rattle.lalrpop_alphabet.specs.Internal.Alphabet.{AreCells}
 use Rattle.lalrpop_build.specs.Internal.Given.{AreAutomata}
 use Rattle.lalrpop_nfa.specs.Partition.{IsPartition}
 use Rattle.lalrpop_build.specs.Items.{IsLeaving}

@@ -9,13 +9,6 @@ pub mod TargetCache
 pub mod Stage
 pub mod Labelled
 pub mod Ties
--- the alphabet: values in classes that each state treats alike
-pub mod Alphabet
-pub mod Grouped
-pub mod Boundaries
-pub mod EdgeGroups
-pub mod Signatures
-pub mod Numbered
 -- where items lead
 pub mod Given
 pub mod Subsets

@@ -34,7 +34,7 @@ mod scratch;
 mod sets;
 mod target_cache;
 
-use crate::alphabet::Cell;
+use lalrpop_alphabet::Cell;
 use crate::{Dfa, DfaConstructionError, DfaStateIndex, Kind, NfaIndex, Precedence};
 use automata::Automata;
 use best::Tie;

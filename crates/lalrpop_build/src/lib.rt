@@ -6,7 +6,6 @@
 #![tactic(auto)]
 
 mod all_clashes;
-pub mod alphabet;
 mod build;
 pub mod closure;
 mod moves;

@@ -12,24 +12,9 @@ use Rattle.std.proofs.lemmas.Bool.{cases_Bool}
 use Rattle.std.proofs.lemmas.Bool.Decides.{nat_tests}
 use Rattle.std.proofs.lemmas.List.{drop-append-le}
 use Rattle.std.proofs.lemmas.Map.Views.{All-values-insert_entry}
+use Rattle.lalrpop_book.proofs.Pushed.{pushed_cases, pushed_keeps, pushed_last}
 use Rattle.lalrpop_dfa.specs.Kernels.{IsNumberOf, AreDistinct, added}
 use Rattle.lalrpop_dfa.specs.Internal.Numbered.{key_with, by_number, in_order, IsNumbered, IsKernelSet}
-
--- a list with one more element at the end
-pub pushed_cases : {X : Type 0} (xs : List X) (y : X) (q : ℕ) (x : X) → slice_get (xs ++ y ∷ []) q ≡ Some x → (slice_get xs q ≡ Some x) ⊎ ((q ≡ length xs) × (x ≡ y))
-pushed_cases [] y zero x h = inr (refl, cc)
-pushed_cases [] y (suc q) x h = cc
-pushed_cases (z ∷ xs) y zero x h = inl h
-pushed_cases (z ∷ xs) y (suc q) x h = elim (pushed_cases xs y q x h) [ inl k ↦ inl k | inr k ↦ inr (ap (λ n. suc n) k.0, k.1) ]
-
-pub pushed_keeps : {X : Type 0} (xs : List X) (y : X) (q : ℕ) (x : X) → slice_get xs q ≡ Some x → slice_get (xs ++ y ∷ []) q ≡ Some x
-pushed_keeps [] y q x h = cc
-pushed_keeps (z ∷ xs) y zero x h = h
-pushed_keeps (z ∷ xs) y (suc q) x h = pushed_keeps xs y q x h
-
-pub pushed_last : {X : Type 0} (xs : List X) (y : X) → slice_get (xs ++ y ∷ []) (length xs) ≡ Some y
-pushed_last [] y = refl
-pushed_last (z ∷ xs) y = pushed_last xs y
 
 any_from : {X : Type 0} (p : X → Bool) (xs : List X) (n : ℕ) (x : X) → slice_get xs n ≡ Some x → p x ≡ true → list_any p xs ≡ true
 any_from p [] n x h t = cc

@@ -7,7 +7,7 @@ use Rattle.std.proofs.lemmas.Option.{slice_get_within, slice_get-get_or}
 use Rattle.lalrpop_book.specs.Range.{Range}
 use Rattle.lalrpop_dfa.specs.Dfa.{Row, edge_target, step}
 use Rattle.lalrpop_dfa.specs.Internal.Stored.{AreSteps, AreListed}
-use Rattle.lalrpop_dfa.proofs.NumberedLemmas.{pushed_cases, pushed_keeps, pushed_last}
+use Rattle.lalrpop_book.proofs.Pushed.{pushed_cases, pushed_keeps, pushed_last}
 use Rattle.lalrpop_dfa.proofs.EdgeTargets.{step_of}
 
 -- the places so far name lists of their states

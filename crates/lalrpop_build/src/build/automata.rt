@@ -15,7 +15,7 @@ ghost use Rattle.lalrpop_build.specs.Internal.Scratch.{IsScratchOf, IsFilled};
 
 use super::best::{Tie, kind_of, strongest_of};
 use super::scratch::Scratch;
-use crate::alphabet::{Alphabet, Cell};
+use lalrpop_alphabet::{Alphabet, Cell};
 use crate::closure::{Workspace, closure, goto};
 use crate::{Kind, NfaIndex, Precedence, Transition};
 use lalrpop_dfa::{Item, ItemSet};
@@ -32,7 +32,7 @@ pub(crate) struct Automata<'nfas> {
 
 impl<'nfas> Model for Automata<'nfas> {
     ghost use Rattle.lalrpop_build.specs.Internal.Given.{AreAutomata};
-    ghost use Rattle.lalrpop_build.specs.Internal.Alphabet.{IsAlphabetOf};
+    ghost use Rattle.lalrpop_alphabet.specs.Internal.Alphabet.{IsAlphabetOf};
     ghost use Rattle.lalrpop_build.specs.Internal.Labelled.{Labelled};
 
     ghost Value = { Labelled };

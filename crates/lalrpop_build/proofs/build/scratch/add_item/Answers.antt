@@ -2,8 +2,8 @@ use Rattle.std.proofs.Common.{◌≡◌, ℕ, List, ◌⊎◌, inl, inr, sym, �
 use Rattle.std.specs.Prelude.{◌↔◌}
 use Rattle.std.specs.List.{Contains}
 use Rattle.std.proofs.lemmas.List.{take_all}
-use Rattle.lalrpop_build.specs.Internal.Alphabet.{HasState, AreEdgeGroupsOf}
-use Rattle.lalrpop_build.specs.declared.alphabet.EdgeGroup.{EdgeGroup}
+use Rattle.lalrpop_alphabet.specs.Internal.Alphabet.{HasState, AreEdgeGroupsOf}
+use Rattle.lalrpop_alphabet.specs.declared.EdgeGroup.{EdgeGroup}
 use Rattle.lalrpop_build.specs.Internal.ClassTransitions.{Gained}
 use Rattle.lalrpop_build.specs.declared.transitions.Transition.{Transition}
 use Rattle.lalrpop_book.proofs.Contained.{contains_none}
