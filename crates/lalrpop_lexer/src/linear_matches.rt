@@ -3,8 +3,8 @@
 ghost use Rattle.std.specs.Prelude.{◌≡◌, ◌+◌, length};
 ghost use Rattle.std.specs.Str.{chars};
 
-use crate::visited_pairs::{VisitedPairs, STRIDE};
 use crate::remembering::longest_remembering;
+use crate::visited_pairs::{STRIDE, VisitedPairs};
 use lalrpop_dense::DenseDfa;
 use lalrpop_dfa::NfaIndex;
 use lalrpop_nfa::Steps;

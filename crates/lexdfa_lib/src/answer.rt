@@ -8,10 +8,10 @@ ghost use Rattle.lalrpop_lexer.specs.Terminals.{AreTerminals};
 ghost use Rattle.lexdfa_lib.specs.Watch.{AppendsPrefix};
 ghost use Rattle.lexdfa_lib.specs.declared.outcome.Outcome.{Outcome};
 
-use crate::streams::{read_whole, write_whole};
 use crate::error::RunError;
 use crate::outcome::{Outcome, outcome_line};
 use crate::report::outcome_of_error;
+use crate::streams::{read_whole, write_whole};
 use crate::watched::Watched;
 use lalrpop_lexer::lexer::dfa::Precedence;
 use lalrpop_lexer::lexer::re::Regex;

@@ -3,9 +3,9 @@ ghost use Rattle.std.specs.Prelude.{◌≡◌, ◌≢◌, false, true, string_by
 ghost use Rattle.lexdfa_lib.specs.Whole.{ReadsAnswers, WritesAnswers, WritesAnswersPrefix};
 
 use crate::cutting::{Answers, answers_of};
-use crate::streams::{read_whole, write_whole};
 use crate::error::RunError;
 use crate::outcome::Outcome;
+use crate::streams::{read_whole, write_whole};
 use crate::watched::Watched;
 use std::alloc::Global;
 use std::io::{Read, Write};

@@ -4,8 +4,8 @@ ghost use Rattle.std.specs.Str.{IsCharBoundary};
 ghost use Rattle.tokens_lib.specs.Internal.Endings.{StopsIn, IsTokensEnding, IsPiecesEnding, Performs, ReadsAndPerforms};
 
 use crate::command::Markup;
-use crate::files::{NO_TEXT, open, out_of_memory, say, say_of};
 use crate::fault::fault_message;
+use crate::files::{NO_TEXT, open, out_of_memory, say, say_of};
 use crate::item_lines::write_items;
 use crate::layout::{Layout, LineForm};
 use crate::page::write_page;
