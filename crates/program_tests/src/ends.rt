@@ -1,6 +1,7 @@
 //! Readers and writers that fail: what is written then, that no call is made after one that failed, that no run flushes, and
 //! that a failed flush is told.
 
+use crate::failing::{FailsAfter, FailsAtEnd, KINDS};
 use crate::shared::run_over;
 use lexdfa_lib::{Failure, Outcome, RunError, Watched, run_and_flush};
 use std::alloc::Global;
@@ -32,31 +33,6 @@ const JOBS: [Job; 2] = [
     },
 ];
 
-// Errors after which others try again, and one after which nobody does.
-pub(crate) const KINDS: [io::ErrorKind; 3] = [
-    io::ErrorKind::Interrupted,
-    io::ErrorKind::WouldBlock,
-    io::ErrorKind::Other,
-];
-
-// Gives its bytes, then fails, and counts its calls.
-#[derive(Drop)]
-pub(crate) struct FailsAtEnd<'a> {
-    pub(crate) left: &'a [u8],
-    pub(crate) kind: io::ErrorKind,
-    pub(crate) calls: usize,
-}
-
-impl<'a> Read for FailsAtEnd<'a> {
-    fn read(&mut self, buf: &mut [u8]) -> io::Result<usize> {
-        self.calls = self.calls.saturating_add(1);
-        if self.left.is_empty() {
-            return Err(io::Error::from(self.kind));
-        }
-        self.left.read(buf)
-    }
-}
-
 fn writes_nothing(alloc: Global, job: &Job, given: &[u8], kind: io::ErrorKind) -> bool {
     let mut reader = Watched::new(FailsAtEnd {
         left: given,
@@ -84,36 +60,6 @@ fn a_failed_read_writes_nothing(rt: HostRuntime) {
         for job in &JOBS {
             expect_nothing(&rt, rt.alloc(), job, kind);
         }
-    }
-}
-
-// Takes one byte a call while it has room, then fails, and counts its calls and its flushes. With no kind of error it fails
-// by taking nothing.
-#[derive(Drop)]
-pub(crate) struct FailsAfter {
-    pub(crate) taken: Vec<u8>,
-    pub(crate) room: usize,
-    pub(crate) kind: Option<io::ErrorKind>,
-    pub(crate) calls: usize,
-    pub(crate) flushes: usize,
-}
-
-impl Write for FailsAfter {
-    fn write(&mut self, buf: &[u8]) -> io::Result<usize> {
-        self.calls = self.calls.saturating_add(1);
-        match (buf.first(), self.kind) {
-            (Some(byte), _) if self.taken.len() < self.room => {
-                self.taken.push(*byte)?;
-                Ok(1)
-            }
-            (Some(_), Some(kind)) => Err(io::Error::from(kind)),
-            _ => Ok(0),
-        }
-    }
-
-    fn flush(&mut self) -> io::Result<()> {
-        self.flushes = self.flushes.saturating_add(1);
-        Ok(())
     }
 }
 

@@ -2,8 +2,8 @@
 //! when a reader or a writer fails.
 ghost use Rattle.std.specs.Prelude.{◌≡◌, false};
 
-use crate::ends::{FailsAfter, FailsAtEnd, KINDS};
 use lexdfa_lib::{Outcome, RunError, Watched};
+use program_tests::failing::{FailsAfter, FailsAtEnd, KINDS};
 use std::alloc::Global;
 use std::io;
 use std::io::Write;

@@ -1,7 +1,7 @@
 //! Lexers from patterns and from lines, and the tokens they cut.
 
-use crate::shared::{expect_same, terminals};
 use lexdfa_lib::outcome_line;
+use program_tests::shared::{expect_same, terminals};
 use std::alloc::{AllocError, Global};
 use std::fmt::Write;
 use std::process::Abort;

@@ -1,8 +1,8 @@
 //! The pages of texts, as HTML and in colours for a terminal: what they are, and what is written at ends that fail.
 
-use crate::ends::FailsAfter;
 use crate::items::lexer_of_rules;
 use lexdfa_lib::{RunError, Watched};
+use program_tests::failing::FailsAfter;
 use std::alloc::Global;
 use std::io;
 use tokens_lib::{Markup, RuleLexer, write_page};

@@ -2,8 +2,8 @@
 //! writer fails.
 ghost use Rattle.std.specs.Prelude.{◌≡◌, false};
 
-use crate::ends::FailsAfter;
 use lexdfa_lib::{RunError, Watched};
+use program_tests::failing::FailsAfter;
 use std::alloc::Global;
 use std::io;
 use std::io::Write;

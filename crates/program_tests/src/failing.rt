@@ -1,0 +1,59 @@
+//! A reader and a writer that fail.
+
+use std::io;
+use std::io::{Read, Write};
+
+/// Errors after which others try again, and one after which nobody does.
+pub const KINDS: [io::ErrorKind; 3] = [
+    io::ErrorKind::Interrupted,
+    io::ErrorKind::WouldBlock,
+    io::ErrorKind::Other,
+];
+
+/// Gives its bytes, then fails, and counts its calls.
+#[derive(Drop)]
+pub struct FailsAtEnd<'a> {
+    pub left: &'a [u8],
+    pub kind: io::ErrorKind,
+    pub calls: usize,
+}
+
+impl<'a> Read for FailsAtEnd<'a> {
+    fn read(&mut self, buf: &mut [u8]) -> io::Result<usize> {
+        self.calls = self.calls.saturating_add(1);
+        if self.left.is_empty() {
+            return Err(io::Error::from(self.kind));
+        }
+        self.left.read(buf)
+    }
+}
+
+/// Takes one byte a call while it has room, then fails, and counts its calls and its flushes. With no kind of error it fails
+/// by taking nothing.
+#[derive(Drop)]
+pub struct FailsAfter {
+    pub taken: Vec<u8>,
+    pub room: usize,
+    pub kind: Option<io::ErrorKind>,
+    pub calls: usize,
+    pub flushes: usize,
+}
+
+impl Write for FailsAfter {
+    fn write(&mut self, buf: &[u8]) -> io::Result<usize> {
+        self.calls = self.calls.saturating_add(1);
+        match (buf.first(), self.kind) {
+            (Some(byte), _) if self.taken.len() < self.room => {
+                self.taken.push(*byte)?;
+                Ok(1)
+            }
+            (Some(_), Some(kind)) => Err(io::Error::from(kind)),
+            _ => Ok(0),
+        }
+    }
+
+    fn flush(&mut self) -> io::Result<()> {
+        self.flushes = self.flushes.saturating_add(1);
+        Ok(())
+    }
+}

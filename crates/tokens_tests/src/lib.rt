@@ -1,0 +1,11 @@
+//! Tests of the public calls of `tokens_lib` with values: lines, pages and statuses, and ends that fail.
+#![tactic(auto)]
+
+#[cfg(test)]
+mod files;
+#[cfg(test)]
+mod items;
+#[cfg(test)]
+mod pages;
+#[cfg(test)]
+mod tokens;
