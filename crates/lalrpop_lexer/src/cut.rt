@@ -8,7 +8,7 @@ ghost use Rattle.lalrpop_dfa.specs.Dfa.{Recognizes};
 ghost use Rattle.lalrpop_lexer.specs.Cutting.{Cutting, start_of, rest_of, GivesItem};
 ghost use Rattle.lalrpop_book.specs.Tokens.{Item, AreItems, slices};
 
-use crate::tokens::Tokens;
+use crate::dfa_tokens::Tokens;
 use lalrpop_dfa::Dfa;
 
 /// The tokens of the text: each is the longest nonempty prefix of the rest that some pattern matches, with the strongest

@@ -6,6 +6,7 @@
 #![tactic(auto)]
 
 mod cut;
+mod dfa_tokens;
 mod error;
 mod form;
 pub mod lexer;
@@ -20,10 +21,10 @@ mod shown_word;
 mod terminal_line;
 mod terminals;
 mod token_list;
-mod tokens;
 mod visited_pairs;
 
 pub use cut::tokens;
+pub use dfa_tokens::Tokens;
 pub use error::LexerError;
 pub use form::Form;
 pub use lalrpop_book::{Token, TokenFault};
@@ -36,4 +37,3 @@ pub use position::{Position, Positions};
 pub use shown_word::ShownWord;
 pub use terminals::{Terminals, read_terminals};
 pub use token_list::TokenList;
-pub use tokens::Tokens;

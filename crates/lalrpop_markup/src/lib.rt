@@ -1,8 +1,8 @@
 //! A text with its tokens marked, as HTML or in colours for a terminal. The text can be read back from either.
 #![tactic(auto)]
 
-mod ansi;
+mod colours;
 mod page;
 
-pub use ansi::ansi;
+pub use colours::ansi;
 pub use page::html;

@@ -4,27 +4,27 @@
 #![tactic(auto)]
 
 mod answer;
-mod arguments;
+mod command_line;
 mod cutting;
 mod ending;
 mod error;
 mod outcome;
 mod program;
 mod report;
-mod run_all;
 mod streams;
 mod watched;
+mod whole_text;
 mod word;
 
 pub use answer::run;
-pub use arguments::arguments;
+pub use command_line::arguments;
 pub use ending::{Ending, Failure, status_of};
 pub use error::RunError;
 pub use lalrpop_lexer::{TokenFault, Tokens, tokens};
 pub use outcome::{Outcome, clash_line, outcome_line};
 pub use program::{flushed, run_and_flush, run_program, without_arguments};
 pub use report::outcome_of_error;
-pub use run_all::run_all;
 pub use streams::{read_whole, write_whole};
 pub use watched::Watched;
+pub use whole_text::run_all;
 pub use word::Word;

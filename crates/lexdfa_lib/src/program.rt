@@ -6,12 +6,12 @@ ghost use Rattle.lexdfa_lib.specs.Answer.{ReadsOutcome};
 ghost use Rattle.lexdfa_lib.specs.Whole.{WritesAnswers};
 
 use crate::answer::run;
-use crate::arguments::arguments;
+use crate::command_line::arguments;
 use crate::ending::{Ending, Failure};
 use crate::error::RunError;
 use crate::outcome::Outcome;
-use crate::run_all::run_all;
 use crate::watched::Watched;
+use crate::whole_text::run_all;
 use std::alloc::Global;
 use std::env;
 use std::io::{self, Eprint, ErrorKind, Read, Write};
