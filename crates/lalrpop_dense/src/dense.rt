@@ -104,7 +104,14 @@ impl DenseDfa {
             steps.new ≤ steps.old + length (chars m.1.now) + n + 1) }
     {
         match &self.table {
-            Some(table) => longest_in(table, &self.dfa, text, steps),
+            Some(table) => match &table.cells {
+                StoredCells::Narrow(cells) => {
+                    longest_by(cells, &table.layout, &self.dfa, text, steps)
+                }
+                StoredCells::Wide(cells) => {
+                    longest_by(cells, &table.layout, &self.dfa, text, steps)
+                }
+            },
             None => interpret_counted(&self.dfa, text, steps),
         }
     }
@@ -129,7 +136,14 @@ impl DenseDfa {
             (λ m. steps.new ≤ steps.old + length (chars m.1.now) + s.past)) }
     {
         match &self.table {
-            Some(table) => longest_in_within(table, &self.dfa, text, limit, steps),
+            Some(table) => match &table.cells {
+                StoredCells::Narrow(cells) => {
+                    longest_within_by(cells, &table.layout, &self.dfa, text, limit, steps)
+                }
+                StoredCells::Wide(cells) => {
+                    longest_within_by(cells, &table.layout, &self.dfa, text, limit, steps)
+                }
+            },
             None => None,
         }
     }
@@ -233,56 +247,6 @@ impl DenseDfa {
             }
             None => Ok(None),
         }
-    }
-}
-
-// The longest match at the start of the text, by the table of the automaton.
-#[inline(always)]
-fn longest_in<'text>(
-    table: &Table,
-    dfa: &Dfa,
-    text: &'text str,
-    steps: &mut Steps,
-) -> Option<(NfaIndex, &'text str)>
-    requires { IsTable table.now dfa.now }
-    ensures answer { (ts : List Tree) (ps : List ℕ) → Recognizes dfa.now ts ps
-        → IsLongest ts ps text.now (option_map (λ m. (m.0, m.1.now)) result) }
-    ensures prefix { IfSome result (λ m. IsPrefix m.1.now text.now × (m.1.now ≢ [])) }
-    ensures never_falls { steps.old ≤ steps.new }
-    ensures cost { steps.new ≤ steps.old + length (chars text.now) }
-    ensures looked { (n : ℕ) → LooksAtMost dfa.now n → IfSome result (λ m.
-        steps.new ≤ steps.old + length (chars m.1.now) + n + 1) }
-{
-    match &table.cells {
-        StoredCells::Narrow(cells) => longest_by(cells, &table.layout, dfa, text, steps),
-        StoredCells::Wide(cells) => longest_by(cells, &table.layout, dfa, text, steps),
-    }
-}
-
-// The longest match at the start of the text, if the characters that begin within the first `limit` bytes settle it.
-#[inline(always)]
-fn longest_in_within<'text>(
-    table: &Table,
-    dfa: &Dfa,
-    text: &'text str,
-    limit: usize,
-    steps: &mut Steps,
-) -> Option<BoundedMatch<'text>>
-    requires { IsTable table.now dfa.now }
-    ensures answer { (ts : List Tree) (ps : List ℕ) → Recognizes dfa.now ts ps
-        → IfSome result (λ s.
-        IsLongest ts ps text.now (option_map (λ m. (m.0, m.1.now)) s.longest)) }
-    ensures prefix { IfSome result (λ s. IfSome s.longest (λ m.
-        IsPrefix m.1.now text.now × (m.1.now ≢ []))) }
-    ensures never_falls { steps.old ≤ steps.new }
-    ensures limit { steps.new ≤ steps.old + limit }
-    ensures past { IfSome result (λ s. MatchOption s.longest (steps.new ≤ steps.old + s.past)
-        (λ m. steps.new ≤ steps.old + length (chars m.1.now) + s.past)) }
-{
-    let layout = &table.layout;
-    match &table.cells {
-        StoredCells::Narrow(cells) => longest_within_by(cells, layout, dfa, text, limit, steps),
-        StoredCells::Wide(cells) => longest_within_by(cells, layout, dfa, text, limit, steps),
     }
 }
 
