@@ -10,9 +10,9 @@ pub mod alphabet;
 mod build;
 pub mod closure;
 mod moves;
-mod ordered;
 mod ties;
 mod transitions;
+mod worklist;
 
 pub use all_clashes::{Clash, clashes};
 pub use build::build_dfa;
