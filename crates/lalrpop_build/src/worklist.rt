@@ -107,18 +107,6 @@ impl<S: Seen> Worklist<S> {
         Ok(())
     }
 
-    fn insert_all(&mut self, given: &[Item]) -> Result<(), AllocError>
-        requires { (x : Item) → Contains given.now x → S.can_add self.old.seen x }
-        ensures inserted { OnOk result (IsInserted (S.items self.old.seen) self.old.pending.items
-            given.now (S.items self.new.seen) self.new.pending.items) }
-        ensures room { (x : Item) → S.can_add self.old.seen x → S.can_add self.new.seen x }
-    {
-        for item in given {
-            self.insert(*item)?;
-        }
-        Ok(())
-    }
-
     /// Finds the given items and all that they lead to by reading nothing.
     pub(super) fn follow_from(&mut self, nfas: &[Nfa], given: &[Item]) -> Result<(), AllocError>
         requires automata { AreAutomata nfas.now }
@@ -129,7 +117,9 @@ impl<S: Seen> Worklist<S> {
         ensures { OnOk result (S.items self.new.seen ≡ closed nfas.now given.now) }
     {
         self.pending.clear();
-        self.insert_all(given)?;
+        for first in given {
+            self.insert(*first)?;
+        }
         while let Some(item) = self.pending.pop() {
             self.follow(nfas, item)?;
         }
