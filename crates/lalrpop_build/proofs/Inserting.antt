@@ -4,10 +4,8 @@ use Rattle.std.specs.Prelude.{slice_get, Some}
 use Rattle.std.specs.List.{Contains, filter}
 use Rattle.std.specs.BTreeSet.{BTreeSet, contains, Updates, IsOrdered}
 use Rattle.std.proofs.lemmas.Map.Views.{btree_set_contains_iff}
-use Rattle.std.proofs.lemmas.Map.Lookups.{CmpEqualImpliesEq}
 use Rattle.std.proofs.lemmas.List.Elements.{Contains-append_left, Contains-append_right, Contains-append_cases, Contains-push, Contains-push_cases}
-use Rattle.std.specs.Ordering.{nat_cmp}
-use Rattle.lalrpop_book.proofs.Orders.{then_equal, nat_exact, set_come, set_has, set_kept}
+use Rattle.lalrpop_book.proofs.Orders.{set_come, set_has, set_kept}
 use Rattle.lalrpop_dfa.specs.Automata.{Item}
 use Rattle.lalrpop_dfa.specs.Internal.Ascending.{item_cmp}
 use Rattle.lalrpop_dfa.specs.Internal.OrderLaws.{item_total}
@@ -17,7 +15,7 @@ use Rattle.lalrpop_nfa.specs.Walk.{leaves}
 use Rattle.lalrpop_nfa.specs.declared.edge.Edge.{Edge}
 use Rattle.lalrpop_nfa.specs.declared.edge.Noop.{Noop}
 use Rattle.lalrpop_book.proofs.Contained.{contains_none, contains_only}
-use Rattle.lalrpop_build.specs.Internal.Worklist.{IsInserted, epsilon_targets}
+use Rattle.lalrpop_build.specs.Internal.Worklist.{IsAdded, IsInserted, epsilon_targets}
 use Rattle.lalrpop_book.proofs.Members.{contains_from}
 use Rattle.lalrpop_build.proofs.Targets.{graph_is}
 
@@ -57,41 +55,39 @@ not_false : (b : Bool) → false ≡ not b → b ≡ true
 not_false true e = refl
 not_false false e = cc
 
-module _ (s n : BTreeSet Item) (item : Item) (pending pending2 : List Item) (u : Updates item_cmp s n item true) (o : IsOrdered item_cmp n) where
-  -- an item that was not observed
-  pub inserted_new : (added : Bool) → added ≡ true → length n.keys ≡ length s.keys + cond added 1 0 → pending2 ≡ pending ++ item ∷ [] → IsInserted s.keys pending (item ∷ []) n.keys pending2
-  inserted_new added is len pushed =
-      let len2 : length n.keys ≡ length s.keys + 1 = rw is at len in
-      record {
-        ordered = λ h. o;
-        kept = set_kept item_total item_exact s n item u;
-        inserted = λ x h. set_has item_total item_exact s n item u x (contains_only item x h);
-        come = λ x h. elim (set_come item_total item_exact s n item u x h) [
-          | inl was ↦ inl was
-          | inr e ↦ inr (contains_from (item ∷ []) x (inl e), rw (pushed, ← e) (Contains-push pending item))
-        ];
-        pending_kept = λ x h. rw pushed (Contains-append_left pending (item ∷ []) x h);
-        pending_come = λ x h. elim (Contains-push_cases pending item x (rw pushed at h)) [ inl was ↦ inl was | inr e ↦ inr (contains_from (item ∷ []) x (inl e)) ];
-        more = omega (arith, len2);
-        even = omega (arith, len2, ap length pushed, length-append pending (item ∷ []));
-      }
+-- an item that is added to a set
+pub set_added : (s n : BTreeSet Item) (item : Item) (is_new : Bool) → Updates item_cmp s n item true → IsOrdered item_cmp n → is_new ≡ not (contains item_cmp s item) → length n.keys ≡ length s.keys + cond is_new 1 0 → IsAdded s.keys item is_new n.keys
+set_added s n item is_new u o test len = record {
+  ordered = o;
+  kept = set_kept item_total item_exact s n item u;
+  added = set_has item_total item_exact s n item u item refl;
+  come = set_come item_total item_exact s n item u;
+  there = λ e. (btree_set_contains_iff item_total item_exact s item).0 (not_false (contains item_cmp s item) (sym e ∙ test));
+  len = len;
+}
 
-  -- an item that was observed
-  pub inserted_old : (added : Bool) → added ≡ false → added ≡ not (contains item_cmp s item) → length n.keys ≡ length s.keys + cond added 1 0 → pending2 ≡ pending → IsInserted s.keys pending (item ∷ []) n.keys pending2
-  inserted_old added is test len same =
-      let len2 : length n.keys ≡ length s.keys + 0 = rw is at len in
-      let there : contains item_cmp s item ≡ true = not_false (contains item_cmp s item) (sym is ∙ test) in
-      let here : Contains s.keys item = (btree_set_contains_iff item_total item_exact s item).0 there in
-      record {
-        ordered = λ h. o;
-        kept = set_kept item_total item_exact s n item u;
-        inserted = λ x h. set_has item_total item_exact s n item u x (contains_only item x h);
-        come = λ x h. elim (set_come item_total item_exact s n item u x h) [ inl was ↦ inl was | inr e ↦ inl (subst (Contains s.keys) e here) ];
-        pending_kept = λ x h. rw same h;
-        pending_come = λ x h. inl (rw same at h);
-        more = omega (arith, len2);
-        even = omega (arith, len2, ap length same);
-      }
+-- an item that is added, and is pending if it is new
+pub inserted_one : (o : List Item) (item : Item) (is_new : Bool) (o2 p p2 : List Item) → IsAdded o item is_new o2 → p2 ≡ cond is_new (p ++ item ∷ []) p → IsInserted o p (item ∷ []) o2 p2
+inserted_one o item true o2 p p2 a pushed = record {
+  ordered = λ h. a.ordered;
+  kept = a.kept;
+  inserted = λ x h. subst (Contains o2) (contains_only item x h) a.added;
+  come = λ x h. elim (a.come x h) [ inl was ↦ inl was | inr e ↦ inr (contains_from (item ∷ []) x (inl e), rw (pushed, ← e) (Contains-push p item)) ];
+  pending_kept = λ x h. rw pushed (Contains-append_left p (item ∷ []) x h);
+  pending_come = λ x h. elim (Contains-push_cases p item x (rw pushed at h)) [ inl was ↦ inl was | inr e ↦ inr (contains_from (item ∷ []) x (inl e)) ];
+  more = omega (arith, a.len);
+  even = omega (arith, a.len, ap length pushed, length-append p (item ∷ []));
+}
+inserted_one o item false o2 p p2 a same = record {
+  ordered = λ h. a.ordered;
+  kept = a.kept;
+  inserted = λ x h. subst (Contains o2) (contains_only item x h) a.added;
+  come = λ x h. elim (a.come x h) [ inl was ↦ inl was | inr e ↦ inl (subst (Contains o) e (a.there refl)) ];
+  pending_kept = λ x h. rw same h;
+  pending_come = λ x h. inl (rw same at h);
+  more = omega (arith, a.len);
+  even = omega (arith, a.len, ap length same);
+}
 
 -- the targets of a single edge that reads nothing, from the edges that leave the state
 pub steps_here : (ns : List Graph) (x : Item) (g : Graph) (q : ℕ) (es : List (Edge Noop)) → slice_get ns x.0 ≡ Some g → q ≡ x.1 → es ≡ filter (leaves q) g.edges.noops → map (λ e. (x.0, e.to)) es ≡ epsilon_targets ns x
@@ -102,3 +98,9 @@ steps_here ns x g q es at same is = rw (is, same, graph_is ns x.0 g at) refl
 pub steps_more : {L : Type 0} (done all : List Item) (es rest : List (Edge L)) (e : Edge L) (i : ℕ) (y : Item) → done ++ map (λ (f : Edge L). let z : Item = (i, f.to) in z) es ≡ all → es ≡ e ∷ rest → y ≡ (i, e.to)
     → (done ++ y ∷ []) ++ map (λ (f : Edge L). let z : Item = (i, f.to) in z) rest ≡ all
 steps_more done all es rest e i y h is same = rw (append_assoc, same) (rw is at h)
+
+-- and is one of them
+pub steps_have : {L : Type 0} (done all : List Item) (es rest : List (Edge L)) (e : Edge L) (i : ℕ) (y : Item) → done ++ map (λ (f : Edge L). let z : Item = (i, f.to) in z) es ≡ all → es ≡ e ∷ rest → y ≡ (i, e.to)
+    → Contains all y
+steps_have {L} done all es rest e i y h is same =
+    subst (λ (xs : List Item). Contains xs y) (steps_more done all es rest e i y h is same) (Contains-append_left (done ++ y ∷ []) (map (λ (f : Edge L). let z : Item = (i, f.to) in z) rest) y (Contains-push done y))

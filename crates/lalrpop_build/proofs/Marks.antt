@@ -1,16 +1,14 @@
 -- Items of one pattern, as marks at their states.
-use Rattle.std.proofs.Common.{◌≡◌, ◌≢◌, ℕ, zero, suc, ◌+◌, ◌<◌, ◌≤◌, ◌⊎◌, inl, inr, List, [], ◌∷◌, ◌++◌, length, get_or, drop, refl, ap, ap₂, sym, ◌∙◌, subst, arith, Bool, true, false, cond, ◌==◌, eqb-true, append_assoc, append-nil, length-append, drop-cons, add-one}
+use Rattle.std.proofs.Common.{◌≡◌, ℕ, zero, suc, ◌+◌, ◌<◌, ◌≤◌, ◌⊎◌, inl, inr, List, [], ◌∷◌, ◌++◌, length, get_or, drop, refl, ap, ap₂, sym, ◌∙◌, subst, arith, Bool, true, false, cond, not, ◌==◌, eqb-true, append_assoc, append-nil, drop-cons, add-one}
 use Rattle.std.specs.List.{Contains}
 use Rattle.std.specs.declared.cmp.Ordering.TheVariants.{Less}
 use Rattle.std.proofs.Math.ListN.{set, replicate, drop_of_length-le}
 use Rattle.std.proofs.lemmas.Bool.{cases_Bool, cases_lt}
 use Rattle.std.proofs.lemmas.Bool.Decides.{nat_tests}
 use Rattle.std.proofs.lemmas.List.{get_or-set_same, get_or-set_other, get_or-replicate, get_or_past, get_or_default, length-replicate}
-use Rattle.std.proofs.lemmas.List.Elements.{Contains-append_left, Contains-push, Contains-push_cases}
-use Rattle.lalrpop_book.proofs.Contained.{contains_only}
 use Rattle.lalrpop_dfa.specs.Automata.{Item}
 use Rattle.lalrpop_dfa.specs.Internal.Ascending.{item_cmp, AreAscendingItems}
-use Rattle.lalrpop_build.specs.Internal.Worklist.{IsInserted, marked_from, marked}
+use Rattle.lalrpop_build.specs.Internal.Worklist.{IsAdded, marked_from, marked}
 use Rattle.lalrpop_book.proofs.Members.{Has, has_from, contains_from}
 use Rattle.lalrpop_book.proofs.SortedLists.{sorted_nil, sorted_cons}
 use Rattle.lalrpop_build.proofs.Sets.{less_state, nothing}
@@ -25,8 +23,8 @@ in_rest i q rest x true h = inr h
 in_rest i q rest x false h = h
 
 -- what is read from a mark
-pub read_mark : (marks : List Bool) (k n : ℕ) (b d : Bool) → k ≡ n → b ≡ get_or marks k b → b ≡ d → k < length marks → get_or marks n false ≡ d
-read_mark marks k n b d same read is l = sym (sym is ∙ (read ∙ (get_or_default marks k b false l ∙ ap (λ j. get_or marks j false) same)))
+pub read_mark : (marks : List Bool) (k : ℕ) (b : Bool) → b ≡ get_or marks k b → k < length marks → b ≡ get_or marks k false
+read_mark marks k b read l = read ∙ get_or_default marks k b false l
 
 -- the item of pattern i at the state q
 abbrev at : ℕ → ℕ → Item
@@ -58,14 +56,19 @@ module _ (i : ℕ) where
   from_ascends [] q = sorted_nil item_cmp
   from_ascends (b ∷ marks) q = ascends_by marks q b (from_ascends marks (suc q))
 
-  longer_by : (q : ℕ) (xs ys : List Item) (b : Bool) → length xs ≡ length ys + 1 → length (cond b ((i, q) ∷ xs) xs) ≡ length (cond b ((i, q) ∷ ys) ys) + 1
-  longer_by q xs ys true e = omega (arith, e)
-  longer_by q xs ys false e = e
+  -- with one more mark, unless there was one
+  longer_here : (q : ℕ) (rest : List Item) (b : Bool) → length ((i, q) ∷ rest) ≡ length (cond b ((i, q) ∷ rest) rest) + cond (not b) 1 0
+  longer_here q rest true = omega arith
+  longer_here q rest false = omega arith
 
-  from_more : (marks : List Bool) (q k : ℕ) → k < length marks → get_or marks k false ≡ false → length (marked_from i q (set marks k true)) ≡ length (marked_from i q marks) + 1
-  from_more [] q k l e = absurd (omega arith)
-  from_more (b ∷ marks) q zero l e = let same : b ≡ false = e in rw (same, add-one) refl
-  from_more (b ∷ marks) q (suc k) l e = longer_by q (marked_from i (suc q) (set marks k true)) (marked_from i (suc q) marks) b (from_more marks (suc q) k (omega arith) e)
+  longer_by : (q n : ℕ) (xs ys : List Item) (b : Bool) → length xs ≡ length ys + n → length (cond b ((i, q) ∷ xs) xs) ≡ length (cond b ((i, q) ∷ ys) ys) + n
+  longer_by q n xs ys true e = omega (arith, e)
+  longer_by q n xs ys false e = e
+
+  from_more : (marks : List Bool) (q k : ℕ) → k < length marks → length (marked_from i q (set marks k true)) ≡ length (marked_from i q marks) + cond (not (get_or marks k false)) 1 0
+  from_more [] q k l = absurd (omega arith)
+  from_more (b ∷ marks) q zero l = longer_here q (marked_from i (suc q) marks) b
+  from_more (b ∷ marks) q (suc k) l = longer_by q (cond (not (get_or marks k false)) 1 0) (marked_from i (suc q) (set marks k true)) (marked_from i (suc q) marks) b (from_more marks (suc q) k (omega arith))
 
   pub marked_parts : (marks : List Bool) (x : Item) → Has (marked i marks) x → (x.0 ≡ i) × (get_or marks x.1 false ≡ true)
   unfolding marked
@@ -84,9 +87,9 @@ module _ (i : ℕ) where
   unfolding marked
   marked_ascends marks = from_ascends marks 0
 
-  marked_more : (marks : List Bool) (k : ℕ) → k < length marks → get_or marks k false ≡ false → length (marked i (set marks k true)) ≡ length (marked i marks) + 1
+  marked_more : (marks : List Bool) (k : ℕ) → k < length marks → length (marked i (set marks k true)) ≡ length (marked i marks) + cond (not (get_or marks k false)) 1 0
   unfolding marked
-  marked_more marks k l e = from_more marks 0 k l e
+  marked_more marks k l = from_more marks 0 k l
 
   pub none_marked : (marks : List Bool) (n : ℕ) → marks ≡ replicate n false → marked i marks ≡ []
   none_marked marks n e = nothing (marked i marks) (λ x h. unmarked x.1 (marked_parts marks x h).1)
@@ -98,56 +101,34 @@ module _ (i : ℕ) where
       ]
 
   -- ---- one item is marked
-  module _ (marks : List Bool) (item : Item) (of : item.0 ≡ i) (pending pending2 : List Item) where
-    same_item : (x : Item) → x.0 ≡ i → x.1 ≡ item.1 → item ≡ x
-    same_item x e f = ap₂ (λ j q. let z : Item = (j, q) in z) (of ∙ sym e) (sym f)
+  module _ (marks : List Bool) (item : Item) (of : item.0 ≡ i) where
+    was_marked : (b : Bool) → get_or marks item.1 false ≡ b → not b ≡ false → Contains (marked i marks) item
+    was_marked true is e = contains_from (marked i marks) item (marked_has marks item of is)
+    was_marked false is e = cc
 
-    pub inserted_new : (marks2 : List Bool) → item.1 < length marks → get_or marks item.1 false ≡ false → marks2 ≡ set marks item.1 true → pending2 ≡ pending ++ item ∷ [] → IsInserted (marked i marks) pending (item ∷ []) (marked i marks2) pending2
-    inserted_new marks2 l free is pushed = record {
-      ordered = λ h. marked_ascends marks2;
-      kept = kept;
-      inserted = λ x h. (let e : item ≡ x = contains_only item x h in subst (Contains (marked i marks2)) e (contains_from (marked i marks2) item here));
-      come = λ x h. come x (has_from (marked i marks2) x h);
-      pending_kept = λ x h. rw pushed (Contains-append_left pending (item ∷ []) x h);
-      pending_come = λ x h. elim (Contains-push_cases pending item x (rw pushed at h)) [ inl was ↦ inl was | inr e ↦ inr (contains_from (item ∷ []) x (inl e)) ];
-      more = omega (arith, long);
-      even = omega (arith, long, ap length pushed, length-append pending (item ∷ []));
-    }
-      where
-        long : length (marked i marks2) ≡ length (marked i marks) + 1
-        long = ap (λ ms. length (marked i ms)) is ∙ marked_more marks item.1 l free
+    same_or_kept : (k : ℕ) → (k ≡ item.1) ⊎ (get_or (set marks item.1 true) k false ≡ get_or marks k false)
+    same_or_kept k = elim (cases_Bool (k == item.1)) [
+      | inl t ↦ inl (eqb-true k item.1 t)
+      | inr f ↦ inr (get_or-set_other marks item.1 k true false (λ e. grind (arith, nat_tests)))
+    ]
 
-        here : Has (marked i marks2) item
-        here = marked_has marks2 item of (ap (λ ms. get_or ms item.1 false) is ∙ get_or-set_same marks item.1 true false l)
-
-        other : (k : ℕ) → k ≢ item.1 → get_or marks2 k false ≡ get_or marks k false
-        other k apart = ap (λ ms. get_or ms k false) is ∙ get_or-set_other marks item.1 k true false apart
-
-        kept : (x : Item) → Contains (marked i marks) x → Contains (marked i marks2) x
-        kept x h =
-            let r = marked_parts marks x (has_from (marked i marks) x h) in
-            let apart : x.1 ≢ item.1 = λ (e : x.1 ≡ item.1). (let t : get_or marks item.1 false ≡ true = subst (λ k. get_or marks k false ≡ true) e r.1 in let clash : true ≡ false = sym t ∙ free in cc) in
-            contains_from (marked i marks2) x (marked_has marks2 x r.0 (other x.1 apart ∙ r.1))
-
-        come : (x : Item) → Has (marked i marks2) x → Contains (marked i marks) x ⊎ (Contains (item ∷ []) x × Contains pending2 x)
-        come x h =
-            let r = marked_parts marks2 x h in
-            elim (cases_Bool (x.1 == item.1)) [
-              | inl t ↦ (let e : item ≡ x = same_item x r.0 (eqb-true x.1 item.1 t) in inr (contains_from (item ∷ []) x (inl e), rw (pushed, ← e) (Contains-push pending item)))
-              | inr f ↦ inl (contains_from (marked i marks) x (marked_has marks x r.0 (sym (other x.1 (λ e. grind (arith, nat_tests))) ∙ r.1)))
-            ]
-
-    pub inserted_old : (marks2 : List Bool) → get_or marks item.1 false ≡ true → marks2 ≡ marks → pending2 ≡ pending → IsInserted (marked i marks) pending (item ∷ []) (marked i marks2) pending2
-    inserted_old marks2 there is same = record {
-      ordered = λ h. marked_ascends marks2;
-      kept = λ x h. rw is h;
-      inserted = λ x h. (let e : item ≡ x = contains_only item x h in rw is (subst (Contains (marked i marks)) e (contains_from (marked i marks) item (marked_has marks item of there))));
-      come = λ x h. inl (rw is at h);
-      pending_kept = λ x h. rw same h;
-      pending_come = λ x h. inl (rw same at h);
-      more = omega (arith, ap (λ ms. length (marked i ms)) is);
-      even = omega (arith, ap (λ ms. length (marked i ms)) is, ap length same);
-    }
+    pub mark_added : item.1 < length marks → IsAdded (marked i marks) item (not (get_or marks item.1 false)) (marked i (set marks item.1 true))
+    mark_added l =
+        let marks2 : List Bool = set marks item.1 true in
+        let here : get_or marks2 item.1 false ≡ true = get_or-set_same marks item.1 true false l in
+        record {
+          ordered = marked_ascends marks2;
+          kept = λ x h. (let r = marked_parts marks x (has_from (marked i marks) x h) in
+              contains_from (marked i marks2) x (marked_has marks2 x r.0 (elim (same_or_kept x.1) [ inl e ↦ ap (λ k. get_or marks2 k false) e ∙ here | inr s ↦ s ∙ r.1 ])));
+          added = contains_from (marked i marks2) item (marked_has marks2 item of here);
+          come = λ x h. (let r = marked_parts marks2 x (has_from (marked i marks2) x h) in
+              elim (same_or_kept x.1) [
+                | inl e ↦ inr (ap₂ at (of ∙ sym r.0) (sym e))
+                | inr s ↦ inl (contains_from (marked i marks) x (marked_has marks x r.0 (sym s ∙ r.1)))
+              ]);
+          there = was_marked (get_or marks item.1 false) refl;
+          len = marked_more marks item.1 l;
+        }
 
   -- ---- the marks in a row
   pub marks_start : (marks : List Bool) (old : List Item) → old ++ marked_from i 0 (drop 0 marks) ≡ old ++ marked i marks

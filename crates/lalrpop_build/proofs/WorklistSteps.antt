@@ -1,5 +1,5 @@
 -- What the worklist keeps, and what it ends with.
-use Rattle.std.proofs.Common.{◌≡◌, ℕ, zero, suc, ◌+◌, ◌-◌, ◌*◌, ◌<◌, ◌≤◌, List, [], ◌∷◌, ◌++◌, length, map, get_or, ◌∙◌, refl, ap, sym, Bool, subst, arith, ◌⊎◌, inl, inr, true, ◌&&◌, ◌==◌, length-append}
+use Rattle.std.proofs.Common.{◌≡◌, ℕ, zero, suc, ◌+◌, ◌-◌, ◌*◌, ◌<◌, ◌≤◌, List, [], ◌∷◌, ◌++◌, length, get_or, ◌∙◌, refl, ap, sym, subst, arith, ◌⊎◌, inl, inr, true, ◌&&◌, ◌==◌, length-append}
 use Rattle.std.specs.List.{Contains, list_any, filter}
 use Rattle.std.proofs.lemmas.Bool.{or_cases, and_parts, and_from, eq-eqb, eqb-true}
 use Rattle.std.proofs.lemmas.List.Elements.{Contains-append_left, Contains-push_cases, Contains-push}
@@ -10,17 +10,17 @@ use Rattle.lalrpop_dfa.specs.Internal.Ascending.{item_cmp, AreAscendingItems}
 use Rattle.lalrpop_build.specs.Internal.Given.{IsItemOf, AreAutomata, AreItemsOf}
 use Rattle.lalrpop_nfa.specs.Path.{noop}
 use Rattle.lalrpop_build.specs.Internal.Subsets.{graph_at, has_noop, joins, is_epsilon_path, follows_by_epsilon, closed, all_items}
-use Rattle.lalrpop_build.specs.Internal.Worklist.{IsInserted, epsilon_targets, AreMarksOf, AreOfPattern, AreStatesBelow, marked}
+use Rattle.lalrpop_build.specs.Internal.Worklist.{IsInserted, epsilon_targets, AreOfPattern}
 use Rattle.lalrpop_nfa.specs.declared.edge.Edge.{Edge}
 use Rattle.lalrpop_nfa.specs.declared.edge.Noop.{Noop}
-use Rattle.lalrpop_book.proofs.Members.{Has, has_right, has_from, contains_from, has_map, map_has, has_filter, filter_has, any_from_has, has_from_any}
+use Rattle.lalrpop_book.proofs.Members.{Has, has_from, contains_from, has_map, map_has, has_filter, filter_has, any_from_has, has_from_any}
 use Rattle.lalrpop_book.proofs.Contained.{contains_none, contains_only}
 use Rattle.lalrpop_book.proofs.SortedLists.{sorted_nil, sorted_cons, sorted_same}
 use Rattle.std.specs.Prelude.{slice_get, Some}
 use Rattle.std.proofs.lemmas.Option.{slice_get-get_or}
-use Rattle.lalrpop_build.proofs.Marks.{marked_parts}
+use Rattle.lalrpop_build.proofs.Follows.{follows_place}
 use Rattle.lalrpop_build.proofs.Epsilon.{epsilon_self, epsilon_edge, epsilon_trans}
-use Rattle.lalrpop_build.proofs.Sets.{closed_ascends, closed_has, closed_parts, at_most_all_items, item_total}
+use Rattle.lalrpop_build.proofs.Sets.{closed_ascends, closed_parts, contains_closed, all_items_have, at_most_all_items, item_total}
 use Rattle.lalrpop_build.proofs.Targets.{compiled_at, graph_is}
 
 -- ---- one edge
@@ -45,16 +45,6 @@ step_inside ns x y a is h =
     let here : Has is.0.edges.noops e = rw (graph_is ns x.0 is.0 is.1.0) at f.0 in
     let l = c.1.1.noops_in e (contains_from is.0.edges.noops e here) in
     rw f.2 (is.0, (is.1.0, l.1))
-
--- the target of an edge that reads nothing has a mark
-pub step_below : (ns : List Graph) (x y : Item) (done : List Item) (es rest : List (Edge Noop)) (e : Edge Noop) (marks marks2 : List Bool) → AreAutomata ns → IsItemOf ns x → AreMarksOf ns x.0 marks → length marks2 ≡ length marks
-    → done ++ map (λ (f : Edge Noop). let z : Item = (x.0, f.to) in z) es ≡ epsilon_targets ns x → es ≡ e ∷ rest → y ≡ (x.0, e.to) → y.1 < length marks2
-step_below ns x y done es rest e marks marks2 a is room len all cut same =
-    let there : Has (epsilon_targets ns x) (x.0, e.to) =
-    rw (← all, cut) (has_right done (map (λ (f : Edge Noop). let z : Item = (x.0, f.to) in z) (e ∷ rest)) (x.0, e.to) (inl refl)) in
-    let (g, (at, l)) = step_inside ns x (x.0, e.to) a is there in
-    let state : y.1 ≡ e.to = ap (λ (z : Item). z.1) same in
-    omega (arith, l, state, len, room g at)
 
 pub step_led : (ns : List Graph) (z x y : Item) → IsItemOf ns x → follows_by_epsilon ns z x ≡ true → Has (epsilon_targets ns x) y → follows_by_epsilon ns z y ≡ true
 unfolding follows_by_epsilon
@@ -86,12 +76,12 @@ led_more ns given x y is led h =
     let (z, f) = has_from_any (λ z. follows_by_epsilon ns z x) given led in
     any_from_has (λ z. follows_by_epsilon ns z y) given z f.0 (step_led ns z x y is f.1 h)
 
-pub closing_start : (ns : List Graph) (given observed0 pending0 observed pending : List Item) → observed0 ≡ [] → pending0 ≡ [] → AreAscendingItems observed0 → AreItemsOf ns given → IsInserted observed0 pending0 given observed pending → IsClosing ns given observed pending
-closing_start ns given observed0 pending0 observed pending e f sorted inside n =
+pub closing_start : (ns : List Graph) (given observed0 pending0 observed pending : List Item) → observed0 ≡ [] → pending0 ≡ [] → AreItemsOf ns given → IsInserted observed0 pending0 given observed pending → IsClosing ns given observed pending
+closing_start ns given observed0 pending0 observed pending e f inside n =
     let from : (x : Item) → Contains observed x → Contains given x × Contains pending x =
     λ (x : Item) (h : Contains observed x). elim (n.come x h) [ inl was ↦ absurd (contains_none x (rw e at was)) | inr new ↦ new ] in
     record {
-      ordered = n.ordered sorted;
+      ordered = n.ordered (rw e (sorted_nil item_cmp));
       given_in = n.inserted;
       pending_in = λ x h. elim (n.pending_come x h) [ inl was ↦ absurd (contains_none x (rw f at was)) | inr new ↦ n.inserted x new ];
       followed = λ x h. inl (from x h).1;
@@ -120,6 +110,20 @@ closing_step ns given observed before pending x observed2 pending2 automata popp
       within = λ y h. elim (n.come y h) [ inl was ↦ k.within y was | inr new ↦ step_inside ns x y automata (k.within x here) (has_from (epsilon_targets ns x) y new.0) ];
       led = λ y h. elim (n.come y h) [ inl was ↦ k.led y was | inr new ↦ led_more ns given x y (k.within x here) (k.led x here) (has_from (epsilon_targets ns x) y new.0) ];
     }
+
+-- ---- all of it is in the closure
+led_closed : (ns : List Graph) (given : List Item) (x : Item) → IsItemOf ns x → list_any (λ y. follows_by_epsilon ns y x) given ≡ true → Contains (closed ns given) x
+unfolding closed
+led_closed ns given x is led = contains_from (closed ns given) x (has_filter (λ x. list_any (λ y. follows_by_epsilon ns y x) given) (all_items ns) x (all_items_have ns x is) led)
+
+pub given_closed : (ns : List Graph) (given : List Item) (x : Item) → AreItemsOf ns given → Contains given x → Contains (closed ns given) x
+given_closed ns given x inside h = led_closed ns given x (inside x h) (led_self ns given x h)
+
+pub targets_closed : (ns : List Graph) (given observed before pending : List Item) (x y : Item) → AreAutomata ns → before ≡ pending ++ x ∷ [] → IsClosing ns given observed before → Contains (epsilon_targets ns x) y → Contains (closed ns given) y
+targets_closed ns given observed before pending x y automata popped k h =
+    let here : Contains observed x = k.pending_in x (rw popped (Contains-push pending x)) in
+    let step = has_from (epsilon_targets ns x) y h in
+    led_closed ns given y (step_inside ns x y automata (k.within x here) step) (led_more ns given x y (k.within x here) (k.led x here) step)
 
 -- ---- the measure
 pub closing_few : (ns : List Graph) (given observed pending : List Item) → IsClosing ns given observed pending → length observed ≤ length (all_items ns)
@@ -165,9 +169,7 @@ led_in ns observed x y done h led =
 pub closing_done : (ns : List Graph) (given observed pending : List Item) → pending ≡ [] → IsClosing ns given observed pending → observed ≡ closed ns given
 closing_done ns given observed pending none k =
     sorted_same item_total observed (closed ns given) k.ordered (closed_ascends ns given)
-    (λ x h.
-    let (y, f) = has_from_any (λ y. follows_by_epsilon ns y x) given (k.led x (contains_from observed x h)) in
-    closed_has ns given x y (k.within x (contains_from observed x h)) f.0 f.1)
+    (λ x h. has_from (closed ns given) x (led_closed ns given x (k.within x (contains_from observed x h)) (k.led x (contains_from observed x h))))
     (λ x h.
     let (y, f) = (closed_parts ns given x h).1 in
     has_from observed x (led_in ns observed x y done (k.given_in y (contains_from given y f.0)) f.1))
@@ -193,19 +195,13 @@ pub nil_from : {X : Type 0} (xs : List X) → length xs ≡ 0 → xs ≡ []
 nil_from [] e = refl
 nil_from (x ∷ xs) e = absurd (omega (arith, e))
 
--- ---- the items of one pattern
-pub pattern_room : (ns : List Graph) (p k : ℕ) (g : Graph) (marks : List Bool) (long : ℕ) → k ≡ p → p < length ns → g ≡ get_or ns k g → long ≡ length g.kinds → length marks ≡ long → AreMarksOf ns p marks
-pattern_room ns p k g marks long same l read is len h at =
+-- the items that items of a pattern lead to are of that pattern too
+pub closed_room : (ns : List Graph) (given : List Item) (p k : ℕ) (g : Graph) (states : ℕ) → k ≡ p → p < length ns → g ≡ get_or ns k g → states ≡ length g.kinds → AreOfPattern p given → (x : Item) → Contains (closed ns given) x
+    → (x.0 ≡ p) × (x.1 < states)
+closed_room ns given p k g states same l read is of x h =
+    let ((f, (at, m)), (y, (z, led))) = (contains_closed ns given x).0 h in
+    let place : x.0 ≡ p = sym (follows_place ns y x led) ∙ of y z in
     let here : slice_get ns p ≡ Some g = slice_get-get_or ns p g l ∙ ap (λ x. Some x) (sym (read ∙ ap (λ j. get_or ns j g) same)) in
-    let both : Some g ≡ Some h = sym here ∙ at in
-    let e : g ≡ h = cc in
-    len ∙ (is ∙ ap (λ (x : Graph). length x.kinds) e)
-
-pub given_below : (ns : List Graph) (p : ℕ) (given : List Item) (marks : List Bool) → AreMarksOf ns p marks → AreItemsOf ns given → AreOfPattern p given → AreStatesBelow (length marks) given
-given_below ns p given marks room inside of x h =
-    let (g, (at, l)) = inside x h in
-    let here : slice_get ns p ≡ Some g = subst (λ i. slice_get ns i ≡ Some g) (of x h) at in
-    omega (arith, l, room g here)
-
-pub pending_place : (ns : List Graph) (given : List Item) (p : ℕ) (marks : List Bool) (before pending : List Item) (x : Item) → before ≡ pending ++ x ∷ [] → IsClosing ns given (marked p marks) before → x.0 ≡ p
-pending_place ns given p marks before pending x popped k = (marked_parts p marks x (has_from (marked p marks) x (k.pending_in x (rw popped (Contains-push pending x))))).0
+    let both : Some g ≡ Some f = sym here ∙ subst (λ j. slice_get ns j ≡ Some f) place at in
+    let e : g ≡ f = cc in
+    (place, omega (arith, m, is, ap (λ (x : Graph). length x.kinds) e))

@@ -1,6 +1,6 @@
 //! Where items lead: by reading nothing, and by a value.
 
-ghost use Rattle.std.specs.Prelude.{◌≡◌, ◌≢◌, ◌↔◌, ℕ, ◌<◌, ◌≤◌, IsTrue, ◌++◌, ◌∷◌, [], length, slice_get, replicate, false, Some, IfOk, OnOk};
+ghost use Rattle.std.specs.Prelude.{◌≡◌, ◌≢◌, ◌↔◌, ℕ, ◌<◌, ◌≤◌, IsTrue, ◌++◌, [], length, slice_get, Some, IfOk, OnOk};
 ghost use Rattle.std.specs.List.{range_with_len};
 ghost use Rattle.std.specs.List.Sorted.{IsSorted, IsStrictlySortedBy};
 ghost use Rattle.std.specs.Ordering.{nat_cmp};
@@ -12,15 +12,16 @@ ghost use Rattle.lalrpop_dfa.specs.Internal.LiveItems.{live_of};
 ghost use Rattle.lalrpop_dfa.specs.Internal.Split.{full, still_live, AreBefore, AreLivePatterns, AreWithin};
 ghost use Rattle.lalrpop_build.specs.Internal.Subsets.{closed, move};
 ghost use Rattle.lalrpop_build.specs.Internal.Transitions.{transition_cmp, AreTransitions};
-ghost use Rattle.lalrpop_build.specs.Internal.Worklist.{IsInserted, epsilon_targets, marked, AreOfPattern, AreStatesBelow, AreMarksOf, pattern_at};
+ghost use Rattle.lalrpop_build.specs.Internal.Worklist.{epsilon_targets, marked, AreOfPattern, pattern_at};
 
 use super::moves::targets_by;
-use super::ordered::follow_ordered;
 use super::transitions::Transition;
+use super::worklist::{Marks, Worklist};
 use lalrpop_book::NfaIndex;
 use lalrpop_dfa::{Item, ItemSet};
 use lalrpop_nfa::{Nfa, NfaStateIndex, Noop, REJECT};
 use std::alloc::{AllocError, Global};
+use std::collections::BTreeSet;
 use std::marker::Model;
 
 // Marks are used if a pattern has at most this many states for each of its given items.
@@ -32,7 +33,7 @@ const STATES_FOR_AN_ITEM: usize = 16;
 pub struct Workspace {
     targets: Vec<Item>,
     found: Vec<Item>,
-    worklist: Worklist,
+    worklist: Worklist<Marks>,
     parts: Parts,
 }
 
@@ -42,7 +43,7 @@ impl Model for Workspace {
     ghost Value = { ℕ };
 
     // The number of entries in it.
-    ghost view = { λ w. length w.targets.items + length w.found.items + length w.worklist.marks.items
+    ghost view = { λ w. length w.targets.items + length w.found.items + length w.worklist.seen.marks.items
         + length w.worklist.pending.items + length w.parts.live.items + length w.parts.live_patterns.items };
 }
 
@@ -55,7 +56,10 @@ impl Workspace {
             targets: Vec::new(alloc),
             found: Vec::new(alloc),
             worklist: Worklist {
-                marks: Vec::new(alloc),
+                seen: Marks {
+                    pattern: NfaIndex::new(0),
+                    marks: Vec::new(alloc),
+                },
                 pending: Vec::new(alloc),
             },
             parts: Parts {
@@ -73,74 +77,6 @@ struct Parts {
     live_patterns: Vec<usize>,
 }
 
-// The items of one pattern found so far, as marks at their states, and those of them that are still to be
-// followed.
-#[derive(Drop)]
-struct Worklist {
-    marks: Vec<bool>,
-    pending: Vec<Item>,
-}
-
-impl Worklist {
-    // Prepares it for a pattern with `states` states, none of which is found yet.
-    fn begin(&mut self, states: usize) -> Result<(), AllocError>
-        ensures marks { OnOk result (self.new.marks.items ≡ replicate states false) }
-        ensures pending { OnOk result (self.new.pending.items ≡ []) }
-    {
-        self.pending.clear();
-        self.marks.clear();
-        self.marks.resize(states, false)?;
-        Ok(())
-    }
-
-    // Records an item, unless it was found before.
-    fn insert(&mut self, item: Item) -> Result<(), AllocError>
-        requires { item.1 < length self.old.marks.items }
-        ensures inserted { OnOk result
-            (IsInserted (marked item.0 self.old.marks.items) self.old.pending.items
-            (item ∷ []) (marked item.0 self.new.marks.items) self.new.pending.items) }
-        ensures len { OnOk result (length self.new.marks.items ≡ length self.old.marks.items) }
-    {
-        let state = item.state().index();
-        if !self.marks[state] {
-            self.marks[state] = true;
-            self.pending.push(item)?;
-        }
-        Ok(())
-    }
-
-    // Records the items to which a single edge that reads nothing leads.
-    fn follow(&mut self, nfas: &[Nfa], item: Item) -> Result<(), AllocError>
-        requires automata { AreAutomata nfas.now }
-        requires inside { IsItemOf nfas.now item }
-        requires marks { AreMarksOf nfas.now item.0 self.old.marks.items }
-        ensures inserted { OnOk result
-            (IsInserted (marked item.0 self.old.marks.items) self.old.pending.items
-            (epsilon_targets nfas.now item)
-            (marked item.0 self.new.marks.items) self.new.pending.items) }
-        ensures len { OnOk result (length self.new.marks.items ≡ length self.old.marks.items) }
-    {
-        for edge in item.nfa(nfas).edges::<Noop>(item.state()) {
-            self.insert(item.to(edge.to))?;
-        }
-        Ok(())
-    }
-
-    fn insert_all(&mut self, pattern: NfaIndex, given: &[Item]) -> Result<(), AllocError>
-        requires pattern { AreOfPattern pattern given.now }
-        requires marks { AreStatesBelow (length self.old.marks.items) given.now }
-        ensures inserted { OnOk result
-            (IsInserted (marked pattern self.old.marks.items) self.old.pending.items
-            given.now (marked pattern self.new.marks.items) self.new.pending.items) }
-        ensures len { OnOk result (length self.new.marks.items ≡ length self.old.marks.items) }
-    {
-        for item in given {
-            self.insert(*item)?;
-        }
-        Ok(())
-    }
-}
-
 // Adds the items of a pattern whose states have a mark.
 fn push_states(pattern: NfaIndex, marks: &[bool], found: &mut Vec<Item>) -> Result<(), AllocError>
     ensures { OnOk result (found.new.items ≡ found.old.items ++ marked pattern marks.now) }
@@ -151,29 +87,6 @@ fn push_states(pattern: NfaIndex, marks: &[bool], found: &mut Vec<Item>) -> Resu
         }
     }
     Ok(())
-}
-
-// Adds the given items, all of one pattern, and all that they lead to by reading nothing. Marks cost a step for
-// each state of the pattern.
-fn follow_by_marks(
-    nfas: &[Nfa],
-    worklist: &mut Worklist,
-    pattern: NfaIndex,
-    given: &[Item],
-    found: &mut Vec<Item>,
-) -> Result<(), AllocError>
-    requires automata { AreAutomata nfas.now }
-    requires inside { AreItemsOf nfas.now given.now }
-    requires pattern { AreOfPattern pattern given.now }
-    requires within { pattern < length nfas.now }
-    ensures { OnOk result (found.new.items ≡ found.old.items ++ closed nfas.now given.now) }
-{
-    worklist.begin(nfas[pattern.index()].len())?;
-    worklist.insert_all(pattern, given)?;
-    while let Some(item) = worklist.pending.pop() {
-        worklist.follow(nfas, item)?;
-    }
-    push_states(pattern, &worklist.marks, found)
 }
 
 // Whether no edge that reads nothing leaves the item's state.
@@ -190,7 +103,7 @@ fn stays(nfas: &[Nfa], item: Item) -> bool
 fn follow_pattern(
     alloc: Global,
     nfas: &[Nfa],
-    worklist: &mut Worklist,
+    worklist: &mut Worklist<Marks>,
     pattern: NfaIndex,
     given: &[Item],
     found: &mut Vec<Item>,
@@ -207,10 +120,18 @@ fn follow_pattern(
             return Ok(());
         }
     }
-    if nfas[pattern.index()].len() / STATES_FOR_AN_ITEM <= given.len() {
-        return follow_by_marks(nfas, worklist, pattern, given, found);
+    let states = nfas[pattern.index()].len();
+    if states / STATES_FOR_AN_ITEM <= given.len() {
+        worklist.seen.begin(pattern, states)?;
+        worklist.follow_from(nfas, given)?;
+        return push_states(worklist.seen.pattern, &worklist.seen.marks, found);
     }
-    for item in follow_ordered(alloc, nfas, given)? {
+    let mut ordered = Worklist {
+        seen: BTreeSet::<Item>::new(alloc),
+        pending: Vec::new(alloc),
+    };
+    ordered.follow_from(nfas, given)?;
+    for item in ordered.seen {
         found.push(item)?;
     }
     Ok(())
@@ -238,7 +159,7 @@ fn end_of_pattern(items: &[Item], from: usize) -> usize
 fn follow_all(
     alloc: Global,
     nfas: &[Nfa],
-    worklist: &mut Worklist,
+    worklist: &mut Worklist<Marks>,
     given: &[Item],
     found: &mut Vec<Item>,
 ) -> Result<(), AllocError>

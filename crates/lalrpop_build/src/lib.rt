@@ -9,9 +9,9 @@ mod all_clashes;
 mod build;
 pub mod closure;
 mod moves;
-mod ordered;
 mod ties;
 mod transitions;
+mod worklist;
 
 pub use all_clashes::{Clash, clashes};
 pub use build::build_dfa;

@@ -1,11 +1,20 @@
 -- Items inserted into a worklist: each once, in the list of observed items and in the list of pending ones.
-use Rattle.std.specs.Prelude.{◌≡◌, ℕ, suc, ◌+◌, ◌<◌, ◌≤◌, ◌⊎◌, Bool, cond, List, [], ◌∷◌, length, map, slice_get, slice_index_or, Some}
+use Rattle.std.specs.Prelude.{◌≡◌, ℕ, suc, ◌+◌, ◌≤◌, ◌⊎◌, Bool, false, cond, List, [], ◌∷◌, length, map, slice_index_or}
 use Rattle.std.specs.List.{Contains, filter}
 use Rattle.lalrpop_nfa.specs.Graph.{Graph}
 use Rattle.lalrpop_dfa.specs.Automata.{Item}
 use Rattle.lalrpop_dfa.specs.Internal.Ascending.{AreAscendingItems}
 use Rattle.lalrpop_build.specs.Internal.Subsets.{graph_at}
 use Rattle.lalrpop_nfa.specs.Walk.{leaves}
+
+-- after the item is added, the observed items have become observed2; they are one more if it is new
+pub record IsAdded (observed : List Item) (item : Item) (is_new : Bool) (observed2 : List Item) : Type 0 where
+  pub ordered : AreAscendingItems observed2
+  pub kept : (x : Item) → Contains observed x → Contains observed2 x
+  pub added : Contains observed2 item
+  pub come : (x : Item) → Contains observed2 x → Contains observed x ⊎ (item ≡ x)
+  pub there : is_new ≡ false → Contains observed item
+  pub len : length observed2 ≡ length observed + cond is_new 1 0
 
 -- after the items are inserted, observed and pending have become observed2 and pending2
 pub record IsInserted (observed pending items observed2 pending2 : List Item) : Type 0 where
@@ -34,14 +43,6 @@ marked i marks = marked_from i 0 marks
 -- all items are of pattern i
 abbrev pub AreOfPattern : ℕ → List Item → Type 0
 AreOfPattern i items = (x : Item) → Contains items x → x.0 ≡ i
-
--- the states of the items are the first n
-abbrev pub AreStatesBelow : ℕ → List Item → Type 0
-AreStatesBelow n items = (x : Item) → Contains items x → x.1 < n
-
--- there is a mark for each state of pattern i
-abbrev pub AreMarksOf : List Graph → ℕ → List Bool → Type 0
-AreMarksOf ns i marks = (g : Graph) → slice_get ns i ≡ Some g → length marks ≡ length g.kinds
 
 -- the pattern of the item at a place
 abbrev pub pattern_at : List Item → ℕ → ℕ
