@@ -1,7 +1,6 @@
 -- Adding a set to the numbered ones.
 use Rattle.std.proofs.Common.{◌≡◌, ℕ, suc, ◌+◌, ◌<◌, inl, inr, List, [], ◌∷◌, ◌++◌, length, drop, get_or, refl, ap, ap₂, sym, ◌∙◌, subst, arith, Bool, true, false, cond, append_assoc, add-one, drop-cons}
 use Rattle.std.specs.Prelude.{slice_get, Option, Some}
-use Rattle.std.specs.BTreeMap.{BTreeMap, Updates}
 use Rattle.std.specs.List.{list_any}
 use Rattle.std.specs.List.Sorted.{IsSorted}
 use Rattle.std.specs.Ordering.{is_eq, is_lt, is_le, is_some_and, nat_cmp, ordering_then, ordering_reverse, partial_ordering_then}
@@ -17,11 +16,10 @@ use Rattle.lalrpop_dfa.specs.Automata.{Item}
 use Rattle.lalrpop_dfa.specs.Kernels.{Kernels, IsNumberOf, added}
 use Rattle.lalrpop_book.proofs.Pushed.{pushed_cases, pushed_keeps, pushed_last}
 use Rattle.lalrpop_nfa.specs.Compiled.{start_state}
-use Rattle.lalrpop_build.specs.Internal.Subsets.{starts_from, no_graph, move}
+use Rattle.lalrpop_build.specs.Internal.Subsets.{starts_from, no_graph}
 use Rattle.std.specs.Cmp.Lexicographic.{slice_cmp}
-use Rattle.std.proofs.lemmas.Bool.{cases_Bool}
 use Rattle.lalrpop_dfa.specs.Internal.Ascending.{item_cmp}
-use Rattle.lalrpop_build.specs.Internal.Transitions.{AreTransitions, transition_cmp}
+use Rattle.lalrpop_build.specs.Internal.Transitions.{transition_cmp}
 use Rattle.lalrpop_build.specs.Internal.ClassTransitions.{transitions_cmp}
 use Rattle.lalrpop_build.specs.declared.transitions.Transition.{Transition}
 use Rattle.lalrpop_build.specs.declared.build.scratch.Transitions.{Transitions}
@@ -29,13 +27,12 @@ use Rattle.lalrpop_dfa.specs.Internal.ItemOrder.{rejects_cmp, hash_of, items_cmp
 use Rattle.lalrpop_dfa.specs.Internal.OrderLaws.{item_total, set_total}
 use Rattle.lalrpop_dfa.specs.Internal.LiveItems.{live_of}
 use Rattle.lalrpop_build.specs.Internal.Stage.{Extends}
-use Rattle.lalrpop_build.specs.Internal.Expansion.{AddedTo, IsEdgeCache}
+use Rattle.lalrpop_build.specs.Internal.Expansion.{AddedTo}
 use Rattle.lalrpop_build.specs.Internal.Given.{AreAutomata, AreItemsOf}
 use Rattle.lalrpop_book.proofs.Members.{Has, has_from}
 use Rattle.lalrpop_build.proofs.Targets.{compiled_at}
 use Rattle.lalrpop_book.proofs.Orders.{then_equal, nat_exact, lists_exact}
 use Rattle.lalrpop_dfa.proofs.ItemTies.{item_exact}
-use Rattle.lalrpop_build.proofs.TransitionMoves.{leads_move}
 
 pub set_exact : CmpEqualImpliesEq set_cmp
 set_exact x y e =

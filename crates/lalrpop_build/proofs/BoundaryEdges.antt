@@ -1,9 +1,8 @@
 -- The test edges of a set, from boundary to boundary.
-use Rattle.std.proofs.Common.{◌≡◌, ℕ, ◌+◌, ◌<◌, ◌≤◌, ◌⊎◌, inl, inr, List, [], ◌∷◌, ◌++◌, length, map, get_or, refl, sym, ap, ◌∙◌, subst, Option, Some, true, false, add-one, zero, suc, arith}
+use Rattle.std.proofs.Common.{◌≡◌, ℕ, ◌+◌, ◌<◌, ◌≤◌, ◌⊎◌, inl, inr, List, [], ◌∷◌, ◌++◌, length, map, get_or, refl, sym, ap, ◌∙◌, subst, Some, true, false, add-one}
 use Rattle.std.specs.Prelude.{slice_get, Bool, IsTrue, ◌↔◌}
 use Rattle.std.specs.List.{Contains}
 use Rattle.std.proofs.lemmas.Bool.{cases_lt}
-use Rattle.std.proofs.lemmas.Option.{slice_get_read}
 use Rattle.std.proofs.lemmas.List.{length_push}
 use Rattle.lalrpop_book.specs.Range.{Range}
 use Rattle.lalrpop_nfa.specs.Graph.{Graph}
@@ -21,7 +20,7 @@ use Rattle.lalrpop_build.specs.Internal.ClassTransitions.{HaveTransitions}
 use Rattle.lalrpop_build.specs.declared.build.scratch.Transitions.{Transitions}
 use Rattle.lalrpop_book.proofs.Members.{has_at, contains_from}
 use Rattle.lalrpop_build.proofs.Builds.{edging_more}
-use Rattle.lalrpop_build.proofs.BoundaryBlocks.{IsBefore, block, block_kept, block_passed, block_stands, has_some_to}
+use Rattle.lalrpop_build.proofs.BoundaryBlocks.{IsBefore, block, block_kept, block_passed, block_stands}
 use Rattle.lalrpop_build.proofs.ClassCache.{range_at}
 
 abbrev pub range_of : Block → Range

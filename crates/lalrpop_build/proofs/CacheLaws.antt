@@ -1,5 +1,5 @@
 -- A cache of the sets that a set leads to, while it is filled and cleared and while sets are added.
-use Rattle.std.proofs.Common.{◌≡◌, ℕ, ◌+◌, ◌<◌, ◌≤◌, ◌⊎◌, inl, inr, List, [], length, slice_set, get_or, refl, sym, ap, ◌∙◌, subst, arith, Option, Some, None, true}
+use Rattle.std.proofs.Common.{◌≡◌, ℕ, ◌+◌, ◌<◌, ◌≤◌, inl, inr, List, [], length, slice_set, get_or, refl, sym, ap, ◌∙◌, subst, arith, Option, Some, None}
 use Rattle.std.specs.Prelude.{slice_get}
 use Rattle.std.specs.List.{Contains}
 use Rattle.std.specs.BTreeMap.{BTreeMap, get, IsEmpty, Updates}
@@ -12,7 +12,6 @@ use Rattle.lalrpop_alphabet.proofs.Marking.{set_at}
 use Rattle.lalrpop_dfa.specs.Automata.{Item}
 use Rattle.lalrpop_build.specs.Internal.Subsets.{move}
 use Rattle.lalrpop_build.specs.Internal.Transitions.{AreTransitions}
-use Rattle.lalrpop_build.specs.declared.transitions.Transition.{Transition}
 use Rattle.lalrpop_build.proofs.TransitionMoves.{leads_move}
 use Rattle.lalrpop_build.specs.Internal.Expansion.{IsEdgeCache, IsClassCache, IsEmptyCache}
 use Rattle.lalrpop_build.specs.Internal.TargetCache.{IsFound, AreNumbersIn, OnlyAdds, IsCacheOf}

@@ -15,7 +15,7 @@ use Rattle.lalrpop_build.specs.Internal.Subsets.{move}
 use Rattle.lalrpop_build.specs.Internal.Transitions.{AreTransitions}
 use Rattle.lalrpop_build.specs.Internal.Blocks.{has_edges, blocks_to, blocks_of}
 use Rattle.lalrpop_build.specs.Internal.Labelled.{Labelled}
-use Rattle.lalrpop_build.specs.Internal.TargetCache.{AreNumbersIn, IsFound, OnlyAdds, IsCacheOf}
+use Rattle.lalrpop_build.specs.Internal.TargetCache.{AreNumbersIn, OnlyAdds, IsCacheOf}
 use Rattle.lalrpop_build.specs.Internal.Stage.{Stage, stage, IsExpansion, Extends, IsSameRow, IsTarget, IsBlockDone}
 use Rattle.lalrpop_build.specs.Internal.Expansion.{AddedTo, IsAdded}
 use Rattle.lalrpop_build.specs.declared.build.sets.Sets.{Sets}

@@ -1,6 +1,5 @@
 -- How far the construction of an automaton is.
-use Rattle.std.specs.Prelude.{◌≡◌, ◌≢◌, ℕ, ◌-◌, ◌+◌, ◌⊎◌, List, [], ◌∷◌, ◌++◌, length, slice_get, Option, Some, true, false}
-use Rattle.lalrpop_book.specs.Range.{Range}
+use Rattle.std.specs.Prelude.{◌≡◌, ℕ, ◌-◌, ◌⊎◌, List, [], ◌∷◌, ◌++◌, length, slice_get, Some, true, false}
 use Rattle.lalrpop_dfa.specs.Kernels.{Kernels}
 use Rattle.lalrpop_dfa.specs.Automata.{Item}
 use Rattle.lalrpop_build.specs.Internal.Given.{AreAutomata, AreItemsOf}

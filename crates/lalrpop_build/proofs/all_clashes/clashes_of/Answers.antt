@@ -1,4 +1,4 @@
-use Rattle.std.proofs.Common.{ℕ, length, map, subst}
+use Rattle.std.proofs.Common.{ℕ, map, subst}
 use Rattle.std.proofs.lemmas.Result.{err_from_is_err_and}
 use Rattle.lalrpop_build.specs.Internal.Ties.{AreOwn}
 use Rattle.lalrpop_build.proofs.AllClashes.{distinct_fault}

@@ -1,4 +1,4 @@
-use Rattle.std.proofs.Common.{◌≡◌, ◌∙◌, ◌∷◌, [], List, ap, ap₂, refl}
+use Rattle.std.proofs.Common.{◌≡◌, ◌∙◌, ◌∷◌, [], List, ap₂, refl}
 use Rattle.std.specs.List.{AllZip}
 use Rattle.lalrpop_dfa.specs.Internal.LiveItems.{live_of}
 use Rattle.lalrpop_dfa.specs.Internal.Split.{still_live}

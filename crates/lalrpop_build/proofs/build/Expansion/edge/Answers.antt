@@ -1,5 +1,5 @@
 use Rattle.std.proofs.Common.{◌≡◌, ◌<◌, ◌∙◌, ℕ, length, map, ap, subst, arith, true}
-use Rattle.std.specs.Prelude.{slice_get, Some, not}
+use Rattle.std.specs.Prelude.{slice_get, not}
 use Rattle.lalrpop_build.specs.Internal.Blocks.{has_edges}
 use Rattle.lalrpop_build.specs.Internal.Stage.{IsTarget}
 use Rattle.lalrpop_build.proofs.StageLaws.{number_read, target_of_found, block_written}

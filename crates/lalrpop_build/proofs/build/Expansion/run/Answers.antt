@@ -1,8 +1,5 @@
-use Rattle.std.proofs.Common.{◌≡◌, ◌∙◌, List, length, ap, sym, subst, arith, Some}
-use Rattle.std.specs.Prelude.{slice_get}
+use Rattle.std.proofs.Common.{◌≡◌, length, ap, arith}
 use Rattle.std.proofs.lemmas.Result.{err_from_is_err_and}
-use Rattle.lalrpop_dfa.specs.Automata.{Item}
-use Rattle.lalrpop_build.specs.Internal.Expansion.{IsBuiltTo}
 use Rattle.lalrpop_build.specs.Internal.Stage.{Stage}
 use Rattle.lalrpop_build.proofs.Builds.{built_end, built_few, built_clash, next_given, next_none, at_rows}
 use Rattle.lalrpop_build.proofs.build.Expansion.run.Goals as goal

@@ -1,5 +1,4 @@
-use Rattle.std.proofs.Common.{◌<◌, length, ◌∙◌, arith}
-use Rattle.std.specs.Prelude.{None}
+use Rattle.std.proofs.Common.{◌∙◌, arith}
 use Rattle.std.proofs.lemmas.List.{length-set}
 use Rattle.lalrpop_build.specs.declared.build.scratch.Transitions.{Transitions}
 use Rattle.lalrpop_build.proofs.Noted.{noted_less, pushed_within}

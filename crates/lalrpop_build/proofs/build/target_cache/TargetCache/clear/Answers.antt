@@ -1,4 +1,4 @@
-use Rattle.std.proofs.Common.{get_or, length, arith, ◌∙◌, refl}
+use Rattle.std.proofs.Common.{get_or, arith, ◌∙◌, refl}
 use Rattle.std.specs.Prelude.{None}
 use Rattle.std.proofs.lemmas.List.{length-set, get_or_default}
 use Rattle.std.proofs.lemmas.List.Elements.{Contains-get_or}
