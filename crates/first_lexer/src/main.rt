@@ -1,4 +1,4 @@
-//! The least program over a lexer: two terminals, and the tokens of one text.
+//! The smallest program with a lexer: two terminals, and the tokens of one text.
 #![tactic(auto)]
 
 use anyhow::Result;
