@@ -1,8 +1,8 @@
 //! A text with its tokens marked, as HTML or in colours for a terminal. The text can be read back from either.
 #![tactic(auto)]
 
-mod colours;
+mod coloured;
 mod page;
 
-pub use colours::ansi;
+pub use coloured::ansi;
 pub use page::html;

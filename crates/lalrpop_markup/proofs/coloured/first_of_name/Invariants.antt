@@ -1,6 +1,6 @@
 use Rattle.std.proofs.Common.{◌≡◌, ℕ, ◌<◌, false, get_or, []}
 use Rattle.std.specs.Str.{bytes_eq}
-use Rattle.lalrpop_markup.proofs.colours.first_of_name.Given as goal
+use Rattle.lalrpop_markup.proofs.coloured.first_of_name.Given as goal
 
 -- no rule so far has this name
 abbrev pub invariant-loop-number : goal.invariant-loop-number

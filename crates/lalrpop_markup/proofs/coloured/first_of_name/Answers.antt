@@ -1,6 +1,6 @@
 use Rattle.std.proofs.Common.{◌∙◌, arith}
 use Rattle.lalrpop_markup.proofs.Names.{before_rule, first_before, first_itself}
-use Rattle.lalrpop_markup.proofs.colours.first_of_name.Goals as goal
+use Rattle.lalrpop_markup.proofs.coloured.first_of_name.Goals as goal
 
 pub has_name-requires : goal.has_name-requires
 has_name-requires c = before_rule c.args.lexer.now.names c.args.index c.loop-number.number c.args.name.now c.requires (omega arith)

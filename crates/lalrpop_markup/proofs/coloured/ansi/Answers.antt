@@ -7,7 +7,7 @@ use Rattle.lalrpop_markup.specs.Terminal.{painted, unpainted}
 use Rattle.lalrpop_markup.proofs.Characters.{one_more}
 use Rattle.lalrpop_markup.proofs.Colours.{none_noted, same_slots}
 use Rattle.lalrpop_markup.proofs.TerminalReadings.{pieces_out}
-use Rattle.lalrpop_markup.proofs.colours.ansi.Goals as goal
+use Rattle.lalrpop_markup.proofs.coloured.ansi.Goals as goal
 
 pub painting-init : goal.painting-init
 painting-init c =

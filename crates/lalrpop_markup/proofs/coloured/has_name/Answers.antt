@@ -1,7 +1,7 @@
 use Rattle.std.proofs.Common.{ap, ◌∙◌}
 use Rattle.std.specs.Str.{bytes_eq}
 use Rattle.lalrpop_markup.proofs.Names.{found_name, no_name_found}
-use Rattle.lalrpop_markup.proofs.colours.has_name.Goals as goal
+use Rattle.lalrpop_markup.proofs.coloured.has_name.Goals as goal
 
 pub returns-in-Some : goal.returns-in-Some
 returns-in-Some c =

@@ -1,6 +1,6 @@
 use Rattle.std.proofs.Common.{◌≡◌, ◌++◌, flat_map, string_bytes}
 use Rattle.lalrpop_markup.specs.Terminal.{visible_in}
-use Rattle.lalrpop_markup.proofs.colours.push_characters.Given as goal
+use Rattle.lalrpop_markup.proofs.coloured.push_characters.Given as goal
 
 -- the characters so far
 abbrev pub invariant-loop-c : goal.invariant-loop-c

@@ -4,7 +4,7 @@ use Rattle.lalrpop_rules.specs.CutToEnd.{pieces_left, GivesPiece}
 use Rattle.lalrpop_rules.specs.declared.item.Item.{Item}
 use Rattle.lalrpop_markup.specs.Terminal.{painted}
 use Rattle.lalrpop_markup.specs.Internal.Colours.{AreColours}
-use Rattle.lalrpop_markup.proofs.colours.ansi.Given as goal
+use Rattle.lalrpop_markup.proofs.coloured.ansi.Given as goal
 
 -- the pieces so far, and right colours
 abbrev pub invariant-painting : goal.invariant-painting

@@ -4,7 +4,7 @@ use Rattle.std.proofs.lemmas.List.{map-id}
 use Rattle.std.proofs.lemmas.Iterator.{YieldsList-from_chars}
 use Rattle.std.proofs.lemmas.Iterator.Consumers.{YieldsList-end}
 use Rattle.lalrpop_markup.specs.Terminal.{visible}
-use Rattle.lalrpop_markup.proofs.colours.push_plain.Goals as goal
+use Rattle.lalrpop_markup.proofs.coloured.push_plain.Goals as goal
 
 pub returns : goal.returns
 returns c =
