@@ -16,7 +16,8 @@ pub mod failing;
 mod input;
 #[cfg(test)]
 mod longest;
-pub mod shared;
+#[cfg(test)]
+mod shared;
 #[cfg(test)]
 mod shy_kernel;
 #[cfg(test)]

@@ -1,4 +1,4 @@
-//! What the tests of more than one module use, here and in `tokens_tests`.
+//! What the tests of more than one module use.
 ghost use Rattle.std.specs.Prelude.{◌≡◌, false};
 
 use lalrpop_lexer::lexer::dfa::Precedence;
@@ -9,12 +9,12 @@ use std::alloc::Global;
 use std::io::{Read, Write};
 use std::process::Abort;
 
-pub fn expect_same(rt: &impl Abort, found: &str, wanted: &str) {
+pub(crate) fn expect_same(rt: &impl Abort, found: &str, wanted: &str) {
     assert_eq!(rt; found, wanted);
 }
 
-/// The trees and the precedences of lines of terminals.
-pub fn terminals(alloc: Global, lines: &[u8]) -> Option<(Vec<Regex>, Vec<Precedence>)> {
+// The trees and the precedences of lines of terminals.
+pub(crate) fn terminals(alloc: Global, lines: &[u8]) -> Option<(Vec<Regex>, Vec<Precedence>)> {
     match read_terminals(alloc, lines) {
         Ok(
             Terminals::All {
@@ -26,8 +26,8 @@ pub fn terminals(alloc: Global, lines: &[u8]) -> Option<(Vec<Regex>, Vec<Precede
     }
 }
 
-/// A run that finds the longest match, or one that cuts all of the text.
-pub fn run_over<R: Read, W: Write>(
+// A run that finds the longest match, or one that cuts all of the text.
+pub(crate) fn run_over<R: Read, W: Write>(
     alloc: Global,
     all: bool,
     reader: &mut Watched<R>,
@@ -44,8 +44,8 @@ pub fn run_over<R: Read, W: Write>(
     }
 }
 
-/// The outcome of a run whose reader and writer don't fail, and what it writes.
-pub fn answered_by(
+// The outcome of a run whose reader and writer don't fail, and what it writes.
+pub(crate) fn answered_by(
     rt: &impl Abort,
     alloc: Global,
     all: bool,
@@ -59,8 +59,8 @@ pub fn answered_by(
     Ok((outcome, writer.into_inner()))
 }
 
-/// The status of a run for the longest match, and the line that it writes.
-pub fn answered(
+// The status of a run for the longest match, and the line that it writes.
+pub(crate) fn answered(
     rt: &impl Abort,
     alloc: Global,
     input: &[u8],

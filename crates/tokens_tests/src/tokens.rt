@@ -1,17 +1,13 @@
 //! Lexers from patterns and from lines, and the tokens they cut.
 
 use lexdfa_lib::outcome_line;
-use program_tests::shared::{expect_same, terminals};
 use std::alloc::{AllocError, Global};
 use std::fmt::Write;
 use std::process::Abort;
 use tokens_lib::{BuildError, Lexer, Token, lexer_of};
 
 fn lexer_of_words(rt: &impl Abort, alloc: Global) -> Lexer {
-    let lines = b"1 l if\n0 r [a-z]+\n0 l  \n";
-    let (trees, precedences) = terminals(alloc, lines).expect(rt, "terminals");
-    assert!(rt; trees.len() == precedences.len());
-    Lexer::new(alloc, trees, precedences).expect(rt, "a lexer")
+    lexer_of(alloc, b"1 l if\n0 r [a-z]+\n0 l  \n").expect(rt, "a lexer")
 }
 
 // A token in brackets, with the number of its pattern.
@@ -39,7 +35,7 @@ fn cut(alloc: Global, lexer: &Lexer, text: &str) -> Result<String, AllocError> {
 
 fn expect_cut(rt: &impl Abort, alloc: Global, lexer: &Lexer, text: &str, wanted: &str) {
     let line = cut(alloc, lexer, text).expect(rt, "memory");
-    expect_same(rt, &line, wanted);
+    assert_eq!(rt; line.as_str(), wanted);
 }
 
 #[test]
@@ -60,7 +56,7 @@ fn answer(alloc: Global, lines: &[u8]) -> Result<String, AllocError> {
 
 fn expect_refused(rt: &impl Abort, alloc: Global, lines: &[u8], wanted: &str) {
     let line = answer(alloc, lines).expect(rt, "memory");
-    expect_same(rt, &line, wanted);
+    assert_eq!(rt; line.as_str(), wanted);
 }
 
 #[test]
