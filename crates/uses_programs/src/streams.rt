@@ -9,7 +9,7 @@ ghost use Rattle.lalrpop_lexer.specs.Terminals.{AreTerminals};
 ghost use Rattle.lexdfa_lib.specs.Watch.{AppendsPrefix, ReadsAll};
 
 use lalrpop_lexer::lexer::dfa::DfaConstructionError;
-use lexdfa_lib::{Outcome, RunError, Watched, read_whole, reported, write_whole};
+use lexdfa_lib::{Outcome, RunError, Watched, outcome_of_error, read_whole, write_whole};
 use std::alloc::{AllocError, Global};
 use std::io::{Read, Write};
 
@@ -58,11 +58,11 @@ pub fn may_be_read_again<R: Read>(alloc: Global, reader: &mut Watched<R>) -> boo
 }
 
 // What the builder reports, as an outcome.
-// Needs lexdfa_lib::reported: ok, memory.
+// Needs lexdfa_lib::outcome_of_error: ok, memory.
 pub fn told(error: DfaConstructionError) -> Result<Outcome, AllocError>
     ensures ok { IfOk result (λ outcome. (bytes : List ℕ) (ts : List Tree) (ps : List ℕ)
         → AreTerminals (lines bytes) ts ps → IsReport ts ps error → IsReported bytes outcome) }
     ensures memory { OnErr result (error ≡ DfaConstructionError.OutOfMemory) }
 {
-    reported(error)
+    outcome_of_error(error)
 }
