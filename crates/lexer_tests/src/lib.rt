@@ -1,7 +1,6 @@
 //! Tests of the public calls of the automata, with values: of one tree, its ranges, states, edges and refusals; of many, their
-//! states and edges, clashes, whole texts, runs, how they are written, order, equality and copies. And of named rules: pieces,
-//! first matches, files and pages. Kernel sets and the partition of ranges are tested in `memory_tests`. They are a crate of their
-//! own, so that no layer is proved a second time for its tests.
+//! states and edges, clashes, whole texts, runs, how they are written, order, equality and copies. Kernel sets and the partition of
+//! ranges are tested in `memory_tests`. They are a crate of their own, so that no layer is proved a second time for its tests.
 #![tactic(auto)]
 
 #[cfg(test)]
@@ -28,16 +27,6 @@ mod order;
 mod printed;
 #[cfg(test)]
 mod ranges;
-#[cfg(test)]
-mod rule_files;
-#[cfg(test)]
-mod rule_finds;
-#[cfg(test)]
-mod rule_pages;
-#[cfg(test)]
-mod rule_pieces;
-#[cfg(test)]
-mod rules;
 #[cfg(test)]
 mod runs;
 #[cfg(test)]

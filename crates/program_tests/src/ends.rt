@@ -71,13 +71,7 @@ fn run_into(
     kind: Option<io::ErrorKind>,
 ) -> (Result<Outcome, RunError>, bool, FailsAfter) {
     let mut reader = Watched::new(job.input);
-    let mut writer = Watched::new(FailsAfter {
-        taken: Vec::new(alloc),
-        room,
-        kind,
-        calls: 0,
-        flushes: 0,
-    });
+    let mut writer = Watched::new(FailsAfter::new(alloc, room, kind));
     let result = run_over(alloc, job.all, &mut reader, job.text, &mut writer);
     let named = !reader.failed() && writer.failed() == result.is_err();
     (result, named, writer.into_inner())

@@ -1,5 +1,7 @@
 //! A reader and a writer that fail.
+ghost use Rattle.std.specs.Prelude.{◌≡◌};
 
+use std::alloc::Global;
 use std::io;
 use std::io::{Read, Write};
 
@@ -37,6 +39,21 @@ pub struct FailsAfter {
     pub kind: Option<io::ErrorKind>,
     pub calls: usize,
     pub flushes: usize,
+}
+
+impl FailsAfter {
+    /// Has room for this many bytes.
+    pub fn new(alloc: Global, room: usize, kind: Option<io::ErrorKind>) -> FailsAfter
+        ensures room { result.room ≡ room }
+    {
+        FailsAfter {
+            taken: Vec::new(alloc),
+            room,
+            kind,
+            calls: 0,
+            flushes: 0,
+        }
+    }
 }
 
 impl Write for FailsAfter {

@@ -141,13 +141,7 @@ fn leaves_a_prefix(
     room: usize,
     kind: Option<io::ErrorKind>,
 ) -> bool {
-    let mut writer = Watched::new(FailsAfter {
-        taken: Vec::new(alloc),
-        room,
-        kind,
-        calls: 0,
-        flushes: 0,
-    });
+    let mut writer = Watched::new(FailsAfter::new(alloc, room, kind));
     let result = write_job(alloc, lexer, job, &mut writer);
     let ended = matches!(&result, Err(RunError::Write)) && writer.failed();
     let end = writer.into_inner();
@@ -204,13 +198,7 @@ fn clashes_are_written(rt: HostRuntime) {
 }
 
 fn clashes_leave_a_prefix(alloc: Global, lines: &[u8], room: usize) -> bool {
-    let mut writer = Watched::new(FailsAfter {
-        taken: Vec::new(alloc),
-        room,
-        kind: Some(io::ErrorKind::Other),
-        calls: 0,
-        flushes: 0,
-    });
+    let mut writer = Watched::new(FailsAfter::new(alloc, room, Some(io::ErrorKind::Other)));
     let result = write_clashes(alloc, b"0 l a\n0 l a\n", &mut writer);
     let ended = matches!(&result, Err(RunError::Write)) && writer.failed();
     ended && Some(writer.into_inner().taken.as_slice()) == lines.get(..room)

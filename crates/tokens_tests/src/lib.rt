@@ -2,10 +2,10 @@
 #![tactic(auto)]
 
 #[cfg(test)]
+mod clashes;
+#[cfg(test)]
 mod files;
 #[cfg(test)]
 mod items;
-#[cfg(test)]
-mod pages;
 #[cfg(test)]
 mod tokens;

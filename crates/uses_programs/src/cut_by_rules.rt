@@ -1,7 +1,8 @@
 //! The lines of the pieces of a text, and of clashes, by named rules.
-ghost use Rattle.std.specs.Prelude.{◌≡◌, ℕ, List, [], Option, flat_map, true, false, IfOk, IfErr};
+ghost use Rattle.std.specs.Prelude.{◌≡◌, ℕ, List, [], Option, Some, None, flat_map, true, false, IfOk, IfErr, IfSome, IfNone};
 ghost use Rattle.std.specs.Io.KnownBytes.{Appends};
 ghost use Rattle.lalrpop_lexer.specs.Clashes.{Entry};
+ghost use Rattle.lalrpop_lexer.specs.Position.{position_of};
 ghost use Rattle.lalrpop_rules.specs.RuleSet.{names_of};
 ghost use Rattle.lexdfa_lib.specs.Watch.{AppendsPrefix};
 ghost use Rattle.tokens_lib.specs.ItemLines.{WritesItems, WritesItemsPrefix};
@@ -13,7 +14,7 @@ use lalrpop_rules::{Rule, RuleLexer, RulesError};
 use lexdfa_lib::{RunError, Watched};
 use std::alloc::Global;
 use std::io::Write;
-use tokens_lib::{Layout, LineForm, rule_clashes, write_items, write_rule_clashes};
+use tokens_lib::{Layout, rule_clashes, write_items, write_rule_clashes};
 
 // The lines of two texts, one after the other, and the first fault of each.
 // Needs tokens_lib::write_items: written, good, no_late_write.
@@ -56,22 +57,24 @@ pub fn fails_to_write<W: Write>(
     )
 }
 
-// The place of the first fault, as line and column.
-// Needs tokens_lib::write_items: boundary.
+// The lines of a text, and the place of its first fault, as line and column.
+// Needs tokens_lib::write_items: written, boundary.
 pub fn place_of_first_fault<W: Write>(
     alloc: Global,
     lexer: &RuleLexer,
+    layout: &Layout<'_>,
     text: &str,
     writer: &mut Watched<W>,
 ) -> Result<Option<Position>, RunError>
     requires writer_good { writer.old.failed ≡ false }
+    ensures place { IfOk result (λ found. IfSome found (λ place. (at : ℕ)
+        × (WritesItems lexer.now layout.now text.now
+        (W.contents writer.old.inner) (W.contents writer.new.inner) (Some at)
+        × (place ≡ position_of text.now at)))) }
+    ensures none { IfOk result (λ found. IfNone found (WritesItems lexer.now layout.now text.now
+        (W.contents writer.old.inner) (W.contents writer.new.inner) None)) }
 {
-    let layout = Layout {
-        form: LineForm::Json,
-        recovers: true,
-        file: None,
-    };
-    match write_items(alloc, lexer, &layout, text, writer)? {
+    match write_items(alloc, lexer, layout, text, writer)? {
         Some(at) => Ok(Some(Position::of(text, at))),
         None => Ok(None),
     }

@@ -1,5 +1,6 @@
 //! The page of a text, as HTML or in colours for a terminal.
-ghost use Rattle.std.specs.Prelude.{◌≡◌, ℕ, List, Option, true, false, IfOk};
+ghost use Rattle.std.specs.Prelude.{◌≡◌, ℕ, List, Option, Some, None, true, false, IfOk, IfSome, IfNone};
+ghost use Rattle.lalrpop_lexer.specs.Position.{position_of};
 ghost use Rattle.tokens_lib.specs.PageWritten.{WritesPage, WritesPagePrefix};
 
 use lalrpop_lexer::Position;
@@ -50,17 +51,24 @@ pub fn fails_to_write<W: Write>(
     )
 }
 
-// The place of the first fault, as people count it.
-// Needs tokens_lib::write_page: boundary.
+// The page of a text, and the place of its first fault, as line and column.
+// Needs tokens_lib::write_page: written, boundary.
 pub fn place_of_first_fault<W: Write>(
     alloc: Global,
     lexer: &RuleLexer,
+    markup: Markup,
     text: &str,
     writer: &mut Watched<W>,
 ) -> Result<Option<Position>, RunError>
     requires writer_good { writer.old.failed ≡ false }
+    ensures place { IfOk result (λ found. IfSome found (λ place. (at : ℕ)
+        × (WritesPage lexer.now markup text.now
+        (W.contents writer.old.inner) (W.contents writer.new.inner) (Some at)
+        × (place ≡ position_of text.now at)))) }
+    ensures none { IfOk result (λ found. IfNone found (WritesPage lexer.now markup text.now
+        (W.contents writer.old.inner) (W.contents writer.new.inner) None)) }
 {
-    match write_page(alloc, lexer, Markup::Ansi, text, writer)? {
+    match write_page(alloc, lexer, markup, text, writer)? {
         Some(at) => Ok(Some(Position::of(text, at))),
         None => Ok(None),
     }

@@ -1,8 +1,6 @@
 //! First matches anywhere in a text, by a lexer and by named rules.
 
-use crate::built::{expect, halves};
-use crate::lookaheads::lexer_of;
-use crate::rules::rule_lexer;
+use crate::rules::{expect, halves, rule_lexer, word_lexer};
 use lalrpop_rules::find;
 use std::alloc::{AllocError, Global};
 
@@ -16,7 +14,7 @@ const FOUND: &str = r#"
 "#;
 
 fn first(alloc: Global, text: &str) -> Result<String, AllocError> {
-    let lexer = lexer_of(alloc, r"'if' [a-z]+ \x20+ '=='")?;
+    let lexer = word_lexer(alloc)?;
     match find(&lexer, text) {
         Some(token) => {
             let index = token.index.index();

@@ -1,10 +1,53 @@
 //! Lexers of named rules, what is expected of them, and rules that are refused.
 
-use crate::built::{expect, halves};
+use lalrpop_lexer::Lexer;
+use lalrpop_lexer::lexer::dfa::Precedence;
+use lalrpop_lexer::lexer::re::{Regex, RegexError, parse_literal, parse_regex};
 use lalrpop_rules::{Item, Rule, RuleLexer};
 use std::alloc::{AllocError, Global};
+use std::process::Abort;
 
-/// The lexer of the rules. Any error is reported as out of memory, which ends a test.
+/// The call has this answer.
+pub(crate) fn expect(rt: &impl Abort, found: Result<String, AllocError>, wanted: &str) {
+    let found = found.expect(rt, "memory");
+    assert_eq!(rt; found.as_str(), wanted);
+}
+
+/// The two parts of a row. A row without a second part gets an empty one, and no call has that answer.
+pub(crate) fn halves<'a>(row: &'a str, between: &str) -> (&'a str, &'a str) {
+    row.split_once(between).unwrap_or((row, ""))
+}
+
+// A keyword, names, spaces, and an operator.
+fn words(alloc: Global) -> Result<Vec<Regex>, RegexError> {
+    let keyword = parse_literal(alloc, "if")?;
+    let name = parse_regex(alloc, "[a-z]+")?;
+    let space = parse_regex(alloc, " +")?;
+    let operator = parse_literal(alloc, "==")?;
+    Ok(vec![in alloc; keyword, name, space, operator]?)
+}
+
+fn lexer_of(alloc: Global, regexs: Vec<Regex>) -> Result<Lexer, AllocError> {
+    let precedences = vec![in alloc; Precedence(1), Precedence(0), Precedence(0), Precedence(0)]?;
+    if regexs.len() != precedences.len() {
+        return Err(AllocError);
+    }
+    match Lexer::new(alloc, regexs, precedences) {
+        Ok(lexer) => Ok(lexer),
+        Err(_) => Err(AllocError),
+    }
+}
+
+/// A keyword, which is stronger than names; names; spaces; and an operator. Here and below any error is reported as out of memory,
+/// which ends a test.
+pub(crate) fn word_lexer(alloc: Global) -> Result<Lexer, AllocError> {
+    match words(alloc) {
+        Ok(regexs) => lexer_of(alloc, regexs),
+        Err(_) => Err(AllocError),
+    }
+}
+
+/// The lexer of the rules.
 pub(crate) fn lexer_from(alloc: Global, rules: &[Rule]) -> Result<RuleLexer, AllocError> {
     match RuleLexer::from_rules(alloc, rules) {
         Ok(lexer) => Ok(lexer),

@@ -1,7 +1,6 @@
 //! Files of rules, and what is wrong with them.
 
-use crate::built::{expect, halves};
-use crate::rules::lexer_from;
+use crate::rules::{expect, halves, lexer_from};
 use lalrpop_rules::{Rule, RuleFileError, RuleLexer, read_rules};
 use std::alloc::{AllocError, Global};
 

@@ -1,8 +1,6 @@
 //! Texts that are cut to their ends: by a lexer, by named rules, and in linear time.
 
-use crate::built::{expect, halves};
-use crate::lookaheads::lexer_of;
-use crate::rules::{rule_lexer, shown};
+use crate::rules::{expect, halves, rule_lexer, shown, word_lexer};
 use lalrpop_rules::{Item, Items, items};
 use std::alloc::{AllocError, Global};
 
@@ -51,9 +49,6 @@ fn texts_are_cut_by_rules(rt: HostRuntime) {
     }
 }
 
-// A keyword, which is stronger than names; names; spaces; and an operator.
-const WORDS: &str = r"'if' [a-z]+ \x20+ '=='";
-
 // Spaces are skipped.
 const SKIPPED: [bool; 3] = [false, false, true];
 
@@ -80,7 +75,7 @@ fn numbered(alloc: Global, item: &Item) -> Result<String, AllocError> {
 }
 
 fn by_a_lexer(alloc: Global, text: &str) -> Result<String, AllocError> {
-    let lexer = lexer_of(alloc, WORDS)?;
+    let lexer = word_lexer(alloc)?;
     let mut given = String::new(alloc);
     let mut all = items(&lexer, &SKIPPED, text);
     for item in all.by_ref() {

@@ -1,7 +1,6 @@
 //! Texts that are shown by named rules: as HTML, and in the colours of a terminal.
 
-use crate::built::{expect, halves};
-use crate::rules::{lexer_from, rule_lexer};
+use crate::rules::{expect, halves, lexer_from, rule_lexer};
 use lalrpop_markup::{ansi, html};
 use lalrpop_rules::Rule;
 use std::alloc::{AllocError, Global};
