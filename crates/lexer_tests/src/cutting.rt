@@ -1,24 +1,26 @@
 //! Whole texts that are cut into tokens.
 
 use crate::built::{built_with, expect, halves};
-use lalrpop_lexer::lexer::dfa::{Dfa, Precedence};
-use lalrpop_lexer::tokens;
+use lalrpop_lexer::lexer::dfa::{Dfa, NfaIndex, Precedence};
+use lalrpop_lexer::{TokenFault, tokens};
 use std::alloc::{AllocError, Global};
+
+fn shown(alloc: Global, item: &Result<(NfaIndex, &str), TokenFault>) -> Result<String, AllocError> {
+    match item {
+        Ok((index, slice)) => format!(in alloc; "{} {slice:?}, ", index.index()),
+        Err(fault) => format!(in alloc; "{fault}, "),
+    }
+}
 
 // What the calls of `next` return, including the first two `None`.
 fn given_by(alloc: Global, dfa: &Dfa, text: &str) -> Result<String, AllocError> {
-    let mut given = String::new(alloc);
+    let mut line = String::new(alloc);
     let mut items = tokens(dfa, text);
     for item in items.by_ref() {
-        let line = match item {
-            Ok((index, slice)) => format!(in alloc; "{} {slice:?}, ", index.index())?,
-            Err(fault) => format!(in alloc; "{fault}, ")?,
-        };
-        given.push_str(&line)?;
+        line.push_str(&shown(alloc, &item)?)?;
     }
-    let none = format!(in alloc; "None, {:?}", items.next())?;
-    given.push_str(&none)?;
-    Ok(given)
+    line.push_str(&format!(in alloc; "None, {:?}", items.next())?)?;
+    Ok(line)
 }
 
 // The first of the patterns, `class`, is stronger than the others.

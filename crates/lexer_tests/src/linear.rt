@@ -34,10 +34,7 @@ fn told(alloc: Global, items: LexerTokens) -> Result<String, AllocError> {
 }
 
 fn repeated(alloc: Global, part: &str, count: usize, end: &str) -> Result<String, AllocError> {
-    let mut text = String::new(alloc);
-    for _ in 0..count {
-        text.push_str(part)?;
-    }
+    let mut text = part.repeat(alloc, count)?;
     text.push_str(end)?;
     Ok(text)
 }

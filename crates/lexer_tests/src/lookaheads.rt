@@ -1,10 +1,10 @@
 //! How many characters past a match leave it open, and the tokens of lexers that look ahead.
 
 use crate::built::{built, expect, halves, trees_of};
-use lalrpop_lexer::Lexer;
 use lalrpop_lexer::lexer::dfa::Precedence;
 use lalrpop_lexer::lexer::dfa::lookahead::lookahead;
 use lalrpop_lexer::lexer::re::Regex;
+use lalrpop_lexer::{Lexer, Token, TokenFault};
 use std::alloc::{AllocError, Global};
 
 // Patterns, the stronger before the weaker, and the greatest number of characters.
@@ -94,26 +94,28 @@ fn patterns_that_stay_open(rt: HostRuntime) {
     expect(&rt, open_of(rt.alloc(), ""), "[]");
 }
 
+fn shown(alloc: Global, item: &Result<Token, TokenFault>) -> Result<String, AllocError> {
+    match item {
+        Ok(token) => format!(in alloc;
+            "{} {:?} at {}, ",
+            token.index.index(),
+            token.slice,
+            token.start
+        ),
+        Err(fault) => format!(in alloc; "{fault}, "),
+    }
+}
+
 // What the calls of `next` return, including the first two `None`.
 fn given(alloc: Global, words: &str, text: &str) -> Result<String, AllocError> {
     let lexer = lexer_of(alloc, words)?;
-    let mut shown = String::new(alloc);
+    let mut line = String::new(alloc);
     let mut items = lexer.tokens(text);
     for item in items.by_ref() {
-        let line = match item {
-            Ok(token) => format!(in alloc;
-                "{} {:?} at {}, ",
-                token.index.index(),
-                token.slice,
-                token.start
-            )?,
-            Err(fault) => format!(in alloc; "{fault}, ")?,
-        };
-        shown.push_str(&line)?;
+        line.push_str(&shown(alloc, &item)?)?;
     }
-    let none = format!(in alloc; "None, {:?}", items.next())?;
-    shown.push_str(&none)?;
-    Ok(shown)
+    line.push_str(&format!(in alloc; "None, {:?}", items.next())?)?;
+    Ok(line)
 }
 
 #[test]

@@ -93,14 +93,6 @@ fn texts_are_cut_by_a_lexer(rt: HostRuntime) {
     }
 }
 
-fn repeated(alloc: Global, part: &str, count: usize) -> Result<String, AllocError> {
-    let mut text = String::new(alloc);
-    for _ in 0..count {
-        text.push_str(part)?;
-    }
-    Ok(text)
-}
-
 // Whether both return the same items.
 fn are_same(mut plain: Items, linear: Items) -> bool {
     for item in linear {
@@ -127,14 +119,14 @@ fn counts(pieces: Items) -> (usize, usize) {
 // Of `count` copies of this part: tokens and faults, in linear time.
 fn counted(alloc: Global, part: &str, count: usize) -> Result<String, AllocError> {
     let lexer = rule_lexer(alloc)?;
-    let text = repeated(alloc, part, count)?;
+    let text = part.repeat(alloc, count)?;
     let (tokens, faults) = counts(lexer.items_linear(alloc, &text)?);
     format!(in alloc; "{tokens} {faults}")
 }
 
 fn alike(alloc: Global, part: &str) -> Result<String, AllocError> {
     let lexer = rule_lexer(alloc)?;
-    let text = repeated(alloc, part, 200)?;
+    let text = part.repeat(alloc, 200)?;
     let same = are_same(lexer.items(&text), lexer.items_linear(alloc, &text)?);
     format!(in alloc; "{same}")
 }
