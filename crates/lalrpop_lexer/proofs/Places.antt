@@ -92,8 +92,9 @@ walk_more text i j read left after p q c w e next =
           ∙ sym (append_assoc (seen ++ read) (c ∷ []) (chars after)) ∙ ap (λ cs. cs ++ chars after) onto;
     }
 
-length-chars-le : (bs : List ℕ) → IsUtf8 bs → length (chars bs) ≤ length bs
-length-chars-le bs u = omega (arith, length-le-encodes (chars bs), ap length (encodes-chars bs u))
+-- a text has no more characters than bytes
+pub few_chars : (text : List ℕ) → IsUtf8 text → length (chars text) ≤ length text
+few_chars text u = omega (arith, length-le-encodes (chars text), ap length (encodes-chars text u))
 
 -- both numbers are at most one more than the length of the text
 pub walk_room : (text : List ℕ) (i j : ℕ) (read left : List ℕ) (p : Position) → IsUtf8 text → IsCharBoundary text j → IsWalk text i j read left p
@@ -101,7 +102,7 @@ pub walk_room : (text : List ℕ) (i j : ℕ) (read left : List ℕ) (p : Positi
 walk_room text i j read left p u b w =
     let seen = chars (take i text) ++ read in
     let some : length seen ≤ length text =
-    omega (arith, ap length w.whole, length-append seen (chars left), length-chars-le (take j text) (IsUtf8-take text j u b), length-take j text) in
+    omega (arith, ap length w.whole, length-append seen (chars left), few_chars (take j text) (IsUtf8-take text j u b), length-take j text) in
     (omega (arith, ap (λ (x : Position). x.line) w.place, line_within seen), omega (arith, ap (λ (x : Position). x.column) w.place, column_within seen))
 
 pub walk_end : (text : List ℕ) (i j : ℕ) (read left : List ℕ) (p : Position) → IsWalk text i j read left p → length left ≡ 0 → p ≡ position_of text j

@@ -5,16 +5,13 @@ use Rattle.std.specs.Str.{chars, IsUtf8, IsCharBoundary}
 use Rattle.std.proofs.Math.Nat.{mul-le-mul_left}
 use Rattle.std.proofs.Math.Seq.{drop-append_seam}
 use Rattle.std.proofs.lemmas.List.{take-append-drop, take_at, drop_at, drop-drop}
-use Rattle.std.proofs.lemmas.Str.{IsUtf8-append, drop_past_char, IsCharBoundary-start, IsCharBoundary-from_take, IsCharBoundary-from_rest, IsCharBoundary-past_char, chars-append, length-le-encodes, encodes-chars}
+use Rattle.std.proofs.lemmas.Str.{IsUtf8-append, drop_past_char, IsCharBoundary-start, IsCharBoundary-from_take, IsCharBoundary-from_rest, IsCharBoundary-past_char, chars-append}
 use Rattle.lalrpop_book.specs.Prefix.{IsPrefix}
 use Rattle.lalrpop_dfa.specs.Dfa.{Row}
 use Rattle.lalrpop_lexer.specs.Internal.Memory.{Memory, IsFor, IsNoted, room}
 use Rattle.lalrpop_lexer.specs.Internal.Hopeless.{IsHopeless, IsSound}
 use Rattle.lalrpop_lexer.specs.Internal.Standing.{IsStanding, IsReached, spare_of}
-
--- a text has no more characters than bytes
-pub few_chars : (text : List ℕ) → IsUtf8 text → length (chars text) ≤ length text
-few_chars text u = omega (arith, length-le-encodes (chars text), ap length (encodes-chars text u))
+use Rattle.lalrpop_lexer.proofs.Places.{few_chars}
 
 pub standing_start : (d : List Row) (text : List ℕ) (m : Memory) → IsUtf8 text → length text < 2 ^ 63 → m.places ≡ length text / 64 + 1 → IsFor d m → ((p k : ℕ) → ¬ IsNoted m p k) → IsStanding d text 0 0 m
 standing_start d text m u small places fits none = record {

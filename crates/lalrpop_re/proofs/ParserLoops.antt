@@ -4,20 +4,12 @@ use Rattle.std.proofs.lemmas.Bool.{lt-ltb, le-ltb}
 use Rattle.lalrpop_book.specs.Tree.{Tree, repetition, capture}
 use Rattle.lalrpop_grammar.specs.Text.{Text, begins}
 use Rattle.lalrpop_grammar.specs.declared.flags.Flags.{Flags}
-use Rattle.lalrpop_grammar.specs.declared.error.RegexError.{RegexError}
-use Rattle.lalrpop_grammar.specs.declared.error.RegexError.TheVariants.{Syntax, OutOfMemory}
 use Rattle.lalrpop_grammar.specs.Pattern.{ends_branch, branch}
 use Rattle.lalrpop_grammar.specs.Internal.Reading.{◌>>=◌, operator, flags_of, Opening, plain_group, named_group, flagged_group, directive, no_opening, opening, as_directive, directive_at, Opened, a_flagged_group, a_directive_to, opened, is_at_operator, Part, Line, Whole, Reader, begin, operators, all_operators, enclosed, group, atom, piece, row_step, row, whole_row, branches, all_branches, inside}
-use Rattle.lalrpop_re.specs.Internal.Views.{Refuses}
 use Rattle.lalrpop_re.specs.Internal.Parts.{Step, to_piece, joined_by, joined, operated, captured, group_or_directive, group_or_directive_of, step}
 use Rattle.lalrpop_grammar.proofs.Steps.{bind_some, bind_same, some_is, decided, starts_is}
 use Rattle.lalrpop_grammar.proofs.LexicalLaws.{Operator-shorter, operator_sound}
 use Rattle.lalrpop_grammar.proofs.PatternLaws.{IsSound, Piece-shorter, Row-shorter, piece_sound, row_sound, inside_sound, directive_at_opening, directive_elsewhere, directive_sound, operators_enough, row_end, branches_end}
-
--- a refusal is passed on, since the two readings fail together
-pub refuses_on : {A B : Type 0} (e : RegexError) (o : Option A) (r : Option B) → Refuses e o → (o ≡ None → r ≡ None) → Refuses e r
-refuses_on (Syntax position kind) o r h k = k h
-refuses_on OutOfMemory o r h k = tt
 
 bind_chain : {A B C : Type 0} (o : Option A) (f : A → Option B) (g : B → Option C) → ((o >>= f) >>= g) ≡ (o >>= λ x. f x >>= g)
 bind_chain (Some x) f g = refl

@@ -39,7 +39,7 @@ token_at_its_place ts ps text at (suc i) (Err fault ∷ xs) token are is =
     let none : xs ≡ [] = are.3 in
     absurd (cc (ap (λ (ys : List (Result Cut TokenFault)). slice_get ys i) none, is))
 
-starts_at : (ts : List Tree) (ps : List ℕ) (skips : List Bool) (text : List ℕ) (at : ℕ) (x : Item) → IsPiece ts ps skips text at x → start_of x ≡ at
+pub starts_at : (ts : List Tree) (ps : List ℕ) (skips : List Bool) (text : List ℕ) (at : ℕ) (x : Item) → IsPiece ts ps skips text at x → start_of x ≡ at
 starts_at ts ps skips text at (Token token) is = is.0.0
 starts_at ts ps skips text at (Skipped token) is = is.0.0
 starts_at ts ps skips text at (Fault start slice) is = is.0

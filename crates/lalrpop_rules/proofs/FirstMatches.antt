@@ -1,13 +1,12 @@
 -- Walking along a text to the first place where some tree matches.
 use Rattle.std.proofs.Common.{◌≡◌, ◌≢◌, ℕ, ◌+◌, ◌<◌, ◌⊎◌, inl, inr, List, [], ◌∷◌, ◌++◌, length, take, drop, arith, refl, sym, ap, subst, ◌∙◌, length-append, length-drop, length-take}
 use Rattle.std.specs.Prelude.{None}
-use Rattle.std.specs.Str.{chars, IsUtf8, IsCharBoundary, encode_utf8_all}
+use Rattle.std.specs.Str.{IsUtf8, IsCharBoundary}
 use Rattle.std.specs.Char.{encode_utf8}
 use Rattle.std.proofs.lemmas.Bool.{cases_order}
-use Rattle.std.proofs.lemmas.Str.{IsCharBoundary-start, IsCharBoundary-from_rest, IsCharBoundary-from_take, IsUtf8-take, encodes-chars}
-use Rattle.std.proofs.lemmas.List.{take_at, drop_at, take-append-drop}
+use Rattle.std.proofs.lemmas.Str.{IsCharBoundary-start, IsCharBoundary-from_rest, IsUtf8-take}
+use Rattle.std.proofs.lemmas.List.{drop_at, take-append-drop}
 use Rattle.lalrpop_book.specs.Tree.{Tree}
-use Rattle.lalrpop_book.specs.Prefix.{IsPrefix}
 use Rattle.lalrpop_book.specs.Longest.{IsMatch, IsLongest}
 use Rattle.lalrpop_nfa.proofs.Cuts.{IsCut, cut_more, ends_there}
 use Rattle.lalrpop_rules.specs.Found.{MatchesAt, NoMatchBefore, NothingFound}
@@ -15,20 +14,6 @@ use Rattle.lalrpop_rules.specs.Found.{MatchesAt, NoMatchBefore, NothingFound}
 pub some_length : (p : List ℕ) → p ≢ [] → 0 < length p
 some_length [] some = absurd (some refl)
 some_length (b ∷ p) some = omega arith
-
--- a text that isn't empty has a character
-pub some_char : (text : List ℕ) → IsUtf8 text → text ≢ [] → 0 < length (chars text)
-some_char text u some = has (chars text) (encodes-chars text u)
-  where
-    has : (cs : List ℕ) → encode_utf8_all cs ≡ text → 0 < length cs
-    has [] e = absurd (some (sym e))
-    has (c ∷ cs) e = omega arith
-
--- a prefix of a text ends where the text may be cut
-pub cut_behind : (p text : List ℕ) → IsUtf8 text → IsPrefix p text → IsCharBoundary text (length p)
-cut_behind p text u b =
-    IsCharBoundary-from_take text (length p) u (omega (arith, ap length b.1.0, length-append p b.0))
-    (subst IsUtf8 (sym (ap (take (length p)) b.1.0 ∙ take_at p b.0 (length p) refl)) b.1.1)
 
 -- a match begins before the end of the text
 pub match_within : (ts : List Tree) (text : List ℕ) (n : ℕ) → MatchesAt ts text n → n < length text

@@ -11,7 +11,8 @@ use Rattle.lalrpop_book.specs.Tokens.{IsToken}
 use Rattle.lalrpop_book.specs.declared.token.Token.{Token}
 use Rattle.lalrpop_rules.specs.Found.{MatchesAt, NoMatchBefore, IsFound, NothingFound}
 use Rattle.lalrpop_rules.specs.Pieces.{IsFault}
-use Rattle.lalrpop_rules.proofs.FirstMatches.{match_within, match_begins, cut_behind}
+use Rattle.lalrpop_lexer.proofs.Cuttings.{cut_behind}
+use Rattle.lalrpop_rules.proofs.FirstMatches.{match_within, match_begins}
 
 -- where nothing matches anywhere, the whole rest is a fault
 pub fault_to_end : (ts : List Tree) (rest : List ℕ) → IsUtf8 rest → rest ≢ [] → NothingFound ts rest → IsFault ts rest rest

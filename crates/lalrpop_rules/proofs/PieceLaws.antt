@@ -14,7 +14,8 @@ use Rattle.lalrpop_rules.specs.Pieces.{IsFault, IsPiece, ArePieces, AreApart, sl
 use Rattle.lalrpop_rules.specs.CutToEnd.{CutToEnd, Memo, uncut, left_text, pieces_left, GivesPiece}
 use Rattle.lalrpop_rules.specs.declared.item.Item.{Item}
 use Rattle.lalrpop_rules.specs.declared.item.Item.TheVariants.{Token, Skipped, Fault}
-use Rattle.lalrpop_rules.proofs.FirstMatches.{some_length, cut_behind, some_char}
+use Rattle.lalrpop_lexer.proofs.Cuttings.{cut_behind, some_char}
+use Rattle.lalrpop_rules.proofs.FirstMatches.{some_length}
 
 -- a piece is a prefix of the rest
 pub is_front : (ts : List Tree) (ps : List ℕ) (skips : List Bool) (text : List ℕ) (at : ℕ) (x : Item) → IsPiece ts ps skips text at x

@@ -15,7 +15,8 @@ use Rattle.lalrpop_lexer.proofs.Strongest.{IsOnlyStrongest-from_greatest}
 use Rattle.lalrpop_nfa.proofs.Cuts.{IsCut}
 use Rattle.lalrpop_rules.specs.Found.{NoMatchBefore, IsFound}
 use Rattle.lalrpop_rules.specs.Internal.FirstMatch.{credit_of}
-use Rattle.lalrpop_rules.proofs.FirstMatches.{left_at, some_char}
+use Rattle.lalrpop_lexer.proofs.Cuttings.{some_char}
+use Rattle.lalrpop_rules.proofs.FirstMatches.{left_at}
 use Rattle.lalrpop_rules.proofs.PieceLaws.{split_at}
 
 -- ---- where the rest begins

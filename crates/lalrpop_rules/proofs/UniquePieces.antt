@@ -26,7 +26,7 @@ no_longer ts text p q first second longer = elim first.ends [
   | inr match ↦ second.nothing (length p) longer match
 ]
 
-same_fault : (ts : List Tree) (text p q : List ℕ) → IsFault ts text p → IsFault ts text q → p ≡ q
+pub same_fault : (ts : List Tree) (text p q : List ℕ) → IsFault ts text p → IsFault ts text q → p ≡ q
 same_fault ts text p q first second = same_prefix p q text first.front second.front (by_order (cases_order (length p) (length q)))
   where
     by_order : (length p ≡ length q) ⊎ ((length p < length q) ⊎ (length q < length p)) → length p ≡ length q

@@ -2,7 +2,7 @@
 -- tokens begins with what is written for them.
 use Rattle.std.proofs.Common.{◌≡◌, ℕ, ◌+◌, List, [], ◌∷◌, ◌++◌, length, drop, codes, decimal, refl, sym, ap, subst, ◌∙◌, append_assoc, arith, length-append, add-zero, zero-add}
 use Rattle.std.proofs.lemmas.Str.{IsUtf8-nil, IsUtf8-append}
-use Rattle.std.specs.Prelude.{Option, Some, None, Result, Ok, Err, unwrap_or}
+use Rattle.std.specs.Prelude.{Option, Some, None, Result, Ok, Err}
 use Rattle.std.specs.Iterator.{Yields}
 use Rattle.std.specs.Str.{IsUtf8, IsCharBoundary}
 use Rattle.lalrpop_book.specs.Tree.{Tree}
@@ -16,6 +16,7 @@ use Rattle.lalrpop_lexer.specs.Longest.{IsLongest}
 use Rattle.lalrpop_book.specs.declared.token.Token.{Token}
 use Rattle.lalrpop_book.specs.declared.token.TokenFault.{TokenFault}
 use Rattle.tokens_lib.specs.Quoted.{quoted}
+use Rattle.tokens_lib.proofs.PieceLines.{same_parts}
 use Rattle.tokens_lib.specs.TokenLines.{place_text, token_line, token_lines, outcome_behind, text_lines}
 
 -- each token is the longest match of what those before it leave
@@ -46,12 +47,6 @@ nothing_left ts ps rest p i none h = h.0.1 (empty_front p h.0.0.0 (sym none ∙ 
     empty_front : (p q : List ℕ) → [] ≡ p ++ q → p ≡ []
     empty_front [] q e = refl
     empty_front (b ∷ p) q e = absurd (cc)
-
--- two equal matches have the same number and the same slice
-same_parts : (i j : ℕ) (p q : List ℕ) → ◌≡◌ {A = Option (ℕ × List ℕ)} (Some (i, p)) (Some (j, q)) → (i ≡ j) × (p ≡ q)
-same_parts i j p q e =
-    let both : ◌≡◌ {A = ℕ × List ℕ} (i, p) (j, q) = ap (λ (o : Option (ℕ × List ℕ)). unwrap_or o (i, p)) e in
-    (ap (λ (m : ℕ × List ℕ). m.0) both, ap (λ (m : ℕ × List ℕ). m.1) both)
 
 some_is_not_none : (i : ℕ) (p : List ℕ) → ¬ (◌≡◌ {A = Option (ℕ × List ℕ)} (Some (i, p)) None)
 some_is_not_none i p e = absurd (cc)

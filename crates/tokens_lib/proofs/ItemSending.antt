@@ -1,5 +1,5 @@
 -- The lines of pieces that are written part by part, and what is written when an error occurs.
-use Rattle.std.proofs.Common.{◌≡◌, ℕ, ◌+◌, ◌≤◌, Bool, false, List, [], ◌∷◌, ◌++◌, length, refl, sym, ap, subst, ◌∙◌, append_assoc, arith}
+use Rattle.std.proofs.Common.{◌≡◌, ℕ, ◌+◌, ◌≤◌, false, List, [], ◌∷◌, ◌++◌, length, refl, sym, ap, subst, ◌∙◌, append_assoc, arith}
 use Rattle.std.proofs.lemmas.List.{append-nil}
 use Rattle.std.proofs.lemmas.Str.{IsCharBoundary-start}
 use Rattle.std.proofs.iter.Next.{Yields-more}
@@ -8,11 +8,11 @@ use Rattle.std.specs.Io.KnownBytes.{Appends}
 use Rattle.std.specs.Iterator.{Yields, Drains}
 use Rattle.std.specs.Str.{IsUtf8, IsCharBoundary}
 use Rattle.lalrpop_rules.specs.CutToEnd.{CutToEnd, uncut, GivesPiece}
-use Rattle.lalrpop_book.specs.Tree.{Tree}
-use Rattle.lalrpop_rules.specs.Pieces.{IsPiece, slice_of, start_of}
+use Rattle.lalrpop_rules.specs.Pieces.{slice_of, start_of}
 use Rattle.lalrpop_rules.specs.RuleSet.{RuleSet, recognized}
 use Rattle.lalrpop_rules.specs.declared.item.Item.{Item}
 use Rattle.lalrpop_rules.specs.declared.item.Item.TheVariants.{Token, Skipped, Fault}
+use Rattle.lalrpop_rules.proofs.CallerLaws.{starts_at}
 use Rattle.lexdfa_lib.proofs.Known.{Appends-again}
 use Rattle.lexdfa_lib.specs.Watch.{AppendsPrefix}
 use Rattle.tokens_lib.specs.ItemLines.{item_line, item_lines, first_fault, AreCut, WritesItemsPrefix}
@@ -43,11 +43,6 @@ one_more r t u ys x y g = Yields-more GivesPiece r ys t x u y g
 
 pub all_given : (s t u : CutToEnd) (ys : List Item) → Yields GivesPiece s ys t → GivesPiece t None u → Drains GivesPiece s ys
 all_given s t u ys y g = (u, (t, y, g))
-
-starts_at : (ts : List Tree) (ps : List ℕ) (skips : List Bool) (text : List ℕ) (at : ℕ) (x : Item) → IsPiece ts ps skips text at x → start_of x ≡ at
-starts_at ts ps skips text at (Token token) is = is.0.0
-starts_at ts ps skips text at (Skipped token) is = is.0.0
-starts_at ts ps skips text at (Fault start slice) is = is.0
 
 -- where a piece begins, and where the rest begins behind it
 pub place_of : (t u : CutToEnd) (x : Item) → GivesPiece t (Some x) u → (start_of x ≡ t.at) × (u.at ≡ t.at + length (slice_of x))

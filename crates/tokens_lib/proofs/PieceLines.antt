@@ -1,13 +1,11 @@
 -- The first pieces of a text, as the calls of `next` return them, and their lines: any list of all pieces begins with the same lines.
-use Rattle.std.proofs.Common.{◌≡◌, ◌≢◌, ℕ, ◌+◌, ◌<◌, ◌⊎◌, inl, inr, Bool, true, false, List, [], ◌∷◌, ◌++◌, length, take, drop, refl, sym, ap, subst, ◌∙◌, append_assoc, arith, length-append}
-use Rattle.std.proofs.lemmas.Bool.{cases_order}
+use Rattle.std.proofs.Common.{◌≡◌, ◌≢◌, ℕ, ◌+◌, Bool, true, false, List, [], ◌∷◌, ◌++◌, length, drop, refl, sym, ap, subst, ◌∙◌, append_assoc, arith, length-append}
 use Rattle.std.proofs.lemmas.Grind.{flat_map-append}
-use Rattle.std.proofs.lemmas.List.{append-nil, take_at}
+use Rattle.std.proofs.lemmas.List.{append-nil}
 use Rattle.std.proofs.lemmas.Str.{IsUtf8-drop}
 use Rattle.std.specs.Prelude.{Option, Some, None, unwrap_or}
 use Rattle.std.specs.Iterator.{Yields}
 use Rattle.std.specs.Str.{IsUtf8, IsCharBoundary}
-use Rattle.lalrpop_book.specs.Prefix.{IsPrefix}
 use Rattle.lalrpop_book.specs.Tree.{Tree}
 use Rattle.lalrpop_book.specs.Longest.{IsLongest}
 use Rattle.lalrpop_book.specs.declared.token.Token.{Token as Cut}
@@ -20,6 +18,7 @@ use Rattle.lalrpop_rules.specs.declared.item.Item.TheVariants.{Token, Skipped, F
 use Rattle.lalrpop_rules.proofs.FirstMatches.{some_length}
 use Rattle.lalrpop_rules.proofs.Fronts.{boundary_behind}
 use Rattle.lalrpop_rules.proofs.PieceLaws.{is_front, is_some}
+use Rattle.lalrpop_rules.proofs.UniquePieces.{same_fault}
 use Rattle.tokens_lib.specs.ItemLines.{line_at, fault_line, item_line, item_lines, name_at, AreUpToFault, AreCut, first_fault}
 use Rattle.tokens_lib.specs.Internal.Faults.{first_with}
 use Rattle.tokens_lib.specs.declared.layout.Layout.{Layout}
@@ -37,7 +36,7 @@ firsts_of s t (x ∷ ys) (j, g, y) =
 -- ---- there is one piece at a place
 
 -- two equal matches have the same number and the same slice
-same_parts : (i j : ℕ) (p q : List ℕ) → ◌≡◌ {A = Option (ℕ × List ℕ)} (Some (i, p)) (Some (j, q)) → (i ≡ j) × (p ≡ q)
+pub same_parts : (i j : ℕ) (p q : List ℕ) → ◌≡◌ {A = Option (ℕ × List ℕ)} (Some (i, p)) (Some (j, q)) → (i ≡ j) × (p ≡ q)
 same_parts i j p q e =
     let both : ◌≡◌ {A = ℕ × List ℕ} (i, p) (j, q) = ap (λ (o : Option (ℕ × List ℕ)). unwrap_or o (i, p)) e in
     (ap (λ (m : ℕ × List ℕ). m.0) both, ap (λ (m : ℕ × List ℕ). m.1) both)
@@ -49,29 +48,6 @@ same_match ts ps rest x y a b = same_parts x.index y.index x.slice.now y.slice.n
 -- a match begins no fault
 pub no_fault_here : (ts : List Tree) (ps rest slice : List ℕ) (x : Cut) → IsLongest ts ps rest (Some (x.index, x.slice.now)) → IsFault ts rest slice → ⊥
 no_fault_here ts ps rest slice x a f = f.nothing 0 (some_length slice f.some) (x.slice.now, a.0)
-
--- two faults at one place end at one place
-not_shorter : (ts : List Tree) (rest p q : List ℕ) → IsFault ts rest p → IsFault ts rest q → length p < length q → ⊥
-not_shorter ts rest p q f g less = elim f.ends [
-  | inl whole ↦ omega (arith, less, ap length whole, ap length g.front.1.0, length-append q g.front.0)
-  | inr m ↦ g.nothing (length p) less m
-]
-
-same_length : (ts : List Tree) (rest p q : List ℕ) → IsFault ts rest p → IsFault ts rest q → length p ≡ length q
-same_length ts rest p q f g = by_order (cases_order (length p) (length q))
-  where
-    by_order : (length p ≡ length q) ⊎ ((length p < length q) ⊎ (length q < length p)) → length p ≡ length q
-    by_order (inl same) = same
-    by_order (inr (inl less)) = absurd (not_shorter ts rest p q f g less)
-    by_order (inr (inr more)) = absurd (not_shorter ts rest q p g f more)
-
--- a prefix is what its length takes
-taken : (p rest : List ℕ) → IsPrefix p rest → p ≡ take (length p) rest
-taken p rest b = sym (ap (take (length p)) b.1.0 ∙ take_at p b.0 (length p) refl)
-
-same_fault : (ts : List Tree) (rest p q : List ℕ) → IsFault ts rest p → IsFault ts rest q → p ≡ q
-same_fault ts rest p q f g =
-    taken p rest f.front ∙ ap (λ (n : ℕ). take n rest) (same_length ts rest p q f g) ∙ sym (taken q rest g.front)
 
 -- pieces at one place have one line, and end at one place
 pub same_piece : (layout : Layout) (names : List (List ℕ)) (ts : List Tree) (ps : List ℕ) (skips : List Bool) (text : List ℕ) (at : ℕ) (x y : Item)

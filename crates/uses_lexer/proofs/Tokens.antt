@@ -3,25 +3,14 @@ use Rattle.std.proofs.Common.{◌≡◌, ℕ, ◌+◌, ◌≤◌, List, [], ◌�
 use Rattle.std.specs.Prelude.{Option, Some, None, Result, Ok, Err}
 use Rattle.std.specs.Iterator.{Yields, Drains}
 use Rattle.std.specs.Str.{chars, IsUtf8}
-use Rattle.std.proofs.iter.Next.{Yields-more}
+use Rattle.uses_lexer.proofs.Counting.{item_more}
 use Rattle.std.proofs.lemmas.List.{length-map, map-append}
 use Rattle.std.proofs.lemmas.Str.{encodes-chars, length-le-encodes}
-
--- one item more
-pub item_more : {S A : Type 0} (gives : S → Option A → S → Type 0) (s r t u : S) (xs : List A) (o : Option A) (x : A) → r ≡ s → Yields gives r xs t → o ≡ Some x
-    → gives t o u → Yields gives s (xs ++ x ∷ []) u
-item_more {S} {A} gives s r t u xs o x same y is g =
-    Yields-more gives s xs t x u (subst (λ (r : S). Yields gives r xs t) same y) (subst (λ (o : Option A). gives t o u) is g)
 
 -- and none behind it
 pub item_last : {S A : Type 0} (gives : S → Option A → S → Type 0) (s r t u : S) (xs : List A) (o : Option A) (x : A) → r ≡ s → Yields gives r xs t → o ≡ Some x
     → gives t o u → gives u None u → Drains gives s (xs ++ x ∷ [])
 item_last gives s r t u xs o x same y is g none = (u, (u, item_more gives s r t u xs o x same y is g, none))
-
--- no item behind those that there are
-pub no_more : {S A : Type 0} (gives : S → Option A → S → Type 0) (s r t u : S) (xs : List A) (o : Option A) → r ≡ s → Yields gives r xs t → o ≡ None
-    → gives t o u → Drains gives s xs
-no_more {S} {A} gives s r t u xs o same y is g = (u, (t, subst (λ (r : S). Yields gives r xs t) same y, subst (λ (o : Option A). gives t o u) is g))
 
 -- one token more
 pub token_more : {A B : Type 0} (xs : List (Result A B)) (x : Result A B) (tokens : List A) (token : A) → xs ≡ map Ok tokens → x ≡ Ok token

@@ -3,7 +3,7 @@ use Rattle.std.specs.Str.{chars, IsUtf8}
 use Rattle.std.specs.Str.Iter.{chars_rest}
 use Rattle.std.proofs.lemmas.Str.{chars_past_char, IsUtf8-past_char}
 use Rattle.lalrpop_nfa.proofs.CharLemmas.{chars-none}
-use Rattle.lalrpop_lexer.proofs.Standings.{few_chars}
+use Rattle.lalrpop_lexer.proofs.Places.{few_chars}
 use Rattle.lalrpop_lexer.proofs.linear_matches.count_chars.Goals as goal
 
 pub loop-init : goal.loop-init

@@ -3,7 +3,8 @@ use Rattle.std.proofs.lemmas.Result.{err_from_is_err_and}
 use Rattle.lalrpop_grammar.specs.Internal.Reading.{whole_row, all_branches, begin, inside}
 use Rattle.lalrpop_re.specs.Internal.Views.{text}
 use Rattle.lalrpop_re.specs.Internal.Parts.{line, step_of}
-use Rattle.lalrpop_re.proofs.ParserLoops.{row_stop, row_turn, row_refused, branches_stop, branches_turn, branches_refused, refuses_on, enclosed_full}
+use Rattle.lalrpop_re.proofs.BracketLoops.{refuses_on}
+use Rattle.lalrpop_re.proofs.ParserLoops.{row_stop, row_turn, row_refused, branches_stop, branches_turn, branches_refused, enclosed_full}
 use Rattle.lalrpop_re.proofs.parser.+parser.Goals as goal
 
 pub parse_branches-returns-in_err-trees-clause-value : goal.parse_branches-returns-in_err-trees-clause-value

@@ -4,7 +4,8 @@ use Rattle.lalrpop_grammar.specs.Internal.Reading.{all_operators, operator}
 use Rattle.lalrpop_re.specs.Internal.Views.{text}
 use Rattle.lalrpop_re.specs.Internal.Parts.{part}
 use Rattle.lalrpop_grammar.proofs.PatternLaws.{operators_end}
-use Rattle.lalrpop_re.proofs.ParserLoops.{operators_turn, operators_deep, operators_refused, refuses_on}
+use Rattle.lalrpop_re.proofs.BracketLoops.{refuses_on}
+use Rattle.lalrpop_re.proofs.ParserLoops.{operators_turn, operators_deep, operators_refused}
 use Rattle.lalrpop_re.proofs.parser.parse_operators.Goals as goal
 
 pub returns-then-piece-levels_left-clause-value : goal.returns-then-piece-levels_left-clause-value

@@ -7,7 +7,8 @@ use Rattle.lalrpop_lexer.specs.declared.Token.{Token}
 use Rattle.lalrpop_lexer.specs.declared.TokenFault.{TokenFault}
 use Rattle.lalrpop_lexer.proofs.LexerCosts.{nothing_more}
 use Rattle.lalrpop_lexer.specs.Tokens.{AreTokens}
-use Rattle.uses_lexer.proofs.Tokens.{item_more, item_last, no_more, token_more, count_more, room_for_one_more, then_a_fault}
+use Rattle.uses_lexer.proofs.Counting.{item_more, no_more}
+use Rattle.uses_lexer.proofs.Tokens.{item_last, token_more, count_more, room_for_one_more, then_a_fault}
 use Rattle.uses_lexer.proofs.cut_a_text.token_count.Goals as goal
 
 the_same : (s t : LexerCutting) (xs ys : List (Result Token TokenFault)) → xs ≡ ys → Yields GivesToken s xs t → Yields GivesToken s ys t

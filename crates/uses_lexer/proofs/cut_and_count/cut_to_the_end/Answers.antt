@@ -1,7 +1,7 @@
 use Rattle.std.proofs.Common.{◌++◌, ◌∷◌, [], arith, refl, subst, sym}
 use Rattle.std.specs.Iterator.{Yields}
 use Rattle.lalrpop_lexer.specs.LexerTokens.{GivesToken}
-use Rattle.uses_lexer.proofs.Tokens.{item_more}
+use Rattle.uses_lexer.proofs.Counting.{item_more}
 use Rattle.uses_lexer.proofs.cut_and_count.cut_to_the_end.Goals as goal
 
 pub loop-preserved : goal.loop-preserved

@@ -1,7 +1,8 @@
 use Rattle.std.proofs.Common.{◌≡◌, ◌+◌, ◌≤◌, [], ◌∷◌, ◌++◌, length, true, inl, refl, ap, subst, arith}
 use Rattle.lalrpop_lexer.specs.Cutting.{Cutting, GivesItem}
 use Rattle.lalrpop_lexer.specs.Tokens.{AreItems}
-use Rattle.uses_lexer.proofs.Tokens.{item_more, item_last, no_more, token_more, count_more, room_for_one_more, then_a_fault}
+use Rattle.uses_lexer.proofs.Counting.{item_more, no_more}
+use Rattle.uses_lexer.proofs.Tokens.{item_last, token_more, count_more, room_for_one_more, then_a_fault}
 use Rattle.uses_lexer.proofs.cut_by_automaton.item_count.Goals as goal
 
 pub overflow_add-count : goal.overflow_add-count
