@@ -1,4 +1,4 @@
-use Rattle.std.proofs.Common.{◌≡◌, ◌+◌, ◌≤◌, List, [], ◌∷◌, ◌++◌, length, map, true, inl, refl, rules, ap, subst, arith}
+use Rattle.std.proofs.Common.{◌≡◌, ◌+◌, ◌≤◌, List, [], ◌∷◌, ◌++◌, length, map, true, refl, rules, ap, subst, arith}
 use Rattle.std.specs.Prelude.{Ok, Result}
 use Rattle.std.specs.Iterator.{Yields}
 use Rattle.lalrpop_lexer.specs.Cutting.{Cutting}
