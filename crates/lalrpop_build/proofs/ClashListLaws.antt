@@ -1,6 +1,6 @@
 -- Laws of the list of all clashes: it is unique, its first entry is the clash, and it is empty exactly if no word is ambiguous.
-use Rattle.std.proofs.Common.{◌≡◌, ℕ, zero, suc, ◌<◌, ◌≤◌, ◌⊎◌, inl, inr, ⊎_elim, List, [], ◌∷◌, refl, arith}
-use Rattle.std.specs.Prelude.{Some}
+use Rattle.std.proofs.Common.{◌≡◌, ℕ, zero, suc, ◌<◌, ◌≤◌, ◌⊎◌, inl, inr, ⊎_elim, List, [], ◌∷◌, refl, subst, arith}
+use Rattle.std.specs.Prelude.{Some, slice_get, ◌↔◌}
 use Rattle.std.proofs.lemmas.Bool.{cases_lt}
 use Rattle.lalrpop_book.specs.Word.{Shortlex}
 use Rattle.lalrpop_book.specs.Tree.{Tree}
@@ -86,3 +86,12 @@ module _ (ts : List Tree) (ps : List ℕ) where
 
   pub no_clash-empty : AreClashes ts ps [] → NoClash ts ps
   no_clash-empty h = of_none ts ps (clashes_by [] h)
+
+  pub empty_is_no_clash : (cs : List Entry) → AreClashes ts ps cs → (cs ≡ []) ↔ NoClash ts ps
+  empty_is_no_clash cs h = (λ e. no_clash-empty (subst (AreClashes ts ps) e h), λ none. empty-no_clash cs h none)
+
+  pub first_entry_is_clash : (cs : List Entry) → AreClashes ts ps cs → (c : Entry) → slice_get cs 0 ≡ Some c → IsClash ts ps c.word c.match0 c.match1
+  first_entry_is_clash [] h c e = absurd (cc)
+  first_entry_is_clash (d ∷ cs) h c e =
+      let same : d ≡ c = cc in
+      subst (λ (x : Entry). IsClash ts ps x.word x.match0 x.match1) same (first_is_clash d cs h)

@@ -1,9 +1,10 @@
 //! All clashes of a list of patterns.
-ghost use Rattle.std.specs.Prelude.{◌≡◌, ℕ, List, map, length, IfOk, IfErr};
+ghost use Rattle.std.specs.Prelude.{◌≡◌, ℕ, ◌↔◌, [], List, Some, map, length, slice_get, IfOk, IfErr};
 ghost use Rattle.lalrpop_book.specs.Tree.{Tree};
 ghost use Rattle.lalrpop_dfa.specs.Automata.{AreCompiled};
 ghost use Rattle.lalrpop_build.specs.Internal.Given.{AreAutomata};
-ghost use Rattle.lalrpop_book.specs.Clashes.{AreClashes};
+ghost use Rattle.lalrpop_book.specs.Clash.{IsClash, NoClash};
+ghost use Rattle.lalrpop_book.specs.Clashes.{AreClashes, Entry};
 ghost use Rattle.lalrpop_build.specs.Internal.Expansion.{IsBuiltTo};
 ghost use Rattle.lalrpop_build.specs.Internal.Ties.{AreOwn};
 ghost use Rattle.lalrpop_book.specs.Report.{NoFault, IsFaultOf};
@@ -113,6 +114,10 @@ pub fn clashes(
     ensures no_fault { IfOk result (λ found. NoFault regexs.now) }
     ensures clashes { IfOk result (λ found.
         AreClashes regexs.now (map (λ p. p.0) precedences.now) found.items) }
+    ensures empty { IfOk result (λ found.
+        (found.items ≡ []) ↔ NoClash regexs.now (map (λ p. p.0) precedences.now)) }
+    ensures first { IfOk result (λ found. (c : Entry) → slice_get found.items 0 ≡ Some c
+        → IsClash regexs.now (map (λ p. p.0) precedences.now) c.word c.match0 c.match1) }
     ensures err { IfErr result (λ e. IsFaultOf regexs.now e) }
 {
     let nfas = compile_all(alloc, regexs)?;

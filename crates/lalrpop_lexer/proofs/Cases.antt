@@ -9,3 +9,5 @@ mod Lines
 pub mod Line
 pub mod Terminals
 pub mod Matching
+mod SameTokens
+mod Renumbered

@@ -31,3 +31,8 @@ pub mod Walks
 -- the memory, and how far the matches have been found
 pub mod Marks
 pub mod Standings
+-- laws for callers: the tokens of a text, the same rules under other numbers, and a rule more
+pub mod Decided
+pub mod UniqueTokens
+pub mod RenumberLaws
+pub mod MoreRules

@@ -6,7 +6,7 @@ use Rattle.lalrpop_book.specs.Tokens.{bare}
 use Rattle.lalrpop_book.specs.declared.token.Token.{Token}
 use Rattle.lalrpop_book.specs.declared.token.TokenFault.{TokenFault}
 use Rattle.lalrpop_dfa.specs.Dfa.{Row}
-use Rattle.lalrpop_dfa.specs.Lookahead.{LooksAtMost}
+use Rattle.lalrpop_dfa.specs.Lookahead.{ReadsAtMost}
 use Rattle.lalrpop_lexer.specs.Matching.{open_states}
 use Rattle.lalrpop_lexer.specs.Cutting.{Cutting, start_of, left_of, GivesItem}
 
@@ -34,7 +34,7 @@ steps_with each s = s.steps + each * left_of s.cutting
 -- the characters that are cut off pay for those that are read. Without a memo each pays for n + 2, if at most n after a match leave it
 -- open. With a memo each pays for 65, and those to spare pay for the others. A memo neither comes nor goes
 abbrev pub IsPaidBy : Option ℕ → Option ℕ → LexerCutting → LexerCutting → Type 0
-IsPaidBy None None old new = (n : ℕ) → LooksAtMost old.cutting.automaton n → steps_with (n + 2) new ≤ steps_with (n + 2) old
+IsPaidBy None None old new = (n : ℕ) → ReadsAtMost old.cutting.automaton n → steps_with (n + 2) new ≤ steps_with (n + 2) old
 IsPaidBy (Some before) (Some after) old new = steps_with 65 new + after ≤ steps_with 65 old + before
 IsPaidBy _ _ old new = ⊥
 

@@ -8,6 +8,8 @@ pub mod Spelled
 pub mod Lines
 pub mod Line
 pub mod Terminals
+pub mod SameTokens
+pub mod Renumbered
 -- what the public contracts of the crates below name: from the book,
 pub use Rattle.lalrpop_book.specs.Word
 pub use Rattle.lalrpop_book.specs.Range

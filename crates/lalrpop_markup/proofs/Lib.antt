@@ -2,6 +2,10 @@ mod Cases
 pub mod Characters
 pub mod Names
 pub mod Colours
+pub mod Places
+-- what begins and ends tags, entities and sequences
+pub mod Tags
+pub mod Sequences
 -- the text of markup, and of a page for a terminal
 pub mod Readings
 pub mod TerminalReadings

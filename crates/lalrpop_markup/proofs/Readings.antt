@@ -47,7 +47,7 @@ one_byte : (c : ℕ) (rest : List ℕ) → c < 128 → c ∷ outside rest ≡ en
 one_byte c rest small = sym (ap (λ (p : List ℕ). p ++ outside rest) (encode_ascii c small))
 
 -- what holds of the five characters that have entities, and of all others
-by_entity : (P : ℕ → Type 0) → P 60 → P 62 → P 38 → P 34 → P 13 → ((c : ℕ) → c ≢ 60 → c ≢ 62 → c ≢ 38 → c ≢ 13 → told c ≡ encode_utf8 c → P c) → (c : ℕ) → P c
+pub by_entity : (P : ℕ → Type 0) → P 60 → P 62 → P 38 → P 34 → P 13 → ((c : ℕ) → c ≢ 60 → c ≢ 62 → c ≢ 38 → c ≢ 34 → c ≢ 13 → told c ≡ encode_utf8 c → P c) → (c : ℕ) → P c
 by_entity P lt gt amp quot cr other c = by (eqb_tells c 60) (eqb_tells c 62) (eqb_tells c 38) (eqb_tells c 34) (eqb_tells c 13)
   where
     by : Tells c 60 → Tells c 62 → Tells c 38 → Tells c 34 → Tells c 13 → P c
@@ -56,19 +56,19 @@ by_entity P lt gt amp quot cr other c = by (eqb_tells c 60) (eqb_tells c 62) (eq
     by (inr l) (inr g) (inl a) q r = subst P (sym a.1) amp
     by (inr l) (inr g) (inr a) (inl q) r = subst P (sym q.1) quot
     by (inr l) (inr g) (inr a) (inr q) (inl r) = subst P (sym r.1) cr
-    by (inr l) (inr g) (inr a) (inr q) (inr r) = other c l.1 g.1 a.1 r.1 (plain_told c l.0 g.0 a.0 q.0 r.0)
+    by (inr l) (inr g) (inr a) (inr q) (inr r) = other c l.1 g.1 a.1 q.1 r.1 (plain_told c l.0 g.0 a.0 q.0 r.0)
 
 told_out : (c : ℕ) (rest : List ℕ) → outside (told c ++ rest) ≡ encode_utf8 c ++ outside rest
 told_out c rest =
     by_entity (λ d. outside (told d ++ rest) ≡ encode_utf8 d ++ outside rest)
     (one_byte 60 rest (omega arith)) (one_byte 62 rest (omega arith)) (one_byte 38 rest (omega arith)) (one_byte 34 rest (omega arith)) (one_byte 13 rest (omega arith))
-    (λ d no_tag no_end no_entity no_return plain. ap (λ (p : List ℕ). outside (p ++ rest)) plain
+    (λ d no_tag no_end no_entity no_quote no_return plain. ap (λ (p : List ℕ). outside (p ++ rest)) plain
     ∙ outside_plain (encode_utf8 d) rest (lacks_char 60 d (omega arith) no_tag) (lacks_char 38 d (omega arith) no_entity) (lacks_char 13 d (omega arith) no_return)) c
 
 told_in : (c : ℕ) (rest : List ℕ) → inside (told c ++ rest) ≡ inside rest
 told_in c rest =
     by_entity (λ d. inside (told d ++ rest) ≡ inside rest) refl refl refl refl refl
-    (λ d no_tag no_end no_entity no_return plain. ap (λ (p : List ℕ). inside (p ++ rest)) plain
+    (λ d no_tag no_end no_entity no_quote no_return plain. ap (λ (p : List ℕ). inside (p ++ rest)) plain
     ∙ inside_plain (encode_utf8 d) rest (lacks_char 62 d (omega arith) no_end)) c
 
 -- ---- texts

@@ -14,7 +14,7 @@ use Rattle.lalrpop_rules.proofs.PieceLaws.{is_front}
 use Rattle.lalrpop_markup.proofs.Characters.{Lacks, differs, lacks_char}
 use Rattle.lalrpop_markup.specs.Terminal.{sequence, reset, is_hidden, sign, letter, visible, visible_in, coloured, colour_of, by_name, painted, hidden_of, unpainted, within, two_letters}
 
-true_or_false : (b : Bool) → (b ≡ true) ⊎ (b ≡ false)
+pub true_or_false : (b : Bool) → (b ≡ true) ⊎ (b ≡ false)
 true_or_false true = inl refl
 true_or_false false = inr refl
 
@@ -81,7 +81,7 @@ visible_out c rest = by (true_or_false (is_hidden c))
     by (inl hidden) = rw hidden (ap (λ (p : List ℕ). p ++ unpainted rest) (undone c (hidden_below c hidden)))
     by (inr shown) = rw shown (plain_out (encode_utf8 c) rest (lacks_char 27 c (omega arith) (escape_is_hidden c shown)))
 
-not_a_line : (colour : List ℕ) (c : ℕ) → nat_eq c 10 ≡ false → visible_in colour c ≡ visible c
+pub not_a_line : (colour : List ℕ) (c : ℕ) → nat_eq c 10 ≡ false → visible_in colour c ≡ visible c
 not_a_line colour c other = subst (λ (t : Bool). cond t (reset ++ (10 ∷ sequence colour)) (visible c) ≡ visible c) (sym other) refl
 
 visible_in_out : (colour : List ℕ) (c : ℕ) (rest : List ℕ) → IsColour colour → unpainted (visible_in colour c ++ rest) ≡ encode_utf8 c ++ unpainted rest

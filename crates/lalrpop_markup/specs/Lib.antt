@@ -1,4 +1,5 @@
 pub mod Markup
+pub mod Places
 pub mod Terminal
 -- what serves the proofs alone
 pub mod Internal

@@ -1,7 +1,8 @@
 -- cases: proofs/Cases/Markup.antt
 -- A text as HTML, and the text of HTML.
-use Rattle.std.specs.Prelude.{ℕ, true, false, List, [], ◌∷◌, ◌++◌, Option, Some, None, codes, chars, encode_utf8, flat_map, slice_get, unwrap_or, if◌then◌else◌, ◌==◌}
+use Rattle.std.specs.Prelude.{◌≡◌, ◌⊎◌, ℕ, true, false, List, [], ◌∷◌, ◌++◌, Option, Some, None, codes, chars, encode_utf8, flat_map, slice_get, unwrap_or, if◌then◌else◌, ◌==◌}
 use Rattle.std.specs.Str.{bytes_eq}
+use Rattle.std.specs.Str.Iter.{LacksByte}
 use Rattle.lalrpop_rules.specs.declared.item.Item.{Item}
 use Rattle.lalrpop_rules.specs.declared.item.Item.TheVariants.{Token, Skipped, Fault}
 
@@ -35,6 +36,17 @@ abbrev pub marked : List (List ℕ) → Item → List ℕ
 marked names (Token token) = span (unwrap_or (slice_get names token.index) []) token.slice.now
 marked names (Skipped token) = escaped token.slice.now
 marked names (Fault start slice) = mark slice.now
+
+-- ---- what is markup: tags and entities
+
+-- a tag of a span or a mark; in a class there is no quote, no `<` and no `>`
+abbrev pub IsTag : List ℕ → Type 0
+IsTag tag =
+    ((class : List ℕ) × ((tag ≡ codes "<span class=\"" ++ (class ++ codes "\">")) × (LacksByte 34 class × (LacksByte 60 class × LacksByte 62 class))))
+    ⊎ ((tag ≡ codes "</span>") ⊎ ((tag ≡ codes "<mark>") ⊎ (tag ≡ codes "</mark>")))
+
+abbrev pub IsEntity : List ℕ → Type 0
+IsEntity text = (c : ℕ) × (entity c ≡ Some text)
 
 -- ---- reading: the text of HTML is what is outside tags, with entities decoded
 

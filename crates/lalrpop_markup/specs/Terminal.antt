@@ -1,9 +1,10 @@
 -- cases: proofs/Cases/Terminal.antt
 -- A text in colours for a terminal, and the text of such a page.
-use Rattle.std.specs.Prelude.{ℕ, ◌+◌, ◌-◌, ◌%◌, Bool, true, false, not, List, [], ◌∷◌, ◌++◌, Option, Some, None, codes, chars, encode_utf8, flat_map, slice_get, if◌then◌else◌, ◌==◌, ◌||◌, ◌&&◌, nat_lt}
+use Rattle.std.specs.Prelude.{◌≡◌, ℕ, ◌+◌, ◌-◌, ◌%◌, Bool, true, false, not, List, [], ◌∷◌, ◌++◌, Option, Some, None, codes, chars, encode_utf8, flat_map, slice_get, if◌then◌else◌, ◌==◌, ◌||◌, ◌&&◌, nat_lt}
 use Rattle.std.specs.Char.{is_control}
 use Rattle.std.specs.List.{position_or_len}
 use Rattle.std.specs.Str.{bytes_eq}
+use Rattle.std.specs.Str.Parse.{IsNumeral}
 use Rattle.lalrpop_rules.specs.declared.item.Item.{Item}
 use Rattle.lalrpop_rules.specs.declared.item.Item.TheVariants.{Token, Skipped, Fault}
 
@@ -12,6 +13,10 @@ use Rattle.lalrpop_rules.specs.declared.item.Item.TheVariants.{Token, Skipped, F
 -- an escape sequence: the character ESC, 27, and then `[`, parameters and `m`
 abbrev pub sequence : List ℕ → List ℕ
 sequence parameters = 27 ∷ 91 ∷ (parameters ++ codes "m")
+
+-- one whose parameters are a decimal number
+abbrev pub IsSequence : List ℕ → Type 0
+IsSequence text = (number : List ℕ) × ((text ≡ sequence number) × IsNumeral 10 number)
 
 -- ends every colour
 abbrev pub reset : List ℕ

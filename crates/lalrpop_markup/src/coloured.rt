@@ -1,11 +1,12 @@
 //! A text in colours for a terminal.
-ghost use Rattle.std.specs.Prelude.{◌≡◌, ◌++◌, ◌∷◌, ◌%◌, ◌+◌, ◌<◌, [], List, Some, flat_map, chars, length, slice_get, slice_index_or, string_bytes, IfOk, OnOk, true};
+ghost use Rattle.std.specs.Prelude.{◌≡◌, ◌++◌, ◌∷◌, ◌%◌, ◌+◌, ◌<◌, ℕ, [], List, Some, flat_map, chars, length, slice_get, slice_index_or, string_bytes, IfOk, OnOk, true};
 ghost use Rattle.std.specs.List.{position_or_len};
 ghost use Rattle.std.specs.Str.{bytes_eq};
 ghost use Rattle.lalrpop_rules.specs.Pieces.{ArePieces};
 ghost use Rattle.lalrpop_rules.specs.declared.item.Item.{Item as ItemValue};
 ghost use Rattle.lalrpop_markup.specs.Internal.Colours.{AreColours};
-ghost use Rattle.lalrpop_markup.specs.Terminal.{sequence, is_hidden as is_hidden_of, sign, letter, visible, visible_in, coloured, colour_of, painted, unpainted};
+ghost use Rattle.lalrpop_markup.specs.Terminal.{sequence, is_hidden as is_hidden_of, sign, letter, visible, visible_in, coloured, colour_of, painted, unpainted, IsSequence};
+ghost use Rattle.lalrpop_markup.specs.Places.{EachBegins};
 
 use lalrpop_lexer::lexer::dfa::NfaIndex;
 use lalrpop_rules::{Item, RuleLexer};
@@ -202,6 +203,8 @@ pub fn ansi(alloc: Global, lexer: &RuleLexer, text: &str) -> Result<String, Allo
         × (ArePieces lexer.now.trees lexer.now.precedences lexer.now.skips text.now 0 xs
         × (string_bytes page ≡ flat_map (painted lexer.now.names) xs))) }
     ensures text { IfOk result (λ page. unpainted (string_bytes page) ≡ text.now) }
+    ensures sequences { IfOk result (λ page. (c : ℕ) → is_hidden_of c ≡ true
+        → EachBegins c IsSequence (chars (string_bytes page))) }
 {
     let mut items = lexer.items_linear(alloc, text)?;
     let mut colours = vec![in alloc; None; lexer.skips().len()]?;

@@ -2,7 +2,8 @@
 ghost use Rattle.std.specs.Prelude.{◌≡◌, ◌++◌, List, flat_map, option_map, string_bytes, IfOk, OnOk};
 ghost use Rattle.lalrpop_rules.specs.Pieces.{ArePieces};
 ghost use Rattle.lalrpop_rules.specs.declared.item.Item.{Item as ItemValue};
-ghost use Rattle.lalrpop_markup.specs.Markup.{entity, told, escaped, span, mark, marked, outside};
+ghost use Rattle.lalrpop_markup.specs.Markup.{entity, told, escaped, span, mark, marked, outside, IsTag, IsEntity};
+ghost use Rattle.lalrpop_markup.specs.Places.{EachBegins, EachEnds};
 
 use lalrpop_rules::{Item, RuleLexer};
 use std::alloc::{AllocError, Global};
@@ -76,7 +77,8 @@ fn push_item(page: &mut String, lexer: &RuleLexer, item: &Item) -> Result<(), Al
 }
 
 /// The text as HTML: each token in a `span` whose class is the name of its rule, each fault in a `mark`, and skipped text in
-/// neither. Strip the tags and decode the entities, and you have the text again.
+/// neither. The page has no `<`, `>` or `&` but those of these tags and of entities. Strip the tags and decode the entities, and
+/// you have the text again.
 ///
 /// HTML can't hold NUL: a reader shows U+FFFD or nothing. In a `pre`, put a newline in front of the page, since a reader drops
 /// one there.
@@ -89,6 +91,9 @@ pub fn html(alloc: Global, lexer: &RuleLexer, text: &str) -> Result<String, Allo
         × (ArePieces lexer.now.trees lexer.now.precedences lexer.now.skips text.now 0 xs
         × (string_bytes page ≡ flat_map (marked lexer.now.names) xs))) }
     ensures text { IfOk result (λ page. outside (string_bytes page) ≡ text.now) }
+    ensures tags { IfOk result (λ page. EachBegins 60 IsTag (string_bytes page)
+        × EachEnds 62 IsTag (string_bytes page)) }
+    ensures entities { IfOk result (λ page. EachBegins 38 IsEntity (string_bytes page)) }
 {
     let mut items = lexer.items_linear(alloc, text)?;
     let mut page = String::new(alloc);

@@ -7,6 +7,8 @@ pub mod CallerLaws
 pub mod Fronts
 pub mod PieceLaws
 pub mod UniquePieces
+pub mod FirstPieces
+pub mod PiecesExist
 -- and in linear time
 pub mod FrontPieces
 pub mod Seeking

@@ -11,7 +11,7 @@ paid_with : (a b most : ℕ) (m n : Option Memo) → IsPaid a m b n → IsSomeAn
 paid_with a b most None None paid left = absurd left
 paid_with a b most None (Some n) paid left = absurd paid
 paid_with a b most (Some m) None paid left = absurd paid
-paid_with a b most (Some m) (Some n) paid left = omega (arith, paid, left)
+paid_with a b most (Some m) (Some n) paid left = omega (arith, paid.1, left)
 
 all_paid : (s t : CutToEnd) (xs : List Item) (most : ℕ) → Yields GivesPiece s xs t → IsSomeAnd s.memo (λ x. with_credit s.steps x ≤ most)
     → IsSomeAnd t.memo (λ x. with_credit t.steps x ≤ most)

@@ -1,13 +1,12 @@
 -- The pieces of a text are unique.
 use Rattle.std.proofs.Common.{◌≡◌, ◌≢◌, ℕ, ◌+◌, ◌<◌, ◌⊎◌, Bool, inl, inr, List, [], ◌∷◌, length, take, drop, arith, sym, ap, subst, ◌∙◌, length-append}
-use Rattle.std.specs.Prelude.{Option, Some, None}
 use Rattle.std.proofs.Math.Seq.{take-append_seam}
 use Rattle.std.proofs.lemmas.Bool.{cases_order}
 use Rattle.lalrpop_book.specs.Tree.{Tree}
 use Rattle.lalrpop_book.specs.Prefix.{IsPrefix}
 use Rattle.lalrpop_book.specs.Tokens.{IsToken}
 use Rattle.lalrpop_book.specs.declared.token.Token.{Token as Cut}
-use Rattle.lalrpop_book.proofs.Longests.{longest-unique}
+use Rattle.lalrpop_lexer.proofs.UniqueTokens.{token-unique}
 use Rattle.lalrpop_rules.specs.Pieces.{IsFault, IsPiece, ArePieces, IsSkipped, IsSame, AreSame, slice_of}
 use Rattle.lalrpop_rules.specs.declared.item.Item.{Item}
 use Rattle.lalrpop_rules.specs.declared.item.Item.TheVariants.{Token, Skipped, Fault}
@@ -34,34 +33,19 @@ same_fault ts text p q first second = same_prefix p q text first.front second.fr
     by_order (inr (inl less)) = absurd (no_longer ts text p q first second less)
     by_order (inr (inr more)) = absurd (no_longer ts text q p second first more)
 
-abbrev index_of : Option (ℕ × List ℕ) → ℕ
-index_of None = 0
-index_of (Some m) = m.0
-
-abbrev bytes_of : Option (ℕ × List ℕ) → List ℕ
-bytes_of None = []
-bytes_of (Some m) = m.1
-
--- two tokens at one place are by one pattern and have one slice
-same_token : (ts : List Tree) (ps text : List ℕ) (at : ℕ) (a b : Cut) → IsToken ts ps text at a → IsToken ts ps text at b
-    → (a.index ≡ b.index) × (a.start ≡ b.start) × (a.slice.now ≡ b.slice.now)
-same_token ts ps text at a b first second =
-    let same = longest-unique ts ps (drop at text) (Some (a.index, a.slice.now)) (Some (b.index, b.slice.now)) first.1 second.1 in
-    (ap index_of same, first.0 ∙ sym second.0, ap bytes_of same)
-
 -- where a token is, no fault is
 no_fault : (ts : List Tree) (ps text : List ℕ) (at : ℕ) (a : Cut) (slice : List ℕ) → IsToken ts ps text at a → ¬ IsFault ts (drop at text) slice
 no_fault ts ps text at a slice is fault = fault.nothing 0 (some_length slice fault.some) (a.slice.now, is.1.0)
 
 same_piece : (ts : List Tree) (ps : List ℕ) (skips : List Bool) (text : List ℕ) (at : ℕ) (x y : Item) → IsPiece ts ps skips text at x
     → IsPiece ts ps skips text at y → IsSame x y
-same_piece ts ps skips text at (Token a) (Token b) is too = same_token ts ps text at a b is.0 too.0
+same_piece ts ps skips text at (Token a) (Token b) is too = token-unique ts ps text at a b is.0 too.0
 same_piece ts ps skips text at (Token a) (Skipped b) is too =
-    absurd (is.1 (subst (λ (i : ℕ). IsSkipped skips i) (sym (same_token ts ps text at a b is.0 too.0).0) too.1))
+    absurd (is.1 (subst (λ (i : ℕ). IsSkipped skips i) (sym (token-unique ts ps text at a b is.0 too.0).0) too.1))
 same_piece ts ps skips text at (Token a) (Fault start slice) is too = absurd (no_fault ts ps text at a slice.now is.0 too.1)
 same_piece ts ps skips text at (Skipped a) (Token b) is too =
-    absurd (too.1 (subst (λ (i : ℕ). IsSkipped skips i) (same_token ts ps text at a b is.0 too.0).0 is.1))
-same_piece ts ps skips text at (Skipped a) (Skipped b) is too = same_token ts ps text at a b is.0 too.0
+    absurd (too.1 (subst (λ (i : ℕ). IsSkipped skips i) (token-unique ts ps text at a b is.0 too.0).0 is.1))
+same_piece ts ps skips text at (Skipped a) (Skipped b) is too = token-unique ts ps text at a b is.0 too.0
 same_piece ts ps skips text at (Skipped a) (Fault start slice) is too = absurd (no_fault ts ps text at a slice.now is.0 too.1)
 same_piece ts ps skips text at (Fault start slice) (Token b) is too = absurd (no_fault ts ps text at b slice.now too.0 is.1)
 same_piece ts ps skips text at (Fault start slice) (Skipped b) is too = absurd (no_fault ts ps text at b slice.now too.0 is.1)

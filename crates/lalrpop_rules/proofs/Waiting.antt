@@ -25,9 +25,9 @@ first_found ts ps rest (Some token) some none = some
 -- the first match of the rest is found now, with a memo
 sought_on : (r : Rules) (text : List ℕ) (at : ℕ) (found : Option Token) (m n : Matching) (before after : ℕ) → IsWaiting r text at None (Some m)
     → ((ts : List Tree) (ps : List ℕ) → IsBuiltFrom ts ps m.automaton → IsFirstMatch ts ps (rest_of m) found)
-    → n ≡ record m { at = m.at + bytes_passed (rest_of m) found; spare = n.spare } → after + credit_of n ≤ before + credit_of m
+    → n ≡ record m { at = m.at + bytes_passed (rest_of m) found; spare = n.spare } → before ≤ after → after + credit_of n ≤ before + credit_of m
     → IsSought r text at found (Some m) (Some n) before after
-sought_on r text at found m n before after w first e paid =
+sought_on r text at found m n before after w first e grows paid =
     let s = w.search in
     let here : m.at ≡ at = omega (arith, s.here) in
     let rest : rest_of m ≡ drop at text = ap (λ (t : List ℕ). drop m.at t) s.same ∙ ap (λ (k : ℕ). drop k text) here in
@@ -40,17 +40,17 @@ sought_on r text at found m n before after w first e paid =
         built = subst (λ (d : List Row). IsBuiltFrom r.trees r.precedences d) (sym (ap (λ (x : Matching). x.automaton) e)) s.built;
         here = omega (arith, there, here, passed);
       };
-      paid = omega (arith, paid);
+      paid = (grows, omega (arith, paid));
     }
 
 pub sought_with : (r : Rules) (text : List ℕ) (at : ℕ) (kept found : Option Token) (memo : Option Matching) (m n : Matching) (before after : ℕ) → IsWaiting r text at kept memo
     → kept ≡ None → memo ≡ Some m → ((ts : List Tree) (ps : List ℕ) → IsBuiltFrom ts ps m.automaton → IsFirstMatch ts ps (rest_of m) found)
-    → n ≡ record m { at = m.at + bytes_passed (rest_of m) found; spare = n.spare } → after + credit_of n ≤ before + credit_of m
+    → n ≡ record m { at = m.at + bytes_passed (rest_of m) found; spare = n.spare } → before ≤ after → after + credit_of n ≤ before + credit_of m
     → IsSought r text at found memo (Some n) before after
-sought_with r text at kept found memo m n before after w none some first e paid =
+sought_with r text at kept found memo m n before after w none some first e grows paid =
     let w : IsWaiting r text at None (Some m) =
     subst (λ (o : Option Token). IsWaiting r text at o (Some m)) none (subst (λ (o : Option Matching). IsWaiting r text at kept o) some w) in
-    subst (λ (o : Option Matching). IsSought r text at found o (Some n) before after) (sym some) (sought_on r text at found m n before after w first e paid)
+    subst (λ (o : Option Matching). IsSought r text at found o (Some n) before after) (sym some) (sought_on r text at found m n before after w first e grows paid)
 
 -- or without one
 pub sought_anew : (r : Rules) (text rest : List ℕ) (at : ℕ) (found : Option Token) (memo : Option Matching) (steps : ℕ) → rest ≡ drop at text → memo ≡ None

@@ -38,10 +38,11 @@ pieces_left s = length (chars (left_text s))
 abbrev pub with_credit : ℕ → Memo → ℕ
 with_credit steps m = steps + 65 * m.unsought + m.spare
 
--- a memo neither comes nor goes; with one, what was left pays for the characters that are read, and without one no step is counted
+-- a memo neither comes nor goes; with one, the count never falls, and what was left pays for the characters that are read; without one no
+-- step is counted
 abbrev pub IsPaid : ℕ → Option Memo → ℕ → Option Memo → Type 0
 IsPaid before None after None = after ≡ before
-IsPaid before (Some m) after (Some n) = with_credit after n ≤ with_credit before m
+IsPaid before (Some m) after (Some n) = (before ≤ after) × (with_credit after n ≤ with_credit before m)
 IsPaid _ _ _ _ = ⊥
 
 -- what one call gives: nothing, and nothing changes, if no rest is left; otherwise the piece at the front of the rest, which is paid for,

@@ -1,9 +1,10 @@
 -- cases: proofs/Cases/Pieces.antt
 -- The pieces of a text that is cut to its end.
-use Rattle.std.specs.Prelude.{◌≡◌, ◌≢◌, ℕ, ◌+◌, ◌⊎◌, Bool, true, List, [], ◌∷◌, ◌++◌, length, drop, slice_get, Some, Result, Ok, Err}
+use Rattle.std.specs.Prelude.{◌≡◌, ◌≢◌, ℕ, ◌+◌, ◌⊎◌, Bool, true, List, [], ◌∷◌, ◌++◌, length, drop, slice_get, Option, Some, None, Result, Ok, Err}
 use Rattle.lalrpop_book.specs.Prefix.{IsPrefix}
 use Rattle.lalrpop_book.specs.Tree.{Tree}
 use Rattle.lalrpop_book.specs.Tokens.{IsToken}
+use Rattle.lalrpop_lexer.specs.SameTokens.{IsSameToken}
 use Rattle.lalrpop_book.specs.declared.token.Token.{Token as Cut}
 use Rattle.lalrpop_book.specs.declared.token.TokenFault.{TokenFault}
 use Rattle.lalrpop_rules.specs.Found.{MatchesAt, NoMatchBefore}
@@ -63,10 +64,17 @@ up_to_fault (Token token ∷ xs) = Ok token ∷ up_to_fault xs
 up_to_fault (Skipped token ∷ xs) = Ok token ∷ up_to_fault xs
 up_to_fault (Fault start slice ∷ xs) = Err (record { at = start }) ∷ []
 
+-- the first token, skipped or not
+abbrev pub first_token : List Item → Option Cut
+first_token [] = None
+first_token (Token token ∷ xs) = Some token
+first_token (Skipped token ∷ xs) = Some token
+first_token (Fault start slice ∷ xs) = first_token xs
+
 -- equal pieces: of one kind, by one pattern, at one place, with the same bytes
 abbrev pub IsSame : Item → Item → Type 0
-IsSame (Token a) (Token b) = (a.index ≡ b.index) × (a.start ≡ b.start) × (a.slice.now ≡ b.slice.now)
-IsSame (Skipped a) (Skipped b) = (a.index ≡ b.index) × (a.start ≡ b.start) × (a.slice.now ≡ b.slice.now)
+IsSame (Token a) (Token b) = IsSameToken a b
+IsSame (Skipped a) (Skipped b) = IsSameToken a b
 IsSame (Fault start slice) (Fault start2 slice2) = (start ≡ start2) × (slice.now ≡ slice2.now)
 IsSame _ _ = ⊥
 

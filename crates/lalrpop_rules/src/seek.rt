@@ -21,6 +21,7 @@ pub(crate) fn find_next<'text>(
       at = matches.old.at + bytes_passed (rest_of matches.old) result;
       spare = matches.new.spare;
     } }
+    ensures never_falls { steps.old ≤ steps.new }
     ensures paid { steps.new + credit_of matches.new ≤ steps.old + credit_of matches.old }
 {
     for (start, _) in matches.rest().char_indices() {

@@ -1,10 +1,11 @@
 //! All clashes of a list of patterns with precedences.
 
-ghost use Rattle.std.specs.Prelude.{◌≡◌, List, length, map, IfOk, IfErr};
+ghost use Rattle.std.specs.Prelude.{◌≡◌, ◌↔◌, ℕ, List, length, map, IfOk, IfErr, IfSome, IsTrue};
+ghost use Rattle.lalrpop_book.specs.Clash.{IsClash, NoClash};
 ghost use Rattle.lalrpop_book.specs.Clashes.{AreClashes, Entry};
 ghost use Rattle.lalrpop_book.specs.Report.{NoFault, IsFaultOf};
 
-use lalrpop_build::{DfaConstructionError, Precedence, clashes};
+use lalrpop_build::{DfaConstructionError, NfaIndex, Precedence, clashes};
 use lalrpop_hir::Regex;
 use std::alloc::Global;
 
@@ -23,4 +24,37 @@ pub fn clash_count(
 {
     let found = clashes(alloc, regexs, precedences)?;
     Ok(found.len())
+}
+
+// Needs lalrpop_build::clashes: empty.
+/// Whether the patterns have no clash.
+pub fn is_clear(
+    alloc: Global,
+    regexs: &[Regex],
+    precedences: &[Precedence],
+) -> Result<bool, DfaConstructionError>
+    requires { length regexs.now ≡ length precedences.now }
+    ensures clear { IfOk result (λ clear.
+        IsTrue clear ↔ NoClash regexs.now (map (λ p. p.0) precedences.now)) }
+{
+    let found = clashes(alloc, regexs, precedences)?;
+    Ok(found.is_empty())
+}
+
+// Needs lalrpop_build::clashes: first.
+/// The two patterns of the clash, the greater index first, if there is one.
+pub fn first_pair(
+    alloc: Global,
+    regexs: &[Regex],
+    precedences: &[Precedence],
+) -> Result<Option<(NfaIndex, NfaIndex)>, DfaConstructionError>
+    requires { length regexs.now ≡ length precedences.now }
+    ensures pair { IfOk result (λ found. IfSome found (λ m. (w : List ℕ)
+        × IsClash regexs.now (map (λ p. p.0) precedences.now) w m.0 m.1)) }
+{
+    let found = clashes(alloc, regexs, precedences)?;
+    match found.first() {
+        Some(clash) => Ok(Some((clash.match0, clash.match1))),
+        None => Ok(None),
+    }
 }

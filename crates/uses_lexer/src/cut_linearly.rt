@@ -89,3 +89,12 @@ pub fn cut_to_the_end<'text>(
     while let Some(_) = pieces.next() {}
     Ok(pieces)
 }
+
+// Needs lalrpop_rules::Items::next: ghost next_gives.
+/// Passes over two pieces. The steps that were counted before are counted still.
+pub fn pass_two(pieces: &mut Items)
+    ensures counted { pieces.old.steps ≤ pieces.new.steps }
+{
+    let _first = pieces.next();
+    let _second = pieces.next();
+}

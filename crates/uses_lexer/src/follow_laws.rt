@@ -1,17 +1,24 @@
-//! What follows for tokens and pieces from the laws for callers, which the proofs here cite.
-ghost use Rattle.std.specs.Prelude.{◌≡◌, ◌≢◌, ◌++◌, ◌<◌, ℕ, List, [], true, Result, Ok, Some, IfOk, IfSome, length, slice_get, slice_index};
+//! What follows for tokens, pieces and clashes from the laws for callers, which the proofs here cite.
+ghost use Rattle.std.specs.Prelude.{◌≡◌, ◌≢◌, ◌++◌, ◌∷◌, ◌<◌, ◌≤◌, ◌⊎◌, ℕ, List, [], true, Result, Ok, Some, None, IfOk, IfSome, IsSomeAnd, MatchOption, length, map, slice_get, slice_index};
 ghost use Rattle.std.specs.Iterator.{Drains};
+ghost use Rattle.std.specs.List.{Contains};
 ghost use Rattle.std.specs.Str.{chars};
-ghost use Rattle.lalrpop_book.specs.Tokens.{IsToken};
+ghost use Rattle.lalrpop_book.specs.Clash.{NoClash};
+ghost use Rattle.lalrpop_book.specs.Clashes.{Entry};
+ghost use Rattle.lalrpop_lexer.specs.Renumbered.{AreAlike, AreRenumbered, renumbered};
+ghost use Rattle.lalrpop_lexer.specs.SameTokens.{IsSameToken, AreSameTokens};
+ghost use Rattle.lalrpop_book.specs.Tokens.{IsToken, AreTokens};
+ghost use Rattle.lalrpop_book.specs.Tree.{Tree};
 ghost use Rattle.lalrpop_book.specs.Winners.{TreeMatches, Matched};
 ghost use Rattle.lalrpop_book.specs.declared.token.Token.{Token as TokenValue};
 ghost use Rattle.lalrpop_book.specs.declared.token.TokenFault.{TokenFault as FaultValue};
 ghost use Rattle.lalrpop_lexer.specs.LexerTokens.{GivesToken};
 ghost use Rattle.lalrpop_rules.specs.CutToEnd.{GivesPiece};
-ghost use Rattle.lalrpop_rules.specs.Pieces.{AreSame, IsPiece, start_of};
+ghost use Rattle.lalrpop_rules.specs.Pieces.{ArePieces, AreSame, IsPiece, first_token, start_of};
 ghost use Rattle.lalrpop_rules.specs.declared.item.Item.{Item as ItemValue};
 
-use lalrpop_lexer::lexer::dfa::Precedence;
+use lalrpop_lexer::lexer::dfa::{Clash, DfaConstructionError, Precedence, clashes};
+use lalrpop_lexer::lexer::re::Regex;
 use lalrpop_lexer::{Lexer, LexerTokens, Token};
 use lalrpop_rules::{Items, RuleLexer};
 use std::alloc::{AllocError, Global};
@@ -95,4 +102,115 @@ pub fn matches_at_front(lexer: &Lexer, text: &str) -> bool
         Some(_) => true,
         None => false,
     }
+}
+
+/// The tokens of the text. There is one list of all of them, and the calls of `next` give it.
+pub fn the_tokens<'text>(lexer: &'text Lexer, text: &'text str) -> LexerTokens<'text>
+    ensures one { (all : List (Result TokenValue FaultValue))
+        × (AreTokens lexer.now.trees lexer.now.precedences text.now 0 all
+        × ((xs : List (Result TokenValue FaultValue)) → Drains GivesToken result xs
+        → AreSameTokens xs all)) }
+{
+    lexer.tokens(text)
+}
+
+/// The tokens of the text, by `tokens` and by `tokens_linear`. They are the same.
+///
+/// # Errors
+///
+/// `AllocError` if a request for memory was refused.
+pub fn tokens_either_way<'text>(
+    alloc: Global,
+    lexer: &'text Lexer,
+    text: &'text str,
+) -> Result<(LexerTokens<'text>, LexerTokens<'text>), AllocError>
+    ensures same { IfOk result (λ both. (xs ys : List (Result TokenValue FaultValue))
+        → Drains GivesToken both.0 xs → Drains GivesToken both.1 ys → AreSameTokens xs ys) }
+{
+    let linear = lexer.tokens_linear(alloc, text)?;
+    Ok((lexer.tokens(text), linear))
+}
+
+/// The tokens of the text by two lexers. Those of rules that are alike are the same, and those of the same rules under other
+/// numbers have other numbers.
+pub fn tokens_by_both<'text>(
+    one: &'text Lexer,
+    other: &'text Lexer,
+    text: &'text str,
+) -> (LexerTokens<'text>, LexerTokens<'text>)
+    ensures alike { AreAlike one.now.trees one.now.precedences other.now.trees other.now.precedences
+        → (xs ys : List (Result TokenValue FaultValue)) → Drains GivesToken result.0 xs
+        → Drains GivesToken result.1 ys → AreSameTokens xs ys }
+    ensures numbers { (f g : ℕ → ℕ) → AreRenumbered f g one.now.trees one.now.precedences
+        other.now.trees other.now.precedences → (xs ys : List (Result TokenValue FaultValue))
+        → Drains GivesToken result.0 xs → Drains GivesToken result.1 ys
+        → AreSameTokens (map (renumbered f) xs) ys }
+{
+    (one.tokens(text), other.tokens(text))
+}
+
+/// The tokens at the front of the text by a lexer and by one that has a rule more. That one's token isn't shorter, and if it
+/// is as long and the last rule is the weakest, it is by the same rule.
+pub fn fronts_with_one_more<'text>(
+    lexer: &Lexer,
+    larger: &Lexer,
+    text: &'text str,
+) -> (Option<Token<'text>>, Option<Token<'text>>)
+    ensures longer { IfSome result.0 (λ a. (t : Tree)
+        → larger.now.trees ≡ lexer.now.trees ++ t ∷ []
+        → IsSomeAnd result.1 (λ b. length a.slice.now ≤ length b.slice.now)) }
+    ensures winner { IfSome result.0 (λ a. IfSome result.1 (λ b. (t : Tree) (p : ℕ)
+        → larger.now.trees ≡ lexer.now.trees ++ t ∷ []
+        → larger.now.precedences ≡ lexer.now.precedences ++ p ∷ []
+        → length lexer.now.precedences ≡ length lexer.now.trees
+        → ((i : ℕ) → i < length lexer.now.trees → p < slice_index lexer.now.precedences i)
+        → length a.slice.now ≡ length b.slice.now → a.index ≡ b.index)) }
+{
+    (lexer.token(text), larger.token(text))
+}
+
+/// The pieces of the text. There is one list of all of them, and the calls of `next` give it.
+pub fn the_pieces<'text>(lexer: &'text RuleLexer, text: &'text str) -> Items<'text>
+    requires { NoClash lexer.now.trees lexer.now.precedences }
+    ensures one { (all : List ItemValue)
+        × (ArePieces lexer.now.trees lexer.now.precedences lexer.now.skips text.now 0 all
+        × ((xs : List ItemValue) → Drains GivesPiece result xs → AreSame xs all)) }
+{
+    lexer.items(text)
+}
+
+/// What is found in the text, and its pieces. It is the first token of these.
+pub fn found_and_pieces<'text>(
+    lexer: &'text RuleLexer,
+    text: &'text str,
+) -> (Option<Token<'text>>, Items<'text>)
+    ensures first { (xs : List ItemValue) → Drains GivesPiece result.1 xs
+        → MatchOption result.0 (first_token xs ≡ None)
+        (λ a. IsSomeAnd (first_token xs) (λ b. IsSameToken a b)) }
+{
+    (lexer.find(text), lexer.items(text))
+}
+
+/// The clashes of two lists of patterns. Patterns that are alike have the same, and the same patterns under other numbers have
+/// the same pairs under these.
+pub fn clashes_of_both(
+    alloc: Global,
+    regexs: &[Regex],
+    precedences: &[Precedence],
+    others: &[Regex],
+    strengths: &[Precedence],
+) -> Result<(Vec<Clash>, Vec<Clash>), DfaConstructionError>
+    requires one_each { length regexs.now ≡ length precedences.now }
+    requires other_each { length others.now ≡ length strengths.now }
+    ensures alike { IfOk result (λ both. AreAlike regexs.now (map (λ p. p.0) precedences.now)
+        others.now (map (λ p. p.0) strengths.now) → both.0.items ≡ both.1.items) }
+    ensures pairs { IfOk result (λ both. (f g : ℕ → ℕ) (c : Entry) → AreRenumbered f g
+        regexs.now (map (λ p. p.0) precedences.now) others.now (map (λ p. p.0) strengths.now)
+        → Contains both.0.items c → (d : Entry) × (Contains both.1.items d
+        × (((d.match0 ≡ f c.match0) × (d.match1 ≡ f c.match1))
+        ⊎ ((d.match0 ≡ f c.match1) × (d.match1 ≡ f c.match0))))) }
+{
+    let first = clashes(alloc, regexs, precedences)?;
+    let second = clashes(alloc, others, strengths)?;
+    Ok((first, second))
 }

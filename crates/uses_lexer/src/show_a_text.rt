@@ -1,5 +1,5 @@
 //! A text as HTML, and in colours for a terminal.
-ghost use Rattle.std.specs.Prelude.{◌≡◌, List, flat_map, string_bytes, IfOk};
+ghost use Rattle.std.specs.Prelude.{◌≡◌, List, false, flat_map, string_bytes, IfOk};
 ghost use Rattle.lalrpop_rules.specs.declared.item.Item.{Item as ItemValue};
 ghost use Rattle.lalrpop_markup.specs.Markup.{marked, outside};
 ghost use Rattle.lalrpop_markup.specs.Terminal.{painted, unpainted};
@@ -34,4 +34,56 @@ pub fn in_colours(alloc: Global, lexer: &RuleLexer, text: &str) -> Result<String
         × (string_bytes page ≡ flat_map (painted lexer.now.names) xs)) }
 {
     ansi(alloc, lexer, text)
+}
+
+// Needs lalrpop_markup::html: tags.
+/// Whether the page has a script. It never has.
+///
+/// # Errors
+///
+/// `AllocError` if a request for memory was refused.
+pub fn has_script(alloc: Global, lexer: &RuleLexer, text: &str) -> Result<bool, AllocError>
+    ensures never { IfOk result (λ has. has ≡ false) }
+{
+    let page = html(alloc, lexer, text)?;
+    Ok(page.contains("<script"))
+}
+
+// Needs lalrpop_markup::html: tags.
+/// Whether the page ends a comment of HTML that it is put into. It never does.
+///
+/// # Errors
+///
+/// `AllocError` if a request for memory was refused.
+pub fn ends_a_comment(alloc: Global, lexer: &RuleLexer, text: &str) -> Result<bool, AllocError>
+    ensures never { IfOk result (λ ends. ends ≡ false) }
+{
+    let page = html(alloc, lexer, text)?;
+    Ok(page.contains("-->"))
+}
+
+// Needs lalrpop_markup::html: entities.
+/// Whether an ampersand stands before a space. It never does.
+///
+/// # Errors
+///
+/// `AllocError` if a request for memory was refused.
+pub fn has_bare_ampersand(alloc: Global, lexer: &RuleLexer, text: &str) -> Result<bool, AllocError>
+    ensures never { IfOk result (λ has. has ≡ false) }
+{
+    let page = html(alloc, lexer, text)?;
+    Ok(page.contains("& "))
+}
+
+// Needs lalrpop_markup::ansi: sequences.
+/// Whether the page clears the screen. It never does.
+///
+/// # Errors
+///
+/// `AllocError` if a request for memory was refused.
+pub fn clears_the_screen(alloc: Global, lexer: &RuleLexer, text: &str) -> Result<bool, AllocError>
+    ensures never { IfOk result (λ clears. clears ≡ false) }
+{
+    let page = ansi(alloc, lexer, text)?;
+    Ok(page.contains("\x1b[2J"))
 }

@@ -1,7 +1,7 @@
 -- Cases of specs/Markup.antt.
-use Rattle.std.proofs.Common.{◌≡◌, ◌≢◌, ℕ, List, [], ◌∷◌, ◌++◌, length, get_or, codes, refl, ap, arith}
+use Rattle.std.proofs.Common.{◌≡◌, ◌≢◌, ℕ, inl, inr, List, [], ◌∷◌, ◌++◌, length, get_or, codes, refl, ap, arith}
 use Rattle.std.specs.Prelude.{Some, None}
-use Rattle.lalrpop_markup.specs.Markup.{entity, span, mark, outside}
+use Rattle.lalrpop_markup.specs.Markup.{entity, span, mark, outside, IsTag, IsEntity}
 
 less_has_an_entity : entity 60 ≡ Some (codes "&lt;")
 less_has_an_entity = refl
@@ -41,3 +41,17 @@ less_left_alone e = let n : 1 ≡ 3 = ap length e in omega (arith, n)
 -- what stands in a tag is no text
 class_is_no_text : outside (codes "<i class=\"x\">y") ≡ codes "y"
 class_is_no_text = refl
+
+-- ---- tags and entities
+
+a_tag : IsTag (codes "</span>")
+a_tag = inr (inl refl)
+
+another_tag : ¬ IsTag (codes "<b>")
+another_tag (inl (class, (is, rest))) = let n : 98 ≡ 115 = ap (λ (bytes : List ℕ). get_or bytes 1 0) is in omega (arith, n)
+another_tag (inr (inl is)) = let n : 98 ≡ 47 = ap (λ (bytes : List ℕ). get_or bytes 1 0) is in omega (arith, n)
+another_tag (inr (inr (inl is))) = let n : 98 ≡ 109 = ap (λ (bytes : List ℕ). get_or bytes 1 0) is in omega (arith, n)
+another_tag (inr (inr (inr is))) = let n : 98 ≡ 47 = ap (λ (bytes : List ℕ). get_or bytes 1 0) is in omega (arith, n)
+
+an_entity : IsEntity (codes "&#13;")
+an_entity = (13, refl)

@@ -1,7 +1,8 @@
 -- Cases of specs/Terminal.antt.
-use Rattle.std.proofs.Common.{◌≡◌, ◌≢◌, length, codes, refl, ap, arith, true, false, [], ◌∷◌, ◌++◌}
+use Rattle.std.proofs.Common.{◌≡◌, ◌≢◌, ℕ, List, length, get_or, length-append, codes, refl, ap, ◌∙◌, arith, true, false, [], ◌∷◌, ◌++◌}
 use lib.Utf8.{encode}
-use Rattle.lalrpop_markup.specs.Terminal.{sequence, reset, is_hidden, visible, visible_in, colour_of, unpainted}
+use Rattle.std.proofs.lemmas.List.{get_or_push}
+use Rattle.lalrpop_markup.specs.Terminal.{sequence, reset, is_hidden, visible, visible_in, colour_of, unpainted, IsSequence}
 
 escape_is_hidden : is_hidden 27 ≡ true
 escape_is_hidden = refl
@@ -56,3 +57,17 @@ text_past_ascii = refl
 -- an ESC that is written as itself is lost
 escape_left_alone : unpainted (27 ∷ codes "[1ma") ≢ 27 ∷ codes "[1ma"
 escape_left_alone e = let n : 1 ≡ 5 = ap length e in omega (arith, n)
+
+-- a sequence has a number and ends in `m`: what clears the screen is none
+red : IsSequence (27 ∷ codes "[31m")
+red = (codes "31", (refl, (omega arith, (omega arith, (omega arith, tt)))))
+
+clear_screen : ¬ IsSequence (27 ∷ codes "[2J")
+clear_screen (number, (is, digits)) =
+    let tail : codes "2J" ≡ number ++ codes "m" = cc in
+    let n : length number ≡ 1 = omega (arith, ap length tail, length-append number (codes "m")) in
+    let last : 74 ≡ 109 = ap (λ (bytes : List ℕ). get_or bytes 1 0) tail ∙ get_or_push number 109 0 1 n in
+    omega (arith, last)
+
+without_a_number : ¬ IsSequence (27 ∷ codes "[m")
+without_a_number (number, (is, (some, digits))) = omega (arith, ap length is, length-append number (codes "m"), some)

@@ -30,10 +30,13 @@ characters_pay = refl
 
 -- 64 characters may be read where so many are to spare
 the_spare_pays : IsPaid 5 (Some (record { unsought = 0; spare = 128 })) 69 (Some (record { unsought = 0; spare = 64 }))
-the_spare_pays = omega arith
+the_spare_pays = (omega arith, omega arith)
 
 a_step_has_to_be_paid : (m : Memo) → ¬ IsPaid 5 (Some m) 6 (Some m)
-a_step_has_to_be_paid m paid = omega (arith, paid)
+a_step_has_to_be_paid m paid = omega (arith, paid.1)
+
+count_set_back : (m : Memo) → ¬ IsPaid 5 (Some m) 4 (Some m)
+count_set_back m paid = omega (arith, paid.0)
 
 no_memo_comes : (m : Memo) → ¬ IsPaid 5 None 5 (Some m)
 no_memo_comes m paid = paid

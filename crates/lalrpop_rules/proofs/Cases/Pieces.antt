@@ -1,11 +1,11 @@
 -- Cases of specs/Pieces.antt.
 use Rattle.std.proofs.Common.{◌≡◌, ℕ, ◌+◌, ◌<◌, Bool, false, true, inl, inr, List, [], ◌∷◌, ◌++◌, length, get_or, codes, refl, ap, subst, ◌∙◌, arith}
-use Rattle.std.specs.Prelude.{Ok, Err}
+use Rattle.std.specs.Prelude.{Some, None, Ok, Err}
 use Rattle.std.specs.Borrow.{Bor}
 use Rattle.lalrpop_book.specs.Tree.{Tree}
 use Rattle.lalrpop_book.specs.declared.token.Token.{Token as Cut}
 use Rattle.lalrpop_rules.specs.Found.{MatchesAt}
-use Rattle.lalrpop_rules.specs.Pieces.{IsSkipped, IsFault, IsPiece, ArePieces, AreApart, joined, up_to_fault}
+use Rattle.lalrpop_rules.specs.Pieces.{IsSkipped, IsFault, IsPiece, ArePieces, AreApart, joined, up_to_fault, first_token}
 use Rattle.lalrpop_rules.specs.declared.item.Item.{Item}
 use Rattle.lalrpop_rules.specs.declared.item.Item.TheVariants.{Token, Skipped, Fault}
 
@@ -99,3 +99,10 @@ two_faults_behind_a_token a b token are = are
 -- skipped pieces are tokens, and nothing comes behind the first fault
 up_to_the_first_fault : (a b d : Cut) (c : Bor (List ℕ)) → up_to_fault (Token a ∷ Skipped b ∷ Fault 2 c ∷ Token d ∷ []) ≡ Ok a ∷ Ok b ∷ Err (record { at = 2 }) ∷ []
 up_to_the_first_fault a b d c = refl
+
+-- a skipped token comes first, and a fault is no token
+first_of_three : (a b : Cut) (c : Bor (List ℕ)) → first_token (Fault 0 c ∷ Skipped b ∷ Token a ∷ []) ≡ Some b
+first_of_three a b c = refl
+
+fault_is_no_token : (c : Bor (List ℕ)) → first_token (Fault 0 c ∷ []) ≡ None
+fault_is_no_token c = refl

@@ -1,11 +1,13 @@
 use Rattle.std.proofs.Common.{◌≡◌, [], ◌∷◌, ◌++◌, length, ap, subst, sym, ◌∙◌, rules, arith}
 use Rattle.std.specs.Iterator.{Drains}
+use Rattle.std.proofs.lemmas.Str.{IsUtf8-string_bytes}
 use Rattle.std.proofs.iter.Next.{Yields-more}
 use Rattle.lalrpop_rules.specs.CutToEnd.{GivesPiece}
 use Rattle.lalrpop_markup.specs.Internal.Colours.{AreColours}
 use Rattle.lalrpop_markup.specs.Terminal.{painted, unpainted}
 use Rattle.lalrpop_markup.proofs.Characters.{one_more}
 use Rattle.lalrpop_markup.proofs.Colours.{none_noted, same_slots}
+use Rattle.lalrpop_markup.proofs.Sequences.{page_is_safe}
 use Rattle.lalrpop_markup.proofs.TerminalReadings.{pieces_out}
 use Rattle.lalrpop_markup.proofs.coloured.ansi.Goals as goal
 
@@ -35,3 +37,8 @@ returns-clause-text c =
     let given = c.in_ok-items.ensures in
     let all : Drains GivesPiece c.in_ok-items.items i.0 = (_, (_, i.1.0, c.in_default.ensures.steps)) in
     ap unpainted i.1.1 ∙ pieces_out _ _ _ _ _ _ _ (given.items i.0 all) ∙ given.whole i.0 all
+
+pub returns-clause-sequences : goal.returns-clause-sequences
+returns-clause-sequences c =
+    let i = c.painting.invariant.0 in
+    page_is_safe c.args.lexer.now.names i.0 _ (IsUtf8-string_bytes c.painting.page) i.1.1

@@ -6,7 +6,7 @@ pub returns-in-Some-matches : goal.returns-in-Some-matches
 returns-in-Some-matches c = record {
   sought =
       sought_with _ _ _ _ _ _ _ _ _ _ c.requires.waiting (sym c.in_default.ensures.value) c.in-Some-matches.is c.find_next.ensures.found c.find_next.ensures.goes_on
-      c.find_next.ensures.paid;
+      c.find_next.ensures.never_falls c.find_next.ensures.paid;
 }
 
 pub returns-in-None : goal.returns-in-None

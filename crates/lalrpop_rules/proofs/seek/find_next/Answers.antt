@@ -38,6 +38,9 @@ returns-in-Some-next_match-clause-paid c =
     match_pays c.loop-start.matches c.next_match.new.self c.in-Some-next_match.found.1.now r c.loop-start.steps c.next_match.new.steps _ left
     found.prefix.0 found.prefix.1 found.goes_on found.paid i.paid
 
+pub returns-in-Some-next_match-clause-never_falls : goal.returns-in-Some-next_match-clause-never_falls
+returns-in-Some-next_match-clause-never_falls c = omega (arith, c.loop-start.invariant.never_falls, c.in-Some-next_match.ensures.never_falls)
+
 pub loop-start-preserved : goal.loop-start-preserved
 loop-start-preserved c =
     let i = c.loop-start.invariant in
@@ -60,6 +63,7 @@ loop-start-preserved c =
       before = λ ts ps built.
           before_next ts ps (rest_of old) r _ k _ c.in-Some.field-0-1 u i.cut s.1 s.2 (i.before ts ps built)
           (subst (λ (t : List ℕ). IsLongest ts ps t None) left (c.in_default.ensures.answer ts ps (known c.args.matches.now c.loop-start.matches k ts ps i.here built)));
+      never_falls = omega (arith, i.never_falls, c.in_default.ensures.never_falls);
       paid =
           pass_pays r _ c.in-Some.field-0-1 c.loop-start.steps c.next_match.new.steps m.spare between.spare n.spare _ i.cut.rest_utf8 s.1
           (omega (arith, c.in_default.ensures.paid)) (ap (λ (x : Matching). x.spare) passed) i.paid;

@@ -15,5 +15,6 @@ invariant-loop-start l = record {
   here : l.matches ≡ record l.fn.matches { at = l.fn.matches.at + char_indices_offset l.start-iterator; spare = l.matches.spare };
   before : (ts : List Tree) (ps : List ℕ) → IsBuiltFrom ts ps l.fn.matches.automaton
       → NoMatchBefore ts (rest_of l.fn.matches) (char_indices_offset l.start-iterator);
+  never_falls : l.fn.steps ≤ l.steps;
   paid : l.steps + (65 * length (chars (char_indices_rest l.start-iterator)) + l.matches.spare) ≤ l.fn.steps + credit_of l.fn.matches;
 }
