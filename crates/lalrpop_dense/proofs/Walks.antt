@@ -1,5 +1,5 @@
 -- The run of a table along a text: what holds after each character.
-use Rattle.std.proofs.Common.{◌≡◌, ℕ, ◌+◌, ◌*◌, ◌/◌, ◌%◌, ◌<◌, ◌≤◌, inl, inr, List, length, take, drop, get_or, refl, sym, ap, subst, ◌∙◌, arith, ◌-◌, min}
+use Rattle.std.proofs.Common.{◌≡◌, ℕ, ◌+◌, ◌*◌, ◌/◌, ◌%◌, ◌≢◌, ◌<◌, ◌≤◌, inl, inr, List, [], length, take, drop, get_or, refl, sym, ap, subst, ◌∙◌, arith, ◌-◌, min}
 use Rattle.std.specs.Prelude.{slice_get, Option, Some, None, IfSome}
 use Rattle.std.specs.Str.{chars, IsUtf8, IsCharBoundary}
 use Rattle.std.proofs.lemmas.List.{get_or_read}
@@ -155,12 +155,12 @@ pub walk_count : (t : Layout) (d : List Row) (text : List ℕ) (at state : ℕ) 
 walk_count t d text at state w = count_within text (drop at text) at w.cut
 
 -- nothing was read past a match that ends here
-pub walk_trail : (t : Layout) (cells : List ℕ) (d : List Row) (text : List ℕ) (at state : ℕ) → IsTableOf t cells d → IsWalked t d text at state → t.live ≤ state → t.accept ≤ state
+pub walk_trail : (t : Layout) (cells : List ℕ) (d : List Row) (text : List ℕ) (at state : ℕ) → IsTableOf t cells d → IsWalked t d text at state → t.live ≤ state → t.accept ≤ state → chars (take at text) ≢ []
     → HasTrail d text at (take at text)
-walk_trail t cells d text at state h w live accept =
+walk_trail t cells d text at state h w live accept some =
     let r = row_at t cells d text at state h w in
     trail_accept d text at (take at text) (after d (chars (take at text))) r.0 (get_or cells (state + t.width) 0) refl refl r.1.0
-    (kind_accepts t cells state r.0.kind r.1.1 live accept)
+    (kind_accepts t cells state r.0.kind r.1.1 live accept) some
 
 -- a character that leaves the match open is read past it
 pub walk_trails : (t : Layout) (cells : List ℕ) (d : List Row) (text : List ℕ) (at at2 state state2 c : ℕ) (o : Option (ℕ × ℕ)) → IsTableOf t cells d → IsWalked t d text at state

@@ -6,7 +6,7 @@ ghost use Rattle.std.specs.Str.{IsCharBoundary, chars};
 ghost use Rattle.lalrpop_book.specs.Tree.{Tree};
 ghost use Rattle.lalrpop_book.specs.Prefix.{IsPrefix};
 ghost use Rattle.lalrpop_dfa.specs.Dfa.{Recognizes};
-ghost use Rattle.lalrpop_dfa.specs.Lookahead.{LooksAtMost};
+ghost use Rattle.lalrpop_dfa.specs.Lookahead.{ReadsAtMost};
 ghost use Rattle.lalrpop_book.specs.Longest.{IsLongest};
 ghost use Rattle.lalrpop_book.specs.declared.token.Token.{Token as TokenValue};
 ghost use Rattle.lalrpop_dense.specs.Leading.{LeadTo};
@@ -100,7 +100,7 @@ impl DenseDfa {
         ensures prefix { IfSome result (λ m. IsPrefix m.1.now text.now × (m.1.now ≢ [])) }
         ensures never_falls { steps.old ≤ steps.new }
         ensures cost { steps.new ≤ steps.old + length (chars text.now) }
-        ensures looked { (n : ℕ) → LooksAtMost self.now n → IfSome result (λ m.
+        ensures looked { (n : ℕ) → ReadsAtMost self.now n → IfSome result (λ m.
             steps.new ≤ steps.old + length (chars m.1.now) + n + 1) }
     {
         match &self.table {

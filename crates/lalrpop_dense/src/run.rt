@@ -7,7 +7,7 @@ ghost use Rattle.std.specs.Str.{IsCharBoundary, chars};
 ghost use Rattle.lalrpop_book.specs.Tree.{Tree};
 ghost use Rattle.lalrpop_book.specs.Prefix.{IsPrefix};
 ghost use Rattle.lalrpop_dfa.specs.Dfa.{Recognizes};
-ghost use Rattle.lalrpop_dfa.specs.Lookahead.{LooksAtMost};
+ghost use Rattle.lalrpop_dfa.specs.Lookahead.{ReadsAtMost};
 ghost use Rattle.lalrpop_book.specs.Longest.{IsLongest};
 ghost use Rattle.lalrpop_dense.specs.Internal.Table.{HasClasses, IsTableOf, class_of};
 ghost use Rattle.lalrpop_dense.specs.Internal.Reading.{ReadsChar, IsPlace, PaysPast, found};
@@ -79,7 +79,7 @@ fn walk<C: Cells>(
         (IsPlace layout.now (C.numbers cells.now) text.now) }
     ensures never_falls { steps.old ≤ steps.new }
     ensures cost { steps.new ≤ steps.old + length (chars text.now) }
-    ensures looked { (n : ℕ) → LooksAtMost dfa.now n → IfSome result.longest (λ m.
+    ensures looked { (n : ℕ) → ReadsAtMost dfa.now n → IfSome result.longest (λ m.
         steps.new ≤ steps.old + length (chars (take m.1 text.now)) + n + 1) }
     ensures limit { steps.new ≤ steps.old + limit }
     ensures past { PaysPast text.now result.at steps.old steps.new result.longest }
@@ -126,7 +126,7 @@ pub(crate) fn longest_by<'text, C: Cells>(
     ensures prefix { IfSome result (λ m. IsPrefix m.1.now text.now × (m.1.now ≢ [])) }
     ensures never_falls { steps.old ≤ steps.new }
     ensures cost { steps.new ≤ steps.old + length (chars text.now) }
-    ensures looked { (n : ℕ) → LooksAtMost dfa.now n → IfSome result (λ m.
+    ensures looked { (n : ℕ) → ReadsAtMost dfa.now n → IfSome result (λ m.
         steps.new ≤ steps.old + length (chars m.1.now) + n + 1) }
 {
     let stop = walk(cells, layout, dfa, text, text.len(), steps);

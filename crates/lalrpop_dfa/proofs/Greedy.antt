@@ -1,10 +1,12 @@
 -- Words that are read off, each value the least that leads on: the least words.
-use Rattle.std.proofs.Common.{◌≡◌, ℕ, zero, suc, inl, inr, ◌≤◌, List, [], ◌∷◌, ◌++◌, length, refl, ◌∙◌, subst, arith, append_assoc}
+use Rattle.std.proofs.Common.{◌≡◌, ◌≢◌, ℕ, zero, suc, inl, inr, ◌<◌, ◌≤◌, List, [], ◌∷◌, ◌++◌, length, refl, ap, ◌∙◌, subst, arith, append_assoc}
 use Rattle.std.specs.Prelude.{Some}
 use Rattle.lalrpop_book.specs.Word.{IsWord, FirstDifferenceLess, Shortlex}
-use Rattle.lalrpop_dfa.specs.Dfa.{Row, step, run, after}
-use Rattle.lalrpop_dfa.specs.Lookahead.{StaysOpen}
-use Rattle.lalrpop_dfa.specs.Witness.{LeavesOpen, IsWitness}
+use Rattle.lalrpop_dfa.specs.Dfa.{Row, step, run, after, IsWellFormed}
+use Rattle.lalrpop_dfa.specs.Lookahead.{Accepted}
+use Rattle.lalrpop_dfa.specs.Witness.{IsOpenMatch, IsWitness}
+use Rattle.lalrpop_dfa.specs.Internal.Marks.{WaitsAlong}
+use Rattle.lalrpop_dfa.proofs.Openness.{opened, waits_of}
 use Rattle.lalrpop_dfa.specs.Internal.Ranks.{IsLeastInto, StaysFor, IsGoal, IsNear, IsGreedy}
 
 module _ (d : List Row) (Q : ℕ → ℕ → Type 0) where
@@ -40,15 +42,15 @@ module _ (d : List Row) (Q : ℕ → ℕ → Type 0) where
         greedy_least n (step d p c) w u g.1 f.1 (omega arith) here less
 
 module _ (d : List Row) where
-  -- ---- values that leave it open
-  pub greedy_stays : (n p : ℕ) (w : List ℕ) → IsGreedy d (StaysFor d) n p w → StaysOpen d p w
+  -- ---- values along states that wait
+  pub greedy_stays : (n p : ℕ) (w : List ℕ) → IsGreedy d (StaysFor d) n p w → WaitsAlong d p w
   greedy_stays zero p [] g = tt
   greedy_stays zero p (c ∷ w) g = absurd g
   greedy_stays (suc n) p [] g = absurd g
   greedy_stays (suc n) p (c ∷ w) g = (g.0.1.0, greedy_stays n (step d p c) w g.1)
 
-  no_less_values : (n p : ℕ) (w u : List ℕ) → IsGreedy d (StaysFor d) n p w → IsWord u → length u ≡ n → StaysOpen d p u → ¬ FirstDifferenceLess u w
-  no_less_values = greedy_least d (StaysFor d) (StaysOpen d) (λ p b u f s. (s.0, (u, (f, s.1, refl)))) (λ p b u s. s.1)
+  no_less_values : (n p : ℕ) (w u : List ℕ) → IsGreedy d (StaysFor d) n p w → IsWord u → length u ≡ n → WaitsAlong d p u → ¬ FirstDifferenceLess u w
+  no_less_values = greedy_least d (StaysFor d) (WaitsAlong d) (λ p b u f s. (s.0, (u, (f, s.1, refl)))) (λ p b u s. s.1)
 
   -- ---- a word that leads to a goal
   pub greedy_goal : (n m p : ℕ) (w : List ℕ) → IsNear d n m p → IsGreedy d (IsNear d n) m p w → IsGoal d n (run d p w)
@@ -61,35 +63,41 @@ module _ (d : List Row) where
   no_less_word : (n m p : ℕ) (w u : List ℕ) → IsGreedy d (IsNear d n) m p w → IsWord u → length u ≡ m → IsGoal d n (run d p u) → ¬ FirstDifferenceLess u w
   no_less_word n = greedy_least d (IsNear d n) (λ p u. IsGoal d n (run d p u)) (λ p b u f goal. (u, (f, goal, omega arith))) (λ p b u goal. goal)
 
-  pub goal_of : (n : ℕ) (v x : List ℕ) → LeavesOpen d n v x → IsGoal d n (after d v)
-  goal_of n v x o = (o.accepted, (x, (o.values, o.stays, o.long)))
+  module _ (well : IsWellFormed d) where
+    pub goal_of : (n : ℕ) (v x : List ℕ) → IsOpenMatch (Accepted d) n v x → IsGoal d n (after d v)
+    goal_of n v x o = (o.leaves_open.word, (x, (o.values, waits_of d well n v x o.leaves_open, o.leaves_open.long)))
 
-  -- the word that leads to the nearest goal, and the values after it, are the witness
-  pub greedy_witness : (n m : ℕ) (v x : List ℕ) → IsNear d n m 0 → ((u : List ℕ) → IsWord u → IsGoal d n (after d u) → m ≤ length u)
-      → IsGreedy d (IsNear d n) m 0 v → IsGreedy d (StaysFor d) n (after d v) x → IsWitness d n v x
-  greedy_witness n m v x near none g h = record {
-    word = record { holds = (x, left_open); least = λ u less (y, o). below u less (y, o) };
-    after = record { holds = left_open; least = λ u less o. behind u less o };
-  }
-    where
-      left_open : LeavesOpen d n v x
-      left_open = record {
-        word = greedy_word d (IsNear d n) m 0 v g;
-        values = greedy_word d (StaysFor d) n (after d v) x h;
-        accepted = (greedy_goal n m 0 v near g).0;
-        stays = greedy_stays n (after d v) x h;
-        long = greedy_length d (StaysFor d) n (after d v) x h;
-      }
+    -- the word that leads to the nearest goal, and the values after it, are the witness
+    pub greedy_witness : (n m : ℕ) (v x : List ℕ) → 0 < m → IsNear d n m 0 → ((u : List ℕ) → IsWord u → u ≢ [] → IsGoal d n (after d u) → m ≤ length u)
+        → IsGreedy d (IsNear d n) m 0 v → IsGreedy d (StaysFor d) n (after d v) x → IsWitness (Accepted d) n v x
+    greedy_witness n m v x more near none g h = record {
+      word = record { holds = (x, left_open); least = λ u less (y, o). below u less (y, o) };
+      after = record { holds = left_open; least = λ u less o. behind u less o };
+    }
+      where
+        some : v ≢ []
+        some e = absurd (omega (arith, greedy_length d (IsNear d n) m 0 v g, ap length e))
 
-      below : (u : List ℕ) → Shortlex u v → ((y : List ℕ) × LeavesOpen d n u y) → ⊥
-      below u (inl less) (y, o) =
-          let a : m ≤ length u = none u o.word (goal_of n u y o) in
-          let b : length v ≡ m = greedy_length d (IsNear d n) m 0 v g in
-          omega arith
-      below u (inr (same, less)) (y, o) =
-          let b : length v ≡ m = greedy_length d (IsNear d n) m 0 v g in
-          no_less_word n m 0 v u g o.word (same ∙ b) (goal_of n u y o) less
+        left_open : IsOpenMatch (Accepted d) n v x
+        left_open = record {
+          word = greedy_word d (IsNear d n) m 0 v g;
+          values = greedy_word d (StaysFor d) n (after d v) x h;
+          leaves_open =
+              opened d n v x some (greedy_goal n m 0 v near g).0 (greedy_stays n (after d v) x h) (greedy_length d (StaysFor d) n (after d v) x h);
+        }
 
-      behind : (u : List ℕ) → Shortlex u x → LeavesOpen d n v u → ⊥
-      behind u (inl less) o = let a : length u ≡ n = o.long in let b : length x ≡ n = greedy_length d (StaysFor d) n (after d v) x h in omega arith
-      behind u (inr (same, less)) o = no_less_values n (after d v) x u h o.values o.long o.stays less
+        below : (u : List ℕ) → Shortlex u v → ((y : List ℕ) × IsOpenMatch (Accepted d) n u y) → ⊥
+        below u (inl less) (y, o) =
+            let a : m ≤ length u = none u o.word o.leaves_open.some (goal_of n u y o) in
+            let b : length v ≡ m = greedy_length d (IsNear d n) m 0 v g in
+            omega arith
+        below u (inr (same, less)) (y, o) =
+            let b : length v ≡ m = greedy_length d (IsNear d n) m 0 v g in
+            no_less_word n m 0 v u g o.word (same ∙ b) (goal_of n u y o) less
+
+        behind : (u : List ℕ) → Shortlex u x → IsOpenMatch (Accepted d) n v u → ⊥
+        behind u (inl less) o =
+            let a : length u ≡ n = o.leaves_open.long in
+            let b : length x ≡ n = greedy_length d (StaysFor d) n (after d v) x h in
+            omega arith
+        behind u (inr (same, less)) o = no_less_values n (after d v) x u h o.values o.leaves_open.long (waits_of d well n v u o.leaves_open) less

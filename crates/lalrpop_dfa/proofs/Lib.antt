@@ -5,9 +5,12 @@ pub mod StoredRows
 pub mod LongestLemmas
 pub mod SameTables
 pub mod Lookaheads
-pub mod Trails
-pub mod Settled
+pub mod Openness
 pub mod Marking
+pub mod Reaching
+pub mod Trails
+pub mod Recognized
+pub mod Trimming
 -- a law for callers
 pub mod AfterLaws
 -- numbers of kernels

@@ -8,12 +8,13 @@ use lib.Pointwise.{pointwise, pointwise_decides}
 use Rattle.lalrpop_book.proofs.Pushed.{pushed_cases, pushed_keeps, pushed_last}
 use Rattle.lalrpop_book.specs.Range.{Range}
 use Rattle.lalrpop_dfa.specs.declared.Kind.{Kind}
-use Rattle.lalrpop_dfa.specs.declared.Kind.TheVariants.{Accepts, Neither}
+use Rattle.lalrpop_dfa.specs.declared.Kind.TheVariants.{Accepts}
 use Rattle.lalrpop_dfa.specs.Dfa.{Row, StoredState, AreStored, edge_target, step, AreAscendingTests, IsWellFormed}
-use Rattle.lalrpop_dfa.specs.Lookahead.{IsAccepting, IsOpen, CanStayOpen, IsLookahead, StaysOpenEver}
-use Rattle.lalrpop_dfa.specs.Internal.Marks.{Marked, LeadsInto, OpenFor, AreOpenFor, AreOpenEver, IsEntered, EntersBy}
+use Rattle.lalrpop_dfa.specs.Lookahead.{Accepted, AcceptedAs, IsAccepting, CanStayOpen, IsLookahead, StaysOpenEver}
+use Rattle.lalrpop_dfa.specs.Internal.Marks.{Marked, LeadsInto, AreReached, IsReached, WaitsFor, AreWaitingFor, AreWaitingEver, IsEntered, EntersBy}
 use Rattle.lalrpop_dfa.proofs.EdgeTargets.{place_of, leads_at, leads_none, has_value_at, step_of, step_within, the_some}
-use Rattle.lalrpop_dfa.proofs.Lookaheads.{open_none, open_next, open_before, open_fewer, entered_can, at_most, for_ever, ever_from, from_ever}
+use Rattle.lalrpop_dfa.proofs.Lookaheads.{Enters, waits_next, waits_before, waits_fewer, entered_can, can_entered, at_most, for_ever}
+use Rattle.lalrpop_dfa.proofs.Openness.{EndsMatch, can_opens, opens_can}
 
 -- ---- where the values lead from a state: along one of its test edges, or its other edge
 module _ (P : ℕ → Type 0) where
@@ -70,35 +71,63 @@ pub record AreStaying (d : List Row) (marks : List Bool) (n : ℕ) (next : List 
   pub same_length : length next ≡ n
   pub each : (p : ℕ) → p < n → Marked next p ↔ (Marked marks p × LeadsInto d marks p)
 
--- they can stay open for one more value
-pub staying_open : (d : List Row) (marks next : List Bool) (n : ℕ) → ((p c : ℕ) → p < length d → step d p c < length d) → AreOpenFor d n marks → AreStaying d marks (length d) next → AreOpenFor d (n + 1) next
-staying_open d marks next n within h s = record {
+-- they can wait for one more value
+pub staying_waits : (d : List Row) (marks next : List Bool) (n : ℕ) → ((p c : ℕ) → p < length d → step d p c < length d) → AreWaitingFor d n marks → AreStaying d marks (length d) next → AreWaitingFor d (n + 1) next
+staying_waits d marks next n within h s = record {
   same_length = s.same_length;
   each = λ p l. (
     λ m. (let (mine, (c, led)) = (s.each p l).0 m in
-        rw add_one (open_before d n p c ((h.each p l).0 mine).0 ((h.each (step d p c) (within p c l)).0 led))),
-    λ o. (let up : OpenFor d (suc n) p = rw add_one at o in
-        let (c, next_open) = open_next d n p up in
-        (s.each p l).1 ((h.each p l).1 (open_fewer d n p up), (c, (h.each (step d p c) (within p c l)).1 next_open))),
+        rw add_one (waits_before d n p c ((h.each p l).0 mine).0 ((h.each (step d p c) (within p c l)).0 led))),
+    λ o. (let up : WaitsFor d (suc n) p = rw add_one at o in
+        let (c, next_waits) = waits_next d n p up in
+        (s.each p l).1 ((h.each p l).1 (waits_fewer d n p up), (c, (h.each (step d p c) (within p c l)).1 next_waits))),
   );
 }
   where
     add_one : n + 1 ≡ suc n
     add_one = omega arith
 
-pub entered_of : (d : List Row) (marks : List Bool) (n : ℕ) → ((p c : ℕ) → p < length d → step d p c < length d) → AreOpenFor d n marks → IsEntered d marks → (p c : ℕ) × (IsAccepting d p × OpenFor d n (step d p c))
-entered_of d marks n within h (p, (l, a, (c, m))) = (p, c, (a, (h.each (step d p c) (within p c l)).0 m))
-
-accepting_within : (d : List Row) (p : ℕ) → IsAccepting d p → p < length d
+pub accepting_within : (d : List Row) (p : ℕ) → IsAccepting d p → p < length d
 accepting_within d p a = elim (slice_get_cases d p).1 [
   | inl x ↦ slice_get_within d p x.0 x.2
   | inr past ↦ absurd (rw past.1 at a)
 ]
 
-pub of_entered : (d : List Row) (marks : List Bool) (n : ℕ) → ((p c : ℕ) → p < length d → step d p c < length d) → AreOpenFor d n marks → (p c : ℕ) → IsAccepting d p → OpenFor d n (step d p c) → IsEntered d marks
-of_entered d marks n within h p c a o =
-    let l : p < length d = accepting_within d p a in
-    (p, (l, a, (c, (h.each (step d p c) (within p c l)).1 o)))
+-- the state accepts the tree i
+abbrev pub IsBy : List Row → ℕ → ℕ → Type 0
+IsBy d i p = IsSomeAnd (slice_get d p) (λ r. r.kind ≡ Accepts i)
+
+pub by_accepts : (d : List Row) (i p : ℕ) → IsBy d i p → IsAccepting d p
+by_accepts d i p h = at (slice_get d p) h
+  where
+    at : (o : Option Row) → IsSomeAnd o (λ r. r.kind ≡ Accepts i) → IsSomeAnd o (λ r. (j : ℕ) × (r.kind ≡ Accepts j))
+    at None h = h
+    at (Some r) h = (i, h)
+
+pub accepts_by : (d : List Row) (p : ℕ) → IsAccepting d p → (i : ℕ) × IsBy d i p
+accepts_by d p h = at (slice_get d p) h
+  where
+    at : (o : Option Row) → IsSomeAnd o (λ r. (j : ℕ) × (r.kind ≡ Accepts j)) → (i : ℕ) × IsSomeAnd o (λ r. r.kind ≡ Accepts i)
+    at None h = absurd h
+    at (Some r) h = h
+
+-- what the marks say of entering states that wait for n values
+module _ (d : List Row) (well : IsWellFormed d) (reached marks : List Bool) (n : ℕ) (are : AreReached d reached) (stay : AreWaitingFor d n marks) where
+  pub by_enters : (i p : ℕ) → EntersBy d reached marks i p → (c : ℕ) × ((IsBy d i p × IsReached d p) × WaitsFor d n (step d p c))
+  by_enters i p (m, (b, (c, led))) =
+      let l : p < length d = accepting_within d p (by_accepts d i p b) in
+      (c, ((b, (are.each p).0 m), (stay.each (step d p c) (step_within d p c well l)).0 led))
+
+  pub enters_by : (i p c : ℕ) → IsBy d i p → IsReached d p → WaitsFor d n (step d p c) → EntersBy d reached marks i p
+  enters_by i p c b r o =
+      let l : p < length d = accepting_within d p (by_accepts d i p b) in
+      ((are.each p).1 r, (b, (c, (stay.each (step d p c) (step_within d p c well l)).1 o)))
+
+  pub entered_of : IsEntered d reached marks → Enters d (EndsMatch d (IsAccepting d) (λ p a. a)) n
+  entered_of (i, p, e) = (let (c, ((b, r), o)) = by_enters i p e in (p, c, ((by_accepts d i p b, r), o)))
+
+  pub of_entered : Enters d (EndsMatch d (IsAccepting d) (λ p a. a)) n → IsEntered d reached marks
+  of_entered (p, c, ((a, r), o)) = (let (i, b) = accepts_by d p a in (i, p, enters_by i p c b r o))
 
 -- ---- the number of marked states
 abbrev pub marked_count : List Bool → ℕ
@@ -145,6 +174,9 @@ marks_pushed P marks marks2 n b long h here is = (omega (arith, ap length is, le
           (cases_lt p n),
     )
 
+pub mark_at : (marks : List Bool) (p : ℕ) (b : Bool) → p < length marks → b ≡ get_or marks p b → slice_get marks p ≡ Some b
+mark_at marks p b l is = slice_get-get_or marks p b l ∙ ap (λ (x : Bool). Some x) (sym is)
+
 pub marked_read : (marks : List Bool) (p : ℕ) → p < length marks → get_or marks p false ≡ true → Marked marks p
 marked_read marks p l e = slice_get-get_or marks p false l ∙ ap (λ (b : Bool). Some b) e
 
@@ -156,32 +188,19 @@ test_in d p r k t h at here =
     let l : k < length r.tests = slice_get_within r.tests k t here in
     h.tests_in p r t at (k, l, (let e : Some (get_or r.tests k t) ≡ Some t = sym (slice_get-get_or r.tests k t l) ∙ here in cc))
 
--- ---- whether a state is open, by its kind
-pub open_read : (d : List Row) (states : List StoredState) (p : ℕ) (s : StoredState) (kind : Kind) (b : Bool) → AreStored d states → p < length states
-    → s ≡ get_or states p s → kind ≡ s.kind → (b ≡ true) ↔ (kind ≡ Neither) → (b ≡ true) ↔ IsOpen d p
-open_read d states p s kind b are l is same told = elim (slice_get_cases d p).1 [
+-- ---- whether a state accepts, by its kind
+pub accepting_read : (d : List Row) (states : List StoredState) (p : ℕ) (s : StoredState) (kind : Kind) (b : Bool) → AreStored d states → p < length states
+    → s ≡ get_or states p s → kind ≡ s.kind → (b ≡ true) ↔ ((i : ℕ) × (kind ≡ Accepts i)) → (b ≡ true) ↔ IsAccepting d p
+accepting_read d states p s kind b are l is same told = elim (slice_get_cases d p).1 [
   | inl x ↦ (
       let at : slice_get states p ≡ Some s = slice_get-get_or states p s l ∙ ap (λ (y : StoredState). Some y) (sym is) in
       let kinds : x.0.kind ≡ kind = sym (same ∙ (are.each p x.0 s x.2 at).kind) in
-      (λ t. rw x.2 (kinds ∙ told.0 t), λ o. told.1 (sym kinds ∙ (rw x.2 at o))))
+      (λ t. (let (i, e) = told.0 t in rw x.2 (i, kinds ∙ e)), λ a. (let (i, e) : (i : ℕ) × (x.0.kind ≡ Accepts i) = rw x.2 at a in told.1 (i, sym kinds ∙ e))))
   | inr past ↦ absurd (omega (arith, past.0, are.same_length))
 ]
 
--- the open states are those that can stay open for no values
-pub opens_none : (d : List Row) (marks : List Bool) (n : ℕ) → length d ≤ n → n ≤ length d → length marks ≡ n → ((p : ℕ) → p < n → Marked marks p ↔ IsOpen d p) → AreOpenFor d 0 marks
-opens_none d marks n low high long h = record {
-  same_length = omega arith;
-  each = λ p l. (λ m. open_none d p ((h p (omega arith)).0 m), λ o. (h p (omega arith)).1 o.0);
-}
-
 -- ---- one iteration of `lookahead`
-open_within : (d : List Row) (p : ℕ) → IsOpen d p → p < length d
-open_within d p o = elim (slice_get_cases d p).1 [
-  | inl x ↦ slice_get_within d p x.0 x.2
-  | inr past ↦ absurd (rw past.1 at o)
-]
-
-module _ (d : List Row) (h : IsWellFormed d) (marks next : List Bool) (n : ℕ) (stay : AreOpenFor d n marks) (after : AreOpenFor d (n + 1) next) where
+module _ (d : List Row) (marks next : List Bool) (n : ℕ) (stay : AreWaitingFor d n marks) (after : AreWaitingFor d (n + 1) next) where
   add_one : n + 1 ≡ suc n
   add_one = omega arith
 
@@ -189,26 +208,38 @@ module _ (d : List Row) (h : IsWellFormed d) (marks next : List Bool) (n : ℕ) 
   pub round_fewer : (next ≡ marks) ⊎ (marked_count next < marked_count marks)
   round_fewer = fewer_marks next marks (omega (arith, stay.same_length, after.same_length)) (λ k m.
       let l : k < length d = (let w : k < length next = slice_get_within next k true m in omega (arith, after.same_length)) in
-      let up : OpenFor d (suc n) k = rw add_one at ((after.each k l).0 m) in
-      (stay.each k l).1 (open_fewer d n k up))
+      let up : WaitsFor d (suc n) k = rw add_one at ((after.each k l).0 m) in
+      (stay.each k l).1 (waits_fewer d n k up))
 
-  -- if the same ones are, they are forever
-  pub round_ever : next ≡ marks → IsEntered d marks → IsLookahead d None
-  round_ever same entered =
-      for_ever d n
-      (λ p o. let l : p < length d = open_within d p o.0 in
+  -- if the same ones are, each state that waits for n values waits for one more
+  pub round_more : next ≡ marks → (p : ℕ) → WaitsFor d n p → WaitsFor d (suc n) p
+  round_more same p o =
+      let l : p < length d = o.0.0 in
       let m : Marked next p = subst (λ (bs : List Bool). Marked bs p) (sym same) ((stay.each p l).1 o) in
-      rw add_one at ((after.each p l).0 m))
-      (entered_of d marks n (λ p v l. step_within d p v h l) stay entered)
+      rw add_one at ((after.each p l).0 m)
 
-pub round_entered : (d : List Row) → IsWellFormed d → (marks : List Bool) (n : ℕ) → AreOpenFor d n marks → IsEntered d marks → CanStayOpen d (n + 1)
-round_entered d h marks n stay entered =
-    let e : suc n ≡ n + 1 = omega arith in
-    subst (λ (k : ℕ). CanStayOpen d k) e (entered_can d n (entered_of d marks n (λ p v l. step_within d p v h l) stay entered))
+-- a nonempty match leads to the state
+abbrev pub Ends : List Row → ℕ → Type 0
+Ends d = EndsMatch d (IsAccepting d) (λ p a. a)
 
-pub round_last : (d : List Row) → IsWellFormed d → (marks : List Bool) (n : ℕ) → AreOpenFor d n marks → (IsEntered d marks → ⊥) → (n ≡ 0) ⊎ CanStayOpen d n → IsLookahead d (Some n)
-round_last d h marks n stay none found =
-    (at_most d n (λ (p, c, (a, o)). none (of_entered d marks n (λ q v l. step_within d q v h l) stay p c a o)), found)
+module _ (d : List Row) (well : IsWellFormed d) (reached : List Bool) (are : AreReached d reached) where
+  pub round_ever : (marks next : List Bool) (n : ℕ) → AreWaitingFor d n marks → AreWaitingFor d (n + 1) next → next ≡ marks → IsEntered d reached marks → IsLookahead (Accepted d) None
+  round_ever marks next n stay after same entered m =
+      let all = for_ever d (Ends d) n (round_more d marks next n stay after same) (entered_of d well reached marks n are stay entered) m in
+      (let (v, x, (a, o)) = can_opens d (IsAccepting d) (λ p a. a) m all in (v, x, o))
+
+  pub round_entered : (marks : List Bool) (n : ℕ) → AreWaitingFor d n marks → IsEntered d reached marks → CanStayOpen (Accepted d) (n + 1)
+  round_entered marks n stay entered =
+      let e : suc n ≡ n + 1 = omega arith in
+      let can = entered_can d (Ends d) n (entered_of d well reached marks n are stay entered) in
+      subst (CanStayOpen (Accepted d)) e (let (v, x, (a, o)) = can_opens d (IsAccepting d) (λ p a. a) (suc n) can in (v, x, o))
+
+  pub round_last : (marks : List Bool) (n : ℕ) → AreWaitingFor d n marks → (IsEntered d reached marks → ⊥) → (n ≡ 0) ⊎ CanStayOpen (Accepted d) n → IsLookahead (Accepted d) (Some n)
+  round_last marks n stay none found = (
+    λ m (v, x, o). at_most d (Ends d) n (λ e. none (of_entered d well reached marks n are stay e)) m
+        (opens_can d (IsAccepting d) (λ p a. a) well m v x o.word o),
+    found,
+  )
 
 -- ---- `==` of marks
 bits_decide : (x y : Bool) → (beq x y ≡ true → x ≡ y) × (x ≡ y → beq x y ≡ true)
@@ -223,36 +254,28 @@ same_marks xs ys = pointwise_decides bits_decide xs ys
 -- ---- the patterns that can stay open forever
 
 -- one more state: those that one of the states so far accepts and enters by
-pub entered_more : (d : List Row) (marks old new : List Bool) (count number : ℕ) (place : Option ℕ) → length old ≡ count
-    → ((i : ℕ) → i < count → Marked old i ↔ ((p : ℕ) × ((p < number) × EntersBy d marks i p)))
-    → ((i : ℕ) → (place ≡ Some i) ↔ EntersBy d marks i number)
+pub entered_more : (d : List Row) (reached marks old new : List Bool) (count number : ℕ) (place : Option ℕ) → length old ≡ count
+    → ((i : ℕ) → i < count → Marked old i ↔ ((p : ℕ) × ((p < number) × EntersBy d reached marks i p)))
+    → ((i : ℕ) → (place ≡ Some i) ↔ EntersBy d reached marks i number)
     → ((i : ℕ) → i < length old → Marked new i ↔ (Marked old i ⊎ (place ≡ Some i)))
-    → (i : ℕ) → i < count → Marked new i ↔ ((p : ℕ) × ((p < number + 1) × EntersBy d marks i p))
-entered_more d marks old new count number place long each here one i l = (
+    → (i : ℕ) → i < count → Marked new i ↔ ((p : ℕ) × ((p < number + 1) × EntersBy d reached marks i p))
+entered_more d reached marks old new count number place long each here one i l = (
   λ m. ⊎_elim (λ (a : Marked old i). (let (p, (b, e)) = (each i l).0 a in (p, (omega arith, e))))
       (λ (a : place ≡ Some i). (number, (omega arith, (here i).0 a)))
       ((one i (omega arith)).0 m),
   λ (p, (b, e)). ⊎_elim (λ (a : p < number). (one i (omega arith)).1 (inl ((each i l).1 (p, (a, e)))))
-      (λ (a : number ≤ p). let same : p ≡ number = omega arith in (one i (omega arith)).1 (inr ((here i).1 (subst (EntersBy d marks i) same e))))
+      (λ (a : number ≤ p). let same : p ≡ number = omega arith in (one i (omega arith)).1 (inr ((here i).1 (subst (EntersBy d reached marks i) same e))))
       (cases_lt p number),
 )
 
-row_within : (d : List Row) (p : ℕ) (P : Row → Type 0) → IsSomeAnd (slice_get d p) P → p < length d
-row_within d p P h = (let (r, at) = the_some (slice_get d p) P h in slice_get_within d p r at.0)
-
-pub ever_marked : (d : List Row) → IsWellFormed d → (marks found : List Bool) (count : ℕ) → AreOpenEver d marks
-    → ((i : ℕ) → i < count → Marked found i ↔ ((p : ℕ) × ((p < length d) × EntersBy d marks i p)))
-    → (i : ℕ) → i < count → Marked found i ↔ StaysOpenEver d i
-ever_marked d h marks found count (n, (stay, more)) each i l = (
-  λ m. (let (p, (b, (a, (c, led)))) = (each i l).0 m in
-      ever_from d (λ p. IsSomeAnd (slice_get d p) (λ r. r.kind ≡ Accepts i)) n next p c a ((stay.each (step d p c) (step_within d p c h b)).0 led)),
-  λ ever. (let (p, c, (a, o)) = from_ever d (λ p. IsSomeAnd (slice_get d p) (λ r. r.kind ≡ Accepts i)) n ever in
-      let b : p < length d = row_within d p (λ r. r.kind ≡ Accepts i) a in
-      (each i l).1 (p, (b, (a, (c, (stay.each (step d p c) (step_within d p c h b)).1 o))))),
+pub ever_marked : (d : List Row) → IsWellFormed d → (reached marks found : List Bool) (count : ℕ) → AreReached d reached → AreWaitingEver d marks
+    → ((i : ℕ) → i < count → Marked found i ↔ ((p : ℕ) × ((p < length d) × EntersBy d reached marks i p)))
+    → (i : ℕ) → i < count → Marked found i ↔ StaysOpenEver (Accepted d) (AcceptedAs d i)
+ever_marked d well reached marks found count are (n, (stay, more)) each i l = (
+  λ m. (let (p, (b, e)) = (each i l).0 m in
+      let (c, (a, o)) = by_enters d well reached marks n are stay i p e in
+      λ k. can_opens d (IsBy d i) (by_accepts d i) k (for_ever d (EndsMatch d (IsBy d i) (by_accepts d i)) n (round_more d marks marks n stay more refl) (p, c, (a, o)) k)),
+  λ ever. (let (v, x, (b, h)) = ever (suc n) in
+      let (p, c, ((a, r), o)) = can_entered d (EndsMatch d (IsBy d i) (by_accepts d i)) n (opens_can d (IsBy d i) (by_accepts d i) well (suc n) v x b h) in
+      (each i l).1 (p, (accepting_within d p (by_accepts d i p a), enters_by d well reached marks n are stay i p c a r o))),
 )
-  where
-    up : n + 1 ≡ suc n
-    up = omega arith
-
-    next : (p : ℕ) → OpenFor d n p → OpenFor d (suc n) p
-    next p o = let l : p < length d = open_within d p o.0 in rw up at ((more.each p l).0 ((stay.each p l).1 o))

@@ -1,5 +1,5 @@
 -- The map gives the numbers of the kernels, before and after one is added.
-use Rattle.std.proofs.Common.{◌≡◌, ℕ, zero, suc, ◌<◌, ◌≤◌, List, [], ◌∷◌, ◌++◌, length, drop, refl, ap, sym, ◌∙◌, subst, arith, ◌⊎◌, inl, inr, Bool, true, false, ◌||◌, length-append}
+use Rattle.std.proofs.Common.{◌≡◌, ℕ, zero, suc, ◌<◌, ◌≤◌, List, [], ◌∷◌, ◌++◌, length, drop, refl, ap, sym, ◌∙◌, subst, arith, inl, inr, Bool, true, false, ◌||◌, length-append}
 use Rattle.std.specs.Prelude.{Some, None, slice_get, cond, ◌==◌, ◌^◌}
 use Rattle.std.specs.List.{list_any, All, AllZip}
 use Rattle.std.specs.Map.{lookup, values_of}

@@ -3,21 +3,22 @@ use Rattle.std.proofs.Common.{◌≡◌, ◌≢◌, ℕ, zero, suc, ◌⊎◌, i
 use Rattle.std.specs.Prelude.{slice_get, sum_by, ◌==◌, cond, is_some, Option, Some, None}
 use Rattle.std.proofs.lemmas.Bool.{cases_lt, ne_eqb}
 use Rattle.std.proofs.Math.Seq.{take-append_seam}
-use Rattle.std.proofs.lemmas.Grind.{get_or_default_zero}
-use Rattle.std.proofs.lemmas.Option.{slice_get_cases, slice_get-get_or}
+use Rattle.std.proofs.lemmas.Option.{slice_get-get_or}
 use Rattle.std.proofs.lemmas.List.{length_push, get_or_append_left, get_or_push}
 use Rattle.lalrpop_dfa.specs.declared.Kind.{Kind}
-use Rattle.lalrpop_dfa.specs.declared.Kind.TheVariants.{Accepts, Neither}
+use Rattle.lalrpop_dfa.specs.declared.Kind.TheVariants.{Accepts}
 use Rattle.std.proofs.lemmas.List.Sums.{sum_by-set}
 use Rattle.lalrpop_book.specs.Word.{IsWord}
-use Rattle.lalrpop_dfa.specs.Dfa.{Row, StoredState, AreStored, step, run, IsWellFormed}
-use Rattle.lalrpop_dfa.specs.Lookahead.{IsAccepting, IsOpen, StaysOpen}
+use Rattle.lalrpop_dfa.specs.Dfa.{Row, step, run, IsWellFormed}
+use Rattle.lalrpop_dfa.specs.Lookahead.{IsAccepting}
+use Rattle.lalrpop_dfa.specs.Internal.Marks.{IsWaiting, WaitsAlong, WaitsFor, Marked, AreWaitingFor}
+use Rattle.lalrpop_dfa.proofs.Lookaheads.{waits_none}
 use Rattle.lalrpop_dfa.proofs.EdgeTargets.{step_within}
-use Rattle.lalrpop_dfa.specs.Internal.Ranks.{IsLeastInto, IsWanted, StaysFor, IsGoal, IsNear, IsDepth, AreDepths, AreDeep, IsDistance, AreDistances, AreSpread, unknown, unknown_count}
+use Rattle.lalrpop_dfa.specs.Internal.Ranks.{IsLeastInto, IsWanted, StaysFor, IsGoal, IsNear, IsDepth, AreDepths, AreDeep, IsDistance, AreDistances, AreNearest, AreSpread, unknown, unknown_count}
 
 module _ (d : List Row) where
   -- ---- how long a state stays open
-  fewer_values : (n p : ℕ) (w : List ℕ) → IsWord w → StaysOpen d p w → length w ≡ suc n → (v : List ℕ) × (IsWord v × StaysOpen d p v × (length v ≡ n))
+  fewer_values : (n p : ℕ) (w : List ℕ) → IsWord w → WaitsAlong d p w → length w ≡ suc n → (v : List ℕ) × (IsWord v × WaitsAlong d p v × (length v ≡ n))
   fewer_values n p [] f s e = absurd (omega arith)
   fewer_values zero p (c ∷ w) f s e = ([], (tt, tt, refl))
   fewer_values (suc n) p (c ∷ w) f s e = (let (v, (g, t, l)) = fewer_values n (step d p c) w f.1 s.1 (omega arith) in (c ∷ v, ((f.0, g), (s.0, t), omega arith)))
@@ -32,7 +33,7 @@ module _ (d : List Row) where
   pub stays_at_most : (m n p : ℕ) → n ≤ m → StaysFor d m p → StaysFor d n p
   stays_at_most m n p l h = let e : (k : ℕ) × (n + k ≡ m) = (m - n, omega arith) in stays_less e.0 n p (subst (λ (j : ℕ). StaysFor d j p) (sym e.1) h)
 
-  pub stays_on : (n p c : ℕ) → IsOpen d p → c ≤ 4294967295 → StaysFor d n (step d p c) → StaysFor d (suc n) p
+  pub stays_on : (n p c : ℕ) → IsWaiting d p → c ≤ 4294967295 → StaysFor d n (step d p c) → StaysFor d (suc n) p
   stays_on n p c o l (q, (w, (f, s, e))) = (o, (c ∷ w, ((l, f), (q, s), omega arith)))
 
   pub stays_by : (n p : ℕ) → StaysFor d (suc n) p → (c : ℕ) × ((c ≤ 4294967295) × StaysFor d n (step d p c))
@@ -231,21 +232,19 @@ ranks_pushed P xs ys n v long old new is = (omega (arith, ap length is, length_p
         subst (λ q. P q (get_or (xs ++ v ∷ []) q 0)) e (subst (P n) (sym (get_or_push xs v 0 n long)) new))
         (cases_lt p n)
 
--- what the kind of a state says
-pub kind_read : (d : List Row) (states : List StoredState) (p : ℕ) (s : StoredState) (kind : Kind) → AreStored d states → p < length states
-    → s ≡ get_or states p s → kind ≡ s.kind → (kind ≡ Neither) ↔ IsOpen d p
-kind_read d states p s kind are l is same = elim (slice_get_cases d p).1 [
-  | inl x ↦ (
-      let at : slice_get states p ≡ Some s = slice_get-get_or states p s l ∙ ap (λ (y : StoredState). Some y) (sym is) in
-      let kinds : x.0.kind ≡ kind = sym (same ∙ (are.each p x.0 s x.2 at).kind) in
-      (λ e. rw x.2 (kinds ∙ e), λ o. sym kinds ∙ (rw x.2 at o)))
-  | inr past ↦ absurd (omega (arith, past.0, are.same_length))
-]
+-- what the marks say
+pub mark_read : (d : List Row) (marks : List Bool) (p k : ℕ) → AreWaitingFor d 0 marks → p < length marks → k ≡ cond (get_or marks p false) 1 0 → (k ≤ 1) × ((0 < k) ↔ IsWaiting d p)
+mark_read d marks p k are l value = at (get_or marks p false) (slice_get-get_or marks p false l) value (are.each p (omega (arith, are.same_length)))
+  where
+    at : (b : Bool) → slice_get marks p ≡ Some b → k ≡ cond b 1 0 → Marked marks p ↔ WaitsFor d 0 p → (k ≤ 1) × ((0 < k) ↔ IsWaiting d p)
+    at true here value each = (omega arith, (λ z. (each.0 here).0, λ w. omega arith))
+    at false here value each =
+        (omega arith, (λ z. absurd (omega arith), λ w. absurd (let m : slice_get marks p ≡ Some true = each.1 (waits_none d p w) in let e : Some false ≡ Some true = sym here ∙ m in cc)))
 
 -- ---- the depths at first, and at the end
--- the depth of a state by its kind
+-- the depth of a state by whether it waits
 abbrev pub FirstDepth : List Row → ℕ → ℕ → Type 0
-FirstDepth d p k = (k ≤ 1) × ((0 < k) ↔ IsOpen d p)
+FirstDepth d p k = (k ≤ 1) × ((0 < k) ↔ IsWaiting d p)
 
 pub first_depth : (d : List Row) (p k : ℕ) → FirstDepth d p k → IsDepth d 1 p k
 first_depth d p k h j l =
@@ -475,25 +474,39 @@ distances_at_first d n distances same h = record {
 }
 
 -- ---- the distances at the end
-pub distances_within : (d : List Row) (n m : ℕ) (distances : List ℕ) → 0 < length d → AreSpread d n m distances → get_or distances 0 0 ≢ unknown → AreDistances d n (get_or distances 0 0) distances
-distances_within d n m distances some h known = record {
-  same_length = h.are.same_length;
-  each = λ p l j b. h.are.each p l j (omega (arith, low));
-}
-  where
-    low : get_or distances 0 0 ≤ m
-    low = ⊎_elim (λ (x : get_or distances 0 0 ≤ m). x) (λ (x : get_or distances 0 0 ≡ unknown). absurd (known x)) (h.known 0 some)
+-- the states after START: none is near yet
+abbrev pub NoneNear : List Row → ℕ → ℕ → Type 0
+NoneNear d n m = (c : ℕ) → c ≤ 4294967295 → ¬ IsNear d n m (step d 0 c)
 
--- if START's distance isn't known, and one more round finds none, no word leads to a goal
-pub no_distance : (d : List Row) (n m : ℕ) (distances : List ℕ) → IsWellFormed d → AreSpread d n m distances → m < unknown → get_or distances 0 0 ≡ unknown
-    → ((p : ℕ) → p < length d → IsNear d n (m + 1) p → IsNear d n m p) → (k : ℕ) → ¬ IsNear d n k 0
-no_distance d n m distances well h room far none k (w, (f, g, l)) =
-    let near : IsNear d n m 0 = near_end d n m none (λ p c b. step_within d p c well b) w 0 well.some f g in
-    let low : get_or distances 0 0 ≤ m = (h.are.each 0 well.some m (omega arith)).1 near in
-    omega arith
+module _ (d : List Row) (well : IsWellFormed d) (n m : ℕ) (distances : List ℕ) (h : AreSpread d n m distances) (o : Option ℕ) (least : IsLeastInto d (IsWanted distances 0 m) 0 o) where
+  pub none_near_yet : is_some o ≡ false → NoneNear d n m
+  none_near_yet none = at o least none
+    where
+      at : (o : Option ℕ) → IsLeastInto d (IsWanted distances 0 m) 0 o → is_some o ≡ false → NoneNear d n m
+      at (Some v) least none = cc
+      at None least none = λ c fits near. least c fits (omega arith, (h.are.each (step d 0 c) (step_within d 0 c well well.some) m (omega arith)).1 near)
 
-pub written : (xs ys : List ℕ) (n : ℕ) → length xs ≡ length ys → n ≡ length ys → take n (xs ++ drop (length xs) ys) ≡ xs
+  pub nearest_found : is_some o ≡ true → m < unknown → ((j : ℕ) → j < m → NoneNear d n j) → AreNearest d n m distances
+  nearest_found some fits far = record {
+    well_formed = well;
+    fits = fits;
+    are = h.are;
+    near = at o least some;
+    least = λ j c l near. ⊎_elim (λ (a : j < m). absurd (far j a c l near)) (λ (a : m ≤ j). a) (cases_lt j m);
+  }
+    where
+      at : (o : Option ℕ) → IsLeastInto d (IsWanted distances 0 m) 0 o → is_some o ≡ true → (c : ℕ) × ((c ≤ 4294967295) × IsNear d n m (step d 0 c))
+      at None least some = cc
+      at (Some v) least some = (v, (least.0, (h.are.each (step d 0 v) (step_within d 0 v well well.some) m (omega arith)).0 least.1.1))
+
+  -- if one more round finds none, no nonempty word leads to a goal
+  pub none_near_ever : is_some o ≡ false → ((p : ℕ) → p < length d → IsNear d n (m + 1) p → IsNear d n m p) → (k : ℕ) → NoneNear d n k
+  none_near_ever none far k c fits (w, (f, g, l)) =
+      none_near_yet none c fits (near_end d n m far (λ p b a. step_within d p b well a) w (step d 0 c) (step_within d 0 c well well.some) f g)
+
+pub none_near_more : (d : List Row) (n m : ℕ) → ((j : ℕ) → j < m → NoneNear d n j) → NoneNear d n m → (j : ℕ) → j < m + 1 → NoneNear d n j
+none_near_more d n m far none j l =
+    ⊎_elim (λ (a : j < m). far j a) (λ (a : m ≤ j). let e : m ≡ j = omega arith in subst (NoneNear d n) e none) (cases_lt j m)
+
+pub written : {A : Type 0} (xs ys : List A) (n : ℕ) → length xs ≡ length ys → n ≡ length ys → take n (xs ++ drop (length xs) ys) ≡ xs
 written xs ys n long is = ap (λ k. take k (xs ++ drop (length xs) ys)) (is ∙ sym long) ∙ take-append_seam xs (drop (length xs) ys)
-
-pub read_first : (items : List ℕ) (i v : ℕ) → i ≡ 0 → 0 < length items → v ≡ get_or items i v → get_or items 0 0 ≡ v
-read_first items i v e some is = sym (get_or_default_zero items 0 v some) ∙ (ap (λ k. get_or items k v) (sym e) ∙ sym is)

@@ -1,14 +1,14 @@
 -- Reading off the least word that leads to a goal, and the least values after it.
-use Rattle.std.proofs.Common.{◌≡◌, ℕ, suc, ◌↔◌, ◌+◌, ◌<◌, ◌≤◌, ⊎_elim, List, [], ◌∷◌, ◌++◌, length, get_or, refl, subst, arith}
+use Rattle.std.proofs.Common.{◌≡◌, ◌≢◌, ℕ, suc, ◌↔◌, ◌+◌, ◌<◌, ◌≤◌, ⊎_elim, List, [], ◌∷◌, ◌++◌, length, refl, subst, arith}
 use Rattle.std.specs.Prelude.{Option, Some, None, IsSome}
-use Rattle.std.proofs.lemmas.Bool.{cases_lt}
 use Rattle.std.proofs.lemmas.List.{append-nil}
 use Rattle.lalrpop_book.specs.Word.{IsWord}
 use Rattle.lalrpop_dfa.specs.Dfa.{Row, step, after, IsWellFormed}
-use Rattle.lalrpop_dfa.specs.Lookahead.{StaysOpen}
+use Rattle.lalrpop_dfa.specs.Lookahead.{Accepted}
+use Rattle.lalrpop_dfa.specs.Internal.Marks.{WaitsAlong}
 use Rattle.lalrpop_dfa.proofs.EdgeTargets.{step_within}
-use Rattle.lalrpop_dfa.specs.Witness.{LeavesOpen, IsWitness}
-use Rattle.lalrpop_dfa.specs.Internal.Ranks.{IsLeastInto, IsWanted, StaysFor, IsGoal, IsNear, AreDepths, AreDistances, IsGreedy}
+use Rattle.lalrpop_dfa.specs.Witness.{IsOpenMatch, IsWitness}
+use Rattle.lalrpop_dfa.specs.Internal.Ranks.{IsLeastInto, IsWanted, StaysFor, IsGoal, IsNear, AreDepths, AreNearest, IsGreedy}
 use Rattle.lalrpop_dfa.proofs.LeastValues.{least_same}
 use Rattle.lalrpop_dfa.proofs.Greedy.{greedy_more, greedy_goal, greedy_witness, goal_of}
 use Rattle.lalrpop_dfa.proofs.Ranked.{wanted_depth, near_on, near_by}
@@ -16,7 +16,7 @@ use Rattle.lalrpop_dfa.proofs.Ranked.{wanted_depth, near_on, near_by}
 -- ---- the values that leave it open
 -- some n values leave it open
 abbrev pub CanStay : List Row → ℕ → ℕ → Type 0
-CanStay d n p = (w : List ℕ) × (IsWord w × StaysOpen d p w × (length w ≡ n))
+CanStay d n p = (w : List ℕ) × (IsWord w × WaitsAlong d p w × (length w ≡ n))
 
 -- from the goal the values so far lead to the state, and `left` values are to come
 pub record IsFollowing (d : List Row) (count goal : ℕ) (values : List ℕ) (state left : ℕ) : Type 0 where
@@ -67,55 +67,50 @@ following_end d count goal values state left e f =
     subst (IsGreedy d (StaysFor d) count goal) (append-nil values) (last [] tt)
 
 -- ---- the word that leads to a goal
--- no word that leads from START to a goal is shorter
-pub nearest : (d : List Row) (n : ℕ) (distances : List ℕ) → 0 < length d → AreDistances d n (get_or distances 0 0) distances → (j : ℕ) → IsNear d n j 0 → get_or distances 0 0 ≤ j
-nearest d n distances some h j near =
-    ⊎_elim (λ (a : j < get_or distances 0 0). (h.each 0 some j (omega arith)).1 near) (λ (a : get_or distances 0 0 ≤ j). a) (cases_lt j (get_or distances 0 0))
-
--- the word so far leads to the state, which is `left` values away from a goal
+-- the word so far leads to the state, from which words of `left` more values lead to a goal, and no shorter nonempty ones
 pub record IsLeading (d : List Row) (n far : ℕ) (word : List ℕ) (state left : ℕ) : Type 0 where
-  pub near : IsNear d n left state
-  pub exact : (j : ℕ) → IsNear d n j state → left ≤ j
+  pub near : (i : ℕ) → left ≡ suc i → (c : ℕ) × ((c ≤ 4294967295) × IsNear d n i (step d state c))
+  pub least : (i j c : ℕ) → left ≡ suc i → c ≤ 4294967295 → IsNear d n j (step d state c) → i ≤ j
   pub so_far : (z : List ℕ) → IsGreedy d (IsNear d n) left state z → IsGreedy d (IsNear d n) far 0 (word ++ z)
 
-pub leading_first : (d : List Row) (n : ℕ) (distances word : List ℕ) → 0 < length d → AreDistances d n (get_or distances 0 0) distances → word ≡ []
-    → IsLeading d n (get_or distances 0 0) word 0 (get_or distances 0 0)
-leading_first d n distances word some h e = record {
-  near = (h.each 0 some (get_or distances 0 0) (omega arith)).0 (omega arith);
-  exact = nearest d n distances some h;
+pub leading_first : (d : List Row) (n k : ℕ) (distances word : List ℕ) → AreNearest d n k distances → word ≡ [] → IsLeading d n (k + 1) word 0 (k + 1)
+leading_first d n k distances word h e = record {
+  near = λ i is. subst (λ j. (c : ℕ) × ((c ≤ 4294967295) × IsNear d n j (step d 0 c))) (omega (arith, is)) h.near;
+  least = λ i j c is l near. omega (arith, is, h.least j c l near);
   so_far = λ z g. rw e g;
 }
 
-module _ (d : List Row) (well : IsWellFormed d) (n : ℕ) (distances : List ℕ) (h : AreDistances d n (get_or distances 0 0) distances) (word : List ℕ) (state left i : ℕ) (is : left ≡ suc i)
-    (l : state < length d) (low : left ≤ get_or distances 0 0) (f : IsLeading d n (get_or distances 0 0) word state left) (o : Option ℕ)
+module _ (d : List Row) (well : IsWellFormed d) (n k : ℕ) (distances : List ℕ) (h : AreNearest d n k distances) (word : List ℕ) (state left i : ℕ) (is : left ≡ suc i)
+    (l : state < length d) (low : left ≤ k + 1) (f : IsLeading d n (k + 1) word state left) (o : Option ℕ)
     (least : IsLeastInto d (IsWanted distances 0 i) state o) where
   agree_near : (c : ℕ) → IsWanted distances 0 i (step d state c) ↔ IsNear d n i (step d state c)
   agree_near c =
-      let w = h.each (step d state c) (step_within d state c well l) i (omega arith) in
+      let w = h.are.each (step d state c) (step_within d state c well l) i (omega arith) in
       (λ x. w.0 x.1, λ s. (omega arith, w.1 s))
 
   by_distance : IsLeastInto d (IsNear d n i) state o
   by_distance = least_same d (IsWanted distances 0 i) (IsNear d n i) state o agree_near least
 
   pub leading_some : IsSome o
-  leading_some = at o by_distance
+  leading_some = at o by_distance (f.near i is)
     where
-      at : (o : Option ℕ) → IsLeastInto d (IsNear d n i) state o → IsSome o
-      at (Some c) b = refl
-      at None b =
-          ⊎_elim (λ (x : IsNear d n i state). absurd (let k : left ≤ i = f.exact i x in omega arith))
-          (λ (x : (c : ℕ) × ((c ≤ 4294967295) × IsNear d n i (step d state c))). absurd (b x.0 x.1.0 x.1.1))
-          (near_by d n i state (subst (λ k. IsNear d n k state) (omega arith) f.near))
+      at : (o : Option ℕ) → IsLeastInto d (IsNear d n i) state o → (c : ℕ) × ((c ≤ 4294967295) × IsNear d n i (step d state c)) → IsSome o
+      at (Some c) b x = refl
+      at None b x = absurd (b x.0 x.1.0 x.1.1)
 
-  pub leading_more : (c : ℕ) (word2 : List ℕ) (state2 : ℕ) → o ≡ Some c → word2 ≡ word ++ c ∷ [] → state2 ≡ step d state c → IsLeading d n (get_or distances 0 0) word2 state2 i
+  pub leading_more : (c : ℕ) (word2 : List ℕ) (state2 : ℕ) → o ≡ Some c → word2 ≡ word ++ c ∷ [] → state2 ≡ step d state c → IsLeading d n (k + 1) word2 state2 i
   leading_more c word2 state2 e pushed led =
       let b : IsLeastInto d (IsNear d n i) state (Some c) = subst (IsLeastInto d (IsNear d n i) state) e by_distance in
-      let before : (z : List ℕ) → IsGreedy d (IsNear d n) (suc i) state z → IsGreedy d (IsNear d n) (get_or distances 0 0) 0 (word ++ z) =
-      subst (λ k. (z : List ℕ) → IsGreedy d (IsNear d n) k state z → IsGreedy d (IsNear d n) (get_or distances 0 0) 0 (word ++ z)) is f.so_far in
+      let before : (z : List ℕ) → IsGreedy d (IsNear d n) (suc i) state z → IsGreedy d (IsNear d n) (k + 1) 0 (word ++ z) =
+      subst (λ m. (z : List ℕ) → IsGreedy d (IsNear d n) m state z → IsGreedy d (IsNear d n) (k + 1) 0 (word ++ z)) is f.so_far in
       rw (pushed, led) record {
-        near = b.1;
-        exact = λ j near. let k : left ≤ j + 1 = f.exact (j + 1) (near_on d n j state c b.0 near) in omega arith;
-        so_far = greedy_more d (IsNear d n) (get_or distances 0 0) 0 i state c word b before;
+        near = λ j more.
+            ⊎_elim (λ (x : IsNear d n j (step d state c)). absurd (let m : i ≤ j = f.least i j c is b.0 x in omega arith))
+            (λ (x : (a : ℕ) × ((a ≤ 4294967295) × IsNear d n j (step d (step d state c) a))). x)
+            (near_by d n j (step d state c) (subst (λ m. IsNear d n m (step d state c)) (omega arith) b.1));
+        least = λ j m a more fits near.
+            let x : i ≤ m + 1 = f.least i (m + 1) c is b.0 (near_on d n m (step d state c) a fits near) in omega arith;
+        so_far = greedy_more d (IsNear d n) (k + 1) 0 i state c word b before;
       }
 
 pub leading_end : (d : List Row) (n far : ℕ) (word : List ℕ) (state left : ℕ) → left ≡ 0 → IsLeading d n far word state left → IsGreedy d (IsNear d n) far 0 word
@@ -125,15 +120,20 @@ leading_end d n far word state left e f =
     subst (IsGreedy d (IsNear d n) far 0) (append-nil word) (last [] tt)
 
 -- ---- both
-pub witness_of : (d : List Row) (n : ℕ) (distances v x : List ℕ) → 0 < length d → AreDistances d n (get_or distances 0 0) distances
-    → IsGreedy d (IsNear d n) (get_or distances 0 0) 0 v → IsGreedy d (StaysFor d) n (after d v) x → IsWitness d n v x
-witness_of d n distances v x some h g k =
-    greedy_witness d n (get_or distances 0 0) v x ((h.each 0 some (get_or distances 0 0) (omega arith)).0 (omega arith))
-    (λ u f goal. nearest d n distances some h (length u) (u, (f, goal, omega arith))) g k
+near_start : (d : List Row) (n k : ℕ) (distances : List ℕ) → AreNearest d n k distances → IsNear d n (k + 1) 0
+near_start d n k distances h = near_on d n k 0 h.near.0 h.near.1.0 h.near.1.1
 
-pub no_witness : (d : List Row) (n : ℕ) → ((m : ℕ) → ¬ IsNear d n m 0) → (v x : List ℕ) → ¬ LeavesOpen d n v x
-no_witness d n none v x o = none (length v) (v, (o.word, goal_of d n v x o, omega arith))
+pub witness_of : (d : List Row) (n k : ℕ) (distances v x : List ℕ) → AreNearest d n k distances
+    → IsGreedy d (IsNear d n) (k + 1) 0 v → IsGreedy d (StaysFor d) n (after d v) x → IsWitness (Accepted d) n v x
+witness_of d n k distances v x h g s = greedy_witness d h.well_formed n (k + 1) v x (omega arith) (near_start d n k distances h) shortest g s
+  where
+    shortest : (u : List ℕ) → IsWord u → u ≢ [] → IsGoal d n (after d u) → k + 1 ≤ length u
+    shortest [] f some goal = absurd (some refl)
+    shortest (c ∷ u) f some goal = omega (arith, h.least (length u) c f.0 (u, (f.1, goal, omega arith)))
 
-pub goal_reached : (d : List Row) (n : ℕ) (distances v : List ℕ) → 0 < length d → AreDistances d n (get_or distances 0 0) distances
-    → IsGreedy d (IsNear d n) (get_or distances 0 0) 0 v → IsGoal d n (after d v)
-goal_reached d n distances v some h g = greedy_goal d n (get_or distances 0 0) 0 v ((h.each 0 some (get_or distances 0 0) (omega arith)).0 (omega arith)) g
+pub no_witness : (d : List Row) (n : ℕ) → IsWellFormed d → ((m c : ℕ) → c ≤ 4294967295 → ¬ IsNear d n m (step d 0 c)) → (v x : List ℕ) → ¬ IsOpenMatch (Accepted d) n v x
+no_witness d n well none [] x o = o.leaves_open.some refl
+no_witness d n well none (c ∷ v) x o = none (length v) c o.word.0 (v, (o.word.1, goal_of d well n (c ∷ v) x o, omega arith))
+
+pub goal_reached : (d : List Row) (n k : ℕ) (distances v : List ℕ) → AreNearest d n k distances → IsGreedy d (IsNear d n) (k + 1) 0 v → IsGoal d n (after d v)
+goal_reached d n k distances v h g = greedy_goal d n (k + 1) 0 v (near_start d n k distances h) g

@@ -6,7 +6,7 @@ ghost use Rattle.std.specs.Str.{chars};
 ghost use Rattle.lalrpop_dfa.specs.Counts.{HaveAtMost};
 ghost use Rattle.lalrpop_dfa.specs.Dfa.{Recognizes};
 ghost use Rattle.lalrpop_book.specs.Longest.{IsLongest};
-ghost use Rattle.lalrpop_dfa.specs.Lookahead.{LooksAtMost};
+ghost use Rattle.lalrpop_dfa.specs.Lookahead.{ReadsAtMost};
 ghost use Rattle.lalrpop_book.specs.Tree.{Tree};
 ghost use Rattle.lalrpop_book.specs.Prefix.{IsPrefix};
 
@@ -34,7 +34,7 @@ pub fn interpret_counted<'text>(
     ensures prefix { IfSome result (λ m. IsPrefix m.1.now input.now × (m.1.now ≢ [])) }
     ensures never_falls { steps.old ≤ steps.new }
     ensures cost { steps.new ≤ steps.old + length (chars input.now) }
-    ensures looked { (n : ℕ) → LooksAtMost dfa.now n → IfSome result (λ m.
+    ensures looked { (n : ℕ) → ReadsAtMost dfa.now n → IfSome result (λ m.
         steps.new ≤ steps.old + length (chars m.1.now) + n + 1) }
 {
     interpret_probed(dfa, input, steps, &mut Steps::new())
@@ -53,7 +53,7 @@ pub fn interpret_probed<'text>(
     ensures prefix { IfSome result (λ m. IsPrefix m.1.now input.now × (m.1.now ≢ [])) }
     ensures never_falls { (steps.old ≤ steps.new) × (probes.old ≤ probes.new) }
     ensures cost { steps.new ≤ steps.old + length (chars input.now) }
-    ensures looked { (n : ℕ) → LooksAtMost dfa.now n → IfSome result (λ m.
+    ensures looked { (n : ℕ) → ReadsAtMost dfa.now n → IfSome result (λ m.
         steps.new ≤ steps.old + length (chars m.1.now) + n + 1) }
     ensures probed { (n d : ℕ) → HaveAtMost dfa.now n → n < 2 ^ d
         → probes.new ≤ probes.old + length (chars input.now) * d }

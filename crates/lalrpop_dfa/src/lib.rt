@@ -12,8 +12,10 @@ pub mod interpret;
 mod items;
 pub mod kernel_set;
 pub mod lookahead;
+mod reach;
 mod rows;
 mod search;
+mod trim;
 mod witness;
 
 ghost use Rattle.std.specs.Prelude.{◌≡◌, ◌<◌, length, slice_get, Some, IsSomeAnd};

@@ -2,6 +2,7 @@
 
 ghost use Rattle.std.specs.Prelude.{◌≡◌, ◌<◌, ◌++◌, ◌∷◌, [], length, slice_get, IsSomeAnd, OnOk};
 ghost use Rattle.lalrpop_dfa.specs.Dfa.{IsStored, AreStored};
+ghost use Rattle.lalrpop_dfa.specs.Internal.Stored.{IsRejecting};
 
 use super::{DfaStateIndex, Kind, State};
 use crate::ItemSet;
@@ -54,6 +55,14 @@ impl Rows {
     {
         let state = &self.states[index.index()];
         &self.edges[state.first_edge..state.first_edge + state.edge_count]
+    }
+
+    // Makes the state reject. Its edges stay.
+    pub(super) fn reject(&mut self, index: DfaStateIndex)
+        requires { index < length self.old }
+        ensures { IsRejecting self.old index self.new }
+    {
+        self.states[index.index()].kind = Kind::Reject;
     }
 }
 

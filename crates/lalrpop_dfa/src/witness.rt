@@ -1,9 +1,10 @@
 //! The least match that some values after it leave open.
 
-ghost use Rattle.std.specs.Prelude.{◌≡◌, ℕ, ◌<◌, List, length, slice_index, IfOk, IfSome, IfNone};
-ghost use Rattle.lalrpop_dfa.specs.Dfa.{after, IsWellFormed};
-ghost use Rattle.lalrpop_dfa.specs.Witness.{IsWitness, LeavesOpen};
-ghost use Rattle.lalrpop_dfa.specs.Internal.Ranks.{AreDepths, AreDistances, IsGoal, IsGreedy, IsNear, StaysFor};
+ghost use Rattle.std.specs.Prelude.{◌≡◌, ℕ, ◌+◌, ◌<◌, List, length, IfOk, IfSome, IfNone};
+ghost use Rattle.lalrpop_dfa.specs.Dfa.{after};
+ghost use Rattle.lalrpop_dfa.specs.Lookahead.{Accepted};
+ghost use Rattle.lalrpop_dfa.specs.Witness.{IsOpenMatch, IsWitness};
+ghost use Rattle.lalrpop_dfa.specs.Internal.Ranks.{AreDepths, AreNearest, IsGoal, IsGreedy, IsNear, StaysFor};
 
 mod depths;
 mod distances;
@@ -42,32 +43,31 @@ impl Model for Witness {
     ghost view = { λ w. record { word = w.word.items; after = w.after.items } };
 }
 
-// The least word that leads from START to a goal, and the goal.
+// The least nonempty word that leads from START to a goal, and the goal.
 fn word_to_goal(
     alloc: Global,
     dfa: &Dfa,
-    distances: &[usize],
+    states: &[usize],
+    nearest: usize,
 ) -> Result<(Vec<u32>, DfaStateIndex), AllocError>
-    requires well_formed { IsWellFormed dfa.now }
-    requires distances { (n : ℕ) × AreDistances dfa.now n (slice_index distances.now 0) distances.now }
-    ensures word { IfOk result (λ found. (n : ℕ)
-        → AreDistances dfa.now n (slice_index distances.now 0) distances.now
-        → IsGreedy dfa.now (IsNear dfa.now n) (slice_index distances.now 0) 0 found.0.items) }
+    requires distances { (n : ℕ) × AreNearest dfa.now n nearest states.now }
+    ensures word { IfOk result (λ found. (n : ℕ) → AreNearest dfa.now n nearest states.now
+        → IsGreedy dfa.now (IsNear dfa.now n) (nearest + 1) 0 found.0.items) }
     ensures state { IfOk result (λ found. found.1 ≡ after dfa.now found.0.items) }
 {
     let mut word = Vec::new(alloc);
     let mut state = START;
-    let mut left = distances[START.index()];
+    let mut left = nearest + 1;
     while left > 0 {
         left -= 1;
-        let value = least_value(dfa, state, distances, 0, left).unwrap();
+        let value = least_value(dfa, state, states, 0, left).unwrap();
         word.push(value)?;
         state = dfa.step(state, value);
     }
     Ok((word, state))
 }
 
-// The least `count` values that lead from the goal along open states.
+// The least `count` values that lead from the goal along states that wait.
 fn open_values(
     alloc: Global,
     dfa: &Dfa,
@@ -92,8 +92,8 @@ fn open_values(
     Ok(values)
 }
 
-/// The shortest, then least, word that a pattern matches and that some `count` values after it leave open: they don't settle
-/// whether a longer match comes. The least such values come with it. `None` if there is no such word.
+/// The shortest, then least, nonempty word that a pattern matches and that some `count` values after it leave open: they don't
+/// settle whether a longer match comes. The least such values come with it. `None` if there is no such word.
 ///
 /// If `count` is what `lookahead` returns, it shows what makes the automaton look that far ahead.
 ///
@@ -108,14 +108,14 @@ pub fn lookahead_witness(
     count: usize,
 ) -> Result<Option<Witness>, AllocError>
     ensures least { IfOk result (λ found.
-        IfSome found (λ w. IsWitness dfa.now count w.word w.after)) }
+        IfSome found (λ w. IsWitness (Accepted dfa.now) count w.word w.after)) }
     ensures none { IfOk result (λ found.
-        IfNone found ((v x : List ℕ) → ¬ LeavesOpen dfa.now count v x)) }
+        IfNone found ((v x : List ℕ) → ¬ IsOpenMatch (Accepted dfa.now) count v x)) }
 {
     let depths = depths(alloc, dfa, count)?;
     match distances(alloc, dfa, &depths, count)? {
         Some(distances) => {
-            let (word, goal) = word_to_goal(alloc, dfa, &distances)?;
+            let (word, goal) = word_to_goal(alloc, dfa, &distances.states, distances.nearest)?;
             let after = open_values(alloc, dfa, &depths, goal, count)?;
             Ok(Some(Witness { word, after }))
         }

@@ -7,7 +7,7 @@ use Rattle.std.proofs.lemmas.Str.{chars-append}
 use Rattle.lalrpop_book.specs.Prefix.{IsPrefix}
 use Rattle.lalrpop_book.specs.declared.token.Token.{Token}
 use Rattle.lalrpop_book.specs.declared.token.TokenFault.{TokenFault}
-use Rattle.lalrpop_dfa.specs.Lookahead.{LooksAtMost}
+use Rattle.lalrpop_dfa.specs.Lookahead.{ReadsAtMost}
 use Rattle.lalrpop_lexer.specs.Matching.{characters_of}
 use Rattle.lalrpop_lexer.specs.Cutting.{Cutting, rest_of, left_of, IsNext, GivesItem}
 use Rattle.lalrpop_lexer.specs.LexerTokens.{LexerCutting, IsPaidBy, GivesToken}
@@ -62,7 +62,7 @@ linear_fault s t before after spare spare2 u on some e more =
 abbrev pub Reads : LexerCutting → Option ℕ → Option ℕ → Option (List ℕ) → ℕ → Type 0
 Reads s None None m steps =
     (steps ≤ s.steps + length (chars (rest_of s.cutting)))
-    × ((n : ℕ) → LooksAtMost s.cutting.automaton n → IfSome m (λ x. steps ≤ s.steps + length (chars x) + n + 1))
+    × ((n : ℕ) → ReadsAtMost s.cutting.automaton n → IfSome m (λ x. steps ≤ s.steps + length (chars x) + n + 1))
 Reads s (Some before) (Some after) m steps = steps + after ≤ s.steps + characters_of m + before + 64
 Reads s _ _ m steps = ⊥
 

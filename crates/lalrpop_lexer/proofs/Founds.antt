@@ -7,7 +7,7 @@ use Rattle.lalrpop_book.specs.Tree.{Tree}
 use Rattle.lalrpop_book.specs.Prefix.{IsPrefix}
 use Rattle.lalrpop_book.specs.Longest.{IsLongest}
 use Rattle.lalrpop_dfa.specs.Dfa.{Recognizes}
-use Rattle.lalrpop_dfa.specs.Lookahead.{LooksAtMost}
+use Rattle.lalrpop_dfa.specs.Lookahead.{ReadsAtMost}
 use Rattle.lalrpop_lexer.specs.Matching.{Matching, rest_of as rest_of_matching, characters_of}
 use Rattle.lalrpop_lexer.specs.Cutting.{rest_of}
 use Rattle.lalrpop_lexer.specs.LexerTokens.{LexerCutting}
@@ -55,7 +55,7 @@ pub found_without : (s : LexerCutting) (rest : List ℕ) (found : Option (ℕ ×
     → ((ts : List Tree) (ps : List ℕ) → Recognizes s.cutting.automaton ts ps → IsLongest ts ps rest (option_map (λ m. (m.0, m.1.now)) found))
     → IfSome found (λ x. IsPrefix x.1.now rest × (x.1.now ≢ []))
     → s.steps ≤ steps → steps ≤ s.steps + length (chars rest)
-    → ((n : ℕ) → LooksAtMost s.cutting.automaton n → IfSome found (λ x. steps ≤ s.steps + length (chars x.1.now) + n + 1))
+    → ((n : ℕ) → ReadsAtMost s.cutting.automaton n → IfSome found (λ x. steps ≤ s.steps + length (chars x.1.now) + n + 1))
     → IsFoundUpTo s found None steps
 found_without s rest (Some x) steps e none answer prefix never cost looked = record {
   is_found = record {

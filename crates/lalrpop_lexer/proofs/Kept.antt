@@ -2,7 +2,8 @@
 use Rattle.std.proofs.Common.{◌≡◌, ℕ, ◌+◌, ◌-◌, ◌*◌, ◌≤◌, ◌⊎◌, ⊎_elim, inl, inr, List, [], ◌∷◌, ◌++◌, length, drop, sym, ap, subst, ◌∙◌, arith, append_assoc, length-append, length-drop}
 use Rattle.std.proofs.lemmas.List.{drop-drop}
 use Rattle.lalrpop_dfa.specs.Dfa.{Row, step, run}
-use Rattle.lalrpop_dfa.specs.Lookahead.{IsOpen, StaysOpen}
+use Rattle.lalrpop_dfa.specs.Lookahead.{IsOpen}
+use Rattle.lalrpop_dfa.specs.Internal.Marks.{StaysOpen}
 use Rattle.lalrpop_dfa.proofs.AfterLaws.{run_append}
 use Rattle.lalrpop_lexer.specs.Internal.Memory.{Memory, IsNoted}
 use Rattle.lalrpop_lexer.specs.Internal.Hopeless.{IsHopeless, IsSound}

@@ -8,7 +8,7 @@ use Rattle.lalrpop_book.specs.Tokens.{AreTokens, bare, slices}
 use Rattle.lalrpop_book.specs.declared.token.Token.{Token}
 use Rattle.lalrpop_book.specs.declared.token.TokenFault.{TokenFault}
 use Rattle.lalrpop_dfa.specs.Dfa.{Row}
-use Rattle.lalrpop_dfa.specs.Lookahead.{LooksAtMost}
+use Rattle.lalrpop_dfa.specs.Lookahead.{ReadsAtMost}
 use Rattle.lalrpop_lexer.specs.Matching.{open_states}
 use Rattle.lalrpop_lexer.specs.Cutting.{Cutting, start_of, rest_of}
 use Rattle.lalrpop_lexer.specs.LexerTokens.{LexerCutting, lexer_start, CutsToken, steps_with, IsPaidBy, GivesToken, most_steps}
@@ -49,23 +49,23 @@ same_automaton s t (Ok token) g = ap (λ (x : Cutting). x.automaton) g.1.4
 same_automaton s t (Err fault) g = ap (λ (x : Cutting). x.automaton) g.4
 
 pays_without : (a b : Option ℕ) (s t : LexerCutting) → IsPaidBy a b s t → a ≡ None
-    → (b ≡ None) × ((n : ℕ) → LooksAtMost s.cutting.automaton n → steps_with (n + 2) t ≤ steps_with (n + 2) s)
+    → (b ≡ None) × ((n : ℕ) → ReadsAtMost s.cutting.automaton n → steps_with (n + 2) t ≤ steps_with (n + 2) s)
 pays_without None None s t paid e = (refl, paid)
 pays_without None (Some b) s t paid e = absurd paid
 pays_without (Some a) b s t paid e = absurd (cc)
 
-paid_without : (s t : LexerCutting) (xs : List (Result Token TokenFault)) (n : ℕ) → Yields GivesToken s xs t → s.spare ≡ None → LooksAtMost s.cutting.automaton n
+paid_without : (s t : LexerCutting) (xs : List (Result Token TokenFault)) (n : ℕ) → Yields GivesToken s xs t → s.spare ≡ None → ReadsAtMost s.cutting.automaton n
     → steps_with (n + 2) t ≤ steps_with (n + 2) s
 paid_without s t [] n y none most = subst (λ (x : LexerCutting). steps_with (n + 2) x ≤ steps_with (n + 2) s) y (omega arith)
 paid_without s t (x ∷ xs) n (j, g, y) none most =
     let here = pays_without s.spare j.spare s j g.2 none in
-    let still : LooksAtMost j.cutting.automaton n = subst (λ (d : List Row). LooksAtMost d n) (sym (same_automaton s.cutting j.cutting x g.0)) most in
+    let still : ReadsAtMost j.cutting.automaton n = subst (λ (d : List Row). ReadsAtMost d n) (sym (same_automaton s.cutting j.cutting x g.0)) most in
     omega (arith, here.1 n most, paid_without j t xs n y here.0 still)
 
 pub cost_without : (s : LexerCutting) (d : List Row) (text : List ℕ) → s ≡ lexer_start d text None → (xs : List (Result Token TokenFault)) (t : LexerCutting)
-    → Yields GivesToken s xs t → (n : ℕ) → LooksAtMost d n → t.steps ≤ (n + 2) * length (chars text)
+    → Yields GivesToken s xs t → (n : ℕ) → ReadsAtMost d n → t.steps ≤ (n + 2) * length (chars text)
 cost_without s d text e =
-    subst (λ (s : LexerCutting). (xs : List (Result Token TokenFault)) (t : LexerCutting) → Yields GivesToken s xs t → (n : ℕ) → LooksAtMost d n → t.steps ≤ (n + 2) * length (chars text)) (sym e)
+    subst (λ (s : LexerCutting). (xs : List (Result Token TokenFault)) (t : LexerCutting) → Yields GivesToken s xs t → (n : ℕ) → ReadsAtMost d n → t.steps ≤ (n + 2) * length (chars text)) (sym e)
     (λ xs t y n most. omega (arith, paid_without (lexer_start d text None) t xs n y refl most))
 
 -- ---- the cost with one

@@ -6,8 +6,9 @@ ghost use Rattle.std.specs.Str.{chars};
 ghost use Rattle.lalrpop_book.specs.Clash.{NoClash};
 ghost use Rattle.lalrpop_book.specs.Report.{NoFault, IsReport};
 ghost use Rattle.lalrpop_book.specs.Longest.{IsLongest};
-ghost use Rattle.lalrpop_dfa.specs.Lookahead.{IsLookahead, IsSettledAfter, LooksAtMost, StaysOpenEver};
-ghost use Rattle.lalrpop_dfa.specs.Witness.{IsWitness, LeavesOpen};
+ghost use Rattle.lalrpop_book.specs.Winners.{IsOnlyStrongest, Matched};
+ghost use Rattle.lalrpop_dfa.specs.Lookahead.{IsLookahead, LooksAtMost, StaysOpenEver};
+ghost use Rattle.lalrpop_dfa.specs.Witness.{IsOpenMatch, IsWitness};
 ghost use Rattle.lalrpop_lexer.specs.Matching.{open_states};
 ghost use Rattle.lalrpop_lexer.specs.Cutting.{start_of, rest_of};
 ghost use Rattle.lalrpop_book.specs.Tokens.{slices};
@@ -56,7 +57,8 @@ pub struct Lexer {
 
 impl Model for Lexer {
     ghost use Rattle.std.specs.Prelude.{map};
-    ghost use Rattle.lalrpop_dfa.specs.Lookahead.{IsLookahead};
+    ghost use Rattle.lalrpop_book.specs.Winners.{Matched};
+    ghost use Rattle.lalrpop_dfa.specs.Lookahead.{IsLookahead, IsTrim};
     ghost use Rattle.lalrpop_lexer.specs.Rules.{Rules, IsBuiltFrom};
     ghost use Rattle.lalrpop_lexer.specs.Internal.Code.{rules_code};
 
@@ -73,7 +75,7 @@ impl Model for Lexer {
 
     ghost invariant = { λ l.
         IsBuiltFrom l.regexs.items (map (λ p. p.0) l.precedences.items) l.dense
-        × IsLookahead l.dense l.lookahead };
+        × IsTrim l.dense × IsLookahead (Matched l.regexs.items) l.lookahead };
 }
 
 impl Lexer {
@@ -99,7 +101,8 @@ impl Lexer {
         ensures report { IfErr result
             (λ e. IsReport regexs.items (map (λ p. p.0) precedences.items) e) }
     {
-        let dfa = build_dfa(alloc, &regexs, &precedences)?;
+        let built = build_dfa(alloc, &regexs, &precedences)?;
+        let dfa = built.trimmed(alloc)?;
         let dense = DenseDfa::new(alloc, dfa)?;
         let lookahead = lookahead(alloc, dense.dfa())?;
         Ok(Lexer {
@@ -151,7 +154,7 @@ impl Lexer {
         ensures count { (xs : List (Result TokenValue FaultValue)) (s : LexerCutting)
             → Yields GivesToken result xs s → length xs ≤ length (chars text.now) }
         ensures cost { (xs : List (Result TokenValue FaultValue)) (s : LexerCutting)
-            → Yields GivesToken result xs s → (n : ℕ) → LooksAtMost self.now.automaton n
+            → Yields GivesToken result xs s → (n : ℕ) → LooksAtMost (Matched self.now.trees) n
             → s.steps ≤ (n + 2) * length (chars text.now) }
     {
         LexerTokens::new(&self.dense, text, None)
@@ -212,18 +215,18 @@ impl Lexer {
         ensures start { IfOk result (λ s.
             (s.cutting ≡ start_of self.now.automaton text.now) × (s.steps ≡ 0)) }
         ensures memo { IfOk result (λ s.
-            IsSome s.spare → IsLookahead self.now.automaton None) }
+            IsSome s.spare → IsLookahead (Matched self.now.trees) None) }
         ensures built { IfOk result (λ s.
             IsBuiltFrom self.now.trees self.now.precedences s.cutting.automaton) }
         ensures tokens { IfOk result (λ s. (xs : List (Result TokenValue FaultValue))
             → Drains GivesToken s xs
             → AreTokens self.now.trees self.now.precedences text.now 0 xs) }
         ensures cost { IfOk result (λ s. (found : Option ℕ)
-            × (IsLookahead self.now.automaton found
+            × (IsLookahead (Matched self.now.trees) found
             × ((xs : List (Result TokenValue FaultValue)) (t : LexerCutting)
             → Yields GivesToken s xs t
             → t.steps ≤ most_steps self.now.automaton text.now found))) }
-        ensures refused { OnErr result (IsLookahead self.now.automaton None) }
+        ensures refused { OnErr result (IsLookahead (Matched self.now.trees) None) }
     {
         if self.lookahead.is_some() {
             return Ok(self.tokens(text));
@@ -257,13 +260,12 @@ impl Lexer {
         LinearMatches::new(alloc, &self.dense, text)
     }
 
-    /// The greatest number of characters that can follow a match and still leave it open whether a longer one comes; `None`
-    /// if there is no bound.
+    /// The greatest number of characters that can follow a nonempty match and still leave it open whether a longer one comes;
+    /// `None` if there is no bound.
     ///
     /// If it is n, no more than n + 1 characters past the end of a token are read to decide it.
     pub fn lookahead(&self) -> Option<usize>
-        ensures answer { IsLookahead self.now.automaton result }
-        ensures settled { IfSome result (IsSettledAfter self.now.trees) }
+        ensures answer { IsLookahead (Matched self.now.trees) result }
     {
         self.lookahead
     }
@@ -278,12 +280,13 @@ impl Lexer {
         ensures same_length { IfOk result (λ found.
             length found.items ≡ length self.now.trees) }
         ensures each { IfOk result (λ found. (i : ℕ) → i < length self.now.trees
-            → (slice_get found.items i ≡ Some true) ↔ StaysOpenEver self.now.automaton i) }
+            → (slice_get found.items i ≡ Some true) ↔ StaysOpenEver (Matched self.now.trees)
+            (λ w. IsOnlyStrongest self.now.trees self.now.precedences w i)) }
     {
         unbounded_patterns(alloc, self.dense.dfa(), self.regexs().len())
     }
 
-    /// The shortest, then least, word that a pattern matches and that `count` characters after it can leave open: they don't
+    /// The shortest, then least, nonempty word that a pattern matches and that `count` characters after it can leave open: they don't
     /// settle whether a longer match comes. The least such characters come with it, all as code values. `None` if there is no
     /// such word.
     ///
@@ -298,9 +301,9 @@ impl Lexer {
         count: usize,
     ) -> Result<Option<Witness>, AllocError>
         ensures least { IfOk result (λ found. IfSome found (λ witness.
-            IsWitness self.now.automaton count witness.word witness.after)) }
+            IsWitness (Matched self.now.trees) count witness.word witness.after)) }
         ensures none { IfOk result (λ found. IfNone found
-            ((v x : List ℕ) → ¬ LeavesOpen self.now.automaton count v x)) }
+            ((v x : List ℕ) → ¬ IsOpenMatch (Matched self.now.trees) count v x)) }
     {
         lookahead_witness(alloc, self.dense.dfa(), count)
     }

@@ -9,6 +9,7 @@ use std::alloc::{AllocError, Global};
 const CUT: &str = r"
 'a' ab <- aab => looking: 0 a 0 1 ab 1
 'a' ab <- ac => looking: 0 a 0 no pattern matches at byte 1
+'m' ma*[a&&b] <- maa => looking: 0 m 0 no pattern matches at byte 1
 'a' a*b <- aac => remembering: 0 a 0 0 a 1 no pattern matches at byte 2
 'a' a*b <- aab => remembering: 1 aab 0
 é é*b <- éé => remembering: 0 é 0 0 é 2

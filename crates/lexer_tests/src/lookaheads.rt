@@ -7,7 +7,8 @@ use lalrpop_lexer::lexer::re::Regex;
 use lalrpop_lexer::{Lexer, Token, TokenFault};
 use std::alloc::{AllocError, Global};
 
-// Patterns, the stronger before the weaker, and the greatest number of characters.
+// Patterns, the stronger before the weaker, and the greatest number of characters. Of the last four, one waits in vain after a match,
+// and three match the empty word, after which nothing counts.
 const LOOKAHEADS: &str = r"
 'a' 'abcd' => Some(2)
 'if' [a-z]+ [0-9]+ [0-9]+\.[0-9]+ '.' '..' => Some(1)
@@ -17,6 +18,10 @@ a* => Some(0)
 '/' /\*([^*]|\*+[^*/])*\*+/ => None
 /\*([^*]|\*+[^*/])*\*+/ => Some(0)
 é éàüx => Some(2)
+'m' ma*[a&&b] => Some(0)
+(/x*/)? => Some(0)
+(|abc) => Some(0)
+(|a*b) b => Some(0)
 ";
 
 fn falling(alloc: Global, count: usize) -> Result<Vec<Precedence>, AllocError> {
@@ -90,6 +95,11 @@ fn patterns_that_stay_open(rt: HostRuntime) {
         &rt,
         open_of(rt.alloc(), "'if' [a-z]+ '.' '..'"),
         "[false, false, false, false]",
+    );
+    expect(
+        &rt,
+        open_of(rt.alloc(), "'m' ma*[a&&b] (/x*/)?"),
+        "[false, false, false]",
     );
     expect(&rt, open_of(rt.alloc(), ""), "[]");
 }

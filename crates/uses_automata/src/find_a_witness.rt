@@ -1,10 +1,8 @@
 //! What makes an automaton look ahead.
 
-ghost use Rattle.std.specs.Prelude.{◌≡◌, ℕ, ◌<◌, List, length, Some, Ok, true, false, IfOk, IfSome, IfNone};
-ghost use Rattle.lalrpop_book.specs.Word.{IsWord};
-ghost use Rattle.lalrpop_dfa.specs.Dfa.{after};
-ghost use Rattle.lalrpop_dfa.specs.Lookahead.{IsAccepting, IsLookahead, StaysOpen};
-ghost use Rattle.lalrpop_dfa.specs.Witness.{IsWitness, LeavesOpen};
+ghost use Rattle.std.specs.Prelude.{◌≡◌, ◌≢◌, ℕ, ◌++◌, [], List, length, Some, Ok, true, false, IfOk, IfSome};
+ghost use Rattle.lalrpop_dfa.specs.Lookahead.{Accepted, IsLookahead};
+ghost use Rattle.lalrpop_dfa.specs.Witness.{IsOpenMatch, IsWitness};
 
 use lalrpop_dfa::lookahead::lookahead;
 use lalrpop_dfa::{Dfa, Witness, lookahead_witness};
@@ -18,12 +16,12 @@ use std::alloc::{AllocError, Global};
 /// `AllocError` if a request for memory was refused.
 pub fn open_match(alloc: Global, dfa: &Dfa, count: usize) -> Result<Option<Witness>, AllocError>
     ensures matched { IfOk result (λ found.
-        IfSome found (λ w. IsAccepting dfa.now (after dfa.now w.word))) }
-    ensures stays { IfOk result (λ found.
-        IfSome found (λ w. StaysOpen dfa.now (after dfa.now w.word) w.after)) }
+        IfSome found (λ w. Accepted dfa.now w.word × (w.word ≢ []))) }
+    ensures later { IfOk result (λ found. IfSome found (λ w.
+        (z : List ℕ) × Accepted dfa.now ((w.word ++ w.after) ++ z))) }
     ensures long { IfOk result (λ found. IfSome found (λ w. length w.after ≡ count)) }
     ensures one { IfOk result (λ found. IfSome found (λ w. (v x : List ℕ)
-        → IsWitness dfa.now count v x → (w.word ≡ v) × (w.after ≡ x))) }
+        → IsWitness (Accepted dfa.now) count v x → (w.word ≡ v) × (w.after ≡ x))) }
 {
     lookahead_witness(alloc, dfa, count)
 }
@@ -35,8 +33,10 @@ pub fn open_match(alloc: Global, dfa: &Dfa, count: usize) -> Result<Option<Witne
 ///
 /// `AllocError` if a request for memory was refused.
 pub fn is_left_open(alloc: Global, dfa: &Dfa, count: usize) -> Result<bool, AllocError>
-    ensures is_open { result ≡ Ok true → (v x : List ℕ) × LeavesOpen dfa.now count v x }
-    ensures is_closed { result ≡ Ok false → (v x : List ℕ) → ¬ LeavesOpen dfa.now count v x }
+    ensures is_open { result ≡ Ok true
+        → (v x : List ℕ) × IsOpenMatch (Accepted dfa.now) count v x }
+    ensures is_closed { result ≡ Ok false
+        → (v x : List ℕ) → ¬ IsOpenMatch (Accepted dfa.now) count v x }
 {
     match lookahead_witness(alloc, dfa, count)? {
         Some(_) => Ok(true),
@@ -52,27 +52,11 @@ pub fn is_left_open(alloc: Global, dfa: &Dfa, count: usize) -> Result<bool, Allo
 /// `AllocError` if a request for memory was refused.
 pub fn farthest(alloc: Global, dfa: &Dfa) -> Result<Option<Witness>, AllocError>
     ensures farthest { IfOk result (λ found. IfSome found (λ w.
-        IsLookahead dfa.now (Some (length w.after))
-        × IsWitness dfa.now (length w.after) w.word w.after)) }
+        IsLookahead (Accepted dfa.now) (Some (length w.after))
+        × IsWitness (Accepted dfa.now) (length w.after) w.word w.after)) }
 {
     match lookahead(alloc, dfa)? {
         Some(count) if count > 0 => lookahead_witness(alloc, dfa, count),
         _ => Ok(None),
     }
-}
-
-// Needs lalrpop_dfa::lookahead_witness: none.
-/// Whether `count` values leave a match open, in an automaton where a word leads to each state, as in those that `build_dfa`
-/// builds. If not, no accepting state is left open by them.
-///
-/// # Errors
-///
-/// `AllocError` if a request for memory was refused.
-pub fn is_some_state_left_open(alloc: Global, dfa: &Dfa, count: usize) -> Result<bool, AllocError>
-    requires reached { (p : ℕ) → p < length dfa.now
-        → (w : List ℕ) × (IsWord w × (after dfa.now w ≡ p)) }
-    ensures is_closed { result ≡ Ok false → (p : ℕ) (x : List ℕ) → IsAccepting dfa.now p → IsWord x
-        → length x ≡ count → ¬ StaysOpen dfa.now p x }
-{
-    is_left_open(alloc, dfa, count)
 }

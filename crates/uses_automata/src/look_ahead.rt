@@ -2,23 +2,24 @@
 
 ghost use Rattle.std.specs.Prelude.{◌≡◌, ℕ, ◌<◌, ◌↔◌, List, Some, length, slice_get, true, false, IfOk, IfSome};
 ghost use Rattle.lalrpop_book.specs.Tree.{Tree};
+ghost use Rattle.lalrpop_book.specs.Winners.{Matched};
 ghost use Rattle.lalrpop_dfa.specs.Dfa.{Recognizes};
-ghost use Rattle.lalrpop_dfa.specs.Lookahead.{CanStayOpen, IsLookahead, IsSettledAfter, LooksAtMost, StaysOpenEver};
+ghost use Rattle.lalrpop_dfa.specs.Lookahead.{Accepted, AcceptedAs, CanStayOpen, IsLookahead, LooksAtMost, ReadsAtMost, StaysOpenEver};
 
 use lalrpop_dfa::Dfa;
 use lalrpop_dfa::lookahead::{lookahead, unbounded_patterns};
 use std::alloc::{AllocError, Global};
 
-// Needs lalrpop_dfa::lookahead: answer, settled.
-/// The greatest number of characters past its end that can leave a match open.
+// Needs lalrpop_dfa::lookahead: answer.
+/// The greatest number of characters past its end that can leave a match by one of the trees open, whichever trees the automaton
+/// recognizes.
 ///
 /// # Errors
 ///
 /// `AllocError` if a request for memory was refused.
 pub fn greatest(alloc: Global, dfa: &Dfa) -> Result<Option<usize>, AllocError>
-    ensures answer { IfOk result (λ found. IsLookahead dfa.now found) }
-    ensures settled { IfOk result (λ found. IfSome found (λ n. (ts : List Tree) (ps : List ℕ)
-        → Recognizes dfa.now ts ps → IsSettledAfter ts n)) }
+    ensures matches { IfOk result (λ found. (ts : List Tree) (ps : List ℕ) → Recognizes dfa.now ts ps
+        → IsLookahead (Matched ts) found) }
 {
     lookahead(alloc, dfa)
 }
@@ -31,8 +32,8 @@ pub fn greatest(alloc: Global, dfa: &Dfa) -> Result<Option<usize>, AllocError>
 /// `AllocError` if a request for memory was refused.
 pub fn open_for_ever(alloc: Global, dfa: &Dfa, count: usize) -> Result<Vec<bool>, AllocError>
     ensures same_length { IfOk result (λ found. length found.items ≡ count) }
-    ensures each { IfOk result (λ found. (i : ℕ) → i < count
-        → (slice_get found.items i ≡ Some true) ↔ StaysOpenEver dfa.now i) }
+    ensures each { IfOk result (λ found. (i : ℕ) → i < count → (slice_get found.items i ≡ Some true)
+        ↔ StaysOpenEver (Accepted dfa.now) (AcceptedAs dfa.now i)) }
 {
     unbounded_patterns(alloc, dfa, count)
 }
@@ -44,11 +45,36 @@ pub fn open_for_ever(alloc: Global, dfa: &Dfa, count: usize) -> Result<Vec<bool>
 ///
 /// `AllocError` if a request for memory was refused.
 pub fn is_decided_soon(alloc: Global, dfa: &Dfa) -> Result<bool, AllocError>
-    ensures soon { IfOk result (λ soon. soon ≡ true → (n : ℕ) × LooksAtMost dfa.now n) }
-    ensures never { IfOk result (λ soon. soon ≡ false → (m : ℕ) → CanStayOpen dfa.now m) }
+    ensures soon { IfOk result (λ soon. soon ≡ true
+        → (n : ℕ) × LooksAtMost (Accepted dfa.now) n) }
+    ensures never { IfOk result (λ soon. soon ≡ false
+        → (m : ℕ) → CanStayOpen (Accepted dfa.now) m) }
 {
     match lookahead(alloc, dfa)? {
         Some(_) => Ok(true),
         None => Ok(false),
     }
+}
+
+/// An automaton, and how many characters past a match a run reads to see that no longer one comes, and one more.
+#[derive(Drop)]
+pub struct Trimmed {
+    pub dfa: Dfa,
+    pub past: Option<usize>,
+}
+
+// Needs lalrpop_dfa::Dfa::trimmed: trimmed.
+/// The automaton without states that wait in vain, so that the number bounds what a run reads. It recognizes what it did.
+///
+/// # Errors
+///
+/// `AllocError` if a request for memory was refused.
+pub fn bounded(alloc: Global, dfa: Dfa) -> Result<Trimmed, AllocError>
+    ensures same { IfOk result (λ found. (ts : List Tree) (ps : List ℕ) → Recognizes dfa ts ps
+        → Recognizes found.dfa ts ps) }
+    ensures past { IfOk result (λ found. IfSome found.past (ReadsAtMost found.dfa)) }
+{
+    let dfa = dfa.trimmed(alloc)?;
+    let past = lookahead(alloc, &dfa)?;
+    Ok(Trimmed { dfa, past })
 }

@@ -6,7 +6,7 @@ ghost use Rattle.std.specs.Str.{chars};
 ghost use Rattle.lalrpop_book.specs.Tree.{Tree};
 ghost use Rattle.lalrpop_book.specs.Prefix.{IsPrefix};
 ghost use Rattle.lalrpop_dfa.specs.Dfa.{Recognizes};
-ghost use Rattle.lalrpop_dfa.specs.Lookahead.{LooksAtMost};
+ghost use Rattle.lalrpop_dfa.specs.Lookahead.{ReadsAtMost};
 ghost use Rattle.lalrpop_book.specs.Longest.{IsLongest};
 ghost use Rattle.lalrpop_dense.specs.Leading.{LeadTo};
 
@@ -65,7 +65,7 @@ pub fn counted_by_table<'text>(
     ensures prefix { IfSome result (λ m. IsPrefix m.1.now second.now × (m.1.now ≢ [])) }
     ensures never_falls { steps.old ≤ steps.new }
     ensures cost { steps.new ≤ steps.old + length (chars first.now) + length (chars second.now) }
-    ensures looked { (n : ℕ) → LooksAtMost dense.now n → IfSome result (λ m.
+    ensures looked { (n : ℕ) → ReadsAtMost dense.now n → IfSome result (λ m.
         steps.new ≤ steps.old + length (chars first.now) + length (chars m.1.now) + n + 1) }
 {
     let _ = dense.longest_counted(first, steps);
@@ -142,7 +142,7 @@ pub fn longest_of_second<'text, M: Matcher>(
     ensures prefix { IfSome result (λ m. IsPrefix m.1.now second.now × (m.1.now ≢ [])) }
     ensures never_falls { steps.old ≤ steps.new }
     ensures cost { steps.new ≤ steps.old + length (chars first.now) + length (chars second.now) }
-    ensures looked { (n : ℕ) → LooksAtMost (M.rows matcher.now) n → IfSome result (λ m.
+    ensures looked { (n : ℕ) → ReadsAtMost (M.rows matcher.now) n → IfSome result (λ m.
         steps.new ≤ steps.old + length (chars first.now) + length (chars m.1.now) + n + 1) }
 {
     let _ = matcher.longest_match(first, steps);

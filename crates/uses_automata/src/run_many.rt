@@ -8,7 +8,7 @@ ghost use Rattle.lalrpop_book.specs.Prefix.{IsPrefix};
 ghost use Rattle.lalrpop_dfa.specs.Counts.{HaveAtMost};
 ghost use Rattle.lalrpop_dfa.specs.Dfa.{Recognizes};
 ghost use Rattle.lalrpop_book.specs.Longest.{IsLongest};
-ghost use Rattle.lalrpop_dfa.specs.Lookahead.{LooksAtMost};
+ghost use Rattle.lalrpop_dfa.specs.Lookahead.{ReadsAtMost};
 
 use lalrpop_book::NfaIndex;
 use lalrpop_dfa::Dfa;
@@ -38,7 +38,7 @@ pub fn counted_over_two<'text>(
     ensures prefix { IfSome result (λ m. IsPrefix m.1.now second.now × (m.1.now ≢ [])) }
     ensures never_falls { steps.old ≤ steps.new }
     ensures cost { steps.new ≤ steps.old + length (chars first.now) + length (chars second.now) }
-    ensures looked { (n : ℕ) → LooksAtMost dfa.now n → IfSome result (λ m.
+    ensures looked { (n : ℕ) → ReadsAtMost dfa.now n → IfSome result (λ m.
         steps.new ≤ steps.old + length (chars first.now) + length (chars m.1.now) + n + 1) }
 {
     let _ = interpret_counted(dfa, first, steps);
@@ -58,7 +58,7 @@ pub fn probed<'text>(
     ensures prefix { IfSome result (λ m. IsPrefix m.1.now text.now × (m.1.now ≢ [])) }
     ensures never_falls { (steps.old ≤ steps.new) × (probes.old ≤ probes.new) }
     ensures cost { steps.new ≤ steps.old + length (chars text.now) }
-    ensures looked { (n : ℕ) → LooksAtMost dfa.now n → IfSome result (λ m.
+    ensures looked { (n : ℕ) → ReadsAtMost dfa.now n → IfSome result (λ m.
         steps.new ≤ steps.old + length (chars m.1.now) + n + 1) }
     ensures probed { (n d : ℕ) → HaveAtMost dfa.now n → n < 2 ^ d
         → probes.new ≤ probes.old + length (chars text.now) * d }

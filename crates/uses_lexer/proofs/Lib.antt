@@ -1,2 +1,3 @@
 mod Counting
+mod Pages
 mod Tokens

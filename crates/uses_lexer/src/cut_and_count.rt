@@ -5,11 +5,12 @@ ghost use Rattle.std.specs.Str.{chars};
 ghost use Rattle.lalrpop_lexer.specs.Cutting.{rest_of, start_of};
 ghost use Rattle.lalrpop_lexer.specs.LexerTokens.{lexer_start};
 ghost use Rattle.lalrpop_lexer.specs.Lookahead.{LooksAtMost};
+ghost use Rattle.lalrpop_lexer.specs.Winners.{Matched};
 
 use lalrpop_lexer::{Lexer, LexerTokens};
 
 // Needs lalrpop_lexer::Lexer::tokens: start.
-/// The tokens of the text, cut by the automaton that `lookahead` is about.
+/// The tokens of the text, cut by the lexer's automaton.
 pub fn cut_by_the_same<'text>(lexer: &'text Lexer, text: &'text str) -> LexerTokens<'text>
     ensures start { result.cutting ≡ start_of lexer.now.automaton text.now }
 {
@@ -21,7 +22,7 @@ pub fn cut_by_the_same<'text>(lexer: &'text Lexer, text: &'text str) -> LexerTok
 /// Cuts the whole text.
 pub fn cut_to_the_end<'text>(lexer: &'text Lexer, text: &'text str) -> LexerTokens<'text>
     ensures all { (result.cutting.is_over ≡ true) ⊎ (rest_of result.cutting ≡ []) }
-    ensures cost { (n : ℕ) → LooksAtMost lexer.now.automaton n
+    ensures cost { (n : ℕ) → LooksAtMost (Matched lexer.now.trees) n
         → result.steps ≤ (n + 2) * length (chars text.now) }
 {
     let mut items = lexer.tokens(text);

@@ -5,7 +5,8 @@ ghost use Rattle.std.specs.Option.{option_map};
 ghost use Rattle.std.specs.Str.{chars};
 ghost use Rattle.lalrpop_book.specs.Longest.{IsLongest};
 ghost use Rattle.lalrpop_lexer.specs.Matching.{characters_of, open_states};
-ghost use Rattle.lalrpop_dfa.specs.Lookahead.{IsLookahead};
+ghost use Rattle.lalrpop_lexer.specs.Lookahead.{IsLookahead};
+ghost use Rattle.lalrpop_lexer.specs.Winners.{Matched};
 ghost use Rattle.lalrpop_lexer.specs.Cutting.{rest_of};
 ghost use Rattle.lalrpop_lexer.specs.LexerTokens.{most_steps};
 ghost use Rattle.lalrpop_lexer.specs.Rules.{IsBuiltFrom};
@@ -30,7 +31,7 @@ pub fn cut_to_the_end<'text>(
     ensures all { IfOk result (λ s.
         (s.cutting.is_over ≡ true) ⊎ (rest_of s.cutting ≡ [])) }
     ensures cost { IfOk result (λ s. (found : Option ℕ)
-        × (IsLookahead lexer.now.automaton found
+        × (IsLookahead (Matched lexer.now.trees) found
         × (s.steps ≤ most_steps lexer.now.automaton text.now found))) }
 {
     let mut items = lexer.tokens_linear(alloc, text)?;
@@ -53,8 +54,8 @@ pub fn begin<'text>(
     ensures built { IfOk result (λ s. IsBuiltFrom lexer.now.trees lexer.now.precedences
         s.cutting.automaton) }
     ensures unread { IfOk result (λ s. s.steps ≡ 0) }
-    ensures memo { IfOk result (λ s. IsSome s.spare → IsLookahead lexer.now.automaton None) }
-    ensures refused { OnErr result (IsLookahead lexer.now.automaton None) }
+    ensures memo { IfOk result (λ s. IsSome s.spare → IsLookahead (Matched lexer.now.trees) None) }
+    ensures refused { OnErr result (IsLookahead (Matched lexer.now.trees) None) }
 {
     lexer.tokens_linear(alloc, text)
 }

@@ -1,8 +1,9 @@
 //! How far a lexer looks ahead.
 
-ghost use Rattle.std.specs.Prelude.{◌≡◌, ℕ, ◌<◌, ◌↔◌, List, length, true, false, IfOk};
-ghost use Rattle.lalrpop_lexer.specs.Lookahead.{CanStayOpen, IsSettledAfter, LooksAtMost, StaysOpenEver};
-ghost use Rattle.lalrpop_lexer.specs.Witness.{IsWitness, LeavesOpen};
+ghost use Rattle.std.specs.Prelude.{◌≡◌, ◌≢◌, ℕ, ◌+◌, ◌<◌, ◌↔◌, ◌++◌, [], List, length, true, false, IfOk};
+ghost use Rattle.lalrpop_lexer.specs.Lookahead.{CanStayOpen, LooksAtMost, StaysOpenEver};
+ghost use Rattle.lalrpop_lexer.specs.Winners.{IsOnlyStrongest, Matched};
+ghost use Rattle.lalrpop_lexer.specs.Witness.{IsOpenMatch, IsWitness};
 
 use lalrpop_lexer::Lexer;
 use std::alloc::{AllocError, Global};
@@ -10,8 +11,8 @@ use std::alloc::{AllocError, Global};
 // Needs lalrpop_lexer::Lexer::lookahead: answer.
 /// Whether something limits how many characters leave a match open.
 pub fn is_limited(lexer: &Lexer) -> bool
-    ensures limited { result ≡ true → (n : ℕ) × LooksAtMost lexer.now.automaton n }
-    ensures endless { result ≡ false → (m : ℕ) → CanStayOpen lexer.now.automaton m }
+    ensures limited { result ≡ true → (n : ℕ) × LooksAtMost (Matched lexer.now.trees) n }
+    ensures endless { result ≡ false → (m : ℕ) → CanStayOpen (Matched lexer.now.trees) m }
 {
     match lexer.lookahead() {
         Some(_) => true,
@@ -19,11 +20,15 @@ pub fn is_limited(lexer: &Lexer) -> bool
     }
 }
 
-// Needs lalrpop_lexer::Lexer::lookahead: settled.
-/// How many characters to read past a match, and whether those settle each match. Where nothing limits their number it is
+// Needs lalrpop_lexer::Lexer::lookahead: answer.
+/// How many characters to read past a match, and whether those settle each match: none of the patterns then matches a word that
+/// begins with a match and that many characters, and one more, that brought no match. Where nothing limits their number it is
 /// `otherwise`.
 pub fn to_read(lexer: &Lexer, otherwise: usize) -> (usize, bool)
-    ensures settled { result.1 ≡ true → IsSettledAfter lexer.now.trees result.0 }
+    ensures settled { result.1 ≡ true → (v x z : List ℕ) → v ≢ [] → Matched lexer.now.trees v
+        → length x ≡ result.0 + 1
+        → ((u y : List ℕ) → x ≡ u ++ y → u ≢ [] → ¬ Matched lexer.now.trees (v ++ u))
+        → ¬ Matched lexer.now.trees ((v ++ x) ++ z) }
 {
     match lexer.lookahead() {
         Some(number) => (number, true),
@@ -39,7 +44,8 @@ pub fn to_read(lexer: &Lexer, otherwise: usize) -> (usize, bool)
 /// `AllocError` if a request for memory was refused.
 pub fn stays_open(alloc: Global, lexer: &Lexer, number: usize) -> Result<bool, AllocError>
     requires { number < length lexer.now.trees }
-    ensures { IfOk result (λ stays. (stays ≡ true) ↔ StaysOpenEver lexer.now.automaton number) }
+    ensures { IfOk result (λ stays. (stays ≡ true) ↔ StaysOpenEver (Matched lexer.now.trees)
+        (λ w. IsOnlyStrongest lexer.now.trees lexer.now.precedences w number)) }
 {
     let found = lexer.unbounded_patterns(alloc)?;
     Ok(found[number])
@@ -53,9 +59,9 @@ pub fn stays_open(alloc: Global, lexer: &Lexer, number: usize) -> Result<bool, A
 /// `AllocError` if a request for memory was refused.
 pub fn is_left_open(alloc: Global, lexer: &Lexer, count: usize) -> Result<bool, AllocError>
     ensures is_open { IfOk result (λ left. left ≡ true
-        → (v x : List ℕ) × IsWitness lexer.now.automaton count v x) }
+        → (v x : List ℕ) × IsWitness (Matched lexer.now.trees) count v x) }
     ensures is_closed { IfOk result (λ left. left ≡ false
-        → (v x : List ℕ) → ¬ LeavesOpen lexer.now.automaton count v x) }
+        → (v x : List ℕ) → ¬ IsOpenMatch (Matched lexer.now.trees) count v x) }
 {
     match lexer.lookahead_witness(alloc, count)? {
         Some(_) => Ok(true),

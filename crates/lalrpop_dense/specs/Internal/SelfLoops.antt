@@ -1,5 +1,5 @@
 -- Bytes on which a row of a fused table leads back to itself.
-use Rattle.std.specs.Prelude.{◌≡◌, ◌≢◌, ℕ, ◌<◌, ◌≤◌, ◌==◌, if◌then◌else◌, List, slice_index}
+use Rattle.std.specs.Prelude.{◌≢◌, ℕ, ◌<◌, ◌≤◌, ◌==◌, if◌then◌else◌, List, slice_index}
 use Rattle.std.specs.Int.{w64, trailing_zeros}
 use Rattle.lalrpop_dense.specs.declared.self_loop.SelfLoop.{SelfLoop}
 

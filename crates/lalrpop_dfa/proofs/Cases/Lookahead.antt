@@ -1,130 +1,100 @@
--- Cases of specs/Lookahead.antt: automata whose START accepts, and where every value leads from a state to the same one.
-use Rattle.std.proofs.Common.{◌≡◌, ◌≢◌, ℕ, zero, suc, ◌+◌, ◌≤◌, ◌⊎◌, inl, inr, List, [], ◌∷◌, ◌++◌, length, Some, None, refl, ap, subst, arith, length-append}
-use Rattle.std.specs.Prelude.{slice_get, IsSomeAnd}
-use Rattle.lalrpop_book.specs.Tree.{Tree, literal}
-use Rattle.lalrpop_book.specs.Language.{Matches}
-use Rattle.lalrpop_book.specs.Winners.{TreeMatches, Matched}
-use Rattle.lalrpop_dfa.specs.Dfa.{Row}
-use Rattle.lalrpop_dfa.specs.Lookahead.{StaysOpen, CanStayOpen, LooksAtMost, IsLookahead, StaysOpenEver, IsSettledAfter}
+-- Cases of specs/Lookahead.antt: two words, of which one begins the other; the empty word and another; and an automaton with a dead state.
+use Rattle.std.proofs.Common.{◌≡◌, ◌≢◌, ℕ, zero, suc, ◌<◌, ◌≤◌, ◌⊎◌, inl, inr, ⊎_elim, List, [], ◌∷◌, ◌++◌, length, Some, None, refl, sym, ap, ◌∙◌, subst, arith, length-append}
+use Rattle.std.specs.Prelude.{slice_get}
+use Rattle.std.proofs.lemmas.Bool.{cases_lt}
+use Rattle.std.proofs.lemmas.List.{append-nil, nil_from_length}
+use Rattle.lalrpop_dfa.specs.Dfa.{Row, run}
+use Rattle.lalrpop_dfa.specs.Lookahead.{IsAccepting, IsLive, IsLookahead, IsTrim, IsTrimmed, LeavesOpen, LooksAtMost, StaysOpenEver}
 use Rattle.lalrpop_dfa.specs.declared.Kind.{Kind}
 use Rattle.lalrpop_dfa.specs.declared.Kind.TheVariants.{Accepts, Reject, Neither}
 
--- a state from which every value leads to the state p
+-- ---- `a` and `abc`
+abbrev Two : List ℕ → Type 0
+Two w = (w ≡ 97 ∷ []) ⊎ (w ≡ 97 ∷ 98 ∷ 99 ∷ [])
+
+two_length : (w : List ℕ) → Two w → (length w ≡ 1) ⊎ (length w ≡ 3)
+two_length w (inl e) = inl (ap length e)
+two_length w (inr e) = inr (ap length e)
+
+b_leaves_it_open : LeavesOpen Two 1 (97 ∷ []) (98 ∷ [])
+b_leaves_it_open = record { some = λ e. cc; word = inl refl; long = refl; none = none; later = (99 ∷ [], inr refl) }
+  where
+    none : (u z : List ℕ) → 98 ∷ [] ≡ u ++ z → u ≢ [] → ¬ Two ((97 ∷ []) ++ u)
+    none [] z e some m = some refl
+    none (c ∷ []) z e some m = elim (two_length (97 ∷ c ∷ []) m) [ inl l ↦ omega (arith, l) | inr l ↦ omega (arith, l) ]
+    none (c ∷ d ∷ u) z e some m = absurd (omega (arith, ap length e, length-append u z))
+
+at_most_one : LooksAtMost Two 1
+at_most_one m (v, x, h) = ⊎_elim (λ (more : 1 < m). absurd (none more)) (λ (few : m ≤ 1). few) (cases_lt 1 m)
+  where
+    none : 1 < m → ⊥
+    none more = elim (two_length ((v ++ x) ++ h.later.0) h.later.1) [
+      | inl l ↦ elim (two_length v h.word) [
+        | inl k ↦ omega (arith, l, k, h.long, length-append v x, length-append (v ++ x) h.later.0)
+        | inr k ↦ omega (arith, l, k, h.long, length-append v x, length-append (v ++ x) h.later.0)
+      ]
+      | inr l ↦ elim (two_length v h.word) [
+        | inl k ↦ (let end : h.later.0 ≡ [] = nil_from_length h.later.0 (omega (arith, l, k, h.long, more, length-append v x, length-append (v ++ x) h.later.0)) in
+            let whole : Two (v ++ x) = subst Two (ap (λ (z : List ℕ). (v ++ x) ++ z) end ∙ append-nil (v ++ x)) h.later.1 in
+            h.none x [] (sym (append-nil x)) (λ e. absurd (omega (arith, ap length e, h.long, more))) whole)
+        | inr k ↦ omega (arith, l, k, h.long, more, length-append v x, length-append (v ++ x) h.later.0)
+      ]
+    ]
+
+two_look_at_one : IsLookahead Two (Some 1)
+two_look_at_one = (at_most_one, inr (97 ∷ [], 98 ∷ [], b_leaves_it_open))
+
+one_is_not_none : ¬ IsLookahead Two (Some 0)
+one_is_not_none h = omega (arith, h.0 1 (97 ∷ [], 98 ∷ [], b_leaves_it_open))
+
+no_more_than_are_there : ¬ IsLookahead Two (Some 2)
+no_more_than_are_there (most, inl e) = omega arith
+no_more_than_are_there (most, inr can) = omega (arith, at_most_one 2 can)
+
+there_is_a_bound : ¬ IsLookahead Two None
+there_is_a_bound ever = omega (arith, at_most_one 2 (ever 2))
+
+no_word_stays_open : ¬ StaysOpenEver Two (λ w. w ≡ 97 ∷ [])
+no_word_stays_open ever = (let (v, x, (is, h)) = ever 2 in omega (arith, at_most_one 2 (v, x, h)))
+
+-- ---- the empty word is no match that stays open
+abbrev EmptyToo : List ℕ → Type 0
+EmptyToo w = (w ≡ []) ⊎ (w ≡ 97 ∷ 98 ∷ 99 ∷ [])
+
+the_empty_word_is_not_open : LooksAtMost EmptyToo 0
+the_empty_word_is_not_open m (v, x, h) = by_word h.word h.later.1
+  where
+    by_word : EmptyToo v → EmptyToo ((v ++ x) ++ h.later.0) → m ≤ 0
+    by_word (inl e) later = absurd (h.some e)
+    by_word (inr e) (inl l) = absurd (omega (arith, ap length e, ap length l, length-append v x, length-append (v ++ x) h.later.0))
+    by_word (inr e) (inr l) = omega (arith, ap length e, ap length l, h.long, length-append v x, length-append (v ++ x) h.later.0)
+
+-- ---- START accepts; each value leads on to a state that waits in vain
 abbrev leads_to : Kind → ℕ → Row
 leads_to kind p = record { kind = kind; tests = []; other = p; items = [] }
 
--- the match is the last
-abbrev closed : List Row
-closed = leads_to (Accepts 0) 1 ∷ leads_to Reject 1 ∷ []
+abbrev vain : List Row
+vain = leads_to Neither 1 ∷ leads_to (Accepts 0) 2 ∷ leads_to Neither 2 ∷ []
 
--- one value after the match leaves it open, and a second does not
-abbrev open_once : List Row
-open_once = leads_to (Accepts 0) 1 ∷ leads_to Neither 2 ∷ leads_to Reject 2 ∷ []
+abbrev trimmed : List Row
+trimmed = leads_to Neither 1 ∷ leads_to (Accepts 0) 2 ∷ leads_to Reject 2 ∷ []
 
--- every value after the match leaves it open
-abbrev open_ever : List Row
-open_ever = leads_to (Accepts 0) 1 ∷ leads_to Neither 1 ∷ []
+stays_there : (z : List ℕ) → run vain 2 z ≡ 2
+stays_there [] = refl
+stays_there (c ∷ z) = stays_there z
 
-none_behind : LooksAtMost closed 0
-none_behind m (zero, [], (a, s, e)) = omega arith
-none_behind m (zero, c ∷ w, (a, s, e)) = cc (s.0)
-none_behind m (suc zero, w, (a, s, e)) = cc (a.1)
-none_behind m (suc (suc p), w, (a, s, e)) = absurd a
+the_last_is_dead : ¬ IsLive vain 2
+the_last_is_dead (z, a) = let (i, e) : (i : ℕ) × (Neither ≡ Accepts i) = subst (IsAccepting vain) (stays_there z) a in cc e
 
-closed_looks_at_none : IsLookahead closed (Some 0)
-closed_looks_at_none = (none_behind, inl refl)
+so_it_is_not_trim : ¬ IsTrim vain
+so_it_is_not_trim trim = the_last_is_dead (trim 2 refl)
 
-one_behind : LooksAtMost open_once 1
-one_behind m (zero, [], (a, s, e)) = omega arith
-one_behind m (zero, c ∷ [], (a, s, e)) = omega arith
-one_behind m (zero, c ∷ b ∷ w, (a, s, e)) = cc (s.1.0)
-one_behind m (suc zero, w, (a, s, e)) = cc (a.1)
-one_behind m (suc (suc zero), w, (a, s, e)) = cc (a.1)
-one_behind m (suc (suc (suc p)), w, (a, s, e)) = absurd a
-
-one_stays_open : CanStayOpen open_once 1
-one_stays_open = (0, 7 ∷ [], ((0, refl), (refl, tt), refl))
-
-open_once_looks_at_one : IsLookahead open_once (Some 1)
-open_once_looks_at_one = (one_behind, inr one_stays_open)
-
-open_once_has_a_greatest : ¬ IsLookahead open_once None
-open_once_has_a_greatest ever = omega (arith, one_behind 2 (ever 2))
-
-one_is_not_none : ¬ IsLookahead open_once (Some 0)
-one_is_not_none h = omega (arith, h.0 1 one_stays_open)
-
-no_more_than_are_there : ¬ IsLookahead open_once (Some 2)
-no_more_than_are_there (most, inl e) = omega arith
-no_more_than_are_there (most, inr can) = omega (arith, one_behind 2 can)
-
-stays : (m : ℕ) → (w : List ℕ) × (StaysOpen open_ever 1 w × (length w ≡ m))
-stays zero = ([], (tt, refl))
-stays (suc m) = (let (w, (s, e)) = stays m in (7 ∷ w, ((refl, s), omega arith)))
-
-open_ever_has_no_greatest : IsLookahead open_ever None
-open_ever_has_no_greatest zero = (0, [], ((0, refl), tt, refl))
-open_ever_has_no_greatest (suc m) = (let (w, (s, e)) = stays m in (0, 7 ∷ w, ((0, refl), (refl, s), omega arith)))
-
-no_number_is_enough : (n : ℕ) → ¬ IsLookahead open_ever (Some n)
-no_number_is_enough n h = omega (arith, h.0 (n + 1) (open_ever_has_no_greatest (n + 1)))
-
--- its only pattern stays open forever, and no other does
-pattern_stays_open : StaysOpenEver open_ever 0
-pattern_stays_open zero = (0, [], (refl, tt, refl))
-pattern_stays_open (suc m) = (let (w, (s, e)) = stays m in (0, 7 ∷ w, (refl, (refl, s), omega arith)))
-
-no_other_pattern_does : ¬ StaysOpenEver open_ever 1
-no_other_pattern_does ever = at (ever 0)
+it_is_trimmed : IsTrimmed vain trimmed
+it_is_trimmed = record { same_length = refl; each = each }
   where
-    at : (p : ℕ) × (w : List ℕ) × (IsSomeAnd (slice_get open_ever p) (λ r. r.kind ≡ Accepts 1) × StaysOpen open_ever p w × (length w ≡ 0)) → ⊥
-    at (zero, w, (a, s, e)) = absurd (cc)
-    at (suc zero, w, (a, s, e)) = absurd (cc)
-    at (suc (suc p), w, (a, s, e)) = absurd a
-
-open_once_is_not_for_ever : ¬ StaysOpenEver open_once 0
-open_once_is_not_for_ever ever = omega (arith, one_behind 2 (at (ever 2)))
-  where
-    at : (p : ℕ) × (w : List ℕ) × (IsSomeAnd (slice_get open_once p) (λ r. r.kind ≡ Accepts 0) × StaysOpen open_once p w × (length w ≡ 2)) → CanStayOpen open_once 2
-    at (zero, w, (a, s, e)) = (0, w, ((0, refl), s, e))
-    at (suc zero, w, (a, s, e)) = absurd (cc)
-    at (suc (suc zero), w, (a, s, e)) = absurd (cc)
-    at (suc (suc (suc p)), w, (a, s, e)) = absurd a
-
--- ---- only trees: of `a` and `b`, one value after a match settles that no more comes; of `a` and `abc` it doesn't
-
-abbrev a : Tree
-a = literal (97 ∷ [])
-
-abbrev b : Tree
-b = literal (98 ∷ [])
-
-abbrev abc : Tree
-abc = literal (97 ∷ 98 ∷ 99 ∷ [])
-
-matched_length : (t u : List ℕ) (w : List ℕ) → Matched (literal t ∷ literal u ∷ []) w → (length w ≡ length t) ⊎ (length w ≡ length u)
-matched_length t u w m = by_place m.0 m.1
-  where
-    long : (cs : List ℕ) (r : Tree) → Some (literal cs) ≡ Some r → Matches r w → length w ≡ length cs
-    long cs r e h = let same : r ≡ literal cs = cc in ap length (subst (λ x. Matches x w) same h)
-
-    by_place : (i : ℕ) → TreeMatches (literal t ∷ literal u ∷ []) w i → (length w ≡ length t) ⊎ (length w ≡ length u)
-    by_place zero h = inl (long t h.0 h.1.0 h.1.1)
-    by_place (suc zero) h = inr (long u h.0 h.1.0 h.1.1)
-    by_place (suc (suc n)) h = let e : None ≡ Some h.0 = h.1.0 in absurd (cc)
-
-matched_once : (w : List ℕ) → Matched (a ∷ b ∷ []) w → length w ≡ 1
-matched_once w m = elim (matched_length (97 ∷ []) (98 ∷ []) w m) [ inl e ↦ e | inr e ↦ e ]
-
-one_value_settles : IsSettledAfter (a ∷ b ∷ []) 0
-one_value_settles v x w m e none more =
-    omega (arith, matched_once v m, matched_once ((v ++ x) ++ w) more, length-append v x, length-append (v ++ x) w)
-
-one_value_leaves_abc : ¬ IsSettledAfter (a ∷ abc ∷ []) 0
-one_value_leaves_abc h = h (97 ∷ []) (98 ∷ []) (99 ∷ []) (0, (a, (refl, refl))) refl between (1, (abc, (refl, refl)))
-  where
-    between : (u z : List ℕ) → 98 ∷ [] ≡ u ++ z → u ≢ [] → ¬ Matched (a ∷ abc ∷ []) ((97 ∷ []) ++ u)
-    between [] z e some m = some refl
-    between (c ∷ []) z e some m =
-        elim (matched_length (97 ∷ []) (97 ∷ 98 ∷ 99 ∷ []) (97 ∷ c ∷ []) m) [ inl l ↦ omega (arith, l) | inr l ↦ omega (arith, l) ]
-    between (c ∷ d ∷ u) z e some m = let l : 1 ≡ length ((c ∷ d ∷ u) ++ z) = ap length e in omega (arith, l, length-append u z)
+    each : (p : ℕ) (r s : Row) → slice_get vain p ≡ Some r → slice_get trimmed p ≡ Some s → (IsLive vain p × (s ≡ r)) ⊎ ((¬ IsLive vain p) × (s ≡ record r { kind = Reject }))
+    each zero r s at there = inl ((7 ∷ [], (0, refl)), cc)
+    each (suc zero) r s at there = inl (([], (0, refl)), cc)
+    each (suc (suc zero)) r s at there =
+        inr (the_last_is_dead, (let a : leads_to Neither 2 ≡ r = cc in let b : leads_to Reject 2 ≡ s = cc in subst (λ (x : Row). s ≡ record x { kind = Reject }) a (sym b)))
+    each (suc (suc (suc p))) r s at there = absurd (let e : None ≡ Some r = at in cc)

@@ -1,55 +1,57 @@
--- Cases of specs/Witness.antt: an automaton whose START accepts, where every value leads from a state to the same one.
-use Rattle.std.proofs.Common.{ℕ, inl, inr, List, [], ◌∷◌, refl, lit<, lit≤, arith}
+-- Cases of specs/Witness.antt: two words, `a` and `abc`.
+use Rattle.std.proofs.Common.{◌≡◌, ◌≢◌, ℕ, ◌⊎◌, inl, inr, List, [], ◌∷◌, ◌++◌, length, refl, ap, lit≤, arith, length-append}
 use Rattle.lalrpop_book.specs.Word.{Shortlex}
-use Rattle.lalrpop_dfa.specs.Dfa.{Row}
-use Rattle.lalrpop_dfa.specs.declared.Kind.{Kind}
-use Rattle.lalrpop_dfa.specs.declared.Kind.TheVariants.{Accepts, Reject, Neither}
-use Rattle.lalrpop_dfa.specs.Witness.{LeavesOpen, IsWitness}
+use Rattle.lalrpop_dfa.specs.Witness.{IsOpenMatch, IsWitness}
 
--- a state from which every value leads to the state p
-abbrev leads_to : Kind → ℕ → Row
-leads_to kind p = record { kind = kind; tests = []; other = p; items = [] }
+abbrev Two : List ℕ → Type 0
+Two w = (w ≡ 97 ∷ []) ⊎ (w ≡ 97 ∷ 98 ∷ 99 ∷ [])
 
--- one value after the empty match leaves it open, and a second does not
-abbrev open_once : List Row
-open_once = leads_to (Accepts 0) 1 ∷ leads_to Neither 2 ∷ leads_to Reject 2 ∷ []
+b_leaves_it_open : IsOpenMatch Two 1 (97 ∷ []) (98 ∷ [])
+b_leaves_it_open = record {
+  word = (lit≤ tt, tt);
+  values = (lit≤ tt, tt);
+  leaves_open = record { some = λ e. cc; word = inl refl; long = refl; none = none; later = (99 ∷ [], inr refl) };
+}
+  where
+    none : (u z : List ℕ) → 98 ∷ [] ≡ u ++ z → u ≢ [] → ¬ Two ((97 ∷ []) ++ u)
+    none [] z e some m = some refl
+    none (c ∷ u) z e some (inl is) = cc
+    none (c ∷ []) z e some (inr is) = cc
+    none (c ∷ d ∷ u) z e some (inr is) = absurd (omega (arith, ap length e, length-append u z))
 
-leaves_open : LeavesOpen open_once 1 [] (7 ∷ [])
-leaves_open = record { word = tt; values = (lit≤ tt, tt); accepted = (0, refl); stays = (refl, tt); long = refl }
+one_value_is_not_two : ¬ IsOpenMatch Two 2 (97 ∷ []) (98 ∷ [])
+one_value_is_not_two h = omega (arith, h.leaves_open.long)
 
-one_value_is_not_two : ¬ LeavesOpen open_once 2 [] (7 ∷ [])
-one_value_is_not_two h = omega (arith, h.long)
+the_empty_word_is_no_match : ¬ IsOpenMatch Two 1 [] (98 ∷ [])
+the_empty_word_is_no_match h = h.leaves_open.some refl
 
-a_second_value_settles : ¬ LeavesOpen open_once 2 [] (7 ∷ 7 ∷ [])
-a_second_value_settles h = cc (h.stays.1.0)
-
-no_match_is_left_open : ¬ LeavesOpen open_once 0 (7 ∷ []) []
-no_match_is_left_open h = cc (h.accepted.1)
-
-values_fit_32_bits : ¬ LeavesOpen open_once 1 [] (4294967296 ∷ [])
+values_fit_32_bits : ¬ IsOpenMatch Two 1 (97 ∷ []) (4294967296 ∷ [])
 values_fit_32_bits h = omega (arith, h.values.0)
 
-first_values : LeavesOpen open_once 1 [] (0 ∷ [])
-first_values = record { word = tt; values = (lit≤ tt, tt); accepted = (0, refl); stays = (refl, tt); long = refl }
+no_less_word : (u y : List ℕ) → Shortlex u (97 ∷ []) → ¬ IsOpenMatch Two 1 u y
+no_less_word [] y less o = o.leaves_open.some refl
+no_less_word (c ∷ u) y (inl l) o = omega (arith, l)
+no_less_word (c ∷ []) y (inr (same, inl l)) o = by_word o.leaves_open.word
+  where
+    by_word : Two (c ∷ []) → ⊥
+    by_word (inl e) = let f : c ≡ 97 = cc in omega arith
+    by_word (inr e) = cc
+no_less_word (c ∷ []) y (inr (same, inr l)) o = l.1
+no_less_word (c ∷ d ∷ u) y (inr (same, l)) o = omega (arith, same)
 
-nothing_is_less : (u : List ℕ) → Shortlex u [] → ⊥
-nothing_is_less [] (inl h) = omega arith
-nothing_is_less (c ∷ u) (inl h) = omega arith
-nothing_is_less [] (inr h) = h.1
-nothing_is_less (c ∷ u) (inr h) = h.1
+no_less_values : (u : List ℕ) → Shortlex u (98 ∷ []) → ¬ IsOpenMatch Two 1 (97 ∷ []) u
+no_less_values u (inl l) o = omega (arith, l, o.leaves_open.long)
+no_less_values [] (inr (same, l)) o = omega (arith, same)
+no_less_values (c ∷ []) (inr (same, inl l)) o = by_word o.leaves_open.later.0 o.leaves_open.later.1
+  where
+    by_word : (z : List ℕ) → Two (97 ∷ c ∷ z) → ⊥
+    by_word z (inl e) = cc
+    by_word z (inr e) = let f : c ≡ 98 = cc in omega arith
+no_less_values (c ∷ []) (inr (same, inr l)) o = l.1
+no_less_values (c ∷ d ∷ u) (inr (same, l)) o = omega (arith, same)
 
-no_value_is_less : (u : List ℕ) → Shortlex u (0 ∷ []) → ¬ LeavesOpen open_once 1 [] u
-no_value_is_less u (inl h) o = omega (arith, o.long)
-no_value_is_less [] (inr h) o = h.1
-no_value_is_less (c ∷ u) (inr (e, inl h)) o = omega arith
-no_value_is_less (c ∷ []) (inr (e, inr h)) o = h.1
-no_value_is_less (c ∷ b ∷ u) (inr (e, inr h)) o = h.1
-
-the_witness : IsWitness open_once 1 [] (0 ∷ [])
+the_witness : IsWitness Two 1 (97 ∷ []) (98 ∷ [])
 the_witness = record {
-  word = record { holds = (0 ∷ [], first_values); least = λ u h x. nothing_is_less u h };
-  after = record { holds = first_values; least = no_value_is_less };
+  word = record { holds = (98 ∷ [], b_leaves_it_open); least = λ u less (y, o). no_less_word u y less o };
+  after = record { holds = b_leaves_it_open; least = no_less_values };
 }
-
-seven_is_not_the_least : ¬ IsWitness open_once 1 [] (7 ∷ [])
-seven_is_not_the_least h = h.after.least (0 ∷ []) (inr (refl, inl (lit< tt))) first_values

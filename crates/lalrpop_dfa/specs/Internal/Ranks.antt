@@ -2,8 +2,9 @@
 use Rattle.std.specs.Prelude.{◌≡◌, ℕ, ◌<◌, ◌≤◌, ◌⊎◌, ◌↔◌, List, [], ◌∷◌, length, slice_index, count_by, ◌==◌, Option, Some, None}
 use Rattle.std.proofs.Common.{zero, suc}
 use Rattle.lalrpop_book.specs.Word.{IsWord}
-use Rattle.lalrpop_dfa.specs.Dfa.{Row, step, run}
-use Rattle.lalrpop_dfa.specs.Lookahead.{IsAccepting, IsOpen, StaysOpen}
+use Rattle.lalrpop_dfa.specs.Dfa.{Row, step, run, IsWellFormed}
+use Rattle.lalrpop_dfa.specs.Lookahead.{IsAccepting}
+use Rattle.lalrpop_dfa.specs.Internal.Marks.{IsWaiting, WaitsAlong}
 
 -- the rank of the state is one of those from `least` to `most`
 abbrev pub IsWanted : List ℕ → ℕ → ℕ → ℕ → Type 0
@@ -14,19 +15,19 @@ abbrev pub IsLeastInto : List Row → (ℕ → Type 0) → ℕ → Option ℕ �
 IsLeastInto d W p None = (c : ℕ) → c ≤ 4294967295 → ¬ W (step d p c)
 IsLeastInto d W p (Some c) = (c ≤ 4294967295) × W (step d p c) × ((b : ℕ) → b < c → ¬ W (step d p b))
 
--- the state is open, and some n more values leave it so
+-- the state waits, and some n more values of 32 bits leave it so
 abbrev pub StaysFor : List Row → ℕ → ℕ → Type 0
-StaysFor d n p = IsOpen d p × ((w : List ℕ) × (IsWord w × StaysOpen d p w × (length w ≡ n)))
+StaysFor d n p = IsWaiting d p × ((w : List ℕ) × (IsWord w × WaitsAlong d p w × (length w ≡ n)))
 
--- the state accepts a tree, and some n values leave it open
+-- the state accepts a tree, and some n values after it leave it open whether a longer match comes
 abbrev pub IsGoal : List Row → ℕ → ℕ → Type 0
-IsGoal d n p = IsAccepting d p × ((w : List ℕ) × (IsWord w × StaysOpen d p w × (length w ≡ n)))
+IsGoal d n p = IsAccepting d p × ((w : List ℕ) × (IsWord w × WaitsAlong d p w × (length w ≡ n)))
 
 -- at most m values lead from the state p to a goal
 abbrev pub IsNear : List Row → ℕ → ℕ → ℕ → Type 0
 IsNear d n m p = (w : List ℕ) × (IsWord w × IsGoal d n (run d p w) × (length w ≤ m))
 
--- k open states in a row begin with the state p; k may be less than there are if it is `most` or more
+-- k waiting states in a row begin with the state p; k may be less than there are if it is `most` or more
 abbrev pub IsDepth : List Row → ℕ → ℕ → ℕ → Type 0
 IsDepth d most p k = (j : ℕ) → j < most → (j < k) ↔ StaysFor d j p
 
@@ -53,6 +54,14 @@ IsDistance d n most p k = (j : ℕ) → j ≤ most → (k ≤ j) ↔ IsNear d n 
 pub record AreDistances (d : List Row) (n most : ℕ) (distances : List ℕ) : Type 0 where
   pub same_length : length distances ≡ length d
   pub each : (p : ℕ) → p < length d → IsDistance d n most p (slice_index distances p)
+
+-- a value leads from START to a state that is k away from a goal, and none to one that is nearer; the distances are those up to k
+pub record AreNearest (d : List Row) (n k : ℕ) (distances : List ℕ) : Type 0 where
+  pub well_formed : IsWellFormed d
+  pub fits : k < unknown
+  pub are : AreDistances d n k distances
+  pub near : (c : ℕ) × ((c ≤ 4294967295) × IsNear d n k (step d 0 c))
+  pub least : (j c : ℕ) → c ≤ 4294967295 → IsNear d n j (step d 0 c) → k ≤ j
 
 -- they are those distances, and greater ones are unknown
 pub record AreSpread (d : List Row) (n most : ℕ) (distances : List ℕ) : Type 0 where

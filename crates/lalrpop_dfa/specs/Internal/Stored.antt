@@ -1,7 +1,8 @@
 -- States whose test edges are in one list of all test edges.
-use Rattle.std.specs.Prelude.{◌≡◌, ℕ, ◌+◌, ◌<◌, ◌≤◌, List, length, map, take, drop, slice_get, Option, Some}
+use Rattle.std.specs.Prelude.{◌≡◌, ◌≢◌, ℕ, ◌+◌, ◌<◌, ◌≤◌, List, length, map, take, drop, slice_get, Option, Some}
 use Rattle.lalrpop_book.specs.Range.{Range}
 use Rattle.lalrpop_dfa.specs.Dfa.{Row, StoredState, step}
+use Rattle.lalrpop_dfa.specs.declared.Kind.TheVariants.{Reject}
 
 -- the state with its test edges
 abbrev pub row_of : List (Range × ℕ) → StoredState → Row
@@ -26,3 +27,9 @@ EndBefore ts place value = (k : ℕ) (t : Range × ℕ) → k < place → slice_
 pub record AreListed (d : List Row) (places : List (Option ℕ)) (lists : List (List ℕ)) : Type 0 where
   pub same_length : length places ≡ length d
   pub each : (p k : ℕ) → slice_get places p ≡ Some (Some k) → (targets : List ℕ) × ((slice_get lists k ≡ Some targets) × AreSteps d p targets)
+
+-- e is d, but the state p rejects
+pub record IsRejecting (d : List Row) (p : ℕ) (e : List Row) : Type 0 where
+  pub same_length : length e ≡ length d
+  pub others : (q : ℕ) → q ≢ p → slice_get e q ≡ slice_get d q
+  pub rejects : (r : Row) → slice_get d p ≡ Some r → slice_get e p ≡ Some (record r { kind = Reject })

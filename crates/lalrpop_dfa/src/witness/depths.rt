@@ -1,30 +1,21 @@
-//! How many open states in a row begin with each state.
+//! How many states in a row, beginning with each state, wait for a match.
 
-ghost use Rattle.std.specs.Prelude.{◌≡◌, ℕ, ◌+◌, ◌<◌, ◌≤◌, ◌↔◌, length, false, IfOk};
+ghost use Rattle.std.specs.Prelude.{◌≡◌, ℕ, ◌+◌, ◌<◌, length, false, IfOk};
 ghost use Rattle.lalrpop_dfa.specs.Internal.Ranks.{AreDeep, AreDepths, StaysFor};
 
+use crate::reach::waiting_states;
 use crate::witness::least::least_value;
-use crate::{Dfa, DfaStateIndex, Kind};
+use crate::{Dfa, DfaStateIndex};
 use std::alloc::{AllocError, Global};
 
-// 1 for the kind of an open state, which neither accepts a pattern nor rejects, and 0 for the others.
-fn first_depth(kind: &Kind) -> usize
-    ensures most { result ≤ 1 }
-    ensures is_open { (0 < result) ↔ (kind.now ≡ Kind.Neither) }
-{
-    match kind {
-        Kind::Neither => 1,
-        _ => 0,
-    }
-}
-
-// The same for each state.
+// 1 for each state that waits for a match, and 0 for the others.
 fn first_depths(alloc: Global, dfa: &Dfa) -> Result<Vec<usize>, AllocError>
     ensures { IfOk result (λ depths. AreDeep dfa.now 1 depths.items) }
 {
+    let waiting = waiting_states(alloc, dfa)?;
     let mut depths = Vec::new(alloc);
-    for state in dfa.states() {
-        depths.push(first_depth(state.kind()))?;
+    for is_waiting in &waiting {
+        depths.push(usize::from(*is_waiting))?;
     }
     Ok(depths)
 }
@@ -50,7 +41,7 @@ fn deepen(dfa: &Dfa, depths: &mut [usize], depth: usize) -> bool
     is_any
 }
 
-// For each state how many open states in a row begin with it, counted up to `most` at least.
+// For each state how many states in a row that wait begin with it, counted up to `most` at least.
 pub(crate) fn depths(alloc: Global, dfa: &Dfa, most: usize) -> Result<Vec<usize>, AllocError>
     ensures { IfOk result (λ depths. AreDepths dfa.now most depths.items) }
 {

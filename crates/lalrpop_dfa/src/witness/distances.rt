@@ -1,8 +1,8 @@
 //! How far each state is from a match that some values leave open.
 
-ghost use Rattle.std.specs.Prelude.{◌≡◌, ℕ, ◌+◌, ◌<◌, ◌↔◌, length, slice_index, true, false, IsTrue, IfOk, OnOk, IfSome, IfNone};
-ghost use Rattle.lalrpop_dfa.specs.Dfa.{IsWellFormed};
-ghost use Rattle.lalrpop_dfa.specs.Internal.Ranks.{AreDepths, AreDistances, AreSpread, IsGoal, IsNear, unknown_count};
+ghost use Rattle.std.specs.Prelude.{◌≡◌, ℕ, ◌+◌, ◌<◌, ◌≤◌, ◌↔◌, length, true, false, IsTrue, IfOk, OnOk, IfSome, IfNone};
+ghost use Rattle.lalrpop_dfa.specs.Dfa.{step, IsWellFormed};
+ghost use Rattle.lalrpop_dfa.specs.Internal.Ranks.{AreDepths, AreNearest, AreSpread, IsGoal, IsNear, unknown_count};
 
 use crate::witness::least::least_value;
 use crate::{Dfa, DfaStateIndex, Kind, START};
@@ -70,26 +70,34 @@ fn spread(dfa: &Dfa, distances: &mut [usize], distance: usize) -> bool
     is_any
 }
 
-// For each state how far it is from a goal, up to the distance of START; `None` if no word leads from START to a goal.
+/// How far each state is from a goal, and how far the nearest one that a value leads to from START.
+#[derive(Drop)]
+pub(crate) struct GoalDistances {
+    pub(crate) states: Vec<usize>,
+    pub(crate) nearest: usize,
+}
+
+// The distances of the states up to that of the nearest one after START; `None` if no nonempty word leads from START to a goal.
 pub(crate) fn distances(
     alloc: Global,
     dfa: &Dfa,
     depths: &[usize],
     count: usize,
-) -> Result<Option<Vec<usize>>, AllocError>
+) -> Result<Option<GoalDistances>, AllocError>
     requires depths { AreDepths dfa.now count depths.now }
     ensures found { IfOk result (λ found. IfSome found (λ distances.
-        AreDistances dfa.now count (slice_index distances.items 0) distances.items)) }
-    ensures none { IfOk result (λ found. IfNone found ((m : ℕ) → ¬ IsNear dfa.now count m 0)) }
+        AreNearest dfa.now count distances.nearest distances.states.items)) }
+    ensures none { IfOk result (λ found. IfNone found
+        ((m c : ℕ) → c ≤ 4294967295 → ¬ IsNear dfa.now count m (step dfa.now 0 c))) }
     ensures well_formed { OnOk result (IsWellFormed dfa.now) }
 {
-    let mut distances = first_distances(alloc, dfa, depths, count)?;
-    let mut distance = 0;
-    while distances[START.index()] == usize::MAX {
-        if !spread(dfa, &mut distances, distance) {
+    let mut states = first_distances(alloc, dfa, depths, count)?;
+    let mut nearest = 0;
+    while least_value(dfa, START, &states, 0, nearest).is_none() {
+        if !spread(dfa, &mut states, nearest) {
             return Ok(None);
         }
-        distance += 1;
+        nearest += 1;
     }
-    Ok(Some(distances))
+    Ok(Some(GoalDistances { states, nearest }))
 }

@@ -1,10 +1,11 @@
 -- Cases of specs/LexerTokens.antt: an automaton that looks at no more than the next character, and the end of a text.
-use Rattle.std.proofs.Common.{◌≡◌, ◌≢◌, ℕ, zero, suc, true, List, [], ◌∷◌, inl, refl, arith}
+use Rattle.std.proofs.Common.{◌≡◌, ◌≢◌, ℕ, zero, suc, true, List, [], ◌∷◌, ◌++◌, inl, refl, sym, subst, arith}
+use Rattle.std.proofs.lemmas.List.{append-nil}
 use Rattle.std.specs.Prelude.{Option, Some, None, Ok}
 use Rattle.std.specs.Str.{chars}
 use Rattle.lalrpop_book.specs.declared.token.Token.{Token}
-use Rattle.lalrpop_dfa.specs.Dfa.{Row}
-use Rattle.lalrpop_dfa.specs.Lookahead.{LooksAtMost}
+use Rattle.lalrpop_dfa.specs.Dfa.{Row, run}
+use Rattle.lalrpop_dfa.specs.Lookahead.{Accepted, IsAccepting, IsTrim, ReadsAtMost}
 use Rattle.lalrpop_dfa.specs.declared.Kind.TheVariants.{Accepts, Reject, Neither}
 use Rattle.lalrpop_lexer.specs.Cutting.{Cutting}
 use Rattle.lalrpop_lexer.specs.LexerTokens.{LexerCutting, CutsToken, IsPaid, GivesToken, most_steps}
@@ -16,11 +17,21 @@ start_that_is_not_the_place old new token other g = other g.0
 abbrev closed : List Row
 closed = record { kind = Accepts 0; tests = []; other = 1; items = [] } ∷ record { kind = Reject; tests = []; other = 1; items = [] } ∷ []
 
-looks_at_none : LooksAtMost closed 0
-looks_at_none m (zero, [], (a, s, e)) = omega arith
-looks_at_none m (zero, c ∷ w, (a, s, e)) = cc (s.0)
-looks_at_none m (suc zero, w, (a, s, e)) = cc (a.1)
-looks_at_none m (suc (suc p), w, (a, s, e)) = absurd a
+closed_matches_once : (v x : List ℕ) → v ≢ [] → ¬ Accepted closed (v ++ x)
+closed_matches_once [] x some a = some refl
+closed_matches_once (c ∷ v) x some a = let (i, e) : (i : ℕ) × (Reject ≡ Accepts i) = subst (IsAccepting closed) (stays (v ++ x)) a in cc
+  where
+    stays : (w : List ℕ) → run closed 1 w ≡ 1
+    stays [] = refl
+    stays (c ∷ w) = stays w
+
+reads_none : ReadsAtMost closed 0
+reads_none = (trim, λ m (v, x, h). absurd (closed_matches_once v [] h.some (subst (Accepted closed) (sym (append-nil v)) h.word)))
+  where
+    trim : IsTrim closed
+    trim zero o = ([], (0, refl))
+    trim (suc zero) o = cc
+    trim (suc (suc p)) o = absurd o
 
 -- a text behind a fault
 abbrev over : Option ℕ → ℕ → LexerCutting
@@ -33,7 +44,7 @@ nothing_is_free : IsPaid (over None 3) (over None 3)
 nothing_is_free n most = omega arith
 
 a_step_has_to_be_paid : ¬ IsPaid (over None 3) (over None 4)
-a_step_has_to_be_paid paid = omega (arith, paid 0 looks_at_none)
+a_step_has_to_be_paid paid = omega (arith, paid 0 reads_none)
 
 -- ---- with one
 

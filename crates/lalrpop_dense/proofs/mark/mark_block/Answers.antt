@@ -1,4 +1,4 @@
-use Rattle.std.proofs.Common.{◌≡◌, ℕ, ◌+◌, ◌<◌, ◌≤◌, List, length, take, get_or, slice_set, arith, rules, refl, ap, subst, ◌∙◌}
+use Rattle.std.proofs.Common.{◌≡◌, ℕ, ◌+◌, ◌<◌, List, length, take, get_or, arith, refl, ap, subst, ◌∙◌}
 use Rattle.std.proofs.lemmas.List.{length-set}
 use Rattle.lalrpop_dense.specs.Internal.Fused.{StaysOn}
 use Rattle.lalrpop_dense.proofs.Walks.{walked_on}

@@ -1,4 +1,4 @@
-use Rattle.std.proofs.Common.{◌≡◌, ◌<◌, [], length, take, ap, arith}
+use Rattle.std.proofs.Common.{◌≡◌, ◌<◌, [], length, take, drop, ap, arith}
 use Rattle.std.specs.Option.{option_map}
 use Rattle.std.specs.Str.{chars}
 use Rattle.std.proofs.lemmas.Bool.{leb-true}
@@ -6,7 +6,7 @@ use Rattle.std.proofs.lemmas.Str.{chars-nil}
 use Rattle.lalrpop_dfa.proofs.LongestLemmas.{longest_start}
 use Rattle.lalrpop_dense.specs.Internal.Reading.{found}
 use Rattle.lalrpop_dense.proofs.Walks.{walked_start, walked_more, in_row, walked_on, walked_boundary, walk_accepts, walk_place, walk_passes, walk_rejects, walk_ends, walk_counts, walk_count, walk_trail, walk_trails, past_more, past_of}
-use Rattle.lalrpop_dfa.proofs.Trails.{trail_cost}
+use Rattle.lalrpop_dfa.proofs.Trails.{some_read, trail_cost}
 use Rattle.lalrpop_dense.proofs.run.walk.Goals as goal
 
 pub walk-init : goal.walk-init
@@ -56,7 +56,8 @@ walk-preserved-then-state-layout-2 g c =
       below = omega (arith, c.walk.invariant.below);
       limit = omega (arith, c.walk.invariant.below, c.walk-test.true);
       past = (omega arith, omega arith);
-      trail = walk_trail c.args.layout.now (g.C.Cells.numbers c.args.cells.now) c.args.dfa.now c.args.text.now c.read_class-class.new.at c.at-state.result c.requires.table w2 c.if-state-layout.false c.if-state-layout-2.true;
+      trail = walk_trail c.args.layout.now (g.C.Cells.numbers c.args.cells.now) c.args.dfa.now c.args.text.now c.read_class-class.new.at c.at-state.result c.requires.table w2 c.if-state-layout.false c.if-state-layout-2.true
+          (some_read c.args.text.now (drop c.walk.at c.args.text.now) (drop c.read_class-class.new.at c.args.text.now) c.walk.at c.read_class-class.new.at read.0 w.cut read.1.0.split read.1.0.place);
     }
 
 pub walk-preserved : goal.walk-preserved

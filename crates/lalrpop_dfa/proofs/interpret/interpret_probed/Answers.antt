@@ -6,7 +6,7 @@ use Rattle.std.proofs.lemmas.Str.{chars-nil, len_utf8_bounds, length-encode, IsC
 use Rattle.lalrpop_dfa.specs.Dfa.{step}
 use Rattle.lalrpop_dfa.specs.declared.Kind.TheVariants.{Accepts, Reject, Neither}
 use Rattle.lalrpop_dfa.proofs.LongestLemmas.{after_start, after_more, says_of, reject_at, longest_start, longest_accept, part_accept, longest_pass, longest_end, longest_stop}
-use Rattle.lalrpop_dfa.proofs.Trails.{trail_accept, trail_pass, trail_cost}
+use Rattle.lalrpop_dfa.proofs.Trails.{some_read, trail_accept, trail_pass, trail_cost}
 use Rattle.lalrpop_dfa.proofs.EdgeTargets.{the_some, probed_turn, probed_end}
 use Rattle.lalrpop_nfa.proofs.Cuts.{cut_start, cut_within, cut_more, count_more, count_within}
 use Rattle.lalrpop_dfa.proofs.interpret.interpret_probed.Goals as goal
@@ -60,7 +60,8 @@ loop-offset-preserved-in-Accepts c =
       cost = let more = count_more text rest rest2 at at2 c.in-Some.c c.loop-offset.invariant.cut s.1 s.2 in omega arith;
       never_falls = omega (arith, c.loop-offset.invariant.never_falls, c.step_probed-state.ensures.never_falls);
       probed = λ n d h l. probed_turn _ _ _ _ _ d (c.loop-offset.invariant.probed n d h l) (c.step_probed-state.ensures.probed n d h l) (count_more text rest rest2 at at2 c.in-Some.c c.loop-offset.invariant.cut s.1 s.2);
-      trail = trail_accept c.args.dfa.now text at2 c.range.result.now c.step_probed-state.result row.0 c.in-Accepts.index is after.reached row.1.0 (sym (c.kind.ensures.kind ∙ row.1.1.kind) ∙ c.in-Accepts.is);
+      trail = trail_accept c.args.dfa.now text at2 c.range.result.now c.step_probed-state.result row.0 c.in-Accepts.index is after.reached row.1.0 (sym (c.kind.ensures.kind ∙ row.1.1.kind) ∙ c.in-Accepts.is)
+          (some_read text rest rest2 at at2 c.in-Some.c c.loop-offset.invariant.cut s.1 s.2);
     }
 
 pub loop-offset-preserved : goal.loop-offset-preserved

@@ -1,7 +1,7 @@
 use Rattle.std.proofs.Common.{◌≡◌, ◌<◌, length, get_or, sym, subst, arith, false}
 use Rattle.lalrpop_dfa.specs.Internal.Marks.{Marked, LeadsInto}
 use Rattle.lalrpop_dfa.proofs.EdgeTargets.{step_within}
-use Rattle.lalrpop_dfa.proofs.Marking.{AreStaying, marks_pushed, marked_read, read_marked, staying_open}
+use Rattle.lalrpop_dfa.proofs.Marking.{AreStaying, marks_pushed, marked_read, read_marked, staying_waits}
 use Rattle.lalrpop_dfa.proofs.lookahead.staying.Goals as goal
 use Rattle.lalrpop_dfa.proofs.lookahead.staying.Goals.{then-marks-number, else-marks-number}
 
@@ -31,5 +31,5 @@ pub returns : goal.returns
 returns c = λ n h.
     let d = c.args.dfa.now in
     let all : c.loop-number.number ≡ length d = omega (arith, c.loop-number-test.false, c.loop-number.auto.number-end, c.states-count.ensures.states.same_length) in
-    staying_open d c.args.marks.now c.loop-number.next.items n (λ p v l. step_within d p v c.states-count.ensures.well_formed l) h
+    staying_waits d c.args.marks.now c.loop-number.next.items n (λ p v l. step_within d p v c.states-count.ensures.well_formed l) h
     (subst (λ k. AreStaying d c.args.marks.now k c.loop-number.next.items) all c.loop-number.invariant)

@@ -9,14 +9,15 @@ loop-number-preserved c =
     let d = c.args.dfa.now in
     let marks = c.in_ok-marks.marks.items in
     let place = c.entering.result in
-    let at : (i : ℕ) → (place ≡ Some i) ↔ EntersBy d c.deref.result.now i c.loop-number.number =
-    subst (λ q. (i : ℕ) → (place ≡ Some i) ↔ EntersBy d c.deref.result.now i q) c.new.ensures.value c.entering.ensures in
-    let here : (i : ℕ) → (place ≡ Some i) ↔ EntersBy d marks i c.loop-number.number =
-    subst (λ ms. (i : ℕ) → (place ≡ Some i) ↔ EntersBy d ms i c.loop-number.number) c.deref.ensures.value at in
+    let reached = c.in_ok-reached.reached.items in
+    let at : (i : ℕ) → (place ≡ Some i) ↔ EntersBy d c.deref.result.now c.deref-in-loop-number.result.now i c.loop-number.number =
+    subst (λ q. (i : ℕ) → (place ≡ Some i) ↔ EntersBy d c.deref.result.now c.deref-in-loop-number.result.now i q) c.new.ensures.value c.entering.ensures in
+    let here : (i : ℕ) → (place ≡ Some i) ↔ EntersBy d reached marks i c.loop-number.number =
+    rw (c.deref.ensures.value, c.deref-in-loop-number.ensures.value) at at in
     record {
       same_length = c.mark.ensures.same_length ∙ c.loop-number.invariant.same_length;
       each =
-          entered_more d marks c.loop-number.found.items c.mark.new.marks.items c.args.count c.loop-number.number place
+          entered_more d reached marks c.loop-number.found.items c.mark.new.marks.items c.args.count c.loop-number.number place
           c.loop-number.invariant.same_length c.loop-number.invariant.each here c.mark.ensures.marked;
     }
 
@@ -26,5 +27,5 @@ returns-clause-each c =
     let marks = c.in_ok-marks.marks.items in
     let ever = c.in_ok-marks.ensures.marks in
     let all : c.loop-number.number ≡ length d = omega (arith, c.loop-number-test.false, c.loop-number.auto.number-end, c.len-number-end.ensures, ever.1.0.same_length) in
-    ever_marked d c.in_ok-marks.ensures.well_formed marks c.loop-number.found.items c.args.count ever
-    (subst (λ k. (i : ℕ) → i < c.args.count → Marked c.loop-number.found.items i ↔ ((p : ℕ) × ((p < k) × EntersBy d marks i p))) all c.loop-number.invariant.each)
+    ever_marked d c.in_ok-marks.ensures.well_formed c.in_ok-reached.reached.items marks c.loop-number.found.items c.args.count c.in_ok-reached.ensures ever
+    (subst (λ k. (i : ℕ) → i < c.args.count → Marked c.loop-number.found.items i ↔ ((p : ℕ) × ((p < k) × EntersBy d c.in_ok-reached.reached.items marks i p))) all c.loop-number.invariant.each)

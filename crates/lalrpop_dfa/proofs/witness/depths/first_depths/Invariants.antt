@@ -2,8 +2,8 @@ use Rattle.std.proofs.Common.{◌≡◌, ℕ, ◌<◌, length, get_or}
 use Rattle.lalrpop_dfa.proofs.Ranked.{FirstDepth}
 use Rattle.lalrpop_dfa.proofs.witness.depths.first_depths.Given as goal
 
-abbrev pub invariant-loop-state : goal.invariant-loop-state
-invariant-loop-state l = record {
-  same_length : length l.depths.items ≡ l.state-index;
-  each : (p : ℕ) → p < l.state-index → FirstDepth l.dfa p (get_or l.depths.items p 0);
+abbrev pub invariant-loop-is_waiting : goal.invariant-loop-is_waiting
+invariant-loop-is_waiting l = record {
+  same_length : length l.depths.items ≡ l.is_waiting-index;
+  each : (p : ℕ) → p < l.is_waiting-index → FirstDepth l.dfa p (get_or l.depths.items p 0);
 }

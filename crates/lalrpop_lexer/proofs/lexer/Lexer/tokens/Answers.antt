@@ -1,7 +1,11 @@
 use Rattle.std.proofs.Common.{◌≡◌, ◌∙◌, ap}
 use Rattle.std.specs.Prelude.{None}
 use Rattle.lalrpop_lexer.specs.Cutting.{start_of}
-use Rattle.lalrpop_lexer.specs.Rules.{Rules}
+use Rattle.lalrpop_book.specs.Winners.{Matched}
+use Rattle.lalrpop_dfa.specs.Lookahead.{Accepted, IsTrim}
+use Rattle.lalrpop_dfa.proofs.Recognized.{recognized_words}
+use Rattle.lalrpop_dfa.proofs.WitnessLaws.{same_most}
+use Rattle.lalrpop_lexer.specs.Rules.{Rules, IsBuiltFrom}
 use Rattle.lalrpop_lexer.specs.LexerTokens.{LexerCutting, lexer_start}
 use Rattle.lalrpop_lexer.proofs.LexerCosts.{lexer_tokens, lexer_parts, lexer_count, cost_without}
 use Rattle.lalrpop_lexer.proofs.lexer.Lexer.tokens.Goals as goal
@@ -28,4 +32,8 @@ pub returns-clause-count : goal.returns-clause-count
 returns-clause-count c = lexer_count _ _ _ (cuts c) c.utf8.text
 
 pub returns-clause-cost : goal.returns-clause-cost
-returns-clause-cost c = cost_without _ _ _ (begins c)
+returns-clause-cost c = λ xs s y n most.
+    let built : IsBuiltFrom c.args.self.now.trees c.args.self.now.precedences c.args.self.now.automaton = rw (← c.self.view_is) c.self.invariant.0 in
+    let trim : IsTrim c.args.self.now.automaton = rw (← c.self.view_is) c.self.invariant.1 in
+    let words = recognized_words c.args.self.now.automaton c.args.self.now.trees c.args.self.now.precedences built.stands in
+    cost_without _ _ _ (begins c) xs s y n (trim, same_most (Matched c.args.self.now.trees) (Accepted c.args.self.now.automaton) (λ w. ((words w).1, (words w).0)) n most)

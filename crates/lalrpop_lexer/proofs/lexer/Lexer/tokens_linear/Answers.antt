@@ -1,20 +1,20 @@
 use Rattle.std.proofs.Common.{◌≡◌, ℕ, ◌∙◌, ap, sym, List, true, false}
 use Rattle.std.specs.Prelude.{Option, Some, None, Result, Ok, Err, OnErr}
 use Rattle.std.specs.Option.{is_some}
-use Rattle.lalrpop_dfa.specs.Dfa.{Row}
+use Rattle.lalrpop_book.specs.Winners.{Matched}
 use Rattle.lalrpop_dfa.specs.Lookahead.{IsLookahead}
 use Rattle.lalrpop_lexer.specs.Rules.{Rules, IsBuiltFrom}
 use Rattle.lalrpop_lexer.specs.LexerTokens.{LexerCutting, lexer_start}
 use Rattle.lalrpop_lexer.proofs.LexerCosts.{lexer_tokens, cost_with}
 use Rattle.lalrpop_lexer.proofs.lexer.Lexer.tokens_linear.Goals as goal
 
-bound_of : (d : List Row) (o : Option ℕ) → is_some o ≡ true → IsLookahead d o → (n : ℕ) × IsLookahead d (Some n)
-bound_of d (Some n) e is = (n, is)
-bound_of d None e is = let no : false ≡ true = e in absurd (cc)
+bound_of : (L : List ℕ → Type 0) (o : Option ℕ) → is_some o ≡ true → IsLookahead L o → (n : ℕ) × IsLookahead L (Some n)
+bound_of L (Some n) e is = (n, is)
+bound_of L None e is = let no : false ≡ true = e in absurd (cc)
 
-no_bound : (d : List Row) (o : Option ℕ) → is_some o ≡ false → IsLookahead d o → IsLookahead d None
-no_bound d None e is = is
-no_bound d (Some n) e is = let no : true ≡ false = e in absurd (cc)
+no_bound : (L : List ℕ → Type 0) (o : Option ℕ) → is_some o ≡ false → IsLookahead L o → IsLookahead L None
+no_bound L None e is = is
+no_bound L (Some n) e is = let no : true ≡ false = e in absurd (cc)
 
 on_err : {A E P : Type 0} (r : Result A E) → P → OnErr r P
 on_err (Ok x) p = tt
@@ -28,22 +28,22 @@ returns-then-is_some-clause-start c = (ap (λ (s : LexerCutting). s.cutting) c.t
 
 pub returns-then-is_some-clause-cost : goal.returns-then-is_some-clause-cost
 returns-then-is_some-clause-cost c =
-    let is : IsLookahead c.args.self.now.automaton c.self.inside.lookahead = rw (← c.self.view_is) c.self.invariant.1 in
-    let bound = bound_of c.args.self.now.automaton c.self.inside.lookahead (sym c.is_some.ensures ∙ c.if-is_some.true) is in
+    let is : IsLookahead (Matched c.args.self.now.trees) c.self.inside.lookahead = rw (← c.self.view_is) c.self.invariant.2 in
+    let bound = bound_of (Matched c.args.self.now.trees) c.self.inside.lookahead (sym c.is_some.ensures ∙ c.if-is_some.true) is in
     (Some bound.0, (bound.1, λ xs t y. c.tokens.ensures.cost xs t y bound.0 bound.1.0))
 
 pub returns-in_err-matches-clause-refused : goal.returns-in_err-matches-clause-refused
 returns-in_err-matches-clause-refused c =
-    let is : IsLookahead c.args.self.now.automaton c.self.inside.lookahead = rw (← c.self.view_is) c.self.invariant.1 in
-    on_err c.from_residual.result (no_bound c.args.self.now.automaton c.self.inside.lookahead (sym c.is_some.ensures ∙ c.if-is_some.false) is)
+    let is : IsLookahead (Matched c.args.self.now.trees) c.self.inside.lookahead = rw (← c.self.view_is) c.self.invariant.2 in
+    on_err c.from_residual.result (no_bound (Matched c.args.self.now.trees) c.self.inside.lookahead (sym c.is_some.ensures ∙ c.if-is_some.false) is)
 
 pub returns-clause-start : goal.returns-clause-start
 returns-clause-start c = (ap (λ (s : LexerCutting). s.cutting) (begins c), ap (λ (s : LexerCutting). s.steps) (begins c))
 
 pub returns-clause-memo : goal.returns-clause-memo
 returns-clause-memo c = λ _.
-    let is : IsLookahead c.args.self.now.automaton c.self.inside.lookahead = rw (← c.self.view_is) c.self.invariant.1 in
-    no_bound c.args.self.now.automaton c.self.inside.lookahead (sym c.is_some.ensures ∙ c.if-is_some.false) is
+    let is : IsLookahead (Matched c.args.self.now.trees) c.self.inside.lookahead = rw (← c.self.view_is) c.self.invariant.2 in
+    no_bound (Matched c.args.self.now.trees) c.self.inside.lookahead (sym c.is_some.ensures ∙ c.if-is_some.false) is
 
 pub returns-clause-tokens : goal.returns-clause-tokens
 returns-clause-tokens c =
@@ -52,10 +52,10 @@ returns-clause-tokens c =
 
 pub returns-clause-cost : goal.returns-clause-cost
 returns-clause-cost c =
-    let is : IsLookahead c.args.self.now.automaton c.self.inside.lookahead = rw (← c.self.view_is) c.self.invariant.1 in (
+    let is : IsLookahead (Matched c.args.self.now.trees) c.self.inside.lookahead = rw (← c.self.view_is) c.self.invariant.2 in (
       None,
       (
-        no_bound c.args.self.now.automaton c.self.inside.lookahead (sym c.is_some.ensures ∙ c.if-is_some.false) is,
+        no_bound (Matched c.args.self.now.trees) c.self.inside.lookahead (sym c.is_some.ensures ∙ c.if-is_some.false) is,
         cost_with c.new.result c.args.self.now.automaton c.args.text.now c.in_ok-matches.matches.spare (begins c) c.in_ok-matches.ensures.spare,
       ),
     )

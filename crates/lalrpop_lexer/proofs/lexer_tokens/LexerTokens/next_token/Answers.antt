@@ -9,7 +9,7 @@ use Rattle.lalrpop_book.specs.Longest.{IsLongest}
 use Rattle.lalrpop_book.specs.declared.token.Token.{Token}
 use Rattle.lalrpop_book.specs.declared.token.TokenFault.{TokenFault}
 use Rattle.lalrpop_dfa.specs.Dfa.{Recognizes}
-use Rattle.lalrpop_dfa.specs.Lookahead.{LooksAtMost}
+use Rattle.lalrpop_dfa.specs.Lookahead.{ReadsAtMost}
 use Rattle.lalrpop_lexer.specs.Matching.{Matching, rest_of as rest_of_matching, characters_of}
 use Rattle.lalrpop_lexer.specs.Cutting.{left_of}
 use Rattle.lalrpop_lexer.specs.LexerTokens.{LexerCutting, GivesToken}
@@ -53,7 +53,7 @@ searched_without : (old new : Inside) (rest : List ℕ) (found result : Option (
     → ((ts : List Tree) (ps : List ℕ) → Recognizes old.dense.now ts ps → IsLongest ts ps rest (option_map (λ m. (m.0, m.1.now)) result))
     → IfSome result (λ x. IsPrefix x.1.now rest × (x.1.now ≢ []))
     → old.steps ≤ steps → steps ≤ old.steps + length (chars rest)
-    → ((n : ℕ) → LooksAtMost old.dense.now n → IfSome result (λ x. steps ≤ old.steps + length (chars x.1.now) + n + 1))
+    → ((n : ℕ) → ReadsAtMost old.dense.now n → IfSome result (λ x. steps ≤ old.steps + length (chars x.1.now) + n + 1))
     → IsSearched old new found
 searched_without old new rest found result steps at is same e answer prefix never cost looked =
     let here : IsFoundUpTo (view old) result None steps =

@@ -1,10 +1,10 @@
 use Rattle.std.proofs.Common.{ℕ}
-use Rattle.lalrpop_dfa.specs.Internal.Marks.{AreOpenFor}
+use Rattle.lalrpop_dfa.specs.Internal.Marks.{AreWaitingFor}
 use Rattle.lalrpop_dfa.proofs.Marking.{marked_count}
-use Rattle.lalrpop_dfa.proofs.lookahead.ever_open.Given as goal
+use Rattle.lalrpop_dfa.proofs.lookahead.ever_waiting.Given as goal
 
 abbrev pub invariant-loop-marks : goal.invariant-loop-marks
-invariant-loop-marks l = (n : ℕ) × AreOpenFor l.dfa n l.marks.items
+invariant-loop-marks l = (n : ℕ) × AreWaitingFor l.dfa n l.marks.items
 
 abbrev pub decreases-loop-marks : goal.decreases-loop-marks
 decreases-loop-marks l = marked_count l.marks.items

@@ -6,7 +6,7 @@ use Rattle.lalrpop_book.specs.Range.{Range}
 use Rattle.lalrpop_dfa.specs.Internal.Marks.{Marked}
 use Rattle.lalrpop_dfa.proofs.EdgeTargets.{at_place, the_some, tests_of}
 use Rattle.lalrpop_dfa.proofs.Marking.{leads_by_test, leads_by_other, leads_else, marked_read, read_marked, test_in, row_tests}
-use Rattle.lalrpop_dfa.proofs.lookahead.leads_into.Goals as goal
+use Rattle.lalrpop_dfa.proofs.reach.leads_into.Goals as goal
 
 pub bounds-marks-index : goal.bounds-marks-index
 bounds-marks-index c =
