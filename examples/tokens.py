@@ -26,8 +26,13 @@ warnings.simplefilter("error", FutureWarning)
 
 ESCAPES = {'"': '\\"', "\\": "\\\\", "\n": "\\n", "\r": "\\r", "\t": "\\t", "\0": "\\0"}
 
-# Characters that aren't seen: control characters, spaces of no width, joiners, marks of direction, the byte order mark.
-UNSEEN = re.compile("[\x00-\x1f\x7f-\x9f\u200b-\u200f\u202a-\u202e\u2060-\u206f\ufeff]")
+# Characters that aren't seen: control characters, the separators of lines and paragraphs, and those of Default_Ignorable_Code_Point, which
+# `re` doesn't have: soft hyphens, joiners, fillers, marks of direction, tags and variation selectors.
+UNSEEN = re.compile(
+    "[\x00-\x1f\x7f-\x9f\u2028\u2029"
+    "\xad\u034f\u061c\u115f\u1160\u17b4\u17b5\u180b-\u180f\u200b-\u200f\u202a-\u202e\u2060-\u206f\u3164\ufe00-\ufe0f\ufeff\uffa0\ufff0-\ufff8"
+    "\U0001bca0-\U0001bca3\U0001d173-\U0001d17a\U000e0000-\U000e0fff]"
+)
 
 # An identifier in Python is an underscore or a character of XID_Start, and then characters of XID_Continue.
 PROPERTIES = {

@@ -1,10 +1,9 @@
 -- Small cases of the definitions in specs/: Cases/X.antt has those of specs/X.antt.
-mod Building
-mod ClashesShown
+mod Answer
 mod Command
 mod ItemLines
 mod PageWritten
-mod Quoted
+mod Program
 mod RuleClashes
-mod Text
-mod TokenLines
+mod Streams
+mod TextAnswer

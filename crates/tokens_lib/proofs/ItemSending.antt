@@ -19,7 +19,7 @@ use Rattle.tokens_lib.specs.ItemLines.{item_line, item_lines, first_fault, AreCu
 use Rattle.tokens_lib.specs.Internal.Faults.{first_with}
 use Rattle.tokens_lib.specs.declared.layout.Layout.{Layout}
 use Rattle.tokens_lib.proofs.PieceLines.{AreFirst, firsts_of, rest_begins, begin_so, cut_to_fault, no_line, first_more, lines_more}
-use Rattle.tokens_lib.proofs.Sending.{AppendsPrefix-behind, AppendsPrefix-front}
+use Rattle.lines_lib.proofs.Sending.{AppendsPrefix-behind, AppendsPrefix-front}
 
 -- ---- from the start
 

@@ -3,7 +3,7 @@ use Rattle.std.proofs.Common.{◌≡◌, ◌≢◌, ℕ, ◌+◌, Bool, true, fa
 use Rattle.std.proofs.lemmas.Grind.{flat_map-append}
 use Rattle.std.proofs.lemmas.List.{append-nil}
 use Rattle.std.proofs.lemmas.Str.{IsUtf8-drop}
-use Rattle.std.specs.Prelude.{Option, Some, None, unwrap_or}
+use Rattle.std.specs.Prelude.{Option, Some, None, option_map, unwrap_or}
 use Rattle.std.specs.Iterator.{Yields}
 use Rattle.std.specs.Str.{IsUtf8, IsCharBoundary}
 use Rattle.lalrpop_book.specs.Tree.{Tree}
@@ -19,6 +19,7 @@ use Rattle.lalrpop_rules.proofs.FirstMatches.{some_length}
 use Rattle.lalrpop_rules.proofs.Fronts.{boundary_behind}
 use Rattle.lalrpop_rules.proofs.PieceLaws.{is_front, is_some}
 use Rattle.lalrpop_rules.proofs.UniquePieces.{same_fault}
+use Rattle.lines_lib.proofs.FirstTokens.{same_parts}
 use Rattle.tokens_lib.specs.ItemLines.{line_at, fault_line, item_line, item_lines, name_at, AreUpToFault, AreCut, first_fault}
 use Rattle.tokens_lib.specs.Internal.Faults.{first_with}
 use Rattle.tokens_lib.specs.declared.layout.Layout.{Layout}
@@ -35,12 +36,6 @@ firsts_of s t (x ∷ ys) (j, g, y) =
 
 -- ---- there is one piece at a place
 
--- two equal matches have the same number and the same slice
-pub same_parts : (i j : ℕ) (p q : List ℕ) → ◌≡◌ {A = Option (ℕ × List ℕ)} (Some (i, p)) (Some (j, q)) → (i ≡ j) × (p ≡ q)
-same_parts i j p q e =
-    let both : ◌≡◌ {A = ℕ × List ℕ} (i, p) (j, q) = ap (λ (o : Option (ℕ × List ℕ)). unwrap_or o (i, p)) e in
-    (ap (λ (m : ℕ × List ℕ). m.0) both, ap (λ (m : ℕ × List ℕ). m.1) both)
-
 pub same_match : (ts : List Tree) (ps rest : List ℕ) (x y : Cut) → IsLongest ts ps rest (Some (x.index, x.slice.now)) → IsLongest ts ps rest (Some (y.index, y.slice.now))
     → (x.index ≡ y.index) × (x.slice.now ≡ y.slice.now)
 same_match ts ps rest x y a b = same_parts x.index y.index x.slice.now y.slice.now (longest-unique ts ps rest _ _ a b)
@@ -55,9 +50,9 @@ pub same_piece : (layout : Layout) (names : List (List ℕ)) (ts : List Tree) (p
 same_piece layout names ts ps skips text at (Token x) (Token y) a b =
     let same = same_match ts ps (drop at text) x y a.0.1 b.0.1 in
     let start : x.start ≡ y.start = a.0.0 ∙ sym b.0.0 in (
-      ap (λ s. line_at layout text s (Some (name_at names x.index)) x.slice.now) start
-          ∙ ap (λ i. line_at layout text y.start (Some (name_at names i)) x.slice.now) same.0
-          ∙ ap (λ (l : List ℕ). line_at layout text y.start (Some (name_at names y.index)) l) same.1,
+      ap (λ s. line_at layout.form (option_map (λ f. f.now) layout.file) text s (Some (name_at names x.index)) x.slice.now) start
+          ∙ ap (λ i. line_at layout.form (option_map (λ f. f.now) layout.file) text y.start (Some (name_at names i)) x.slice.now) same.0
+          ∙ ap (λ (l : List ℕ). line_at layout.form (option_map (λ f. f.now) layout.file) text y.start (Some (name_at names y.index)) l) same.1,
       same.1,
     )
 same_piece layout names ts ps skips text at (Token x) (Skipped y) a b =
@@ -71,7 +66,7 @@ same_piece layout names ts ps skips text at (Fault start slice) (Token y) a b = 
 same_piece layout names ts ps skips text at (Fault start slice) (Skipped y) a b = absurd (no_fault_here ts ps (drop at text) slice.now y b.0.1 a.1)
 same_piece layout names ts ps skips text at (Fault start slice) (Fault start2 slice2) a b =
     let same : slice.now ≡ slice2.now = same_fault ts (drop at text) slice.now slice2.now a.1 b.1 in (
-      ap (λ s. fault_line layout.recovers layout text s slice.now) (a.0 ∙ sym b.0) ∙ ap (λ (l : List ℕ). fault_line layout.recovers layout text start2 l) same,
+      ap (λ s. fault_line layout.recovers layout.form (option_map (λ f. f.now) layout.file) text s slice.now) (a.0 ∙ sym b.0) ∙ ap (λ (l : List ℕ). fault_line layout.recovers layout.form (option_map (λ f. f.now) layout.file) text start2 l) same,
       same,
     )
 
@@ -188,7 +183,7 @@ pub no_line : (layout : Layout) (names : List (List ℕ)) (text : List ℕ) (n :
     → item_line layout names text x ≡ []
 no_line layout names text n (Token x) is e = absurd (no_fault_first n (sym e))
 no_line layout names text n (Skipped x) is e = absurd (no_fault_first n (sym e))
-no_line layout names text n (Fault start slice) is e = ap (λ (b : Bool). fault_line b layout text start slice.now) is
+no_line layout names text n (Fault start slice) is e = ap (λ (b : Bool). fault_line b layout.form (option_map (λ f. f.now) layout.file) text start slice.now) is
 
 -- ---- one more piece
 

@@ -1,3 +1,3 @@
 -- What private functions promise one another.
 pub mod Faults
-pub mod Endings
+pub mod Tasks

@@ -12,7 +12,7 @@ use Rattle.lalrpop_rules.specs.RuleSet.{RuleSet}
 use Rattle.lalrpop_rules.specs.declared.item.Item.{Item}
 use Rattle.lalrpop_rules.specs.declared.item.Item.TheVariants.{Token, Skipped, Fault}
 use Rattle.lexdfa_lib.specs.Watch.{AppendsPrefix}
-use Rattle.tokens_lib.specs.Quoted.{quoted}
+use Rattle.lines_lib.specs.Quoted.{quoted}
 use Rattle.tokens_lib.specs.declared.layout.Layout.{Layout}
 use Rattle.tokens_lib.specs.declared.layout.LineForm.{LineForm}
 use Rattle.tokens_lib.specs.declared.layout.LineForm.TheVariants.{Plain, Json}
@@ -66,23 +66,27 @@ line_in Plain file p start name slice = plain_line file p name slice
 line_in Json file p start name slice = json_line file p start name slice
 
 -- the line of a piece that begins here in the text
-abbrev pub line_at : Layout → List ℕ → ℕ → Option (List ℕ) → List ℕ → List ℕ
-line_at layout text start name slice = line_in layout.form (option_map (λ f. f.now) layout.file) (position_of text start) start name slice
+abbrev pub line_at : LineForm → Option (List ℕ) → List ℕ → ℕ → Option (List ℕ) → List ℕ → List ℕ
+line_at form file text start name slice = line_in form file (position_of text start) start name slice
 
 -- a fault has a line only if cutting goes on after it
-abbrev pub fault_line : Bool → Layout → List ℕ → ℕ → List ℕ → List ℕ
-fault_line true layout text start slice = line_at layout text start None slice
-fault_line false layout text start slice = []
+abbrev pub fault_line : Bool → LineForm → Option (List ℕ) → List ℕ → ℕ → List ℕ → List ℕ
+fault_line true form file text start slice = line_at form file text start None slice
+fault_line false form file text start slice = []
 
 -- the name of a rule
 abbrev pub name_at : List (List ℕ) → ℕ → List ℕ
 name_at names i = unwrap_or (slice_get names i) []
 
 -- a token has a line, a skipped piece has none
+abbrev pub piece_line : LineForm → Bool → Option (List ℕ) → List (List ℕ) → List ℕ → Item → List ℕ
+piece_line form recovers file names text (Token token) = line_at form file text token.start (Some (name_at names token.index)) token.slice.now
+piece_line form recovers file names text (Skipped token) = []
+piece_line form recovers file names text (Fault start slice) = fault_line recovers form file text start slice.now
+
+-- the same by a layout
 abbrev pub item_line : Layout → List (List ℕ) → List ℕ → Item → List ℕ
-item_line layout names text (Token token) = line_at layout text token.start (Some (name_at names token.index)) token.slice.now
-item_line layout names text (Skipped token) = []
-item_line layout names text (Fault start slice) = fault_line layout.recovers layout text start slice.now
+item_line layout names text item = piece_line layout.form layout.recovers (option_map (λ f. f.now) layout.file) names text item
 
 -- ---- the lines of a text
 

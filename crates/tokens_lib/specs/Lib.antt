@@ -1,11 +1,10 @@
-pub mod Building
-pub mod ClashesShown
+pub mod Answer
 pub mod Command
 pub mod ItemLines
 pub mod PageWritten
-pub mod Quoted
+pub mod Program
 pub mod RuleClashes
-pub mod Text
-pub mod TokenLines
+pub mod Streams
+pub mod TextAnswer
 -- what serves the proofs alone
 pub mod Internal

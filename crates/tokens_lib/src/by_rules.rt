@@ -1,16 +1,17 @@
 //! The program over a file of named rules.
-ghost use Rattle.std.specs.Prelude.{◌≤◌, IfOk, IfErr};
+ghost use Rattle.std.specs.Prelude.{◌≡◌, ◌≢◌, ℕ, List, Ok, false, true, IfOk, OnOk, IfErr};
+ghost use Rattle.tokens_lib.specs.Answer.{Answer, headed, Answered, Refused, Reads};
+ghost use Rattle.tokens_lib.specs.Program.{IsSetOf, AreRulesOf, RulesOf, RulesRefused, ClashesAnswer, clashes_status, rules_status};
+ghost use Rattle.tokens_lib.specs.Streams.{Takes};
 
-use crate::command::Markup;
-use crate::cut_files::{Task, cut_all};
-use crate::files::{NO_TEXT, bytes_of, out_of_memory, say};
-use crate::layout::LineForm;
+use crate::files::{Files, NO_TEXT, bytes_of, say_headed};
 use crate::named_clashes::{rule_clashes, write_rule_clashes};
-use crate::rule_explain::{Source, bad_line_explained, rules_explained};
+use crate::rule_explain::{bad_line_explained, rules_explained};
+use lalrpop_lexer::lexer::dfa::Clash;
 use lalrpop_rules::{RuleFile, RuleFileError, RuleLexer, RulesError, read_rules, without_mark};
-use lexdfa_lib::{Failure, RunError, Watched, flushed};
-use std::io::{self, Eprint, Write};
-use std::rt::Files;
+use lexdfa_lib::{RunError, Watched};
+use std::alloc::Global;
+use std::io::Write;
 
 // The status of a line that is no rule, and of a pattern that doesn't parse.
 const BAD_LINE: u8 = 3;
@@ -19,159 +20,208 @@ const BAD_LINE: u8 = 3;
 const REFUSED: u8 = 2;
 
 // Says what is wrong with a line, and returns the status.
-fn report_line(
-    rt: &(impl Eprint + AllocGlobal),
-    source: &Source<'_>,
+fn report_line<E: Write>(
+    alloc: Global,
+    name: &str,
+    bytes: &[u8],
     error: &RuleFileError,
-) -> Result<u8, Failure>
-    ensures { IfOk result (λ status. status ≤ 6) }
+    err: &mut Watched<E>,
+) -> Result<u8, RunError>
+    ensures status { IfOk result (λ status. status ≡ 3) }
+    ensures known { OnOk result (error.now ≢ RuleFileError.OutOfMemory) }
+    ensures said { OnOk result ((rest : List ℕ)
+        × Takes E.contents err.old err.new (headed name.now rest)) }
+    ensures memory { IfErr result (λ e. e ≡ RunError.OutOfMemory) }
+    ensures no_late_message { err.new.late ≡ err.old.late }
 {
-    let message = bad_line_explained(rt.alloc(), source, error).map_err(out_of_memory)?;
-    say(rt, message.as_str());
+    let Ok(message) = bad_line_explained(alloc, bytes, error) else {
+        return Err(RunError::OutOfMemory);
+    };
+    say_headed(alloc, name, message.as_str(), err)?;
     Ok(BAD_LINE)
 }
 
-// Says what is wrong with the rules, and returns the status.
-fn report_rules(
-    rt: &(impl Eprint + AllocGlobal),
-    source: &Source<'_>,
-    file: &RuleFile<'_>,
-    error: &RulesError,
-) -> Result<u8, Failure>
-    ensures { IfOk result (λ status. status ≤ 6) }
+// The status of rules with this error.
+fn status_of(error: &RulesError) -> u8
+    ensures { result ≡ rules_status error.now }
 {
-    let message = rules_explained(rt.alloc(), source, file, error).map_err(out_of_memory)?;
-    say(rt, message.as_str());
     match error {
-        RulesError::NotParsed { .. } => Ok(BAD_LINE),
-        _ => Ok(REFUSED),
+        RulesError::NotParsed { .. } => BAD_LINE,
+        _ => REFUSED,
     }
 }
 
-// The lexer of the rules of a file; or the status, if what is wrong was said.
-fn lexer_of_file(
-    rt: &(impl Eprint + AllocGlobal),
-    source: &Source<'_>,
+// Says what is wrong with the rules, and returns the status.
+fn report_rules<E: Write>(
+    alloc: Global,
+    name: &str,
+    bytes: &[u8],
     file: &RuleFile<'_>,
-) -> Result<Result<RuleLexer, u8>, Failure>
-    ensures { IfOk result (λ found. IfErr found (λ status. status ≤ 6)) }
+    error: &RulesError,
+    err: &mut Watched<E>,
+) -> Result<u8, RunError>
+    ensures status { IfOk result (λ status. status ≡ rules_status error.now) }
+    ensures known { OnOk result (error.now ≢ RulesError.OutOfMemory) }
+    ensures said { OnOk result ((rest : List ℕ)
+        × Takes E.contents err.old err.new (headed name.now rest)) }
+    ensures memory { IfErr result (λ e. e ≡ RunError.OutOfMemory) }
+    ensures no_late_message { err.new.late ≡ err.old.late }
 {
-    match RuleLexer::from_rules(rt.alloc(), &file.rules) {
+    let Ok(message) = rules_explained(alloc, bytes, file, error) else {
+        return Err(RunError::OutOfMemory);
+    };
+    say_headed(alloc, name, message.as_str(), err)?;
+    Ok(status_of(error))
+}
+
+// The lexer of the rules of a file; or the status, if what is wrong was said.
+fn lexer_of_file<E: Write>(
+    alloc: Global,
+    name: &str,
+    bytes: &[u8],
+    file: &RuleFile<'_>,
+    err: &mut Watched<E>,
+) -> Result<Result<RuleLexer, u8>, RunError>
+    ensures lexer { IfOk result (λ found. IfOk found (IsSetOf file.now.rules.items)) }
+    ensures quiet { IfOk result (λ found. OnOk found (err.new ≡ err.old)) }
+    ensures refused { IfOk result (λ found. IfErr found (λ status. (answer : Answer)
+        × (RulesRefused name.now file.now.rules.items answer
+        × Refused E.contents err.old err.new status answer))) }
+    ensures memory { IfErr result (λ e. e ≡ RunError.OutOfMemory) }
+    ensures no_late_message { err.new.late ≡ err.old.late }
+{
+    match RuleLexer::from_rules(alloc, &file.rules) {
         Ok(lexer) => Ok(Ok(lexer)),
-        Err(error) => Ok(Err(report_rules(rt, source, file, &error)?)),
+        Err(error) => Ok(Err(report_rules(alloc, name, bytes, file, &error, err)?)),
     }
 }
 
 // The lexer of the rules that these bytes are; or the status, if what is wrong was said.
-fn lexer_of_bytes(
-    rt: &(impl Eprint + AllocGlobal),
+fn lexer_of_bytes<E: Write>(
+    alloc: Global,
     name: &str,
     bytes: &[u8],
-) -> Result<Result<RuleLexer, u8>, Failure>
-    ensures { IfOk result (λ found. IfErr found (λ status. status ≤ 6)) }
+    err: &mut Watched<E>,
+) -> Result<Result<RuleLexer, u8>, RunError>
+    ensures lexer { IfOk result (λ found. IfOk found (AreRulesOf bytes.now)) }
+    ensures quiet { IfOk result (λ found. OnOk found (err.new ≡ err.old)) }
+    ensures refused { IfOk result (λ found. IfErr found (λ status. (answer : Answer)
+        × (RulesOf RulesRefused name.now bytes.now answer
+        × Refused E.contents err.old err.new status answer))) }
+    ensures memory { IfErr result (λ e. e ≡ RunError.OutOfMemory) }
+    ensures no_late_message { err.new.late ≡ err.old.late }
 {
-    let source = Source {
-        name,
-        bytes: without_mark(bytes),
-    };
-    match read_rules(rt.alloc(), bytes) {
-        Ok(file) => lexer_of_file(rt, &source, &file),
-        Err(error) => Ok(Err(report_line(rt, &source, &error)?)),
+    match read_rules(alloc, bytes) {
+        Ok(file) => lexer_of_file(alloc, name, without_mark(bytes), &file, err),
+        Err(error) => Ok(Err(report_line(alloc, name, without_mark(bytes), &error, err)?)),
     }
 }
 
-// The lexer of the rules of a file; or the status, if what is wrong was said.
-fn lexer_by_name<R: Files + Eprint + AllocGlobal>(
-    rt: &R,
+/// The lexer of the rules of a file; or the status, if what is wrong was said.
+pub(crate) fn lexer_by_name<F: Files, E: Write>(
+    alloc: Global,
+    files: &F,
     name: &str,
-) -> Result<Result<RuleLexer, u8>, Failure>
-    ensures { IfOk result (λ found. IfErr found (λ status. status ≤ 6)) }
+    err: &mut Watched<E>,
+) -> Result<Result<RuleLexer, u8>, RunError>
+    ensures lexer { IfOk result (λ found. IfOk found (λ lexer. (bytes : List ℕ)
+        × (F.gives files.now name.now (Ok bytes) × AreRulesOf bytes lexer))) }
+    ensures quiet { IfOk result (λ found. OnOk found (err.new ≡ err.old)) }
+    ensures refused { IfOk result (λ found. IfErr found (λ status. (answer : Answer)
+        × (Reads (F.gives files.now) (RulesOf RulesRefused) name.now answer
+        × Refused E.contents err.old err.new status answer))) }
+    ensures memory { IfErr result (λ e. e ≡ RunError.OutOfMemory) }
+    ensures no_late_message { err.new.late ≡ err.old.late }
 {
-    match bytes_of(rt, name)? {
-        Some(bytes) => lexer_of_bytes(rt, name, &bytes),
+    match bytes_of(alloc, files, name, err)? {
+        Some(bytes) => lexer_of_bytes(alloc, name, &bytes, err),
         None => Ok(Err(NO_TEXT)),
     }
 }
 
-/// Cuts the files by the rules of a file, writes the lines of all pieces, and returns the status.
-pub(crate) fn cut_by_rules<R: Files + Input + Print + Eprint + AllocGlobal>(
-    rt: &R,
-    form: LineForm,
-    recovers: bool,
-    rules: &str,
-    files: &[String],
-) -> Result<u8, Failure>
-    ensures { IfOk result (λ status. status ≤ 6) }
+// The status of rules with these clashes.
+fn clashes_status(found: &[Clash]) -> u8
+    ensures { result ≡ clashes_status found.now }
 {
-    match lexer_by_name(rt, rules)? {
-        Ok(lexer) => {
-            let task = Task::Pieces {
-                lexer: &lexer,
-                form,
-                recovers,
-                named: files.len() > 1,
-            };
-            cut_all(rt, &task, files)
-        }
-        Err(status) => Ok(status),
-    }
-}
-
-/// Shows the files as markup by the rules of a file, and returns the status.
-pub(crate) fn show_by_rules<R: Files + Input + Print + Eprint + AllocGlobal>(
-    rt: &R,
-    markup: Markup,
-    rules: &str,
-    files: &[String],
-) -> Result<u8, Failure>
-    ensures { IfOk result (λ status. status ≤ 6) }
-{
-    match lexer_by_name(rt, rules)? {
-        Ok(lexer) => {
-            let task = Task::Markup {
-                lexer: &lexer,
-                markup,
-            };
-            cut_all(rt, &task, files)
-        }
-        Err(status) => Ok(status),
+    match found {
+        [] => 0,
+        _ => REFUSED,
     }
 }
 
 // Lists all clashes of these rules, and returns the status.
-fn list_clashes_of<R: Print + Eprint + AllocGlobal>(
-    rt: &R,
-    source: &Source<'_>,
+fn list_clashes_of<W: Write, E: Write>(
+    alloc: Global,
+    name: &str,
+    bytes: &[u8],
     file: &RuleFile<'_>,
-) -> Result<u8, Failure>
-    ensures { IfOk result (λ status. status ≤ 6) }
+    out: &mut Watched<W>,
+    err: &mut Watched<E>,
+) -> Result<u8, RunError>
+    requires out_good { out.old.failed ≡ false }
+    ensures answer { IfOk result (λ status. (answer : Answer)
+        × (ClashesAnswer name.now file.now.rules.items answer
+        × Answered W.contents E.contents out.old out.new err.old err.new status answer)) }
+    ensures good { OnOk result (out.new.failed ≡ false) }
+    ensures memory { IfErr result (λ e. e ≡ RunError.OutOfMemory → out.new.failed ≡ false) }
+    ensures write { IfErr result (λ e. e ≡ RunError.Write → out.new.failed ≡ true) }
+    ensures read { IfErr result (λ e. e ≢ RunError.Read) }
+    ensures no_late_write { out.new.late ≡ out.old.late }
+    ensures no_late_message { err.new.late ≡ err.old.late }
 {
-    let found = match rule_clashes(rt.alloc(), &file.rules) {
+    let found = match rule_clashes(alloc, &file.rules) {
         Ok(found) => found,
-        Err(error) => return report_rules(rt, source, file, &error),
+        Err(error) => return report_rules(alloc, name, bytes, file, &error, err),
     };
-    let mut writer = Watched::new(io::writer(rt));
-    write_rule_clashes(rt.alloc(), &file.rules, &found, &mut writer).map_err(Failure::Run)?;
-    let status = if found.is_empty() { 0 } else { REFUSED };
-    flushed(status, &writer.into_inner().flush())
+    write_rule_clashes(alloc, &file.rules, &found, out)?;
+    Ok(clashes_status(&found))
+}
+
+// Lists all clashes of the rules that these bytes are, and returns the status.
+fn list_clashes_in<W: Write, E: Write>(
+    alloc: Global,
+    name: &str,
+    bytes: &[u8],
+    out: &mut Watched<W>,
+    err: &mut Watched<E>,
+) -> Result<u8, RunError>
+    requires out_good { out.old.failed ≡ false }
+    ensures answer { IfOk result (λ status. (answer : Answer) × (RulesOf ClashesAnswer name.now bytes.now answer
+        × Answered W.contents E.contents out.old out.new err.old err.new status answer)) }
+    ensures good { OnOk result (out.new.failed ≡ false) }
+    ensures memory { IfErr result (λ e. e ≡ RunError.OutOfMemory → out.new.failed ≡ false) }
+    ensures write { IfErr result (λ e. e ≡ RunError.Write → out.new.failed ≡ true) }
+    ensures read { IfErr result (λ e. e ≢ RunError.Read) }
+    ensures no_late_write { out.new.late ≡ out.old.late }
+    ensures no_late_message { err.new.late ≡ err.old.late }
+{
+    match read_rules(alloc, bytes) {
+        Ok(file) => list_clashes_of(alloc, name, without_mark(bytes), &file, out, err),
+        Err(error) => report_line(alloc, name, without_mark(bytes), &error, err),
+    }
 }
 
 /// Lists all clashes of the rules of a file, and returns the status.
-pub(crate) fn list_clashes<R: Files + Print + Eprint + AllocGlobal>(
-    rt: &R,
+pub(crate) fn list_clashes<F: Files, W: Write, E: Write>(
+    alloc: Global,
+    files: &F,
     name: &str,
-) -> Result<u8, Failure>
-    ensures { IfOk result (λ status. status ≤ 6) }
+    out: &mut Watched<W>,
+    err: &mut Watched<E>,
+) -> Result<u8, RunError>
+    requires out_good { out.old.failed ≡ false }
+    ensures answer { IfOk result (λ status. (answer : Answer)
+        × (Reads (F.gives files.now) (RulesOf ClashesAnswer) name.now answer
+        × Answered W.contents E.contents out.old out.new err.old err.new status answer)) }
+    ensures good { OnOk result (out.new.failed ≡ false) }
+    ensures memory { IfErr result (λ e. e ≡ RunError.OutOfMemory → out.new.failed ≡ false) }
+    ensures write { IfErr result (λ e. e ≡ RunError.Write → out.new.failed ≡ true) }
+    ensures read { IfErr result (λ e. e ≢ RunError.Read) }
+    ensures no_late_write { out.new.late ≡ out.old.late }
+    ensures no_late_message { err.new.late ≡ err.old.late }
 {
-    let Some(bytes) = bytes_of(rt, name)? else {
-        return Ok(NO_TEXT);
-    };
-    let source = Source {
-        name,
-        bytes: without_mark(&bytes),
-    };
-    match read_rules(rt.alloc(), &bytes) {
-        Ok(file) => list_clashes_of(rt, &source, &file),
-        Err(error) => report_line(rt, &source, &error),
+    match bytes_of(alloc, files, name, err)? {
+        Some(bytes) => list_clashes_in(alloc, name, &bytes, out, err),
+        None => Ok(NO_TEXT),
     }
 }

@@ -1,25 +1,24 @@
 //! Cutting files one after another: the lines or the markup of each are written.
-ghost use Rattle.std.specs.Prelude.{◌≡◌, ◌≢◌, ◌≤◌, false, IfOk, OnOk};
+ghost use Rattle.std.specs.Prelude.{◌≡◌, ◌≢◌, max, false, true, map, string_bytes, codes, Option, List, ℕ, IfOk, OnOk, IfErr};
+ghost use Rattle.std.specs.Io.KnownBytes.{Appends};
 ghost use Rattle.std.specs.Str.{IsCharBoundary};
-ghost use Rattle.tokens_lib.specs.Internal.Endings.{StopsIn, IsTokensEnding, IsPiecesEnding, Performs, ReadsAndPerforms};
+ghost use Rattle.tokens_lib.specs.Answer.{Answer, Answered, TextOf, Reads, FilesAnswer, TextsAnswer};
+ghost use Rattle.tokens_lib.specs.Streams.{Takes, StreamGives};
+ghost use Rattle.tokens_lib.specs.TextAnswer.{fault_text};
+ghost use Rattle.tokens_lib.specs.Internal.Tasks.{TaskAnswer, StopsIn, IsTokensEnding, IsPiecesEnding, IsDone};
 
 use crate::command::Markup;
 use crate::fault::fault_message;
-use crate::files::{NO_TEXT, open, out_of_memory, say, say_of};
+use crate::files::{Files, INPUT, NO_TEXT, bytes_of, input_bytes, say, say_about};
 use crate::item_lines::write_items;
 use crate::layout::{Layout, LineForm};
 use crate::page::write_page;
-use crate::text::{TextError, read_text};
-use crate::token_lines::write_tokens;
 use lalrpop_lexer::Lexer;
 use lalrpop_rules::RuleLexer;
-use lexdfa_lib::{Failure, Outcome, RunError, Watched, flushed};
+use lexdfa_lib::{Outcome, RunError, Watched};
+use lines_lib::{text_of, write_tokens};
 use std::alloc::Global;
-use std::io::{self, Eprint, Read, Write};
-use std::rt::Files;
-
-// The name that places in standard input have.
-const INPUT: &str = "<stdin>";
+use std::io::{Read, Write};
 
 /// What is done with each text.
 #[derive(Clone, Copy)]
@@ -36,8 +35,8 @@ pub(crate) enum Task<'rules> {
         form: LineForm,
         /// Whether cutting goes on after a fault.
         recovers: bool,
-        /// Whether each line names the file.
-        named: bool,
+        /// Whether there are several files, so that each line names its own.
+        several: bool,
     },
     /// It is cut by named rules, and written as markup.
     Markup {
@@ -87,137 +86,244 @@ fn run_task<W: Write>(
     task: &Task<'_>,
     name: &str,
     text: &str,
-    writer: &mut Watched<W>,
+    out: &mut Watched<W>,
 ) -> Result<CutResult, RunError>
-    requires writer_good { writer.old.failed ≡ false }
-    ensures performed { IfOk result (λ ending. Performs task.now name.entry text.now
-        (W.contents writer.old.inner) (W.contents writer.new.inner) ending) }
+    requires out_good { out.old.failed ≡ false }
+    ensures done { IfOk result (λ ending. (answer : Answer) × (TaskAnswer task.now name.now text.now answer
+        × ((written : List ℕ) × (IsDone name.now text.now written ending answer
+        × Appends (W.contents out.old.inner) (W.contents out.new.inner) written)))) }
     ensures boundary { IfOk result (λ ending. StopsIn text.now ending) }
-    ensures good { OnOk result (writer.new.failed ≡ false) }
+    ensures good { OnOk result (out.new.failed ≡ false) }
+    ensures memory { IfErr result (λ e. e ≡ RunError.OutOfMemory → out.new.failed ≡ false) }
+    ensures write { IfErr result (λ e. e ≡ RunError.Write → out.new.failed ≡ true) }
+    ensures read { IfErr result (λ e. e ≢ RunError.Read) }
+    ensures no_late_write { out.new.late ≡ out.old.late }
 {
     match *task {
         Task::Tokens { lexer, places } => {
-            let outcome = write_tokens(alloc, lexer, places.then_some(name), text, writer)?;
+            let outcome = write_tokens(alloc, lexer, places.then_some(name), text, out)?;
             Ok(tokens_ending(&outcome))
         }
         Task::Pieces {
             lexer,
             form,
             recovers,
-            named,
+            several,
         } => {
             let layout = Layout {
                 form,
                 recovers,
-                file: named.then_some(name),
+                file: several.then_some(name),
             };
-            let fault = write_items(alloc, lexer, &layout, text, writer)?;
+            let fault = write_items(alloc, lexer, &layout, text, out)?;
             Ok(pieces_ending(recovers, fault))
         }
         Task::Markup { lexer, markup } => {
-            let fault = write_page(alloc, lexer, markup, text, writer)?;
+            let fault = write_page(alloc, lexer, markup, text, out)?;
             Ok(pieces_ending(true, fault))
         }
     }
 }
 
 // Says where cutting stopped.
-fn say_stopped(
-    rt: &(impl Eprint + AllocGlobal),
+fn say_stopped<E: Write>(
+    alloc: Global,
     kind: &str,
     name: &str,
     text: &str,
     at: usize,
-) -> Result<(), Failure>
+    err: &mut Watched<E>,
+) -> Result<(), RunError>
     requires boundary { IsCharBoundary text.now at }
+    ensures said { OnOk result
+        (Takes E.contents err.old err.new (fault_text kind.now name.now text.now at)) }
+    ensures memory { IfErr result (λ e. e ≡ RunError.OutOfMemory) }
+    ensures no_late_message { err.new.late ≡ err.old.late }
 {
-    let message = fault_message(rt.alloc(), kind, name, text, at).map_err(out_of_memory)?;
-    say(rt, message.as_str());
+    let Ok(message) = fault_message(alloc, kind, name, text, at) else {
+        return Err(RunError::OutOfMemory);
+    };
+    say(message.as_str(), err);
     Ok(())
 }
 
-// Does the task for all that a reader has left, and returns the status.
-fn cut<R: Read, W: Write>(
-    rt: &(impl Eprint + AllocGlobal),
+// Does the task for a text, and returns the status.
+fn cut_text<W: Write, E: Write>(
+    alloc: Global,
     task: &Task<'_>,
     name: &str,
-    reader: &mut Watched<R>,
-    writer: &mut Watched<W>,
-) -> Result<u8, Failure>
-    requires reader_good { reader.old.failed ≡ false }
-    requires writer_good { writer.old.failed ≡ false }
-    ensures performed { IfOk result (λ status. status ≢ 6 → ReadsAndPerforms task.now name.entry
-        (R.remaining reader.old.inner) (R.remaining reader.new.inner)
-        (W.contents writer.old.inner) (W.contents writer.new.inner) status) }
-    ensures no_text { IfOk result (λ status. status ≡ 6 → writer.new ≡ writer.old) }
-    ensures status { IfOk result (λ status. status ≤ 6) }
-    ensures good { OnOk result (writer.new.failed ≡ false) }
+    text: &str,
+    out: &mut Watched<W>,
+    err: &mut Watched<E>,
+) -> Result<u8, RunError>
+    requires out_good { out.old.failed ≡ false }
+    ensures answer { IfOk result (λ status. (answer : Answer) × (TaskAnswer task.now name.now text.now answer
+        × Answered W.contents E.contents out.old out.new err.old err.new status answer)) }
+    ensures good { OnOk result (out.new.failed ≡ false) }
+    ensures memory { IfErr result (λ e. e ≡ RunError.OutOfMemory → out.new.failed ≡ false) }
+    ensures write { IfErr result (λ e. e ≡ RunError.Write → out.new.failed ≡ true) }
+    ensures read { IfErr result (λ e. e ≢ RunError.Read) }
+    ensures no_late_write { out.new.late ≡ out.old.late }
+    ensures no_late_message { err.new.late ≡ err.old.late }
 {
-    let text = match read_text(rt.alloc(), reader) {
-        Ok(text) => text,
-        Err(TextError::OutOfMemory) => return Err(Failure::Run(RunError::OutOfMemory)),
-        Err(error) => {
-            say_of(rt, name, &error);
-            return Ok(NO_TEXT);
-        }
-    };
-    match run_task(rt.alloc(), task, name, text.as_str(), writer).map_err(Failure::Run)? {
+    match run_task(alloc, task, name, text, out)? {
         CutResult::Whole => Ok(0),
         CutResult::Faulty => Ok(1),
         CutResult::Stopped { kind, at } => {
-            say_stopped(rt, kind, name, text.as_str(), at)?;
+            say_stopped(alloc, kind, name, text, at, err)?;
             Ok(1)
         }
     }
 }
 
-// Does the task for a file, and returns the status.
-fn cut_file<W: Write>(
-    rt: &(impl Files + Eprint + AllocGlobal),
+// Does the task for these bytes of a file, and returns the status.
+fn cut_bytes<W: Write, E: Write>(
+    alloc: Global,
     task: &Task<'_>,
     name: &str,
-    writer: &mut Watched<W>,
-) -> Result<u8, Failure>
-    requires writer_good { writer.old.failed ≡ false }
-    ensures status { IfOk result (λ status. status ≤ 6) }
-    ensures good { OnOk result (writer.new.failed ≡ false) }
+    bytes: Vec<u8>,
+    out: &mut Watched<W>,
+    err: &mut Watched<E>,
+) -> Result<u8, RunError>
+    requires out_good { out.old.failed ≡ false }
+    ensures answer { IfOk result (λ status. (answer : Answer)
+        × (TextOf (TaskAnswer task.now) name.now bytes.items answer
+        × Answered W.contents E.contents out.old out.new err.old err.new status answer)) }
+    ensures good { OnOk result (out.new.failed ≡ false) }
+    ensures memory { IfErr result (λ e. e ≡ RunError.OutOfMemory → out.new.failed ≡ false) }
+    ensures write { IfErr result (λ e. e ≡ RunError.Write → out.new.failed ≡ true) }
+    ensures read { IfErr result (λ e. e ≢ RunError.Read) }
+    ensures no_late_write { out.new.late ≡ out.old.late }
+    ensures no_late_message { err.new.late ≡ err.old.late }
 {
-    let Some(file) = open(rt, name)? else {
-        return Ok(NO_TEXT);
-    };
-    cut(rt, task, name, &mut Watched::new(file), writer)
+    match text_of(bytes) {
+        Ok(text) => cut_text(alloc, task, name, text.as_str(), out, err),
+        Err(error) => {
+            let Ok(reason) = format!(in alloc; "{error}") else {
+                return Err(RunError::OutOfMemory);
+            };
+            say_about(alloc, name, reason.as_str(), err)?;
+            Ok(NO_TEXT)
+        }
+    }
 }
 
-// Does the task for each file, or for standard input if there are none, and returns the greatest status.
-fn cut_each<W: Write>(
-    rt: &(impl Files + Input + Eprint + AllocGlobal),
+// Does the task for a file, and returns the status.
+fn cut_file<F: Files, W: Write, E: Write>(
+    alloc: Global,
     task: &Task<'_>,
-    files: &[String],
-    writer: &mut Watched<W>,
-) -> Result<u8, Failure>
-    requires writer_good { writer.old.failed ≡ false }
-    ensures status { IfOk result (λ status. status ≤ 6) }
+    files: &F,
+    name: &str,
+    out: &mut Watched<W>,
+    err: &mut Watched<E>,
+) -> Result<u8, RunError>
+    requires out_good { out.old.failed ≡ false }
+    ensures answer { IfOk result (λ status. (answer : Answer)
+        × (Reads (F.gives files.now) (TextOf (TaskAnswer task.now)) name.now answer
+        × Answered W.contents E.contents out.old out.new err.old err.new status answer)) }
+    ensures good { OnOk result (out.new.failed ≡ false) }
+    ensures memory { IfErr result (λ e. e ≡ RunError.OutOfMemory → out.new.failed ≡ false) }
+    ensures write { IfErr result (λ e. e ≡ RunError.Write → out.new.failed ≡ true) }
+    ensures read { IfErr result (λ e. e ≢ RunError.Read) }
+    ensures no_late_write { out.new.late ≡ out.old.late }
+    ensures no_late_message { err.new.late ≡ err.old.late }
 {
-    if files.is_empty() {
-        return cut(rt, task, INPUT, &mut Watched::new(rt.reader()), writer);
+    match bytes_of(alloc, files, name, err)? {
+        Some(bytes) => cut_bytes(alloc, task, name, bytes, out, err),
+        None => Ok(NO_TEXT),
     }
+}
+
+// Does the task for standard input, and returns the status.
+fn cut_input<R: Read, W: Write, E: Write>(
+    alloc: Global,
+    task: &Task<'_>,
+    input: &mut Watched<R>,
+    out: &mut Watched<W>,
+    err: &mut Watched<E>,
+) -> Result<u8, RunError>
+    requires input_good { input.old.failed ≡ false }
+    requires out_good { out.old.failed ≡ false }
+    ensures answer { IfOk result (λ status. (answer : Answer)
+        × (Reads (λ name. StreamGives R.remaining input.old input.new)
+        (TextOf (TaskAnswer task.now)) (codes "<stdin>") answer
+        × Answered W.contents E.contents out.old out.new err.old err.new status answer)) }
+    ensures good { OnOk result (out.new.failed ≡ false) }
+    ensures memory { IfErr result (λ e. e ≡ RunError.OutOfMemory → out.new.failed ≡ false) }
+    ensures write { IfErr result (λ e. e ≡ RunError.Write → out.new.failed ≡ true) }
+    ensures read { IfErr result (λ e. e ≢ RunError.Read) }
+    ensures no_late_read { input.new.late ≡ input.old.late }
+    ensures no_late_write { out.new.late ≡ out.old.late }
+    ensures no_late_message { err.new.late ≡ err.old.late }
+{
+    match input_bytes(alloc, input, err)? {
+        Some(bytes) => cut_bytes(alloc, task, INPUT, bytes, out, err),
+        None => Ok(NO_TEXT),
+    }
+}
+
+// The greater of two statuses.
+fn worse(status: u8, other: u8) -> u8
+    ensures { result ≡ max status other }
+{
+    status.max(other)
+}
+
+// Does the task for each file, and returns the greatest status.
+fn cut_each<F: Files, W: Write, E: Write>(
+    alloc: Global,
+    task: &Task<'_>,
+    files: &F,
+    names: &[String],
+    out: &mut Watched<W>,
+    err: &mut Watched<E>,
+) -> Result<u8, RunError>
+    requires out_good { out.old.failed ≡ false }
+    ensures answer { IfOk result (λ status. (answer : Answer)
+        × (FilesAnswer (F.gives files.now) (TaskAnswer task.now) (map string_bytes names.now) answer
+        × Answered W.contents E.contents out.old out.new err.old err.new status answer)) }
+    ensures good { OnOk result (out.new.failed ≡ false) }
+    ensures memory { IfErr result (λ e. e ≡ RunError.OutOfMemory → out.new.failed ≡ false) }
+    ensures write { IfErr result (λ e. e ≡ RunError.Write → out.new.failed ≡ true) }
+    ensures read { IfErr result (λ e. e ≢ RunError.Read) }
+    ensures no_late_write { out.new.late ≡ out.old.late }
+    ensures no_late_message { err.new.late ≡ err.old.late }
+{
     let mut status = 0u8;
-    for name in files {
-        let own = cut_file(rt, task, name.as_str(), writer)?;
-        status = status.max(own);
+    for name in names {
+        let own = cut_file(alloc, task, files, name.as_str(), out, err)?;
+        status = worse(status, own);
     }
     Ok(status)
 }
 
-/// Does the task for each file, or for standard input if there are none, writes to standard output, and returns the greatest status.
-pub(crate) fn cut_all<R: Files + Input + Print + Eprint + AllocGlobal>(
-    rt: &R,
+/// Does the task for each file, or for standard input if there are none, and returns the greatest status.
+pub(crate) fn cut_all<F: Files, R: Read, W: Write, E: Write>(
+    alloc: Global,
     task: &Task<'_>,
-    files: &[String],
-) -> Result<u8, Failure>
-    ensures status { IfOk result (λ status. status ≤ 6) }
+    files: &F,
+    names: &[String],
+    input: &mut Watched<R>,
+    out: &mut Watched<W>,
+    err: &mut Watched<E>,
+) -> Result<u8, RunError>
+    requires input_good { input.old.failed ≡ false }
+    requires out_good { out.old.failed ≡ false }
+    ensures answer { IfOk result (λ status. (answer : Answer)
+        × (TextsAnswer (F.gives files.now) (StreamGives R.remaining input.old input.new)
+        (TaskAnswer task.now) (map string_bytes names.now) answer
+        × Answered W.contents E.contents out.old out.new err.old err.new status answer)) }
+    ensures good { OnOk result (out.new.failed ≡ false) }
+    ensures memory { IfErr result (λ e. e ≡ RunError.OutOfMemory → out.new.failed ≡ false) }
+    ensures write { IfErr result (λ e. e ≡ RunError.Write → out.new.failed ≡ true) }
+    ensures read { IfErr result (λ e. e ≢ RunError.Read) }
+    ensures no_late_read { input.new.late ≡ input.old.late }
+    ensures no_late_write { out.new.late ≡ out.old.late }
+    ensures no_late_message { err.new.late ≡ err.old.late }
 {
-    let mut writer = Watched::new(io::writer(rt));
-    let status = cut_each(rt, task, files, &mut writer)?;
-    flushed(status, &writer.into_inner().flush())
+    if names.is_empty() {
+        cut_input(alloc, task, input, out, err)
+    } else {
+        cut_each(alloc, task, files, names, out, err)
+    }
 }

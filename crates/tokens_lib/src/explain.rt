@@ -1,11 +1,11 @@
 //! Explaining to a user why a file of terminals gives no lexer.
 
-use crate::quote::quoted;
 use crate::reasons::{
     characters_before, clash_advice, line_shown, place_explained, refusal_text, syntax_text,
 };
 use lalrpop_lexer::lexer::re::{RegexError, SyntaxKind, parse_regex};
 use lexdfa_lib::Outcome;
+use lines_lib::quoted;
 use std::alloc::{AllocError, Global};
 
 // The line with this number, from 0, or `None` if it isn't UTF-8.
@@ -35,30 +35,24 @@ fn syntax_of(alloc: Global, line: &str) -> Result<Option<(usize, SyntaxKind)>, A
 }
 
 // Where the pattern of a line doesn't parse, and why.
-fn syntax_explained(
-    alloc: Global,
-    file: &str,
-    number: usize,
-    line: &str,
-) -> Result<String, AllocError> {
+fn syntax_explained(alloc: Global, number: usize, line: &str) -> Result<String, AllocError> {
     let Some((before, kind)) = syntax_of(alloc, line)? else {
-        return format!(in alloc; "tokens: {file}:{number}: the pattern doesn't parse\n");
+        return format!(in alloc; "{number}: the pattern doesn't parse\n");
     };
-    place_explained(alloc, file, number, line, before, syntax_text(kind))
+    place_explained(alloc, number, line, before, syntax_text(kind))
 }
 
 fn bad_line_explained(
     alloc: Global,
-    file: &str,
     number: usize,
     line: Option<&str>,
 ) -> Result<String, AllocError> {
     match line {
-        None => format!(in alloc; "tokens: {file}:{number}: this line isn't UTF-8\n"),
+        None => format!(in alloc; "{number}: this line isn't UTF-8\n"),
         Some(line) => {
             let shown = line_shown(alloc, line)?;
             format!(in alloc;
-                "tokens: {file}:{number}: a line is `P l TEXT` or `P r PATTERN`, with a precedence P\n    {shown}\n"
+                "{number}: a line is `P l TEXT` or `P r PATTERN`, with a precedence P\n    {shown}\n"
             )
         }
     }
@@ -96,7 +90,6 @@ fn word_shown(alloc: Global, word: &[u32]) -> Result<String, AllocError> {
 // What the clash is, with both lines and the word, and how to resolve it.
 fn clash_explained(
     alloc: Global,
-    file: &str,
     bytes: &[u8],
     lines: (usize, usize),
     word: &[u32],
@@ -109,41 +102,40 @@ fn clash_explained(
     let later = later.saturating_add(1);
     let earlier = earlier.saturating_add(1);
     format!(in alloc;
-        "tokens: {file}:{later}: this terminal clashes with that of line {earlier}: both match the word {shown}, and neither wins\n    \
+        "{later}: this terminal clashes with that of line {earlier}: both match the word {shown}, and neither wins\n    \
         {earlier}: {earlier_line}\n    {later}: {later_line}\n{advice}\n"
     )
 }
 
-/// What is wrong with a file of terminals: the name of the file, the number of the line, the reason, and the line itself.
+/// What is wrong with a file of terminals, to stand after the file's name: the number of the line, the reason, and the line itself.
 ///
 /// # Errors
 ///
 /// `AllocError` if a request for memory was refused.
 pub(crate) fn explanation(
     alloc: Global,
-    file: &str,
     bytes: &[u8],
     report: &Outcome,
 ) -> Result<String, AllocError> {
     match report {
         Outcome::Line { line } => {
-            bad_line_explained(alloc, file, line.saturating_add(1), line_at(bytes, *line))
+            bad_line_explained(alloc, line.saturating_add(1), line_at(bytes, *line))
         }
         Outcome::Syntax { terminal } => {
             let line = line_at(bytes, *terminal).unwrap_or("");
-            syntax_explained(alloc, file, terminal.saturating_add(1), line)
+            syntax_explained(alloc, terminal.saturating_add(1), line)
         }
         Outcome::Refused { terminal, error } => {
             let number = terminal.saturating_add(1);
             let reason = refusal_text(*error);
             let shown = line_shown(alloc, line_at(bytes, *terminal).unwrap_or(""))?;
-            format!(in alloc; "tokens: {file}:{number}: {reason}\n    {shown}\n")
+            format!(in alloc; "{number}: {reason}\n    {shown}\n")
         }
         Outcome::Ambiguous {
             match0,
             match1,
             word,
-        } => clash_explained(alloc, file, bytes, (*match0, *match1), word.values()),
+        } => clash_explained(alloc, bytes, (*match0, *match1), word.values()),
         // These report nothing.
         Outcome::Match { .. } | Outcome::NoMatch | Outcome::All { .. } | Outcome::Stopped { .. } =>
             Ok(String::new(alloc)),

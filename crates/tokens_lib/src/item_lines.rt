@@ -9,12 +9,12 @@ ghost use Rattle.tokens_lib.specs.Internal.Faults.{first_with};
 
 use crate::json_line::push_json;
 use crate::layout::{Layout, LineForm};
-use crate::quote::quoted;
 use crate::shown::Shown;
 use lalrpop_lexer::lexer::dfa::NfaIndex;
 use lalrpop_lexer::{Position, Positions};
 use lalrpop_rules::{Item, RuleLexer};
 use lexdfa_lib::{RunError, Watched, write_whole};
+use lines_lib::quoted;
 use std::alloc::{AllocError, Global};
 use std::io::Write;
 

@@ -1,10 +1,8 @@
 //! The program `tokens`, which cuts files by a file of named rules or of terminals, one a line, and its parts.
 #![tactic(auto)]
 
-mod building;
 mod by_rules;
 mod by_terminals;
-mod clash_lines;
 mod command;
 mod cut_files;
 mod explain;
@@ -16,22 +14,19 @@ mod layout;
 mod named_clashes;
 mod page;
 mod program;
-mod quote;
 mod reasons;
 mod rule_explain;
 mod shown;
-mod text;
-mod token_lines;
 
-pub use building::{BuildError, lexer_of};
-pub use clash_lines::write_clashes;
 pub use command::{Command, Markup, command_of};
+pub use files::{Files, NoBytes};
 pub use item_lines::write_items;
 pub use lalrpop_lexer::{Lexer, Token, TokenFault};
 pub use lalrpop_rules::{Rule, RuleLexer, RulesError};
 pub use layout::{Layout, LineForm};
+pub use lines_lib::{
+    BuildError, TextError, lexer_of, quoted, quoted_word, read_text, write_clashes, write_tokens,
+};
 pub use named_clashes::{rule_clashes, write_rule_clashes};
 pub use page::write_page;
-pub use program::run_program;
-pub use text::{TextError, read_text};
-pub use token_lines::write_tokens;
+pub use program::{run, run_program};

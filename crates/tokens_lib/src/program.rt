@@ -1,16 +1,21 @@
 //! The program `tokens`: its arguments, what it says if it fails, and its exit status.
-ghost use Rattle.std.specs.Prelude.{◌≤◌, IfOk};
+ghost use Rattle.std.specs.Prelude.{◌≡◌, ◌≢◌, ◌≤◌, false, true, map, string_bytes, IfOk, OnOk, IfErr};
 ghost use Rattle.std.specs.Process.{exit_status};
+ghost use Rattle.tokens_lib.specs.Answer.{Answer, Answered};
+ghost use Rattle.tokens_lib.specs.Program.{CommandAnswer, IsAnswer};
+ghost use Rattle.tokens_lib.specs.Streams.{StreamGives};
 
-use crate::by_rules::{cut_by_rules, list_clashes, show_by_rules};
-use crate::by_terminals::{cut_by_terminals, list_terminal_clashes};
+use crate::by_rules::{lexer_by_name, list_clashes};
+use crate::by_terminals::{list_terminal_clashes, terminals_by_name};
 use crate::command::{Command, command_of};
-use crate::files::{out_of_memory, say};
-use lexdfa_lib::{Failure, RunError, status_of, without_arguments};
+use crate::cut_files::{Task, cut_all};
+use crate::files::{ErrorStream, Files, SystemFiles, say};
+use lexdfa_lib::{Failure, RunError, Watched, flushed, status_of, without_arguments};
+use std::alloc::Global;
 use std::env;
-use std::io::Eprint;
+use std::io::{self, Eprint, Read, Write};
 use std::process::ExitCode;
-use std::rt::{Env, Files};
+use std::rt::{Env, Files as RuntimeFiles};
 
 const USAGE: &str = "tokens: usage: tokens [--recover] [--json] RULES [FILE ..]
        tokens --html RULES [FILE ..]
@@ -20,34 +25,152 @@ const USAGE: &str = "tokens: usage: tokens [--recover] [--json] RULES [FILE ..]
        tokens --lines --clashes RULES
 ";
 
-// Does what the arguments say, and returns the status.
-fn run_command<R: Env + Files + Input + Print + Eprint + AllocGlobal>(rt: &R) -> Result<u8, Failure>
-    ensures { IfOk result (λ status. status ≤ 6) }
+// The status of wrong arguments.
+const WRONG_ARGUMENTS: u8 = 4;
+
+// Does what a command says, and returns the status.
+fn run_command<F: Files, R: Read, W: Write, E: Write>(
+    alloc: Global,
+    command: &Command<'_>,
+    files: &F,
+    input: &mut Watched<R>,
+    out: &mut Watched<W>,
+    err: &mut Watched<E>,
+) -> Result<u8, RunError>
+    requires input_good { input.old.failed ≡ false }
+    requires out_good { out.old.failed ≡ false }
+    ensures answer { IfOk result (λ status. (answer : Answer)
+        × (CommandAnswer (F.gives files.now) (StreamGives R.remaining input.old input.new) command.now answer
+        × Answered W.contents E.contents out.old out.new err.old err.new status answer)) }
+    ensures good { OnOk result (out.new.failed ≡ false) }
+    ensures memory { IfErr result (λ e. e ≡ RunError.OutOfMemory → out.new.failed ≡ false) }
+    ensures write { IfErr result (λ e. e ≡ RunError.Write → out.new.failed ≡ true) }
+    ensures read { IfErr result (λ e. e ≢ RunError.Read) }
+    ensures no_late_read { input.new.late ≡ input.old.late }
+    ensures no_late_write { out.new.late ≡ out.old.late }
+    ensures no_late_message { err.new.late ≡ err.old.late }
 {
-    let words = env::args(rt).map_err(|error| without_arguments(&error))?;
-    let words = words
-        .skip(1)
-        .collect::<Vec<String>>(rt.alloc())
-        .map_err(out_of_memory)?;
-    match command_of(&words).ok_or(Failure::Usage)? {
+    match *command {
         Command::Cut {
             form,
             recovers,
             rules,
-            files,
-        } => cut_by_rules(rt, form, recovers, rules, files),
+            files: names,
+        } => match lexer_by_name(alloc, files, rules, err)? {
+            Ok(lexer) => {
+                let task = Task::Pieces {
+                    lexer: &lexer,
+                    form,
+                    recovers,
+                    several: names.len() > 1,
+                };
+                cut_all(alloc, &task, files, names, input, out, err)
+            }
+            Err(status) => Ok(status),
+        },
         Command::Show {
             markup,
             rules,
-            files,
-        } => show_by_rules(rt, markup, rules, files),
-        Command::Clashes { rules } => list_clashes(rt, rules),
+            files: names,
+        } => match lexer_by_name(alloc, files, rules, err)? {
+            Ok(lexer) => {
+                let task = Task::Markup {
+                    lexer: &lexer,
+                    markup,
+                };
+                cut_all(alloc, &task, files, names, input, out, err)
+            }
+            Err(status) => Ok(status),
+        },
+        Command::Clashes { rules } => list_clashes(alloc, files, rules, out, err),
         Command::CutByTerminals {
             places,
             rules,
-            files,
-        } => cut_by_terminals(rt, places, rules, files),
-        Command::TerminalClashes { rules } => list_terminal_clashes(rt, rules),
+            files: names,
+        } => match terminals_by_name(alloc, files, rules, err)? {
+            Ok(lexer) => {
+                let task = Task::Tokens {
+                    lexer: &lexer,
+                    places,
+                };
+                cut_all(alloc, &task, files, names, input, out, err)
+            }
+            Err(status) => Ok(status),
+        },
+        Command::TerminalClashes { rules } => list_terminal_clashes(alloc, files, rules, out, err),
+    }
+}
+
+/// Does what the arguments say (`command_of`): cuts the files, or standard input if none is named, by the file of rules that is
+/// named first, and writes the lines of `write_items` or, by terminals, of `write_tokens`, or the markup of each text, to `out`; or
+/// lists all clashes of the rules (`write_rule_clashes`) or terminals (`write_clashes`). What is wrong is explained on `err`; if a
+/// write there fails, nothing more is said, and the run goes on.
+///
+/// The exit status is 0 if each text was cut to its end and has no fault, or no rules clash, 1 if a text has a fault, 2 if rules
+/// can't be compiled or clash, 3 if a line of the rules is bad or its pattern doesn't parse, 4 for wrong arguments, and 6 if a
+/// file gave no text. Of several files, the greatest status counts.
+///
+/// # Errors
+///
+/// `OutOfMemory` if a request for memory was refused, and `Write` if a write to `out` failed or took no byte.
+pub fn run<F: Files, R: Read, W: Write, E: Write>(
+    alloc: Global,
+    words: &[String],
+    files: &F,
+    input: &mut Watched<R>,
+    out: &mut Watched<W>,
+    err: &mut Watched<E>,
+) -> Result<u8, RunError>
+    requires input_good { input.old.failed ≡ false }
+    requires out_good { out.old.failed ≡ false }
+
+    ensures answer { IfOk result (λ status. (answer : Answer)
+        × (IsAnswer (F.gives files.now) (StreamGives R.remaining input.old input.new)
+        (map string_bytes words.now) answer
+        × Answered W.contents E.contents out.old out.new err.old err.new status answer)) }
+    ensures status { IfOk result (λ status. status ≤ 6) }
+    ensures good { OnOk result (out.new.failed ≡ false) }
+
+    ensures memory { IfErr result (λ e. e ≡ RunError.OutOfMemory → out.new.failed ≡ false) }
+    ensures write { IfErr result (λ e. e ≡ RunError.Write → out.new.failed ≡ true) }
+    ensures read { IfErr result (λ e. e ≢ RunError.Read) }
+
+    ensures no_late_read { input.new.late ≡ input.old.late }
+    ensures no_late_write { out.new.late ≡ out.old.late }
+    ensures no_late_message { err.new.late ≡ err.old.late }
+{
+    match command_of(words) {
+        Some(command) => run_command(alloc, &command, files, input, out, err),
+        None => {
+            say(USAGE, err);
+            Ok(WRONG_ARGUMENTS)
+        }
+    }
+}
+
+// `run` over the streams and the files of the system, and a flush after the last line.
+fn run_in_system<R: Env + RuntimeFiles + Input + Print + Eprint + AllocGlobal>(
+    rt: &R,
+    err: &mut Watched<ErrorStream<'_, R>>,
+) -> Result<u8, Failure>
+    ensures { IfOk result (λ status. status ≤ 6) }
+{
+    let words = env::args(rt).map_err(|error| without_arguments(&error))?;
+    let Ok(words) = words.skip(1).collect::<Vec<String>>(rt.alloc()) else {
+        return Err(Failure::Run(RunError::OutOfMemory));
+    };
+    let mut input = Watched::new(rt.reader());
+    let mut out = Watched::new(io::writer(rt));
+    match run(
+        rt.alloc(),
+        &words,
+        &SystemFiles { rt },
+        &mut input,
+        &mut out,
+        err,
+    ) {
+        Ok(status) => flushed(status, &out.into_inner().flush()),
+        Err(error) => Err(Failure::Run(error)),
     }
 }
 
@@ -60,21 +183,16 @@ fn failure_text(failure: &Failure) -> &'static str {
     }
 }
 
-/// Does what the arguments say (`command_of`): cuts the files, or standard input if none is named, by the file of rules that is
-/// named first, and writes the lines of `write_items` or, by terminals, of `write_tokens`, or the markup of each text, to standard
-/// output; or lists all clashes of the rules (`write_rule_clashes`) or terminals (`write_clashes`). Errors are explained on standard
-/// error.
-///
-/// The exit status is 0 if each text was cut to its end and has no fault, or no rules clash, 1 if a text has a fault, 2 if rules
-/// can't be compiled or clash, 3 if a line of the rules is bad or its pattern doesn't parse, 4 for wrong arguments, 5 for out of
-/// memory, and 6 if a file gave no text or a stream failed. Of several files, the greatest status counts.
-pub fn run_program<R: Env + Files + Input + Print + Eprint + AllocGlobal>(rt: &R) -> ExitCode
+/// `run` for the program's arguments, over the files and the streams of the system, and a flush after the last line. A failed flush
+/// is a failed write. If memory was refused or a write failed, it says so, and the exit status is 5 or 6.
+pub fn run_program<R: Env + RuntimeFiles + Input + Print + Eprint + AllocGlobal>(rt: &R) -> ExitCode
     ensures status { exit_status result ≤ 6 }
 {
-    let status = match run_command(rt) {
+    let mut err = Watched::new(ErrorStream { rt });
+    let status = match run_in_system(rt, &mut err) {
         Ok(status) => status,
         Err(failure) => {
-            say(rt, failure_text(&failure));
+            say(failure_text(&failure), &mut err);
             status_of(&Err(failure))
         }
     };

@@ -1,8 +1,8 @@
 //! What is wrong with a pattern, in words for people, and the place in its line.
 
-use crate::quote::is_unseen;
 use lalrpop_lexer::lexer::nfa::NfaConstructionError;
 use lalrpop_lexer::lexer::re::SyntaxKind;
+use lines_lib::is_unseen;
 use std::alloc::{AllocError, Global};
 
 /// Why a pattern doesn't parse.
@@ -86,14 +86,13 @@ fn push_blanks(text: &mut String, line: &str, count: usize) -> Result<(), AllocE
 }
 
 /// The place and the reason, and the line with a caret under the place, which is after the first `before` characters. Lines count from
-/// 1.
+/// 1. The file's name stands before it.
 ///
 /// # Errors
 ///
 /// `AllocError` if a request for memory was refused.
 pub(crate) fn place_explained(
     alloc: Global,
-    file: &str,
     number: usize,
     line: &str,
     before: usize,
@@ -101,9 +100,7 @@ pub(crate) fn place_explained(
 ) -> Result<String, AllocError> {
     let column = before.saturating_add(1);
     let shown = line_shown(alloc, line)?;
-    let mut message = format!(in alloc;
-        "tokens: {file}:{number}:{column}: {reason}\n    {shown}\n    "
-    )?;
+    let mut message = format!(in alloc; "{number}:{column}: {reason}\n    {shown}\n    ")?;
     push_blanks(&mut message, line, before)?;
     message.push_str("^\n")?;
     Ok(message)

@@ -1,7 +1,7 @@
 //! Why a file of named rules gives no lexer, in words for people.
+ghost use Rattle.std.specs.Prelude.{◌≢◌, OnOk};
 
 use crate::named_clashes::name_of;
-use crate::quote::quoted_word;
 use crate::reasons::{
     characters_before, clash_advice, line_shown, place_explained, refusal_text, syntax_text,
 };
@@ -9,15 +9,8 @@ use lalrpop_lexer::lexer::nfa::NfaConstructionError;
 use lalrpop_lexer::lexer::re::SyntaxKind;
 use lalrpop_lexer::{Position, Terminals, read_terminals};
 use lalrpop_rules::{LineFault, RuleFile, RuleFileError, RulesError};
+use lines_lib::quoted_word;
 use std::alloc::{AllocError, Global};
-
-/// The bytes of a file of rules, without a byte order mark.
-#[derive(Clone, Copy)]
-pub(crate) struct Source<'bytes> {
-    /// What the file is called.
-    pub name: &'bytes str,
-    pub bytes: &'bytes [u8],
-}
 
 // The text of the line with this number, from 1, without its end; nothing if it isn't UTF-8.
 fn line_at(bytes: &[u8], number: usize) -> &str {
@@ -41,21 +34,14 @@ fn place_of(file: &RuleFile<'_>, rule: usize) -> Position {
 // Where and why the pattern of a rule doesn't parse.
 fn syntax_explained(
     alloc: Global,
-    source: &Source<'_>,
+    bytes: &[u8],
     place: Position,
     inside: usize,
     kind: SyntaxKind,
 ) -> Result<String, AllocError> {
-    let line = line_at(source.bytes, place.line);
+    let line = line_at(bytes, place.line);
     let before = place.column.saturating_sub(1).saturating_add(inside);
-    place_explained(
-        alloc,
-        source.name,
-        place.line,
-        line,
-        before,
-        syntax_text(kind),
-    )
+    place_explained(alloc, place.line, line, before, syntax_text(kind))
 }
 
 // The number of characters of a rule's text before this byte.
@@ -69,62 +55,63 @@ fn characters_inside(file: &RuleFile<'_>, rule: usize, position: usize) -> usize
 // Why the rule on a line can't be compiled.
 fn refusal_explained(
     alloc: Global,
-    source: &Source<'_>,
+    bytes: &[u8],
     number: usize,
     error: NfaConstructionError,
 ) -> Result<String, AllocError> {
-    let file = source.name;
     let reason = refusal_text(error);
-    let shown = line_shown(alloc, line_at(source.bytes, number))?;
-    format!(in alloc; "tokens: {file}:{number}: {reason}\n    {shown}\n")
+    let shown = line_shown(alloc, line_at(bytes, number))?;
+    format!(in alloc; "{number}: {reason}\n    {shown}\n")
 }
 
 // Both lines of a clash, the earlier first.
 fn lines_of_clash(
     alloc: Global,
-    source: &Source<'_>,
+    bytes: &[u8],
     earlier: usize,
     later: usize,
 ) -> Result<String, AllocError> {
-    let first = line_shown(alloc, line_at(source.bytes, earlier))?;
-    let second = line_shown(alloc, line_at(source.bytes, later))?;
+    let first = line_shown(alloc, line_at(bytes, earlier))?;
+    let second = line_shown(alloc, line_at(bytes, later))?;
     format!(in alloc; "    {earlier}: {first}\n    {later}: {second}\n")
 }
 
 // What the clash is and how to resolve it: both lines, and the word.
 fn clash_explained(
     alloc: Global,
-    source: &Source<'_>,
+    bytes: &[u8],
     file: &RuleFile<'_>,
     rules: (usize, usize),
     word: &[u32],
 ) -> Result<String, AllocError> {
     let (other, rule) = rules;
-    let name = source.name;
     let earlier = place_of(file, other).line;
     let later = place_of(file, rule).line;
     let earlier_name = name_of(&file.rules, other);
     let later_name = name_of(&file.rules, rule);
     let advice = clash_advice(word);
     let quoted = quoted_word(alloc, word)?;
-    let lines = lines_of_clash(alloc, source, earlier, later)?;
+    let lines = lines_of_clash(alloc, bytes, earlier, later)?;
     format!(in alloc;
-        "tokens: {name}:{later}: {later_name} clashes with {earlier_name} of line {earlier}: both match the word {quoted}, and neither wins\n\
+        "{later}: {later_name} clashes with {earlier_name} of line {earlier}: both match the word {quoted}, and neither wins\n\
         {lines}{advice}\n"
     )
 }
 
-/// What is wrong with the rules of a file, in words: the file and the line, and the line itself.
+/// What is wrong with the rules of a file without its byte order mark, to stand after the file's name: the number of the line, the
+/// reason, and the line itself.
 ///
 /// # Errors
 ///
 /// `AllocError` if a request for memory was refused.
 pub(crate) fn rules_explained(
     alloc: Global,
-    source: &Source<'_>,
+    bytes: &[u8],
     file: &RuleFile<'_>,
     error: &RulesError,
-) -> Result<String, AllocError> {
+) -> Result<String, AllocError>
+    ensures known { OnOk result (error.now ≢ RulesError.OutOfMemory) }
+{
     match error {
         RulesError::NotParsed {
             rule,
@@ -132,13 +119,13 @@ pub(crate) fn rules_explained(
             kind,
         } => {
             let inside = characters_inside(file, *rule, *position);
-            syntax_explained(alloc, source, place_of(file, *rule), inside, *kind)
+            syntax_explained(alloc, bytes, place_of(file, *rule), inside, *kind)
         }
         RulesError::NotCompiled { rule, error } => {
-            refusal_explained(alloc, source, place_of(file, *rule).line, *error)
+            refusal_explained(alloc, bytes, place_of(file, *rule).line, *error)
         }
         RulesError::Clash { rule, other, word } => {
-            clash_explained(alloc, source, file, (*other, *rule), word)
+            clash_explained(alloc, bytes, file, (*other, *rule), word)
         }
         RulesError::OutOfMemory => Err(AllocError),
     }
@@ -152,17 +139,19 @@ fn is_terminal(alloc: Global, line: &str) -> Result<bool, AllocError> {
     }
 }
 
-/// What is wrong with the first bad line of a file of rules, in words: the file, the line and the column, and the line itself; and
-/// how a file of terminals is read, if the line is one.
+/// What is wrong with the first bad line of a file of rules without its byte order mark, to stand after the file's name: the line and
+/// the column, the reason, and the line itself; and how a file of terminals is read, if the line is one.
 ///
 /// # Errors
 ///
 /// `AllocError` if a request for memory was refused.
 pub(crate) fn bad_line_explained(
     alloc: Global,
-    source: &Source<'_>,
+    bytes: &[u8],
     error: &RuleFileError,
-) -> Result<String, AllocError> {
+) -> Result<String, AllocError>
+    ensures known { OnOk result (error.now ≢ RuleFileError.OutOfMemory) }
+{
     let RuleFileError::BadLine {
         line,
         column,
@@ -171,14 +160,13 @@ pub(crate) fn bad_line_explained(
     else {
         return Err(AllocError);
     };
-    let name = source.name;
     if *fault == LineFault::NotUtf8 {
-        return format!(in alloc; "tokens: {name}:{line}:{column}: {fault}\n");
+        return format!(in alloc; "{line}:{column}: {fault}\n");
     }
-    let shown = line_at(source.bytes, *line);
+    let shown = line_at(bytes, *line);
     let before = column.saturating_sub(1);
     let reason = format!(in alloc; "{fault}")?;
-    let mut message = place_explained(alloc, name, *line, shown, before, reason.as_str())?;
+    let mut message = place_explained(alloc, *line, shown, before, reason.as_str())?;
     if is_terminal(alloc, shown)? {
         message.push_str("This is a line of terminals: read such a file with --lines.\n")?;
     }

@@ -2,7 +2,7 @@
 ghost use Rattle.std.specs.Prelude.{◌≡◌, ◌≢◌, ℕ, List, [], length, Option, Some, None, false, true, IfOk, IfSome};
 ghost use Rattle.std.specs.Str.{IsValidUpTo};
 ghost use Rattle.lexdfa_lib.specs.Watch.{ReadsAll};
-ghost use Rattle.tokens_lib.specs.TokenLines.{WritesTokens, WritesTokensPrefix, IsStopOf};
+ghost use Rattle.lines_lib.specs.TokenLines.{WritesTokens, WritesTokensPrefix, IsStopOf};
 ghost use Rattle.lalrpop_lexer.specs.Position.{position_of};
 
 use lalrpop_lexer::{Lexer, Position};
@@ -12,7 +12,7 @@ use std::io::{Read, Write};
 use tokens_lib::{TextError, read_text, write_tokens};
 
 // How many bytes the text of a reader has.
-// Needs tokens_lib::read_text: text, some.
+// Needs lines_lib::read_text: text, some.
 pub fn text_length<R: Read>(alloc: Global, reader: &mut Watched<R>) -> Option<usize>
     requires reader_good { reader.old.failed ≡ false }
     ensures length { IfSome result (λ n. (text : List ℕ)
@@ -26,7 +26,7 @@ pub fn text_length<R: Read>(alloc: Global, reader: &mut Watched<R>) -> Option<us
 }
 
 // The first byte at which no character begins.
-// Needs tokens_lib::read_text: error.
+// Needs lines_lib::read_text: error.
 pub fn first_bad_byte<R: Read>(alloc: Global, reader: &mut Watched<R>) -> Option<usize>
     requires reader_good { reader.old.failed ≡ false }
     ensures bad { IfSome result (λ at. (bytes : List ℕ)
@@ -40,7 +40,7 @@ pub fn first_bad_byte<R: Read>(alloc: Global, reader: &mut Watched<R>) -> Option
 }
 
 // Whether the reader has failed.
-// Needs tokens_lib::read_text: good, read, others, no_late_read.
+// Needs lines_lib::read_text: good, read, others, no_late_read.
 pub fn fails_to_read<R: Read>(alloc: Global, reader: &mut Watched<R>) -> bool
     requires reader_good { reader.old.failed ≡ false }
     ensures failed { reader.new.failed ≡ result }
@@ -50,7 +50,7 @@ pub fn fails_to_read<R: Read>(alloc: Global, reader: &mut Watched<R>) -> bool
 }
 
 // The lines of two texts, one after the other.
-// Needs tokens_lib::write_tokens: written, good, no_late_write.
+// Needs lines_lib::write_tokens: written, good, no_late_write.
 pub fn both_texts<W: Write>(
     alloc: Global,
     lexer: &Lexer,
@@ -72,7 +72,7 @@ pub fn both_texts<W: Write>(
 }
 
 // Whether the writer has failed: then it has a prefix of the lines.
-// Needs tokens_lib::write_tokens: good, prefix, memory, write, read.
+// Needs lines_lib::write_tokens: good, prefix, memory, write, read.
 pub fn fails_to_write<W: Write>(
     alloc: Global,
     lexer: &Lexer,
@@ -91,7 +91,7 @@ pub fn fails_to_write<W: Write>(
 }
 
 // The lines of a text with places.
-// Needs tokens_lib::write_tokens: written, boundary.
+// Needs lines_lib::write_tokens: written, boundary.
 pub fn lines_with_places<W: Write>(
     alloc: Global,
     lexer: &Lexer,

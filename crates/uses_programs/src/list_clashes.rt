@@ -1,6 +1,6 @@
 //! All clashes of some terminals.
 ghost use Rattle.std.specs.Prelude.{◌≡◌, ℕ, List, Option, false, true, IfOk};
-ghost use Rattle.tokens_lib.specs.ClashesShown.{WritesClashes, WritesClashesPrefix};
+ghost use Rattle.lines_lib.specs.ClashesShown.{WritesClashes, WritesClashesPrefix};
 
 use lexdfa_lib::{Outcome, RunError, Watched};
 use std::alloc::Global;
@@ -8,7 +8,7 @@ use std::io::Write;
 use tokens_lib::write_clashes;
 
 // The clashes of two lists of terminals, one after the other, and what each reports.
-// Needs tokens_lib::write_clashes: written, good, no_late_write.
+// Needs lines_lib::write_clashes: written, good, no_late_write.
 pub fn both_lists<W: Write>(
     alloc: Global,
     first: &[u8],
@@ -27,7 +27,7 @@ pub fn both_lists<W: Write>(
 }
 
 // Whether the writer has failed: then it has a prefix of the lines. Otherwise nothing is written or everything is.
-// Needs tokens_lib::write_clashes: good, nothing_written, write, prefix, read.
+// Needs lines_lib::write_clashes: good, nothing_written, write, prefix, read.
 pub fn fails_to_write<W: Write>(alloc: Global, rules: &[u8], writer: &mut Watched<W>) -> bool
     requires writer_good { writer.old.failed ≡ false }
     ensures failed { writer.new.failed ≡ result }

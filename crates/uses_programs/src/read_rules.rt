@@ -4,7 +4,7 @@ ghost use Rattle.std.specs.Process.{exit_status};
 ghost use Rattle.lalrpop_lexer.specs.Tree.{Tree};
 ghost use Rattle.lexdfa_lib.specs.Answer.{HaveAutomaton, IsReported};
 ghost use Rattle.tokens_lib.specs.Command.{IsCommand};
-ghost use Rattle.tokens_lib.specs.declared.building.BuildError.TheVariants.{OutOfMemory};
+ghost use Rattle.lines_lib.specs.declared.building.BuildError.TheVariants.{OutOfMemory};
 ghost use Rattle.tokens_lib.specs.declared.command.Command.{Command as Found};
 
 use lexdfa_lib::Outcome;
@@ -14,7 +14,7 @@ use std::rt::{Env, Files};
 use tokens_lib::{BuildError, Command, command_of, lexer_of, run_program};
 
 // How many terminals a file has.
-// Needs tokens_lib::lexer_of: automaton.
+// Needs lines_lib::lexer_of: automaton.
 pub fn terminal_count(alloc: Global, rules: &[u8]) -> Option<usize>
     ensures count { IfSome result (λ n. (ts : List Tree) × ((ps : List ℕ)
         × (HaveAutomaton rules.now ts ps × (n ≡ length ts)))) }
@@ -26,8 +26,8 @@ pub fn terminal_count(alloc: Global, rules: &[u8]) -> Option<usize>
 }
 
 // What rules report if they make no lexer.
-// Needs tokens_lib::lexer_of: error.
-// Needs tokens_lib::BuildError::from: ghost from_gives.
+// Needs lines_lib::lexer_of: error.
+// Needs lines_lib::BuildError::from: ghost from_gives.
 pub fn report_of(alloc: Global, rules: &[u8]) -> Result<Option<Outcome>, BuildError>
     ensures reported { IfOk result (λ found. IfSome found (λ outcome. IsReported rules.now outcome)) }
     ensures memory { IfErr result (λ e. e ≡ OutOfMemory) }

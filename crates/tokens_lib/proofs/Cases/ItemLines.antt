@@ -1,12 +1,15 @@
 -- Cases of specs/ItemLines.antt.
-use Rattle.std.proofs.Common.{◌≡◌, ℕ, List, [], ◌∷◌, Some, None, codes, refl, false}
+use Rattle.std.proofs.Common.{◌≡◌, ℕ, List, [], ◌∷◌, Option, Some, None, codes, refl, false}
 use Rattle.std.specs.Fmt.{digits}
 use Rattle.std.specs.Str.{chars}
+use Rattle.unicode.specs.Binary.{is_default_ignorable_code_point}
+use Rattle.unicode.specs.Rows.{in_ranges}
+use Rattle.ucd_derived.specs.DefaultIgnorableCodePointRanges.{default_ignorable_code_point_ranges}
 use Rattle.json.specs.Print.{print_from, escape_byte}
 use Rattle.lalrpop_lexer.specs.declared.position.Position.{Position}
 use Rattle.lalrpop_rules.specs.declared.item.Item.{Item}
 use Rattle.tokens_lib.specs.ItemLines.{plain_line, json_line, name_at, fault_line, first_fault}
-use Rattle.tokens_lib.specs.declared.layout.Layout.{Layout}
+use Rattle.tokens_lib.specs.declared.layout.LineForm.{LineForm}
 
 abbrev second : Position
 second = record { line = 1; column = 2 }
@@ -14,15 +17,15 @@ second = record { line = 1; column = 2 }
 -- ---- plain lines
 
 line_of_a_name : plain_line None second (Some (codes "N")) (codes "a") ≡ codes "1:2 N \"a\"\n"
-unfolding digits chars lib.Utf8.encode
+unfolding digits chars lib.Utf8.encode is_default_ignorable_code_point in_ranges default_ignorable_code_point_ranges
 line_of_a_name = refl
 
 line_with_a_file : plain_line (Some (codes "f")) second (Some (codes "N")) (codes "a") ≡ codes "f:1:2 N \"a\"\n"
-unfolding digits chars lib.Utf8.encode
+unfolding digits chars lib.Utf8.encode is_default_ignorable_code_point in_ranges default_ignorable_code_point_ranges
 line_with_a_file = refl
 
 line_of_a_fault : plain_line None second None (codes "a") ≡ codes "1:2 ! \"a\"\n"
-unfolding digits chars lib.Utf8.encode
+unfolding digits chars lib.Utf8.encode is_default_ignorable_code_point in_ranges default_ignorable_code_point_ranges
 line_of_a_fault = refl
 
 -- ---- lines of JSON
@@ -42,8 +45,8 @@ names : (name_at (codes "A" ∷ codes "B" ∷ []) 1 ≡ codes "B") × (name_at (
 names = (refl, refl)
 
 -- without recovering, a fault has no line
-fault_without_a_line : (layout : Layout) (text slice : List ℕ) (start : ℕ) → fault_line false layout text start slice ≡ []
-fault_without_a_line layout text slice start = refl
+fault_without_a_line : (form : LineForm) (file : Option (List ℕ)) (text slice : List ℕ) (start : ℕ) → fault_line false form file text start slice ≡ []
+fault_without_a_line form file text slice start = refl
 
 -- the first fault of some pieces
 first_faults : (x : Item) → first_fault (x ∷ []) ≡ first_fault (x ∷ [])

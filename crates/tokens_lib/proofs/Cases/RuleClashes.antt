@@ -1,6 +1,9 @@
 -- Cases of specs/RuleClashes.antt.
 use Rattle.std.proofs.Common.{◌≡◌, List, [], ◌∷◌, codes, refl}
 use Rattle.std.specs.Fmt.{digits}
+use Rattle.unicode.specs.Binary.{is_default_ignorable_code_point}
+use Rattle.unicode.specs.Rows.{in_ranges}
+use Rattle.ucd_derived.specs.DefaultIgnorableCodePointRanges.{default_ignorable_code_point_ranges}
 use Rattle.lalrpop_book.specs.Clashes.{Entry}
 use Rattle.lalrpop_rules.specs.declared.rule.Rule.{Rule}
 use Rattle.lalrpop_rules.specs.declared.error.RulesError.TheVariants.{OutOfMemory}
@@ -14,7 +17,7 @@ on_a_surrogate = record { match0 = 1; match1 = 0; word = 55296 ∷ [] }
 
 -- the earlier rule comes first
 line_of_if : named_line (codes "IF" ∷ codes "NAME" ∷ []) on_if ≡ codes "IF NAME \"if\"\n"
-unfolding lib.Utf8.encode
+unfolding lib.Utf8.encode is_default_ignorable_code_point in_ranges default_ignorable_code_point_ranges
 line_of_if = refl
 
 line_of_a_surrogate : named_line (codes "A" ∷ codes "B" ∷ []) on_a_surrogate ≡ codes "A B \"\\u{d800}\"\n"

@@ -6,7 +6,7 @@ use Rattle.lalrpop_rules.specs.declared.item.Item.{Item}
 use Rattle.tokens_lib.specs.Internal.Faults.{first_with}
 use Rattle.tokens_lib.proofs.ItemSending.{firsts_from_start, begins_from_start, one_more, all_given, place_of, first_boundary}
 use Rattle.tokens_lib.proofs.Pages.{found_last, none_found, none_more}
-use Rattle.tokens_lib.proofs.Sending.{boundary_of}
+use Rattle.lines_lib.proofs.Sending.{boundary_of}
 use Rattle.tokens_lib.proofs.page.first_fault_in.Goals as goal
 
 pub seeking-init : goal.seeking-init

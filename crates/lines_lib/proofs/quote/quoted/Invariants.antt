@@ -1,0 +1,7 @@
+use Rattle.std.proofs.Common.{◌≡◌, ◌++◌, string_bytes, codes, flat_map}
+use Rattle.lines_lib.specs.Quoted.{told}
+use Rattle.lines_lib.proofs.quote.quoted.Given as goal
+
+-- the quote and the characters so far
+abbrev pub invariant-loop-c : goal.invariant-loop-c
+invariant-loop-c l = string_bytes l.text ≡ codes "\"" ++ flat_map told l.yielded

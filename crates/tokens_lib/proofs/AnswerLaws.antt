@@ -1,0 +1,170 @@
+-- One answer after another.
+use Rattle.std.proofs.Common.{◌≡◌, ◌≢◌, ℕ, ◌+◌, ◌<◌, get_or, Bool, true, false, inl, inr, List, [], ◌∷◌, ◌++◌, length, take, map, refl, sym, ap, subst, ◌∙◌, append_assoc, arith, length-append}
+use Rattle.std.specs.Prelude.{max, Option, Some, None, Result, Ok, Err, IfOk, IfErr, OnOk, OnErr}
+use Rattle.std.specs.Io.KnownBytes.{Appends}
+use Rattle.std.proofs.lemmas.List.{append-nil, take-append-le, take_more, map-append}
+use Rattle.std.proofs.lemmas.Result.{IfOk-weaker}
+use Rattle.lexdfa_lib.proofs.Known.{Appends-again}
+use Rattle.lexdfa_lib.specs.Watch.{Watch, AppendsPrefix}
+use Rattle.lexdfa_lib.specs.declared.error.RunError.{RunError}
+use Rattle.tokens_lib.specs.Answer.{Answer, silence, followed, refusal, about, Reads, TextOf, FilesAnswer, TextsAnswer, Answered, Refused}
+use Rattle.tokens_lib.specs.Streams.{Given, TakesBy, Takes}
+use Rattle.lines_lib.proofs.Sending.{AppendsPrefix-behind}
+
+-- ---- answers
+
+abbrev answer_of : ℕ → List ℕ → List ℕ → Answer
+answer_of status out err = record { status = status; out = out; err = err }
+
+same_answer : (a b : Answer) → a.status ≡ b.status → a.out ≡ b.out → a.err ≡ b.err → a ≡ b
+same_answer a b s o e =
+    ap (λ (n : ℕ). answer_of n a.out a.err) s ∙ ap (λ (x : List ℕ). answer_of b.status x a.err) o ∙ ap (λ (x : List ℕ). answer_of b.status b.out x) e
+
+followed-assoc : (a b c : Answer) → followed (followed a b) c ≡ followed a (followed b c)
+followed-assoc a b c =
+    same_answer (followed (followed a b) c) (followed a (followed b c)) (omega arith) (append_assoc a.out b.out c.out) (append_assoc a.err b.err c.err)
+
+silence-followed : (a : Answer) → followed silence a ≡ followed a silence
+silence-followed a =
+    same_answer (followed silence a) (followed a silence) (omega arith) (sym (append-nil a.out)) (sym (append-nil a.err))
+
+-- the answer for one more file
+pub FilesAnswer-more : (Gives : List ℕ → Given → Type 0) (IsFor : List ℕ → List ℕ → Answer → Type 0) (files : List (List ℕ)) (file : List ℕ) (before own : Answer)
+    → FilesAnswer Gives IsFor files before → Reads Gives (TextOf IsFor) file own → FilesAnswer Gives IsFor (files ++ file ∷ []) (followed before own)
+FilesAnswer-more Gives IsFor [] file before own is reads =
+    (own, (silence, (reads, (refl, ap (λ (a : Answer). followed a own) is ∙ silence-followed own))))
+FilesAnswer-more Gives IsFor (first ∷ files) file before own (a, (b, (reads_first, (rest, e)))) reads =
+    (a, (followed b own, (reads_first, (FilesAnswer-more Gives IsFor files file b own rest reads, ap (λ (x : Answer). followed x own) e ∙ followed-assoc a b own))))
+
+-- there are files
+pub TextsAnswer-files : (Gives : List ℕ → Given → Type 0) (InputGives : Given → Type 0) (IsFor : List ℕ → List ℕ → Answer → Type 0) (files : List (List ℕ)) (answer : Answer)
+    → files ≢ [] → FilesAnswer Gives IsFor files answer → TextsAnswer Gives InputGives IsFor files answer
+TextsAnswer-files Gives InputGives IsFor [] answer some is = absurd (some refl)
+TextsAnswer-files Gives InputGives IsFor (file ∷ files) answer some is = is
+
+-- ---- streams
+
+pub Appends-none : (a : Option (List ℕ)) → Appends a a []
+Appends-none None = tt
+Appends-none (Some x) = sym (append-nil x)
+
+AppendsPrefix-then : (a b c : Option (List ℕ)) (xs ys : List ℕ) → AppendsPrefix a b xs → Appends b c [] → AppendsPrefix a c (xs ++ ys)
+AppendsPrefix-then a b c xs ys (n, le, h) k = (
+  n,
+  omega (arith, length-append xs ys, le),
+  subst (Appends a c) (append-nil (take n xs) ∙ sym (take-append-le n xs ys le)) (Appends-again a b c (take n xs) [] h k),
+)
+
+pub TakesBy-none : (f : Bool) (a : Option (List ℕ)) → TakesBy f f a a []
+TakesBy-none false a = Appends-none a
+TakesBy-none true a = Appends-none a
+
+pub TakesBy-again : (f g h : Bool) (a b c : Option (List ℕ)) (xs ys : List ℕ) → TakesBy f g a b xs → TakesBy g h b c ys → TakesBy f h a c (xs ++ ys)
+TakesBy-again false false false a b c xs ys x y = Appends-again a b c xs ys x y
+TakesBy-again false false true a b c xs ys x y =
+    subst (λ (l : List ℕ). AppendsPrefix a c (xs ++ l)) (append-nil ys) (AppendsPrefix-behind a b c xs ys [] x y)
+TakesBy-again false true false a b c xs ys x y = absurd y
+TakesBy-again false true true a b c xs ys x y = AppendsPrefix-then a b c xs ys x y
+TakesBy-again true false h a b c xs ys x y = absurd x
+TakesBy-again true true false a b c xs ys x y = absurd y
+TakesBy-again true true true a b c xs ys x y = Appends-again a b c [] [] x y
+
+-- what a stream that hasn't failed takes by one call
+pub taken : (r : Result (Unit {0}) RunError) (f g : Bool) (a b : Option (List ℕ)) (bytes message : List ℕ) → f ≡ false → bytes ≡ message
+    → OnOk r (Appends a b bytes) → OnOk r (g ≡ false) → OnErr r (AppendsPrefix a b bytes) → OnErr r (g ≡ true) → TakesBy f g a b message
+taken r f g a b bytes message was same ok good part bad =
+    subst (λ (m : List ℕ). TakesBy f g a b m) same (subst (λ (h : Bool). TakesBy h g a b bytes) (sym was) (by r ok good part bad))
+  where
+    by : (r : Result (Unit {0}) RunError) → OnOk r (Appends a b bytes) → OnOk r (g ≡ false) → OnErr r (AppendsPrefix a b bytes) → OnErr r (g ≡ true) → TakesBy false g a b bytes
+    by (Ok x) ok good part bad = subst (λ (h : Bool). TakesBy false h a b bytes) (sym good) ok
+    by (Err e) ok good part bad = subst (λ (h : Bool). TakesBy false h a b bytes) (sym bad) part
+
+-- it takes nothing if it has failed
+pub taken_before : (f : Bool) (a : Option (List ℕ)) (bytes : List ℕ) → f ≡ true → TakesBy f f a a bytes
+taken_before true a bytes was = Appends-none a
+taken_before false a bytes was = absurd (cc)
+
+-- ---- what is answered
+
+pub Answered-again : {W E : Type 0} (written : W → Option (List ℕ)) (said : E → Option (List ℕ)) (o1 o2 o3 : Watch W) (e1 e2 e3 : Watch E) (s t : ℕ) (a b : Answer)
+    → Answered written said o1 o2 e1 e2 s a → Answered written said o2 o3 e2 e3 t b → Answered written said o1 o3 e1 e3 (max s t) (followed a b)
+Answered-again written said o1 o2 o3 e1 e2 e3 s t a b (s_is, (o_is, e_is)) (t_is, (p_is, f_is)) = (
+  ap (λ (n : ℕ). max n t) s_is ∙ ap (λ (n : ℕ). max a.status n) t_is,
+  (
+    Appends-again (written o1.inner) (written o2.inner) (written o3.inner) a.out b.out o_is p_is,
+    TakesBy-again e1.failed e2.failed e3.failed (said e1.inner) (said e2.inner) (said e3.inner) a.err b.err e_is f_is,
+  ),
+)
+
+-- nothing is written or said
+pub Answered-nothing : {W E : Type 0} (written : W → Option (List ℕ)) (said : E → Option (List ℕ)) (o : Watch W) (e : Watch E) → Answered written said o o e e 0 silence
+Answered-nothing written said o e = (refl, (Appends-none (written o.inner), TakesBy-none e.failed (said e.inner)))
+
+-- only a message
+pub Answered-refusal : {W E : Type 0} (written : W → Option (List ℕ)) (said : E → Option (List ℕ)) (o : Watch W) (e f : Watch E) (status : ℕ) (message : List ℕ)
+    → Takes said e f message → Answered written said o o e f status (refusal status message)
+Answered-refusal written said o e f status message takes = (refl, (Appends-none (written o.inner), takes))
+
+-- what was refused is answered, since nothing is written
+pub Answered-refused : {W E : Type 0} (written : W → Option (List ℕ)) (said : E → Option (List ℕ)) (o : Watch W) (e f : Watch E) (status : ℕ) (answer : Answer)
+    → Refused said e f status answer → Answered written said o o e f status answer
+Answered-refused written said o e f status answer (s, (none, takes)) =
+    (s, (subst (λ (bytes : List ℕ). Appends (written o.inner) (written o.inner) bytes) (sym none) (Appends-none (written o.inner)), takes))
+
+pub ok_and : {A E : Type 0} (r : Result A E) (P Q : A → Type 0) → IfOk r P → IfOk r Q → IfOk r (λ x. P x × Q x)
+ok_and (Ok x) P Q p q = (p, q)
+ok_and (Err e) P Q p q = tt
+
+-- ---- files
+
+-- a file gave no bytes
+pub none_read : {E : Type 0} (Gives : List ℕ → Given → Type 0) (IsFor : List ℕ → List ℕ → Answer → Type 0) (file : List ℕ) (said : E → Option (List ℕ)) (e f : Watch E)
+    → (reason : List ℕ) × (Gives file (Err reason) × Takes said e f (about file reason))
+    → (answer : Answer) × (Reads Gives IsFor file answer × Refused said e f 6 answer)
+none_read Gives IsFor file said e f (reason, (gives, takes)) = (refusal 6 (about file reason), (inl (reason, (gives, refl)), (refl, (refl, takes))))
+
+pub none_answered : {W E : Type 0} (Gives : List ℕ → Given → Type 0) (IsFor : List ℕ → List ℕ → Answer → Type 0) (file : List ℕ) (written : W → Option (List ℕ)) (said : E → Option (List ℕ))
+    (o : Watch W) (e f : Watch E) → (reason : List ℕ) × (Gives file (Err reason) × Takes said e f (about file reason))
+    → (answer : Answer) × (Reads Gives IsFor file answer × Answered written said o o e f 6 answer)
+none_answered Gives IsFor file written said o e f (reason, (gives, takes)) =
+    (refusal 6 (about file reason), (inl (reason, (gives, refl)), Answered-refusal written said o e f 6 (about file reason) takes))
+
+-- a file gave bytes, with this answer
+pub some_answered : {W E : Type 0} (r : Result ℕ RunError) (Gives : List ℕ → Given → Type 0) (IsFor : List ℕ → List ℕ → Answer → Type 0) (file bytes slice : List ℕ) (written : W → Option (List ℕ))
+    (said : E → Option (List ℕ)) (o p : Watch W) (e m f : Watch E) → Gives file (Ok bytes) → slice ≡ bytes → m ≡ e
+    → IfOk r (λ status. (answer : Answer) × (IsFor file slice answer × Answered written said o p m f status answer))
+    → IfOk r (λ status. (answer : Answer) × (Reads Gives IsFor file answer × Answered written said o p e f status answer))
+some_answered {W} {E} r Gives IsFor file bytes slice written said o p e m f gives same quiet h =
+    IfOk-weaker r _ _
+    (λ status x. (
+      x.0,
+      (
+        inr (bytes, (gives, subst (λ (b : List ℕ). IsFor file b x.0) same x.1.0)),
+        subst (λ (w : Watch E). Answered written said o p w f status x.0) quiet x.1.1,
+      ),
+    ))
+    h
+
+-- one more of the files
+pub files_more : {T : Type 0} (Gives : List ℕ → Given → Type 0) (IsFor : List ℕ → List ℕ → Answer → Type 0) (text : T → List ℕ) (names : List T) (i : ℕ) (d : T) (file : List ℕ)
+    (before own : Answer) → i < length names → file ≡ text (get_or names i d) → FilesAnswer Gives IsFor (map text (take i names)) before
+    → Reads Gives (TextOf IsFor) file own → FilesAnswer Gives IsFor (map text (take (i + 1) names)) (followed before own)
+files_more Gives IsFor text names i d file before own within is files reads =
+    rw (take_more names i d within, map-append)
+    (FilesAnswer-more Gives IsFor (map text (take i names)) (text (get_or names i d)) before own files
+    (subst (λ (f : List ℕ). Reads Gives (TextOf IsFor) f own) is reads))
+
+-- a file gave bytes, for which this was refused
+pub some_refused : {L E : Type 0} (r : Result (Result L ℕ) RunError) (Gives : List ℕ → Given → Type 0) (IsFor : List ℕ → List ℕ → Answer → Type 0) (file bytes slice : List ℕ)
+    (said : E → Option (List ℕ)) (e m f : Watch E) → Gives file (Ok bytes) → slice ≡ bytes → m ≡ e
+    → IfOk r (λ found. IfErr found (λ status. (answer : Answer) × (IsFor file slice answer × Refused said m f status answer)))
+    → IfOk r (λ found. IfErr found (λ status. (answer : Answer) × (Reads Gives IsFor file answer × Refused said e f status answer)))
+some_refused (Err x) Gives IsFor file bytes slice said e m f gives same quiet h = tt
+some_refused (Ok (Ok x)) Gives IsFor file bytes slice said e m f gives same quiet h = tt
+some_refused {L} {E} (Ok (Err status)) Gives IsFor file bytes slice said e m f gives same quiet (answer, (is, refused)) = (
+  answer,
+  (
+    inr (bytes, (gives, subst (λ (b : List ℕ). IsFor file b answer) same is)),
+    subst (λ (w : Watch E). Refused said w f status answer) quiet refused,
+  ),
+)

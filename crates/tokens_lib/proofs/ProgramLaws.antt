@@ -1,0 +1,62 @@
+-- The answer by the lexer of a file of rules.
+use Rattle.std.proofs.Common.{◌≡◌, ℕ, ◌≤◌, inl, inr, List, subst, arith}
+use Rattle.std.specs.Prelude.{Option, Result, Ok, IfOk}
+use Rattle.std.proofs.lemmas.Result.{IfOk-weaker}
+use Rattle.lalrpop_book.specs.Tree.{Tree}
+use Rattle.lalrpop_rules.specs.RuleSet.{RuleSet}
+use Rattle.lexdfa_lib.specs.Answer.{HaveAutomaton}
+use Rattle.lexdfa_lib.specs.Watch.{Watch}
+use Rattle.lexdfa_lib.specs.declared.error.RunError.{RunError}
+use Rattle.tokens_lib.specs.Answer.{Answer, Reads, Answered}
+use Rattle.tokens_lib.specs.Program.{AreRulesOf, RulesOf, RulesRefused, LexerOf, TerminalsRefused, TerminalsOf}
+use Rattle.tokens_lib.specs.Streams.{Given}
+
+pub by_lexer : (Gives : List ℕ → Given → Type 0) (IsFor : RuleSet → Answer → Type 0) (rules : List ℕ) (set : RuleSet) (answer : Answer)
+    → (bytes : List ℕ) × (Gives rules (Ok bytes) × AreRulesOf bytes set) → IsFor set answer → Reads Gives (RulesOf (LexerOf IsFor)) rules answer
+by_lexer Gives IsFor rules set answer (bytes, (gives, (rs, (are, is)))) done = inr (bytes, (gives, inr (rs, (are, inr (set, (is, done))))))
+
+pub rules_refused : (Gives : List ℕ → Given → Type 0) (IsFor : RuleSet → Answer → Type 0) (rules : List ℕ) (answer : Answer)
+    → Reads Gives (RulesOf RulesRefused) rules answer → Reads Gives (RulesOf (LexerOf IsFor)) rules answer
+rules_refused Gives IsFor rules answer (inl none) = inl none
+rules_refused Gives IsFor rules answer (inr (bytes, (gives, inl bad))) = inr (bytes, (gives, inl bad))
+rules_refused Gives IsFor rules answer (inr (bytes, (gives, inr (rs, (are, refused))))) = inr (bytes, (gives, inr (rs, (are, inl refused))))
+
+pub by_terminals : (Gives : List ℕ → Given → Type 0) (IsFor : List Tree → List ℕ → Answer → Type 0) (rules : List ℕ) (ts : List Tree) (ps : List ℕ) (answer : Answer)
+    → (bytes : List ℕ) × (Gives rules (Ok bytes) × HaveAutomaton bytes ts ps) → IsFor ts ps answer → Reads Gives (TerminalsOf IsFor) rules answer
+by_terminals Gives IsFor rules ts ps answer (bytes, (gives, have)) done = inr (bytes, (gives, inr (ts, (ps, (have, done)))))
+
+pub terminals_refused : (Gives : List ℕ → Given → Type 0) (IsFor : List Tree → List ℕ → Answer → Type 0) (rules : List ℕ) (answer : Answer)
+    → Reads Gives TerminalsRefused rules answer → Reads Gives (TerminalsOf IsFor) rules answer
+terminals_refused Gives IsFor rules answer (inl none) = inl none
+terminals_refused Gives IsFor rules answer (inr (bytes, (gives, refused))) = inr (bytes, (gives, inl refused))
+
+-- the answer of the lexer of named rules was given
+pub lexer_answered : {W E : Type 0} (r : Result ℕ RunError) (Gives : List ℕ → Given → Type 0) (IsFor : RuleSet → Answer → Type 0) (rules : List ℕ) (set : RuleSet)
+    (written : W → Option (List ℕ)) (said : E → Option (List ℕ)) (o p : Watch W) (e m f : Watch E)
+    → (bytes : List ℕ) × (Gives rules (Ok bytes) × AreRulesOf bytes set) → m ≡ e
+    → IfOk r (λ status. (answer : Answer) × (IsFor set answer × Answered written said o p m f status answer))
+    → IfOk r (λ status. (answer : Answer) × (Reads Gives (RulesOf (LexerOf IsFor)) rules answer × Answered written said o p e f status answer))
+lexer_answered {W} {E} r Gives IsFor rules set written said o p e m f are quiet h =
+    IfOk-weaker r _ _
+    (λ status x. (
+      x.0,
+      (by_lexer Gives IsFor rules set x.0 are x.1.0, subst (λ (w : Watch E). Answered written said o p w f status x.0) quiet x.1.1),
+    ))
+    h
+
+-- of the lexer of terminals
+pub terminals_answered : {W E : Type 0} (r : Result ℕ RunError) (Gives : List ℕ → Given → Type 0) (IsFor : List Tree → List ℕ → Answer → Type 0) (rules : List ℕ) (ts : List Tree) (ps : List ℕ)
+    (written : W → Option (List ℕ)) (said : E → Option (List ℕ)) (o p : Watch W) (e m f : Watch E)
+    → (bytes : List ℕ) × (Gives rules (Ok bytes) × HaveAutomaton bytes ts ps) → m ≡ e
+    → IfOk r (λ status. (answer : Answer) × (IsFor ts ps answer × Answered written said o p m f status answer))
+    → IfOk r (λ status. (answer : Answer) × (Reads Gives (TerminalsOf IsFor) rules answer × Answered written said o p e f status answer))
+terminals_answered {W} {E} r Gives IsFor rules ts ps written said o p e m f are quiet h =
+    IfOk-weaker r _ _
+    (λ status x. (
+      x.0,
+      (by_terminals Gives IsFor rules ts ps x.0 are x.1.0, subst (λ (w : Watch E). Answered written said o p w f status x.0) quiet x.1.1),
+    ))
+    h
+
+pub low_after : (value status : ℕ) (answer : Answer) → value ≡ status → status ≡ answer.status → answer.status ≤ 6 → value ≤ 6
+low_after value status answer same is low = omega arith

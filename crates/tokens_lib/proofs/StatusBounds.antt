@@ -1,0 +1,136 @@
+-- No status is above 6.
+use Rattle.std.proofs.Common.{◌≡◌, ℕ, ◌≤◌, inl, inr, List, [], ◌∷◌, ap, arith}
+use Rattle.std.specs.Prelude.{nat_lt, length, map, string_bytes, Bool, Option, Some, None, codes}
+use Rattle.lalrpop_book.specs.Clashes.{Entry}
+use Rattle.lalrpop_book.specs.Tree.{Tree}
+use Rattle.lalrpop_rules.specs.RuleSet.{RuleSet}
+use Rattle.lalrpop_rules.specs.declared.error.RulesError.{RulesError}
+use Rattle.lalrpop_rules.specs.declared.error.RulesError.TheVariants as errors
+use Rattle.lalrpop_rules.specs.declared.rule.Rule.{Rule}
+use Rattle.lexdfa_lib.specs.Status.{outcome_status}
+use Rattle.lexdfa_lib.specs.declared.outcome.Outcome.{Outcome}
+use Rattle.lexdfa_lib.specs.declared.outcome.Outcome.TheVariants as outcomes
+use Rattle.tokens_lib.specs.Answer.{Answer, Reads, TextOf, FilesAnswer, TextsAnswer}
+use Rattle.tokens_lib.specs.Program.{rules_status, RulesOf, LexerOf, clashes_status, ClashesAnswer, TerminalsOf, reported_status, TerminalClashesAnswer, CommandAnswer}
+use Rattle.tokens_lib.specs.Streams.{Given}
+use Rattle.tokens_lib.specs.TextAnswer.{fault_status, TokensAnswer, PiecesAnswer, PageAnswer}
+use Rattle.tokens_lib.specs.declared.command.Command.{Command}
+use Rattle.tokens_lib.specs.declared.command.Markup.{Markup}
+use Rattle.tokens_lib.specs.declared.layout.LineForm.{LineForm}
+use Rattle.tokens_lib.specs.declared.command.Command.TheVariants.{Cut, Show, Clashes, CutByTerminals, TerminalClashes}
+
+abbrev IsLow : Answer → Type 0
+IsLow answer = answer.status ≤ 6
+
+low : (a b : Answer) → a ≡ b → b.status ≤ 6 → IsLow a
+low a b e l = let s : a.status ≡ b.status = ap (λ (x : Answer). x.status) e in omega arith
+
+fault_low : (fault : Option ℕ) → fault_status fault ≤ 6
+fault_low None = omega arith
+fault_low (Some at) = omega arith
+
+rules_low : (error : RulesError) → rules_status error ≤ 6
+rules_low (errors.NotParsed i position kind) = omega arith
+rules_low (errors.NotCompiled i e) = omega arith
+rules_low (errors.Clash i j w) = omega arith
+rules_low errors.OutOfMemory = omega arith
+
+outcome_low : (outcome : Outcome) → outcome_status outcome ≤ 6
+outcome_low (outcomes.Match i n) = omega arith
+outcome_low outcomes.NoMatch = omega arith
+outcome_low (outcomes.All n) = omega arith
+outcome_low (outcomes.Stopped n at) = omega arith
+outcome_low (outcomes.Refused i e) = omega arith
+outcome_low (outcomes.Ambiguous i j w) = omega arith
+outcome_low (outcomes.Syntax i) = omega arith
+outcome_low (outcomes.Line i) = omega arith
+
+reads_low : (Gives : List ℕ → Given → Type 0) (IsFor : List ℕ → List ℕ → Answer → Type 0) (file : List ℕ) (answer : Answer)
+    → ((bytes : List ℕ) (a : Answer) → IsFor file bytes a → IsLow a) → Reads Gives IsFor file answer → IsLow answer
+reads_low Gives IsFor file answer each (inl (reason, (gives, e))) = low answer _ e (omega arith)
+reads_low Gives IsFor file answer each (inr (bytes, (gives, is))) = each bytes answer is
+
+text_low : (IsFor : List ℕ → List ℕ → Answer → Type 0) (file bytes : List ℕ) (answer : Answer)
+    → ((name text : List ℕ) (a : Answer) → IsFor name text a → IsLow a) → TextOf IsFor file bytes answer → IsLow answer
+text_low IsFor file bytes answer each (inl (error, (lacks, e))) = low answer _ e (omega arith)
+text_low IsFor file bytes answer each (inr (some, (utf8, is))) = each file bytes answer is
+
+file_low : (Gives : List ℕ → Given → Type 0) (IsFor : List ℕ → List ℕ → Answer → Type 0) (file : List ℕ) (answer : Answer)
+    → ((name text : List ℕ) (a : Answer) → IsFor name text a → IsLow a) → Reads Gives (TextOf IsFor) file answer → IsLow answer
+file_low Gives IsFor file answer each reads = reads_low Gives (TextOf IsFor) file answer (λ bytes a is. text_low IsFor file bytes a each is) reads
+
+files_low : (Gives : List ℕ → Given → Type 0) (IsFor : List ℕ → List ℕ → Answer → Type 0) (files : List (List ℕ)) (answer : Answer)
+    → ((name text : List ℕ) (a : Answer) → IsFor name text a → IsLow a) → FilesAnswer Gives IsFor files answer → IsLow answer
+files_low Gives IsFor [] answer each e = low answer _ e (omega arith)
+files_low Gives IsFor (file ∷ files) answer each (own, (rest, (reads, (others, e)))) =
+    let a : IsLow own = file_low Gives IsFor file own each reads in
+    let b : IsLow rest = files_low Gives IsFor files rest each others in
+    low answer _ e (omega arith)
+
+texts_low : (Gives : List ℕ → Given → Type 0) (InputGives : Given → Type 0) (IsFor : List ℕ → List ℕ → Answer → Type 0) (files : List (List ℕ)) (answer : Answer)
+    → ((name text : List ℕ) (a : Answer) → IsFor name text a → IsLow a) → TextsAnswer Gives InputGives IsFor files answer → IsLow answer
+texts_low Gives InputGives IsFor [] answer each reads =
+    reads_low (λ file. InputGives) (TextOf IsFor) (codes "<stdin>") answer (λ bytes a is. text_low IsFor (codes "<stdin>") bytes a each is) reads
+texts_low Gives InputGives IsFor (file ∷ files) answer each is = files_low Gives IsFor (file ∷ files) answer each is
+
+rules_of_low : (IsFor : List ℕ → List Rule → Answer → Type 0) (file bytes : List ℕ) (answer : Answer)
+    → ((rs : List Rule) (a : Answer) → IsFor file rs a → IsLow a) → RulesOf IsFor file bytes answer → IsLow answer
+rules_of_low IsFor file bytes answer each (inl (error, (is, (known, (rest, e))))) = low answer _ e (omega arith)
+rules_of_low IsFor file bytes answer each (inr (rs, (are, is))) = each rs answer is
+
+lexer_low : (IsFor : RuleSet → Answer → Type 0) (file : List ℕ) (rs : List Rule) (answer : Answer)
+    → ((set : RuleSet) (a : Answer) → IsFor set a → IsLow a) → LexerOf IsFor file rs answer → IsLow answer
+lexer_low IsFor file rs answer each (inl (error, (is, (known, (rest, e))))) = low answer _ e (rules_low error)
+lexer_low IsFor file rs answer each (inr (set, (is, done))) = each set answer done
+
+by_rules_low : (Gives : List ℕ → Given → Type 0) (IsFor : RuleSet → Answer → Type 0) (rules : List ℕ) (answer : Answer)
+    → ((set : RuleSet) (a : Answer) → IsFor set a → IsLow a) → Reads Gives (RulesOf (LexerOf IsFor)) rules answer → IsLow answer
+by_rules_low Gives IsFor rules answer each reads =
+    reads_low Gives (RulesOf (LexerOf IsFor)) rules answer (λ bytes a is. rules_of_low (LexerOf IsFor) rules bytes a (λ rs b said. lexer_low IsFor rules rs b each said) is) reads
+
+clashes_low : (cs : List Entry) → clashes_status cs ≤ 6
+clashes_low [] = omega arith
+clashes_low (c ∷ cs) = omega arith
+
+list_low : (file : List ℕ) (rs : List Rule) (answer : Answer) → ClashesAnswer file rs answer → IsLow answer
+list_low file rs answer (inl (error, (is, (known, (rest, e))))) = low answer _ e (rules_low error)
+list_low file rs answer (inr (cs, (are, e))) = low answer _ e (clashes_low cs)
+
+terminals_low : (IsFor : List Tree → List ℕ → Answer → Type 0) (file bytes : List ℕ) (answer : Answer)
+    → ((ts : List Tree) (ps : List ℕ) (a : Answer) → IsFor ts ps a → IsLow a) → TerminalsOf IsFor file bytes answer → IsLow answer
+terminals_low IsFor file bytes answer each (inl (outcome, (is, (rest, e)))) = low answer _ e (outcome_low outcome)
+terminals_low IsFor file bytes answer each (inr (ts, (ps, (have, is)))) = each ts ps answer is
+
+reported_low : (reported : Option Outcome) → reported_status reported ≤ 6
+reported_low None = omega arith
+reported_low (Some outcome) = outcome_low outcome
+
+terminal_list_low : (file bytes : List ℕ) (answer : Answer) → TerminalClashesAnswer file bytes answer → IsLow answer
+terminal_list_low file bytes answer (reported, (are, (e, said))) = let l = reported_low reported in omega (arith, e, l)
+
+tokens_low : (ts : List Tree) (ps : List ℕ) (places : Bool) (name text : List ℕ) (answer : Answer) → TokensAnswer ts ps places name text answer → IsLow answer
+tokens_low ts ps places name text answer (xs, (are, e)) = low answer _ e (fault_low _)
+
+pieces_low : (set : RuleSet) (form : LineForm) (recovers several : Bool) (name text : List ℕ) (answer : Answer) → PiecesAnswer set form recovers several name text answer → IsLow answer
+pieces_low set form recovers several name text answer (xs, (are, e)) = low answer _ e (fault_low _)
+
+page_low : (set : RuleSet) (markup : Markup) (name text : List ℕ) (answer : Answer) → PageAnswer set markup name text answer → IsLow answer
+page_low set markup name text answer (xs, (are, e)) = low answer _ e (fault_low _)
+
+pub command_low : (Gives : List ℕ → Given → Type 0) (InputGives : Given → Type 0) (command : Command) (answer : Answer) → CommandAnswer Gives InputGives command answer → IsLow answer
+command_low Gives InputGives (Cut form recovers rules files) answer is =
+    let names : List (List ℕ) = map string_bytes files.now in
+    by_rules_low Gives (λ set. TextsAnswer Gives InputGives (PiecesAnswer set form recovers (nat_lt 1 (length files.now))) names) rules.now answer
+    (λ set a texts. texts_low Gives InputGives (PiecesAnswer set form recovers (nat_lt 1 (length files.now))) names a (pieces_low set form recovers (nat_lt 1 (length files.now))) texts) is
+command_low Gives InputGives (Show markup rules files) answer is =
+    let names : List (List ℕ) = map string_bytes files.now in
+    by_rules_low Gives (λ set. TextsAnswer Gives InputGives (PageAnswer set markup) names) rules.now answer
+    (λ set a texts. texts_low Gives InputGives (PageAnswer set markup) names a (page_low set markup) texts) is
+command_low Gives InputGives (Clashes rules) answer is =
+    reads_low Gives (RulesOf ClashesAnswer) rules.now answer (λ bytes a said. rules_of_low ClashesAnswer rules.now bytes a (list_low rules.now) said) is
+command_low Gives InputGives (CutByTerminals places rules files) answer is =
+    let names : List (List ℕ) = map string_bytes files.now in
+    let IsFor : List Tree → List ℕ → Answer → Type 0 = λ ts ps. TextsAnswer Gives InputGives (TokensAnswer ts ps places) names in
+    reads_low Gives (TerminalsOf IsFor) rules.now answer
+    (λ bytes a said. terminals_low IsFor rules.now bytes a (λ ts ps b texts. texts_low Gives InputGives (TokensAnswer ts ps places) names b (tokens_low ts ps places) texts) said) is
+command_low Gives InputGives (TerminalClashes rules) answer is = reads_low Gives TerminalClashesAnswer rules.now answer (terminal_list_low rules.now) is

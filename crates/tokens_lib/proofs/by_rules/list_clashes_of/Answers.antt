@@ -1,0 +1,38 @@
+use Rattle.std.proofs.Common.{[], inl, inr, flat_map, refl}
+use Rattle.std.proofs.lemmas.Result.{IfOk-weaker}
+use Rattle.lalrpop_rules.specs.RuleSet.{names_of}
+use Rattle.tokens_lib.specs.Answer.{headed, refusal}
+use Rattle.tokens_lib.specs.Program.{rules_status, clashes_status}
+use Rattle.tokens_lib.specs.RuleClashes.{named_line}
+use Rattle.tokens_lib.proofs.AnswerLaws.{Answered-refused, TakesBy-none, ok_and}
+use Rattle.tokens_lib.proofs.by_rules.list_clashes_of.Goals as goal
+
+pub returns-in-Err-clause-answer : goal.returns-in-Err-clause-answer
+returns-in-Err-clause-answer g c =
+    let e = c.report_rules.ensures in
+    let fault = rw c.deref.ensures.value at c.in-Err.ensures.error in
+    IfOk-weaker c.report_rules.result _ _
+    (λ status x. (
+      refusal (rules_status c.in-Err.error) (headed c.args.name.now x.1.1.0),
+      (
+        inl (c.in-Err.error, (fault, (x.1.0, (x.1.1.0, refl)))),
+        Answered-refused g.W.Write.contents g.E.Write.contents c.args.out.now c.args.err.now c.report_rules.new.err status (refusal (rules_status c.in-Err.error) (headed c.args.name.now x.1.1.0)) (x.0, (refl, x.1.1.1)),
+      ),
+    ))
+    (ok_and c.report_rules.result _ _ e.status (ok_and c.report_rules.result _ _ e.known e.said))
+
+pub returns-clause-answer : goal.returns-clause-answer
+returns-clause-answer g c =
+    let found = c.in-Ok.found.items in (
+      record { status = clashes_status found; out = flat_map (named_line (names_of c.args.file.now.rules.items)) found; err = [] },
+      (
+        inr (found, (rw c.deref.ensures.value at c.in-Ok.ensures.clashes, refl)),
+        (
+          rw c.deref-4.ensures.value at c.clashes_status.ensures,
+          (
+            rw (c.deref-2.ensures.value, c.deref-3.ensures.value) at c.in_ok-write_rule_clashes.ensures.written,
+            TakesBy-none c.args.err.now.failed (g.E.Write.contents c.args.err.now.inner),
+          ),
+        ),
+      ),
+    )

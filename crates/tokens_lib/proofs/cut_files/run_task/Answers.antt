@@ -1,0 +1,21 @@
+use Rattle.tokens_lib.proofs.TextAnswers.{tokens_done, pieces_done, page_done}
+use Rattle.tokens_lib.proofs.cut_files.run_task.Goals as goal
+
+pub returns-in_ok-outcome-in-Tokens-clause-done : goal.returns-in_ok-outcome-in-Tokens-clause-done
+returns-in_ok-outcome-in-Tokens-clause-done g c =
+    let lexer = c.in-Tokens.lexer.now in
+    rw c.in-Tokens.is
+    (tokens_done lexer.trees lexer.precedences c.in-Tokens.places c.args.name c.args.text.now _ _ c.in_ok-outcome-in-Tokens.outcome c.tokens_ending.result
+    (rw c.then_some.ensures at c.in_ok-outcome-in-Tokens.ensures.written) c.tokens_ending.ensures)
+
+pub returns-in_ok-fault-in-Pieces-clause-done : goal.returns-in_ok-fault-in-Pieces-clause-done
+returns-in_ok-fault-in-Pieces-clause-done g c =
+    rw c.in-Pieces.is
+    (pieces_done c.in-Pieces.lexer.now c.in-Pieces.form c.in-Pieces.recovers c.in-Pieces.several c.args.name c.args.text.now _ _ c.in_ok-fault-in-Pieces.fault c.pieces_ending.result
+    (rw c.then_some-in-Pieces.ensures at c.in_ok-fault-in-Pieces.ensures.written) c.pieces_ending.ensures)
+
+pub returns-in_ok-fault-in-Markup-clause-done : goal.returns-in_ok-fault-in-Markup-clause-done
+returns-in_ok-fault-in-Markup-clause-done g c =
+    rw c.in-Markup.is
+    (page_done c.in-Markup.lexer.now c.in-Markup.markup c.args.name c.args.text.now _ _ c.in_ok-fault-in-Markup.fault c.pieces_ending-in-Markup.result
+    c.in_ok-fault-in-Markup.ensures.written c.pieces_ending-in-Markup.ensures)

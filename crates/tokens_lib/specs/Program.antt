@@ -1,0 +1,122 @@
+-- cases: proofs/Cases/Program.antt
+-- The answer of the whole program, for its arguments, what the files give and what standard input gives.
+use Rattle.std.specs.Prelude.{◌≡◌, ◌≢◌, ℕ, ◌⊎◌, nat_lt, List, [], ◌∷◌, length, map, flat_map, string_bytes, Option, Some, None, codes}
+use Rattle.lalrpop_book.specs.Clash.{NoClash}
+use Rattle.lalrpop_book.specs.Clashes.{Entry}
+use Rattle.lalrpop_book.specs.Report.{NoFault}
+use Rattle.lalrpop_book.specs.Tree.{Tree}
+use Rattle.lalrpop_lexer.specs.Lines.{lines}
+use Rattle.lalrpop_rules.specs.RuleFile.{AreRules, IsRuleFileError, without_mark}
+use Rattle.lalrpop_rules.specs.RuleSet.{RuleSet, AreTrees, IsRulesError, names_of, precedences_of, skips_of}
+use Rattle.lalrpop_rules.specs.declared.error.RulesError.{RulesError}
+use Rattle.lalrpop_rules.specs.declared.error.RulesError.TheVariants as rules_errors
+use Rattle.lalrpop_rules.specs.declared.rule.Rule.{Rule}
+use Rattle.lalrpop_rules.specs.declared.rule_file.error.RuleFileError.{RuleFileError}
+use Rattle.lalrpop_rules.specs.declared.rule_file.error.RuleFileError.TheVariants as file_errors
+use Rattle.lexdfa_lib.specs.Answer.{HaveAutomaton, IsReported}
+use Rattle.lexdfa_lib.specs.Status.{outcome_status}
+use Rattle.lexdfa_lib.specs.declared.outcome.Outcome.{Outcome}
+use Rattle.lexdfa_lib.specs.declared.outcome.Outcome.TheVariants.{Ambiguous}
+use Rattle.tokens_lib.specs.Answer.{Answer, refusal, headed, IsRefusal, Reads, TextsAnswer}
+use Rattle.lines_lib.specs.ClashesShown.{AreClashesShown}
+use Rattle.tokens_lib.specs.Command.{IsCommand}
+use Rattle.tokens_lib.specs.RuleClashes.{AreRuleClashes, IsRuleFault, named_line}
+use Rattle.tokens_lib.specs.Streams.{Given}
+use Rattle.tokens_lib.specs.TextAnswer.{TokensAnswer, PiecesAnswer, PageAnswer}
+use Rattle.tokens_lib.specs.declared.command.Command.{Command}
+use Rattle.tokens_lib.specs.declared.command.Command.TheVariants.{Cut, Show, Clashes, CutByTerminals, TerminalClashes}
+
+-- ---- named rules
+
+-- what the lexer of these rules knows
+pub record IsSetOf (rs : List Rule) (set : RuleSet) : Type 0 where
+  pub names : set.names ≡ names_of rs
+  pub trees : AreTrees rs set.trees
+  pub precedences : set.precedences ≡ precedences_of rs
+  pub skips : set.skips ≡ skips_of rs
+  pub no_fault : NoFault set.trees
+  pub no_clash : NoClash set.trees set.precedences
+
+-- the bytes are rules, and this is what their lexer knows
+abbrev pub AreRulesOf : List ℕ → RuleSet → Type 0
+AreRulesOf bytes set = (rs : List Rule) × (AreRules (lines (without_mark bytes)) rs × IsSetOf rs set)
+
+-- 3 if a pattern doesn't parse, 2 if a rule can't be compiled or two clash
+abbrev pub rules_status : RulesError → ℕ
+rules_status (rules_errors.NotParsed i position kind) = 3
+rules_status error = 2
+
+-- the bytes have a bad line; or they are rules with this answer
+abbrev pub RulesOf : (List ℕ → List Rule → Answer → Type 0) → List ℕ → List ℕ → Answer → Type 0
+RulesOf IsFor file bytes answer =
+    ((error : RuleFileError) × (IsRuleFileError (without_mark bytes) error × ((error ≢ file_errors.OutOfMemory) × IsRefusal 3 file answer)))
+    ⊎ ((rs : List Rule) × (AreRules (lines (without_mark bytes)) rs × IsFor file rs answer))
+
+-- these rules make no lexer
+abbrev pub RulesRefused : List ℕ → List Rule → Answer → Type 0
+RulesRefused file rs answer =
+    (error : RulesError) × (IsRulesError rs error × ((error ≢ rules_errors.OutOfMemory) × IsRefusal (rules_status error) file answer))
+
+-- they don't, or their lexer has this answer
+abbrev pub LexerOf : (RuleSet → Answer → Type 0) → List ℕ → List Rule → Answer → Type 0
+LexerOf IsFor file rs answer = RulesRefused file rs answer ⊎ ((set : RuleSet) × (IsSetOf rs set × IsFor set answer))
+
+-- 2 if there are clashes
+abbrev pub clashes_status : List Entry → ℕ
+clashes_status [] = 0
+clashes_status (c ∷ cs) = 2
+
+-- the clashes of these rules, with a line for each; or a rule has no tree or can't be compiled
+abbrev pub ClashesAnswer : List ℕ → List Rule → Answer → Type 0
+ClashesAnswer file rs answer =
+    ((error : RulesError) × (IsRuleFault rs error × ((error ≢ rules_errors.OutOfMemory) × IsRefusal (rules_status error) file answer)))
+    ⊎ ((cs : List Entry) × (AreRuleClashes rs cs × (answer ≡ record { status = clashes_status cs; out = flat_map (named_line (names_of rs)) cs; err = [] })))
+
+-- ---- terminals
+
+-- the lines of these bytes make no lexer
+abbrev pub TerminalsRefused : List ℕ → List ℕ → Answer → Type 0
+TerminalsRefused file bytes answer = (outcome : Outcome) × (IsReported bytes outcome × IsRefusal (outcome_status outcome) file answer)
+
+-- they don't, or the lexer of their terminals has this answer
+abbrev pub TerminalsOf : (List Tree → List ℕ → Answer → Type 0) → List ℕ → List ℕ → Answer → Type 0
+TerminalsOf IsFor file bytes answer =
+    TerminalsRefused file bytes answer ⊎ ((ts : List Tree) × ((ps : List ℕ) × (HaveAutomaton bytes ts ps × IsFor ts ps answer)))
+
+-- the status for a list of clashes, by what is reported; the list of clashes says all, other reports are explained
+abbrev pub reported_status : Option Outcome → ℕ
+reported_status None = 0
+reported_status (Some outcome) = outcome_status outcome
+
+abbrev pub IsListing : List ℕ → Option Outcome → List ℕ → Type 0
+IsListing file None said = said ≡ []
+IsListing file (Some (Ambiguous i j word)) said = said ≡ []
+IsListing file (Some outcome) said = (rest : List ℕ) × (said ≡ headed file rest)
+
+abbrev pub TerminalClashesAnswer : List ℕ → List ℕ → Answer → Type 0
+TerminalClashesAnswer file bytes answer =
+    (reported : Option Outcome) × (AreClashesShown bytes answer.out reported × ((answer.status ≡ reported_status reported) × IsListing file reported answer.err))
+
+-- ---- the program
+
+-- the answer for a command
+abbrev pub CommandAnswer : (List ℕ → Given → Type 0) → (Given → Type 0) → Command → Answer → Type 0
+CommandAnswer Gives InputGives (Cut form recovers rules files) answer =
+    Reads Gives (RulesOf (LexerOf (λ set. TextsAnswer Gives InputGives (PiecesAnswer set form recovers (nat_lt 1 (length files.now))) (map string_bytes files.now)))) rules.now answer
+CommandAnswer Gives InputGives (Show markup rules files) answer =
+    Reads Gives (RulesOf (LexerOf (λ set. TextsAnswer Gives InputGives (PageAnswer set markup) (map string_bytes files.now)))) rules.now answer
+CommandAnswer Gives InputGives (Clashes rules) answer = Reads Gives (RulesOf ClashesAnswer) rules.now answer
+CommandAnswer Gives InputGives (CutByTerminals places rules files) answer =
+    Reads Gives (TerminalsOf (λ ts ps. TextsAnswer Gives InputGives (TokensAnswer ts ps places) (map string_bytes files.now))) rules.now answer
+CommandAnswer Gives InputGives (TerminalClashes rules) answer = Reads Gives TerminalClashesAnswer rules.now answer
+
+-- what is said of arguments that are no command
+abbrev pub usage : List ℕ
+usage =
+    codes "tokens: usage: tokens [--recover] [--json] RULES [FILE ..]\n       tokens --html RULES [FILE ..]\n       tokens --ansi RULES [FILE ..]\n       tokens --clashes RULES\n       tokens --lines [--places] RULES [FILE ..]\n       tokens --lines --clashes RULES\n"
+
+-- the answer for these arguments
+abbrev pub IsAnswer : (List ℕ → Given → Type 0) → (Given → Type 0) → List (List ℕ) → Answer → Type 0
+IsAnswer Gives InputGives words answer =
+    (((command : Command) → ¬ IsCommand words command) × (answer ≡ refusal 4 usage))
+    ⊎ ((command : Command) × (IsCommand words command × CommandAnswer Gives InputGives command answer))

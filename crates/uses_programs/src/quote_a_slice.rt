@@ -1,0 +1,74 @@
+//! Slices and words in quotes, and what follows from the laws for callers, which the proofs here cite.
+ghost use Rattle.std.specs.Prelude.{◌≡◌, ◌↔◌, ◌++◌, IsTrue, false, IfOk, codes, string_bytes};
+ghost use Rattle.lines_lib.specs.Quoted.{quoted};
+
+use std::alloc::{AllocError, Global};
+use tokens_lib::{quoted, quoted_word};
+
+// Needs lines_lib::quoted: quoted.
+/// The slice in quotes, as a line.
+///
+/// # Errors
+///
+/// `AllocError` if a request for memory was refused.
+pub fn quoted_line(alloc: Global, slice: &str) -> Result<String, AllocError>
+    ensures line { IfOk result (λ line. string_bytes line ≡ quoted slice.now ++ codes "\n") }
+{
+    let mut line = quoted(alloc, slice)?;
+    line.push('\n')?;
+    Ok(line)
+}
+
+// Needs lines_lib::quoted: quoted.
+/// Whether two slices are the same, as their quoted forms show.
+///
+/// # Errors
+///
+/// `AllocError` if a request for memory was refused.
+pub fn are_same(alloc: Global, one: &str, other: &str) -> Result<bool, AllocError>
+    ensures same { IfOk result (λ same. IsTrue same ↔ (one.now ≡ other.now)) }
+{
+    let first = quoted(alloc, one)?;
+    let second = quoted(alloc, other)?;
+    Ok(first == second)
+}
+
+// Needs lines_lib::quoted: quoted.
+/// Whether the quoted slice has more than one line. It never has.
+///
+/// # Errors
+///
+/// `AllocError` if a request for memory was refused.
+pub fn has_two_lines(alloc: Global, slice: &str) -> Result<bool, AllocError>
+    ensures never { IfOk result (λ has. has ≡ false) }
+{
+    let text = quoted(alloc, slice)?;
+    Ok(text.contains('\n'))
+}
+
+// Needs lines_lib::quoted_word: quoted.
+/// Whether two words are the same, as their quoted forms show.
+///
+/// # Errors
+///
+/// `AllocError` if a request for memory was refused.
+pub fn are_same_words(alloc: Global, one: &[u32], other: &[u32]) -> Result<bool, AllocError>
+    ensures same { IfOk result (λ same. IsTrue same ↔ (one.now ≡ other.now)) }
+{
+    let first = quoted_word(alloc, one)?;
+    let second = quoted_word(alloc, other)?;
+    Ok(first == second)
+}
+
+// Needs lines_lib::quoted_word: quoted.
+/// Whether the quoted word has more than one line. It never has.
+///
+/// # Errors
+///
+/// `AllocError` if a request for memory was refused.
+pub fn word_has_two_lines(alloc: Global, word: &[u32]) -> Result<bool, AllocError>
+    ensures never { IfOk result (λ has. has ≡ false) }
+{
+    let text = quoted_word(alloc, word)?;
+    Ok(text.contains('\n'))
+}
