@@ -88,7 +88,7 @@ pub fn longest_in_two_runs<'text>(
     }
 }
 
-// Needs lalrpop_dense::DenseDfa::longest_within: limit, past.
+// Needs lalrpop_dense::DenseDfa::longest_within: limit, past, never_falls.
 /// Whether the first thousand bytes settle what matches, and how many were read past the match.
 pub fn read_past<'text>(
     dense: &DenseDfa,
@@ -96,6 +96,7 @@ pub fn read_past<'text>(
     steps: &mut Steps,
 ) -> Option<(Option<(NfaIndex, &'text str)>, usize)>
     ensures limit { steps.new ≤ steps.old + 1000 }
+    ensures never_falls { steps.old ≤ steps.new }
     ensures past { IfSome result (λ found. MatchOption found.0 (steps.new ≤ steps.old + found.1)
         (λ m. steps.new ≤ steps.old + length (chars m.1.now) + found.1)) }
 {

@@ -1,11 +1,12 @@
 //! A text is cut to its end by named rules.
-ghost use Rattle.std.specs.Prelude.{◌≡◌, ◌≤◌, ◌++◌, List, false, IfSome, length};
+ghost use Rattle.std.specs.Prelude.{◌≡◌, ◌≤◌, ◌++◌, List, false, IfOk, IfSome, length};
 ghost use Rattle.std.specs.Str.{chars};
 ghost use Rattle.lalrpop_book.specs.Tokens.{AreTokens};
 ghost use Rattle.lalrpop_rules.specs.Pieces.{ArePieces, AreApart, joined, up_to_fault};
 ghost use Rattle.lalrpop_rules.specs.declared.item.Item.{Item as ItemValue};
 
 use lalrpop_rules::RuleLexer;
+use std::alloc::{AllocError, Global};
 
 // Needs lalrpop_rules::RuleLexer::items: items, whole, apart, tokens, count.
 /// How many pieces a text is.
@@ -22,6 +23,21 @@ pub fn piece_count(lexer: &RuleLexer, text: &str) -> usize
         count += 1;
     }
     count
+}
+
+// Needs lalrpop_rules::RuleLexer::item_list: all.
+/// How many pieces a text is, by the list of them.
+///
+/// # Errors
+///
+/// `AllocError` if a request for memory was refused.
+pub fn listed_count(alloc: Global, lexer: &RuleLexer, text: &str) -> Result<usize, AllocError>
+    ensures all { IfOk result (λ count. (xs : List ItemValue)
+        × (ArePieces lexer.now.trees lexer.now.precedences lexer.now.skips text.now 0 xs
+        × (count ≡ length xs))) }
+{
+    let list = lexer.item_list(alloc, text)?;
+    Ok(list.len())
 }
 
 // Needs lalrpop_rules::RuleLexer::items: start.

@@ -1,5 +1,5 @@
 //! The text of a file, and the lines of its tokens.
-ghost use Rattle.std.specs.Prelude.{◌≡◌, ◌≢◌, ℕ, List, [], length, Option, Some, None, false, true, IfOk, IfSome};
+ghost use Rattle.std.specs.Prelude.{◌≡◌, ◌≢◌, ℕ, List, [], length, Option, Some, None, false, true, string_bytes, IfOk, IfErr, IfNone, IfSome};
 ghost use Rattle.std.specs.Str.{IsValidUpTo};
 ghost use Rattle.lexdfa_lib.specs.Watch.{ReadsAll};
 ghost use Rattle.lines_lib.specs.TokenLines.{WritesTokens, WritesTokensPrefix, IsStopOf};
@@ -7,9 +7,25 @@ ghost use Rattle.lalrpop_lexer.specs.Position.{position_of};
 
 use lalrpop_lexer::{Lexer, Position};
 use lexdfa_lib::{Outcome, RunError, Watched};
+use lines_lib::text_of;
 use std::alloc::Global;
 use std::io::{Read, Write};
 use tokens_lib::{TextError, read_text, write_tokens};
+
+// The text that the bytes are, or the first byte at which no character begins; `None` if there are no bytes.
+// Needs lines_lib::text_of: text, some, error.
+pub fn text_or_bad_byte(bytes: Vec<u8>) -> Result<String, Option<usize>>
+    ensures text { IfOk result (λ text.
+        (string_bytes text ≡ bytes.items) × (bytes.items ≢ [])) }
+    ensures bad { IfErr result (λ bad. IfSome bad (λ at. IsValidUpTo bytes.items at)) }
+    ensures empty { IfErr result (λ bad. IfNone bad (bytes.items ≡ [])) }
+{
+    match text_of(bytes) {
+        Ok(text) => Ok(text),
+        Err(TextError::NotText { at }) => Err(Some(at)),
+        Err(_) => Err(None),
+    }
+}
 
 // How many bytes the text of a reader has.
 // Needs lines_lib::read_text: text, some.

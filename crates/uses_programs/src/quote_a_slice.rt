@@ -1,7 +1,8 @@
 //! Slices and words in quotes, and what follows from the laws for callers, which the proofs here cite.
-ghost use Rattle.std.specs.Prelude.{◌≡◌, ◌↔◌, ◌++◌, IsTrue, false, IfOk, codes, string_bytes};
-ghost use Rattle.lines_lib.specs.Quoted.{quoted};
+ghost use Rattle.std.specs.Prelude.{◌≡◌, ◌↔◌, ◌++◌, IsTrue, false, true, IfOk, IfSome, codes, string_bytes};
+ghost use Rattle.lines_lib.specs.Quoted.{is_unseen, quoted, told};
 
+use lines_lib::{is_unseen, push_escaped_char};
 use std::alloc::{AllocError, Global};
 use tokens_lib::{quoted, quoted_word};
 
@@ -71,4 +72,33 @@ pub fn word_has_two_lines(alloc: Global, word: &[u32]) -> Result<bool, AllocErro
 {
     let text = quoted_word(alloc, word)?;
     Ok(text.contains('\n'))
+}
+
+// Needs lines_lib::push_escaped_char: returns.
+/// The character between two apostrophes.
+///
+/// # Errors
+///
+/// `AllocError` if a request for memory was refused.
+pub fn char_in_apostrophes(alloc: Global, c: char) -> Result<String, AllocError>
+    ensures text { IfOk result (λ text.
+        string_bytes text ≡ codes "'" ++ (told c ++ codes "'")) }
+{
+    let mut text = String::from_str(alloc, "'")?;
+    push_escaped_char(&mut text, c)?;
+    text.push_str("'")?;
+    Ok(text)
+}
+
+// Needs lines_lib::is_unseen: returns.
+/// The first character of the slice that isn't seen.
+pub fn first_unseen(slice: &str) -> Option<char>
+    ensures unseen { IfSome result (λ c. is_unseen c ≡ true) }
+{
+    for c in slice.chars() {
+        if is_unseen(c) {
+            return Some(c);
+        }
+    }
+    None
 }
