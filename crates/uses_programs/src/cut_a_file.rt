@@ -12,7 +12,7 @@ use std::alloc::Global;
 use std::io::{Read, Write};
 use tokens_lib::{TextError, read_text, write_tokens};
 
-// The text that the bytes are, or the first byte at which no character begins; `None` if there are no bytes.
+// The text that the bytes are, or the first byte at which no character begins. The fault of an empty list has no place.
 // Needs lines_lib::text_of: text, some, error.
 pub fn text_or_bad_byte(bytes: Vec<u8>) -> Result<String, Option<usize>>
     ensures text { IfOk result (λ text.
