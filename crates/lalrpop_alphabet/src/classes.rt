@@ -74,7 +74,8 @@ fn number_cells(
     requires within { (k n : ℕ) (s : Signature) → slice_get cell_signatures.signatures.items k ≡ Some s
         → Contains s.lists.items n → n < length cell_signatures.groups.items }
     requires no_classes { HaveNoClasses cell_signatures.groups.items }
-    ensures { IfOk result (λ x. AreAllClassed boundaries.now cell_signatures.signatures.items cell_signatures.groups.items
+    ensures { IfOk result (λ x. AreAllClassed boundaries.now
+        cell_signatures.signatures.items cell_signatures.groups.items
         x.cells.items x.groups.items x.count) }
 {
     let CellSignatures { signatures, groups } = cell_signatures;

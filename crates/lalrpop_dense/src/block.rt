@@ -1,11 +1,8 @@
 //! The tokens of a block of a text.
 
-ghost use Rattle.std.specs.Prelude.{◌≡◌, ℕ, ◌<◌, ◌++◌, List, length, IfOk};
+ghost use Rattle.std.specs.Prelude.{ℕ, ◌<◌, length, IfErr, IfOk};
 ghost use Rattle.std.specs.Str.{IsCharBoundary};
-ghost use Rattle.lalrpop_book.specs.Tree.{Tree};
-ghost use Rattle.lalrpop_book.specs.declared.token.Token.{Token as TokenValue};
-ghost use Rattle.lalrpop_dfa.specs.Dfa.{Recognizes};
-ghost use Rattle.lalrpop_dense.specs.Leading.{LeadTo};
+ghost use Rattle.lalrpop_dense.specs.Leading.{AddsTokens};
 ghost use Rattle.lalrpop_dense.specs.Internal.Marks.{AreMarks};
 
 use crate::mark::{Engine, Mark};
@@ -29,11 +26,12 @@ pub(crate) fn push_tokens<'text, C: Cells>(
     requires boundary { IsCharBoundary text.now from }
     requires marks { (to : ℕ) × AreMarks engine.now.fused.now engine.now.layout.now engine.now.dfa.now
         text.now from to marks.now }
-    ensures tokens { IfOk result (λ to. (xs : List TokenValue) × (tokens.new.items ≡ tokens.old.items ++ xs)
-        × ((ts : List Tree) (ps : List ℕ) → Recognizes engine.now.dfa.now ts ps
-        → LeadTo ts ps text.now from to xs)) }
+    ensures tokens { IfOk result (λ to.
+        AddsTokens engine.now.dfa.now text.now from to tokens.old.items tokens.new.items) }
     ensures boundary { IfOk result (λ to. IsCharBoundary text.now to) }
     ensures goes { IfOk result (λ to. 0 < length marks.now → from < to) }
+    ensures failed { IfErr result (λ _. (to : ℕ)
+        × AddsTokens engine.now.dfa.now text.now from to tokens.old.items tokens.new.items) }
 {
     let cells = engine.fused.cells.as_slice();
     let width = engine.layout.width;

@@ -1,6 +1,6 @@
 //! An automaton with a table beside it.
 
-ghost use Rattle.std.specs.Prelude.{◌≡◌, ◌≢◌, ℕ, ◌+◌, ◌<◌, ◌≤◌, ◌++◌, [], drop, length, List, None, IfOk, IfNone, IfSome, MatchOption};
+ghost use Rattle.std.specs.Prelude.{◌≡◌, ◌≢◌, ℕ, ◌+◌, ◌<◌, ◌≤◌, [], drop, length, List, None, IfErr, IfOk, IfNone, IfSome, MatchOption};
 ghost use Rattle.std.specs.Option.{option_map};
 ghost use Rattle.std.specs.Str.{IsCharBoundary, chars};
 ghost use Rattle.lalrpop_book.specs.Tree.{Tree};
@@ -8,8 +8,7 @@ ghost use Rattle.lalrpop_book.specs.Prefix.{IsPrefix};
 ghost use Rattle.lalrpop_dfa.specs.Dfa.{Recognizes};
 ghost use Rattle.lalrpop_dfa.specs.Lookahead.{ReadsAtMost};
 ghost use Rattle.lalrpop_book.specs.Longest.{IsLongest};
-ghost use Rattle.lalrpop_book.specs.declared.token.Token.{Token as TokenValue};
-ghost use Rattle.lalrpop_dense.specs.Leading.{LeadTo};
+ghost use Rattle.lalrpop_dense.specs.Leading.{AddsTokens};
 ghost use Rattle.lalrpop_dense.specs.Internal.Fused.{IsFusedOf, IsTable};
 ghost use Rattle.lalrpop_dense.specs.Internal.Table.{HasClasses};
 
@@ -102,6 +101,7 @@ impl DenseDfa {
         ensures cost { steps.new ≤ steps.old + length (chars text.now) }
         ensures looked { (n : ℕ) → ReadsAtMost self.now n → IfSome result (λ m.
             steps.new ≤ steps.old + length (chars m.1.now) + n + 1) }
+        ensures read { IfSome result (λ m. steps.old + length (chars m.1.now) ≤ steps.new) }
     {
         match &self.table {
             Some(table) => match &table.cells {
@@ -134,6 +134,10 @@ impl DenseDfa {
         ensures limit { steps.new ≤ steps.old + limit }
         ensures past { IfSome result (λ s. MatchOption s.longest (steps.new ≤ steps.old + s.past)
             (λ m. steps.new ≤ steps.old + length (chars m.1.now) + s.past)) }
+        ensures read { IfSome result (λ s. IfSome s.longest (λ m.
+            steps.old + length (chars m.1.now) ≤ steps.new)) }
+        ensures within { IfSome result (λ s. MatchOption s.longest (s.past ≤ length text.now)
+            (λ m. length m.1.now + s.past ≤ length text.now)) }
     {
         match &self.table {
             Some(table) => match &table.cells {
@@ -156,7 +160,7 @@ impl DenseDfa {
     ///
     /// # Errors
     ///
-    /// `AllocError` if a request for memory was refused.
+    /// `AllocError` if a request for memory was refused. Tokens found before that are added.
     pub fn cut_block<'text>(
         &self,
         text: &'text str,
@@ -165,12 +169,13 @@ impl DenseDfa {
         tokens: &mut Vec<Token<'text>>,
     ) -> Result<Option<usize>, AllocError>
         requires boundary { IsCharBoundary text.now at }
-        ensures tokens { IfOk result (λ found. IfSome found (λ to. (xs : List TokenValue)
-            × (tokens.new.items ≡ tokens.old.items ++ xs)
-            × ((ts : List Tree) (ps : List ℕ) → Recognizes self.now ts ps → LeadTo ts ps text.now at to xs))) }
+        ensures tokens { IfOk result (λ found. IfSome found (λ to.
+            AddsTokens self.now text.now at to tokens.old.items tokens.new.items)) }
         ensures goes { IfOk result (λ found. IfSome found (λ to.
             (at < to) × IsCharBoundary text.now to)) }
         ensures same { IfOk result (λ found. IfNone found (tokens.new ≡ tokens.old)) }
+        ensures failed { IfErr result (λ _. (to : ℕ)
+            × AddsTokens self.now text.now at to tokens.old.items tokens.new.items) }
         ensures none { IfOk result (λ found. IfNone found ((ts : List Tree) (ps : List ℕ)
             → Recognizes self.now ts ps → IsLongest ts ps (drop at text.now) None)) }
     {
@@ -189,12 +194,13 @@ impl DenseDfa {
         tokens: &mut Vec<Token<'text>>,
     ) -> Result<Option<usize>, AllocError>
         requires boundary { IsCharBoundary text.now at }
-        ensures tokens { IfOk result (λ found. IfSome found (λ to. (xs : List TokenValue)
-            × (tokens.new.items ≡ tokens.old.items ++ xs)
-            × ((ts : List Tree) (ps : List ℕ) → Recognizes self.now ts ps → LeadTo ts ps text.now at to xs))) }
+        ensures tokens { IfOk result (λ found. IfSome found (λ to.
+            AddsTokens self.now text.now at to tokens.old.items tokens.new.items)) }
         ensures goes { IfOk result (λ found. IfSome found (λ to.
             (at < to) × IsCharBoundary text.now to)) }
         ensures same { IfOk result (λ found. IfNone found (tokens.new ≡ tokens.old)) }
+        ensures failed { IfErr result (λ _. (to : ℕ)
+            × AddsTokens self.now text.now at to tokens.old.items tokens.new.items) }
     {
         let Some(table) = &self.table else {
             return Ok(None);
@@ -224,12 +230,13 @@ impl DenseDfa {
         tokens: &mut Vec<Token<'text>>,
     ) -> Result<Option<usize>, AllocError>
         requires boundary { IsCharBoundary text.now at }
-        ensures tokens { IfOk result (λ found. IfSome found (λ to. (xs : List TokenValue)
-            × (tokens.new.items ≡ tokens.old.items ++ xs)
-            × ((ts : List Tree) (ps : List ℕ) → Recognizes self.now ts ps → LeadTo ts ps text.now at to xs))) }
+        ensures tokens { IfOk result (λ found. IfSome found (λ to.
+            AddsTokens self.now text.now at to tokens.old.items tokens.new.items)) }
         ensures goes { IfOk result (λ found. IfSome found (λ to.
             (at < to) × IsCharBoundary text.now to)) }
         ensures same { IfOk result (λ found. IfNone found (tokens.new ≡ tokens.old)) }
+        ensures failed { IfErr result (λ _. (to : ℕ)
+            × AddsTokens self.now text.now at to tokens.old.items tokens.new.items) }
         ensures none { IfOk result (λ found. IfNone found ((ts : List Tree) (ps : List ℕ)
             → Recognizes self.now ts ps → IsLongest ts ps (drop at text.now) None)) }
     {

@@ -42,7 +42,8 @@ pub trait Matcher: Drop {
         ensures never_falls { steps.old ≤ steps.new }
         ensures cost { steps.new ≤ steps.old + length (chars text.now) }
         ensures looked { (n : ℕ) → ReadsAtMost (rows self.now) n → IfSome result (λ m.
-            steps.new ≤ steps.old + length (chars m.1.now) + n + 1) };
+            steps.new ≤ steps.old + length (chars m.1.now) + n + 1) }
+        ensures read { IfSome result (λ m. steps.old + length (chars m.1.now) ≤ steps.new) };
 }
 
 impl Matcher for Dfa {

@@ -81,6 +81,9 @@ fn walk<C: Cells>(
     ensures cost { steps.new ≤ steps.old + length (chars text.now) }
     ensures looked { (n : ℕ) → ReadsAtMost dfa.now n → IfSome result.longest (λ m.
         steps.new ≤ steps.old + length (chars (take m.1 text.now)) + n + 1) }
+    ensures read { IfSome result.longest (λ m.
+        steps.old + length (chars (take m.1 text.now)) ≤ steps.new) }
+    ensures within { result.at ≤ length text.now }
     ensures limit { steps.new ≤ steps.old + limit }
     ensures past { PaysPast text.now result.at steps.old steps.new result.longest }
 {
@@ -128,6 +131,7 @@ pub(crate) fn longest_by<'text, C: Cells>(
     ensures cost { steps.new ≤ steps.old + length (chars text.now) }
     ensures looked { (n : ℕ) → ReadsAtMost dfa.now n → IfSome result (λ m.
         steps.new ≤ steps.old + length (chars m.1.now) + n + 1) }
+    ensures read { IfSome result (λ m. steps.old + length (chars m.1.now) ≤ steps.new) }
 {
     let stop = walk(cells, layout, dfa, text, text.len(), steps);
     match stop.longest {
@@ -169,6 +173,10 @@ pub(crate) fn longest_within_by<'text, C: Cells>(
     ensures limit { steps.new ≤ steps.old + limit }
     ensures past { IfSome result (λ s. MatchOption s.longest (steps.new ≤ steps.old + s.past)
         (λ m. steps.new ≤ steps.old + length (chars m.1.now) + s.past)) }
+    ensures read { IfSome result (λ s. IfSome s.longest (λ m.
+        steps.old + length (chars m.1.now) ≤ steps.new)) }
+    ensures within { IfSome result (λ s. MatchOption s.longest (s.past ≤ length text.now)
+        (λ m. length m.1.now + s.past ≤ length text.now)) }
 {
     let stop = walk(cells, layout, dfa, text, limit.min(text.len()), steps);
     if !stop.is_settled {

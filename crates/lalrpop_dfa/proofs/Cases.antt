@@ -3,6 +3,7 @@ pub mod Dfa
 mod SameAutomata
 mod Counts
 mod Lookahead
+mod Follow
 mod Kernels
 mod Ascending
 mod LiveItems

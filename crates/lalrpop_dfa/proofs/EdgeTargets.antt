@@ -8,10 +8,10 @@ use Rattle.lalrpop_book.specs.Range.{Range, Covers}
 use Rattle.lalrpop_dfa.specs.Dfa.{Row, edge_target, step, AreAscendingTests, IsWellFormed}
 use Rattle.lalrpop_dfa.specs.Internal.Stored.{EndBefore}
 
-leads_first : (t : Range × ℕ) (ts : List (Range × ℕ)) (o c : ℕ) → Covers t.0 c → edge_target (t ∷ ts) o c ≡ t.1
+pub leads_first : (t : Range × ℕ) (ts : List (Range × ℕ)) (o c : ℕ) → Covers t.0 c → edge_target (t ∷ ts) o c ≡ t.1
 leads_first t ts o c h = rw (le-leb t.0.start c h.0, le-leb c t.0.end h.1)
 
-leads_later : (t : Range × ℕ) (ts : List (Range × ℕ)) (o c : ℕ) → ¬ Covers t.0 c → edge_target (t ∷ ts) o c ≡ edge_target ts o c
+pub leads_later : (t : Range × ℕ) (ts : List (Range × ℕ)) (o c : ℕ) → ¬ Covers t.0 c → edge_target (t ∷ ts) o c ≡ edge_target ts o c
 leads_later t ts o c h =
     ⊎_elim (λ (l : c < t.0.start). rw (lt-leb t.0.start c l))
     (λ (l : t.0.start ≤ c).

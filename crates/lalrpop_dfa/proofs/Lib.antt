@@ -8,6 +8,8 @@ pub mod Lookaheads
 pub mod Openness
 pub mod Marking
 pub mod Reaching
+-- values by which a match runs on into the next one
+pub mod Following
 pub mod Trails
 pub mod Recognized
 pub mod Trimming

@@ -11,7 +11,7 @@ use Rattle.lalrpop_dfa.specs.declared.Kind.{Kind}
 use Rattle.lalrpop_dfa.specs.declared.Kind.TheVariants.{Accepts}
 use Rattle.lalrpop_dfa.specs.Dfa.{Row, StoredState, AreStored, edge_target, step, AreAscendingTests, IsWellFormed}
 use Rattle.lalrpop_dfa.specs.Lookahead.{Accepted, AcceptedAs, IsAccepting, CanStayOpen, IsLookahead, StaysOpenEver}
-use Rattle.lalrpop_dfa.specs.Internal.Marks.{Marked, LeadsInto, AreReached, IsReached, WaitsFor, AreWaitingFor, AreWaitingEver, IsEntered, EntersBy}
+use Rattle.lalrpop_dfa.specs.Internal.Marks.{Marked, IsAcceptingAs, LeadsInto, AreReached, IsReached, WaitsFor, AreWaitingFor, AreWaitingEver, IsEntered, EntersBy}
 use Rattle.lalrpop_dfa.proofs.EdgeTargets.{place_of, leads_at, leads_none, has_value_at, step_of, step_within, the_some}
 use Rattle.lalrpop_dfa.proofs.Lookaheads.{Enters, waits_next, waits_before, waits_fewer, entered_can, can_entered, at_most, for_ever}
 use Rattle.lalrpop_dfa.proofs.Openness.{EndsMatch, can_opens, opens_can}
@@ -37,7 +37,7 @@ abbrev pub top : List (Range × ℕ) → ℕ
 top [] = 0
 top (t ∷ ts) = t.0.end + 1 + top ts
 
-top_above : (ts : List (Range × ℕ)) (k : ℕ) (t : Range × ℕ) → slice_get ts k ≡ Some t → t.0.end < top ts
+pub top_above : (ts : List (Range × ℕ)) (k : ℕ) (t : Range × ℕ) → slice_get ts k ≡ Some t → t.0.end < top ts
 top_above [] k t e = cc
 top_above (u ∷ ts) zero t e = let same : u ≡ t = cc in rw (← same) (omega arith)
 top_above (u ∷ ts) (suc k) t e = omega (arith, top_above ts k t e)
@@ -93,18 +93,14 @@ accepting_within d p a = elim (slice_get_cases d p).1 [
   | inr past ↦ absurd (rw past.1 at a)
 ]
 
--- the state accepts the tree i
-abbrev pub IsBy : List Row → ℕ → ℕ → Type 0
-IsBy d i p = IsSomeAnd (slice_get d p) (λ r. r.kind ≡ Accepts i)
-
-pub by_accepts : (d : List Row) (i p : ℕ) → IsBy d i p → IsAccepting d p
+pub by_accepts : (d : List Row) (i p : ℕ) → IsAcceptingAs d i p → IsAccepting d p
 by_accepts d i p h = at (slice_get d p) h
   where
     at : (o : Option Row) → IsSomeAnd o (λ r. r.kind ≡ Accepts i) → IsSomeAnd o (λ r. (j : ℕ) × (r.kind ≡ Accepts j))
     at None h = h
     at (Some r) h = (i, h)
 
-pub accepts_by : (d : List Row) (p : ℕ) → IsAccepting d p → (i : ℕ) × IsBy d i p
+pub accepts_by : (d : List Row) (p : ℕ) → IsAccepting d p → (i : ℕ) × IsAcceptingAs d i p
 accepts_by d p h = at (slice_get d p) h
   where
     at : (o : Option Row) → IsSomeAnd o (λ r. (j : ℕ) × (r.kind ≡ Accepts j)) → (i : ℕ) × IsSomeAnd o (λ r. r.kind ≡ Accepts i)
@@ -113,12 +109,12 @@ accepts_by d p h = at (slice_get d p) h
 
 -- what the marks say of entering states that wait for n values
 module _ (d : List Row) (well : IsWellFormed d) (reached marks : List Bool) (n : ℕ) (are : AreReached d reached) (stay : AreWaitingFor d n marks) where
-  pub by_enters : (i p : ℕ) → EntersBy d reached marks i p → (c : ℕ) × ((IsBy d i p × IsReached d p) × WaitsFor d n (step d p c))
+  pub by_enters : (i p : ℕ) → EntersBy d reached marks i p → (c : ℕ) × ((IsAcceptingAs d i p × IsReached d p) × WaitsFor d n (step d p c))
   by_enters i p (m, (b, (c, led))) =
       let l : p < length d = accepting_within d p (by_accepts d i p b) in
       (c, ((b, (are.each p).0 m), (stay.each (step d p c) (step_within d p c well l)).0 led))
 
-  pub enters_by : (i p c : ℕ) → IsBy d i p → IsReached d p → WaitsFor d n (step d p c) → EntersBy d reached marks i p
+  pub enters_by : (i p c : ℕ) → IsAcceptingAs d i p → IsReached d p → WaitsFor d n (step d p c) → EntersBy d reached marks i p
   enters_by i p c b r o =
       let l : p < length d = accepting_within d p (by_accepts d i p b) in
       ((are.each p).1 r, (b, (c, (stay.each (step d p c) (step_within d p c well l)).1 o)))
@@ -188,14 +184,14 @@ test_in d p r k t h at here =
     let l : k < length r.tests = slice_get_within r.tests k t here in
     h.tests_in p r t at (k, l, (let e : Some (get_or r.tests k t) ≡ Some t = sym (slice_get-get_or r.tests k t l) ∙ here in cc))
 
--- ---- whether a state accepts, by its kind
-pub accepting_read : (d : List Row) (states : List StoredState) (p : ℕ) (s : StoredState) (kind : Kind) (b : Bool) → AreStored d states → p < length states
-    → s ≡ get_or states p s → kind ≡ s.kind → (b ≡ true) ↔ ((i : ℕ) × (kind ≡ Accepts i)) → (b ≡ true) ↔ IsAccepting d p
-accepting_read d states p s kind b are l is same told = elim (slice_get_cases d p).1 [
+-- ---- what holds of a state's kind, which is stored with it
+pub kind_read : (K : Kind → Type 0) (d : List Row) (states : List StoredState) (p : ℕ) (s : StoredState) (kind : Kind) (b : Bool) → AreStored d states → p < length states
+    → s ≡ get_or states p s → kind ≡ s.kind → (b ≡ true) ↔ K kind → (b ≡ true) ↔ IsSomeAnd (slice_get d p) (λ r. K r.kind)
+kind_read K d states p s kind b are l is same told = elim (slice_get_cases d p).1 [
   | inl x ↦ (
       let at : slice_get states p ≡ Some s = slice_get-get_or states p s l ∙ ap (λ (y : StoredState). Some y) (sym is) in
-      let kinds : x.0.kind ≡ kind = sym (same ∙ (are.each p x.0 s x.2 at).kind) in
-      (λ t. (let (i, e) = told.0 t in rw x.2 (i, kinds ∙ e)), λ a. (let (i, e) : (i : ℕ) × (x.0.kind ≡ Accepts i) = rw x.2 at a in told.1 (i, sym kinds ∙ e))))
+      let kinds : kind ≡ x.0.kind = same ∙ (are.each p x.0 s x.2 at).kind in
+      (λ t. rw x.2 (subst K kinds (told.0 t)), λ a. (let k : K x.0.kind = rw x.2 at a in told.1 (subst K (sym kinds) k))))
   | inr past ↦ absurd (omega (arith, past.0, are.same_length))
 ]
 
@@ -253,20 +249,21 @@ same_marks xs ys = pointwise_decides bits_decide xs ys
 
 -- ---- the patterns that can stay open forever
 
--- one more state: those that one of the states so far accepts and enters by
-pub entered_more : (d : List Row) (reached marks old new : List Bool) (count number : ℕ) (place : Option ℕ) → length old ≡ count
-    → ((i : ℕ) → i < count → Marked old i ↔ ((p : ℕ) × ((p < number) × EntersBy d reached marks i p)))
-    → ((i : ℕ) → (place ≡ Some i) ↔ EntersBy d reached marks i number)
-    → ((i : ℕ) → i < length old → Marked new i ↔ (Marked old i ⊎ (place ≡ Some i)))
-    → (i : ℕ) → i < count → Marked new i ↔ ((p : ℕ) × ((p < number + 1) × EntersBy d reached marks i p))
-entered_more d reached marks old new count number place long each here one i l = (
-  λ m. ⊎_elim (λ (a : Marked old i). (let (p, (b, e)) = (each i l).0 a in (p, (omega arith, e))))
-      (λ (a : place ≡ Some i). (number, (omega arith, (here i).0 a)))
-      ((one i (omega arith)).0 m),
-  λ (p, (b, e)). ⊎_elim (λ (a : p < number). (one i (omega arith)).1 (inl ((each i l).1 (p, (a, e)))))
-      (λ (a : number ≤ p). let same : p ≡ number = omega arith in (one i (omega arith)).1 (inr ((here i).1 (subst (EntersBy d reached marks i) same e))))
-      (cases_lt p number),
-)
+-- one more state: the patterns that one of the states so far tells of
+module _ (Tells : ℕ → ℕ → Type 0) (old new : List Bool) (count number : ℕ) (place : Option ℕ) where
+  pub told_more : length old ≡ count
+      → ((i : ℕ) → i < count → Marked old i ↔ ((p : ℕ) × ((p < number) × Tells i p)))
+      → ((i : ℕ) → (place ≡ Some i) ↔ Tells i number)
+      → ((i : ℕ) → i < length old → Marked new i ↔ (Marked old i ⊎ (place ≡ Some i)))
+      → (i : ℕ) → i < count → Marked new i ↔ ((p : ℕ) × ((p < number + 1) × Tells i p))
+  told_more long each here one i l = (
+    λ m. ⊎_elim (λ (a : Marked old i). (let (p, (b, e)) = (each i l).0 a in (p, (omega arith, e))))
+        (λ (a : place ≡ Some i). (number, (omega arith, (here i).0 a)))
+        ((one i (omega arith)).0 m),
+    λ (p, (b, e)). ⊎_elim (λ (a : p < number). (one i (omega arith)).1 (inl ((each i l).1 (p, (a, e)))))
+        (λ (a : number ≤ p). let same : p ≡ number = omega arith in (one i (omega arith)).1 (inr ((here i).1 (subst (Tells i) same e))))
+        (cases_lt p number),
+  )
 
 pub ever_marked : (d : List Row) → IsWellFormed d → (reached marks found : List Bool) (count : ℕ) → AreReached d reached → AreWaitingEver d marks
     → ((i : ℕ) → i < count → Marked found i ↔ ((p : ℕ) × ((p < length d) × EntersBy d reached marks i p)))
@@ -274,8 +271,8 @@ pub ever_marked : (d : List Row) → IsWellFormed d → (reached marks found : L
 ever_marked d well reached marks found count are (n, (stay, more)) each i l = (
   λ m. (let (p, (b, e)) = (each i l).0 m in
       let (c, (a, o)) = by_enters d well reached marks n are stay i p e in
-      λ k. can_opens d (IsBy d i) (by_accepts d i) k (for_ever d (EndsMatch d (IsBy d i) (by_accepts d i)) n (round_more d marks marks n stay more refl) (p, c, (a, o)) k)),
+      λ k. can_opens d (IsAcceptingAs d i) (by_accepts d i) k (for_ever d (EndsMatch d (IsAcceptingAs d i) (by_accepts d i)) n (round_more d marks marks n stay more refl) (p, c, (a, o)) k)),
   λ ever. (let (v, x, (b, h)) = ever (suc n) in
-      let (p, c, ((a, r), o)) = can_entered d (EndsMatch d (IsBy d i) (by_accepts d i)) n (opens_can d (IsBy d i) (by_accepts d i) well (suc n) v x b h) in
+      let (p, c, ((a, r), o)) = can_entered d (EndsMatch d (IsAcceptingAs d i) (by_accepts d i)) n (opens_can d (IsAcceptingAs d i) (by_accepts d i) well (suc n) v x b h) in
       (each i l).1 (p, (accepting_within d p (by_accepts d i p a), enters_by d well reached marks n are stay i p c a r o))),
 )

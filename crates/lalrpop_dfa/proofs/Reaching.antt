@@ -8,13 +8,12 @@ use Rattle.std.proofs.lemmas.Bool.{cases_lt}
 use Rattle.std.proofs.lemmas.Option.{slice_get_within}
 use Rattle.lalrpop_book.specs.Range.{Range}
 use Rattle.lalrpop_dfa.specs.Dfa.{Row, step, run, after, AreAscendingTests, IsWellFormed}
-use Rattle.lalrpop_dfa.specs.Lookahead.{IsAccepting, IsLive}
-use Rattle.lalrpop_dfa.specs.Internal.Marks.{AreAccepting, AreLive, AreMarkedBack, AreMarkedOn, AreReached, IsReached, LeadsInto, LeadsTo, Marked, WaitsFor}
+use Rattle.lalrpop_dfa.specs.Lookahead.{IsAccepting}
+use Rattle.lalrpop_dfa.specs.Internal.Marks.{AreAccepting, AreLive, AreMarked, AreMarkedBack, AreMarkedOn, AreReached, IsReached, LeadsInto, LeadsOnTo, LeadsTo, Marked, WaitsFor}
 use Rattle.lalrpop_dfa.proofs.AfterLaws.{run_append}
 use Rattle.lalrpop_dfa.proofs.EdgeTargets.{step_of, step_within}
 use Rattle.lalrpop_dfa.proofs.Lookaheads.{waits_none}
 use Rattle.lalrpop_dfa.proofs.Marking.{accepting_within, along, by_other, by_test, fewer_marks, marked_count, marked_read, read_marked, same_marks, top}
-use Rattle.lalrpop_dfa.proofs.Openness.{live_before}
 
 -- ---- one mark more
 pub set_marks : (marks : List Bool) (k p : ℕ) → k < length marks → Marked (set marks k true) p ↔ (Marked marks p ⊎ (p ≡ k))
@@ -133,33 +132,51 @@ module _ (d : List Row) where
     sound = h.sound;
   }
 
-  -- ---- live states
-  pub record IsGrowingLive (marks : List Bool) : Type 0 where
+  -- ---- states from which some word leads to a goal
+  pub record IsGrowing (goals marks : List Bool) : Type 0 where
     pub same_length : length marks ≡ length d
-    pub accepting : (p : ℕ) → IsAccepting d p → Marked marks p
-    pub sound : (p : ℕ) → Marked marks p → IsLive d p
+    pub kept : (p : ℕ) → Marked goals p → Marked marks p
+    pub sound : (p : ℕ) → Marked marks p → LeadsOnTo d (Marked goals) p
 
-  pub live_first : (marks : List Bool) → AreAccepting d marks → IsGrowingLive marks
-  live_first marks h = record {
-    same_length = h.same_length;
-    accepting = λ p a. (h.each p (accepting_within d p a)).1 a;
-    sound = λ p m. ([], (h.each p (let w = slice_get_within marks p true m in omega (arith, w, h.same_length))).0 m);
-  }
+  pub growing_first : (goals : List Bool) → length goals ≡ length d → IsGrowing goals goals
+  growing_first goals same = record { same_length = same; kept = λ p m. m; sound = λ p m. ([], m) }
 
-  pub live_more : (old new : List Bool) → IsGrowingLive old → AreMarkedBack d old new → IsGrowingLive new
-  live_more old new h more = record {
+  pub growing_more : (goals old new : List Bool) → IsGrowing goals old → AreMarkedBack d old new → IsGrowing goals new
+  growing_more goals old new h more = record {
     same_length = more.same_length ∙ h.same_length;
-    accepting = λ p a. more.kept p (h.accepting p a);
-    sound = λ p m. (let (w, is) = more.sound p m in live_before d p w (h.sound (run d p w) is));
+    kept = λ p m. more.kept p (h.kept p m);
+    sound = λ p m.
+        (let (w, is) = more.sound p m in
+        let (z, goal) = h.sound (run d p w) is in
+        (w ++ z, subst (Marked goals) (sym (run_append d p w z)) goal));
   }
 
   -- if a pass marks none more, all are marked
-  pub live_end : IsWellFormed d → (marks : List Bool) → IsGrowingLive marks → AreMarkedBack d marks marks → AreLive d marks
-  live_end well marks h more = record { same_length = h.same_length; each = λ p l. (h.sound p, λ (z, a). all z p l a) }
+  pub growing_end : IsWellFormed d → (goals marks : List Bool) → IsGrowing goals marks → AreMarkedBack d marks marks → AreMarked d (LeadsOnTo d (Marked goals)) marks
+  growing_end well goals marks h more = record { same_length = h.same_length; each = λ p l. (h.sound p, λ (z, m). all z p l m) }
     where
-      all : (z : List ℕ) (p : ℕ) → p < length d → IsAccepting d (run d p z) → Marked marks p
-      all [] p l a = h.accepting p a
-      all (c ∷ z) p l a = more.grown p l (c, all z (step d p c) (step_within d p c well l) a)
+      all : (z : List ℕ) (p : ℕ) → p < length d → Marked goals (run d p z) → Marked marks p
+      all [] p l m = h.kept p m
+      all (c ∷ z) p l m = more.grown p l (c, all z (step d p c) (step_within d p c well l) m)
+
+  -- the goals are the states with a property
+  pub leading_to : (W : ℕ → Type 0) → ((p : ℕ) → W p → p < length d) → (goals marks : List Bool) → AreMarked d W goals
+      → AreMarked d (LeadsOnTo d (Marked goals)) marks → AreMarked d (LeadsOnTo d W) marks
+  leading_to W within goals marks are lead = record {
+    same_length = lead.same_length;
+    each = λ p l. (
+      λ m. (let (z, goal) = (lead.each p l).0 m in
+          let there : run d p z < length d = (let w = slice_get_within goals (run d p z) true goal in omega (arith, w, are.same_length)) in
+          (z, (are.each (run d p z) there).0 goal)),
+      λ (z, w). (lead.each p l).1 (z, (are.each (run d p z) (within (run d p z) w)).1 w),
+    );
+  }
+
+  pub live_of : (goals marks : List Bool) → AreAccepting d goals → AreMarked d (LeadsOnTo d (Marked goals)) marks → AreLive d marks
+  live_of goals marks are lead =
+      let accepting : AreMarked d (IsAccepting d) goals = record { same_length = are.same_length; each = are.each } in
+      let live = leading_to (IsAccepting d) (accepting_within d) goals marks accepting lead in
+      record { same_length = live.same_length; each = live.each }
 
   -- ---- states that a nonempty word reaches
   pub record IsGrowingReached (marks : List Bool) : Type 0 where

@@ -4,6 +4,7 @@ use Rattle.std.specs.Prelude.{slice_get, Option, Some, None, IfSome}
 use Rattle.std.specs.Char.{encode_utf8}
 use Rattle.std.specs.Str.{chars}
 use Rattle.std.proofs.lemmas.List.{append-nil}
+use Rattle.std.proofs.lemmas.Option.{IfSome_then}
 use Rattle.lalrpop_nfa.proofs.Cuts.{IsCut, word_after}
 use Rattle.lalrpop_dfa.specs.Dfa.{Row, step, run, after}
 use Rattle.lalrpop_dfa.specs.Lookahead.{IsAccepting, IsOpen, ReadsAtMost}
@@ -71,3 +72,8 @@ trail_cost shown d text at n before steps None most cost h = tt
 trail_cost shown d text at n before steps (Some m) most cost (w, h) =
     let few : length w ≤ n = most.1 (length w) (chars (shown m), w, opened d (length w) (chars (shown m)) w h.some h.accepted (waits_open d most.0 (after d (chars (shown m))) w h.stays) refl) in
     omega (arith, ap length h.word, length-append (chars (shown m)) w)
+
+-- a counter that has risen still pays for the match
+pub still_pays : {A : Type 0} (shown : A → List ℕ) (before steps more : ℕ) (o : Option A) → steps ≤ more → IfSome o (λ m. before + length (chars (shown m)) ≤ steps)
+    → IfSome o (λ m. before + length (chars (shown m)) ≤ more)
+still_pays shown before steps more o rises h = IfSome_then o h (λ m pays. omega (arith, rises, pays))

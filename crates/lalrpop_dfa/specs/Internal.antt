@@ -3,6 +3,8 @@ pub mod Written
 pub mod SameLaws
 pub mod Stored
 pub mod Marks
+-- borders of tests, and values by which a match runs on
+pub mod Fitting
 -- numbers of kernels
 pub mod Numbered
 -- items, and sets of them

@@ -12,6 +12,7 @@ pub mod Automata
 pub mod Dfa
 pub mod Counts
 pub mod Lookahead
+pub mod Follow
 pub mod Witness
 pub mod SameAutomata
 -- what private functions promise each other; public clauses do not name it

@@ -23,7 +23,7 @@ CanStayOpen L n = (v x : List ℕ) × LeavesOpen L n v x
 abbrev pub LooksAtMost : Words → ℕ → Type 0
 LooksAtMost L n = (m : ℕ) → CanStayOpen L m → m ≤ n
 
--- n is the greatest number of values after a word of L that leave it open, or 0 if there are none; None if there is no bound
+-- n is the greatest number of values after a word of L that leave it open, or 0 if there are none; None if they are unbounded
 abbrev pub IsLookahead : Words → Option ℕ → Type 0
 IsLookahead L (Some n) = LooksAtMost L n × ((n ≡ 0) ⊎ CanStayOpen L n)
 IsLookahead L None = (m : ℕ) → CanStayOpen L m

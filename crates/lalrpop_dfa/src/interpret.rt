@@ -36,6 +36,7 @@ pub fn interpret_counted<'text>(
     ensures cost { steps.new ≤ steps.old + length (chars input.now) }
     ensures looked { (n : ℕ) → ReadsAtMost dfa.now n → IfSome result (λ m.
         steps.new ≤ steps.old + length (chars m.1.now) + n + 1) }
+    ensures read { IfSome result (λ m. steps.old + length (chars m.1.now) ≤ steps.new) }
 {
     interpret_probed(dfa, input, steps, &mut Steps::new())
 }
@@ -55,6 +56,7 @@ pub fn interpret_probed<'text>(
     ensures cost { steps.new ≤ steps.old + length (chars input.now) }
     ensures looked { (n : ℕ) → ReadsAtMost dfa.now n → IfSome result (λ m.
         steps.new ≤ steps.old + length (chars m.1.now) + n + 1) }
+    ensures read { IfSome result (λ m. steps.old + length (chars m.1.now) ≤ steps.new) }
     ensures probed { (n d : ℕ) → HaveAtMost dfa.now n → n < 2 ^ d
         → probes.new ≤ probes.old + length (chars input.now) * d }
 {

@@ -7,6 +7,7 @@
 
 mod clone;
 mod equality;
+pub mod follow;
 mod index;
 pub mod interpret;
 mod items;

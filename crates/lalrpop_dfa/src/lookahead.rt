@@ -99,8 +99,8 @@ fn ever_waiting(alloc: Global, dfa: &Dfa) -> Result<Vec<bool>, AllocError>
     }
 }
 
-// Marks the place too, if there is one and the list has it.
-fn mark(marks: &mut Vec<bool>, place: Option<usize>)
+/// Marks the place too, if there is one and the list has it.
+pub(crate) fn mark(marks: &mut Vec<bool>, place: Option<usize>)
     ensures same_length { length marks.new.items ≡ length marks.old.items }
     ensures marked { (i : ℕ) → i < length marks.old.items
         → Marked marks.new.items i ↔ (Marked marks.old.items i ⊎ (place ≡ Some i)) }

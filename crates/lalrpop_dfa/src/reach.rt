@@ -2,7 +2,7 @@
 
 ghost use Rattle.std.specs.Prelude.{◌≡◌, ℕ, ◌<◌, ◌⊎◌, ◌↔◌, length, IsTrue, IfOk, OnOk};
 ghost use Rattle.lalrpop_dfa.specs.Dfa.{IsWellFormed};
-ghost use Rattle.lalrpop_dfa.specs.Internal.Marks.{AreAccepting, AreLive, AreMarkedBack, AreMarkedOn, AreReached, AreWaitingFor, LeadsInto, LeadsTo, Marked};
+ghost use Rattle.lalrpop_dfa.specs.Internal.Marks.{AreAccepting, AreLive, AreMarked, AreMarkedBack, AreMarkedOn, AreReached, AreWaitingFor, LeadsInto, LeadsOnTo, LeadsTo, Marked};
 
 use super::{Dfa, DfaStateIndex, Kind, START};
 use std::alloc::{AllocError, Global};
@@ -54,12 +54,14 @@ fn accepting_states(alloc: Global, dfa: &Dfa) -> Result<Vec<bool>, AllocError>
     Ok(marks)
 }
 
-/// The states from which some word leads to one that accepts a pattern.
-pub(crate) fn live_states(alloc: Global, dfa: &Dfa) -> Result<Vec<bool>, AllocError>
-    ensures marks { IfOk result (λ marks. AreLive dfa.now marks.items) }
-    ensures well_formed { OnOk result (IsWellFormed dfa.now) }
+/// The states from which some word leads to one of the goals.
+pub(crate) fn leading_states(dfa: &Dfa, goals: Vec<bool>) -> Result<Vec<bool>, AllocError>
+    requires well_formed { IsWellFormed dfa.now }
+    requires same_length { length goals.items ≡ length dfa.now }
+    ensures { IfOk result (λ marks.
+        AreMarked dfa.now (LeadsOnTo dfa.now (Marked goals.items)) marks.items) }
 {
-    let mut marks = accepting_states(alloc, dfa)?;
+    let mut marks = goals;
     loop {
         let before = marks.clone()?;
         mark_sources(dfa, &mut marks);
@@ -67,6 +69,14 @@ pub(crate) fn live_states(alloc: Global, dfa: &Dfa) -> Result<Vec<bool>, AllocEr
             return Ok(marks);
         }
     }
+}
+
+/// The states from which some word leads to one that accepts a pattern.
+pub(crate) fn live_states(alloc: Global, dfa: &Dfa) -> Result<Vec<bool>, AllocError>
+    ensures marks { IfOk result (λ marks. AreLive dfa.now marks.items) }
+    ensures well_formed { OnOk result (IsWellFormed dfa.now) }
+{
+    leading_states(dfa, accepting_states(alloc, dfa)?)
 }
 
 /// The states that accept no pattern, but from which some word leads to one that does.

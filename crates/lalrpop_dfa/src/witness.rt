@@ -93,7 +93,7 @@ fn open_values(
 }
 
 /// The shortest, then least, nonempty word that a pattern matches and that some `count` values after it leave open: they don't
-/// settle whether a longer match comes. The least such values come with it. `None` if there is no such word.
+/// settle whether a longer match comes. The least such values come with it. `None` if no word is left open.
 ///
 /// If `count` is what `lookahead` returns, it shows what makes the automaton look that far ahead.
 ///

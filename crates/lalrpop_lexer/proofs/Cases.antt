@@ -11,3 +11,5 @@ pub mod Terminals
 pub mod Matching
 mod SameTokens
 mod Renumbered
+mod Neighbours
+mod Joined

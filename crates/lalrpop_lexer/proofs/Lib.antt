@@ -36,3 +36,10 @@ pub mod Decided
 pub mod UniqueTokens
 pub mod RenumberLaws
 pub mod MoreRules
+pub mod TextPrefixes
+pub mod Locality
+pub mod NeighbourLaws
+-- the table of tokens that run on into others
+pub mod RunningOn
+-- texts of tokens
+pub mod Joining

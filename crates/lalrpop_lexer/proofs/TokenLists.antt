@@ -26,7 +26,7 @@ lead_block ts ps text d at to all all2 stands h (xs, e, k) =
     subst (LeadTo ts ps text 0 to) (sym e) (lead_on ts ps text 0 at to all xs h (k ts ps stands))
 
 -- tokens that lead to where the others begin, and the others
-tokens_led : (ts : List Tree) (ps text : List ℕ) (at to : ℕ) (xs : List Token) (ys : List (Result Token TokenFault)) → NoClash ts ps → LeadTo ts ps text at to xs
+pub tokens_led : (ts : List Tree) (ps text : List ℕ) (at to : ℕ) (xs : List Token) (ys : List (Result Token TokenFault)) → NoClash ts ps → LeadTo ts ps text at to xs
     → AreTokens ts ps text to ys → AreTokens ts ps text at (map Ok xs ++ ys)
 tokens_led ts ps text at to [] ys none h k = subst (λ (n : ℕ). AreTokens ts ps text n ys) (sym h) k
 tokens_led ts ps text at to (x ∷ xs) ys none h k = (

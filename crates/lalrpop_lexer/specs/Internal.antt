@@ -4,3 +4,6 @@ pub mod Code
 pub mod Memory
 pub mod Hopeless
 pub mod Standing
+-- which tokens may stand side by side
+pub mod RunningOn
+pub mod Joining

@@ -10,6 +10,8 @@ pub mod Line
 pub mod Terminals
 pub mod SameTokens
 pub mod Renumbered
+pub mod Neighbours
+pub mod Joined
 -- what the public contracts of the crates below name: from the book,
 pub use Rattle.lalrpop_book.specs.Word
 pub use Rattle.lalrpop_book.specs.Range
@@ -59,6 +61,7 @@ pub use Rattle.lalrpop_dfa.specs.Automata
 pub use Rattle.lalrpop_dfa.specs.Dfa
 pub use Rattle.lalrpop_dfa.specs.Counts as StateCounts
 pub use Rattle.lalrpop_dfa.specs.Lookahead
+pub use Rattle.lalrpop_dfa.specs.Follow
 pub use Rattle.lalrpop_dfa.specs.Witness
 pub use Rattle.lalrpop_dfa.specs.SameAutomata
 pub use Rattle.lalrpop_dense.specs.Leading

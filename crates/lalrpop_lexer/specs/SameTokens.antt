@@ -1,6 +1,6 @@
 -- cases: proofs/Cases/SameTokens.antt
 -- When two lists of tokens are the same.
-use Rattle.std.specs.Prelude.{◌≡◌, List, [], ◌∷◌, Result, Ok, Err}
+use Rattle.std.specs.Prelude.{◌≡◌, ℕ, ◌+◌, List, [], ◌∷◌, Result, Ok, Err}
 use Rattle.lalrpop_book.specs.declared.token.Token.{Token}
 use Rattle.lalrpop_book.specs.declared.token.TokenFault.{TokenFault}
 
@@ -14,3 +14,8 @@ AreSameTokens [] [] = Unit {0}
 AreSameTokens (Ok a ∷ xs) (Ok b ∷ ys) = IsSameToken a b × AreSameTokens xs ys
 AreSameTokens (Err a ∷ xs) (Err b ∷ ys) = (a.at ≡ b.at) × AreSameTokens xs ys
 AreSameTokens _ _ = ⊥
+
+-- the same token or fault, so many bytes further on
+abbrev pub moved : ℕ → Result Token TokenFault → Result Token TokenFault
+moved bytes (Ok token) = Ok (record token { start = bytes + token.start })
+moved bytes (Err fault) = Err (record { at = bytes + fault.at })

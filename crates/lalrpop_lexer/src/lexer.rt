@@ -24,6 +24,7 @@ pub mod re;
 
 use crate::LinearMatches;
 use crate::lexer_tokens::LexerTokens;
+use crate::neighbours::Neighbours;
 use crate::token_list::TokenList;
 use lalrpop_book::{Token, TokenFault};
 use lalrpop_build::{DfaConstructionError, Precedence, build_dfa};
@@ -261,7 +262,7 @@ impl Lexer {
     }
 
     /// The greatest number of characters that can follow a nonempty match and still leave it open whether a longer one comes;
-    /// `None` if there is no bound.
+    /// `None` if it is unbounded.
     ///
     /// If it is n, no more than n + 1 characters past the end of a token are read to decide it.
     pub fn lookahead(&self) -> Option<usize>
@@ -284,6 +285,17 @@ impl Lexer {
             (λ w. IsOnlyStrongest self.now.trees self.now.precedences w i)) }
     {
         unbounded_patterns(alloc, self.dense.dfa(), self.regexs().len())
+    }
+
+    /// Which tokens may stand side by side in a text. It takes a byte for each pair of patterns.
+    ///
+    /// # Errors
+    ///
+    /// `AllocError` if a request for memory was refused.
+    pub fn neighbours(&self, alloc: Global) -> Result<Neighbours<'_>, AllocError>
+        ensures lexer { IfOk result (λ neighbours. neighbours ≡ self.now) }
+    {
+        Neighbours::new(alloc, self, self.dense.dfa())
     }
 
     /// The shortest, then least, nonempty word that a pattern matches and that `count` characters after it can leave open: they don't

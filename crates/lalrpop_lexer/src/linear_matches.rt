@@ -138,6 +138,7 @@ impl<'text> LinearMatches<'text> {
         ensures paid { steps.new + self.new.spare
             ≤ steps.old + characters_of (option_map (λ m. m.1.now) result)
             + self.old.spare + 64 }
+        ensures read { steps.old + characters_of (option_map (λ m. m.1.now) result) ≤ steps.new }
     {
         let rest = self.rest();
         let Some(settled) = self.dense.longest_within(rest, self.credit, steps) else {
@@ -170,6 +171,7 @@ impl<'text> LinearMatches<'text> {
         ensures paid { steps.new + self.new.spare
             ≤ steps.old + characters_of (option_map (λ m. m.1.now) result)
             + self.old.spare + 64 }
+        ensures read { steps.old + characters_of (option_map (λ m. m.1.now) result) ≤ steps.new }
     {
         let rest = self.rest();
         let start = self.index + count_chars(&self.text[self.counted..self.at], steps);

@@ -51,6 +51,7 @@ pub(crate) fn longest_remembering<'text>(
         ≤ steps.old + result.end + 64 * room memo.old + 64 }
     ensures fewer { room memo.new ≤ room memo.old }
     ensures read { steps.new + start ≤ steps.old + result.end + result.past }
+    ensures at_least { steps.old + result.end ≤ steps.new + start }
 {
     // There is a state, so START is one.
     let _states = dfa.states();

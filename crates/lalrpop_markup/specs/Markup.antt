@@ -39,7 +39,7 @@ marked names (Fault start slice) = mark slice.now
 
 -- ---- what is markup: tags and entities
 
--- a tag of a span or a mark; in a class there is no quote, no `<` and no `>`
+-- a tag of a span or a mark; a class has no quote, no `<` and no `>`
 abbrev pub IsTag : List ℕ → Type 0
 IsTag tag =
     ((class : List ℕ) × ((tag ≡ codes "<span class=\"" ++ (class ++ codes "\">")) × (LacksByte 34 class × (LacksByte 60 class × LacksByte 62 class))))

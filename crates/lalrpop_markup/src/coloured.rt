@@ -39,7 +39,8 @@ fn letters(c: char) -> (char, char)
 }
 
 fn push_sequence(page: &mut String, parameters: &str) -> Result<(), AllocError>
-    ensures { OnOk result (string_bytes page.new ≡ string_bytes page.old ++ sequence parameters.now) }
+    ensures { OnOk result (string_bytes page.new
+        ≡ string_bytes page.old ++ sequence parameters.now) }
 {
     page.push_str("\x1b[")?;
     page.push_str(parameters)?;

@@ -1,12 +1,9 @@
 -- What follows from the promises, for callers.
-use Rattle.std.proofs.Common.{◌≡◌, ℕ, zero, suc, ◌+◌, ◌<◌, Bool, true, false, List, [], ◌∷◌, ◌++◌, length, refl, sym, ap, subst, ◌∙◌, arith}
-use Rattle.std.specs.Prelude.{Some, Result, Ok, Err, slice_get, slice_index, ◌&&◌}
-use Rattle.std.specs.Str.{chars, IsUtf8, encode_utf8_all}
-use Rattle.std.proofs.Math.Utf8.{scalar, scalars}
+use Rattle.std.proofs.Common.{◌≡◌, ℕ, zero, suc, ◌+◌, ◌<◌, Bool, List, [], ◌∷◌, length, sym, ap, subst, arith}
+use Rattle.std.specs.Prelude.{Some, Result, Ok, Err, slice_get, slice_index}
+use Rattle.std.specs.Str.{chars}
 use Rattle.std.proofs.lemmas.Option.{slice_get_within}
-use Rattle.std.proofs.lemmas.Str.{chars-append, chars-encodes, encodes-chars, encodes-append, scalars-chars}
 use Rattle.lalrpop_book.specs.Tree.{Tree}
-use Rattle.lalrpop_book.specs.Prefix.{IsPrefix}
 use Rattle.lalrpop_book.specs.Winners.{TreeMatches}
 use Rattle.lalrpop_book.specs.Tokens.{IsToken, AreTokens}
 use Rattle.lalrpop_book.specs.declared.token.Token.{Token as Cut}
@@ -53,28 +50,3 @@ piece_at_its_place ts ps skips text at zero (y ∷ xs) x are is =
     let here : IsPiece ts ps skips text at x = subst (λ (z : Item). IsPiece ts ps skips text at z) same are.0 in
     subst (λ (n : ℕ). IsPiece ts ps skips text n x) (sym (starts_at ts ps skips text at x here)) here
 piece_at_its_place ts ps skips text at (suc i) (y ∷ xs) x are is = piece_at_its_place ts ps skips text (at + length (slice_of y)) i xs x are.1 is
-
--- ---- prefixes in bytes and in characters
-
--- the characters of a prefix are a prefix of the characters
-pub characters_of_prefix : (p text : List ℕ) (b : IsPrefix p text) → chars text ≡ chars p ++ chars b.0
-characters_of_prefix p text b = ap chars b.1.0 ∙ chars-append p b.0 b.1.1
-
-and_parts : (a b : Bool) → (a && b) ≡ true → (a ≡ true) × (b ≡ true)
-and_parts true b e = (refl, e)
-and_parts false b e = absurd (cc)
-
-and_both : (a b : Bool) → a ≡ true → b ≡ true → (a && b) ≡ true
-and_both a b e f = rw (e, f) refl
-
-scalars_front : (v w : List ℕ) → scalars (v ++ w) ≡ true → scalars v ≡ true
-scalars_front [] w s = refl
-scalars_front (c ∷ v) w s =
-    let parts = and_parts (scalar c) (scalars (v ++ w)) s in and_both (scalar c) (scalars v) parts.0 (scalars_front v w parts.1)
-
--- and a prefix of the characters is that of a prefix of the text
-pub prefix_of_characters : (text v w : List ℕ) → IsUtf8 text → chars text ≡ v ++ w → IsPrefix (encode_utf8_all v) text × (chars (encode_utf8_all v) ≡ v)
-prefix_of_characters text v w u e =
-    let fine : scalars v ≡ true = scalars_front v w (ap scalars (sym e) ∙ scalars-chars text u) in
-    let split : text ≡ encode_utf8_all v ++ encode_utf8_all w = sym (encodes-chars text u) ∙ ap encode_utf8_all e ∙ encodes-append v w in
-    ((encode_utf8_all w, (split, (v, (fine, refl)))), chars-encodes v fine)

@@ -79,3 +79,13 @@ StopsBefore line rest NoName = (lead : List ℕ) × (IsSpan is_blank line lead r
 StopsBefore line rest NoEquals =
     (name : List ℕ) × ((behind : List ℕ) × (IsNamed line name behind × (IsMarked behind rest × ((right : List ℕ) → rest ≢ codes "=" ++ right))))
 StopsBefore line rest fault = (name : List ℕ) × ((skipped : Bool) × ((right : List ℕ) × (IsLeft line name skipped right × StopsRight right rest fault)))
+
+-- ---- in words
+
+abbrev pub reason_of : LineFault → List ℕ
+reason_of NotUtf8 = codes "this isn't UTF-8"
+reason_of NoName = codes "a name is missing: names are ASCII letters, digits and `_`, and don't begin with a digit"
+reason_of NoEquals = codes "`=` is missing: a name has only ASCII letters, digits and `_`, and only `skip` may follow it"
+reason_of PrecedenceTooLarge = codes "the precedence is too large: at most 20 digits, and below 2^64"
+reason_of NoText = codes "a literal in apostrophes or a pattern in slashes is missing"
+reason_of NotClosed = codes "the line must end with the apostrophe or slash of its text: a comment is a line of its own"

@@ -22,6 +22,8 @@ mod lists;
 #[cfg(test)]
 mod lookaheads;
 #[cfg(test)]
+mod neighbours;
+#[cfg(test)]
 mod order;
 #[cfg(test)]
 mod printed;

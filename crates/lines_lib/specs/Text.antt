@@ -6,7 +6,7 @@ use Rattle.lexdfa_lib.specs.Watch.{ReadsAll}
 use Rattle.lines_lib.specs.declared.text.TextError.{TextError}
 use Rattle.lines_lib.specs.declared.text.TextError.TheVariants.{Empty, NotText, Read, OutOfMemory}
 
--- there are no bytes, or they are UTF-8 up to this one and no further
+-- the text is empty, or UTF-8 up to this byte and no further
 abbrev pub LacksText : List ℕ → TextError → Type 0
 LacksText bytes Empty = bytes ≡ []
 LacksText bytes (NotText at) = IsValidUpTo bytes at

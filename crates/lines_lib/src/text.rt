@@ -69,7 +69,7 @@ pub fn text_of(bytes: Vec<u8>) -> Result<String, TextError>
 ///
 /// # Errors
 ///
-/// `Empty` if there are no bytes, `NotText` if the bytes aren't UTF-8, `Read` if a read failed, and `OutOfMemory` if a
+/// `Empty` if the reader has no bytes, `NotText` if the bytes aren't UTF-8, `Read` if a read failed, and `OutOfMemory` if a
 /// request for memory was refused.
 pub fn read_text<R: Read>(alloc: Global, reader: &mut Watched<R>) -> Result<String, TextError>
     requires reader_good { reader.old.failed ≡ false }

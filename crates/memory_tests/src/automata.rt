@@ -6,10 +6,10 @@ use lalrpop_hir::Hir;
 use lalrpop_lexer::lexer::dfa::interpret::interpret;
 use lalrpop_lexer::lexer::dfa::overlap::{remove_overlap, remove_overlap_counted};
 use lalrpop_lexer::lexer::dfa::{
-    DenseDfa, Dfa, DfaConstructionError, Precedence, State, Witness, build_dfa,
+    DenseDfa, Dfa, DfaConstructionError, NfaIndex, Precedence, State, Witness, build_dfa,
 };
 use lalrpop_lexer::lexer::nfa::{self, Nfa, NfaConstructionError, Steps, Test};
-use lalrpop_lexer::{Lexer, Token, TokenFault, TokenList};
+use lalrpop_lexer::{JoinError, Lexer, Token, TokenFault, TokenList};
 use std::alloc::{AllocError, Global};
 use std::collections::BTreeSet;
 use std::env::{self, VarError};
@@ -490,4 +490,35 @@ fn matches_are_left_open(rt: HostRuntime) {
 0 a / 0 a*b => 3 [97] [97, 97, 97]
 0 b => 0 [98] []";
     expect(&rt, rt.alloc(), Call::Witness, table, 3);
+}
+
+fn rejoined_by(alloc: Global, lexer: &Lexer, text: &str) -> Result<String, AllocError> {
+    let list = lexer.token_list(alloc, text)?;
+    let neighbours = lexer.neighbours(alloc)?;
+    let separator = Token {
+        index: NfaIndex::new(2),
+        slice: "_",
+        start: 0,
+    };
+    match neighbours.joined(alloc, &list.tokens, &separator) {
+        Ok(text) => Ok(text),
+        Err(JoinError::OutOfMemory) => Err(AllocError),
+        Err(error) => format!(in alloc; "{error}"),
+    }
+}
+
+// The text of the tokens of the text in `PATTERNS <- TEXT`, of which the third keeps others apart.
+pub(crate) fn rejoined(alloc: Global, row: &str) -> Result<String, AllocError> {
+    let (rows, text) = halves(row, " <- ");
+    let lexer = lexer_for(alloc, rows)?;
+    rejoined_by(alloc, &lexer, text)
+}
+
+#[test]
+fn tokens_are_joined_again(rt: HostRuntime) {
+    let table = "\
+1 if / 0 [a-z]+ / 0 _+ <- if_x => if_x
+1 if / 0 [a-z]+ / 0 _ <- __ => __
+1 [0-9]+([.][0-9]+)? / 0 [.] / 0 _ <- 1. => 1_.";
+    expect(&rt, rt.alloc(), Call::Joined, table, 3);
 }

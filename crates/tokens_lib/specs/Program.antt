@@ -1,11 +1,12 @@
 -- cases: proofs/Cases/Program.antt
 -- The answer of the whole program, for its arguments, what the files give and what standard input gives.
-use Rattle.std.specs.Prelude.{◌≡◌, ◌≢◌, ℕ, ◌⊎◌, nat_lt, List, [], ◌∷◌, length, map, flat_map, string_bytes, Option, Some, None, codes}
+use Rattle.std.specs.Prelude.{◌≡◌, ◌≢◌, ℕ, ◌⊎◌, nat_lt, List, [], ◌∷◌, ◌++◌, decimal, length, map, flat_map, string_bytes, Option, Some, None, codes}
 use Rattle.lalrpop_book.specs.Clash.{NoClash}
 use Rattle.lalrpop_book.specs.Clashes.{Entry}
 use Rattle.lalrpop_book.specs.Report.{NoFault}
 use Rattle.lalrpop_book.specs.Tree.{Tree}
 use Rattle.lalrpop_lexer.specs.Lines.{lines}
+use Rattle.lalrpop_rules.specs.RuleFault.{reason_of}
 use Rattle.lalrpop_rules.specs.RuleFile.{AreRules, IsRuleFileError, without_mark}
 use Rattle.lalrpop_rules.specs.RuleSet.{RuleSet, AreTrees, IsRulesError, names_of, precedences_of, skips_of}
 use Rattle.lalrpop_rules.specs.declared.error.RulesError.{RulesError}
@@ -46,10 +47,20 @@ abbrev pub rules_status : RulesError → ℕ
 rules_status (rules_errors.NotParsed i position kind) = 3
 rules_status error = 2
 
+-- a message about a place of a file: its line and column, a reason, and what is shown
+abbrev pub placed : ℕ → ℕ → List ℕ → List ℕ → List ℕ
+placed line column reason shown = decimal line ++ (codes ":" ++ (decimal column ++ (codes ": " ++ (reason ++ (codes "\n" ++ shown)))))
+
+-- what is said of a bad line
+abbrev pub SaysBadLine : RuleFileError → List ℕ → Type 0
+SaysBadLine (file_errors.BadLine line column fault) said = (shown : List ℕ) × (said ≡ placed line column (reason_of fault) shown)
+SaysBadLine file_errors.OutOfMemory said = ⊥
+
 -- the bytes have a bad line; or they are rules with this answer
 abbrev pub RulesOf : (List ℕ → List Rule → Answer → Type 0) → List ℕ → List ℕ → Answer → Type 0
 RulesOf IsFor file bytes answer =
-    ((error : RuleFileError) × (IsRuleFileError (without_mark bytes) error × ((error ≢ file_errors.OutOfMemory) × IsRefusal 3 file answer)))
+    ((error : RuleFileError) × (IsRuleFileError (without_mark bytes) error
+    × ((said : List ℕ) × (SaysBadLine error said × (answer ≡ refusal 3 (headed file said))))))
     ⊎ ((rs : List Rule) × (AreRules (lines (without_mark bytes)) rs × IsFor file rs answer))
 
 -- these rules make no lexer

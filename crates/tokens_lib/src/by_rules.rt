@@ -1,7 +1,7 @@
 //! The program over a file of named rules.
 ghost use Rattle.std.specs.Prelude.{◌≡◌, ◌≢◌, ℕ, List, Ok, false, true, IfOk, OnOk, IfErr};
 ghost use Rattle.tokens_lib.specs.Answer.{Answer, headed, Answered, Refused, Reads};
-ghost use Rattle.tokens_lib.specs.Program.{IsSetOf, AreRulesOf, RulesOf, RulesRefused, ClashesAnswer, clashes_status, rules_status};
+ghost use Rattle.tokens_lib.specs.Program.{IsSetOf, AreRulesOf, RulesOf, RulesRefused, SaysBadLine, ClashesAnswer, clashes_status, rules_status};
 ghost use Rattle.tokens_lib.specs.Streams.{Takes};
 
 use crate::files::{Files, NO_TEXT, bytes_of, say_headed};
@@ -28,9 +28,8 @@ fn report_line<E: Write>(
     err: &mut Watched<E>,
 ) -> Result<u8, RunError>
     ensures status { IfOk result (λ status. status ≡ 3) }
-    ensures known { OnOk result (error.now ≢ RuleFileError.OutOfMemory) }
-    ensures said { OnOk result ((rest : List ℕ)
-        × Takes E.contents err.old err.new (headed name.now rest)) }
+    ensures said { OnOk result ((said : List ℕ) × (SaysBadLine error.now said
+        × Takes E.contents err.old err.new (headed name.now said))) }
     ensures memory { IfErr result (λ e. e ≡ RunError.OutOfMemory) }
     ensures no_late_message { err.new.late ≡ err.old.late }
 {
@@ -186,7 +185,8 @@ fn list_clashes_in<W: Write, E: Write>(
     err: &mut Watched<E>,
 ) -> Result<u8, RunError>
     requires out_good { out.old.failed ≡ false }
-    ensures answer { IfOk result (λ status. (answer : Answer) × (RulesOf ClashesAnswer name.now bytes.now answer
+    ensures answer { IfOk result (λ status. (answer : Answer)
+        × (RulesOf ClashesAnswer name.now bytes.now answer
         × Answered W.contents E.contents out.old out.new err.old err.new status answer)) }
     ensures good { OnOk result (out.new.failed ≡ false) }
     ensures memory { IfErr result (λ e. e ≡ RunError.OutOfMemory → out.new.failed ≡ false) }

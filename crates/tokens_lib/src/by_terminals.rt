@@ -110,7 +110,8 @@ fn list_clashes_in<W: Write, E: Write>(
     err: &mut Watched<E>,
 ) -> Result<u8, RunError>
     requires out_good { out.old.failed ≡ false }
-    ensures answer { IfOk result (λ status. (answer : Answer) × (TerminalClashesAnswer name.now bytes.now answer
+    ensures answer { IfOk result (λ status. (answer : Answer)
+        × (TerminalClashesAnswer name.now bytes.now answer
         × Answered W.contents E.contents out.old out.new err.old err.new status answer)) }
     ensures good { OnOk result (out.new.failed ≡ false) }
     ensures memory { IfErr result (λ e. e ≡ RunError.OutOfMemory → out.new.failed ≡ false) }

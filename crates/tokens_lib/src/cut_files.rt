@@ -89,7 +89,8 @@ fn run_task<W: Write>(
     out: &mut Watched<W>,
 ) -> Result<CutResult, RunError>
     requires out_good { out.old.failed ≡ false }
-    ensures done { IfOk result (λ ending. (answer : Answer) × (TaskAnswer task.now name.now text.now answer
+    ensures done { IfOk result (λ ending. (answer : Answer)
+        × (TaskAnswer task.now name.now text.now answer
         × ((written : List ℕ) × (IsDone name.now text.now written ending answer
         × Appends (W.contents out.old.inner) (W.contents out.new.inner) written)))) }
     ensures boundary { IfOk result (λ ending. StopsIn text.now ending) }
@@ -157,7 +158,8 @@ fn cut_text<W: Write, E: Write>(
     err: &mut Watched<E>,
 ) -> Result<u8, RunError>
     requires out_good { out.old.failed ≡ false }
-    ensures answer { IfOk result (λ status. (answer : Answer) × (TaskAnswer task.now name.now text.now answer
+    ensures answer { IfOk result (λ status. (answer : Answer)
+        × (TaskAnswer task.now name.now text.now answer
         × Answered W.contents E.contents out.old out.new err.old err.new status answer)) }
     ensures good { OnOk result (out.new.failed ≡ false) }
     ensures memory { IfErr result (λ e. e ≡ RunError.OutOfMemory → out.new.failed ≡ false) }

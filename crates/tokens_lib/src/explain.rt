@@ -14,7 +14,7 @@ fn line_at(bytes: &[u8], number: usize) -> Option<&str> {
     str::from_utf8(line).ok()
 }
 
-// Where and why the pattern of a line `P r PATTERN` doesn't parse: the number of characters before the place, and the reason.
+// Where and why the pattern of a line `P r PATTERN` doesn't parse: the column, from 1, and the reason.
 fn syntax_of(alloc: Global, line: &str) -> Result<Option<(usize, SyntaxKind)>, AllocError> {
     let Some((precedence, rest)) = line.split_once(' ') else {
         return Ok(None);
@@ -26,20 +26,20 @@ fn syntax_of(alloc: Global, line: &str) -> Result<Option<(usize, SyntaxKind)>, A
         Ok(_) => Ok(None),
         Err(RegexError::OutOfMemory) => Err(AllocError),
         Err(RegexError::Syntax { position, kind }) => {
-            // Between the precedence and the pattern are a space, the letter and a space.
-            let before = precedence.len().saturating_add(3);
+            // Before the pattern are the precedence, a space, the letter and a space.
+            let first = precedence.len().saturating_add(4);
             let inside = characters_before(pattern, position);
-            Ok(Some((before.saturating_add(inside), kind)))
+            Ok(Some((first.saturating_add(inside), kind)))
         }
     }
 }
 
 // Where the pattern of a line doesn't parse, and why.
 fn syntax_explained(alloc: Global, number: usize, line: &str) -> Result<String, AllocError> {
-    let Some((before, kind)) = syntax_of(alloc, line)? else {
+    let Some((column, kind)) = syntax_of(alloc, line)? else {
         return format!(in alloc; "{number}: the pattern doesn't parse\n");
     };
-    place_explained(alloc, number, line, before, syntax_text(kind))
+    place_explained(alloc, number, line, column, syntax_text(kind))
 }
 
 fn bad_line_explained(

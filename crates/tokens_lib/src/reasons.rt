@@ -1,4 +1,6 @@
 //! What is wrong with a pattern, in words for people, and the place in its line.
+ghost use Rattle.std.specs.Prelude.{◌≡◌, ◌++◌, ℕ, List, string_bytes, IfOk, OnOk};
+ghost use Rattle.tokens_lib.specs.Program.{placed};
 
 use lalrpop_lexer::lexer::nfa::NfaConstructionError;
 use lalrpop_lexer::lexer::re::SyntaxKind;
@@ -73,7 +75,10 @@ pub(crate) fn clash_advice(word: &[u32]) -> &'static str {
 }
 
 // Blanks as wide as the first characters of the line.
-fn push_blanks(text: &mut String, line: &str, count: usize) -> Result<(), AllocError> {
+fn push_blanks(text: &mut String, line: &str, count: usize) -> Result<(), AllocError>
+    ensures { OnOk result ((blanks : List ℕ)
+        × (string_bytes text.new ≡ string_bytes text.old ++ blanks)) }
+{
     let mut left = count;
     for c in line.chars() {
         if left == 0 {
@@ -85,8 +90,8 @@ fn push_blanks(text: &mut String, line: &str, count: usize) -> Result<(), AllocE
     Ok(())
 }
 
-/// The place and the reason, and the line with a caret under the place, which is after the first `before` characters. Lines count from
-/// 1. The file's name stands before it.
+/// The place and the reason, and the line with a caret under the place. Lines and columns count from 1, columns in characters. The file's
+/// name stands before it.
 ///
 /// # Errors
 ///
@@ -95,13 +100,15 @@ pub(crate) fn place_explained(
     alloc: Global,
     number: usize,
     line: &str,
-    before: usize,
+    column: usize,
     reason: &str,
-) -> Result<String, AllocError> {
-    let column = before.saturating_add(1);
+) -> Result<String, AllocError>
+    ensures placed { IfOk result (λ message. (shown : List ℕ)
+        × (string_bytes message ≡ placed number column reason.now shown)) }
+{
     let shown = line_shown(alloc, line)?;
     let mut message = format!(in alloc; "{number}:{column}: {reason}\n    {shown}\n    ")?;
-    push_blanks(&mut message, line, before)?;
+    push_blanks(&mut message, line, column.saturating_sub(1))?;
     message.push_str("^\n")?;
     Ok(message)
 }

@@ -1,5 +1,6 @@
 //! Why a file of named rules gives no lexer, in words for people.
-ghost use Rattle.std.specs.Prelude.{◌≢◌, OnOk};
+ghost use Rattle.std.specs.Prelude.{◌≢◌, string_bytes, IfOk, OnOk};
+ghost use Rattle.tokens_lib.specs.Program.{SaysBadLine};
 
 use crate::named_clashes::name_of;
 use crate::reasons::{
@@ -40,8 +41,8 @@ fn syntax_explained(
     kind: SyntaxKind,
 ) -> Result<String, AllocError> {
     let line = line_at(bytes, place.line);
-    let before = place.column.saturating_sub(1).saturating_add(inside);
-    place_explained(alloc, place.line, line, before, syntax_text(kind))
+    let column = place.column.saturating_add(inside);
+    place_explained(alloc, place.line, line, column, syntax_text(kind))
 }
 
 // The number of characters of a rule's text before this byte.
@@ -150,7 +151,7 @@ pub(crate) fn bad_line_explained(
     bytes: &[u8],
     error: &RuleFileError,
 ) -> Result<String, AllocError>
-    ensures known { OnOk result (error.now ≢ RuleFileError.OutOfMemory) }
+    ensures said { IfOk result (λ message. SaysBadLine error.now (string_bytes message)) }
 {
     let RuleFileError::BadLine {
         line,
@@ -164,9 +165,8 @@ pub(crate) fn bad_line_explained(
         return format!(in alloc; "{line}:{column}: {fault}\n");
     }
     let shown = line_at(bytes, *line);
-    let before = column.saturating_sub(1);
     let reason = format!(in alloc; "{fault}")?;
-    let mut message = place_explained(alloc, *line, shown, before, reason.as_str())?;
+    let mut message = place_explained(alloc, *line, shown, *column, reason.as_str())?;
     if is_terminal(alloc, shown)? {
         message.push_str("This is a line of terminals: read such a file with --lines.\n")?;
     }

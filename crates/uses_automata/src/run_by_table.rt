@@ -1,6 +1,6 @@
 //! An automaton with a table beside it, run over a text.
 
-ghost use Rattle.std.specs.Prelude.{◌≡◌, ◌≢◌, ℕ, ◌+◌, ◌<◌, ◌≤◌, [], length, List, None, IfOk, IfNone, IfSome, MatchOption};
+ghost use Rattle.std.specs.Prelude.{◌≡◌, ◌≢◌, ℕ, ◌+◌, ◌<◌, ◌≤◌, ◌++◌, [], length, List, None, IfErr, IfOk, IfNone, IfSome, MatchOption};
 ghost use Rattle.std.specs.Option.{option_map};
 ghost use Rattle.std.specs.Str.{chars};
 ghost use Rattle.lalrpop_book.specs.Tree.{Tree};
@@ -8,6 +8,7 @@ ghost use Rattle.lalrpop_book.specs.Prefix.{IsPrefix};
 ghost use Rattle.lalrpop_dfa.specs.Dfa.{Recognizes};
 ghost use Rattle.lalrpop_dfa.specs.Lookahead.{ReadsAtMost};
 ghost use Rattle.lalrpop_book.specs.Longest.{IsLongest};
+ghost use Rattle.lalrpop_book.specs.declared.token.Token.{Token as TokenValue};
 ghost use Rattle.lalrpop_dense.specs.Leading.{LeadTo};
 
 use lalrpop_book::{NfaIndex, Token};
@@ -52,7 +53,7 @@ pub fn longest_by_automaton<'text>(
     interpret(dense.dfa(), text)
 }
 
-// Needs lalrpop_dense::DenseDfa::longest_counted: answer, prefix, never_falls, cost, looked.
+// Needs lalrpop_dense::DenseDfa::longest_counted: answer, prefix, never_falls, cost, looked, read.
 /// The longest match of the second text, after that of the first, with a step for each character that is read.
 pub fn counted_by_table<'text>(
     dense: &DenseDfa,
@@ -67,6 +68,7 @@ pub fn counted_by_table<'text>(
     ensures cost { steps.new ≤ steps.old + length (chars first.now) + length (chars second.now) }
     ensures looked { (n : ℕ) → ReadsAtMost dense.now n → IfSome result (λ m.
         steps.new ≤ steps.old + length (chars first.now) + length (chars m.1.now) + n + 1) }
+    ensures read { IfSome result (λ m. steps.old + length (chars m.1.now) ≤ steps.new) }
 {
     let _ = dense.longest_counted(first, steps);
     dense.longest_counted(second, steps)
@@ -88,7 +90,7 @@ pub fn longest_in_two_runs<'text>(
     }
 }
 
-// Needs lalrpop_dense::DenseDfa::longest_within: limit, past, never_falls.
+// Needs lalrpop_dense::DenseDfa::longest_within: limit, past, never_falls, read, within.
 /// Whether the first thousand bytes settle what matches, and how many were read past the match.
 pub fn read_past<'text>(
     dense: &DenseDfa,
@@ -99,6 +101,10 @@ pub fn read_past<'text>(
     ensures never_falls { steps.old ≤ steps.new }
     ensures past { IfSome result (λ found. MatchOption found.0 (steps.new ≤ steps.old + found.1)
         (λ m. steps.new ≤ steps.old + length (chars m.1.now) + found.1)) }
+    ensures read { IfSome result (λ found. IfSome found.0 (λ m.
+        steps.old + length (chars m.1.now) ≤ steps.new)) }
+    ensures within { IfSome result (λ found. IfSome found.0 (λ m.
+        length m.1.now + found.1 ≤ length text.now)) }
 {
     match dense.longest_within(text, 1000, steps) {
         Some(settled) => Some((settled.longest, settled.past)),
@@ -130,7 +136,25 @@ pub fn first_block<'text>(
     Ok((tokens, to))
 }
 
-// Needs lalrpop_dense::Matcher::longest_match: answer, prefix, never_falls, cost, looked.
+// Needs lalrpop_dense::DenseDfa::cut_block: failed.
+/// Adds the tokens of the text's first block to the list, which loses none of its tokens even if memory runs out.
+///
+/// # Errors
+///
+/// `AllocError` if a request for memory was refused.
+pub fn add_first_block<'text>(
+    dense: &DenseDfa,
+    text: &'text str,
+    ends: &mut TokenEnds,
+    tokens: &mut Vec<Token<'text>>,
+) -> Result<Option<usize>, AllocError>
+    ensures kept { IfErr result (λ _. (xs : List TokenValue)
+        × (tokens.new.items ≡ tokens.old.items ++ xs)) }
+{
+    dense.cut_block(text, 0, ends, tokens)
+}
+
+// Needs lalrpop_dense::Matcher::longest_match: answer, prefix, never_falls, cost, looked, read.
 /// The longest match of the second text, after that of the first, whatever finds it.
 pub fn longest_of_second<'text, M: Matcher>(
     matcher: &M,
@@ -145,6 +169,7 @@ pub fn longest_of_second<'text, M: Matcher>(
     ensures cost { steps.new ≤ steps.old + length (chars first.now) + length (chars second.now) }
     ensures looked { (n : ℕ) → ReadsAtMost (M.rows matcher.now) n → IfSome result (λ m.
         steps.new ≤ steps.old + length (chars first.now) + length (chars m.1.now) + n + 1) }
+    ensures read { IfSome result (λ m. steps.old + length (chars m.1.now) ≤ steps.new) }
 {
     let _ = matcher.longest_match(first, steps);
     matcher.longest_match(second, steps)

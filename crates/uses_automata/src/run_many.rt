@@ -25,7 +25,7 @@ pub fn longest<'text>(dfa: &Dfa, text: &'text str) -> Option<(NfaIndex, &'text s
     interpret(dfa, text)
 }
 
-// Needs lalrpop_dfa::interpret_counted: answer, prefix, never_falls, cost, looked.
+// Needs lalrpop_dfa::interpret_counted: answer, prefix, never_falls, cost, looked, read.
 /// Runs the automaton over two texts, on one counter.
 pub fn counted_over_two<'text>(
     dfa: &Dfa,
@@ -40,12 +40,13 @@ pub fn counted_over_two<'text>(
     ensures cost { steps.new ≤ steps.old + length (chars first.now) + length (chars second.now) }
     ensures looked { (n : ℕ) → ReadsAtMost dfa.now n → IfSome result (λ m.
         steps.new ≤ steps.old + length (chars first.now) + length (chars m.1.now) + n + 1) }
+    ensures read { IfSome result (λ m. steps.old + length (chars m.1.now) ≤ steps.new) }
 {
     let _ = interpret_counted(dfa, first, steps);
     interpret_counted(dfa, second, steps)
 }
 
-// Needs lalrpop_dfa::interpret_probed: answer, prefix, never_falls, cost, looked, probed.
+// Needs lalrpop_dfa::interpret_probed: answer, prefix, never_falls, cost, looked, read, probed.
 /// Runs the automaton over a text, and counts also the ranges that are compared.
 pub fn probed<'text>(
     dfa: &Dfa,
@@ -60,6 +61,7 @@ pub fn probed<'text>(
     ensures cost { steps.new ≤ steps.old + length (chars text.now) }
     ensures looked { (n : ℕ) → ReadsAtMost dfa.now n → IfSome result (λ m.
         steps.new ≤ steps.old + length (chars m.1.now) + n + 1) }
+    ensures read { IfSome result (λ m. steps.old + length (chars m.1.now) ≤ steps.new) }
     ensures probed { (n d : ℕ) → HaveAtMost dfa.now n → n < 2 ^ d
         → probes.new ≤ probes.old + length (chars text.now) * d }
 {

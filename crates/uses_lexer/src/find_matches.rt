@@ -74,7 +74,7 @@ pub fn is_at_the_end(matches: &mut LinearMatches) -> bool
 }
 
 // Needs lalrpop_lexer::LinearMatches::new: spare.
-// Needs lalrpop_lexer::LinearMatches::next_match: paid, never_falls.
+// Needs lalrpop_lexer::LinearMatches::next_match: paid, never_falls, read.
 /// The first match of the text, and what it costs.
 ///
 /// # Errors
@@ -91,6 +91,8 @@ pub fn find_first<'text>(
         + length (chars text.now) + length text.now
         + open_states dense.now * (length text.now + 64) + 64) }
     ensures never_falls { steps.old ≤ steps.new }
+    ensures read { IfOk result (λ found.
+        steps.old + characters_of (option_map (λ m. m.1.now) found) ≤ steps.new) }
 {
     let mut matches = LinearMatches::new(alloc, dense, text)?;
     Ok(matches.next_match(steps))

@@ -1,12 +1,14 @@
 //! What follows for tokens, pieces and clashes from the laws for callers, which the proofs here cite.
-ghost use Rattle.std.specs.Prelude.{◌≡◌, ◌≢◌, ◌++◌, ◌∷◌, ◌<◌, ◌≤◌, ◌⊎◌, ℕ, List, [], true, Result, Ok, Some, None, IfOk, IfSome, IsSomeAnd, MatchOption, length, map, slice_get, slice_index};
+ghost use Rattle.std.specs.Prelude.{◌≡◌, ◌≢◌, ◌++◌, ◌∷◌, ◌<◌, ◌≤◌, ◌⊎◌, ℕ, List, [], true, Result, Ok, Some, None, IfOk, IfSome, IsSomeAnd, MatchOption, drop, length, map, slice_get, slice_index};
 ghost use Rattle.std.specs.Iterator.{Drains};
 ghost use Rattle.std.specs.List.{Contains};
 ghost use Rattle.std.specs.Str.{chars};
 ghost use Rattle.lalrpop_book.specs.Clash.{NoClash};
 ghost use Rattle.lalrpop_book.specs.Clashes.{Entry};
+ghost use Rattle.lalrpop_dfa.specs.Lookahead.{LooksAtMost};
+ghost use Rattle.lalrpop_dense.specs.Leading.{LeadTo};
 ghost use Rattle.lalrpop_lexer.specs.Renumbered.{AreAlike, AreRenumbered, renumbered};
-ghost use Rattle.lalrpop_lexer.specs.SameTokens.{IsSameToken, AreSameTokens};
+ghost use Rattle.lalrpop_lexer.specs.SameTokens.{IsSameToken, AreSameTokens, moved};
 ghost use Rattle.lalrpop_book.specs.Tokens.{IsToken, AreTokens};
 ghost use Rattle.lalrpop_book.specs.Tree.{Tree};
 ghost use Rattle.lalrpop_book.specs.Winners.{TreeMatches, Matched};
@@ -213,4 +215,28 @@ pub fn clashes_of_both(
     let first = clashes(alloc, regexs, precedences)?;
     let second = clashes(alloc, others, strengths)?;
     Ok((first, second))
+}
+
+/// The tokens of a part of a text. Those that end so far before its end that more characters come after them than the lexer
+/// looks ahead are the first tokens of the whole text, whatever comes later.
+pub fn tokens_of_part<'text>(lexer: &'text Lexer, part: &'text str) -> LexerTokens<'text>
+    ensures stay { (n : ℕ) (xs : List TokenValue) (ys : List (Result TokenValue FaultValue))
+        → LooksAtMost (Matched lexer.now.trees) n → Drains GivesToken result (map Ok xs ++ ys)
+        → (to : ℕ) × ((n < length (chars (drop to part.now)) → (later : List ℕ)
+        → LeadTo lexer.now.trees lexer.now.precedences (part.now ++ later) 0 to xs)) }
+{
+    lexer.tokens(part)
+}
+
+/// The tokens of what is left of a text. They are the tokens of the whole text from there on, at places further on.
+pub fn tokens_of_rest<'text>(
+    lexer: &'text Lexer,
+    front: &'text str,
+    rest: &'text str,
+) -> LexerTokens<'text>
+    ensures moved { (xs : List (Result TokenValue FaultValue)) → Drains GivesToken result xs
+        → AreTokens lexer.now.trees lexer.now.precedences (front.now ++ rest.now)
+        (length front.now) (map (moved (length front.now)) xs) }
+{
+    lexer.tokens(rest)
 }

@@ -37,7 +37,7 @@ pub fn to_read(lexer: &Lexer, otherwise: usize) -> (usize, bool)
 }
 
 // Needs lalrpop_lexer::Lexer::unbounded_patterns: same_length, each.
-/// Whether a token can stay open for ever because of this pattern.
+/// Whether some token of this pattern can stay open for ever.
 ///
 /// # Errors
 ///

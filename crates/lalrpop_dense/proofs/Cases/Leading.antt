@@ -1,8 +1,10 @@
 -- Cases of specs/Leading.antt.
-use Rattle.std.proofs.Common.{◌≢◌, ℕ, List, [], ◌∷◌, refl}
+use Rattle.std.proofs.Common.{◌≡◌, ◌≢◌, ℕ, List, [], ◌∷◌, refl, sym}
+use Rattle.std.proofs.lemmas.List.{append-nil}
 use Rattle.lalrpop_book.specs.Tree.{Tree}
 use Rattle.lalrpop_book.specs.declared.token.Token.{Token}
-use Rattle.lalrpop_dense.specs.Leading.{LeadTo}
+use Rattle.lalrpop_dfa.specs.Dfa.{Row}
+use Rattle.lalrpop_dense.specs.Leading.{LeadTo, AddsTokens}
 
 none_leads_nowhere_else : (ts : List Tree) (ps text : List ℕ) (at : ℕ) → LeadTo ts ps text at at []
 none_leads_nowhere_else ts ps text at = refl
@@ -12,3 +14,9 @@ none_leads_no_further ts ps text at to other h = other h
 
 token_that_begins_elsewhere : (ts : List Tree) (ps text : List ℕ) (at to : ℕ) (token : Token) → token.start ≢ at → ¬ LeadTo ts ps text at to (token ∷ [])
 token_that_begins_elsewhere ts ps text at to token other h = other h.0
+
+adds_none : (d : List Row) (text : List ℕ) (at : ℕ) (old : List Token) → AddsTokens d text at at old old
+adds_none d text at old = ([], sym (append-nil old), λ ts ps stands. refl)
+
+loses_one : (d : List Row) (text : List ℕ) (at to : ℕ) (token : Token) → ¬ AddsTokens d text at to (token ∷ []) []
+loses_one d text at to token h = let none : [] ≡ token ∷ h.0 = h.1 in cc

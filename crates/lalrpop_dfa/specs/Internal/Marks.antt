@@ -21,6 +21,20 @@ abbrev pub StaysOpen : List Row → ℕ → List ℕ → Type 0
 StaysOpen d p [] = Unit {0}
 StaysOpen d p (c ∷ w) = IsOpen d (step d p c) × StaysOpen d (step d p c) w
 
+-- ---- states with a property, and those from which some word leads to one
+-- exactly the states with the property W are marked
+pub record AreMarked (d : List Row) (W : ℕ → Type 0) (marks : List Bool) : Type 0 where
+  pub same_length : length marks ≡ length d
+  pub each : (p : ℕ) → p < length d → Marked marks p ↔ W p
+
+-- some word leads from the state p to one with the property W
+abbrev pub LeadsOnTo : List Row → (ℕ → Type 0) → ℕ → Type 0
+LeadsOnTo d W p = (z : List ℕ) × W (run d p z)
+
+-- the state accepts the tree i
+abbrev pub IsAcceptingAs : List Row → ℕ → ℕ → Type 0
+IsAcceptingAs d i p = IsSomeAnd (slice_get d p) (λ r. r.kind ≡ Accepts i)
+
 -- ---- accepting states, live states, and states that a nonempty word reaches
 pub record AreAccepting (d : List Row) (marks : List Bool) : Type 0 where
   pub same_length : length marks ≡ length d
@@ -78,7 +92,7 @@ AreWaitingEver d marks = (n : ℕ) × (AreWaitingFor d n marks × AreWaitingFor 
 
 -- the state is among those reached, it accepts the tree i, and some value leads from it to a marked one
 abbrev pub EntersBy : List Row → List Bool → List Bool → ℕ → ℕ → Type 0
-EntersBy d reached marks i p = Marked reached p × (IsSomeAnd (slice_get d p) (λ r. r.kind ≡ Accepts i) × LeadsInto d marks p)
+EntersBy d reached marks i p = Marked reached p × (IsAcceptingAs d i p × LeadsInto d marks p)
 
 -- some state does
 abbrev pub IsEntered : List Row → List Bool → List Bool → Type 0

@@ -55,7 +55,8 @@ fn spread(dfa: &Dfa, distances: &mut [usize], distance: usize) -> bool
         → AreSpread dfa.now n (distance + 1) distances.new }
     ensures fewer { result ≡ true → unknown_count distances.new < unknown_count distances.old }
     ensures none { result ≡ false → (n : ℕ) → AreSpread dfa.now n distance distances.old
-        → (p : ℕ) → p < length dfa.now → IsNear dfa.now n (distance + 1) p → IsNear dfa.now n distance p }
+        → (p : ℕ) → p < length dfa.now → IsNear dfa.now n (distance + 1) p
+        → IsNear dfa.now n distance p }
 {
     let mut is_any = false;
     for number in 0..dfa.states().len() {

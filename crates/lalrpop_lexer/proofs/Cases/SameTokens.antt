@@ -1,8 +1,8 @@
 -- Cases of specs/SameTokens.antt.
-use Rattle.std.proofs.Common.{◌≡◌, ◌≢◌, ℕ, List, [], ◌∷◌, refl, arith}
+use Rattle.std.proofs.Common.{◌≡◌, ◌≢◌, ℕ, List, [], ◌∷◌, refl, ap, arith}
 use Rattle.std.specs.Prelude.{Result, Ok, Err}
 use Rattle.std.specs.Borrow.{Bor}
-use Rattle.lalrpop_lexer.specs.SameTokens.{IsSameToken, AreSameTokens}
+use Rattle.lalrpop_lexer.specs.SameTokens.{IsSameToken, AreSameTokens, moved}
 use Rattle.lalrpop_book.specs.declared.token.Token.{Token}
 use Rattle.lalrpop_book.specs.declared.token.TokenFault.{TokenFault}
 
@@ -37,3 +37,14 @@ one_token_more x same = same
 
 fault_for_a_token : (a : Bor (List ℕ)) → ¬ AreSameTokens (Ok (token 0 0 a) ∷ []) (Err (record { at = 0 }) ∷ [])
 fault_for_a_token a same = same
+
+-- the place moves, and nothing else
+moved_token : (a : Bor (List ℕ)) → moved 3 (Ok (token 1 2 a)) ≡ Ok (token 1 5 a)
+moved_token a = refl
+
+abbrev place : Result Token TokenFault → ℕ
+place (Ok token) = token.start
+place (Err fault) = fault.at
+
+moved_fault : moved 3 (Err (record { at = 2 })) ≢ Err (record { at = 2 })
+moved_fault e = let five : ℕ = 5 in let two : ℕ = 2 in let same : five ≡ two = ap place e in omega (arith, same)

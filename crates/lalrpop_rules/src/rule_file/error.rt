@@ -1,5 +1,6 @@
 //! Why a file of rules can't be read.
-ghost use Rattle.std.specs.Prelude.{◌≡◌};
+ghost use Rattle.std.specs.Prelude.{◌≡◌, Some};
+ghost use Rattle.lalrpop_rules.specs.RuleFault.{reason_of};
 ghost use Rattle.lalrpop_rules.specs.declared.rule_file.error.RuleFileError.TheVariants.{OutOfMemory};
 
 use std::alloc::{AllocError, AllocFailed};
@@ -32,20 +33,29 @@ pub enum LineFault {
     NotClosed,
 }
 
+fn reason_of(fault: &LineFault) -> &'static str
+    ensures { result.now ≡ reason_of fault.now }
+{
+    match fault {
+        LineFault::NotUtf8 => "this isn't UTF-8",
+        LineFault::NoName =>
+            "a name is missing: names are ASCII letters, digits and `_`, and don't begin with a digit",
+        LineFault::NoEquals =>
+            "`=` is missing: a name has only ASCII letters, digits and `_`, and only `skip` may follow it",
+        LineFault::PrecedenceTooLarge =>
+            "the precedence is too large: at most 20 digits, and below 2^64",
+        LineFault::NoText => "a literal in apostrophes or a pattern in slashes is missing",
+        LineFault::NotClosed =>
+            "the line must end with the apostrophe or slash of its text: a comment is a line of its own",
+    }
+}
+
+/// The reason in words, without the place.
 impl Display for LineFault {
+    ghost output = { λ fault. Some (reason_of fault) };
+
     fn fmt<W: Write>(&self, f: &mut Formatter<W>) -> Result<(), fmt::Error> {
-        f.write_str(match self {
-            LineFault::NotUtf8 => "this isn't UTF-8",
-            LineFault::NoName =>
-                "a name is missing: names are ASCII letters, digits and `_`, and don't begin with a digit",
-            LineFault::NoEquals =>
-                "`=` is missing: a name has only ASCII letters, digits and `_`, and only `skip` may follow it",
-            LineFault::PrecedenceTooLarge =>
-                "the precedence is too large: at most 20 digits, and below 2^64",
-            LineFault::NoText => "a literal in apostrophes or a pattern in slashes is missing",
-            LineFault::NotClosed =>
-                "the line must end with the apostrophe or slash of its text: a comment is a line of its own",
-        })
+        f.write_str(reason_of(self))
     }
 }
 

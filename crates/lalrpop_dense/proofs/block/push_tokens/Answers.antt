@@ -41,3 +41,6 @@ loop-mark-preserved g c =
       on = omega (arith, all.0.some, c.loop-mark.invariant.on);
       goes = λ some. omega (arith, all.0.some, c.loop-mark.invariant.on);
     }
+
+pub returns-in-Err-clause-failed : goal.returns-in-Err-clause-failed
+returns-in-Err-clause-failed g c = let tokens = c.loop-mark.invariant.tokens in (c.loop-mark.start, (tokens.0, c.in-Err.ensures.items ∙ tokens.1, tokens.2))

@@ -21,3 +21,9 @@ returns-in-Some-clause-looked g c = λ n most.
     let slice : c.range.result.now ≡ take c.in-Some.end c.args.text.now =
     (let all : c.in-Some.end - 0 ≡ c.in-Some.end = omega arith in c.range.ensures.value ∙ ap (λ (n : ℕ). take n c.args.text.now) all) in
     rw slice (rw c.in-Some.is at (c.walk-stop.ensures.looked n most))
+
+pub returns-in-Some-clause-read : goal.returns-in-Some-clause-read
+returns-in-Some-clause-read g c =
+    let slice : c.range.result.now ≡ take c.in-Some.end c.args.text.now =
+    (let all : c.in-Some.end - 0 ≡ c.in-Some.end = omega arith in c.range.ensures.value ∙ ap (λ (n : ℕ). take n c.args.text.now) all) in
+    rw slice (rw c.in-Some.is at c.walk-stop.ensures.read)

@@ -13,3 +13,14 @@ returns-in-Some-clause-answer g c = λ ts ps s.
 
 pub returns-in-None-clause-answer : goal.returns-in-None-clause-answer
 returns-in-None-clause-answer g c = λ ts ps s. rw c.in-None.is at (c.walk-stop.ensures.answer ts ps s (not-false c.walk-stop.result.is_settled c.if-not-stop.false))
+
+pub returns-in-Some-clause-read : goal.returns-in-Some-clause-read
+returns-in-Some-clause-read g c =
+    let slice : c.range.result.now ≡ take c.in-Some.end c.args.text.now =
+    (let all : c.in-Some.end - 0 ≡ c.in-Some.end = omega arith in c.range.ensures.value ∙ ap (λ (n : ℕ). take n c.args.text.now) all) in
+    rw slice (rw c.in-Some.is at c.walk-stop.ensures.read)
+
+pub returns-in-Some-clause-within : goal.returns-in-Some-clause-within
+returns-in-Some-clause-within g c =
+    let past = rw c.in-Some.is at c.walk-stop.ensures.past in
+    omega (arith, past.0, c.range.ensures.len, c.walk-stop.ensures.within)

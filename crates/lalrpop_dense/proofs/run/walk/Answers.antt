@@ -3,10 +3,11 @@ use Rattle.std.specs.Option.{option_map}
 use Rattle.std.specs.Str.{chars}
 use Rattle.std.proofs.lemmas.Bool.{leb-true}
 use Rattle.std.proofs.lemmas.Str.{chars-nil}
+use Rattle.lalrpop_nfa.proofs.Cuts.{cut_within}
 use Rattle.lalrpop_dfa.proofs.LongestLemmas.{longest_start}
 use Rattle.lalrpop_dense.specs.Internal.Reading.{found}
 use Rattle.lalrpop_dense.proofs.Walks.{walked_start, walked_more, in_row, walked_on, walked_boundary, walk_accepts, walk_place, walk_passes, walk_rejects, walk_ends, walk_counts, walk_count, walk_trail, walk_trails, past_more, past_of}
-use Rattle.lalrpop_dfa.proofs.Trails.{some_read, trail_cost}
+use Rattle.lalrpop_dfa.proofs.Trails.{some_read, trail_cost, still_pays}
 use Rattle.lalrpop_dense.proofs.run.walk.Goals as goal
 
 pub walk-init : goal.walk-init
@@ -18,6 +19,7 @@ walk-init g c = record {
   below = let none : length (chars []) ≡ 0 = ap length chars-nil in omega arith;
   limit = let none : length (chars []) ≡ 0 = ap length chars-nil in omega arith;
   past = let none : length (chars []) ≡ 0 = ap length chars-nil in omega arith;
+  read = tt;
   trail = tt;
 }
 
@@ -56,6 +58,7 @@ walk-preserved-then-state-layout-2 g c =
       below = omega (arith, c.walk.invariant.below);
       limit = omega (arith, c.walk.invariant.below, c.walk-test.true);
       past = (omega arith, omega arith);
+      read = omega (arith, more, c.walk.invariant.cost);
       trail = walk_trail c.args.layout.now (g.C.Cells.numbers c.args.cells.now) c.args.dfa.now c.args.text.now c.read_class-class.new.at c.at-state.result c.requires.table w2 c.if-state-layout.false c.if-state-layout-2.true
           (some_read c.args.text.now (drop c.walk.at c.args.text.now) (drop c.read_class-class.new.at c.args.text.now) c.walk.at c.read_class-class.new.at read.0 w.cut read.1.0.split read.1.0.place);
     }
@@ -77,6 +80,7 @@ walk-preserved g c =
       below = omega (arith, c.walk.invariant.below);
       limit = omega (arith, c.walk.invariant.below, c.walk-test.true);
       past = past_more c.args.text.now c.walk.at c.read_class-class.new.at 0 (length (chars (take c.walk.at c.args.text.now))) (length (chars (take c.read_class-class.new.at c.args.text.now))) c.walk.longest more on c.walk.invariant.past;
+      read = still_pays (λ m. take m.1 c.args.text.now) c.args.steps.now c.walk.steps c.tick.new.self c.walk.longest (omega arith) c.walk.invariant.read;
       trail = walk_trails c.args.layout.now (g.C.Cells.numbers c.args.cells.now) c.args.dfa.now c.args.text.now c.walk.at c.read_class-class.new.at c.walk.state c.at-state.result read.0 c.walk.longest c.requires.table w w2 read.1.0 c.if-state-layout.false c.if-state-layout-2.false c.walk.invariant.trail;
     }
 
@@ -134,3 +138,17 @@ returns-then-state-layout-clause-past g c =
 
 pub returns-clause-past : goal.returns-clause-past
 returns-clause-past g c = past_of c.args.text.now c.walk.at c.args.steps.now c.walk.steps (length (chars (take c.walk.at c.args.text.now))) c.walk.longest c.walk.invariant.cost c.walk.invariant.past
+
+pub returns-then-state-layout-clause-read : goal.returns-then-state-layout-clause-read
+returns-then-state-layout-clause-read g c =
+    still_pays (λ m. take m.1 c.args.text.now) c.args.steps.now c.walk.steps c.tick.new.self c.walk.longest (omega arith) c.walk.invariant.read
+
+pub returns-then-state-layout-clause-within : goal.returns-then-state-layout-clause-within
+returns-then-state-layout-clause-within g c =
+    let read = c.read_class-class.ensures in
+    let w2 = walked_more c.args.layout.now (g.C.Cells.numbers c.args.cells.now) c.args.dfa.now c.args.text.now c.walk.at c.read_class-class.new.at c.walk.state c.at-state.result c.read_class-class.result read.0
+    c.requires.table c.states-states.ensures.well_formed c.utf8.text c.walk.invariant.walked read.1.0 read.1.1 c.at-state.ensures in
+    omega (arith, cut_within c.args.text.now (drop c.read_class-class.new.at c.args.text.now) c.read_class-class.new.at w2.cut)
+
+pub returns-clause-within : goal.returns-clause-within
+returns-clause-within g c = omega (arith, cut_within c.args.text.now (drop c.walk.at c.args.text.now) c.walk.at c.walk.invariant.walked.cut)

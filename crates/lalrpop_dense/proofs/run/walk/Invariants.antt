@@ -19,6 +19,7 @@ invariant-walk g l = record {
   below : length (chars (take l.at l.text)) ≤ l.at;
   limit : length (chars (take l.at l.text)) ≤ l.limit;
   past : PaysPast l.text l.at 0 (length (chars (take l.at l.text))) l.longest;
+  read : IfSome l.longest (λ m. l.initial.steps + length (chars (take m.1 l.text)) ≤ l.steps);
   trail : IfSome l.longest (λ m. HasTrail l.dfa l.text l.at (take m.1 l.text));
 }
 

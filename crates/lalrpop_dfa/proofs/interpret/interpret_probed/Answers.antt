@@ -6,7 +6,7 @@ use Rattle.std.proofs.lemmas.Str.{chars-nil, len_utf8_bounds, length-encode, IsC
 use Rattle.lalrpop_dfa.specs.Dfa.{step}
 use Rattle.lalrpop_dfa.specs.declared.Kind.TheVariants.{Accepts, Reject, Neither}
 use Rattle.lalrpop_dfa.proofs.LongestLemmas.{after_start, after_more, says_of, reject_at, longest_start, longest_accept, part_accept, longest_pass, longest_end, longest_stop}
-use Rattle.lalrpop_dfa.proofs.Trails.{some_read, trail_accept, trail_pass, trail_cost}
+use Rattle.lalrpop_dfa.proofs.Trails.{some_read, trail_accept, trail_pass, trail_cost, still_pays}
 use Rattle.lalrpop_dfa.proofs.EdgeTargets.{the_some, probed_turn, probed_end}
 use Rattle.lalrpop_nfa.proofs.Cuts.{cut_start, cut_within, cut_more, count_more, count_within}
 use Rattle.lalrpop_dfa.proofs.interpret.interpret_probed.Goals as goal
@@ -24,6 +24,7 @@ loop-offset-init c =
       cost = let none : length (chars []) ≡ 0 = ap length chars-nil in omega arith;
       never_falls = omega arith;
       probed = λ n d h l. omega arith;
+      read = tt;
       trail = tt;
     }
 
@@ -60,6 +61,7 @@ loop-offset-preserved-in-Accepts c =
       cost = let more = count_more text rest rest2 at at2 c.in-Some.c c.loop-offset.invariant.cut s.1 s.2 in omega arith;
       never_falls = omega (arith, c.loop-offset.invariant.never_falls, c.step_probed-state.ensures.never_falls);
       probed = λ n d h l. probed_turn _ _ _ _ _ d (c.loop-offset.invariant.probed n d h l) (c.step_probed-state.ensures.probed n d h l) (count_more text rest rest2 at at2 c.in-Some.c c.loop-offset.invariant.cut s.1 s.2);
+      read = omega (arith, c.loop-offset.invariant.cost, count_more text rest rest2 at at2 c.in-Some.c c.loop-offset.invariant.cut s.1 s.2, ap (λ w. length (chars w)) is);
       trail = trail_accept c.args.dfa.now text at2 c.range.result.now c.step_probed-state.result row.0 c.in-Accepts.index is after.reached row.1.0 (sym (c.kind.ensures.kind ∙ row.1.1.kind) ∙ c.in-Accepts.is)
           (some_read text rest rest2 at at2 c.in-Some.c c.loop-offset.invariant.cut s.1 s.2);
     }
@@ -87,6 +89,7 @@ loop-offset-preserved c =
       cost = let more = count_more text rest rest2 at at2 c.in-Some.c c.loop-offset.invariant.cut s.1 s.2 in omega arith;
       never_falls = omega (arith, c.loop-offset.invariant.never_falls, c.step_probed-state.ensures.never_falls);
       probed = λ n d h l. probed_turn _ _ _ _ _ d (c.loop-offset.invariant.probed n d h l) (c.step_probed-state.ensures.probed n d h l) (count_more text rest rest2 at at2 c.in-Some.c c.loop-offset.invariant.cut s.1 s.2);
+      read = still_pays (λ m. m.1.now) c.args.steps.now c.loop-offset.steps c.tick.new.self c.loop-offset.longest (omega arith) c.loop-offset.invariant.read;
       trail = trail_pass (λ m. m.1.now) c.args.dfa.now text rest rest2 at at2 c.in-Some.c c.step_probed-state.result row.0 c.loop-offset.longest c.loop-offset.invariant.cut s.1 s.2 after.reached row.1.0 (sym (c.kind.ensures.kind ∙ row.1.1.kind) ∙ c.in-Neither.is) c.loop-offset.invariant.trail;
     }
 
@@ -159,3 +162,6 @@ returns-in-Reject-clause-looked c = λ n most.
 pub returns-in-None-clause-looked : goal.returns-in-None-clause-looked
 returns-in-None-clause-looked c = λ n most.
     trail_cost (λ m. m.1.now) c.args.dfa.now c.args.input.now (char_indices_offset c.loop-offset.offset-iterator) n c.args.steps.now c.loop-offset.steps c.loop-offset.longest most (omega (arith, c.loop-offset.invariant.cost)) c.loop-offset.invariant.trail
+
+pub returns-in-Reject-clause-read : goal.returns-in-Reject-clause-read
+returns-in-Reject-clause-read c = still_pays (λ m. m.1.now) c.args.steps.now c.loop-offset.steps c.tick.new.self c.loop-offset.longest (omega arith) c.loop-offset.invariant.read

@@ -21,5 +21,6 @@ invariant-loop-offset l = record {
   cost : l.steps ≡ l.initial.steps + length (chars (take (char_indices_offset l.offset-iterator) l.input));
   never_falls : l.initial.probes ≤ l.probes;
   probed : (n d : ℕ) → HaveAtMost l.dfa n → n < 2 ^ d → l.probes ≤ l.initial.probes + length (chars (take (char_indices_offset l.offset-iterator) l.input)) * d;
+  read : IfSome l.longest (λ m. l.initial.steps + length (chars m.1.now) ≤ l.steps);
   trail : IfSome l.longest (λ m. HasTrail l.dfa l.input (char_indices_offset l.offset-iterator) m.1.now);
 }

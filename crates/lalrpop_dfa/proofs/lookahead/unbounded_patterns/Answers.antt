@@ -1,7 +1,7 @@
 use Rattle.std.proofs.Common.{◌≡◌, ℕ, ◌<◌, ◌↔◌, ◌∙◌, length, subst, arith}
 use Rattle.std.specs.Prelude.{Some}
 use Rattle.lalrpop_dfa.specs.Internal.Marks.{Marked, EntersBy}
-use Rattle.lalrpop_dfa.proofs.Marking.{entered_more, ever_marked}
+use Rattle.lalrpop_dfa.proofs.Marking.{ever_marked, told_more}
 use Rattle.lalrpop_dfa.proofs.lookahead.unbounded_patterns.Goals as goal
 
 pub loop-number-preserved : goal.loop-number-preserved
@@ -17,7 +17,7 @@ loop-number-preserved c =
     record {
       same_length = c.mark.ensures.same_length ∙ c.loop-number.invariant.same_length;
       each =
-          entered_more d reached marks c.loop-number.found.items c.mark.new.marks.items c.args.count c.loop-number.number place
+          told_more (EntersBy d reached marks) c.loop-number.found.items c.mark.new.marks.items c.args.count c.loop-number.number place
           c.loop-number.invariant.same_length c.loop-number.invariant.each here c.mark.ensures.marked;
     }
 

@@ -1,38 +1,9 @@
-use Rattle.std.proofs.Common.{◌≡◌, ◌≤◌, ap, length, subst, arith}
-use Rattle.lalrpop_dfa.specs.Internal.Marks.{AreMarkedBack}
-use Rattle.lalrpop_dfa.proofs.Marking.{count_at_most, marked_count}
-use Rattle.lalrpop_dfa.proofs.Ranked.{written}
-use Rattle.lalrpop_dfa.proofs.Reaching.{changed, live_end, live_more, same_copy, unchanged}
+use Rattle.std.proofs.lemmas.Result.{IfOk-weaker}
+use Rattle.lalrpop_dfa.proofs.Reaching.{live_of}
 use Rattle.lalrpop_dfa.proofs.reach.live_states.Goals as goal
 
-pub returns-then-eq-clause-marks : goal.returns-then-eq-clause-marks
-returns-then-eq-clause-marks c =
+pub returns-clause-marks : goal.returns-clause-marks
+returns-clause-marks c =
     let d = c.args.dfa.now in
-    let old = c.loop-marks.marks.items in
-    let new = c.mark_sources.new.marks in
-    let more : AreMarkedBack d old new = subst (λ m. AreMarkedBack d m new) c.deref_mut.ensures.value c.mark_sources.ensures in
-    let count : c.loop-marks.marks.len ≡ length old = omega (arith, c.deref_mut.ensures.len, ap length c.deref_mut.ensures.value) in
-    let is = written new old c.loop-marks.marks.len more.same_length count in
-    let same = unchanged old new c.in_ok-before.before.items (same_copy old c.in_ok-before.before.items c.in_ok-before.ensures.cases.0) c.eq.result (rw is at c.eq.ensures) c.if-eq.true in
-    rw (is, same) (live_end d c.in_ok-marks.ensures.well_formed old c.loop-marks.invariant (subst (AreMarkedBack d old) same more))
-
-pub loop-marks-smaller : goal.loop-marks-smaller
-loop-marks-smaller c =
-    let d = c.args.dfa.now in
-    let old = c.loop-marks.marks.items in
-    let new = c.mark_sources.new.marks in
-    let more : AreMarkedBack d old new = subst (λ m. AreMarkedBack d m new) c.deref_mut.ensures.value c.mark_sources.ensures in
-    let count : c.loop-marks.marks.len ≡ length old = omega (arith, c.deref_mut.ensures.len, ap length c.deref_mut.ensures.value) in
-    let is = written new old c.loop-marks.marks.len more.same_length count in
-    let grows = changed old new c.in_ok-before.before.items (same_copy old c.in_ok-before.before.items c.in_ok-before.ensures.cases.0) c.eq.result (rw is at c.eq.ensures) c.if-eq.false more.same_length more.kept in
-    let most : marked_count new ≤ length d = omega (arith, count_at_most new, more.same_length, c.loop-marks.invariant.same_length) in
-    rw is (omega (arith, grows, most))
-
-pub loop-marks-preserved : goal.loop-marks-preserved
-loop-marks-preserved c =
-    let d = c.args.dfa.now in
-    let old = c.loop-marks.marks.items in
-    let new = c.mark_sources.new.marks in
-    let more : AreMarkedBack d old new = subst (λ m. AreMarkedBack d m new) c.deref_mut.ensures.value c.mark_sources.ensures in
-    let count : c.loop-marks.marks.len ≡ length old = omega (arith, c.deref_mut.ensures.len, ap length c.deref_mut.ensures.value) in
-    rw (written new old c.loop-marks.marks.len more.same_length count) (live_more d old new c.loop-marks.invariant more)
+    let goals = c.in_ok-accepting_states.field-0 in
+    IfOk-weaker c.leading_states.result _ _ (λ marks lead. live_of d goals.items marks.items c.in_ok-accepting_states.ensures.marks lead) c.leading_states.ensures

@@ -1,4 +1,4 @@
-use Rattle.std.proofs.Common.{inl, refl}
+use Rattle.std.proofs.Common.{inl, inr, refl}
 use Rattle.std.proofs.lemmas.Result.{IfOk-weaker}
 use Rattle.tokens_lib.specs.Answer.{headed, refusal}
 use Rattle.tokens_lib.proofs.AnswerLaws.{Answered-refused, ok_and}
@@ -9,10 +9,14 @@ returns-in-Err-clause-answer g c =
     let e = c.report_line.ensures in
     IfOk-weaker c.report_line.result _ _
     (λ status x. (
-      refusal 3 (headed c.args.name.now x.1.1.0),
+      refusal 3 (headed c.args.name.now x.1.0),
       (
         inl (c.in-Err.error, (c.in-Err.ensures.error, (x.1.0, (x.1.1.0, refl)))),
-        Answered-refused g.W.Write.contents g.E.Write.contents c.args.out.now c.args.err.now c.report_line.new.err status (refusal 3 (headed c.args.name.now x.1.1.0)) (x.0, (refl, x.1.1.1)),
+        Answered-refused g.W.Write.contents g.E.Write.contents c.args.out.now c.args.err.now c.report_line.new.err status (refusal 3 (headed c.args.name.now x.1.0)) (x.0, (refl, x.1.1.1)),
       ),
     ))
-    (ok_and c.report_line.result _ _ e.status (ok_and c.report_line.result _ _ e.known e.said))
+    (ok_and c.report_line.result _ _ e.status e.said)
+
+pub returns-in-Ok-clause-answer : goal.returns-in-Ok-clause-answer
+returns-in-Ok-clause-answer g c =
+    IfOk-weaker c.list_clashes_of.result _ _ (λ status x. (x.0, (inr (c.in-Ok.file.rules.items, (c.in-Ok.ensures.rules, x.1.0)), x.1.1))) c.list_clashes_of.ensures.answer

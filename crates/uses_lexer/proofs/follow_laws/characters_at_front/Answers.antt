@@ -4,7 +4,7 @@ use Rattle.std.specs.Str.{chars}
 use Rattle.lalrpop_book.specs.Tree.{Tree}
 use Rattle.lalrpop_book.specs.Tokens.{IsToken}
 use Rattle.lalrpop_book.specs.declared.token.Token.{Token}
-use Rattle.lalrpop_rules.proofs.CallerLaws.{characters_of_prefix}
+use Rattle.lalrpop_lexer.proofs.TextPrefixes.{characters_of_prefix}
 use Rattle.uses_lexer.proofs.follow_laws.characters_at_front.Goals as goal
 
 of_found : (ts : List Tree) (ps text : List ℕ) (found : Option Token) → IfSome found (λ token. IsToken ts ps text 0 token)

@@ -1,5 +1,6 @@
-use Rattle.std.proofs.Common.{◌≢◌, ℕ, List, [], ◌∷◌, drop, refl, subst}
+use Rattle.std.proofs.Common.{◌≢◌, ℕ, List, [], ◌∷◌, drop, refl, sym, subst, ◌∙◌}
 use Rattle.std.specs.Prelude.{Some, None}
+use Rattle.std.proofs.lemmas.List.{append-nil}
 use Rattle.std.proofs.lemmas.Str.{IsUtf8-drop}
 use Rattle.lalrpop_book.specs.Prefix.{IsPrefix}
 use Rattle.lalrpop_book.specs.Longest.{IsLongest}
@@ -26,3 +27,6 @@ returns-in-Ok-clause-goes c =
 pub returns-in-None-clause-none : goal.returns-in-None-clause-none
 returns-in-None-clause-none c = λ ts ps s.
     subst (λ (rest : List ℕ). IsLongest ts ps rest None) c.range_from.ensures.value (c.in-None.ensures.answer ts ps s)
+
+pub returns-in-Err-clause-failed : goal.returns-in-Err-clause-failed
+returns-in-Err-clause-failed c = (c.args.at, ([], c.in-Err.ensures.items ∙ sym (append-nil _), λ ts ps s. refl))
