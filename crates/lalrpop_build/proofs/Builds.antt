@@ -10,7 +10,7 @@ use Rattle.lalrpop_book.specs.Tree.{Tree}
 use Rattle.lalrpop_hir.specs.Size.{size}
 use Rattle.lalrpop_nfa.specs.Graph.{Graph}
 use Rattle.lalrpop_nfa.specs.Partition.{IsPartition}
-use Rattle.lalrpop_dfa.specs.Dfa.{Row, Recognizes, IsWellFormed}
+use Rattle.lalrpop_dfa.specs.Dfa.{Row, RecognizesAll, IsWellFormed}
 use Rattle.lalrpop_book.specs.Clash.{NoClash, IsClash}
 use Rattle.lalrpop_dfa.specs.Automata.{Item, AreCompiled}
 use Rattle.lalrpop_build.specs.Items.{IsLeaving, HoldsItems, OthersReject, IsInWordOrder}
@@ -170,7 +170,7 @@ built_end ns ps sets origins rows place h same none =
     subst (IsBuiltTo ns ps sets origins rows) end h
 
 pub built_all : (ns : List Graph) (ps : List ℕ) (sets : List (List Item)) (origins : List (ℕ × ℕ)) (rows : List Row) → IsBuiltTo ns ps sets origins rows (length sets)
-    → (ts : List Tree) → AreCompiled ts ns → NoClash ts ps × Recognizes rows ts ps × IsWellFormed rows × HoldsItems ns rows × OthersReject rows × IsInWordOrder rows
+    → (ts : List Tree) → AreCompiled ts ns → NoClash ts ps × RecognizesAll rows ts ps × IsWellFormed rows × HoldsItems ns rows × OthersReject rows × IsInWordOrder rows
 built_all ns ps sets origins rows h ts k = built_stands ts ps ns sets origins rows k h.breadth_first h.counted h.rows_are h.small
 
 -- the number of sets is bounded

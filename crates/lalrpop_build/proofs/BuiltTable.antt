@@ -8,7 +8,7 @@ use Rattle.lalrpop_book.specs.Tree.{Tree}
 use Rattle.lalrpop_nfa.specs.Graph.{Graph}
 use Rattle.lalrpop_nfa.specs.Partition.{IsCovered, AreAscending, IsPartition}
 use Rattle.lalrpop_book.specs.Clash.{NoClash}
-use Rattle.lalrpop_dfa.specs.Dfa.{Row, edge_target, step, run, after as state_after, IsRightKind, IsReject, Recognizes, AreAscendingTests, IsWellFormed}
+use Rattle.lalrpop_dfa.specs.Dfa.{Row, edge_target, step, run, after as state_after, IsRightKind, IsReject, RecognizesAll, AreAscendingTests, IsWellFormed}
 use Rattle.lalrpop_dfa.specs.Automata.{Item, AreCompiled}
 use Rattle.lalrpop_build.specs.Items.{IsReached, IsLeaving, HoldsItems, OthersReject, IsInWordOrder}
 use Rattle.lalrpop_dfa.specs.Internal.Ascending.{AreAscendingItems}
@@ -132,7 +132,7 @@ module _ (ts : List Tree) (ps : List ℕ) (ns : List Graph) (h : AreCompiled ts 
       let dead : is_dead (set_of (step d p c)) ≡ true = rw g.1 (dead_stays ts ns h (set_of p) c (reject_dead p r e i)) in
       is_some_and (slice_get d (step d p c)) (λ r. r.kind ≡ Reject) n.0 n.1 (dead_reject (step d p c) n.0 n.1 dead)
 
-  pub built_stands_alone : Recognizes d ts ps
+  pub built_stands_alone : RecognizesAll d ts ps
   built_stands_alone = record {
     kinds = λ w. (let r = row_after w in is_some_and (slice_get d (state_after d w)) (λ r. IsRightKind ts ps w r.kind) r.0 r.1.0 (kind_says ts ns h ps w r.0.kind r.1.1));
     stays = λ p c i. stays_at p c (slice_get d p) refl i;
@@ -206,7 +206,7 @@ module _ (ts : List Tree) (ps : List ℕ) (ns : List Graph) (h : AreCompiled ts 
 pub built_stands : (ts : List Tree) (ps : List ℕ) (ns : List Graph) (sets : List (List Item)) (origins : List (ℕ × ℕ)) (d : List Row) → AreCompiled ts ns
     → IsBreadthFirst (subset_automaton ns) sets origins (length sets) 0 → length d ≡ length sets
     → ((k : ℕ) (r : Row) → slice_get d k ≡ Some r → IsRowOf ns ps sets k r) → ((k : ℕ) → value_of origins k ≤ 4294967295)
-    → NoClash ts ps × Recognizes d ts ps × IsWellFormed d × HoldsItems ns d × OthersReject d × IsInWordOrder d
+    → NoClash ts ps × RecognizesAll d ts ps × IsWellFormed d × HoldsItems ns d × OthersReject d × IsInWordOrder d
 built_stands ts ps ns sets origins d h num long rows small = (
   built_no_clash ts ps ns h sets origins num d long rows small,
   built_stands_alone ts ps ns h sets origins num d long rows small,

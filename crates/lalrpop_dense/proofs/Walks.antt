@@ -13,6 +13,7 @@ use Rattle.lalrpop_dfa.specs.declared.Kind.{Kind}
 use Rattle.lalrpop_dfa.specs.declared.Kind.TheVariants.{Accepts, Reject, Neither}
 use Rattle.lalrpop_dfa.proofs.AfterLaws.{after_push}
 use Rattle.lalrpop_dfa.proofs.EdgeTargets.{step_within}
+use Rattle.lalrpop_dfa.proofs.TextWords.{text_word}
 use Rattle.lalrpop_dfa.proofs.LongestLemmas.{IsLongestUpTo, says_of, reject_at, longest_accept, longest_pass, longest_end, longest_stop, part_accept}
 use Rattle.lalrpop_dfa.proofs.Trails.{HasTrail, trail_accept, trail_pass}
 use Rattle.lalrpop_dense.specs.Internal.Table.{HasClasses, IsTableOf, IsRowOfKind, class_of, row_of, page_of}
@@ -97,16 +98,16 @@ row_at t cells d text at state h w =
       | inr past ↦ absurd (omega (arith, past.0, w.within))
     ]
 
-says : (t : Layout) (d : List Row) (text : List ℕ) (at state : ℕ) (k : Kind) (ts : List Tree) (ps : List ℕ) (r : Row) → slice_get d (after d (chars (take at text))) ≡ Some r
+says : (t : Layout) (d : List Row) (text : List ℕ) (at state : ℕ) (k : Kind) (ts : List Tree) (ps : List ℕ) (r : Row) → IsUtf8 (take at text) → slice_get d (after d (chars (take at text))) ≡ Some r
     → r.kind ≡ k → Recognizes d ts ps → IsRightKind ts ps (chars (take at text)) k
-says t d text at state k ts ps r e is s = says_of d ts ps (chars (take at text)) (after d (chars (take at text))) r r.kind k s refl e refl is
+says t d text at state k ts ps r utf8 e is s = says_of d ts ps (chars (take at text)) (after d (chars (take at text))) r r.kind k (text_word (take at text) utf8) s refl e refl is
 
 pub walk_accepts : (t : Layout) (cells : List ℕ) (d : List Row) (text : List ℕ) (at state : ℕ) → IsTableOf t cells d → IsWalked t d text at state → 0 < at → t.live ≤ state → t.accept ≤ state
     → (ts : List Tree) (ps : List ℕ) → Recognizes d ts ps → IsLongestUpTo ts ps text at (Some (found t cells text (state, at)))
 walk_accepts t cells d text at state h w some live accept ts ps s =
     let r = row_at t cells d text at state h w in
     longest_accept ts ps text (drop at text) at (get_or cells (state + t.width) 0) (take at text) w.cut some refl
-    (says t d text at state (Accepts (get_or cells (state + t.width) 0)) ts ps r.0 r.1.0 (kind_accepts t cells state r.0.kind r.1.1 live accept) s)
+    (says t d text at state (Accepts (get_or cells (state + t.width) 0)) ts ps r.0 w.cut.seen_utf8 r.1.0 (kind_accepts t cells state r.0.kind r.1.1 live accept) s)
 
 pub walk_place : (t : Layout) (cells : List ℕ) (d : List Row) (text : List ℕ) (at state : ℕ) → IsTableOf t cells d → IsUtf8 text → IsWalked t d text at state → 0 < at → IsPlace t cells text (state, at)
 walk_place t cells d text at state h u w some =
@@ -124,7 +125,7 @@ pub walk_passes : (t : Layout) (cells : List ℕ) (d : List Row) (text : List �
 walk_passes t cells d text at at2 state state2 c best h w w2 read live accept ts ps s up =
     let r = row_at t cells d text at2 state2 h w2 in
     longest_pass ts ps text (drop at text) (drop at2 text) at at2 c best w.cut read.split read.place
-    (says t d text at2 state2 Neither ts ps r.0 r.1.0 (kind_neither t cells state2 r.0.kind r.1.1 live accept) s) up
+    (says t d text at2 state2 Neither ts ps r.0 w2.cut.seen_utf8 r.1.0 (kind_neither t cells state2 r.0.kind r.1.1 live accept) s) up
 
 pub walk_rejects : (t : Layout) (cells : List ℕ) (d : List Row) (text : List ℕ) (at at2 state state2 c : ℕ) (best : Option (ℕ × List ℕ)) → IsTableOf t cells d → IsWalked t d text at state
     → IsWalked t d text at2 state2 → ReadsChar text at at2 c → state2 < t.live
@@ -136,7 +137,7 @@ walk_rejects t cells d text at at2 state state2 c best h w w2 read low ts ps s u
     longest_stop d ts ps text (drop at2 text) at2 p best s w2.cut (record { reached = refl; within = w2.within })
     (reject_at d p r.0 r.0.kind r.1.0 refl kind)
     (longest_pass ts ps text (drop at text) (drop at2 text) at at2 c best w.cut read.split read.place
-    (says t d text at2 state2 Reject ts ps r.0 r.1.0 kind s) up)
+    (says t d text at2 state2 Reject ts ps r.0 w2.cut.seen_utf8 r.1.0 kind s) up)
 
 pub walk_ends : (t : Layout) (d : List Row) (text : List ℕ) (at state : ℕ) (best : Option (ℕ × List ℕ)) → IsWalked t d text at state → length text ≤ at
     → (ts : List Tree) (ps : List ℕ) → IsLongestUpTo ts ps text at best → IsLongest ts ps text best

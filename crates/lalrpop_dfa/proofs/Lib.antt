@@ -2,6 +2,7 @@ pub mod Cases
 pub mod EdgeTargets
 pub mod StepLists
 pub mod StoredRows
+pub mod TextWords
 pub mod LongestLemmas
 pub mod SameTables
 pub mod Lookaheads

@@ -11,10 +11,12 @@ use Rattle.lalrpop_book.specs.Prefix.{IsPrefix}
 use Rattle.lalrpop_nfa.proofs.Cuts.{IsCut, cut_within, word_after, goes_on, ends_there}
 use Rattle.lalrpop_dfa.specs.Dfa.{Row, step, run, after, Recognizes, IsRightKind, IsReject}
 use Rattle.lalrpop_book.specs.Longest.{IsMatch, IsLongest}
+use Rattle.lalrpop_book.specs.Word.{IsWord}
 use Rattle.lalrpop_book.specs.Winners.{Matched, IsOnlyStrongest, IsHighestStrongest}
 use Rattle.lalrpop_dfa.specs.declared.Kind.{Kind}
 use Rattle.lalrpop_dfa.specs.declared.Kind.TheVariants.{Reject}
 use Rattle.lalrpop_dfa.proofs.AfterLaws.{run_append, after_push}
+use Rattle.lalrpop_dfa.proofs.TextWords.{IsWord-append, text_word}
 
 -- the state is the one after what was read
 pub record IsAfter (d : List Row) (text : List ℕ) (at : ℕ) (state : ℕ) : Type 0 where
@@ -41,28 +43,28 @@ after_more d text rest rest2 at at2 c state state2 h e l a s w = record {
 }
 
 -- what a state's kind says of the word that leads to it
-pub says_of : (d : List Row) (ts : List Tree) (ps w : List ℕ) (state : ℕ) (r : Row) (seen k : Kind) → Recognizes d ts ps → state ≡ after d w
+pub says_of : (d : List Row) (ts : List Tree) (ps w : List ℕ) (state : ℕ) (r : Row) (seen k : Kind) → IsWord w → Recognizes d ts ps → state ≡ after d w
     → slice_get d state ≡ Some r → seen ≡ r.kind → seen ≡ k → IsRightKind ts ps w k
-says_of d ts ps w state r seen k h reached at is kind =
+says_of d ts ps w state r seen k word h reached at is kind =
     subst (IsRightKind ts ps w) (sym is ∙ kind)
-    (subst (λ o. IsSomeAnd o (λ x. IsRightKind ts ps w x.kind)) (ap (slice_get d) (sym reached) ∙ at) (h.kinds w))
+    (subst (λ o. IsSomeAnd o (λ x. IsRightKind ts ps w x.kind)) (ap (slice_get d) (sym reached) ∙ at) (h.kinds w word))
 
 pub reject_at : (d : List Row) (state : ℕ) (r : Row) (seen : Kind) → slice_get d state ≡ Some r → seen ≡ r.kind → seen ≡ Reject → IsReject d state
 reject_at d state r seen at is kind = subst (λ o. IsSomeAnd o (λ x. x.kind ≡ Reject)) (sym at) (sym is ∙ kind)
 
-pub stays_reject : (d : List Row) (ts : List Tree) (ps : List ℕ) (p : ℕ) (w : List ℕ) → Recognizes d ts ps → IsReject d p → IsReject d (run d p w)
-stays_reject d ts ps p [] h r = r
-stays_reject d ts ps p (c ∷ w) h r = stays_reject d ts ps (step d p c) w h (h.stays p c r)
+pub stays_reject : (d : List Row) (ts : List Tree) (ps : List ℕ) (p : ℕ) (w : List ℕ) → IsWord w → Recognizes d ts ps → IsReject d p → IsReject d (run d p w)
+stays_reject d ts ps p [] word h r = r
+stays_reject d ts ps p (c ∷ w) word h r = stays_reject d ts ps (step d p c) w word.1 h (h.stays p c word.0 r)
 
 pub unmatched : (ts : List Tree) (ps w : List ℕ) (o : Option Row) → IsSomeAnd o (λ r. r.kind ≡ Reject) → IsSomeAnd o (λ r. IsRightKind ts ps w r.kind) → ¬ Matched ts w
 unmatched ts ps w None r s = absurd r
 unmatched ts ps w (Some x) r s = subst (IsRightKind ts ps w) r s
 
 -- after a reject state no tree matches
-pub none_after : (d : List Row) (ts : List Tree) (ps v w : List ℕ) (state : ℕ) → Recognizes d ts ps → state ≡ after d v → IsReject d state → ¬ Matched ts (v ++ w)
-none_after d ts ps v w state h reached r =
+pub none_after : (d : List Row) (ts : List Tree) (ps v w : List ℕ) (state : ℕ) → IsWord v → IsWord w → Recognizes d ts ps → state ≡ after d v → IsReject d state → ¬ Matched ts (v ++ w)
+none_after d ts ps v w state before behind h reached r =
     let there : after d (v ++ w) ≡ run d state w = run_append d 0 v w ∙ ap (λ p. run d p w) (sym reached) in
-    unmatched ts ps (v ++ w) (slice_get d (after d (v ++ w))) (subst (IsReject d) (sym there) (stays_reject d ts ps state w h r)) (h.kinds (v ++ w))
+    unmatched ts ps (v ++ w) (slice_get d (after d (v ++ w))) (subst (IsReject d) (sym there) (stays_reject d ts ps state w behind h r)) (h.kinds (v ++ w) (IsWord-append v w before behind))
 
 -- ---- the longest match
 
@@ -115,7 +117,7 @@ longest_stop d ts ps text rest at state best stands h a r up =
     ⊎_elim (λ (above : at < length p).
     let g = goes_on text rest at p h m.0 (omega arith) in
     let word : chars p ≡ chars (take at text) ++ chars g.more = ap chars g.is ∙ chars-append (take at text) g.more h.seen_utf8 in
-    absurd (none_after d ts ps (chars (take at text)) (chars g.more) state stands a.reached r (subst (Matched ts) word m.2)))
+    absurd (none_after d ts ps (chars (take at text)) (chars g.more) state (text_word (take at text) h.seen_utf8) (text_word g.more g.utf8) stands a.reached r (subst (Matched ts) word m.2)))
     (λ (below : length p ≤ at). below)
     (cases_lt at (length p)))
     up

@@ -3,7 +3,7 @@ use Rattle.std.proofs.Common.{◌≡◌, ℕ, ◌⊎◌, ◌↔◌, inl, inr, Li
 use Rattle.std.specs.Prelude.{slice_get, Option, Some, None, IsSomeAnd}
 use Rattle.lalrpop_book.specs.Tree.{Tree}
 use Rattle.lalrpop_book.specs.Winners.{IsOnlyStrongest, Matched}
-use Rattle.lalrpop_dfa.specs.Dfa.{Row, after, Recognizes, IsRightKind}
+use Rattle.lalrpop_dfa.specs.Dfa.{Row, after, Recognizes, RecognizesAll, IsRightKind}
 use Rattle.lalrpop_dfa.specs.Lookahead.{Accepted, AcceptedAs, IsAccepting}
 use Rattle.lalrpop_dfa.proofs.EdgeTargets.{the_some}
 use Rattle.lalrpop_dfa.specs.declared.Kind.{Kind}
@@ -40,7 +40,11 @@ not_accepting None (inr e) a = e
 not_accepting (Some r) (inl e) (i, a) = let f : Neither ≡ Accepts i = sym e ∙ a in cc
 not_accepting (Some r) (inr e) (i, a) = let f : Reject ≡ Accepts i = sym e ∙ a in cc
 
-module _ (d : List Row) (ts : List Tree) (ps : List ℕ) (h : Recognizes d ts ps) where
+module _ (d : List Row) (ts : List Tree) (ps : List ℕ) (h : RecognizesAll d ts ps) where
+  -- what is right after all lists of numbers is right after words
+  pub on_words : Recognizes d ts ps
+  on_words = record { kinds = λ w word. h.kinds w; stays = λ p c fits. h.stays p c }
+
   -- if a word matches, the state after it accepts
   pub matched_accepts : (w : List ℕ) → Matched ts w → IsAccepting d (after d w)
   matched_accepts w m = elim (kind_ways (slice_get d (after d w)) (IsRightKind ts ps w) (h.kinds w)) [

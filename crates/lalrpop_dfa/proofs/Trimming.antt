@@ -6,7 +6,7 @@ use Rattle.std.proofs.lemmas.Bool.{cases_lt}
 use Rattle.std.proofs.lemmas.Option.{slice_get_cases, slice_get_within}
 use Rattle.lalrpop_book.specs.Tree.{Tree}
 use Rattle.lalrpop_dfa.specs.declared.Kind.TheVariants.{Reject, Neither}
-use Rattle.lalrpop_dfa.specs.Dfa.{Row, step, run, after, edge_target, IsReject, IsRightKind, IsWellFormed, Recognizes, AreAscendingTests}
+use Rattle.lalrpop_dfa.specs.Dfa.{Row, step, run, after, edge_target, IsReject, IsRightKind, IsWellFormed, RecognizesAll, AreAscendingTests}
 use Rattle.lalrpop_dfa.specs.Lookahead.{IsAccepting, IsLive, IsTrim, IsTrimmed}
 use Rattle.lalrpop_dfa.specs.Internal.Marks.{AreLive, Marked}
 use Rattle.lalrpop_dfa.specs.Internal.Stored.{AreListed, IsRejecting}
@@ -157,7 +157,7 @@ module _ (d e : List Row) (h : IsTrimmed d e) where
   ]
 
   -- it recognizes what d does
-  pub trimmed_recognizes : IsWellFormed d → (ts : List Tree) (ps : List ℕ) → Recognizes d ts ps → Recognizes e ts ps
+  pub trimmed_recognizes : IsWellFormed d → (ts : List Tree) (ps : List ℕ) → RecognizesAll d ts ps → RecognizesAll e ts ps
   trimmed_recognizes well ts ps stands = record { kinds = kinds; stays = stays }
     where
       kinds : (w : List ℕ) → IsSomeAnd (slice_get e (after e w)) (λ s. IsRightKind ts ps w s.kind)

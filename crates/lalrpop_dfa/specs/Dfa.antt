@@ -5,6 +5,7 @@ use Rattle.std.specs.List.{Contains}
 use Rattle.lalrpop_book.specs.Range.{Range}
 use Rattle.lalrpop_book.specs.Tree.{Tree}
 use Rattle.lalrpop_book.specs.Winners.{IsOnlyStrongest, Matched}
+use Rattle.lalrpop_book.specs.Word.{IsWord}
 use Rattle.lalrpop_dfa.specs.declared.Kind.{Kind}
 use Rattle.lalrpop_dfa.specs.declared.Kind.TheVariants.{Accepts, Reject, Neither}
 
@@ -73,8 +74,13 @@ IsRightKind ts ps w Neither = ¬ Matched ts w
 abbrev pub IsReject : List Row → ℕ → Type 0
 IsReject d p = IsSomeAnd (slice_get d p) (λ r. r.kind ≡ Reject)
 
--- after each word the kind is right, and a reject state is never left
+-- after each word the kind is right, and no value of a word leads out of a reject state
 pub record Recognizes (d : List Row) (ts : List Tree) (ps : List ℕ) : Type 0 where
+  pub kinds : (w : List ℕ) → IsWord w → IsSomeAnd (slice_get d (after d w)) (λ r. IsRightKind ts ps w r.kind)
+  pub stays : (p c : ℕ) → c ≤ 4294967295 → IsReject d p → IsReject d (step d p c)
+
+-- the same of all numbers, whether they fit 32 bits or not
+pub record RecognizesAll (d : List Row) (ts : List Tree) (ps : List ℕ) : Type 0 where
   pub kinds : (w : List ℕ) → IsSomeAnd (slice_get d (after d w)) (λ r. IsRightKind ts ps w r.kind)
   pub stays : (p c : ℕ) → IsReject d p → IsReject d (step d p c)
 

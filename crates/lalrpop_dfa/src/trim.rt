@@ -2,7 +2,7 @@
 
 ghost use Rattle.std.specs.Prelude.{ℕ, List, IfOk};
 ghost use Rattle.lalrpop_book.specs.Tree.{Tree};
-ghost use Rattle.lalrpop_dfa.specs.Dfa.{Recognizes};
+ghost use Rattle.lalrpop_dfa.specs.Dfa.{RecognizesAll};
 ghost use Rattle.lalrpop_dfa.specs.Lookahead.{IsTrimmed};
 
 use super::{Dfa, DfaStateIndex};
@@ -21,7 +21,7 @@ impl Dfa {
     pub fn trimmed(self, alloc: Global) -> Result<Dfa, AllocError>
         ensures trimmed { IfOk result (λ dfa. IsTrimmed self dfa) }
         ensures recognizes { IfOk result (λ dfa. (ts : List Tree) (ps : List ℕ)
-            → Recognizes self ts ps → Recognizes dfa ts ps) }
+            → RecognizesAll self ts ps → RecognizesAll dfa ts ps) }
     {
         let live = live_states(alloc, &self)?;
         let Dfa {

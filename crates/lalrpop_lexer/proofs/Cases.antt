@@ -2,6 +2,7 @@
 mod Cutting
 mod LexerTokens
 mod Position
+mod Quoted
 mod Rules
 mod LexerErrors
 mod Spelled

@@ -8,6 +8,7 @@ use Rattle.lalrpop_book.specs.Tree.{Tree}
 use Rattle.lalrpop_dfa.specs.Dfa.{Row}
 use Rattle.lalrpop_book.specs.Clash.{NoClash}
 use Rattle.lalrpop_book.proofs.Strongest.{IsOnlyStrongest-from_greatest}
+use Rattle.lalrpop_dfa.proofs.Recognized.{on_words}
 use Rattle.lalrpop_lexer.specs.Cutting.{Cutting, start_of, rest_of, GivesItem}
 use Rattle.lalrpop_book.specs.Tokens.{AreItems, slices}
 use Rattle.lalrpop_lexer.specs.LexerTokens.{CutsToken}
@@ -50,7 +51,7 @@ pub tokens_from_start : (s : Cutting) (ts : List Tree) (ps : List ℕ) (d : List
     → (xs : List (Result Token TokenFault)) → Drains CutsToken s xs → AreTokens ts ps text 0 xs
 tokens_from_start s ts ps d text e built xs (u, (t, y, last)) =
     tokens_of ts ps text s t xs 0 built.no_clash (ap (λ (x : Cutting). x.at) e) y
-    (items_from_start s d text e (map bare xs) (u, (t, bare_steps s t xs y, last)) ts ps built.stands)
+    (items_from_start s d text e (map bare xs) (u, (t, bare_steps s t xs y, last)) ts ps (on_words d ts ps built.stands))
 
 pub token_parts_from_start : (s : Cutting) (d : List Row) (text : List ℕ) → s ≡ start_of d text → (xs : List (Result Token TokenFault)) (t : Cutting)
     → Yields CutsToken s xs t → text ≡ slices (map bare xs) ++ rest_of t

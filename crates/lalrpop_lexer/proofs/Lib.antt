@@ -12,6 +12,9 @@ pub mod LineLemmas
 pub mod LineParts
 pub mod TerminalLemmas
 pub mod TerminalLaws
+-- the characters of a quoted form
+mod Unseen
+pub mod Quotes
 -- texts and their trees
 pub mod SpelledTexts
 -- what the definitions mean: the clash, the list of clashes and the longest match are unique
@@ -23,6 +26,7 @@ pub use Rattle.lalrpop_nfa.proofs.PartitionLaws
 pub use Rattle.lalrpop_book.proofs.Strongest
 pub use Rattle.lalrpop_build.proofs.Agreeing
 pub use Rattle.lalrpop_build.proofs.AfterLaws
+pub use Rattle.lalrpop_dfa.proofs.Recognized
 pub use Rattle.lalrpop_dfa.proofs.WitnessLaws
 -- states from which no match comes, and what a run knows of those that are noted
 pub mod Hopes

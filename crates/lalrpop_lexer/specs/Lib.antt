@@ -2,6 +2,7 @@ pub mod Matching
 pub mod Cutting
 pub mod LexerTokens
 pub mod Position
+pub mod Quoted
 pub mod Rules
 pub mod LexerErrors
 pub mod Spelled

@@ -1,6 +1,5 @@
 -- Small cases of the definitions in specs/: Cases/X.antt has those of specs/X.antt.
 mod Building
 mod ClashesShown
-mod Quoted
 mod Text
 mod TokenLines

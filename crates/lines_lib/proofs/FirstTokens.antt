@@ -15,7 +15,7 @@ use Rattle.lalrpop_book.specs.Tokens.{AreTokens}
 use Rattle.lalrpop_lexer.specs.Longest.{IsLongest}
 use Rattle.lalrpop_book.specs.declared.token.Token.{Token}
 use Rattle.lalrpop_book.specs.declared.token.TokenFault.{TokenFault}
-use Rattle.lines_lib.specs.Quoted.{quoted}
+use Rattle.lalrpop_lexer.specs.Quoted.{quoted}
 use Rattle.lines_lib.specs.TokenLines.{place_text, token_line, token_lines, outcome_behind, text_lines}
 
 -- two equal matches have the same number and the same slice

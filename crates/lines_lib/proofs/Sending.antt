@@ -9,6 +9,7 @@ use Rattle.std.specs.Io.KnownBytes.{Appends}
 use Rattle.std.specs.Iterator.{Yields, Drains}
 use Rattle.std.specs.Str.{chars, IsUtf8, IsCharBoundary}
 use Rattle.lalrpop_book.specs.Tree.{Tree}
+use Rattle.lalrpop_lexer.proofs.Recognized.{on_words}
 use Rattle.lalrpop_lexer.specs.Cutting.{Cutting, start_of}
 use Rattle.lalrpop_lexer.specs.LexerTokens.{CutsToken}
 use Rattle.lalrpop_book.specs.Tokens.{AreTokens}
@@ -134,7 +135,7 @@ yields_more s r t u ys x same y g = Yields-more CutsToken s ys t x u (subst (λ 
 pub first_of : (ts : List Tree) (ps : List ℕ) (s r t : Cutting) (text : List ℕ) (ys : List (Result Token TokenFault)) → r ≡ s → s ≡ start_of s.automaton text
     → IsBuiltFrom ts ps s.automaton → Yields CutsToken r ys t → AreFirst ts ps text 0 ys
 first_of ts ps s r t text ys same start built y =
-    firsts_from_start ts ps s t s.automaton text ys start built.stands (subst (λ (r : Cutting). Yields CutsToken r ys t) same y)
+    firsts_from_start ts ps s t s.automaton text ys start (on_words s.automaton ts ps built.stands) (subst (λ (r : Cutting). Yields CutsToken r ys t) same y)
 
 pub begins_at : (s r t : Cutting) (text : List ℕ) (ys : List (Result Token TokenFault)) → r ≡ s → s ≡ start_of s.automaton text → IsUtf8 text
     → Yields CutsToken r ys t → IsCharBoundary text t.at

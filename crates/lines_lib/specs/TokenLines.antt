@@ -12,7 +12,7 @@ use Rattle.lalrpop_book.specs.declared.token.TokenFault.{TokenFault}
 use Rattle.lexdfa_lib.specs.Watch.{AppendsPrefix}
 use Rattle.lexdfa_lib.specs.declared.outcome.Outcome.{Outcome}
 use Rattle.lexdfa_lib.specs.declared.outcome.Outcome.TheVariants.{All, Stopped}
-use Rattle.lines_lib.specs.Quoted.{quoted}
+use Rattle.lalrpop_lexer.specs.Quoted.{quoted}
 
 -- a place in a file
 abbrev pub place_in : List ℕ → Position → List ℕ

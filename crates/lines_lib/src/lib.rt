@@ -3,12 +3,10 @@
 
 mod building;
 mod clash_lines;
-mod quote;
 mod text;
 mod token_lines;
 
 pub use building::{BuildError, lexer_of};
 pub use clash_lines::write_clashes;
-pub use quote::{is_unseen, push_escaped_char, quoted, quoted_word};
 pub use text::{TextError, read_text, text_of};
 pub use token_lines::write_tokens;

@@ -9,7 +9,7 @@ use Rattle.lalrpop_rules.specs.declared.rule.Rule.{Rule}
 use Rattle.lalrpop_rules.specs.declared.error.RulesError.{RulesError}
 use Rattle.lalrpop_rules.specs.declared.error.RulesError.TheVariants.{NotParsed, NotCompiled, Clash, OutOfMemory}
 use Rattle.tokens_lib.specs.ItemLines.{name_at}
-use Rattle.lines_lib.specs.Quoted.{quoted_word}
+use Rattle.lalrpop_lexer.specs.Quoted.{quoted_word}
 
 -- all clashes of the trees that the rules spell, none of which has a fault
 abbrev pub AreRuleClashes : List Rule → List Entry → Type 0

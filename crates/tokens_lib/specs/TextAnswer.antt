@@ -15,7 +15,7 @@ use Rattle.lexdfa_lib.specs.declared.outcome.Outcome.TheVariants.{Stopped}
 use Rattle.tokens_lib.specs.Answer.{Answer}
 use Rattle.tokens_lib.specs.ItemLines.{AreCut, first_fault, piece_line}
 use Rattle.tokens_lib.specs.PageWritten.{page_of}
-use Rattle.lines_lib.specs.Quoted.{told}
+use Rattle.lalrpop_lexer.specs.Quoted.{told}
 use Rattle.lines_lib.specs.TokenLines.{place_in, text_lines, outcome_behind}
 use Rattle.tokens_lib.specs.declared.command.Markup.{Markup}
 use Rattle.tokens_lib.specs.declared.layout.LineForm.{LineForm}

@@ -2,7 +2,7 @@
 ghost use Rattle.std.specs.Prelude.{◌≡◌, ◌++◌, take, flat_map, string_bytes, IfOk, OnOk};
 ghost use Rattle.std.specs.Str.{chars, IsCharBoundary};
 ghost use Rattle.tokens_lib.specs.Answer.{about, headed};
-ghost use Rattle.lines_lib.specs.Quoted.{told};
+ghost use Rattle.lalrpop_lexer.specs.Quoted.{told};
 ghost use Rattle.tokens_lib.specs.TextAnswer.{fault_text};
 
 use lalrpop_lexer::Position;

@@ -9,7 +9,7 @@ ghost use Rattle.lalrpop_book.specs.declared.error.DfaConstructionError.TheVaria
 ghost use Rattle.lalrpop_dfa.specs.Automata.{AreCompiled};
 ghost use Rattle.lalrpop_nfa.specs.Graph.{Graph};
 ghost use Rattle.lalrpop_dfa.specs.Counts.{state_bound};
-ghost use Rattle.lalrpop_dfa.specs.Dfa.{Recognizes};
+ghost use Rattle.lalrpop_dfa.specs.Dfa.{RecognizesAll};
 ghost use Rattle.lalrpop_book.specs.Longest.{IsLongest};
 
 use lalrpop_build::{DfaConstructionError, NfaIndex, Precedence, build_dfa};
@@ -76,7 +76,7 @@ pub fn to_be_drawn(
 ) -> Result<Dfa, DfaConstructionError>
     requires { length regexs.now ≡ length precedences.now }
     ensures recognizes { IfOk result (λ dfa.
-        Recognizes dfa regexs.now (map (λ p. p.0) precedences.now)) }
+        RecognizesAll dfa regexs.now (map (λ p. p.0) precedences.now)) }
     ensures items { IfOk result (λ dfa.
         (ns : List Graph) × AreCompiled regexs.now ns × HoldsItems ns dfa) }
     ensures others { IfOk result OthersReject }

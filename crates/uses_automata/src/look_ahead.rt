@@ -3,7 +3,7 @@
 ghost use Rattle.std.specs.Prelude.{◌≡◌, ℕ, ◌<◌, ◌↔◌, List, Some, length, slice_get, true, false, IfOk, IfSome};
 ghost use Rattle.lalrpop_book.specs.Tree.{Tree};
 ghost use Rattle.lalrpop_book.specs.Winners.{Matched};
-ghost use Rattle.lalrpop_dfa.specs.Dfa.{Recognizes};
+ghost use Rattle.lalrpop_dfa.specs.Dfa.{RecognizesAll};
 ghost use Rattle.lalrpop_dfa.specs.Lookahead.{Accepted, AcceptedAs, CanStayOpen, IsLookahead, LooksAtMost, ReadsAtMost, StaysOpenEver};
 
 use lalrpop_dfa::Dfa;
@@ -18,7 +18,7 @@ use std::alloc::{AllocError, Global};
 ///
 /// `AllocError` if a request for memory was refused.
 pub fn greatest(alloc: Global, dfa: &Dfa) -> Result<Option<usize>, AllocError>
-    ensures matches { IfOk result (λ found. (ts : List Tree) (ps : List ℕ) → Recognizes dfa.now ts ps
+    ensures matches { IfOk result (λ found. (ts : List Tree) (ps : List ℕ) → RecognizesAll dfa.now ts ps
         → IsLookahead (Matched ts) found) }
 {
     lookahead(alloc, dfa)
@@ -70,8 +70,8 @@ pub struct Trimmed {
 ///
 /// `AllocError` if a request for memory was refused.
 pub fn bounded(alloc: Global, dfa: Dfa) -> Result<Trimmed, AllocError>
-    ensures same { IfOk result (λ found. (ts : List Tree) (ps : List ℕ) → Recognizes dfa ts ps
-        → Recognizes found.dfa ts ps) }
+    ensures same { IfOk result (λ found. (ts : List Tree) (ps : List ℕ) → RecognizesAll dfa ts ps
+        → RecognizesAll found.dfa ts ps) }
     ensures past { IfOk result (λ found. IfSome found.past (ReadsAtMost found.dfa)) }
 {
     let dfa = dfa.trimmed(alloc)?;

@@ -1,6 +1,6 @@
 //! Slices and words in quotes, and what follows from the laws for callers, which the proofs here cite.
 ghost use Rattle.std.specs.Prelude.{◌≡◌, ◌↔◌, ◌++◌, IsTrue, false, true, IfOk, IfSome, codes, string_bytes};
-ghost use Rattle.lines_lib.specs.Quoted.{is_unseen, quoted, told};
+ghost use Rattle.lalrpop_lexer.specs.Quoted.{is_unseen, quoted, told};
 
 use lines_lib::{is_unseen, push_escaped_char};
 use std::alloc::{AllocError, Global};

@@ -2,12 +2,13 @@
 use Rattle.std.proofs.Common.{◌≡◌, ◌≢◌, ℕ, zero, suc, ◌<◌, ◌≤◌, ◌⊎◌, inl, inr, List, [], ◌∷◌, get_or, Some, None, slice_index, refl, sym, ap, subst, ◌∙◌, true, false, arith}
 use Rattle.std.specs.Prelude.{slice_get, nat_le, IsSomeAnd}
 use Rattle.std.specs.List.{Contains}
-use Rattle.std.proofs.lemmas.Bool.Decides.{leb_tells}
+use Rattle.std.proofs.lemmas.Bool.Decides.{leb_tells, nat_tests}
 use Rattle.lalrpop_book.specs.Range.{Range}
 use Rattle.lalrpop_book.specs.Tree.{Tree, literal}
 use Rattle.lalrpop_book.specs.Language.{Matches}
 use Rattle.lalrpop_book.specs.Winners.{TreeMatches, Matched}
-use Rattle.lalrpop_dfa.specs.Dfa.{Row, StoredState, IsStored, AreStored, edge_target, step, run, after, IsRightKind, IsReject, Recognizes, AreAscendingTests, IsWellFormed}
+use Rattle.lalrpop_book.specs.Word.{IsWord}
+use Rattle.lalrpop_dfa.specs.Dfa.{Row, StoredState, IsStored, AreStored, edge_target, step, run, after, IsRightKind, IsReject, Recognizes, RecognizesAll, AreAscendingTests, IsWellFormed}
 use Rattle.lalrpop_dfa.specs.declared.Kind.TheVariants.{Accepts, Reject, Neither}
 
 abbrev a : Tree
@@ -178,9 +179,9 @@ right_after (c ∷ w) = by_step (first_step c)
         by_rest [] = subst (λ d. IsRightAt (d ∷ []) 1) (sym h.0) accepting_state_is_right_of_a
         by_rest (d ∷ v) = subst (IsRightAt (c ∷ d ∷ v)) (sym (reject_stays v)) (no_match_but_a (c ∷ d ∷ v) (λ e. cc))
 
--- it recognizes `a`
-automaton_stands : Recognizes automaton_of_a (a ∷ []) (0 ∷ [])
-automaton_stands = record { kinds = right_after; stays = stays }
+-- it recognizes `a`, whatever the numbers are
+automaton_stands_for_all : RecognizesAll automaton_of_a (a ∷ []) (0 ∷ [])
+automaton_stands_for_all = record { kinds = right_after; stays = stays }
   where
     stays : (p c : ℕ) → IsReject automaton_of_a p → IsReject automaton_of_a (step automaton_of_a p c)
     stays zero c h = let e : Neither ≡ Reject = h in absurd (cc)
@@ -188,12 +189,48 @@ automaton_stands = record { kinds = right_after; stays = stays }
     stays (suc (suc zero)) c h = refl
     stays (suc (suc (suc p))) c h = absurd h
 
+-- and so after words
+automaton_stands : Recognizes automaton_of_a (a ∷ []) (0 ∷ [])
+automaton_stands = record { kinds = λ w word. automaton_stands_for_all.kinds w; stays = λ p c fits. automaton_stands_for_all.stays p c }
+
 -- and doesn't if a kind is wrong, or the reject state is left
 wrong_kind_does_not_stand : ¬ Recognizes accepts_at_start (a ∷ []) (0 ∷ [])
-wrong_kind_does_not_stand s = accepting_state_is_wrong_of_nothing (s.kinds [])
+wrong_kind_does_not_stand s = accepting_state_is_wrong_of_nothing (s.kinds [] tt)
 
 reject_state_that_is_left_does_not_stand : ¬ Recognizes leaves_reject (a ∷ []) (0 ∷ [])
-reject_state_that_is_left_does_not_stand s = let e : Neither ≡ Reject = s.stays 2 97 refl in absurd (cc)
+reject_state_that_is_left_does_not_stand s = let e : Neither ≡ Reject = s.stays 2 97 (omega arith) refl in absurd (cc)
+
+-- ---- numbers that don't fit 32 bits
+
+-- they alone lead out of the reject state, where it starts
+abbrev leaves_by_large : List Row
+leaves_by_large = record { kind = Reject; tests = (between 0 4294967295, 0) ∷ []; other = 1; items = [] } ∷ accepting ∷ []
+
+stays_by_small : (c : ℕ) → c ≤ 4294967295 → step leaves_by_large 0 c ≡ 0
+stays_by_small c fits =
+    let above : nat_le 0 c ≡ true = grind (arith, nat_tests) in
+    let below : nat_le c 4294967295 ≡ true = grind (arith, nat_tests) in
+    rw (above, below) refl
+
+nothing_matched : (w : List ℕ) → ¬ Matched [] w
+nothing_matched w m = let e : None ≡ Some m.1.0 = m.1.1.0 in absurd (cc)
+
+-- so it recognizes no trees, since they are in no word
+large_numbers_are_in_no_word : Recognizes leaves_by_large [] []
+large_numbers_are_in_no_word = record { kinds = λ w word. subst (λ p. IsSomeAnd (slice_get leaves_by_large p) (λ r. IsRightKind [] [] w r.kind)) (sym (at_start w word)) (nothing_matched w); stays = stays }
+  where
+    at_start : (w : List ℕ) → IsWord w → after leaves_by_large w ≡ 0
+    at_start [] word = refl
+    at_start (c ∷ w) word = ap (λ p. run leaves_by_large p w) (stays_by_small c word.0) ∙ at_start w word.1
+
+    stays : (p c : ℕ) → c ≤ 4294967295 → IsReject leaves_by_large p → IsReject leaves_by_large (step leaves_by_large p c)
+    stays zero c fits h = subst (IsReject leaves_by_large) (sym (stays_by_small c fits)) refl
+    stays (suc zero) c fits h = let e : Accepts 0 ≡ Reject = h in absurd (cc)
+    stays (suc (suc p)) c fits h = absurd h
+
+-- but not of all numbers
+large_numbers_count_among_all : ¬ RecognizesAll leaves_by_large [] []
+large_numbers_count_among_all s = let only = s.kinds (4294967296 ∷ []) in nothing_matched (4294967296 ∷ []) (0, only.0.0)
 
 -- ---- tables
 

@@ -8,7 +8,7 @@ use Rattle.ucd_derived.specs.DefaultIgnorableCodePointRanges.{default_ignorable_
 use Rattle.lalrpop_book.specs.declared.token.Token.{Token}
 use Rattle.lalrpop_book.specs.declared.token.TokenFault.{TokenFault}
 use Rattle.lexdfa_lib.specs.declared.outcome.Outcome.TheVariants.{All, Stopped}
-use Rattle.lines_lib.specs.Quoted.{quoted}
+use Rattle.lalrpop_lexer.specs.Quoted.{quoted}
 use Rattle.lines_lib.specs.TokenLines.{place_text, token_line, outcome_behind, last_line, text_lines, IsStopOf}
 
 -- ---- places

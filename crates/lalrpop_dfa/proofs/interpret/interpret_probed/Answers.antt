@@ -6,6 +6,7 @@ use Rattle.std.proofs.lemmas.Str.{chars-nil, len_utf8_bounds, length-encode, IsC
 use Rattle.lalrpop_dfa.specs.Dfa.{step}
 use Rattle.lalrpop_dfa.specs.declared.Kind.TheVariants.{Accepts, Reject, Neither}
 use Rattle.lalrpop_dfa.proofs.LongestLemmas.{after_start, after_more, says_of, reject_at, longest_start, longest_accept, part_accept, longest_pass, longest_end, longest_stop}
+use Rattle.lalrpop_dfa.proofs.TextWords.{text_word}
 use Rattle.lalrpop_dfa.proofs.Trails.{some_read, trail_accept, trail_pass, trail_cost, still_pays}
 use Rattle.lalrpop_dfa.proofs.EdgeTargets.{the_some, probed_turn, probed_end}
 use Rattle.lalrpop_nfa.proofs.Cuts.{cut_start, cut_within, cut_more, count_more, count_within}
@@ -56,7 +57,7 @@ loop-offset-preserved-in-Accepts c =
       after = after;
       best = λ ts ps h.
           longest_accept ts ps text rest2 at2 c.in-Accepts.index c.range.result.now cut some is
-          (says_of c.args.dfa.now ts ps (chars (take at2 text)) c.step_probed-state.result row.0 c.kind.result.now (Accepts c.in-Accepts.index) h after.reached row.1.0 (c.kind.ensures.kind ∙ row.1.1.kind) c.in-Accepts.is);
+          (says_of c.args.dfa.now ts ps (chars (take at2 text)) c.step_probed-state.result row.0 c.kind.result.now (Accepts c.in-Accepts.index) (text_word (take at2 text) cut.seen_utf8) h after.reached row.1.0 (c.kind.ensures.kind ∙ row.1.1.kind) c.in-Accepts.is);
       prefix = part_accept text rest2 at2 c.range.result.now cut some is;
       cost = let more = count_more text rest rest2 at at2 c.in-Some.c c.loop-offset.invariant.cut s.1 s.2 in omega arith;
       never_falls = omega (arith, c.loop-offset.invariant.never_falls, c.step_probed-state.ensures.never_falls);
@@ -83,7 +84,7 @@ loop-offset-preserved c =
       after = after;
       best = λ ts ps h.
           longest_pass ts ps text rest rest2 at at2 c.in-Some.c (option_map (λ m. (m.0, m.1.now)) c.loop-offset.longest) c.loop-offset.invariant.cut s.1 s.2
-          (says_of c.args.dfa.now ts ps (chars (take at2 text)) c.step_probed-state.result row.0 c.kind.result.now Neither h after.reached row.1.0 (c.kind.ensures.kind ∙ row.1.1.kind) c.in-Neither.is)
+          (says_of c.args.dfa.now ts ps (chars (take at2 text)) c.step_probed-state.result row.0 c.kind.result.now Neither (text_word (take at2 text) cut.seen_utf8) h after.reached row.1.0 (c.kind.ensures.kind ∙ row.1.1.kind) c.in-Neither.is)
           (c.loop-offset.invariant.best ts ps h);
       prefix = c.loop-offset.invariant.prefix;
       cost = let more = count_more text rest rest2 at at2 c.in-Some.c c.loop-offset.invariant.cut s.1 s.2 in omega arith;
@@ -109,7 +110,7 @@ returns-in-Reject-clause-answer c = λ ts ps h.
     longest_stop c.args.dfa.now ts ps text rest2 at2 c.step_probed-state.result best h cut after
     (reject_at c.args.dfa.now c.step_probed-state.result row.0 c.kind.result.now row.1.0 (c.kind.ensures.kind ∙ row.1.1.kind) c.in-Reject.is)
     (longest_pass ts ps text rest rest2 at at2 c.in-Some.c best c.loop-offset.invariant.cut s.1 s.2
-    (says_of c.args.dfa.now ts ps (chars (take at2 text)) c.step_probed-state.result row.0 c.kind.result.now Reject h after.reached row.1.0 (c.kind.ensures.kind ∙ row.1.1.kind) c.in-Reject.is)
+    (says_of c.args.dfa.now ts ps (chars (take at2 text)) c.step_probed-state.result row.0 c.kind.result.now Reject (text_word (take at2 text) cut.seen_utf8) h after.reached row.1.0 (c.kind.ensures.kind ∙ row.1.1.kind) c.in-Reject.is)
     (c.loop-offset.invariant.best ts ps h))
 
 pub returns-in-None-clause-answer : goal.returns-in-None-clause-answer

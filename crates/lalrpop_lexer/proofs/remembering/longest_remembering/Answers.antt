@@ -10,6 +10,7 @@ use Rattle.lalrpop_dfa.specs.Lookahead.{IsOpen}
 use Rattle.lalrpop_dfa.specs.declared.Kind.TheVariants.{Accepts, Reject, Neither}
 use Rattle.lalrpop_dfa.proofs.EdgeTargets.{the_some}
 use Rattle.lalrpop_dfa.proofs.LongestLemmas.{after_start, after_more, says_of, reject_at, longest_start, longest_accept, part_accept, longest_pass, longest_end, longest_stop}
+use Rattle.lalrpop_dfa.proofs.TextWords.{text_word}
 use Rattle.lalrpop_lexer.specs.Matching.{characters_of}
 use Rattle.lalrpop_lexer.specs.Internal.Memory.{room}
 use Rattle.lalrpop_lexer.specs.Internal.Hopeless.{IsHopeless}
@@ -84,7 +85,7 @@ loop-offset-preserved-in-Accepts c =
       after = after;
       best = λ ts ps h.
           longest_accept ts ps text rest2 at2 c.in-Accepts.number c.range.result.now cut some is
-          (says_of c.args.dfa.now ts ps (chars (take at2 text)) c.step-state.result row.0 c.kind.result.now (Accepts c.in-Accepts.number) h after.reached row.1.0 (c.kind.ensures.kind ∙ row.1.1.kind) c.in-Accepts.is);
+          (says_of c.args.dfa.now ts ps (chars (take at2 text)) c.step-state.result row.0 c.kind.result.now (Accepts c.in-Accepts.number) (text_word (take at2 text) cut.seen_utf8) h after.reached row.1.0 (c.kind.ensures.kind ∙ row.1.1.kind) c.in-Accepts.is);
       prefix = part_accept text rest2 at2 c.range.result.now cut some is;
       end = let read : length (chars c.range.result.now) ≡ length (chars (take at2 text)) = ap (λ w. length (chars w)) is in omega (arith, inv.index);
       index = omega (arith, inv.index);
@@ -120,7 +121,7 @@ loop-offset-preserved c =
       after = after;
       best = λ ts ps h.
           longest_pass ts ps text rest rest2 at at2 c.in-Some.c (option_map (λ m. (m.0, m.1.now)) c.loop-offset.longest) inv.cut s.1 s.2
-          (says_of c.args.dfa.now ts ps (chars (take at2 text)) c.step-state.result row.0 c.kind.result.now Neither h after.reached row.1.0 (c.kind.ensures.kind ∙ row.1.1.kind) c.in-Neither.is)
+          (says_of c.args.dfa.now ts ps (chars (take at2 text)) c.step-state.result row.0 c.kind.result.now Neither (text_word (take at2 text) cut.seen_utf8) h after.reached row.1.0 (c.kind.ensures.kind ∙ row.1.1.kind) c.in-Neither.is)
           (inv.best ts ps h);
       prefix = inv.prefix;
       end = inv.end;
@@ -159,7 +160,7 @@ returns-clause-answer c =
           longest_stop c.args.dfa.now ts ps text rest2 at2 w.step-state.result best h cut after
           (reject_at c.args.dfa.now w.step-state.result row.0 w.kind.result.now row.1.0 (w.kind.ensures.kind ∙ row.1.1.kind) w.in-Reject.is)
           (longest_pass ts ps text rest rest2 at at2 w.in-Some.c best inv.cut s.1 s.2
-          (says_of c.args.dfa.now ts ps (chars (take at2 text)) w.step-state.result row.0 w.kind.result.now Reject h after.reached row.1.0 (w.kind.ensures.kind ∙ row.1.1.kind) w.in-Reject.is)
+          (says_of c.args.dfa.now ts ps (chars (take at2 text)) w.step-state.result row.0 w.kind.result.now Reject (text_word (take at2 text) cut.seen_utf8) h after.reached row.1.0 (w.kind.ensures.kind ∙ row.1.1.kind) w.in-Reject.is)
           (inv.best ts ps h)))
       | in-Some+in-Neither+then-is_known w ↦ (λ ts ps h.
           let s = w.in-Some.ensures.steps in
@@ -176,7 +177,7 @@ returns-clause-answer c =
           (rw (next_at text rest rest2 at w.in-Some.c inv.cut s.1) at (inv.kept bound inv.end)) in
           longest_hopeless c.args.dfa.now ts ps text rest2 at2 w.step-state.result best h cut after hopeless
           (longest_pass ts ps text rest rest2 at at2 w.in-Some.c best inv.cut s.1 s.2
-          (says_of c.args.dfa.now ts ps (chars (take at2 text)) w.step-state.result row.0 w.kind.result.now Neither h after.reached row.1.0 (w.kind.ensures.kind ∙ row.1.1.kind) w.in-Neither.is)
+          (says_of c.args.dfa.now ts ps (chars (take at2 text)) w.step-state.result row.0 w.kind.result.now Neither (text_word (take at2 text) cut.seen_utf8) h after.reached row.1.0 (w.kind.ensures.kind ∙ row.1.1.kind) w.in-Neither.is)
           (inv.best ts ps h)))
     ]
 

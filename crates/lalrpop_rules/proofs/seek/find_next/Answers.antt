@@ -4,6 +4,7 @@ use Rattle.std.specs.Str.{IsUtf8}
 use Rattle.std.specs.Str.Iter.{char_indices_rest, char_indices_offset}
 use Rattle.lalrpop_book.specs.Longest.{IsLongest}
 use Rattle.lalrpop_book.specs.Tree.{Tree}
+use Rattle.lalrpop_lexer.proofs.Recognized.{on_words}
 use Rattle.lalrpop_lexer.specs.Dfa.{Row, Recognizes}
 use Rattle.lalrpop_lexer.specs.Matching.{Matching, rest_of}
 use Rattle.lalrpop_lexer.specs.Rules.{IsBuiltFrom}
@@ -15,7 +16,7 @@ use Rattle.lalrpop_rules.proofs.seek.find_next.Goals as goal
 -- the automaton stays the same
 known : (s m : Matching) (k : ℕ) (ts : List Tree) (ps : List ℕ) → m ≡ record s { at = s.at + k; spare = m.spare } → IsBuiltFrom ts ps s.automaton
     → Recognizes m.automaton ts ps
-known s m k ts ps e built = subst (λ (d : List Row). Recognizes d ts ps) (sym (ap (λ (x : Matching). x.automaton) e)) built.stands
+known s m k ts ps e built = subst (λ (d : List Row). Recognizes d ts ps) (sym (ap (λ (x : Matching). x.automaton) e)) (on_words s.automaton ts ps built.stands)
 
 pub returns-in-Some-next_match-clause-found : goal.returns-in-Some-next_match-clause-found
 returns-in-Some-next_match-clause-found c =

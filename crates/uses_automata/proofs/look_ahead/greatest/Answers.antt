@@ -2,14 +2,14 @@ use Rattle.std.proofs.Common.{ℕ, List}
 use Rattle.std.specs.Prelude.{Option, Ok, Err, Result, IfOk}
 use Rattle.lalrpop_book.specs.Tree.{Tree}
 use Rattle.lalrpop_book.specs.Winners.{Matched}
-use Rattle.lalrpop_dfa.specs.Dfa.{Row, Recognizes}
+use Rattle.lalrpop_dfa.specs.Dfa.{Row, RecognizesAll}
 use Rattle.lalrpop_dfa.specs.Lookahead.{Accepted, IsLookahead}
 use Rattle.lalrpop_dfa.proofs.Recognized.{recognized_words}
 use Rattle.lalrpop_dfa.proofs.WitnessLaws.{same_lookahead}
 use Rattle.uses_automata.proofs.look_ahead.greatest.Goals as goal
 
 of_trees : {E : Type 0} (d : List Row) (r : Result (Option ℕ) E) → IfOk r (λ found. IsLookahead (Accepted d) found)
-    → IfOk r (λ found. (ts : List Tree) (ps : List ℕ) → Recognizes d ts ps → IsLookahead (Matched ts) found)
+    → IfOk r (λ found. (ts : List Tree) (ps : List ℕ) → RecognizesAll d ts ps → IsLookahead (Matched ts) found)
 of_trees d (Ok found) h = λ ts ps stands. same_lookahead (Accepted d) (Matched ts) (recognized_words d ts ps stands) found h
 of_trees d (Err e) h = tt
 

@@ -1,5 +1,6 @@
 use Rattle.std.proofs.Common.{refl, subst}
 use Rattle.std.specs.Prelude.{Some}
+use Rattle.lalrpop_lexer.proofs.Recognized.{on_words}
 use Rattle.lalrpop_lexer.specs.Cutting.{rest_of}
 use Rattle.lalrpop_lexer.specs.LexerTokens.{LexerCutting}
 use Rattle.lalrpop_lexer.specs.Longest.{IsLongest}
@@ -10,7 +11,7 @@ returns-in-Some-Ok c =
     let rules = c.args.lexer.now in
     let token = c.in-Some-Ok.token in
     let step = rw c.in-Some-Ok.field-0-is at c.in-Some-Ok.ensures.steps in
-    let longest = step.0.1.3 rules.trees rules.precedences c.tokens.ensures.built.stands in
+    let longest = step.0.1.3 rules.trees rules.precedences (on_words _ _ _ c.tokens.ensures.built.stands) in
     record {
       longest = (
         token.index,

@@ -1,6 +1,6 @@
 use Rattle.std.proofs.Common.{sym, subst}
 use Rattle.std.specs.Prelude.{map}
-use Rattle.lalrpop_dfa.specs.Dfa.{Recognizes}
+use Rattle.lalrpop_dfa.specs.Dfa.{RecognizesAll}
 use Rattle.lalrpop_dfa.specs.Lookahead.{Accepted, IsLookahead, IsTrim}
 use Rattle.lalrpop_dfa.proofs.Recognized.{recognized_words}
 use Rattle.lalrpop_dfa.proofs.Trimming.{trimmed_trim}
@@ -13,7 +13,7 @@ invariant_of-result c =
     let ts = c.args.regexs.items in
     let ps = map (λ p. p.0) c.args.precedences.items in
     let same = sym c.in_ok-dense.ensures.same in
-    let stands = subst (λ d. Recognizes d ts ps) same (c.in_ok-dfa.ensures.recognizes ts ps built.2) in
+    let stands = subst (λ d. RecognizesAll d ts ps) same (c.in_ok-dfa.ensures.recognizes ts ps built.2) in
     let trim = subst IsTrim same (trimmed_trim c.in_ok-built.built c.in_ok-dfa.dfa c.in_ok-dfa.ensures.trimmed) in
     let looks = subst (λ d. IsLookahead (Accepted d) c.in_ok-lookahead.lookahead) c.dfa.ensures.same c.in_ok-lookahead.ensures.answer in
     (record { no_clash = built.1; stands = stands }, trim, same_lookahead _ _ (recognized_words _ _ _ stands) _ looks)

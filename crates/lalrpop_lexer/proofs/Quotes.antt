@@ -1,18 +1,18 @@
 -- What is read back from a quoted form, and what it lacks.
 use Rattle.std.proofs.Common.{◌≡◌, ◌≢◌, ℕ, ◌^◌, ◌⊎◌, inl, inr, ◌<◌, ◌≤◌, Bool, true, false, List, [], ◌∷◌, ◌++◌, length, get_or, refl, sym, ap, subst, ◌∙◌, arith, append_assoc, flat_map, codes}
 use Rattle.std.specs.Prelude.{nat_eq, if◌then◌else◌, ◌==◌}
-use Rattle.std.specs.Char.{digit_value, encode_utf8, IsScalar}
+use Rattle.std.specs.Char.{digit_value, encode_utf8}
 use Rattle.std.specs.Fmt.{digits}
-use Rattle.std.specs.Str.{chars, encode_utf8_all, IsUtf8, NoCharPasses, all_scalars}
+use Rattle.std.specs.Str.{chars, encode_utf8_all, IsUtf8, NoCharPasses}
 use Rattle.std.specs.Str.Parse.{AllDigits, IsNumeral, digits_value}
-use Rattle.std.proofs.lemmas.Bool.{and_parts}
 use Rattle.std.proofs.lemmas.Bool.Decides.{eqb_tells, nat_tests}
 use Rattle.std.proofs.lemmas.Fmt.{digits_is_IsNumeral}
 use Rattle.std.proofs.lemmas.List.{append-nil}
-use Rattle.std.proofs.lemmas.Str.{char_from_byte, encode_ascii, encode_same, encodes-chars, scalars-chars, NoCharPasses-nil, NoCharPasses-append}
+use Rattle.std.proofs.lemmas.Str.{char_from_byte, encode_ascii, encode_same, encodes-chars, NoCharPasses-nil, NoCharPasses-append}
 use Rattle.lalrpop_book.specs.Word.{IsWord}
-use Rattle.lines_lib.specs.Quoted.{is_unseen, is_character, told, quoted, value_told, quoted_word}
-use Rattle.lines_lib.proofs.Unseen.{seen_in_ascii}
+use Rattle.lalrpop_dfa.proofs.TextWords.{text_word}
+use Rattle.lalrpop_lexer.specs.Quoted.{is_unseen, is_character, told, quoted, value_told, quoted_word}
+use Rattle.lalrpop_lexer.proofs.Unseen.{seen_in_ascii}
 
 -- ---- the forms of a character
 
@@ -159,13 +159,6 @@ module _ (tell : ℕ → List ℕ) (form : (c : ℕ) → IsForm c (tell c)) wher
       let later = same_values v w small.1 less.1 same.1 in
       ap (λ (x : ℕ). x ∷ v) same.0 ∙ ap (λ (xs : List ℕ). d ∷ xs) later
 
-scalar_is_small : (c : ℕ) → IsScalar c → IsSmall c
-scalar_is_small c is = let below : c < 0x110000 = grind (arith, nat_tests) in omega arith
-
-characters_are_small : (cs : List ℕ) → all_scalars cs ≡ true → IsWord cs
-characters_are_small [] scalars = tt
-characters_are_small (c ∷ cs) scalars = let parts = and_parts _ (all_scalars cs) scalars in (scalar_is_small c parts.0, characters_are_small cs parts.1)
-
 value_form : (n : ℕ) → IsForm n (value_told n)
 value_form n = by (is_character n)
   where
@@ -177,7 +170,7 @@ value_form n = by (is_character n)
 pub quoted-unique : (one other : List ℕ) → IsUtf8 one → IsUtf8 other → quoted one ≡ quoted other → one ≡ other
 quoted-unique one other u v e =
     let inner : flat_map told (chars one) ++ 34 ∷ [] ≡ flat_map told (chars other) ++ 34 ∷ [] = cc in
-    let same = same_values told form_of (chars one) (chars other) (characters_are_small (chars one) (scalars-chars one u)) (characters_are_small (chars other) (scalars-chars other v)) inner in
+    let same = same_values told form_of (chars one) (chars other) (text_word one u) (text_word other v) inner in
     sym (encodes-chars one u) ∙ ap encode_utf8_all same ∙ encodes-chars other v
 
 -- and no two words
@@ -237,7 +230,7 @@ in_quotes text seen =
 
 -- a quoted form has no character that isn't seen: no line feed and no other end of a line, and none that turns the direction of writing
 pub quoted_is_seen : (slice : List ℕ) → IsUtf8 slice → NoCharPasses is_unseen (quoted slice)
-quoted_is_seen slice u = in_quotes (flat_map told (chars slice)) (seen_values told form_of (chars slice) (characters_are_small (chars slice) (scalars-chars slice u)))
+quoted_is_seen slice u = in_quotes (flat_map told (chars slice)) (seen_values told form_of (chars slice) (text_word slice u))
 
 pub quoted_word_is_seen : (w : List ℕ) → IsWord w → NoCharPasses is_unseen (quoted_word w)
 quoted_word_is_seen w small = in_quotes (flat_map value_told w) (seen_values value_told value_form w small)

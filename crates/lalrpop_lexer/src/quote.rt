@@ -1,8 +1,10 @@
 //! A slice or a word in quotes.
-ghost use Rattle.std.specs.Prelude.{◌≡◌, ◌++◌, option_map, string_bytes, IfOk, OnOk};
-ghost use Rattle.lines_lib.specs.Quoted.{is_unseen, short_escape, told, quoted, value_told, quoted_word};
+ghost use Rattle.std.specs.Prelude.{◌≡◌, ◌++◌, Some, option_map, string_bytes, IfOk, OnOk};
+ghost use Rattle.std.specs.Fmt.{WritesOnOk};
+ghost use Rattle.lalrpop_lexer.specs.Quoted.{is_unseen, short_escape, told, quoted, value_told, quoted_word};
 
 use std::alloc::{AllocError, Global};
+use std::fmt::{self, Display, Formatter, Write};
 use unicode::properties::is_default_ignorable_code_point;
 
 // The escape of a character, if it has a short one.
@@ -61,27 +63,41 @@ pub fn quoted(alloc: Global, slice: &str) -> Result<String, AllocError>
     Ok(text)
 }
 
-fn push_value(text: &mut String, value: u32) -> Result<(), AllocError>
-    ensures { OnOk result (string_bytes text.new ≡ string_bytes text.old ++ value_told value) }
+// Writes a value of a word in quotes.
+fn write_value<W: Write>(f: &mut Formatter<W>, value: u32) -> fmt::Result
+    ensures { WritesOnOk W.write_str_gives f.old result (value_told value) f.new }
 {
-    match char::from_u32(value) {
-        Some(c) => push_escaped_char(text, c),
-        None => write!(text, "\\u{{{value:x}}}"),
+    let Some(c) = char::from_u32(value) else {
+        return write!(f, "\\u{{{value:x}}}");
+    };
+    if let Some(escape) = short_escape(c) {
+        return f.write_str(escape);
     }
+    if is_unseen(c) {
+        return write!(f, "\\u{{{value:x}}}");
+    }
+    f.write_char(c)
 }
 
-/// The word in double quotes. Characters are escaped as in a slice, and values that aren't characters are written as `\u{..}`.
+/// A word as messages show it: in double quotes. Characters are escaped as in a slice (`quoted`), and values that aren't characters
+/// are written as `\u{..}`.
 ///
-/// # Errors
+/// ```
+/// use lalrpop_lexer::ShownWord;
 ///
-/// `AllocError` if a request for memory was refused.
-pub fn quoted_word(alloc: Global, word: &[u32]) -> Result<String, AllocError>
-    ensures quoted { IfOk result (λ text. string_bytes text ≡ quoted_word word.now) }
-{
-    let mut text = String::from_str(alloc, "\"")?;
-    for value in word {
-        push_value(&mut text, *value)?;
+/// let shown = format!(in alloc; "{}", ShownWord(&[97, 10, 0xd800]))?; // "a\n\u{d800}"
+/// ```
+#[derive(Clone, Copy, Debug)]
+pub struct ShownWord<'word>(pub &'word [u32]);
+
+impl<'word> Display for ShownWord<'word> {
+    ghost output = { λ word. Some (quoted_word word.0.now) };
+
+    fn fmt<W: Write>(&self, f: &mut Formatter<W>) -> fmt::Result {
+        f.write_str("\"")?;
+        for value in self.0 {
+            write_value(f, *value)?;
+        }
+        f.write_str("\"")
     }
-    text.push_str("\"")?;
-    Ok(text)
 }

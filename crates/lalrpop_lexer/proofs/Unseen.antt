@@ -8,7 +8,7 @@ use Rattle.std.proofs.lemmas.Bool.Decides.{nat_tests}
 use Rattle.unicode.specs.Binary.{is_default_ignorable_code_point}
 use Rattle.unicode.specs.Rows.{Range, in_ranges}
 use Rattle.ucd_derived.specs.DefaultIgnorableCodePointRanges.{default_ignorable_code_point_ranges}
-use Rattle.lines_lib.specs.Quoted.{is_unseen}
+use Rattle.lalrpop_lexer.specs.Quoted.{is_unseen}
 
 -- no range begins before n
 below_all : (n c : ℕ) (rs : List Range) → c < n → list_all (λ r. nat_le n r.0) rs ≡ true → in_ranges rs c ≡ false

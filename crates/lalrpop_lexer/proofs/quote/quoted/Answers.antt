@@ -3,8 +3,8 @@ use Rattle.std.specs.Str.{chars}
 use Rattle.std.proofs.lemmas.List.{map-id}
 use Rattle.std.proofs.lemmas.Iterator.{YieldsList-from_chars}
 use Rattle.std.proofs.lemmas.Iterator.Consumers.{YieldsList-end}
-use Rattle.lines_lib.specs.Quoted.{told}
-use Rattle.lines_lib.proofs.quote.quoted.Goals as goal
+use Rattle.lalrpop_lexer.specs.Quoted.{told}
+use Rattle.lalrpop_lexer.proofs.quote.quoted.Goals as goal
 
 pub returns : goal.returns
 returns c =

@@ -1,6 +1,6 @@
 use Rattle.std.proofs.Common.{◌≡◌, ◌++◌, string_bytes, codes, flat_map}
-use Rattle.lines_lib.specs.Quoted.{told}
-use Rattle.lines_lib.proofs.quote.quoted.Given as goal
+use Rattle.lalrpop_lexer.specs.Quoted.{told}
+use Rattle.lalrpop_lexer.proofs.quote.quoted.Given as goal
 
 -- the quote and the characters so far
 abbrev pub invariant-loop-c : goal.invariant-loop-c

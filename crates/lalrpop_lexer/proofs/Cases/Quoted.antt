@@ -5,7 +5,7 @@ use Rattle.std.specs.Str.{chars}
 use Rattle.unicode.specs.Binary.{is_default_ignorable_code_point}
 use Rattle.unicode.specs.Rows.{in_ranges}
 use Rattle.ucd_derived.specs.DefaultIgnorableCodePointRanges.{default_ignorable_code_point_ranges}
-use Rattle.lines_lib.specs.Quoted.{short_escape, is_unseen, told, quoted}
+use Rattle.lalrpop_lexer.specs.Quoted.{short_escape, is_unseen, told, quoted}
 
 -- a quote and a line feed have a short escape, a letter and the character 1 don't
 characters_with_a_short_escape : (short_escape 34 ≡ Some (codes "\\\"")) × (short_escape 10 ≡ Some (codes "\\n"))
