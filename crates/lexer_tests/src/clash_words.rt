@@ -69,14 +69,15 @@ fn a_clash_beside_stronger_patterns(rt: HostRuntime) {
 
 #[test]
 fn words_are_shown_in_quotes(rt: HostRuntime) {
-    let rows: [(&[u32], &str); 4] = [
+    let rows: [(&[u32], &str); 5] = [
         (&[], r#""""#),
         (&[97, 0xe9, 32], r#""aé ""#),
         (&[34, 92, 10, 13, 9], r#""\"\\\n\r\t""#),
         (
             &[0, 0x7f, 0xd800, 0x110000],
-            r#""\u{0}\u{7f}\u{d800}\u{110000}""#,
+            r#""\0\u{7f}\u{d800}\u{110000}""#,
         ),
+        (&[0xad, 0x202e], r#""\u{ad}\u{202e}""#),
     ];
     for (word, wanted) in rows {
         expect(&rt, format!(in rt.alloc(); "{}", ShownWord(word)), wanted);

@@ -1,4 +1,4 @@
-//! What `tokens` reads and writes where no rule has a name: terminals, the lines of their tokens and clashes, texts, and slices in quotes.
+//! What `tokens` reads and writes where no rule has a name: terminals, the lines of their tokens and clashes, and texts.
 #![tactic(auto)]
 
 mod building;

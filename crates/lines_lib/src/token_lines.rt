@@ -5,8 +5,7 @@ ghost use Rattle.std.specs.Str.{IsCharBoundary};
 ghost use Rattle.lexdfa_lib.specs.Watch.{AppendsPrefix};
 ghost use Rattle.lines_lib.specs.TokenLines.{place_text, token_line, last_line, WritesTokens, WritesTokensPrefix, IsStopOf};
 
-use crate::quote::quoted;
-use lalrpop_lexer::{Lexer, Positions, Token};
+use lalrpop_lexer::{Lexer, Positions, Token, quoted};
 use lexdfa_lib::{Outcome, RunError, Watched, write_whole};
 use std::alloc::{AllocError, Global};
 use std::io::Write;

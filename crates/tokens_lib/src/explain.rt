@@ -3,9 +3,9 @@
 use crate::reasons::{
     characters_before, clash_advice, line_shown, place_explained, refusal_text, syntax_text,
 };
+use lalrpop_lexer::ShownWord;
 use lalrpop_lexer::lexer::re::{RegexError, SyntaxKind, parse_regex};
 use lexdfa_lib::Outcome;
-use lines_lib::quoted;
 use std::alloc::{AllocError, Global};
 
 // The line with this number, from 0, or `None` if it isn't UTF-8.
@@ -58,35 +58,6 @@ fn bad_line_explained(
     }
 }
 
-// The word as a text, if each value is a character.
-fn text_of(alloc: Global, word: &[u32]) -> Result<Option<String>, AllocError> {
-    let mut text = String::new(alloc);
-    for value in word {
-        let Some(c) = char::from_u32(*value) else {
-            return Ok(None);
-        };
-        text.push(c)?;
-    }
-    Ok(Some(text))
-}
-
-fn values_of(alloc: Global, word: &[u32]) -> Result<String, AllocError> {
-    let mut values = String::from_str(alloc, "of the values")?;
-    for value in word {
-        let value = *value;
-        write!(values, " {value:x}")?;
-    }
-    Ok(values)
-}
-
-// The word in quotes if it is a text, otherwise its values in hexadecimal.
-fn word_shown(alloc: Global, word: &[u32]) -> Result<String, AllocError> {
-    match text_of(alloc, word)? {
-        Some(text) => quoted(alloc, text.as_str()),
-        None => values_of(alloc, word),
-    }
-}
-
 // What the clash is, with both lines and the word, and how to resolve it.
 fn clash_explained(
     alloc: Global,
@@ -94,7 +65,7 @@ fn clash_explained(
     lines: (usize, usize),
     word: &[u32],
 ) -> Result<String, AllocError> {
-    let shown = word_shown(alloc, word)?;
+    let shown = ShownWord(word);
     let advice = clash_advice(word);
     let (later, earlier) = lines;
     let later_line = line_shown(alloc, line_at(bytes, later).unwrap_or(""))?;

@@ -5,8 +5,7 @@ ghost use Rattle.tokens_lib.specs.Answer.{about, headed};
 ghost use Rattle.lalrpop_lexer.specs.Quoted.{told};
 ghost use Rattle.tokens_lib.specs.TextAnswer.{fault_text};
 
-use lalrpop_lexer::Position;
-use lines_lib::push_escaped_char;
+use lalrpop_lexer::{Position, push_escaped_char};
 use std::alloc::{AllocError, Global};
 
 /// A message about a file: its name, and then this.

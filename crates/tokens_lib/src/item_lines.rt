@@ -11,10 +11,9 @@ use crate::json_line::push_json;
 use crate::layout::{Layout, LineForm};
 use crate::shown::Shown;
 use lalrpop_lexer::lexer::dfa::NfaIndex;
-use lalrpop_lexer::{Position, Positions};
+use lalrpop_lexer::{Position, Positions, quoted};
 use lalrpop_rules::{Item, RuleLexer};
 use lexdfa_lib::{RunError, Watched, write_whole};
-use lines_lib::quoted;
 use std::alloc::{AllocError, Global};
 use std::io::Write;
 

@@ -24,9 +24,7 @@ pub use item_lines::write_items;
 pub use lalrpop_lexer::{Lexer, Token, TokenFault};
 pub use lalrpop_rules::{Rule, RuleLexer, RulesError};
 pub use layout::{Layout, LineForm};
-pub use lines_lib::{
-    BuildError, TextError, lexer_of, quoted, quoted_word, read_text, write_clashes, write_tokens,
-};
+pub use lines_lib::{BuildError, TextError, lexer_of, read_text, write_clashes, write_tokens};
 pub use named_clashes::{rule_clashes, write_rule_clashes};
 pub use page::write_page;
 pub use program::{run, run_program};

@@ -12,12 +12,11 @@ ghost use Rattle.lexdfa_lib.specs.Watch.{AppendsPrefix};
 ghost use Rattle.tokens_lib.specs.ItemLines.{name_at};
 ghost use Rattle.tokens_lib.specs.RuleClashes.{AreRuleClashes, IsRuleFault, named_line};
 
-use lalrpop_lexer::Form;
+use lalrpop_lexer::{Form, ShownWord};
 use lalrpop_lexer::lexer::dfa::{Clash, DfaConstructionError, Precedence, clashes};
 use lalrpop_lexer::lexer::re::{Regex, RegexError, parse_literal, parse_regex};
 use lalrpop_rules::{Rule, RulesError};
 use lexdfa_lib::{RunError, Watched, write_whole};
-use lines_lib::quoted_word;
 use std::alloc::{AllocError, Global};
 use std::io::Write;
 
@@ -122,7 +121,7 @@ fn push_clash(
 {
     let earlier = name_of(rules, clash.match1.index());
     let later = name_of(rules, clash.match0.index());
-    let word = quoted_word(alloc, &clash.word)?;
+    let word = ShownWord(&clash.word);
     write!(lines, "{earlier} {later} {word}\n")
 }
 

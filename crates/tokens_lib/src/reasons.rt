@@ -4,7 +4,7 @@ ghost use Rattle.tokens_lib.specs.Program.{placed};
 
 use lalrpop_lexer::lexer::nfa::NfaConstructionError;
 use lalrpop_lexer::lexer::re::SyntaxKind;
-use lines_lib::is_unseen;
+use lalrpop_lexer::is_unseen;
 use std::alloc::{AllocError, Global};
 
 /// Why a pattern doesn't parse.

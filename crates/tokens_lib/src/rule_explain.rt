@@ -8,9 +8,8 @@ use crate::reasons::{
 };
 use lalrpop_lexer::lexer::nfa::NfaConstructionError;
 use lalrpop_lexer::lexer::re::SyntaxKind;
-use lalrpop_lexer::{Position, Terminals, read_terminals};
+use lalrpop_lexer::{Position, ShownWord, Terminals, read_terminals};
 use lalrpop_rules::{LineFault, RuleFile, RuleFileError, RulesError};
-use lines_lib::quoted_word;
 use std::alloc::{AllocError, Global};
 
 // The text of the line with this number, from 1, without its end; nothing if it isn't UTF-8.
@@ -91,10 +90,10 @@ fn clash_explained(
     let earlier_name = name_of(&file.rules, other);
     let later_name = name_of(&file.rules, rule);
     let advice = clash_advice(word);
-    let quoted = quoted_word(alloc, word)?;
+    let shown = ShownWord(word);
     let lines = lines_of_clash(alloc, bytes, earlier, later)?;
     format!(in alloc;
-        "{later}: {later_name} clashes with {earlier_name} of line {earlier}: both match the word {quoted}, and neither wins\n\
+        "{later}: {later_name} clashes with {earlier_name} of line {earlier}: both match the word {shown}, and neither wins\n\
         {lines}{advice}\n"
     )
 }

@@ -2,11 +2,10 @@
 ghost use Rattle.std.specs.Prelude.{◌≡◌, ◌↔◌, ◌++◌, IsTrue, false, true, IfOk, IfSome, codes, string_bytes};
 ghost use Rattle.lalrpop_lexer.specs.Quoted.{is_unseen, quoted, told};
 
-use lines_lib::{is_unseen, push_escaped_char};
+use lalrpop_lexer::{ShownWord, is_unseen, push_escaped_char, quoted};
 use std::alloc::{AllocError, Global};
-use tokens_lib::{quoted, quoted_word};
 
-// Needs lines_lib::quoted: quoted.
+// Needs lalrpop_lexer::quoted: quoted.
 /// The slice in quotes, as a line.
 ///
 /// # Errors
@@ -20,7 +19,7 @@ pub fn quoted_line(alloc: Global, slice: &str) -> Result<String, AllocError>
     Ok(line)
 }
 
-// Needs lines_lib::quoted: quoted.
+// Needs lalrpop_lexer::quoted: quoted.
 /// Whether two slices are the same, as their quoted forms show.
 ///
 /// # Errors
@@ -34,7 +33,7 @@ pub fn are_same(alloc: Global, one: &str, other: &str) -> Result<bool, AllocErro
     Ok(first == second)
 }
 
-// Needs lines_lib::quoted: quoted.
+// Needs lalrpop_lexer::quoted: quoted.
 /// Whether the quoted slice has more than one line. It never has.
 ///
 /// # Errors
@@ -47,7 +46,7 @@ pub fn has_two_lines(alloc: Global, slice: &str) -> Result<bool, AllocError>
     Ok(text.contains('\n'))
 }
 
-// Needs lines_lib::quoted_word: quoted.
+// Needs lalrpop_lexer::ShownWord::fmt: ghost output.
 /// Whether two words are the same, as their quoted forms show.
 ///
 /// # Errors
@@ -56,12 +55,12 @@ pub fn has_two_lines(alloc: Global, slice: &str) -> Result<bool, AllocError>
 pub fn are_same_words(alloc: Global, one: &[u32], other: &[u32]) -> Result<bool, AllocError>
     ensures same { IfOk result (λ same. IsTrue same ↔ (one.now ≡ other.now)) }
 {
-    let first = quoted_word(alloc, one)?;
-    let second = quoted_word(alloc, other)?;
+    let first = format!(in alloc; "{}", ShownWord(one))?;
+    let second = format!(in alloc; "{}", ShownWord(other))?;
     Ok(first == second)
 }
 
-// Needs lines_lib::quoted_word: quoted.
+// Needs lalrpop_lexer::ShownWord::fmt: ghost output.
 /// Whether the quoted word has more than one line. It never has.
 ///
 /// # Errors
@@ -70,11 +69,11 @@ pub fn are_same_words(alloc: Global, one: &[u32], other: &[u32]) -> Result<bool,
 pub fn word_has_two_lines(alloc: Global, word: &[u32]) -> Result<bool, AllocError>
     ensures never { IfOk result (λ has. has ≡ false) }
 {
-    let text = quoted_word(alloc, word)?;
+    let text = format!(in alloc; "{}", ShownWord(word))?;
     Ok(text.contains('\n'))
 }
 
-// Needs lines_lib::push_escaped_char: returns.
+// Needs lalrpop_lexer::push_escaped_char: returns.
 /// The character between two apostrophes.
 ///
 /// # Errors
@@ -90,7 +89,7 @@ pub fn char_in_apostrophes(alloc: Global, c: char) -> Result<String, AllocError>
     Ok(text)
 }
 
-// Needs lines_lib::is_unseen: returns.
+// Needs lalrpop_lexer::is_unseen: returns.
 /// The first character of the slice that isn't seen.
 pub fn first_unseen(slice: &str) -> Option<char>
     ensures unseen { IfSome result (λ c. is_unseen c ≡ true) }
