@@ -13,7 +13,7 @@ ghost use Rattle.lalrpop_dfa.specs.Internal.Ascending.{AreAscendingItems};
 ghost use Rattle.lalrpop_build.specs.Internal.Given.{AreAutomata, AreItemsOf};
 ghost use Rattle.lalrpop_dfa.specs.Automata.{AreCompiled};
 ghost use Rattle.lalrpop_dfa.specs.Counts.{state_bound};
-ghost use Rattle.lalrpop_dfa.specs.Dfa.{RecognizesAll};
+ghost use Rattle.lalrpop_dfa.specs.Dfa.{Recognizes, RecognizesAll};
 ghost use Rattle.lalrpop_book.specs.Clash.{NoClash};
 ghost use Rattle.lalrpop_build.specs.Items.{HoldsItems, OthersReject, IsInWordOrder};
 ghost use Rattle.lalrpop_book.specs.Report.{NoFault, IsReport};
@@ -64,7 +64,9 @@ pub fn build_dfa(
 ) -> Result<Dfa, DfaConstructionError>
     requires same_len { length regexs.now ≡ length precedences.now }
     ensures ok { IfOk result (λ dfa. let ps = map (λ p. p.0) precedences.now in
-        NoFault regexs.now × NoClash regexs.now ps × RecognizesAll dfa regexs.now ps) }
+        NoFault regexs.now × NoClash regexs.now ps × Recognizes dfa regexs.now ps) }
+    ensures all { IfOk result (λ dfa.
+        RecognizesAll dfa regexs.now (map (λ p. p.0) precedences.now)) }
     ensures bound { IfOk result (λ dfa. length dfa ≤ state_bound regexs.now) }
     ensures items { IfOk result (λ dfa.
         (ns : List Graph) × AreCompiled regexs.now ns × HoldsItems ns dfa) }

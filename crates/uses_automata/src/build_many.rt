@@ -66,7 +66,7 @@ pub fn state_count(
     Ok(dfa.states().len())
 }
 
-// Needs lalrpop_build::build_dfa: ok, items, others, order.
+// Needs lalrpop_build::build_dfa: all, items, others, order.
 /// The automaton, to be drawn: each state holds the items that its words lead to, its ranges are the partition of the labels
 /// there, its other edge leads to a reject state, and states that don't reject are in the order of their words.
 pub fn to_be_drawn(

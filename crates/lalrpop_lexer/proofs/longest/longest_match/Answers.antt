@@ -1,11 +1,7 @@
 use Rattle.lalrpop_book.proofs.Strongest.{IsOnlyStrongest-from_longest}
-use Rattle.lalrpop_dfa.proofs.Recognized.{on_words}
 use Rattle.lalrpop_lexer.proofs.longest.longest_match.Goals as goal
-
-pub returns-clause-longest : goal.returns-clause-longest
-returns-clause-longest c = c.interpret.ensures.answer _ _ (on_words _ _ _ c.in_ok-dfa.ensures.ok.2)
 
 pub returns-clause-strongest : goal.returns-clause-strongest
 returns-clause-strongest c =
     let built = c.in_ok-dfa.ensures.ok in
-    IsOnlyStrongest-from_longest (λ s. s.now) _ _ c.args.text.now c.interpret.result built.1 (c.interpret.ensures.answer _ _ (on_words _ _ _ built.2))
+    IsOnlyStrongest-from_longest (λ s. s.now) _ _ c.args.text.now c.interpret.result built.1 (c.interpret.ensures.answer _ _ built.2)

@@ -13,7 +13,8 @@ invariant_of-result c =
     let ts = c.args.regexs.items in
     let ps = map (λ p. p.0) c.args.precedences.items in
     let same = sym c.in_ok-dense.ensures.same in
-    let stands = subst (λ d. RecognizesAll d ts ps) same (c.in_ok-dfa.ensures.recognizes ts ps built.2) in
+    let all = rw (c.deref.ensures.value, c.deref-2.ensures.value) at c.in_ok-built.ensures.all in
+    let stands = subst (λ d. RecognizesAll d ts ps) same (c.in_ok-dfa.ensures.recognizes ts ps all) in
     let trim = subst IsTrim same (trimmed_trim c.in_ok-built.built c.in_ok-dfa.dfa c.in_ok-dfa.ensures.trimmed) in
     let looks = subst (λ d. IsLookahead (Accepted d) c.in_ok-lookahead.lookahead) c.dfa.ensures.same c.in_ok-lookahead.ensures.answer in
     (record { no_clash = built.1; stands = stands }, trim, same_lookahead _ _ (recognized_words _ _ _ stands) _ looks)
