@@ -9,7 +9,7 @@ use Rattle.std.proofs.lemmas.Str.Parse.{digit_from_value}
 use Rattle.lalrpop_lexer.specs.Line.{IsPrecedence}
 use Rattle.lalrpop_lexer.specs.declared.form.Form.{Form}
 use Rattle.lalrpop_lexer.specs.declared.form.Form.TheVariants.{Literal, Pattern}
-use Rattle.lalrpop_rules.specs.RuleLine.{EachByte, begins, IsSpan, AreBlanks, is_blank, begins_name, is_of_name, delimiter, Lacks, precedence_or, Part, Named, Equals, Closed, Lexeme, a_blank, a_name, a_skip, an_equals, a_precedence, a_text, an_open_text, Reads, nothing, lexeme_then}
+use Rattle.lalrpop_rules.specs.RuleLine.{EachByte, begins, IsSpan, AreBlanks, is_blank, begins_name, is_of_name, delimiter, Lacks, precedence_or, Part, Named, Equals, Open, Closed, Lexeme, a_blank, a_name, a_skip, an_equals, a_precedence, a_text, an_open_text, Reads, nothing, lexeme_then}
 use Rattle.lalrpop_rules.proofs.Closings.{lacks_none, last_unique}
 use Rattle.lalrpop_rules.proofs.Spans.{IsSpan-unique}
 
@@ -57,10 +57,10 @@ kind_of : {p q : Part} {text rest : List ℕ} → Lexeme p text q rest → ℕ
 kind_of (a_blank h) = 0
 kind_of (a_name h span) = 1
 kind_of (a_skip span) = 1
-kind_of (an_equals parts) = 2
+kind_of an_equals = 2
 kind_of (a_precedence span h) = 3
-kind_of (a_text form parts lacks) = 4
-kind_of (an_open_text form parts lacks) = 4
+kind_of (a_text form lacks) = 4
+kind_of (an_open_text form lacks) = 4
 
 blank_kind : (b : ℕ) → is_blank b ≡ true → kind b ≡ 0
 unfolding kind
@@ -93,10 +93,10 @@ unfolding kind_of first_kind kind
 kind_is (a_blank {b = b} h) = blank_kind b h
 kind_is (a_name {text = text} h span) = first_is begins_name 1 text name_kind h
 kind_is (a_skip span) = ap first_kind span.parts
-kind_is (an_equals parts) = ap first_kind parts
+kind_is an_equals = refl
 kind_is (a_precedence {text = text} {digits = digits} {rest = rest} {n = n} span h) = first_is is_ascii_digit 3 text digit_kind (precedence_begins text digits rest n span h)
-kind_is (a_text {text = text} form parts lacks) = first_delimiter form text _ parts
-kind_is (an_open_text {text = text} form parts lacks) = first_delimiter form text _ parts
+kind_is (a_text form lacks) = delimiter_kind form
+kind_is (an_open_text form lacks) = delimiter_kind form
 
 abbrev pub Same : Part → Part → List ℕ → List ℕ → Type 0
 Same q r rest other = (q ≡ r) × (rest ≡ other)
@@ -133,6 +133,22 @@ not_both form other inner own rest e lacks =
     let same = form_same form other (inner ++ (delimiter form ∷ rest)) own e in
     lacks_none (delimiter form) inner rest (subst (Lacks (delimiter form)) (sym same.1) (subst (λ (f : Form). Lacks (delimiter f) own) (sym same.0) lacks))
 
+-- so a text is read in one way
+text_is_one : {name : List ℕ} {skipped : Bool} {written : Option ℕ} {q : Part} {text other : List ℕ} (form : Form) (inner rest : List ℕ) → Lexeme (Equals name skipped written) text q other
+    → text ≡ delimiter form ∷ (inner ++ (delimiter form ∷ rest)) → Lacks (delimiter form) rest → Same (Closed name skipped (precedence_or form written) form inner) q rest other
+unfolding kind_of
+text_is_one form inner rest (a_text {name = name} {inner = own} {rest = other} {skipped = skipped} {written = written} f lack) e lacks =
+    text_same name skipped written form f inner own rest other lacks lack (sym e)
+text_is_one form inner rest (an_open_text {inner = own} f lack) e lacks = absurd (not_both form f inner own rest (sym e) lack)
+text_is_one {text = text} form inner rest g e lacks = absurd (omega (arith, kind_is g, first_delimiter form text (inner ++ (delimiter form ∷ rest)) e))
+
+open_is_one : {name : List ℕ} {skipped : Bool} {written : Option ℕ} {q : Part} {text other : List ℕ} (form : Form) (inner : List ℕ) → Lexeme (Equals name skipped written) text q other
+    → text ≡ delimiter form ∷ inner → Lacks (delimiter form) inner → Same Open q [] other
+unfolding kind_of
+open_is_one form inner (a_text {inner = own} {rest = other} f lack) e lacks = absurd (not_both f form own inner other e lacks)
+open_is_one form inner (an_open_text f lack) e lacks = (refl, refl)
+open_is_one {text = text} form inner g e lacks = absurd (omega (arith, kind_is g, first_delimiter form text inner e))
+
 -- at a place of a line the next lexeme is one
 pub Lexeme-unique : {p q r : Part} {text rest other : List ℕ} → Lexeme p text q rest → Lexeme p text r other → Same q r rest other
 unfolding kind_of
@@ -140,15 +156,12 @@ Lexeme-unique (a_blank g) (a_blank h) = (refl, refl)
 Lexeme-unique (a_name {text = text} {name = name} {rest = rest} g s) (a_name {name = own} {rest = other} h t) =
     named_same false name own rest other (IsSpan-unique is_of_name text name rest own other s t)
 Lexeme-unique (a_skip {text = text} {rest = rest} s) (a_skip {rest = other} t) = (refl, (IsSpan-unique is_of_name text (codes "skip") rest (codes "skip") other s t).1)
-Lexeme-unique (an_equals g) (an_equals h) = (refl, ap (drop 1) (sym g ∙ h))
+Lexeme-unique an_equals an_equals = (refl, refl)
 Lexeme-unique (a_precedence {text = text} {name = name} {digits = digits} {rest = rest} {skipped = skipped} {n = m} s g) (a_precedence {digits = own} {rest = other} {n = n} t h) =
     let same = IsSpan-unique is_ascii_digit text digits rest own other s t in
     (ap (λ (x : ℕ). Equals name skipped (Some x)) (value_same digits own m n g h same.0), same.1)
-Lexeme-unique (a_text {name = name} {inner = inner} {rest = rest} {skipped = skipped} {written = written} form g lacks) (a_text {inner = own} {rest = other} other_form h lack) =
-    text_same name skipped written form other_form inner own rest other lacks lack (sym g ∙ h)
-Lexeme-unique (a_text {inner = inner} {rest = rest} form g lacks) (an_open_text {inner = own} other h lack) = absurd (not_both form other inner own rest (sym g ∙ h) lack)
-Lexeme-unique (an_open_text {inner = own} other h lack) (a_text {inner = inner} {rest = rest} form g lacks) = absurd (not_both form other inner own rest (sym g ∙ h) lack)
-Lexeme-unique (an_open_text form g lacks) (an_open_text other h lack) = (refl, refl)
+Lexeme-unique (a_text {inner = inner} {rest = rest} form lacks) h = text_is_one form inner rest h refl lacks
+Lexeme-unique (an_open_text {inner = inner} form lacks) h = open_is_one form inner h refl lacks
 Lexeme-unique g h = let e : kind_of g ≡ kind_of h = sym (kind_is g) ∙ kind_is h in absurd (omega (arith, e))
 
 abbrev pub IsStuck : Part → List ℕ → Type 0
@@ -167,3 +180,29 @@ Reads-unique (lexeme_then {mid = mid} s more) (lexeme_then {q = q} {r = r} {mid 
 -- behind a rule nothing can follow
 pub end_is_stuck : (name : List ℕ) (skipped : Bool) (precedence : ℕ) (form : Form) (text : List ℕ) → IsStuck (Closed name skipped precedence form text) []
 end_is_stuck name skipped precedence form text q rest s = elim s [ ]
+
+-- ---- behind a text
+
+abbrev pub IsEnd : Part → Type 0
+IsEnd Open = Unit {0}
+IsEnd (Closed name skipped precedence form inner) = Unit {0}
+IsEnd p = ⊥
+
+-- some blanks, and the rest
+pub record IsGap (text rest : List ℕ) : Type 0 where
+  pub gap : List ℕ
+  pub parts : text ≡ gap ++ rest
+  pub blanks : AreBlanks gap
+
+-- only blanks are read there
+pub gap_behind : {p q : Part} {text rest : List ℕ} → Reads p text q rest → IsEnd p → (p ≡ q) × IsGap text rest
+gap_behind nothing end = (refl, record { gap = []; parts = refl; blanks = tt })
+gap_behind (lexeme_then (a_blank {b = b} h) more) end =
+    let behind = gap_behind more end in
+    (behind.0, record { gap = b ∷ behind.1.gap; parts = ap (λ (x : List ℕ). b ∷ x) behind.1.parts; blanks = (h, behind.1.blanks) })
+gap_behind (lexeme_then (a_name h span) more) end = absurd end
+gap_behind (lexeme_then (a_skip span) more) end = absurd end
+gap_behind (lexeme_then an_equals more) end = absurd end
+gap_behind (lexeme_then (a_precedence span h) more) end = absurd end
+gap_behind (lexeme_then (a_text form lacks) more) end = absurd end
+gap_behind (lexeme_then (an_open_text form lacks) more) end = absurd end

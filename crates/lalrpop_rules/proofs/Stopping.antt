@@ -29,11 +29,11 @@ pub ends_lexeme : {p q : Part} {text rest : List ℕ} → Lexeme p text q rest �
 ends_lexeme (a_blank {b = b} h) = (b ∷ [], refl)
 ends_lexeme (a_name {name = name} h span) = (name, span.parts)
 ends_lexeme (a_skip span) = (codes "skip", span.parts)
-ends_lexeme (an_equals parts) = (codes "=", parts)
+ends_lexeme an_equals = (codes "=", refl)
 ends_lexeme (a_precedence {digits = digits} span h) = (digits, span.parts)
-ends_lexeme (a_text {text = text} {inner = inner} {rest = rest} form parts lacks) =
-    let mark = delimiter form in (mark ∷ (inner ++ (mark ∷ [])), parts ∙ ap (λ (x : List ℕ). mark ∷ x) (sym (append_assoc inner (mark ∷ []) rest)))
-ends_lexeme (an_open_text {text = text} form parts lacks) = (text, sym (append-nil text))
+ends_lexeme (a_text {inner = inner} {rest = rest} form lacks) =
+    let mark = delimiter form in (mark ∷ (inner ++ (mark ∷ [])), ap (λ (x : List ℕ). mark ∷ x) (sym (append_assoc inner (mark ∷ []) rest)))
+ends_lexeme (an_open_text {inner = inner} form lacks) = (delimiter form ∷ inner, sym (append-nil (delimiter form ∷ inner)))
 
 pub ends_reads : {p q : Part} {text rest : List ℕ} → Reads p text q rest → Ends text rest
 ends_reads nothing = ([], refl)
@@ -57,13 +57,14 @@ pub skipped : (line name rest behind gap here : List ℕ) → Reads Start line (
 skipped line name rest behind gap here reads word blanks = joined reads (lexeme_then (a_skip word) (span_read (Named name true) behind gap here blanks))
 
 pub equals : (line name here right : List ℕ) (skipped : Bool) → Reads Start line (Named name skipped) here → here ≡ codes "=" ++ right → Reads Start line (Equals name skipped None) right
-equals line name here right skipped reads parts = joined reads (lexeme_then (an_equals parts) nothing)
+equals line name here right skipped reads parts =
+    joined reads (subst (λ (x : List ℕ). Reads (Named name skipped) x (Equals name skipped None) right) (sym parts) (lexeme_then an_equals nothing))
 
 no_equals_here : {name : List ℕ} {skipped : Bool} {q : Part} {text rest : List ℕ} → begins is_blank text ≡ false → ((right : List ℕ) → text ≢ codes "=" ++ right)
     → (skipped ≡ false → (behind : List ℕ) → ¬ IsSpan is_of_name text (codes "skip") behind) → ¬ Lexeme (Named name skipped) text q rest
 no_equals_here blank none no_skip (a_blank h) = false≢true (sym blank ∙ h)
 no_equals_here blank none no_skip (a_skip {rest = rest} span) = no_skip refl rest span
-no_equals_here blank none no_skip (an_equals {rest = rest} parts) = none rest parts
+no_equals_here blank none no_skip (an_equals {rest = rest}) = none rest refl
 
 pub no_equals : (line name here : List ℕ) (skipped : Bool) (rest : List ℕ) (fault : LineFault) → Reads Start line (Named name skipped) here → begins is_blank here ≡ false
     → (skipped ≡ false → (behind : List ℕ) → ¬ IsSpan is_of_name here (codes "skip") behind) → ((right : List ℕ) → here ≢ codes "=" ++ right) → (fault ≡ NoEquals) × (rest ≡ here)
@@ -85,15 +86,12 @@ delimiter_is_no_digit : (form : Form) → is_ascii_digit (delimiter form) ≡ fa
 delimiter_is_no_digit Literal = refl
 delimiter_is_no_digit Pattern = refl
 
-digit_is_no_delimiter : (form : Form) (text rest : List ℕ) → begins is_ascii_digit text ≡ true → text ≢ delimiter form ∷ rest
-digit_is_no_delimiter form text rest digit e = false≢true (sym (delimiter_is_no_digit form) ∙ ap (begins is_ascii_digit) (sym e) ∙ digit)
-
 no_number_here : {name : List ℕ} {skipped : Bool} {q : Part} {text rest : List ℕ} → begins is_blank text ≡ false → begins is_ascii_digit text ≡ true
     → ((digits behind : List ℕ) (n : ℕ) → IsSpan is_ascii_digit text digits behind → ¬ IsPrecedence digits n) → ¬ Lexeme (Equals name skipped None) text q rest
 no_number_here blank digit none (a_blank h) = false≢true (sym blank ∙ h)
 no_number_here blank digit none (a_precedence {digits = digits} {rest = rest} {n = n} span h) = none digits rest n span h
-no_number_here blank digit none (a_text {text = text} form parts lacks) = digit_is_no_delimiter form text _ digit parts
-no_number_here blank digit none (an_open_text {text = text} form parts lacks) = digit_is_no_delimiter form text _ digit parts
+no_number_here blank digit none (a_text form lacks) = false≢true (sym (delimiter_is_no_digit form) ∙ digit)
+no_number_here blank digit none (an_open_text form lacks) = false≢true (sym (delimiter_is_no_digit form) ∙ digit)
 
 -- digits that write no precedence
 pub no_number : (text digits behind : List ℕ) → begins is_blank text ≡ false → IsSpan is_ascii_digit text digits behind → (length digits ≡ 0 → ⊥) → ((n : ℕ) → ¬ IsPrecedence digits n)
@@ -119,8 +117,8 @@ no_text_here : {name : List ℕ} {skipped : Bool} {written : Option ℕ} {q : Pa
     → ((form : Form) (inner : List ℕ) → text ≢ delimiter form ∷ inner) → ¬ Lexeme (Equals name skipped written) text q rest
 no_text_here {written = written} before none (a_blank {b = b} {rest = rest} h) = false≢true (sym (before_text written (b ∷ rest) before).0 ∙ h)
 no_text_here before none (a_precedence {text = text} {digits = digits} {rest = rest} {n = n} span h) = false≢true (sym before.1 ∙ precedence_begins text digits rest n span h)
-no_text_here before none (a_text form parts lacks) = none form _ parts
-no_text_here before none (an_open_text form parts lacks) = none form _ parts
+no_text_here before none (a_text form lacks) = none form _ refl
+no_text_here before none (an_open_text form lacks) = none form _ refl
 
 -- neither a literal nor a pattern
 pub no_text : (rest : List ℕ) → ((inner : List ℕ) → rest ≢ 39 ∷ inner) → ((inner : List ℕ) → rest ≢ 47 ∷ inner) → (written : Option ℕ) → IsBeforeText written rest → StopsText written rest rest NoText
@@ -134,12 +132,13 @@ no_text rest no_literal no_pattern written before name skipped =
 -- a text without a second delimiter
 pub text_open : (form : Form) (inner : List ℕ) → Lacks (delimiter form) inner → (written : Option ℕ) → StopsText written (delimiter form ∷ inner) [] NotClosed
 text_open form inner lacks written name skipped =
-    record { part = Open; reads = lexeme_then (an_open_text form refl lacks) nothing; stuck = λ q rest s. elim s [ ]; is_fault = refl }
+    record { part = Open; reads = lexeme_then (an_open_text form lacks) nothing; stuck = λ q rest s. elim s [ ]; is_fault = refl }
 
 quotation : (form : Form) (inner text trail gap rest : List ℕ) → inner ≡ text ++ (delimiter form ∷ trail) → Lacks (delimiter form) trail → IsSpan is_blank trail gap rest
     → (written : Option ℕ) (name : List ℕ) (skipped : Bool) → Reads (Equals name skipped written) (delimiter form ∷ inner) (Closed name skipped (precedence_or form written) form text) rest
 quotation form inner text trail gap rest parts lacks blanks written name skipped =
-    lexeme_then (a_text form (ap (λ (x : List ℕ). delimiter form ∷ x) parts) lacks) (span_read (Closed name skipped (precedence_or form written) form text) trail gap rest blanks)
+    let end : Part = Closed name skipped (precedence_or form written) form text in
+    subst (λ (x : List ℕ). Reads (Equals name skipped written) (delimiter form ∷ x) end rest) (sym parts) (lexeme_then (a_text form lacks) (span_read end trail gap rest blanks))
 
 no_blank_here : {name : List ℕ} {skipped : Bool} {precedence : ℕ} {form : Form} {inner : List ℕ} {q : Part} {text rest : List ℕ} → begins is_blank text ≡ false
     → ¬ Lexeme (Closed name skipped precedence form inner) text q rest

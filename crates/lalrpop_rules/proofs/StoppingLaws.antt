@@ -30,15 +30,15 @@ says_neither line rest fault some stops (Some rule) says = stops_at_no_rule line
 
 -- ---- the column
 
-abbrev IsPlaced : List ℕ → ℕ → LineFault → Type 0
+abbrev pub IsPlaced : List ℕ → ℕ → LineFault → Type 0
 IsPlaced line column fault =
     IsUtf8 line × ((front : List ℕ) × ((rest : List ℕ) × ((without_return line ≡ front ++ rest)
     × ((column ≡ (position_of (without_return line) (length front)).column) × StopsBefore Start (without_return line) rest fault))))
 
-abbrev WhereLine : List ℕ → ℕ → LineFault → Type 0
+abbrev pub WhereLine : List ℕ → ℕ → LineFault → Type 0
 WhereLine line column fault = ((fault ≡ NotUtf8) × IsLineFault line column NotUtf8) ⊎ IsPlaced line column fault
 
-where_line : (line : List ℕ) (column : ℕ) (fault : LineFault) → IsLineFault line column fault → WhereLine line column fault
+pub where_line : (line : List ℕ) (column : ℕ) (fault : LineFault) → IsLineFault line column fault → WhereLine line column fault
 where_line line column NotUtf8 h = inl (refl, h)
 where_line line column NoName h = inr h
 where_line line column NoEquals h = inr h

@@ -10,58 +10,47 @@ use Rattle.lalrpop_rules.specs.declared.rule.Rule.{Rule}
 use Rattle.lalrpop_rules.specs.RuleLine.{AreBlanks, IsRule, Lacks, Part, Closed, a_blank, a_name, a_skip, an_equals, a_precedence, a_text, an_open_text, Reads, nothing, lexeme_then, delimiter}
 use Rattle.lalrpop_rules.specs.RuleFile.{IsTextColumn}
 use Rattle.lalrpop_rules.proofs.Closings.{blanks_lack, delimiter_ascii, lacks_none, last_unique, no_char, split_last}
+use Rattle.lalrpop_rules.proofs.Lexemes.{IsEnd, IsGap, gap_behind}
 use Rattle.lalrpop_rules.proofs.Stopping.{Ends, ends_behind, behind_front}
 
 -- it is the text, its delimiter and blanks
-record HasText (line : List ℕ) (form : Form) (inner : List ℕ) : Type 0 where
-  front : List ℕ
-  trail : List ℕ
-  parts : line ≡ front ++ (inner ++ (delimiter form ∷ trail))
-  blanks : AreBlanks trail
-
-abbrev IsClosed : Part → Type 0
-IsClosed (Closed name skipped precedence form inner) = Unit {0}
-IsClosed p = ⊥
-
--- behind the last delimiter blanks stand
-blanks_behind : {p q : Part} {text rest : List ℕ} → Reads p text q rest → IsClosed p → rest ≡ [] → (p ≡ q) × AreBlanks text
-blanks_behind nothing closed none = (refl, subst AreBlanks (sym none) tt)
-blanks_behind (lexeme_then (a_blank h) more) closed none = let rest = blanks_behind more closed none in (rest.0, (h, rest.1))
-blanks_behind (lexeme_then (a_name h span) more) closed none = absurd closed
-blanks_behind (lexeme_then (a_skip span) more) closed none = absurd closed
-blanks_behind (lexeme_then (an_equals parts) more) closed none = absurd closed
-blanks_behind (lexeme_then (a_precedence span h) more) closed none = absurd closed
-blanks_behind (lexeme_then (a_text f parts lacks) more) closed none = absurd closed
-blanks_behind (lexeme_then (an_open_text f parts lacks) more) closed none = absurd closed
+pub record HasText (line : List ℕ) (form : Form) (inner : List ℕ) : Type 0 where
+  pub front : List ℕ
+  pub trail : List ℕ
+  pub parts : line ≡ front ++ (inner ++ (delimiter form ∷ trail))
+  pub blanks : AreBlanks trail
 
 text_behind : (text mid : List ℕ) (form : Form) (inner : List ℕ) → Ends text mid → HasText mid form inner → HasText text form inner
 text_behind text mid form inner (front, parts) h =
     let behind : Ends text (inner ++ (delimiter form ∷ h.trail)) = ends_behind front mid (inner ++ (delimiter form ∷ h.trail)) text parts (h.front, h.parts) in
     record { front = behind.0; trail = h.trail; parts = behind.1; blanks = h.blanks }
 
-text_here : (text mid : List ℕ) (form other : Form) (inner own : List ℕ) → text ≡ delimiter form ∷ (inner ++ (delimiter form ∷ mid)) → AreBlanks mid → form ≡ other → inner ≡ own → HasText text other own
-text_here text mid form other inner own parts blanks e same =
-    let there : text ≡ delimiter form ∷ (own ++ (delimiter other ∷ mid)) =
-    parts ∙ ap (λ (x : List ℕ). delimiter form ∷ (x ++ (delimiter form ∷ mid))) same ∙ ap (λ (f : Form). delimiter form ∷ (own ++ (delimiter f ∷ mid))) e in
-    record { front = delimiter form ∷ []; trail = mid; parts = there; blanks = blanks }
+text_here : (mid rest : List ℕ) (form other : Form) (inner own : List ℕ) → IsGap mid rest → rest ≡ [] → form ≡ other → inner ≡ own → HasText (delimiter form ∷ (inner ++ (delimiter form ∷ mid))) other own
+text_here mid rest form other inner own behind none e same =
+    let there : delimiter form ∷ (inner ++ (delimiter form ∷ mid)) ≡ delimiter form ∷ (own ++ (delimiter other ∷ mid)) =
+    ap (λ (x : List ℕ). delimiter form ∷ (x ++ (delimiter form ∷ mid))) same ∙ ap (λ (f : Form). delimiter form ∷ (own ++ (delimiter f ∷ mid))) e in
+    let all : mid ≡ behind.gap = behind.parts ∙ ap (λ (x : List ℕ). behind.gap ++ x) none ∙ append-nil behind.gap in
+    record { front = delimiter form ∷ []; trail = mid; parts = there; blanks = subst AreBlanks (sym all) behind.blanks }
 
-has_text : {p q : Part} {text rest name : List ℕ} {skipped : Bool} {precedence : ℕ} {form : Form} {inner : List ℕ} → Reads p text q rest → ¬ IsClosed p
+has_text : {p q : Part} {text rest name : List ℕ} {skipped : Bool} {precedence : ℕ} {form : Form} {inner : List ℕ} → Reads p text q rest → ¬ IsEnd p
     → q ≡ Closed name skipped precedence form inner → rest ≡ [] → HasText text form inner
-has_text nothing before is none = absurd (before (subst IsClosed (sym is) tt))
+has_text nothing before is none = absurd (before (subst IsEnd (sym is) tt))
 has_text {form = form} {inner = inner} (lexeme_then {text = text} {mid = mid} (a_blank {b = b} h) more) before is none = text_behind text mid form inner (b ∷ [], refl) (has_text more before is none)
-has_text {form = form} {inner = inner} (lexeme_then {text = text} {mid = mid} (a_text {inner = own} f parts lacks) more) before is none =
-    let end = blanks_behind more tt none in
-    let same = end.0 ∙ is in
-    text_here text mid f form own inner parts end.1 (cc same) (cc same)
-has_text {form = form} {inner = inner} (lexeme_then {text = text} {mid = mid} (a_name {name = own} h span) more) before is none = text_behind text mid form inner (own, span.parts) (has_text more (λ x. x) is none)
-has_text {form = form} {inner = inner} (lexeme_then {text = text} {mid = mid} (a_skip span) more) before is none = text_behind text mid form inner (codes "skip", span.parts) (has_text more (λ x. x) is none)
-has_text {form = form} {inner = inner} (lexeme_then {text = text} {mid = mid} (an_equals parts) more) before is none = text_behind text mid form inner (codes "=", parts) (has_text more (λ x. x) is none)
+has_text {form = form} {inner = inner} (lexeme_then {text = text} {mid = mid} (a_name {name = own} h span) more) before is none =
+    text_behind text mid form inner (own, span.parts) (has_text more (λ x. x) is none)
+has_text {form = form} {inner = inner} (lexeme_then {text = text} {mid = mid} (a_skip span) more) before is none =
+    text_behind text mid form inner (codes "skip", span.parts) (has_text more (λ x. x) is none)
+has_text {form = form} {inner = inner} (lexeme_then {text = text} {mid = mid} an_equals more) before is none =
+    text_behind text mid form inner (codes "=", refl) (has_text more (λ x. x) is none)
 has_text {form = form} {inner = inner} (lexeme_then {text = text} {mid = mid} (a_precedence {digits = digits} span h) more) before is none =
     text_behind text mid form inner (digits, span.parts) (has_text more (λ x. x) is none)
-has_text {form = form} {inner = inner} (lexeme_then {text = text} {mid = mid} (an_open_text f parts lacks) more) before is none =
-    text_behind text mid form inner (text, sym (append-nil text)) (has_text more (λ x. x) is none)
+has_text {form = form} {inner = inner} (lexeme_then {mid = mid} {rest = rest} (a_text {inner = own} f lacks) more) before is none =
+    let end = gap_behind more tt in
+    let same = end.0 ∙ is in
+    text_here mid rest f form own inner end.1 none (cc same) (cc same)
+has_text (lexeme_then (an_open_text f lacks) more) before is none = let end = (gap_behind more tt).0 ∙ is in absurd (cc)
 
-text_of : (line : List ℕ) (rule : Rule) → IsRule line rule → HasText line rule.form rule.text.now
+pub text_of : (line : List ℕ) (rule : Rule) → IsRule line rule → HasText line rule.form rule.text.now
 text_of line rule h = has_text h (λ x. x) refl refl
 
 -- so it has its delimiter

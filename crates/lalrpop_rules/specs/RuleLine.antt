@@ -54,32 +54,34 @@ precedence_or Pattern None = 0
 
 -- ---- from left to right
 
--- how far a line is read, and what it has said: a name, and whether `skip` is behind it; the `=` too, and the precedence that is
--- written; a text without its second delimiter; or all of a rule
+-- how far a line is read, and what it has said
 pub data Part : Type 0 where
   Start : Part
+  -- a name, and whether `skip` is behind it
   Named : (name : List ℕ) (skipped : Bool) → Part
+  -- the `=` too, and the precedence if one is written
   Equals : (name : List ℕ) (skipped : Bool) (written : Option ℕ) → Part
+  -- a text that has no second delimiter
   Open : Part
+  -- all of a rule
   Closed : (name : List ℕ) (skipped : Bool) (precedence : ℕ) (form : Form) (text : List ℕ) → Part
 
--- `Lexeme p text q rest`: where the line is read as far as p, the text begins with a blank or with what makes p to q, and the rest
--- is behind it
+-- `Lexeme p text q rest`: where a line is read as far as p, the text begins with a blank, or with what makes q of p; the rest is
+-- behind it
 pub data Lexeme : Part → List ℕ → Part → List ℕ → Type 0 where
   a_blank : {p : Part} {b : ℕ} {rest : List ℕ} → is_blank b ≡ true → Lexeme p (b ∷ rest) p rest
   a_name : {text name rest : List ℕ} → begins begins_name text ≡ true → IsSpan is_of_name text name rest →
       Lexeme Start text (Named name false) rest
   a_skip : {text name rest : List ℕ} → IsSpan is_of_name text (codes "skip") rest → Lexeme (Named name false) text (Named name true) rest
-  an_equals : {text name rest : List ℕ} {skipped : Bool} → text ≡ codes "=" ++ rest →
-      Lexeme (Named name skipped) text (Equals name skipped None) rest
+  an_equals : {name rest : List ℕ} {skipped : Bool} → Lexeme (Named name skipped) (codes "=" ++ rest) (Equals name skipped None) rest
   a_precedence : {text name digits rest : List ℕ} {skipped : Bool} {n : ℕ} → IsSpan is_ascii_digit text digits rest → IsPrecedence digits n →
       Lexeme (Equals name skipped None) text (Equals name skipped (Some n)) rest
-  -- a text ends at the last delimiter of the line; without a second one it is open up to the end
-  a_text : {text name inner rest : List ℕ} {skipped : Bool} {written : Option ℕ} (form : Form) →
-      text ≡ delimiter form ∷ (inner ++ (delimiter form ∷ rest)) → Lacks (delimiter form) rest →
-      Lexeme (Equals name skipped written) text (Closed name skipped (precedence_or form written) form inner) rest
-  an_open_text : {text name inner : List ℕ} {skipped : Bool} {written : Option ℕ} (form : Form) →
-      text ≡ delimiter form ∷ inner → Lacks (delimiter form) inner → Lexeme (Equals name skipped written) text Open []
+  -- a text ends at the last delimiter of the line; without a second one it is open, up to the end
+  a_text : {name inner rest : List ℕ} {skipped : Bool} {written : Option ℕ} (form : Form) → Lacks (delimiter form) rest →
+      Lexeme (Equals name skipped written) (delimiter form ∷ (inner ++ (delimiter form ∷ rest)))
+      (Closed name skipped (precedence_or form written) form inner) rest
+  an_open_text : {name inner : List ℕ} {skipped : Bool} {written : Option ℕ} (form : Form) → Lacks (delimiter form) inner →
+      Lexeme (Equals name skipped written) (delimiter form ∷ inner) Open []
 
 -- one after another
 pub data Reads : Part → List ℕ → Part → List ℕ → Type 0 where

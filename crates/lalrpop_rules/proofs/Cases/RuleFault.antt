@@ -2,7 +2,7 @@
 use Rattle.std.proofs.Common.{◌≡◌, ◌≢◌, ℕ, Bool, false, Some, None, List, [], ◌++◌, codes, drop, get_or, refl, sym, ap, ◌∙◌, arith, length}
 use Rattle.std.proofs.lemmas.Bool.{false≢true}
 use Rattle.lalrpop_lexer.specs.declared.form.Form.TheVariants.{Literal}
-use Rattle.lalrpop_rules.specs.RuleLine.{IsSpan, Part, Start, Named, Equals, Closed, Lexeme, a_blank, a_name, a_skip, an_equals, nothing, lexeme_then, begins, is_blank, is_of_name}
+use Rattle.lalrpop_rules.specs.RuleLine.{IsSpan, Part, Start, Named, Equals, Closed, Lexeme, a_blank, a_name, a_skip, nothing, lexeme_then, begins, is_blank, is_of_name}
 use Rattle.lalrpop_rules.specs.RuleFault.{StopsBefore, fault_at}
 use Rattle.lalrpop_rules.specs.declared.rule_file.error.LineFault.TheVariants.{NoName, NoEquals, PrecedenceTooLarge, NoText, NotClosed}
 use Rattle.lalrpop_rules.proofs.Stopping.{no_equals, no_name, no_text, text_behind, text_open}
@@ -44,7 +44,6 @@ longer_word_is_no_mark = record { part = Named (codes "A") false; reads = nothin
     by : {q : Part} {rest : List ℕ} → ¬ Lexeme (Named (codes "A") false) (codes "skips") q rest
     by (a_blank h) = false≢true h
     by (a_skip span) = false≢true (sym span.stops ∙ sym (ap (begins is_of_name) (ap (drop 4) span.parts)))
-    by (an_equals parts) = let k : 115 ≡ 61 = ap (λ (x : List ℕ). get_or x 0 0) parts in omega (arith, k)
 
 -- ` x` has no text, and stops at its letter
 letter_is_no_text : StopsBefore (Equals (codes "A") false None) (codes "x") (codes "x") NoText

@@ -1,5 +1,5 @@
 -- Cases of specs/RuleLine.antt.
-use Rattle.std.proofs.Common.{◌≡◌, ℕ, Bool, true, false, List, [], length, get_or, codes, refl, ap, sym, Option, Some, None, arith}
+use Rattle.std.proofs.Common.{◌≡◌, ℕ, Bool, true, false, List, [], length, codes, refl, ap, sym, Option, Some, None, arith}
 use Rattle.std.specs.Borrow.{Bor}
 use Rattle.std.specs.Char.{is_ascii_digit}
 use Rattle.std.proofs.lemmas.Bool.{false≢true}
@@ -59,7 +59,7 @@ longer_word_is_no_mark : {name own : List ℕ} → ¬ Lexeme (Named name false) 
 longer_word_is_no_mark (a_skip span) = false≢true (sym span.stops)
 
 skip_is_no_equals : {name own rest : List ℕ} {skipped : Bool} → ¬ Lexeme (Named name false) (codes "skip=") (Equals own skipped None) rest
-skip_is_no_equals (an_equals parts) = let k : 115 ≡ 61 = ap (λ (x : List ℕ). get_or x 0 0) parts in omega (arith, k)
+skip_is_no_equals s = elim s [ ]
 
 twelve : IsPrecedence (codes "12") 12
 twelve = record { numeral = search arith; short = omega arith; value = refl; fits = omega arith }
@@ -75,16 +75,16 @@ half_a_precedence name skipped s = let same = (Lexeme-unique s (written_preceden
 
 -- quotes inside need no escape
 quote_in_quotes : (name : List ℕ) (skipped : Bool) → Lexeme (Equals name skipped None) (codes "'''") (Closed name skipped 1 Literal (codes "'")) []
-quote_in_quotes name skipped = a_text Literal refl tt
+quote_in_quotes name skipped = a_text Literal tt
 
 first_quote_ends_nothing : (name : List ℕ) (skipped : Bool) → ¬ Lexeme (Equals name skipped None) (codes "'''") (Closed name skipped 1 Literal []) (codes "'")
 first_quote_ends_nothing name skipped s = let same = (Lexeme-unique s (quote_in_quotes name skipped)).1 in let k : 1 ≡ 0 = ap length same in omega (arith, k)
 
 pattern_with_a_precedence : (name : List ℕ) (skipped : Bool) → Lexeme (Equals name skipped (Some 12)) (codes "/a/b/ ") (Closed name skipped 12 Pattern (codes "a/b")) (codes " ")
-pattern_with_a_precedence name skipped = a_text Pattern refl (refl, tt)
+pattern_with_a_precedence name skipped = a_text Pattern (refl, tt)
 
 one_delimiter_alone : (name : List ℕ) (skipped : Bool) (written : Option ℕ) → Lexeme (Equals name skipped written) (codes "'a") Open []
-one_delimiter_alone name skipped written = an_open_text Literal refl (refl, tt)
+one_delimiter_alone name skipped written = an_open_text Literal (refl, tt)
 
 default_precedences : (precedence_or Literal None ≡ 1) × (precedence_or Pattern None ≡ 0)
 default_precedences = (refl, refl)
@@ -100,7 +100,7 @@ a_rule name text n = record { name = name; form = Literal; text = text; preceden
 reads_a : Reads Start (codes " A ='x'") (Closed (codes "A") false 1 Literal (codes "x")) []
 reads_a =
     let word : IsSpan is_of_name (codes "A ='x'") (codes "A") (codes " ='x'") = record { parts = refl; passes = (refl, tt); stops = refl } in
-    lexeme_then (a_blank refl) (lexeme_then (a_name refl word) (lexeme_then (a_blank refl) (lexeme_then (an_equals refl) (lexeme_then (a_text Literal refl tt) nothing))))
+    lexeme_then (a_blank refl) (lexeme_then (a_name refl word) (lexeme_then (a_blank refl) (lexeme_then an_equals (lexeme_then (a_text Literal tt) nothing))))
 
 pub line_is_a_rule : (name text : Bor (List ℕ)) → name.now ≡ codes "A" → text.now ≡ codes "x" → IsRule (codes " A ='x'") (a_rule name text 1)
 line_is_a_rule name text named spelled = rw (named, spelled) reads_a
