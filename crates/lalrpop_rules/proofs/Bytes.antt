@@ -1,5 +1,5 @@
--- Which bytes are blanks, which may be in names, and which are digits.
-use Rattle.std.proofs.Common.{◌≡◌, ℕ, ◌<◌, true, false, arith}
+-- Which bytes may be in names, and that all classes are of ASCII.
+use Rattle.std.proofs.Common.{◌≡◌, ℕ, ◌<◌, true, arith}
 use Rattle.std.specs.Char.{is_ascii_digit}
 use Rattle.lalrpop_rules.specs.RuleLine.{is_blank, is_of_name, begins_name}
 use Rattle.lalrpop_rules.specs.Internal.Spans.{members}
@@ -8,18 +8,6 @@ use Rattle.lalrpop_rules.specs.declared.rule_file.span.Class.TheVariants.{Blank,
 
 pub begins_of_name : (b : ℕ) → begins_name b ≡ true → is_of_name b ≡ true
 begins_of_name b h = grind arith
-
-pub begins_not_blank : (b : ℕ) → begins_name b ≡ true → is_blank b ≡ false
-begins_not_blank b h = grind arith
-
-pub blank_not_of_name : (b : ℕ) → is_blank b ≡ true → is_of_name b ≡ false
-blank_not_of_name b h = grind arith
-
-pub digit_not_blank : (b : ℕ) → is_ascii_digit b ≡ true → is_blank b ≡ false
-digit_not_blank b h = grind arith
-
-pub blank_not_digit : (b : ℕ) → is_blank b ≡ true → is_ascii_digit b ≡ false
-blank_not_digit b h = grind arith
 
 blank_ascii : (b : ℕ) → is_blank b ≡ true → b < 128
 blank_ascii b h = grind arith

@@ -17,15 +17,14 @@ pub mod LinearPieces
 -- a file of rules: bytes, and the front of a text
 pub mod Bytes
 pub mod Spans
--- the parts of a line that is a rule
-pub mod Lefts
-pub mod Rights
+-- a line, which is read in one way, lexeme by lexeme
 pub mod Closings
-pub mod Rules
+pub mod Lexemes
 pub mod Comments
--- where reading a line stops, and that it does so at one place, for one reason
+-- where reading it stops; that it does so at one place, for one reason; and that what is read can be completed to a rule
 pub mod Stopping
 pub mod StoppingLaws
+pub mod CompletionLaws
 -- the lines of a file
 pub mod Returns
 pub mod TextColumns

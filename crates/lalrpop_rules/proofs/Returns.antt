@@ -1,5 +1,6 @@
 -- A line without the carriage return at its end.
-use Rattle.std.proofs.Common.{◌≡◌, ◌≢◌, ℕ, List, [], ◌∷◌, ◌++◌, length, take, drop, refl, sym, ap, ◌∙◌, arith, ne_eqb, ◌-◌}
+use Rattle.std.proofs.Common.{◌≡◌, ◌≢◌, ℕ, List, [], ◌∷◌, ◌++◌, length, take, drop, refl, sym, ap, ◌∙◌, ◌⊎◌, inl, inr, Bool, true, false, arith, eqb-true, ne_eqb, ◌-◌}
+use Rattle.std.specs.Prelude.{◌==◌}
 use Rattle.std.specs.Str.Pattern.{StripsSuffix, FindsCharSuffix}
 use Rattle.std.proofs.lemmas.List.{take-append-drop}
 use Rattle.std.proofs.lemmas.Str.Pattern.{drop_at_char}
@@ -28,3 +29,17 @@ return_stripped s x (n, found, front, len) =
     let here : drop at s ≡ 13 ∷ drop (length s) s = drop_at_char 13 s at (length s) found.1 (omega arith) in
     let end : drop at s ≡ 13 ∷ [] = here ∙ ap (λ (y : List ℕ). 13 ∷ y) (nothing_behind s) in
     sym (take-append-drop at s) ∙ ap (λ (y : List ℕ). take at s ++ y) end ∙ ap (λ (y : List ℕ). y ++ (13 ∷ [])) (sym front)
+
+pub return_parts : (line : List ℕ) → (without_return line ≡ line) ⊎ (line ≡ without_return line ++ (13 ∷ []))
+return_parts [] = inl refl
+return_parts (b ∷ []) = by (b == 13) refl
+  where
+    by : (t : Bool) → (b == 13) ≡ t → (without_return (b ∷ []) ≡ b ∷ []) ⊎ (b ∷ [] ≡ without_return (b ∷ []) ++ (13 ∷ []))
+    by true e = inr (rw e (ap (λ (x : ℕ). x ∷ []) (eqb-true b 13 e)))
+    by false e = inl (rw e refl)
+return_parts (b ∷ c ∷ bs) = by (return_parts (c ∷ bs))
+  where
+    by : (without_return (c ∷ bs) ≡ c ∷ bs) ⊎ (c ∷ bs ≡ without_return (c ∷ bs) ++ (13 ∷ []))
+        → (b ∷ without_return (c ∷ bs) ≡ b ∷ c ∷ bs) ⊎ (b ∷ c ∷ bs ≡ b ∷ (without_return (c ∷ bs) ++ (13 ∷ [])))
+    by (inl same) = inl (ap (λ (x : List ℕ). b ∷ x) same)
+    by (inr parts) = inr (ap (λ (x : List ℕ). b ∷ x) parts)

@@ -1,11 +1,10 @@
 -- What the lines of a file of rules say is unique.
-use Rattle.std.proofs.Common.{◌≡◌, ℕ, zero, suc, Option, Some, None, List, [], ◌∷◌, refl, sym, ap, subst, ◌∙◌, inl, inr}
-use Rattle.lalrpop_lexer.specs.declared.form.Form.{Form}
+use Rattle.std.proofs.Common.{◌≡◌, ℕ, zero, suc, Some, None, List, [], ◌∷◌, ◌++◌, codes, append-nil, refl, sym, ap, subst, inl, inr}
+use Rattle.std.proofs.lemmas.Bool.{false≢true}
 use Rattle.lalrpop_rules.specs.declared.rule.Rule.{Rule}
-use Rattle.lalrpop_rules.specs.RuleLine.{precedence_or, IsRight, IsRule}
+use Rattle.lalrpop_rules.specs.RuleLine.{Part, Start, Closed, Reads, IsRule, Lexeme, a_blank, a_name}
 use Rattle.lalrpop_rules.specs.RuleFile.{without_return, IsBlankOrComment, AreRules, IsFirstBad}
-use Rattle.lalrpop_rules.proofs.Lefts.{IsLeft-unique, left_is_named, named_says_something}
-use Rattle.lalrpop_rules.proofs.Rights.{IsRight-unique}
+use Rattle.lalrpop_rules.proofs.Lexemes.{IsStuck, Reads-unique, end_is_stuck, blanks_read}
 
 -- the two say the same, by names and texts alike, wherever those stand
 pub record IsSame (r q : Rule) : Type 0 where
@@ -20,31 +19,28 @@ AreSame [] [] = Unit {0}
 AreSame (r ∷ rs) (q ∷ qs) = IsSame r q × AreSame rs qs
 AreSame _ _ = ⊥
 
-same_precedence : (m n : ℕ) (form other : Form) (v w : Option ℕ) → m ≡ precedence_or form v → n ≡ precedence_or other w → form ≡ other → v ≡ w → m ≡ n
-same_precedence m n form other v w a b e f = a ∙ ap (λ (x : Form). precedence_or x v) e ∙ ap (λ (x : Option ℕ). precedence_or other x) f ∙ sym b
+no_name_in_nothing : {q : Part} {rest : List ℕ} → ¬ Lexeme Start [] q rest
+no_name_in_nothing (a_name h span) = false≢true h
 
-by_right : (line right other : List ℕ) (r q : Rule) (v w : Option ℕ) → right ≡ other → IsRight right v r.form r.text.now → IsRight other w q.form q.text.now → (v ≡ w) × ((r.form ≡ q.form) × (r.text.now ≡ q.text.now))
-by_right line right other r q v w same g h =
-    IsRight-unique right v w r.form q.form r.text.now q.text.now g (subst (λ (x : List ℕ). IsRight x w q.form q.text.now) (sym same) h)
+no_name_at_hash : {q : Part} {comment rest : List ℕ} → ¬ Lexeme Start (codes "#" ++ comment) q rest
+no_name_at_hash (a_blank h) = false≢true h
+no_name_at_hash (a_name h span) = false≢true h
+
+one_end : (line rest : List ℕ) (r : Rule) → IsRule line r → Reads Start line Start rest → ¬ IsStuck Start rest
+one_end line rest r h reads stuck =
+    let same : Start ≡ Closed r.name.now r.is_skipped r.precedence.0 r.form r.text.now = (Reads-unique reads h stuck (end_is_stuck _ _ _ _ _)).0 in absurd (cc)
 
 -- a line is one rule
 pub IsRule-unique : (line : List ℕ) (r q : Rule) → IsRule line r → IsRule line q → IsSame r q
 IsRule-unique line r q g h =
-    let left = IsLeft-unique line r.name.now q.name.now r.is_skipped q.is_skipped g.right h.right g.is_left h.is_left in
-    let right = by_right line g.right h.right r q g.written h.written left.1.1 g.is_right h.is_right in
-    record {
-      name = left.0;
-      form = right.1.0;
-      text = right.1.1;
-      precedence = same_precedence r.precedence.0 q.precedence.0 r.form q.form g.written h.written g.is_precedence h.is_precedence right.1.0 right.0;
-      skipped = left.1.0;
-    }
+    let same = (Reads-unique g h (end_is_stuck _ _ _ _ _) (end_is_stuck _ _ _ _ _)).0 in
+    record { name = cc same; form = cc same; text = cc same; precedence = cc same; skipped = cc same }
 
 -- and says something
 pub rule_says_something : (line : List ℕ) (r : Rule) → IsRule line r → ¬ IsBlankOrComment line
-rule_says_something line r h =
-    let named = left_is_named line r.name.now r.is_skipped h.right h.is_left in
-    named_says_something line r.name.now named.0 named.1
+rule_says_something line r h (inl blanks) = one_end line [] r h (subst (λ (x : List ℕ). Reads Start x Start []) (append-nil line) (blanks_read Start line [] blanks)) (λ q rest. no_name_in_nothing)
+rule_says_something line r h (inr (lead, (comment, (parts, blanks)))) =
+    one_end line (codes "#" ++ comment) r h (subst (λ (x : List ℕ). Reads Start x Start (codes "#" ++ comment)) (sym parts) (blanks_read Start lead (codes "#" ++ comment) blanks)) (λ q rest. no_name_at_hash)
 
 -- lines are one list of rules
 pub AreRules-unique : (ls : List (List ℕ)) (rs qs : List Rule) → AreRules ls rs → AreRules ls qs → AreSame rs qs

@@ -6,14 +6,12 @@ use Rattle.std.proofs.lemmas.List.{take-append-drop}
 use Rattle.std.proofs.lemmas.Bool.{false≢true}
 use Rattle.std.proofs.lemmas.Str.{IsCharBoundary-start, IsCharBoundary-after_ascii}
 use Rattle.std.proofs.lemmas.List.Sums.{prefix_len-le-length, prefix_len_passes}
-use Rattle.lalrpop_rules.specs.RuleLine.{EachByte, Stops, IsSpan}
+use Rattle.lalrpop_rules.specs.RuleLine.{EachByte, begins, IsSpan}
 
-pub cut_unique : (p : ℕ → Bool) (xs us ys vs : List ℕ) → EachByte p xs → Stops p us → EachByte p ys → Stops p vs → xs ++ us ≡ ys ++ vs → (xs ≡ ys) × (us ≡ vs)
+pub cut_unique : (p : ℕ → Bool) (xs us ys vs : List ℕ) → EachByte p xs → begins p us ≡ false → EachByte p ys → begins p vs ≡ false → xs ++ us ≡ ys ++ vs → (xs ≡ ys) × (us ≡ vs)
 cut_unique p [] us [] vs a b c d e = (refl, e)
-cut_unique p [] us (y ∷ ys) vs a b c d e =
-    let s : Stops p (y ∷ (ys ++ vs)) = subst (Stops p) e b in absurd (false≢true (sym s ∙ c.0))
-cut_unique p (x ∷ xs) us [] vs a b c d e =
-    let s : Stops p (x ∷ (xs ++ us)) = subst (Stops p) (sym e) d in absurd (false≢true (sym s ∙ a.0))
+cut_unique p [] us (y ∷ ys) vs a b c d e = absurd (false≢true (sym b ∙ ap (begins p) e ∙ c.0))
+cut_unique p (x ∷ xs) us [] vs a b c d e = absurd (false≢true (sym d ∙ ap (begins p) (sym e) ∙ a.0))
 cut_unique p (x ∷ xs) us (y ∷ ys) vs a b c d e =
     let rest = cut_unique p xs us ys vs a.1 b c.1 d (cc) in (cc, rest.1)
 
@@ -40,11 +38,11 @@ passes_at p (b ∷ bs) = by (p b) refl (passes_at p bs)
     by true e rest = rw (one-add (prefix_len p bs)) (e, rest)
     by false e rest = tt
 
-stops_at : (p : ℕ → Bool) (text : List ℕ) → Stops p (drop (prefix_len p text) text)
-stops_at p [] = tt
+stops_at : (p : ℕ → Bool) (text : List ℕ) → begins p (drop (prefix_len p text) text) ≡ false
+stops_at p [] = refl
 stops_at p (b ∷ bs) = by (p b) refl (stops_at p bs)
   where
-    by : (t : Bool) → p b ≡ t → Stops p (drop (prefix_len p bs) bs) → Stops p (drop (cond t (1 + prefix_len p bs) 0) (b ∷ bs))
+    by : (t : Bool) → p b ≡ t → begins p (drop (prefix_len p bs) bs) ≡ false → begins p (drop (cond t (1 + prefix_len p bs) 0) (b ∷ bs)) ≡ false
     by true e rest = rw (one-add (prefix_len p bs)) rest
     by false e rest = e
 
@@ -62,5 +60,5 @@ passes_all p text front (b ∷ rest) h none = absurd (omega arith)
 -- and nothing is left where all of it passes
 pub nothing_left : (p : ℕ → Bool) (text front rest : List ℕ) → IsSpan p text front rest → EachByte p text → length rest ≡ 0
 nothing_left p text front rest h all =
-    let whole : IsSpan p text text [] = record { parts = sym (append-nil text); passes = all; stops = tt } in
+    let whole : IsSpan p text text [] = record { parts = sym (append-nil text); passes = all; stops = refl } in
     ap length (IsSpan-unique p text front rest text [] h whole).1

@@ -8,7 +8,7 @@ use Rattle.lalrpop_lexer.specs.Position.{position_of}
 use Rattle.lalrpop_lexer.specs.declared.position.Position.{Position}
 use Rattle.lalrpop_rules.specs.declared.rule.Rule.{Rule}
 use Rattle.lalrpop_rules.specs.RuleFault.{StopsBefore}
-use Rattle.lalrpop_rules.specs.RuleLine.{AreBlanks, IsRule, delimiter}
+use Rattle.lalrpop_rules.specs.RuleLine.{AreBlanks, IsRule, Start, delimiter}
 use Rattle.lalrpop_rules.specs.declared.rule_file.error.LineFault.{LineFault}
 use Rattle.lalrpop_rules.specs.declared.rule_file.error.LineFault.TheVariants.{NotUtf8}
 use Rattle.lalrpop_rules.specs.declared.rule_file.error.RuleFileError.{RuleFileError}
@@ -79,7 +79,7 @@ abbrev pub IsLineFault : List ℕ → ℕ → LineFault → Type 0
 IsLineFault line column NotUtf8 = ¬ IsUtf8 line × (column ≡ (position_of line (utf8_valid_len line)).column)
 IsLineFault line column fault =
     IsUtf8 line × ((front : List ℕ) × ((rest : List ℕ) × ((without_return line ≡ front ++ rest)
-    × ((column ≡ (position_of (without_return line) (length front)).column) × StopsBefore (without_return line) rest fault))))
+    × ((column ≡ (position_of (without_return line) (length front)).column) × StopsBefore Start (without_return line) rest fault))))
 
 -- the error is right: it names the first bad line, and where and why it is bad; or memory was refused
 abbrev pub IsRuleFileError : List ℕ → RuleFileError → Type 0

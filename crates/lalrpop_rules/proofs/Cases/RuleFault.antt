@@ -1,61 +1,63 @@
 -- Cases of specs/RuleFault.antt.
-use Rattle.std.proofs.Common.{◌≡◌, ℕ, inl, inr, None, List, [], get_or, drop, codes, refl, sym, ap, subst, arith}
+use Rattle.std.proofs.Common.{◌≡◌, ◌≢◌, ℕ, Bool, false, Some, None, List, [], ◌++◌, codes, drop, get_or, refl, sym, ap, ◌∙◌, arith, length}
 use Rattle.std.proofs.lemmas.Bool.{false≢true}
 use Rattle.lalrpop_lexer.specs.declared.form.Form.TheVariants.{Literal}
-use Rattle.lalrpop_rules.specs.RuleLine.{IsSpan, Stops, is_blank, is_of_name}
-use Rattle.lalrpop_rules.specs.RuleFault.{IsNamed, IsSkip, IsMarked, IsBeforeText, StopsText, StopsRight, StopsBefore}
-use Rattle.lalrpop_rules.specs.declared.rule_file.error.LineFault.TheVariants.{NotUtf8, NoName, NoEquals, NoText, NotClosed}
+use Rattle.lalrpop_rules.specs.RuleLine.{IsSpan, Part, Start, Named, Equals, Closed, Lexeme, a_blank, a_name, a_skip, nothing, lexeme_then, begins, is_blank, is_of_name}
+use Rattle.lalrpop_rules.specs.RuleFault.{StopsBefore, fault_at}
+use Rattle.lalrpop_rules.specs.declared.rule_file.error.LineFault.TheVariants.{NoName, NoEquals, PrecedenceTooLarge, NoText, NotClosed}
+use Rattle.lalrpop_rules.proofs.Stopping.{no_equals, no_name, no_text, text_behind, text_open}
+use Rattle.lalrpop_rules.proofs.StoppingLaws.{StopsBefore-unique}
+
+digit_behind_equals : (name : List ℕ) (skipped : Bool) → fault_at (Equals name skipped None) (codes "9x") ≡ Some PrecedenceTooLarge
+digit_behind_equals name skipped = refl
+
+digit_behind_a_precedence : (name : List ℕ) (skipped : Bool) → fault_at (Equals name skipped (Some 1)) (codes "9x") ≡ Some NoText
+digit_behind_a_precedence name skipped = refl
+
+end_of_a_rule : (name : List ℕ) (skipped : Bool) (text : List ℕ) → fault_at (Closed name skipped 1 Literal text) [] ≡ None
+end_of_a_rule name skipped text = refl
 
 -- ` 1` stops at its digit
-digit_begins_no_name : StopsBefore (codes " 1") (codes "1") NoName
-digit_begins_no_name = (codes " ", (record { parts = refl; passes = (refl, tt); stops = refl }, refl))
-
-letter_begins_a_name : ¬ StopsBefore (codes "a") (codes "a") NoName
-letter_begins_a_name (lead, (span, none)) = false≢true (sym none)
+digit_begins_no_name : StopsBefore Start (codes " 1") (codes "1") NoName
+digit_begins_no_name = no_name (codes " 1") (codes " ") (codes "1") (record { parts = refl; passes = (refl, tt); stops = refl }) refl
 
 -- not in front of its blanks
-blank_is_no_place : ¬ StopsBefore (codes " 1") (codes " 1") NoName
-blank_is_no_place (lead, (span, none)) = false≢true (sym span.stops)
+blank_is_no_place : ¬ StopsBefore Start (codes " 1") (codes " 1") NoName
+blank_is_no_place stops = let k : 2 ≡ 1 = ap length (StopsBefore-unique Start (codes " 1") (codes " 1") (codes "1") NoName NoName stops digit_begins_no_name).0 in omega (arith, k)
 
 -- `A B` stops at the second letter
-named_a : IsNamed (codes "A B") (codes "A") (codes "B")
-named_a = record { lead = []; gap = codes " "; parts = refl; blanks = (tt, (refl, tt)); is_name = (refl, tt); ends = refl; stops = refl }
-
-second_letter_is_no_equals : StopsBefore (codes "A B") (codes "B") NoEquals
+second_letter_is_no_equals : StopsBefore Start (codes "A B") (codes "B") NoEquals
 second_letter_is_no_equals =
-    (codes "A", (codes "B", (named_a, (inr ((λ behind e. let k : 66 ≡ 115 = ap (λ (x : List ℕ). get_or x 0 0) e.0 in omega (arith, k)), refl), λ right e. let k : 66 ≡ 61 = ap (λ (x : List ℕ). get_or x 0 0) e in omega (arith, k)))))
+    let word : IsSpan is_of_name (codes "A B") (codes "A") (codes " B") = record { parts = refl; passes = (refl, tt); stops = refl } in
+    no_equals (codes "A B") (codes "A") (codes "B") false (codes "B") NoEquals (lexeme_then (a_name refl word) (lexeme_then (a_blank refl) nothing)) refl no_skip no_equals_here (refl, refl)
+  where
+    no_skip : false ≡ false → (behind : List ℕ) → ¬ IsSpan is_of_name (codes "B") (codes "skip") behind
+    no_skip e behind span = let k : 66 ≡ 115 = ap (λ (x : List ℕ). get_or x 0 0) span.parts in omega (arith, k)
 
--- `skip` and the blanks behind it are passed over
-behind_skip : IsMarked (codes "skip x") (codes "x")
-behind_skip = inl (codes " x", (codes " ", ((refl, refl), record { parts = refl; passes = (refl, tt); stops = refl })))
+    no_equals_here : (right : List ℕ) → codes "B" ≢ codes "=" ++ right
+    no_equals_here right e = let k : 66 ≡ 61 = ap (λ (x : List ℕ). get_or x 0 0) e in omega (arith, k)
 
--- but not where a longer word begins so
-no_longer_word : (behind : List ℕ) → ¬ IsSkip (codes "skips") behind
-no_longer_word behind skip =
-    let same : codes "s" ≡ behind = ap (drop 4) skip.0 in
-    false≢true (sym (subst (Stops is_of_name) (sym same) skip.1))
-
-longer_word_is_no_mark : IsMarked (codes "skips") (codes "skips")
-longer_word_is_no_mark = inr (no_longer_word, refl)
+-- and `A skips` before that word
+longer_word_is_no_mark : StopsBefore (Named (codes "A") false) (codes "skips") (codes "skips") NoEquals
+longer_word_is_no_mark = record { part = Named (codes "A") false; reads = nothing; stuck = λ q rest. by; is_fault = refl }
+  where
+    by : {q : Part} {rest : List ℕ} → ¬ Lexeme (Named (codes "A") false) (codes "skips") q rest
+    by (a_blank h) = false≢true h
+    by (a_skip span) = false≢true (sym span.stops ∙ sym (ap (begins is_of_name) (ap (drop 4) span.parts)))
 
 -- ` x` has no text, and stops at its letter
-before_x : IsBeforeText (codes " x") (codes "x")
-before_x = (codes " ", (codes "x", (None, (record { parts = refl; passes = (refl, tt); stops = refl }, ((refl, refl), refl)))))
-
-letter_is_no_text : StopsRight (codes " x") (codes "x") NoText
-letter_is_no_text = (codes "x", (before_x, (refl, refl)))
+letter_is_no_text : StopsBefore (Equals (codes "A") false None) (codes "x") (codes "x") NoText
+letter_is_no_text = no_text (codes "x") (λ inner e. absurd (cc)) (λ inner e. absurd (cc)) None (refl, refl) (codes "A") false
 
 -- `'x` stops at its end, and `'x'y` at what stands behind the second apostrophe
-open_literal : StopsText (codes "'x") [] NotClosed
-open_literal = (Literal, (codes "x", (refl, inl ((refl, tt), refl))))
+open_literal : StopsBefore (Equals (codes "A") false None) (codes "'x") [] NotClosed
+open_literal = text_open Literal (codes "x") (refl, tt) None (codes "A") false
 
-letter_behind : StopsText (codes "'x'y") (codes "y") NotClosed
+letter_behind : StopsBefore (Equals (codes "A") false None) (codes "'x'y") (codes "y") NotClosed
 letter_behind =
     let behind : IsSpan is_blank (codes "y") [] (codes "y") = record { parts = refl; passes = tt; stops = refl } in
-    (Literal, (codes "x'y", (refl, inr (codes "x", (codes "y", ([], (refl, ((refl, tt), (behind, λ e. absurd (cc))))))))))
+    text_behind Literal (codes "x'y") (codes "x") (codes "y") [] (codes "y") refl (refl, tt) behind (λ e. omega (arith, e)) None (codes "A") false
 
-delimiter_is_a_text : ¬ StopsText (codes "'") (codes "'") NoText
-delimiter_is_a_text (same, none) = false≢true (sym none)
-
-bytes_stop_elsewhere : (line rest : List ℕ) → ¬ StopsBefore line rest NotUtf8
-bytes_stop_elsewhere line rest h = h
+letter_behind_is_read : ¬ StopsBefore (Equals (codes "A") false None) (codes "'x'y") [] NotClosed
+letter_behind_is_read stops =
+    let k : 0 ≡ 1 = ap length (StopsBefore-unique (Equals (codes "A") false None) (codes "'x'y") [] (codes "y") NotClosed NotClosed stops letter_behind).0 in omega (arith, k)

@@ -5,15 +5,15 @@ use Rattle.std.specs.Prelude.{slice_get}
 use Rattle.lalrpop_lexer.specs.declared.form.Form.TheVariants.{Literal}
 use Rattle.lalrpop_lexer.specs.declared.position.Position.{Position}
 use Rattle.lalrpop_rules.specs.declared.rule.Rule.{Rule}
-use Rattle.lalrpop_rules.specs.RuleLine.{is_blank, IsRule}
+use Rattle.lalrpop_rules.specs.RuleLine.{IsSpan, Start, a_name, is_blank, is_of_name, lexeme_then, nothing}
 use Rattle.lalrpop_rules.specs.RuleFile.{without_mark, without_return, IsBlankOrComment, LineSays, AreRules, IsTextColumn, IsPlace, ArePlaces, IsFirstBad, IsLineFault, IsRuleFileError}
 use Rattle.lalrpop_rules.specs.declared.rule_file.error.LineFault.TheVariants.{NoEquals}
 use Rattle.lalrpop_rules.specs.declared.rule_file.error.RuleFileError.TheVariants.{BadLine, OutOfMemory}
-use Rattle.lalrpop_rules.proofs.Lefts.{no_left_kept}
-use Rattle.lalrpop_rules.proofs.StoppingLaws.{IsLineFault-unique}
+use Rattle.lalrpop_rules.proofs.Stopping.{no_equals}
+use Rattle.lalrpop_rules.proofs.StoppingLaws.{IsLineFault-unique, stops_at_no_rule}
 use Rattle.std.specs.Str.{IsUtf8, chars}
 use lib.Utf8.{encode}
-use Rattle.lalrpop_rules.specs.RuleFault.{IsNamed, StopsBefore}
+use Rattle.lalrpop_rules.specs.RuleFault.{StopsBefore}
 
 -- one mark at the beginning is left out, and nothing else
 mark_at_the_beginning : without_mark (239 ∷ 187 ∷ 191 ∷ codes "a") ≡ codes "a"
@@ -56,19 +56,15 @@ letter_is_no_comment (inr (b ∷ lead, (comment, (parts, blanks)))) =
 empty_line_says_nothing : LineSays [] None
 empty_line_says_nothing = (([], (refl, refl)), inl tt)
 
--- a name alone is no rule
-named_x : IsNamed (codes "x") (codes "x") []
-named_x = record { lead = []; gap = []; parts = refl; blanks = (tt, tt); is_name = (refl, tt); ends = tt; stops = tt }
-
-no_skip : (y : List ℕ) → [] ≡ codes "skip" ++ y → ⊥
-no_skip y e = absurd (cc)
-
-name_alone : (rule : Rule) → ¬ IsRule (codes "x") rule
-name_alone rule h = no_left_kept (codes "x") (codes "x") [] named_x (λ y e. no_skip y e.0) (λ y e. absurd (cc)) rule.name.now rule.is_skipped h.right h.is_left
+-- a name alone is no rule: it stops behind its name
+x_stops : StopsBefore Start (codes "x") [] NoEquals
+x_stops =
+    let word : IsSpan is_of_name (codes "x") (codes "x") [] = record { parts = refl; passes = (refl, tt); stops = refl } in
+    no_equals (codes "x") (codes "x") [] false [] NoEquals (lexeme_then (a_name refl word) nothing) refl (λ e behind span. absurd (cc span.parts)) (λ right e. absurd (cc)) (refl, refl)
 
 x_says_neither : (said : Option Rule) → ¬ LineSays (codes "x") said
 x_says_neither None h = letter_is_no_comment h.1
-x_says_neither (Some rule) h = name_alone rule h.1
+x_says_neither (Some rule) h = stops_at_no_rule (codes "x") [] NoEquals rule x_stops h.1
 
 no_lines_are_no_rules : AreRules [] []
 no_lines_are_no_rules = tt
@@ -94,10 +90,6 @@ no_line_0 h = h
 
 line_behind_a_bad_one : ¬ IsFirstBad (codes "x" ∷ codes "x" ∷ []) 2
 line_behind_a_bad_one h = x_says_neither h.0.0 h.0.1
-
--- it stops behind its name
-x_stops : StopsBefore (codes "x") [] NoEquals
-x_stops = (codes "x", ([], (named_x, (inr ((λ behind e. no_skip behind e.0), refl), λ right e. absurd (cc)))))
 
 x_is_text : IsUtf8 (codes "x")
 unfolding encode

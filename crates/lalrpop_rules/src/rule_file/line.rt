@@ -1,14 +1,13 @@
 //! What one line says.
-ghost use Rattle.std.specs.Prelude.{◌≡◌, ◌≢◌, ◌∷◌, ◌++◌, ℕ, List, Option, Bool, codes, IfOk, IfErr, IfSome, IfNone, ◌<◌, length};
+ghost use Rattle.std.specs.Prelude.{◌≡◌, ◌≢◌, ◌∷◌, ◌++◌, ℕ, List, Option, None as Nothing, Bool, false, codes, IfOk, IfErr, IfSome, IfNone, ◌<◌, length};
 ghost use Rattle.lalrpop_lexer.specs.Line.{IsPrecedence};
-ghost use Rattle.lalrpop_rules.specs.RuleLine.{IsLeft, IsRight, IsRule, EachByte, is_blank, is_of_name, delimiter, precedence_or as precedence_or_else, Stops};
-ghost use Rattle.lalrpop_rules.specs.RuleFault.{IsNamed, IsSkip, IsNumbered, IsOpen, IsTooLarge, StopsBefore, StopsRight, StopsText};
-ghost use Rattle.lalrpop_rules.specs.Internal.Parts.{begins, IsQuoted, IsClosed};
+ghost use Rattle.lalrpop_rules.specs.RuleLine.{Start, Named, Equals, Reads, IsRule, IsSpan, EachByte, begins, begins_name as can_begin_name, is_blank, is_of_name, delimiter, precedence_or as precedence_or_else};
+ghost use Rattle.lalrpop_rules.specs.RuleFault.{StopsBefore};
+ghost use Rattle.lalrpop_rules.specs.Internal.Parts.{IsBeforeText, ReadsText, StopsText};
 ghost use Rattle.std.specs.Char.{is_ascii_digit};
 ghost use Rattle.lalrpop_rules.specs.RuleFile.{IsBlankOrComment, Says};
 ghost use Rattle.std.specs.Bool.{MatchBool};
 ghost use Rattle.lalrpop_rules.specs.declared.rule.Rule.{Rule as RuleValue};
-ghost use Rattle.lalrpop_lexer.specs.declared.form.Form.{Form as FormValue};
 
 use crate::rule_file::error::LineFault;
 use crate::rule_file::span::{Class, split_front};
@@ -27,7 +26,7 @@ pub(crate) struct Stop<'text> {
 
 // Whether the first character can begin a name.
 fn begins_name(text: &str) -> bool
-    ensures { result ≡ begins text.now }
+    ensures { result ≡ begins can_begin_name text.now }
 {
     match text.as_bytes() {
         [first, ..] => first.is_ascii_alphabetic() || *first == b'_',
@@ -37,18 +36,18 @@ fn begins_name(text: &str) -> bool
 
 // The name at the front of a line, and what follows it after blanks.
 fn name_and_rest(line: &str) -> Result<(&str, &str), Stop<'_>>
-    ensures named { IfOk result (λ m. IsNamed line.now m.0.now m.1.now) }
-    ensures none { IfErr result (λ _. (name rest : List ℕ) → ¬ IsNamed line.now name rest) }
-    ensures stops { IfErr result (λ stop. StopsBefore line.now stop.rest.now stop.fault) }
+    ensures named { IfOk result (λ m. Reads Start line.now (Named m.0.now false) m.1.now) }
+    ensures stands { IfOk result (λ m. begins is_blank m.1.now ≡ false) }
+    ensures stops { IfErr result (λ stop. StopsBefore Start line.now stop.rest.now stop.fault) }
 {
     let (_, here) = split_front(line, Class::Blank);
-    let (name, behind) = split_front(here, Class::Name);
-    if !begins_name(name) {
+    if !begins_name(here) {
         return Err(Stop {
             fault: LineFault::NoName,
             rest: here,
         });
     }
+    let (name, behind) = split_front(here, Class::Name);
     let (_, rest) = split_front(behind, Class::Blank);
     Ok((name, rest))
 }
@@ -65,7 +64,7 @@ fn behind(text: &str, mark: char) -> Option<&str>
 
 // Whether the first character can stand in a name.
 fn goes_on(text: &str) -> bool
-    ensures { MatchBool result (¬ Stops is_of_name text.now) (Stops is_of_name text.now) }
+    ensures { result ≡ begins is_of_name text.now }
 {
     match text.as_bytes() {
         [first, ..] => first.is_ascii_alphanumeric() || *first == b'_',
@@ -75,8 +74,9 @@ fn goes_on(text: &str) -> bool
 
 // What follows `skip` at the front, where that isn't the beginning of a longer word.
 fn behind_skip(rest: &str) -> Option<&str>
-    ensures some { IfSome result (λ behind. IsSkip rest.now behind.now) }
-    ensures none { IfNone result ((behind : List ℕ) → ¬ IsSkip rest.now behind) }
+    ensures some { IfSome result (λ behind. IsSpan is_of_name rest.now (codes "skip") behind.now) }
+    ensures none { IfNone result ((behind : List ℕ)
+        → ¬ IsSpan is_of_name rest.now (codes "skip") behind) }
 {
     let behind = rest.strip_prefix("skip")?;
     if goes_on(behind) {
@@ -103,10 +103,8 @@ fn behind_equals(rest: &str) -> Result<&str, Stop<'_>>
 
 // The name, whether it is marked `skip`, and what is right of the `=`.
 fn left_part(line: &str) -> Result<(&str, bool, &str), Stop<'_>>
-    ensures left { IfOk result (λ m. IsLeft line.now m.0.now m.1 m.2.now) }
-    ensures none { IfErr result (λ _. (name : List ℕ) (skipped : Bool) (right : List ℕ)
-        → ¬ IsLeft line.now name skipped right) }
-    ensures stops { IfErr result (λ stop. StopsBefore line.now stop.rest.now stop.fault) }
+    ensures left { IfOk result (λ m. Reads Start line.now (Equals m.0.now m.1 Nothing) m.2.now) }
+    ensures stops { IfErr result (λ stop. StopsBefore Start line.now stop.rest.now stop.fault) }
 {
     let (name, rest) = name_and_rest(line)?;
     match behind_skip(rest) {
@@ -136,12 +134,11 @@ fn precedence_of(digits: &str) -> Option<usize>
 
 // The precedence at the front, if there is one, and what follows it after blanks.
 fn numbered(text: &str) -> Result<(Option<usize>, &str), Stop<'_>>
-    requires { Stops is_blank text.now }
-    ensures numbered { IfOk result (λ m. IsNumbered text.now m.0 m.1.now × Stops is_blank m.1.now) }
-    ensures none { IfErr result (λ _. (written : Option ℕ) (rest : List ℕ)
-        → ¬ IsNumbered text.now written rest) }
-    ensures stops { IfErr result (λ stop. (stop.fault ≡ LineFault.PrecedenceTooLarge)
-        × ((stop.rest.now ≡ text.now) × IsTooLarge text.now)) }
+    requires { begins is_blank text.now ≡ false }
+    ensures numbered { IfOk result (λ m. (name : List ℕ) (skipped : Bool)
+        → Reads (Equals name skipped Nothing) text.now (Equals name skipped m.0) m.1.now) }
+    ensures stands { IfOk result (λ m. IsBeforeText m.0 m.1.now) }
+    ensures stops { IfErr result (λ stop. StopsText Nothing text.now stop.rest.now stop.fault) }
 {
     let (digits, behind) = split_front(text, Class::Digit);
     if digits.is_empty() {
@@ -169,10 +166,10 @@ pub(crate) fn delimiter_of(form: Form) -> char
 
 // The text before the last delimiter, which only blanks may follow.
 fn closed(inner: &str, form: Form) -> Result<&str, Stop<'_>>
-    ensures closed { IfOk result (λ text. IsClosed inner.now (delimiter form) text.now) }
-    ensures none { IfErr result (λ _. (text : List ℕ) → ¬ IsClosed inner.now (delimiter form) text) }
-    ensures stops { IfErr result (λ stop. (stop.fault ≡ LineFault.NotClosed)
-        × IsOpen (delimiter form) inner.now stop.rest.now) }
+    ensures closed { IfOk result (λ text. (written : Option ℕ)
+        → ReadsText written (delimiter form ∷ inner.now) (precedence_or_else form written) form text.now) }
+    ensures stops { IfErr result (λ stop. (written : Option ℕ)
+        → StopsText written (delimiter form ∷ inner.now) stop.rest.now stop.fault) }
 {
     let Some((text, trail)) = inner.rsplit_once(delimiter_of(form)) else {
         return Err(Stop {
@@ -192,9 +189,10 @@ fn closed(inner: &str, form: Form) -> Result<&str, Stop<'_>>
 
 // The form and the text of a literal or a pattern without a precedence.
 fn quoted(rest: &str) -> Result<(Form, &str), Stop<'_>>
-    ensures quoted { IfOk result (λ m. IsQuoted rest.now m.0 m.1.now) }
-    ensures none { IfErr result (λ _. (form : FormValue) (text : List ℕ) → ¬ IsQuoted rest.now form text) }
-    ensures stops { IfErr result (λ stop. StopsText rest.now stop.rest.now stop.fault) }
+    ensures quoted { IfOk result (λ m. (written : Option ℕ)
+        → ReadsText written rest.now (precedence_or_else m.0 written) m.0 m.1.now) }
+    ensures stops { IfErr result (λ stop. (written : Option ℕ)
+        → IsBeforeText written rest.now → StopsText written rest.now stop.rest.now stop.fault) }
 {
     if let Some(inner) = behind(rest, '\'') {
         let text = closed(inner, Form::Literal)?;
@@ -212,10 +210,9 @@ fn quoted(rest: &str) -> Result<(Form, &str), Stop<'_>>
 
 // The precedence, the form and the text right of the `=`.
 fn right_part(right: &str) -> Result<(Option<usize>, Form, &str), Stop<'_>>
-    ensures right { IfOk result (λ m. IsRight right.now m.0 m.1 m.2.now) }
-    ensures none { IfErr result (λ _. (written : Option ℕ) (form : FormValue) (text : List ℕ)
-        → ¬ IsRight right.now written form text) }
-    ensures stops { IfErr result (λ stop. StopsRight right.now stop.rest.now stop.fault) }
+    ensures right { IfOk result (λ m.
+        ReadsText Nothing right.now (precedence_or_else m.1 m.0) m.1 m.2.now) }
+    ensures stops { IfErr result (λ stop. StopsText Nothing right.now stop.rest.now stop.fault) }
 {
     let (_, here) = split_front(right, Class::Blank);
     let (written, rest) = numbered(here)?;
@@ -237,8 +234,7 @@ fn precedence_or(form: Form, written: Option<usize>) -> usize
 // The rule that a line is.
 fn rule_of(line: &str) -> Result<Rule<'_>, Stop<'_>>
     ensures rule { IfOk result (λ rule. IsRule line.now rule) }
-    ensures none { IfErr result (λ _. (rule : RuleValue) → ¬ IsRule line.now rule) }
-    ensures stops { IfErr result (λ stop. StopsBefore line.now stop.rest.now stop.fault) }
+    ensures stops { IfErr result (λ stop. StopsBefore Start line.now stop.rest.now stop.fault) }
 {
     let (name, is_skipped, right) = left_part(line)?;
     let (written, form, text) = right_part(right)?;
@@ -266,7 +262,7 @@ fn says_nothing(line: &str) -> bool
 pub(crate) fn said_by(line: &str) -> Result<Option<Rule<'_>>, Stop<'_>>
     ensures says { IfOk result (λ said. Says line.now said) }
     ensures none { IfErr result (λ _. (said : Option RuleValue) → ¬ Says line.now said) }
-    ensures stops { IfErr result (λ stop. StopsBefore line.now stop.rest.now stop.fault) }
+    ensures stops { IfErr result (λ stop. StopsBefore Start line.now stop.rest.now stop.fault) }
 {
     if says_nothing(line) {
         return Ok(None);

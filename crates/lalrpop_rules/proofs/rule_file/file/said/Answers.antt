@@ -1,10 +1,10 @@
 use Rattle.std.proofs.Common.{ap, ◌∙◌}
 use Rattle.lalrpop_rules.specs.RuleFile.{without_return}
-use Rattle.lalrpop_rules.proofs.Stopping.{stops_at_end, fault_of_line}
+use Rattle.lalrpop_rules.proofs.Stopping.{ends_reads, fault_of_line}
 use Rattle.lalrpop_rules.proofs.rule_file.file.said.Goals as goal
 
 pub column_of-requires : goal.column_of-requires
-column_of-requires c = stops_at_end c.without_return-content.result.now c.in-Err-said_by.stop.rest.now c.in-Err-said_by.stop.fault c.in-Err-said_by.ensures.stops
+column_of-requires c = ends_reads c.in-Err-said_by.ensures.stops.reads
 
 pub returns-in-Err-said_by-clause-fault : goal.returns-in-Err-said_by-clause-fault
 returns-in-Err-said_by-clause-fault c =

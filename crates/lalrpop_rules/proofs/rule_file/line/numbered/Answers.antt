@@ -1,7 +1,14 @@
 use Rattle.std.proofs.Common.{sym}
 use Rattle.std.proofs.lemmas.Bool.{eqb-false}
-use Rattle.lalrpop_rules.proofs.Rights.{no_number}
+use Rattle.lalrpop_rules.specs.RuleLine.{nothing}
+use Rattle.lalrpop_rules.proofs.Stopping.{no_number, numbered}
 use Rattle.lalrpop_rules.proofs.rule_file.line.numbered.Goals as goal
 
-pub returns-in_default-clause-none : goal.returns-in_default-clause-none
-returns-in_default-clause-none c = no_number _ _ _ c.split_front.ensures.span (eqb-false _ _ (sym c.if-is_empty.ensures)) c.in_default.ensures.none
+pub returns-then-is_empty-clause-numbered : goal.returns-then-is_empty-clause-numbered
+returns-then-is_empty-clause-numbered c name skipped = nothing
+
+pub returns-in_default-clause-stops : goal.returns-in_default-clause-stops
+returns-in_default-clause-stops c = no_number _ _ _ c.requires c.split_front.ensures.span (eqb-false _ _ (sym c.if-is_empty.ensures)) c.in_default.ensures.none
+
+pub returns-clause-numbered : goal.returns-clause-numbered
+returns-clause-numbered c name skipped = numbered name skipped _ _ _ _ _ _ c.split_front.ensures.span c.in-Some.ensures.some c.split_front-2.ensures.span

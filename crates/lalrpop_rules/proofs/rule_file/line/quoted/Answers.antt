@@ -1,9 +1,5 @@
-use Rattle.lalrpop_rules.proofs.Closings.{not_literal, not_pattern}
-use Rattle.lalrpop_rules.proofs.Results.{any_error}
+use Rattle.lalrpop_rules.proofs.Stopping.{no_text}
 use Rattle.lalrpop_rules.proofs.rule_file.line.quoted.Goals as goal
 
-pub returns-in_err-text-clause-none : goal.returns-in_err-text-clause-none
-returns-in_err-text-clause-none c = any_error _ (not_literal _ _ c.in-Some.ensures.some c.in_err-text.ensures.none)
-
-pub returns-in_err-text-2-clause-none : goal.returns-in_err-text-2-clause-none
-returns-in_err-text-2-clause-none c = any_error _ (not_pattern _ _ c.in-Some-behind.ensures.some c.in_err-text-2.ensures.none)
+pub returns-clause-stops : goal.returns-clause-stops
+returns-clause-stops c = no_text _ c.in_default.ensures.none c.in_default-behind.ensures.none
