@@ -8,16 +8,21 @@ use Rattle.lalrpop_book.specs.Tree.{Tree}
 use Rattle.lalrpop_book.specs.Prefix.{IsPrefix}
 use Rattle.lalrpop_book.specs.Longest.{IsLongest}
 use Rattle.lalrpop_book.specs.declared.token.Token.{Token}
+use Rattle.lalrpop_book.proofs.Chains.{chain_join, chain_imply}
 use Rattle.lalrpop_dense.specs.Leading.{LeadTo}
 
 -- one more token at the end
 pub lead_push : (ts : List Tree) (ps text : List ℕ) (from to next : ℕ) (xs : List Token) (token : Token) → LeadTo ts ps text from to xs
     → token.start ≡ to → IsLongest ts ps (drop to text) (Some (token.index, token.slice.now)) → next ≡ to + length token.slice.now
     → LeadTo ts ps text from next (xs ++ token ∷ [])
-lead_push ts ps text from to next [] token h start longest e =
-    (start ∙ sym h, subst (λ (n : ℕ). IsLongest ts ps (drop n text) (Some (token.index, token.slice.now))) (sym h) longest, ap (λ (n : ℕ). n + length token.slice.now) h ∙ sym e)
-lead_push ts ps text from to next (x ∷ xs) token h start longest e =
-    (h.0, h.1, lead_push ts ps text (from + length x.slice.now) to next xs token h.2 start longest e)
+lead_push ts ps text from to next xs token h start longest e =
+    chain_join _ _ _ from xs (token ∷ []) (chain_imply _ _ _ (λ p. p ≡ to) _ (λ p x is. is) one from xs h)
+  where
+    one : (p : ℕ) → p ≡ to → LeadTo ts ps text p next (token ∷ [])
+    one p at = (
+      (start ∙ sym at, subst (λ (n : ℕ). IsLongest ts ps (drop n text) (Some (token.index, token.slice.now))) (sym at) longest),
+      ap (λ (n : ℕ). n + length token.slice.now) at ∙ sym e,
+    )
 
 -- a prefix of the rest ends where the text may be cut, after the place where the rest begins
 pub lead_behind : (p text : List ℕ) (at : ℕ) → IsUtf8 (drop at text) → at ≤ length text → IsPrefix p (drop at text) × (p ≢ []) → (at < at + length p) × IsCharBoundary text (at + length p)
