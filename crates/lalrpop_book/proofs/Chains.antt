@@ -1,5 +1,6 @@
 -- Laws of chains.
-use Rattle.std.proofs.Common.{◌≡◌, ℕ, ◌+◌, List, [], ◌∷◌, ◌++◌, map, refl, subst}
+use Rattle.std.proofs.Common.{◌≡◌, ℕ, zero, suc, ◌+◌, List, [], ◌∷◌, ◌++◌, map, refl, subst}
+use Rattle.std.specs.Prelude.{Some, slice_get}
 use Rattle.lalrpop_book.specs.Chain.{Chain}
 
 -- pieces in two parts: the others follow where the first ones end
@@ -35,3 +36,10 @@ pub chain_over : {A : Type 0} (size : A → ℕ) (Is : ℕ → A → Type 0) (En
     → Chain size Is Ends at xs → xs ≡ []
 chain_over size Is Ends at none [] are = refl
 chain_over size Is Ends at none (x ∷ xs) are = absurd (none x are.0)
+
+-- each piece of a chain is right at some place
+pub chain_at : {A : Type 0} (size : A → ℕ) (Is : ℕ → A → Type 0) (Ends : ℕ → Type 0) (at i : ℕ) (xs : List A) (x : A)
+    → Chain size Is Ends at xs → slice_get xs i ≡ Some x → (p : ℕ) × Is p x
+chain_at size Is Ends at i [] x are is = absurd (cc)
+chain_at size Is Ends at zero (y ∷ xs) x are is = let same : y ≡ x = cc in (at, subst (λ z. Is at z) same are.0)
+chain_at size Is Ends at (suc i) (y ∷ xs) x are is = chain_at size Is Ends (at + size y) i xs x are.1 is
