@@ -11,10 +11,9 @@ use Rattle.lalrpop_book.specs.Tree.{Tree}
 use Rattle.lalrpop_book.specs.Prefix.{IsPrefix}
 use Rattle.lalrpop_book.specs.Winners.{Matched}
 use Rattle.lalrpop_book.specs.Longest.{IsLongest}
-use Rattle.lalrpop_book.specs.Tokens.{item_size, bare, IsTokenOrFault, AreTokens}
+use Rattle.lalrpop_book.specs.Tokens.{AreTokens}
 use Rattle.lalrpop_book.specs.declared.token.Token.{Token}
 use Rattle.lalrpop_book.specs.declared.token.TokenFault.{TokenFault}
-use Rattle.lalrpop_book.proofs.Chains.{chain_map}
 use Rattle.lalrpop_dfa.specs.Lookahead.{LeavesOpen, LooksAtMost}
 use Rattle.lalrpop_dense.specs.Leading.{LeadTo}
 use Rattle.lalrpop_lexer.specs.SameTokens.{moved}
@@ -186,18 +185,17 @@ tokens_lead ts ps text at (x ∷ xs) ys are =
 -- what is cut from a place on is cut from there whatever comes before
 pub tokens_moved : (ts : List Tree) (ps front text : List ℕ) (at : ℕ) (xs : List (Result Token TokenFault)) → AreTokens ts ps text at xs
     → AreTokens ts ps (front ++ text) (length front + at) (map (moved (length front)) xs)
-tokens_moved ts ps front text = chain_map _ _ _ _ _ _ (moved (length front)) (λ p. length front + p) one (λ p end. drop-append-add front text p ∙ end)
-  where
-    one : (p : ℕ) (x : Result Token TokenFault) → IsTokenOrFault ts ps text p x
-        → IsTokenOrFault ts ps (front ++ text) (length front + p) (moved (length front) x)
-        × (length front + (p + item_size text (bare x)) ≡ (length front + p) + item_size (front ++ text) (bare (moved (length front) x)))
-    one p (Ok token) is =
-        let rest : drop p text ≡ drop (length front + p) (front ++ text) = sym (drop-append-add front text p) in (
-          (ap (λ (k : ℕ). length front + k) is.0, subst (λ (w : List ℕ). IsLongest ts ps w (Some (token.index, token.slice.now))) rest is.1, is.2),
-          omega arith,
-        )
-    one p (Err fault) is =
-        let rest : drop p text ≡ drop (length front + p) (front ++ text) = sym (drop-append-add front text p) in (
-          ((λ none. is.0 (rest ∙ none)), subst (λ (w : List ℕ). IsLongest ts ps w None) rest is.1, ap (λ (k : ℕ). length front + k) is.2),
-          omega (arith, ap length (drop-append-add front text fault.at)),
-        )
+tokens_moved ts ps front text at [] are = drop-append-add front text at ∙ are
+tokens_moved ts ps front text at (Ok token ∷ xs) are =
+    let rest : drop at text ≡ drop (length front + at) (front ++ text) = sym (drop-append-add front text at) in
+    let next : length front + (at + length token.slice.now) ≡ (length front + at) + length token.slice.now = omega arith in (
+      (ap (λ (k : ℕ). length front + k) are.0.0, subst (λ (w : List ℕ). IsLongest ts ps w (Some (token.index, token.slice.now))) rest are.0.1, are.0.2),
+      subst (λ (k : ℕ). AreTokens ts ps (front ++ text) k (map (moved (length front)) xs)) next (tokens_moved ts ps front text (at + length token.slice.now) xs are.1),
+    )
+tokens_moved ts ps front text at (Err fault ∷ xs) are =
+    let rest : drop at text ≡ drop (length front + at) (front ++ text) = sym (drop-append-add front text at) in
+    let next : length front + (at + length (drop fault.at text)) ≡ (length front + at) + length (drop (length front + fault.at) (front ++ text)) =
+    omega (arith, ap length (drop-append-add front text fault.at)) in (
+      ((λ none. are.0.0 (rest ∙ none)), subst (λ (w : List ℕ). IsLongest ts ps w None) rest are.0.1, ap (λ (k : ℕ). length front + k) are.0.2),
+      subst (λ (k : ℕ). AreTokens ts ps (front ++ text) k (map (moved (length front)) xs)) next (tokens_moved ts ps front text (at + length (drop fault.at text)) xs are.1),
+    )

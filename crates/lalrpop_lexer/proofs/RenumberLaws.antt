@@ -9,12 +9,11 @@ use Rattle.lalrpop_book.specs.Winners.{TreeMatches, IsStrongest, IsOnlyStrongest
 use Rattle.lalrpop_book.specs.Longest.{IsMatch, IsLongest}
 use Rattle.lalrpop_book.specs.Clash.{NoClash, IsClash}
 use Rattle.lalrpop_book.specs.Clashes.{Entry, AreTied, AreClashes}
-use Rattle.lalrpop_book.specs.Tokens.{item_size, bare, IsToken, IsTokenOrFault, AreTokens}
+use Rattle.lalrpop_book.specs.Tokens.{IsToken, AreTokens}
 use Rattle.lalrpop_lexer.specs.Renumbered.{AreRenumbered, AreAlike, renumbered}
 use Rattle.lalrpop_book.specs.declared.token.Token.{Token}
 use Rattle.lalrpop_book.specs.declared.token.TokenFault.{TokenFault}
 use Rattle.lalrpop_lexer.proofs.Decided.{matches_inside}
-use Rattle.lalrpop_book.proofs.Chains.{chain_imply, chain_map}
 use Rattle.lalrpop_book.proofs.Strongest.{IsOnlyStrongest-from_greatest}
 
 -- ---- from the one list to the other
@@ -119,12 +118,10 @@ module _ (f g : ℕ → ℕ) (ts : List Tree) (ps : List ℕ) (us : List Tree) (
   )
 
   pub tokens_renumbered : (text : List ℕ) (at : ℕ) (xs : List (Result Token TokenFault)) → AreTokens ts ps text at xs → AreTokens us qs text at (map (renumbered f) xs)
-  tokens_renumbered text = chain_map _ _ _ _ _ _ (renumbered f) (λ p. p) one (λ p end. end)
-    where
-      one : (p : ℕ) (x : Result Token TokenFault) → IsTokenOrFault ts ps text p x
-          → IsTokenOrFault us qs text p (renumbered f x) × (p + item_size text (bare x) ≡ p + item_size text (bare (renumbered f x)))
-      one p (Ok token) is = (token_renumbered text p token is, refl)
-      one p (Err fault) is = ((is.0, (λ q m. is.1 q (match_back f g ts ps us qs same (drop p text) q m)), is.2), refl)
+  tokens_renumbered text at [] are = are
+  tokens_renumbered text at (Ok token ∷ xs) are = (token_renumbered text at token are.0, tokens_renumbered text (at + length token.slice.now) xs are.1)
+  tokens_renumbered text at (Err fault ∷ xs) are =
+      ((are.0.0, (λ p m. are.0.1 p (match_back f g ts ps us qs same (drop at text) p m)), are.0.2), tokens_renumbered text (at + length (drop fault.at text)) xs are.1)
 
   -- the tied pairs, each with its greater number first
   pub pairs_renumbered : (cs ds : List Entry) (c : Entry) → AreClashes ts ps cs → AreClashes us qs ds → Contains cs c
@@ -193,8 +190,7 @@ module _ (ts : List Tree) (ps : List ℕ) (us : List Tree) (qs : List ℕ) (same
       (is.0, longest_alike (drop at text) (Some (token.index, token.slice.now)) is.1, only_strongest_alike (chars token.slice.now) token.index is.2)
 
   pub tokens_alike : (text : List ℕ) (at : ℕ) (xs : List (Result Token TokenFault)) → AreTokens ts ps text at xs → AreTokens us qs text at xs
-  tokens_alike text = chain_imply _ _ _ _ _ one (λ p end. end)
-    where
-      one : (p : ℕ) (x : Result Token TokenFault) → IsTokenOrFault ts ps text p x → IsTokenOrFault us qs text p x
-      one p (Ok token) is = token_alike text p token is
-      one p (Err fault) is = (is.0, longest_alike (drop p text) None is.1, is.2)
+  tokens_alike text at [] are = are
+  tokens_alike text at (Ok token ∷ xs) are = (token_alike text at token are.0, tokens_alike text (at + length token.slice.now) xs are.1)
+  tokens_alike text at (Err fault ∷ xs) are = 
+      ((are.0.0, longest_alike (drop at text) None are.0.1, are.0.2), tokens_alike text (at + length (drop fault.at text)) xs are.1)

@@ -9,18 +9,11 @@ use Rattle.lalrpop_book.specs.Longest.{IsLongest}
 use Rattle.lalrpop_book.specs.Tokens.{AreTokens}
 use Rattle.lalrpop_book.specs.declared.token.Token.{Token}
 use Rattle.lalrpop_book.specs.declared.token.TokenFault.{TokenFault}
-use Rattle.lalrpop_book.proofs.Chains.{chain_join, chain_imply, chain_map}
 use Rattle.lalrpop_book.proofs.LastFaults.{tokens_to_fault}
 use Rattle.lalrpop_book.proofs.Strongest.{IsOnlyStrongest-from_greatest}
 use Rattle.lalrpop_dfa.specs.Dfa.{Row, Recognizes}
 use Rattle.lalrpop_dense.specs.Leading.{LeadTo}
-
--- tokens that lead on from where others end
-lead_on : (ts : List Tree) (ps text : List ℕ) (from at to : ℕ) (xs ys : List Token) → LeadTo ts ps text from at xs → LeadTo ts ps text at to ys
-    → LeadTo ts ps text from to (xs ++ ys)
-lead_on ts ps text from at to xs ys h k =
-    chain_join _ _ _ from xs ys
-    (chain_imply _ _ _ (λ p. p ≡ at) _ (λ p x is. is) (λ p e. subst (λ (n : ℕ). LeadTo ts ps text n to ys) (sym e) k) from xs h)
+use Rattle.lalrpop_dense.proofs.Leads.{lead_on}
 
 -- the tokens of one block more
 pub lead_block : (ts : List Tree) (ps text : List ℕ) (d : List Row) (at to : ℕ) (all all2 : List Token) → Recognizes d ts ps → LeadTo ts ps text 0 at all
@@ -31,11 +24,11 @@ lead_block ts ps text d at to all all2 stands h (xs, e, k) =
 -- tokens that lead to where the others begin, and the others
 pub tokens_led : (ts : List Tree) (ps text : List ℕ) (at to : ℕ) (xs : List Token) (ys : List (Result Token TokenFault)) → NoClash ts ps → LeadTo ts ps text at to xs
     → AreTokens ts ps text to ys → AreTokens ts ps text at (map Ok xs ++ ys)
-tokens_led ts ps text at to xs ys none h k =
-    chain_join _ _ _ at (map Ok xs) ys
-    (chain_map _ _ (λ p. p ≡ to) _ _ _ Ok (λ p. p)
-    (λ p x is. ((is.0, is.1, IsOnlyStrongest-from_greatest ts ps (chars x.slice.now) x.index none is.1.2), refl))
-    (λ p e. subst (λ (n : ℕ). AreTokens ts ps text n ys) (sym e) k) at xs h)
+tokens_led ts ps text at to [] ys none h k = subst (λ (n : ℕ). AreTokens ts ps text n ys) (sym h) k
+tokens_led ts ps text at to (x ∷ xs) ys none h k = (
+  (h.0.0, h.0.1, IsOnlyStrongest-from_greatest ts ps (chars x.slice.now) x.index none h.0.1.2),
+  tokens_led ts ps text (at + length x.slice.now) to xs ys none h.1 k,
+)
 
 -- where nothing is left they are all
 pub all_led : (ts : List Tree) (ps text : List ℕ) (to : ℕ) (xs : List Token) → NoClash ts ps → LeadTo ts ps text 0 to xs → length text ≤ to → AreTokens ts ps text 0 (map Ok xs)
