@@ -9,4 +9,5 @@ mod Longest
 mod Clash
 mod Clashes
 mod Report
+mod Chain
 mod Tokens

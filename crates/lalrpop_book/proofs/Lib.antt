@@ -10,3 +10,6 @@ pub mod Words
 pub mod ClashLaws
 pub mod Longests
 pub mod Strongest
+-- pieces one after another
+pub mod Chains
+pub mod LastFaults

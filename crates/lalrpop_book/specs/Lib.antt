@@ -10,4 +10,5 @@ pub mod Longest
 pub mod Clash
 pub mod Clashes
 pub mod Report
+pub mod Chain
 pub mod Tokens

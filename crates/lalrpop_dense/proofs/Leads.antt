@@ -1,4 +1,4 @@
--- Tokens that lead from one place to another, with one more at the end.
+-- Tokens that lead from one place to another, with others or one more at the end.
 use Rattle.std.proofs.Common.{◌≡◌, ◌≢◌, ℕ, ◌+◌, ◌<◌, ◌≤◌, List, [], ◌∷◌, ◌++◌, length, take, drop, refl, sym, ap, subst, ◌∙◌, arith, length-append}
 use Rattle.std.specs.Prelude.{Some}
 use Rattle.std.specs.Str.{IsUtf8, IsCharBoundary}
@@ -8,16 +8,19 @@ use Rattle.lalrpop_book.specs.Tree.{Tree}
 use Rattle.lalrpop_book.specs.Prefix.{IsPrefix}
 use Rattle.lalrpop_book.specs.Longest.{IsLongest}
 use Rattle.lalrpop_book.specs.declared.token.Token.{Token}
+use Rattle.lalrpop_book.proofs.Chains.{chain_join}
 use Rattle.lalrpop_dense.specs.Leading.{LeadTo}
+
+-- tokens that lead on from where others end
+pub lead_on : (ts : List Tree) (ps text : List ℕ) (from at to : ℕ) (xs ys : List Token) → LeadTo ts ps text from at xs → LeadTo ts ps text at to ys
+    → LeadTo ts ps text from to (xs ++ ys)
+lead_on ts ps text from at to xs ys h k = chain_join _ _ _ _ from xs ys h (λ p e. subst (λ (n : ℕ). LeadTo ts ps text n to ys) (sym e) k)
 
 -- one more token at the end
 pub lead_push : (ts : List Tree) (ps text : List ℕ) (from to next : ℕ) (xs : List Token) (token : Token) → LeadTo ts ps text from to xs
     → token.start ≡ to → IsLongest ts ps (drop to text) (Some (token.index, token.slice.now)) → next ≡ to + length token.slice.now
     → LeadTo ts ps text from next (xs ++ token ∷ [])
-lead_push ts ps text from to next [] token h start longest e =
-    (start ∙ sym h, subst (λ (n : ℕ). IsLongest ts ps (drop n text) (Some (token.index, token.slice.now))) (sym h) longest, ap (λ (n : ℕ). n + length token.slice.now) h ∙ sym e)
-lead_push ts ps text from to next (x ∷ xs) token h start longest e =
-    (h.0, h.1, lead_push ts ps text (from + length x.slice.now) to next xs token h.2 start longest e)
+lead_push ts ps text from to next xs token h start longest e = lead_on ts ps text from to next xs (token ∷ []) h ((start, longest), sym e)
 
 -- a prefix of the rest ends where the text may be cut, after the place where the rest begins
 pub lead_behind : (p text : List ℕ) (at : ℕ) → IsUtf8 (drop at text) → at ≤ length text → IsPrefix p (drop at text) × (p ≢ []) → (at < at + length p) × IsCharBoundary text (at + length p)

@@ -10,6 +10,7 @@ use Rattle.lalrpop_book.specs.Prefix.{IsPrefix}
 use Rattle.lalrpop_dfa.specs.Dfa.{Row, Recognizes}
 use Rattle.lalrpop_lexer.specs.Cutting.{Cutting, start_of, rest_of, left_of, GivesItem}
 use Rattle.lalrpop_book.specs.Tokens.{Item, AreItems, slices}
+use Rattle.lalrpop_book.proofs.LastFaults.{items_to_fault}
 
 -- a prefix of a text ends where the text may be split
 pub cut_behind : (p text : List ℕ) → IsUtf8 text → IsPrefix p text → IsCharBoundary text (length p)
@@ -92,7 +93,8 @@ items_of ts ps s t u (Ok m ∷ xs) r on (j, g, y) last =
     (g.3 ts ps r, subst (λ (x : Cutting). AreItems ts ps x.text x.at xs) g.4 others)
 items_of ts ps s t u (Err f ∷ xs) r on (j, g, y) last =
     let over : j.is_over ≡ true = ap (λ (x : Cutting). x.is_over) g.4 in
-    (g.1, g.3 ts ps r, g.2, none_over j t xs over y)
+    subst (λ (ys : List Item). AreItems ts ps s.text s.at (Err f ∷ ys)) (sym (none_over j t xs over y))
+    (items_to_fault ts ps s.text s.at f (g.1, g.3 ts ps r, g.2))
 
 -- after the first `None` every call returns `None`
 pub none_for_good : (s t u : Cutting) (x : Option Item) → GivesItem s None t → GivesItem t x u → x ≡ None

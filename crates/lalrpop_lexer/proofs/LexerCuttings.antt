@@ -1,5 +1,5 @@
 -- What the calls of `next` cut off a text.
-use Rattle.std.proofs.Common.{◌≡◌, ℕ, ◌+◌, ◌≤◌, List, [], ◌∷◌, ◌++◌, length, map, arith, refl, ap, ◌∙◌}
+use Rattle.std.proofs.Common.{◌≡◌, ℕ, ◌+◌, ◌≤◌, List, [], ◌∷◌, ◌++◌, length, map, arith, refl, sym, ap, subst, ◌∙◌}
 use Rattle.std.specs.Prelude.{Option, Some, None, Result, Ok, Err}
 use Rattle.std.specs.Iterator.{Yields, Drains}
 use Rattle.std.specs.Str.{chars, IsUtf8}
@@ -7,6 +7,7 @@ use Rattle.std.proofs.lemmas.List.{length-map}
 use Rattle.lalrpop_book.specs.Tree.{Tree}
 use Rattle.lalrpop_dfa.specs.Dfa.{Row}
 use Rattle.lalrpop_book.specs.Clash.{NoClash}
+use Rattle.lalrpop_book.proofs.LastFaults.{tokens_to_fault, no_items_behind}
 use Rattle.lalrpop_book.proofs.Strongest.{IsOnlyStrongest-from_greatest}
 use Rattle.lalrpop_dfa.proofs.Recognized.{on_words}
 use Rattle.lalrpop_lexer.specs.Cutting.{Cutting, start_of, rest_of, GivesItem}
@@ -39,7 +40,9 @@ tokens_of ts ps text s t (Ok token ∷ xs) at none here (j, g, y) are =
       (g.0 ∙ here, are.0, IsOnlyStrongest-from_greatest ts ps (chars token.slice.now) token.index none are.0.2),
       tokens_of ts ps text j t xs (at + length token.slice.now) none next y are.1,
     )
-tokens_of ts ps text s t (Err fault ∷ xs) at none here (j, g, y) are = (are.0, are.1, are.2, nil_map xs are.3)
+tokens_of ts ps text s t (Err fault ∷ xs) at none here (j, g, y) are =
+    let over : xs ≡ [] = nil_map xs (no_items_behind ts ps text at fault (map bare xs) are) in
+    subst (λ (ys : List (Result Token TokenFault)). AreTokens ts ps text at (Err fault ∷ ys)) (sym over) (tokens_to_fault ts ps text at fault are.0)
   where
     nil_map : (xs : List (Result Token TokenFault)) → map bare xs ≡ [] → xs ≡ []
     nil_map [] e = refl

@@ -118,7 +118,7 @@ module _ (ts : List Tree) (ps : List ℕ) (n : ℕ) (most : LooksAtMost (Matched
   -- tokens lead onward
   lead_onward : (text : List ℕ) (at to : ℕ) (xs : List Token) → LeadTo ts ps text at to xs → at ≤ to
   lead_onward text at to [] h = omega (arith, h)
-  lead_onward text at to (x ∷ xs) h = omega (arith, lead_onward text (at + length x.slice.now) to xs h.2)
+  lead_onward text at to (x ∷ xs) h = omega (arith, lead_onward text (at + length x.slice.now) to xs h.1)
 
   -- what is left at the end of a slice of the front
   left_after : (u t slice : List ℕ) (at : ℕ) → IsUtf8 (drop at u) → at + length slice ≤ length u → IsPrefix slice (drop at u ++ t)
@@ -139,11 +139,11 @@ module _ (ts : List Tree) (ps : List ℕ) (n : ℕ) (most : LooksAtMost (Matched
   fewer_left u t at to [] utf8 within h = omega (arith, ap (λ (k : ℕ). length (chars (drop k u))) h)
   fewer_left u t at to (x ∷ xs) utf8 within h =
       let next = at + length x.slice.now in
-      let on = lead_onward (u ++ t) next to xs h.2 in
-      let front : IsPrefix x.slice.now (drop at u ++ t) = subst (IsPrefix x.slice.now) (drop-append-le at u t (omega (arith, on, within))) h.1.0.0 in
+      let on = lead_onward (u ++ t) next to xs h.1 in
+      let front : IsPrefix x.slice.now (drop at u ++ t) = subst (IsPrefix x.slice.now) (drop-append-le at u t (omega (arith, on, within))) h.0.1.0.0 in
       let left = left_after u t x.slice.now at utf8 (omega (arith, on, within)) front in
       let count : chars (drop at u) ≡ chars x.slice.now ++ chars (drop next u) = ap chars left.0 ∙ chars-append x.slice.now (drop next u) front.1.1 in
-      omega (arith, fewer_left u t next to xs left.1 within h.2, ap length count, length-append (chars x.slice.now) (chars (drop next u)))
+      omega (arith, fewer_left u t next to xs left.1 within h.1, ap length count, length-append (chars x.slice.now) (chars (drop next u)))
 
   stays_within : (u t later : List ℕ) (at to : ℕ) (xs : List Token) → IsUtf8 t → IsUtf8 (drop at u) → to ≤ length u → n < length (chars (drop to u))
       → LeadTo ts ps (u ++ t) at to xs → LeadTo ts ps (u ++ later) at to xs
@@ -151,18 +151,17 @@ module _ (ts : List Tree) (ps : List ℕ) (n : ℕ) (most : LooksAtMost (Matched
   stays_within u t later at to (x ∷ xs) utf8_t utf8 within far h =
       let m = x.slice.now in
       let next = at + length m in
-      let on = lead_onward (u ++ t) next to xs h.2 in
+      let on = lead_onward (u ++ t) next to xs h.1 in
       let here : drop at (u ++ t) ≡ drop at u ++ t = drop-append-le at u t (omega (arith, on, within)) in
       let there : drop at (u ++ later) ≡ drop at u ++ later = drop-append-le at u later (omega (arith, on, within)) in
-      let left = left_after u t m at utf8 (omega (arith, on, within)) (subst (IsPrefix m) here h.1.0.0) in
-      let fewer = fewer_left u t next to xs left.1 within h.2 in
+      let left = left_after u t m at utf8 (omega (arith, on, within)) (subst (IsPrefix m) here h.0.1.0.0) in
+      let fewer = fewer_left u t next to xs left.1 within h.1 in
       let longest : IsLongest ts ps ((m ++ drop next u) ++ t) (Some (x.index, m)) =
-      subst (λ (w : List ℕ). IsLongest ts ps w (Some (x.index, m))) (here ∙ ap (λ (w : List ℕ). w ++ t) left.0) h.1 in
+      subst (λ (w : List ℕ). IsLongest ts ps w (Some (x.index, m))) (here ∙ ap (λ (w : List ℕ). w ++ t) left.0) h.0.1 in
       let stays = match_stays m (drop next u) t later x.index (subst (λ (w : List ℕ). IsUtf8 (w ++ t)) left.0 (IsUtf8-append (drop at u) t utf8 utf8_t))
       (subst IsUtf8 left.0 utf8) (omega (arith, far, fewer)) longest in (
-        h.0,
-        subst (λ (w : List ℕ). IsLongest ts ps w (Some (x.index, m))) (ap (λ (w : List ℕ). w ++ later) (sym left.0) ∙ sym there) stays,
-        stays_within u t later next to xs utf8_t left.1 within far h.2,
+        (h.0.0, subst (λ (w : List ℕ). IsLongest ts ps w (Some (x.index, m))) (ap (λ (w : List ℕ). w ++ later) (sym left.0) ∙ sym there) stays),
+        stays_within u t later next to xs utf8_t left.1 within far h.1,
       )
 
   -- tokens of the text u ++ t up to a place in u after which more than n characters of u come are those of each text that begins with u
@@ -181,7 +180,7 @@ pub tokens_lead : (ts : List Tree) (ps text : List ℕ) (at : ℕ) (xs : List To
 tokens_lead ts ps text at [] ys are = (at, (refl, are))
 tokens_lead ts ps text at (x ∷ xs) ys are =
     let later = tokens_lead ts ps text (at + length x.slice.now) xs ys are.1 in
-    (later.0, ((are.0.0, are.0.1, later.1.0), later.1.1))
+    (later.0, (((are.0.0, are.0.1), later.1.0), later.1.1))
 
 -- what is cut from a place on is cut from there whatever comes before
 pub tokens_moved : (ts : List Tree) (ps front text : List ℕ) (at : ℕ) (xs : List (Result Token TokenFault)) → AreTokens ts ps text at xs
@@ -194,9 +193,9 @@ tokens_moved ts ps front text at (Ok token ∷ xs) are =
       subst (λ (k : ℕ). AreTokens ts ps (front ++ text) k (map (moved (length front)) xs)) next (tokens_moved ts ps front text (at + length token.slice.now) xs are.1),
     )
 tokens_moved ts ps front text at (Err fault ∷ xs) are =
-    let rest : drop at text ≡ drop (length front + at) (front ++ text) = sym (drop-append-add front text at) in (
-      (λ none. are.0 (rest ∙ none)),
-      subst (λ (w : List ℕ). IsLongest ts ps w None) rest are.1,
-      ap (λ (k : ℕ). length front + k) are.2,
-      ap (map (moved (length front))) are.3,
+    let rest : drop at text ≡ drop (length front + at) (front ++ text) = sym (drop-append-add front text at) in
+    let next : length front + (at + length (drop fault.at text)) ≡ (length front + at) + length (drop (length front + fault.at) (front ++ text)) =
+    omega (arith, ap length (drop-append-add front text fault.at)) in (
+      ((λ none. are.0.0 (rest ∙ none)), subst (λ (w : List ℕ). IsLongest ts ps w None) rest are.0.1, ap (λ (k : ℕ). length front + k) are.0.2),
+      subst (λ (k : ℕ). AreTokens ts ps (front ++ text) k (map (moved (length front)) xs)) next (tokens_moved ts ps front text (at + length (drop fault.at text)) xs are.1),
     )

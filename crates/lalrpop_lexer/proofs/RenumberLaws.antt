@@ -121,7 +121,7 @@ module _ (f g : ℕ → ℕ) (ts : List Tree) (ps : List ℕ) (us : List Tree) (
   tokens_renumbered text at [] are = are
   tokens_renumbered text at (Ok token ∷ xs) are = (token_renumbered text at token are.0, tokens_renumbered text (at + length token.slice.now) xs are.1)
   tokens_renumbered text at (Err fault ∷ xs) are =
-      (are.0, (λ p m. are.1 p (match_back f g ts ps us qs same (drop at text) p m)), are.2, ap (map (renumbered f)) are.3)
+      ((are.0.0, (λ p m. are.0.1 p (match_back f g ts ps us qs same (drop at text) p m)), are.0.2), tokens_renumbered text (at + length (drop fault.at text)) xs are.1)
 
   -- the tied pairs, each with its greater number first
   pub pairs_renumbered : (cs ds : List Entry) (c : Entry) → AreClashes ts ps cs → AreClashes us qs ds → Contains cs c
@@ -192,4 +192,5 @@ module _ (ts : List Tree) (ps : List ℕ) (us : List Tree) (qs : List ℕ) (same
   pub tokens_alike : (text : List ℕ) (at : ℕ) (xs : List (Result Token TokenFault)) → AreTokens ts ps text at xs → AreTokens us qs text at xs
   tokens_alike text at [] are = are
   tokens_alike text at (Ok token ∷ xs) are = (token_alike text at token are.0, tokens_alike text (at + length token.slice.now) xs are.1)
-  tokens_alike text at (Err fault ∷ xs) are = (are.0, longest_alike (drop at text) None are.1, are.2, are.3)
+  tokens_alike text at (Err fault ∷ xs) are = 
+      ((are.0.0, longest_alike (drop at text) None are.0.1, are.0.2), tokens_alike text (at + length (drop fault.at text)) xs are.1)

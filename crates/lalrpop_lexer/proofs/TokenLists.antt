@@ -9,15 +9,11 @@ use Rattle.lalrpop_book.specs.Longest.{IsLongest}
 use Rattle.lalrpop_book.specs.Tokens.{AreTokens}
 use Rattle.lalrpop_book.specs.declared.token.Token.{Token}
 use Rattle.lalrpop_book.specs.declared.token.TokenFault.{TokenFault}
+use Rattle.lalrpop_book.proofs.LastFaults.{tokens_to_fault}
 use Rattle.lalrpop_book.proofs.Strongest.{IsOnlyStrongest-from_greatest}
 use Rattle.lalrpop_dfa.specs.Dfa.{Row, Recognizes}
 use Rattle.lalrpop_dense.specs.Leading.{LeadTo}
-
--- tokens that lead on from where others end
-lead_on : (ts : List Tree) (ps text : List ℕ) (from at to : ℕ) (xs ys : List Token) → LeadTo ts ps text from at xs → LeadTo ts ps text at to ys
-    → LeadTo ts ps text from to (xs ++ ys)
-lead_on ts ps text from at to [] ys h k = subst (λ (n : ℕ). LeadTo ts ps text n to ys) (sym h) k
-lead_on ts ps text from at to (x ∷ xs) ys h k = (h.0, h.1, lead_on ts ps text (from + length x.slice.now) at to xs ys h.2 k)
+use Rattle.lalrpop_dense.proofs.Leads.{lead_on}
 
 -- the tokens of one block more
 pub lead_block : (ts : List Tree) (ps text : List ℕ) (d : List Row) (at to : ℕ) (all all2 : List Token) → Recognizes d ts ps → LeadTo ts ps text 0 at all
@@ -30,8 +26,8 @@ pub tokens_led : (ts : List Tree) (ps text : List ℕ) (at to : ℕ) (xs : List 
     → AreTokens ts ps text to ys → AreTokens ts ps text at (map Ok xs ++ ys)
 tokens_led ts ps text at to [] ys none h k = subst (λ (n : ℕ). AreTokens ts ps text n ys) (sym h) k
 tokens_led ts ps text at to (x ∷ xs) ys none h k = (
-  (h.0, h.1, IsOnlyStrongest-from_greatest ts ps (chars x.slice.now) x.index none h.1.2),
-  tokens_led ts ps text (at + length x.slice.now) to xs ys none h.2 k,
+  (h.0.0, h.0.1, IsOnlyStrongest-from_greatest ts ps (chars x.slice.now) x.index none h.0.1.2),
+  tokens_led ts ps text (at + length x.slice.now) to xs ys none h.1 k,
 )
 
 -- where nothing is left they are all
@@ -46,4 +42,4 @@ pub fault_led : (ts : List Tree) (ps text : List ℕ) (to : ℕ) (xs all : List 
 fault_led ts ps text to xs all fault none h same left longest at =
     let some : drop to text ≢ [] = λ e. omega (arith, length-drop to text, ap length e) in
     subst (λ (zs : List Token). AreTokens ts ps text 0 (map Ok zs ++ Err fault ∷ [])) (sym same)
-    (tokens_led ts ps text 0 to xs (Err fault ∷ []) none h (some, longest, at, refl))
+    (tokens_led ts ps text 0 to xs (Err fault ∷ []) none h (tokens_to_fault ts ps text to fault (some, longest, at)))

@@ -7,12 +7,13 @@ use Rattle.std.proofs.lemmas.Option.{some_pair_parts}
 use Rattle.lalrpop_book.specs.Tree.{Tree}
 use Rattle.lalrpop_book.specs.Clash.{NoClash}
 use Rattle.lalrpop_book.specs.Prefix.{IsPrefix}
-use Rattle.lalrpop_book.specs.Longest.{IsMatch, IsLongest}
+use Rattle.lalrpop_book.specs.Longest.{IsLongest}
 use Rattle.lalrpop_book.specs.Tokens.{IsToken, AreTokens}
 use Rattle.lalrpop_lexer.specs.SameTokens.{IsSameToken, AreSameTokens}
 use Rattle.lalrpop_book.specs.declared.token.Token.{Token}
 use Rattle.lalrpop_book.specs.declared.token.TokenFault.{TokenFault}
 use Rattle.lalrpop_lexer.proofs.Decided.{longest-exists}
+use Rattle.lalrpop_book.proofs.LastFaults.{some_left, tokens_to_fault, no_tokens_behind}
 use Rattle.lalrpop_book.proofs.Longests.{longest-unique}
 use Rattle.lalrpop_book.proofs.Strongest.{IsOnlyStrongest-from_greatest}
 
@@ -21,10 +22,6 @@ pub token-unique : (ts : List Tree) (ps text : List ℕ) (at : ℕ) (a b : Token
 token-unique ts ps text at a b first second =
     let same = some_pair_parts a.index b.index a.slice.now b.slice.now (longest-unique ts ps (drop at text) _ _ first.1 second.1) in
     (same.0, first.0 ∙ sym second.0, same.1)
-
--- nothing matches at the end
-some_left : (ts : List Tree) (rest p : List ℕ) → IsMatch ts rest p → rest ≢ []
-some_left ts rest p m none = m.1 (nil_from_length p (omega (arith, ap length m.0.1.0, length-append p m.0.0, ap length none)))
 
 ends_alike : (xs ys : List (Result Token TokenFault)) → xs ≡ [] → ys ≡ [] → AreSameTokens xs ys
 ends_alike [] [] e f = tt
@@ -35,12 +32,13 @@ pub tokens-unique : (ts : List Tree) (ps text : List ℕ) (at : ℕ) (xs ys : Li
     → AreTokens ts ps text at xs → AreTokens ts ps text at ys → AreSameTokens xs ys
 tokens-unique ts ps text at [] [] are too = tt
 tokens-unique ts ps text at [] (Ok b ∷ ys) are too = absurd (some_left ts (drop at text) b.slice.now too.0.1.0 are)
-tokens-unique ts ps text at [] (Err f ∷ ys) are too = absurd (too.0 are)
+tokens-unique ts ps text at [] (Err f ∷ ys) are too = absurd (too.0.0 are)
 tokens-unique ts ps text at (Ok a ∷ xs) [] are too = absurd (some_left ts (drop at text) a.slice.now are.0.1.0 too)
-tokens-unique ts ps text at (Err e ∷ xs) [] are too = absurd (are.0 too)
-tokens-unique ts ps text at (Ok a ∷ xs) (Err f ∷ ys) are too = absurd (too.1 a.slice.now are.0.1.0)
-tokens-unique ts ps text at (Err e ∷ xs) (Ok b ∷ ys) are too = absurd (are.1 b.slice.now too.0.1.0)
-tokens-unique ts ps text at (Err e ∷ xs) (Err f ∷ ys) are too = (are.2 ∙ sym too.2, ends_alike xs ys are.3 too.3)
+tokens-unique ts ps text at (Err e ∷ xs) [] are too = absurd (are.0.0 too)
+tokens-unique ts ps text at (Ok a ∷ xs) (Err f ∷ ys) are too = absurd (too.0.1 a.slice.now are.0.1.0)
+tokens-unique ts ps text at (Err e ∷ xs) (Ok b ∷ ys) are too = absurd (are.0.1 b.slice.now too.0.1.0)
+tokens-unique ts ps text at (Err e ∷ xs) (Err f ∷ ys) are too =
+    (are.0.2 ∙ sym too.0.2, ends_alike xs ys (no_tokens_behind ts ps text at e xs are) (no_tokens_behind ts ps text at f ys too))
 tokens-unique ts ps text at (Ok a ∷ xs) (Ok b ∷ ys) are too =
     let same = token-unique ts ps text at a b are.0 too.0 in
     let behind = ap (λ (p : List ℕ). at + length p) same.2 in
@@ -60,7 +58,9 @@ module _ (ts : List Tree) (ps text : List ℕ) (clear : NoClash ts ps) where
   at_front : (at n : ℕ) (found : Option (ℕ × List ℕ)) → IsLongest ts ps (drop at text) found → length (drop at text) ≤ suc n
       → ((to : ℕ) → length (drop to text) ≤ n → (xs : List (Result Token TokenFault)) × AreTokens ts ps text to xs)
       → drop at text ≢ [] → (xs : List (Result Token TokenFault)) × AreTokens ts ps text at xs
-  at_front at n None longest most others some = (Err (record { at = at }) ∷ [], (some, longest, refl, refl))
+  at_front at n None longest most others some =
+      let fault : TokenFault = record { at = at } in
+      (Err fault ∷ [], tokens_to_fault ts ps text at fault (some, longest, refl))
   at_front at n (Some m) longest most others some =
       let token : Token = record { index = m.0; slice = record { ref_ptr = (0, 0); now = m.1 }; start = at } in
       let later = others (at + length m.1) (less_left text at n m.1 longest.0.0 longest.0.1 most) in

@@ -25,6 +25,7 @@ pub use Rattle.lalrpop_book.specs.Longest
 pub use Rattle.lalrpop_book.specs.Clash
 pub use Rattle.lalrpop_book.specs.Clashes
 pub use Rattle.lalrpop_book.specs.Report
+pub use Rattle.lalrpop_book.specs.Chain
 pub use Rattle.lalrpop_book.specs.Tokens
 -- from patterns,
 pub use Rattle.lalrpop_hir.specs.Runs

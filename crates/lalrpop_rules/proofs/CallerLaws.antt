@@ -1,5 +1,5 @@
 -- What follows from the promises, for callers.
-use Rattle.std.proofs.Common.{◌≡◌, ℕ, zero, suc, ◌+◌, ◌<◌, Bool, List, [], ◌∷◌, length, sym, ap, subst, arith}
+use Rattle.std.proofs.Common.{◌≡◌, ℕ, ◌<◌, Bool, List, length, sym, subst, arith}
 use Rattle.std.specs.Prelude.{Some, Result, Ok, Err, slice_get, slice_index}
 use Rattle.std.specs.Str.{chars}
 use Rattle.std.proofs.lemmas.Option.{slice_get_within}
@@ -8,7 +8,8 @@ use Rattle.lalrpop_book.specs.Winners.{TreeMatches}
 use Rattle.lalrpop_book.specs.Tokens.{IsToken, AreTokens}
 use Rattle.lalrpop_book.specs.declared.token.Token.{Token as Cut}
 use Rattle.lalrpop_book.specs.declared.token.TokenFault.{TokenFault}
-use Rattle.lalrpop_rules.specs.Pieces.{IsPiece, ArePieces, slice_of, start_of}
+use Rattle.lalrpop_book.proofs.Chains.{chain_at}
+use Rattle.lalrpop_rules.specs.Pieces.{IsPiece, ArePieces, start_of}
 use Rattle.lalrpop_rules.specs.declared.item.Item.{Item}
 use Rattle.lalrpop_rules.specs.declared.item.Item.TheVariants.{Token, Skipped, Fault}
 
@@ -24,17 +25,9 @@ lesser_never_wins ts ps text at j token is less matches = omega (arith, less, is
 -- each of the tokens of a text is the token at its place
 pub token_at_its_place : (ts : List Tree) (ps text : List ℕ) (at i : ℕ) (xs : List (Result Cut TokenFault)) (token : Cut) → AreTokens ts ps text at xs
     → slice_get xs i ≡ Some (Ok token) → IsToken ts ps text token.start token
-token_at_its_place ts ps text at i [] token are is = absurd (cc)
-token_at_its_place ts ps text at zero (Ok first ∷ xs) token are is =
-    let same : first ≡ token = cc in
-    let here : IsToken ts ps text at token = subst (λ (t : Cut). IsToken ts ps text at t) same are.0 in
-    subst (λ (n : ℕ). IsToken ts ps text n token) (sym here.0) here
-token_at_its_place ts ps text at (suc i) (Ok first ∷ xs) token are is =
-    token_at_its_place ts ps text (at + length first.slice.now) i xs token are.1 is
-token_at_its_place ts ps text at zero (Err fault ∷ xs) token are is = absurd (cc)
-token_at_its_place ts ps text at (suc i) (Err fault ∷ xs) token are is =
-    let none : xs ≡ [] = are.3 in
-    absurd (cc (ap (λ (ys : List (Result Cut TokenFault)). slice_get ys i) none, is))
+token_at_its_place ts ps text at i xs token are is =
+    let here = chain_at _ _ _ at i xs (Ok token) are is in
+    subst (λ (n : ℕ). IsToken ts ps text n token) (sym here.1.0) here.1
 
 pub starts_at : (ts : List Tree) (ps : List ℕ) (skips : List Bool) (text : List ℕ) (at : ℕ) (x : Item) → IsPiece ts ps skips text at x → start_of x ≡ at
 starts_at ts ps skips text at (Token token) is = is.0.0
@@ -44,9 +37,6 @@ starts_at ts ps skips text at (Fault start slice) is = is.0
 -- and each of its pieces the piece at its place
 pub piece_at_its_place : (ts : List Tree) (ps : List ℕ) (skips : List Bool) (text : List ℕ) (at i : ℕ) (xs : List Item) (x : Item)
     → ArePieces ts ps skips text at xs → slice_get xs i ≡ Some x → IsPiece ts ps skips text (start_of x) x
-piece_at_its_place ts ps skips text at i [] x are is = absurd (cc)
-piece_at_its_place ts ps skips text at zero (y ∷ xs) x are is =
-    let same : y ≡ x = cc in
-    let here : IsPiece ts ps skips text at x = subst (λ (z : Item). IsPiece ts ps skips text at z) same are.0 in
-    subst (λ (n : ℕ). IsPiece ts ps skips text n x) (sym (starts_at ts ps skips text at x here)) here
-piece_at_its_place ts ps skips text at (suc i) (y ∷ xs) x are is = piece_at_its_place ts ps skips text (at + length (slice_of y)) i xs x are.1 is
+piece_at_its_place ts ps skips text at i xs x are is =
+    let here = chain_at _ _ _ at i xs x are is in
+    subst (λ (n : ℕ). IsPiece ts ps skips text n x) (sym (starts_at ts ps skips text here.0 x here.1)) here.1

@@ -9,6 +9,7 @@ use Rattle.lalrpop_book.specs.Tree.{Tree}
 use Rattle.lalrpop_book.specs.Prefix.{IsPrefix}
 use Rattle.lalrpop_lexer.specs.Rules.{Rules}
 use Rattle.lalrpop_book.specs.Tokens.{AreTokens}
+use Rattle.lalrpop_book.proofs.LastFaults.{tokens_to_fault}
 use Rattle.lalrpop_rules.specs.Found.{MatchesAt}
 use Rattle.lalrpop_rules.specs.Pieces.{IsFault, IsPiece, ArePieces, AreApart, slice_of, joined, up_to_fault}
 use Rattle.lalrpop_rules.specs.CutToEnd.{CutToEnd, Memo, uncut, left_text, pieces_left, GivesPiece}
@@ -123,7 +124,8 @@ tokens_of ts ps skips text at (Token token ∷ xs) are = (are.0.0, tokens_of ts 
 tokens_of ts ps skips text at (Skipped token ∷ xs) are = (are.0.0, tokens_of ts ps skips text (at + length token.slice.now) xs are.1)
 tokens_of ts ps skips text at (Fault start slice ∷ xs) are =
     let fault = are.0.1 in
-    (rest_some slice.now (drop at text) fault.front fault.some, (λ p m. fault.nothing 0 (some_length slice.now fault.some) (p, m)), are.0.0, refl)
+    tokens_to_fault ts ps text at (record { at = start })
+    (rest_some slice.now (drop at text) fault.front fault.some, (λ p m. fault.nothing 0 (some_length slice.now fault.some) (p, m)), are.0.0)
 
 -- ---- from the start
 

@@ -1,8 +1,9 @@
 -- cases: proofs/Cases/Pieces.antt
 -- The pieces of a text that is cut to its end.
-use Rattle.std.specs.Prelude.{◌≡◌, ◌≢◌, ℕ, ◌+◌, ◌⊎◌, Bool, true, List, [], ◌∷◌, ◌++◌, length, drop, slice_get, Option, Some, None, Result, Ok, Err}
+use Rattle.std.specs.Prelude.{◌≡◌, ◌≢◌, ℕ, ◌⊎◌, Bool, true, List, [], ◌∷◌, ◌++◌, length, drop, slice_get, Option, Some, None, Result, Ok, Err}
 use Rattle.lalrpop_book.specs.Prefix.{IsPrefix}
 use Rattle.lalrpop_book.specs.Tree.{Tree}
+use Rattle.lalrpop_book.specs.Chain.{Chain, AtEnd}
 use Rattle.lalrpop_book.specs.Tokens.{IsToken}
 use Rattle.lalrpop_lexer.specs.SameTokens.{IsSameToken}
 use Rattle.lalrpop_book.specs.declared.token.Token.{Token as Cut}
@@ -41,10 +42,9 @@ IsPiece ts ps skips text at (Token token) = IsToken ts ps text at token × ¬ Is
 IsPiece ts ps skips text at (Skipped token) = IsToken ts ps text at token × IsSkipped skips token.index
 IsPiece ts ps skips text at (Fault start slice) = (start ≡ at) × IsFault ts (drop at text) slice.now
 
--- all pieces of the text from a place on, up to its end
+-- all pieces of the text from a place on, one after another up to its end
 abbrev pub ArePieces : List Tree → List ℕ → List Bool → List ℕ → ℕ → List Item → Type 0
-ArePieces ts ps skips text at [] = drop at text ≡ []
-ArePieces ts ps skips text at (x ∷ xs) = IsPiece ts ps skips text at x × ArePieces ts ps skips text (at + length (slice_of x)) xs
+ArePieces ts ps skips text = Chain (λ x. length (slice_of x)) (IsPiece ts ps skips text) (AtEnd text)
 
 -- the text of the pieces, one after another
 abbrev pub joined : List Item → List ℕ

@@ -1,5 +1,5 @@
 -- What the calls of `next` return for a text, as tokens and as lines.
-use Rattle.std.proofs.Common.{◌≡◌, ℕ, ◌+◌, ◌≤◌, true, inl, List, [], ◌∷◌, ◌++◌, length, map, refl, sym, ap, subst, ◌∙◌, append-nil, arith, length-append}
+use Rattle.std.proofs.Common.{◌≡◌, ℕ, ◌+◌, ◌≤◌, true, inl, List, [], ◌∷◌, ◌++◌, length, drop, map, refl, sym, ap, subst, ◌∙◌, append-nil, arith, length-append}
 use Rattle.std.specs.Prelude.{Option, Some, None, Result, Ok, Err, flat_map}
 use Rattle.std.specs.Iterator.{Yields, Drains}
 use Rattle.std.specs.Str.{chars, IsUtf8}
@@ -83,7 +83,7 @@ told ts ps text tokens a o v w same lines before cuts =
 items_of : (ts : List Tree) (ps text : List ℕ) (at : ℕ) (xs : List (Result Cut TokenFault)) → AreTokens ts ps text at xs → AreItems ts ps text at (map bare xs)
 items_of ts ps text at [] are = are
 items_of ts ps text at (Ok token ∷ xs) are = (are.0.1, items_of ts ps text (at + length token.slice.now) xs are.1)
-items_of ts ps text at (Err fault ∷ xs) are = (are.0, are.1, are.2, ap (map bare) are.3)
+items_of ts ps text at (Err fault ∷ xs) are = (are.0, items_of ts ps text (at + length (drop fault.at text)) xs are.1)
 
 -- a fault ends the tokens
 pub fault_ends : (s : Cutting) (d : List Row) (ts : List Tree) (ps text : List ℕ) (tokens : List Token) (xs : List (Result Cut TokenFault)) (x : Result Cut TokenFault) (fault : TokenFault) (n : ℕ)

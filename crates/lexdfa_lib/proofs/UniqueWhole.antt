@@ -32,14 +32,14 @@ match_at_end ts rest p e m = m.1 (no_part p m.0.0 (sym e ∙ m.0.1.0))
 -- where nothing matches there is no token
 end_or_token : (ts : List Tree) (ps text : List ℕ) (at : ℕ) (l : Token) (f : Option ℕ) → AreItems ts ps text at (end f) → IsLongest ts ps (drop at text) (Some (l.0, l.1.now)) → ⊥
 end_or_token ts ps text at l None h g = match_at_end ts (drop at text) l.1.now h g.0
-end_or_token ts ps text at l (Some a) h g = h.1 l.1.now g.0
+end_or_token ts ps text at l (Some a) h g = h.0.1 l.1.now g.0
 
 items-unique : (ts : List Tree) (ps text : List ℕ) (at : ℕ) (ks ls : List Token) (e f : Option ℕ)
     → AreItems ts ps text at (map Ok ks ++ end e) → AreItems ts ps text at (map Ok ls ++ end f) → Same ks ls e f
 items-unique ts ps text at [] [] None None h g = record { faults = refl; counts = refl; written = refl }
-items-unique ts ps text at [] [] None (Some b) h g = absurd (g.0 h)
-items-unique ts ps text at [] [] (Some a) None h g = absurd (h.0 g)
-items-unique ts ps text at [] [] (Some a) (Some b) h g = record { faults = ap Some (h.2 ∙ sym g.2); counts = refl; written = refl }
+items-unique ts ps text at [] [] None (Some b) h g = absurd (g.0.0 h)
+items-unique ts ps text at [] [] (Some a) None h g = absurd (h.0.0 g)
+items-unique ts ps text at [] [] (Some a) (Some b) h g = record { faults = ap Some (h.0.2 ∙ sym g.0.2); counts = refl; written = refl }
 items-unique ts ps text at [] (l ∷ ls) e f h g = absurd (end_or_token ts ps text at l e h g.0)
 items-unique ts ps text at (k ∷ ks) [] e f h g = absurd (end_or_token ts ps text at k f g h.0)
 items-unique ts ps text at (k ∷ ks) (l ∷ ls) e f h g =

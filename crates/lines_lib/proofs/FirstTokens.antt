@@ -82,7 +82,7 @@ begins file ts ps text at [] xs f a = (token_lines file text xs, refl)
 begins file ts ps text at (Err e ∷ ys) xs f a = (token_lines file text xs, refl)
 begins file ts ps text at (Ok y ∷ ys) [] f a = absurd (nothing_left ts ps (drop at text) y.slice.now y.index a f.1)
 begins file ts ps text at (Ok y ∷ ys) (Err e ∷ xs) f a =
-    absurd (some_is_not_none y.index y.slice.now (longest-unique ts ps (drop at text) _ _ f.1 a.1))
+    absurd (some_is_not_none y.index y.slice.now (longest-unique ts ps (drop at text) _ _ f.1 a.0.1))
 begins file ts ps text at (Ok y ∷ ys) (Ok x ∷ xs) f a =
     let same = same_token file ts ps text at x y f.0 a.0.0 f.1 a.0.1 in
     let others = begins file ts ps text (at + length y.slice.now) ys xs f.2 (subst (λ n. AreTokens ts ps text (at + n) xs) same.1 a.1) in (
@@ -96,14 +96,14 @@ pub lines-unique : (file : Option (List ℕ)) (ts : List Tree) (ps text : List �
     → AreTokens ts ps text at xs → AreTokens ts ps text at ys → (token_lines file text xs ≡ token_lines file text ys) × (outcome_behind n xs ≡ outcome_behind n ys)
 lines-unique file ts ps text at n [] [] a b = (refl, refl)
 lines-unique file ts ps text at n [] (Ok y ∷ ys) a b = absurd (nothing_left ts ps (drop at text) y.slice.now y.index a b.0.1)
-lines-unique file ts ps text at n [] (Err f ∷ ys) a b = absurd (b.0 a)
+lines-unique file ts ps text at n [] (Err f ∷ ys) a b = absurd (b.0.0 a)
 lines-unique file ts ps text at n (Ok x ∷ xs) [] a b = absurd (nothing_left ts ps (drop at text) x.slice.now x.index b a.0.1)
-lines-unique file ts ps text at n (Err f ∷ xs) [] a b = absurd (a.0 b)
+lines-unique file ts ps text at n (Err f ∷ xs) [] a b = absurd (a.0.0 b)
 lines-unique file ts ps text at n (Ok x ∷ xs) (Err f ∷ ys) a b =
-    absurd (some_is_not_none x.index x.slice.now (longest-unique ts ps (drop at text) _ _ a.0.1 b.1))
+    absurd (some_is_not_none x.index x.slice.now (longest-unique ts ps (drop at text) _ _ a.0.1 b.0.1))
 lines-unique file ts ps text at n (Err f ∷ xs) (Ok y ∷ ys) a b =
-    absurd (some_is_not_none y.index y.slice.now (longest-unique ts ps (drop at text) _ _ b.0.1 a.1))
-lines-unique file ts ps text at n (Err f ∷ xs) (Err e ∷ ys) a b = let same : f.at ≡ e.at = a.2 ∙ sym b.2 in (refl, rw same refl)
+    absurd (some_is_not_none y.index y.slice.now (longest-unique ts ps (drop at text) _ _ b.0.1 a.0.1))
+lines-unique file ts ps text at n (Err f ∷ xs) (Err e ∷ ys) a b = let same : f.at ≡ e.at = a.0.2 ∙ sym b.0.2 in (refl, rw same refl)
 lines-unique file ts ps text at n (Ok x ∷ xs) (Ok y ∷ ys) a b =
     let same = same_token file ts ps text at x y b.0.0 a.0.0 b.0.1 a.0.1 in
     let others = lines-unique file ts ps text (at + length y.slice.now) (n + 1) xs ys (subst (λ k. AreTokens ts ps text (at + k) xs) same.1 a.1) b.1 in

@@ -9,6 +9,7 @@ use Rattle.std.specs.Str.{IsUtf8, IsCharBoundary}
 use Rattle.lalrpop_book.specs.Tree.{Tree}
 use Rattle.lalrpop_book.specs.Longest.{IsLongest}
 use Rattle.lalrpop_book.specs.declared.token.Token.{Token as Cut}
+use Rattle.lalrpop_book.proofs.LastFaults.{end_behind}
 use Rattle.lalrpop_book.proofs.Longests.{longest-unique}
 use Rattle.lalrpop_rules.specs.CutToEnd.{CutToEnd, GivesPiece}
 use Rattle.lalrpop_rules.specs.Pieces.{IsFault, IsPiece, ArePieces, IsSkipped, slice_of}
@@ -168,7 +169,7 @@ fault_last : (ts : List Tree) (ps : List ℕ) (skips : List Bool) (text : List �
     → first_fault ys ≡ None → first_with None x ≡ Some n → AreUpToFault ts ps skips text at (ys ++ x ∷ [])
 fault_last ts ps skips text at n [] (Token x) f none e = absurd (no_fault_first n (sym e))
 fault_last ts ps skips text at n [] (Skipped x) f none e = absurd (no_fault_first n (sym e))
-fault_last ts ps skips text at n [] (Fault start slice) f none e = (f.0, refl)
+fault_last ts ps skips text at n [] (Fault start slice) f none e = (f.0, end_behind text at start f.0.0)
 fault_last ts ps skips text at n (Token y ∷ ys) x f none e = (f.0, fault_last ts ps skips text (at + length y.slice.now) n ys x f.1 none e)
 fault_last ts ps skips text at n (Skipped y ∷ ys) x f none e = (f.0, fault_last ts ps skips text (at + length y.slice.now) n ys x f.1 none e)
 fault_last ts ps skips text at n (Fault start slice ∷ ys) x f none e = absurd (no_fault_first start none)

@@ -5,6 +5,7 @@ use Rattle.std.specs.Io.KnownBytes.{Appends}
 use Rattle.json.specs.Token as json
 use Rattle.json.specs.Print.{print}
 use Rattle.lalrpop_book.specs.Tree.{Tree}
+use Rattle.lalrpop_book.specs.Chain.{Chain, AtEnd}
 use Rattle.lalrpop_lexer.specs.Position.{position_of}
 use Rattle.lalrpop_lexer.specs.declared.position.Position.{Position}
 use Rattle.lalrpop_rules.specs.Pieces.{IsPiece, ArePieces, slice_of}
@@ -90,11 +91,14 @@ item_line layout names text item = piece_line layout.form layout.recovers (optio
 
 -- ---- the lines of a text
 
+-- how far a piece of the text reaches if the first fault ends all: over all that is left, so that nothing follows it
+abbrev pub size_to_fault : List ℕ → Item → ℕ
+size_to_fault text (Fault start slice) = length (drop start text)
+size_to_fault text x = length (slice_of x)
+
 -- the pieces of the text from a place on: to its end, or up to the first fault, which is then the last piece
 abbrev pub AreUpToFault : List Tree → List ℕ → List Bool → List ℕ → ℕ → List Item → Type 0
-AreUpToFault ts ps skips text at [] = drop at text ≡ []
-AreUpToFault ts ps skips text at (Fault start slice ∷ xs) = IsPiece ts ps skips text at (Fault start slice) × (xs ≡ [])
-AreUpToFault ts ps skips text at (x ∷ xs) = IsPiece ts ps skips text at x × AreUpToFault ts ps skips text (at + length (slice_of x)) xs
+AreUpToFault ts ps skips text = Chain (size_to_fault text) (IsPiece ts ps skips text) (AtEnd text)
 
 -- the pieces that are cut: all of them if cutting goes on after a fault
 abbrev pub AreCut : Bool → RuleSet → List ℕ → List Item → Type 0

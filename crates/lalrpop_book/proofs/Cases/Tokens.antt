@@ -6,9 +6,10 @@ use Rattle.std.specs.Str.{chars}
 use Rattle.lalrpop_book.specs.Tree.{Tree, literal}
 use Rattle.lalrpop_book.specs.Winners.{TreeMatches, IsStrongest, IsOnlyStrongest}
 use Rattle.lalrpop_book.specs.Longest.{IsLongest, IsMatch}
-use Rattle.lalrpop_book.specs.Tokens.{Item, AreItems, slices, IsToken, AreTokens, bare}
+use Rattle.lalrpop_book.specs.Tokens.{Item, item_size, IsFaultAt, IsItem, AreItems, slices, bare, IsToken, IsTokenOrFault, AreTokens}
 use Rattle.lalrpop_book.specs.declared.token.Token.{Token}
 use Rattle.lalrpop_book.specs.declared.token.TokenFault.{TokenFault}
+use Rattle.lalrpop_book.proofs.LastFaults.{no_items_behind, no_tokens_behind}
 
 -- ---- items: a token of tree 0, and a fault
 
@@ -17,6 +18,32 @@ item slice = Ok (0, slice)
 
 abbrev fault : ℕ → Item
 fault at = Err (record { at = at })
+
+token_takes_its_slice : (text : List ℕ) (slice : Bor (List ℕ)) → item_size text (item slice) ≡ length slice.now
+token_takes_its_slice text slice = refl
+
+-- of `abc` from `b` on
+fault_takes_all_that_is_left : item_size (codes "abc") (fault 1) ≡ 2
+fault_takes_all_that_is_left = refl
+
+fault_takes_one_byte : item_size (codes "abc") (fault 1) ≢ 1
+fault_takes_one_byte e = let n : 2 ≡ 1 = e in omega (arith, n)
+
+fault_at_b : (ts : List Tree) (ps : List ℕ) → IsLongest ts ps (codes "b") None → IsFaultAt ts ps (codes "ab") 1 (record { at = 1 })
+fault_at_b ts ps none = ((λ e. absurd (cc)), none, refl)
+
+fault_at_the_end : (ts : List Tree) (ps : List ℕ) (fault : TokenFault) → ¬ IsFaultAt ts ps (codes "ab") 2 fault
+fault_at_the_end ts ps fault is = is.0 refl
+
+fault_told_elsewhere : (ts : List Tree) (ps text : List ℕ) → ¬ IsFaultAt ts ps text 1 (record { at = 0 })
+fault_told_elsewhere ts ps text is = let n : 0 ≡ 1 = is.2 in omega (arith, n)
+
+longest_match_is_an_item : (ts : List Tree) (ps : List ℕ) (a : Bor (List ℕ)) → IsLongest ts ps (codes "ab") (Some (0, a.now)) → IsItem ts ps (codes "ab") 0 (item a)
+longest_match_is_an_item ts ps a longest = longest
+
+-- a fault isn't an item where something matches
+fault_in_place_of_a_match : (ts : List Tree) (ps text p : List ℕ) (at : ℕ) → IsMatch ts (drop at text) p → ¬ IsItem ts ps text at (fault at)
+fault_in_place_of_a_match ts ps text p at m is = is.1 p m
 
 no_items_of_the_empty_text : (ts : List Tree) (ps : List ℕ) → AreItems ts ps [] 0 []
 no_items_of_the_empty_text ts ps = refl
@@ -27,20 +54,20 @@ text_left_over_by_items ts ps h = let e = h in absurd (cc)
 -- `a` matches, and nothing matches at `b`
 token_and_fault : (ts : List Tree) (ps : List ℕ) (a : Bor (List ℕ)) → a.now ≡ codes "a" → IsLongest ts ps (codes "ab") (Some (0, a.now))
     → IsLongest ts ps (codes "b") None → AreItems ts ps (codes "ab") 0 (item a ∷ fault 1 ∷ [])
-token_and_fault ts ps a one longest none = (longest, subst (λ p. AreItems ts ps (codes "ab") (0 + length p) (fault 1 ∷ [])) (sym one) ((λ e. absurd (cc)), none, refl, refl))
+token_and_fault ts ps a one longest none = (longest, subst (λ p. AreItems ts ps (codes "ab") (0 + length p) (fault 1 ∷ [])) (sym one) (((λ e. absurd (cc)), none, refl), refl))
 
 -- a fault gives its place in bytes: after the two bytes of é it isn't 1
 fault_counted_in_characters : (ts : List Tree) (ps text : List ℕ) (é : Bor (List ℕ)) → é.now ≡ 195 ∷ 169 ∷ []
     → ¬ AreItems ts ps text 0 (item é ∷ fault 1 ∷ [])
 fault_counted_in_characters ts ps text é two are =
-    let at : 1 ≡ 0 + length é.now = are.1.2 in
+    let at : 1 ≡ 0 + length é.now = are.1.0.2 in
     omega (arith, at, ap length two)
 
 fault_of_the_empty_text : (ts : List Tree) (ps : List ℕ) (xs : List Item) → ¬ AreItems ts ps [] 0 (fault 0 ∷ xs)
-fault_of_the_empty_text ts ps xs are = are.0 refl
+fault_of_the_empty_text ts ps xs are = are.0.0 refl
 
 fault_told_twice : (ts : List Tree) (ps text : List ℕ) → ¬ AreItems ts ps text 0 (fault 0 ∷ fault 0 ∷ [])
-fault_told_twice ts ps text are = let e = are.3 in absurd (cc)
+fault_told_twice ts ps text are = let e = no_items_behind ts ps text 0 _ (fault 0 ∷ []) are in absurd (cc)
 
 -- a character that nothing matches isn't skipped
 character_skipped : (ts : List Tree) (ps : List ℕ) (b : Bor (List ℕ)) (xs : List Item) → b.now ≡ codes "b"
@@ -117,6 +144,15 @@ one_of_two_strongest : (ts : List Tree) (ps text : List ℕ) (at other : ℕ) (t
     → IsOnlyStrongest ts ps (chars token.slice.now) other → ¬ IsToken ts ps text at token
 one_of_two_strongest ts ps text at other token differs only is = differs (is.2.1 other only.0)
 
+-- ---- a token or a fault
+
+token_or_fault : (ts : List Tree) (ps text : List ℕ) (at : ℕ) (token : Token) → IsToken ts ps text at token → IsTokenOrFault ts ps text at (Ok token)
+token_or_fault ts ps text at token is = is
+
+fault_before_a_token : (ts : List Tree) (ps text : List ℕ) (at : ℕ) (token : Token) (fault : TokenFault) → IsToken ts ps text at token
+    → ¬ IsTokenOrFault ts ps text at (Err fault)
+fault_before_a_token ts ps text at token fault is or = or.1 token.slice.now is.1.0
+
 -- ---- all tokens
 
 no_tokens_of_the_empty_text : (ts : List Tree) (ps : List ℕ) → AreTokens ts ps [] 0 []
@@ -142,7 +178,7 @@ second_begins_at_0 ts ps text a b one again are =
     omega (arith, start, again, ap length one)
 
 token_behind_a_fault : (ts : List Tree) (ps text : List ℕ) (fault : TokenFault) (token : Token) → ¬ AreTokens ts ps text 0 (Err fault ∷ Ok token ∷ [])
-token_behind_a_fault ts ps text fault token are = let e = are.3 in absurd (cc)
+token_behind_a_fault ts ps text fault token are = let e = no_tokens_behind ts ps text 0 fault (Ok token ∷ []) are in absurd (cc)
 
 -- ---- items without places
 

@@ -1,14 +1,20 @@
 -- Cases of specs/ItemLines.antt.
-use Rattle.std.proofs.Common.{◌≡◌, ℕ, List, [], ◌∷◌, Option, Some, None, codes, refl, false}
+use Rattle.std.proofs.Common.{◌≡◌, ℕ, Bool, List, [], ◌∷◌, Option, Some, None, length, codes, refl, false}
+use Rattle.std.specs.Borrow.{Bor}
 use Rattle.std.specs.Fmt.{digits}
 use Rattle.std.specs.Str.{chars}
 use Rattle.unicode.specs.Binary.{is_default_ignorable_code_point}
 use Rattle.unicode.specs.Rows.{in_ranges}
 use Rattle.ucd_derived.specs.DefaultIgnorableCodePointRanges.{default_ignorable_code_point_ranges}
 use Rattle.json.specs.Print.{print_from, escape_byte}
+use Rattle.lalrpop_book.specs.Tree.{Tree}
+use Rattle.lalrpop_book.specs.declared.token.Token.{Token as Cut}
+use Rattle.lalrpop_book.proofs.LastFaults.{end_behind}
 use Rattle.lalrpop_lexer.specs.declared.position.Position.{Position}
 use Rattle.lalrpop_rules.specs.declared.item.Item.{Item}
-use Rattle.tokens_lib.specs.ItemLines.{plain_line, json_line, name_at, fault_line, first_fault}
+use Rattle.lalrpop_rules.specs.declared.item.Item.TheVariants.{Token, Fault}
+use Rattle.tokens_lib.specs.ItemLines.{plain_line, json_line, name_at, fault_line, size_to_fault, AreUpToFault, first_fault}
+use Rattle.tokens_lib.proofs.PieceLines.{piece_left}
 use Rattle.tokens_lib.specs.declared.layout.LineForm.{LineForm}
 
 abbrev second : Position
@@ -47,6 +53,20 @@ names = (refl, refl)
 -- without recovering, a fault has no line
 fault_without_a_line : (form : LineForm) (file : Option (List ℕ)) (text slice : List ℕ) (start : ℕ) → fault_line false form file text start slice ≡ []
 fault_without_a_line form file text slice start = refl
+
+-- of `abc` from `b` on
+fault_takes_all_that_is_left : (slice : Bor (List ℕ)) → size_to_fault (codes "abc") (Fault 1 slice) ≡ 2
+fault_takes_all_that_is_left slice = refl
+
+token_takes_its_slice : (text : List ℕ) (token : Cut) → size_to_fault text (Token token) ≡ length token.slice.now
+token_takes_its_slice text token = refl
+
+nothing_is_cut_of_the_empty_text : (ts : List Tree) (ps : List ℕ) (skips : List Bool) → AreUpToFault ts ps skips [] 0 []
+nothing_is_cut_of_the_empty_text ts ps skips = refl
+
+piece_behind_a_fault : (ts : List Tree) (ps : List ℕ) (skips : List Bool) (text : List ℕ) (slice : Bor (List ℕ)) (x : Item)
+    → ¬ AreUpToFault ts ps skips text 0 (Fault 0 slice ∷ x ∷ [])
+piece_behind_a_fault ts ps skips text slice x are = piece_left ts ps skips text _ x are.1.0 (end_behind text 0 0 refl)
 
 -- the first fault of some pieces
 first_faults : (x : Item) → first_fault (x ∷ []) ≡ first_fault (x ∷ [])

@@ -14,7 +14,7 @@ returns-in-Ok-clause-tokens c =
     let token : Token = record { index = found.0; slice = found.1; start = c.args.at } in (
       token ∷ [],
       c.in-Ok.ensures.items,
-      λ ts ps s. (refl, subst (λ (rest : List ℕ). IsLongest ts ps rest (Some (found.0, found.1.now))) c.range_from.ensures.value (c.in-Some.ensures.answer ts ps s), refl),
+      λ ts ps s. ((refl, subst (λ (rest : List ℕ). IsLongest ts ps rest (Some (found.0, found.1.now))) c.range_from.ensures.value (c.in-Some.ensures.answer ts ps s)), refl),
     )
 
 pub returns-in-Ok-clause-goes : goal.returns-in-Ok-clause-goes
