@@ -1,5 +1,5 @@
 -- Cases of specs/ItemLines.antt.
-use Rattle.std.proofs.Common.{◌≡◌, ℕ, Bool, List, [], ◌∷◌, Option, Some, None, length, codes, refl, false}
+use Rattle.std.proofs.Common.{◌≡◌, ℕ, zero, suc, Bool, List, [], ◌∷◌, Option, Some, None, length, codes, refl, true, false, arith}
 use Rattle.std.specs.Borrow.{Bor}
 use Rattle.std.specs.Fmt.{digits}
 use Rattle.std.specs.Str.{chars}
@@ -13,9 +13,11 @@ use Rattle.lalrpop_book.proofs.LastFaults.{end_behind}
 use Rattle.lalrpop_lexer.specs.declared.position.Position.{Position}
 use Rattle.lalrpop_rules.specs.declared.item.Item.{Item}
 use Rattle.lalrpop_rules.specs.declared.item.Item.TheVariants.{Token, Fault}
-use Rattle.tokens_lib.specs.ItemLines.{plain_line, json_line, name_at, fault_line, size_to_fault, AreUpToFault, first_fault}
-use Rattle.tokens_lib.proofs.PieceLines.{piece_left}
+use Rattle.lalrpop_rules.specs.RuleSet.{RuleSet}
+use Rattle.tokens_lib.specs.ItemLines.{plain_line, json_line, name_at, fault_line, size_to_fault, AreUpToFault, first_fault, WritesItemsPrefix}
 use Rattle.tokens_lib.specs.declared.layout.LineForm.{LineForm}
+use Rattle.tokens_lib.specs.declared.layout.LineForm.TheVariants.{Plain}
+use Rattle.tokens_lib.proofs.PieceLines.{piece_left}
 
 abbrev second : Position
 second = record { line = 1; column = 2 }
@@ -71,3 +73,14 @@ piece_behind_a_fault ts ps skips text slice x are = piece_left ts ps skips text 
 -- the first fault of some pieces
 first_faults : (x : Item) → first_fault (x ∷ []) ≡ first_fault (x ∷ [])
 first_faults x = refl
+
+-- ---- a prefix
+
+-- a failed writer took nothing of the lines of an empty text, and no byte more
+nothing_of_it : (rules : RuleSet) → WritesItemsPrefix rules (record { form = Plain; recovers = true; file = None }) [] (Some []) (Some [])
+nothing_of_it rules = ([], (refl, (0, omega arith, refl)))
+
+no_byte_of_it : (rules : RuleSet) → ¬ WritesItemsPrefix rules (record { form = Plain; recovers = true; file = None }) [] (Some []) (Some (codes "x"))
+no_byte_of_it rules ([], (are, (zero, le, e))) = absurd (cc)
+no_byte_of_it rules ([], (are, (suc n, le, e))) = absurd (omega (arith, le))
+no_byte_of_it rules (x ∷ xs, (are, part)) = piece_left _ _ _ [] 0 x are.0 refl

@@ -15,7 +15,7 @@ returns-in_err-write_whole-clause-prefix g c =
     let i = c.cutting.invariant.1 in
     let first = firsts_from_start c.args.lexer.now c.args.text.now _ _ _ c.cutting.invariant.0 refl c.in-Ok.ensures.start c.cutting.invariant.1.given in
     at_any_error _ c.from_residual.result
-    (sent_in_part c.args.lexer.now c.args.layout.now c.args.text.now c.cutting.invariant.0 i.written.0 _ _ _ _ _ first (λ e. sym i.first ∙ i.none e) i.written.1.1 i.written.1.0
+    (sent_in_part c.args.lexer.now c.args.layout.now c.args.text.now c.cutting.invariant.0 i.written.0 _ _ _ _ _ c.items_linear.ensures.no_clash c.utf8.text first (λ e. sym i.first ∙ i.none e) i.written.1.1 i.written.1.0
     c.deref.ensures.value c.in_err-write_whole.ensures.prefix)
 
 pub returns-then-ends-clause-written : goal.returns-then-ends-clause-written
@@ -57,7 +57,7 @@ pub returns-then-is_err-clause-prefix : goal.returns-then-is_err-clause-prefix
 returns-then-is_err-clause-prefix g c =
     let i = c.cutting.invariant.1 in
     let first = firsts_from_start c.args.lexer.now c.args.text.now _ _ _ c.cutting.invariant.0 refl c.in-Ok.ensures.start c.cutting.invariant.1.given in
-    sent_so_far c.args.lexer.now c.args.layout.now c.args.text.now c.cutting.invariant.0 i.written.0 _ _ _ first (λ e. sym i.first ∙ i.none e) i.written.1.1 i.written.1.0
+    sent_so_far c.args.lexer.now c.args.layout.now c.args.text.now c.cutting.invariant.0 i.written.0 _ _ _ c.items_linear.ensures.no_clash c.utf8.text first (λ e. sym i.first ∙ i.none e) i.written.1.1 i.written.1.0
 
 pub cutting-preserved : goal.cutting-preserved
 cutting-preserved g c =
@@ -95,7 +95,7 @@ returns-in_err-pass_on-clause-prefix g c =
     let kept = kept_all c.args.layout.now c.args.lexer.now.names c.args.text.now _ c.cutting.invariant.0 c.in-Some.item i.written.0 _ _ i.written.1.1 i.text line in
     let is = first_is _ _ c.cutting.invariant.0 c.in-Some.item i.first c.first_fault_with-first_fault.ensures in
     at_any_error _ c.from_residual-in_err-pass_on.result
-    (sent_in_part c.args.lexer.now c.args.layout.now c.args.text.now _ i.written.0 _ _ _ _ _ first (λ e. sym is ∙ c.ends.ensures.no c.if-ends.false e) kept i.written.1.0 refl
+    (sent_in_part c.args.lexer.now c.args.layout.now c.args.text.now _ i.written.0 _ _ _ _ _ c.items_linear.ensures.no_clash c.utf8.text first (λ e. sym is ∙ c.ends.ensures.no c.if-ends.false e) kept i.written.1.0 refl
     c.in_err-pass_on.ensures.prefix)
 
 pub returns-in_err-write_whole-2-clause-prefix : goal.returns-in_err-write_whole-2-clause-prefix
@@ -103,7 +103,7 @@ returns-in_err-write_whole-2-clause-prefix g c =
     let i = c.cutting.invariant.1 in
     let first = firsts_from_start c.args.lexer.now c.args.text.now _ _ _ c.cutting.invariant.0 refl c.in-Ok.ensures.start c.cutting.invariant.1.given in
     at_any_error _ c.from_residual-in_err-write_whole-2.result
-    (sent_in_part c.args.lexer.now c.args.layout.now c.args.text.now c.cutting.invariant.0 i.written.0 _ _ _ _ _ first (λ e. sym i.first ∙ i.none e) i.written.1.1 i.written.1.0
+    (sent_in_part c.args.lexer.now c.args.layout.now c.args.text.now c.cutting.invariant.0 i.written.0 _ _ _ _ _ c.items_linear.ensures.no_clash c.utf8.text first (λ e. sym i.first ∙ i.none e) i.written.1.1 i.written.1.0
     c.deref-2.ensures.value c.in_err-write_whole-2.ensures.prefix)
 
 pub returns-clause-written : goal.returns-clause-written
