@@ -12,9 +12,9 @@ ghost use Rattle.lexdfa_lib.specs.Watch.{AppendsPrefix};
 ghost use Rattle.tokens_lib.specs.ItemLines.{name_at};
 ghost use Rattle.tokens_lib.specs.RuleClashes.{AreRuleClashes, IsRuleFault, named_line};
 
-use lalrpop_lexer::{Form, ShownWord};
 use lalrpop_lexer::lexer::dfa::{Clash, DfaConstructionError, Precedence, clashes};
 use lalrpop_lexer::lexer::re::{Regex, RegexError, parse_literal, parse_regex};
+use lalrpop_lexer::{Form, ShownWord};
 use lalrpop_rules::{Rule, RulesError};
 use lexdfa_lib::{RunError, Watched, write_whole};
 use std::alloc::{AllocError, Global};

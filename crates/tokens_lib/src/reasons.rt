@@ -2,9 +2,9 @@
 ghost use Rattle.std.specs.Prelude.{◌≡◌, ◌++◌, ℕ, List, string_bytes, IfOk, OnOk};
 ghost use Rattle.tokens_lib.specs.Program.{placed};
 
+use lalrpop_lexer::is_unseen;
 use lalrpop_lexer::lexer::nfa::NfaConstructionError;
 use lalrpop_lexer::lexer::re::SyntaxKind;
-use lalrpop_lexer::is_unseen;
 use std::alloc::{AllocError, Global};
 
 /// Why a pattern doesn't parse.
