@@ -15,6 +15,7 @@ pub mod TerminalLaws
 -- the characters of a quoted form
 mod Unseen
 pub mod Quotes
+pub mod QuotedRuns
 -- texts and their trees
 pub mod SpelledTexts
 -- what the definitions mean: the clash, the list of clashes and the longest match are unique

@@ -5,6 +5,7 @@ use Rattle.std.specs.Char.{digit_value, encode_utf8}
 use Rattle.std.specs.Fmt.{digits}
 use Rattle.std.specs.Str.{chars, encode_utf8_all, IsUtf8, NoCharPasses}
 use Rattle.std.specs.Str.Parse.{AllDigits, IsNumeral, digits_value}
+use Rattle.std.proofs.lemmas.Bool.{ne_eqb}
 use Rattle.std.proofs.lemmas.Bool.Decides.{eqb_tells, nat_tests}
 use Rattle.std.proofs.lemmas.Fmt.{digits_is_IsNumeral}
 use Rattle.std.proofs.lemmas.List.{append-nil}
@@ -40,6 +41,15 @@ Tells c x = ((nat_eq c x ≡ true) × (c ≡ x)) ⊎ ((nat_eq c x ≡ false) × 
 unescaped : (c : ℕ) → nat_eq c 34 ≡ false → nat_eq c 92 ≡ false → nat_eq c 10 ≡ false → nat_eq c 13 ≡ false → nat_eq c 9 ≡ false → nat_eq c 0 ≡ false
     → told c ≡ (if is_unseen c then numbered c else encode_utf8 c)
 unescaped c quote backslash lf cr tab null = rw (quote, backslash, lf, cr, tab, null) refl
+
+-- a character that is seen, and is neither a quote nor a backslash, is written as it is
+pub told_plain : (c : ℕ) → c ≢ 34 → c ≢ 92 → is_unseen c ≡ false → told c ≡ encode_utf8 c
+told_plain c quote backslash seen =
+    unescaped c (ne_eqb c 34 quote) (ne_eqb c 92 backslash) (differs 10 refl) (differs 13 refl) (differs 9 refl) (differs 0 refl)
+    ∙ ap (λ (t : Bool). if t then numbered c else encode_utf8 c) seen
+  where
+    differs : (x : ℕ) → is_unseen x ≡ true → nat_eq c x ≡ false
+    differs x unseen = ne_eqb c x (λ e. let no : true ≡ false = sym unseen ∙ ap is_unseen (sym e) ∙ seen in cc)
 
 short : (x letter : ℕ) → told x ≡ 92 ∷ letter ∷ [] → escaped_by letter ≡ x → 32 ≤ letter → letter < 117 → IsForm x (told x)
 short x letter text back low high = inl (letter, (text, (back, (low, high))))

@@ -38,6 +38,6 @@ pub use linear_matches::LinearMatches;
 pub use longest::longest_match;
 pub use neighbours::Neighbours;
 pub use position::{Position, Positions};
-pub use quote::{ShownWord, is_unseen, push_escaped_char, quoted};
+pub use quote::{ShownWord, is_unseen, push_escaped_char, push_quoted, quoted};
 pub use terminals::{Terminals, read_terminals};
 pub use token_list::TokenList;

@@ -1,5 +1,5 @@
 //! A slice or a word in quotes.
-ghost use Rattle.std.specs.Prelude.{◌≡◌, ◌++◌, Some, option_map, string_bytes, IfOk, OnOk};
+ghost use Rattle.std.specs.Prelude.{◌≡◌, ◌++◌, true, Some, encode_utf8, option_map, string_bytes, IfOk, OnOk};
 ghost use Rattle.std.specs.Fmt.{WritesOnOk};
 ghost use Rattle.lalrpop_lexer.specs.Quoted.{is_unseen, short_escape, told, quoted, value_told, quoted_word};
 
@@ -47,7 +47,49 @@ pub fn push_escaped_char(text: &mut String, c: char) -> Result<(), AllocError>
     text.push(c)
 }
 
-/// The slice in double quotes. Quotes, backslashes and characters that aren't seen are escaped with a backslash.
+// Whether the character is written as it is.
+fn is_plain(c: char) -> bool
+    ensures plain { result ≡ true → told c ≡ encode_utf8 c }
+{
+    c != '"' && c != '\\' && !is_unseen(c)
+}
+
+// Appends the character, escaped if it has to be.
+fn push_told(alloc: Global, bytes: &mut Vec<u8>, c: char) -> Result<(), AllocError>
+    ensures { OnOk result (bytes.new.items ≡ bytes.old.items ++ told c) }
+{
+    if let Some(escape) = short_escape(c) {
+        return bytes.extend_from_slice(escape.as_bytes());
+    }
+    let mut text = String::new(alloc);
+    push_escaped_char(&mut text, c)?;
+    bytes.extend_from_slice(text.as_bytes())
+}
+
+/// Appends the slice in double quotes. Quotes, backslashes and characters that aren't seen are escaped with a backslash.
+///
+/// # Errors
+///
+/// `AllocError` if a request for memory was refused.
+pub fn push_quoted(alloc: Global, bytes: &mut Vec<u8>, slice: &str) -> Result<(), AllocError>
+    ensures quoted { OnOk result (bytes.new.items ≡ bytes.old.items ++ quoted slice.now) }
+{
+    bytes.push(b'"')?;
+    // Where the characters begin that are not yet appended: all are written as they are.
+    let mut from = 0usize;
+    for (at, c) in slice.char_indices() {
+        if !is_plain(c) {
+            bytes.extend_from_slice(&slice.as_bytes()[from..at])?;
+            push_told(alloc, bytes, c)?;
+            from = at + c.len_utf8();
+        }
+    }
+    bytes.extend_from_slice(&slice.as_bytes()[from..])?;
+    bytes.push(b'"')?;
+    Ok(())
+}
+
+/// The slice in double quotes, as `push_quoted` appends it.
 ///
 /// # Errors
 ///
