@@ -1,17 +1,18 @@
 //! The lines of the pieces of a text, written as they come.
-ghost use Rattle.std.specs.Prelude.{◌≡◌, ◌≢◌, ◌+◌, ◌≤◌, ◌++◌, ℕ, List, length, false, true, option_map, string_bytes, None, IfOk, IfSome, IsSome, OnOk, OnErr, IfErr};
+ghost use Rattle.std.specs.Prelude.{◌≡◌, ◌≢◌, ◌+◌, ◌≤◌, ◌++◌, ℕ, List, length, false, true, option_map, None, IfOk, IfSome, IsSome, OnOk, OnErr, IfErr};
 ghost use Rattle.std.specs.Io.KnownBytes.{Appends};
 ghost use Rattle.std.specs.Str.{IsCharBoundary};
 ghost use Rattle.lalrpop_rules.specs.Pieces.{slice_of, start_of};
 ghost use Rattle.lexdfa_lib.specs.Watch.{AppendsPrefix};
-ghost use Rattle.tokens_lib.specs.ItemLines.{plain_line, line_in, item_line, name_at, WritesItems, WritesItemsPrefix};
+ghost use Rattle.tokens_lib.specs.ItemLines.{line_in, item_line, name_at, WritesItems, WritesItemsPrefix};
 ghost use Rattle.tokens_lib.specs.Internal.Faults.{first_with};
 
 use crate::json_line::push_json;
 use crate::layout::{Layout, LineForm};
+use crate::plain_line::push_plain;
 use crate::shown::Shown;
 use lalrpop_lexer::lexer::dfa::NfaIndex;
-use lalrpop_lexer::{Position, Positions, quoted};
+use lalrpop_lexer::{Position, Positions};
 use lalrpop_rules::{Item, RuleLexer};
 use lexdfa_lib::{RunError, Watched, write_whole};
 use std::alloc::{AllocError, Global};
@@ -19,27 +20,6 @@ use std::io::Write;
 
 // Lines are written once they have this many bytes.
 const CHUNK: usize = 65536;
-
-fn plain_line_of(
-    alloc: Global,
-    file: Option<&str>,
-    position: Position,
-    shown: &Shown<'_, '_>,
-) -> Result<String, AllocError>
-    ensures { IfOk result (λ line. string_bytes line ≡ plain_line (option_map (λ f. f.now) file.entry)
-        position (option_map (λ n. n.now) shown.now.name) shown.now.slice.now) }
-{
-    let mut text = String::new(alloc);
-    if let Some(file) = file {
-        write!(text, "{file}:")?;
-    }
-    let line = position.line;
-    let column = position.column;
-    let name = shown.name.unwrap_or("!");
-    let slice = quoted(alloc, shown.slice)?;
-    write!(text, "{line}:{column} {name} {slice}\n")?;
-    Ok(text)
-}
 
 fn push_line(
     alloc: Global,
@@ -54,10 +34,7 @@ fn push_line(
         (option_map (λ n. n.now) shown.now.name) shown.now.slice.now) }
 {
     match layout.form {
-        LineForm::Plain => {
-            let line = plain_line_of(alloc, layout.file, position, shown)?;
-            lines.extend_from_slice(line.as_bytes())
-        }
+        LineForm::Plain => push_plain(alloc, lines, layout.file, position, shown),
         LineForm::Json => push_json(alloc, lines, layout.file, position, shown),
     }
 }

@@ -13,6 +13,7 @@ mod json_line;
 mod layout;
 mod named_clashes;
 mod page;
+mod plain_line;
 mod program;
 mod reasons;
 mod rule_explain;

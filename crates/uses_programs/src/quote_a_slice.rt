@@ -1,8 +1,8 @@
 //! Slices and words in quotes, and what follows from the laws for callers, which the proofs here cite.
-ghost use Rattle.std.specs.Prelude.{◌≡◌, ◌↔◌, ◌++◌, IsTrue, false, true, IfOk, IfSome, codes, string_bytes};
+ghost use Rattle.std.specs.Prelude.{◌≡◌, ◌↔◌, ◌++◌, IsTrue, false, true, IfOk, OnOk, IfSome, codes, string_bytes};
 ghost use Rattle.lalrpop_lexer.specs.Quoted.{is_unseen, quoted, told};
 
-use lalrpop_lexer::{ShownWord, is_unseen, push_escaped_char, quoted};
+use lalrpop_lexer::{ShownWord, is_unseen, push_escaped_char, push_quoted, quoted};
 use std::alloc::{AllocError, Global};
 
 // Needs lalrpop_lexer::quoted: quoted.
@@ -100,4 +100,18 @@ pub fn first_unseen(slice: &str) -> Option<char>
         }
     }
     None
+}
+
+// Needs lalrpop_lexer::push_quoted: quoted.
+/// The slice in quotes, behind a comma.
+///
+/// # Errors
+///
+/// `AllocError` if a request for memory was refused.
+pub fn push_field(alloc: Global, bytes: &mut Vec<u8>, slice: &str) -> Result<(), AllocError>
+    ensures field { OnOk result (bytes.new.items
+        ≡ bytes.old.items ++ (codes "," ++ quoted slice.now)) }
+{
+    bytes.push(b',')?;
+    push_quoted(alloc, bytes, slice)
 }
