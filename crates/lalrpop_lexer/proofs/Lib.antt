@@ -24,6 +24,7 @@ pub use Rattle.lalrpop_build.proofs.ClashListLaws
 pub use Rattle.lalrpop_book.proofs.Longests
 -- what follows from the clauses, for callers
 pub use Rattle.lalrpop_nfa.proofs.PartitionLaws
+pub use Rattle.lalrpop_book.proofs.Chains
 pub use Rattle.lalrpop_book.proofs.Strongest
 pub use Rattle.lalrpop_build.proofs.Agreeing
 pub use Rattle.lalrpop_build.proofs.AfterLaws

@@ -1,5 +1,4 @@
-use Rattle.std.proofs.Common.{take_all, ℕ, List, ◌∷◌, flat_map, ◌≡◌, ◌+◌, ◌-◌, ◌≤◌, [], ◌++◌, length, take, drop, rules, refl, sym, ap, ◌∙◌, arith, append_assoc}
-use Rattle.std.specs.Char.{encode_utf8}
+use Rattle.std.proofs.Common.{take_all, ℕ, List, ◌∷◌, flat_map, ◌≡◌, ◌+◌, ◌-◌, [], ◌++◌, length, take, drop, sym, ap, ◌∙◌, arith, append_assoc}
 use Rattle.std.specs.Str.{chars}
 use Rattle.std.specs.Str.Iter.{char_indices_rest, char_indices_offset}
 use Rattle.std.proofs.lemmas.List.{append-nil, drop-take}
