@@ -1,5 +1,5 @@
 //! What one line says.
-ghost use Rattle.std.specs.Prelude.{◌≡◌, ◌≢◌, ◌∷◌, ◌++◌, ℕ, List, Option, None as Nothing, Bool, false, codes, IfOk, IfErr, IfSome, IfNone, ◌<◌, length};
+ghost use Rattle.std.specs.Prelude.{◌≡◌, ◌≢◌, ◌∷◌, ◌++◌, ℕ, List, Option, None, Bool, false, codes, IfOk, IfErr, IfSome, IfNone, ◌<◌, length};
 ghost use Rattle.lalrpop_lexer.specs.Line.{IsPrecedence};
 ghost use Rattle.lalrpop_rules.specs.RuleLine.{Start, Named, Equals, Reads, IsRule, IsSpan, EachByte, begins, begins_name as can_begin_name, is_blank, is_of_name, delimiter, precedence_or as precedence_or_else};
 ghost use Rattle.lalrpop_rules.specs.RuleFault.{StopsBefore};
@@ -37,7 +37,7 @@ fn begins_name(text: &str) -> bool
 // The name at the front of a line, and what follows it after blanks.
 fn name_and_rest(line: &str) -> Result<(&str, &str), Stop<'_>>
     ensures named { IfOk result (λ m. Reads Start line.now (Named m.0.now false) m.1.now) }
-    ensures stands { IfOk result (λ m. begins is_blank m.1.now ≡ false) }
+    ensures no_blank { IfOk result (λ m. begins is_blank m.1.now ≡ false) }
     ensures stops { IfErr result (λ stop. StopsBefore Start line.now stop.rest.now stop.fault) }
 {
     let (_, here) = split_front(line, Class::Blank);
@@ -103,7 +103,7 @@ fn behind_equals(rest: &str) -> Result<&str, Stop<'_>>
 
 // The name, whether it is marked `skip`, and what is right of the `=`.
 fn left_part(line: &str) -> Result<(&str, bool, &str), Stop<'_>>
-    ensures left { IfOk result (λ m. Reads Start line.now (Equals m.0.now m.1 Nothing) m.2.now) }
+    ensures left { IfOk result (λ m. Reads Start line.now (Equals m.0.now m.1 None) m.2.now) }
     ensures stops { IfErr result (λ stop. StopsBefore Start line.now stop.rest.now stop.fault) }
 {
     let (name, rest) = name_and_rest(line)?;
@@ -136,9 +136,9 @@ fn precedence_of(digits: &str) -> Option<usize>
 fn numbered(text: &str) -> Result<(Option<usize>, &str), Stop<'_>>
     requires { begins is_blank text.now ≡ false }
     ensures numbered { IfOk result (λ m. (name : List ℕ) (skipped : Bool)
-        → Reads (Equals name skipped Nothing) text.now (Equals name skipped m.0) m.1.now) }
-    ensures stands { IfOk result (λ m. IsBeforeText m.0 m.1.now) }
-    ensures stops { IfErr result (λ stop. StopsText Nothing text.now stop.rest.now stop.fault) }
+        → Reads (Equals name skipped None) text.now (Equals name skipped m.0) m.1.now) }
+    ensures before_text { IfOk result (λ m. IsBeforeText m.0 m.1.now) }
+    ensures stops { IfErr result (λ stop. StopsText None text.now stop.rest.now stop.fault) }
 {
     let (digits, behind) = split_front(text, Class::Digit);
     if digits.is_empty() {
@@ -211,8 +211,8 @@ fn quoted(rest: &str) -> Result<(Form, &str), Stop<'_>>
 // The precedence, the form and the text right of the `=`.
 fn right_part(right: &str) -> Result<(Option<usize>, Form, &str), Stop<'_>>
     ensures right { IfOk result (λ m.
-        ReadsText Nothing right.now (precedence_or_else m.1 m.0) m.1 m.2.now) }
-    ensures stops { IfErr result (λ stop. StopsText Nothing right.now stop.rest.now stop.fault) }
+        ReadsText None right.now (precedence_or_else m.1 m.0) m.1 m.2.now) }
+    ensures stops { IfErr result (λ stop. StopsText None right.now stop.rest.now stop.fault) }
 {
     let (_, here) = split_front(right, Class::Blank);
     let (written, rest) = numbered(here)?;

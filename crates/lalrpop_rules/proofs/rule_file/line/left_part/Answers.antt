@@ -17,7 +17,7 @@ pub returns-in_err-right-in-None-clause-stops : goal.returns-in_err-right-in-Non
 returns-in_err-right-in-None-clause-stops c =
     let stop = c.in_err-right-in-None in
     handed_on (λ (s : Stop). StopsBefore Start c.args.line.now s.rest.now s.fault) c.from_residual-in_err-right-in-None.result stop.field-0.0 c.from_residual-in_err-right-in-None.ensures.1
-    (no_equals _ _ _ false _ _ c.in_ok-name.ensures.named c.in_ok-name.ensures.stands (λ e. c.in-None.ensures.none) stop.ensures.none stop.ensures.stops)
+    (no_equals _ _ _ false _ _ c.in_ok-name.ensures.named c.in_ok-name.ensures.no_blank (λ e. c.in-None.ensures.none) stop.ensures.none stop.ensures.stops)
 
 pub returns-in_ok-right-in-Some-clause-left : goal.returns-in_ok-right-in-Some-clause-left
 returns-in_ok-right-in-Some-clause-left c =

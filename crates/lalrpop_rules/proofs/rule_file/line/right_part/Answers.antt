@@ -16,7 +16,7 @@ pub returns-in_err-form-clause-stops : goal.returns-in_err-form-clause-stops
 returns-in_err-form-clause-stops c =
     handed_on (λ (s : Stop). StopsText None c.args.right.now s.rest.now s.fault) c.from_residual-in_err-form.result c.in_err-form.field-0.0 c.from_residual-in_err-form.ensures.1
     (λ name skipped. stops_behind (joined (span_read (Equals name skipped None) _ _ _ c.split_front.ensures.span) (c.in_ok-written.ensures.numbered name skipped))
-    (c.in_err-form.ensures.stops c.in_ok-written.written c.in_ok-written.ensures.stands name skipped))
+    (c.in_err-form.ensures.stops c.in_ok-written.written c.in_ok-written.ensures.before_text name skipped))
 
 pub returns-clause-right : goal.returns-clause-right
 returns-clause-right c name skipped =
