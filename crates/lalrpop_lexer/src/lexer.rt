@@ -228,6 +228,7 @@ impl Lexer {
             → Yields GivesToken s xs t
             → t.steps ≤ most_steps self.now.automaton text.now found))) }
         ensures refused { OnErr result (IsLookahead (Matched self.now.trees) None) }
+        ensures no_clash { NoClash self.now.trees self.now.precedences }
     {
         if self.lookahead.is_some() {
             return Ok(self.tokens(text));
@@ -257,6 +258,7 @@ impl Lexer {
             IsBuiltFrom self.now.trees self.now.precedences s.automaton) }
         ensures spare { IfOk result (λ s. s.spare ≤ length (chars text.now) + length text.now
             + open_states self.now.automaton * (length text.now + 64)) }
+        ensures no_clash { NoClash self.now.trees self.now.precedences }
     {
         LinearMatches::new(alloc, &self.dense, text)
     }

@@ -88,6 +88,7 @@ fn take_or_find<'text>(
 impl<'text> Items<'text> {
     ghost use Rattle.std.specs.Prelude.{◌<◌, ◌≤◌, ◌+◌, ◌*◌, None, length, IfOk, IsSomeAnd, OnSome};
     ghost use Rattle.std.specs.Str.{chars};
+    ghost use Rattle.lalrpop_book.specs.Clash.{NoClash};
     ghost use Rattle.lalrpop_lexer.specs.Matching.{open_states};
     ghost use Rattle.lalrpop_rules.specs.CutToEnd.{uncut, left_text, pieces_left, GivesPiece};
 
@@ -118,6 +119,7 @@ impl<'text> Items<'text> {
             (m.unsought ≡ length (chars text.now))
             × (m.spare ≤ length (chars text.now) + length text.now
             + open_states lexer.now.automaton * (length text.now + 64)))) }
+        ensures no_clash { NoClash lexer.now.trees lexer.now.precedences }
     {
         let matches = lexer.matches_linear(alloc, text)?;
         Ok(Items {

@@ -220,6 +220,7 @@ impl RuleLexer {
         ensures cost { IfOk result (λ s. (xs : List ItemValue) (t : CutToEnd)
             → Yields GivesPiece s xs t → t.steps ≤ 66 * length (chars text.now)
             + length text.now + open_states self.now.automaton * (length text.now + 64)) }
+        ensures no_clash { NoClash self.now.trees self.now.precedences }
     {
         Items::with_memo(alloc, self.lexer(), self.skips(), text)
     }

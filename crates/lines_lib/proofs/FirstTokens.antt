@@ -16,7 +16,7 @@ use Rattle.lalrpop_lexer.specs.Longest.{IsLongest}
 use Rattle.lalrpop_book.specs.declared.token.Token.{Token}
 use Rattle.lalrpop_book.specs.declared.token.TokenFault.{TokenFault}
 use Rattle.lines_lib.specs.Quoted.{quoted}
-use Rattle.lines_lib.specs.TokenLines.{place_text, token_line, token_lines, outcome_behind, text_lines}
+use Rattle.lines_lib.specs.TokenLines.{place_text, token_line, token_lines}
 
 -- two equal matches have the same number and the same slice
 pub same_parts : (i j : ℕ) (p q : List ℕ) → ◌≡◌ {A = Option (ℕ × List ℕ)} (Some (i, p)) (Some (j, q)) → (i ≡ j) × (p ≡ q)
@@ -90,28 +90,6 @@ begins file ts ps text at (Ok y ∷ ys) (Ok x ∷ xs) f a =
       ap (λ l. l ++ token_lines file text xs) same.0 ∙ ap (λ l. token_line file text y ++ l) others.1
           ∙ sym (append_assoc (token_line file text y) (token_lines file text ys) others.0),
     )
-
--- the list of all lines is unique
-pub lines-unique : (file : Option (List ℕ)) (ts : List Tree) (ps text : List ℕ) (at n : ℕ) (xs ys : List (Result Token TokenFault))
-    → AreTokens ts ps text at xs → AreTokens ts ps text at ys → (token_lines file text xs ≡ token_lines file text ys) × (outcome_behind n xs ≡ outcome_behind n ys)
-lines-unique file ts ps text at n [] [] a b = (refl, refl)
-lines-unique file ts ps text at n [] (Ok y ∷ ys) a b = absurd (nothing_left ts ps (drop at text) y.slice.now y.index a b.0.1)
-lines-unique file ts ps text at n [] (Err f ∷ ys) a b = absurd (b.0 a)
-lines-unique file ts ps text at n (Ok x ∷ xs) [] a b = absurd (nothing_left ts ps (drop at text) x.slice.now x.index b a.0.1)
-lines-unique file ts ps text at n (Err f ∷ xs) [] a b = absurd (a.0 b)
-lines-unique file ts ps text at n (Ok x ∷ xs) (Err f ∷ ys) a b =
-    absurd (some_is_not_none x.index x.slice.now (longest-unique ts ps (drop at text) _ _ a.0.1 b.1))
-lines-unique file ts ps text at n (Err f ∷ xs) (Ok y ∷ ys) a b =
-    absurd (some_is_not_none y.index y.slice.now (longest-unique ts ps (drop at text) _ _ b.0.1 a.1))
-lines-unique file ts ps text at n (Err f ∷ xs) (Err e ∷ ys) a b = let same : f.at ≡ e.at = a.2 ∙ sym b.2 in (refl, rw same refl)
-lines-unique file ts ps text at n (Ok x ∷ xs) (Ok y ∷ ys) a b =
-    let same = same_token file ts ps text at x y b.0.0 a.0.0 b.0.1 a.0.1 in
-    let others = lines-unique file ts ps text (at + length y.slice.now) (n + 1) xs ys (subst (λ k. AreTokens ts ps text (at + k) xs) same.1 a.1) b.1 in
-    (ap (λ l. l ++ token_lines file text xs) same.0 ∙ ap (λ l. token_line file text y ++ l) others.0, others.1)
-
-pub all-unique : (file : Option (List ℕ)) (ts : List Tree) (ps text : List ℕ) (xs ys : List (Result Token TokenFault))
-    → AreTokens ts ps text 0 xs → AreTokens ts ps text 0 ys → text_lines file text xs ≡ text_lines file text ys
-all-unique file ts ps text xs ys a b = let same = lines-unique file ts ps text 0 0 xs ys a b in rw (same.0, same.1) refl
 
 -- ---- places
 

@@ -8,9 +8,11 @@ use Rattle.std.specs.Prelude.{Option, Some, None, Result, Ok, Err, IfOk, OnOk, I
 use Rattle.std.specs.Io.KnownBytes.{Appends}
 use Rattle.std.specs.Iterator.{Yields, Drains}
 use Rattle.std.specs.Str.{chars, IsUtf8, IsCharBoundary}
+use Rattle.lalrpop_book.specs.Clash.{NoClash}
 use Rattle.lalrpop_book.specs.Tree.{Tree}
 use Rattle.lalrpop_lexer.specs.Cutting.{Cutting, start_of}
 use Rattle.lalrpop_lexer.specs.LexerTokens.{CutsToken}
+use Rattle.lalrpop_lexer.proofs.UniqueTokens.{tokens-exist}
 use Rattle.lalrpop_book.specs.Tokens.{AreTokens}
 use Rattle.lalrpop_book.specs.declared.token.Token.{Token}
 use Rattle.lalrpop_book.specs.declared.token.TokenFault.{TokenFault}
@@ -22,8 +24,12 @@ use Rattle.lexdfa_lib.specs.declared.outcome.Outcome.{Outcome}
 use Rattle.lexdfa_lib.specs.declared.outcome.Outcome.TheVariants.{Stopped}
 use Rattle.lines_lib.specs.TokenLines.{token_line, token_lines, outcome_behind, last_line, text_lines, WritesTokens, WritesTokensPrefix, IsStopOf}
 use Rattle.lalrpop_lexer.specs.Rules.{IsBuiltFrom}
-use Rattle.lines_lib.proofs.FirstTokens.{AreFirst, firsts_from_start, begins, all-unique, rest_begins}
+use Rattle.lines_lib.proofs.FirstTokens.{AreFirst, firsts_from_start, begins, rest_begins}
 use Rattle.lines_lib.proofs.TextLines.{AreLinesOf, one_more}
+
+pub Appends-none : (a : Option (List ℕ)) → Appends a a []
+Appends-none None = tt
+Appends-none (Some x) = sym (append-nil x)
 
 -- some bytes, and then a prefix of others, whatever follows
 pub AppendsPrefix-behind : (a b c : Option (List ℕ)) (xs ys more : List ℕ) → Appends a b xs → AppendsPrefix b c ys → AppendsPrefix a c (xs ++ (ys ++ more))
@@ -48,19 +54,28 @@ begin_so file ts ps text ys xs lines count first are all =
     let same : token_lines file text ys ≡ lines = ap (token_lines file text) (sym (append-nil ys)) ∙ are.on [] ∙ append-nil lines in
     (front.0 ++ last, ap (λ (l : List ℕ). l ++ last) (front.1 ∙ ap (λ (l : List ℕ). l ++ front.0) same) ∙ append_assoc lines front.0 last)
 
+-- nothing was sent
+pub sent_nothing : (file : Option (List ℕ)) (ts : List Tree) (ps text : List ℕ) (a : Option (List ℕ)) → NoClash ts ps → WritesTokensPrefix ts ps file text a a
+sent_nothing file ts ps text a clear =
+    let all = tokens-exist ts ps text 0 clear in
+    (all.0, (all.1, AppendsPrefix-front a a [] (text_lines file text all.0) (Appends-none a)))
+
 -- some lines were sent, and the others are kept
 pub sent_so_far : (file : Option (List ℕ)) (ts : List Tree) (ps text : List ℕ) (ys : List (Result Token TokenFault)) (sent kept : List ℕ) (count : ℕ) (a b : Option (List ℕ))
-    → AreFirst ts ps text 0 ys → AreLinesOf file text ys (sent ++ kept) count → Appends a b sent → WritesTokensPrefix ts ps file text a b
-sent_so_far file ts ps text ys sent kept count a b first are h xs all =
-    let lines = begin_so file ts ps text ys xs (sent ++ kept) count first are all in
-    subst (AppendsPrefix a b) (sym (lines.1 ∙ append_assoc sent kept lines.0)) (AppendsPrefix-front a b sent (kept ++ lines.0) h)
+    → NoClash ts ps → AreFirst ts ps text 0 ys → AreLinesOf file text ys (sent ++ kept) count → Appends a b sent → WritesTokensPrefix ts ps file text a b
+sent_so_far file ts ps text ys sent kept count a b clear first are h =
+    let all = tokens-exist ts ps text 0 clear in
+    let lines = begin_so file ts ps text ys all.0 (sent ++ kept) count first are all.1 in
+    (all.0, (all.1, subst (AppendsPrefix a b) (sym (lines.1 ∙ append_assoc sent kept lines.0)) (AppendsPrefix-front a b sent (kept ++ lines.0) h)))
 
 -- a prefix of those that were kept was sent too
 pub sent_in_part : (file : Option (List ℕ)) (ts : List Tree) (ps text : List ℕ) (ys : List (Result Token TokenFault)) (sent kept : List ℕ) (count : ℕ) (a b c : Option (List ℕ))
-    → AreFirst ts ps text 0 ys → AreLinesOf file text ys (sent ++ kept) count → Appends a b sent → AppendsPrefix b c kept → WritesTokensPrefix ts ps file text a c
-sent_in_part file ts ps text ys sent kept count a b c first are h k xs all =
-    let lines = begin_so file ts ps text ys xs (sent ++ kept) count first are all in
-    subst (AppendsPrefix a c) (sym (lines.1 ∙ append_assoc sent kept lines.0)) (AppendsPrefix-behind a b c sent kept lines.0 h k)
+    → NoClash ts ps → AreFirst ts ps text 0 ys → AreLinesOf file text ys (sent ++ kept) count → Appends a b sent → AppendsPrefix b c kept
+    → WritesTokensPrefix ts ps file text a c
+sent_in_part file ts ps text ys sent kept count a b c clear first are h k =
+    let all = tokens-exist ts ps text 0 clear in
+    let lines = begin_so file ts ps text ys all.0 (sent ++ kept) count first are all.1 in
+    (all.0, (all.1, subst (AppendsPrefix a c) (sym (lines.1 ∙ append_assoc sent kept lines.0)) (AppendsPrefix-behind a b c sent kept lines.0 h k)))
 
 -- all lines were sent
 pub sent_all : (a b c : Option (List ℕ)) (sent kept last lines : List ℕ) → (sent ++ kept) ++ last ≡ lines → Appends a b sent → Appends b c (kept ++ last) → Appends a c lines
@@ -71,18 +86,18 @@ sent_all a b c sent kept last lines e h k =
 pub sent_last : (file : Option (List ℕ)) (ts : List Tree) (ps text : List ℕ) (xs : List (Result Token TokenFault)) (sent kept last : List ℕ) (a b c : Option (List ℕ))
     → AreTokens ts ps text 0 xs → (sent ++ kept) ++ last ≡ text_lines file text xs → Appends a b sent → AppendsPrefix b c (kept ++ last)
     → WritesTokensPrefix ts ps file text a c
-sent_last file ts ps text xs sent kept last a b c are e h k ys all =
-    let bytes : sent ++ ((kept ++ last) ++ []) ≡ text_lines file text ys =
-    ap (λ (l : List ℕ). sent ++ l) (append-nil (kept ++ last)) ∙ sym (append_assoc sent kept last) ∙ e ∙ all-unique file ts ps text xs ys are all in
-    subst (AppendsPrefix a c) bytes (AppendsPrefix-behind a b c sent (kept ++ last) [] h k)
+sent_last file ts ps text xs sent kept last a b c are e h k =
+    let bytes : sent ++ ((kept ++ last) ++ []) ≡ text_lines file text xs =
+    ap (λ (l : List ℕ). sent ++ l) (append-nil (kept ++ last)) ∙ sym (append_assoc sent kept last) ∙ e in
+    (xs, (are, subst (AppendsPrefix a c) bytes (AppendsPrefix-behind a b c sent (kept ++ last) [] h k)))
 
 -- nothing of them was sent
 pub sent_before : (file : Option (List ℕ)) (ts : List Tree) (ps text : List ℕ) (xs : List (Result Token TokenFault)) (sent kept last : List ℕ) (a b c : Option (List ℕ))
     → AreTokens ts ps text 0 xs → (sent ++ kept) ++ last ≡ text_lines file text xs → Appends a b sent → c ≡ b
     → WritesTokensPrefix ts ps file text a c
-sent_before file ts ps text xs sent kept last a b c are e h same ys all =
-    let bytes : sent ++ (kept ++ last) ≡ text_lines file text ys = sym (append_assoc sent kept last) ∙ e ∙ all-unique file ts ps text xs ys are all in
-    subst (AppendsPrefix a c) bytes (AppendsPrefix-front a c sent (kept ++ last) (subst (λ (x : Option (List ℕ)). Appends a x sent) (sym same) h))
+sent_before file ts ps text xs sent kept last a b c are e h same =
+    let bytes : sent ++ (kept ++ last) ≡ text_lines file text xs = sym (append_assoc sent kept last) ∙ e in
+    (xs, (are, subst (AppendsPrefix a c) bytes (AppendsPrefix-front a c sent (kept ++ last) (subst (λ (x : Option (List ℕ)). Appends a x sent) (sym same) h))))
 
 -- at an error of the last write a prefix was written, and at any other nothing
 pub at_the_last : {T : Type 0} (contents : T → Option (List ℕ)) (r : Result Outcome RunError) (old new : Watch T)

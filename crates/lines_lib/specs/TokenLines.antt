@@ -55,10 +55,10 @@ abbrev pub WritesTokens : List Tree → List ℕ → Option (List ℕ) → List 
 WritesTokens ts ps file text held held_now outcome =
     (xs : List (Result Token TokenFault)) × (AreTokens ts ps text 0 xs × ((outcome ≡ outcome_behind 0 xs) × Appends held held_now (text_lines file text xs)))
 
--- a writer took a prefix of the lines of the text's tokens, which are unique
+-- a writer took a prefix of the lines of the text's tokens
 abbrev pub WritesTokensPrefix : List Tree → List ℕ → Option (List ℕ) → List ℕ → Option (List ℕ) → Option (List ℕ) → Type 0
 WritesTokensPrefix ts ps file text held held_now =
-    (xs : List (Result Token TokenFault)) → AreTokens ts ps text 0 xs → AppendsPrefix held held_now (text_lines file text xs)
+    (xs : List (Result Token TokenFault)) × (AreTokens ts ps text 0 xs × AppendsPrefix held held_now (text_lines file text xs))
 
 -- a fault is where a character of the text begins
 abbrev pub IsStopOf : List ℕ → Outcome → Type 0

@@ -1,6 +1,6 @@
 -- One answer after another.
 use Rattle.std.proofs.Common.{◌≡◌, ◌≢◌, ℕ, ◌+◌, ◌<◌, get_or, Bool, true, false, inl, inr, List, [], ◌∷◌, ◌++◌, length, take, map, refl, sym, ap, subst, ◌∙◌, append_assoc, arith, length-append}
-use Rattle.std.specs.Prelude.{max, Option, Some, None, Result, Ok, Err, IfOk, IfErr, OnOk, OnErr}
+use Rattle.std.specs.Prelude.{max, Option, Result, Ok, Err, IfOk, IfErr, OnOk, OnErr}
 use Rattle.std.specs.Io.KnownBytes.{Appends}
 use Rattle.std.proofs.lemmas.List.{append-nil, take-append-le, take_more, map-append}
 use Rattle.std.proofs.lemmas.Result.{IfOk-weaker}
@@ -9,7 +9,7 @@ use Rattle.lexdfa_lib.specs.Watch.{Watch, AppendsPrefix}
 use Rattle.lexdfa_lib.specs.declared.error.RunError.{RunError}
 use Rattle.tokens_lib.specs.Answer.{Answer, silence, followed, refusal, about, Reads, TextOf, FilesAnswer, TextsAnswer, Answered, Refused}
 use Rattle.tokens_lib.specs.Streams.{Given, TakesBy, Takes}
-use Rattle.lines_lib.proofs.Sending.{AppendsPrefix-behind}
+use Rattle.lines_lib.proofs.Sending.{Appends-none, AppendsPrefix-behind}
 
 -- ---- answers
 
@@ -43,10 +43,6 @@ TextsAnswer-files Gives InputGives IsFor [] answer some is = absurd (some refl)
 TextsAnswer-files Gives InputGives IsFor (file ∷ files) answer some is = is
 
 -- ---- streams
-
-pub Appends-none : (a : Option (List ℕ)) → Appends a a []
-Appends-none None = tt
-Appends-none (Some x) = sym (append-nil x)
 
 AppendsPrefix-then : (a b c : Option (List ℕ)) (xs ys : List ℕ) → AppendsPrefix a b xs → Appends b c [] → AppendsPrefix a c (xs ++ ys)
 AppendsPrefix-then a b c xs ys (n, le, h) k = (

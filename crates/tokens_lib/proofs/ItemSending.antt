@@ -7,6 +7,7 @@ use Rattle.std.specs.Prelude.{Option, Some, None, IfSome, IsSome}
 use Rattle.std.specs.Io.KnownBytes.{Appends}
 use Rattle.std.specs.Iterator.{Yields, Drains}
 use Rattle.std.specs.Str.{IsUtf8, IsCharBoundary}
+use Rattle.lalrpop_book.specs.Clash.{NoClash}
 use Rattle.lalrpop_rules.specs.CutToEnd.{CutToEnd, uncut, GivesPiece}
 use Rattle.lalrpop_rules.specs.Pieces.{slice_of, start_of}
 use Rattle.lalrpop_rules.specs.RuleSet.{RuleSet, recognized}
@@ -18,8 +19,8 @@ use Rattle.lexdfa_lib.specs.Watch.{AppendsPrefix}
 use Rattle.tokens_lib.specs.ItemLines.{item_line, item_lines, first_fault, AreCut, WritesItemsPrefix}
 use Rattle.tokens_lib.specs.Internal.Faults.{first_with}
 use Rattle.tokens_lib.specs.declared.layout.Layout.{Layout}
-use Rattle.tokens_lib.proofs.PieceLines.{AreFirst, firsts_of, rest_begins, begin_so, cut_to_fault, no_line, first_more, lines_more}
-use Rattle.lines_lib.proofs.Sending.{AppendsPrefix-behind, AppendsPrefix-front}
+use Rattle.tokens_lib.proofs.PieceLines.{AreFirst, firsts_of, rest_begins, begin_so, cut_to_fault, cut-exists, no_line, first_more, lines_more}
+use Rattle.lines_lib.proofs.Sending.{Appends-none, AppendsPrefix-behind, AppendsPrefix-front}
 
 -- ---- from the start
 
@@ -72,21 +73,31 @@ first_is old new ys x is e = e ∙ ap (λ (o : Option ℕ). first_with o x) is �
 
 -- ---- what was written
 
+pub sent_nothing : (rules : RuleSet) (layout : Layout) (text : List ℕ) (a : Option (List ℕ)) → NoClash rules.trees rules.precedences → IsUtf8 text
+    → WritesItemsPrefix rules layout text a a
+sent_nothing rules layout text a clear u =
+    let cut = cut-exists layout.recovers rules text clear u in
+    (cut.0, (cut.1, AppendsPrefix-front a a [] (item_lines layout rules.names text cut.0) (Appends-none a)))
+
 pub sent_so_far : (rules : RuleSet) (layout : Layout) (text : List ℕ) (ys : List Item) (sent kept : List ℕ) (a b : Option (List ℕ))
+    → NoClash rules.trees rules.precedences → IsUtf8 text
     → AreFirst rules.trees rules.precedences rules.skips text 0 ys → (layout.recovers ≡ false → first_fault ys ≡ None)
     → sent ++ kept ≡ item_lines layout rules.names text ys → Appends a b sent → WritesItemsPrefix rules layout text a b
-sent_so_far rules layout text ys sent kept a b f none are h xs cut =
-    let all = begin_so rules layout text ys f none xs cut in
-    let lines : item_lines layout rules.names text xs ≡ sent ++ (kept ++ all.0) = all.1 ∙ ap (λ (l : List ℕ). l ++ all.0) (sym are) ∙ append_assoc sent kept all.0 in
-    subst (AppendsPrefix a b) (sym lines) (AppendsPrefix-front a b sent (kept ++ all.0) h)
+sent_so_far rules layout text ys sent kept a b clear u f none are h =
+    let cut = cut-exists layout.recovers rules text clear u in
+    let all = begin_so rules layout text ys f none cut.0 cut.1 in
+    let lines : item_lines layout rules.names text cut.0 ≡ sent ++ (kept ++ all.0) = all.1 ∙ ap (λ (l : List ℕ). l ++ all.0) (sym are) ∙ append_assoc sent kept all.0 in
+    (cut.0, (cut.1, subst (AppendsPrefix a b) (sym lines) (AppendsPrefix-front a b sent (kept ++ all.0) h)))
 
 pub sent_in_part : (rules : RuleSet) (layout : Layout) (text : List ℕ) (ys : List Item) (sent kept bytes : List ℕ) (a b c : Option (List ℕ))
+    → NoClash rules.trees rules.precedences → IsUtf8 text
     → AreFirst rules.trees rules.precedences rules.skips text 0 ys → (layout.recovers ≡ false → first_fault ys ≡ None)
     → sent ++ kept ≡ item_lines layout rules.names text ys → Appends a b sent → bytes ≡ kept → AppendsPrefix b c bytes → WritesItemsPrefix rules layout text a c
-sent_in_part rules layout text ys sent kept bytes a b c f none are h same k xs cut =
-    let all = begin_so rules layout text ys f none xs cut in
-    let lines : item_lines layout rules.names text xs ≡ sent ++ (kept ++ all.0) = all.1 ∙ ap (λ (l : List ℕ). l ++ all.0) (sym are) ∙ append_assoc sent kept all.0 in
-    subst (AppendsPrefix a c) (sym lines) (AppendsPrefix-behind a b c sent kept all.0 h (subst (AppendsPrefix b c) same k))
+sent_in_part rules layout text ys sent kept bytes a b c clear u f none are h same k =
+    let cut = cut-exists layout.recovers rules text clear u in
+    let all = begin_so rules layout text ys f none cut.0 cut.1 in
+    let lines : item_lines layout rules.names text cut.0 ≡ sent ++ (kept ++ all.0) = all.1 ∙ ap (λ (l : List ℕ). l ++ all.0) (sym are) ∙ append_assoc sent kept all.0 in
+    (cut.0, (cut.1, subst (AppendsPrefix a c) (sym lines) (AppendsPrefix-behind a b c sent kept all.0 h (subst (AppendsPrefix b c) same k))))
 
 pub sent_whole : (sent kept bytes lines : List ℕ) (a b c : Option (List ℕ)) → sent ++ kept ≡ lines → Appends a b sent → bytes ≡ kept → Appends b c bytes → Appends a c lines
 sent_whole sent kept bytes lines a b c are h same k =

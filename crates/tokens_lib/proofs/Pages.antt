@@ -1,70 +1,24 @@
--- The page of a text is unique, and so is its first fault.
-use Rattle.std.proofs.Common.{◌≡◌, ℕ, ◌+◌, List, [], ◌∷◌, ◌++◌, Bool, length, drop, flat_map, codes, chars, refl, sym, ap, subst, ◌∙◌}
-use Rattle.std.specs.Prelude.{Option, Some, None, Result, Ok, Err, IfErr, unwrap_or, slice_get}
+-- A prefix of the page of a text; and its first fault, which is unique.
+use Rattle.std.proofs.Common.{◌≡◌, ℕ, ◌+◌, List, [], ◌∷◌, ◌++◌, Bool, length, drop, refl, sym, ap, subst, ◌∙◌}
+use Rattle.std.specs.Prelude.{Option, Some, None, Result, Ok, Err, IfErr}
 use Rattle.std.specs.Borrow.{Bor}
 use Rattle.lalrpop_book.specs.Tree.{Tree}
-use Rattle.lalrpop_markup.specs.Markup.{escaped, span, mark, marked}
-use Rattle.lalrpop_markup.specs.Terminal.{visible, coloured, by_name, painted}
-use Rattle.lalrpop_rules.specs.Pieces.{ArePieces, IsSame, AreSame, slice_of}
+use Rattle.lalrpop_rules.specs.Pieces.{ArePieces, slice_of}
 use Rattle.lalrpop_rules.specs.RuleSet.{RuleSet}
 use Rattle.lalrpop_rules.specs.declared.item.Item.{Item}
 use Rattle.lalrpop_rules.specs.declared.item.Item.TheVariants.{Token, Skipped, Fault}
-use Rattle.lalrpop_rules.proofs.UniquePieces.{pieces-unique}
 use Rattle.lexdfa_lib.specs.Watch.{AppendsPrefix}
 use Rattle.tokens_lib.specs.ItemLines.{first_fault}
 use Rattle.tokens_lib.specs.PageWritten.{page_of, WritesPagePrefix}
 use Rattle.tokens_lib.specs.declared.command.Markup.{Markup}
-use Rattle.tokens_lib.specs.declared.command.Markup.TheVariants.{Html, Ansi}
 use Rattle.tokens_lib.specs.Internal.Faults.{first_with}
 use Rattle.tokens_lib.proofs.PieceLines.{AreFirst, same_match, no_fault_here, piece_left, first_more}
 
--- ---- the page
-
--- equal pieces look the same
-same_mark : (names : List (List ℕ)) (x y : Item) → IsSame x y → marked names x ≡ marked names y
-same_mark names (Token a) (Token b) same =
-    ap (λ (i : ℕ). span (unwrap_or (slice_get names i) []) a.slice.now) same.0
-    ∙ ap (λ (s : List ℕ). span (unwrap_or (slice_get names b.index) []) s) same.2
-same_mark names (Token a) (Skipped b) same = absurd same
-same_mark names (Token a) (Fault start slice) same = absurd same
-same_mark names (Skipped a) (Token b) same = absurd same
-same_mark names (Skipped a) (Skipped b) same = ap escaped same.2
-same_mark names (Skipped a) (Fault start slice) same = absurd same
-same_mark names (Fault start slice) (Token b) same = absurd same
-same_mark names (Fault start slice) (Skipped b) same = absurd same
-same_mark names (Fault start slice) (Fault start2 slice2) same = ap mark same.1
-
-same_paint : (names : List (List ℕ)) (x y : Item) → IsSame x y → painted names x ≡ painted names y
-same_paint names (Token a) (Token b) same =
-    ap (λ (i : ℕ). by_name names (slice_get names i) a.slice.now) same.0
-    ∙ ap (λ (s : List ℕ). by_name names (slice_get names b.index) s) same.2
-same_paint names (Token a) (Skipped b) same = absurd same
-same_paint names (Token a) (Fault start slice) same = absurd same
-same_paint names (Skipped a) (Token b) same = absurd same
-same_paint names (Skipped a) (Skipped b) same = ap (λ (s : List ℕ). flat_map visible (chars s)) same.2
-same_paint names (Skipped a) (Fault start slice) same = absurd same
-same_paint names (Fault start slice) (Token b) same = absurd same
-same_paint names (Fault start slice) (Skipped b) same = absurd same
-same_paint names (Fault start slice) (Fault start2 slice2) same = ap (λ (s : List ℕ). coloured (codes "41") s) same.1
-
-same_all : (f : Item → List ℕ) → ((x y : Item) → IsSame x y → f x ≡ f y) → (xs ys : List Item) → AreSame xs ys → flat_map f xs ≡ flat_map f ys
-same_all f each [] [] same = refl
-same_all f each [] (y ∷ ys) same = absurd same
-same_all f each (x ∷ xs) [] same = absurd same
-same_all f each (x ∷ xs) (y ∷ ys) same =
-    ap (λ (l : List ℕ). l ++ flat_map f xs) (each x y same.0) ∙ ap (λ (l : List ℕ). f y ++ l) (same_all f each xs ys same.1)
-
-same_page : (markup : Markup) (names : List (List ℕ)) (xs ys : List Item) → AreSame xs ys → page_of markup names xs ≡ page_of markup names ys
-same_page Html names xs ys same = same_all (marked names) (same_mark names) xs ys same
-same_page Ansi names xs ys same = same_all (painted names) (same_paint names) xs ys same
-
--- a prefix of one page of the text is a prefix of each
-pub prefix_of_each : (rules : RuleSet) (markup : Markup) (text : List ℕ) (xs : List Item) (page bytes : List ℕ) (a b : Option (List ℕ))
+-- a prefix of the page
+pub prefix_of_page : (rules : RuleSet) (markup : Markup) (text : List ℕ) (xs : List Item) (page bytes : List ℕ) (a b : Option (List ℕ))
     → ArePieces rules.trees rules.precedences rules.skips text 0 xs → page ≡ page_of markup rules.names xs → bytes ≡ page → AppendsPrefix a b bytes
     → WritesPagePrefix rules markup text a b
-prefix_of_each rules markup text xs page bytes a b are is same h ys too =
-    let one = pieces-unique rules.trees rules.precedences rules.skips text 0 xs ys are too in
-    subst (AppendsPrefix a b) (same ∙ is ∙ same_page markup rules.names xs ys one) h
+prefix_of_page rules markup text xs page bytes a b are is same h = (xs, (are, subst (AppendsPrefix a b) (same ∙ is) h))
 
 -- ---- the first fault
 

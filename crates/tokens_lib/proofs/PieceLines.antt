@@ -6,6 +6,7 @@ use Rattle.std.proofs.lemmas.Str.{IsUtf8-drop}
 use Rattle.std.specs.Prelude.{Option, Some, None, option_map}
 use Rattle.std.specs.Iterator.{Yields}
 use Rattle.std.specs.Str.{IsUtf8, IsCharBoundary}
+use Rattle.lalrpop_book.specs.Clash.{NoClash}
 use Rattle.lalrpop_book.specs.Tree.{Tree}
 use Rattle.lalrpop_book.specs.Longest.{IsLongest}
 use Rattle.lalrpop_book.specs.declared.token.Token.{Token as Cut}
@@ -18,6 +19,7 @@ use Rattle.lalrpop_rules.specs.declared.item.Item.TheVariants.{Token, Skipped, F
 use Rattle.lalrpop_rules.proofs.FirstMatches.{some_length}
 use Rattle.lalrpop_rules.proofs.Fronts.{boundary_behind}
 use Rattle.lalrpop_rules.proofs.PieceLaws.{is_front, is_some}
+use Rattle.lalrpop_rules.proofs.PiecesExist.{pieces-exist}
 use Rattle.lalrpop_rules.proofs.UniquePieces.{same_fault}
 use Rattle.lines_lib.proofs.FirstTokens.{same_parts}
 use Rattle.tokens_lib.specs.ItemLines.{line_at, fault_line, item_line, item_lines, name_at, AreUpToFault, AreCut, first_fault}
@@ -177,6 +179,25 @@ pub cut_to_fault : (b : Bool) (rules : RuleSet) (text : List ℕ) (n : ℕ) (ys 
     → first_fault ys ≡ None → first_with None x ≡ Some n → AreCut b rules text (ys ++ x ∷ [])
 cut_to_fault true rules text n ys x is f none e = absurd (cc)
 cut_to_fault false rules text n ys x is f none e = fault_last rules.trees rules.precedences rules.skips text 0 n ys x f none e
+
+-- those up to the first fault
+up_to_first : (ts : List Tree) (ps : List ℕ) (skips : List Bool) (text : List ℕ) (at : ℕ) (xs : List Item) → ArePieces ts ps skips text at xs
+    → (ys : List Item) × AreUpToFault ts ps skips text at ys
+up_to_first ts ps skips text at [] are = ([], are)
+up_to_first ts ps skips text at (Fault start slice ∷ xs) are = (Fault start slice ∷ [], (are.0, refl))
+up_to_first ts ps skips text at (Token x ∷ xs) are =
+    let others = up_to_first ts ps skips text (at + length x.slice.now) xs are.1 in
+    (Token x ∷ others.0, (are.0, others.1))
+up_to_first ts ps skips text at (Skipped x ∷ xs) are =
+    let others = up_to_first ts ps skips text (at + length x.slice.now) xs are.1 in
+    (Skipped x ∷ others.0, (are.0, others.1))
+
+-- where no word is ambiguous, there are pieces that are cut
+pub cut-exists : (b : Bool) (rules : RuleSet) (text : List ℕ) → NoClash rules.trees rules.precedences → IsUtf8 text → (xs : List Item) × AreCut b rules text xs
+cut-exists true rules text clear u = pieces-exist rules.trees rules.precedences rules.skips text clear u
+cut-exists false rules text clear u =
+    let all = pieces-exist rules.trees rules.precedences rules.skips text clear u in
+    up_to_first rules.trees rules.precedences rules.skips text 0 all.0 all.1
 
 -- a fault where cutting ends has no line
 pub no_line : (layout : Layout) (names : List (List ℕ)) (text : List ℕ) (n : ℕ) (x : Item) → layout.recovers ≡ false → first_with None x ≡ Some n

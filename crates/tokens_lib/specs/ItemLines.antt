@@ -115,7 +115,7 @@ abbrev pub WritesItems : RuleSet → Layout → List ℕ → Option (List ℕ) �
 WritesItems rules layout text held held_now fault =
     (xs : List Item) × (AreCut layout.recovers rules text xs × ((fault ≡ first_fault xs) × Appends held held_now (item_lines layout rules.names text xs)))
 
--- a writer took a prefix of these lines, which are unique
+-- a writer took a prefix of these lines
 abbrev pub WritesItemsPrefix : RuleSet → Layout → List ℕ → Option (List ℕ) → Option (List ℕ) → Type 0
 WritesItemsPrefix rules layout text held held_now =
-    (xs : List Item) → AreCut layout.recovers rules text xs → AppendsPrefix held held_now (item_lines layout rules.names text xs)
+    (xs : List Item) × (AreCut layout.recovers rules text xs × AppendsPrefix held held_now (item_lines layout rules.names text xs))

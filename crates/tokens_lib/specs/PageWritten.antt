@@ -22,7 +22,7 @@ abbrev pub WritesPage : RuleSet → Markup → List ℕ → Option (List ℕ) �
 WritesPage rules markup text held held_now fault =
     (xs : List Item) × (ArePieces rules.trees rules.precedences rules.skips text 0 xs × ((fault ≡ first_fault xs) × Appends held held_now (page_of markup rules.names xs)))
 
--- a writer took a prefix of this page, which is unique
+-- a writer took a prefix of this page
 abbrev pub WritesPagePrefix : RuleSet → Markup → List ℕ → Option (List ℕ) → Option (List ℕ) → Type 0
 WritesPagePrefix rules markup text held held_now =
-    (xs : List Item) → ArePieces rules.trees rules.precedences rules.skips text 0 xs → AppendsPrefix held held_now (page_of markup rules.names xs)
+    (xs : List Item) × (ArePieces rules.trees rules.precedences rules.skips text 0 xs × AppendsPrefix held held_now (page_of markup rules.names xs))

@@ -3,6 +3,7 @@
 ghost use Rattle.std.specs.Prelude.{◌≡◌, ℕ, ◌+◌, ◌*◌, ◌≤◌, ◌⊎◌, [], IsSome, None, length, true, Option, IfOk, OnErr};
 ghost use Rattle.std.specs.Option.{option_map};
 ghost use Rattle.std.specs.Str.{chars};
+ghost use Rattle.lalrpop_book.specs.Clash.{NoClash};
 ghost use Rattle.lalrpop_book.specs.Longest.{IsLongest};
 ghost use Rattle.lalrpop_lexer.specs.Matching.{characters_of, open_states};
 ghost use Rattle.lalrpop_lexer.specs.Lookahead.{IsLookahead};
@@ -39,8 +40,8 @@ pub fn cut_to_the_end<'text>(
     Ok(items)
 }
 
-// Needs lalrpop_lexer::Lexer::tokens_linear: start, memo, built, refused.
-/// Before the first token all of the text is left, and it is the lexer's automaton that cuts it.
+// Needs lalrpop_lexer::Lexer::tokens_linear: start, memo, built, refused, no_clash.
+/// Before the first token all of the text is left, and it is the lexer's automaton that cuts it. No word is ambiguous.
 ///
 /// # Errors
 ///
@@ -56,12 +57,13 @@ pub fn begin<'text>(
     ensures unread { IfOk result (λ s. s.steps ≡ 0) }
     ensures memo { IfOk result (λ s. IsSome s.spare → IsLookahead (Matched lexer.now.trees) None) }
     ensures refused { OnErr result (IsLookahead (Matched lexer.now.trees) None) }
+    ensures no_clash { NoClash lexer.now.trees lexer.now.precedences }
 {
     lexer.tokens_linear(alloc, text)
 }
 
-// Needs lalrpop_lexer::Lexer::matches_linear: start, built, spare.
-/// The first match of the text, and what it costs.
+// Needs lalrpop_lexer::Lexer::matches_linear: start, built, spare, no_clash.
+/// The first match of the text, and what it costs. No word is ambiguous.
 ///
 /// # Errors
 ///
@@ -79,6 +81,7 @@ pub fn find_first<'text>(
         ≤ steps.old + characters_of (option_map (λ m. m.1.now) found)
         + length (chars text.now) + length text.now
         + open_states lexer.now.automaton * (length text.now + 64) + 64) }
+    ensures no_clash { NoClash lexer.now.trees lexer.now.precedences }
 {
     let mut matches = lexer.matches_linear(alloc, text)?;
     Ok(matches.next_match(steps))

@@ -1,6 +1,7 @@
 //! A text is cut to its end in linear time.
 ghost use Rattle.std.specs.Prelude.{◌≡◌, ◌≤◌, ◌+◌, ◌*◌, ◌++◌, List, [], IfOk, IfSome, length};
 ghost use Rattle.std.specs.Str.{chars};
+ghost use Rattle.lalrpop_book.specs.Clash.{NoClash};
 ghost use Rattle.lalrpop_book.specs.Tokens.{AreTokens};
 ghost use Rattle.lalrpop_lexer.specs.Matching.{open_states};
 ghost use Rattle.lalrpop_rules.specs.CutToEnd.{left_text};
@@ -31,9 +32,9 @@ pub fn piece_count(alloc: Global, lexer: &RuleLexer, text: &str) -> Result<usize
     Ok(count)
 }
 
-// Needs lalrpop_rules::RuleLexer::items_linear: start.
+// Needs lalrpop_rules::RuleLexer::items_linear: start, no_clash.
 // Needs lalrpop_rules::Items::rest: rest.
-/// Before the first piece the rest is the whole text.
+/// Before the first piece the rest is the whole text. No word is ambiguous.
 ///
 /// # Errors
 ///
@@ -44,6 +45,7 @@ pub fn rest_at_first<'text>(
     text: &'text str,
 ) -> Result<&'text str, AllocError>
     ensures whole { IfOk result (λ rest. rest.now ≡ text.now) }
+    ensures no_clash { NoClash lexer.now.trees lexer.now.precedences }
 {
     let pieces = lexer.items_linear(alloc, text)?;
     Ok(pieces.rest())

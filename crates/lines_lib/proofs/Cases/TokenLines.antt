@@ -1,15 +1,20 @@
 -- Cases of specs/TokenLines.antt.
-use Rattle.std.proofs.Common.{◌≡◌, ◌≢◌, ℕ, List, [], ◌∷◌, ◌++◌, Option, Some, None, Ok, Err, length, get_or, decimal, codes, ◌≤◌, lit<, lit≤, refl, sym, ap, ◌∙◌, arith}
+use Rattle.std.proofs.Common.{◌≡◌, ◌≢◌, ℕ, zero, suc, List, [], ◌∷◌, ◌++◌, Option, Some, None, Ok, Err, length, get_or, decimal, codes, ◌≤◌, lit<, lit≤, refl, sym, ap, ◌∙◌, arith}
 use Rattle.std.specs.Fmt.{digits}
 use Rattle.std.specs.Str.{chars}
 use Rattle.unicode.specs.Binary.{is_default_ignorable_code_point}
 use Rattle.unicode.specs.Rows.{in_ranges}
 use Rattle.ucd_derived.specs.DefaultIgnorableCodePointRanges.{default_ignorable_code_point_ranges}
+use Rattle.std.specs.Prelude.{Result}
+use Rattle.lalrpop_book.specs.Tree.{Tree}
 use Rattle.lalrpop_book.specs.declared.token.Token.{Token}
 use Rattle.lalrpop_book.specs.declared.token.TokenFault.{TokenFault}
+use Rattle.lalrpop_lexer.specs.SameTokens.{AreSameTokens}
+use Rattle.lalrpop_lexer.proofs.UniqueTokens.{tokens-unique}
+use Rattle.lexdfa_lib.specs.Watch.{AppendsPrefix}
 use Rattle.lexdfa_lib.specs.declared.outcome.Outcome.TheVariants.{All, Stopped}
 use Rattle.lines_lib.specs.Quoted.{quoted}
-use Rattle.lines_lib.specs.TokenLines.{place_text, token_line, outcome_behind, last_line, text_lines, IsStopOf}
+use Rattle.lines_lib.specs.TokenLines.{place_text, token_line, outcome_behind, last_line, text_lines, WritesTokensPrefix, IsStopOf}
 
 -- ---- places
 
@@ -63,6 +68,24 @@ fault_is_no_token token e = absurd (cc)
 -- a text without tokens is its last line
 lines_of_nothing : (file : Option (List ℕ)) → text_lines file [] [] ≡ codes "end\n"
 lines_of_nothing file = refl
+
+-- ---- a prefix
+
+-- two bytes of the last line of a text without tokens
+part_of_the_end : (ts : List Tree) (ps : List ℕ) → WritesTokensPrefix ts ps None [] (Some []) (Some (codes "en"))
+part_of_the_end ts ps = ([], (refl, (2, omega arith, refl)))
+
+-- and not another byte
+another_byte : (ts : List Tree) (ps : List ℕ) → ¬ WritesTokensPrefix ts ps None [] (Some []) (Some (codes "x"))
+another_byte ts ps (xs, (are, part)) = by_tokens xs (tokens-unique ts ps [] 0 xs [] are refl) part
+  where
+    by_tokens : (xs : List (Result Token TokenFault)) → AreSameTokens xs [] → AppendsPrefix (Some []) (Some (codes "x")) (text_lines None [] xs) → ⊥
+    by_tokens [] same (zero, le, e) = absurd (cc)
+    by_tokens [] same (suc n, le, e) = let first : 120 ≡ 101 = ap (λ u. get_or u 0 0) e in omega (arith, first)
+    by_tokens (Ok x ∷ xs) same part = absurd same
+    by_tokens (Err x ∷ xs) same part = absurd same
+
+-- ---- places of faults
 
 -- no character begins inside another: at the second byte of `é`
 inside_a_character : ¬ IsStopOf (195 ∷ 169 ∷ []) (Stopped 0 1)

@@ -1,5 +1,5 @@
 -- Cases of specs/ItemLines.antt.
-use Rattle.std.proofs.Common.{◌≡◌, ℕ, List, [], ◌∷◌, Option, Some, None, codes, refl, false}
+use Rattle.std.proofs.Common.{◌≡◌, ℕ, zero, suc, List, [], ◌∷◌, Option, Some, None, codes, refl, true, false, arith}
 use Rattle.std.specs.Fmt.{digits}
 use Rattle.std.specs.Str.{chars}
 use Rattle.unicode.specs.Binary.{is_default_ignorable_code_point}
@@ -8,8 +8,11 @@ use Rattle.ucd_derived.specs.DefaultIgnorableCodePointRanges.{default_ignorable_
 use Rattle.json.specs.Print.{print_from, escape_byte}
 use Rattle.lalrpop_lexer.specs.declared.position.Position.{Position}
 use Rattle.lalrpop_rules.specs.declared.item.Item.{Item}
-use Rattle.tokens_lib.specs.ItemLines.{plain_line, json_line, name_at, fault_line, first_fault}
+use Rattle.lalrpop_rules.specs.RuleSet.{RuleSet}
+use Rattle.tokens_lib.specs.ItemLines.{plain_line, json_line, name_at, fault_line, first_fault, WritesItemsPrefix}
 use Rattle.tokens_lib.specs.declared.layout.LineForm.{LineForm}
+use Rattle.tokens_lib.specs.declared.layout.LineForm.TheVariants.{Plain}
+use Rattle.tokens_lib.proofs.PieceLines.{piece_left}
 
 abbrev second : Position
 second = record { line = 1; column = 2 }
@@ -51,3 +54,14 @@ fault_without_a_line form file text slice start = refl
 -- the first fault of some pieces
 first_faults : (x : Item) → first_fault (x ∷ []) ≡ first_fault (x ∷ [])
 first_faults x = refl
+
+-- ---- a prefix
+
+-- a failed writer took nothing of the lines of an empty text, and no byte more
+nothing_of_it : (rules : RuleSet) → WritesItemsPrefix rules (record { form = Plain; recovers = true; file = None }) [] (Some []) (Some [])
+nothing_of_it rules = ([], (refl, (0, omega arith, refl)))
+
+no_byte_of_it : (rules : RuleSet) → ¬ WritesItemsPrefix rules (record { form = Plain; recovers = true; file = None }) [] (Some []) (Some (codes "x"))
+no_byte_of_it rules ([], (are, (zero, le, e))) = absurd (cc)
+no_byte_of_it rules ([], (are, (suc n, le, e))) = absurd (omega (arith, le))
+no_byte_of_it rules (x ∷ xs, (are, part)) = piece_left _ _ _ [] 0 x are.0 refl

@@ -1,5 +1,5 @@
 -- Cases of specs/PageWritten.antt.
-use Rattle.std.proofs.Common.{◌≡◌, ℕ, List, [], ◌∷◌, ◌++◌, codes, refl}
+use Rattle.std.proofs.Common.{◌≡◌, ℕ, zero, suc, List, [], ◌∷◌, ◌++◌, codes, refl, arith}
 use Rattle.std.specs.Prelude.{Some, None}
 use Rattle.std.specs.Borrow.{Bor}
 use Rattle.std.specs.Str.{chars}
@@ -8,7 +8,7 @@ use Rattle.lalrpop_rules.specs.RuleSet.{RuleSet}
 use Rattle.lalrpop_rules.specs.declared.item.Item.{Item}
 use Rattle.lalrpop_rules.specs.declared.item.Item.TheVariants.{Fault}
 use Rattle.tokens_lib.specs.ItemLines.{first_fault}
-use Rattle.tokens_lib.specs.PageWritten.{page_of, WritesPage}
+use Rattle.tokens_lib.specs.PageWritten.{page_of, WritesPage, WritesPagePrefix}
 use Rattle.tokens_lib.proofs.PieceLines.{piece_left}
 use Rattle.tokens_lib.specs.declared.command.Markup.TheVariants.{Html, Ansi}
 
@@ -32,3 +32,12 @@ nothing_has_no_fault rules (x ∷ xs) are first = piece_left _ _ _ [] 0 x are.0 
 
 fault_of_nothing : (rules : RuleSet) → ¬ WritesPage rules Ansi [] (Some []) (Some []) (Some 0)
 fault_of_nothing rules h = nothing_has_no_fault rules h.0 h.1.0 h.1.1.0
+
+-- a failed writer took nothing of an empty page, and no byte more
+nothing_of_it : (rules : RuleSet) → WritesPagePrefix rules Html [] (Some []) (Some [])
+nothing_of_it rules = ([], (refl, (0, omega arith, refl)))
+
+no_byte_of_it : (rules : RuleSet) → ¬ WritesPagePrefix rules Html [] (Some []) (Some (codes "x"))
+no_byte_of_it rules ([], (are, (zero, le, e))) = absurd (cc)
+no_byte_of_it rules ([], (are, (suc n, le, e))) = absurd (omega (arith, le))
+no_byte_of_it rules (x ∷ xs, (are, part)) = piece_left _ _ _ [] 0 x are.0 refl

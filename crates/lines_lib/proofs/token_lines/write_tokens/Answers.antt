@@ -5,7 +5,7 @@ use Rattle.lalrpop_lexer.specs.Dfa.{Row}
 use Rattle.lalrpop_lexer.specs.LexerTokens.{GivesToken}
 use Rattle.lalrpop_lexer.proofs.LexerCosts.{cut_steps}
 use Rattle.lalrpop_lexer.proofs.LexerCuttings.{tokens_from_start, token_count_from_start}
-use Rattle.lines_lib.proofs.Sending.{sent_so_far, sent_in_part, step_of, first_of, begins_at, boundary_of, at_any_error, where_it_is_ok, kept_on, kept_all, yields_more, count_fits, fault_ends, none_ends, all_written, at_the_last, stop_begins}
+use Rattle.lines_lib.proofs.Sending.{sent_nothing, sent_so_far, sent_in_part, step_of, first_of, begins_at, boundary_of, at_any_error, where_it_is_ok, kept_on, kept_all, yields_more, count_fits, fault_ends, none_ends, all_written, at_the_last, stop_begins}
 use Rattle.lines_lib.proofs.TextLines.{then_a_fault, then_the_end}
 use Rattle.lexdfa_lib.proofs.Known.{Appends-again}
 use Rattle.lines_lib.proofs.token_lines.write_tokens.Goals as goal
@@ -24,6 +24,9 @@ loop-item-init g c = record {
   walked = search rules;
 }
 
+pub returns-in_default-clause-prefix : goal.returns-in_default-clause-prefix
+returns-in_default-clause-prefix g c = sent_nothing _ c.args.lexer.now.trees c.args.lexer.now.precedences c.args.text.now _ c.tokens_linear.ensures.no_clash
+
 pub push_token-requires-clause-boundary : goal.push_token-requires-clause-boundary
 push_token-requires-clause-boundary g c =
     let step = step_of _ _ c.in-Some.item c.in-Ok-item.token c.in-Ok-item.is c.in-Some.ensures.steps.0 in
@@ -39,7 +42,7 @@ pub returns-then-is_err-clause-prefix : goal.returns-then-is_err-clause-prefix
 returns-then-is_err-clause-prefix g c =
     let w = c.loop-item.invariant.written in
     let first = first_of _ _ _ _ _ c.args.text.now c.loop-item.invariant.items refl (starts _ _ _ c.in-Ok.ensures.start.0) c.in-Ok.ensures.built (cut_steps _ _ _ c.loop-item.invariant.yields) in
-    sent_so_far _ _ _ _ c.loop-item.invariant.items w.0 _ _ _ _ first w.1.1 w.1.0
+    sent_so_far _ _ _ _ c.loop-item.invariant.items w.0 _ _ _ _ c.tokens_linear.ensures.no_clash first w.1.1 w.1.0
 
 pub returns-in_err-pass_on-in-Ok-item-clause-prefix : goal.returns-in_err-pass_on-in-Ok-item-clause-prefix
 returns-in_err-pass_on-in-Ok-item-clause-prefix g c =
@@ -48,7 +51,7 @@ returns-in_err-pass_on-in-Ok-item-clause-prefix g c =
     let first = first_of _ _ _ _ _ c.args.text.now _ refl (starts _ _ _ c.in-Ok.ensures.start.0) c.in-Ok.ensures.built more in
     let line = where_it_is_ok _ c.push_token.result _ c.is_err.ensures.value c.if-is_err.false c.push_token.ensures.line in
     let kept = kept_all _ c.args.text.now _ c.loop-item.invariant.items c.in-Some.item c.in-Ok-item.token _ _ w.0 _ w.1.1 c.in-Ok-item.is c.loop-item.invariant.text line in
-    at_any_error _ c.from_residual.result (sent_in_part _ _ _ _ _ w.0 _ _ _ _ _ first kept w.1.0 c.in_err-pass_on-in-Ok-item.ensures.prefix)
+    at_any_error _ c.from_residual.result (sent_in_part _ _ _ _ _ w.0 _ _ _ _ _ c.tokens_linear.ensures.no_clash first kept w.1.0 c.in_err-pass_on-in-Ok-item.ensures.prefix)
 
 pub overflow_add-count : goal.overflow_add-count
 overflow_add-count g c =
