@@ -117,7 +117,8 @@ pieces_low set form recovers several name text answer (xs, (are, e)) = low answe
 page_low : (set : RuleSet) (markup : Markup) (name text : List ℕ) (answer : Answer) → PageAnswer set markup name text answer → IsLow answer
 page_low set markup name text answer (xs, (are, e)) = low answer _ e (fault_low _)
 
-pub command_low : (Gives : List ℕ → Given → Type 0) (InputGives : Given → Type 0) (command : Command) (answer : Answer) → CommandAnswer Gives InputGives command answer → IsLow answer
+pub command_low : (Gives : List ℕ → Given → Type 0) (InputGives : Given → Type 0) (command : Command) (answer : Answer)
+    → CommandAnswer Gives (TextsAnswer Gives InputGives) command answer → IsLow answer
 command_low Gives InputGives (Cut form recovers rules files) answer is =
     let names : List (List ℕ) = map string_bytes files.now in
     by_rules_low Gives (λ set. TextsAnswer Gives InputGives (PiecesAnswer set form recovers (nat_lt 1 (length files.now))) names) rules.now answer

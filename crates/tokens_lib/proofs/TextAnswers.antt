@@ -1,11 +1,14 @@
 -- The answer for a text, by what was written for it and what came of it.
 use Rattle.std.proofs.Common.{◌≡◌, ℕ, Bool, true, false, List, [], flat_map, refl, sym, ap, subst, ◌∙◌}
-use Rattle.std.specs.Prelude.{Option, Some, None, option_map, codes, if◌then◌else◌}
+use Rattle.std.specs.Prelude.{Option, Some, None, Result, option_map, codes, if◌then◌else◌}
 use Rattle.std.specs.Bool.{then_some}
 use Rattle.std.specs.Borrow.{Bor}
 use Rattle.std.specs.Io.KnownBytes.{Appends}
 use Rattle.lalrpop_book.specs.Tree.{Tree}
+use Rattle.lalrpop_book.specs.declared.token.Token.{Token}
+use Rattle.lalrpop_book.specs.declared.token.TokenFault.{TokenFault}
 use Rattle.lalrpop_rules.specs.RuleSet.{RuleSet}
+use Rattle.lalrpop_rules.specs.declared.item.Item.{Item}
 use Rattle.lexdfa_lib.specs.Watch.{Watch}
 use Rattle.lexdfa_lib.specs.declared.outcome.Outcome.{Outcome}
 use Rattle.lexdfa_lib.specs.declared.outcome.Outcome.TheVariants as outcomes
@@ -22,7 +25,7 @@ use Rattle.tokens_lib.specs.declared.cut_files.CutResult.TheVariants.{Whole, Fau
 use Rattle.tokens_lib.specs.declared.layout.LineForm.{LineForm}
 
 -- the name, if it is wanted
-then_some-now : (wanted : Bool) (name : Bor (List ℕ)) → option_map (λ (f : Bor (List ℕ)). f.now) (then_some wanted name) ≡ then_some wanted name.now
+pub then_some-now : (wanted : Bool) (name : Bor (List ℕ)) → option_map (λ (f : Bor (List ℕ)). f.now) (then_some wanted name) ≡ then_some wanted name.now
 then_some-now true name = refl
 then_some-now false name = refl
 
@@ -59,6 +62,25 @@ pieces_end file text false None ending is = ends_whole file text ending is
 pieces_end file text true (Some at) ending is = (ap ending_status (sym is), ap (ending_text file text) (sym is))
 pieces_end file text false (Some at) ending is = ends_stopped (codes "rule") file text at ending is
 
+-- ---- the answers
+
+abbrev pub tokens_told : Bool → List ℕ → List ℕ → List (Result Token TokenFault) → Answer
+tokens_told places file text xs = record {
+  status = fault_status (stop_of (outcome_behind 0 xs));
+  out = text_lines (then_some places file) text xs;
+  err = stop_text (codes "terminal") file text (stop_of (outcome_behind 0 xs));
+}
+
+abbrev pub pieces_told : RuleSet → LineForm → Bool → Bool → List ℕ → List ℕ → List Item → Answer
+pieces_told rules form recovers several file text xs = record {
+  status = fault_status (first_fault xs);
+  out = flat_map (piece_line form recovers (then_some several file) rules.names text) xs;
+  err = stop_text (codes "rule") file text (if recovers then None else first_fault xs);
+}
+
+abbrev pub page_told : RuleSet → Markup → List Item → Answer
+page_told rules markup xs = record { status = fault_status (first_fault xs); out = page_of markup rules.names xs; err = [] }
+
 -- ---- what was done
 
 -- an answer, and what was written
@@ -70,17 +92,12 @@ pub tokens_done : (ts : List Tree) (ps : List ℕ) (places : Bool) (name : Bor (
     → WritesTokens ts ps (option_map (λ (f : Bor (List ℕ)). f.now) (then_some places name)) text held held_now outcome → IsTokensEnding outcome ending
     → Does (TokensAnswer ts ps places) name.now text held held_now ending
 tokens_done ts ps places name text held held_now outcome ending (xs, (are, (e, appends))) is =
-    let ends = tokens_end name.now text (outcome_behind 0 xs) ending (subst (λ (o : Outcome). IsTokensEnding o ending) e is) in
-    let out : List ℕ = text_lines (then_some places name.now) text xs in (
-      record {
-        status = fault_status (stop_of (outcome_behind 0 xs));
-        out = out;
-        err = stop_text (codes "terminal") name.now text (stop_of (outcome_behind 0 xs));
-      },
+    let ends = tokens_end name.now text (outcome_behind 0 xs) ending (subst (λ (o : Outcome). IsTokensEnding o ending) e is) in (
+      tokens_told places name.now text xs,
       (
         (xs, (are, refl)),
         (
-          out,
+          text_lines (then_some places name.now) text xs,
           (
             record { status = ends.0; written = refl; said = ends.1 },
             subst (λ (file : Option (List ℕ)). Appends held held_now (text_lines file text xs)) (then_some-now places name) appends,
@@ -93,17 +110,12 @@ pub pieces_done : (rules : RuleSet) (form : LineForm) (recovers several : Bool) 
     → WritesItems rules (record { form = form; recovers = recovers; file = then_some several name }) text held held_now fault → IsPiecesEnding recovers fault ending
     → Does (PiecesAnswer rules form recovers several) name.now text held held_now ending
 pieces_done rules form recovers several name text held held_now fault ending (xs, (are, (e, appends))) is =
-    let ends = pieces_end name.now text recovers (first_fault xs) ending (subst (λ (o : Option ℕ). IsPiecesEnding recovers o ending) e is) in
-    let out : List ℕ = flat_map (piece_line form recovers (then_some several name.now) rules.names text) xs in (
-      record {
-        status = fault_status (first_fault xs);
-        out = out;
-        err = stop_text (codes "rule") name.now text (if recovers then None else first_fault xs);
-      },
+    let ends = pieces_end name.now text recovers (first_fault xs) ending (subst (λ (o : Option ℕ). IsPiecesEnding recovers o ending) e is) in (
+      pieces_told rules form recovers several name.now text xs,
       (
         (xs, (are, refl)),
         (
-          out,
+          flat_map (piece_line form recovers (then_some several name.now) rules.names text) xs,
           (
             record { status = ends.0; written = refl; said = ends.1 },
             subst (λ (file : Option (List ℕ)). Appends held held_now (flat_map (piece_line form recovers file rules.names text) xs)) (then_some-now several name) appends,
@@ -116,7 +128,7 @@ pub page_done : (rules : RuleSet) (markup : Markup) (name : Bor (List ℕ)) (tex
     → WritesPage rules markup text held held_now fault → IsPiecesEnding true fault ending → Does (PageAnswer rules markup) name.now text held held_now ending
 page_done rules markup name text held held_now fault ending (xs, (are, (e, appends))) is =
     let ends = pieces_end name.now text true (first_fault xs) ending (subst (λ (o : Option ℕ). IsPiecesEnding true o ending) e is) in (
-      record { status = fault_status (first_fault xs); out = page_of markup rules.names xs; err = [] },
+      page_told rules markup xs,
       ((xs, (are, refl)), (page_of markup rules.names xs, (record { status = ends.0; written = refl; said = ends.1 }, appends))),
     )
 

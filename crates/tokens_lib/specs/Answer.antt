@@ -3,7 +3,7 @@
 use Rattle.std.specs.Prelude.{◌≡◌, ◌≢◌, ℕ, ◌⊎◌, max, List, [], ◌∷◌, ◌++◌, Option, Ok, Err, codes}
 use Rattle.std.specs.Io.KnownBytes.{Appends}
 use Rattle.std.specs.Str.{IsUtf8}
-use Rattle.lexdfa_lib.specs.Watch.{Watch}
+use Rattle.lexdfa_lib.specs.Watch.{Watch, AppendsPrefix}
 use Rattle.tokens_lib.specs.Streams.{Given, Takes}
 use Rattle.lines_lib.specs.Text.{LacksText, lack_text}
 use Rattle.lines_lib.specs.declared.text.TextError.{TextError}
@@ -59,6 +59,20 @@ FilesAnswer Gives IsFor (file ∷ files) answer =
 abbrev pub TextsAnswer : (List ℕ → Given → Type 0) → (Given → Type 0) → (List ℕ → List ℕ → Answer → Type 0) → List (List ℕ) → Answer → Type 0
 TextsAnswer Gives InputGives IsFor [] answer = Reads (λ file. InputGives) (TextOf IsFor) (codes "<stdin>") answer
 TextsAnswer Gives InputGives IsFor (file ∷ files) answer = FilesAnswer Gives IsFor (file ∷ files) answer
+
+-- the texts of the first of these files, up to some file
+abbrev pub FirstFilesAnswer : (List ℕ → Given → Type 0) → (List ℕ → List ℕ → Answer → Type 0) → List (List ℕ) → Answer → Type 0
+FirstFilesAnswer Gives IsFor files answer =
+    (front : List (List ℕ)) × ((rest : List (List ℕ)) × ((files ≡ front ++ rest) × FilesAnswer Gives IsFor front answer))
+
+-- the same, or the text of standard input if there are none
+abbrev pub FirstTextsAnswer : (List ℕ → Given → Type 0) → (Given → Type 0) → (List ℕ → List ℕ → Answer → Type 0) → List (List ℕ) → Answer → Type 0
+FirstTextsAnswer Gives InputGives IsFor [] answer = TextsAnswer Gives InputGives IsFor [] answer
+FirstTextsAnswer Gives InputGives IsFor (file ∷ files) answer = FirstFilesAnswer Gives IsFor (file ∷ files) answer
+
+-- nothing was written, or a prefix of what such an answer writes
+abbrev pub Begun : (Answer → Type 0) → Option (List ℕ) → Option (List ℕ) → Type 0
+Begun Is held held_now = Appends held held_now [] ⊎ ((answer : Answer) × (Is answer × AppendsPrefix held held_now answer.out))
 
 -- the answer was given: its status, what it writes, and what it says
 abbrev pub Answered : {W E : Type 0} → (W → Option (List ℕ)) → (E → Option (List ℕ)) → Watch W → Watch W → Watch E → Watch E → ℕ → Answer → Type 0

@@ -18,7 +18,7 @@ use Rattle.lexdfa_lib.specs.Answer.{HaveAutomaton, IsReported}
 use Rattle.lexdfa_lib.specs.Status.{outcome_status}
 use Rattle.lexdfa_lib.specs.declared.outcome.Outcome.{Outcome}
 use Rattle.lexdfa_lib.specs.declared.outcome.Outcome.TheVariants.{Ambiguous}
-use Rattle.tokens_lib.specs.Answer.{Answer, refusal, headed, IsRefusal, Reads, TextsAnswer}
+use Rattle.tokens_lib.specs.Answer.{Answer, refusal, headed, IsRefusal, Reads, TextsAnswer, FirstTextsAnswer}
 use Rattle.lines_lib.specs.ClashesShown.{AreClashesShown}
 use Rattle.tokens_lib.specs.Command.{IsCommand}
 use Rattle.tokens_lib.specs.RuleClashes.{AreRuleClashes, IsRuleFault, named_line}
@@ -110,16 +110,16 @@ TerminalClashesAnswer file bytes answer =
 
 -- ---- the program
 
--- the answer for a command
-abbrev pub CommandAnswer : (List ℕ → Given → Type 0) → (Given → Type 0) → Command → Answer → Type 0
-CommandAnswer Gives InputGives (Cut form recovers rules files) answer =
-    Reads Gives (RulesOf (LexerOf (λ set. TextsAnswer Gives InputGives (PiecesAnswer set form recovers (nat_lt 1 (length files.now))) (map string_bytes files.now)))) rules.now answer
-CommandAnswer Gives InputGives (Show markup rules files) answer =
-    Reads Gives (RulesOf (LexerOf (λ set. TextsAnswer Gives InputGives (PageAnswer set markup) (map string_bytes files.now)))) rules.now answer
-CommandAnswer Gives InputGives (Clashes rules) answer = Reads Gives (RulesOf ClashesAnswer) rules.now answer
-CommandAnswer Gives InputGives (CutByTerminals places rules files) answer =
-    Reads Gives (TerminalsOf (λ ts ps. TextsAnswer Gives InputGives (TokensAnswer ts ps places) (map string_bytes files.now))) rules.now answer
-CommandAnswer Gives InputGives (TerminalClashes rules) answer = Reads Gives TerminalClashesAnswer rules.now answer
+-- the answer for a command, by what is answered to texts
+abbrev pub CommandAnswer : (List ℕ → Given → Type 0) → ((List ℕ → List ℕ → Answer → Type 0) → List (List ℕ) → Answer → Type 0) → Command → Answer → Type 0
+CommandAnswer Gives Texts (Cut form recovers rules files) answer =
+    Reads Gives (RulesOf (LexerOf (λ set. Texts (PiecesAnswer set form recovers (nat_lt 1 (length files.now))) (map string_bytes files.now)))) rules.now answer
+CommandAnswer Gives Texts (Show markup rules files) answer =
+    Reads Gives (RulesOf (LexerOf (λ set. Texts (PageAnswer set markup) (map string_bytes files.now)))) rules.now answer
+CommandAnswer Gives Texts (Clashes rules) answer = Reads Gives (RulesOf ClashesAnswer) rules.now answer
+CommandAnswer Gives Texts (CutByTerminals places rules files) answer =
+    Reads Gives (TerminalsOf (λ ts ps. Texts (TokensAnswer ts ps places) (map string_bytes files.now))) rules.now answer
+CommandAnswer Gives Texts (TerminalClashes rules) answer = Reads Gives TerminalClashesAnswer rules.now answer
 
 -- what is said of arguments that are no command
 abbrev pub usage : List ℕ
@@ -130,4 +130,9 @@ usage =
 abbrev pub IsAnswer : (List ℕ → Given → Type 0) → (Given → Type 0) → List (List ℕ) → Answer → Type 0
 IsAnswer Gives InputGives words answer =
     (((command : Command) → ¬ IsCommand words command) × (answer ≡ refusal 4 usage))
-    ⊎ ((command : Command) × (IsCommand words command × CommandAnswer Gives InputGives command answer))
+    ⊎ ((command : Command) × (IsCommand words command × CommandAnswer Gives (TextsAnswer Gives InputGives) command answer))
+
+-- the answer for the command that these arguments are, to the first texts alone
+abbrev pub IsFirstAnswer : (List ℕ → Given → Type 0) → (Given → Type 0) → List (List ℕ) → Answer → Type 0
+IsFirstAnswer Gives InputGives words answer =
+    (command : Command) × (IsCommand words command × CommandAnswer Gives (FirstTextsAnswer Gives InputGives) command answer)

@@ -1,6 +1,6 @@
 //! The program over a file of named rules.
-ghost use Rattle.std.specs.Prelude.{◌≡◌, ◌≢◌, ℕ, List, Ok, false, true, IfOk, OnOk, IfErr};
-ghost use Rattle.tokens_lib.specs.Answer.{Answer, headed, Answered, Refused, Reads};
+ghost use Rattle.std.specs.Prelude.{◌≡◌, ◌≢◌, ℕ, List, Ok, false, true, IfOk, OnOk, OnErr, IfErr};
+ghost use Rattle.tokens_lib.specs.Answer.{Answer, headed, Answered, Refused, Reads, Begun};
 ghost use Rattle.tokens_lib.specs.Program.{IsSetOf, AreRulesOf, RulesOf, RulesRefused, SaysBadLine, ClashesAnswer, clashes_status, rules_status};
 ghost use Rattle.tokens_lib.specs.Streams.{Takes};
 
@@ -162,6 +162,8 @@ fn list_clashes_of<W: Write, E: Write>(
         × (ClashesAnswer name.now file.now.rules.items answer
         × Answered W.contents E.contents out.old out.new err.old err.new status answer)) }
     ensures good { OnOk result (out.new.failed ≡ false) }
+    ensures begun { OnErr result (Begun (ClashesAnswer name.now file.now.rules.items)
+        (W.contents out.old.inner) (W.contents out.new.inner)) }
     ensures memory { IfErr result (λ e. e ≡ RunError.OutOfMemory → out.new.failed ≡ false) }
     ensures write { IfErr result (λ e. e ≡ RunError.Write → out.new.failed ≡ true) }
     ensures read { IfErr result (λ e. e ≢ RunError.Read) }
@@ -189,6 +191,8 @@ fn list_clashes_in<W: Write, E: Write>(
         × (RulesOf ClashesAnswer name.now bytes.now answer
         × Answered W.contents E.contents out.old out.new err.old err.new status answer)) }
     ensures good { OnOk result (out.new.failed ≡ false) }
+    ensures begun { OnErr result (Begun (RulesOf ClashesAnswer name.now bytes.now)
+        (W.contents out.old.inner) (W.contents out.new.inner)) }
     ensures memory { IfErr result (λ e. e ≡ RunError.OutOfMemory → out.new.failed ≡ false) }
     ensures write { IfErr result (λ e. e ≡ RunError.Write → out.new.failed ≡ true) }
     ensures read { IfErr result (λ e. e ≢ RunError.Read) }
@@ -214,6 +218,8 @@ pub(crate) fn list_clashes<F: Files, W: Write, E: Write>(
         × (Reads (F.gives files.now) (RulesOf ClashesAnswer) name.now answer
         × Answered W.contents E.contents out.old out.new err.old err.new status answer)) }
     ensures good { OnOk result (out.new.failed ≡ false) }
+    ensures begun { OnErr result (Begun (Reads (F.gives files.now) (RulesOf ClashesAnswer) name.now)
+        (W.contents out.old.inner) (W.contents out.new.inner)) }
     ensures memory { IfErr result (λ e. e ≡ RunError.OutOfMemory → out.new.failed ≡ false) }
     ensures write { IfErr result (λ e. e ≡ RunError.Write → out.new.failed ≡ true) }
     ensures read { IfErr result (λ e. e ≢ RunError.Read) }

@@ -1,8 +1,8 @@
 //! The program for a file of terminals, one a line, which are referred to by their numbers.
-ghost use Rattle.std.specs.Prelude.{◌≡◌, ◌≢◌, ℕ, List, Some, Ok, false, true, IfOk, OnOk, IfErr};
+ghost use Rattle.std.specs.Prelude.{◌≡◌, ◌≢◌, ℕ, List, Some, Ok, false, true, IfOk, OnOk, OnErr, IfErr};
 ghost use Rattle.lexdfa_lib.specs.Answer.{HaveAutomaton};
 ghost use Rattle.lexdfa_lib.specs.Status.{outcome_status};
-ghost use Rattle.tokens_lib.specs.Answer.{Answer, headed, Answered, Refused, Reads};
+ghost use Rattle.tokens_lib.specs.Answer.{Answer, headed, Answered, Refused, Reads, Begun};
 ghost use Rattle.tokens_lib.specs.Program.{IsListing, TerminalsRefused, TerminalClashesAnswer};
 ghost use Rattle.tokens_lib.specs.Streams.{Takes};
 
@@ -114,6 +114,8 @@ fn list_clashes_in<W: Write, E: Write>(
         × (TerminalClashesAnswer name.now bytes.now answer
         × Answered W.contents E.contents out.old out.new err.old err.new status answer)) }
     ensures good { OnOk result (out.new.failed ≡ false) }
+    ensures begun { OnErr result (Begun (TerminalClashesAnswer name.now bytes.now)
+        (W.contents out.old.inner) (W.contents out.new.inner)) }
     ensures memory { IfErr result (λ e. e ≡ RunError.OutOfMemory → out.new.failed ≡ false) }
     ensures write { IfErr result (λ e. e ≡ RunError.Write → out.new.failed ≡ true) }
     ensures read { IfErr result (λ e. e ≢ RunError.Read) }
@@ -139,6 +141,8 @@ pub(crate) fn list_terminal_clashes<F: Files, W: Write, E: Write>(
         × (Reads (F.gives files.now) TerminalClashesAnswer name.now answer
         × Answered W.contents E.contents out.old out.new err.old err.new status answer)) }
     ensures good { OnOk result (out.new.failed ≡ false) }
+    ensures begun { OnErr result (Begun (Reads (F.gives files.now) TerminalClashesAnswer name.now)
+        (W.contents out.old.inner) (W.contents out.new.inner)) }
     ensures memory { IfErr result (λ e. e ≡ RunError.OutOfMemory → out.new.failed ≡ false) }
     ensures write { IfErr result (λ e. e ≡ RunError.Write → out.new.failed ≡ true) }
     ensures read { IfErr result (λ e. e ≢ RunError.Read) }

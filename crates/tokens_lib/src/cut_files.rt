@@ -1,8 +1,8 @@
 //! Cutting files one after another: the lines or the markup of each are written.
-ghost use Rattle.std.specs.Prelude.{◌≡◌, ◌≢◌, max, false, true, map, string_bytes, codes, Option, List, ℕ, IfOk, OnOk, IfErr};
+ghost use Rattle.std.specs.Prelude.{◌≡◌, ◌≢◌, max, false, true, map, string_bytes, codes, Option, List, ℕ, IfOk, OnOk, OnErr, IfErr};
 ghost use Rattle.std.specs.Io.KnownBytes.{Appends};
 ghost use Rattle.std.specs.Str.{IsCharBoundary};
-ghost use Rattle.tokens_lib.specs.Answer.{Answer, Answered, TextOf, Reads, FilesAnswer, TextsAnswer};
+ghost use Rattle.tokens_lib.specs.Answer.{Answer, Answered, TextOf, Reads, FilesAnswer, TextsAnswer, FirstFilesAnswer, FirstTextsAnswer, Begun};
 ghost use Rattle.tokens_lib.specs.Streams.{Takes, StreamGives};
 ghost use Rattle.tokens_lib.specs.TextAnswer.{fault_text};
 ghost use Rattle.tokens_lib.specs.Internal.Tasks.{TaskAnswer, StopsIn, IsTokensEnding, IsPiecesEnding, IsDone};
@@ -95,6 +95,8 @@ fn run_task<W: Write>(
         × Appends (W.contents out.old.inner) (W.contents out.new.inner) written)))) }
     ensures boundary { IfOk result (λ ending. StopsIn text.now ending) }
     ensures good { OnOk result (out.new.failed ≡ false) }
+    ensures begun { OnErr result (Begun (TaskAnswer task.now name.now text.now)
+        (W.contents out.old.inner) (W.contents out.new.inner)) }
     ensures memory { IfErr result (λ e. e ≡ RunError.OutOfMemory → out.new.failed ≡ false) }
     ensures write { IfErr result (λ e. e ≡ RunError.Write → out.new.failed ≡ true) }
     ensures read { IfErr result (λ e. e ≢ RunError.Read) }
@@ -162,6 +164,8 @@ fn cut_text<W: Write, E: Write>(
         × (TaskAnswer task.now name.now text.now answer
         × Answered W.contents E.contents out.old out.new err.old err.new status answer)) }
     ensures good { OnOk result (out.new.failed ≡ false) }
+    ensures begun { OnErr result (Begun (TaskAnswer task.now name.now text.now)
+        (W.contents out.old.inner) (W.contents out.new.inner)) }
     ensures memory { IfErr result (λ e. e ≡ RunError.OutOfMemory → out.new.failed ≡ false) }
     ensures write { IfErr result (λ e. e ≡ RunError.Write → out.new.failed ≡ true) }
     ensures read { IfErr result (λ e. e ≢ RunError.Read) }
@@ -192,6 +196,8 @@ fn cut_bytes<W: Write, E: Write>(
         × (TextOf (TaskAnswer task.now) name.now bytes.items answer
         × Answered W.contents E.contents out.old out.new err.old err.new status answer)) }
     ensures good { OnOk result (out.new.failed ≡ false) }
+    ensures begun { OnErr result (Begun (TextOf (TaskAnswer task.now) name.now bytes.items)
+        (W.contents out.old.inner) (W.contents out.new.inner)) }
     ensures memory { IfErr result (λ e. e ≡ RunError.OutOfMemory → out.new.failed ≡ false) }
     ensures write { IfErr result (λ e. e ≡ RunError.Write → out.new.failed ≡ true) }
     ensures read { IfErr result (λ e. e ≢ RunError.Read) }
@@ -224,6 +230,8 @@ fn cut_file<F: Files, W: Write, E: Write>(
         × (Reads (F.gives files.now) (TextOf (TaskAnswer task.now)) name.now answer
         × Answered W.contents E.contents out.old out.new err.old err.new status answer)) }
     ensures good { OnOk result (out.new.failed ≡ false) }
+    ensures begun { OnErr result (Begun (Reads (F.gives files.now) (TextOf (TaskAnswer task.now)) name.now)
+        (W.contents out.old.inner) (W.contents out.new.inner)) }
     ensures memory { IfErr result (λ e. e ≡ RunError.OutOfMemory → out.new.failed ≡ false) }
     ensures write { IfErr result (λ e. e ≡ RunError.Write → out.new.failed ≡ true) }
     ensures read { IfErr result (λ e. e ≢ RunError.Read) }
@@ -251,6 +259,9 @@ fn cut_input<R: Read, W: Write, E: Write>(
         (TextOf (TaskAnswer task.now)) (codes "<stdin>") answer
         × Answered W.contents E.contents out.old out.new err.old err.new status answer)) }
     ensures good { OnOk result (out.new.failed ≡ false) }
+    ensures begun { OnErr result (Begun (Reads (λ name. StreamGives R.remaining input.old input.new)
+        (TextOf (TaskAnswer task.now)) (codes "<stdin>"))
+        (W.contents out.old.inner) (W.contents out.new.inner)) }
     ensures memory { IfErr result (λ e. e ≡ RunError.OutOfMemory → out.new.failed ≡ false) }
     ensures write { IfErr result (λ e. e ≡ RunError.Write → out.new.failed ≡ true) }
     ensures read { IfErr result (λ e. e ≢ RunError.Read) }
@@ -285,6 +296,9 @@ fn cut_each<F: Files, W: Write, E: Write>(
         × (FilesAnswer (F.gives files.now) (TaskAnswer task.now) (map string_bytes names.now) answer
         × Answered W.contents E.contents out.old out.new err.old err.new status answer)) }
     ensures good { OnOk result (out.new.failed ≡ false) }
+    ensures begun { OnErr result (Begun (FirstFilesAnswer (F.gives files.now) (TaskAnswer task.now)
+        (map string_bytes names.now))
+        (W.contents out.old.inner) (W.contents out.new.inner)) }
     ensures memory { IfErr result (λ e. e ≡ RunError.OutOfMemory → out.new.failed ≡ false) }
     ensures write { IfErr result (λ e. e ≡ RunError.Write → out.new.failed ≡ true) }
     ensures read { IfErr result (λ e. e ≢ RunError.Read) }
@@ -316,6 +330,9 @@ pub(crate) fn cut_all<F: Files, R: Read, W: Write, E: Write>(
         (TaskAnswer task.now) (map string_bytes names.now) answer
         × Answered W.contents E.contents out.old out.new err.old err.new status answer)) }
     ensures good { OnOk result (out.new.failed ≡ false) }
+    ensures begun { OnErr result (Begun (FirstTextsAnswer (F.gives files.now)
+        (StreamGives R.remaining input.old input.new) (TaskAnswer task.now) (map string_bytes names.now))
+        (W.contents out.old.inner) (W.contents out.new.inner)) }
     ensures memory { IfErr result (λ e. e ≡ RunError.OutOfMemory → out.new.failed ≡ false) }
     ensures write { IfErr result (λ e. e ≡ RunError.Write → out.new.failed ≡ true) }
     ensures read { IfErr result (λ e. e ≢ RunError.Read) }

@@ -1,8 +1,8 @@
 //! The program `tokens`: its arguments, what it says if it fails, and its exit status.
-ghost use Rattle.std.specs.Prelude.{◌≡◌, ◌≢◌, ◌≤◌, false, true, map, string_bytes, IfOk, OnOk, IfErr};
+ghost use Rattle.std.specs.Prelude.{◌≡◌, ◌≢◌, ◌≤◌, false, true, map, string_bytes, IfOk, OnOk, OnErr, IfErr};
 ghost use Rattle.std.specs.Process.{exit_status};
-ghost use Rattle.tokens_lib.specs.Answer.{Answer, Answered};
-ghost use Rattle.tokens_lib.specs.Program.{CommandAnswer, IsAnswer};
+ghost use Rattle.tokens_lib.specs.Answer.{Answer, Answered, TextsAnswer, FirstTextsAnswer, Begun};
+ghost use Rattle.tokens_lib.specs.Program.{CommandAnswer, IsAnswer, IsFirstAnswer};
 ghost use Rattle.tokens_lib.specs.Streams.{StreamGives};
 
 use crate::by_rules::{lexer_by_name, list_clashes};
@@ -40,9 +40,13 @@ fn run_command<F: Files, R: Read, W: Write, E: Write>(
     requires input_good { input.old.failed ≡ false }
     requires out_good { out.old.failed ≡ false }
     ensures answer { IfOk result (λ status. (answer : Answer)
-        × (CommandAnswer (F.gives files.now) (StreamGives R.remaining input.old input.new) command.now answer
+        × (CommandAnswer (F.gives files.now) (TextsAnswer (F.gives files.now)
+        (StreamGives R.remaining input.old input.new)) command.now answer
         × Answered W.contents E.contents out.old out.new err.old err.new status answer)) }
     ensures good { OnOk result (out.new.failed ≡ false) }
+    ensures begun { OnErr result (Begun (CommandAnswer (F.gives files.now)
+        (FirstTextsAnswer (F.gives files.now) (StreamGives R.remaining input.old input.new)) command.now)
+        (W.contents out.old.inner) (W.contents out.new.inner)) }
     ensures memory { IfErr result (λ e. e ≡ RunError.OutOfMemory → out.new.failed ≡ false) }
     ensures write { IfErr result (λ e. e ≡ RunError.Write → out.new.failed ≡ true) }
     ensures read { IfErr result (λ e. e ≢ RunError.Read) }
@@ -112,7 +116,8 @@ fn run_command<F: Files, R: Read, W: Write, E: Write>(
 ///
 /// # Errors
 ///
-/// `OutOfMemory` if a request for memory was refused, and `Write` if a write to `out` failed or took no byte.
+/// `OutOfMemory` if a request for memory was refused, and `Write` if a write to `out` failed or took no byte. In either case `out`
+/// took a prefix of what is written for the texts that were come to, and nothing else.
 pub fn run<F: Files, R: Read, W: Write, E: Write>(
     alloc: Global,
     words: &[String],
@@ -131,6 +136,9 @@ pub fn run<F: Files, R: Read, W: Write, E: Write>(
     ensures status { IfOk result (λ status. status ≤ 6) }
     ensures good { OnOk result (out.new.failed ≡ false) }
 
+    ensures begun { OnErr result (Begun (IsFirstAnswer (F.gives files.now)
+        (StreamGives R.remaining input.old input.new) (map string_bytes words.now))
+        (W.contents out.old.inner) (W.contents out.new.inner)) }
     ensures memory { IfErr result (λ e. e ≡ RunError.OutOfMemory → out.new.failed ≡ false) }
     ensures write { IfErr result (λ e. e ≡ RunError.Write → out.new.failed ≡ true) }
     ensures read { IfErr result (λ e. e ≢ RunError.Read) }

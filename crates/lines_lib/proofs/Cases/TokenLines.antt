@@ -82,7 +82,8 @@ another_byte ts ps (xs, (are, part)) = by_tokens xs (tokens-unique ts ps [] 0 xs
     by_tokens : (xs : List (Result Token TokenFault)) → AreSameTokens xs [] → AppendsPrefix (Some []) (Some (codes "x")) (text_lines None [] xs) → ⊥
     by_tokens [] same (zero, le, e) = absurd (cc)
     by_tokens [] same (suc n, le, e) = let first : 120 ≡ 101 = ap (λ u. get_or u 0 0) e in omega (arith, first)
-    by_tokens (x ∷ xs) same part = absurd same
+    by_tokens (Ok x ∷ xs) same part = absurd same
+    by_tokens (Err x ∷ xs) same part = absurd same
 
 -- ---- places of faults
 

@@ -1,5 +1,6 @@
 -- Cases of specs/Program.antt.
-use Rattle.std.proofs.Common.{◌≡◌, [], ◌∷◌, ◌++◌, Some, None, codes, decimal, length, length-append, refl, ap, arith}
+use Rattle.std.proofs.Common.{◌≡◌, ℕ, true, false, inl, inr, List, [], ◌∷◌, ◌++◌, Some, None, codes, decimal, length, length-append, get_or, refl, ap, arith}
+use Rattle.std.specs.Prelude.{Err}
 use Rattle.lalrpop_book.specs.Clashes.{Entry}
 use Rattle.lalrpop_book.specs.declared.error.NfaConstructionError.TheVariants.{LookAround}
 use Rattle.lalrpop_rules.specs.declared.error.RulesError.TheVariants.{NotCompiled}
@@ -7,7 +8,14 @@ use Rattle.lalrpop_rules.specs.RuleFault.{reason_of}
 use Rattle.lalrpop_rules.specs.declared.rule_file.error.LineFault.TheVariants.{NoEquals}
 use Rattle.lalrpop_rules.specs.declared.rule_file.error.RuleFileError.TheVariants.{BadLine}
 use Rattle.lexdfa_lib.specs.declared.outcome.Outcome.TheVariants.{Ambiguous, Line}
-use Rattle.tokens_lib.specs.Program.{rules_status, clashes_status, reported_status, IsListing, SaysBadLine, placed}
+use Rattle.tokens_lib.specs.Answer.{Answer, refusal, about}
+use Rattle.tokens_lib.specs.Command.{IsCommand}
+use Rattle.tokens_lib.specs.Program.{rules_status, clashes_status, reported_status, IsListing, SaysBadLine, placed, IsFirstAnswer}
+use Rattle.tokens_lib.specs.Streams.{Given}
+use Rattle.tokens_lib.specs.declared.command.Command.{Command}
+use Rattle.tokens_lib.specs.declared.command.Command.TheVariants.{Cut, Show, Clashes, CutByTerminals, TerminalClashes}
+use Rattle.tokens_lib.specs.declared.command.Markup.TheVariants.{Html, Ansi}
+use Rattle.tokens_lib.specs.declared.layout.LineForm.TheVariants.{Plain, Json}
 
 -- a rule that can't be compiled
 refused : rules_status (NotCompiled 0 LookAround) ≡ 2
@@ -31,3 +39,27 @@ bad_line = (codes "    A /x/\n", refl)
 
 no_place : ¬ SaysBadLine (BadLine 2 7 NoEquals) []
 no_place said = absurd (omega (arith, ap length said.1, length-append (decimal 2) (codes ":" ++ (decimal 7 ++ (codes ": " ++ (reason_of NoEquals ++ (codes "\n" ++ said.0)))))))
+
+-- rules that can't be read; and no arguments, which are no command
+unread_rules : (Gives : List ℕ → Given → Type 0) (InputGives : Given → Type 0) → Gives (codes "r") (Err (codes "e"))
+    → IsFirstAnswer Gives InputGives (codes "r" ∷ []) (refusal 6 (about (codes "r") (codes "e")))
+unread_rules Gives InputGives gives = (
+  Cut Plain false (record { ref_ptr = (0, 0); now = codes "r" }) (record { ref_ptr = (0, 0); now = [] }),
+  ((λ is. let e : 114 ≡ 45 = ap (λ u. get_or u 0 0) is.1 in omega (arith, e), refl), inl (codes "e", (gives, refl))),
+)
+
+no_command : (command : Command) → ¬ IsCommand [] command
+no_command (Cut Plain false rules files) is = let e = is.1 in absurd (cc)
+no_command (Cut Plain true rules files) is = let e = is.1 in absurd (cc)
+no_command (Cut Json false rules files) is = let e = is.1 in absurd (cc)
+no_command (Cut Json true rules files) (inl is) = let e = is.1 in absurd (cc)
+no_command (Cut Json true rules files) (inr is) = let e = is.1 in absurd (cc)
+no_command (Show Html rules files) is = let e = is.1 in absurd (cc)
+no_command (Show Ansi rules files) is = let e = is.1 in absurd (cc)
+no_command (Clashes rules) is = let e = is.1 in absurd (cc)
+no_command (CutByTerminals false rules files) is = let e = is.1 in absurd (cc)
+no_command (CutByTerminals true rules files) is = let e = is.1 in absurd (cc)
+no_command (TerminalClashes rules) is = let e = is.1 in absurd (cc)
+
+nothing_asked : (Gives : List ℕ → Given → Type 0) (InputGives : Given → Type 0) (answer : Answer) → ¬ IsFirstAnswer Gives InputGives [] answer
+nothing_asked Gives InputGives answer (command, (is, done)) = no_command command is

@@ -5,7 +5,7 @@ use Rattle.lalrpop_lexer.specs.Dfa.{Row}
 use Rattle.lalrpop_lexer.specs.LexerTokens.{GivesToken}
 use Rattle.lalrpop_lexer.proofs.LexerCosts.{cut_steps}
 use Rattle.lalrpop_lexer.proofs.LexerCuttings.{tokens_from_start, token_count_from_start}
-use Rattle.lines_lib.proofs.Sending.{sent_so_far, sent_in_part, step_of, first_of, begins_at, boundary_of, at_any_error, where_it_is_ok, kept_on, kept_all, yields_more, count_fits, fault_ends, none_ends, all_written, at_the_last, stop_begins}
+use Rattle.lines_lib.proofs.Sending.{sent_nothing, sent_so_far, sent_in_part, step_of, first_of, begins_at, boundary_of, at_any_error, where_it_is_ok, kept_on, kept_all, yields_more, count_fits, fault_ends, none_ends, all_written, at_the_last, stop_begins}
 use Rattle.lines_lib.proofs.TextLines.{then_a_fault, then_the_end}
 use Rattle.lexdfa_lib.proofs.Known.{Appends-again}
 use Rattle.lines_lib.proofs.token_lines.write_tokens.Goals as goal
@@ -23,6 +23,9 @@ loop-item-init g c = record {
   text = search rules;
   walked = search rules;
 }
+
+pub returns-in_default-clause-prefix : goal.returns-in_default-clause-prefix
+returns-in_default-clause-prefix g c = sent_nothing _ c.args.lexer.now.trees c.args.lexer.now.precedences c.args.text.now _ c.tokens_linear.ensures.no_clash
 
 pub push_token-requires-clause-boundary : goal.push_token-requires-clause-boundary
 push_token-requires-clause-boundary g c =

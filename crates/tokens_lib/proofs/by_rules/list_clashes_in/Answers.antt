@@ -1,7 +1,8 @@
 use Rattle.std.proofs.Common.{inl, inr, refl}
-use Rattle.std.proofs.lemmas.Result.{IfOk-weaker}
+use Rattle.std.proofs.lemmas.Result.{IfOk-weaker, on_err_weaker}
 use Rattle.tokens_lib.specs.Answer.{headed, refusal}
 use Rattle.tokens_lib.proofs.AnswerLaws.{Answered-refused, ok_and}
+use Rattle.tokens_lib.proofs.BegunLaws.{Begun-weaker}
 use Rattle.tokens_lib.proofs.by_rules.list_clashes_in.Goals as goal
 
 pub returns-in-Err-clause-answer : goal.returns-in-Err-clause-answer
@@ -20,3 +21,7 @@ returns-in-Err-clause-answer g c =
 pub returns-in-Ok-clause-answer : goal.returns-in-Ok-clause-answer
 returns-in-Ok-clause-answer g c =
     IfOk-weaker c.list_clashes_of.result _ _ (λ status x. (x.0, (inr (c.in-Ok.file.rules.items, (c.in-Ok.ensures.rules, x.1.0)), x.1.1))) c.list_clashes_of.ensures.answer
+
+pub returns-in-Ok-clause-begun : goal.returns-in-Ok-clause-begun
+returns-in-Ok-clause-begun g c =
+    on_err_weaker c.list_clashes_of.result (Begun-weaker _ _ _ _ (λ answer is. inr (c.in-Ok.file.rules.items, (c.in-Ok.ensures.rules, is)))) c.list_clashes_of.ensures.begun

@@ -5,6 +5,8 @@ use Rattle.tokens_lib.specs.Answer.{headed, refusal}
 use Rattle.tokens_lib.specs.Program.{rules_status, clashes_status}
 use Rattle.tokens_lib.specs.RuleClashes.{named_line}
 use Rattle.tokens_lib.proofs.AnswerLaws.{Answered-refused, TakesBy-none, ok_and}
+use Rattle.tokens_lib.proofs.BegunLaws.{begun_by_write}
+use Rattle.lines_lib.proofs.Sending.{at_any_error}
 use Rattle.tokens_lib.proofs.by_rules.list_clashes_of.Goals as goal
 
 pub returns-in-Err-clause-answer : goal.returns-in-Err-clause-answer
@@ -36,3 +38,16 @@ returns-clause-answer g c =
         ),
       ),
     )
+
+pub returns-in_err-write_rule_clashes-clause-begun : goal.returns-in_err-write_rule_clashes-clause-begun
+returns-in_err-write_rule_clashes-clause-begun g c =
+    let found = c.in-Ok.found.items in
+    at_any_error _ c.from_residual.result
+    (begun_by_write _ g.W.Write.contents _ _ _ c.in_err-write_rule_clashes.ensures.nothing_written
+    (λ e. inr (
+      record { status = clashes_status found; out = flat_map (named_line (names_of c.args.file.now.rules.items)) found; err = [] },
+      (
+        inr (found, (rw c.deref.ensures.value at c.in-Ok.ensures.clashes, refl)),
+        rw (c.deref-2.ensures.value, c.deref-3.ensures.value) at (c.in_err-write_rule_clashes.ensures.prefix e),
+      ),
+    )))

@@ -2,6 +2,8 @@ use Rattle.std.proofs.Common.{[], Some, None, refl}
 use Rattle.std.proofs.lemmas.Result.{IfOk-weaker}
 use Rattle.lexdfa_lib.specs.Status.{outcome_status}
 use Rattle.tokens_lib.proofs.AnswerLaws.{TakesBy-none, ok_and}
+use Rattle.tokens_lib.proofs.BegunLaws.{begun_by_write, terminal_clashes_begun, terminal_clashes_written}
+use Rattle.lines_lib.proofs.Sending.{at_any_error}
 use Rattle.tokens_lib.proofs.by_terminals.list_clashes_in.Goals as goal
 
 pub returns-in-None-clause-answer : goal.returns-in-None-clause-answer
@@ -21,3 +23,14 @@ returns-in-Some-clause-answer g c =
       ((Some c.in-Some.outcome, (w.1.0, (refl, x.1.1.0))), (x.0, (w.1.1, x.1.1.1))),
     ))
     (ok_and c.report_unlisted.result _ _ e.status e.said)
+
+pub returns-in_err-write_clashes-clause-begun : goal.returns-in_err-write_clashes-clause-begun
+returns-in_err-write_clashes-clause-begun g c =
+    at_any_error _ c.from_residual.result
+    (begun_by_write _ g.W.Write.contents _ _ _ c.in_err-write_clashes.ensures.nothing_written
+    (λ e. terminal_clashes_begun c.args.name.now c.args.bytes.now _ _ (c.in_err-write_clashes.ensures.prefix e)))
+
+pub returns-in-Some-clause-begun : goal.returns-in-Some-clause-begun
+returns-in-Some-clause-begun g c =
+    at_any_error _ c.report_unlisted.result
+    (terminal_clashes_written c.args.name.now c.args.bytes.now _ _ _ c.in_ok-write_clashes.ensures.written)

@@ -2,6 +2,8 @@ use Rattle.std.proofs.Common.{◌<◌, length, string_bytes, ap, ◌∙◌, arit
 use Rattle.tokens_lib.specs.Answer.{followed}
 use Rattle.tokens_lib.specs.Internal.Tasks.{TaskAnswer}
 use Rattle.tokens_lib.proofs.AnswerLaws.{files_more, Answered-again}
+use Rattle.tokens_lib.proofs.BegunLaws.{files_begun}
+use Rattle.lines_lib.proofs.Sending.{at_any_error}
 use Rattle.tokens_lib.proofs.cut_files.cut_each.Goals as goal
 
 pub loop-name-preserved : goal.loop-name-preserved
@@ -23,3 +25,11 @@ loop-name-preserved g c =
       no_late_write = c.in_ok-own.ensures.no_late_write ∙ c.loop-name.invariant.no_late_write;
       no_late_message = c.in_ok-own.ensures.no_late_message ∙ c.loop-name.invariant.no_late_message;
     }
+
+pub returns-in_err-own-clause-begun : goal.returns-in_err-own-clause-begun
+returns-in_err-own-clause-begun g c =
+    let before = c.loop-name.invariant.answer in
+    let within : c.loop-name.name-index < length c.args.names.now = omega arith in
+    at_any_error _ c.from_residual.result
+    (files_begun (g.F.Files.gives c.args.files.now) (TaskAnswer c.args.task.now) string_bytes c.args.names.now c.loop-name.name-index c.name-item.result c.as_str.result.now
+    before.0 _ _ _ within (c.as_str.ensures.value ∙ ap string_bytes c.name-item.is) before.1.0 before.1.1.1.0 c.in_err-own.ensures.begun)

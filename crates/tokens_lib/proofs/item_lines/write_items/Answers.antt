@@ -4,11 +4,15 @@ use Rattle.lalrpop_rules.specs.CutToEnd.{GivesPiece}
 use Rattle.lexdfa_lib.proofs.Known.{Appends-again}
 use Rattle.tokens_lib.proofs.PieceLines.{cut_to_end}
 use Rattle.lines_lib.proofs.Sending.{boundary_of, at_any_error, where_it_is_ok}
-use Rattle.tokens_lib.proofs.ItemSending.{firsts_from_start, begins_from_start, one_more, all_given, place_of, fits_in, first_boundary, first_is, sent_so_far, sent_in_part, sent_whole, kept_on, kept_all, up_to_it}
+use Rattle.tokens_lib.proofs.ItemSending.{firsts_from_start, begins_from_start, one_more, all_given, place_of, fits_in, first_boundary, first_is, sent_nothing, sent_so_far, sent_in_part, sent_whole, kept_on, kept_all, up_to_it}
 use Rattle.tokens_lib.proofs.item_lines.write_items.Goals as goal
 
 pub cutting-init : goal.cutting-init
 cutting-init g c = ([], search rules)
+
+pub returns-in_default-clause-prefix : goal.returns-in_default-clause-prefix
+returns-in_default-clause-prefix g c =
+    sent_nothing c.args.lexer.now c.args.layout.now c.args.text.now _ c.items_linear.ensures.no_clash c.utf8.text
 
 pub returns-in_err-write_whole-clause-prefix : goal.returns-in_err-write_whole-clause-prefix
 returns-in_err-write_whole-clause-prefix g c =

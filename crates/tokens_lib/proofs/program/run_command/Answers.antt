@@ -1,10 +1,11 @@
 use Rattle.std.proofs.Common.{length, map, string_bytes}
 use Rattle.std.specs.Prelude.{nat_lt}
-use Rattle.tokens_lib.specs.Answer.{TextsAnswer}
+use Rattle.tokens_lib.specs.Answer.{TextsAnswer, FirstTextsAnswer}
 use Rattle.tokens_lib.specs.Streams.{StreamGives}
 use Rattle.tokens_lib.specs.TextAnswer.{TokensAnswer, PiecesAnswer, PageAnswer}
 use Rattle.tokens_lib.proofs.AnswerLaws.{Answered-refused}
 use Rattle.tokens_lib.proofs.ProgramLaws.{lexer_answered, terminals_answered, rules_refused}
+use Rattle.tokens_lib.proofs.BegunLaws.{lexer_begun, terminals_begun}
 use Rattle.tokens_lib.proofs.program.run_command.Goals as goal
 
 -- ---- the lines of pieces
@@ -68,3 +69,29 @@ returns-in-Ok-3-clause-answer g c =
     c.in-CutByTerminals.rules.now c.in-Ok-3.lexer.trees c.in-Ok-3.lexer.precedences g.W.Write.contents g.E.Write.contents c.args.out.now c.cut_all-in-Ok-3.new.out
     c.args.err.now c.terminals_by_name.new.err c.cut_all-in-Ok-3.new.err
     (rw c.in-Ok-3.is at c.in_ok-lexer-in-CutByTerminals.ensures.lexer) (rw c.in-Ok-3.is at c.in_ok-lexer-in-CutByTerminals.ensures.quiet) c.cut_all-in-Ok-3.ensures.answer)
+
+-- ---- an error
+
+pub returns-in-Ok-clause-begun : goal.returns-in-Ok-clause-begun
+returns-in-Ok-clause-begun g c =
+    let names = map string_bytes c.in-Cut.names.now in
+    rw c.in-Cut.is
+    (lexer_begun c.cut_all.result (g.F.Files.gives c.args.files.now)
+    (λ set. FirstTextsAnswer (g.F.Files.gives c.args.files.now) (StreamGives g.R.Read.remaining c.args.input.now c.cut_all.new.input) (PiecesAnswer set c.in-Cut.form c.in-Cut.recovers (nat_lt 1 (length c.in-Cut.names.now))) names)
+    c.in-Cut.rules.now c.in-Ok.lexer _ _ (rw c.in-Ok.is at c.in_ok-lexer-in-Cut.ensures.lexer) c.cut_all.ensures.begun)
+
+pub returns-in-Ok-2-clause-begun : goal.returns-in-Ok-2-clause-begun
+returns-in-Ok-2-clause-begun g c =
+    let names = map string_bytes c.in-Show.names.now in
+    rw c.in-Show.is
+    (lexer_begun c.cut_all-in-Ok-2.result (g.F.Files.gives c.args.files.now)
+    (λ set. FirstTextsAnswer (g.F.Files.gives c.args.files.now) (StreamGives g.R.Read.remaining c.args.input.now c.cut_all-in-Ok-2.new.input) (PageAnswer set c.in-Show.markup) names)
+    c.in-Show.rules.now c.in-Ok-2.lexer _ _ (rw c.in-Ok-2.is at c.in_ok-lexer-in-Show.ensures.lexer) c.cut_all-in-Ok-2.ensures.begun)
+
+pub returns-in-Ok-3-clause-begun : goal.returns-in-Ok-3-clause-begun
+returns-in-Ok-3-clause-begun g c =
+    let names = map string_bytes c.in-CutByTerminals.names.now in
+    rw c.in-CutByTerminals.is
+    (terminals_begun c.cut_all-in-Ok-3.result (g.F.Files.gives c.args.files.now)
+    (λ ts ps. FirstTextsAnswer (g.F.Files.gives c.args.files.now) (StreamGives g.R.Read.remaining c.args.input.now c.cut_all-in-Ok-3.new.input) (TokensAnswer ts ps c.in-CutByTerminals.places) names)
+    c.in-CutByTerminals.rules.now c.in-Ok-3.lexer.trees c.in-Ok-3.lexer.precedences _ _ (rw c.in-Ok-3.is at c.in_ok-lexer-in-CutByTerminals.ensures.lexer) c.cut_all-in-Ok-3.ensures.begun)

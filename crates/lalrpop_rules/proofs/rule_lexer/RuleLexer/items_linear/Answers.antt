@@ -3,6 +3,7 @@ use Rattle.std.specs.Prelude.{Option, Some, None, Result, Ok, Err, IfOk, IsSome,
 use Rattle.std.specs.Iterator.{Yields}
 use Rattle.std.specs.Str.{chars}
 use Rattle.std.proofs.lemmas.Result.{IfOk-weaker}
+use Rattle.lalrpop_book.specs.Clash.{NoClash}
 use Rattle.lalrpop_lexer.specs.Matching.{open_states}
 use Rattle.lalrpop_lexer.specs.Rules.{Rules}
 use Rattle.lalrpop_rules.specs.CutToEnd.{CutToEnd, Memo, uncut, GivesPiece}
@@ -74,3 +75,6 @@ pub returns-clause-cost : goal.returns-clause-cost
 returns-clause-cost c =
     let start = start_of c.with_memo.result _ _ _ _ c.args.text.now c.lexer.ensures.rules c.skips.ensures.skips c.with_memo.ensures.start in
     cost_of c.with_memo.result _ _ _ c.args.text.now c.lexer.ensures.rules start c.with_memo.ensures.memo
+
+pub returns-clause-no_clash : goal.returns-clause-no_clash
+returns-clause-no_clash c = subst (λ (r : Rules). NoClash r.trees r.precedences) c.lexer.ensures.rules c.with_memo.ensures.no_clash

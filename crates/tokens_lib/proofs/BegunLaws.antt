@@ -1,0 +1,168 @@
+-- What was written before an error: a prefix of an answer, or nothing.
+use Rattle.std.proofs.Common.{◌≡◌, ◌≢◌, ℕ, ◌+◌, ◌<◌, get_or, Bool, inl, inr, List, [], ◌∷◌, ◌++◌, length, take, drop, map, flat_map, refl, sym, ap, subst, ◌∙◌}
+use Rattle.std.specs.Prelude.{Option, Some, None, Result, Ok, OnErr, option_map, String, string_bytes}
+use Rattle.std.specs.Bool.{then_some}
+use Rattle.std.specs.Borrow.{Bor}
+use Rattle.std.specs.Io.KnownBytes.{Appends}
+use Rattle.std.specs.Str.{IsUtf8}
+use Rattle.std.proofs.Math.Seq.{take-nil}
+use Rattle.std.proofs.lemmas.List.{append-nil, map-append, take-append-drop}
+use Rattle.std.proofs.lemmas.Result.{on_err_weaker}
+use Rattle.std.proofs.lemmas.Str.{IsUtf8-string_bytes}
+use Rattle.lalrpop_book.specs.Tree.{Tree}
+use Rattle.lalrpop_rules.specs.RuleSet.{RuleSet}
+use Rattle.lexdfa_lib.proofs.Known.{Appends-again}
+use Rattle.lexdfa_lib.specs.Answer.{HaveAutomaton}
+use Rattle.lexdfa_lib.specs.Status.{outcome_status}
+use Rattle.lexdfa_lib.specs.Watch.{Watch, AppendsPrefix}
+use Rattle.lexdfa_lib.specs.declared.error.RunError.{RunError}
+use Rattle.lexdfa_lib.specs.declared.error.RunError.TheVariants.{OutOfMemory, Read, Write}
+use Rattle.lexdfa_lib.specs.declared.outcome.Outcome.{Outcome}
+use Rattle.lexdfa_lib.specs.declared.outcome.Outcome.TheVariants.{Match, NoMatch, All, Stopped, Refused, Ambiguous, Syntax, Line}
+use Rattle.lines_lib.proofs.Sending.{Appends-none, AppendsPrefix-behind, AppendsPrefix-front}
+use Rattle.lines_lib.specs.ClashesShown.{WritesClashes, WritesClashesPrefix}
+use Rattle.lines_lib.specs.TokenLines.{text_lines, WritesTokensPrefix}
+use Rattle.tokens_lib.specs.Answer.{Answer, followed, Reads, TextOf, FilesAnswer, FirstFilesAnswer, FirstTextsAnswer, Begun}
+use Rattle.tokens_lib.specs.ItemLines.{piece_line, WritesItemsPrefix}
+use Rattle.tokens_lib.specs.PageWritten.{WritesPagePrefix}
+use Rattle.tokens_lib.specs.Program.{AreRulesOf, RulesOf, LexerOf, TerminalsOf, TerminalClashesAnswer}
+use Rattle.tokens_lib.specs.Streams.{Given}
+use Rattle.tokens_lib.specs.TextAnswer.{TokensAnswer, PiecesAnswer, PageAnswer}
+use Rattle.tokens_lib.specs.Internal.Tasks.{IsDone}
+use Rattle.tokens_lib.specs.declared.command.Markup.{Markup}
+use Rattle.tokens_lib.specs.declared.cut_files.CutResult.{CutResult}
+use Rattle.tokens_lib.specs.declared.layout.LineForm.{LineForm}
+use Rattle.tokens_lib.proofs.AnswerLaws.{files_more}
+use Rattle.tokens_lib.proofs.ProgramLaws.{by_lexer, by_terminals}
+use Rattle.tokens_lib.proofs.TextAnswers.{then_some-now, tokens_told, pieces_told, page_told}
+
+pub Begun-nothing : (Is : Answer → Type 0) (a : Option (List ℕ)) → Begun Is a a
+Begun-nothing Is a = inl (Appends-none a)
+
+pub Begun-weaker : (P Q : Answer → Type 0) (a b : Option (List ℕ)) → ((answer : Answer) → P answer → Q answer) → Begun P a b → Begun Q a b
+Begun-weaker P Q a b then (inl nothing) = inl nothing
+Begun-weaker P Q a b then (inr (answer, (is, part))) = inr (answer, (then answer is, part))
+
+-- a prefix of all that there is
+whole : (a b : Option (List ℕ)) (bytes : List ℕ) → Appends a b bytes → AppendsPrefix a b bytes
+whole a b bytes h = subst (AppendsPrefix a b) (append-nil bytes) (AppendsPrefix-front a b bytes [] h)
+
+Begun-whole : (Is : Answer → Type 0) (a b : Option (List ℕ)) (answer : Answer) → Is answer → Appends a b answer.out → Begun Is a b
+Begun-whole Is a b answer is h = inr (answer, (is, whole a b answer.out h))
+
+-- only a failed write leaves a part
+pub begun_by_write : {W : Type 0} (Is : Answer → Type 0) (contents : W → Option (List ℕ)) (old new : Watch W) (e : RunError) → (e ≢ Write → new ≡ old)
+    → (e ≡ Write → Begun Is (contents old.inner) (contents new.inner)) → Begun Is (contents old.inner) (contents new.inner)
+begun_by_write {W} Is contents old new e nothing part = by e nothing part
+  where
+    unchanged : new ≡ old → Begun Is (contents old.inner) (contents new.inner)
+    unchanged same = subst (λ (w : Watch W). Begun Is (contents old.inner) (contents w.inner)) (sym same) (Begun-nothing Is (contents old.inner))
+
+    by : (e : RunError) → (e ≢ Write → new ≡ old) → (e ≡ Write → Begun Is (contents old.inner) (contents new.inner)) → Begun Is (contents old.inner) (contents new.inner)
+    by Write nothing part = part refl
+    by OutOfMemory nothing part = unchanged (nothing (λ e. absurd (cc)))
+    by Read nothing part = unchanged (nothing (λ e. absurd (cc)))
+
+-- ---- a text
+
+pub tokens_begun : (ts : List Tree) (ps : List ℕ) (places : Bool) (name : Bor (List ℕ)) (text : List ℕ) (a b : Option (List ℕ))
+    → WritesTokensPrefix ts ps (option_map (λ (f : Bor (List ℕ)). f.now) (then_some places name)) text a b → Begun (TokensAnswer ts ps places name.now text) a b
+tokens_begun ts ps places name text a b (xs, (are, part)) = inr (
+  tokens_told places name.now text xs,
+  ((xs, (are, refl)), subst (λ (file : Option (List ℕ)). AppendsPrefix a b (text_lines file text xs)) (then_some-now places name) part),
+)
+
+pub pieces_begun : (rules : RuleSet) (form : LineForm) (recovers several : Bool) (name : Bor (List ℕ)) (text : List ℕ) (a b : Option (List ℕ))
+    → WritesItemsPrefix rules (record { form = form; recovers = recovers; file = then_some several name }) text a b
+    → Begun (PiecesAnswer rules form recovers several name.now text) a b
+pieces_begun rules form recovers several name text a b (xs, (are, part)) = inr (
+  pieces_told rules form recovers several name.now text xs,
+  (
+    (xs, (are, refl)),
+    subst (λ (file : Option (List ℕ)). AppendsPrefix a b (flat_map (piece_line form recovers file rules.names text) xs)) (then_some-now several name) part,
+  ),
+)
+
+pub page_begun : (rules : RuleSet) (markup : Markup) (name text : List ℕ) (a b : Option (List ℕ)) → WritesPagePrefix rules markup text a b
+    → Begun (PageAnswer rules markup name text) a b
+page_begun rules markup name text a b (xs, (are, part)) = inr (page_told rules markup xs, ((xs, (are, refl)), part))
+
+-- all of a text was written
+pub done_begun : (Is : Answer → Type 0) (a b : Option (List ℕ)) (file text : List ℕ) (ending : CutResult)
+    → (answer : Answer) × (Is answer × ((written : List ℕ) × (IsDone file text written ending answer × Appends a b written))) → Begun Is a b
+done_begun Is a b file text ending (answer, (is, (written, (done, h)))) = Begun-whole Is a b answer is (subst (Appends a b) (sym done.written) h)
+
+-- bytes are a text
+pub text_begun : {Z : Type 0} (r : Result ℕ RunError) (IsFor : List ℕ → List ℕ → Answer → Type 0) (file bytes : List ℕ) (text : String Z) (shown : List ℕ) (a b : Option (List ℕ))
+    → shown ≡ string_bytes text → string_bytes text ≡ bytes → string_bytes text ≢ [] → OnErr r (Begun (IsFor file shown) a b) → OnErr r (Begun (TextOf IsFor file bytes) a b)
+text_begun r IsFor file bytes text shown a b is same some h =
+    on_err_weaker r
+    (Begun-weaker _ _ a b
+    (λ answer done. inr (λ none. some (same ∙ none), (subst IsUtf8 same (IsUtf8-string_bytes text), subst (λ (bs : List ℕ). IsFor file bs answer) (is ∙ same) done))))
+    h
+
+-- ---- files
+
+-- the first of some files, and the others
+fronts : {T : Type 0} (text : T → List ℕ) (names : List T) (i : ℕ) → map text names ≡ map text (take i names) ++ map text (drop i names)
+fronts text names i = ap (map text) (sym (take-append-drop i names)) ∙ map-append text (take i names) (drop i names)
+
+-- the answer to some files was written, and a part of that to the next one
+pub files_begun : {T : Type 0} (Gives : List ℕ → Given → Type 0) (IsFor : List ℕ → List ℕ → Answer → Type 0) (text : T → List ℕ) (names : List T) (i : ℕ) (d : T) (file : List ℕ)
+    (before : Answer) (a b c : Option (List ℕ)) → i < length names → file ≡ text (get_or names i d) → FilesAnswer Gives IsFor (map text (take i names)) before
+    → Appends a b before.out → Begun (Reads Gives (TextOf IsFor) file) b c → Begun (FirstFilesAnswer Gives IsFor (map text names)) a c
+files_begun Gives IsFor text names i d file before a b c within is files h (inl nothing) =
+    Begun-whole (FirstFilesAnswer Gives IsFor (map text names)) a c before (map text (take i names), (map text (drop i names), (fronts text names i, files)))
+    (subst (Appends a c) (append-nil before.out) (Appends-again a b c before.out [] h nothing))
+files_begun Gives IsFor text names i d file before a b c within is files h (inr (own, (reads, part))) = inr (
+  followed before own,
+  (
+    (map text (take (i + 1) names), (map text (drop (i + 1) names), (fronts text names (i + 1), files_more Gives IsFor text names i d file before own within is files reads))),
+    subst (λ (bytes : List ℕ). AppendsPrefix a c (before.out ++ bytes)) (append-nil own.out) (AppendsPrefix-behind a b c before.out own.out [] h part),
+  ),
+)
+
+-- there are files
+pub first_texts_begun : {T : Type 0} (r : Result ℕ RunError) (Gives : List ℕ → Given → Type 0) (InputGives : Given → Type 0) (IsFor : List ℕ → List ℕ → Answer → Type 0) (text : T → List ℕ)
+    (names : List T) (a b : Option (List ℕ)) → length names ≢ 0 → OnErr r (Begun (FirstFilesAnswer Gives IsFor (map text names)) a b)
+    → OnErr r (Begun (FirstTextsAnswer Gives InputGives IsFor (map text names)) a b)
+first_texts_begun r Gives InputGives IsFor text [] a b some h = absurd (some refl)
+first_texts_begun r Gives InputGives IsFor text (name ∷ names) a b some h = h
+
+-- ---- the program
+
+pub lexer_begun : (r : Result ℕ RunError) (Gives : List ℕ → Given → Type 0) (IsFor : RuleSet → Answer → Type 0) (rules : List ℕ) (set : RuleSet) (a b : Option (List ℕ))
+    → (bytes : List ℕ) × (Gives rules (Ok bytes) × AreRulesOf bytes set) → OnErr r (Begun (IsFor set) a b)
+    → OnErr r (Begun (Reads Gives (RulesOf (LexerOf IsFor)) rules) a b)
+lexer_begun r Gives IsFor rules set a b are h = on_err_weaker r (Begun-weaker _ _ a b (λ answer is. by_lexer Gives IsFor rules set answer are is)) h
+
+pub terminals_begun : (r : Result ℕ RunError) (Gives : List ℕ → Given → Type 0) (IsFor : List Tree → List ℕ → Answer → Type 0) (rules : List ℕ) (ts : List Tree) (ps : List ℕ)
+    (a b : Option (List ℕ)) → (bytes : List ℕ) × (Gives rules (Ok bytes) × HaveAutomaton bytes ts ps) → OnErr r (Begun (IsFor ts ps) a b)
+    → OnErr r (Begun (Reads Gives (TerminalsOf IsFor) rules) a b)
+terminals_begun r Gives IsFor rules ts ps a b are h = on_err_weaker r (Begun-weaker _ _ a b (λ answer is. by_terminals Gives IsFor rules ts ps answer are is)) h
+
+-- a file gave bytes
+pub file_begun : (r : Result ℕ RunError) (Gives : List ℕ → Given → Type 0) (IsFor : List ℕ → List ℕ → Answer → Type 0) (file bytes slice : List ℕ) (a b : Option (List ℕ))
+    → Gives file (Ok bytes) → slice ≡ bytes → OnErr r (Begun (IsFor file slice) a b) → OnErr r (Begun (Reads Gives IsFor file) a b)
+file_begun r Gives IsFor file bytes slice a b gives same h =
+    on_err_weaker r (Begun-weaker _ _ a b (λ answer is. inr (bytes, (gives, subst (λ (bs : List ℕ). IsFor file bs answer) same is)))) h
+
+nothing_of_it : (a b : Option (List ℕ)) (bytes : List ℕ) → bytes ≡ [] → AppendsPrefix a b bytes → Appends a b []
+nothing_of_it a b bytes none (n, le, h) = subst (Appends a b) (ap (take n) none ∙ take-nil n) h
+
+-- the clashes of terminals are written if these are what is wrong
+pub terminal_clashes_begun : (file bytes : List ℕ) (a b : Option (List ℕ)) → WritesClashesPrefix bytes a b → Begun (TerminalClashesAnswer file bytes) a b
+terminal_clashes_begun file bytes a b (None, (written, (are, part))) = inr (record { status = 0; out = written; err = [] }, ((None, (are, (refl, refl))), part))
+terminal_clashes_begun file bytes a b (Some (Ambiguous i j word), (written, (are, part))) =
+    inr (record { status = outcome_status (Ambiguous i j word); out = written; err = [] }, ((Some (Ambiguous i j word), (are, (refl, refl))), part))
+terminal_clashes_begun file bytes a b (Some (Match i n), (written, (are, part))) = inl (nothing_of_it a b written are.1 part)
+terminal_clashes_begun file bytes a b (Some NoMatch, (written, (are, part))) = inl (nothing_of_it a b written are.1 part)
+terminal_clashes_begun file bytes a b (Some (All n), (written, (are, part))) = inl (nothing_of_it a b written are.1 part)
+terminal_clashes_begun file bytes a b (Some (Stopped n at), (written, (are, part))) = inl (nothing_of_it a b written are.1 part)
+terminal_clashes_begun file bytes a b (Some (Refused i e), (written, (are, part))) = inl (nothing_of_it a b written are.1 part)
+terminal_clashes_begun file bytes a b (Some (Syntax i), (written, (are, part))) = inl (nothing_of_it a b written are.1 part)
+terminal_clashes_begun file bytes a b (Some (Line i), (written, (are, part))) = inl (nothing_of_it a b written are.1 part)
+
+pub terminal_clashes_written : (file bytes : List ℕ) (a b : Option (List ℕ)) (reported : Option Outcome) → WritesClashes bytes a b reported
+    → Begun (TerminalClashesAnswer file bytes) a b
+terminal_clashes_written file bytes a b reported (written, (are, h)) = terminal_clashes_begun file bytes a b (reported, (written, (are, whole a b written h)))
