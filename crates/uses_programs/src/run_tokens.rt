@@ -1,8 +1,9 @@
 //! The program `tokens` over files and streams of a caller.
-ghost use Rattle.std.specs.Prelude.{◌≡◌, ◌≢◌, ◌⊎◌, [], true, false, Ok, Err, codes, length, IfOk, OnOk};
+ghost use Rattle.std.specs.Prelude.{◌≡◌, ◌≢◌, ◌⊎◌, [], true, false, Ok, Err, codes, length, map, string_bytes, IfOk, OnOk};
 ghost use Rattle.std.specs.Io.KnownBytes.{Appends};
-ghost use Rattle.tokens_lib.specs.Program.{usage};
-ghost use Rattle.tokens_lib.specs.Streams.{Takes};
+ghost use Rattle.tokens_lib.specs.Answer.{Begun};
+ghost use Rattle.tokens_lib.specs.Program.{IsFirstAnswer, usage};
+ghost use Rattle.tokens_lib.specs.Streams.{StreamGives, Takes};
 
 use lexdfa_lib::{RunError, Watched};
 use std::alloc::Global;
@@ -30,8 +31,9 @@ impl Files for OnlyFile<'_> {
     }
 }
 
-// Needs tokens_lib::run: answer.
-/// The exit status of `tokens` without arguments: 4, after its usage on standard error, whatever the files are.
+// Needs tokens_lib::run: answer, begun.
+/// The exit status of `tokens` without arguments: 4, after its usage on standard error, whatever the files are. Nothing is ever
+/// written to standard output.
 ///
 /// # Errors
 ///
@@ -46,8 +48,7 @@ pub fn without_arguments<F: Files, R: Read, W: Write, E: Write>(
     requires input_good { input.old.failed ≡ false }
     requires out_good { out.old.failed ≡ false }
     ensures status { IfOk result (λ status. status ≡ 4) }
-    ensures nothing_written { OnOk result
-        (Appends (W.contents out.old.inner) (W.contents out.new.inner) []) }
+    ensures nothing_written { Appends (W.contents out.old.inner) (W.contents out.new.inner) [] }
     ensures said { OnOk result (Takes E.contents err.old err.new usage) }
 {
     run(alloc, &[], files, input, out, err)
@@ -73,4 +74,23 @@ pub fn names_the_failed_end<F: Files, R: Read, W: Write, E: Write>(
         Err(RunError::Read) => false,
         Err(RunError::Write) => out.failed(),
     }
+}
+
+// Needs tokens_lib::run: begun.
+/// Whether a run fails. Then standard output took a prefix of what is written for the texts that were come to, or nothing.
+pub fn fails<F: Files, R: Read, W: Write, E: Write>(
+    alloc: Global,
+    words: &[String],
+    files: &F,
+    input: &mut Watched<R>,
+    out: &mut Watched<W>,
+    err: &mut Watched<E>,
+) -> bool
+    requires input_good { input.old.failed ≡ false }
+    requires out_good { out.old.failed ≡ false }
+    ensures begun { result ≡ true → Begun (IsFirstAnswer (F.gives files.now)
+        (StreamGives R.remaining input.old input.new) (map string_bytes words.now))
+        (W.contents out.old.inner) (W.contents out.new.inner) }
+{
+    run(alloc, words, files, input, out, err).is_err()
 }
