@@ -21,3 +21,6 @@ returns-in-Some-clause-answer g c =
       ((Some c.in-Some.outcome, (w.1.0, (refl, x.1.1.0))), (x.0, (w.1.1, x.1.1.1))),
     ))
     (ok_and c.report_unlisted.result _ _ e.status e.said)
+
+pub report_unlisted-requires : goal.report_unlisted-requires
+report_unlisted-requires g c = record { reported = (rw c.in-Some.is at c.in_ok-write_clashes.ensures.written).1.0.0 }
