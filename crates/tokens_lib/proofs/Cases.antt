@@ -4,6 +4,7 @@ mod Command
 mod ItemLines
 mod PageWritten
 mod Program
+mod Reasons
 mod RuleClashes
 mod Streams
 mod TextAnswer

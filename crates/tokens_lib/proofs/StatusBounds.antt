@@ -3,6 +3,8 @@ use Rattle.std.proofs.Common.{◌≡◌, ℕ, ◌≤◌, inl, inr, List, [], ◌
 use Rattle.std.specs.Prelude.{nat_lt, length, map, string_bytes, Bool, Option, Some, None, codes}
 use Rattle.lalrpop_book.specs.Clashes.{Entry}
 use Rattle.lalrpop_book.specs.Tree.{Tree}
+use Rattle.lalrpop_lexer.specs.Lines.{lines}
+use Rattle.lalrpop_rules.specs.RuleFile.{without_mark}
 use Rattle.lalrpop_rules.specs.RuleSet.{RuleSet}
 use Rattle.lalrpop_rules.specs.declared.error.RulesError.{RulesError}
 use Rattle.lalrpop_rules.specs.declared.error.RulesError.TheVariants as errors
@@ -73,32 +75,32 @@ texts_low Gives InputGives IsFor [] answer each reads =
     reads_low (λ file. InputGives) (TextOf IsFor) (codes "<stdin>") answer (λ bytes a is. text_low IsFor (codes "<stdin>") bytes a each is) reads
 texts_low Gives InputGives IsFor (file ∷ files) answer each is = files_low Gives IsFor (file ∷ files) answer each is
 
-rules_of_low : (IsFor : List ℕ → List Rule → Answer → Type 0) (file bytes : List ℕ) (answer : Answer)
-    → ((rs : List Rule) (a : Answer) → IsFor file rs a → IsLow a) → RulesOf IsFor file bytes answer → IsLow answer
+rules_of_low : (IsFor : List ℕ → List (List ℕ) → List Rule → Answer → Type 0) (file bytes : List ℕ) (answer : Answer)
+    → ((ls : List (List ℕ)) (rs : List Rule) (a : Answer) → IsFor file ls rs a → IsLow a) → RulesOf IsFor file bytes answer → IsLow answer
 rules_of_low IsFor file bytes answer each (inl (error, (is, (known, (rest, e))))) = low answer _ e (omega arith)
-rules_of_low IsFor file bytes answer each (inr (rs, (are, is))) = each rs answer is
+rules_of_low IsFor file bytes answer each (inr (rs, (are, is))) = each (lines (without_mark bytes)) rs answer is
 
-lexer_low : (IsFor : RuleSet → Answer → Type 0) (file : List ℕ) (rs : List Rule) (answer : Answer)
-    → ((set : RuleSet) (a : Answer) → IsFor set a → IsLow a) → LexerOf IsFor file rs answer → IsLow answer
-lexer_low IsFor file rs answer each (inl (error, (is, (known, (rest, e))))) = low answer _ e (rules_low error)
-lexer_low IsFor file rs answer each (inr (set, (is, done))) = each set answer done
+lexer_low : (IsFor : RuleSet → Answer → Type 0) (file : List ℕ) (ls : List (List ℕ)) (rs : List Rule) (answer : Answer)
+    → ((set : RuleSet) (a : Answer) → IsFor set a → IsLow a) → LexerOf IsFor file ls rs answer → IsLow answer
+lexer_low IsFor file ls rs answer each (inl (error, (is, (places, (are, (said, (says, e))))))) = low answer _ e (rules_low error)
+lexer_low IsFor file ls rs answer each (inr (set, (is, done))) = each set answer done
 
 by_rules_low : (Gives : List ℕ → Given → Type 0) (IsFor : RuleSet → Answer → Type 0) (rules : List ℕ) (answer : Answer)
     → ((set : RuleSet) (a : Answer) → IsFor set a → IsLow a) → Reads Gives (RulesOf (LexerOf IsFor)) rules answer → IsLow answer
 by_rules_low Gives IsFor rules answer each reads =
-    reads_low Gives (RulesOf (LexerOf IsFor)) rules answer (λ bytes a is. rules_of_low (LexerOf IsFor) rules bytes a (λ rs b said. lexer_low IsFor rules rs b each said) is) reads
+    reads_low Gives (RulesOf (LexerOf IsFor)) rules answer (λ bytes a is. rules_of_low (LexerOf IsFor) rules bytes a (λ ls rs b said. lexer_low IsFor rules ls rs b each said) is) reads
 
 clashes_low : (cs : List Entry) → clashes_status cs ≤ 6
 clashes_low [] = omega arith
 clashes_low (c ∷ cs) = omega arith
 
-list_low : (file : List ℕ) (rs : List Rule) (answer : Answer) → ClashesAnswer file rs answer → IsLow answer
-list_low file rs answer (inl (error, (is, (known, (rest, e))))) = low answer _ e (rules_low error)
-list_low file rs answer (inr (cs, (are, e))) = low answer _ e (clashes_low cs)
+list_low : (file : List ℕ) (ls : List (List ℕ)) (rs : List Rule) (answer : Answer) → ClashesAnswer file ls rs answer → IsLow answer
+list_low file ls rs answer (inl (error, (is, (places, (are, (said, (says, e))))))) = low answer _ e (rules_low error)
+list_low file ls rs answer (inr (cs, (are, e))) = low answer _ e (clashes_low cs)
 
 terminals_low : (IsFor : List Tree → List ℕ → Answer → Type 0) (file bytes : List ℕ) (answer : Answer)
     → ((ts : List Tree) (ps : List ℕ) (a : Answer) → IsFor ts ps a → IsLow a) → TerminalsOf IsFor file bytes answer → IsLow answer
-terminals_low IsFor file bytes answer each (inl (outcome, (is, (rest, e)))) = low answer _ e (outcome_low outcome)
+terminals_low IsFor file bytes answer each (inl (outcome, (is, (said, (says, e))))) = low answer _ e (outcome_low outcome)
 terminals_low IsFor file bytes answer each (inr (ts, (ps, (have, is)))) = each ts ps answer is
 
 reported_low : (reported : Option Outcome) → reported_status reported ≤ 6

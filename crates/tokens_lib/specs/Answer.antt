@@ -33,10 +33,6 @@ about file reason = codes "tokens: " ++ (file ++ (codes ": " ++ (reason ++ codes
 abbrev pub headed : List ℕ → List ℕ → List ℕ
 headed file rest = codes "tokens: " ++ (file ++ (codes ":" ++ rest))
 
--- only a message about this file
-abbrev pub IsRefusal : ℕ → List ℕ → Answer → Type 0
-IsRefusal status file answer = (rest : List ℕ) × (answer ≡ refusal status (headed file rest))
-
 -- a file gives no bytes, and this is said; or it gives bytes with this answer
 abbrev pub Reads : (List ℕ → Given → Type 0) → (List ℕ → List ℕ → Answer → Type 0) → List ℕ → Answer → Type 0
 Reads Gives IsFor file answer =

@@ -3,6 +3,7 @@ pub mod Command
 pub mod ItemLines
 pub mod PageWritten
 pub mod Program
+pub mod Reasons
 pub mod RuleClashes
 pub mod Streams
 pub mod TextAnswer

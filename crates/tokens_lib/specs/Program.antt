@@ -1,26 +1,29 @@
 -- cases: proofs/Cases/Program.antt
 -- The answer of the whole program, for its arguments, what the files give and what standard input gives.
-use Rattle.std.specs.Prelude.{◌≡◌, ◌≢◌, ℕ, ◌⊎◌, nat_lt, List, [], ◌∷◌, ◌++◌, decimal, length, map, flat_map, string_bytes, Option, Some, None, codes}
+use Rattle.std.specs.Prelude.{◌≡◌, ℕ, ◌⊎◌, nat_lt, List, [], ◌∷◌, length, map, flat_map, string_bytes, Option, Some, None, codes}
 use Rattle.lalrpop_book.specs.Clash.{NoClash}
 use Rattle.lalrpop_book.specs.Clashes.{Entry}
 use Rattle.lalrpop_book.specs.Report.{NoFault}
 use Rattle.lalrpop_book.specs.Tree.{Tree}
 use Rattle.lalrpop_lexer.specs.Lines.{lines}
-use Rattle.lalrpop_rules.specs.RuleFault.{reason_of}
-use Rattle.lalrpop_rules.specs.RuleFile.{AreRules, IsRuleFileError, without_mark}
+use Rattle.lalrpop_lexer.specs.declared.position.Position.{Position}
+use Rattle.lalrpop_rules.specs.RuleFile.{AreRules, ArePlaces, IsRuleFileError, without_mark}
 use Rattle.lalrpop_rules.specs.RuleSet.{RuleSet, AreTrees, IsRulesError, names_of, precedences_of, skips_of}
 use Rattle.lalrpop_rules.specs.declared.error.RulesError.{RulesError}
 use Rattle.lalrpop_rules.specs.declared.error.RulesError.TheVariants as rules_errors
 use Rattle.lalrpop_rules.specs.declared.rule.Rule.{Rule}
 use Rattle.lalrpop_rules.specs.declared.rule_file.error.RuleFileError.{RuleFileError}
-use Rattle.lalrpop_rules.specs.declared.rule_file.error.RuleFileError.TheVariants as file_errors
 use Rattle.lexdfa_lib.specs.Answer.{HaveAutomaton, IsReported}
 use Rattle.lexdfa_lib.specs.Status.{outcome_status}
+use Rattle.lexdfa_lib.specs.declared.ending.Failure.{Failure}
+use Rattle.lexdfa_lib.specs.declared.ending.Failure.TheVariants.{Usage, Run}
+use Rattle.lexdfa_lib.specs.declared.error.RunError.TheVariants as run_errors
 use Rattle.lexdfa_lib.specs.declared.outcome.Outcome.{Outcome}
 use Rattle.lexdfa_lib.specs.declared.outcome.Outcome.TheVariants.{Ambiguous}
-use Rattle.tokens_lib.specs.Answer.{Answer, refusal, headed, IsRefusal, Reads, TextsAnswer, FirstTextsAnswer}
+use Rattle.tokens_lib.specs.Answer.{Answer, refusal, headed, Reads, TextsAnswer, FirstTextsAnswer}
 use Rattle.lines_lib.specs.ClashesShown.{AreClashesShown}
 use Rattle.tokens_lib.specs.Command.{IsCommand}
+use Rattle.tokens_lib.specs.Reasons.{SaysBadLine, SaysRules, SaysTerminals}
 use Rattle.tokens_lib.specs.RuleClashes.{AreRuleClashes, IsRuleFault, named_line}
 use Rattle.tokens_lib.specs.Streams.{Given}
 use Rattle.tokens_lib.specs.TextAnswer.{TokensAnswer, PiecesAnswer, PageAnswer}
@@ -47,47 +50,43 @@ abbrev pub rules_status : RulesError → ℕ
 rules_status (rules_errors.NotParsed i position kind) = 3
 rules_status error = 2
 
--- a message about a place of a file: its line and column, a reason, and what is shown
-abbrev pub placed : ℕ → ℕ → List ℕ → List ℕ → List ℕ
-placed line column reason shown = decimal line ++ (codes ":" ++ (decimal column ++ (codes ": " ++ (reason ++ (codes "\n" ++ shown)))))
-
--- what is said of a bad line
-abbrev pub SaysBadLine : RuleFileError → List ℕ → Type 0
-SaysBadLine (file_errors.BadLine line column fault) said = (shown : List ℕ) × (said ≡ placed line column (reason_of fault) shown)
-SaysBadLine file_errors.OutOfMemory said = ⊥
-
--- the bytes have a bad line; or they are rules with this answer
-abbrev pub RulesOf : (List ℕ → List Rule → Answer → Type 0) → List ℕ → List ℕ → Answer → Type 0
+-- the bytes have a bad line; or their lines are rules with this answer
+abbrev pub RulesOf : (List ℕ → List (List ℕ) → List Rule → Answer → Type 0) → List ℕ → List ℕ → Answer → Type 0
 RulesOf IsFor file bytes answer =
     ((error : RuleFileError) × (IsRuleFileError (without_mark bytes) error
     × ((said : List ℕ) × (SaysBadLine error said × (answer ≡ refusal 3 (headed file said))))))
-    ⊎ ((rs : List Rule) × (AreRules (lines (without_mark bytes)) rs × IsFor file rs answer))
+    ⊎ ((rs : List Rule) × (AreRules (lines (without_mark bytes)) rs × IsFor file (lines (without_mark bytes)) rs answer))
+
+-- an error of the rules of these lines is said
+abbrev pub ErrorAnswer : List ℕ → List (List ℕ) → List Rule → RulesError → Answer → Type 0
+ErrorAnswer file ls rs error answer =
+    (places : List Position) × (ArePlaces ls rs places × ((said : List ℕ) × (SaysRules rs places error said × (answer ≡ refusal (rules_status error) (headed file said)))))
 
 -- these rules make no lexer
-abbrev pub RulesRefused : List ℕ → List Rule → Answer → Type 0
-RulesRefused file rs answer =
-    (error : RulesError) × (IsRulesError rs error × ((error ≢ rules_errors.OutOfMemory) × IsRefusal (rules_status error) file answer))
+abbrev pub RulesRefused : List ℕ → List (List ℕ) → List Rule → Answer → Type 0
+RulesRefused file ls rs answer = (error : RulesError) × (IsRulesError rs error × ErrorAnswer file ls rs error answer)
 
 -- they don't, or their lexer has this answer
-abbrev pub LexerOf : (RuleSet → Answer → Type 0) → List ℕ → List Rule → Answer → Type 0
-LexerOf IsFor file rs answer = RulesRefused file rs answer ⊎ ((set : RuleSet) × (IsSetOf rs set × IsFor set answer))
+abbrev pub LexerOf : (RuleSet → Answer → Type 0) → List ℕ → List (List ℕ) → List Rule → Answer → Type 0
+LexerOf IsFor file ls rs answer = RulesRefused file ls rs answer ⊎ ((set : RuleSet) × (IsSetOf rs set × IsFor set answer))
 
 -- 2 if there are clashes
 abbrev pub clashes_status : List Entry → ℕ
 clashes_status [] = 0
 clashes_status (c ∷ cs) = 2
 
--- the clashes of these rules, with a line for each; or a rule has no tree or can't be compiled
-abbrev pub ClashesAnswer : List ℕ → List Rule → Answer → Type 0
-ClashesAnswer file rs answer =
-    ((error : RulesError) × (IsRuleFault rs error × ((error ≢ rules_errors.OutOfMemory) × IsRefusal (rules_status error) file answer)))
+-- the clashes of the rules of these lines, with a line for each; or a rule has no tree or can't be compiled
+abbrev pub ClashesAnswer : List ℕ → List (List ℕ) → List Rule → Answer → Type 0
+ClashesAnswer file ls rs answer =
+    ((error : RulesError) × (IsRuleFault rs error × ErrorAnswer file ls rs error answer))
     ⊎ ((cs : List Entry) × (AreRuleClashes rs cs × (answer ≡ record { status = clashes_status cs; out = flat_map (named_line (names_of rs)) cs; err = [] })))
 
 -- ---- terminals
 
 -- the lines of these bytes make no lexer
 abbrev pub TerminalsRefused : List ℕ → List ℕ → Answer → Type 0
-TerminalsRefused file bytes answer = (outcome : Outcome) × (IsReported bytes outcome × IsRefusal (outcome_status outcome) file answer)
+TerminalsRefused file bytes answer =
+    (outcome : Outcome) × (IsReported bytes outcome × ((said : List ℕ) × (SaysTerminals (lines bytes) outcome said × (answer ≡ refusal (outcome_status outcome) (headed file said)))))
 
 -- they don't, or the lexer of their terminals has this answer
 abbrev pub TerminalsOf : (List Tree → List ℕ → Answer → Type 0) → List ℕ → List ℕ → Answer → Type 0
@@ -99,14 +98,14 @@ abbrev pub reported_status : Option Outcome → ℕ
 reported_status None = 0
 reported_status (Some outcome) = outcome_status outcome
 
-abbrev pub IsListing : List ℕ → Option Outcome → List ℕ → Type 0
-IsListing file None said = said ≡ []
-IsListing file (Some (Ambiguous i j word)) said = said ≡ []
-IsListing file (Some outcome) said = (rest : List ℕ) × (said ≡ headed file rest)
+abbrev pub IsListing : List ℕ → List (List ℕ) → Option Outcome → List ℕ → Type 0
+IsListing file ls None said = said ≡ []
+IsListing file ls (Some (Ambiguous i j word)) said = said ≡ []
+IsListing file ls (Some outcome) said = (rest : List ℕ) × (SaysTerminals ls outcome rest × (said ≡ headed file rest))
 
 abbrev pub TerminalClashesAnswer : List ℕ → List ℕ → Answer → Type 0
 TerminalClashesAnswer file bytes answer =
-    (reported : Option Outcome) × (AreClashesShown bytes answer.out reported × ((answer.status ≡ reported_status reported) × IsListing file reported answer.err))
+    (reported : Option Outcome) × (AreClashesShown bytes answer.out reported × ((answer.status ≡ reported_status reported) × IsListing file (lines bytes) reported answer.err))
 
 -- ---- the program
 
@@ -125,6 +124,13 @@ CommandAnswer Gives Texts (TerminalClashes rules) answer = Reads Gives TerminalC
 abbrev pub usage : List ℕ
 usage =
     codes "tokens: usage: tokens [--recover] [--json] RULES [FILE ..]\n       tokens --html RULES [FILE ..]\n       tokens --ansi RULES [FILE ..]\n       tokens --clashes RULES\n       tokens --lines [--places] RULES [FILE ..]\n       tokens --lines --clashes RULES\n"
+
+-- what is said of a run that fails
+abbrev pub failure_text : Failure → List ℕ
+failure_text Usage = usage
+failure_text (Run run_errors.OutOfMemory) = codes "tokens: out of memory\n"
+failure_text (Run run_errors.Read) = codes "tokens: read failed\n"
+failure_text (Run run_errors.Write) = codes "tokens: write failed\n"
 
 -- the answer for these arguments
 abbrev pub IsAnswer : (List ℕ → Given → Type 0) → (Given → Type 0) → List (List ℕ) → Answer → Type 0

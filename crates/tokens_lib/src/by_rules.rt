@@ -1,7 +1,11 @@
 //! The program over a file of named rules.
 ghost use Rattle.std.specs.Prelude.{◌≡◌, ◌≢◌, ℕ, List, Ok, false, true, IfOk, OnOk, OnErr, IfErr};
+ghost use Rattle.lalrpop_lexer.specs.Lines.{lines};
+ghost use Rattle.lalrpop_rules.specs.RuleFile.{ArePlaces};
+ghost use Rattle.lalrpop_rules.specs.RuleSet.{IsRulesError};
 ghost use Rattle.tokens_lib.specs.Answer.{Answer, headed, Answered, Refused, Reads, Begun};
-ghost use Rattle.tokens_lib.specs.Program.{IsSetOf, AreRulesOf, RulesOf, RulesRefused, SaysBadLine, ClashesAnswer, clashes_status, rules_status};
+ghost use Rattle.tokens_lib.specs.Program.{IsSetOf, AreRulesOf, RulesOf, RulesRefused, ClashesAnswer, clashes_status, rules_status};
+ghost use Rattle.tokens_lib.specs.Reasons.{SaysBadLine, SaysRules};
 ghost use Rattle.tokens_lib.specs.Streams.{Takes};
 
 use crate::files::{Files, NO_TEXT, bytes_of, say_headed};
@@ -59,10 +63,12 @@ fn report_rules<E: Write>(
     error: &RulesError,
     err: &mut Watched<E>,
 ) -> Result<u8, RunError>
+    requires places { ArePlaces (lines bytes.now) file.now.rules.items file.now.places.items }
+    requires error { IsRulesError file.now.rules.items error.now }
     ensures status { IfOk result (λ status. status ≡ rules_status error.now) }
-    ensures known { OnOk result (error.now ≢ RulesError.OutOfMemory) }
-    ensures said { OnOk result ((rest : List ℕ)
-        × Takes E.contents err.old err.new (headed name.now rest)) }
+    ensures said { OnOk result ((said : List ℕ)
+        × (SaysRules file.now.rules.items file.now.places.items error.now said
+        × Takes E.contents err.old err.new (headed name.now said))) }
     ensures memory { IfErr result (λ e. e ≡ RunError.OutOfMemory) }
     ensures no_late_message { err.new.late ≡ err.old.late }
 {
@@ -81,10 +87,11 @@ fn lexer_of_file<E: Write>(
     file: &RuleFile<'_>,
     err: &mut Watched<E>,
 ) -> Result<Result<RuleLexer, u8>, RunError>
+    requires places { ArePlaces (lines bytes.now) file.now.rules.items file.now.places.items }
     ensures lexer { IfOk result (λ found. IfOk found (IsSetOf file.now.rules.items)) }
     ensures quiet { IfOk result (λ found. OnOk found (err.new ≡ err.old)) }
     ensures refused { IfOk result (λ found. IfErr found (λ status. (answer : Answer)
-        × (RulesRefused name.now file.now.rules.items answer
+        × (RulesRefused name.now (lines bytes.now) file.now.rules.items answer
         × Refused E.contents err.old err.new status answer))) }
     ensures memory { IfErr result (λ e. e ≡ RunError.OutOfMemory) }
     ensures no_late_message { err.new.late ≡ err.old.late }
@@ -157,12 +164,13 @@ fn list_clashes_of<W: Write, E: Write>(
     out: &mut Watched<W>,
     err: &mut Watched<E>,
 ) -> Result<u8, RunError>
+    requires places { ArePlaces (lines bytes.now) file.now.rules.items file.now.places.items }
     requires out_good { out.old.failed ≡ false }
     ensures answer { IfOk result (λ status. (answer : Answer)
-        × (ClashesAnswer name.now file.now.rules.items answer
+        × (ClashesAnswer name.now (lines bytes.now) file.now.rules.items answer
         × Answered W.contents E.contents out.old out.new err.old err.new status answer)) }
     ensures good { OnOk result (out.new.failed ≡ false) }
-    ensures begun { OnErr result (Begun (ClashesAnswer name.now file.now.rules.items)
+    ensures begun { OnErr result (Begun (ClashesAnswer name.now (lines bytes.now) file.now.rules.items)
         (W.contents out.old.inner) (W.contents out.new.inner)) }
     ensures memory { IfErr result (λ e. e ≡ RunError.OutOfMemory → out.new.failed ≡ false) }
     ensures write { IfErr result (λ e. e ≡ RunError.Write → out.new.failed ≡ true) }

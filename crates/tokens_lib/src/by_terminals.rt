@@ -1,9 +1,11 @@
 //! The program for a file of terminals, one a line, which are referred to by their numbers.
 ghost use Rattle.std.specs.Prelude.{◌≡◌, ◌≢◌, ℕ, List, Some, Ok, false, true, IfOk, OnOk, OnErr, IfErr};
-ghost use Rattle.lexdfa_lib.specs.Answer.{HaveAutomaton};
+ghost use Rattle.lalrpop_lexer.specs.Lines.{lines};
+ghost use Rattle.lexdfa_lib.specs.Answer.{HaveAutomaton, IsReported};
 ghost use Rattle.lexdfa_lib.specs.Status.{outcome_status};
 ghost use Rattle.tokens_lib.specs.Answer.{Answer, headed, Answered, Refused, Reads, Begun};
 ghost use Rattle.tokens_lib.specs.Program.{IsListing, TerminalsRefused, TerminalClashesAnswer};
+ghost use Rattle.tokens_lib.specs.Reasons.{SaysTerminals};
 ghost use Rattle.tokens_lib.specs.Streams.{Takes};
 
 use crate::explain::explanation;
@@ -22,9 +24,10 @@ fn report<E: Write>(
     outcome: &Outcome,
     err: &mut Watched<E>,
 ) -> Result<u8, RunError>
+    requires reported { IsReported bytes.now outcome.now }
     ensures status { IfOk result (λ status. status ≡ outcome_status outcome.now) }
-    ensures said { OnOk result ((rest : List ℕ)
-        × Takes E.contents err.old err.new (headed name.now rest)) }
+    ensures said { OnOk result ((said : List ℕ) × (SaysTerminals (lines bytes.now) outcome.now said
+        × Takes E.contents err.old err.new (headed name.now said))) }
     ensures memory { IfErr result (λ e. e ≡ RunError.OutOfMemory) }
     ensures no_late_message { err.new.late ≡ err.old.late }
 {
@@ -43,8 +46,10 @@ fn report_unlisted<E: Write>(
     outcome: &Outcome,
     err: &mut Watched<E>,
 ) -> Result<u8, RunError>
+    requires reported { IsReported bytes.now outcome.now }
     ensures status { IfOk result (λ status. status ≡ outcome_status outcome.now) }
-    ensures said { OnOk result ((message : List ℕ) × (IsListing name.now (Some outcome.now) message
+    ensures said { OnOk result ((message : List ℕ)
+        × (IsListing name.now (lines bytes.now) (Some outcome.now) message
         × Takes E.contents err.old err.new message)) }
     ensures memory { IfErr result (λ e. e ≡ RunError.OutOfMemory) }
     ensures no_late_message { err.new.late ≡ err.old.late }

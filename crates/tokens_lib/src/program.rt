@@ -2,7 +2,7 @@
 ghost use Rattle.std.specs.Prelude.{◌≡◌, ◌≢◌, ◌≤◌, false, true, map, string_bytes, IfOk, OnOk, OnErr, IfErr};
 ghost use Rattle.std.specs.Process.{exit_status};
 ghost use Rattle.tokens_lib.specs.Answer.{Answer, Answered, TextsAnswer, FirstTextsAnswer, Begun};
-ghost use Rattle.tokens_lib.specs.Program.{CommandAnswer, IsAnswer, IsFirstAnswer};
+ghost use Rattle.tokens_lib.specs.Program.{CommandAnswer, IsAnswer, IsFirstAnswer, failure_text};
 ghost use Rattle.tokens_lib.specs.Streams.{StreamGives};
 
 use crate::by_rules::{lexer_by_name, list_clashes};
@@ -182,7 +182,10 @@ fn run_in_system<R: Env + RuntimeFiles + Input + Print + Eprint + AllocGlobal>(
     }
 }
 
-fn failure_text(failure: &Failure) -> &'static str {
+// What is said of a run that fails.
+fn failure_text(failure: &Failure) -> &'static str
+    ensures { result.now ≡ failure_text failure.now }
+{
     match failure {
         Failure::Usage => USAGE,
         Failure::Run(RunError::OutOfMemory) => "tokens: out of memory\n",

@@ -1,14 +1,18 @@
 //! What is wrong with a pattern, in words for people, and the place in its line.
-ghost use Rattle.std.specs.Prelude.{◌≡◌, ◌++◌, ℕ, List, string_bytes, IfOk, OnOk};
-ghost use Rattle.tokens_lib.specs.Program.{placed};
+ghost use Rattle.std.specs.Prelude.{◌≡◌, ◌++◌, ℕ, List, chars, codes, length, string_bytes, take, IfOk, OnOk};
+ghost use Rattle.std.specs.Str.{IsCharBoundary};
+ghost use Rattle.lalrpop_lexer.specs.Quoted.{quoted_word};
+ghost use Rattle.tokens_lib.specs.Reasons.{clash_advice, numbered, placed, refusal_text, syntax_text};
 
-use lalrpop_lexer::is_unseen;
 use lalrpop_lexer::lexer::nfa::NfaConstructionError;
 use lalrpop_lexer::lexer::re::SyntaxKind;
+use lalrpop_lexer::{ShownWord, is_unseen};
 use std::alloc::{AllocError, Global};
 
 /// Why a pattern doesn't parse.
-pub(crate) fn syntax_text(kind: SyntaxKind) -> &'static str {
+pub(crate) fn syntax_text(kind: SyntaxKind) -> &'static str
+    ensures text { result.now ≡ syntax_text kind }
+{
     match kind {
         SyntaxKind::UnclosedGroup => "this group isn't closed",
         SyntaxKind::UnopenedGroup => "this `)` closes no group",
@@ -31,7 +35,9 @@ pub(crate) fn syntax_text(kind: SyntaxKind) -> &'static str {
 }
 
 /// Why a pattern can't be compiled.
-pub(crate) fn refusal_text(error: NfaConstructionError) -> &'static str {
+pub(crate) fn refusal_text(error: NfaConstructionError) -> &'static str
+    ensures text { result.now ≡ refusal_text error }
+{
     match error {
         NfaConstructionError::NamedCaptures => "a lexer can't have named groups: write `(?:..)`",
         NfaConstructionError::NonGreedy =>
@@ -44,10 +50,11 @@ pub(crate) fn refusal_text(error: NfaConstructionError) -> &'static str {
 }
 
 /// The number of characters of the text before this byte.
-pub(crate) fn characters_before(text: &str, byte: usize) -> usize {
-    text.char_indices()
-        .take_while(|found| found.0 < byte)
-        .count()
+pub(crate) fn characters_before(text: &str, byte: usize) -> usize
+    requires boundary { IsCharBoundary text.now byte }
+    ensures count { result ≡ length (chars (take byte text.now)) }
+{
+    text[..byte].chars().count()
 }
 
 /// The line as it can be shown: a sign in the place of each character that isn't seen, so that it can't steer a terminal and a caret
@@ -66,7 +73,9 @@ pub(crate) fn line_shown(alloc: Global, line: &str) -> Result<String, AllocError
 }
 
 /// How to resolve a clash on this word.
-pub(crate) fn clash_advice(word: &[u32]) -> &'static str {
+pub(crate) fn clash_advice(word: &[u32]) -> &'static str
+    ensures text { result.now ≡ clash_advice word.now }
+{
     if word.is_empty() {
         "No token is empty: let them match one character or more, as by `+` in place of `*`."
     } else {
@@ -111,4 +120,51 @@ pub(crate) fn place_explained(
     push_blanks(&mut message, line, column.saturating_sub(1))?;
     message.push_str("^\n")?;
     Ok(message)
+}
+
+/// Why the pattern of a line can't be compiled: the line's number, from 1, the reason, and the line. The file's name stands before it.
+///
+/// # Errors
+///
+/// `AllocError` if a request for memory was refused.
+pub(crate) fn refusal_explained(
+    alloc: Global,
+    number: usize,
+    line: &str,
+    error: NfaConstructionError,
+) -> Result<String, AllocError>
+    ensures said { IfOk result (λ message. (shown : List ℕ) × (string_bytes message
+        ≡ numbered number (refusal_text error) (codes "    " ++ shown))) }
+{
+    let reason = refusal_text(error);
+    let shown = line_shown(alloc, line)?;
+    format!(in alloc; "{number}: {reason}\n    {shown}\n")
+}
+
+/// Both lines of a clash with their numbers, from 1, the earlier first.
+///
+/// # Errors
+///
+/// `AllocError` if a request for memory was refused.
+pub(crate) fn both_lines(
+    alloc: Global,
+    earlier: (usize, &str),
+    later: (usize, &str),
+) -> Result<String, AllocError> {
+    let first = line_shown(alloc, earlier.1)?;
+    let second = line_shown(alloc, later.1)?;
+    let earlier = earlier.0;
+    let later = later.0;
+    format!(in alloc; "    {earlier}: {first}\n    {later}: {second}\n")
+}
+
+/// The word in quotes.
+///
+/// # Errors
+///
+/// `AllocError` if a request for memory was refused.
+pub(crate) fn quoted_word(alloc: Global, word: &[u32]) -> Result<String, AllocError>
+    ensures quoted { IfOk result (λ text. string_bytes text ≡ quoted_word word.now) }
+{
+    format!(in alloc; "{}", ShownWord(word))
 }

@@ -1,15 +1,20 @@
 //! Why a file of named rules gives no lexer, in words for people.
-ghost use Rattle.std.specs.Prelude.{◌≢◌, string_bytes, IfOk, OnOk};
-ghost use Rattle.tokens_lib.specs.Program.{SaysBadLine};
+ghost use Rattle.std.specs.Prelude.{◌≡◌, ◌+◌, ◌≤◌, ℕ, List, string_bytes, IfOk};
+ghost use Rattle.lalrpop_lexer.specs.Lines.{lines};
+ghost use Rattle.lalrpop_rules.specs.RuleFile.{ArePlaces};
+ghost use Rattle.lalrpop_rules.specs.RuleSet.{IsRulesError, names_of};
+ghost use Rattle.lalrpop_lexer.specs.Quoted.{quoted_word};
+ghost use Rattle.tokens_lib.specs.ItemLines.{name_at};
+ghost use Rattle.tokens_lib.specs.Reasons.{SaysBadLine, SaysRules, clash_advice, clash_text, place_at, placed, syntax_text, text_at};
 
 use crate::named_clashes::name_of;
 use crate::reasons::{
-    characters_before, clash_advice, line_shown, place_explained, refusal_text, syntax_text,
+    both_lines, characters_before, clash_advice, place_explained, quoted_word, refusal_explained,
+    syntax_text,
 };
-use lalrpop_lexer::lexer::nfa::NfaConstructionError;
 use lalrpop_lexer::lexer::re::SyntaxKind;
-use lalrpop_lexer::{Position, ShownWord, Terminals, read_terminals};
-use lalrpop_rules::{LineFault, RuleFile, RuleFileError, RulesError};
+use lalrpop_lexer::{Position, Terminals, read_terminals};
+use lalrpop_rules::{LineFault, Rule, RuleFile, RuleFileError, RulesError};
 use std::alloc::{AllocError, Global};
 
 // The text of the line with this number, from 1, without its end; nothing if it isn't UTF-8.
@@ -24,56 +29,62 @@ fn line_at(bytes: &[u8], number: usize) -> &str {
 }
 
 // Where the text of the rule with this index begins.
-fn place_of(file: &RuleFile<'_>, rule: usize) -> Position {
+fn place_of(file: &RuleFile<'_>, rule: usize) -> Position
+    ensures { result ≡ place_at file.now.places.items rule }
+{
     match file.places.get(rule) {
         Some(place) => *place,
         None => Position { line: 1, column: 1 },
     }
 }
 
-// Where and why the pattern of a rule doesn't parse.
+// The text of the rule with this index, or the empty string if there is no such rule.
+fn text_of<'text>(rules: &[Rule<'text>], index: usize) -> &'text str
+    ensures { result.now ≡ text_at rules.now index }
+{
+    match rules.get(index) {
+        Some(rule) => rule.text,
+        None => "",
+    }
+}
+
+// Where and why the pattern of a rule doesn't parse: after so many characters of the text that begins at the place.
 fn syntax_explained(
     alloc: Global,
     bytes: &[u8],
     place: Position,
     inside: usize,
     kind: SyntaxKind,
-) -> Result<String, AllocError> {
+) -> Result<String, AllocError>
+    requires fits { place.column + inside ≤ usize.MAX }
+    ensures said { IfOk result (λ message. (shown : List ℕ) × (string_bytes message
+        ≡ placed place.line (place.column + inside) (syntax_text kind) shown)) }
+{
     let line = line_at(bytes, place.line);
-    let column = place.column.saturating_add(inside);
+    let column = place.column + inside;
     place_explained(alloc, place.line, line, column, syntax_text(kind))
 }
 
-// The number of characters of a rule's text before this byte.
-fn characters_inside(file: &RuleFile<'_>, rule: usize, position: usize) -> usize {
-    match file.rules.get(rule) {
-        Some(rule) => characters_before(rule.text, position),
-        None => 0,
-    }
-}
-
-// Why the rule on a line can't be compiled.
-fn refusal_explained(
+// The message about a clash: the number of the later line with its rule's name, those of the earlier one, the word in quotes, both lines
+// as they are shown, and how to resolve it.
+fn clash_told(
     alloc: Global,
-    bytes: &[u8],
-    number: usize,
-    error: NfaConstructionError,
-) -> Result<String, AllocError> {
-    let reason = refusal_text(error);
-    let shown = line_shown(alloc, line_at(bytes, number))?;
-    format!(in alloc; "{number}: {reason}\n    {shown}\n")
-}
-
-// Both lines of a clash, the earlier first.
-fn lines_of_clash(
-    alloc: Global,
-    bytes: &[u8],
-    earlier: usize,
-    later: usize,
-) -> Result<String, AllocError> {
-    let first = line_shown(alloc, line_at(bytes, earlier))?;
-    let second = line_shown(alloc, line_at(bytes, later))?;
-    format!(in alloc; "    {earlier}: {first}\n    {later}: {second}\n")
+    later: (usize, &str),
+    earlier: (usize, &str),
+    word: &str,
+    lines: &str,
+    advice: &str,
+) -> Result<String, AllocError>
+    ensures told { IfOk result (λ message. string_bytes message
+        ≡ clash_text later.entry.0 later.entry.1.now earlier.entry.0 earlier.entry.1.now
+        word.now lines.now advice.now) }
+{
+    let (later, later_name) = later;
+    let (earlier, earlier_name) = earlier;
+    format!(in alloc;
+        "{later}: {later_name} clashes with {earlier_name} of line {earlier}: both match the word {word}, and neither wins\n\
+        {lines}{advice}\n"
+    )
 }
 
 // What the clash is and how to resolve it: both lines, and the word.
@@ -83,18 +94,31 @@ fn clash_explained(
     file: &RuleFile<'_>,
     rules: (usize, usize),
     word: &[u32],
-) -> Result<String, AllocError> {
+) -> Result<String, AllocError>
+    ensures said { IfOk result (λ message. (shown : List ℕ) × (string_bytes message ≡ clash_text
+        (place_at file.now.places.items rules.1).line (name_at (names_of file.now.rules.items) rules.1)
+        (place_at file.now.places.items rules.0).line (name_at (names_of file.now.rules.items) rules.0)
+        (quoted_word word.now) shown (clash_advice word.now))) }
+{
     let (other, rule) = rules;
     let earlier = place_of(file, other).line;
     let later = place_of(file, rule).line;
     let earlier_name = name_of(&file.rules, other);
     let later_name = name_of(&file.rules, rule);
     let advice = clash_advice(word);
-    let shown = ShownWord(word);
-    let lines = lines_of_clash(alloc, bytes, earlier, later)?;
-    format!(in alloc;
-        "{later}: {later_name} clashes with {earlier_name} of line {earlier}: both match the word {shown}, and neither wins\n\
-        {lines}{advice}\n"
+    let quoted = quoted_word(alloc, word)?;
+    let lines = both_lines(
+        alloc,
+        (earlier, line_at(bytes, earlier)),
+        (later, line_at(bytes, later)),
+    )?;
+    clash_told(
+        alloc,
+        (later, later_name),
+        (earlier, earlier_name),
+        quoted.as_str(),
+        lines.as_str(),
+        advice,
     )
 }
 
@@ -110,7 +134,10 @@ pub(crate) fn rules_explained(
     file: &RuleFile<'_>,
     error: &RulesError,
 ) -> Result<String, AllocError>
-    ensures known { OnOk result (error.now ≢ RulesError.OutOfMemory) }
+    requires places { ArePlaces (lines bytes.now) file.now.rules.items file.now.places.items }
+    requires error { IsRulesError file.now.rules.items error.now }
+    ensures said { IfOk result (λ message.
+        SaysRules file.now.rules.items file.now.places.items error.now (string_bytes message)) }
 {
     match error {
         RulesError::NotParsed {
@@ -118,11 +145,12 @@ pub(crate) fn rules_explained(
             position,
             kind,
         } => {
-            let inside = characters_inside(file, *rule, *position);
+            let inside = characters_before(text_of(&file.rules, *rule), *position);
             syntax_explained(alloc, bytes, place_of(file, *rule), inside, *kind)
         }
         RulesError::NotCompiled { rule, error } => {
-            refusal_explained(alloc, bytes, place_of(file, *rule).line, *error)
+            let number = place_of(file, *rule).line;
+            refusal_explained(alloc, number, line_at(bytes, number), *error)
         }
         RulesError::Clash { rule, other, word } => {
             clash_explained(alloc, bytes, file, (*other, *rule), word)

@@ -1,16 +1,16 @@
 -- Cases of specs/Program.antt.
-use Rattle.std.proofs.Common.{◌≡◌, ℕ, true, false, inl, inr, List, [], ◌∷◌, ◌++◌, Some, None, codes, decimal, length, length-append, get_or, refl, ap, arith}
+use Rattle.std.proofs.Common.{◌≡◌, ◌≢◌, ℕ, true, false, inl, inr, List, [], ◌∷◌, Some, None, codes, get_or, refl, ap, arith}
 use Rattle.std.specs.Prelude.{Err}
 use Rattle.lalrpop_book.specs.Clashes.{Entry}
 use Rattle.lalrpop_book.specs.declared.error.NfaConstructionError.TheVariants.{LookAround}
-use Rattle.lalrpop_rules.specs.declared.error.RulesError.TheVariants.{NotCompiled}
-use Rattle.lalrpop_rules.specs.RuleFault.{reason_of}
-use Rattle.lalrpop_rules.specs.declared.rule_file.error.LineFault.TheVariants.{NoEquals}
-use Rattle.lalrpop_rules.specs.declared.rule_file.error.RuleFileError.TheVariants.{BadLine}
+use Rattle.lalrpop_rules.specs.declared.error.RulesError.TheVariants.{NotCompiled, OutOfMemory}
+use Rattle.lalrpop_rules.specs.declared.rule.Rule.{Rule}
+use Rattle.lexdfa_lib.specs.declared.ending.Failure.TheVariants.{Usage, Run}
+use Rattle.lexdfa_lib.specs.declared.error.RunError.TheVariants.{Read, Write}
 use Rattle.lexdfa_lib.specs.declared.outcome.Outcome.TheVariants.{Ambiguous, Line}
 use Rattle.tokens_lib.specs.Answer.{Answer, refusal, about}
 use Rattle.tokens_lib.specs.Command.{IsCommand}
-use Rattle.tokens_lib.specs.Program.{rules_status, clashes_status, reported_status, IsListing, SaysBadLine, placed, IsFirstAnswer}
+use Rattle.tokens_lib.specs.Program.{rules_status, ErrorAnswer, clashes_status, reported_status, IsListing, usage, failure_text, IsFirstAnswer}
 use Rattle.tokens_lib.specs.Streams.{Given}
 use Rattle.tokens_lib.specs.declared.command.Command.{Command}
 use Rattle.tokens_lib.specs.declared.command.Command.TheVariants.{Cut, Show, Clashes, CutByTerminals, TerminalClashes}
@@ -30,15 +30,22 @@ reports : (reported_status None ≡ 0) × (reported_status (Some (Line 2)) ≡ 3
 reports = (refl, refl)
 
 -- nothing is said of a clash that is listed
-listed : ¬ IsListing (codes "f") (Some (Ambiguous 1 0 [])) (codes "a")
-listed e = absurd (cc)
+listed : (ls : List (List ℕ)) → ¬ IsListing (codes "f") ls (Some (Ambiguous 1 0 [])) (codes "a")
+listed ls e = absurd (cc)
 
--- a bad line is told with its place and the reason; and nothing else is said of it
-bad_line : SaysBadLine (BadLine 2 7 NoEquals) (placed 2 7 (reason_of NoEquals) (codes "    A /x/\n"))
-bad_line = (codes "    A /x/\n", refl)
+-- a failed write, and wrong arguments
+failures : failure_text (Run Write) ≡ codes "tokens: write failed\n"
+failures = refl
 
-no_place : ¬ SaysBadLine (BadLine 2 7 NoEquals) []
-no_place said = absurd (omega (arith, ap length said.1, length-append (decimal 2) (codes ":" ++ (decimal 7 ++ (codes ": " ++ (reason_of NoEquals ++ (codes "\n" ++ said.0)))))))
+usage_of_wrong_arguments : failure_text Usage ≡ usage
+usage_of_wrong_arguments = refl
+
+another_failure : failure_text (Run Read) ≢ failure_text (Run Write)
+another_failure e = let k : 114 ≡ 119 = ap (λ (l : List ℕ). get_or l 8 0) e in omega (arith, k)
+
+-- memory that was refused is no error of the rules that is told
+memory_is_not_told : (file : List ℕ) (ls : List (List ℕ)) (rs : List Rule) (answer : Answer) → ¬ ErrorAnswer file ls rs OutOfMemory answer
+memory_is_not_told file ls rs answer (places, (are, (said, (says, e)))) = says
 
 -- rules that can't be read; and no arguments, which are no command
 unread_rules : (Gives : List ℕ → Given → Type 0) (InputGives : Given → Type 0) → Gives (codes "r") (Err (codes "e"))

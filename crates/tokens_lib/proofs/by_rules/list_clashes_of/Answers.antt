@@ -7,7 +7,11 @@ use Rattle.tokens_lib.specs.RuleClashes.{named_line}
 use Rattle.tokens_lib.proofs.AnswerLaws.{Answered-refused, TakesBy-none, ok_and}
 use Rattle.tokens_lib.proofs.BegunLaws.{begun_by_write}
 use Rattle.lines_lib.proofs.Sending.{at_any_error}
+use Rattle.tokens_lib.proofs.Refusals.{fault_is_error}
 use Rattle.tokens_lib.proofs.by_rules.list_clashes_of.Goals as goal
+
+pub report_rules-requires-clause-error : goal.report_rules-requires-clause-error
+report_rules-requires-clause-error g c = fault_is_error c.args.file.now.rules.items c.in-Err.error (rw c.deref.ensures.value at c.in-Err.ensures.error)
 
 pub returns-in-Err-clause-answer : goal.returns-in-Err-clause-answer
 returns-in-Err-clause-answer g c =
@@ -15,13 +19,13 @@ returns-in-Err-clause-answer g c =
     let fault = rw c.deref.ensures.value at c.in-Err.ensures.error in
     IfOk-weaker c.report_rules.result _ _
     (λ status x. (
-      refusal (rules_status c.in-Err.error) (headed c.args.name.now x.1.1.0),
+      refusal (rules_status c.in-Err.error) (headed c.args.name.now x.1.0),
       (
-        inl (c.in-Err.error, (fault, (x.1.0, (x.1.1.0, refl)))),
-        Answered-refused g.W.Write.contents g.E.Write.contents c.args.out.now c.args.err.now c.report_rules.new.err status (refusal (rules_status c.in-Err.error) (headed c.args.name.now x.1.1.0)) (x.0, (refl, x.1.1.1)),
+        inl (c.in-Err.error, (fault, (c.args.file.now.places.items, (c.requires.places, (x.1.0, (x.1.1.0, refl)))))),
+        Answered-refused g.W.Write.contents g.E.Write.contents c.args.out.now c.args.err.now c.report_rules.new.err status (refusal (rules_status c.in-Err.error) (headed c.args.name.now x.1.0)) (x.0, (refl, x.1.1.1)),
       ),
     ))
-    (ok_and c.report_rules.result _ _ e.status (ok_and c.report_rules.result _ _ e.known e.said))
+    (ok_and c.report_rules.result _ _ e.status e.said)
 
 pub returns-clause-answer : goal.returns-clause-answer
 returns-clause-answer g c =

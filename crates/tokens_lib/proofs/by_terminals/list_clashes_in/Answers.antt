@@ -34,3 +34,6 @@ pub returns-in-Some-clause-begun : goal.returns-in-Some-clause-begun
 returns-in-Some-clause-begun g c =
     at_any_error _ c.report_unlisted.result
     (terminal_clashes_written c.args.name.now c.args.bytes.now _ _ _ c.in_ok-write_clashes.ensures.written)
+
+pub report_unlisted-requires : goal.report_unlisted-requires
+report_unlisted-requires g c = record { reported = (rw c.in-Some.is at c.in_ok-write_clashes.ensures.written).1.0.0 }
