@@ -192,5 +192,5 @@ module _ (ts : List Tree) (ps : List ℕ) (us : List Tree) (qs : List ℕ) (same
   pub tokens_alike : (text : List ℕ) (at : ℕ) (xs : List (Result Token TokenFault)) → AreTokens ts ps text at xs → AreTokens us qs text at xs
   tokens_alike text at [] are = are
   tokens_alike text at (Ok token ∷ xs) are = (token_alike text at token are.0, tokens_alike text (at + length token.slice.now) xs are.1)
-  tokens_alike text at (Err fault ∷ xs) are = 
+  tokens_alike text at (Err fault ∷ xs) are =
       ((are.0.0, longest_alike (drop at text) None are.0.1, are.0.2), tokens_alike text (at + length (drop fault.at text)) xs are.1)
