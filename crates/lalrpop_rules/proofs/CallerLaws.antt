@@ -1,6 +1,6 @@
 -- What follows from the promises, for callers.
 use Rattle.std.proofs.Common.{◌≡◌, ℕ, ◌<◌, Bool, List, length, sym, subst, arith}
-use Rattle.std.specs.Prelude.{Some, Result, Ok, Err, slice_get, slice_index}
+use Rattle.std.specs.Prelude.{Some, Result, Ok, slice_get, slice_index}
 use Rattle.std.specs.Str.{chars}
 use Rattle.std.proofs.lemmas.Option.{slice_get_within}
 use Rattle.lalrpop_book.specs.Tree.{Tree}
