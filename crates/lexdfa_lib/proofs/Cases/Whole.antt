@@ -3,6 +3,7 @@ use Rattle.std.proofs.Common.{◌≡◌, ℕ, ◌+◌, List, [], ◌∷◌, leng
 use Rattle.std.specs.Borrow.{Bor}
 use Rattle.std.specs.Fmt.{digits}
 use Rattle.lalrpop_book.specs.Tree.{Tree}
+use Rattle.lalrpop_book.proofs.LastFaults.{end_behind}
 use Rattle.lalrpop_lexer.specs.Longest.{IsLongest}
 use Rattle.lexdfa_lib.specs.Answer.{IsOutcome}
 use Rattle.lexdfa_lib.specs.Whole.{Token, Cuts, IsWhole, token_line, AreAnswers, ReadsAnswers, WritesAnswers, WritesAnswersPrefix}
@@ -32,7 +33,7 @@ module _ (ts : List Tree) (ps : List ℕ) (a b : Bor (List ℕ)) (one : a.now �
   -- `b` doesn't match: a fault at byte 1, after one token
   text_with_a_fault : IsLongest ts ps (codes "ab") (Some (0, a.now)) → IsLongest ts ps (codes "b") None → Cuts ts ps (codes "ab") ((0, a) ∷ []) (Stopped 1 1)
   text_with_a_fault first none =
-      ((first, ((λ e. some (rest e)), subst (λ n. IsLongest ts ps (drop n (codes "ab")) None) (sym behind) none, sym behind, refl)), refl)
+      ((first, (((λ e. some (rest e)), subst (λ n. IsLongest ts ps (drop n (codes "ab")) None) (sym behind) none, sym behind), end_behind (codes "ab") (0 + length a.now) 1 (sym behind))), refl)
     where
       behind : 0 + length a.now ≡ 1
       behind = ap (λ (l : List ℕ). 0 + length l) one
@@ -54,12 +55,12 @@ module _ (ts : List Tree) (ps : List ℕ) (a b : Bor (List ℕ)) (one : a.now �
   fault_counted h = let n : 2 ≡ 1 = h.1 in omega (arith, n)
 
   fault_at_the_start : ¬ Cuts ts ps (codes "ab") ((0, a) ∷ []) (Stopped 1 0)
-  fault_at_the_start h = let n : 0 ≡ 0 + length a.now = h.0.1.2 in omega (arith, n, ap length one)
+  fault_at_the_start h = let n : 0 ≡ 0 + length a.now = h.0.1.0.2 in omega (arith, n, ap length one)
 
 -- ---- bytes and texts
 
 stopped_at_the_start : IsWhole (codes "") (codes "a") [] (Stopped 0 0)
-stopped_at_the_start = inr ([], ([], (no_lines_have_automaton, (((λ e. cc), nothing_matches (codes "a"), refl, refl), refl))))
+stopped_at_the_start = inr ([], ([], (no_lines_have_automaton, ((((λ e. cc), nothing_matches (codes "a"), refl), refl), refl))))
 
 bad_line_is_reported : (text : List ℕ) → IsWhole (codes "x\n") text [] (Line 0)
 bad_line_is_reported text = inl (x_is_bad, refl)
