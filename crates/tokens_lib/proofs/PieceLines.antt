@@ -185,7 +185,7 @@ cut_to_fault false rules text n ys x is f none e = fault_last rules.trees rules.
 up_to_first : (ts : List Tree) (ps : List ℕ) (skips : List Bool) (text : List ℕ) (at : ℕ) (xs : List Item) → ArePieces ts ps skips text at xs
     → (ys : List Item) × AreUpToFault ts ps skips text at ys
 up_to_first ts ps skips text at [] are = ([], are)
-up_to_first ts ps skips text at (Fault start slice ∷ xs) are = (Fault start slice ∷ [], (are.0, refl))
+up_to_first ts ps skips text at (Fault start slice ∷ xs) are = (Fault start slice ∷ [], (are.0, end_behind text at start are.0.0))
 up_to_first ts ps skips text at (Token x ∷ xs) are =
     let others = up_to_first ts ps skips text (at + length x.slice.now) xs are.1 in
     (Token x ∷ others.0, (are.0, others.1))
