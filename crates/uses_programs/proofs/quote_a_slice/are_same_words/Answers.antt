@@ -9,8 +9,8 @@ pub returns : goal.returns
 returns c =
     let one = c.args.one.now in
     let other = c.args.other.now in
-    let first = c.in_ok-first.ensures.quoted in
-    let second = c.in_ok-second.ensures.quoted in
+    let first = c.in_ok-first.ensures.ok in
+    let second = c.in_ok-second.ensures.ok in
     let forms = bytes_eq-Decides (string_bytes c.in_ok-first.first) (string_bytes c.in_ok-second.second) in
     record {
       same = (

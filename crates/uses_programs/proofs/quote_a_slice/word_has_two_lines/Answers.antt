@@ -11,5 +11,5 @@ pub returns : goal.returns
 returns c =
     let text = c.deref.result.now in
     let word = c.args.word.now in
-    let seen : NoCharPasses is_unseen text = subst (NoCharPasses is_unseen) (sym (c.deref.ensures ∙ c.in_ok-text.ensures.quoted)) (quoted_word_is_seen word (is_word word c.type_inv.word)) in
+    let seen : NoCharPasses is_unseen text = subst (NoCharPasses is_unseen) (sym (c.deref.ensures ∙ c.in_ok-text.ensures.ok)) (quoted_word_is_seen word (is_word word c.type_inv.word)) in
     record { never = no_line_feed c.contains.result text seen (contains_char 10 text c.contains.result c.contains.ensures.cases (omega arith)).0 }
