@@ -1,4 +1,5 @@
 pub mod Cases
+pub mod Alikes
 pub mod Rights
 pub mod Pages
 pub mod Walks

@@ -1,3 +1,4 @@
+pub mod Alikes
 pub mod Fused
 pub mod Marks
 pub mod Reading

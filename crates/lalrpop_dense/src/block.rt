@@ -2,50 +2,44 @@
 
 ghost use Rattle.std.specs.Prelude.{ℕ, ◌<◌, length, IfErr, IfOk};
 ghost use Rattle.std.specs.Str.{IsCharBoundary};
-ghost use Rattle.lalrpop_dense.specs.Leading.{AddsTokens};
-ghost use Rattle.lalrpop_dense.specs.Internal.Marks.{AreMarks};
+ghost use Rattle.lalrpop_dense.specs.Leading.{AddsTokens, AreAhead};
 
-use crate::mark::{Engine, Mark};
-use crate::table::Cells;
+use crate::ends::TokenEnds;
 use lalrpop_book::Token;
-use lalrpop_dfa::NfaIndex;
+use lalrpop_dfa::Dfa;
 use std::alloc::AllocError;
 
-/// Adds the tokens that end at the marks. Returns where the last one ends.
+/// Adds the tokens whose ends are ahead. Returns where the last one ends.
 ///
 /// # Errors
 ///
 /// `AllocError` if a request for memory was refused.
-pub(crate) fn push_tokens<'text, C: Cells>(
-    engine: &Engine<C>,
+pub(crate) fn push_tokens<'text>(
+    dfa: &Dfa,
     text: &'text str,
     from: usize,
-    marks: &[Mark],
+    ends: &mut TokenEnds,
     tokens: &mut Vec<Token<'text>>,
 ) -> Result<usize, AllocError>
     requires boundary { IsCharBoundary text.now from }
-    requires marks { (to : ℕ) × AreMarks engine.now.fused.now engine.now.layout.now engine.now.dfa.now
-        text.now from to marks.now }
+    requires ahead { AreAhead dfa.now text.now from ends.old }
     ensures tokens { IfOk result (λ to.
-        AddsTokens engine.now.dfa.now text.now from to tokens.old.items tokens.new.items) }
+        AddsTokens dfa.now text.now from to tokens.old.items tokens.new.items) }
     ensures boundary { IfOk result (λ to. IsCharBoundary text.now to) }
-    ensures goes { IfOk result (λ to. 0 < length marks.now → from < to) }
+    ensures goes { IfOk result (λ to. 0 < length ends.old → from < to) }
     ensures failed { IfErr result (λ _. (to : ℕ)
-        × AddsTokens engine.now.dfa.now text.now from to tokens.old.items tokens.new.items) }
+        × AddsTokens dfa.now text.now from to tokens.old.items tokens.new.items) }
 {
-    let cells = engine.fused.cells.as_slice();
-    let width = engine.layout.width;
     let mut start = from;
-    for mark in marks {
-        let pattern = cells[mark.row + width];
-        // A refused `push` hands its token back, which `?` would have to convert.
+    'pushing: while let Some(found) = ends.next() {
         let token = Token {
-            index: NfaIndex::new(pattern as usize),
-            slice: &text[start..mark.place],
+            index: found.index,
+            slice: &text[start..found.end],
             start,
         };
+        // A refused `push` hands its token back, which `?` would have to convert.
         match tokens.push(token) {
-            Ok(()) => start = mark.place,
+            Ok(()) => start = found.end,
             Err(_) => return Err(AllocError),
         }
     }

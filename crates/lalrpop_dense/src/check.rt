@@ -5,8 +5,10 @@ ghost use Rattle.std.specs.List.{All};
 ghost use Rattle.lalrpop_dfa.specs.Dfa.{edge_target, AreAscendingTests};
 ghost use Rattle.lalrpop_dfa.specs.Internal.Stored.{EndBefore};
 ghost use Rattle.lalrpop_dense.specs.Internal.Table.{HasClasses, IsRowOfKind, IsTableOf, LeadsRight};
-ghost use Rattle.lalrpop_dense.specs.Internal.Runs.{IsRun, IsPageAgain};
+ghost use Rattle.lalrpop_dense.specs.Internal.Runs.{IsRun, AreRuns, IsPageAgain, LeadsRightBelow, LeadsOn, LeadOnAlike};
+ghost use Rattle.lalrpop_dense.specs.Internal.Alikes.{AreAlikes, IsAlike};
 
+use crate::alike::Alike;
 use crate::table::Layout;
 use lalrpop_dfa::{Dfa, DfaStateIndex, Kind};
 use lalrpop_nfa::Test;
@@ -66,6 +68,7 @@ fn run_from(layout: &Layout, start: u32) -> Run
     requires classes { HasClasses layout.now }
     requires within { start < 1114112 }
     ensures run { IsRun layout.now result }
+    ensures begins { result.start ≡ start }
     ensures some { start < result.end }
     ensures end { result.end ≤ 1114112 }
 {
@@ -83,18 +86,29 @@ fn run_from(layout: &Layout, start: u32) -> Run
     Run { start, end, class }
 }
 
-fn runs_of(alloc: Global, layout: &Layout) -> Result<Vec<Run>, AllocError>
-    requires { HasClasses layout.now }
-    ensures { IfOk result (λ runs. All (IsRun layout.now) runs.items) }
+// All characters in runs, ascending.
+#[derive(Drop)]
+pub(crate) struct Runs {
+    list: Vec<Run>,
+    // For each class, where its last run ends.
+    ends: Vec<u32>,
+}
+
+fn runs_of(alloc: Global, layout: &Layout) -> Result<Runs, AllocError>
+    requires classes { HasClasses layout.now }
+    requires narrow { layout.now.width ≤ 256 }
+    ensures { IfOk result (AreRuns layout.now) }
 {
-    let mut runs = Vec::new(alloc);
+    let mut list = Vec::new(alloc);
+    let mut ends = vec![in alloc; 0; 256]?;
     let mut start = 0;
     while start < END {
         let run = run_from(layout, start);
         start = run.end;
-        runs.push(run)?;
+        ends[run.class as usize] = run.end;
+        list.push(run)?;
     }
-    Ok(runs)
+    Ok(Runs { list, ends })
 }
 
 fn is_row_of_kind(layout: &Layout, cells: &[u32], row: usize, kind: &Kind) -> bool
@@ -137,20 +151,21 @@ fn segment_at(
     }
 }
 
-// Whether the row of the state leads each character where the state does.
-fn leads_right(
+// Whether the row of the state leads each character below the stop where the state does.
+fn leads_right_below(
     layout: &Layout,
     cells: &[u32],
     dfa: &Dfa,
     index: DfaStateIndex,
     runs: &[Run],
+    stop: u32,
 ) -> bool
     requires within { index < length dfa.now }
     requires rows { length layout.now.rows.items ≡ length dfa.now }
     requires cells { EachIndex layout.now.rows.items (λ k.
         slice_index layout.now.rows.items k + layout.now.width < length cells.now) }
     requires runs { All (IsRun layout.now) runs.now }
-    ensures { IsTrue result → LeadsRight layout.now cells.now dfa.now index }
+    ensures { IsTrue result → LeadsRightBelow layout.now cells.now dfa.now index stop }
 {
     let edges = dfa.test_edges(index);
     let other = dfa.state(index).other_edge();
@@ -158,7 +173,10 @@ fn leads_right(
     let mut value = 0;
     let mut place = 0;
     for run in runs {
-        if run.start != value || run.end > END || run.class as usize >= layout.width {
+        if value >= stop {
+            return true;
+        }
+        if run.start != value || run.class as usize >= layout.width {
             return false;
         }
         while value < run.end {
@@ -173,7 +191,108 @@ fn leads_right(
             };
         }
     }
-    value == END
+    value >= stop
+}
+
+// A value from which on all characters lead to one state, and that state.
+fn tail_of(edges: &[(Test, DfaStateIndex)], other: DfaStateIndex) -> (u32, DfaStateIndex)
+    requires { AreAscendingTests edges.now }
+    ensures { (c : ℕ) → result.0 ≤ c → c < 1114112 → edge_target edges.now other c ≡ result.1 }
+{
+    match edges.last() {
+        None => (0, other),
+        Some((test, target)) => {
+            if test.end() < END - 1 {
+                (test.end() + 1, other)
+            } else {
+                (test.start(), *target)
+            }
+        }
+    }
+}
+
+// Whether a row leads to the target by each class that has a character from the value on.
+fn leads_on(cells: &[u32], row: usize, target: u32, width: usize, ends: &[u32], from: u32) -> bool
+    requires ends { width ≤ length ends.now }
+    requires row { row + width < length cells.now }
+    ensures { IsTrue result → LeadsOn cells.now row target width ends.now from }
+{
+    for class in 0..width {
+        if ends[class] > from && cells[row + class] != target {
+            return false;
+        }
+    }
+    true
+}
+
+// Whether two rows lead on alike by each class that has a character from the value on.
+fn lead_on_alike(
+    cells: &[u32],
+    row: usize,
+    earlier: usize,
+    width: usize,
+    ends: &[u32],
+    from: u32,
+) -> bool
+    requires ends { width ≤ length ends.now }
+    requires row { row + width < length cells.now }
+    requires earlier { earlier + width < length cells.now }
+    ensures { IsTrue result → LeadOnAlike cells.now row earlier width ends.now from }
+{
+    for class in 0..width {
+        if ends[class] > from && cells[row + class] != cells[earlier + class] {
+            return false;
+        }
+    }
+    true
+}
+
+// Whether the row of the state leads each character where the state does, which is beside one whose row does.
+fn leads_right_beside(
+    layout: &Layout,
+    cells: &[u32],
+    dfa: &Dfa,
+    index: DfaStateIndex,
+    runs: &Runs,
+    alike: &Alike,
+) -> bool
+    requires within { index < length dfa.now }
+    requires earlier { alike.now.earlier < length dfa.now }
+    requires rows { length layout.now.rows.items ≡ length dfa.now }
+    requires cells { EachIndex layout.now.rows.items (λ k.
+        slice_index layout.now.rows.items k + layout.now.width < length cells.now) }
+    requires classes { HasClasses layout.now }
+    requires runs { AreRuns layout.now runs.now }
+    requires alike { IsAlike dfa.now index alike.now }
+    requires right { LeadsRight layout.now cells.now dfa.now alike.now.earlier }
+    ensures { IsTrue result → LeadsRight layout.now cells.now dfa.now index }
+{
+    let row = layout.rows[index.index()] as usize;
+    let earlier = layout.rows[alike.earlier] as usize;
+    let from = alike.from;
+    lead_on_alike(cells, row, earlier, layout.width, &runs.ends, from)
+        && leads_right_below(layout, cells, dfa, index, &runs.list, from.min(END))
+}
+
+// Whether the row of the state leads each character where the state does.
+fn leads_right(layout: &Layout, cells: &[u32], dfa: &Dfa, index: DfaStateIndex, runs: &Runs) -> bool
+    requires within { index < length dfa.now }
+    requires rows { length layout.now.rows.items ≡ length dfa.now }
+    requires cells { EachIndex layout.now.rows.items (λ k.
+        slice_index layout.now.rows.items k + layout.now.width < length cells.now) }
+    requires classes { HasClasses layout.now }
+    requires runs { AreRuns layout.now runs.now }
+    ensures { IsTrue result → LeadsRight layout.now cells.now dfa.now index }
+{
+    let row = layout.rows[index.index()] as usize;
+    let (from, target) = tail_of(dfa.test_edges(index), dfa.state(index).other_edge());
+    match layout.rows.get(target.index()) {
+        Some(target) => {
+            leads_on(cells, row, *target, layout.width, &runs.ends, from)
+                && leads_right_below(layout, cells, dfa, index, &runs.list, from.min(END))
+        }
+        None => false,
+    }
 }
 
 /// Whether the table is right for the automaton.
@@ -186,12 +305,14 @@ pub(crate) fn is_table_of(
     layout: &Layout,
     cells: &[u32],
     dfa: &Dfa,
+    alikes: &[Alike],
 ) -> Result<bool, AllocError>
+    requires { AreAlikes dfa.now alikes.now }
     ensures { IfOk result (λ is. IsTrue is → IsTableOf layout.now cells.now dfa.now) }
 {
     if !has_classes(layout)
         || layout.rows.len() != dfa.states().len()
-        || layout.width > 65535
+        || layout.width > 256
         || !have_cells(&layout.rows, layout.width, cells.len())
     {
         return Ok(false);
@@ -200,9 +321,13 @@ pub(crate) fn is_table_of(
     for number in 0..dfa.states().len() {
         let index = DfaStateIndex::new(number);
         let row = layout.rows[number] as usize;
-        if !is_row_of_kind(layout, cells, row, dfa.state(index).kind())
-            || !leads_right(layout, cells, dfa, index, &runs)
-        {
+        let alike = &alikes[number];
+        let is_right = if alike.earlier < number {
+            leads_right_beside(layout, cells, dfa, index, &runs, alike)
+        } else {
+            leads_right(layout, cells, dfa, index, &runs)
+        };
+        if !is_right || !is_row_of_kind(layout, cells, row, dfa.state(index).kind()) {
             return Ok(false);
         }
     }

@@ -8,16 +8,18 @@ ghost use Rattle.lalrpop_book.specs.Prefix.{IsPrefix};
 ghost use Rattle.lalrpop_dfa.specs.Dfa.{Recognizes};
 ghost use Rattle.lalrpop_dfa.specs.Lookahead.{ReadsAtMost};
 ghost use Rattle.lalrpop_book.specs.Longest.{IsLongest};
-ghost use Rattle.lalrpop_dense.specs.Leading.{AddsTokens};
+ghost use Rattle.lalrpop_dense.specs.Leading.{AddsTokens, AreAhead, last_end};
 ghost use Rattle.lalrpop_dense.specs.Internal.Fused.{IsFusedOf, IsTable};
 ghost use Rattle.lalrpop_dense.specs.Internal.Table.{HasClasses};
 
+use crate::alike::alikes_of;
 use crate::block::push_tokens;
 use crate::candidate::make_table;
 use crate::check::is_table_of;
+use crate::ends::TokenEnds;
 use crate::fused::{Fused, is_fused_of};
 use crate::fusing::make_fused;
-use crate::mark::{Engine, TokenEnds, mark_block};
+use crate::mark::{BLOCK, Engine};
 use crate::run::{BoundedMatch, longest_by, longest_within_by};
 use crate::table::{Layout, StoredCells, Table, stored};
 use lalrpop_book::Token;
@@ -55,9 +57,9 @@ impl Model for DenseDfa {
 }
 
 impl DenseDfa {
-    /// The automaton with the table that runs it. There is no table if it would take much more memory than the automaton, if
-    /// making it would take much longer than visiting the automaton's edges, or if there are more than 255 classes of
-    /// characters. Then the automaton is run as it is.
+    /// The automaton with the table that runs it. There is no table if it would take much more memory than the automaton, or
+    /// more than 64 MB, if making it would take much longer than visiting the automaton's edges, or if there are more than 255
+    /// classes of characters. Then the automaton is run as it is.
     ///
     /// # Errors
     ///
@@ -152,6 +154,42 @@ impl DenseDfa {
         }
     }
 
+    /// Finds the ends of tokens from a place on, as far as the fused table leads, there is room for them, and `limit` bytes go.
+    /// They replace those that were ahead. Returns how many bytes were read in vain after the last end: those of the characters
+    /// that begin within the limit. A step is counted for each character read, and for each byte that is skipped.
+    ///
+    /// Each is the end of the longest match where the token before it ends, with the strongest pattern that matches it. None may
+    /// be found although a pattern matches: then `longest` tells.
+    pub fn find_ends(
+        &self,
+        text: &str,
+        at: usize,
+        limit: usize,
+        ends: &mut TokenEnds,
+        steps: &mut Steps,
+    ) -> usize
+        requires boundary { IsCharBoundary text.now at }
+        ensures ahead { AreAhead self.now text.now at ends.new }
+        ensures limit { result ≤ limit }
+        ensures never_falls { steps.old ≤ steps.new }
+        ensures cost { steps.new + at ≤ steps.old + last_end at ends.new + result }
+        ensures read { steps.old + length ends.new ≤ steps.new }
+    {
+        if let Some(table) = &self.table
+            && let Some(fused) = &table.fused
+        {
+            let engine = Engine {
+                dfa: &self.dfa,
+                layout: &table.layout,
+                cells: &table.cells,
+                fused,
+            };
+            return ends.find(&engine, text, at, limit, steps);
+        }
+        ends.clear();
+        0
+    }
+
     /// Adds the tokens of the text from a place on, at most those of one block, and returns where the last one ends. Each is the
     /// longest match where it begins, with the strongest pattern that matches it. `None` if no pattern matches at the place;
     /// then no token is added.
@@ -179,46 +217,11 @@ impl DenseDfa {
         ensures none { IfOk result (λ found. IfNone found ((ts : List Tree) (ps : List ℕ)
             → Recognizes self.now ts ps → IsLongest ts ps (drop at text.now) None)) }
     {
-        match self.cut_fused(text, at, ends, tokens)? {
-            Some(to) => Ok(Some(to)),
-            None => self.cut_one(text, at, tokens),
+        let _vain = self.find_ends(text, at, BLOCK, ends, &mut Steps::new());
+        if !ends.has_next() {
+            return self.cut_one(text, at, tokens);
         }
-    }
-
-    // Adds the tokens that the fused table finds in a block. None if it finds none.
-    fn cut_fused<'text>(
-        &self,
-        text: &'text str,
-        at: usize,
-        ends: &mut TokenEnds,
-        tokens: &mut Vec<Token<'text>>,
-    ) -> Result<Option<usize>, AllocError>
-        requires boundary { IsCharBoundary text.now at }
-        ensures tokens { IfOk result (λ found. IfSome found (λ to.
-            AddsTokens self.now text.now at to tokens.old.items tokens.new.items)) }
-        ensures goes { IfOk result (λ found. IfSome found (λ to.
-            (at < to) × IsCharBoundary text.now to)) }
-        ensures same { IfOk result (λ found. IfNone found (tokens.new ≡ tokens.old)) }
-        ensures failed { IfErr result (λ _. (to : ℕ)
-            × AddsTokens self.now text.now at to tokens.old.items tokens.new.items) }
-    {
-        let Some(table) = &self.table else {
-            return Ok(None);
-        };
-        let Some(fused) = &table.fused else {
-            return Ok(None);
-        };
-        let engine = Engine {
-            dfa: &self.dfa,
-            layout: &table.layout,
-            cells: &table.cells,
-            fused,
-        };
-        let count = mark_block(&engine, text, at, &mut ends.marks);
-        if count == 0 {
-            return Ok(None);
-        }
-        let to = push_tokens(&engine, text, at, &ends.marks[..count], tokens)?;
+        let to = push_tokens(&self.dfa, text, at, ends, tokens)?;
         Ok(Some(to))
     }
 
@@ -276,10 +279,11 @@ fn checked_fused(alloc: Global, layout: &Layout, cells: &[u32]) -> Result<Option
 fn checked_table(alloc: Global, dfa: &Dfa) -> Result<Option<Table>, AllocError>
     ensures { IfOk result (λ made. IfSome made (λ table. IsTable table dfa.now)) }
 {
-    let Some((layout, cells)) = make_table(alloc, dfa)? else {
+    let alikes = alikes_of(alloc, dfa)?;
+    let Some((layout, cells)) = make_table(alloc, dfa, &alikes)? else {
         return Ok(None);
     };
-    if !is_table_of(alloc, &layout, &cells, dfa)? {
+    if !is_table_of(alloc, &layout, &cells, dfa, &alikes)? {
         return Ok(None);
     }
     let fused = checked_fused(alloc, &layout, &cells)?;

@@ -2,10 +2,10 @@
 
 ghost use Rattle.std.specs.Prelude.{◌≡◌, ℕ, ◌+◌, ◌<◌, ◌≤◌, length, slice_index, IsTrue};
 ghost use Rattle.lalrpop_dense.specs.Internal.Fused.{IsRow, EndsBefore, Leads, IsRightRow, LeadsBack, IsFusedOf, StaysOn};
-ghost use Rattle.lalrpop_dense.specs.Internal.Table.{HasClasses, class_of};
+ghost use Rattle.lalrpop_dense.specs.Internal.Table.{HasClasses, class_of, numbers_of};
 
 use crate::self_loop::SelfLoop;
-use crate::table::Layout;
+use crate::table::{Cells, Layout, StoredCells};
 use std::alloc::{AllocError, Global};
 
 /// A row of a fused table.
@@ -22,12 +22,12 @@ pub(crate) struct FusedRow {
 #[derive(Debug, Drop)]
 pub(crate) struct Fused {
     // For each row a cell for each class of characters, and the pattern. The first row has no state: a cell of 0 leads nowhere.
-    pub(crate) cells: Vec<u16>,
+    pub(crate) cells: StoredCells,
     pub(crate) rows: Vec<FusedRow>,
     // The row of START.
-    pub(crate) first: u16,
+    pub(crate) first: u32,
     // Where the first copy begins.
-    pub(crate) emit: u16,
+    pub(crate) emit: u32,
     // The bytes on which rows stay: those of a row are at its start shifted right by `shift` bits.
     pub(crate) stays: Vec<SelfLoop>,
     pub(crate) shift: u8,
@@ -39,8 +39,8 @@ impl Fused {
     #[inline(always)]
     pub(crate) fn stay_end(
         &self,
-        before: usize,
-        row: usize,
+        before: u32,
+        row: u32,
         bytes: &[u8],
         at: usize,
         end: usize,
@@ -54,21 +54,21 @@ impl Fused {
         if before != row {
             return at;
         }
-        match self.stays.get(row >> (self.shift % 16)) {
-            Some(stay) if stay.row as usize == row => stay.end(bytes, at, end),
+        match self.stays.get((row >> (self.shift % 32)) as usize) {
+            Some(stay) if stay.row == row => stay.end(bytes, at, end),
             _ => at,
         }
     }
 }
 
 // Whether the fused row at `start` is for the row at `origin`. The rows are listed in order, without the first.
-fn is_row(fused: &Fused, width: usize, start: u32, origin: u32) -> bool
+fn is_row(fused: &Fused, width: usize, start: usize, origin: usize) -> bool
     requires { width < 65536 }
     ensures { IsTrue result → IsRow fused.now start origin }
 {
-    let place = (start as usize / (width + 1)).wrapping_sub(1);
+    let place = (start / (width + 1)).wrapping_sub(1);
     match fused.rows.get(place) {
-        Some(row) => row.start == start && row.origin == origin,
+        Some(row) => row.start as usize == start && row.origin as usize == origin,
         None => false,
     }
 }
@@ -88,24 +88,24 @@ fn ends_before(layout: &Layout, cells: &[u32], row: usize, class: usize) -> bool
 fn leads_right(fused: &Fused, layout: &Layout, cells: &[u32], row: FusedRow, class: usize) -> bool
     requires narrow { layout.now.width < 65536 }
     requires class { class < layout.now.width }
-    requires start { row.start + layout.now.width < length fused.now.cells.items }
+    requires start { row.start + layout.now.width < length (numbers_of fused.now.cells) }
     requires origin { row.origin + layout.now.width < length cells.now }
     ensures { IsTrue result → Leads fused.now layout.now cells.now row class }
 {
-    let to = fused.cells[row.start as usize + class];
+    let to = fused.cells.at(row.start as usize + class);
     if to == 0 {
         return true;
     }
-    if to < fused.emit {
+    if to < fused.emit as usize {
         let target = cells[row.origin as usize + class];
-        return is_row(fused, layout.width, u32::from(to), target);
+        return is_row(fused, layout.width, to, target as usize);
     }
     if layout.rows.is_empty() || layout.rows[0] as usize + layout.width >= cells.len() {
         return false;
     }
     let target = cells[layout.rows[0] as usize + class];
     ends_before(layout, cells, row.origin as usize, class)
-        && is_row(fused, layout.width, u32::from(to), target)
+        && is_row(fused, layout.width, to, target as usize)
 }
 
 fn is_right_row(fused: &Fused, layout: &Layout, cells: &[u32], row: FusedRow) -> bool
@@ -114,8 +114,8 @@ fn is_right_row(fused: &Fused, layout: &Layout, cells: &[u32], row: FusedRow) ->
 {
     if row.start as usize + layout.width >= fused.cells.len()
         || row.origin as usize + layout.width >= cells.len()
-        || u32::from(fused.cells[row.start as usize + layout.width])
-            != cells[row.origin as usize + layout.width]
+        || fused.cells.at(row.start as usize + layout.width)
+            != cells[row.origin as usize + layout.width] as usize
     {
         return false;
     }
@@ -127,16 +127,13 @@ fn is_right_row(fused: &Fused, layout: &Layout, cells: &[u32], row: FusedRow) ->
     true
 }
 
-fn is_back(fused: &Fused, layout: &Layout, row: u16, byte: u8) -> bool
+fn is_back(fused: &Fused, layout: &Layout, row: u32, byte: u8) -> bool
     requires { HasClasses layout.now }
     ensures { IsTrue result
-        → slice_index fused.now.cells.items (row + class_of layout.now byte) ≡ row }
+        → slice_index (numbers_of fused.now.cells) (row + class_of layout.now byte) ≡ row }
 {
-    let class = layout.class(u32::from(byte));
-    match fused.cells.get(row as usize + class as usize) {
-        Some(cell) => *cell == row,
-        None => false,
-    }
+    let place = row as usize + layout.class(u32::from(byte)) as usize;
+    place < fused.cells.len() && fused.cells.at(place) == row as usize
 }
 
 // Whether the row leads back to itself on each of the bytes.
@@ -144,7 +141,7 @@ fn leads_back(fused: &Fused, layout: &Layout, stay: SelfLoop) -> bool
     requires { HasClasses layout.now }
     ensures { IsTrue result → LeadsBack fused.now layout.now stay }
 {
-    if stay.row == 0 || stay.row >= fused.emit || stay.last >= 128 {
+    if stay.row == 0 || stay.row >= fused.emit {
         return false;
     }
     for byte in 0..128 {
@@ -162,7 +159,12 @@ pub(crate) fn is_fused_of(fused: &Fused, layout: &Layout, cells: &[u32]) -> bool
 {
     if layout.rows.is_empty()
         || layout.width > 65535
-        || !is_row(fused, layout.width, u32::from(fused.first), layout.rows[0])
+        || !is_row(
+            fused,
+            layout.width,
+            fused.first as usize,
+            layout.rows[0] as usize,
+        )
     {
         return false;
     }

@@ -2,15 +2,11 @@
 
 use crate::fused::{Fused, FusedRow};
 use crate::self_loop::SelfLoop;
-use crate::table::Layout;
+use crate::table::{Layout, stored};
 use std::alloc::{AllocError, Global};
 
-// The most cells that 16 bits can number.
-const MOST: usize = 65536;
-
-fn narrow(number: usize) -> u16 {
-    (number & 0xFFFF) as u16
-}
+// The most cells that 32 bits can number.
+const MOST: usize = 1 << 32;
 
 fn low(number: usize) -> u32 {
     (number & 0xFFFF_FFFF) as u32
@@ -48,11 +44,22 @@ impl<'table> Plain<'table> {
     }
 }
 
+// A fused table in the making, whose cells all have 32 bits.
+#[derive(Drop)]
+struct Draft {
+    cells: Vec<u32>,
+    rows: Vec<FusedRow>,
+    first: u32,
+    emit: u32,
+    stays: Vec<SelfLoop>,
+    shift: u8,
+}
+
 // For each fused row, the row that it stands for.
 #[derive(Drop)]
 struct Origins {
     origins: Vec<usize>,
-    // For each row, the number of its copy, or 0.
+    // For each class, where the copy begins of the row that START leads to by it, or 0.
     copies: Vec<usize>,
     // How many fused rows aren't copies.
     plain: usize,
@@ -65,17 +72,22 @@ fn origins_of(alloc: Global, table: &Plain, count: usize) -> Result<Origins, All
         origins.push(row)?;
     }
     let plain = origins.len();
-    let mut copies = vec![in alloc; 0usize; count]?;
+    // For each row, where its copy begins, or 0.
+    let mut places = vec![in alloc; 0usize; count]?;
+    let mut copies = Vec::new(alloc);
     for class in 0..table.layout.width {
         let row = table.target(table.start, class);
+        let mut copy = 0;
         if row >= table.dead {
-            if let Some(copy) = copies.get_mut(row) {
-                if *copy == 0 {
+            if let Some(place) = places.get_mut(row) {
+                if *place == 0 {
                     origins.push(row)?;
-                    *copy = origins.len();
+                    *place = origins.len().wrapping_mul(table.stride);
                 }
+                copy = *place;
             }
         }
+        copies.push(copy)?;
     }
     Ok(Origins {
         origins,
@@ -84,21 +96,23 @@ fn origins_of(alloc: Global, table: &Plain, count: usize) -> Result<Origins, All
     })
 }
 
-// The number of the fused row that the fused row of this one leads to by the class, or 0 if it leads nowhere.
+// Where the fused row begins to which the fused row of this one leads by the class, or 0 if it leads nowhere. Fused rows that
+// aren't copies are in the order of their rows, behind an empty one.
 fn leads_to(table: &Plain, origins: &Origins, row: usize, class: usize) -> usize {
-    let target = table.target(row, class);
-    if target >= table.dead {
-        return target.wrapping_sub(table.dead).wrapping_add(1);
+    let target = table.cell(row, class);
+    if target >= table.layout.live {
+        return target
+            .wrapping_sub(table.layout.live)
+            .wrapping_add(table.stride);
     }
     if row == table.start || !table.accepts(row) {
         return 0;
     }
-    let first = table.target(table.start, class);
-    origins.copies.get(first).copied().unwrap_or(0)
+    origins.copies.get(class).copied().unwrap_or(0)
 }
 
 fn push_row(
-    fused: &mut Fused,
+    fused: &mut Draft,
     table: &Plain,
     origins: &Origins,
     row: usize,
@@ -109,17 +123,15 @@ fn push_row(
     })?;
     for class in 0..table.layout.width {
         let target = leads_to(table, origins, row, class);
-        fused.cells.push(narrow(target.wrapping_mul(table.stride)))?;
+        fused.cells.push(low(target))?;
     }
-    fused
-        .cells
-        .push(narrow(table.cell(row, table.layout.width)))?;
+    fused.cells.push(low(table.cell(row, table.layout.width)))?;
     Ok(())
 }
 
 // How many low bits of two rows' starts can be dropped so that they still differ.
 fn shift_of(stride: usize) -> u8 {
-    (stride.checked_ilog2().unwrap_or(0) & 15) as u8
+    (stride.checked_ilog2().unwrap_or(0) & 31) as u8
 }
 
 // Only bytes below this are tried as ones on which rows stay.
@@ -130,72 +142,17 @@ fn weight_of(byte: u8) -> u32 {
     if byte == b' ' { LEAST_WEIGHT } else { 1 }
 }
 
-// A window of less weight isn't worth a look.
+// Bytes of less weight aren't worth a look.
 const LEAST_WEIGHT: u32 = 8;
 
-// A range of bytes with at most three gaps.
-#[derive(Clone, Copy)]
-struct Window {
-    first: u8,
-    // From left to right; `ASCII_END` for a gap that isn't there.
-    gaps: (u8, u8, u8),
-    // The weights of the parts between the gaps.
-    weights: (u32, u32, u32, u32),
-}
-
-impl Window {
-    fn new() -> Window {
-        Window {
-            first: 0,
-            gaps: (ASCII_END, ASCII_END, ASCII_END),
-            weights: (0, 0, 0, 0),
-        }
-    }
-
-    // With one more gap. If that is a fourth one, the window now begins after the first.
-    fn with_gap(self, byte: u8) -> Window {
-        let first = if self.gaps.0 < ASCII_END {
-            self.gaps.0.wrapping_add(1)
-        } else {
-            self.first
-        };
-        Window {
-            first,
-            gaps: (self.gaps.1, self.gaps.2, byte),
-            weights: (self.weights.1, self.weights.2, self.weights.3, 0),
-        }
-    }
-
-    fn with_byte(self, byte: u8) -> Window {
-        let mut window = self;
-        window.weights.3 = window.weights.3.wrapping_add(weight_of(byte));
-        window
-    }
-
-    fn weight(&self) -> u32 {
-        let front = self.weights.0.wrapping_add(self.weights.1);
-        let back = self.weights.2.wrapping_add(self.weights.3);
-        front.wrapping_add(back)
-    }
-
-    fn stay(&self, row: u16, last: u8) -> SelfLoop {
-        SelfLoop {
-            row,
-            first: self.first,
-            last,
-            gaps: self.gaps,
-        }
-    }
-}
-
-fn stays_on(fused: &Fused, layout: &Layout, row: u16, byte: u8) -> bool {
+fn stays_on(fused: &Draft, layout: &Layout, row: u32, byte: u8) -> bool {
     let class = layout.blocks.get(byte as usize).copied().unwrap_or(0);
     let cell = fused.cells.get((row as usize).wrapping_add(class as usize));
     cell.copied() == Some(row)
 }
 
 // Whether the row leads to itself at all. Most rows don't.
-fn leads_to_itself(fused: &Fused, width: usize, row: u16) -> bool {
+fn leads_to_itself(fused: &Draft, width: usize, row: u32) -> bool {
     for class in 0..width {
         let cell = fused.cells.get((row as usize).wrapping_add(class));
         if cell.copied() == Some(row) {
@@ -205,36 +162,31 @@ fn leads_to_itself(fused: &Fused, width: usize, row: u16) -> bool {
     false
 }
 
-// The heaviest window of bytes on which the row stays, if it is worth a look.
-fn stay_of(fused: &Fused, layout: &Layout, row: u16) -> Option<SelfLoop> {
+// The bytes on which the row stays, if they are worth a look.
+fn stay_of(fused: &Draft, layout: &Layout, row: u32) -> Option<SelfLoop> {
     if !leads_to_itself(fused, layout.width, row) {
         return None;
     }
-    let mut best = None;
-    let mut weight = LEAST_WEIGHT.wrapping_sub(1);
-    let mut window = Window::new();
+    let mut set = [0; 16];
+    let mut weight = 0u32;
     for byte in 0..ASCII_END {
-        if !stays_on(fused, layout, row, byte) {
-            window = window.with_gap(byte);
-            continue;
-        }
-        window = window.with_byte(byte);
-        if window.weight() > weight {
-            weight = window.weight();
-            best = Some(window.stay(row, byte));
+        if stays_on(fused, layout, row, byte) {
+            set[(byte % 16) as usize] |= 1 << (byte / 16);
+            weight = weight.wrapping_add(weight_of(byte));
         }
     }
-    best
+    if weight < LEAST_WEIGHT {
+        return None;
+    }
+    Some(SelfLoop { row, set })
 }
 
 // Adds the bytes on which each row that isn't a copy stays, at the row's start shifted.
-fn push_stays(fused: &mut Fused, layout: &Layout, plain: usize) -> Result<(), AllocError> {
-    let shift = fused.shift % 16;
+fn push_stays(fused: &mut Draft, layout: &Layout, plain: usize) -> Result<(), AllocError> {
+    let shift = fused.shift % 32;
     let none = SelfLoop {
         row: fused.first,
-        first: 1,
-        last: 0,
-        gaps: (0, 0, 0),
+        set: [0; 16],
     };
     for _ in 0..(fused.cells.len() >> shift).wrapping_add(1) {
         fused.stays.push(none)?;
@@ -243,7 +195,7 @@ fn push_stays(fused: &mut Fused, layout: &Layout, plain: usize) -> Result<(), Al
         let Some(row) = fused.rows.get(place).copied() else {
             break;
         };
-        let start = narrow(row.start as usize);
+        let start = row.start;
         if let Some(stay) = stay_of(fused, layout, start)
             && let Some(slot) = fused.stays.get_mut((start >> shift) as usize)
         {
@@ -264,7 +216,7 @@ pub(crate) fn make_fused(
     cells: &[u32],
 ) -> Result<Option<Fused>, AllocError> {
     let stride = layout.width.wrapping_add(1);
-    if stride == 0 || cells.len() > MOST {
+    if stride == 0 {
         return Ok(None);
     }
     let table = Plain {
@@ -279,11 +231,11 @@ pub(crate) fn make_fused(
         return Ok(None);
     }
     let first = table.start.wrapping_sub(table.dead).wrapping_add(1);
-    let mut fused = Fused {
-        cells: vec![in alloc; 0u16; stride]?,
+    let mut fused = Draft {
+        cells: vec![in alloc; 0u32; stride]?,
         rows: Vec::new(alloc),
-        first: narrow(first.wrapping_mul(stride)),
-        emit: narrow(origins.plain.wrapping_add(1).wrapping_mul(stride)),
+        first: low(first.wrapping_mul(stride)),
+        emit: low(origins.plain.wrapping_add(1).wrapping_mul(stride)),
         stays: Vec::new(alloc),
         shift: shift_of(stride),
     };
@@ -291,5 +243,20 @@ pub(crate) fn make_fused(
         push_row(&mut fused, &table, &origins, *row)?;
     }
     push_stays(&mut fused, layout, origins.plain)?;
-    Ok(Some(fused))
+    let Draft {
+        cells,
+        rows,
+        first,
+        emit,
+        stays,
+        shift,
+    } = fused;
+    Ok(Some(Fused {
+        cells: stored(alloc, cells)?,
+        rows,
+        first,
+        emit,
+        stays,
+        shift,
+    }))
 }

@@ -4,10 +4,12 @@
 //! automaton, so whatever holds of the automaton holds of the table.
 #![tactic(auto)]
 
+mod alike;
 mod block;
 mod candidate;
 mod check;
 mod dense;
+mod ends;
 mod fused;
 mod fusing;
 mod mark;
@@ -17,6 +19,6 @@ mod self_loop;
 mod table;
 
 pub use dense::DenseDfa;
-pub use mark::TokenEnds;
+pub use ends::{TokenEnd, TokenEnds};
 pub use matcher::Matcher;
 pub use run::BoundedMatch;

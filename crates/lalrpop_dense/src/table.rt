@@ -1,6 +1,6 @@
 //! A table of where characters lead.
 
-ghost use Rattle.std.specs.Prelude.{◌≡◌, ℕ, ◌<◌, List, length, slice_index, IfOk, IfSome};
+ghost use Rattle.std.specs.Prelude.{◌≡◌, ℕ, ◌+◌, ◌<◌, List, length, slice_index, IfOk, IfSome};
 ghost use Rattle.lalrpop_dense.specs.Internal.Table.{numbers_of};
 
 use crate::fused::Fused;
@@ -90,6 +90,61 @@ impl Cells for StoredCells {
             StoredCells::Narrow(cells) => cells.at(place),
             StoredCells::Wide(cells) => cells.at(place),
         }
+    }
+}
+
+impl StoredCells {
+    /// How many there are.
+    pub(crate) fn len(&self) -> usize
+        ensures { result ≡ length (numbers_of self.now) }
+    {
+        match self {
+            StoredCells::Narrow(cells) => cells.len(),
+            StoredCells::Wide(cells) => cells.len(),
+        }
+    }
+}
+
+/// Cells of one size, as a slice, which are read by a row and a class.
+pub(crate) trait Rows: Copy {
+    ghost numbers: { Self → List ℕ };
+
+    /// The pattern after the row, which has this width.
+    fn pattern(&self, row: u32, width: usize) -> u32
+        requires { row + width < length (numbers self.now) }
+        ensures { result ≡ slice_index (numbers self.now) (row + width) };
+
+    /// The cell of the row for the class. The class is added first, since it's known before the row is.
+    fn cell(&self, row: u32, class: u8) -> u32
+        requires { row + class < length (numbers self.now) }
+        ensures { result ≡ slice_index (numbers self.now) (row + class) };
+}
+
+impl Rows for &[u16] {
+    ghost numbers = { λ cells. cells.now };
+
+    #[inline(always)]
+    fn pattern(&self, row: u32, width: usize) -> u32 {
+        self[row as usize + width] as u32
+    }
+
+    #[inline(always)]
+    fn cell(&self, row: u32, class: u8) -> u32 {
+        self[class as usize..][row as usize] as u32
+    }
+}
+
+impl Rows for &[u32] {
+    ghost numbers = { λ cells. cells.now };
+
+    #[inline(always)]
+    fn pattern(&self, row: u32, width: usize) -> u32 {
+        self[row as usize + width]
+    }
+
+    #[inline(always)]
+    fn cell(&self, row: u32, class: u8) -> u32 {
+        self[class as usize..][row as usize]
     }
 }
 

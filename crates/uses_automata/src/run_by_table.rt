@@ -1,8 +1,8 @@
 //! An automaton with a table beside it, run over a text.
 
-ghost use Rattle.std.specs.Prelude.{◌≡◌, ◌≢◌, ℕ, ◌+◌, ◌<◌, ◌≤◌, ◌++◌, [], length, List, None, IfErr, IfOk, IfNone, IfSome, MatchOption};
+ghost use Rattle.std.specs.Prelude.{◌≡◌, ◌≢◌, ℕ, ◌+◌, ◌<◌, ◌≤◌, ◌++◌, [], length, take, List, Some, None, true, IfErr, IfOk, IfNone, IfSome, MatchOption};
 ghost use Rattle.std.specs.Option.{option_map};
-ghost use Rattle.std.specs.Str.{chars};
+ghost use Rattle.std.specs.Str.{IsCharBoundary, chars};
 ghost use Rattle.lalrpop_book.specs.Tree.{Tree};
 ghost use Rattle.lalrpop_book.specs.Prefix.{IsPrefix};
 ghost use Rattle.lalrpop_dfa.specs.Dfa.{Recognizes};
@@ -12,7 +12,7 @@ ghost use Rattle.lalrpop_book.specs.declared.token.Token.{Token as TokenValue};
 ghost use Rattle.lalrpop_dense.specs.Leading.{LeadTo};
 
 use lalrpop_book::{NfaIndex, Token};
-use lalrpop_dense::{DenseDfa, Matcher, TokenEnds};
+use lalrpop_dense::{DenseDfa, Matcher, TokenEnd, TokenEnds};
 use lalrpop_dfa::Dfa;
 use lalrpop_dfa::interpret::interpret;
 use lalrpop_nfa::Steps;
@@ -130,9 +130,9 @@ pub fn first_block<'text>(
         × ((ts : List Tree) (ps : List ℕ) → Recognizes dense.now ts ps
         → IsLongest ts ps text.now None))) }
 {
-    let mut marks = TokenEnds::new(alloc)?;
+    let mut ends = TokenEnds::new();
     let mut tokens = Vec::new(alloc);
-    let to = dense.cut_block(text, 0, &mut marks, &mut tokens)?;
+    let to = dense.cut_block(text, 0, &mut ends, &mut tokens)?;
     Ok((tokens, to))
 }
 
@@ -152,6 +152,41 @@ pub fn add_first_block<'text>(
         × (tokens.new.items ≡ tokens.old.items ++ xs)) }
 {
     dense.cut_block(text, 0, ends, tokens)
+}
+
+// Needs lalrpop_dense::DenseDfa::find_ends: ahead, limit, never_falls, cost, read; lalrpop_dense::TokenEnds::new: none;
+// lalrpop_dense::TokenEnds::next: some.
+/// The first token of a text, if it's found ahead: the longest match. Each token found costs a step at least, and 100 bytes
+/// at most are read in vain.
+pub fn first_ahead(dense: &DenseDfa, text: &str, steps: &mut Steps) -> Option<TokenEnd>
+    ensures longest { (ts : List Tree) (ps : List ℕ) → Recognizes dense.now ts ps → IfSome result (λ found.
+        IsLongest ts ps text.now (Some (found.index, take found.end text.now))) }
+    ensures within { IfSome result (λ found. (0 < found.end) × IsCharBoundary text.now found.end) }
+    ensures read { IfSome result (λ found. steps.old < steps.new) }
+    ensures cost { IfNone result (steps.new ≤ steps.old + 100) }
+    ensures never_falls { steps.old ≤ steps.new }
+{
+    let mut ends = TokenEnds::new();
+    let _vain = dense.find_ends(text, 0, 100, &mut ends, steps);
+    ends.next()
+}
+
+// Needs lalrpop_dense::TokenEnds::clear: none; lalrpop_dense::TokenEnds::next: none.
+/// After it is cleared, none is ahead, however often one is asked for.
+pub fn none_is_left(ends: &mut TokenEnds) -> bool
+    ensures none { result ≡ true }
+    ensures still { ends.new ≡ [] }
+{
+    ends.clear();
+    ends.next().is_none() && ends.next().is_none()
+}
+
+// Needs lalrpop_dense::TokenEnds::new: none; lalrpop_dense::TokenEnds::next: some.
+/// Nothing is found before it is sought.
+pub fn none_at_first() -> Option<TokenEnd>
+    ensures none { result ≡ None }
+{
+    TokenEnds::new().next()
 }
 
 // Needs lalrpop_dense::Matcher::longest_match: answer, prefix, never_falls, cost, looked, read.

@@ -1,11 +1,11 @@
 -- Cases of specs/Leading.antt.
-use Rattle.std.proofs.Common.{◌≡◌, ◌≢◌, ℕ, ◌+◌, List, [], ◌∷◌, length, drop, Some, refl, sym}
+use Rattle.std.proofs.Common.{◌≡◌, ◌≢◌, ℕ, ◌+◌, List, [], ◌∷◌, length, drop, Some, refl, sym, arith}
 use Rattle.std.proofs.lemmas.List.{append-nil}
 use Rattle.lalrpop_book.specs.Tree.{Tree}
 use Rattle.lalrpop_book.specs.Longest.{IsLongest}
 use Rattle.lalrpop_book.specs.declared.token.Token.{Token}
 use Rattle.lalrpop_dfa.specs.Dfa.{Row}
-use Rattle.lalrpop_dense.specs.Leading.{IsStep, LeadTo, AddsTokens}
+use Rattle.lalrpop_dense.specs.Leading.{IsStep, LeadTo, AddsTokens, IsEnd, AreAhead, last_end}
 
 longest_match_is_a_step : (ts : List Tree) (ps text : List ℕ) (token : Token) → IsLongest ts ps (drop token.start text) (Some (token.index, token.slice.now))
     → IsStep ts ps text token.start token
@@ -32,3 +32,19 @@ adds_none d text at old = ([], sym (append-nil old), λ ts ps stands. refl)
 
 loses_one : (d : List Row) (text : List ℕ) (at to : ℕ) (token : Token) → ¬ AddsTokens d text at to (token ∷ []) []
 loses_one d text at to token h = let none : [] ≡ token ∷ h.0 = h.1 in cc
+
+no_match_ends_where_it_begins : (d : List Row) (text : List ℕ) (at index : ℕ) → ¬ IsEnd d text at index at
+no_match_ends_where_it_begins d text at index h = omega (arith, h.some)
+
+none_are_ahead : (d : List Row) (text : List ℕ) (at : ℕ) → AreAhead d text at []
+none_are_ahead d text at = tt
+
+-- the second begins where the first ends
+second_begins_at_the_end : (d : List Row) (text : List ℕ) → AreAhead d text 0 ((7, 2) ∷ (8, 5) ∷ []) → IsEnd d text 2 8 5
+second_begins_at_the_end d text h = h.1.0
+
+last_of_two : last_end 0 ((7, 2) ∷ (8, 5) ∷ []) ≡ 5
+last_of_two = refl
+
+last_of_none : (at : ℕ) → last_end at [] ≡ at
+last_of_none at = refl

@@ -24,24 +24,23 @@ pub record EndsBefore (t : Layout) (cells : List ℕ) (row class : ℕ) : Type 0
 -- where a fused row leads by a class: nowhere, to where its state leads, or, if a match ends there, to where START leads
 abbrev pub Leads : Fused → Layout → List ℕ → FusedRow → ℕ → Type 0
 Leads f t cells r class =
-    (slice_index f.cells.items (r.start + class) ≡ 0)
-    ⊎ (((slice_index f.cells.items (r.start + class) < f.emit)
-    × IsRow f (slice_index f.cells.items (r.start + class)) (slice_index cells (r.origin + class)))
-    ⊎ ((f.emit ≤ slice_index f.cells.items (r.start + class)) × EndsBefore t cells r.origin class
-    × IsRow f (slice_index f.cells.items (r.start + class)) (slice_index cells (row_of t 0 + class))))
+    (slice_index (numbers_of f.cells) (r.start + class) ≡ 0)
+    ⊎ (((slice_index (numbers_of f.cells) (r.start + class) < f.emit)
+    × IsRow f (slice_index (numbers_of f.cells) (r.start + class)) (slice_index cells (r.origin + class)))
+    ⊎ ((f.emit ≤ slice_index (numbers_of f.cells) (r.start + class)) × EndsBefore t cells r.origin class
+    × IsRow f (slice_index (numbers_of f.cells) (r.start + class)) (slice_index cells (row_of t 0 + class))))
 
 -- a fused row has a cell for each class, and the pattern after them
 pub record IsRightRow (f : Fused) (t : Layout) (cells : List ℕ) (r : FusedRow) : Type 0 where
-  pub within : r.start + t.width < length f.cells.items
-  pub pattern : slice_index f.cells.items (r.start + t.width) ≡ slice_index cells (r.origin + t.width)
+  pub within : r.start + t.width < length (numbers_of f.cells)
+  pub pattern : slice_index (numbers_of f.cells) (r.start + t.width) ≡ slice_index cells (r.origin + t.width)
   pub leads : (class : ℕ) → class < t.width → Leads f t cells r class
 
 -- the row isn't a copy, and leads back to itself on each of the bytes
 pub record LeadsBack (f : Fused) (t : Layout) (s : SelfLoop) : Type 0 where
   pub some : 0 < s.row
   pub plain : s.row < f.emit
-  pub ascii : s.last < 128
-  pub back : (byte : ℕ) → IsIn s byte → slice_index f.cells.items (s.row + class_of t byte) ≡ s.row
+  pub back : (byte : ℕ) → IsIn s byte → slice_index (numbers_of f.cells) (s.row + class_of t byte) ≡ s.row
 
 -- it begins in the row of START, all its rows are right, and each stays on the bytes listed for it
 pub record IsFusedOf (f : Fused) (t : Layout) (cells : List ℕ) : Type 0 where

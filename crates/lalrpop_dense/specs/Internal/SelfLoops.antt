@@ -1,15 +1,12 @@
 -- Bytes on which a row of a fused table leads back to itself.
-use Rattle.std.specs.Prelude.{◌≢◌, ℕ, ◌<◌, ◌≤◌, ◌==◌, if◌then◌else◌, List, slice_index}
-use Rattle.std.specs.Int.{w64, trailing_zeros}
+use Rattle.std.specs.Prelude.{◌≡◌, ℕ, ◌/◌, ◌%◌, ◌<◌, ◌≤◌, ◌==◌, if◌then◌else◌, List, slice_index}
+use Rattle.std.specs.Int.{w64, trailing_zeros, bit_at}
 use Rattle.lalrpop_dense.specs.declared.self_loop.SelfLoop.{SelfLoop}
 
--- the byte is from the first to the last, and in no gap
+-- the byte is ASCII, and the entry of its low half has the bit of its high half
 pub record IsIn (s : SelfLoop) (byte : ℕ) : Type 0 where
-  pub first : s.first ≤ byte
-  pub last : byte ≤ s.last
-  pub gap : byte ≢ s.gaps.0
-  pub gap2 : byte ≢ s.gaps.1
-  pub gap3 : byte ≢ s.gaps.2
+  pub ascii : byte < 128
+  pub set : bit_at (slice_index s.set (byte % 16)) (byte / 16) ≡ 1
 
 -- so are the bytes from one place to the other
 abbrev pub AreIn : SelfLoop → List ℕ → ℕ → ℕ → Type 0

@@ -1,7 +1,7 @@
 use Rattle.std.proofs.Common.{◌-◌, ◌≤◌}
 use Rattle.lalrpop_dfa.specs.Internal.Stored.{EndBefore}
 use Rattle.lalrpop_dense.specs.Internal.Runs.{LeadsRightBelow}
-use Rattle.lalrpop_dense.proofs.check.leads_right.Given as goal
+use Rattle.lalrpop_dense.proofs.check.leads_right_below.Given as goal
 
 -- the characters below the value are right
 abbrev pub invariant-loop-run : goal.invariant-loop-run

@@ -5,7 +5,7 @@ use Rattle.lalrpop_dfa.proofs.EdgeTargets.{step_within}
 use Rattle.lalrpop_dense.specs.Internal.Table.{row_of}
 use Rattle.lalrpop_dense.specs.Internal.Runs.{IsRun}
 use Rattle.lalrpop_dense.proofs.Rights.{row_leads, right_on}
-use Rattle.lalrpop_dense.proofs.check.leads_right.Goals as goal
+use Rattle.lalrpop_dense.proofs.check.leads_right_below.Goals as goal
 
 pub index-requires-in-loop-value-2 : goal.index-requires-in-loop-value-2
 index-requires-in-loop-value-2 c =
