@@ -1,6 +1,6 @@
 -- What the characters that are cut off a text pay for.
-use Rattle.std.proofs.Common.{◌≡◌, ◌≢◌, ℕ, zero, suc, ◌+◌, ◌*◌, ◌<◌, ◌≤◌, true, false, List, [], ◌++◌, length, arith, sym, ap, ◌∙◌, length-append}
-use Rattle.std.specs.Prelude.{Option, Some, None, Ok, Err, IfSome}
+use Rattle.std.proofs.Common.{◌≡◌, ◌≢◌, ℕ, ◌+◌, ◌*◌, ◌<◌, ◌≤◌, true, false, List, [], ◌++◌, length, arith, sym, ap, ◌∙◌, length-append}
+use Rattle.std.specs.Prelude.{Option, Some, None, Ok, Err, IfSome, IfNone}
 use Rattle.std.specs.Option.{option_map}
 use Rattle.std.specs.Str.{chars, IsUtf8}
 use Rattle.std.proofs.lemmas.Str.{chars-append}
@@ -14,21 +14,20 @@ use Rattle.lalrpop_lexer.specs.LexerTokens.{LexerCutting, IsPaidBy, GivesToken}
 use Rattle.lalrpop_lexer.proofs.Cuttings.{fewer, rest_behind, left_on, left_over, some_char}
 
 -- `a` characters are cut off, and `b` are left
-pays : (n a b before after : ℕ) → 0 < a → after ≤ before + a + n + 1 → after + (n + 2) * b ≤ before + (n + 2) * (a + b)
-pays n zero b before after some more = absurd (omega arith)
-pays n (suc k) b before after some more =
-    let e : (n + 2) * (suc k + b) ≡ (n + 2) + (n * k + 2 * k) + (n + 2) * b = grind arith in
+pays : (n a b before after : ℕ) → after ≤ before + (n + 2) * a → after + (n + 2) * b ≤ before + (n + 2) * (a + b)
+pays n a b before after more =
+    let e : (n + 2) * (a + b) ≡ (n + 2) * a + (n + 2) * b = grind arith in
     omega arith
 
-token_pays : (s t : Cutting) (m : List ℕ) (before after n : ℕ) → IsUtf8 (rest_of s) → s.is_over ≡ false → IsPrefix m (rest_of s) → m ≢ []
-    → t ≡ record s { at = s.at + length m } → after ≤ before + length (chars m) + n + 1 → after + (n + 2) * left_of t ≤ before + (n + 2) * left_of s
-token_pays s t m before after n u on b some e more =
+token_pays : (s t : Cutting) (m : List ℕ) (before after n : ℕ) → s.is_over ≡ false → IsPrefix m (rest_of s)
+    → t ≡ record s { at = s.at + length m } → after ≤ before + (n + 2) * length (chars m) → after + (n + 2) * left_of t ≤ before + (n + 2) * left_of s
+token_pays s t m before after n on b e more =
     let split : rest_of s ≡ m ++ rest_of t = rest_behind s t m b e in
     let still : t.is_over ≡ false = ap (λ (x : Cutting). x.is_over) e ∙ on in
     let count : left_of s ≡ length (chars m) + left_of t =
     left_on s on ∙ ap (λ (w : List ℕ). length (chars w)) split ∙ ap length (chars-append m (rest_of t) b.1.1) ∙ length-append (chars m) (chars (rest_of t))
     ∙ ap (λ (k : ℕ). length (chars m) + k) (sym (left_on t still)) in
-    rw count (pays n (length (chars m)) (left_of t) before after (some_char m b.1.1 some) more)
+    rw count (pays n (length (chars m)) (left_of t) before after more)
 
 fault_pays : (s t : Cutting) (before after n : ℕ) → s.is_over ≡ false → t ≡ record s { is_over = true } → after ≤ before + length (chars (rest_of s))
     → after + (n + 2) * left_of t ≤ before + (n + 2) * left_of s
@@ -41,12 +40,13 @@ fault_pays s t before after n on e more =
     at b h = let e : (n + 2) * b ≡ n * b + 2 * b = grind arith in let z : (n + 2) * 0 ≡ 0 = grind arith in omega arith
 
 -- ---- with a memo
-linear_token : (s t : Cutting) (m : List ℕ) (before after spare spare2 : ℕ) → IsUtf8 (rest_of s) → s.is_over ≡ false → IsPrefix m (rest_of s) → m ≢ []
+linear_token : (s t : Cutting) (m : List ℕ) (before after spare spare2 : ℕ) → s.is_over ≡ false → IsPrefix m (rest_of s) → m ≢ []
     → t ≡ record s { at = s.at + length m } → after + spare2 ≤ before + length (chars m) + spare + 64
     → after + 65 * left_of t + spare2 ≤ before + 65 * left_of s + spare
-linear_token s t m before after spare spare2 u on b some e more =
+linear_token s t m before after spare spare2 on b some e more =
+    let one = some_char m b.1.1 some in
     let pays : after + spare2 + (63 + 2) * left_of t ≤ before + spare + (63 + 2) * left_of s =
-    token_pays s t m (before + spare) (after + spare2) 63 u on b some e (omega arith) in
+    token_pays s t m (before + spare) (after + spare2) 63 on b e (omega (arith, one)) in
     omega (arith, pays)
 
 linear_fault : (s t : Cutting) (before after spare spare2 : ℕ) → IsUtf8 (rest_of s) → s.is_over ≡ false → rest_of s ≢ [] → t ≡ record s { is_over = true }
@@ -61,8 +61,8 @@ linear_fault s t before after spare spare2 u on some e more =
 -- what is read to find a match, with a memo or without
 abbrev pub Reads : LexerCutting → Option ℕ → Option ℕ → Option (List ℕ) → ℕ → Type 0
 Reads s None None m steps =
-    (steps ≤ s.steps + length (chars (rest_of s.cutting)))
-    × ((n : ℕ) → ReadsAtMost s.cutting.automaton n → IfSome m (λ x. steps ≤ s.steps + length (chars x) + n + 1))
+    IfNone m (steps ≤ s.steps + length (chars (rest_of s.cutting)))
+    × ((n : ℕ) → ReadsAtMost s.cutting.automaton n → IfSome m (λ x. steps ≤ s.steps + (n + 2) * length (chars x)))
 Reads s (Some before) (Some after) m steps = steps + after ≤ s.steps + characters_of m + before + 64
 Reads s _ _ m steps = ⊥
 
@@ -74,12 +74,12 @@ pub record IsFound (s : LexerCutting) (m : Option (ℕ × List ℕ)) (spare : Op
   pub reads : Reads s s.spare spare (option_map (λ x. x.1) m) steps
 
 -- it pays for what was read
-token_paid : (a b : Option ℕ) (s t : LexerCutting) (m : List ℕ) → IsUtf8 (rest_of s.cutting) → s.cutting.is_over ≡ false → IsPrefix m (rest_of s.cutting) → m ≢ []
+token_paid : (a b : Option ℕ) (s t : LexerCutting) (m : List ℕ) → s.cutting.is_over ≡ false → IsPrefix m (rest_of s.cutting) → m ≢ []
     → t.cutting ≡ record s.cutting { at = s.cutting.at + length m } → Reads s a b (Some m) t.steps → IsPaidBy a b s t
-token_paid None None s t m u on p some e reads = λ n most. token_pays s.cutting t.cutting m s.steps t.steps n u on p some e (reads.1 n most)
-token_paid (Some a) (Some b) s t m u on p some e reads = linear_token s.cutting t.cutting m s.steps t.steps a b u on p some e reads
-token_paid None (Some b) s t m u on p some e reads = reads
-token_paid (Some a) None s t m u on p some e reads = reads
+token_paid None None s t m on p some e reads = λ n most. token_pays s.cutting t.cutting m s.steps t.steps n on p e (reads.1 n most)
+token_paid (Some a) (Some b) s t m on p some e reads = linear_token s.cutting t.cutting m s.steps t.steps a b on p some e reads
+token_paid None (Some b) s t m on p some e reads = reads
+token_paid (Some a) None s t m on p some e reads = reads
 
 fault_paid : (a b : Option ℕ) (s t : LexerCutting) → IsUtf8 (rest_of s.cutting) → s.cutting.is_over ≡ false → rest_of s.cutting ≢ []
     → t.cutting ≡ record s.cutting { is_over = true } → Reads s a b None t.steps → IsPaidBy a b s t
@@ -94,7 +94,7 @@ pub token_given : (s t : LexerCutting) (token : Token) → IsUtf8 (rest_of s.cut
     → GivesToken s (Some (Ok token)) t × (left_of t.cutting < left_of s.cutting)
 token_given s t token u on start found e =
     let cut : GivesItem s.cutting (Some (Ok (token.index, token.slice))) t.cutting = (on, found.prefix.0, found.prefix.1, found.next, e) in (
-      ((start, cut), found.never_falls, token_paid s.spare t.spare s t token.slice.now u on found.prefix.0 found.prefix.1 e found.reads, tt),
+      ((start, cut), found.never_falls, token_paid s.spare t.spare s t token.slice.now on found.prefix.0 found.prefix.1 e found.reads, tt),
       fewer s.cutting t.cutting (Ok (token.index, token.slice)) u cut,
     )
 

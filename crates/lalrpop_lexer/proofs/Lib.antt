@@ -7,6 +7,7 @@ pub mod Costs
 pub mod Founds
 pub mod LexerCosts
 pub mod Places
+pub mod InLine
 -- what lines say
 pub mod LineLemmas
 pub mod LineParts
@@ -16,6 +17,7 @@ pub mod TerminalLaws
 mod Unseen
 pub mod Quotes
 pub mod QuotedRuns
+pub mod ByteRuns
 -- texts and their trees
 pub mod SpelledTexts
 -- what the definitions mean: the clash, the list of clashes and the longest match are unique
@@ -30,13 +32,16 @@ pub use Rattle.lalrpop_build.proofs.Agreeing
 pub use Rattle.lalrpop_build.proofs.AfterLaws
 pub use Rattle.lalrpop_dfa.proofs.Recognized
 pub use Rattle.lalrpop_dfa.proofs.WitnessLaws
+-- how many characters a text has
+pub mod StartLaws
 -- states from which no match comes, and what a run knows of those that are noted
 pub mod Hopes
 pub mod Kept
 pub mod Walks
--- the memory, and how far the matches have been found
+-- the memory, and how far the matches have been found, ahead or not
 pub mod Marks
 pub mod Standings
+pub mod Blocks
 -- laws for callers: the tokens of a text, the same rules under other numbers, and a rule more
 pub mod Decided
 pub mod UniqueTokens

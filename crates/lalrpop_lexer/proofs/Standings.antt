@@ -43,7 +43,7 @@ standing_here d text at index index2 m m2 same stays sound h = record {
   sound = sound;
 }
 
-boundary_behind : (text p : List ℕ) (at : ℕ) → IsUtf8 (drop at text) → IsPrefix p (drop at text) → IsCharBoundary text at → IsCharBoundary text (at + length p)
+pub boundary_behind : (text p : List ℕ) (at : ℕ) → IsUtf8 (drop at text) → IsPrefix p (drop at text) → IsCharBoundary text at → IsCharBoundary text (at + length p)
 boundary_behind text p at u b h =
     IsCharBoundary-from_rest text at (length p) h.0
     (IsCharBoundary-from_take (drop at text) (length p) u (omega (arith, ap length b.1.0, length-append p b.0))
@@ -52,12 +52,14 @@ boundary_behind text p at u b h =
 left_behind : (text p : List ℕ) (at : ℕ) → IsPrefix p (drop at text) → drop at text ≡ p ++ drop (at + length p) text
 left_behind text p at b = b.1.0 ∙ ap (λ (r : List ℕ). p ++ r) (sym (ap (drop (length p)) b.1.0 ∙ drop_at p b.0 (length p) refl) ∙ drop-drop (length p) at text)
 
+-- the characters of a match, and those that are left after it
+pub chars_behind : (text p : List ℕ) (at : ℕ) → IsPrefix p (drop at text) → length (chars (drop at text)) ≡ length (chars p) + length (chars (drop (at + length p) text))
+chars_behind text p at b =
+    ap (λ (t : List ℕ). length (chars t)) (left_behind text p at b) ∙ ap length (chars-append p (drop (at + length p) text) b.1.1) ∙ length-append (chars p) (chars (drop (at + length p) text))
+
 -- fewer characters are left after a match
 pub fewer_behind : (text p : List ℕ) (at : ℕ) → IsPrefix p (drop at text) → length (chars (drop (at + length p) text)) ≤ length (chars (drop at text))
-fewer_behind text p at b =
-    let count : length (chars (drop at text)) ≡ length (chars p) + length (chars (drop (at + length p) text)) =
-    ap (λ (t : List ℕ). length (chars t)) (left_behind text p at b) ∙ ap length (chars-append p (drop (at + length p) text) b.1.1) ∙ length-append (chars p) (chars (drop (at + length p) text)) in
-    omega arith
+fewer_behind text p at b = omega (arith, chars_behind text p at b)
 
 -- after a match of k characters
 pub standing_behind : (d : List Row) (text p : List ℕ) (at index index2 : ℕ) (m m2 : Memory) → IsUtf8 (drop at text) → IsPrefix p (drop at text) → m2 ≡ record m { marks = m2.marks }

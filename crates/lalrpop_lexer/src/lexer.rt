@@ -22,8 +22,9 @@ pub mod dfa;
 pub mod nfa;
 pub mod re;
 
-use crate::LinearMatches;
-use crate::lexer_tokens::LexerTokens;
+use crate::lexer_tokens::{Finder, LexerTokens};
+use crate::linear_matches::LinearMatches;
+use crate::matches::Matches;
 use crate::neighbours::Neighbours;
 use crate::token_list::TokenList;
 use lalrpop_book::{Token, TokenFault};
@@ -158,7 +159,8 @@ impl Lexer {
             → Yields GivesToken result xs s → (n : ℕ) → LooksAtMost (Matched self.now.trees) n
             → s.steps ≤ (n + 2) * length (chars text.now) }
     {
-        LexerTokens::new(&self.dense, text, None)
+        let matches = Matches::new(&self.dense, text);
+        LexerTokens::new(&self.dense, text, Finder::Plain(matches))
     }
 
     /// All tokens that `tokens` gives, in one list, with the fault at which they end, if there is one.
@@ -179,7 +181,7 @@ impl Lexer {
             self.now.trees self.now.precedences text.now 0
             (map Ok list.tokens.items ++ Err fault ∷ []))) }
     {
-        let mut ends = TokenEnds::new(alloc)?;
+        let mut ends = TokenEnds::new();
         let mut tokens = Vec::new(alloc);
         let mut at = 0;
         'cutting: while at < text.len() {
@@ -234,7 +236,22 @@ impl Lexer {
             return Ok(self.tokens(text));
         }
         let matches = self.matches_linear(alloc, text)?;
-        Ok(LexerTokens::new(&self.dense, text, Some(matches)))
+        Ok(LexerTokens::new(&self.dense, text, Finder::Remembering(matches)))
+    }
+
+    /// The longest matches of the text, one after another, for a caller that goes on where nothing matches. It starts with all
+    /// of the text left. It takes no memory, and reads from each place as far as `tokens` does.
+    pub fn matches<'text>(&'text self, text: &'text str) -> Matches<'text>
+        ensures start { result ≡ record {
+          automaton = self.now.automaton;
+          text = text.now;
+          at = 0;
+          spare = 0;
+        } }
+        ensures built { IsBuiltFrom self.now.trees self.now.precedences result.automaton }
+        ensures no_clash { NoClash self.now.trees self.now.precedences }
+    {
+        Matches::new(&self.dense, text)
     }
 
     /// The longest matches of the text, one after another, for a caller that goes on where nothing matches. It starts with all

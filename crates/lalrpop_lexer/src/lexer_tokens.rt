@@ -2,7 +2,8 @@
 
 ghost use Rattle.std.specs.Prelude.{◌≡◌};
 
-use crate::LinearMatches;
+use crate::linear_matches::LinearMatches;
+use crate::matches::Matches;
 use lalrpop_book::{Token, TokenFault};
 use lalrpop_dense::DenseDfa;
 use lalrpop_nfa::Steps;
@@ -12,7 +13,9 @@ use std::marker::Model;
 
 /// Cuts a text into tokens, like `Tokens`, and gives the offset where each begins.
 ///
-/// A step is counted for each character it reads, as often as it reads it. Only contracts see the steps.
+/// The text is read a block ahead. A step is counted for each character that is read, as often as it is: for those of a token that
+/// is found ahead when it is handed out. Without a memo, more steps are counted than are taken: they pay for what may be read in
+/// vain. Only contracts see the steps.
 ///
 /// ```
 /// use lalrpop_lexer::lexer::dfa::Precedence;
@@ -28,19 +31,28 @@ pub struct LexerTokens<'text> {
     // The rest of the text begins here.
     at: usize,
     is_over: bool,
-    // Where there is a memo: what finds the matches by it. It has found them up to the same place.
-    remembering: Option<LinearMatches<'text>>,
+    // What finds the matches. It has found them up to the same place.
+    finder: Finder<'text>,
+    // The steps taken. Those that are prepaid count as well.
     steps: Steps,
 }
 
+/// What finds the matches of a text, without a memo or with one.
+#[derive(Drop)]
+pub(crate) enum Finder<'text> {
+    Plain(Matches<'text>),
+    Remembering(LinearMatches<'text>),
+}
+
 impl<'text> Model for LexerTokens<'text> {
-    ghost use Rattle.std.specs.Prelude.{IfSome};
-    ghost use Rattle.std.specs.Option.{option_map};
+    ghost use Rattle.std.specs.Prelude.{◌+◌};
     ghost use Rattle.std.specs.Str.{IsCharBoundary};
     ghost use Rattle.lalrpop_lexer.specs.LexerTokens.{LexerCutting};
-    ghost use Rattle.lalrpop_lexer.specs.Internal.Standing.{AreFoundUpTo};
 
     ghost Value = { LexerCutting };
+
+    ghost use Rattle.lalrpop_lexer.specs.Internal.Finding.{matching_of, memo_of, prepaid_by};
+    ghost use Rattle.lalrpop_lexer.specs.Internal.Standing.{AreFoundUpTo};
 
     ghost view = { λ t.
         record {
@@ -50,37 +62,40 @@ impl<'text> Model for LexerTokens<'text> {
             at = t.at;
             is_over = t.is_over;
           };
-          spare = option_map (λ m. m.spare) t.remembering;
-          steps = t.steps;
+          spare = memo_of t.finder;
+          steps = t.steps + prepaid_by t.finder;
         } };
 
     ghost invariant = { λ t. IsCharBoundary t.text.now t.at
-        × IfSome t.remembering (AreFoundUpTo t.dense.now t.text.now t.at) };
+        × AreFoundUpTo t.dense.now t.text.now t.at (matching_of t.finder) };
 }
 
 impl<'text> LexerTokens<'text> {
     ghost use Rattle.std.specs.Prelude.{◌<◌, OnSome};
-    ghost use Rattle.std.specs.Option.{ForSome, option_map};
-    ghost use Rattle.lalrpop_lexer.specs.Cutting.{rest_of, left_of};
-    ghost use Rattle.lalrpop_lexer.specs.LexerTokens.{lexer_start, GivesToken};
+    ghost use Rattle.lalrpop_lexer.specs.Cutting.{start_of, rest_of, left_of};
+    ghost use Rattle.lalrpop_lexer.specs.LexerTokens.{LexerCutting, GivesToken};
+    ghost use Rattle.lalrpop_lexer.specs.Internal.Finding.{matching_of, memo_of, prepaid_by};
     ghost use Rattle.lalrpop_lexer.specs.Internal.Standing.{AreFoundUpTo};
 
-    // The whole text, before the first token. With a memo, if there is something that finds the matches by it.
+    // The whole text, before the first token.
     pub(crate) fn new(
         dense: &'text DenseDfa,
         text: &'text str,
-        remembering: Option<LinearMatches<'text>>,
+        finder: Finder<'text>,
     ) -> LexerTokens<'text>
-        requires same_text { ForSome remembering (AreFoundUpTo dense.now text.now 0) }
-        ensures start { result
-            ≡ lexer_start dense.now text.now (option_map (λ m. m.spare) remembering.entry) }
+        requires same_text { AreFoundUpTo dense.now text.now 0 (matching_of finder) }
+        ensures start { result ≡ record {
+          cutting = start_of dense.now text.now;
+          spare = memo_of finder.entry;
+          steps = prepaid_by finder.entry;
+        } }
     {
         LexerTokens {
             dense,
             text,
             at: 0,
             is_over: false,
-            remembering,
+            finder,
             steps: Steps::new(),
         }
     }
@@ -98,14 +113,14 @@ impl<'text> LexerTokens<'text> {
         ensures gives { GivesToken self.old result self.new }
         ensures goes { OnSome result (left_of self.new.cutting < left_of self.old.cutting) }
     {
-        if self.is_over || self.at == self.text.len() {
-            return None;
-        }
         let start = self.at;
         let rest = &self.text[start..];
-        let found = match &mut self.remembering {
-            Some(matches) => matches.next_match(&mut self.steps),
-            None => self.dense.longest_counted(rest, &mut self.steps),
+        if self.is_over || rest.is_empty() {
+            return None;
+        }
+        let found = match &mut self.finder {
+            Finder::Plain(matches) => matches.next_match(&mut self.steps),
+            Finder::Remembering(matches) => matches.next_match(&mut self.steps),
         };
         match found {
             Some(matched) => {

@@ -5,6 +5,8 @@
 //! The crates below are re-exported.
 #![tactic(auto)]
 
+mod ahead;
+mod counting;
 mod cut;
 mod dfa_tokens;
 mod error;
@@ -15,11 +17,13 @@ mod lexer_tokens;
 mod line;
 mod linear_matches;
 mod longest;
+mod matches;
 mod neighbours;
 mod patterns;
 mod position;
 mod quote;
 mod remembering;
+mod runs;
 mod terminal_line;
 mod terminals;
 mod token_list;
@@ -36,6 +40,7 @@ pub use lexer::Lexer;
 pub use lexer_tokens::LexerTokens;
 pub use linear_matches::LinearMatches;
 pub use longest::longest_match;
+pub use matches::Matches;
 pub use neighbours::Neighbours;
 pub use position::{Position, Positions};
 pub use quote::{ShownWord, is_unseen, push_escaped_char, push_quoted, quoted};

@@ -1,10 +1,12 @@
 //! Places in a text, as line and column.
 
-ghost use Rattle.std.specs.Prelude.{◌≡◌, ◌≤◌, ◌<◌, ◌↔◌, IfSome, IsSome};
+ghost use Rattle.std.specs.Prelude.{◌≡◌, ℕ, ◌≤◌, ◌<◌, ◌↔◌, true, length, slice_index, IfSome, IsSome};
 ghost use Rattle.std.specs.Str.{IsCharBoundary};
 ghost use Rattle.lalrpop_lexer.specs.Position.{position_of};
+ghost use Rattle.lalrpop_lexer.specs.Internal.ByteRuns.{IsInLine};
 ghost use Rattle.lalrpop_lexer.specs.Internal.Places.{next_place};
 
+use crate::runs::{LANES, line_run};
 use std::marker::Model;
 
 /// A place in a text: its line and its column, both from 1. A line feed ends its line.
@@ -64,6 +66,51 @@ impl Position {
     }
 }
 
+// The place of an offset, found character by character from the place of an earlier one.
+fn walk(text: &str, from: usize, position: Position, to: usize) -> Position
+    requires from { IsCharBoundary text.now from }
+    requires to { IsCharBoundary text.now to }
+    requires ascending { from ≤ to }
+    requires position { position ≡ position_of text.now from }
+    ensures { result ≡ position_of text.now to }
+{
+    let mut place = position;
+    for c in text[from..to].chars() {
+        place = place.next(c);
+    }
+    place
+}
+
+// Whether the bytes from one place to another are few, and are characters of ASCII other than line feeds. Most tokens of a line
+// are so near to each other.
+#[inline(always)]
+fn are_in_line(text: &str, from: usize, to: usize) -> bool
+    requires ascending { from ≤ to }
+    requires within { from ≤ length text.now }
+    ensures { result ≡ true → (k : ℕ) → from ≤ k → k < to → IsInLine (slice_index text.now k) }
+{
+    text.len() - from >= LANES && line_run(text.as_bytes(), from) >= to - from
+}
+
+// The place of an offset, found from the place of an earlier one.
+#[inline(always)]
+fn place_from(text: &str, from: usize, position: Position, to: usize) -> Position
+    requires from { IsCharBoundary text.now from }
+    requires to { IsCharBoundary text.now to }
+    requires ascending { from ≤ to }
+    requires position { position ≡ position_of text.now from }
+    ensures { result ≡ position_of text.now to }
+{
+    if !are_in_line(text, from, to) {
+        return walk(text, from, position, to);
+    }
+    let column = position.column + (to - from);
+    Position {
+        line: position.line,
+        column,
+    }
+}
+
 /// The places of ascending offsets in a text, found in one pass over it.
 ///
 /// ```
@@ -113,10 +160,7 @@ impl<'text> Positions<'text> {
         ensures position { result ≡ position_of self.old.text offset }
         ensures walked { self.new ≡ record self.old { offset = offset } }
     {
-        let mut position = self.position;
-        for c in self.text[self.offset..offset].chars() {
-            position = position.next(c);
-        }
+        let position = place_from(self.text, self.offset, self.position, offset);
         self.offset = offset;
         self.position = position;
         position

@@ -1,8 +1,9 @@
 //! A slice or a word in quotes.
-ghost use Rattle.std.specs.Prelude.{◌≡◌, ◌++◌, true, Some, encode_utf8, option_map, string_bytes, IfOk, OnOk};
+ghost use Rattle.std.specs.Prelude.{◌≡◌, ◌++◌, true, false, Some, encode_utf8, option_map, string_bytes, IfOk, OnOk};
 ghost use Rattle.std.specs.Fmt.{WritesOnOk};
 ghost use Rattle.lalrpop_lexer.specs.Quoted.{is_unseen, short_escape, told, quoted, value_told, quoted_word};
 
+use crate::runs::{LANES, plain_run};
 use std::alloc::{AllocError, Global};
 use std::fmt::{self, Display, Formatter, Write};
 use unicode::properties::is_default_ignorable_code_point;
@@ -66,12 +67,29 @@ fn push_told(alloc: Global, bytes: &mut Vec<u8>, c: char) -> Result<(), AllocErr
     bytes.extend_from_slice(text.as_bytes())
 }
 
-/// Appends the slice in double quotes. Quotes, backslashes and characters that aren't seen are escaped with a backslash.
-///
-/// # Errors
-///
-/// `AllocError` if a request for memory was refused.
-pub fn push_quoted(alloc: Global, bytes: &mut Vec<u8>, slice: &str) -> Result<(), AllocError>
+// Room for a short slice and two quotes.
+const SHORT: usize = LANES + 2;
+
+// Appends the slice in quotes, if it is short and all of its characters are written as they are. Returns whether it did.
+fn push_short(bytes: &mut Vec<u8>, slice: &str) -> Result<bool, AllocError>
+    ensures quoted { IfOk result (λ done. done ≡ true → bytes.new.items ≡ bytes.old.items ++ quoted slice.now) }
+    ensures same { IfOk result (λ done. done ≡ false → bytes.new.items ≡ bytes.old.items) }
+{
+    let len = slice.len();
+    if len > LANES {
+        return Ok(false);
+    }
+    let mut text = [b'"'; SHORT];
+    text[1..len + 1].copy_from_slice(slice.as_bytes());
+    if plain_run(&text, 1) < len {
+        return Ok(false);
+    }
+    bytes.extend_from_slice(&text[..len + 2])?;
+    Ok(true)
+}
+
+// Appends the slice in quotes, character by character.
+fn push_characters(alloc: Global, bytes: &mut Vec<u8>, slice: &str) -> Result<(), AllocError>
     ensures quoted { OnOk result (bytes.new.items ≡ bytes.old.items ++ quoted slice.now) }
 {
     bytes.push(b'"')?;
@@ -87,6 +105,20 @@ pub fn push_quoted(alloc: Global, bytes: &mut Vec<u8>, slice: &str) -> Result<()
     bytes.extend_from_slice(&slice.as_bytes()[from..])?;
     bytes.push(b'"')?;
     Ok(())
+}
+
+/// Appends the slice in double quotes. Quotes, backslashes and characters that aren't seen are escaped with a backslash.
+///
+/// # Errors
+///
+/// `AllocError` if a request for memory was refused.
+pub fn push_quoted(alloc: Global, bytes: &mut Vec<u8>, slice: &str) -> Result<(), AllocError>
+    ensures quoted { OnOk result (bytes.new.items ≡ bytes.old.items ++ quoted slice.now) }
+{
+    if push_short(bytes, slice)? {
+        return Ok(());
+    }
+    push_characters(alloc, bytes, slice)
 }
 
 /// The slice in double quotes, as `push_quoted` appends it.

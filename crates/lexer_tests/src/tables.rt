@@ -188,9 +188,9 @@ fn a_list_of_many_blocks(rt: HostRuntime) {
 
 // How many tokens are found at once.
 fn first_block(alloc: Global, dense: &DenseDfa, text: &str) -> Result<usize, AllocError> {
-    let mut marks = TokenEnds::new(alloc)?;
+    let mut ends = TokenEnds::new();
     let mut tokens = Vec::new(alloc);
-    let _end = dense.cut_block(text, 0, &mut marks, &mut tokens)?;
+    let _end = dense.cut_block(text, 0, &mut ends, &mut tokens)?;
     Ok(tokens.len())
 }
 

@@ -1,5 +1,6 @@
 use Rattle.std.proofs.Common.{◌≡◌, ◌∙◌, ap}
 use Rattle.std.specs.Prelude.{None}
+use Rattle.lalrpop_lexer.specs.Matching.{Matching}
 use Rattle.lalrpop_lexer.specs.Cutting.{start_of}
 use Rattle.lalrpop_book.specs.Winners.{Matched}
 use Rattle.lalrpop_dfa.specs.Lookahead.{Accepted, IsTrim}
@@ -11,7 +12,9 @@ use Rattle.lalrpop_lexer.proofs.LexerCosts.{lexer_tokens, lexer_parts, lexer_cou
 use Rattle.lalrpop_lexer.proofs.lexer.Lexer.tokens.Goals as goal
 
 begins : (c : goal.After-new) → c.new.result ≡ lexer_start c.args.self.now.automaton c.args.text.now None
-begins c = c.new.ensures.start ∙ ap (λ (r : Rules). lexer_start r.automaton c.args.text.now None) c.self.view_is
+begins c =
+    c.new.ensures.start ∙ ap (λ (m : Matching). record { cutting = start_of c.self.inside.dense c.args.text.now; spare = None; steps = m.spare }) c.new-matches.ensures.start
+    ∙ ap (λ (r : Rules). lexer_start r.automaton c.args.text.now None) c.self.view_is
 
 cuts : (c : goal.After-new) → c.new.result.cutting ≡ start_of c.args.self.now.automaton c.args.text.now
 cuts c = ap (λ (s : LexerCutting). s.cutting) (begins c)

@@ -1,14 +1,14 @@
-use Rattle.std.proofs.Common.{◌≡◌, ◌∙◌, drop, sym, ap, subst}
-use Rattle.std.specs.Str.{IsUtf8}
-use Rattle.lalrpop_book.specs.Prefix.{IsPrefix}
-use Rattle.lalrpop_lexer.specs.Matching.{rest_of}
-use Rattle.lalrpop_lexer.proofs.Standings.{reached_on}
+use Rattle.std.proofs.Common.{◌≡◌, ℕ, arith, subst}
+use Rattle.lalrpop_lexer.proofs.Blocks.{IsLinear, linear_held, remembering}
 use Rattle.lalrpop_lexer.proofs.linear_matches.LinearMatches.next_match.Goals as goal
 
-pub invariant_of-self-in-Some-longest : goal.invariant_of-self-in-Some-longest
-invariant_of-self-in-Some-longest c =
-    let rest : c.rest-rest.result.now ≡ drop c.self.inside.at c.self.inside.text.now = c.rest-rest.ensures.rest ∙ ap (λ s. rest_of s) (sym c.self.view_is) in
-    let p = c.in-Some-longest.slice.now in
-    let prefix = rw c.in-Some-longest.is at c.in-Some.ensures.prefix in
-    reached_on c.self.inside.dense.now c.self.inside.text.now p c.self.inside.at c.self.inside.counted c.self.inside.index c.self.inside.memo
-    (subst IsUtf8 rest c.rest-rest.utf8) (subst (IsPrefix p) rest prefix.0) c.self.invariant
+pub returns-in-Some-clause-answer : goal.returns-in-Some-clause-answer
+returns-in-Some-clause-answer c = rw (← c.self.view_is) c.in-Some.ensures.answer
+
+pub returns-in-None-clause-answer : goal.returns-in-None-clause-answer
+returns-in-None-clause-answer c =
+    let i = c.self.inside in
+    let same : c.next_found.new.steps ≡ c.args.steps.now = omega (arith, c.in-None.ensures.counted) in
+    let later : IsLinear (remembering c.next_found.new.self i.credit i.counted i.memo) c.next_sought.new.self c.next_sought.result c.args.steps.now c.next_sought.new.steps =
+    subst (λ (n : ℕ). IsLinear (remembering c.next_found.new.self i.credit i.counted i.memo) c.next_sought.new.self c.next_sought.result n c.next_sought.new.steps) same (c.next_sought.ensures.next, c.next_sought.ensures.paid) in
+    (linear_held c.args.self.now c.next_sought.new.self i.ahead c.next_found.new.self c.next_sought.result i.credit i.counted i.memo c.args.steps.now c.next_sought.new.steps c.self.view_is c.in-None.ensures.stays later).0.answer

@@ -2,7 +2,7 @@ use Rattle.std.proofs.Common.{◌≡◌, ◌≤◌, ◌++◌, take, drop}
 use Rattle.std.specs.Str.Iter.{char_indices_rest, char_indices_offset}
 use Rattle.lalrpop_nfa.proofs.Cuts.{IsCut}
 use Rattle.lalrpop_lexer.proofs.QuotedRuns.{up_to}
-use Rattle.lalrpop_lexer.proofs.quote.push_quoted.Given as goal
+use Rattle.lalrpop_lexer.proofs.quote.push_characters.Given as goal
 
 -- what was appended, and the characters since `from`, are the quoted form so far
 abbrev pub invariant-loop-at : goal.invariant-loop-at

@@ -6,7 +6,7 @@ use Rattle.std.proofs.lemmas.Str.{chars-nil}
 use Rattle.lalrpop_nfa.proofs.Cuts.{cut_start, cut_more, cut_within}
 use Rattle.lalrpop_lexer.specs.Quoted.{told}
 use Rattle.lalrpop_lexer.proofs.QuotedRuns.{run_more, run_ends, up_to}
-use Rattle.lalrpop_lexer.proofs.quote.push_quoted.Goals as goal
+use Rattle.lalrpop_lexer.proofs.quote.push_characters.Goals as goal
 
 pub loop-at-init : goal.loop-at-init
 loop-at-init c =

@@ -1,0 +1,58 @@
+use Rattle.std.proofs.Common.{◌≡◌, ℕ, arith, subst}
+use Rattle.std.specs.Prelude.{Some}
+use Rattle.lalrpop_lexer.specs.Matching.{Matching}
+use Rattle.lalrpop_lexer.proofs.Blocks.{IsHandedOut, IsMatch, handed_settled, plain_handed, plain_held, plain}
+use Rattle.lalrpop_lexer.proofs.matches.Matches.next_match.Goals as goal
+
+pub invariant_of-self : goal.invariant_of-self
+invariant_of-self c =
+    let i = c.self.inside in
+    let e = c.in-Some.ensures in
+    let out : IsHandedOut i.ahead c.next_found.new.self c.in-Some.found c.args.steps.now c.next_found.new.steps = record { answer = e.answer; prefix = e.prefix; goes_on = e.goes_on; counted = e.counted } in
+    handed_settled _ _ _ i.credit i.settled _ _ c.self.invariant out
+
+pub returns-in-Some-clause-answer : goal.returns-in-Some-clause-answer
+returns-in-Some-clause-answer c =
+    let i = c.self.inside in
+    let e = c.in-Some.ensures in
+    let out : IsHandedOut i.ahead c.next_found.new.self c.in-Some.found c.args.steps.now c.next_found.new.steps = record { answer = e.answer; prefix = e.prefix; goes_on = e.goes_on; counted = e.counted } in
+    let b : IsMatch c.args.self.now (plain c.next_found.new.self i.credit i.settled) (Some c.in-Some.found) c.args.steps.now c.next_found.new.steps =
+    subst (λ (s : Matching). IsMatch s (plain c.next_found.new.self i.credit i.settled) (Some c.in-Some.found) c.args.steps.now c.next_found.new.steps) c.self.view_is
+    (plain_handed i.ahead c.next_found.new.self c.in-Some.found i.credit i.settled c.args.steps.now c.next_found.new.steps c.self.invariant out) in
+    b.0.answer
+
+pub returns-in-Some-clause-never_falls : goal.returns-in-Some-clause-never_falls
+returns-in-Some-clause-never_falls c =
+    let i = c.self.inside in
+    let e = c.in-Some.ensures in
+    let out : IsHandedOut i.ahead c.next_found.new.self c.in-Some.found c.args.steps.now c.next_found.new.steps = record { answer = e.answer; prefix = e.prefix; goes_on = e.goes_on; counted = e.counted } in
+    let b : IsMatch c.args.self.now (plain c.next_found.new.self i.credit i.settled) (Some c.in-Some.found) c.args.steps.now c.next_found.new.steps =
+    subst (λ (s : Matching). IsMatch s (plain c.next_found.new.self i.credit i.settled) (Some c.in-Some.found) c.args.steps.now c.next_found.new.steps) c.self.view_is
+    (plain_handed i.ahead c.next_found.new.self c.in-Some.found i.credit i.settled c.args.steps.now c.next_found.new.steps c.self.invariant out) in
+    b.1.never_falls
+
+pub returns-in-Some-clause-paid : goal.returns-in-Some-clause-paid
+returns-in-Some-clause-paid c =
+    let i = c.self.inside in
+    let e = c.in-Some.ensures in
+    let out : IsHandedOut i.ahead c.next_found.new.self c.in-Some.found c.args.steps.now c.next_found.new.steps = record { answer = e.answer; prefix = e.prefix; goes_on = e.goes_on; counted = e.counted } in
+    let b : IsMatch c.args.self.now (plain c.next_found.new.self i.credit i.settled) (Some c.in-Some.found) c.args.steps.now c.next_found.new.steps =
+    subst (λ (s : Matching). IsMatch s (plain c.next_found.new.self i.credit i.settled) (Some c.in-Some.found) c.args.steps.now c.next_found.new.steps) c.self.view_is
+    (plain_handed i.ahead c.next_found.new.self c.in-Some.found i.credit i.settled c.args.steps.now c.next_found.new.steps c.self.invariant out) in
+    b.1.paid
+
+pub returns-in-None-clause-answer : goal.returns-in-None-clause-answer
+returns-in-None-clause-answer c =
+    let i = c.self.inside in
+    let same : c.next_found.new.steps ≡ c.args.steps.now = omega (arith, c.in-None.ensures.counted) in
+    let later : IsMatch (plain c.next_found.new.self i.credit i.settled) c.next_sought.new.self c.next_sought.result c.args.steps.now c.next_sought.new.steps =
+    subst (λ (n : ℕ). IsMatch (plain c.next_found.new.self i.credit i.settled) c.next_sought.new.self c.next_sought.result n c.next_sought.new.steps) same (c.next_sought.ensures.next, c.next_sought.ensures.paid) in
+    (plain_held c.args.self.now c.next_sought.new.self i.ahead c.next_found.new.self c.next_sought.result i.credit i.settled c.args.steps.now c.next_sought.new.steps c.self.view_is c.in-None.ensures.stays later).0.answer
+
+pub returns-in-None-clause-paid : goal.returns-in-None-clause-paid
+returns-in-None-clause-paid c =
+    let i = c.self.inside in
+    let same : c.next_found.new.steps ≡ c.args.steps.now = omega (arith, c.in-None.ensures.counted) in
+    let later : IsMatch (plain c.next_found.new.self i.credit i.settled) c.next_sought.new.self c.next_sought.result c.args.steps.now c.next_sought.new.steps =
+    subst (λ (n : ℕ). IsMatch (plain c.next_found.new.self i.credit i.settled) c.next_sought.new.self c.next_sought.result n c.next_sought.new.steps) same (c.next_sought.ensures.next, c.next_sought.ensures.paid) in
+    (plain_held c.args.self.now c.next_sought.new.self i.ahead c.next_found.new.self c.next_sought.result i.credit i.settled c.args.steps.now c.next_sought.new.steps c.self.view_is c.in-None.ensures.stays later).1.paid
