@@ -13,7 +13,7 @@ Item = namedtuple("Item", "kind name trait is_public text about functions ghosts
 # `text` is the head and the clauses, without comments.
 Function = namedtuple("Function", "name is_public text about")
 
-NO_CODE = re.compile(r"""//[^\n]*|/\*.*?\*/|(?<!\w)r(#*)".*?"\1|"(?:\\.|[^"\\])*"|(?<![\w'])'(?:\\.[^'\n]*|[^\\'\n])'""", re.S)
+NO_CODE = re.compile(r"""//[^\n]*|/\*.*?\*/|(?<!\w)r(#*)".*?"\1|"(?:\\.|[^"\\])*"|(?<![\w'])b?'(?:\\.[^'\n]*|[^\\'\n])'""", re.S)
 BEFORE = r"(?:#\[[^\n]*?\] *)*(pub(?:\([^)]*\))? )?(?:const |unsafe )*"
 ITEM = re.compile(rf"^{BEFORE}(?:(use) ([^;]*)|(fn|impl|trait|struct|enum|mod)\b([^{{;]*))", re.M)
 FUNCTION = re.compile(rf"^ *{BEFORE}fn (\w+)", re.M)
@@ -59,7 +59,7 @@ def items(file):
         while kind == "impl" and (shorter := re.sub(r"<[^<>]*>", "", head)) != head:
             head = shorter
         trait, _, name = head.rpartition(" for ") if kind == "impl" else ("", "", head)
-        name = name if kind == "use" else re.match(r"\s*(?:&(?:'\w+ )?(?:mut )?)?(?:\w+::)*(\w+)", name)[1]
+        name = name if kind == "use" else re.match(r"\s*(?:&(?:'\w+ )?(?:mut )?)?\[?(?:\w+::)*(\w+)", name)[1]
         last = closed(code, item.end() + 1) if code[item.end()] == "{" else item.end()
         functions = [Function(it[2], it[1] == "pub ", plain(text[it.start() : body(code, it.end())]), about(text, it.start())) for it in FUNCTION.finditer(code, item.start(), end)]
         ghosts = {it[1]: plain(text[it.start() : closed(code, it.end())]) for it in GHOST.finditer(code, item.start(), end)}

@@ -1,4 +1,5 @@
 mod Cases
+pub mod Appended
 pub mod TextLines
 pub mod ClashReports
 pub mod FirstTokens

@@ -1,11 +1,13 @@
 //! The lines of the tokens of a text, written as they come.
-ghost use Rattle.std.specs.Prelude.{◌≡◌, ◌≢◌, ◌≤◌, ◌++◌, ℕ, List, false, true, option_map, string_bytes, IfOk, OnOk, OnErr, IfErr};
+ghost use Rattle.std.specs.Prelude.{◌≡◌, ◌≢◌, ◌≤◌, ◌++◌, ℕ, List, false, true, option_map, IfOk, OnOk, OnErr, IfErr};
 ghost use Rattle.std.specs.Io.KnownBytes.{Appends};
 ghost use Rattle.std.specs.Str.{IsCharBoundary};
 ghost use Rattle.lexdfa_lib.specs.Watch.{AppendsPrefix};
 ghost use Rattle.lines_lib.specs.TokenLines.{place_text, token_line, last_line, WritesTokens, WritesTokensPrefix, IsStopOf};
 
-use lalrpop_lexer::{Lexer, Positions, Token, quoted};
+use crate::numbers::push_numbers;
+use itoa::Buffer;
+use lalrpop_lexer::{Lexer, Positions, Token, push_quoted};
 use lexdfa_lib::{Outcome, RunError, Watched, write_whole};
 use std::alloc::{AllocError, Global};
 use std::io::Write;
@@ -15,14 +17,14 @@ const CHUNK: usize = 65536;
 
 // The place of an offset, if the file is named: `FILE:LINE:COLUMN: `.
 fn push_place(
-    lines: &mut String,
+    lines: &mut Vec<u8>,
     file: Option<&str>,
     places: &mut Positions<'_>,
     offset: usize,
 ) -> Result<(), AllocError>
     requires boundary { IsCharBoundary places.old.text offset }
     requires ascending { places.old.offset ≤ offset }
-    ensures line { OnOk result (string_bytes lines.new ≡ string_bytes lines.old
+    ensures line { OnOk result (lines.new.items ≡ lines.old.items
         ++ place_text (option_map (λ f. f.now) file.entry) places.old.text offset) }
     ensures text { places.new.text ≡ places.old.text }
     ensures walked { places.new.offset ≤ offset }
@@ -31,84 +33,92 @@ fn push_place(
         return Ok(());
     };
     let position = places.at(offset);
-    let line = position.line;
-    let column = position.column;
-    write!(lines, "{file}:{line}:{column}: ")
+    lines.extend_from_slice(file.as_bytes())?;
+    lines.push(b':')?;
+    push_numbers(lines, position.line, b':', position.column, b':')?;
+    lines.push(b' ')?;
+    Ok(())
 }
 
 fn push_token(
     alloc: Global,
-    lines: &mut String,
+    lines: &mut Vec<u8>,
     file: Option<&str>,
     places: &mut Positions<'_>,
     token: &Token<'_>,
 ) -> Result<(), AllocError>
     requires boundary { IsCharBoundary places.old.text token.now.start }
     requires ascending { places.old.offset ≤ token.now.start }
-    ensures line { OnOk result (string_bytes lines.new ≡ string_bytes lines.old
+    ensures line { OnOk result (lines.new.items ≡ lines.old.items
         ++ token_line (option_map (λ f. f.now) file.entry) places.old.text token.now) }
     ensures text { places.new.text ≡ places.old.text }
     ensures walked { places.new.offset ≤ token.now.start }
 {
     push_place(lines, file, places, token.start)?;
     let terminal = token.index.index();
-    let bytes = token.slice.len();
-    let slice = quoted(alloc, token.slice)?;
-    write!(lines, "{terminal} {bytes} {slice}\n")
+    push_numbers(lines, terminal, b' ', token.slice.len(), b' ')?;
+    push_quoted(alloc, lines, token.slice)?;
+    lines.push(b'\n')?;
+    Ok(())
 }
 
 // Writes and clears the lines if they fill a chunk.
-fn pass_on<W: Write>(lines: &mut String, writer: &mut Watched<W>) -> Result<(), RunError>
+fn pass_on<W: Write>(lines: &mut Vec<u8>, writer: &mut Watched<W>) -> Result<(), RunError>
     requires writer_good { writer.old.failed ≡ false }
     ensures passed { OnOk result ((sent : List ℕ)
         × (Appends (W.contents writer.old.inner) (W.contents writer.new.inner) sent
-        × (string_bytes lines.old ≡ sent ++ string_bytes lines.new))) }
+        × (lines.old.items ≡ sent ++ lines.new.items))) }
     ensures good { OnOk result (writer.new.failed ≡ false) }
     ensures prefix { OnErr result (AppendsPrefix (W.contents writer.old.inner)
-        (W.contents writer.new.inner) (string_bytes lines.old)) }
+        (W.contents writer.new.inner) lines.old.items) }
     ensures failed { OnErr result (writer.new.failed ≡ true) }
     ensures write { IfErr result (λ e. e ≡ RunError.Write) }
     ensures no_late_write { writer.new.late ≡ writer.old.late }
 {
     if lines.len() >= CHUNK {
-        write_whole(writer, lines.as_bytes())?;
+        write_whole(writer, lines)?;
         lines.clear();
     }
     Ok(())
 }
 
-fn push_last(lines: &mut String, outcome: &Outcome) -> Result<(), AllocError>
-    ensures { OnOk result (string_bytes lines.new
-        ≡ string_bytes lines.old ++ last_line outcome.now) }
+fn push_last(lines: &mut Vec<u8>, outcome: &Outcome) -> Result<(), AllocError>
+    ensures { OnOk result (lines.new.items ≡ lines.old.items ++ last_line outcome.now) }
 {
     match outcome {
-        Outcome::Stopped { at, .. } => write!(lines, "none {at}\n"),
-        _ => lines.push_str("end\n"),
+        Outcome::Stopped { at, .. } => {
+            let mut digits = Buffer::new();
+            lines.extend_from_slice(b"none ")?;
+            lines.extend_from_slice(digits.format(*at).as_bytes())?;
+            lines.push(b'\n')?;
+            Ok(())
+        }
+        _ => lines.extend_from_slice(b"end\n"),
     }
 }
 
 // Writes the lines, and then the last line, for the outcome.
 fn write_last<W: Write>(
-    mut lines: String,
+    mut lines: Vec<u8>,
     outcome: Outcome,
     writer: &mut Watched<W>,
 ) -> Result<Outcome, RunError>
     requires writer_good { writer.old.failed ≡ false }
     ensures same { IfOk result (λ written. written ≡ outcome) }
     ensures written { OnOk result (Appends (W.contents writer.old.inner)
-        (W.contents writer.new.inner) (string_bytes lines ++ last_line outcome)) }
+        (W.contents writer.new.inner) (lines.items ++ last_line outcome)) }
     ensures good { OnOk result (writer.new.failed ≡ false) }
     ensures nothing_written { IfErr result (λ e. e ≢ RunError.Write → writer.new ≡ writer.old) }
     ensures write { IfErr result (λ e. e ≡ RunError.Write → writer.new.failed ≡ true) }
     ensures prefix { IfErr result (λ e. e ≡ RunError.Write → AppendsPrefix (W.contents writer.old.inner)
-        (W.contents writer.new.inner) (string_bytes lines ++ last_line outcome)) }
+        (W.contents writer.new.inner) (lines.items ++ last_line outcome)) }
     ensures read { IfErr result (λ e. e ≢ RunError.Read) }
     ensures no_late_write { writer.new.late ≡ writer.old.late }
 {
     if push_last(&mut lines, &outcome).is_err() {
         return Err(RunError::OutOfMemory);
     }
-    write_whole(writer, lines.as_bytes())?;
+    write_whole(writer, &lines)?;
     Ok(outcome)
 }
 
@@ -150,7 +160,7 @@ pub fn write_tokens<W: Write>(
         return Err(RunError::OutOfMemory);
     };
     let mut places = Positions::new(text);
-    let mut lines = String::new(alloc);
+    let mut lines = Vec::new(alloc);
     let mut count = 0;
     while let Some(item) = tokens.next() {
         match item {

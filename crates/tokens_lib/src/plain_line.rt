@@ -1,10 +1,10 @@
 //! The line of a piece in plain text.
-ghost use Rattle.std.specs.Prelude.{◌≡◌, ◌++◌, codes, decimal, option_map, unwrap_or, OnOk};
+ghost use Rattle.std.specs.Prelude.{◌≡◌, ◌++◌, codes, option_map, unwrap_or, OnOk};
 ghost use Rattle.tokens_lib.specs.ItemLines.{file_text, plain_line};
 
 use crate::shown::Shown;
-use itoa::Buffer;
 use lalrpop_lexer::{Position, push_quoted};
+use lines_lib::push_numbers;
 use std::alloc::{AllocError, Global};
 
 fn push_file(lines: &mut Vec<u8>, file: Option<&str>) -> Result<(), AllocError>
@@ -16,13 +16,6 @@ fn push_file(lines: &mut Vec<u8>, file: Option<&str>) -> Result<(), AllocError>
         lines.push(b':')?;
     }
     Ok(())
-}
-
-fn push_number(lines: &mut Vec<u8>, number: usize) -> Result<(), AllocError>
-    ensures { OnOk result (lines.new.items ≡ lines.old.items ++ decimal number) }
-{
-    let mut digits = Buffer::new();
-    lines.extend_from_slice(digits.format(number).as_bytes())
 }
 
 // What stands for the name: a fault has `!`.
@@ -52,10 +45,7 @@ pub(crate) fn push_plain(
         (option_map (λ n. n.now) shown.now.name) shown.now.slice.now) }
 {
     push_file(lines, file)?;
-    push_number(lines, position.line)?;
-    lines.push(b':')?;
-    push_number(lines, position.column)?;
-    lines.push(b' ')?;
+    push_numbers(lines, position.line, b':', position.column, b' ')?;
     lines.extend_from_slice(name_or_mark(shown.name).as_bytes())?;
     lines.push(b' ')?;
     push_quoted(alloc, lines, shown.slice)?;

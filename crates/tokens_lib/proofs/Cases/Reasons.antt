@@ -2,9 +2,6 @@
 use Rattle.std.proofs.Common.{◌≡◌, ◌≢◌, ℕ, inl, inr, List, [], ◌∷◌, ◌++◌, codes, decimal, get_or, length, length-append, refl, ap, arith}
 use Rattle.std.specs.Fmt.{digits}
 use Rattle.std.specs.Str.{chars}
-use Rattle.unicode.specs.Binary.{is_default_ignorable_code_point}
-use Rattle.unicode.specs.Rows.{in_ranges}
-use Rattle.ucd_derived.specs.DefaultIgnorableCodePointRanges.{default_ignorable_code_point_ranges}
 use Rattle.lalrpop_book.specs.declared.error.NfaConstructionError.TheVariants.{LookAround, NonGreedy}
 use Rattle.lalrpop_grammar.specs.declared.error.SyntaxKind.TheVariants.{UnclosedGroup, UnopenedGroup}
 use Rattle.lalrpop_lexer.specs.declared.position.Position.{Position}

@@ -1,4 +1,4 @@
-use Rattle.std.proofs.Common.{◌≡◌, ℕ, ◌≤◌, false, List, ◌++◌, string_bytes}
+use Rattle.std.proofs.Common.{◌≡◌, ℕ, ◌≤◌, false, List, ◌++◌}
 use Rattle.std.specs.Prelude.{Result, option_map}
 use Rattle.std.specs.Iterator.{Yields}
 use Rattle.std.specs.Io.KnownBytes.{Appends}
@@ -16,7 +16,7 @@ invariant-loop-item g l = record {
   yields : Yields GivesToken l.initial.tokens items l.tokens;
   written : (sent : List ℕ)
       × (Appends (g.W.Write.contents l.fn.writer.inner) (g.W.Write.contents l.writer.inner) sent
-      × AreLinesOf (option_map (λ f. f.now) l.file) l.text items (sent ++ string_bytes l.lines) l.count);
+      × AreLinesOf (option_map (λ f. f.now) l.file) l.text items (sent ++ l.lines.items) l.count);
   good : l.writer.failed ≡ false;
   no_late : l.writer.late ≡ l.fn.writer.late;
   text : l.places.text ≡ l.text;
