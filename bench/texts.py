@@ -5,6 +5,7 @@
 
 NAME is c, long, rust, json or unicode: terminals, and a text of 5 MB of their tokens, the same each time. Or one of
 
+    real.KIND      the terminals of c, rust or json, and of all else that real files have
     open.N         the terminals `a` and `a*b`, and N times `a`: each token is known only at the end of the text
     comment.N      the terminals of C, and N times `/*x`: a comment that is never closed
     clashes        the terminals of C, and ten that clash with them
@@ -68,6 +69,11 @@ JSON = (
     ["{", "}", "[", "]", ":", ",", "true", "false", "null"],
     [r'"([^"\\\x00-\x1f]|\\.)*"', r"-?(0|[1-9][0-9]*)(\.[0-9]+)?([eE][-+]?[0-9]+)?", r"[ \t\n\r]+"],
 )
+REST = {
+    "c": (["#", "##", "\\", "@", "$", "`", '"', "'"], []),
+    "rust": (["\\", "`", '"', "'"], []),
+    "json": (["\\", '"'], [r"[A-Za-z_.\-+*/=<>(){}@#$%&!?;',`~|^]"]),
+}
 UNICODE = KEYWORDS, [r"[\w--\d]\w*", r"\d+", r"[ \n]+"]
 LONG_COMMENTS = [
     "/* A node has a left and a right part, and the parts of a node are nodes again. */",
@@ -139,9 +145,18 @@ def five_letters(index):
     return "".join(chr(ord("a") + number // 26**place % 26) for place in range(5))
 
 
+def real(kind):
+    """The terminals of a language, and of all else: other blanks, control characters, and characters beyond ASCII."""
+    (words, patterns), (more, others) = TEXTS[kind][0], REST[kind]
+    patterns = [it for it in patterns if not it.startswith("[ ")]
+    return words + more, patterns + [r"[ \t-\r]+", *others, r"[^\x00-\x7f]+", r"[\x00-\x08\x0e-\x1f\x7f]"], ""
+
+
 def made(name):
     """The words, the patterns and the text of a name."""
     kind, *rest = name.split(".")
+    if kind == "real":
+        return real(rest[0])
     count = int(rest[0]) if rest else 0
     if kind in TEXTS:
         (words, patterns), token, state = TEXTS[kind]

@@ -233,7 +233,7 @@ fn by_list(alloc: Global, lexer: &Lexer, text: &str) -> Result<Found, AllocError
 
 fn by_blocks(alloc: Global, dense: &DenseDfa, text: &str) -> Result<Found, AllocError> {
     let mut found = Found::none();
-    let mut ends = TokenEnds::new(alloc)?;
+    let mut ends = TokenEnds::new();
     let mut tokens = Vec::new(alloc);
     let mut at = 0;
     for _ in 0..text.len() {
