@@ -159,7 +159,8 @@ pub fn add_first_block<'text>(
 /// The first token of a text, if it's found ahead: the longest match. Each token found costs a step at least, and 100 bytes
 /// at most are read in vain.
 pub fn first_ahead(dense: &DenseDfa, text: &str, steps: &mut Steps) -> Option<TokenEnd>
-    ensures longest { (ts : List Tree) (ps : List ℕ) → Recognizes dense.now ts ps → IfSome result (λ found.
+    ensures longest { (ts : List Tree) (ps : List ℕ) → Recognizes dense.now ts ps
+        → IfSome result (λ found.
         IsLongest ts ps text.now (Some (found.index, take found.end text.now))) }
     ensures within { IfSome result (λ found. (0 < found.end) × IsCharBoundary text.now found.end) }
     ensures read { IfSome result (λ found. steps.old < steps.new) }
