@@ -3,11 +3,11 @@
 
 use anyhow::{Context, Result, bail};
 use lalrpop_lexer::lexer::dfa::{
-    DenseDfa, Dfa, Matcher, NfaIndex, Precedence, TokenEnds, build_dfa, clashes,
+    DenseDfa, Dfa, Matcher, NfaIndex, Precedence, build_dfa, clashes,
 };
 use lalrpop_lexer::lexer::nfa::Steps;
 use lalrpop_lexer::lexer::re::Regex;
-use lalrpop_lexer::{Lexer, Terminals, read_terminals, tokens};
+use lalrpop_lexer::{Lexer, Terminals, TokenList, read_terminals, tokens};
 use lalrpop_rules::{Item, RuleLexer, read_rules};
 use std::alloc::{AllocError, Global};
 use std::time::{CpuClock, Duration};
@@ -60,7 +60,7 @@ impl Found {
 }
 
 trait Work {
-    fn round(&self, alloc: Global, call: &str, text: &str) -> Result<Found, AllocError>;
+    fn round(&mut self, alloc: Global, call: &str, text: &str) -> Result<Found, AllocError>;
 }
 
 // The file of terminals as it is.
@@ -68,7 +68,7 @@ trait Work {
 struct Bytes<'a>(&'a [u8]);
 
 impl Work for Bytes<'_> {
-    fn round(&self, alloc: Global, _call: &str, _text: &str) -> Result<Found, AllocError> {
+    fn round(&mut self, alloc: Global, _call: &str, _text: &str) -> Result<Found, AllocError> {
         match read_terminals(alloc, self.0)? {
             Terminals::All { regexs, .. } => Ok(Found::of(regexs.len())),
             _ => Ok(Found::none()),
@@ -111,7 +111,7 @@ fn clash_count(alloc: Global, list: &Listed) -> Option<usize> {
 }
 
 impl Work for Listed {
-    fn round(&self, alloc: Global, call: &str, _text: &str) -> Result<Found, AllocError> {
+    fn round(&mut self, alloc: Global, call: &str, _text: &str) -> Result<Found, AllocError> {
         if call == "clashes" {
             return Ok(Found::of(clash_count(alloc, self).unwrap_or(0)));
         }
@@ -127,6 +127,7 @@ struct Cutters {
     dfa: Dfa,
     dense: DenseDfa,
     lexer: Lexer,
+    list: TokenList,
 }
 
 fn cutters_of(alloc: Global, list: Listed) -> Option<Cutters> {
@@ -140,19 +141,24 @@ fn cutters_of(alloc: Global, list: Listed) -> Option<Cutters> {
     }
     let lexer = Lexer::new(alloc, regexs, precedences).ok()?;
     let dense = DenseDfa::new(alloc, dfa.clone().ok()?).ok()?;
-    Some(Cutters { dfa, dense, lexer })
+    Some(Cutters {
+        dfa,
+        dense,
+        lexer,
+        list: TokenList::new(alloc),
+    })
 }
 
 impl Work for Cutters {
-    fn round(&self, alloc: Global, call: &str, text: &str) -> Result<Found, AllocError> {
+    fn round(&mut self, alloc: Global, call: &str, text: &str) -> Result<Found, AllocError> {
         match call {
             "interpret" => Ok(by_longest(&self.dfa, text)),
             "longest" => Ok(by_longest(&self.dense, text)),
             "dfa_tokens" => Ok(by_automaton(&self.dfa, text)),
             "tokens" => Ok(by_tokens(&self.lexer, text)),
             "tokens_linear" => by_tokens_linear(alloc, &self.lexer, text),
-            "token_list" => by_list(alloc, &self.lexer, text),
-            "cut_block" => by_blocks(alloc, &self.dense, text),
+            "token_list" => by_list(&self.lexer, text, &mut TokenList::new(alloc)),
+            "token_list_into" => by_list(&self.lexer, text, &mut self.list),
             _ => made_again(alloc, &self.dfa),
         }
     }
@@ -219,38 +225,14 @@ fn by_tokens_linear(alloc: Global, lexer: &Lexer, text: &str) -> Result<Found, A
     Ok(found)
 }
 
-fn by_list(alloc: Global, lexer: &Lexer, text: &str) -> Result<Found, AllocError> {
+fn by_list(lexer: &Lexer, text: &str, list: &mut TokenList) -> Result<Found, AllocError> {
+    lexer.token_list_into(text, list)?;
     let mut found = Found::none();
-    let list = lexer.token_list(alloc, text)?;
-    for token in &list.tokens {
+    for token in list.tokens(text) {
         found.add(token.index, token.slice.len());
     }
     if list.fault.is_some() {
         found.add_fault();
-    }
-    Ok(found)
-}
-
-fn by_blocks(alloc: Global, dense: &DenseDfa, text: &str) -> Result<Found, AllocError> {
-    let mut found = Found::none();
-    let mut ends = TokenEnds::new();
-    let mut tokens = Vec::new(alloc);
-    let mut at = 0;
-    for _ in 0..text.len() {
-        if at >= text.len() || !text.is_char_boundary(at) {
-            break;
-        }
-        tokens.clear();
-        match dense.cut_block(text, at, &mut ends, &mut tokens)? {
-            Some(to) => at = to,
-            None => {
-                found.add_fault();
-                break;
-            }
-        }
-        for token in &tokens {
-            found.add(token.index, token.slice.len());
-        }
     }
     Ok(found)
 }
@@ -261,7 +243,7 @@ fn rule_lexer(alloc: Global, bytes: &[u8]) -> Option<RuleLexer> {
 }
 
 impl Work for RuleLexer {
-    fn round(&self, alloc: Global, call: &str, text: &str) -> Result<Found, AllocError> {
+    fn round(&mut self, alloc: Global, call: &str, text: &str) -> Result<Found, AllocError> {
         let mut found = Found::none();
         if call == "items" {
             for item in self.items(text) {
@@ -279,7 +261,7 @@ impl Work for RuleLexer {
 // The least time of the rounds, and what each of them found.
 fn tell<R: CpuClock + Print + AllocGlobal, W: Work>(
     rt: &R,
-    work: &W,
+    work: &mut W,
     call: &str,
     text: &str,
     rounds: u32,
@@ -320,16 +302,16 @@ fn main(rt: HostRuntime) -> Result<()> {
     let bytes = list.as_bytes();
     match call.as_str() {
         "items" | "items_linear" => match rule_lexer(alloc, bytes) {
-            Some(lexer) => tell(&rt, &lexer, &call, &text, rounds),
+            Some(mut lexer) => tell(&rt, &mut lexer, &call, &text, rounds),
             None => bail!("no lexer of these rules"),
         },
-        "read" => tell(&rt, &Bytes(bytes), &call, &text, rounds),
+        "read" => tell(&rt, &mut Bytes(bytes), &call, &text, rounds),
         "build" | "clashes" => match list_of(alloc, bytes) {
-            Some(list) => tell(&rt, &list, &call, &text, rounds),
+            Some(mut list) => tell(&rt, &mut list, &call, &text, rounds),
             None => bail!("a line is no terminal"),
         },
         _ => match list_of(alloc, bytes).and_then(|list| cutters_of(alloc, list)) {
-            Some(cutters) => tell(&rt, &cutters, &call, &text, rounds),
+            Some(mut cutters) => tell(&rt, &mut cutters, &call, &text, rounds),
             None => bail!("no lexer of these terminals"),
         },
     }

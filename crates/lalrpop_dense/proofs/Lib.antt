@@ -4,5 +4,4 @@ pub mod Rights
 pub mod Pages
 pub mod Walks
 pub mod Marking
-pub mod Leads
 pub mod Lanes

@@ -26,7 +26,7 @@ pub(crate) struct Alike {
 // A state with fewer test edges isn't compared with others.
 const FEW: usize = 16;
 
-// States of which one has more test edges that the other doesn't share aren't alike.
+// States aren't alike if one of them has more test edges than this that the other doesn't share.
 const MOST: usize = 64;
 
 // How many test edges at the ends of the lists are equal.
@@ -48,7 +48,7 @@ fn shared_at_end(left: &[(Test, DfaStateIndex)], right: &[(Test, DfaStateIndex)]
     shared
 }
 
-// The value behind the first so many edges.
+// The value behind this many edges.
 fn end_of(edges: &[(Test, DfaStateIndex)], count: usize) -> Option<u32>
     requires ascending { AreAscendingTests edges.now }
     requires within { count ≤ length edges.now }

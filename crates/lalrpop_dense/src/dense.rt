@@ -1,6 +1,6 @@
 //! An automaton with a table beside it.
 
-ghost use Rattle.std.specs.Prelude.{◌≡◌, ◌≢◌, ℕ, ◌+◌, ◌<◌, ◌≤◌, [], drop, length, List, None, IfErr, IfOk, IfNone, IfSome, MatchOption};
+ghost use Rattle.std.specs.Prelude.{◌≡◌, ◌≢◌, ℕ, ◌+◌, ◌≤◌, [], length, List, IfOk, IfSome, MatchOption};
 ghost use Rattle.std.specs.Option.{option_map};
 ghost use Rattle.std.specs.Str.{IsCharBoundary, chars};
 ghost use Rattle.lalrpop_book.specs.Tree.{Tree};
@@ -8,21 +8,19 @@ ghost use Rattle.lalrpop_book.specs.Prefix.{IsPrefix};
 ghost use Rattle.lalrpop_dfa.specs.Dfa.{Recognizes};
 ghost use Rattle.lalrpop_dfa.specs.Lookahead.{ReadsAtMost};
 ghost use Rattle.lalrpop_book.specs.Longest.{IsLongest};
-ghost use Rattle.lalrpop_dense.specs.Leading.{AddsTokens, AreAhead, last_end};
+ghost use Rattle.lalrpop_dense.specs.Leading.{AreAhead, last_end};
 ghost use Rattle.lalrpop_dense.specs.Internal.Fused.{IsFusedOf, IsTable};
 ghost use Rattle.lalrpop_dense.specs.Internal.Table.{HasClasses};
 
 use crate::alike::alikes_of;
-use crate::block::push_tokens;
 use crate::candidate::make_table;
 use crate::check::is_table_of;
 use crate::ends::TokenEnds;
 use crate::fused::{Fused, is_fused_of};
 use crate::fusing::make_fused;
-use crate::mark::{BLOCK, Engine};
+use crate::mark::Engine;
 use crate::run::{BoundedMatch, longest_by, longest_within_by};
 use crate::table::{Layout, StoredCells, Table, stored};
-use lalrpop_book::Token;
 use lalrpop_dfa::interpret::interpret_counted;
 use lalrpop_dfa::{Dfa, NfaIndex};
 use lalrpop_nfa::Steps;
@@ -188,75 +186,6 @@ impl DenseDfa {
         }
         ends.clear();
         0
-    }
-
-    /// Adds the tokens of the text from a place on, at most those of one block, and returns where the last one ends. Each is the
-    /// longest match where it begins, with the strongest pattern that matches it. `None` if no pattern matches at the place;
-    /// then no token is added.
-    ///
-    /// A block has about 2000 bytes. With a fused table, the tokens are found without a branch at a token's end.
-    ///
-    /// # Errors
-    ///
-    /// `AllocError` if a request for memory was refused. Tokens found before that are added.
-    pub fn cut_block<'text>(
-        &self,
-        text: &'text str,
-        at: usize,
-        ends: &mut TokenEnds,
-        tokens: &mut Vec<Token<'text>>,
-    ) -> Result<Option<usize>, AllocError>
-        requires boundary { IsCharBoundary text.now at }
-        ensures tokens { IfOk result (λ found. IfSome found (λ to.
-            AddsTokens self.now text.now at to tokens.old.items tokens.new.items)) }
-        ensures goes { IfOk result (λ found. IfSome found (λ to.
-            (at < to) × IsCharBoundary text.now to)) }
-        ensures same { IfOk result (λ found. IfNone found (tokens.new ≡ tokens.old)) }
-        ensures failed { IfErr result (λ _. (to : ℕ)
-            × AddsTokens self.now text.now at to tokens.old.items tokens.new.items) }
-        ensures none { IfOk result (λ found. IfNone found ((ts : List Tree) (ps : List ℕ)
-            → Recognizes self.now ts ps → IsLongest ts ps (drop at text.now) None)) }
-    {
-        let _vain = self.find_ends(text, at, BLOCK, ends, &mut Steps::new());
-        if !ends.has_next() {
-            return self.cut_one(text, at, tokens);
-        }
-        let to = push_tokens(&self.dfa, text, at, ends, tokens)?;
-        Ok(Some(to))
-    }
-
-    // Adds the longest match at the place, and returns where it ends.
-    fn cut_one<'text>(
-        &self,
-        text: &'text str,
-        at: usize,
-        tokens: &mut Vec<Token<'text>>,
-    ) -> Result<Option<usize>, AllocError>
-        requires boundary { IsCharBoundary text.now at }
-        ensures tokens { IfOk result (λ found. IfSome found (λ to.
-            AddsTokens self.now text.now at to tokens.old.items tokens.new.items)) }
-        ensures goes { IfOk result (λ found. IfSome found (λ to.
-            (at < to) × IsCharBoundary text.now to)) }
-        ensures same { IfOk result (λ found. IfNone found (tokens.new ≡ tokens.old)) }
-        ensures failed { IfErr result (λ _. (to : ℕ)
-            × AddsTokens self.now text.now at to tokens.old.items tokens.new.items) }
-        ensures none { IfOk result (λ found. IfNone found ((ts : List Tree) (ps : List ℕ)
-            → Recognizes self.now ts ps → IsLongest ts ps (drop at text.now) None)) }
-    {
-        match self.longest(&text[at..]) {
-            Some(found) => {
-                let token = Token {
-                    index: found.0,
-                    slice: found.1,
-                    start: at,
-                };
-                match tokens.push(token) {
-                    Ok(()) => Ok(Some(at + found.1.len())),
-                    Err(_) => Err(AllocError),
-                }
-            }
-            None => Ok(None),
-        }
     }
 }
 

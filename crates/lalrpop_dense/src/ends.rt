@@ -17,6 +17,14 @@ use std::marker::Model;
 const ROOM: usize = 256;
 
 /// Where a token ends, and the strongest pattern that matches it.
+///
+/// ```
+/// use lalrpop_lexer::lexer::dfa::TokenEnd;
+///
+/// if let Some(TokenEnd { index, end }) = list.ends.get(0) {
+///     println!(rt; "pattern {} up to byte {end}", index.index())?;
+/// }
+/// ```
 #[derive(Clone, Copy, Debug)]
 pub struct TokenEnd {
     /// The index of the pattern.
@@ -110,13 +118,6 @@ impl TokenEnds {
     {
         self.next = 0;
         self.count = 0;
-    }
-
-    /// Whether one is ahead.
-    pub(crate) fn has_next(&self) -> bool
-        ensures { IsTrue result ↔ (0 < length self.now) }
-    {
-        self.next < self.count
     }
 
     /// Finds ends as `DenseDfa::find_ends` does.

@@ -5,7 +5,6 @@
 #![tactic(auto)]
 
 mod alike;
-mod block;
 mod candidate;
 mod check;
 mod dense;

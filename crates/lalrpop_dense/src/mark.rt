@@ -14,8 +14,8 @@ use lalrpop_dfa::Dfa;
 use lalrpop_nfa::Steps;
 use std::simd::prelude::*;
 
-/// How many bytes are marked at once at most, and on to the end of the last character.
-pub(crate) const BLOCK: usize = 2048;
+// How many bytes are marked at once at most, and on to the end of the last character.
+const BLOCK: usize = 2048;
 
 // How many bytes of ASCII are read at once, without a test of each.
 const EIGHT: usize = 8;

@@ -1,6 +1,8 @@
 -- Small cases of the definitions in specs/: Cases/X.antt has those of specs/X.antt.
 mod Cutting
 mod LexerTokens
+mod TokenList
+mod LeadingTokens
 mod Position
 mod Quoted
 mod Rules

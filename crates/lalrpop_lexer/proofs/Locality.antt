@@ -8,14 +8,16 @@ use Rattle.std.proofs.Math.ListN.{drop_of_length-le}
 use lib.Seq.{drop-append-add}
 use Rattle.std.proofs.lemmas.Str.{chars-nil, chars-append, encodes-chars, encodes-append, length-le-encodes, IsCharBoundary-from_take, IsUtf8-append, IsUtf8-drop}
 use Rattle.lalrpop_book.specs.Tree.{Tree}
+use Rattle.lalrpop_book.specs.Clash.{NoClash}
 use Rattle.lalrpop_book.specs.Prefix.{IsPrefix}
 use Rattle.lalrpop_book.specs.Winners.{Matched}
 use Rattle.lalrpop_book.specs.Longest.{IsLongest}
 use Rattle.lalrpop_book.specs.Tokens.{AreTokens}
 use Rattle.lalrpop_book.specs.declared.token.Token.{Token}
 use Rattle.lalrpop_book.specs.declared.token.TokenFault.{TokenFault}
+use Rattle.lalrpop_book.proofs.Strongest.{IsOnlyStrongest-from_greatest}
 use Rattle.lalrpop_dfa.specs.Lookahead.{LeavesOpen, LooksAtMost}
-use Rattle.lalrpop_dense.specs.Leading.{LeadTo}
+use Rattle.lalrpop_lexer.specs.LeadingTokens.{LeadTo}
 use Rattle.lalrpop_lexer.specs.SameTokens.{moved}
 use Rattle.lalrpop_lexer.proofs.TextPrefixes.{more_of, prefix_of_characters}
 
@@ -181,6 +183,15 @@ tokens_lead ts ps text at [] ys are = (at, (refl, are))
 tokens_lead ts ps text at (x ∷ xs) ys are =
     let later = tokens_lead ts ps text (at + length x.slice.now) xs ys are.1 in
     (later.0, (((are.0.0, are.0.1), later.1.0), later.1.1))
+
+-- tokens that lead to where the others begin, and the others
+pub tokens_led : (ts : List Tree) (ps text : List ℕ) (at to : ℕ) (xs : List Token) (ys : List (Result Token TokenFault)) → NoClash ts ps → LeadTo ts ps text at to xs
+    → AreTokens ts ps text to ys → AreTokens ts ps text at (map Ok xs ++ ys)
+tokens_led ts ps text at to [] ys none h k = subst (λ (n : ℕ). AreTokens ts ps text n ys) (sym h) k
+tokens_led ts ps text at to (x ∷ xs) ys none h k = (
+  (h.0.0, h.0.1, IsOnlyStrongest-from_greatest ts ps (chars x.slice.now) x.index none h.0.1.2),
+  tokens_led ts ps text (at + length x.slice.now) to xs ys none h.1 k,
+)
 
 -- what is cut from a place on is cut from there whatever comes before
 pub tokens_moved : (ts : List Tree) (ps front text : List ℕ) (at : ℕ) (xs : List (Result Token TokenFault)) → AreTokens ts ps text at xs

@@ -1,6 +1,8 @@
 pub mod Matching
 pub mod Cutting
 pub mod LexerTokens
+pub mod TokenList
+pub mod LeadingTokens
 pub mod Position
 pub mod Quoted
 pub mod Rules

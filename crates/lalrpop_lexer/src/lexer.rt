@@ -15,6 +15,7 @@ ghost use Rattle.lalrpop_book.specs.Tokens.{slices};
 ghost use Rattle.lalrpop_lexer.specs.LexerTokens.{LexerCutting, lexer_start, GivesToken, most_steps};
 ghost use Rattle.lalrpop_book.specs.Tokens.{IsToken, AreTokens, bare};
 ghost use Rattle.lalrpop_lexer.specs.Rules.{IsBuiltFrom};
+ghost use Rattle.lalrpop_lexer.specs.TokenList.{AreCuts, AreTokenEnds};
 ghost use Rattle.lalrpop_book.specs.declared.token.Token.{Token as TokenValue};
 ghost use Rattle.lalrpop_book.specs.declared.token.TokenFault.{TokenFault as FaultValue};
 
@@ -26,10 +27,10 @@ use crate::lexer_tokens::{Finder, LexerTokens};
 use crate::linear_matches::LinearMatches;
 use crate::matches::Matches;
 use crate::neighbours::Neighbours;
-use crate::token_list::TokenList;
-use lalrpop_book::{Token, TokenFault};
+use crate::token_list::{TokenList, fill};
+use lalrpop_book::Token;
 use lalrpop_build::{DfaConstructionError, Precedence, build_dfa};
-use lalrpop_dense::{DenseDfa, TokenEnds};
+use lalrpop_dense::DenseDfa;
 use lalrpop_dfa::lookahead::{lookahead, unbounded_patterns};
 use lalrpop_dfa::{Witness, lookahead_witness};
 use lalrpop_re::Regex;
@@ -163,40 +164,36 @@ impl Lexer {
         LexerTokens::new(&self.dense, text, Finder::Plain(matches))
     }
 
-    /// All tokens that `tokens` gives, in one list, with the fault at which they end, if there is one.
+    /// All tokens that `tokens` gives, in one list of 8 bytes a token, with the fault at which they end, if there is one.
     ///
-    /// The text is cut block by block. The list takes 32 bytes a token, and on short tokens most of the time goes into its memory.
+    /// The text is cut block by block.
     ///
     /// # Errors
     ///
     /// `AllocError` if a request for memory was refused.
-    pub fn token_list<'text>(
-        &self,
-        alloc: Global,
-        text: &'text str,
-    ) -> Result<TokenList<'text>, AllocError>
-        ensures all { IfOk result (λ list. IfNone list.fault (AreTokens self.now.trees
-            self.now.precedences text.now 0 (map Ok list.tokens.items))) }
-        ensures fault { IfOk result (λ list. IfSome list.fault (λ fault. AreTokens
-            self.now.trees self.now.precedences text.now 0
-            (map Ok list.tokens.items ++ Err fault ∷ []))) }
+    pub fn token_list(&self, alloc: Global, text: &str) -> Result<TokenList, AllocError>
+        ensures tokens { IfOk result (λ list. AreTokenEnds self.now.trees self.now.precedences
+            text.now 0 list.ends list.fault) }
+        ensures cuts { IfOk result (λ list. AreCuts text.now 0 list.ends) }
     {
-        let mut ends = TokenEnds::new();
-        let mut tokens = Vec::new(alloc);
-        let mut at = 0;
-        'cutting: while at < text.len() {
-            match self.dense.cut_block(text, at, &mut ends, &mut tokens)? {
-                Some(to) => at = to,
-                None => {
-                    let fault = Some(TokenFault { at });
-                    return Ok(TokenList { tokens, fault });
-                }
-            }
-        }
-        Ok(TokenList {
-            tokens,
-            fault: None,
-        })
+        let mut list = TokenList::new(alloc);
+        self.token_list_into(text, &mut list)?;
+        Ok(list)
+    }
+
+    /// The same, into a list that is lent. Its former tokens are forgotten, and its memory is used again, so that a list filled
+    /// again and again takes none in the end.
+    ///
+    /// # Errors
+    ///
+    /// `AllocError` if a request for memory was refused. Then the list is empty.
+    pub fn token_list_into(&self, text: &str, list: &mut TokenList) -> Result<(), AllocError>
+        ensures tokens { OnOk result (AreTokenEnds self.now.trees self.now.precedences
+            text.now 0 list.new.ends list.new.fault) }
+        ensures cuts { OnOk result (AreCuts text.now 0 list.new.ends) }
+        ensures refused { OnErr result ((list.new.ends ≡ []) × (list.new.fault ≡ None)) }
+    {
+        fill(&self.dense, text, list)
     }
 
     /// The tokens of `tokens`, in time linear in the length of the text, whatever the patterns are.

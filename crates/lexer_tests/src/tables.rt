@@ -1,7 +1,8 @@
 //! Automata that are run by their tables.
 
 use crate::built::{built, built_with, expect, halves, has_table, trees_of};
-use lalrpop_lexer::lexer::dfa::{DenseDfa, Dfa, Precedence, TokenEnds};
+use lalrpop_lexer::lexer::dfa::{DenseDfa, Dfa, Precedence, TokenEnd, TokenEnds};
+use lalrpop_lexer::lexer::nfa::Steps;
 use lalrpop_lexer::{Lexer, TokenList};
 use std::alloc::{AllocError, Global};
 use std::process::Abort;
@@ -102,11 +103,16 @@ fn nothing_by_a_table(rt: HostRuntime) {
 // The tokens, and what is left after them.
 fn told(alloc: Global, list: &TokenList, text: &str) -> Result<String, AllocError> {
     let mut found = String::new(alloc);
-    for token in &list.tokens {
-        let index = token.index.index();
-        let slice = token.slice;
+    let mut start = 0;
+    for number in 0..list.ends.len() {
+        let Some(TokenEnd { index, end }) = list.ends.get(number) else {
+            break;
+        };
+        let index = index.index();
+        let slice = text.get(start..end).unwrap_or("?");
         let line = format!(in alloc; "{index} {slice}, ")?;
         found.push_str(&line)?;
+        start = end;
     }
     if let Some(fault) = &list.fault {
         found.push_str(text.get(fault.at..).unwrap_or(""))?;
@@ -114,8 +120,10 @@ fn told(alloc: Global, list: &TokenList, text: &str) -> Result<String, AllocErro
     Ok(found)
 }
 
+// The list has held the tokens of another text.
 fn list_by(alloc: Global, lexer: &Lexer, text: &str) -> Result<String, AllocError> {
-    let list = lexer.token_list(alloc, text)?;
+    let mut list = lexer.token_list(alloc, "class")?;
+    lexer.token_list_into(text, &mut list)?;
     told(alloc, &list, text)
 }
 
@@ -166,18 +174,14 @@ fn long_text(alloc: Global) -> Result<String, AllocError> {
 }
 
 // How many tokens there are, where the last one begins and how long it is, and where no pattern matches.
-fn shape_of(alloc: Global, list: &TokenList) -> Result<String, AllocError> {
-    let count = list.tokens.len();
-    let last = list.tokens.last();
-    let (start, length) = last.map_or((0, 0), |token| (token.start, token.slice.len()));
-    let at = list.fault.map_or(0, |fault| fault.at);
-    format!(in alloc; "{count} {start} {length} {at}")
-}
-
 fn long_list(alloc: Global, lexer: &Lexer) -> Result<String, AllocError> {
     let text = long_text(alloc)?;
     let list = lexer.token_list(alloc, &text)?;
-    shape_of(alloc, &list)
+    let count = list.ends.len();
+    let last = list.tokens(&text).last();
+    let (start, length) = last.map_or((0, 0), |token| (token.start, token.slice.len()));
+    let at = list.fault.map_or(0, |fault| fault.at);
+    format!(in alloc; "{count} {start} {length} {at}")
 }
 
 #[test]
@@ -187,19 +191,24 @@ fn a_list_of_many_blocks(rt: HostRuntime) {
 }
 
 // How many tokens are found at once.
-fn first_block(alloc: Global, dense: &DenseDfa, text: &str) -> Result<usize, AllocError> {
+fn first_block(dense: &DenseDfa, text: &str) -> usize {
     let mut ends = TokenEnds::new();
-    let mut tokens = Vec::new(alloc);
-    let _end = dense.cut_block(text, 0, &mut ends, &mut tokens)?;
-    Ok(tokens.len())
+    let _vain = dense.find_ends(text, 0, text.len(), &mut ends, &mut Steps::new());
+    let mut count = 0;
+    for _ in 0..text.len() {
+        if ends.next().is_none() {
+            break;
+        }
+        count += 1;
+    }
+    count
 }
 
-// There is a fused table: without one only the first token would be found. Whether a longer match comes is open at the end.
+// There is a fused table: without one no token would be found ahead. Whether a longer match comes is open at the end.
 #[test]
 fn a_block_at_once(rt: HostRuntime) {
     let precedences = [Precedence(1), WEAK, WEAK, WEAK, WEAK, WEAK];
     let dfa = built_with(rt.alloc(), WORDS, &precedences).expect(&rt, "an automaton");
     let dense = with_table(&rt, rt.alloc(), dfa);
-    let found = first_block(rt.alloc(), &dense, "class >>classes").expect(&rt, "memory");
-    assert!(rt; found == 3);
+    assert!(rt; first_block(&dense, "class >>classes") == 3);
 }

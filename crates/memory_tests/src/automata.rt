@@ -387,8 +387,8 @@ fn lexer_for(alloc: Global, rows: &str) -> Result<Lexer, AllocError> {
 
 fn told_list(alloc: Global, list: &TokenList) -> Result<String, AllocError> {
     let mut line = String::new(alloc);
-    for token in &list.tokens {
-        let index = token.index.index();
+    for number in 0..list.ends.len() {
+        let index = list.ends.get(number).map_or(0, |end| end.index.index());
         let part = format!(in alloc; "{index}")?;
         add(&mut line, " ", part.as_str())?;
     }
@@ -500,7 +500,8 @@ fn rejoined_by(alloc: Global, lexer: &Lexer, text: &str) -> Result<String, Alloc
         slice: "_",
         start: 0,
     };
-    match neighbours.joined(alloc, &list.tokens, &separator) {
+    let tokens = list.tokens(text).collect::<Vec<Token>>(alloc)?;
+    match neighbours.joined(alloc, &tokens, &separator) {
         Ok(text) => Ok(text),
         Err(JoinError::OutOfMemory) => Err(AllocError),
         Err(error) => format!(in alloc; "{error}"),

@@ -1,6 +1,6 @@
 //! An automaton with a table beside it, run over a text.
 
-ghost use Rattle.std.specs.Prelude.{◌≡◌, ◌≢◌, ℕ, ◌+◌, ◌<◌, ◌≤◌, ◌++◌, [], length, take, List, Some, None, true, IfErr, IfOk, IfNone, IfSome, MatchOption};
+ghost use Rattle.std.specs.Prelude.{◌≡◌, ◌≢◌, ℕ, ◌+◌, ◌<◌, ◌≤◌, [], length, take, List, Some, None, true, IfOk, IfNone, IfSome, MatchOption};
 ghost use Rattle.std.specs.Option.{option_map};
 ghost use Rattle.std.specs.Str.{IsCharBoundary, chars};
 ghost use Rattle.lalrpop_book.specs.Tree.{Tree};
@@ -8,10 +8,8 @@ ghost use Rattle.lalrpop_book.specs.Prefix.{IsPrefix};
 ghost use Rattle.lalrpop_dfa.specs.Dfa.{Recognizes};
 ghost use Rattle.lalrpop_dfa.specs.Lookahead.{ReadsAtMost};
 ghost use Rattle.lalrpop_book.specs.Longest.{IsLongest};
-ghost use Rattle.lalrpop_book.specs.declared.token.Token.{Token as TokenValue};
-ghost use Rattle.lalrpop_dense.specs.Leading.{LeadTo};
 
-use lalrpop_book::{NfaIndex, Token};
+use lalrpop_book::NfaIndex;
 use lalrpop_dense::{DenseDfa, Matcher, TokenEnd, TokenEnds};
 use lalrpop_dfa::Dfa;
 use lalrpop_dfa::interpret::interpret;
@@ -110,48 +108,6 @@ pub fn read_past<'text>(
         Some(settled) => Some((settled.longest, settled.past)),
         None => None,
     }
-}
-
-// Needs lalrpop_dense::DenseDfa::cut_block: tokens, goes, same, none.
-/// The tokens of the first block of a text, and where they end, or `None` for the place if no pattern matches there.
-///
-/// # Errors
-///
-/// `AllocError` if a request for memory was refused.
-pub fn first_block<'text>(
-    alloc: Global,
-    dense: &DenseDfa,
-    text: &'text str,
-) -> Result<(Vec<Token<'text>>, Option<usize>), AllocError>
-    ensures some { IfOk result (λ found. IfSome found.1 (λ to. (0 < to) × (to ≤ length text.now)
-        × ((ts : List Tree) (ps : List ℕ) → Recognizes dense.now ts ps
-        → LeadTo ts ps text.now 0 to found.0.items))) }
-    ensures none { IfOk result (λ found. IfNone found.1 ((found.0.items ≡ [])
-        × ((ts : List Tree) (ps : List ℕ) → Recognizes dense.now ts ps
-        → IsLongest ts ps text.now None))) }
-{
-    let mut ends = TokenEnds::new();
-    let mut tokens = Vec::new(alloc);
-    let to = dense.cut_block(text, 0, &mut ends, &mut tokens)?;
-    Ok((tokens, to))
-}
-
-// Needs lalrpop_dense::DenseDfa::cut_block: failed.
-/// Adds the tokens of the text's first block to the list, which loses none of its tokens even if memory runs out.
-///
-/// # Errors
-///
-/// `AllocError` if a request for memory was refused.
-pub fn add_first_block<'text>(
-    dense: &DenseDfa,
-    text: &'text str,
-    ends: &mut TokenEnds,
-    tokens: &mut Vec<Token<'text>>,
-) -> Result<Option<usize>, AllocError>
-    ensures kept { IfErr result (λ _. (xs : List TokenValue)
-        × (tokens.new.items ≡ tokens.old.items ++ xs)) }
-{
-    dense.cut_block(text, 0, ends, tokens)
 }
 
 // Needs lalrpop_dense::DenseDfa::find_ends: ahead, limit, never_falls, cost, read; lalrpop_dense::TokenEnds::new: none;

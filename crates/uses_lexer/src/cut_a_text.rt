@@ -1,11 +1,13 @@
 //! A lexer cuts a text into tokens.
-ghost use Rattle.std.specs.Prelude.{◌≡◌, ℕ, ◌++◌, ◌∷◌, [], List, Some, None, Ok, Err, map, length, IfOk, IfErr, IfSome, IfNone, false};
+ghost use Rattle.std.specs.Prelude.{◌≡◌, ℕ, ◌-◌, ◌++◌, ◌∷◌, [], List, Option, Some, None, Ok, Err, map, length, slice_get, IfOk, IfErr, IfSome, IfNone, false};
 ghost use Rattle.lalrpop_lexer.specs.Tokens.{IsToken, AreTokens};
 ghost use Rattle.lalrpop_lexer.specs.Longest.{IsLongest};
+ghost use Rattle.lalrpop_lexer.specs.TokenList.{AreTokenEnds, IsTokenEnd, fault_items};
 ghost use Rattle.lalrpop_lexer.specs.declared.Token.{Token as TokenValue};
 ghost use Rattle.lalrpop_lexer.specs.declared.TokenFault.{TokenFault as FaultValue};
 
-use lalrpop_lexer::{Lexer, TokenFault};
+use lalrpop_lexer::lexer::dfa::TokenEnd;
+use lalrpop_lexer::{EndList, Lexer, TokenFault, TokenList};
 use std::alloc::{AllocError, Global};
 
 // Needs lalrpop_lexer::Lexer::token: token, none.
@@ -48,25 +50,77 @@ pub fn token_count(lexer: &Lexer, text: &str) -> Result<usize, TokenFault>
     Ok(count)
 }
 
-// Needs lalrpop_lexer::Lexer::token_list: all, fault.
+// Needs lalrpop_lexer::Lexer::token_list: tokens.
+// Needs lalrpop_lexer::EndList::len: count.
 /// How many tokens the whole text is, counted in their list; `None` if at some place no pattern matches.
 ///
 /// # Errors
 ///
 /// `AllocError` if a request for memory was refused.
 pub fn listed_count(lexer: &Lexer, alloc: Global, text: &str) -> Result<Option<usize>, AllocError>
-    ensures all { IfOk result (λ found. IfSome found (λ n. (tokens : List TokenValue)
-        × (AreTokens lexer.now.trees lexer.now.precedences text.now 0 (map Ok tokens)
-        × (n ≡ length tokens)))) }
-    ensures fault { IfOk result (λ found. IfNone found ((tokens : List TokenValue)
-        × (fault : FaultValue) × AreTokens lexer.now.trees lexer.now.precedences text.now 0
-        (map Ok tokens ++ Err fault ∷ []))) }
+    ensures all { IfOk result (λ found. IfSome found (λ n. (ends : List (ℕ × ℕ))
+        × (AreTokenEnds lexer.now.trees lexer.now.precedences text.now 0 ends None
+        × (n ≡ length ends)))) }
+    ensures fault { IfOk result (λ found. IfNone found ((ends : List (ℕ × ℕ))
+        × (fault : FaultValue) × AreTokenEnds lexer.now.trees lexer.now.precedences text.now 0
+        ends (Some fault))) }
 {
     let list = lexer.token_list(alloc, text)?;
     match list.fault {
-        None => Ok(Some(list.tokens.len())),
+        None => Ok(Some(list.ends.len())),
         Some(_) => Ok(None),
     }
+}
+
+// Needs lalrpop_lexer::Lexer::token_list: tokens, cuts.
+// Needs lalrpop_lexer::TokenList::tokens: tokens.
+// Needs lalrpop_lexer::ListedTokens::next: ghost next_gives, ghost remaining.
+/// How many tokens are handed out of the list of a text: all of them, whether it has a fault or not.
+///
+/// # Errors
+///
+/// `AllocError` if a request for memory was refused.
+pub fn handed_out_count(lexer: &Lexer, alloc: Global, text: &str) -> Result<usize, AllocError>
+    ensures all { IfOk result (λ n. (tokens : List TokenValue) × ((fault : Option FaultValue)
+        × (AreTokens lexer.now.trees lexer.now.precedences text.now 0
+        (map Ok tokens ++ fault_items fault) × (n ≡ length tokens)))) }
+{
+    let list = lexer.token_list(alloc, text)?;
+    Ok(list.tokens(text).count())
+}
+
+// Needs lalrpop_lexer::TokenList::new: none.
+// Needs lalrpop_lexer::Lexer::token_list_into: tokens, cuts, refused.
+// Needs lalrpop_lexer::TokenList::tokens: start.
+// Needs lalrpop_lexer::ListedTokens::next: ghost next_gives.
+/// The end of the first token of the second text, by a list that held those of the first; `None` if the second has no token, or
+/// memory was refused.
+pub fn first_of_second(lexer: &Lexer, alloc: Global, first: &str, second: &str) -> Option<usize>
+    ensures longest { IfSome result (λ end. (index : ℕ)
+        × IsTokenEnd lexer.now.trees lexer.now.precedences second.now 0 index end) }
+{
+    let mut list = TokenList::new(alloc);
+    let _ = lexer.token_list_into(first, &mut list);
+    if lexer.token_list_into(second, &mut list).is_err() {
+        return None;
+    }
+    match list.tokens(second).next() {
+        Some(token) => Some(token.slice.len()),
+        None => None,
+    }
+}
+
+// Needs lalrpop_lexer::EndList::get: end.
+// Needs lalrpop_lexer::EndList::is_empty: none.
+/// The last end of a list, if it has any.
+pub fn last_end(ends: &EndList) -> Option<TokenEnd>
+    ensures last { IfSome result (λ e. slice_get ends.now (length ends.now - 1) ≡ Some (e.index, e.end)) }
+    ensures none { IfNone result (ends.now ≡ []) }
+{
+    if ends.is_empty() {
+        return None;
+    }
+    ends.get(ends.len() - 1)
 }
 
 // Needs lalrpop_lexer::Lexer::tokens: start.

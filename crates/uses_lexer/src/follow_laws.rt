@@ -6,7 +6,7 @@ ghost use Rattle.std.specs.Str.{chars};
 ghost use Rattle.lalrpop_book.specs.Clash.{NoClash};
 ghost use Rattle.lalrpop_book.specs.Clashes.{Entry};
 ghost use Rattle.lalrpop_dfa.specs.Lookahead.{LooksAtMost};
-ghost use Rattle.lalrpop_dense.specs.Leading.{LeadTo};
+ghost use Rattle.lalrpop_lexer.specs.LeadingTokens.{LeadTo};
 ghost use Rattle.lalrpop_lexer.specs.Renumbered.{AreAlike, AreRenumbered, renumbered};
 ghost use Rattle.lalrpop_lexer.specs.SameTokens.{IsSameToken, AreSameTokens, moved};
 ghost use Rattle.lalrpop_book.specs.Tokens.{IsToken, AreTokens};

@@ -4,7 +4,7 @@ use Rattle.lalrpop_book.specs.Range.{Range}
 use Rattle.lalrpop_dfa.specs.Dfa.{Row, step}
 use Rattle.lalrpop_dense.specs.declared.alike.Alike.{Alike}
 
--- the lists have so many edges, and the last ones of both are the same
+-- each list has at least this many edges, and the last ones of both are the same
 pub record SameEnd (left right : List (Range × ℕ)) (n : ℕ) : Type 0 where
   pub in_left : n ≤ length left
   pub in_right : n ≤ length right

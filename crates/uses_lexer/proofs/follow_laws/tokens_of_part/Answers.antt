@@ -1,7 +1,7 @@
 use Rattle.std.proofs.Common.{◌++◌, List, ℕ, [], subst, sym}
 use Rattle.std.proofs.lemmas.List.{append-nil}
 use Rattle.std.proofs.lemmas.Str.{IsUtf8-nil}
-use Rattle.lalrpop_dense.specs.Leading.{LeadTo}
+use Rattle.lalrpop_lexer.specs.LeadingTokens.{LeadTo}
 use Rattle.lalrpop_lexer.proofs.Locality.{tokens_lead, tokens_stay}
 use Rattle.uses_lexer.proofs.follow_laws.tokens_of_part.Goals as goal
 
