@@ -1,15 +1,11 @@
 -- The piece at the front of a rest.
-use Rattle.std.proofs.Common.{◌≡◌, ◌≢◌, ℕ, ◌+◌, ◌<◌, ◌≤◌, inl, inr, List, [], ◌++◌, length, take, drop, arith, refl, sym, ap, subst, ◌∙◌, length-take}
-use Rattle.std.specs.Prelude.{Some}
+use Rattle.std.proofs.Common.{◌≡◌, ◌≢◌, ℕ, ◌+◌, ◌<◌, inl, inr, List, [], ◌++◌, length, take, drop, arith, refl, sym, ap, subst, ◌∙◌, length-take}
 use Rattle.std.specs.Str.{IsUtf8, IsCharBoundary}
 use Rattle.std.proofs.lemmas.Str.{IsUtf8-take, IsCharBoundary-from_rest}
 use Rattle.std.proofs.lemmas.List.{append-nil, take-append-drop}
 use Rattle.lalrpop_book.specs.Tree.{Tree}
 use Rattle.lalrpop_book.specs.Prefix.{IsPrefix}
-use Rattle.lalrpop_book.specs.Longest.{IsLongest}
-use Rattle.lalrpop_book.specs.Tokens.{IsToken}
-use Rattle.lalrpop_book.specs.declared.token.Token.{Token}
-use Rattle.lalrpop_rules.specs.Found.{MatchesAt, NoMatchBefore, IsFound, NothingFound}
+use Rattle.lalrpop_rules.specs.Found.{MatchesAt, NoMatchBefore, NothingFound}
 use Rattle.lalrpop_rules.specs.Pieces.{IsFault}
 use Rattle.lalrpop_lexer.proofs.Cuttings.{cut_behind}
 use Rattle.lalrpop_rules.proofs.FirstMatches.{match_within, match_begins}
@@ -32,14 +28,6 @@ fault_to_match ts rest slice n u m before some is =
       nothing = subst (λ (k : ℕ). NoMatchBefore ts rest k) (sym size) before;
       ends = inr (subst (λ (k : ℕ). MatchesAt ts rest k) (sym size) m);
     }
-
--- a match at the front of the rest is a token of the text
-pub token_at : (ts : List Tree) (ps text rest : List ℕ) (at : ℕ) (found : Token) → rest ≡ drop at text → IsFound ts ps rest found → found.start ≤ 0
-    → IsToken ts ps text at (record { index = found.index; slice = found.slice; start = at })
-token_at ts ps text rest at found e f front =
-    let zero : found.start ≡ 0 = omega arith in
-    let same : drop found.start rest ≡ drop at text = ap (λ (n : ℕ). drop n rest) zero ∙ e in
-    (refl, subst (λ (t : List ℕ). IsLongest ts ps t (Some (found.index, found.slice.now))) same f.0.1, f.0.2)
 
 -- behind a prefix of the rest the text may be cut
 pub boundary_behind : (text : List ℕ) (at : ℕ) (p : List ℕ) → IsCharBoundary text at → IsUtf8 (drop at text) → IsPrefix p (drop at text)

@@ -9,9 +9,8 @@ pub mod PieceLaws
 pub mod UniquePieces
 pub mod FirstPieces
 pub mod PiecesExist
--- and in linear time
-pub mod FrontPieces
-pub mod Seeking
+-- the match at the front of a rest, and what it costs
+pub mod Finding
 pub mod Waiting
 pub mod LinearPieces
 -- a file of rules: bytes, and the front of a text

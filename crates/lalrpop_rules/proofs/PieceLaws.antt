@@ -54,6 +54,13 @@ fewer_left text at p u b some =
     ∙ length-append (chars p) (chars (drop (at + length p) text)) in
     omega (arith, count, some_char p b.1.1 some)
 
+-- and so it is behind a piece that is given
+pub fewer_behind : (s t : CutToEnd) (x : Item) → IsUtf8 (left_text s) → GivesPiece s (Some x) t → pieces_left t < pieces_left s
+fewer_behind s t x u g =
+    let front = is_front s.rules.trees s.rules.precedences s.skips s.text s.at x g.0 in
+    let some = is_some s.rules.trees s.rules.precedences s.skips s.text s.at x g.0 in
+    subst (λ (w : CutToEnd). pieces_left w < pieces_left s) (sym g.1) (fewer_left s.text s.at (slice_of x) u front some)
+
 -- ---- all pieces
 
 -- the pieces, up to the first `None`
@@ -78,12 +85,8 @@ pub count_of : (s t : CutToEnd) (xs : List Item) → IsUtf8 (left_text s) → Yi
 count_of s t [] u y = omega arith
 count_of s t (x ∷ xs) u (j, g, y) =
     let front = is_front s.rules.trees s.rules.precedences s.skips s.text s.at x g.0 in
-    let some = is_some s.rules.trees s.rules.precedences s.skips s.text s.at x g.0 in
-    let less = fewer_left s.text s.at (slice_of x) u front some in
-    let left : pieces_left j ≡ length (chars (drop (s.at + length (slice_of x)) s.text)) = ap (λ (w : CutToEnd). pieces_left w) g.1 in
     let later : IsUtf8 (left_text j) = subst (λ (w : CutToEnd). IsUtf8 (left_text w)) (sym g.1) (utf8_behind s.text s.at (slice_of x) u front) in
-    let more : length xs ≤ pieces_left j = count_of j t xs later y in
-    omega arith
+    omega (arith, fewer_behind s j x u g, count_of j t xs later y)
 
 -- behind the first `None` there is `None` for good
 pub none_for_good : (s t u : CutToEnd) (x : Option Item) → GivesPiece s None t → GivesPiece t x u → x ≡ None

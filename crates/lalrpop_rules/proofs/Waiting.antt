@@ -1,95 +1,171 @@
--- A text that is cut to its end, between two calls of `next`.
-use Rattle.std.proofs.Common.{◌≡◌, ℕ, ◌+◌, ◌≤◌, List, [], length, drop, arith, refl, sym, ap, subst, ◌∙◌}
-use Rattle.std.specs.Prelude.{Option, Some, None, IfSome, IfNone}
-use Rattle.std.specs.Str.{IsCharBoundary}
-use Rattle.std.proofs.lemmas.Str.{IsUtf8-drop}
-use Rattle.std.proofs.lemmas.List.{drop-drop}
-use Rattle.lalrpop_book.specs.Longest.{IsLongest}
+-- A text that is cut to its end, between two calls of `next`, and within a fault.
+use Rattle.std.proofs.Common.{◌≡◌, ◌≢◌, ℕ, ◌+◌, ◌-◌, ◌<◌, ◌≤◌, List, [], ◌++◌, length, take, drop, arith, refl, sym, ap, subst, ◌∙◌, length-drop, length-take}
+use Rattle.std.specs.Prelude.{Option, Some, None}
+use Rattle.std.specs.Char.{encode_utf8}
+use Rattle.std.specs.Str.{chars, IsUtf8, IsCharBoundary}
+use Rattle.std.proofs.lemmas.Str.{IsUtf8-drop, IsUtf8-take, IsUtf8-past_char, IsCharBoundary-at_seam, IsCharBoundary-from_drop, IsCharBoundary-from_rest, length-encode, len_utf8_bounds}
+use Rattle.std.proofs.lemmas.List.{drop-drop, take-append-drop}
+use Rattle.lalrpop_book.specs.Longest.{IsMatch}
 use Rattle.lalrpop_book.specs.Prefix.{IsPrefix}
+use Rattle.lalrpop_book.specs.Tokens.{IsToken}
 use Rattle.lalrpop_book.specs.Tree.{Tree}
-use Rattle.lalrpop_book.specs.declared.token.Token.{Token}
+use Rattle.lalrpop_lexer.proofs.Strongest.{IsOnlyStrongest-from_greatest}
 use Rattle.lalrpop_lexer.specs.Dfa.{Row}
 use Rattle.lalrpop_lexer.specs.Matching.{Matching, rest_of}
-use Rattle.lalrpop_lexer.specs.Rules.{Rules, IsBuiltFrom}
-use Rattle.lalrpop_rules.specs.Found.{IsFound, NothingFound, NoMatchBefore}
-use Rattle.lalrpop_rules.specs.Internal.FirstMatch.{IsFirstMatch, IsSearching, IsSought, IsWaiting, bytes_passed, credit_of}
-use Rattle.lalrpop_rules.proofs.FirstMatches.{match_begins, before_start}
-use Rattle.lalrpop_rules.proofs.Fronts.{boundary_behind}
+use Rattle.lalrpop_lexer.specs.Rules.{IsBuiltFrom}
+use Rattle.lalrpop_nfa.proofs.Cuts.{IsCut}
+use Rattle.lalrpop_rules.specs.Pieces.{IsFault}
+use Rattle.lalrpop_rules.specs.Internal.Finding.{Match, ForRules, IsSomeText, IsMatchOf, Passes, IsSoughtFrom, IsWaiting, IsPassing, IsAtFront}
+use Rattle.lalrpop_rules.proofs.FirstMatches.{before_start, before_next, nothing_found}
+use Rattle.lalrpop_rules.proofs.Fronts.{boundary_behind, fault_to_end, fault_to_match}
 
--- what `find` gives is the first match
-first_found : (ts : List Tree) (ps rest : List ℕ) (found : Option Token) → IfSome found (λ token. IsFound ts ps rest token) → IfNone found (NothingFound ts rest)
-    → IsFirstMatch ts ps rest found
-first_found ts ps rest None some none = none
-first_found ts ps rest (Some token) some none = some
+-- ---- the place from which matches are sought
 
--- the first match of the rest is found now, with a memo
-sought_on : (r : Rules) (text : List ℕ) (at : ℕ) (found : Option Token) (m n : Matching) (before after : ℕ) → IsWaiting r text at None (Some m)
-    → ((ts : List Tree) (ps : List ℕ) → IsBuiltFrom ts ps m.automaton → IsFirstMatch ts ps (rest_of m) found)
-    → n ≡ record m { at = m.at + bytes_passed (rest_of m) found; spare = n.spare } → before ≤ after → after + credit_of n ≤ before + credit_of m
-    → IsSought r text at found (Some m) (Some n) before after
-sought_on r text at found m n before after w first e grows paid =
-    let s = w.search in
-    let here : m.at ≡ at = omega (arith, s.here) in
-    let rest : rest_of m ≡ drop at text = ap (λ (t : List ℕ). drop m.at t) s.same ∙ ap (λ (k : ℕ). drop k text) here in
-    let passed : bytes_passed (rest_of m) found ≡ bytes_passed (drop at text) found = ap (λ (t : List ℕ). bytes_passed t found) rest in
-    let there : n.at ≡ m.at + bytes_passed (rest_of m) found = ap (λ (x : Matching). x.at) e in
+-- the rest there
+rest_there : (text : List ℕ) (place : ℕ) (m : Matching) → IsSoughtFrom text place m → rest_of m ≡ drop place text
+rest_there text place m s = ap (λ (t : List ℕ). drop m.at t) s.same ∙ ap (λ (k : ℕ). drop k text) s.here
+
+-- l bytes further on
+sought_behind : (text : List ℕ) (place l : ℕ) (m n : Matching) → IsSoughtFrom text place m → IsCharBoundary text (place + l)
+    → n ≡ record m { at = m.at + l; spare = n.spare } → IsSoughtFrom text (place + l) n
+sought_behind text place l m n s b e =
+    let there : n.at ≡ m.at + l = ap (λ (x : Matching). x.at) e in
     record {
-      first = subst (λ (t : List ℕ). IsFirstMatch r.trees r.precedences t found) rest (first r.trees r.precedences s.built);
-      search = record {
-        same = ap (λ (x : Matching). x.text) e ∙ s.same;
-        built = subst (λ (d : List Row). IsBuiltFrom r.trees r.precedences d) (sym (ap (λ (x : Matching). x.automaton) e)) s.built;
-        here = omega (arith, there, here, passed);
-      };
-      paid = (grows, omega (arith, paid));
+      same = ap (λ (x : Matching). x.text) e ∙ s.same;
+      here = omega (arith, there, s.here);
+      boundary = b;
     }
 
-pub sought_with : (r : Rules) (text : List ℕ) (at : ℕ) (kept found : Option Token) (memo : Option Matching) (m n : Matching) (before after : ℕ) → IsWaiting r text at kept memo
-    → kept ≡ None → memo ≡ Some m → ((ts : List Tree) (ps : List ℕ) → IsBuiltFrom ts ps m.automaton → IsFirstMatch ts ps (rest_of m) found)
-    → n ≡ record m { at = m.at + bytes_passed (rest_of m) found; spare = n.spare } → before ≤ after → after + credit_of n ≤ before + credit_of m
-    → IsSought r text at found memo (Some n) before after
-sought_with r text at kept found memo m n before after w none some first e grows paid =
-    let w : IsWaiting r text at None (Some m) =
-    subst (λ (o : Option Token). IsWaiting r text at o (Some m)) none (subst (λ (o : Option Matching). IsWaiting r text at kept o) some w) in
-    subst (λ (o : Option Matching). IsSought r text at found o (Some n) before after) (sym some) (sought_on r text at found m n before after w first e grows paid)
+sought_behind_match : (text : List ℕ) (place : ℕ) (f : Match) (m n : Matching) → IsUtf8 text → IsSoughtFrom text place m → Passes m n (Some f)
+    → IsSoughtFrom text (place + length f.1.now) n
+sought_behind_match text place f m n u s (b, e) =
+    let front : IsPrefix f.1.now (drop place text) = subst (λ (t : List ℕ). IsPrefix f.1.now t) (rest_there text place m s) b in
+    sought_behind text place (length f.1.now) m n s (boundary_behind text place f.1.now s.boundary (IsUtf8-drop text place u s.boundary) front) e
 
--- or without one
-pub sought_anew : (r : Rules) (text rest : List ℕ) (at : ℕ) (found : Option Token) (memo : Option Matching) (steps : ℕ) → rest ≡ drop at text → memo ≡ None
-    → IfSome found (λ token. IsFound r.trees r.precedences rest token) → IfNone found (NothingFound r.trees rest) → IsSought r text at found memo memo steps steps
-sought_anew r text rest at found memo steps e none some nothing =
-    let first : IsFirstMatch r.trees r.precedences (drop at text) found =
-    subst (λ (t : List ℕ). IsFirstMatch r.trees r.precedences t found) e (first_found r.trees r.precedences rest found some nothing) in
-    subst (λ (o : Option Matching). IsSought r text at found o o steps steps) (sym none) (record { first = first; search = tt; paid = refl })
+-- the place written otherwise
+sought_at : (text : List ℕ) (place there : ℕ) (m : Matching) → place ≡ there → IsSoughtFrom text place m → IsSoughtFrom text there m
+sought_at text place there m e s = subst (λ (k : ℕ). IsSoughtFrom text k m) e s
 
--- a match in a rest begins where a character does
-pub first_begins : (ts : List Tree) (ps rest : List ℕ) (found : Option Token) → IsFirstMatch ts ps rest found → IfSome found (λ token. IsCharBoundary rest token.start)
-first_begins ts ps rest None first = tt
-first_begins ts ps rest (Some token) first = match_begins ts rest token.start (token.slice.now, first.0.1.0)
+-- the automaton stays the same
+pub same_automaton : (m n : Matching) (found : Option Match) → Passes m n found → n.automaton ≡ m.automaton
+same_automaton m n None (c, (split, e)) = ap (λ (x : Matching). x.automaton) e
+same_automaton m n (Some f) (b, e) = ap (λ (x : Matching). x.automaton) e
 
--- behind what stands in front of it, it stands at the front
-first_behind : (ts : List Tree) (ps rest : List ℕ) (token : Token) (n : ℕ) → token.start ≡ 0 → IsFound ts ps rest (record token { start = n }) → IsFound ts ps (drop n rest) token
-first_behind ts ps rest token n front found = (
-  (refl, subst (λ (k : ℕ). IsLongest ts ps (drop k (drop n rest)) (Some (token.index, token.slice.now))) (sym front) found.0.1, found.0.2),
-  subst (λ (k : ℕ). NoMatchBefore ts (drop n rest) k) (sym front) (before_start ts (drop n rest)),
-)
+match_there : (text : List ℕ) (place : ℕ) (found : Option Match) (m : Matching) (d : List Row) → IsSoughtFrom text place m → d ≡ m.automaton
+    → IsMatchOf m.automaton (rest_of m) found → IsMatchOf d (drop place text) found
+match_there text place found m d s e is =
+    subst (λ (r : List Row). IsMatchOf r (drop place text) found) (sym e) (subst (λ (t : List ℕ). IsMatchOf m.automaton t found) (rest_there text place m s) is)
 
-still_first : (r : Rules) (text : List ℕ) (at n : ℕ) (found kept : Option Token) → IsFirstMatch r.trees r.precedences (drop at text) found
-    → IfSome kept (λ token. (token.start ≡ 0) × (found ≡ Some (record token { start = n })))
-    → IfSome kept (λ token. (token.start ≡ 0) × IsFound r.trees r.precedences (drop (at + n) text) token)
-still_first r text at n found None first is = tt
-still_first r text at n found (Some token) first is =
-    let here : IsFound r.trees r.precedences (drop at text) (record token { start = n }) = subst (λ (o : Option Token). IsFirstMatch r.trees r.precedences (drop at text) o) is.1 first in
-    (is.0, subst (λ (t : List ℕ). IsFound r.trees r.precedences t token) (drop-drop n at text) (first_behind r.trees r.precedences (drop at text) token n is.0 here))
+-- a match at the front of the rest is a token of the text
+pub token_met : (ts : List Tree) (ps text : List ℕ) (at : ℕ) (f : Match) (d : List Row) (m : Matching) → IsBuiltFrom ts ps d → m.automaton ≡ d
+    → IsMatchOf m.automaton (drop at text) (Some f) → IsToken ts ps text at (record { index = f.0; slice = f.1; start = at })
+token_met ts ps text at f d m built same is =
+    let longest = is ts ps (subst (λ (r : List Row). IsBuiltFrom ts ps r) (sym same) built) in
+    (refl, longest, IsOnlyStrongest-from_greatest ts ps (chars f.1.now) f.0 built.no_clash longest.2)
 
--- behind a piece
-pub waiting_on : (r : Rules) (text : List ℕ) (at : ℕ) (kept found kept2 : Option Token) (old new : Option Matching) (before after : ℕ) (slice : List ℕ)
-    → IsWaiting r text at kept old → IsSought r text at found old new before after → IsPrefix slice (drop at text)
-    → IfSome kept2 (λ token. (token.start ≡ 0) × (found ≡ Some (record token { start = length slice })))
-    → length slice + bytes_passed [] kept2 ≡ bytes_passed (drop at text) found → IsWaiting r text (at + length slice) kept2 new
-waiting_on r text at kept found kept2 old new before after slice w s b is passed =
-    let place : at + bytes_passed (drop at text) found ≡ (at + length slice) + bytes_passed [] kept2 = omega (arith, passed) in
+-- ---- within a fault
+
+passing_cut : (text : List ℕ) (at : ℕ) (m : Matching) (p : IsPassing text at m) → IsCut (drop at text) p.passed (rest_of m)
+passing_cut text at m p =
+    let u : IsUtf8 (drop at text) = IsUtf8-drop text at p.utf8 p.boundary in
+    let rest : drop p.passed (drop at text) ≡ rest_of m = drop-drop p.passed at text ∙ sym (rest_there text (at + p.passed) m p.sought) in
+    let later : IsUtf8 (rest_of m) = subst IsUtf8 (sym (rest_there text (at + p.passed) m p.sought)) (IsUtf8-drop text (at + p.passed) p.utf8 p.sought.boundary) in
+    let within : p.passed ≤ length (drop at text) = omega (arith, p.sought.boundary.0, length-drop at text) in
+    let b : IsCharBoundary (drop at text) p.passed = IsCharBoundary-from_drop (drop at text) p.passed within (subst IsUtf8 (sym rest) later) in
     record {
-      utf8 = w.utf8;
-      boundary = boundary_behind text at slice w.boundary (IsUtf8-drop text at w.utf8 w.boundary) b;
-      first = still_first r text at (length slice) found kept2 s.first is;
-      search = subst (λ (k : ℕ). IfSome new (λ m. IsSearching r text k m)) place s.search;
+      split = sym (take-append-drop p.passed (drop at text)) ∙ ap (λ (t : List ℕ). take p.passed (drop at text) ++ t) rest;
+      place = omega (arith, length-take p.passed (drop at text), within);
+      seen_utf8 = IsUtf8-take (drop at text) p.passed u b;
+      rest_utf8 = later;
     }
+
+passing_start : (text : List ℕ) (at : ℕ) (m : Matching) → IsWaiting text at None m → IsPassing text at m
+passing_start text at m w =
+    record { utf8 = w.utf8; boundary = w.boundary; passed = 0; sought = w.sought; nothing = λ ts ps built. before_start ts (drop at text) }
+
+-- the rest isn't empty before the end of the text
+pub passing_some : (text : List ℕ) (at : ℕ) (m : Matching) → IsPassing text at m → m.at ≢ length text → IsSomeText (rest_of m) × (m.at < length text)
+passing_some text at m p on =
+    let less : m.at < length text = omega (arith, p.sought.here, p.sought.boundary.0, on) in
+    let rest : rest_of m ≡ drop (at + p.passed) text = rest_there text (at + p.passed) m p.sought in
+    ((λ none. omega (arith, less, p.sought.here, length-drop (at + p.passed) text, ap length (sym rest ∙ none)), (passing_cut text at m p).rest_utf8), less)
+
+-- a character further on
+pub passing_on : (text : List ℕ) (at : ℕ) (m n : Matching) → IsPassing text at m → IsMatchOf m.automaton (rest_of m) None → Passes m n None
+    → IsPassing text at n × (m.at < n.at)
+passing_on text at m n p none (c, (split, e)) =
+    let l = length (encode_utf8 c) in
+    let some : 0 < l = omega (arith, length-encode c, (len_utf8_bounds c).0) in
+    let cut = passing_cut text at m p in
+    let seam : drop (at + p.passed) text ≡ encode_utf8 c ++ rest_of n = sym (rest_there text (at + p.passed) m p.sought) ∙ split in
+    let later : IsUtf8 (rest_of n) = IsUtf8-past_char (rest_of m) (rest_of n) c cut.rest_utf8 split in
+    let there : n.at ≡ m.at + l = ap (λ (x : Matching). x.at) e in (
+      record {
+        utf8 = p.utf8;
+        boundary = p.boundary;
+        passed = p.passed + l;
+        sought = sought_at text _ _ n (omega arith)
+            (sought_behind text (at + p.passed) l m n p.sought (IsCharBoundary-from_rest text (at + p.passed) l p.sought.boundary.0 (IsCharBoundary-at_seam (drop (at + p.passed) text) (encode_utf8 c) (rest_of n) seam later)) e);
+        nothing = λ ts ps built.
+            let known = subst (λ (d : List Row). IsBuiltFrom ts ps d) (ap (λ (x : Matching). x.automaton) e) built in
+            before_next ts ps (drop at text) (rest_of m) (rest_of n) p.passed (p.passed + l) c (IsUtf8-drop text at p.utf8 p.boundary) cut split refl
+            (p.nothing ts ps known) (none ts ps known);
+      },
+      omega (arith, there, some),
+    )
+
+-- what is found at the front of the rest, or the first character, is passed
+pub front_met : (text : List ℕ) (at : ℕ) (found : Option Match) (m n : Matching) → IsWaiting text at None m → IsMatchOf m.automaton (rest_of m) found → Passes m n found
+    → IsAtFront text at found None n
+front_met text at None m n w none p =
+    let on = passing_on text at m n (passing_start text at m w) none p in
+    (on.0, omega (arith, w.sought.here, on.1))
+front_met text at (Some f) m n w is p =
+    let here : IsSoughtFrom text at m = sought_at text _ at m (omega arith) w.sought in
+    let behind : IsSoughtFrom text (at + length f.1.now) n = sought_behind_match text at f m n w.utf8 here p in (
+      match_there text at (Some f) m n.automaton here (same_automaton m n (Some f) p) is,
+      record { utf8 = w.utf8; boundary = behind.boundary; first = tt; sought = sought_at text _ _ n (omega arith) behind },
+    )
+
+-- up to where something matches it is a fault
+pub fault_before : (text : List ℕ) (at : ℕ) (f : Match) (slice : List ℕ) (m n : Matching) → IsPassing text at m → at < m.at → IsMatchOf m.automaton (rest_of m) (Some f)
+    → Passes m n (Some f) → slice ≡ take (m.at - at) (drop at text)
+    → ForRules m.automaton (λ ts _. IsFault ts (drop at text) slice) × IsWaiting text (at + length slice) (Some f) n
+fault_before text at f slice m n p some is passes cut =
+    let u : IsUtf8 (drop at text) = IsUtf8-drop text at p.utf8 p.boundary in
+    let place : m.at - at ≡ p.passed = omega (arith, p.sought.here) in
+    let front : slice ≡ take p.passed (drop at text) = cut ∙ ap (λ (k : ℕ). take k (drop at text)) place in
+    let rest : drop p.passed (drop at text) ≡ rest_of m = drop-drop p.passed at text ∙ sym (rest_there text (at + p.passed) m p.sought) in
+    let size : length slice ≡ p.passed = ap length front ∙ (passing_cut text at m p).place in
+    let behind : IsSoughtFrom text (at + p.passed + length f.1.now) n = sought_behind_match text (at + p.passed) f m n p.utf8 p.sought passes in
+    let ends : at + p.passed ≡ at + length slice = omega (arith, size) in (
+      λ ts ps built.
+          let there = subst (λ (t : List ℕ). IsMatch ts t f.1.now) (sym rest) (is ts ps built).0 in
+          fault_to_match ts (drop at text) slice p.passed u (f.1.now, there) (p.nothing ts ps built) (omega (arith, some, p.sought.here)) front,
+      record {
+        utf8 = p.utf8;
+        boundary = subst (λ (k : ℕ). IsCharBoundary text k) ends p.sought.boundary;
+        first = subst (λ (k : ℕ). IsMatchOf n.automaton (drop k text) (Some f)) ends
+            (match_there text (at + p.passed) (Some f) m n.automaton p.sought (same_automaton m n (Some f) passes) is);
+        sought = sought_at text _ _ n (omega (arith, ends)) behind;
+      },
+    )
+
+-- and so it is up to the end of the text
+pub fault_at_end : (text : List ℕ) (at : ℕ) (slice : List ℕ) (m : Matching) → IsPassing text at m → at < m.at → m.at ≡ length text → slice ≡ drop at text
+    → ForRules m.automaton (λ ts _. IsFault ts (drop at text) slice) × IsWaiting text (at + length slice) None m
+fault_at_end text at slice m p some end all =
+    let u : IsUtf8 (drop at text) = IsUtf8-drop text at p.utf8 p.boundary in
+    let size : length slice ≡ length text - at = ap length all ∙ length-drop at text in
+    let place : p.passed ≡ length (drop at text) = omega (arith, end, p.sought.here, length-drop at text) in
+    let ends : at + p.passed ≡ at + length slice = omega (arith, size, end, p.sought.here) in
+    let left : drop at text ≢ [] = λ none. omega (arith, some, end, length-drop at text, ap length none) in (
+      λ ts ps built.
+          subst (λ (t : List ℕ). IsFault ts (drop at text) t) (sym all) (fault_to_end ts (drop at text) u left (nothing_found ts (drop at text) p.passed place (p.nothing ts ps built))),
+      record {
+        utf8 = p.utf8;
+        boundary = subst (λ (k : ℕ). IsCharBoundary text k) ends p.sought.boundary;
+        first = tt;
+        sought = sought_at text _ _ m (omega (arith, ends)) p.sought;
+      },
+    )

@@ -1,5 +1,5 @@
 pub mod Code
-pub mod FirstMatch
+pub mod Finding
 pub mod Reported
 -- a file of rules
 pub mod Spans

@@ -15,8 +15,8 @@ use lalrpop_lexer::Lexer;
 /// `skipped` has `true` at the index of its pattern. Elsewhere it is a fault: the characters up to the next place where a
 /// pattern matches, or to the end of the text. So no fault comes right after another.
 ///
-/// It takes no memory, and there are at most as many pieces as the text has characters. Each fault is found by `find`, at
-/// its cost.
+/// It takes no memory, and there are at most as many pieces as the text has characters. From each place it reads as far as some
+/// pattern could still match, so the cost is at most quadratic in the length of the text.
 pub fn items<'text>(lexer: &'text Lexer, skipped: &'text [bool], text: &'text str) -> Items<'text>
     ensures start { result ≡ uncut lexer.now skipped.now text.now None }
     ensures items { (xs : List ItemValue) → Drains GivesPiece result xs

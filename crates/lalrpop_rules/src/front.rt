@@ -1,15 +1,20 @@
 //! The piece at the front of the rest of a text.
 
-ghost use Rattle.std.specs.Prelude.{◌≡◌, ◌≢◌, ◌+◌, ℕ, List, [], Some, true, false, length, drop, IfSome};
-ghost use Rattle.std.specs.Str.{IsCharBoundary};
+ghost use Rattle.std.specs.Prelude.{◌≡◌, ◌+◌, ◌<◌, ℕ, List, true, false, length, drop};
 ghost use Rattle.lalrpop_book.specs.Tree.{Tree};
-ghost use Rattle.lalrpop_rules.specs.Pieces.{IsPiece, IsSkipped, slice_of};
-ghost use Rattle.lalrpop_rules.specs.Internal.FirstMatch.{IsFirstMatch, bytes_passed};
+ghost use Rattle.lalrpop_book.specs.Tokens.{IsToken};
+ghost use Rattle.lalrpop_rules.specs.Pieces.{IsPiece, IsFault, IsSkipped, slice_of};
+ghost use Rattle.lalrpop_rules.specs.CutToEnd.{IsPaid};
+ghost use Rattle.lalrpop_rules.specs.Internal.Finding.{matching_of, memo_of, ForRules, IsWaiting, IsPassing};
 
+use crate::finder::Finder;
 use crate::item::Item;
 use lalrpop_lexer::Token;
+use lalrpop_lexer::lexer::dfa::NfaIndex;
+use lalrpop_lexer::lexer::nfa::Steps;
 
 // Whether the pattern with this index is skipped.
+#[inline(always)]
 fn is_skipped(skipped: &[bool], index: usize) -> bool
     ensures yes { result ≡ true → IsSkipped skipped.now index }
     ensures no { result ≡ false → ¬ IsSkipped skipped.now index }
@@ -20,46 +25,55 @@ fn is_skipped(skipped: &[bool], index: usize) -> bool
     }
 }
 
-/// The piece at the front of the rest, which begins at byte `at` of the text, given the first match in the rest. If the piece
-/// is a fault before that match, the match is returned too, with its start counted from the end of the fault.
-pub(crate) fn front_of<'text>(
+/// The piece that a token is, skipped or not.
+#[inline(always)]
+pub(crate) fn piece_of<'text>(
     skipped: &[bool],
-    rest: &'text str,
-    at: usize,
-    found: &Option<Token<'text>>,
-) -> (Item<'text>, Option<Token<'text>>)
-    requires some { rest.now ≢ [] }
-    requires boundary { IfSome found.now (λ token. IsCharBoundary rest.now token.start) }
-    ensures item { (ts : List Tree) (ps text : List ℕ) → rest.now ≡ drop at text
-        → IsFirstMatch ts ps rest.now found.now → IsPiece ts ps skipped.now text at result.0 }
-    ensures kept { IfSome result.1 (λ kept. (kept.start ≡ 0)
-        × (found.now ≡ Some (record kept { start = length (slice_of result.0) }))) }
-    ensures passed { length (slice_of result.0) + bytes_passed [] result.1
-        ≡ bytes_passed rest.now found.now }
+    index: NfaIndex,
+    slice: &'text str,
+    start: usize,
+) -> Item<'text>
+    ensures piece { (ts : List Tree) (ps text : List ℕ) (at : ℕ)
+        → IsToken ts ps text at (record { index = index; slice = slice.entry; start = start })
+        → IsPiece ts ps skipped.now text at result }
+    ensures slice { slice_of result ≡ slice.now }
 {
-    let Some(found) = found else {
-        let fault = Item::Fault {
-            start: at,
-            slice: rest,
-        };
-        return (fault, None);
-    };
-    if found.start > 0 {
-        let slice = &rest[..found.start];
-        let kept = Token {
-            index: found.index,
-            slice: found.slice,
-            start: 0,
-        };
-        return (Item::Fault { start: at, slice }, Some(kept));
-    }
+    let skips = is_skipped(skipped, index.index());
     let token = Token {
-        index: found.index,
-        slice: found.slice,
-        start: at,
+        index,
+        slice,
+        start,
     };
-    if is_skipped(skipped, token.index.index()) {
-        return (Item::Skipped(token), None);
+    if skips {
+        return Item::Skipped(token);
     }
-    (Item::Token(token), None)
+    Item::Token(token)
+}
+
+/// The fault that begins at byte `at`, and the match after it, unless the text ends there. Its first character is passed already.
+#[inline(never)]
+pub(crate) fn pass_fault<'text>(
+    text: &'text str,
+    at: usize,
+    finder: &mut Finder<'text>,
+    steps: &mut Steps,
+) -> (&'text str, Option<(NfaIndex, &'text str)>)
+    requires passing { IsPassing text.now at (matching_of finder.old) }
+    requires some { at < (matching_of finder.old).at }
+    ensures fault { ForRules (matching_of finder.old).automaton (λ ts _.
+        IsFault ts (drop at text.now) result.0.now) }
+    ensures waiting { IsWaiting text.now (at + length result.0.now) result.1
+        (matching_of finder.new) }
+    ensures same { (matching_of finder.new).automaton ≡ (matching_of finder.old).automaton }
+    ensures paid { IsPaid steps.old (memo_of finder.old) steps.new (memo_of finder.new) }
+{
+    'passing: loop {
+        let end = finder.offset();
+        if end == text.len() {
+            return (&text[at..], None);
+        }
+        if let Some(found) = finder.next_or_pass(steps) {
+            return (&text[at..end], Some(found));
+        }
+    }
 }

@@ -3,6 +3,7 @@
 
 mod cut;
 mod error;
+mod finder;
 mod front;
 mod item;
 mod leftmost;
@@ -11,7 +12,6 @@ mod reading;
 mod rule;
 mod rule_file;
 mod rule_lexer;
-mod seek;
 
 pub use cut::items;
 pub use error::RulesError;

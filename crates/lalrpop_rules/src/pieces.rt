@@ -1,22 +1,24 @@
 //! Cutting a text to its end: tokens, skipped pieces and faults.
 
-ghost use Rattle.std.specs.Prelude.{◌≡◌};
-ghost use Rattle.lalrpop_rules.specs.Internal.FirstMatch.{IsWaiting, IsSought};
+ghost use Rattle.std.specs.Prelude.{◌≡◌, ℕ, List, IfNone};
+ghost use Rattle.lalrpop_lexer.specs.Matching.{rest_of};
+ghost use Rattle.lalrpop_rules.specs.CutToEnd.{IsPaid};
+ghost use Rattle.lalrpop_rules.specs.Internal.Finding.{matching_of, memo_of, IsSomeText, IsWaiting, IsAtFront};
 
-use crate::front::front_of;
+use crate::finder::Finder;
+use crate::front::{pass_fault, piece_of};
 use crate::item::Item;
-use crate::leftmost::find;
-use crate::seek::find_next;
+use lalrpop_lexer::Lexer;
+use lalrpop_lexer::lexer::dfa::NfaIndex;
 use lalrpop_lexer::lexer::nfa::Steps;
-use lalrpop_lexer::{Lexer, LinearMatches, Token};
 use std::alloc::{AllocError, Global};
 use std::iter::FusedIterator;
 use std::marker::Model;
 
 /// Cuts any text into pieces, from its beginning to its end. The pieces are slices of the text.
 ///
-/// The match right after a fault is kept for the next call. With a memo each match is found once, in linear time: then a step is
-/// counted for each character the automaton reads, as often as it reads it. Only contracts see the steps.
+/// The text is read a block ahead, and the match right after a fault is kept for the next call. With a memo this takes linear time:
+/// then a step is counted for each character the automaton reads, as often as it reads it. Only contracts see the steps.
 ///
 /// ```
 /// use lalrpop_rules::{Rule, RuleLexer};
@@ -28,15 +30,16 @@ use std::marker::Model;
 #[derive(Drop)]
 #[derive_where(Debug)]
 pub struct Items<'text> {
+    // Only contracts read it: its rules.
     lexer: &'text Lexer,
     skipped: &'text [bool],
     text: &'text str,
     // The rest of the text begins here.
     at: usize,
     // The match at the front of the rest, if it is known.
-    kept: Option<Token<'text>>,
-    // The memo, which finds the matches after that one.
-    matches: Option<LinearMatches<'text>>,
+    kept: Option<(NfaIndex, &'text str)>,
+    // What finds the matches after that one.
+    finder: Finder<'text>,
     #[derive_where(skip)]
     steps: Steps,
 }
@@ -44,7 +47,8 @@ pub struct Items<'text> {
 impl<'text> Model for Items<'text> {
     ghost use Rattle.lalrpop_rules.specs.CutToEnd.{CutToEnd};
     ghost use Rattle.lalrpop_rules.specs.Internal.Code.{cut_code};
-    ghost use Rattle.lalrpop_rules.specs.Internal.FirstMatch.{IsWaiting, memo_of};
+    ghost use Rattle.lalrpop_lexer.specs.Rules.{IsBuiltFrom};
+    ghost use Rattle.lalrpop_rules.specs.Internal.Finding.{matching_of, memo_of, IsWaiting};
 
     ghost Value = { CutToEnd };
 
@@ -56,32 +60,32 @@ impl<'text> Model for Items<'text> {
           skips = t.skipped.now;
           text = t.text.now;
           at = t.at;
-          memo = memo_of t.matches;
+          memo = memo_of t.finder;
           steps = t.steps;
         } };
 
-    ghost invariant = { λ t. IsWaiting t.lexer.now t.text.now t.at t.kept t.matches };
+    ghost invariant = { λ t.
+        IsBuiltFrom t.lexer.now.trees t.lexer.now.precedences (matching_of t.finder).automaton
+        × IsWaiting t.text.now t.at t.kept (matching_of t.finder) };
 }
 
-// The first match in the rest, which begins at byte `at` of the text: the one that is kept, or else the next one.
+// The match that is kept, or else the one at the front of the rest. If there is none, the first character is passed.
+#[inline(always)]
 fn take_or_find<'text>(
-    lexer: &Lexer,
-    text: &'text str,
-    at: usize,
-    kept: &mut Option<Token<'text>>,
-    matches: &mut Option<LinearMatches<'text>>,
+    kept: &mut Option<(NfaIndex, &'text str)>,
+    finder: &mut Finder<'text>,
     steps: &mut Steps,
-) -> Option<Token<'text>>
-    requires waiting { IsWaiting lexer.now text.now at kept.old matches.old }
-    ensures sought { IsSought lexer.now text.now at result matches.old matches.new
-        steps.old steps.new }
+) -> Option<(NfaIndex, &'text str)>
+    requires some { IfNone kept.old (IsSomeText (rest_of (matching_of finder.old))) }
+    ensures front { (text : List ℕ) (at : ℕ)
+        → IsWaiting text at kept.old (matching_of finder.old)
+        → IsAtFront text at result kept.new (matching_of finder.new) }
+    ensures same { (matching_of finder.new).automaton ≡ (matching_of finder.old).automaton }
+    ensures paid { IsPaid steps.old (memo_of finder.old) steps.new (memo_of finder.new) }
 {
-    if let Some(token) = kept.take() {
-        return Some(token);
-    }
-    match matches {
-        Some(matches) => find_next(matches, steps),
-        None => find(lexer, &text[at..]),
+    match kept {
+        Some(_) => kept.take(),
+        None => finder.next_or_pass(steps),
     }
 }
 
@@ -102,7 +106,7 @@ impl<'text> Items<'text> {
             text,
             at: 0,
             kept: None,
-            matches: None,
+            finder: Finder::Plain(lexer.matches(text)),
             steps: Steps::new(),
         }
     }
@@ -128,7 +132,7 @@ impl<'text> Items<'text> {
             text,
             at: 0,
             kept: None,
-            matches: Some(matches),
+            finder: Finder::Remembering(matches),
             steps: Steps::new(),
         })
     }
@@ -141,26 +145,28 @@ impl<'text> Items<'text> {
     }
 
     // What `next` returns.
+    #[inline(always)]
     fn next_item(&mut self) -> Option<Item<'text>>
         ensures gives { GivesPiece self.old result self.new }
         ensures goes { OnSome result (pieces_left self.new < pieces_left self.old) }
     {
-        let rest = self.rest();
+        let start = self.at;
+        let rest = &self.text[start..];
         if rest.is_empty() {
             return None;
         }
-        let found = take_or_find(
-            self.lexer,
-            self.text,
-            self.at,
-            &mut self.kept,
-            &mut self.matches,
-            &mut self.steps,
-        );
-        let (item, kept) = front_of(self.skipped, rest, self.at, &found);
-        self.kept = kept;
-        self.at += item.slice().len();
-        Some(item)
+        match take_or_find(&mut self.kept, &mut self.finder, &mut self.steps) {
+            Some(found) => {
+                self.at += found.1.len();
+                Some(piece_of(self.skipped, found.0, found.1, start))
+            }
+            None => {
+                let (slice, kept) = pass_fault(self.text, start, &mut self.finder, &mut self.steps);
+                self.kept = kept;
+                self.at += slice.len();
+                Some(Item::Fault { start, slice })
+            }
+        }
     }
 }
 
@@ -174,6 +180,7 @@ impl<'text> Iterator for Items<'text> {
 
     ghost remaining = { λ s. at_most (pieces_left s) };
 
+    #[inline(always)]
     fn next(&mut self) -> Option<Item<'text>> {
         self.next_item()
     }

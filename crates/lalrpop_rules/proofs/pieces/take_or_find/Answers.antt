@@ -1,14 +1,9 @@
-use Rattle.std.proofs.Common.{sym}
-use Rattle.lalrpop_rules.proofs.Waiting.{sought_with, sought_anew}
+use Rattle.lalrpop_rules.specs.Internal.Finding.{matching_of}
+use Rattle.lalrpop_rules.proofs.Waiting.{front_met}
 use Rattle.lalrpop_rules.proofs.pieces.take_or_find.Goals as goal
 
-pub returns-in-Some-matches : goal.returns-in-Some-matches
-returns-in-Some-matches c = record {
-  sought =
-      sought_with _ _ _ _ _ _ _ _ _ _ c.requires.waiting (sym c.in_default.ensures.value) c.in-Some-matches.is c.find_next.ensures.found c.find_next.ensures.goes_on
-      c.find_next.ensures.never_falls c.find_next.ensures.paid;
-}
-
-pub returns-in-None : goal.returns-in-None
-returns-in-None c =
-    record { sought = sought_anew _ _ _ _ _ _ _ c.range_from.ensures.value c.in-None.is c.find.ensures.found c.find.ensures.none }
+pub returns-in-None-clause-front : goal.returns-in-None-clause-front
+returns-in-None-clause-front c =
+    let found = c.next_or_pass in
+    rw c.in-None.is
+    (λ text at w. front_met text at found.result (matching_of c.args.finder.now) (matching_of found.new.self) w found.ensures.answer found.ensures.passes)
