@@ -46,7 +46,7 @@ syntax_text kinds.NestLimitExceeded = codes "groups, brackets and repetitions ne
 -- why a pattern can't be compiled
 abbrev pub refusal_text : NfaConstructionError → List ℕ
 refusal_text NamedCaptures = codes "a lexer can't have named groups: write `(?:..)`"
-refusal_text NonGreedy = codes "a lexer can't have lazy repetitions: write `[^x]*x` for `.*?x`"
+refusal_text NonGreedy = codes "a lexer can't have lazy repetitions: write `[^x]*x` for `.*?x`, and `/\\*([^*]|\\*+[^*/])*\\*+/` for `/\\*.*?\\*/`"
 refusal_text LookAround = codes "a lexer can't have look-around, so no `^`, `$` or `\\b`: a match begins where the last one ended"
 refusal_text ByteRegex = codes "a lexer can't have patterns of bytes"
 refusal_text OutOfMemory = codes "out of memory"

@@ -41,7 +41,7 @@ pub(crate) fn refusal_text(error: NfaConstructionError) -> &'static str
     match error {
         NfaConstructionError::NamedCaptures => "a lexer can't have named groups: write `(?:..)`",
         NfaConstructionError::NonGreedy =>
-            "a lexer can't have lazy repetitions: write `[^x]*x` for `.*?x`",
+            "a lexer can't have lazy repetitions: write `[^x]*x` for `.*?x`, and `/\\*([^*]|\\*+[^*/])*\\*+/` for `/\\*.*?\\*/`",
         NfaConstructionError::LookAround =>
             "a lexer can't have look-around, so no `^`, `$` or `\\b`: a match begins where the last one ended",
         NfaConstructionError::ByteRegex => "a lexer can't have patterns of bytes",
