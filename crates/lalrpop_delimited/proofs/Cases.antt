@@ -1,0 +1,2 @@
+-- Small cases of the definitions in specs/: Cases/X.antt has those of specs/X.antt.
+mod UpTo
