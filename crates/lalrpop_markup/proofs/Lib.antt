@@ -1,7 +1,8 @@
 mod Cases
 pub mod Characters
+-- a text, run by run
+pub mod ShownRuns
 pub mod Names
-pub mod Colours
 pub mod Places
 -- what begins and ends tags, entities and sequences
 pub mod Tags

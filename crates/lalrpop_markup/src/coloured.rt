@@ -8,9 +8,11 @@ ghost use Rattle.lalrpop_markup.specs.Internal.Colours.{AreColours};
 ghost use Rattle.lalrpop_markup.specs.Terminal.{sequence, is_hidden as is_hidden_of, sign, letter, visible, visible_in, coloured, colour_of, painted, unpainted, IsSequence};
 ghost use Rattle.lalrpop_markup.specs.Places.{EachBegins};
 
+use crate::runs::{Shows, push_shown};
 use lalrpop_lexer::lexer::dfa::NfaIndex;
 use lalrpop_rules::{Item, RuleLexer};
 use std::alloc::{AllocError, Global};
+use std::marker::Model;
 
 // The parameters of the escape sequences that end colours and begin the colour of faults.
 const RESET: &str = "0";
@@ -61,45 +63,57 @@ fn push_visible(page: &mut String, c: char) -> Result<(), AllocError>
     }
 }
 
+// The characters of a text without a colour.
+#[derive(Drop)]
+struct Uncoloured;
+
+impl Shows for Uncoloured {
+    ghost shown = { λ style c. visible c };
+
+    fn is_plain(&self, c: char) -> bool {
+        !is_hidden(c)
+    }
+
+    fn push(&self, page: &mut String, c: char) -> Result<(), AllocError> {
+        push_visible(page, c)
+    }
+}
+
+// The characters of a text in the colour with these parameters.
+#[derive(Drop)]
+struct InColour(&'static str);
+
+impl Shows for InColour {
+    ghost shown = { λ style c. visible_in style.0.now c };
+
+    fn is_plain(&self, c: char) -> bool {
+        c != '\n' && !is_hidden(c)
+    }
+
+    // No colour runs past the end of a line, since a pager that begins at the next would not show it.
+    fn push(&self, page: &mut String, c: char) -> Result<(), AllocError> {
+        if c != '\n' {
+            return push_visible(page, c);
+        }
+        push_sequence(page, RESET)?;
+        page.push('\n')?;
+        push_sequence(page, self.0)
+    }
+}
+
 fn push_plain(page: &mut String, text: &str) -> Result<(), AllocError>
     ensures { OnOk result (string_bytes page.new
         ≡ string_bytes page.old ++ flat_map visible (chars text.now)) }
 {
-    for c in text.chars() {
-        push_visible(page, c)?;
-    }
-    Ok(())
+    push_shown(page, &Uncoloured, text)
 }
 
-// One character in colour. No colour runs past the end of a line, since a pager that begins at the next would not show it.
-fn push_visible_in(page: &mut String, colour: &str, c: char) -> Result<(), AllocError>
-    ensures { OnOk result (string_bytes page.new
-        ≡ string_bytes page.old ++ visible_in colour.now c) }
-{
-    if c != '\n' {
-        return push_visible(page, c);
-    }
-    push_sequence(page, RESET)?;
-    page.push('\n')?;
-    push_sequence(page, colour)
-}
-
-fn push_characters(page: &mut String, colour: &str, text: &str) -> Result<(), AllocError>
-    ensures { OnOk result (string_bytes page.new
-        ≡ string_bytes page.old ++ flat_map (visible_in colour.now) (chars text.now)) }
-{
-    for c in text.chars() {
-        push_visible_in(page, colour, c)?;
-    }
-    Ok(())
-}
-
-fn push_coloured(page: &mut String, colour: &str, text: &str) -> Result<(), AllocError>
+fn push_coloured(page: &mut String, colour: &'static str, text: &str) -> Result<(), AllocError>
     ensures { OnOk result (string_bytes page.new
         ≡ string_bytes page.old ++ coloured colour.now text.now) }
 {
     push_sequence(page, colour)?;
-    push_characters(page, colour, text)?;
+    push_shown(page, &InColour(colour), text)?;
     push_sequence(page, RESET)
 }
 
@@ -164,27 +178,70 @@ fn colour_of_rule(
     colour
 }
 
-fn push_painted(
-    page: &mut String,
-    lexer: &RuleLexer,
-    colours: &mut [Option<&'static str>],
-    item: &Item,
-) -> Result<(), AllocError>
-    requires noted { AreColours lexer.now.names colours.old }
-    ensures painted { OnOk result (string_bytes page.new
-        ≡ string_bytes page.old ++ painted lexer.now.names item.now) }
-    ensures noted { AreColours lexer.now.names colours.new }
-{
-    match item {
-        Item::Token(token) => match lexer.name(token.index) {
-            Some(name) => {
-                let colour = colour_of_rule(colours, lexer, token.index, name);
-                push_coloured(page, colour, token.slice)
-            }
-            None => push_plain(page, token.slice),
-        },
-        Item::Skipped(token) => push_plain(page, token.slice),
-        Item::Fault { start: _, slice } => push_coloured(page, FAULT, slice),
+/// Paints the pieces of a text for a terminal, one after another, as `ansi` does, so that a page can be written while the text is
+/// cut. Contracts see a painter as the names of its rules.
+///
+/// ```
+/// use lalrpop_markup::Painter;
+///
+/// let mut painter = Painter::new(alloc, &lexer)?;
+/// let mut page = String::new(alloc);
+/// for item in lexer.items_linear(alloc, "do it")? {
+///     painter.push(&mut page, &item)?;
+/// }
+/// ```
+#[derive(Drop)]
+pub struct Painter<'rules> {
+    lexer: &'rules RuleLexer,
+    // The colour of each rule, from its first token on.
+    colours: Vec<Option<&'static str>>,
+}
+
+impl<'rules> Model for Painter<'rules> {
+    ghost use Rattle.std.specs.Prelude.{ℕ, List};
+    ghost use Rattle.lalrpop_markup.specs.Internal.Colours.{AreColours};
+
+    ghost Value = { List (List ℕ) };
+
+    ghost view = { λ p. p.lexer.now.names };
+
+    ghost invariant = { λ p. AreColours p.lexer.now.names p.colours.items };
+}
+
+impl<'rules> Painter<'rules> {
+    /// A painter of the pieces that these rules cut.
+    ///
+    /// # Errors
+    ///
+    /// `AllocError` if a request for memory was refused.
+    pub fn new(alloc: Global, lexer: &'rules RuleLexer) -> Result<Painter<'rules>, AllocError>
+        ensures names { IfOk result (λ painter. painter ≡ lexer.now.names) }
+    {
+        let colours = vec![in alloc; None; lexer.skips().len()]?;
+        Ok(Painter { lexer, colours })
+    }
+
+    /// Appends one piece of a text.
+    ///
+    /// # Errors
+    ///
+    /// `AllocError` if a request for memory was refused: part of the piece may have been appended.
+    pub fn push(&mut self, page: &mut String, item: &Item) -> Result<(), AllocError>
+        ensures painted { OnOk result (string_bytes page.new
+            ≡ string_bytes page.old ++ painted self.old item.now) }
+        ensures names { self.new ≡ self.old }
+    {
+        match item {
+            Item::Token(token) => match self.lexer.name(token.index) {
+                Some(name) => {
+                    let colour = colour_of_rule(&mut self.colours, self.lexer, token.index, name);
+                    push_coloured(page, colour, token.slice)
+                }
+                None => push_plain(page, token.slice),
+            },
+            Item::Skipped(token) => push_plain(page, token.slice),
+            Item::Fault { start: _, slice } => push_coloured(page, FAULT, slice),
+        }
     }
 }
 
@@ -208,10 +265,10 @@ pub fn ansi(alloc: Global, lexer: &RuleLexer, text: &str) -> Result<String, Allo
         → EachBegins c IsSequence (chars (string_bytes page))) }
 {
     let mut items = lexer.items_linear(alloc, text)?;
-    let mut colours = vec![in alloc; None; lexer.skips().len()]?;
+    let mut painter = Painter::new(alloc, lexer)?;
     let mut page = String::new(alloc);
     'painting: while let Some(item) = items.next() {
-        push_painted(&mut page, lexer, &mut colours, &item)?;
+        painter.push(&mut page, &item)?;
     }
     Ok(page)
 }

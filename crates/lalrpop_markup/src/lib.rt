@@ -3,6 +3,7 @@
 
 mod coloured;
 mod page;
+mod runs;
 
-pub use coloured::ansi;
-pub use page::html;
+pub use coloured::{Painter, ansi};
+pub use page::{html, push_html};

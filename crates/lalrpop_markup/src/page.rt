@@ -5,6 +5,7 @@ ghost use Rattle.lalrpop_rules.specs.declared.item.Item.{Item as ItemValue};
 ghost use Rattle.lalrpop_markup.specs.Markup.{entity, told, escaped, span, mark, marked, outside, IsTag, IsEntity};
 ghost use Rattle.lalrpop_markup.specs.Places.{EachBegins, EachEnds};
 
+use crate::runs::{Shows, push_shown};
 use lalrpop_rules::{Item, RuleLexer};
 use std::alloc::{AllocError, Global};
 
@@ -22,22 +23,30 @@ fn entity(c: char) -> Option<&'static str>
     }
 }
 
-fn push_told(page: &mut String, c: char) -> Result<(), AllocError>
-    ensures { OnOk result (string_bytes page.new ≡ string_bytes page.old ++ told c) }
-{
-    match entity(c) {
-        Some(text) => page.push_str(text),
-        None => page.push(c),
+// The characters of a text in HTML.
+#[derive(Drop)]
+struct InHtml;
+
+impl Shows for InHtml {
+    ghost shown = { λ style c. told c };
+
+    // Most characters come after the last that has an entity.
+    fn is_plain(&self, c: char) -> bool {
+        c > '>' || entity(c).is_none()
+    }
+
+    fn push(&self, page: &mut String, c: char) -> Result<(), AllocError> {
+        match entity(c) {
+            Some(text) => page.push_str(text),
+            None => page.push(c),
+        }
     }
 }
 
 fn push_escaped(page: &mut String, text: &str) -> Result<(), AllocError>
     ensures { OnOk result (string_bytes page.new ≡ string_bytes page.old ++ escaped text.now) }
 {
-    for c in text.chars() {
-        push_told(page, c)?;
-    }
-    Ok(())
+    push_shown(page, &InHtml, text)
 }
 
 fn push_span(page: &mut String, class: &str, text: &str) -> Result<(), AllocError>
@@ -59,8 +68,22 @@ fn push_mark(page: &mut String, fault: &str) -> Result<(), AllocError>
     page.push_str("</mark>")
 }
 
-fn push_item(page: &mut String, lexer: &RuleLexer, item: &Item) -> Result<(), AllocError>
-    ensures { OnOk result (string_bytes page.new
+/// Appends one piece of a text as HTML, as `html` does with each, so that a page can be written while the text is cut.
+///
+/// ```
+/// use lalrpop_markup::push_html;
+///
+/// let mut page = String::new(alloc);
+/// for item in lexer.items_linear(alloc, "do it")? {
+///     push_html(&mut page, &lexer, &item)?;
+/// }
+/// ```
+///
+/// # Errors
+///
+/// `AllocError` if a request for memory was refused: part of the piece may have been appended.
+pub fn push_html(page: &mut String, lexer: &RuleLexer, item: &Item) -> Result<(), AllocError>
+    ensures marked { OnOk result (string_bytes page.new
         ≡ string_bytes page.old ++ marked lexer.now.names item.now) }
 {
     match item {
@@ -98,7 +121,7 @@ pub fn html(alloc: Global, lexer: &RuleLexer, text: &str) -> Result<String, Allo
     let mut items = lexer.items_linear(alloc, text)?;
     let mut page = String::new(alloc);
     'marking: while let Some(item) = items.next() {
-        push_item(&mut page, lexer, &item)?;
+        push_html(&mut page, lexer, &item)?;
     }
     Ok(page)
 }

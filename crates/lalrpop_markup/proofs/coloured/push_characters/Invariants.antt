@@ -1,7 +1,0 @@
-use Rattle.std.proofs.Common.{◌≡◌, ◌++◌, flat_map, string_bytes}
-use Rattle.lalrpop_markup.specs.Terminal.{visible_in}
-use Rattle.lalrpop_markup.proofs.coloured.push_characters.Given as goal
-
--- the characters so far
-abbrev pub invariant-loop-c : goal.invariant-loop-c
-invariant-loop-c l = string_bytes l.page ≡ string_bytes l.initial.page ++ flat_map (visible_in l.colour) l.yielded
