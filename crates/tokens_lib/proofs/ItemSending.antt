@@ -1,9 +1,10 @@
--- The lines of pieces that are written part by part, and what is written when an error occurs.
-use Rattle.std.proofs.Common.{◌≡◌, ℕ, ◌+◌, ◌≤◌, false, List, [], ◌∷◌, ◌++◌, length, refl, sym, ap, subst, ◌∙◌, append_assoc, arith}
+-- The lines or the markup of pieces, written part by part, and what is written when an error occurs.
+use Rattle.std.proofs.Common.{◌≡◌, ℕ, ◌+◌, ◌≤◌, Bool, false, List, [], ◌∷◌, ◌++◌, length, refl, sym, ap, subst, ◌∙◌, append_assoc, arith}
+use Rattle.std.proofs.lemmas.Grind.{flat_map-append}
 use Rattle.std.proofs.lemmas.List.{append-nil}
 use Rattle.std.proofs.lemmas.Str.{IsCharBoundary-start}
 use Rattle.std.proofs.iter.Next.{Yields-more}
-use Rattle.std.specs.Prelude.{Option, Some, None, IfSome, IsSome}
+use Rattle.std.specs.Prelude.{Option, Some, None, IfSome, IsSome, flat_map}
 use Rattle.std.specs.Io.KnownBytes.{Appends}
 use Rattle.std.specs.Iterator.{Yields, Drains}
 use Rattle.std.specs.Str.{IsUtf8, IsCharBoundary}
@@ -16,10 +17,10 @@ use Rattle.lalrpop_rules.specs.declared.item.Item.TheVariants.{Token, Skipped, F
 use Rattle.lalrpop_rules.proofs.CallerLaws.{starts_at}
 use Rattle.lexdfa_lib.proofs.Known.{Appends-again}
 use Rattle.lexdfa_lib.specs.Watch.{AppendsPrefix}
-use Rattle.tokens_lib.specs.ItemLines.{item_line, item_lines, first_fault, AreCut, WritesItemsPrefix}
+use Rattle.tokens_lib.specs.ItemLines.{item_line, item_lines, first_fault, AreCut}
 use Rattle.tokens_lib.specs.Internal.Faults.{first_with}
 use Rattle.tokens_lib.specs.declared.layout.Layout.{Layout}
-use Rattle.tokens_lib.proofs.PieceLines.{AreFirst, firsts_of, rest_begins, begin_so, cut_to_fault, cut-exists, no_line, first_more, lines_more}
+use Rattle.tokens_lib.proofs.PieceLines.{AreFirst, firsts_of, rest_begins, cut_goes_on, cut_to_fault, no_line, first_more, bytes_more}
 use Rattle.lines_lib.proofs.Sending.{Appends-none, AppendsPrefix-behind, AppendsPrefix-front}
 
 -- ---- from the start
@@ -73,49 +74,55 @@ first_is old new ys x is e = e ∙ ap (λ (o : Option ℕ). first_with o x) is �
 
 -- ---- what was written
 
-pub sent_nothing : (rules : RuleSet) (layout : Layout) (text : List ℕ) (a : Option (List ℕ)) → NoClash rules.trees rules.precedences → IsUtf8 text
-    → WritesItemsPrefix rules layout text a a
-sent_nothing rules layout text a clear u =
-    let cut = cut-exists layout.recovers rules text clear u in
-    (cut.0, (cut.1, AppendsPrefix-front a a [] (item_lines layout rules.names text cut.0) (Appends-none a)))
+-- a writer took a prefix of these bytes of the pieces that are cut
+abbrev pub TakesPrefix : RuleSet → Bool → (Item → List ℕ) → List ℕ → Option (List ℕ) → Option (List ℕ) → Type 0
+TakesPrefix rules recovers f text held held_now = (xs : List Item) × (AreCut recovers rules text xs × AppendsPrefix held held_now (flat_map f xs))
 
-pub sent_so_far : (rules : RuleSet) (layout : Layout) (text : List ℕ) (ys : List Item) (sent kept : List ℕ) (a b : Option (List ℕ))
-    → NoClash rules.trees rules.precedences → IsUtf8 text
-    → AreFirst rules.trees rules.precedences rules.skips text 0 ys → (layout.recovers ≡ false → first_fault ys ≡ None)
-    → sent ++ kept ≡ item_lines layout rules.names text ys → Appends a b sent → WritesItemsPrefix rules layout text a b
-sent_so_far rules layout text ys sent kept a b clear u f none are h =
-    let cut = cut-exists layout.recovers rules text clear u in
-    let all = begin_so rules layout text ys f none cut.0 cut.1 in
-    let lines : item_lines layout rules.names text cut.0 ≡ sent ++ (kept ++ all.0) = all.1 ∙ ap (λ (l : List ℕ). l ++ all.0) (sym are) ∙ append_assoc sent kept all.0 in
-    (cut.0, (cut.1, subst (AppendsPrefix a b) (sym lines) (AppendsPrefix-front a b sent (kept ++ all.0) h)))
+bytes_later : (f : Item → List ℕ) (ys zs : List Item) (sent kept : List ℕ) → sent ++ kept ≡ flat_map f ys → flat_map f (ys ++ zs) ≡ sent ++ (kept ++ flat_map f zs)
+bytes_later f ys zs sent kept are = flat_map-append f ys zs ∙ ap (λ (l : List ℕ). l ++ flat_map f zs) (sym are) ∙ append_assoc sent kept (flat_map f zs)
 
-pub sent_in_part : (rules : RuleSet) (layout : Layout) (text : List ℕ) (ys : List Item) (sent kept bytes : List ℕ) (a b c : Option (List ℕ))
-    → NoClash rules.trees rules.precedences → IsUtf8 text
-    → AreFirst rules.trees rules.precedences rules.skips text 0 ys → (layout.recovers ≡ false → first_fault ys ≡ None)
-    → sent ++ kept ≡ item_lines layout rules.names text ys → Appends a b sent → bytes ≡ kept → AppendsPrefix b c bytes → WritesItemsPrefix rules layout text a c
-sent_in_part rules layout text ys sent kept bytes a b c clear u f none are h same k =
-    let cut = cut-exists layout.recovers rules text clear u in
-    let all = begin_so rules layout text ys f none cut.0 cut.1 in
-    let lines : item_lines layout rules.names text cut.0 ≡ sent ++ (kept ++ all.0) = all.1 ∙ ap (λ (l : List ℕ). l ++ all.0) (sym are) ∙ append_assoc sent kept all.0 in
-    (cut.0, (cut.1, subst (AppendsPrefix a c) (sym lines) (AppendsPrefix-behind a b c sent kept all.0 h (subst (AppendsPrefix b c) same k))))
+module _ (rules : RuleSet) (recovers : Bool) (f : Item → List ℕ) (text : List ℕ) (clear : NoClash rules.trees rules.precedences) (u : IsUtf8 text) where
+  pub sent_so_far : (ys : List Item) (sent kept : List ℕ) (a b : Option (List ℕ)) → AreFirst rules.trees rules.precedences rules.skips text 0 ys
+      → (recovers ≡ false → first_fault ys ≡ None) → sent ++ kept ≡ flat_map f ys → Appends a b sent → TakesPrefix rules recovers f text a b
+  sent_so_far ys sent kept a b first none are h =
+      let cut = cut_goes_on recovers rules text ys clear u first none in
+      (ys ++ cut.0, (cut.1, subst (AppendsPrefix a b) (sym (bytes_later f ys cut.0 sent kept are)) (AppendsPrefix-front a b sent (kept ++ flat_map f cut.0) h)))
+
+  pub sent_nothing : (a : Option (List ℕ)) → TakesPrefix rules recovers f text a a
+  sent_nothing a = sent_so_far [] [] [] a a tt (λ _. refl) refl (Appends-none a)
+
+  pub sent_in_part : (ys : List Item) (sent kept bytes : List ℕ) (a b c : Option (List ℕ)) → AreFirst rules.trees rules.precedences rules.skips text 0 ys
+      → (recovers ≡ false → first_fault ys ≡ None) → sent ++ kept ≡ flat_map f ys → Appends a b sent → bytes ≡ kept → AppendsPrefix b c bytes
+      → TakesPrefix rules recovers f text a c
+  sent_in_part ys sent kept bytes a b c first none are h same k =
+      let cut = cut_goes_on recovers rules text ys clear u first none in (
+        ys ++ cut.0,
+        (
+          cut.1,
+          subst (AppendsPrefix a c) (sym (bytes_later f ys cut.0 sent kept are)) (AppendsPrefix-behind a b c sent kept (flat_map f cut.0) h (subst (AppendsPrefix b c) same k)),
+        ),
+      )
 
 pub sent_whole : (sent kept bytes lines : List ℕ) (a b c : Option (List ℕ)) → sent ++ kept ≡ lines → Appends a b sent → bytes ≡ kept → Appends b c bytes → Appends a c lines
 sent_whole sent kept bytes lines a b c are h same k =
     subst (Appends a c) (ap (λ (l : List ℕ). sent ++ l) same ∙ are) (Appends-again a b c sent bytes h k)
 
--- the lines with one more piece, of which some are passed on
-pub kept_on : (layout : Layout) (names : List (List ℕ)) (text placed : List ℕ) (ys : List Item) (x : Item) (sent old pushed more now : List ℕ)
-    → sent ++ old ≡ item_lines layout names text ys → placed ≡ text → pushed ≡ old ++ item_line layout names placed x → pushed ≡ more ++ now
-    → (sent ++ more) ++ now ≡ item_lines layout names text (ys ++ x ∷ [])
-kept_on layout names text placed ys x sent old pushed more now are p e k =
-    append_assoc sent more now ∙ ap (λ (l : List ℕ). sent ++ l) (sym k ∙ e ∙ ap (λ (t : List ℕ). old ++ item_line layout names t x) p)
-    ∙ sym (append_assoc sent old (item_line layout names text x)) ∙ ap (λ (l : List ℕ). l ++ item_line layout names text x) are ∙ sym (lines_more layout names text ys x)
+-- the line of one more piece
+pub line_of : (layout : Layout) (names : List (List ℕ)) (text placed : List ℕ) (x : Item) (old pushed : List ℕ) → placed ≡ text
+    → pushed ≡ old ++ item_line layout names placed x → pushed ≡ old ++ item_line layout names text x
+line_of layout names text placed x old pushed p e = e ∙ ap (λ (t : List ℕ). old ++ item_line layout names t x) p
 
-pub kept_all : (layout : Layout) (names : List (List ℕ)) (text placed : List ℕ) (ys : List Item) (x : Item) (sent old pushed : List ℕ)
-    → sent ++ old ≡ item_lines layout names text ys → placed ≡ text → pushed ≡ old ++ item_line layout names placed x
-    → sent ++ pushed ≡ item_lines layout names text (ys ++ x ∷ [])
-kept_all layout names text placed ys x sent old pushed are p e =
-    ap (λ (l : List ℕ). l ++ pushed) (sym (append-nil sent)) ∙ kept_on layout names text placed ys x sent old pushed [] pushed are p e refl
+-- the bytes with one more piece
+pub kept_all : (f : Item → List ℕ) (ys : List Item) (x : Item) (sent old pushed : List ℕ) → sent ++ old ≡ flat_map f ys → pushed ≡ old ++ f x
+    → sent ++ pushed ≡ flat_map f (ys ++ x ∷ [])
+kept_all f ys x sent old pushed are e =
+    ap (λ (l : List ℕ). sent ++ l) e ∙ sym (append_assoc sent old (f x)) ∙ ap (λ (l : List ℕ). l ++ f x) are ∙ sym (bytes_more f ys x)
+
+-- of which some are passed on
+pub kept_on : (f : Item → List ℕ) (ys : List Item) (x : Item) (sent old pushed more now : List ℕ) → sent ++ old ≡ flat_map f ys → pushed ≡ old ++ f x
+    → pushed ≡ more ++ now → (sent ++ more) ++ now ≡ flat_map f (ys ++ x ∷ [])
+kept_on f ys x sent old pushed more now are e k =
+    append_assoc sent more now ∙ ap (λ (l : List ℕ). sent ++ l) (sym k) ∙ kept_all f ys x sent old pushed are e
 
 -- ---- a fault where cutting ends
 
@@ -130,5 +137,5 @@ up_to_it rules layout text ys x old new lines f is none e ends are =
     let here : first_with None x ≡ Some found.0 = ap (λ (o : Option ℕ). first_with o x) (sym nothing) ∙ sym e ∙ found.1 in (
       cut_to_fault layout.recovers rules text found.0 ys x ends.1 f (sym is ∙ nothing) here,
       are ∙ sym (append-nil (item_lines layout rules.names text ys)) ∙ ap (λ (l : List ℕ). item_lines layout rules.names text ys ++ l) (sym (no_line layout rules.names text found.0 x ends.1 here))
-          ∙ sym (lines_more layout rules.names text ys x),
+          ∙ sym (bytes_more (item_line layout rules.names text) ys x),
     )

@@ -1,9 +1,9 @@
--- The first pieces of a text, as the calls of `next` return them, and their lines: any list of all pieces begins with the same lines.
-use Rattle.std.proofs.Common.{◌≡◌, ◌≢◌, ℕ, ◌+◌, Bool, true, false, List, [], ◌∷◌, ◌++◌, length, drop, refl, sym, ap, subst, ◌∙◌, append_assoc, arith, length-append}
+-- The first pieces of a text, as the calls of `next` return them: they go on to all pieces.
+use Rattle.std.proofs.Common.{◌≡◌, ◌≢◌, ℕ, ◌+◌, Bool, true, false, List, [], ◌∷◌, ◌++◌, length, drop, refl, sym, ap, subst, ◌∙◌, arith, length-append}
 use Rattle.std.proofs.lemmas.Grind.{flat_map-append}
 use Rattle.std.proofs.lemmas.List.{append-nil}
 use Rattle.std.proofs.lemmas.Str.{IsUtf8-drop}
-use Rattle.std.specs.Prelude.{Option, Some, None, option_map}
+use Rattle.std.specs.Prelude.{Option, Some, None, option_map, flat_map}
 use Rattle.std.specs.Iterator.{Yields}
 use Rattle.std.specs.Str.{IsUtf8, IsCharBoundary}
 use Rattle.lalrpop_book.specs.Clash.{NoClash}
@@ -13,7 +13,7 @@ use Rattle.lalrpop_book.specs.declared.token.Token.{Token as Cut}
 use Rattle.lalrpop_book.proofs.LastFaults.{end_behind}
 use Rattle.lalrpop_book.proofs.Longests.{longest-unique}
 use Rattle.lalrpop_rules.specs.CutToEnd.{CutToEnd, GivesPiece}
-use Rattle.lalrpop_rules.specs.Pieces.{IsFault, IsPiece, ArePieces, IsSkipped, slice_of}
+use Rattle.lalrpop_rules.specs.Pieces.{IsFault, IsPiece, ArePieces, slice_of}
 use Rattle.lalrpop_rules.specs.RuleSet.{RuleSet}
 use Rattle.lalrpop_rules.specs.declared.item.Item.{Item}
 use Rattle.lalrpop_rules.specs.declared.item.Item.TheVariants.{Token, Skipped, Fault}
@@ -23,7 +23,7 @@ use Rattle.lalrpop_rules.proofs.PieceLaws.{is_front, is_some}
 use Rattle.lalrpop_rules.proofs.PiecesExist.{pieces-exist}
 use Rattle.lalrpop_rules.proofs.UniquePieces.{same_fault}
 use Rattle.lines_lib.proofs.FirstTokens.{same_parts}
-use Rattle.tokens_lib.specs.ItemLines.{line_at, fault_line, item_line, item_lines, name_at, AreUpToFault, AreCut, first_fault}
+use Rattle.tokens_lib.specs.ItemLines.{fault_line, item_line, AreUpToFault, AreCut, first_fault}
 use Rattle.tokens_lib.specs.Internal.Faults.{first_with}
 use Rattle.tokens_lib.specs.declared.layout.Layout.{Layout}
 
@@ -47,109 +47,38 @@ same_match ts ps rest x y a b = same_parts x.index y.index x.slice.now y.slice.n
 pub no_fault_here : (ts : List Tree) (ps rest slice : List ℕ) (x : Cut) → IsLongest ts ps rest (Some (x.index, x.slice.now)) → IsFault ts rest slice → ⊥
 no_fault_here ts ps rest slice x a f = f.nothing 0 (some_length slice f.some) (x.slice.now, a.0)
 
--- pieces at one place have one line, and end at one place
-pub same_piece : (layout : Layout) (names : List (List ℕ)) (ts : List Tree) (ps : List ℕ) (skips : List Bool) (text : List ℕ) (at : ℕ) (x y : Item)
-    → IsPiece ts ps skips text at x → IsPiece ts ps skips text at y → (item_line layout names text x ≡ item_line layout names text y) × (slice_of x ≡ slice_of y)
-same_piece layout names ts ps skips text at (Token x) (Token y) a b =
-    let same = same_match ts ps (drop at text) x y a.0.1 b.0.1 in
-    let start : x.start ≡ y.start = a.0.0 ∙ sym b.0.0 in (
-      ap (λ s. line_at layout.form (option_map (λ f. f.now) layout.file) text s (Some (name_at names x.index)) x.slice.now) start
-          ∙ ap (λ i. line_at layout.form (option_map (λ f. f.now) layout.file) text y.start (Some (name_at names i)) x.slice.now) same.0
-          ∙ ap (λ (l : List ℕ). line_at layout.form (option_map (λ f. f.now) layout.file) text y.start (Some (name_at names y.index)) l) same.1,
-      same.1,
-    )
-same_piece layout names ts ps skips text at (Token x) (Skipped y) a b =
-    let same = same_match ts ps (drop at text) x y a.0.1 b.0.1 in absurd (a.1 (subst (λ i. IsSkipped skips i) (sym same.0) b.1))
-same_piece layout names ts ps skips text at (Token x) (Fault start slice) a b = absurd (no_fault_here ts ps (drop at text) slice.now x a.0.1 b.1)
-same_piece layout names ts ps skips text at (Skipped x) (Token y) a b =
-    let same = same_match ts ps (drop at text) x y a.0.1 b.0.1 in absurd (b.1 (subst (λ i. IsSkipped skips i) same.0 a.1))
-same_piece layout names ts ps skips text at (Skipped x) (Skipped y) a b = (refl, (same_match ts ps (drop at text) x y a.0.1 b.0.1).1)
-same_piece layout names ts ps skips text at (Skipped x) (Fault start slice) a b = absurd (no_fault_here ts ps (drop at text) slice.now x a.0.1 b.1)
-same_piece layout names ts ps skips text at (Fault start slice) (Token y) a b = absurd (no_fault_here ts ps (drop at text) slice.now y b.0.1 a.1)
-same_piece layout names ts ps skips text at (Fault start slice) (Skipped y) a b = absurd (no_fault_here ts ps (drop at text) slice.now y b.0.1 a.1)
-same_piece layout names ts ps skips text at (Fault start slice) (Fault start2 slice2) a b =
-    let same : slice.now ≡ slice2.now = same_fault ts (drop at text) slice.now slice2.now a.1 b.1 in (
-      ap (λ s. fault_line layout.recovers layout.form (option_map (λ f. f.now) layout.file) text s slice.now) (a.0 ∙ sym b.0) ∙ ap (λ (l : List ℕ). fault_line layout.recovers layout.form (option_map (λ f. f.now) layout.file) text start2 l) same,
-      same,
-    )
+-- pieces at one place end at one place
+same_slice : (ts : List Tree) (ps : List ℕ) (skips : List Bool) (text : List ℕ) (at : ℕ) (x y : Item) → IsPiece ts ps skips text at x → IsPiece ts ps skips text at y
+    → slice_of x ≡ slice_of y
+same_slice ts ps skips text at (Token x) (Token y) a b = (same_match ts ps (drop at text) x y a.0.1 b.0.1).1
+same_slice ts ps skips text at (Token x) (Skipped y) a b = (same_match ts ps (drop at text) x y a.0.1 b.0.1).1
+same_slice ts ps skips text at (Token x) (Fault start slice) a b = absurd (no_fault_here ts ps (drop at text) slice.now x a.0.1 b.1)
+same_slice ts ps skips text at (Skipped x) (Token y) a b = (same_match ts ps (drop at text) x y a.0.1 b.0.1).1
+same_slice ts ps skips text at (Skipped x) (Skipped y) a b = (same_match ts ps (drop at text) x y a.0.1 b.0.1).1
+same_slice ts ps skips text at (Skipped x) (Fault start slice) a b = absurd (no_fault_here ts ps (drop at text) slice.now x a.0.1 b.1)
+same_slice ts ps skips text at (Fault start slice) (Token y) a b = absurd (no_fault_here ts ps (drop at text) slice.now y b.0.1 a.1)
+same_slice ts ps skips text at (Fault start slice) (Skipped y) a b = absurd (no_fault_here ts ps (drop at text) slice.now y b.0.1 a.1)
+same_slice ts ps skips text at (Fault start slice) (Fault start2 slice2) a b = same_fault ts (drop at text) slice.now slice2.now a.1 b.1
 
--- ---- the lines of first pieces begin the lines of all
+-- ---- first pieces go on to all pieces
 
 pub piece_left : (ts : List Tree) (ps : List ℕ) (skips : List Bool) (text : List ℕ) (at : ℕ) (y : Item) → IsPiece ts ps skips text at y → drop at text ≢ []
 piece_left ts ps skips text at y is none =
     let front = is_front ts ps skips text at y is in
     omega (arith, some_length (slice_of y) (is_some ts ps skips text at y is), ap length front.1.0, length-append (slice_of y) front.0, ap length none)
 
--- one more piece in front
-in_front : (layout : Layout) (names : List (List ℕ)) (text : List ℕ) (x y : Item) (xs ys : List Item) → item_line layout names text x ≡ item_line layout names text y
-    → (more : List ℕ) × (item_lines layout names text xs ≡ item_lines layout names text ys ++ more)
-    → (more : List ℕ) × (item_lines layout names text (x ∷ xs) ≡ item_lines layout names text (y ∷ ys) ++ more)
-in_front layout names text x y xs ys same (more, rest) = (
-  more,
-  ap (λ l. l ++ item_lines layout names text xs) same ∙ ap (λ l. item_line layout names text y ++ l) rest
-      ∙ sym (append_assoc (item_line layout names text y) (item_lines layout names text ys) more),
-)
+goes_on : (ts : List Tree) (ps : List ℕ) (skips : List Bool) (text : List ℕ) (at : ℕ) (ys xs : List Item) → AreFirst ts ps skips text at ys → ArePieces ts ps skips text at xs
+    → (zs : List Item) × ArePieces ts ps skips text at (ys ++ zs)
+goes_on ts ps skips text at [] xs f a = (xs, a)
+goes_on ts ps skips text at (y ∷ ys) [] f a = absurd (piece_left ts ps skips text at y f.0 a)
+goes_on ts ps skips text at (y ∷ ys) (x ∷ xs) f a =
+    let same = same_slice ts ps skips text at x y a.0 f.0 in
+    let there : ArePieces ts ps skips text (at + length (slice_of y)) xs = subst (λ (l : List ℕ). ArePieces ts ps skips text (at + length l) xs) same a.1 in
+    let rest = goes_on ts ps skips text (at + length (slice_of y)) ys xs f.1 there in
+    (rest.0, (f.0, rest.1))
 
-begins_all : (layout : Layout) (names : List (List ℕ)) (ts : List Tree) (ps : List ℕ) (skips : List Bool) (text : List ℕ) (at : ℕ) (ys xs : List Item)
-    → AreFirst ts ps skips text at ys → ArePieces ts ps skips text at xs
-    → (more : List ℕ) × (item_lines layout names text xs ≡ item_lines layout names text ys ++ more)
-begins_all layout names ts ps skips text at [] xs f a = (item_lines layout names text xs, refl)
-begins_all layout names ts ps skips text at (y ∷ ys) [] f a = absurd (piece_left ts ps skips text at y f.0 a)
-begins_all layout names ts ps skips text at (y ∷ ys) (x ∷ xs) f a =
-    let same = same_piece layout names ts ps skips text at x y a.0 f.0 in
-    let there : ArePieces ts ps skips text (at + length (slice_of y)) xs = subst (λ (l : List ℕ). ArePieces ts ps skips text (at + length l) xs) same.1 a.1 in
-    in_front layout names text x y xs ys same.0 (begins_all layout names ts ps skips text (at + length (slice_of y)) ys xs f.1 there)
-
--- no fault is among these, so all begin with a token or a skipped piece
 no_fault_first : (n : ℕ) → ◌≡◌ {A = Option ℕ} (Some n) None → ⊥
 no_fault_first n e = absurd (cc)
-
-no_other : (ts : List Tree) (ps : List ℕ) (skips : List Bool) (text : List ℕ) (at n : ℕ) (y x : Item) (ys : List Item) → IsPiece ts ps skips text at y → IsPiece ts ps skips text at x
-    → first_with None x ≡ Some n → first_fault (y ∷ ys) ≡ None → ⊥
-no_other ts ps skips text at n (Fault start slice) x ys a b e none = no_fault_first start none
-no_other ts ps skips text at n (Token y) (Token x) ys a b e none = no_fault_first n (sym e)
-no_other ts ps skips text at n (Token y) (Skipped x) ys a b e none = no_fault_first n (sym e)
-no_other ts ps skips text at n (Token y) (Fault start slice) ys a b e none = no_fault_here ts ps (drop at text) slice.now y a.0.1 b.1
-no_other ts ps skips text at n (Skipped y) (Token x) ys a b e none = no_fault_first n (sym e)
-no_other ts ps skips text at n (Skipped y) (Skipped x) ys a b e none = no_fault_first n (sym e)
-no_other ts ps skips text at n (Skipped y) (Fault start slice) ys a b e none = no_fault_here ts ps (drop at text) slice.now y a.0.1 b.1
-
-fault_behind : (y : Item) (ys : List Item) → first_fault (y ∷ ys) ≡ None → first_fault ys ≡ None
-fault_behind (Token y) ys none = none
-fault_behind (Skipped y) ys none = none
-fault_behind (Fault start slice) ys none = absurd (no_fault_first start none)
-
-begins_up_to_fault : (layout : Layout) (names : List (List ℕ)) (ts : List Tree) (ps : List ℕ) (skips : List Bool) (text : List ℕ) (at : ℕ) (ys xs : List Item)
-    → AreFirst ts ps skips text at ys → first_fault ys ≡ None → AreUpToFault ts ps skips text at xs
-    → (more : List ℕ) × (item_lines layout names text xs ≡ item_lines layout names text ys ++ more)
-begins_up_to_fault layout names ts ps skips text at [] xs f none a = (item_lines layout names text xs, refl)
-begins_up_to_fault layout names ts ps skips text at (y ∷ ys) [] f none a = absurd (piece_left ts ps skips text at y f.0 a)
-begins_up_to_fault layout names ts ps skips text at (y ∷ ys) (Fault start slice ∷ xs) f none a =
-    absurd (no_other ts ps skips text at start y (Fault start slice) ys f.0 a.0 refl none)
-begins_up_to_fault layout names ts ps skips text at (y ∷ ys) (Token x ∷ xs) f none a =
-    let same = same_piece layout names ts ps skips text at (Token x) y a.0 f.0 in
-    let there : AreUpToFault ts ps skips text (at + length (slice_of y)) xs = subst (λ (l : List ℕ). AreUpToFault ts ps skips text (at + length l) xs) same.1 a.1 in
-    in_front layout names text (Token x) y xs ys same.0
-    (begins_up_to_fault layout names ts ps skips text (at + length (slice_of y)) ys xs f.1 (fault_behind y ys none) there)
-begins_up_to_fault layout names ts ps skips text at (y ∷ ys) (Skipped x ∷ xs) f none a =
-    let same = same_piece layout names ts ps skips text at (Skipped x) y a.0 f.0 in
-    let there : AreUpToFault ts ps skips text (at + length (slice_of y)) xs = subst (λ (l : List ℕ). AreUpToFault ts ps skips text (at + length l) xs) same.1 a.1 in
-    in_front layout names text (Skipped x) y xs ys same.0
-    (begins_up_to_fault layout names ts ps skips text (at + length (slice_of y)) ys xs f.1 (fault_behind y ys none) there)
-
--- these lines begin whatever is written for the text
-abbrev pub Begins : RuleSet → Layout → List ℕ → List ℕ → Type 0
-Begins rules layout text lines =
-    (xs : List Item) → AreCut layout.recovers rules text xs → (more : List ℕ) × (item_lines layout rules.names text xs ≡ lines ++ more)
-
-pub begin_so : (rules : RuleSet) (layout : Layout) (text : List ℕ) (ys : List Item) → AreFirst rules.trees rules.precedences rules.skips text 0 ys
-    → (layout.recovers ≡ false → first_fault ys ≡ None) → Begins rules layout text (item_lines layout rules.names text ys)
-begin_so rules layout text ys f none xs are = by_kind layout.recovers refl are
-  where
-    by_kind : (b : Bool) → layout.recovers ≡ b → AreCut b rules text xs
-        → (more : List ℕ) × (item_lines layout rules.names text xs ≡ item_lines layout rules.names text ys ++ more)
-    by_kind true is a = begins_all layout rules.names rules.trees rules.precedences rules.skips text 0 ys xs f a
-    by_kind false is a = begins_up_to_fault layout rules.names rules.trees rules.precedences rules.skips text 0 ys xs f (none is) a
 
 -- ---- the pieces that are cut
 
@@ -193,12 +122,28 @@ up_to_first ts ps skips text at (Skipped x ∷ xs) are =
     let others = up_to_first ts ps skips text (at + length x.slice.now) xs are.1 in
     (Skipped x ∷ others.0, (are.0, others.1))
 
--- where no word is ambiguous, there are pieces that are cut
-pub cut-exists : (b : Bool) (rules : RuleSet) (text : List ℕ) → NoClash rules.trees rules.precedences → IsUtf8 text → (xs : List Item) × AreCut b rules text xs
-cut-exists true rules text clear u = pieces-exist rules.trees rules.precedences rules.skips text clear u
-cut-exists false rules text clear u =
+-- first pieces with no fault go on to those
+up_to_later : (ts : List Tree) (ps : List ℕ) (skips : List Bool) (text : List ℕ) (at : ℕ) (ys zs : List Item) → ArePieces ts ps skips text at (ys ++ zs)
+    → first_fault ys ≡ None → (ws : List Item) × AreUpToFault ts ps skips text at (ys ++ ws)
+up_to_later ts ps skips text at [] zs are none = up_to_first ts ps skips text at zs are
+up_to_later ts ps skips text at (Token y ∷ ys) zs are none =
+    let others = up_to_later ts ps skips text (at + length y.slice.now) ys zs are.1 none in
+    (others.0, (are.0, others.1))
+up_to_later ts ps skips text at (Skipped y ∷ ys) zs are none =
+    let others = up_to_later ts ps skips text (at + length y.slice.now) ys zs are.1 none in
+    (others.0, (are.0, others.1))
+up_to_later ts ps skips text at (Fault start slice ∷ ys) zs are none = absurd (no_fault_first start none)
+
+-- where no word is ambiguous, first pieces go on to the pieces that are cut
+pub cut_goes_on : (b : Bool) (rules : RuleSet) (text : List ℕ) (ys : List Item) → NoClash rules.trees rules.precedences → IsUtf8 text
+    → AreFirst rules.trees rules.precedences rules.skips text 0 ys → (b ≡ false → first_fault ys ≡ None) → (zs : List Item) × AreCut b rules text (ys ++ zs)
+cut_goes_on true rules text ys clear u f none =
     let all = pieces-exist rules.trees rules.precedences rules.skips text clear u in
-    up_to_first rules.trees rules.precedences rules.skips text 0 all.0 all.1
+    goes_on rules.trees rules.precedences rules.skips text 0 ys all.0 f all.1
+cut_goes_on false rules text ys clear u f none =
+    let all = pieces-exist rules.trees rules.precedences rules.skips text clear u in
+    let later = goes_on rules.trees rules.precedences rules.skips text 0 ys all.0 f all.1 in
+    up_to_later rules.trees rules.precedences rules.skips text 0 ys later.0 later.1 (none refl)
 
 -- a fault where cutting ends has no line
 pub no_line : (layout : Layout) (names : List (List ℕ)) (text : List ℕ) (n : ℕ) (x : Item) → layout.recovers ≡ false → first_with None x ≡ Some n
@@ -217,10 +162,8 @@ first_more (Token y ∷ ys) x = first_more ys x
 first_more (Skipped y ∷ ys) x = first_more ys x
 first_more (Fault start slice ∷ ys) x = refl
 
-pub lines_more : (layout : Layout) (names : List (List ℕ)) (text : List ℕ) (ys : List Item) (x : Item)
-    → item_lines layout names text (ys ++ x ∷ []) ≡ item_lines layout names text ys ++ item_line layout names text x
-lines_more layout names text ys x =
-    flat_map-append (item_line layout names text) ys (x ∷ []) ∙ ap (λ l. item_lines layout names text ys ++ l) (append-nil (item_line layout names text x))
+pub bytes_more : (f : Item → List ℕ) (ys : List Item) (x : Item) → flat_map f (ys ++ x ∷ []) ≡ flat_map f ys ++ f x
+bytes_more f ys x = flat_map-append f ys (x ∷ []) ∙ ap (λ l. flat_map f ys ++ l) (append-nil (f x))
 
 -- ---- places
 

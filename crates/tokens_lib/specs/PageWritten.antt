@@ -12,10 +12,14 @@ use Rattle.tokens_lib.specs.ItemLines.{first_fault}
 use Rattle.tokens_lib.specs.declared.command.Markup.{Markup}
 use Rattle.tokens_lib.specs.declared.command.Markup.TheVariants.{Html, Ansi}
 
--- the pieces as HTML, or in colours for a terminal, one after another
+-- a piece as HTML, or in colours for a terminal
+abbrev pub piece_in : Markup → List (List ℕ) → Item → List ℕ
+piece_in Html = marked
+piece_in Ansi = painted
+
+-- the pieces, one after another
 abbrev pub page_of : Markup → List (List ℕ) → List Item → List ℕ
-page_of Html names xs = flat_map (marked names) xs
-page_of Ansi names xs = flat_map (painted names) xs
+page_of markup names xs = flat_map (piece_in markup names) xs
 
 -- a writer took exactly the page of all pieces of the text, and the first fault begins here
 abbrev pub WritesPage : RuleSet → Markup → List ℕ → Option (List ℕ) → Option (List ℕ) → Option ℕ → Type 0

@@ -18,8 +18,8 @@ use lexdfa_lib::{RunError, Watched, write_whole};
 use std::alloc::{AllocError, Global};
 use std::io::Write;
 
-// Lines are written once they have this many bytes.
-const CHUNK: usize = 65536;
+/// Lines or markup are written once they have this many bytes.
+pub(crate) const CHUNK: usize = 65536;
 
 fn push_line(
     alloc: Global,
@@ -103,8 +103,8 @@ fn pass_on<W: Write>(lines: &mut Vec<u8>, writer: &mut Watched<W>) -> Result<(),
     Ok(())
 }
 
-// Where the first fault begins, after one more piece.
-fn first_fault_with(first: Option<usize>, item: &Item<'_>) -> Option<usize>
+/// Where the first fault begins, after one more piece.
+pub(crate) fn first_fault_with(first: Option<usize>, item: &Item<'_>) -> Option<usize>
     ensures { result ≡ first_with first item.now }
 {
     match (first, item) {

@@ -1,59 +1,66 @@
-//! The markup of a text, and where its first fault begins.
-ghost use Rattle.std.specs.Prelude.{◌≡◌, ◌≢◌, List, false, true, string_bytes, IfOk, IfSome, OnOk, IfErr};
+//! The markup of a text, written as it comes.
+ghost use Rattle.std.specs.Prelude.{◌≡◌, ◌≢◌, ◌++◌, ℕ, List, false, true, string_bytes, IfOk, IfSome, OnOk, OnErr, IfErr};
+ghost use Rattle.std.specs.Io.KnownBytes.{Appends};
 ghost use Rattle.std.specs.Str.{IsCharBoundary};
-ghost use Rattle.lalrpop_rules.specs.Pieces.{ArePieces};
-ghost use Rattle.lalrpop_rules.specs.declared.item.Item.{Item as ItemValue};
-ghost use Rattle.tokens_lib.specs.ItemLines.{first_fault};
-ghost use Rattle.tokens_lib.specs.PageWritten.{page_of, WritesPage, WritesPagePrefix};
+ghost use Rattle.lexdfa_lib.specs.Watch.{AppendsPrefix};
+ghost use Rattle.tokens_lib.specs.PageWritten.{piece_in, WritesPage, WritesPagePrefix};
 
 use crate::command::Markup;
-use lalrpop_markup::{ansi, html};
+use crate::item_lines::{CHUNK, first_fault_with};
+use lalrpop_markup::{Painter, push_html};
 use lalrpop_rules::{Item, RuleLexer};
 use lexdfa_lib::{RunError, Watched, write_whole};
 use std::alloc::{AllocError, Global};
 use std::io::Write;
 
-fn page_of(
-    alloc: Global,
+// The markup of a piece.
+fn push_piece(
+    page: &mut String,
     lexer: &RuleLexer,
+    painter: &mut Painter<'_>,
     markup: Markup,
-    text: &str,
-) -> Result<String, AllocError>
-    ensures { IfOk result (λ page. (xs : List ItemValue)
-        × (ArePieces lexer.now.trees lexer.now.precedences lexer.now.skips text.now 0 xs
-        × (string_bytes page ≡ page_of markup lexer.now.names xs))) }
+    item: &Item<'_>,
+) -> Result<(), AllocError>
+    requires rules { painter.old ≡ lexer.now.names }
+    ensures piece { OnOk result (string_bytes page.new
+        ≡ string_bytes page.old ++ piece_in markup lexer.now.names item.now) }
+    ensures rules { painter.new ≡ painter.old }
 {
     match markup {
-        Markup::Html => html(alloc, lexer, text),
-        Markup::Ansi => ansi(alloc, lexer, text),
+        Markup::Html => push_html(page, lexer, item),
+        Markup::Ansi => painter.push(page, item),
     }
 }
 
-// Where the first fault of the text begins.
-fn first_fault_in(alloc: Global, lexer: &RuleLexer, text: &str) -> Result<Option<usize>, AllocError>
-    ensures first { IfOk result (λ fault. (xs : List ItemValue)
-        → ArePieces lexer.now.trees lexer.now.precedences lexer.now.skips text.now 0 xs
-        → fault ≡ first_fault xs) }
-    ensures boundary { IfOk result (λ fault. IfSome fault (IsCharBoundary text.now)) }
+// Writes and clears the page if it fills a chunk.
+fn pass_on<W: Write>(page: &mut String, writer: &mut Watched<W>) -> Result<(), RunError>
+    requires writer_good { writer.old.failed ≡ false }
+    ensures passed { OnOk result ((sent : List ℕ)
+        × (Appends (W.contents writer.old.inner) (W.contents writer.new.inner) sent
+        × (string_bytes page.old ≡ sent ++ string_bytes page.new))) }
+    ensures good { OnOk result (writer.new.failed ≡ false) }
+    ensures prefix { OnErr result (AppendsPrefix (W.contents writer.old.inner)
+        (W.contents writer.new.inner) (string_bytes page.old)) }
+    ensures failed { OnErr result (writer.new.failed ≡ true) }
+    ensures write { IfErr result (λ e. e ≡ RunError.Write) }
+    ensures no_late_write { writer.new.late ≡ writer.old.late }
 {
-    let mut items = lexer.items_linear(alloc, text)?;
-    'seeking: while let Some(item) = items.next() {
-        if let Item::Fault { start, .. } = item {
-            return Ok(Some(start));
-        }
+    if page.len() >= CHUNK {
+        write_whole(writer, page.as_bytes())?;
+        page.clear();
     }
-    Ok(None)
+    Ok(())
 }
 
 /// Writes the text as HTML, or in colours for a terminal, as `html` and `ansi` of `lalrpop_markup` make them. The text is cut to its
 /// end, behind faults too. Returns where the first fault begins, in bytes, or `None` if there is none.
 ///
-/// The whole page is made before its first byte is written. Nothing is tried again.
+/// The page is written while the text is cut, about 64 KiB at a time, and is never held as a whole. No call is tried again.
 ///
 /// # Errors
 ///
-/// `OutOfMemory` if a request for memory was refused: nothing was written. `Write` if a write failed or took no byte: a
-/// prefix of the page was written.
+/// `OutOfMemory` if a request for memory was refused, and `Write` if a write failed or took no byte: a prefix of the page
+/// was written.
 pub fn write_page<W: Write>(
     alloc: Global,
     lexer: &RuleLexer,
@@ -68,20 +75,29 @@ pub fn write_page<W: Write>(
     ensures boundary { IfOk result (λ fault. IfSome fault (IsCharBoundary text.now)) }
     ensures good { OnOk result (writer.new.failed ≡ false) }
 
-    ensures nothing_written { IfErr result (λ e. e ≢ RunError.Write → writer.new ≡ writer.old) }
-    ensures write { IfErr result (λ e. e ≡ RunError.Write → writer.new.failed ≡ true) }
-    ensures prefix { IfErr result (λ e. e ≡ RunError.Write → WritesPagePrefix lexer.now markup text.now
+    ensures prefix { OnErr result (WritesPagePrefix lexer.now markup text.now
         (W.contents writer.old.inner) (W.contents writer.new.inner)) }
+    ensures memory { IfErr result (λ e. e ≡ RunError.OutOfMemory → writer.new.failed ≡ false) }
+    ensures write { IfErr result (λ e. e ≡ RunError.Write → writer.new.failed ≡ true) }
     ensures read { IfErr result (λ e. e ≢ RunError.Read) }
 
     ensures no_late_write { writer.new.late ≡ writer.old.late }
 {
-    let Ok(fault) = first_fault_in(alloc, lexer, text) else {
+    let Ok(mut items) = lexer.items_linear(alloc, text) else {
         return Err(RunError::OutOfMemory);
     };
-    let Ok(page) = page_of(alloc, lexer, markup, text) else {
+    let Ok(mut painter) = Painter::new(alloc, lexer) else {
         return Err(RunError::OutOfMemory);
     };
+    let mut page = String::new(alloc);
+    let mut first_fault = None;
+    'marking: while let Some(item) = items.next() {
+        first_fault = first_fault_with(first_fault, &item);
+        if push_piece(&mut page, lexer, &mut painter, markup, &item).is_err() {
+            return Err(RunError::OutOfMemory);
+        }
+        pass_on(&mut page, writer)?;
+    }
     write_whole(writer, page.as_bytes())?;
-    Ok(fault)
+    Ok(first_fault)
 }

@@ -1,5 +1,5 @@
 use Rattle.tokens_lib.proofs.TextAnswers.{tokens_done, pieces_done, page_done}
-use Rattle.tokens_lib.proofs.BegunLaws.{begun_by_write, tokens_begun, pieces_begun, page_begun}
+use Rattle.tokens_lib.proofs.BegunLaws.{tokens_begun, pieces_begun, page_begun}
 use Rattle.lines_lib.proofs.Sending.{at_any_error}
 use Rattle.tokens_lib.proofs.cut_files.run_task.Goals as goal
 
@@ -43,5 +43,4 @@ pub returns-in_err-fault-in-Markup-clause-begun : goal.returns-in_err-fault-in-M
 returns-in_err-fault-in-Markup-clause-begun g c =
     at_any_error _ c.from_residual-in_err-fault-in-Markup.result
     (rw c.in-Markup.is
-    (begun_by_write _ g.W.Write.contents _ _ _ c.in_err-fault-in-Markup.ensures.nothing_written
-    (λ e. page_begun c.in-Markup.lexer.now c.in-Markup.markup c.args.name.now c.args.text.now _ _ (c.in_err-fault-in-Markup.ensures.prefix e))))
+    (page_begun c.in-Markup.lexer.now c.in-Markup.markup c.args.name.now c.args.text.now _ _ c.in_err-fault-in-Markup.ensures.prefix))
