@@ -1,11 +1,11 @@
 //! A text as HTML, and in colours for a terminal.
-ghost use Rattle.std.specs.Prelude.{◌≡◌, List, false, flat_map, string_bytes, IfOk};
+ghost use Rattle.std.specs.Prelude.{◌≡◌, ◌++◌, List, false, flat_map, string_bytes, IfOk};
 ghost use Rattle.lalrpop_rules.specs.declared.item.Item.{Item as ItemValue};
 ghost use Rattle.lalrpop_markup.specs.Markup.{marked, outside};
 ghost use Rattle.lalrpop_markup.specs.Terminal.{painted, unpainted};
 
-use lalrpop_markup::{ansi, html};
-use lalrpop_rules::RuleLexer;
+use lalrpop_markup::{Painter, ansi, html, push_html};
+use lalrpop_rules::{Item, RuleLexer};
 use std::alloc::{AllocError, Global};
 
 // Needs lalrpop_markup::html: text, pieces.
@@ -86,4 +86,48 @@ pub fn clears_the_screen(alloc: Global, lexer: &RuleLexer, text: &str) -> Result
 {
     let page = ansi(alloc, lexer, text)?;
     Ok(page.contains("\x1b[2J"))
+}
+
+// Needs lalrpop_markup::push_html: marked.
+/// Two pieces as HTML, one after the other.
+///
+/// # Errors
+///
+/// `AllocError` if a request for memory was refused.
+pub fn two_marked(
+    alloc: Global,
+    lexer: &RuleLexer,
+    one: &Item<'_>,
+    two: &Item<'_>,
+) -> Result<String, AllocError>
+    ensures marked { IfOk result (λ page. string_bytes page
+        ≡ marked lexer.now.names one.now ++ marked lexer.now.names two.now) }
+{
+    let mut page = String::new(alloc);
+    push_html(&mut page, lexer, one)?;
+    push_html(&mut page, lexer, two)?;
+    Ok(page)
+}
+
+// Needs lalrpop_markup::Painter::new: names.
+// Needs lalrpop_markup::Painter::push: painted, names.
+/// Two pieces in colours, one after the other.
+///
+/// # Errors
+///
+/// `AllocError` if a request for memory was refused.
+pub fn two_painted(
+    alloc: Global,
+    lexer: &RuleLexer,
+    one: &Item<'_>,
+    two: &Item<'_>,
+) -> Result<String, AllocError>
+    ensures painted { IfOk result (λ page. string_bytes page
+        ≡ painted lexer.now.names one.now ++ painted lexer.now.names two.now) }
+{
+    let mut painter = Painter::new(alloc, lexer)?;
+    let mut page = String::new(alloc);
+    painter.push(&mut page, one)?;
+    painter.push(&mut page, two)?;
+    Ok(page)
 }
