@@ -31,8 +31,8 @@ pub fn both_texts<W: Write>(
     Ok((one, two))
 }
 
-// Whether the writer has failed: then it has a prefix of the page. Otherwise nothing is written or everything is.
-// Needs tokens_lib::write_page: good, nothing_written, write, prefix, read.
+// Whether the writer has failed: then it has a prefix of the page.
+// Needs tokens_lib::write_page: good, prefix, memory, write, read.
 pub fn fails_to_write<W: Write>(
     alloc: Global,
     lexer: &RuleLexer,
