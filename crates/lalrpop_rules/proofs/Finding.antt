@@ -9,9 +9,10 @@ use Rattle.lalrpop_book.specs.Longest.{IsLongest}
 use Rattle.lalrpop_book.specs.Prefix.{IsPrefix}
 use Rattle.lalrpop_book.specs.Tree.{Tree}
 use Rattle.lalrpop_lexer.proofs.Cuttings.{some_char}
-use Rattle.lalrpop_lexer.proofs.Recognized.{on_words}
+use Rattle.lalrpop_lexer.proofs.Recognized.{on_words, matched_accepts, accepted_matched}
 use Rattle.lalrpop_lexer.specs.Dfa.{Row, Recognizes}
 use Rattle.lalrpop_lexer.specs.Matching.{Matching, rest_of}
+use Rattle.lalrpop_lexer.specs.Rules.{IsBuiltFrom}
 use Rattle.lalrpop_rules.specs.CutToEnd.{Memo, IsPaid}
 use Rattle.lalrpop_rules.specs.Internal.Finding.{Match, IsMatchOf, Passes, memo_of}
 use Rattle.lalrpop_rules.specs.declared.finder.Finder.TheVariants.{Remembering}
@@ -21,6 +22,11 @@ use Rattle.lalrpop_rules.proofs.PieceLaws.{split_at}
 pub found_for : (d : List Row) (rest : List ℕ) (found : Option Match)
     → ((ts : List Tree) (ps : List ℕ) → Recognizes d ts ps → IsLongest ts ps rest (option_map (λ m. (m.0, m.1.now)) found)) → IsMatchOf d rest found
 found_for d rest found answer = λ ts ps built. answer ts ps (on_words d ts ps built.stands)
+
+-- and where nothing matches for some, nothing does for any others
+pub none_for : (ts : List Tree) (ps : List ℕ) (d : List Row) (rest : List ℕ) → IsBuiltFrom ts ps d → IsLongest ts ps rest None → IsMatchOf d rest None
+none_for ts ps d rest built none =
+    λ us qs other p m. none p (m.0, m.1, accepted_matched d ts ps built.stands (chars p) (matched_accepts d us qs other.stands (chars p) m.2))
 
 -- where nothing matches, the first character is passed
 pub char_passed : (m between n : Matching) (o : Option ℕ) → rest_of m ≢ [] → between ≡ record m { spare = between.spare }

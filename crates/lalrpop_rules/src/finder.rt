@@ -2,12 +2,13 @@
 
 ghost use Rattle.std.specs.Prelude.{◌≡◌};
 ghost use Rattle.lalrpop_lexer.specs.Matching.{rest_of};
+ghost use Rattle.lalrpop_lexer.specs.Rules.{IsBuiltFrom};
 ghost use Rattle.lalrpop_rules.specs.CutToEnd.{IsPaid};
 ghost use Rattle.lalrpop_rules.specs.Internal.Finding.{matching_of, memo_of, IsSomeText, IsMatchOf, Passes};
 
 use lalrpop_lexer::lexer::dfa::NfaIndex;
 use lalrpop_lexer::lexer::nfa::Steps;
-use lalrpop_lexer::{LinearMatches, Matches};
+use lalrpop_lexer::{Lexer, LinearMatches, Matches};
 
 /// What finds the matches of a text, without a memo or with one.
 #[derive(Debug, Drop)]
@@ -51,6 +52,27 @@ impl<'text> Finder<'text> {
                     None
                 }
             },
+        }
+    }
+
+    /// The same within a fault. Without a memo the lexer looks first whether something matches at all, which takes less time.
+    pub(crate) fn next_in_fault(
+        &mut self,
+        lexer: &Lexer,
+        steps: &mut Steps,
+    ) -> Option<(NfaIndex, &'text str)>
+        requires some { IsSomeText (rest_of (matching_of self.old)) }
+        requires built { IsBuiltFrom lexer.now.trees lexer.now.precedences (matching_of self.old).automaton }
+        ensures answer { IsMatchOf (matching_of self.old).automaton (rest_of (matching_of self.old)) result }
+        ensures passes { Passes (matching_of self.old) (matching_of self.new) result }
+        ensures paid { IsPaid steps.old (memo_of self.old) steps.new (memo_of self.new) }
+    {
+        match self {
+            Finder::Plain(matches) if lexer.token(matches.rest()).is_none() => {
+                matches.pass_char();
+                None
+            }
+            _ => self.next_or_pass(steps),
         }
     }
 }

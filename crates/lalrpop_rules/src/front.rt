@@ -3,15 +3,16 @@
 ghost use Rattle.std.specs.Prelude.{◌≡◌, ◌+◌, ◌<◌, ℕ, List, true, false, length, drop};
 ghost use Rattle.lalrpop_book.specs.Tree.{Tree};
 ghost use Rattle.lalrpop_book.specs.Tokens.{IsToken};
+ghost use Rattle.lalrpop_lexer.specs.Rules.{IsBuiltFrom};
 ghost use Rattle.lalrpop_rules.specs.Pieces.{IsPiece, IsFault, IsSkipped, slice_of};
 ghost use Rattle.lalrpop_rules.specs.CutToEnd.{IsPaid};
-ghost use Rattle.lalrpop_rules.specs.Internal.Finding.{matching_of, memo_of, ForRules, IsWaiting, IsPassing};
+ghost use Rattle.lalrpop_rules.specs.Internal.Finding.{matching_of, memo_of, IsWaiting, IsPassing};
 
 use crate::finder::Finder;
 use crate::item::Item;
-use lalrpop_lexer::Token;
 use lalrpop_lexer::lexer::dfa::NfaIndex;
 use lalrpop_lexer::lexer::nfa::Steps;
+use lalrpop_lexer::{Lexer, Token};
 
 // Whether the pattern with this index is skipped.
 #[inline(always)]
@@ -53,15 +54,17 @@ pub(crate) fn piece_of<'text>(
 /// The fault that begins at byte `at`, and the match after it, unless the text ends there. Its first character is passed already.
 #[inline(never)]
 pub(crate) fn pass_fault<'text>(
+    lexer: &Lexer,
     text: &'text str,
     at: usize,
     finder: &mut Finder<'text>,
     steps: &mut Steps,
 ) -> (&'text str, Option<(NfaIndex, &'text str)>)
+    requires built { IsBuiltFrom lexer.now.trees lexer.now.precedences
+        (matching_of finder.old).automaton }
     requires passing { IsPassing text.now at (matching_of finder.old) }
     requires some { at < (matching_of finder.old).at }
-    ensures fault { ForRules (matching_of finder.old).automaton (λ ts _.
-        IsFault ts (drop at text.now) result.0.now) }
+    ensures fault { IsFault lexer.now.trees (drop at text.now) result.0.now }
     ensures waiting { IsWaiting text.now (at + length result.0.now) result.1
         (matching_of finder.new) }
     ensures same { (matching_of finder.new).automaton ≡ (matching_of finder.old).automaton }
@@ -72,7 +75,7 @@ pub(crate) fn pass_fault<'text>(
         if end == text.len() {
             return (&text[at..], None);
         }
-        if let Some(found) = finder.next_or_pass(steps) {
+        if let Some(found) = finder.next_in_fault(lexer, steps) {
             return (&text[at..end], Some(found));
         }
     }

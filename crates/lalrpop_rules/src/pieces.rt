@@ -30,7 +30,6 @@ use std::marker::Model;
 #[derive(Drop)]
 #[derive_where(Debug)]
 pub struct Items<'text> {
-    // Only contracts read it: its rules.
     lexer: &'text Lexer,
     skipped: &'text [bool],
     text: &'text str,
@@ -161,7 +160,13 @@ impl<'text> Items<'text> {
                 Some(piece_of(self.skipped, found.0, found.1, start))
             }
             None => {
-                let (slice, kept) = pass_fault(self.text, start, &mut self.finder, &mut self.steps);
+                let (slice, kept) = pass_fault(
+                    self.lexer,
+                    self.text,
+                    start,
+                    &mut self.finder,
+                    &mut self.steps,
+                );
                 self.kept = kept;
                 self.at += slice.len();
                 Some(Item::Fault { start, slice })

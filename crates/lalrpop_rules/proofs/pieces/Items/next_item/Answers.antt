@@ -1,8 +1,6 @@
-use Rattle.std.proofs.Common.{◌+◌, List, drop, length, refl, sym, subst}
+use Rattle.std.proofs.Common.{◌+◌, drop, length, refl, subst}
 use Rattle.std.specs.Prelude.{Some}
 use Rattle.std.specs.Str.{IsUtf8}
-use Rattle.lalrpop_lexer.specs.Dfa.{Row}
-use Rattle.lalrpop_lexer.specs.Rules.{IsBuiltFrom}
 use Rattle.lalrpop_rules.specs.CutToEnd.{CutToEnd, GivesPiece}
 use Rattle.lalrpop_rules.specs.Internal.Finding.{matching_of, memo_of}
 use Rattle.lalrpop_rules.specs.declared.item.Item.TheVariants.{Fault}
@@ -33,10 +31,8 @@ returns-in-None c =
     let i = c.self.inside in
     let taken = c.take_or_find.new in
     let passed = c.pass_fault-kept in
-    let built = subst (λ (d : List Row). IsBuiltFrom i.lexer.now.trees i.lexer.now.precedences d) (sym c.in-None.ensures.same) c.self.invariant.0 in
-    let fault = passed.ensures.fault i.lexer.now.trees i.lexer.now.precedences built in
     let paid = paid_on i.steps taken.steps passed.new.steps (memo_of i.finder) (memo_of taken.finder) (memo_of passed.new.finder) c.in-None.ensures.paid passed.ensures.paid in
     let later : CutToEnd = record (view i) { at = i.at + length passed.result.0.now; memo = memo_of passed.new.finder; steps = passed.new.steps } in
-    let gives : GivesPiece (view i) (Some (Fault i.at passed.result.0)) later = ((refl, fault), refl, paid) in
+    let gives : GivesPiece (view i) (Some (Fault i.at passed.result.0)) later = ((refl, passed.ensures.fault), refl, paid) in
     let u : IsUtf8 (drop i.at i.text.now) = subst IsUtf8 c.range_from-rest.ensures.value c.range_from-rest.utf8 in
     rw (← c.self.view_is) record { gives = gives; goes = fewer_behind (view i) later (Fault i.at passed.result.0) u gives }
