@@ -200,3 +200,17 @@ fn many_lines_are_written(rt: HostRuntime) {
     let lines = written.as_slice().split(|byte| *byte == b'\n').count();
     assert!(rt; lines == 10_001);
 }
+
+// A page of more bytes than one write takes.
+#[test]
+fn a_long_page_is_written(rt: HostRuntime) {
+    let lexer = lexer_of_rules(&rt, rt.alloc());
+    let text = "a ".repeat(rt.alloc(), 10_000).expect(&rt, "memory");
+    let page = "<span class=\"NAME\">a</span> "
+        .repeat(rt.alloc(), 10_000)
+        .expect(&rt, "memory");
+    let mut writer = Watched::new(Vec::new(rt.alloc()));
+    let result = write_page(rt.alloc(), &lexer, Markup::Html, text.as_str(), &mut writer);
+    assert!(rt; matches!(&result, Ok(None)));
+    assert!(rt; writer.into_inner().as_slice() == page.as_bytes());
+}
