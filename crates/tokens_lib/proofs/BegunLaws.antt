@@ -1,6 +1,6 @@
 -- What was written before an error: a prefix of an answer, or nothing.
 use Rattle.std.proofs.Common.{◌≡◌, ◌≢◌, ℕ, ◌+◌, ◌<◌, get_or, Bool, inl, inr, List, [], ◌∷◌, ◌++◌, length, take, drop, map, flat_map, refl, sym, ap, subst, ◌∙◌}
-use Rattle.std.specs.Prelude.{Option, Some, None, Result, Ok, OnErr, option_map, String, string_bytes}
+use Rattle.std.specs.Prelude.{Option, Some, None, Result, Ok, OnErr, option_map}
 use Rattle.std.specs.Bool.{then_some}
 use Rattle.std.specs.Borrow.{Bor}
 use Rattle.std.specs.Io.KnownBytes.{Appends}
@@ -8,8 +8,8 @@ use Rattle.std.specs.Str.{IsUtf8}
 use Rattle.std.proofs.Math.Seq.{take-nil}
 use Rattle.std.proofs.lemmas.List.{append-nil, map-append, take-append-drop}
 use Rattle.std.proofs.lemmas.Result.{on_err_weaker}
-use Rattle.std.proofs.lemmas.Str.{IsUtf8-string_bytes}
 use Rattle.lalrpop_book.specs.Tree.{Tree}
+use Rattle.lalrpop_rules.specs.RuleFile.{without_mark}
 use Rattle.lalrpop_rules.specs.RuleSet.{RuleSet}
 use Rattle.lexdfa_lib.proofs.Known.{Appends-again}
 use Rattle.lexdfa_lib.specs.Answer.{HaveAutomaton}
@@ -93,13 +93,10 @@ pub done_begun : (Is : Answer → Type 0) (a b : Option (List ℕ)) (file text :
 done_begun Is a b file text ending (answer, (is, (written, (done, h)))) = Begun-whole Is a b answer is (subst (Appends a b) (sym done.written) h)
 
 -- bytes are a text
-pub text_begun : {Z : Type 0} (r : Result ℕ RunError) (IsFor : List ℕ → List ℕ → Answer → Type 0) (file bytes : List ℕ) (text : String Z) (shown : List ℕ) (a b : Option (List ℕ))
-    → shown ≡ string_bytes text → string_bytes text ≡ bytes → string_bytes text ≢ [] → OnErr r (Begun (IsFor file shown) a b) → OnErr r (Begun (TextOf IsFor file bytes) a b)
-text_begun r IsFor file bytes text shown a b is same some h =
-    on_err_weaker r
-    (Begun-weaker _ _ a b
-    (λ answer done. inr (λ none. some (same ∙ none), (subst IsUtf8 same (IsUtf8-string_bytes text), subst (λ (bs : List ℕ). IsFor file bs answer) (is ∙ same) done))))
-    h
+pub text_begun : (r : Result ℕ RunError) (IsFor : List ℕ → List ℕ → Answer → Type 0) (file bytes text : List ℕ) (a b : Option (List ℕ))
+    → text ≡ without_mark bytes → IsUtf8 text → OnErr r (Begun (IsFor file text) a b) → OnErr r (Begun (TextOf IsFor file bytes) a b)
+text_begun r IsFor file bytes text a b is utf8 h =
+    on_err_weaker r (Begun-weaker _ _ a b (λ answer done. inr (subst IsUtf8 is utf8, subst (λ (bs : List ℕ). IsFor file bs answer) is done))) h
 
 -- ---- files
 

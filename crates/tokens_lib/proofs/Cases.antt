@@ -1,5 +1,6 @@
 -- Small cases of the definitions in specs/: Cases/X.antt has those of specs/X.antt.
 mod Answer
+mod Arguments
 mod Command
 mod ItemLines
 mod PageWritten
@@ -8,3 +9,4 @@ mod Reasons
 mod RuleClashes
 mod Streams
 mod TextAnswer
+mod Usage

@@ -1,15 +1,17 @@
 -- The answer by the lexer of a file of rules.
-use Rattle.std.proofs.Common.{◌≡◌, ℕ, ◌≤◌, inl, inr, List, subst, arith}
-use Rattle.std.specs.Prelude.{Option, Result, Ok, IfOk}
+use Rattle.std.proofs.Common.{◌≡◌, ℕ, ◌≤◌, inl, inr, List, refl, subst, arith}
+use Rattle.std.specs.Prelude.{Option, Result, Ok, Err, IfOk, OnOk, OnErr}
+use Rattle.std.specs.Io.KnownBytes.{Appends}
 use Rattle.std.proofs.lemmas.Result.{IfOk-weaker}
 use Rattle.lalrpop_book.specs.Tree.{Tree}
 use Rattle.lalrpop_rules.specs.RuleSet.{RuleSet}
 use Rattle.lexdfa_lib.specs.Answer.{HaveAutomaton}
-use Rattle.lexdfa_lib.specs.Watch.{Watch}
+use Rattle.lexdfa_lib.specs.Watch.{Watch, AppendsPrefix}
 use Rattle.lexdfa_lib.specs.declared.error.RunError.{RunError}
-use Rattle.tokens_lib.specs.Answer.{Answer, Reads, Answered}
-use Rattle.tokens_lib.specs.Program.{AreRulesOf, RulesOf, RulesRefused, LexerOf, TerminalsRefused, TerminalsOf}
+use Rattle.tokens_lib.specs.Answer.{Answer, Reads, Answered, Begun}
+use Rattle.tokens_lib.specs.Program.{AreRulesOf, RulesOf, RulesRefused, LexerOf, TerminalsRefused, TerminalsOf, information}
 use Rattle.tokens_lib.specs.Streams.{Given}
+use Rattle.tokens_lib.proofs.AnswerLaws.{TakesBy-none}
 
 pub by_lexer : (Gives : List ℕ → Given → Type 0) (IsFor : RuleSet → Answer → Type 0) (rules : List ℕ) (set : RuleSet) (answer : Answer)
     → (bytes : List ℕ) × (Gives rules (Ok bytes) × AreRulesOf bytes set) → IsFor set answer → Reads Gives (RulesOf (LexerOf IsFor)) rules answer
@@ -60,3 +62,16 @@ terminals_answered {W} {E} r Gives IsFor rules ts ps written said o p e m f are 
 
 pub low_after : (value status : ℕ) (answer : Answer) → value ≡ status → status ≡ answer.status → answer.status ≤ 6 → value ≤ 6
 low_after value status answer same is low = omega arith
+
+-- what was asked for is written
+pub informed : {W E : Type 0} (r : Result ℕ RunError) (text message : List ℕ) (written : W → Option (List ℕ)) (said : E → Option (List ℕ)) (o p : Watch W) (e : Watch E) → text ≡ message
+    → IfOk r (λ status. status ≡ 0) → OnOk r (Appends (written o.inner) (written p.inner) text)
+    → IfOk r (λ status. (answer : Answer) × ((answer ≡ information message) × Answered written said o p e e status answer))
+informed (Ok status) text message written said o p e same is takes =
+    (information message, (refl, (is, (subst (Appends (written o.inner) (written p.inner)) same takes, TakesBy-none e.failed (said e.inner)))))
+informed (Err error) text message written said o p e same is takes = tt
+
+pub information_begun : (r : Result ℕ RunError) (text message : List ℕ) (a b : Option (List ℕ)) → text ≡ message → OnErr r (AppendsPrefix a b text)
+    → OnErr r (Begun (λ answer. answer ≡ information message) a b)
+information_begun (Ok status) text message a b same part = tt
+information_begun (Err error) text message a b same part = inr (information message, (refl, subst (AppendsPrefix a b) same part))

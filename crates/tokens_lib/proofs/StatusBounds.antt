@@ -1,6 +1,6 @@
 -- No status is above 6.
 use Rattle.std.proofs.Common.{◌≡◌, ℕ, ◌≤◌, inl, inr, List, [], ◌∷◌, ap, arith}
-use Rattle.std.specs.Prelude.{nat_lt, length, map, string_bytes, Bool, Option, Some, None, codes}
+use Rattle.std.specs.Prelude.{nat_lt, length, map, Bool, Option, Some, None, codes}
 use Rattle.lalrpop_book.specs.Clashes.{Entry}
 use Rattle.lalrpop_book.specs.Tree.{Tree}
 use Rattle.lalrpop_lexer.specs.Lines.{lines}
@@ -13,13 +13,15 @@ use Rattle.lexdfa_lib.specs.Status.{outcome_status}
 use Rattle.lexdfa_lib.specs.declared.outcome.Outcome.{Outcome}
 use Rattle.lexdfa_lib.specs.declared.outcome.Outcome.TheVariants as outcomes
 use Rattle.tokens_lib.specs.Answer.{Answer, Reads, TextOf, FilesAnswer, TextsAnswer}
-use Rattle.tokens_lib.specs.Program.{rules_status, RulesOf, LexerOf, clashes_status, ClashesAnswer, TerminalsOf, reported_status, TerminalClashesAnswer, CommandAnswer}
+use Rattle.tokens_lib.specs.Program.{rules_status, RulesOf, LexerOf, clashes_status, ClashesAnswer, TerminalsOf, reported_status, TerminalClashesAnswer, ActionAnswer, CommandAnswer}
 use Rattle.tokens_lib.specs.Streams.{Given}
 use Rattle.tokens_lib.specs.TextAnswer.{fault_status, TokensAnswer, PiecesAnswer, PageAnswer}
 use Rattle.tokens_lib.specs.declared.command.Command.{Command}
 use Rattle.tokens_lib.specs.declared.command.Markup.{Markup}
 use Rattle.tokens_lib.specs.declared.layout.LineForm.{LineForm}
-use Rattle.tokens_lib.specs.declared.command.Command.TheVariants.{Cut, Show, Clashes, CutByTerminals, TerminalClashes}
+use Rattle.tokens_lib.specs.declared.command.Action.{Action}
+use Rattle.tokens_lib.specs.declared.command.Action.TheVariants.{Cut, Show, CutByTerminals, Clashes, TerminalClashes}
+use Rattle.tokens_lib.specs.declared.command.Command.TheVariants.{Help, Version, Run}
 
 abbrev IsLow : Answer → Type 0
 IsLow answer = answer.status ≤ 6
@@ -54,8 +56,8 @@ reads_low Gives IsFor file answer each (inr (bytes, (gives, is))) = each bytes a
 
 text_low : (IsFor : List ℕ → List ℕ → Answer → Type 0) (file bytes : List ℕ) (answer : Answer)
     → ((name text : List ℕ) (a : Answer) → IsFor name text a → IsLow a) → TextOf IsFor file bytes answer → IsLow answer
-text_low IsFor file bytes answer each (inl (error, (lacks, e))) = low answer _ e (omega arith)
-text_low IsFor file bytes answer each (inr (some, (utf8, is))) = each file bytes answer is
+text_low IsFor file bytes answer each (inl (at, (lacks, e))) = low answer _ e (omega arith)
+text_low IsFor file bytes answer each (inr (utf8, is)) = each file (without_mark bytes) answer is
 
 file_low : (Gives : List ℕ → Given → Type 0) (IsFor : List ℕ → List ℕ → Answer → Type 0) (file : List ℕ) (answer : Answer)
     → ((name text : List ℕ) (a : Answer) → IsFor name text a → IsLow a) → Reads Gives (TextOf IsFor) file answer → IsLow answer
@@ -119,21 +121,24 @@ pieces_low set form recovers several name text answer (xs, (are, e)) = low answe
 page_low : (set : RuleSet) (markup : Markup) (name text : List ℕ) (answer : Answer) → PageAnswer set markup name text answer → IsLow answer
 page_low set markup name text answer (xs, (are, e)) = low answer _ e (fault_low _)
 
+action_low : (Gives : List ℕ → Given → Type 0) (InputGives : Given → Type 0) (action : Action) (rules : List ℕ) (files : List (List ℕ)) (answer : Answer)
+    → ActionAnswer Gives (TextsAnswer Gives InputGives) action rules files answer → IsLow answer
+action_low Gives InputGives (Cut form recovers) rules files answer is =
+    by_rules_low Gives (λ set. TextsAnswer Gives InputGives (PiecesAnswer set form recovers (nat_lt 1 (length files))) files) rules answer
+    (λ set a texts. texts_low Gives InputGives (PiecesAnswer set form recovers (nat_lt 1 (length files))) files a (pieces_low set form recovers (nat_lt 1 (length files))) texts) is
+action_low Gives InputGives (Show markup) rules files answer is =
+    by_rules_low Gives (λ set. TextsAnswer Gives InputGives (PageAnswer set markup) files) rules answer
+    (λ set a texts. texts_low Gives InputGives (PageAnswer set markup) files a (page_low set markup) texts) is
+action_low Gives InputGives (CutByTerminals places) rules files answer is =
+    let IsFor : List Tree → List ℕ → Answer → Type 0 = λ ts ps. TextsAnswer Gives InputGives (TokensAnswer ts ps places) files in
+    reads_low Gives (TerminalsOf IsFor) rules answer
+    (λ bytes a said. terminals_low IsFor rules bytes a (λ ts ps b texts. texts_low Gives InputGives (TokensAnswer ts ps places) files b (tokens_low ts ps places) texts) said) is
+action_low Gives InputGives Clashes rules files answer is =
+    reads_low Gives (RulesOf ClashesAnswer) rules answer (λ bytes a said. rules_of_low ClashesAnswer rules bytes a (list_low rules) said) is
+action_low Gives InputGives TerminalClashes rules files answer is = reads_low Gives TerminalClashesAnswer rules answer (terminal_list_low rules) is
+
 pub command_low : (Gives : List ℕ → Given → Type 0) (InputGives : Given → Type 0) (command : Command) (answer : Answer)
     → CommandAnswer Gives (TextsAnswer Gives InputGives) command answer → IsLow answer
-command_low Gives InputGives (Cut form recovers rules files) answer is =
-    let names : List (List ℕ) = map string_bytes files.now in
-    by_rules_low Gives (λ set. TextsAnswer Gives InputGives (PiecesAnswer set form recovers (nat_lt 1 (length files.now))) names) rules.now answer
-    (λ set a texts. texts_low Gives InputGives (PiecesAnswer set form recovers (nat_lt 1 (length files.now))) names a (pieces_low set form recovers (nat_lt 1 (length files.now))) texts) is
-command_low Gives InputGives (Show markup rules files) answer is =
-    let names : List (List ℕ) = map string_bytes files.now in
-    by_rules_low Gives (λ set. TextsAnswer Gives InputGives (PageAnswer set markup) names) rules.now answer
-    (λ set a texts. texts_low Gives InputGives (PageAnswer set markup) names a (page_low set markup) texts) is
-command_low Gives InputGives (Clashes rules) answer is =
-    reads_low Gives (RulesOf ClashesAnswer) rules.now answer (λ bytes a said. rules_of_low ClashesAnswer rules.now bytes a (list_low rules.now) said) is
-command_low Gives InputGives (CutByTerminals places rules files) answer is =
-    let names : List (List ℕ) = map string_bytes files.now in
-    let IsFor : List Tree → List ℕ → Answer → Type 0 = λ ts ps. TextsAnswer Gives InputGives (TokensAnswer ts ps places) names in
-    reads_low Gives (TerminalsOf IsFor) rules.now answer
-    (λ bytes a said. terminals_low IsFor rules.now bytes a (λ ts ps b texts. texts_low Gives InputGives (TokensAnswer ts ps places) names b (tokens_low ts ps places) texts) said) is
-command_low Gives InputGives (TerminalClashes rules) answer is = reads_low Gives TerminalClashesAnswer rules.now answer (terminal_list_low rules.now) is
+command_low Gives InputGives Help answer is = low answer _ is (omega arith)
+command_low Gives InputGives Version answer is = low answer _ is (omega arith)
+command_low Gives InputGives (Run action rules files) answer is = action_low Gives InputGives action rules.now (map (λ file. file.now) files.items) answer is

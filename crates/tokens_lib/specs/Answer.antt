@@ -1,12 +1,13 @@
 -- cases: proofs/Cases/Answer.antt
 -- What the program answers, and its answer for some files.
-use Rattle.std.specs.Prelude.{◌≡◌, ◌≢◌, ℕ, ◌⊎◌, max, List, [], ◌∷◌, ◌++◌, Option, Ok, Err, codes}
+use Rattle.std.specs.Prelude.{◌≡◌, ℕ, ◌⊎◌, max, List, [], ◌∷◌, ◌++◌, Option, Ok, Err, codes}
 use Rattle.std.specs.Io.KnownBytes.{Appends}
-use Rattle.std.specs.Str.{IsUtf8}
+use Rattle.std.specs.Str.{IsUtf8, IsValidUpTo}
+use Rattle.lalrpop_rules.specs.RuleFile.{without_mark}
 use Rattle.lexdfa_lib.specs.Watch.{Watch, AppendsPrefix}
 use Rattle.tokens_lib.specs.Streams.{Given, Takes}
-use Rattle.lines_lib.specs.Text.{LacksText, lack_text}
-use Rattle.lines_lib.specs.declared.text.TextError.{TextError}
+use Rattle.lines_lib.specs.Text.{lack_text}
+use Rattle.lines_lib.specs.declared.text.TextError.TheVariants.{NotText}
 
 -- an exit status, and what is written to standard output and to standard error
 pub record Answer : Type 0 where
@@ -39,11 +40,11 @@ Reads Gives IsFor file answer =
     ((reason : List ℕ) × (Gives file (Err reason) × (answer ≡ refusal 6 (about file reason))))
     ⊎ ((bytes : List ℕ) × (Gives file (Ok bytes) × IsFor file bytes answer))
 
--- the bytes are no text, and this is said; or they are a text with this answer
+-- after a byte order mark, which is left out, the bytes are no text, and this is said; or they are a text with this answer
 abbrev pub TextOf : (List ℕ → List ℕ → Answer → Type 0) → List ℕ → List ℕ → Answer → Type 0
 TextOf IsFor file bytes answer =
-    ((error : TextError) × (LacksText bytes error × (answer ≡ refusal 6 (about file (lack_text error)))))
-    ⊎ ((bytes ≢ []) × (IsUtf8 bytes × IsFor file bytes answer))
+    ((at : ℕ) × (IsValidUpTo (without_mark bytes) at × (answer ≡ refusal 6 (about file (lack_text (NotText at))))))
+    ⊎ (IsUtf8 (without_mark bytes) × IsFor file (without_mark bytes) answer)
 
 -- the texts of these files, one after another
 abbrev pub FilesAnswer : (List ℕ → Given → Type 0) → (List ℕ → List ℕ → Answer → Type 0) → List (List ℕ) → Answer → Type 0

@@ -1,31 +1,92 @@
 -- cases: proofs/Cases/Command.antt
--- The program's arguments.
-use Rattle.std.specs.Prelude.{◌≡◌, ◌⊎◌, ℕ, true, false, List, [], ◌∷◌, ◌++◌, codes, map, string_bytes}
+-- What the arguments ask for.
+use Rattle.std.specs.Prelude.{◌≡◌, ◌≢◌, ℕ, Bool, true, false, not, List, [], ◌∷◌, Option, Some, None, codes, map, filter, find, if◌then◌else◌}
+use Rattle.std.specs.List.{list_any}
+use Rattle.std.specs.Str.{bytes_eq}
+use Rattle.tokens_lib.specs.declared.command.Action.{Action}
+use Rattle.tokens_lib.specs.declared.command.Action.TheVariants.{Cut, Show, CutByTerminals, Clashes, TerminalClashes}
+use Rattle.tokens_lib.specs.declared.command.ArgumentsError.{ArgumentsError}
+use Rattle.tokens_lib.specs.declared.command.ArgumentsError.TheVariants.{Unknown, NoRules, Apart, NoFiles, InputAmongFiles}
 use Rattle.tokens_lib.specs.declared.command.Command.{Command}
-use Rattle.tokens_lib.specs.declared.command.Command.TheVariants.{Cut, Show, Clashes, CutByTerminals, TerminalClashes}
-use Rattle.tokens_lib.specs.declared.layout.LineForm.TheVariants.{Plain, Json}
+use Rattle.tokens_lib.specs.declared.command.Command.TheVariants.{Help, Version, Run}
 use Rattle.tokens_lib.specs.declared.command.Markup.TheVariants.{Html, Ansi}
+use Rattle.tokens_lib.specs.declared.layout.LineForm.TheVariants.{Plain, Json}
 
--- the argument begins with two dashes, so it is an option
-abbrev pub IsOption : List ℕ → Type 0
-IsOption word = (rest : List ℕ) × (word ≡ codes "--" ++ rest)
+-- the options of each action, in the order of this table
+abbrev pub options_of : Action → List (List ℕ)
+options_of (Cut Plain false) = []
+options_of (Cut Plain true) = codes "--recover" ∷ []
+options_of (Cut Json false) = codes "--json" ∷ []
+options_of (Cut Json true) = codes "--recover" ∷ codes "--json" ∷ []
+options_of (Show Html) = codes "--html" ∷ []
+options_of (Show Ansi) = codes "--ansi" ∷ []
+options_of (CutByTerminals false) = codes "--lines" ∷ []
+options_of (CutByTerminals true) = codes "--lines" ∷ codes "--places" ∷ []
+options_of Clashes = codes "--clashes" ∷ []
+options_of TerminalClashes = codes "--lines" ∷ codes "--clashes" ∷ []
 
--- options, then the file of rules, whose name isn't an option, then files
-abbrev pub IsAsked : List (List ℕ) → List (List ℕ) → List ℕ → List (List ℕ) → Type 0
-IsAsked words options rules files = ¬ IsOption rules × (words ≡ options ++ rules ∷ files)
+-- whether it lists clashes, for which no files are read
+abbrev pub lists : Action → Bool
+lists Clashes = true
+lists TerminalClashes = true
+lists action = false
 
--- the options of each command
-abbrev pub IsCommand : List (List ℕ) → Command → Type 0
-IsCommand words (Cut Plain false rules files) = IsAsked words [] rules.now (map string_bytes files.now)
-IsCommand words (Cut Plain true rules files) = IsAsked words (codes "--recover" ∷ []) rules.now (map string_bytes files.now)
-IsCommand words (Cut Json false rules files) = IsAsked words (codes "--json" ∷ []) rules.now (map string_bytes files.now)
-IsCommand words (Cut Json true rules files) =
-    IsAsked words (codes "--recover" ∷ codes "--json" ∷ []) rules.now (map string_bytes files.now)
-    ⊎ IsAsked words (codes "--json" ∷ codes "--recover" ∷ []) rules.now (map string_bytes files.now)
-IsCommand words (Show Html rules files) = IsAsked words (codes "--html" ∷ []) rules.now (map string_bytes files.now)
-IsCommand words (Show Ansi rules files) = IsAsked words (codes "--ansi" ∷ []) rules.now (map string_bytes files.now)
-IsCommand words (Clashes rules) = IsAsked words (codes "--clashes" ∷ []) rules.now []
-IsCommand words (CutByTerminals false rules files) = IsAsked words (codes "--lines" ∷ []) rules.now (map string_bytes files.now)
-IsCommand words (CutByTerminals true rules files) =
-    IsAsked words (codes "--lines" ∷ codes "--places" ∷ []) rules.now (map string_bytes files.now)
-IsCommand words (TerminalClashes rules) = IsAsked words (codes "--lines" ∷ codes "--clashes" ∷ []) rules.now []
+-- whether a word is among others
+abbrev pub has : List (List ℕ) → List ℕ → Bool
+has words word = list_any (λ other. bytes_eq other word) words
+
+-- the options of commands with rules, in the order of the table
+abbrev pub known : List (List ℕ)
+known = codes "--recover" ∷ codes "--json" ∷ codes "--html" ∷ codes "--ansi" ∷ codes "--lines" ∷ codes "--places" ∷ codes "--clashes" ∷ []
+
+-- those that are given
+abbrev pub given : List (List ℕ) → List (List ℕ)
+given options = filter (has options) known
+
+-- the first option that is none of them
+abbrev pub unknown : List (List ℕ) → Option (List ℕ)
+unknown options = find (λ option. not (has known option)) options
+
+-- the files that are read: none where `-` stands alone, which is standard input
+abbrev pub read_files : List (List ℕ) → List (List ℕ)
+read_files (file ∷ []) = if bytes_eq file (codes "-") then [] else file ∷ []
+read_files files = files
+
+-- an action by a file of rules on the named files
+abbrev pub IsFilesRun : Action → List ℕ → List (List ℕ) → Command → Type 0
+IsFilesRun action rules named (Run its_action its_rules files) =
+    (its_action ≡ action) × ((its_rules.now ≡ rules) × ((lists action ≡ true → named ≡ []) × ((map (λ file. file.now) files.items ≡ read_files named) × (has (read_files named) (codes "-") ≡ false))))
+IsFilesRun action rules named command = ⊥
+
+-- the action with just these options, by the first name on the others
+abbrev pub IsRun : List (List ℕ) → List (List ℕ) → Command → Type 0
+IsRun options names command =
+    (action : Action) × ((given options ≡ options_of action) × ((rules : List ℕ) × ((named : List (List ℕ)) × ((names ≡ rules ∷ named) × IsFilesRun action rules named command))))
+
+-- there is a file where none is read; or standard input among others
+abbrev pub IsFilesError : Action → List (List ℕ) → ArgumentsError → Type 0
+IsFilesError action named (NoFiles file) = (lists action ≡ true) × ((rest : List (List ℕ)) × (named ≡ file.now ∷ rest))
+IsFilesError action named InputAmongFiles = (lists action ≡ false) × (has (read_files named) (codes "-") ≡ true)
+IsFilesError action named error = ⊥
+
+-- RULES is missing, or the options don't go together, or the files are wrong
+abbrev pub IsRunError : List (List ℕ) → List (List ℕ) → ArgumentsError → Type 0
+IsRunError options names NoRules = names ≡ []
+IsRunError options names (Apart apart) = (names ≢ []) × ((given options ≡ map (λ option. option.now) apart.items) × ((action : Action) → given options ≢ options_of action))
+IsRunError options names error =
+    (action : Action) × ((given options ≡ options_of action) × ((rules : List ℕ) × ((named : List (List ℕ)) × ((names ≡ rules ∷ named) × IsFilesError action named error))))
+
+-- neither the help nor the version is asked for
+abbrev pub AsksNoHelp : List (List ℕ) → Type 0
+AsksNoHelp options = (has options (codes "--help") ≡ false) × (has options (codes "--version") ≡ false)
+
+-- the options and the names ask for the command
+abbrev pub IsCommand : List (List ℕ) → List (List ℕ) → Command → Type 0
+IsCommand options names Help = has options (codes "--help") ≡ true
+IsCommand options names Version = (has options (codes "--help") ≡ false) × (has options (codes "--version") ≡ true)
+IsCommand options names command = AsksNoHelp options × ((unknown options ≡ None) × IsRun options names command)
+
+-- they ask for none
+abbrev pub IsArgumentsError : List (List ℕ) → List (List ℕ) → ArgumentsError → Type 0
+IsArgumentsError options names (Unknown option) = AsksNoHelp options × (unknown options ≡ Some option.now)
+IsArgumentsError options names error = AsksNoHelp options × ((unknown options ≡ None) × IsRunError options names error)

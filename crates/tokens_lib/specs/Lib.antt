@@ -1,4 +1,5 @@
 pub mod Answer
+pub mod Arguments
 pub mod Command
 pub mod ItemLines
 pub mod PageWritten
@@ -7,5 +8,6 @@ pub mod Reasons
 pub mod RuleClashes
 pub mod Streams
 pub mod TextAnswer
+pub mod Usage
 -- what serves the proofs alone
 pub mod Internal

@@ -1,6 +1,6 @@
 -- cases: proofs/Cases/Program.antt
 -- The answer of the whole program, for its arguments, what the files give and what standard input gives.
-use Rattle.std.specs.Prelude.{◌≡◌, ℕ, ◌⊎◌, nat_lt, List, [], ◌∷◌, length, map, flat_map, string_bytes, Option, Some, None, codes}
+use Rattle.std.specs.Prelude.{◌≡◌, ℕ, ◌⊎◌, nat_lt, List, [], ◌∷◌, length, map, flat_map, Option, Some, None, codes}
 use Rattle.lalrpop_book.specs.Clash.{NoClash}
 use Rattle.lalrpop_book.specs.Clashes.{Entry}
 use Rattle.lalrpop_book.specs.Report.{NoFault}
@@ -16,19 +16,24 @@ use Rattle.lalrpop_rules.specs.declared.rule_file.error.RuleFileError.{RuleFileE
 use Rattle.lexdfa_lib.specs.Answer.{HaveAutomaton, IsReported}
 use Rattle.lexdfa_lib.specs.Status.{outcome_status}
 use Rattle.lexdfa_lib.specs.declared.ending.Failure.{Failure}
-use Rattle.lexdfa_lib.specs.declared.ending.Failure.TheVariants.{Usage, Run}
+use Rattle.lexdfa_lib.specs.declared.ending.Failure.TheVariants.{Usage, Run as Failing}
 use Rattle.lexdfa_lib.specs.declared.error.RunError.TheVariants as run_errors
 use Rattle.lexdfa_lib.specs.declared.outcome.Outcome.{Outcome}
 use Rattle.lexdfa_lib.specs.declared.outcome.Outcome.TheVariants.{Ambiguous}
 use Rattle.tokens_lib.specs.Answer.{Answer, refusal, headed, Reads, TextsAnswer, FirstTextsAnswer}
 use Rattle.lines_lib.specs.ClashesShown.{AreClashesShown}
-use Rattle.tokens_lib.specs.Command.{IsCommand}
+use Rattle.tokens_lib.specs.Arguments.{options, names}
+use Rattle.tokens_lib.specs.Command.{IsCommand, IsArgumentsError}
 use Rattle.tokens_lib.specs.Reasons.{SaysBadLine, SaysRules, SaysTerminals}
 use Rattle.tokens_lib.specs.RuleClashes.{AreRuleClashes, IsRuleFault, named_line}
 use Rattle.tokens_lib.specs.Streams.{Given}
 use Rattle.tokens_lib.specs.TextAnswer.{TokensAnswer, PiecesAnswer, PageAnswer}
+use Rattle.tokens_lib.specs.Usage.{help, version, wrong_text}
+use Rattle.tokens_lib.specs.declared.command.Action.{Action}
+use Rattle.tokens_lib.specs.declared.command.Action.TheVariants.{Cut, Show, CutByTerminals, Clashes, TerminalClashes}
+use Rattle.tokens_lib.specs.declared.command.ArgumentsError.{ArgumentsError}
 use Rattle.tokens_lib.specs.declared.command.Command.{Command}
-use Rattle.tokens_lib.specs.declared.command.Command.TheVariants.{Cut, Show, Clashes, CutByTerminals, TerminalClashes}
+use Rattle.tokens_lib.specs.declared.command.Command.TheVariants.{Help, Version, Run}
 
 -- ---- named rules
 
@@ -109,36 +114,39 @@ TerminalClashesAnswer file bytes answer =
 
 -- ---- the program
 
--- the answer for a command, by what is answered to texts
+-- only something that was asked for is written
+abbrev pub information : List ℕ → Answer
+information out = record { status = 0; out = out; err = [] }
+
+-- the answer for an action by a file of rules on files, by what is answered to texts
+abbrev pub ActionAnswer : (List ℕ → Given → Type 0) → ((List ℕ → List ℕ → Answer → Type 0) → List (List ℕ) → Answer → Type 0) → Action → List ℕ → List (List ℕ) → Answer → Type 0
+ActionAnswer Gives Texts (Cut form recovers) rules files answer =
+    Reads Gives (RulesOf (LexerOf (λ set. Texts (PiecesAnswer set form recovers (nat_lt 1 (length files))) files))) rules answer
+ActionAnswer Gives Texts (Show markup) rules files answer = Reads Gives (RulesOf (LexerOf (λ set. Texts (PageAnswer set markup) files))) rules answer
+ActionAnswer Gives Texts (CutByTerminals places) rules files answer = Reads Gives (TerminalsOf (λ ts ps. Texts (TokensAnswer ts ps places) files)) rules answer
+ActionAnswer Gives Texts Clashes rules files answer = Reads Gives (RulesOf ClashesAnswer) rules answer
+ActionAnswer Gives Texts TerminalClashes rules files answer = Reads Gives TerminalClashesAnswer rules answer
+
+-- the answer for a command
 abbrev pub CommandAnswer : (List ℕ → Given → Type 0) → ((List ℕ → List ℕ → Answer → Type 0) → List (List ℕ) → Answer → Type 0) → Command → Answer → Type 0
-CommandAnswer Gives Texts (Cut form recovers rules files) answer =
-    Reads Gives (RulesOf (LexerOf (λ set. Texts (PiecesAnswer set form recovers (nat_lt 1 (length files.now))) (map string_bytes files.now)))) rules.now answer
-CommandAnswer Gives Texts (Show markup rules files) answer =
-    Reads Gives (RulesOf (LexerOf (λ set. Texts (PageAnswer set markup) (map string_bytes files.now)))) rules.now answer
-CommandAnswer Gives Texts (Clashes rules) answer = Reads Gives (RulesOf ClashesAnswer) rules.now answer
-CommandAnswer Gives Texts (CutByTerminals places rules files) answer =
-    Reads Gives (TerminalsOf (λ ts ps. Texts (TokensAnswer ts ps places) (map string_bytes files.now))) rules.now answer
-CommandAnswer Gives Texts (TerminalClashes rules) answer = Reads Gives TerminalClashesAnswer rules.now answer
+CommandAnswer Gives Texts Help answer = answer ≡ information help
+CommandAnswer Gives Texts Version answer = answer ≡ information version
+CommandAnswer Gives Texts (Run action rules files) answer = ActionAnswer Gives Texts action rules.now (map (λ file. file.now) files.items) answer
 
--- what is said of arguments that are no command
-abbrev pub usage : List ℕ
-usage =
-    codes "tokens: usage: tokens [--recover] [--json] RULES [FILE ..]\n       tokens --html RULES [FILE ..]\n       tokens --ansi RULES [FILE ..]\n       tokens --clashes RULES\n       tokens --lines [--places] RULES [FILE ..]\n       tokens --lines --clashes RULES\n"
-
--- what is said of a run that fails
+-- what is said of a run that fails, or of arguments that aren't UTF-8
 abbrev pub failure_text : Failure → List ℕ
-failure_text Usage = usage
-failure_text (Run run_errors.OutOfMemory) = codes "tokens: out of memory\n"
-failure_text (Run run_errors.Read) = codes "tokens: read failed\n"
-failure_text (Run run_errors.Write) = codes "tokens: write failed\n"
+failure_text Usage = codes "tokens: an argument isn't UTF-8\n"
+failure_text (Failing run_errors.OutOfMemory) = codes "tokens: out of memory\n"
+failure_text (Failing run_errors.Read) = codes "tokens: read failed\n"
+failure_text (Failing run_errors.Write) = codes "tokens: write failed\n"
 
 -- the answer for these arguments
 abbrev pub IsAnswer : (List ℕ → Given → Type 0) → (Given → Type 0) → List (List ℕ) → Answer → Type 0
 IsAnswer Gives InputGives words answer =
-    (((command : Command) → ¬ IsCommand words command) × (answer ≡ refusal 4 usage))
-    ⊎ ((command : Command) × (IsCommand words command × CommandAnswer Gives (TextsAnswer Gives InputGives) command answer))
+    ((error : ArgumentsError) × (IsArgumentsError (options words) (names words) error × (answer ≡ refusal 4 (wrong_text error))))
+    ⊎ ((command : Command) × (IsCommand (options words) (names words) command × CommandAnswer Gives (TextsAnswer Gives InputGives) command answer))
 
 -- the answer for the command that these arguments are, to the first texts alone
 abbrev pub IsFirstAnswer : (List ℕ → Given → Type 0) → (Given → Type 0) → List (List ℕ) → Answer → Type 0
 IsFirstAnswer Gives InputGives words answer =
-    (command : Command) × (IsCommand words command × CommandAnswer Gives (FirstTextsAnswer Gives InputGives) command answer)
+    (command : Command) × (IsCommand (options words) (names words) command × CommandAnswer Gives (FirstTextsAnswer Gives InputGives) command answer)

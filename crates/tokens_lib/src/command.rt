@@ -1,9 +1,14 @@
 //! The program's arguments.
-ghost use Rattle.std.specs.Prelude.{◌≡◌, true, false, ◌∷◌, IfSome, IfNone, map, string_bytes};
-ghost use Rattle.tokens_lib.specs.Command.{IsCommand, IsOption};
-ghost use Rattle.tokens_lib.specs.declared.command.Command.{Command as Found};
+ghost use Rattle.std.specs.Prelude.{◌≡◌, ◌≢◌, [], ◌∷◌, true, false, not, map, find, filter, option_map, string_bytes, List, ℕ, IfOk, IfErr, IfSome, IfNone};
+ghost use Rattle.std.specs.Borrow.{Bor};
+ghost use Rattle.tokens_lib.specs.Arguments.{options, names};
+ghost use Rattle.tokens_lib.specs.Command.{IsCommand, IsFilesRun, IsFilesError, IsRun, IsRunError, IsArgumentsError, has, read_files, known, lists, options_of};
+ghost use Rattle.tokens_lib.specs.declared.command.Action.{Action as AnAction};
+ghost use Rattle.tokens_lib.specs.declared.command.ArgumentsError.TheVariants.{OutOfMemory};
 
+use crate::arguments::{Parted, part};
 use crate::layout::LineForm;
+use std::alloc::{AllocError, Global};
 
 /// How a text is shown.
 ///
@@ -22,158 +27,316 @@ pub enum Markup {
     Ansi,
 }
 
-/// What the program has to do.
+/// What is done with a file of rules.
 ///
 /// ```
-/// use tokens_lib::{Command, command_of};
+/// use tokens_lib::{Action, LineForm};
 ///
-/// let words = vec![in alloc; String::from_str(alloc, "--clashes")?, String::from_str(alloc, "c.rules")?]?;
-/// let lists_clashes = matches!(command_of(&words), Some(Command::Clashes { .. })); // true
+/// let action = Action::Cut { form: LineForm::Json, recovers: false }; // `--json`
 /// ```
-#[derive(Clone, Copy)]
-pub enum Command<'words> {
-    /// Cut each of the files, or standard input if there are none, by the named rules of the file `rules`.
+#[derive(Clone, Copy, Debug, PartialEq, Eq)]
+pub enum Action {
+    /// The texts are cut by named rules, and the lines of their pieces are written.
     Cut {
         /// What a line looks like.
         form: LineForm,
         /// Whether cutting goes on after a fault.
         recovers: bool,
-        rules: &'words str,
-        files: &'words [String],
     },
-    /// Show each of the files, or standard input if there are none, as HTML or in colours, by the named rules of the file
-    /// `rules`.
+    /// The texts are cut by named rules, and shown.
     Show {
         markup: Markup,
-        rules: &'words str,
-        files: &'words [String],
     },
-    /// List all pairs of named rules of the file `rules` that clash.
-    Clashes {
-        rules: &'words str,
-    },
-    /// Cut each of the files, or standard input if there are none, by the terminals of the file `rules`.
+    /// The texts are cut by terminals, and the lines of their tokens are written.
     CutByTerminals {
         /// Whether the line of a token begins with its place.
         places: bool,
-        rules: &'words str,
-        files: &'words [String],
     },
-    /// List all pairs of terminals of the file `rules` that clash.
-    TerminalClashes {
+    /// The pairs of named rules that clash are listed.
+    Clashes,
+    /// The pairs of terminals that clash are listed.
+    TerminalClashes,
+}
+
+/// What the program has to do.
+///
+/// ```
+/// use tokens_lib::{Action, Command, command_of};
+///
+/// let words = vec![in alloc; String::from_str(alloc, "c.rules")?, String::from_str(alloc, "--clashes")?]?;
+/// let lists = matches!(command_of(alloc, &words), Ok(Command::Run { action: Action::Clashes, .. })); // true
+/// ```
+#[derive(Debug, Drop)]
+pub enum Command<'words> {
+    /// Write which options there are.
+    Help,
+    /// Write the version.
+    Version,
+    /// Do this by the file `rules` with each of the files, or with standard input if there are none.
+    Run {
+        action: Action,
         rules: &'words str,
+        files: Vec<&'words str>,
     },
 }
 
-// The command of one option.
-fn with_option<'words>(
-    option: &'words str,
-    rules: &'words str,
-    files: &'words [String],
-) -> Option<Command<'words>>
-    requires option { IsOption option.now }
-    requires rules { ¬ IsOption rules.now }
-    ensures some { IfSome result (λ found.
-        IsCommand (option.now ∷ rules.now ∷ map string_bytes files.now) found) }
-    ensures none { IfNone result ((found : Found)
-        → ¬ IsCommand (option.now ∷ rules.now ∷ map string_bytes files.now) found) }
-{
-    match (option, files) {
-        ("--recover", files) => Some(Command::Cut {
-            form: LineForm::Plain,
-            recovers: true,
-            rules,
-            files,
-        }),
-        ("--json", files) => Some(Command::Cut {
-            form: LineForm::Json,
-            recovers: false,
-            rules,
-            files,
-        }),
-        ("--html", files) => Some(Command::Show {
-            markup: Markup::Html,
-            rules,
-            files,
-        }),
-        ("--ansi", files) => Some(Command::Show {
-            markup: Markup::Ansi,
-            rules,
-            files,
-        }),
-        ("--lines", files) => Some(Command::CutByTerminals {
-            places: false,
-            rules,
-            files,
-        }),
-        ("--clashes", []) => Some(Command::Clashes { rules }),
-        _ => None,
+/// Why arguments ask for nothing that the program does.
+///
+/// ```
+/// use tokens_lib::{ArgumentsError, command_of};
+///
+/// let lacks_rules = matches!(command_of(alloc, &[]), Err(ArgumentsError::NoRules)); // true
+/// ```
+#[derive(Debug, Drop)]
+pub enum ArgumentsError<'words> {
+    /// A request for memory was refused.
+    OutOfMemory,
+    /// There is no such option.
+    Unknown { option: &'words str },
+    /// No file of rules is named.
+    NoRules,
+    /// Nothing is done by just these options.
+    Apart { options: Vec<&'static str> },
+    /// Clashes are listed, and no file is read.
+    NoFiles { file: &'words str },
+    /// Standard input, `-`, stands among other files.
+    InputAmongFiles,
+}
+
+impl From<AllocError> for ArgumentsError<'_> {
+    ghost from_gives = { λ _ e. e ≡ OutOfMemory };
+
+    fn from(_error: AllocError) -> Self {
+        ArgumentsError::OutOfMemory
     }
 }
 
-// The command of two options.
-fn with_options<'words>(
-    first: &'words str,
-    second: &'words str,
-    rules: &'words str,
-    files: &'words [String],
-) -> Option<Command<'words>>
-    requires first { IsOption first.now }
-    requires second { IsOption second.now }
-    requires rules { ¬ IsOption rules.now }
-    ensures some { IfSome result (λ found.
-        IsCommand (first.now ∷ second.now ∷ rules.now ∷ map string_bytes files.now) found) }
-    ensures none { IfNone result ((found : Found)
-        → ¬ IsCommand (first.now ∷ second.now ∷ rules.now ∷ map string_bytes files.now) found) }
+// The options, but those of help and version, in the order in which specs/Command.antt has them.
+const KNOWN: [&str; 7] = [
+    "--recover",
+    "--json",
+    "--html",
+    "--ansi",
+    "--lines",
+    "--places",
+    "--clashes",
+];
+
+// Whether a word is among others.
+fn has(words: &[&str], word: &str) -> bool
+    ensures { result ≡ has (map (λ w. w.now) words.now) word.now }
 {
-    match (first, second, files) {
-        ("--recover", "--json", files) | ("--json", "--recover", files) => Some(Command::Cut {
-            form: LineForm::Json,
-            recovers: true,
-            rules,
-            files,
-        }),
-        ("--lines", "--places", files) => Some(Command::CutByTerminals {
-            places: true,
-            rules,
-            files,
-        }),
-        ("--lines", "--clashes", []) => Some(Command::TerminalClashes { rules }),
-        _ => None,
+    for other in words {
+        if *other == word {
+            return true;
+        }
     }
+    false
 }
 
-fn is_option(word: &str) -> bool
-    ensures yes { result ≡ true → IsOption word.now }
-    ensures no { result ≡ false → ¬ IsOption word.now }
+fn is_known(option: &str) -> bool
+    ensures { result ≡ has known option.now }
 {
-    word.starts_with("--")
+    has(&KNOWN, option)
 }
 
-/// The command of these arguments: at most two options, which begin with `--`, then RULES, which does not, and then files of
-/// any name. The options are `[--recover] [--json]`, in either order, `--html`, `--ansi`, `--clashes`, `--lines`,
-/// `--lines --places` or `--lines --clashes`. `--clashes` takes no files. `None` for any other arguments.
-pub fn command_of(words: &[String]) -> Option<Command<'_>>
-    ensures some { IfSome result (λ found. IsCommand (map string_bytes words.now) found) }
-    ensures none { IfNone result ((found : Found)
-        → ¬ IsCommand (map string_bytes words.now) found) }
+// The first unknown option.
+fn unknown<'words>(options: &[&'words str]) -> Option<&'words str>
+    ensures { option_map (λ w. w.now) result ≡ find (λ option. not (has known option)) (map (λ w. w.now) options.now) }
 {
-    let (first, others) = words.split_first()?;
-    if !is_option(first.as_str()) {
-        return Some(Command::Cut {
-            form: LineForm::Plain,
-            recovers: false,
-            rules: first.as_str(),
-            files: others,
-        });
-    }
-    let (second, others) = others.split_first()?;
-    if !is_option(second.as_str()) {
-        return with_option(first.as_str(), second.as_str(), others);
-    }
-    let (third, others) = others.split_first()?;
-    if !is_option(third.as_str()) {
-        return with_options(first.as_str(), second.as_str(), third.as_str(), others);
+    for option in options {
+        if !is_known(option) {
+            return Some(option);
+        }
     }
     None
+}
+
+// Those of all options that are given.
+fn given<'all>(
+    alloc: Global,
+    options: &[&str],
+    all: &[&'all str],
+) -> Result<Vec<&'all str>, AllocError>
+    ensures { IfOk result (λ found. map (λ w. w.now) found.items ≡ filter (has (map (λ w. w.now) options.now)) (map (λ w. w.now) all.now)) }
+{
+    let mut found = Vec::new(alloc);
+    for option in all {
+        if has(options, option) {
+            found.push(*option)?;
+        }
+    }
+    Ok(found)
+}
+
+impl Action {
+    // Whether it lists clashes, for which no files are read.
+    fn lists(self) -> bool
+        ensures { result ≡ lists self }
+    {
+        matches!(self, Action::Clashes | Action::TerminalClashes)
+    }
+}
+
+fn action_of_one(option: &str) -> Option<Action>
+    ensures some { IfSome result (λ action. option.now ∷ [] ≡ options_of action) }
+    ensures none { IfNone result ((action : AnAction) → option.now ∷ [] ≢ options_of action) }
+{
+    match option {
+        "--recover" => Some(Action::Cut {
+            form: LineForm::Plain,
+            recovers: true,
+        }),
+        "--json" => Some(Action::Cut {
+            form: LineForm::Json,
+            recovers: false,
+        }),
+        "--html" => Some(Action::Show {
+            markup: Markup::Html,
+        }),
+        "--ansi" => Some(Action::Show {
+            markup: Markup::Ansi,
+        }),
+        "--lines" => Some(Action::CutByTerminals { places: false }),
+        "--clashes" => Some(Action::Clashes),
+        _ => None,
+    }
+}
+
+fn action_of_two(first: &str, second: &str) -> Option<Action>
+    ensures some { IfSome result (λ action. first.now ∷ second.now ∷ [] ≡ options_of action) }
+    ensures none { IfNone result ((action : AnAction) → first.now ∷ second.now ∷ [] ≢ options_of action) }
+{
+    match (first, second) {
+        ("--recover", "--json") => Some(Action::Cut {
+            form: LineForm::Json,
+            recovers: true,
+        }),
+        ("--lines", "--places") => Some(Action::CutByTerminals { places: true }),
+        ("--lines", "--clashes") => Some(Action::TerminalClashes),
+        _ => None,
+    }
+}
+
+// The action with just these options, in the order of the table.
+fn action_of(options: &[&str]) -> Option<Action>
+    ensures some { IfSome result (λ action. map (λ w. w.now) options.now ≡ options_of action) }
+    ensures none { IfNone result ((action : AnAction) → map (λ w. w.now) options.now ≢ options_of action) }
+{
+    match options {
+        [] => Some(Action::Cut {
+            form: LineForm::Plain,
+            recovers: false,
+        }),
+        [option] => action_of_one(option),
+        [first, second] => action_of_two(first, second),
+        _ => None,
+    }
+}
+
+// The files that are read: none where `-` stands alone, which is standard input.
+fn read_files<'words>(named: Vec<&'words str>) -> Vec<&'words str>
+    ensures { map (λ w. w.now) result.items ≡ read_files (map (λ w. w.now) named.entry.items) }
+{
+    let mut files = named;
+    let is_input = match files.as_slice() {
+        [file] => *file == "-",
+        _ => false,
+    };
+    if is_input {
+        files.clear();
+    }
+    files
+}
+
+// This action, if it reads these files.
+fn run_by<'words>(
+    action: Action,
+    rules: &'words str,
+    named: Vec<&'words str>,
+) -> Result<Command<'words>, ArgumentsError<'words>>
+    ensures command { IfOk result (λ command. IsFilesRun action rules.entry.now (map (λ w. w.now) named.entry.items) command) }
+    ensures error { IfErr result (λ e. IsFilesError action (map (λ w. w.now) named.entry.items) e) }
+{
+    if action.lists() {
+        if let [file, ..] = named.as_slice() {
+            return Err(ArgumentsError::NoFiles { file });
+        }
+    }
+    let files = read_files(named);
+    if has(&files, "-") {
+        return Err(ArgumentsError::InputAmongFiles);
+    }
+    Ok(Command::Run {
+        action,
+        rules,
+        files,
+    })
+}
+
+// The first name, which is that of the file of rules, and the others.
+fn rules_and_files<'words>(names: Vec<&'words str>) -> Option<(&'words str, Vec<&'words str>)>
+    ensures none { IfNone result (names.entry.items ≡ []) }
+    ensures some { IfSome result (λ found. map (λ w. w.now) names.entry.items ≡ found.0.now ∷ map (λ w. w.now) found.1.items) }
+{
+    let mut files = names;
+    if files.is_empty() {
+        return None;
+    }
+    let rules = files.remove(0);
+    Some((rules, files))
+}
+
+// The command with a file of rules and files.
+fn command_by_rules<'words>(
+    alloc: Global,
+    options: &[&str],
+    names: Vec<&'words str>,
+) -> Result<Command<'words>, ArgumentsError<'words>>
+    ensures command { IfOk result (λ command. IsRun (map (λ w. w.now) options.now) (map (λ w. w.now) names.entry.items) command) }
+    ensures error { IfErr result (λ e. e ≢ OutOfMemory → IsRunError (map (λ w. w.now) options.now) (map (λ w. w.now) names.entry.items) e) }
+{
+    let Some((rules, files)) = rules_and_files(names) else {
+        return Err(ArgumentsError::NoRules);
+    };
+    let options = given(alloc, options, &KNOWN)?;
+    match action_of(&options) {
+        Some(action) => run_by(action, rules, files),
+        None => Err(ArgumentsError::Apart { options }),
+    }
+}
+
+// The command that these options and names ask for.
+fn command_with<'words>(
+    alloc: Global,
+    options: &[&'words str],
+    names: Vec<&'words str>,
+) -> Result<Command<'words>, ArgumentsError<'words>>
+    ensures command { IfOk result (λ command. IsCommand (map (λ w. w.now) options.now) (map (λ w. w.now) names.entry.items) command) }
+    ensures error { IfErr result (λ e. e ≢ OutOfMemory → IsArgumentsError (map (λ w. w.now) options.now) (map (λ w. w.now) names.entry.items) e) }
+{
+    if has(options, "--help") {
+        return Ok(Command::Help);
+    }
+    if has(options, "--version") {
+        return Ok(Command::Version);
+    }
+    match unknown(options) {
+        Some(option) => Err(ArgumentsError::Unknown { option }),
+        None => command_by_rules(alloc, options, names),
+    }
+}
+
+/// The command that the arguments ask for. An argument that begins with two dashes and stands before the first `--` is an
+/// option; the others are RULES and files. Options count as a set: their order, and how often they stand, don't matter.
+///
+/// # Errors
+///
+/// What is wrong with the arguments; `OutOfMemory` if a request for memory was refused.
+pub fn command_of(alloc: Global, words: &[String]) -> Result<Command<'_>, ArgumentsError<'_>>
+    ensures command { IfOk result (λ command. IsCommand (options (map string_bytes words.now)) (names (map string_bytes words.now)) command) }
+    ensures error { IfErr result (λ e. e ≢ OutOfMemory → IsArgumentsError (options (map string_bytes words.now)) (names (map string_bytes words.now)) e) }
+{
+    let Parted { options, names } = part(alloc, words)?;
+    command_with(alloc, &options, names)
 }

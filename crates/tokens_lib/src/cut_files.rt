@@ -1,5 +1,5 @@
 //! Cutting files one after another: the lines or the markup of each are written.
-ghost use Rattle.std.specs.Prelude.{◌≡◌, ◌≢◌, max, false, true, map, string_bytes, codes, Option, List, ℕ, IfOk, OnOk, OnErr, IfErr};
+ghost use Rattle.std.specs.Prelude.{◌≡◌, ◌≢◌, max, false, true, map, codes, Option, List, ℕ, IfOk, OnOk, OnErr, IfErr};
 ghost use Rattle.std.specs.Io.KnownBytes.{Appends};
 ghost use Rattle.std.specs.Str.{IsCharBoundary};
 ghost use Rattle.tokens_lib.specs.Answer.{Answer, Answered, TextOf, Reads, FilesAnswer, TextsAnswer, FirstFilesAnswer, FirstTextsAnswer, Begun};
@@ -14,9 +14,9 @@ use crate::item_lines::write_items;
 use crate::layout::{Layout, LineForm};
 use crate::page::write_page;
 use lalrpop_lexer::Lexer;
-use lalrpop_rules::RuleLexer;
+use lalrpop_rules::{RuleLexer, without_mark};
 use lexdfa_lib::{Outcome, RunError, Watched};
-use lines_lib::{text_of, write_tokens};
+use lines_lib::{TextError, write_tokens};
 use std::alloc::Global;
 use std::io::{Read, Write};
 
@@ -204,10 +204,13 @@ fn cut_bytes<W: Write, E: Write>(
     ensures no_late_write { out.new.late ≡ out.old.late }
     ensures no_late_message { err.new.late ≡ err.old.late }
 {
-    match text_of(bytes) {
-        Ok(text) => cut_text(alloc, task, name, text.as_str(), out, err),
+    match str::from_utf8(without_mark(&bytes)) {
+        Ok(text) => cut_text(alloc, task, name, text, out, err),
         Err(error) => {
-            let Ok(reason) = format!(in alloc; "{error}") else {
+            let lack = TextError::NotText {
+                at: error.valid_up_to(),
+            };
+            let Ok(reason) = format!(in alloc; "{lack}") else {
                 return Err(RunError::OutOfMemory);
             };
             say_about(alloc, name, reason.as_str(), err)?;
@@ -287,17 +290,17 @@ fn cut_each<F: Files, W: Write, E: Write>(
     alloc: Global,
     task: &Task<'_>,
     files: &F,
-    names: &[String],
+    names: &[&str],
     out: &mut Watched<W>,
     err: &mut Watched<E>,
 ) -> Result<u8, RunError>
     requires out_good { out.old.failed ≡ false }
     ensures answer { IfOk result (λ status. (answer : Answer)
-        × (FilesAnswer (F.gives files.now) (TaskAnswer task.now) (map string_bytes names.now) answer
+        × (FilesAnswer (F.gives files.now) (TaskAnswer task.now) (map (λ name. name.now) names.now) answer
         × Answered W.contents E.contents out.old out.new err.old err.new status answer)) }
     ensures good { OnOk result (out.new.failed ≡ false) }
     ensures begun { OnErr result (Begun (FirstFilesAnswer (F.gives files.now) (TaskAnswer task.now)
-        (map string_bytes names.now))
+        (map (λ name. name.now) names.now))
         (W.contents out.old.inner) (W.contents out.new.inner)) }
     ensures memory { IfErr result (λ e. e ≡ RunError.OutOfMemory → out.new.failed ≡ false) }
     ensures write { IfErr result (λ e. e ≡ RunError.Write → out.new.failed ≡ true) }
@@ -307,7 +310,7 @@ fn cut_each<F: Files, W: Write, E: Write>(
 {
     let mut status = 0u8;
     for name in names {
-        let own = cut_file(alloc, task, files, name.as_str(), out, err)?;
+        let own = cut_file(alloc, task, files, name, out, err)?;
         status = worse(status, own);
     }
     Ok(status)
@@ -318,7 +321,7 @@ pub(crate) fn cut_all<F: Files, R: Read, W: Write, E: Write>(
     alloc: Global,
     task: &Task<'_>,
     files: &F,
-    names: &[String],
+    names: &[&str],
     input: &mut Watched<R>,
     out: &mut Watched<W>,
     err: &mut Watched<E>,
@@ -327,11 +330,11 @@ pub(crate) fn cut_all<F: Files, R: Read, W: Write, E: Write>(
     requires out_good { out.old.failed ≡ false }
     ensures answer { IfOk result (λ status. (answer : Answer)
         × (TextsAnswer (F.gives files.now) (StreamGives R.remaining input.old input.new)
-        (TaskAnswer task.now) (map string_bytes names.now) answer
+        (TaskAnswer task.now) (map (λ name. name.now) names.now) answer
         × Answered W.contents E.contents out.old out.new err.old err.new status answer)) }
     ensures good { OnOk result (out.new.failed ≡ false) }
     ensures begun { OnErr result (Begun (FirstTextsAnswer (F.gives files.now)
-        (StreamGives R.remaining input.old input.new) (TaskAnswer task.now) (map string_bytes names.now))
+        (StreamGives R.remaining input.old input.new) (TaskAnswer task.now) (map (λ name. name.now) names.now))
         (W.contents out.old.inner) (W.contents out.new.inner)) }
     ensures memory { IfErr result (λ e. e ≡ RunError.OutOfMemory → out.new.failed ≡ false) }
     ensures write { IfErr result (λ e. e ≡ RunError.Write → out.new.failed ≡ true) }

@@ -1,6 +1,7 @@
 //! The program `tokens`, which cuts files by a file of named rules or of terminals, one a line, and its parts.
 #![tactic(auto)]
 
+mod arguments;
 mod by_rules;
 mod by_terminals;
 mod command;
@@ -18,8 +19,9 @@ mod program;
 mod reasons;
 mod rule_explain;
 mod shown;
+mod usage;
 
-pub use command::{Command, Markup, command_of};
+pub use command::{Action, ArgumentsError, Command, Markup, command_of};
 pub use files::{Files, NoBytes};
 pub use item_lines::write_items;
 pub use lalrpop_lexer::{Lexer, Token, TokenFault};

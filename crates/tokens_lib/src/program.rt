@@ -1,32 +1,120 @@
 //! The program `tokens`: its arguments, what it says if it fails, and its exit status.
-ghost use Rattle.std.specs.Prelude.{◌≡◌, ◌≢◌, ◌≤◌, false, true, map, string_bytes, IfOk, OnOk, OnErr, IfErr};
+ghost use Rattle.std.specs.Prelude.{◌≡◌, ◌≢◌, ◌≤◌, false, true, map, length, nat_lt, string_bytes, IfOk, OnOk, OnErr, IfErr};
+ghost use Rattle.std.specs.Io.KnownBytes.{Appends};
 ghost use Rattle.std.specs.Process.{exit_status};
+ghost use Rattle.lexdfa_lib.specs.Watch.{AppendsPrefix};
 ghost use Rattle.tokens_lib.specs.Answer.{Answer, Answered, TextsAnswer, FirstTextsAnswer, Begun};
-ghost use Rattle.tokens_lib.specs.Program.{CommandAnswer, IsAnswer, IsFirstAnswer, failure_text};
-ghost use Rattle.tokens_lib.specs.Streams.{StreamGives};
+ghost use Rattle.tokens_lib.specs.Program.{ActionAnswer, CommandAnswer, IsAnswer, IsFirstAnswer, failure_text};
+ghost use Rattle.tokens_lib.specs.Streams.{StreamGives, Takes};
+ghost use Rattle.tokens_lib.specs.Usage.{help, version, wrong_text};
 
 use crate::by_rules::{lexer_by_name, list_clashes};
 use crate::by_terminals::{list_terminal_clashes, terminals_by_name};
-use crate::command::{Command, command_of};
+use crate::command::{Action, ArgumentsError, Command, command_of};
 use crate::cut_files::{Task, cut_all};
 use crate::files::{ErrorStream, Files, SystemFiles, say};
-use lexdfa_lib::{Failure, RunError, Watched, flushed, status_of, without_arguments};
+use crate::usage::{help, version, wrong_text};
+use lexdfa_lib::{Failure, RunError, Watched, flushed, status_of, without_arguments, write_whole};
 use std::alloc::Global;
 use std::env;
 use std::io::{self, Eprint, Read, Write};
 use std::process::ExitCode;
 use std::rt::{Env, Files as RuntimeFiles};
 
-const USAGE: &str = "tokens: usage: tokens [--recover] [--json] RULES [FILE ..]
-       tokens --html RULES [FILE ..]
-       tokens --ansi RULES [FILE ..]
-       tokens --clashes RULES
-       tokens --lines [--places] RULES [FILE ..]
-       tokens --lines --clashes RULES
-";
-
 // The status of wrong arguments.
 const WRONG_ARGUMENTS: u8 = 4;
+
+// Writes what was asked for, and returns the status.
+fn inform<W: Write>(text: &str, out: &mut Watched<W>) -> Result<u8, RunError>
+    requires out_good { out.old.failed ≡ false }
+    ensures status { IfOk result (λ status. status ≡ 0) }
+    ensures written { OnOk result
+        (Appends (W.contents out.old.inner) (W.contents out.new.inner) text.now) }
+    ensures good { OnOk result (out.new.failed ≡ false) }
+    ensures prefix { OnErr result
+        (AppendsPrefix (W.contents out.old.inner) (W.contents out.new.inner) text.now) }
+    ensures failed { OnErr result (out.new.failed ≡ true) }
+    ensures write { IfErr result (λ e. e ≡ RunError.Write) }
+    ensures no_late_write { out.new.late ≡ out.old.late }
+{
+    write_whole(out, text.as_bytes())?;
+    Ok(0)
+}
+
+// Whether there are several files, so that each line names its own.
+fn are_several(names: &[&str]) -> bool
+    ensures { result ≡ nat_lt 1 (length (map (λ name. name.now) names.now)) }
+{
+    names.len() > 1
+}
+
+// Does an action by a file of rules on the files, or on standard input if there are none, and returns the status.
+fn run_action<F: Files, R: Read, W: Write, E: Write>(
+    alloc: Global,
+    action: Action,
+    rules: &str,
+    names: &[&str],
+    files: &F,
+    input: &mut Watched<R>,
+    out: &mut Watched<W>,
+    err: &mut Watched<E>,
+) -> Result<u8, RunError>
+    requires input_good { input.old.failed ≡ false }
+    requires out_good { out.old.failed ≡ false }
+    ensures answer { IfOk result (λ status. (answer : Answer)
+        × (ActionAnswer (F.gives files.now) (TextsAnswer (F.gives files.now)
+        (StreamGives R.remaining input.old input.new)) action rules.now
+        (map (λ name. name.now) names.now) answer
+        × Answered W.contents E.contents out.old out.new err.old err.new status answer)) }
+    ensures good { OnOk result (out.new.failed ≡ false) }
+    ensures begun { OnErr result (Begun (ActionAnswer (F.gives files.now)
+        (FirstTextsAnswer (F.gives files.now) (StreamGives R.remaining input.old input.new)) action
+        rules.now (map (λ name. name.now) names.now))
+        (W.contents out.old.inner) (W.contents out.new.inner)) }
+    ensures memory { IfErr result (λ e. e ≡ RunError.OutOfMemory → out.new.failed ≡ false) }
+    ensures write { IfErr result (λ e. e ≡ RunError.Write → out.new.failed ≡ true) }
+    ensures read { IfErr result (λ e. e ≢ RunError.Read) }
+    ensures no_late_read { input.new.late ≡ input.old.late }
+    ensures no_late_write { out.new.late ≡ out.old.late }
+    ensures no_late_message { err.new.late ≡ err.old.late }
+{
+    match action {
+        Action::Cut { form, recovers } => match lexer_by_name(alloc, files, rules, err)? {
+            Ok(lexer) => {
+                let task = Task::Pieces {
+                    lexer: &lexer,
+                    form,
+                    recovers,
+                    several: are_several(names),
+                };
+                cut_all(alloc, &task, files, names, input, out, err)
+            }
+            Err(status) => Ok(status),
+        },
+        Action::Show { markup } => match lexer_by_name(alloc, files, rules, err)? {
+            Ok(lexer) => {
+                let task = Task::Markup {
+                    lexer: &lexer,
+                    markup,
+                };
+                cut_all(alloc, &task, files, names, input, out, err)
+            }
+            Err(status) => Ok(status),
+        },
+        Action::CutByTerminals { places } => match terminals_by_name(alloc, files, rules, err)? {
+            Ok(lexer) => {
+                let task = Task::Tokens {
+                    lexer: &lexer,
+                    places,
+                };
+                cut_all(alloc, &task, files, names, input, out, err)
+            }
+            Err(status) => Ok(status),
+        },
+        Action::Clashes => list_clashes(alloc, files, rules, out, err),
+        Action::TerminalClashes => list_terminal_clashes(alloc, files, rules, out, err),
+    }
+}
 
 // Does what a command says, and returns the status.
 fn run_command<F: Files, R: Read, W: Write, E: Write>(
@@ -54,58 +142,40 @@ fn run_command<F: Files, R: Read, W: Write, E: Write>(
     ensures no_late_write { out.new.late ≡ out.old.late }
     ensures no_late_message { err.new.late ≡ err.old.late }
 {
-    match *command {
-        Command::Cut {
-            form,
-            recovers,
+    match command {
+        Command::Help => inform(help(), out),
+        Command::Version => inform(version(), out),
+        Command::Run {
+            action,
             rules,
             files: names,
-        } => match lexer_by_name(alloc, files, rules, err)? {
-            Ok(lexer) => {
-                let task = Task::Pieces {
-                    lexer: &lexer,
-                    form,
-                    recovers,
-                    several: names.len() > 1,
-                };
-                cut_all(alloc, &task, files, names, input, out, err)
-            }
-            Err(status) => Ok(status),
-        },
-        Command::Show {
-            markup,
-            rules,
-            files: names,
-        } => match lexer_by_name(alloc, files, rules, err)? {
-            Ok(lexer) => {
-                let task = Task::Markup {
-                    lexer: &lexer,
-                    markup,
-                };
-                cut_all(alloc, &task, files, names, input, out, err)
-            }
-            Err(status) => Ok(status),
-        },
-        Command::Clashes { rules } => list_clashes(alloc, files, rules, out, err),
-        Command::CutByTerminals {
-            places,
-            rules,
-            files: names,
-        } => match terminals_by_name(alloc, files, rules, err)? {
-            Ok(lexer) => {
-                let task = Task::Tokens {
-                    lexer: &lexer,
-                    places,
-                };
-                cut_all(alloc, &task, files, names, input, out, err)
-            }
-            Err(status) => Ok(status),
-        },
-        Command::TerminalClashes { rules } => list_terminal_clashes(alloc, files, rules, out, err),
+        } => run_action(alloc, *action, rules, names, files, input, out, err),
     }
 }
 
-/// Does what the arguments say (`command_of`): cuts the files, or standard input if none is named, by the file of rules that is
+// Says what is wrong with the arguments, and returns the status.
+fn refuse<E: Write>(
+    alloc: Global,
+    error: &ArgumentsError<'_>,
+    err: &mut Watched<E>,
+) -> Result<u8, RunError>
+    ensures status { IfOk result (λ status. status ≡ 4) }
+    ensures other { OnOk result (error.now ≢ ArgumentsError.OutOfMemory) }
+    ensures said { OnOk result (Takes E.contents err.old err.new (wrong_text error.now)) }
+    ensures memory { IfErr result (λ e. e ≡ RunError.OutOfMemory) }
+    ensures no_late_message { err.new.late ≡ err.old.late }
+{
+    if let ArgumentsError::OutOfMemory = error {
+        return Err(RunError::OutOfMemory);
+    }
+    let Ok(message) = wrong_text(alloc, error) else {
+        return Err(RunError::OutOfMemory);
+    };
+    say(message.as_str(), err);
+    Ok(WRONG_ARGUMENTS)
+}
+
+/// Does what the arguments say (`command_of`): writes what was asked of the program itself; cuts the files, or standard input if none is named, by the file of rules that is
 /// named first, and writes the lines of `write_items` or, by terminals, of `write_tokens`, or the markup of each text, to `out`; or
 /// lists all clashes of the rules (`write_rule_clashes`) or terminals (`write_clashes`). What is wrong is explained on `err`; if a
 /// write there fails, nothing more is said, and the run goes on.
@@ -147,12 +217,9 @@ pub fn run<F: Files, R: Read, W: Write, E: Write>(
     ensures no_late_write { out.new.late ≡ out.old.late }
     ensures no_late_message { err.new.late ≡ err.old.late }
 {
-    match command_of(words) {
-        Some(command) => run_command(alloc, &command, files, input, out, err),
-        None => {
-            say(USAGE, err);
-            Ok(WRONG_ARGUMENTS)
-        }
+    match command_of(alloc, words) {
+        Ok(command) => run_command(alloc, &command, files, input, out, err),
+        Err(error) => refuse(alloc, &error, err),
     }
 }
 
@@ -187,7 +254,7 @@ fn failure_text(failure: &Failure) -> &'static str
     ensures { result.now ≡ failure_text failure.now }
 {
     match failure {
-        Failure::Usage => USAGE,
+        Failure::Usage => "tokens: an argument isn't UTF-8\n",
         Failure::Run(RunError::OutOfMemory) => "tokens: out of memory\n",
         Failure::Run(RunError::Read) => "tokens: read failed\n",
         Failure::Run(RunError::Write) => "tokens: write failed\n",

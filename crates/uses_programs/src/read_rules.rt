@@ -1,17 +1,17 @@
 //! A lexer from a file of rules, and the program's arguments.
-ghost use Rattle.std.specs.Prelude.{◌≡◌, ◌≤◌, ℕ, List, length, map, string_bytes, IfOk, IfErr, IfSome, IfNone};
+ghost use Rattle.std.specs.Prelude.{◌≡◌, ◌≢◌, ◌≤◌, ℕ, List, length, map, string_bytes, IfOk, IfErr, IfSome};
 ghost use Rattle.std.specs.Process.{exit_status};
 ghost use Rattle.lalrpop_lexer.specs.Tree.{Tree};
 ghost use Rattle.lexdfa_lib.specs.Answer.{HaveAutomaton, IsReported};
-ghost use Rattle.tokens_lib.specs.Command.{IsCommand};
+ghost use Rattle.tokens_lib.specs.Arguments.{options, names};
+ghost use Rattle.tokens_lib.specs.Command.{IsCommand, IsArgumentsError};
 ghost use Rattle.lines_lib.specs.declared.building.BuildError.TheVariants.{OutOfMemory};
-ghost use Rattle.tokens_lib.specs.declared.command.Command.{Command as Found};
 
 use lexdfa_lib::Outcome;
 use std::alloc::{AllocError, Global};
 use std::process::ExitCode;
 use std::rt::{Env, Files};
-use tokens_lib::{BuildError, Command, command_of, lexer_of, run_program};
+use tokens_lib::{ArgumentsError, BuildError, Command, command_of, lexer_of, run_program};
 
 // How many terminals a file has.
 // Needs lines_lib::lexer_of: automaton.
@@ -39,13 +39,14 @@ pub fn report_of(alloc: Global, rules: &[u8]) -> Result<Option<Outcome>, BuildEr
     }
 }
 
-// Needs tokens_lib::command_of: some, none.
-pub fn asked_for(words: &[String]) -> Option<Command<'_>>
-    ensures some { IfSome result (λ found. IsCommand (map string_bytes words.now) found) }
-    ensures none { IfNone result ((found : Found)
-        → ¬ IsCommand (map string_bytes words.now) found) }
+// Needs tokens_lib::command_of: command, error.
+pub fn asked_for(alloc: Global, words: &[String]) -> Result<Command<'_>, ArgumentsError<'_>>
+    ensures command { IfOk result (λ command.
+        IsCommand (options (map string_bytes words.now)) (names (map string_bytes words.now)) command) }
+    ensures error { IfErr result (λ e. e ≢ ArgumentsError.OutOfMemory
+        → IsArgumentsError (options (map string_bytes words.now)) (names (map string_bytes words.now)) e) }
 {
-    command_of(words)
+    command_of(alloc, words)
 }
 
 // The program itself, called from another `main`.

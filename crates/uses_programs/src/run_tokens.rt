@@ -2,8 +2,10 @@
 ghost use Rattle.std.specs.Prelude.{◌≡◌, ◌≢◌, ◌⊎◌, [], true, false, Ok, Err, codes, length, map, string_bytes, IfOk, OnOk};
 ghost use Rattle.std.specs.Io.KnownBytes.{Appends};
 ghost use Rattle.tokens_lib.specs.Answer.{Begun};
-ghost use Rattle.tokens_lib.specs.Program.{IsFirstAnswer, usage};
+ghost use Rattle.tokens_lib.specs.Program.{IsFirstAnswer};
 ghost use Rattle.tokens_lib.specs.Streams.{StreamGives, Takes};
+ghost use Rattle.tokens_lib.specs.Usage.{wrong_text};
+ghost use Rattle.tokens_lib.specs.declared.command.ArgumentsError.TheVariants.{NoRules};
 
 use lexdfa_lib::{RunError, Watched};
 use std::alloc::Global;
@@ -32,7 +34,7 @@ impl Files for OnlyFile<'_> {
 }
 
 // Needs tokens_lib::run: answer, begun.
-/// The exit status of `tokens` without arguments: 4, after its usage on standard error, whatever the files are. Nothing is ever
+/// The exit status of `tokens` without arguments: 4, after standard error was told that RULES is missing, whatever the files are. Nothing is ever
 /// written to standard output.
 ///
 /// # Errors
@@ -49,7 +51,7 @@ pub fn without_arguments<F: Files, R: Read, W: Write, E: Write>(
     requires out_good { out.old.failed ≡ false }
     ensures status { IfOk result (λ status. status ≡ 4) }
     ensures nothing_written { Appends (W.contents out.old.inner) (W.contents out.new.inner) [] }
-    ensures said { OnOk result (Takes E.contents err.old err.new usage) }
+    ensures said { OnOk result (Takes E.contents err.old err.new (wrong_text NoRules)) }
 {
     run(alloc, &[], files, input, out, err)
 }

@@ -1,7 +1,9 @@
 -- Cases of specs/Answer.antt.
 use Rattle.std.proofs.Common.{◌≡◌, ℕ, zero, suc, inl, inr, List, [], ◌∷◌, get_or, take, codes, refl, ap, ◌∙◌, arith}
 use Rattle.std.specs.Prelude.{Some, Err}
-use Rattle.tokens_lib.specs.Answer.{Answer, silence, refusal, followed, about, FilesAnswer, FirstFilesAnswer, FirstTextsAnswer, Begun}
+use Rattle.tokens_lib.specs.Answer.{Answer, silence, refusal, followed, about, TextOf, FilesAnswer, FirstFilesAnswer, FirstTextsAnswer, Begun}
+use Rattle.std.specs.Str.{IsUtf8}
+use Rattle.std.proofs.lemmas.Str.{IsUtf8-nil}
 use Rattle.tokens_lib.specs.Streams.{Given}
 
 -- of two statuses the greater one, in either order
@@ -18,6 +20,16 @@ message = refl
 -- no file, no word
 nothing : (Gives : List ℕ → Given → Type 0) (IsFor : List ℕ → List ℕ → Answer → Type 0) → FilesAnswer Gives IsFor [] silence
 nothing Gives IsFor = refl
+
+-- ---- texts
+
+-- no bytes are a text; and a byte order mark is left out
+empty_text : (IsFor : List ℕ → List ℕ → Answer → Type 0) (file : List ℕ) (answer : Answer) → IsFor file [] answer → TextOf IsFor file [] answer
+empty_text IsFor file answer is = inr (IsUtf8-nil, is)
+
+unmarked : (IsFor : List ℕ → List ℕ → Answer → Type 0) (file : List ℕ) (answer : Answer) → IsUtf8 (codes "a") → IsFor file (codes "a") answer
+    → TextOf IsFor file (239 ∷ 187 ∷ 191 ∷ codes "a") answer
+unmarked IsFor file answer utf8 is = inr (utf8, is)
 
 -- ---- the first texts
 

@@ -1,21 +1,47 @@
 -- Cases of specs/Command.antt.
-use Rattle.std.proofs.Common.{◌≡◌, [], ◌∷◌, ◌++◌, codes, get_or, length, refl, ap, arith}
-use Rattle.tokens_lib.specs.Command.{IsOption, IsAsked}
+use Rattle.std.proofs.Common.{◌≡◌, ◌≢◌, true, false, [], ◌∷◌, codes, refl}
+use Rattle.std.specs.Prelude.{Some, None}
+use Rattle.tokens_lib.specs.Command.{given, unknown, options_of, read_files, IsFilesError, IsCommand, IsArgumentsError}
+use Rattle.tokens_lib.specs.declared.command.Action.{Action}
+use Rattle.tokens_lib.specs.declared.command.Action.TheVariants.{Cut, Show, CutByTerminals, Clashes, TerminalClashes}
+use Rattle.tokens_lib.specs.declared.command.ArgumentsError.TheVariants.{NoRules, InputAmongFiles}
+use Rattle.tokens_lib.specs.declared.command.Command.TheVariants.{Help, Version}
+use Rattle.tokens_lib.specs.declared.command.Markup.TheVariants.{Html, Ansi}
+use Rattle.tokens_lib.specs.declared.layout.LineForm.TheVariants.{Plain, Json}
 
-options : IsOption (codes "--places") × IsOption (codes "--")
-options = ((codes "places", refl), ([], refl))
+-- a set of options: neither order nor number matters
+a_set : given (codes "--places" ∷ codes "--lines" ∷ codes "--places" ∷ []) ≡ options_of (CutByTerminals true)
+a_set = refl
 
-names_of_files : (¬ IsOption (codes "-")) × (¬ IsOption (codes "c.rules")) × (¬ IsOption [])
-names_of_files = (
-  λ h. (let n : 1 ≡ length (codes "--" ++ h.0) = ap length h.1 in absurd (cc)),
-  λ h. (let n : 99 ≡ 45 = ap (λ w. get_or w 0 0) h.1 in omega (arith, n)),
-  λ h. absurd (cc (h.1)),
-)
+known_options : (unknown (codes "--json" ∷ []) ≡ None) × (unknown (codes "--json" ∷ codes "--jsn" ∷ codes "--x" ∷ []) ≡ Some (codes "--jsn"))
+known_options = (refl, refl)
 
--- `--json c.rules --x`: one option, the rules, and a file of any name
-an_option_and_rules : IsAsked (codes "--json" ∷ codes "c.rules" ∷ codes "--x" ∷ []) (codes "--json" ∷ []) (codes "c.rules") (codes "--x" ∷ [])
-an_option_and_rules = (names_of_files.1, refl)
+-- no action has the options of another
+recovers_in_json : given (codes "--json" ∷ codes "--recover" ∷ []) ≡ options_of (Cut Json true)
+recovers_in_json = refl
 
--- an option is no file of rules
-an_option_alone : ¬ IsAsked (codes "--json" ∷ []) [] (codes "--json") []
-an_option_alone h = h.0 (codes "json", refl)
+places_alone : (action : Action) → given (codes "--places" ∷ []) ≢ options_of action
+places_alone (Cut Plain false) e = absurd (cc)
+places_alone (Cut Plain true) e = absurd (cc)
+places_alone (Cut Json false) e = absurd (cc)
+places_alone (Cut Json true) e = absurd (cc)
+places_alone (Show Html) e = absurd (cc)
+places_alone (Show Ansi) e = absurd (cc)
+places_alone (CutByTerminals false) e = absurd (cc)
+places_alone (CutByTerminals true) e = absurd (cc)
+places_alone Clashes e = absurd (cc)
+places_alone TerminalClashes e = absurd (cc)
+
+-- help wins over the version, an unknown option and missing rules
+help_wins : (IsCommand (codes "--jsn" ∷ codes "--version" ∷ codes "--help" ∷ []) [] Help) × (¬ IsCommand (codes "--version" ∷ codes "--help" ∷ []) [] Version) × (¬ IsArgumentsError (codes "--help" ∷ []) [] NoRules)
+help_wins = (refl, (λ h. absurd (cc (h.0))), (λ h. absurd (cc (h.0.0))))
+
+version_alone : IsCommand (codes "--version" ∷ []) [] Version
+version_alone = (refl, refl)
+
+-- standard input alone, and among files
+input_files : (read_files (codes "-" ∷ []) ≡ []) × (read_files (codes "f" ∷ []) ≡ codes "f" ∷ []) × (read_files (codes "f" ∷ codes "-" ∷ []) ≡ codes "f" ∷ codes "-" ∷ []) × (read_files [] ≡ [])
+input_files = (refl, refl, refl, refl)
+
+input_among_files : IsFilesError (Show Html) (codes "f" ∷ codes "-" ∷ []) InputAmongFiles × (¬ IsFilesError Clashes (codes "f" ∷ codes "-" ∷ []) InputAmongFiles)
+input_among_files = ((refl, refl), λ h. absurd (cc (h.0)))

@@ -1,97 +1,23 @@
-use Rattle.std.proofs.Common.{length, map, string_bytes}
-use Rattle.std.specs.Prelude.{nat_lt}
-use Rattle.tokens_lib.specs.Answer.{TextsAnswer, FirstTextsAnswer}
-use Rattle.tokens_lib.specs.Streams.{StreamGives}
-use Rattle.tokens_lib.specs.TextAnswer.{TokensAnswer, PiecesAnswer, PageAnswer}
-use Rattle.tokens_lib.proofs.AnswerLaws.{Answered-refused}
-use Rattle.tokens_lib.proofs.ProgramLaws.{lexer_answered, terminals_answered, rules_refused}
-use Rattle.tokens_lib.proofs.BegunLaws.{lexer_begun, terminals_begun}
+use Rattle.tokens_lib.specs.Usage.{help, version}
+use Rattle.tokens_lib.proofs.ProgramLaws.{informed, information_begun}
 use Rattle.tokens_lib.proofs.program.run_command.Goals as goal
 
--- ---- the lines of pieces
+pub returns-in-Help-clause-answer : goal.returns-in-Help-clause-answer
+returns-in-Help-clause-answer g c =
+    rw c.in-Help.is
+    (informed c.inform.result c.help.result.now help g.W.Write.contents g.E.Write.contents c.args.out.now c.inform.new.out c.args.err.now c.help.ensures c.inform.ensures.status c.inform.ensures.written)
 
-pub returns-in-Ok-clause-answer : goal.returns-in-Ok-clause-answer
-returns-in-Ok-clause-answer g c =
-    let names = map string_bytes c.in-Cut.names.now in
-    rw c.in-Cut.is
-    (lexer_answered c.cut_all.result (g.F.Files.gives c.args.files.now)
-    (λ set. TextsAnswer (g.F.Files.gives c.args.files.now) (StreamGives g.R.Read.remaining c.args.input.now c.cut_all.new.input) (PiecesAnswer set c.in-Cut.form c.in-Cut.recovers (nat_lt 1 (length c.in-Cut.names.now))) names)
-    c.in-Cut.rules.now c.in-Ok.lexer g.W.Write.contents g.E.Write.contents c.args.out.now c.cut_all.new.out c.args.err.now c.lexer_by_name.new.err c.cut_all.new.err
-    (rw c.in-Ok.is at c.in_ok-lexer-in-Cut.ensures.lexer) (rw c.in-Ok.is at c.in_ok-lexer-in-Cut.ensures.quiet) c.cut_all.ensures.answer)
+pub returns-in-Help-clause-begun : goal.returns-in-Help-clause-begun
+returns-in-Help-clause-begun g c = rw c.in-Help.is (information_begun c.inform.result c.help.result.now help _ _ c.help.ensures c.inform.ensures.prefix)
 
-pub returns-in-Err-clause-answer : goal.returns-in-Err-clause-answer
-returns-in-Err-clause-answer g c =
-    let refused = rw c.in-Err.is at c.in_ok-lexer-in-Cut.ensures.refused in
-    let names = map string_bytes c.in-Cut.names.now in
-    rw c.in-Cut.is (
-      refused.0,
-      (
-        rules_refused (g.F.Files.gives c.args.files.now)
-            (λ set. TextsAnswer (g.F.Files.gives c.args.files.now) (StreamGives g.R.Read.remaining c.args.input.now c.args.input.now) (PiecesAnswer set c.in-Cut.form c.in-Cut.recovers (nat_lt 1 (length c.in-Cut.names.now))) names)
-            c.in-Cut.rules.now refused.0 refused.1.0,
-        Answered-refused g.W.Write.contents g.E.Write.contents c.args.out.now c.args.err.now c.lexer_by_name.new.err c.in-Err.status refused.0 refused.1.1,
-      ),
-    )
+pub returns-in-Version-clause-answer : goal.returns-in-Version-clause-answer
+returns-in-Version-clause-answer g c =
+    rw c.in-Version.is
+    (informed c.inform-in-Version.result c.version.result.now version g.W.Write.contents g.E.Write.contents c.args.out.now c.inform-in-Version.new.out c.args.err.now c.version.ensures
+    c.inform-in-Version.ensures.status c.inform-in-Version.ensures.written)
 
--- ---- markup
+pub returns-in-Version-clause-begun : goal.returns-in-Version-clause-begun
+returns-in-Version-clause-begun g c = rw c.in-Version.is (information_begun c.inform-in-Version.result c.version.result.now version _ _ c.version.ensures c.inform-in-Version.ensures.prefix)
 
-pub returns-in-Ok-2-clause-answer : goal.returns-in-Ok-2-clause-answer
-returns-in-Ok-2-clause-answer g c =
-    let names = map string_bytes c.in-Show.names.now in
-    rw c.in-Show.is
-    (lexer_answered c.cut_all-in-Ok-2.result (g.F.Files.gives c.args.files.now)
-    (λ set. TextsAnswer (g.F.Files.gives c.args.files.now) (StreamGives g.R.Read.remaining c.args.input.now c.cut_all-in-Ok-2.new.input) (PageAnswer set c.in-Show.markup) names)
-    c.in-Show.rules.now c.in-Ok-2.lexer g.W.Write.contents g.E.Write.contents c.args.out.now c.cut_all-in-Ok-2.new.out c.args.err.now c.lexer_by_name-in-Show.new.err c.cut_all-in-Ok-2.new.err
-    (rw c.in-Ok-2.is at c.in_ok-lexer-in-Show.ensures.lexer) (rw c.in-Ok-2.is at c.in_ok-lexer-in-Show.ensures.quiet) c.cut_all-in-Ok-2.ensures.answer)
-
-pub returns-in-Err-2-clause-answer : goal.returns-in-Err-2-clause-answer
-returns-in-Err-2-clause-answer g c =
-    let refused = rw c.in-Err-2.is at c.in_ok-lexer-in-Show.ensures.refused in
-    let names = map string_bytes c.in-Show.names.now in
-    rw c.in-Show.is (
-      refused.0,
-      (
-        rules_refused (g.F.Files.gives c.args.files.now)
-            (λ set. TextsAnswer (g.F.Files.gives c.args.files.now) (StreamGives g.R.Read.remaining c.args.input.now c.args.input.now) (PageAnswer set c.in-Show.markup) names)
-            c.in-Show.rules.now refused.0 refused.1.0,
-        Answered-refused g.W.Write.contents g.E.Write.contents c.args.out.now c.args.err.now c.lexer_by_name-in-Show.new.err c.in-Err-2.status refused.0 refused.1.1,
-      ),
-    )
-
--- ---- the lines of tokens
-
-pub returns-in-Ok-3-clause-answer : goal.returns-in-Ok-3-clause-answer
-returns-in-Ok-3-clause-answer g c =
-    let names = map string_bytes c.in-CutByTerminals.names.now in
-    rw c.in-CutByTerminals.is
-    (terminals_answered c.cut_all-in-Ok-3.result (g.F.Files.gives c.args.files.now)
-    (λ ts ps. TextsAnswer (g.F.Files.gives c.args.files.now) (StreamGives g.R.Read.remaining c.args.input.now c.cut_all-in-Ok-3.new.input) (TokensAnswer ts ps c.in-CutByTerminals.places) names)
-    c.in-CutByTerminals.rules.now c.in-Ok-3.lexer.trees c.in-Ok-3.lexer.precedences g.W.Write.contents g.E.Write.contents c.args.out.now c.cut_all-in-Ok-3.new.out
-    c.args.err.now c.terminals_by_name.new.err c.cut_all-in-Ok-3.new.err
-    (rw c.in-Ok-3.is at c.in_ok-lexer-in-CutByTerminals.ensures.lexer) (rw c.in-Ok-3.is at c.in_ok-lexer-in-CutByTerminals.ensures.quiet) c.cut_all-in-Ok-3.ensures.answer)
-
--- ---- an error
-
-pub returns-in-Ok-clause-begun : goal.returns-in-Ok-clause-begun
-returns-in-Ok-clause-begun g c =
-    let names = map string_bytes c.in-Cut.names.now in
-    rw c.in-Cut.is
-    (lexer_begun c.cut_all.result (g.F.Files.gives c.args.files.now)
-    (λ set. FirstTextsAnswer (g.F.Files.gives c.args.files.now) (StreamGives g.R.Read.remaining c.args.input.now c.cut_all.new.input) (PiecesAnswer set c.in-Cut.form c.in-Cut.recovers (nat_lt 1 (length c.in-Cut.names.now))) names)
-    c.in-Cut.rules.now c.in-Ok.lexer _ _ (rw c.in-Ok.is at c.in_ok-lexer-in-Cut.ensures.lexer) c.cut_all.ensures.begun)
-
-pub returns-in-Ok-2-clause-begun : goal.returns-in-Ok-2-clause-begun
-returns-in-Ok-2-clause-begun g c =
-    let names = map string_bytes c.in-Show.names.now in
-    rw c.in-Show.is
-    (lexer_begun c.cut_all-in-Ok-2.result (g.F.Files.gives c.args.files.now)
-    (λ set. FirstTextsAnswer (g.F.Files.gives c.args.files.now) (StreamGives g.R.Read.remaining c.args.input.now c.cut_all-in-Ok-2.new.input) (PageAnswer set c.in-Show.markup) names)
-    c.in-Show.rules.now c.in-Ok-2.lexer _ _ (rw c.in-Ok-2.is at c.in_ok-lexer-in-Show.ensures.lexer) c.cut_all-in-Ok-2.ensures.begun)
-
-pub returns-in-Ok-3-clause-begun : goal.returns-in-Ok-3-clause-begun
-returns-in-Ok-3-clause-begun g c =
-    let names = map string_bytes c.in-CutByTerminals.names.now in
-    rw c.in-CutByTerminals.is
-    (terminals_begun c.cut_all-in-Ok-3.result (g.F.Files.gives c.args.files.now)
-    (λ ts ps. FirstTextsAnswer (g.F.Files.gives c.args.files.now) (StreamGives g.R.Read.remaining c.args.input.now c.cut_all-in-Ok-3.new.input) (TokensAnswer ts ps c.in-CutByTerminals.places) names)
-    c.in-CutByTerminals.rules.now c.in-Ok-3.lexer.trees c.in-Ok-3.lexer.precedences _ _ (rw c.in-Ok-3.is at c.in_ok-lexer-in-CutByTerminals.ensures.lexer) c.cut_all-in-Ok-3.ensures.begun)
+pub returns-in-Run-clause-begun : goal.returns-in-Run-clause-begun
+returns-in-Run-clause-begun g c = rw c.in-Run.is (rw c.deref.ensures.value at c.run_action.ensures.begun)

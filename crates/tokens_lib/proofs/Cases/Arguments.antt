@@ -1,0 +1,21 @@
+-- Cases of specs/Arguments.antt.
+use Rattle.std.proofs.Common.{◌≡◌, true, false, [], ◌∷◌, codes, refl}
+use Rattle.tokens_lib.specs.Arguments.{is_end, is_option, options, names}
+
+-- two dashes end the options, and nothing else does
+ends : (is_end (codes "--") ≡ true) × (is_end (codes "---") ≡ false) × (is_end (codes "-") ≡ false)
+ends = (refl, refl, refl)
+
+are_options : (is_option (codes "--places") ≡ true) × (is_option (codes "-x") ≡ false) × (is_option (codes "-") ≡ false) × (is_option [] ≡ false)
+are_options = (refl, refl, refl, refl)
+
+-- options and names may stand among each other
+mixed : (options (codes "r" ∷ codes "--json" ∷ codes "f" ∷ codes "--recover" ∷ []) ≡ codes "--json" ∷ codes "--recover" ∷ []) × (names (codes "r" ∷ codes "--json" ∷ codes "f" ∷ []) ≡ codes "r" ∷ codes "f" ∷ [])
+mixed = (refl, refl)
+
+-- behind `--` all are names, a second `--` too
+behind : (options (codes "--json" ∷ codes "--" ∷ codes "--html" ∷ []) ≡ codes "--json" ∷ []) × (names (codes "r" ∷ codes "--" ∷ codes "--html" ∷ codes "--" ∷ []) ≡ codes "r" ∷ codes "--html" ∷ codes "--" ∷ [])
+behind = (refl, refl)
+
+no_words : (options [] ≡ []) × (names [] ≡ [])
+no_words = (refl, refl)
