@@ -24,13 +24,15 @@ abbrev pub OptionWords : Option Edge → Words
 OptionWords None w = ⊥
 OptionWords (Some e) w = Matches e.tree w
 
--- the tree can be compiled
+-- the edge's tree can be compiled
 abbrev pub IsSound : Edge → Type 0
 IsSound e = fault e.tree ≡ None
 
+-- so can that of the edge, if there is one
 abbrev pub IsSoundOption : Option Edge → Type 0
 IsSoundOption None = Unit {0}
 IsSoundOption (Some e) = IsSound e
 
+-- so can those of all edges
 abbrev pub AreSound : List Edge → Type 0
 AreSound es = All IsSound es
