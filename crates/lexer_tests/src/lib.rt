@@ -14,6 +14,8 @@ mod clash_words;
 #[cfg(test)]
 mod cutting;
 #[cfg(test)]
+mod delimited;
+#[cfg(test)]
 mod equality;
 #[cfg(test)]
 mod linear;

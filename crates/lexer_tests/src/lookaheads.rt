@@ -33,7 +33,7 @@ fn falling(alloc: Global, count: usize) -> Result<Vec<Precedence>, AllocError> {
 }
 
 // The lexer of the patterns: the first is the strongest.
-fn lexer_from(
+pub(crate) fn lexer_from(
     alloc: Global,
     regexs: Vec<Regex>,
     precedences: Vec<Precedence>,
