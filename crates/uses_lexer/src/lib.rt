@@ -21,6 +21,7 @@ pub mod look_ahead;
 pub mod match_a_text;
 pub mod name_rules;
 pub mod read_a_file;
+pub mod read_comments;
 pub mod read_lines;
 pub mod show_a_text;
 pub mod stand_on_one_crate;
