@@ -204,7 +204,7 @@ fn cut_bytes<W: Write, E: Write>(
     ensures no_late_write { out.new.late ≡ out.old.late }
     ensures no_late_message { err.new.late ≡ err.old.late }
 {
-    match str::from_utf8(without_mark(&bytes)) {
+    match simdutf8::compat::from_utf8(without_mark(&bytes)) {
         Ok(text) => cut_text(alloc, task, name, text, out, err),
         Err(error) => {
             let lack = TextError::NotText {
