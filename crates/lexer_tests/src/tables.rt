@@ -173,13 +173,21 @@ fn long_text(alloc: Global) -> Result<String, AllocError> {
     Ok(text)
 }
 
+// Where the token with this number ends, or 0 if there is none.
+fn end_at(list: &TokenList, number: usize) -> usize {
+    match list.ends.get(number) {
+        Some(found) => found.end,
+        None => 0,
+    }
+}
+
 // How many tokens there are, where the last one begins and how long it is, and where no pattern matches.
 fn long_list(alloc: Global, lexer: &Lexer) -> Result<String, AllocError> {
     let text = long_text(alloc)?;
     let list = lexer.token_list(alloc, &text)?;
     let count = list.ends.len();
-    let last = list.tokens(&text).last();
-    let (start, length) = last.map_or((0, 0), |token| (token.start, token.slice.len()));
+    let start = end_at(&list, count.saturating_sub(2));
+    let length = end_at(&list, count.saturating_sub(1)).saturating_sub(start);
     let at = list.fault.map_or(0, |fault| fault.at);
     format!(in alloc; "{count} {start} {length} {at}")
 }
@@ -194,14 +202,12 @@ fn a_list_of_many_blocks(rt: HostRuntime) {
 fn first_block(dense: &DenseDfa, text: &str) -> usize {
     let mut ends = TokenEnds::new();
     let _vain = dense.find_ends(text, 0, text.len(), &mut ends, &mut Steps::new());
-    let mut count = 0;
-    for _ in 0..text.len() {
+    for count in 0..text.len() {
         if ends.next().is_none() {
-            break;
+            return count;
         }
-        count += 1;
     }
-    count
+    text.len()
 }
 
 // There is a fused table: without one no token would be found ahead. Whether a longer match comes is open at the end.

@@ -115,7 +115,7 @@ pub fn first_of_second(lexer: &Lexer, alloc: Global, first: &str, second: &str) 
 /// The last end of a list, if it has any.
 pub fn last_end(ends: &EndList) -> Option<TokenEnd>
     ensures last { IfSome result (λ e. slice_get ends.now (length ends.now - 1) ≡ Some (e.index, e.end)) }
-    ensures none { IfNone result (ends.now ≡ []) }
+    ensures none { ends.now ≡ [] → result ≡ None }
 {
     if ends.is_empty() {
         return None;
