@@ -22,7 +22,7 @@ group_that_is_open = refl
 another_reason : syntax_text UnopenedGroup ≢ codes "this group isn't closed"
 another_reason e = let k : 96 ≡ 103 = ap (λ (l : List ℕ). get_or l 5 0) e in omega (arith, k)
 
-lazy_repetition : refusal_text NonGreedy ≡ codes "a lexer can't have lazy repetitions: write `[^x]*x` for `.*?x`"
+lazy_repetition : refusal_text NonGreedy ≡ codes "a lexer can't have lazy repetitions: write `[^x]*x` for `.*?x`, and `/\\*([^*]|\\*+[^*/])*\\*+/` for `/\\*.*?\\*/`"
 lazy_repetition = refl
 
 another_refusal : refusal_text LookAround ≢ refusal_text NonGreedy
