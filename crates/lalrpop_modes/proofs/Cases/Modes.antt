@@ -1,0 +1,109 @@
+-- Cases of specs/Modes.antt.
+use Rattle.std.proofs.Common.{◌≡◌, ℕ, zero, suc, ◌<◌, Bool, true, false, inl, inr, List, [], ◌∷◌, refl, ap, arith}
+use Rattle.std.specs.Prelude.{Option, Some, None}
+use Rattle.std.specs.Borrow.{Bor}
+use Rattle.lalrpop_book.specs.Tree.{Tree}
+use Rattle.lalrpop_book.specs.Language.{Matches}
+use Rattle.lalrpop_book.specs.declared.token.Token.{Token as Cut}
+use Rattle.lalrpop_rules.specs.declared.item.Item.TheVariants.{Token, Skipped, Fault}
+use Rattle.lalrpop_modes.specs.declared.action.Action.{Action}
+use Rattle.lalrpop_modes.specs.declared.action.Action.TheVariants.{Mode, Push, Pop}
+use Rattle.lalrpop_modes.specs.Stack.{Stack, start, actions_of}
+use Rattle.lalrpop_modes.specs.Modes.{ModeRules, matches_nothing, trees_of, mode_rules, trees_in, after, after_all, ArePiecesFrom, NoModeClash, IsModeClash, Belongs, LeadsInto, OneLeadsInto, CanBeEntered, first_mode, by_rule, AllCanBeEntered}
+
+-- two rules: the first belongs to mode 0 and leads into mode 1, the second belongs to both and pops
+abbrev two : Tree → Tree → ModeRules
+two a b = record {
+  trees = a ∷ b ∷ [];
+  precedences = 0 ∷ 0 ∷ [];
+  skips = [];
+  actions = (Push 1 ∷ []) ∷ (Pop ∷ []) ∷ [];
+  members = (0 ∷ []) ∷ (0 ∷ 1 ∷ []) ∷ [];
+  modes = 3;
+}
+
+nothing_is_matched : (w : List ℕ) → ¬ Matches matches_nothing w
+nothing_is_matched w m = m
+
+both_in_mode_0 : (a b : Tree) → trees_in (two a b) 0 ≡ a ∷ b ∷ []
+both_in_mode_0 a b = refl
+
+-- the second rule keeps its index
+second_alone_in_mode_1 : (a b : Tree) → trees_in (two a b) 1 ≡ matches_nothing ∷ b ∷ []
+second_alone_in_mode_1 a b = refl
+
+none_in_mode_2 : (a b : Tree) → trees_in (two a b) 2 ≡ matches_nothing ∷ matches_nothing ∷ []
+none_in_mode_2 a b = refl
+
+second_in_mode_1 : (a b : Tree) → Belongs (two a b) 1 1
+second_in_mode_1 a b = refl
+
+is_yes : Option Bool → ℕ
+is_yes (Some true) = 1
+is_yes o = 0
+
+first_not_in_mode_1 : (a b : Tree) → ¬ Belongs (two a b) 1 0
+unfolding is_yes
+first_not_in_mode_1 a b belongs = let n : 0 ≡ 1 = ap is_yes belongs in omega (arith, n)
+
+-- ---- the stack after pieces
+
+token_pushes : (a b : Tree) (slice : Bor (List ℕ)) → after (two a b).actions (Token (record { index = 0; slice = slice; start = 0 })) start ≡ record { mode = 1; below = 0 ∷ [] }
+token_pushes a b slice = refl
+
+-- a skipped token does what its rule says too
+skipped_pushes : (a b : Tree) (slice : Bor (List ℕ)) → after (two a b).actions (Skipped (record { index = 0; slice = slice; start = 0 })) start ≡ record { mode = 1; below = 0 ∷ [] }
+skipped_pushes a b slice = refl
+
+fault_keeps_the_stack : (actions : List (List Action)) (at : ℕ) (slice : Bor (List ℕ)) (s : Stack) → after actions (Fault at slice) s ≡ s
+fault_keeps_the_stack actions at slice s = refl
+
+push_and_pop : (a b : Tree) (p q : Bor (List ℕ))
+    → after_all (two a b).actions (Token (record { index = 0; slice = p; start = 0 }) ∷ Token (record { index = 1; slice = q; start = 1 }) ∷ []) start ≡ start
+push_and_pop a b p q = refl
+
+no_pieces_of_nothing : (r : ModeRules) (s : Stack) → ArePiecesFrom r [] 0 s [] s
+no_pieces_of_nothing r s = (refl, refl)
+
+-- the stack at the end is told
+another_stack_at_the_end : (r : ModeRules) → ¬ ArePiecesFrom r [] 0 start [] (record { mode = 1; below = [] })
+another_stack_at_the_end r are = let n : 1 ≡ 0 = ap (λ (s : Stack). s.mode) are.1 in omega (arith, n)
+
+text_left : (r : ModeRules) (b : ℕ) (s : Stack) → ¬ ArePiecesFrom r (b ∷ []) 0 s [] s
+text_left r b s are = absurd (cc (are.0))
+
+-- ---- clashes and modes that are entered
+
+no_mode_no_clash : NoModeClash (record { trees = []; precedences = []; skips = []; actions = []; members = []; modes = 0 })
+no_mode_no_clash m there = omega (arith, there)
+
+clash_of_a_mode_that_is_not_there : (a b : Tree) (w : List ℕ) (i j : ℕ) → ¬ IsModeClash (two a b) 3 w i j
+clash_of_a_mode_that_is_not_there a b w i j is = omega (arith, is.there)
+
+push_leads : LeadsInto (Push 1) 1
+push_leads = refl
+
+pop_leads_nowhere : (m : ℕ) → ¬ LeadsInto Pop m
+pop_leads_nowhere m leads = leads
+
+second_action_leads : OneLeadsInto (Pop ∷ Mode 2 ∷ []) 2
+second_action_leads = inr (inl refl)
+
+mode_1_can_be_entered : (a b : Tree) → CanBeEntered (two a b) 1
+mode_1_can_be_entered a b = by_rule 0 first_mode refl (inl refl)
+
+mode_2_can_not : (a b : Tree) → ¬ CanBeEntered (two a b) 2
+mode_2_can_not a b can = omega (arith, among can)
+  where
+    led : (i m : ℕ) → OneLeadsInto (actions_of (two a b).actions i) m → m < 2
+    led zero m (inl e) = omega (arith, e)
+    led zero m (inr leads) = absurd leads
+    led (suc zero) m (inl leads) = absurd leads
+    led (suc zero) m (inr leads) = absurd leads
+    led (suc (suc i)) m leads = absurd leads
+    among : {m : ℕ} → CanBeEntered (two a b) m → m < 2
+    among first_mode = omega arith
+    among (by_rule i from belongs leads) = led i _ leads
+
+both_modes_of_a_stack : (a b : Tree) → AllCanBeEntered (two a b) (1 ∷ 0 ∷ [])
+both_modes_of_a_stack a b = (mode_1_can_be_entered a b, (first_mode, tt))

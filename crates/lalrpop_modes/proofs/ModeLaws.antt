@@ -1,0 +1,149 @@
+-- What the trees of a mode match, and which modes a cut enters.
+use Rattle.std.proofs.Common.{◌≡◌, ◌≢◌, ℕ, zero, suc, ◌+◌, ◌<◌, ◌≤◌, ◌⊎◌, Bool, true, false, inl, inr, List, [], ◌∷◌, ◌++◌, length, drop, arith, refl, sym, ap, subst, ◌∙◌}
+use Rattle.std.specs.Prelude.{Option, Some, None, slice_get, map, ◌==◌}
+use Rattle.std.specs.List.{list_any}
+use Rattle.std.proofs.lemmas.List.{append-nil, drop_at, drop-drop}
+use Rattle.lalrpop_book.specs.Tree.{Tree, alternation, none}
+use Rattle.lalrpop_book.specs.Language.{Matches}
+use Rattle.lalrpop_book.specs.Winners.{TreeMatches}
+use Rattle.lalrpop_rules.specs.Found.{MatchesAt}
+use Rattle.lalrpop_rules.specs.Pieces.{IsPiece, IsFault, ArePieces, AreApart, slice_of}
+use Rattle.lalrpop_rules.specs.declared.item.Item.{Item}
+use Rattle.lalrpop_rules.specs.declared.item.Item.TheVariants.{Token, Skipped, Fault}
+use Rattle.lalrpop_rules.proofs.PieceLaws.{rest_some}
+use Rattle.lalrpop_rules.proofs.FirstMatches.{some_length}
+use Rattle.lalrpop_modes.specs.declared.action.Action.{Action}
+use Rattle.lalrpop_modes.specs.declared.action.Action.TheVariants.{Mode, Push, Pop}
+use Rattle.lalrpop_modes.specs.Stack.{Stack, start, act, act_all, actions_of, popped}
+use Rattle.lalrpop_modes.specs.Modes.{ModeRules, matches_nothing, trees_of, trees_in, after, ArePiecesFrom, mode_rules, Belongs, LeadsInto, OneLeadsInto, CanBeEntered, first_mode, by_rule, AllCanBeEntered, NoModeClash, IsModeClash}
+use Rattle.lalrpop_book.specs.Clash.{NoClash, IsClash}
+use Rattle.std.proofs.lemmas.Bool.{cases_order}
+use Rattle.lalrpop_modes.proofs.ModePieces.{AllStay, as-without-modes, with-modes}
+
+-- ---- the trees of a mode
+
+abbrev SomeTreeMatches : Option Tree → List ℕ → Type 0
+SomeTreeMatches None w = ⊥
+SomeTreeMatches (Some t) w = Matches t w
+
+-- a tree of a mode that matches a word is that of one of its rules
+pub of-mode : (bs : List Bool) (ts : List Tree) (w : List ℕ) (i : ℕ) → TreeMatches (trees_of bs ts) w i
+    → (slice_get bs i ≡ Some true) × TreeMatches ts w i
+of-mode [] ts w i (t, (at, m)) = absurd (cc (at))
+of-mode (b ∷ bs) [] w i (t, (at, m)) = absurd (cc (at))
+of-mode (true ∷ bs) (u ∷ ts) w zero (t, (at, m)) = (refl, (t, (at, m)))
+of-mode (true ∷ bs) (u ∷ ts) w (suc i) (t, (at, m)) = of-mode bs ts w i (t, (at, m))
+of-mode (false ∷ bs) (u ∷ ts) w zero (t, (at, m)) = absurd (no_word t at m)
+  where
+    no_word : (t : Tree) → Some matches_nothing ≡ Some t → Matches t w → ⊥
+    no_word t e m = subst (λ (o : Option Tree). SomeTreeMatches o w) (sym e) m
+of-mode (false ∷ bs) (u ∷ ts) w (suc i) (t, (at, m)) = of-mode bs ts w i (t, (at, m))
+
+-- and the other way round
+pub into-mode : (bs : List Bool) (ts : List Tree) (w : List ℕ) (i : ℕ) → slice_get bs i ≡ Some true → TreeMatches ts w i
+    → TreeMatches (trees_of bs ts) w i
+into-mode [] ts w i is (t, (at, m)) = absurd (cc (is))
+into-mode (b ∷ bs) [] w i is (t, (at, m)) = absurd (cc (at))
+into-mode (true ∷ bs) (u ∷ ts) w zero is (t, (at, m)) = (t, (at, m))
+into-mode (true ∷ bs) (u ∷ ts) w (suc i) is (t, (at, m)) = into-mode bs ts w i is (t, (at, m))
+into-mode (false ∷ bs) (u ∷ ts) w zero is (t, (at, m)) = absurd (cc (is))
+into-mode (false ∷ bs) (u ∷ ts) w (suc i) is (t, (at, m)) = into-mode bs ts w i is (t, (at, m))
+
+-- rules with one mode, to which each belongs, and no action
+abbrev pub without_modes : List Tree → List ℕ → List Bool → ModeRules
+without_modes ts ps skips = record { trees = ts; precedences = ps; skips = skips; actions = []; members = map (λ _. 0 ∷ []) ts; modes = 1 }
+
+all_trees : (ts : List Tree) → trees_of (map (λ modes. list_any (λ n. n == 0) modes) (map (λ (_ : Tree). 0 ∷ []) ts)) ts ≡ ts
+all_trees [] = refl
+all_trees (t ∷ ts) = ap (λ (vs : List Tree). t ∷ vs) (all_trees ts)
+
+no_action : (i : ℕ) → actions_of [] i ≡ []
+no_action i = refl
+
+-- their pieces are those of today
+pub one-mode : (ts : List Tree) (ps : List ℕ) (skips : List Bool) (text : List ℕ) (xs : List Item) (end : Stack)
+    → ArePiecesFrom (without_modes ts ps skips) text 0 start xs end → ArePieces ts ps skips text 0 xs × (end ≡ start)
+one-mode ts ps skips text xs end are =
+    let same = as-without-modes (without_modes ts ps skips) text 0 start xs end no_action are in
+    (subst (λ (us : List Tree). ArePieces us ps skips text 0 xs) (all_trees ts) same.0, same.1)
+
+pub one-mode-too : (ts : List Tree) (ps : List ℕ) (skips : List Bool) (text : List ℕ) (xs : List Item) → ArePieces ts ps skips text 0 xs
+    → ArePiecesFrom (without_modes ts ps skips) text 0 start xs start
+one-mode-too ts ps skips text xs are =
+    with-modes (without_modes ts ps skips) text 0 start xs no_action
+    (subst (λ (us : List Tree). ArePieces us ps skips text 0 xs) (sym (all_trees ts)) are)
+
+-- ---- the modes that are entered
+
+-- the rule of a token belongs to the mode that it is found in
+pub token-belongs : (r : ModeRules) (m : ℕ) (w : List ℕ) (i : ℕ) → TreeMatches (trees_in r m) w i → Belongs r m i
+token-belongs r m w i matches = (of-mode (mode_rules r m) r.trees w i matches).0
+
+less_entered : (r : ModeRules) (mode : ℕ) (below : List ℕ) → AllCanBeEntered r (mode ∷ below)
+    → AllCanBeEntered r ((popped mode below).mode ∷ (popped mode below).below)
+less_entered r mode [] all = all
+less_entered r mode (next ∷ below) all = all.1
+
+-- the actions are at work in a mode that can be entered: into whatever they lead can be entered too
+act_entered : (r : ModeRules) (acts : List Action) (s : Stack) → ((m : ℕ) → OneLeadsInto acts m → CanBeEntered r m)
+    → AllCanBeEntered r (s.mode ∷ s.below) → AllCanBeEntered r ((act_all acts s).mode ∷ (act_all acts s).below)
+act_entered r [] s lead all = all
+act_entered r (Mode m ∷ acts) s lead all = act_entered r acts (act (Mode m) s) (λ n l. lead n (inr l)) (lead m (inl refl), all.1)
+act_entered r (Push m ∷ acts) s lead all = act_entered r acts (act (Push m) s) (λ n l. lead n (inr l)) (lead m (inl refl), all)
+act_entered r (Pop ∷ acts) s lead all = act_entered r acts (act Pop s) (λ n l. lead n (inr l)) (less_entered r s.mode s.below all)
+
+after_entered : (r : ModeRules) (text : List ℕ) (at : ℕ) (s : Stack) (x : Item) → IsPiece (trees_in r s.mode) r.precedences r.skips text at x
+    → AllCanBeEntered r (s.mode ∷ s.below) → AllCanBeEntered r ((after r.actions x s).mode ∷ (after r.actions x s).below)
+after_entered r text at s (Token token) is all =
+    act_entered r (actions_of r.actions token.index) s (λ m l. by_rule token.index all.0 (token-belongs r s.mode _ token.index is.0.2.0.0) l) all
+after_entered r text at s (Skipped token) is all =
+    act_entered r (actions_of r.actions token.index) s (λ m l. by_rule token.index all.0 (token-belongs r s.mode _ token.index is.0.2.0.0) l) all
+after_entered r text at s (Fault at_start slice) is all = all
+
+-- from modes that can be entered on, only such modes are entered
+pub only-entered : (r : ModeRules) (text : List ℕ) (at : ℕ) (s : Stack) (xs : List Item) (t : Stack) → ArePiecesFrom r text at s xs t
+    → AllCanBeEntered r (s.mode ∷ s.below) → AllCanBeEntered r (t.mode ∷ t.below)
+only-entered r text at s [] t are all = subst (λ (v : Stack). AllCanBeEntered r (v.mode ∷ v.below)) (sym are.1) all
+only-entered r text at s (x ∷ xs) t are all =
+    only-entered r text (at + length (slice_of x)) (after r.actions x s) xs t are.1 (after_entered r text at s x are.0 all)
+
+-- ---- no two faults in turn
+
+two_faults : (ts : List Tree) (text : List ℕ) (at : ℕ) (p q : List ℕ) → IsFault ts (drop at text) p → IsFault ts (drop (at + length p) text) q → ⊥
+two_faults ts text at p q first second = elim first.ends [
+  | inl whole ↦ rest_some q (drop (at + length p) text) second.front second.some
+      (sym (drop-drop (length p) at text) ∙ ap (λ (n : ℕ). drop n (drop at text)) (ap length whole) ∙ drop_all (drop at text))
+  | inr m ↦ second.nothing 0 (some_length q second.some) (subst (λ (t : List ℕ). MatchesAt ts t 0) (drop-drop (length p) at text) m)
+]
+  where
+    drop_all : (xs : List ℕ) → drop (length xs) xs ≡ []
+    drop_all xs = ap (drop (length xs)) (sym (append-nil xs)) ∙ drop_at xs [] (length xs) refl
+
+pub apart-from : (r : ModeRules) (text : List ℕ) (at : ℕ) (s : Stack) (xs : List Item) (t : Stack) → ArePiecesFrom r text at s xs t → AreApart xs
+apart-from r text at s [] t are = tt
+apart-from r text at s (Token token ∷ xs) t are =
+    apart-from r text (at + length token.slice.now) (after r.actions (Token token) s) xs t are.1
+apart-from r text at s (Skipped token ∷ xs) t are =
+    apart-from r text (at + length token.slice.now) (after r.actions (Skipped token) s) xs t are.1
+apart-from r text at s (Fault at_start slice ∷ []) t are = tt
+apart-from r text at s (Fault at_start slice ∷ Token token ∷ xs) t are = apart-from r text (at + length slice.now) s (Token token ∷ xs) t are.1
+apart-from r text at s (Fault at_start slice ∷ Skipped token ∷ xs) t are = apart-from r text (at + length slice.now) s (Skipped token ∷ xs) t are.1
+apart-from r text at s (Fault at_start slice ∷ Fault start2 slice2 ∷ xs) t are =
+    absurd (two_faults (trees_in r s.mode) text at slice.now slice2.now are.0.1 are.1.0.1)
+
+-- ---- which mode a clash is of
+
+-- the first mode with a clash is unique
+pub same-mode : (r : ModeRules) (m k : ℕ) (w v : List ℕ) (i j i2 j2 : ℕ) → IsModeClash r m w i j → IsModeClash r k v i2 j2 → m ≡ k
+same-mode r m k w v i j i2 j2 one other = by_order (cases_order m k)
+  where
+    clashes : (n : ℕ) (u : List ℕ) (a b : ℕ) → IsClash (trees_in r n) r.precedences u a b → ¬ NoClash (trees_in r n) r.precedences
+    clashes n u a b c free = free u (a, b, (c.less, c.greatest, c.second))
+    by_order : (m ≡ k) ⊎ ((m < k) ⊎ (k < m)) → m ≡ k
+    by_order (inl same) = same
+    by_order (inr (inl less)) = absurd (clashes m w i j one.clash (other.first m less))
+    by_order (inr (inr more)) = absurd (clashes k v i2 j2 other.clash (one.first k more))
+
+-- and where a mode clashes, not every mode is free of clashes
+pub not-both : (r : ModeRules) (m : ℕ) (w : List ℕ) (i j : ℕ) → IsModeClash r m w i j → ¬ NoModeClash r
+not-both r m w i j one free = free m one.there w (i, j, (one.clash.less, one.clash.greatest, one.clash.second))

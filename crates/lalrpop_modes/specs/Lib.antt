@@ -1,0 +1,4 @@
+pub mod Stack
+pub mod Modes
+-- used by proofs only
+pub mod Internal

@@ -1,0 +1,98 @@
+-- cases: proofs/Cases/Modes.antt
+-- The pieces of a text that is cut to its end by rules with modes.
+use Rattle.std.specs.Prelude.{◌≡◌, ℕ, ◌+◌, ◌<◌, ◌⊎◌, ◌==◌, Bool, true, false, List, [], ◌∷◌, length, drop, map, Some, slice_get}
+use Rattle.std.specs.List.{list_any}
+use Rattle.lalrpop_book.specs.Tree.{Tree, alternation, none}
+use Rattle.lalrpop_book.specs.Clash.{NoClash, IsClash}
+use Rattle.lalrpop_rules.specs.Pieces.{IsPiece, slice_of}
+use Rattle.lalrpop_rules.specs.declared.item.Item.{Item}
+use Rattle.lalrpop_rules.specs.declared.item.Item.TheVariants.{Token, Skipped, Fault}
+use Rattle.lalrpop_modes.specs.declared.action.Action.{Action}
+use Rattle.lalrpop_modes.specs.declared.action.Action.TheVariants.{Mode, Push, Pop}
+use Rattle.lalrpop_modes.specs.Stack.{Stack, act_all, actions_of}
+
+-- rules with modes: the tree, the precedence and the actions of each rule, whether it is skipped, and the modes that it belongs to; and
+-- how many modes there are
+pub record ModeRules : Type 0 where
+  pub trees : List Tree
+  pub precedences : List ℕ
+  pub skips : List Bool
+  pub actions : List (List Action)
+  pub members : List (List ℕ)
+  pub modes : ℕ
+
+-- the tree that matches no word
+abbrev pub matches_nothing : Tree
+matches_nothing = alternation none
+
+-- the trees of a mode: those of its rules; those of the others match nothing there. So an index says the same in each mode
+abbrev pub trees_of : List Bool → List Tree → List Tree
+trees_of [] ts = []
+trees_of (b ∷ bs) [] = []
+trees_of (true ∷ bs) (t ∷ ts) = t ∷ trees_of bs ts
+trees_of (false ∷ bs) (t ∷ ts) = matches_nothing ∷ trees_of bs ts
+
+-- which rules belong to the mode with this number
+abbrev pub mode_rules : ModeRules → ℕ → List Bool
+mode_rules r m = map (λ modes. list_any (λ n. n == m) modes) r.members
+
+-- the trees at work in it
+abbrev pub trees_in : ModeRules → ℕ → List Tree
+trees_in r m = trees_of (mode_rules r m) r.trees
+
+-- the stack after a piece: the actions of a token's rule; a fault leaves the stack as it is
+abbrev pub after : List (List Action) → Item → Stack → Stack
+after actions (Token token) s = act_all (actions_of actions token.index) s
+after actions (Skipped token) s = act_all (actions_of actions token.index) s
+after actions (Fault start slice) s = s
+
+-- all pieces of the text from a place and a stack on, up to its end, and the stack there
+abbrev pub ArePiecesFrom : ModeRules → List ℕ → ℕ → Stack → List Item → Stack → Type 0
+ArePiecesFrom r text at s [] end = (drop at text ≡ []) × (end ≡ s)
+ArePiecesFrom r text at s (x ∷ xs) end =
+    IsPiece (trees_in r s.mode) r.precedences r.skips text at x
+    × ArePiecesFrom r text (at + length (slice_of x)) (after r.actions x s) xs end
+
+-- the stack after pieces
+abbrev pub after_all : List (List Action) → List Item → Stack → Stack
+after_all actions [] s = s
+after_all actions (x ∷ xs) s = after_all actions xs (after actions x s)
+
+-- ---- clashes, mode by mode
+
+-- no word is ambiguous in any mode
+abbrev pub NoModeClash : ModeRules → Type 0
+NoModeClash r = (m : ℕ) → m < r.modes → NoClash (trees_in r m) r.precedences
+
+-- m is the first mode with a clash, and this is its clash
+pub record IsModeClash (r : ModeRules) (m : ℕ) (w : List ℕ) (i j : ℕ) : Type 0 where
+  pub there : m < r.modes
+  pub clash : IsClash (trees_in r m) r.precedences w i j
+  pub first : (k : ℕ) → k < m → NoClash (trees_in r k) r.precedences
+
+-- ---- modes that are entered
+
+-- the rule with this index belongs to the mode
+abbrev pub Belongs : ModeRules → ℕ → ℕ → Type 0
+Belongs r m i = slice_get (mode_rules r m) i ≡ Some true
+
+-- the action leads into the mode
+abbrev pub LeadsInto : Action → ℕ → Type 0
+LeadsInto (Mode n) m = n ≡ m
+LeadsInto (Push n) m = n ≡ m
+LeadsInto Pop m = ⊥
+
+-- some action of the list does
+abbrev pub OneLeadsInto : List Action → ℕ → Type 0
+OneLeadsInto [] m = ⊥
+OneLeadsInto (a ∷ acts) m = LeadsInto a m ⊎ OneLeadsInto acts m
+
+-- the mode can be entered: it is the first; or some rule of a mode that can be entered leads into it
+pub data CanBeEntered (r : ModeRules) : ℕ → Type 0 where
+  first_mode : CanBeEntered r 0
+  by_rule : {m n : ℕ} (i : ℕ) → CanBeEntered r m → Belongs r m i → OneLeadsInto (actions_of r.actions i) n → CanBeEntered r n
+
+-- each mode of the stack can be entered
+abbrev pub AllCanBeEntered : ModeRules → List ℕ → Type 0
+AllCanBeEntered r [] = Unit {0}
+AllCanBeEntered r (m ∷ ms) = CanBeEntered r m × AllCanBeEntered r ms
