@@ -1,9 +1,9 @@
 -- What the trees of a mode match, and which modes a cut enters.
-use Rattle.std.proofs.Common.{◌≡◌, ◌≢◌, ℕ, zero, suc, ◌+◌, ◌<◌, ◌≤◌, ◌⊎◌, Bool, true, false, inl, inr, List, [], ◌∷◌, ◌++◌, length, drop, arith, refl, sym, ap, subst, ◌∙◌}
+use Rattle.std.proofs.Common.{◌≡◌, ℕ, zero, suc, ◌+◌, ◌<◌, ◌⊎◌, Bool, true, false, inl, inr, List, [], ◌∷◌, length, drop, refl, sym, ap, subst, ◌∙◌}
 use Rattle.std.specs.Prelude.{Option, Some, None, slice_get, map, ◌==◌}
 use Rattle.std.specs.List.{list_any}
 use Rattle.std.proofs.lemmas.List.{append-nil, drop_at, drop-drop}
-use Rattle.lalrpop_book.specs.Tree.{Tree, alternation, none}
+use Rattle.lalrpop_book.specs.Tree.{Tree}
 use Rattle.lalrpop_book.specs.Language.{Matches}
 use Rattle.lalrpop_book.specs.Winners.{TreeMatches}
 use Rattle.lalrpop_rules.specs.Found.{MatchesAt}
@@ -15,10 +15,10 @@ use Rattle.lalrpop_rules.proofs.FirstMatches.{some_length}
 use Rattle.lalrpop_modes.specs.declared.action.Action.{Action}
 use Rattle.lalrpop_modes.specs.declared.action.Action.TheVariants.{Mode, Push, Pop}
 use Rattle.lalrpop_modes.specs.Stack.{Stack, start, act, act_all, actions_of, popped}
-use Rattle.lalrpop_modes.specs.Modes.{ModeRules, matches_nothing, trees_of, trees_in, after, ArePiecesFrom, mode_rules, Belongs, LeadsInto, OneLeadsInto, CanBeEntered, first_mode, by_rule, AllCanBeEntered, NoModeClash, IsModeClash}
+use Rattle.lalrpop_modes.specs.Modes.{ModeRules, matches_nothing, trees_of, trees_in, after, ArePiecesFrom, mode_rules, Belongs, OneLeadsInto, CanBeEntered, by_rule, AllOf, EachMode, AllCanBeEntered, NoModeClash, IsModeClash}
 use Rattle.lalrpop_book.specs.Clash.{NoClash, IsClash}
 use Rattle.std.proofs.lemmas.Bool.{cases_order}
-use Rattle.lalrpop_modes.proofs.ModePieces.{AllStay, as-without-modes, with-modes}
+use Rattle.lalrpop_modes.proofs.ModePieces.{as-without-modes, with-modes}
 
 -- ---- the trees of a mode
 
@@ -51,7 +51,7 @@ into-mode (false ∷ bs) (u ∷ ts) w (suc i) is (t, (at, m)) = into-mode bs ts 
 
 -- rules with one mode, to which each belongs, and no action
 abbrev pub without_modes : List Tree → List ℕ → List Bool → ModeRules
-without_modes ts ps skips = record { trees = ts; precedences = ps; skips = skips; actions = []; members = map (λ _. 0 ∷ []) ts; modes = 1 }
+without_modes ts ps skips = record { names = []; trees = ts; precedences = ps; skips = skips; actions = []; members = map (λ _. 0 ∷ []) ts; modes = 1 }
 
 all_trees : (ts : List Tree) → trees_of (map (λ modes. list_any (λ n. n == 0) modes) (map (λ (_ : Tree). 0 ∷ []) ts)) ts ≡ ts
 all_trees [] = refl
@@ -79,31 +79,29 @@ one-mode-too ts ps skips text xs are =
 pub token-belongs : (r : ModeRules) (m : ℕ) (w : List ℕ) (i : ℕ) → TreeMatches (trees_in r m) w i → Belongs r m i
 token-belongs r m w i matches = (of-mode (mode_rules r m) r.trees w i matches).0
 
-less_entered : (r : ModeRules) (mode : ℕ) (below : List ℕ) → AllCanBeEntered r (mode ∷ below)
-    → AllCanBeEntered r ((popped mode below).mode ∷ (popped mode below).below)
-less_entered r mode [] all = all
-less_entered r mode (next ∷ below) all = all.1
+less_modes : (P : ℕ → Type 0) (mode : ℕ) (below : List ℕ) → P mode → AllOf P below → EachMode P (popped mode below)
+less_modes P mode [] here all = (here, tt)
+less_modes P mode (next ∷ below) here all = (all.0, all.1)
 
--- the actions are at work in a mode that can be entered: into whatever they lead can be entered too
-act_entered : (r : ModeRules) (acts : List Action) (s : Stack) → ((m : ℕ) → OneLeadsInto acts m → CanBeEntered r m)
-    → AllCanBeEntered r (s.mode ∷ s.below) → AllCanBeEntered r ((act_all acts s).mode ∷ (act_all acts s).below)
-act_entered r [] s lead all = all
-act_entered r (Mode m ∷ acts) s lead all = act_entered r acts (act (Mode m) s) (λ n l. lead n (inr l)) (lead m (inl refl), all.1)
-act_entered r (Push m ∷ acts) s lead all = act_entered r acts (act (Push m) s) (λ n l. lead n (inr l)) (lead m (inl refl), all)
-act_entered r (Pop ∷ acts) s lead all = act_entered r acts (act Pop s) (λ n l. lead n (inr l)) (less_entered r s.mode s.below all)
+-- what holds of each mode of a stack, and of each into which the actions lead, holds of each mode of the new stack
+pub act-keeps : (P : ℕ → Type 0) (acts : List Action) (s : Stack) → ((m : ℕ) → OneLeadsInto acts m → P m) → EachMode P s → EachMode P (act_all acts s)
+act-keeps P [] s lead all = all
+act-keeps P (Mode m ∷ acts) s lead all = act-keeps P acts (act (Mode m) s) (λ n l. lead n (inr l)) (lead m (inl refl), all.1)
+act-keeps P (Push m ∷ acts) s lead all = act-keeps P acts (act (Push m) s) (λ n l. lead n (inr l)) (lead m (inl refl), all)
+act-keeps P (Pop ∷ acts) s lead all = act-keeps P acts (act Pop s) (λ n l. lead n (inr l)) (less_modes P s.mode s.below all.0 all.1)
 
 after_entered : (r : ModeRules) (text : List ℕ) (at : ℕ) (s : Stack) (x : Item) → IsPiece (trees_in r s.mode) r.precedences r.skips text at x
-    → AllCanBeEntered r (s.mode ∷ s.below) → AllCanBeEntered r ((after r.actions x s).mode ∷ (after r.actions x s).below)
+    → AllCanBeEntered r s → AllCanBeEntered r (after r.actions x s)
 after_entered r text at s (Token token) is all =
-    act_entered r (actions_of r.actions token.index) s (λ m l. by_rule token.index all.0 (token-belongs r s.mode _ token.index is.0.2.0.0) l) all
+    act-keeps (CanBeEntered r) (actions_of r.actions token.index) s (λ m l. by_rule token.index all.0 (token-belongs r s.mode _ token.index is.0.2.0.0) l) all
 after_entered r text at s (Skipped token) is all =
-    act_entered r (actions_of r.actions token.index) s (λ m l. by_rule token.index all.0 (token-belongs r s.mode _ token.index is.0.2.0.0) l) all
+    act-keeps (CanBeEntered r) (actions_of r.actions token.index) s (λ m l. by_rule token.index all.0 (token-belongs r s.mode _ token.index is.0.2.0.0) l) all
 after_entered r text at s (Fault at_start slice) is all = all
 
 -- from modes that can be entered on, only such modes are entered
 pub only-entered : (r : ModeRules) (text : List ℕ) (at : ℕ) (s : Stack) (xs : List Item) (t : Stack) → ArePiecesFrom r text at s xs t
-    → AllCanBeEntered r (s.mode ∷ s.below) → AllCanBeEntered r (t.mode ∷ t.below)
-only-entered r text at s [] t are all = subst (λ (v : Stack). AllCanBeEntered r (v.mode ∷ v.below)) (sym are.1) all
+    → AllCanBeEntered r s → AllCanBeEntered r t
+only-entered r text at s [] t are all = subst (λ (v : Stack). AllCanBeEntered r v) (sym are.1) all
 only-entered r text at s (x ∷ xs) t are all =
     only-entered r text (at + length (slice_of x)) (after r.actions x s) xs t are.1 (after_entered r text at s x are.0 all)
 
@@ -139,6 +137,7 @@ same-mode r m k w v i j i2 j2 one other = by_order (cases_order m k)
   where
     clashes : (n : ℕ) (u : List ℕ) (a b : ℕ) → IsClash (trees_in r n) r.precedences u a b → ¬ NoClash (trees_in r n) r.precedences
     clashes n u a b c free = free u (a, b, (c.less, c.greatest, c.second))
+
     by_order : (m ≡ k) ⊎ ((m < k) ⊎ (k < m)) → m ≡ k
     by_order (inl same) = same
     by_order (inr (inl less)) = absurd (clashes m w i j one.clash (other.first m less))

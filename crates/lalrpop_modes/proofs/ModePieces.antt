@@ -1,6 +1,6 @@
 -- The pieces of a text by rules with modes.
 use Rattle.std.proofs.Common.{◌≡◌, ℕ, ◌+◌, List, [], ◌∷◌, ◌++◌, length, drop, refl, sym, ap, subst, ◌∙◌}
-use Rattle.lalrpop_rules.specs.Pieces.{IsPiece, ArePieces, IsSame, AreSame, slice_of, joined}
+use Rattle.lalrpop_rules.specs.Pieces.{ArePieces, IsSame, AreSame, slice_of, joined}
 use Rattle.lalrpop_rules.specs.declared.item.Item.{Item}
 use Rattle.lalrpop_rules.specs.declared.item.Item.TheVariants.{Token, Skipped, Fault}
 use Rattle.lalrpop_rules.proofs.PieceLaws.{is_front, split_at}

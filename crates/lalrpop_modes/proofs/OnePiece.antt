@@ -1,17 +1,11 @@
 -- One piece at a place. (These lemmas are those of lalrpop_rules/proofs/UniquePieces.antt, which are private there.)
-use Rattle.std.proofs.Common.{◌≡◌, ◌≢◌, ℕ, ◌+◌, ◌<◌, ◌≤◌, ◌⊎◌, Bool, inl, inr, List, [], ◌∷◌, ◌++◌, length, take, drop, arith, refl, sym, ap, subst, ◌∙◌, length-append}
-use Rattle.std.specs.Prelude.{Option, Some, None}
-use Rattle.std.proofs.Math.Seq.{take-append_seam}
-use Rattle.std.proofs.lemmas.Bool.{cases_order}
+use Rattle.std.proofs.Common.{◌≡◌, ◌≢◌, ℕ, Bool, List, [], drop, sym, subst, ◌∙◌}
 use Rattle.lalrpop_book.specs.Tree.{Tree}
-use Rattle.lalrpop_book.specs.Prefix.{IsPrefix}
-use Rattle.lalrpop_book.specs.Longest.{IsLongest}
 use Rattle.lalrpop_book.specs.Tokens.{IsToken}
 use Rattle.lalrpop_book.specs.declared.token.Token.{Token as Cut}
 use Rattle.lalrpop_lexer.proofs.UniqueTokens.{token-unique}
 use Rattle.lalrpop_rules.proofs.UniquePieces.{same_fault}
-use Rattle.lalrpop_rules.specs.Found.{MatchesAt}
-use Rattle.lalrpop_rules.specs.Pieces.{IsFault, IsPiece, IsSkipped, IsSame, AreSame, slice_of}
+use Rattle.lalrpop_rules.specs.Pieces.{IsFault, IsPiece, IsSkipped, IsSame, slice_of}
 use Rattle.lalrpop_rules.specs.declared.item.Item.{Item}
 use Rattle.lalrpop_rules.specs.declared.item.Item.TheVariants.{Token, Skipped, Fault}
 use Rattle.lalrpop_rules.proofs.FirstMatches.{some_length}
@@ -52,4 +46,3 @@ pub no_piece_left : (ts : List Tree) (ps : List ℕ) (skips : List Bool) (text :
     → drop at text ≢ []
 no_piece_left ts ps skips text at x is =
     rest_some (slice_of x) (drop at text) (is_front ts ps skips text at x is) (is_some ts ps skips text at x is)
-

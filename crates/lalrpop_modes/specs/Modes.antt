@@ -1,6 +1,6 @@
 -- cases: proofs/Cases/Modes.antt
 -- The pieces of a text that is cut to its end by rules with modes.
-use Rattle.std.specs.Prelude.{◌≡◌, ℕ, ◌+◌, ◌<◌, ◌⊎◌, ◌==◌, Bool, true, false, List, [], ◌∷◌, length, drop, map, Some, slice_get}
+use Rattle.std.specs.Prelude.{◌≡◌, ℕ, ◌+◌, ◌<◌, ◌⊎◌, ◌==◌, if◌then◌else◌, Bool, true, List, [], ◌∷◌, length, drop, map, Some, slice_get}
 use Rattle.std.specs.List.{list_any}
 use Rattle.lalrpop_book.specs.Tree.{Tree, alternation, none}
 use Rattle.lalrpop_book.specs.Clash.{NoClash, IsClash}
@@ -11,9 +11,10 @@ use Rattle.lalrpop_modes.specs.declared.action.Action.{Action}
 use Rattle.lalrpop_modes.specs.declared.action.Action.TheVariants.{Mode, Push, Pop}
 use Rattle.lalrpop_modes.specs.Stack.{Stack, act_all, actions_of}
 
--- rules with modes: the tree, the precedence and the actions of each rule, whether it is skipped, and the modes that it belongs to; and
+-- rules with modes: the name, the tree, the precedence and the actions of each rule, whether it is skipped, and the modes that it belongs to; and
 -- how many modes there are
 pub record ModeRules : Type 0 where
+  pub names : List (List ℕ)
   pub trees : List Tree
   pub precedences : List ℕ
   pub skips : List Bool
@@ -29,8 +30,7 @@ matches_nothing = alternation none
 abbrev pub trees_of : List Bool → List Tree → List Tree
 trees_of [] ts = []
 trees_of (b ∷ bs) [] = []
-trees_of (true ∷ bs) (t ∷ ts) = t ∷ trees_of bs ts
-trees_of (false ∷ bs) (t ∷ ts) = matches_nothing ∷ trees_of bs ts
+trees_of (b ∷ bs) (t ∷ ts) = (if b then t else matches_nothing) ∷ trees_of bs ts
 
 -- which rules belong to the mode with this number
 abbrev pub mode_rules : ModeRules → ℕ → List Bool
@@ -92,7 +92,15 @@ pub data CanBeEntered (r : ModeRules) : ℕ → Type 0 where
   first_mode : CanBeEntered r 0
   by_rule : {m n : ℕ} (i : ℕ) → CanBeEntered r m → Belongs r m i → OneLeadsInto (actions_of r.actions i) n → CanBeEntered r n
 
+-- P holds of each of them
+abbrev pub AllOf : (ℕ → Type 0) → List ℕ → Type 0
+AllOf P [] = Unit {0}
+AllOf P (m ∷ ms) = P m × AllOf P ms
+
+-- P holds of each mode of the stack
+abbrev pub EachMode : (ℕ → Type 0) → Stack → Type 0
+EachMode P s = P s.mode × AllOf P s.below
+
 -- each mode of the stack can be entered
-abbrev pub AllCanBeEntered : ModeRules → List ℕ → Type 0
-AllCanBeEntered r [] = Unit {0}
-AllCanBeEntered r (m ∷ ms) = CanBeEntered r m × AllCanBeEntered r ms
+abbrev pub AllCanBeEntered : ModeRules → Stack → Type 0
+AllCanBeEntered r s = EachMode (CanBeEntered r) s

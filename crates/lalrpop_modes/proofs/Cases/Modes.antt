@@ -1,19 +1,19 @@
 -- Cases of specs/Modes.antt.
-use Rattle.std.proofs.Common.{◌≡◌, ℕ, zero, suc, ◌<◌, Bool, true, false, inl, inr, List, [], ◌∷◌, refl, ap, arith}
-use Rattle.std.specs.Prelude.{Option, Some, None}
+use Rattle.std.proofs.Common.{◌≡◌, ℕ, zero, suc, ◌<◌, Bool, true, inl, inr, List, [], ◌∷◌, refl, ap, arith}
+use Rattle.std.specs.Prelude.{Option, Some}
 use Rattle.std.specs.Borrow.{Bor}
 use Rattle.lalrpop_book.specs.Tree.{Tree}
 use Rattle.lalrpop_book.specs.Language.{Matches}
-use Rattle.lalrpop_book.specs.declared.token.Token.{Token as Cut}
 use Rattle.lalrpop_rules.specs.declared.item.Item.TheVariants.{Token, Skipped, Fault}
 use Rattle.lalrpop_modes.specs.declared.action.Action.{Action}
 use Rattle.lalrpop_modes.specs.declared.action.Action.TheVariants.{Mode, Push, Pop}
 use Rattle.lalrpop_modes.specs.Stack.{Stack, start, actions_of}
-use Rattle.lalrpop_modes.specs.Modes.{ModeRules, matches_nothing, trees_of, mode_rules, trees_in, after, after_all, ArePiecesFrom, NoModeClash, IsModeClash, Belongs, LeadsInto, OneLeadsInto, CanBeEntered, first_mode, by_rule, AllCanBeEntered}
+use Rattle.lalrpop_modes.specs.Modes.{ModeRules, matches_nothing, trees_in, after, after_all, ArePiecesFrom, NoModeClash, IsModeClash, Belongs, LeadsInto, OneLeadsInto, CanBeEntered, first_mode, by_rule, AllCanBeEntered}
 
 -- two rules: the first belongs to mode 0 and leads into mode 1, the second belongs to both and pops
 abbrev two : Tree → Tree → ModeRules
 two a b = record {
+  names = [];
   trees = a ∷ b ∷ [];
   precedences = 0 ∷ 0 ∷ [];
   skips = [];
@@ -74,7 +74,7 @@ text_left r b s are = absurd (cc (are.0))
 
 -- ---- clashes and modes that are entered
 
-no_mode_no_clash : NoModeClash (record { trees = []; precedences = []; skips = []; actions = []; members = []; modes = 0 })
+no_mode_no_clash : NoModeClash (record { names = []; trees = []; precedences = []; skips = []; actions = []; members = []; modes = 0 })
 no_mode_no_clash m there = omega (arith, there)
 
 clash_of_a_mode_that_is_not_there : (a b : Tree) (w : List ℕ) (i j : ℕ) → ¬ IsModeClash (two a b) 3 w i j
@@ -101,9 +101,10 @@ mode_2_can_not a b can = omega (arith, among can)
     led (suc zero) m (inl leads) = absurd leads
     led (suc zero) m (inr leads) = absurd leads
     led (suc (suc i)) m leads = absurd leads
+
     among : {m : ℕ} → CanBeEntered (two a b) m → m < 2
     among first_mode = omega arith
     among (by_rule i from belongs leads) = led i _ leads
 
-both_modes_of_a_stack : (a b : Tree) → AllCanBeEntered (two a b) (1 ∷ 0 ∷ [])
+both_modes_of_a_stack : (a b : Tree) → AllCanBeEntered (two a b) (record { mode = 1; below = 0 ∷ [] })
 both_modes_of_a_stack a b = (mode_1_can_be_entered a b, (first_mode, tt))
