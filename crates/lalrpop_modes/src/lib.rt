@@ -4,6 +4,8 @@
 
 mod action;
 mod mode_stack;
+#[cfg(test)]
+mod test;
 
 pub use action::Action;
 pub use mode_stack::ModeStack;

@@ -17,6 +17,7 @@ pub mod find_a_match;
 pub mod find_matches;
 pub mod follow_laws;
 pub mod join_tokens;
+pub mod keep_modes;
 pub mod look_ahead;
 pub mod match_a_text;
 pub mod name_rules;

@@ -1,0 +1,36 @@
+//! A stack of modes, which goes along with a text.
+ghost use Rattle.std.specs.Prelude.{◌≡◌, IfOk};
+ghost use Rattle.lalrpop_modes.specs.Stack.{act_all, start};
+
+use lalrpop_modes::{Action, ModeStack};
+use std::alloc::{AllocError, Global};
+
+// Needs lalrpop_modes::ModeStack::new: start; lalrpop_modes::ModeStack::act_all: acted; lalrpop_modes::ModeStack::top: mode.
+/// The mode in which a text is read after these actions.
+///
+/// # Errors
+///
+/// `AllocError` if a request for memory was refused.
+pub fn mode_after(alloc: Global, actions: &[Action]) -> Result<usize, AllocError>
+    ensures mode { IfOk result (λ mode. mode ≡ (act_all actions.now start).mode) }
+{
+    let mut stack = ModeStack::new(alloc);
+    stack.act_all(actions)?;
+    Ok(stack.top())
+}
+
+// Needs lalrpop_modes::ModeStack::act_all: acted, refused.
+/// Puts a mode on the stack and takes it away. Whether memory was refused or not, the stack is as it was.
+pub fn push_and_pop(stack: &mut ModeStack, mode: usize) -> bool
+    ensures same { stack.new ≡ stack.old }
+{
+    stack.act_all(&[Action::Push(mode), Action::Pop]).is_ok()
+}
+
+// Needs lalrpop_modes::ModeStack::act: acted, refused.
+/// Puts a mode in the place of the one on top. Those below stay, whether memory was refused or not.
+pub fn leave_for(stack: &mut ModeStack, mode: usize) -> bool
+    ensures below { stack.new.below ≡ stack.old.below }
+{
+    stack.act(&Action::Mode(mode)).is_ok()
+}
