@@ -1,1 +1,2 @@
 pub mod Code
+pub mod Lexers

@@ -3,9 +3,23 @@
 #![tactic(auto)]
 
 mod action;
+mod error;
+mod front;
+mod known_rule;
+mod lexers;
+mod masked;
+mod missing;
+mod mode_items;
+mod mode_lexer;
+mod mode_rule;
 mod mode_stack;
 #[cfg(test)]
 mod test;
+mod trees;
 
 pub use action::Action;
+pub use error::ModesError;
+pub use mode_items::ModeItems;
+pub use mode_lexer::ModeLexer;
+pub use mode_rule::ModeRule;
 pub use mode_stack::ModeStack;

@@ -1,0 +1,43 @@
+-- Cases of specs/ModeSet.antt.
+use Rattle.std.proofs.Common.{◌≡◌, ◌<◌, ℕ, inl, inr, List, [], ◌∷◌, length, Contains, refl, ap, sym, subst, arith}
+use Rattle.lalrpop_modes.specs.declared.action.Action.{Action}
+use Rattle.lalrpop_modes.specs.declared.action.Action.TheVariants.{Push, Pop}
+use Rattle.lalrpop_modes.specs.declared.mode_rule.ModeRule.{ModeRule}
+use Rattle.lalrpop_modes.specs.declared.error.ModesError.TheVariants.{NoSuchMode, OutOfMemory}
+use Rattle.lalrpop_modes.specs.Modes.{ModeRules, OneLeadsInto}
+use Rattle.lalrpop_modes.specs.ModeSet.{rules_of, AreModeRules, NamesMode, AreFineBefore, IsModesError}
+
+rules_in_their_order : (p q : ModeRule) → rules_of (p ∷ q ∷ []) ≡ p.rule ∷ q.rule ∷ []
+rules_in_their_order p q = refl
+
+no_rules_in_one_mode : AreModeRules [] 1 (record { names = []; trees = []; precedences = []; skips = []; actions = []; members = []; modes = 1 })
+no_rules_in_one_mode = record { names = refl; trees = tt; precedences = refl; skips = refl; actions = refl; members = refl; count = refl }
+
+one_mode_too_many : (rs : List ModeRule) (r : ModeRules) → r.modes ≡ 2 → ¬ AreModeRules rs 1 r
+one_mode_too_many rs r two are = omega (arith, two, are.count)
+
+its_own_mode_is_named : (q : ModeRule) → q.modes.now ≡ 2 ∷ [] → NamesMode q 2
+its_own_mode_is_named q e = inl (subst (λ (ms : List ℕ). Contains ms 2) (sym e) (0, omega arith, refl))
+
+mode_it_leads_into_is_named : (q : ModeRule) → q.actions.now ≡ Push 3 ∷ [] → NamesMode q 3
+mode_it_leads_into_is_named q e = inr (subst (λ (acts : List Action). OneLeadsInto acts 3) (sym e) (inl refl))
+
+pop_names_no_mode : (q : ModeRule) (m : ℕ) → q.modes.now ≡ [] → q.actions.now ≡ Pop ∷ [] → ¬ NamesMode q m
+pop_names_no_mode q m none pop (inl (k, within, e)) = omega (arith, within, ap length none)
+pop_names_no_mode q m none pop (inr leads) =
+    elim (subst (λ (acts : List Action). OneLeadsInto acts m) pop leads) [ inl h ↦ absurd h | inr h ↦ absurd h ]
+
+none_before_the_first : (r : ModeRules) → AreFineBefore r 0
+none_before_the_first r k below = absurd (no below)
+  where
+    no : k < 0 → ⊥
+    no h = omega (arith, h)
+
+mode_that_is_there : (rs : List ModeRule) (i : ℕ) → ¬ IsModesError rs 2 (NoSuchMode i 1)
+mode_that_is_there rs i is = omega (arith, is.0)
+
+rule_that_is_not_there : (i m n : ℕ) → ¬ IsModesError [] n (NoSuchMode i m)
+rule_that_is_not_there i m n is = let e = is.1.1.0 in absurd (cc)
+
+refused_memory_is_right : (rs : List ModeRule) (n : ℕ) → IsModesError rs n OutOfMemory
+refused_memory_is_right rs n = tt

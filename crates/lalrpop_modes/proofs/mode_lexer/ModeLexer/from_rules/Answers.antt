@@ -1,0 +1,63 @@
+use Rattle.std.proofs.Common.{◌≡◌, ◌<◌, ℕ, ◌∙◌, map, length, ap, sym, subst, arith, refl}
+use Rattle.std.specs.String.{string_bytes}
+use Rattle.std.proofs.lemmas.List.{length-map}
+use Rattle.std.proofs.lemmas.Result.{err_from_is_err_and}
+use Rattle.lalrpop_modes.specs.ModeSet.{AreModeRules}
+use Rattle.lalrpop_modes.specs.Modes.{ModeRules, NoModeClash}
+use Rattle.lalrpop_modes.specs.Internal.Lexers.{IsModeFault, seen}
+use Rattle.lalrpop_modes.proofs.NamedModes.{lead_within}
+use Rattle.lalrpop_modes.proofs.ModeByMode.{error_of_fault, count_of_trees, count_of_known}
+use Rattle.lalrpop_modes.proofs.mode_lexer.ModeLexer.from_rules.Goals as goal
+
+pub returns-in_err-regexs-clause-error : goal.returns-in_err-regexs-clause-error
+returns-in_err-regexs-clause-error c =
+    let p = err_from_is_err_and c.from_residual-in_err-regexs.result c.from_residual-in_err-regexs.ensures.1 in
+    rw (p.1, p.2) (c.in_err-regexs.ensures.error c.args.modes)
+
+pub lexers_of-requires-clause-same_len : goal.lexers_of-requires-clause-same_len
+lexers_of-requires-clause-same_len c = ap length c.deref.ensures.value ∙ count_of_trees c.args.rules.now c.in_ok-regexs.regexs.items c.in_ok-regexs.ensures.trees
+    ∙ sym (ap length c.deref-3.ensures.value ∙ count_of_known _ c.in_ok-known.known.items c.args.rules.now c.in_ok-known.ensures.modes)
+
+pub returns-in_err-lexers-clause-error : goal.returns-in_err-lexers-clause-error
+returns-in_err-lexers-clause-error c =
+    let r : ModeRules = record {
+      names = map (λ k. string_bytes k.name) c.in_ok-known.known.items;
+      trees = c.in_ok-regexs.regexs.items;
+      precedences = map (λ p. p.0) c.in_ok-precedences.precedences.items;
+      skips = c.in_ok-skips.skips.items;
+      actions = map (λ k. k.actions.items) c.in_ok-known.known.items;
+      members = map (λ k. k.modes.items) c.in_ok-known.known.items;
+      modes = c.args.modes;
+    } in
+    let are : AreModeRules c.args.rules.now c.args.modes r = record {
+      names = c.in_ok-known.ensures.names;
+      trees = c.in_ok-regexs.ensures.trees;
+      precedences = c.in_ok-precedences.ensures.precedences;
+      skips = c.in_ok-skips.ensures.skips;
+      actions = c.in_ok-known.ensures.actions;
+      members = c.in_ok-known.ensures.modes;
+      count = refl;
+    } in
+    let fault : IsModeFault (seen r.trees r.precedences r.members c.args.modes) c.in_err-lexers.field-0.0 =
+    rw (c.deref.ensures.value, c.deref-2.ensures.value, c.deref-3.ensures.value) at c.in_err-lexers.ensures.error in
+    let p = err_from_is_err_and c.from_residual-in_err-lexers.result c.from_residual-in_err-lexers.ensures.1 in
+    rw (p.1, p.2) (error_of_fault c.args.rules.now c.args.modes r _ are fault)
+
+pub invariant_of-result : goal.invariant_of-result
+invariant_of-result c = record {
+  lexers = rw (c.deref.ensures.value, c.deref-2.ensures.value, c.deref-3.ensures.value) at c.in_ok-lexers.ensures.lexers;
+  within = λ i m leads.
+      subst (λ (n : ℕ). m < n) (sym c.in_ok-lexers.ensures.count)
+      (lead_within c.args.modes c.args.rules.now _ c.in_ok-all_there.ensures.there c.in_ok-known.ensures.actions i m leads);
+  some = subst (λ (n : ℕ). 0 < n) (sym c.in_ok-lexers.ensures.count) c.requires.some;
+  named =
+      length-map _ _ ∙ count_of_known _ c.in_ok-known.known.items c.args.rules.now c.in_ok-known.ensures.modes
+      ∙ sym (count_of_trees c.args.rules.now c.in_ok-regexs.regexs.items c.in_ok-regexs.ensures.trees);
+}
+
+pub returns-clause-no_clash : goal.returns-clause-no_clash
+returns-clause-no_clash c m within =
+    let none : NoModeClash (seen c.in_ok-regexs.regexs.items (map (λ p. p.0) c.in_ok-precedences.precedences.items)
+    (map (λ k. k.modes.items) c.in_ok-known.known.items) c.args.modes) =
+    rw (c.deref.ensures.value, c.deref-2.ensures.value, c.deref-3.ensures.value) at c.in_ok-lexers.ensures.no_clash in
+    none m (subst (λ (n : ℕ). m < n) c.in_ok-lexers.ensures.count within)
