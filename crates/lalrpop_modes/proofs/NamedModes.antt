@@ -9,7 +9,7 @@ use Rattle.lalrpop_modes.specs.declared.mode_rule.ModeRule.{ModeRule}
 use Rattle.lalrpop_modes.specs.Stack.{actions_of, these_or_none}
 use Rattle.lalrpop_modes.specs.Modes.{AllOf, LeadsInto, OneLeadsInto}
 use Rattle.lalrpop_modes.specs.ModeSet.{NamesMode}
-use Rattle.lalrpop_modes.specs.Internal.Lexers.{NameWithin}
+use Rattle.lalrpop_modes.specs.Internal.Lexers.{AllNameWithin}
 
 all_end : (n : ℕ) (xs : List ℕ) (x : ℕ) → AllOf (λ k. k < n) xs → x < n → AllOf (λ k. k < n) (xs ++ x ∷ [])
 all_end n [] x all h = (h, tt)
@@ -71,13 +71,13 @@ rules_more n rs i d before members targets j m q below at names =
       | inr h ↦ before j m q h at names
     ]
 
-leads_below : (n : ℕ) (rs : List ModeRule) (i m : ℕ) (found : Option ModeRule) → NameWithin rs n → slice_get rs i ≡ found
+leads_below : (n : ℕ) (rs : List ModeRule) (i m : ℕ) (found : Option ModeRule) → AllNameWithin rs n → slice_get rs i ≡ found
     → OneLeadsInto (these_or_none (option_map (λ q. q.actions.now) found)) m → m < n
 leads_below n rs i m None names at leads = absurd leads
 leads_below n rs i m (Some q) names at leads = names i m q at (inr leads)
 
 -- where all that is named is there, the actions lead only there
-pub lead_within : (n : ℕ) (rs : List ModeRule) (acts : List (List Action)) → NameWithin rs n → acts ≡ map (λ q. q.actions.now) rs
+pub lead_within : (n : ℕ) (rs : List ModeRule) (acts : List (List Action)) → AllNameWithin rs n → acts ≡ map (λ q. q.actions.now) rs
     → (i m : ℕ) → OneLeadsInto (actions_of acts i) m → m < n
 lead_within n rs acts names e i m leads =
     leads_below n rs i m (slice_get rs i) names refl

@@ -29,14 +29,18 @@ pub record AreModeRules (rs : List ModeRule) (modes : ℕ) (r : ModeRules) : Typ
 abbrev pub NamesMode : ModeRule → ℕ → Type 0
 NamesMode q m = Contains q.modes.now m ⊎ OneLeadsInto q.actions.now m
 
+-- the rules before this one name only modes that are there
+abbrev pub NameWithin : List ModeRule → ℕ → ℕ → Type 0
+NameWithin rs modes i = (j m : ℕ) (q : ModeRule) → j < i → slice_get rs j ≡ Some q → NamesMode q m → m < modes
+
 -- no mode before this one has a fault or a clash
 abbrev pub AreFineBefore : ModeRules → ℕ → Type 0
 AreFineBefore r m = (k : ℕ) → k < m → NoFault (trees_in r k) × NoClash (trees_in r k) r.precedences
 
--- the error is right: a rule names a mode that isn't there; else the text of a rule does not parse; else in the first mode that has an
+-- the error is right: the first rule that names a mode that isn't there; else the text of a rule does not parse; else in the first mode that has an
 -- error the first rule that can't be compiled, else the clash; or memory was refused
 abbrev pub IsModesError : List ModeRule → ℕ → ModesError → Type 0
-IsModesError rs modes (NoSuchMode i m) = (modes ≤ m) × ((q : ModeRule) × ((slice_get rs i ≡ Some q) × NamesMode q m))
+IsModesError rs modes (NoSuchMode i m) = (modes ≤ m) × ((q : ModeRule) × ((slice_get rs i ≡ Some q) × NamesMode q m)) × NameWithin rs modes i
 IsModesError rs modes (NotParsed i position kind) = IsNotSpelled (forms_of (rules_of rs)) i position
 IsModesError rs modes (NotCompiled m i e) = (r : ModeRules) × (AreModeRules rs modes r × (m < modes) × FirstFault (trees_in r m) i e × AreFineBefore r m)
 IsModesError rs modes (Clash m i j w) = (r : ModeRules) × (AreModeRules rs modes r × NoFault (trees_in r m) × IsModeClash r m w.items i j × AreFineBefore r m)

@@ -2,7 +2,7 @@
 ghost use Rattle.std.specs.Prelude.{◌<◌, ◌≤◌, ℕ, Contains, IfSome, IfNone, IfErr, OnOk};
 ghost use Rattle.lalrpop_modes.specs.Modes.{AllOf, LeadsInto, OneLeadsInto};
 ghost use Rattle.lalrpop_modes.specs.ModeSet.{IsModesError};
-ghost use Rattle.lalrpop_modes.specs.Internal.Lexers.{NameWithin};
+ghost use Rattle.lalrpop_modes.specs.Internal.Lexers.{AllNameWithin};
 
 use crate::action::Action;
 use crate::error::ModesError;
@@ -52,7 +52,7 @@ fn missing_target(actions: &[Action], modes: usize) -> Option<usize>
 
 /// Whether all modes that the rules name are there, or the first rule with one that isn't.
 pub(crate) fn all_there(rules: &[ModeRule], modes: usize) -> Result<(), ModesError>
-    ensures there { OnOk result (NameWithin rules.now modes) }
+    ensures there { OnOk result (AllNameWithin rules.now modes) }
     ensures error { IfErr result (IsModesError rules.now modes) }
 {
     for rule in 0..rules.len() {

@@ -39,5 +39,10 @@ mode_that_is_there rs i is = omega (arith, is.0)
 rule_that_is_not_there : (i m n : ℕ) → ¬ IsModesError [] n (NoSuchMode i m)
 rule_that_is_not_there i m n is = let e = is.1.1.0 in absurd (cc)
 
+-- the first such rule is told
+second_such_rule : (p q : ModeRule) → p.modes.now ≡ 5 ∷ [] → ¬ IsModesError (p ∷ q ∷ []) 2 (NoSuchMode 1 5)
+second_such_rule p q e is =
+    let no : 5 < 2 = is.2 0 5 p (omega arith) refl (inl (subst (λ (ms : List ℕ). Contains ms 5) (sym e) (0, omega arith, refl))) in omega (arith, no)
+
 refused_memory_is_right : (rs : List ModeRule) (n : ℕ) → IsModesError rs n OutOfMemory
 refused_memory_is_right rs n = tt

@@ -34,9 +34,9 @@ pub record IsGoing (r : ModeRules) (text : List ℕ) (at : ℕ) (s : Stack) : Ty
   pub boundary : IsCharBoundary text at
   pub there : EachMode (λ m. m < r.modes) s
 
--- the rules name only modes that are there
-abbrev pub NameWithin : List ModeRule → ℕ → Type 0
-NameWithin rs modes = (i m : ℕ) (q : ModeRule) → slice_get rs i ≡ Some q → NamesMode q m → m < modes
+-- all rules name only modes that are there
+abbrev pub AllNameWithin : List ModeRule → ℕ → Type 0
+AllNameWithin rs modes = (i m : ℕ) (q : ModeRule) → slice_get rs i ≡ Some q → NamesMode q m → m < modes
 
 -- what is seen of rules while their lexers are built
 abbrev pub seen : List Tree → List ℕ → List (List ℕ) → ℕ → ModeRules
