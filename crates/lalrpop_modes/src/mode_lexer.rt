@@ -26,6 +26,21 @@ use std::alloc::Global;
 use std::marker::Model;
 
 /// Named rules with modes, and one lexer for each mode. An index names the same rule in each of them.
+///
+/// ```
+/// use lalrpop_modes::{Action, ModeLexer, ModeRule};
+/// use lalrpop_rules::Rule;
+///
+/// let rules = [
+///     ModeRule { rule: Rule::literal("OPEN", "/*"), modes: &[0, 1], actions: &[Action::Push(1)] },
+///     ModeRule { rule: Rule::literal("CLOSE", "*/"), modes: &[1], actions: &[Action::Pop] },
+///     ModeRule { rule: Rule::pattern("REST", "(?s:.)"), modes: &[1], actions: &[] },
+///     ModeRule { rule: Rule::pattern("NAME", "[a-z]+"), modes: &[0], actions: &[] },
+/// ];
+/// let lexer = ModeLexer::from_rules(alloc, &rules, 2)?;
+/// let mut items = lexer.items(alloc, "a/*b/*c*/d*/e");
+/// let first = items.next_item()?; // the NAME "a"
+/// ```
 #[derive(Debug, Drop)]
 pub struct ModeLexer {
     regexs: Vec<Regex>,
@@ -77,7 +92,7 @@ fn actions_at(known: &[KnownRule], index: usize) -> &[Action]
 }
 
 impl ModeLexer {
-    /// Builds the lexers of these rules, one for each of so many modes. There is one mode at least, in which a text begins.
+    /// Builds the lexers of these rules, one for each mode. There is one mode at least, in which a text begins.
     ///
     /// # Errors
     ///
