@@ -15,7 +15,7 @@ use Rattle.lalrpop_modes.specs.declared.error.ModesError.TheVariants.{NotParsed,
 abbrev pub rules_of : List ModeRule → List Rule
 rules_of rs = map (λ r. r.rule) rs
 
--- what the rules say, if there are so many modes
+-- what the rules say, with this many modes
 pub record AreModeRules (rs : List ModeRule) (modes : ℕ) (r : ModeRules) : Type 0 where
   pub names : r.names ≡ names_of (rules_of rs)
   pub trees : AreTrees (rules_of rs) r.trees
@@ -37,8 +37,8 @@ NameWithin rs modes i = (j m : ℕ) (q : ModeRule) → j < i → slice_get rs j 
 abbrev pub AreFineBefore : ModeRules → ℕ → Type 0
 AreFineBefore r m = (k : ℕ) → k < m → NoFault (trees_in r k) × NoClash (trees_in r k) r.precedences
 
--- the error is right: the first rule that names a mode that isn't there; else the text of a rule does not parse; else in the first mode that has an
--- error the first rule that can't be compiled, else the clash; or memory was refused
+-- the error is right: the first rule that names a mode that isn't there; or the first rule whose text does not parse; or, in the first mode that has
+-- an error, the first rule that can't be compiled, or else the clash; or memory was refused
 abbrev pub IsModesError : List ModeRule → ℕ → ModesError → Type 0
 IsModesError rs modes (NoSuchMode i m) = (modes ≤ m) × ((q : ModeRule) × ((slice_get rs i ≡ Some q) × NamesMode q m)) × NameWithin rs modes i
 IsModesError rs modes (NotParsed i position kind) = IsNotSpelled (forms_of (rules_of rs)) i position

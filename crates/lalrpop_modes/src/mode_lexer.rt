@@ -96,9 +96,9 @@ impl ModeLexer {
     ///
     /// # Errors
     ///
-    /// The first rule that names a mode that isn't there; otherwise the first rule whose text does not parse; otherwise, in the first
-    /// mode that has one, the first rule that can't be compiled, or the shortest, then least, word with two or more strongest rules; or
-    /// out of memory.
+    /// The first rule that names a mode that isn't there; or the first rule whose text does not parse; or, in the first mode that has an
+    /// error, the first rule that can't be compiled, or else the shortest, then least, word with two or more strongest rules; or out of
+    /// memory. The clauses don't say which of the first three comes where there are several.
     pub fn from_rules(
         alloc: Global,
         rules: &[ModeRule],
