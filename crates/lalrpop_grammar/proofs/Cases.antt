@@ -5,6 +5,7 @@ mod GroupName
 mod Escape
 mod Bracket
 mod Operator
+mod NamedPart
 pub mod Pattern
 mod Escaped
 pub mod CharacterSet

@@ -54,7 +54,7 @@ sign_mark c h = rw h refl
 mark_escape : (c : ℕ) (t : Text) → is_mark c ≡ true → Escape (c ∷ t) t (character c)
 mark_escape c t h = escape_of (subst (λ s. Signed s t t (character c)) (sym (sign_mark c h)) at_once)
 
-escaped_row : (cs : List ℕ) → Row no_flags (escaped cs) [] (map one cs) no_flags 0
+escaped_row : (cs : List ℕ) → Row [] no_flags (escaped cs) [] (map one cs) no_flags 0
 unfolding escaped
 escaped_row [] = no_piece refl
 escaped_row (c ∷ cs) = elim (decided (is_escaped c)) [

@@ -12,7 +12,7 @@ use Rattle.lalrpop_grammar.specs.CharacterSet.{is_one_of}
 use Rattle.lalrpop_grammar.specs.declared.flags.Flags.{Flags}
 use Rattle.lalrpop_grammar.specs.Operator.{decimal, Count, count, Bounds, optional, any_number, one_or_more, exactly, at_least, between, Operator, alone, turned}
 use Rattle.lalrpop_grammar.specs.Internal.Reading as reading
-use Rattle.lalrpop_grammar.specs.Internal.Reading.{◌>>=◌, span, braces, bounds, operator, flags_of, ends_name, ends_letters, is_at_operator}
+use Rattle.lalrpop_grammar.specs.Internal.Reading.{◌>>=◌, span, braces, bounds, operator, flags_of, ends_name, ends_letters}
 use Rattle.lalrpop_grammar.proofs.Steps.{bind_some, some_is, chosen, guarded, decided, starts_is, span_joins, span_passes, span_is, stops, is_one}
 
 -- ---- characters
@@ -108,18 +108,6 @@ Bounds-shorter (between c d le) = let k = Count-shorter c in let j = Count-short
 pub Operator-shorter : {f : Flags} {t r : Text} {n : ℕ} {m : Option ℕ} {g : Bool} → Operator f t r n m g → length r < length t
 Operator-shorter (alone b h) = Bounds-shorter b
 Operator-shorter (turned b) = let k = Bounds-shorter b in omega arith
-
-Bounds-starts : {t r : Text} {n : ℕ} {m : Option ℕ} → Bounds t r n m → is_at_operator t ≡ true
-Bounds-starts optional = refl
-Bounds-starts any_number = refl
-Bounds-starts one_or_more = refl
-Bounds-starts (exactly c) = refl
-Bounds-starts (at_least c) = refl
-Bounds-starts (between c d le) = refl
-
-pub Operator-starts : {f : Flags} {t r : Text} {n : ℕ} {m : Option ℕ} {g : Bool} → Operator f t r n m g → is_at_operator t ≡ true
-Operator-starts (alone b h) = Bounds-starts b
-Operator-starts (turned b) = Bounds-starts b
 
 braces_sound : (t : Text) (x : ℕ × Option ℕ × Text) → braces t ≡ Some x → Bounds (123 ∷ t) x.2 x.0 x.1
 unfolding braces

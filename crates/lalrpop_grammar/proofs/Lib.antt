@@ -4,6 +4,7 @@ pub mod Escapes
 pub mod BracketLaws
 pub mod LexicalLaws
 pub mod OpeningLaws
+pub mod PartLaws
 pub mod PatternLaws
 pub mod SetLaws
 mod NameLaws

@@ -1,6 +1,6 @@
 -- cases: proofs/Cases/Flag.antt
 -- The letters that set the flags under which a part of a pattern is read.
-use Rattle.std.specs.Prelude.{ℕ, ◌<◌, Bool, true, false, not, ◌&&◌, ◌==◌, IsTrue, List, [], ◌∷◌, ◌++◌, length, if◌then◌else◌, codes}
+use Rattle.std.specs.Prelude.{ℕ, ◌<◌, Bool, true, false, not, ◌&&◌, ◌||◌, ◌==◌, IsTrue, List, [], ◌∷◌, ◌++◌, length, if◌then◌else◌, codes}
 use Rattle.std.specs.List.{list_all, list_any}
 use Rattle.lalrpop_grammar.specs.declared.flags.Flags.{Flags}
 use Rattle.lalrpop_grammar.specs.Text.{◌▸◌}
@@ -9,6 +9,10 @@ use Rattle.lalrpop_grammar.specs.CharacterSet.{is_one_of}
 -- the flags under which reading begins
 abbrev pub no_flags : Flags
 no_flags = record { case_insensitive = false; dot_matches_new_line = false; multi_line = false; swap_greed = false }
+
+-- at least one flag is on
+abbrev pub has_flag : Flags → Bool
+has_flag f = f.case_insensitive || f.dot_matches_new_line || f.multi_line || f.swap_greed
 
 -- The flags with one of them set to a value, by its letter: `i` for case_insensitive, `s` for dot_matches_new_line, `m` for
 -- multi_line, `U` for swap_greed. `u` changes nothing.

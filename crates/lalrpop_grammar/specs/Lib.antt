@@ -2,13 +2,15 @@
 pub mod CharacterSet
 pub mod NamedSet
 pub mod PosixSet
--- What a pattern stands for, in reading order: characters, flags, names, escapes, brackets, operators, patterns.
+-- What a pattern stands for, in reading order: characters, flags, names, escapes, brackets, operators, parts,
+-- patterns.
 pub mod Text
 pub mod Flag
 pub mod GroupName
 pub mod Escape
 pub mod Bracket
 pub mod Operator
+pub mod NamedPart
 pub mod Pattern
 pub mod Escaped
 -- used by proofs only

@@ -51,6 +51,12 @@ pub enum SyntaxKind {
     UnsupportedBackreference,
     /// Groups, brackets and repetitions are nested too deeply.
     NestLimitExceeded,
+    /// A `{NAME}` where parts are known, but none of this name.
+    PartUnknown,
+    /// A part where a flag is on.
+    PartUnderFlag,
+    /// The name of a part that is none.
+    PartName,
 }
 
 /// Why a text was not read into a tree.

@@ -20,6 +20,6 @@ pub use flags::Flags;
 pub use folding::fold;
 pub use literal::parse_literal;
 pub use named::{digits, named_set, spaces, words};
-pub use names::repeated_name;
+pub use names::{count_names, repeated_name};
 pub use posix::posix_class;
 pub use sets::{leaf_of_range, leaf_of_set, tree_of_character, tree_of_class, tree_of_dot};

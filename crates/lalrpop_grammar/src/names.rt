@@ -1,5 +1,5 @@
 //! The names of a pattern's groups, which must differ.
-ghost use Rattle.std.specs.Prelude.{◌≡◌, ◌++◌, map, not, is_some, option_map, IfSome, IfOk, OnOk};
+ghost use Rattle.std.specs.Prelude.{◌≡◌, ◌++◌, map, length, not, is_some, option_map, IfSome, IfOk, OnOk};
 ghost use Rattle.lalrpop_hir.specs.Parts.{trees};
 ghost use Rattle.lalrpop_grammar.specs.GroupName.{name_of, names, all_names, are_distinct, IsFirstRepeated};
 
@@ -19,6 +19,19 @@ pub fn repeated_name(alloc: Global, tree: &Hir) -> Result<Option<usize>, AllocEr
     let mut found = Vec::new(alloc);
     collect_names(tree, &mut found)?;
     first_repeated(alloc, &found)
+}
+
+/// How many of the tree's groups have names.
+///
+/// # Errors
+///
+/// `AllocError` if a request for memory was refused.
+pub fn count_names(alloc: Global, tree: &Hir) -> Result<usize, AllocError>
+    ensures { IfOk result (λ count. count ≡ length (names tree.now)) }
+{
+    let mut found = Vec::new(alloc);
+    collect_names(tree, &mut found)?;
+    Ok(found.len())
 }
 
 // Adds the names of the tree's groups, from left to right.

@@ -2,3 +2,4 @@ pub mod Views
 pub mod Signs
 pub mod Items
 pub mod Parts
+pub mod Code

@@ -9,6 +9,7 @@ pub use Rattle.lalrpop_grammar.specs.GroupName
 pub use Rattle.lalrpop_grammar.specs.Escape
 pub use Rattle.lalrpop_grammar.specs.Bracket
 pub use Rattle.lalrpop_grammar.specs.Operator
+pub use Rattle.lalrpop_grammar.specs.NamedPart
 pub use Rattle.lalrpop_grammar.specs.Pattern
 pub use Rattle.lalrpop_grammar.specs.Escaped
 -- the definitions of the trees, for callers

@@ -1,16 +1,26 @@
 -- cases: proofs/Cases/Refusal.antt
 -- What a refusal of a pattern says.
-use Rattle.std.specs.Prelude.{ℕ, List}
+use Rattle.std.specs.Prelude.{ℕ, List, []}
 use Rattle.std.specs.Str.{IsCharBoundary}
 use Rattle.lalrpop_book.specs.Tree.{Tree}
-use Rattle.lalrpop_grammar.specs.Pattern.{Pattern}
+use Rattle.lalrpop_grammar.specs.NamedPart.{NamedPart}
+use Rattle.lalrpop_grammar.specs.Pattern.{PatternWith, IsPart}
 use Rattle.lalrpop_grammar.specs.declared.error.RegexError.{RegexError}
 use Rattle.lalrpop_grammar.specs.declared.error.RegexError.TheVariants.{Syntax, OutOfMemory}
 
--- a syntax error means that the text does not parse
+-- a syntax error means that the text does not parse, with these parts
+abbrev pub HasNoTreeWith : List NamedPart → List ℕ → RegexError → Type 0
+HasNoTreeWith parts s (Syntax position kind) = (t : Tree) → PatternWith parts s t → ⊥
+HasNoTreeWith parts s OutOfMemory = Unit {0}
+
+-- without parts
 abbrev pub HasNoTree : List ℕ → RegexError → Type 0
-HasNoTree s (Syntax position kind) = (t : Tree) → Pattern s t → ⊥
-HasNoTree s OutOfMemory = Unit {0}
+HasNoTree s e = HasNoTreeWith [] s e
+
+-- a syntax error means that there is no such part
+abbrev pub MakesNoPart : List NamedPart → List ℕ → List ℕ → RegexError → Type 0
+MakesNoPart before name s (Syntax position kind) = (p : NamedPart) → IsPart before name s p → ⊥
+MakesNoPart before name s OutOfMemory = Unit {0}
 
 -- the position counts bytes, is at most the length of the text, and lies at the beginning of a character or at the end
 abbrev pub PointsInto : List ℕ → RegexError → Type 0

@@ -1,5 +1,5 @@
 //! A place in a pattern, with the flags in force there.
-ghost use Rattle.std.specs.Prelude.{◌≡◌, ◌<◌, ◌≤◌, ◌++◌, ◌∷◌, [], nat_eq, length, drop, vec_len, slice_get, unwrap_or, IsTrue, IfOk, OnOk};
+ghost use Rattle.std.specs.Prelude.{◌≡◌, ◌<◌, ◌≤◌, ◌++◌, ◌∷◌, [], nat_eq, length, replicate, drop, vec_len, slice_get, unwrap_or, IsTrue, IfOk, OnOk};
 ghost use Rattle.std.specs.List.{starts_with};
 ghost use Rattle.std.specs.Str.{chars};
 
@@ -102,6 +102,19 @@ impl Cursor {
         ensures named { OnOk result (self.new.named.items ≡ self.old.named.items ++ place ∷ []) }
     {
         self.named.push(place)?;
+        Ok(())
+    }
+
+    /// Records that so many named groups stand at this place, in a part.
+    pub(crate) fn note_names(&mut self, place: usize, count: usize) -> Result<(), AllocError>
+        ensures text { text self.new ≡ text self.old }
+        ensures flags { self.new.flags ≡ self.old.flags }
+        ensures named { OnOk result (self.new.named.items
+            ≡ self.old.named.items ++ replicate count place) }
+    {
+        for _ in 0..count {
+            self.note_name(place)?;
+        }
         Ok(())
     }
 

@@ -8,10 +8,12 @@ mod number;
 mod opening;
 mod operator;
 mod parser;
+mod part;
 
 pub use lalrpop_grammar::{RegexError, SyntaxKind, escape, parse_literal};
 pub use lalrpop_hir::{
     Capture, Class, ClassBytes, ClassBytesRange, ClassUnicode, ClassUnicodeRange, Hir, HirKind,
     Literal, Look, Regex, Repetition,
 };
-pub use parser::parse_regex;
+pub use parser::{parse_regex, parse_with};
+pub use part::Part;

@@ -63,8 +63,8 @@ pub(crate) fn parse_opening(cursor: &mut Cursor) -> Result<GroupOpening, RegexEr
     Ok(GroupOpening::Plain)
 }
 
-// The text up to the first of these marks, and the text from there on. The first part is all of it if there is no mark.
-fn split_before<'a>(text: &'a [char], marks: &[char]) -> (&'a [char], &'a [char])
+/// The text up to the first of these marks, and the text from there on. The first part is all of it if there is no mark.
+pub(crate) fn split_before<'a>(text: &'a [char], marks: &[char]) -> (&'a [char], &'a [char])
     ensures { (result.0.now, result.1.now)
         ≡ span (λ c. not (list_any (λ d. d == c) marks.now)) text.now }
 {
@@ -190,7 +190,8 @@ fn flags_of(flags: Flags, letters: &[char]) -> Option<Flags>
     Some(with_flags(false, with_flags(true, flags, on), off))
 }
 
-fn after_first(text: &[char]) -> &[char]
+/// The text without its first character.
+pub(crate) fn after_first(text: &[char]) -> &[char]
     ensures { result.now ≡ drop 1 text.now }
 {
     match text {

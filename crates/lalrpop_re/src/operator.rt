@@ -10,6 +10,8 @@ ghost use Rattle.lalrpop_re.specs.Internal.Views.{text, unread, Gives};
 
 use crate::cursor::{Cursor, error_at};
 use crate::number::number_of;
+use crate::opening::after_first;
+use crate::part::{Part, is_name_in_braces, part_after};
 use lalrpop_grammar::{RegexError, SyntaxKind};
 use unicode::properties::is_white_space;
 
@@ -28,16 +30,47 @@ struct Bounds {
     max: Option<u32>,
 }
 
-/// Whether an operator begins here.
-pub(crate) fn is_at_operator(cursor: &Cursor) -> bool
-    ensures { result ≡ is_at_operator (text cursor.now) }
+/// Whether an operator begins here. Before the name of a part a `{` begins none.
+pub(crate) fn is_at_operator(cursor: &Cursor, parts: &[Part]) -> bool
+    ensures { result ≡ is_at_operator parts.now (text cursor.now) }
 {
-    matches!(cursor.peek(), Some('?' | '*' | '+' | '{'))
+    match cursor.peek() {
+        Some('?' | '*' | '+') => true,
+        Some('{') => part_after(parts, after_first(cursor.rest())).is_none(),
+        _ => false,
+    }
 }
 
-/// Reads an operator and the `?` that belongs to it.
+/// Reads an operator where one begins. Where a part's name stands in braces, it is the name of none.
+pub(crate) fn parse_operator_at(
+    cursor: &mut Cursor,
+    parts: &[Part],
+) -> Result<RepetitionOperator, RegexError>
+    ensures value { Gives (λ o.
+        (o.min, o.max, o.greedy, text cursor.new)) result
+        (operator cursor.old.flags (text cursor.old)) }
+    ensures ordered { IfOk result (λ o. AreOrdered o.min o.max) }
+    ensures flags { cursor.new.flags ≡ cursor.old.flags }
+    ensures moves { OnOk result (unread cursor.new < unread cursor.old) }
+{
+    let place = cursor.position();
+    let is_unknown = is_at_unknown(cursor, parts);
+    match parse_operator(cursor) {
+        Err(RegexError::Syntax { .. }) if is_unknown => {
+            Err(error_at(place, SyntaxKind::PartUnknown))
+        }
+        answer => answer,
+    }
+}
+
+/// Whether the name of a part stands here in braces. Where no parts are known there is none.
+pub(crate) fn is_at_unknown(cursor: &Cursor, parts: &[Part]) -> bool {
+    !parts.is_empty() && cursor.begins(&['{']) && is_name_in_braces(after_first(cursor.rest()))
+}
+
+// Reads an operator and the `?` that belongs to it.
 #[tactic(auto, unfolding(lalrpop_grammar::specs::Internal::Reading::operator))]
-pub(crate) fn parse_operator(cursor: &mut Cursor) -> Result<RepetitionOperator, RegexError>
+fn parse_operator(cursor: &mut Cursor) -> Result<RepetitionOperator, RegexError>
     ensures value { Gives (λ o.
         (o.min, o.max, o.greedy, text cursor.new)) result
         (operator cursor.old.flags (text cursor.old)) }

@@ -4,20 +4,21 @@ ghost use Rattle.std.specs.Str.{chars, IsCharBoundary};
 ghost use Rattle.lalrpop_hir.specs.Counts.{AreOrdered};
 ghost use Rattle.lalrpop_book.specs.Tree.{Tree, repetition, capture};
 ghost use Rattle.lalrpop_grammar.specs.Text.{begins};
-ghost use Rattle.lalrpop_grammar.specs.Pattern.{Pattern, most_levels, is_special, escaped_tree, ends_branch, branch, choice};
+ghost use Rattle.lalrpop_grammar.specs.Pattern.{Pattern, PatternWith, most_levels, is_special, escaped_tree, ends_branch, branch, choice};
 ghost use Rattle.lalrpop_grammar.specs.Escape.{Escaped};
-ghost use Rattle.lalrpop_grammar.specs.Flag.{no_flags};
+ghost use Rattle.lalrpop_grammar.specs.Flag.{no_flags, has_flag};
 ghost use Rattle.lalrpop_grammar.specs.GroupName.{names, are_distinct};
-ghost use Rattle.lalrpop_re.specs.Refusal.{HasNoTree, PointsInto};
-ghost use Rattle.lalrpop_grammar.specs.Internal.Reading.{is_at_operator, all_operators, atom, piece, enclosed, whole_row, all_branches, begin, inside, read};
-ghost use Rattle.lalrpop_re.specs.Internal.Views.{text, unread, Gives, PointsAtRepeated, StandsForEscaped};
-ghost use Rattle.lalrpop_re.specs.Internal.Parts.{group_or_directive, step, escaped_part, bracket_part, part, line, whole, step_of};
+ghost use Rattle.lalrpop_re.specs.Refusal.{HasNoTree, HasNoTreeWith, PointsInto};
+ghost use Rattle.lalrpop_grammar.specs.Internal.Reading.{is_at_operator, all_operators, atom, piece, enclosed, whole_row, all_branches, begin, inside};
+ghost use Rattle.lalrpop_re.specs.Internal.Views.{text, unread, Gives, PointsAtRepeated, StandsForEscaped, HasLevels};
+ghost use Rattle.lalrpop_re.specs.Internal.Parts.{group_or_directive, step, escaped_part, bracket_part, part_in_braces, read_levels, part, line, whole, step_of};
 
 use crate::bracket::{BracketSet, parse_bracket};
 use crate::cursor::{Cursor, error_at};
 use crate::escape_sequence::{EscapedPart, parse_escape};
-use crate::opening::{GroupOpening, parse_opening};
-use crate::operator::{RepetitionOperator, is_at_operator, parse_operator};
+use crate::opening::{GroupOpening, after_first, parse_opening};
+use crate::operator::{RepetitionOperator, is_at_operator, is_at_unknown, parse_operator_at};
+use crate::part::{Part, part_after};
 use lalrpop_grammar::{
     Flags, RegexError, SyntaxKind, leaf_of_set, repeated_name, tree_of_character, tree_of_class,
     tree_of_dot,
@@ -28,11 +29,11 @@ use std::alloc::{AllocError, Global};
 // The greatest number of levels that a place of a pattern may be inside.
 const NEST_LIMIT: u32 = 250;
 
-// A tree, and how deep its syntax is nested.
+/// A tree, and how deep its syntax is nested.
 #[derive(Drop)]
-struct Nested {
-    tree: Hir,
-    depth: u32,
+pub(crate) struct Nested {
+    pub(crate) tree: Hir,
+    pub(crate) depth: u32,
 }
 
 // Trees side by side, and the depth of the deepest.
@@ -77,7 +78,41 @@ pub fn parse_regex(alloc: Global, s: &str) -> Result<Regex, RegexError>
     ensures none { IfErr result (HasNoTree (chars s.now)) }
     ensures position { IfErr result (PointsInto s.now) }
 {
-    match parse_whole(alloc, s) {
+    parse_with(alloc, s, &[])
+}
+
+/// The tree of a pattern in which `{NAME}` stands for the tree of the first of the parts that has this name, as a group of
+/// its text would. It stands so where no flag is on, outside brackets.
+///
+/// # Errors
+///
+/// As `parse_regex`.
+///
+/// ```
+/// use lalrpop_lexer::lexer::re::{Part, parse_with};
+///
+/// let digit = Part::parse(alloc, "D", "[0-9]", &[])?;
+/// let parts = [digit];
+/// let tree = parse_with(alloc, "{D}+(\\.{D}+)?", &parts)?;
+/// ```
+pub fn parse_with(alloc: Global, s: &str, parts: &[Part]) -> Result<Regex, RegexError>
+    ensures tree { IfOk result (λ t. PatternWith parts.now (chars s.now) t) }
+    ensures only { IfOk result (λ t.
+        (other : Tree) → PatternWith parts.now (chars s.now) other → other ≡ t) }
+    ensures none { IfErr result (HasNoTreeWith parts.now (chars s.now)) }
+    ensures position { IfErr result (PointsInto s.now) }
+{
+    let Nested { tree, .. } = parse_in_bytes(alloc, s, parts)?;
+    Ok(tree)
+}
+
+/// The tree of a pattern with these parts, and how deep its syntax is nested. A refusal's position counts bytes.
+pub(crate) fn parse_in_bytes(alloc: Global, s: &str, parts: &[Part]) -> Result<Nested, RegexError>
+    ensures tree { IfOk result (λ p. HasLevels parts.now (chars s.now) p.tree p.depth) }
+    ensures none { IfErr result (HasNoTreeWith parts.now (chars s.now)) }
+    ensures position { IfErr result (PointsInto s.now) }
+{
+    match parse_whole(alloc, s, parts) {
         Ok(tree) => Ok(tree),
         Err(RegexError::Syntax { position, kind }) => {
             let position = byte_offset(s, position);
@@ -98,25 +133,26 @@ fn byte_offset(s: &str, characters: usize) -> usize
 }
 
 // Reads a pattern. A refusal's position counts characters.
-fn parse_whole(alloc: Global, pattern: &str) -> Result<Hir, RegexError>
-    ensures { Gives (λ t. t) result (read most_levels (chars pattern.now)) }
+fn parse_whole(alloc: Global, pattern: &str, parts: &[Part]) -> Result<Nested, RegexError>
+    ensures { Gives (λ p. (p.tree, p.depth)) result
+        (read_levels parts.now (chars pattern.now)) }
 {
     let mut cursor = Cursor::new(alloc, pattern)?;
-    parse_to_end(&mut cursor)
+    parse_to_end(&mut cursor, parts)
 }
 
 // Reads a pattern that begins at the cursor and ends with the text.
-#[tactic(auto, unfolding(lalrpop_grammar::specs::Internal::Reading::read))]
-fn parse_to_end(cursor: &mut Cursor) -> Result<Hir, RegexError>
+#[tactic(auto, unfolding(crate::specs::Internal::Parts::read_levels))]
+fn parse_to_end(cursor: &mut Cursor, parts: &[Part]) -> Result<Nested, RegexError>
     requires { cursor.old.flags ≡ no_flags }
-    ensures { Gives (λ t. t) result (read most_levels (text cursor.old)) }
+    ensures { Gives (λ p. (p.tree, p.depth)) result (read_levels parts.now (text cursor.old)) }
 {
-    let Nested { tree, .. } = parse_at_top(cursor)?;
+    let whole = parse_at_top(cursor, parts)?;
     if !cursor.rest().is_empty() {
         return Err(cursor.error(SyntaxKind::UnopenedGroup));
     }
-    check_names(cursor, &tree)?;
-    Ok(tree)
+    check_names(cursor, &whole.tree)?;
+    Ok(whole)
 }
 
 // Refuses a tree in which two groups have the same name, at the group with the first name that repeats an earlier one.
@@ -132,39 +168,43 @@ fn check_names(cursor: &Cursor, tree: &Hir) -> Result<(), RegexError>
 }
 
 // Reads an expression that no group encloses, with all levels left.
-fn parse_at_top(cursor: &mut Cursor) -> Result<Nested, RegexError>
+fn parse_at_top(cursor: &mut Cursor, parts: &[Part]) -> Result<Nested, RegexError>
     ensures { Gives (λ p. whole p cursor.new) result
-        (inside (suc most_levels) cursor.old.flags (text cursor.old)) }
+        (inside parts.now (suc most_levels) cursor.old.flags (text cursor.old)) }
 {
-    parse_expression(cursor, NEST_LIMIT)
+    parse_expression(cursor, NEST_LIMIT, parts)
 }
 
 // Reads an expression, with `levels_left` levels left.
 #[cycle(parser)]
 #[tactic(auto, unfolding(lalrpop_grammar::specs::Internal::Reading::inside, lalrpop_grammar::specs::Internal::Reading::expression_with))]
-fn parse_expression(cursor: &mut Cursor, levels_left: u32) -> Result<Nested, RegexError>
+fn parse_expression(
+    cursor: &mut Cursor,
+    levels_left: u32,
+    parts: &[Part],
+) -> Result<Nested, RegexError>
     ensures value { Gives (λ p.
-        whole p cursor.new) result (inside (suc levels_left) cursor.old.flags (text cursor.old)) }
+        whole p cursor.new) result (inside parts.now (suc levels_left) cursor.old.flags (text cursor.old)) }
     ensures moves { OnOk result (unread cursor.new ≤ unread cursor.old) }
     ensures deep { IfOk result (λ p. p.depth ≤ levels_left) }
 {
-    let Row { trees, depth } = parse_branches(cursor, levels_left)?;
+    let Row { trees, depth } = parse_branches(cursor, levels_left, parts)?;
     let tree = choice_of(trees);
     Ok(Nested { tree, depth })
 }
 
 // Reads the branches up to the end of the group or of the pattern.
 #[cycle(parser)]
-fn parse_branches(cursor: &mut Cursor, levels_left: u32) -> Result<Row, RegexError>
+fn parse_branches(cursor: &mut Cursor, levels_left: u32, parts: &[Part]) -> Result<Row, RegexError>
     ensures value { Gives (λ r.
         line r cursor.new) result
-        (all_branches levels_left (inside levels_left) (begin cursor.old.flags (text cursor.old))) }
+        (all_branches parts.now levels_left (inside parts.now levels_left) (begin cursor.old.flags (text cursor.old))) }
     ensures moves { OnOk result (unread cursor.new ≤ unread cursor.old) }
     ensures deep { IfOk result (λ r. r.depth ≤ levels_left) }
 {
     let mut branches = Row::new(cursor.alloc());
     loop {
-        let Row { trees, depth } = parse_row(cursor, levels_left)?;
+        let Row { trees, depth } = parse_row(cursor, levels_left, parts)?;
         let tree = branch_of(trees);
         branches.push(Nested { tree, depth })?;
         if !cursor.begins(&['|']) {
@@ -176,16 +216,16 @@ fn parse_branches(cursor: &mut Cursor, levels_left: u32) -> Result<Row, RegexErr
 
 // Reads the pieces and the directives of one branch.
 #[cycle(parser)]
-fn parse_row(cursor: &mut Cursor, levels_left: u32) -> Result<Row, RegexError>
+fn parse_row(cursor: &mut Cursor, levels_left: u32, parts: &[Part]) -> Result<Row, RegexError>
     ensures value { Gives (λ r.
         line r cursor.new) result
-        (whole_row levels_left (inside levels_left) (begin cursor.old.flags (text cursor.old))) }
+        (whole_row parts.now levels_left (inside parts.now levels_left) (begin cursor.old.flags (text cursor.old))) }
     ensures moves { OnOk result (unread cursor.new ≤ unread cursor.old) }
     ensures deep { IfOk result (λ r. r.depth ≤ levels_left) }
 {
     let mut row = Row::new(cursor.alloc());
     while !ends_branch(cursor) {
-        let Some(piece) = parse_step(cursor, levels_left)? else {
+        let Some(piece) = parse_step(cursor, levels_left, parts)? else {
             continue;
         };
         row.push(piece)?;
@@ -205,17 +245,21 @@ fn ends_branch(cursor: &Cursor) -> bool
 // Reads a piece, or a directive, whose flags hold from there on and for which it returns `None`.
 #[cycle(parser)]
 #[tactic(auto, unfolding(crate::specs::Internal::Parts::step))]
-fn parse_step(cursor: &mut Cursor, levels_left: u32) -> Result<Option<Nested>, RegexError>
+fn parse_step(
+    cursor: &mut Cursor,
+    levels_left: u32,
+    parts: &[Part],
+) -> Result<Option<Nested>, RegexError>
     ensures value { Gives (λ p.
-        step_of p cursor.new) result (step levels_left (inside levels_left) cursor.old.flags (text cursor.old)) }
+        step_of p cursor.new) result (step parts.now levels_left (inside parts.now levels_left) cursor.old.flags (text cursor.old)) }
     ensures moves { OnOk result (unread cursor.new < unread cursor.old) }
     ensures deep { IfOk result (λ p. IfSome p (λ n. n.depth ≤ levels_left)) }
 {
     if !cursor.begins(&['(']) {
-        return Ok(Some(parse_piece(cursor, levels_left)?));
+        return Ok(Some(parse_piece(cursor, levels_left, parts)?));
     }
-    match parse_parenthesis(cursor, levels_left)? {
-        Some(group) => Ok(Some(parse_operators(cursor, levels_left, group)?)),
+    match parse_parenthesis(cursor, levels_left, parts)? {
+        Some(group) => Ok(Some(parse_operators(cursor, levels_left, parts, group)?)),
         None => Ok(None),
     }
 }
@@ -223,11 +267,15 @@ fn parse_step(cursor: &mut Cursor, levels_left: u32) -> Result<Option<Nested>, R
 // Reads a group, or a directive, for which it returns `None`.
 #[cycle(parser)]
 #[tactic(auto, unfolding(crate::specs::Internal::Parts::group_or_directive, crate::specs::Internal::Parts::group_or_directive_of))]
-fn parse_parenthesis(cursor: &mut Cursor, levels_left: u32) -> Result<Option<Nested>, RegexError>
+fn parse_parenthesis(
+    cursor: &mut Cursor,
+    levels_left: u32,
+    parts: &[Part],
+) -> Result<Option<Nested>, RegexError>
     requires { IsTrue (begins "(" (text cursor.old)) }
     ensures value { Gives (λ p.
         step_of p cursor.new) result
-        (group_or_directive levels_left (inside levels_left) cursor.old.flags (drop 1 (text cursor.old))) }
+        (group_or_directive parts.now levels_left (inside parts.now levels_left) cursor.old.flags (drop 1 (text cursor.old))) }
     ensures moves { OnOk result (unread cursor.new < unread cursor.old) }
     ensures deep { IfOk result (λ p. IfSome p (λ n. n.depth ≤ levels_left)) }
 {
@@ -235,17 +283,18 @@ fn parse_parenthesis(cursor: &mut Cursor, levels_left: u32) -> Result<Option<Nes
     cursor.advance(1);
     match parse_opening(cursor)? {
         GroupOpening::Plain => {
-            let group = parse_enclosed(cursor, levels_left, cursor.flags(), start)?;
+            let group = parse_enclosed(cursor, levels_left, parts, cursor.flags(), start)?;
             Ok(Some(captured(cursor.alloc(), None, group)?))
         }
         GroupOpening::Named(name) => {
             cursor.note_name(start)?;
-            let group = parse_enclosed(cursor, levels_left, cursor.flags(), start)?;
+            let group = parse_enclosed(cursor, levels_left, parts, cursor.flags(), start)?;
             Ok(Some(captured(cursor.alloc(), Some(name), group)?))
         }
         GroupOpening::Flagged(flags) => Ok(Some(parse_enclosed(
             cursor,
             levels_left,
+            parts,
             flags,
             start,
         )?)),
@@ -262,11 +311,12 @@ fn parse_parenthesis(cursor: &mut Cursor, levels_left: u32) -> Result<Option<Nes
 fn parse_enclosed(
     cursor: &mut Cursor,
     levels_left: u32,
+    parts: &[Part],
     flags: Flags,
     start: usize,
 ) -> Result<Nested, RegexError>
     ensures value { Gives (λ p.
-        part p (text cursor.new)) result (enclosed levels_left (inside levels_left) (λ e.
+        part p (text cursor.new)) result (enclosed parts.now levels_left (inside parts.now levels_left) (λ e.
         e) flags (text cursor.old)) }
     ensures flags { OnOk result (cursor.new.flags ≡ cursor.old.flags) }
     ensures moves { OnOk result (unread cursor.new ≤ unread cursor.old) }
@@ -277,7 +327,7 @@ fn parse_enclosed(
     }
     let outside = cursor.flags();
     cursor.set_flags(flags);
-    let Nested { tree, depth } = parse_expression(cursor, levels_left - 1)?;
+    let Nested { tree, depth } = parse_expression(cursor, levels_left - 1, parts)?;
     if !cursor.begins(&[')']) {
         return Err(error_at(start, SyntaxKind::UnclosedGroup));
     }
@@ -313,26 +363,26 @@ fn captured(alloc: Global, name: Option<String>, group: Nested) -> Result<Nested
 
 // Reads an atom that is not a group, and its operators.
 #[tactic(auto, unfolding(lalrpop_grammar::specs::Internal::Reading::piece))]
-fn parse_piece(cursor: &mut Cursor, levels_left: u32) -> Result<Nested, RegexError>
+fn parse_piece(cursor: &mut Cursor, levels_left: u32, parts: &[Part]) -> Result<Nested, RegexError>
     requires { begins "(" (text cursor.old) ≡ false }
     ensures value { Gives (λ p.
         part p (text cursor.new)) result
-        (piece levels_left (inside levels_left) cursor.old.flags (text cursor.old)) }
+        (piece parts.now levels_left (inside parts.now levels_left) cursor.old.flags (text cursor.old)) }
     ensures flags { cursor.new.flags ≡ cursor.old.flags }
     ensures moves { OnOk result (unread cursor.new < unread cursor.old) }
     ensures deep { IfOk result (λ p. p.depth ≤ levels_left) }
 {
-    let atom = parse_atom(cursor, levels_left)?;
-    parse_operators(cursor, levels_left, atom)
+    let atom = parse_atom(cursor, levels_left, parts)?;
+    parse_operators(cursor, levels_left, parts, atom)
 }
 
 // Reads an atom that is not a group.
-#[tactic(auto, unfolding(lalrpop_grammar::specs::Internal::Reading::atom, crate::specs::Internal::Parts::escaped_part, crate::specs::Internal::Parts::bracket_part))]
-fn parse_atom(cursor: &mut Cursor, levels_left: u32) -> Result<Nested, RegexError>
+#[tactic(auto, unfolding(lalrpop_grammar::specs::Internal::Reading::atom, crate::specs::Internal::Parts::escaped_part, crate::specs::Internal::Parts::bracket_part, crate::specs::Internal::Parts::part_in_braces))]
+fn parse_atom(cursor: &mut Cursor, levels_left: u32, parts: &[Part]) -> Result<Nested, RegexError>
     requires { begins "(" (text cursor.old) ≡ false }
     ensures value { Gives (λ p.
         part p (text cursor.new)) result
-        (atom levels_left (inside levels_left) cursor.old.flags (text cursor.old)) }
+        (atom parts.now levels_left (inside parts.now levels_left) cursor.old.flags (text cursor.old)) }
     ensures flags { cursor.new.flags ≡ cursor.old.flags }
     ensures moves { OnOk result (unread cursor.new < unread cursor.old) }
     ensures deep { IfOk result (λ p. p.depth ≤ levels_left) }
@@ -350,6 +400,7 @@ fn parse_atom(cursor: &mut Cursor, levels_left: u32) -> Result<Nested, RegexErro
         '.' => Ok(single(cursor, tree_of_dot(cursor.alloc(), flags)?)),
         '^' => Ok(single(cursor, Hir::look(line_start(flags)))),
         '$' => Ok(single(cursor, Hir::look(line_end(flags)))),
+        '{' => parse_part(cursor, levels_left, parts),
         _ => {
             if is_special(first) {
                 return Err(cursor.error(SyntaxKind::RepetitionMissing));
@@ -357,6 +408,46 @@ fn parse_atom(cursor: &mut Cursor, levels_left: u32) -> Result<Nested, RegexErro
             Ok(single(cursor, tree_of_character(cursor.alloc(), flags, first)?))
         }
     }
+}
+
+// Reads a part, as deep as a group of its text.
+#[tactic(auto, unfolding(crate::specs::Internal::Parts::part_in_braces))]
+fn parse_part(cursor: &mut Cursor, levels_left: u32, parts: &[Part]) -> Result<Nested, RegexError>
+    requires { IsTrue (begins "{" (text cursor.old)) }
+    ensures value { Gives (λ p.
+        part p (text cursor.new)) result
+        (part_in_braces parts.now levels_left cursor.old.flags (drop 1 (text cursor.old))) }
+    ensures flags { cursor.new.flags ≡ cursor.old.flags }
+    ensures moves { OnOk result (unread cursor.new < unread cursor.old) }
+    ensures deep { IfOk result (λ p. p.depth ≤ levels_left) }
+{
+    let Some(found) = part_after(parts, after_first(cursor.rest())) else {
+        return Err(cursor.error(if is_at_unknown(cursor, parts) {
+            SyntaxKind::PartUnknown
+        } else {
+            SyntaxKind::RepetitionMissing
+        }));
+    };
+    if has_flag(cursor.flags()) {
+        return Err(cursor.error(SyntaxKind::PartUnderFlag));
+    }
+    let levels = found.0.levels();
+    if levels >= levels_left {
+        return Err(cursor.error(SyntaxKind::NestLimitExceeded));
+    }
+    let tree = found.0.tree().clone()?;
+    cursor.note_names(cursor.position(), found.0.named())?;
+    cursor.advance(found.1 + 1);
+    Ok(Nested {
+        tree,
+        depth: levels + 1,
+    })
+}
+
+fn has_flag(flags: Flags) -> bool
+    ensures { result ≡ has_flag flags }
+{
+    flags.case_insensitive || flags.dot_matches_new_line || flags.multi_line || flags.swap_greed
 }
 
 fn is_special(c: char) -> bool
@@ -448,22 +539,23 @@ fn parse_class(cursor: &mut Cursor, levels_left: u32) -> Result<Nested, RegexErr
 fn parse_operators(
     cursor: &mut Cursor,
     levels_left: u32,
+    parts: &[Part],
     atom: Nested,
 ) -> Result<Nested, RegexError>
     requires { atom.depth ≤ levels_left }
     ensures value { Gives (λ p.
         part p (text cursor.new)) result
-        (all_operators levels_left cursor.old.flags (part atom (text cursor.old))) }
+        (all_operators parts.now levels_left cursor.old.flags (part atom (text cursor.old))) }
     ensures flags { cursor.new.flags ≡ cursor.old.flags }
     ensures moves { OnOk result (unread cursor.new ≤ unread cursor.old) }
     ensures deep { IfOk result (λ p. p.depth ≤ levels_left) }
 {
     let mut piece = atom;
-    while is_at_operator(cursor) {
+    while is_at_operator(cursor, parts) {
         if piece.depth >= levels_left {
             return Err(cursor.error(SyntaxKind::NestLimitExceeded));
         }
-        let operator = parse_operator(cursor)?;
+        let operator = parse_operator_at(cursor, parts)?;
         piece = repeated(cursor.alloc(), operator, piece)?;
     }
     Ok(piece)

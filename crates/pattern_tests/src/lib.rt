@@ -1,11 +1,13 @@
 //! Tests of trees, classes and sets of characters: what they show, and that copies show the same; of what patterns are read as
-//! and refused for; and of the pattern that stands for a text.
+//! and refused for, with parts and without; and of the pattern that stands for a text.
 #![tactic(auto)]
 
 #[cfg(test)]
 mod classes;
 #[cfg(test)]
 mod escape_text;
+#[cfg(test)]
+mod parts;
 #[cfg(test)]
 mod patterns;
 #[cfg(test)]

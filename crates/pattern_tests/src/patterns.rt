@@ -86,7 +86,7 @@ fn show(out: &mut String, tree: &Hir) -> Result<(), AllocError> {
     }
 }
 
-fn shown(alloc: Global, tree: &Hir) -> Result<String, AllocError> {
+pub(crate) fn shown(alloc: Global, tree: &Hir) -> Result<String, AllocError> {
     let mut out = String::new(alloc);
     show(&mut out, tree)?;
     Ok(out)
@@ -103,7 +103,7 @@ fn answer(alloc: Global, pattern: &str) -> Result<String, AllocError> {
     }
 }
 
-fn expect_same(rt: &impl Abort, found: &str, wanted: &str) {
+pub(crate) fn expect_same(rt: &impl Abort, found: &str, wanted: &str) {
     assert_eq!(rt; found, wanted);
 }
 
@@ -351,7 +351,7 @@ fn push_times(pattern: &mut String, part: &str, times: u32) -> Result<(), AllocE
 }
 
 // `inner` with `open` in front and `close` behind, so many times.
-fn nested(
+pub(crate) fn nested(
     alloc: Global,
     open: &str,
     inner: &str,

@@ -24,6 +24,7 @@ pub mod make_leaves;
 pub mod make_trees;
 pub mod name_sets;
 pub mod number_kernels;
+pub mod read_parts;
 pub mod read_patterns;
 pub mod refuse_memory;
 pub mod run_by_table;

@@ -12,9 +12,10 @@ use Rattle.lalrpop_grammar.specs.Flag.{no_flags, on, on_and_off}
 use Rattle.lalrpop_grammar.specs.GroupName.{names, are_distinct}
 use Rattle.lalrpop_grammar.specs.Escape.{escape_of, edge_alone, sign}
 use Rattle.lalrpop_grammar.specs.Operator.{optional, any_number, exactly, Count, count, alone, turned, decimal}
-use Rattle.lalrpop_grammar.specs.Pattern.{a_literal, an_escape, a_capture, a_named_too, an_atom, Piece, Expression, repeated, no_piece, a_directive, piece_then, last_branch, branch_then, of_branches, Pattern, literal_tree, is_one_member}
+use Rattle.lalrpop_grammar.specs.NamedPart.{NamedPart}
+use Rattle.lalrpop_grammar.specs.Pattern.{a_literal, an_escape, a_capture, a_named_too, a_part, an_atom, Piece, Expression, repeated, no_piece, a_directive, piece_then, last_branch, branch_then, of_branches, PatternWith, Pattern, IsPart, literal_tree, is_one_member}
 use Rattle.lalrpop_grammar.specs.Internal.Reading as reading
-use Rattle.lalrpop_grammar.proofs.PatternLaws.{Expression-complete, missing}
+use Rattle.lalrpop_grammar.proofs.PatternLaws.{Expression-complete, missing, missing_with}
 
 -- the second `?` belongs to the first, the third is an operator of its own
 a_lazy_one_under_a_greedy_one : Pattern (codes "a???") (repetition 0 (Some 1) true (repetition 0 (Some 1) false (literal (codes "a"))))
@@ -115,12 +116,12 @@ starred : ℕ → Tree
 starred zero = literal (codes "a")
 starred (suc n) = repetition 0 None true (starred n)
 
-under_stars : (n : ℕ) (r : Text) → begins "?" r ≡ false → Piece no_flags (97 ∷ stars n r) r (starred n) n
+under_stars : (n : ℕ) (r : Text) → begins "?" r ≡ false → Piece [] no_flags (97 ∷ stars n r) r (starred n) n
 unfolding stars starred
 under_stars zero r h = an_atom (a_literal refl)
 under_stars (suc n) r h = rw (add-one n) at (repeated (under_stars n (codes "*" ++ r) refl) (alone any_number h))
 
-reads_stars : (n : ℕ) → Expression no_flags (97 ∷ stars n []) [] (starred n) no_flags (max n 0)
+reads_stars : (n : ℕ) → Expression [] no_flags (97 ∷ stars n []) [] (starred n) no_flags (max n 0)
 reads_stars n = of_branches (last_branch (piece_then (under_stars n [] refl) (no_piece refl)) refl)
 
 no_names_under_stars : (n : ℕ) → names (starred n) ≡ []
@@ -141,7 +142,7 @@ most_levels_are_a_pattern = record {
 -- and inside no more
 one_level_more_is_no_pattern : (t : Tree) → Pattern (97 ∷ stars 251 []) t → ⊥
 one_level_more_is_no_pattern t p =
-    let reading = sym (Expression-complete (reads_stars 251) 251 (lit≤ tt)) ∙ Expression-complete p.reads 251 (omega (arith, p.flat)) in
+    let reading = sym (Expression-complete [] (reads_stars 251) 251 (lit≤ tt)) ∙ Expression-complete [] p.reads 251 (omega (arith, p.flat)) in
     let deep : 251 ≡ p.levels = ap depth_of reading in
     omega (arith, deep, p.flat)
   where
@@ -176,3 +177,62 @@ operator_alone = missing (codes "*a") refl
 open_group : (t : Tree) → Pattern (codes "(") t → ⊥
 unfolding reading.read reading.inside reading.expression_with reading.branches reading.row reading.row_step reading.directive_at reading.opening reading.piece reading.atom reading.group reading.enclosed
 open_group = missing (codes "(") refl
+
+-- ---- parts
+
+abbrev digit : NamedPart
+digit = record { name = codes "d"; tree = literal (codes "0"); levels = 0 }
+
+-- `{d}` is the tree of `d`, and operators stand behind it as behind a group
+a_part_and_an_operator : PatternWith (digit ∷ []) (codes "{d}*") (repetition 0 None true (literal (codes "0")))
+unfolding names
+a_part_and_an_operator = record {
+  flags = _;
+  levels = _;
+  reads = of_branches (last_branch (piece_then (repeated (an_atom (a_part (codes "d") refl refl refl)) (alone any_number refl)) (no_piece refl)) refl);
+  flat = lit≤ tt;
+  distinct = refl;
+}
+
+-- a `{` behind a piece begins a part or a count, by what follows
+a_part_behind_a_count : PatternWith (digit ∷ []) (codes "a{2}{d}") (concat (trees (repetition 2 (Some 2) true (literal (codes "a")) ∷ literal (codes "0") ∷ [])))
+unfolding names
+a_part_behind_a_count = record {
+  flags = _;
+  levels = _;
+  reads =
+      of_branches (last_branch (piece_then (repeated (an_atom (a_literal refl)) (alone (exactly two) refl)) (piece_then (an_atom (a_part (codes "d") refl refl refl)) (no_piece refl))) refl);
+  flat = lit≤ tt;
+  distinct = refl;
+}
+
+-- a part of the part `d`: its text is one level deeper than that of `d`
+a_part_of_a_part : IsPart (digit ∷ []) (codes "n") (codes "{d}") (record { name = codes "n"; tree = literal (codes "0"); levels = 1 })
+unfolding names
+a_part_of_a_part = record {
+  is_name = refl;
+  name = refl;
+  spells = record {
+    flags = no_flags;
+    levels = 1;
+    reads = of_branches (last_branch (piece_then (an_atom (a_part (codes "d") refl refl refl)) (no_piece refl)) refl);
+    flat = lit≤ tt;
+    distinct = refl;
+  };
+  depth = refl;
+}
+
+-- no part stands where there is none of its name
+no_such_part : (t : Tree) → PatternWith (digit ∷ []) (codes "{e}") t → ⊥
+unfolding reading.inside reading.expression_with reading.branches reading.row reading.row_step reading.directive_at reading.piece reading.atom reading.part_after
+no_such_part = missing_with (digit ∷ []) (codes "{e}") refl
+
+-- nor under a flag
+part_under_a_flag : (t : Tree) → PatternWith (digit ∷ []) (codes "(?s){d}") t → ⊥
+unfolding reading.inside reading.expression_with reading.branches reading.row reading.row_step reading.directive_at reading.opening reading.letters_at reading.flags_of reading.piece reading.atom reading.part_after
+part_under_a_flag = missing_with (digit ∷ []) (codes "(?s){d}") refl
+
+-- nor with the levels of its text all used up
+part_at_the_last_level : (t : Tree) → PatternWith (record digit { levels = 250 } ∷ []) (codes "{d}") t → ⊥
+unfolding reading.inside reading.expression_with reading.branches reading.row reading.row_step reading.directive_at reading.piece reading.atom reading.part_after
+part_at_the_last_level = missing_with (record digit { levels = 250 } ∷ []) (codes "{d}") refl

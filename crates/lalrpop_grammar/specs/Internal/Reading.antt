@@ -1,5 +1,5 @@
 -- A reader from left to right. Proofs show that it finds exactly what the grammar has; contracts of private functions name it.
-use Rattle.std.specs.Prelude.{ℕ, zero, suc, ◌+◌, ◌^◌, max, Bool, true, false, not, ◌&&◌, ◌==◌, nat_lt, nat_le, List, [], ◌∷◌, ◌++◌, length, take, drop, Option, Some, None, option_and_then, if◌then◌else◌, codes, encode_utf8_all}
+use Rattle.std.specs.Prelude.{ℕ, zero, suc, ◌+◌, ◌^◌, max, Bool, true, false, not, ◌&&◌, ◌||◌, ◌==◌, is_none, nat_lt, nat_le, List, [], ◌∷◌, ◌++◌, length, take, drop, Option, Some, None, option_and_then, if◌then◌else◌, codes, encode_utf8_all}
 use Rattle.std.specs.List.{list_all}
 use Rattle.std.specs.Char.{is_ascii_hexdigit, is_ascii_lowercase, is_ascii_digit}
 use Rattle.unicode.specs.Binary.{is_white_space}
@@ -8,13 +8,14 @@ use Rattle.lalrpop_book.specs.declared.look.Look.TheVariants.{WordUnicode, WordS
 use Rattle.lalrpop_grammar.specs.Text.{Text, begins}
 use Rattle.lalrpop_grammar.specs.CharacterSet.{Set, is_scalar, just, range, union_all, complement, set_tree, is_one_of}
 use Rattle.lalrpop_grammar.specs.declared.flags.Flags.{Flags}
-use Rattle.lalrpop_grammar.specs.Flag.{no_flags, is_distinct, with_flags}
+use Rattle.lalrpop_grammar.specs.Flag.{no_flags, has_flag, is_distinct, with_flags}
 use Rattle.lalrpop_grammar.specs.GroupName.{is_name, names, are_distinct}
 use Rattle.lalrpop_grammar.specs.Escape.{Escaped, character, set, assertion, Sign, this, code, property, edge, unknown, sign, hex_value, is_set_name_char}
 use Rattle.lalrpop_grammar.specs.NamedSet.{named}
 use Rattle.lalrpop_grammar.specs.Bracket.{leaf, leaves, leaf_or_complement, SetOperator, Intersection, Difference, SymmetricDifference, apply, ends_operand, begins_range}
 use Rattle.lalrpop_grammar.specs.PosixSet.{posix_set}
 use Rattle.lalrpop_grammar.specs.Operator.{decimal}
+use Rattle.lalrpop_grammar.specs.NamedPart.{NamedPart, is_part_name, part_named}
 use Rattle.lalrpop_grammar.specs.Pattern.{is_special, ends_branch, literal_tree, escaped_tree, dot_tree, branch, choice}
 
 infixl 10 ◌>>=◌
@@ -277,9 +278,19 @@ opened f t = opened_of f (opening t) t
 
 -- ---- patterns
 
-abbrev pub is_at_operator : Text → Bool
-is_at_operator [] = false
-is_at_operator (c ∷ t) = is_one_of "?*+{" c
+abbrev pub ends_part : ℕ → Bool
+ends_part c = not (is_one_of "}" c)
+
+-- what follows a `{`: the name of a part and a `}`; the part, and what follows
+unfoldable pub part_after : List NamedPart → Text → Option (NamedPart × Text)
+part_after parts t =
+    let found = span ends_part t in
+    if begins "}" found.1 && is_part_name found.0 then (part_named parts found.0 >>= λ p. Some (p, drop 1 found.1)) else None
+
+-- a `{` begins an operator where no part stands
+abbrev pub is_at_operator : List NamedPart → Text → Bool
+is_at_operator parts [] = false
+is_at_operator parts (c ∷ t) = is_one_of "?*+" c || is_one_of "{" c && is_none (part_after parts t)
 
 -- a part of a branch, and what follows it
 pub record Part : Type 0 where
@@ -306,10 +317,14 @@ Reader = Flags → Text → Option Whole
 abbrev pub begin : Flags → Text → Line
 begin f t = record { parts = []; flags = f; depth = 0; rest = t }
 
-module _ (room : ℕ) where
+-- a part counts as a group
+abbrev pub part_with : ℕ → Flags → NamedPart × Text → Option Part
+part_with room f x = if not (has_flag f) && nat_lt x.0.levels room then Some (record { tree = x.0.tree; depth = x.0.levels + 1; rest = x.1 }) else None
+
+module _ (parts : List NamedPart) (room : ℕ) where
   unfoldable pub operators : ℕ → Flags → Part → Option Part
   operators zero f p = None
-  operators (suc n) f p = if not (is_at_operator p.rest) then Some p else (do
+  operators (suc n) f p = if not (is_at_operator parts p.rest) then Some p else (do
     (least, most, greedy, after) ← operator f p.rest
     if nat_lt p.depth room then operators n f (record { tree = repetition least most greedy p.tree; depth = p.depth + 1; rest = after }) else None)
 
@@ -340,6 +355,7 @@ module _ (room : ℕ) where
         else if is_one_of "\\" c then (escape t >>= λ (e, r). Some (record { tree = escaped_tree f e; depth = 0; rest = r }))
         else if is_one_of "[" c then (bracket f room (c ∷ t) >>= λ p. Some (record { tree = set_tree p.set; depth = p.depth; rest = p.rest }))
         else if is_one_of "(" c then group f (opening t) t
+        else if is_one_of "{" c then (part_after parts t >>= part_with room f)
         else None
 
     unfoldable pub piece : Flags → Text → Option Part
@@ -373,12 +389,16 @@ module _ (room : ℕ) where
     expression_with f t = all_branches (begin f t) >>= λ l. Some (record { tree = choice l.parts; flags = l.flags; depth = l.depth; rest = l.rest })
 
 -- the reader inside a group with this many levels left; with none left it reads nothing
-unfoldable pub inside : ℕ → Reader
-inside zero f t = None
-inside (suc room) f t = expression_with room (inside room) f t
+unfoldable pub inside : List NamedPart → ℕ → Reader
+inside parts zero f t = None
+inside parts (suc room) f t = expression_with parts room (inside parts room) f t
 
--- the tree of a whole text, inside at most this many levels
+-- what a whole text is read as, inside at most this many levels
+abbrev pub read_whole : List NamedPart → ℕ → Text → Option Whole
+read_whole parts room s = do
+  whole ← inside parts (suc room) no_flags s
+  if is_nothing whole.rest && are_distinct (names whole.tree) then Some whole else None
+
+-- its tree, where there are no parts
 unfoldable pub read : ℕ → Text → Option Tree
-read room s = do
-  whole ← inside (suc room) no_flags s
-  if is_nothing whole.rest && are_distinct (names whole.tree) then Some whole.tree else None
+read room s = read_whole [] room s >>= λ whole. Some whole.tree

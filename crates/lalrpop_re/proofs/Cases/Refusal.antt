@@ -1,11 +1,14 @@
 -- Cases of specs/Refusal.antt.
-use Rattle.std.proofs.Common.{◌≤◌, [], ◌∷◌, codes, refl, lit≤, arith}
-use Rattle.lalrpop_book.specs.Tree.{literal}
+use Rattle.std.proofs.Common.{◌≡◌, ◌≤◌, true, false, [], ◌∷◌, codes, refl, lit≤, arith}
+use Rattle.lalrpop_book.specs.Tree.{literal, empty}
 use Rattle.lalrpop_grammar.specs.GroupName.{names}
-use Rattle.lalrpop_grammar.specs.Pattern.{a_literal, an_atom, no_piece, piece_then, last_branch, of_branches}
-use Rattle.lalrpop_re.specs.Refusal.{HasNoTree, PointsInto}
+use Rattle.lalrpop_grammar.specs.Flag.{no_flags}
+use Rattle.lalrpop_grammar.specs.Internal.Reading as reading
+use Rattle.lalrpop_grammar.specs.Pattern.{a_literal, a_part, an_atom, no_piece, piece_then, last_branch, of_branches}
+use Rattle.lalrpop_re.specs.Refusal.{HasNoTree, HasNoTreeWith, MakesNoPart, PointsInto}
 use Rattle.lalrpop_grammar.specs.declared.error.RegexError.TheVariants.{Syntax, OutOfMemory}
-use Rattle.lalrpop_grammar.specs.declared.error.SyntaxKind.TheVariants.{RepetitionMissing}
+use Rattle.lalrpop_grammar.specs.declared.error.SyntaxKind.TheVariants.{RepetitionMissing, PartUnknown, PartName}
+use Rattle.lalrpop_grammar.proofs.PatternLaws.{missing_with}
 use Rattle.lalrpop_grammar.proofs.Cases.Pattern.{operator_alone}
 
 -- `*a` is refused
@@ -26,6 +29,42 @@ refusal_of_a_pattern h =
 
 want_of_memory_says_nothing : HasNoTree (codes "a") OutOfMemory
 want_of_memory_says_nothing = tt
+
+-- `{d}` is refused where no part is known, and not where `d` is one
+part_of_none : HasNoTreeWith [] (codes "{d}") (Syntax 0 RepetitionMissing)
+unfolding reading.inside reading.expression_with reading.branches reading.row reading.row_step reading.directive_at reading.piece reading.atom reading.part_after
+part_of_none = missing_with [] (codes "{d}") refl
+
+part_of_one : ¬ HasNoTreeWith (record { name = codes "d"; tree = empty; levels = 0 } ∷ []) (codes "{d}") (Syntax 0 PartUnknown)
+unfolding names
+part_of_one h =
+    h empty (record {
+      flags = _;
+      levels = _;
+      reads = of_branches (last_branch (piece_then (an_atom (a_part (codes "d") refl refl refl)) (no_piece refl)) refl);
+      flat = lit≤ tt;
+      distinct = refl;
+    })
+
+-- `9` is the name of no part, and `d` is of one
+no_name_of_a_part : MakesNoPart [] (codes "9") (codes "a") (Syntax 0 PartName)
+no_name_of_a_part p h = let e : false ≡ true = h.is_name in absurd cc
+
+name_of_a_part : ¬ MakesNoPart [] (codes "d") (codes "a") (Syntax 0 PartName)
+unfolding names
+name_of_a_part h =
+    h (record { name = codes "d"; tree = literal (codes "a"); levels = 0 }) (record {
+      is_name = refl;
+      name = refl;
+      spells = record {
+        flags = no_flags;
+        levels = 0;
+        reads = of_branches (last_branch (piece_then (an_atom (a_literal refl)) (no_piece refl)) refl);
+        flat = lit≤ tt;
+        distinct = refl;
+      };
+      depth = refl;
+    })
 
 -- before and after `é`, which has two bytes, a position is on a boundary
 positions_beside_a_character : PointsInto (0xC3 ∷ 0xA9 ∷ []) (Syntax 0 RepetitionMissing) × PointsInto (0xC3 ∷ 0xA9 ∷ []) (Syntax 2 RepetitionMissing)

@@ -14,6 +14,9 @@ use Rattle.lalrpop_re.specs.declared.bracket.BracketOperator.TheVariants as oper
 use Rattle.lalrpop_grammar.specs.declared.error.SyntaxKind.TheVariants.{GroupName}
 use Rattle.lalrpop_grammar.specs.GroupName.{IsFirstRepeated}
 use Rattle.lalrpop_grammar.specs.Text.{Text}
+use Rattle.lalrpop_book.specs.Tree.{Tree}
+use Rattle.lalrpop_grammar.specs.NamedPart.{NamedPart}
+use Rattle.lalrpop_grammar.specs.Pattern.{PatternWith}
 use Rattle.lalrpop_grammar.specs.CharacterSet.{Set, Members, HasRuns}
 use Rattle.lalrpop_grammar.specs.Escape.{Escaped, character, set, assertion}
 use Rattle.lalrpop_grammar.specs.Bracket.{SetOperator, Intersection, Difference, SymmetricDifference}
@@ -38,6 +41,12 @@ place_of c number = unwrap_or (slice_get c.named.items number) c.position
 -- the ranges cover exactly the scalar values of the set, in any order
 abbrev pub HasMembers : List Range → Set → Type 0
 HasMembers rs s = (c : ℕ) → IsScalar c → Members s c ↔ Covered rs c
+
+-- ---- whole texts
+
+-- the text spells the tree with the parts, and no other, and its syntax is nested so deep
+abbrev pub HasLevels : List NamedPart → Text → Tree → ℕ → Type 0
+HasLevels parts s t levels = (p : PatternWith parts s t) × (p.levels ≡ levels) × ((other : Tree) → PatternWith parts s other → other ≡ t)
 
 -- ---- parts
 

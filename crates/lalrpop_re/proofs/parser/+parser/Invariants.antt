@@ -25,7 +25,7 @@ decreases-parse_enclosed l = 8 * l.levels_left
 
 abbrev pub invariant-parse_row-loop-cursor : goal.invariant-parse_row-loop-cursor
 invariant-parse_row-loop-cursor l = record {
-  value : whole_row l.levels_left (inside l.levels_left) (line l.row l.cursor) ≡ whole_row l.levels_left (inside l.levels_left) (begin l.fn.cursor.flags (text l.fn.cursor));
+  value : whole_row l.parts l.levels_left (inside l.parts l.levels_left) (line l.row l.cursor) ≡ whole_row l.parts l.levels_left (inside l.parts l.levels_left) (begin l.fn.cursor.flags (text l.fn.cursor));
   moves : unread l.cursor ≤ unread l.fn.cursor;
   deep : l.row.depth ≤ l.levels_left;
 }
@@ -35,7 +35,7 @@ decreases-parse_row-loop-cursor l = unread l.cursor
 
 abbrev pub invariant-parse_branches-loop-branches : goal.invariant-parse_branches-loop-branches
 invariant-parse_branches-loop-branches l = record {
-  value : all_branches l.levels_left (inside l.levels_left) (line l.branches l.cursor) ≡ all_branches l.levels_left (inside l.levels_left) (begin l.fn.cursor.flags (text l.fn.cursor));
+  value : all_branches l.parts l.levels_left (inside l.parts l.levels_left) (line l.branches l.cursor) ≡ all_branches l.parts l.levels_left (inside l.parts l.levels_left) (begin l.fn.cursor.flags (text l.fn.cursor));
   moves : unread l.cursor ≤ unread l.fn.cursor;
   deep : l.branches.depth ≤ l.levels_left;
 }
