@@ -6,7 +6,8 @@ ghost use Rattle.std.specs.Str.{IsCharBoundary};
 ghost use Rattle.lalrpop_book.specs.Tree.{Tree};
 ghost use Rattle.lalrpop_book.specs.Prefix.{IsPrefix};
 ghost use Rattle.lalrpop_book.specs.Longest.{IsLongest};
-ghost use Rattle.lalrpop_dfa.specs.Dfa.{Recognizes};
+ghost use Rattle.lalrpop_dense.specs.Leading.{AreAhead};
+ghost use Rattle.lalrpop_dfa.specs.Dfa.{Row, Recognizes};
 ghost use Rattle.lalrpop_lexer.specs.Matching.{characters_of};
 ghost use Rattle.lalrpop_lexer.specs.Internal.Blocks.{bytes_of};
 
@@ -19,6 +20,9 @@ use std::marker::Model;
 /// A block is read if at least so many bytes of it may be read in vain.
 pub(crate) const LEAST: usize = 32;
 
+// A block has so many bytes at most.
+const MOST: usize = 2048;
+
 /// The rest of a text, with the matches that are found ahead in it: those of a block. They are handed out one after another.
 #[derive(Debug, Drop)]
 pub(crate) struct Ahead<'text> {
@@ -30,6 +34,24 @@ pub(crate) struct Ahead<'text> {
     // Whether blocks are read. If matches that were found ahead are passed over, none is read from then on, since the characters
     // of those would be read again, and were never counted.
     reads_blocks: bool,
+    // How many bytes the next block has at most.
+    block: usize,
+}
+
+// Forgets the ends up to this place, and those behind it too if none of them is there. Returns where the last of these is, or `from` if
+// none is forgotten.
+fn forget_ends(ends: &mut TokenEnds, from: usize, at: usize) -> usize
+    ensures ahead { (d : List Row) (text : List ℕ)
+        → AreAhead d text from ends.old → AreAhead d text at ends.new }
+{
+    let mut last = from;
+    'forgetting: while last != at {
+        let Some(found) = ends.next() else {
+            return last;
+        };
+        last = found.end;
+    }
+    last
 }
 
 impl<'text> Model for Ahead<'text> {
@@ -53,6 +75,7 @@ impl<'text> Ahead<'text> {
             at: 0,
             ends: TokenEnds::new(),
             reads_blocks: true,
+            block: MOST,
         }
     }
 
@@ -109,8 +132,8 @@ impl<'text> Ahead<'text> {
         Some((found.index, slice))
     }
 
-    /// Finds the matches of the next block of the rest. Returns how many bytes were read in vain after the last of them, at most
-    /// `limit`. A step is counted for each of these. The characters of a match are counted when it is handed out.
+    /// Finds the matches of the next block of the rest, `limit` bytes at most. Returns how many bytes were read in vain after the last
+    /// of them. A step is counted for each of these. The characters of a match are counted when it is handed out.
     pub(crate) fn read_block(&mut self, limit: usize, steps: &mut Steps) -> usize
         ensures same { self.new ≡ self.old }
         ensures limit { result ≤ limit }
@@ -119,10 +142,16 @@ impl<'text> Ahead<'text> {
         if !self.reads_blocks {
             return 0;
         }
+        let bytes = limit.min(self.block);
+        // The blocks after this one are larger, until they have the full size.
+        self.block = self.block.saturating_mul(2).clamp(LEAST, MOST);
+        if bytes < LEAST {
+            return 0;
+        }
         let ends = &mut self.ends;
         let vain = self
             .dense
-            .find_ends(self.text, self.at, limit, ends, &mut Steps::new());
+            .find_ends(self.text, self.at, bytes, ends, &mut Steps::new());
         count_steps(vain, steps);
         vain
     }
@@ -140,5 +169,21 @@ impl<'text> Ahead<'text> {
             self.ends.clear();
             self.reads_blocks = false;
         }
+    }
+
+    /// From now on the rest begins at this place. If a match that was found ahead ends there, those behind it are still ahead. Otherwise
+    /// all are forgotten, and the next match is found without a block; the blocks after it begin small. So what is forgotten of a block
+    /// isn't much longer than what was handed out before. Returns how many bytes the matches have that are forgotten.
+    pub(crate) fn pass_to(&mut self, at: usize) -> usize
+        requires boundary { IsCharBoundary self.old.text at }
+        ensures passes { self.new ≡ record self.old { at = at } }
+    {
+        let last = forget_ends(&mut self.ends, self.at, at);
+        if last != at {
+            self.block = 0;
+        }
+        let forgotten = last.saturating_sub(self.at);
+        self.at = at;
+        forgotten
     }
 }

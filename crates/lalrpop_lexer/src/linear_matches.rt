@@ -4,7 +4,7 @@ ghost use Rattle.std.specs.Prelude.{◌≡◌, ◌+◌, length};
 ghost use Rattle.std.specs.Str.{chars};
 
 use crate::ahead::{Ahead, LEAST};
-use crate::counting::count_chars;
+use crate::counting::{count_chars, count_steps};
 use crate::remembering::longest_remembering;
 use crate::visited_pairs::{STRIDE, VisitedPairs};
 use lalrpop_dense::DenseDfa;
@@ -59,6 +59,7 @@ impl<'text> Model for LinearMatches<'text> {
 impl<'text> LinearMatches<'text> {
     ghost use Rattle.std.specs.Prelude.{◌≢◌, ℕ, ◌*◌, ◌≤◌, ◌++◌, [], List, IfOk, IfNone, IfSome};
     ghost use Rattle.std.specs.Option.{option_map};
+    ghost use Rattle.std.specs.Str.{IsCharBoundary};
     ghost use Rattle.std.specs.Char.{encode_utf8};
     ghost use Rattle.lalrpop_book.specs.Tree.{Tree};
     ghost use Rattle.lalrpop_book.specs.Prefix.{IsPrefix};
@@ -216,5 +217,22 @@ impl<'text> LinearMatches<'text> {
             }
             None => None,
         }
+    }
+
+    /// From now on the rest begins at this place, which isn't before the rest so far: what lies between was cut otherwise.
+    ///
+    /// If a match that was found ahead ends at the place, those behind it stay found. Otherwise all are forgotten; the next match is found
+    /// without a block, and the blocks after it begin small and double. A step is counted for each byte of the matches that are forgotten.
+    pub fn pass_to(&mut self, at: usize, steps: &mut Steps)
+        requires behind { self.old.at ≤ at }
+        requires boundary { IsCharBoundary self.old.text at }
+        ensures passes { self.new ≡ record self.old { at = at; spare = self.new.spare } }
+        ensures never_falls { steps.old ≤ steps.new }
+        ensures paid { steps.new + self.new.spare ≡ steps.old + self.old.spare }
+    {
+        // A block has no more bytes than may be read in vain when it is read.
+        let forgotten = self.ahead.pass_to(at).min(self.credit);
+        count_steps(forgotten, steps);
+        self.credit -= forgotten;
     }
 }

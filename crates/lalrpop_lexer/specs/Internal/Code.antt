@@ -27,7 +27,7 @@ kind_of_option_of_kind Neither = refl
 abbrev kind_code : Coded Kind
 kind_code = code_by (Option (Option ℕ)) (coded_option (coded_option coded_ℕ)) option_of_kind kind_of_option kind_of_option_of_kind
 
-abbrev row_code : Coded Row
+abbrev pub row_code : Coded Row
 row_code =
     code_by (Kind × (List (Range × ℕ) × (ℕ × List (ℕ × ℕ))))
     (coded× kind_code (coded× (coded_list (coded× range_code coded_ℕ)) (coded× coded_ℕ (coded_list (coded× coded_ℕ coded_ℕ)))))
