@@ -2,7 +2,7 @@
 mod Found
 mod Pieces
 mod CutToEnd
+mod RuleText
+mod Kinds
 mod RuleSet
-mod RuleLine
-mod RuleFault
-mod RuleFile
+mod RulesErrors

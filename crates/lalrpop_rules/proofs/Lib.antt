@@ -5,6 +5,7 @@ pub mod FirstMatches
 pub mod CallerLaws
 -- the pieces of a text
 pub mod Fronts
+pub mod FoundPieces
 pub mod PieceLaws
 pub mod UniquePieces
 pub mod FirstPieces
@@ -13,21 +14,9 @@ pub mod PiecesExist
 pub mod Finding
 pub mod Waiting
 pub mod LinearPieces
--- a file of rules: bytes, and the front of a text
-pub mod Bytes
-pub mod Spans
--- a line, which is read in one way, lexeme by lexeme
-pub mod Closings
-pub mod Lexemes
-pub mod Comments
--- where reading it stops; that it does so at one place, for one reason; and that what is read can be completed to a rule
-pub mod Stopping
-pub mod StoppingLaws
-pub mod CompletionLaws
--- the lines of a file
-pub mod Returns
-pub mod TextColumns
-pub mod FileLines
+-- what holds of every error
 pub mod Results
--- what the definitions mean: lines are one list of rules, or have one first bad line
-pub mod RuleLaws
+-- the trees of texts
+pub mod RuleTrees
+pub mod KindLaws
+pub mod MergedTrees

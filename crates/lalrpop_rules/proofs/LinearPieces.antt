@@ -7,7 +7,7 @@ use Rattle.lalrpop_rules.specs.CutToEnd.{CutToEnd, Memo, uncut, with_credit, IsP
 use Rattle.lalrpop_rules.specs.declared.item.Item.{Item}
 
 -- with a memo, what was left pays, and the memo is still there
-paid_with : (a b most : ℕ) (m n : Option Memo) → IsPaid a m b n → IsSomeAnd m (λ x. with_credit a x ≤ most) → IsSomeAnd n (λ x. with_credit b x ≤ most)
+pub paid_with : (a b most : ℕ) (m n : Option Memo) → IsPaid a m b n → IsSomeAnd m (λ x. with_credit a x ≤ most) → IsSomeAnd n (λ x. with_credit b x ≤ most)
 paid_with a b most None None paid left = absurd left
 paid_with a b most None (Some n) paid left = absurd paid
 paid_with a b most (Some m) None paid left = absurd paid
@@ -18,7 +18,7 @@ all_paid : (s t : CutToEnd) (xs : List Item) (most : ℕ) → Yields GivesPiece 
 all_paid s t [] most y left = subst (λ (w : CutToEnd). IsSomeAnd w.memo (λ x. with_credit w.steps x ≤ most)) y left
 all_paid s t (x ∷ xs) most (j, g, y) left = all_paid j t xs most y (paid_with s.steps j.steps most s.memo j.memo g.2 left)
 
-steps_within : (steps most : ℕ) (m : Option Memo) → IsSomeAnd m (λ x. with_credit steps x ≤ most) → steps ≤ most
+pub steps_within : (steps most : ℕ) (m : Option Memo) → IsSomeAnd m (λ x. with_credit steps x ≤ most) → steps ≤ most
 steps_within steps most None left = absurd left
 steps_within steps most (Some m) left = omega (arith, left)
 

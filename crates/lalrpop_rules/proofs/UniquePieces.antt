@@ -37,7 +37,7 @@ same_fault ts text p q first second = same_prefix p q text first.front second.fr
 no_fault : (ts : List Tree) (ps text : List ℕ) (at : ℕ) (a : Cut) (slice : List ℕ) → IsToken ts ps text at a → ¬ IsFault ts (drop at text) slice
 no_fault ts ps text at a slice is fault = fault.nothing 0 (some_length slice fault.some) (a.slice.now, is.1.0)
 
-same_piece : (ts : List Tree) (ps : List ℕ) (skips : List Bool) (text : List ℕ) (at : ℕ) (x y : Item) → IsPiece ts ps skips text at x
+pub same_piece : (ts : List Tree) (ps : List ℕ) (skips : List Bool) (text : List ℕ) (at : ℕ) (x y : Item) → IsPiece ts ps skips text at x
     → IsPiece ts ps skips text at y → IsSame x y
 same_piece ts ps skips text at (Token a) (Token b) is too = token-unique ts ps text at a b is.0 too.0
 same_piece ts ps skips text at (Token a) (Skipped b) is too =
@@ -53,7 +53,7 @@ same_piece ts ps skips text at (Fault start slice) (Fault start2 slice2) is too 
     (is.0 ∙ sym too.0, same_fault ts (drop at text) slice.now slice2.now is.1 too.1)
 
 -- the same pieces have the same bytes
-same_slice : (x y : Item) → IsSame x y → slice_of x ≡ slice_of y
+pub same_slice : (x y : Item) → IsSame x y → slice_of x ≡ slice_of y
 same_slice (Token a) (Token b) same = same.2
 same_slice (Token a) (Skipped b) same = absurd same
 same_slice (Token a) (Fault start slice) same = absurd same
@@ -64,7 +64,7 @@ same_slice (Fault start slice) (Token b) same = absurd same
 same_slice (Fault start slice) (Skipped b) same = absurd same
 same_slice (Fault start slice) (Fault start2 slice2) same = same.1
 
-no_piece_left : (ts : List Tree) (ps : List ℕ) (skips : List Bool) (text : List ℕ) (at : ℕ) (x : Item) → IsPiece ts ps skips text at x
+pub no_piece_left : (ts : List Tree) (ps : List ℕ) (skips : List Bool) (text : List ℕ) (at : ℕ) (x : Item) → IsPiece ts ps skips text at x
     → drop at text ≢ []
 no_piece_left ts ps skips text at x is =
     rest_some (slice_of x) (drop at text) (is_front ts ps skips text at x is) (is_some ts ps skips text at x is)

@@ -1,6 +1,6 @@
 -- A text that is cut to its end, between two calls of `next`, and within a fault.
-use Rattle.std.proofs.Common.{◌≡◌, ◌≢◌, ℕ, ◌+◌, ◌-◌, ◌<◌, ◌≤◌, List, [], ◌++◌, length, take, drop, arith, refl, sym, ap, subst, ◌∙◌, length-drop, length-take}
-use Rattle.std.specs.Prelude.{Option, Some, None}
+use Rattle.std.proofs.Common.{◌≡◌, ◌≢◌, ℕ, ◌+◌, ◌-◌, ◌<◌, ◌≤◌, ◌⊎◌, inl, inr, List, [], ◌++◌, length, take, drop, arith, refl, sym, ap, subst, ◌∙◌, length-drop, length-take}
+use Rattle.std.specs.Prelude.{Option, Some, None, IfSome, IsSome, IsSomeAnd}
 use Rattle.std.specs.Char.{encode_utf8}
 use Rattle.std.specs.Str.{chars, IsUtf8, IsCharBoundary}
 use Rattle.std.proofs.lemmas.Str.{IsUtf8-drop, IsUtf8-take, IsUtf8-past_char, IsCharBoundary-at_seam, IsCharBoundary-from_drop, IsCharBoundary-from_rest, length-encode, len_utf8_bounds}
@@ -9,20 +9,28 @@ use Rattle.lalrpop_book.specs.Longest.{IsMatch}
 use Rattle.lalrpop_book.specs.Prefix.{IsPrefix}
 use Rattle.lalrpop_book.specs.Tokens.{IsToken}
 use Rattle.lalrpop_book.specs.Tree.{Tree}
+use Rattle.lalrpop_lexer.proofs.Cuttings.{some_char}
+use Rattle.lalrpop_lexer.proofs.Standings.{count_between}
 use Rattle.lalrpop_lexer.proofs.Strongest.{IsOnlyStrongest-from_greatest}
 use Rattle.lalrpop_lexer.specs.Dfa.{Row}
 use Rattle.lalrpop_lexer.specs.Matching.{Matching, rest_of}
 use Rattle.lalrpop_lexer.specs.Rules.{IsBuiltFrom}
 use Rattle.lalrpop_nfa.proofs.Cuts.{IsCut}
 use Rattle.lalrpop_rules.specs.Pieces.{IsFault}
-use Rattle.lalrpop_rules.specs.Internal.Finding.{Match, ForRules, IsSomeText, IsMatchOf, Passes, IsSoughtFrom, IsWaiting, IsPassing, IsAtFront}
+use Rattle.std.proofs.lemmas.Bool.{cases_order}
+use Rattle.lalrpop_rules.specs.CutToEnd.{CutToEnd, IsSoughtFromRest, IsSoughtBehind}
+use Rattle.lalrpop_rules.specs.declared.item.Item.{Item}
+use Rattle.lalrpop_rules.specs.declared.item.Item.TheVariants.{Token, Skipped, Fault}
+use Rattle.lalrpop_rules.specs.declared.finder.Finder.{Finder}
+use Rattle.lalrpop_rules.specs.declared.finder.Finder.TheVariants.{Plain, Remembering}
+use Rattle.lalrpop_rules.specs.Internal.Finding.{matching_of, memo_of, Match, ForRules, IsSomeText, IsMatchOf, Passes, IsSoughtFrom, IsWaiting, IsPassing, IsAtFront}
 use Rattle.lalrpop_rules.proofs.FirstMatches.{before_start, before_next, nothing_found}
 use Rattle.lalrpop_rules.proofs.Fronts.{boundary_behind, fault_to_end, fault_to_match}
 
 -- ---- the place from which matches are sought
 
 -- the rest there
-rest_there : (text : List ℕ) (place : ℕ) (m : Matching) → IsSoughtFrom text place m → rest_of m ≡ drop place text
+pub rest_there : (text : List ℕ) (place : ℕ) (m : Matching) → IsSoughtFrom text place m → rest_of m ≡ drop place text
 rest_there text place m s = ap (λ (t : List ℕ). drop m.at t) s.same ∙ ap (λ (k : ℕ). drop k text) s.here
 
 -- l bytes further on
@@ -43,7 +51,7 @@ sought_behind_match text place f m n u s (b, e) =
     sought_behind text place (length f.1.now) m n s (boundary_behind text place f.1.now s.boundary (IsUtf8-drop text place u s.boundary) front) e
 
 -- the place written otherwise
-sought_at : (text : List ℕ) (place there : ℕ) (m : Matching) → place ≡ there → IsSoughtFrom text place m → IsSoughtFrom text there m
+pub sought_at : (text : List ℕ) (place there : ℕ) (m : Matching) → place ≡ there → IsSoughtFrom text place m → IsSoughtFrom text there m
 sought_at text place there m e s = subst (λ (k : ℕ). IsSoughtFrom text k m) e s
 
 -- the automaton stays the same
@@ -169,3 +177,55 @@ fault_at_end text at slice m p some end all =
         sought = sought_at text _ _ m (omega (arith, ends)) p.sought;
       },
     )
+
+-- ---- another place
+
+-- fewer characters come after a later place
+later_place : (text : List ℕ) (place later : ℕ) → IsUtf8 text → IsCharBoundary text place → IsCharBoundary text later → place < later
+    → length (chars (drop later text)) < length (chars (drop place text))
+later_place text place later u b c before =
+    let n = later - place in
+    let rest : drop n (drop place text) ≡ drop later text = drop-drop n place text ∙ ap (λ (k : ℕ). drop k text) (omega (arith, before)) in
+    let within : n ≤ length (drop place text) = omega (arith, c.0, length-drop place text) in
+    let here : IsCharBoundary (drop place text) n = IsCharBoundary-from_drop (drop place text) n within (subst IsUtf8 (sym rest) (IsUtf8-drop text later u c)) in
+    let p = take n (drop place text) in
+    let v : IsUtf8 p = IsUtf8-take (drop place text) n (IsUtf8-drop text place u b) here in
+    let some : p ≢ [] = λ none. omega (arith, before, within, length-take n (drop place text), ap length none) in
+    omega (arith, count_between text p place later (omega (arith, before)) refl v, some_char p v some)
+
+-- a place after which no more characters come than after the last match isn't before its end
+pub place_behind : (f : Finder) (text : List ℕ) (found place : ℕ) → IsUtf8 text → IsSoughtFrom text found (matching_of f) → IsCharBoundary text place
+    → IsSomeAnd (memo_of f) (λ m. length (chars (drop place text)) ≤ m.unsought) → IsSome (memo_of f) × ((matching_of f).at ≤ place)
+place_behind (Plain m) text found place u s b few = absurd few
+place_behind (Remembering m) text found place u s b few = (refl, by_order (cases_order place found))
+  where
+    by_order : (place ≡ found) ⊎ ((place < found) ⊎ (found < place)) → m.at ≤ place
+    by_order (inl same) = omega (arith, same, s.here)
+    by_order (inr (inl before)) = absurd (none before)
+      where
+        none : ¬ (place < found)
+        none before =
+            omega (arith, few, ap (λ (t : List ℕ). length (chars t)) (rest_there text found m s), later_place text place found u b s.boundary before)
+    by_order (inr (inr after)) = omega (arith, after, s.here)
+
+-- where none is kept, matches are sought from the beginning of the rest on
+pub sought_rest : (f : Finder) (text : List ℕ) (at : ℕ) → IsWaiting text at None (matching_of f) → IfSome (memo_of f) (λ m. m.unsought ≡ length (chars (drop at text)))
+sought_rest (Plain m) text at w = tt
+sought_rest (Remembering m) text at w =
+    ap (λ (t : List ℕ). length (chars t)) (rest_there text at m (sought_at text _ at m (omega arith) w.sought))
+
+pub sought_behind_piece : (x : Item) (s : CutToEnd) → IsSoughtFromRest s → IsSoughtBehind x s
+sought_behind_piece (Token token) s h = h
+sought_behind_piece (Skipped token) s h = h
+sought_behind_piece (Fault start slice) s h = tt
+
+-- another place is the beginning of the rest
+pub waiting_there : (text : List ℕ) (found at : ℕ) (m n : Matching) → IsUtf8 text → IsSoughtFrom text found m → IsCharBoundary text at
+    → n ≡ record m { at = at; spare = n.spare } → IsWaiting text at None n
+waiting_there text found at m n u s b e = record {
+  utf8 = u;
+  boundary = b;
+  first = tt;
+  sought =
+      sought_at text at _ n (omega arith) (record { same = ap (λ (x : Matching). x.text) e ∙ s.same; here = ap (λ (x : Matching). x.at) e; boundary = b });
+}

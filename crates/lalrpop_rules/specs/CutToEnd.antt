@@ -1,10 +1,11 @@
 -- cases: proofs/Cases/CutToEnd.antt
 -- What one call gives while a text is cut to its end, and what it costs with a memo.
-use Rattle.std.specs.Prelude.{◌≡◌, ℕ, ◌+◌, ◌*◌, ◌≤◌, Bool, List, [], length, drop, Option, Some, None}
+use Rattle.std.specs.Prelude.{◌≡◌, ℕ, ◌+◌, ◌*◌, ◌≤◌, Bool, List, [], length, drop, Option, Some, None, IfSome}
 use Rattle.std.specs.Str.{chars}
 use Rattle.lalrpop_lexer.specs.Rules.{Rules}
 use Rattle.lalrpop_rules.specs.Pieces.{IsPiece, slice_of}
 use Rattle.lalrpop_rules.specs.declared.item.Item.{Item}
+use Rattle.lalrpop_rules.specs.declared.item.Item.TheVariants.{Token, Skipped, Fault}
 
 -- what a memo has left: how many characters of the text come after the last match that was found, and how many may still be read
 -- besides those of the matches and 64 for each call
@@ -53,3 +54,26 @@ GivesPiece old (Some item) new =
     IsPiece old.rules.trees old.rules.precedences old.skips old.text old.at item
     × (new ≡ record old { at = old.at + length (slice_of item); memo = new.memo; steps = new.steps })
     × IsPaid old.steps old.memo new.steps new.memo
+
+-- matches are sought from the beginning of the rest on: none is found yet, if there is a memo
+abbrev pub IsSoughtFromRest : CutToEnd → Type 0
+IsSoughtFromRest s = IfSome s.memo (λ m. m.unsought ≡ length (chars (left_text s)))
+
+-- so it is after a token; after a fault, the match right behind it may be found already
+abbrev pub IsSoughtBehind : Item → CutToEnd → Type 0
+IsSoughtBehind (Token token) s = IsSoughtFromRest s
+IsSoughtBehind (Skipped token) s = IsSoughtFromRest s
+IsSoughtBehind (Fault start slice) s = Unit {0}
+
+-- what is spent is counted: with a memo, what was to spare pays for it; without one, nothing is
+abbrev pub IsSpent : ℕ → Option Memo → ℕ → Option Memo → Type 0
+IsSpent before None after None = after ≡ before
+IsSpent before (Some m) after (Some n) = (before ≤ after) × (after + n.spare ≤ before + m.spare)
+IsSpent _ _ _ _ = ⊥
+
+-- from now on the rest begins at this place, and matches are sought from there; what was read ahead in vain is spent
+abbrev pub PassesTo : CutToEnd → ℕ → CutToEnd → Type 0
+PassesTo old at new =
+    (new ≡ record old { at = at; memo = new.memo; steps = new.steps })
+    × IsSoughtFromRest new
+    × IsSpent old.steps old.memo new.steps new.memo

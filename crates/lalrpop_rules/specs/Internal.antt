@@ -1,6 +1,4 @@
 pub mod Code
 pub mod Finding
-pub mod Reported
--- a file of rules
-pub mod Spans
-pub mod Parts
+pub mod TextFaults
+pub mod Faults

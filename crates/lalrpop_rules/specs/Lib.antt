@@ -1,10 +1,9 @@
 pub mod Found
 pub mod Pieces
 pub mod CutToEnd
+pub mod RuleText
+pub mod Kinds
 pub mod RuleSet
--- a file of rules
-pub mod RuleLine
-pub mod RuleFault
-pub mod RuleFile
+pub mod RulesErrors
 -- used by proofs only
 pub mod Internal

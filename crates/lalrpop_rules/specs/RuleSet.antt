@@ -1,16 +1,23 @@
 -- cases: proofs/Cases/RuleSet.antt
 -- Named rules, and what they say.
-use Rattle.std.specs.Prelude.{ℕ, Bool, List, map}
+use Rattle.std.specs.Prelude.{◌≡◌, ℕ, ◌<◌, Bool, List, [], ◌∷◌, map, Some, slice_get, option_map}
+use Rattle.std.specs.Borrow.{Bor}
+use Rattle.std.specs.Str.{IsCharBoundary}
 use Rattle.lalrpop_book.specs.Tree.{Tree}
 use Rattle.lalrpop_book.specs.Clash.{IsClash}
 use Rattle.lalrpop_book.specs.Report.{NoFault, FirstFault}
+use Rattle.lalrpop_delimited.specs.declared.error.FromToError.{FromToError}
 use Rattle.lalrpop_lexer.specs.Dfa.{Row}
 use Rattle.lalrpop_lexer.specs.Rules.{Rules}
-use Rattle.lalrpop_lexer.specs.Spelled.{AreSpelled, IsNotSpelled}
-use Rattle.lalrpop_lexer.specs.declared.form.Form.{Form}
+use Rattle.lalrpop_rules.specs.RuleText.{HasTree, IsBadEnd, IsSomePattern}
+use Rattle.lalrpop_rules.specs.Kinds.{AreKinds, AreOneKind, all_at_work, merged}
 use Rattle.lalrpop_rules.specs.declared.rule.Rule.{Rule}
+use Rattle.lalrpop_rules.specs.declared.rule_text.RuleText.{RuleText}
+use Rattle.lalrpop_rules.specs.declared.rule_text.RuleText.TheVariants.{FromTo}
+use Rattle.lalrpop_rules.specs.declared.text_error.TextError.{TextError}
+use Rattle.lalrpop_rules.specs.declared.text_error.TextError.TheVariants as texts
 use Rattle.lalrpop_rules.specs.declared.error.RulesError.{RulesError}
-use Rattle.lalrpop_rules.specs.declared.error.RulesError.TheVariants.{NotParsed, NotCompiled, Clash, OutOfMemory}
+use Rattle.lalrpop_rules.specs.declared.error.RulesError.TheVariants.{NotParsed, BadEnd, NotCompiled, Clash, OutOfMemory}
 
 -- a list of rules, as a lexer knows them: their names, trees and precedences, which are skipped, and the states of the automaton
 pub record RuleSet : Type 0 where
@@ -20,13 +27,20 @@ pub record RuleSet : Type 0 where
   pub skips : List Bool
   pub automaton : List Row
 
--- the form of each rule, with its text
-abbrev pub forms_of : List Rule → List (Form × List ℕ)
-forms_of rs = map (λ r. (r.form, r.text.now)) rs
-
--- each rule spells its tree
+-- each rule's text has its tree
 abbrev pub AreTrees : List Rule → List Tree → Type 0
-AreTrees rs ts = AreSpelled (forms_of rs) ts
+AreTrees [] [] = Unit {0}
+AreTrees (r ∷ rs) (t ∷ ts) = HasTree r.text t × AreTrees rs ts
+AreTrees _ _ = ⊥
+
+-- the trees of the rules, which can be compiled, merged by kinds
+pub record AreMergedTrees (rs : List Rule) (ts : List Tree) : Type 0 where
+  pub each : List Tree
+  pub have : AreTrees rs each
+  pub no_fault : NoFault each
+  pub kinds : List ℕ
+  pub numbered : AreKinds AreOneKind rs kinds
+  pub merge : ts ≡ merged (all_at_work kinds) each
 
 abbrev pub names_of : List Rule → List (List ℕ)
 names_of rs = map (λ r. r.name.now) rs
@@ -37,12 +51,34 @@ precedences_of rs = map (λ r. r.precedence.0) rs
 abbrev pub skips_of : List Rule → List Bool
 skips_of rs = map (λ r. r.is_skipped) rs
 
--- the error is right: the first rule whose text does not parse; else the first that can't be compiled; else the clash; or memory
--- was refused
+-- rule i is the first whose text has no tree, and this is its text
+pub record IsFirstBad (rs : List Rule) (i : ℕ) (text : RuleText) : Type 0 where
+  pub at : option_map (λ r. r.text) (slice_get rs i) ≡ Some text
+  pub none : (t : Tree) → ¬ HasTree text t
+  pub before : (j : ℕ) (r : Rule) → j < i → slice_get rs j ≡ Some r → (t : Tree) × HasTree r.text t
+
+-- the first text without a tree is the pattern of rule i, and the place is where one of its characters begins, or its end
+abbrev pub IsNotParsed : List Rule → ℕ → ℕ → Type 0
+IsNotParsed rs i position = (text : RuleText) × ((inner : List ℕ) × (IsFirstBad rs i text × IsSomePattern text inner × IsCharBoundary inner position))
+
+-- the first text without a tree is that of rule i, whose end is bad
+abbrev pub HasBadEnd : List Rule → ℕ → FromToError → Type 0
+HasBadEnd rs i e = (from : Bor (List ℕ)) × ((to : Bor (List ℕ)) × (IsFirstBad rs i (FromTo from to) × IsBadEnd to.now e))
+
+-- the error is right: the first rule whose text has no tree; else the first that can't be compiled; or memory was refused
+abbrev pub IsTextError : List Rule → TextError → Type 0
+IsTextError rs (texts.NotParsed i position kind) = IsNotParsed rs i position
+IsTextError rs (texts.BadEnd i e) = HasBadEnd rs i e
+IsTextError rs (texts.NotCompiled i e) = (ts : List Tree) × (AreTrees rs ts × FirstFault ts i e)
+IsTextError rs texts.OutOfMemory = Unit {0}
+
+-- the error is right: the first rule whose text has no tree; else the first that can't be compiled; else the clash; or memory was
+-- refused
 abbrev pub IsRulesError : List Rule → RulesError → Type 0
-IsRulesError rs (NotParsed i position kind) = IsNotSpelled (forms_of rs) i position
+IsRulesError rs (NotParsed i position kind) = IsNotParsed rs i position
+IsRulesError rs (BadEnd i e) = HasBadEnd rs i e
 IsRulesError rs (NotCompiled i e) = (ts : List Tree) × (AreTrees rs ts × FirstFault ts i e)
-IsRulesError rs (Clash i j w) = (ts : List Tree) × (AreTrees rs ts × NoFault ts × IsClash ts (precedences_of rs) w.items i j)
+IsRulesError rs (Clash i j w) = (ts : List Tree) × (AreMergedTrees rs ts × IsClash ts (precedences_of rs) w.items i j)
 IsRulesError rs OutOfMemory = Unit {0}
 
 -- what the lexer of the rules recognizes

@@ -1,8 +1,12 @@
 //! Why rules can't be made into a lexer.
 ghost use Rattle.std.specs.Prelude.{◌≡◌};
+ghost use Rattle.lalrpop_rules.specs.RulesErrors.{of_texts, of_construction};
 ghost use Rattle.lalrpop_rules.specs.declared.error.RulesError.TheVariants.{OutOfMemory};
 
+use crate::text_error::TextError;
+use lalrpop_delimited::FromToError;
 use lalrpop_lexer::ShownWord;
+use lalrpop_lexer::lexer::dfa::DfaConstructionError;
 use lalrpop_lexer::lexer::nfa::NfaConstructionError;
 use lalrpop_lexer::lexer::re::SyntaxKind;
 use std::alloc::{AllocError, AllocFailed};
@@ -28,14 +32,20 @@ pub enum RulesError {
         position: usize,
         kind: SyntaxKind,
     },
+    /// The end of this rule's text is empty or has more than 64 characters.
+    #[error("the text of rule {rule} has no tree: {error}")]
+    BadEnd {
+        rule: usize,
+        error: FromToError,
+    },
     /// This rule can't be compiled.
     #[error("rule {rule} can't be compiled: {error:?}")]
     NotCompiled {
         rule: usize,
         error: NfaConstructionError,
     },
-    /// Some word has more than one strongest rule: `word` is the shortest, then least, such word, `rule` the greatest index of
-    /// its strongest rules, and `other` the second greatest.
+    /// Some word has strongest rules of more than one kind: `word` is the shortest, then least, such word, and `rule` and `other` are
+    /// the first rules of two such kinds: `rule` has the greatest index, and `other` the second greatest.
     #[error("rules {other} and {rule} clash on {shown}", shown = ShownWord(.word))]
     Clash {
         rule: usize,
@@ -45,6 +55,52 @@ pub enum RulesError {
     /// A request for memory was refused.
     #[error("out of memory")]
     OutOfMemory,
+}
+
+impl From<TextError> for RulesError {
+    ghost from_gives = { λ error e. e ≡ of_texts error };
+
+    fn from(error: TextError) -> RulesError {
+        match error {
+            TextError::NotParsed {
+                rule,
+                position,
+                kind,
+            } => RulesError::NotParsed {
+                rule,
+                position,
+                kind,
+            },
+            TextError::BadEnd { rule, error } => RulesError::BadEnd { rule, error },
+            TextError::NotCompiled { rule, error } => RulesError::NotCompiled { rule, error },
+            TextError::OutOfMemory => RulesError::OutOfMemory,
+        }
+    }
+}
+
+impl From<DfaConstructionError> for RulesError {
+    ghost from_gives = { λ error e. e ≡ of_construction error };
+
+    fn from(error: DfaConstructionError) -> RulesError {
+        match error {
+            DfaConstructionError::NfaConstructionError { index, error } => {
+                RulesError::NotCompiled {
+                    rule: index.index(),
+                    error,
+                }
+            }
+            DfaConstructionError::Ambiguity {
+                match0,
+                match1,
+                word,
+            } => RulesError::Clash {
+                rule: match0.index(),
+                other: match1.index(),
+                word,
+            },
+            DfaConstructionError::OutOfMemory => RulesError::OutOfMemory,
+        }
+    }
 }
 
 impl From<AllocError> for RulesError {

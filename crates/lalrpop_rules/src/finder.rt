@@ -1,9 +1,10 @@
 //! What finds the matches of a text, without a memo or with one.
 
-ghost use Rattle.std.specs.Prelude.{◌≡◌};
+ghost use Rattle.std.specs.Prelude.{◌≡◌, ◌≤◌, IsSome};
+ghost use Rattle.std.specs.Str.{IsCharBoundary};
 ghost use Rattle.lalrpop_lexer.specs.Matching.{rest_of};
 ghost use Rattle.lalrpop_lexer.specs.Rules.{IsBuiltFrom};
-ghost use Rattle.lalrpop_rules.specs.CutToEnd.{IsPaid};
+ghost use Rattle.lalrpop_rules.specs.CutToEnd.{IsPaid, IsSpent};
 ghost use Rattle.lalrpop_rules.specs.Internal.Finding.{matching_of, memo_of, IsSomeText, IsMatchOf, Passes};
 
 use lalrpop_lexer::lexer::dfa::NfaIndex;
@@ -73,6 +74,21 @@ impl<'text> Finder<'text> {
                 None
             }
             _ => self.next_or_pass(steps),
+        }
+    }
+
+    /// From now on the rest begins at this place. There is a memo.
+    pub(crate) fn pass_to(&mut self, at: usize, steps: &mut Steps)
+        requires memo { IsSome (memo_of self.old) }
+        requires behind { (matching_of self.old).at ≤ at }
+        requires boundary { IsCharBoundary (matching_of self.old).text at }
+        ensures passes { matching_of self.new
+            ≡ record (matching_of self.old) { at = at; spare = (matching_of self.new).spare } }
+        ensures spent { IsSpent steps.old (memo_of self.old) steps.new (memo_of self.new) }
+    {
+        match self {
+            Finder::Plain(_) => unreachable!(),
+            Finder::Remembering(matches) => matches.pass_to(at, steps),
         }
     }
 }

@@ -1,6 +1,7 @@
 //! The piece at the front of the rest of a text.
 
-ghost use Rattle.std.specs.Prelude.{◌≡◌, ◌+◌, ◌<◌, ℕ, List, true, false, length, drop};
+ghost use Rattle.std.specs.Prelude.{◌≡◌, ◌≢◌, ◌+◌, ◌<◌, ℕ, List, [], true, false, length, drop};
+ghost use Rattle.std.specs.Str.{IsCharBoundary};
 ghost use Rattle.lalrpop_book.specs.Tree.{Tree};
 ghost use Rattle.lalrpop_book.specs.Tokens.{IsToken};
 ghost use Rattle.lalrpop_lexer.specs.Rules.{IsBuiltFrom};
@@ -10,6 +11,7 @@ ghost use Rattle.lalrpop_rules.specs.Internal.Finding.{matching_of, memo_of, IsW
 
 use crate::finder::Finder;
 use crate::item::Item;
+use crate::leftmost::find;
 use lalrpop_lexer::lexer::dfa::NfaIndex;
 use lalrpop_lexer::lexer::nfa::Steps;
 use lalrpop_lexer::{Lexer, Token};
@@ -78,5 +80,32 @@ pub(crate) fn pass_fault<'text>(
         if let Some(found) = finder.next_in_fault(lexer, steps) {
             return (&text[at..end], Some(found));
         }
+    }
+}
+
+/// The piece of the text at byte `at`, before its end: the token there, which is skipped or not, or a fault up to the next place where a
+/// pattern matches.
+///
+/// It takes no memory. From each place of a fault it reads as far as some pattern could still match.
+pub fn piece_at<'text>(lexer: &Lexer, skipped: &[bool], text: &'text str, at: usize) -> Item<'text>
+    requires boundary { IsCharBoundary text.now at }
+    requires some { drop at text.now ≢ [] }
+    ensures piece { IsPiece lexer.now.trees lexer.now.precedences skipped.now text.now at result }
+{
+    let rest = &text[at..];
+    match find(lexer, rest) {
+        Some(token) => {
+            if token.start == 0 {
+                return piece_of(skipped, token.index, token.slice, at);
+            }
+            Item::Fault {
+                start: at,
+                slice: &rest[..token.start],
+            }
+        }
+        None => Item::Fault {
+            start: at,
+            slice: rest,
+        },
     }
 }

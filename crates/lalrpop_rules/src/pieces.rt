@@ -1,6 +1,6 @@
 //! Cutting a text to its end: tokens, skipped pieces and faults.
 
-ghost use Rattle.std.specs.Prelude.{◌≡◌, ℕ, List, IfNone};
+ghost use Rattle.std.specs.Prelude.{◌≡◌, ℕ, List, None, IfNone};
 ghost use Rattle.lalrpop_lexer.specs.Matching.{rest_of};
 ghost use Rattle.lalrpop_rules.specs.CutToEnd.{IsPaid};
 ghost use Rattle.lalrpop_rules.specs.Internal.Finding.{matching_of, memo_of, IsSomeText, IsWaiting, IsAtFront};
@@ -79,6 +79,7 @@ fn take_or_find<'text>(
     ensures front { (text : List ℕ) (at : ℕ)
         → IsWaiting text at kept.old (matching_of finder.old)
         → IsAtFront text at result kept.new (matching_of finder.new) }
+    ensures taken { kept.new ≡ None }
     ensures same { (matching_of finder.new).automaton ≡ (matching_of finder.old).automaton }
     ensures paid { IsPaid steps.old (memo_of finder.old) steps.new (memo_of finder.new) }
 {
@@ -89,11 +90,11 @@ fn take_or_find<'text>(
 }
 
 impl<'text> Items<'text> {
-    ghost use Rattle.std.specs.Prelude.{◌<◌, ◌≤◌, ◌+◌, ◌*◌, None, length, IfOk, IsSomeAnd, OnSome};
-    ghost use Rattle.std.specs.Str.{chars};
+    ghost use Rattle.std.specs.Prelude.{◌<◌, ◌≤◌, ◌+◌, ◌*◌, length, drop, IfOk, IfSome, IsSomeAnd, OnSome};
+    ghost use Rattle.std.specs.Str.{chars, IsCharBoundary};
     ghost use Rattle.lalrpop_book.specs.Clash.{NoClash};
     ghost use Rattle.lalrpop_lexer.specs.Matching.{open_states};
-    ghost use Rattle.lalrpop_rules.specs.CutToEnd.{uncut, left_text, pieces_left, GivesPiece};
+    ghost use Rattle.lalrpop_rules.specs.CutToEnd.{uncut, left_text, pieces_left, GivesPiece, IsSoughtBehind, PassesTo};
 
     // The whole text, before the first piece.
     pub(crate) fn new(lexer: &'text Lexer, skipped: &'text [bool], text: &'text str) -> Items<'text>
@@ -143,11 +144,13 @@ impl<'text> Items<'text> {
         &self.text[self.at..]
     }
 
-    // What `next` returns.
+    /// What `next` returns. After a token, matches are sought from its end on. After a fault, the match behind it may be found
+    /// already.
     #[inline(always)]
-    fn next_item(&mut self) -> Option<Item<'text>>
+    pub fn next_item(&mut self) -> Option<Item<'text>>
         ensures gives { GivesPiece self.old result self.new }
         ensures goes { OnSome result (pieces_left self.new < pieces_left self.old) }
+        ensures sought { IfSome result (λ item. IsSoughtBehind item self.new) }
     {
         let start = self.at;
         let rest = &self.text[start..];
@@ -172,6 +175,27 @@ impl<'text> Items<'text> {
                 Some(Item::Fault { start, slice })
             }
         }
+    }
+
+    /// From now on the rest begins at this place, for a caller that has cut what lies between otherwise, as by other rules. There is a
+    /// memo, and the place isn't before the end of a match that is found already, as the one behind a fault.
+    ///
+    /// ```
+    /// let mut items = lexer.items_linear(alloc, "a /* b */ c")?;
+    /// let first = items.next(); // "a"
+    /// items.pass_to(9);
+    /// let second = items.next(); // the space before "c"
+    /// ```
+    pub fn pass_to(&mut self, at: usize)
+        requires behind { self.old.at ≤ at }
+        requires boundary { IsCharBoundary self.old.text at }
+        requires sought { IsSomeAnd self.old.memo (λ m.
+            length (chars (drop at self.old.text)) ≤ m.unsought) }
+        ensures passes { PassesTo self.old at self.new }
+    {
+        self.kept = None;
+        self.finder.pass_to(at, &mut self.steps);
+        self.at = at;
     }
 }
 

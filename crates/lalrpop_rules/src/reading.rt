@@ -1,25 +1,18 @@
-//! What rules say: their patterns, their names, and which of them are skipped.
+//! What rules say: their precedences, their names, and which of them are skipped.
 ghost use Rattle.std.specs.Prelude.{◌≡◌, map, IfOk, string_bytes};
-ghost use Rattle.lalrpop_lexer.specs.Spelled.{texts_of};
-ghost use Rattle.lalrpop_rules.specs.RuleSet.{forms_of, names_of, precedences_of, skips_of};
+ghost use Rattle.lalrpop_rules.specs.RuleSet.{names_of, precedences_of, skips_of};
 
 use crate::rule::Rule;
-use lalrpop_lexer::Form;
 use lalrpop_lexer::lexer::dfa::Precedence;
 use std::alloc::{AllocError, Global};
 
-// The patterns of all rules.
-pub(crate) fn patterns_of<'text>(
-    alloc: Global,
-    rules: &[Rule<'text>],
-) -> Result<Vec<(Precedence, Form, &'text str)>, AllocError>
-    ensures texts { IfOk result (λ all. texts_of all.items ≡ forms_of rules.now) }
-    ensures precedences { IfOk result (λ all.
-        map (λ p. p.0.0) all.items ≡ precedences_of rules.now) }
+// Their precedences.
+pub(crate) fn precedence_list(alloc: Global, rules: &[Rule]) -> Result<Vec<Precedence>, AllocError>
+    ensures precedences { IfOk result (λ all. map (λ p. p.0) all.items ≡ precedences_of rules.now) }
 {
     let mut all = Vec::new(alloc);
     for rule in rules {
-        all.push((rule.precedence, rule.form, rule.text))?;
+        all.push(rule.precedence)?;
     }
     Ok(all)
 }

@@ -1,9 +1,11 @@
 //! A rule.
 
 ghost use Rattle.std.specs.Prelude.{◌≡◌, true, false};
+ghost use Rattle.lalrpop_rules.specs.RuleText.{IsLiteral, IsPattern, IsPatternWith, IsBetween};
 
-use lalrpop_lexer::Form;
+use crate::rule_text::RuleText;
 use lalrpop_lexer::lexer::dfa::Precedence;
+use lalrpop_lexer::lexer::re::Part;
 
 /// A named rule.
 ///
@@ -13,17 +15,16 @@ use lalrpop_lexer::lexer::dfa::Precedence;
 /// let rules = [
 ///     Rule::literal("LET", "let"),
 ///     Rule::pattern("NAME", "[a-z]+"),
+///     Rule::from_to("COMMENT", "/*", "*/").skipped(),
 ///     Rule::pattern("SPACE", r"\s+").skipped(),
 /// ];
 /// ```
-#[derive(Clone, Copy, Debug, PartialEq, Eq)]
+#[derive(Clone, Copy, Debug)]
 pub struct Rule<'text> {
     /// What its tokens are called.
     pub name: &'text str,
-    /// How its text is to be read.
-    pub form: Form,
-    /// The text of its literal or pattern.
-    pub text: &'text str,
+    /// What its tokens are.
+    pub text: RuleText<'text>,
     /// Of two rules that match the same longest text, the one with the greater precedence wins.
     pub precedence: Precedence,
     /// Whether its tokens are skipped.
@@ -33,15 +34,14 @@ pub struct Rule<'text> {
 impl<'text> Rule<'text> {
     /// A literal. Its precedence is 1, and it isn't skipped.
     pub fn literal(name: &'text str, text: &'text str) -> Rule<'text>
-        ensures texts { (result.name.now ≡ name.now) × (result.text.now ≡ text.now) }
-        ensures form { result.form ≡ Form.Literal }
+        ensures name { result.name.now ≡ name.now }
+        ensures text { IsLiteral result.text text.now }
         ensures precedence { result.precedence.0 ≡ 1 }
         ensures kept { result.is_skipped ≡ false }
     {
         Rule {
             name,
-            form: Form::Literal,
-            text,
+            text: RuleText::Literal(text),
             precedence: Precedence(1),
             is_skipped: false,
         }
@@ -49,15 +49,50 @@ impl<'text> Rule<'text> {
 
     /// A pattern. Its precedence is 0, and it isn't skipped.
     pub fn pattern(name: &'text str, text: &'text str) -> Rule<'text>
-        ensures texts { (result.name.now ≡ name.now) × (result.text.now ≡ text.now) }
-        ensures form { result.form ≡ Form.Pattern }
+        ensures name { result.name.now ≡ name.now }
+        ensures text { IsPattern result.text text.now }
         ensures precedence { result.precedence.0 ≡ 0 }
         ensures kept { result.is_skipped ≡ false }
     {
         Rule {
             name,
-            form: Form::Pattern,
-            text,
+            text: RuleText::Pattern(text),
+            precedence: Precedence(0),
+            is_skipped: false,
+        }
+    }
+
+    /// A pattern in which `{NAME}` stands for the first of the parts with this name. Its precedence is 0, and it isn't skipped.
+    pub fn pattern_with(name: &'text str, text: &'text str, parts: &'text [Part]) -> Rule<'text>
+        ensures name { result.name.now ≡ name.now }
+        ensures text { IsPatternWith result.text text.now parts.now }
+        ensures precedence { result.precedence.0 ≡ 0 }
+        ensures kept { result.is_skipped ≡ false }
+    {
+        Rule {
+            name,
+            text: RuleText::PatternWith { text, parts },
+            precedence: Precedence(0),
+            is_skipped: false,
+        }
+    }
+
+    /// The words that begin with `from` and end with the first `to` behind it. Its precedence is 0, and it isn't skipped.
+    ///
+    /// ```
+    /// use lalrpop_rules::Rule;
+    ///
+    /// let comment = Rule::from_to("COMMENT", "/*", "*/");
+    /// ```
+    pub fn from_to(name: &'text str, from: &'text str, to: &'text str) -> Rule<'text>
+        ensures name { result.name.now ≡ name.now }
+        ensures text { IsBetween result.text from.now to.now }
+        ensures precedence { result.precedence.0 ≡ 0 }
+        ensures kept { result.is_skipped ≡ false }
+    {
+        Rule {
+            name,
+            text: RuleText::FromTo { from, to },
             precedence: Precedence(0),
             is_skipped: false,
         }
@@ -69,7 +104,6 @@ impl<'text> Rule<'text> {
     {
         Rule {
             name: self.name,
-            form: self.form,
             text: self.text,
             precedence: Precedence(precedence),
             is_skipped: self.is_skipped,
@@ -82,7 +116,6 @@ impl<'text> Rule<'text> {
     {
         Rule {
             name: self.name,
-            form: self.form,
             text: self.text,
             precedence: self.precedence,
             is_skipped: true,

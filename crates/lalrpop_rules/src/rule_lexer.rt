@@ -1,6 +1,6 @@
 //! A lexer of named rules.
 
-ghost use Rattle.std.specs.Prelude.{◌≡◌, ◌<◌, ◌≤◌, ◌+◌, ◌*◌, ◌++◌, ℕ, List, Option, None, length, slice_get, option_map, IfOk, IfErr, IfSome, IfNone, IsSome};
+ghost use Rattle.std.specs.Prelude.{◌≡◌, ◌<◌, ◌≤◌, ◌+◌, ◌*◌, ◌++◌, ℕ, List, Option, None, length, slice_get, option_map, map, string_bytes, IfOk, IfErr, IfSome, IfNone, IsSome};
 ghost use Rattle.std.specs.Iterator.{Drains, Yields};
 ghost use Rattle.std.specs.Str.{chars};
 ghost use Rattle.lalrpop_book.specs.Clash.{NoClash};
@@ -11,18 +11,18 @@ ghost use Rattle.lalrpop_rules.specs.Found.{IsFound, NothingFound};
 ghost use Rattle.lalrpop_rules.specs.Pieces.{ArePieces, AreApart, joined, up_to_fault};
 ghost use Rattle.lalrpop_rules.specs.CutToEnd.{CutToEnd, uncut, left_text, GivesPiece};
 ghost use Rattle.lalrpop_lexer.specs.Matching.{open_states};
-ghost use Rattle.lalrpop_rules.specs.RuleSet.{AreTrees, IsRulesError, names_of, precedences_of, skips_of, recognized};
-ghost use Rattle.lalrpop_rules.specs.Internal.Reported.{NamesPattern, as_patterns};
+ghost use Rattle.lalrpop_rules.specs.RuleSet.{AreMergedTrees, IsRulesError, names_of, precedences_of, skips_of, recognized};
 ghost use Rattle.lalrpop_rules.specs.declared.item.Item.{Item as ItemValue};
 
 use crate::error::RulesError;
 use crate::item::Item;
 use crate::pieces::Items;
-use crate::reading::{name_list, patterns_of, skip_list};
+use crate::reading::{name_list, precedence_list, skip_list};
 use crate::rule::Rule;
+use crate::rule_trees::rule_trees;
 use crate::{cut, leftmost};
 use lalrpop_lexer::lexer::dfa::NfaIndex;
-use lalrpop_lexer::{Lexer, LexerError, Token};
+use lalrpop_lexer::{Lexer, Token};
 use std::alloc::{AllocError, Global};
 use std::marker::Model;
 
@@ -62,49 +62,26 @@ impl Model for RuleLexer {
     ghost invariant = { λ l. length l.names.items ≡ length l.lexer.trees };
 }
 
-// The error of the rules for an error of their patterns.
-fn rules_error(error: LexerError) -> RulesError
-    requires listed { NamesPattern error }
-    ensures same { error ≡ as_patterns result }
-{
-    match error {
-        LexerError::Syntax { .. } => unreachable!(),
-        LexerError::NotParsed {
-            pattern,
-            position,
-            kind,
-        } => RulesError::NotParsed {
-            rule: pattern,
-            position,
-            kind,
-        },
-        LexerError::NotCompiled { pattern, error } => RulesError::NotCompiled {
-            rule: pattern,
-            error,
-        },
-        LexerError::Clash {
-            pattern,
-            other,
-            word,
-        } => RulesError::Clash {
-            rule: pattern,
-            other,
-            word,
-        },
-        LexerError::OutOfMemory => RulesError::OutOfMemory,
-    }
-}
-
 impl RuleLexer {
     /// Builds the lexer of these rules.
     ///
+    /// Rules with one name and one precedence that are both skipped or both not are one kind: they don't clash with each other, and a
+    /// token of one of them is a token of the first.
+    ///
+    /// ```
+    /// use lalrpop_rules::{Rule, RuleLexer};
+    ///
+    /// let rules = [Rule::pattern("NUMBER", "[0-9]+"), Rule::pattern("NUMBER", "[0-9a-f]+h?")];
+    /// let lexer = RuleLexer::from_rules(alloc, &rules)?; // all its tokens have the index 0
+    /// ```
+    ///
     /// # Errors
     ///
-    /// The first rule whose text does not parse; otherwise the first that can't be compiled; otherwise the shortest, then
-    /// least, word with two or more strongest rules, and the last two of those; or out of memory.
+    /// The first rule whose text has no tree, and why; otherwise the first that can't be compiled; otherwise the shortest, then
+    /// least, word with strongest rules of two or more kinds, and the last two of those; or out of memory.
     pub fn from_rules(alloc: Global, rules: &[Rule]) -> Result<RuleLexer, RulesError>
         ensures names { IfOk result (λ lexer. lexer.names ≡ names_of rules.now) }
-        ensures trees { IfOk result (λ lexer. AreTrees rules.now lexer.trees) }
+        ensures trees { IfOk result (λ lexer. AreMergedTrees rules.now lexer.trees) }
         ensures precedences { IfOk result (λ lexer.
             lexer.precedences ≡ precedences_of rules.now) }
         ensures skips { IfOk result (λ lexer. lexer.skips ≡ skips_of rules.now) }
@@ -112,20 +89,20 @@ impl RuleLexer {
         ensures no_clash { IfOk result (λ lexer. NoClash lexer.trees lexer.precedences) }
         ensures error { IfErr result (λ e. IsRulesError rules.now e) }
     {
-        let patterns = patterns_of(alloc, rules)?;
+        let trees = rule_trees(alloc, rules)?;
+        let precedences = precedence_list(alloc, rules)?;
         let skips = skip_list(alloc, rules)?;
         let names = name_list(alloc, rules)?;
-        match Lexer::from_patterns(alloc, &patterns) {
-            Ok(lexer) => Ok(RuleLexer {
-                names,
-                skips,
-                lexer,
-            }),
-            Err(error) => Err(rules_error(error)),
-        }
+        let lexer = Lexer::new(alloc, trees, precedences)?;
+        Ok(RuleLexer {
+            names,
+            skips,
+            lexer,
+        })
     }
 
-    /// The lexer of the rules, which knows them as trees with precedences.
+    /// The lexer of the rules, which knows them as trees with precedences. The first rule of each kind has the trees of its kind, and
+    /// the others match nothing.
     pub fn lexer(&self) -> &Lexer
         ensures rules { result.now ≡ recognized self.now }
     {
@@ -137,6 +114,20 @@ impl RuleLexer {
         ensures skips { result.now ≡ self.now.skips }
     {
         &self.skips
+    }
+
+    /// The names of the rules, in order.
+    ///
+    /// ```
+    /// use lalrpop_rules::{Rule, RuleLexer};
+    ///
+    /// let lexer = RuleLexer::from_rules(alloc, &[Rule::literal("IF", "if")])?;
+    /// let first = &lexer.names()[0]; // "IF"
+    /// ```
+    pub fn names(&self) -> &[String]
+        ensures names { map (λ s. string_bytes s) result.now ≡ self.now.names }
+    {
+        &self.names
     }
 
     /// The name of the rule with this index, or `None` if there is no such rule. The rule of a token always has a name.

@@ -1,19 +1,24 @@
 -- Cases of specs/RuleSet.antt.
-use Rattle.std.proofs.Common.{◌≡◌, ℕ, true, false, List, [], ◌∷◌, codes, refl}
+use Rattle.std.proofs.Common.{◌≡◌, ◌<◌, ℕ, true, false, List, [], ◌∷◌, codes, refl, arith}
+use Rattle.std.specs.Prelude.{Some, slice_get}
+use Rattle.std.specs.Option.{option_map}
 use Rattle.std.specs.Borrow.{Bor}
 use Rattle.lalrpop_book.specs.Tree.{Tree}
-use Rattle.lalrpop_lexer.specs.Spelled.{IsNotSpelled}
-use Rattle.lalrpop_lexer.specs.declared.form.Form.TheVariants as form
-use Rattle.lalrpop_rules.specs.RuleSet.{AreTrees, IsRulesError, forms_of, names_of, precedences_of, skips_of}
+use Rattle.lalrpop_delimited.specs.declared.error.FromToError.{FromToError}
+use Rattle.lalrpop_delimited.specs.declared.error.FromToError.TheVariants.{EmptyEnd}
+use Rattle.lalrpop_rules.specs.RuleSet.{AreTrees, IsNotParsed, HasBadEnd, IsTextError, IsRulesError, names_of, precedences_of, skips_of}
 use Rattle.lalrpop_rules.specs.declared.error.RulesError.TheVariants.{OutOfMemory}
 use Rattle.lalrpop_rules.specs.declared.rule.Rule.{Rule}
+use Rattle.lalrpop_rules.specs.declared.rule_text.RuleText.{RuleText}
+use Rattle.lalrpop_rules.specs.declared.rule_text.RuleText.TheVariants.{Literal, Pattern, FromTo}
+use Rattle.lalrpop_rules.specs.declared.text_error.TextError.TheVariants as texts
 
 -- a keyword, and spaces, which are skipped
 abbrev keyword : Bor (List ℕ) → Bor (List ℕ) → Rule
-keyword name text = record { name = name; form = form.Literal; text = text; precedence = record { 0 = 1 }; is_skipped = false }
+keyword name text = record { name = name; text = Literal text; precedence = record { 0 = 1 }; is_skipped = false }
 
 abbrev spaces : Bor (List ℕ) → Bor (List ℕ) → Rule
-spaces name text = record { name = name; form = form.Pattern; text = text; precedence = record { 0 = 0 }; is_skipped = true }
+spaces name text = record { name = name; text = Pattern text; precedence = record { 0 = 0 }; is_skipped = true }
 
 no_rules : AreTrees [] []
 no_rules = tt
@@ -35,11 +40,25 @@ second_is_skipped : (a b c d : Bor (List ℕ)) → skips_of (keyword a b ∷ spa
 second_is_skipped a b c d = refl
 
 -- no rule of none is refused
-none_of_no_rules : (i position : ℕ) → ¬ IsNotSpelled (forms_of []) i position
-none_of_no_rules i position is = let e = is.at in absurd (cc)
+none_of_no_rules : (i position : ℕ) (e : FromToError) → ¬ IsNotParsed [] i position × ¬ HasBadEnd [] i e
+none_of_no_rules i position e = (λ is. none (is.1.1.0.at), λ is. none (is.1.1.0.at))
+  where
+    none : {text : RuleText} → option_map (λ (r : Rule). r.text) (slice_get [] i) ≡ Some text → ⊥
+    none is = absurd (cc)
 
-forms_in_their_order : (a b c d : Bor (List ℕ)) → forms_of (keyword a b ∷ spaces c d ∷ []) ≡ (form.Literal, b.now) ∷ (form.Pattern, d.now) ∷ []
-forms_in_their_order a b c d = refl
+-- a comment
+abbrev comment : Bor (List ℕ) → Bor (List ℕ) → Bor (List ℕ) → Rule
+comment name from to = record { name = name; text = FromTo from to; precedence = record { 0 = 0 }; is_skipped = true }
+
+comment_without_an_end : (name from to : Bor (List ℕ)) → to.now ≡ [] → IsTextError (comment name from to ∷ []) (texts.BadEnd 0 EmptyEnd)
+comment_without_an_end name from to e =
+    (from, (to, (record { at = refl; none = λ t has. has.some e; before = λ j r below at. absurd (no below) }, e)))
+  where
+    no : {j : ℕ} → j < 0 → ⊥
+    no h = omega (arith, h)
+
+memory_of_texts_is_right : (rs : List Rule) → IsTextError rs texts.OutOfMemory
+memory_of_texts_is_right rs = tt
 
 refused_memory_is_right : (rs : List Rule) → IsRulesError rs OutOfMemory
 refused_memory_is_right rs = tt

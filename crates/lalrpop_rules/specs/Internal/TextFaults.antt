@@ -1,0 +1,34 @@
+-- Why the text of one rule has no tree.
+use Rattle.std.specs.Prelude.{◌≡◌, ℕ, List}
+use Rattle.std.specs.Borrow.{Bor}
+use Rattle.std.specs.Str.{IsCharBoundary}
+use Rattle.lalrpop_book.specs.Tree.{Tree}
+use Rattle.lalrpop_delimited.specs.declared.error.FromToError.{FromToError}
+use Rattle.lalrpop_delimited.specs.declared.error.FromToError.TheVariants as ends
+use Rattle.lalrpop_grammar.specs.declared.error.RegexError.{RegexError}
+use Rattle.lalrpop_grammar.specs.declared.error.RegexError.TheVariants as read
+use Rattle.lalrpop_rules.specs.RuleText.{HasTree, IsBadEnd, IsSomePattern}
+use Rattle.lalrpop_rules.specs.declared.rule_text.RuleText.{RuleText}
+use Rattle.lalrpop_rules.specs.declared.rule_text.RuleText.TheVariants.{FromTo}
+use Rattle.lalrpop_rules.specs.declared.text_error.TextError.{TextError}
+use Rattle.lalrpop_rules.specs.declared.text_error.TextError.TheVariants.{NotParsed, BadEnd, NotCompiled, OutOfMemory}
+
+-- the error of rule i for an error of its pattern
+abbrev pub of_syntax : ℕ → RegexError → TextError
+of_syntax i (read.Syntax position kind) = NotParsed i position kind
+of_syntax i read.OutOfMemory = OutOfMemory
+
+-- and of its end
+abbrev pub of_end : ℕ → FromToError → TextError
+of_end i ends.EmptyEnd = BadEnd i ends.EmptyEnd
+of_end i ends.LongEnd = BadEnd i ends.LongEnd
+of_end i ends.OutOfMemory = OutOfMemory
+
+-- the error is that of rule i, which has this text, or memory was refused
+abbrev pub IsTextFault : ℕ → RuleText → TextError → Type 0
+IsTextFault i text (NotParsed j position kind) =
+    (j ≡ i) × ((t : Tree) → ¬ HasTree text t) × ((inner : List ℕ) × (IsSomePattern text inner × IsCharBoundary inner position))
+IsTextFault i text (BadEnd j e) =
+    (j ≡ i) × ((t : Tree) → ¬ HasTree text t) × ((from : Bor (List ℕ)) × ((to : Bor (List ℕ)) × ((text ≡ FromTo from to) × IsBadEnd to.now e)))
+IsTextFault i text (NotCompiled j e) = ⊥
+IsTextFault i text OutOfMemory = Unit {0}
