@@ -1,24 +1,19 @@
 -- The first rule with a name.
-use Rattle.std.proofs.Common.{◌≡◌, ℕ, ◌<◌, true, false, List, [], get_or, length, sym, ap, ◌∙◌, arith, Bor}
-use Rattle.std.specs.Prelude.{Option, Some, None, option_map, slice_get}
+use Rattle.std.proofs.Common.{◌≡◌, ℕ, ◌<◌, true, false, List, [], get_or, length, map, string_bytes, sym, ap, ◌∙◌, arith, Global}
+use Rattle.std.specs.Prelude.{Some, String, option_map, slice_get}
 use Rattle.std.specs.List.{position_or_len}
 use Rattle.std.specs.Str.{bytes_eq}
 use Rattle.std.proofs.lemmas.List.Sums.{position_or_len_is}
-use Rattle.std.proofs.lemmas.Option.{get_or_from_slice_get, slice_get_within, slice_get-get_or}
+use Rattle.std.proofs.lemmas.Option.{get_or_from_slice_get, slice_get_within, slice_get-get_or, slice_get-map}
 use Rattle.std.proofs.lemmas.Slice.Eq.{bytes_eq-Decides}
 
--- what is found of a rule that there is
-pub found_name : (names : List (List ℕ)) (number index : ℕ) (found : Option (Bor (List ℕ))) (other : Bor (List ℕ)) → option_map (λ s. s.now) found ≡ slice_get names index
-    → index ≡ number → found ≡ Some other → other.now ≡ get_or names number []
-found_name names number index found other maps is same =
-    sym (get_or_from_slice_get names number other.now [] (ap (λ (n : ℕ). slice_get names n) (sym is) ∙ sym maps ∙ ap (λ (f : Option (Bor (List ℕ))). option_map (λ s. s.now) f) same))
-
-pub no_name_found : (names : List (List ℕ)) (number index : ℕ) (found : Option (Bor (List ℕ))) → number < length names → option_map (λ s. s.now) found ≡ slice_get names index
-    → index ≡ number → found ≡ None → ⊥
-no_name_found names number index found below maps is same =
-    let some = slice_get-get_or names number [] below in
-    let none : slice_get names number ≡ None = ap (λ (n : ℕ). slice_get names n) (sym is) ∙ sym maps ∙ ap (λ (f : Option (Bor (List ℕ))). option_map (λ s. s.now) f) same in
-    cc
+-- the name of a rule that there is
+pub name_there : (names : List (String Global)) (number : ℕ) (other : String Global) → number < length names → other ≡ get_or names number other
+    → string_bytes other ≡ get_or (map string_bytes names) number []
+name_there names number other below is =
+    let there : slice_get (map string_bytes names) number ≡ Some (string_bytes (get_or names number other)) =
+    slice_get-map string_bytes names number ∙ ap (option_map string_bytes) (slice_get-get_or names number other below) in
+    ap string_bytes is ∙ sym (get_or_from_slice_get (map string_bytes names) number (string_bytes (get_or names number other)) [] there)
 
 name_at : (names : List (List ℕ)) (number : ℕ) (name : List ℕ) → slice_get names number ≡ Some name → get_or names number [] ≡ name
 name_at names number name is = get_or_from_slice_get names number name [] is

@@ -1,5 +1,5 @@
 //! A text in colours for a terminal.
-ghost use Rattle.std.specs.Prelude.{◌≡◌, ◌++◌, ◌∷◌, ◌%◌, ◌+◌, ◌<◌, ℕ, [], List, Some, flat_map, chars, length, slice_get, slice_index_or, string_bytes, IfOk, OnOk, true};
+ghost use Rattle.std.specs.Prelude.{◌≡◌, ◌++◌, ◌∷◌, ◌%◌, ◌+◌, ◌<◌, ℕ, [], List, Some, flat_map, chars, length, map, slice_get, slice_index_or, string_bytes, IfOk, OnOk, true};
 ghost use Rattle.std.specs.List.{position_or_len};
 ghost use Rattle.std.specs.Str.{bytes_eq};
 ghost use Rattle.lalrpop_rules.specs.Pieces.{ArePieces};
@@ -118,23 +118,20 @@ fn push_coloured(page: &mut String, colour: &'static str, text: &str) -> Result<
 }
 
 // Whether the rule with this index has this name.
-fn has_name(lexer: &RuleLexer, number: usize, name: &str) -> bool
-    requires { number < length lexer.now.names }
-    ensures { result ≡ bytes_eq name.now (slice_index_or lexer.now.names number []) }
+fn has_name(names: &[String], number: usize, name: &str) -> bool
+    requires { number < length names.now }
+    ensures { result ≡ bytes_eq name.now (slice_index_or (map string_bytes names.now) number []) }
 {
-    match lexer.name(NfaIndex::new(number)) {
-        Some(other) => name == other,
-        None => false,
-    }
+    name == names[number].as_str()
 }
 
 // The index of the first rule with this name.
-fn first_of_name(lexer: &RuleLexer, index: NfaIndex, name: &str) -> usize
-    requires { slice_get lexer.now.names index ≡ Some name.now }
-    ensures { result ≡ position_or_len (bytes_eq name.now) lexer.now.names }
+fn first_of_name(names: &[String], index: NfaIndex, name: &str) -> usize
+    requires { slice_get (map string_bytes names.now) index ≡ Some name.now }
+    ensures { result ≡ position_or_len (bytes_eq name.now) (map string_bytes names.now) }
 {
     for number in 0..index.index() {
-        if has_name(lexer, number, name) {
+        if has_name(names, number, name) {
             return number;
         }
     }
@@ -158,20 +155,20 @@ fn colour_at(number: usize) -> &'static str
 // The colour of the rule with this number and name, which is noted for its next token.
 fn colour_of_rule(
     colours: &mut [Option<&'static str>],
-    lexer: &RuleLexer,
+    names: &[String],
     index: NfaIndex,
     name: &str,
 ) -> &'static str
-    requires name { slice_get lexer.now.names index ≡ Some name.now }
-    requires noted { AreColours lexer.now.names colours.old }
-    ensures colour { result.now ≡ colour_of lexer.now.names name.now }
-    ensures noted { AreColours lexer.now.names colours.new }
+    requires name { slice_get (map string_bytes names.now) index ≡ Some name.now }
+    requires noted { AreColours (map string_bytes names.now) colours.old }
+    ensures colour { result.now ≡ colour_of (map string_bytes names.now) name.now }
+    ensures noted { AreColours (map string_bytes names.now) colours.new }
 {
     let number = index.index();
     if let Some(Some(colour)) = colours.get(number) {
         return colour;
     }
-    let colour = colour_at(first_of_name(lexer, index, name));
+    let colour = colour_at(first_of_name(names, index, name));
     if number < colours.len() {
         colours[number] = Some(colour);
     }
@@ -184,7 +181,7 @@ fn colour_of_rule(
 /// ```
 /// use lalrpop_markup::Painter;
 ///
-/// let mut painter = Painter::new(alloc, &lexer)?;
+/// let mut painter = Painter::new(alloc, lexer.names())?;
 /// let mut page = String::new(alloc);
 /// for item in lexer.items_linear(alloc, "do it")? {
 ///     painter.push(&mut page, &item)?;
@@ -192,33 +189,33 @@ fn colour_of_rule(
 /// ```
 #[derive(Drop)]
 pub struct Painter<'rules> {
-    lexer: &'rules RuleLexer,
+    names: &'rules [String],
     // The colour of each rule, from its first token on.
     colours: Vec<Option<&'static str>>,
 }
 
 impl<'rules> Model for Painter<'rules> {
-    ghost use Rattle.std.specs.Prelude.{ℕ, List};
+    ghost use Rattle.std.specs.Prelude.{ℕ, List, map, string_bytes};
     ghost use Rattle.lalrpop_markup.specs.Internal.Colours.{AreColours};
 
     ghost Value = { List (List ℕ) };
 
-    ghost view = { λ p. p.lexer.now.names };
+    ghost view = { λ p. map string_bytes p.names.now };
 
-    ghost invariant = { λ p. AreColours p.lexer.now.names p.colours.items };
+    ghost invariant = { λ p. AreColours (map string_bytes p.names.now) p.colours.items };
 }
 
 impl<'rules> Painter<'rules> {
-    /// A painter of the pieces that these rules cut.
+    /// A painter of the pieces that rules with these names cut.
     ///
     /// # Errors
     ///
     /// `AllocError` if a request for memory was refused.
-    pub fn new(alloc: Global, lexer: &'rules RuleLexer) -> Result<Painter<'rules>, AllocError>
-        ensures names { IfOk result (λ painter. painter ≡ lexer.now.names) }
+    pub fn new(alloc: Global, names: &'rules [String]) -> Result<Painter<'rules>, AllocError>
+        ensures names { IfOk result (λ painter. painter ≡ map string_bytes names.now) }
     {
-        let colours = vec![in alloc; None; lexer.skips().len()]?;
-        Ok(Painter { lexer, colours })
+        let colours = vec![in alloc; None; names.len()]?;
+        Ok(Painter { names, colours })
     }
 
     /// Appends one piece of a text.
@@ -232,9 +229,10 @@ impl<'rules> Painter<'rules> {
         ensures names { self.new ≡ self.old }
     {
         match item {
-            Item::Token(token) => match self.lexer.name(token.index) {
+            Item::Token(token) => match self.names.get(token.index.index()) {
                 Some(name) => {
-                    let colour = colour_of_rule(&mut self.colours, self.lexer, token.index, name);
+                    let name = name.as_str();
+                    let colour = colour_of_rule(&mut self.colours, self.names, token.index, name);
                     push_coloured(page, colour, token.slice)
                 }
                 None => push_plain(page, token.slice),
@@ -265,7 +263,7 @@ pub fn ansi(alloc: Global, lexer: &RuleLexer, text: &str) -> Result<String, Allo
         → EachBegins c IsSequence (chars (string_bytes page))) }
 {
     let mut items = lexer.items_linear(alloc, text)?;
-    let mut painter = Painter::new(alloc, lexer)?;
+    let mut painter = Painter::new(alloc, lexer.names())?;
     let mut page = String::new(alloc);
     'painting: while let Some(item) = items.next() {
         painter.push(&mut page, &item)?;

@@ -1,11 +1,12 @@
 //! A text as HTML.
-ghost use Rattle.std.specs.Prelude.{◌≡◌, ◌++◌, List, flat_map, option_map, string_bytes, IfOk, OnOk};
+ghost use Rattle.std.specs.Prelude.{◌≡◌, ◌++◌, [], List, flat_map, map, option_map, slice_get, string_bytes, unwrap_or, IfOk, OnOk};
 ghost use Rattle.lalrpop_rules.specs.Pieces.{ArePieces};
 ghost use Rattle.lalrpop_rules.specs.declared.item.Item.{Item as ItemValue};
 ghost use Rattle.lalrpop_markup.specs.Markup.{entity, told, escaped, span, mark, marked, outside, IsTag, IsEntity};
 ghost use Rattle.lalrpop_markup.specs.Places.{EachBegins, EachEnds};
 
 use crate::runs::{Shows, push_shown};
+use lalrpop_lexer::lexer::dfa::NfaIndex;
 use lalrpop_rules::{Item, RuleLexer};
 use std::alloc::{AllocError, Global};
 
@@ -68,32 +69,37 @@ fn push_mark(page: &mut String, fault: &str) -> Result<(), AllocError>
     page.push_str("</mark>")
 }
 
-/// Appends one piece of a text as HTML, as `html` does with each, so that a page can be written while the text is cut.
+// The name of a rule. The rule of a token always has one.
+fn name_at(names: &[String], index: NfaIndex) -> &str
+    ensures { result.now ≡ unwrap_or (slice_get (map string_bytes names.now) index) [] }
+{
+    match names.get(index.index()) {
+        Some(name) => name.as_str(),
+        None => "",
+    }
+}
+
+/// Appends one piece of a text as HTML, as `html` does with each, so that a page can be written while the text is cut. The rules of the
+/// lexer that cut it have these names.
 ///
 /// ```
 /// use lalrpop_markup::push_html;
 ///
 /// let mut page = String::new(alloc);
 /// for item in lexer.items_linear(alloc, "do it")? {
-///     push_html(&mut page, &lexer, &item)?;
+///     push_html(&mut page, lexer.names(), &item)?;
 /// }
 /// ```
 ///
 /// # Errors
 ///
 /// `AllocError` if a request for memory was refused: part of the piece may have been appended.
-pub fn push_html(page: &mut String, lexer: &RuleLexer, item: &Item) -> Result<(), AllocError>
+pub fn push_html(page: &mut String, names: &[String], item: &Item) -> Result<(), AllocError>
     ensures marked { OnOk result (string_bytes page.new
-        ≡ string_bytes page.old ++ marked lexer.now.names item.now) }
+        ≡ string_bytes page.old ++ marked (map string_bytes names.now) item.now) }
 {
     match item {
-        Item::Token(token) => {
-            let name = match lexer.name(token.index) {
-                Some(name) => name,
-                None => "",
-            };
-            push_span(page, name, token.slice)
-        }
+        Item::Token(token) => push_span(page, name_at(names, token.index), token.slice),
         Item::Skipped(token) => push_escaped(page, token.slice),
         Item::Fault { start: _, slice } => push_mark(page, slice),
     }
@@ -121,7 +127,7 @@ pub fn html(alloc: Global, lexer: &RuleLexer, text: &str) -> Result<String, Allo
     let mut items = lexer.items_linear(alloc, text)?;
     let mut page = String::new(alloc);
     'marking: while let Some(item) = items.next() {
-        push_html(&mut page, lexer, &item)?;
+        push_html(&mut page, lexer.names(), &item)?;
     }
     Ok(page)
 }

@@ -2,4 +2,6 @@
 mod Stack
 mod Modes
 mod ModeSet
+mod ModesErrors
 mod ModeCut
+mod ModeClashes

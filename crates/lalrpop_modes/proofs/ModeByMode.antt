@@ -10,21 +10,26 @@ use Rattle.lalrpop_book.specs.Report.{NoFault, IsReport}
 use Rattle.lalrpop_book.specs.declared.error.DfaConstructionError.{DfaConstructionError}
 use Rattle.lalrpop_book.specs.declared.error.DfaConstructionError.TheVariants as report
 use Rattle.lalrpop_lexer.specs.Rules.{Rules}
-use Rattle.lalrpop_lexer.proofs.SpelledTexts.{length-AreSpelled}
-use Rattle.lalrpop_rules.specs.RuleSet.{AreTrees}
-use Rattle.lalrpop_modes.specs.Modes.{ModeRules, trees_of, trees_in, IsModeClash}
-use Rattle.lalrpop_modes.specs.ModeSet.{AreModeRules, AreFineBefore, IsModesError, rules_of}
+use Rattle.lalrpop_rules.specs.RuleSet.{AreTrees, IsTextError}
+use Rattle.lalrpop_rules.proofs.RuleTrees.{length-AreTrees}
+use Rattle.lalrpop_rules.proofs.KindLaws.{no_fault_merged}
+use Rattle.lalrpop_rules.proofs.MergedTrees.{no_first_fault}
+use Rattle.lalrpop_rules.specs.declared.text_error.TextError.{TextError}
+use Rattle.lalrpop_rules.specs.declared.text_error.TextError.TheVariants as texts
+use Rattle.lalrpop_modes.specs.Modes.{ModeRules, kinds_of, mode_rules, trees_of, trees_in}
+use Rattle.lalrpop_modes.specs.ModeSet.{AllThere, AreModeRules, IsModesError, rules_of}
+use Rattle.lalrpop_modes.specs.ModesErrors.{of_texts}
 use Rattle.lalrpop_modes.specs.declared.mode_rule.ModeRule.{ModeRule}
 use Rattle.lalrpop_modes.specs.declared.error.ModesError.{ModesError}
-use Rattle.lalrpop_modes.specs.declared.error.ModesError.TheVariants.{NotParsed, NoSuchMode, NotCompiled, Clash, OutOfMemory}
+use Rattle.lalrpop_modes.specs.declared.error.ModesError.TheVariants.{NoSuchMode, NotParsed, BadEnd, NotCompiled, Clash, OutOfMemory}
 use Rattle.lalrpop_modes.specs.Internal.Lexers.{AreLexers, IsModeFault, in_mode, seen}
 
 -- the trees of a mode, whether the modes of each rule are listed first or not
-pub same_trees : {K : Type 0} (f : K → List ℕ) (ks : List K) (ts : List Tree) (m : ℕ)
-    → trees_of (map (λ k. list_any (λ n. n == m) (f k)) ks) ts ≡ trees_of (map (λ ms. list_any (λ n. n == m) ms) (map f ks)) ts
-same_trees f ks ts m = ap (λ bs. trees_of bs ts) (sym (map-map (λ ms. list_any (λ n. n == m) ms) f ks))
+pub same_trees : {K : Type 0} (f : K → List ℕ) (ks : List K) (ns : List ℕ) (ts : List Tree) (m : ℕ)
+    → trees_of (map (λ k. list_any (λ n. n == m) (f k)) ks) ns ts ≡ trees_of (map (λ ms. list_any (λ n. n == m) ms) (map f ks)) ns ts
+same_trees f ks ns ts m = ap (λ bs. trees_of bs ns ts) (sym (map-map (λ ms. list_any (λ n. n == m) ms) f ks))
 
-slice_end : {X : Type 0} (xs : List X) (x y : X) (k : ℕ) → slice_get (xs ++ x ∷ []) k ≡ Some y → (slice_get xs k ≡ Some y) ⊎ ((k ≡ length xs) × (x ≡ y))
+pub slice_end : {X : Type 0} (xs : List X) (x y : X) (k : ℕ) → slice_get (xs ++ x ∷ []) k ≡ Some y → (slice_get xs k ≡ Some y) ⊎ ((k ≡ length xs) × (x ≡ y))
 slice_end [] x y zero at = inr (refl, cc)
 slice_end [] x y (suc k) at = absurd (cc)
 slice_end (z ∷ xs) x y zero at = inl at
@@ -42,35 +47,48 @@ lexers_more r ls new l m are count more trees precedences k q at =
       )
     ]
 
+-- no mode before this one clashes
+abbrev pub NoClashBefore : ModeRules → ℕ → Type 0
+NoClashBefore r m = (k : ℕ) → k < m → NoClash (trees_in r k) r.precedences
+
 -- one mode more
-pub fine_more : (r : ModeRules) (m : ℕ) → AreFineBefore r m → NoFault (trees_in r m) → NoClash (trees_in r m) r.precedences → AreFineBefore r (m + 1)
-fine_more r m fine no_fault no_clash k below =
+pub clear_more : (r : ModeRules) (m : ℕ) → NoClashBefore r m → NoClash (trees_in r m) r.precedences → NoClashBefore r (m + 1)
+clear_more r m clear no_clash k below =
     let least : k ≤ m = omega (arith, below) in
     elim (eq-or-lt_of_le least) [
-      | inl e ↦ subst (λ (n : ℕ). NoFault (trees_in r n) × NoClash (trees_in r n) r.precedences) (sym e) (no_fault, no_clash)
-      | inr h ↦ fine k h
+      | inl e ↦ subst (λ (n : ℕ). NoClash (trees_in r n) r.precedences) (sym e) no_clash
+      | inr h ↦ clear k h
     ]
 
 -- the report of a mode is an error
-pub fault_of_report : (r : ModeRules) (m : ℕ) (e : DfaConstructionError) → m < r.modes → IsReport (trees_in r m) r.precedences e → AreFineBefore r m
+pub fault_of_report : (r : ModeRules) (m : ℕ) (e : DfaConstructionError) → m < r.modes → NoFault r.trees → IsReport (trees_in r m) r.precedences e → NoClashBefore r m
     → IsModeFault r (in_mode m e)
-fault_of_report r m (report.NfaConstructionError i e) there is fine = (there, is, fine)
-fault_of_report r m (report.Ambiguity i j w) there is fine = (is.0, record { there = there; clash = is.1; first = λ k h. (fine k h).1 }, fine)
-fault_of_report r m report.OutOfMemory there is fine = tt
+fault_of_report r m (report.NfaConstructionError i e) there fine is clear =
+    no_first_fault (trees_in r m) i e (no_fault_merged (kinds_of (mode_rules r m) r.kinds) r.trees fine) is
+fault_of_report r m (report.Ambiguity i j w) there fine is clear = record { there = there; clash = is.1; first = clear }
+fault_of_report r m report.OutOfMemory there fine is clear = tt
 
 -- and one of the rules
-pub error_of_fault : (rs : List ModeRule) (modes : ℕ) (r : ModeRules) (e : ModesError) → AreModeRules rs modes r
-    → IsModeFault (seen r.trees r.precedences r.members modes) e → IsModesError rs modes e
-error_of_fault rs modes r (NoSuchMode i m) are fault = absurd fault
-error_of_fault rs modes r (NotParsed i position kind) are fault = absurd fault
-error_of_fault rs modes r (NotCompiled m i e) are fault = (r, (are, fault.0, fault.1, fault.2))
-error_of_fault rs modes r (Clash m i j w) are fault =
-    (r, (are, fault.0, record { there = subst (λ (n : ℕ). m < n) (sym are.count) fault.1.there; clash = fault.1.clash; first = fault.1.first }, fault.2))
-error_of_fault rs modes r OutOfMemory are fault = tt
+pub error_of_fault : (rs : List ModeRule) (modes : ℕ) (r : ModeRules) (e : ModesError) → AllThere rs modes → AreModeRules rs modes r
+    → IsModeFault (seen r.trees r.precedences r.members r.kinds modes) e → IsModesError rs modes e
+error_of_fault rs modes r (NoSuchMode i m) there are fault = absurd fault
+error_of_fault rs modes r (NotParsed i position kind) there are fault = absurd fault
+error_of_fault rs modes r (BadEnd i e) there are fault = absurd fault
+error_of_fault rs modes r (NotCompiled i e) there are fault = absurd fault
+error_of_fault rs modes r (Clash m i j w) there are fault =
+    (there, (r, (are, record { there = subst (λ (n : ℕ). m < n) (sym are.count) fault.there; clash = fault.clash; first = fault.first })))
+error_of_fault rs modes r OutOfMemory there are fault = tt
+
+-- as is the error of their texts
+pub error_of_texts : (rs : List ModeRule) (modes : ℕ) (e : TextError) → AllThere rs modes → IsTextError (rules_of rs) e → IsModesError rs modes (of_texts e)
+error_of_texts rs modes (texts.NotParsed i position kind) there is = (there, is)
+error_of_texts rs modes (texts.BadEnd i e) there is = (there, is)
+error_of_texts rs modes (texts.NotCompiled i e) there is = (there, is)
+error_of_texts rs modes texts.OutOfMemory there is = tt
 
 -- as many trees as rules
 pub count_of_trees : (rs : List ModeRule) (ts : List Tree) → AreTrees (rules_of rs) ts → length ts ≡ length rs
-count_of_trees rs ts are = length-AreSpelled _ _ are ∙ length-map _ _ ∙ length-map _ _
+count_of_trees rs ts are = length-AreTrees _ _ are ∙ length-map _ _
 
 -- and as many that are known
 pub count_of_known : {K : Type 0} (f : K → List ℕ) (ks : List K) (rs : List ModeRule) → map f ks ≡ map (λ r. r.modes.now) rs → length ks ≡ length rs

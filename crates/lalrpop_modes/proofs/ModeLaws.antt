@@ -2,11 +2,13 @@
 use Rattle.std.proofs.Common.{◌≡◌, ℕ, zero, suc, ◌+◌, ◌<◌, ◌⊎◌, Bool, true, false, inl, inr, List, [], ◌∷◌, length, drop, refl, sym, ap, subst, ◌∙◌}
 use Rattle.std.specs.Prelude.{Option, Some, None, slice_get, map, ◌==◌}
 use Rattle.std.specs.List.{list_any}
+use Rattle.std.proofs.lemmas.Option.{same_Some}
 use Rattle.std.proofs.lemmas.List.{append-nil, drop_at, drop-drop}
 use Rattle.lalrpop_book.specs.Tree.{Tree}
-use Rattle.lalrpop_book.specs.Language.{Matches}
 use Rattle.lalrpop_book.specs.Winners.{TreeMatches}
 use Rattle.lalrpop_rules.specs.Found.{MatchesAt}
+use Rattle.lalrpop_rules.specs.Kinds.{merged, all_at_work}
+use Rattle.lalrpop_rules.proofs.KindLaws.{of_merged, into_merged}
 use Rattle.lalrpop_rules.specs.Pieces.{IsPiece, IsFault, ArePieces, AreApart, slice_of}
 use Rattle.lalrpop_rules.specs.declared.item.Item.{Item}
 use Rattle.lalrpop_rules.specs.declared.item.Item.TheVariants.{Token, Skipped, Fault}
@@ -15,69 +17,67 @@ use Rattle.lalrpop_rules.proofs.FirstMatches.{some_length}
 use Rattle.lalrpop_modes.specs.declared.action.Action.{Action}
 use Rattle.lalrpop_modes.specs.declared.action.Action.TheVariants.{Mode, Push, Pop}
 use Rattle.lalrpop_modes.specs.Stack.{Stack, start, act, act_all, actions_of, popped}
-use Rattle.lalrpop_modes.specs.Modes.{ModeRules, matches_nothing, trees_of, trees_in, after, ArePiecesFrom, mode_rules, Belongs, OneLeadsInto, CanBeEntered, by_rule, AllOf, EachMode, AllCanBeEntered, NoModeClash, IsModeClash}
+use Rattle.lalrpop_modes.specs.Modes.{ModeRules, kinds_of, trees_of, trees_in, after, ArePiecesFrom, mode_rules, Belongs, OneLeadsInto, CanBeEntered, by_rule, AllOf, EachMode, AllCanBeEntered, NoModeClash, IsModeClash}
 use Rattle.lalrpop_book.specs.Clash.{NoClash, IsClash}
 use Rattle.std.proofs.lemmas.Bool.{cases_order}
 use Rattle.lalrpop_modes.proofs.ModePieces.{as-without-modes, with-modes}
 
 -- ---- the trees of a mode
 
-abbrev SomeTreeMatches : Option Tree → List ℕ → Type 0
-SomeTreeMatches None w = ⊥
-SomeTreeMatches (Some t) w = Matches t w
+-- a rule with a kind in a mode belongs to the mode
+kind_of_mode : (bs : List Bool) (ks : List ℕ) (i k : ℕ) → slice_get (kinds_of bs ks) i ≡ Some (Some k) → slice_get bs i ≡ Some true
+kind_of_mode [] ks i k at = absurd (cc)
+kind_of_mode (b ∷ bs) [] i k at = absurd (cc)
+kind_of_mode (true ∷ bs) (n ∷ ks) zero k at = refl
+kind_of_mode (false ∷ bs) (n ∷ ks) zero k at = let no : None ≡ Some k = same_Some _ _ at in absurd (cc)
+kind_of_mode (b ∷ bs) (n ∷ ks) (suc i) k at = kind_of_mode bs ks i k at
 
 -- a tree of a mode that matches a word is that of one of its rules
-pub of-mode : (bs : List Bool) (ts : List Tree) (w : List ℕ) (i : ℕ) → TreeMatches (trees_of bs ts) w i
-    → (slice_get bs i ≡ Some true) × TreeMatches ts w i
-of-mode [] ts w i (t, (at, m)) = absurd (cc (at))
-of-mode (b ∷ bs) [] w i (t, (at, m)) = absurd (cc (at))
-of-mode (true ∷ bs) (u ∷ ts) w zero (t, (at, m)) = (refl, (t, (at, m)))
-of-mode (true ∷ bs) (u ∷ ts) w (suc i) (t, (at, m)) = of-mode bs ts w i (t, (at, m))
-of-mode (false ∷ bs) (u ∷ ts) w zero (t, (at, m)) = absurd (no_word t at m)
-  where
-    no_word : (t : Tree) → Some matches_nothing ≡ Some t → Matches t w → ⊥
-    no_word t e m = subst (λ (o : Option Tree). SomeTreeMatches o w) (sym e) m
-of-mode (false ∷ bs) (u ∷ ts) w (suc i) (t, (at, m)) = of-mode bs ts w i (t, (at, m))
+pub of-mode : (bs : List Bool) (ks : List ℕ) (ts : List Tree) (w : List ℕ) (i : ℕ) → TreeMatches (trees_of bs ks ts) w i → slice_get bs i ≡ Some true
+of-mode bs ks ts w i matches = let of = of_merged (kinds_of bs ks) ts w i matches in kind_of_mode bs ks i of.0 of.1.0
 
--- and the other way round
-pub into-mode : (bs : List Bool) (ts : List Tree) (w : List ℕ) (i : ℕ) → slice_get bs i ≡ Some true → TreeMatches ts w i
-    → TreeMatches (trees_of bs ts) w i
-into-mode [] ts w i is (t, (at, m)) = absurd (cc (is))
-into-mode (b ∷ bs) [] w i is (t, (at, m)) = absurd (cc (at))
-into-mode (true ∷ bs) (u ∷ ts) w zero is (t, (at, m)) = (t, (at, m))
-into-mode (true ∷ bs) (u ∷ ts) w (suc i) is (t, (at, m)) = into-mode bs ts w i is (t, (at, m))
-into-mode (false ∷ bs) (u ∷ ts) w zero is (t, (at, m)) = absurd (cc (is))
-into-mode (false ∷ bs) (u ∷ ts) w (suc i) is (t, (at, m)) = into-mode bs ts w i is (t, (at, m))
+kind_there : (bs : List Bool) (ks : List ℕ) (i k : ℕ) → slice_get bs i ≡ Some true → slice_get ks i ≡ Some k → slice_get (kinds_of bs ks) i ≡ Some (Some k)
+kind_there [] ks i k belongs at = absurd (cc)
+kind_there (b ∷ bs) [] i k belongs at = absurd (cc)
+kind_there (true ∷ bs) (n ∷ ks) zero k belongs at = ap Some at
+kind_there (false ∷ bs) (n ∷ ks) zero k belongs at = let no : false ≡ true = same_Some _ _ belongs in absurd (cc)
+kind_there (b ∷ bs) (n ∷ ks) (suc i) k belongs at = kind_there bs ks i k belongs at
+
+-- and what a rule of the mode matches, the first rule of its kind in the mode does
+pub into-mode : (bs : List Bool) (ks : List ℕ) (ts : List Tree) (w : List ℕ) (j k : ℕ) → slice_get bs j ≡ Some true → slice_get ks j ≡ Some k → TreeMatches ts w j
+    → (i : ℕ) × ((slice_get (kinds_of bs ks) i ≡ Some (Some k)) × TreeMatches (trees_of bs ks ts) w i)
+into-mode bs ks ts w j k belongs at matches = into_merged (kinds_of bs ks) ts w j k (kind_there bs ks j k belongs at) matches
 
 -- rules with one mode, to which each belongs, and no action
-abbrev pub without_modes : List Tree → List ℕ → List Bool → ModeRules
-without_modes ts ps skips = record { names = []; trees = ts; precedences = ps; skips = skips; actions = []; members = map (λ _. 0 ∷ []) ts; modes = 1 }
+abbrev pub without_modes : List Tree → List ℕ → List Bool → List ℕ → ModeRules
+without_modes ts ps skips ks =
+    record { names = []; trees = ts; precedences = ps; skips = skips; actions = []; members = map (λ _. 0 ∷ []) ks; kinds = ks; modes = 1; automata = [] }
 
-all_trees : (ts : List Tree) → trees_of (map (λ modes. list_any (λ n. n == 0) modes) (map (λ (_ : Tree). 0 ∷ []) ts)) ts ≡ ts
-all_trees [] = refl
-all_trees (t ∷ ts) = ap (λ (vs : List Tree). t ∷ vs) (all_trees ts)
+all_kinds : (ks : List ℕ) → kinds_of (map (λ modes. list_any (λ n. n == 0) modes) (map (λ (_ : ℕ). 0 ∷ []) ks)) ks ≡ all_at_work ks
+all_kinds [] = refl
+all_kinds (k ∷ ks) = ap (λ (os : List (Option ℕ)). Some k ∷ os) (all_kinds ks)
 
 no_action : (i : ℕ) → actions_of [] i ≡ []
 no_action i = refl
 
--- their pieces are those of today
-pub one-mode : (ts : List Tree) (ps : List ℕ) (skips : List Bool) (text : List ℕ) (xs : List Item) (end : Stack)
-    → ArePiecesFrom (without_modes ts ps skips) text 0 start xs end → ArePieces ts ps skips text 0 xs × (end ≡ start)
-one-mode ts ps skips text xs end are =
-    let same = as-without-modes (without_modes ts ps skips) text 0 start xs end no_action are in
-    (subst (λ (us : List Tree). ArePieces us ps skips text 0 xs) (all_trees ts) same.0, same.1)
+-- their pieces are those of rules without modes
+pub one-mode : (ts : List Tree) (ps : List ℕ) (skips : List Bool) (ks text : List ℕ) (xs : List Item) (end : Stack)
+    → ArePiecesFrom (without_modes ts ps skips ks) text 0 start xs end → ArePieces (merged (all_at_work ks) ts) ps skips text 0 xs × (end ≡ start)
+one-mode ts ps skips ks text xs end are =
+    let same = as-without-modes (without_modes ts ps skips ks) text 0 start xs end no_action are in
+    (subst (λ (os : List (Option ℕ)). ArePieces (merged os ts) ps skips text 0 xs) (all_kinds ks) same.0, same.1)
 
-pub one-mode-too : (ts : List Tree) (ps : List ℕ) (skips : List Bool) (text : List ℕ) (xs : List Item) → ArePieces ts ps skips text 0 xs
-    → ArePiecesFrom (without_modes ts ps skips) text 0 start xs start
-one-mode-too ts ps skips text xs are =
-    with-modes (without_modes ts ps skips) text 0 start xs no_action
-    (subst (λ (us : List Tree). ArePieces us ps skips text 0 xs) (sym (all_trees ts)) are)
+pub one-mode-too : (ts : List Tree) (ps : List ℕ) (skips : List Bool) (ks text : List ℕ) (xs : List Item)
+    → ArePieces (merged (all_at_work ks) ts) ps skips text 0 xs → ArePiecesFrom (without_modes ts ps skips ks) text 0 start xs start
+one-mode-too ts ps skips ks text xs are =
+    with-modes (without_modes ts ps skips ks) text 0 start xs no_action
+    (subst (λ (os : List (Option ℕ)). ArePieces (merged os ts) ps skips text 0 xs) (sym (all_kinds ks)) are)
 
 -- ---- the modes that are entered
 
 -- the rule of a token belongs to the mode that it is found in
 pub token-belongs : (r : ModeRules) (m : ℕ) (w : List ℕ) (i : ℕ) → TreeMatches (trees_in r m) w i → Belongs r m i
-token-belongs r m w i matches = (of-mode (mode_rules r m) r.trees w i matches).0
+token-belongs r m w i matches = of-mode (mode_rules r m) r.kinds r.trees w i matches
 
 less_modes : (P : ℕ → Type 0) (mode : ℕ) (below : List ℕ) → P mode → AllOf P below → EachMode P (popped mode below)
 less_modes P mode [] here all = (here, tt)

@@ -7,12 +7,12 @@ use Rattle.lalrpop_rules.proofs.PieceLaws.{is_front, split_at}
 use Rattle.lalrpop_modes.specs.declared.action.Action.{Action}
 use Rattle.lalrpop_modes.specs.Stack.{Stack, act_all, actions_of}
 use Rattle.lalrpop_modes.specs.Modes.{ModeRules, trees_in, after, after_all, ArePiecesFrom}
-use Rattle.lalrpop_modes.proofs.OnePiece.{same_piece, same_slice, no_piece_left}
+use Rattle.lalrpop_rules.proofs.UniquePieces.{same_piece, same_slice, no_piece_left}
 
 -- ---- uniqueness
 
 -- the same pieces do the same to a stack
-same_after : (actions : List (List Action)) (x y : Item) (s : Stack) → IsSame x y → after actions x s ≡ after actions y s
+pub same_after : (actions : List (List Action)) (x y : Item) (s : Stack) → IsSame x y → after actions x s ≡ after actions y s
 same_after actions (Token a) (Token b) s same = ap (λ (i : ℕ). act_all (actions_of actions i) s) same.0
 same_after actions (Token a) (Skipped b) s same = absurd same
 same_after actions (Token a) (Fault start slice) s same = absurd same

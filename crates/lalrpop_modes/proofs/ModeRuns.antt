@@ -6,12 +6,16 @@ use Rattle.lalrpop_book.specs.Tree.{Tree}
 use Rattle.lalrpop_rules.specs.Pieces.{IsPiece, slice_of}
 use Rattle.lalrpop_rules.proofs.Fronts.{boundary_behind}
 use Rattle.lalrpop_rules.proofs.PieceLaws.{is_front}
+use Rattle.lalrpop_rules.proofs.Finding.{paid_on}
+use Rattle.std.specs.Prelude.{Option, Some}
+use Rattle.lalrpop_rules.specs.CutToEnd.{Memo}
 use Rattle.std.specs.Iterator.{Yields}
 use Rattle.lalrpop_rules.specs.declared.item.Item.{Item}
 use Rattle.lalrpop_modes.specs.declared.action.Action.{Action}
-use Rattle.lalrpop_modes.specs.Stack.{Stack, act_all, actions_of}
-use Rattle.lalrpop_modes.specs.Modes.{ArePiecesFrom, EachMode, OneLeadsInto}
-use Rattle.lalrpop_modes.specs.ModeCut.{ModeCut, left_text, GivesModePiece}
+use Rattle.lalrpop_modes.specs.Stack.{Stack, start, act_all, actions_of}
+use Rattle.lalrpop_modes.specs.Modes.{ModeRules, ArePiecesFrom, EachMode, OneLeadsInto, trees_in, after}
+use Rattle.lalrpop_modes.specs.Internal.Cutting.{Cutting, CutsPiece, Follows}
+use Rattle.lalrpop_modes.specs.ModeCut.{ModeCut, uncut, left_text, GivesModePiece}
 use Rattle.lalrpop_modes.proofs.ModeLaws.{act-keeps}
 
 -- the pieces up to the end of the text
@@ -20,6 +24,25 @@ pub pieces-of-run : (s t : ModeCut) (xs : List Item) → Yields GivesModePiece s
 pieces-of-run s t [] y end = (ap (λ (w : ModeCut). left_text w) y ∙ end, sym (ap (λ (w : ModeCut). w.stack) y))
 pieces-of-run s t (x ∷ xs) (j, g, y) end =
     (g.0, subst (λ (w : ModeCut). ArePiecesFrom w.rules w.text w.at w.stack xs t.stack) g.1 (pieces-of-run j t xs y end))
+
+pub pieces-from-first : (s : ModeCut) (r : ModeRules) (text : List ℕ) (memo : Option Memo) → s ≡ uncut r text memo → (xs : List Item) (t : ModeCut)
+    → Yields GivesModePiece s xs t → left_text t ≡ [] → ArePiecesFrom r text 0 start xs t.stack
+pieces-from-first s r text memo e xs t y end =
+    subst (λ (w : ModeCut). ArePiecesFrom w.rules w.text w.at w.stack xs t.stack) e (pieces-of-run s t xs y end)
+
+-- a piece is cut in the mode on top, and the text is cut in the new one from then on
+pub piece-given : (old between new : Cutting) (s t : Stack) (x : Item) (mode : ℕ) → old.mode ≡ s.mode → CutsPiece old x between → Follows between mode new
+    → t ≡ after old.rules.actions x s
+    → GivesModePiece (record { rules = old.rules; text = old.text; at = old.at; stack = s; memo = old.memo; steps = old.steps }) (Some x)
+    (record { rules = new.rules; text = new.text; at = new.at; stack = t; memo = new.memo; steps = new.steps })
+piece-given old between new s t x mode on_top cuts follows acted =
+    let passed : new ≡ record old { at = old.at + length (slice_of x); mode = mode; memo = new.memo; steps = new.steps } =
+    follows.enters ∙ ap (λ (c : Cutting). record c { mode = mode; memo = new.memo; steps = new.steps }) cuts.goes_on in
+    let there : ModeCut = record { rules = old.rules; text = old.text; at = old.at + length (slice_of x); stack = t; memo = new.memo; steps = new.steps } in (
+      subst (λ (m : ℕ). IsPiece (trees_in old.rules m) old.rules.precedences old.rules.skips old.text old.at x) on_top cuts.piece,
+      ap (λ (c : Cutting). record there { rules = c.rules; text = c.text; at = c.at }) passed ∙ ap (λ (u : Stack). record there { stack = u }) acted,
+      paid_on old.steps between.steps new.steps old.memo between.memo new.memo cuts.paid follows.paid,
+    )
 
 -- actions that lead only into modes that are there keep to them
 pub act-within : (n : ℕ) (acts : List Action) (s t : Stack) → t ≡ act_all acts s → ((m : ℕ) → OneLeadsInto acts m → m < n) → EachMode (λ m. m < n) s

@@ -1,9 +1,11 @@
 -- cases: proofs/Cases/Modes.antt
 -- The pieces of a text that is cut to its end by rules with modes.
-use Rattle.std.specs.Prelude.{◌≡◌, ℕ, ◌+◌, ◌<◌, ◌⊎◌, ◌==◌, if◌then◌else◌, Bool, true, List, [], ◌∷◌, length, drop, map, Some, slice_get}
+use Rattle.std.specs.Prelude.{◌≡◌, ℕ, ◌+◌, ◌<◌, ◌⊎◌, ◌==◌, if◌then◌else◌, Bool, true, List, [], ◌∷◌, length, drop, map, Option, Some, None, slice_get}
 use Rattle.std.specs.List.{list_any}
-use Rattle.lalrpop_book.specs.Tree.{Tree, alternation, none}
+use Rattle.lalrpop_book.specs.Tree.{Tree}
 use Rattle.lalrpop_book.specs.Clash.{NoClash, IsClash}
+use Rattle.lalrpop_lexer.specs.Dfa.{Row}
+use Rattle.lalrpop_rules.specs.Kinds.{merged}
 use Rattle.lalrpop_rules.specs.Pieces.{IsPiece, slice_of}
 use Rattle.lalrpop_rules.specs.declared.item.Item.{Item}
 use Rattle.lalrpop_rules.specs.declared.item.Item.TheVariants.{Token, Skipped, Fault}
@@ -11,8 +13,8 @@ use Rattle.lalrpop_modes.specs.declared.action.Action.{Action}
 use Rattle.lalrpop_modes.specs.declared.action.Action.TheVariants.{Mode, Push, Pop}
 use Rattle.lalrpop_modes.specs.Stack.{Stack, act_all, actions_of}
 
--- rules with modes: the name, the tree, the precedence and the actions of each rule, whether it is skipped, and the modes that it belongs to; and
--- how many modes there are
+-- rules with modes: the name, the tree, the precedence and the actions of each rule, whether it is skipped, the modes that it belongs to, and its
+-- kind, which is the index of the first rule of that kind; how many modes there are; and the states of the automaton of each mode
 pub record ModeRules : Type 0 where
   pub names : List (List ℕ)
   pub trees : List Tree
@@ -20,17 +22,19 @@ pub record ModeRules : Type 0 where
   pub skips : List Bool
   pub actions : List (List Action)
   pub members : List (List ℕ)
+  pub kinds : List ℕ
   pub modes : ℕ
+  pub automata : List (List Row)
 
--- the tree that matches no word
-abbrev pub matches_nothing : Tree
-matches_nothing = alternation none
+-- the kinds of the rules that belong to a mode; the others have none there
+abbrev pub kinds_of : List Bool → List ℕ → List (Option ℕ)
+kinds_of [] ks = []
+kinds_of (b ∷ bs) [] = []
+kinds_of (b ∷ bs) (k ∷ ks) = (if b then Some k else None) ∷ kinds_of bs ks
 
--- the trees of a mode: those of its rules; those of the others match nothing there. So an index says the same in each mode
-abbrev pub trees_of : List Bool → List Tree → List Tree
-trees_of [] ts = []
-trees_of (b ∷ bs) [] = []
-trees_of (b ∷ bs) (t ∷ ts) = (if b then t else matches_nothing) ∷ trees_of bs ts
+-- the trees of a mode: those of its rules, merged by kinds; the other rules match nothing there. So an index says the same in each mode
+abbrev pub trees_of : List Bool → List ℕ → List Tree → List Tree
+trees_of bs ks ts = merged (kinds_of bs ks) ts
 
 -- which rules belong to the mode with this number
 abbrev pub mode_rules : ModeRules → ℕ → List Bool
@@ -38,7 +42,7 @@ mode_rules r m = map (λ modes. list_any (λ n. n == m) modes) r.members
 
 -- the trees at work in it
 abbrev pub trees_in : ModeRules → ℕ → List Tree
-trees_in r m = trees_of (mode_rules r m) r.trees
+trees_in r m = trees_of (mode_rules r m) r.kinds r.trees
 
 -- the stack after a piece: the actions of a token's rule; a fault leaves the stack as it is
 abbrev pub after : List (List Action) → Item → Stack → Stack

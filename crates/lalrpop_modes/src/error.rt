@@ -1,10 +1,12 @@
 //! Why rules with modes can't be made into a lexer.
 ghost use Rattle.std.specs.Prelude.{◌≡◌};
+ghost use Rattle.lalrpop_modes.specs.ModesErrors.{of_texts};
 ghost use Rattle.lalrpop_modes.specs.declared.error.ModesError.TheVariants.{OutOfMemory};
 
 use lalrpop_lexer::ShownWord;
 use lalrpop_lexer::lexer::nfa::NfaConstructionError;
 use lalrpop_lexer::lexer::re::SyntaxKind;
+use lalrpop_rules::{FromToError, TextError};
 use std::alloc::{AllocError, AllocFailed};
 use thiserror::Error;
 
@@ -35,15 +37,20 @@ pub enum ModesError {
         position: usize,
         kind: SyntaxKind,
     },
-    /// This rule, which belongs to this mode, can't be compiled.
+    /// The end of this rule's text is empty or has more than 64 characters.
+    #[error("the text of rule {rule} has no tree: {error}")]
+    BadEnd {
+        rule: usize,
+        error: FromToError,
+    },
+    /// This rule can't be compiled.
     #[error("rule {rule} can't be compiled: {error:?}")]
     NotCompiled {
-        mode: usize,
         rule: usize,
         error: NfaConstructionError,
     },
-    /// Some word has more than one strongest rule in this mode: `word` is the shortest, then least, such word, `rule` the greatest
-    /// index of its strongest rules, and `other` the second greatest.
+    /// Some word has strongest rules of more than one kind in this mode: `word` is the shortest, then least, such word, and `rule` and
+    /// `other` are the first rules of two such kinds in the mode: `rule` has the greatest index, and `other` the second greatest.
     #[error("in mode {mode} rules {other} and {rule} clash on {shown}", shown = ShownWord(.word))]
     Clash {
         mode: usize,
@@ -54,6 +61,27 @@ pub enum ModesError {
     /// A request for memory was refused.
     #[error("out of memory")]
     OutOfMemory,
+}
+
+impl From<TextError> for ModesError {
+    ghost from_gives = { λ error e. e ≡ of_texts error };
+
+    fn from(error: TextError) -> ModesError {
+        match error {
+            TextError::NotParsed {
+                rule,
+                position,
+                kind,
+            } => ModesError::NotParsed {
+                rule,
+                position,
+                kind,
+            },
+            TextError::BadEnd { rule, error } => ModesError::BadEnd { rule, error },
+            TextError::NotCompiled { rule, error } => ModesError::NotCompiled { rule, error },
+            TextError::OutOfMemory => ModesError::OutOfMemory,
+        }
+    }
 }
 
 impl From<AllocError> for ModesError {

@@ -1,4 +1,4 @@
-//! What is kept of a rule beside its tree and its precedence.
+//! What is kept of a rule beside its name, its tree and its precedence.
 ghost use Rattle.std.specs.Prelude.{◌≡◌, map, IfOk, string_bytes};
 ghost use Rattle.lalrpop_rules.specs.RuleSet.{names_of, precedences_of, skips_of};
 ghost use Rattle.lalrpop_modes.specs.ModeSet.{rules_of};
@@ -8,10 +8,9 @@ use crate::mode_rule::ModeRule;
 use lalrpop_lexer::lexer::dfa::Precedence;
 use std::alloc::{AllocError, Global};
 
-/// What is kept of a rule beside its tree and its precedence.
+/// What is kept of a rule beside its name, its tree and its precedence.
 #[derive(Debug, Drop)]
 pub(crate) struct KnownRule {
-    pub(crate) name: String,
     pub(crate) modes: Vec<usize>,
     pub(crate) actions: Vec<Action>,
 }
@@ -42,10 +41,21 @@ pub(crate) fn precedence_list(
     Ok(all)
 }
 
+// Their names.
+pub(crate) fn name_list(alloc: Global, rules: &[ModeRule]) -> Result<Vec<String>, AllocError>
+    ensures names { IfOk result (λ all.
+        map (λ s. string_bytes s) all.items ≡ names_of (rules_of rules.now)) }
+{
+    let mut all = Vec::new(alloc);
+    for rule in rules {
+        let name = String::from_str(alloc, rule.rule.name)?;
+        all.push(name)?;
+    }
+    Ok(all)
+}
+
 // What is kept of all rules.
 pub(crate) fn known_rules(alloc: Global, rules: &[ModeRule]) -> Result<Vec<KnownRule>, AllocError>
-    ensures names { IfOk result (λ all.
-        map (λ k. string_bytes k.name) all.items ≡ names_of (rules_of rules.now)) }
     ensures modes { IfOk result (λ all.
         map (λ k. k.modes.items) all.items ≡ map (λ r. r.modes.now) rules.now) }
     ensures actions { IfOk result (λ all.
@@ -53,14 +63,9 @@ pub(crate) fn known_rules(alloc: Global, rules: &[ModeRule]) -> Result<Vec<Known
 {
     let mut all = Vec::new(alloc);
     for rule in rules {
-        let name = String::from_str(alloc, rule.rule.name)?;
         let modes = Vec::from_slice(alloc, rule.modes)?;
         let actions = Vec::from_slice(alloc, rule.actions)?;
-        all.push(KnownRule {
-            name,
-            modes,
-            actions,
-        })?;
+        all.push(KnownRule { modes, actions })?;
     }
     Ok(all)
 }

@@ -1,5 +1,6 @@
 //! The lexers of all modes.
 ghost use Rattle.std.specs.Prelude.{◌≡◌, length, map, IfOk, OnOk, IfErr};
+ghost use Rattle.lalrpop_book.specs.Report.{NoFault};
 ghost use Rattle.lalrpop_modes.specs.Modes.{NoModeClash};
 ghost use Rattle.lalrpop_modes.specs.Internal.Lexers.{AreLexers, IsModeFault, in_mode, seen};
 
@@ -11,13 +12,12 @@ use lalrpop_lexer::lexer::dfa::{DfaConstructionError, Precedence};
 use lalrpop_lexer::lexer::re::Regex;
 use std::alloc::Global;
 
-// The error for the report of a mode.
-fn modes_error(mode: usize, report: DfaConstructionError) -> ModesError
+/// The error for the report of a mode.
+pub(crate) fn modes_error(mode: usize, report: DfaConstructionError) -> ModesError
     ensures same { result ≡ in_mode mode report }
 {
     match report {
         DfaConstructionError::NfaConstructionError { index, error } => ModesError::NotCompiled {
-            mode,
             rule: index.index(),
             error,
         },
@@ -40,22 +40,25 @@ pub(crate) fn lexers_of(
     alloc: Global,
     regexs: &[Regex],
     precedences: &[Precedence],
+    kinds: &[usize],
     known: &[KnownRule],
     modes: usize,
 ) -> Result<Vec<Lexer>, ModesError>
     requires same_len { length regexs.now ≡ length known.now }
     requires one_each { length precedences.now ≡ length known.now }
+    requires kinds { length kinds.now ≡ length known.now }
+    requires no_fault { NoFault regexs.now }
     ensures lexers { IfOk result (λ all. AreLexers (seen regexs.now
-        (map (λ p. p.0) precedences.now) (map (λ k. k.modes.items) known.now) modes) all.items) }
+        (map (λ p. p.0) precedences.now) (map (λ k. k.modes.items) known.now) kinds.now modes) all.items) }
     ensures count { IfOk result (λ all. length all.items ≡ modes) }
     ensures no_clash { OnOk result (NoModeClash (seen regexs.now
-        (map (λ p. p.0) precedences.now) (map (λ k. k.modes.items) known.now) modes)) }
+        (map (λ p. p.0) precedences.now) (map (λ k. k.modes.items) known.now) kinds.now modes)) }
     ensures error { IfErr result (IsModeFault (seen regexs.now
-        (map (λ p. p.0) precedences.now) (map (λ k. k.modes.items) known.now) modes)) }
+        (map (λ p. p.0) precedences.now) (map (λ k. k.modes.items) known.now) kinds.now modes)) }
 {
     let mut all = Vec::new(alloc);
     for mode in 0..modes {
-        match mode_lexer(alloc, regexs, precedences, known, mode) {
+        match mode_lexer(alloc, regexs, precedences, kinds, known, mode) {
             Ok(lexer) => all.push(lexer)?,
             Err(report) => return Err(modes_error(mode, report)),
         }

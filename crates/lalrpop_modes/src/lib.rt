@@ -3,8 +3,10 @@
 #![tactic(auto)]
 
 mod action;
+mod clashes;
+mod cutter;
 mod error;
-mod front;
+mod kinds;
 mod known_rule;
 mod lexers;
 mod masked;
@@ -18,6 +20,7 @@ mod test;
 mod trees;
 
 pub use action::Action;
+pub use clashes::mode_clashes;
 pub use error::ModesError;
 pub use mode_items::ModeItems;
 pub use mode_lexer::ModeLexer;

@@ -1,6 +1,7 @@
 //! Modes that rules name and that aren't there.
 ghost use Rattle.std.specs.Prelude.{◌<◌, ◌≤◌, ℕ, Contains, IfSome, IfNone, IfErr, OnOk};
 ghost use Rattle.lalrpop_modes.specs.Modes.{AllOf, LeadsInto, OneLeadsInto};
+ghost use Rattle.lalrpop_modes.specs.ModeClashes.{IsModesFault};
 ghost use Rattle.lalrpop_modes.specs.ModeSet.{IsModesError};
 ghost use Rattle.lalrpop_modes.specs.Internal.Lexers.{AllNameWithin};
 
@@ -54,6 +55,7 @@ fn missing_target(actions: &[Action], modes: usize) -> Option<usize>
 pub(crate) fn all_there(rules: &[ModeRule], modes: usize) -> Result<(), ModesError>
     ensures there { OnOk result (AllNameWithin rules.now modes) }
     ensures error { IfErr result (IsModesError rules.now modes) }
+    ensures fault { IfErr result (IsModesFault rules.now modes) }
 {
     for rule in 0..rules.len() {
         if let Some(mode) = missing_member(rules[rule].modes, modes) {

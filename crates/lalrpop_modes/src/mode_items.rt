@@ -1,31 +1,20 @@
 //! Cutting a text to its end by rules with modes.
 
-ghost use Rattle.std.specs.Prelude.{◌≡◌, ◌<◌, IfOk, OnOk, OnErr};
-ghost use Rattle.lalrpop_modes.specs.Modes.{EachMode, after};
+ghost use Rattle.std.specs.Prelude.{◌≡◌, ◌<◌, IfOk, OnErr};
+ghost use Rattle.lalrpop_modes.specs.Internal.Cutting.{HasAtMost};
 ghost use Rattle.lalrpop_modes.specs.ModeCut.{uncut, left_text, GivesModePiece};
 ghost use Rattle.lalrpop_modes.specs.Stack.{start};
 
-use crate::front::piece_at;
-use crate::mode_lexer::ModeLexer;
+use crate::cutter::Cutter;
 use crate::mode_stack::ModeStack;
 use lalrpop_rules::Item;
 use std::alloc::AllocError;
 use std::marker::Model;
 
-// Does what the rule of the piece says.
-fn act_after(lexer: &ModeLexer, item: &Item, stack: &mut ModeStack) -> Result<(), AllocError>
-    ensures acted { OnOk result (stack.new ≡ after lexer.now.actions item.now stack.old) }
-    ensures refused { OnErr result (stack.new ≡ stack.old) }
-    ensures there { OnOk result (EachMode (λ m. m < lexer.now.modes) stack.old
-        → EachMode (λ m. m < lexer.now.modes) stack.new) }
-{
-    match item {
-        Item::Token(token) | Item::Skipped(token) => stack.act_all(lexer.actions(token.index)),
-        Item::Fault { .. } => Ok(()),
-    }
-}
-
 /// Cuts any text into pieces, from its beginning to its end, and keeps the stack of modes. The pieces are slices of the text.
+///
+/// With memos, by `items_linear`, this takes linear time. Then a step is counted for each character the automaton reads, as often as it
+/// reads it. Only contracts see the steps.
 ///
 /// ```
 /// let mut items = lexer.items(alloc, "a /* b */");
@@ -35,48 +24,46 @@ fn act_after(lexer: &ModeLexer, item: &Item, stack: &mut ModeStack) -> Result<()
 /// ```
 #[derive(Debug, Drop)]
 pub struct ModeItems<'text> {
-    lexer: &'text ModeLexer,
-    text: &'text str,
-    // The rest of the text begins here.
-    at: usize,
+    cutter: Cutter<'text>,
     stack: ModeStack,
+    // No rule has more actions.
+    most: usize,
 }
 
 impl<'text> Model for ModeItems<'text> {
     ghost use Rattle.lalrpop_modes.specs.ModeCut.{ModeCut};
     ghost use Rattle.lalrpop_modes.specs.Internal.Code.{cut_code};
-    ghost use Rattle.lalrpop_modes.specs.Internal.Lexers.{IsGoing};
+    ghost use Rattle.lalrpop_modes.specs.Internal.Cutting.{IsGoing};
 
     ghost Value = { ModeCut };
 
     ghost coded = { cut_code };
 
     ghost view = { λ t. record {
-      rules = t.lexer.now;
-      text = t.text.now;
-      at = t.at;
+      rules = t.cutter.rules;
+      text = t.cutter.text;
+      at = t.cutter.at;
       stack = t.stack;
+      memo = t.cutter.memo;
+      steps = t.cutter.steps;
     } };
 
-    ghost invariant = { λ t. IsGoing t.lexer.now t.text.now t.at t.stack };
+    ghost invariant = { λ t. IsGoing t.cutter t.stack t.most };
 }
 
 impl<'text> ModeItems<'text> {
     // The whole text, before the first piece.
-    pub(crate) fn new(
-        lexer: &'text ModeLexer,
-        stack: ModeStack,
-        text: &'text str,
-    ) -> ModeItems<'text>
+    pub(crate) fn new(cutter: Cutter<'text>, stack: ModeStack, most: usize) -> ModeItems<'text>
         requires first { stack ≡ start }
-        requires some { 0 < lexer.now.modes }
-        ensures start { result ≡ uncut lexer.now text.now }
+        requires some { 0 < cutter.rules.modes }
+        requires most { HasAtMost most cutter.rules.actions }
+        requires uncut { (cutter.at ≡ 0) × (cutter.mode ≡ 0) × (cutter.steps ≡ 0) }
+        ensures start { result ≡ uncut cutter.entry.rules cutter.entry.text cutter.entry.memo }
     {
         ModeItems {
-            lexer,
-            text,
-            at: 0,
+            cutter,
             stack,
+            most,
         }
     }
 
@@ -84,7 +71,7 @@ impl<'text> ModeItems<'text> {
     pub fn rest(&self) -> &'text str
         ensures rest { result.now ≡ left_text self.now }
     {
-        &self.text[self.at..]
+        self.cutter.rest()
     }
 
     /// The stack of modes after the last piece.
@@ -99,18 +86,24 @@ impl<'text> ModeItems<'text> {
     ///
     /// # Errors
     ///
-    /// `AllocError` if a request for memory was refused. Then nothing has changed.
+    /// `AllocError` if a request for memory was refused. Then nothing has changed. It is requested before the piece is cut, for as many
+    /// modes more as some rule has actions.
+    #[inline(always)]
     pub fn next_item(&mut self) -> Result<Option<Item<'text>>, AllocError>
         ensures gives { IfOk result (λ item. GivesModePiece self.old item self.new) }
         ensures refused { OnErr result (self.new ≡ self.old) }
     {
-        if self.at == self.text.len() {
-            return Ok(None);
+        // Where no rule has actions, the stack stays as it is.
+        if self.most == 0 {
+            return Ok(self.cutter.next_piece());
         }
-        let lexer = self.lexer.lexer(self.stack.top());
-        let item = piece_at(lexer, self.lexer.skips(), self.text, self.at);
-        act_after(self.lexer, &item, &mut self.stack)?;
-        self.at += item.slice().len();
-        Ok(Some(item))
+        match self.stack.cut_piece(&mut self.cutter, self.most) {
+            Ok(Some(item)) => {
+                self.cutter.follow(self.stack.top());
+                Ok(Some(item))
+            }
+            Ok(None) => Ok(None),
+            Err(error) => Err(error),
+        }
     }
 }

@@ -1,28 +1,32 @@
 //! A lexer of rules with modes.
 
-ghost use Rattle.std.specs.Prelude.{◌≡◌, ◌<◌, [], ℕ, List, option_map, slice_get, Some, map, IfOk, OnOk, IfErr};
+ghost use Rattle.std.specs.Prelude.{◌≡◌, ◌<◌, ◌≤◌, ◌+◌, ◌*◌, [], ℕ, List, length, option_map, slice_get, Some, None, map, string_bytes, IfOk, OnOk, IfErr, IsSome};
+ghost use Rattle.std.specs.Str.{chars};
 ghost use Rattle.lalrpop_modes.specs.Modes.{trees_in, ArePiecesFrom, OneLeadsInto, NoModeClash};
 ghost use Rattle.lalrpop_modes.specs.ModeSet.{AreModeRules, NamesMode, IsModesError};
 ghost use Rattle.lalrpop_modes.specs.declared.mode_rule.ModeRule.{ModeRule as RuleValue};
-ghost use Rattle.lalrpop_modes.specs.ModeCut.{ModeCut, uncut, left_text, GivesModePiece};
+ghost use Rattle.lalrpop_modes.specs.ModeCut.{ModeCut, uncut, left_text, open_in_all, GivesModePiece};
+ghost use Rattle.lalrpop_modes.specs.Internal.Cutting.{HasAtMost};
 ghost use Rattle.lalrpop_rules.specs.Pieces.{AreApart, joined};
 ghost use Rattle.lalrpop_rules.specs.declared.item.Item.{Item as ItemValue};
 ghost use Rattle.std.specs.Iterator.{Yields};
-ghost use Rattle.lalrpop_modes.specs.Stack.{start, actions_of};
+ghost use Rattle.lalrpop_modes.specs.Stack.{Stack, start, actions_of};
 
 use crate::action::Action;
+use crate::cutter::Cutter;
 use crate::error::ModesError;
-use crate::known_rule::{KnownRule, known_rules, precedence_list, skip_list};
+use crate::kinds::kind_list;
+use crate::known_rule::{KnownRule, known_rules, name_list, precedence_list, skip_list};
 use crate::lexers::lexers_of;
 use crate::missing::all_there;
 use crate::mode_items::ModeItems;
 use crate::mode_rule::ModeRule;
 use crate::mode_stack::ModeStack;
-use crate::trees::trees_of;
+use crate::trees::rule_trees;
 use lalrpop_lexer::Lexer;
 use lalrpop_lexer::lexer::dfa::{NfaIndex, Precedence};
 use lalrpop_lexer::lexer::re::Regex;
-use std::alloc::Global;
+use std::alloc::{AllocError, Global};
 use std::marker::Model;
 
 /// Named rules with modes, and one lexer for each mode. An index names the same rule in each of them.
@@ -43,9 +47,11 @@ use std::marker::Model;
 /// ```
 #[derive(Debug, Drop)]
 pub struct ModeLexer {
+    names: Vec<String>,
     regexs: Vec<Regex>,
     precedences: Vec<Precedence>,
     skips: Vec<bool>,
+    kinds: Vec<usize>,
     known: Vec<KnownRule>,
     lexers: Vec<Lexer>,
 }
@@ -61,23 +67,27 @@ impl Model for ModeLexer {
     ghost coded = { modes_code };
 
     ghost view = { λ l. record {
-      names = map (λ k. string_bytes k.name) l.known.items;
+      names = map (λ s. string_bytes s) l.names.items;
       trees = l.regexs.items;
       precedences = map (λ p. p.0) l.precedences.items;
       skips = l.skips.items;
       actions = map (λ k. k.actions.items) l.known.items;
       members = map (λ k. k.modes.items) l.known.items;
+      kinds = l.kinds.items;
       modes = length l.lexers.items;
+      automata = map (λ x. x.automaton) l.lexers.items;
     } };
 
     ghost invariant = { λ l. IsWhole (record {
-      names = map (λ k. string_bytes k.name) l.known.items;
+      names = map (λ s. string_bytes s) l.names.items;
       trees = l.regexs.items;
       precedences = map (λ p. p.0) l.precedences.items;
       skips = l.skips.items;
       actions = map (λ k. k.actions.items) l.known.items;
       members = map (λ k. k.modes.items) l.known.items;
+      kinds = l.kinds.items;
       modes = length l.lexers.items;
+      automata = map (λ x. x.automaton) l.lexers.items;
     }) l.lexers.items };
 }
 
@@ -91,14 +101,28 @@ fn actions_at(known: &[KnownRule], index: usize) -> &[Action]
     &[]
 }
 
+// The most actions that one of the rules has.
+fn most_actions(known: &[KnownRule]) -> usize
+    ensures most { HasAtMost result (map (λ k. k.actions.items) known.now) }
+{
+    let mut most = 0usize;
+    for rule in known {
+        most = most.max(rule.actions.len());
+    }
+    most
+}
+
 impl ModeLexer {
     /// Builds the lexers of these rules, one for each mode. There is one mode at least, in which a text begins.
     ///
+    /// Rules with one name, one precedence and the same actions that are both skipped or both not are one kind: they don't clash with
+    /// each other, and in each mode a token of one of them is a token of the first that belongs to the mode.
+    ///
     /// # Errors
     ///
-    /// The first rule that names a mode that isn't there; or the first rule whose text does not parse; or, in the first mode that has an
-    /// error, the first rule that can't be compiled, or else the shortest, then least, word with two or more strongest rules; or out of
-    /// memory. The clauses don't say which of the first three comes where there are several.
+    /// The first rule that names a mode that isn't there; otherwise the first rule whose text has no tree, and why; otherwise the first
+    /// that can't be compiled; otherwise, in the first mode that has one, the shortest, then least, word with strongest rules of two or
+    /// more kinds, and the last two of those; or out of memory.
     pub fn from_rules(
         alloc: Global,
         rules: &[ModeRule],
@@ -112,15 +136,19 @@ impl ModeLexer {
         ensures error { IfErr result (IsModesError rules.now modes) }
     {
         all_there(rules, modes)?;
-        let regexs = trees_of(alloc, rules)?;
+        let regexs = rule_trees(alloc, rules)?;
+        let names = name_list(alloc, rules)?;
         let precedences = precedence_list(alloc, rules)?;
         let skips = skip_list(alloc, rules)?;
         let known = known_rules(alloc, rules)?;
-        let lexers = lexers_of(alloc, &regexs, &precedences, &known, modes)?;
+        let kinds = kind_list(alloc, rules)?;
+        let lexers = lexers_of(alloc, &regexs, &precedences, &kinds, &known, modes)?;
         Ok(ModeLexer {
+            names,
             regexs,
             precedences,
             skips,
+            kinds,
             known,
             lexers,
         })
@@ -140,12 +168,28 @@ impl ModeLexer {
         &self.skips
     }
 
+    /// The names of the rules, in order.
+    ///
+    /// ```
+    /// use lalrpop_modes::{ModeLexer, ModeRule};
+    /// use lalrpop_rules::Rule;
+    ///
+    /// let rules = [ModeRule { rule: Rule::literal("IF", "if"), modes: &[0], actions: &[] }];
+    /// let lexer = ModeLexer::from_rules(alloc, &rules, 1)?;
+    /// let first = &lexer.names()[0]; // "IF"
+    /// ```
+    pub fn names(&self) -> &[String]
+        ensures names { map (λ s. string_bytes s) result.now ≡ self.now.names }
+    {
+        &self.names
+    }
+
     /// The name of the rule with this index, or `None` if there is no such rule.
     pub fn name(&self, index: NfaIndex) -> Option<&str>
         ensures name { option_map (λ s. s.now) result ≡ slice_get self.now.names index }
     {
-        match self.known.get(index.index()) {
-            Some(rule) => Some(rule.name.as_str()),
+        match self.names.get(index.index()) {
+            Some(name) => Some(name.as_str()),
             None => None,
         }
     }
@@ -158,11 +202,13 @@ impl ModeLexer {
         actions_at(&self.known, index.index())
     }
 
-    /// The lexer of a mode. It knows the trees of the other rules as trees that match nothing.
+    /// The lexer of a mode. There the first rule of each kind that belongs to the mode has the trees of its kind, and all other rules
+    /// match nothing.
     pub fn lexer(&self, mode: usize) -> &Lexer
         requires there { mode < self.now.modes }
         ensures trees { result.now.trees ≡ trees_in self.now mode }
         ensures precedences { result.now.precedences ≡ self.now.precedences }
+        ensures automaton { slice_get self.now.automata mode ≡ Some result.now.automaton }
     {
         &self.lexers[mode]
     }
@@ -173,16 +219,61 @@ impl ModeLexer {
     ///
     /// From each place it reads as far as some rule could still match, so the cost is at most quadratic in the length of the text.
     pub fn items<'text>(&'text self, alloc: Global, text: &'text str) -> ModeItems<'text>
-        ensures start { result ≡ uncut self.now text.now }
+        ensures start { result ≡ uncut self.now text.now None }
         ensures items { (xs : List ItemValue) (s : ModeCut) → Yields GivesModePiece result xs s
             → left_text s ≡ [] → ArePiecesFrom self.now text.now 0 start xs s.stack }
         ensures whole { (xs : List ItemValue) (s : ModeCut) → Yields GivesModePiece result xs s
             → left_text s ≡ [] → joined xs ≡ text.now }
         ensures apart { (xs : List ItemValue) (s : ModeCut) → Yields GivesModePiece result xs s
             → left_text s ≡ [] → AreApart xs }
+        ensures exist { (xs : List ItemValue) × ((end : Stack)
+            × ArePiecesFrom self.now text.now 0 start xs end) }
     {
         // What is known of the lexer.
         let _ = &self.lexers;
-        ModeItems::new(self, ModeStack::new(alloc), text)
+        let cutter = Cutter::new(alloc, self, text);
+        ModeItems::new(cutter, ModeStack::new(alloc), most_actions(&self.known))
+    }
+
+    /// The same pieces as `items`, in time linear in the length of the text, whatever the rules are, however many faults there are and
+    /// however often the mode changes. A state of an automaton is open if it neither accepts a pattern nor rejects. A whole text costs at
+    /// most 65 steps a character; for each mode one a character and one a byte; and for each open state of each mode one a byte and 64
+    /// more. A step is counted each time an automaton reads a character.
+    ///
+    /// All memory but that of the stack is taken by this call: for each mode a byte for each open state and each 64 bytes of the text.
+    ///
+    /// # Errors
+    ///
+    /// `AllocError` if a request for memory was refused.
+    pub fn items_linear<'text>(
+        &'text self,
+        alloc: Global,
+        text: &'text str,
+    ) -> Result<ModeItems<'text>, AllocError>
+        ensures start { IfOk result (λ c. c ≡ uncut self.now text.now c.memo) }
+        ensures memo { IfOk result (λ c. IsSome c.memo) }
+        ensures items { IfOk result (λ c. (xs : List ItemValue) (s : ModeCut)
+            → Yields GivesModePiece c xs s → left_text s ≡ []
+            → ArePiecesFrom self.now text.now 0 start xs s.stack) }
+        ensures whole { IfOk result (λ c. (xs : List ItemValue) (s : ModeCut)
+            → Yields GivesModePiece c xs s → left_text s ≡ [] → joined xs ≡ text.now) }
+        ensures apart { IfOk result (λ c. (xs : List ItemValue) (s : ModeCut)
+            → Yields GivesModePiece c xs s → left_text s ≡ [] → AreApart xs) }
+        ensures cost { IfOk result (λ c. (xs : List ItemValue) (s : ModeCut)
+            → Yields GivesModePiece c xs s → s.steps ≤ 65 * length (chars text.now)
+            + (self.now.modes * (length (chars text.now) + length text.now)
+            + open_in_all self.now * (length text.now + 64))) }
+        ensures exist { (xs : List ItemValue) × ((end : Stack)
+            × ArePiecesFrom self.now text.now 0 start xs end) }
+    {
+        // What is known of the lexer.
+        let _ = &self.lexers;
+        match Cutter::with_memos(alloc, self, text) {
+            Ok(cutter) => {
+                let most = most_actions(&self.known);
+                Ok(ModeItems::new(cutter, ModeStack::new(alloc), most))
+            }
+            Err(error) => Err(error),
+        }
     }
 }

@@ -1,7 +1,7 @@
 //! The stack of modes, run.
 
-use crate::{Action, ModeLexer, ModeRule, ModeStack};
-use lalrpop_rules::Rule;
+use crate::{Action, ModeItems, ModeLexer, ModeRule, ModeStack};
+use lalrpop_rules::{Item, Rule};
 use std::process::Abort;
 
 #[test]
@@ -16,6 +16,54 @@ fn modes_are_put_on_and_taken_away(rt: HostRuntime) {
     assert!(rt; stack.act_all(&actions).is_ok() && stack.top() == 3);
     assert!(rt; stack.act(&Action::Pop).is_ok() && stack.top() == 0);
     assert!(rt; stack.act(&Action::Pop).is_ok() && stack.top() == 0);
+}
+
+// Whether the pieces that are left are these, with the last mode alone on the stack behind them.
+fn gives(items: &mut ModeItems<'_>, pieces: &[&str]) -> bool {
+    for piece in pieces {
+        match items.next_item() {
+            Ok(Some(item)) if item.slice() == *piece => {}
+            _ => return false,
+        }
+    }
+    items.rest().is_empty() && items.stack().top() == 0
+}
+
+// In mode 1 a word is a word of both forms, and in mode 0 only of the second.
+#[test]
+fn a_kind_begins_with_its_first_rule_of_the_mode(rt: HostRuntime) {
+    let rules = [
+        ModeRule {
+            rule: Rule::pattern("WORD", "[a-z]+"),
+            modes: &[1],
+            actions: &[],
+        },
+        ModeRule {
+            rule: Rule::literal("IN", "<"),
+            modes: &[0],
+            actions: &[Action::Push(1)],
+        },
+        ModeRule {
+            rule: Rule::pattern("WORD", "[a-c]+|[0-9]+"),
+            modes: &[0, 1],
+            actions: &[],
+        },
+    ];
+    match ModeLexer::from_rules(rt.alloc(), &rules, 2) {
+        Ok(lexer) => {
+            let mut items = lexer.items(rt.alloc(), "abc<abc12");
+            for index in [2, 1, 0, 0] {
+                match items.next_item() {
+                    Ok(Some(Item::Token(token))) => {
+                        assert!(rt; token.index.index() == index);
+                    }
+                    _ => assert!(rt; false),
+                }
+            }
+            assert!(rt; items.rest().is_empty());
+        }
+        Err(_) => assert!(rt; false),
+    }
 }
 
 #[test]
@@ -42,17 +90,19 @@ fn nested_comments_are_cut(rt: HostRuntime) {
             actions: &[],
         },
     ];
-    let pieces = ["a", "/*", "b", "/*", "c", "*/", "d", "*/", "e"];
+    // In a comment each letter is a piece, and `!` is a fault in both modes.
+    let text = "ab/*c!d/*e*/!f*/gh!i";
+    let pieces = [
+        "ab", "/*", "c", "!", "d", "/*", "e", "*/", "!", "f", "*/", "gh", "!", "i",
+    ];
     match ModeLexer::from_rules(rt.alloc(), &rules, 2) {
         Ok(lexer) => {
-            let mut items = lexer.items(rt.alloc(), "a/*b/*c*/d*/e");
-            for piece in pieces {
-                match items.next_item() {
-                    Ok(Some(item)) => assert!(rt; item.slice() == piece),
-                    _ => assert!(rt; false),
-                }
+            let mut items = lexer.items(rt.alloc(), text);
+            assert!(rt; gives(&mut items, &pieces));
+            match lexer.items_linear(rt.alloc(), text) {
+                Ok(mut items) => assert!(rt; gives(&mut items, &pieces)),
+                Err(_) => assert!(rt; false),
             }
-            assert!(rt; items.rest().is_empty() && items.stack().top() == 0);
         }
         Err(_) => assert!(rt; false),
     }

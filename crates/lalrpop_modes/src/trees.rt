@@ -1,48 +1,34 @@
-//! The trees of the texts of rules.
-ghost use Rattle.std.specs.Prelude.{◌≡◌, ◌≢◌, ℕ, IfOk, IfErr};
-ghost use Rattle.std.specs.Str.{chars};
-ghost use Rattle.lalrpop_lexer.specs.Refusal.{HasNoTree, PointsInto};
-ghost use Rattle.lalrpop_lexer.specs.Spelled.{Spells};
-ghost use Rattle.lalrpop_rules.specs.RuleSet.{AreTrees};
-ghost use Rattle.lalrpop_modes.specs.ModeSet.{rules_of, IsModesError};
+//! The trees of the texts of rules with modes.
+ghost use Rattle.std.specs.Prelude.{◌≡◌, IfOk, IfErr};
+ghost use Rattle.lalrpop_book.specs.Report.{NoFault};
+ghost use Rattle.lalrpop_rules.specs.RuleSet.{AreTrees, IsTextError};
+ghost use Rattle.lalrpop_modes.specs.ModeSet.{rules_of};
 
-use crate::error::ModesError;
 use crate::mode_rule::ModeRule;
-use lalrpop_lexer::Form;
-use lalrpop_lexer::lexer::re::{Regex, RegexError, parse_literal, parse_regex};
-use std::alloc::Global;
+use lalrpop_lexer::lexer::re::Regex;
+use lalrpop_rules::{Rule, TextError, trees_of};
+use std::alloc::{AllocError, Global};
 
-// Parses a text into its tree.
-fn tree_of(alloc: Global, form: Form, text: &str) -> Result<Regex, RegexError>
-    ensures tree { IfOk result (λ t. Spells form text.now t) }
-    ensures pattern { IfErr result (λ e. e ≢ RegexError.OutOfMemory → form ≡ Form.Pattern) }
-    ensures none { IfErr result (HasNoTree (chars text.now)) }
-    ensures position { IfErr result (PointsInto text.now) }
+// The rules without their modes and actions.
+fn rule_list<'text>(
+    alloc: Global,
+    rules: &[ModeRule<'text>],
+) -> Result<Vec<Rule<'text>>, AllocError>
+    ensures rules { IfOk result (λ all. all.items ≡ rules_of rules.now) }
 {
-    match form {
-        Form::Literal => parse_literal(alloc, text),
-        Form::Pattern => parse_regex(alloc, text),
+    let mut all = Vec::new(alloc);
+    for rule in rules {
+        all.push(rule.rule)?;
     }
+    Ok(all)
 }
 
-/// The trees of all rules, or the first text that does not parse.
-pub(crate) fn trees_of(alloc: Global, rules: &[ModeRule]) -> Result<Vec<Regex>, ModesError>
+/// The trees of all rules.
+pub(crate) fn rule_trees(alloc: Global, rules: &[ModeRule]) -> Result<Vec<Regex>, TextError>
     ensures trees { IfOk result (λ trees. AreTrees (rules_of rules.now) trees.items) }
-    ensures error { IfErr result (λ e. (modes : ℕ) → IsModesError rules.now modes e) }
+    ensures no_fault { IfOk result (λ trees. NoFault trees.items) }
+    ensures error { IfErr result (λ e. IsTextError (rules_of rules.now) e) }
 {
-    let mut trees = Vec::new(alloc);
-    for rule in rules {
-        match tree_of(alloc, rule.rule.form, rule.rule.text) {
-            Ok(tree) => trees.push(tree)?,
-            Err(RegexError::Syntax { position, kind }) => {
-                return Err(ModesError::NotParsed {
-                    rule: trees.len(),
-                    position,
-                    kind,
-                });
-            }
-            Err(RegexError::OutOfMemory) => return Err(ModesError::OutOfMemory),
-        }
-    }
-    Ok(trees)
+    let all = rule_list(alloc, rules)?;
+    trees_of(alloc, &all)
 }

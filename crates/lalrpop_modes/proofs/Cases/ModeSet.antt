@@ -3,15 +3,26 @@ use Rattle.std.proofs.Common.{◌≡◌, ◌<◌, ℕ, inl, inr, List, [], ◌�
 use Rattle.lalrpop_modes.specs.declared.action.Action.{Action}
 use Rattle.lalrpop_modes.specs.declared.action.Action.TheVariants.{Push, Pop}
 use Rattle.lalrpop_modes.specs.declared.mode_rule.ModeRule.{ModeRule}
-use Rattle.lalrpop_modes.specs.declared.error.ModesError.TheVariants.{NoSuchMode, OutOfMemory}
+use Rattle.lalrpop_modes.specs.declared.error.ModesError.TheVariants.{NoSuchMode, BadEnd, OutOfMemory}
+use Rattle.lalrpop_delimited.specs.declared.error.FromToError.{FromToError}
 use Rattle.lalrpop_modes.specs.Modes.{ModeRules, OneLeadsInto}
-use Rattle.lalrpop_modes.specs.ModeSet.{rules_of, AreModeRules, NamesMode, AreFineBefore, IsModesError}
+use Rattle.lalrpop_modes.specs.ModeSet.{rules_of, AllThere, AreModeRules, AreOneModeKind, NamesMode, IsModesError}
 
 rules_in_their_order : (p q : ModeRule) → rules_of (p ∷ q ∷ []) ≡ p.rule ∷ q.rule ∷ []
 rules_in_their_order p q = refl
 
-no_rules_in_one_mode : AreModeRules [] 1 (record { names = []; trees = []; precedences = []; skips = []; actions = []; members = []; modes = 1 })
-no_rules_in_one_mode = record { names = refl; trees = tt; precedences = refl; skips = refl; actions = refl; members = refl; count = refl }
+no_rules_in_one_mode : AreModeRules [] 1 (record { names = []; trees = []; precedences = []; skips = []; actions = []; members = []; kinds = []; modes = 1; automata = [] })
+no_rules_in_one_mode = record {
+  names = refl;
+  trees = tt;
+  no_fault = λ i t at. absurd (cc);
+  precedences = refl;
+  skips = refl;
+  actions = refl;
+  members = refl;
+  kinds = record { one_each = refl; first = λ i k x at. absurd (cc) };
+  count = refl;
+}
 
 one_mode_too_many : (rs : List ModeRule) (r : ModeRules) → r.modes ≡ 2 → ¬ AreModeRules rs 1 r
 one_mode_too_many rs r two are = omega (arith, two, are.count)
@@ -27,11 +38,17 @@ pop_names_no_mode q m none pop (inl (k, within, e)) = omega (arith, within, ap l
 pop_names_no_mode q m none pop (inr leads) =
     elim (subst (λ (acts : List Action). OneLeadsInto acts m) pop leads) [ inl h ↦ absurd h | inr h ↦ absurd h ]
 
-none_before_the_first : (r : ModeRules) → AreFineBefore r 0
-none_before_the_first r k below = absurd (no below)
-  where
-    no : k < 0 → ⊥
-    no h = omega (arith, h)
+-- rules that do different things are of two kinds
+other_actions_other_kind : (p q : ModeRule) → p.actions.now ≡ Push 3 ∷ [] → q.actions.now ≡ [] → ¬ AreOneModeKind p q
+other_actions_other_kind p q e f one = omega (arith, ap length e, ap length f, ap length one.actions)
+
+-- all modes are there, or the texts don't matter
+texts_are_judged_last : (p : ModeRule) (i : ℕ) (error : FromToError) → p.modes.now ≡ 5 ∷ [] → ¬ IsModesError (p ∷ []) 2 (BadEnd i error)
+texts_are_judged_last p i error e is =
+    let no : 5 < 2 = is.0 0 5 p (omega arith) refl (inl (subst (λ (ms : List ℕ). Contains ms 5) (sym e) (0, omega arith, refl))) in omega (arith, no)
+
+no_rules_are_there : AllThere [] 2
+no_rules_are_there j m q below at names = absurd (cc)
 
 mode_that_is_there : (rs : List ModeRule) (i : ℕ) → ¬ IsModesError rs 2 (NoSuchMode i 1)
 mode_that_is_there rs i is = omega (arith, is.0)

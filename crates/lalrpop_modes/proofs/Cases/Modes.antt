@@ -1,14 +1,13 @@
 -- Cases of specs/Modes.antt.
-use Rattle.std.proofs.Common.{◌≡◌, ℕ, zero, suc, ◌<◌, Bool, true, inl, inr, List, [], ◌∷◌, refl, ap, arith}
-use Rattle.std.specs.Prelude.{Option, Some}
+use Rattle.std.proofs.Common.{◌≡◌, ℕ, zero, suc, ◌<◌, Bool, true, false, inl, inr, List, [], ◌∷◌, refl, ap, arith}
+use Rattle.std.specs.Prelude.{Option, Some, None}
 use Rattle.std.specs.Borrow.{Bor}
-use Rattle.lalrpop_book.specs.Tree.{Tree}
-use Rattle.lalrpop_book.specs.Language.{Matches}
+use Rattle.lalrpop_book.specs.Tree.{Tree, alternation, none, also}
 use Rattle.lalrpop_rules.specs.declared.item.Item.TheVariants.{Token, Skipped, Fault}
 use Rattle.lalrpop_modes.specs.declared.action.Action.{Action}
 use Rattle.lalrpop_modes.specs.declared.action.Action.TheVariants.{Mode, Push, Pop}
 use Rattle.lalrpop_modes.specs.Stack.{Stack, start, actions_of}
-use Rattle.lalrpop_modes.specs.Modes.{ModeRules, matches_nothing, trees_in, after, after_all, ArePiecesFrom, NoModeClash, IsModeClash, Belongs, LeadsInto, OneLeadsInto, CanBeEntered, first_mode, by_rule, AllCanBeEntered}
+use Rattle.lalrpop_modes.specs.Modes.{ModeRules, kinds_of, trees_of, trees_in, after, after_all, ArePiecesFrom, NoModeClash, IsModeClash, Belongs, LeadsInto, OneLeadsInto, CanBeEntered, first_mode, by_rule, AllCanBeEntered}
 
 -- two rules: the first belongs to mode 0 and leads into mode 1, the second belongs to both and pops
 abbrev two : Tree → Tree → ModeRules
@@ -19,11 +18,25 @@ two a b = record {
   skips = [];
   actions = (Push 1 ∷ []) ∷ (Pop ∷ []) ∷ [];
   members = (0 ∷ []) ∷ (0 ∷ 1 ∷ []) ∷ [];
+  kinds = 0 ∷ 1 ∷ [];
   modes = 3;
+  automata = [];
 }
 
-nothing_is_matched : (w : List ℕ) → ¬ Matches matches_nothing w
-nothing_is_matched w m = m
+abbrev matches_nothing : Tree
+matches_nothing = alternation none
+
+kinds_of_those_that_belong : kinds_of (true ∷ false ∷ true ∷ []) (0 ∷ 1 ∷ 0 ∷ []) ≡ Some 0 ∷ None ∷ Some 0 ∷ []
+kinds_of_those_that_belong = refl
+
+-- two rules of one kind, and one between them that doesn't belong
+first_has_both_trees : (a b c : Tree) → trees_of (true ∷ false ∷ true ∷ []) (0 ∷ 1 ∷ 0 ∷ []) (a ∷ b ∷ c ∷ [])
+    ≡ alternation (also a (also c none)) ∷ matches_nothing ∷ matches_nothing ∷ []
+first_has_both_trees a b c = refl
+
+-- where the first rule of the kind doesn't belong, the first that does has the tree
+second_has_its_own_tree : (a b : Tree) → trees_of (false ∷ true ∷ []) (0 ∷ 0 ∷ []) (a ∷ b ∷ []) ≡ matches_nothing ∷ b ∷ []
+second_has_its_own_tree a b = refl
 
 both_in_mode_0 : (a b : Tree) → trees_in (two a b) 0 ≡ a ∷ b ∷ []
 both_in_mode_0 a b = refl
@@ -74,7 +87,7 @@ text_left r b s are = absurd (cc (are.0))
 
 -- ---- clashes and modes that are entered
 
-no_mode_no_clash : NoModeClash (record { names = []; trees = []; precedences = []; skips = []; actions = []; members = []; modes = 0 })
+no_mode_no_clash : NoModeClash (record { names = []; trees = []; precedences = []; skips = []; actions = []; members = []; kinds = []; modes = 0; automata = [] })
 no_mode_no_clash m there = omega (arith, there)
 
 clash_of_a_mode_that_is_not_there : (a b : Tree) (w : List ℕ) (i j : ℕ) → ¬ IsModeClash (two a b) 3 w i j

@@ -3,12 +3,17 @@ use Rattle.std.specs.Prelude.{◌≡◌, ℕ, ◌⊎◌, Bool, List, Option, Som
 use Rattle.std.proofs.Common.{inl, inr}
 use Rattle.std.specs.Coded.{Coded, code_by, coded×, coded⊎, coded_list, coded_option, coded_ℕ, coded_bool}
 use Rattle.lalrpop_hir.specs.Internal.Code.{tree_code}
+use Rattle.lalrpop_lexer.specs.Internal.Code.{row_code}
+use Rattle.lalrpop_lexer.specs.Dfa.{Row}
+use Rattle.lalrpop_rules.specs.Internal.Code.{memo_code}
+use Rattle.lalrpop_rules.specs.CutToEnd.{Memo}
 use Rattle.lalrpop_book.specs.Tree.{Tree}
 use Rattle.lalrpop_modes.specs.declared.action.Action.{Action}
 use Rattle.lalrpop_modes.specs.declared.action.Action.TheVariants.{Mode, Push, Pop}
 use Rattle.lalrpop_modes.specs.Stack.{Stack}
 use Rattle.lalrpop_modes.specs.Modes.{ModeRules}
 use Rattle.lalrpop_modes.specs.ModeCut.{ModeCut}
+use Rattle.lalrpop_modes.specs.Internal.Cutting.{Cutting}
 
 abbrev pub stack_code : Coded Stack
 stack_code = code_by (ℕ × List ℕ) (coded× coded_ℕ (coded_list coded_ℕ)) (λ s. (s.mode, s.below)) (λ p. record { mode = p.0; below = p.1 }) (λ _. refl)
@@ -33,14 +38,24 @@ action_code = code_by (Option (ℕ ⊎ ℕ)) (coded_option (coded⊎ coded_ℕ c
 
 abbrev pub modes_code : Coded ModeRules
 modes_code =
-    code_by (List (List ℕ) × (List Tree × (List ℕ × (List Bool × (List (List Action) × (List (List ℕ) × ℕ))))))
+    code_by (List (List ℕ) × (List Tree × (List ℕ × (List Bool × (List (List Action) × (List (List ℕ) × (List ℕ × (ℕ × List (List Row)))))))))
     (coded× (coded_list (coded_list coded_ℕ)) (coded× (coded_list tree_code) (coded× (coded_list coded_ℕ) (coded× (coded_list coded_bool)
-    (coded× (coded_list (coded_list action_code)) (coded× (coded_list (coded_list coded_ℕ)) coded_ℕ))))))
-    (λ r. (r.names, (r.trees, (r.precedences, (r.skips, (r.actions, (r.members, r.modes)))))))
-    (λ p. record { names = p.0; trees = p.1.0; precedences = p.1.1.0; skips = p.1.1.1.0; actions = p.1.1.1.1.0; members = p.1.1.1.1.1.0; modes = p.1.1.1.1.1.1 })
+    (coded× (coded_list (coded_list action_code)) (coded× (coded_list (coded_list coded_ℕ)) (coded× (coded_list coded_ℕ)
+    (coded× coded_ℕ (coded_list (coded_list row_code))))))))))
+    (λ r. (r.names, (r.trees, (r.precedences, (r.skips, (r.actions, (r.members, (r.kinds, (r.modes, r.automata)))))))))
+    (λ p. record { names = p.0; trees = p.1.0; precedences = p.1.1.0; skips = p.1.1.1.0; actions = p.1.1.1.1.0; members = p.1.1.1.1.1.0; kinds = p.1.1.1.1.1.1.0; modes = p.1.1.1.1.1.1.1.0; automata = p.1.1.1.1.1.1.1.1 })
     (λ _. refl)
 
 abbrev pub cut_code : Coded ModeCut
 cut_code =
-    code_by (ModeRules × (List ℕ × (ℕ × Stack))) (coded× modes_code (coded× (coded_list coded_ℕ) (coded× coded_ℕ stack_code)))
-    (λ c. (c.rules, (c.text, (c.at, c.stack)))) (λ p. record { rules = p.0; text = p.1.0; at = p.1.1.0; stack = p.1.1.1 }) (λ _. refl)
+    code_by (ModeRules × (List ℕ × (ℕ × (Stack × (Option Memo × ℕ)))))
+    (coded× modes_code (coded× (coded_list coded_ℕ) (coded× coded_ℕ (coded× stack_code (coded× (coded_option memo_code) coded_ℕ)))))
+    (λ c. (c.rules, (c.text, (c.at, (c.stack, (c.memo, c.steps))))))
+    (λ p. record { rules = p.0; text = p.1.0; at = p.1.1.0; stack = p.1.1.1.0; memo = p.1.1.1.1.0; steps = p.1.1.1.1.1 }) (λ _. refl)
+
+abbrev pub cutting_code : Coded Cutting
+cutting_code =
+    code_by (ModeRules × (List ℕ × (ℕ × (ℕ × (Option Memo × ℕ)))))
+    (coded× modes_code (coded× (coded_list coded_ℕ) (coded× coded_ℕ (coded× coded_ℕ (coded× (coded_option memo_code) coded_ℕ)))))
+    (λ c. (c.rules, (c.text, (c.at, (c.mode, (c.memo, c.steps))))))
+    (λ p. record { rules = p.0; text = p.1.0; at = p.1.1.0; mode = p.1.1.1.0; memo = p.1.1.1.1.0; steps = p.1.1.1.1.1 }) (λ _. refl)

@@ -1,17 +1,15 @@
 -- One lexer for each mode.
 use Rattle.std.specs.Prelude.{◌≡◌, ℕ, ◌<◌, List, [], length, slice_get, Some}
-use Rattle.std.specs.Str.{IsUtf8, IsCharBoundary}
 use Rattle.lalrpop_book.specs.Tree.{Tree}
-use Rattle.lalrpop_book.specs.Report.{NoFault, FirstFault}
 use Rattle.lalrpop_book.specs.declared.error.DfaConstructionError.{DfaConstructionError}
 use Rattle.lalrpop_book.specs.declared.error.DfaConstructionError.TheVariants as report
 use Rattle.lalrpop_lexer.specs.Rules.{Rules}
-use Rattle.lalrpop_modes.specs.Stack.{Stack, actions_of}
-use Rattle.lalrpop_modes.specs.Modes.{ModeRules, trees_in, OneLeadsInto, EachMode, IsModeClash}
-use Rattle.lalrpop_modes.specs.ModeSet.{NamesMode, AreFineBefore}
+use Rattle.lalrpop_modes.specs.Stack.{actions_of}
+use Rattle.lalrpop_modes.specs.Modes.{ModeRules, trees_in, OneLeadsInto, NoModeClash, IsModeClash}
+use Rattle.lalrpop_modes.specs.ModeSet.{NamesMode}
 use Rattle.lalrpop_modes.specs.declared.mode_rule.ModeRule.{ModeRule}
 use Rattle.lalrpop_modes.specs.declared.error.ModesError.{ModesError}
-use Rattle.lalrpop_modes.specs.declared.error.ModesError.TheVariants.{NotParsed, NoSuchMode, NotCompiled, Clash, OutOfMemory}
+use Rattle.lalrpop_modes.specs.declared.error.ModesError.TheVariants.{NoSuchMode, NotParsed, BadEnd, NotCompiled, Clash, OutOfMemory}
 
 -- each of these recognizes the trees of its mode
 abbrev pub AreLexers : ModeRules → List Rules → Type 0
@@ -21,37 +19,39 @@ AreLexers r ls = (m : ℕ) (l : Rules) → slice_get ls m ≡ Some l → (l.tree
 abbrev pub LeadWithin : ModeRules → Type 0
 LeadWithin r = (i m : ℕ) → OneLeadsInto (actions_of r.actions i) m → m < r.modes
 
--- there is a mode, each mode that an action names is there, and each rule has a name
+-- there is a mode, in which and in any other no word is ambiguous, each mode that an action names is there, and each rule has a name
 pub record IsWhole (r : ModeRules) (ls : List Rules) : Type 0 where
   pub lexers : AreLexers r ls
+  pub clear : NoModeClash r
   pub within : LeadWithin r
   pub some : 0 < r.modes
   pub named : length r.names ≡ length r.trees
-
--- between two calls: the text may be cut here, and each mode of the stack is there
-pub record IsGoing (r : ModeRules) (text : List ℕ) (at : ℕ) (s : Stack) : Type 0 where
-  pub utf8 : IsUtf8 text
-  pub boundary : IsCharBoundary text at
-  pub there : EachMode (λ m. m < r.modes) s
 
 -- all rules name only modes that are there
 abbrev pub AllNameWithin : List ModeRule → ℕ → Type 0
 AllNameWithin rs modes = (i m : ℕ) (q : ModeRule) → slice_get rs i ≡ Some q → NamesMode q m → m < modes
 
 -- what is seen of rules while their lexers are built
-abbrev pub seen : List Tree → List ℕ → List (List ℕ) → ℕ → ModeRules
-seen ts ps members modes = record { names = []; trees = ts; precedences = ps; skips = []; actions = []; members = members; modes = modes }
+abbrev pub seen : List Tree → List ℕ → List (List ℕ) → List ℕ → ℕ → ModeRules
+seen ts ps members kinds modes =
+    record { names = []; trees = ts; precedences = ps; skips = []; actions = []; members = members; kinds = kinds; modes = modes; automata = [] }
 
 -- the error for the report of a mode
 abbrev pub in_mode : ℕ → DfaConstructionError → ModesError
-in_mode m (report.NfaConstructionError i e) = NotCompiled m i e
+in_mode m (report.NfaConstructionError i e) = NotCompiled i e
 in_mode m (report.Ambiguity i j w) = Clash m i j w
 in_mode m report.OutOfMemory = OutOfMemory
 
--- the error is that of the first mode that has one, or memory was refused
+-- the error is the clash of the first mode that has one, or memory was refused
 abbrev pub IsModeFault : ModeRules → ModesError → Type 0
 IsModeFault r (NoSuchMode i m) = ⊥
 IsModeFault r (NotParsed i position kind) = ⊥
-IsModeFault r (NotCompiled m i e) = (m < r.modes) × FirstFault (trees_in r m) i e × AreFineBefore r m
-IsModeFault r (Clash m i j w) = NoFault (trees_in r m) × IsModeClash r m w.items i j × AreFineBefore r m
+IsModeFault r (BadEnd i e) = ⊥
+IsModeFault r (NotCompiled i e) = ⊥
+IsModeFault r (Clash m i j w) = IsModeClash r m w.items i j
 IsModeFault r OutOfMemory = Unit {0}
+
+-- only memory is refused, since no tree has a fault
+abbrev pub IsClashesFault : ModesError → Type 0
+IsClashesFault OutOfMemory = Unit {0}
+IsClashesFault error = ⊥

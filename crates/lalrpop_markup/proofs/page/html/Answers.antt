@@ -14,7 +14,7 @@ marking-init c = ([], search rules)
 pub marking-preserved : goal.marking-preserved
 marking-preserved c =
     let i = c.marking.invariant in
-    (i.0 ++ c.in-Some.item ∷ [], (Yields-more GivesPiece _ i.0 c.marking.items c.in-Some.item _ i.1.0 c.in-Some.ensures.steps, one_more (marked c.args.lexer.now.names) i.0 c.in-Some.item _ _ i.1.1 c.in_ok-push_html.ensures.marked))
+    (i.0 ++ c.in-Some.item ∷ [], (Yields-more GivesPiece _ i.0 c.marking.items c.in-Some.item _ i.1.0 c.in-Some.ensures.steps, one_more (marked c.args.lexer.now.names) i.0 c.in-Some.item _ _ i.1.1 (rw c.names.ensures.names at c.in_ok-push_html.ensures.marked)))
 
 pub returns-clause-pieces : goal.returns-clause-pieces
 returns-clause-pieces c =

@@ -1,22 +1,17 @@
-use Rattle.std.proofs.Common.{◌+◌, sym, subst, length, refl}
-use Rattle.std.specs.Str.{IsCharBoundary}
-use Rattle.lalrpop_rules.specs.Pieces.{IsPiece}
-use Rattle.lalrpop_modes.specs.Modes.{trees_in}
-use Rattle.lalrpop_modes.proofs.ModeRuns.{cut-behind}
+use Rattle.std.proofs.Common.{◌≡◌, subst}
+use Rattle.std.specs.Prelude.{Option}
+use Rattle.lalrpop_rules.specs.declared.item.Item.{Item}
+use Rattle.lalrpop_modes.specs.Internal.Cutting.{CutsNext, after_next}
+use Rattle.lalrpop_modes.proofs.ModeRuns.{piece-given}
 use Rattle.lalrpop_modes.proofs.mode_items.ModeItems.next_item.Goals as goal
 
-pub invariant_of-self-2 : goal.invariant_of-self-2
-invariant_of-self-2 c = record {
-  utf8 = c.self.invariant.utf8;
-  boundary =
-      subst (λ p. IsCharBoundary c.self.inside.text.now (c.self.inside.at + length p)) (sym c.slice.ensures.slice)
-      (cut-behind _ _ _ _ _ c.piece_at-item.result c.self.invariant.utf8 c.self.invariant.boundary c.piece_at-item.ensures.piece);
-  there = c.in_ok-act_after.ensures.there c.self.invariant.there;
-}
-
-pub returns-clause-gives : goal.returns-clause-gives
-returns-clause-gives c =
+pub returns-in-Ok-Some-clause-gives : goal.returns-in-Ok-Some-clause-gives
+returns-in-Ok-Some-clause-gives c =
     let i = c.self.inside in
-    let piece : IsPiece (trees_in i.lexer.now i.stack.mode) i.lexer.now.precedences i.lexer.now.skips i.text.now i.at c.piece_at-item.result =
-    rw (← c.top.ensures.mode, ← c.lexer-lexer.ensures.trees, ← c.lexer-lexer.ensures.precedences, ← c.skips.ensures.skips) c.piece_at-item.ensures.piece in
-    rw (← c.self.view_is) (piece, rw (c.slice.ensures.slice, c.in_ok-act_after.ensures.acted) refl)
+    let e = c.in-Ok-Some.ensures in
+    let some = c.in-Ok-Some.field-0-is in
+    let old = i.cutter in
+    let cuts = subst (λ (o : Option Item). CutsNext i.cutter o c.cut_piece.new.cutter) some e.cuts in
+    let acted = subst (λ (o : Option Item). c.cut_piece.new.self ≡ after_next old.rules.actions o i.stack) some e.acted in
+    rw (← c.self.view_is)
+    (piece-given i.cutter c.cut_piece.new.cutter c.follow.new.self i.stack c.cut_piece.new.self c.in-Ok-Some.item _ c.self.invariant.on_top cuts c.follow.ensures.follows acted)

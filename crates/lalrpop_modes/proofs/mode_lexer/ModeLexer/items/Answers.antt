@@ -1,24 +1,32 @@
-use Rattle.std.proofs.Common.{◌≡◌, List, [], subst}
+use Rattle.std.proofs.Common.{◌≡◌, ◌∙◌, List, [], ap}
+use Rattle.std.specs.Prelude.{None}
 use Rattle.std.specs.Iterator.{Yields}
 use Rattle.lalrpop_rules.specs.declared.item.Item.{Item}
 use Rattle.lalrpop_modes.specs.Modes.{ArePiecesFrom}
 use Rattle.lalrpop_modes.specs.Stack.{start}
-use Rattle.lalrpop_modes.specs.ModeCut.{ModeCut, left_text, GivesModePiece}
-use Rattle.lalrpop_modes.proofs.ModeRuns.{pieces-of-run}
+use Rattle.lalrpop_modes.specs.ModeCut.{ModeCut, uncut, left_text, GivesModePiece}
+use Rattle.lalrpop_modes.specs.Internal.Lexers.{IsWhole}
+use Rattle.lalrpop_modes.specs.Internal.Cutting.{Cutting}
+use Rattle.lalrpop_modes.proofs.ModeRuns.{pieces-from-first}
 use Rattle.lalrpop_modes.proofs.ModePieces.{joined-from}
 use Rattle.lalrpop_modes.proofs.ModeLaws.{apart-from}
+use Rattle.lalrpop_modes.proofs.ModesExist.{pieces-from-exist}
 use Rattle.lalrpop_modes.proofs.mode_lexer.ModeLexer.items.Goals as goal
 
 pieces : (c : goal.After-new-2) (xs : List Item) (s : ModeCut) → Yields GivesModePiece c.new-2.result xs s → left_text s ≡ []
     → ArePiecesFrom c.args.self.now c.args.text.now 0 start xs s.stack
-pieces c xs s y end =
-    subst (λ w. ArePiecesFrom w.rules w.text w.at w.stack xs s.stack) c.new-2.ensures.start (pieces-of-run c.new-2.result s xs y end)
+pieces c = pieces-from-first c.new-2.result c.args.self.now c.args.text.now None (c.new-2.ensures.start ∙ ap (λ (w : Cutting). uncut w.rules w.text w.memo) c.new-cutter.ensures.start)
 
 pub returns-clause-items : goal.returns-clause-items
-returns-clause-items c xs s y end = pieces c xs s y end
+returns-clause-items c = pieces c
 
 pub returns-clause-whole : goal.returns-clause-whole
 returns-clause-whole c xs s y end = joined-from c.args.self.now c.args.text.now 0 start xs s.stack (pieces c xs s y end)
 
 pub returns-clause-apart : goal.returns-clause-apart
 returns-clause-apart c xs s y end = apart-from c.args.self.now c.args.text.now 0 start xs s.stack (pieces c xs s y end)
+
+pub returns-clause-exist : goal.returns-clause-exist
+returns-clause-exist c =
+    let whole : IsWhole c.args.self.now c.self.inside.lexers.items = rw (← c.self.view_is) c.self.invariant in
+    pieces-from-exist c.args.self.now c.args.text.now whole.clear whole.within whole.some c.utf8.text
