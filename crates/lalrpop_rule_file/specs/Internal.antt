@@ -1,0 +1,5 @@
+pub mod Spans
+pub mod Values
+pub mod Stops
+pub mod Lines
+pub mod PlainLine

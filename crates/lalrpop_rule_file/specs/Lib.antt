@@ -1,0 +1,9 @@
+pub mod Words
+pub mod LineText
+pub mod RuleLine
+pub mod RuleFault
+pub mod FileModes
+pub mod FileParts
+pub mod RuleFile
+-- used by proofs only
+pub mod Internal

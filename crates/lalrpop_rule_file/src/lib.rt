@@ -1,0 +1,32 @@
+//! A file of named rules, one a line, in sections for modes:
+//!
+//! ```text
+//! NAME [skip] {mode M | push M | pop} = [PRECEDENCE] TEXT
+//! NAME part = /PATTERN/
+//! [A B]
+//! ```
+//!
+//! A `TEXT` is `'LITERAL'`, `/PATTERN/` or `from 'A' to 'B'`.
+#![tactic(auto)]
+
+mod content;
+mod error;
+mod file;
+mod file_rule;
+mod head;
+mod line;
+mod line_part;
+mod line_text;
+mod modes;
+mod numbers;
+mod parts;
+mod rules;
+mod section;
+mod span;
+mod stop;
+mod word;
+mod written;
+
+pub use error::{LineFault, RuleFileError};
+pub use file::{RuleFile, read_rules, without_mark};
+pub use file_rule::FileRule;

@@ -1,0 +1,94 @@
+//! What stands in a line, as it is written.
+
+use lalrpop_lexer::Form;
+
+/// The word that the name of a mode follows.
+#[derive(Clone, Copy, Debug, PartialEq, Eq)]
+pub(crate) enum Entry {
+    /// `mode`
+    Mode,
+    /// `push`
+    Push,
+}
+
+/// An action.
+#[derive(Clone, Copy, Debug)]
+pub(crate) enum WrittenAction<'text> {
+    /// It leads into the mode with this name. `here` is the line from the name on.
+    Enter {
+        entry: Entry,
+        mode: &'text str,
+        here: &'text str,
+    },
+    /// `pop`
+    Pop,
+}
+
+/// The name with which a line begins. `here` is the line from the name on.
+#[derive(Clone, Copy, Debug)]
+pub(crate) struct LineName<'text> {
+    pub name: &'text str,
+    pub here: &'text str,
+}
+
+/// What stands left of the `=` of a rule.
+#[derive(Debug, Drop)]
+pub(crate) struct LineHead<'text> {
+    pub name: &'text str,
+    pub is_skipped: bool,
+    pub actions: Vec<WrittenAction<'text>>,
+}
+
+/// The text of a rule, without its delimiters.
+#[derive(Clone, Copy, Debug)]
+pub(crate) enum WrittenText<'text> {
+    /// `'LITERAL'` or `/PATTERN/`
+    Quoted(Form, &'text str),
+    /// `from 'A' to 'B'`
+    FromTo { from: &'text str, to: &'text str },
+}
+
+/// The text of a rule, and the line from where it begins, after the first delimiter.
+#[derive(Clone, Copy, Debug)]
+pub(crate) struct LineText<'text> {
+    pub text: WrittenText<'text>,
+    pub here: &'text str,
+}
+
+/// A rule.
+#[derive(Debug, Drop)]
+pub(crate) struct LineRule<'text> {
+    pub head: LineHead<'text>,
+    pub precedence: usize,
+    pub text: LineText<'text>,
+}
+
+/// A part: its name, its pattern, and the line from where the pattern begins, after its first slash.
+#[derive(Clone, Copy, Debug)]
+pub(crate) struct LinePart<'text> {
+    pub name: LineName<'text>,
+    pub pattern: &'text str,
+    pub here: &'text str,
+}
+
+/// The modes of a section.
+#[derive(Debug, Drop)]
+pub(crate) enum Section<'text> {
+    /// The modes with these names.
+    These(Vec<&'text str>),
+    /// Every mode of the file.
+    Every,
+}
+
+/// What a line says.
+#[derive(Debug, Drop)]
+pub(crate) enum Said<'text> {
+    /// It is blank or a comment.
+    Nothing,
+    /// The rules below it belong to these modes.
+    Heading(Section<'text>),
+    /// A part.
+    Define(LinePart<'text>),
+    /// A rule.
+    Rule(LineRule<'text>),
+}
