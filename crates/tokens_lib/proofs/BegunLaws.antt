@@ -1,16 +1,18 @@
 -- What was written before an error: a prefix of an answer, or nothing.
-use Rattle.std.proofs.Common.{◌≡◌, ◌≢◌, ℕ, ◌+◌, ◌<◌, get_or, Bool, inl, inr, List, [], ◌∷◌, ◌++◌, length, take, drop, map, flat_map, refl, sym, ap, subst, ◌∙◌}
+use Rattle.std.proofs.Common.{Global, ◌≡◌, ◌≢◌, ℕ, ◌+◌, ◌<◌, get_or, Bool, inl, inr, List, [], ◌∷◌, ◌++◌, length, take, drop, map, string_bytes, refl, sym, ap, subst, ◌∙◌}
 use Rattle.std.specs.Prelude.{Option, Some, None, Result, Ok, OnErr, option_map}
 use Rattle.std.specs.Bool.{then_some}
 use Rattle.std.specs.Borrow.{Bor}
+use Rattle.std.specs.Prelude.{String}
 use Rattle.std.specs.Io.KnownBytes.{Appends}
 use Rattle.std.specs.Str.{IsUtf8}
 use Rattle.std.proofs.Math.Seq.{take-nil}
 use Rattle.std.proofs.lemmas.List.{append-nil, map-append, take-append-drop}
 use Rattle.std.proofs.lemmas.Result.{on_err_weaker}
 use Rattle.lalrpop_book.specs.Tree.{Tree}
-use Rattle.lalrpop_rules.specs.RuleFile.{without_mark}
-use Rattle.lalrpop_rules.specs.RuleSet.{RuleSet}
+use Rattle.lalrpop_rule_file.specs.RuleFile.{without_mark}
+use Rattle.lalrpop_modes.specs.Modes.{ModeRules}
+use Rattle.lalrpop_modes.specs.Stack.{start}
 use Rattle.lexdfa_lib.proofs.Known.{Appends-again}
 use Rattle.lexdfa_lib.specs.Answer.{HaveAutomaton}
 use Rattle.lexdfa_lib.specs.Status.{outcome_status}
@@ -23,7 +25,7 @@ use Rattle.lines_lib.proofs.Sending.{Appends-none, AppendsPrefix-behind, Appends
 use Rattle.lines_lib.specs.ClashesShown.{WritesClashes, WritesClashesPrefix}
 use Rattle.lines_lib.specs.TokenLines.{text_lines, WritesTokensPrefix}
 use Rattle.tokens_lib.specs.Answer.{Answer, followed, Reads, TextOf, FilesAnswer, FirstFilesAnswer, FirstTextsAnswer, Begun}
-use Rattle.tokens_lib.specs.ItemLines.{piece_line, WritesItemsPrefix}
+use Rattle.tokens_lib.specs.ItemLines.{piece_lines, WritesItemsPrefix}
 use Rattle.tokens_lib.specs.PageWritten.{WritesPagePrefix}
 use Rattle.tokens_lib.specs.Program.{AreRulesOf, RulesOf, LexerOf, TerminalsOf, TerminalClashesAnswer}
 use Rattle.tokens_lib.specs.Streams.{Given}
@@ -72,20 +74,21 @@ tokens_begun ts ps places name text a b (xs, (are, part)) = inr (
   ((xs, (are, refl)), subst (λ (file : Option (List ℕ)). AppendsPrefix a b (text_lines file text xs)) (then_some-now places name) part),
 )
 
-pub pieces_begun : (rules : RuleSet) (form : LineForm) (recovers several : Bool) (name : Bor (List ℕ)) (text : List ℕ) (a b : Option (List ℕ))
-    → WritesItemsPrefix rules (record { form = form; recovers = recovers; file = then_some several name }) text a b
-    → Begun (PiecesAnswer rules form recovers several name.now text) a b
-pieces_begun rules form recovers several name text a b (xs, (are, part)) = inr (
-  pieces_told rules form recovers several name.now text xs,
-  (
-    (xs, (are, refl)),
-    subst (λ (file : Option (List ℕ)). AppendsPrefix a b (flat_map (piece_line form recovers file rules.names text) xs)) (then_some-now several name) part,
-  ),
-)
+pub pieces_begun : (rules : ModeRules) (modes : Bor (List (String Global))) (form : LineForm) (recovers several : Bool) (name : Bor (List ℕ)) (text : List ℕ) (a b : Option (List ℕ))
+    → WritesItemsPrefix rules (record { form = form; recovers = recovers; file = then_some several name; modes = modes }) text a b
+    → Begun (PiecesAnswer rules (map string_bytes modes.now) form recovers several name.now text) a b
+pieces_begun rules modes form recovers several name text a b (xs, (end, (are, part))) =
+    let names = map string_bytes modes.now in inr (
+      pieces_told rules names form recovers several name.now text xs end,
+      (
+        (xs, (end, (are, refl))),
+        subst (λ (file : Option (List ℕ)). AppendsPrefix a b (piece_lines form recovers file names rules text start xs)) (then_some-now several name) part,
+      ),
+    )
 
-pub page_begun : (rules : RuleSet) (markup : Markup) (name text : List ℕ) (a b : Option (List ℕ)) → WritesPagePrefix rules markup text a b
-    → Begun (PageAnswer rules markup name text) a b
-page_begun rules markup name text a b (xs, (are, part)) = inr (page_told rules markup xs, ((xs, (are, refl)), part))
+pub page_begun : (rules : ModeRules) (modes : List (List ℕ)) (markup : Markup) (name text : List ℕ) (a b : Option (List ℕ)) → WritesPagePrefix rules markup text a b
+    → Begun (PageAnswer rules modes markup name text) a b
+page_begun rules modes markup name text a b (xs, (end, (are, part))) = inr (page_told rules modes markup name text xs end, ((xs, (end, (are, refl))), part))
 
 -- all of a text was written
 pub done_begun : (Is : Answer → Type 0) (a b : Option (List ℕ)) (file text : List ℕ) (ending : CutResult)
@@ -128,10 +131,10 @@ first_texts_begun r Gives InputGives IsFor text (name ∷ names) a b some h = h
 
 -- ---- the program
 
-pub lexer_begun : (r : Result ℕ RunError) (Gives : List ℕ → Given → Type 0) (IsFor : RuleSet → Answer → Type 0) (rules : List ℕ) (set : RuleSet) (a b : Option (List ℕ))
-    → (bytes : List ℕ) × (Gives rules (Ok bytes) × AreRulesOf bytes set) → OnErr r (Begun (IsFor set) a b)
+pub lexer_begun : (r : Result ℕ RunError) (Gives : List ℕ → Given → Type 0) (IsFor : ModeRules → List (List ℕ) → Answer → Type 0) (rules : List ℕ) (set : ModeRules) (modes : List (List ℕ)) (a b : Option (List ℕ))
+    → (bytes : List ℕ) × (Gives rules (Ok bytes) × AreRulesOf bytes set modes) → OnErr r (Begun (IsFor set modes) a b)
     → OnErr r (Begun (Reads Gives (RulesOf (LexerOf IsFor)) rules) a b)
-lexer_begun r Gives IsFor rules set a b are h = on_err_weaker r (Begun-weaker _ _ a b (λ answer is. by_lexer Gives IsFor rules set answer are is)) h
+lexer_begun r Gives IsFor rules set modes a b are h = on_err_weaker r (Begun-weaker _ _ a b (λ answer is. by_lexer Gives IsFor rules set modes answer are is)) h
 
 pub terminals_begun : (r : Result ℕ RunError) (Gives : List ℕ → Given → Type 0) (IsFor : List Tree → List ℕ → Answer → Type 0) (rules : List ℕ) (ts : List Tree) (ps : List ℕ)
     (a b : Option (List ℕ)) → (bytes : List ℕ) × (Gives rules (Ok bytes) × HaveAutomaton bytes ts ps) → OnErr r (Begun (IsFor ts ps) a b)

@@ -3,6 +3,7 @@ mod Answer
 mod Arguments
 mod Command
 mod ItemLines
+mod OpenModes
 mod PageWritten
 mod Program
 mod Reasons

@@ -4,7 +4,7 @@ use Rattle.std.specs.Prelude.{Option, Result, Ok, Err, IfOk, OnOk, OnErr}
 use Rattle.std.specs.Io.KnownBytes.{Appends}
 use Rattle.std.proofs.lemmas.Result.{IfOk-weaker}
 use Rattle.lalrpop_book.specs.Tree.{Tree}
-use Rattle.lalrpop_rules.specs.RuleSet.{RuleSet}
+use Rattle.lalrpop_modes.specs.Modes.{ModeRules}
 use Rattle.lexdfa_lib.specs.Answer.{HaveAutomaton}
 use Rattle.lexdfa_lib.specs.Watch.{Watch, AppendsPrefix}
 use Rattle.lexdfa_lib.specs.declared.error.RunError.{RunError}
@@ -13,15 +13,15 @@ use Rattle.tokens_lib.specs.Program.{AreRulesOf, RulesOf, RulesRefused, LexerOf,
 use Rattle.tokens_lib.specs.Streams.{Given}
 use Rattle.tokens_lib.proofs.AnswerLaws.{TakesBy-none}
 
-pub by_lexer : (Gives : List ℕ → Given → Type 0) (IsFor : RuleSet → Answer → Type 0) (rules : List ℕ) (set : RuleSet) (answer : Answer)
-    → (bytes : List ℕ) × (Gives rules (Ok bytes) × AreRulesOf bytes set) → IsFor set answer → Reads Gives (RulesOf (LexerOf IsFor)) rules answer
-by_lexer Gives IsFor rules set answer (bytes, (gives, (rs, (are, is)))) done = inr (bytes, (gives, inr (rs, (are, inr (set, (is, done))))))
+pub by_lexer : (Gives : List ℕ → Given → Type 0) (IsFor : ModeRules → List (List ℕ) → Answer → Type 0) (rules : List ℕ) (set : ModeRules) (modes : List (List ℕ)) (answer : Answer)
+    → (bytes : List ℕ) × (Gives rules (Ok bytes) × AreRulesOf bytes set modes) → IsFor set modes answer → Reads Gives (RulesOf (LexerOf IsFor)) rules answer
+by_lexer Gives IsFor rules set modes answer (bytes, (gives, (rs, (say, is)))) done = inr (bytes, (gives, inr (modes, (rs, (say, inr (set, (is, done)))))))
 
-pub rules_refused : (Gives : List ℕ → Given → Type 0) (IsFor : RuleSet → Answer → Type 0) (rules : List ℕ) (answer : Answer)
+pub rules_refused : (Gives : List ℕ → Given → Type 0) (IsFor : ModeRules → List (List ℕ) → Answer → Type 0) (rules : List ℕ) (answer : Answer)
     → Reads Gives (RulesOf RulesRefused) rules answer → Reads Gives (RulesOf (LexerOf IsFor)) rules answer
 rules_refused Gives IsFor rules answer (inl none) = inl none
 rules_refused Gives IsFor rules answer (inr (bytes, (gives, inl bad))) = inr (bytes, (gives, inl bad))
-rules_refused Gives IsFor rules answer (inr (bytes, (gives, inr (rs, (are, refused))))) = inr (bytes, (gives, inr (rs, (are, inl refused))))
+rules_refused Gives IsFor rules answer (inr (bytes, (gives, inr (modes, (rs, (say, refused)))))) = inr (bytes, (gives, inr (modes, (rs, (say, inl refused)))))
 
 pub by_terminals : (Gives : List ℕ → Given → Type 0) (IsFor : List Tree → List ℕ → Answer → Type 0) (rules : List ℕ) (ts : List Tree) (ps : List ℕ) (answer : Answer)
     → (bytes : List ℕ) × (Gives rules (Ok bytes) × HaveAutomaton bytes ts ps) → IsFor ts ps answer → Reads Gives (TerminalsOf IsFor) rules answer
@@ -33,16 +33,16 @@ terminals_refused Gives IsFor rules answer (inl none) = inl none
 terminals_refused Gives IsFor rules answer (inr (bytes, (gives, refused))) = inr (bytes, (gives, inl refused))
 
 -- the answer of the lexer of named rules was given
-pub lexer_answered : {W E : Type 0} (r : Result ℕ RunError) (Gives : List ℕ → Given → Type 0) (IsFor : RuleSet → Answer → Type 0) (rules : List ℕ) (set : RuleSet)
+pub lexer_answered : {W E : Type 0} (r : Result ℕ RunError) (Gives : List ℕ → Given → Type 0) (IsFor : ModeRules → List (List ℕ) → Answer → Type 0) (rules : List ℕ) (set : ModeRules) (modes : List (List ℕ))
     (written : W → Option (List ℕ)) (said : E → Option (List ℕ)) (o p : Watch W) (e m f : Watch E)
-    → (bytes : List ℕ) × (Gives rules (Ok bytes) × AreRulesOf bytes set) → m ≡ e
-    → IfOk r (λ status. (answer : Answer) × (IsFor set answer × Answered written said o p m f status answer))
+    → (bytes : List ℕ) × (Gives rules (Ok bytes) × AreRulesOf bytes set modes) → m ≡ e
+    → IfOk r (λ status. (answer : Answer) × (IsFor set modes answer × Answered written said o p m f status answer))
     → IfOk r (λ status. (answer : Answer) × (Reads Gives (RulesOf (LexerOf IsFor)) rules answer × Answered written said o p e f status answer))
-lexer_answered {W} {E} r Gives IsFor rules set written said o p e m f are quiet h =
+lexer_answered {W} {E} r Gives IsFor rules set modes written said o p e m f are quiet h =
     IfOk-weaker r _ _
     (λ status x. (
       x.0,
-      (by_lexer Gives IsFor rules set x.0 are x.1.0, subst (λ (w : Watch E). Answered written said o p w f status x.0) quiet x.1.1),
+      (by_lexer Gives IsFor rules set modes x.0 are x.1.0, subst (λ (w : Watch E). Answered written said o p w f status x.0) quiet x.1.1),
     ))
     h
 

@@ -1,5 +1,5 @@
 -- Errors of rules and of terminals, and the lines of which they speak.
-use Rattle.std.proofs.Common.{◌≡◌, ℕ, zero, suc, ◌+◌, ◌-◌, ◌*◌, ◌<◌, ◌≤◌, Bool, true, false, List, [], ◌∷◌, ◌++◌, length, take, refl, sym, ap, subst, ◌∙◌, arith, length-append, length-take}
+use Rattle.std.proofs.Common.{◌≡◌, ℕ, zero, suc, ◌+◌, ◌-◌, ◌*◌, ◌<◌, ◌≤◌, Bool, true, false, List, [], ◌∷◌, ◌++◌, inl, inr, length, map, take, Contains, refl, sym, ap, subst, ◌∙◌, arith, length-append, length-take}
 use Rattle.std.specs.Prelude.{◌==◌, if◌then◌else◌, Option, Some, None, option_map, slice_get, unwrap_or}
 use Rattle.std.specs.Str.{chars, chars_after, continuation_len, lead_bits, IsCharBoundary}
 use Rattle.std.proofs.lemmas.Option.{slice_get-get_or, slice_get-map, slice_get_within, unwrap_or-slice_get}
@@ -7,42 +7,30 @@ use Rattle.lalrpop_book.specs.Tree.{Tree}
 use Rattle.lalrpop_lexer.specs.Line.{LineSays}
 use Rattle.lalrpop_lexer.specs.Lines.{lines, begin_with}
 use Rattle.lalrpop_lexer.specs.Position.{position_of}
-use Rattle.lalrpop_lexer.specs.Spelled.{IsNotSpelled}
+use Rattle.lalrpop_grammar.specs.NamedPart.{NamedPart}
+use Rattle.lalrpop_rules.specs.RuleText.{IsSomePattern}
+use Rattle.lalrpop_rules.specs.declared.rule_text.RuleText.{RuleText}
+use Rattle.lalrpop_rules.specs.declared.rule_text.RuleText.TheVariants as texts
+use Rattle.lalrpop_rule_file.specs.RuleFile.{NamesMode as NamedInFile}
+use Rattle.lalrpop_rule_file.specs.declared.file_rule.FileRule.{FileRule}
 use Rattle.lalrpop_lexer.specs.Terminals.{AreTerminals, FirstSays}
-use Rattle.lalrpop_lexer.specs.declared.form.Form.{Form}
 use Rattle.lalrpop_lexer.specs.declared.position.Position.{Position}
 use Rattle.lalrpop_lexer.specs.declared.terminal_line.TerminalLine.{TerminalLine}
 use Rattle.lalrpop_lexer.proofs.Places.{column_within}
-use Rattle.lalrpop_rules.specs.RuleFile.{ArePlaces, IsPlace, without_return}
-use Rattle.lalrpop_rules.specs.RuleLine.{delimiter}
-use Rattle.lalrpop_rules.specs.RuleSet.{IsRulesError, forms_of}
-use Rattle.lalrpop_rules.specs.declared.error.RulesError.{RulesError}
-use Rattle.lalrpop_rules.specs.declared.error.RulesError.TheVariants as errors
+use Rattle.lalrpop_rules.specs.RuleSet.{IsNotParsed}
+use Rattle.lalrpop_modes.specs.ModeClashes.{IsModesFault}
+use Rattle.lalrpop_modes.specs.ModeSet.{IsModesError}
+use Rattle.lalrpop_modes.specs.Modes.{OneLeadsInto}
+use Rattle.lalrpop_modes.specs.declared.action.Action.{Action}
+use Rattle.lalrpop_modes.specs.declared.error.ModesError.{ModesError}
+use Rattle.lalrpop_modes.specs.declared.error.ModesError.TheVariants as errors
+use Rattle.lalrpop_modes.specs.declared.mode_rule.ModeRule.{ModeRule}
+use Rattle.tokens_lib.specs.Program.{AreFileRules}
+use Rattle.tokens_lib.specs.Internal.Faults.{CanBeSaid, NameOnly}
 use Rattle.lalrpop_rules.specs.declared.rule.Rule.{Rule}
-use Rattle.tokens_lib.specs.Reasons.{place_at, text_at}
-use Rattle.tokens_lib.specs.RuleClashes.{IsRuleFault}
+use Rattle.tokens_lib.specs.Reasons.{pattern_of, text_at}
 
 -- ---- lines are no longer than the bytes
-
-abbrev sizes : List (List ℕ) → ℕ
-sizes [] = 0
-sizes (line ∷ rest) = length line + sizes rest
-
-sizes-begin : (b : ℕ) (ls : List (List ℕ)) → sizes (begin_with b ls) ≡ suc (sizes ls)
-sizes-begin b [] = refl
-sizes-begin b (line ∷ rest) = omega arith
-
-sizes-lines : (bytes : List ℕ) → sizes (lines bytes) ≤ length bytes
-sizes-lines [] = omega arith
-sizes-lines (b ∷ bytes) = by (b == 10) (sizes-lines bytes)
-  where
-    by : (feed : Bool) → sizes (lines bytes) ≤ length bytes → sizes (if feed then [] ∷ lines bytes else begin_with b (lines bytes)) ≤ length (b ∷ bytes)
-    by true rest = omega (arith, rest)
-    by false rest = omega (arith, rest, sizes-begin b (lines bytes))
-
-one_of_sizes : (above : List (List ℕ)) (line : List ℕ) (below : List (List ℕ)) → length line ≤ sizes (above ++ line ∷ below)
-one_of_sizes [] line below = omega arith
-one_of_sizes (l ∷ above) line below = let rest = one_of_sizes above line below in omega (arith, rest)
 
 length-begin : (b : ℕ) (ls : List (List ℕ)) → length (begin_with b ls) ≤ suc (length ls)
 length-begin b [] = omega arith
@@ -55,15 +43,6 @@ length-lines (b ∷ bytes) = by (b == 10) (length-lines bytes)
     by : (feed : Bool) → length (lines bytes) ≤ length bytes → length (if feed then [] ∷ lines bytes else begin_with b (lines bytes)) ≤ length (b ∷ bytes)
     by true rest = omega (arith, rest)
     by false rest = omega (arith, rest, length-begin b (lines bytes))
-
-without_return-short : (line : List ℕ) → length (without_return line) ≤ length line
-without_return-short [] = omega arith
-without_return-short (b ∷ []) = by (b == 13)
-  where
-    by : (return : Bool) → length (if return then [] else b ∷ []) ≤ length (b ∷ [])
-    by true = omega arith
-    by false = omega arith
-without_return-short (b ∷ c ∷ bs) = let rest = without_return-short (c ∷ bs) in omega (arith, rest)
 
 -- ---- there are no more characters than bytes
 
@@ -78,83 +57,82 @@ unfolding chars
 few_chars [] = omega arith
 few_chars (b ∷ bs) = few_after (continuation_len b) (lead_bits b) bs
 
-column_behind : (text front : List ℕ) → (position_of text (length front)).column ≤ 1 + length front
-column_behind text front =
-    let before : List ℕ = take (length front) text in
-    omega (arith, column_within (chars before), few_chars before, length-take (length front) text)
-
 -- ---- rules
 
--- the rule whose text doesn't parse
-record IsThere (rs : List Rule) (i position : ℕ) : Type 0 where
-  rule : Rule
-  at : slice_get rs i ≡ Some rule
-  inside : IsCharBoundary rule.text.now position
+is_pattern : (text : RuleText) (inner : List ℕ) → IsSomePattern text inner → pattern_of text ≡ inner
+is_pattern (texts.Literal t) inner is = absurd is
+is_pattern (texts.Pattern t) inner is = is
+is_pattern (texts.PatternWith t parts) inner is = is
+is_pattern (texts.FromTo a b) inner is = absurd is
 
-abbrev shown : Rule → Form × List ℕ
-shown r = (r.form, r.text.now)
-
-rule_there : (rs : List Rule) (i position : ℕ) → IsNotSpelled (forms_of rs) i position → IsThere rs i position
-rule_there rs i position h = by (slice_get rs i) refl (sym (slice_get-map shown rs i) ∙ h.at)
+-- the text of the rule that doesn't parse is its pattern
+text_there : (rs : List Rule) (i position : ℕ) (h : IsNotParsed rs i position) → text_at rs i ≡ h.1.0
+text_there rs i position h = by (slice_get rs i) refl
   where
-    by : (o : Option Rule) → slice_get rs i ≡ o → option_map shown o ≡ Some (h.form, h.text) → IsThere rs i position
-    by None e same = absurd (cc)
-    by (Some r) e same =
-        let pair : shown r ≡ (h.form, h.text) = cc in
-        let text : h.text ≡ r.text.now = sym (ap (λ (x : Form × List ℕ). x.1) pair) in
-        record { rule = r; at = e; inside = subst (λ (t : List ℕ). IsCharBoundary t position) text h.points }
-
-text_there : (rs : List Rule) (i : ℕ) (r : Rule) → slice_get rs i ≡ Some r → text_at rs i ≡ r.text.now
-text_there rs i r e = ap (λ (o : Option Rule). unwrap_or (option_map (λ (q : Rule). q.text.now) o) []) e
-
-place_there : (places : List Position) (i : ℕ) → i < length places → slice_get places i ≡ Some (place_at places i)
-place_there places i within =
-    let none : Position = record { line = 1; column = 1 } in
-    slice_get-get_or places i none within ∙ ap (λ (p : Position). Some p) (sym (unwrap_or-slice_get places i none))
+    by : (o : Option Rule) → slice_get rs i ≡ o → text_at rs i ≡ h.1.0
+    by None e = let at = h.1.1.0.at in absurd (cc (at, e))
+    by (Some r) e =
+        let here : text_at rs i ≡ pattern_of r.text = ap (λ (o : Option Rule). unwrap_or (option_map (λ (q : Rule). pattern_of q.text) o) []) e in
+        let at : option_map (λ (q : Rule). q.text) (Some r) ≡ Some h.0 = ap (option_map (λ (q : Rule). q.text)) (sym e) ∙ h.1.1.0.at in
+        let same : r.text ≡ h.0 = cc (at) in
+        here ∙ ap pattern_of same ∙ is_pattern h.0 h.1.0 h.1.1.1
 
 -- it stops at a place in it
-pub stops_inside : (rs : List Rule) (i position : ℕ) → IsNotSpelled (forms_of rs) i position → IsCharBoundary (text_at rs i) position
-stops_inside rs i position h =
-    let t = rule_there rs i position h in
-    subst (λ (x : List ℕ). IsCharBoundary x position) (sym (text_there rs i t.rule t.at)) t.inside
+pub stops_inside : (rs : List Rule) (i position : ℕ) → IsNotParsed rs i position → IsCharBoundary (text_at rs i) position
+stops_inside rs i position h = subst (λ (x : List ℕ). IsCharBoundary x position) (sym (text_there rs i position h)) h.1.1.2
 
-place_room : (bytes : List ℕ) (before : List Rule) (rule : Rule) (place : Position) (position : ℕ) → IsPlace (lines bytes) before rule place
-    → place.column + length (chars (take position rule.text.now)) ≤ length bytes
-place_room bytes before rule place position h =
-    let at = h.is_column in
-    let text : List ℕ = rule.text.now in
-    let behind : List ℕ = text ++ (delimiter rule.form ∷ at.trail) in
-    let whole : length (without_return h.line) ≡ length at.front + (length text + suc (length at.trail)) =
-    ap length at.parts ∙ length-append at.front behind ∙ ap (λ (n : ℕ). length at.front + n) (length-append text (delimiter rule.form ∷ at.trail)) in
-    let all : length h.line ≤ length bytes =
-    omega (arith, one_of_sizes h.above h.line h.below, sizes-lines bytes, ap sizes h.parts) in
-    omega (
-      arith,
-      whole,
-      all,
-      at.counted,
-      column_behind (without_return h.line) at.front,
-      without_return-short h.line,
-      few_chars (take position text),
-      length-take position text,
-    )
+-- ---- modes
 
--- and its column is no greater than the number of bytes
-pub column_room : (bytes : List ℕ) (rs : List Rule) (places : List Position) (i position : ℕ) → ArePlaces (lines bytes) rs places → IsNotSpelled (forms_of rs) i position
-    → (place_at places i).column + length (chars (take position (text_at rs i))) ≤ length bytes
-column_room bytes rs places i position are h =
-    let t = rule_there rs i position h in
-    let within : i < length places = omega (arith, slice_get_within rs i t.rule t.at, are.one_each) in
-    let place = are.each i t.rule (place_at places i) t.at (place_there places i within) in
-    subst (λ (x : List ℕ). (place_at places i).column + length (chars (take position x)) ≤ length bytes) (sym (text_there rs i t.rule t.at))
-    (place_room bytes (take i rs) t.rule (place_at places i) position place)
+-- a file names no mode that it hasn't
+no_other_mode : (rs : List ModeRule) (n i m : ℕ) → NameOnly rs n → ¬ IsModesError rs n (errors.NoSuchMode i m)
+no_other_mode rs n i m within is = let below = within i m is.1.0 is.1.1.0 is.1.1.1 in omega (arith, below, is.0)
 
--- an error that isn't a clash is an error
-pub fault_is_error : (rs : List Rule) (error : RulesError) → IsRuleFault rs error → IsRulesError rs error
-fault_is_error rs (errors.NotParsed i position kind) h = h
-fault_is_error rs (errors.NotCompiled i e) h = h
-fault_is_error rs (errors.Clash i j w) h = absurd h
-fault_is_error rs errors.OutOfMemory h = h
+-- what a file of rules names is what a lexer takes
+rule_named : (ps : List NamedPart) (fs : List FileRule) (rs : List ModeRule) (n : ℕ) → AreFileRules ps fs rs
+    → ((i m : ℕ) (f : FileRule) → slice_get fs i ≡ Some f → NamedInFile f m → m < n) → NameOnly rs n
+rule_named ps fs rs n are within i m q at names = by (slice_get fs i) refl
+  where
+    modes_at : option_map (λ (f : FileRule). f.modes.items) (slice_get fs i) ≡ Some q.modes.now
+    modes_at =
+        sym (slice_get-map (λ (f : FileRule). f.modes.items) fs i) ∙ ap (λ (l : List (List ℕ)). slice_get l i) (sym are.modes)
+        ∙ slice_get-map (λ (r : ModeRule). r.modes.now) rs i ∙ ap (option_map (λ (r : ModeRule). r.modes.now)) at
+
+    actions_at : option_map (λ (f : FileRule). f.actions.items) (slice_get fs i) ≡ Some q.actions.now
+    actions_at =
+        sym (slice_get-map (λ (f : FileRule). f.actions.items) fs i) ∙ ap (λ (l : List (List Action)). slice_get l i) (sym are.actions)
+        ∙ slice_get-map (λ (r : ModeRule). r.actions.now) rs i ∙ ap (option_map (λ (r : ModeRule). r.actions.now)) at
+
+    by : (o : Option FileRule) → slice_get fs i ≡ o → m < n
+    by None e = absurd (cc (modes_at, e))
+    by (Some f) e =
+        let modes : f.modes.items ≡ q.modes.now = cc (modes_at, e) in
+        let actions : f.actions.items ≡ q.actions.now = cc (actions_at, e) in
+        within i m f e (elim names [
+          | inl member ↦ inl (subst (λ (l : List ℕ). Contains l m) (sym modes) member)
+          | inr leads ↦ inr (subst (λ (l : List Action). OneLeadsInto l m) (sym actions) leads)
+        ])
+
+pub names_only : (ps : List NamedPart) (fs : List FileRule) (rs : List ModeRule) (n : ℕ) → AreFileRules ps fs rs
+    → ((i m : ℕ) (f : FileRule) → slice_get fs i ≡ Some f → NamedInFile f m → m < n) → NameOnly rs n
+names_only ps fs rs n are within = rule_named ps fs rs n are within
+
+-- the error of a lexer can be said
+pub error_said : (rs : List ModeRule) (n : ℕ) (error : ModesError) → NameOnly rs n → IsModesError rs n error → CanBeSaid rs error
+error_said rs n (errors.NoSuchMode i m) within is = no_other_mode rs n i m within is
+error_said rs n (errors.NotParsed i position kind) within is = is.1
+error_said rs n (errors.BadEnd i e) within is = tt
+error_said rs n (errors.NotCompiled i e) within is = tt
+error_said rs n (errors.Clash m i j w) within is = tt
+error_said rs n errors.OutOfMemory within is = tt
+
+-- and one that isn't a clash
+pub fault_said : (rs : List ModeRule) (n : ℕ) (error : ModesError) → NameOnly rs n → IsModesFault rs n error → CanBeSaid rs error
+fault_said rs n (errors.NoSuchMode i m) within is = no_other_mode rs n i m within is
+fault_said rs n (errors.NotParsed i position kind) within is = is.1
+fault_said rs n (errors.BadEnd i e) within is = tt
+fault_said rs n (errors.NotCompiled i e) within is = tt
+fault_said rs n (errors.Clash m i j w) within is = tt
+fault_said rs n errors.OutOfMemory within is = tt
 
 -- ---- terminals
 

@@ -4,21 +4,22 @@ use Rattle.std.specs.Prelude.{nat_lt, length, map, Bool, Option, Some, None, cod
 use Rattle.lalrpop_book.specs.Clashes.{Entry}
 use Rattle.lalrpop_book.specs.Tree.{Tree}
 use Rattle.lalrpop_lexer.specs.Lines.{lines}
-use Rattle.lalrpop_rules.specs.RuleFile.{without_mark}
-use Rattle.lalrpop_rules.specs.RuleSet.{RuleSet}
-use Rattle.lalrpop_rules.specs.declared.error.RulesError.{RulesError}
-use Rattle.lalrpop_rules.specs.declared.error.RulesError.TheVariants as errors
-use Rattle.lalrpop_rules.specs.declared.rule.Rule.{Rule}
+use Rattle.lalrpop_rule_file.specs.RuleFile.{without_mark}
+use Rattle.lalrpop_modes.specs.Modes.{ModeRules}
+use Rattle.lalrpop_modes.specs.declared.error.ModesError.{ModesError}
+use Rattle.lalrpop_modes.specs.declared.error.ModesError.TheVariants as errors
+use Rattle.lalrpop_modes.specs.declared.mode_rule.ModeRule.{ModeRule}
 use Rattle.lexdfa_lib.specs.Status.{outcome_status}
 use Rattle.lexdfa_lib.specs.declared.outcome.Outcome.{Outcome}
 use Rattle.lexdfa_lib.specs.declared.outcome.Outcome.TheVariants as outcomes
 use Rattle.tokens_lib.specs.Answer.{Answer, Reads, TextOf, FilesAnswer, TextsAnswer}
 use Rattle.tokens_lib.specs.Program.{rules_status, RulesOf, LexerOf, clashes_status, ClashesAnswer, TerminalsOf, reported_status, TerminalClashesAnswer, ActionAnswer, CommandAnswer}
 use Rattle.tokens_lib.specs.Streams.{Given}
-use Rattle.tokens_lib.specs.TextAnswer.{fault_status, TokensAnswer, PiecesAnswer, PageAnswer}
+use Rattle.tokens_lib.specs.TextAnswer.{fault_status, end_status, TokensAnswer, PiecesAnswer, PageAnswer}
 use Rattle.tokens_lib.specs.declared.command.Command.{Command}
 use Rattle.tokens_lib.specs.declared.command.Markup.{Markup}
 use Rattle.tokens_lib.specs.declared.layout.LineForm.{LineForm}
+use Rattle.tokens_lib.specs.declared.text_end.OpenMode.{OpenMode}
 use Rattle.tokens_lib.specs.declared.command.Action.{Action}
 use Rattle.tokens_lib.specs.declared.command.Action.TheVariants.{Cut, Show, CutByTerminals, Clashes, TerminalClashes}
 use Rattle.tokens_lib.specs.declared.command.Command.TheVariants.{Help, Version, Run}
@@ -33,10 +34,17 @@ fault_low : (fault : Option ℕ) → fault_status fault ≤ 6
 fault_low None = omega arith
 fault_low (Some at) = omega arith
 
-rules_low : (error : RulesError) → rules_status error ≤ 6
+end_low : (fault : Option ℕ) (inside : Option OpenMode) → end_status fault inside ≤ 6
+end_low None None = omega arith
+end_low None (Some o) = omega arith
+end_low (Some at) inside = omega arith
+
+rules_low : (error : ModesError) → rules_status error ≤ 6
+rules_low (errors.NoSuchMode i m) = omega arith
 rules_low (errors.NotParsed i position kind) = omega arith
+rules_low (errors.BadEnd i e) = omega arith
 rules_low (errors.NotCompiled i e) = omega arith
-rules_low (errors.Clash i j w) = omega arith
+rules_low (errors.Clash m i j w) = omega arith
 rules_low errors.OutOfMemory = omega arith
 
 outcome_low : (outcome : Outcome) → outcome_status outcome ≤ 6
@@ -77,28 +85,30 @@ texts_low Gives InputGives IsFor [] answer each reads =
     reads_low (λ file. InputGives) (TextOf IsFor) (codes "<stdin>") answer (λ bytes a is. text_low IsFor (codes "<stdin>") bytes a each is) reads
 texts_low Gives InputGives IsFor (file ∷ files) answer each is = files_low Gives IsFor (file ∷ files) answer each is
 
-rules_of_low : (IsFor : List ℕ → List (List ℕ) → List Rule → Answer → Type 0) (file bytes : List ℕ) (answer : Answer)
-    → ((ls : List (List ℕ)) (rs : List Rule) (a : Answer) → IsFor file ls rs a → IsLow a) → RulesOf IsFor file bytes answer → IsLow answer
+rules_of_low : (IsFor : List ℕ → List (List ℕ) → List (List ℕ) → List ModeRule → Answer → Type 0) (file bytes : List ℕ) (answer : Answer)
+    → ((ls modes : List (List ℕ)) (rs : List ModeRule) (a : Answer) → IsFor file ls modes rs a → IsLow a) → RulesOf IsFor file bytes answer → IsLow answer
 rules_of_low IsFor file bytes answer each (inl (error, (is, (known, (rest, e))))) = low answer _ e (omega arith)
-rules_of_low IsFor file bytes answer each (inr (rs, (are, is))) = each (lines (without_mark bytes)) rs answer is
+rules_of_low IsFor file bytes answer each (inr (modes, (rs, (say, is)))) = each (lines (without_mark bytes)) modes rs answer is
 
-lexer_low : (IsFor : RuleSet → Answer → Type 0) (file : List ℕ) (ls : List (List ℕ)) (rs : List Rule) (answer : Answer)
-    → ((set : RuleSet) (a : Answer) → IsFor set a → IsLow a) → LexerOf IsFor file ls rs answer → IsLow answer
-lexer_low IsFor file ls rs answer each (inl (error, (is, (places, (are, (said, (says, e))))))) = low answer _ e (rules_low error)
-lexer_low IsFor file ls rs answer each (inr (set, (is, done))) = each set answer done
+lexer_low : (IsFor : ModeRules → List (List ℕ) → Answer → Type 0) (file : List ℕ) (ls modes : List (List ℕ)) (rs : List ModeRule) (answer : Answer)
+    → ((set : ModeRules) (names : List (List ℕ)) (a : Answer) → IsFor set names a → IsLow a) → LexerOf IsFor file ls modes rs answer → IsLow answer
+lexer_low IsFor file ls modes rs answer each (inl (error, (is, (places, (are, (said, (says, e))))))) = low answer _ e (rules_low error)
+lexer_low IsFor file ls modes rs answer each (inr (set, (is, done))) = each set modes answer done
 
-by_rules_low : (Gives : List ℕ → Given → Type 0) (IsFor : RuleSet → Answer → Type 0) (rules : List ℕ) (answer : Answer)
-    → ((set : RuleSet) (a : Answer) → IsFor set a → IsLow a) → Reads Gives (RulesOf (LexerOf IsFor)) rules answer → IsLow answer
+by_rules_low : (Gives : List ℕ → Given → Type 0) (IsFor : ModeRules → List (List ℕ) → Answer → Type 0) (rules : List ℕ) (answer : Answer)
+    → ((set : ModeRules) (names : List (List ℕ)) (a : Answer) → IsFor set names a → IsLow a) → Reads Gives (RulesOf (LexerOf IsFor)) rules answer → IsLow answer
 by_rules_low Gives IsFor rules answer each reads =
-    reads_low Gives (RulesOf (LexerOf IsFor)) rules answer (λ bytes a is. rules_of_low (LexerOf IsFor) rules bytes a (λ ls rs b said. lexer_low IsFor rules ls rs b each said) is) reads
+    reads_low Gives (RulesOf (LexerOf IsFor)) rules answer
+    (λ bytes a is. rules_of_low (LexerOf IsFor) rules bytes a (λ ls modes rs b said. lexer_low IsFor rules ls modes rs b each said) is) reads
 
-clashes_low : (cs : List Entry) → clashes_status cs ≤ 6
+clashes_low : (css : List (List Entry)) → clashes_status css ≤ 6
 clashes_low [] = omega arith
-clashes_low (c ∷ cs) = omega arith
+clashes_low ([] ∷ css) = clashes_low css
+clashes_low ((c ∷ cs) ∷ css) = omega arith
 
-list_low : (file : List ℕ) (ls : List (List ℕ)) (rs : List Rule) (answer : Answer) → ClashesAnswer file ls rs answer → IsLow answer
-list_low file ls rs answer (inl (error, (is, (places, (are, (said, (says, e))))))) = low answer _ e (rules_low error)
-list_low file ls rs answer (inr (cs, (are, e))) = low answer _ e (clashes_low cs)
+list_low : (file : List ℕ) (ls modes : List (List ℕ)) (rs : List ModeRule) (answer : Answer) → ClashesAnswer file ls modes rs answer → IsLow answer
+list_low file ls modes rs answer (inl (error, (is, (places, (are, (said, (says, e))))))) = low answer _ e (rules_low error)
+list_low file ls modes rs answer (inr (r, (css, (are, (clashes, e))))) = low answer _ e (clashes_low css)
 
 terminals_low : (IsFor : List Tree → List ℕ → Answer → Type 0) (file bytes : List ℕ) (answer : Answer)
     → ((ts : List Tree) (ps : List ℕ) (a : Answer) → IsFor ts ps a → IsLow a) → TerminalsOf IsFor file bytes answer → IsLow answer
@@ -115,20 +125,21 @@ terminal_list_low file bytes answer (reported, (are, (e, said))) = let l = repor
 tokens_low : (ts : List Tree) (ps : List ℕ) (places : Bool) (name text : List ℕ) (answer : Answer) → TokensAnswer ts ps places name text answer → IsLow answer
 tokens_low ts ps places name text answer (xs, (are, e)) = low answer _ e (fault_low _)
 
-pieces_low : (set : RuleSet) (form : LineForm) (recovers several : Bool) (name text : List ℕ) (answer : Answer) → PiecesAnswer set form recovers several name text answer → IsLow answer
-pieces_low set form recovers several name text answer (xs, (are, e)) = low answer _ e (fault_low _)
+pieces_low : (set : ModeRules) (modes : List (List ℕ)) (form : LineForm) (recovers several : Bool) (name text : List ℕ) (answer : Answer)
+    → PiecesAnswer set modes form recovers several name text answer → IsLow answer
+pieces_low set modes form recovers several name text answer (xs, (end, (are, e))) = low answer _ e (end_low _ _)
 
-page_low : (set : RuleSet) (markup : Markup) (name text : List ℕ) (answer : Answer) → PageAnswer set markup name text answer → IsLow answer
-page_low set markup name text answer (xs, (are, e)) = low answer _ e (fault_low _)
+page_low : (set : ModeRules) (modes : List (List ℕ)) (markup : Markup) (name text : List ℕ) (answer : Answer) → PageAnswer set modes markup name text answer → IsLow answer
+page_low set modes markup name text answer (xs, (end, (are, e))) = low answer _ e (end_low _ _)
 
 action_low : (Gives : List ℕ → Given → Type 0) (InputGives : Given → Type 0) (action : Action) (rules : List ℕ) (files : List (List ℕ)) (answer : Answer)
     → ActionAnswer Gives (TextsAnswer Gives InputGives) action rules files answer → IsLow answer
 action_low Gives InputGives (Cut form recovers) rules files answer is =
-    by_rules_low Gives (λ set. TextsAnswer Gives InputGives (PiecesAnswer set form recovers (nat_lt 1 (length files))) files) rules answer
-    (λ set a texts. texts_low Gives InputGives (PiecesAnswer set form recovers (nat_lt 1 (length files))) files a (pieces_low set form recovers (nat_lt 1 (length files))) texts) is
+    by_rules_low Gives (λ set modes. TextsAnswer Gives InputGives (PiecesAnswer set modes form recovers (nat_lt 1 (length files))) files) rules answer
+    (λ set modes a texts. texts_low Gives InputGives (PiecesAnswer set modes form recovers (nat_lt 1 (length files))) files a (pieces_low set modes form recovers (nat_lt 1 (length files))) texts) is
 action_low Gives InputGives (Show markup) rules files answer is =
-    by_rules_low Gives (λ set. TextsAnswer Gives InputGives (PageAnswer set markup) files) rules answer
-    (λ set a texts. texts_low Gives InputGives (PageAnswer set markup) files a (page_low set markup) texts) is
+    by_rules_low Gives (λ set modes. TextsAnswer Gives InputGives (PageAnswer set modes markup) files) rules answer
+    (λ set modes a texts. texts_low Gives InputGives (PageAnswer set modes markup) files a (page_low set modes markup) texts) is
 action_low Gives InputGives (CutByTerminals places) rules files answer is =
     let IsFor : List Tree → List ℕ → Answer → Type 0 = λ ts ps. TextsAnswer Gives InputGives (TokensAnswer ts ps places) files in
     reads_low Gives (TerminalsOf IsFor) rules answer

@@ -1,28 +1,32 @@
 -- The answer for a text, by what was written for it and what came of it.
-use Rattle.std.proofs.Common.{◌≡◌, ℕ, Bool, true, false, List, [], flat_map, refl, sym, ap, subst, ◌∙◌}
+use Rattle.std.proofs.Common.{Global, ◌≡◌, ℕ, Bool, true, false, List, [], map, string_bytes, refl, sym, ap, subst, ◌∙◌}
 use Rattle.std.specs.Prelude.{Option, Some, None, Result, option_map, codes, if◌then◌else◌}
 use Rattle.std.specs.Bool.{then_some}
 use Rattle.std.specs.Borrow.{Bor}
+use Rattle.std.specs.Prelude.{String}
 use Rattle.std.specs.Io.KnownBytes.{Appends}
 use Rattle.lalrpop_book.specs.Tree.{Tree}
 use Rattle.lalrpop_book.specs.declared.token.Token.{Token}
 use Rattle.lalrpop_book.specs.declared.token.TokenFault.{TokenFault}
-use Rattle.lalrpop_rules.specs.RuleSet.{RuleSet}
+use Rattle.lalrpop_modes.specs.Modes.{ModeRules}
+use Rattle.lalrpop_modes.specs.Stack.{Stack, start}
 use Rattle.lalrpop_rules.specs.declared.item.Item.{Item}
 use Rattle.lexdfa_lib.specs.Watch.{Watch}
 use Rattle.lexdfa_lib.specs.declared.outcome.Outcome.{Outcome}
 use Rattle.lexdfa_lib.specs.declared.outcome.Outcome.TheVariants as outcomes
 use Rattle.tokens_lib.specs.Answer.{Answer, Answered}
 use Rattle.tokens_lib.specs.Streams.{Takes}
-use Rattle.tokens_lib.specs.ItemLines.{piece_line, first_fault, WritesItems}
+use Rattle.tokens_lib.specs.ItemLines.{end_of, name_at, piece_lines, WritesItems}
 use Rattle.tokens_lib.specs.PageWritten.{page_of, WritesPage}
 use Rattle.lines_lib.specs.TokenLines.{text_lines, outcome_behind, WritesTokens}
-use Rattle.tokens_lib.specs.TextAnswer.{fault_text, stop_text, fault_status, stop_of, TokensAnswer, PiecesAnswer, PageAnswer}
-use Rattle.tokens_lib.specs.Internal.Tasks.{ending_status, ending_text, IsTokensEnding, IsPiecesEnding, IsStop, IsDone}
+use Rattle.tokens_lib.specs.TextAnswer.{fault_text, open_text, stop_text, fault_status, end_status, end_text, stop_of, TokensAnswer, PiecesAnswer, PageAnswer}
+use Rattle.tokens_lib.specs.Internal.Tasks.{ending_status, ending_text, IsTokensEnding, IsPiecesEnding, IsStop, IsOpen, IsDone}
 use Rattle.tokens_lib.specs.declared.command.Markup.{Markup}
 use Rattle.tokens_lib.specs.declared.cut_files.CutResult.{CutResult}
-use Rattle.tokens_lib.specs.declared.cut_files.CutResult.TheVariants.{Whole, Faulty, Stopped}
+use Rattle.tokens_lib.specs.declared.cut_files.CutResult.TheVariants.{Whole, Faulty, Stopped, Open}
 use Rattle.tokens_lib.specs.declared.layout.LineForm.{LineForm}
+use Rattle.tokens_lib.specs.declared.text_end.OpenMode.{OpenMode}
+use Rattle.tokens_lib.specs.declared.text_end.TextEnd.{TextEnd}
 
 -- the name, if it is wanted
 pub then_some-now : (wanted : Bool) (name : Bor (List ℕ)) → option_map (λ (f : Bor (List ℕ)). f.now) (then_some wanted name) ≡ then_some wanted name.now
@@ -41,6 +45,7 @@ ends_whole file text ending is = (ap ending_status (sym is), ap (ending_text fil
 ends_stopped : (kind file text : List ℕ) (at : ℕ) (ending : CutResult) → IsStop kind at ending → Ends file text 1 (fault_text kind file text at) ending
 ends_stopped kind file text at Whole is = absurd is
 ends_stopped kind file text at Faulty is = absurd is
+ends_stopped kind file text at (Open mode there) is = absurd is
 ends_stopped kind file text at (Stopped told there) is =
     (refl, ap (λ (k : List ℕ). fault_text k file text at) (sym is.0) ∙ ap (λ (n : ℕ). fault_text told.now file text n) (sym is.1))
 
@@ -55,12 +60,23 @@ tokens_end file text (outcomes.Ambiguous i j w) ending is = ends_whole file text
 tokens_end file text (outcomes.Syntax i) ending is = ends_whole file text ending is
 tokens_end file text (outcomes.Line i) ending is = ends_whole file text ending is
 
-pieces_end : (file text : List ℕ) (recovers : Bool) (fault : Option ℕ) (ending : CutResult) → IsPiecesEnding recovers fault ending
-    → Ends file text (fault_status fault) (stop_text (codes "rule") file text (if recovers then None else fault)) ending
-pieces_end file text true None ending is = ends_whole file text ending is
-pieces_end file text false None ending is = ends_whole file text ending is
-pieces_end file text true (Some at) ending is = (ap ending_status (sym is), ap (ending_text file text) (sym is))
-pieces_end file text false (Some at) ending is = ends_stopped (codes "rule") file text at ending is
+ends_open : (mode file text : List ℕ) (at : ℕ) (ending : CutResult) → IsOpen mode at ending → Ends file text 1 (open_text mode file text at) ending
+ends_open mode file text at Whole is = absurd is
+ends_open mode file text at Faulty is = absurd is
+ends_open mode file text at (Stopped told there) is = absurd is
+ends_open mode file text at (Open told there) is =
+    (refl, ap (λ (m : List ℕ). open_text m file text at) (sym is.0) ∙ ap (λ (n : ℕ). open_text told.now file text n) (sym is.1))
+
+pieces_end : (modes : List (List ℕ)) (file text : List ℕ) (recovers : Bool) (fault : Option ℕ) (inside : Option OpenMode) (ending : CutResult)
+    → IsPiecesEnding recovers modes fault inside ending
+    → Ends file text (end_status fault inside) (end_text modes file text (if recovers then None else fault) inside) ending
+pieces_end modes file text true None None ending is = ends_whole file text ending is
+pieces_end modes file text false None None ending is = ends_whole file text ending is
+pieces_end modes file text true (Some at) None ending is = (ap ending_status (sym is), ap (ending_text file text) (sym is))
+pieces_end modes file text true None (Some o) ending is = ends_open (name_at modes o.mode) file text o.at ending is
+pieces_end modes file text true (Some at) (Some o) ending is = ends_open (name_at modes o.mode) file text o.at ending is
+pieces_end modes file text false None (Some o) ending is = ends_open (name_at modes o.mode) file text o.at ending is
+pieces_end modes file text false (Some at) inside ending is = ends_stopped (codes "rule") file text at ending is
 
 -- ---- the answers
 
@@ -71,15 +87,19 @@ tokens_told places file text xs = record {
   err = stop_text (codes "terminal") file text (stop_of (outcome_behind 0 xs));
 }
 
-abbrev pub pieces_told : RuleSet → LineForm → Bool → Bool → List ℕ → List ℕ → List Item → Answer
-pieces_told rules form recovers several file text xs = record {
-  status = fault_status (first_fault xs);
-  out = flat_map (piece_line form recovers (then_some several file) rules.names text) xs;
-  err = stop_text (codes "rule") file text (if recovers then None else first_fault xs);
+abbrev pub pieces_told : ModeRules → List (List ℕ) → LineForm → Bool → Bool → List ℕ → List ℕ → List Item → Stack → Answer
+pieces_told rules modes form recovers several file text xs end = record {
+  status = end_status (end_of rules xs end).fault (end_of rules xs end).inside;
+  out = piece_lines form recovers (then_some several file) modes rules text start xs;
+  err = end_text modes file text (if recovers then None else (end_of rules xs end).fault) (end_of rules xs end).inside;
 }
 
-abbrev pub page_told : RuleSet → Markup → List Item → Answer
-page_told rules markup xs = record { status = fault_status (first_fault xs); out = page_of markup rules.names xs; err = [] }
+abbrev pub page_told : ModeRules → List (List ℕ) → Markup → List ℕ → List ℕ → List Item → Stack → Answer
+page_told rules modes markup file text xs end = record {
+  status = end_status (end_of rules xs end).fault (end_of rules xs end).inside;
+  out = page_of markup rules.names xs;
+  err = end_text modes file text None (end_of rules xs end).inside;
+}
 
 -- ---- what was done
 
@@ -106,30 +126,33 @@ tokens_done ts ps places name text held held_now outcome ending (xs, (are, (e, a
       ),
     )
 
-pub pieces_done : (rules : RuleSet) (form : LineForm) (recovers several : Bool) (name : Bor (List ℕ)) (text : List ℕ) (held held_now : Option (List ℕ)) (fault : Option ℕ) (ending : CutResult)
-    → WritesItems rules (record { form = form; recovers = recovers; file = then_some several name }) text held held_now fault → IsPiecesEnding recovers fault ending
-    → Does (PiecesAnswer rules form recovers several) name.now text held held_now ending
-pieces_done rules form recovers several name text held held_now fault ending (xs, (are, (e, appends))) is =
-    let ends = pieces_end name.now text recovers (first_fault xs) ending (subst (λ (o : Option ℕ). IsPiecesEnding recovers o ending) e is) in (
-      pieces_told rules form recovers several name.now text xs,
+pub pieces_done : (rules : ModeRules) (modes : Bor (List (String Global))) (form : LineForm) (recovers several : Bool) (name : Bor (List ℕ)) (text : List ℕ) (held held_now : Option (List ℕ))
+    (ended : TextEnd) (ending : CutResult)
+    → WritesItems rules (record { form = form; recovers = recovers; file = then_some several name; modes = modes }) text held held_now ended
+    → IsPiecesEnding recovers (map string_bytes modes.now) ended.fault ended.inside ending
+    → Does (PiecesAnswer rules (map string_bytes modes.now) form recovers several) name.now text held held_now ending
+pieces_done rules modes form recovers several name text held held_now ended ending (xs, (end, (are, (e, appends)))) is =
+    let names = map string_bytes modes.now in
+    let ends = pieces_end names name.now text recovers (end_of rules xs end).fault (end_of rules xs end).inside ending (subst (λ (o : TextEnd). IsPiecesEnding recovers names o.fault o.inside ending) e is) in (
+      pieces_told rules names form recovers several name.now text xs end,
       (
-        (xs, (are, refl)),
+        (xs, (end, (are, refl))),
         (
-          flat_map (piece_line form recovers (then_some several name.now) rules.names text) xs,
+          piece_lines form recovers (then_some several name.now) names rules text start xs,
           (
             record { status = ends.0; written = refl; said = ends.1 },
-            subst (λ (file : Option (List ℕ)). Appends held held_now (flat_map (piece_line form recovers file rules.names text) xs)) (then_some-now several name) appends,
+            subst (λ (file : Option (List ℕ)). Appends held held_now (piece_lines form recovers file names rules text start xs)) (then_some-now several name) appends,
           ),
         ),
       ),
     )
 
-pub page_done : (rules : RuleSet) (markup : Markup) (name : Bor (List ℕ)) (text : List ℕ) (held held_now : Option (List ℕ)) (fault : Option ℕ) (ending : CutResult)
-    → WritesPage rules markup text held held_now fault → IsPiecesEnding true fault ending → Does (PageAnswer rules markup) name.now text held held_now ending
-page_done rules markup name text held held_now fault ending (xs, (are, (e, appends))) is =
-    let ends = pieces_end name.now text true (first_fault xs) ending (subst (λ (o : Option ℕ). IsPiecesEnding true o ending) e is) in (
-      page_told rules markup xs,
-      ((xs, (are, refl)), (page_of markup rules.names xs, (record { status = ends.0; written = refl; said = ends.1 }, appends))),
+pub page_done : (rules : ModeRules) (modes : List (List ℕ)) (markup : Markup) (name : Bor (List ℕ)) (text : List ℕ) (held held_now : Option (List ℕ)) (ended : TextEnd) (ending : CutResult)
+    → WritesPage rules markup text held held_now ended → IsPiecesEnding true modes ended.fault ended.inside ending → Does (PageAnswer rules modes markup) name.now text held held_now ending
+page_done rules modes markup name text held held_now ended ending (xs, (end, (are, (e, appends)))) is =
+    let ends = pieces_end modes name.now text true (end_of rules xs end).fault (end_of rules xs end).inside ending (subst (λ (o : TextEnd). IsPiecesEnding true modes o.fault o.inside ending) e is) in (
+      page_told rules modes markup name.now text xs end,
+      ((xs, (end, (are, refl))), (page_of markup rules.names xs, (record { status = ends.0; written = refl; said = ends.1 }, appends))),
     )
 
 -- ---- the answer was given

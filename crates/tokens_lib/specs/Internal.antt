@@ -1,3 +1,5 @@
 -- What private functions promise one another.
+pub mod Code
+pub mod CutTexts
 pub mod Faults
 pub mod Tasks

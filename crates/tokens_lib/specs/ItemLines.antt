@@ -1,22 +1,24 @@
 -- cases: proofs/Cases/ItemLines.antt
 -- What is written for a text that named rules cut.
-use Rattle.std.specs.Prelude.{◌≡◌, ℕ, ◌+◌, Bool, true, false, List, [], ◌∷◌, ◌++◌, length, drop, Option, Some, None, option_map, unwrap_or, slice_get, codes, decimal, flat_map}
+use Rattle.std.specs.Prelude.{◌≡◌, ℕ, ◌+◌, nat_lt, Bool, true, false, List, [], ◌∷◌, ◌++◌, length, drop, map, Option, Some, None, option_map, unwrap_or, slice_get, codes, decimal, string_bytes}
+use Rattle.std.specs.Bool.{then_some}
 use Rattle.std.specs.Io.KnownBytes.{Appends}
 use Rattle.json.specs.Token as json
 use Rattle.json.specs.Print.{print}
-use Rattle.lalrpop_book.specs.Tree.{Tree}
-use Rattle.lalrpop_book.specs.Chain.{Chain, AtEnd}
 use Rattle.lalrpop_lexer.specs.Position.{position_of}
 use Rattle.lalrpop_lexer.specs.declared.position.Position.{Position}
-use Rattle.lalrpop_rules.specs.Pieces.{IsPiece, ArePieces, slice_of}
-use Rattle.lalrpop_rules.specs.RuleSet.{RuleSet}
+use Rattle.lalrpop_modes.specs.Modes.{ModeRules, trees_in, after, ArePiecesFrom}
+use Rattle.lalrpop_modes.specs.Stack.{Stack, start as first_stack}
+use Rattle.lalrpop_rules.specs.Pieces.{IsPiece, slice_of}
 use Rattle.lalrpop_rules.specs.declared.item.Item.{Item}
 use Rattle.lalrpop_rules.specs.declared.item.Item.TheVariants.{Token, Skipped, Fault}
 use Rattle.lexdfa_lib.specs.Watch.{AppendsPrefix}
 use Rattle.lalrpop_lexer.specs.Quoted.{quoted}
+use Rattle.tokens_lib.specs.OpenModes.{open_behind, open_mode}
 use Rattle.tokens_lib.specs.declared.layout.Layout.{Layout}
 use Rattle.tokens_lib.specs.declared.layout.LineForm.{LineForm}
 use Rattle.tokens_lib.specs.declared.layout.LineForm.TheVariants.{Plain, Json}
+use Rattle.tokens_lib.specs.declared.text_end.TextEnd.{TextEnd}
 
 -- ---- a plain line
 
@@ -49,77 +51,102 @@ abbrev pub rule_member : Option (List ℕ) → List json.Token
 rule_member None = json.key (codes "rule") ∷ json.null ∷ []
 rule_member (Some name) = string_member (codes "rule") name
 
--- the object: where the piece begins, as a line, a column and an offset in bytes, where it ends, its rule and its slice
-abbrev pub object_of : Option (List ℕ) → Position → ℕ → Option (List ℕ) → List ℕ → List json.Token
-object_of file p start name slice =
+-- the mode, if it is named
+abbrev pub mode_member : Option (List ℕ) → List json.Token
+mode_member None = []
+mode_member (Some mode) = string_member (codes "mode") mode
+
+-- the object: where the piece begins, as a line, a column and an offset in bytes, where it ends, its rule, its mode and its slice
+abbrev pub object_of : Option (List ℕ) → Position → ℕ → Option (List ℕ) → Option (List ℕ) → List ℕ → List json.Token
+object_of file p start name mode slice =
     json.begin_object ∷ (file_member file
     ++ (number_member (codes "line") p.line ++ (number_member (codes "column") p.column
     ++ (number_member (codes "start") start ++ (number_member (codes "end") (start + length slice)
-    ++ (rule_member name ++ (string_member (codes "text") slice ++ json.end_object ∷ [])))))))
+    ++ (rule_member name ++ (mode_member mode ++ (string_member (codes "text") slice ++ json.end_object ∷ []))))))))
 
-abbrev pub json_line : Option (List ℕ) → Position → ℕ → Option (List ℕ) → List ℕ → List ℕ
-json_line file p start name slice = print (object_of file p start name slice) ++ codes "\n"
+abbrev pub json_line : Option (List ℕ) → Position → ℕ → Option (List ℕ) → Option (List ℕ) → List ℕ → List ℕ
+json_line file p start name mode slice = print (object_of file p start name mode slice) ++ codes "\n"
 
 -- ---- the line of a piece
 
-abbrev pub line_in : LineForm → Option (List ℕ) → Position → ℕ → Option (List ℕ) → List ℕ → List ℕ
-line_in Plain file p start name slice = plain_line file p name slice
-line_in Json file p start name slice = json_line file p start name slice
+-- only lines of JSON name the mode
+abbrev pub line_in : LineForm → Option (List ℕ) → Position → ℕ → Option (List ℕ) → Option (List ℕ) → List ℕ → List ℕ
+line_in Plain file p start name mode slice = plain_line file p name slice
+line_in Json file p start name mode slice = json_line file p start name mode slice
 
 -- the line of a piece that begins here in the text
-abbrev pub line_at : LineForm → Option (List ℕ) → List ℕ → ℕ → Option (List ℕ) → List ℕ → List ℕ
-line_at form file text start name slice = line_in form file (position_of text start) start name slice
+abbrev pub line_at : LineForm → Option (List ℕ) → List ℕ → ℕ → Option (List ℕ) → Option (List ℕ) → List ℕ → List ℕ
+line_at form file text start name mode slice = line_in form file (position_of text start) start name mode slice
 
 -- a fault has a line only if cutting goes on after it
-abbrev pub fault_line : Bool → LineForm → Option (List ℕ) → List ℕ → ℕ → List ℕ → List ℕ
-fault_line true form file text start slice = line_at form file text start None slice
-fault_line false form file text start slice = []
+abbrev pub fault_line : Bool → LineForm → Option (List ℕ) → List ℕ → ℕ → Option (List ℕ) → List ℕ → List ℕ
+fault_line true form file text start mode slice = line_at form file text start None mode slice
+fault_line false form file text start mode slice = []
 
--- the name of a rule
+-- the name of a rule or of a mode
 abbrev pub name_at : List (List ℕ) → ℕ → List ℕ
 name_at names i = unwrap_or (slice_get names i) []
 
 -- a token has a line, a skipped piece has none
-abbrev pub piece_line : LineForm → Bool → Option (List ℕ) → List (List ℕ) → List ℕ → Item → List ℕ
-piece_line form recovers file names text (Token token) = line_at form file text token.start (Some (name_at names token.index)) token.slice.now
-piece_line form recovers file names text (Skipped token) = []
-piece_line form recovers file names text (Fault start slice) = fault_line recovers form file text start slice.now
+abbrev pub piece_line : LineForm → Bool → Option (List ℕ) → List (List ℕ) → Option (List ℕ) → List ℕ → Item → List ℕ
+piece_line form recovers file names mode text (Token token) = line_at form file text token.start (Some (name_at names token.index)) mode token.slice.now
+piece_line form recovers file names mode text (Skipped token) = []
+piece_line form recovers file names mode text (Fault start slice) = fault_line recovers form file text start mode slice.now
+
+-- the mode that a line names: none, unless there are several
+abbrev pub mode_named : List (List ℕ) → ℕ → Option (List ℕ)
+mode_named modes m = then_some (nat_lt 1 (length modes)) (name_at modes m)
 
 -- the same by a layout
-abbrev pub item_line : Layout → List (List ℕ) → List ℕ → Item → List ℕ
-item_line layout names text item = piece_line layout.form layout.recovers (option_map (λ f. f.now) layout.file) names text item
+abbrev pub item_line : Layout → List (List ℕ) → List ℕ → ℕ → Item → List ℕ
+item_line layout names text m x =
+    piece_line layout.form layout.recovers (option_map (λ f. f.now) layout.file) names (mode_named (map string_bytes layout.modes.now) m) text x
 
 -- ---- the lines of a text
 
--- how far a piece of the text reaches if the first fault ends all: over all that is left, so that nothing follows it
-abbrev pub size_to_fault : List ℕ → Item → ℕ
-size_to_fault text (Fault start slice) = length (drop start text)
-size_to_fault text x = length (slice_of x)
+-- the lines of pieces, from this stack of modes on: each is read in the mode on top
+abbrev pub piece_lines : LineForm → Bool → Option (List ℕ) → List (List ℕ) → ModeRules → List ℕ → Stack → List Item → List ℕ
+piece_lines form recovers file modes rules text s [] = []
+piece_lines form recovers file modes rules text s (x ∷ xs) =
+    piece_line form recovers file rules.names (mode_named modes s.mode) text x ++ piece_lines form recovers file modes rules text (after rules.actions x s) xs
 
--- the pieces of the text from a place on: to its end, or up to the first fault, which is then the last piece
-abbrev pub AreUpToFault : List Tree → List ℕ → List Bool → List ℕ → ℕ → List Item → Type 0
-AreUpToFault ts ps skips text = Chain (size_to_fault text) (IsPiece ts ps skips text) (AtEnd text)
+abbrev pub item_lines : Layout → ModeRules → List ℕ → List Item → List ℕ
+item_lines layout rules text xs =
+    piece_lines layout.form layout.recovers (option_map (λ f. f.now) layout.file) (map string_bytes layout.modes.now) rules text first_stack xs
 
--- the pieces that are cut: all of them if cutting goes on after a fault
-abbrev pub AreCut : Bool → RuleSet → List ℕ → List Item → Type 0
-AreCut true rules text xs = ArePieces rules.trees rules.precedences rules.skips text 0 xs
-AreCut false rules text xs = AreUpToFault rules.trees rules.precedences rules.skips text 0 xs
+-- the pieces of the text from a place and a stack on: to its end, or up to the first fault, which is then the last piece; and the stack there
+abbrev pub AreUpToFault : ModeRules → List ℕ → ℕ → Stack → List Item → Stack → Type 0
+AreUpToFault r text at s [] end = (drop at text ≡ []) × (end ≡ s)
+AreUpToFault r text at s (Token token ∷ xs) end =
+    IsPiece (trees_in r s.mode) r.precedences r.skips text at (Token token)
+    × AreUpToFault r text (at + length token.slice.now) (after r.actions (Token token) s) xs end
+AreUpToFault r text at s (Skipped token ∷ xs) end =
+    IsPiece (trees_in r s.mode) r.precedences r.skips text at (Skipped token)
+    × AreUpToFault r text (at + length token.slice.now) (after r.actions (Skipped token) s) xs end
+AreUpToFault r text at s (Fault begin slice ∷ xs) end =
+    IsPiece (trees_in r s.mode) r.precedences r.skips text at (Fault begin slice) × ((xs ≡ []) × (end ≡ s))
+
+-- the pieces that are cut, and the stack behind them: all pieces, if cutting goes on after a fault
+abbrev pub AreCut : Bool → ModeRules → List ℕ → List Item → Stack → Type 0
+AreCut true rules text xs end = ArePiecesFrom rules text 0 first_stack xs end
+AreCut false rules text xs end = AreUpToFault rules text 0 first_stack xs end
 
 -- where the first fault begins
 abbrev pub first_fault : List Item → Option ℕ
 first_fault [] = None
-first_fault (Fault start slice ∷ xs) = Some start
+first_fault (Fault begin slice ∷ xs) = Some begin
 first_fault (x ∷ xs) = first_fault xs
 
-abbrev pub item_lines : Layout → List (List ℕ) → List ℕ → List Item → List ℕ
-item_lines layout names text xs = flat_map (item_line layout names text) xs
+-- how a text ends that is cut into these pieces, with this stack behind them
+abbrev pub end_of : ModeRules → List Item → Stack → TextEnd
+end_of rules xs end = record { fault = first_fault xs; inside = open_mode end.mode (open_behind rules.actions xs []) }
 
--- a writer took exactly the lines of the pieces that are cut, and the first fault begins here
-abbrev pub WritesItems : RuleSet → Layout → List ℕ → Option (List ℕ) → Option (List ℕ) → Option ℕ → Type 0
-WritesItems rules layout text held held_now fault =
-    (xs : List Item) × (AreCut layout.recovers rules text xs × ((fault ≡ first_fault xs) × Appends held held_now (item_lines layout rules.names text xs)))
+-- a writer took exactly the lines of the pieces that are cut, and the text ends so
+abbrev pub WritesItems : ModeRules → Layout → List ℕ → Option (List ℕ) → Option (List ℕ) → TextEnd → Type 0
+WritesItems rules layout text held held_now ended =
+    (xs : List Item) × ((end : Stack) × (AreCut layout.recovers rules text xs end × ((ended ≡ end_of rules xs end) × Appends held held_now (item_lines layout rules text xs))))
 
 -- a writer took a prefix of these lines
-abbrev pub WritesItemsPrefix : RuleSet → Layout → List ℕ → Option (List ℕ) → Option (List ℕ) → Type 0
+abbrev pub WritesItemsPrefix : ModeRules → Layout → List ℕ → Option (List ℕ) → Option (List ℕ) → Type 0
 WritesItemsPrefix rules layout text held held_now =
-    (xs : List Item) × (AreCut layout.recovers rules text xs × AppendsPrefix held held_now (item_lines layout rules.names text xs))
+    (xs : List Item) × ((end : Stack) × (AreCut layout.recovers rules text xs end × AppendsPrefix held held_now (item_lines layout rules text xs)))

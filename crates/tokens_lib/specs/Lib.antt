@@ -2,6 +2,7 @@ pub mod Answer
 pub mod Arguments
 pub mod Command
 pub mod ItemLines
+pub mod OpenModes
 pub mod PageWritten
 pub mod Program
 pub mod Reasons

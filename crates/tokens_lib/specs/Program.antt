@@ -1,18 +1,22 @@
 -- cases: proofs/Cases/Program.antt
 -- The answer of the whole program, for its arguments, what the files give and what standard input gives.
-use Rattle.std.specs.Prelude.{◌≡◌, ℕ, ◌⊎◌, nat_lt, List, [], ◌∷◌, length, map, flat_map, Option, Some, None, codes}
-use Rattle.lalrpop_book.specs.Clash.{NoClash}
+use Rattle.std.specs.Prelude.{◌≡◌, ℕ, ◌⊎◌, nat_lt, List, [], ◌∷◌, length, map, Option, Some, None, codes}
 use Rattle.lalrpop_book.specs.Clashes.{Entry}
-use Rattle.lalrpop_book.specs.Report.{NoFault}
 use Rattle.lalrpop_book.specs.Tree.{Tree}
 use Rattle.lalrpop_lexer.specs.Lines.{lines}
 use Rattle.lalrpop_lexer.specs.declared.position.Position.{Position}
-use Rattle.lalrpop_rules.specs.RuleFile.{AreRules, ArePlaces, IsRuleFileError, without_mark}
-use Rattle.lalrpop_rules.specs.RuleSet.{RuleSet, AreTrees, IsRulesError, names_of, precedences_of, skips_of}
-use Rattle.lalrpop_rules.specs.declared.error.RulesError.{RulesError}
-use Rattle.lalrpop_rules.specs.declared.error.RulesError.TheVariants as rules_errors
-use Rattle.lalrpop_rules.specs.declared.rule.Rule.{Rule}
-use Rattle.lalrpop_rules.specs.declared.rule_file.error.RuleFileError.{RuleFileError}
+use Rattle.lalrpop_modes.specs.ModeClashes.{AreModeClashes, IsModesFault}
+use Rattle.lalrpop_modes.specs.ModeSet.{AreModeRules, IsModesError, rules_of}
+use Rattle.lalrpop_modes.specs.Modes.{ModeRules, NoModeClash}
+use Rattle.lalrpop_modes.specs.declared.error.ModesError.{ModesError}
+use Rattle.lalrpop_modes.specs.declared.error.ModesError.TheVariants.{NotParsed, BadEnd}
+use Rattle.lalrpop_modes.specs.declared.mode_rule.ModeRule.{ModeRule}
+use Rattle.lalrpop_rules.specs.RuleSet.{names_of}
+use Rattle.lalrpop_grammar.specs.NamedPart.{NamedPart}
+use Rattle.lalrpop_rule_file.specs.RuleFile as file
+use Rattle.lalrpop_rule_file.specs.RuleFile.{AreFileParts, AreRules, ArePlaces, IsRuleFileError, without_mark}
+use Rattle.lalrpop_rule_file.specs.declared.file_rule.FileRule.{FileRule}
+use Rattle.lalrpop_rule_file.specs.declared.error.RuleFileError.{RuleFileError}
 use Rattle.lexdfa_lib.specs.Answer.{HaveAutomaton, IsReported}
 use Rattle.lexdfa_lib.specs.Status.{outcome_status}
 use Rattle.lexdfa_lib.specs.declared.ending.Failure.{Failure}
@@ -25,7 +29,7 @@ use Rattle.lines_lib.specs.ClashesShown.{AreClashesShown}
 use Rattle.tokens_lib.specs.Arguments.{options, names}
 use Rattle.tokens_lib.specs.Command.{IsCommand, IsArgumentsError}
 use Rattle.tokens_lib.specs.Reasons.{SaysBadLine, SaysRules, SaysTerminals}
-use Rattle.tokens_lib.specs.RuleClashes.{AreRuleClashes, IsRuleFault, named_line}
+use Rattle.tokens_lib.specs.RuleClashes.{clash_lines}
 use Rattle.tokens_lib.specs.Streams.{Given}
 use Rattle.tokens_lib.specs.TextAnswer.{TokensAnswer, PiecesAnswer, PageAnswer}
 use Rattle.tokens_lib.specs.Usage.{help, version, wrong_text}
@@ -37,54 +41,70 @@ use Rattle.tokens_lib.specs.declared.command.Command.TheVariants.{Help, Version,
 
 -- ---- named rules
 
+-- the rules of a file with these parts, as a lexer takes them
+pub record AreFileRules (ps : List NamedPart) (fs : List FileRule) (rs : List ModeRule) : Type 0 where
+  pub rules : file.AreModeRules ps fs rs
+  pub modes : map (λ q. q.modes.now) rs ≡ map (λ f. f.modes.items) fs
+  pub actions : map (λ q. q.actions.now) rs ≡ map (λ f. f.actions.items) fs
+
+-- the lines say these rules, of modes with these names
+abbrev pub SayRules : List (List ℕ) → List (List ℕ) → List ModeRule → Type 0
+SayRules ls modes rs =
+    (fs : List FileRule) × ((ps : List NamedPart) × (AreRules ls modes fs × (AreFileParts ls ps × AreFileRules ps fs rs)))
+
+-- the texts of these rules begin at these places in the lines
+abbrev pub StandAt : List (List ℕ) → List ModeRule → List Position → Type 0
+StandAt ls rs places =
+    (fs : List FileRule) × ((ps : List NamedPart) × (AreFileRules ps fs rs × (ArePlaces ls fs × (places ≡ map (λ f. f.place) fs))))
+
 -- what the lexer of these rules knows
-pub record IsSetOf (rs : List Rule) (set : RuleSet) : Type 0 where
-  pub names : set.names ≡ names_of rs
-  pub trees : AreTrees rs set.trees
-  pub precedences : set.precedences ≡ precedences_of rs
-  pub skips : set.skips ≡ skips_of rs
-  pub no_fault : NoFault set.trees
-  pub no_clash : NoClash set.trees set.precedences
+pub record IsSetOf (rs : List ModeRule) (modes : List (List ℕ)) (r : ModeRules) : Type 0 where
+  pub rules : AreModeRules rs (length modes) r
+  pub no_clash : NoModeClash r
 
--- the bytes are rules, and this is what their lexer knows
-abbrev pub AreRulesOf : List ℕ → RuleSet → Type 0
-AreRulesOf bytes set = (rs : List Rule) × (AreRules (lines (without_mark bytes)) rs × IsSetOf rs set)
+-- the bytes are rules of modes with these names, and this is what their lexer knows
+abbrev pub AreRulesOf : List ℕ → ModeRules → List (List ℕ) → Type 0
+AreRulesOf bytes r modes = (rs : List ModeRule) × (SayRules (lines (without_mark bytes)) modes rs × IsSetOf rs modes r)
 
--- 3 if a pattern doesn't parse, 2 if a rule can't be compiled or two clash
-abbrev pub rules_status : RulesError → ℕ
-rules_status (rules_errors.NotParsed i position kind) = 3
+-- 3 if a text has no tree, 2 if a rule can't be compiled or two clash
+abbrev pub rules_status : ModesError → ℕ
+rules_status (NotParsed i position kind) = 3
+rules_status (BadEnd i e) = 3
 rules_status error = 2
 
 -- the bytes have a bad line; or their lines are rules with this answer
-abbrev pub RulesOf : (List ℕ → List (List ℕ) → List Rule → Answer → Type 0) → List ℕ → List ℕ → Answer → Type 0
+abbrev pub RulesOf : (List ℕ → List (List ℕ) → List (List ℕ) → List ModeRule → Answer → Type 0) → List ℕ → List ℕ → Answer → Type 0
 RulesOf IsFor file bytes answer =
     ((error : RuleFileError) × (IsRuleFileError (without_mark bytes) error
     × ((said : List ℕ) × (SaysBadLine error said × (answer ≡ refusal 3 (headed file said))))))
-    ⊎ ((rs : List Rule) × (AreRules (lines (without_mark bytes)) rs × IsFor file (lines (without_mark bytes)) rs answer))
+    ⊎ ((modes : List (List ℕ)) × ((rs : List ModeRule) × (SayRules (lines (without_mark bytes)) modes rs × IsFor file (lines (without_mark bytes)) modes rs answer)))
 
 -- an error of the rules of these lines is said
-abbrev pub ErrorAnswer : List ℕ → List (List ℕ) → List Rule → RulesError → Answer → Type 0
-ErrorAnswer file ls rs error answer =
-    (places : List Position) × (ArePlaces ls rs places × ((said : List ℕ) × (SaysRules rs places error said × (answer ≡ refusal (rules_status error) (headed file said)))))
+abbrev pub ErrorAnswer : List ℕ → List (List ℕ) → List (List ℕ) → List ModeRule → ModesError → Answer → Type 0
+ErrorAnswer file ls modes rs error answer =
+    (places : List Position) × (StandAt ls rs places
+    × ((said : List ℕ) × (SaysRules modes (rules_of rs) places error said × (answer ≡ refusal (rules_status error) (headed file said)))))
 
 -- these rules make no lexer
-abbrev pub RulesRefused : List ℕ → List (List ℕ) → List Rule → Answer → Type 0
-RulesRefused file ls rs answer = (error : RulesError) × (IsRulesError rs error × ErrorAnswer file ls rs error answer)
+abbrev pub RulesRefused : List ℕ → List (List ℕ) → List (List ℕ) → List ModeRule → Answer → Type 0
+RulesRefused file ls modes rs answer = (error : ModesError) × (IsModesError rs (length modes) error × ErrorAnswer file ls modes rs error answer)
 
 -- they don't, or their lexer has this answer
-abbrev pub LexerOf : (RuleSet → Answer → Type 0) → List ℕ → List (List ℕ) → List Rule → Answer → Type 0
-LexerOf IsFor file ls rs answer = RulesRefused file ls rs answer ⊎ ((set : RuleSet) × (IsSetOf rs set × IsFor set answer))
+abbrev pub LexerOf : (ModeRules → List (List ℕ) → Answer → Type 0) → List ℕ → List (List ℕ) → List (List ℕ) → List ModeRule → Answer → Type 0
+LexerOf IsFor file ls modes rs answer = RulesRefused file ls modes rs answer ⊎ ((r : ModeRules) × (IsSetOf rs modes r × IsFor r modes answer))
 
 -- 2 if there are clashes
-abbrev pub clashes_status : List Entry → ℕ
+abbrev pub clashes_status : List (List Entry) → ℕ
 clashes_status [] = 0
-clashes_status (c ∷ cs) = 2
+clashes_status ([] ∷ css) = clashes_status css
+clashes_status ((c ∷ cs) ∷ css) = 2
 
--- the clashes of the rules of these lines, with a line for each; or a rule has no tree or can't be compiled
-abbrev pub ClashesAnswer : List ℕ → List (List ℕ) → List Rule → Answer → Type 0
-ClashesAnswer file ls rs answer =
-    ((error : RulesError) × (IsRuleFault rs error × ErrorAnswer file ls rs error answer))
-    ⊎ ((cs : List Entry) × (AreRuleClashes rs cs × (answer ≡ record { status = clashes_status cs; out = flat_map (named_line (names_of rs)) cs; err = [] })))
+-- the clashes of the rules of these lines, mode by mode, with a line for each; or a rule has no tree or can't be compiled
+abbrev pub ClashesAnswer : List ℕ → List (List ℕ) → List (List ℕ) → List ModeRule → Answer → Type 0
+ClashesAnswer file ls modes rs answer =
+    ((error : ModesError) × (IsModesFault rs (length modes) error × ErrorAnswer file ls modes rs error answer))
+    ⊎ ((r : ModeRules) × ((css : List (List Entry)) × (AreModeRules rs (length modes) r × (AreModeClashes r css
+    × (answer ≡ record { status = clashes_status css; out = clash_lines modes (names_of (rules_of rs)) 0 css; err = [] })))))
 
 -- ---- terminals
 
@@ -121,8 +141,8 @@ information out = record { status = 0; out = out; err = [] }
 -- the answer for an action by a file of rules on files, by what is answered to texts
 abbrev pub ActionAnswer : (List ℕ → Given → Type 0) → ((List ℕ → List ℕ → Answer → Type 0) → List (List ℕ) → Answer → Type 0) → Action → List ℕ → List (List ℕ) → Answer → Type 0
 ActionAnswer Gives Texts (Cut form recovers) rules files answer =
-    Reads Gives (RulesOf (LexerOf (λ set. Texts (PiecesAnswer set form recovers (nat_lt 1 (length files))) files))) rules answer
-ActionAnswer Gives Texts (Show markup) rules files answer = Reads Gives (RulesOf (LexerOf (λ set. Texts (PageAnswer set markup) files))) rules answer
+    Reads Gives (RulesOf (LexerOf (λ r modes. Texts (PiecesAnswer r modes form recovers (nat_lt 1 (length files))) files))) rules answer
+ActionAnswer Gives Texts (Show markup) rules files answer = Reads Gives (RulesOf (LexerOf (λ r modes. Texts (PageAnswer r modes markup) files))) rules answer
 ActionAnswer Gives Texts (CutByTerminals places) rules files answer = Reads Gives (TerminalsOf (λ ts ps. Texts (TokensAnswer ts ps places) files)) rules answer
 ActionAnswer Gives Texts Clashes rules files answer = Reads Gives (RulesOf ClashesAnswer) rules answer
 ActionAnswer Gives Texts TerminalClashes rules files answer = Reads Gives TerminalClashesAnswer rules answer

@@ -1,28 +1,22 @@
 -- cases: proofs/Cases/RuleClashes.antt
--- All clashes of named rules, and what is written for them.
-use Rattle.std.specs.Prelude.{ℕ, List, ◌++◌, codes}
-use Rattle.lalrpop_book.specs.Tree.{Tree}
-use Rattle.lalrpop_book.specs.Clashes.{Entry, AreClashes}
-use Rattle.lalrpop_book.specs.Report.{NoFault}
-use Rattle.lalrpop_rules.specs.RuleSet.{AreTrees, IsRulesError, precedences_of}
-use Rattle.lalrpop_rules.specs.declared.rule.Rule.{Rule}
-use Rattle.lalrpop_rules.specs.declared.error.RulesError.{RulesError}
-use Rattle.lalrpop_rules.specs.declared.error.RulesError.TheVariants.{NotParsed, NotCompiled, Clash, OutOfMemory}
-use Rattle.tokens_lib.specs.ItemLines.{name_at}
+-- What is written for all clashes of named rules.
+use Rattle.std.specs.Prelude.{ℕ, ◌+◌, List, [], ◌∷◌, ◌++◌, Option, Some, None, codes, flat_map}
+use Rattle.lalrpop_book.specs.Clashes.{Entry}
 use Rattle.lalrpop_lexer.specs.Quoted.{quoted_word}
+use Rattle.tokens_lib.specs.ItemLines.{mode_named, name_at}
 
--- all clashes of the trees that the rules spell, none of which has a fault
-abbrev pub AreRuleClashes : List Rule → List Entry → Type 0
-AreRuleClashes rs cs = (ts : List Tree) × (AreTrees rs ts × (NoFault ts × AreClashes ts (precedences_of rs) cs))
+-- the mode, if it is named
+abbrev pub mode_text : Option (List ℕ) → List ℕ
+mode_text None = []
+mode_text (Some mode) = mode ++ codes " "
 
--- the error is right, and isn't a clash
-abbrev pub IsRuleFault : List Rule → RulesError → Type 0
-IsRuleFault rs (NotParsed i position kind) = IsRulesError rs (NotParsed i position kind)
-IsRuleFault rs (NotCompiled i e) = IsRulesError rs (NotCompiled i e)
-IsRuleFault rs (Clash i j w) = ⊥
-IsRuleFault rs OutOfMemory = Unit {0}
+-- the line of a clash: the name of the mode, if there are several, the name of the rule that is first in the file, the name of the other
+-- rule, and the word
+abbrev pub named_line : List (List ℕ) → Option (List ℕ) → Entry → List ℕ
+named_line names mode c =
+    mode_text mode ++ (name_at names c.match1 ++ (codes " " ++ (name_at names c.match0 ++ (codes " " ++ (quoted_word c.word ++ codes "\n")))))
 
--- the line of a clash: the name of the rule that is first in the file, the name of the other rule, and the word
-abbrev pub named_line : List (List ℕ) → Entry → List ℕ
-named_line names c =
-    name_at names c.match1 ++ (codes " " ++ (name_at names c.match0 ++ (codes " " ++ (quoted_word c.word ++ codes "\n"))))
+-- the lines of the clashes of each mode, from the mode with this number on
+abbrev pub clash_lines : List (List ℕ) → List (List ℕ) → ℕ → List (List Entry) → List ℕ
+clash_lines modes names m [] = []
+clash_lines modes names m (cs ∷ css) = flat_map (named_line names (mode_named modes m)) cs ++ clash_lines modes names (m + 1) css

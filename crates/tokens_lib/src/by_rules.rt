@@ -1,23 +1,28 @@
 //! The program over a file of named rules.
-ghost use Rattle.std.specs.Prelude.{◌≡◌, ◌≢◌, ℕ, List, Ok, false, true, IfOk, OnOk, OnErr, IfErr};
+ghost use Rattle.std.specs.Prelude.{◌≡◌, ◌≢◌, ◌<◌, ℕ, List, length, slice_get, Some, Ok, false, true, map, string_bytes, IfOk, OnOk, OnErr, IfErr};
 ghost use Rattle.lalrpop_lexer.specs.Lines.{lines};
-ghost use Rattle.lalrpop_rules.specs.RuleFile.{ArePlaces};
-ghost use Rattle.lalrpop_rules.specs.RuleSet.{IsRulesError};
+ghost use Rattle.lalrpop_modes.specs.ModeSet.{rules_of};
+ghost use Rattle.lalrpop_rule_file.specs.RuleFile.{AreFileParts, AreRules, ArePlaces, NamesMode, without_mark as without_mark_of};
+ghost use Rattle.lalrpop_rule_file.specs.declared.file_rule.FileRule.{FileRule as FileRuleValue};
 ghost use Rattle.tokens_lib.specs.Answer.{Answer, headed, Answered, Refused, Reads, Begun};
-ghost use Rattle.tokens_lib.specs.Program.{IsSetOf, AreRulesOf, RulesOf, RulesRefused, ClashesAnswer, clashes_status, rules_status};
+ghost use Rattle.tokens_lib.specs.Program.{StandAt, IsSetOf, AreRulesOf, RulesOf, RulesRefused, ClashesAnswer, clashes_status, rules_status};
 ghost use Rattle.tokens_lib.specs.Reasons.{SaysBadLine, SaysRules};
 ghost use Rattle.tokens_lib.specs.Streams.{Takes};
+ghost use Rattle.tokens_lib.specs.Internal.Faults.{CanBeSaid, NameOnly};
 
+use crate::file_lexer::{FileLexer, with_names};
 use crate::files::{Files, NO_TEXT, bytes_of, say_headed};
-use crate::named_clashes::{rule_clashes, write_rule_clashes};
+use crate::mode_file::{ModeFile, mode_file};
+use crate::named_clashes::write_rule_clashes;
 use crate::rule_explain::{bad_line_explained, rules_explained};
 use lalrpop_lexer::lexer::dfa::Clash;
-use lalrpop_rules::{RuleFile, RuleFileError, RuleLexer, RulesError, read_rules, without_mark};
+use lalrpop_modes::{ModeLexer, ModesError, mode_clashes};
+use lalrpop_rule_file::{RuleFile, RuleFileError, read_rules, without_mark};
 use lexdfa_lib::{RunError, Watched};
 use std::alloc::Global;
 use std::io::Write;
 
-// The status of a line that is no rule, and of a pattern that doesn't parse.
+// The status of a line that is no rule, and of a text that has no tree.
 const BAD_LINE: u8 = 3;
 
 // The status of rules that can't be compiled or clash.
@@ -45,11 +50,11 @@ fn report_line<E: Write>(
 }
 
 // The status of rules with this error.
-fn status_of(error: &RulesError) -> u8
+fn status_of(error: &ModesError) -> u8
     ensures { result ≡ rules_status error.now }
 {
     match error {
-        RulesError::NotParsed { .. } => BAD_LINE,
+        ModesError::NotParsed { .. } | ModesError::BadEnd { .. } => BAD_LINE,
         _ => REFUSED,
     }
 }
@@ -59,15 +64,15 @@ fn report_rules<E: Write>(
     alloc: Global,
     name: &str,
     bytes: &[u8],
-    file: &RuleFile<'_>,
-    error: &RulesError,
+    file: &ModeFile<'_>,
+    error: &ModesError,
     err: &mut Watched<E>,
 ) -> Result<u8, RunError>
-    requires places { ArePlaces (lines bytes.now) file.now.rules.items file.now.places.items }
-    requires error { IsRulesError file.now.rules.items error.now }
+    requires error { CanBeSaid file.now.rules.items error.now }
     ensures status { IfOk result (λ status. status ≡ rules_status error.now) }
     ensures said { OnOk result ((said : List ℕ)
-        × (SaysRules file.now.rules.items file.now.places.items error.now said
+        × (SaysRules (map (λ m. m.now) file.now.modes.items) (rules_of file.now.rules.items)
+        file.now.places.items error.now said
         × Takes E.contents err.old err.new (headed name.now said))) }
     ensures memory { IfErr result (λ e. e ≡ RunError.OutOfMemory) }
     ensures no_late_message { err.new.late ≡ err.old.late }
@@ -84,21 +89,57 @@ fn lexer_of_file<E: Write>(
     alloc: Global,
     name: &str,
     bytes: &[u8],
-    file: &RuleFile<'_>,
+    file: &ModeFile<'_>,
     err: &mut Watched<E>,
-) -> Result<Result<RuleLexer, u8>, RunError>
-    requires places { ArePlaces (lines bytes.now) file.now.rules.items file.now.places.items }
-    ensures lexer { IfOk result (λ found. IfOk found (IsSetOf file.now.rules.items)) }
+) -> Result<Result<FileLexer, u8>, RunError>
+    requires places { StandAt (lines bytes.now) file.now.rules.items file.now.places.items }
+    requires some { 0 < length file.now.modes.items }
+    requires within { NameOnly file.now.rules.items (length file.now.modes.items) }
+    ensures lexer { IfOk result (λ found. IfOk found (λ f.
+        IsSetOf file.now.rules.items (map (λ m. m.now) file.now.modes.items) f.lexer)) }
+    ensures names { IfOk result (λ found. IfOk found (λ f.
+        map string_bytes f.modes.items ≡ map (λ m. m.now) file.now.modes.items)) }
     ensures quiet { IfOk result (λ found. OnOk found (err.new ≡ err.old)) }
     ensures refused { IfOk result (λ found. IfErr found (λ status. (answer : Answer)
-        × (RulesRefused name.now (lines bytes.now) file.now.rules.items answer
+        × (RulesRefused name.now (lines bytes.now) (map (λ m. m.now) file.now.modes.items)
+        file.now.rules.items answer
         × Refused E.contents err.old err.new status answer))) }
     ensures memory { IfErr result (λ e. e ≡ RunError.OutOfMemory) }
     ensures no_late_message { err.new.late ≡ err.old.late }
 {
-    match RuleLexer::from_rules(alloc, &file.rules) {
-        Ok(lexer) => Ok(Ok(lexer)),
+    match ModeLexer::from_rules(alloc, &file.rules, file.modes.len()) {
+        Ok(lexer) => Ok(Ok(with_names(alloc, lexer, &file.modes)?)),
         Err(error) => Ok(Err(report_rules(alloc, name, bytes, file, &error, err)?)),
+    }
+}
+
+// The lexer of the rules of the file that these bytes are; or the status, if what is wrong was said.
+fn lexer_of_rules<E: Write>(
+    alloc: Global,
+    name: &str,
+    bytes: &[u8],
+    file: &RuleFile<'_>,
+    err: &mut Watched<E>,
+) -> Result<Result<FileLexer, u8>, RunError>
+    requires rules { AreRules (lines (without_mark_of bytes.now)) (map (λ m. m.now) file.now.modes.items)
+        file.now.rules.items }
+    requires parts { AreFileParts (lines (without_mark_of bytes.now)) file.now.parts.items }
+    requires places { ArePlaces (lines (without_mark_of bytes.now)) file.now.rules.items }
+    requires some { 0 < length file.now.modes.items }
+    requires within { (i m : ℕ) (r : FileRuleValue)
+        → slice_get file.now.rules.items i ≡ Some r → NamesMode r m → m < length file.now.modes.items }
+    ensures lexer { IfOk result (λ found. IfOk found (λ f.
+        AreRulesOf bytes.now f.lexer (map string_bytes f.modes.items))) }
+    ensures quiet { IfOk result (λ found. OnOk found (err.new ≡ err.old)) }
+    ensures refused { IfOk result (λ found. IfErr found (λ status. (answer : Answer)
+        × (RulesOf RulesRefused name.now bytes.now answer
+        × Refused E.contents err.old err.new status answer))) }
+    ensures memory { IfErr result (λ e. e ≡ RunError.OutOfMemory) }
+    ensures no_late_message { err.new.late ≡ err.old.late }
+{
+    match mode_file(alloc, file) {
+        Ok(file) => lexer_of_file(alloc, name, without_mark(bytes), &file, err),
+        Err(_) => Err(RunError::OutOfMemory),
     }
 }
 
@@ -108,8 +149,9 @@ fn lexer_of_bytes<E: Write>(
     name: &str,
     bytes: &[u8],
     err: &mut Watched<E>,
-) -> Result<Result<RuleLexer, u8>, RunError>
-    ensures lexer { IfOk result (λ found. IfOk found (AreRulesOf bytes.now)) }
+) -> Result<Result<FileLexer, u8>, RunError>
+    ensures lexer { IfOk result (λ found. IfOk found (λ f.
+        AreRulesOf bytes.now f.lexer (map string_bytes f.modes.items))) }
     ensures quiet { IfOk result (λ found. OnOk found (err.new ≡ err.old)) }
     ensures refused { IfOk result (λ found. IfErr found (λ status. (answer : Answer)
         × (RulesOf RulesRefused name.now bytes.now answer
@@ -118,7 +160,7 @@ fn lexer_of_bytes<E: Write>(
     ensures no_late_message { err.new.late ≡ err.old.late }
 {
     match read_rules(alloc, bytes) {
-        Ok(file) => lexer_of_file(alloc, name, without_mark(bytes), &file, err),
+        Ok(file) => lexer_of_rules(alloc, name, bytes, &file, err),
         Err(error) => Ok(Err(report_line(alloc, name, without_mark(bytes), &error, err)?)),
     }
 }
@@ -129,9 +171,10 @@ pub(crate) fn lexer_by_name<F: Files, E: Write>(
     files: &F,
     name: &str,
     err: &mut Watched<E>,
-) -> Result<Result<RuleLexer, u8>, RunError>
-    ensures lexer { IfOk result (λ found. IfOk found (λ lexer. (bytes : List ℕ)
-        × (F.gives files.now name.now (Ok bytes) × AreRulesOf bytes lexer))) }
+) -> Result<Result<FileLexer, u8>, RunError>
+    ensures lexer { IfOk result (λ found. IfOk found (λ f. (bytes : List ℕ)
+        × (F.gives files.now name.now (Ok bytes)
+        × AreRulesOf bytes f.lexer (map string_bytes f.modes.items)))) }
     ensures quiet { IfOk result (λ found. OnOk found (err.new ≡ err.old)) }
     ensures refused { IfOk result (λ found. IfErr found (λ status. (answer : Answer)
         × (Reads (F.gives files.now) (RulesOf RulesRefused) name.now answer
@@ -145,14 +188,16 @@ pub(crate) fn lexer_by_name<F: Files, E: Write>(
     }
 }
 
-// The status of rules with these clashes.
-fn clashes_status(found: &[Clash]) -> u8
-    ensures { result ≡ clashes_status found.now }
+// The status of rules with these clashes in their modes.
+fn clashes_status(found: &[Vec<Clash>]) -> u8
+    ensures { result ≡ clashes_status (map (λ cs. cs.items) found.now) }
 {
-    match found {
-        [] => 0,
-        _ => REFUSED,
+    for clashes in found {
+        if !clashes.is_empty() {
+            return REFUSED;
+        }
     }
+    0
 }
 
 // Lists all clashes of these rules, and returns the status.
@@ -160,17 +205,21 @@ fn list_clashes_of<W: Write, E: Write>(
     alloc: Global,
     name: &str,
     bytes: &[u8],
-    file: &RuleFile<'_>,
+    file: &ModeFile<'_>,
     out: &mut Watched<W>,
     err: &mut Watched<E>,
 ) -> Result<u8, RunError>
-    requires places { ArePlaces (lines bytes.now) file.now.rules.items file.now.places.items }
+    requires places { StandAt (lines bytes.now) file.now.rules.items file.now.places.items }
+    requires some { 0 < length file.now.modes.items }
+    requires within { NameOnly file.now.rules.items (length file.now.modes.items) }
     requires out_good { out.old.failed ≡ false }
     ensures answer { IfOk result (λ status. (answer : Answer)
-        × (ClashesAnswer name.now (lines bytes.now) file.now.rules.items answer
+        × (ClashesAnswer name.now (lines bytes.now) (map (λ m. m.now) file.now.modes.items)
+        file.now.rules.items answer
         × Answered W.contents E.contents out.old out.new err.old err.new status answer)) }
     ensures good { OnOk result (out.new.failed ≡ false) }
-    ensures begun { OnErr result (Begun (ClashesAnswer name.now (lines bytes.now) file.now.rules.items)
+    ensures begun { OnErr result (Begun (ClashesAnswer name.now (lines bytes.now)
+        (map (λ m. m.now) file.now.modes.items) file.now.rules.items)
         (W.contents out.old.inner) (W.contents out.new.inner)) }
     ensures memory { IfErr result (λ e. e ≡ RunError.OutOfMemory → out.new.failed ≡ false) }
     ensures write { IfErr result (λ e. e ≡ RunError.Write → out.new.failed ≡ true) }
@@ -178,12 +227,47 @@ fn list_clashes_of<W: Write, E: Write>(
     ensures no_late_write { out.new.late ≡ out.old.late }
     ensures no_late_message { err.new.late ≡ err.old.late }
 {
-    let found = match rule_clashes(alloc, &file.rules) {
+    let found = match mode_clashes(alloc, &file.rules, file.modes.len()) {
         Ok(found) => found,
         Err(error) => return report_rules(alloc, name, bytes, file, &error, err),
     };
-    write_rule_clashes(alloc, &file.rules, &found, out)?;
+    write_rule_clashes(alloc, &file.rules, &file.modes, &found, out)?;
     Ok(clashes_status(&found))
+}
+
+// Lists all clashes of the rules of the file that these bytes are, and returns the status.
+fn list_clashes_by<W: Write, E: Write>(
+    alloc: Global,
+    name: &str,
+    bytes: &[u8],
+    file: &RuleFile<'_>,
+    out: &mut Watched<W>,
+    err: &mut Watched<E>,
+) -> Result<u8, RunError>
+    requires rules { AreRules (lines (without_mark_of bytes.now)) (map (λ m. m.now) file.now.modes.items)
+        file.now.rules.items }
+    requires parts { AreFileParts (lines (without_mark_of bytes.now)) file.now.parts.items }
+    requires places { ArePlaces (lines (without_mark_of bytes.now)) file.now.rules.items }
+    requires some { 0 < length file.now.modes.items }
+    requires within { (i m : ℕ) (r : FileRuleValue)
+        → slice_get file.now.rules.items i ≡ Some r → NamesMode r m → m < length file.now.modes.items }
+    requires out_good { out.old.failed ≡ false }
+    ensures answer { IfOk result (λ status. (answer : Answer)
+        × (RulesOf ClashesAnswer name.now bytes.now answer
+        × Answered W.contents E.contents out.old out.new err.old err.new status answer)) }
+    ensures good { OnOk result (out.new.failed ≡ false) }
+    ensures begun { OnErr result (Begun (RulesOf ClashesAnswer name.now bytes.now)
+        (W.contents out.old.inner) (W.contents out.new.inner)) }
+    ensures memory { IfErr result (λ e. e ≡ RunError.OutOfMemory → out.new.failed ≡ false) }
+    ensures write { IfErr result (λ e. e ≡ RunError.Write → out.new.failed ≡ true) }
+    ensures read { IfErr result (λ e. e ≢ RunError.Read) }
+    ensures no_late_write { out.new.late ≡ out.old.late }
+    ensures no_late_message { err.new.late ≡ err.old.late }
+{
+    match mode_file(alloc, file) {
+        Ok(file) => list_clashes_of(alloc, name, without_mark(bytes), &file, out, err),
+        Err(_) => Err(RunError::OutOfMemory),
+    }
 }
 
 // Lists all clashes of the rules that these bytes are, and returns the status.
@@ -208,7 +292,7 @@ fn list_clashes_in<W: Write, E: Write>(
     ensures no_late_message { err.new.late ≡ err.old.late }
 {
     match read_rules(alloc, bytes) {
-        Ok(file) => list_clashes_of(alloc, name, without_mark(bytes), &file, out, err),
+        Ok(file) => list_clashes_by(alloc, name, bytes, &file, out, err),
         Err(error) => report_line(alloc, name, without_mark(bytes), &error, err),
     }
 }

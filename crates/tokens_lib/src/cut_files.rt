@@ -1,20 +1,22 @@
 //! Cutting files one after another: the lines or the markup of each are written.
-ghost use Rattle.std.specs.Prelude.{◌≡◌, ◌≢◌, max, false, true, map, codes, Option, List, ℕ, IfOk, OnOk, OnErr, IfErr};
+ghost use Rattle.std.specs.Prelude.{◌≡◌, ◌≢◌, max, false, true, map, codes, string_bytes, Option, List, ℕ, IfOk, OnOk, OnErr, IfErr};
 ghost use Rattle.std.specs.Io.KnownBytes.{Appends};
 ghost use Rattle.std.specs.Str.{IsCharBoundary};
 ghost use Rattle.tokens_lib.specs.Answer.{Answer, Answered, TextOf, Reads, FilesAnswer, TextsAnswer, FirstFilesAnswer, FirstTextsAnswer, Begun};
 ghost use Rattle.tokens_lib.specs.Streams.{Takes, StreamGives};
-ghost use Rattle.tokens_lib.specs.TextAnswer.{fault_text};
+ghost use Rattle.tokens_lib.specs.TextAnswer.{fault_text, open_text, TokensAnswer, PiecesAnswer, PageAnswer};
 ghost use Rattle.tokens_lib.specs.Internal.Tasks.{TaskAnswer, StopsIn, IsTokensEnding, IsPiecesEnding, IsDone};
 
 use crate::command::Markup;
-use crate::fault::fault_message;
+use crate::fault::{fault_message, open_message};
+use crate::file_lexer::FileLexer;
 use crate::files::{Files, INPUT, NO_TEXT, bytes_of, input_bytes, say, say_about};
-use crate::item_lines::write_items;
+use crate::item_lines::{mode_name, write_items};
 use crate::layout::{Layout, LineForm};
 use crate::page::write_page;
+use crate::text_end::TextEnd;
 use lalrpop_lexer::Lexer;
-use lalrpop_rules::{RuleLexer, without_mark};
+use lalrpop_rule_file::without_mark;
 use lexdfa_lib::{Outcome, RunError, Watched};
 use lines_lib::{TextError, write_tokens};
 use std::alloc::Global;
@@ -31,7 +33,7 @@ pub(crate) enum Task<'rules> {
     },
     /// It is cut by named rules, and the lines of its pieces are written.
     Pieces {
-        lexer: &'rules RuleLexer,
+        rules: &'rules FileLexer,
         form: LineForm,
         /// Whether cutting goes on after a fault.
         recovers: bool,
@@ -40,24 +42,26 @@ pub(crate) enum Task<'rules> {
     },
     /// It is cut by named rules, and written as markup.
     Markup {
-        lexer: &'rules RuleLexer,
+        rules: &'rules FileLexer,
         markup: Markup,
     },
 }
 
 // What came of a text.
 #[derive(Clone, Copy)]
-enum CutResult {
+enum CutResult<'rules> {
     /// It was cut to its end, and has no fault.
     Whole,
     /// It was cut to its end, and has faults.
     Faulty,
     /// It was cut up to a fault at byte `at`, where nothing of this kind, `terminal` or `rule`, matches.
-    Stopped { kind: &'static str, at: usize },
+    Stopped { kind: &'rules str, at: usize },
+    /// It was cut to its end, in this mode, which has one below it, and which the token entered that begins at byte `at`.
+    Open { mode: &'rules str, at: usize },
 }
 
 // What came of a text that terminals cut.
-fn tokens_ending(outcome: &Outcome) -> CutResult
+fn tokens_ending(outcome: &Outcome) -> CutResult<'static>
     ensures { IsTokensEnding outcome.now result }
 {
     match outcome {
@@ -69,25 +73,133 @@ fn tokens_ending(outcome: &Outcome) -> CutResult
     }
 }
 
-// What came of a text that named rules cut, by where its first fault begins.
-fn pieces_ending(recovers: bool, fault: Option<usize>) -> CutResult
-    ensures { IsPiecesEnding recovers fault result }
+// What came of a text that named rules cut to its end.
+fn ending_behind<'rules>(modes: &'rules [String], end: &TextEnd) -> CutResult<'rules>
+    ensures { IsPiecesEnding true (map string_bytes modes.now) end.now.fault end.now.inside result }
 {
-    match fault {
-        None => CutResult::Whole,
-        Some(_) if recovers => CutResult::Faulty,
-        Some(at) => CutResult::Stopped { kind: "rule", at },
+    match (end.inside, end.fault) {
+        (Some(inside), _) => CutResult::Open {
+            mode: mode_name(modes, inside.mode),
+            at: inside.at,
+        },
+        (None, Some(_)) => CutResult::Faulty,
+        (None, None) => CutResult::Whole,
     }
 }
 
-// Does the task for a text.
-fn run_task<W: Write>(
+// What came of a text that named rules cut, by how it ends.
+fn pieces_ending<'rules>(
+    recovers: bool,
+    modes: &'rules [String],
+    end: &TextEnd,
+) -> CutResult<'rules>
+    ensures { IsPiecesEnding recovers (map string_bytes modes.now) end.now.fault end.now.inside result }
+{
+    match end.fault {
+        Some(at) if !recovers => CutResult::Stopped { kind: "rule", at },
+        _ => ending_behind(modes, end),
+    }
+}
+
+// Cuts a text by terminals, and writes the lines of its tokens.
+fn cut_tokens<W: Write>(
     alloc: Global,
-    task: &Task<'_>,
+    lexer: &Lexer,
+    places: bool,
     name: &str,
     text: &str,
     out: &mut Watched<W>,
-) -> Result<CutResult, RunError>
+) -> Result<CutResult<'static>, RunError>
+    requires out_good { out.old.failed ≡ false }
+    ensures done { IfOk result (λ ending. (answer : Answer)
+        × (TokensAnswer lexer.now.trees lexer.now.precedences places name.now text.now answer
+        × ((written : List ℕ) × (IsDone name.now text.now written ending answer
+        × Appends (W.contents out.old.inner) (W.contents out.new.inner) written)))) }
+    ensures boundary { IfOk result (λ ending. StopsIn text.now ending) }
+    ensures good { OnOk result (out.new.failed ≡ false) }
+    ensures begun { OnErr result (Begun (TokensAnswer lexer.now.trees lexer.now.precedences places name.now text.now)
+        (W.contents out.old.inner) (W.contents out.new.inner)) }
+    ensures memory { IfErr result (λ e. e ≡ RunError.OutOfMemory → out.new.failed ≡ false) }
+    ensures write { IfErr result (λ e. e ≡ RunError.Write → out.new.failed ≡ true) }
+    ensures read { IfErr result (λ e. e ≢ RunError.Read) }
+    ensures no_late_write { out.new.late ≡ out.old.late }
+{
+    let outcome = write_tokens(alloc, lexer, places.then_some(name), text, out)?;
+    Ok(tokens_ending(&outcome))
+}
+
+// Cuts a text by named rules, and writes the lines of its pieces.
+fn cut_pieces<'text, W: Write>(
+    alloc: Global,
+    rules: &'text FileLexer,
+    form: LineForm,
+    recovers: bool,
+    several: bool,
+    name: &str,
+    text: &'text str,
+    out: &mut Watched<W>,
+) -> Result<CutResult<'text>, RunError>
+    requires out_good { out.old.failed ≡ false }
+    ensures done { IfOk result (λ ending. (answer : Answer)
+        × (PiecesAnswer rules.now.lexer (map string_bytes rules.now.modes.items) form recovers several
+        name.now text.now answer
+        × ((written : List ℕ) × (IsDone name.now text.now written ending answer
+        × Appends (W.contents out.old.inner) (W.contents out.new.inner) written)))) }
+    ensures boundary { IfOk result (λ ending. StopsIn text.now ending) }
+    ensures good { OnOk result (out.new.failed ≡ false) }
+    ensures begun { OnErr result (Begun (PiecesAnswer rules.now.lexer (map string_bytes rules.now.modes.items) form recovers several
+        name.now text.now)
+        (W.contents out.old.inner) (W.contents out.new.inner)) }
+    ensures memory { IfErr result (λ e. e ≡ RunError.OutOfMemory → out.new.failed ≡ false) }
+    ensures write { IfErr result (λ e. e ≡ RunError.Write → out.new.failed ≡ true) }
+    ensures read { IfErr result (λ e. e ≢ RunError.Read) }
+    ensures no_late_write { out.new.late ≡ out.old.late }
+{
+    let layout = Layout {
+        form,
+        recovers,
+        file: several.then_some(name),
+        modes: &rules.modes,
+    };
+    let end = write_items(alloc, &rules.lexer, &layout, text, out)?;
+    Ok(pieces_ending(recovers, &rules.modes, &end))
+}
+
+// Cuts a text by named rules, and writes it as markup.
+fn cut_page<'text, W: Write>(
+    alloc: Global,
+    rules: &'text FileLexer,
+    markup: Markup,
+    name: &str,
+    text: &'text str,
+    out: &mut Watched<W>,
+) -> Result<CutResult<'text>, RunError>
+    requires out_good { out.old.failed ≡ false }
+    ensures done { IfOk result (λ ending. (answer : Answer)
+        × (PageAnswer rules.now.lexer (map string_bytes rules.now.modes.items) markup name.now text.now answer
+        × ((written : List ℕ) × (IsDone name.now text.now written ending answer
+        × Appends (W.contents out.old.inner) (W.contents out.new.inner) written)))) }
+    ensures boundary { IfOk result (λ ending. StopsIn text.now ending) }
+    ensures good { OnOk result (out.new.failed ≡ false) }
+    ensures begun { OnErr result (Begun (PageAnswer rules.now.lexer (map string_bytes rules.now.modes.items) markup name.now text.now)
+        (W.contents out.old.inner) (W.contents out.new.inner)) }
+    ensures memory { IfErr result (λ e. e ≡ RunError.OutOfMemory → out.new.failed ≡ false) }
+    ensures write { IfErr result (λ e. e ≡ RunError.Write → out.new.failed ≡ true) }
+    ensures read { IfErr result (λ e. e ≢ RunError.Read) }
+    ensures no_late_write { out.new.late ≡ out.old.late }
+{
+    let end = write_page(alloc, &rules.lexer, markup, text, out)?;
+    Ok(ending_behind(&rules.modes, &end))
+}
+
+// Does the task for a text.
+fn run_task<'text, W: Write>(
+    alloc: Global,
+    task: &Task<'text>,
+    name: &str,
+    text: &'text str,
+    out: &mut Watched<W>,
+) -> Result<CutResult<'text>, RunError>
     requires out_good { out.old.failed ≡ false }
     ensures done { IfOk result (λ ending. (answer : Answer)
         × (TaskAnswer task.now name.now text.now answer
@@ -103,28 +215,14 @@ fn run_task<W: Write>(
     ensures no_late_write { out.new.late ≡ out.old.late }
 {
     match *task {
-        Task::Tokens { lexer, places } => {
-            let outcome = write_tokens(alloc, lexer, places.then_some(name), text, out)?;
-            Ok(tokens_ending(&outcome))
-        }
+        Task::Tokens { lexer, places } => cut_tokens(alloc, lexer, places, name, text, out),
         Task::Pieces {
-            lexer,
+            rules,
             form,
             recovers,
             several,
-        } => {
-            let layout = Layout {
-                form,
-                recovers,
-                file: several.then_some(name),
-            };
-            let fault = write_items(alloc, lexer, &layout, text, out)?;
-            Ok(pieces_ending(recovers, fault))
-        }
-        Task::Markup { lexer, markup } => {
-            let fault = write_page(alloc, lexer, markup, text, out)?;
-            Ok(pieces_ending(true, fault))
-        }
+        } => cut_pieces(alloc, rules, form, recovers, several, name, text, out),
+        Task::Markup { rules, markup } => cut_page(alloc, rules, markup, name, text, out),
     }
 }
 
@@ -144,6 +242,28 @@ fn say_stopped<E: Write>(
     ensures no_late_message { err.new.late ≡ err.old.late }
 {
     let Ok(message) = fault_message(alloc, kind, name, text, at) else {
+        return Err(RunError::OutOfMemory);
+    };
+    say(message.as_str(), err);
+    Ok(())
+}
+
+// Says in which mode the text ends, and where it was entered.
+fn say_open<E: Write>(
+    alloc: Global,
+    mode: &str,
+    name: &str,
+    text: &str,
+    at: usize,
+    err: &mut Watched<E>,
+) -> Result<(), RunError>
+    requires boundary { IsCharBoundary text.now at }
+    ensures said { OnOk result
+        (Takes E.contents err.old err.new (open_text mode.now name.now text.now at)) }
+    ensures memory { IfErr result (λ e. e ≡ RunError.OutOfMemory) }
+    ensures no_late_message { err.new.late ≡ err.old.late }
+{
+    let Ok(message) = open_message(alloc, mode, name, text, at) else {
         return Err(RunError::OutOfMemory);
     };
     say(message.as_str(), err);
@@ -177,6 +297,10 @@ fn cut_text<W: Write, E: Write>(
         CutResult::Faulty => Ok(1),
         CutResult::Stopped { kind, at } => {
             say_stopped(alloc, kind, name, text, at, err)?;
+            Ok(1)
+        }
+        CutResult::Open { mode, at } => {
+            say_open(alloc, mode, name, text, at, err)?;
             Ok(1)
         }
     }

@@ -153,7 +153,7 @@ fn clash_explained(
     requires later { numbers.0 < length bytes.now }
     requires earlier { numbers.1 < length bytes.now }
     ensures said { IfOk result (λ message. (shown : List ℕ) × (string_bytes message ≡ clash_text
-        (numbers.0 + 1) (codes "this terminal") (numbers.1 + 1) (codes "that")
+        (numbers.0 + 1) (codes "this terminal") (numbers.1 + 1) (codes "that") []
         (quoted_word word.now) shown (clash_advice word.now))) }
 {
     let (later, earlier) = numbers;

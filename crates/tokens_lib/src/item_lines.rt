@@ -1,19 +1,21 @@
 //! The lines of the pieces of a text, written as they come.
-ghost use Rattle.std.specs.Prelude.{◌≡◌, ◌≢◌, ◌+◌, ◌≤◌, ◌++◌, ℕ, List, length, false, true, option_map, None, IfOk, IfSome, IsSome, OnOk, OnErr, IfErr};
+ghost use Rattle.std.specs.Prelude.{◌≡◌, ◌≢◌, ◌+◌, ◌≤◌, ◌++◌, ℕ, List, length, map, false, true, option_map, string_bytes, None, IfOk, IfSome, IsSome, OnOk, OnErr, IfErr};
 ghost use Rattle.std.specs.Io.KnownBytes.{Appends};
 ghost use Rattle.std.specs.Str.{IsCharBoundary};
 ghost use Rattle.lalrpop_rules.specs.Pieces.{slice_of, start_of};
 ghost use Rattle.lexdfa_lib.specs.Watch.{AppendsPrefix};
-ghost use Rattle.tokens_lib.specs.ItemLines.{line_in, item_line, name_at, WritesItems, WritesItemsPrefix};
-ghost use Rattle.tokens_lib.specs.Internal.Faults.{first_with};
+ghost use Rattle.tokens_lib.specs.ItemLines.{line_in, item_line, name_at, mode_named as mode_named_of, WritesItems, WritesItemsPrefix};
 
+use crate::cutter::Cutter;
 use crate::json_line::push_json;
 use crate::layout::{Layout, LineForm};
 use crate::plain_line::push_plain;
 use crate::shown::Shown;
+use crate::text_end::TextEnd;
 use lalrpop_lexer::lexer::dfa::NfaIndex;
 use lalrpop_lexer::{Position, Positions};
-use lalrpop_rules::{Item, RuleLexer};
+use lalrpop_modes::ModeLexer;
+use lalrpop_rules::Item;
 use lexdfa_lib::{RunError, Watched, write_whole};
 use std::alloc::{AllocError, Global};
 use std::io::Write;
@@ -24,14 +26,15 @@ pub(crate) const CHUNK: usize = 65536;
 fn push_line(
     alloc: Global,
     lines: &mut Vec<u8>,
-    layout: &Layout<'_>,
+    layout: &Layout<'_, '_>,
     position: Position,
-    shown: &Shown<'_, '_>,
+    shown: &Shown<'_, '_, '_>,
 ) -> Result<(), AllocError>
     requires fits { shown.now.start + length shown.now.slice.now ≤ usize.MAX }
     ensures { OnOk result (lines.new.items ≡ lines.old.items
         ++ line_in layout.now.form (option_map (λ f. f.now) layout.now.file) position shown.now.start
-        (option_map (λ n. n.now) shown.now.name) shown.now.slice.now) }
+        (option_map (λ n. n.now) shown.now.name) (option_map (λ m. m.now) shown.now.mode)
+        shown.now.slice.now) }
 {
     match layout.form {
         LineForm::Plain => push_plain(alloc, lines, layout.file, position, shown),
@@ -40,7 +43,7 @@ fn push_line(
 }
 
 // The name of a rule. The rule of a token always has one.
-fn name_of(lexer: &RuleLexer, index: NfaIndex) -> &str
+fn name_of(lexer: &ModeLexer, index: NfaIndex) -> &str
     ensures { result.now ≡ name_at lexer.now.names index }
 {
     match lexer.name(index) {
@@ -49,20 +52,41 @@ fn name_of(lexer: &RuleLexer, index: NfaIndex) -> &str
     }
 }
 
+/// The name of the mode with this number, or the empty string if there is no such mode.
+pub(crate) fn mode_name(modes: &[String], mode: usize) -> &str
+    ensures name { result.now ≡ name_at (map string_bytes modes.now) mode }
+{
+    match modes.get(mode) {
+        Some(name) => name.as_str(),
+        None => "",
+    }
+}
+
+// The mode that a line names: none, unless there are several.
+fn mode_named(modes: &[String], mode: usize) -> Option<&str>
+    ensures { option_map (λ m. m.now) result ≡ mode_named_of (map string_bytes modes.now) mode }
+{
+    if modes.len() > 1 {
+        return Some(mode_name(modes, mode));
+    }
+    None
+}
+
 // The line of a piece, if it has one.
 fn push_item(
     alloc: Global,
     lines: &mut Vec<u8>,
-    lexer: &RuleLexer,
-    layout: &Layout<'_>,
+    lexer: &ModeLexer,
+    layout: &Layout<'_, '_>,
     places: &mut Positions<'_>,
+    mode: usize,
     item: &Item<'_>,
 ) -> Result<(), AllocError>
     requires boundary { IsCharBoundary places.old.text (start_of item.now) }
     requires ascending { places.old.offset ≤ start_of item.now }
     requires fits { start_of item.now + length (slice_of item.now) ≤ usize.MAX }
     ensures line { OnOk result (lines.new.items ≡ lines.old.items
-        ++ item_line layout.now lexer.now.names places.old.text item.now) }
+        ++ item_line layout.now lexer.now.names places.old.text mode item.now) }
     ensures text { places.new.text ≡ places.old.text }
     ensures walked { places.new.offset ≤ start_of item.now }
 {
@@ -70,11 +94,13 @@ fn push_item(
         Item::Token(token) => Shown {
             start: token.start,
             name: Some(name_of(lexer, token.index)),
+            mode: mode_named(layout.modes, mode),
             slice: token.slice,
         },
         Item::Fault { start, slice } if layout.recovers => Shown {
             start: *start,
             name: None,
+            mode: mode_named(layout.modes, mode),
             slice,
         },
         Item::Skipped(_) | Item::Fault { .. } => return Ok(()),
@@ -103,19 +129,8 @@ fn pass_on<W: Write>(lines: &mut Vec<u8>, writer: &mut Watched<W>) -> Result<(),
     Ok(())
 }
 
-/// Where the first fault begins, after one more piece.
-pub(crate) fn first_fault_with(first: Option<usize>, item: &Item<'_>) -> Option<usize>
-    ensures { result ≡ first_with first item.now }
-{
-    match (first, item) {
-        (Some(start), _) => Some(start),
-        (None, Item::Fault { start, .. }) => Some(*start),
-        (None, _) => None,
-    }
-}
-
 // Whether cutting ends because a fault was found.
-fn ends(layout: &Layout<'_>, first_fault: Option<usize>) -> bool
+fn ends(layout: &Layout<'_, '_>, first_fault: Option<usize>) -> bool
     ensures yes { result ≡ true → IsSome first_fault × (layout.now.recovers ≡ false) }
     ensures no { result ≡ false → layout.now.recovers ≡ false → first_fault ≡ None }
 {
@@ -125,10 +140,11 @@ fn ends(layout: &Layout<'_>, first_fault: Option<usize>) -> bool
 /// Cuts the text by named rules, and writes a line for each token and for each fault, but none for skipped pieces. A plain line
 /// is `LINE:COLUMN NAME "SLICE"`, with `FILE:` before it if the file is named. Lines and columns count from 1, columns in
 /// characters, and a fault has `!` for its name. A line of JSON is an object with the members `file`, if the file is named,
-/// `line`, `column`, `start` and `end`, which are offsets in bytes, `rule`, which is `null` for a fault, and `text`.
+/// `line`, `column`, `start` and `end`, which are offsets in bytes, `rule`, which is `null` for a fault, `mode`, if the layout names several
+/// modes, and `text`.
 ///
 /// If the layout doesn't recover, the text is cut up to its first fault, which has no line. Returns where the first fault begins,
-/// in bytes, or `None` if there is none.
+/// in bytes, if there is one, and the mode in which cutting ended, if it has one below it.
 ///
 /// Lines are written while the text is cut, about 64 KiB at a time. No call is tried again.
 ///
@@ -136,18 +152,20 @@ fn ends(layout: &Layout<'_>, first_fault: Option<usize>) -> bool
 ///
 /// `OutOfMemory` if a request for memory was refused, and `Write` if a write failed or took no byte: a prefix of the lines
 /// was written.
-pub fn write_items<W: Write>(
+pub fn write_items<'text, W: Write>(
     alloc: Global,
-    lexer: &RuleLexer,
-    layout: &Layout<'_>,
-    text: &str,
+    lexer: &'text ModeLexer,
+    layout: &Layout<'_, '_>,
+    text: &'text str,
     writer: &mut Watched<W>,
-) -> Result<Option<usize>, RunError>
+) -> Result<TextEnd, RunError>
     requires writer_good { writer.old.failed ≡ false }
 
-    ensures written { IfOk result (λ fault. WritesItems lexer.now layout.now text.now
-        (W.contents writer.old.inner) (W.contents writer.new.inner) fault) }
-    ensures boundary { IfOk result (λ fault. IfSome fault (IsCharBoundary text.now)) }
+    ensures written { IfOk result (λ end. WritesItems lexer.now layout.now text.now
+        (W.contents writer.old.inner) (W.contents writer.new.inner) end) }
+    ensures boundary { IfOk result (λ end. IfSome end.fault (IsCharBoundary text.now)) }
+    ensures entered { IfOk result (λ end.
+        IfSome end.inside (λ open_mode. IsCharBoundary text.now open_mode.at)) }
     ensures good { OnOk result (writer.new.failed ≡ false) }
 
     ensures prefix { OnErr result (WritesItemsPrefix lexer.now layout.now text.now
@@ -158,23 +176,23 @@ pub fn write_items<W: Write>(
 
     ensures no_late_write { writer.new.late ≡ writer.old.late }
 {
-    let Ok(mut items) = lexer.items_linear(alloc, text) else {
-        return Err(RunError::OutOfMemory);
-    };
+    let mut cutter = Cutter::new(alloc, lexer, text)?;
     let mut places = Positions::new(text);
     let mut lines = Vec::new(alloc);
-    let mut first_fault = None;
-    'cutting: while let Some(item) = items.next() {
-        first_fault = first_fault_with(first_fault, &item);
-        if ends(layout, first_fault) {
+    'cutting: while let Some(found) = cutter.next_item() {
+        let Ok(item) = found else {
+            return Err(RunError::OutOfMemory);
+        };
+        if ends(layout, cutter.first_fault()) {
             write_whole(writer, &lines)?;
-            return Ok(first_fault);
+            return Ok(cutter.end());
         }
-        if push_item(alloc, &mut lines, lexer, layout, &mut places, &item).is_err() {
+        let mode = cutter.mode();
+        if push_item(alloc, &mut lines, lexer, layout, &mut places, mode, &item).is_err() {
             return Err(RunError::OutOfMemory);
         }
         pass_on(&mut lines, writer)?;
     }
     write_whole(writer, &lines)?;
-    Ok(first_fault)
+    Ok(cutter.end())
 }

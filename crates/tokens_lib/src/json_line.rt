@@ -1,7 +1,7 @@
 //! The line of a piece as a JSON object.
 ghost use Rattle.std.specs.Prelude.{◌≡◌, ◌+◌, ◌≤◌, ◌∷◌, [], ◌++◌, codes, length, option_map, OnOk};
 ghost use Rattle.json.specs.Token.{key, string};
-ghost use Rattle.tokens_lib.specs.ItemLines.{number_member, string_member, file_member, rule_member, object_of, json_line};
+ghost use Rattle.tokens_lib.specs.ItemLines.{number_member, string_member, file_member, rule_member, mode_member, object_of, json_line};
 
 use crate::shown::Shown;
 use json::Writer;
@@ -54,6 +54,17 @@ fn write_rule(writer: &mut Writer, name: Option<&str>) -> Result<(), AllocError>
     }
 }
 
+fn write_mode(writer: &mut Writer, mode: Option<&str>) -> Result<(), AllocError>
+    ensures tokens { OnOk result (writer.new.tokens
+        ≡ writer.old.tokens ++ mode_member (option_map (λ m. m.now) mode.entry)) }
+    ensures before { writer.new.before ≡ writer.old.before }
+{
+    match mode {
+        Some(mode) => write_string(writer, "mode", mode),
+        None => Ok(()),
+    }
+}
+
 // Where the piece begins and ends.
 fn write_places(
     writer: &mut Writer,
@@ -76,12 +87,13 @@ fn write_object(
     writer: &mut Writer,
     file: Option<&str>,
     position: Position,
-    shown: &Shown<'_, '_>,
+    shown: &Shown<'_, '_, '_>,
 ) -> Result<(), AllocError>
     requires fits { shown.now.start + length shown.now.slice.now ≤ usize.MAX }
     ensures tokens { OnOk result (writer.new.tokens ≡ writer.old.tokens
         ++ object_of (option_map (λ f. f.now) file.entry) position shown.now.start
-        (option_map (λ n. n.now) shown.now.name) shown.now.slice.now) }
+        (option_map (λ n. n.now) shown.now.name) (option_map (λ m. m.now) shown.now.mode)
+        shown.now.slice.now) }
     ensures before { writer.new.before ≡ writer.old.before }
 {
     writer.begin_object()?;
@@ -93,6 +105,7 @@ fn write_object(
         shown.start + shown.slice.len(),
     )?;
     write_rule(writer, shown.name)?;
+    write_mode(writer, shown.mode)?;
     write_string(writer, "text", shown.slice)?;
     writer.end_object()
 }
@@ -107,12 +120,13 @@ pub(crate) fn push_json(
     lines: &mut Vec<u8>,
     file: Option<&str>,
     position: Position,
-    shown: &Shown<'_, '_>,
+    shown: &Shown<'_, '_, '_>,
 ) -> Result<(), AllocError>
     requires fits { shown.now.start + length shown.now.slice.now ≤ usize.MAX }
     ensures { OnOk result (lines.new.items ≡ lines.old.items
         ++ json_line (option_map (λ f. f.now) file.entry) position shown.now.start
-        (option_map (λ n. n.now) shown.now.name) shown.now.slice.now) }
+        (option_map (λ n. n.now) shown.now.name) (option_map (λ m. m.now) shown.now.mode)
+        shown.now.slice.now) }
 {
     let mut writer = Writer::new(mem::replace(lines, Vec::new(alloc)));
     write_object(&mut writer, file, position, shown)?;

@@ -6,9 +6,9 @@
 /// use lexdfa_lib::Watched;
 /// use tokens_lib::{Layout, LineForm, write_items};
 ///
-/// let layout = Layout { form: LineForm::Json, recovers: true, file: None };
+/// let layout = Layout { form: LineForm::Json, recovers: true, file: None, modes: &[] };
 /// let mut writer = Watched::new(Vec::new(alloc));
-/// let fault = write_items(alloc, &rules, &layout, "let x", &mut writer)?;
+/// let end = write_items(alloc, &rules, &layout, "let x", &mut writer)?;
 /// ```
 #[derive(Clone, Copy, Debug, PartialEq, Eq)]
 pub enum LineForm {
@@ -24,14 +24,16 @@ pub enum LineForm {
 /// use tokens_lib::{Layout, LineForm};
 ///
 /// // Lines for people, which name the file, up to the first fault.
-/// let layout = Layout { form: LineForm::Plain, recovers: false, file: Some("a.txt") };
+/// let layout = Layout { form: LineForm::Plain, recovers: false, file: Some("a.txt"), modes: &[] };
 /// ```
 #[derive(Clone, Copy, Debug)]
-pub struct Layout<'file> {
+pub struct Layout<'file, 'modes> {
     /// What a line looks like.
     pub form: LineForm,
     /// Whether the text is cut to its end and faults have lines; if not, it is cut up to its first fault.
     pub recovers: bool,
     /// The file that each line names, if any.
     pub file: Option<&'file str>,
+    /// The names of the modes, in order. If there are several, a line of JSON names the mode in which its piece was read.
+    pub modes: &'modes [String],
 }

@@ -38,7 +38,7 @@ pub(crate) fn push_plain(
     lines: &mut Vec<u8>,
     file: Option<&str>,
     position: Position,
-    shown: &Shown<'_, '_>,
+    shown: &Shown<'_, '_, '_>,
 ) -> Result<(), AllocError>
     ensures { OnOk result (lines.new.items ≡ lines.old.items
         ++ plain_line (option_map (λ f. f.now) file.entry) position

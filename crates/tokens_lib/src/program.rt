@@ -13,6 +13,7 @@ use crate::by_terminals::{list_terminal_clashes, terminals_by_name};
 use crate::command::{Action, ArgumentsError, Command, command_of};
 use crate::cut_files::{Task, cut_all};
 use crate::files::{ErrorStream, Files, SystemFiles, say};
+use crate::output::Output;
 use crate::usage::{help, version, wrong_text};
 use lexdfa_lib::{Failure, RunError, Watched, flushed, status_of, without_arguments, write_whole};
 use std::alloc::Global;
@@ -80,9 +81,9 @@ fn run_action<F: Files, R: Read, W: Write, E: Write>(
 {
     match action {
         Action::Cut { form, recovers } => match lexer_by_name(alloc, files, rules, err)? {
-            Ok(lexer) => {
+            Ok(found) => {
                 let task = Task::Pieces {
-                    lexer: &lexer,
+                    rules: &found,
                     form,
                     recovers,
                     several: are_several(names),
@@ -92,9 +93,9 @@ fn run_action<F: Files, R: Read, W: Write, E: Write>(
             Err(status) => Ok(status),
         },
         Action::Show { markup } => match lexer_by_name(alloc, files, rules, err)? {
-            Ok(lexer) => {
+            Ok(found) => {
                 let task = Task::Markup {
-                    lexer: &lexer,
+                    rules: &found,
                     markup,
                 };
                 cut_all(alloc, &task, files, names, input, out, err)
@@ -180,8 +181,8 @@ fn refuse<E: Write>(
 /// lists all clashes of the rules (`write_rule_clashes`) or terminals (`write_clashes`). What is wrong is explained on `err`; if a
 /// write there fails, nothing more is said, and the run goes on.
 ///
-/// The exit status is 0 if each text was cut to its end and has no fault, or no rules clash, 1 if a text has a fault, 2 if rules
-/// can't be compiled or clash, 3 if a line of the rules is bad or its pattern doesn't parse, 4 for wrong arguments, and 6 if a
+/// The exit status is 0 if each text was cut to its end, has no fault and ends in a mode with none below it, or no rules clash, 1 if a
+/// text has a fault or ends in another mode, 2 if rules can't be compiled or clash, 3 if a line of the rules is bad or its pattern doesn't parse, 4 for wrong arguments, and 6 if a
 /// file gave no text. Of several files, the greatest status counts.
 ///
 /// # Errors
@@ -223,7 +224,8 @@ pub fn run<F: Files, R: Read, W: Write, E: Write>(
     }
 }
 
-// `run` over the streams and the files of the system, and a flush after the last line.
+// `run` over the streams and the files of the system, and a flush after the last line. If the reader of standard output has gone away,
+// that is no failure.
 fn run_in_system<R: Env + RuntimeFiles + Input + Print + Eprint + AllocGlobal>(
     rt: &R,
     err: &mut Watched<ErrorStream<'_, R>>,
@@ -235,18 +237,18 @@ fn run_in_system<R: Env + RuntimeFiles + Input + Print + Eprint + AllocGlobal>(
         return Err(Failure::Run(RunError::OutOfMemory));
     };
     let mut input = Watched::new(rt.reader());
-    let mut out = Watched::new(io::writer(rt));
-    match run(
-        rt.alloc(),
-        &words,
-        &SystemFiles { rt },
-        &mut input,
-        &mut out,
-        err,
-    ) {
-        Ok(status) => flushed(status, &out.into_inner().flush()),
+    let mut out = Watched::new(Output::new(io::writer(rt)));
+    let files = SystemFiles { rt };
+    let result = run(rt.alloc(), &words, &files, &mut input, &mut out, err);
+    let mut output = out.into_inner();
+    let ending = match result {
+        Ok(status) => flushed(status, &output.flush()),
         Err(error) => Err(Failure::Run(error)),
+    };
+    if output.is_closed() {
+        return Ok(0);
     }
+    ending
 }
 
 // What is said of a run that fails.
@@ -262,7 +264,8 @@ fn failure_text(failure: &Failure) -> &'static str
 }
 
 /// `run` for the program's arguments, over the files and the streams of the system, and a flush after the last line. A failed flush
-/// is a failed write. If memory was refused or a write failed, it says so, and the exit status is 5 or 6.
+/// is a failed write. If memory was refused or a write failed, it says so, and the exit status is 5 or 6; but if the reader of
+/// standard output has gone away, it says nothing, and the status is 0.
 pub fn run_program<R: Env + RuntimeFiles + Input + Print + Eprint + AllocGlobal>(rt: &R) -> ExitCode
     ensures status { exit_status result ≤ 6 }
 {

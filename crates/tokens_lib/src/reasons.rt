@@ -2,12 +2,14 @@
 ghost use Rattle.std.specs.Prelude.{◌≡◌, ◌++◌, ℕ, List, chars, codes, length, string_bytes, take, IfOk, OnOk};
 ghost use Rattle.std.specs.Str.{IsCharBoundary};
 ghost use Rattle.lalrpop_lexer.specs.Quoted.{quoted_word};
-ghost use Rattle.tokens_lib.specs.Reasons.{clash_advice, numbered, placed, refusal_text, syntax_text};
+ghost use Rattle.tokens_lib.specs.Reasons.{bad_end_text, clash_advice, numbered, placed, refusal_text, syntax_text};
 
+use lalrpop_delimited::FromToError;
 use lalrpop_lexer::lexer::nfa::NfaConstructionError;
 use lalrpop_lexer::lexer::re::SyntaxKind;
 use lalrpop_lexer::{ShownWord, is_unseen};
 use std::alloc::{AllocError, Global};
+use unicode_width::UnicodeWidthChar;
 
 /// Why a pattern doesn't parse.
 pub(crate) fn syntax_text(kind: SyntaxKind) -> &'static str
@@ -31,6 +33,9 @@ pub(crate) fn syntax_text(kind: SyntaxKind) -> &'static str
         SyntaxKind::UnsupportedLookAround => "patterns have no look-around",
         SyntaxKind::UnsupportedBackreference => "patterns have no references to groups",
         SyntaxKind::NestLimitExceeded => "groups, brackets and repetitions nest too deeply",
+        SyntaxKind::PartUnknown => "there is no part by this name",
+        SyntaxKind::PartUnderFlag => "a part stands only where no flag is on",
+        SyntaxKind::PartName => "this name of a part is malformed",
     }
 }
 
@@ -57,19 +62,46 @@ pub(crate) fn characters_before(text: &str, byte: usize) -> usize
     text[..byte].chars().count()
 }
 
-/// The line as it can be shown: a sign in the place of each character that isn't seen, so that it can't steer a terminal and a caret
-/// under it is in the right place.
+// Of a longer line so many characters are shown.
+const MOST_SHOWN: usize = 160;
+
+// Of these so many stand before the place at least, if the line has them.
+const BEFORE: usize = 100;
+
+// A sign in the place of each character that isn't seen, so that it can't steer a terminal.
+fn seen(c: char) -> char {
+    if c != '\t' && is_unseen(c) {
+        '\u{fffd}'
+    } else {
+        c
+    }
+}
+
+// The line as it can be shown, from its character `first` on; dots in the place of what is left out.
+fn shown_from(alloc: Global, line: &str, first: usize) -> Result<String, AllocError> {
+    let mut shown = String::new(alloc);
+    if first > 0 {
+        shown.push('…')?;
+    }
+    let mut left = MOST_SHOWN;
+    for c in line.chars().skip(first) {
+        if left == 0 {
+            shown.push('…')?;
+            return Ok(shown);
+        }
+        shown.push(seen(c))?;
+        left = left.saturating_sub(1);
+    }
+    Ok(shown)
+}
+
+/// The line as it can be shown: with signs for characters that aren't seen, and of a long line the beginning.
 ///
 /// # Errors
 ///
 /// `AllocError` if a request for memory was refused.
 pub(crate) fn line_shown(alloc: Global, line: &str) -> Result<String, AllocError> {
-    let mut shown = String::new(alloc);
-    for c in line.chars() {
-        let is_hidden = c != '\t' && is_unseen(c);
-        shown.push(if is_hidden { '\u{fffd}' } else { c })?;
-    }
-    Ok(shown)
+    shown_from(alloc, line, 0)
 }
 
 /// How to resolve a clash on this word.
@@ -83,24 +115,33 @@ pub(crate) fn clash_advice(word: &[u32]) -> &'static str
     }
 }
 
+// The first character of a long line that is shown, so that the one at this place, from 0, is.
+fn first_shown(line: &str, place: usize) -> usize {
+    if line.chars().count() <= MOST_SHOWN {
+        return 0;
+    }
+    place.saturating_sub(BEFORE)
+}
+
 // Blanks as wide as the first characters of the line.
 fn push_blanks(text: &mut String, line: &str, count: usize) -> Result<(), AllocError>
     ensures { OnOk result ((blanks : List ℕ)
         × (string_bytes text.new ≡ string_bytes text.old ++ blanks)) }
 {
-    let mut left = count;
-    for c in line.chars() {
-        if left == 0 {
-            return Ok(());
-        }
-        text.push(if c == '\t' { '\t' } else { ' ' })?;
-        left = left.saturating_sub(1);
+    for c in line.chars().take(count) {
+        let blanks = match (c, c.width()) {
+            ('\t', _) => "\t",
+            (_, Some(0)) => "",
+            (_, Some(2)) => "  ",
+            _ => " ",
+        };
+        text.push_str(blanks)?;
     }
     Ok(())
 }
 
-/// The place and the reason, and the line with a caret under the place. Lines and columns count from 1, columns in characters. The file's
-/// name stands before it.
+/// The place and the reason, and the line with a caret under the place. Lines and columns count from 1, columns in characters. Of a long line
+/// only what surrounds the place is shown. The file's name stands before it.
 ///
 /// # Errors
 ///
@@ -115,9 +156,13 @@ pub(crate) fn place_explained(
     ensures placed { IfOk result (λ message. (shown : List ℕ)
         × (string_bytes message ≡ placed number column reason.now shown)) }
 {
-    let shown = line_shown(alloc, line)?;
+    let place = column.saturating_sub(1);
+    let first = first_shown(line, place);
+    let shown = shown_from(alloc, line, first)?;
+    let dots = usize::from(first > 0);
+    let before = place.saturating_sub(first).saturating_add(dots);
     let mut message = format!(in alloc; "{number}:{column}: {reason}\n    {shown}\n    ")?;
-    push_blanks(&mut message, line, column.saturating_sub(1))?;
+    push_blanks(&mut message, &shown, before)?;
     message.push_str("^\n")?;
     Ok(message)
 }
@@ -139,6 +184,17 @@ pub(crate) fn refusal_explained(
     let reason = refusal_text(error);
     let shown = line_shown(alloc, line)?;
     format!(in alloc; "{number}: {reason}\n    {shown}\n")
+}
+
+/// Why the end of a text from one word to another is wrong.
+pub(crate) fn bad_end_text(error: FromToError) -> &'static str
+    ensures text { result.now ≡ bad_end_text error }
+{
+    match error {
+        FromToError::EmptyEnd => "nothing stands between the apostrophes after `to`",
+        FromToError::LongEnd => "the text after `to` has more than 64 characters",
+        FromToError::OutOfMemory => "out of memory",
+    }
 }
 
 /// Both lines of a clash with their numbers, from 1, the earlier first.

@@ -6,19 +6,28 @@ use program_tests::failing::FailsAfter;
 use std::alloc::Global;
 use std::io;
 use std::io::Write;
-use tokens_lib::{Rule, RulesError, rule_clashes, write_rule_clashes};
+use tokens_lib::{ModeRule, ModesError, Rule, mode_clashes, write_rule_clashes};
+
+// The rule in the first mode, without actions.
+fn plain<'text>(rule: Rule<'text>) -> ModeRule<'text> {
+    ModeRule {
+        rule,
+        modes: &[0],
+        actions: &[],
+    }
+}
 
 // What is written for the clashes of three rules.
 fn write_clashes_of<W: Write>(alloc: Global, writer: &mut Watched<W>) -> Result<(), RunError>
     requires writer_good { writer.old.failed ≡ false }
 {
     let rules = [
-        Rule::literal("A", "a"),
-        Rule::pattern("B", "[ab]").with_precedence(1),
-        Rule::literal("A", "a"),
+        plain(Rule::literal("A", "a")),
+        plain(Rule::pattern("B", "[ab]").with_precedence(1)),
+        plain(Rule::literal("A", "a")),
     ];
-    match rule_clashes(alloc, &rules) {
-        Ok(found) => write_rule_clashes(alloc, &rules, &found, writer),
+    match mode_clashes(alloc, &rules, 1) {
+        Ok(found) => write_rule_clashes(alloc, &rules, &["INITIAL"], &found, writer),
         Err(_) => Err(RunError::OutOfMemory),
     }
 }
@@ -49,14 +58,14 @@ fn a_failed_write_leaves_a_prefix_of_the_clashes_of_rules(rt: HostRuntime) {
 // The stronger rules leave the surrogates alone, which no text holds.
 fn surrogate_clash(alloc: Global) -> Option<Vec<u8>> {
     let rules = [
-        Rule::pattern("X", "(?s)."),
-        Rule::pattern("Y", "(?s)."),
-        Rule::pattern("BELOW", "[\\x{0}-\\x{D7FF}]").with_precedence(1),
-        Rule::pattern("ABOVE", "[\\x{E000}-\\x{10FFFF}]").with_precedence(1),
+        plain(Rule::pattern("X", "(?s).")),
+        plain(Rule::pattern("Y", "(?s).")),
+        plain(Rule::pattern("BELOW", "[\\x{0}-\\x{D7FF}]").with_precedence(1)),
+        plain(Rule::pattern("ABOVE", "[\\x{E000}-\\x{10FFFF}]").with_precedence(1)),
     ];
-    let found = rule_clashes(alloc, &rules).ok()?;
+    let found = mode_clashes(alloc, &rules, 1).ok()?;
     let mut writer = Watched::new(Vec::new(alloc));
-    write_rule_clashes(alloc, &rules, &found, &mut writer).ok()?;
+    write_rule_clashes(alloc, &rules, &["INITIAL"], &found, &mut writer).ok()?;
     Some(writer.into_inner())
 }
 
@@ -68,18 +77,50 @@ fn values_that_are_no_characters_are_shown(rt: HostRuntime) {
 
 #[test]
 fn rules_without_trees_have_no_clashes(rt: HostRuntime) {
-    let open = [Rule::literal("A", "("), Rule::pattern("B", "(")];
+    let open = [
+        plain(Rule::literal("A", "(")),
+        plain(Rule::pattern("B", "(")),
+    ];
     assert!(rt;
         matches!(
-            rule_clashes(rt.alloc(), &open),
-            Err(RulesError::NotParsed { rule: 1, .. })
+            mode_clashes(rt.alloc(), &open, 1),
+            Err(ModesError::NotParsed { rule: 1, .. })
         )
     );
-    let lazy = [Rule::literal("A", "a"), Rule::pattern("B", "a*?")];
+    let lazy = [
+        plain(Rule::literal("A", "a")),
+        plain(Rule::pattern("B", "a*?")),
+    ];
     assert!(rt;
         matches!(
-            rule_clashes(rt.alloc(), &lazy),
-            Err(RulesError::NotCompiled { rule: 1, .. })
+            mode_clashes(rt.alloc(), &lazy, 1),
+            Err(ModesError::NotCompiled { rule: 1, .. })
         )
     );
+}
+
+// The two rules meet in the second mode alone.
+fn clash_in_a_mode(alloc: Global) -> Option<Vec<u8>> {
+    let rules = [
+        ModeRule {
+            rule: Rule::literal("A", "a"),
+            modes: &[0, 1],
+            actions: &[],
+        },
+        ModeRule {
+            rule: Rule::literal("B", "a"),
+            modes: &[1],
+            actions: &[],
+        },
+    ];
+    let found = mode_clashes(alloc, &rules, 2).ok()?;
+    let mut writer = Watched::new(Vec::new(alloc));
+    write_rule_clashes(alloc, &rules, &["INITIAL", "COMMENT"], &found, &mut writer).ok()?;
+    Some(writer.into_inner())
+}
+
+#[test]
+fn clashes_name_their_mode(rt: HostRuntime) {
+    let written = clash_in_a_mode(rt.alloc()).expect(&rt, "clashes");
+    assert!(rt; written.as_slice() == b"COMMENT A B \"a\"\n".as_slice());
 }

@@ -1,5 +1,6 @@
 -- Cases of specs/ItemLines.antt.
-use Rattle.std.proofs.Common.{◌≡◌, ℕ, zero, suc, Bool, List, [], ◌∷◌, Option, Some, None, length, codes, refl, true, false, arith}
+use Rattle.std.proofs.Common.{◌≡◌, ℕ, zero, suc, Bool, List, [], ◌∷◌, Option, Some, None, codes, refl, true, false, arith, Global}
+use Rattle.std.specs.Prelude.{String}
 use Rattle.std.specs.Borrow.{Bor}
 use Rattle.std.specs.Fmt.{digits}
 use Rattle.std.specs.Str.{chars}
@@ -7,17 +8,15 @@ use Rattle.unicode.specs.Binary.{is_default_ignorable_code_point}
 use Rattle.unicode.specs.Rows.{in_ranges}
 use Rattle.ucd_derived.specs.DefaultIgnorableCodePointRanges.{default_ignorable_code_point_ranges}
 use Rattle.json.specs.Print.{print_from, escape_byte}
-use Rattle.lalrpop_book.specs.Tree.{Tree}
-use Rattle.lalrpop_book.specs.declared.token.Token.{Token as Cut}
-use Rattle.lalrpop_book.proofs.LastFaults.{end_behind}
 use Rattle.lalrpop_lexer.specs.declared.position.Position.{Position}
 use Rattle.lalrpop_rules.specs.declared.item.Item.{Item}
-use Rattle.lalrpop_rules.specs.declared.item.Item.TheVariants.{Token, Fault}
-use Rattle.lalrpop_rules.specs.RuleSet.{RuleSet}
-use Rattle.tokens_lib.specs.ItemLines.{plain_line, json_line, name_at, fault_line, size_to_fault, AreUpToFault, first_fault, WritesItemsPrefix}
+use Rattle.lalrpop_rules.specs.declared.item.Item.TheVariants.{Fault}
+use Rattle.lalrpop_modes.specs.Modes.{ModeRules}
+use Rattle.lalrpop_modes.specs.Stack.{Stack, start as first_stack}
+use Rattle.lalrpop_rules.proofs.UniquePieces.{no_piece_left}
+use Rattle.tokens_lib.specs.ItemLines.{plain_line, json_line, name_at, fault_line, mode_named, piece_lines, AreUpToFault, first_fault, end_of, WritesItemsPrefix}
 use Rattle.tokens_lib.specs.declared.layout.LineForm.{LineForm}
 use Rattle.tokens_lib.specs.declared.layout.LineForm.TheVariants.{Plain}
-use Rattle.tokens_lib.proofs.PieceLines.{piece_left}
 
 abbrev second : Position
 second = record { line = 1; column = 2 }
@@ -38,37 +37,47 @@ line_of_a_fault = refl
 
 -- ---- lines of JSON
 
-object_of_a_name : json_line None second 1 (Some (codes "N")) (codes "\"") ≡ codes "{\"line\":1,\"column\":2,\"start\":1,\"end\":2,\"rule\":\"N\",\"text\":\"\\\"\"}\n"
+object_of_a_name : json_line None second 1 (Some (codes "N")) None (codes "\"") ≡ codes "{\"line\":1,\"column\":2,\"start\":1,\"end\":2,\"rule\":\"N\",\"text\":\"\\\"\"}\n"
 unfolding digits print_from escape_byte
 object_of_a_name = refl
 
-object_of_a_fault : json_line (Some (codes "f")) second 1 None (codes "a")
+object_of_a_fault : json_line (Some (codes "f")) second 1 None None (codes "a")
     ≡ codes "{\"file\":\"f\",\"line\":1,\"column\":2,\"start\":1,\"end\":2,\"rule\":null,\"text\":\"a\"}\n"
 unfolding digits print_from escape_byte
 object_of_a_fault = refl
 
+-- the mode stands behind the rule
+object_with_a_mode : json_line None second 1 (Some (codes "N")) (Some (codes "M")) (codes "a")
+    ≡ codes "{\"line\":1,\"column\":2,\"start\":1,\"end\":2,\"rule\":\"N\",\"mode\":\"M\",\"text\":\"a\"}\n"
+unfolding digits print_from escape_byte
+object_with_a_mode = refl
+
 -- ---- pieces
+
+-- one mode isn't named, and the second of two is
+modes_named : (mode_named (codes "A" ∷ []) 0 ≡ None) × (mode_named (codes "A" ∷ codes "B" ∷ []) 1 ≡ Some (codes "B"))
+modes_named = (refl, refl)
 
 names : (name_at (codes "A" ∷ codes "B" ∷ []) 1 ≡ codes "B") × (name_at (codes "A" ∷ []) 1 ≡ [])
 names = (refl, refl)
 
 -- without recovering, a fault has no line
-fault_without_a_line : (form : LineForm) (file : Option (List ℕ)) (text slice : List ℕ) (start : ℕ) → fault_line false form file text start slice ≡ []
-fault_without_a_line form file text slice start = refl
+fault_without_a_line : (form : LineForm) (file mode : Option (List ℕ)) (text slice : List ℕ) (begin : ℕ) → fault_line false form file text begin mode slice ≡ []
+fault_without_a_line form file mode text slice begin = refl
 
--- of `abc` from `b` on
-fault_takes_all_that_is_left : (slice : Bor (List ℕ)) → size_to_fault (codes "abc") (Fault 1 slice) ≡ 2
-fault_takes_all_that_is_left slice = refl
+no_line_of_nothing : (form : LineForm) (recovers : Bool) (file : Option (List ℕ)) (modes : List (List ℕ)) (r : ModeRules) (text : List ℕ) (s : Stack)
+    → piece_lines form recovers file modes r text s [] ≡ []
+no_line_of_nothing form recovers file modes r text s = refl
 
-token_takes_its_slice : (text : List ℕ) (token : Cut) → size_to_fault text (Token token) ≡ length token.slice.now
-token_takes_its_slice text token = refl
+nothing_is_cut_of_the_empty_text : (r : ModeRules) (s : Stack) → AreUpToFault r [] 0 s [] s
+nothing_is_cut_of_the_empty_text r s = (refl, refl)
 
-nothing_is_cut_of_the_empty_text : (ts : List Tree) (ps : List ℕ) (skips : List Bool) → AreUpToFault ts ps skips [] 0 []
-nothing_is_cut_of_the_empty_text ts ps skips = refl
+piece_behind_a_fault : (r : ModeRules) (text : List ℕ) (s end : Stack) (slice : Bor (List ℕ)) (x : Item) → ¬ AreUpToFault r text 0 s (Fault 0 slice ∷ x ∷ []) end
+piece_behind_a_fault r text s end slice x are = let none = are.1.0 in absurd (cc (none))
 
-piece_behind_a_fault : (ts : List Tree) (ps : List ℕ) (skips : List Bool) (text : List ℕ) (slice : Bor (List ℕ)) (x : Item)
-    → ¬ AreUpToFault ts ps skips text 0 (Fault 0 slice ∷ x ∷ [])
-piece_behind_a_fault ts ps skips text slice x are = piece_left ts ps skips text _ x are.1.0 (end_behind text 0 0 refl)
+-- the end of nothing
+end_of_nothing : (r : ModeRules) → end_of r [] first_stack ≡ record { fault = None; inside = None }
+end_of_nothing r = refl
 
 -- the first fault of some pieces
 first_faults : (x : Item) → first_fault (x ∷ []) ≡ first_fault (x ∷ [])
@@ -77,10 +86,12 @@ first_faults x = refl
 -- ---- a prefix
 
 -- a failed writer took nothing of the lines of an empty text, and no byte more
-nothing_of_it : (rules : RuleSet) → WritesItemsPrefix rules (record { form = Plain; recovers = true; file = None }) [] (Some []) (Some [])
-nothing_of_it rules = ([], (refl, (0, omega arith, refl)))
+nothing_of_it : (rules : ModeRules) (modes : Bor (List (String Global)))
+    → WritesItemsPrefix rules (record { form = Plain; recovers = true; file = None; modes = modes }) [] (Some []) (Some [])
+nothing_of_it rules modes = ([], (first_stack, ((refl, refl), (0, omega arith, refl))))
 
-no_byte_of_it : (rules : RuleSet) → ¬ WritesItemsPrefix rules (record { form = Plain; recovers = true; file = None }) [] (Some []) (Some (codes "x"))
-no_byte_of_it rules ([], (are, (zero, le, e))) = absurd (cc)
-no_byte_of_it rules ([], (are, (suc n, le, e))) = absurd (omega (arith, le))
-no_byte_of_it rules (x ∷ xs, (are, part)) = piece_left _ _ _ [] 0 x are.0 refl
+no_byte_of_it : (rules : ModeRules) (modes : Bor (List (String Global)))
+    → ¬ WritesItemsPrefix rules (record { form = Plain; recovers = true; file = None; modes = modes }) [] (Some []) (Some (codes "x"))
+no_byte_of_it rules modes ([], (end, (are, (zero, le, e)))) = absurd (cc)
+no_byte_of_it rules modes ([], (end, (are, (suc n, le, e)))) = absurd (omega (arith, le))
+no_byte_of_it rules modes (x ∷ xs, (end, (are, part))) = no_piece_left _ _ _ [] 0 x are.0 refl

@@ -3,14 +3,16 @@ use Rattle.std.proofs.Common.{◌≡◌, ◌≢◌, ℕ, false, inl, List, [], �
 use Rattle.std.specs.Prelude.{Err}
 use Rattle.lalrpop_book.specs.Clashes.{Entry}
 use Rattle.lalrpop_book.specs.declared.error.NfaConstructionError.TheVariants.{LookAround}
-use Rattle.lalrpop_rules.specs.declared.error.RulesError.TheVariants.{NotCompiled, OutOfMemory}
+use Rattle.lalrpop_modes.specs.declared.error.ModesError.TheVariants.{NotCompiled, OutOfMemory}
+use Rattle.lalrpop_modes.specs.declared.mode_rule.ModeRule.{ModeRule}
+use Rattle.lalrpop_rule_file.specs.declared.file_rule.FileRule.{FileRule}
 use Rattle.lalrpop_rules.specs.declared.rule.Rule.{Rule}
 use Rattle.lexdfa_lib.specs.declared.ending.Failure.TheVariants.{Usage, Run as Failing}
 use Rattle.lexdfa_lib.specs.declared.error.RunError.TheVariants.{Read, Write}
 use Rattle.lexdfa_lib.specs.declared.outcome.Outcome.TheVariants.{Ambiguous, Line}
 use Rattle.tokens_lib.specs.Answer.{Answer, refusal, about}
 use Rattle.tokens_lib.specs.Command.{IsCommand}
-use Rattle.tokens_lib.specs.Program.{rules_status, ErrorAnswer, clashes_status, reported_status, IsListing, failure_text, information, IsFirstAnswer}
+use Rattle.tokens_lib.specs.Program.{rules_status, AreFileRules, ErrorAnswer, clashes_status, reported_status, IsListing, failure_text, information, IsFirstAnswer}
 use Rattle.tokens_lib.specs.Streams.{Given}
 use Rattle.tokens_lib.specs.declared.command.Command.{Command}
 use Rattle.tokens_lib.specs.Usage.{help}
@@ -22,9 +24,16 @@ use Rattle.tokens_lib.specs.declared.layout.LineForm.TheVariants.{Plain}
 refused : rules_status (NotCompiled 0 LookAround) ≡ 2
 refused = refl
 
--- no clash, and one
-statuses : (c : Entry) → (clashes_status [] ≡ 0) × (clashes_status (c ∷ []) ≡ 2)
+-- no clash in two modes, and one in the second
+statuses : (c : Entry) → (clashes_status ([] ∷ [] ∷ []) ≡ 0) × (clashes_status ([] ∷ (c ∷ []) ∷ []) ≡ 2)
 statuses c = (refl, refl)
+
+-- a rule of a file, as a lexer takes it
+same_name : (f : FileRule) (q : ModeRule) → AreFileRules [] (f ∷ []) (q ∷ []) → q.rule.name ≡ f.rule.name
+same_name f q are = ap (λ (r : Rule). r.name) are.rules.0.rule
+
+no_rule_too_many : (q : ModeRule) → ¬ AreFileRules [] [] (q ∷ [])
+no_rule_too_many q are = are.rules
 
 -- terminals that make a lexer, and a bad line
 reports : (reported_status None ≡ 0) × (reported_status (Some (Line 2)) ≡ 3)
@@ -45,8 +54,8 @@ another_failure : failure_text (Failing Read) ≢ failure_text (Failing Write)
 another_failure e = let k : 114 ≡ 119 = ap (λ (l : List ℕ). get_or l 8 0) e in omega (arith, k)
 
 -- memory that was refused is no error of the rules that is told
-memory_is_not_told : (file : List ℕ) (ls : List (List ℕ)) (rs : List Rule) (answer : Answer) → ¬ ErrorAnswer file ls rs OutOfMemory answer
-memory_is_not_told file ls rs answer (places, (are, (said, (says, e)))) = says
+memory_is_not_told : (file : List ℕ) (ls modes : List (List ℕ)) (rs : List ModeRule) (answer : Answer) → ¬ ErrorAnswer file ls modes rs OutOfMemory answer
+memory_is_not_told file ls modes rs answer (places, (are, (said, (says, e)))) = says
 
 -- only what was asked for is written, with status 0
 informed : (Gives : List ℕ → Given → Type 0) (InputGives : Given → Type 0) → IsFirstAnswer Gives InputGives (codes "--help" ∷ []) (information help)

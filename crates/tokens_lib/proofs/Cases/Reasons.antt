@@ -1,18 +1,20 @@
 -- Cases of specs/Reasons.antt.
-use Rattle.std.proofs.Common.{◌≡◌, ◌≢◌, ℕ, inl, inr, List, [], ◌∷◌, ◌++◌, codes, decimal, get_or, length, length-append, refl, ap, arith}
+use Rattle.std.proofs.Common.{◌≡◌, ◌≢◌, ℕ, inl, inr, List, [], ◌∷◌, ◌++◌, codes, decimal, get_or, length, length-append, refl, ap, arith, Bor, Some}
 use Rattle.std.specs.Fmt.{digits}
 use Rattle.std.specs.Str.{chars}
 use Rattle.lalrpop_book.specs.declared.error.NfaConstructionError.TheVariants.{LookAround, NonGreedy}
 use Rattle.lalrpop_grammar.specs.declared.error.SyntaxKind.TheVariants.{UnclosedGroup, UnopenedGroup}
 use Rattle.lalrpop_lexer.specs.declared.position.Position.{Position}
 use Rattle.lalrpop_lexer.specs.Quoted.{quoted_word}
-use Rattle.lalrpop_rules.specs.RuleFault.{reason_of}
-use Rattle.lalrpop_rules.specs.declared.error.RulesError.TheVariants.{NotParsed, NotCompiled, OutOfMemory}
+use Rattle.lalrpop_rules.specs.declared.rule_text.RuleText.TheVariants.{Pattern}
+use Rattle.lalrpop_rule_file.specs.RuleFault.{reason_of}
+use Rattle.lalrpop_delimited.specs.declared.error.FromToError.TheVariants.{EmptyEnd, LongEnd}
+use Rattle.lalrpop_modes.specs.declared.error.ModesError.TheVariants.{NotParsed, BadEnd, NotCompiled, OutOfMemory}
 use Rattle.lalrpop_rules.specs.declared.rule.Rule.{Rule}
-use Rattle.lalrpop_rules.specs.declared.rule_file.error.LineFault.TheVariants.{NoEquals}
-use Rattle.lalrpop_rules.specs.declared.rule_file.error.RuleFileError.TheVariants.{BadLine}
+use Rattle.lalrpop_rule_file.specs.declared.error.LineFault.TheVariants.{NoEquals}
+use Rattle.lalrpop_rule_file.specs.declared.error.RuleFileError.TheVariants.{BadLine, NoSuchMode}
 use Rattle.lexdfa_lib.specs.declared.outcome.Outcome.TheVariants.{NoMatch, Refused, Ambiguous, Line}
-use Rattle.tokens_lib.specs.Reasons.{syntax_text, refusal_text, clash_advice, numbered, placed, clash_text, SaysBadLine, place_at, text_at, SaysRules, SaysNoTerminal, IsPatternColumn, SaysSyntax, SaysTerminals}
+use Rattle.tokens_lib.specs.Reasons.{syntax_text, refusal_text, bad_end_text, clash_advice, mode_said, pattern_of, numbered, placed, clash_text, SaysBadLine, place_at, text_at, SaysRules, SaysNoTerminal, IsPatternColumn, SaysSyntax, SaysTerminals}
 
 -- ---- in words
 
@@ -46,12 +48,18 @@ unfolding digits
 message_about_a_place = refl
 
 -- the later line comes first, and the advice last
-message_about_a_clash : clash_text 2 (codes "B") 1 (codes "A") (codes "\"a\"") (codes "    1: A\n") (codes "Do.")
+message_about_a_clash : clash_text 2 (codes "B") 1 (codes "A") [] (codes "\"a\"") (codes "    1: A\n") (codes "Do.")
     ≡ codes "2: B clashes with A of line 1: both match the word \"a\", and neither wins\n    1: A\nDo.\n"
 unfolding digits
 message_about_a_clash = refl
 
-clash_turned : clash_text 1 (codes "A") 2 (codes "B") (codes "\"a\"") [] [] ≢ clash_text 2 (codes "B") 1 (codes "A") (codes "\"a\"") [] []
+-- where there are several modes
+clash_in_a_mode : clash_text 2 (codes "B") 1 (codes "A") (mode_said (Some (codes "M"))) (codes "\"a\"") [] (codes "Do.")
+    ≡ codes "2: B clashes with A of line 1 in mode M: both match the word \"a\", and neither wins\nDo.\n"
+unfolding digits
+clash_in_a_mode = refl
+
+clash_turned : clash_text 1 (codes "A") 2 (codes "B") [] (codes "\"a\"") [] [] ≢ clash_text 2 (codes "B") 1 (codes "A") [] (codes "\"a\"") [] []
 unfolding digits
 clash_turned e = let k : 49 ≡ 50 = ap (λ (l : List ℕ). get_or l 0 0) e in omega (arith, k)
 
@@ -61,6 +69,10 @@ clash_turned e = let k : 49 ≡ 50 = ap (λ (l : List ℕ). get_or l 0 0) e in o
 bad_line : SaysBadLine (BadLine 2 7 NoEquals) (placed 2 7 (reason_of NoEquals) (codes "    A /x/\n"))
 bad_line = (codes "    A /x/\n", refl)
 
+-- a mode that no section names
+no_such_mode : SaysBadLine (NoSuchMode 1 8) (placed 1 8 (codes "no section names this mode") (codes "    A push B = 'a'\n"))
+no_such_mode = (codes "    A push B = 'a'\n", refl)
+
 no_place : ¬ SaysBadLine (BadLine 2 7 NoEquals) []
 no_place said = absurd (omega (arith, ap length said.1, length-append (decimal 2) (codes ":" ++ (decimal 7 ++ (codes ": " ++ (reason_of NoEquals ++ (codes "\n" ++ said.0)))))))
 
@@ -68,25 +80,32 @@ no_place said = absurd (omega (arith, ap length said.1, length-append (decimal 2
 second_place : (p q : Position) → place_at (p ∷ q ∷ []) 1 ≡ q
 second_place p q = refl
 
-first_text : (r s : Rule) → text_at (r ∷ s ∷ []) 0 ≡ r.text.now
-first_text r s = refl
+first_text : (r s : Rule) (text : Bor (List ℕ)) → r.text ≡ Pattern text → text_at (r ∷ s ∷ []) 0 ≡ text.now
+first_text r s text is = ap pattern_of is
 
 -- a rule on line 4 that can't be compiled
-look_around : SaysRules [] (record { line = 4; column = 6 } ∷ []) (NotCompiled 0 LookAround) (numbered 4 (refusal_text LookAround) (codes "    A = /^/\n"))
-look_around = (codes "A = /^/\n", refl)
+look_around : SaysRules [] [] (record { line = 4; column = 6 } ∷ []) (NotCompiled 0 LookAround) (placed 4 6 (refusal_text LookAround) (codes "    A = /^/\n"))
+look_around = (codes "    A = /^/\n", refl)
 
--- its line is told, and not the column
-not_the_column : ¬ SaysRules [] (record { line = 4; column = 6 } ∷ []) (NotCompiled 0 LookAround) (numbered 6 (refusal_text LookAround) (codes "    A = /^/\n"))
+-- its line stands before the column
+not_the_column : ¬ SaysRules [] [] (record { line = 4; column = 6 } ∷ []) (NotCompiled 0 LookAround) (placed 6 4 (refusal_text LookAround) (codes "    A = /^/\n"))
 unfolding digits
 not_the_column said = let k : 54 ≡ 52 = ap (λ (l : List ℕ). get_or l 0 0) said.1 in omega (arith, k)
 
 -- the second character of a text that begins in column 6
-second_character : (r : Rule) → r.text.now ≡ codes "a)" → SaysRules (r ∷ []) (record { line = 4; column = 6 } ∷ []) (NotParsed 0 1 UnopenedGroup) (placed 4 7 (syntax_text UnopenedGroup) [])
+second_character : (r : Rule) (text : Bor (List ℕ)) → r.text ≡ Pattern text → text.now ≡ codes "a)" → SaysRules [] (r ∷ []) (record { line = 4; column = 6 } ∷ []) (NotParsed 0 1 UnopenedGroup) (placed 4 7 (syntax_text UnopenedGroup) [])
 unfolding chars
-second_character r is = ([], rw is refl)
+second_character r text form is = ([], rw (form, is) refl)
 
-no_word_of_memory : (rs : List Rule) (places : List Position) (said : List ℕ) → ¬ SaysRules rs places OutOfMemory said
-no_word_of_memory rs places said says = says
+-- the end of a text on line 4 is empty
+empty_end : SaysRules [] [] (record { line = 4; column = 6 } ∷ []) (BadEnd 0 EmptyEnd) (placed 4 6 (bad_end_text EmptyEnd) (codes "    A = from '' to ''\n"))
+empty_end = (codes "    A = from '' to ''\n", refl)
+
+another_end : bad_end_text LongEnd ≢ bad_end_text EmptyEnd
+another_end e = let k : 116 ≡ 110 = ap (λ (l : List ℕ). get_or l 0 0) e in omega (arith, k)
+
+no_word_of_memory : (modes : List (List ℕ)) (rs : List Rule) (places : List Position) (said : List ℕ) → ¬ SaysRules modes rs places OutOfMemory said
+no_word_of_memory modes rs places said says = says
 
 -- ---- terminals
 
@@ -131,7 +150,7 @@ nothing_said line (column, (is, (kind, (shown, e)))) = absurd (omega (arith, ap 
 second_line : (ls : List (List ℕ)) → SaysTerminals ls (Refused 1 LookAround) (numbered 2 (refusal_text LookAround) (codes "    1 r ^\n"))
 second_line ls = (codes "1 r ^\n", refl)
 
-clash_of_two : (ls : List (List ℕ)) → SaysTerminals ls (Ambiguous 1 0 (97 ∷ [])) (clash_text 2 (codes "this terminal") 1 (codes "that") (quoted_word (97 ∷ [])) [] (clash_advice (97 ∷ [])))
+clash_of_two : (ls : List (List ℕ)) → SaysTerminals ls (Ambiguous 1 0 (97 ∷ [])) (clash_text 2 (codes "this terminal") 1 (codes "that") [] (quoted_word (97 ∷ [])) [] (clash_advice (97 ∷ [])))
 clash_of_two ls = ([], refl)
 
 -- there is no second line

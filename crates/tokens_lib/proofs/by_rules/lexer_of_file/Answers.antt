@@ -1,17 +1,40 @@
-use Rattle.std.proofs.Common.{refl}
+use Rattle.std.proofs.Common.{◌≡◌, ◌<◌, ℕ, length, map, refl, ap, sym, subst, ◌∙◌, arith}
+use Rattle.std.specs.Prelude.{Some}
+use Rattle.std.proofs.lemmas.List.{length-map}
+use Rattle.lalrpop_modes.specs.ModeSet.{AreModeRules, IsModesError}
 use Rattle.tokens_lib.specs.Answer.{headed, refusal}
-use Rattle.tokens_lib.specs.Program.{rules_status}
+use Rattle.tokens_lib.specs.Program.{IsSetOf, rules_status}
+use Rattle.tokens_lib.specs.Internal.Faults.{NameOnly}
+use Rattle.tokens_lib.proofs.Refusals.{error_said}
 use Rattle.tokens_lib.proofs.by_rules.lexer_of_file.Goals as goal
 
-pub report_rules-requires-clause-error : goal.report_rules-requires-clause-error
-report_rules-requires-clause-error g c = rw c.deref.ensures.value at c.in-Err.ensures.error
+pub from_rules-requires : goal.from_rules-requires
+from_rules-requires g c = record { some = omega (arith, c.len.ensures, c.args.file.now.modes.ok.0, c.requires.some) }
+
+pub report_rules-requires : goal.report_rules-requires
+report_rules-requires g c =
+    let error_is : IsModesError c.args.file.now.rules.items (length (map (λ m. m.now) c.args.file.now.modes.items)) c.in-Err.error =
+    subst (λ (n : ℕ). IsModesError c.args.file.now.rules.items n c.in-Err.error) (c.len.ensures ∙ c.args.file.now.modes.ok.0 ∙ sym (length-map c.args.file.now.modes.items (λ m. m.now)))
+    (rw c.deref.ensures.value at c.in-Err.ensures.error) in
+    record { error = error_said c.args.file.now.rules.items _ c.in-Err.error (subst (NameOnly c.args.file.now.rules.items) (sym (length-map c.args.file.now.modes.items (λ m. m.now))) c.requires.within) error_is }
 
 pub returns-in_ok-report_rules-in-Err-clause-refused : goal.returns-in_ok-report_rules-in-Err-clause-refused
 returns-in_ok-report_rules-in-Err-clause-refused g c =
+    let error_is : IsModesError c.args.file.now.rules.items (length (map (λ m. m.now) c.args.file.now.modes.items)) c.in-Err.error =
+    subst (λ (n : ℕ). IsModesError c.args.file.now.rules.items n c.in-Err.error) (c.len.ensures ∙ c.args.file.now.modes.ok.0 ∙ sym (length-map c.args.file.now.modes.items (λ m. m.now)))
+    (rw c.deref.ensures.value at c.in-Err.ensures.error) in
     let said = c.in_ok-report_rules-in-Err.ensures.said in (
       refusal (rules_status c.in-Err.error) (headed c.args.name.now said.0),
       (
-        (c.in-Err.error, (rw c.deref.ensures.value at c.in-Err.ensures.error, (c.args.file.now.places.items, (c.requires.places, (said.0, (said.1.0, refl)))))),
+        (c.in-Err.error, (error_is, (c.args.file.now.places.items, (c.requires.places, (said.0, (said.1.0, refl)))))),
         (c.in_ok-report_rules-in-Err.ensures.status, (refl, said.1.1)),
       ),
     )
+
+pub returns-in_ok-with_names-in-Ok-clause-lexer : goal.returns-in_ok-with_names-in-Ok-clause-lexer
+returns-in_ok-with_names-in-Ok-clause-lexer g c =
+    let rs = c.args.file.now.rules.items in
+    let names = map (λ m. m.now) c.args.file.now.modes.items in
+    let are : AreModeRules rs (length names) c.in-Ok.lexer =
+    subst (λ (n : ℕ). AreModeRules rs n c.in-Ok.lexer) (c.len.ensures ∙ c.args.file.now.modes.ok.0 ∙ sym (length-map c.args.file.now.modes.items (λ m. m.now))) (rw c.deref.ensures.value at c.in-Ok.ensures.rules) in
+    subst (IsSetOf rs names) (sym c.in_ok-with_names-in-Ok.ensures.lexer) (record { rules = are; no_clash = c.in-Ok.ensures.no_clash })

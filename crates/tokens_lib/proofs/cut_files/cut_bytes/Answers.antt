@@ -3,7 +3,7 @@ use Rattle.std.specs.Str.{IsUtf8, IsValidUpTo}
 use Rattle.std.proofs.lemmas.Result.{IfOk-weaker}
 use Rattle.tokens_lib.specs.Answer.{refusal, about}
 use Rattle.tokens_lib.specs.Internal.Tasks.{TaskAnswer}
-use Rattle.lalrpop_rules.specs.RuleFile.{without_mark}
+use Rattle.lalrpop_rule_file.specs.RuleFile.{without_mark}
 use Rattle.lines_lib.specs.Text.{lack_text}
 use Rattle.lines_lib.specs.declared.text.TextError.TheVariants.{NotText}
 use Rattle.tokens_lib.proofs.AnswerLaws.{Answered-refusal}

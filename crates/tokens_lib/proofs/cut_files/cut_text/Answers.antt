@@ -8,3 +8,9 @@ returns-in_err-say_stopped-in-Stopped-clause-begun g c =
     at_any_error _ c.from_residual-in_err-say_stopped-in-Stopped.result
     (done_begun (TaskAnswer c.args.task.now c.args.name.now c.args.text.now) (g.W.Write.contents c.args.out.now.inner) (g.W.Write.contents c.run_task.new.out.inner)
     c.args.name.now c.args.text.now _ c.in_ok-run_task.ensures.done)
+
+pub returns-in_err-say_open-in-Open-clause-begun : goal.returns-in_err-say_open-in-Open-clause-begun
+returns-in_err-say_open-in-Open-clause-begun g c =
+    at_any_error _ c.from_residual-in_err-say_open-in-Open.result
+    (done_begun (TaskAnswer c.args.task.now c.args.name.now c.args.text.now) (g.W.Write.contents c.args.out.now.inner) (g.W.Write.contents c.run_task.new.out.inner)
+    c.args.name.now c.args.text.now _ c.in_ok-run_task.ensures.done)

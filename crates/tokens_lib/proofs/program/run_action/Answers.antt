@@ -1,4 +1,4 @@
-use Rattle.std.proofs.Common.{ℕ, Bool, List, length, map, subst, Bor}
+use Rattle.std.proofs.Common.{ℕ, Bool, List, length, map, string_bytes, subst, Bor}
 use Rattle.std.specs.Prelude.{nat_lt, IfOk, OnErr}
 use Rattle.tokens_lib.specs.Answer.{Answer, Answered, Begun, TextsAnswer, FirstTextsAnswer}
 use Rattle.tokens_lib.specs.Streams.{StreamGives}
@@ -18,24 +18,24 @@ returns-in-Ok-clause-answer g c =
     let names = map text c.args.names.now in
     rw c.in-Cut.is
     (lexer_answered c.cut_all.result (g.F.Files.gives c.args.files.now)
-    (λ set. TextsAnswer (g.F.Files.gives c.args.files.now) (StreamGives g.R.Read.remaining c.args.input.now c.cut_all.new.input) (PiecesAnswer set c.in-Cut.form c.in-Cut.recovers (nat_lt 1 (length names))) names)
-    c.args.rules.now c.in-Ok.lexer g.W.Write.contents g.E.Write.contents c.args.out.now c.cut_all.new.out c.args.err.now c.lexer_by_name.new.err c.cut_all.new.err
-    (rw c.in-Ok.is at c.in_ok-lexer-in-Cut.ensures.lexer) (rw c.in-Ok.is at c.in_ok-lexer-in-Cut.ensures.quiet)
+    (λ set modes. TextsAnswer (g.F.Files.gives c.args.files.now) (StreamGives g.R.Read.remaining c.args.input.now c.cut_all.new.input) (PiecesAnswer set modes c.in-Cut.form c.in-Cut.recovers (nat_lt 1 (length names))) names)
+    c.args.rules.now c.in-Ok.found.lexer (map string_bytes c.in-Ok.found.modes.items) g.W.Write.contents g.E.Write.contents c.args.out.now c.cut_all.new.out c.args.err.now c.lexer_by_name.new.err c.cut_all.new.err
+    (rw c.in-Ok.is at c.in_ok-found-in-Cut.ensures.lexer) (rw c.in-Ok.is at c.in_ok-found-in-Cut.ensures.quiet)
     (subst
     (λ (several : Bool).
-    IfOk c.cut_all.result (λ status. (answer : Answer) × (TextsAnswer (g.F.Files.gives c.args.files.now) (StreamGives g.R.Read.remaining c.args.input.now c.cut_all.new.input) (PiecesAnswer c.in-Ok.lexer c.in-Cut.form c.in-Cut.recovers several) names answer
+    IfOk c.cut_all.result (λ status. (answer : Answer) × (TextsAnswer (g.F.Files.gives c.args.files.now) (StreamGives g.R.Read.remaining c.args.input.now c.cut_all.new.input) (PiecesAnswer c.in-Ok.found.lexer (map string_bytes c.in-Ok.found.modes.items) c.in-Cut.form c.in-Cut.recovers several) names answer
     × Answered g.W.Write.contents g.E.Write.contents c.args.out.now c.cut_all.new.out c.lexer_by_name.new.err c.cut_all.new.err status answer)))
     c.are_several.ensures c.cut_all.ensures.answer))
 
 pub returns-in-Err-clause-answer : goal.returns-in-Err-clause-answer
 returns-in-Err-clause-answer g c =
-    let refused = rw c.in-Err.is at c.in_ok-lexer-in-Cut.ensures.refused in
+    let refused = rw c.in-Err.is at c.in_ok-found-in-Cut.ensures.refused in
     let names = map text c.args.names.now in
     rw c.in-Cut.is (
       refused.0,
       (
         rules_refused (g.F.Files.gives c.args.files.now)
-            (λ set. TextsAnswer (g.F.Files.gives c.args.files.now) (StreamGives g.R.Read.remaining c.args.input.now c.args.input.now) (PiecesAnswer set c.in-Cut.form c.in-Cut.recovers (nat_lt 1 (length names))) names)
+            (λ set modes. TextsAnswer (g.F.Files.gives c.args.files.now) (StreamGives g.R.Read.remaining c.args.input.now c.args.input.now) (PiecesAnswer set modes c.in-Cut.form c.in-Cut.recovers (nat_lt 1 (length names))) names)
             c.args.rules.now refused.0 refused.1.0,
         Answered-refused g.W.Write.contents g.E.Write.contents c.args.out.now c.args.err.now c.lexer_by_name.new.err c.in-Err.status refused.0 refused.1.1,
       ),
@@ -48,19 +48,19 @@ returns-in-Ok-2-clause-answer g c =
     let names = map text c.args.names.now in
     rw c.in-Show.is
     (lexer_answered c.cut_all-in-Ok-2.result (g.F.Files.gives c.args.files.now)
-    (λ set. TextsAnswer (g.F.Files.gives c.args.files.now) (StreamGives g.R.Read.remaining c.args.input.now c.cut_all-in-Ok-2.new.input) (PageAnswer set c.in-Show.markup) names)
-    c.args.rules.now c.in-Ok-2.lexer g.W.Write.contents g.E.Write.contents c.args.out.now c.cut_all-in-Ok-2.new.out c.args.err.now c.lexer_by_name-in-Show.new.err c.cut_all-in-Ok-2.new.err
-    (rw c.in-Ok-2.is at c.in_ok-lexer-in-Show.ensures.lexer) (rw c.in-Ok-2.is at c.in_ok-lexer-in-Show.ensures.quiet) c.cut_all-in-Ok-2.ensures.answer)
+    (λ set modes. TextsAnswer (g.F.Files.gives c.args.files.now) (StreamGives g.R.Read.remaining c.args.input.now c.cut_all-in-Ok-2.new.input) (PageAnswer set modes c.in-Show.markup) names)
+    c.args.rules.now c.in-Ok-2.found.lexer (map string_bytes c.in-Ok-2.found.modes.items) g.W.Write.contents g.E.Write.contents c.args.out.now c.cut_all-in-Ok-2.new.out c.args.err.now c.lexer_by_name-in-Show.new.err c.cut_all-in-Ok-2.new.err
+    (rw c.in-Ok-2.is at c.in_ok-found-in-Show.ensures.lexer) (rw c.in-Ok-2.is at c.in_ok-found-in-Show.ensures.quiet) c.cut_all-in-Ok-2.ensures.answer)
 
 pub returns-in-Err-2-clause-answer : goal.returns-in-Err-2-clause-answer
 returns-in-Err-2-clause-answer g c =
-    let refused = rw c.in-Err-2.is at c.in_ok-lexer-in-Show.ensures.refused in
+    let refused = rw c.in-Err-2.is at c.in_ok-found-in-Show.ensures.refused in
     let names = map text c.args.names.now in
     rw c.in-Show.is (
       refused.0,
       (
         rules_refused (g.F.Files.gives c.args.files.now)
-            (λ set. TextsAnswer (g.F.Files.gives c.args.files.now) (StreamGives g.R.Read.remaining c.args.input.now c.args.input.now) (PageAnswer set c.in-Show.markup) names)
+            (λ set modes. TextsAnswer (g.F.Files.gives c.args.files.now) (StreamGives g.R.Read.remaining c.args.input.now c.args.input.now) (PageAnswer set modes c.in-Show.markup) names)
             c.args.rules.now refused.0 refused.1.0,
         Answered-refused g.W.Write.contents g.E.Write.contents c.args.out.now c.args.err.now c.lexer_by_name-in-Show.new.err c.in-Err-2.status refused.0 refused.1.1,
       ),
@@ -85,11 +85,11 @@ returns-in-Ok-clause-begun g c =
     let names = map text c.args.names.now in
     rw c.in-Cut.is
     (lexer_begun c.cut_all.result (g.F.Files.gives c.args.files.now)
-    (λ set. FirstTextsAnswer (g.F.Files.gives c.args.files.now) (StreamGives g.R.Read.remaining c.args.input.now c.cut_all.new.input) (PiecesAnswer set c.in-Cut.form c.in-Cut.recovers (nat_lt 1 (length names))) names)
-    c.args.rules.now c.in-Ok.lexer (g.W.Write.contents c.args.out.now.inner) (g.W.Write.contents c.cut_all.new.out.inner) (rw c.in-Ok.is at c.in_ok-lexer-in-Cut.ensures.lexer)
+    (λ set modes. FirstTextsAnswer (g.F.Files.gives c.args.files.now) (StreamGives g.R.Read.remaining c.args.input.now c.cut_all.new.input) (PiecesAnswer set modes c.in-Cut.form c.in-Cut.recovers (nat_lt 1 (length names))) names)
+    c.args.rules.now c.in-Ok.found.lexer (map string_bytes c.in-Ok.found.modes.items) (g.W.Write.contents c.args.out.now.inner) (g.W.Write.contents c.cut_all.new.out.inner) (rw c.in-Ok.is at c.in_ok-found-in-Cut.ensures.lexer)
     (subst
     (λ (several : Bool).
-    OnErr c.cut_all.result (Begun (FirstTextsAnswer (g.F.Files.gives c.args.files.now) (StreamGives g.R.Read.remaining c.args.input.now c.cut_all.new.input) (PiecesAnswer c.in-Ok.lexer c.in-Cut.form c.in-Cut.recovers several) names)
+    OnErr c.cut_all.result (Begun (FirstTextsAnswer (g.F.Files.gives c.args.files.now) (StreamGives g.R.Read.remaining c.args.input.now c.cut_all.new.input) (PiecesAnswer c.in-Ok.found.lexer (map string_bytes c.in-Ok.found.modes.items) c.in-Cut.form c.in-Cut.recovers several) names)
     (g.W.Write.contents c.args.out.now.inner) (g.W.Write.contents c.cut_all.new.out.inner)))
     c.are_several.ensures c.cut_all.ensures.begun))
 
@@ -98,8 +98,8 @@ returns-in-Ok-2-clause-begun g c =
     let names = map text c.args.names.now in
     rw c.in-Show.is
     (lexer_begun c.cut_all-in-Ok-2.result (g.F.Files.gives c.args.files.now)
-    (λ set. FirstTextsAnswer (g.F.Files.gives c.args.files.now) (StreamGives g.R.Read.remaining c.args.input.now c.cut_all-in-Ok-2.new.input) (PageAnswer set c.in-Show.markup) names)
-    c.args.rules.now c.in-Ok-2.lexer _ _ (rw c.in-Ok-2.is at c.in_ok-lexer-in-Show.ensures.lexer) c.cut_all-in-Ok-2.ensures.begun)
+    (λ set modes. FirstTextsAnswer (g.F.Files.gives c.args.files.now) (StreamGives g.R.Read.remaining c.args.input.now c.cut_all-in-Ok-2.new.input) (PageAnswer set modes c.in-Show.markup) names)
+    c.args.rules.now c.in-Ok-2.found.lexer (map string_bytes c.in-Ok-2.found.modes.items) _ _ (rw c.in-Ok-2.is at c.in_ok-found-in-Show.ensures.lexer) c.cut_all-in-Ok-2.ensures.begun)
 
 pub returns-in-Ok-3-clause-begun : goal.returns-in-Ok-3-clause-begun
 returns-in-Ok-3-clause-begun g c =
