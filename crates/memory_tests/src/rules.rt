@@ -4,7 +4,8 @@ use crate::calls::{Call, add, expect, halves, number};
 use lalrpop_lexer::lexer::dfa::Precedence;
 use lalrpop_lexer::{Form, Lexer, LexerError};
 use lalrpop_markup::{ansi, html};
-use lalrpop_rules::{Item, Rule, RuleFileError, RuleLexer, RulesError, read_rules};
+use lalrpop_rule_file::{FileRule, RuleFileError, read_rules};
+use lalrpop_rules::{Item, Rule, RuleLexer, RulesError};
 use std::alloc::{AllocError, Global};
 
 // The pattern of `PRECEDENCE l TEXT` or `PRECEDENCE r PATTERN`.
@@ -44,7 +45,7 @@ pub(crate) fn first_of_patterns(alloc: Global, row: &str) -> Result<String, Allo
     }
 }
 
-// The rule of `NAME l TEXT`, `NAME r PATTERN`, or, skipped, `NAME s PATTERN`.
+// The rule of `NAME l TEXT`, `NAME r PATTERN`, `NAME u FROM to TO`, or, skipped, `NAME s PATTERN`.
 fn rule_of(row: &str) -> Rule {
     let (name, rest) = halves(row, " ");
     let (letter, text) = halves(rest, " ");
@@ -52,6 +53,9 @@ fn rule_of(row: &str) -> Rule {
         Rule::literal(name, text)
     } else if letter == "s" {
         Rule::pattern(name, text).skipped()
+    } else if letter == "u" {
+        let (from, to) = halves(text, " to ");
+        Rule::from_to(name, from, to)
     } else {
         Rule::pattern(name, text)
     }
@@ -135,17 +139,18 @@ pub(crate) fn in_colours(alloc: Global, row: &str) -> Result<String, AllocError>
     }
 }
 
-fn names_of(alloc: Global, rules: &[Rule]) -> Result<String, AllocError> {
+fn names_of(alloc: Global, rules: &[FileRule]) -> Result<String, AllocError> {
     let mut line = String::new(alloc);
     for rule in rules {
-        add(&mut line, " ", rule.name)?;
+        add(&mut line, " ", rule.rule.name)?;
     }
     Ok(line)
 }
 
-// The names of the rules in a file of one line, or what is wrong with it.
+// The names of the rules in a file of lines with `;` between them, or what is wrong with it.
 pub(crate) fn in_file(alloc: Global, line: &str) -> Result<String, AllocError> {
-    match read_rules(alloc, line.as_bytes()) {
+    let lines = line.replace(alloc, ';', "\n")?;
+    match read_rules(alloc, lines.as_bytes()) {
         Ok(file) => names_of(alloc, &file.rules),
         Err(RuleFileError::OutOfMemory) => Err(AllocError),
         Err(error) => format!(in alloc; "{error}"),
@@ -166,8 +171,10 @@ fn rules_are_made_a_lexer(rt: HostRuntime) {
     let table = "\
 IF l if / NAME r [a-z]+ / SPACE s \\x20+ <- if iffy ! a => IF NAME NAME
 A l (a / B r b) <-  => the text of rule 1 does not parse: UnopenedGroup at byte 1
+NOTE u # to ; / SPACE s \x20+ <- #a #; #; => NOTE NOTE
+NOTE u # to  <-  => the text of rule 0 has no tree: the end is empty
 A r a / B r [ab] <-  => rules 0 and 1 clash on \"a\"";
-    expect(&rt, rt.alloc(), Call::Rules, table, 3);
+    expect(&rt, rt.alloc(), Call::Rules, table, 5);
 }
 
 #[test]
@@ -198,6 +205,7 @@ A s a+ <- a\ra => a\x1b[41m\x1b[7m^M\x1b[27m\x1b[0ma";
 fn files_of_rules_are_read(rt: HostRuntime) {
     let table = "\
 A = 'x' => A
-SPACE skip = 2 / +/ => SPACE";
-    expect(&rt, rt.alloc(), Call::RuleFile, table, 2);
+SPACE skip = 2 / +/ => SPACE
+A push C pop = 'x';[C D];[*];B mode D = from '/*' to '*/' => A B";
+    expect(&rt, rt.alloc(), Call::RuleFile, table, 3);
 }

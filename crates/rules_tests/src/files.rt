@@ -1,7 +1,8 @@
 //! Files of rules, and what is wrong with them.
 
-use crate::rules::{expect, halves, lexer_from};
-use lalrpop_rules::{Rule, RuleFileError, RuleLexer, read_rules};
+use crate::rules::{expect, halves};
+use lalrpop_modes::{ModeLexer, ModesError};
+use lalrpop_rule_file::{FileRule, RuleFile, RuleFileError, read_rules};
 use std::alloc::{AllocError, Global};
 
 const FILE: &[u8] = b"# Names, and what is between them\r
@@ -14,11 +15,31 @@ QUOTE = 007'''
 skip = '\xc3\xa9 '";
 
 const READ: &str = r#"
-IF Literal "if" 1 false
-NAME Pattern "[a-z]+" 0 false
-SPACE Pattern " +" 2 true
-QUOTE Literal "'" 7 false
-skip Literal "é " 1 false
+IF Literal("if") 1 false [0] [] 3:7
+NAME Pattern("[a-z]+") 0 false [0] [] 4:7
+SPACE Pattern(" +") 2 true [0] [] 5:19
+QUOTE Literal("'") 7 false [0] [] 6:13
+skip Literal("é ") 1 false [0] [] 8:9
+"#;
+
+const MODES: &[u8] = b"OPEN push COMMENT = '/*'
+mode mode INITIAL = from'x y ' to 'z' 
+[ COMMENT STRING ]
+pop skip pop push STRING mode INITIAL = from ''' to '''
+[*]\r
+ALL=/a/
+[STRING]\t
+LAST = from ' to' to ' to ''
+[INITIAL COMMENT]
+END mode COMMENT = 3 from '' to '\xc3\xa9'";
+
+const IN_MODES: &str = r#"
+OPEN Literal("/*") 1 false [0] [Push(1)] 1:22
+mode FromTo { from: "x y ", to: "z" } 0 false [0] [Mode(0)] 2:26
+pop FromTo { from: "'", to: "'" } 0 true [1, 2] [Pop, Push(2), Mode(0)] 4:47
+ALL Pattern("a") 0 false [0, 1, 2] [] 6:6
+LAST FromTo { from: " to", to: " to '" } 0 false [2] [] 8:14
+END FromTo { from: "", to: "é" } 3 false [0, 1] [Mode(1)] 10:28
 "#;
 
 const BAD: &str = r#"
@@ -39,16 +60,59 @@ A = 'x => 1 7 NotClosed
 A = ' => 1 6 NotClosed
 A = 'é' y => 1 9 NotClosed
 A = 'x/ => 1 8 NotClosed
+A mode = 'x' => 1 8 NoMode
+A push 1 = 'x' => 1 8 NoMode
+A pop push => 1 11 NoMode
+A pop skip = 'x' => 1 7 NoEquals
+A popper = 'x' => 1 3 NoEquals
+[ => 1 2 NoMode
+[ ] => 1 3 NoMode
+[1] => 1 2 NoMode
+[A => 1 3 NoBracket
+[A, B] => 1 3 NoBracket
+[A *] => 1 4 NoBracket
+[* A] => 1 4 NoBracket
+[A] B => 1 5 BehindSection
+[*] # all => 1 5 BehindSection
+A part => 1 7 NoEquals
+A part 'x' => 1 8 NoEquals
+A parts = /x/ => 1 3 NoEquals
+A skip part = /x/ => 1 8 NoEquals
+A part skip = /x/ => 1 8 NoEquals
+A part = 'x' => 1 10 NoPattern
+A part = 2 /x/ => 1 10 NoPattern
+A part =  => 1 10 NoPattern
+A part = /x => 1 12 NotClosed
+A part = /é/ y => 1 14 NotClosed
+part = /x/ => none
+part part = /x/ => none
+A = from => 1 9 NoFrom
+A = from x => 1 10 NoFrom
+A = from1 'x' to 'y' => 1 5 NoText
+A = from 'x => 1 12 NoTo
+A = from 'x' 'y' => 1 12 NoTo
+A = from 'x'to 'y' => 1 12 NoTo
+A = from 'x' to y => 1 12 NoTo
+A = from 'x' to 'y => 1 19 NotClosed
+A = from 'x' to 'y' z => 1 21 NotClosed
 "#;
 
-fn line_of(alloc: Global, rule: &Rule) -> Result<String, AllocError> {
+fn line_of(alloc: Global, rule: &FileRule) -> Result<String, AllocError> {
+    let (written, place) = (rule.rule, rule.place);
     format!(in alloc;
-        "{} {:?} {:?} {} {}\n",
-        rule.name, rule.form, rule.text, rule.precedence.0, rule.is_skipped
+        "{} {:?} {} {} {:?} {:?} {}:{}\n",
+        written.name,
+        written.text,
+        written.precedence.0,
+        written.is_skipped,
+        rule.modes,
+        rule.actions,
+        place.line,
+        place.column
     )
 }
 
-fn lines_of(alloc: Global, rules: &[Rule]) -> Result<String, AllocError> {
+fn lines_of(alloc: Global, rules: &[FileRule]) -> Result<String, AllocError> {
     let mut lines = String::new(alloc);
     for rule in rules {
         lines.push_str(&line_of(alloc, rule)?)?;
@@ -70,10 +134,55 @@ fn rules_are_read(rt: HostRuntime) {
     let rows: [(&[u8], &str); 3] = [
         (b"", ""),
         (b"\xef\xbb\xbf", ""),
-        (b"\xef\xbb\xbfA skip= 'x'", "A Literal \"x\" 1 true\n"),
+        (
+            b"\xef\xbb\xbfA skip= 'x'",
+            "A Literal(\"x\") 1 true [0] [] 1:10\n",
+        ),
     ];
     for (bytes, wanted) in rows {
         expect(&rt, read(rt.alloc(), bytes), wanted);
+    }
+}
+
+#[test]
+fn rules_have_modes(rt: HostRuntime) {
+    expect(
+        &rt,
+        read(rt.alloc(), MODES),
+        IN_MODES.trim_start_matches('\n'),
+    );
+}
+
+fn names_of(alloc: Global, file: &RuleFile) -> Result<String, AllocError> {
+    let mut line = String::new(alloc);
+    for mode in &file.modes {
+        line.push_str(mode)?;
+        line.push(' ')?;
+    }
+    Ok(line)
+}
+
+// The names of the modes of a file.
+fn modes(alloc: Global, bytes: &[u8]) -> Result<String, AllocError> {
+    match read_rules(alloc, bytes) {
+        Ok(file) => names_of(alloc, &file),
+        Err(_) => Err(AllocError),
+    }
+}
+
+#[test]
+fn modes_are_numbered(rt: HostRuntime) {
+    let rows: [(&[u8], &str); 7] = [
+        (b"", "INITIAL "),
+        (b"[*]\nA = 'a'", "INITIAL "),
+        (MODES, "INITIAL COMMENT STRING "),
+        (b"[B]\n[A B]\n[C]\n[B]", "B A C "),
+        (b"# no rule\n[B INITIAL]", "B INITIAL "),
+        (b"A = 'a'\n[B INITIAL]", "INITIAL B "),
+        (b"[*]\n[B]", "B "),
+    ];
+    for (bytes, wanted) in rows {
+        expect(&rt, modes(rt.alloc(), bytes), wanted);
     }
 }
 
@@ -88,6 +197,15 @@ fn refused(alloc: Global, bytes: &[u8]) -> Result<String, AllocError> {
                 fault,
             },
         ) => format!(in alloc; "{line} {column} {fault:?}"),
+        Err(RuleFileError::BadPart { line, column, kind }) => {
+            format!(in alloc; "{line} {column} BadPart {kind:?}")
+        }
+        Err(RuleFileError::RepeatedPart { line, column }) => {
+            format!(in alloc; "{line} {column} RepeatedPart")
+        }
+        Err(RuleFileError::NoSuchMode { line, column }) => {
+            format!(in alloc; "{line} {column} NoSuchMode")
+        }
         Err(RuleFileError::OutOfMemory) => Err(AllocError),
     }
 }
@@ -100,7 +218,7 @@ fn explained(alloc: Global, bytes: &[u8]) -> Result<String, AllocError> {
 }
 
 const EXPLAINED: &str =
-    "line 1, column 3: `=` is missing: a name has only ASCII letters, digits and `_`, and only `skip` may follow it";
+    "line 1, column 3: `=` is missing: a name has only ASCII letters, digits and `_`, and only `part`, or `skip`, then `mode M`, `push M` and `pop` may follow it";
 
 #[test]
 fn bad_lines_are_named(rt: HostRuntime) {
@@ -108,12 +226,19 @@ fn bad_lines_are_named(rt: HostRuntime) {
         let (line, wanted) = halves(row, " => ");
         expect(&rt, refused(rt.alloc(), line.as_bytes()), wanted);
     }
-    let rows: [(&[u8], &str); 5] = [
+    let rows: [(&[u8], &str); 9] = [
         (b"\xef\xbb\xbfA 'x'", "1 3 NoEquals"),
         (b"\xef\xbb\xbf\xef\xbb\xbfA = 'x'", "1 1 NoName"),
         (b"A = 'x'\n\xef\xbb\xbfB = 'y'", "2 1 NoName"),
         (b"A = 'x'\n\nB\nC\n", "3 2 NoEquals"),
         (b"# \xc3\xa9\xff", "1 4 NotUtf8"),
+        (b"A push B = 'x'\n[b]", "1 8 NoSuchMode"),
+        (b"[B]\n\xc3\xa9", "2 1 NoName"),
+        (
+            b"[B]\nA push B  mode INITIAL = 'x'\nA push C = 'x'",
+            "2 16 NoSuchMode",
+        ),
+        (b"A push B = 'x'\nA", "2 2 NoEquals"),
     ];
     for (bytes, wanted) in rows {
         expect(&rt, refused(rt.alloc(), bytes), wanted);
@@ -121,29 +246,148 @@ fn bad_lines_are_named(rt: HostRuntime) {
     expect(&rt, explained(rt.alloc(), b"A 'x'"), EXPLAINED);
 }
 
+#[test]
+fn bad_parts_are_named(rt: HostRuntime) {
+    let rows: [(&[u8], &str); 9] = [
+        (
+            b"C part = /c/\nB part = /\xc3\xa9{A}/\nA part = /a/",
+            "2 12 BadPart PartUnknown",
+        ),
+        (b"  A part = /a(b/", "1 14 BadPart UnclosedGroup"),
+        (b"A part = /a/\n  A part = /b/", "2 3 RepeatedPart"),
+        (b"A part = /a/\nA part = /(/", "2 1 RepeatedPart"),
+        (b"B part = /(/\nB part = /b/", "1 11 BadPart UnclosedGroup"),
+        (b"[B]\nA part = /a/\n[C]\nA part = /a/", "4 1 RepeatedPart"),
+        (
+            b"R push X = 'r'\nA part = /a/\nA part = /a/",
+            "3 1 RepeatedPart",
+        ),
+        (b"A part = /a/\nA part = /a/\n=", "3 1 NoName"),
+        (b"A = 'a'\nA part = /a/", "none"),
+    ];
+    for (bytes, wanted) in rows {
+        expect(&rt, refused(rt.alloc(), bytes), wanted);
+    }
+    expect(
+        &rt,
+        explained(rt.alloc(), b"A part = /a/\nA part = /a/"),
+        "line 2, column 1: a part above has this name",
+    );
+}
+
+fn counts_of(alloc: Global, file: &RuleFile) -> Result<String, AllocError> {
+    let mut line = format!(in alloc; "{}:", file.parts.len())?;
+    for rule in &file.rules {
+        line.push_str(&format!(in alloc; " {}", rule.known)?)?;
+    }
+    Ok(line)
+}
+
+// How many parts a file has, and how many of them each of its rules knows.
+fn counts(alloc: Global, bytes: &[u8]) -> Result<String, AllocError> {
+    match read_rules(alloc, bytes) {
+        Ok(file) => counts_of(alloc, &file),
+        Err(_) => Err(AllocError),
+    }
+}
+
+#[test]
+fn rules_know_the_parts_above_them(rt: HostRuntime) {
+    let rows: [(&[u8], &str); 4] = [
+        (b"", "0:"),
+        (b"A = 'a'\n# P part = /p/\nB = 'b'", "0: 0 0"),
+        (
+            b"A = /a/\nP part = /p/\nB = /{P}/\n\nQ part = /{P}q/\nC = 'c'",
+            "2: 0 1 2",
+        ),
+        (PARTS, "3: 3 3 3"),
+    ];
+    for (bytes, wanted) in rows {
+        expect(&rt, counts(rt.alloc(), bytes), wanted);
+    }
+}
+
 // The slices of the pieces of a text.
-fn slices(alloc: Global, lexer: &RuleLexer, text: &str) -> Result<String, AllocError> {
+fn slices<'x>(alloc: Global, lexer: &'x ModeLexer, text: &'x str) -> Result<String, AllocError> {
     let mut line = String::new(alloc);
-    for item in lexer.items(text) {
+    let mut items = lexer.items(alloc, text);
+    while let Some(item) = items.next_item()? {
         line.push_str(&format!(in alloc; "{:?} ", item.slice())?)?;
     }
     Ok(line)
 }
 
-fn cut_by(alloc: Global, rules: &[Rule], text: &str) -> Result<String, AllocError> {
-    let lexer = lexer_from(alloc, rules)?;
-    slices(alloc, &lexer, text)
+fn cut_by(alloc: Global, file: &RuleFile, text: &str) -> Result<String, AllocError> {
+    let rules = file.mode_rules(alloc)?;
+    match ModeLexer::from_rules(alloc, &rules, file.modes.len()) {
+        Ok(lexer) => slices(alloc, &lexer, text),
+        Err(_) => Err(AllocError),
+    }
 }
 
 fn pieces(alloc: Global, bytes: &[u8], text: &str) -> Result<String, AllocError> {
     match read_rules(alloc, bytes) {
-        Ok(file) => cut_by(alloc, &file.rules, text),
+        Ok(file) => cut_by(alloc, &file, text),
         Err(_) => Err(AllocError),
     }
+}
+
+fn is_refused(alloc: Global, file: &RuleFile) -> Result<bool, AllocError> {
+    let rules = file.mode_rules(alloc)?;
+    match ModeLexer::from_rules(alloc, &rules, file.modes.len()) {
+        Ok(_) => Ok(false),
+        Err(ModesError::OutOfMemory) => Err(AllocError),
+        Err(_) => Ok(true),
+    }
+}
+
+// Whether the rules of a file give no lexer.
+fn is_refused_by_the_lexer(alloc: Global, bytes: &[u8]) -> Result<String, AllocError> {
+    match read_rules(alloc, bytes) {
+        Ok(file) => format!(in alloc; "{}", is_refused(alloc, &file)?),
+        Err(_) => Err(AllocError),
+    }
+}
+
+const NESTED: &[u8] = b"NAME = /[a-z]+/
+OPEN skip push COMMENT = '/*'
+[COMMENT]
+OPEN skip push COMMENT = '/*'
+CLOSE skip pop = '*/'
+REST skip = /(?s:.)/";
+
+// A part in a part, a rule with the name of a part, and braces in brackets, which are three members.
+const PARTS: &[u8] = b"D part = /[0-9]/
+[A]
+E part = /[eE][+-]?{D}+/
+part part = /x|z/
+NUM = /{D}+(\\.{D}+)?{E}?/
+[*]
+part = /{part}y/
+SET = /[{D}]/
+";
+
+#[test]
+fn patterns_have_parts(rt: HostRuntime) {
+    let wanted = "\"12.5e+3\" \"zy\" \"{\" \"D\" \"}\" \"xy\" \"7\" ";
+    expect(&rt, pieces(rt.alloc(), PARTS, "12.5e+3zy{D}xy7"), wanted);
+    // above its line a part isn't known
+    expect(
+        &rt,
+        is_refused_by_the_lexer(rt.alloc(), b"A = /{P}/\nP part = /p/"),
+        "true",
+    );
+    expect(
+        &rt,
+        is_refused_by_the_lexer(rt.alloc(), b"P part = /p/\nA = /{P}/"),
+        "false",
+    );
 }
 
 #[test]
 fn a_file_makes_a_lexer(rt: HostRuntime) {
     let wanted = "\"if\" \" \" \"a\" \"'\" ";
     expect(&rt, pieces(rt.alloc(), FILE, "if a'"), wanted);
+    let wanted = "\"a\" \"/*\" \"b\" \"/*\" \"c\" \"*/\" \"d\" \"*/\" \"e\" ";
+    expect(&rt, pieces(rt.alloc(), NESTED, "a/*b/*c*/d*/e"), wanted);
 }

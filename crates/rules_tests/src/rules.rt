@@ -104,6 +104,70 @@ fn refused(alloc: Global, text: &str) -> Result<String, AllocError> {
     }
 }
 
+// The index and the slice of each token of a text, by numbers of three forms and by words.
+fn indices(alloc: Global, text: &str) -> Result<String, AllocError> {
+    let rules = [
+        Rule::pattern("NUMBER", "[0-9]+"),
+        Rule::literal("IF", "if"),
+        Rule::pattern("NUMBER", "[0-9a-f]+"),
+        Rule::pattern("SPACE", " +").skipped(),
+        Rule::pattern("NUMBER", "0x[0-9a-f]+"),
+        Rule::pattern("SPACE", "\\t+").skipped(),
+    ];
+    let lexer = lexer_from(alloc, &rules)?;
+    let mut line = String::new(alloc);
+    for item in lexer.items(text) {
+        match item {
+            Item::Token(token) => {
+                line.push_str(&format!(in alloc; "{} {}, ", token.index.index(), token.slice)?)?;
+            }
+            Item::Skipped(token) => {
+                line.push_str(&format!(in alloc; "({}), ", token.index.index())?)?;
+            }
+            Item::Fault { .. } => line.push_str("!, ")?,
+        }
+    }
+    Ok(line)
+}
+
+#[test]
+fn rules_of_one_name_are_one_kind(rt: HostRuntime) {
+    let wanted = "0 12, (3), 0 1f, (3), 0 0x1f, (3), 1 if, (3), 0 ff, ";
+    expect(&rt, indices(rt.alloc(), "12 1f\t0x1f if ff"), wanted);
+}
+
+// The pieces of a text that is cut by names and by what is from `/*` to the text.
+fn with_comments(alloc: Global, to: &str, text: &str) -> Result<String, AllocError> {
+    let rules = [
+        Rule::pattern("NAME", "[a-z]+"),
+        Rule::from_to("COMMENT", "/*", to).skipped(),
+    ];
+    let lexer = match RuleLexer::from_rules(alloc, &rules) {
+        Ok(lexer) => lexer,
+        Err(error) => return format!(in alloc; "{error}"),
+    };
+    let mut line = String::new(alloc);
+    for item in lexer.items(text) {
+        line.push_str(&shown(alloc, &lexer, &item)?)?;
+    }
+    Ok(line)
+}
+
+const COMMENTS: &str = r#"
+*/ => a/* b **/c*/ => NAME "a" 0, (COMMENT "/* b **/" 1), NAME "c" 9, ! "*/" 10, 
+*/ => /*/ => ! "/*/" 0, 
+ => a => the text of rule 1 has no tree: the end is empty
+"#;
+
+#[test]
+fn comments_end_at_the_first_end(rt: HostRuntime) {
+    for row in COMMENTS.trim_matches('\n').lines() {
+        let (to, rest) = halves(row, " => ");
+        let (text, wanted) = halves(rest, " => ");
+        expect(&rt, with_comments(rt.alloc(), to, text), wanted);
+    }
+}
+
 #[test]
 fn rules_are_refused(rt: HostRuntime) {
     for row in REFUSED.trim_matches('\n').lines() {

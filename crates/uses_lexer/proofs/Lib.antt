@@ -1,3 +1,4 @@
 mod Counting
 mod Pages
+mod ReadFiles
 mod Tokens

@@ -1,14 +1,18 @@
 //! A text is cut by rules with modes.
-ghost use Rattle.std.specs.Prelude.{◌≡◌, ◌<◌, ◌∷◌, [], Option, true, IfOk, IfErr, option_map, slice_get};
-ghost use Rattle.lalrpop_modes.specs.ModeCut.{ModeCut, uncut, GivesModePiece};
-ghost use Rattle.lalrpop_modes.specs.ModeSet.{IsModesError};
-ghost use Rattle.lalrpop_modes.specs.Modes.{ArePiecesFrom};
+ghost use Rattle.std.specs.Prelude.{◌≡◌, ◌≤◌, ◌<◌, ◌+◌, ◌*◌, ◌∷◌, [], List, length, Option, None, true, IfOk, IfErr, IsSome, option_map, slice_get};
+ghost use Rattle.lalrpop_modes.specs.ModeCut.{ModeCut, uncut, open_in_all, GivesModePiece};
+ghost use Rattle.std.specs.Str.{chars};
+ghost use Rattle.lalrpop_modes.specs.ModeClashes.{IsModesFault};
+ghost use Rattle.lalrpop_modes.specs.ModeSet.{AreModeRules, IsModesError};
+ghost use Rattle.lalrpop_modes.specs.ModesErrors.{of_texts};
+ghost use Rattle.lalrpop_modes.specs.Modes.{ArePiecesFrom, ModeRules, NoModeClash};
 ghost use Rattle.lalrpop_modes.specs.Stack.{Stack, actions_of, start};
 ghost use Rattle.lalrpop_rules.specs.Pieces.{AreApart, joined};
 ghost use Rattle.lalrpop_rules.specs.declared.item.Item.{Item as ItemValue};
 
 use lalrpop_lexer::lexer::dfa::NfaIndex;
-use lalrpop_modes::{Action, ModeItems, ModeLexer, ModeRule, ModesError};
+use lalrpop_modes::{Action, ModeItems, ModeLexer, ModeRule, ModesError, mode_clashes};
+use lalrpop_rules::TextError;
 use std::alloc::{AllocError, Global};
 
 // Needs lalrpop_modes::ModeLexer::from_rules: rules, error.
@@ -41,7 +45,7 @@ pub fn mode_behind_the_first<'text>(
     text: &'text str,
 ) -> Result<usize, AllocError>
     ensures mode { IfOk result (λ mode. (item : Option ItemValue) × ((cut : ModeCut)
-        × (GivesModePiece (uncut lexer.now text.now) item cut × (mode ≡ cut.stack.mode)))) }
+        × (GivesModePiece (uncut lexer.now text.now None) item cut × (mode ≡ cut.stack.mode)))) }
 {
     let mut items = lexer.items(alloc, text);
     match items.next_item() {
@@ -65,6 +69,22 @@ pub fn rest_by_modes<'text>(lexer: &'text ModeLexer, alloc: Global, text: &'text
     ensures whole { result.now ≡ text.now }
 {
     lexer.items(alloc, text).rest()
+}
+
+// Needs lalrpop_modes::ModeLexer::names: names.
+/// How many names the rules have.
+pub fn named_rules(lexer: &ModeLexer) -> usize
+    ensures count { result ≡ length lexer.now.names }
+{
+    lexer.names().len()
+}
+
+// Needs lalrpop_modes::ModesError::from: ghost from_gives.
+/// What is wrong with texts is wrong with their rules.
+pub fn mode_error_of_texts(error: TextError) -> ModesError
+    ensures same { result ≡ of_texts error }
+{
+    ModesError::from(error)
 }
 
 // Needs lalrpop_modes::ModeLexer::actions: actions.
@@ -99,4 +119,99 @@ pub fn is_one_piece<'text>(
         Ok(None) => Ok(false),
         Err(error) => Err(error),
     }
+}
+
+// Needs lalrpop_modes::ModeLexer::items_linear: items, whole, apart.
+// Needs lalrpop_modes::ModeItems::next_item: gives.
+/// Whether a text is one piece, told in linear time.
+///
+/// # Errors
+///
+/// `AllocError` if a request for memory was refused.
+pub fn is_one_piece_linear<'text>(
+    lexer: &'text ModeLexer,
+    alloc: Global,
+    text: &'text str,
+) -> Result<bool, AllocError>
+    ensures piece { IfOk result (λ is. is ≡ true → (x : ItemValue) × ((end : Stack)
+        × (ArePiecesFrom lexer.now text.now 0 start (x ∷ []) end
+        × (joined (x ∷ []) ≡ text.now) × AreApart (x ∷ [])))) }
+{
+    match lexer.items_linear(alloc, text) {
+        Ok(mut items) => match items.next_item() {
+            Ok(Some(_)) => Ok(items.rest().is_empty()),
+            Ok(None) => Ok(false),
+            Err(error) => Err(error),
+        },
+        Err(error) => Err(error),
+    }
+}
+
+// Needs lalrpop_modes::ModeLexer::items_linear: start, memo, cost.
+/// The text before its first piece, with memos. All steps that are counted are within the bound for the whole text.
+///
+/// # Errors
+///
+/// `AllocError` if a request for memory was refused.
+pub fn begin_linear<'text>(
+    lexer: &'text ModeLexer,
+    alloc: Global,
+    text: &'text str,
+) -> Result<ModeItems<'text>, AllocError>
+    ensures rules { IfOk result (λ s. s.rules ≡ lexer.now) }
+    ensures memo { IfOk result (λ s. IsSome s.memo) }
+    ensures cost { IfOk result (λ s. s.steps ≤ 65 * length (chars text.now)
+        + (lexer.now.modes * (length (chars text.now) + length text.now)
+        + open_in_all lexer.now * (length text.now + 64))) }
+{
+    lexer.items_linear(alloc, text)
+}
+
+// Needs lalrpop_modes::ModeLexer::from_rules: no_clash.
+/// The lexer of rules, none of which clashes with another in a mode.
+///
+/// # Errors
+///
+/// What is wrong with the rules.
+pub fn clear_lexer(alloc: Global, rules: &[ModeRule], modes: usize) -> Result<ModeLexer, ModesError>
+    requires some { 0 < modes }
+    ensures no_clash { IfOk result NoModeClash }
+{
+    ModeLexer::from_rules(alloc, rules, modes)
+}
+
+// Needs lalrpop_modes::ModeLexer::items: exist.
+/// Any text has pieces, whether they are asked for or not.
+pub fn has_pieces<'text>(lexer: &'text ModeLexer, alloc: Global, text: &'text str) -> bool
+    ensures exist { (xs : List ItemValue) × ((end : Stack)
+        × ArePiecesFrom lexer.now text.now 0 start xs end) }
+{
+    lexer.items(alloc, text).rest().is_empty()
+}
+
+// Needs lalrpop_modes::mode_clashes: clashes, error.
+/// In how many modes clashes are looked for.
+///
+/// # Errors
+///
+/// What is wrong with the rules: never a clash.
+pub fn modes_with_lists(
+    alloc: Global,
+    rules: &[ModeRule],
+    modes: usize,
+) -> Result<usize, ModesError>
+    ensures count { IfOk result (λ n. (r : ModeRules) × (AreModeRules rules.now modes r × (n ≡ r.modes))) }
+    ensures error { IfErr result (IsModesFault rules.now modes) }
+{
+    let found = mode_clashes(alloc, rules, modes)?;
+    Ok(found.len())
+}
+
+// Needs lalrpop_modes::ModeLexer::items_linear: exist.
+/// Any text has pieces, whether there is memory for them or not.
+pub fn has_pieces_linear<'text>(lexer: &'text ModeLexer, alloc: Global, text: &'text str) -> bool
+    ensures exist { (xs : List ItemValue) × ((end : Stack)
+        × ArePiecesFrom lexer.now text.now 0 start xs end) }
+{
+    lexer.items_linear(alloc, text).is_ok()
 }

@@ -22,6 +22,7 @@ pub mod keep_modes;
 pub mod look_ahead;
 pub mod match_a_text;
 pub mod name_rules;
+pub mod pass_on;
 pub mod read_a_file;
 pub mod read_comments;
 pub mod read_lines;

@@ -1,5 +1,5 @@
 //! Named rules, and their lexer.
-ghost use Rattle.std.specs.Prelude.{◌≡◌, ℕ, true, false, List, length, IfOk, IfErr, IfSome, IsSome, slice_get, Some};
+ghost use Rattle.std.specs.Prelude.{◌≡◌, ◌≢◌, ℕ, true, false, List, length, IfOk, IfErr, IfSome, IsSome, slice_get, Some};
 ghost use Rattle.std.specs.Str.{chars};
 ghost use Rattle.lalrpop_book.specs.Clash.{NoClash};
 ghost use Rattle.lalrpop_book.specs.Report.{NoFault};
@@ -9,17 +9,23 @@ ghost use Rattle.lalrpop_book.specs.declared.token.Token.{Token as TokenValue};
 ghost use Rattle.lalrpop_lexer.specs.Parts.{of_text};
 ghost use Rattle.lalrpop_lexer.specs.Pattern.{Pattern};
 ghost use Rattle.lalrpop_rules.specs.Found.{IsFound};
-ghost use Rattle.lalrpop_lexer.specs.Spelled.{Spells};
-ghost use Rattle.lalrpop_rules.specs.RuleSet.{AreTrees, IsRulesError, names_of, precedences_of, skips_of};
+ghost use Rattle.lalrpop_rules.specs.RuleText.{HasTree, IsFromToTree};
+ghost use Rattle.lalrpop_rules.specs.Kinds.{merged};
+ghost use Rattle.lalrpop_rules.specs.RulesErrors.{of_texts, of_construction};
+ghost use Rattle.lalrpop_rules.specs.RuleSet.{AreMergedTrees, AreTrees, IsRulesError, IsTextError, names_of, precedences_of, skips_of};
 
 use lalrpop_lexer::Token;
-use lalrpop_rules::{Rule, RuleLexer, RulesError, find};
+use lalrpop_lexer::lexer::dfa::DfaConstructionError;
+use lalrpop_lexer::lexer::re::Regex;
+use lalrpop_rules::{
+    Rule, RuleLexer, RulesError, TextError, are_one_kind, find, merged_trees, trees_of,
+};
 use std::alloc::{AllocError, Global};
 
-// Needs lalrpop_rules::Rule::literal: texts, form, precedence, kept.
+// Needs lalrpop_rules::Rule::literal: name, text, precedence, kept.
 /// The rule of a keyword spells the tree of its text, and is stronger than a name.
 pub fn keyword<'text>(name: &'text str, text: &'text str) -> Rule<'text>
-    ensures spells { (t : Tree) → Spells result.form result.text.now t → t ≡ of_text text.now }
+    ensures spells { (t : Tree) → HasTree result.text t → t ≡ of_text text.now }
     ensures name { result.name.now ≡ name.now }
     ensures strong { result.precedence.0 ≡ 1 }
     ensures kept { result.is_skipped ≡ false }
@@ -27,16 +33,26 @@ pub fn keyword<'text>(name: &'text str, text: &'text str) -> Rule<'text>
     Rule::literal(name, text)
 }
 
-// Needs lalrpop_rules::Rule::pattern: texts, form, precedence, kept.
+// Needs lalrpop_rules::Rule::pattern: name, text, precedence, kept.
 /// The rule of a pattern spells the trees of the pattern.
 pub fn names<'text>(name: &'text str, text: &'text str) -> Rule<'text>
-    ensures spells { (t : Tree) → Spells result.form result.text.now t
-        → Pattern (chars text.now) t }
+    ensures spells { (t : Tree) → HasTree result.text t → Pattern (chars text.now) t }
     ensures name { result.name.now ≡ name.now }
     ensures weak { result.precedence.0 ≡ 0 }
     ensures kept { result.is_skipped ≡ false }
 {
     Rule::pattern(name, text)
+}
+
+// Needs lalrpop_rules::Rule::from_to: name, text, precedence, kept.
+/// A rule of what is from a beginning to an end has the tree of that.
+pub fn comments<'text>(name: &'text str, from: &'text str, to: &'text str) -> Rule<'text>
+    ensures between { (t : Tree) → HasTree result.text t → IsFromToTree from.now to.now t }
+    ensures name { result.name.now ≡ name.now }
+    ensures weak { result.precedence.0 ≡ 0 }
+    ensures kept { result.is_skipped ≡ false }
+{
+    Rule::from_to(name, from, to)
 }
 
 // Needs lalrpop_rules::Rule::skipped: rule.
@@ -45,7 +61,7 @@ pub fn names<'text>(name: &'text str, text: &'text str) -> Rule<'text>
 pub fn skipped_first(rule: Rule) -> Rule
     ensures skipped { result.is_skipped ≡ true }
     ensures strong { result.precedence.0 ≡ 1000 }
-    ensures same { result.text.now ≡ rule.entry.text.now }
+    ensures same { result.text ≡ rule.entry.text }
 {
     rule.with_precedence(1000).skipped()
 }
@@ -58,7 +74,7 @@ pub fn skipped_first(rule: Rule) -> Rule
 /// As `from_rules`.
 pub fn lexer_of(alloc: Global, rules: &[Rule]) -> Result<RuleLexer, RulesError>
     ensures names { IfOk result (λ lexer. lexer.names ≡ names_of rules.now) }
-    ensures rules { IfOk result (λ lexer. AreTrees rules.now lexer.trees
+    ensures rules { IfOk result (λ lexer. AreMergedTrees rules.now lexer.trees
         × (lexer.precedences ≡ precedences_of rules.now)
         × (lexer.skips ≡ skips_of rules.now)) }
     ensures sound { IfOk result (λ lexer.
@@ -66,6 +82,53 @@ pub fn lexer_of(alloc: Global, rules: &[Rule]) -> Result<RuleLexer, RulesError>
     ensures error { IfErr result (λ e. IsRulesError rules.now e) }
 {
     RuleLexer::from_rules(alloc, rules)
+}
+
+// Needs lalrpop_rules::are_one_kind: ensures.
+/// Rules of two names are two kinds.
+pub fn names_differ(rule: &Rule, other: &Rule) -> bool
+    requires apart { rule.now.name.now ≢ other.now.name.now }
+    ensures yes { result ≡ true }
+{
+    !are_one_kind(rule, other)
+}
+
+// Needs lalrpop_rules::merged_trees: trees.
+/// Trees, merged by the kinds of their rules.
+///
+/// # Errors
+///
+/// `AllocError` if a request for memory was refused.
+pub fn merged_by_kinds(
+    alloc: Global,
+    kinds: &[Option<usize>],
+    trees: &[Regex],
+) -> Result<Vec<Regex>, AllocError>
+    requires same_len { length kinds.now ≡ length trees.now }
+    ensures trees { IfOk result (λ all. all.items ≡ merged kinds.now trees.now) }
+{
+    merged_trees(alloc, kinds, trees)
+}
+
+// Needs lalrpop_rules::trees_of: trees, no_fault, error.
+/// The trees of these rules.
+///
+/// # Errors
+///
+/// As `trees_of`.
+pub fn all_trees(alloc: Global, rules: &[Rule]) -> Result<Vec<Regex>, TextError>
+    ensures trees { IfOk result (λ trees. AreTrees rules.now trees.items × NoFault trees.items) }
+    ensures error { IfErr result (λ e. IsTextError rules.now e) }
+{
+    trees_of(alloc, rules)
+}
+
+// Needs lalrpop_rules::RuleLexer::names: names.
+/// How many names the rules have.
+pub fn name_count(lexer: &RuleLexer) -> usize
+    ensures count { result ≡ length lexer.now.names }
+{
+    lexer.names().len()
 }
 
 // Needs lalrpop_rules::RuleLexer::name: name, token.
@@ -105,6 +168,30 @@ pub fn refused(error: AllocError) -> RulesError
     ensures memory { result ≡ RulesError.OutOfMemory }
 {
     RulesError::from(error)
+}
+
+// Needs lalrpop_rules::RulesError::from: ghost from_gives.
+/// What is wrong with texts is wrong with their rules.
+pub fn error_of_texts(error: TextError) -> RulesError
+    ensures same { result ≡ of_texts error }
+{
+    RulesError::from(error)
+}
+
+// Needs lalrpop_rules::RulesError::from: ghost from_gives.
+/// The report of the construction, as an error of rules.
+pub fn error_of_report(error: DfaConstructionError) -> RulesError
+    ensures same { result ≡ of_construction error }
+{
+    RulesError::from(error)
+}
+
+// Needs lalrpop_rules::TextError::from: ghost from_gives.
+/// Refused memory is reported as such, for texts too.
+pub fn text_refused(error: AllocError) -> TextError
+    ensures memory { result ≡ TextError.OutOfMemory }
+{
+    TextError::from(error)
 }
 
 // Needs lalrpop_rules::RulesError::from: ghost from_gives.

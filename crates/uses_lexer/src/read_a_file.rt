@@ -1,16 +1,16 @@
 //! Rules are read from a file.
-ghost use Rattle.std.specs.Prelude.{◌≡◌, ℕ, List, length, IfOk, IfErr, IfSome, MatchOption, Some, slice_get};
+ghost use Rattle.std.specs.Prelude.{◌≡◌, ◌⊎◌, ℕ, List, length, map, IfOk, IfErr, IfSome, MatchOption, Some, slice_get};
 ghost use Rattle.lalrpop_lexer.specs.Lines.{lines};
-ghost use Rattle.lalrpop_rules.specs.RuleSet.{names_of};
-ghost use Rattle.lalrpop_rules.specs.declared.rule.Rule.{Rule as RuleValue};
-ghost use Rattle.lalrpop_rules.specs.RuleFile.{AreRules, ArePlaces, IsFirstBad, IsLineFault, without_mark as without_mark_of};
+ghost use Rattle.lalrpop_rule_file.specs.RuleFile.{AreFileParts, AreModeRules, AreRules, ArePlaces, IsFirstBad, IsFirstBadPart, IsFirstNoMode, IsFirstRepeatedPart, IsLineFault, LinesSay, without_mark as without_mark_of};
+ghost use Rattle.lalrpop_rule_file.specs.declared.file_rule.FileRule.{FileRule as FileRuleValue};
+ghost use Rattle.lalrpop_rule_file.specs.FileModes.{Said, modes_of};
 
-use lalrpop_rules::{
-    LineFault, RuleFile, RuleFileError, RuleLexer, RulesError, read_rules, without_mark,
-};
+use lalrpop_lexer::lexer::re::Part;
+use lalrpop_modes::{ModeLexer, ModeRule, ModesError};
+use lalrpop_rule_file::{LineFault, RuleFile, RuleFileError, read_rules, without_mark};
 use std::alloc::{AllocError, Global};
 
-// Needs lalrpop_rules::without_mark: ensures.
+// Needs lalrpop_rule_file::without_mark: ensures.
 /// How many bytes of a file are read as lines.
 pub fn bytes_of_lines(bytes: &[u8]) -> usize
     ensures count { result ≡ length (without_mark_of bytes.now) }
@@ -18,7 +18,7 @@ pub fn bytes_of_lines(bytes: &[u8]) -> usize
     without_mark(bytes).len()
 }
 
-// Needs lalrpop_rules::read_rules: rules, error.
+// Needs lalrpop_rule_file::read_rules: rules, error.
 /// The first bad line of a file, counted from 1, if there is one.
 ///
 /// # Errors
@@ -26,18 +26,62 @@ pub fn bytes_of_lines(bytes: &[u8]) -> usize
 /// `AllocError` if a request for memory was refused.
 pub fn first_bad_line(alloc: Global, bytes: &[u8]) -> Result<Option<usize>, AllocError>
     ensures wrong { IfOk result (λ wrong. MatchOption wrong
-        ((rs : List RuleValue) × AreRules (lines (without_mark_of bytes.now)) rs)
+        ((said : List Said) × LinesSay (lines (without_mark_of bytes.now)) said)
         (λ n. IsFirstBad (lines (without_mark_of bytes.now)) n)) }
 {
     match read_rules(alloc, bytes) {
         Ok(_) => Ok(None),
         Err(RuleFileError::BadLine { line, .. }) => Ok(Some(line)),
+        Err(RuleFileError::BadPart { .. }) => Ok(None),
+        Err(RuleFileError::RepeatedPart { .. }) => Ok(None),
+        Err(RuleFileError::NoSuchMode { .. }) => Ok(None),
         Err(RuleFileError::OutOfMemory) => Err(AllocError),
     }
 }
 
-// Needs lalrpop_rules::read_rules: error.
-/// In which column the first bad line stops being a rule, and why.
+// Needs lalrpop_rule_file::read_rules: error.
+/// The place of the first part that is wrong: that of the name of a part above, or of what isn't a pattern.
+///
+/// # Errors
+///
+/// `AllocError` if a request for memory was refused.
+pub fn first_wrong_part(alloc: Global, bytes: &[u8]) -> Result<Option<(usize, usize)>, AllocError>
+    ensures wrong { IfOk result (λ found. IfSome found (λ place.
+        IsFirstBadPart (lines (without_mark_of bytes.now)) place.0 place.1
+        ⊎ IsFirstRepeatedPart (lines (without_mark_of bytes.now)) place.0 place.1)) }
+{
+    match read_rules(alloc, bytes) {
+        Err(RuleFileError::BadPart { line, column, .. }) => Ok(Some((line, column))),
+        Err(RuleFileError::RepeatedPart { line, column }) => Ok(Some((line, column))),
+        Ok(_) | Err(RuleFileError::BadLine { .. }) => Ok(None),
+        Err(RuleFileError::NoSuchMode { .. }) => Ok(None),
+        Err(RuleFileError::OutOfMemory) => Err(AllocError),
+    }
+}
+
+// Needs lalrpop_rule_file::read_rules: error.
+/// Where the first mode stands that an action names and no section.
+///
+/// # Errors
+///
+/// `AllocError` if a request for memory was refused.
+pub fn first_missing_mode(alloc: Global, bytes: &[u8]) -> Result<Option<(usize, usize)>, AllocError>
+    ensures missing { IfOk result (λ found. IfSome found (λ place. (said : List Said)
+        × (LinesSay (lines (without_mark_of bytes.now)) said
+        × IsFirstNoMode (modes_of said) (lines (without_mark_of bytes.now)) said
+        place.0 place.1))) }
+{
+    match read_rules(alloc, bytes) {
+        Err(RuleFileError::NoSuchMode { line, column }) => Ok(Some((line, column))),
+        Ok(_) | Err(RuleFileError::BadLine { .. }) => Ok(None),
+        Err(RuleFileError::BadPart { .. }) => Ok(None),
+        Err(RuleFileError::RepeatedPart { .. }) => Ok(None),
+        Err(RuleFileError::OutOfMemory) => Err(AllocError),
+    }
+}
+
+// Needs lalrpop_rule_file::read_rules: error.
+/// In which column the first bad line stops being a rule or a section, and why.
 ///
 /// # Errors
 ///
@@ -47,7 +91,6 @@ pub fn first_fault(alloc: Global, bytes: &[u8]) -> Result<Option<(usize, LineFau
         × ((slice_get (lines (without_mark_of bytes.now)) n ≡ Some line) × IsLineFault line f.0 f.1)))) }
 {
     match read_rules(alloc, bytes) {
-        Ok(_) => Ok(None),
         Err(
             RuleFileError::BadLine {
                 line: _,
@@ -56,42 +99,97 @@ pub fn first_fault(alloc: Global, bytes: &[u8]) -> Result<Option<(usize, LineFau
             },
         ) => Ok(Some((column, fault))),
         Err(RuleFileError::OutOfMemory) => Err(AllocError),
+        Ok(_) | Err(_) => Ok(None),
     }
 }
 
-// Needs lalrpop_rules::read_rules: rules.
+// Needs lalrpop_rule_file::read_rules: rules, some, within.
+// Needs lalrpop_rule_file::RuleFile::mode_rules: names, modes, actions.
 /// The lexer of a file of rules; `None` if the file isn't one.
 ///
 /// # Errors
 ///
-/// Why the rules give no lexer, or out of memory.
-pub fn lexer_of_file(alloc: Global, bytes: &[u8]) -> Result<Option<RuleLexer>, RulesError>
-    ensures names { IfOk result (λ found. IfSome found (λ lexer. (rs : List RuleValue)
-        × (AreRules (lines (without_mark_of bytes.now)) rs × (lexer.names ≡ names_of rs)))) }
+/// Why the rules give no lexer, or out of memory; no rule names a mode that isn't there.
+pub fn lexer_of_file(alloc: Global, bytes: &[u8]) -> Result<Option<ModeLexer>, ModesError>
+    ensures names { IfOk result (λ found. IfSome found (λ lexer.
+        (modes : List (List ℕ)) × ((rs : List FileRuleValue)
+        × (AreRules (lines (without_mark_of bytes.now)) modes rs
+        × (lexer.names ≡ map (λ r. r.rule.name.now) rs) × (lexer.modes ≡ length modes))))) }
 {
     match read_rules(alloc, bytes) {
-        Ok(file) => match RuleLexer::from_rules(alloc, &file.rules) {
-            Ok(lexer) => Ok(Some(lexer)),
-            Err(error) => Err(error),
-        },
+        Ok(file) => {
+            let rules = file.mode_rules(alloc)?;
+            match ModeLexer::from_rules(alloc, &rules, file.modes.len()) {
+                Ok(lexer) => Ok(Some(lexer)),
+                Err(error) => Err(error),
+            }
+        }
         Err(_) => Ok(None),
     }
 }
 
-// Needs lalrpop_rules::read_rules: places.
-/// The rules of a file with the places where their literals and patterns begin.
+// Needs lalrpop_rule_file::read_rules: parts.
+/// The parts that the lines of a file define; `None` if something is wrong with it.
 ///
 /// # Errors
 ///
-/// The first bad line, or out of memory.
+/// `AllocError` if a request for memory was refused.
+pub fn parts_of_file(alloc: Global, bytes: &[u8]) -> Result<Option<Vec<Part>>, AllocError>
+    ensures parts { IfOk result (λ found. IfSome found (λ parts.
+        AreFileParts (lines (without_mark_of bytes.now)) parts.items)) }
+{
+    match read_rules(alloc, bytes) {
+        Ok(file) => Ok(Some(file.parts)),
+        Err(RuleFileError::OutOfMemory) => Err(AllocError),
+        Err(_) => Ok(None),
+    }
+}
+
+// Needs lalrpop_rule_file::RuleFile::mode_rules: rules.
+/// The rules of a file as a lexer takes them, with their parts.
+///
+/// # Errors
+///
+/// `AllocError` if a request for memory was refused.
+pub fn rules_with_parts<'file>(
+    alloc: Global,
+    file: &'file RuleFile<'_>,
+) -> Result<Vec<ModeRule<'file>>, AllocError>
+    ensures rules { IfOk result (λ rules.
+        AreModeRules file.now.parts.items file.now.rules.items rules.items) }
+{
+    file.mode_rules(alloc)
+}
+
+// Needs lalrpop_rule_file::read_rules: places.
+/// The rules of a file with the places where their texts begin.
+///
+/// # Errors
+///
+/// The first bad line, the first mode in an action that isn't there, or out of memory.
 pub fn rules_with_places(alloc: Global, bytes: &[u8]) -> Result<RuleFile<'_>, RuleFileError>
     ensures places { IfOk result (λ file.
-        ArePlaces (lines (without_mark_of bytes.now)) file.rules.items file.places.items) }
+        ArePlaces (lines (without_mark_of bytes.now)) file.rules.items) }
 {
     read_rules(alloc, bytes)
 }
 
-// Needs lalrpop_rules::RuleFileError::from: ghost from_gives.
+// Needs lalrpop_rule_file::read_rules: some.
+/// The name of the mode in which a text of the file's language begins.
+///
+/// # Errors
+///
+/// What is wrong with the file, or out of memory.
+pub fn first_mode(alloc: Global, bytes: &[u8]) -> Result<&str, RuleFileError>
+    ensures first { IfOk result (λ mode. (said : List Said)
+        × (LinesSay (lines (without_mark_of bytes.now)) said
+        × (slice_get (modes_of said) 0 ≡ Some mode.now))) }
+{
+    let file = read_rules(alloc, bytes)?;
+    Ok(file.modes[0])
+}
+
+// Needs lalrpop_rule_file::RuleFileError::from: ghost from_gives.
 /// Refused memory is reported as such.
 pub fn refused(error: AllocError) -> RuleFileError
     ensures memory { result ≡ RuleFileError.OutOfMemory }
@@ -99,7 +197,7 @@ pub fn refused(error: AllocError) -> RuleFileError
     RuleFileError::from(error)
 }
 
-// Needs lalrpop_rules::RuleFileError::from: ghost from_gives.
+// Needs lalrpop_rule_file::RuleFileError::from: ghost from_gives.
 /// Adds a number.
 ///
 /// # Errors

@@ -1,5 +1,5 @@
 //! A text as HTML, and in colours for a terminal.
-ghost use Rattle.std.specs.Prelude.{◌≡◌, ◌++◌, List, false, flat_map, string_bytes, IfOk};
+ghost use Rattle.std.specs.Prelude.{◌≡◌, ◌++◌, List, false, flat_map, map, string_bytes, IfOk};
 ghost use Rattle.lalrpop_rules.specs.declared.item.Item.{Item as ItemValue};
 ghost use Rattle.lalrpop_markup.specs.Markup.{marked, outside};
 ghost use Rattle.lalrpop_markup.specs.Terminal.{painted, unpainted};
@@ -96,16 +96,16 @@ pub fn clears_the_screen(alloc: Global, lexer: &RuleLexer, text: &str) -> Result
 /// `AllocError` if a request for memory was refused.
 pub fn two_marked(
     alloc: Global,
-    lexer: &RuleLexer,
+    names: &[String],
     one: &Item<'_>,
     two: &Item<'_>,
 ) -> Result<String, AllocError>
     ensures marked { IfOk result (λ page. string_bytes page
-        ≡ marked lexer.now.names one.now ++ marked lexer.now.names two.now) }
+        ≡ marked (map string_bytes names.now) one.now ++ marked (map string_bytes names.now) two.now) }
 {
     let mut page = String::new(alloc);
-    push_html(&mut page, lexer, one)?;
-    push_html(&mut page, lexer, two)?;
+    push_html(&mut page, names, one)?;
+    push_html(&mut page, names, two)?;
     Ok(page)
 }
 
@@ -118,14 +118,14 @@ pub fn two_marked(
 /// `AllocError` if a request for memory was refused.
 pub fn two_painted(
     alloc: Global,
-    lexer: &RuleLexer,
+    names: &[String],
     one: &Item<'_>,
     two: &Item<'_>,
 ) -> Result<String, AllocError>
     ensures painted { IfOk result (λ page. string_bytes page
-        ≡ painted lexer.now.names one.now ++ painted lexer.now.names two.now) }
+        ≡ painted (map string_bytes names.now) one.now ++ painted (map string_bytes names.now) two.now) }
 {
-    let mut painter = Painter::new(alloc, lexer)?;
+    let mut painter = Painter::new(alloc, names)?;
     let mut page = String::new(alloc);
     painter.push(&mut page, one)?;
     painter.push(&mut page, two)?;
