@@ -12,9 +12,9 @@ each place the longest match wins; among terminals with a match of that length, 
 Each token is a line `TERMINAL BYTES "SLICE"`, which --places begins with `FILE:LINE:COLUMN: `. The last line of a text
 is `end`, or `none N` if no terminal matches at byte N. The exit status is 0, or 1 if there was a `none`.
 
-With --named the lines of RULES are named rules, `NAME [skip] = [P] 'TEXT'` or `NAME [skip] = [P] /PATTERN/`, blank or comments, `#`.
-A token is a line `LINE:COLUMN NAME "SLICE"`, begun by `FILE:` if there are several files, and skipped ones are left out. Where no
-rule matches, the file is cut no further, and the exit status is 1."""
+With --named RULES is a file of named rules, as docs/PROGRAMS.md has it: rules, sections, blank lines and comments. A token is a line
+`LINE:COLUMN NAME "SLICE"`, begun by `FILE:` if there are several files, and skipped ones are left out. Where no rule matches, the
+file is cut no further, and the exit status is 1; so it is where a text ends in a deeper mode."""
 import functools
 import re
 import sys
@@ -73,16 +73,36 @@ def terminals(rules):
         yield int(precedence), {"l": re.escape, "r": translated}[kind](text)
 
 
-RULE = re.compile(r"[ \t]*([A-Za-z_]\w*)([ \t]+skip)?[ \t]*=[ \t]*([0-9]+)?[ \t]*(['/])(.*)\4[ \t]*", re.ASCII)
+SECTION = re.compile(r"[ \t]*\[[ \t]*(\*|\w+(?:[ \t]+\w+)*)[ \t]*\][ \t]*", re.ASCII)
+RULE = re.compile(r"[ \t]*([A-Za-z_]\w*)([ \t]+skip)?((?:[ \t]+(?:pop|(?:mode|push)[ \t]+\w+))*)[ \t]*=[ \t]*([0-9]+)?[ \t]*(.*?)[ \t]*", re.ASCII)
+TEXT = re.compile(r"'(?P<literal>.*)'|/(?P<pattern>.*)/|from[ \t]+'(?P<start>.*?)'[ \t]+to[ \t]*'(?P<end>.+)'")
+
+
+def pattern_of(text):
+    """The pattern of a rule's text in Python's syntax, and its precedence where none is written."""
+    it = TEXT.fullmatch(text)
+    if it["literal"] is not None:
+        return re.escape(it["literal"]), 1
+    if it["pattern"] is not None:
+        return translated(it["pattern"]), 0
+    start, end = re.escape(it["start"]), re.escape(it["end"])
+    return f"{start}(?s:(?!{end}).)*{end}", 0
 
 
 def named_rules(rules):
-    """The name, whether it is skipped, the precedence and the pattern of each rule."""
+    """Each rule: its name, whether it is skipped, its actions, precedence and pattern, and its modes; and the modes of the file."""
+    found, modes, here = [], [], ["INITIAL"]
     for line in rules.split("\n"):
-        if not re.fullmatch(r"[ \t]*(#.*)?", line):
-            name, skip, precedence, mark, text = RULE.fullmatch(line).groups()
-            pattern, usual = (re.escape(text), 1) if mark == "'" else (translated(text), 0)
-            yield name, bool(skip), int(precedence or usual), pattern
+        if section := SECTION.fullmatch(line):
+            here = section[1].split()
+            modes += [mode for mode in here if mode not in [*modes, "*"]]
+        elif not re.fullmatch(r"[ \t]*(#.*)?", line):
+            name, skip, words, precedence, text = RULE.fullmatch(line).groups()
+            pattern, usual = pattern_of(text)
+            modes = modes or here[:]
+            actions = re.findall(r"(pop)|(mode|push)[ \t]+(\w+)", words)
+            found.append((name, bool(skip), actions, int(precedence or usual), pattern, here))
+    return found, modes
 
 
 @functools.cache
@@ -102,19 +122,44 @@ def longest(pattern, rest):
     return length
 
 
+def token_at(rules, rest):
+    """The index of the strongest of the terminals with the longest match at the start of `rest`, and the match; None without a match."""
+    matches = [(longest(pattern, rest), precedence) for precedence, pattern in rules]
+    best = max(matches)
+    if best[0] == 0:
+        return None
+    if matches.count(best) > 1:
+        raise ValueError(f"two terminals tie on {rest[:best[0]]!r}")
+    return matches.index(best), rest[: best[0]]
+
+
 def cut(rules, text):
     """The terminal and the slice of each token, up to the first place where no terminal matches."""
     at = 0
+    while at < len(text) and (found := token_at(rules, text[at:])):
+        yield found
+        at += len(found[1])
+
+
+def cut_by_modes(rules, modes, text):
+    """The name of each token, or None if it is skipped, and its slice, up to the first place where no rule of the mode on top
+    matches; and the stack of modes there, whose last is on top."""
+    tokens, at, stack = [], 0, modes[:1]
     while at < len(text):
-        rest = text[at:]
-        matches = [(longest(pattern, rest), precedence) for precedence, pattern in rules]
-        best = max(matches)
-        if best[0] == 0:
-            return
-        if matches.count(best) > 1:
-            raise ValueError(f"two terminals tie on {rest[:best[0]]!r}")
-        yield matches.index(best), rest[: best[0]]
-        at += best[0]
+        own = [rule for rule in rules if rule[5] == ["*"] or stack[-1] in rule[5]]
+        if not (found := token_at([rule[3:5] for rule in own], text[at:])):
+            break
+        name, is_skipped, actions, *_ = own[found[0]]
+        tokens.append((None if is_skipped else name, found[1]))
+        at += len(found[1])
+        for pop, word, mode in actions:
+            if word == "push":
+                stack.append(mode)
+            elif word:
+                stack[-1] = mode
+            elif len(stack) > 1:
+                stack.pop()
+    return tokens, stack
 
 
 def quoted(token):
@@ -129,17 +174,16 @@ def place_behind(before):
 
 
 def named(rules_file, *files):
-    rules = list(named_rules(Path(rules_file).read_bytes().decode("utf-8-sig")))
-    patterns = [(precedence, pattern) for _, _, precedence, pattern in rules]
+    rules, modes = named_rules(Path(rules_file).read_bytes().decode("utf-8-sig"))
     status = 0
     for file in files:
         text, before = Path(file).read_bytes().decode(), ""
-        for number, token in cut(patterns, text):
-            name, is_skipped, _, _ = rules[number]
-            if not is_skipped:
+        tokens, stack = cut_by_modes(rules, modes, text)
+        for name, token in tokens:
+            if name:
                 print(f"{file + ':' if len(files) > 1 else ''}{place_behind(before)} {name} {quoted(token)}")
             before += token
-        status |= before != text
+        status |= before != text or len(stack) > 1
     return status
 
 
