@@ -3,7 +3,9 @@
 
 use anyhow::{Context, Result, bail};
 use lalrpop_lexer::Position;
-use lalrpop_rules::{Item, RuleLexer, read_rules};
+use lalrpop_rule_file::{RuleFile, read_rules};
+use lalrpop_rules::{Item, Rule, RuleLexer};
+use std::alloc::{AllocError, Global};
 use std::io::Print;
 use std::{env, fs};
 
@@ -50,6 +52,18 @@ fn show<'x>(rt: &impl Print, lexer: &'x RuleLexer, text: &'x str) -> Result<()> 
     Ok(())
 }
 
+// The rules of a file whose rules all stand in one mode.
+fn plain_rules<'text>(
+    alloc: Global,
+    file: &RuleFile<'text>,
+) -> Result<Vec<Rule<'text>>, AllocError> {
+    let mut rules = Vec::new(alloc);
+    for rule in &file.rules {
+        rules.push(rule.rule)?;
+    }
+    Ok(rules)
+}
+
 /// Reads both files and writes the tokens of the second.
 pub fn main(rt: HostRuntime) -> Result<()> {
     let alloc = rt.alloc();
@@ -61,7 +75,8 @@ pub fn main(rt: HostRuntime) -> Result<()> {
     };
     let bytes = fs::read_to_string(&rt, &rules_name).context(format_args!("{rules_name:?}"))?;
     let file = read_rules(alloc, bytes.as_bytes()).context(format_args!("{rules_name:?}"))?;
-    let lexer = RuleLexer::from_rules(alloc, &file.rules).context(format_args!("{rules_name:?}"))?;
+    let rules = plain_rules(alloc, &file)?;
+    let lexer = RuleLexer::from_rules(alloc, &rules).context(format_args!("{rules_name:?}"))?;
     let text = fs::read_to_string(&rt, &text_name).context(format_args!("{text_name:?}"))?;
     show(&rt, &lexer, &text)
 }

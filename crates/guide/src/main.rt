@@ -4,10 +4,8 @@
 mod calculator;
 mod config_reader;
 mod highlighter;
-mod token_kinds;
 
 fn main(rt: HostRuntime) -> anyhow::Result<()> {
-    token_kinds::main(rt)?;
     calculator::main(rt)?;
     config_reader::main(rt)?;
     highlighter::main(rt)
