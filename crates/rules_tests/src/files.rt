@@ -311,15 +311,24 @@ fn rules_know_the_parts_above_them(rt: HostRuntime) {
 fn slices<'x>(alloc: Global, lexer: &'x ModeLexer, text: &'x str) -> Result<String, AllocError> {
     let mut line = String::new(alloc);
     let mut items = lexer.items(alloc, text);
-    while let Some(item) = items.next_item()? {
-        line.push_str(&format!(in alloc; "{:?} ", item.slice())?)?;
+    // A piece has one byte at least.
+    for _ in 0..=text.len() {
+        match items.next_item() {
+            Ok(Some(item)) => line.push_str(&format!(in alloc; "{:?} ", item.slice())?)?,
+            Ok(None) => return Ok(line),
+            Err(_) => return Err(AllocError),
+        }
     }
     Ok(line)
 }
 
 fn cut_by(alloc: Global, file: &RuleFile, text: &str) -> Result<String, AllocError> {
     let rules = file.mode_rules(alloc)?;
-    match ModeLexer::from_rules(alloc, &rules, file.modes.len()) {
+    let modes = file.modes.len();
+    if modes == 0 {
+        return Err(AllocError);
+    }
+    match ModeLexer::from_rules(alloc, &rules, modes) {
         Ok(lexer) => slices(alloc, &lexer, text),
         Err(_) => Err(AllocError),
     }
@@ -334,7 +343,11 @@ fn pieces(alloc: Global, bytes: &[u8], text: &str) -> Result<String, AllocError>
 
 fn is_refused(alloc: Global, file: &RuleFile) -> Result<bool, AllocError> {
     let rules = file.mode_rules(alloc)?;
-    match ModeLexer::from_rules(alloc, &rules, file.modes.len()) {
+    let modes = file.modes.len();
+    if modes == 0 {
+        return Err(AllocError);
+    }
+    match ModeLexer::from_rules(alloc, &rules, modes) {
         Ok(_) => Ok(false),
         Err(ModesError::OutOfMemory) => Err(AllocError),
         Err(_) => Ok(true),
