@@ -24,7 +24,7 @@ fn write_clashes_of<W: Write>(alloc: Global, writer: &mut Watched<W>) -> Result<
     let rules = [
         plain(Rule::literal("A", "a")),
         plain(Rule::pattern("B", "[ab]").with_precedence(1)),
-        plain(Rule::literal("A", "a")),
+        plain(Rule::literal("C", "a")),
     ];
     match mode_clashes(alloc, &rules, 1) {
         Ok(found) => write_rule_clashes(alloc, &rules, &["INITIAL"], &found, writer),
@@ -32,7 +32,7 @@ fn write_clashes_of<W: Write>(alloc: Global, writer: &mut Watched<W>) -> Result<
     }
 }
 
-const CLASHES: &[u8] = b"B A \"a\"\nA A \"a\"\nA B \"a\"\n";
+const CLASHES: &[u8] = b"B C \"a\"\nA C \"a\"\nA B \"a\"\n";
 
 #[test]
 fn clashes_of_rules_are_written(rt: HostRuntime) {
