@@ -8,6 +8,8 @@ mod Operator
 mod NamedPart
 pub mod Pattern
 mod Escaped
+mod Unescaped
+mod AnyCase
 pub mod CharacterSet
 mod NamedSet
 mod PosixSet

@@ -29,7 +29,7 @@ member_passes p (d ∷ w) c h k =
       | inr e ↦ member_passes p w c e both.1
     ]
 
-escaped_mark : (c : ℕ) → is_escaped c ≡ true → is_mark c ≡ true
+pub escaped_mark : (c : ℕ) → is_escaped c ≡ true → is_mark c ≡ true
 escaped_mark c h = member_passes is_mark (codes "\\.+*?()|[]{}^$#&-~") c h refl
 
 special_escaped : (c : ℕ) → is_special c ≡ true → is_escaped c ≡ true
@@ -51,7 +51,7 @@ sign_mark : (c : ℕ) → is_mark c ≡ true → sign c ≡ this (character c)
 unfolding sign
 sign_mark c h = rw h refl
 
-mark_escape : (c : ℕ) (t : Text) → is_mark c ≡ true → Escape (c ∷ t) t (character c)
+pub mark_escape : (c : ℕ) (t : Text) → is_mark c ≡ true → Escape (c ∷ t) t (character c)
 mark_escape c t h = escape_of (subst (λ s. Signed s t t (character c)) (sym (sign_mark c h)) at_once)
 
 escaped_row : (cs : List ℕ) → Row [] no_flags (escaped cs) [] (map one cs) no_flags 0

@@ -9,6 +9,8 @@ pub mod PatternLaws
 pub mod SetLaws
 mod NameLaws
 mod EscapedLemmas
+pub mod UnescapedLaws
+mod AnyCaseLaws
 -- sets of characters
 pub mod CanonLaws
 pub mod SpanLaws

@@ -13,6 +13,8 @@ pub mod Operator
 pub mod NamedPart
 pub mod Pattern
 pub mod Escaped
+pub mod Unescaped
+pub mod AnyCase
 -- used by proofs only
 pub mod Internal
 -- the definitions of the trees, for callers

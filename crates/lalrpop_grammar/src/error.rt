@@ -51,7 +51,7 @@ pub enum SyntaxKind {
     UnsupportedBackreference,
     /// Groups, brackets and repetitions are nested too deeply.
     NestLimitExceeded,
-    /// A `{NAME}` where parts are known, but none of this name.
+    /// A `{NAME}` that is the name of no part, in a pattern that may have parts.
     PartUnknown,
     /// A part where a flag is on.
     PartUnderFlag,

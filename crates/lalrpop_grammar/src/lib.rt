@@ -2,6 +2,7 @@
 //! leaves, the names of groups, and literal texts.
 #![tactic(auto)]
 
+mod any_case;
 mod characters;
 mod error;
 mod escape_text;
@@ -13,6 +14,7 @@ mod names;
 mod posix;
 mod sets;
 
+pub use any_case::parse_any_case;
 pub use characters::range_class;
 pub use error::{RegexError, SyntaxKind};
 pub use escape_text::escape;

@@ -2,4 +2,5 @@ pub mod Views
 pub mod Signs
 pub mod Items
 pub mod Parts
+pub mod Characters
 pub mod Code

@@ -12,6 +12,8 @@ pub use Rattle.lalrpop_grammar.specs.Operator
 pub use Rattle.lalrpop_grammar.specs.NamedPart
 pub use Rattle.lalrpop_grammar.specs.Pattern
 pub use Rattle.lalrpop_grammar.specs.Escaped
+pub use Rattle.lalrpop_grammar.specs.Unescaped
+pub use Rattle.lalrpop_grammar.specs.AnyCase
 -- the definitions of the trees, for callers
 pub use Rattle.lalrpop_book.specs.Word
 pub use Rattle.lalrpop_book.specs.Range

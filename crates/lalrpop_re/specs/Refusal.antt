@@ -5,6 +5,7 @@ use Rattle.std.specs.Str.{IsCharBoundary}
 use Rattle.lalrpop_book.specs.Tree.{Tree}
 use Rattle.lalrpop_grammar.specs.NamedPart.{NamedPart}
 use Rattle.lalrpop_grammar.specs.Pattern.{PatternWith, IsPart}
+use Rattle.lalrpop_grammar.specs.Unescaped.{Unescapes}
 use Rattle.lalrpop_grammar.specs.declared.error.RegexError.{RegexError}
 use Rattle.lalrpop_grammar.specs.declared.error.RegexError.TheVariants.{Syntax, OutOfMemory}
 
@@ -21,6 +22,11 @@ HasNoTree s e = HasNoTreeWith [] s e
 abbrev pub MakesNoPart : List NamedPart → List ℕ → List ℕ → RegexError → Type 0
 MakesNoPart before name s (Syntax position kind) = (p : NamedPart) → IsPart before name s p → ⊥
 MakesNoPart before name s OutOfMemory = Unit {0}
+
+-- a syntax error means that the text with escapes says no text
+abbrev pub SaysNoText : List ℕ → RegexError → Type 0
+SaysNoText s (Syntax position kind) = (cs : List ℕ) → ¬ Unescapes s cs
+SaysNoText s OutOfMemory = Unit {0}
 
 -- the position counts bytes, is at most the length of the text, and lies at the beginning of a character or at the end
 abbrev pub PointsInto : List ℕ → RegexError → Type 0

@@ -415,14 +415,14 @@ fn parse_simple_item(
 
 // An escape, or a character that stands for itself, and the position where it begins.
 #[derive(Drop)]
-struct Primary {
-    part: EscapedPart,
-    position: usize,
+pub(crate) struct Primary {
+    pub(crate) part: EscapedPart,
+    pub(crate) position: usize,
 }
 
 // Reads an escape, or a character that stands for itself.
 #[tactic(auto, unfolding(lalrpop_grammar::specs::Internal::Reading::primary))]
-fn parse_primary(cursor: &mut Cursor) -> Result<Primary, RegexError>
+pub(crate) fn parse_primary(cursor: &mut Cursor) -> Result<Primary, RegexError>
     ensures value { Finds (λ p x. StandsForEscaped p.part x.0
         × (text cursor.new ≡ x.1)) result (primary (text cursor.old)) }
     ensures flags { cursor.new.flags ≡ cursor.old.flags }

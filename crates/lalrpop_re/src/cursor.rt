@@ -15,6 +15,8 @@ pub(crate) struct Cursor {
     flags: Flags,
     // where the named groups opened
     named: Vec<usize>,
+    // whether a name in braces is meant as that of a part
+    knows_parts: bool,
     ghost within: { position ≤ vec_len chars },
 }
 
@@ -22,9 +24,10 @@ impl Cursor {
     ghost use Rattle.lalrpop_grammar.specs.Flag.{no_flags};
     ghost use Rattle.lalrpop_re.specs.Internal.Views.{text_from, text, unread, place_of};
 
-    /// The cursor before the first character, with no flag set.
+    /// The cursor before the first character, with no flag set. `knows_parts` says whether a name in braces is meant as
+    /// that of a part.
     #[tactic(auto, unfolding(crate::specs::Internal::Views::text_from), using(std::proofs::lemmas::Str::chars_from_encodes))]
-    pub(crate) fn new(alloc: Global, pattern: &str) -> Result<Cursor, AllocError>
+    pub(crate) fn new(alloc: Global, pattern: &str, knows_parts: bool) -> Result<Cursor, AllocError>
         ensures { IfOk result (λ c. (text c ≡ chars pattern.now) × (c.flags ≡ no_flags)) }
     {
         let chars = pattern.chars().collect(alloc)?;
@@ -38,11 +41,17 @@ impl Cursor {
                 swap_greed: false,
             },
             named: Vec::new(alloc),
+            knows_parts,
         })
     }
 
     pub(crate) fn alloc(&self) -> Global {
         *self.chars.allocator()
+    }
+
+    /// Whether a name in braces is meant as that of a part.
+    pub(crate) fn knows_parts(&self) -> bool {
+        self.knows_parts
     }
 
     /// The number of characters read.

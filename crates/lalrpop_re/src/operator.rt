@@ -42,10 +42,7 @@ pub(crate) fn is_at_operator(cursor: &Cursor, parts: &[Part]) -> bool
 }
 
 /// Reads an operator where one begins. Where a part's name stands in braces, it is the name of none.
-pub(crate) fn parse_operator_at(
-    cursor: &mut Cursor,
-    parts: &[Part],
-) -> Result<RepetitionOperator, RegexError>
+pub(crate) fn parse_operator_at(cursor: &mut Cursor) -> Result<RepetitionOperator, RegexError>
     ensures value { Gives (λ o.
         (o.min, o.max, o.greedy, text cursor.new)) result
         (operator cursor.old.flags (text cursor.old)) }
@@ -54,7 +51,7 @@ pub(crate) fn parse_operator_at(
     ensures moves { OnOk result (unread cursor.new < unread cursor.old) }
 {
     let place = cursor.position();
-    let is_unknown = is_at_unknown(cursor, parts);
+    let is_unknown = is_at_unknown(cursor);
     match parse_operator(cursor) {
         Err(RegexError::Syntax { .. }) if is_unknown => {
             Err(error_at(place, SyntaxKind::PartUnknown))
@@ -63,9 +60,9 @@ pub(crate) fn parse_operator_at(
     }
 }
 
-/// Whether the name of a part stands here in braces. Where no parts are known there is none.
-pub(crate) fn is_at_unknown(cursor: &Cursor, parts: &[Part]) -> bool {
-    !parts.is_empty() && cursor.begins(&['{']) && is_name_in_braces(after_first(cursor.rest()))
+/// Whether a name stands here in braces that is meant as that of a part.
+pub(crate) fn is_at_unknown(cursor: &Cursor) -> bool {
+    cursor.knows_parts() && cursor.begins(&['{']) && is_name_in_braces(after_first(cursor.rest()))
 }
 
 // Reads an operator and the `?` that belongs to it.

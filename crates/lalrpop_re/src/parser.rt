@@ -78,7 +78,8 @@ pub fn parse_regex(alloc: Global, s: &str) -> Result<Regex, RegexError>
     ensures none { IfErr result (HasNoTree (chars s.now)) }
     ensures position { IfErr result (PointsInto s.now) }
 {
-    parse_with(alloc, s, &[])
+    let Nested { tree, .. } = parse_in_bytes(alloc, s, &[], false)?;
+    Ok(tree)
 }
 
 /// The tree of a pattern in which `{NAME}` stands for the tree of the first of the parts that has this name, as a group of
@@ -86,7 +87,7 @@ pub fn parse_regex(alloc: Global, s: &str) -> Result<Regex, RegexError>
 ///
 /// # Errors
 ///
-/// As `parse_regex`.
+/// As `parse_regex`, and `PartUnknown` at the `{` of a `{NAME}` that is the name of no part.
 ///
 /// ```
 /// use lalrpop_lexer::lexer::re::{Part, parse_with};
@@ -102,17 +103,23 @@ pub fn parse_with(alloc: Global, s: &str, parts: &[Part]) -> Result<Regex, Regex
     ensures none { IfErr result (HasNoTreeWith parts.now (chars s.now)) }
     ensures position { IfErr result (PointsInto s.now) }
 {
-    let Nested { tree, .. } = parse_in_bytes(alloc, s, parts)?;
+    let Nested { tree, .. } = parse_in_bytes(alloc, s, parts, true)?;
     Ok(tree)
 }
 
 /// The tree of a pattern with these parts, and how deep its syntax is nested. A refusal's position counts bytes.
-pub(crate) fn parse_in_bytes(alloc: Global, s: &str, parts: &[Part]) -> Result<Nested, RegexError>
+/// `knows_parts` says whether a name in braces that is that of none is refused as such.
+pub(crate) fn parse_in_bytes(
+    alloc: Global,
+    s: &str,
+    parts: &[Part],
+    knows_parts: bool,
+) -> Result<Nested, RegexError>
     ensures tree { IfOk result (λ p. HasLevels parts.now (chars s.now) p.tree p.depth) }
     ensures none { IfErr result (HasNoTreeWith parts.now (chars s.now)) }
     ensures position { IfErr result (PointsInto s.now) }
 {
-    match parse_whole(alloc, s, parts) {
+    match parse_whole(alloc, s, parts, knows_parts) {
         Ok(tree) => Ok(tree),
         Err(RegexError::Syntax { position, kind }) => {
             let position = byte_offset(s, position);
@@ -122,8 +129,8 @@ pub(crate) fn parse_in_bytes(alloc: Global, s: &str, parts: &[Part]) -> Result<N
     }
 }
 
-// The number of bytes of the first characters, or of all if there are fewer.
-fn byte_offset(s: &str, characters: usize) -> usize
+/// The number of bytes of the first characters, or of all if there are fewer.
+pub(crate) fn byte_offset(s: &str, characters: usize) -> usize
     ensures { IsCharBoundary s.now result }
 {
     match s.char_indices().nth(characters) {
@@ -133,11 +140,16 @@ fn byte_offset(s: &str, characters: usize) -> usize
 }
 
 // Reads a pattern. A refusal's position counts characters.
-fn parse_whole(alloc: Global, pattern: &str, parts: &[Part]) -> Result<Nested, RegexError>
+fn parse_whole(
+    alloc: Global,
+    pattern: &str,
+    parts: &[Part],
+    knows_parts: bool,
+) -> Result<Nested, RegexError>
     ensures { Gives (λ p. (p.tree, p.depth)) result
         (read_levels parts.now (chars pattern.now)) }
 {
-    let mut cursor = Cursor::new(alloc, pattern)?;
+    let mut cursor = Cursor::new(alloc, pattern, knows_parts)?;
     parse_to_end(&mut cursor, parts)
 }
 
@@ -422,7 +434,7 @@ fn parse_part(cursor: &mut Cursor, levels_left: u32, parts: &[Part]) -> Result<N
     ensures deep { IfOk result (λ p. p.depth ≤ levels_left) }
 {
     let Some(found) = part_after(parts, after_first(cursor.rest())) else {
-        return Err(cursor.error(if is_at_unknown(cursor, parts) {
+        return Err(cursor.error(if is_at_unknown(cursor) {
             SyntaxKind::PartUnknown
         } else {
             SyntaxKind::RepetitionMissing
@@ -555,7 +567,7 @@ fn parse_operators(
         if piece.depth >= levels_left {
             return Err(cursor.error(SyntaxKind::NestLimitExceeded));
         }
-        let operator = parse_operator_at(cursor, parts)?;
+        let operator = parse_operator_at(cursor)?;
         piece = repeated(cursor.alloc(), operator, piece)?;
     }
     Ok(piece)

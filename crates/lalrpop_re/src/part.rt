@@ -78,7 +78,7 @@ impl Part {
         if !is_name(&name) {
             return Err(error_at(0, SyntaxKind::PartName));
         }
-        let Nested { tree, depth } = parse_in_bytes(alloc, pattern, parts)?;
+        let Nested { tree, depth } = parse_in_bytes(alloc, pattern, parts, true)?;
         let named = count_names(alloc, &tree)?;
         Ok(Part {
             name,

@@ -1,7 +1,9 @@
 //! Tests of trees, classes and sets of characters: what they show, and that copies show the same; of what patterns are read as
-//! and refused for, with parts and without; and of the pattern that stands for a text.
+//! and refused for, with parts and without; of texts with escapes, and of texts in any case.
 #![tactic(auto)]
 
+#[cfg(test)]
+mod any_case;
 #[cfg(test)]
 mod classes;
 #[cfg(test)]

@@ -119,15 +119,24 @@ fn patterns_with_parts_are_refused(rt: HostRuntime) -> Result<(), RegexError> {
     Ok(())
 }
 
-// Where no parts are known, a `{` is refused as ever.
+// Where the list of parts is empty, a name in braces is that of none.
 #[test]
 fn braces_where_there_are_no_parts(rt: HostRuntime) -> Result<(), AllocError> {
     let rows: &[(&str, &str)] = &[
-        ("{D}", "refused 0 RepetitionMissing"),
-        ("a{D}", "refused 2 RepetitionCount"),
+        ("{D}", "refused 0 PartUnknown"),
+        ("a{D}", "refused 1 PartUnknown"),
+        ("é(b|{_9}+)", "refused 5 PartUnknown"),
+        ("{9}", "refused 0 RepetitionMissing"),
+        ("a{9x}", "refused 1 RepetitionCount"),
         ("a{2}", "'a'{2,2}"),
     ];
-    expect_with(&rt, rt.alloc(), &[], rows)
+    expect_with(&rt, rt.alloc(), &[], rows)?;
+    expect_same(
+        &rt,
+        &answer_of_part(rt.alloc(), "a", "b{D}")?,
+        "refused 1 PartUnknown",
+    );
+    Ok(())
 }
 
 #[test]

@@ -285,6 +285,8 @@ fn operators_are_refused(rt: HostRuntime) -> Result<(), AllocError> {
             ("a{2, }", "refused 5 RepetitionCount"),
             ("a{,3}", "refused 2 RepetitionCount"),
             ("a{", "refused 2 RepetitionCount"),
+            ("{D}", "refused 0 RepetitionMissing"),
+            ("a{D}", "refused 2 RepetitionCount"),
             ("a{4294967296}", "refused 2 RepetitionCount"),
             (
                 "a{9999999999999999999999999999999}",

@@ -5,9 +5,10 @@ use Rattle.lalrpop_grammar.specs.GroupName.{names}
 use Rattle.lalrpop_grammar.specs.Flag.{no_flags}
 use Rattle.lalrpop_grammar.specs.Internal.Reading as reading
 use Rattle.lalrpop_grammar.specs.Pattern.{a_literal, a_part, an_atom, no_piece, piece_then, last_branch, of_branches}
-use Rattle.lalrpop_re.specs.Refusal.{HasNoTree, HasNoTreeWith, MakesNoPart, PointsInto}
+use Rattle.lalrpop_re.specs.Refusal.{HasNoTree, HasNoTreeWith, MakesNoPart, SaysNoText, PointsInto}
 use Rattle.lalrpop_grammar.specs.declared.error.RegexError.TheVariants.{Syntax, OutOfMemory}
-use Rattle.lalrpop_grammar.specs.declared.error.SyntaxKind.TheVariants.{RepetitionMissing, PartUnknown, PartName}
+use Rattle.lalrpop_grammar.specs.declared.error.SyntaxKind.TheVariants.{RepetitionMissing, PartUnknown, PartName, EscapeUnexpectedEof}
+use Rattle.lalrpop_grammar.specs.Unescaped.{at_end, itself}
 use Rattle.lalrpop_grammar.proofs.PatternLaws.{missing_with}
 use Rattle.lalrpop_grammar.proofs.Cases.Pattern.{operator_alone}
 
@@ -65,6 +66,10 @@ name_of_a_part h =
       };
       depth = refl;
     })
+
+-- `a` says a text, whatever a refusal claims, unless memory runs out
+refusal_of_a_text : (¬ SaysNoText (codes "a") (Syntax 0 EscapeUnexpectedEof)) × SaysNoText (codes "a") OutOfMemory
+refusal_of_a_text = (λ h. h (codes "a") (itself refl at_end), tt)
 
 -- before and after `é`, which has two bytes, a position is on a boundary
 positions_beside_a_character : PointsInto (0xC3 ∷ 0xA9 ∷ []) (Syntax 0 RepetitionMissing) × PointsInto (0xC3 ∷ 0xA9 ∷ []) (Syntax 2 RepetitionMissing)
