@@ -1,3 +1,4 @@
 pub mod Leading
+pub mod DenseTable
 -- what serves the proofs alone
 pub mod Internal

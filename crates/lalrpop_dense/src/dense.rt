@@ -9,12 +9,14 @@ ghost use Rattle.lalrpop_dfa.specs.Dfa.{Recognizes};
 ghost use Rattle.lalrpop_dfa.specs.Lookahead.{ReadsAtMost};
 ghost use Rattle.lalrpop_book.specs.Longest.{IsLongest};
 ghost use Rattle.lalrpop_dense.specs.Leading.{AreAhead, last_end};
+ghost use Rattle.lalrpop_dense.specs.DenseTable.{IsTableFor, table_numbers};
 ghost use Rattle.lalrpop_dense.specs.Internal.Fused.{IsFusedOf, IsTable};
 ghost use Rattle.lalrpop_dense.specs.Internal.Table.{HasClasses};
 
 use crate::alike::alikes_of;
 use crate::candidate::make_table;
 use crate::check::is_table_of;
+use crate::dense_table::DenseTable;
 use crate::ends::TokenEnds;
 use crate::fused::{Fused, is_fused_of};
 use crate::fusing::make_fused;
@@ -74,6 +76,16 @@ impl DenseDfa {
         ensures same { result.now ≡ self.now }
     {
         &self.dfa
+    }
+
+    /// The numbers of its table, if it has one: a walk along them finds what the automaton says of each text.
+    pub fn table(&self) -> Option<DenseTable<'_>>
+        ensures right { IfSome result (λ table. IsTableFor (table_numbers table) self.now) }
+    {
+        match &self.table {
+            Some(table) => Some(table.numbers(&self.dfa)),
+            None => None,
+        }
     }
 
     /// The longest nonempty prefix of the text that some pattern matches, with the strongest pattern that matches it.

@@ -8,6 +8,7 @@ mod alike;
 mod candidate;
 mod check;
 mod dense;
+mod dense_table;
 mod ends;
 mod fused;
 mod fusing;
@@ -18,6 +19,7 @@ mod self_loop;
 mod table;
 
 pub use dense::DenseDfa;
+pub use dense_table::{DenseTable, TableCells};
 pub use ends::{TokenEnd, TokenEnds};
 pub use matcher::Matcher;
 pub use run::BoundedMatch;

@@ -68,6 +68,7 @@ pub use Rattle.lalrpop_dfa.specs.Lookahead
 pub use Rattle.lalrpop_dfa.specs.Follow
 pub use Rattle.lalrpop_dfa.specs.Witness
 pub use Rattle.lalrpop_dfa.specs.SameAutomata
+pub use Rattle.lalrpop_dense.specs.DenseTable
 pub use Rattle.lalrpop_dense.specs.Leading
 pub use Rattle.lalrpop_build.specs.Items
 pub use Rattle.lalrpop_build.specs.Agree

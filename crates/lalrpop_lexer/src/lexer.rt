@@ -123,6 +123,13 @@ impl Lexer {
         &self.regexs
     }
 
+    /// The automaton, with the table that runs it.
+    pub fn dense(&self) -> &DenseDfa
+        ensures same { result.now ≡ self.now.automaton }
+    {
+        &self.dense
+    }
+
     /// The token at the front of the text: the longest nonempty prefix that some pattern matches, with the one pattern of
     /// the greatest precedence that matches it. `None` if no pattern matches a nonempty prefix.
     pub fn token<'text>(&self, text: &'text str) -> Option<Token<'text>>
