@@ -1,0 +1,5 @@
+-- Small cases of the definitions in specs/: Cases/X.antt has those of specs/X.antt.
+mod Names
+mod CSource
+mod NumberedRules
+mod EmitErrors

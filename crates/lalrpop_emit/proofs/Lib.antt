@@ -1,0 +1,7 @@
+mod Cases
+pub mod NameLists
+pub mod Reading
+pub mod ReadBack
+pub mod Storable
+pub mod Appended
+pub mod Walks

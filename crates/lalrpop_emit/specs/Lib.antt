@@ -1,0 +1,6 @@
+pub mod Names
+pub mod NumberedRules
+pub mod CSource
+pub mod EmitErrors
+-- what serves the proofs alone
+pub mod Internal

@@ -1,0 +1,60 @@
+//! Why a lexer can't be written as a source file.
+ghost use Rattle.std.specs.Prelude.{◌≡◌};
+ghost use Rattle.lalrpop_emit.specs.declared.error.EmitError.TheVariants.{OutOfMemory};
+
+use std::alloc::{AllocError, AllocFailed};
+use thiserror::Error;
+
+/// Why a lexer can't be written as a source file. Rules are numbered from 0.
+///
+/// ```
+/// use lalrpop_emit::{EmitError, LexerNumbers};
+///
+/// let bad = match LexerNumbers::new(alloc, dense, names, skips) {
+///     Err(EmitError::BadName { rule }) => Some(rule), // 1, if the names are `IF` and `ELSE IF`
+///     _ => None,
+/// };
+/// ```
+#[derive(Debug, Drop, Error)]
+pub enum EmitError {
+    /// There are no rules.
+    #[error("there are no rules")]
+    NoRules,
+    /// The name of this rule is empty, or not all of it is ASCII letters, digits and `_`.
+    #[error("the name of rule {rule} isn't made of letters, digits and `_`")]
+    BadName { rule: usize },
+    /// There are more or fewer skips than names.
+    #[error("there aren't as many skips as names")]
+    SkipCount,
+    /// The automaton has a pattern with this index, and there are not so many names.
+    #[error("pattern {pattern} has no name")]
+    NoName { pattern: usize },
+    /// There are 65,536 rules or more.
+    #[error("there are too many rules")]
+    TooManyRules,
+    /// The prefix isn't an identifier: ASCII letters, digits and `_`, of which the first is no digit.
+    #[error("the prefix isn't an identifier")]
+    BadPrefix,
+    /// The automaton has no table: it would be too large.
+    #[error("the automaton has no table")]
+    NoTable,
+    /// A request for memory was refused.
+    #[error("out of memory")]
+    OutOfMemory,
+}
+
+impl From<AllocError> for EmitError {
+    ghost from_gives = { λ _ e. e ≡ OutOfMemory };
+
+    fn from(_error: AllocError) -> EmitError {
+        EmitError::OutOfMemory
+    }
+}
+
+impl<T: Drop> From<AllocFailed<T>> for EmitError {
+    ghost from_gives = { λ _ e. e ≡ OutOfMemory };
+
+    fn from(_error: AllocFailed<T>) -> EmitError {
+        EmitError::OutOfMemory
+    }
+}
