@@ -1,17 +1,35 @@
--- The trees of the texts of rules, one after another.
-use Rattle.std.proofs.Common.{◌≡◌, ℕ, zero, suc, ◌<◌, ◌+◌, List, [], ◌∷◌, ◌++◌, length, take, get_or, refl, ap, sym, subst, ◌∙◌, arith, length-take}
-use Rattle.std.specs.Prelude.{Some, slice_get}
+-- The trees of the texts of rules.
+use Rattle.std.proofs.Common.{◌≡◌, ℕ, zero, suc, ◌<◌, ◌+◌, List, [], ◌∷◌, ◌++◌, length, take, get_or, refl, ap, sym, subst, ◌∙◌, arith, length-take, Result, Ok, Err}
+use Rattle.std.specs.Prelude.{IfOk, Some, slice_get}
 use Rattle.std.specs.Option.{option_map}
 use Rattle.std.proofs.lemmas.List.{take_more, get_or-take}
 use Rattle.std.proofs.lemmas.Option.{slice_get-get_or, slice_get_read, get_or_from_slice_get}
+use Rattle.std.specs.Str.{IsUtf8, chars}
 use Rattle.lalrpop_book.specs.Tree.{Tree}
-use Rattle.lalrpop_rules.specs.RuleText.{HasTree}
+use Rattle.lalrpop_hir.specs.Parts.{of_text}
+use Rattle.lalrpop_grammar.specs.Unescaped.{Unescapes}
+use Rattle.lalrpop_grammar.specs.declared.error.RegexError.{RegexError}
+use Rattle.lalrpop_grammar.specs.declared.error.RegexError.TheVariants as read
+use Rattle.lalrpop_re.specs.Refusal.{PointsInto, SaysNoText}
+use Rattle.lalrpop_rules.specs.RuleText.{HasTree, IsEscapedTree}
 use Rattle.lalrpop_rules.specs.RuleSet.{AreTrees, IsFirstBad, IsTextError}
-use Rattle.lalrpop_rules.specs.Internal.TextFaults.{IsTextFault}
+use Rattle.lalrpop_rules.specs.Internal.TextFaults.{IsEscapeFault, IsTextFault}
 use Rattle.lalrpop_rules.specs.declared.rule.Rule.{Rule}
 use Rattle.lalrpop_rules.specs.declared.rule_text.RuleText.{RuleText}
 use Rattle.lalrpop_rules.specs.declared.text_error.TextError.{TextError}
 use Rattle.lalrpop_rules.specs.declared.text_error.TextError.TheVariants.{NotParsed, BadEnd, NotCompiled, OutOfMemory}
+
+-- ---- a literal with escapes
+
+pub escaped_tree : (text literal : List ℕ) (r : Result Tree RegexError) → IsUtf8 literal → Unescapes (chars text) (chars literal) → IfOk r (λ t. t ≡ of_text literal) → IfOk r (IsEscapedTree text)
+escaped_tree text literal (Ok t) utf8 says is = record { literal = literal; utf8 = utf8; says = says; spells = is }
+escaped_tree text literal (Err e) utf8 says is = tt
+
+pub escape_fault : (text : List ℕ) (e : RegexError) → SaysNoText (chars text) e → PointsInto text e → IsEscapeFault text e
+escape_fault text (read.Syntax position kind) none points = (λ t is. none (chars is.literal) is.says, points)
+escape_fault text read.OutOfMemory none points = tt
+
+-- ---- one after another
 
 -- one more
 AreTrees-push : (rs : List Rule) (ts : List Tree) (r : Rule) (t : Tree) → AreTrees rs ts → HasTree r.text t → AreTrees (rs ++ r ∷ []) (ts ++ t ∷ [])

@@ -9,7 +9,7 @@ use Rattle.lalrpop_book.specs.Report.{NoFault, FirstFault}
 use Rattle.lalrpop_delimited.specs.declared.error.FromToError.{FromToError}
 use Rattle.lalrpop_lexer.specs.Dfa.{Row}
 use Rattle.lalrpop_lexer.specs.Rules.{Rules}
-use Rattle.lalrpop_rules.specs.RuleText.{HasTree, IsBadEnd, IsSomePattern}
+use Rattle.lalrpop_rules.specs.RuleText.{HasTree, IsBadEnd, IsParsed}
 use Rattle.lalrpop_rules.specs.Kinds.{AreKinds, AreOneKind, all_at_work, merged}
 use Rattle.lalrpop_rules.specs.declared.rule.Rule.{Rule}
 use Rattle.lalrpop_rules.specs.declared.rule_text.RuleText.{RuleText}
@@ -57,9 +57,10 @@ pub record IsFirstBad (rs : List Rule) (i : ℕ) (text : RuleText) : Type 0 wher
   pub none : (t : Tree) → ¬ HasTree text t
   pub before : (j : ℕ) (r : Rule) → j < i → slice_get rs j ≡ Some r → (t : Tree) × HasTree r.text t
 
--- the first text without a tree is the pattern of rule i, and the place is where one of its characters begins, or its end
+-- the first text without a tree is that of rule i, a pattern or a literal with escapes, and the place is where one of its
+-- characters begins, or its end
 abbrev pub IsNotParsed : List Rule → ℕ → ℕ → Type 0
-IsNotParsed rs i position = (text : RuleText) × ((inner : List ℕ) × (IsFirstBad rs i text × IsSomePattern text inner × IsCharBoundary inner position))
+IsNotParsed rs i position = (text : RuleText) × ((inner : List ℕ) × (IsFirstBad rs i text × IsParsed text inner × IsCharBoundary inner position))
 
 -- the first text without a tree is that of rule i, whose end is bad
 abbrev pub HasBadEnd : List Rule → ℕ → FromToError → Type 0

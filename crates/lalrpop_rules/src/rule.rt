@@ -1,7 +1,7 @@
 //! A rule.
 
 ghost use Rattle.std.specs.Prelude.{◌≡◌, true, false};
-ghost use Rattle.lalrpop_rules.specs.RuleText.{IsLiteral, IsPattern, IsPatternWith, IsBetween};
+ghost use Rattle.lalrpop_rules.specs.RuleText.{IsLiteral, IsEscaped, IsAnyCase, IsPattern, IsPatternWith, IsBetween};
 
 use crate::rule_text::RuleText;
 use lalrpop_lexer::lexer::dfa::Precedence;
@@ -42,6 +42,48 @@ impl<'text> Rule<'text> {
         Rule {
             name,
             text: RuleText::Literal(text),
+            precedence: Precedence(1),
+            is_skipped: false,
+        }
+    }
+
+    /// A literal in which the escapes of patterns stand for their characters. Its precedence is 1, and it isn't skipped.
+    ///
+    /// ```
+    /// use lalrpop_rules::Rule;
+    ///
+    /// let line_feed = Rule::escaped("LINE_FEED", r"\n");
+    /// ```
+    pub fn escaped(name: &'text str, text: &'text str) -> Rule<'text>
+        ensures name { result.name.now ≡ name.now }
+        ensures text { IsEscaped result.text text.now }
+        ensures precedence { result.precedence.0 ≡ 1 }
+        ensures kept { result.is_skipped ≡ false }
+    {
+        Rule {
+            name,
+            text: RuleText::Escaped(text),
+            precedence: Precedence(1),
+            is_skipped: false,
+        }
+    }
+
+    /// A literal in any case. Its precedence is 1, and it isn't skipped.
+    ///
+    /// ```
+    /// use lalrpop_rules::Rule;
+    ///
+    /// let select = Rule::any_case("SELECT", "select"); // also SELECT and Select
+    /// ```
+    pub fn any_case(name: &'text str, text: &'text str) -> Rule<'text>
+        ensures name { result.name.now ≡ name.now }
+        ensures text { IsAnyCase result.text text.now }
+        ensures precedence { result.precedence.0 ≡ 1 }
+        ensures kept { result.is_skipped ≡ false }
+    {
+        Rule {
+            name,
+            text: RuleText::AnyCase(text),
             precedence: Precedence(1),
             is_skipped: false,
         }

@@ -2,18 +2,20 @@
 ghost use Rattle.std.specs.Prelude.{◌≡◌, IfOk, IfErr};
 ghost use Rattle.lalrpop_book.specs.Report.{NoFault};
 ghost use Rattle.lalrpop_rules.specs.RuleSet.{AreTrees, IsTextError};
-ghost use Rattle.lalrpop_rules.specs.RuleText.{HasTree};
-ghost use Rattle.lalrpop_rules.specs.Internal.TextFaults.{IsTextFault, of_end, of_syntax};
+ghost use Rattle.lalrpop_rules.specs.RuleText.{HasTree, IsEscapedTree};
+ghost use Rattle.lalrpop_rules.specs.Internal.TextFaults.{IsEscapeFault, IsTextFault, of_end, of_syntax};
 
 use crate::faults::all_compile;
 use crate::rule::Rule;
 use crate::rule_text::RuleText;
 use crate::text_error::TextError;
 use lalrpop_delimited::{FromToError, from_to};
-use lalrpop_lexer::lexer::re::{Regex, RegexError, parse_literal, parse_regex, parse_with};
+use lalrpop_lexer::lexer::re::{
+    Regex, RegexError, parse_any_case, parse_literal, parse_regex, parse_with, unescape,
+};
 use std::alloc::Global;
 
-// The error of rule `rule` for an error of its pattern.
+// The error of rule `rule` for an error of its pattern or its escapes.
 fn syntax_error(rule: usize, error: RegexError) -> TextError
     ensures same { result ≡ of_syntax rule error }
 {
@@ -37,6 +39,15 @@ fn end_error(rule: usize, error: FromToError) -> TextError
     }
 }
 
+// The tree of a literal with escapes.
+fn escaped_tree(alloc: Global, text: &str) -> Result<Regex, RegexError>
+    ensures tree { IfOk result (λ t. IsEscapedTree text.now t) }
+    ensures error { IfErr result (λ e. IsEscapeFault text.now e) }
+{
+    let literal = unescape(alloc, text)?;
+    parse_literal(alloc, literal.as_str())
+}
+
 // The tree of the text of rule `rule`.
 fn tree_of(alloc: Global, rule: usize, text: RuleText) -> Result<Regex, TextError>
     ensures tree { IfOk result (λ t. HasTree text.entry t) }
@@ -44,6 +55,14 @@ fn tree_of(alloc: Global, rule: usize, text: RuleText) -> Result<Regex, TextErro
 {
     match text {
         RuleText::Literal(text) => match parse_literal(alloc, text) {
+            Ok(tree) => Ok(tree),
+            Err(error) => Err(syntax_error(rule, error)),
+        },
+        RuleText::Escaped(text) => match escaped_tree(alloc, text) {
+            Ok(tree) => Ok(tree),
+            Err(error) => Err(syntax_error(rule, error)),
+        },
+        RuleText::AnyCase(text) => match parse_any_case(alloc, text) {
             Ok(tree) => Ok(tree),
             Err(error) => Err(syntax_error(rule, error)),
         },
@@ -85,7 +104,8 @@ fn text_trees(alloc: Global, rules: &[Rule]) -> Result<Vec<Regex>, TextError>
 ///
 /// # Errors
 ///
-/// The first rule whose text has no tree, and why: the text does not parse, or its end is empty or has more than 64 characters;
+/// The first rule whose text has no tree, and why: its pattern or an escape does not parse, or its end is empty or has more than 64
+/// characters;
 /// otherwise the first that can't be compiled; or out of memory.
 pub fn trees_of(alloc: Global, rules: &[Rule]) -> Result<Vec<Regex>, TextError>
     ensures trees { IfOk result (λ trees. AreTrees rules.now trees.items) }

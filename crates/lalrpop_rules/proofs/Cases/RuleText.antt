@@ -1,11 +1,15 @@
 -- Cases of specs/RuleText.antt.
 use Rattle.std.proofs.Common.{◌≡◌, ℕ, List, [], get_or, codes, refl, sym, ap, arith, ◌∙◌}
 use Rattle.std.specs.Borrow.{Bor}
-use Rattle.lalrpop_book.specs.Tree.{Tree, empty}
+use Rattle.std.specs.Str.{chars}
+use lib.Utf8.{encode}
+use Rattle.lalrpop_book.specs.Language.{Matches}
+use Rattle.lalrpop_book.specs.Tree.{Tree, empty, literal}
+use Rattle.lalrpop_grammar.specs.Unescaped.{at_end, itself}
 use Rattle.lalrpop_hir.specs.Parts.{of_text}
 use Rattle.lalrpop_delimited.specs.declared.error.FromToError.TheVariants.{EmptyEnd, OutOfMemory}
-use Rattle.lalrpop_rules.specs.RuleText.{HasTree, IsBadEnd, IsBetween, IsLiteral, IsPattern}
-use Rattle.lalrpop_rules.specs.declared.rule_text.RuleText.TheVariants.{Literal, Pattern, FromTo}
+use Rattle.lalrpop_rules.specs.RuleText.{HasTree, IsAnyCase, IsAnyCaseTree, IsBadEnd, IsBetween, IsEscaped, IsEscapedTree, IsLiteral, IsParsed, IsPattern}
+use Rattle.lalrpop_rules.specs.declared.rule_text.RuleText.TheVariants.{Literal, Escaped, AnyCase, Pattern, FromTo}
 
 literal_is_no_pattern : (text : Bor (List ℕ)) → IsLiteral (Literal text) text.now × ¬ IsPattern (Literal text) text.now
 literal_is_no_pattern text = (refl, λ h. h)
@@ -34,3 +38,29 @@ end_of_one_letter_is_not_empty e = absurd (cc)
 
 refused_memory_is_no_bad_end : (end : List ℕ) → ¬ IsBadEnd end OutOfMemory
 refused_memory_is_no_bad_end end h = h
+
+-- a literal with escapes, and one in any case, are no plain literals
+escaped_is_no_literal : (text : Bor (List ℕ)) → IsEscaped (Escaped text) text.now × ¬ IsLiteral (Escaped text) text.now
+escaped_is_no_literal text = (refl, λ h. h)
+
+any_case_is_no_literal : (text : Bor (List ℕ)) → IsAnyCase (AnyCase text) text.now × ¬ IsLiteral (AnyCase text) text.now
+any_case_is_no_literal text = (refl, λ h. h)
+
+-- escapes are parsed, and a plain literal isn't
+escapes_are_parsed : (text : Bor (List ℕ)) → IsParsed (Escaped text) text.now × ¬ IsParsed (Literal text) text.now
+escapes_are_parsed text = (refl, λ h. h)
+
+-- without characters a text says the empty word
+nothing_says_nothing : IsEscapedTree [] empty
+unfolding chars encode
+nothing_says_nothing = record { literal = []; utf8 = ([], (refl, refl)); says = at_end; spells = refl }
+
+-- `a` says itself
+letter_says_itself : IsEscapedTree (codes "a") (literal (codes "a"))
+unfolding chars encode
+letter_says_itself = record { literal = codes "a"; utf8 = (codes "a", (refl, refl)); says = itself refl at_end; spells = refl }
+
+-- a tree that matches a longer word is none in any case
+longer_word : (t : Tree) → Matches t (codes "aa") → ¬ IsAnyCaseTree (codes "a") t
+unfolding chars
+longer_word t matches is = ((is.words (codes "aa")).0 matches).1

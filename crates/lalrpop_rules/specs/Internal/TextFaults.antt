@@ -7,13 +7,13 @@ use Rattle.lalrpop_delimited.specs.declared.error.FromToError.{FromToError}
 use Rattle.lalrpop_delimited.specs.declared.error.FromToError.TheVariants as ends
 use Rattle.lalrpop_grammar.specs.declared.error.RegexError.{RegexError}
 use Rattle.lalrpop_grammar.specs.declared.error.RegexError.TheVariants as read
-use Rattle.lalrpop_rules.specs.RuleText.{HasTree, IsBadEnd, IsSomePattern}
+use Rattle.lalrpop_rules.specs.RuleText.{HasTree, IsBadEnd, IsEscapedTree, IsParsed}
 use Rattle.lalrpop_rules.specs.declared.rule_text.RuleText.{RuleText}
 use Rattle.lalrpop_rules.specs.declared.rule_text.RuleText.TheVariants.{FromTo}
 use Rattle.lalrpop_rules.specs.declared.text_error.TextError.{TextError}
 use Rattle.lalrpop_rules.specs.declared.text_error.TextError.TheVariants.{NotParsed, BadEnd, NotCompiled, OutOfMemory}
 
--- the error of rule i for an error of its pattern
+-- the error of rule i for an error of its pattern or its escapes
 abbrev pub of_syntax : ℕ → RegexError → TextError
 of_syntax i (read.Syntax position kind) = NotParsed i position kind
 of_syntax i read.OutOfMemory = OutOfMemory
@@ -24,10 +24,15 @@ of_end i ends.EmptyEnd = BadEnd i ends.EmptyEnd
 of_end i ends.LongEnd = BadEnd i ends.LongEnd
 of_end i ends.OutOfMemory = OutOfMemory
 
+-- a literal with escapes says nothing, and the error points into it; or memory was refused
+abbrev pub IsEscapeFault : List ℕ → RegexError → Type 0
+IsEscapeFault text (read.Syntax position kind) = ((t : Tree) → ¬ IsEscapedTree text t) × IsCharBoundary text position
+IsEscapeFault text read.OutOfMemory = Unit {0}
+
 -- the error is that of rule i, which has this text, or memory was refused
 abbrev pub IsTextFault : ℕ → RuleText → TextError → Type 0
 IsTextFault i text (NotParsed j position kind) =
-    (j ≡ i) × ((t : Tree) → ¬ HasTree text t) × ((inner : List ℕ) × (IsSomePattern text inner × IsCharBoundary inner position))
+    (j ≡ i) × ((t : Tree) → ¬ HasTree text t) × ((inner : List ℕ) × (IsParsed text inner × IsCharBoundary inner position))
 IsTextFault i text (BadEnd j e) =
     (j ≡ i) × ((t : Tree) → ¬ HasTree text t) × ((from : Bor (List ℕ)) × ((to : Bor (List ℕ)) × ((text ≡ FromTo from to) × IsBadEnd to.now e)))
 IsTextFault i text (NotCompiled j e) = ⊥
