@@ -3,9 +3,10 @@
 
 use anyhow::{Context, Result, bail};
 use lalrpop_lexer::Position;
-use lalrpop_rule_file::{RuleFile, read_rules};
-use lalrpop_rules::{Item, Rule, RuleLexer};
-use std::alloc::{AllocError, Global};
+use lalrpop_modes::ModeLexer;
+use lalrpop_rule_file::read_rules;
+use lalrpop_rules::Item;
+use std::alloc::Global;
 use std::io::Print;
 use std::{env, fs};
 
@@ -38,30 +39,20 @@ fn show_piece(rt: &impl Print, text: &str, start: usize, kind: Kind, slice: &str
     Ok(())
 }
 
-fn show<'x>(rt: &impl Print, lexer: &'x RuleLexer, text: &'x str) -> Result<()> {
-    for item in lexer.items(text) {
+// Writes each token. The stack of modes may need memory, so an item may be an error.
+fn show<'x>(rt: &impl Print, alloc: Global, lexer: &'x ModeLexer, text: &'x str) -> Result<()> {
+    for item in lexer.items(alloc, text) {
         match item {
-            Item::Token(token) => {
+            Ok(Item::Token(token)) => {
                 let kind = kind_of(lexer.name(token.index).unwrap_or(""));
                 show_piece(rt, text, token.start, kind, token.slice)?;
             }
-            Item::Skipped(_) => {}
-            Item::Fault { start, slice } => show_piece(rt, text, start, Kind::Mistake, slice)?,
+            Ok(Item::Skipped(_)) => {}
+            Ok(Item::Fault { start, slice }) => show_piece(rt, text, start, Kind::Mistake, slice)?,
+            Err(error) => return Err(error.into()),
         }
     }
     Ok(())
-}
-
-// The rules of a file whose rules all stand in one mode.
-fn plain_rules<'text>(
-    alloc: Global,
-    file: &RuleFile<'text>,
-) -> Result<Vec<Rule<'text>>, AllocError> {
-    let mut rules = Vec::new(alloc);
-    for rule in &file.rules {
-        rules.push(rule.rule)?;
-    }
-    Ok(rules)
 }
 
 /// Reads both files and writes the tokens of the second.
@@ -75,8 +66,9 @@ pub fn main(rt: HostRuntime) -> Result<()> {
     };
     let bytes = fs::read_to_string(&rt, &rules_name).context(format_args!("{rules_name:?}"))?;
     let file = read_rules(alloc, bytes.as_bytes()).context(format_args!("{rules_name:?}"))?;
-    let rules = plain_rules(alloc, &file)?;
-    let lexer = RuleLexer::from_rules(alloc, &rules).context(format_args!("{rules_name:?}"))?;
+    let rules = file.mode_rules(alloc)?;
+    let made = ModeLexer::from_rules(alloc, &rules, file.modes.len());
+    let lexer = made.context(format_args!("{rules_name:?}"))?;
     let text = fs::read_to_string(&rt, &text_name).context(format_args!("{text_name:?}"))?;
-    show(&rt, &lexer, &text)
+    show(&rt, alloc, &lexer, &text)
 }

@@ -5,3 +5,4 @@ mod ModeSet
 mod ModesErrors
 mod ModeCut
 mod ModeClashes
+mod EnteredModes

@@ -5,6 +5,7 @@ pub mod ModeLaws
 pub mod ModesExist
 -- what the calls give, and what they cost
 pub mod ModeRuns
+pub mod NextRuns
 pub mod Cuts
 pub mod FirstCuts
 pub mod LinearModes
@@ -12,6 +13,8 @@ pub mod LinearModes
 pub mod Masks
 -- modes that are there
 pub mod NamedModes
+-- modes that can be entered
+pub mod MarkedModes
 -- the lexers of modes, one after another
 pub mod ModeByMode
 pub mod ClashLists

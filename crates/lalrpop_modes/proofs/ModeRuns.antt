@@ -31,14 +31,14 @@ pieces-from-first s r text memo e xs t y end =
     subst (λ (w : ModeCut). ArePiecesFrom w.rules w.text w.at w.stack xs t.stack) e (pieces-of-run s t xs y end)
 
 -- a piece is cut in the mode on top, and the text is cut in the new one from then on
-pub piece-given : (old between new : Cutting) (s t : Stack) (x : Item) (mode : ℕ) → old.mode ≡ s.mode → CutsPiece old x between → Follows between mode new
+pub piece-given : (old between new : Cutting) (s t : Stack) (x : Item) (mode : ℕ) (over : Bool) → old.mode ≡ s.mode → CutsPiece old x between → Follows between mode new
     → t ≡ after old.rules.actions x s
-    → GivesModePiece (record { rules = old.rules; text = old.text; at = old.at; stack = s; memo = old.memo; steps = old.steps }) (Some x)
-    (record { rules = new.rules; text = new.text; at = new.at; stack = t; memo = new.memo; steps = new.steps })
-piece-given old between new s t x mode on_top cuts follows acted =
+    → GivesModePiece (record { rules = old.rules; text = old.text; at = old.at; stack = s; memo = old.memo; steps = old.steps; is_over = over }) (Some x)
+    (record { rules = new.rules; text = new.text; at = new.at; stack = t; memo = new.memo; steps = new.steps; is_over = over })
+piece-given old between new s t x mode over on_top cuts follows acted =
     let passed : new ≡ record old { at = old.at + length (slice_of x); mode = mode; memo = new.memo; steps = new.steps } =
     follows.enters ∙ ap (λ (c : Cutting). record c { mode = mode; memo = new.memo; steps = new.steps }) cuts.goes_on in
-    let there : ModeCut = record { rules = old.rules; text = old.text; at = old.at + length (slice_of x); stack = t; memo = new.memo; steps = new.steps } in (
+    let there : ModeCut = record { rules = old.rules; text = old.text; at = old.at + length (slice_of x); stack = t; memo = new.memo; steps = new.steps; is_over = over } in (
       subst (λ (m : ℕ). IsPiece (trees_in old.rules m) old.rules.precedences old.rules.skips old.text old.at x) on_top cuts.piece,
       ap (λ (c : Cutting). record there { rules = c.rules; text = c.text; at = c.at }) passed ∙ ap (λ (u : Stack). record there { stack = u }) acted,
       paid_on old.steps between.steps new.steps old.memo between.memo new.memo cuts.paid follows.paid,

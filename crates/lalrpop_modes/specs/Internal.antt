@@ -1,3 +1,4 @@
 pub mod Code
 pub mod Lexers
 pub mod Cutting
+pub mod Marks

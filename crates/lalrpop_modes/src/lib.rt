@@ -5,6 +5,7 @@
 mod action;
 mod clashes;
 mod cutter;
+mod entered;
 mod error;
 mod kinds;
 mod known_rule;
@@ -21,6 +22,7 @@ mod trees;
 
 pub use action::Action;
 pub use clashes::mode_clashes;
+pub use entered::entered_modes;
 pub use error::ModesError;
 pub use mode_items::ModeItems;
 pub use mode_lexer::ModeLexer;

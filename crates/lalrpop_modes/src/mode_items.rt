@@ -1,25 +1,32 @@
 //! Cutting a text to its end by rules with modes.
 
-ghost use Rattle.std.specs.Prelude.{◌≡◌, ◌<◌, IfOk, OnErr};
+ghost use Rattle.std.specs.Prelude.{◌≡◌, ◌<◌, IfOk, OnErr, OnSome};
 ghost use Rattle.lalrpop_modes.specs.Internal.Cutting.{HasAtMost};
-ghost use Rattle.lalrpop_modes.specs.ModeCut.{uncut, left_text, GivesModePiece};
+ghost use Rattle.lalrpop_modes.specs.ModeCut.{uncut, left_text, items_left, GivesModePiece, GivesPieceOrError};
 ghost use Rattle.lalrpop_modes.specs.Stack.{start};
 
 use crate::cutter::Cutter;
 use crate::mode_stack::ModeStack;
 use lalrpop_rules::Item;
 use std::alloc::AllocError;
+use std::iter::FusedIterator;
 use std::marker::Model;
 
 /// Cuts any text into pieces, from its beginning to its end, and keeps the stack of modes. The pieces are slices of the text.
+///
+/// As an iterator it returns each piece as `Ok`. Where a request for memory was refused it returns one `Err`, and from then on
+/// `None`, so that a `for` ends. `next_item` can still be asked for that piece.
 ///
 /// With memos, by `items_linear`, this takes linear time. Then a step is counted for each character the automaton reads, as often as it
 /// reads it. Only contracts see the steps.
 ///
 /// ```
-/// let mut items = lexer.items(alloc, "a /* b */");
-/// while let Some(item) = items.next_item()? {
-///     println!(rt; "{:?}", item.slice())?;
+/// for item in lexer.items(alloc, "a /* b */") {
+///     match item {
+///         Ok(Item::Token(token)) => println!(rt; "{}", token.slice)?,
+///         Ok(_) => {}
+///         Err(error) => return Err(error.into()),
+///     }
 /// }
 /// ```
 #[derive(Debug, Drop)]
@@ -28,6 +35,8 @@ pub struct ModeItems<'text> {
     stack: ModeStack,
     // No rule has more actions.
     most: usize,
+    // For `next`: it has returned an error.
+    is_over: bool,
 }
 
 impl<'text> Model for ModeItems<'text> {
@@ -46,6 +55,7 @@ impl<'text> Model for ModeItems<'text> {
       stack = t.stack;
       memo = t.cutter.memo;
       steps = t.cutter.steps;
+      is_over = t.is_over;
     } };
 
     ghost invariant = { λ t. IsGoing t.cutter t.stack t.most };
@@ -64,6 +74,7 @@ impl<'text> ModeItems<'text> {
             cutter,
             stack,
             most,
+            is_over: false,
         }
     }
 
@@ -106,4 +117,39 @@ impl<'text> ModeItems<'text> {
             Err(error) => Err(error),
         }
     }
+
+    // What `next` returns. At the end of the text no memory is requested.
+    fn piece_or_error(&mut self) -> Option<Result<Item<'text>, AllocError>>
+        ensures gives { GivesPieceOrError self.old result self.new }
+        ensures goes { OnSome result (items_left self.new < items_left self.old) }
+    {
+        if self.is_over || self.rest().is_empty() {
+            return None;
+        }
+        match self.next_item() {
+            Ok(Some(item)) => Some(Ok(item)),
+            Ok(None) => None,
+            Err(error) => {
+                self.is_over = true;
+                Some(Err(error))
+            }
+        }
+    }
 }
+
+impl<'text> Iterator for ModeItems<'text> {
+    ghost use Rattle.std.specs.Iterator.{at_most};
+    ghost use Rattle.lalrpop_modes.specs.ModeCut.{items_left, GivesPieceOrError};
+
+    type Item = Result<Item<'text>, AllocError>;
+
+    ghost next_gives = { GivesPieceOrError };
+
+    ghost remaining = { λ s. at_most (items_left s) };
+
+    fn next(&mut self) -> Option<Result<Item<'text>, AllocError>> {
+        self.piece_or_error()
+    }
+}
+
+impl<'text> FusedIterator for ModeItems<'text> {}

@@ -1,11 +1,11 @@
 //! A lexer of rules with modes.
 
-ghost use Rattle.std.specs.Prelude.{◌≡◌, ◌<◌, ◌≤◌, ◌+◌, ◌*◌, [], ℕ, List, length, option_map, slice_get, Some, None, map, string_bytes, IfOk, OnOk, IfErr, IsSome};
+ghost use Rattle.std.specs.Prelude.{◌≡◌, ◌<◌, ◌≤◌, ◌+◌, ◌*◌, [], ℕ, List, length, option_map, slice_get, Some, None, Ok, map, string_bytes, false, IfOk, OnOk, IfErr, IsSome};
 ghost use Rattle.std.specs.Str.{chars};
 ghost use Rattle.lalrpop_modes.specs.Modes.{trees_in, ArePiecesFrom, OneLeadsInto, NoModeClash};
 ghost use Rattle.lalrpop_modes.specs.ModeSet.{AreModeRules, NamesMode, IsModesError};
 ghost use Rattle.lalrpop_modes.specs.declared.mode_rule.ModeRule.{ModeRule as RuleValue};
-ghost use Rattle.lalrpop_modes.specs.ModeCut.{ModeCut, uncut, left_text, open_in_all, GivesModePiece};
+ghost use Rattle.lalrpop_modes.specs.ModeCut.{ModeCut, uncut, left_text, open_in_all, GivesModePiece, GivesPieceOrError};
 ghost use Rattle.lalrpop_modes.specs.Internal.Cutting.{HasAtMost};
 ghost use Rattle.lalrpop_rules.specs.Pieces.{AreApart, joined};
 ghost use Rattle.lalrpop_rules.specs.declared.item.Item.{Item as ItemValue};
@@ -218,6 +218,15 @@ impl ModeLexer {
     /// Elsewhere it is a fault: the characters up to the next place where a rule of that mode matches, or to the end of the text.
     ///
     /// From each place it reads as far as some rule could still match, so the cost is at most quadratic in the length of the text.
+    ///
+    /// ```
+    /// for item in lexer.items(alloc, text) {
+    ///     match item {
+    ///         Ok(item) => println!(rt; "{:?}", item.slice())?,
+    ///         Err(error) => return Err(error.into()), // no memory for the stack
+    ///     }
+    /// }
+    /// ```
     pub fn items<'text>(&'text self, alloc: Global, text: &'text str) -> ModeItems<'text>
         ensures start { result ≡ uncut self.now text.now None }
         ensures items { (xs : List ItemValue) (s : ModeCut) → Yields GivesModePiece result xs s
@@ -226,6 +235,11 @@ impl ModeLexer {
             → left_text s ≡ [] → joined xs ≡ text.now }
         ensures apart { (xs : List ItemValue) (s : ModeCut) → Yields GivesModePiece result xs s
             → left_text s ≡ [] → AreApart xs }
+        ensures next { (xs : List ItemValue) (s : ModeCut)
+            → Yields GivesPieceOrError result (map Ok xs) s
+            → Yields GivesModePiece result xs s × (s.is_over ≡ false) }
+        ensures count { (xs : List ItemValue) (s : ModeCut) → Yields GivesModePiece result xs s
+            → length xs ≤ length (chars text.now) }
         ensures exist { (xs : List ItemValue) × ((end : Stack)
             × ArePiecesFrom self.now text.now 0 start xs end) }
     {
@@ -259,6 +273,11 @@ impl ModeLexer {
             → Yields GivesModePiece c xs s → left_text s ≡ [] → joined xs ≡ text.now) }
         ensures apart { IfOk result (λ c. (xs : List ItemValue) (s : ModeCut)
             → Yields GivesModePiece c xs s → left_text s ≡ [] → AreApart xs) }
+        ensures next { IfOk result (λ c. (xs : List ItemValue) (s : ModeCut)
+            → Yields GivesPieceOrError c (map Ok xs) s
+            → Yields GivesModePiece c xs s × (s.is_over ≡ false)) }
+        ensures count { IfOk result (λ c. (xs : List ItemValue) (s : ModeCut)
+            → Yields GivesModePiece c xs s → length xs ≤ length (chars text.now)) }
         ensures cost { IfOk result (λ c. (xs : List ItemValue) (s : ModeCut)
             → Yields GivesModePiece c xs s → s.steps ≤ 65 * length (chars text.now)
             + (self.now.modes * (length (chars text.now) + length text.now)

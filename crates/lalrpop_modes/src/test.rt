@@ -29,6 +29,18 @@ fn gives(items: &mut ModeItems<'_>, pieces: &[&str]) -> bool {
     items.rest().is_empty() && items.stack().top() == 0
 }
 
+// Whether a loop goes over these pieces.
+fn goes_over(items: ModeItems<'_>, pieces: &[&str]) -> bool {
+    let mut wanted = pieces.iter();
+    for item in items {
+        match (item, wanted.next()) {
+            (Ok(item), Some(piece)) if item.slice() == *piece => {}
+            _ => return false,
+        }
+    }
+    wanted.next().is_none()
+}
+
 // In mode 1 a word is a word of both forms, and in mode 0 only of the second.
 #[test]
 fn a_kind_begins_with_its_first_rule_of_the_mode(rt: HostRuntime) {
@@ -99,8 +111,14 @@ fn nested_comments_are_cut(rt: HostRuntime) {
         Ok(lexer) => {
             let mut items = lexer.items(rt.alloc(), text);
             assert!(rt; gives(&mut items, &pieces));
+            assert!(rt; items.next().is_none() && items.next().is_none());
+            assert!(rt; goes_over(lexer.items(rt.alloc(), text), &pieces));
             match lexer.items_linear(rt.alloc(), text) {
                 Ok(mut items) => assert!(rt; gives(&mut items, &pieces)),
+                Err(_) => assert!(rt; false),
+            }
+            match lexer.items_linear(rt.alloc(), text) {
+                Ok(items) => assert!(rt; goes_over(items, &pieces)),
                 Err(_) => assert!(rt; false),
             }
         }

@@ -1,4 +1,5 @@
 mod Counting
+mod ModePieces
 mod Pages
 mod ReadFiles
 mod Tokens

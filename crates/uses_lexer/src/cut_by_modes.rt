@@ -1,5 +1,5 @@
 //! A text is cut by rules with modes.
-ghost use Rattle.std.specs.Prelude.{◌≡◌, ◌≤◌, ◌<◌, ◌+◌, ◌*◌, ◌∷◌, [], List, length, Option, None, true, IfOk, IfErr, IsSome, option_map, slice_get};
+ghost use Rattle.std.specs.Prelude.{◌≡◌, ◌≤◌, ◌<◌, ◌+◌, ◌*◌, ◌∷◌, [], List, length, Option, None, true, false, IfOk, IfErr, IsSome, option_map, slice_get};
 ghost use Rattle.lalrpop_modes.specs.ModeCut.{ModeCut, uncut, open_in_all, GivesModePiece};
 ghost use Rattle.std.specs.Str.{chars};
 ghost use Rattle.lalrpop_modes.specs.ModeClashes.{IsModesFault};
@@ -144,6 +144,69 @@ pub fn is_one_piece_linear<'text>(
             Err(error) => Err(error),
         },
         Err(error) => Err(error),
+    }
+}
+
+// Needs lalrpop_modes::ModeLexer::items: items, whole, apart, next, count.
+// Needs lalrpop_modes::ModeItems::next: ghost next_gives, ghost remaining.
+/// How many pieces a text is.
+///
+/// # Errors
+///
+/// `AllocError` if a request for memory was refused.
+pub fn piece_count<'text>(
+    lexer: &'text ModeLexer,
+    alloc: Global,
+    text: &'text str,
+) -> Result<usize, AllocError>
+    ensures all { IfOk result (λ n. (xs : List ItemValue) × ((end : Stack)
+        × (ArePiecesFrom lexer.now text.now 0 start xs end
+        × (joined xs ≡ text.now) × AreApart xs × (n ≡ length xs)))) }
+{
+    let mut count = 0;
+    for item in lexer.items(alloc, text) {
+        match item {
+            Ok(_) => count += 1,
+            Err(error) => return Err(error),
+        }
+    }
+    Ok(count)
+}
+
+// Needs lalrpop_modes::ModeLexer::items_linear: items, whole, apart, next, count.
+// Needs lalrpop_modes::ModeItems::next: ghost next_gives, ghost remaining.
+/// How many pieces a text is, counted in linear time.
+///
+/// # Errors
+///
+/// `AllocError` if a request for memory was refused.
+pub fn piece_count_linear<'text>(
+    lexer: &'text ModeLexer,
+    alloc: Global,
+    text: &'text str,
+) -> Result<usize, AllocError>
+    ensures all { IfOk result (λ n. (xs : List ItemValue) × ((end : Stack)
+        × (ArePiecesFrom lexer.now text.now 0 start xs end
+        × (joined xs ≡ text.now) × AreApart xs × (n ≡ length xs)))) }
+{
+    let mut count = 0;
+    for item in lexer.items_linear(alloc, text)? {
+        match item {
+            Ok(_) => count += 1,
+            Err(error) => return Err(error),
+        }
+    }
+    Ok(count)
+}
+
+// Needs lalrpop_modes::ModeItems::next: ghost next_gives.
+/// Whether something comes after an error: never.
+pub fn comes_behind_an_error(items: &mut ModeItems<'_>) -> bool
+    ensures never { result ≡ false }
+{
+    match items.next() {
+        Some(Err(_)) => items.next().is_some(),
+        _ => false,
     }
 }
 

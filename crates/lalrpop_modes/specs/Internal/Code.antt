@@ -48,10 +48,11 @@ modes_code =
 
 abbrev pub cut_code : Coded ModeCut
 cut_code =
-    code_by (ModeRules × (List ℕ × (ℕ × (Stack × (Option Memo × ℕ)))))
-    (coded× modes_code (coded× (coded_list coded_ℕ) (coded× coded_ℕ (coded× stack_code (coded× (coded_option memo_code) coded_ℕ)))))
-    (λ c. (c.rules, (c.text, (c.at, (c.stack, (c.memo, c.steps))))))
-    (λ p. record { rules = p.0; text = p.1.0; at = p.1.1.0; stack = p.1.1.1.0; memo = p.1.1.1.1.0; steps = p.1.1.1.1.1 }) (λ _. refl)
+    code_by (ModeRules × (List ℕ × (ℕ × (Stack × (Option Memo × (ℕ × Bool))))))
+    (coded× modes_code (coded× (coded_list coded_ℕ) (coded× coded_ℕ (coded× stack_code (coded× (coded_option memo_code) (coded× coded_ℕ coded_bool))))))
+    (λ c. (c.rules, (c.text, (c.at, (c.stack, (c.memo, (c.steps, c.is_over)))))))
+    (λ p. record { rules = p.0; text = p.1.0; at = p.1.1.0; stack = p.1.1.1.0; memo = p.1.1.1.1.0; steps = p.1.1.1.1.1.0; is_over = p.1.1.1.1.1.1 })
+    (λ _. refl)
 
 abbrev pub cutting_code : Coded Cutting
 cutting_code =

@@ -14,4 +14,4 @@ returns-in-Ok-Some-clause-gives c =
     let cuts = subst (λ (o : Option Item). CutsNext i.cutter o c.cut_piece.new.cutter) some e.cuts in
     let acted = subst (λ (o : Option Item). c.cut_piece.new.self ≡ after_next old.rules.actions o i.stack) some e.acted in
     rw (← c.self.view_is)
-    (piece-given i.cutter c.cut_piece.new.cutter c.follow.new.self i.stack c.cut_piece.new.self c.in-Ok-Some.item _ c.self.invariant.on_top cuts c.follow.ensures.follows acted)
+    (piece-given i.cutter c.cut_piece.new.cutter c.follow.new.self i.stack c.cut_piece.new.self c.in-Ok-Some.item _ i.is_over c.self.invariant.on_top cuts c.follow.ensures.follows acted)

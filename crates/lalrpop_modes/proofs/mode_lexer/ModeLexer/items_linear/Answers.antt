@@ -14,6 +14,7 @@ use Rattle.lalrpop_modes.proofs.ModePieces.{joined-from}
 use Rattle.lalrpop_modes.proofs.ModeLaws.{apart-from}
 use Rattle.lalrpop_modes.proofs.ModesExist.{pieces-from-exist}
 use Rattle.lalrpop_modes.proofs.LinearModes.{mode_cost}
+use Rattle.lalrpop_modes.proofs.NextRuns.{count-from-first, next-from-first}
 use Rattle.lalrpop_modes.proofs.mode_lexer.ModeLexer.items_linear.Goals as goal
 
 first : (c : goal.After-new-in-Ok) → c.new-in-Ok.result ≡ uncut c.args.self.now c.args.text.now c.in-Ok.cutter.memo
@@ -31,6 +32,13 @@ returns-in-Ok-clause-whole c xs s y end = joined-from c.args.self.now c.args.tex
 
 pub returns-in-Ok-clause-apart : goal.returns-in-Ok-clause-apart
 returns-in-Ok-clause-apart c xs s y end = apart-from c.args.self.now c.args.text.now 0 start xs s.stack (pieces c xs s y end)
+
+pub returns-in-Ok-clause-next : goal.returns-in-Ok-clause-next
+returns-in-Ok-clause-next c = next-from-first c.new-in-Ok.result c.args.self.now c.args.text.now c.in-Ok.cutter.memo (first c)
+
+pub returns-in-Ok-clause-count : goal.returns-in-Ok-clause-count
+returns-in-Ok-clause-count c =
+    count-from-first c.new-in-Ok.result c.args.self.now c.args.text.now c.in-Ok.cutter.memo (first c) c.utf8.text
 
 pub returns-in-Ok-clause-cost : goal.returns-in-Ok-clause-cost
 returns-in-Ok-clause-cost c =
