@@ -6,3 +6,5 @@ mod RuleFault
 mod FileModes
 mod FileParts
 mod RuleFile
+mod PartLines
+mod Warnings

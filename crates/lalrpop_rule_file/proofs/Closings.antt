@@ -6,10 +6,8 @@ use Rattle.std.specs.Str.Pattern.{RFindsChar, SplitsAroundMatch}
 use Rattle.std.proofs.lemmas.Bool.{false≢true}
 use Rattle.std.proofs.lemmas.List.{take-append-drop}
 use Rattle.std.proofs.lemmas.Str.Pattern.{NoCharPasses-char, drop_at_char}
-use Rattle.lalrpop_lexer.specs.declared.form.Form.{Form}
-use Rattle.lalrpop_lexer.specs.declared.form.Form.TheVariants.{Literal, Pattern}
 use Rattle.lalrpop_rule_file.specs.Words.{AreBlanks, Lacks, is_blank}
-use Rattle.lalrpop_rule_file.specs.LineText.{delimiter}
+use Rattle.lalrpop_rule_file.specs.LineText.{Form, Literal, Escaped, Pattern, delimiter}
 
 lacks_each : (c : ℕ) (bs : List ℕ) → ((i : ℕ) → i < length bs → get_or bs i 0 ≢ c) → Lacks c bs
 lacks_each c [] none = tt
@@ -52,6 +50,7 @@ no_char c inner ascii none = lacks_each c inner (λ i below. NoCharPasses-char c
 
 pub delimiter_ascii : (form : Form) → (delimiter form < 128) × (is_blank (delimiter form) ≡ false)
 delimiter_ascii Literal = (omega arith, refl)
+delimiter_ascii Escaped = (omega arith, refl)
 delimiter_ascii Pattern = (omega arith, refl)
 
 pub positive : (bs : List ℕ) → (length bs ≡ 0 → ⊥) → 0 < length bs

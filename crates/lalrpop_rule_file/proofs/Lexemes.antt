@@ -7,11 +7,9 @@ use Rattle.std.specs.Str.Parse.{AllDigits, digits_value}
 use Rattle.std.proofs.lemmas.Bool.{false≢true}
 use Rattle.std.proofs.lemmas.Str.Parse.{digit_from_value}
 use Rattle.lalrpop_lexer.specs.Line.{IsPrecedence}
-use Rattle.lalrpop_lexer.specs.declared.form.Form.{Form}
-use Rattle.lalrpop_lexer.specs.declared.form.Form.TheVariants.{Literal, Pattern}
 use Rattle.lalrpop_rule_file.specs.Words.{EachByte, begins, IsSpan, AreBlanks, is_blank, begins_name, is_no_apostrophe, is_of_name, Lacks}
-use Rattle.lalrpop_rule_file.specs.LineText.{Quoted, FromTo, IsUpToTo, delimiter}
-use Rattle.lalrpop_rule_file.specs.RuleLine.{Entry, Mode, Push, word_of, Head, Enters, bare, acting, WrittenPart, part_of, WrittenRule, rule_of, Section, Part, Listing, Headed, Named, Entering, Equals, Defines, Defined, Open, Closed, Lexeme, a_blank, a_bracket, a_mode, a_star, an_end, a_star_end, a_name, a_skip, a_pop, an_entry, its_mode, an_equals, a_part, its_equals, its_pattern, an_open_pattern, a_precedence, a_text, an_open_text, a_from, from_to, an_open_to, no_to, Reads, nothing, lexeme_then}
+use Rattle.lalrpop_rule_file.specs.LineText.{Form, Literal, Escaped, Pattern, Quoted, AnyCase, FromTo, IsUpToTo, delimiter}
+use Rattle.lalrpop_rule_file.specs.RuleLine.{Entry, Mode, Push, word_of, Head, Enters, bare, acting, WrittenPart, part_of, WrittenRule, rule_of, Section, Part, Listing, Headed, Named, Entering, Equals, InAnyCase, Defines, Defined, Open, Closed, Lexeme, a_blank, a_bracket, a_mode, a_star, an_end, a_star_end, a_name, a_skip, a_pop, an_entry, its_mode, an_equals, a_part, its_equals, its_pattern, an_open_pattern, a_precedence, a_text, an_open_text, an_any_case, its_literal, an_open_literal, a_from, from_to, an_open_to, no_to, Reads, nothing, lexeme_then}
 use Rattle.lalrpop_rule_file.proofs.FromTos.{IsUpToTo-unique, no_first}
 use Rattle.lalrpop_rule_file.proofs.Closings.{lacks_none, last_unique}
 use Rattle.lalrpop_rule_file.proofs.Spans.{IsSpan-unique}
@@ -76,6 +74,9 @@ kind_of (an_open_pattern lacks) = 4
 kind_of (a_precedence span h) = 3
 kind_of (a_text form lacks) = 4
 kind_of (an_open_text form lacks) = 4
+kind_of (an_any_case span) = 1
+kind_of (its_literal lacks) = 4
+kind_of (an_open_literal lacks) = 4
 kind_of (a_from span) = 1
 kind_of (from_to is lacks) = 4
 kind_of (an_open_to is lacks) = 4
@@ -96,6 +97,7 @@ digit_kind b h = grind arith
 delimiter_kind : (form : Form) → kind (delimiter form) ≡ 4
 unfolding kind
 delimiter_kind Literal = refl
+delimiter_kind Escaped = refl
 delimiter_kind Pattern = refl
 
 first_is : (p : ℕ → Bool) (k : ℕ) (text : List ℕ) → ((b : ℕ) → p b ≡ true → kind b ≡ k) → begins p text ≡ true → first_kind text ≡ k
@@ -133,6 +135,9 @@ kind_is (an_open_pattern lacks) = refl
 kind_is (a_precedence {text = text} {digits = digits} {rest = rest} {n = n} span h) = first_is is_ascii_digit 3 text digit_kind (precedence_begins text digits rest n span h)
 kind_is (a_text form lacks) = delimiter_kind form
 kind_is (an_open_text form lacks) = delimiter_kind form
+kind_is (an_any_case span) = ap first_kind span.parts
+kind_is (its_literal lacks) = refl
+kind_is (an_open_literal lacks) = refl
 kind_is (a_from span) = ap first_kind span.parts
 kind_is (from_to is lacks) = refl
 kind_is (an_open_to is lacks) = refl
@@ -170,11 +175,18 @@ entry_same Push Push e = refl
 value_same : (digits other : List ℕ) (m n : ℕ) → IsPrecedence digits m → IsPrecedence other n → digits ≡ other → m ≡ n
 value_same digits other m n g h same = g.value ∙ ap (λ (x : List ℕ). digits_value 10 x) same ∙ sym h.value
 
+-- the form with this delimiter
+form_by : ℕ → Form
+form_by mark = if mark == 39 then Literal else if mark == 34 then Escaped else Pattern
+
+form_back : (form : Form) → form_by (delimiter form) ≡ form
+unfolding form_by
+form_back Literal = refl
+form_back Escaped = refl
+form_back Pattern = refl
+
 form_same : (form other : Form) (text own : List ℕ) → delimiter form ∷ text ≡ delimiter other ∷ own → (form ≡ other) × (text ≡ own)
-form_same Literal Literal text own e = (refl, ap (drop 1) e)
-form_same Literal Pattern text own e = let k : 39 ≡ 47 = ap (λ (x : List ℕ). get_or x 0 0) e in absurd (omega (arith, k))
-form_same Pattern Literal text own e = let k : 47 ≡ 39 = ap (λ (x : List ℕ). get_or x 0 0) e in absurd (omega (arith, k))
-form_same Pattern Pattern text own e = (refl, ap (drop 1) e)
+form_same form other text own e = (sym (form_back form) ∙ ap (λ (x : List ℕ). form_by (get_or x 0 0)) e ∙ form_back other, ap (drop 1) e)
 
 closed : Head → Option ℕ → Form → List ℕ → Part
 closed head written form inner = Closed (rule_of head written (Quoted form inner))
@@ -231,6 +243,23 @@ open_pattern_is_one inner (its_pattern {inner = own} {rest = other} lack) e lack
 open_pattern_is_one inner (an_open_pattern lack) e lacks = (refl, refl)
 open_pattern_is_one {text = text} inner g e lacks = absurd (omega (arith, kind_is g, first_delimiter Pattern text inner e))
 
+-- ---- a literal in any case
+
+literal_is_one : {head : Head} {written : Option ℕ} {q : Part} {text other : List ℕ} (inner rest : List ℕ) → Lexeme (InAnyCase head written) text q other
+    → text ≡ codes "'" ++ (inner ++ (codes "'" ++ rest)) → Lacks 39 rest → Same (Closed (rule_of head written (AnyCase inner))) q rest other
+unfolding kind_of
+literal_is_one inner rest (its_literal {head = head} {inner = own} {rest = other} {written = written} lack) e lacks =
+    let same = last_unique 39 inner rest own other lacks lack (sym (ap (drop 1) e)) in (ap (λ (x : List ℕ). Closed (rule_of head written (AnyCase x))) same.0, same.1)
+literal_is_one inner rest (an_open_literal {inner = own} lack) e lacks = absurd (lacks_none 39 inner rest (subst (Lacks 39) (ap (drop 1) e) lack))
+literal_is_one {text = text} inner rest g e lacks = absurd (omega (arith, kind_is g, first_delimiter Literal text (inner ++ (codes "'" ++ rest)) e))
+
+open_literal_is_one : {head : Head} {written : Option ℕ} {q : Part} {text other : List ℕ} (inner : List ℕ) → Lexeme (InAnyCase head written) text q other
+    → text ≡ codes "'" ++ inner → Lacks 39 inner → Same Open q [] other
+unfolding kind_of
+open_literal_is_one inner (its_literal {inner = own} {rest = other} lack) e lacks = absurd (lacks_none 39 own other (subst (Lacks 39) (sym (ap (drop 1) e)) lacks))
+open_literal_is_one inner (an_open_literal lack) e lacks = (refl, refl)
+open_literal_is_one {text = text} inner g e lacks = absurd (omega (arith, kind_is g, first_delimiter Literal text inner e))
+
 -- ---- from A to B
 
 joined_same : (head : Head) (written : Option ℕ) (inner a own b to rest other : List ℕ) → IsUpToTo inner a (b ++ (codes "'" ++ rest)) → IsUpToTo inner own (to ++ (codes "'" ++ other)) → Lacks 39 rest → Lacks 39 other
@@ -286,6 +315,11 @@ Lexeme-unique (a_precedence {head = head} {text = text} {digits = digits} {rest 
     (ap (λ (x : ℕ). Equals head (Some x)) (value_same digits own m n g h same.0), same.1)
 Lexeme-unique (a_text {inner = inner} {rest = rest} form lacks) h = text_is_one form inner rest h refl lacks
 Lexeme-unique (an_open_text {inner = inner} form lacks) h = open_is_one form inner h refl lacks
+Lexeme-unique (an_any_case {text = text} {rest = rest} s) (an_any_case {rest = other} t) = (refl, (IsSpan-unique is_of_name text (codes "anycase") rest (codes "anycase") other s t).1)
+Lexeme-unique (an_any_case {text = text} {rest = rest} s) (a_from {rest = other} t) = absurd (omega (arith, other_word text (codes "anycase") (codes "from") rest other s t))
+Lexeme-unique (a_from {text = text} {rest = rest} s) (an_any_case {rest = other} t) = absurd (omega (arith, other_word text (codes "from") (codes "anycase") rest other s t))
+Lexeme-unique (its_literal {inner = inner} {rest = rest} lacks) h = literal_is_one inner rest h refl lacks
+Lexeme-unique (an_open_literal {inner = inner} lacks) h = open_literal_is_one inner h refl lacks
 Lexeme-unique (a_from {text = text} {rest = rest} s) (a_from {rest = other} t) = (refl, (IsSpan-unique is_of_name text (codes "from") rest (codes "from") other s t).1)
 Lexeme-unique (from_to {head = head} {inner = inner} {a = a} {b = b} {rest = rest} {written = written} s g) (from_to {a = own} {b = to} {rest = other} t h) =
     joined_same head written inner a own b to rest other s t g h

@@ -29,5 +29,11 @@ pub mod MissingLaws
 -- its parts, and its rules with them
 pub mod Definitions
 pub mod ModeRules
--- a file without sections, actions, parts and `from`
+-- their places, and the warnings about a file
+pub mod PartPlaces
+pub mod UsedParts
+pub mod FoundWarnings
+-- the modes that can be entered, as the lexer has them
+pub mod EnteredLaws
+-- a file without sections, actions and parts
 pub mod PlainLaws

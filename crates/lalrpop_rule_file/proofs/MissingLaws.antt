@@ -2,7 +2,7 @@
 use Rattle.std.proofs.Common.{◌≡◌, ℕ, zero, suc, List, [], ◌∷◌, ◌++◌, codes, refl, sym, ap, subst, ◌∙◌, append_assoc, append-nil, inl, inr, Contains, ◌⊎◌, ◌+◌, length, length-append, true, arith}
 use Rattle.lalrpop_lexer.specs.Position.{position_of}
 use Rattle.lalrpop_rule_file.specs.Words.{IsSpan, begins, begins_name, is_blank, is_of_name}
-use Rattle.lalrpop_rule_file.specs.RuleLine.{Entry, Head, Written, Enters, Pops, WrittenRule, WrittenPart, Part, Start, Headed, Named, Entering, Equals, From, Unjoined, Defining, Defines, Defined, Open, Closed, a_blank, a_bracket, a_mode, a_star, an_end, a_star_end, a_name, a_skip, a_pop, an_entry, its_mode, an_equals, a_part, its_equals, its_pattern, an_open_pattern, a_precedence, a_text, an_open_text, a_from, from_to, an_open_to, no_to, Reads, nothing, lexeme_then}
+use Rattle.lalrpop_rule_file.specs.RuleLine.{Entry, Head, Written, Enters, Pops, WrittenRule, WrittenPart, Part, Start, Headed, Named, Entering, Equals, InAnyCase, From, Unjoined, Defining, Defines, Defined, Open, Closed, a_blank, a_bracket, a_mode, a_star, an_end, a_star_end, a_name, a_skip, a_pop, an_entry, its_mode, an_equals, a_part, its_equals, its_pattern, an_open_pattern, a_precedence, a_text, an_open_text, an_any_case, its_literal, an_open_literal, a_from, from_to, an_open_to, no_to, Reads, nothing, lexeme_then}
 use Rattle.lalrpop_rule_file.specs.FileModes.{Said, Nothing, Heading, Define, Rule, AllLeadWithin}
 use Rattle.lalrpop_rule_file.specs.RuleFile.{without_return, IsBlankOrComment, IsFirstNoMode, IsNoMode, LinesSay}
 use Rattle.lalrpop_rule_file.proofs.Lexemes.{IsStuck, Lexeme-unique, blanks_read, end_is_stuck, joined, part_is_stuck, section_is_stuck}
@@ -24,6 +24,7 @@ abbrev IsOfRule : Part → Type 0
 IsOfRule (Named head) = Unit {0}
 IsOfRule (Entering head entry) = Unit {0}
 IsOfRule (Equals head written) = Unit {0}
+IsOfRule (InAnyCase head written) = Unit {0}
 IsOfRule (From head written) = Unit {0}
 IsOfRule (Closed rule) = Unit {0}
 IsOfRule (Defining name) = Unit {0}
@@ -55,6 +56,9 @@ of_rule (lexeme_then (an_open_pattern lacks) more) here = of_rule more tt
 of_rule (lexeme_then (a_precedence span h) more) here = of_rule more tt
 of_rule (lexeme_then (a_text form lacks) more) here = of_rule more tt
 of_rule (lexeme_then (an_open_text form lacks) more) here = of_rule more tt
+of_rule (lexeme_then (an_any_case span) more) here = of_rule more tt
+of_rule (lexeme_then (its_literal lacks) more) here = of_rule more tt
+of_rule (lexeme_then (an_open_literal lacks) more) here = of_rule more tt
 of_rule (lexeme_then (a_from span) more) here = of_rule more tt
 of_rule (lexeme_then (from_to is lacks) more) here = of_rule more tt
 of_rule (lexeme_then (an_open_to is lacks) more) here = of_rule more tt
@@ -67,6 +71,7 @@ abbrev Extends : Part → List Written → Type 0
 Extends (Named head) all = (more : List Written) × (all ≡ head.actions ++ more)
 Extends (Entering head entry) all = (more : List Written) × (all ≡ head.actions ++ more)
 Extends (Equals head written) all = (more : List Written) × (all ≡ head.actions ++ more)
+Extends (InAnyCase head written) all = (more : List Written) × (all ≡ head.actions ++ more)
 Extends (From head written) all = (more : List Written) × (all ≡ head.actions ++ more)
 Extends (Closed rule) all = (more : List Written) × (all ≡ rule.head.actions ++ more)
 Extends (Defining name) all = all ≡ []
@@ -104,6 +109,9 @@ extends all (lexeme_then (an_open_pattern lacks) more) h = absurd (extends all m
 extends all (lexeme_then (a_precedence span e) more) h = extends all more h
 extends all (lexeme_then (a_text form lacks) more) h = extends all more h
 extends all (lexeme_then (an_open_text form lacks) more) h = absurd (extends all more h)
+extends all (lexeme_then (an_any_case span) more) h = extends all more h
+extends all (lexeme_then (its_literal lacks) more) h = extends all more h
+extends all (lexeme_then (an_open_literal lacks) more) h = absurd (extends all more h)
 extends all (lexeme_then (a_from span) more) h = extends all more h
 extends all (lexeme_then (from_to is lacks) more) h = extends all more h
 extends all (lexeme_then (an_open_to is lacks) more) h = absurd (extends all more h)

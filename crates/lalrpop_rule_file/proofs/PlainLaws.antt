@@ -1,10 +1,8 @@
--- A file without sections, actions, parts and `from` has one mode, INITIAL, in which all its rules stand, without actions.
+-- A file without sections, actions and parts has one mode, INITIAL, in which all its rules stand, without actions.
 use Rattle.std.proofs.Common.{◌≡◌, ℕ, zero, suc, Bool, List, [], ◌∷◌, ◌++◌, map, get_or, drop, refl, sym, ap, subst, ◌∙◌, Option, Some, None, ◌⊎◌, inl, inr}
 use Rattle.std.specs.Prelude.{codes, slice_get}
-use Rattle.lalrpop_lexer.specs.declared.form.Form.{Form}
-use Rattle.lalrpop_lexer.specs.declared.form.Form.TheVariants.{Literal, Pattern}
 use Rattle.lalrpop_modes.specs.declared.action.Action.{Action}
-use Rattle.lalrpop_rule_file.specs.LineText.{Quoted, delimiter, precedence_or}
+use Rattle.lalrpop_rule_file.specs.LineText.{Form, Literal, Escaped, Pattern, Quoted, delimiter, precedence_or}
 use Rattle.lalrpop_rule_file.specs.RuleLine.{Written, rule_of, Part, Start, Named, Equals, Closed, Lexeme, a_blank, a_name, a_skip, an_equals, a_precedence, a_text, Reads, nothing, lexeme_then, IsRule}
 use Rattle.lalrpop_rule_file.specs.FileModes.{Said, Nothing, Heading, Define, Rule, AreActions, AreModes, firsts, initial, modes_of, named_below, or_initial, without}
 use Rattle.lalrpop_rule_file.specs.FileParts.{parts_above}
@@ -24,6 +22,7 @@ part_of (PlainClosed name skipped precedence form text) = Closed (plain_rule nam
 same_precedence : (form : Form) (written : Option ℕ) (text : List ℕ) → plain_precedence form written ≡ precedence_or (Quoted form text) written
 same_precedence form (Some n) text = refl
 same_precedence Literal None text = refl
+same_precedence Escaped None text = refl
 same_precedence Pattern None text = refl
 
 same_end : (name : List ℕ) (skipped : Bool) (written : Option ℕ) (form : Form) (text : List ℕ) → Closed (rule_of (plain_head name skipped) written (Quoted form text)) ≡ part_of (PlainClosed name skipped (plain_precedence form written) form text)

@@ -5,15 +5,13 @@ use Rattle.std.specs.Str.{IsUtf8, IsCharBoundary}
 use Rattle.std.proofs.lemmas.Bool.{false≢true}
 use Rattle.std.proofs.lemmas.Str.{IsCharBoundary-at_seam}
 use Rattle.lalrpop_lexer.specs.Line.{IsPrecedence}
-use Rattle.lalrpop_lexer.specs.declared.form.Form.{Form}
-use Rattle.lalrpop_lexer.specs.declared.form.Form.TheVariants.{Literal, Pattern}
 use Rattle.lalrpop_rule_file.specs.Words.{AreBlanks, IsSpan, Lacks, begins, begins_name, is_blank, is_no_apostrophe, is_of_name}
-use Rattle.lalrpop_rule_file.specs.LineText.{Quoted, FromTo, IsUpToTo, NoToBefore, delimiter}
-use Rattle.lalrpop_rule_file.specs.RuleLine.{Entry, Head, Pops, Enters, bare, marked, acting, WrittenRule, rule_of, word_of, Section, These, Every, Part, Start, Listing, Starred, Headed, Named, Entering, Equals, From, Unjoined, Open, Closed, Lexeme, a_blank, a_bracket, a_mode, a_star, an_end, a_star_end, a_name, a_skip, a_pop, an_entry, its_mode, an_equals, a_part, its_equals, its_pattern, an_open_pattern, a_precedence, a_text, an_open_text, a_from, from_to, an_open_to, no_to, Reads, nothing, lexeme_then}
+use Rattle.lalrpop_rule_file.specs.LineText.{Form, Literal, Escaped, Pattern, Quoted, AnyCase, FromTo, IsUpToTo, NoToBefore, delimiter}
+use Rattle.lalrpop_rule_file.specs.RuleLine.{Entry, Head, Pops, Enters, bare, marked, acting, WrittenRule, rule_of, word_of, Section, These, Every, Part, Start, Listing, Starred, Headed, Named, Entering, Equals, InAnyCase, From, Unjoined, Open, Closed, Lexeme, a_blank, a_bracket, a_mode, a_star, an_end, a_star_end, a_name, a_skip, a_pop, an_entry, its_mode, an_equals, a_part, its_equals, its_pattern, an_open_pattern, a_precedence, a_text, an_open_text, an_any_case, its_literal, an_open_literal, a_from, from_to, an_open_to, no_to, Reads, nothing, lexeme_then}
 use Rattle.lalrpop_rule_file.specs.RuleFault.{StopsBefore, fault_at}
 use Rattle.lalrpop_rule_file.specs.Internal.Stops.{IsBeforeText, IsClosed, IsListed, IsNotClosed, IsUnread, NoActionAt, ReadsText, StopsText, before_end}
 use Rattle.lalrpop_rule_file.specs.declared.error.LineFault.{LineFault}
-use Rattle.lalrpop_rule_file.specs.declared.error.LineFault.TheVariants.{NoName, NoMode, NoBracket, BehindSection, NoEquals, PrecedenceTooLarge, NoText, NoFrom, NoTo, NotClosed}
+use Rattle.lalrpop_rule_file.specs.declared.error.LineFault.TheVariants.{NoName, NoMode, NoBracket, BehindSection, NoEquals, PrecedenceTooLarge, NoText, NoLiteral, NoFrom, NoTo, NotClosed}
 use Rattle.lalrpop_rule_file.specs.declared.stop.Unread.{Unread}
 use Rattle.lalrpop_rule_file.specs.declared.stop.Unread.TheVariants.{Stopped, OutOfMemory}
 use Rattle.lalrpop_rule_file.proofs.Lexemes.{joined, blanks_read, span_read, begins_front, precedence_begins}
@@ -61,6 +59,9 @@ ends_lexeme (a_precedence {digits = digits} span h) = (digits, span.parts)
 ends_lexeme (a_text {inner = inner} {rest = rest} form lacks) =
     let mark = delimiter form in (mark ∷ (inner ++ (mark ∷ [])), ap (λ (x : List ℕ). mark ∷ x) (sym (append_assoc inner (mark ∷ []) rest)))
 ends_lexeme (an_open_text {inner = inner} form lacks) = (delimiter form ∷ inner, sym (append-nil (delimiter form ∷ inner)))
+ends_lexeme (an_any_case span) = (codes "anycase", span.parts)
+ends_lexeme (its_literal {inner = inner} {rest = rest} lacks) = (codes "'" ++ (inner ++ codes "'"), ap (λ (x : List ℕ). 39 ∷ x) (sym (append_assoc inner (codes "'") rest)))
+ends_lexeme (an_open_literal {inner = inner} lacks) = (codes "'" ++ inner, sym (append-nil (codes "'" ++ inner)))
 ends_lexeme (a_from span) = (codes "from", span.parts)
 ends_lexeme (from_to {inner = inner} {a = a} {b = b} {rest = rest} is lacks) = ends_joined inner a b rest is
 ends_lexeme (an_open_to {inner = inner} is lacks) = (codes "'" ++ inner, sym (append-nil (codes "'" ++ inner)))
@@ -215,6 +216,7 @@ numbered head text digits behind gap rest n span h blanks = lexeme_then (a_prece
 
 delimiter_is_no_digit : (form : Form) → is_ascii_digit (delimiter form) ≡ false
 delimiter_is_no_digit Literal = refl
+delimiter_is_no_digit Escaped = refl
 delimiter_is_no_digit Pattern = refl
 
 no_number_here : {head : Head} {q : Part} {text rest : List ℕ} → begins is_blank text ≡ false → begins is_ascii_digit text ≡ true
@@ -223,6 +225,7 @@ no_number_here blank digit none (a_blank h) = false≢true (sym blank ∙ h)
 no_number_here blank digit none (a_precedence {digits = digits} {rest = rest} {n = n} span h) = none digits rest n span h
 no_number_here blank digit none (a_text form lacks) = false≢true (sym (delimiter_is_no_digit form) ∙ digit)
 no_number_here blank digit none (an_open_text form lacks) = false≢true (sym (delimiter_is_no_digit form) ∙ digit)
+no_number_here blank digit none (an_any_case span) = false≢true (sym (ap (begins is_ascii_digit) span.parts) ∙ digit)
 no_number_here blank digit none (a_from span) = false≢true (sym (ap (begins is_ascii_digit) span.parts) ∙ digit)
 
 -- digits that write no precedence
@@ -248,22 +251,19 @@ before_text head None rest h = (h.0, rw h.1 refl)
 before_text head (Some n) rest h = (h, refl)
 
 no_text_here : {head : Head} {written : Option ℕ} {q : Part} {text rest : List ℕ} → IsBeforeText written text → ((form : Form) (inner : List ℕ) → text ≢ delimiter form ∷ inner)
-    → ((behind : List ℕ) → ¬ IsSpan is_of_name text (codes "from") behind) → ¬ Lexeme (Equals head written) text q rest
-no_text_here {head = head} {written = written} before none no_from (a_blank {b = b} {rest = rest} h) = false≢true (sym (before_text head written (b ∷ rest) before).0 ∙ h)
-no_text_here before none no_from (a_precedence {text = text} {digits = digits} {rest = rest} {n = n} span h) = false≢true (sym before.1 ∙ precedence_begins text digits rest n span h)
-no_text_here before none no_from (a_text form lacks) = none form _ refl
-no_text_here before none no_from (an_open_text form lacks) = none form _ refl
-no_text_here before none no_from (a_from {rest = rest} span) = no_from rest span
+    → ((behind : List ℕ) → ¬ IsSpan is_of_name text (codes "anycase") behind) → ((behind : List ℕ) → ¬ IsSpan is_of_name text (codes "from") behind) → ¬ Lexeme (Equals head written) text q rest
+no_text_here {head = head} {written = written} before none no_any_case no_from (a_blank {b = b} {rest = rest} h) = false≢true (sym (before_text head written (b ∷ rest) before).0 ∙ h)
+no_text_here before none no_any_case no_from (a_precedence {text = text} {digits = digits} {rest = rest} {n = n} span h) = false≢true (sym before.1 ∙ precedence_begins text digits rest n span h)
+no_text_here before none no_any_case no_from (a_text form lacks) = none form _ refl
+no_text_here before none no_any_case no_from (an_open_text form lacks) = none form _ refl
+no_text_here before none no_any_case no_from (an_any_case {rest = rest} span) = no_any_case rest span
+no_text_here before none no_any_case no_from (a_from {rest = rest} span) = no_from rest span
 
--- neither a literal nor a pattern, and no `from`
-pub no_text : (rest : List ℕ) → ((inner : List ℕ) → rest ≢ 39 ∷ inner) → ((inner : List ℕ) → rest ≢ 47 ∷ inner) → ((behind : List ℕ) → ¬ IsSpan is_of_name rest (codes "from") behind)
-    → (written : Option ℕ) → IsBeforeText written rest → StopsText written rest rest NoText
-no_text rest no_literal no_pattern no_from written before head =
-    record { part = Equals head written; reads = nothing; stuck = λ q behind. no_text_here before by no_from; is_fault = (before_text head written rest before).1 }
-  where
-    by : (form : Form) (inner : List ℕ) → rest ≢ delimiter form ∷ inner
-    by Literal = no_literal
-    by Pattern = no_pattern
+-- no delimiter, and neither `anycase` nor `from`
+pub no_text : (rest : List ℕ) → ((form : Form) (inner : List ℕ) → rest ≢ delimiter form ∷ inner) → ((behind : List ℕ) → ¬ IsSpan is_of_name rest (codes "anycase") behind)
+    → ((behind : List ℕ) → ¬ IsSpan is_of_name rest (codes "from") behind) → (written : Option ℕ) → IsBeforeText written rest → StopsText written rest rest NoText
+no_text rest none no_any_case no_from written before head =
+    record { part = Equals head written; reads = nothing; stuck = λ q behind. no_text_here before none no_any_case no_from; is_fault = (before_text head written rest before).1 }
 
 no_blank_here : {rule : WrittenRule} {q : Part} {text rest : List ℕ} → begins is_blank text ≡ false → ¬ Lexeme (Closed rule) text q rest
 no_blank_here blank (a_blank h) = false≢true (sym blank ∙ h)
@@ -300,6 +300,32 @@ pub not_quoted : (form : Form) (inner rest : List ℕ) → IsNotClosed (delimite
 not_quoted form inner rest (inl (lacks, none)) written head = open_stops (Equals head written) (delimiter form ∷ inner) rest (lexeme_then (an_open_text form lacks) nothing) none
 not_quoted form inner rest (inr (text, (trail, (gap, (parts, lacks, blanks, some))))) written head =
     closed_before (rule_of head written (Quoted form text)) (Equals head written) (delimiter form ∷ inner) trail gap rest (quoted_here form inner text trail parts lacks written head) blanks some
+
+-- ---- a literal in any case
+
+literal_here : (inner text trail : List ℕ) → inner ≡ text ++ (39 ∷ trail) → Lacks 39 trail → (head : Head) (written : Option ℕ)
+    → Reads (InAnyCase head written) (codes "'" ++ inner) (Closed (rule_of head written (AnyCase text))) trail
+literal_here inner text trail parts lacks head written =
+    let end : Part = Closed (rule_of head written (AnyCase text)) in
+    subst (λ (x : List ℕ). Reads (InAnyCase head written) (codes "'" ++ x) end trail) (sym parts) (lexeme_then (its_literal lacks) nothing)
+
+pub in_any_case : (inner text : List ℕ) → IsClosed 39 inner text → (head : Head) (written : Option ℕ) → Reads (InAnyCase head written) (codes "'" ++ inner) (Closed (rule_of head written (AnyCase text))) []
+in_any_case inner text (trail, (parts, lacks, blanks)) head written =
+    joined (literal_here inner text trail parts lacks head written) (all_blanks (Closed (rule_of head written (AnyCase text))) trail blanks)
+
+pub open_in_any_case : (inner rest : List ℕ) → IsNotClosed 39 inner rest → (head : Head) (written : Option ℕ) → StopsBefore (InAnyCase head written) (codes "'" ++ inner) rest NotClosed
+open_in_any_case inner rest (inl (lacks, none)) head written = open_stops (InAnyCase head written) (codes "'" ++ inner) rest (lexeme_then (an_open_literal lacks) nothing) none
+open_in_any_case inner rest (inr (text, (trail, (gap, (parts, lacks, blanks, some))))) head written =
+    closed_before (rule_of head written (AnyCase text)) (InAnyCase head written) (codes "'" ++ inner) trail gap rest (literal_here inner text trail parts lacks head written) blanks some
+
+no_literal_here : {head : Head} {written : Option ℕ} {q : Part} {text rest : List ℕ} → begins is_blank text ≡ false → ((inner : List ℕ) → text ≢ 39 ∷ inner) → ¬ Lexeme (InAnyCase head written) text q rest
+no_literal_here blank none (a_blank h) = false≢true (sym blank ∙ h)
+no_literal_here blank none (its_literal {inner = inner} {rest = rest} lacks) = none (inner ++ (codes "'" ++ rest)) refl
+no_literal_here blank none (an_open_literal {inner = inner} lacks) = none inner refl
+
+pub no_literal : (text lead here : List ℕ) → IsSpan is_blank text lead here → ((inner : List ℕ) → here ≢ 39 ∷ inner) → (head : Head) (written : Option ℕ) → StopsBefore (InAnyCase head written) text here NoLiteral
+no_literal text lead here span none head written =
+    record { part = InAnyCase head written; reads = span_read (InAnyCase head written) text lead here span; stuck = λ q rest. no_literal_here span.stops none; is_fault = refl }
 
 -- ---- from A to B
 

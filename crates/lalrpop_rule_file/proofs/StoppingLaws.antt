@@ -4,12 +4,12 @@ use Rattle.std.specs.Str.{IsUtf8}
 use Rattle.lalrpop_lexer.specs.Position.{position_of}
 use Rattle.std.specs.Char.{is_ascii_digit}
 use Rattle.lalrpop_rule_file.specs.Words.{begins}
-use Rattle.lalrpop_rule_file.specs.RuleLine.{Part, Start, Listing, Starred, Headed, Named, Entering, Equals, From, Unjoined, Defining, Defines, Defined, Open, Closed, Reads, Section, WrittenPart, WrittenRule, IsPartLine, IsRule, IsSection}
+use Rattle.lalrpop_rule_file.specs.RuleLine.{Part, Start, Listing, Starred, Headed, Named, Entering, Equals, InAnyCase, From, Unjoined, Defining, Defines, Defined, Open, Closed, Reads, Section, WrittenPart, WrittenRule, IsPartLine, IsRule, IsSection}
 use Rattle.lalrpop_rule_file.specs.FileModes.{Said, Nothing, Heading, Define, Rule}
 use Rattle.lalrpop_rule_file.specs.RuleFault.{StopsBefore, fault_at}
 use Rattle.lalrpop_rule_file.specs.RuleFile.{IsBlankOrComment, IsLineFault, LineSays, Says, without_return}
 use Rattle.lalrpop_rule_file.specs.declared.error.LineFault.{LineFault}
-use Rattle.lalrpop_rule_file.specs.declared.error.LineFault.TheVariants.{NotUtf8, NoName, NoMode, NoBracket, BehindSection, NoEquals, PrecedenceTooLarge, NoText, NoPattern, NoFrom, NoTo, NotClosed}
+use Rattle.lalrpop_rule_file.specs.declared.error.LineFault.TheVariants.{NotUtf8, NoName, NoMode, NoBracket, BehindSection, NoEquals, PrecedenceTooLarge, NoText, NoPattern, NoLiteral, NoFrom, NoTo, NotClosed}
 use Rattle.lalrpop_rule_file.specs.Internal.Stops.{IsStopped, IsUnread}
 use Rattle.lalrpop_rule_file.specs.declared.stop.Unread.{Unread}
 use Rattle.lalrpop_rule_file.specs.declared.stop.Unread.TheVariants.{Stopped, OutOfMemory}
@@ -86,6 +86,7 @@ no_bytes_fault (Equals head None) rest e = by (begins is_ascii_digit rest) refl
     by true h = absurd (cc)
     by false h = absurd (cc)
 no_bytes_fault (Equals head (Some n)) rest e = absurd (cc)
+no_bytes_fault (InAnyCase head written) rest e = absurd (cc)
 no_bytes_fault (From head written) rest e = absurd (cc)
 no_bytes_fault Unjoined rest e = absurd (cc)
 no_bytes_fault (Defining name) rest e = absurd (cc)
@@ -115,6 +116,7 @@ fault_of_line line rest content column fault utf8 is stops at =
     by PrecedenceTooLarge s parts place = (utf8, (_, (rest, (parts, (place, s)))))
     by NoText s parts place = (utf8, (_, (rest, (parts, (place, s)))))
     by NoPattern s parts place = (utf8, (_, (rest, (parts, (place, s)))))
+    by NoLiteral s parts place = (utf8, (_, (rest, (parts, (place, s)))))
     by NoFrom s parts place = (utf8, (_, (rest, (parts, (place, s)))))
     by NoTo s parts place = (utf8, (_, (rest, (parts, (place, s)))))
     by NotClosed s parts place = (utf8, (_, (rest, (parts, (place, s)))))
@@ -137,6 +139,7 @@ where_line line column NoEquals h = inr h
 where_line line column PrecedenceTooLarge h = inr h
 where_line line column NoText h = inr h
 where_line line column NoPattern h = inr h
+where_line line column NoLiteral h = inr h
 where_line line column NoFrom h = inr h
 where_line line column NoTo h = inr h
 where_line line column NotClosed h = inr h

@@ -5,9 +5,8 @@ use Rattle.std.specs.Str.{IsCharBoundary}
 use Rattle.lalrpop_grammar.specs.NamedPart.{NamedPart}
 use Rattle.lalrpop_grammar.specs.Pattern.{IsPart}
 use Rattle.lalrpop_lexer.specs.Position.{position_of}
-use Rattle.lalrpop_lexer.specs.declared.form.Form.TheVariants.{Pattern}
 use Rattle.lalrpop_rule_file.specs.Words.{IsSpan, is_blank, is_of_name}
-use Rattle.lalrpop_rule_file.specs.LineText.{Quoted, BeginsText}
+use Rattle.lalrpop_rule_file.specs.LineText.{Pattern, Quoted, BeginsText}
 use Rattle.lalrpop_rule_file.specs.RuleLine.{WrittenPart}
 use Rattle.lalrpop_rule_file.specs.FileModes.{Said, Nothing, Heading, Define, Rule}
 

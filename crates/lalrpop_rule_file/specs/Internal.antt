@@ -3,3 +3,4 @@ pub mod Values
 pub mod Stops
 pub mod Lines
 pub mod PlainLine
+pub mod Found

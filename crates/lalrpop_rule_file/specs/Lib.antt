@@ -5,5 +5,7 @@ pub mod RuleFault
 pub mod FileModes
 pub mod FileParts
 pub mod RuleFile
+pub mod PartLines
+pub mod Warnings
 -- used by proofs only
 pub mod Internal

@@ -1,25 +1,34 @@
 -- cases: proofs/Cases/LineText.antt
--- The text of a rule: `'LITERAL'`, `/PATTERN/`, or `from 'A' to 'B'`, which are the words from A up to the first B behind it.
+-- The text of a rule: `'LITERAL'`; `"LITERAL"`, in which escapes stand for characters; `/PATTERN/`; `anycase 'LITERAL'`, the literal in
+-- any case; or `from 'A' to 'B'`, which are the words from A up to the first B behind it.
 use Rattle.std.specs.Prelude.{◌≡◌, ℕ, ◌<◌, Option, Some, None, List, ◌∷◌, ◌++◌, length, drop, codes}
-use Rattle.lalrpop_lexer.specs.declared.form.Form.{Form}
-use Rattle.lalrpop_lexer.specs.declared.form.Form.TheVariants.{Literal, Pattern}
 use Rattle.lalrpop_rule_file.specs.Words.{IsSpan, AreBlanks, is_blank}
+
+-- what stands between delimiters: a literal, a literal with escapes, or a pattern
+pub data Form : Type 0 where
+  Literal : Form
+  Escaped : Form
+  Pattern : Form
 
 -- what a text is, without its delimiters
 pub data Text : Type 0 where
   Quoted : (form : Form) (inner : List ℕ) → Text
+  AnyCase : (inner : List ℕ) → Text
   FromTo : (a b : List ℕ) → Text
 
--- a literal is between apostrophes, a pattern between slashes
+-- a literal is between apostrophes, one with escapes between quotes, a pattern between slashes
 abbrev pub delimiter : Form → ℕ
 delimiter Literal = 39
+delimiter Escaped = 34
 delimiter Pattern = 47
 
--- the precedence is the one that is written, or else 1 for a literal and 0 for all others
+-- the precedence is the one that is written, or else 1 for literals and 0 for all others
 abbrev pub precedence_or : Text → Option ℕ → ℕ
 precedence_or text (Some n) = n
 precedence_or (Quoted Literal inner) None = 1
+precedence_or (Quoted Escaped inner) None = 1
 precedence_or (Quoted Pattern inner) None = 0
+precedence_or (AnyCase inner) None = 1
 precedence_or (FromTo a b) None = 0
 
 -- at the front stands `' to '`: the apostrophe that ends A, one blank or more, `to`, blanks, and the apostrophe that begins B
@@ -47,4 +56,5 @@ pub record IsUpToTo (text a rest : List ℕ) : Type 0 where
 -- the line from where a text begins, behind the first delimiter: the text, its last delimiter, and blanks
 abbrev pub BeginsText : Text → List ℕ → Type 0
 BeginsText (Quoted form inner) here = (trail : List ℕ) × ((here ≡ inner ++ (delimiter form ∷ trail)) × AreBlanks trail)
+BeginsText (AnyCase inner) here = (trail : List ℕ) × ((here ≡ inner ++ (codes "'" ++ trail)) × AreBlanks trail)
 BeginsText (FromTo a b) here = (trail : List ℕ) × (IsUpToTo here a (b ++ (codes "'" ++ trail)) × AreBlanks trail)

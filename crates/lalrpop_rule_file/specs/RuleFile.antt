@@ -6,9 +6,8 @@ use Rattle.std.specs.Str.Lossy.{utf8_valid_len}
 use Rattle.lalrpop_lexer.specs.Lines.{lines}
 use Rattle.lalrpop_lexer.specs.Position.{position_of}
 use Rattle.lalrpop_lexer.specs.declared.position.Position.{Position}
-use Rattle.lalrpop_lexer.specs.declared.form.Form.TheVariants.{Literal, Pattern}
 use Rattle.lalrpop_rule_file.specs.Words.{AreBlanks, IsSpan, begins, begins_name, is_of_name}
-use Rattle.lalrpop_rule_file.specs.LineText.{Text, Quoted, FromTo, BeginsText}
+use Rattle.lalrpop_rule_file.specs.LineText.{Literal, Escaped, Pattern, Text, Quoted, AnyCase, FromTo, BeginsText}
 use Rattle.lalrpop_rule_file.specs.RuleLine.{Entry, Head, WrittenPart, WrittenRule, Section, Start, Entering, Reads, IsPartLine, IsRule, IsSection}
 use Rattle.lalrpop_rule_file.specs.RuleFault.{StopsBefore}
 use Rattle.lalrpop_rule_file.specs.FileModes.{Said, Nothing, Heading, Define, Rule, AreActions, AreModes, AllLeadWithin, initial, modes_of}
@@ -101,6 +100,8 @@ pub record IsFirstRepeatedPart (ls : List (List ℕ)) (n column : ℕ) : Type 0 
 abbrev pub IsText : RuleText → Text → Type 0
 IsText (text.Literal inner) t = t ≡ Quoted Literal inner.now
 IsText (text.Pattern inner) t = t ≡ Quoted Pattern inner.now
+IsText (text.Escaped inner) t = t ≡ Quoted Escaped inner.now
+IsText (text.AnyCase inner) t = t ≡ AnyCase inner.now
 IsText (text.FromTo a b) t = t ≡ FromTo a.now b.now
 IsText (text.PatternWith inner parts) t = ⊥
 
@@ -137,9 +138,9 @@ NamesMode r m = Contains r.modes.items m ⊎ OneLeadsInto r.actions.items m
 
 -- ---- the rules with their parts
 
--- the text of a rule that knows these parts: a pattern has them, unless there are none
+-- the text of a rule that knows these parts: a pattern has them, also if there are none
 abbrev pub HasParts : List NamedPart → RuleText → RuleText → Type 0
-HasParts (p ∷ ps) (text.Pattern inner) given = IsPatternWith given inner.now (p ∷ ps)
+HasParts ps (text.Pattern inner) given = IsPatternWith given inner.now ps
 HasParts ps written given = given ≡ written
 
 -- the same rule, with as many of these parts as it knows

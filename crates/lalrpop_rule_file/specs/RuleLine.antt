@@ -1,13 +1,12 @@
 -- cases: proofs/Cases/RuleLine.antt
 -- How a line is read, from left to right. A section is `[A B]` or `[*]`; a rule is
--- `NAME [skip] {mode M | push M | pop} = [PRECEDENCE] TEXT`, where the text is `'LITERAL'`, `/PATTERN/` or `from 'A' to 'B'`; a part is
--- `NAME part = /PATTERN/`.
+-- `NAME [skip] {mode M | push M | pop} = [PRECEDENCE] TEXT`, where the text is `'LITERAL'`, `"LITERAL"`, `/PATTERN/`,
+-- `anycase 'LITERAL'` or `from 'A' to 'B'`; a part is `NAME part = /PATTERN/`.
 use Rattle.std.specs.Prelude.{◌≡◌, ℕ, Bool, true, false, Option, Some, None, List, [], ◌∷◌, ◌++◌, length, codes}
 use Rattle.std.specs.Char.{is_ascii_digit}
 use Rattle.lalrpop_lexer.specs.Line.{IsPrecedence}
-use Rattle.lalrpop_lexer.specs.declared.form.Form.{Form}
 use Rattle.lalrpop_rule_file.specs.Words.{IsSpan, Lacks, begins, begins_name, is_blank, is_no_apostrophe, is_of_name}
-use Rattle.lalrpop_rule_file.specs.LineText.{Text, Quoted, FromTo, IsUpToTo, NoToBefore, delimiter, precedence_or}
+use Rattle.lalrpop_rule_file.specs.LineText.{Form, Text, Quoted, AnyCase, FromTo, IsUpToTo, NoToBefore, delimiter, precedence_or}
 
 -- the words that the name of a mode follows
 pub data Entry : Type 0 where
@@ -80,6 +79,8 @@ pub data Part : Type 0 where
   Entering : (head : Head) (entry : Entry) → Part
   -- the `=` too, and the precedence if one is written
   Equals : (head : Head) (written : Option ℕ) → Part
+  -- the word `anycase` too
+  InAnyCase : (head : Head) (written : Option ℕ) → Part
   -- the word `from` too
   From : (head : Head) (written : Option ℕ) → Part
   -- the A of a text without a `' to '`
@@ -130,6 +131,13 @@ pub data Lexeme : Part → List ℕ → Part → List ℕ → Type 0 where
       Lexeme (Equals head written) (delimiter form ∷ (inner ++ (delimiter form ∷ rest))) (Closed (rule_of head written (Quoted form inner))) rest
   an_open_text : {head : Head} {inner : List ℕ} {written : Option ℕ} (form : Form) → Lacks (delimiter form) inner →
       Lexeme (Equals head written) (delimiter form ∷ inner) Open []
+  -- so does a literal in any case
+  an_any_case : {head : Head} {text rest : List ℕ} {written : Option ℕ} → IsSpan is_of_name text (codes "anycase") rest →
+      Lexeme (Equals head written) text (InAnyCase head written) rest
+  its_literal : {head : Head} {inner rest : List ℕ} {written : Option ℕ} → Lacks 39 rest →
+      Lexeme (InAnyCase head written) (codes "'" ++ (inner ++ (codes "'" ++ rest))) (Closed (rule_of head written (AnyCase inner))) rest
+  an_open_literal : {head : Head} {inner : List ℕ} {written : Option ℕ} → Lacks 39 inner →
+      Lexeme (InAnyCase head written) (codes "'" ++ inner) Open []
   a_from : {head : Head} {text rest : List ℕ} {written : Option ℕ} → IsSpan is_of_name text (codes "from") rest →
       Lexeme (Equals head written) text (From head written) rest
   -- A ends at the first `' to '`, and B at the last apostrophe of the line

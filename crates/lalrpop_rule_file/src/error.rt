@@ -34,10 +34,12 @@ pub enum LineFault {
     NoEquals,
     /// The precedence has more than 20 digits or doesn't fit 64 bits.
     PrecedenceTooLarge,
-    /// There is no apostrophe, slash or `from` where the text should begin.
+    /// There is no apostrophe, quote, slash, `anycase` or `from` where the text should begin.
     NoText,
     /// There is no slash where the pattern of a part should begin.
     NoPattern,
+    /// There is no apostrophe after `anycase`.
+    NoLiteral,
     /// There is no apostrophe after `from`.
     NoFrom,
     /// In a text `from 'A' to 'B'` there is no `' to '`.
@@ -52,7 +54,7 @@ fn reason_of(fault: &LineFault) -> &'static str
     match fault {
         LineFault::NotUtf8 => "this isn't UTF-8",
         LineFault::NoName =>
-            "a name is missing: names are ASCII letters, digits and `_`, and don't begin with a digit",
+            "a line is a rule, as NAME = 'TEXT' or NAME = /PATTERN/, a section, as [A], or a comment behind `#`; a name has ASCII letters, digits and `_`, and doesn't begin with a digit",
         LineFault::NoMode =>
             "the name of a mode is missing: ASCII letters, digits and `_`, not a digit first; in a section `[*]` is every mode",
         LineFault::NoBracket =>
@@ -64,13 +66,14 @@ fn reason_of(fault: &LineFault) -> &'static str
         LineFault::PrecedenceTooLarge =>
             "the precedence is too large: at most 20 digits, and below 2^64",
         LineFault::NoText =>
-            "a literal in apostrophes or a pattern in slashes is missing, or from 'A' to 'B'",
+            "a text is missing: 'LITERAL', \"LITERAL\", anycase 'LITERAL', /PATTERN/ or from 'A' to 'B'",
         LineFault::NoPattern => "a part is a pattern in slashes",
+        LineFault::NoLiteral => "an apostrophe is missing behind `anycase`: write anycase 'TEXT'",
         LineFault::NoFrom => "an apostrophe is missing behind `from`: write from 'A' to 'B'",
         LineFault::NoTo =>
             "`to` is missing behind the apostrophe that ends A: write from 'A' to 'B'",
         LineFault::NotClosed =>
-            "the line must end with the apostrophe or slash of its text: a comment is a line of its own",
+            "the line must end with the apostrophe, quote or slash of its text: a comment is a line of its own, and flags stand in the pattern, as in /(?i)a/",
     }
 }
 

@@ -1,12 +1,14 @@
 //! A whole file.
 ghost use Rattle.std.specs.Prelude.{◌≡◌, ◌<◌, ℕ, length, map, take, slice_get, Some, IfOk, IfErr};
 ghost use Rattle.lalrpop_lexer.specs.Lines.{lines};
+ghost use Rattle.lalrpop_rule_file.specs.PartLines.{ArePartLines};
 ghost use Rattle.lalrpop_rule_file.specs.RuleFile.{AreFileParts, AreModeRules, AreRules, ArePlaces, HasParts, IsModeRule, IsRuleFileError, NamesMode, without_mark as without_mark_of};
 ghost use Rattle.lalrpop_rule_file.specs.declared.file_rule.FileRule.{FileRule as FileRuleValue};
 
 use crate::error::RuleFileError;
 use crate::file_rule::FileRule;
 use crate::modes::modes_of_lines;
+use crate::part_line::PartLine;
 use crate::parts::parts_of_lines;
 use crate::rules::rules_of_lines;
 use lalrpop_lexer::lexer::re::Part;
@@ -31,23 +33,27 @@ pub struct RuleFile<'text> {
     pub modes: Vec<&'text str>,
     /// The parts, in the order of their lines.
     pub parts: Vec<Part>,
+    /// The parts as they are written, in the same order.
+    pub part_lines: Vec<PartLine<'text>>,
     /// The rules, in the order of their lines.
     pub rules: Vec<FileRule<'text>>,
 }
 
-// The text of a rule that knows these parts.
+// The text of a rule that knows these parts. A pattern has them also if there are none: then `{NAME}` is refused as a name that
+// no part has.
 fn text_with<'text>(text: RuleText<'text>, parts: &'text [Part]) -> RuleText<'text>
     ensures { HasParts parts.now text.entry result }
 {
-    if parts.is_empty() {
-        return text;
-    }
     match text {
         RuleText::Pattern(pattern) => RuleText::PatternWith {
             text: pattern,
             parts,
         },
-        RuleText::Literal(_) | RuleText::PatternWith { .. } | RuleText::FromTo { .. } => text,
+        RuleText::Literal(_)
+        | RuleText::Escaped(_)
+        | RuleText::AnyCase(_)
+        | RuleText::PatternWith { .. }
+        | RuleText::FromTo { .. } => text,
     }
 }
 
@@ -118,22 +124,24 @@ pub fn without_mark(bytes: &[u8]) -> &[u8]
 ///
 /// A line is a rule, `NAME [skip] {mode M | push M | pop} = [PRECEDENCE] TEXT`, or a part, `NAME part = /PATTERN/`, or begins a
 /// section: `[A B]` with the rules of the modes A and B, or `[*]` with rules of every mode of the file, also of those that are
-/// named further down. The text of a rule is `'LITERAL'`, `/PATTERN/` or `from 'A' to 'B'`.
+/// named further down. The text of a rule is `'LITERAL'`, `"LITERAL"`, `/PATTERN/`, `anycase 'LITERAL'` or `from 'A' to 'B'`.
 ///
 /// The file is UTF-8. A byte order mark at its beginning is left out. A line ends at a line feed, which the last may lack; a
 /// carriage return at its end isn't part of it. Blank lines say nothing, and neither do comments: lines of their own that begin
 /// with `#`. Spaces and tabs may surround the parts of a line. A name is an ASCII letter or `_`, followed by ASCII letters,
-/// digits and `_`; several rules may share one name. `skip`, `mode`, `push`, `pop`, `part` and `from` are words only in their
-/// places: a rule, a part or a mode may be called so. A precedence is 1 to 20 decimal digits whose value fits 64 bits; if there is none, it is 1
-/// for a literal and 0 for other texts.
+/// digits and `_`; several rules may share one name. `skip`, `mode`, `push`, `pop`, `part`, `anycase` and `from` are words only in
+/// their places: a rule, a part or a mode may be called so. A precedence is 1 to 20 decimal digits whose value fits 64 bits; if
+/// there is none, it is 1 for literals and 0 for other texts.
 ///
 /// Rules above the first section belong to the mode INITIAL. The modes are numbered in the order in which they first appear:
 /// a section names its modes, and a rule above the first section names INITIAL. If nothing names a mode, INITIAL is the only
 /// one.
 ///
 /// The text ends at the last delimiter of the line, so it may contain delimiters too, and no comment stands behind it:
-/// `A = 'x' # 'y'` is the literal `x' # 'y`. A literal has no escapes: a line feed is the pattern `/\n/`. In `from 'A' to 'B'`,
-/// A ends at the first `' to '`, where one blank or more stands before `to` and any number after it; A may be empty.
+/// `A = 'x' # 'y'` is the literal `x' # 'y`. In `"LITERAL"` the escapes of patterns stand for their characters: `"\n"` is a line
+/// feed, and `"\\"` a backslash. Between apostrophes nothing is escaped. `anycase 'LITERAL'` is the literal in any case: after
+/// `SELECT = anycase 'select'` also `Select` is a SELECT. In `from 'A' to 'B'`, A ends at the first `' to '`, where one blank or
+/// more stands before `to` and any number after it; A may be empty.
 ///
 /// In the patterns of the lines below it, rules and parts, `{NAME}` stands for a part, as `parse_with` says: outside brackets,
 /// where no flag is on. No two parts have one name; a rule may have the name of a part. It doesn't matter in which section a
@@ -147,7 +155,14 @@ pub fn without_mark(bytes: &[u8]) -> &[u8]
 /// let known = file.rules[0].known; // 2
 /// ```
 ///
-/// The patterns of rules aren't parsed here, nor is B looked at: `ModeLexer::from_rules` does that.
+/// ```
+/// use lalrpop_rule_file::read_rules;
+///
+/// let file = read_rules(alloc, b"SELECT = anycase 'select'\nEND = \"\\n\"\n")?;
+/// let text = file.rules[1].rule.text; // RuleText::Escaped("\\n")
+/// ```
+///
+/// The patterns of rules and escapes aren't parsed here, nor is B looked at: `ModeLexer::from_rules` does that.
 ///
 /// # Errors
 ///
@@ -166,12 +181,15 @@ pub fn without_mark(bytes: &[u8]) -> &[u8]
 /// - for `PrecedenceTooLarge`, at its first digit;
 /// - for `NoText`, where the text should begin;
 /// - for `NoPattern`, where the pattern of a part should begin;
+/// - for `NoLiteral`, after `anycase` and blanks;
 /// - for `NoFrom`, after `from` and blanks;
 /// - for `NoTo`, at the first apostrophe that could end A, or after the end of a line without one;
 /// - for `NotClosed`, after the end of a line without a second delimiter, or else at the first nonblank after the last one.
 pub fn read_rules(alloc: Global, bytes: &[u8]) -> Result<RuleFile<'_>, RuleFileError>
     ensures parts { IfOk result (λ file.
         AreFileParts (lines (without_mark_of bytes.now)) file.parts.items) }
+    ensures part_lines { IfOk result (λ file.
+        ArePartLines (lines (without_mark_of bytes.now)) file.part_lines.items) }
     ensures rules { IfOk result (λ file. AreRules (lines (without_mark_of bytes.now))
         (map (λ m. m.now) file.modes.items) file.rules.items) }
     ensures places { IfOk result (λ file.
@@ -187,7 +205,8 @@ pub fn read_rules(alloc: Global, bytes: &[u8]) -> Result<RuleFile<'_>, RuleFileE
     let rules = rules_of_lines(alloc, text, &modes)?;
     Ok(RuleFile {
         modes,
-        parts,
+        parts: parts.parts,
+        part_lines: parts.lines,
         rules,
     })
 }

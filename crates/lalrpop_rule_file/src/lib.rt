@@ -6,7 +6,7 @@
 //! [A B]
 //! ```
 //!
-//! A `TEXT` is `'LITERAL'`, `/PATTERN/` or `from 'A' to 'B'`.
+//! A `TEXT` is `'LITERAL'`, `"LITERAL"`, `/PATTERN/`, `anycase 'LITERAL'` or `from 'A' to 'B'`.
 #![tactic(auto)]
 
 mod content;
@@ -19,14 +19,20 @@ mod line_part;
 mod line_text;
 mod modes;
 mod numbers;
+mod part_line;
 mod parts;
 mod rules;
 mod section;
 mod span;
 mod stop;
+mod used_parts;
+mod warning;
+mod warnings;
 mod word;
 mod written;
 
 pub use error::{LineFault, RuleFileError};
 pub use file::{RuleFile, read_rules, without_mark};
 pub use file_rule::FileRule;
+pub use part_line::PartLine;
+pub use warning::Warning;

@@ -10,8 +10,7 @@ use crate::line_text::closed;
 use crate::span::{Class, split_front};
 use crate::stop::Stop;
 use crate::word::behind;
-use crate::written::{LineName, LinePart};
-use lalrpop_lexer::Form;
+use crate::written::{Form, LineName, LinePart};
 
 // The pattern behind its first slash.
 fn slashed<'text>(name: LineName<'text>, inner: &'text str) -> Result<LinePart<'text>, Stop<'text>>

@@ -3,19 +3,17 @@ ghost use Rattle.std.specs.Prelude.{◌≡◌, ◌≢◌, ◌<◌, ◌∷◌, �
 ghost use Rattle.std.specs.Char.{is_ascii_digit};
 ghost use Rattle.lalrpop_lexer.specs.Line.{IsPrecedence};
 ghost use Rattle.lalrpop_rule_file.specs.Words.{EachByte, IsSpan, Lacks, begins, is_blank, is_no_apostrophe};
-ghost use Rattle.lalrpop_rule_file.specs.LineText.{BeginsText, IsTo, IsUpToTo, NoToBefore, delimiter, precedence_or as precedence_or_else};
-ghost use Rattle.lalrpop_rule_file.specs.RuleLine.{Head, Equals, From, Closed, Reads, rule_of as whole_rule};
+ghost use Rattle.lalrpop_rule_file.specs.LineText.{BeginsText, Form as TextForm, IsTo, IsUpToTo, NoToBefore, delimiter, precedence_or as precedence_or_else};
+ghost use Rattle.lalrpop_rule_file.specs.RuleLine.{Head, Equals, InAnyCase, From, Closed, Reads, rule_of as whole_rule};
 ghost use Rattle.lalrpop_rule_file.specs.RuleFault.{StopsBefore};
-ghost use Rattle.lalrpop_rule_file.specs.Internal.Values.{text_of};
+ghost use Rattle.lalrpop_rule_file.specs.Internal.Values.{form_of, text_of};
 ghost use Rattle.lalrpop_rule_file.specs.Internal.Stops.{IsBeforeText, IsClosed, IsNotClosed, ReadsText, StopsText};
 
 use crate::error::LineFault;
 use crate::span::{Class, split_front};
 use crate::stop::Stop;
 use crate::word::{behind, behind_word};
-use crate::written::{LineText, WrittenText};
-use lalrpop_lexer::Form;
-use lalrpop_rules::RuleText;
+use crate::written::{Form, LineText, WrittenText};
 
 // Enough for every `usize`, padded with zeros if it is shorter.
 const MAX_DIGITS: usize = 20;
@@ -56,19 +54,21 @@ fn numbered(text: &str) -> Result<(Option<usize>, &str), Stop<'_>>
 
 // The character on both sides of a text of this form.
 fn delimiter_of(form: Form) -> char
-    ensures { result ≡ delimiter form }
+    ensures { result ≡ delimiter (form_of form) }
 {
     match form {
         Form::Literal => '\'',
+        Form::Escaped => '"',
         Form::Pattern => '/',
     }
 }
 
 /// The text before the last delimiter, which only blanks may follow.
 pub(crate) fn closed(inner: &str, form: Form) -> Result<&str, Stop<'_>>
-    ensures closed { IfOk result (λ text. IsClosed (delimiter form) inner.now text.now) }
+    ensures closed { IfOk result (λ text.
+        IsClosed (delimiter (form_of form)) inner.now text.now) }
     ensures not_closed { IfErr result (λ stop.
-        IsNotClosed (delimiter form) inner.now stop.rest.now) }
+        IsNotClosed (delimiter (form_of form)) inner.now stop.rest.now) }
     ensures fault { IfErr result (λ stop. stop.fault ≡ LineFault.NotClosed) }
 {
     let Some((text, trail)) = inner.rsplit_once(delimiter_of(form)) else {
@@ -87,20 +87,57 @@ pub(crate) fn closed(inner: &str, form: Form) -> Result<&str, Stop<'_>>
     Ok(text)
 }
 
-// The literal or the pattern behind its first delimiter.
+// The text of this form behind its first delimiter.
 fn quoted<'text>(form: Form, inner: &'text str) -> Result<LineText<'text>, Stop<'text>>
     ensures quoted { IfOk result (λ m. (written : Option ℕ)
-        → ReadsText written (delimiter form ∷ inner.now) (text_of m.text)) }
+        → ReadsText written (delimiter (form_of form) ∷ inner.now) (text_of m.text)) }
     ensures begins { IfOk result (λ m. BeginsText (text_of m.text) m.here.now) }
     ensures here { IfOk result (λ m. m.here.now ≡ inner.now) }
     ensures stops { IfErr result (λ stop. (written : Option ℕ)
-        → StopsText written (delimiter form ∷ inner.now) stop.rest.now stop.fault) }
+        → StopsText written (delimiter (form_of form) ∷ inner.now) stop.rest.now stop.fault) }
 {
     let text = closed(inner, form)?;
     Ok(LineText {
         text: WrittenText::Quoted(form, text),
         here: inner,
     })
+}
+
+// A literal in any case, from behind its first apostrophe.
+fn in_any_case(inner: &str) -> Result<LineText<'_>, Stop<'_>>
+    ensures any_case { IfOk result (λ m. (head : Head) (written : Option ℕ)
+        → Reads (InAnyCase head written) (codes "'" ++ inner.now)
+        (Closed (whole_rule head written (text_of m.text))) []) }
+    ensures begins { IfOk result (λ m. BeginsText (text_of m.text) m.here.now) }
+    ensures here { IfOk result (λ m. m.here.now ≡ inner.now) }
+    ensures stops { IfErr result (λ stop. (head : Head) (written : Option ℕ)
+        → StopsBefore (InAnyCase head written) (codes "'" ++ inner.now) stop.rest.now stop.fault) }
+{
+    let text = closed(inner, Form::Literal)?;
+    Ok(LineText {
+        text: WrittenText::AnyCase(text),
+        here: inner,
+    })
+}
+
+// The text behind the word `anycase`.
+fn any_case(text: &str) -> Result<LineText<'_>, Stop<'_>>
+    ensures any_case { IfOk result (λ m. (head : Head) (written : Option ℕ)
+        → Reads (InAnyCase head written) text.now
+        (Closed (whole_rule head written (text_of m.text))) []) }
+    ensures begins { IfOk result (λ m. BeginsText (text_of m.text) m.here.now) }
+    ensures here { IfOk result (λ m. (front : List ℕ) × (text.now ≡ front ++ m.here.now)) }
+    ensures stops { IfErr result (λ stop. (head : Head) (written : Option ℕ)
+        → StopsBefore (InAnyCase head written) text.now stop.rest.now stop.fault) }
+{
+    let (_, here) = split_front(text, Class::Blank);
+    let Some(inner) = behind(here, '\'') else {
+        return Err(Stop {
+            fault: LineFault::NoLiteral,
+            rest: here,
+        });
+    };
+    in_any_case(inner)
 }
 
 // What follows `' to '` at the front.
@@ -186,6 +223,24 @@ fn from_to(text: &str) -> Result<LineText<'_>, Stop<'_>>
     joined(inner)
 }
 
+// The form of the text whose first delimiter is at the front, and what follows that.
+fn form_at(text: &str) -> Option<(Form, &str)>
+    ensures some { IfSome result (λ m. text.now ≡ delimiter (form_of m.0) ∷ m.1.now) }
+    ensures none { IfNone result ((form : TextForm) (inner : List ℕ)
+        → text.now ≢ delimiter form ∷ inner) }
+{
+    if let Some(inner) = behind(text, '\'') {
+        return Some((Form::Literal, inner));
+    }
+    if let Some(inner) = behind(text, '"') {
+        return Some((Form::Escaped, inner));
+    }
+    if let Some(inner) = behind(text, '/') {
+        return Some((Form::Pattern, inner));
+    }
+    None
+}
+
 // A text without a precedence.
 fn text_at(rest: &str) -> Result<LineText<'_>, Stop<'_>>
     ensures text { IfOk result (λ m. (written : Option ℕ)
@@ -195,11 +250,11 @@ fn text_at(rest: &str) -> Result<LineText<'_>, Stop<'_>>
     ensures stops { IfErr result (λ stop. (written : Option ℕ)
         → IsBeforeText written rest.now → StopsText written rest.now stop.rest.now stop.fault) }
 {
-    if let Some(inner) = behind(rest, '\'') {
-        return quoted(Form::Literal, inner);
+    if let Some((form, inner)) = form_at(rest) {
+        return quoted(form, inner);
     }
-    if let Some(inner) = behind(rest, '/') {
-        return quoted(Form::Pattern, inner);
+    if let Some(text) = behind_word(rest, "anycase") {
+        return any_case(text);
     }
     if let Some(text) = behind_word(rest, "from") {
         return from_to(text);
@@ -216,7 +271,8 @@ fn precedence_or(text: &WrittenText<'_>, written: Option<usize>) -> usize
 {
     match (text, written) {
         (_, Some(precedence)) => precedence,
-        (WrittenText::Quoted(Form::Literal, _), None) => 1,
+        (WrittenText::Quoted(Form::Literal | Form::Escaped, _), None) => 1,
+        (WrittenText::AnyCase(_), None) => 1,
         (WrittenText::Quoted(Form::Pattern, _) | WrittenText::FromTo { .. }, None) => 0,
     }
 }

@@ -4,7 +4,8 @@ ghost use Rattle.std.specs.Str.{IsCharBoundary};
 ghost use Rattle.lalrpop_grammar.specs.Pattern.{IsPart};
 ghost use Rattle.lalrpop_lexer.specs.Lines.{lines};
 ghost use Rattle.lalrpop_rule_file.specs.FileModes.{Said as SaidValue};
-ghost use Rattle.lalrpop_rule_file.specs.FileParts.{IsPatternColumn, parts_in};
+ghost use Rattle.lalrpop_rule_file.specs.FileParts.{IsNameColumn, IsPatternColumn, parts_in};
+ghost use Rattle.lalrpop_rule_file.specs.PartLines.{ArePartLines};
 ghost use Rattle.lalrpop_rule_file.specs.RuleFile.{AreFileParts, IsRuleFileError, LinesSay};
 ghost use Rattle.lalrpop_rule_file.specs.Internal.Values.{HasPattern, IsNameIn, part_of, said_of};
 ghost use Rattle.lalrpop_rule_file.specs.Internal.Lines.{IsErrorOfPart, names_in};
@@ -13,7 +14,9 @@ ghost use Rattle.lalrpop_rule_file.specs.declared.written.Said.TheVariants.{Defi
 use crate::content::{FileLine, column_of, read_line, split_line};
 use crate::error::RuleFileError;
 use crate::numbers::number_of;
+use crate::part_line::PartLine;
 use crate::written::{LinePart, Said};
+use lalrpop_lexer::Position;
 use lalrpop_lexer::lexer::re::{Part, RegexError};
 use std::alloc::Global;
 
@@ -71,14 +74,41 @@ fn defined(said: Said<'_>) -> Option<LinePart<'_>>
     }
 }
 
-/// The parts of a file with these lines, in their order.
-pub(crate) fn parts_of_lines(alloc: Global, bytes: &[u8]) -> Result<Vec<Part>, RuleFileError>
+// The part as it is written in the line with this number.
+fn part_line<'text>(number: usize, content: &'text str, part: &LinePart<'text>) -> PartLine<'text>
+    requires name { IsNameIn content.now part.now.name }
+    ensures name { result.name.now ≡ part.now.name.name.now }
+    ensures pattern { result.pattern.now ≡ part.now.pattern.now }
+    ensures in_line { result.place.line ≡ number }
+    ensures column { IsNameColumn content.now part.now.name.name.now result.place.column }
+{
+    PartLine {
+        name: part.name.name,
+        pattern: part.pattern,
+        place: Position {
+            line: number,
+            column: column_of(content, part.name.here),
+        },
+    }
+}
+
+/// The parts of a file, and how they are written, in the order of their lines.
+#[derive(Debug, Drop)]
+pub(crate) struct FileParts<'text> {
+    pub(crate) parts: Vec<Part>,
+    pub(crate) lines: Vec<PartLine<'text>>,
+}
+
+/// The parts of a file with these lines.
+pub(crate) fn parts_of_lines(alloc: Global, bytes: &[u8]) -> Result<FileParts<'_>, RuleFileError>
     requires { (said : List SaidValue) × LinesSay (lines bytes.now) said }
-    ensures parts { IfOk result (λ parts. AreFileParts (lines bytes.now) parts.items) }
+    ensures parts { IfOk result (λ file. AreFileParts (lines bytes.now) file.parts.items) }
+    ensures lines { IfOk result (λ file. ArePartLines (lines bytes.now) file.lines.items) }
     ensures error { IfErr result (λ e. IsRuleFileError bytes.now e) }
 {
     let mut names = Vec::new(alloc);
     let mut parts = Vec::new(alloc);
+    let mut written = Vec::new(alloc);
     let mut number = 0;
     let mut rest = bytes;
     while let Some((line, after)) = split_line(rest) {
@@ -88,8 +118,12 @@ pub(crate) fn parts_of_lines(alloc: Global, bytes: &[u8]) -> Result<Vec<Part>, R
             let made = file_part(alloc, &names, &parts, number, content, &part)?;
             names.push(part.name.name)?;
             parts.push(made)?;
+            written.push(part_line(number, content, &part))?;
         }
         rest = after;
     }
-    Ok(parts)
+    Ok(FileParts {
+        parts,
+        lines: written,
+    })
 }

@@ -13,9 +13,9 @@ use crate::error::RuleFileError;
 use crate::file_rule::FileRule;
 use crate::modes::INITIAL;
 use crate::numbers::{actions_with_numbers, missing_mode, numbers_of, section_numbers};
-use crate::written::{LineRule, Said, WrittenText};
+use crate::written::{Form, LineRule, Said, WrittenText};
+use lalrpop_lexer::Position;
 use lalrpop_lexer::lexer::dfa::Precedence;
-use lalrpop_lexer::{Form, Position};
 use lalrpop_modes::Action;
 use lalrpop_rules::{Rule, RuleText};
 use std::alloc::Global;
@@ -52,7 +52,9 @@ fn rule_text(text: WrittenText<'_>) -> RuleText<'_>
 {
     match text {
         WrittenText::Quoted(Form::Literal, inner) => RuleText::Literal(inner),
+        WrittenText::Quoted(Form::Escaped, inner) => RuleText::Escaped(inner),
         WrittenText::Quoted(Form::Pattern, inner) => RuleText::Pattern(inner),
+        WrittenText::AnyCase(inner) => RuleText::AnyCase(inner),
         WrittenText::FromTo { from, to } => RuleText::FromTo { from, to },
     }
 }

@@ -1,7 +1,5 @@
 //! What stands in a line, as it is written.
 
-use lalrpop_lexer::Form;
-
 /// The word that the name of a mode follows.
 #[derive(Clone, Copy, Debug, PartialEq, Eq)]
 pub(crate) enum Entry {
@@ -39,11 +37,24 @@ pub(crate) struct LineHead<'text> {
     pub actions: Vec<WrittenAction<'text>>,
 }
 
+/// What stands between delimiters.
+#[derive(Clone, Copy, Debug)]
+pub(crate) enum Form {
+    /// `'LITERAL'`
+    Literal,
+    /// `"LITERAL"`, with escapes
+    Escaped,
+    /// `/PATTERN/`
+    Pattern,
+}
+
 /// The text of a rule, without its delimiters.
 #[derive(Clone, Copy, Debug)]
 pub(crate) enum WrittenText<'text> {
-    /// `'LITERAL'` or `/PATTERN/`
+    /// `'LITERAL'`, `"LITERAL"` or `/PATTERN/`
     Quoted(Form, &'text str),
+    /// `anycase 'LITERAL'`
+    AnyCase(&'text str),
     /// `from 'A' to 'B'`
     FromTo { from: &'text str, to: &'text str },
 }

@@ -1,6 +1,6 @@
 //! Tables of rows `argument => answer`, and calls that are made again if they were refused memory.
 
-use crate::{automata, clashes, rules, trees};
+use crate::{automata, clashes, modes, rules, trees};
 use std::alloc::{AllocError, Global};
 use std::process::Abort;
 
@@ -25,6 +25,8 @@ pub(crate) enum Call {
     Pattern,
     Groups,
     Escape,
+    Unescape,
+    AnyCase,
     TreeCopy,
     Compile,
     Run,
@@ -43,6 +45,8 @@ pub(crate) enum Call {
     Rules,
     LinearRules,
     RuleFile,
+    Modes,
+    Warnings,
     Page,
     Terminal,
 }
@@ -56,6 +60,8 @@ fn answer(alloc: Global, call: Call, argument: &str) -> Result<String, AllocErro
         Call::Pattern => trees::pattern(alloc, argument),
         Call::Groups => trees::groups(alloc, argument),
         Call::Escape => trees::escaped(alloc, argument),
+        Call::Unescape => trees::unescaped(alloc, argument),
+        Call::AnyCase => trees::read_any_case(alloc, argument),
         Call::TreeCopy => trees::copied(alloc, argument),
         Call::Compile => automata::compiled(alloc, argument),
         Call::Run => automata::found(alloc, argument, false),
@@ -74,6 +80,8 @@ fn answer(alloc: Global, call: Call, argument: &str) -> Result<String, AllocErro
         Call::Rules => rules::named(alloc, argument),
         Call::LinearRules => rules::named_in_linear_time(alloc, argument),
         Call::RuleFile => rules::in_file(alloc, argument),
+        Call::Modes => modes::pieces(alloc, argument),
+        Call::Warnings => rules::warned(alloc, argument),
         Call::Page => rules::page(alloc, argument),
         Call::Terminal => rules::in_colours(alloc, argument),
     }

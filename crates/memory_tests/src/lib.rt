@@ -12,6 +12,8 @@ mod clashes;
 #[cfg(test)]
 mod kernels;
 #[cfg(test)]
+mod modes;
+#[cfg(test)]
 mod program;
 #[cfg(test)]
 mod rules;

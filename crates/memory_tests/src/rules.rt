@@ -45,12 +45,17 @@ pub(crate) fn first_of_patterns(alloc: Global, row: &str) -> Result<String, Allo
     }
 }
 
-// The rule of `NAME l TEXT`, `NAME r PATTERN`, `NAME u FROM to TO`, or, skipped, `NAME s PATTERN`.
+// The rule of `NAME l TEXT`, `NAME e TEXT` with escapes, `NAME c TEXT` in any case, `NAME r PATTERN`, `NAME u FROM to TO`, or,
+// skipped, `NAME s PATTERN`.
 fn rule_of(row: &str) -> Rule {
     let (name, rest) = halves(row, " ");
     let (letter, text) = halves(rest, " ");
     if letter == "l" {
         Rule::literal(name, text)
+    } else if letter == "e" {
+        Rule::escaped(name, text)
+    } else if letter == "c" {
+        Rule::any_case(name, text)
     } else if letter == "s" {
         Rule::pattern(name, text).skipped()
     } else if letter == "u" {
@@ -157,6 +162,19 @@ pub(crate) fn in_file(alloc: Global, line: &str) -> Result<String, AllocError> {
     }
 }
 
+// The warnings about a file of lines with `;` between them, or what is wrong with it.
+pub(crate) fn warned(alloc: Global, line: &str) -> Result<String, AllocError> {
+    let lines = line.replace(alloc, ';', "\n")?;
+    match read_rules(alloc, lines.as_bytes()) {
+        Ok(file) => {
+            let warnings = file.warnings(alloc)?;
+            format!(in alloc; "{warnings:?}")
+        }
+        Err(RuleFileError::OutOfMemory) => Err(AllocError),
+        Err(error) => format!(in alloc; "{error}"),
+    }
+}
+
 #[test]
 fn patterns_are_made_a_lexer(rt: HostRuntime) {
     let table = "\
@@ -173,8 +191,10 @@ IF l if / NAME r [a-z]+ / SPACE s \\x20+ <- if iffy ! a => IF NAME NAME
 A l (a / B r b) <-  => the text of rule 1 does not parse: UnopenedGroup at byte 1
 NOTE u # to ; / SPACE s \x20+ <- #a #; #; => NOTE NOTE
 NOTE u # to  <-  => the text of rule 0 has no tree: the end is empty
+IF c if / MARK e \\x21? / SPACE s \\x20+ <- iF !? IF => IF MARK IF
+A e a\\q <-  => the text of rule 0 does not parse: EscapeUnrecognized at byte 1
 A r a / B r [ab] <-  => rules 0 and 1 clash on \"a\"";
-    expect(&rt, rt.alloc(), Call::Rules, table, 5);
+    expect(&rt, rt.alloc(), Call::Rules, table, 7);
 }
 
 #[test]
@@ -208,4 +228,13 @@ A = 'x' => A
 SPACE skip = 2 / +/ => SPACE
 A push C pop = 'x';[C D];[*];B mode D = from '/*' to '*/' => A B";
     expect(&rt, rt.alloc(), Call::RuleFile, table, 3);
+}
+
+#[test]
+fn files_of_rules_are_warned_of(rt: HostRuntime) {
+    let table = "\
+# no rule => [NoRules]
+D part = /d/;A = '' => [PartUnused { part: 0 }, LiteralEmpty { rule: 0 }]
+A = 'a';[B];C push B = 'c' => [ModeNotEntered { mode: 1 }]";
+    expect(&rt, rt.alloc(), Call::Warnings, table, 3);
 }

@@ -4,7 +4,7 @@ use crate::calls::{Call, add, at_last, expect, halves, number};
 use lalrpop_hir::{
     Class, ClassBytes, ClassBytesRange, ClassUnicode, ClassUnicodeRange, Hir, HirKind,
 };
-use lalrpop_re::{RegexError, escape, parse_literal, parse_regex};
+use lalrpop_re::{RegexError, escape, parse_any_case, parse_literal, parse_regex, unescape};
 use std::alloc::{AllocError, Global};
 
 // The first and the last character of each run, as `a-z`.
@@ -101,6 +101,32 @@ pub(crate) fn groups(alloc: Global, levels: &str) -> Result<String, AllocError> 
 pub(crate) fn escaped(alloc: Global, text: &str) -> Result<String, AllocError> {
     match escape(alloc, text) {
         Ok(pattern) => Ok(pattern),
+        Err(error) => told(alloc, error),
+    }
+}
+
+pub(crate) fn unescaped(alloc: Global, text: &str) -> Result<String, AllocError> {
+    match unescape(alloc, text) {
+        Ok(said) => Ok(said),
+        Err(error) => told(alloc, error),
+    }
+}
+
+// The leaves of a row, side by side.
+fn row_shown(alloc: Global, tree: &Hir) -> Result<String, AllocError> {
+    let HirKind::Concat(leaves) = tree.kind() else {
+        return String::from_str(alloc, "another kind");
+    };
+    let mut line = String::new(alloc);
+    for one in leaves {
+        add(&mut line, "|", leaf(alloc, one)?.as_str())?;
+    }
+    Ok(line)
+}
+
+pub(crate) fn read_any_case(alloc: Global, text: &str) -> Result<String, AllocError> {
+    match parse_any_case(alloc, text) {
+        Ok(tree) => row_shown(alloc, &tree),
         Err(error) => told(alloc, error),
     }
 }
@@ -238,6 +264,25 @@ fn nested_groups(rt: HostRuntime) {
 #[test]
 fn escapes(rt: HostRuntime) {
     expect(&rt, rt.alloc(), Call::Escape, "a+b#c => a\\+b\\#c", 1);
+}
+
+#[test]
+fn texts_with_escapes(rt: HostRuntime) {
+    let table = "\
+\\x41\\.\\u{e9} => A.é
+a\\d => no pattern";
+    expect(&rt, rt.alloc(), Call::Unescape, table, 2);
+}
+
+#[test]
+fn texts_in_any_case(rt: HostRuntime) {
+    expect(
+        &rt,
+        rt.alloc(),
+        Call::AnyCase,
+        "k+ => K-K k-k \u{212A}-\u{212A}|+",
+        1,
+    );
 }
 
 #[test]

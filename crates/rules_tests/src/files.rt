@@ -42,6 +42,24 @@ LAST FromTo { from: " to", to: " to '" } 0 false [2] [] 8:14
 END FromTo { from: "", to: "é" } 3 false [0, 1] [Mode(1)] 10:28
 "#;
 
+// Names that are words, delimiters inside, and escapes, which stay as they are written.
+const LITERALS: &str = r#"SELECT = anycase 'select'
+FROM=anycase'from'  
+anycase skip = 7 anycase ''' '
+LINE_FEED = "\n"
+STRING = 3 "a"b\" 
+from = "'/"
+"#;
+
+const LITERALS_READ: &str = r#"
+SELECT AnyCase("select") 1 false [0] [] 1:19
+FROM AnyCase("from") 1 false [0] [] 2:14
+anycase AnyCase("'' ") 7 true [0] [] 3:27
+LINE_FEED Escaped("\\n") 1 false [0] [] 4:14
+STRING Escaped("a\"b\\") 3 false [0] [] 5:13
+from Escaped("'/") 1 false [0] [] 6:9
+"#;
+
 const BAD: &str = r#"
 = 'x' => 1 1 NoName
   1a = 'x' => 1 3 NoName
@@ -86,6 +104,21 @@ A part = /x => 1 12 NotClosed
 A part = /é/ y => 1 14 NotClosed
 part = /x/ => none
 part part = /x/ => none
+A = "x => 1 7 NotClosed
+A = "x' => 1 8 NotClosed
+A = "x" # y => 1 9 NotClosed
+A = anycase => 1 12 NoLiteral
+A = anycase "x" => 1 13 NoLiteral
+A = 2 anycase x => 1 15 NoLiteral
+A = anycase x 'x' => 1 13 NoLiteral
+A = anycases 'x' => 1 5 NoText
+A = AnyCase 'x' => 1 5 NoText
+A = anycase 2 'x' => 1 13 NoLiteral
+A = anycase 'x => 1 15 NotClosed
+A = anycase 'x' y => 1 17 NotClosed
+A part = anycase 'x' => 1 10 NoPattern
+A part = "x" => 1 10 NoPattern
+A = from "x" to "y" => 1 10 NoFrom
 A = from => 1 9 NoFrom
 A = from x => 1 10 NoFrom
 A = from1 'x' to 'y' => 1 5 NoText
@@ -142,6 +175,15 @@ fn rules_are_read(rt: HostRuntime) {
     for (bytes, wanted) in rows {
         expect(&rt, read(rt.alloc(), bytes), wanted);
     }
+}
+
+#[test]
+fn literals_are_read(rt: HostRuntime) {
+    expect(
+        &rt,
+        read(rt.alloc(), LITERALS.as_bytes()),
+        LITERALS_READ.trim_start_matches('\n'),
+    );
 }
 
 #[test]
@@ -246,6 +288,21 @@ fn bad_lines_are_named(rt: HostRuntime) {
     expect(&rt, explained(rt.alloc(), b"A 'x'"), EXPLAINED);
 }
 
+const IN_WORDS: &str = r#"
+1 => line 1, column 1: a line is a rule, as NAME = 'TEXT' or NAME = /PATTERN/, a section, as [A], or a comment behind `#`; a name has ASCII letters, digits and `_`, and doesn't begin with a digit
+A = x => line 1, column 5: a text is missing: 'LITERAL', "LITERAL", anycase 'LITERAL', /PATTERN/ or from 'A' to 'B'
+A = anycase x => line 1, column 13: an apostrophe is missing behind `anycase`: write anycase 'TEXT'
+A = /a/i => line 1, column 8: the line must end with the apostrophe, quote or slash of its text: a comment is a line of its own, and flags stand in the pattern, as in /(?i)a/
+"#;
+
+#[test]
+fn faults_are_told_in_words(rt: HostRuntime) {
+    for row in IN_WORDS.trim_matches('\n').lines() {
+        let (line, wanted) = halves(row, " => ");
+        expect(&rt, explained(rt.alloc(), line.as_bytes()), wanted);
+    }
+}
+
 #[test]
 fn bad_parts_are_named(rt: HostRuntime) {
     let rows: [(&[u8], &str); 9] = [
@@ -310,13 +367,10 @@ fn rules_know_the_parts_above_them(rt: HostRuntime) {
 // The slices of the pieces of a text.
 fn slices<'x>(alloc: Global, lexer: &'x ModeLexer, text: &'x str) -> Result<String, AllocError> {
     let mut line = String::new(alloc);
-    let mut items = lexer.items(alloc, text);
-    // A piece has one byte at least.
-    for _ in 0..=text.len() {
-        match items.next_item() {
-            Ok(Some(item)) => line.push_str(&format!(in alloc; "{:?} ", item.slice())?)?,
-            Ok(None) => return Ok(line),
-            Err(_) => return Err(AllocError),
+    for item in lexer.items(alloc, text) {
+        match item {
+            Ok(item) => line.push_str(&format!(in alloc; "{:?} ", item.slice())?)?,
+            Err(error) => return Err(error),
         }
     }
     Ok(line)
@@ -341,23 +395,23 @@ fn pieces(alloc: Global, bytes: &[u8], text: &str) -> Result<String, AllocError>
     }
 }
 
-fn is_refused(alloc: Global, file: &RuleFile) -> Result<bool, AllocError> {
+fn refusal(alloc: Global, file: &RuleFile) -> Result<String, AllocError> {
     let rules = file.mode_rules(alloc)?;
     let modes = file.modes.len();
     if modes == 0 {
         return Err(AllocError);
     }
     match ModeLexer::from_rules(alloc, &rules, modes) {
-        Ok(_) => Ok(false),
+        Ok(_) => String::from_str(alloc, "none"),
         Err(ModesError::OutOfMemory) => Err(AllocError),
-        Err(_) => Ok(true),
+        Err(error) => format!(in alloc; "{error}"),
     }
 }
 
-// Whether the rules of a file give no lexer.
-fn is_refused_by_the_lexer(alloc: Global, bytes: &[u8]) -> Result<String, AllocError> {
+// Why the rules of a file give no lexer.
+fn refused_by_the_lexer(alloc: Global, bytes: &[u8]) -> Result<String, AllocError> {
     match read_rules(alloc, bytes) {
-        Ok(file) => format!(in alloc; "{}", is_refused(alloc, &file)?),
+        Ok(file) => refusal(alloc, &file),
         Err(_) => Err(AllocError),
     }
 }
@@ -384,16 +438,50 @@ SET = /[{D}]/
 fn patterns_have_parts(rt: HostRuntime) {
     let wanted = "\"12.5e+3\" \"zy\" \"{\" \"D\" \"}\" \"xy\" \"7\" ";
     expect(&rt, pieces(rt.alloc(), PARTS, "12.5e+3zy{D}xy7"), wanted);
-    // above its line a part isn't known
+}
+
+// Where no part is known, a name is refused as that of a part too.
+#[test]
+fn rules_are_refused_by_the_lexer(rt: HostRuntime) {
+    let rows: [(&[u8], &str); 6] = [
+        (
+            b"A = /a{P}/\nP part = /p/",
+            "the text of rule 0 does not parse: PartUnknown at byte 1",
+        ),
+        (
+            b"Q part = /q/\nA = /a{P}/",
+            "the text of rule 0 does not parse: PartUnknown at byte 1",
+        ),
+        (b"P part = /p/\nA = /a{P}/", "none"),
+        (
+            b"A = 'a'\nB = \"\xc3\xa9\\q\"",
+            "the text of rule 1 does not parse: EscapeUnrecognized at byte 2",
+        ),
+        (b"A = \"\\x41\"", "none"),
+        (
+            b"A = /a/\nB = anycase 'A'\nC = 1 /(?i)a/",
+            "in mode 0 rules 1 and 2 clash on \"A\"",
+        ),
+    ];
+    for (bytes, wanted) in rows {
+        expect(&rt, refused_by_the_lexer(rt.alloc(), bytes), wanted);
+    }
+}
+
+// Keywords in any case beside names, and literals that are escapes.
+const KEYWORDS: &[u8] = b"SELECT = anycase 'select'
+NAME = /[a-z]+/
+QUOTE = \"\\\"\"
+LINE_FEED = \"\\n\"
+LETTER = \"\\u{5d0}'\"";
+
+#[test]
+fn literals_have_forms(rt: HostRuntime) {
+    let wanted = "\"SeLeCT\" \"\\n\" \"selects\" \"\\\"\" \"\u{5d0}'\" ";
     expect(
         &rt,
-        is_refused_by_the_lexer(rt.alloc(), b"A = /{P}/\nP part = /p/"),
-        "true",
-    );
-    expect(
-        &rt,
-        is_refused_by_the_lexer(rt.alloc(), b"P part = /p/\nA = /{P}/"),
-        "false",
+        pieces(rt.alloc(), KEYWORDS, "SeLeCT\nselects\"\u{5d0}'"),
+        wanted,
     );
 }
 
@@ -401,6 +489,10 @@ fn patterns_have_parts(rt: HostRuntime) {
 fn a_file_makes_a_lexer(rt: HostRuntime) {
     let wanted = "\"if\" \" \" \"a\" \"'\" ";
     expect(&rt, pieces(rt.alloc(), FILE, "if a'"), wanted);
+}
+
+#[test]
+fn a_file_with_modes_makes_a_lexer(rt: HostRuntime) {
     let wanted = "\"a\" \"/*\" \"b\" \"/*\" \"c\" \"*/\" \"d\" \"*/\" \"e\" ";
     expect(&rt, pieces(rt.alloc(), NESTED, "a/*b/*c*/d*/e"), wanted);
 }

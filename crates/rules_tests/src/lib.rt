@@ -12,3 +12,5 @@ mod pages;
 mod pieces;
 #[cfg(test)]
 mod rules;
+#[cfg(test)]
+mod warnings;

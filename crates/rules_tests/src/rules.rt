@@ -136,13 +136,9 @@ fn rules_of_one_name_are_one_kind(rt: HostRuntime) {
     expect(&rt, indices(rt.alloc(), "12 1f\t0x1f if ff"), wanted);
 }
 
-// The pieces of a text that is cut by names and by what is from `/*` to the text.
-fn with_comments(alloc: Global, to: &str, text: &str) -> Result<String, AllocError> {
-    let rules = [
-        Rule::pattern("NAME", "[a-z]+"),
-        Rule::from_to("COMMENT", "/*", to).skipped(),
-    ];
-    let lexer = match RuleLexer::from_rules(alloc, &rules) {
+// The pieces of a text that is cut by the rules, or why they give no lexer.
+fn cut_by(alloc: Global, rules: &[Rule], text: &str) -> Result<String, AllocError> {
+    let lexer = match RuleLexer::from_rules(alloc, rules) {
         Ok(lexer) => lexer,
         Err(error) => return format!(in alloc; "{error}"),
     };
@@ -151,6 +147,41 @@ fn with_comments(alloc: Global, to: &str, text: &str) -> Result<String, AllocErr
         line.push_str(&shown(alloc, &lexer, &item)?)?;
     }
     Ok(line)
+}
+
+// By names and by what is from `/*` to the text.
+fn with_comments(alloc: Global, to: &str, text: &str) -> Result<String, AllocError> {
+    let rules = [
+        Rule::pattern("NAME", "[a-z]+"),
+        Rule::from_to("COMMENT", "/*", to).skipped(),
+    ];
+    cut_by(alloc, &rules, text)
+}
+
+// By names, by a keyword in any case, and by a literal with escapes.
+fn with_literals(alloc: Global, escaped: &str, text: &str) -> Result<String, AllocError> {
+    let rules = [
+        Rule::pattern("NAME", "[a-z]+"),
+        Rule::any_case("KEY", "kσ"),
+        Rule::escaped("MARK", escaped),
+    ];
+    cut_by(alloc, &rules, text)
+}
+
+const LITERALS: &str = r#"
+\x21 => KΣ!kςkσ => KEY "KΣ" 0, MARK "!" 3, KEY "kς" 4, KEY "kσ" 7, 
+\" => keys" => NAME "keys" 0, MARK "\"" 4, 
+\u{e9}. => é.k => MARK "é." 0, NAME "k" 3, 
+é\d => é1 => the text of rule 2 does not parse: EscapeUnrecognized at byte 2
+"#;
+
+#[test]
+fn literals_have_escapes_and_any_case(rt: HostRuntime) {
+    for row in LITERALS.trim_matches('\n').lines() {
+        let (escaped, rest) = halves(row, " => ");
+        let (text, wanted) = halves(rest, " => ");
+        expect(&rt, with_literals(rt.alloc(), escaped, text), wanted);
+    }
 }
 
 const COMMENTS: &str = r#"

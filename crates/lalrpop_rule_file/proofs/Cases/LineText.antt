@@ -1,16 +1,18 @@
 -- Cases of specs/LineText.antt.
 use Rattle.std.proofs.Common.{◌≡◌, ℕ, zero, suc, ◌<◌, true, false, List, [], ◌∷◌, ◌++◌, length, get_or, drop, codes, refl, sym, ap, subst, ◌∙◌, arith, Some, None}
 use Rattle.std.proofs.lemmas.Bool.{false≢true}
-use Rattle.lalrpop_lexer.specs.declared.form.Form.TheVariants.{Literal, Pattern}
 use Rattle.lalrpop_rule_file.specs.Words.{AreBlanks, is_blank}
-use Rattle.lalrpop_rule_file.specs.LineText.{Text, Quoted, FromTo, BeginsText, IsTo, IsUpToTo, NoToBefore, delimiter, precedence_or}
+use Rattle.lalrpop_rule_file.specs.LineText.{Literal, Escaped, Pattern, Text, Quoted, AnyCase, FromTo, BeginsText, IsTo, IsUpToTo, NoToBefore, delimiter, precedence_or}
 use Rattle.lalrpop_rule_file.proofs.FromTos.{IsUpToTo-unique}
 
-delimiters : (delimiter Literal ≡ 39) × (delimiter Pattern ≡ 47)
-delimiters = (refl, refl)
+delimiters : (delimiter Literal ≡ 39) × (delimiter Escaped ≡ 34) × (delimiter Pattern ≡ 47)
+delimiters = (refl, refl, refl)
 
-default_precedences : (text : List ℕ) → (precedence_or (Quoted Literal text) None ≡ 1) × (precedence_or (Quoted Pattern text) None ≡ 0) × (precedence_or (FromTo text text) None ≡ 0)
-default_precedences text = (refl, refl, refl)
+literals_have_precedence_1 : (text : List ℕ) → (precedence_or (Quoted Literal text) None ≡ 1) × (precedence_or (Quoted Escaped text) None ≡ 1) × (precedence_or (AnyCase text) None ≡ 1)
+literals_have_precedence_1 text = (refl, refl, refl)
+
+others_have_precedence_0 : (text : List ℕ) → (precedence_or (Quoted Pattern text) None ≡ 0) × (precedence_or (FromTo text text) None ≡ 0)
+others_have_precedence_0 text = (refl, refl)
 
 precedence_of_its_own : (text : Text) → precedence_or text (Some 12) ≡ 12
 precedence_of_its_own text = refl
@@ -89,6 +91,16 @@ not_at_the_second is =
 
 literal_with_an_apostrophe : BeginsText (Quoted Literal (codes "a'b")) (codes "a'b' \t")
 literal_with_an_apostrophe = (codes " \t", (refl, (refl, (refl, tt))))
+
+-- no escape is looked at here: the last quote ends the text
+quote_behind_a_backslash : BeginsText (Quoted Escaped (codes "a\\")) (codes "a\\\"")
+quote_behind_a_backslash = ([], (refl, tt))
+
+in_any_case : BeginsText (AnyCase (codes "a'b")) (codes "a'b' ")
+in_any_case = (codes " ", (refl, (refl, tt)))
+
+any_case_without_an_apostrophe : ¬ BeginsText (AnyCase (codes "a")) (codes "a\"")
+any_case_without_an_apostrophe (trail, (parts, blanks)) = let k : 34 ≡ 39 = ap (λ (x : List ℕ). get_or x 1 0) parts in omega (arith, k)
 
 start_and_end : BeginsText (FromTo [] (codes "b")) (codes "'  to'b'")
 start_and_end = ([], (empty_start, tt))

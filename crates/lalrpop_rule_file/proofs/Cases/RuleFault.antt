@@ -1,11 +1,11 @@
 -- Cases of specs/RuleFault.antt.
-use Rattle.std.proofs.Common.{◌≡◌, ℕ, Some, None, List, [], ◌∷◌, ◌++◌, codes, get_or, refl, ap, arith, length, length-append, inl, inr}
-use Rattle.lalrpop_lexer.specs.declared.form.Form.TheVariants.{Literal}
+use Rattle.std.proofs.Common.{◌≡◌, ◌≢◌, ℕ, Some, None, List, [], ◌∷◌, ◌++◌, codes, get_or, refl, ap, arith, length, length-append, inl, inr}
 use Rattle.lalrpop_rule_file.specs.Words.{IsSpan, is_blank, is_of_name}
-use Rattle.lalrpop_rule_file.specs.RuleLine.{Push, Head, WrittenPart, WrittenRule, Section, Start, Listing, Headed, Entering, Equals, From, Defines, Defined, Closed}
+use Rattle.lalrpop_rule_file.specs.LineText.{Form, Literal, Escaped, Pattern, delimiter}
+use Rattle.lalrpop_rule_file.specs.RuleLine.{Push, Head, WrittenPart, WrittenRule, Section, Start, Listing, Headed, Entering, Equals, InAnyCase, From, Defines, Defined, Closed}
 use Rattle.lalrpop_rule_file.specs.RuleFault.{StopsBefore, fault_at}
-use Rattle.lalrpop_rule_file.specs.declared.error.LineFault.TheVariants.{NoName, NoMode, NoBracket, BehindSection, PrecedenceTooLarge, NoText, NoPattern, NoFrom, NoTo, NotClosed}
-use Rattle.lalrpop_rule_file.proofs.Stopping.{no_from, no_mode, no_name, no_text, not_quoted, without_to}
+use Rattle.lalrpop_rule_file.specs.declared.error.LineFault.TheVariants.{NoName, NoMode, NoBracket, BehindSection, PrecedenceTooLarge, NoText, NoPattern, NoLiteral, NoFrom, NoTo, NotClosed}
+use Rattle.lalrpop_rule_file.proofs.Stopping.{no_from, no_literal, no_mode, no_name, no_text, not_quoted, open_in_any_case, without_to}
 use Rattle.lalrpop_rule_file.proofs.StoppingLaws.{StopsBefore-unique}
 use Rattle.lalrpop_rule_file.proofs.PartLines.{no_pattern}
 use Rattle.lalrpop_rule_file.proofs.Cases.LineText.{letter_is_no_to}
@@ -54,16 +54,34 @@ blank_is_no_place stops = let k : 2 ≡ 1 = ap length (StopsBefore-unique Start 
 push_without_a_mode : (head : Head) → StopsBefore (Entering head Push) (codes " =") (codes "=") NoMode
 push_without_a_mode head = no_mode Push (codes " =") (codes " ") (codes "=") (record { parts = refl; passes = (refl, tt); stops = refl }) refl head
 
+letter_is_no_delimiter : (form : Form) → 120 ≡ delimiter form → ⊥
+letter_is_no_delimiter Literal e = omega (arith, e)
+letter_is_no_delimiter Escaped e = omega (arith, e)
+letter_is_no_delimiter Pattern e = omega (arith, e)
+
 -- ` x` has no text, and stops at its letter
 letter_is_no_text : (head : Head) → StopsBefore (Equals head None) (codes "x") (codes "x") NoText
-letter_is_no_text head = no_text (codes "x") (λ inner e. absurd (cc)) (λ inner e. absurd (cc)) (λ behind span. no_word behind span) None (refl, refl) head
+letter_is_no_text head = no_text (codes "x") no_delimiter (λ behind span. no_any_case behind span) (λ behind span. no_word behind span) None (refl, refl) head
   where
+    no_delimiter : (form : Form) (inner : List ℕ) → codes "x" ≢ delimiter form ∷ inner
+    no_delimiter form inner e = letter_is_no_delimiter form (ap (λ (x : List ℕ). get_or x 0 0) e)
+
+    no_any_case : (behind : List ℕ) → ¬ IsSpan is_of_name (codes "x") (codes "anycase") behind
+    no_any_case behind span = let k : 120 ≡ 97 = ap (λ (x : List ℕ). get_or x 0 0) span.parts in omega (arith, k)
+
     no_word : (behind : List ℕ) → ¬ IsSpan is_of_name (codes "x") (codes "from") behind
     no_word behind span = let k : 120 ≡ 102 = ap (λ (x : List ℕ). get_or x 0 0) span.parts in omega (arith, k)
 
 -- a part has no literal
 literal_is_no_pattern : (name : List ℕ) → StopsBefore (Defines name) (codes " 'x'") (codes "'x'") NoPattern
 literal_is_no_pattern name = no_pattern name (codes " 'x'") (codes " ") (codes "'x'") (record { parts = refl; passes = (refl, tt); stops = refl }) (λ inner e. absurd (cc))
+
+-- `anycase` has a literal between apostrophes alone
+quote_behind_anycase : (head : Head) → StopsBefore (InAnyCase head None) (codes " \"x\"") (codes "\"x\"") NoLiteral
+quote_behind_anycase head = no_literal (codes " \"x\"") (codes " ") (codes "\"x\"") (record { parts = refl; passes = (refl, tt); stops = refl }) (λ inner e. absurd (cc)) head None
+
+open_literal_in_any_case : (head : Head) → StopsBefore (InAnyCase head None) (codes "'x") [] NotClosed
+open_literal_in_any_case head = open_in_any_case (codes "x") [] (inl ((refl, tt), refl)) head None
 
 letter_behind_from : (head : Head) → StopsBefore (From head None) (codes " x") (codes "x") NoFrom
 letter_behind_from head = no_from (codes " x") (codes " ") (codes "x") (record { parts = refl; passes = (refl, tt); stops = refl }) (λ inner e. absurd (cc)) head None

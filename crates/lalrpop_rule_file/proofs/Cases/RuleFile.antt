@@ -3,7 +3,6 @@ use Rattle.std.proofs.Common.{◌≡◌, ℕ, inl, inr, List, [], ◌∷◌, get
 use Rattle.std.proofs.lemmas.Bool.{false≢true}
 use Rattle.std.specs.Str.{IsUtf8, chars}
 use lib.Utf8.{encode}
-use Rattle.lalrpop_lexer.specs.declared.form.Form.TheVariants.{Literal, Pattern}
 use Rattle.lalrpop_lexer.specs.declared.position.Position.{Position}
 use Rattle.lalrpop_modes.specs.declared.action.Action.{Action}
 use Rattle.lalrpop_modes.specs.declared.action.Action.TheVariants as action
@@ -11,7 +10,7 @@ use Rattle.lalrpop_modes.specs.Modes.{OneLeadsInto}
 use Rattle.lalrpop_grammar.specs.NamedPart.{NamedPart}
 use Rattle.lalrpop_rules.specs.declared.rule_text.RuleText.TheVariants as texts
 use Rattle.lalrpop_rule_file.specs.Words.{IsSpan, is_blank, is_of_name}
-use Rattle.lalrpop_rule_file.specs.LineText.{Quoted, FromTo}
+use Rattle.lalrpop_rule_file.specs.LineText.{Literal, Escaped, Pattern, Quoted, AnyCase, FromTo}
 use Rattle.lalrpop_rule_file.specs.RuleLine.{Entry, Mode, Push, word_of, WrittenRule, bare, These, Start, a_bracket, a_blank, a_mode, a_name, an_end, an_entry, lexeme_then, nothing}
 use Rattle.lalrpop_rule_file.specs.RuleFault.{StopsBefore}
 use Rattle.lalrpop_rule_file.specs.FileModes.{Said, Nothing, Heading, Define, Rule, AreModes, initial, modes_of}
@@ -121,6 +120,13 @@ rule_left_out modes w are = are
 literal_of_a_rule : (text : Bor (List ℕ)) → IsText (texts.Literal text) (Quoted Literal text.now)
 literal_of_a_rule text = refl
 
+-- a literal with escapes stays as it is written, and is no plain one
+escapes_of_a_rule : (text : Bor (List ℕ)) → IsText (texts.Escaped text) (Quoted Escaped text.now) × ¬ IsText (texts.Literal text) (Quoted Escaped text.now)
+escapes_of_a_rule text = (refl, λ e. absurd (cc))
+
+any_case_of_a_rule : (text : Bor (List ℕ)) → IsText (texts.AnyCase text) (AnyCase text.now) × ¬ IsText (texts.Literal text) (AnyCase text.now)
+any_case_of_a_rule text = (refl, λ e. absurd (cc))
+
 start_and_end_of_a_rule : (start end : Bor (List ℕ)) → IsText (texts.FromTo start end) (FromTo start.now end.now)
 start_and_end_of_a_rule start end = refl
 
@@ -128,9 +134,9 @@ start_and_end_of_a_rule start end = refl
 no_parts_in_a_rule : (text : Bor (List ℕ)) (parts : Bor (List NamedPart)) → ¬ IsText (texts.PatternWith text parts) (Quoted Pattern text.now)
 no_parts_in_a_rule text parts is = is
 
--- where there are no parts, a pattern stays as it is
-no_parts_for_a_pattern : (text : Bor (List ℕ)) → HasParts [] (texts.Pattern text) (texts.Pattern text)
-no_parts_for_a_pattern text = refl
+-- where there are no parts, a pattern has none, but is one with parts
+no_parts_for_a_pattern : (text : Bor (List ℕ)) (parts : Bor (List NamedPart)) → parts.now ≡ [] → HasParts [] (texts.Pattern text) (texts.PatternWith text parts) × ¬ HasParts [] (texts.Pattern text) (texts.Pattern text)
+no_parts_for_a_pattern text parts none = ((refl, none), λ has. has)
 
 -- a pattern with parts has all of these
 other_parts_for_a_pattern : (p q : NamedPart) (text : Bor (List ℕ)) (parts : Bor (List NamedPart)) → parts.now ≡ p ∷ [] → ¬ HasParts (p ∷ q ∷ []) (texts.Pattern text) (texts.PatternWith text parts)

@@ -3,10 +3,9 @@ use Rattle.std.proofs.Common.{true, ◌≡◌, ℕ, List, [], ◌∷◌, length,
 use Rattle.std.specs.Char.{is_ascii_digit}
 use Rattle.std.proofs.lemmas.Bool.{false≢true}
 use Rattle.lalrpop_lexer.specs.Line.{IsPrecedence}
-use Rattle.lalrpop_lexer.specs.declared.form.Form.TheVariants.{Literal, Pattern}
 use Rattle.lalrpop_rule_file.specs.Words.{IsSpan, begins, is_of_name}
-use Rattle.lalrpop_rule_file.specs.LineText.{Quoted, FromTo}
-use Rattle.lalrpop_rule_file.specs.RuleLine.{Mode, Push, word_of, Enters, Pops, Head, WrittenRule, acting, bare, marked, part_of, rule_of, These, Every, Part, Start, Listing, Named, Entering, Equals, From, Defines, Defined, Open, Closed, Lexeme, a_blank, a_bracket, a_mode, a_star, an_end, a_star_end, a_name, a_skip, a_pop, an_entry, its_mode, an_equals, a_part, its_equals, its_pattern, an_open_pattern, a_precedence, a_text, an_open_text, a_from, from_to, nothing, lexeme_then, IsPartLine, IsRule, IsSection}
+use Rattle.lalrpop_rule_file.specs.LineText.{Literal, Escaped, Pattern, Quoted, AnyCase, FromTo}
+use Rattle.lalrpop_rule_file.specs.RuleLine.{Mode, Push, word_of, Enters, Pops, Head, WrittenRule, acting, bare, marked, part_of, rule_of, These, Every, Part, Start, Listing, Named, Entering, Equals, InAnyCase, From, Defines, Defined, Open, Closed, Lexeme, a_blank, a_bracket, a_mode, a_star, an_end, a_star_end, a_name, a_skip, a_pop, an_entry, its_mode, an_equals, a_part, its_equals, its_pattern, an_open_pattern, a_precedence, a_text, an_open_text, an_any_case, its_literal, an_open_literal, a_from, from_to, nothing, lexeme_then, IsPartLine, IsRule, IsSection}
 use Rattle.lalrpop_rule_file.proofs.Cases.LineText.{start_of_one_letter}
 use Rattle.lalrpop_rule_file.proofs.Lexemes.{Lexeme-unique, Reads-unique, end_is_stuck}
 
@@ -127,6 +126,22 @@ pattern_with_a_precedence head = a_text Pattern (refl, tt)
 
 one_delimiter_alone : (head : Head) (written : Option ℕ) → Lexeme (Equals head written) (codes "'a") Open []
 one_delimiter_alone head written = an_open_text Literal (refl, tt)
+
+-- a quote behind a backslash ends a text too
+quote_behind_a_backslash : (head : Head) → Lexeme (Equals head None) (codes "\"a\\\"") (Closed (rule_of head None (Quoted Escaped (codes "a\\")))) []
+quote_behind_a_backslash head = a_text Escaped tt
+
+word_anycase : (head : Head) → Lexeme (Equals head None) (codes "anycase 'a'") (InAnyCase head None) (codes " 'a'")
+word_anycase head = an_any_case (record { parts = refl; passes = (refl, (refl, (refl, (refl, (refl, (refl, (refl, tt))))))); stops = refl })
+
+quote_in_any_case : (head : Head) → Lexeme (InAnyCase head None) (codes "'a'b' ") (Closed (rule_of head None (AnyCase (codes "a'b")))) (codes " ")
+quote_in_any_case head = its_literal {inner = codes "a'b"} (refl, tt)
+
+any_case_ends_at_the_last : (head : Head) → ¬ Lexeme (InAnyCase head None) (codes "'a'b' ") (Closed (rule_of head None (AnyCase (codes "a")))) (codes "b' ")
+any_case_ends_at_the_last head s = let k : 3 ≡ 1 = ap length (Lexeme-unique s (quote_in_any_case head)).1 in omega (arith, k)
+
+one_apostrophe_alone : (head : Head) → Lexeme (InAnyCase head None) (codes "'a") Open []
+one_apostrophe_alone head = an_open_literal (refl, tt)
 
 word_from : (head : Head) → Lexeme (Equals head None) (codes "from'a") (From head None) (codes "'a")
 word_from head = a_from (record { parts = refl; passes = (refl, (refl, (refl, (refl, tt)))); stops = refl })

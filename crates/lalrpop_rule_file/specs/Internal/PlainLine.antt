@@ -1,12 +1,10 @@
--- The lines of a file of rules without sections, actions and `from`: `NAME [skip] = [PRECEDENCE] 'LITERAL'` or
--- `NAME [skip] = [PRECEDENCE] /PATTERN/`, read from left to right.
+-- The lines of a file of rules without sections, actions, `anycase` and `from`: `NAME [skip] = [PRECEDENCE] TEXT`, where the text is
+-- `'LITERAL'`, `"LITERAL"` or `/PATTERN/`, read from left to right.
 use Rattle.std.specs.Prelude.{◌≡◌, ℕ, Bool, true, false, Option, Some, None, List, [], ◌∷◌, ◌++◌, codes}
 use Rattle.std.specs.Char.{is_ascii_digit}
 use Rattle.lalrpop_lexer.specs.Line.{IsPrecedence}
-use Rattle.lalrpop_lexer.specs.declared.form.Form.{Form}
-use Rattle.lalrpop_lexer.specs.declared.form.Form.TheVariants.{Literal, Pattern}
 use Rattle.lalrpop_rule_file.specs.Words.{IsSpan, Lacks, begins, begins_name, is_blank, is_of_name}
-use Rattle.lalrpop_rule_file.specs.LineText.{Quoted, delimiter}
+use Rattle.lalrpop_rule_file.specs.LineText.{Form, Literal, Escaped, Pattern, Quoted, delimiter}
 use Rattle.lalrpop_rule_file.specs.RuleLine.{Head, WrittenRule}
 
 -- how far a line is read, and what it has said
@@ -16,10 +14,11 @@ pub data PlainPart : Type 0 where
   PlainEquals : (name : List ℕ) (skipped : Bool) (written : Option ℕ) → PlainPart
   PlainClosed : (name : List ℕ) (skipped : Bool) (precedence : ℕ) (form : Form) (text : List ℕ) → PlainPart
 
--- the precedence is the one that is written, or else 1 for a literal and 0 for a pattern
+-- the precedence is the one that is written, or else 1 for literals and 0 for a pattern
 abbrev pub plain_precedence : Form → Option ℕ → ℕ
 plain_precedence form (Some n) = n
 plain_precedence Literal None = 1
+plain_precedence Escaped None = 1
 plain_precedence Pattern None = 0
 
 pub data PlainLexeme : PlainPart → List ℕ → PlainPart → List ℕ → Type 0 where

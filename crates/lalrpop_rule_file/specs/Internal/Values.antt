@@ -1,6 +1,5 @@
 -- What the values of the code say.
 use Rattle.std.specs.Prelude.{◌≡◌, ℕ, Bool, true, Some, List, map, take, slice_get, ◌++◌}
-use Rattle.lalrpop_lexer.specs.declared.form.Form.TheVariants.{Pattern}
 use Rattle.lalrpop_rule_file.specs.Words.{IsSpan, begins, begins_name, is_blank, is_of_name}
 use Rattle.lalrpop_rule_file.specs.LineText as text
 use Rattle.lalrpop_rule_file.specs.LineText.{BeginsText}
@@ -11,12 +10,14 @@ use Rattle.lalrpop_rule_file.specs.declared.written.Entry.{Entry}
 use Rattle.lalrpop_rule_file.specs.declared.written.Entry.TheVariants.{Mode, Push}
 use Rattle.lalrpop_rule_file.specs.declared.written.WrittenAction.{WrittenAction}
 use Rattle.lalrpop_rule_file.specs.declared.written.WrittenAction.TheVariants.{Enter, Pop}
+use Rattle.lalrpop_rule_file.specs.declared.written.Form.{Form}
+use Rattle.lalrpop_rule_file.specs.declared.written.Form.TheVariants.{Literal, Escaped, Pattern}
 use Rattle.lalrpop_rule_file.specs.declared.written.LineHead.{LineHead}
 use Rattle.lalrpop_rule_file.specs.declared.written.LineName.{LineName}
 use Rattle.lalrpop_rule_file.specs.declared.written.LinePart.{LinePart}
 use Rattle.lalrpop_rule_file.specs.declared.written.LineRule.{LineRule}
 use Rattle.lalrpop_rule_file.specs.declared.written.WrittenText.{WrittenText}
-use Rattle.lalrpop_rule_file.specs.declared.written.WrittenText.TheVariants.{Quoted, FromTo}
+use Rattle.lalrpop_rule_file.specs.declared.written.WrittenText.TheVariants.{Quoted, AnyCase, FromTo}
 use Rattle.lalrpop_rule_file.specs.declared.written.Section.{Section}
 use Rattle.lalrpop_rule_file.specs.declared.written.Section.TheVariants.{These, Every}
 use Rattle.lalrpop_rule_file.specs.declared.written.Said.{Said}
@@ -37,8 +38,14 @@ head_with name skipped actions = record { name = name; skipped = skipped; action
 abbrev pub head_of : LineHead → Head
 head_of h = head_with h.name.now h.is_skipped h.actions.items
 
+abbrev pub form_of : Form → text.Form
+form_of Literal = text.Literal
+form_of Escaped = text.Escaped
+form_of Pattern = text.Pattern
+
 abbrev pub text_of : WrittenText → text.Text
-text_of (Quoted form inner) = text.Quoted form inner.now
+text_of (Quoted form inner) = text.Quoted (form_of form) inner.now
+text_of (AnyCase inner) = text.AnyCase inner.now
 text_of (FromTo a b) = text.FromTo a.now b.now
 
 abbrev pub part_of : LinePart → WrittenPart
@@ -81,7 +88,7 @@ IsNameIn line n = (lead : List ℕ) × ((behind : List ℕ) × (IsSpan is_blank 
 
 -- it ends with the pattern, from behind its first slash on
 abbrev pub HasPattern : List ℕ → LinePart → Type 0
-HasPattern line p = (front : List ℕ) × ((line ≡ front ++ p.here.now) × BeginsText (text.Quoted Pattern p.pattern.now) p.here.now)
+HasPattern line p = (front : List ℕ) × ((line ≡ front ++ p.here.now) × BeginsText (text.Quoted text.Pattern p.pattern.now) p.here.now)
 
 abbrev pub KeepsPlaces : List ℕ → Said → Type 0
 KeepsPlaces line (Rule rule) = ArePlacedIn line rule × HasText line rule

@@ -1,0 +1,84 @@
+-- cases: proofs/Cases/Warnings.antt
+-- What a file of rules may say, but surely doesn't mean.
+use Rattle.std.specs.Prelude.{◌≡◌, ℕ, ◌<◌, ◌⊎◌, List, [], ◌++◌, Some, codes, length, map, slice_get}
+use Rattle.std.specs.Str.Iter.{HasSubslice}
+use Rattle.lalrpop_rules.specs.declared.rule_text.RuleText.{RuleText}
+use Rattle.lalrpop_rules.specs.declared.rule_text.RuleText.TheVariants.{Literal, Escaped, AnyCase, Pattern, PatternWith}
+use Rattle.lalrpop_modes.specs.EnteredModes.{IsEntered}
+use Rattle.lalrpop_rule_file.specs.declared.file_rule.FileRule.{FileRule}
+use Rattle.lalrpop_rule_file.specs.declared.part_line.PartLine.{PartLine}
+use Rattle.lalrpop_rule_file.specs.declared.file.RuleFile.{RuleFile}
+use Rattle.lalrpop_rule_file.specs.declared.warning.Warning.{Warning}
+use Rattle.lalrpop_rule_file.specs.declared.warning.Warning.TheVariants.{NoRules, PartUnused, ModeNotEntered, LiteralEmpty}
+
+-- ---- parts
+
+-- a pattern says so where it means the part with this name
+abbrev pub reference : List ℕ → List ℕ
+reference name = codes "{" ++ (name ++ codes "}")
+
+-- these bytes stand in the pattern of the text
+abbrev pub StandsIn : List ℕ → RuleText → Type 0
+StandsIn bytes (Pattern inner) = HasSubslice inner.now bytes
+StandsIn bytes (PatternWith inner parts) = HasSubslice inner.now bytes
+StandsIn bytes text = ⊥
+
+-- they stand in the pattern of a part behind the one with this index
+abbrev pub StandsInPart : List ℕ → ℕ → List PartLine → Type 0
+StandsInPart bytes i ps = (j : ℕ) × ((p : PartLine) × ((i < j) × (slice_get ps j ≡ Some p) × HasSubslice p.pattern.now bytes))
+
+-- they stand in the pattern of a rule that knows the part with this index
+abbrev pub StandsInRule : List ℕ → ℕ → List FileRule → Type 0
+StandsInRule bytes i rs = (j : ℕ) × ((r : FileRule) × ((i < r.known) × (slice_get rs j ≡ Some r) × StandsIn bytes r.rule.text))
+
+-- the part with this index is there, and nothing that may have it says so
+abbrev pub IsUnused : RuleFile → ℕ → Type 0
+IsUnused file i =
+    (p : PartLine) × ((slice_get file.part_lines.items i ≡ Some p)
+    × (¬ StandsInPart (reference p.name.now) i file.part_lines.items) × ¬ StandsInRule (reference p.name.now) i file.rules.items)
+
+-- ---- modes and literals
+
+-- the mode with this number can be entered
+abbrev pub IsEnteredMode : RuleFile → ℕ → Type 0
+IsEnteredMode file m = IsEntered (map (λ r. r.modes.items) file.rules.items) (map (λ r. r.actions.items) file.rules.items) (length file.modes.items) m
+
+-- a literal without characters: as it is, with escapes or in any case
+abbrev pub IsEmptyLiteral : RuleText → Type 0
+IsEmptyLiteral (Literal inner) = inner.now ≡ []
+IsEmptyLiteral (Escaped inner) = inner.now ≡ []
+IsEmptyLiteral (AnyCase inner) = inner.now ≡ []
+IsEmptyLiteral text = ⊥
+
+-- the rule with this index has such a text
+abbrev pub HasEmptyLiteral : RuleFile → ℕ → Type 0
+HasEmptyLiteral file i = (r : FileRule) × ((slice_get file.rules.items i ≡ Some r) × IsEmptyLiteral r.rule.text)
+
+-- ---- warnings
+
+-- what the warning says is so
+abbrev pub IsWarning : RuleFile → Warning → Type 0
+IsWarning file NoRules = file.rules.items ≡ []
+IsWarning file (PartUnused i) = IsUnused file i
+IsWarning file (ModeNotEntered m) = (m < length file.modes.items) × ¬ IsEnteredMode file m
+IsWarning file (LiteralEmpty i) = HasEmptyLiteral file i
+
+-- the order of warnings: by their kinds, and then by their numbers
+abbrev pub kind_of : Warning → ℕ
+kind_of NoRules = 0
+kind_of (PartUnused i) = 1
+kind_of (ModeNotEntered m) = 2
+kind_of (LiteralEmpty i) = 3
+
+abbrev pub number_of : Warning → ℕ
+number_of NoRules = 0
+number_of (PartUnused i) = i
+number_of (ModeNotEntered m) = m
+number_of (LiteralEmpty i) = i
+
+abbrev pub ComesBefore : Warning → Warning → Type 0
+ComesBefore v w = (kind_of v < kind_of w) ⊎ ((kind_of v ≡ kind_of w) × (number_of v < number_of w))
+
+-- each comes before those behind it: so no two are alike
+abbrev pub AreInOrder : List Warning → Type 0
+AreInOrder ws = (i j : ℕ) (v w : Warning) → i < j → slice_get ws i ≡ Some v → slice_get ws j ≡ Some w → ComesBefore v w

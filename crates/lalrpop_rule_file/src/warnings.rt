@@ -1,0 +1,121 @@
+//! The warnings about a file.
+ghost use Rattle.std.specs.Prelude.{◌↔◌, ◌<◌, length, Contains, IfOk, IsTrue, OnOk};
+ghost use Rattle.lalrpop_rule_file.specs.Warnings.{AreInOrder, IsEmptyLiteral, IsUnused, IsWarning};
+ghost use Rattle.lalrpop_rule_file.specs.Internal.Found.{HasFound};
+ghost use Rattle.lalrpop_rule_file.specs.declared.warning.Warning.{Warning as WarningValue};
+
+use crate::file::RuleFile;
+use crate::used_parts::{reference, stands_in_part, stands_in_rule};
+use crate::warning::Warning;
+use lalrpop_modes::entered_modes;
+use lalrpop_rules::RuleText;
+use std::alloc::{AllocError, Global};
+
+// Whether the text is a literal without characters, of whichever kind.
+fn is_empty_literal(text: &RuleText<'_>) -> bool
+    ensures { IsTrue result ↔ IsEmptyLiteral text.now }
+{
+    match text {
+        RuleText::Literal(text) | RuleText::Escaped(text) | RuleText::AnyCase(text) => {
+            text.is_empty()
+        }
+        RuleText::Pattern(_) | RuleText::PatternWith { .. } | RuleText::FromTo { .. } => false,
+    }
+}
+
+impl<'text> RuleFile<'text> {
+    // Adds `NoRules`, if that is so.
+    fn add_no_rules(&self, found: &mut Vec<Warning>) -> Result<(), AllocError>
+        ensures { OnOk result (HasFound self.now 0 0 found.old.items
+            → HasFound self.now 1 0 found.new.items) }
+    {
+        if self.rules.is_empty() {
+            found.push(Warning::NoRules)?;
+        }
+        Ok(())
+    }
+
+    // Whether the part with this index isn't used.
+    fn is_unused(&self, alloc: Global, part: usize) -> Result<bool, AllocError>
+        requires within { part < length self.now.part_lines.items }
+        ensures { IfOk result (λ unused. IsTrue unused ↔ IsUnused self.now part) }
+    {
+        let reference = reference(alloc, self.part_lines[part].name)?;
+        if stands_in_part(&self.part_lines, part, &reference) {
+            return Ok(false);
+        }
+        Ok(!stands_in_rule(&self.rules, part, &reference))
+    }
+
+    // Adds the parts that aren't used.
+    fn add_unused_parts(&self, alloc: Global, found: &mut Vec<Warning>) -> Result<(), AllocError>
+        ensures { OnOk result (HasFound self.now 1 0 found.old.items
+            → HasFound self.now 2 0 found.new.items) }
+    {
+        for part in 0..self.part_lines.len() {
+            let unused = self.is_unused(alloc, part)?;
+            if unused {
+                found.push(Warning::PartUnused { part })?;
+            }
+        }
+        Ok(())
+    }
+
+    // Adds the modes that can't be entered.
+    fn add_modes_not_entered(
+        &self,
+        alloc: Global,
+        found: &mut Vec<Warning>,
+    ) -> Result<(), AllocError>
+        ensures { OnOk result (HasFound self.now 2 0 found.old.items
+            → HasFound self.now 3 0 found.new.items) }
+    {
+        let rules = self.mode_rules(alloc)?;
+        let entered = entered_modes(alloc, &rules, self.modes.len())?;
+        for mode in 0..entered.len() {
+            if !entered[mode] {
+                found.push(Warning::ModeNotEntered { mode })?;
+            }
+        }
+        Ok(())
+    }
+
+    // Adds the literals without characters.
+    fn add_empty_literals(&self, found: &mut Vec<Warning>) -> Result<(), AllocError>
+        ensures { OnOk result (HasFound self.now 3 0 found.old.items
+            → HasFound self.now 4 0 found.new.items) }
+    {
+        for rule in 0..self.rules.len() {
+            if is_empty_literal(&self.rules[rule].rule.text) {
+                found.push(Warning::LiteralEmpty { rule })?;
+            }
+        }
+        Ok(())
+    }
+
+    /// What the file says, but surely doesn't mean: all warnings, each once, in the order of the kinds as `Warning` has them; those of
+    /// one kind are in ascending order.
+    ///
+    /// ```
+    /// use lalrpop_rule_file::{Warning, read_rules};
+    ///
+    /// let file = read_rules(alloc, b"A = 'a'\n[TEXT]\nB push TEXT = 'b'\n")?;
+    /// let warnings = file.warnings(alloc)?; // [Warning::ModeNotEntered { mode: 1 }]
+    /// ```
+    ///
+    /// # Errors
+    ///
+    /// `AllocError` if a request for memory was refused.
+    pub fn warnings(&self, alloc: Global) -> Result<Vec<Warning>, AllocError>
+        ensures all { IfOk result (λ found. (w : WarningValue)
+            → Contains found.items w ↔ IsWarning self.now w) }
+        ensures in_order { IfOk result (λ found. AreInOrder found.items) }
+    {
+        let mut found = Vec::new(alloc);
+        self.add_no_rules(&mut found)?;
+        self.add_unused_parts(alloc, &mut found)?;
+        self.add_modes_not_entered(alloc, &mut found)?;
+        self.add_empty_literals(&mut found)?;
+        Ok(found)
+    }
+}
