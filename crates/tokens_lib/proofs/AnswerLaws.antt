@@ -1,13 +1,15 @@
 -- One answer after another.
 use Rattle.std.proofs.Common.{◌≡◌, ◌≢◌, ℕ, ◌+◌, ◌<◌, get_or, Bool, true, false, inl, inr, List, [], ◌∷◌, ◌++◌, length, take, map, refl, sym, ap, subst, ◌∙◌, append_assoc, arith, length-append}
-use Rattle.std.specs.Prelude.{max, Option, Result, Ok, Err, IfOk, IfErr, OnOk, OnErr}
+use Rattle.std.specs.Prelude.{max, codes, if◌then◌else◌, Option, Result, Ok, Err, IfOk, IfErr, OnOk, OnErr}
 use Rattle.std.specs.Io.KnownBytes.{Appends}
-use Rattle.std.proofs.lemmas.List.{append-nil, take-append-le, take_more, map-append}
+use Rattle.std.proofs.lemmas.List.{append-nil, take-append-le, take_more, map-append, length-map, length-take-le}
 use Rattle.std.proofs.lemmas.Result.{IfOk-weaker}
 use Rattle.lexdfa_lib.proofs.Known.{Appends-again}
 use Rattle.lexdfa_lib.specs.Watch.{Watch, AppendsPrefix}
 use Rattle.lexdfa_lib.specs.declared.error.RunError.{RunError}
-use Rattle.tokens_lib.specs.Answer.{Answer, silence, followed, refusal, about, Reads, TextOf, FilesAnswer, TextsAnswer, Answered, Refused}
+use Rattle.tokens_lib.specs.Answer.{Answer, silence, followed, refusal, remark, about, Reads, TextOf, is_input, FileGives, FileAnswer, NumberedAnswer, FilesAnswer, cut_files, TextsAnswer, Answered, Refused}
+use Rattle.tokens_lib.specs.Progress.{total_said}
+use Rattle.tokens_lib.specs.declared.command.Verbosity.{Verbosity}
 use Rattle.tokens_lib.specs.Streams.{Given, TakesBy, Takes}
 use Rattle.lines_lib.proofs.Sending.{Appends-none, AppendsPrefix-behind}
 
@@ -28,19 +30,61 @@ silence-followed : (a : Answer) → followed silence a ≡ followed a silence
 silence-followed a =
     same_answer (followed silence a) (followed a silence) (omega arith) (sym (append-nil a.out)) (sym (append-nil a.err))
 
--- the answer for one more file
-pub FilesAnswer-more : (Gives : List ℕ → Given → Type 0) (IsFor : List ℕ → List ℕ → Answer → Type 0) (files : List (List ℕ)) (file : List ℕ) (before own : Answer)
-    → FilesAnswer Gives IsFor files before → Reads Gives (TextOf IsFor) file own → FilesAnswer Gives IsFor (files ++ file ∷ []) (followed before own)
-FilesAnswer-more Gives IsFor [] file before own is reads =
-    (own, (silence, (reads, (refl, ap (λ (a : Answer). followed a own) is ∙ silence-followed own))))
-FilesAnswer-more Gives IsFor (first ∷ files) file before own (a, (b, (reads_first, (rest, e)))) reads =
-    (a, (followed b own, (reads_first, (FilesAnswer-more Gives IsFor files file b own rest reads, ap (λ (x : Answer). followed x own) e ∙ followed-assoc a b own))))
+-- the answer for one more file, which has the next number
+pub FilesAnswer-more : {I : Type 0} (Own : ℕ → I → I → List ℕ → Answer → Type 0) (n m : ℕ) (i j k : I) (files : List (List ℕ)) (file : List ℕ) (before own : Answer) → m ≡ n + length files
+    → FilesAnswer Own n i j files before → Own m j k file own → FilesAnswer Own n i k (files ++ file ∷ []) (followed before own)
+FilesAnswer-more {I} Own n m i j k [] file before own next (same, is) one =
+    let here : m ≡ n = omega (arith, next) in
+    let first : Own n i k file own = subst (λ (x : I). Own n x k file own) (sym same) (subst (λ (x : ℕ). Own x j k file own) here one) in
+    (k, (own, (silence, (first, ((refl, refl), ap (λ (a : Answer). followed a own) is ∙ silence-followed own)))))
+FilesAnswer-more Own n m i j k (first ∷ files) file before own next (h, (a, (b, (own_first, (rest, e))))) one =
+    let here : m ≡ n + 1 + length files = omega (arith, next) in
+    (h, (a, (followed b own, (own_first, (FilesAnswer-more Own (n + 1) m h j k files file b own here rest one, ap (λ (x : Answer). followed x own) e ∙ followed-assoc a b own)))))
 
--- there are files
-pub TextsAnswer-files : (Gives : List ℕ → Given → Type 0) (InputGives : Given → Type 0) (IsFor : List ℕ → List ℕ → Answer → Type 0) (files : List (List ℕ)) (answer : Answer)
-    → files ≢ [] → FilesAnswer Gives IsFor files answer → TextsAnswer Gives InputGives IsFor files answer
-TextsAnswer-files Gives InputGives IsFor [] answer some is = absurd (some refl)
-TextsAnswer-files Gives InputGives IsFor (file ∷ files) answer some is = is
+-- ---- a FILE
+
+-- it is standard input
+pub from_input : {I : Type 0} (Gives : List ℕ → Given → Type 0) (InputGives : I → I → Given → Type 0) (IsFor : List ℕ → List ℕ → Answer → Type 0) (i j : I) (file : List ℕ) (answer : Answer)
+    → is_input file ≡ true → Reads (λ name. InputGives i j) (TextOf IsFor) (codes "<stdin>") answer → FileAnswer Gives InputGives IsFor i j file answer
+from_input Gives InputGives IsFor i j file answer is reads =
+    subst (λ (b : Bool). Reads (λ name. FileGives Gives InputGives i j b file) (TextOf IsFor) (if b then codes "<stdin>" else file) answer) (sym is) reads
+
+-- it is read by its name
+pub from_file : {I : Type 0} (Gives : List ℕ → Given → Type 0) (InputGives : I → I → Given → Type 0) (IsFor : List ℕ → List ℕ → Answer → Type 0) (i : I) (file : List ℕ) (answer : Answer)
+    → is_input file ≡ false → Reads Gives (TextOf IsFor) file answer → FileAnswer Gives InputGives IsFor i i file answer
+from_file Gives InputGives IsFor i file answer is reads =
+    subst (λ (b : Bool). Reads (λ name. FileGives Gives InputGives i i b file) (TextOf IsFor) (if b then codes "<stdin>" else file) answer) (sym is) (by reads)
+  where
+    by : Reads Gives (TextOf IsFor) file answer → Reads (λ name. FileGives Gives InputGives i i false file) (TextOf IsFor) file answer
+    by (inl (reason, (gives, e))) = inl (reason, ((refl, gives), e))
+    by (inr (bytes, (gives, is_for))) = inr (bytes, ((refl, gives), is_for))
+
+-- ---- the named FILEs
+
+pub cut_named : (files : List (List ℕ)) → length files ≢ 0 → cut_files files ≡ files
+cut_named [] some = absurd (some refl)
+cut_named (file ∷ files) some = refl
+
+pub cut_unnamed : (files : List (List ℕ)) → length files ≡ 0 → cut_files files ≡ codes "-" ∷ []
+cut_unnamed [] none = refl
+cut_unnamed (file ∷ files) none = absurd (omega (arith, none))
+
+pub texts_answered : {I W E : Type 0} (r : Result ℕ RunError) (Gives : List ℕ → Given → Type 0) (InputGives : I → I → Given → Type 0) (IsFor : List ℕ → List ℕ → Answer → Type 0) (i k : I)
+    (verbosity : Verbosity) (total : Option ℕ) (cut files : List (List ℕ)) (written : W → Option (List ℕ)) (said : E → Option (List ℕ)) (o p : Watch W) (e f : Watch E)
+    → total ≡ total_said verbosity (length files) → cut ≡ cut_files files
+    → IfOk r (λ status. (answer : Answer) × (FilesAnswer (NumberedAnswer Gives InputGives IsFor total) 1 i k cut answer × Answered written said o p e f status answer))
+    → IfOk r (λ status. (answer : Answer) × (TextsAnswer Gives InputGives i k verbosity IsFor files answer × Answered written said o p e f status answer))
+texts_answered r Gives InputGives IsFor i k verbosity total cut files written said o p e f total_is cut_is h =
+    IfOk-weaker r _ _
+    (λ status x. (
+      x.0,
+      (
+        subst (λ (t : Option ℕ). FilesAnswer (NumberedAnswer Gives InputGives IsFor t) 1 i k (cut_files files) x.0) total_is
+            (subst (λ (fs : List (List ℕ)). FilesAnswer (NumberedAnswer Gives InputGives IsFor total) 1 i k fs x.0) cut_is x.1.0),
+        x.1.1,
+      ),
+    ))
+    h
 
 -- ---- streams
 
@@ -96,6 +140,22 @@ Answered-again written said o1 o2 o3 e1 e2 e3 s t a b (s_is, (o_is, e_is)) (t_is
 pub Answered-nothing : {W E : Type 0} (written : W → Option (List ℕ)) (said : E → Option (List ℕ)) (o : Watch W) (e : Watch E) → Answered written said o o e e 0 silence
 Answered-nothing written said o e = (refl, (Appends-none (written o.inner), TakesBy-none e.failed (said e.inner)))
 
+-- something is said, and then this is answered
+pub Answered-behind : {W E : Type 0} (written : W → Option (List ℕ)) (said : E → Option (List ℕ)) (o p : Watch W) (e m f : Watch E) (message : List ℕ) (status : ℕ) (a : Answer)
+    → Takes said e m message → Answered written said o p m f status a → Answered written said o p e f status (followed (remark message) a)
+Answered-behind written said o p e m f message status a takes (s_is, (o_is, e_is)) = (
+  omega (arith, s_is),
+  (o_is, TakesBy-again e.failed m.failed f.failed (said e.inner) (said m.inner) (said f.inner) message a.err takes e_is),
+)
+
+pub answered_behind : {W E : Type 0} (r : Result ℕ RunError) (IsFor : Answer → Type 0) (written : W → Option (List ℕ)) (said : E → Option (List ℕ)) (o p : Watch W) (e m f : Watch E) (message : List ℕ)
+    → Takes said e m message → IfOk r (λ status. (answer : Answer) × (IsFor answer × Answered written said o p m f status answer))
+    → IfOk r (λ status. (answer : Answer) × (((own : Answer) × (IsFor own × (answer ≡ followed (remark message) own))) × Answered written said o p e f status answer))
+answered_behind r IsFor written said o p e m f message takes h =
+    IfOk-weaker r _ _
+    (λ status x. (followed (remark message) x.0, ((x.0, (x.1.0, refl)), Answered-behind written said o p e m f message status x.0 takes x.1.1)))
+    h
+
 -- only a message
 pub Answered-refusal : {W E : Type 0} (written : W → Option (List ℕ)) (said : E → Option (List ℕ)) (o : Watch W) (e f : Watch E) (status : ℕ) (message : List ℕ)
     → Takes said e f message → Answered written said o o e f status (refusal status message)
@@ -142,13 +202,14 @@ some_answered {W} {E} r Gives IsFor file bytes slice written said o p e m f give
     h
 
 -- one more of the files
-pub files_more : {T : Type 0} (Gives : List ℕ → Given → Type 0) (IsFor : List ℕ → List ℕ → Answer → Type 0) (text : T → List ℕ) (names : List T) (i : ℕ) (d : T) (file : List ℕ)
-    (before own : Answer) → i < length names → file ≡ text (get_or names i d) → FilesAnswer Gives IsFor (map text (take i names)) before
-    → Reads Gives (TextOf IsFor) file own → FilesAnswer Gives IsFor (map text (take (i + 1) names)) (followed before own)
-files_more Gives IsFor text names i d file before own within is files reads =
-    rw (take_more names i d within, map-append)
-    (FilesAnswer-more Gives IsFor (map text (take i names)) (text (get_or names i d)) before own files
-    (subst (λ (f : List ℕ). Reads Gives (TextOf IsFor) f own) is reads))
+pub files_more : {T I : Type 0} (Own : ℕ → I → I → List ℕ → Answer → Type 0) (text : T → List ℕ) (names : List T) (at : ℕ) (d : T) (file : List ℕ) (i j k : I)
+    (before own : Answer) → at < length names → file ≡ text (get_or names at d) → FilesAnswer Own 1 i j (map text (take at names)) before
+    → Own (at + 1) j k file own → FilesAnswer Own 1 i k (map text (take (at + 1) names)) (followed before own)
+files_more Own text names at d file i j k before own within is files one =
+    let number : at + 1 ≡ 1 + length (map text (take at names)) = omega (arith, length-map (take at names) text, length-take-le at names (omega (arith, within))) in
+    rw (take_more names at d within, map-append)
+    (FilesAnswer-more Own 1 (at + 1) i j k (map text (take at names)) (text (get_or names at d)) before own number files
+    (subst (λ (f : List ℕ). Own (at + 1) j k f own) is one))
 
 -- a file gave bytes, for which this was refused
 pub some_refused : {L E : Type 0} (r : Result (Result L ℕ) RunError) (Gives : List ℕ → Given → Type 0) (IsFor : List ℕ → List ℕ → Answer → Type 0) (file bytes slice : List ℕ)

@@ -1,6 +1,6 @@
 -- What was written before an error: a prefix of an answer, or nothing.
-use Rattle.std.proofs.Common.{Global, ◌≡◌, ◌≢◌, ℕ, ◌+◌, ◌<◌, get_or, Bool, inl, inr, List, [], ◌∷◌, ◌++◌, length, take, drop, map, string_bytes, refl, sym, ap, subst, ◌∙◌}
-use Rattle.std.specs.Prelude.{Option, Some, None, Result, Ok, OnErr, option_map}
+use Rattle.std.proofs.Common.{Global, ◌≡◌, ◌≢◌, ℕ, ◌+◌, ◌<◌, get_or, Bool, inl, inr, List, [], ◌++◌, length, take, drop, map, string_bytes, refl, sym, ap, subst, ◌∙◌}
+use Rattle.std.specs.Prelude.{Option, Some, None, Result, Ok, Err, OnErr, option_map}
 use Rattle.std.specs.Bool.{then_some}
 use Rattle.std.specs.Borrow.{Bor}
 use Rattle.std.specs.Prelude.{String}
@@ -24,14 +24,16 @@ use Rattle.lexdfa_lib.specs.declared.outcome.Outcome.TheVariants.{Match, NoMatch
 use Rattle.lines_lib.proofs.Sending.{Appends-none, AppendsPrefix-behind, AppendsPrefix-front}
 use Rattle.lines_lib.specs.ClashesShown.{WritesClashes, WritesClashesPrefix}
 use Rattle.lines_lib.specs.TokenLines.{text_lines, WritesTokensPrefix}
-use Rattle.tokens_lib.specs.Answer.{Answer, followed, Reads, TextOf, FilesAnswer, FirstFilesAnswer, FirstTextsAnswer, Begun}
+use Rattle.tokens_lib.specs.Answer.{Answer, followed, remark, Reads, TextOf, NumberedAnswer, FilesAnswer, FirstFilesAnswer, cut_files, FirstTextsAnswer, Begun}
 use Rattle.tokens_lib.specs.ItemLines.{piece_lines, WritesItemsPrefix}
 use Rattle.tokens_lib.specs.PageWritten.{WritesPagePrefix}
 use Rattle.tokens_lib.specs.Program.{AreRulesOf, RulesOf, LexerOf, TerminalsOf, TerminalClashesAnswer}
+use Rattle.tokens_lib.specs.Progress.{total_said}
 use Rattle.tokens_lib.specs.Streams.{Given}
 use Rattle.tokens_lib.specs.TextAnswer.{TokensAnswer, PiecesAnswer, PageAnswer}
 use Rattle.tokens_lib.specs.Internal.Tasks.{IsDone}
 use Rattle.tokens_lib.specs.declared.command.Markup.{Markup}
+use Rattle.tokens_lib.specs.declared.command.Verbosity.{Verbosity}
 use Rattle.tokens_lib.specs.declared.cut_files.CutResult.{CutResult}
 use Rattle.tokens_lib.specs.declared.layout.LineForm.{LineForm}
 use Rattle.tokens_lib.proofs.AnswerLaws.{files_more}
@@ -108,26 +110,37 @@ fronts : {T : Type 0} (text : T → List ℕ) (names : List T) (i : ℕ) → map
 fronts text names i = ap (map text) (sym (take-append-drop i names)) ∙ map-append text (take i names) (drop i names)
 
 -- the answer to some files was written, and a part of that to the next one
-pub files_begun : {T : Type 0} (Gives : List ℕ → Given → Type 0) (IsFor : List ℕ → List ℕ → Answer → Type 0) (text : T → List ℕ) (names : List T) (i : ℕ) (d : T) (file : List ℕ)
-    (before : Answer) (a b c : Option (List ℕ)) → i < length names → file ≡ text (get_or names i d) → FilesAnswer Gives IsFor (map text (take i names)) before
-    → Appends a b before.out → Begun (Reads Gives (TextOf IsFor) file) b c → Begun (FirstFilesAnswer Gives IsFor (map text names)) a c
-files_begun Gives IsFor text names i d file before a b c within is files h (inl nothing) =
-    Begun-whole (FirstFilesAnswer Gives IsFor (map text names)) a c before (map text (take i names), (map text (drop i names), (fronts text names i, files)))
+pub files_begun : {T I : Type 0} (Own : ℕ → I → I → List ℕ → Answer → Type 0) (text : T → List ℕ) (names : List T) (at : ℕ) (d : T) (file : List ℕ) (i j k : I)
+    (before : Answer) (a b c : Option (List ℕ)) → at < length names → file ≡ text (get_or names at d) → FilesAnswer Own 1 i j (map text (take at names)) before
+    → Appends a b before.out → Begun (Own (at + 1) j k file) b c → Begun (FirstFilesAnswer Own i (map text names)) a c
+files_begun Own text names at d file i j k before a b c within is files h (inl nothing) =
+    Begun-whole (FirstFilesAnswer Own i (map text names)) a c before (map text (take at names), (map text (drop at names), (j, (fronts text names at, files))))
     (subst (Appends a c) (append-nil before.out) (Appends-again a b c before.out [] h nothing))
-files_begun Gives IsFor text names i d file before a b c within is files h (inr (own, (reads, part))) = inr (
+files_begun Own text names at d file i j k before a b c within is files h (inr (own, (one, part))) = inr (
   followed before own,
   (
-    (map text (take (i + 1) names), (map text (drop (i + 1) names), (fronts text names (i + 1), files_more Gives IsFor text names i d file before own within is files reads))),
+    (map text (take (at + 1) names), (map text (drop (at + 1) names), (k, (fronts text names (at + 1), files_more Own text names at d file i j k before own within is files one)))),
     subst (λ (bytes : List ℕ). AppendsPrefix a c (before.out ++ bytes)) (append-nil own.out) (AppendsPrefix-behind a b c before.out own.out [] h part),
   ),
 )
 
--- there are files
-pub first_texts_begun : {T : Type 0} (r : Result ℕ RunError) (Gives : List ℕ → Given → Type 0) (InputGives : Given → Type 0) (IsFor : List ℕ → List ℕ → Answer → Type 0) (text : T → List ℕ)
-    (names : List T) (a b : Option (List ℕ)) → length names ≢ 0 → OnErr r (Begun (FirstFilesAnswer Gives IsFor (map text names)) a b)
-    → OnErr r (Begun (FirstTextsAnswer Gives InputGives IsFor (map text names)) a b)
-first_texts_begun r Gives InputGives IsFor text [] a b some h = absurd (some refl)
-first_texts_begun r Gives InputGives IsFor text (name ∷ names) a b some h = h
+-- of the named ones
+pub texts_begun : {I : Type 0} (r : Result ℕ RunError) (Gives : List ℕ → Given → Type 0) (InputGives : I → I → Given → Type 0) (IsFor : List ℕ → List ℕ → Answer → Type 0) (i : I)
+    (verbosity : Verbosity) (total : Option ℕ) (cut files : List (List ℕ)) (a b : Option (List ℕ)) → total ≡ total_said verbosity (length files) → cut ≡ cut_files files
+    → OnErr r (Begun (FirstFilesAnswer (NumberedAnswer Gives InputGives IsFor total) i cut) a b) → OnErr r (Begun (FirstTextsAnswer Gives InputGives i verbosity IsFor files) a b)
+texts_begun r Gives InputGives IsFor i verbosity total cut files a b total_is cut_is h =
+    on_err_weaker r
+    (Begun-weaker _ _ a b
+    (λ answer is. subst (λ (t : Option ℕ). FirstFilesAnswer (NumberedAnswer Gives InputGives IsFor t) i (cut_files files) answer) total_is
+    (subst (λ (fs : List (List ℕ)). FirstFilesAnswer (NumberedAnswer Gives InputGives IsFor total) i fs answer) cut_is is)))
+    h
+
+-- something was said first
+pub begun_behind : (r : Result ℕ RunError) (IsFor : Answer → Type 0) (message : List ℕ) (a b : Option (List ℕ)) → OnErr r (Begun IsFor a b)
+    → OnErr r (Begun (λ answer. (own : Answer) × (IsFor own × (answer ≡ followed (remark message) own))) a b)
+begun_behind (Ok status) IsFor message a b h = tt
+begun_behind (Err e) IsFor message a b (inl nothing) = inl nothing
+begun_behind (Err e) IsFor message a b (inr (own, (is, part))) = inr (followed (remark message) own, ((own, (is, refl)), part))
 
 -- ---- the program
 

@@ -6,6 +6,7 @@ mod ItemLines
 mod OpenModes
 mod PageWritten
 mod Program
+mod Progress
 mod Reasons
 mod RuleClashes
 mod Streams

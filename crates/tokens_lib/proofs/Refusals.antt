@@ -8,7 +8,7 @@ use Rattle.lalrpop_lexer.specs.Line.{LineSays}
 use Rattle.lalrpop_lexer.specs.Lines.{lines, begin_with}
 use Rattle.lalrpop_lexer.specs.Position.{position_of}
 use Rattle.lalrpop_grammar.specs.NamedPart.{NamedPart}
-use Rattle.lalrpop_rules.specs.RuleText.{IsSomePattern}
+use Rattle.lalrpop_rules.specs.RuleText.{IsParsed}
 use Rattle.lalrpop_rules.specs.declared.rule_text.RuleText.{RuleText}
 use Rattle.lalrpop_rules.specs.declared.rule_text.RuleText.TheVariants as texts
 use Rattle.lalrpop_rule_file.specs.RuleFile.{NamesMode as NamedInFile}
@@ -19,16 +19,16 @@ use Rattle.lalrpop_lexer.specs.declared.terminal_line.TerminalLine.{TerminalLine
 use Rattle.lalrpop_lexer.proofs.Places.{column_within}
 use Rattle.lalrpop_rules.specs.RuleSet.{IsNotParsed}
 use Rattle.lalrpop_modes.specs.ModeClashes.{IsModesFault}
-use Rattle.lalrpop_modes.specs.ModeSet.{IsModesError}
+use Rattle.lalrpop_modes.specs.ModeSet.{IsModesError, rules_of}
 use Rattle.lalrpop_modes.specs.Modes.{OneLeadsInto}
 use Rattle.lalrpop_modes.specs.declared.action.Action.{Action}
 use Rattle.lalrpop_modes.specs.declared.error.ModesError.{ModesError}
 use Rattle.lalrpop_modes.specs.declared.error.ModesError.TheVariants as errors
 use Rattle.lalrpop_modes.specs.declared.mode_rule.ModeRule.{ModeRule}
 use Rattle.tokens_lib.specs.Program.{AreFileRules}
-use Rattle.tokens_lib.specs.Internal.Faults.{CanBeSaid, NameOnly}
+use Rattle.tokens_lib.specs.Internal.Faults.{NameOnly}
 use Rattle.lalrpop_rules.specs.declared.rule.Rule.{Rule}
-use Rattle.tokens_lib.specs.Reasons.{pattern_of, text_at}
+use Rattle.tokens_lib.specs.Reasons.{parsed_text, text_at, CanBeSaid}
 
 -- ---- lines are no longer than the bytes
 
@@ -59,23 +59,25 @@ few_chars (b ∷ bs) = few_after (continuation_len b) (lead_bits b) bs
 
 -- ---- rules
 
-is_pattern : (text : RuleText) (inner : List ℕ) → IsSomePattern text inner → pattern_of text ≡ inner
-is_pattern (texts.Literal t) inner is = absurd is
-is_pattern (texts.Pattern t) inner is = is
-is_pattern (texts.PatternWith t parts) inner is = is
-is_pattern (texts.FromTo a b) inner is = absurd is
+is_parsed : (text : RuleText) (inner : List ℕ) → IsParsed text inner → parsed_text text ≡ inner
+is_parsed (texts.Literal t) inner is = absurd is
+is_parsed (texts.Escaped t) inner is = is
+is_parsed (texts.AnyCase t) inner is = absurd is
+is_parsed (texts.Pattern t) inner is = is
+is_parsed (texts.PatternWith t parts) inner is = is
+is_parsed (texts.FromTo a b) inner is = absurd is
 
--- the text of the rule that doesn't parse is its pattern
+-- the text of the rule that doesn't parse is parsed
 text_there : (rs : List Rule) (i position : ℕ) (h : IsNotParsed rs i position) → text_at rs i ≡ h.1.0
 text_there rs i position h = by (slice_get rs i) refl
   where
     by : (o : Option Rule) → slice_get rs i ≡ o → text_at rs i ≡ h.1.0
     by None e = let at = h.1.1.0.at in absurd (cc (at, e))
     by (Some r) e =
-        let here : text_at rs i ≡ pattern_of r.text = ap (λ (o : Option Rule). unwrap_or (option_map (λ (q : Rule). pattern_of q.text) o) []) e in
+        let here : text_at rs i ≡ parsed_text r.text = ap (λ (o : Option Rule). unwrap_or (option_map (λ (q : Rule). parsed_text q.text) o) []) e in
         let at : option_map (λ (q : Rule). q.text) (Some r) ≡ Some h.0 = ap (option_map (λ (q : Rule). q.text)) (sym e) ∙ h.1.1.0.at in
         let same : r.text ≡ h.0 = cc (at) in
-        here ∙ ap pattern_of same ∙ is_pattern h.0 h.1.0 h.1.1.1
+        here ∙ ap parsed_text same ∙ is_parsed h.0 h.1.0 h.1.1.1
 
 -- it stops at a place in it
 pub stops_inside : (rs : List Rule) (i position : ℕ) → IsNotParsed rs i position → IsCharBoundary (text_at rs i) position
@@ -117,18 +119,18 @@ pub names_only : (ps : List NamedPart) (fs : List FileRule) (rs : List ModeRule)
 names_only ps fs rs n are within = rule_named ps fs rs n are within
 
 -- the error of a lexer can be said
-pub error_said : (rs : List ModeRule) (n : ℕ) (error : ModesError) → NameOnly rs n → IsModesError rs n error → CanBeSaid rs error
+pub error_said : (rs : List ModeRule) (n : ℕ) (error : ModesError) → NameOnly rs n → IsModesError rs n error → CanBeSaid (rules_of rs) error
 error_said rs n (errors.NoSuchMode i m) within is = no_other_mode rs n i m within is
-error_said rs n (errors.NotParsed i position kind) within is = is.1
+error_said rs n (errors.NotParsed i position kind) within is = stops_inside (rules_of rs) i position is.1
 error_said rs n (errors.BadEnd i e) within is = tt
 error_said rs n (errors.NotCompiled i e) within is = tt
 error_said rs n (errors.Clash m i j w) within is = tt
 error_said rs n errors.OutOfMemory within is = tt
 
 -- and one that isn't a clash
-pub fault_said : (rs : List ModeRule) (n : ℕ) (error : ModesError) → NameOnly rs n → IsModesFault rs n error → CanBeSaid rs error
+pub fault_said : (rs : List ModeRule) (n : ℕ) (error : ModesError) → NameOnly rs n → IsModesFault rs n error → CanBeSaid (rules_of rs) error
 fault_said rs n (errors.NoSuchMode i m) within is = no_other_mode rs n i m within is
-fault_said rs n (errors.NotParsed i position kind) within is = is.1
+fault_said rs n (errors.NotParsed i position kind) within is = stops_inside (rules_of rs) i position is.1
 fault_said rs n (errors.BadEnd i e) within is = tt
 fault_said rs n (errors.NotCompiled i e) within is = tt
 fault_said rs n (errors.Clash m i j w) within is = tt

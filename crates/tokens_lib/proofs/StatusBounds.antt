@@ -1,6 +1,6 @@
 -- No status is above 6.
-use Rattle.std.proofs.Common.{◌≡◌, ℕ, ◌≤◌, inl, inr, List, [], ◌∷◌, ap, arith}
-use Rattle.std.specs.Prelude.{nat_lt, length, map, Bool, Option, Some, None, codes}
+use Rattle.std.proofs.Common.{◌≡◌, ℕ, ◌+◌, ◌≤◌, inl, inr, List, [], ◌∷◌, ap, arith}
+use Rattle.std.specs.Prelude.{nat_lt, length, map, Bool, Option, Some, None}
 use Rattle.lalrpop_book.specs.Clashes.{Entry}
 use Rattle.lalrpop_book.specs.Tree.{Tree}
 use Rattle.lalrpop_lexer.specs.Lines.{lines}
@@ -12,8 +12,9 @@ use Rattle.lalrpop_modes.specs.declared.mode_rule.ModeRule.{ModeRule}
 use Rattle.lexdfa_lib.specs.Status.{outcome_status}
 use Rattle.lexdfa_lib.specs.declared.outcome.Outcome.{Outcome}
 use Rattle.lexdfa_lib.specs.declared.outcome.Outcome.TheVariants as outcomes
-use Rattle.tokens_lib.specs.Answer.{Answer, Reads, TextOf, FilesAnswer, TextsAnswer}
+use Rattle.tokens_lib.specs.Answer.{Answer, Reads, TextOf, is_input, shown_name, FileGives, NumberedAnswer, FilesAnswer, cut_files, TextsAnswer}
 use Rattle.tokens_lib.specs.Program.{rules_status, RulesOf, LexerOf, clashes_status, ClashesAnswer, TerminalsOf, reported_status, TerminalClashesAnswer, ActionAnswer, CommandAnswer}
+use Rattle.tokens_lib.specs.Progress.{total_said}
 use Rattle.tokens_lib.specs.Streams.{Given}
 use Rattle.tokens_lib.specs.TextAnswer.{fault_status, end_status, TokensAnswer, PiecesAnswer, PageAnswer}
 use Rattle.tokens_lib.specs.declared.command.Command.{Command}
@@ -23,6 +24,7 @@ use Rattle.tokens_lib.specs.declared.text_end.OpenMode.{OpenMode}
 use Rattle.tokens_lib.specs.declared.command.Action.{Action}
 use Rattle.tokens_lib.specs.declared.command.Action.TheVariants.{Cut, Show, CutByTerminals, Clashes, TerminalClashes}
 use Rattle.tokens_lib.specs.declared.command.Command.TheVariants.{Help, Version, Run}
+use Rattle.tokens_lib.specs.declared.command.Verbosity.{Verbosity}
 
 abbrev IsLow : Answer → Type 0
 IsLow answer = answer.status ≤ 6
@@ -71,19 +73,26 @@ file_low : (Gives : List ℕ → Given → Type 0) (IsFor : List ℕ → List �
     → ((name text : List ℕ) (a : Answer) → IsFor name text a → IsLow a) → Reads Gives (TextOf IsFor) file answer → IsLow answer
 file_low Gives IsFor file answer each reads = reads_low Gives (TextOf IsFor) file answer (λ bytes a is. text_low IsFor file bytes a each is) reads
 
-files_low : (Gives : List ℕ → Given → Type 0) (IsFor : List ℕ → List ℕ → Answer → Type 0) (files : List (List ℕ)) (answer : Answer)
-    → ((name text : List ℕ) (a : Answer) → IsFor name text a → IsLow a) → FilesAnswer Gives IsFor files answer → IsLow answer
-files_low Gives IsFor [] answer each e = low answer _ e (omega arith)
-files_low Gives IsFor (file ∷ files) answer each (own, (rest, (reads, (others, e)))) =
-    let a : IsLow own = file_low Gives IsFor file own each reads in
-    let b : IsLow rest = files_low Gives IsFor files rest each others in
+numbered_low : {I : Type 0} (Gives : List ℕ → Given → Type 0) (InputGives : I → I → Given → Type 0) (IsFor : List ℕ → List ℕ → Answer → Type 0) (total : Option ℕ) (number : ℕ) (i j : I)
+    (file : List ℕ) (answer : Answer) → ((name text : List ℕ) (a : Answer) → IsFor name text a → IsLow a) → NumberedAnswer Gives InputGives IsFor total number i j file answer → IsLow answer
+numbered_low Gives InputGives IsFor total number i j file answer each (own, (reads, e)) =
+    let a : IsLow own = file_low (λ name. FileGives Gives InputGives i j (is_input file) file) IsFor (shown_name file) own each reads in
     low answer _ e (omega arith)
 
-texts_low : (Gives : List ℕ → Given → Type 0) (InputGives : Given → Type 0) (IsFor : List ℕ → List ℕ → Answer → Type 0) (files : List (List ℕ)) (answer : Answer)
-    → ((name text : List ℕ) (a : Answer) → IsFor name text a → IsLow a) → TextsAnswer Gives InputGives IsFor files answer → IsLow answer
-texts_low Gives InputGives IsFor [] answer each reads =
-    reads_low (λ file. InputGives) (TextOf IsFor) (codes "<stdin>") answer (λ bytes a is. text_low IsFor (codes "<stdin>") bytes a each is) reads
-texts_low Gives InputGives IsFor (file ∷ files) answer each is = files_low Gives IsFor (file ∷ files) answer each is
+files_low : {I : Type 0} (Own : ℕ → I → I → List ℕ → Answer → Type 0) (number : ℕ) (i k : I) (files : List (List ℕ)) (answer : Answer)
+    → ((n : ℕ) (x y : I) (file : List ℕ) (a : Answer) → Own n x y file a → IsLow a) → FilesAnswer Own number i k files answer → IsLow answer
+files_low Own number i k [] answer each (same, e) = low answer _ e (omega arith)
+files_low Own number i k (file ∷ files) answer each (j, (own, (rest, (reads, (others, e))))) =
+    let a : IsLow own = each number i j file own reads in
+    let b : IsLow rest = files_low Own (number + 1) j k files rest each others in
+    low answer _ e (omega arith)
+
+texts_low : {I : Type 0} (Gives : List ℕ → Given → Type 0) (InputGives : I → I → Given → Type 0) (i k : I) (verbosity : Verbosity) (IsFor : List ℕ → List ℕ → Answer → Type 0)
+    (files : List (List ℕ)) (answer : Answer)
+    → ((name text : List ℕ) (a : Answer) → IsFor name text a → IsLow a) → TextsAnswer Gives InputGives i k verbosity IsFor files answer → IsLow answer
+texts_low Gives InputGives i k verbosity IsFor files answer each is =
+    files_low (NumberedAnswer Gives InputGives IsFor (total_said verbosity (length files))) 1 i k (cut_files files) answer
+    (λ n x y file a own. numbered_low Gives InputGives IsFor (total_said verbosity (length files)) n x y file a each own) is
 
 rules_of_low : (IsFor : List ℕ → List (List ℕ) → List (List ℕ) → List ModeRule → Answer → Type 0) (file bytes : List ℕ) (answer : Answer)
     → ((ls modes : List (List ℕ)) (rs : List ModeRule) (a : Answer) → IsFor file ls modes rs a → IsLow a) → RulesOf IsFor file bytes answer → IsLow answer
@@ -132,24 +141,26 @@ pieces_low set modes form recovers several name text answer (xs, (end, (are, e))
 page_low : (set : ModeRules) (modes : List (List ℕ)) (markup : Markup) (name text : List ℕ) (answer : Answer) → PageAnswer set modes markup name text answer → IsLow answer
 page_low set modes markup name text answer (xs, (end, (are, e))) = low answer _ e (end_low _ _)
 
-action_low : (Gives : List ℕ → Given → Type 0) (InputGives : Given → Type 0) (action : Action) (rules : List ℕ) (files : List (List ℕ)) (answer : Answer)
-    → ActionAnswer Gives (TextsAnswer Gives InputGives) action rules files answer → IsLow answer
-action_low Gives InputGives (Cut form recovers) rules files answer is =
-    by_rules_low Gives (λ set modes. TextsAnswer Gives InputGives (PiecesAnswer set modes form recovers (nat_lt 1 (length files))) files) rules answer
-    (λ set modes a texts. texts_low Gives InputGives (PiecesAnswer set modes form recovers (nat_lt 1 (length files))) files a (pieces_low set modes form recovers (nat_lt 1 (length files))) texts) is
-action_low Gives InputGives (Show markup) rules files answer is =
-    by_rules_low Gives (λ set modes. TextsAnswer Gives InputGives (PageAnswer set modes markup) files) rules answer
-    (λ set modes a texts. texts_low Gives InputGives (PageAnswer set modes markup) files a (page_low set modes markup) texts) is
-action_low Gives InputGives (CutByTerminals places) rules files answer is =
-    let IsFor : List Tree → List ℕ → Answer → Type 0 = λ ts ps. TextsAnswer Gives InputGives (TokensAnswer ts ps places) files in
+action_low : {I : Type 0} (Gives : List ℕ → Given → Type 0) (InputGives : I → I → Given → Type 0) (i k : I) (verbosity : Verbosity) (action : Action) (rules : List ℕ) (files : List (List ℕ))
+    (answer : Answer) → ActionAnswer Gives (TextsAnswer Gives InputGives i k verbosity) action rules files answer → IsLow answer
+action_low Gives InputGives i k verbosity (Cut form recovers) rules files answer is =
+    by_rules_low Gives (λ set modes. TextsAnswer Gives InputGives i k verbosity (PiecesAnswer set modes form recovers (nat_lt 1 (length files))) files) rules answer
+    (λ set modes a texts. texts_low Gives InputGives i k verbosity (PiecesAnswer set modes form recovers (nat_lt 1 (length files))) files a (pieces_low set modes form recovers (nat_lt 1 (length files))) texts) is
+action_low Gives InputGives i k verbosity (Show markup) rules files answer is =
+    by_rules_low Gives (λ set modes. TextsAnswer Gives InputGives i k verbosity (PageAnswer set modes markup) files) rules answer
+    (λ set modes a texts. texts_low Gives InputGives i k verbosity (PageAnswer set modes markup) files a (page_low set modes markup) texts) is
+action_low Gives InputGives i k verbosity (CutByTerminals places) rules files answer is =
+    let IsFor : List Tree → List ℕ → Answer → Type 0 = λ ts ps. TextsAnswer Gives InputGives i k verbosity (TokensAnswer ts ps places) files in
     reads_low Gives (TerminalsOf IsFor) rules answer
-    (λ bytes a said. terminals_low IsFor rules bytes a (λ ts ps b texts. texts_low Gives InputGives (TokensAnswer ts ps places) files b (tokens_low ts ps places) texts) said) is
-action_low Gives InputGives Clashes rules files answer is =
+    (λ bytes a said. terminals_low IsFor rules bytes a (λ ts ps b texts. texts_low Gives InputGives i k verbosity (TokensAnswer ts ps places) files b (tokens_low ts ps places) texts) said) is
+action_low Gives InputGives i k verbosity Clashes rules files answer is =
     reads_low Gives (RulesOf ClashesAnswer) rules answer (λ bytes a said. rules_of_low ClashesAnswer rules bytes a (list_low rules) said) is
-action_low Gives InputGives TerminalClashes rules files answer is = reads_low Gives TerminalClashesAnswer rules answer (terminal_list_low rules) is
+action_low Gives InputGives i k verbosity TerminalClashes rules files answer is = reads_low Gives TerminalClashesAnswer rules answer (terminal_list_low rules) is
 
-pub command_low : (Gives : List ℕ → Given → Type 0) (InputGives : Given → Type 0) (command : Command) (answer : Answer)
-    → CommandAnswer Gives (TextsAnswer Gives InputGives) command answer → IsLow answer
-command_low Gives InputGives Help answer is = low answer _ is (omega arith)
-command_low Gives InputGives Version answer is = low answer _ is (omega arith)
-command_low Gives InputGives (Run action rules files) answer is = action_low Gives InputGives action rules.now (map (λ file. file.now) files.items) answer is
+pub command_low : {I : Type 0} (Gives : List ℕ → Given → Type 0) (InputGives : I → I → Given → Type 0) (i k : I) (command : Command) (answer : Answer)
+    → CommandAnswer Gives (TextsAnswer Gives InputGives i k) command answer → IsLow answer
+command_low Gives InputGives i k Help answer is = low answer _ is (omega arith)
+command_low Gives InputGives i k Version answer is = low answer _ is (omega arith)
+command_low Gives InputGives i k (Run action verbosity rules files) answer (own, (is, e)) =
+    let a : IsLow own = action_low Gives InputGives i k verbosity action rules.now (map (λ file. file.now) files.items) own is in
+    low answer _ e (omega arith)

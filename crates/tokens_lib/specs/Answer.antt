@@ -1,13 +1,15 @@
 -- cases: proofs/Cases/Answer.antt
 -- What the program answers, and its answer for some files.
-use Rattle.std.specs.Prelude.{◌≡◌, ℕ, ◌⊎◌, max, List, [], ◌∷◌, ◌++◌, Option, Ok, Err, codes}
+use Rattle.std.specs.Prelude.{◌≡◌, ℕ, ◌+◌, ◌⊎◌, max, Bool, true, false, List, [], ◌∷◌, ◌++◌, length, Option, Ok, Err, codes, if◌then◌else◌}
 use Rattle.std.specs.Io.KnownBytes.{Appends}
-use Rattle.std.specs.Str.{IsUtf8, IsValidUpTo}
+use Rattle.std.specs.Str.{IsUtf8, IsValidUpTo, bytes_eq}
 use Rattle.lalrpop_rule_file.specs.RuleFile.{without_mark}
 use Rattle.lexdfa_lib.specs.Watch.{Watch, AppendsPrefix}
+use Rattle.tokens_lib.specs.Progress.{total_said, number_text}
 use Rattle.tokens_lib.specs.Streams.{Given, Takes}
 use Rattle.lines_lib.specs.Text.{lack_text}
 use Rattle.lines_lib.specs.declared.text.TextError.TheVariants.{NotText}
+use Rattle.tokens_lib.specs.declared.command.Verbosity.{Verbosity}
 
 -- an exit status, and what is written to standard output and to standard error
 pub record Answer : Type 0 where
@@ -21,6 +23,10 @@ silence = record { status = 0; out = []; err = [] }
 -- only a message
 abbrev pub refusal : ℕ → List ℕ → Answer
 refusal status said = record { status = status; out = []; err = said }
+
+-- something is said, and nothing is wrong
+abbrev pub remark : List ℕ → Answer
+remark said = refusal 0 said
 
 -- one answer and then another: the greater status, and what both write
 abbrev pub followed : Answer → Answer → Answer
@@ -46,26 +52,58 @@ TextOf IsFor file bytes answer =
     ((at : ℕ) × (IsValidUpTo (without_mark bytes) at × (answer ≡ refusal 6 (about file (lack_text (NotText at))))))
     ⊎ (IsUtf8 (without_mark bytes) × IsFor file (without_mark bytes) answer)
 
--- the texts of these files, one after another
-abbrev pub FilesAnswer : (List ℕ → Given → Type 0) → (List ℕ → List ℕ → Answer → Type 0) → List (List ℕ) → Answer → Type 0
-FilesAnswer Gives IsFor [] answer = answer ≡ silence
-FilesAnswer Gives IsFor (file ∷ files) answer =
-    (own : Answer) × ((rest : Answer) × (Reads Gives (TextOf IsFor) file own × (FilesAnswer Gives IsFor files rest × (answer ≡ followed own rest))))
+-- ---- FILEs
 
--- the texts of these files, or of standard input if there are none
-abbrev pub TextsAnswer : (List ℕ → Given → Type 0) → (Given → Type 0) → (List ℕ → List ℕ → Answer → Type 0) → List (List ℕ) → Answer → Type 0
-TextsAnswer Gives InputGives IsFor [] answer = Reads (λ file. InputGives) (TextOf IsFor) (codes "<stdin>") answer
-TextsAnswer Gives InputGives IsFor (file ∷ files) answer = FilesAnswer Gives IsFor (file ∷ files) answer
+-- a FILE `-` is standard input
+abbrev pub is_input : List ℕ → Bool
+is_input file = bytes_eq file (codes "-")
 
--- the texts of the first of these files, up to some file
-abbrev pub FirstFilesAnswer : (List ℕ → Given → Type 0) → (List ℕ → List ℕ → Answer → Type 0) → List (List ℕ) → Answer → Type 0
-FirstFilesAnswer Gives IsFor files answer =
-    (front : List (List ℕ)) × ((rest : List (List ℕ)) × ((files ≡ front ++ rest) × FilesAnswer Gives IsFor front answer))
+-- the name of a FILE in lines and messages
+abbrev pub shown_name : List ℕ → List ℕ
+shown_name file = if is_input file then codes "<stdin>" else file
 
--- the same, or the text of standard input if there are none
-abbrev pub FirstTextsAnswer : (List ℕ → Given → Type 0) → (Given → Type 0) → (List ℕ → List ℕ → Answer → Type 0) → List (List ℕ) → Answer → Type 0
-FirstTextsAnswer Gives InputGives IsFor [] answer = TextsAnswer Gives InputGives IsFor [] answer
-FirstTextsAnswer Gives InputGives IsFor (file ∷ files) answer = FirstFilesAnswer Gives IsFor (file ∷ files) answer
+-- what a FILE gives, and how it changes the state of standard input: `-` is read from there, and other files by name
+abbrev pub FileGives : {I : Type 0} → (List ℕ → Given → Type 0) → (I → I → Given → Type 0) → I → I → Bool → List ℕ → Given → Type 0
+FileGives Gives InputGives i j true file given = InputGives i j given
+FileGives Gives InputGives i j false file given = (i ≡ j) × Gives file given
+
+-- the answer for a FILE
+abbrev pub FileAnswer : {I : Type 0} → (List ℕ → Given → Type 0) → (I → I → Given → Type 0) → (List ℕ → List ℕ → Answer → Type 0) → I → I → List ℕ → Answer → Type 0
+FileAnswer Gives InputGives IsFor i j file answer =
+    Reads (λ name. FileGives Gives InputGives i j (is_input file) file) (TextOf IsFor) (shown_name file) answer
+
+-- for the FILE with this number; before it is read, its number is said if there is a total
+abbrev pub NumberedAnswer : {I : Type 0} → (List ℕ → Given → Type 0) → (I → I → Given → Type 0) → (List ℕ → List ℕ → Answer → Type 0) → Option ℕ → ℕ → I → I → List ℕ → Answer → Type 0
+NumberedAnswer Gives InputGives IsFor total number i j file answer =
+    (own : Answer) × (FileAnswer Gives InputGives IsFor i j file own × (answer ≡ followed (remark (number_text total number (shown_name file))) own))
+
+-- for these FILEs, one after another, by the answer for one with its number; the first has this number
+abbrev pub FilesAnswer : {I : Type 0} → (ℕ → I → I → List ℕ → Answer → Type 0) → ℕ → I → I → List (List ℕ) → Answer → Type 0
+FilesAnswer Own number i k [] answer = (i ≡ k) × (answer ≡ silence)
+FilesAnswer {I} Own number i k (file ∷ files) answer =
+    (j : I) × ((own : Answer) × ((rest : Answer) × (Own number i j file own × (FilesAnswer Own (number + 1) j k files rest × (answer ≡ followed own rest)))))
+
+-- for the first of these FILEs, up to some FILE
+abbrev pub FirstFilesAnswer : {I : Type 0} → (ℕ → I → I → List ℕ → Answer → Type 0) → I → List (List ℕ) → Answer → Type 0
+FirstFilesAnswer {I} Own i files answer =
+    (front : List (List ℕ)) × ((rest : List (List ℕ)) × ((j : I) × ((files ≡ front ++ rest) × FilesAnswer Own 1 i j front answer)))
+
+-- the FILEs that are cut: standard input if none is named
+abbrev pub cut_files : List (List ℕ) → List (List ℕ)
+cut_files [] = codes "-" ∷ []
+cut_files (file ∷ files) = file ∷ files
+
+-- the answer for the texts of the named FILEs; standard input comes from one state to another
+abbrev pub TextsAnswer : {I : Type 0} → (List ℕ → Given → Type 0) → (I → I → Given → Type 0) → I → I → Verbosity → (List ℕ → List ℕ → Answer → Type 0) → List (List ℕ) → Answer → Type 0
+TextsAnswer Gives InputGives i k verbosity IsFor files answer =
+    FilesAnswer (NumberedAnswer Gives InputGives IsFor (total_said verbosity (length files))) 1 i k (cut_files files) answer
+
+-- for the texts of the first ones
+abbrev pub FirstTextsAnswer : {I : Type 0} → (List ℕ → Given → Type 0) → (I → I → Given → Type 0) → I → Verbosity → (List ℕ → List ℕ → Answer → Type 0) → List (List ℕ) → Answer → Type 0
+FirstTextsAnswer Gives InputGives i verbosity IsFor files answer =
+    FirstFilesAnswer (NumberedAnswer Gives InputGives IsFor (total_said verbosity (length files))) i (cut_files files) answer
+
+-- ---- what is written
 
 -- nothing was written, or a prefix of what such an answer writes
 abbrev pub Begun : (Answer → Type 0) → Option (List ℕ) → Option (List ℕ) → Type 0

@@ -1,15 +1,17 @@
 -- cases: proofs/Cases/Command.antt
 -- What the arguments ask for.
-use Rattle.std.specs.Prelude.{◌≡◌, ◌≢◌, ℕ, Bool, true, false, not, List, [], ◌∷◌, Option, Some, None, codes, map, filter, find, if◌then◌else◌}
+use Rattle.std.specs.Prelude.{◌≡◌, ◌≢◌, ℕ, Bool, true, false, not, ◌||◌, List, [], ◌∷◌, Option, Some, None, codes, map, filter, find, if◌then◌else◌}
 use Rattle.std.specs.List.{list_any}
 use Rattle.std.specs.Str.{bytes_eq}
 use Rattle.tokens_lib.specs.declared.command.Action.{Action}
 use Rattle.tokens_lib.specs.declared.command.Action.TheVariants.{Cut, Show, CutByTerminals, Clashes, TerminalClashes}
 use Rattle.tokens_lib.specs.declared.command.ArgumentsError.{ArgumentsError}
-use Rattle.tokens_lib.specs.declared.command.ArgumentsError.TheVariants.{Unknown, NoRules, Apart, NoFiles, InputAmongFiles}
+use Rattle.tokens_lib.specs.declared.command.ArgumentsError.TheVariants.{Unknown, NoRules, Apart, NoFiles}
 use Rattle.tokens_lib.specs.declared.command.Command.{Command}
 use Rattle.tokens_lib.specs.declared.command.Command.TheVariants.{Help, Version, Run}
 use Rattle.tokens_lib.specs.declared.command.Markup.TheVariants.{Html, Ansi}
+use Rattle.tokens_lib.specs.declared.command.Verbosity.{Verbosity}
+use Rattle.tokens_lib.specs.declared.command.Verbosity.TheVariants.{Quiet, Warnings, Progress}
 use Rattle.tokens_lib.specs.declared.layout.LineForm.TheVariants.{Plain, Json}
 
 -- the options of each action, in the order of this table
@@ -35,41 +37,46 @@ lists action = false
 abbrev pub has : List (List ℕ) → List ℕ → Bool
 has words word = list_any (λ other. bytes_eq other word) words
 
--- the options of commands with rules, in the order of the table
-abbrev pub known : List (List ℕ)
-known = codes "--recover" ∷ codes "--json" ∷ codes "--html" ∷ codes "--ansi" ∷ codes "--lines" ∷ codes "--places" ∷ codes "--clashes" ∷ []
+-- the options of actions, in the order of the table
+abbrev pub action_options : List (List ℕ)
+action_options = codes "--recover" ∷ codes "--json" ∷ codes "--html" ∷ codes "--ansi" ∷ codes "--lines" ∷ codes "--places" ∷ codes "--clashes" ∷ []
 
 -- those that are given
 abbrev pub given : List (List ℕ) → List (List ℕ)
-given options = filter (has options) known
+given options = filter (has options) action_options
+
+-- the options that go with all others
+abbrev pub verbosity_options : List (List ℕ)
+verbosity_options = codes "--quiet" ∷ codes "--progress" ∷ []
+
+-- how much is said; --quiet wins
+abbrev pub verbosity_of : List (List ℕ) → Verbosity
+verbosity_of options = if has options (codes "--quiet") then Quiet else if has options (codes "--progress") then Progress else Warnings
 
 -- the first option that is none of them
-abbrev pub unknown : List (List ℕ) → Option (List ℕ)
-unknown options = find (λ option. not (has known option)) options
+abbrev pub is_known : List ℕ → Bool
+is_known option = has action_options option || has verbosity_options option
 
--- the files that are read: none where `-` stands alone, which is standard input
-abbrev pub read_files : List (List ℕ) → List (List ℕ)
-read_files (file ∷ []) = if bytes_eq file (codes "-") then [] else file ∷ []
-read_files files = files
+abbrev pub unknown : List (List ℕ) → Option (List ℕ)
+unknown options = find (λ option. not (is_known option)) options
 
 -- an action by a file of rules on the named files
-abbrev pub IsFilesRun : Action → List ℕ → List (List ℕ) → Command → Type 0
-IsFilesRun action rules named (Run its_action its_rules files) =
-    (its_action ≡ action) × ((its_rules.now ≡ rules) × ((lists action ≡ true → named ≡ []) × ((map (λ file. file.now) files.items ≡ read_files named) × (has (read_files named) (codes "-") ≡ false))))
-IsFilesRun action rules named command = ⊥
+abbrev pub IsFilesRun : Action → Verbosity → List ℕ → List (List ℕ) → Command → Type 0
+IsFilesRun action verbosity rules named (Run its_action its_verbosity its_rules files) =
+    (its_action ≡ action) × ((its_verbosity ≡ verbosity) × ((its_rules.now ≡ rules) × ((lists action ≡ true → named ≡ []) × (map (λ file. file.now) files.items ≡ named))))
+IsFilesRun action verbosity rules named command = ⊥
 
 -- the action with just these options, by the first name on the others
 abbrev pub IsRun : List (List ℕ) → List (List ℕ) → Command → Type 0
 IsRun options names command =
-    (action : Action) × ((given options ≡ options_of action) × ((rules : List ℕ) × ((named : List (List ℕ)) × ((names ≡ rules ∷ named) × IsFilesRun action rules named command))))
+    (action : Action) × ((given options ≡ options_of action) × ((rules : List ℕ) × ((named : List (List ℕ)) × ((names ≡ rules ∷ named) × IsFilesRun action (verbosity_of options) rules named command))))
 
--- there is a file where none is read; or standard input among others
+-- there is a file where none is read
 abbrev pub IsFilesError : Action → List (List ℕ) → ArgumentsError → Type 0
 IsFilesError action named (NoFiles file) = (lists action ≡ true) × ((rest : List (List ℕ)) × (named ≡ file.now ∷ rest))
-IsFilesError action named InputAmongFiles = (lists action ≡ false) × (has (read_files named) (codes "-") ≡ true)
 IsFilesError action named error = ⊥
 
--- RULES is missing, or the options don't go together, or the files are wrong
+-- RULES is missing, or the options don't go together, or there is a file where none is read
 abbrev pub IsRunError : List (List ℕ) → List (List ℕ) → ArgumentsError → Type 0
 IsRunError options names NoRules = names ≡ []
 IsRunError options names (Apart apart) = (names ≢ []) × ((given options ≡ map (λ option. option.now) apart.items) × ((action : Action) → given options ≢ options_of action))

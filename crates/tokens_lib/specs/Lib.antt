@@ -5,6 +5,7 @@ pub mod ItemLines
 pub mod OpenModes
 pub mod PageWritten
 pub mod Program
+pub mod Progress
 pub mod Reasons
 pub mod RuleClashes
 pub mod Streams

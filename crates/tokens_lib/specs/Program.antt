@@ -24,10 +24,11 @@ use Rattle.lexdfa_lib.specs.declared.ending.Failure.TheVariants.{Usage, Run as F
 use Rattle.lexdfa_lib.specs.declared.error.RunError.TheVariants as run_errors
 use Rattle.lexdfa_lib.specs.declared.outcome.Outcome.{Outcome}
 use Rattle.lexdfa_lib.specs.declared.outcome.Outcome.TheVariants.{Ambiguous}
-use Rattle.tokens_lib.specs.Answer.{Answer, refusal, headed, Reads, TextsAnswer, FirstTextsAnswer}
+use Rattle.tokens_lib.specs.Answer.{Answer, refusal, remark, followed, headed, Reads, TextsAnswer, FirstTextsAnswer}
 use Rattle.lines_lib.specs.ClashesShown.{AreClashesShown}
 use Rattle.tokens_lib.specs.Arguments.{options, names}
 use Rattle.tokens_lib.specs.Command.{IsCommand, IsArgumentsError}
+use Rattle.tokens_lib.specs.Progress.{reading_text}
 use Rattle.tokens_lib.specs.Reasons.{SaysBadLine, SaysRules, SaysTerminals}
 use Rattle.tokens_lib.specs.RuleClashes.{clash_lines}
 use Rattle.tokens_lib.specs.Streams.{Given}
@@ -38,6 +39,7 @@ use Rattle.tokens_lib.specs.declared.command.Action.TheVariants.{Cut, Show, CutB
 use Rattle.tokens_lib.specs.declared.command.ArgumentsError.{ArgumentsError}
 use Rattle.tokens_lib.specs.declared.command.Command.{Command}
 use Rattle.tokens_lib.specs.declared.command.Command.TheVariants.{Help, Version, Run}
+use Rattle.tokens_lib.specs.declared.command.Verbosity.{Verbosity}
 
 -- ---- named rules
 
@@ -147,11 +149,13 @@ ActionAnswer Gives Texts (CutByTerminals places) rules files answer = Reads Give
 ActionAnswer Gives Texts Clashes rules files answer = Reads Gives (RulesOf ClashesAnswer) rules answer
 ActionAnswer Gives Texts TerminalClashes rules files answer = Reads Gives TerminalClashesAnswer rules answer
 
--- the answer for a command
-abbrev pub CommandAnswer : (List ℕ → Given → Type 0) → ((List ℕ → List ℕ → Answer → Type 0) → List (List ℕ) → Answer → Type 0) → Command → Answer → Type 0
+-- the answer for a command; with progress, it says first that the rules are read
+abbrev pub CommandAnswer : (List ℕ → Given → Type 0) → (Verbosity → (List ℕ → List ℕ → Answer → Type 0) → List (List ℕ) → Answer → Type 0) → Command → Answer → Type 0
 CommandAnswer Gives Texts Help answer = answer ≡ information help
 CommandAnswer Gives Texts Version answer = answer ≡ information version
-CommandAnswer Gives Texts (Run action rules files) answer = ActionAnswer Gives Texts action rules.now (map (λ file. file.now) files.items) answer
+CommandAnswer Gives Texts (Run action verbosity rules files) answer =
+    (own : Answer) × (ActionAnswer Gives (Texts verbosity) action rules.now (map (λ file. file.now) files.items) own
+    × (answer ≡ followed (remark (reading_text verbosity rules.now)) own))
 
 -- what is said of a run that fails, or of arguments that aren't UTF-8
 abbrev pub failure_text : Failure → List ℕ
@@ -160,13 +164,13 @@ failure_text (Failing run_errors.OutOfMemory) = codes "tokens: out of memory\n"
 failure_text (Failing run_errors.Read) = codes "tokens: read failed\n"
 failure_text (Failing run_errors.Write) = codes "tokens: write failed\n"
 
--- the answer for these arguments
-abbrev pub IsAnswer : (List ℕ → Given → Type 0) → (Given → Type 0) → List (List ℕ) → Answer → Type 0
-IsAnswer Gives InputGives words answer =
+-- the answer for these arguments, where standard input comes from one state to another
+abbrev pub IsAnswer : {I : Type 0} → (List ℕ → Given → Type 0) → (I → I → Given → Type 0) → I → I → List (List ℕ) → Answer → Type 0
+IsAnswer Gives InputGives i k words answer =
     ((error : ArgumentsError) × (IsArgumentsError (options words) (names words) error × (answer ≡ refusal 4 (wrong_text error))))
-    ⊎ ((command : Command) × (IsCommand (options words) (names words) command × CommandAnswer Gives (TextsAnswer Gives InputGives) command answer))
+    ⊎ ((command : Command) × (IsCommand (options words) (names words) command × CommandAnswer Gives (TextsAnswer Gives InputGives i k) command answer))
 
 -- the answer for the command that these arguments are, to the first texts alone
-abbrev pub IsFirstAnswer : (List ℕ → Given → Type 0) → (Given → Type 0) → List (List ℕ) → Answer → Type 0
-IsFirstAnswer Gives InputGives words answer =
-    (command : Command) × (IsCommand (options words) (names words) command × CommandAnswer Gives (FirstTextsAnswer Gives InputGives) command answer)
+abbrev pub IsFirstAnswer : {I : Type 0} → (List ℕ → Given → Type 0) → (I → I → Given → Type 0) → I → List (List ℕ) → Answer → Type 0
+IsFirstAnswer Gives InputGives i words answer =
+    (command : Command) × (IsCommand (options words) (names words) command × CommandAnswer Gives (FirstTextsAnswer Gives InputGives i) command answer)

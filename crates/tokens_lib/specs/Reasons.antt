@@ -95,18 +95,19 @@ SaysBadLine (file_errors.RepeatedPart line column) said = (shown : List ℕ) × 
 SaysBadLine (file_errors.NoSuchMode line column) said = (shown : List ℕ) × (said ≡ placed line column (codes "no section names this mode") shown)
 SaysBadLine file_errors.OutOfMemory said = ⊥
 
--- the pattern that a text is, with parts or without
-abbrev pub pattern_of : RuleText → List ℕ
-pattern_of (texts.Pattern text) = text.now
-pattern_of (texts.PatternWith text parts) = text.now
-pattern_of _ = []
+-- what of a text is parsed: a literal with escapes, or a pattern
+abbrev pub parsed_text : RuleText → List ℕ
+parsed_text (texts.Escaped text) = text.now
+parsed_text (texts.Pattern text) = text.now
+parsed_text (texts.PatternWith text parts) = text.now
+parsed_text _ = []
 
--- where the text of the rule with this index begins, and the pattern that it is
+-- where the text of the rule with this index begins, and what of it is parsed
 abbrev pub place_at : List Position → ℕ → Position
 place_at places i = unwrap_or (slice_get places i) (record { line = 1; column = 1 })
 
 abbrev pub text_at : List Rule → ℕ → List ℕ
-text_at rs i = unwrap_or (option_map (λ (r : Rule). pattern_of r.text) (slice_get rs i)) []
+text_at rs i = unwrap_or (option_map (λ (r : Rule). parsed_text r.text) (slice_get rs i)) []
 
 -- the mode of a clash, if it is named
 abbrev pub mode_said : Option (List ℕ) → List ℕ
@@ -125,6 +126,13 @@ SaysRules modes rs places (modes_errors.Clash m i j word) said =
     (mode_said (mode_named modes m)) (quoted_word word.items) shown (clash_advice word.items))
 SaysRules modes rs places (modes_errors.NoSuchMode i m) said = ⊥
 SaysRules modes rs places modes_errors.OutOfMemory said = ⊥
+
+-- an error that rules of a file can have: they name only modes that are there, and a pattern that doesn't parse stops where a character
+-- begins, or at its end
+abbrev pub CanBeSaid : List Rule → ModesError → Type 0
+CanBeSaid rs (modes_errors.NoSuchMode i m) = ⊥
+CanBeSaid rs (modes_errors.NotParsed i position kind) = IsCharBoundary (text_at rs i) position
+CanBeSaid rs error = Unit {0}
 
 -- ---- terminals
 

@@ -39,8 +39,10 @@ fn end_of(words: &[String]) -> usize
 
 // The arguments before the first `--`, and those behind it.
 fn around_end(words: &[String]) -> (&[String], &[String])
-    ensures before { map string_bytes result.0.now ≡ before_first is_end (map string_bytes words.now) }
-    ensures behind { map string_bytes result.1.now ≡ after_first is_end (map string_bytes words.now) }
+    ensures before { map string_bytes result.0.now
+        ≡ before_first is_end (map string_bytes words.now) }
+    ensures behind { map string_bytes result.1.now
+        ≡ after_first is_end (map string_bytes words.now) }
 {
     let end = end_of(words);
     if end < words.len() {
@@ -56,8 +58,10 @@ fn around_end(words: &[String]) -> (&[String], &[String])
 ///
 /// `AllocError` if a request for memory was refused.
 pub(crate) fn part(alloc: Global, words: &[String]) -> Result<Parted<'_>, AllocError>
-    ensures options { IfOk result (λ found. map (λ w. w.now) found.options.items ≡ options (map string_bytes words.now)) }
-    ensures names { IfOk result (λ found. map (λ w. w.now) found.names.items ≡ names (map string_bytes words.now)) }
+    ensures options { IfOk result (λ found.
+        map (λ w. w.now) found.options.items ≡ options (map string_bytes words.now)) }
+    ensures names { IfOk result (λ found.
+        map (λ w. w.now) found.names.items ≡ names (map string_bytes words.now)) }
 {
     let (front, behind) = around_end(words);
     let mut options = Vec::new(alloc);

@@ -6,13 +6,13 @@ ghost use Rattle.lalrpop_rule_file.specs.RuleFile.{AreFileParts, AreRules, ArePl
 ghost use Rattle.lalrpop_rule_file.specs.declared.file_rule.FileRule.{FileRule as FileRuleValue};
 ghost use Rattle.tokens_lib.specs.Answer.{Answer, headed, Answered, Refused, Reads, Begun};
 ghost use Rattle.tokens_lib.specs.Program.{StandAt, IsSetOf, AreRulesOf, RulesOf, RulesRefused, ClashesAnswer, clashes_status, rules_status};
-ghost use Rattle.tokens_lib.specs.Reasons.{SaysBadLine, SaysRules};
+ghost use Rattle.tokens_lib.specs.Reasons.{CanBeSaid, SaysBadLine, SaysRules};
 ghost use Rattle.tokens_lib.specs.Streams.{Takes};
-ghost use Rattle.tokens_lib.specs.Internal.Faults.{CanBeSaid, NameOnly};
+ghost use Rattle.tokens_lib.specs.Internal.Faults.{NameOnly};
 
 use crate::file_lexer::{FileLexer, with_names};
 use crate::files::{Files, NO_TEXT, bytes_of, say_headed};
-use crate::mode_file::{ModeFile, mode_file};
+use crate::mode_file::ModeFile;
 use crate::named_clashes::write_rule_clashes;
 use crate::rule_explain::{bad_line_explained, rules_explained};
 use lalrpop_lexer::lexer::dfa::Clash;
@@ -68,7 +68,7 @@ fn report_rules<E: Write>(
     error: &ModesError,
     err: &mut Watched<E>,
 ) -> Result<u8, RunError>
-    requires error { CanBeSaid file.now.rules.items error.now }
+    requires error { CanBeSaid (rules_of file.now.rules.items) error.now }
     ensures status { IfOk result (λ status. status ≡ rules_status error.now) }
     ensures said { OnOk result ((said : List ℕ)
         × (SaysRules (map (λ m. m.now) file.now.modes.items) (rules_of file.now.rules.items)
@@ -127,7 +127,8 @@ fn lexer_of_rules<E: Write>(
     requires places { ArePlaces (lines (without_mark_of bytes.now)) file.now.rules.items }
     requires some { 0 < length file.now.modes.items }
     requires within { (i m : ℕ) (r : FileRuleValue)
-        → slice_get file.now.rules.items i ≡ Some r → NamesMode r m → m < length file.now.modes.items }
+        → slice_get file.now.rules.items i ≡ Some r → NamesMode r m
+        → m < length file.now.modes.items }
     ensures lexer { IfOk result (λ found. IfOk found (λ f.
         AreRulesOf bytes.now f.lexer (map string_bytes f.modes.items))) }
     ensures quiet { IfOk result (λ found. OnOk found (err.new ≡ err.old)) }
@@ -137,7 +138,7 @@ fn lexer_of_rules<E: Write>(
     ensures memory { IfErr result (λ e. e ≡ RunError.OutOfMemory) }
     ensures no_late_message { err.new.late ≡ err.old.late }
 {
-    match mode_file(alloc, file) {
+    match ModeFile::of(alloc, file) {
         Ok(file) => lexer_of_file(alloc, name, without_mark(bytes), &file, err),
         Err(_) => Err(RunError::OutOfMemory),
     }
@@ -250,7 +251,8 @@ fn list_clashes_by<W: Write, E: Write>(
     requires places { ArePlaces (lines (without_mark_of bytes.now)) file.now.rules.items }
     requires some { 0 < length file.now.modes.items }
     requires within { (i m : ℕ) (r : FileRuleValue)
-        → slice_get file.now.rules.items i ≡ Some r → NamesMode r m → m < length file.now.modes.items }
+        → slice_get file.now.rules.items i ≡ Some r → NamesMode r m
+        → m < length file.now.modes.items }
     requires out_good { out.old.failed ≡ false }
     ensures answer { IfOk result (λ status. (answer : Answer)
         × (RulesOf ClashesAnswer name.now bytes.now answer
@@ -264,7 +266,7 @@ fn list_clashes_by<W: Write, E: Write>(
     ensures no_late_write { out.new.late ≡ out.old.late }
     ensures no_late_message { err.new.late ≡ err.old.late }
 {
-    match mode_file(alloc, file) {
+    match ModeFile::of(alloc, file) {
         Ok(file) => list_clashes_of(alloc, name, without_mark(bytes), &file, out, err),
         Err(_) => Err(RunError::OutOfMemory),
     }

@@ -1,8 +1,7 @@
 //! The program's arguments.
-ghost use Rattle.std.specs.Prelude.{◌≡◌, ◌≢◌, [], ◌∷◌, true, false, not, map, find, filter, option_map, string_bytes, List, ℕ, IfOk, IfErr, IfSome, IfNone};
-ghost use Rattle.std.specs.Borrow.{Bor};
+ghost use Rattle.std.specs.Prelude.{◌≡◌, ◌≢◌, [], ◌∷◌, not, map, find, filter, option_map, string_bytes, IfOk, IfErr, IfSome, IfNone};
 ghost use Rattle.tokens_lib.specs.Arguments.{options, names};
-ghost use Rattle.tokens_lib.specs.Command.{IsCommand, IsFilesRun, IsFilesError, IsRun, IsRunError, IsArgumentsError, has, read_files, known, lists, options_of};
+ghost use Rattle.tokens_lib.specs.Command.{IsCommand, IsFilesRun, IsFilesError, IsRun, IsRunError, IsArgumentsError, has, is_known, lists, options_of, verbosity_of};
 ghost use Rattle.tokens_lib.specs.declared.command.Action.{Action as AnAction};
 ghost use Rattle.tokens_lib.specs.declared.command.ArgumentsError.TheVariants.{OutOfMemory};
 
@@ -58,6 +57,27 @@ pub enum Action {
     TerminalClashes,
 }
 
+/// What is said on standard error beside what is wrong.
+///
+/// ```
+/// use tokens_lib::{Command, Verbosity, command_of};
+///
+/// let words = vec![in alloc; String::from_str(alloc, "--quiet")?, String::from_str(alloc, "c.rules")?]?;
+/// let is_quiet = matches!(
+///     command_of(alloc, &words),
+///     Ok(Command::Run { verbosity: Verbosity::Quiet, .. })
+/// ); // true
+/// ```
+#[derive(Clone, Copy, Debug, PartialEq, Eq)]
+pub enum Verbosity {
+    /// Nothing.
+    Quiet,
+    /// Warnings about the rules.
+    Warnings,
+    /// Warnings, and what is being worked on.
+    Progress,
+}
+
 /// What the program has to do.
 ///
 /// ```
@@ -72,9 +92,12 @@ pub enum Command<'words> {
     Help,
     /// Write the version.
     Version,
-    /// Do this by the file `rules` with each of the files, or with standard input if there are none.
+    /// Do this by the file `rules` with each of the files, or with standard input if there are none. A file `-` is standard
+    /// input.
     Run {
         action: Action,
+        /// What is said beside what is wrong.
+        verbosity: Verbosity,
         rules: &'words str,
         files: Vec<&'words str>,
     },
@@ -91,7 +114,7 @@ pub enum Command<'words> {
 pub enum ArgumentsError<'words> {
     /// A request for memory was refused.
     OutOfMemory,
-    /// There is no such option.
+    /// This option is unknown.
     Unknown { option: &'words str },
     /// No file of rules is named.
     NoRules,
@@ -99,8 +122,6 @@ pub enum ArgumentsError<'words> {
     Apart { options: Vec<&'static str> },
     /// Clashes are listed, and no file is read.
     NoFiles { file: &'words str },
-    /// Standard input, `-`, stands among other files.
-    InputAmongFiles,
 }
 
 impl From<AllocError> for ArgumentsError<'_> {
@@ -111,8 +132,8 @@ impl From<AllocError> for ArgumentsError<'_> {
     }
 }
 
-// The options, but those of help and version, in the order in which specs/Command.antt has them.
-const KNOWN: [&str; 7] = [
+// The options of actions, in the order in which specs/Command.antt has them.
+const ACTION_OPTIONS: [&str; 7] = [
     "--recover",
     "--json",
     "--html",
@@ -121,6 +142,9 @@ const KNOWN: [&str; 7] = [
     "--places",
     "--clashes",
 ];
+
+// The options that go with all others.
+const VERBOSITY_OPTIONS: [&str; 2] = ["--quiet", "--progress"];
 
 // Whether a word is among others.
 fn has(words: &[&str], word: &str) -> bool
@@ -135,14 +159,15 @@ fn has(words: &[&str], word: &str) -> bool
 }
 
 fn is_known(option: &str) -> bool
-    ensures { result ≡ has known option.now }
+    ensures { result ≡ is_known option.now }
 {
-    has(&KNOWN, option)
+    has(&ACTION_OPTIONS, option) || has(&VERBOSITY_OPTIONS, option)
 }
 
 // The first unknown option.
 fn unknown<'words>(options: &[&'words str]) -> Option<&'words str>
-    ensures { option_map (λ w. w.now) result ≡ find (λ option. not (has known option)) (map (λ w. w.now) options.now) }
+    ensures { option_map (λ w. w.now) result
+        ≡ find (λ option. not (is_known option)) (map (λ w. w.now) options.now) }
 {
     for option in options {
         if !is_known(option) {
@@ -158,7 +183,8 @@ fn given<'all>(
     options: &[&str],
     all: &[&'all str],
 ) -> Result<Vec<&'all str>, AllocError>
-    ensures { IfOk result (λ found. map (λ w. w.now) found.items ≡ filter (has (map (λ w. w.now) options.now)) (map (λ w. w.now) all.now)) }
+    ensures { IfOk result (λ found. map (λ w. w.now) found.items
+        ≡ filter (has (map (λ w. w.now) options.now)) (map (λ w. w.now) all.now)) }
 {
     let mut found = Vec::new(alloc);
     for option in all {
@@ -205,7 +231,8 @@ fn action_of_one(option: &str) -> Option<Action>
 
 fn action_of_two(first: &str, second: &str) -> Option<Action>
     ensures some { IfSome result (λ action. first.now ∷ second.now ∷ [] ≡ options_of action) }
-    ensures none { IfNone result ((action : AnAction) → first.now ∷ second.now ∷ [] ≢ options_of action) }
+    ensures none { IfNone result ((action : AnAction)
+        → first.now ∷ second.now ∷ [] ≢ options_of action) }
 {
     match (first, second) {
         ("--recover", "--json") => Some(Action::Cut {
@@ -221,7 +248,8 @@ fn action_of_two(first: &str, second: &str) -> Option<Action>
 // The action with just these options, in the order of the table.
 fn action_of(options: &[&str]) -> Option<Action>
     ensures some { IfSome result (λ action. map (λ w. w.now) options.now ≡ options_of action) }
-    ensures none { IfNone result ((action : AnAction) → map (λ w. w.now) options.now ≢ options_of action) }
+    ensures none { IfNone result ((action : AnAction)
+        → map (λ w. w.now) options.now ≢ options_of action) }
 {
     match options {
         [] => Some(Action::Cut {
@@ -234,50 +262,48 @@ fn action_of(options: &[&str]) -> Option<Action>
     }
 }
 
-// The files that are read: none where `-` stands alone, which is standard input.
-fn read_files<'words>(named: Vec<&'words str>) -> Vec<&'words str>
-    ensures { map (λ w. w.now) result.items ≡ read_files (map (λ w. w.now) named.entry.items) }
+// What these options ask to be said.
+fn verbosity_of(options: &[&str]) -> Verbosity
+    ensures { result ≡ verbosity_of (map (λ w. w.now) options.now) }
 {
-    let mut files = named;
-    let is_input = match files.as_slice() {
-        [file] => *file == "-",
-        _ => false,
-    };
-    if is_input {
-        files.clear();
+    if has(options, "--quiet") {
+        Verbosity::Quiet
+    } else if has(options, "--progress") {
+        Verbosity::Progress
+    } else {
+        Verbosity::Warnings
     }
-    files
 }
 
 // This action, if it reads these files.
 fn run_by<'words>(
     action: Action,
+    verbosity: Verbosity,
     rules: &'words str,
-    named: Vec<&'words str>,
+    files: Vec<&'words str>,
 ) -> Result<Command<'words>, ArgumentsError<'words>>
-    ensures command { IfOk result (λ command. IsFilesRun action rules.entry.now (map (λ w. w.now) named.entry.items) command) }
-    ensures error { IfErr result (λ e. IsFilesError action (map (λ w. w.now) named.entry.items) e) }
+    ensures command { IfOk result (IsFilesRun action verbosity rules.entry.now
+        (map (λ w. w.now) files.entry.items)) }
+    ensures error { IfErr result (IsFilesError action (map (λ w. w.now) files.entry.items)) }
 {
     if action.lists() {
-        if let [file, ..] = named.as_slice() {
+        if let [file, ..] = files.as_slice() {
             return Err(ArgumentsError::NoFiles { file });
         }
     }
-    let files = read_files(named);
-    if has(&files, "-") {
-        return Err(ArgumentsError::InputAmongFiles);
-    }
     Ok(Command::Run {
         action,
+        verbosity,
         rules,
         files,
     })
 }
 
-// The first name, which is that of the file of rules, and the others.
+// The first name, which the file of rules has, and the others.
 fn rules_and_files<'words>(names: Vec<&'words str>) -> Option<(&'words str, Vec<&'words str>)>
     ensures none { IfNone result (names.entry.items ≡ []) }
-    ensures some { IfSome result (λ found. map (λ w. w.now) names.entry.items ≡ found.0.now ∷ map (λ w. w.now) found.1.items) }
+    ensures some { IfSome result (λ found. map (λ w. w.now) names.entry.items
+        ≡ found.0.now ∷ map (λ w. w.now) found.1.items) }
 {
     let mut files = names;
     if files.is_empty() {
@@ -293,16 +319,18 @@ fn command_by_rules<'words>(
     options: &[&str],
     names: Vec<&'words str>,
 ) -> Result<Command<'words>, ArgumentsError<'words>>
-    ensures command { IfOk result (λ command. IsRun (map (λ w. w.now) options.now) (map (λ w. w.now) names.entry.items) command) }
-    ensures error { IfErr result (λ e. e ≢ OutOfMemory → IsRunError (map (λ w. w.now) options.now) (map (λ w. w.now) names.entry.items) e) }
+    ensures command { IfOk result (IsRun (map (λ w. w.now) options.now)
+        (map (λ w. w.now) names.entry.items)) }
+    ensures error { IfErr result (λ e. e ≢ OutOfMemory →
+        IsRunError (map (λ w. w.now) options.now) (map (λ w. w.now) names.entry.items) e) }
 {
     let Some((rules, files)) = rules_and_files(names) else {
         return Err(ArgumentsError::NoRules);
     };
-    let options = given(alloc, options, &KNOWN)?;
-    match action_of(&options) {
-        Some(action) => run_by(action, rules, files),
-        None => Err(ArgumentsError::Apart { options }),
+    let of_action = given(alloc, options, &ACTION_OPTIONS)?;
+    match action_of(&of_action) {
+        Some(action) => run_by(action, verbosity_of(options), rules, files),
+        None => Err(ArgumentsError::Apart { options: of_action }),
     }
 }
 
@@ -312,8 +340,10 @@ fn command_with<'words>(
     options: &[&'words str],
     names: Vec<&'words str>,
 ) -> Result<Command<'words>, ArgumentsError<'words>>
-    ensures command { IfOk result (λ command. IsCommand (map (λ w. w.now) options.now) (map (λ w. w.now) names.entry.items) command) }
-    ensures error { IfErr result (λ e. e ≢ OutOfMemory → IsArgumentsError (map (λ w. w.now) options.now) (map (λ w. w.now) names.entry.items) e) }
+    ensures command { IfOk result (IsCommand (map (λ w. w.now) options.now)
+        (map (λ w. w.now) names.entry.items)) }
+    ensures error { IfErr result (λ e. e ≢ OutOfMemory →
+        IsArgumentsError (map (λ w. w.now) options.now) (map (λ w. w.now) names.entry.items) e) }
 {
     if has(options, "--help") {
         return Ok(Command::Help);
@@ -334,8 +364,10 @@ fn command_with<'words>(
 ///
 /// What is wrong with the arguments; `OutOfMemory` if a request for memory was refused.
 pub fn command_of(alloc: Global, words: &[String]) -> Result<Command<'_>, ArgumentsError<'_>>
-    ensures command { IfOk result (λ command. IsCommand (options (map string_bytes words.now)) (names (map string_bytes words.now)) command) }
-    ensures error { IfErr result (λ e. e ≢ OutOfMemory → IsArgumentsError (options (map string_bytes words.now)) (names (map string_bytes words.now)) e) }
+    ensures command { IfOk result (IsCommand (options (map string_bytes words.now))
+        (names (map string_bytes words.now))) }
+    ensures error { IfErr result (λ e. e ≢ OutOfMemory → IsArgumentsError
+        (options (map string_bytes words.now)) (names (map string_bytes words.now)) e) }
 {
     let Parted { options, names } = part(alloc, words)?;
     command_with(alloc, &options, names)

@@ -2,18 +2,21 @@
 ghost use Rattle.std.specs.Prelude.{◌≡◌, ◌≢◌, max, false, true, map, codes, string_bytes, Option, List, ℕ, IfOk, OnOk, OnErr, IfErr};
 ghost use Rattle.std.specs.Io.KnownBytes.{Appends};
 ghost use Rattle.std.specs.Str.{IsCharBoundary};
-ghost use Rattle.tokens_lib.specs.Answer.{Answer, Answered, TextOf, Reads, FilesAnswer, TextsAnswer, FirstFilesAnswer, FirstTextsAnswer, Begun};
+ghost use Rattle.tokens_lib.specs.Answer.{Answer, Answered, TextOf, Reads, FileAnswer, NumberedAnswer, FilesAnswer, TextsAnswer, FirstFilesAnswer, FirstTextsAnswer, Begun};
 ghost use Rattle.tokens_lib.specs.Streams.{Takes, StreamGives};
 ghost use Rattle.tokens_lib.specs.TextAnswer.{fault_text, open_text, TokensAnswer, PiecesAnswer, PageAnswer};
 ghost use Rattle.tokens_lib.specs.Internal.Tasks.{TaskAnswer, StopsIn, IsTokensEnding, IsPiecesEnding, IsDone};
 
-use crate::command::Markup;
+use crate::command::{Markup, Verbosity};
 use crate::fault::{fault_message, open_message};
 use crate::file_lexer::FileLexer;
-use crate::files::{Files, INPUT, NO_TEXT, bytes_of, input_bytes, say, say_about};
+use crate::files::{
+    Files, INPUT, NO_TEXT, bytes_of, input_bytes, is_input, say, say_about, shown_name,
+};
 use crate::item_lines::{mode_name, write_items};
 use crate::layout::{Layout, LineForm};
 use crate::page::write_page;
+use crate::progress::{number_message, total_said};
 use crate::text_end::TextEnd;
 use lalrpop_lexer::Lexer;
 use lalrpop_rule_file::without_mark;
@@ -93,7 +96,8 @@ fn pieces_ending<'rules>(
     modes: &'rules [String],
     end: &TextEnd,
 ) -> CutResult<'rules>
-    ensures { IsPiecesEnding recovers (map string_bytes modes.now) end.now.fault end.now.inside result }
+    ensures { IsPiecesEnding recovers (map string_bytes modes.now)
+        end.now.fault end.now.inside result }
 {
     match end.fault {
         Some(at) if !recovers => CutResult::Stopped { kind: "rule", at },
@@ -117,7 +121,8 @@ fn cut_tokens<W: Write>(
         × Appends (W.contents out.old.inner) (W.contents out.new.inner) written)))) }
     ensures boundary { IfOk result (λ ending. StopsIn text.now ending) }
     ensures good { OnOk result (out.new.failed ≡ false) }
-    ensures begun { OnErr result (Begun (TokensAnswer lexer.now.trees lexer.now.precedences places name.now text.now)
+    ensures begun { OnErr result (Begun
+        (TokensAnswer lexer.now.trees lexer.now.precedences places name.now text.now)
         (W.contents out.old.inner) (W.contents out.new.inner)) }
     ensures memory { IfErr result (λ e. e ≡ RunError.OutOfMemory → out.new.failed ≡ false) }
     ensures write { IfErr result (λ e. e ≡ RunError.Write → out.new.failed ≡ true) }
@@ -141,13 +146,14 @@ fn cut_pieces<'text, W: Write>(
 ) -> Result<CutResult<'text>, RunError>
     requires out_good { out.old.failed ≡ false }
     ensures done { IfOk result (λ ending. (answer : Answer)
-        × (PiecesAnswer rules.now.lexer (map string_bytes rules.now.modes.items) form recovers several
-        name.now text.now answer
+        × (PiecesAnswer rules.now.lexer (map string_bytes rules.now.modes.items)
+        form recovers several name.now text.now answer
         × ((written : List ℕ) × (IsDone name.now text.now written ending answer
         × Appends (W.contents out.old.inner) (W.contents out.new.inner) written)))) }
     ensures boundary { IfOk result (λ ending. StopsIn text.now ending) }
     ensures good { OnOk result (out.new.failed ≡ false) }
-    ensures begun { OnErr result (Begun (PiecesAnswer rules.now.lexer (map string_bytes rules.now.modes.items) form recovers several
+    ensures begun { OnErr result (Begun
+        (PiecesAnswer rules.now.lexer (map string_bytes rules.now.modes.items) form recovers several
         name.now text.now)
         (W.contents out.old.inner) (W.contents out.new.inner)) }
     ensures memory { IfErr result (λ e. e ≡ RunError.OutOfMemory → out.new.failed ≡ false) }
@@ -176,12 +182,14 @@ fn cut_page<'text, W: Write>(
 ) -> Result<CutResult<'text>, RunError>
     requires out_good { out.old.failed ≡ false }
     ensures done { IfOk result (λ ending. (answer : Answer)
-        × (PageAnswer rules.now.lexer (map string_bytes rules.now.modes.items) markup name.now text.now answer
+        × (PageAnswer rules.now.lexer (map string_bytes rules.now.modes.items) markup
+        name.now text.now answer
         × ((written : List ℕ) × (IsDone name.now text.now written ending answer
         × Appends (W.contents out.old.inner) (W.contents out.new.inner) written)))) }
     ensures boundary { IfOk result (λ ending. StopsIn text.now ending) }
     ensures good { OnOk result (out.new.failed ≡ false) }
-    ensures begun { OnErr result (Begun (PageAnswer rules.now.lexer (map string_bytes rules.now.modes.items) markup name.now text.now)
+    ensures begun { OnErr result (Begun
+        (PageAnswer rules.now.lexer (map string_bytes rules.now.modes.items) markup name.now text.now)
         (W.contents out.old.inner) (W.contents out.new.inner)) }
     ensures memory { IfErr result (λ e. e ≡ RunError.OutOfMemory → out.new.failed ≡ false) }
     ensures write { IfErr result (λ e. e ≡ RunError.Write → out.new.failed ≡ true) }
@@ -357,7 +365,8 @@ fn cut_file<F: Files, W: Write, E: Write>(
         × (Reads (F.gives files.now) (TextOf (TaskAnswer task.now)) name.now answer
         × Answered W.contents E.contents out.old out.new err.old err.new status answer)) }
     ensures good { OnOk result (out.new.failed ≡ false) }
-    ensures begun { OnErr result (Begun (Reads (F.gives files.now) (TextOf (TaskAnswer task.now)) name.now)
+    ensures begun { OnErr result (Begun
+        (Reads (F.gives files.now) (TextOf (TaskAnswer task.now)) name.now)
         (W.contents out.old.inner) (W.contents out.new.inner)) }
     ensures memory { IfErr result (λ e. e ≡ RunError.OutOfMemory → out.new.failed ≡ false) }
     ensures write { IfErr result (λ e. e ≡ RunError.Write → out.new.failed ≡ true) }
@@ -379,7 +388,6 @@ fn cut_input<R: Read, W: Write, E: Write>(
     out: &mut Watched<W>,
     err: &mut Watched<E>,
 ) -> Result<u8, RunError>
-    requires input_good { input.old.failed ≡ false }
     requires out_good { out.old.failed ≡ false }
     ensures answer { IfOk result (λ status. (answer : Answer)
         × (Reads (λ name. StreamGives R.remaining input.old input.new)
@@ -409,56 +417,24 @@ fn worse(status: u8, other: u8) -> u8
     status.max(other)
 }
 
-// Does the task for each file, and returns the greatest status.
-fn cut_each<F: Files, W: Write, E: Write>(
+// Does the task for a file, where `-` is standard input, and returns the status.
+fn cut_file_or_input<F: Files, R: Read, W: Write, E: Write>(
     alloc: Global,
     task: &Task<'_>,
     files: &F,
-    names: &[&str],
-    out: &mut Watched<W>,
-    err: &mut Watched<E>,
-) -> Result<u8, RunError>
-    requires out_good { out.old.failed ≡ false }
-    ensures answer { IfOk result (λ status. (answer : Answer)
-        × (FilesAnswer (F.gives files.now) (TaskAnswer task.now) (map (λ name. name.now) names.now) answer
-        × Answered W.contents E.contents out.old out.new err.old err.new status answer)) }
-    ensures good { OnOk result (out.new.failed ≡ false) }
-    ensures begun { OnErr result (Begun (FirstFilesAnswer (F.gives files.now) (TaskAnswer task.now)
-        (map (λ name. name.now) names.now))
-        (W.contents out.old.inner) (W.contents out.new.inner)) }
-    ensures memory { IfErr result (λ e. e ≡ RunError.OutOfMemory → out.new.failed ≡ false) }
-    ensures write { IfErr result (λ e. e ≡ RunError.Write → out.new.failed ≡ true) }
-    ensures read { IfErr result (λ e. e ≢ RunError.Read) }
-    ensures no_late_write { out.new.late ≡ out.old.late }
-    ensures no_late_message { err.new.late ≡ err.old.late }
-{
-    let mut status = 0u8;
-    for name in names {
-        let own = cut_file(alloc, task, files, name, out, err)?;
-        status = worse(status, own);
-    }
-    Ok(status)
-}
-
-/// Does the task for each file, or for standard input if there are none, and returns the greatest status.
-pub(crate) fn cut_all<F: Files, R: Read, W: Write, E: Write>(
-    alloc: Global,
-    task: &Task<'_>,
-    files: &F,
-    names: &[&str],
+    name: &str,
     input: &mut Watched<R>,
     out: &mut Watched<W>,
     err: &mut Watched<E>,
 ) -> Result<u8, RunError>
-    requires input_good { input.old.failed ≡ false }
     requires out_good { out.old.failed ≡ false }
     ensures answer { IfOk result (λ status. (answer : Answer)
-        × (TextsAnswer (F.gives files.now) (StreamGives R.remaining input.old input.new)
-        (TaskAnswer task.now) (map (λ name. name.now) names.now) answer
+        × (FileAnswer (F.gives files.now) (StreamGives R.remaining) (TaskAnswer task.now)
+        input.old input.new name.now answer
         × Answered W.contents E.contents out.old out.new err.old err.new status answer)) }
     ensures good { OnOk result (out.new.failed ≡ false) }
-    ensures begun { OnErr result (Begun (FirstTextsAnswer (F.gives files.now)
-        (StreamGives R.remaining input.old input.new) (TaskAnswer task.now) (map (λ name. name.now) names.now))
+    ensures begun { OnErr result (Begun (FileAnswer (F.gives files.now) (StreamGives R.remaining)
+        (TaskAnswer task.now) input.old input.new name.now)
         (W.contents out.old.inner) (W.contents out.new.inner)) }
     ensures memory { IfErr result (λ e. e ≡ RunError.OutOfMemory → out.new.failed ≡ false) }
     ensures write { IfErr result (λ e. e ≡ RunError.Write → out.new.failed ≡ true) }
@@ -467,9 +443,117 @@ pub(crate) fn cut_all<F: Files, R: Read, W: Write, E: Write>(
     ensures no_late_write { out.new.late ≡ out.old.late }
     ensures no_late_message { err.new.late ≡ err.old.late }
 {
-    if names.is_empty() {
+    if is_input(name) {
         cut_input(alloc, task, input, out, err)
     } else {
-        cut_each(alloc, task, files, names, out, err)
+        cut_file(alloc, task, files, name, out, err)
+    }
+}
+
+// Says which of the files it is, if their number is said; does the task for it, and returns the status.
+fn cut_numbered<F: Files, R: Read, W: Write, E: Write>(
+    alloc: Global,
+    task: &Task<'_>,
+    total: Option<usize>,
+    number: usize,
+    files: &F,
+    name: &str,
+    input: &mut Watched<R>,
+    out: &mut Watched<W>,
+    err: &mut Watched<E>,
+) -> Result<u8, RunError>
+    requires out_good { out.old.failed ≡ false }
+    ensures answer { IfOk result (λ status. (answer : Answer)
+        × (NumberedAnswer (F.gives files.now) (StreamGives R.remaining) (TaskAnswer task.now)
+        total number input.old input.new name.now answer
+        × Answered W.contents E.contents out.old out.new err.old err.new status answer)) }
+    ensures good { OnOk result (out.new.failed ≡ false) }
+    ensures begun { OnErr result (Begun (NumberedAnswer (F.gives files.now)
+        (StreamGives R.remaining) (TaskAnswer task.now) total number input.old input.new name.now)
+        (W.contents out.old.inner) (W.contents out.new.inner)) }
+    ensures memory { IfErr result (λ e. e ≡ RunError.OutOfMemory → out.new.failed ≡ false) }
+    ensures write { IfErr result (λ e. e ≡ RunError.Write → out.new.failed ≡ true) }
+    ensures read { IfErr result (λ e. e ≢ RunError.Read) }
+    ensures no_late_read { input.new.late ≡ input.old.late }
+    ensures no_late_write { out.new.late ≡ out.old.late }
+    ensures no_late_message { err.new.late ≡ err.old.late }
+{
+    let Ok(message) = number_message(alloc, total, number, shown_name(name)) else {
+        return Err(RunError::OutOfMemory);
+    };
+    say(message.as_str(), err);
+    cut_file_or_input(alloc, task, files, name, input, out, err)
+}
+
+// Does the task for each file, and returns the greatest status.
+fn cut_each<F: Files, R: Read, W: Write, E: Write>(
+    alloc: Global,
+    task: &Task<'_>,
+    total: Option<usize>,
+    files: &F,
+    names: &[&str],
+    input: &mut Watched<R>,
+    out: &mut Watched<W>,
+    err: &mut Watched<E>,
+) -> Result<u8, RunError>
+    requires out_good { out.old.failed ≡ false }
+    ensures answer { IfOk result (λ status. (answer : Answer)
+        × (FilesAnswer (NumberedAnswer (F.gives files.now) (StreamGives R.remaining)
+        (TaskAnswer task.now) total) 1 input.old input.new (map (λ name. name.now) names.now) answer
+        × Answered W.contents E.contents out.old out.new err.old err.new status answer)) }
+    ensures good { OnOk result (out.new.failed ≡ false) }
+    ensures begun { OnErr result (Begun (FirstFilesAnswer (NumberedAnswer (F.gives files.now)
+        (StreamGives R.remaining) (TaskAnswer task.now) total) input.old
+        (map (λ name. name.now) names.now))
+        (W.contents out.old.inner) (W.contents out.new.inner)) }
+    ensures memory { IfErr result (λ e. e ≡ RunError.OutOfMemory → out.new.failed ≡ false) }
+    ensures write { IfErr result (λ e. e ≡ RunError.Write → out.new.failed ≡ true) }
+    ensures read { IfErr result (λ e. e ≢ RunError.Read) }
+    ensures no_late_read { input.new.late ≡ input.old.late }
+    ensures no_late_write { out.new.late ≡ out.old.late }
+    ensures no_late_message { err.new.late ≡ err.old.late }
+{
+    let mut status = 0u8;
+    for (i, name) in names.iter().enumerate() {
+        let own = cut_numbered(alloc, task, total, i + 1, files, name, input, out, err)?;
+        status = worse(status, own);
+    }
+    Ok(status)
+}
+
+/// Does the task for each file, or for standard input if there are none, and returns the greatest status. A file `-` is
+/// standard input too.
+pub(crate) fn cut_all<F: Files, R: Read, W: Write, E: Write>(
+    alloc: Global,
+    task: &Task<'_>,
+    verbosity: Verbosity,
+    files: &F,
+    names: &[&str],
+    input: &mut Watched<R>,
+    out: &mut Watched<W>,
+    err: &mut Watched<E>,
+) -> Result<u8, RunError>
+    requires out_good { out.old.failed ≡ false }
+    ensures answer { IfOk result (λ status. (answer : Answer)
+        × (TextsAnswer (F.gives files.now) (StreamGives R.remaining) input.old input.new verbosity
+        (TaskAnswer task.now) (map (λ name. name.now) names.now) answer
+        × Answered W.contents E.contents out.old out.new err.old err.new status answer)) }
+    ensures good { OnOk result (out.new.failed ≡ false) }
+    ensures begun { OnErr result (Begun (FirstTextsAnswer (F.gives files.now)
+        (StreamGives R.remaining) input.old verbosity (TaskAnswer task.now)
+        (map (λ name. name.now) names.now))
+        (W.contents out.old.inner) (W.contents out.new.inner)) }
+    ensures memory { IfErr result (λ e. e ≡ RunError.OutOfMemory → out.new.failed ≡ false) }
+    ensures write { IfErr result (λ e. e ≡ RunError.Write → out.new.failed ≡ true) }
+    ensures read { IfErr result (λ e. e ≢ RunError.Read) }
+    ensures no_late_read { input.new.late ≡ input.old.late }
+    ensures no_late_write { out.new.late ≡ out.old.late }
+    ensures no_late_message { err.new.late ≡ err.old.late }
+{
+    let total = total_said(verbosity, names.len());
+    if names.is_empty() {
+        cut_each(alloc, task, total, files, &["-"], input, out, err)
+    } else {
+        cut_each(alloc, task, total, files, names, input, out, err)
     }
 }

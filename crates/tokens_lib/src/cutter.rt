@@ -14,8 +14,8 @@ use lexdfa_lib::RunError;
 use std::alloc::{AllocError, Global};
 use std::marker::Model;
 
-/// Cuts a text piece by piece, and knows the mode of the last piece, where the first fault begins, and where the modes were entered that
-/// have one below them.
+/// Cuts a text piece by piece, and knows the mode of the last piece, where the first fault begins, and where the modes were
+/// entered that have one below them.
 #[derive(Debug, Drop)]
 pub(crate) struct Cutter<'text> {
     lexer: &'text ModeLexer,

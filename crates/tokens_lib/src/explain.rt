@@ -170,7 +170,8 @@ fn clash_explained(
     )
 }
 
-/// What is wrong with a file of terminals, to stand after the file's name: the number of the line, the reason, and the line itself.
+/// What is wrong with a file of terminals, to stand after the file's name: the number of the line, the reason, and the line
+/// itself.
 ///
 /// # Errors
 ///

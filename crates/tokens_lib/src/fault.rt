@@ -1,4 +1,5 @@
-//! The messages for a place where nothing matches, for a text that ends in a mode that has one below it, and for a file that gives no text.
+//! The messages for a place where nothing matches, for a text that ends in a mode that has one below it, and for a file that
+//! gives no text.
 ghost use Rattle.std.specs.Prelude.{◌≡◌, ◌++◌, codes, take, flat_map, string_bytes, IfOk, OnOk};
 ghost use Rattle.std.specs.Str.{chars, IsCharBoundary};
 ghost use Rattle.tokens_lib.specs.Answer.{about, headed};

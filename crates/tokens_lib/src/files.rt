@@ -1,6 +1,7 @@
 //! Files that are read by name, and what is said about them on standard error.
-ghost use Rattle.std.specs.Prelude.{◌≡◌, ℕ, List, false, Ok, Err, IfOk, IfErr, IfSome, IfNone, OnOk, OnSome};
-ghost use Rattle.tokens_lib.specs.Answer.{about, headed};
+ghost use Rattle.std.specs.Prelude.{◌≡◌, ◌≢◌, ℕ, List, false, true, Ok, Err, IfOk, IfErr, IfSome, IfNone, OnOk, OnSome};
+ghost use Rattle.lexdfa_lib.specs.Watch.{ReadsAll};
+ghost use Rattle.tokens_lib.specs.Answer.{about, headed, is_input, shown_name};
 ghost use Rattle.tokens_lib.specs.Streams.{Given, StreamGives, Takes, reason_told};
 ghost use Rattle.tokens_lib.specs.declared.files.NoBytes.TheVariants.{OutOfMemory};
 
@@ -14,8 +15,22 @@ use std::rt::Files as RuntimeFiles;
 /// The status if a file gave no text.
 pub(crate) const NO_TEXT: u8 = 6;
 
-/// The name that standard input has in messages.
+/// The name that standard input has in lines and messages.
 pub(crate) const INPUT: &str = "<stdin>";
+
+/// Whether a file is standard input.
+pub(crate) fn is_input(file: &str) -> bool
+    ensures input { result ≡ is_input file.now }
+{
+    file == "-"
+}
+
+/// The name of a file in lines and messages.
+pub(crate) fn shown_name(file: &str) -> &str
+    ensures name { result.now ≡ shown_name file.now }
+{
+    if is_input(file) { INPUT } else { file }
+}
 
 /// Why a file gives no bytes.
 ///
@@ -197,13 +212,27 @@ pub(crate) fn bytes_of<F: Files, E: Write>(
     }
 }
 
-/// All bytes of standard input. If a read fails, says so.
+// What is left of standard input; the failure again after a read that failed.
+fn read_input<R: Read>(alloc: Global, input: &mut Watched<R>) -> Result<Vec<u8>, RunError>
+    ensures bytes { IfOk result (λ all.
+        ReadsAll (R.remaining input.old.inner) (R.remaining input.new.inner) all.items) }
+    ensures good { OnOk result (input.new.failed ≡ false) }
+    ensures read { IfErr result (λ e. e ≡ RunError.Read → input.new.failed ≡ true) }
+    ensures write { IfErr result (λ e. e ≢ RunError.Write) }
+    ensures no_late_read { input.new.late ≡ input.old.late }
+{
+    if input.failed() {
+        return Err(RunError::Read);
+    }
+    read_whole(alloc, input)
+}
+
+/// What is left of standard input. If a read fails, or failed before, says so.
 pub(crate) fn input_bytes<R: Read, E: Write>(
     alloc: Global,
     input: &mut Watched<R>,
     err: &mut Watched<E>,
 ) -> Result<Option<Vec<u8>>, RunError>
-    requires input_good { input.old.failed ≡ false }
     ensures bytes { IfOk result (λ found.
         IfSome found (λ bytes. StreamGives R.remaining input.old input.new (Ok bytes.items))) }
     ensures quiet { IfOk result (λ found. OnSome found (err.new ≡ err.old)) }
@@ -214,7 +243,7 @@ pub(crate) fn input_bytes<R: Read, E: Write>(
     ensures no_late_read { input.new.late ≡ input.old.late }
     ensures no_late_message { err.new.late ≡ err.old.late }
 {
-    match read_whole(alloc, input) {
+    match read_input(alloc, input) {
         Ok(bytes) => Ok(Some(bytes)),
         Err(RunError::OutOfMemory) => Err(RunError::OutOfMemory),
         Err(_) => {

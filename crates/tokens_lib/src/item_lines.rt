@@ -52,7 +52,7 @@ fn name_of(lexer: &ModeLexer, index: NfaIndex) -> &str
     }
 }
 
-/// The name of the mode with this number, or the empty string if there is no such mode.
+/// The name of the mode with this number, or the empty string if no mode has it.
 pub(crate) fn mode_name(modes: &[String], mode: usize) -> &str
     ensures name { result.now ≡ name_at (map string_bytes modes.now) mode }
 {
@@ -140,11 +140,11 @@ fn ends(layout: &Layout<'_, '_>, first_fault: Option<usize>) -> bool
 /// Cuts the text by named rules, and writes a line for each token and for each fault, but none for skipped pieces. A plain line
 /// is `LINE:COLUMN NAME "SLICE"`, with `FILE:` before it if the file is named. Lines and columns count from 1, columns in
 /// characters, and a fault has `!` for its name. A line of JSON is an object with the members `file`, if the file is named,
-/// `line`, `column`, `start` and `end`, which are offsets in bytes, `rule`, which is `null` for a fault, `mode`, if the layout names several
-/// modes, and `text`.
+/// `line`, `column`, `start` and `end`, which are offsets in bytes, `rule`, which is `null` for a fault, `mode`, if the layout
+/// names several modes, and `text`.
 ///
-/// If the layout doesn't recover, the text is cut up to its first fault, which has no line. Returns where the first fault begins,
-/// in bytes, if there is one, and the mode in which cutting ended, if it has one below it.
+/// If the layout doesn't recover, the text is cut up to its first fault, which has no line. Returns where the first fault
+/// begins, in bytes, if there is one, and the mode in which cutting ended, if it has one below it.
 ///
 /// Lines are written while the text is cut, about 64 KiB at a time. No call is tried again.
 ///

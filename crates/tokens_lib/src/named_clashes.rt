@@ -25,7 +25,7 @@ fn name_found<'text>(rules: &[ModeRule<'text>], index: usize) -> &'text str
     }
 }
 
-/// The name of the rule with this index, or the empty string if there is no such rule.
+/// The name of the rule with this index, or the empty string if no rule has it.
 pub(crate) fn name_of<'text>(rules: &[ModeRule<'text>], index: usize) -> &'text str
     ensures name { result.now ≡ name_at (names_of (rules_of rules.now)) index }
 {
@@ -115,8 +115,8 @@ fn lines_of(
     Ok(lines)
 }
 
-/// Writes a line for each of these clashes, mode by mode, as `lalrpop_modes::mode_clashes` finds them: the name of the mode, if there are
-/// several, the names of the two rules, the earlier one first, and the word in quotes.
+/// Writes a line for each of these clashes, mode by mode, as `lalrpop_modes::mode_clashes` finds them: the name of the mode, if
+/// there are several, the names of the two rules, the earlier one first, and the word in quotes.
 ///
 /// ```
 /// use lexdfa_lib::Watched;
@@ -140,7 +140,8 @@ pub fn write_rule_clashes<W: Write>(
 ) -> Result<(), RunError>
     requires writer_good { writer.old.failed ≡ false }
 
-    ensures written { OnOk result (Appends (W.contents writer.old.inner) (W.contents writer.new.inner)
+    ensures written { OnOk result (Appends
+        (W.contents writer.old.inner) (W.contents writer.new.inner)
         (clash_lines (map (λ m. m.now) modes.now) (names_of (rules_of rules.now)) 0
         (map (λ cs. cs.items) found.now))) }
     ensures good { OnOk result (writer.new.failed ≡ false) }

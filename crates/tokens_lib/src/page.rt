@@ -55,9 +55,9 @@ fn pass_on<W: Write>(page: &mut String, writer: &mut Watched<W>) -> Result<(), R
     Ok(())
 }
 
-/// Writes the text as HTML, or in colours for a terminal, as `html` and `ansi` of `lalrpop_markup` make them. The text is cut to its
-/// end, behind faults too. Returns where the first fault begins, in bytes, if there is one, and the mode in which the text ends, if it
-/// has one below it.
+/// Writes the text as HTML, or in colours for a terminal, as `html` and `ansi` of `lalrpop_markup` make them. The text is cut
+/// to its end, behind faults too. Returns where the first fault begins, in bytes, if there is one, and the mode in which the
+/// text ends, if it has one below it.
 ///
 /// The page is written while the text is cut, about 64 KiB at a time, and is never held as a whole. No call is tried again.
 ///

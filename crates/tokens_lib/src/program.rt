@@ -5,15 +5,17 @@ ghost use Rattle.std.specs.Process.{exit_status};
 ghost use Rattle.lexdfa_lib.specs.Watch.{AppendsPrefix};
 ghost use Rattle.tokens_lib.specs.Answer.{Answer, Answered, TextsAnswer, FirstTextsAnswer, Begun};
 ghost use Rattle.tokens_lib.specs.Program.{ActionAnswer, CommandAnswer, IsAnswer, IsFirstAnswer, failure_text};
+ghost use Rattle.tokens_lib.specs.Progress.{reading_text};
 ghost use Rattle.tokens_lib.specs.Streams.{StreamGives, Takes};
 ghost use Rattle.tokens_lib.specs.Usage.{help, version, wrong_text};
 
 use crate::by_rules::{lexer_by_name, list_clashes};
 use crate::by_terminals::{list_terminal_clashes, terminals_by_name};
-use crate::command::{Action, ArgumentsError, Command, command_of};
+use crate::command::{Action, ArgumentsError, Command, Verbosity, command_of};
 use crate::cut_files::{Task, cut_all};
 use crate::files::{ErrorStream, Files, SystemFiles, say};
 use crate::output::Output;
+use crate::progress::reading_message;
 use crate::usage::{help, version, wrong_text};
 use lexdfa_lib::{Failure, RunError, Watched, flushed, status_of, without_arguments, write_whole};
 use std::alloc::Global;
@@ -53,6 +55,7 @@ fn are_several(names: &[&str]) -> bool
 fn run_action<F: Files, R: Read, W: Write, E: Write>(
     alloc: Global,
     action: Action,
+    verbosity: Verbosity,
     rules: &str,
     names: &[&str],
     files: &F,
@@ -60,16 +63,15 @@ fn run_action<F: Files, R: Read, W: Write, E: Write>(
     out: &mut Watched<W>,
     err: &mut Watched<E>,
 ) -> Result<u8, RunError>
-    requires input_good { input.old.failed ≡ false }
     requires out_good { out.old.failed ≡ false }
     ensures answer { IfOk result (λ status. (answer : Answer)
         × (ActionAnswer (F.gives files.now) (TextsAnswer (F.gives files.now)
-        (StreamGives R.remaining input.old input.new)) action rules.now
+        (StreamGives R.remaining) input.old input.new verbosity) action rules.now
         (map (λ name. name.now) names.now) answer
         × Answered W.contents E.contents out.old out.new err.old err.new status answer)) }
     ensures good { OnOk result (out.new.failed ≡ false) }
     ensures begun { OnErr result (Begun (ActionAnswer (F.gives files.now)
-        (FirstTextsAnswer (F.gives files.now) (StreamGives R.remaining input.old input.new)) action
+        (FirstTextsAnswer (F.gives files.now) (StreamGives R.remaining) input.old verbosity) action
         rules.now (map (λ name. name.now) names.now))
         (W.contents out.old.inner) (W.contents out.new.inner)) }
     ensures memory { IfErr result (λ e. e ≡ RunError.OutOfMemory → out.new.failed ≡ false) }
@@ -88,7 +90,7 @@ fn run_action<F: Files, R: Read, W: Write, E: Write>(
                     recovers,
                     several: are_several(names),
                 };
-                cut_all(alloc, &task, files, names, input, out, err)
+                cut_all(alloc, &task, verbosity, files, names, input, out, err)
             }
             Err(status) => Ok(status),
         },
@@ -98,7 +100,7 @@ fn run_action<F: Files, R: Read, W: Write, E: Write>(
                     rules: &found,
                     markup,
                 };
-                cut_all(alloc, &task, files, names, input, out, err)
+                cut_all(alloc, &task, verbosity, files, names, input, out, err)
             }
             Err(status) => Ok(status),
         },
@@ -108,13 +110,32 @@ fn run_action<F: Files, R: Read, W: Write, E: Write>(
                     lexer: &lexer,
                     places,
                 };
-                cut_all(alloc, &task, files, names, input, out, err)
+                cut_all(alloc, &task, verbosity, files, names, input, out, err)
             }
             Err(status) => Ok(status),
         },
         Action::Clashes => list_clashes(alloc, files, rules, out, err),
         Action::TerminalClashes => list_terminal_clashes(alloc, files, rules, out, err),
     }
+}
+
+// Says that the file of rules is read, if progress is said.
+fn say_reading<E: Write>(
+    alloc: Global,
+    verbosity: Verbosity,
+    rules: &str,
+    err: &mut Watched<E>,
+) -> Result<(), RunError>
+    ensures said { OnOk result
+        (Takes E.contents err.old err.new (reading_text verbosity rules.now)) }
+    ensures memory { IfErr result (λ e. e ≡ RunError.OutOfMemory) }
+    ensures no_late_message { err.new.late ≡ err.old.late }
+{
+    let Ok(message) = reading_message(alloc, verbosity, rules) else {
+        return Err(RunError::OutOfMemory);
+    };
+    say(message.as_str(), err);
+    Ok(())
 }
 
 // Does what a command says, and returns the status.
@@ -126,15 +147,14 @@ fn run_command<F: Files, R: Read, W: Write, E: Write>(
     out: &mut Watched<W>,
     err: &mut Watched<E>,
 ) -> Result<u8, RunError>
-    requires input_good { input.old.failed ≡ false }
     requires out_good { out.old.failed ≡ false }
     ensures answer { IfOk result (λ status. (answer : Answer)
         × (CommandAnswer (F.gives files.now) (TextsAnswer (F.gives files.now)
-        (StreamGives R.remaining input.old input.new)) command.now answer
+        (StreamGives R.remaining) input.old input.new) command.now answer
         × Answered W.contents E.contents out.old out.new err.old err.new status answer)) }
     ensures good { OnOk result (out.new.failed ≡ false) }
     ensures begun { OnErr result (Begun (CommandAnswer (F.gives files.now)
-        (FirstTextsAnswer (F.gives files.now) (StreamGives R.remaining input.old input.new)) command.now)
+        (FirstTextsAnswer (F.gives files.now) (StreamGives R.remaining) input.old) command.now)
         (W.contents out.old.inner) (W.contents out.new.inner)) }
     ensures memory { IfErr result (λ e. e ≡ RunError.OutOfMemory → out.new.failed ≡ false) }
     ensures write { IfErr result (λ e. e ≡ RunError.Write → out.new.failed ≡ true) }
@@ -148,9 +168,15 @@ fn run_command<F: Files, R: Read, W: Write, E: Write>(
         Command::Version => inform(version(), out),
         Command::Run {
             action,
+            verbosity,
             rules,
             files: names,
-        } => run_action(alloc, *action, rules, names, files, input, out, err),
+        } => {
+            say_reading(alloc, *verbosity, rules, err)?;
+            run_action(
+                alloc, *action, *verbosity, rules, names, files, input, out, err,
+            )
+        }
     }
 }
 
@@ -176,19 +202,22 @@ fn refuse<E: Write>(
     Ok(WRONG_ARGUMENTS)
 }
 
-/// Does what the arguments say (`command_of`): writes what was asked of the program itself; cuts the files, or standard input if none is named, by the file of rules that is
-/// named first, and writes the lines of `write_items` or, by terminals, of `write_tokens`, or the markup of each text, to `out`; or
-/// lists all clashes of the rules (`write_rule_clashes`) or terminals (`write_clashes`). What is wrong is explained on `err`; if a
-/// write there fails, nothing more is said, and the run goes on.
+/// Does what the arguments say (`command_of`): writes what was asked of the program itself; cuts the files, or standard input
+/// if none is named, by the file of rules that is named first, and writes the lines of `write_items` or, by terminals, of
+/// `write_tokens`, or the markup of each text, to `out`; or lists all clashes of the rules (`write_rule_clashes`) or terminals
+/// (`write_clashes`). A file `-` is standard input: it is read to its end where it stands, and a later `-` reads what is left.
+/// After a read that failed it isn't read again. What is wrong is explained on `err`; if a write there fails, nothing more is
+/// said, and the run goes on.
 ///
-/// The exit status is 0 if each text was cut to its end, has no fault and ends in a mode with none below it, or no rules clash, 1 if a
-/// text has a fault or ends in another mode, 2 if rules can't be compiled or clash, 3 if a line of the rules is bad or its pattern doesn't parse, 4 for wrong arguments, and 6 if a
-/// file gave no text. Of several files, the greatest status counts.
+/// The exit status is 0 if each text was cut to its end, has no fault and ends in a mode with none below it, or no rules clash,
+/// 1 if a text has a fault or ends in another mode, 2 if rules can't be compiled or clash, 3 if a line of the rules is bad or
+/// its pattern doesn't parse, 4 for wrong arguments, and 6 if a file gave no text. Of several files, the greatest status
+/// counts.
 ///
 /// # Errors
 ///
-/// `OutOfMemory` if a request for memory was refused, and `Write` if a write to `out` failed or took no byte. In either case `out`
-/// took a prefix of what is written for the texts that were come to, and nothing else.
+/// `OutOfMemory` if a request for memory was refused, and `Write` if a write to `out` failed or took no byte. In either case
+/// `out` took a prefix of what is written for the texts that were come to, and nothing else.
 pub fn run<F: Files, R: Read, W: Write, E: Write>(
     alloc: Global,
     words: &[String],
@@ -197,18 +226,17 @@ pub fn run<F: Files, R: Read, W: Write, E: Write>(
     out: &mut Watched<W>,
     err: &mut Watched<E>,
 ) -> Result<u8, RunError>
-    requires input_good { input.old.failed ≡ false }
     requires out_good { out.old.failed ≡ false }
 
     ensures answer { IfOk result (λ status. (answer : Answer)
-        × (IsAnswer (F.gives files.now) (StreamGives R.remaining input.old input.new)
+        × (IsAnswer (F.gives files.now) (StreamGives R.remaining) input.old input.new
         (map string_bytes words.now) answer
         × Answered W.contents E.contents out.old out.new err.old err.new status answer)) }
     ensures status { IfOk result (λ status. status ≤ 6) }
     ensures good { OnOk result (out.new.failed ≡ false) }
 
     ensures begun { OnErr result (Begun (IsFirstAnswer (F.gives files.now)
-        (StreamGives R.remaining input.old input.new) (map string_bytes words.now))
+        (StreamGives R.remaining) input.old (map string_bytes words.now))
         (W.contents out.old.inner) (W.contents out.new.inner)) }
     ensures memory { IfErr result (λ e. e ≡ RunError.OutOfMemory → out.new.failed ≡ false) }
     ensures write { IfErr result (λ e. e ≡ RunError.Write → out.new.failed ≡ true) }
@@ -224,8 +252,8 @@ pub fn run<F: Files, R: Read, W: Write, E: Write>(
     }
 }
 
-// `run` over the streams and the files of the system, and a flush after the last line. If the reader of standard output has gone away,
-// that is no failure.
+// `run` over the streams and the files of the system, and a flush after the last line. If the reader of standard output has
+// gone away, that is no failure.
 fn run_in_system<R: Env + RuntimeFiles + Input + Print + Eprint + AllocGlobal>(
     rt: &R,
     err: &mut Watched<ErrorStream<'_, R>>,
@@ -263,9 +291,9 @@ fn failure_text(failure: &Failure) -> &'static str
     }
 }
 
-/// `run` for the program's arguments, over the files and the streams of the system, and a flush after the last line. A failed flush
-/// is a failed write. If memory was refused or a write failed, it says so, and the exit status is 5 or 6; but if the reader of
-/// standard output has gone away, it says nothing, and the status is 0.
+/// `run` for the program's arguments, over the files and the streams of the system, and a flush after the last line. A failed
+/// flush is a failed write. If memory was refused or a write failed, it says so, and the exit status is 5 or 6; but if the
+/// reader of standard output has gone away, it says nothing, and the status is 0.
 pub fn run_program<R: Env + RuntimeFiles + Input + Print + Eprint + AllocGlobal>(rt: &R) -> ExitCode
     ensures status { exit_status result ≤ 6 }
 {

@@ -62,10 +62,10 @@ pub(crate) fn characters_before(text: &str, byte: usize) -> usize
     text[..byte].chars().count()
 }
 
-// Of a longer line so many characters are shown.
+// The most characters of a line that are shown.
 const MOST_SHOWN: usize = 160;
 
-// Of these so many stand before the place at least, if the line has them.
+// At least this many of them stand before the place, if the line has them.
 const BEFORE: usize = 100;
 
 // A sign in the place of each character that isn't seen, so that it can't steer a terminal.
@@ -140,8 +140,8 @@ fn push_blanks(text: &mut String, line: &str, count: usize) -> Result<(), AllocE
     Ok(())
 }
 
-/// The place and the reason, and the line with a caret under the place. Lines and columns count from 1, columns in characters. Of a long line
-/// only what surrounds the place is shown. The file's name stands before it.
+/// The place and the reason, and the line with a caret under the place. Lines and columns count from 1, columns in characters.
+/// Of a long line only what surrounds the place is shown. The file's name stands before it.
 ///
 /// # Errors
 ///
@@ -167,7 +167,8 @@ pub(crate) fn place_explained(
     Ok(message)
 }
 
-/// Why the pattern of a line can't be compiled: the line's number, from 1, the reason, and the line. The file's name stands before it.
+/// Why the pattern of a line can't be compiled: the line's number, from 1, the reason, and the line. The file's name stands
+/// before it.
 ///
 /// # Errors
 ///

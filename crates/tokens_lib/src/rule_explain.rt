@@ -1,12 +1,11 @@
 //! Why a file of named rules gives no lexer, in words for people.
-ghost use Rattle.std.specs.Prelude.{◌≡◌, ◌+◌, ◌≤◌, ℕ, List, map, option_map, string_bytes, IfOk};
+ghost use Rattle.std.specs.Prelude.{◌≡◌, ◌+◌, ◌≤◌, ℕ, List, false, true, map, option_map, string_bytes, IfOk};
 ghost use Rattle.lalrpop_modes.specs.ModeSet.{rules_of};
 ghost use Rattle.lalrpop_rules.specs.RuleSet.{names_of};
 ghost use Rattle.lalrpop_lexer.specs.Quoted.{quoted_word};
 ghost use Rattle.lalrpop_rule_file.specs.RuleFault.{reason_of};
 ghost use Rattle.tokens_lib.specs.ItemLines.{mode_named as mode_named_of, name_at};
-ghost use Rattle.tokens_lib.specs.Internal.Faults.{CanBeSaid};
-ghost use Rattle.tokens_lib.specs.Reasons.{SaysBadLine, SaysRules, clash_advice, clash_text, mode_said, pattern_of as pattern_of_text, place_at, placed, syntax_text, text_at};
+ghost use Rattle.tokens_lib.specs.Reasons.{CanBeSaid, SaysBadLine, SaysRules, clash_advice, clash_text, mode_said, parsed_text as what_is_parsed, place_at, placed, syntax_text, text_at};
 
 use crate::mode_file::ModeFile;
 use crate::named_clashes::{mode_named, name_of};
@@ -42,22 +41,23 @@ fn place_of(file: &ModeFile<'_>, rule: usize) -> Position
     }
 }
 
-// The pattern that a text is, with parts or without.
-fn pattern_of<'text>(text: &RuleText<'text>) -> &'text str
-    ensures { result.now ≡ pattern_of_text text.now }
+// What of a text is parsed: a literal with escapes, or a pattern.
+fn parsed_text<'text>(text: &RuleText<'text>) -> &'text str
+    ensures { result.now ≡ what_is_parsed text.now }
 {
     match text {
-        RuleText::Pattern(text) | RuleText::PatternWith { text, .. } => text,
-        RuleText::Literal(_) | RuleText::FromTo { .. } => "",
+        RuleText::Escaped(text) | RuleText::Pattern(text) | RuleText::PatternWith { text, .. } =>
+            text,
+        RuleText::Literal(_) | RuleText::AnyCase(_) | RuleText::FromTo { .. } => "",
     }
 }
 
-// The text of the rule with this index, or the empty string if there is no such rule.
+// The text of the rule with this index, or the empty string if no rule has it.
 fn text_of<'text>(rules: &[ModeRule<'text>], index: usize) -> &'text str
     ensures { result.now ≡ text_at (rules_of rules.now) index }
 {
     match rules.get(index) {
-        Some(rule) => pattern_of(&rule.rule.text),
+        Some(rule) => parsed_text(&rule.rule.text),
         None => "",
     }
 }
@@ -106,8 +106,8 @@ fn mode_shown(alloc: Global, mode: Option<&str>) -> Result<String, AllocError>
     }
 }
 
-// The message about a clash: the number of the later line with its rule's name, those of the earlier one, in which mode, the word in
-// quotes, and what stands below.
+// The message about a clash: the number of the later line with its rule's name, those of the earlier one, in which mode, the
+// word in quotes, and what stands below.
 fn clash_told(
     alloc: Global,
     later: (usize, &str),
@@ -169,8 +169,22 @@ fn clash_explained(
     )
 }
 
-/// What is wrong with the rules of a file without its byte order mark, to stand after the file's name: the number of the line, the
-/// reason, and the line itself.
+/// Whether rules of a file can have this error.
+pub(crate) fn can_be_said(file: &ModeFile<'_>, error: &ModesError) -> bool
+    ensures yes { result ≡ true → CanBeSaid (rules_of file.now.rules.items) error.now }
+    ensures no { result ≡ false → ¬ CanBeSaid (rules_of file.now.rules.items) error.now }
+{
+    match error {
+        ModesError::NoSuchMode { .. } => false,
+        ModesError::NotParsed { rule, position, .. } => {
+            text_of(&file.rules, *rule).is_char_boundary(*position)
+        }
+        _ => true,
+    }
+}
+
+/// What is wrong with the rules of a file without its byte order mark, to stand after the file's name: the number of the line,
+/// the reason, and the line itself.
 ///
 /// # Errors
 ///
@@ -181,7 +195,7 @@ pub(crate) fn rules_explained(
     file: &ModeFile<'_>,
     error: &ModesError,
 ) -> Result<String, AllocError>
-    requires error { CanBeSaid file.now.rules.items error.now }
+    requires error { CanBeSaid (rules_of file.now.rules.items) error.now }
     ensures said { IfOk result (λ message.
         SaysRules (map (λ m. m.now) file.now.modes.items) (rules_of file.now.rules.items)
         file.now.places.items error.now (string_bytes message)) }
@@ -244,8 +258,8 @@ fn fault_explained(
     Ok(message)
 }
 
-/// What is wrong with the first bad line of a file of rules without its byte order mark, to stand after the file's name: the line and
-/// the column, the reason, and the line itself; and how a file of terminals is read, if the line is one.
+/// What is wrong with the first bad line of a file of rules without its byte order mark, to stand after the file's name: the
+/// line and the column, the reason, and the line itself; and how a file of terminals is read, if the line is one.
 ///
 /// # Errors
 ///

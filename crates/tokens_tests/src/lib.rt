@@ -8,4 +8,8 @@ mod files;
 #[cfg(test)]
 mod items;
 #[cfg(test)]
+mod messages;
+#[cfg(test)]
+mod program;
+#[cfg(test)]
 mod tokens;

@@ -47,7 +47,6 @@ pub fn without_arguments<F: Files, R: Read, W: Write, E: Write>(
     out: &mut Watched<W>,
     err: &mut Watched<E>,
 ) -> Result<u8, RunError>
-    requires input_good { input.old.failed ≡ false }
     requires out_good { out.old.failed ≡ false }
     ensures status { IfOk result (λ status. status ≡ 4) }
     ensures nothing_written { Appends (W.contents out.old.inner) (W.contents out.new.inner) [] }
@@ -66,7 +65,6 @@ pub fn names_the_failed_end<F: Files, R: Read, W: Write, E: Write>(
     out: &mut Watched<W>,
     err: &mut Watched<E>,
 ) -> bool
-    requires input_good { input.old.failed ≡ false }
     requires out_good { out.old.failed ≡ false }
     ensures always { result ≡ true }
 {
@@ -88,10 +86,9 @@ pub fn fails<F: Files, R: Read, W: Write, E: Write>(
     out: &mut Watched<W>,
     err: &mut Watched<E>,
 ) -> bool
-    requires input_good { input.old.failed ≡ false }
     requires out_good { out.old.failed ≡ false }
     ensures begun { result ≡ true → Begun (IsFirstAnswer (F.gives files.now)
-        (StreamGives R.remaining input.old input.new) (map string_bytes words.now))
+        (StreamGives R.remaining) input.old (map string_bytes words.now))
         (W.contents out.old.inner) (W.contents out.new.inner) }
 {
     run(alloc, words, files, input, out, err).is_err()

@@ -1,12 +1,13 @@
 -- Cases of specs/Command.antt.
 use Rattle.std.proofs.Common.{◌≡◌, ◌≢◌, true, false, [], ◌∷◌, codes, refl}
 use Rattle.std.specs.Prelude.{Some, None}
-use Rattle.tokens_lib.specs.Command.{given, unknown, options_of, read_files, IsFilesError, IsCommand, IsArgumentsError}
+use Rattle.tokens_lib.specs.Command.{given, unknown, options_of, verbosity_of, IsFilesError, IsCommand, IsArgumentsError}
 use Rattle.tokens_lib.specs.declared.command.Action.{Action}
 use Rattle.tokens_lib.specs.declared.command.Action.TheVariants.{Cut, Show, CutByTerminals, Clashes, TerminalClashes}
-use Rattle.tokens_lib.specs.declared.command.ArgumentsError.TheVariants.{NoRules, InputAmongFiles}
+use Rattle.tokens_lib.specs.declared.command.ArgumentsError.TheVariants.{NoRules, NoFiles}
 use Rattle.tokens_lib.specs.declared.command.Command.TheVariants.{Help, Version}
 use Rattle.tokens_lib.specs.declared.command.Markup.TheVariants.{Html, Ansi}
+use Rattle.tokens_lib.specs.declared.command.Verbosity.TheVariants.{Quiet, Warnings, Progress}
 use Rattle.tokens_lib.specs.declared.layout.LineForm.TheVariants.{Plain, Json}
 
 -- a set of options: neither order nor number matters
@@ -15,6 +16,11 @@ a_set = refl
 
 known_options : (unknown (codes "--json" ∷ []) ≡ None) × (unknown (codes "--json" ∷ codes "--jsn" ∷ codes "--x" ∷ []) ≡ Some (codes "--jsn"))
 known_options = (refl, refl)
+
+-- options that go with all others are known, and belong to no action; --quiet wins
+quiet : (unknown (codes "--progress" ∷ codes "--quiet" ∷ []) ≡ None) × (given (codes "--quiet" ∷ codes "--json" ∷ []) ≡ options_of (Cut Json false))
+    × (verbosity_of (codes "--progress" ∷ codes "--quiet" ∷ []) ≡ Quiet) × (verbosity_of (codes "--json" ∷ codes "--progress" ∷ []) ≡ Progress) × (verbosity_of [] ≡ Warnings)
+quiet = (refl, refl, refl, refl, refl)
 
 -- no action has the options of another
 recovers_in_json : given (codes "--json" ∷ codes "--recover" ∷ []) ≡ options_of (Cut Json true)
@@ -39,9 +45,6 @@ help_wins = (refl, (λ h. absurd (cc (h.0))), (λ h. absurd (cc (h.0.0))))
 version_alone : IsCommand (codes "--version" ∷ []) [] Version
 version_alone = (refl, refl)
 
--- standard input alone, and among files
-input_files : (read_files (codes "-" ∷ []) ≡ []) × (read_files (codes "f" ∷ []) ≡ codes "f" ∷ []) × (read_files (codes "f" ∷ codes "-" ∷ []) ≡ codes "f" ∷ codes "-" ∷ []) × (read_files [] ≡ [])
-input_files = (refl, refl, refl, refl)
-
-input_among_files : IsFilesError (Show Html) (codes "f" ∷ codes "-" ∷ []) InputAmongFiles × (¬ IsFilesError Clashes (codes "f" ∷ codes "-" ∷ []) InputAmongFiles)
-input_among_files = ((refl, refl), λ h. absurd (cc (h.0)))
+-- no file is read where clashes are listed
+no_files : IsFilesError Clashes (codes "f" ∷ []) (NoFiles (record { ref_ptr = (0, 0); now = codes "f" })) × (¬ IsFilesError (Show Html) (codes "f" ∷ []) (NoFiles (record { ref_ptr = (0, 0); now = codes "f" })))
+no_files = ((refl, ([], refl)), λ h. absurd (cc (h.0)))

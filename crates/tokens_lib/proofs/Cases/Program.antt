@@ -18,6 +18,7 @@ use Rattle.tokens_lib.specs.declared.command.Command.{Command}
 use Rattle.tokens_lib.specs.Usage.{help}
 use Rattle.tokens_lib.specs.declared.command.Action.TheVariants.{Cut}
 use Rattle.tokens_lib.specs.declared.command.Command.TheVariants.{Help, Version, Run}
+use Rattle.tokens_lib.specs.declared.command.Verbosity.TheVariants.{Progress}
 use Rattle.tokens_lib.specs.declared.layout.LineForm.TheVariants.{Plain}
 
 -- a rule that can't be compiled
@@ -58,24 +59,24 @@ memory_is_not_told : (file : List ℕ) (ls modes : List (List ℕ)) (rs : List M
 memory_is_not_told file ls modes rs answer (places, (are, (said, (says, e)))) = says
 
 -- only what was asked for is written, with status 0
-informed : (Gives : List ℕ → Given → Type 0) (InputGives : Given → Type 0) → IsFirstAnswer Gives InputGives (codes "--help" ∷ []) (information help)
+informed : (Gives : List ℕ → Given → Type 0) (InputGives : ℕ → ℕ → Given → Type 0) → IsFirstAnswer Gives InputGives 0 (codes "--help" ∷ []) (information help)
 informed Gives InputGives = (Help, (refl, refl))
 
 -- rules that can't be read; and no arguments, which are no command
-unread_rules : (Gives : List ℕ → Given → Type 0) (InputGives : Given → Type 0) (files : Vec (Bor (List ℕ)) Global) → files.items ≡ [] → Gives (codes "r") (Err (codes "e"))
-    → IsFirstAnswer Gives InputGives (codes "r" ∷ []) (refusal 6 (about (codes "r") (codes "e")))
+unread_rules : (Gives : List ℕ → Given → Type 0) (InputGives : ℕ → ℕ → Given → Type 0) (files : Vec (Bor (List ℕ)) Global) → files.items ≡ [] → Gives (codes "r") (Err (codes "e"))
+    → IsFirstAnswer Gives InputGives 0 (codes "r" ∷ codes "--progress" ∷ []) (refusal 6 (codes "tokens: reading r\ntokens: r: e\n"))
 unread_rules Gives InputGives files none gives = (
-  Run (Cut Plain false) (record { ref_ptr = (0, 0); now = codes "r" }) files,
+  Run (Cut Plain false) Progress (record { ref_ptr = (0, 0); now = codes "r" }) files,
   (
-    ((refl, refl), (refl, (Cut Plain false, (refl, (codes "r", ([], (refl, (refl, (refl, ((λ _. refl), (ap (map (λ (file : Bor (List ℕ)). file.now)) none, refl))))))))))),
-    inl (codes "e", (gives, refl)),
+    ((refl, refl), (refl, (Cut Plain false, (refl, (codes "r", ([], (refl, (refl, (refl, (refl, ((λ _. refl), ap (map (λ (file : Bor (List ℕ)). file.now)) none))))))))))),
+    (refusal 6 (about (codes "r") (codes "e")), (inl (codes "e", (gives, refl)), refl)),
   ),
 )
 
 no_command : (command : Command) → ¬ IsCommand [] [] command
 no_command Help is = absurd (cc)
 no_command Version is = let e = is.1 in absurd (cc)
-no_command (Run action rules files) is = let e = is.1.1.1.1.1.1.0 in absurd (cc)
+no_command (Run action verbosity rules files) is = let e = is.1.1.1.1.1.1.0 in absurd (cc)
 
-nothing_asked : (Gives : List ℕ → Given → Type 0) (InputGives : Given → Type 0) (answer : Answer) → ¬ IsFirstAnswer Gives InputGives [] answer
+nothing_asked : (Gives : List ℕ → Given → Type 0) (InputGives : ℕ → ℕ → Given → Type 0) (answer : Answer) → ¬ IsFirstAnswer Gives InputGives 0 [] answer
 nothing_asked Gives InputGives answer (command, (is, done)) = no_command command is

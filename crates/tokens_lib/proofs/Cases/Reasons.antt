@@ -14,7 +14,7 @@ use Rattle.lalrpop_rules.specs.declared.rule.Rule.{Rule}
 use Rattle.lalrpop_rule_file.specs.declared.error.LineFault.TheVariants.{NoEquals}
 use Rattle.lalrpop_rule_file.specs.declared.error.RuleFileError.TheVariants.{BadLine, NoSuchMode}
 use Rattle.lexdfa_lib.specs.declared.outcome.Outcome.TheVariants.{NoMatch, Refused, Ambiguous, Line}
-use Rattle.tokens_lib.specs.Reasons.{syntax_text, refusal_text, bad_end_text, clash_advice, mode_said, pattern_of, numbered, placed, clash_text, SaysBadLine, place_at, text_at, SaysRules, SaysNoTerminal, IsPatternColumn, SaysSyntax, SaysTerminals}
+use Rattle.tokens_lib.specs.Reasons.{syntax_text, refusal_text, bad_end_text, clash_advice, mode_said, parsed_text, numbered, placed, clash_text, SaysBadLine, place_at, text_at, SaysRules, SaysNoTerminal, IsPatternColumn, SaysSyntax, SaysTerminals}
 
 -- ---- in words
 
@@ -81,7 +81,7 @@ second_place : (p q : Position) → place_at (p ∷ q ∷ []) 1 ≡ q
 second_place p q = refl
 
 first_text : (r s : Rule) (text : Bor (List ℕ)) → r.text ≡ Pattern text → text_at (r ∷ s ∷ []) 0 ≡ text.now
-first_text r s text is = ap pattern_of is
+first_text r s text is = ap parsed_text is
 
 -- a rule on line 4 that can't be compiled
 look_around : SaysRules [] [] (record { line = 4; column = 6 } ∷ []) (NotCompiled 0 LookAround) (placed 4 6 (refusal_text LookAround) (codes "    A = /^/\n"))

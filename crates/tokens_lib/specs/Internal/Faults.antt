@@ -1,10 +1,7 @@
--- The first fault of a text, and errors of rules.
+-- The first fault of a text, and the modes and names of rules.
 use Rattle.std.specs.Prelude.{◌≡◌, ◌<◌, ℕ, List, [], Option, Some, None, option_map, slice_get, unwrap_or}
-use Rattle.lalrpop_modes.specs.ModeSet.{NamesMode, rules_of}
-use Rattle.lalrpop_modes.specs.declared.error.ModesError.{ModesError}
-use Rattle.lalrpop_modes.specs.declared.error.ModesError.TheVariants.{NoSuchMode, NotParsed}
+use Rattle.lalrpop_modes.specs.ModeSet.{NamesMode}
 use Rattle.lalrpop_modes.specs.declared.mode_rule.ModeRule.{ModeRule}
-use Rattle.lalrpop_rules.specs.RuleSet.{IsNotParsed}
 use Rattle.lalrpop_rules.specs.declared.rule.Rule.{Rule}
 use Rattle.lalrpop_rules.specs.declared.item.Item.{Item}
 use Rattle.lalrpop_rules.specs.declared.item.Item.TheVariants.{Fault}
@@ -18,12 +15,6 @@ first_with None item = None
 -- the rules name only modes that are there
 abbrev pub NameOnly : List ModeRule → ℕ → Type 0
 NameOnly rs modes = (i m : ℕ) (q : ModeRule) → slice_get rs i ≡ Some q → NamesMode q m → m < modes
-
--- what must be known of an error so that it can be said: a file names no mode that it hasn't, and a text that doesn't parse stops at a place in it
-abbrev pub CanBeSaid : List ModeRule → ModesError → Type 0
-CanBeSaid rs (NoSuchMode i m) = ⊥
-CanBeSaid rs (NotParsed i position kind) = IsNotParsed (rules_of rs) i position
-CanBeSaid rs error = Unit {0}
 
 -- the name of the rule that has this index, if there is one
 abbrev pub name_found : List Rule → ℕ → List ℕ

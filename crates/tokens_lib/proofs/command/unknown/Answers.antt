@@ -1,23 +1,23 @@
 use Rattle.std.proofs.Common.{◌≡◌, List, [], ℕ, ◌+◌, ◌<◌, Bor, Bool, true, false, not, cond, map, length, drop, get_or, sym, ◌∙◌, ap}
 use Rattle.std.specs.Prelude.{Option, Some, find}
 use Rattle.std.proofs.lemmas.List.{at_drop_more, at_drop_all}
-use Rattle.tokens_lib.specs.Command.{has, known}
+use Rattle.tokens_lib.specs.Command.{is_known}
 use Rattle.tokens_lib.proofs.command.unknown.Goals as goal
 
 abbrev text : Bor (List ℕ) → List ℕ
 text r = r.now
 
 abbrev is_unknown : List ℕ → Bool
-is_unknown option = not (has known option)
+is_unknown option = not (is_known option)
 
 abbrev first : List (Bor (List ℕ)) → Option (List ℕ)
 first xs = find is_unknown (map text xs)
 
 -- what is found from the i-th one on, where it is unknown, and where it is known
-found : (xs : List (Bor (List ℕ))) (i : ℕ) (d : Bor (List ℕ)) → i < length xs → has known (get_or xs i d).now ≡ false → first (drop i xs) ≡ first xs → Some (get_or xs i d).now ≡ first xs
+found : (xs : List (Bor (List ℕ))) (i : ℕ) (d : Bor (List ℕ)) → i < length xs → is_known (get_or xs i d).now ≡ false → first (drop i xs) ≡ first xs → Some (get_or xs i d).now ≡ first xs
 found xs i d l t before = sym (ap (λ b. cond (not b) (Some (get_or xs i d).now) (first (drop (i + 1) xs))) t) ∙ sym (at_drop_more first xs i d l) ∙ before
 
-passed : (xs : List (Bor (List ℕ))) (i : ℕ) (d : Bor (List ℕ)) → i < length xs → has known (get_or xs i d).now ≡ true → first (drop i xs) ≡ first xs → first (drop (i + 1) xs) ≡ first xs
+passed : (xs : List (Bor (List ℕ))) (i : ℕ) (d : Bor (List ℕ)) → i < length xs → is_known (get_or xs i d).now ≡ true → first (drop i xs) ≡ first xs → first (drop (i + 1) xs) ≡ first xs
 passed xs i d l t before = sym (ap (λ b. cond (not b) (Some (get_or xs i d).now) (first (drop (i + 1) xs))) t) ∙ sym (at_drop_more first xs i d l) ∙ before
 
 pub returns-then-not-is_known : goal.returns-then-not-is_known

@@ -18,17 +18,17 @@ use Rattle.tokens_lib.proofs.BegunLaws.{Begun-weaker}
 use Rattle.tokens_lib.proofs.program.run.Goals as goal
 
 -- what is said of wrong arguments
-refused : {W E : Type 0} (r : Result ℕ RunError) (Gives : List ℕ → Given → Type 0) (InputGives : Given → Type 0) (words : List (List ℕ)) (error : ArgumentsError)
+refused : {I W E : Type 0} (r : Result ℕ RunError) (Gives : List ℕ → Given → Type 0) (InputGives : I → I → Given → Type 0) (i : I) (words : List (List ℕ)) (error : ArgumentsError)
     (written : W → Option (List ℕ)) (said : E → Option (List ℕ)) (o : Watch W) (e f : Watch E) → (error ≢ OutOfMemory → IsArgumentsError (options words) (names words) error)
     → IfOk r (λ status. status ≡ 4) → OnOk r (error ≢ OutOfMemory) → OnOk r (Takes said e f (wrong_text error))
-    → IfOk r (λ status. (answer : Answer) × (IsAnswer Gives InputGives words answer × Answered written said o o e f status answer))
-refused (Ok status) Gives InputGives words error written said o e f is four other takes =
+    → IfOk r (λ status. (answer : Answer) × (IsAnswer Gives InputGives i i words answer × Answered written said o o e f status answer))
+refused (Ok status) Gives InputGives i words error written said o e f is four other takes =
     (refusal 4 (wrong_text error), (inl (error, (is other, refl)), (four, (Answered-refusal written said o e f 4 (wrong_text error) takes).1)))
-refused (Err error) Gives InputGives words wrong written said o e f is four other takes = tt
+refused (Err error) Gives InputGives i words wrong written said o e f is four other takes = tt
 
 pub returns-in-Err-clause-answer : goal.returns-in-Err-clause-answer
 returns-in-Err-clause-answer g c =
-    refused c.refuse.result (g.F.Files.gives c.args.files.now) (StreamGives g.R.Read.remaining c.args.input.now c.args.input.now) (map string_bytes c.args.words.now) c.in-Err.error
+    refused c.refuse.result (g.F.Files.gives c.args.files.now) (StreamGives g.R.Read.remaining) c.args.input.now (map string_bytes c.args.words.now) c.in-Err.error
     g.W.Write.contents g.E.Write.contents c.args.out.now c.args.err.now c.refuse.new.err c.in-Err.ensures.error c.refuse.ensures.status c.refuse.ensures.other c.refuse.ensures.said
 
 pub returns-in-Ok-clause-answer : goal.returns-in-Ok-clause-answer
@@ -39,7 +39,7 @@ pub returns-in-Ok-clause-status : goal.returns-in-Ok-clause-status
 returns-in-Ok-clause-status g c =
     IfOk-weaker c.run_command.result _ _
     (λ status a. low_after status status a.0 refl a.1.1.0
-    (command_low (g.F.Files.gives c.args.files.now) (StreamGives g.R.Read.remaining c.args.input.now c.run_command.new.input) c.in-Ok.command a.0 a.1.0))
+    (command_low (g.F.Files.gives c.args.files.now) (StreamGives g.R.Read.remaining) c.args.input.now c.run_command.new.input c.in-Ok.command a.0 a.1.0))
     c.run_command.ensures.answer
 
 pub returns-in-Ok-clause-begun : goal.returns-in-Ok-clause-begun

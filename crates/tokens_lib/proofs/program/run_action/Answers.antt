@@ -18,12 +18,12 @@ returns-in-Ok-clause-answer g c =
     let names = map text c.args.names.now in
     rw c.in-Cut.is
     (lexer_answered c.cut_all.result (g.F.Files.gives c.args.files.now)
-    (λ set modes. TextsAnswer (g.F.Files.gives c.args.files.now) (StreamGives g.R.Read.remaining c.args.input.now c.cut_all.new.input) (PiecesAnswer set modes c.in-Cut.form c.in-Cut.recovers (nat_lt 1 (length names))) names)
+    (λ set modes. TextsAnswer (g.F.Files.gives c.args.files.now) (StreamGives g.R.Read.remaining) c.args.input.now c.cut_all.new.input c.args.verbosity (PiecesAnswer set modes c.in-Cut.form c.in-Cut.recovers (nat_lt 1 (length names))) names)
     c.args.rules.now c.in-Ok.found.lexer (map string_bytes c.in-Ok.found.modes.items) g.W.Write.contents g.E.Write.contents c.args.out.now c.cut_all.new.out c.args.err.now c.lexer_by_name.new.err c.cut_all.new.err
     (rw c.in-Ok.is at c.in_ok-found-in-Cut.ensures.lexer) (rw c.in-Ok.is at c.in_ok-found-in-Cut.ensures.quiet)
     (subst
     (λ (several : Bool).
-    IfOk c.cut_all.result (λ status. (answer : Answer) × (TextsAnswer (g.F.Files.gives c.args.files.now) (StreamGives g.R.Read.remaining c.args.input.now c.cut_all.new.input) (PiecesAnswer c.in-Ok.found.lexer (map string_bytes c.in-Ok.found.modes.items) c.in-Cut.form c.in-Cut.recovers several) names answer
+    IfOk c.cut_all.result (λ status. (answer : Answer) × (TextsAnswer (g.F.Files.gives c.args.files.now) (StreamGives g.R.Read.remaining) c.args.input.now c.cut_all.new.input c.args.verbosity (PiecesAnswer c.in-Ok.found.lexer (map string_bytes c.in-Ok.found.modes.items) c.in-Cut.form c.in-Cut.recovers several) names answer
     × Answered g.W.Write.contents g.E.Write.contents c.args.out.now c.cut_all.new.out c.lexer_by_name.new.err c.cut_all.new.err status answer)))
     c.are_several.ensures c.cut_all.ensures.answer))
 
@@ -35,7 +35,7 @@ returns-in-Err-clause-answer g c =
       refused.0,
       (
         rules_refused (g.F.Files.gives c.args.files.now)
-            (λ set modes. TextsAnswer (g.F.Files.gives c.args.files.now) (StreamGives g.R.Read.remaining c.args.input.now c.args.input.now) (PiecesAnswer set modes c.in-Cut.form c.in-Cut.recovers (nat_lt 1 (length names))) names)
+            (λ set modes. TextsAnswer (g.F.Files.gives c.args.files.now) (StreamGives g.R.Read.remaining) c.args.input.now c.args.input.now c.args.verbosity (PiecesAnswer set modes c.in-Cut.form c.in-Cut.recovers (nat_lt 1 (length names))) names)
             c.args.rules.now refused.0 refused.1.0,
         Answered-refused g.W.Write.contents g.E.Write.contents c.args.out.now c.args.err.now c.lexer_by_name.new.err c.in-Err.status refused.0 refused.1.1,
       ),
@@ -48,7 +48,7 @@ returns-in-Ok-2-clause-answer g c =
     let names = map text c.args.names.now in
     rw c.in-Show.is
     (lexer_answered c.cut_all-in-Ok-2.result (g.F.Files.gives c.args.files.now)
-    (λ set modes. TextsAnswer (g.F.Files.gives c.args.files.now) (StreamGives g.R.Read.remaining c.args.input.now c.cut_all-in-Ok-2.new.input) (PageAnswer set modes c.in-Show.markup) names)
+    (λ set modes. TextsAnswer (g.F.Files.gives c.args.files.now) (StreamGives g.R.Read.remaining) c.args.input.now c.cut_all-in-Ok-2.new.input c.args.verbosity (PageAnswer set modes c.in-Show.markup) names)
     c.args.rules.now c.in-Ok-2.found.lexer (map string_bytes c.in-Ok-2.found.modes.items) g.W.Write.contents g.E.Write.contents c.args.out.now c.cut_all-in-Ok-2.new.out c.args.err.now c.lexer_by_name-in-Show.new.err c.cut_all-in-Ok-2.new.err
     (rw c.in-Ok-2.is at c.in_ok-found-in-Show.ensures.lexer) (rw c.in-Ok-2.is at c.in_ok-found-in-Show.ensures.quiet) c.cut_all-in-Ok-2.ensures.answer)
 
@@ -60,7 +60,7 @@ returns-in-Err-2-clause-answer g c =
       refused.0,
       (
         rules_refused (g.F.Files.gives c.args.files.now)
-            (λ set modes. TextsAnswer (g.F.Files.gives c.args.files.now) (StreamGives g.R.Read.remaining c.args.input.now c.args.input.now) (PageAnswer set modes c.in-Show.markup) names)
+            (λ set modes. TextsAnswer (g.F.Files.gives c.args.files.now) (StreamGives g.R.Read.remaining) c.args.input.now c.args.input.now c.args.verbosity (PageAnswer set modes c.in-Show.markup) names)
             c.args.rules.now refused.0 refused.1.0,
         Answered-refused g.W.Write.contents g.E.Write.contents c.args.out.now c.args.err.now c.lexer_by_name-in-Show.new.err c.in-Err-2.status refused.0 refused.1.1,
       ),
@@ -73,7 +73,7 @@ returns-in-Ok-3-clause-answer g c =
     let names = map text c.args.names.now in
     rw c.in-CutByTerminals.is
     (terminals_answered c.cut_all-in-Ok-3.result (g.F.Files.gives c.args.files.now)
-    (λ ts ps. TextsAnswer (g.F.Files.gives c.args.files.now) (StreamGives g.R.Read.remaining c.args.input.now c.cut_all-in-Ok-3.new.input) (TokensAnswer ts ps c.in-CutByTerminals.places) names)
+    (λ ts ps. TextsAnswer (g.F.Files.gives c.args.files.now) (StreamGives g.R.Read.remaining) c.args.input.now c.cut_all-in-Ok-3.new.input c.args.verbosity (TokensAnswer ts ps c.in-CutByTerminals.places) names)
     c.args.rules.now c.in-Ok-3.lexer.trees c.in-Ok-3.lexer.precedences g.W.Write.contents g.E.Write.contents c.args.out.now c.cut_all-in-Ok-3.new.out
     c.args.err.now c.terminals_by_name.new.err c.cut_all-in-Ok-3.new.err
     (rw c.in-Ok-3.is at c.in_ok-lexer-in-CutByTerminals.ensures.lexer) (rw c.in-Ok-3.is at c.in_ok-lexer-in-CutByTerminals.ensures.quiet) c.cut_all-in-Ok-3.ensures.answer)
@@ -85,11 +85,11 @@ returns-in-Ok-clause-begun g c =
     let names = map text c.args.names.now in
     rw c.in-Cut.is
     (lexer_begun c.cut_all.result (g.F.Files.gives c.args.files.now)
-    (λ set modes. FirstTextsAnswer (g.F.Files.gives c.args.files.now) (StreamGives g.R.Read.remaining c.args.input.now c.cut_all.new.input) (PiecesAnswer set modes c.in-Cut.form c.in-Cut.recovers (nat_lt 1 (length names))) names)
+    (λ set modes. FirstTextsAnswer (g.F.Files.gives c.args.files.now) (StreamGives g.R.Read.remaining) c.args.input.now c.args.verbosity (PiecesAnswer set modes c.in-Cut.form c.in-Cut.recovers (nat_lt 1 (length names))) names)
     c.args.rules.now c.in-Ok.found.lexer (map string_bytes c.in-Ok.found.modes.items) (g.W.Write.contents c.args.out.now.inner) (g.W.Write.contents c.cut_all.new.out.inner) (rw c.in-Ok.is at c.in_ok-found-in-Cut.ensures.lexer)
     (subst
     (λ (several : Bool).
-    OnErr c.cut_all.result (Begun (FirstTextsAnswer (g.F.Files.gives c.args.files.now) (StreamGives g.R.Read.remaining c.args.input.now c.cut_all.new.input) (PiecesAnswer c.in-Ok.found.lexer (map string_bytes c.in-Ok.found.modes.items) c.in-Cut.form c.in-Cut.recovers several) names)
+    OnErr c.cut_all.result (Begun (FirstTextsAnswer (g.F.Files.gives c.args.files.now) (StreamGives g.R.Read.remaining) c.args.input.now c.args.verbosity (PiecesAnswer c.in-Ok.found.lexer (map string_bytes c.in-Ok.found.modes.items) c.in-Cut.form c.in-Cut.recovers several) names)
     (g.W.Write.contents c.args.out.now.inner) (g.W.Write.contents c.cut_all.new.out.inner)))
     c.are_several.ensures c.cut_all.ensures.begun))
 
@@ -98,7 +98,7 @@ returns-in-Ok-2-clause-begun g c =
     let names = map text c.args.names.now in
     rw c.in-Show.is
     (lexer_begun c.cut_all-in-Ok-2.result (g.F.Files.gives c.args.files.now)
-    (λ set modes. FirstTextsAnswer (g.F.Files.gives c.args.files.now) (StreamGives g.R.Read.remaining c.args.input.now c.cut_all-in-Ok-2.new.input) (PageAnswer set modes c.in-Show.markup) names)
+    (λ set modes. FirstTextsAnswer (g.F.Files.gives c.args.files.now) (StreamGives g.R.Read.remaining) c.args.input.now c.args.verbosity (PageAnswer set modes c.in-Show.markup) names)
     c.args.rules.now c.in-Ok-2.found.lexer (map string_bytes c.in-Ok-2.found.modes.items) _ _ (rw c.in-Ok-2.is at c.in_ok-found-in-Show.ensures.lexer) c.cut_all-in-Ok-2.ensures.begun)
 
 pub returns-in-Ok-3-clause-begun : goal.returns-in-Ok-3-clause-begun
@@ -106,5 +106,5 @@ returns-in-Ok-3-clause-begun g c =
     let names = map text c.args.names.now in
     rw c.in-CutByTerminals.is
     (terminals_begun c.cut_all-in-Ok-3.result (g.F.Files.gives c.args.files.now)
-    (λ ts ps. FirstTextsAnswer (g.F.Files.gives c.args.files.now) (StreamGives g.R.Read.remaining c.args.input.now c.cut_all-in-Ok-3.new.input) (TokensAnswer ts ps c.in-CutByTerminals.places) names)
+    (λ ts ps. FirstTextsAnswer (g.F.Files.gives c.args.files.now) (StreamGives g.R.Read.remaining) c.args.input.now c.args.verbosity (TokensAnswer ts ps c.in-CutByTerminals.places) names)
     c.args.rules.now c.in-Ok-3.lexer.trees c.in-Ok-3.lexer.precedences _ _ (rw c.in-Ok-3.is at c.in_ok-lexer-in-CutByTerminals.ensures.lexer) c.cut_all-in-Ok-3.ensures.begun)

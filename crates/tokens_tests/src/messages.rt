@@ -1,0 +1,88 @@
+//! What the program says of files of rules and of terminals that give no lexer, for programs of one's own.
+
+use std::alloc::Global;
+use tokens_lib::{
+    BuildError, ModeFile, ModeLexer, bad_line_message, lexer_of, read_rules, rules_message,
+    terminals_message,
+};
+
+// What is said of a file of named rules; `None` if there is nothing to say.
+fn said_of_rules(alloc: Global, bytes: &[u8]) -> Option<String> {
+    let read = match read_rules(alloc, bytes) {
+        Ok(read) => read,
+        Err(error) => return bad_line_message(alloc, "f", bytes, &error).ok(),
+    };
+    let file = ModeFile::of(alloc, &read).ok()?;
+    if file.modes.is_empty() {
+        return None;
+    }
+    match ModeLexer::from_rules(alloc, &file.rules, file.modes.len()) {
+        Ok(_) => None,
+        Err(error) => rules_message(alloc, "f", bytes, &file, &error).ok(),
+    }
+}
+
+fn says_of_rules(alloc: Global, bytes: &[u8], wanted: Option<&str>) -> bool {
+    match said_of_rules(alloc, bytes) {
+        Some(said) => Some(said.as_str()) == wanted,
+        None => wanted.is_none(),
+    }
+}
+
+#[test]
+fn errors_of_rules_are_said(rt: HostRuntime) {
+    let rows: &[(&[u8], Option<&str>)] = &[
+        (b"A = 'a'\n", None),
+        (
+            b"A = 'a'\n[M]\nB = /b/\nC mode N = 'c'\n",
+            Some("f:4:8: no section names this mode\n    C mode N = 'c'\n           ^\n"),
+        ),
+        (
+            b"\xef\xbb\xbfA = /(/\n",
+            Some("f:1:6: this group isn't closed\n    A = /(/\n         ^\n"),
+        ),
+        (
+            b"A = 'a'\nB = 'a'\n",
+            Some(
+                "f:2: B clashes with A of line 1: both match the word \"a\", and neither wins\n    1: A = 'a'\n    2: B = 'a'\nGive the one that should win a greater precedence.\n",
+            ),
+        ),
+    ];
+    for (bytes, said) in rows {
+        let wanted = match said {
+            Some(said) => format!(in rt.alloc(); "tokens: {said}").ok(),
+            None => None,
+        };
+        let wanted = wanted.as_ref().map(|text| text.as_str());
+        assert!(rt; says_of_rules(rt.alloc(), *bytes, wanted));
+    }
+}
+
+fn says_of_terminals(alloc: Global, bytes: &[u8], wanted: &str) -> bool {
+    match lexer_of(alloc, bytes) {
+        Err(BuildError::Reported(outcome)) => {
+            match terminals_message(alloc, "f", bytes, &outcome) {
+                Ok(said) => said.as_str() == wanted,
+                Err(_) => false,
+            }
+        }
+        _ => false,
+    }
+}
+
+#[test]
+fn errors_of_terminals_are_said(rt: HostRuntime) {
+    let rows: &[(&[u8], &str)] = &[
+        (
+            b"0 r a\n0 r (\n",
+            "tokens: f:2:5: this group isn't closed\n    0 r (\n        ^\n",
+        ),
+        (
+            b"0 l a\nq\n",
+            "tokens: f:2: a line is `P l TEXT` or `P r PATTERN`, with a precedence P\n    q\n",
+        ),
+    ];
+    for (bytes, said) in rows {
+        assert!(rt; says_of_terminals(rt.alloc(), *bytes, *said));
+    }
+}

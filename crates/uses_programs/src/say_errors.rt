@@ -1,0 +1,73 @@
+//! What the program says of files that give no lexer, said by a program of one's own.
+ghost use Rattle.std.specs.Prelude.{◌≡◌, ℕ, List, codes, length, string_bytes, IfOk, IfSome};
+ghost use Rattle.lalrpop_lexer.specs.Lines.{lines};
+ghost use Rattle.lexdfa_lib.specs.Answer.{IsReported};
+ghost use Rattle.tokens_lib.specs.Answer.{headed};
+ghost use Rattle.tokens_lib.specs.Reasons.{SaysBadLine, SaysTerminals, place_at, placed, refusal_text};
+
+use lalrpop_lexer::lexer::nfa::NfaConstructionError;
+use lexdfa_lib::Outcome;
+use std::alloc::{AllocError, Global};
+use tokens_lib::{
+    ModeFile, ModesError, RuleFile, RuleFileError, bad_line_message, rules_message,
+    terminals_message,
+};
+
+// Needs tokens_lib::bad_line_message: message.
+pub fn said_of_a_line(
+    alloc: Global,
+    bytes: &[u8],
+    error: &RuleFileError,
+) -> Result<String, AllocError>
+    ensures said { IfOk result (λ message. (said : List ℕ)
+        × (SaysBadLine error.now said × (string_bytes message ≡ headed (codes "f") said))) }
+{
+    bad_line_message(alloc, "f", bytes, error)
+}
+
+// A rule that can't be compiled is told where it stands.
+// Needs tokens_lib::rules_message: message.
+pub fn said_of_a_rule(
+    alloc: Global,
+    bytes: &[u8],
+    file: &ModeFile<'_>,
+    rule: usize,
+    error: NfaConstructionError,
+) -> Result<String, AllocError>
+    ensures said { IfOk result (λ message. (shown : List ℕ) × (string_bytes message
+        ≡ headed (codes "f") (placed (place_at file.now.places.items rule).line
+        (place_at file.now.places.items rule).column (refusal_text error) shown))) }
+{
+    rules_message(
+        alloc,
+        "f",
+        bytes,
+        file,
+        &ModesError::NotCompiled { rule, error },
+    )
+}
+
+// Needs tokens_lib::terminals_message: message.
+pub fn said_of_terminals(
+    alloc: Global,
+    bytes: &[u8],
+    outcome: &Outcome,
+) -> Result<String, AllocError>
+    requires reported { IsReported bytes.now outcome.now }
+    ensures said { IfOk result (λ message. (said : List ℕ)
+        × (SaysTerminals (lines bytes.now) outcome.now said
+        × (string_bytes message ≡ headed (codes "f") said))) }
+{
+    terminals_message(alloc, "f", bytes, outcome)
+}
+
+// How many modes a file has.
+// Needs tokens_lib::ModeFile::of: modes.
+pub fn mode_count(alloc: Global, file: &RuleFile<'_>) -> Option<usize>
+    ensures count { IfSome result (λ n. n ≡ length file.now.modes.items) }
+{
+    match ModeFile::of(alloc, file) {
+        Ok(found) => Some(found.modes.len()),
+        Err(_) => None,
+    }
+}
