@@ -12,7 +12,7 @@ each place the longest match wins; among terminals with a match of that length, 
 Each token is a line `TERMINAL BYTES "SLICE"`, which --places begins with `FILE:LINE:COLUMN: `. The last line of a text
 is `end`, or `none N` if no terminal matches at byte N. The exit status is 0, or 1 if there was a `none`.
 
-With --named RULES is a file of named rules, as docs/PROGRAMS.md has it: rules, sections, blank lines and comments. A token is a line
+With --named RULES is a file of named rules, as docs/PROGRAMS.md has it: rules, parts, sections, blank lines and comments. A token is a line
 `LINE:COLUMN NAME "SLICE"`, begun by `FILE:` if there are several files, and skipped ones are left out. Where no rule matches, the
 file is cut no further, and the exit status is 1; so it is where a text ends in a deeper mode."""
 import functools
@@ -75,30 +75,50 @@ def terminals(rules):
 
 SECTION = re.compile(r"[ \t]*\[[ \t]*(\*|\w+(?:[ \t]+\w+)*)[ \t]*\][ \t]*", re.ASCII)
 RULE = re.compile(r"[ \t]*([A-Za-z_]\w*)([ \t]+skip)?((?:[ \t]+(?:pop|(?:mode|push)[ \t]+\w+))*)[ \t]*=[ \t]*([0-9]+)?[ \t]*(.*?)[ \t]*", re.ASCII)
-TEXT = re.compile(r"'(?P<literal>.*)'|/(?P<pattern>.*)/|from[ \t]+'(?P<start>.*?)'[ \t]+to[ \t]*'(?P<end>.+)'")
+PART = re.compile(r"[ \t]*([A-Za-z_]\w*)[ \t]+part[ \t]*=[ \t]*/(.*)/[ \t]*", re.ASCII)
+TEXT = re.compile(
+    r"'(?P<literal>.*)'|\"(?P<escaped>.*)\"|anycase[ \t]*'(?P<cased>.*)'|/(?P<pattern>.*)/"
+    r"|from[ \t]+'(?P<start>.*?)'[ \t]+to[ \t]*'(?P<end>.+)'"
+)
 
 
-def pattern_of(text):
+def unescaped(text):
+    """The text with characters for its escapes, of which the examples have these."""
+    return re.sub(r"\\(?:u\{(\w+)\}|([ntr])|(.))", lambda it: chr(int(it[1], 16)) if it[1] else {"n": "\n", "t": "\t", "r": "\r"}.get(it[2], it[3]), text)
+
+
+def with_parts(pattern, parts):
+    """The pattern in Python's syntax. The examples have no `{NAME}` in brackets."""
+    return re.sub(r"\{([A-Za-z_]\w*)\}", lambda it: f"(?:{parts[it[1]]})" if it[1] in parts else it[0], translated(pattern))
+
+
+def pattern_of(text, parts):
     """The pattern of a rule's text in Python's syntax, and its precedence where none is written."""
     it = TEXT.fullmatch(text)
     if it["literal"] is not None:
         return re.escape(it["literal"]), 1
+    if it["escaped"] is not None:
+        return re.escape(unescaped(it["escaped"])), 1
+    if it["cased"] is not None:
+        return f"(?i:{re.escape(it['cased'])})", 1
     if it["pattern"] is not None:
-        return translated(it["pattern"]), 0
+        return with_parts(it["pattern"], parts), 0
     start, end = re.escape(it["start"]), re.escape(it["end"])
     return f"{start}(?s:(?!{end}).)*{end}", 0
 
 
 def named_rules(rules):
     """Each rule: its name, whether it is skipped, its actions, precedence and pattern, and its modes; and the modes of the file."""
-    found, modes, here = [], [], ["INITIAL"]
+    found, parts, modes, here = [], {}, [], ["INITIAL"]
     for line in rules.split("\n"):
         if section := SECTION.fullmatch(line):
             here = section[1].split()
             modes += [mode for mode in here if mode not in [*modes, "*"]]
+        elif part := PART.fullmatch(line):
+            parts[part[1]] = with_parts(part[2], parts)
         elif not re.fullmatch(r"[ \t]*(#.*)?", line):
             name, skip, words, precedence, text = RULE.fullmatch(line).groups()
-            pattern, usual = pattern_of(text)
+            pattern, usual = pattern_of(text, parts)
             modes = modes or here[:]
             actions = re.findall(r"(pop)|(mode|push)[ \t]+(\w+)", words)
             found.append((name, bool(skip), actions, int(precedence or usual), pattern, here))
