@@ -126,6 +126,7 @@ impl Lexer {
     /// The automaton, with the table that runs it.
     pub fn dense(&self) -> &DenseDfa
         ensures same { result.now ≡ self.now.automaton }
+        ensures built { IsBuiltFrom self.now.trees self.now.precedences result.now }
     {
         &self.dense
     }

@@ -18,7 +18,7 @@ HasNoTreeWith parts s OutOfMemory = Unit {0}
 abbrev pub HasNoTree : List ℕ → RegexError → Type 0
 HasNoTree s e = HasNoTreeWith [] s e
 
--- a syntax error means that there is no such part
+-- a syntax error means that the name and the text make no part
 abbrev pub MakesNoPart : List NamedPart → List ℕ → List ℕ → RegexError → Type 0
 MakesNoPart before name s (Syntax position kind) = (p : NamedPart) → IsPart before name s p → ⊥
 MakesNoPart before name s OutOfMemory = Unit {0}

@@ -15,7 +15,7 @@ pub(crate) struct Cursor {
     flags: Flags,
     // where the named groups opened
     named: Vec<usize>,
-    // whether a name in braces is meant as that of a part
+    // whether a name in braces names a part
     knows_parts: bool,
     ghost within: { position ≤ vec_len chars },
 }
@@ -24,8 +24,7 @@ impl Cursor {
     ghost use Rattle.lalrpop_grammar.specs.Flag.{no_flags};
     ghost use Rattle.lalrpop_re.specs.Internal.Views.{text_from, text, unread, place_of};
 
-    /// The cursor before the first character, with no flag set. `knows_parts` says whether a name in braces is meant as
-    /// that of a part.
+    /// The cursor before the first character, with no flag set. `knows_parts` says whether a name in braces names a part.
     #[tactic(auto, unfolding(crate::specs::Internal::Views::text_from), using(std::proofs::lemmas::Str::chars_from_encodes))]
     pub(crate) fn new(alloc: Global, pattern: &str, knows_parts: bool) -> Result<Cursor, AllocError>
         ensures { IfOk result (λ c. (text c ≡ chars pattern.now) × (c.flags ≡ no_flags)) }
@@ -49,7 +48,7 @@ impl Cursor {
         *self.chars.allocator()
     }
 
-    /// Whether a name in braces is meant as that of a part.
+    /// Whether a name in braces names a part.
     pub(crate) fn knows_parts(&self) -> bool {
         self.knows_parts
     }

@@ -60,7 +60,7 @@ pub(crate) fn parse_operator_at(cursor: &mut Cursor) -> Result<RepetitionOperato
     }
 }
 
-/// Whether a name stands here in braces that is meant as that of a part.
+/// Whether a name that is to name a part stands here in braces.
 pub(crate) fn is_at_unknown(cursor: &Cursor) -> bool {
     cursor.knows_parts() && cursor.begins(&['{']) && is_name_in_braces(after_first(cursor.rest()))
 }

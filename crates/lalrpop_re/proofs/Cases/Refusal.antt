@@ -1,5 +1,6 @@
 -- Cases of specs/Refusal.antt.
 use Rattle.std.proofs.Common.{◌≡◌, ◌≤◌, true, false, [], ◌∷◌, codes, refl, lit≤, arith}
+use Rattle.std.specs.Prelude.{Some, None}
 use Rattle.lalrpop_book.specs.Tree.{literal, empty}
 use Rattle.lalrpop_grammar.specs.GroupName.{names}
 use Rattle.lalrpop_grammar.specs.Flag.{no_flags}
@@ -9,6 +10,8 @@ use Rattle.lalrpop_re.specs.Refusal.{HasNoTree, HasNoTreeWith, MakesNoPart, Says
 use Rattle.lalrpop_grammar.specs.declared.error.RegexError.TheVariants.{Syntax, OutOfMemory}
 use Rattle.lalrpop_grammar.specs.declared.error.SyntaxKind.TheVariants.{RepetitionMissing, PartUnknown, PartName, EscapeUnexpectedEof}
 use Rattle.lalrpop_grammar.specs.Unescaped.{at_end, itself}
+use Rattle.lalrpop_grammar.specs.Escape.{character}
+use Rattle.lalrpop_grammar.proofs.UnescapedLaws.{says_first}
 use Rattle.lalrpop_grammar.proofs.PatternLaws.{missing_with}
 use Rattle.lalrpop_grammar.proofs.Cases.Pattern.{operator_alone}
 
@@ -66,6 +69,15 @@ name_of_a_part h =
       };
       depth = refl;
     })
+
+-- a backslash alone says no text
+refusal_of_a_backslash : SaysNoText (codes "\\") (Syntax 1 EscapeUnexpectedEof)
+unfolding reading.primary reading.escape
+refusal_of_a_backslash cs h =
+    let s = says_first 92 [] cs h in
+    let none : reading.primary (codes "\\") ≡ None = refl in
+    let some : reading.primary (codes "\\") ≡ Some (character s.first, s.rest) = s.read in
+    absurd (cc)
 
 -- `a` says a text, whatever a refusal claims, unless memory runs out
 refusal_of_a_text : (¬ SaysNoText (codes "a") (Syntax 0 EscapeUnexpectedEof)) × SaysNoText (codes "a") OutOfMemory

@@ -1,9 +1,10 @@
 -- Cases of specs/CutToEnd.antt.
 use Rattle.std.proofs.Common.{◌≡◌, ℕ, ◌+◌, Bool, List, [], ◌∷◌, length, codes, refl, ap, arith}
 use Rattle.std.specs.Prelude.{Some, None}
+use Rattle.std.specs.Str.{chars}
 use Rattle.std.specs.Borrow.{Bor}
 use Rattle.lalrpop_lexer.specs.Rules.{Rules}
-use Rattle.lalrpop_rules.specs.CutToEnd.{CutToEnd, Memo, uncut, left_text, with_credit, IsPaid, GivesPiece}
+use Rattle.lalrpop_rules.specs.CutToEnd.{CutToEnd, Memo, uncut, left_text, with_credit, IsPaid, GivesPiece, IsSoughtFromRest, IsSoughtBehind, IsSpent, PassesTo}
 use Rattle.lalrpop_rules.specs.declared.item.Item.TheVariants.{Fault}
 
 nothing_is_left : (rules : Rules) (skips : List Bool) → GivesPiece (uncut rules skips [] None) None (uncut rules skips [] None)
@@ -51,3 +52,36 @@ nothing_is_read_at_the_end : (s : CutToEnd) (steps : ℕ) → s.steps ≡ 5 → 
 nothing_is_read_at_the_end s steps five six (same, end) =
     let no_step : steps ≡ s.steps = ap (λ (w : CutToEnd). w.steps) same in
     omega (arith, no_step, five, six)
+
+-- ---- where matches are sought
+
+abbrev memo_of : ℕ → Memo
+memo_of unsought = record { unsought = unsought; spare = 10 }
+
+-- of "ab", the "a" is cut off
+abbrev behind_a : Rules → List Bool → Memo → CutToEnd
+behind_a rules skips memo = record (uncut rules skips (codes "ab") (Some memo)) { at = 1 }
+
+the_rest_is_unsought : (rules : Rules) (skips : List Bool) → IsSoughtFromRest (behind_a rules skips (memo_of 1))
+unfolding chars
+the_rest_is_unsought rules skips = refl
+
+the_b_is_found : (rules : Rules) (skips : List Bool) → ¬ IsSoughtFromRest (behind_a rules skips (memo_of 0))
+unfolding chars
+the_b_is_found rules skips same = let no : 0 ≡ 1 = same in omega (arith, no)
+
+found_behind_a_fault : (rules : Rules) (skips : List Bool) (slice : Bor (List ℕ)) → IsSoughtBehind (Fault 0 slice) (behind_a rules skips (memo_of 0))
+found_behind_a_fault rules skips slice = tt
+
+read_in_vain : IsSpent 5 (Some (record { unsought = 2; spare = 10 })) 9 (Some (record { unsought = 1; spare = 6 }))
+read_in_vain = (omega arith, omega arith)
+
+not_taken_from_the_spare : ¬ IsSpent 5 (Some (record { unsought = 2; spare = 10 })) 9 (Some (record { unsought = 1; spare = 7 }))
+not_taken_from_the_spare spent = omega (arith, spent.1)
+
+spent_without_a_memo : ¬ IsSpent 5 None 6 None
+spent_without_a_memo spent = omega (arith, spent)
+
+a_is_passed : (rules : Rules) (skips : List Bool) → PassesTo (uncut rules skips (codes "ab") (Some (memo_of 2))) 1 (behind_a rules skips (memo_of 1))
+unfolding chars
+a_is_passed rules skips = (refl, refl, (omega arith, omega arith))
