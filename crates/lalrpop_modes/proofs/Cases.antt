@@ -5,4 +5,3 @@ mod ModeSet
 mod ModesErrors
 mod ModeCut
 mod ModeClashes
-mod EnteredModes

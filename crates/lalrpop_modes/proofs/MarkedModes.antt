@@ -11,8 +11,7 @@ use Rattle.std.proofs.lemmas.Option.{slice_get_within, slice_get-get_or, slice_g
 use Rattle.lalrpop_modes.specs.declared.action.Action.{Action}
 use Rattle.lalrpop_modes.specs.declared.mode_rule.ModeRule.{ModeRule}
 use Rattle.lalrpop_modes.specs.Stack.{actions_of, these_or_none}
-use Rattle.lalrpop_modes.specs.Modes.{LeadsInto, OneLeadsInto}
-use Rattle.lalrpop_modes.specs.EnteredModes.{IsEntered, is_first, led_by}
+use Rattle.lalrpop_modes.specs.Modes.{CanBeEntered, LeadsInto, OneLeadsInto, by_rule, first_mode}
 use Rattle.lalrpop_modes.specs.Internal.Marks.{AreClosed, HasMarked, HasRound, Marked, OnlyEntered, unmarked}
 
 -- ---- one mode
@@ -160,12 +159,12 @@ module _ (members : List (List ℕ)) (actions : List (List Action)) where
     closed = λ e i m n these below here among_these is leads there. shut first second e h.closed h.none g.none i m n these below here among_these is leads there;
   }
     where
-      entered : OnlyEntered members actions new → (m : ℕ) → Marked next m → IsEntered members actions (length next) m
+      entered : OnlyEntered members actions new → (m : ℕ) → Marked next m → CanBeEntered members actions (length next) m
       entered before m is =
           let within : m < length new = omega (arith, slice_get_within next m true is, g.same_length) in
-          subst (λ (count : ℕ). IsEntered members actions count m) (sym g.same_length)
+          subst (λ (count : ℕ). CanBeEntered members actions count m) (sym g.same_length)
           (⊎_elim (λ (x : Marked new m). before m x)
-          (λ (x : OneLeadsInto acts m). led_by k own (slice_get_within new from true marked) (before from marked) at among (subst (λ (a : List Action). OneLeadsInto a m) (sym act) x))
+          (λ (x : OneLeadsInto acts m). by_rule k (slice_get_within new from true marked) (before from marked) (own, (at, among)) (subst (λ (a : List Action). OneLeadsInto a m) (sym act) x))
           ((g.each m within).0 is))
 
       less : (first second : Bool) → (first ≡ true → unmarked new < unmarked old) → (second ≡ true → unmarked next < unmarked new) → unmarked new ≤ unmarked old → unmarked next ≤ unmarked new
@@ -194,15 +193,15 @@ module _ (members : List (List ℕ)) (actions : List (List Action)) where
   -- ---- all modes that can be entered
 
   module _ (marks : List Bool) (first : 0 < length marks → Marked marks 0) (closed : AreClosed members actions (length members) marks) where
-    all_marked : (m : ℕ) → IsEntered members actions (length marks) m → m < length marks → Marked marks m
-    all_marked m is_first within = first within
-    all_marked m (led_by {m = from} i own there entered at among leads) within =
+    all_marked : (m : ℕ) → CanBeEntered members actions (length marks) m → m < length marks → Marked marks m
+    all_marked m first_mode within = first within
+    all_marked m (by_rule {m = from} i there entered (own, (at, among)) leads) within =
         closed i from m own (slice_get_within members i own at) at among (all_marked from entered there) leads within
 
-    pub all_entered : (modes : ℕ) → length marks ≡ modes → OnlyEntered members actions marks → (m : ℕ) → m < modes → Marked marks m ↔ IsEntered members actions modes m
+    pub all_entered : (modes : ℕ) → length marks ≡ modes → OnlyEntered members actions marks → (m : ℕ) → m < modes → Marked marks m ↔ CanBeEntered members actions modes m
     all_entered modes same only m within = (
-      λ is. subst (λ (count : ℕ). IsEntered members actions count m) same (only m is),
-      λ entered. all_marked m (subst (λ (count : ℕ). IsEntered members actions count m) (sym same) entered) (omega (arith, same)),
+      λ is. subst (λ (count : ℕ). CanBeEntered members actions count m) same (only m is),
+      λ entered. all_marked m (subst (λ (count : ℕ). CanBeEntered members actions count m) (sym same) entered) (omega (arith, same)),
     )
 
 -- ---- rules
@@ -239,10 +238,10 @@ first_marked members actions modes old new is_any none h =
     let count : length old ≡ modes = ap length none ∙ length-replicate modes false in
     (h.same_length ∙ count, λ some. (h.each 0 (omega (arith, count))).1 (inr refl), λ m is. by_first m is)
   where
-    by_first : (m : ℕ) → Marked new m → IsEntered members actions (length new) m
+    by_first : (m : ℕ) → Marked new m → CanBeEntered members actions (length new) m
     by_first m is =
         let within : m < length old = omega (arith, slice_get_within new m true is, h.same_length) in
-        ⊎_elim (λ (x : Marked old m). absurd (no x within)) (λ (e : m ≡ 0). subst (IsEntered members actions (length new)) (sym e) is_first) ((h.each m within).0 is)
+        ⊎_elim (λ (x : Marked old m). absurd (no x within)) (λ (e : m ≡ 0). subst (CanBeEntered members actions (length new)) (sym e) first_mode) ((h.each m within).0 is)
       where
         no : Marked old m → m < length old → ⊥
         no x within =
@@ -257,7 +256,7 @@ written xs ys n long is = ap (λ k. take k (xs ++ drop (length xs) ys)) (is ∙ 
 
 -- after a round that marks no more
 pub round_last : (rs : List ModeRule) (old new : List Bool) (modes : ℕ) (is_any : Bool) → length old ≡ modes → (0 < modes → Marked old 0) → OnlyEntered (members_of rs) (all_actions_of rs) old
-    → HasRound (members_of rs) (all_actions_of rs) (length rs) old new is_any → is_any ≡ false → (m : ℕ) → m < modes → Marked new m ↔ IsEntered (members_of rs) (all_actions_of rs) modes m
+    → HasRound (members_of rs) (all_actions_of rs) (length rs) old new is_any → is_any ≡ false → (m : ℕ) → m < modes → Marked new m ↔ CanBeEntered (members_of rs) (all_actions_of rs) modes m
 round_last rs old new modes is_any same first only h none =
     let count : length (members_of rs) ≡ length rs = length-map rs (λ r. r.modes.now) in
     let closed = subst (λ (k : ℕ). AreClosed (members_of rs) (all_actions_of rs) k old) (sym count) (h.closed none) in

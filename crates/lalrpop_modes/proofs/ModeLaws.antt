@@ -1,7 +1,7 @@
 -- What the trees of a mode match, and which modes a cut enters.
 use Rattle.std.proofs.Common.{◌≡◌, ℕ, zero, suc, ◌+◌, ◌<◌, ◌⊎◌, Bool, true, false, inl, inr, List, [], ◌∷◌, length, drop, refl, sym, ap, subst, ◌∙◌}
-use Rattle.std.specs.Prelude.{Option, Some, None, slice_get, map, ◌==◌}
-use Rattle.std.specs.List.{list_any}
+use Rattle.std.specs.Prelude.{Option, Some, None, slice_get, map, ◌==◌, Contains}
+use Rattle.std.specs.List.{list_any, slice_index_or}
 use Rattle.std.proofs.lemmas.Option.{same_Some}
 use Rattle.std.proofs.lemmas.List.{append-nil, drop_at, drop-drop}
 use Rattle.lalrpop_book.specs.Tree.{Tree}
@@ -19,7 +19,8 @@ use Rattle.lalrpop_modes.specs.declared.action.Action.TheVariants.{Mode, Push, P
 use Rattle.lalrpop_modes.specs.Stack.{Stack, start, act, act_all, actions_of, popped}
 use Rattle.lalrpop_modes.specs.Modes.{ModeRules, kinds_of, trees_of, trees_in, after, ArePiecesFrom, mode_rules, Belongs, OneLeadsInto, CanBeEntered, by_rule, AllOf, EachMode, AllCanBeEntered, NoModeClash, IsModeClash}
 use Rattle.lalrpop_book.specs.Clash.{NoClash, IsClash}
-use Rattle.std.proofs.lemmas.Bool.{cases_order}
+use Rattle.std.proofs.lemmas.Bool.{cases_order, eqb-true}
+use Rattle.std.proofs.lemmas.List.Folds.{Any-from_list_any}
 use Rattle.lalrpop_modes.proofs.ModePieces.{as-without-modes, with-modes}
 
 -- ---- the trees of a mode
@@ -75,9 +76,18 @@ one-mode-too ts ps skips ks text xs are =
 
 -- ---- the modes that are entered
 
+contains : (m : ℕ) (own : List ℕ) → list_any (λ n. n == m) own ≡ true → Contains own m
+contains m own marked =
+    let (k, x, within, at, same) = Any-from_list_any (λ n. n == m) own marked in (k, within, subst (λ (y : ℕ). slice_index_or own k y ≡ y) (eqb-true x m same) at)
+
+belongs_where_marked : (members : List (List ℕ)) (m i : ℕ) → slice_get (map (λ modes. list_any (λ n. n == m) modes) members) i ≡ Some true → Belongs members m i
+belongs_where_marked [] m i at = absurd (cc)
+belongs_where_marked (own ∷ members) m zero at = (own, (refl, contains m own (same_Some _ _ at)))
+belongs_where_marked (own ∷ members) m (suc i) at = belongs_where_marked members m i at
+
 -- the rule of a token belongs to the mode that it is found in
-pub token-belongs : (r : ModeRules) (m : ℕ) (w : List ℕ) (i : ℕ) → TreeMatches (trees_in r m) w i → Belongs r m i
-token-belongs r m w i matches = of-mode (mode_rules r m) r.kinds r.trees w i matches
+pub token-belongs : (r : ModeRules) (m : ℕ) (w : List ℕ) (i : ℕ) → TreeMatches (trees_in r m) w i → Belongs r.members m i
+token-belongs r m w i matches = belongs_where_marked r.members m i (of-mode (mode_rules r m) r.kinds r.trees w i matches)
 
 less_modes : (P : ℕ → Type 0) (mode : ℕ) (below : List ℕ) → P mode → AllOf P below → EachMode P (popped mode below)
 less_modes P mode [] here all = (here, tt)
@@ -90,20 +100,24 @@ act-keeps P (Mode m ∷ acts) s lead all = act-keeps P acts (act (Mode m) s) (λ
 act-keeps P (Push m ∷ acts) s lead all = act-keeps P acts (act (Push m) s) (λ n l. lead n (inr l)) (lead m (inl refl), all)
 act-keeps P (Pop ∷ acts) s lead all = act-keeps P acts (act Pop s) (λ n l. lead n (inr l)) (less_modes P s.mode s.below all.0 all.1)
 
-after_entered : (r : ModeRules) (text : List ℕ) (at : ℕ) (s : Stack) (x : Item) → IsPiece (trees_in r s.mode) r.precedences r.skips text at x
-    → AllCanBeEntered r s → AllCanBeEntered r (after r.actions x s)
-after_entered r text at s (Token token) is all =
-    act-keeps (CanBeEntered r) (actions_of r.actions token.index) s (λ m l. by_rule token.index all.0 (token-belongs r s.mode _ token.index is.0.2.0.0) l) all
-after_entered r text at s (Skipped token) is all =
-    act-keeps (CanBeEntered r) (actions_of r.actions token.index) s (λ m l. by_rule token.index all.0 (token-belongs r s.mode _ token.index is.0.2.0.0) l) all
-after_entered r text at s (Fault at_start slice) is all = all
+-- the modes of each rule are there
+module _ (r : ModeRules) (there : (m i : ℕ) → Belongs r.members m i → m < r.modes) where
+  token_entered : (s : Stack) (w : List ℕ) (i : ℕ) → TreeMatches (trees_in r s.mode) w i → AllCanBeEntered r s → AllCanBeEntered r (act_all (actions_of r.actions i) s)
+  token_entered s w i matches all =
+      let belongs = token-belongs r s.mode w i matches in
+      act-keeps (CanBeEntered r.members r.actions r.modes) (actions_of r.actions i) s (λ m leads. by_rule i (there s.mode i belongs) all.0 belongs leads) all
 
--- from modes that can be entered on, only such modes are entered
-pub only-entered : (r : ModeRules) (text : List ℕ) (at : ℕ) (s : Stack) (xs : List Item) (t : Stack) → ArePiecesFrom r text at s xs t
-    → AllCanBeEntered r s → AllCanBeEntered r t
-only-entered r text at s [] t are all = subst (λ (v : Stack). AllCanBeEntered r v) (sym are.1) all
-only-entered r text at s (x ∷ xs) t are all =
-    only-entered r text (at + length (slice_of x)) (after r.actions x s) xs t are.1 (after_entered r text at s x are.0 all)
+  after_entered : (text : List ℕ) (at : ℕ) (s : Stack) (x : Item) → IsPiece (trees_in r s.mode) r.precedences r.skips text at x
+      → AllCanBeEntered r s → AllCanBeEntered r (after r.actions x s)
+  after_entered text at s (Token token) is all = token_entered s _ token.index is.0.2.0.0 all
+  after_entered text at s (Skipped token) is all = token_entered s _ token.index is.0.2.0.0 all
+  after_entered text at s (Fault at_start slice) is all = all
+
+  -- from modes that can be entered on, only such modes are entered
+  pub only-entered : (text : List ℕ) (at : ℕ) (s : Stack) (xs : List Item) (t : Stack) → ArePiecesFrom r text at s xs t → AllCanBeEntered r s → AllCanBeEntered r t
+  only-entered text at s [] t are all = subst (λ (v : Stack). AllCanBeEntered r v) (sym are.1) all
+  only-entered text at s (x ∷ xs) t are all =
+      only-entered text (at + length (slice_of x)) (after r.actions x s) xs t are.1 (after_entered text at s x are.0 all)
 
 -- ---- no two faults in turn
 

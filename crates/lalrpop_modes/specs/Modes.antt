@@ -1,6 +1,6 @@
 -- cases: proofs/Cases/Modes.antt
 -- The pieces of a text that is cut to its end by rules with modes.
-use Rattle.std.specs.Prelude.{◌≡◌, ℕ, ◌+◌, ◌<◌, ◌⊎◌, ◌==◌, if◌then◌else◌, Bool, true, List, [], ◌∷◌, length, drop, map, Option, Some, None, slice_get}
+use Rattle.std.specs.Prelude.{◌≡◌, ℕ, ◌+◌, ◌<◌, ◌⊎◌, ◌==◌, if◌then◌else◌, Bool, List, [], ◌∷◌, length, drop, map, Option, Some, None, slice_get, Contains}
 use Rattle.std.specs.List.{list_any}
 use Rattle.lalrpop_book.specs.Tree.{Tree}
 use Rattle.lalrpop_book.specs.Clash.{NoClash, IsClash}
@@ -76,9 +76,9 @@ pub record IsModeClash (r : ModeRules) (m : ℕ) (w : List ℕ) (i j : ℕ) : Ty
 
 -- ---- modes that are entered
 
--- the rule with this index belongs to the mode
-abbrev pub Belongs : ModeRules → ℕ → ℕ → Type 0
-Belongs r m i = slice_get (mode_rules r m) i ≡ Some true
+-- the rule with this index belongs to the mode. The list is the modes of each rule
+abbrev pub Belongs : List (List ℕ) → ℕ → ℕ → Type 0
+Belongs members m i = (own : List ℕ) × ((slice_get members i ≡ Some own) × Contains own m)
 
 -- the action leads into the mode
 abbrev pub LeadsInto : Action → ℕ → Type 0
@@ -91,10 +91,12 @@ abbrev pub OneLeadsInto : List Action → ℕ → Type 0
 OneLeadsInto [] m = ⊥
 OneLeadsInto (a ∷ acts) m = LeadsInto a m ⊎ OneLeadsInto acts m
 
--- the mode can be entered: it is the first; or some rule of a mode that can be entered leads into it
-pub data CanBeEntered (r : ModeRules) : ℕ → Type 0 where
-  first_mode : CanBeEntered r 0
-  by_rule : {m n : ℕ} (i : ℕ) → CanBeEntered r m → Belongs r m i → OneLeadsInto (actions_of r.actions i) n → CanBeEntered r n
+-- the mode can be entered: it is the first; or some rule of a mode that is there and can be entered leads into it. The lists are the modes and the
+-- actions of each rule
+pub data CanBeEntered (members : List (List ℕ)) (actions : List (List Action)) (modes : ℕ) : ℕ → Type 0 where
+  first_mode : CanBeEntered members actions modes 0
+  by_rule : {m n : ℕ} (i : ℕ) → m < modes → CanBeEntered members actions modes m → Belongs members m i → OneLeadsInto (actions_of actions i) n
+      → CanBeEntered members actions modes n
 
 -- P holds of each of them
 abbrev pub AllOf : (ℕ → Type 0) → List ℕ → Type 0
@@ -107,4 +109,4 @@ EachMode P s = P s.mode × AllOf P s.below
 
 -- each mode of the stack can be entered
 abbrev pub AllCanBeEntered : ModeRules → Stack → Type 0
-AllCanBeEntered r s = EachMode (CanBeEntered r) s
+AllCanBeEntered r s = EachMode (CanBeEntered r.members r.actions r.modes) s

@@ -72,9 +72,9 @@ fn clash_lists(
     Ok(all)
 }
 
-/// For each mode, in order, all pairs of kinds of its rules that are both among the strongest on some word, each with the least such word,
-/// in the order of these words; for the same word, later rules come first. A kind is named by its first rule that belongs to the mode.
-/// All lists are empty if the rules make a lexer.
+/// For each mode, in order, all pairs of kinds of its rules that are both among the strongest on some word, each with the least
+/// such word, in the order of these words; for the same word, later rules come first. A kind is named by its first rule that
+/// belongs to the mode. All lists are empty if the rules make a lexer.
 ///
 /// ```
 /// use lalrpop_modes::{ModeRule, mode_clashes};
@@ -89,8 +89,8 @@ fn clash_lists(
 ///
 /// # Errors
 ///
-/// The first rule that names a mode that isn't there; otherwise the first rule whose text has no tree, and why; otherwise, in the
-/// first mode that has one, the first rule that can't be compiled; or out of memory. Never `Clash`.
+/// The first rule that names a mode that isn't there; otherwise the first rule whose text has no tree, and why; otherwise, in
+/// the first mode that has one, the first rule that can't be compiled; or out of memory. Never `Clash`.
 pub fn mode_clashes(
     alloc: Global,
     rules: &[ModeRule],

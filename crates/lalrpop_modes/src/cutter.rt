@@ -19,8 +19,8 @@ pub(crate) struct Cutter<'text> {
     at: usize,
     // The mode in which the next piece is cut.
     mode: usize,
-    // What cuts the text in each mode, with a memo; or nothing, without memos. That of the mode goes along. Another is passed on to the
-    // rest when the text is cut in its mode again.
+    // What cuts the text in each mode, with a memo; or nothing, without memos. That of the mode goes along. Another is passed
+    // on to the rest when the text is cut in its mode again.
     cuts: Vec<Items<'text>>,
 }
 
@@ -52,7 +52,14 @@ impl<'text> Cutter<'text> {
     /// The whole text, in mode 0, without memos.
     pub(crate) fn new(alloc: Global, lexer: &'text ModeLexer, text: &'text str) -> Cutter<'text>
         requires some { 0 < lexer.now.modes }
-        ensures start { result ≡ record { rules = lexer.now; text = text.now; at = 0; mode = 0; memo = None; steps = 0 } }
+        ensures start { result ≡ record {
+          rules = lexer.now;
+          text = text.now;
+          at = 0;
+          mode = 0;
+          memo = None;
+          steps = 0;
+        } }
     {
         Cutter {
             lexer,
@@ -70,8 +77,16 @@ impl<'text> Cutter<'text> {
         text: &'text str,
     ) -> Result<Cutter<'text>, AllocError>
         requires some { 0 < lexer.now.modes }
-        ensures start { IfOk result (λ c. c ≡ record { rules = lexer.now; text = text.now; at = 0; mode = 0; memo = c.memo; steps = 0 }) }
-        ensures memo { IfOk result (λ c. IsSomeAnd c.memo (λ m. (m.unsought ≡ length (chars text.now))
+        ensures start { IfOk result (λ c. c ≡ record {
+          rules = lexer.now;
+          text = text.now;
+          at = 0;
+          mode = 0;
+          memo = c.memo;
+          steps = 0;
+        }) }
+        ensures memo { IfOk result (λ c. IsSomeAnd c.memo (λ m.
+            (m.unsought ≡ length (chars text.now))
             × (m.spare ≤ lexer.now.modes * (length (chars text.now) + length text.now)
             + open_in_all lexer.now * (length text.now + 64)))) }
     {
@@ -100,7 +115,8 @@ impl<'text> Cutter<'text> {
         &self.text[self.at..]
     }
 
-    /// The piece at the front of the rest, in the mode, or `None` at the end of the text. From then on the rest begins after it.
+    /// The piece at the front of the rest, in the mode, or `None` at the end of the text. From then on the rest begins after
+    /// it.
     #[inline(always)]
     pub(crate) fn next_piece(&mut self) -> Option<Item<'text>>
         ensures cuts { CutsNext self.old result self.new }

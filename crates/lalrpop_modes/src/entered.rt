@@ -1,7 +1,6 @@
 //! Which modes can be entered.
 ghost use Rattle.std.specs.Prelude.{◌≡◌, ◌<◌, ◌↔◌, ℕ, Some, true, length, map, slice_get, Contains, IsTrue, IfOk};
-ghost use Rattle.lalrpop_modes.specs.Modes.{LeadsInto, OneLeadsInto};
-ghost use Rattle.lalrpop_modes.specs.EnteredModes.{IsEntered};
+ghost use Rattle.lalrpop_modes.specs.Modes.{CanBeEntered, LeadsInto, OneLeadsInto};
 ghost use Rattle.lalrpop_modes.specs.Internal.Marks.{HasMarked, HasRound, Marked};
 
 use crate::action::Action;
@@ -66,8 +65,8 @@ fn mark_round(marks: &mut [bool], rules: &[ModeRule]) -> bool
     is_any
 }
 
-/// For each of `modes` modes, in order, whether it can be entered: a text begins in mode 0, and a rule of a mode that can be entered
-/// leads into the modes of its actions.
+/// For each of `modes` modes, in order, whether it can be entered: a text begins in mode 0, and a rule of a mode that can be
+/// entered leads into the modes of its actions.
 ///
 /// It doesn't matter whether the texts of the rules parse. From a mode that isn't there no rule leads anywhere.
 ///
@@ -92,7 +91,7 @@ pub fn entered_modes(
 ) -> Result<Vec<bool>, AllocError>
     ensures same_length { IfOk result (λ marks. length marks.items ≡ modes) }
     ensures each { IfOk result (λ marks. (m : ℕ) → m < modes
-        → (slice_get marks.items m ≡ Some true) ↔ IsEntered (map (λ r. r.modes.now) rules.now)
+        → (slice_get marks.items m ≡ Some true) ↔ CanBeEntered (map (λ r. r.modes.now) rules.now)
         (map (λ r. r.actions.now) rules.now) modes m) }
 {
     let mut marks = vec![in alloc; false; modes]?;

@@ -49,8 +49,9 @@ pub enum ModesError {
         rule: usize,
         error: NfaConstructionError,
     },
-    /// Some word has strongest rules of more than one kind in this mode: `word` is the shortest, then least, such word, and `rule` and
-    /// `other` are the first rules of two such kinds in the mode: `rule` has the greatest index, and `other` the second greatest.
+    /// Some word has strongest rules of more than one kind in this mode: `word` is the shortest, then least, such word, and
+    /// `rule` and `other` are the first rules of two such kinds in the mode: `rule` has the greatest index, and `other` the
+    /// second greatest.
     #[error("in mode {mode} rules {other} and {rule} clash on {shown}", shown = ShownWord(.word))]
     Clash {
         mode: usize,

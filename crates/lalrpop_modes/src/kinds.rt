@@ -11,7 +11,8 @@ use std::alloc::{AllocError, Global};
 
 // Whether the rules are of one kind.
 fn are_one_mode_kind(rule: &ModeRule, other: &ModeRule) -> bool
-    ensures { MatchBool result (AreOneModeKind rule.now other.now) (¬ AreOneModeKind rule.now other.now) }
+    ensures { MatchBool result (AreOneModeKind rule.now other.now)
+        (¬ AreOneModeKind rule.now other.now) }
 {
     are_one_kind(&rule.rule, &other.rule) && rule.actions == other.actions
 }

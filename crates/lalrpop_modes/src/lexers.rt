@@ -49,7 +49,8 @@ pub(crate) fn lexers_of(
     requires kinds { length kinds.now ≡ length known.now }
     requires no_fault { NoFault regexs.now }
     ensures lexers { IfOk result (λ all. AreLexers (seen regexs.now
-        (map (λ p. p.0) precedences.now) (map (λ k. k.modes.items) known.now) kinds.now modes) all.items) }
+        (map (λ p. p.0) precedences.now) (map (λ k. k.modes.items) known.now) kinds.now modes)
+        all.items) }
     ensures count { IfOk result (λ all. length all.items ≡ modes) }
     ensures no_clash { OnOk result (NoModeClash (seen regexs.now
         (map (λ p. p.0) precedences.now) (map (λ k. k.modes.items) known.now) kinds.now modes)) }

@@ -76,7 +76,8 @@ pub(crate) fn mode_lexer(
     ensures trees { IfOk result (λ lexer. lexer.trees
         ≡ trees_of (map (λ k. list_any (λ n. n == mode) k.modes.items) known.now) kinds.now
         regexs.now) }
-    ensures precedences { IfOk result (λ lexer. lexer.precedences ≡ map (λ p. p.0) precedences.now) }
+    ensures precedences { IfOk result (λ lexer.
+        lexer.precedences ≡ map (λ p. p.0) precedences.now) }
     ensures no_clash { OnOk result (NoClash
         (trees_of (map (λ k. list_any (λ n. n == mode) k.modes.items) known.now) kinds.now
         regexs.now) (map (λ p. p.0) precedences.now)) }

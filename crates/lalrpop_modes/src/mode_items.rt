@@ -17,8 +17,8 @@ use std::marker::Model;
 /// As an iterator it returns each piece as `Ok`. Where a request for memory was refused it returns one `Err`, and from then on
 /// `None`, so that a `for` ends. `next_item` can still be asked for that piece.
 ///
-/// With memos, by `items_linear`, this takes linear time. Then a step is counted for each character the automaton reads, as often as it
-/// reads it. Only contracts see the steps.
+/// With memos, by `items_linear`, this takes linear time. Then a step is counted for each character the automaton reads, as
+/// often as it reads it. Only contracts see the steps.
 ///
 /// ```
 /// for item in lexer.items(alloc, "a /* b */") {
@@ -92,13 +92,13 @@ impl<'text> ModeItems<'text> {
         &self.stack
     }
 
-    /// The piece at the front of the rest by the rules of the mode on top, or `None` at the end of the text. Then the rest begins
-    /// after it, and the actions of its rule are done.
+    /// The piece at the front of the rest by the rules of the mode on top, or `None` at the end of the text. Then the rest
+    /// begins after it, and the actions of its rule are done.
     ///
     /// # Errors
     ///
-    /// `AllocError` if a request for memory was refused. Then nothing has changed. It is requested before the piece is cut, for as many
-    /// modes more as some rule has actions.
+    /// `AllocError` if a request for memory was refused. Then nothing has changed. It is requested before the piece is cut, for
+    /// as many modes more as some rule has actions.
     #[inline(always)]
     pub fn next_item(&mut self) -> Result<Option<Item<'text>>, AllocError>
         ensures gives { IfOk result (λ item. GivesModePiece self.old item self.new) }

@@ -115,14 +115,14 @@ fn most_actions(known: &[KnownRule]) -> usize
 impl ModeLexer {
     /// Builds the lexers of these rules, one for each mode. There is one mode at least, in which a text begins.
     ///
-    /// Rules with one name, one precedence and the same actions that are both skipped or both not are one kind: they don't clash with
-    /// each other, and in each mode a token of one of them is a token of the first that belongs to the mode.
+    /// Rules with one name, one precedence and the same actions that are both skipped or both not are one kind: they don't
+    /// clash with each other, and in each mode a token of one of them is a token of the first that belongs to the mode.
     ///
     /// # Errors
     ///
-    /// The first rule that names a mode that isn't there; otherwise the first rule whose text has no tree, and why; otherwise the first
-    /// that can't be compiled; otherwise, in the first mode that has one, the shortest, then least, word with strongest rules of two or
-    /// more kinds, and the last two of those; or out of memory.
+    /// The first rule that names a mode that isn't there; otherwise the first rule whose text has no tree, and why; otherwise
+    /// the first that can't be compiled; otherwise, in the first mode that has one, the shortest, then least, word with
+    /// strongest rules of two or more kinds, and the last two of those; or out of memory.
     pub fn from_rules(
         alloc: Global,
         rules: &[ModeRule],
@@ -184,7 +184,7 @@ impl ModeLexer {
         &self.names
     }
 
-    /// The name of the rule with this index, or `None` if there is no such rule.
+    /// The name of the rule with this index, or `None` if no rule has this index.
     pub fn name(&self, index: NfaIndex) -> Option<&str>
         ensures name { option_map (λ s. s.now) result ≡ slice_get self.now.names index }
     {
@@ -194,7 +194,7 @@ impl ModeLexer {
         }
     }
 
-    /// What a token of the rule with this index does to the stack, or no actions if there is no such rule.
+    /// What a token of the rule with this index does to the stack, or no actions if no rule has this index.
     pub fn actions(&self, index: NfaIndex) -> &[Action]
         ensures actions { result.now ≡ actions_of self.now.actions index }
         ensures within { (m : ℕ) → OneLeadsInto result.now m → m < self.now.modes }
@@ -202,8 +202,8 @@ impl ModeLexer {
         actions_at(&self.known, index.index())
     }
 
-    /// The lexer of a mode. There the first rule of each kind that belongs to the mode has the trees of its kind, and all other rules
-    /// match nothing.
+    /// The lexer of a mode. There the first rule of each kind that belongs to the mode has the trees of its kind, and all other
+    /// rules match nothing.
     pub fn lexer(&self, mode: usize) -> &Lexer
         requires there { mode < self.now.modes }
         ensures trees { result.now.trees ≡ trees_in self.now mode }
@@ -213,11 +213,13 @@ impl ModeLexer {
         &self.lexers[mode]
     }
 
-    /// The pieces of any text, from its beginning to its end, each by the rules of the mode that is on top there. A text begins in mode
-    /// 0. Where a rule of that mode matches, the piece is the token there, skipped if its rule is, and its rule's actions are done.
-    /// Elsewhere it is a fault: the characters up to the next place where a rule of that mode matches, or to the end of the text.
+    /// The pieces of any text, from its beginning to its end, each by the rules of the mode that is on top there. A text begins
+    /// in mode 0. Where a rule of that mode matches, the piece is the token there, skipped if its rule is, and its rule's
+    /// actions are done. Elsewhere it is a fault: the characters up to the next place where a rule of that mode matches, or to
+    /// the end of the text.
     ///
-    /// From each place it reads as far as some rule could still match, so the cost is at most quadratic in the length of the text.
+    /// From each place it reads as far as some rule could still match, so the cost is at most quadratic in the length of the
+    /// text.
     ///
     /// ```
     /// for item in lexer.items(alloc, text) {
@@ -249,12 +251,13 @@ impl ModeLexer {
         ModeItems::new(cutter, ModeStack::new(alloc), most_actions(&self.known))
     }
 
-    /// The same pieces as `items`, in time linear in the length of the text, whatever the rules are, however many faults there are and
-    /// however often the mode changes. A state of an automaton is open if it neither accepts a pattern nor rejects. A whole text costs at
-    /// most 65 steps a character; for each mode one a character and one a byte; and for each open state of each mode one a byte and 64
-    /// more. A step is counted each time an automaton reads a character.
+    /// The same pieces as `items`, in time linear in the length of the text, whatever the rules are, however many faults there
+    /// are and however often the mode changes. A state of an automaton is open if it neither accepts a pattern nor rejects. A
+    /// whole text costs at most 65 steps a character; for each mode one a character and one a byte; and for each open state of
+    /// each mode one a byte and 64 more. A step is counted each time an automaton reads a character.
     ///
-    /// All memory but that of the stack is taken by this call: for each mode a byte for each open state and each 64 bytes of the text.
+    /// All memory but that of the stack is taken by this call: for each mode a byte for each open state and each 64 bytes of
+    /// the text.
     ///
     /// # Errors
     ///

@@ -120,8 +120,8 @@ impl ModeStack {
         Ok(())
     }
 
-    /// The piece at the front of the rest of a text that is cut in the mode on top, or `None` at its end. The actions of its rule are done;
-    /// no rule has more than `most`.
+    /// The piece at the front of the rest of a text that is cut in the mode on top, or `None` at its end. The actions of its
+    /// rule are done; no rule has more than `most`.
     ///
     /// # Errors
     ///

@@ -153,7 +153,7 @@ named_all bytes rest number modes all section h none is = (h.said, (said_all byt
 
 -- ---- the rules
 
--- the line is no rule
+-- the line isn't a rule
 abbrev pub IsNoRule : Said → Type 0
 IsNoRule Nothing = Unit {0}
 IsNoRule (Heading section) = Unit {0}
@@ -341,7 +341,7 @@ onward bytes rest after line number modes here known rs s h split says =
       named = subst (λ (x : List (List ℕ)). AllIn x (named_at (section_at initial h.said) s)) (sym modes_are) (line_names h.said s next.0);
     }
 
--- a line that is no rule
+-- a line that isn't a rule
 pub read_aside : (bytes rest after line : List ℕ) (number : ℕ) (modes : List (List ℕ)) (here next : List ℕ) (known count : ℕ) (rs : List FileRule) (s : Said) → IsNoRule s → HasRead bytes rest number modes here known rs
     → lines rest ≡ line ∷ lines after → length after < length rest → LineSays line s → count ≡ known + length (parts_in (s ∷ [])) → count ≤ known + 1
     → ((section : Section) → (AllIn modes (named_by section) → AreModes modes section here) → AllIn modes (named_by (section_after section s)) → AreModes modes (section_after section s) next)

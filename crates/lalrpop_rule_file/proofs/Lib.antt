@@ -33,7 +33,5 @@ pub mod ModeRules
 pub mod PartPlaces
 pub mod UsedParts
 pub mod FoundWarnings
--- the modes that can be entered, as the lexer has them
-pub mod EnteredLaws
 -- a file without sections, actions and parts
 pub mod PlainLaws

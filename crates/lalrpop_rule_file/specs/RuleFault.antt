@@ -1,5 +1,5 @@
 -- cases: proofs/Cases/RuleFault.antt
--- Where a line that is no rule, part or section stops being one, and what is wrong there.
+-- Where a line that isn't a rule, part or section stops being one, and what is wrong there.
 use Rattle.std.specs.Prelude.{◌≡◌, if◌then◌else◌, Option, Some, None, List, [], ◌∷◌, ℕ, codes}
 use Rattle.std.specs.Char.{is_ascii_digit}
 use Rattle.lalrpop_rule_file.specs.Words.{begins}

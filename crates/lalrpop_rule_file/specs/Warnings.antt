@@ -4,7 +4,7 @@ use Rattle.std.specs.Prelude.{◌≡◌, ℕ, ◌<◌, ◌⊎◌, List, [], ◌+
 use Rattle.std.specs.Str.Iter.{HasSubslice}
 use Rattle.lalrpop_rules.specs.declared.rule_text.RuleText.{RuleText}
 use Rattle.lalrpop_rules.specs.declared.rule_text.RuleText.TheVariants.{Literal, Escaped, AnyCase, Pattern, PatternWith}
-use Rattle.lalrpop_modes.specs.EnteredModes.{IsEntered}
+use Rattle.lalrpop_modes.specs.Modes.{CanBeEntered}
 use Rattle.lalrpop_rule_file.specs.declared.file_rule.FileRule.{FileRule}
 use Rattle.lalrpop_rule_file.specs.declared.part_line.PartLine.{PartLine}
 use Rattle.lalrpop_rule_file.specs.declared.file.RuleFile.{RuleFile}
@@ -41,7 +41,7 @@ IsUnused file i =
 
 -- the mode with this number can be entered
 abbrev pub IsEnteredMode : RuleFile → ℕ → Type 0
-IsEnteredMode file m = IsEntered (map (λ r. r.modes.items) file.rules.items) (map (λ r. r.actions.items) file.rules.items) (length file.modes.items) m
+IsEnteredMode file m = CanBeEntered (map (λ r. r.modes.items) file.rules.items) (map (λ r. r.actions.items) file.rules.items) (length file.modes.items) m
 
 -- a literal without characters: as it is, with escapes or in any case
 abbrev pub IsEmptyLiteral : RuleText → Type 0

@@ -98,7 +98,7 @@ impl Display for LineFault {
 /// ```
 #[derive(Debug, Drop, Error)]
 pub enum RuleFileError {
-    /// The first line that is no rule, part, section or comment and isn't blank. Lines and columns count from 1, columns in
+    /// The first line that isn't a rule, part, section or comment and isn't blank. Lines and columns count from 1, columns in
     /// characters.
     #[error("line {line}, column {column}: {fault}")]
     BadLine {

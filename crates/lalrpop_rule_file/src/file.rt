@@ -129,19 +129,19 @@ pub fn without_mark(bytes: &[u8]) -> &[u8]
 /// The file is UTF-8. A byte order mark at its beginning is left out. A line ends at a line feed, which the last may lack; a
 /// carriage return at its end isn't part of it. Blank lines say nothing, and neither do comments: lines of their own that begin
 /// with `#`. Spaces and tabs may surround the parts of a line. A name is an ASCII letter or `_`, followed by ASCII letters,
-/// digits and `_`; several rules may share one name. `skip`, `mode`, `push`, `pop`, `part`, `anycase` and `from` are words only in
-/// their places: a rule, a part or a mode may be called so. A precedence is 1 to 20 decimal digits whose value fits 64 bits; if
-/// there is none, it is 1 for literals and 0 for other texts.
+/// digits and `_`; several rules may share one name. `skip`, `mode`, `push`, `pop`, `part`, `anycase` and `from` are words only
+/// in their places: a rule, a part or a mode may be called so. A precedence is 1 to 20 decimal digits whose value fits 64 bits;
+/// if there is none, it is 1 for literals and 0 for other texts.
 ///
 /// Rules above the first section belong to the mode INITIAL. The modes are numbered in the order in which they first appear:
 /// a section names its modes, and a rule above the first section names INITIAL. If nothing names a mode, INITIAL is the only
 /// one.
 ///
 /// The text ends at the last delimiter of the line, so it may contain delimiters too, and no comment stands behind it:
-/// `A = 'x' # 'y'` is the literal `x' # 'y`. In `"LITERAL"` the escapes of patterns stand for their characters: `"\n"` is a line
-/// feed, and `"\\"` a backslash. Between apostrophes nothing is escaped. `anycase 'LITERAL'` is the literal in any case: after
-/// `SELECT = anycase 'select'` also `Select` is a SELECT. In `from 'A' to 'B'`, A ends at the first `' to '`, where one blank or
-/// more stands before `to` and any number after it; A may be empty.
+/// `A = 'x' # 'y'` is the literal `x' # 'y`. In `"LITERAL"` the escapes of patterns stand for their characters: `"\n"` is a
+/// line feed, and `"\\"` a backslash. Between apostrophes nothing is escaped. `anycase 'LITERAL'` is the literal in any case:
+/// after `SELECT = anycase 'select'` also `Select` is a SELECT. In `from 'A' to 'B'`, A ends at the first `' to '`, where one
+/// blank or more stands before `to` and any number after it; A may be empty.
 ///
 /// In the patterns of the lines below it, rules and parts, `{NAME}` stands for a part, as `parse_with` says: outside brackets,
 /// where no flag is on. No two parts have one name; a rule may have the name of a part. It doesn't matter in which section a
@@ -166,11 +166,11 @@ pub fn without_mark(bytes: &[u8]) -> &[u8]
 ///
 /// # Errors
 ///
-/// The first line that is no rule, part, section or comment and isn't blank, with the column where it stops being one, and why;
-/// or, if there is none, the first part that is wrong: `RepeatedPart` with the place of its name if a part above has it, or else
-/// `BadPart` with the place in its pattern where that doesn't parse by the parts above it; or, if there is none of these either,
-/// `NoSuchMode` with the place of the first name in an action that no mode of the file has; or out of memory. The columns of
-/// the first line count from after the mark. The column of a bad line is
+/// The first line that isn't a rule, part, section or comment and isn't blank, with the column where it stops being one, and
+/// why; or, if there is none, the first part that is wrong: `RepeatedPart` with the place of its name if a part above has it,
+/// or else `BadPart` with the place in its pattern where that doesn't parse by the parts above it; or, if there is none of
+/// these either, `NoSuchMode` with the place of the first name in an action that no mode of the file has; or out of memory. The
+/// columns of the first line count from after the mark. The column of a bad line is
 ///
 /// - for `NotUtf8`, where the first bytes that aren't UTF-8 begin;
 /// - for `NoName`, after the blanks at the front;

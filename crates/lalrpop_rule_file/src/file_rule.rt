@@ -23,7 +23,7 @@ pub struct FileRule<'text> {
     pub actions: Vec<Action>,
     /// How many of the file's parts stand above its line: these its pattern may have.
     pub known: usize,
-    /// The place at which its text begins, after the first delimiter. Lines and columns count from 1, columns in characters. The
-    /// columns of the first line count from after a byte order mark.
+    /// The place at which its text begins, after the first delimiter. Lines and columns count from 1, columns in characters.
+    /// The columns of the first line count from after a byte order mark.
     pub place: Position,
 }

@@ -13,7 +13,7 @@ use crate::word::{begins_name, behind, behind_word};
 use crate::written::{Entry, LineHead, LineName, WrittenAction};
 use std::alloc::Global;
 
-/// The name at the front of a line that is no section, and what follows it after blanks.
+/// The name at the front of a line that isn't a section, and what follows it after blanks.
 pub(crate) fn name_and_rest(line: &str) -> Result<(LineName<'_>, &str), Stop<'_>>
     requires { (lead right : List ℕ) → ¬ IsSpan is_blank line.now lead (codes "[" ++ right) }
     ensures named { IfOk result (λ m. Reads Start line.now (Named (bare m.0.name.now)) m.1.now) }

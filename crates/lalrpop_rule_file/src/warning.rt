@@ -1,7 +1,7 @@
 //! What a file of rules may say, but surely doesn't mean.
 
-/// What a file of rules may say, but surely doesn't mean. Parts, modes and rules are numbered from 0, in the order in which the file
-/// has them.
+/// What a file of rules may say, but surely doesn't mean. Parts, modes and rules are numbered from 0, in the order in which the
+/// file has them.
 ///
 /// ```
 /// use lalrpop_rule_file::{Warning, read_rules};
@@ -13,8 +13,8 @@
 pub enum Warning {
     /// There is no rule.
     NoRules,
-    /// No pattern that may have this part says `{NAME}`, with its name: neither that of a part further down nor that of a rule below
-    /// it.
+    /// No pattern that may have this part says `{NAME}`, with its name: neither that of a part further down nor that of a rule
+    /// below it.
     PartUnused { part: usize },
     /// No text ever enters this mode.
     ModeNotEntered { mode: usize },

@@ -93,8 +93,8 @@ impl<'text> RuleFile<'text> {
         Ok(())
     }
 
-    /// What the file says, but surely doesn't mean: all warnings, each once, in the order of the kinds as `Warning` has them; those of
-    /// one kind are in ascending order.
+    /// What the file says, but surely doesn't mean: all warnings, each once, in the order of the kinds as `Warning` has them;
+    /// those of one kind are in ascending order.
     ///
     /// ```
     /// use lalrpop_rule_file::{Warning, read_rules};

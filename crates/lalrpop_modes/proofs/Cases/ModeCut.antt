@@ -3,6 +3,7 @@ use Rattle.std.proofs.Common.{◌≡◌, ℕ, ◌+◌, List, [], ◌∷◌, leng
 use Rattle.std.specs.Prelude.{Option, Some, None, Result, Ok, Err}
 use Rattle.std.specs.declared.alloc.AllocError.{AllocError}
 use Rattle.std.specs.Borrow.{Bor}
+use Rattle.std.specs.Str.{chars}
 use Rattle.lalrpop_lexer.specs.Dfa.{Row}
 use Rattle.lalrpop_lexer.specs.Matching.{open_states}
 use Rattle.lalrpop_rules.specs.CutToEnd.{Memo}
@@ -78,3 +79,15 @@ something_behind_an_error old new (Err error) over g = cc (g.0, over)
 
 none_left_behind_an_error : (r : ModeRules) (text : List ℕ) → items_left (over r text) ≡ 0
 none_left_behind_an_error r text = refl
+
+-- one item for each character: these are two, of three bytes
+two_are_left : (r : ModeRules) → items_left (uncut r (195 ∷ 169 ∷ 97 ∷ []) None) ≡ 2
+unfolding chars
+two_are_left r = refl
+
+one_for_each_byte : (r : ModeRules) → ¬ (items_left (uncut r (195 ∷ 169 ∷ 97 ∷ []) None) ≡ 3)
+one_for_each_byte r three = let two = two_are_left r in omega (arith, two, three)
+
+one_is_left_behind_the_first : (r : ModeRules) → items_left (record (uncut r (195 ∷ 169 ∷ 97 ∷ []) None) { at = 2 }) ≡ 1
+unfolding chars
+one_is_left_behind_the_first r = refl

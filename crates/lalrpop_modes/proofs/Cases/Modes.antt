@@ -1,6 +1,6 @@
 -- Cases of specs/Modes.antt.
-use Rattle.std.proofs.Common.{◌≡◌, ℕ, zero, suc, ◌<◌, Bool, true, false, inl, inr, List, [], ◌∷◌, refl, ap, arith}
-use Rattle.std.specs.Prelude.{Option, Some, None}
+use Rattle.std.proofs.Common.{◌≡◌, ℕ, zero, suc, ◌<◌, true, false, inl, inr, List, [], ◌∷◌, length, refl, ap, arith}
+use Rattle.std.specs.Prelude.{Some, None}
 use Rattle.std.specs.Borrow.{Bor}
 use Rattle.lalrpop_book.specs.Tree.{Tree, alternation, none, also}
 use Rattle.lalrpop_rules.specs.declared.item.Item.TheVariants.{Token, Skipped, Fault}
@@ -48,16 +48,17 @@ second_alone_in_mode_1 a b = refl
 none_in_mode_2 : (a b : Tree) → trees_in (two a b) 2 ≡ matches_nothing ∷ matches_nothing ∷ []
 none_in_mode_2 a b = refl
 
-second_in_mode_1 : (a b : Tree) → Belongs (two a b) 1 1
-second_in_mode_1 a b = refl
+-- the rule belongs to one mode
+lone : (i m n : ℕ) → Belongs ((n ∷ []) ∷ []) m i → n ≡ m
+lone zero m n (own, (at, (zero, within, has))) = let same : n ∷ [] ≡ own = cc in cc
+lone zero m n (own, (at, (suc k, within, has))) = let same : n ∷ [] ≡ own = cc in absurd (omega (arith, within, ap length same))
+lone (suc i) m n (own, (at, has)) = absurd (cc)
 
-is_yes : Option Bool → ℕ
-is_yes (Some true) = 1
-is_yes o = 0
+second_in_mode_1 : (a b : Tree) → Belongs (two a b).members 1 1
+second_in_mode_1 a b = (0 ∷ 1 ∷ [], (refl, (1, omega arith, refl)))
 
-first_not_in_mode_1 : (a b : Tree) → ¬ Belongs (two a b) 1 0
-unfolding is_yes
-first_not_in_mode_1 a b belongs = let n : 0 ≡ 1 = ap is_yes belongs in omega (arith, n)
+first_not_in_mode_1 : ¬ Belongs ((0 ∷ []) ∷ []) 1 0
+first_not_in_mode_1 belongs = omega (arith, lone 0 1 0 belongs)
 
 -- ---- the stack after pieces
 
@@ -102,10 +103,10 @@ pop_leads_nowhere m leads = leads
 second_action_leads : OneLeadsInto (Pop ∷ Mode 2 ∷ []) 2
 second_action_leads = inr (inl refl)
 
-mode_1_can_be_entered : (a b : Tree) → CanBeEntered (two a b) 1
-mode_1_can_be_entered a b = by_rule 0 first_mode refl (inl refl)
+mode_1_can_be_entered : (a b : Tree) → CanBeEntered (two a b).members (two a b).actions 3 1
+mode_1_can_be_entered a b = by_rule 0 (omega arith) first_mode (0 ∷ [], (refl, (0, omega arith, refl))) (inl refl)
 
-mode_2_can_not : (a b : Tree) → ¬ CanBeEntered (two a b) 2
+mode_2_can_not : (a b : Tree) → ¬ CanBeEntered (two a b).members (two a b).actions 3 2
 mode_2_can_not a b can = omega (arith, among can)
   where
     led : (i m : ℕ) → OneLeadsInto (actions_of (two a b).actions i) m → m < 2
@@ -115,9 +116,17 @@ mode_2_can_not a b can = omega (arith, among can)
     led (suc zero) m (inr leads) = absurd leads
     led (suc (suc i)) m leads = absurd leads
 
-    among : {m : ℕ} → CanBeEntered (two a b) m → m < 2
+    among : {m : ℕ} → CanBeEntered (two a b).members (two a b).actions 3 m → m < 2
     among first_mode = omega arith
-    among (by_rule i from belongs leads) = led i _ leads
+    among (by_rule i there from belongs leads) = led i _ leads
+
+-- from a mode that isn't there a rule leads nowhere
+mode_behind_one_that_is_not_there : ¬ CanBeEntered ((7 ∷ []) ∷ []) ((Push 1 ∷ []) ∷ []) 2 1
+mode_behind_one_that_is_not_there can = omega (arith, only can)
+  where
+    only : {n : ℕ} → CanBeEntered ((7 ∷ []) ∷ []) ((Push 1 ∷ []) ∷ []) 2 n → n < 1
+    only first_mode = omega arith
+    only (by_rule {m = m} i there from belongs leads) = absurd (omega (arith, there, lone i m 7 belongs))
 
 both_modes_of_a_stack : (a b : Tree) → AllCanBeEntered (two a b) (record { mode = 1; below = 0 ∷ [] })
 both_modes_of_a_stack a b = (mode_1_can_be_entered a b, (first_mode, tt))

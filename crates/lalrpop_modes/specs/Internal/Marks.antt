@@ -3,8 +3,7 @@ use Rattle.std.specs.Prelude.{◌≡◌, ℕ, ◌<◌, ◌≤◌, ◌⊎◌, ◌
 use Rattle.std.specs.List.{sum_by}
 use Rattle.lalrpop_modes.specs.declared.action.Action.{Action}
 use Rattle.lalrpop_modes.specs.Stack.{actions_of}
-use Rattle.lalrpop_modes.specs.Modes.{OneLeadsInto}
-use Rattle.lalrpop_modes.specs.EnteredModes.{IsEntered}
+use Rattle.lalrpop_modes.specs.Modes.{CanBeEntered, OneLeadsInto}
 
 abbrev pub Marked : List Bool → ℕ → Type 0
 Marked marks m = slice_get marks m ≡ Some true
@@ -23,7 +22,7 @@ pub record HasMarked (old : List Bool) (P : ℕ → Type 0) (new : List Bool) (i
 
 -- only modes that can be entered are marked
 abbrev pub OnlyEntered : List (List ℕ) → List (List Action) → List Bool → Type 0
-OnlyEntered members actions marks = (m : ℕ) → Marked marks m → IsEntered members actions (length marks) m
+OnlyEntered members actions marks = (m : ℕ) → Marked marks m → CanBeEntered members actions (length marks) m
 
 -- where one of the first k rules belongs to a marked mode, it leads into marked ones alone
 abbrev pub AreClosed : List (List ℕ) → List (List Action) → ℕ → List Bool → Type 0

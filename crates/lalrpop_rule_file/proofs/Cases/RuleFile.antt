@@ -70,7 +70,7 @@ section_line =
     let word : IsSpan is_of_name (codes "A]") (codes "A") (codes "]") = record { parts = refl; passes = (refl, tt); stops = refl } in
     lexeme_then a_bracket (lexeme_then (a_mode refl word) (lexeme_then an_end nothing))
 
--- a name alone is no rule: it stops behind its name
+-- a name alone isn't a rule: it stops behind its name
 no_action_in_nothing : NoActionAt []
 no_action_in_nothing behind = (λ span. absurd (cc span.parts), λ entry. no_word entry)
   where

@@ -3,7 +3,7 @@ use Rattle.std.proofs.Common.{◌≡◌, ℕ, zero, suc, inl, inr, List, [], ◌
 use Rattle.std.specs.Prelude.{codes}
 use Rattle.std.specs.Str.Iter.{HasSubslice}
 use Rattle.lalrpop_rules.specs.declared.rule_text.RuleText.TheVariants as texts
-use Rattle.lalrpop_modes.specs.EnteredModes.{is_first}
+use Rattle.lalrpop_modes.specs.Modes.{first_mode}
 use Rattle.lalrpop_rule_file.specs.declared.file.RuleFile.{RuleFile}
 use Rattle.lalrpop_rule_file.specs.declared.file_rule.FileRule.{FileRule}
 use Rattle.lalrpop_rule_file.specs.declared.part_line.PartLine.{PartLine}
@@ -45,7 +45,7 @@ no_rules : (file : RuleFile) → file.rules.items ≡ [] → IsWarning file NoRu
 no_rules file none = none
 
 first_mode_is_entered : (file : RuleFile) → ¬ IsWarning file (ModeNotEntered 0)
-first_mode_is_entered file is = is.1 is_first
+first_mode_is_entered file is = is.1 first_mode
 
 -- ---- the order
 
