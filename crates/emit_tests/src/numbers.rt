@@ -26,30 +26,6 @@ pub(crate) fn strings(alloc: Global, names: &[&str]) -> Result<Vec<String>, Allo
 }
 
 #[test]
-fn the_keyword_is_stronger_than_a_name(rt: HostRuntime) -> Result<(), Fail> {
-    let alloc = rt.alloc();
-    let dense = keyword_and_names(alloc)?;
-    let names = strings(alloc, &["IF", "NAME"])?;
-    let numbers = LexerNumbers::new(alloc, &dense, &names, &[false, false])?;
-    assert_eq!(rt; numbers.longest("if x"), Some((0, "if")));
-    assert_eq!(rt; numbers.longest("iffy"), Some((1, "iffy")));
-    assert_eq!(rt; numbers.longest("i f"), Some((1, "i")));
-    Ok(())
-}
-
-#[test]
-fn characters_of_two_bytes_are_read(rt: HostRuntime) -> Result<(), Fail> {
-    let alloc = rt.alloc();
-    let dense = keyword_and_names(alloc)?;
-    let names = strings(alloc, &["IF", "NAME"])?;
-    let numbers = LexerNumbers::new(alloc, &dense, &names, &[false, false])?;
-    assert_eq!(rt; numbers.longest("été."), Some((1, "été")));
-    assert_eq!(rt; numbers.longest("à"), None);
-    assert_eq!(rt; numbers.longest(""), None);
-    Ok(())
-}
-
-#[test]
 fn the_second_name_has_a_dash(rt: HostRuntime) -> Result<(), Fail> {
     let alloc = rt.alloc();
     let dense = keyword_and_names(alloc)?;

@@ -3,3 +3,5 @@ mod Names
 mod CSource
 mod NumberedRules
 mod EmitErrors
+mod BytePieces
+mod Characters

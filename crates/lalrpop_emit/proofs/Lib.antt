@@ -4,4 +4,8 @@ pub mod Reading
 pub mod ReadBack
 pub mod Storable
 pub mod Appended
+pub mod CharacterBytes
+pub mod ByteCuts
 pub mod Walks
+pub mod ByteFaults
+pub mod BytePieceLaws

@@ -37,3 +37,8 @@ storable names distinct kinds skips t few good e k small room f = record {
   live = f.places.2;
   accept = f.places.3;
 }
+
+-- there is a kind for each name
+pub kind_count : (names : List (String Global)) (kinds : List ℕ) → kinds ≡ kinds_of (map string_bytes names) → length kinds ≡ length names
+kind_count names kinds k =
+    omega (arith, ap length k, length-map (map string_bytes names) (place_of_name (distinct_names (map string_bytes names))), length-map names string_bytes)

@@ -1,28 +1,32 @@
 -- The walk along the numbers of a table: what holds after each character.
-use Rattle.std.proofs.Common.{◌≡◌, ℕ, ◌+◌, ◌*◌, ◌/◌, ◌%◌, ◌-◌, ◌<◌, ◌≤◌, List, [], ◌∷◌, ◌++◌, length, take, drop, get_or, min, refl, sym, ap, subst, ◌∙◌, arith}
-use Rattle.std.specs.Prelude.{slice_get, Option, Some}
+use Rattle.std.proofs.Common.{◌≡◌, ℕ, ◌+◌, ◌*◌, ◌/◌, ◌%◌, ◌-◌, ◌<◌, ◌≤◌, ⊎_elim, List, [], ◌∷◌, ◌++◌, length, take, drop, get_or, min, refl, sym, ap, subst, ◌∙◌, arith, length-append, length-drop}
+use Rattle.std.specs.Prelude.{slice_get, Option, Some, None}
 use Rattle.std.specs.List.{All}
-use Rattle.std.specs.Str.{chars, IsUtf8, IsCharBoundary}
-use Rattle.std.proofs.lemmas.List.{get_or_read}
+use Rattle.std.specs.Char.{encode_utf8, IsScalar}
+use Rattle.std.specs.Str.{chars, IsUtf8}
+use Rattle.std.proofs.lemmas.Bool.{cases_lt}
+use Rattle.std.proofs.lemmas.Bool.Decides.{nat_tests}
+use Rattle.std.proofs.lemmas.List.{get_or_read, length-take-le, take-append-drop}
 use Rattle.std.proofs.lemmas.List.Elements.{All-push, All-nil}
-use Rattle.std.proofs.lemmas.Option.{slice_get_within}
-use Rattle.std.proofs.lemmas.Str.{chars-nil, len_utf8_bounds, length-encode, IsCharBoundary-from_take}
+use Rattle.std.proofs.lemmas.Str.{chars-nil, chars-append, len_utf8_bounds, length-encode}
 use Rattle.lalrpop_book.specs.Tree.{Tree}
-use Rattle.lalrpop_book.specs.Longest.{IsLongest}
-use Rattle.lalrpop_nfa.proofs.Cuts.{IsCut, cut_start, cut_within, cut_more, word_after}
-use Rattle.lalrpop_dfa.specs.Dfa.{Row, after, Recognizes, IsRightKind}
+use Rattle.lalrpop_book.specs.Longest.{IsMatch, IsLongest}
+use Rattle.lalrpop_book.specs.Winners.{Matched, IsOnlyStrongest}
+use Rattle.lalrpop_dfa.specs.Dfa.{Row, after, Recognizes, IsRightKind, IsReject}
 use Rattle.lalrpop_dfa.specs.declared.Kind.{Kind}
 use Rattle.lalrpop_dfa.specs.declared.Kind.TheVariants.{Accepts, Reject, Neither}
 use Rattle.lalrpop_dfa.proofs.EdgeTargets.{the_some}
 use Rattle.lalrpop_dfa.proofs.TextWords.{text_word}
-use Rattle.lalrpop_dfa.proofs.LongestLemmas.{IsLongestUpTo, says_of, reject_at, longest_accept, longest_pass, longest_end, longest_stop, part_accept}
+use Rattle.lalrpop_dfa.proofs.LongestLemmas.{IsLongestUpTo, longest_start, says_of, reject_at, none_after, done}
 use Rattle.lalrpop_dense.specs.DenseTable.{TableNumbers, AreClasses, IsRowLike, IsTableFor, block_of_page, character_class, next_row, row_after}
-use Rattle.lalrpop_dense.specs.Internal.Reading.{ReadsChar}
-use Rattle.lalrpop_emit.specs.Internal.Walking.{IsPlaceIn, IsWalkable}
+use Rattle.lalrpop_emit.specs.NumberedRules.{AreBelow}
+use Rattle.lalrpop_emit.specs.Internal.Characters.{IsCharacterAt}
+use Rattle.lalrpop_emit.specs.Internal.Walking.{IsWalkable, AreRulesBelow}
+use Rattle.lalrpop_emit.proofs.ByteCuts.{IsRead, read_start, read_more, word_after, goes_on, ends_there, no_longer, character_of_rest}
 
--- the first `at` bytes of the text lead from the start to the row
+-- the first `at` bytes are whole characters, and lead from the start to the row
 pub record IsWalked (t : TableNumbers) (text : List ℕ) (at row : ℕ) : Type 0 where
-  pub cut : IsCut text at (drop at text)
+  pub read : IsRead text at
   pub word : All (λ c. c < 1114112) (chars (take at text))
   pub reached : row ≡ row_after t t.start (chars (take at text))
 
@@ -49,25 +53,39 @@ kind_accepts t row (Accepts i) h l m = ap (λ n. Accepts n) (sym h.2)
 kind_accepts t row Reject h l m = absurd (omega (arith, h))
 kind_accepts t row Neither h l m = absurd (omega (arith, h.1))
 
+-- the numbers that are right for an automaton can be walked along
+pub walkable : (t : TableNumbers) (d : List Row) → IsTableFor t d → IsWalkable t
+walkable t d h = record { classes = h.classes; within = h.within }
+
+-- the rules that the rows accept are patterns of the automaton
+pub rules_below : (t : TableNumbers) (d : List Row) (count : ℕ) → IsTableFor t d → AreBelow d count → AreRulesBelow t count
+rules_below t d count h below w word live accept =
+    let found = the_some (slice_get d (after d w)) (λ r. IsRowLike t (row_after t t.start w) r.kind) (h.alike w word) in
+    below (after d w) (get_or t.cells (row_after t t.start w + t.width) 0) found.0 found.1.0 (kind_accepts t (row_after t t.start w) found.0.kind found.1.1 live accept)
+
 -- ---- one character more
 
 row_push : (t : TableNumbers) (row : ℕ) (w : List ℕ) (c : ℕ) → row_after t row (w ++ c ∷ []) ≡ next_row t (row_after t row w) c
 row_push t row [] c = refl
 row_push t row (x ∷ w) c = row_push t (next_row t row x) w c
 
-pub walked_start : (t : TableNumbers) (text : List ℕ) → IsUtf8 text → IsWalked t text 0 t.start
-walked_start t text u = record {
-  cut = cut_start text u;
+scalar_below : (c : ℕ) → IsScalar c → c < 1114112
+scalar_below c is = grind (arith, nat_tests)
+
+pub walked_start : (t : TableNumbers) (text : List ℕ) → IsWalked t text 0 t.start
+walked_start t text = record {
+  read = read_start text;
   word = subst (All (λ c. c < 1114112)) (sym chars-nil) (All-nil (λ c. c < 1114112));
   reached = ap (row_after t t.start) (sym chars-nil);
 }
 
-pub walked_more : (t : TableNumbers) (text : List ℕ) (at at2 row row2 c : ℕ) → IsUtf8 text → IsWalked t text at row → ReadsChar text at at2 c → row2 ≡ next_row t row c → IsWalked t text at2 row2
-walked_more t text at at2 row row2 c u w r e =
-    let more : chars (take at2 text) ≡ chars (take at text) ++ c ∷ [] = word_after text (drop at text) (drop at2 text) at at2 c w.cut r.split r.place in
+pub walked_more : (t : TableNumbers) (text : List ℕ) (at at2 row row2 c : ℕ) → IsWalked t text at row → IsCharacterAt text at c → at2 ≡ at + length (encode_utf8 c)
+    → row2 ≡ next_row t row c → IsWalked t text at2 row2
+walked_more t text at at2 row row2 c w h l e =
+    let more : chars (take at2 text) ≡ chars (take at text) ++ c ∷ [] = word_after text at at2 c w.read h l in
     record {
-      cut = cut_more text (drop at text) (drop at2 text) at at2 c u w.cut r.split r.place;
-      word = subst (All (λ n. n < 1114112)) (sym more) (All-push (λ n. n < 1114112) (chars (take at text)) c w.word r.scalar);
+      read = read_more text at at2 c w.read h l;
+      word = subst (All (λ n. n < 1114112)) (sym more) (All-push (λ n. n < 1114112) (chars (take at text)) c w.word (scalar_below c h.scalar));
       reached = e ∙ ap (λ (n : ℕ). next_row t n c) w.reached ∙ sym (row_push t t.start (chars (take at text)) c) ∙ ap (row_after t t.start) (sym more);
     }
 
@@ -81,15 +99,8 @@ cell_read t text at row class c row2 h w k e =
     get_or_read t.cells (row + class) row2 (in_row t text at row class h w (omega (arith, k, class_below t c h.classes))) e 0
     ∙ ap (λ (n : ℕ). get_or t.cells (row + n) 0) k
 
-pub walked_on : (text : List ℕ) (at at2 c : ℕ) → ReadsChar text at at2 c → at < at2
-walked_on text at at2 c r = omega (arith, r.place, length-encode c, len_utf8_bounds c)
-
-pub walked_boundary : (t : TableNumbers) (text : List ℕ) (at row : ℕ) → IsUtf8 text → IsWalked t text at row → IsCharBoundary text at
-walked_boundary t text at row u w = IsCharBoundary-from_take text at u (omega (arith, cut_within text (drop at text) at w.cut)) w.cut.seen_utf8
-
--- the numbers that are right for an automaton can be walked along
-pub walkable : (t : TableNumbers) (d : List Row) → IsTableFor t d → IsWalkable t
-walkable t d h = record { classes = h.classes; within = h.within }
+pub character_size : (c : ℕ) → 0 < length (encode_utf8 c)
+character_size c = omega (arith, length-encode c, len_utf8_bounds c)
 
 -- ---- the state's row, and what it says
 
@@ -103,37 +114,112 @@ says : (d : List Row) (text : List ℕ) (at : ℕ) (k : Kind) (ts : List Tree) (
     → r.kind ≡ k → Recognizes d ts ps → IsRightKind ts ps (chars (take at text)) k
 says d text at k ts ps r utf8 e is s = says_of d ts ps (chars (take at text)) (after d (chars (take at text))) r r.kind k (text_word (take at text) utf8) s refl e refl is
 
+-- ---- the longest match
+
+-- what was read is accepted
+accepted : (ts : List Tree) (ps text : List ℕ) (at i : ℕ) → IsRead text at → 0 < at → IsOnlyStrongest ts ps (chars (take at text)) i
+    → IsLongestUpTo ts ps text at (Some (i, take at text))
+accepted ts ps text at i r some only =
+    let size : length (take at text) ≡ at = length-take-le at text r.within in (
+      (
+        (drop at text, (sym (take-append-drop at text), r.utf8)),
+        λ none. let zero : length (take at text) ≡ 0 = ap length none in absurd (omega arith),
+        (i, only.0.0),
+      ),
+      λ p q l. omega arith,
+      (only.0, λ j t. omega (arith, only.1 j t)),
+    )
+
 pub walk_accepts : (t : TableNumbers) (d : List Row) (text : List ℕ) (at row : ℕ) → IsTableFor t d → IsWalked t text at row → 0 < at → t.live ≤ row → t.accept ≤ row
     → (ts : List Tree) (ps : List ℕ) → Recognizes d ts ps → IsLongestUpTo ts ps text at (Some (get_or t.cells (row + t.width) 0, take at text))
 walk_accepts t d text at row h w some live accept ts ps s =
     let r = row_at t d text at row h w in
-    longest_accept ts ps text (drop at text) at (get_or t.cells (row + t.width) 0) (take at text) w.cut some refl
-    (says d text at (Accepts (get_or t.cells (row + t.width) 0)) ts ps r.0 w.cut.seen_utf8 r.1.0 (kind_accepts t row r.0.kind r.1.1 live accept) s)
+    accepted ts ps text at (get_or t.cells (row + t.width) 0) w.read some
+    (says d text at (Accepts (get_or t.cells (row + t.width) 0)) ts ps r.0 w.read.utf8 r.1.0 (kind_accepts t row r.0.kind r.1.1 live accept) s)
 
-pub walk_place : (t : TableNumbers) (text : List ℕ) (at row rule : ℕ) → IsUtf8 text → IsWalked t text at row → 0 < at → IsPlaceIn text (rule, at)
-walk_place t text at row rule u w some =
-    let part = part_accept text (drop at text) at (take at text) w.cut some refl in
-    record { boundary = walked_boundary t text at row u w; prefix = part.0; some = part.1 }
+-- one more character was read, and what was read doesn't match
+no_match_with : (ts : List Tree) (text : List ℕ) (at at2 c : ℕ) (p : List ℕ) → IsRead text at → IsCharacterAt text at c → at2 ≡ at + length (encode_utf8 c)
+    → ¬ Matched ts (chars (take at2 text)) → IsMatch ts text p → length p ≤ at2 → length p ≤ at
+no_match_with ts text at at2 c p r h l not m below =
+    ⊎_elim (λ (a : at < length p). absurd (not (subst (λ xs. Matched ts (chars xs)) (ends_there text at at2 c p r h l m.0 a below) m.2)))
+    (λ (a : length p ≤ at). a)
+    (cases_lt at (length p))
+
+passed : (ts : List Tree) (ps text : List ℕ) (at at2 c : ℕ) (best : Option (ℕ × List ℕ)) → IsRead text at → IsCharacterAt text at c → at2 ≡ at + length (encode_utf8 c)
+    → ¬ Matched ts (chars (take at2 text)) → IsLongestUpTo ts ps text at best → IsLongestUpTo ts ps text at2 best
+passed ts ps text at at2 c None r h l not up = λ p m below. up p m (no_match_with ts text at at2 c p r h l not m below)
+passed ts ps text at at2 c (Some best) r h l not up = (up.0, λ p m below. up.1 p m (no_match_with ts text at at2 c p r h l not m below), up.2)
 
 pub walk_passes : (t : TableNumbers) (d : List Row) (text : List ℕ) (at at2 row row2 c : ℕ) (best : Option (ℕ × List ℕ)) → IsTableFor t d → IsWalked t text at row → IsWalked t text at2 row2
-    → ReadsChar text at at2 c → t.live ≤ row2 → row2 < t.accept → (ts : List Tree) (ps : List ℕ) → Recognizes d ts ps → IsLongestUpTo ts ps text at best → IsLongestUpTo ts ps text at2 best
-walk_passes t d text at at2 row row2 c best h w w2 read live accept ts ps s up =
+    → IsCharacterAt text at c → at2 ≡ at + length (encode_utf8 c) → t.live ≤ row2 → row2 < t.accept → (ts : List Tree) (ps : List ℕ) → Recognizes d ts ps → IsLongestUpTo ts ps text at best
+    → IsLongestUpTo ts ps text at2 best
+walk_passes t d text at at2 row row2 c best h w w2 here l live accept ts ps s up =
     let r = row_at t d text at2 row2 h w2 in
-    longest_pass ts ps text (drop at text) (drop at2 text) at at2 c best w.cut read.split read.place
-    (says d text at2 Neither ts ps r.0 w2.cut.seen_utf8 r.1.0 (kind_neither t row2 r.0.kind r.1.1 live accept) s) up
+    passed ts ps text at at2 c best w.read here l (says d text at2 Neither ts ps r.0 w2.read.utf8 r.1.0 (kind_neither t row2 r.0.kind r.1.1 live accept) s) up
 
+-- the row is dead: no longer prefix matches
 pub walk_rejects : (t : TableNumbers) (d : List Row) (text : List ℕ) (at at2 row row2 c : ℕ) (best : Option (ℕ × List ℕ)) → IsTableFor t d → IsWalked t text at row → IsWalked t text at2 row2
-    → ReadsChar text at at2 c → row2 < t.live → (ts : List Tree) (ps : List ℕ) → Recognizes d ts ps → IsLongestUpTo ts ps text at best → IsLongest ts ps text best
-walk_rejects t d text at at2 row row2 c best h w w2 read low ts ps s up =
-    let p = after d (chars (take at2 text)) in
+    → IsCharacterAt text at c → at2 ≡ at + length (encode_utf8 c) → row2 < t.live → (ts : List Tree) (ps : List ℕ) → Recognizes d ts ps → IsLongestUpTo ts ps text at best
+    → IsLongest ts ps text best
+walk_rejects t d text at at2 row row2 c best h w w2 here l low ts ps s up =
+    let p2 = after d (chars (take at2 text)) in
     let r = row_at t d text at2 row2 h w2 in
     let kind : r.0.kind ≡ Reject = kind_reject t row2 r.0.kind r.1.1 low in
-    longest_stop d ts ps text (drop at2 text) at2 p best s w2.cut (record { reached = refl; within = slice_get_within d p r.0 r.1.0 })
-    (reject_at d p r.0 r.0.kind r.1.0 refl kind)
-    (longest_pass ts ps text (drop at text) (drop at2 text) at at2 c best w.cut read.split read.place
-    (says d text at2 Reject ts ps r.0 w2.cut.seen_utf8 r.1.0 kind s) up)
+    let dead : IsReject d p2 = reject_at d p2 r.0 r.0.kind r.1.0 refl kind in
+    done ts ps text at2 best
+    (λ p m.
+    ⊎_elim (λ (above : at2 < length p).
+    let g = goes_on text at2 p w2.read m.0 (omega arith) in
+    let word : chars p ≡ chars (take at2 text) ++ chars g.more = ap chars g.is ∙ chars-append (take at2 text) g.more w2.read.utf8 in
+    absurd (none_after d ts ps (chars (take at2 text)) (chars g.more) p2 (text_word (take at2 text) w2.read.utf8) (text_word g.more g.utf8) s refl dead (subst (Matched ts) word m.2)))
+    (λ (below : length p ≤ at2). below)
+    (cases_lt at2 (length p)))
+    (passed ts ps text at at2 c best w.read here l (says d text at2 Reject ts ps r.0 w2.read.utf8 r.1.0 kind s) up)
 
+-- no character is next: no longer prefix is UTF-8
+pub walk_stops : (t : TableNumbers) (text : List ℕ) (at row : ℕ) (best : Option (ℕ × List ℕ)) → IsWalked t text at row → ((c : ℕ) → ¬ IsCharacterAt text at c)
+    → (ts : List Tree) (ps : List ℕ) → IsLongestUpTo ts ps text at best → IsLongest ts ps text best
+walk_stops t text at row best w none ts ps up = done ts ps text at best (λ p m. no_longer text at p w.read none m.0) up
+
+-- the text ends
 pub walk_ends : (t : TableNumbers) (text : List ℕ) (at row : ℕ) (best : Option (ℕ × List ℕ)) → IsWalked t text at row → length text ≤ at
     → (ts : List Tree) (ps : List ℕ) → IsLongestUpTo ts ps text at best → IsLongest ts ps text best
-walk_ends t text at row best w done ts ps up =
-    longest_end ts ps text (drop at text) at best w.cut (omega (arith, cut_within text (drop at text) at w.cut)) up
+walk_ends t text at row best w end ts ps up =
+    done ts ps text at best (λ p m. omega (arith, ap length m.0.1.0, length-append p m.0.0)) up
+
+-- ---- a step along the rest of a text from a start on
+
+pub record Step (t : TableNumbers) (text : List ℕ) (start at at2 row2 c : ℕ) : Type 0 where
+  pub here : IsCharacterAt (drop start text) (at - start) c
+  pub place : at2 - start ≡ (at - start) + length (encode_utf8 c)
+  pub walked : IsWalked t (drop start text) (at2 - start) row2
+  pub further : at < at2
+  pub within : at2 ≤ length text
+
+pub stepped : (t : TableNumbers) (text : List ℕ) (start at size row row2 class c : ℕ) → IsWalkable t → start ≤ at → at ≤ length text → IsWalked t (drop start text) (at - start) row
+    → IsCharacterAt text at c × (size ≡ length (encode_utf8 c)) → class ≡ character_class t c → row2 ≡ get_or t.cells (row + class) row2 → Step t text start at (at + size) row2 c
+stepped t text start at size row row2 class c h from within w read k e =
+    let here : IsCharacterAt (drop start text) (at - start) c = character_of_rest text start at (at - start) c (omega arith) read.0 in
+    let place : at + size - start ≡ (at - start) + length (encode_utf8 c) = omega (arith, read.1) in
+    let fits : at + length (encode_utf8 c) ≤ length text =
+    omega (arith, ap length read.0.split, length-append (encode_utf8 c) read.0.rest, length-drop at text) in
+    record {
+      here = here;
+      place = place;
+      walked = walked_more t (drop start text) (at - start) (at + size - start) row row2 c w here place (cell_read t (drop start text) (at - start) row class c row2 h w k e);
+      further = omega (arith, read.1, character_size c);
+      within = omega (arith, read.1);
+    }
+
+pub walked_first : (t : TableNumbers) (text : List ℕ) (n : ℕ) → n ≡ 0 → IsWalked t text n t.start
+walked_first t text n e = subst (λ (k : ℕ). IsWalked t text k t.start) (sym e) (walked_start t text)
+
+pub longest_first : (ts : List Tree) (ps text : List ℕ) (n : ℕ) → n ≡ 0 → IsLongestUpTo ts ps text n None
+longest_first ts ps text n e = subst (λ (k : ℕ). IsLongestUpTo ts ps text k None) (sym e) (longest_start ts ps text)
+
+-- the rule of an accepting row is among the first `count`
+pub rule_below : (t : TableNumbers) (text : List ℕ) (at row rule count : ℕ) → AreRulesBelow t count → IsWalked t text at row → t.live ≤ row → t.accept ≤ row
+    → rule ≡ get_or t.cells (row + t.width) 0 → rule < count
+rule_below t text at row rule count below w live accept is =
+    subst (λ (n : ℕ). n < count) (sym is)
+    (subst (λ (n : ℕ). t.live ≤ n → t.accept ≤ n → get_or t.cells (n + t.width) 0 < count) (sym w.reached) (below (chars (take at text)) w.word) live accept)

@@ -1,5 +1,6 @@
 pub mod Names
 pub mod NumberedRules
+pub mod BytePieces
 pub mod CSource
 pub mod EmitErrors
 -- what serves the proofs alone

@@ -252,7 +252,7 @@ fn source_text(alloc: Global, numbers: &LexerNumbers, prefix: &str) -> Result<St
 /// `lex_next` one `lex_piece` after another: its `kind`, the index of its `rule`, and its `start` and `length` in bytes.
 /// The kind of the rules named `IF` is `lex_kind_IF`; that of a fault, which is bytes at none of which a rule matches, is
 /// `lex_fault`. `lex_skips` says whether a rule is skipped, and `lex_name` what a kind is called. Bytes that aren't UTF-8
-/// match nothing.
+/// match nothing. `LexerNumbers::next_piece` has the same pieces.
 ///
 /// No other numbers have this file: whoever reads it has the numbers.
 ///

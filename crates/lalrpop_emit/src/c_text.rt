@@ -8,7 +8,8 @@ pub(crate) const HEAD: &str =
 
 ";
 
-/// The code after the tables, with `$` where the prefix goes.
+/// The code after the tables, with `$` where the prefix goes. `driver.rt` has the same functions in Rattle, line by line:
+/// change both or none.
 pub(crate) const DRIVER: &str = "
 typedef struct {
     const unsigned char *text;
@@ -23,44 +24,59 @@ typedef struct {
     size_t length;  /* in bytes */
 } $_piece;
 
-/* How many bytes the character at the place has, and which it is; 0 if the bytes there are no character (RFC 3629). */
-static size_t $_read(const unsigned char *text, size_t length, size_t at, uint32_t *character) {
-    uint32_t first = text[at];
-    uint32_t least;
-    size_t size;
-    size_t next;
-    if (first < 0x80) {
-        *character = first;
-        return 1;
-    }
-    if (first < 0xC0 || first >= 0xF8) {
+/* Whether the byte at the place is one that follows in a character. */
+static int $_follows(const unsigned char *text, size_t length, size_t at) {
+    return at < length && text[at] >= 0x80 && text[at] < 0xC0;
+}
+
+/* The size, and the code; 0 if the code is none of a character, or too low for so many bytes. */
+static size_t $_sized_character(size_t size, uint32_t least, uint32_t code, uint32_t *character) {
+    if (code < least || code >= 0x110000 || (code >= 0xD800 && code < 0xE000)) {
         return 0;
     }
-    size = first < 0xE0 ? 2 : first < 0xF0 ? 3 : 4;
-    least = first < 0xE0 ? 0x80 : first < 0xF0 ? 0x800 : 0x10000;
-    if (length - at < size) {
-        return 0;
-    }
-    *character = first < 0xE0 ? first - 0xC0 : first < 0xF0 ? first - 0xE0 : first - 0xF0;
-    for (next = 1; next < size; next++) {
-        uint32_t byte = text[at + next];
-        if (byte < 0x80 || byte >= 0xC0) {
-            return 0;
-        }
-        *character = *character * 64 + (byte - 0x80);
-    }
-    if (*character < least || *character >= 0x110000 || (*character >= 0xD800 && *character < 0xE000)) {
-        return 0;
-    }
+    *character = code;
     return size;
 }
 
-/* The class of a character. */
-static size_t $_class(uint32_t character) {
+/* How many bytes the character at the place has, and its code; 0 if the bytes there are no character (RFC 3629). */
+static size_t $_read(const unsigned char *text, size_t length, size_t at, uint32_t *code) {
+    uint32_t first = text[at];
+    uint32_t second;
+    uint32_t third;
+    uint32_t fourth;
+    if (first < 0x80) {
+        return $_sized_character(1, 0, first, code);
+    }
+    if (first < 0xC0 || !$_follows(text, length, at + 1)) {
+        return 0;
+    }
+    second = text[at + 1] - 0x80u;
+    if (first < 0xE0) {
+        return $_sized_character(2, 0x80, (first - 0xC0) * 64 + second, code);
+    }
+    if (!$_follows(text, length, at + 2)) {
+        return 0;
+    }
+    third = text[at + 2] - 0x80u;
+    if (first < 0xF0) {
+        return $_sized_character(3, 0x800, ((first - 0xE0) * 64 + second) * 64 + third, code);
+    }
+    if (first >= 0xF8 || !$_follows(text, length, at + 3)) {
+        return 0;
+    }
+    fourth = text[at + 3] - 0x80u;
+    return $_sized_character(4, 0x10000, (((first - 0xF0) * 64 + second) * 64 + third) * 64 + fourth, code);
+}
+
+/* The block of the page with this number. Pages after the last one have its block. */
+static size_t $_block(size_t page) {
     size_t last = sizeof $_pages / sizeof $_pages[0] - 1;
-    size_t page = character / 128;
-    size_t block = $_pages[page < last ? page : last];
-    return $_blocks[block * 128 + character % 128];
+    return $_pages[page < last ? page : last];
+}
+
+/* The class of a character. */
+static size_t $_class(uint32_t code) {
+    return $_blocks[$_block(code / 128) * 128 + code % 128];
 }
 
 /* Where the longest match from the place on ends, and its rule; the place itself if nothing matches there. */
@@ -69,20 +85,33 @@ static size_t $_longest(const unsigned char *text, size_t length, size_t start, 
     size_t at = start;
     size_t end = start;
     while (at < length) {
-        uint32_t character = 0;
-        size_t size = $_read(text, length, at, &character);
+        uint32_t code = 0;
+        size_t size = $_read(text, length, at, &code);
         if (size == 0) {
-            break;
+            return end;
         }
         at += size;
-        row = $_cells[row + $_class(character)];
+        row = $_cells[row + $_class(code)];
         if (row < $_live) {
-            break;
+            return end;
         }
         if (row >= $_accept) {
             *rule = (uint32_t)$_cells[row + $_width];
             end = at;
         }
+    }
+    return end;
+}
+
+/* Where the fault at the place ends: before the next place where a rule matches, or with the text. */
+static size_t $_fault_end(const unsigned char *text, size_t length, size_t start) {
+    size_t end = start + 1;
+    while (end < length) {
+        uint32_t rule = 0;
+        if ($_longest(text, length, end, &rule) > end) {
+            return end;
+        }
+        end += 1;
     }
     return end;
 }
@@ -106,17 +135,15 @@ int $_next($_lexer *lexer, $_piece *piece) {
         return 0;
     }
     end = $_longest(lexer->text, lexer->length, start, &rule);
-    piece->start = start;
     if (end > start) {
         piece->kind = (int)$_kinds[rule];
         piece->rule = rule;
     } else {
-        do {
-            end++;
-        } while (end < lexer->length && $_longest(lexer->text, lexer->length, end, &rule) == end);
+        end = $_fault_end(lexer->text, lexer->length, start);
         piece->kind = $_fault;
         piece->rule = 0;
     }
+    piece->start = start;
     piece->length = end - start;
     lexer->at = end;
     return 1;

@@ -1,18 +1,22 @@
 //! A lexer as one source file: the numbers of its table, the names of its rules, and code that is the same for all rules.
 //!
-//! The numbers are proved to be right for the automaton, the walk along them to find the longest match, and the text to be
-//! that of these numbers alone. What the code in the text does isn't proved: it is the walk of this crate, written in C.
+//! The numbers are proved to be right for the automaton, and the text to be that of these numbers alone. The code that is the
+//! same for all rules is proved in the form that it has in this crate, for texts of any bytes. That its lines in C say the same
+//! is trusted: both stand function by function in the same order.
 #![tactic(auto)]
 
+mod byte_pieces;
 mod c_file;
 mod c_text;
+mod driver;
 mod error;
 mod naming;
+mod numbered_piece;
 mod numbers;
 mod patterns;
 mod table_lists;
-mod walk;
 
 pub use c_file::c_source;
 pub use error::EmitError;
+pub use numbered_piece::NumberedPiece;
 pub use numbers::LexerNumbers;

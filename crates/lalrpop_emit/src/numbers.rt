@@ -1,25 +1,27 @@
 //! A lexer in numbers.
-ghost use Rattle.std.specs.Prelude.{◌≡◌, ◌≢◌, [], IfSome, ◌<◌, ◌^◌, ℕ, List, length, map, string_bytes, IfOk, IfErr, OnOk};
+ghost use Rattle.std.specs.Prelude.{◌≡◌, ◌↔◌, ◌+◌, ◌≤◌, Bool, IsSome, IfSome, ◌<◌, ◌^◌, ℕ, List, length, map, string_bytes, IfOk, IfErr, OnOk};
 ghost use Rattle.std.specs.List.{All};
-ghost use Rattle.std.specs.Option.{option_map};
 ghost use Rattle.lalrpop_book.specs.Tree.{Tree};
-ghost use Rattle.lalrpop_book.specs.Prefix.{IsPrefix};
-ghost use Rattle.lalrpop_book.specs.Longest.{IsLongest};
 ghost use Rattle.lalrpop_dfa.specs.Dfa.{Row, Recognizes};
 ghost use Rattle.lalrpop_dense.specs.DenseTable.{IsTableFor};
+ghost use Rattle.lalrpop_rules.specs.Pieces.{ArePieces};
+ghost use Rattle.lalrpop_rules.specs.declared.item.Item.{Item};
+ghost use Rattle.lalrpop_emit.specs.BytePieces.{IsBytePiece, AreBytePieces, numbered};
 ghost use Rattle.lalrpop_emit.specs.Names.{IsName, distinct_names as distinct_of, kinds_of};
 ghost use Rattle.lalrpop_emit.specs.NumberedRules.{AreBelow, IsStorable};
 ghost use Rattle.lalrpop_emit.specs.EmitErrors.{IsNumbersError};
 ghost use Rattle.lalrpop_emit.specs.Internal.Lists.{list_numbers};
 
+use crate::byte_pieces::all_pieces;
+use crate::driver::next;
 use crate::error::EmitError;
 use crate::naming::{distinct_names, first_bad_name, kind_list};
+use crate::numbered_piece::NumberedPiece;
 use crate::patterns::unnamed_pattern;
 use crate::table_lists::{TableLists, table_lists};
-use crate::walk::walk;
 use lalrpop_dense::DenseDfa;
 use lalrpop_dfa::Dfa;
-use std::alloc::Global;
+use std::alloc::{AllocError, Global};
 use std::marker::Model;
 
 /// A lexer in numbers: the distinct names of its rules, the kind of each rule, which is the number of its name, whether the
@@ -39,10 +41,10 @@ pub struct LexerNumbers {
 }
 
 impl Model for LexerNumbers {
-    ghost use Rattle.std.specs.Prelude.{map, string_bytes};
+    ghost use Rattle.std.specs.Prelude.{length, map, string_bytes};
     ghost use Rattle.lalrpop_emit.specs.NumberedRules.{NumberedRules, IsStorable};
     ghost use Rattle.lalrpop_emit.specs.Internal.Lists.{list_numbers};
-    ghost use Rattle.lalrpop_emit.specs.Internal.Walking.{IsWalkable};
+    ghost use Rattle.lalrpop_emit.specs.Internal.Walking.{IsWalkable, AreRulesBelow};
 
     ghost Value = { NumberedRules };
 
@@ -59,7 +61,8 @@ impl Model for LexerNumbers {
       skips = n.skips.items;
       table = list_numbers n.table;
     })
-        × IsWalkable (list_numbers n.table) };
+        × IsWalkable (list_numbers n.table)
+        × AreRulesBelow (list_numbers n.table) (length n.kinds.items) };
 }
 
 impl LexerNumbers {
@@ -102,25 +105,55 @@ impl LexerNumbers {
         })
     }
 
-    /// The longest nonempty prefix of the text that some rule matches, with the index of the strongest rule that matches
-    /// it. `None` if no rule matches any. It is found by the numbers alone, as the C source finds it.
+    /// The piece of the text at the place: a token, skipped or not, or a fault, which is bytes at none of which a rule matches.
+    /// `None` if the text ends there. The next piece begins at its `start + length`.
+    ///
+    /// The text may be any bytes; what isn't UTF-8 matches nothing. The piece is found by the numbers alone, by the steps of
+    /// the C source's `_next`.
     ///
     /// ```
     /// use lalrpop_emit::LexerNumbers;
     ///
     /// let numbers = LexerNumbers::new(alloc, rules.lexer().dense(), rules.names(), rules.skips())?;
-    /// let found = numbers.longest("let x"); // the index of a rule, and "let"
+    /// let piece = numbers.next_piece(b"let x", 0); // the kind and the index of the rule of `let`, from 0 on, 3 bytes
     /// ```
-    pub fn longest<'text>(&self, text: &'text str) -> Option<(usize, &'text str)>
-        ensures answer { (d : List Row) → IsTableFor self.now.table d
+    pub fn next_piece(&self, text: &[u8], at: usize) -> Option<NumberedPiece>
+        ensures some { IsSome result ↔ (at < length text.now) }
+        ensures piece { (d : List Row) → IsTableFor self.now.table d
             → (ts : List Tree) (ps : List ℕ) → Recognizes d ts ps
-            → IsLongest ts ps text.now (option_map (λ m. (m.0, m.1.now)) result) }
-        ensures prefix { IfSome result (λ m. IsPrefix m.1.now text.now × (m.1.now ≢ [])) }
+            → IfSome result (IsBytePiece ts ps self.now.kinds text.now at) }
+        ensures place { IfSome result (λ p. (p.start ≡ at) × (0 < p.length)
+            × (at + p.length ≤ length text.now)) }
     {
-        match walk(&self.table, text) {
-            Some((rule, end)) => Some((rule, &text[..end])),
-            None => None,
-        }
+        next(&self.table, &self.kinds, text, at)
+    }
+
+    /// All pieces of the text, one after another, as calls of the C source's `_next` give them until it returns 0. On a UTF-8
+    /// text they are the pieces of the rules, in numbers.
+    ///
+    /// ```
+    /// use lalrpop_emit::LexerNumbers;
+    ///
+    /// let numbers = LexerNumbers::new(alloc, rules.lexer().dense(), rules.names(), rules.skips())?;
+    /// let pieces = numbers.pieces(alloc, b"let \xFF")?; // `let`, a space, and a fault of one byte
+    /// ```
+    ///
+    /// # Errors
+    ///
+    /// `AllocError` if a request for memory was refused.
+    pub fn pieces(&self, alloc: Global, text: &[u8]) -> Result<Vec<NumberedPiece>, AllocError>
+        ensures pieces { IfOk result (λ pieces. (d : List Row) → IsTableFor self.now.table d
+            → (ts : List Tree) (ps : List ℕ) → Recognizes d ts ps
+            → AreBytePieces ts ps self.now.kinds text.now 0 pieces.items) }
+        ensures only { IfOk result (λ pieces. (d : List Row) → IsTableFor self.now.table d
+            → (ts : List Tree) (ps : List ℕ) → Recognizes d ts ps → (others : List NumberedPiece)
+            → AreBytePieces ts ps self.now.kinds text.now 0 others → others ≡ pieces.items) }
+        ensures items { IfOk result (λ pieces. (d : List Row) → IsTableFor self.now.table d
+            → (ts : List Tree) (ps : List ℕ) → Recognizes d ts ps
+            → (skips : List Bool) (items : List Item) → ArePieces ts ps skips text.now 0 items
+            → pieces.items ≡ map (numbered self.now.kinds) items) }
+    {
+        all_pieces(alloc, &self.table, &self.kinds, text)
     }
 
     pub(crate) fn names(&self) -> &[String]
