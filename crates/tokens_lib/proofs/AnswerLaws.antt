@@ -225,3 +225,27 @@ some_refused {L} {E} (Ok (Err status)) Gives IsFor file bytes slice said e m f g
     subst (λ (w : Watch E). Refused said w f status answer) quiet refused,
   ),
 )
+
+-- something was said, and then this was refused
+pub refused_behind : {L E : Type 0} (r : Result (Result L ℕ) RunError) (Is : Answer → Type 0) (said : E → Option (List ℕ)) (e m f : Watch E) (message : List ℕ)
+    → Takes said e m message → IfOk r (λ found. IfErr found (λ status. (answer : Answer) × (Is answer × Refused said m f status answer)))
+    → IfOk r (λ found. IfErr found (λ status. (answer : Answer) × (((own : Answer) × (Is own × (answer ≡ followed (remark message) own))) × Refused said e f status answer)))
+refused_behind (Err x) Is said e m f message takes h = tt
+refused_behind (Ok (Ok x)) Is said e m f message takes h = tt
+refused_behind (Ok (Err status)) Is said e m f message takes (own, (is, (s, (none, takes_own)))) = (
+  followed (remark message) own,
+  (
+    (own, (is, refl)),
+    (
+      omega (arith, s),
+      (none, TakesBy-again e.failed m.failed f.failed (said e.inner) (said m.inner) (said f.inner) message own.err takes takes_own),
+    ),
+  ),
+)
+
+pub refused_weaker : {L E : Type 0} (r : Result (Result L ℕ) RunError) (P Q : Answer → Type 0) (said : E → Option (List ℕ)) (e f : Watch E) → ((answer : Answer) → P answer → Q answer)
+    → IfOk r (λ found. IfErr found (λ status. (answer : Answer) × (P answer × Refused said e f status answer)))
+    → IfOk r (λ found. IfErr found (λ status. (answer : Answer) × (Q answer × Refused said e f status answer)))
+refused_weaker (Err x) P Q said e f turn h = tt
+refused_weaker (Ok (Ok x)) P Q said e f turn h = tt
+refused_weaker (Ok (Err status)) P Q said e f turn (answer, (is, refused)) = (answer, (turn answer is, refused))

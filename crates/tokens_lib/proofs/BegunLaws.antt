@@ -27,7 +27,7 @@ use Rattle.lines_lib.specs.TokenLines.{text_lines, WritesTokensPrefix}
 use Rattle.tokens_lib.specs.Answer.{Answer, followed, remark, Reads, TextOf, NumberedAnswer, FilesAnswer, FirstFilesAnswer, cut_files, FirstTextsAnswer, Begun}
 use Rattle.tokens_lib.specs.ItemLines.{piece_lines, WritesItemsPrefix}
 use Rattle.tokens_lib.specs.PageWritten.{WritesPagePrefix}
-use Rattle.tokens_lib.specs.Program.{AreRulesOf, RulesOf, LexerOf, TerminalsOf, TerminalClashesAnswer}
+use Rattle.tokens_lib.specs.Program.{RulesOf, LexerOf, TerminalsOf, TerminalClashesAnswer}
 use Rattle.tokens_lib.specs.Progress.{total_said}
 use Rattle.tokens_lib.specs.Streams.{Given}
 use Rattle.tokens_lib.specs.TextAnswer.{TokensAnswer, PiecesAnswer, PageAnswer}
@@ -37,7 +37,7 @@ use Rattle.tokens_lib.specs.declared.command.Verbosity.{Verbosity}
 use Rattle.tokens_lib.specs.declared.cut_files.CutResult.{CutResult}
 use Rattle.tokens_lib.specs.declared.layout.LineForm.{LineForm}
 use Rattle.tokens_lib.proofs.AnswerLaws.{files_more}
-use Rattle.tokens_lib.proofs.ProgramLaws.{by_lexer, by_terminals}
+use Rattle.tokens_lib.proofs.ProgramLaws.{IsRead, by_lexer, by_terminals}
 use Rattle.tokens_lib.proofs.TextAnswers.{then_some-now, tokens_told, pieces_told, page_told}
 
 pub Begun-nothing : (Is : Answer → Type 0) (a : Option (List ℕ)) → Begun Is a a
@@ -144,10 +144,12 @@ begun_behind (Err e) IsFor message a b (inr (own, (is, part))) = inr (followed (
 
 -- ---- the program
 
-pub lexer_begun : (r : Result ℕ RunError) (Gives : List ℕ → Given → Type 0) (IsFor : ModeRules → List (List ℕ) → Answer → Type 0) (rules : List ℕ) (set : ModeRules) (modes : List (List ℕ)) (a b : Option (List ℕ))
-    → (bytes : List ℕ) × (Gives rules (Ok bytes) × AreRulesOf bytes set modes) → OnErr r (Begun (IsFor set modes) a b)
-    → OnErr r (Begun (Reads Gives (RulesOf (LexerOf IsFor)) rules) a b)
-lexer_begun r Gives IsFor rules set modes a b are h = on_err_weaker r (Begun-weaker _ _ a b (λ answer is. by_lexer Gives IsFor rules set modes answer are is)) h
+pub lexer_begun : {E : Type 0} (r : Result ℕ RunError) (verbosity : Verbosity) (Gives : List ℕ → Given → Type 0) (IsFor : ModeRules → List (List ℕ) → Answer → Type 0) (rules : List ℕ)
+    (set : ModeRules) (modes : List (List ℕ)) (said : E → Option (List ℕ)) (e m : Watch E) (a b : Option (List ℕ))
+    → IsRead verbosity Gives rules set modes said e m → OnErr r (Begun (IsFor set modes) a b)
+    → OnErr r (Begun (Reads Gives (RulesOf verbosity (LexerOf IsFor)) rules) a b)
+lexer_begun r verbosity Gives IsFor rules set modes said e m a b is h =
+    on_err_weaker r (Begun-weaker _ _ a b (by_lexer verbosity Gives IsFor rules set modes said e m is)) (begun_behind r (IsFor set modes) is.1.1.1.0 a b h)
 
 pub terminals_begun : (r : Result ℕ RunError) (Gives : List ℕ → Given → Type 0) (IsFor : List Tree → List ℕ → Answer → Type 0) (rules : List ℕ) (ts : List Tree) (ps : List ℕ)
     (a b : Option (List ℕ)) → (bytes : List ℕ) × (Gives rules (Ok bytes) × HaveAutomaton bytes ts ps) → OnErr r (Begun (IsFor ts ps) a b)

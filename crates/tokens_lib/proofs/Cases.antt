@@ -2,6 +2,7 @@
 mod Answer
 mod Arguments
 mod Command
+mod Emitted
 mod ItemLines
 mod OpenModes
 mod PageWritten
@@ -12,3 +13,4 @@ mod RuleClashes
 mod Streams
 mod TextAnswer
 mod Usage
+mod Warned

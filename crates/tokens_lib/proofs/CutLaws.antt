@@ -1,8 +1,7 @@
 -- What is known of a text while it is cut.
-use Rattle.std.proofs.Common.{◌≡◌, ℕ, ◌+◌, ◌<◌, ◌≤◌, ◌-◌, List, [], ◌∷◌, ◌++◌, length, drop, refl, sym, ap, subst, ◌∙◌, arith, length-append}
+use Rattle.std.proofs.Common.{◌≡◌, ℕ, ◌+◌, ◌<◌, ◌≤◌, ◌-◌, List, [], ◌∷◌, ◌++◌, length, drop, sym, ap, subst, ◌∙◌, arith}
 use Rattle.std.proofs.lemmas.Str.{IsCharBoundary-start, IsUtf8-drop}
 use Rattle.std.specs.Prelude.{Option, Some, None, IfSome}
-use Rattle.std.specs.List.{fold}
 use Rattle.std.specs.Str.{IsUtf8, IsCharBoundary}
 use Rattle.lalrpop_rules.specs.Pieces.{IsPiece, slice_of, start_of}
 use Rattle.lalrpop_rules.specs.declared.item.Item.{Item}
@@ -11,7 +10,7 @@ use Rattle.lalrpop_rules.proofs.CallerLaws.{starts_at}
 use Rattle.lalrpop_rules.proofs.FirstMatches.{some_length}
 use Rattle.lalrpop_rules.proofs.Fronts.{boundary_behind}
 use Rattle.lalrpop_rules.proofs.PieceLaws.{is_front, is_some}
-use Rattle.lalrpop_modes.specs.ModeCut.{ModeCut, left_text, GivesModePiece}
+use Rattle.lalrpop_modes.specs.ModeCut.{ModeCut}
 use Rattle.lalrpop_modes.specs.Modes.{ModeRules, trees_in, after, AllOf}
 use Rattle.lalrpop_modes.specs.Stack.{Stack, start, actions_of}
 use Rattle.lalrpop_modes.specs.declared.action.Action.{Action}

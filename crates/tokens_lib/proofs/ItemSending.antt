@@ -4,13 +4,12 @@ use Rattle.std.proofs.lemmas.Grind.{flat_map-append}
 use Rattle.std.proofs.lemmas.List.{append-nil}
 use Rattle.std.specs.Prelude.{Option, Some, None, IsSome, flat_map}
 use Rattle.std.specs.Io.KnownBytes.{Appends}
-use Rattle.lalrpop_rules.specs.Pieces.{IsPiece}
 use Rattle.lalrpop_rules.specs.declared.item.Item.{Item}
-use Rattle.lalrpop_modes.specs.Modes.{ModeRules, trees_in, after, ArePiecesFrom}
+use Rattle.lalrpop_modes.specs.Modes.{ModeRules, after, ArePiecesFrom}
 use Rattle.lalrpop_modes.specs.Stack.{Stack, start}
 use Rattle.lexdfa_lib.proofs.Known.{Appends-again}
 use Rattle.lexdfa_lib.specs.Watch.{AppendsPrefix}
-use Rattle.tokens_lib.specs.ItemLines.{item_line, item_lines, first_fault, AreCut}
+use Rattle.tokens_lib.specs.ItemLines.{item_line, item_lines, AreCut}
 use Rattle.tokens_lib.specs.Internal.CutTexts.{CutText, GivesNext}
 use Rattle.tokens_lib.specs.Internal.Faults.{first_with}
 use Rattle.tokens_lib.specs.declared.layout.Layout.{Layout}

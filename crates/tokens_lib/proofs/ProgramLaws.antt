@@ -1,27 +1,71 @@
 -- The answer by the lexer of a file of rules.
-use Rattle.std.proofs.Common.{◌≡◌, ℕ, ◌≤◌, inl, inr, List, refl, subst, arith}
+use Rattle.std.proofs.Common.{◌≡◌, ℕ, ◌≤◌, inl, inr, List, refl, subst, sym, arith}
 use Rattle.std.specs.Prelude.{Option, Result, Ok, Err, IfOk, OnOk, OnErr}
 use Rattle.std.specs.Io.KnownBytes.{Appends}
 use Rattle.std.proofs.lemmas.Result.{IfOk-weaker}
 use Rattle.lalrpop_book.specs.Tree.{Tree}
+use Rattle.lalrpop_lexer.specs.Lines.{lines}
 use Rattle.lalrpop_modes.specs.Modes.{ModeRules}
+use Rattle.lalrpop_rule_file.specs.RuleFile.{without_mark}
 use Rattle.lexdfa_lib.specs.Answer.{HaveAutomaton}
 use Rattle.lexdfa_lib.specs.Watch.{Watch, AppendsPrefix}
 use Rattle.lexdfa_lib.specs.declared.error.RunError.{RunError}
-use Rattle.tokens_lib.specs.Answer.{Answer, Reads, Answered, Begun}
+use Rattle.tokens_lib.specs.Answer.{Answer, Reads, Answered, Begun, followed, remark}
 use Rattle.tokens_lib.specs.Program.{AreRulesOf, RulesOf, RulesRefused, LexerOf, TerminalsRefused, TerminalsOf, information}
-use Rattle.tokens_lib.specs.Streams.{Given}
-use Rattle.tokens_lib.proofs.AnswerLaws.{TakesBy-none}
+use Rattle.tokens_lib.specs.Streams.{Given, Takes}
+use Rattle.tokens_lib.specs.Warned.{Warned}
+use Rattle.tokens_lib.specs.declared.command.Verbosity.{Verbosity}
+use Rattle.tokens_lib.proofs.AnswerLaws.{TakesBy-none, answered_behind}
 
-pub by_lexer : (Gives : List ℕ → Given → Type 0) (IsFor : ModeRules → List (List ℕ) → Answer → Type 0) (rules : List ℕ) (set : ModeRules) (modes : List (List ℕ)) (answer : Answer)
-    → (bytes : List ℕ) × (Gives rules (Ok bytes) × AreRulesOf bytes set modes) → IsFor set modes answer → Reads Gives (RulesOf (LexerOf IsFor)) rules answer
-by_lexer Gives IsFor rules set modes answer (bytes, (gives, (rs, (say, is)))) done = inr (bytes, (gives, inr (modes, (rs, (say, inr (set, (is, done)))))))
+-- a file of rules was read, and is this set of rules of these modes; the warnings about it were said
+abbrev pub IsRead : {E : Type 0} → Verbosity → (List ℕ → Given → Type 0) → List ℕ → ModeRules → List (List ℕ) → (E → Option (List ℕ)) → Watch E → Watch E → Type 0
+IsRead verbosity Gives rules set modes said e m =
+    (bytes : List ℕ) × (Gives rules (Ok bytes) × (AreRulesOf bytes set modes × ((words : List ℕ) × (Warned verbosity rules (lines (without_mark bytes)) words × Takes said e m words))))
 
-pub rules_refused : (Gives : List ℕ → Given → Type 0) (IsFor : ModeRules → List (List ℕ) → Answer → Type 0) (rules : List ℕ) (answer : Answer)
-    → Reads Gives (RulesOf RulesRefused) rules answer → Reads Gives (RulesOf (LexerOf IsFor)) rules answer
-rules_refused Gives IsFor rules answer (inl none) = inl none
-rules_refused Gives IsFor rules answer (inr (bytes, (gives, inl bad))) = inr (bytes, (gives, inl bad))
-rules_refused Gives IsFor rules answer (inr (bytes, (gives, inr (modes, (rs, (say, refused)))))) = inr (bytes, (gives, inr (modes, (rs, (say, inl refused)))))
+-- behind the warnings comes the answer of its lexer
+pub by_lexer : {E : Type 0} (verbosity : Verbosity) (Gives : List ℕ → Given → Type 0) (IsFor : ModeRules → List (List ℕ) → Answer → Type 0) (rules : List ℕ) (set : ModeRules) (modes : List (List ℕ))
+    (said : E → Option (List ℕ)) (e m : Watch E) (is : IsRead verbosity Gives rules set modes said e m) (answer : Answer)
+    → (own : Answer) × (IsFor set modes own × (answer ≡ followed (remark is.1.1.1.0) own)) → Reads Gives (RulesOf verbosity (LexerOf IsFor)) rules answer
+by_lexer verbosity Gives IsFor rules set modes said e m (bytes, (gives, ((rs, (say, is)), (words, (warned, takes))))) answer (own, (done, same)) =
+    inr (bytes, (gives, inr (words, (warned, (own, ((modes, (rs, (say, inr (set, (is, done))))), same))))))
+
+-- nothing but the warnings was said
+pub warned_alone : {L E : Type 0} (r : Result (Result L ℕ) RunError) (verbosity : Verbosity) (file : List ℕ) (ls : List (List ℕ)) (said : E → Option (List ℕ)) (e m f : Watch E) (words : List ℕ)
+    → Warned verbosity file ls words → Takes said e m words → IfOk r (λ found. OnOk found (f ≡ m))
+    → IfOk r (λ found. OnOk found ((words : List ℕ) × (Warned verbosity file ls words × Takes said e f words)))
+warned_alone (Err error) verbosity file ls said e m f words warned takes quiet = tt
+warned_alone (Ok (Err status)) verbosity file ls said e m f words warned takes quiet = tt
+warned_alone {L} {E} (Ok (Ok x)) verbosity file ls said e m f words warned takes quiet =
+    (words, (warned, subst (λ (w : Watch E). Takes said e w words) (sym quiet) takes))
+
+-- its bytes were these, and what they are is known
+pub file_read : {L E : Type 0} (r : Result (Result L ℕ) RunError) (verbosity : Verbosity) (Gives : List ℕ → Given → Type 0) (rules bytes slice : List ℕ) (set : L → ModeRules)
+    (modes : L → List (List ℕ)) (said : E → Option (List ℕ)) (e m f : Watch E) → Gives rules (Ok bytes) → slice ≡ bytes → m ≡ e
+    → IfOk r (λ found. IfOk found (λ x. AreRulesOf slice (set x) (modes x)))
+    → IfOk r (λ found. OnOk found ((words : List ℕ) × (Warned verbosity rules (lines (without_mark slice)) words × Takes said m f words)))
+    → IfOk r (λ found. IfOk found (λ x. IsRead verbosity Gives rules (set x) (modes x) said e f))
+file_read (Err error) verbosity Gives rules bytes slice set modes said e m f gives same quiet are warned = tt
+file_read (Ok (Err status)) verbosity Gives rules bytes slice set modes said e m f gives same quiet are warned = tt
+file_read {L} {E} (Ok (Ok x)) verbosity Gives rules bytes slice set modes said e m f gives same quiet are (words, (warned, takes)) = (
+  bytes,
+  (
+    gives,
+    (
+      subst (λ (bs : List ℕ). AreRulesOf bs (set x) (modes x)) same are,
+      (
+        words,
+        (subst (λ (bs : List ℕ). Warned verbosity rules (lines (without_mark bs)) words) same warned, subst (λ (w : Watch E). Takes said w f words) quiet takes),
+      ),
+    ),
+  ),
+)
+
+pub rules_refused : (verbosity : Verbosity) (Gives : List ℕ → Given → Type 0) (IsFor : ModeRules → List (List ℕ) → Answer → Type 0) (rules : List ℕ) (answer : Answer)
+    → Reads Gives (RulesOf verbosity RulesRefused) rules answer → Reads Gives (RulesOf verbosity (LexerOf IsFor)) rules answer
+rules_refused verbosity Gives IsFor rules answer (inl none) = inl none
+rules_refused verbosity Gives IsFor rules answer (inr (bytes, (gives, inl bad))) = inr (bytes, (gives, inl bad))
+rules_refused verbosity Gives IsFor rules answer (inr (bytes, (gives, inr (words, (warned, (own, ((modes, (rs, (say, refused))), same))))))) =
+    inr (bytes, (gives, inr (words, (warned, (own, ((modes, (rs, (say, inl refused))), same))))))
 
 pub by_terminals : (Gives : List ℕ → Given → Type 0) (IsFor : List Tree → List ℕ → Answer → Type 0) (rules : List ℕ) (ts : List Tree) (ps : List ℕ) (answer : Answer)
     → (bytes : List ℕ) × (Gives rules (Ok bytes) × HaveAutomaton bytes ts ps) → IsFor ts ps answer → Reads Gives (TerminalsOf IsFor) rules answer
@@ -33,18 +77,15 @@ terminals_refused Gives IsFor rules answer (inl none) = inl none
 terminals_refused Gives IsFor rules answer (inr (bytes, (gives, refused))) = inr (bytes, (gives, inl refused))
 
 -- the answer of the lexer of named rules was given
-pub lexer_answered : {W E : Type 0} (r : Result ℕ RunError) (Gives : List ℕ → Given → Type 0) (IsFor : ModeRules → List (List ℕ) → Answer → Type 0) (rules : List ℕ) (set : ModeRules) (modes : List (List ℕ))
-    (written : W → Option (List ℕ)) (said : E → Option (List ℕ)) (o p : Watch W) (e m f : Watch E)
-    → (bytes : List ℕ) × (Gives rules (Ok bytes) × AreRulesOf bytes set modes) → m ≡ e
+pub lexer_answered : {W E : Type 0} (r : Result ℕ RunError) (verbosity : Verbosity) (Gives : List ℕ → Given → Type 0) (IsFor : ModeRules → List (List ℕ) → Answer → Type 0) (rules : List ℕ)
+    (set : ModeRules) (modes : List (List ℕ)) (written : W → Option (List ℕ)) (said : E → Option (List ℕ)) (o p : Watch W) (e m f : Watch E)
+    → IsRead verbosity Gives rules set modes said e m
     → IfOk r (λ status. (answer : Answer) × (IsFor set modes answer × Answered written said o p m f status answer))
-    → IfOk r (λ status. (answer : Answer) × (Reads Gives (RulesOf (LexerOf IsFor)) rules answer × Answered written said o p e f status answer))
-lexer_answered {W} {E} r Gives IsFor rules set modes written said o p e m f are quiet h =
+    → IfOk r (λ status. (answer : Answer) × (Reads Gives (RulesOf verbosity (LexerOf IsFor)) rules answer × Answered written said o p e f status answer))
+lexer_answered r verbosity Gives IsFor rules set modes written said o p e m f is h =
     IfOk-weaker r _ _
-    (λ status x. (
-      x.0,
-      (by_lexer Gives IsFor rules set modes x.0 are x.1.0, subst (λ (w : Watch E). Answered written said o p w f status x.0) quiet x.1.1),
-    ))
-    h
+    (λ status x. (x.0, (by_lexer verbosity Gives IsFor rules set modes said e m is x.0 x.1.0, x.1.1)))
+    (answered_behind r (IsFor set modes) written said o p e m f is.1.1.1.0 is.1.1.1.1.1 h)
 
 -- of the lexer of terminals
 pub terminals_answered : {W E : Type 0} (r : Result ℕ RunError) (Gives : List ℕ → Given → Type 0) (IsFor : List Tree → List ℕ → Answer → Type 0) (rules : List ℕ) (ts : List Tree) (ps : List ℕ)

@@ -1,12 +1,11 @@
 -- Errors of rules and of terminals, and the lines of which they speak.
-use Rattle.std.proofs.Common.{◌≡◌, ℕ, zero, suc, ◌+◌, ◌-◌, ◌*◌, ◌<◌, ◌≤◌, Bool, true, false, List, [], ◌∷◌, ◌++◌, inl, inr, length, map, take, Contains, refl, sym, ap, subst, ◌∙◌, arith, length-append, length-take}
+use Rattle.std.proofs.Common.{◌≡◌, ℕ, zero, suc, ◌+◌, ◌-◌, ◌*◌, ◌<◌, ◌≤◌, Bool, true, false, List, [], ◌∷◌, inl, inr, length, Contains, refl, sym, ap, subst, ◌∙◌, arith}
 use Rattle.std.specs.Prelude.{◌==◌, if◌then◌else◌, Option, Some, None, option_map, slice_get, unwrap_or}
 use Rattle.std.specs.Str.{chars, chars_after, continuation_len, lead_bits, IsCharBoundary}
-use Rattle.std.proofs.lemmas.Option.{slice_get-get_or, slice_get-map, slice_get_within, unwrap_or-slice_get}
+use Rattle.std.proofs.lemmas.Option.{slice_get-map, slice_get_within}
 use Rattle.lalrpop_book.specs.Tree.{Tree}
 use Rattle.lalrpop_lexer.specs.Line.{LineSays}
 use Rattle.lalrpop_lexer.specs.Lines.{lines, begin_with}
-use Rattle.lalrpop_lexer.specs.Position.{position_of}
 use Rattle.lalrpop_grammar.specs.NamedPart.{NamedPart}
 use Rattle.lalrpop_rules.specs.RuleText.{IsParsed}
 use Rattle.lalrpop_rules.specs.declared.rule_text.RuleText.{RuleText}
@@ -14,9 +13,7 @@ use Rattle.lalrpop_rules.specs.declared.rule_text.RuleText.TheVariants as texts
 use Rattle.lalrpop_rule_file.specs.RuleFile.{NamesMode as NamedInFile}
 use Rattle.lalrpop_rule_file.specs.declared.file_rule.FileRule.{FileRule}
 use Rattle.lalrpop_lexer.specs.Terminals.{AreTerminals, FirstSays}
-use Rattle.lalrpop_lexer.specs.declared.position.Position.{Position}
 use Rattle.lalrpop_lexer.specs.declared.terminal_line.TerminalLine.{TerminalLine}
-use Rattle.lalrpop_lexer.proofs.Places.{column_within}
 use Rattle.lalrpop_rules.specs.RuleSet.{IsNotParsed}
 use Rattle.lalrpop_modes.specs.ModeClashes.{IsModesFault}
 use Rattle.lalrpop_modes.specs.ModeSet.{IsModesError, rules_of}

@@ -13,6 +13,7 @@ use Rattle.lexdfa_lib.specs.Status.{outcome_status}
 use Rattle.lexdfa_lib.specs.declared.outcome.Outcome.{Outcome}
 use Rattle.lexdfa_lib.specs.declared.outcome.Outcome.TheVariants as outcomes
 use Rattle.tokens_lib.specs.Answer.{Answer, Reads, TextOf, is_input, shown_name, FileGives, NumberedAnswer, FilesAnswer, cut_files, TextsAnswer}
+use Rattle.tokens_lib.specs.Emitted.{SourceAnswer, prefix_of}
 use Rattle.tokens_lib.specs.Program.{rules_status, RulesOf, LexerOf, clashes_status, ClashesAnswer, TerminalsOf, reported_status, TerminalClashesAnswer, ActionAnswer, CommandAnswer}
 use Rattle.tokens_lib.specs.Progress.{total_said}
 use Rattle.tokens_lib.specs.Streams.{Given}
@@ -22,7 +23,7 @@ use Rattle.tokens_lib.specs.declared.command.Markup.{Markup}
 use Rattle.tokens_lib.specs.declared.layout.LineForm.{LineForm}
 use Rattle.tokens_lib.specs.declared.text_end.OpenMode.{OpenMode}
 use Rattle.tokens_lib.specs.declared.command.Action.{Action}
-use Rattle.tokens_lib.specs.declared.command.Action.TheVariants.{Cut, Show, CutByTerminals, Clashes, TerminalClashes}
+use Rattle.tokens_lib.specs.declared.command.Action.TheVariants.{Cut, Show, CutByTerminals, Clashes, TerminalClashes, Emit}
 use Rattle.tokens_lib.specs.declared.command.Command.TheVariants.{Help, Version, Run}
 use Rattle.tokens_lib.specs.declared.command.Verbosity.{Verbosity}
 
@@ -94,21 +95,23 @@ texts_low Gives InputGives i k verbosity IsFor files answer each is =
     files_low (NumberedAnswer Gives InputGives IsFor (total_said verbosity (length files))) 1 i k (cut_files files) answer
     (λ n x y file a own. numbered_low Gives InputGives IsFor (total_said verbosity (length files)) n x y file a each own) is
 
-rules_of_low : (IsFor : List ℕ → List (List ℕ) → List (List ℕ) → List ModeRule → Answer → Type 0) (file bytes : List ℕ) (answer : Answer)
-    → ((ls modes : List (List ℕ)) (rs : List ModeRule) (a : Answer) → IsFor file ls modes rs a → IsLow a) → RulesOf IsFor file bytes answer → IsLow answer
-rules_of_low IsFor file bytes answer each (inl (error, (is, (known, (rest, e))))) = low answer _ e (omega arith)
-rules_of_low IsFor file bytes answer each (inr (modes, (rs, (say, is)))) = each (lines (without_mark bytes)) modes rs answer is
+rules_of_low : (verbosity : Verbosity) (IsFor : List ℕ → List (List ℕ) → List (List ℕ) → List ModeRule → Answer → Type 0) (file bytes : List ℕ) (answer : Answer)
+    → ((ls modes : List (List ℕ)) (rs : List ModeRule) (a : Answer) → IsFor file ls modes rs a → IsLow a) → RulesOf verbosity IsFor file bytes answer → IsLow answer
+rules_of_low verbosity IsFor file bytes answer each (inl (error, (is, (known, (rest, e))))) = low answer _ e (omega arith)
+rules_of_low verbosity IsFor file bytes answer each (inr (said, (warned, (own, ((modes, (rs, (say, is))), e))))) =
+    let a : IsLow own = each (lines (without_mark bytes)) modes rs own is in
+    low answer _ e (omega arith)
 
 lexer_low : (IsFor : ModeRules → List (List ℕ) → Answer → Type 0) (file : List ℕ) (ls modes : List (List ℕ)) (rs : List ModeRule) (answer : Answer)
     → ((set : ModeRules) (names : List (List ℕ)) (a : Answer) → IsFor set names a → IsLow a) → LexerOf IsFor file ls modes rs answer → IsLow answer
 lexer_low IsFor file ls modes rs answer each (inl (error, (is, (places, (are, (said, (says, e))))))) = low answer _ e (rules_low error)
 lexer_low IsFor file ls modes rs answer each (inr (set, (is, done))) = each set modes answer done
 
-by_rules_low : (Gives : List ℕ → Given → Type 0) (IsFor : ModeRules → List (List ℕ) → Answer → Type 0) (rules : List ℕ) (answer : Answer)
-    → ((set : ModeRules) (names : List (List ℕ)) (a : Answer) → IsFor set names a → IsLow a) → Reads Gives (RulesOf (LexerOf IsFor)) rules answer → IsLow answer
-by_rules_low Gives IsFor rules answer each reads =
-    reads_low Gives (RulesOf (LexerOf IsFor)) rules answer
-    (λ bytes a is. rules_of_low (LexerOf IsFor) rules bytes a (λ ls modes rs b said. lexer_low IsFor rules ls modes rs b each said) is) reads
+by_rules_low : (verbosity : Verbosity) (Gives : List ℕ → Given → Type 0) (IsFor : ModeRules → List (List ℕ) → Answer → Type 0) (rules : List ℕ) (answer : Answer)
+    → ((set : ModeRules) (names : List (List ℕ)) (a : Answer) → IsFor set names a → IsLow a) → Reads Gives (RulesOf verbosity (LexerOf IsFor)) rules answer → IsLow answer
+by_rules_low verbosity Gives IsFor rules answer each reads =
+    reads_low Gives (RulesOf verbosity (LexerOf IsFor)) rules answer
+    (λ bytes a is. rules_of_low verbosity (LexerOf IsFor) rules bytes a (λ ls modes rs b said. lexer_low IsFor rules ls modes rs b each said) is) reads
 
 clashes_low : (css : List (List Entry)) → clashes_status css ≤ 6
 clashes_low [] = omega arith
@@ -141,21 +144,27 @@ pieces_low set modes form recovers several name text answer (xs, (end, (are, e))
 page_low : (set : ModeRules) (modes : List (List ℕ)) (markup : Markup) (name text : List ℕ) (answer : Answer) → PageAnswer set modes markup name text answer → IsLow answer
 page_low set modes markup name text answer (xs, (end, (are, e))) = low answer _ e (end_low _ _)
 
+source_low : (prefix file : List ℕ) (set : ModeRules) (answer : Answer) → SourceAnswer prefix file set answer → IsLow answer
+source_low prefix file set answer (inl (n, (are, e))) = low answer _ e (omega arith)
+source_low prefix file set answer (inr (why, (memory, (is, e)))) = low answer _ e (omega arith)
+
 action_low : {I : Type 0} (Gives : List ℕ → Given → Type 0) (InputGives : I → I → Given → Type 0) (i k : I) (verbosity : Verbosity) (action : Action) (rules : List ℕ) (files : List (List ℕ))
-    (answer : Answer) → ActionAnswer Gives (TextsAnswer Gives InputGives i k verbosity) action rules files answer → IsLow answer
+    (answer : Answer) → ActionAnswer Gives (TextsAnswer Gives InputGives i k) verbosity action rules files answer → IsLow answer
 action_low Gives InputGives i k verbosity (Cut form recovers) rules files answer is =
-    by_rules_low Gives (λ set modes. TextsAnswer Gives InputGives i k verbosity (PiecesAnswer set modes form recovers (nat_lt 1 (length files))) files) rules answer
+    by_rules_low verbosity Gives (λ set modes. TextsAnswer Gives InputGives i k verbosity (PiecesAnswer set modes form recovers (nat_lt 1 (length files))) files) rules answer
     (λ set modes a texts. texts_low Gives InputGives i k verbosity (PiecesAnswer set modes form recovers (nat_lt 1 (length files))) files a (pieces_low set modes form recovers (nat_lt 1 (length files))) texts) is
 action_low Gives InputGives i k verbosity (Show markup) rules files answer is =
-    by_rules_low Gives (λ set modes. TextsAnswer Gives InputGives i k verbosity (PageAnswer set modes markup) files) rules answer
+    by_rules_low verbosity Gives (λ set modes. TextsAnswer Gives InputGives i k verbosity (PageAnswer set modes markup) files) rules answer
     (λ set modes a texts. texts_low Gives InputGives i k verbosity (PageAnswer set modes markup) files a (page_low set modes markup) texts) is
 action_low Gives InputGives i k verbosity (CutByTerminals places) rules files answer is =
     let IsFor : List Tree → List ℕ → Answer → Type 0 = λ ts ps. TextsAnswer Gives InputGives i k verbosity (TokensAnswer ts ps places) files in
     reads_low Gives (TerminalsOf IsFor) rules answer
     (λ bytes a said. terminals_low IsFor rules bytes a (λ ts ps b texts. texts_low Gives InputGives i k verbosity (TokensAnswer ts ps places) files b (tokens_low ts ps places) texts) said) is
 action_low Gives InputGives i k verbosity Clashes rules files answer is =
-    reads_low Gives (RulesOf ClashesAnswer) rules answer (λ bytes a said. rules_of_low ClashesAnswer rules bytes a (list_low rules) said) is
+    reads_low Gives (RulesOf verbosity ClashesAnswer) rules answer (λ bytes a said. rules_of_low verbosity ClashesAnswer rules bytes a (list_low rules) said) is
 action_low Gives InputGives i k verbosity TerminalClashes rules files answer is = reads_low Gives TerminalClashesAnswer rules answer (terminal_list_low rules) is
+action_low Gives InputGives i k verbosity (Emit prefix) rules files answer is =
+    by_rules_low verbosity Gives (λ set modes. SourceAnswer (prefix_of prefix) rules set) rules answer (λ set modes a written. source_low (prefix_of prefix) rules set a written) is
 
 pub command_low : {I : Type 0} (Gives : List ℕ → Given → Type 0) (InputGives : I → I → Given → Type 0) (i k : I) (command : Command) (answer : Answer)
     → CommandAnswer Gives (TextsAnswer Gives InputGives i k) command answer → IsLow answer

@@ -1,6 +1,6 @@
 -- cases: proofs/Cases/Arguments.antt
 -- The options and the names among the arguments.
-use Rattle.std.specs.Prelude.{ℕ, ◌==◌, Bool, not, List, ◌++◌, filter, codes}
+use Rattle.std.specs.Prelude.{ℕ, ◌==◌, ◌||◌, Bool, not, List, [], ◌∷◌, ◌++◌, filter, codes, if◌then◌else◌}
 use Rattle.std.specs.List.{before_first, after_first, starts_with}
 use Rattle.std.specs.Str.{bytes_eq}
 
@@ -11,6 +11,19 @@ is_end word = bytes_eq word (codes "--")
 -- the argument begins with two dashes
 abbrev pub is_option : List ℕ → Bool
 is_option word = starts_with ◌==◌ word (codes "--")
+
+-- the option has a value
+abbrev pub takes_value : List ℕ → Bool
+takes_value word = bytes_eq word (codes "--emit") || bytes_eq word (codes "--prefix")
+
+-- the arguments with each such option and its value in one word: `--emit c` is `--emit=c`
+abbrev pub joined : List (List ℕ) → List (List ℕ)
+joined [] = []
+joined (word ∷ []) = word ∷ []
+joined (word ∷ next ∷ words) =
+    if is_end word then word ∷ next ∷ words
+    else if takes_value word then (word ++ (codes "=" ++ next)) ∷ joined words
+    else word ∷ joined (next ∷ words)
 
 -- options are the arguments before the first `--` that begin with two dashes
 abbrev pub options : List (List ℕ) → List (List ℕ)

@@ -1,10 +1,10 @@
 -- cases: proofs/Cases/Command.antt
 -- What the arguments ask for.
-use Rattle.std.specs.Prelude.{◌≡◌, ◌≢◌, ℕ, Bool, true, false, not, ◌||◌, List, [], ◌∷◌, Option, Some, None, codes, map, filter, find, if◌then◌else◌}
-use Rattle.std.specs.List.{list_any}
+use Rattle.std.specs.Prelude.{◌≡◌, ◌≢◌, ℕ, ◌==◌, Bool, true, false, not, ◌||◌, List, [], ◌∷◌, ◌++◌, Option, Some, None, codes, map, filter, find, if◌then◌else◌}
+use Rattle.std.specs.List.{list_any, starts_with}
 use Rattle.std.specs.Str.{bytes_eq}
 use Rattle.tokens_lib.specs.declared.command.Action.{Action}
-use Rattle.tokens_lib.specs.declared.command.Action.TheVariants.{Cut, Show, CutByTerminals, Clashes, TerminalClashes}
+use Rattle.tokens_lib.specs.declared.command.Action.TheVariants.{Cut, Show, CutByTerminals, Clashes, TerminalClashes, Emit}
 use Rattle.tokens_lib.specs.declared.command.ArgumentsError.{ArgumentsError}
 use Rattle.tokens_lib.specs.declared.command.ArgumentsError.TheVariants.{Unknown, NoRules, Apart, NoFiles}
 use Rattle.tokens_lib.specs.declared.command.Command.{Command}
@@ -26,12 +26,15 @@ options_of (CutByTerminals false) = codes "--lines" ∷ []
 options_of (CutByTerminals true) = codes "--lines" ∷ codes "--places" ∷ []
 options_of Clashes = codes "--clashes" ∷ []
 options_of TerminalClashes = codes "--lines" ∷ codes "--clashes" ∷ []
+options_of (Emit None) = codes "--emit=c" ∷ []
+options_of (Emit (Some prefix)) = codes "--emit=c" ∷ (codes "--prefix=" ++ prefix.now) ∷ []
 
--- whether it lists clashes, for which no files are read
-abbrev pub lists : Action → Bool
-lists Clashes = true
-lists TerminalClashes = true
-lists action = false
+-- whether it is about the rules alone, so that no files are read
+abbrev pub is_of_rules : Action → Bool
+is_of_rules Clashes = true
+is_of_rules TerminalClashes = true
+is_of_rules (Emit prefix) = true
+is_of_rules action = false
 
 -- whether a word is among others
 abbrev pub has : List (List ℕ) → List ℕ → Bool
@@ -39,11 +42,15 @@ has words word = list_any (λ other. bytes_eq other word) words
 
 -- the options of actions, in the order of the table
 abbrev pub action_options : List (List ℕ)
-action_options = codes "--recover" ∷ codes "--json" ∷ codes "--html" ∷ codes "--ansi" ∷ codes "--lines" ∷ codes "--places" ∷ codes "--clashes" ∷ []
+action_options = codes "--recover" ∷ codes "--json" ∷ codes "--html" ∷ codes "--ansi" ∷ codes "--lines" ∷ codes "--places" ∷ codes "--clashes" ∷ codes "--emit=c" ∷ []
 
--- those that are given
+-- the option says a prefix
+abbrev pub is_prefix_option : List ℕ → Bool
+is_prefix_option option = starts_with ◌==◌ option (codes "--prefix=")
+
+-- those that are given, and then all prefixes
 abbrev pub given : List (List ℕ) → List (List ℕ)
-given options = filter (has options) action_options
+given options = filter (has options) action_options ++ filter is_prefix_option options
 
 -- the options that go with all others
 abbrev pub verbosity_options : List (List ℕ)
@@ -55,7 +62,7 @@ verbosity_of options = if has options (codes "--quiet") then Quiet else if has o
 
 -- the first option that is none of them
 abbrev pub is_known : List ℕ → Bool
-is_known option = has action_options option || has verbosity_options option
+is_known option = has action_options option || (has verbosity_options option || is_prefix_option option)
 
 abbrev pub unknown : List (List ℕ) → Option (List ℕ)
 unknown options = find (λ option. not (is_known option)) options
@@ -63,7 +70,7 @@ unknown options = find (λ option. not (is_known option)) options
 -- an action by a file of rules on the named files
 abbrev pub IsFilesRun : Action → Verbosity → List ℕ → List (List ℕ) → Command → Type 0
 IsFilesRun action verbosity rules named (Run its_action its_verbosity its_rules files) =
-    (its_action ≡ action) × ((its_verbosity ≡ verbosity) × ((its_rules.now ≡ rules) × ((lists action ≡ true → named ≡ []) × (map (λ file. file.now) files.items ≡ named))))
+    (its_action ≡ action) × ((its_verbosity ≡ verbosity) × ((its_rules.now ≡ rules) × ((is_of_rules action ≡ true → named ≡ []) × (map (λ file. file.now) files.items ≡ named))))
 IsFilesRun action verbosity rules named command = ⊥
 
 -- the action with just these options, by the first name on the others
@@ -73,7 +80,7 @@ IsRun options names command =
 
 -- there is a file where none is read
 abbrev pub IsFilesError : Action → List (List ℕ) → ArgumentsError → Type 0
-IsFilesError action named (NoFiles file) = (lists action ≡ true) × ((rest : List (List ℕ)) × (named ≡ file.now ∷ rest))
+IsFilesError action named (NoFiles file) = (is_of_rules action ≡ true) × ((rest : List (List ℕ)) × (named ≡ file.now ∷ rest))
 IsFilesError action named error = ⊥
 
 -- RULES is missing, or the options don't go together, or there is a file where none is read

@@ -3,3 +3,4 @@ pub mod Code
 pub mod CutTexts
 pub mod Faults
 pub mod Tasks
+pub mod Prefixes

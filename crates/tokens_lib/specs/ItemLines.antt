@@ -9,7 +9,7 @@ use Rattle.lalrpop_lexer.specs.Position.{position_of}
 use Rattle.lalrpop_lexer.specs.declared.position.Position.{Position}
 use Rattle.lalrpop_modes.specs.Modes.{ModeRules, trees_in, after, ArePiecesFrom}
 use Rattle.lalrpop_modes.specs.Stack.{Stack, start as first_stack}
-use Rattle.lalrpop_rules.specs.Pieces.{IsPiece, slice_of}
+use Rattle.lalrpop_rules.specs.Pieces.{IsPiece}
 use Rattle.lalrpop_rules.specs.declared.item.Item.{Item}
 use Rattle.lalrpop_rules.specs.declared.item.Item.TheVariants.{Token, Skipped, Fault}
 use Rattle.lexdfa_lib.specs.Watch.{AppendsPrefix}

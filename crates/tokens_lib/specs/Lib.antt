@@ -1,6 +1,7 @@
 pub mod Answer
 pub mod Arguments
 pub mod Command
+pub mod Emitted
 pub mod ItemLines
 pub mod OpenModes
 pub mod PageWritten
@@ -11,5 +12,6 @@ pub mod RuleClashes
 pub mod Streams
 pub mod TextAnswer
 pub mod Usage
+pub mod Warned
 -- what serves the proofs alone
 pub mod Internal

@@ -2,8 +2,7 @@
 -- The modes that tokens put on top of others, by the places at which those tokens begin.
 use Rattle.std.specs.Prelude.{ℕ, List, [], ◌∷◌, Option, Some, None}
 use Rattle.std.specs.List.{fold}
-use Rattle.lalrpop_modes.specs.Modes.{after}
-use Rattle.lalrpop_modes.specs.Stack.{Stack, actions_of}
+use Rattle.lalrpop_modes.specs.Stack.{actions_of}
 use Rattle.lalrpop_modes.specs.declared.action.Action.{Action}
 use Rattle.lalrpop_modes.specs.declared.action.Action.TheVariants.{Mode, Push, Pop}
 use Rattle.lalrpop_rules.specs.declared.item.Item.{Item}

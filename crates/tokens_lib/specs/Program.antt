@@ -26,16 +26,18 @@ use Rattle.lexdfa_lib.specs.declared.outcome.Outcome.{Outcome}
 use Rattle.lexdfa_lib.specs.declared.outcome.Outcome.TheVariants.{Ambiguous}
 use Rattle.tokens_lib.specs.Answer.{Answer, refusal, remark, followed, headed, Reads, TextsAnswer, FirstTextsAnswer}
 use Rattle.lines_lib.specs.ClashesShown.{AreClashesShown}
-use Rattle.tokens_lib.specs.Arguments.{options, names}
+use Rattle.tokens_lib.specs.Arguments.{joined, options, names}
 use Rattle.tokens_lib.specs.Command.{IsCommand, IsArgumentsError}
+use Rattle.tokens_lib.specs.Emitted.{SourceAnswer, prefix_of}
 use Rattle.tokens_lib.specs.Progress.{reading_text}
 use Rattle.tokens_lib.specs.Reasons.{SaysBadLine, SaysRules, SaysTerminals}
 use Rattle.tokens_lib.specs.RuleClashes.{clash_lines}
 use Rattle.tokens_lib.specs.Streams.{Given}
 use Rattle.tokens_lib.specs.TextAnswer.{TokensAnswer, PiecesAnswer, PageAnswer}
 use Rattle.tokens_lib.specs.Usage.{help, version, wrong_text}
+use Rattle.tokens_lib.specs.Warned.{Warned}
 use Rattle.tokens_lib.specs.declared.command.Action.{Action}
-use Rattle.tokens_lib.specs.declared.command.Action.TheVariants.{Cut, Show, CutByTerminals, Clashes, TerminalClashes}
+use Rattle.tokens_lib.specs.declared.command.Action.TheVariants.{Cut, Show, CutByTerminals, Clashes, TerminalClashes, Emit}
 use Rattle.tokens_lib.specs.declared.command.ArgumentsError.{ArgumentsError}
 use Rattle.tokens_lib.specs.declared.command.Command.{Command}
 use Rattle.tokens_lib.specs.declared.command.Command.TheVariants.{Help, Version, Run}
@@ -74,12 +76,21 @@ rules_status (NotParsed i position kind) = 3
 rules_status (BadEnd i e) = 3
 rules_status error = 2
 
--- the bytes have a bad line; or their lines are rules with this answer
-abbrev pub RulesOf : (List ℕ → List (List ℕ) → List (List ℕ) → List ModeRule → Answer → Type 0) → List ℕ → List ℕ → Answer → Type 0
-RulesOf IsFor file bytes answer =
+-- the lines are rules with this answer
+abbrev pub LinesAnswer : (List ℕ → List (List ℕ) → List (List ℕ) → List ModeRule → Answer → Type 0) → List ℕ → List (List ℕ) → Answer → Type 0
+LinesAnswer IsFor file ls answer = (modes : List (List ℕ)) × ((rs : List ModeRule) × (SayRules ls modes rs × IsFor file ls modes rs answer))
+
+-- the warnings about the file with these lines are said, and then this is answered
+abbrev pub WarnedAnswer : Verbosity → (Answer → Type 0) → List ℕ → List (List ℕ) → Answer → Type 0
+WarnedAnswer verbosity Is file ls answer =
+    (said : List ℕ) × (Warned verbosity file ls said × ((own : Answer) × (Is own × (answer ≡ followed (remark said) own))))
+
+-- the bytes have a bad line; or their lines are rules with this answer, behind the warnings about them
+abbrev pub RulesOf : Verbosity → (List ℕ → List (List ℕ) → List (List ℕ) → List ModeRule → Answer → Type 0) → List ℕ → List ℕ → Answer → Type 0
+RulesOf verbosity IsFor file bytes answer =
     ((error : RuleFileError) × (IsRuleFileError (without_mark bytes) error
     × ((said : List ℕ) × (SaysBadLine error said × (answer ≡ refusal 3 (headed file said))))))
-    ⊎ ((modes : List (List ℕ)) × ((rs : List ModeRule) × (SayRules (lines (without_mark bytes)) modes rs × IsFor file (lines (without_mark bytes)) modes rs answer)))
+    ⊎ WarnedAnswer verbosity (LinesAnswer IsFor file (lines (without_mark bytes))) file (lines (without_mark bytes)) answer
 
 -- an error of the rules of these lines is said
 abbrev pub ErrorAnswer : List ℕ → List (List ℕ) → List (List ℕ) → List ModeRule → ModesError → Answer → Type 0
@@ -141,20 +152,24 @@ abbrev pub information : List ℕ → Answer
 information out = record { status = 0; out = out; err = [] }
 
 -- the answer for an action by a file of rules on files, by what is answered to texts
-abbrev pub ActionAnswer : (List ℕ → Given → Type 0) → ((List ℕ → List ℕ → Answer → Type 0) → List (List ℕ) → Answer → Type 0) → Action → List ℕ → List (List ℕ) → Answer → Type 0
-ActionAnswer Gives Texts (Cut form recovers) rules files answer =
-    Reads Gives (RulesOf (LexerOf (λ r modes. Texts (PiecesAnswer r modes form recovers (nat_lt 1 (length files))) files))) rules answer
-ActionAnswer Gives Texts (Show markup) rules files answer = Reads Gives (RulesOf (LexerOf (λ r modes. Texts (PageAnswer r modes markup) files))) rules answer
-ActionAnswer Gives Texts (CutByTerminals places) rules files answer = Reads Gives (TerminalsOf (λ ts ps. Texts (TokensAnswer ts ps places) files)) rules answer
-ActionAnswer Gives Texts Clashes rules files answer = Reads Gives (RulesOf ClashesAnswer) rules answer
-ActionAnswer Gives Texts TerminalClashes rules files answer = Reads Gives TerminalClashesAnswer rules answer
+abbrev pub ActionAnswer : (List ℕ → Given → Type 0) → (Verbosity → (List ℕ → List ℕ → Answer → Type 0) → List (List ℕ) → Answer → Type 0) → Verbosity → Action → List ℕ → List (List ℕ) → Answer → Type 0
+ActionAnswer Gives Texts verbosity (Cut form recovers) rules files answer =
+    Reads Gives (RulesOf verbosity (LexerOf (λ r modes. Texts verbosity (PiecesAnswer r modes form recovers (nat_lt 1 (length files))) files))) rules answer
+ActionAnswer Gives Texts verbosity (Show markup) rules files answer =
+    Reads Gives (RulesOf verbosity (LexerOf (λ r modes. Texts verbosity (PageAnswer r modes markup) files))) rules answer
+ActionAnswer Gives Texts verbosity (CutByTerminals places) rules files answer =
+    Reads Gives (TerminalsOf (λ ts ps. Texts verbosity (TokensAnswer ts ps places) files)) rules answer
+ActionAnswer Gives Texts verbosity Clashes rules files answer = Reads Gives (RulesOf verbosity ClashesAnswer) rules answer
+ActionAnswer Gives Texts verbosity TerminalClashes rules files answer = Reads Gives TerminalClashesAnswer rules answer
+ActionAnswer Gives Texts verbosity (Emit prefix) rules files answer =
+    Reads Gives (RulesOf verbosity (LexerOf (λ r modes. SourceAnswer (prefix_of prefix) rules r))) rules answer
 
 -- the answer for a command; with progress, it says first that the rules are read
 abbrev pub CommandAnswer : (List ℕ → Given → Type 0) → (Verbosity → (List ℕ → List ℕ → Answer → Type 0) → List (List ℕ) → Answer → Type 0) → Command → Answer → Type 0
 CommandAnswer Gives Texts Help answer = answer ≡ information help
 CommandAnswer Gives Texts Version answer = answer ≡ information version
 CommandAnswer Gives Texts (Run action verbosity rules files) answer =
-    (own : Answer) × (ActionAnswer Gives (Texts verbosity) action rules.now (map (λ file. file.now) files.items) own
+    (own : Answer) × (ActionAnswer Gives Texts verbosity action rules.now (map (λ file. file.now) files.items) own
     × (answer ≡ followed (remark (reading_text verbosity rules.now)) own))
 
 -- what is said of a run that fails, or of arguments that aren't UTF-8
@@ -167,10 +182,10 @@ failure_text (Failing run_errors.Write) = codes "tokens: write failed\n"
 -- the answer for these arguments, where standard input comes from one state to another
 abbrev pub IsAnswer : {I : Type 0} → (List ℕ → Given → Type 0) → (I → I → Given → Type 0) → I → I → List (List ℕ) → Answer → Type 0
 IsAnswer Gives InputGives i k words answer =
-    ((error : ArgumentsError) × (IsArgumentsError (options words) (names words) error × (answer ≡ refusal 4 (wrong_text error))))
-    ⊎ ((command : Command) × (IsCommand (options words) (names words) command × CommandAnswer Gives (TextsAnswer Gives InputGives i k) command answer))
+    ((error : ArgumentsError) × (IsArgumentsError (options (joined words)) (names (joined words)) error × (answer ≡ refusal 4 (wrong_text error))))
+    ⊎ ((command : Command) × (IsCommand (options (joined words)) (names (joined words)) command × CommandAnswer Gives (TextsAnswer Gives InputGives i k) command answer))
 
 -- the answer for the command that these arguments are, to the first texts alone
 abbrev pub IsFirstAnswer : {I : Type 0} → (List ℕ → Given → Type 0) → (I → I → Given → Type 0) → I → List (List ℕ) → Answer → Type 0
 IsFirstAnswer Gives InputGives i words answer =
-    (command : Command) × (IsCommand (options words) (names words) command × CommandAnswer Gives (FirstTextsAnswer Gives InputGives i) command answer)
+    (command : Command) × (IsCommand (options (joined words)) (names (joined words)) command × CommandAnswer Gives (FirstTextsAnswer Gives InputGives i) command answer)

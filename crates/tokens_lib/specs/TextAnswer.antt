@@ -20,7 +20,6 @@ use Rattle.lines_lib.specs.TokenLines.{place_in, text_lines, outcome_behind}
 use Rattle.tokens_lib.specs.declared.command.Markup.{Markup}
 use Rattle.tokens_lib.specs.declared.layout.LineForm.{LineForm}
 use Rattle.tokens_lib.specs.declared.text_end.OpenMode.{OpenMode}
-use Rattle.tokens_lib.specs.declared.text_end.TextEnd.{TextEnd}
 
 -- the message for a place where nothing of this kind matches; it shows the character there
 abbrev pub fault_text : List ℕ → List ℕ → List ℕ → ℕ → List ℕ

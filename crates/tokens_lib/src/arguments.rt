@@ -1,7 +1,7 @@
 //! The arguments, parted into options and names.
 ghost use Rattle.std.specs.Prelude.{codes, ◌≡◌, ◌++◌, map, filter, not, string_bytes, IfOk, OnOk};
 ghost use Rattle.std.specs.List.{position_or_len, before_first, after_first};
-ghost use Rattle.tokens_lib.specs.Arguments.{is_option, is_end, options, names};
+ghost use Rattle.tokens_lib.specs.Arguments.{is_option, is_end, joined as joined_words, options, names, takes_value};
 
 use std::alloc::{AllocError, Global};
 
@@ -23,6 +23,48 @@ fn is_end(word: &str) -> bool
     ensures { result ≡ is_end word.now }
 {
     word == "--"
+}
+
+// Whether the option has a value.
+fn takes_value(word: &str) -> bool
+    ensures { result ≡ takes_value word.now }
+{
+    word == "--emit" || word == "--prefix"
+}
+
+// The option with its value.
+fn with_value(alloc: Global, option: &str, value: &str) -> Result<String, AllocError>
+    ensures { IfOk result (λ word. string_bytes word ≡ option.now ++ (codes "=" ++ value.now)) }
+{
+    format!(in alloc; "{option}={value}")
+}
+
+/// The arguments with each option that has a value, and its value, in one word: `--emit c` becomes `--emit=c`. What stands
+/// behind the first `--` stays as it is.
+///
+/// # Errors
+///
+/// `AllocError` if a request for memory was refused.
+pub(crate) fn joined(alloc: Global, words: &[String]) -> Result<Vec<String>, AllocError>
+    ensures { IfOk result (λ all.
+        map string_bytes all.items ≡ joined_words (map string_bytes words.now)) }
+{
+    let mut all = Vec::new(alloc);
+    let mut at = 0;
+    'join: while at + 1 < words.len() && !is_end(&words[at]) {
+        let word = words[at].as_str();
+        if takes_value(word) {
+            all.push(with_value(alloc, word, &words[at + 1])?)?;
+            at += 2;
+        } else {
+            all.push(String::from_str(alloc, word)?)?;
+            at += 1;
+        }
+    }
+    for word in &words[at..] {
+        all.push(word.clone()?)?;
+    }
+    Ok(all)
 }
 
 // Where the first `--` stands, or how many arguments there are.

@@ -5,16 +5,19 @@ ghost use Rattle.lalrpop_modes.specs.ModeSet.{rules_of};
 ghost use Rattle.lalrpop_rule_file.specs.RuleFile.{AreFileParts, AreRules, ArePlaces, NamesMode, without_mark as without_mark_of};
 ghost use Rattle.lalrpop_rule_file.specs.declared.file_rule.FileRule.{FileRule as FileRuleValue};
 ghost use Rattle.tokens_lib.specs.Answer.{Answer, headed, Answered, Refused, Reads, Begun};
-ghost use Rattle.tokens_lib.specs.Program.{StandAt, IsSetOf, AreRulesOf, RulesOf, RulesRefused, ClashesAnswer, clashes_status, rules_status};
+ghost use Rattle.tokens_lib.specs.Program.{StandAt, IsSetOf, AreRulesOf, LinesAnswer, RulesOf, RulesRefused, ClashesAnswer, clashes_status, rules_status};
 ghost use Rattle.tokens_lib.specs.Reasons.{CanBeSaid, SaysBadLine, SaysRules};
 ghost use Rattle.tokens_lib.specs.Streams.{Takes};
+ghost use Rattle.tokens_lib.specs.Warned.{Warned};
 ghost use Rattle.tokens_lib.specs.Internal.Faults.{NameOnly};
 
+use crate::command::Verbosity;
 use crate::file_lexer::{FileLexer, with_names};
 use crate::files::{Files, NO_TEXT, bytes_of, say_headed};
 use crate::mode_file::ModeFile;
 use crate::named_clashes::write_rule_clashes;
 use crate::rule_explain::{bad_line_explained, rules_explained};
+use crate::warnings::say_warnings;
 use lalrpop_lexer::lexer::dfa::Clash;
 use lalrpop_modes::{ModeLexer, ModesError, mode_clashes};
 use lalrpop_rule_file::{RuleFile, RuleFileError, read_rules, without_mark};
@@ -133,7 +136,7 @@ fn lexer_of_rules<E: Write>(
         AreRulesOf bytes.now f.lexer (map string_bytes f.modes.items))) }
     ensures quiet { IfOk result (λ found. OnOk found (err.new ≡ err.old)) }
     ensures refused { IfOk result (λ found. IfErr found (λ status. (answer : Answer)
-        × (RulesOf RulesRefused name.now bytes.now answer
+        × (LinesAnswer RulesRefused name.now (lines (without_mark_of bytes.now)) answer
         × Refused E.contents err.old err.new status answer))) }
     ensures memory { IfErr result (λ e. e ≡ RunError.OutOfMemory) }
     ensures no_late_message { err.new.late ≡ err.old.late }
@@ -147,21 +150,27 @@ fn lexer_of_rules<E: Write>(
 // The lexer of the rules that these bytes are; or the status, if what is wrong was said.
 fn lexer_of_bytes<E: Write>(
     alloc: Global,
+    verbosity: Verbosity,
     name: &str,
     bytes: &[u8],
     err: &mut Watched<E>,
 ) -> Result<Result<FileLexer, u8>, RunError>
     ensures lexer { IfOk result (λ found. IfOk found (λ f.
         AreRulesOf bytes.now f.lexer (map string_bytes f.modes.items))) }
-    ensures quiet { IfOk result (λ found. OnOk found (err.new ≡ err.old)) }
+    ensures warned { IfOk result (λ found. OnOk found ((said : List ℕ)
+        × (Warned verbosity name.now (lines (without_mark_of bytes.now)) said
+        × Takes E.contents err.old err.new said))) }
     ensures refused { IfOk result (λ found. IfErr found (λ status. (answer : Answer)
-        × (RulesOf RulesRefused name.now bytes.now answer
+        × (RulesOf verbosity RulesRefused name.now bytes.now answer
         × Refused E.contents err.old err.new status answer))) }
     ensures memory { IfErr result (λ e. e ≡ RunError.OutOfMemory) }
     ensures no_late_message { err.new.late ≡ err.old.late }
 {
     match read_rules(alloc, bytes) {
-        Ok(file) => lexer_of_rules(alloc, name, bytes, &file, err),
+        Ok(file) => {
+            say_warnings(alloc, verbosity, name, &file, err)?;
+            lexer_of_rules(alloc, name, bytes, &file, err)
+        }
         Err(error) => Ok(Err(report_line(alloc, name, without_mark(bytes), &error, err)?)),
     }
 }
@@ -169,22 +178,24 @@ fn lexer_of_bytes<E: Write>(
 /// The lexer of the rules of a file; or the status, if what is wrong was said.
 pub(crate) fn lexer_by_name<F: Files, E: Write>(
     alloc: Global,
+    verbosity: Verbosity,
     files: &F,
     name: &str,
     err: &mut Watched<E>,
 ) -> Result<Result<FileLexer, u8>, RunError>
     ensures lexer { IfOk result (λ found. IfOk found (λ f. (bytes : List ℕ)
         × (F.gives files.now name.now (Ok bytes)
-        × AreRulesOf bytes f.lexer (map string_bytes f.modes.items)))) }
-    ensures quiet { IfOk result (λ found. OnOk found (err.new ≡ err.old)) }
+        × (AreRulesOf bytes f.lexer (map string_bytes f.modes.items) × ((said : List ℕ)
+        × (Warned verbosity name.now (lines (without_mark_of bytes)) said
+        × Takes E.contents err.old err.new said)))))) }
     ensures refused { IfOk result (λ found. IfErr found (λ status. (answer : Answer)
-        × (Reads (F.gives files.now) (RulesOf RulesRefused) name.now answer
+        × (Reads (F.gives files.now) (RulesOf verbosity RulesRefused) name.now answer
         × Refused E.contents err.old err.new status answer))) }
     ensures memory { IfErr result (λ e. e ≡ RunError.OutOfMemory) }
     ensures no_late_message { err.new.late ≡ err.old.late }
 {
     match bytes_of(alloc, files, name, err)? {
-        Some(bytes) => lexer_of_bytes(alloc, name, &bytes, err),
+        Some(bytes) => lexer_of_bytes(alloc, verbosity, name, &bytes, err),
         None => Ok(Err(NO_TEXT)),
     }
 }
@@ -255,10 +266,11 @@ fn list_clashes_by<W: Write, E: Write>(
         → m < length file.now.modes.items }
     requires out_good { out.old.failed ≡ false }
     ensures answer { IfOk result (λ status. (answer : Answer)
-        × (RulesOf ClashesAnswer name.now bytes.now answer
+        × (LinesAnswer ClashesAnswer name.now (lines (without_mark_of bytes.now)) answer
         × Answered W.contents E.contents out.old out.new err.old err.new status answer)) }
     ensures good { OnOk result (out.new.failed ≡ false) }
-    ensures begun { OnErr result (Begun (RulesOf ClashesAnswer name.now bytes.now)
+    ensures begun { OnErr result (Begun
+        (LinesAnswer ClashesAnswer name.now (lines (without_mark_of bytes.now)))
         (W.contents out.old.inner) (W.contents out.new.inner)) }
     ensures memory { IfErr result (λ e. e ≡ RunError.OutOfMemory → out.new.failed ≡ false) }
     ensures write { IfErr result (λ e. e ≡ RunError.Write → out.new.failed ≡ true) }
@@ -275,6 +287,7 @@ fn list_clashes_by<W: Write, E: Write>(
 // Lists all clashes of the rules that these bytes are, and returns the status.
 fn list_clashes_in<W: Write, E: Write>(
     alloc: Global,
+    verbosity: Verbosity,
     name: &str,
     bytes: &[u8],
     out: &mut Watched<W>,
@@ -282,10 +295,10 @@ fn list_clashes_in<W: Write, E: Write>(
 ) -> Result<u8, RunError>
     requires out_good { out.old.failed ≡ false }
     ensures answer { IfOk result (λ status. (answer : Answer)
-        × (RulesOf ClashesAnswer name.now bytes.now answer
+        × (RulesOf verbosity ClashesAnswer name.now bytes.now answer
         × Answered W.contents E.contents out.old out.new err.old err.new status answer)) }
     ensures good { OnOk result (out.new.failed ≡ false) }
-    ensures begun { OnErr result (Begun (RulesOf ClashesAnswer name.now bytes.now)
+    ensures begun { OnErr result (Begun (RulesOf verbosity ClashesAnswer name.now bytes.now)
         (W.contents out.old.inner) (W.contents out.new.inner)) }
     ensures memory { IfErr result (λ e. e ≡ RunError.OutOfMemory → out.new.failed ≡ false) }
     ensures write { IfErr result (λ e. e ≡ RunError.Write → out.new.failed ≡ true) }
@@ -294,7 +307,10 @@ fn list_clashes_in<W: Write, E: Write>(
     ensures no_late_message { err.new.late ≡ err.old.late }
 {
     match read_rules(alloc, bytes) {
-        Ok(file) => list_clashes_by(alloc, name, bytes, &file, out, err),
+        Ok(read) => {
+            say_warnings(alloc, verbosity, name, &read, err)?;
+            list_clashes_by(alloc, name, bytes, &read, out, err)
+        }
         Err(error) => report_line(alloc, name, without_mark(bytes), &error, err),
     }
 }
@@ -302,6 +318,7 @@ fn list_clashes_in<W: Write, E: Write>(
 /// Lists all clashes of the rules of a file, and returns the status.
 pub(crate) fn list_clashes<F: Files, W: Write, E: Write>(
     alloc: Global,
+    verbosity: Verbosity,
     files: &F,
     name: &str,
     out: &mut Watched<W>,
@@ -309,10 +326,11 @@ pub(crate) fn list_clashes<F: Files, W: Write, E: Write>(
 ) -> Result<u8, RunError>
     requires out_good { out.old.failed ≡ false }
     ensures answer { IfOk result (λ status. (answer : Answer)
-        × (Reads (F.gives files.now) (RulesOf ClashesAnswer) name.now answer
+        × (Reads (F.gives files.now) (RulesOf verbosity ClashesAnswer) name.now answer
         × Answered W.contents E.contents out.old out.new err.old err.new status answer)) }
     ensures good { OnOk result (out.new.failed ≡ false) }
-    ensures begun { OnErr result (Begun (Reads (F.gives files.now) (RulesOf ClashesAnswer) name.now)
+    ensures begun { OnErr result (Begun
+        (Reads (F.gives files.now) (RulesOf verbosity ClashesAnswer) name.now)
         (W.contents out.old.inner) (W.contents out.new.inner)) }
     ensures memory { IfErr result (λ e. e ≡ RunError.OutOfMemory → out.new.failed ≡ false) }
     ensures write { IfErr result (λ e. e ≡ RunError.Write → out.new.failed ≡ true) }
@@ -321,7 +339,7 @@ pub(crate) fn list_clashes<F: Files, W: Write, E: Write>(
     ensures no_late_message { err.new.late ≡ err.old.late }
 {
     match bytes_of(alloc, files, name, err)? {
-        Some(bytes) => list_clashes_in(alloc, name, &bytes, out, err),
+        Some(bytes) => list_clashes_in(alloc, verbosity, name, &bytes, out, err),
         None => Ok(NO_TEXT),
     }
 }

@@ -1,7 +1,8 @@
 //! The program's arguments.
-ghost use Rattle.std.specs.Prelude.{◌≡◌, ◌≢◌, [], ◌∷◌, not, map, find, filter, option_map, string_bytes, IfOk, IfErr, IfSome, IfNone};
+ghost use Rattle.std.specs.Prelude.{codes, ◌≡◌, ◌≢◌, [], ◌∷◌, ◌++◌, not, map, find, filter, option_map, string_bytes, IfOk, IfErr, IfSome, IfNone};
 ghost use Rattle.tokens_lib.specs.Arguments.{options, names};
-ghost use Rattle.tokens_lib.specs.Command.{IsCommand, IsFilesRun, IsFilesError, IsRun, IsRunError, IsArgumentsError, has, is_known, lists, options_of, verbosity_of};
+ghost use Rattle.tokens_lib.specs.Command.{action_options, given, IsCommand, IsFilesRun, IsFilesError, IsRun, IsRunError, IsArgumentsError, has, is_known, is_of_rules, is_prefix_option, options_of, verbosity_of};
+ghost use Rattle.tokens_lib.specs.Internal.Prefixes.{HasPrefix};
 ghost use Rattle.tokens_lib.specs.declared.command.Action.{Action as AnAction};
 ghost use Rattle.tokens_lib.specs.declared.command.ArgumentsError.TheVariants.{OutOfMemory};
 
@@ -34,7 +35,7 @@ pub enum Markup {
 /// let action = Action::Cut { form: LineForm::Json, recovers: false }; // `--json`
 /// ```
 #[derive(Clone, Copy, Debug, PartialEq, Eq)]
-pub enum Action {
+pub enum Action<'words> {
     /// The texts are cut by named rules, and the lines of their pieces are written.
     Cut {
         /// What a line looks like.
@@ -55,6 +56,11 @@ pub enum Action {
     Clashes,
     /// The pairs of terminals that clash are listed.
     TerminalClashes,
+    /// The lexer of the named rules is written in C.
+    Emit {
+        /// What all its names begin with, `lex` if it isn't given.
+        prefix: Option<&'words str>,
+    },
 }
 
 /// What is said on standard error beside what is wrong.
@@ -95,7 +101,7 @@ pub enum Command<'words> {
     /// Do this by the file `rules` with each of the files, or with standard input if there are none. A file `-` is standard
     /// input.
     Run {
-        action: Action,
+        action: Action<'words>,
         /// What is said beside what is wrong.
         verbosity: Verbosity,
         rules: &'words str,
@@ -119,8 +125,8 @@ pub enum ArgumentsError<'words> {
     /// No file of rules is named.
     NoRules,
     /// Nothing is done by just these options.
-    Apart { options: Vec<&'static str> },
-    /// Clashes are listed, and no file is read.
+    Apart { options: Vec<&'words str> },
+    /// No file is read by such a command.
     NoFiles { file: &'words str },
 }
 
@@ -133,7 +139,7 @@ impl From<AllocError> for ArgumentsError<'_> {
 }
 
 // The options of actions, in the order in which specs/Command.antt has them.
-const ACTION_OPTIONS: [&str; 7] = [
+const ACTION_OPTIONS: [&str; 8] = [
     "--recover",
     "--json",
     "--html",
@@ -141,7 +147,11 @@ const ACTION_OPTIONS: [&str; 7] = [
     "--lines",
     "--places",
     "--clashes",
+    "--emit=c",
 ];
+
+// What an option that says a prefix begins with.
+const PREFIX: &str = "--prefix=";
 
 // The options that go with all others.
 const VERBOSITY_OPTIONS: [&str; 2] = ["--quiet", "--progress"];
@@ -158,10 +168,16 @@ fn has(words: &[&str], word: &str) -> bool
     false
 }
 
+fn is_prefix_option(option: &str) -> bool
+    ensures { result ≡ is_prefix_option option.now }
+{
+    option.starts_with(PREFIX)
+}
+
 fn is_known(option: &str) -> bool
     ensures { result ≡ is_known option.now }
 {
-    has(&ACTION_OPTIONS, option) || has(&VERBOSITY_OPTIONS, option)
+    has(&ACTION_OPTIONS, option) || has(&VERBOSITY_OPTIONS, option) || is_prefix_option(option)
 }
 
 // The first unknown option.
@@ -178,7 +194,7 @@ fn unknown<'words>(options: &[&'words str]) -> Option<&'words str>
 }
 
 // Those of all options that are given.
-fn given<'all>(
+fn among<'all>(
     alloc: Global,
     options: &[&str],
     all: &[&'all str],
@@ -195,16 +211,45 @@ fn given<'all>(
     Ok(found)
 }
 
-impl Action {
-    // Whether it lists clashes, for which no files are read.
-    fn lists(self) -> bool
-        ensures { result ≡ lists self }
+// The options of actions that are given.
+fn of_actions(alloc: Global, options: &[&str]) -> Result<Vec<&'static str>, AllocError>
+    ensures { IfOk result (λ found. map (λ w. w.now) found.items
+        ≡ filter (has (map (λ w. w.now) options.now)) action_options) }
+{
+    among(alloc, options, &ACTION_OPTIONS)
+}
+
+// The options of actions that are given, and then all prefixes.
+fn given<'words>(alloc: Global, options: &[&'words str]) -> Result<Vec<&'words str>, AllocError>
+    ensures { IfOk result (λ found.
+        map (λ w. w.now) found.items ≡ given (map (λ w. w.now) options.now)) }
+{
+    let of_actions = of_actions(alloc, options)?;
+    let mut found = Vec::new(alloc);
+    for known in &of_actions {
+        found.push(*known)?;
+    }
+    for option in options {
+        if is_prefix_option(option) {
+            found.push(*option)?;
+        }
+    }
+    Ok(found)
+}
+
+impl Action<'_> {
+    // Whether it is about the rules alone, so that no files are read.
+    fn is_of_rules(&self) -> bool
+        ensures { result ≡ is_of_rules self.now }
     {
-        matches!(self, Action::Clashes | Action::TerminalClashes)
+        matches!(
+            self,
+            Action::Clashes | Action::TerminalClashes | Action::Emit { .. }
+        )
     }
 }
 
-fn action_of_one(option: &str) -> Option<Action>
+fn action_of_one(option: &str) -> Option<Action<'static>>
     ensures some { IfSome result (λ action. option.now ∷ [] ≡ options_of action) }
     ensures none { IfNone result ((action : AnAction) → option.now ∷ [] ≢ options_of action) }
 {
@@ -225,14 +270,31 @@ fn action_of_one(option: &str) -> Option<Action>
         }),
         "--lines" => Some(Action::CutByTerminals { places: false }),
         "--clashes" => Some(Action::Clashes),
+        "--emit=c" => Some(Action::Emit { prefix: None }),
         _ => None,
     }
 }
 
-fn action_of_two(first: &str, second: &str) -> Option<Action>
-    ensures some { IfSome result (λ action. first.now ∷ second.now ∷ [] ≡ options_of action) }
+// The action that writes a lexer with the prefix that the option says, if it says one.
+fn emit_with(option: &str) -> Option<Action<'_>>
+    ensures some { IfSome result (λ action.
+        codes "--emit=c" ∷ option.now ∷ [] ≡ options_of action) }
     ensures none { IfNone result ((action : AnAction)
-        → first.now ∷ second.now ∷ [] ≢ options_of action) }
+        → codes "--emit=c" ∷ option.now ∷ [] ≢ options_of action) }
+{
+    match option.strip_prefix(PREFIX) {
+        Some(prefix) => Some(Action::Emit {
+            prefix: Some(prefix),
+        }),
+        None => None,
+    }
+}
+
+fn action_of_two(first: &str, second: &str) -> Option<Action<'static>>
+    ensures some { IfSome result (λ action.
+        first.now ∷ second.now ∷ [] ≡ options_of action) }
+    ensures none { IfNone result ((action : AnAction)
+        → first.now ∷ second.now ∷ [] ≡ options_of action → HasPrefix action) }
 {
     match (first, second) {
         ("--recover", "--json") => Some(Action::Cut {
@@ -245,11 +307,11 @@ fn action_of_two(first: &str, second: &str) -> Option<Action>
     }
 }
 
-// The action with just these options, in the order of the table.
-fn action_of(options: &[&str]) -> Option<Action>
+// The action with just these options, in the order of the table, if it has no prefix.
+fn plain_action_of(options: &[&str]) -> Option<Action<'static>>
     ensures some { IfSome result (λ action. map (λ w. w.now) options.now ≡ options_of action) }
     ensures none { IfNone result ((action : AnAction)
-        → map (λ w. w.now) options.now ≢ options_of action) }
+        → map (λ w. w.now) options.now ≡ options_of action → HasPrefix action) }
 {
     match options {
         [] => Some(Action::Cut {
@@ -260,6 +322,20 @@ fn action_of(options: &[&str]) -> Option<Action>
         [first, second] => action_of_two(first, second),
         _ => None,
     }
+}
+
+// The action with just these options, in the order of the table.
+fn action_of<'words>(options: &[&'words str]) -> Option<Action<'words>>
+    ensures some { IfSome result (λ action. map (λ w. w.now) options.now ≡ options_of action) }
+    ensures none { IfNone result ((action : AnAction)
+        → map (λ w. w.now) options.now ≢ options_of action) }
+{
+    if let [first, second] = options {
+        if *first == "--emit=c" {
+            return emit_with(second);
+        }
+    }
+    plain_action_of(options)
 }
 
 // What these options ask to be said.
@@ -277,16 +353,16 @@ fn verbosity_of(options: &[&str]) -> Verbosity
 
 // This action, if it reads these files.
 fn run_by<'words>(
-    action: Action,
+    action: Action<'words>,
     verbosity: Verbosity,
     rules: &'words str,
     files: Vec<&'words str>,
 ) -> Result<Command<'words>, ArgumentsError<'words>>
-    ensures command { IfOk result (IsFilesRun action verbosity rules.entry.now
+    ensures command { IfOk result (IsFilesRun action.entry verbosity rules.entry.now
         (map (λ w. w.now) files.entry.items)) }
-    ensures error { IfErr result (IsFilesError action (map (λ w. w.now) files.entry.items)) }
+    ensures error { IfErr result (IsFilesError action.entry (map (λ w. w.now) files.entry.items)) }
 {
-    if action.lists() {
+    if action.is_of_rules() {
         if let [file, ..] = files.as_slice() {
             return Err(ArgumentsError::NoFiles { file });
         }
@@ -316,7 +392,7 @@ fn rules_and_files<'words>(names: Vec<&'words str>) -> Option<(&'words str, Vec<
 // The command with a file of rules and files.
 fn command_by_rules<'words>(
     alloc: Global,
-    options: &[&str],
+    options: &[&'words str],
     names: Vec<&'words str>,
 ) -> Result<Command<'words>, ArgumentsError<'words>>
     ensures command { IfOk result (IsRun (map (λ w. w.now) options.now)
@@ -327,7 +403,7 @@ fn command_by_rules<'words>(
     let Some((rules, files)) = rules_and_files(names) else {
         return Err(ArgumentsError::NoRules);
     };
-    let of_action = given(alloc, options, &ACTION_OPTIONS)?;
+    let of_action = given(alloc, options)?;
     match action_of(&of_action) {
         Some(action) => run_by(action, verbosity_of(options), rules, files),
         None => Err(ArgumentsError::Apart { options: of_action }),
@@ -357,8 +433,9 @@ fn command_with<'words>(
     }
 }
 
-/// The command that the arguments ask for. An argument that begins with two dashes and stands before the first `--` is an
-/// option; the others are RULES and files. Options count as a set: their order, and how often they stand, don't matter.
+/// The command that the arguments ask for, in which an option and its value are one word: `--emit=c`. An argument that begins
+/// with two dashes and stands before the first `--` is an option; the others are RULES and files. The order of options, and
+/// how often each stands, don't matter, but there is at most one prefix.
 ///
 /// # Errors
 ///

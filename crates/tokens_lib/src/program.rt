@@ -9,10 +9,12 @@ ghost use Rattle.tokens_lib.specs.Progress.{reading_text};
 ghost use Rattle.tokens_lib.specs.Streams.{StreamGives, Takes};
 ghost use Rattle.tokens_lib.specs.Usage.{help, version, wrong_text};
 
+use crate::arguments::joined;
 use crate::by_rules::{lexer_by_name, list_clashes};
 use crate::by_terminals::{list_terminal_clashes, terminals_by_name};
 use crate::command::{Action, ArgumentsError, Command, Verbosity, command_of};
 use crate::cut_files::{Task, cut_all};
+use crate::emitted::{prefix_of, write_source};
 use crate::files::{ErrorStream, Files, SystemFiles, say};
 use crate::output::Output;
 use crate::progress::reading_message;
@@ -54,7 +56,7 @@ fn are_several(names: &[&str]) -> bool
 // Does an action by a file of rules on the files, or on standard input if there are none, and returns the status.
 fn run_action<F: Files, R: Read, W: Write, E: Write>(
     alloc: Global,
-    action: Action,
+    action: Action<'_>,
     verbosity: Verbosity,
     rules: &str,
     names: &[&str],
@@ -66,12 +68,12 @@ fn run_action<F: Files, R: Read, W: Write, E: Write>(
     requires out_good { out.old.failed ≡ false }
     ensures answer { IfOk result (λ status. (answer : Answer)
         × (ActionAnswer (F.gives files.now) (TextsAnswer (F.gives files.now)
-        (StreamGives R.remaining) input.old input.new verbosity) action rules.now
+        (StreamGives R.remaining) input.old input.new) verbosity action.entry rules.now
         (map (λ name. name.now) names.now) answer
         × Answered W.contents E.contents out.old out.new err.old err.new status answer)) }
     ensures good { OnOk result (out.new.failed ≡ false) }
     ensures begun { OnErr result (Begun (ActionAnswer (F.gives files.now)
-        (FirstTextsAnswer (F.gives files.now) (StreamGives R.remaining) input.old verbosity) action
+        (FirstTextsAnswer (F.gives files.now) (StreamGives R.remaining) input.old) verbosity action.entry
         rules.now (map (λ name. name.now) names.now))
         (W.contents out.old.inner) (W.contents out.new.inner)) }
     ensures memory { IfErr result (λ e. e ≡ RunError.OutOfMemory → out.new.failed ≡ false) }
@@ -82,7 +84,9 @@ fn run_action<F: Files, R: Read, W: Write, E: Write>(
     ensures no_late_message { err.new.late ≡ err.old.late }
 {
     match action {
-        Action::Cut { form, recovers } => match lexer_by_name(alloc, files, rules, err)? {
+        Action::Cut { form, recovers } => match lexer_by_name(
+            alloc, verbosity, files, rules, err,
+        )? {
             Ok(found) => {
                 let task = Task::Pieces {
                     rules: &found,
@@ -94,7 +98,7 @@ fn run_action<F: Files, R: Read, W: Write, E: Write>(
             }
             Err(status) => Ok(status),
         },
-        Action::Show { markup } => match lexer_by_name(alloc, files, rules, err)? {
+        Action::Show { markup } => match lexer_by_name(alloc, verbosity, files, rules, err)? {
             Ok(found) => {
                 let task = Task::Markup {
                     rules: &found,
@@ -114,8 +118,12 @@ fn run_action<F: Files, R: Read, W: Write, E: Write>(
             }
             Err(status) => Ok(status),
         },
-        Action::Clashes => list_clashes(alloc, files, rules, out, err),
+        Action::Clashes => list_clashes(alloc, verbosity, files, rules, out, err),
         Action::TerminalClashes => list_terminal_clashes(alloc, files, rules, out, err),
+        Action::Emit { prefix } => match lexer_by_name(alloc, verbosity, files, rules, err)? {
+            Ok(found) => write_source(alloc, rules, &found.lexer, prefix_of(prefix), out, err),
+            Err(status) => Ok(status),
+        },
     }
 }
 
@@ -205,9 +213,10 @@ fn refuse<E: Write>(
 /// Does what the arguments say (`command_of`): writes what was asked of the program itself; cuts the files, or standard input
 /// if none is named, by the file of rules that is named first, and writes the lines of `write_items` or, by terminals, of
 /// `write_tokens`, or the markup of each text, to `out`; or lists all clashes of the rules (`write_rule_clashes`) or terminals
-/// (`write_clashes`). A file `-` is standard input: it is read to its end where it stands, and a later `-` reads what is left.
-/// After a read that failed it isn't read again. What is wrong is explained on `err`; if a write there fails, nothing more is
-/// said, and the run goes on.
+/// (`write_clashes`); or writes the lexer of the rules in C (`lalrpop_emit::c_source`). A file `-` is standard input: it is read
+/// to its end where it stands, and a later `-` reads what is left. After a read that failed it isn't read again. What is wrong is
+/// explained on `err`, behind the warnings about a file of named rules (`warnings_message`), which `--quiet` leaves out; if a write
+/// there fails, nothing more is said, and the run goes on.
 ///
 /// The exit status is 0 if each text was cut to its end, has no fault and ends in a mode with none below it, or no rules clash,
 /// 1 if a text has a fault or ends in another mode, 2 if rules can't be compiled or clash, 3 if a line of the rules is bad or
@@ -246,7 +255,10 @@ pub fn run<F: Files, R: Read, W: Write, E: Write>(
     ensures no_late_write { out.new.late ≡ out.old.late }
     ensures no_late_message { err.new.late ≡ err.old.late }
 {
-    match command_of(alloc, words) {
+    let Ok(words) = joined(alloc, words) else {
+        return Err(RunError::OutOfMemory);
+    };
+    match command_of(alloc, &words) {
         Ok(command) => run_command(alloc, &command, files, input, out, err),
         Err(error) => refuse(alloc, &error, err),
     }

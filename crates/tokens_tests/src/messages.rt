@@ -3,7 +3,7 @@
 use std::alloc::Global;
 use tokens_lib::{
     BuildError, ModeFile, ModeLexer, bad_line_message, lexer_of, read_rules, rules_message,
-    terminals_message,
+    terminals_message, warnings_message,
 };
 
 // What is said of a file of named rules; `None` if there is nothing to say.
@@ -84,5 +84,33 @@ fn errors_of_terminals_are_said(rt: HostRuntime) {
     ];
     for (bytes, said) in rows {
         assert!(rt; says_of_terminals(rt.alloc(), *bytes, *said));
+    }
+}
+
+fn says_warnings(alloc: Global, bytes: &[u8], wanted: &str) -> bool {
+    let Ok(file) = read_rules(alloc, bytes) else {
+        return false;
+    };
+    match warnings_message(alloc, "f", &file) {
+        Ok(said) => said.as_str() == wanted,
+        Err(_) => false,
+    }
+}
+
+#[test]
+fn warnings_of_rules_are_said(rt: HostRuntime) {
+    let rows: &[(&[u8], &str)] = &[
+        (b"D part = /[0-9]/\nE part = /{D}+/\nA = /{E}/\n", ""),
+        (
+            b"",
+            "tokens: f: warning: there is no rule in this file: a rule is a line NAME = 'TEXT' or NAME = /PATTERN/\n",
+        ),
+        (
+            b"A = /{D}/\n  D part = /[0-9]/\n[M]\nB = ''\n",
+            "tokens: f:2:3: warning: no pattern below uses the part {D}\ntokens: f: warning: no rule enters the mode M\ntokens: f:4:6: warning: this literal is empty, and no token is\n",
+        ),
+    ];
+    for (bytes, said) in rows {
+        assert!(rt; says_warnings(rt.alloc(), *bytes, *said));
     }
 }

@@ -15,7 +15,21 @@ struct Named {
 }
 
 const FILES: Named = Named {
-    files: &[("r", RULES), ("f", b"if a"), ("g", b"x"), ("bad", b"x!")],
+    files: &[
+        ("r", RULES),
+        ("f", b"if a"),
+        ("g", b"x"),
+        ("bad", b"x!"),
+        ("none.rules", b"# nothing yet\n"),
+        ("part.rules", b"WORD = /[a-z]+/\n  D part = /[0-9]/\n"),
+        ("mode.rules", b"WORD = /[a-z]+/\n[TEXT]\nB = 'b'\n"),
+        ("empty.rules", b"WORD = /[a-z]+/\nB = \"\"\nC =  2 ''\n"),
+        ("bad.rules", b"D part = /[0-9]/\nA =\n"),
+        (
+            "refused.rules",
+            b"\xef\xbb\xbfD part = /[0-9]/\nA = /a/\nB = /a/\n[M N]\nC pop = anycase ''\n",
+        ),
+    ],
 };
 
 impl Files for Named {
@@ -147,6 +161,101 @@ fn progress_is_said(rt: HostRuntime) {
             b"",
             b"tokens: reading none\ntokens: none: not found\n",
             6,
+        ),
+    ];
+    for (words, out, err, status) in rows {
+        assert!(rt; is_answer(rt.alloc(), *words, &b"in"[..], (*out, *err, *status)));
+    }
+}
+
+const NO_RULE: &[u8] =
+    b"tokens: none.rules: warning: there is no rule in this file: a rule is a line NAME = 'TEXT' or NAME = /PATTERN/\ntokens: g:1:1: no rule matches \"x\"\n";
+
+#[test]
+fn warnings_are_said(rt: HostRuntime) {
+    let rows: &[(&[&str], &[u8], &[u8], u8)] = &[
+        (&["none.rules", "g"], b"", NO_RULE, 1),
+        (
+            &["part.rules", "g"],
+            b"1:1 WORD \"x\"\n",
+            b"tokens: part.rules:2:3: warning: no pattern below uses the part {D}\n",
+            0,
+        ),
+        (
+            &["--html", "mode.rules", "g"],
+            b"<span class=\"WORD\">x</span>",
+            b"tokens: mode.rules: warning: no rule enters the mode TEXT\n",
+            0,
+        ),
+        (
+            &["empty.rules", "g"],
+            b"1:1 WORD \"x\"\n",
+            b"tokens: empty.rules:2:6: warning: this literal is empty, and no token is\ntokens: empty.rules:3:9: warning: this literal is empty, and no token is\n",
+            0,
+        ),
+        (
+            &["--progress", "part.rules", "g", "-"],
+            b"g:1:1 WORD \"x\"\n<stdin>:1:1 WORD \"in\"\n",
+            b"tokens: reading part.rules\ntokens: part.rules:2:3: warning: no pattern below uses the part {D}\ntokens: g (1 of 2)\ntokens: <stdin> (2 of 2)\n",
+            0,
+        ),
+    ];
+    for (words, out, err, status) in rows {
+        assert!(rt; is_answer(rt.alloc(), *words, &b"in"[..], (*out, *err, *status)));
+    }
+}
+
+const FOUR: &[u8] =
+    b"tokens: refused.rules:1:1: warning: no pattern below uses the part {D}\ntokens: refused.rules: warning: no rule enters the mode M\ntokens: refused.rules: warning: no rule enters the mode N\ntokens: refused.rules:5:18: warning: this literal is empty, and no token is\n";
+
+#[test]
+fn warnings_stand_before_the_answer(rt: HostRuntime) {
+    let rows: &[(&[&str], &[u8], &[u8], u8)] = &[
+        (
+            &["--clashes", "refused.rules"],
+            b"INITIAL A B \"a\"\n",
+            FOUR,
+            2,
+        ),
+        (
+            &["bad.rules", "g"],
+            b"",
+            b"tokens: bad.rules:2:4: a text is missing: 'LITERAL', \"LITERAL\", anycase 'LITERAL', /PATTERN/ or from 'A' to 'B'\n    A =\n       ^\n",
+            3,
+        ),
+    ];
+    for (words, out, err, status) in rows {
+        assert!(rt; is_answer(rt.alloc(), *words, &b"in"[..], (*out, *err, *status)));
+    }
+}
+
+#[test]
+fn no_warning_is_said_with_quiet(rt: HostRuntime) {
+    let rows: &[(&[&str], &[u8], &[u8], u8)] = &[
+        (
+            &["--quiet", "none.rules", "g"],
+            b"",
+            b"tokens: g:1:1: no rule matches \"x\"\n",
+            1,
+        ),
+        (
+            &["part.rules", "g", "--quiet", "--progress"],
+            b"1:1 WORD \"x\"\n",
+            b"",
+            0,
+        ),
+        (&["--quiet", "mode.rules", "g"], b"1:1 WORD \"x\"\n", b"", 0),
+        (
+            &["--quiet", "empty.rules", "g"],
+            b"1:1 WORD \"x\"\n",
+            b"",
+            0,
+        ),
+        (
+            &["--quiet", "--clashes", "refused.rules"],
+            b"INITIAL A B \"a\"\n",
+            b"",
+            2,
         ),
     ];
     for (words, out, err, status) in rows {

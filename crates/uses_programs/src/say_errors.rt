@@ -1,16 +1,17 @@
 //! What the program says of files that give no lexer, said by a program of one's own.
-ghost use Rattle.std.specs.Prelude.{◌≡◌, ℕ, List, codes, length, string_bytes, IfOk, IfSome};
+ghost use Rattle.std.specs.Prelude.{◌≡◌, ℕ, List, [], codes, length, string_bytes, IfOk, IfSome};
 ghost use Rattle.lalrpop_lexer.specs.Lines.{lines};
 ghost use Rattle.lexdfa_lib.specs.Answer.{IsReported};
 ghost use Rattle.tokens_lib.specs.Answer.{headed};
 ghost use Rattle.tokens_lib.specs.Reasons.{SaysBadLine, SaysTerminals, place_at, placed, refusal_text};
+ghost use Rattle.tokens_lib.specs.Warned.{AreWarnings};
 
 use lalrpop_lexer::lexer::nfa::NfaConstructionError;
 use lexdfa_lib::Outcome;
 use std::alloc::{AllocError, Global};
 use tokens_lib::{
     ModeFile, ModesError, RuleFile, RuleFileError, bad_line_message, rules_message,
-    terminals_message,
+    terminals_message, warnings_message,
 };
 
 // Needs tokens_lib::bad_line_message: message.
@@ -45,6 +46,15 @@ pub fn said_of_a_rule(
         file,
         &ModesError::NotCompiled { rule, error },
     )
+}
+
+// Nothing is said of a file that means all that it says.
+// Needs tokens_lib::warnings_message: message.
+pub fn said_of_what_is_meant(alloc: Global, file: &RuleFile<'_>) -> Result<String, AllocError>
+    requires no_warning { AreWarnings file.now [] }
+    ensures said { IfOk result (λ message. string_bytes message ≡ []) }
+{
+    warnings_message(alloc, "f", file)
 }
 
 // Needs tokens_lib::terminals_message: message.

@@ -1,6 +1,6 @@
 -- Cases of specs/Arguments.antt.
 use Rattle.std.proofs.Common.{◌≡◌, true, false, [], ◌∷◌, codes, refl}
-use Rattle.tokens_lib.specs.Arguments.{is_end, is_option, options, names}
+use Rattle.tokens_lib.specs.Arguments.{is_end, is_option, joined, options, names}
 
 -- two dashes end the options, and nothing else does
 ends : (is_end (codes "--") ≡ true) × (is_end (codes "---") ≡ false) × (is_end (codes "-") ≡ false)
@@ -16,6 +16,15 @@ mixed = (refl, refl)
 -- behind `--` all are names, a second `--` too
 behind : (options (codes "--json" ∷ codes "--" ∷ codes "--html" ∷ []) ≡ codes "--json" ∷ []) × (names (codes "r" ∷ codes "--" ∷ codes "--html" ∷ codes "--" ∷ []) ≡ codes "r" ∷ codes "--html" ∷ codes "--" ∷ [])
 behind = (refl, refl)
+
+-- an option and its value are one word, also where the value looks like an option; behind `--` words stay apart
+values : (joined (codes "--emit" ∷ codes "c" ∷ codes "r" ∷ []) ≡ codes "--emit=c" ∷ codes "r" ∷ []) × (joined (codes "r" ∷ codes "--prefix" ∷ codes "--" ∷ []) ≡ codes "r" ∷ codes "--prefix=--" ∷ [])
+    × (joined (codes "--" ∷ codes "--emit" ∷ codes "c" ∷ []) ≡ codes "--" ∷ codes "--emit" ∷ codes "c" ∷ [])
+values = (refl, refl, refl)
+
+-- a value that is missing, and options without one
+no_values : (joined (codes "r" ∷ codes "--emit" ∷ []) ≡ codes "r" ∷ codes "--emit" ∷ []) × (joined (codes "--json" ∷ codes "r" ∷ []) ≡ codes "--json" ∷ codes "r" ∷ [])
+no_values = (refl, refl)
 
 no_words : (options [] ≡ []) × (names [] ≡ [])
 no_words = (refl, refl)

@@ -3,7 +3,7 @@ use Rattle.std.proofs.Common.{◌≡◌, ◌≢◌, true, false, [], ◌∷◌, 
 use Rattle.std.specs.Prelude.{Some, None}
 use Rattle.tokens_lib.specs.Command.{given, unknown, options_of, verbosity_of, IsFilesError, IsCommand, IsArgumentsError}
 use Rattle.tokens_lib.specs.declared.command.Action.{Action}
-use Rattle.tokens_lib.specs.declared.command.Action.TheVariants.{Cut, Show, CutByTerminals, Clashes, TerminalClashes}
+use Rattle.tokens_lib.specs.declared.command.Action.TheVariants.{Cut, Show, CutByTerminals, Clashes, TerminalClashes, Emit}
 use Rattle.tokens_lib.specs.declared.command.ArgumentsError.TheVariants.{NoRules, NoFiles}
 use Rattle.tokens_lib.specs.declared.command.Command.TheVariants.{Help, Version}
 use Rattle.tokens_lib.specs.declared.command.Markup.TheVariants.{Html, Ansi}
@@ -37,6 +37,29 @@ places_alone (CutByTerminals false) e = absurd (cc)
 places_alone (CutByTerminals true) e = absurd (cc)
 places_alone Clashes e = absurd (cc)
 places_alone TerminalClashes e = absurd (cc)
+places_alone (Emit None) e = absurd (cc)
+places_alone (Emit (Some prefix)) e = absurd (cc)
+
+-- a lexer in C, with a prefix or without; two prefixes are no action's, and a prefix is none's alone
+emits : (given (codes "--emit=c" ∷ []) ≡ options_of (Emit None)) × (given (codes "--prefix=p" ∷ codes "--emit=c" ∷ []) ≡ options_of (Emit (Some (record { ref_ptr = (0, 0); now = codes "p" }))))
+emits = (refl, refl)
+
+two_prefixes : (action : Action) → given (codes "--emit=c" ∷ codes "--prefix=p" ∷ codes "--prefix=q" ∷ []) ≢ options_of action
+two_prefixes (Cut Plain false) e = absurd (cc)
+two_prefixes (Cut Plain true) e = absurd (cc)
+two_prefixes (Cut Json false) e = absurd (cc)
+two_prefixes (Cut Json true) e = absurd (cc)
+two_prefixes (Show Html) e = absurd (cc)
+two_prefixes (Show Ansi) e = absurd (cc)
+two_prefixes (CutByTerminals false) e = absurd (cc)
+two_prefixes (CutByTerminals true) e = absurd (cc)
+two_prefixes Clashes e = absurd (cc)
+two_prefixes TerminalClashes e = absurd (cc)
+two_prefixes (Emit None) e = absurd (cc)
+two_prefixes (Emit (Some prefix)) e = absurd (cc)
+
+unknown_language : unknown (codes "--prefix=p" ∷ codes "--emit=rust" ∷ []) ≡ Some (codes "--emit=rust")
+unknown_language = refl
 
 -- help wins over the version, an unknown option and missing rules
 help_wins : (IsCommand (codes "--jsn" ∷ codes "--version" ∷ codes "--help" ∷ []) [] Help) × (¬ IsCommand (codes "--version" ∷ codes "--help" ∷ []) [] Version) × (¬ IsArgumentsError (codes "--help" ∷ []) [] NoRules)
@@ -45,6 +68,6 @@ help_wins = (refl, (λ h. absurd (cc (h.0))), (λ h. absurd (cc (h.0.0))))
 version_alone : IsCommand (codes "--version" ∷ []) [] Version
 version_alone = (refl, refl)
 
--- no file is read where clashes are listed
-no_files : IsFilesError Clashes (codes "f" ∷ []) (NoFiles (record { ref_ptr = (0, 0); now = codes "f" })) × (¬ IsFilesError (Show Html) (codes "f" ∷ []) (NoFiles (record { ref_ptr = (0, 0); now = codes "f" })))
-no_files = ((refl, ([], refl)), λ h. absurd (cc (h.0)))
+-- no file is read where clashes are listed or a lexer is written
+no_files : IsFilesError Clashes (codes "f" ∷ []) (NoFiles (record { ref_ptr = (0, 0); now = codes "f" })) × IsFilesError (Emit None) (codes "f" ∷ []) (NoFiles (record { ref_ptr = (0, 0); now = codes "f" })) × (¬ IsFilesError (Show Html) (codes "f" ∷ []) (NoFiles (record { ref_ptr = (0, 0); now = codes "f" })))
+no_files = ((refl, ([], refl)), (refl, ([], refl)), λ h. absurd (cc (h.0)))

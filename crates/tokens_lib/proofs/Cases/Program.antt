@@ -1,6 +1,6 @@
 -- Cases of specs/Program.antt.
-use Rattle.std.proofs.Common.{◌≡◌, ◌≢◌, ℕ, false, inl, List, [], ◌∷◌, Some, None, codes, get_or, map, refl, ap, arith, Vec, Bor, Global}
-use Rattle.std.specs.Prelude.{Err}
+use Rattle.std.proofs.Common.{◌≡◌, ◌≢◌, ℕ, false, inl, List, [], ◌∷◌, Some, None, codes, get_or, map, refl, ap, arith, Vec, Bor, Global, ◌++◌, ◌∙◌}
+use Rattle.std.specs.Prelude.{Err, max}
 use Rattle.lalrpop_book.specs.Clashes.{Entry}
 use Rattle.lalrpop_book.specs.declared.error.NfaConstructionError.TheVariants.{LookAround}
 use Rattle.lalrpop_modes.specs.declared.error.ModesError.TheVariants.{NotCompiled, OutOfMemory}
@@ -12,13 +12,14 @@ use Rattle.lexdfa_lib.specs.declared.error.RunError.TheVariants.{Read, Write}
 use Rattle.lexdfa_lib.specs.declared.outcome.Outcome.TheVariants.{Ambiguous, Line}
 use Rattle.tokens_lib.specs.Answer.{Answer, refusal, about}
 use Rattle.tokens_lib.specs.Command.{IsCommand}
-use Rattle.tokens_lib.specs.Program.{rules_status, AreFileRules, ErrorAnswer, clashes_status, reported_status, IsListing, failure_text, information, IsFirstAnswer}
+use Rattle.tokens_lib.specs.Program.{rules_status, AreFileRules, ErrorAnswer, clashes_status, reported_status, IsListing, failure_text, information, IsFirstAnswer, WarnedAnswer}
 use Rattle.tokens_lib.specs.Streams.{Given}
 use Rattle.tokens_lib.specs.declared.command.Command.{Command}
 use Rattle.tokens_lib.specs.Usage.{help}
 use Rattle.tokens_lib.specs.declared.command.Action.TheVariants.{Cut}
 use Rattle.tokens_lib.specs.declared.command.Command.TheVariants.{Help, Version, Run}
-use Rattle.tokens_lib.specs.declared.command.Verbosity.TheVariants.{Progress}
+use Rattle.tokens_lib.specs.declared.command.Verbosity.{Verbosity}
+use Rattle.tokens_lib.specs.declared.command.Verbosity.TheVariants.{Quiet, Progress}
 use Rattle.tokens_lib.specs.declared.layout.LineForm.TheVariants.{Plain}
 
 -- a rule that can't be compiled
@@ -80,3 +81,16 @@ no_command (Run action verbosity rules files) is = let e = is.1.1.1.1.1.1.0 in a
 
 nothing_asked : (Gives : List ℕ → Given → Type 0) (InputGives : ℕ → ℕ → Given → Type 0) (answer : Answer) → ¬ IsFirstAnswer Gives InputGives 0 [] answer
 nothing_asked Gives InputGives answer (command, (is, done)) = no_command command is
+
+-- a warning changes neither the status nor what is written
+only_said : (verbosity : Verbosity) (Is : Answer → Type 0) (file : List ℕ) (ls : List (List ℕ)) (answer : Answer) → WarnedAnswer verbosity Is file ls answer
+    → (own : Answer) × (Is own × ((answer.status ≡ own.status) × (answer.out ≡ own.out)))
+only_said verbosity Is file ls answer (said, (warned, (own, (is, e)))) =
+    let status : answer.status ≡ max 0 own.status = ap (λ (a : Answer). a.status) e in
+    (own, (is, (omega (arith, status), ap (λ (a : Answer). a.out) e)))
+
+-- and with --quiet nothing is said before the answer
+quiet_is_as_before : (Is : Answer → Type 0) (file : List ℕ) (ls : List (List ℕ)) (answer : Answer) → WarnedAnswer Quiet Is file ls answer
+    → (own : Answer) × (Is own × (answer.err ≡ own.err))
+quiet_is_as_before Is file ls answer (said, ((rules, (are, none)), (own, (is, e)))) =
+    (own, (is, ap (λ (a : Answer). a.err) e ∙ ap (λ (bytes : List ℕ). bytes ++ own.err) none))

@@ -1,4 +1,4 @@
-use Rattle.std.proofs.Common.{ℕ, List, inr, length, map, sym, ap, subst}
+use Rattle.std.proofs.Common.{ℕ, List, length, map, sym, ap, subst}
 use Rattle.std.specs.Prelude.{Result, Ok, Err, IfOk, IfErr}
 use Rattle.lalrpop_lexer.specs.Lines.{lines}
 use Rattle.lalrpop_rule_file.specs.RuleFile.{without_mark}
@@ -19,7 +19,7 @@ returns-in-Ok-clause-refused g c =
     let say : SayRules (lines (without_mark c.args.bytes.now)) modes rs =
     (c.args.file.now.rules.items, (c.args.file.now.parts.items, (rw c.in-Ok.ensures.modes c.requires.rules, (c.requires.parts, c.in-Ok.ensures.rules)))) in
     in_both c.lexer_of_file.result
-    (λ status x. (x.0, (inr (modes, (rs, (say, subst (λ (l : List (List ℕ)). RulesRefused c.args.name.now l modes rs x.0) ls x.1.0))), x.1.1)))
+    (λ status x. (x.0, ((modes, (rs, (say, subst (λ (l : List (List ℕ)). RulesRefused c.args.name.now l modes rs x.0) ls x.1.0))), x.1.1)))
     c.lexer_of_file.ensures.refused
 
 in_found : {A B E : Type 0} (r : Result (Result A B) E) {P Q R : A → Type 0} → ((a : A) → P a → Q a → R a) → IfOk r (λ found. IfOk found P) → IfOk r (λ found. IfOk found Q)

@@ -1,4 +1,4 @@
-use Rattle.std.proofs.Common.{ℕ, List, inr, length, map, ap, subst}
+use Rattle.std.proofs.Common.{ℕ, List, length, map, ap, subst}
 use Rattle.std.proofs.lemmas.Result.{IfOk-weaker, on_err_weaker}
 use Rattle.lalrpop_lexer.specs.Lines.{lines}
 use Rattle.lalrpop_rule_file.specs.RuleFile.{without_mark}
@@ -15,7 +15,7 @@ returns-in-Ok-clause-answer g c =
     let say : SayRules (lines (without_mark c.args.bytes.now)) modes rs =
     (c.args.file.now.rules.items, (c.args.file.now.parts.items, (rw c.in-Ok.ensures.modes c.requires.rules, (c.requires.parts, c.in-Ok.ensures.rules)))) in
     IfOk-weaker c.list_clashes_of.result _ _
-    (λ status x. (x.0, (inr (modes, (rs, (say, subst (λ (l : List (List ℕ)). ClashesAnswer c.args.name.now l modes rs x.0) ls x.1.0))), x.1.1)))
+    (λ status x. (x.0, ((modes, (rs, (say, subst (λ (l : List (List ℕ)). ClashesAnswer c.args.name.now l modes rs x.0) ls x.1.0))), x.1.1)))
     c.list_clashes_of.ensures.answer
 
 pub returns-in-Ok-clause-begun : goal.returns-in-Ok-clause-begun
@@ -26,7 +26,7 @@ returns-in-Ok-clause-begun g c =
     let say : SayRules (lines (without_mark c.args.bytes.now)) modes rs =
     (c.args.file.now.rules.items, (c.args.file.now.parts.items, (rw c.in-Ok.ensures.modes c.requires.rules, (c.requires.parts, c.in-Ok.ensures.rules)))) in
     on_err_weaker c.list_clashes_of.result
-    (Begun-weaker _ _ _ _ (λ answer is. inr (modes, (rs, (say, subst (λ (l : List (List ℕ)). ClashesAnswer c.args.name.now l modes rs answer) ls is)))))
+    (Begun-weaker _ _ _ _ (λ answer is. (modes, (rs, (say, subst (λ (l : List (List ℕ)). ClashesAnswer c.args.name.now l modes rs answer) ls is)))))
     c.list_clashes_of.ensures.begun
 
 pub list_clashes_of-requires : goal.list_clashes_of-requires

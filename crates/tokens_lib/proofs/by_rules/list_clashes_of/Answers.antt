@@ -1,4 +1,4 @@
-use Rattle.std.proofs.Common.{◌≡◌, ℕ, [], inl, inr, length, map, refl, sym, subst, ◌∙◌}
+use Rattle.std.proofs.Common.{ℕ, [], inl, inr, length, map, refl, sym, subst, ◌∙◌}
 use Rattle.std.proofs.lemmas.List.{length-map}
 use Rattle.std.proofs.lemmas.Result.{IfOk-weaker}
 use Rattle.lalrpop_modes.specs.ModeClashes.{AreModeClashes, IsModesFault}

@@ -12,4 +12,4 @@ first xs d l = at_drop_more (map text) xs 0 d l
 pub returns-in-len1-up-clause-error : goal.returns-in-len1-up-clause-error
 returns-in-len1-up-clause-error c =
     let some : 0 < length c.as_slice.result.now = omega (arith, c.in-len1-up.len_at_least) in
-    (sym c.lists.ensures ∙ c.if-lists.true, (_, ap (map text) (sym c.as_slice.ensures.value) ∙ first c.as_slice.result.now (record { ref_ptr = (0, 0); now = [] }) some))
+    (sym c.is_of_rules.ensures ∙ c.if-is_of_rules.true, (_, ap (map text) (sym c.as_slice.ensures.value) ∙ first c.as_slice.result.now (record { ref_ptr = (0, 0); now = [] }) some))

@@ -1,4 +1,4 @@
-use Rattle.std.proofs.Common.{List, ◌++◌, ◌∙◌, ℕ, ap, codes}
+use Rattle.std.proofs.Common.{◌++◌, ◌∙◌, ap, codes}
 use Rattle.lalrpop_lexer.specs.declared.position.Position.{Position}
 use Rattle.lines_lib.specs.TokenLines.{place_in}
 use Rattle.tokens_lib.proofs.Pushes.{four_pushed}

@@ -1,10 +1,10 @@
 use Rattle.std.proofs.Common.{[], ◌∷◌, ◌++◌, refl, sym, ◌∙◌, arith, rules}
 use Rattle.std.specs.Prelude.{Some}
 use Rattle.lexdfa_lib.proofs.Known.{Appends-again}
-use Rattle.lines_lib.proofs.Sending.{Appends-none, boundary_of, at_any_error, where_it_is_ok}
+use Rattle.lines_lib.proofs.Sending.{Appends-none, at_any_error, where_it_is_ok}
 use Rattle.tokens_lib.specs.ItemLines.{item_line, item_lines}
 use Rattle.tokens_lib.specs.Internal.CutTexts.{GivesNext}
-use Rattle.tokens_lib.proofs.CutLaws.{IsCutInto, into_none, into_more, nothing_left, stack_after, end_is, starts_here, rest_behind, boundary_here, fits_in, less_left}
+use Rattle.tokens_lib.proofs.CutLaws.{into_none, into_more, nothing_left, stack_after, end_is, starts_here, rest_behind, less_left}
 use Rattle.tokens_lib.proofs.PieceLines.{cut_to_end, item_lines_later}
 use Rattle.tokens_lib.proofs.ItemSending.{sent_nothing, sent_so_far, sent_in_part, sent_whole, line_of, lines_with, kept_on, kept_all, up_to_it}
 use Rattle.tokens_lib.proofs.item_lines.write_items.Goals as goal

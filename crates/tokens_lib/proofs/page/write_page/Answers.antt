@@ -1,4 +1,4 @@
-use Rattle.std.proofs.Common.{[], ◌∷◌, ◌++◌, ◌∙◌, true, refl, sym, rules}
+use Rattle.std.proofs.Common.{[], ◌∷◌, ◌++◌, ◌∙◌, true, refl, rules}
 use Rattle.std.specs.Prelude.{Some}
 use Rattle.lalrpop_modes.specs.Stack.{start as first_stack}
 use Rattle.lexdfa_lib.proofs.Known.{Appends-again}

@@ -1,4 +1,4 @@
-use Rattle.std.proofs.Common.{◌≡◌, ℕ, ◌-◌, false, length, List, ◌++◌, map, string_bytes}
+use Rattle.std.proofs.Common.{◌≡◌, ℕ, ◌-◌, false, length, List, ◌++◌, string_bytes}
 use Rattle.std.specs.Io.KnownBytes.{Appends}
 use Rattle.lalrpop_rules.specs.declared.item.Item.{Item}
 use Rattle.tokens_lib.specs.PageWritten.{page_of}

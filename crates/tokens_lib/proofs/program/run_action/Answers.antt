@@ -1,6 +1,7 @@
 use Rattle.std.proofs.Common.{ℕ, Bool, List, length, map, string_bytes, subst, Bor}
 use Rattle.std.specs.Prelude.{nat_lt, IfOk, OnErr}
 use Rattle.tokens_lib.specs.Answer.{Answer, Answered, Begun, TextsAnswer, FirstTextsAnswer}
+use Rattle.tokens_lib.specs.Emitted.{SourceAnswer, prefix_of}
 use Rattle.tokens_lib.specs.Streams.{StreamGives}
 use Rattle.tokens_lib.specs.TextAnswer.{TokensAnswer, PiecesAnswer, PageAnswer}
 use Rattle.tokens_lib.proofs.AnswerLaws.{Answered-refused}
@@ -17,10 +18,10 @@ pub returns-in-Ok-clause-answer : goal.returns-in-Ok-clause-answer
 returns-in-Ok-clause-answer g c =
     let names = map text c.args.names.now in
     rw c.in-Cut.is
-    (lexer_answered c.cut_all.result (g.F.Files.gives c.args.files.now)
+    (lexer_answered c.cut_all.result c.args.verbosity (g.F.Files.gives c.args.files.now)
     (λ set modes. TextsAnswer (g.F.Files.gives c.args.files.now) (StreamGives g.R.Read.remaining) c.args.input.now c.cut_all.new.input c.args.verbosity (PiecesAnswer set modes c.in-Cut.form c.in-Cut.recovers (nat_lt 1 (length names))) names)
     c.args.rules.now c.in-Ok.found.lexer (map string_bytes c.in-Ok.found.modes.items) g.W.Write.contents g.E.Write.contents c.args.out.now c.cut_all.new.out c.args.err.now c.lexer_by_name.new.err c.cut_all.new.err
-    (rw c.in-Ok.is at c.in_ok-found-in-Cut.ensures.lexer) (rw c.in-Ok.is at c.in_ok-found-in-Cut.ensures.quiet)
+    (rw c.in-Ok.is at c.in_ok-found-in-Cut.ensures.lexer)
     (subst
     (λ (several : Bool).
     IfOk c.cut_all.result (λ status. (answer : Answer) × (TextsAnswer (g.F.Files.gives c.args.files.now) (StreamGives g.R.Read.remaining) c.args.input.now c.cut_all.new.input c.args.verbosity (PiecesAnswer c.in-Ok.found.lexer (map string_bytes c.in-Ok.found.modes.items) c.in-Cut.form c.in-Cut.recovers several) names answer
@@ -34,7 +35,7 @@ returns-in-Err-clause-answer g c =
     rw c.in-Cut.is (
       refused.0,
       (
-        rules_refused (g.F.Files.gives c.args.files.now)
+        rules_refused c.args.verbosity (g.F.Files.gives c.args.files.now)
             (λ set modes. TextsAnswer (g.F.Files.gives c.args.files.now) (StreamGives g.R.Read.remaining) c.args.input.now c.args.input.now c.args.verbosity (PiecesAnswer set modes c.in-Cut.form c.in-Cut.recovers (nat_lt 1 (length names))) names)
             c.args.rules.now refused.0 refused.1.0,
         Answered-refused g.W.Write.contents g.E.Write.contents c.args.out.now c.args.err.now c.lexer_by_name.new.err c.in-Err.status refused.0 refused.1.1,
@@ -47,10 +48,10 @@ pub returns-in-Ok-2-clause-answer : goal.returns-in-Ok-2-clause-answer
 returns-in-Ok-2-clause-answer g c =
     let names = map text c.args.names.now in
     rw c.in-Show.is
-    (lexer_answered c.cut_all-in-Ok-2.result (g.F.Files.gives c.args.files.now)
+    (lexer_answered c.cut_all-in-Ok-2.result c.args.verbosity (g.F.Files.gives c.args.files.now)
     (λ set modes. TextsAnswer (g.F.Files.gives c.args.files.now) (StreamGives g.R.Read.remaining) c.args.input.now c.cut_all-in-Ok-2.new.input c.args.verbosity (PageAnswer set modes c.in-Show.markup) names)
     c.args.rules.now c.in-Ok-2.found.lexer (map string_bytes c.in-Ok-2.found.modes.items) g.W.Write.contents g.E.Write.contents c.args.out.now c.cut_all-in-Ok-2.new.out c.args.err.now c.lexer_by_name-in-Show.new.err c.cut_all-in-Ok-2.new.err
-    (rw c.in-Ok-2.is at c.in_ok-found-in-Show.ensures.lexer) (rw c.in-Ok-2.is at c.in_ok-found-in-Show.ensures.quiet) c.cut_all-in-Ok-2.ensures.answer)
+    (rw c.in-Ok-2.is at c.in_ok-found-in-Show.ensures.lexer) c.cut_all-in-Ok-2.ensures.answer)
 
 pub returns-in-Err-2-clause-answer : goal.returns-in-Err-2-clause-answer
 returns-in-Err-2-clause-answer g c =
@@ -59,7 +60,7 @@ returns-in-Err-2-clause-answer g c =
     rw c.in-Show.is (
       refused.0,
       (
-        rules_refused (g.F.Files.gives c.args.files.now)
+        rules_refused c.args.verbosity (g.F.Files.gives c.args.files.now)
             (λ set modes. TextsAnswer (g.F.Files.gives c.args.files.now) (StreamGives g.R.Read.remaining) c.args.input.now c.args.input.now c.args.verbosity (PageAnswer set modes c.in-Show.markup) names)
             c.args.rules.now refused.0 refused.1.0,
         Answered-refused g.W.Write.contents g.E.Write.contents c.args.out.now c.args.err.now c.lexer_by_name-in-Show.new.err c.in-Err-2.status refused.0 refused.1.1,
@@ -84,9 +85,9 @@ pub returns-in-Ok-clause-begun : goal.returns-in-Ok-clause-begun
 returns-in-Ok-clause-begun g c =
     let names = map text c.args.names.now in
     rw c.in-Cut.is
-    (lexer_begun c.cut_all.result (g.F.Files.gives c.args.files.now)
+    (lexer_begun c.cut_all.result c.args.verbosity (g.F.Files.gives c.args.files.now)
     (λ set modes. FirstTextsAnswer (g.F.Files.gives c.args.files.now) (StreamGives g.R.Read.remaining) c.args.input.now c.args.verbosity (PiecesAnswer set modes c.in-Cut.form c.in-Cut.recovers (nat_lt 1 (length names))) names)
-    c.args.rules.now c.in-Ok.found.lexer (map string_bytes c.in-Ok.found.modes.items) (g.W.Write.contents c.args.out.now.inner) (g.W.Write.contents c.cut_all.new.out.inner) (rw c.in-Ok.is at c.in_ok-found-in-Cut.ensures.lexer)
+    c.args.rules.now c.in-Ok.found.lexer (map string_bytes c.in-Ok.found.modes.items) g.E.Write.contents c.args.err.now c.lexer_by_name.new.err (g.W.Write.contents c.args.out.now.inner) (g.W.Write.contents c.cut_all.new.out.inner) (rw c.in-Ok.is at c.in_ok-found-in-Cut.ensures.lexer)
     (subst
     (λ (several : Bool).
     OnErr c.cut_all.result (Begun (FirstTextsAnswer (g.F.Files.gives c.args.files.now) (StreamGives g.R.Read.remaining) c.args.input.now c.args.verbosity (PiecesAnswer c.in-Ok.found.lexer (map string_bytes c.in-Ok.found.modes.items) c.in-Cut.form c.in-Cut.recovers several) names)
@@ -97,9 +98,9 @@ pub returns-in-Ok-2-clause-begun : goal.returns-in-Ok-2-clause-begun
 returns-in-Ok-2-clause-begun g c =
     let names = map text c.args.names.now in
     rw c.in-Show.is
-    (lexer_begun c.cut_all-in-Ok-2.result (g.F.Files.gives c.args.files.now)
+    (lexer_begun c.cut_all-in-Ok-2.result c.args.verbosity (g.F.Files.gives c.args.files.now)
     (λ set modes. FirstTextsAnswer (g.F.Files.gives c.args.files.now) (StreamGives g.R.Read.remaining) c.args.input.now c.args.verbosity (PageAnswer set modes c.in-Show.markup) names)
-    c.args.rules.now c.in-Ok-2.found.lexer (map string_bytes c.in-Ok-2.found.modes.items) _ _ (rw c.in-Ok-2.is at c.in_ok-found-in-Show.ensures.lexer) c.cut_all-in-Ok-2.ensures.begun)
+    c.args.rules.now c.in-Ok-2.found.lexer (map string_bytes c.in-Ok-2.found.modes.items) g.E.Write.contents c.args.err.now c.lexer_by_name-in-Show.new.err _ _ (rw c.in-Ok-2.is at c.in_ok-found-in-Show.ensures.lexer) c.cut_all-in-Ok-2.ensures.begun)
 
 pub returns-in-Ok-3-clause-begun : goal.returns-in-Ok-3-clause-begun
 returns-in-Ok-3-clause-begun g c =
@@ -108,3 +109,30 @@ returns-in-Ok-3-clause-begun g c =
     (terminals_begun c.cut_all-in-Ok-3.result (g.F.Files.gives c.args.files.now)
     (λ ts ps. FirstTextsAnswer (g.F.Files.gives c.args.files.now) (StreamGives g.R.Read.remaining) c.args.input.now c.args.verbosity (TokensAnswer ts ps c.in-CutByTerminals.places) names)
     c.args.rules.now c.in-Ok-3.lexer.trees c.in-Ok-3.lexer.precedences _ _ (rw c.in-Ok-3.is at c.in_ok-lexer-in-CutByTerminals.ensures.lexer) c.cut_all-in-Ok-3.ensures.begun)
+
+-- ---- a lexer in C
+
+pub returns-in-Ok-4-clause-answer : goal.returns-in-Ok-4-clause-answer
+returns-in-Ok-4-clause-answer g c =
+    rw c.in-Emit.is
+    (lexer_answered c.write_source.result c.args.verbosity (g.F.Files.gives c.args.files.now) (λ set modes. SourceAnswer (prefix_of c.in-Emit.prefix) c.args.rules.now set)
+    c.args.rules.now c.in-Ok-4.found.lexer (map string_bytes c.in-Ok-4.found.modes.items) g.W.Write.contents g.E.Write.contents c.args.out.now c.write_source.new.out c.args.err.now c.lexer_by_name-in-Emit.new.err c.write_source.new.err
+    (rw c.in-Ok-4.is at c.in_ok-found-in-Emit.ensures.lexer) (rw c.prefix_of.ensures at c.write_source.ensures.answer))
+
+pub returns-in-Err-4-clause-answer : goal.returns-in-Err-4-clause-answer
+returns-in-Err-4-clause-answer g c =
+    let refused = rw c.in-Err-4.is at c.in_ok-found-in-Emit.ensures.refused in
+    rw c.in-Emit.is (
+      refused.0,
+      (
+        rules_refused c.args.verbosity (g.F.Files.gives c.args.files.now) (λ set modes. SourceAnswer (prefix_of c.in-Emit.prefix) c.args.rules.now set) c.args.rules.now refused.0 refused.1.0,
+        Answered-refused g.W.Write.contents g.E.Write.contents c.args.out.now c.args.err.now c.lexer_by_name-in-Emit.new.err c.in-Err-4.status refused.0 refused.1.1,
+      ),
+    )
+
+pub returns-in-Ok-4-clause-begun : goal.returns-in-Ok-4-clause-begun
+returns-in-Ok-4-clause-begun g c =
+    rw c.in-Emit.is
+    (lexer_begun c.write_source.result c.args.verbosity (g.F.Files.gives c.args.files.now) (λ set modes. SourceAnswer (prefix_of c.in-Emit.prefix) c.args.rules.now set)
+    c.args.rules.now c.in-Ok-4.found.lexer (map string_bytes c.in-Ok-4.found.modes.items) g.E.Write.contents c.args.err.now c.lexer_by_name-in-Emit.new.err _ _
+    (rw c.in-Ok-4.is at c.in_ok-found-in-Emit.ensures.lexer) (rw c.prefix_of.ensures at c.write_source.ensures.begun))

@@ -1,0 +1,9 @@
+-- Actions with a prefix.
+use Rattle.std.specs.Prelude.{Some}
+use Rattle.tokens_lib.specs.declared.command.Action.{Action}
+use Rattle.tokens_lib.specs.declared.command.Action.TheVariants.{Emit}
+
+-- the action has a prefix
+abbrev pub HasPrefix : Action → Type 0
+HasPrefix (Emit (Some prefix)) = Unit {0}
+HasPrefix action = ⊥
