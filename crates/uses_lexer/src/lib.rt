@@ -9,6 +9,7 @@ pub mod cut_a_text;
 pub mod cut_and_count;
 pub mod cut_by_automaton;
 pub mod cut_by_modes;
+pub mod cut_by_numbers;
 pub mod cut_by_rules;
 pub mod cut_in_bounded_time;
 pub mod cut_in_linear_time;
