@@ -1,0 +1,286 @@
+/* json: a lexer in C, made from rules. The tables are those of the rules; the code after them is the same for all rules. */
+#include <stddef.h>
+#include <stdint.h>
+
+static const char *const json_names[12] = {
+    "SPACE",
+    "OPEN_OBJECT",
+    "CLOSE_OBJECT",
+    "OPEN_ARRAY",
+    "CLOSE_ARRAY",
+    "COLON",
+    "COMMA",
+    "TRUE",
+    "FALSE",
+    "NULL",
+    "NUMBER",
+    "STRING",
+};
+enum {
+    json_kind_SPACE = 0,
+    json_kind_OPEN_OBJECT = 1,
+    json_kind_CLOSE_OBJECT = 2,
+    json_kind_OPEN_ARRAY = 3,
+    json_kind_CLOSE_ARRAY = 4,
+    json_kind_COLON = 5,
+    json_kind_COMMA = 6,
+    json_kind_TRUE = 7,
+    json_kind_FALSE = 8,
+    json_kind_NULL = 9,
+    json_kind_NUMBER = 10,
+    json_kind_STRING = 11,
+    json_fault = -1
+};
+static const uint16_t json_kinds[12] = {
+0, 1, 2, 3, 4, 5, 6, 7, 8, 9, 10, 11, };
+static const uint8_t json_skipped[12] = {
+1, 0, 0, 0, 0, 0, 0, 0, 0, 0, 0, 0, };
+static const size_t json_start = 31;
+static const size_t json_width = 30;
+static const size_t json_live = 31;
+static const size_t json_accept = 713;
+static const uint8_t json_blocks[256] = {
+0, 0, 0, 0, 0, 0, 0, 0, 0, 1, 1, 0, 0, 1, 0, 0,
+0, 0, 0, 0, 0, 0, 0, 0, 0, 0, 0, 0, 0, 0, 0, 0,
+2, 3, 4, 3, 3, 3, 3, 3, 3, 3, 3, 5, 6, 7, 8, 9,
+10, 11, 11, 11, 11, 11, 11, 11, 11, 11, 12, 3, 3, 3, 3, 3,
+3, 13, 13, 13, 13, 14, 13, 3, 3, 3, 3, 3, 3, 3, 3, 3,
+3, 3, 3, 3, 3, 3, 3, 3, 3, 3, 3, 15, 16, 17, 3, 3,
+3, 18, 19, 13, 13, 20, 21, 3, 3, 3, 3, 3, 22, 3, 23, 3,
+3, 3, 24, 25, 26, 27, 3, 3, 3, 3, 3, 28, 3, 29, 3, 3,
+3, 3, 3, 3, 3, 3, 3, 3, 3, 3, 3, 3, 3, 3, 3, 3,
+3, 3, 3, 3, 3, 3, 3, 3, 3, 3, 3, 3, 3, 3, 3, 3,
+3, 3, 3, 3, 3, 3, 3, 3, 3, 3, 3, 3, 3, 3, 3, 3,
+3, 3, 3, 3, 3, 3, 3, 3, 3, 3, 3, 3, 3, 3, 3, 3,
+3, 3, 3, 3, 3, 3, 3, 3, 3, 3, 3, 3, 3, 3, 3, 3,
+3, 3, 3, 3, 3, 3, 3, 3, 3, 3, 3, 3, 3, 3, 3, 3,
+3, 3, 3, 3, 3, 3, 3, 3, 3, 3, 3, 3, 3, 3, 3, 3,
+3, 3, 3, 3, 3, 3, 3, 3, 3, 3, 3, 3, 3, 3, 3, 3,
+};
+static const uint16_t json_pages[2] = {
+0, 1, };
+static const uint16_t json_cells[1209] = {
+0, 0, 0, 0, 0, 0, 0, 0, 0, 0, 0, 0, 0, 0, 0, 0,
+0, 0, 0, 0, 0, 0, 0, 0, 0, 0, 0, 0, 0, 0, 0, 0,
+713, 713, 0, 62, 0, 744, 93, 0, 0, 775, 806, 837, 0, 0, 868, 0,
+899, 0, 0, 0, 124, 0, 155, 0, 0, 186, 0, 930, 961, 0, 0, 0,
+217, 217, 1023, 217, 217, 217, 217, 217, 217, 217, 217, 217, 217, 217, 248, 217,
+217, 217, 217, 217, 217, 217, 217, 217, 217, 217, 217, 217, 0, 0, 0, 0,
+0, 0, 0, 0, 0, 0, 0, 775, 806, 0, 0, 0, 0, 0, 0, 0,
+0, 0, 0, 0, 0, 0, 0, 0, 0, 0, 0, 0, 0, 0, 0, 0,
+0, 0, 0, 0, 0, 0, 0, 0, 0, 0, 0, 0, 0, 0, 341, 0,
+0, 0, 0, 0, 0, 0, 0, 0, 0, 0, 0, 0, 0, 0, 0, 0,
+0, 0, 0, 0, 0, 0, 0, 0, 0, 0, 0, 0, 0, 0, 0, 0,
+0, 0, 0, 0, 0, 0, 372, 0, 0, 0, 0, 0, 0, 0, 0, 0,
+0, 0, 0, 0, 0, 0, 0, 0, 0, 0, 0, 0, 0, 0, 0, 0,
+0, 0, 403, 0, 0, 0, 0, 0, 0, 0, 0, 217, 217, 1023, 217, 217,
+217, 217, 217, 217, 217, 217, 217, 217, 217, 248, 217, 217, 217, 217, 217, 217,
+217, 217, 217, 217, 217, 217, 217, 0, 0, 0, 0, 0, 217, 0, 0, 0,
+0, 217, 0, 0, 0, 0, 0, 0, 217, 0, 0, 217, 0, 217, 0, 217,
+217, 0, 217, 434, 0, 0, 0, 0, 0, 0, 0, 0, 0, 0, 0, 0,
+0, 1054, 1054, 0, 0, 0, 0, 0, 0, 0, 0, 0, 0, 0, 0, 0,
+0, 0, 0, 0, 0, 0, 0, 0, 0, 0, 0, 465, 0, 465, 0, 0,
+1085, 1085, 0, 0, 0, 0, 0, 0, 0, 0, 0, 0, 0, 0, 0, 0,
+0, 0, 0, 0, 0, 0, 0, 0, 0, 0, 0, 0, 0, 0, 0, 0,
+0, 0, 0, 0, 0, 0, 0, 0, 0, 0, 0, 496, 0, 0, 0, 0,
+0, 0, 0, 0, 0, 0, 0, 0, 0, 0, 0, 0, 0, 0, 0, 0,
+0, 0, 0, 0, 0, 0, 0, 0, 0, 0, 527, 0, 0, 0, 0, 0,
+0, 0, 0, 0, 0, 0, 0, 0, 0, 0, 0, 0, 0, 0, 0, 0,
+0, 0, 0, 0, 0, 0, 0, 0, 0, 0, 0, 0, 0, 0, 558, 0,
+0, 0, 0, 0, 0, 0, 0, 0, 0, 0, 0, 0, 589, 589, 0, 589,
+589, 0, 0, 0, 589, 589, 589, 589, 0, 0, 0, 0, 0, 0, 0, 0,
+0, 0, 0, 0, 0, 0, 0, 0, 0, 0, 0, 1085, 1085, 0, 0, 0,
+0, 0, 0, 0, 0, 0, 0, 0, 0, 0, 0, 0, 0, 0, 0, 0,
+0, 0, 0, 0, 0, 0, 0, 0, 0, 0, 0, 0, 0, 0, 0, 0,
+0, 0, 0, 0, 0, 0, 0, 0, 0, 620, 0, 0, 0, 0, 0, 0,
+0, 0, 0, 0, 0, 0, 0, 0, 0, 0, 0, 0, 0, 0, 0, 0,
+0, 0, 0, 0, 0, 1116, 0, 0, 0, 0, 0, 0, 0, 0, 0, 0,
+0, 0, 0, 0, 0, 0, 0, 0, 0, 0, 0, 0, 0, 0, 0, 0,
+0, 0, 1147, 0, 0, 0, 0, 0, 0, 0, 0, 0, 0, 0, 0, 0,
+0, 0, 0, 0, 0, 0, 0, 651, 651, 0, 651, 651, 0, 0, 0, 651,
+651, 651, 651, 0, 0, 0, 0, 0, 0, 0, 0, 0, 0, 0, 0, 0,
+0, 0, 0, 0, 0, 0, 0, 0, 0, 0, 0, 0, 0, 0, 0, 0,
+1178, 0, 0, 0, 0, 0, 0, 0, 0, 0, 0, 0, 0, 0, 0, 0,
+0, 0, 0, 0, 0, 682, 682, 0, 682, 682, 0, 0, 0, 682, 682, 682,
+682, 0, 0, 0, 0, 0, 0, 0, 0, 0, 0, 0, 0, 0, 0, 0,
+0, 0, 0, 0, 217, 217, 0, 217, 217, 0, 0, 0, 217, 217, 217, 217,
+0, 0, 0, 0, 0, 0, 0, 0, 0, 0, 992, 992, 0, 0, 0, 0,
+0, 0, 0, 0, 0, 0, 0, 0, 0, 0, 0, 0, 0, 0, 0, 0,
+0, 0, 0, 0, 0, 0, 0, 0, 0, 0, 0, 0, 0, 0, 0, 0,
+0, 0, 0, 0, 0, 0, 0, 0, 0, 0, 0, 0, 0, 0, 0, 0,
+0, 0, 0, 0, 0, 0, 6, 0, 0, 0, 0, 0, 0, 0, 0, 279,
+0, 0, 0, 0, 0, 310, 0, 0, 0, 0, 0, 310, 0, 0, 0, 0,
+0, 0, 0, 0, 0, 10, 0, 0, 0, 0, 0, 0, 0, 0, 279, 0,
+806, 806, 0, 0, 310, 0, 0, 0, 0, 0, 310, 0, 0, 0, 0, 0,
+0, 0, 0, 0, 10, 0, 0, 0, 0, 0, 0, 0, 0, 0, 0, 0,
+0, 0, 0, 0, 0, 0, 0, 0, 0, 0, 0, 0, 0, 0, 0, 0,
+0, 0, 0, 5, 0, 0, 0, 0, 0, 0, 0, 0, 0, 0, 0, 0,
+0, 0, 0, 0, 0, 0, 0, 0, 0, 0, 0, 0, 0, 0, 0, 0,
+0, 0, 3, 0, 0, 0, 0, 0, 0, 0, 0, 0, 0, 0, 0, 0,
+0, 0, 0, 0, 0, 0, 0, 0, 0, 0, 0, 0, 0, 0, 0, 0,
+0, 4, 0, 0, 0, 0, 0, 0, 0, 0, 0, 0, 0, 0, 0, 0,
+0, 0, 0, 0, 0, 0, 0, 0, 0, 0, 0, 0, 0, 0, 0, 0,
+1, 0, 0, 0, 0, 0, 0, 0, 0, 0, 0, 0, 0, 0, 0, 0,
+0, 0, 0, 0, 0, 0, 0, 0, 0, 0, 0, 0, 0, 0, 0, 2,
+0, 992, 992, 0, 0, 0, 0, 0, 0, 0, 0, 0, 0, 0, 0, 0,
+0, 0, 0, 0, 0, 0, 0, 0, 0, 0, 0, 0, 0, 0, 0, 0,
+0, 0, 0, 0, 0, 0, 0, 0, 0, 0, 0, 0, 0, 0, 0, 0,
+0, 0, 0, 0, 0, 0, 0, 0, 0, 0, 0, 0, 0, 11, 0, 0,
+0, 0, 0, 0, 0, 0, 0, 0, 1054, 1054, 0, 0, 310, 0, 0, 0,
+0, 0, 310, 0, 0, 0, 0, 0, 0, 0, 0, 0, 10, 0, 0, 0,
+0, 0, 0, 0, 0, 0, 0, 1085, 1085, 0, 0, 0, 0, 0, 0, 0,
+0, 0, 0, 0, 0, 0, 0, 0, 0, 0, 0, 10, 0, 0, 0, 0,
+0, 0, 0, 0, 0, 0, 0, 0, 0, 0, 0, 0, 0, 0, 0, 0,
+0, 0, 0, 0, 0, 0, 0, 0, 0, 0, 9, 0, 0, 0, 0, 0,
+0, 0, 0, 0, 0, 0, 0, 0, 0, 0, 0, 0, 0, 0, 0, 0,
+0, 0, 0, 0, 0, 0, 0, 0, 0, 7, 0, 0, 0, 0, 0, 0,
+0, 0, 0, 0, 0, 0, 0, 0, 0, 0, 0, 0, 0, 0, 0, 0,
+0, 0, 0, 0, 0, 0, 0, 0, 8, };
+
+typedef struct {
+    const unsigned char *text;
+    size_t length;
+    size_t at;
+} json_lexer;
+
+typedef struct {
+    int kind;       /* of the rule, or json_fault */
+    uint32_t rule;  /* its index; 0 in a fault */
+    size_t start;   /* in bytes */
+    size_t length;  /* in bytes */
+} json_piece;
+
+/* Whether the byte at the place is one that follows in a character. */
+static int json_follows(const unsigned char *text, size_t length, size_t at) {
+    return at < length && text[at] >= 0x80 && text[at] < 0xC0;
+}
+
+/* The size, and the code; 0 if the code is none of a character, or too low for so many bytes. */
+static size_t json_sized_character(size_t size, uint32_t least, uint32_t code, uint32_t *character) {
+    if (code < least || code >= 0x110000 || (code >= 0xD800 && code < 0xE000)) {
+        return 0;
+    }
+    *character = code;
+    return size;
+}
+
+/* How many bytes the character at the place has, and its code; 0 if the bytes there are no character (RFC 3629). */
+static size_t json_read(const unsigned char *text, size_t length, size_t at, uint32_t *code) {
+    uint32_t first = text[at];
+    uint32_t second;
+    uint32_t third;
+    uint32_t fourth;
+    if (first < 0x80) {
+        return json_sized_character(1, 0, first, code);
+    }
+    if (first < 0xC0 || !json_follows(text, length, at + 1)) {
+        return 0;
+    }
+    second = text[at + 1] - 0x80u;
+    if (first < 0xE0) {
+        return json_sized_character(2, 0x80, (first - 0xC0) * 64 + second, code);
+    }
+    if (!json_follows(text, length, at + 2)) {
+        return 0;
+    }
+    third = text[at + 2] - 0x80u;
+    if (first < 0xF0) {
+        return json_sized_character(3, 0x800, ((first - 0xE0) * 64 + second) * 64 + third, code);
+    }
+    if (first >= 0xF8 || !json_follows(text, length, at + 3)) {
+        return 0;
+    }
+    fourth = text[at + 3] - 0x80u;
+    return json_sized_character(4, 0x10000, (((first - 0xF0) * 64 + second) * 64 + third) * 64 + fourth, code);
+}
+
+/* The block of the page with this number. Pages after the last one have its block. */
+static size_t json_block(size_t page) {
+    size_t last = sizeof json_pages / sizeof json_pages[0] - 1;
+    return json_pages[page < last ? page : last];
+}
+
+/* The class of a character. */
+static size_t json_class(uint32_t code) {
+    return json_blocks[json_block(code / 128) * 128 + code % 128];
+}
+
+/* Where the longest match from the place on ends, and its rule; the place itself if nothing matches there. */
+static size_t json_longest(const unsigned char *text, size_t length, size_t start, uint32_t *rule) {
+    size_t row = json_start;
+    size_t at = start;
+    size_t end = start;
+    while (at < length) {
+        uint32_t code = 0;
+        size_t size = json_read(text, length, at, &code);
+        if (size == 0) {
+            return end;
+        }
+        at += size;
+        row = json_cells[row + json_class(code)];
+        if (row < json_live) {
+            return end;
+        }
+        if (row >= json_accept) {
+            *rule = (uint32_t)json_cells[row + json_width];
+            end = at;
+        }
+    }
+    return end;
+}
+
+/* Where the fault at the place ends: before the next place where a rule matches, or with the text. */
+static size_t json_fault_end(const unsigned char *text, size_t length, size_t start) {
+    size_t end = start + 1;
+    while (end < length) {
+        uint32_t rule = 0;
+        if (json_longest(text, length, end, &rule) > end) {
+            return end;
+        }
+        end += 1;
+    }
+    return end;
+}
+
+/* A lexer at the beginning of a text, which must live as long as it is cut. */
+json_lexer json_begin(const char *text, size_t length) {
+    json_lexer lexer;
+    lexer.text = (const unsigned char *)text;
+    lexer.length = length;
+    lexer.at = 0;
+    return lexer;
+}
+
+/* The next piece, and 1; at the end of the text 0. A piece is a token, skipped or not, or a fault: bytes at none of which
+   a rule matches. */
+int json_next(json_lexer *lexer, json_piece *piece) {
+    size_t start = lexer->at;
+    size_t end;
+    uint32_t rule = 0;
+    if (start >= lexer->length) {
+        return 0;
+    }
+    end = json_longest(lexer->text, lexer->length, start, &rule);
+    if (end > start) {
+        piece->kind = (int)json_kinds[rule];
+        piece->rule = rule;
+    } else {
+        end = json_fault_end(lexer->text, lexer->length, start);
+        piece->kind = json_fault;
+        piece->rule = 0;
+    }
+    piece->start = start;
+    piece->length = end - start;
+    lexer->at = end;
+    return 1;
+}
+
+/* Whether the pieces of a rule are skipped. */
+int json_skips(uint32_t rule) {
+    return json_skipped[rule];
+}
+
+/* The name of a kind. */
+const char *json_name(int kind) {
+    return json_names[kind];
+}
