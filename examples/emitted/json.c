@@ -200,8 +200,11 @@ static size_t json_block(size_t page) {
     return json_pages[page < last ? page : last];
 }
 
-/* The class of a character. */
+/* The class of a character. ASCII is the first block. */
 static size_t json_class(uint32_t code) {
+    if (code < 128) {
+        return json_blocks[code];
+    }
     return json_blocks[json_block(code / 128) * 128 + code % 128];
 }
 

@@ -74,8 +74,11 @@ static size_t $_block(size_t page) {
     return $_pages[page < last ? page : last];
 }
 
-/* The class of a character. */
+/* The class of a character. ASCII is the first block. */
 static size_t $_class(uint32_t code) {
+    if (code < 128) {
+        return $_blocks[code];
+    }
     return $_blocks[$_block(code / 128) * 128 + code % 128];
 }
 

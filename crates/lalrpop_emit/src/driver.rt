@@ -97,12 +97,15 @@ fn block(table: &TableLists, page: usize) -> usize
     table.pages[page.min(table.pages.len() - 1)] as usize
 }
 
-// The class of a character.
+// The class of a character. ASCII is the first block.
 fn class(table: &TableLists, code: u32) -> usize
     requires { AreClasses (list_numbers table.now) }
     ensures { result ≡ character_class (list_numbers table.now) code }
 {
     let code = code as usize;
+    if code < 128 {
+        return table.blocks[code] as usize;
+    }
     table.blocks[block(table, code / 128) * 128 + code % 128] as usize
 }
 

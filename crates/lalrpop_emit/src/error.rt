@@ -32,7 +32,7 @@ pub enum EmitError {
     /// There are 65,536 rules or more.
     #[error("there are too many rules")]
     TooManyRules,
-    /// The prefix isn't an identifier: ASCII letters, digits and `_`, of which the first is no digit.
+    /// The prefix isn't an identifier: ASCII letters, digits and `_`, and no digit first.
     #[error("the prefix isn't an identifier")]
     BadPrefix,
     /// The automaton has no table: it would be too large.

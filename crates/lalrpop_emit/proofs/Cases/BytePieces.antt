@@ -1,5 +1,5 @@
 -- Cases of specs/BytePieces.antt.
-use Rattle.std.proofs.Common.{ℕ, List, [], ◌∷◌, length, inl, inr, refl, arith}
+use Rattle.std.proofs.Common.{ℕ, List, [], ◌∷◌, inl, inr, refl, arith}
 use Rattle.std.specs.Prelude.{None}
 use Rattle.lalrpop_rules.specs.Found.{MatchesAt}
 use Rattle.lalrpop_emit.specs.BytePieces.{IsByteToken, IsByteFault, AreBytePieces}
