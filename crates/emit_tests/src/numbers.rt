@@ -1,36 +1,63 @@
 //! Lexers in numbers.
-use lalrpop_build::{Precedence, build_dfa};
-use lalrpop_dense::DenseDfa;
 use lalrpop_emit::{EmitError, LexerNumbers};
-use lalrpop_re::parse_regex;
-use std::alloc::{AllocError, Global};
+use lalrpop_modes::{Action, ModeLexer, ModeRule, ModesError};
+use lalrpop_rules::Rule;
+use std::alloc::Global;
 use std::test::Fail;
 
-/// The automaton of the keyword `if` and of names, which are weaker.
-pub(crate) fn keyword_and_names(alloc: Global) -> Result<DenseDfa, Fail> {
-    let patterns = [parse_regex(alloc, "if")?, parse_regex(alloc, "[a-zé]+")?];
-    let precedences = [Precedence(1), Precedence(0)];
-    let dfa = build_dfa(alloc, &patterns, &precedences)?;
-    let dense = DenseDfa::new(alloc, dfa)?;
-    Ok(dense)
+/// The keyword `if`, and names of `a` to `z` and `é`, which are weaker.
+pub(crate) fn keyword_and_names(
+    alloc: Global,
+    keyword: &str,
+    name: &str,
+) -> Result<ModeLexer, ModesError> {
+    let rules = [
+        ModeRule {
+            rule: Rule::literal(keyword, "if"),
+            modes: &[0],
+            actions: &[],
+        },
+        ModeRule {
+            rule: Rule::pattern(name, "[a-zé]+").skipped(),
+            modes: &[0],
+            actions: &[],
+        },
+    ];
+    ModeLexer::from_rules(alloc, &rules, 1)
 }
 
-/// The names as strings.
-pub(crate) fn strings(alloc: Global, names: &[&str]) -> Result<Vec<String>, AllocError> {
-    let mut all = Vec::new(alloc);
-    for name in names {
-        let name = String::from_str(alloc, name)?;
-        all.push(name)?;
-    }
-    Ok(all)
+/// Numbers, and words between `<` and `>`, which can be nested.
+pub(crate) fn nested_words(alloc: Global) -> Result<ModeLexer, ModesError> {
+    let rules = [
+        ModeRule {
+            rule: Rule::pattern("NUMBER", "[0-9]+"),
+            modes: &[0],
+            actions: &[],
+        },
+        ModeRule {
+            rule: Rule::literal("OPEN", "<"),
+            modes: &[0, 1],
+            actions: &[Action::Push(1)],
+        },
+        ModeRule {
+            rule: Rule::literal("CLOSE", ">"),
+            modes: &[1],
+            actions: &[Action::Pop],
+        },
+        ModeRule {
+            rule: Rule::pattern("WORD", "[a-z]+"),
+            modes: &[1],
+            actions: &[],
+        },
+    ];
+    ModeLexer::from_rules(alloc, &rules, 2)
 }
 
 #[test]
 fn the_second_name_has_a_dash(rt: HostRuntime) -> Result<(), Fail> {
     let alloc = rt.alloc();
-    let dense = keyword_and_names(alloc)?;
-    let names = strings(alloc, &["IF", "A-NAME"])?;
-    match LexerNumbers::new(alloc, &dense, &names, &[false, false]) {
+    let rules = keyword_and_names(alloc, "IF", "A-NAME")?;
+    match LexerNumbers::new(alloc, &rules) {
         Err(EmitError::BadName { rule }) => assert_eq!(rt; rule, 1),
         _ => assert!(rt; false),
     }
@@ -40,11 +67,8 @@ fn the_second_name_has_a_dash(rt: HostRuntime) -> Result<(), Fail> {
 #[test]
 fn there_are_no_rules(rt: HostRuntime) -> Result<(), Fail> {
     let alloc = rt.alloc();
-    let dense = keyword_and_names(alloc)?;
-    let is_refused = matches!(
-        LexerNumbers::new(alloc, &dense, &[], &[]),
-        Err(EmitError::NoRules)
-    );
+    let rules = ModeLexer::from_rules(alloc, &[], 1)?;
+    let is_refused = matches!(LexerNumbers::new(alloc, &rules), Err(EmitError::NoRules));
     assert!(rt; is_refused);
     Ok(())
 }

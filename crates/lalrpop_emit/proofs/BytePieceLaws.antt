@@ -1,18 +1,20 @@
 -- The pieces of a text of bytes are unique, and on a UTF-8 text they are the pieces of the rules, in numbers.
-use Rattle.std.proofs.Common.{◌≡◌, ◌≢◌, ℕ, ◌+◌, ◌<◌, ◌≤◌, ◌⊎◌, ⊎_elim, ◌∙◌, Bool, inl, inr, List, [], ◌∷◌, ◌++◌, length, take, drop, map, refl, sym, ap, subst, arith, length-append, length-drop}
-use Rattle.std.specs.Prelude.{Option, Some, None, slice_get, IsSome, ◌↔◌}
-use Rattle.std.proofs.lemmas.Bool.{cases_lt, cases_order}
-use Rattle.std.proofs.lemmas.List.{length-take-le, nil_from_length}
+use Rattle.std.proofs.Common.{◌≡◌, ◌≢◌, ℕ, suc, ◌+◌, ◌<◌, ◌⊎◌, ◌∙◌, Bool, true, false, inl, inr, List, [], ◌∷◌, ◌++◌, length, take, drop, map, refl, sym, ap, subst, arith, length-append}
+use Rattle.std.specs.Prelude.{Option, Some, None, slice_get}
+use Rattle.std.proofs.lemmas.Bool.{cases_order, false≢true}
+use Rattle.std.proofs.lemmas.List.{length-take-le}
 use Rattle.std.proofs.lemmas.Option.{some_pair_parts}
-use Rattle.lalrpop_book.specs.Chain.{Chain, AtEnd}
+use Rattle.lalrpop_book.specs.Chain.{AtEnd}
 use Rattle.lalrpop_book.specs.Tree.{Tree}
 use Rattle.lalrpop_book.specs.Longest.{IsLongest}
 use Rattle.lalrpop_book.proofs.Longests.{longest-unique}
-use Rattle.lalrpop_book.proofs.Chains.{chain_join}
-use Rattle.lalrpop_rules.specs.Pieces.{IsFault, IsPiece, ArePieces, slice_of}
+use Rattle.lalrpop_rules.specs.Pieces.{IsFault, IsPiece, slice_of}
 use Rattle.lalrpop_rules.specs.declared.item.Item.{Item}
 use Rattle.lalrpop_rules.specs.declared.item.Item.TheVariants.{Token, Skipped, Fault}
-use Rattle.lalrpop_emit.specs.BytePieces.{IsByteToken, IsByteFault, IsByteTokenOrFault, IsBytePiece, AreBytePieces, numbered}
+use Rattle.lalrpop_modes.specs.declared.action.Action.{Action}
+use Rattle.lalrpop_modes.specs.Stack.{Stack, act_all, actions_of}
+use Rattle.lalrpop_modes.specs.Modes.{ModeRules, ArePiecesFrom, after, trees_in}
+use Rattle.lalrpop_emit.specs.BytePieces.{IsByteToken, IsByteFault, IsByteTokenOrFault, IsBytePiece, IsModePiece, rule_actions, piece_actions, after_piece, Fits, StopsAt, AreBytePiecesFrom, numbered}
 use Rattle.lalrpop_emit.specs.declared.numbered_piece.NumberedPiece.{NumberedPiece}
 
 -- ---- one piece is unique
@@ -74,16 +76,31 @@ within_rest ts ps kinds text (Some kind) rule size is = some_before text (take s
 pub none_left : (ts : List Tree) (ps kinds text : List ℕ) (at : ℕ) (a : NumberedPiece) → IsBytePiece ts ps kinds text at a → ¬ AtEnd text at
 none_left ts ps kinds text at a is end = omega (arith, within_rest ts ps kinds (drop at text) a.kind a.rule a.length is.1, ap length end)
 
-pub byte_pieces-unique : (ts : List Tree) (ps kinds text : List ℕ) (at : ℕ) (xs ys : List NumberedPiece) → AreBytePieces ts ps kinds text at xs → AreBytePieces ts ps kinds text at ys
-    → xs ≡ ys
-byte_pieces-unique ts ps kinds text at [] [] are too = refl
-byte_pieces-unique ts ps kinds text at [] (y ∷ ys) are too = absurd (none_left ts ps kinds text at y too.0 are)
-byte_pieces-unique ts ps kinds text at (x ∷ xs) [] are too = absurd (none_left ts ps kinds text at x are.0 too)
-byte_pieces-unique ts ps kinds text at (x ∷ xs) (y ∷ ys) are too =
-    let same = piece-unique ts ps kinds text at x y are.0 too.0 in
-    let later = subst (λ (p : NumberedPiece). AreBytePieces ts ps kinds text (at + p.length) xs) same are.1 in
-    let rest = byte_pieces-unique ts ps kinds text (at + y.length) xs ys later too.1 in
-    λ i. same i ∷ rest i
+-- they stop for one reason
+one_end : (r : ModeRules) (kinds : List ℕ) (room : ℕ) (text : List ℕ) (w v : Bool) (at : ℕ) (s : Stack) → StopsAt r kinds room text w at s → StopsAt r kinds room text v at s → w ≡ v
+one_end r kinds room text true true at s is too = refl
+one_end r kinds room text true false at s is too = absurd (none_left (trees_in r s.mode) r.precedences kinds text at too.0 too.1.0 is)
+one_end r kinds room text false true at s is too = absurd (none_left (trees_in r s.mode) r.precedences kinds text at is.0 is.1.0 too)
+one_end r kinds room text false false at s is too = refl
+
+-- where they stop, no piece is that fits
+no_piece : (r : ModeRules) (kinds : List ℕ) (room : ℕ) (text : List ℕ) (w : Bool) (at : ℕ) (s : Stack) (x : NumberedPiece) → StopsAt r kinds room text w at s
+    → IsModePiece r kinds text at s x → ¬ Fits room (piece_actions r.actions x) s
+no_piece r kinds room text true at s x stops is fits = none_left (trees_in r s.mode) r.precedences kinds text at x is stops
+no_piece r kinds room text false at s x stops is fits =
+    let same = piece-unique (trees_in r s.mode) r.precedences kinds text at x stops.0 is stops.1.0 in
+    stops.1.1 (subst (λ (p : NumberedPiece). Fits room (piece_actions r.actions p) s) same fits)
+
+pub byte_pieces-unique : (r : ModeRules) (kinds : List ℕ) (room : ℕ) (text : List ℕ) (w v : Bool) (at : ℕ) (s : Stack) (xs ys : List NumberedPiece)
+    → AreBytePiecesFrom r kinds room text w at s xs → AreBytePiecesFrom r kinds room text v at s ys → (xs ≡ ys) × (w ≡ v)
+byte_pieces-unique r kinds room text w v at s [] [] are too = (refl, one_end r kinds room text w v at s are too)
+byte_pieces-unique r kinds room text w v at s [] (y ∷ ys) are too = absurd (no_piece r kinds room text w at s y are too.0 too.1)
+byte_pieces-unique r kinds room text w v at s (x ∷ xs) [] are too = absurd (no_piece r kinds room text v at s x too are.0 are.1)
+byte_pieces-unique r kinds room text w v at s (x ∷ xs) (y ∷ ys) are too =
+    let same = piece-unique (trees_in r s.mode) r.precedences kinds text at x y are.0 too.0 in
+    let later = subst (λ (p : NumberedPiece). AreBytePiecesFrom r kinds room text w (at + p.length) (after_piece r.actions p s) xs) same are.2 in
+    let rest = byte_pieces-unique r kinds room text w v (at + y.length) (after_piece r.actions y s) xs ys later too.2 in
+    (λ i. same i ∷ rest.0 i, rest.1)
 
 -- ---- the pieces of the rules
 
@@ -139,44 +156,70 @@ some_item ts ps skips text at (Skipped token) is end =
 some_item ts ps skips text at (Fault start slice) is end =
     let fault = byte_fault ts (drop at text) slice.now is.1 in omega (arith, fault.some, fault.within, ap length end)
 
--- the pieces of the rules are the pieces in numbers
-pub pieces_numbered : (ts : List Tree) (ps kinds : List ℕ) (skips : List Bool) (text : List ℕ) (at : ℕ) (xs : List NumberedPiece) (items : List Item)
-    → AreBytePieces ts ps kinds text at xs → ArePieces ts ps skips text at items → xs ≡ map (numbered kinds) items
-pieces_numbered ts ps kinds skips text at [] [] are too = refl
-pieces_numbered ts ps kinds skips text at [] (item ∷ items) are too = absurd (some_item ts ps skips text at item too.0 are)
-pieces_numbered ts ps kinds skips text at (x ∷ xs) [] are too = absurd (none_left ts ps kinds text at x are.0 too)
-pieces_numbered ts ps kinds skips text at (x ∷ xs) (item ∷ items) are too =
-    let same = piece_numbered ts ps kinds skips text at x item are.0 too.0 in
+-- and makes the same stack
+token_acts : (ts : List Tree) (ps kinds text : List ℕ) (kind : Option ℕ) (rule size rule2 : ℕ) (slice : List ℕ) (actions : List (List Action)) → IsByteTokenOrFault ts ps kinds text kind rule size
+    → IsLongest ts ps text (Some (rule2, slice)) → rule_actions actions kind rule ≡ actions_of actions rule2
+token_acts ts ps kinds text None rule size rule2 slice actions is found = absurd (no_fault ts ps text (rule2, slice) size found is.1)
+token_acts ts ps kinds text (Some kind) rule size rule2 slice actions is found = ap (actions_of actions) (same_match ts ps kinds text kind rule size rule2 slice is found).0
+
+fault_acts : (ts : List Tree) (ps kinds text : List ℕ) (kind : Option ℕ) (rule size : ℕ) (slice : List ℕ) (actions : List (List Action)) → IsByteTokenOrFault ts ps kinds text kind rule size
+    → IsFault ts text slice → rule_actions actions kind rule ≡ []
+fault_acts ts ps kinds text None rule size slice actions is fault = refl
+fault_acts ts ps kinds text (Some kind) rule size slice actions is fault = absurd (no_fault ts ps text (rule, take size text) (length slice) is.longest (byte_fault ts text slice fault))
+
+stack_numbered : (ts : List Tree) (ps kinds : List ℕ) (skips : List Bool) (text : List ℕ) (at : ℕ) (a : NumberedPiece) (item : Item) (actions : List (List Action)) (s : Stack)
+    → IsBytePiece ts ps kinds text at a → IsPiece ts ps skips text at item → after_piece actions a s ≡ after actions item s
+stack_numbered ts ps kinds skips text at a (Token token) actions s is too =
+    ap (λ acts. act_all acts s) (token_acts ts ps kinds (drop at text) a.kind a.rule a.length token.index token.slice.now actions is.1 too.0.1)
+stack_numbered ts ps kinds skips text at a (Skipped token) actions s is too =
+    ap (λ acts. act_all acts s) (token_acts ts ps kinds (drop at text) a.kind a.rule a.length token.index token.slice.now actions is.1 too.0.1)
+stack_numbered ts ps kinds skips text at a (Fault start slice) actions s is too =
+    ap (λ acts. act_all acts s) (fault_acts ts ps kinds (drop at text) a.kind a.rule a.length slice.now actions is.1 too.1)
+
+-- the pieces in numbers are those of the rules, as many as there are
+pub record AreNumbered (kinds : List ℕ) (is_whole : Bool) (xs : List NumberedPiece) (items : List Item) : Type 0 where
+  pub same : xs ≡ map (numbered kinds) (take (length xs) items)
+  pub whole : is_whole ≡ true → length xs ≡ length items
+
+pub pieces_numbered : (r : ModeRules) (kinds : List ℕ) (room : ℕ) (text : List ℕ) (w : Bool) (at : ℕ) (s : Stack) (xs : List NumberedPiece) (items : List Item) (end : Stack)
+    → AreBytePiecesFrom r kinds room text w at s xs → ArePiecesFrom r text at s items end → AreNumbered kinds w xs items
+pieces_numbered r kinds room text w at s [] [] end are too = record { same = refl; whole = λ all. refl }
+pieces_numbered r kinds room text true at s [] (item ∷ items) end are too = absurd (some_item (trees_in r s.mode) r.precedences r.skips text at item too.0 are)
+pieces_numbered r kinds room text false at s [] (item ∷ items) end are too = record { same = refl; whole = λ all. absurd (false≢true all) }
+pieces_numbered r kinds room text w at s (x ∷ xs) [] end are too = absurd (none_left (trees_in r s.mode) r.precedences kinds text at x are.0 too.0)
+pieces_numbered r kinds room text w at s (x ∷ xs) (item ∷ items) end are too =
+    let ts = trees_in r s.mode in
+    let same = piece_numbered ts r.precedences kinds r.skips text at x item are.0 too.0 in
     let size : x.length ≡ length (slice_of item) = ap (λ (p : NumberedPiece). p.length) same ∙ slice_numbered kinds item in
-    let later = subst (λ (n : ℕ). AreBytePieces ts ps kinds text (at + n) xs) size are.1 in
-    let rest = pieces_numbered ts ps kinds skips text (at + length (slice_of item)) xs items later too.1 in
-    λ i. same i ∷ rest i
+    let stack = stack_numbered ts r.precedences kinds r.skips text at x item r.actions s are.0 too.0 in
+    let later : AreBytePiecesFrom r kinds room text w (at + length (slice_of item)) (after r.actions item s) xs =
+    subst (λ (n : ℕ). AreBytePiecesFrom r kinds room text w (at + n) (after r.actions item s) xs) size
+    (subst (λ (t : Stack). AreBytePiecesFrom r kinds room text w (at + x.length) t xs) stack are.2) in
+    let rest = pieces_numbered r kinds room text w (at + length (slice_of item)) (after r.actions item s) xs items end later too.1 in
+    record { same = λ i. same i ∷ rest.same i; whole = λ all. ap suc (rest.whole all) }
 
 -- ---- one piece after another
 
--- the pieces from the start up to a place
-abbrev pub AreBytePiecesTo : List Tree → List ℕ → List ℕ → List ℕ → List NumberedPiece → ℕ → Type 0
-AreBytePiecesTo ts ps kinds text xs at = Chain (λ p. p.length) (IsBytePiece ts ps kinds text) (λ n. n ≡ at) 0 xs
+-- the pieces from one place and stack up to another
+abbrev pub AreBytePiecesTo : ModeRules → List ℕ → ℕ → List ℕ → ℕ → Stack → List NumberedPiece → ℕ → Stack → Type 0
+AreBytePiecesTo r kinds room text from t [] at s = (from ≡ at) × (t ≡ s)
+AreBytePiecesTo r kinds room text from t (x ∷ xs) at s =
+    IsModePiece r kinds text from t x × Fits room (piece_actions r.actions x) t × AreBytePiecesTo r kinds room text (from + x.length) (after_piece r.actions x t) xs at s
 
-pub pieces_more : (ts : List Tree) (ps kinds text : List ℕ) (at : ℕ) (xs : List NumberedPiece) (x : NumberedPiece) → AreBytePiecesTo ts ps kinds text xs at
-    → IsBytePiece ts ps kinds text at x → AreBytePiecesTo ts ps kinds text (xs ++ x ∷ []) (x.start + x.length)
-pieces_more ts ps kinds text at xs x are is =
-    chain_join (λ p. p.length) (IsBytePiece ts ps kinds text) (λ n. n ≡ at) (λ n. n ≡ x.start + x.length) 0 xs (x ∷ []) are
-    (λ p here. (subst (λ (n : ℕ). IsBytePiece ts ps kinds text n x) (sym here) is, omega (arith, here, is.0)))
+pub pieces_more : (r : ModeRules) (kinds : List ℕ) (room : ℕ) (text : List ℕ) (from : ℕ) (t : Stack) (xs : List NumberedPiece) (at : ℕ) (s : Stack) (x : NumberedPiece) (at2 : ℕ) (s2 : Stack)
+    → AreBytePiecesTo r kinds room text from t xs at s → IsModePiece r kinds text at s x → Fits room (piece_actions r.actions x) s → at2 ≡ at + x.length → s2 ≡ after_piece r.actions x s
+    → AreBytePiecesTo r kinds room text from t (xs ++ x ∷ []) at2 s2
+pieces_more r kinds room text from t [] at s x at2 s2 are is fits place stack = (
+  subst (λ (n : ℕ). IsModePiece r kinds text n t x) (sym are.0) (subst (λ (u : Stack). IsModePiece r kinds text at u x) (sym are.1) is),
+  subst (λ (u : Stack). Fits room (piece_actions r.actions x) u) (sym are.1) fits,
+  (omega (arith, are.0, place), ap (after_piece r.actions x) are.1 ∙ sym stack),
+)
+pieces_more r kinds room text from t (y ∷ ys) at s x at2 s2 are is fits place stack =
+    (are.0, are.1, pieces_more r kinds room text (from + y.length) (after_piece r.actions y t) ys at s x at2 s2 are.2 is fits place stack)
 
-pub pieces_all : (ts : List Tree) (ps kinds text : List ℕ) (at : ℕ) (xs : List NumberedPiece) → AreBytePiecesTo ts ps kinds text xs at → AtEnd text at
-    → AreBytePieces ts ps kinds text 0 xs
-pieces_all ts ps kinds text at xs are end = chain_weaken 0 xs are
-  where
-    chain_weaken : (from : ℕ) (ys : List NumberedPiece) → Chain (λ p. p.length) (IsBytePiece ts ps kinds text) (λ n. n ≡ at) from ys
-        → Chain (λ p. p.length) (IsBytePiece ts ps kinds text) (AtEnd text) from ys
-    chain_weaken from [] e = subst (AtEnd text) (sym e) end
-    chain_weaken from (y ∷ ys) e = (e.0, chain_weaken (from + y.length) ys e.1)
-
--- where no piece comes, the text is at its end
-pub ended : (text : List ℕ) (at : ℕ) (o : Option NumberedPiece) → o ≡ None → (IsSome o ↔ (at < length text)) → AtEnd text at
-ended text at (Some x) is some = cc
-ended text at None is some =
-    ⊎_elim (λ (less : at < length text). let found = some.1 less in cc)
-    (λ (more : length text ≤ at). nil_from_length (drop at text) (omega (arith, length-drop at text)))
-    (cases_lt at (length text))
+pub pieces_all : (r : ModeRules) (kinds : List ℕ) (room : ℕ) (text : List ℕ) (w : Bool) (from : ℕ) (t : Stack) (xs : List NumberedPiece) (at : ℕ) (s : Stack)
+    → AreBytePiecesTo r kinds room text from t xs at s → StopsAt r kinds room text w at s → AreBytePiecesFrom r kinds room text w from t xs
+pieces_all r kinds room text w from t [] at s are stops =
+    subst (λ (n : ℕ). StopsAt r kinds room text w n t) (sym are.0) (subst (λ (u : Stack). StopsAt r kinds room text w at u) (sym are.1) stops)
+pieces_all r kinds room text w from t (x ∷ xs) at s are stops =
+    (are.0, are.1, pieces_all r kinds room text w (from + x.length) (after_piece r.actions x t) xs at s are.2 stops)

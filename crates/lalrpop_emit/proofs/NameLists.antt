@@ -121,13 +121,16 @@ distinct_are_names known (n ∷ ns) k all =
     of true more less = more
     of false more less = less
 
-pub kinds_more : (f : List ℕ → ℕ) (names : List (String Global)) (i : ℕ) (x : String Global) → i < length names → x ≡ get_or names i x
-    → map f (map string_bytes (take (i + 1) names)) ≡ map f (map string_bytes (take i names)) ++ f (string_bytes x) ∷ []
-kinds_more f names i x below is =
+-- the first i kinds, and this one
+pub kinds_on : (f : List ℕ → ℕ) (names : List (String Global)) (i : ℕ) (x : String Global) (before more : List ℕ) (kind : ℕ) → i < length names → x ≡ get_or names i x
+    → before ≡ map f (map string_bytes (take i names)) → kind ≡ f (string_bytes x) → more ≡ before ++ kind ∷ [] → more ≡ map f (map string_bytes (take (i + 1) names))
+kinds_on f names i x before more kind below is known this grown =
+    let step : map f (map string_bytes (take (i + 1) names)) ≡ map f (map string_bytes (take i names)) ++ f (string_bytes x) ∷ [] =
     ap (λ (ns : List (String Global)). map f (map string_bytes ns)) (take_more names i x below)
     ∙ ap (map f) (map-append string_bytes (take i names) (get_or names i x ∷ []))
     ∙ map-append f (map string_bytes (take i names)) (string_bytes (get_or names i x) ∷ [])
-    ∙ ap (λ (s : String Global). map f (map string_bytes (take i names)) ++ f (string_bytes s) ∷ []) (sym is)
+    ∙ ap (λ (s : String Global). map f (map string_bytes (take i names)) ++ f (string_bytes s) ∷ []) (sym is) in
+    grown ∙ ap (λ (ns : List ℕ). ns ++ kind ∷ []) known ∙ ap (λ (n : ℕ). map f (map string_bytes (take i names)) ++ n ∷ []) this ∙ sym step
 
 pub no_more_kinds : (distinct names : List (String Global)) → map string_bytes distinct ≡ distinct_names (map string_bytes names) → length distinct ≤ length names
 no_more_kinds distinct names e =

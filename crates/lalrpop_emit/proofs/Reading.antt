@@ -9,7 +9,7 @@ use Rattle.std.proofs.lemmas.List.Elements.{All-head, All-tail}
 use Rattle.std.proofs.lemmas.List.Sums.{AllPass-from_list_all}
 use Rattle.std.proofs.lemmas.Fmt.{decimal_is_IsNumeral, decimal_injective}
 use Rattle.lalrpop_emit.specs.Names.{IsName, is_name_byte}
-use Rattle.lalrpop_emit.specs.CSource.{listed, array, declaration, quoted_names, name_array, constant}
+use Rattle.lalrpop_emit.specs.CSource.{listed, listing, filled, array, mode_array, quoted_names, name_array}
 
 -- the list doesn't contain the number
 abbrev pub Lacks : ℕ → List ℕ → Type 0
@@ -45,7 +45,7 @@ digits_lack : (d : ℕ) (ds : List ℕ) → digit_value d ≡ 36 → AllDigits 1
 digits_lack d [] h all = tt
 digits_lack d (c ∷ cs) h all = ((λ e. omega (arith, all.0, h, ap digit_value e)), digits_lack d cs h all.1)
 
-decimal_lacks : (d n : ℕ) → digit_value d ≡ 36 → n < 2 ^ 64 → Lacks d (decimal n)
+pub decimal_lacks : (d n : ℕ) → digit_value d ≡ 36 → n < 2 ^ 64 → Lacks d (decimal n)
 decimal_lacks d n h small = digits_lack d (decimal n) h (decimal_is_IsNumeral n small).0.1
 
 name_lacks : (d : ℕ) (name : List ℕ) → is_name_byte d ≡ false → All (λ b. is_name_byte b ≡ true) name → Lacks d name
@@ -78,77 +78,65 @@ read_listed k (x ∷ xs) (y ∷ ys) r s l ax ay e =
     let rest = read_listed (k + 1) xs ys r s (omega (arith, l)) (All-tail (λ n. n < 2 ^ 64) x xs ax) (All-tail (λ n. n < 2 ^ 64) y ys ay) parts.1 in
     (ap (λ (z : ℕ). z ∷ xs) parts.0 ∙ ap (λ (zs : List ℕ). y ∷ zs) rest.0, rest.1)
 
--- ---- arrays, constants and names
+-- ---- parts
 
-assoc4 : (a b c d r : List ℕ) → (a ++ (b ++ (c ++ d))) ++ r ≡ a ++ (b ++ (c ++ (d ++ r)))
-assoc4 a b c d r = append_assoc a (b ++ (c ++ d)) r ∙ ap (λ (x : List ℕ). a ++ x) (append_assoc b (c ++ d) r ∙ ap (λ (x : List ℕ). b ++ x) (append_assoc c d r))
+-- texts of two parts, and what follows them
+pub peel : (a b c d r s : List ℕ) → (a ++ b) ++ r ≡ (c ++ d) ++ s → a ++ (b ++ r) ≡ c ++ (d ++ s)
+peel a b c d r s e = sym (append_assoc a b r) ∙ e ∙ append_assoc c d s
 
-assoc6 : (a b c d e f r : List ℕ) → (a ++ (b ++ (c ++ (d ++ (e ++ f))))) ++ r ≡ a ++ (b ++ (c ++ (d ++ (e ++ (f ++ r)))))
-assoc6 a b c d e f r =
-    append_assoc a (b ++ (c ++ (d ++ (e ++ f)))) r
-    ∙ ap (λ (x : List ℕ). a ++ x) (append_assoc b (c ++ (d ++ (e ++ f))) r ∙ ap (λ (x : List ℕ). b ++ x) (assoc4 c d e f r))
+-- the same where the first parts are one
+pub skip : (a b d r s : List ℕ) → (a ++ b) ++ r ≡ (a ++ d) ++ s → b ++ r ≡ d ++ s
+skip a b d r s e = append_cancel_left a (b ++ r) (d ++ s) (peel a b a d r s e)
 
--- what follows the declaration of an array
-abbrev body : List ℕ → List ℕ → List ℕ
-body ns r = codes "[" ++ (decimal (length ns) ++ (codes "] = {\n" ++ (listed 0 ns ++ (codes "};\n" ++ r))))
+-- ---- arrays and names
 
-read_body : (xs ys r s : List ℕ) → length xs < 2 ^ 64 → length ys < 2 ^ 64 → All (λ n. n < 2 ^ 64) xs → All (λ n. n < 2 ^ 64) ys → body xs r ≡ body ys s → (xs ≡ ys) × (r ≡ s)
-read_body xs ys r s lx ly ax ay e =
-    let inner = append_cancel_left (codes "[") _ _ e in
-    let size = read_decimal 93 (length xs) (length ys) (codes " = {\n") (listed 0 xs ++ (codes "};\n" ++ r)) (listed 0 ys ++ (codes "};\n" ++ s)) refl lx ly inner in
-    let parts = read_listed 0 xs ys (codes "};\n" ++ r) (codes "};\n" ++ s) size.0 ax ay size.1 in
+-- what `listing` has from the number of its numbers on
+abbrev from_count : List ℕ → List ℕ
+from_count ns = decimal (length ns) ++ (codes "] = {\n" ++ (listed 0 ns ++ codes "};\n"))
+
+pub read_listing : (xs ys r s : List ℕ) → length xs < 2 ^ 64 → length ys < 2 ^ 64 → All (λ n. n < 2 ^ 64) xs → All (λ n. n < 2 ^ 64) ys → listing xs ++ r ≡ listing ys ++ s → (xs ≡ ys) × (r ≡ s)
+unfolding listing
+read_listing xs ys r s lx ly ax ay e =
+    let count = skip (codes "[") (from_count xs) (from_count ys) r s e in
+    let size = read_decimal 93 (length xs) (length ys) (codes " = {\n") ((listed 0 xs ++ codes "};\n") ++ r) ((listed 0 ys ++ codes "};\n") ++ s) refl lx ly
+    (peel (decimal (length xs)) (codes "] = {\n" ++ (listed 0 xs ++ codes "};\n")) (decimal (length ys)) (codes "] = {\n" ++ (listed 0 ys ++ codes "};\n")) r s count) in
+    let parts = read_listed 0 xs ys (codes "};\n" ++ r) (codes "};\n" ++ s) size.0 ax ay (peel (listed 0 xs) (codes "};\n") (listed 0 ys) (codes "};\n") r s size.1) in
     (parts.0, append_cancel_left (codes "};\n") r s parts.1)
 
-pub read_array : (p type name xs ys r s : List ℕ) → length xs < 2 ^ 64 → length ys < 2 ^ 64 → All (λ n. n < 2 ^ 64) xs → All (λ n. n < 2 ^ 64) ys
-    → array p type name xs ++ r ≡ array p type name ys ++ s → (xs ≡ ys) × (r ≡ s)
+pub read_array : (p head xs ys r s : List ℕ) → length xs < 2 ^ 64 → length ys < 2 ^ 64 → All (λ n. n < 2 ^ 64) xs → All (λ n. n < 2 ^ 64) ys
+    → array p head xs ++ r ≡ array p head ys ++ s → (xs ≡ ys) × (r ≡ s)
 unfolding array
-read_array p type name xs ys r s lx ly ax ay e =
-    read_body xs ys r s lx ly ax ay
-    (append_cancel_left (declaration p type name) _ _
-    (sym (assoc6 (declaration p type name) (codes "[") (decimal (length xs)) (codes "] = {\n") (listed 0 xs) (codes "};\n") r)
-    ∙ e ∙ assoc6 (declaration p type name) (codes "[") (decimal (length ys)) (codes "] = {\n") (listed 0 ys) (codes "};\n") s))
+read_array p head xs ys r s lx ly ax ay e =
+    let named = skip (codes "static const ") (filled p head ++ listing xs) (filled p head ++ listing ys) r s e in
+    read_listing xs ys r s lx ly ax ay (skip (filled p head) (listing xs) (listing ys) r s named)
 
--- the type of an array may depend on its numbers
-declared_as : (p type name r : List ℕ) → declaration p type name ++ r ≡ codes "static const " ++ (type ++ ((codes " " ++ (p ++ (codes "_" ++ name))) ++ r))
-unfolding declaration
-declared_as p type name r =
-    append_assoc (codes "static const ") (type ++ (codes " " ++ (p ++ (codes "_" ++ name)))) r
-    ∙ ap (λ (x : List ℕ). codes "static const " ++ x) (append_assoc type (codes " " ++ (p ++ (codes "_" ++ name))) r)
-
-pub read_typed_array : (p type type2 name xs ys r s : List ℕ) → Lacks 32 type → Lacks 32 type2 → length xs < 2 ^ 64 → length ys < 2 ^ 64 → All (λ n. n < 2 ^ 64) xs → All (λ n. n < 2 ^ 64) ys
-    → array p type name xs ++ r ≡ array p type2 name ys ++ s → (xs ≡ ys) × (r ≡ s)
-unfolding array
-read_typed_array p type type2 name xs ys r s lack lack2 lx ly ax ay e =
-    let whole : declaration p type name ++ body xs r ≡ declaration p type2 name ++ body ys s =
-    sym (assoc6 (declaration p type name) (codes "[") (decimal (length xs)) (codes "] = {\n") (listed 0 xs) (codes "};\n") r)
-    ∙ e ∙ assoc6 (declaration p type2 name) (codes "[") (decimal (length ys)) (codes "] = {\n") (listed 0 ys) (codes "};\n") s in
-    let behind = append_cancel_left (codes "static const ") _ _ (sym (declared_as p type name (body xs r)) ∙ whole ∙ declared_as p type2 name (body ys s)) in
-    read_body xs ys r s lx ly ax ay (cut_before 32 type type2 (p ++ (codes "_" ++ name)) (body xs r) (body ys s) lack lack2 behind).1
-
-pub read_constant : (p name : List ℕ) (m n : ℕ) (r s : List ℕ) → m < 2 ^ 64 → n < 2 ^ 64 → constant p name m ++ r ≡ constant p name n ++ s → (m ≡ n) × (r ≡ s)
-unfolding constant
-read_constant p name m n r s small few e =
-    let d = declaration p (codes "size_t") name in
-    let behind = append_cancel_left d _ _ (sym (assoc4 d (codes " = ") (decimal m) (codes ";\n") r) ∙ e ∙ assoc4 d (codes " = ") (decimal n) (codes ";\n") s) in
-    read_decimal 59 m n (codes "\n") r s refl small few (append_cancel_left (codes " = ") _ _ behind)
+pub read_mode_array : (p head : List ℕ) (k : ℕ) (xs ys r s : List ℕ) → length xs < 2 ^ 64 → length ys < 2 ^ 64 → All (λ n. n < 2 ^ 64) xs → All (λ n. n < 2 ^ 64) ys
+    → mode_array p head k xs ++ r ≡ mode_array p head k ys ++ s → (xs ≡ ys) × (r ≡ s)
+unfolding mode_array
+read_mode_array p head k xs ys r s lx ly ax ay e =
+    let named = skip (codes "static const ") (filled p head ++ (decimal k ++ listing xs)) (filled p head ++ (decimal k ++ listing ys)) r s e in
+    read_listing xs ys r s lx ly ax ay (skip (decimal k) (listing xs) (listing ys) r s (skip (filled p head) (decimal k ++ listing xs) (decimal k ++ listing ys) r s named))
 
 read_quoted : (xs ys : List (List ℕ)) (r s : List ℕ) → length xs ≡ length ys → All IsName xs → All IsName ys → quoted_names xs ++ r ≡ quoted_names ys ++ s → (xs ≡ ys) × (r ≡ s)
 read_quoted [] [] r s l ax ay e = (refl, e)
 read_quoted [] (y ∷ ys) r s l ax ay e = absurd (omega (arith, l))
 read_quoted (x ∷ xs) [] r s l ax ay e = absurd (omega (arith, l))
 read_quoted (x ∷ xs) (y ∷ ys) r s l ax ay e =
-    let behind = append_cancel_left (codes "    \"") _ _ (sym (assoc4 (codes "    \"") x (codes "\",\n") (quoted_names xs) r) ∙ e ∙ assoc4 (codes "    \"") y (codes "\",\n") (quoted_names ys) s) in
-    let parts = cut_before 34 x y (codes ",\n") (quoted_names xs ++ r) (quoted_names ys ++ s) (name_without 34 x refl (All-head IsName x xs ax)) (name_without 34 y refl (All-head IsName y ys ay)) behind in
+    let behind = skip (codes "    \"") (x ++ (codes "\",\n" ++ quoted_names xs)) (y ++ (codes "\",\n" ++ quoted_names ys)) r s e in
+    let parts = cut_before 34 x y (codes ",\n") (quoted_names xs ++ r) (quoted_names ys ++ s) (name_without 34 x refl (All-head IsName x xs ax)) (name_without 34 y refl (All-head IsName y ys ay))
+    (peel x (codes "\",\n" ++ quoted_names xs) y (codes "\",\n" ++ quoted_names ys) r s behind) in
     let rest = read_quoted xs ys r s (omega (arith, l)) (All-tail IsName x xs ax) (All-tail IsName y ys ay) parts.1 in
     (ap (λ (z : List ℕ). z ∷ xs) parts.0 ∙ ap (λ (zs : List (List ℕ)). y ∷ zs) rest.0, rest.1)
+
+-- what `name_array` has from the number of names on
+abbrev from_names : List (List ℕ) → List ℕ
+from_names ns = decimal (length ns) ++ (codes "] = {\n" ++ (quoted_names ns ++ codes "};\n"))
 
 pub read_name_array : (p : List ℕ) (xs ys : List (List ℕ)) (r s : List ℕ) → length xs < 2 ^ 64 → length ys < 2 ^ 64 → All IsName xs → All IsName ys → name_array p xs ++ r ≡ name_array p ys ++ s → (xs ≡ ys) × (r ≡ s)
 unfolding name_array
 read_name_array p xs ys r s lx ly ax ay e =
-    let d = declaration p (codes "char *const") (codes "names") in
-    let whole = append_cancel_left d _ _
-    (sym (assoc6 d (codes "[") (decimal (length xs)) (codes "] = {\n") (quoted_names xs) (codes "};\n") r) ∙ e ∙ assoc6 d (codes "[") (decimal (length ys)) (codes "] = {\n") (quoted_names ys) (codes "};\n") s) in
-    let inner = append_cancel_left (codes "[") _ _ whole in
-    let size = read_decimal 93 (length xs) (length ys) (codes " = {\n") (quoted_names xs ++ (codes "};\n" ++ r)) (quoted_names ys ++ (codes "};\n" ++ s)) refl lx ly inner in
-    let parts = read_quoted xs ys (codes "};\n" ++ r) (codes "};\n" ++ s) size.0 ax ay size.1 in
+    let count = skip (filled p (codes "static const char *const $_names[")) (from_names xs) (from_names ys) r s e in
+    let size = read_decimal 93 (length xs) (length ys) (codes " = {\n") ((quoted_names xs ++ codes "};\n") ++ r) ((quoted_names ys ++ codes "};\n") ++ s) refl lx ly
+    (peel (decimal (length xs)) (codes "] = {\n" ++ (quoted_names xs ++ codes "};\n")) (decimal (length ys)) (codes "] = {\n" ++ (quoted_names ys ++ codes "};\n")) r s count) in
+    let parts = read_quoted xs ys (codes "};\n" ++ r) (codes "};\n" ++ s) size.0 ax ay (peel (quoted_names xs) (codes "};\n") (quoted_names ys) (codes "};\n") r s size.1) in
     (parts.0, append_cancel_left (codes "};\n") r s parts.1)

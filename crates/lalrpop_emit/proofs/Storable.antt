@@ -1,44 +1,73 @@
--- The numbers of a lexer fit the types of C.
-use Rattle.std.proofs.Common.{◌≡◌, ℕ, ◌<◌, ◌^◌, Bool, List, length, map, string_bytes, sym, ap, subst, arith, Global}
-use Rattle.std.specs.Prelude.{String}
+-- The numbers of rules can be stored in C and Rust, and a driver can rely on them.
+use Rattle.std.proofs.Common.{◌≡◌, ℕ, ◌<◌, ◌^◌, List, length, sym, ap, subst, arith, get_or}
+use Rattle.std.specs.Prelude.{slice_get, Some}
 use Rattle.std.specs.List.{All}
 use Rattle.std.proofs.lemmas.List.{length-map}
 use Rattle.std.proofs.lemmas.List.Elements.{All-nil}
-use Rattle.lalrpop_dense.specs.DenseTable.{TableNumbers}
+use Rattle.std.proofs.lemmas.List.FromFn.{length-map-range_with_len}
+use Rattle.std.proofs.lemmas.Option.{slice_get-get_or}
+use Rattle.lalrpop_modes.specs.Modes.{ModeRules}
+use Rattle.lalrpop_modes.specs.Stack.{actions_of}
 use Rattle.lalrpop_emit.specs.Names.{IsName, distinct_names, kinds_of, place_of_name}
-use Rattle.lalrpop_emit.specs.NumberedRules.{IsStorable}
-use Rattle.lalrpop_emit.proofs.NameLists.{distinct_are_names, no_more_kinds}
+use Rattle.lalrpop_emit.specs.NumberedRules.{NumberedRules, IsStorable, actions_of_rules, first_places, action_numbers}
+use Rattle.lalrpop_emit.specs.Internal.Lists.{AreModeTables, AreSmall, LeadBelow}
+use Rattle.lalrpop_emit.specs.Internal.Walking.{IsDrivable, AreRulesBelow, AreActionsAt}
+use Rattle.lalrpop_emit.proofs.ActionNumbers.{actions_at, count_places}
+use Rattle.lalrpop_emit.proofs.ModeTables.{walkable}
+use Rattle.lalrpop_emit.proofs.NameLists.{distinct_are_names, few_distinct}
 
--- what holds of the numbers of a table
-pub record FitsC (t : TableNumbers) : Type 0 where
-  pub blocks : All (λ n. n < 2 ^ 8) t.blocks
-  pub pages : All (λ n. n < 2 ^ 16) t.pages
-  pub cells : All (λ n. n < 2 ^ 32) t.cells
-  pub lengths : (length t.blocks < 2 ^ 64) × (length t.pages < 2 ^ 64) × (length t.cells < 2 ^ 64)
-  pub places : (t.start < 2 ^ 64) × (t.width < 2 ^ 64) × (t.live < 2 ^ 64) × (t.accept < 2 ^ 64)
+-- what is known of rules and their numbers
+pub record AreMade (r : ModeRules) (n : NumberedRules) : Type 0 where
+  pub names : n.names ≡ distinct_names r.names
+  pub good_names : All IsName r.names
+  pub few_names : length r.names < 2 ^ 16
+  pub kinds : n.kinds ≡ kinds_of r.names
+  pub small_kinds : All (λ k. k < 2 ^ 16) n.kinds
+  pub all_skips : length n.skips < 2 ^ 64
+  pub first_actions : n.first_actions ≡ first_places 0 (actions_of_rules r)
+  pub small_places : AreSmall n.first_actions
+  pub actions : n.actions ≡ action_numbers (actions_of_rules r)
+  pub small_actions : AreSmall n.actions
+  pub all_actions : length n.actions < 2 ^ 64
+  pub below : All (LeadBelow r.modes) (actions_of_rules r)
+  pub modes : length n.tables ≡ r.modes
+  pub some_mode : 0 < r.modes
+  pub few_modes : r.modes < 2 ^ 16
+  pub tables : AreModeTables r n.tables
 
-pub storable : (names distinct : List (String Global)) (kinds : List ℕ) (skips : List Bool) (t : TableNumbers) → length names < 2 ^ 16 → All IsName (map string_bytes names)
-    → map string_bytes distinct ≡ distinct_names (map string_bytes names) → kinds ≡ kinds_of (map string_bytes names) → All (λ n. n < 2 ^ 16) kinds → length skips < 2 ^ 64 → FitsC t
-    → IsStorable (record { names = map string_bytes distinct; kinds = kinds; skips = skips; table = t })
-storable names distinct kinds skips t few good e k small room f = record {
-  names = subst (All IsName) (sym e) (distinct_are_names _ (map string_bytes names) (All-nil IsName) good);
-  few_names = omega (arith, length-map distinct string_bytes, no_more_kinds distinct names e);
-  rules = omega (arith, ap length k, length-map (map string_bytes names) (place_of_name (distinct_names (map string_bytes names))), length-map names string_bytes);
-  skips = room;
-  kinds = small;
-  blocks = f.blocks;
-  all_blocks = f.lengths.0;
-  pages = f.pages;
-  all_pages = f.lengths.1;
-  cells = f.cells;
-  all_cells = f.lengths.2;
-  start = f.places.0;
-  width = f.places.1;
-  live = f.places.2;
-  accept = f.places.3;
+-- there is a kind, and a place of actions, for each name
+kind_count : (r : ModeRules) (n : NumberedRules) → AreMade r n → length n.kinds ≡ length r.names
+kind_count r n h = omega (arith, ap length h.kinds, length-map r.names (place_of_name (distinct_names r.names)))
+
+place_count : (r : ModeRules) (n : NumberedRules) → AreMade r n → length n.first_actions ≡ length r.names
+place_count r n h =
+    omega (arith, ap length h.first_actions, count_places 0 (actions_of_rules r), length-map-range_with_len (actions_of r.actions) 0 (length r.names))
+
+pub storable : (r : ModeRules) (n : NumberedRules) → AreMade r n → IsStorable n
+storable r n h = record {
+  names = subst (All IsName) (sym h.names) (distinct_are_names _ r.names (All-nil IsName) h.good_names);
+  few_names = omega (arith, ap length h.names, few_distinct r.names, h.few_names);
+  kinds = h.small_kinds;
+  all_kinds = omega (arith, kind_count r n h, h.few_names);
+  skips = h.all_skips;
+  first_actions = h.small_places;
+  all_first_actions = omega (arith, place_count r n h, h.few_names);
+  actions = h.small_actions;
+  all_actions = h.all_actions;
+  modes = omega (arith, h.modes, h.few_modes);
+  tables = λ m t l. (h.tables m (get_or n.tables m t) (slice_get-get_or n.tables m t l)).storable;
 }
 
--- there is a kind for each name
-pub kind_count : (names : List (String Global)) (kinds : List ℕ) → kinds ≡ kinds_of (map string_bytes names) → length kinds ≡ length names
-kind_count names kinds k =
-    omega (arith, ap length k, length-map (map string_bytes names) (place_of_name (distinct_names (map string_bytes names))), length-map names string_bytes)
+pub drivable : (r : ModeRules) (n : NumberedRules) → AreMade r n → IsDrivable n
+drivable r n h = record {
+  some = omega (arith, h.modes, h.some_mode);
+  walkable = λ m t at. let mode = (h.tables m t at).of_mode in walkable t mode.automaton mode.right;
+  rules = λ m t at. subst (AreRulesBelow t) (sym (kind_count r n h)) (h.tables m t at).rules;
+  first = omega (arith, place_count r n h, kind_count r n h);
+  actions = λ i place at. (
+    actions_of r.actions i,
+    subst (λ (ns : List ℕ). AreActionsAt ns (length n.tables) place (actions_of r.actions i)) (sym h.actions)
+        (subst (λ (modes : ℕ). AreActionsAt (action_numbers (actions_of_rules r)) modes place (actions_of r.actions i)) (sym h.modes)
+        (actions_at r i place h.below (subst (λ (ns : List ℕ). slice_get ns i ≡ Some place) h.first_actions at))),
+  );
+}

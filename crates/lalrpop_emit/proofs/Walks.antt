@@ -19,7 +19,6 @@ use Rattle.lalrpop_dfa.proofs.EdgeTargets.{the_some}
 use Rattle.lalrpop_dfa.proofs.TextWords.{text_word}
 use Rattle.lalrpop_dfa.proofs.LongestLemmas.{IsLongestUpTo, longest_start, says_of, reject_at, none_after, done}
 use Rattle.lalrpop_dense.specs.DenseTable.{TableNumbers, AreClasses, IsRowLike, IsTableFor, block_of_page, character_class, next_row, row_after}
-use Rattle.lalrpop_emit.specs.NumberedRules.{AreBelow}
 use Rattle.lalrpop_emit.specs.Internal.Characters.{IsCharacterAt}
 use Rattle.lalrpop_emit.specs.Internal.Walking.{IsWalkable, AreRulesBelow}
 use Rattle.lalrpop_emit.proofs.ByteCuts.{IsRead, read_start, read_more, word_after, goes_on, ends_there, no_longer, character_of_rest}
@@ -48,20 +47,10 @@ kind_neither t row (Accepts i) h l m = absurd (omega (arith, h.1))
 kind_neither t row Reject h l m = absurd (omega (arith, h))
 kind_neither t row Neither h l m = refl
 
-kind_accepts : (t : TableNumbers) (row : ℕ) (k : Kind) → IsRowLike t row k → t.live ≤ row → t.accept ≤ row → k ≡ Accepts (get_or t.cells (row + t.width) 0)
+pub kind_accepts : (t : TableNumbers) (row : ℕ) (k : Kind) → IsRowLike t row k → t.live ≤ row → t.accept ≤ row → k ≡ Accepts (get_or t.cells (row + t.width) 0)
 kind_accepts t row (Accepts i) h l m = ap (λ n. Accepts n) (sym h.2)
 kind_accepts t row Reject h l m = absurd (omega (arith, h))
 kind_accepts t row Neither h l m = absurd (omega (arith, h.1))
-
--- the numbers that are right for an automaton can be walked along
-pub walkable : (t : TableNumbers) (d : List Row) → IsTableFor t d → IsWalkable t
-walkable t d h = record { classes = h.classes; within = h.within }
-
--- the rules that the rows accept are patterns of the automaton
-pub rules_below : (t : TableNumbers) (d : List Row) (count : ℕ) → IsTableFor t d → AreBelow d count → AreRulesBelow t count
-rules_below t d count h below w word live accept =
-    let found = the_some (slice_get d (after d w)) (λ r. IsRowLike t (row_after t t.start w) r.kind) (h.alike w word) in
-    below (after d w) (get_or t.cells (row_after t t.start w + t.width) 0) found.0 found.1.0 (kind_accepts t (row_after t t.start w) found.0.kind found.1.1 live accept)
 
 -- ---- one character more
 

@@ -1,12 +1,15 @@
 -- cases: proofs/Cases/BytePieces.antt
 -- The pieces of a text of bytes, which may be no UTF-8: what isn't UTF-8 matches nothing.
-use Rattle.std.specs.Prelude.{◌≡◌, ℕ, ◌<◌, ◌≤◌, ◌⊎◌, List, length, take, drop, slice_get, Option, Some, None}
+use Rattle.std.specs.Prelude.{◌≡◌, ℕ, ◌+◌, ◌<◌, ◌≤◌, ◌⊎◌, Bool, true, false, List, [], ◌∷◌, length, take, drop, slice_get, Option, Some, None}
 use Rattle.lalrpop_book.specs.Tree.{Tree}
 use Rattle.lalrpop_book.specs.Longest.{IsLongest}
-use Rattle.lalrpop_book.specs.Chain.{Chain, AtEnd}
+use Rattle.lalrpop_book.specs.Chain.{AtEnd}
 use Rattle.lalrpop_rules.specs.Found.{MatchesAt, NoMatchBefore}
 use Rattle.lalrpop_rules.specs.declared.item.Item.{Item}
 use Rattle.lalrpop_rules.specs.declared.item.Item.TheVariants.{Token, Skipped, Fault}
+use Rattle.lalrpop_modes.specs.declared.action.Action.{Action}
+use Rattle.lalrpop_modes.specs.Stack.{Stack, start, act, act_all, actions_of}
+use Rattle.lalrpop_modes.specs.Modes.{ModeRules, trees_in}
 use Rattle.lalrpop_emit.specs.declared.numbered_piece.NumberedPiece.{NumberedPiece}
 
 -- a token of this rule and length at the front of a text: the longest match; its kind is that of its rule
@@ -32,9 +35,45 @@ IsByteTokenOrFault ts ps kinds text (Some kind) rule size = IsByteToken ts ps ki
 abbrev pub IsBytePiece : List Tree → List ℕ → List ℕ → List ℕ → ℕ → NumberedPiece → Type 0
 IsBytePiece ts ps kinds text at p = (p.start ≡ at) × IsByteTokenOrFault ts ps kinds (drop at text) p.kind p.rule p.length
 
--- all pieces of the text from a place on, one after another up to its end
-abbrev pub AreBytePieces : List Tree → List ℕ → List ℕ → List ℕ → ℕ → List NumberedPiece → Type 0
-AreBytePieces ts ps kinds text = Chain (λ p. p.length) (IsBytePiece ts ps kinds text) (AtEnd text)
+-- ---- pieces in modes
+
+-- the actions of a token's rule; a fault, which has no kind, has none
+abbrev pub rule_actions : List (List Action) → Option ℕ → ℕ → List Action
+rule_actions actions None rule = []
+rule_actions actions (Some kind) rule = actions_of actions rule
+
+-- the actions of a piece
+abbrev pub piece_actions : List (List Action) → NumberedPiece → List Action
+piece_actions actions p = rule_actions actions p.kind p.rule
+
+-- the stack after a piece
+abbrev pub after_piece : List (List Action) → NumberedPiece → Stack → Stack
+after_piece actions p s = act_all (piece_actions actions p) s
+
+-- after each of the actions, one after another, at most `room` modes lie below the one on top
+abbrev pub Fits : ℕ → List Action → Stack → Type 0
+Fits room [] s = Unit {0}
+Fits room (a ∷ actions) s = (length (act a s).below ≤ room) × Fits room actions (act a s)
+
+-- the piece of the text at this place, by the rules of the mode on top
+abbrev pub IsModePiece : ModeRules → List ℕ → List ℕ → ℕ → Stack → NumberedPiece → Type 0
+IsModePiece r kinds text at s p = IsBytePiece (trees_in r s.mode) r.precedences kinds text at p
+
+-- where the pieces stop: at the end of the text, if they are whole; else where the next one's actions don't fit
+abbrev pub StopsAt : ModeRules → List ℕ → ℕ → List ℕ → Bool → ℕ → Stack → Type 0
+StopsAt r kinds room text true at s = AtEnd text at
+StopsAt r kinds room text false at s = (p : NumberedPiece) × (IsModePiece r kinds text at s p × ¬ Fits room (piece_actions r.actions p) s)
+
+-- the pieces of the text from a place and a stack on, one after another
+abbrev pub AreBytePiecesFrom : ModeRules → List ℕ → ℕ → List ℕ → Bool → ℕ → Stack → List NumberedPiece → Type 0
+AreBytePiecesFrom r kinds room text is_whole at s [] = StopsAt r kinds room text is_whole at s
+AreBytePiecesFrom r kinds room text is_whole at s (p ∷ pieces) =
+    IsModePiece r kinds text at s p × Fits room (piece_actions r.actions p) s
+    × AreBytePiecesFrom r kinds room text is_whole (at + p.length) (after_piece r.actions p s) pieces
+
+-- the pieces of the text from its beginning on, where at most `room` modes lie below the one on top
+abbrev pub AreBytePieces : ModeRules → List ℕ → ℕ → List ℕ → List NumberedPiece → Bool → Type 0
+AreBytePieces r kinds room text pieces is_whole = AreBytePiecesFrom r kinds room text is_whole 0 start pieces
 
 -- a piece of a UTF-8 text in numbers: a token, skipped or not, with the kind of its rule, or a fault
 abbrev pub numbered : List ℕ → Item → NumberedPiece

@@ -1,29 +1,27 @@
 -- cases: proofs/Cases/CSource.antt
 -- The source file of a lexer in C.
-use Rattle.std.specs.Prelude.{ℕ, ◌+◌, ◌%◌, ◌==◌, Bool, List, [], ◌∷◌, ◌++◌, length, map, codes, decimal, flat_map, chars, encode_utf8, nat_lt, if◌then◌else◌}
+use Rattle.std.specs.Prelude.{ℕ, ◌+◌, ◌-◌, ◌%◌, ◌==◌, Bool, List, [], ◌∷◌, ◌++◌, length, map, codes, decimal, flat_map, chars, encode_utf8, nat_lt, if◌then◌else◌}
 use Rattle.std.specs.List.{list_all}
 use Rattle.lalrpop_dense.specs.DenseTable.{TableNumbers}
 use Rattle.lalrpop_emit.specs.NumberedRules.{NumberedRules}
-use Rattle.lalrpop_emit.specs.declared.c_text.TheConstants.{HEAD, DRIVER}
+use Rattle.lalrpop_emit.specs.declared.c_text.TheConstants.{HEAD, TABLE, DRIVER}
 
 -- a fixed text, with the prefix for each `$`
 unfoldable pub filled : List ℕ → List ℕ → List ℕ
 filled prefix text = flat_map (λ c. if c == 36 then prefix else encode_utf8 c) (chars text)
-
--- `static const TYPE PREFIX_NAME`
-unfoldable pub declaration : List ℕ → List ℕ → List ℕ → List ℕ
-declaration prefix type name = codes "static const " ++ (type ++ (codes " " ++ (prefix ++ (codes "_" ++ name))))
 
 -- numbers from the place k of a list on, each with a comma behind it, sixteen on a line
 abbrev pub listed : ℕ → List ℕ → List ℕ
 listed k [] = []
 listed k (n ∷ ns) = decimal n ++ (44 ∷ ((if k % 16 == 15 then 10 else 32) ∷ listed (k + 1) ns))
 
-unfoldable pub array : List ℕ → List ℕ → List ℕ → List ℕ → List ℕ
-array prefix type name ns = declaration prefix type name ++ (codes "[" ++ (decimal (length ns) ++ (codes "] = {\n" ++ (listed 0 ns ++ codes "};\n"))))
+-- how many numbers an array has, and which
+unfoldable pub listing : List ℕ → List ℕ
+listing ns = codes "[" ++ (decimal (length ns) ++ (codes "] = {\n" ++ (listed 0 ns ++ codes "};\n")))
 
-unfoldable pub constant : List ℕ → List ℕ → ℕ → List ℕ
-constant prefix name n = declaration prefix (codes "size_t") name ++ (codes " = " ++ (decimal n ++ codes ";\n"))
+-- an array of constants with this type and name
+unfoldable pub array : List ℕ → List ℕ → List ℕ → List ℕ
+array prefix head ns = codes "static const " ++ (filled prefix head ++ listing ns)
 
 -- the names of the kinds
 abbrev pub quoted_names : List (List ℕ) → List ℕ
@@ -32,42 +30,95 @@ quoted_names (name ∷ names) = codes "    \"" ++ (name ++ (codes "\",\n" ++ quo
 
 unfoldable pub name_array : List ℕ → List (List ℕ) → List ℕ
 name_array prefix names =
-    declaration prefix (codes "char *const") (codes "names") ++ (codes "[" ++ (decimal (length names) ++ (codes "] = {\n" ++ (quoted_names names ++ codes "};\n"))))
+    filled prefix (codes "static const char *const $_names[")
+    ++ (decimal (length names) ++ (codes "] = {\n" ++ (quoted_names names ++ codes "};\n")))
 
 -- an enumerator for each kind from the number k on
 abbrev pub enumerators : List ℕ → ℕ → List (List ℕ) → List ℕ
 enumerators prefix k [] = []
 enumerators prefix k (name ∷ names) =
-    codes "    " ++ (prefix ++ (codes "_kind_" ++ (name ++ (codes " = " ++ (decimal k ++ (codes ",\n" ++ enumerators prefix (k + 1) names))))))
+    filled prefix (codes "    $_kind_") ++ (name ++ (codes " = " ++ (decimal k ++ (codes ",\n" ++ enumerators prefix (k + 1) names))))
 
 unfoldable pub kind_enum : List ℕ → List (List ℕ) → List ℕ
-kind_enum prefix names = codes "enum {\n" ++ (enumerators prefix 0 names ++ (codes "    " ++ (prefix ++ codes "_fault = -1\n};\n")))
+kind_enum prefix names = codes "enum {\n" ++ (enumerators prefix 0 names ++ filled prefix (codes "    $_fault = -1\n};\n"))
 
 -- 1 for true
 abbrev pub flags : List Bool → List ℕ
 flags bs = map (λ b. if b then 1 else 0) bs
 
--- the type of the cells: 16 bits if they fit
-unfoldable pub cell_type : List ℕ → List ℕ
-cell_type cells = if list_all (λ n. nat_lt n 65536) cells then codes "uint16_t" else codes "uint32_t"
-
-unfoldable pub table_text : List ℕ → TableNumbers → List ℕ
-table_text prefix t =
-    constant prefix (codes "start") t.start
-    ++ (constant prefix (codes "width") t.width
-    ++ (constant prefix (codes "live") t.live
-    ++ (constant prefix (codes "accept") t.accept
-    ++ (array prefix (codes "uint8_t") (codes "blocks") t.blocks
-    ++ (array prefix (codes "uint16_t") (codes "pages") t.pages
-    ++ array prefix (cell_type t.cells) (codes "cells") t.cells)))))
-
+-- the names of the rules, and their numbers
 unfoldable pub rules_text : List ℕ → NumberedRules → List ℕ
 rules_text prefix r =
     name_array prefix r.names
     ++ (kind_enum prefix r.names
-    ++ (array prefix (codes "uint16_t") (codes "kinds") r.kinds
-    ++ array prefix (codes "uint8_t") (codes "skipped") (flags r.skips)))
+    ++ (array prefix (codes "uint16_t $_kinds") r.kinds
+    ++ (array prefix (codes "uint8_t $_skipped") (flags r.skips)
+    ++ (array prefix (codes "uint32_t $_first_actions") r.first_actions
+    ++ array prefix (codes "uint32_t $_actions") r.actions))))
+
+-- the cells fit 16 bits
+abbrev pub is_narrow : TableNumbers → Bool
+is_narrow t = list_all (λ n. nat_lt n 65536) t.cells
+
+-- the type of the cells of all tables: 16 bits if they fit
+unfoldable pub cell_type : List TableNumbers → List ℕ
+cell_type ts = if list_all is_narrow ts then codes "uint16_t" else codes "uint32_t"
+
+unfoldable pub cell_typedef : List ℕ → List TableNumbers → List ℕ
+cell_typedef prefix ts = codes "typedef " ++ (cell_type ts ++ (codes " " ++ filled prefix (codes "$_cell;\n")))
+
+-- how many modes there are
+unfoldable pub mode_count : List ℕ → ℕ → List ℕ
+mode_count prefix n = filled prefix (codes "enum { $_modes = ") ++ (decimal n ++ codes " };\n")
+
+-- an array whose name ends with the number k of a mode
+unfoldable pub mode_array : List ℕ → List ℕ → ℕ → List ℕ → List ℕ
+mode_array prefix head k ns = codes "static const " ++ (filled prefix head ++ (decimal k ++ listing ns))
+
+-- the arrays of the table of mode k
+unfoldable pub mode_arrays : List ℕ → ℕ → TableNumbers → List ℕ
+mode_arrays prefix k t =
+    mode_array prefix (codes "uint8_t $_blocks_") k t.blocks
+    ++ (mode_array prefix (codes "uint16_t $_pages_") k t.pages
+    ++ mode_array prefix (codes "$_cell $_cells_") k t.cells)
+
+-- the arrays of the tables from mode k on
+abbrev pub table_arrays : List ℕ → ℕ → List TableNumbers → List ℕ
+table_arrays prefix k [] = []
+table_arrays prefix k (t ∷ ts) = mode_arrays prefix k t ++ table_arrays prefix (k + 1) ts
+
+-- a number behind a comma
+unfoldable pub field : ℕ → List ℕ
+field n = codes ", " ++ decimal n
+
+-- where the table of mode k begins: the names of its arrays
+unfoldable pub row_arrays : List ℕ → ℕ → List ℕ
+row_arrays prefix k =
+    filled prefix (codes "    {$_blocks_") ++ (decimal k
+    ++ (filled prefix (codes ", $_pages_") ++ (decimal k
+    ++ (filled prefix (codes ", $_cells_") ++ decimal k))))
+
+-- the table of mode k: its arrays, the index of its last page, and its other numbers
+unfoldable pub table_row : List ℕ → ℕ → TableNumbers → List ℕ
+table_row prefix k t =
+    row_arrays prefix k
+    ++ (field (length t.pages - 1) ++ (field t.start ++ (field t.width ++ (field t.live ++ (field t.accept ++ codes "},\n")))))
+
+-- the tables from mode k on
+abbrev pub table_rows : List ℕ → ℕ → List TableNumbers → List ℕ
+table_rows prefix k [] = []
+table_rows prefix k (t ∷ ts) = table_row prefix k t ++ table_rows prefix (k + 1) ts
+
+-- the tables, behind the types and arrays that they need
+unfoldable pub tables_text : List ℕ → List TableNumbers → List ℕ
+tables_text prefix ts =
+    cell_typedef prefix ts
+    ++ (filled prefix TABLE.now
+    ++ (mode_count prefix (length ts)
+    ++ (table_arrays prefix 0 ts
+    ++ (filled prefix (codes "static const $_table $_tables[$_modes] = {\n") ++ (table_rows prefix 0 ts ++ codes "};\n")))))
 
 -- the whole file
 unfoldable pub c_file : List ℕ → NumberedRules → List ℕ
-c_file prefix r = codes "/* " ++ (prefix ++ (codes ":" ++ (HEAD.now ++ (rules_text prefix r ++ (table_text prefix r.table ++ filled prefix DRIVER.now)))))
+c_file prefix r =
+    codes "/* " ++ (prefix ++ (codes ":" ++ (HEAD.now ++ (rules_text prefix r ++ (tables_text prefix r.tables ++ filled prefix DRIVER.now)))))

@@ -1,11 +1,13 @@
 -- cases: proofs/Cases/EmitErrors.antt
 -- Which error comes when.
-use Rattle.std.specs.Prelude.{◌≡◌, ℕ, ◌^◌, ◌<◌, ◌≤◌, Bool, List, [], length, Some, slice_get}
-use Rattle.lalrpop_dfa.specs.Dfa.{Row}
+use Rattle.std.specs.Prelude.{◌≡◌, ℕ, ◌^◌, ◌<◌, ◌≤◌, List, [], length, Some, slice_get}
+use Rattle.lalrpop_lexer.specs.Dfa.{Row}
+use Rattle.lalrpop_dfa.specs.declared.Kind.TheVariants.{Accepts}
+use Rattle.lalrpop_modes.specs.Modes.{ModeRules}
 use Rattle.lalrpop_emit.specs.Names.{IsName, IsIdentifier}
-use Rattle.lalrpop_emit.specs.NumberedRules.{IsAccepted}
+use Rattle.lalrpop_emit.specs.NumberedRules.{action_numbers, actions_of_rules}
 use Rattle.lalrpop_emit.specs.declared.error.EmitError.{EmitError}
-use Rattle.lalrpop_emit.specs.declared.error.EmitError.TheVariants.{NoRules, BadName, SkipCount, NoName, TooManyRules, BadPrefix, NoTable, OutOfMemory}
+use Rattle.lalrpop_emit.specs.declared.error.EmitError.TheVariants.{NoRules, BadName, SkipCount, NoName, TooManyRules, TooManyModes, TooManyActions, BadVariant, BadPrefix, NoTable, OutOfMemory}
 
 -- the name of rule i is the first that can't be part of an identifier
 pub record IsFirstBadName (names : List (List ℕ)) (i : ℕ) : Type 0 where
@@ -14,24 +16,45 @@ pub record IsFirstBadName (names : List (List ℕ)) (i : ℕ) : Type 0 where
   pub bad : ¬ IsName name
   pub before : (j : ℕ) (n : List ℕ) → j < i → slice_get names j ≡ Some n → IsName n
 
--- the error of numbers is right
-abbrev pub IsNumbersError : List Row → List (List ℕ) → List Bool → EmitError → Type 0
-IsNumbersError d names skips NoRules = names ≡ []
-IsNumbersError d names skips (BadName i) = IsFirstBadName names i
-IsNumbersError d names skips SkipCount = ¬ (length skips ≡ length names)
-IsNumbersError d names skips (NoName i) = (length names ≤ i) × IsAccepted d i
-IsNumbersError d names skips TooManyRules = 2 ^ 16 ≤ length names
-IsNumbersError d names skips BadPrefix = ⊥
-IsNumbersError d names skips NoTable = Unit {0}
-IsNumbersError d names skips OutOfMemory = Unit {0}
+-- some state accepts the pattern
+pub record IsAccepted (d : List Row) (pattern : ℕ) : Type 0 where
+  pub state : ℕ
+  pub row : Row
+  pub at : slice_get d state ≡ Some row
+  pub accepts : row.kind ≡ Accepts pattern
 
--- the error of a source file is right
+-- the automaton of some mode accepts the pattern, and there are fewer names
+pub record IsUnnamed (r : ModeRules) (pattern : ℕ) : Type 0 where
+  pub past : length r.names ≤ pattern
+  pub mode : ℕ
+  pub automaton : List Row
+  pub at : slice_get r.automata mode ≡ Some automaton
+  pub accepted : IsAccepted automaton pattern
+
+-- the error of numbers is right
+abbrev pub IsNumbersError : ModeRules → EmitError → Type 0
+IsNumbersError r NoRules = r.names ≡ []
+IsNumbersError r (BadName i) = IsFirstBadName r.names i
+IsNumbersError r SkipCount = ¬ (length r.skips ≡ length r.names)
+IsNumbersError r (NoName pattern) = IsUnnamed r pattern
+IsNumbersError r TooManyRules = 2 ^ 16 ≤ length r.names
+IsNumbersError r TooManyModes = 2 ^ 16 ≤ r.modes
+IsNumbersError r TooManyActions = 2 ^ 32 ≤ length (action_numbers (actions_of_rules r))
+IsNumbersError r (BadVariant kind) = ⊥
+IsNumbersError r BadPrefix = ⊥
+IsNumbersError r NoTable = Unit {0}
+IsNumbersError r OutOfMemory = Unit {0}
+
+-- the error of a source file in C is right
 abbrev pub IsSourceError : List ℕ → EmitError → Type 0
 IsSourceError prefix NoRules = ⊥
 IsSourceError prefix (BadName i) = ⊥
 IsSourceError prefix SkipCount = ⊥
-IsSourceError prefix (NoName i) = ⊥
+IsSourceError prefix (NoName pattern) = ⊥
 IsSourceError prefix TooManyRules = ⊥
+IsSourceError prefix TooManyModes = ⊥
+IsSourceError prefix TooManyActions = ⊥
+IsSourceError prefix (BadVariant kind) = ⊥
 IsSourceError prefix BadPrefix = ¬ IsIdentifier prefix
 IsSourceError prefix NoTable = ⊥
 IsSourceError prefix OutOfMemory = Unit {0}

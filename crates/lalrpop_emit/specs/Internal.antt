@@ -1,3 +1,4 @@
 pub mod Lists
 pub mod Characters
 pub mod Walking
+pub mod Driving

@@ -2,6 +2,7 @@ pub mod Names
 pub mod NumberedRules
 pub mod BytePieces
 pub mod CSource
+pub mod RustSource
 pub mod EmitErrors
 -- what serves the proofs alone
 pub mod Internal

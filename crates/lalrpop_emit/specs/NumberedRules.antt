@@ -1,44 +1,85 @@
 -- cases: proofs/Cases/NumberedRules.antt
 -- What a lexer is in numbers.
-use Rattle.std.specs.Prelude.{◌≡◌, ℕ, ◌<◌, ◌^◌, Bool, List, length, slice_get, Some}
-use Rattle.std.specs.List.{All}
-use Rattle.lalrpop_dfa.specs.Dfa.{Row}
-use Rattle.lalrpop_dfa.specs.declared.Kind.TheVariants.{Accepts}
-use Rattle.lalrpop_dense.specs.DenseTable.{TableNumbers}
-use Rattle.lalrpop_emit.specs.Names.{IsName}
+use Rattle.std.specs.Prelude.{◌≡◌, ℕ, ◌+◌, ◌*◌, ◌<◌, ◌^◌, Bool, List, [], ◌∷◌, ◌++◌, length, map, slice_get, Some}
+use Rattle.std.specs.List.{All, range_with_len}
+use Rattle.lalrpop_dense.specs.DenseTable.{TableNumbers, IsTableFor}
+use Rattle.lalrpop_lexer.specs.Dfa.{Row}
+use Rattle.lalrpop_lexer.specs.Rules.{IsBuiltFrom}
+use Rattle.lalrpop_modes.specs.Modes.{ModeRules, trees_in}
+use Rattle.lalrpop_modes.specs.Stack.{actions_of}
+use Rattle.lalrpop_modes.specs.declared.action.Action.{Action}
+use Rattle.lalrpop_modes.specs.declared.action.Action.TheVariants.{Mode, Push, Pop}
+use Rattle.lalrpop_emit.specs.Names.{IsName, distinct_names, kinds_of}
 
--- the distinct names of the rules; for each rule the number of its name, its kind, and whether it is skipped; and the table
+-- the distinct names of the rules; for each rule the number of its name, its kind, whether it is skipped, and where its actions begin;
+-- the actions of all rules; and the table of each mode
 pub record NumberedRules : Type 0 where
   pub names : List (List ℕ)
   pub kinds : List ℕ
   pub skips : List Bool
-  pub table : TableNumbers
+  pub first_actions : List ℕ
+  pub actions : List ℕ
+  pub tables : List TableNumbers
 
--- some state accepts the pattern
-pub record IsAccepted (d : List Row) (pattern : ℕ) : Type 0 where
-  pub state : ℕ
-  pub row : Row
-  pub at : slice_get d state ≡ Some row
-  pub accepts : row.kind ≡ Accepts pattern
+-- an action in one number
+abbrev pub action_number : Action → ℕ
+action_number Pop = 1
+action_number (Mode m) = 2 * m + 2
+action_number (Push m) = 2 * m + 3
 
--- each pattern that a state accepts is among the first `count`
-abbrev pub AreBelow : List Row → ℕ → Type 0
-AreBelow d count = (state pattern : ℕ) (row : Row) → slice_get d state ≡ Some row → row.kind ≡ Accepts pattern → pattern < count
+-- the actions of each rule, and a 0 behind them
+abbrev pub action_numbers : List (List Action) → List ℕ
+action_numbers [] = []
+action_numbers (actions ∷ rules) = map action_number actions ++ (0 ∷ action_numbers rules)
 
--- the names can be part of an identifier, and the numbers fit those of C in which they are stored
+-- for each rule where its actions begin, if those of the first begin at the place k
+abbrev pub first_places : ℕ → List (List Action) → List ℕ
+first_places k [] = []
+first_places k (actions ∷ rules) = k ∷ first_places (k + length actions + 1) rules
+
+-- the actions of each rule, for as many rules as there are names
+abbrev pub actions_of_rules : ModeRules → List (List Action)
+actions_of_rules r = map (actions_of r.actions) (range_with_len 0 (length r.names))
+
+-- the table of the mode is right for an automaton that recognizes the rules of the mode
+pub record IsTableOfMode (r : ModeRules) (m : ℕ) (t : TableNumbers) : Type 0 where
+  pub automaton : List Row
+  pub recognizes : IsBuiltFrom (trees_in r m) r.precedences automaton
+  pub right : IsTableFor t automaton
+
+-- the numbers are those of the rules
+pub record AreNumbersOf (r : ModeRules) (n : NumberedRules) : Type 0 where
+  pub names : n.names ≡ distinct_names r.names
+  pub kinds : n.kinds ≡ kinds_of r.names
+  pub skips : n.skips ≡ r.skips
+  pub first_actions : n.first_actions ≡ first_places 0 (actions_of_rules r)
+  pub actions : n.actions ≡ action_numbers (actions_of_rules r)
+  pub modes : length n.tables ≡ r.modes
+  pub tables : (m : ℕ) (t : TableNumbers) → slice_get n.tables m ≡ Some t → IsTableOfMode r m t
+
+-- the numbers of a table fit those of C and Rust in which they are stored
+pub record IsStorableTable (t : TableNumbers) : Type 0 where
+  pub blocks : All (λ n. n < 2 ^ 8) t.blocks
+  pub all_blocks : length t.blocks < 2 ^ 64
+  pub pages : All (λ n. n < 2 ^ 16) t.pages
+  pub all_pages : length t.pages < 2 ^ 64
+  pub cells : All (λ n. n < 2 ^ 32) t.cells
+  pub all_cells : length t.cells < 2 ^ 64
+  pub start : t.start < 2 ^ 64
+  pub width : t.width < 2 ^ 64
+  pub live : t.live < 2 ^ 64
+  pub accept : t.accept < 2 ^ 64
+
+-- the names can be part of an identifier, and the numbers fit those of C and Rust in which they are stored
 pub record IsStorable (r : NumberedRules) : Type 0 where
   pub names : All IsName r.names
   pub few_names : length r.names < 2 ^ 64
-  pub rules : length r.kinds < 2 ^ 64
-  pub skips : length r.skips < 2 ^ 64
   pub kinds : All (λ n. n < 2 ^ 16) r.kinds
-  pub blocks : All (λ n. n < 2 ^ 8) r.table.blocks
-  pub all_blocks : length r.table.blocks < 2 ^ 64
-  pub pages : All (λ n. n < 2 ^ 16) r.table.pages
-  pub all_pages : length r.table.pages < 2 ^ 64
-  pub cells : All (λ n. n < 2 ^ 32) r.table.cells
-  pub all_cells : length r.table.cells < 2 ^ 64
-  pub start : r.table.start < 2 ^ 64
-  pub width : r.table.width < 2 ^ 64
-  pub live : r.table.live < 2 ^ 64
-  pub accept : r.table.accept < 2 ^ 64
+  pub all_kinds : length r.kinds < 2 ^ 64
+  pub skips : length r.skips < 2 ^ 64
+  pub first_actions : All (λ n. n < 2 ^ 32) r.first_actions
+  pub all_first_actions : length r.first_actions < 2 ^ 64
+  pub actions : All (λ n. n < 2 ^ 32) r.actions
+  pub all_actions : length r.actions < 2 ^ 64
+  pub modes : length r.tables < 2 ^ 16
+  pub tables : All IsStorableTable r.tables

@@ -1,48 +1,70 @@
-//! All pieces of a text of bytes.
-ghost use Rattle.std.specs.Prelude.{◌≡◌, ℕ, Bool, List, length, map, IfOk};
-ghost use Rattle.lalrpop_book.specs.Tree.{Tree};
-ghost use Rattle.lalrpop_dfa.specs.Dfa.{Row, Recognizes};
-ghost use Rattle.lalrpop_dense.specs.DenseTable.{IsTableFor};
-ghost use Rattle.lalrpop_rules.specs.Pieces.{ArePieces};
-ghost use Rattle.lalrpop_rules.specs.declared.item.Item.{Item};
-ghost use Rattle.lalrpop_emit.specs.BytePieces.{AreBytePieces, numbered};
-ghost use Rattle.lalrpop_emit.specs.Internal.Lists.{list_numbers};
-ghost use Rattle.lalrpop_emit.specs.Internal.Walking.{IsWalkable, AreRulesBelow};
+//! The pieces of a text of bytes.
+ghost use Rattle.std.specs.Prelude.{IfOk};
+ghost use Rattle.lalrpop_modes.specs.Modes.{ModeRules};
+ghost use Rattle.lalrpop_emit.specs.BytePieces.{AreBytePieces};
+ghost use Rattle.lalrpop_emit.specs.NumberedRules.{AreNumbersOf};
 
-use crate::driver::next;
+use crate::driver::{State, Step, next};
 use crate::numbered_piece::NumberedPiece;
-use crate::table_lists::TableLists;
+use crate::numbers::LexerNumbers;
 use std::alloc::{AllocError, Global};
 
-/// All pieces of the text, one after another.
+// How many modes may lie below the one on top, as in an emitted lexer.
+const ROOM: usize = 1024;
+
+/// The pieces of a text of bytes, from its beginning on.
+///
+/// ```
+/// use lalrpop_emit::{BytePieces, LexerNumbers};
+///
+/// let numbers = LexerNumbers::new(alloc, &rules)?;
+/// let BytePieces { pieces, is_whole } = numbers.pieces(alloc, b"if x")?; // `if`, a space and `x`, and `true`
+/// ```
+#[derive(Debug, Drop)]
+pub struct BytePieces {
+    /// The pieces, one after another.
+    pub pieces: Vec<NumberedPiece>,
+    /// Whether they reach the end of the text. Otherwise the next token would put a mode on top of more than 1024 others.
+    pub is_whole: bool,
+}
+
+/// The pieces of the text, one after another.
 ///
 /// # Errors
 ///
 /// `AllocError` if a request for memory was refused.
 pub(crate) fn all_pieces(
     alloc: Global,
-    table: &TableLists,
-    kinds: &[u32],
+    numbers: &LexerNumbers,
     text: &[u8],
-) -> Result<Vec<NumberedPiece>, AllocError>
-    requires walkable { IsWalkable (list_numbers table.now) }
-    requires rules { AreRulesBelow (list_numbers table.now) (length kinds.now) }
-    ensures pieces { IfOk result (λ pieces. (d : List Row) → IsTableFor (list_numbers table.now) d
-        → (ts : List Tree) (ps : List ℕ) → Recognizes d ts ps
-        → AreBytePieces ts ps kinds.now text.now 0 pieces.items) }
-    ensures only { IfOk result (λ pieces. (d : List Row) → IsTableFor (list_numbers table.now) d
-        → (ts : List Tree) (ps : List ℕ) → Recognizes d ts ps → (others : List NumberedPiece)
-        → AreBytePieces ts ps kinds.now text.now 0 others → others ≡ pieces.items) }
-    ensures items { IfOk result (λ pieces. (d : List Row) → IsTableFor (list_numbers table.now) d
-        → (ts : List Tree) (ps : List ℕ) → Recognizes d ts ps
-        → (skips : List Bool) (items : List Item) → ArePieces ts ps skips text.now 0 items
-        → pieces.items ≡ map (numbered kinds.now) items) }
+) -> Result<BytePieces, AllocError>
+    ensures pieces { IfOk result (λ all. (r : ModeRules) → AreNumbersOf r numbers.now
+        → AreBytePieces r numbers.now.kinds ROOM text.now all.pieces.items all.is_whole) }
 {
+    // What is known of the numbers.
+    let _ = &numbers.tables;
+    let mut state = State {
+        at: 0,
+        mode: 0,
+        depth: 0,
+    };
+    let mut below = vec![in alloc; 0u16; ROOM]?;
     let mut pieces = Vec::new(alloc);
-    let mut at = 0;
-    'pieces: while let Some(piece) = next(table, kinds, text, at) {
-        pieces.push(piece)?;
-        at = piece.start + piece.length;
+    'pieces: loop {
+        match next(numbers, text, &mut state, &mut below) {
+            Step::Piece(piece) => pieces.push(piece)?,
+            Step::End => {
+                return Ok(BytePieces {
+                    pieces,
+                    is_whole: true,
+                });
+            }
+            Step::TooDeep => {
+                return Ok(BytePieces {
+                    pieces,
+                    is_whole: false,
+                });
+            }
+        }
     }
-    Ok(pieces)
 }

@@ -1,13 +1,13 @@
 //! The source file of a lexer in C.
 ghost use Rattle.std.specs.List.{list_all};
-ghost use Rattle.std.specs.Prelude.{◌≡◌, ◌++◌, ℕ, List, [], length, map, nat_lt, decimal, string_bytes, IfOk, IfErr, OnOk};
-ghost use Rattle.lalrpop_emit.specs.CSource.{array, c_file, cell_type, constant, declaration, enumerators, filled, flags, kind_enum, listed, name_array, quoted_names, rules_text, table_text};
+ghost use Rattle.std.specs.Prelude.{◌≡◌, ◌++◌, ℕ, List, map, decimal, string_bytes, IfOk, IfErr, OnOk};
+ghost use Rattle.lalrpop_emit.specs.CSource.{array, c_file, cell_type, cell_typedef, enumerators, field, filled, flags, is_narrow, kind_enum, listed, listing, mode_array, mode_arrays, mode_count, name_array, quoted_names, row_arrays, rules_text, table_arrays, table_row, table_rows, tables_text};
 ghost use Rattle.lalrpop_emit.specs.NumberedRules.{IsStorable, NumberedRules};
 ghost use Rattle.lalrpop_emit.specs.Names.{IsIdentifier};
 ghost use Rattle.lalrpop_emit.specs.EmitErrors.{IsSourceError};
 ghost use Rattle.lalrpop_emit.specs.Internal.Lists.{list_numbers};
 
-use crate::c_text::{DRIVER, HEAD};
+use crate::c_text::{DRIVER, HEAD, TABLE};
 use crate::error::EmitError;
 use crate::naming::is_identifier;
 use crate::numbers::LexerNumbers;
@@ -18,7 +18,12 @@ use std::alloc::{AllocError, Global};
 // How many numbers stand on a line.
 const LINE: usize = 16;
 
-fn push_decimal(source: &mut String, number: u64) -> Result<(), AllocError>
+/// Writes the number in decimal digits.
+///
+/// # Errors
+///
+/// `AllocError` if a request for memory was refused.
+pub(crate) fn push_decimal(source: &mut String, number: u64) -> Result<(), AllocError>
     ensures { OnOk result (string_bytes source.new ≡ string_bytes source.old ++ decimal number) }
 {
     let mut buffer = Buffer::new();
@@ -41,25 +46,12 @@ fn push_filled(source: &mut String, prefix: &str, text: &str) -> Result<(), Allo
     Ok(())
 }
 
-#[tactic(auto, unfolding(crate::specs::CSource::declaration))]
-fn push_declaration(
-    source: &mut String,
-    prefix: &str,
-    of: &str,
-    name: &str,
-) -> Result<(), AllocError>
-    ensures { OnOk result (string_bytes source.new
-        ≡ string_bytes source.old ++ declaration prefix.now of.now name.now) }
-{
-    source.push_str("static const ")?;
-    source.push_str(of)?;
-    source.push_str(" ")?;
-    source.push_str(prefix)?;
-    source.push_str("_")?;
-    source.push_str(name)
-}
-
-fn push_listed(source: &mut String, numbers: &[u32]) -> Result<(), AllocError>
+/// Writes the numbers, each with a comma behind it, sixteen on a line.
+///
+/// # Errors
+///
+/// `AllocError` if a request for memory was refused.
+pub(crate) fn push_listed(source: &mut String, numbers: &[u32]) -> Result<(), AllocError>
     ensures { OnOk result (string_bytes source.new ≡ string_bytes source.old ++ listed 0 numbers.now) }
 {
     for (place, number) in numbers.iter().enumerate() {
@@ -73,18 +65,10 @@ fn push_listed(source: &mut String, numbers: &[u32]) -> Result<(), AllocError>
     Ok(())
 }
 
-#[tactic(auto, unfolding(crate::specs::CSource::array))]
-fn push_array(
-    source: &mut String,
-    prefix: &str,
-    of: &str,
-    name: &str,
-    numbers: &[u32],
-) -> Result<(), AllocError>
-    ensures { OnOk result (string_bytes source.new
-        ≡ string_bytes source.old ++ array prefix.now of.now name.now numbers.now) }
+#[tactic(auto, unfolding(crate::specs::CSource::listing))]
+fn push_listing(source: &mut String, numbers: &[u32]) -> Result<(), AllocError>
+    ensures { OnOk result (string_bytes source.new ≡ string_bytes source.old ++ listing numbers.now) }
 {
-    push_declaration(source, prefix, of, name)?;
     source.push_str("[")?;
     push_decimal(source, numbers.len() as u64)?;
     source.push_str("] = {\n")?;
@@ -92,20 +76,19 @@ fn push_array(
     source.push_str("};\n")
 }
 
-#[tactic(auto, unfolding(crate::specs::CSource::constant))]
-fn push_constant(
+#[tactic(auto, unfolding(crate::specs::CSource::array))]
+fn push_array(
     source: &mut String,
     prefix: &str,
-    name: &str,
-    number: usize,
+    head: &str,
+    numbers: &[u32],
 ) -> Result<(), AllocError>
     ensures { OnOk result (string_bytes source.new
-        ≡ string_bytes source.old ++ constant prefix.now name.now number) }
+        ≡ string_bytes source.old ++ array prefix.now head.now numbers.now) }
 {
-    push_declaration(source, prefix, "size_t", name)?;
-    source.push_str(" = ")?;
-    push_decimal(source, number as u64)?;
-    source.push_str(";\n")
+    source.push_str("static const ")?;
+    push_filled(source, prefix, head)?;
+    push_listing(source, numbers)
 }
 
 fn push_quoted_names(source: &mut String, names: &[String]) -> Result<(), AllocError>
@@ -125,8 +108,7 @@ fn push_name_array(source: &mut String, prefix: &str, names: &[String]) -> Resul
     ensures { OnOk result (string_bytes source.new
         ≡ string_bytes source.old ++ name_array prefix.now (map string_bytes names.now)) }
 {
-    push_declaration(source, prefix, "char *const", "names")?;
-    source.push_str("[")?;
+    push_filled(source, prefix, "static const char *const $_names[")?;
     push_decimal(source, names.len() as u64)?;
     source.push_str("] = {\n")?;
     push_quoted_names(source, names)?;
@@ -139,9 +121,7 @@ fn push_enumerators(source: &mut String, prefix: &str, names: &[String]) -> Resu
         ≡ string_bytes source.old ++ enumerators prefix.now 0 (map string_bytes names.now)) }
 {
     for (kind, name) in names.iter().enumerate() {
-        source.push_str("    ")?;
-        source.push_str(prefix)?;
-        source.push_str("_kind_")?;
+        push_filled(source, prefix, "    $_kind_")?;
         source.push_str(name)?;
         source.push_str(" = ")?;
         push_decimal(source, kind as u64)?;
@@ -157,13 +137,24 @@ fn push_kind_enum(source: &mut String, prefix: &str, names: &[String]) -> Result
 {
     source.push_str("enum {\n")?;
     push_enumerators(source, prefix, names)?;
-    source.push_str("    ")?;
-    source.push_str(prefix)?;
-    source.push_str("_fault = -1\n};\n")?;
+    push_filled(source, prefix, "    $_fault = -1\n};\n")?;
     Ok(())
 }
 
-// The names, kinds and skips of the rules.
+/// 1 for true, and 0 for false.
+///
+/// # Errors
+///
+/// `AllocError` if a request for memory was refused.
+pub(crate) fn flag_numbers(alloc: Global, bits: &[bool]) -> Result<Vec<u32>, AllocError>
+    ensures { IfOk result (λ numbers. numbers.items ≡ flags bits.now) }
+{
+    bits.iter()
+        .map(|bit| if *bit { 1 } else { 0 })
+        .collect(alloc)
+}
+
+// The names, kinds, skips and actions of the rules.
 #[tactic(auto, unfolding(crate::specs::CSource::rules_text))]
 fn push_rules(
     alloc: Global,
@@ -176,58 +167,186 @@ fn push_rules(
 {
     push_name_array(source, prefix, numbers.names())?;
     push_kind_enum(source, prefix, numbers.names())?;
-    push_array(source, prefix, "uint16_t", "kinds", numbers.kinds())?;
     let skipped = flag_numbers(alloc, numbers.skips())?;
-    push_array(source, prefix, "uint8_t", "skipped", &skipped)?;
+    let first_actions = numbers.first_actions();
+    push_array(source, prefix, "uint16_t $_kinds", numbers.kinds())?;
+    push_array(source, prefix, "uint8_t $_skipped", &skipped)?;
+    push_array(source, prefix, "uint32_t $_first_actions", first_actions)?;
+    push_array(source, prefix, "uint32_t $_actions", numbers.actions())?;
     Ok(())
 }
 
-// 1 for true.
-fn flag_numbers(alloc: Global, bits: &[bool]) -> Result<Vec<u32>, AllocError>
-    ensures { IfOk result (λ numbers. numbers.items ≡ flags bits.now) }
+// Whether all cells of the table fit 16 bits.
+fn is_narrow_table(table: &TableLists) -> bool
+    ensures { result ≡ is_narrow (list_numbers table.now) }
 {
-    bits.iter()
-        .map(|bit| if *bit { 1 } else { 0 })
-        .collect(alloc)
+    table.cells.iter().all(|cell| *cell < 65536)
 }
 
-// Whether all cells fit 16 bits.
-fn are_narrow(cells: &[u32]) -> bool
-    ensures { result ≡ list_all (λ n. nat_lt n 65536) cells.now }
+/// Whether all cells of all tables fit 16 bits.
+pub(crate) fn are_narrow(tables: &[TableLists]) -> bool
+    ensures { result ≡ list_all (λ t. is_narrow (list_numbers t)) tables.now }
 {
-    cells.iter().all(|cell| *cell < 65536)
+    tables.iter().all(|table| is_narrow_table(table))
 }
 
 // The type of the cells.
 #[tactic(auto, unfolding(crate::specs::CSource::cell_type))]
-fn cell_type_of(cells: &[u32]) -> &'static str
-    ensures { result.now ≡ cell_type cells.now }
+fn cell_type_of(tables: &[TableLists]) -> &'static str
+    ensures { result.now ≡ cell_type (map list_numbers tables.now) }
 {
-    if are_narrow(cells) {
+    if are_narrow(tables) {
         "uint16_t"
     } else {
         "uint32_t"
     }
 }
 
-#[tactic(auto, unfolding(crate::specs::CSource::table_text))]
-fn push_table(source: &mut String, prefix: &str, table: &TableLists) -> Result<(), AllocError>
+#[tactic(auto, unfolding(crate::specs::CSource::cell_typedef))]
+fn push_cell_typedef(
+    source: &mut String,
+    prefix: &str,
+    tables: &[TableLists],
+) -> Result<(), AllocError>
     ensures { OnOk result (string_bytes source.new
-        ≡ string_bytes source.old ++ table_text prefix.now (list_numbers table.now)) }
+        ≡ string_bytes source.old ++ cell_typedef prefix.now (map list_numbers tables.now)) }
 {
-    push_constant(source, prefix, "start", table.start)?;
-    push_constant(source, prefix, "width", table.width)?;
-    push_constant(source, prefix, "live", table.live)?;
-    push_constant(source, prefix, "accept", table.accept)?;
-    push_array(source, prefix, "uint8_t", "blocks", &table.blocks)?;
-    push_array(source, prefix, "uint16_t", "pages", &table.pages)?;
-    push_array(
+    source.push_str("typedef ")?;
+    source.push_str(cell_type_of(tables))?;
+    source.push_str(" ")?;
+    push_filled(source, prefix, "$_cell;\n")
+}
+
+#[tactic(auto, unfolding(crate::specs::CSource::mode_count))]
+fn push_mode_count(source: &mut String, prefix: &str, count: usize) -> Result<(), AllocError>
+    ensures { OnOk result (string_bytes source.new
+        ≡ string_bytes source.old ++ mode_count prefix.now count) }
+{
+    push_filled(source, prefix, "enum { $_modes = ")?;
+    push_decimal(source, count as u64)?;
+    source.push_str(" };\n")?;
+    Ok(())
+}
+
+#[tactic(auto, unfolding(crate::specs::CSource::mode_array))]
+fn push_mode_array(
+    source: &mut String,
+    prefix: &str,
+    head: &str,
+    mode: usize,
+    numbers: &[u32],
+) -> Result<(), AllocError>
+    ensures { OnOk result (string_bytes source.new
+        ≡ string_bytes source.old ++ mode_array prefix.now head.now mode numbers.now) }
+{
+    source.push_str("static const ")?;
+    push_filled(source, prefix, head)?;
+    push_decimal(source, mode as u64)?;
+    push_listing(source, numbers)
+}
+
+#[tactic(auto, unfolding(crate::specs::CSource::mode_arrays))]
+fn push_mode_arrays(
+    source: &mut String,
+    prefix: &str,
+    mode: usize,
+    table: &TableLists,
+) -> Result<(), AllocError>
+    ensures { OnOk result (string_bytes source.new
+        ≡ string_bytes source.old ++ mode_arrays prefix.now mode (list_numbers table.now)) }
+{
+    push_mode_array(source, prefix, "uint8_t $_blocks_", mode, &table.blocks)?;
+    push_mode_array(source, prefix, "uint16_t $_pages_", mode, &table.pages)?;
+    push_mode_array(source, prefix, "$_cell $_cells_", mode, &table.cells)?;
+    Ok(())
+}
+
+fn push_table_arrays(
+    source: &mut String,
+    prefix: &str,
+    tables: &[TableLists],
+) -> Result<(), AllocError>
+    ensures { OnOk result (string_bytes source.new
+        ≡ string_bytes source.old ++ table_arrays prefix.now 0 (map list_numbers tables.now)) }
+{
+    for (mode, table) in tables.iter().enumerate() {
+        push_mode_arrays(source, prefix, mode, table)?;
+    }
+    Ok(())
+}
+
+#[tactic(auto, unfolding(crate::specs::CSource::field))]
+fn push_field(source: &mut String, number: usize) -> Result<(), AllocError>
+    ensures { OnOk result (string_bytes source.new ≡ string_bytes source.old ++ field number) }
+{
+    source.push_str(", ")?;
+    push_decimal(source, number as u64)
+}
+
+#[tactic(auto, unfolding(crate::specs::CSource::row_arrays))]
+fn push_row_arrays(source: &mut String, prefix: &str, mode: usize) -> Result<(), AllocError>
+    ensures { OnOk result (string_bytes source.new
+        ≡ string_bytes source.old ++ row_arrays prefix.now mode) }
+{
+    push_filled(source, prefix, "    {$_blocks_")?;
+    push_decimal(source, mode as u64)?;
+    push_filled(source, prefix, ", $_pages_")?;
+    push_decimal(source, mode as u64)?;
+    push_filled(source, prefix, ", $_cells_")?;
+    push_decimal(source, mode as u64)?;
+    Ok(())
+}
+
+#[tactic(auto, unfolding(crate::specs::CSource::table_row))]
+fn push_table_row(
+    source: &mut String,
+    prefix: &str,
+    mode: usize,
+    table: &TableLists,
+) -> Result<(), AllocError>
+    ensures { OnOk result (string_bytes source.new
+        ≡ string_bytes source.old ++ table_row prefix.now mode (list_numbers table.now)) }
+{
+    push_row_arrays(source, prefix, mode)?;
+    push_field(source, table.pages.len().saturating_sub(1))?;
+    push_field(source, table.start)?;
+    push_field(source, table.width)?;
+    push_field(source, table.live)?;
+    push_field(source, table.accept)?;
+    source.push_str("},\n")?;
+    Ok(())
+}
+
+fn push_table_rows(
+    source: &mut String,
+    prefix: &str,
+    tables: &[TableLists],
+) -> Result<(), AllocError>
+    ensures { OnOk result (string_bytes source.new
+        ≡ string_bytes source.old ++ table_rows prefix.now 0 (map list_numbers tables.now)) }
+{
+    for (mode, table) in tables.iter().enumerate() {
+        push_table_row(source, prefix, mode, table)?;
+    }
+    Ok(())
+}
+
+#[tactic(auto, unfolding(crate::specs::CSource::tables_text))]
+fn push_tables(source: &mut String, prefix: &str, tables: &[TableLists]) -> Result<(), AllocError>
+    ensures { OnOk result (string_bytes source.new
+        ≡ string_bytes source.old ++ tables_text prefix.now (map list_numbers tables.now)) }
+{
+    push_cell_typedef(source, prefix, tables)?;
+    push_filled(source, prefix, TABLE)?;
+    push_mode_count(source, prefix, tables.len())?;
+    push_table_arrays(source, prefix, tables)?;
+    push_filled(
         source,
         prefix,
-        cell_type_of(&table.cells),
-        "cells",
-        &table.cells,
+        "static const $_table $_tables[$_modes] = {\n",
     )?;
+    push_table_rows(source, prefix, tables)?;
+    source.push_str("};\n")?;
     Ok(())
 }
 
@@ -241,25 +360,28 @@ fn source_text(alloc: Global, numbers: &LexerNumbers, prefix: &str) -> Result<St
     source.push_str(":")?;
     source.push_str(HEAD)?;
     push_rules(alloc, &mut source, prefix, numbers)?;
-    push_table(&mut source, prefix, numbers.table())?;
+    push_tables(&mut source, prefix, numbers.tables())?;
     push_filled(&mut source, prefix, DRIVER)?;
     Ok(source)
 }
 
 /// The source file of the lexer in C, one file to include or compile. It is C99 and C++, and takes no memory.
 ///
-/// All names in it begin with the prefix, here `lex`. `lex_begin` gives a `lex_lexer` at the beginning of a text, and
-/// `lex_next` one `lex_piece` after another: its `kind`, the index of its `rule`, and its `start` and `length` in bytes.
-/// The kind of the rules named `IF` is `lex_kind_IF`; that of a fault, which is bytes at none of which a rule matches, is
-/// `lex_fault`. `lex_skips` says whether a rule is skipped, and `lex_name` what a kind is called. Bytes that aren't UTF-8
-/// match nothing. `LexerNumbers::next_piece` has the same pieces.
+/// All names in it begin with the prefix, here `lex`. `lex_begin` gives a `lex_lexer` at the beginning of a text. `lex_next`
+/// writes one `lex_piece` after another and returns 1; at the end of the text it returns 0. A piece has its `kind`, the index
+/// of its `rule`, and its `start` and `length` in bytes. The kind of the rules named `IF` is `lex_kind_IF`; that of a fault,
+/// which is bytes at none of which a rule matches, is `lex_fault`. `lex_skips` says whether a rule is skipped, and `lex_name`
+/// what a kind is called. Bytes that aren't UTF-8 match nothing.
+///
+/// The lexer does the actions of the rules, with room for 1,024 modes below the one on top. Where a token puts on more,
+/// `lex_next` returns -1, and stays before that token. `LexerNumbers::pieces` has the same pieces.
 ///
 /// No other numbers have this file: whoever reads it has the numbers.
 ///
 /// ```
 /// use lalrpop_emit::{LexerNumbers, c_source};
 ///
-/// let numbers = LexerNumbers::new(alloc, rules.lexer().dense(), rules.names(), rules.skips())?;
+/// let numbers = LexerNumbers::new(alloc, &rules)?;
 /// let source = c_source(alloc, &numbers, "lex")?; // `/* lex: a lexer in C, ..`
 /// ```
 ///

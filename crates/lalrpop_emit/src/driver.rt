@@ -1,12 +1,12 @@
-//! The code of the C source in Rattle: the functions of `DRIVER` in `c_text.rt` one by one, in the same order, line by line,
-//! with the same names. These functions are proved; that the lines of C say the same is trusted. To compare:
+//! The code of an emitted lexer: that of the Rust source is this text without contracts, and that of the C source says the same
+//! line by line, in functions of the same names. These functions are proved; that the lines of C say the same is trusted. To
+//! compare with C:
 //!
-//! - `text: &[u8]` stands for `text` and `length`, and `table` and `kinds` for the static tables.
-//! - `None` stands for a size of 0, for an end that is the start, and for `_next`'s 0. What is in a `Some` is what C returns or
-//!   writes through a pointer.
-//! - A kind of `None` is `_fault`.
-//! - `next` takes the place in place of a lexer: `start` is `lexer->at`, and the next one is `start + length`.
-ghost use Rattle.std.specs.Prelude.{◌≡◌, ◌+◌, ◌-◌, ◌<◌, ◌≤◌, ℕ, List, length, take, drop, IsTrue, IsSome, IfSome, ◌↔◌, MatchOption};
+//! - `text: &[u8]` stands for `text` and `length`; `table` and `numbers` for static tables; `state` and `below` for `lexer`.
+//! - `None` stands for a size of 0, and for an end that is the start. What is in a `Some` is what C returns or writes through a
+//!   pointer.
+//! - A kind of `None` is `_fault`. `Step::End` is 0, `Step::TooDeep` is -1, and a piece is 1.
+ghost use Rattle.std.specs.Prelude.{◌≡◌, ◌+◌, ◌-◌, ◌<◌, ◌≤◌, ℕ, List, length, take, drop, IsTrue, IfSome, ◌↔◌, MatchOption};
 ghost use Rattle.std.specs.Char.{encode_utf8, IsScalar};
 ghost use Rattle.std.specs.Option.{option_map};
 ghost use Rattle.lalrpop_book.specs.Tree.{Tree};
@@ -14,13 +14,19 @@ ghost use Rattle.lalrpop_book.specs.Longest.{IsLongest};
 ghost use Rattle.lalrpop_dfa.specs.Dfa.{Row, Recognizes};
 ghost use Rattle.lalrpop_dense.specs.DenseTable.{AreClasses, IsTableFor, block_of_page, character_class};
 ghost use Rattle.lalrpop_rules.specs.Found.{MatchesAt};
-ghost use Rattle.lalrpop_emit.specs.BytePieces.{IsByteFault, IsBytePiece};
+ghost use Rattle.lalrpop_modes.specs.Stack.{Stack, act_all};
+ghost use Rattle.lalrpop_modes.specs.Modes.{ModeRules};
+ghost use Rattle.lalrpop_modes.specs.declared.action.Action.{Action};
+ghost use Rattle.lalrpop_emit.specs.BytePieces.{IsByteFault, Fits};
+ghost use Rattle.lalrpop_emit.specs.NumberedRules.{AreNumbersOf};
 ghost use Rattle.lalrpop_emit.specs.Internal.Characters.{IsCharacterAt, IsFollowing};
+ghost use Rattle.lalrpop_emit.specs.Internal.Driving.{IsState, ComesNext, GoesOnIf, stack_of};
 ghost use Rattle.lalrpop_emit.specs.Internal.Lists.{list_numbers};
-ghost use Rattle.lalrpop_emit.specs.Internal.Walking.{IsWalkable, AreRulesBelow};
+ghost use Rattle.lalrpop_emit.specs.Internal.Walking.{IsWalkable, AreRulesBelow, AreActionsAt};
 
 use crate::numbered_piece::NumberedPiece;
-use crate::table_lists::TableLists;
+use crate::numbers::LexerNumbers as Numbers;
+use crate::table_lists::TableLists as Table;
 
 // A character in a text of bytes: how many bytes it has, and its code.
 #[derive(Clone, Copy)]
@@ -36,6 +42,25 @@ struct Match {
     end: usize,
 }
 
+// Where a text is cut.
+#[derive(Clone, Copy)]
+pub(crate) struct State {
+    pub(crate) at: usize,
+    // The mode on top.
+    pub(crate) mode: u16,
+    // How many modes lie below it.
+    pub(crate) depth: usize,
+}
+
+// What comes next in a text.
+#[derive(Clone, Copy)]
+pub(crate) enum Step {
+    Piece(NumberedPiece),
+    End,
+    // There is no room for a mode that the next token puts on top.
+    TooDeep,
+}
+
 // Whether the byte at the place is one that follows in a character.
 fn follows(text: &[u8], at: usize) -> bool
     ensures { IsTrue result ↔ IsFollowing text.now at }
@@ -43,18 +68,18 @@ fn follows(text: &[u8], at: usize) -> bool
     at < text.len() && text[at] >= 0x80 && text[at] < 0xC0
 }
 
-// The size and the code. `None` if the code is none of a character, or too low for so many bytes.
+// The size and the code. `None` if the code isn't a character's, or is too low for so many bytes.
 fn sized_character(size: usize, least: u32, code: u32) -> Option<Character>
     ensures { MatchOption result (¬ ((least ≤ code) × IsScalar code))
         (λ c. (least ≤ code) × IsScalar code × (c.size ≡ size) × (c.code ≡ code)) }
 {
-    if code < least || code >= 0x110000 || (code >= 0xD800 && code < 0xE000) {
+    if code < least || code >= 0x110000 || matches!(code, 0xD800..=0xDFFF) {
         return None;
     }
     Some(Character { size, code })
 }
 
-// How many bytes the character at the place has, and its code. `None` if the bytes there are no character (RFC 3629).
+// How many bytes the character at the place has, and its code. `None` if the bytes there aren't a character (RFC 3629).
 fn read(text: &[u8], at: usize) -> Option<Character>
     requires { at < length text.now }
     ensures { MatchOption result ((c : ℕ) → ¬ IsCharacterAt text.now at c)
@@ -90,7 +115,7 @@ fn read(text: &[u8], at: usize) -> Option<Character>
 }
 
 // The block of the page with this number. Pages after the last one have its block.
-fn block(table: &TableLists, page: usize) -> usize
+fn block(table: &Table, page: usize) -> usize
     requires { 0 < length table.now.pages.items }
     ensures { result ≡ block_of_page (list_numbers table.now) page }
 {
@@ -98,7 +123,7 @@ fn block(table: &TableLists, page: usize) -> usize
 }
 
 // The class of a character. ASCII is the first block.
-fn class(table: &TableLists, code: u32) -> usize
+fn class(table: &Table, code: u32) -> usize
     requires { AreClasses (list_numbers table.now) }
     ensures { result ≡ character_class (list_numbers table.now) code }
 {
@@ -110,7 +135,7 @@ fn class(table: &TableLists, code: u32) -> usize
 }
 
 // Where the longest match from the place on ends, and its rule. `None` if nothing matches there.
-fn longest(table: &TableLists, text: &[u8], start: usize) -> Option<Match>
+fn longest(table: &Table, text: &[u8], start: usize) -> Option<Match>
     requires { IsWalkable (list_numbers table.now) }
     ensures answer { (d : List Row) → IsTableFor (list_numbers table.now) d
         → (ts : List Tree) (ps : List ℕ) → Recognizes d ts ps → IsLongest ts ps (drop start text.now)
@@ -142,7 +167,7 @@ fn longest(table: &TableLists, text: &[u8], start: usize) -> Option<Match>
 }
 
 // Where the fault at the place ends: before the next place where a rule matches, or with the text.
-fn fault_end(table: &TableLists, text: &[u8], start: usize) -> usize
+fn fault_end(table: &Table, text: &[u8], start: usize) -> usize
     requires walkable { IsWalkable (list_numbers table.now) }
     requires within { start < length text.now }
     ensures fault { (d : List Row) → IsTableFor (list_numbers table.now) d
@@ -160,37 +185,95 @@ fn fault_end(table: &TableLists, text: &[u8], start: usize) -> usize
     end
 }
 
-/// The piece at the place, a token or a fault. `None` if the text ends there.
-pub(crate) fn next(
-    table: &TableLists,
-    kinds: &[u32],
-    text: &[u8],
-    start: usize,
-) -> Option<NumberedPiece>
-    requires walkable { IsWalkable (list_numbers table.now) }
-    requires rules { AreRulesBelow (list_numbers table.now) (length kinds.now) }
-    ensures some { IsSome result ↔ (start < length text.now) }
-    ensures piece { (d : List Row) → IsTableFor (list_numbers table.now) d
-        → (ts : List Tree) (ps : List ℕ) → Recognizes d ts ps
-        → IfSome result (IsBytePiece ts ps kinds.now text.now start) }
-    ensures place { IfSome result (λ p. (p.start ≡ start) × (0 < p.length)
-        × (start + p.length ≤ length text.now)) }
+// Whether there is room for the modes that the actions from the place on put on top, where this many modes lie below.
+fn has_room(numbers: &Numbers, first: usize, depth: usize, room: usize) -> bool
+    requires actions { (actions : List Action)
+        × AreActionsAt numbers.now.actions (length numbers.now.tables) first actions }
+    requires within { depth ≤ room }
+    ensures { (actions : List Action)
+        → AreActionsAt numbers.now.actions (length numbers.now.tables) first actions
+        → (s : Stack) → length s.below ≡ depth → (IsTrue result ↔ Fits room actions s) }
 {
-    if start >= text.len() {
-        return None;
+    let mut place = first;
+    let mut depth = depth;
+    'actions: while numbers.actions[place] != 0 {
+        let action = numbers.actions[place];
+        if action == 1 {
+            depth = depth.saturating_sub(1);
+        } else if action % 2 == 1 {
+            if depth >= room {
+                return false;
+            }
+            depth += 1;
+        }
+        place += 1;
     }
-    match longest(table, text, start) {
-        Some(found) => Some(NumberedPiece {
-            kind: Some(kinds[found.rule]),
-            rule: found.rule,
-            start,
-            length: found.end - start,
-        }),
-        None => Some(NumberedPiece {
+    true
+}
+
+// Does the actions from the place on: 1 takes away the mode on top, 2m + 2 puts the mode m in its place, 2m + 3 puts m on top.
+fn act(numbers: &Numbers, first: usize, state: &mut State, below: &mut [u16])
+    requires actions { (actions : List Action)
+        × (AreActionsAt numbers.now.actions (length numbers.now.tables) first actions
+        × Fits (length below.old) actions (stack_of state.old below.old)) }
+    requires within { state.old.depth ≤ length below.old }
+    ensures acted { (actions : List Action)
+        → AreActionsAt numbers.now.actions (length numbers.now.tables) first actions
+        → Fits (length below.old) actions (stack_of state.old below.old)
+        → stack_of state.new below.new ≡ act_all actions (stack_of state.old below.old) }
+    ensures within { state.new.depth ≤ length below.old }
+    ensures at { state.new.at ≡ state.old.at }
+{
+    let mut place = first;
+    'actions: while numbers.actions[place] != 0 {
+        let action = numbers.actions[place];
+        if action != 1 {
+            if action % 2 == 1 {
+                below[state.depth] = state.mode;
+                state.depth += 1;
+            }
+            state.mode = (action / 2 - 1) as u16;
+        } else if state.depth > 0 {
+            state.depth -= 1;
+            state.mode = below[state.depth];
+        }
+        place += 1;
+    }
+}
+
+// The next piece, a token or a fault, behind which the text is cut on.
+pub(crate) fn next(numbers: &Numbers, text: &[u8], state: &mut State, below: &mut [u16]) -> Step
+    requires state { IsState (length numbers.now.tables) state.old below.old }
+    ensures next { (r : ModeRules) → AreNumbersOf r numbers.now
+        → ComesNext r numbers.now.kinds (length below.old) text.now state.old.at
+        (stack_of state.old below.old) result (stack_of state.new below.new) }
+    ensures state { IsState (length numbers.now.tables) state.new below.new }
+    ensures goes_on { GoesOnIf text.now state.old.at result state.new.at }
+{
+    let table = &numbers.tables[state.mode as usize];
+    let start = state.at;
+    if start >= text.len() {
+        return Step::End;
+    }
+    let Some(found) = longest(table, text, start) else {
+        state.at = fault_end(table, text, start);
+        return Step::Piece(NumberedPiece {
             kind: None,
             rule: 0,
             start,
-            length: fault_end(table, text, start) - start,
-        }),
+            length: state.at - start,
+        });
+    };
+    let first = numbers.first_actions[found.rule] as usize;
+    if !has_room(numbers, first, state.depth, below.len()) {
+        return Step::TooDeep;
     }
+    act(numbers, first, state, below);
+    state.at = found.end;
+    Step::Piece(NumberedPiece {
+        kind: Some(numbers.kinds[found.rule]),
+        rule: found.rule,
+        start,
+        length: found.end - start,
+    })
 }

@@ -10,7 +10,7 @@ use thiserror::Error;
 /// ```
 /// use lalrpop_emit::{EmitError, LexerNumbers};
 ///
-/// let bad = match LexerNumbers::new(alloc, dense, names, skips) {
+/// let bad = match LexerNumbers::new(alloc, &rules) {
 ///     Err(EmitError::BadName { rule }) => Some(rule), // 1, if the names are `IF` and `ELSE IF`
 ///     _ => None,
 /// };
@@ -26,17 +26,27 @@ pub enum EmitError {
     /// There are more or fewer skips than names.
     #[error("there aren't as many skips as names")]
     SkipCount,
-    /// The automaton has a pattern with this index, and there are not so many names.
+    /// The automaton of a mode has a pattern with this index, and there are fewer names.
     #[error("pattern {pattern} has no name")]
     NoName { pattern: usize },
     /// There are 65,536 rules or more.
     #[error("there are too many rules")]
     TooManyRules,
+    /// There are 65,536 modes or more.
+    #[error("there are too many modes")]
+    TooManyModes,
+    /// The rules have too many actions: with one more for each rule, they are 2^32 or more.
+    #[error("there are too many actions")]
+    TooManyActions,
+    /// The name of this kind can't be a variant of an enum in Rust: it begins with a digit, or is `_`, `self`, `super`, `crate`
+    /// or `Self`. Kinds are numbered from 0, in the order in which their names first come.
+    #[error("the name of kind {kind} can't be a variant of an enum in Rust")]
+    BadVariant { kind: usize },
     /// The prefix isn't an identifier: ASCII letters, digits and `_`, and no digit first.
     #[error("the prefix isn't an identifier")]
     BadPrefix,
-    /// The automaton has no table: it would be too large.
-    #[error("the automaton has no table")]
+    /// The automaton of a mode has no table: it would be too large.
+    #[error("the automaton of a mode has no table")]
     NoTable,
     /// A request for memory was refused.
     #[error("out of memory")]

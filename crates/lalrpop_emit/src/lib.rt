@@ -1,10 +1,11 @@
 //! A lexer as one source file: the numbers of its table, the names of its rules, and code that is the same for all rules.
 //!
 //! The numbers are proved to be right for the automaton, and the text to be that of these numbers alone. The code that is the
-//! same for all rules is proved in the form that it has in this crate, for texts of any bytes. That its lines in C say the same
-//! is trusted: both stand function by function in the same order.
+//! same for all rules is proved in the form that it has in this crate, for texts of any bytes. A source in Rust has its text,
+//! without the contracts. That its lines in C say the same is trusted: both stand function by function in the same order.
 #![tactic(auto)]
 
+mod action_lists;
 mod byte_pieces;
 mod c_file;
 mod c_text;
@@ -14,9 +15,13 @@ mod naming;
 mod numbered_piece;
 mod numbers;
 mod patterns;
+mod rust_file;
+mod rust_text;
 mod table_lists;
 
+pub use byte_pieces::BytePieces;
 pub use c_file::c_source;
 pub use error::EmitError;
 pub use numbered_piece::NumberedPiece;
 pub use numbers::LexerNumbers;
+pub use rust_file::rust_source;

@@ -6,7 +6,8 @@
 /// ```
 /// use lalrpop_emit::{LexerNumbers, NumberedPiece};
 ///
-/// let piece = numbers.next_piece(b"if x", 0); // kind and rule of `if`, from 0 on, 2 bytes
+/// let all = numbers.pieces(alloc, b"if x")?;
+/// let first: NumberedPiece = all.pieces[0]; // kind and rule of `if`, from 0 on, 2 bytes
 /// ```
 #[derive(Clone, Copy, Debug, PartialEq, Eq)]
 pub struct NumberedPiece {

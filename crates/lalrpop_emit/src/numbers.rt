@@ -1,50 +1,48 @@
 //! A lexer in numbers.
-ghost use Rattle.std.specs.Prelude.{◌≡◌, ◌↔◌, ◌+◌, ◌≤◌, Bool, IsSome, IfSome, ◌<◌, ◌^◌, ℕ, List, length, map, string_bytes, IfOk, IfErr, OnOk};
+ghost use Rattle.std.specs.Prelude.{◌≡◌, ◌<◌, ◌^◌, Bool, IsTrue, List, length, map, take, string_bytes, IfOk, IfErr, OnOk};
 ghost use Rattle.std.specs.List.{All};
-ghost use Rattle.lalrpop_book.specs.Tree.{Tree};
-ghost use Rattle.lalrpop_dfa.specs.Dfa.{Row, Recognizes};
-ghost use Rattle.lalrpop_dense.specs.DenseTable.{IsTableFor};
-ghost use Rattle.lalrpop_rules.specs.Pieces.{ArePieces};
 ghost use Rattle.lalrpop_rules.specs.declared.item.Item.{Item};
-ghost use Rattle.lalrpop_emit.specs.BytePieces.{IsBytePiece, AreBytePieces, numbered};
-ghost use Rattle.lalrpop_emit.specs.Names.{IsName, distinct_names as distinct_of, kinds_of};
-ghost use Rattle.lalrpop_emit.specs.NumberedRules.{AreBelow, IsStorable};
+ghost use Rattle.lalrpop_modes.specs.Modes.{ModeRules, ArePiecesFrom};
+ghost use Rattle.lalrpop_modes.specs.Stack.{Stack, start};
+ghost use Rattle.lalrpop_emit.specs.BytePieces.{AreBytePieces, numbered};
 ghost use Rattle.lalrpop_emit.specs.EmitErrors.{IsNumbersError};
+ghost use Rattle.lalrpop_emit.specs.Names.{IsName};
+ghost use Rattle.lalrpop_emit.specs.NumberedRules.{AreNumbersOf, IsStorable};
 ghost use Rattle.lalrpop_emit.specs.Internal.Lists.{list_numbers};
+ghost use Rattle.lalrpop_emit.specs.declared.numbered_piece.NumberedPiece.{NumberedPiece};
 
-use crate::byte_pieces::all_pieces;
-use crate::driver::next;
+use crate::action_lists::action_lists;
+use crate::byte_pieces::{BytePieces, all_pieces};
 use crate::error::EmitError;
 use crate::naming::{distinct_names, first_bad_name, kind_list};
-use crate::numbered_piece::NumberedPiece;
-use crate::patterns::unnamed_pattern;
-use crate::table_lists::{TableLists, table_lists};
-use lalrpop_dense::DenseDfa;
-use lalrpop_dfa::Dfa;
+use crate::table_lists::{TableLists, mode_tables};
+use lalrpop_modes::ModeLexer;
 use std::alloc::{AllocError, Global};
 use std::marker::Model;
 
-/// A lexer in numbers: the distinct names of its rules, the kind of each rule, which is the number of its name, whether the
-/// rule is skipped, and the table of its automaton.
+/// A lexer in numbers: the distinct names of its rules; for each rule its kind, which is the number of its name, whether it is
+/// skipped, and where its actions begin; the actions of all rules; and the table of each mode.
 ///
 /// ```
 /// use lalrpop_emit::LexerNumbers;
 ///
-/// let numbers = LexerNumbers::new(alloc, rules.lexer().dense(), rules.names(), rules.skips())?;
+/// let numbers = LexerNumbers::new(alloc, &rules)?;
 /// ```
 #[derive(Debug, Drop)]
 pub struct LexerNumbers {
-    names: Vec<String>,
-    kinds: Vec<u32>,
-    skips: Vec<bool>,
-    table: TableLists,
+    pub(crate) names: Vec<String>,
+    pub(crate) kinds: Vec<u32>,
+    pub(crate) skips: Vec<bool>,
+    pub(crate) first_actions: Vec<u32>,
+    pub(crate) actions: Vec<u32>,
+    pub(crate) tables: Vec<TableLists>,
 }
 
 impl Model for LexerNumbers {
-    ghost use Rattle.std.specs.Prelude.{length, map, string_bytes};
+    ghost use Rattle.std.specs.Prelude.{map, string_bytes};
     ghost use Rattle.lalrpop_emit.specs.NumberedRules.{NumberedRules, IsStorable};
     ghost use Rattle.lalrpop_emit.specs.Internal.Lists.{list_numbers};
-    ghost use Rattle.lalrpop_emit.specs.Internal.Walking.{IsWalkable, AreRulesBelow};
+    ghost use Rattle.lalrpop_emit.specs.Internal.Walking.{IsDrivable};
 
     ghost Value = { NumberedRules };
 
@@ -52,108 +50,91 @@ impl Model for LexerNumbers {
       names = map (λ s. string_bytes s) n.names.items;
       kinds = n.kinds.items;
       skips = n.skips.items;
-      table = list_numbers n.table;
+      first_actions = n.first_actions.items;
+      actions = n.actions.items;
+      tables = map list_numbers n.tables.items;
     } };
 
     ghost invariant = { λ n. IsStorable (record {
       names = map (λ s. string_bytes s) n.names.items;
       kinds = n.kinds.items;
       skips = n.skips.items;
-      table = list_numbers n.table;
+      first_actions = n.first_actions.items;
+      actions = n.actions.items;
+      tables = map list_numbers n.tables.items;
     })
-        × IsWalkable (list_numbers n.table)
-        × AreRulesBelow (list_numbers n.table) (length n.kinds.items) };
+        × IsDrivable (record {
+          names = map (λ s. string_bytes s) n.names.items;
+          kinds = n.kinds.items;
+          skips = n.skips.items;
+          first_actions = n.first_actions.items;
+          actions = n.actions.items;
+          tables = map list_numbers n.tables.items;
+        }) };
 }
 
 impl LexerNumbers {
-    /// The numbers of the automaton's lexer. The names are those of its patterns, in order, and `skips` says for each
-    /// whether its tokens are skipped. Rules with one name are of one kind.
+    /// The numbers of the rules and of their modes. Rules with one name are of one kind.
     ///
     /// # Errors
     ///
-    /// There are no rules, or 65,536 or more; there aren't as many skips; a name isn't made of ASCII letters, digits and `_`;
-    /// a pattern has no name; the automaton has no table; or out of memory.
-    pub fn new(
-        alloc: Global,
-        dense: &DenseDfa,
-        names: &[String],
-        skips: &[bool],
-    ) -> Result<LexerNumbers, EmitError>
-        ensures names { IfOk result (λ n. n.names ≡ distinct_of (map string_bytes names.now)) }
-        ensures kinds { IfOk result (λ n. n.kinds ≡ kinds_of (map string_bytes names.now)) }
-        ensures skips { IfOk result (λ n. n.skips ≡ skips.now) }
-        ensures table { IfOk result (λ n. IsTableFor n.table dense.now) }
+    /// There are no rules, or 65,536 rules or modes or more; more or fewer skips than names; a name that isn't made of ASCII
+    /// letters, digits and `_`; a pattern without a name; a mode whose automaton has no table; too many actions; or out of memory.
+    pub fn new(alloc: Global, rules: &ModeLexer) -> Result<LexerNumbers, EmitError>
+        ensures numbers { IfOk result (AreNumbersOf rules.now) }
         ensures storable { IfOk result IsStorable }
-        ensures as_many { OnOk result (length skips.now ≡ length names.now) }
-        ensures named { OnOk result (AreBelow dense.now (length names.now)) }
-        ensures error { IfErr result
-            (IsNumbersError dense.now (map string_bytes names.now) skips.now) }
+        ensures as_many { OnOk result (length rules.now.skips ≡ length rules.now.names) }
+        ensures error { IfErr result (IsNumbersError rules.now) }
     {
-        check_rules(dense.dfa(), names, skips)?;
-        let Some(table) = dense.table() else {
-            return Err(EmitError::NoTable);
-        };
-        let table = table_lists(alloc, &table)?;
-        let distinct = distinct_names(alloc, names)?;
-        let kinds = kind_list(alloc, &distinct, names)?;
-        let skips = skips.iter().copied().collect(alloc)?;
+        check_rules(rules)?;
+        let tables = mode_tables(alloc, rules)?;
+        let names = distinct_names(alloc, rules.names())?;
+        let kinds = kind_list(alloc, &names, rules.names())?;
+        let skips = rules.skips().iter().copied().collect(alloc)?;
+        let lists = action_lists(alloc, rules)?;
         Ok(LexerNumbers {
-            names: distinct,
+            names,
             kinds,
             skips,
-            table,
+            first_actions: lists.first_places,
+            actions: lists.numbers,
+            tables,
         })
     }
 
-    /// The piece of the text at the place: a token, skipped or not, or a fault, which is bytes at none of which a rule matches.
-    /// `None` if the text ends there. The next piece begins at its `start + length`.
+    /// The pieces of the text, one after another, as calls of an emitted lexer's `next` give them: each is a token, skipped or
+    /// not, or a fault, which is bytes at none of which a rule of the mode on top matches. On a UTF-8 text they are the pieces
+    /// that the rules give, in numbers.
     ///
-    /// The text may be any bytes; what isn't UTF-8 matches nothing. The piece is found by the numbers alone, by the steps of
-    /// the C source's `_next`.
-    ///
-    /// ```
-    /// use lalrpop_emit::LexerNumbers;
-    ///
-    /// let numbers = LexerNumbers::new(alloc, rules.lexer().dense(), rules.names(), rules.skips())?;
-    /// let piece = numbers.next_piece(b"let x", 0); // the kind and the index of the rule of `let`, from 0 on, 3 bytes
-    /// ```
-    pub fn next_piece(&self, text: &[u8], at: usize) -> Option<NumberedPiece>
-        ensures some { IsSome result ↔ (at < length text.now) }
-        ensures piece { (d : List Row) → IsTableFor self.now.table d
-            → (ts : List Tree) (ps : List ℕ) → Recognizes d ts ps
-            → IfSome result (IsBytePiece ts ps self.now.kinds text.now at) }
-        ensures place { IfSome result (λ p. (p.start ≡ at) × (0 < p.length)
-            × (at + p.length ≤ length text.now)) }
-    {
-        next(&self.table, &self.kinds, text, at)
-    }
-
-    /// All pieces of the text, one after another, as calls of the C source's `_next` give them until it returns 0. On a UTF-8
-    /// text they are the pieces of the rules, in numbers.
+    /// The text may be any bytes; what isn't UTF-8 matches nothing. The pieces end before the text does where the next token
+    /// would put a mode on top of more than 1024 others.
     ///
     /// ```
     /// use lalrpop_emit::LexerNumbers;
     ///
-    /// let numbers = LexerNumbers::new(alloc, rules.lexer().dense(), rules.names(), rules.skips())?;
-    /// let pieces = numbers.pieces(alloc, b"let \xFF")?; // `let`, a space, and a fault of one byte
+    /// let numbers = LexerNumbers::new(alloc, &rules)?;
+    /// let all = numbers.pieces(alloc, b"let \xFF")?; // the pieces of `let`, of a space, and of a fault of one byte
     /// ```
     ///
     /// # Errors
     ///
     /// `AllocError` if a request for memory was refused.
-    pub fn pieces(&self, alloc: Global, text: &[u8]) -> Result<Vec<NumberedPiece>, AllocError>
-        ensures pieces { IfOk result (λ pieces. (d : List Row) → IsTableFor self.now.table d
-            → (ts : List Tree) (ps : List ℕ) → Recognizes d ts ps
-            → AreBytePieces ts ps self.now.kinds text.now 0 pieces.items) }
-        ensures only { IfOk result (λ pieces. (d : List Row) → IsTableFor self.now.table d
-            → (ts : List Tree) (ps : List ℕ) → Recognizes d ts ps → (others : List NumberedPiece)
-            → AreBytePieces ts ps self.now.kinds text.now 0 others → others ≡ pieces.items) }
-        ensures items { IfOk result (λ pieces. (d : List Row) → IsTableFor self.now.table d
-            → (ts : List Tree) (ps : List ℕ) → Recognizes d ts ps
-            → (skips : List Bool) (items : List Item) → ArePieces ts ps skips text.now 0 items
-            → pieces.items ≡ map (numbered self.now.kinds) items) }
+    pub fn pieces(&self, alloc: Global, text: &[u8]) -> Result<BytePieces, AllocError>
+        ensures pieces { IfOk result (λ all. (r : ModeRules) → AreNumbersOf r self.now
+            → AreBytePieces r self.now.kinds 1024 text.now all.pieces.items all.is_whole) }
+        ensures only { IfOk result (λ all. (r : ModeRules) → AreNumbersOf r self.now
+            → (others : List NumberedPiece) (is_whole : Bool)
+            → AreBytePieces r self.now.kinds 1024 text.now others is_whole
+            → (others ≡ all.pieces.items) × (is_whole ≡ all.is_whole)) }
+        ensures items { IfOk result (λ all. (r : ModeRules) → AreNumbersOf r self.now
+            → (items : List Item) (end : Stack) → ArePiecesFrom r text.now 0 start items end
+            → all.pieces.items
+            ≡ map (numbered self.now.kinds) (take (length all.pieces.items) items)) }
+        ensures whole { IfOk result (λ all. (r : ModeRules) → AreNumbersOf r self.now
+            → (items : List Item) (end : Stack) → ArePiecesFrom r text.now 0 start items end
+            → IsTrue all.is_whole → length all.pieces.items ≡ length items) }
     {
-        all_pieces(alloc, &self.table, &self.kinds, text)
+        all_pieces(alloc, self, text)
     }
 
     pub(crate) fn names(&self) -> &[String]
@@ -174,37 +155,52 @@ impl LexerNumbers {
         &self.skips
     }
 
-    pub(crate) fn table(&self) -> &TableLists
-        ensures table { list_numbers result.now ≡ self.now.table }
+    pub(crate) fn first_actions(&self) -> &[u32]
+        ensures { result.now ≡ self.now.first_actions }
+    {
+        &self.first_actions
+    }
+
+    pub(crate) fn actions(&self) -> &[u32]
+        ensures { result.now ≡ self.now.actions }
+    {
+        &self.actions
+    }
+
+    pub(crate) fn tables(&self) -> &[TableLists]
+        ensures table { map list_numbers result.now ≡ self.now.tables }
         ensures storable { IsStorable self.now }
     {
-        &self.table
+        &self.tables
     }
 }
 
-// There are rules, not too many, each with a skip and a name that can be part of an identifier, and each pattern is one of them.
-fn check_rules(dfa: &Dfa, names: &[String], skips: &[bool]) -> Result<(), EmitError>
-    ensures few { OnOk result (length names.now < 2 ^ 16) }
-    ensures names { OnOk result (All IsName (map string_bytes names.now)) }
-    ensures skips { OnOk result (length skips.now ≡ length names.now) }
-    ensures patterns { OnOk result (AreBelow dfa.now (length names.now)) }
-    ensures error { IfErr result
-        (IsNumbersError dfa.now (map string_bytes names.now) skips.now) }
+// There are rules, not too many, each with a skip and a name that can be part of an identifier, and modes, not too many.
+fn check_rules(rules: &ModeLexer) -> Result<(), EmitError>
+    ensures few { OnOk result (length rules.now.names < 2 ^ 16) }
+    ensures modes { OnOk result ((0 < rules.now.modes) × (rules.now.modes < 2 ^ 16)) }
+    ensures names { OnOk result (All IsName rules.now.names) }
+    ensures skips { OnOk result (length rules.now.skips ≡ length rules.now.names) }
+    ensures error { IfErr result (IsNumbersError rules.now) }
 {
+    let names = rules.names();
     if names.is_empty() {
         return Err(EmitError::NoRules);
     }
     if names.len() >= 65536 {
         return Err(EmitError::TooManyRules);
     }
-    if skips.len() != names.len() {
+    if rules.modes() == 0 {
+        return Err(EmitError::NoTable);
+    }
+    if rules.modes() >= 65536 {
+        return Err(EmitError::TooManyModes);
+    }
+    if rules.skips().len() != names.len() {
         return Err(EmitError::SkipCount);
     }
-    if let Some(rule) = first_bad_name(names) {
-        return Err(EmitError::BadName { rule });
-    }
-    match unnamed_pattern(dfa, names.len()) {
-        Some(pattern) => Err(EmitError::NoName { pattern }),
+    match first_bad_name(names) {
+        Some(rule) => Err(EmitError::BadName { rule }),
         None => Ok(()),
     }
 }

@@ -1,6 +1,7 @@
 //! The patterns of an automaton.
 ghost use Rattle.std.specs.Prelude.{◌≡◌, ◌≤◌, ℕ, MatchOption};
-ghost use Rattle.lalrpop_emit.specs.NumberedRules.{AreBelow, IsAccepted};
+ghost use Rattle.lalrpop_emit.specs.EmitErrors.{IsAccepted};
+ghost use Rattle.lalrpop_emit.specs.Internal.Lists.{AreBelow};
 
 use lalrpop_dfa::{Dfa, DfaStateIndex, Kind};
 

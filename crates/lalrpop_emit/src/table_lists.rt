@@ -1,10 +1,14 @@
-//! The numbers of a table, in lists of their own.
-ghost use Rattle.std.specs.Prelude.{◌≡◌, ◌<◌, ◌^◌, ℕ, length, IfOk};
-ghost use Rattle.std.specs.List.{All};
+//! The numbers of tables, in lists of their own.
+ghost use Rattle.std.specs.Prelude.{◌≡◌, ◌<◌, length, map, IfOk, IfErr};
 ghost use Rattle.lalrpop_dense.specs.DenseTable.{cell_numbers, table_numbers};
-ghost use Rattle.lalrpop_emit.specs.Internal.Lists.{list_numbers};
+ghost use Rattle.lalrpop_emit.specs.EmitErrors.{IsNumbersError};
+ghost use Rattle.lalrpop_emit.specs.NumberedRules.{IsStorableTable};
+ghost use Rattle.lalrpop_emit.specs.Internal.Lists.{list_numbers, AreModeTables, AreSmall, IsModeTable};
 
+use crate::error::EmitError;
+use crate::patterns::unnamed_pattern;
 use lalrpop_dense::{DenseTable, TableCells};
+use lalrpop_modes::ModeLexer;
 use std::alloc::{AllocError, Global};
 
 /// The numbers of a table, all of 32 bits: see `DenseTable`.
@@ -21,7 +25,7 @@ pub(crate) struct TableLists {
 
 fn copied_cells(alloc: Global, cells: &[u32]) -> Result<Vec<u32>, AllocError>
     ensures same { IfOk result (λ copy. copy.items ≡ cells.now) }
-    ensures fits { IfOk result (λ copy. All (λ n. n < 2 ^ 32) copy.items) }
+    ensures small { IfOk result (λ copy. AreSmall copy.items) }
 {
     let mut copy = Vec::new(alloc);
     for cell in cells {
@@ -32,7 +36,7 @@ fn copied_cells(alloc: Global, cells: &[u32]) -> Result<Vec<u32>, AllocError>
 
 fn widened_cells(alloc: Global, cells: TableCells<'_>) -> Result<Vec<u32>, AllocError>
     ensures same { IfOk result (λ wide. wide.items ≡ cell_numbers cells.entry) }
-    ensures fits { IfOk result (λ wide. All (λ n. n < 2 ^ 32) wide.items) }
+    ensures small { IfOk result (λ wide. AreSmall wide.items) }
 {
     match cells {
         TableCells::Narrow(cells) => cells.iter().map(|cell| u32::from(*cell)).collect(alloc),
@@ -40,20 +44,10 @@ fn widened_cells(alloc: Global, cells: TableCells<'_>) -> Result<Vec<u32>, Alloc
     }
 }
 
-/// Copies the numbers of a table.
-///
-/// # Errors
-///
-/// `AllocError` if a request for memory was refused.
-pub(crate) fn table_lists(alloc: Global, table: &DenseTable<'_>) -> Result<TableLists, AllocError>
+// Copies the numbers of a table.
+fn table_lists(alloc: Global, table: &DenseTable<'_>) -> Result<TableLists, AllocError>
     ensures same { IfOk result (λ lists. list_numbers lists ≡ table_numbers table.now) }
-    ensures blocks { IfOk result (λ lists. All (λ n. n < 2 ^ 8) lists.blocks.items) }
-    ensures pages { IfOk result (λ lists. All (λ n. n < 2 ^ 16) lists.pages.items) }
-    ensures cells { IfOk result (λ lists. All (λ n. n < 2 ^ 32) lists.cells.items) }
-    ensures lengths { IfOk result (λ lists. (length lists.blocks.items < 2 ^ 64)
-        × (length lists.pages.items < 2 ^ 64) × (length lists.cells.items < 2 ^ 64)) }
-    ensures places { IfOk result (λ lists. (lists.start < 2 ^ 64) × (lists.width < 2 ^ 64)
-        × (lists.live < 2 ^ 64) × (lists.accept < 2 ^ 64)) }
+    ensures storable { IfOk result (λ lists. IsStorableTable (list_numbers lists)) }
 {
     let blocks = table
         .blocks
@@ -77,4 +71,39 @@ pub(crate) fn table_lists(alloc: Global, table: &DenseTable<'_>) -> Result<Table
         accept,
         cells,
     })
+}
+
+// The numbers of the table of a mode, if each rule that it accepts has a name.
+fn mode_table(alloc: Global, rules: &ModeLexer, mode: usize) -> Result<TableLists, EmitError>
+    requires there { mode < rules.now.modes }
+    ensures table { IfOk result (λ lists. IsModeTable rules.now mode (list_numbers lists)) }
+    ensures error { IfErr result (IsNumbersError rules.now) }
+{
+    let dense = rules.lexer(mode).dense();
+    if let Some(pattern) = unnamed_pattern(dense.dfa(), rules.names().len()) {
+        return Err(EmitError::NoName { pattern });
+    }
+    match dense.table() {
+        Some(table) => Ok(table_lists(alloc, &table)?),
+        None => Err(EmitError::NoTable),
+    }
+}
+
+/// The numbers of the table of each mode.
+///
+/// # Errors
+///
+/// `NoName` if an automaton accepts a pattern that has no name, `NoTable` if one has no table, `OutOfMemory` if a request for
+/// memory was refused.
+pub(crate) fn mode_tables(alloc: Global, rules: &ModeLexer) -> Result<Vec<TableLists>, EmitError>
+    ensures modes { IfOk result (λ tables. length tables.items ≡ rules.now.modes) }
+    ensures tables { IfOk result (λ tables.
+        AreModeTables rules.now (map list_numbers tables.items)) }
+    ensures error { IfErr result (IsNumbersError rules.now) }
+{
+    let mut tables = Vec::new(alloc);
+    for mode in 0..rules.modes() {
+        tables.push(mode_table(alloc, rules, mode)?)?;
+    }
+    Ok(tables)
 }

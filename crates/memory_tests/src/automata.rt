@@ -2,7 +2,6 @@
 
 use crate::calls::{Call, add, at_last, expect, expect_answer, halves, number};
 use crate::trees::tree_of;
-use lalrpop_emit::{LexerNumbers, NumberedPiece, c_source};
 use lalrpop_hir::Hir;
 use lalrpop_lexer::lexer::dfa::interpret::interpret;
 use lalrpop_lexer::lexer::dfa::overlap::{remove_overlap, remove_overlap_counted};
@@ -384,60 +383,6 @@ fn lexer_for(alloc: Global, rows: &str) -> Result<Lexer, AllocError> {
         Ok(lexer) => Ok(lexer),
         Err(_) => Err(AllocError),
     }
-}
-
-// A name for each pattern: A, B, and so on.
-fn names_for(alloc: Global, lexer: &Lexer) -> Result<Vec<String>, AllocError> {
-    let mut names = Vec::new(alloc);
-    for letter in ["A", "B", "C"] {
-        if names.len() < lexer.regexs().len() {
-            names.push(String::from_str(alloc, letter)?)?;
-        }
-    }
-    Ok(names)
-}
-
-fn numbers_for(alloc: Global, lexer: &Lexer) -> Result<LexerNumbers, AllocError> {
-    let names = names_for(alloc, lexer)?;
-    let skips = [false, false, false];
-    match LexerNumbers::new(alloc, lexer.dense(), &names, &skips[..names.len().min(3)]) {
-        Ok(numbers) => Ok(numbers),
-        Err(_) => Err(AllocError),
-    }
-}
-
-fn pieces_told(alloc: Global, pieces: &[NumberedPiece]) -> Result<String, AllocError> {
-    let mut line = String::new(alloc);
-    for piece in pieces {
-        let part = match piece.kind {
-            Some(kind) => format!(in alloc; "{kind}:{}", piece.length)?,
-            None => format!(in alloc; "!:{}", piece.length)?,
-        };
-        add(&mut line, " ", part.as_str())?;
-    }
-    Ok(line)
-}
-
-// Of the text in `PATTERNS <- TEXT` the pieces by the numbers of the lexer, a kind and a length each; and whether the lexer is
-// written in C.
-pub(crate) fn by_numbers(alloc: Global, row: &str) -> Result<String, AllocError> {
-    let (rows, text) = halves(row, " <- ");
-    let lexer = lexer_for(alloc, rows)?;
-    let numbers = numbers_for(alloc, &lexer)?;
-    let pieces = numbers.pieces(alloc, text.as_bytes())?;
-    let mut line = pieces_told(alloc, &pieces)?;
-    match c_source(alloc, &numbers, "lex") {
-        Ok(source) if source.starts_with("/* lex: a lexer in C") => add(&mut line, " ", "in C")?,
-        Ok(_) => {}
-        Err(_) => return Err(AllocError),
-    }
-    Ok(line)
-}
-
-#[test]
-fn lexers_are_written_in_numbers(rt: HostRuntime) {
-    let table = "1 class / 0 [a-z]+ / 0  + <- class of! => 0:5 2:1 1:2 !:1 in C";
-    expect(&rt, rt.alloc(), Call::Numbers, table, 1);
 }
 
 fn told_list(alloc: Global, list: &TokenList) -> Result<String, AllocError> {

@@ -1,6 +1,7 @@
-//! Texts that are cut by rules with modes.
+//! Texts that are cut by rules with modes, and lexers of such rules in numbers.
 
 use crate::calls::{Call, add, expect, halves};
+use lalrpop_emit::{LexerNumbers, NumberedPiece, c_source, rust_source};
 use lalrpop_modes::{ModeLexer, ModesError};
 use lalrpop_rule_file::{RuleFile, RuleFileError, read_rules};
 use std::alloc::{AllocError, Global};
@@ -58,4 +59,67 @@ fn texts_are_cut_by_modes(rt: HostRuntime) {
 A = 'a';OPEN push C = '(';[C];IN push C = '(';OUT pop = ')';B = /b+/ <- a((bb)b)!a => a ( ( bb ) b ) ! a
 A mode B = 'a';[B];C = 'a' <-  => ";
     expect(&rt, rt.alloc(), Call::Modes, table, 2);
+}
+
+fn pieces_told(alloc: Global, pieces: &[NumberedPiece]) -> Result<String, AllocError> {
+    let mut line = String::new(alloc);
+    for piece in pieces {
+        let part = match piece.kind {
+            Some(kind) => format!(in alloc; "{kind}:{}", piece.length)?,
+            None => format!(in alloc; "!:{}", piece.length)?,
+        };
+        add(&mut line, " ", part.as_str())?;
+    }
+    Ok(line)
+}
+
+fn add_sources(alloc: Global, numbers: &LexerNumbers, line: &mut String) -> Result<(), AllocError> {
+    match c_source(alloc, numbers, "lex") {
+        Ok(source) if source.starts_with("/* lex: a lexer in C") => add(line, " ", "in C")?,
+        _ => return Err(AllocError),
+    }
+    match rust_source(alloc, numbers) {
+        Ok(source) if source.starts_with("// A lexer in Rust") => add(line, " ", "in Rust"),
+        _ => Err(AllocError),
+    }
+}
+
+fn told_by_numbers(alloc: Global, lexer: &ModeLexer, text: &str) -> Result<String, AllocError> {
+    let Ok(numbers) = LexerNumbers::new(alloc, lexer) else {
+        return Err(AllocError);
+    };
+    let cut = numbers.pieces(alloc, text.as_bytes())?;
+    let mut line = pieces_told(alloc, &cut.pieces)?;
+    add_sources(alloc, &numbers, &mut line)?;
+    Ok(line)
+}
+
+fn numbers_of(alloc: Global, file: &RuleFile, text: &str) -> Result<String, AllocError> {
+    let rules = file.mode_rules(alloc)?;
+    let modes = file.modes.len();
+    if modes == 0 {
+        return String::from_str(alloc, "no modes");
+    }
+    match ModeLexer::from_rules(alloc, &rules, modes) {
+        Ok(lexer) => told_by_numbers(alloc, &lexer, text),
+        Err(_) => Err(AllocError),
+    }
+}
+
+// Of the text in `LINES <- TEXT` the pieces by the numbers of the lexer, a kind and a length each; and whether the lexer is
+// written in C and in Rust.
+pub(crate) fn by_numbers(alloc: Global, argument: &str) -> Result<String, AllocError> {
+    let (lines, text) = halves(argument, " <- ");
+    let lines = lines.replace(alloc, ';', "\n")?;
+    match read_rules(alloc, lines.as_bytes()) {
+        Ok(file) => numbers_of(alloc, &file, text),
+        Err(_) => Err(AllocError),
+    }
+}
+
+#[test]
+fn lexers_are_written_in_numbers(rt: HostRuntime) {
+    let table = "\
+A = 'a';OPEN push C = '(';[C];IN push C = '(';OUT pop = ')';B = /b+/ <- a((bb)b)!a => 0:1 1:1 2:1 4:2 3:1 4:1 3:1 !:1 0:1 in C in Rust";
+    expect(&rt, rt.alloc(), Call::Numbers, table, 1);
 }

@@ -1,57 +1,54 @@
-//! Cuts bytes by a lexer in numbers, as its source file in C does.
-ghost use Rattle.std.specs.Prelude.{◌≡◌, ◌<◌, ◌≤◌, ℕ, List, length, map, string_bytes, IfOk};
+//! Cuts bytes by a lexer in numbers, as its source files in C and in Rust do.
+ghost use Rattle.std.specs.Prelude.{◌≡◌, ℕ, List, map, string_bytes, true, IfOk};
 ghost use Rattle.lalrpop_emit.specs.BytePieces.{numbered};
 ghost use Rattle.lalrpop_emit.specs.CSource.{c_file};
+ghost use Rattle.lalrpop_emit.specs.RustSource.{rust_file};
 ghost use Rattle.lalrpop_emit.specs.Names.{IsIdentifier, kinds_of};
 ghost use Rattle.lalrpop_emit.specs.NumberedRules.{IsStorable, NumberedRules};
-ghost use Rattle.lalrpop_rules.specs.Pieces.{ArePieces};
+ghost use Rattle.lalrpop_modes.specs.Modes.{ArePiecesFrom};
+ghost use Rattle.lalrpop_modes.specs.Stack.{Stack, start};
 ghost use Rattle.lalrpop_rules.specs.declared.item.Item.{Item};
 
-use lalrpop_emit::{EmitError, LexerNumbers, NumberedPiece, c_source};
-use lalrpop_lexer::Lexer;
+use lalrpop_emit::{BytePieces, EmitError, LexerNumbers, c_source, rust_source};
+use lalrpop_modes::ModeLexer;
 use std::alloc::Global;
 
-// Needs lalrpop_emit::LexerNumbers::new: kinds, table; lalrpop_emit::LexerNumbers::pieces: items;
-// lalrpop_lexer::Lexer::dense: same, built.
-/// The pieces of a text by the numbers of a lexer: those of the text by the rules.
+// Needs lalrpop_emit::LexerNumbers::new: numbers; lalrpop_emit::LexerNumbers::pieces: items, whole.
+/// The pieces of a text by the numbers of a lexer. If there are all, they are those of the text by the rules.
 pub fn pieces_by_numbers(
     alloc: Global,
-    lexer: &Lexer,
-    names: &[String],
-    skips: &[bool],
+    rules: &ModeLexer,
     text: &str,
-) -> Result<Vec<NumberedPiece>, EmitError>
-    ensures same { IfOk result (λ pieces. (items : List Item)
-        → ArePieces lexer.now.trees lexer.now.precedences skips.now text.now 0 items
-        → pieces.items ≡ map (numbered (kinds_of (map string_bytes names.now))) items) }
+) -> Result<BytePieces, EmitError>
+    ensures same { IfOk result (λ all. all.is_whole ≡ true → (items : List Item) (end : Stack)
+        → ArePiecesFrom rules.now text.now 0 start items end
+        → all.pieces.items ≡ map (numbered (kinds_of rules.now.names)) items) }
 {
-    let numbers = LexerNumbers::new(alloc, lexer.dense(), names, skips)?;
-    let pieces = numbers.pieces(alloc, text.as_bytes())?;
-    Ok(pieces)
-}
-
-// Needs lalrpop_emit::LexerNumbers::next_piece: some, place.
-/// How long the first piece of the bytes is, and 0 if there are none.
-pub fn first_length(numbers: &LexerNumbers, text: &[u8]) -> usize
-    ensures within { result ≤ length text.now }
-    ensures some { 0 < length text.now → 0 < result }
-{
-    match numbers.next_piece(text, 0) {
-        Some(piece) => piece.length,
-        None => 0,
-    }
+    let numbers = LexerNumbers::new(alloc, rules)?;
+    let all = numbers.pieces(alloc, text.as_bytes())?;
+    Ok(all)
 }
 
 // Needs lalrpop_emit::c_source: only.
-/// The source file of a lexer. Of no lexer with another table is it the file.
-pub fn source_of_table(
+/// The source file of a lexer in C. Of no lexer with other tables is it the file.
+pub fn c_source_of_tables(
     alloc: Global,
     numbers: &LexerNumbers,
     prefix: &str,
 ) -> Result<String, EmitError>
-    ensures of_one_table { IfOk result (λ source. (p : List ℕ) (r : NumberedRules)
+    ensures of_these_tables { IfOk result (λ source. (p : List ℕ) (r : NumberedRules)
         → IsIdentifier p → IsStorable r → string_bytes source ≡ c_file p r
-        → r.table ≡ numbers.now.table) }
+        → r.tables ≡ numbers.now.tables) }
 {
     c_source(alloc, numbers, prefix)
+}
+
+// Needs lalrpop_emit::rust_source: only.
+/// The source file of a lexer in Rust. Of no lexer with other tables is it the file.
+pub fn rust_source_of_tables(alloc: Global, numbers: &LexerNumbers) -> Result<String, EmitError>
+    ensures of_these_tables { IfOk result (λ source. (r : NumberedRules)
+        → IsStorable r → string_bytes source ≡ rust_file r
+        → r.tables ≡ numbers.now.tables) }
+{
+    rust_source(alloc, numbers)
 }

@@ -1,7 +1,14 @@
 -- Cases of specs/CSource.antt.
-use Rattle.std.proofs.Common.{◌≡◌, [], ◌∷◌, codes, refl, true, false}
+use Rattle.std.proofs.Common.{◌≡◌, ◌++◌, [], ◌∷◌, codes, refl, true, false, ap, length, arith}
 use Rattle.std.specs.Fmt.{digits}
-use Rattle.lalrpop_emit.specs.CSource.{array, cell_type, constant, declaration, flags, kind_enum, listed, name_array}
+use Rattle.std.specs.Str.{chars}
+use Rattle.lalrpop_dense.specs.DenseTable.{TableNumbers}
+use Rattle.lalrpop_emit.specs.CSource.{array, cell_type, field, filled, flags, kind_enum, listed, listing, mode_array, name_array, row_arrays, table_arrays, table_row, table_rows}
+
+-- each `$` becomes the prefix
+prefix_twice : filled (codes "lex") (codes "$_cell $_a") ≡ codes "lex_cell lex_a"
+unfolding filled chars lib.Utf8.encode
+prefix_twice = refl
 
 two_numbers : listed 0 (7 ∷ 12 ∷ []) ≡ codes "7, 12, "
 unfolding digits
@@ -12,27 +19,48 @@ sixteenth : listed 15 (7 ∷ 12 ∷ []) ≡ codes "7,\n12, "
 unfolding digits
 sixteenth = refl
 
-array_of_two : array (codes "lex") (codes "uint8_t") (codes "skipped") (flags (true ∷ false ∷ [])) ≡ codes "static const uint8_t lex_skipped[2] = {\n1, 0, };\n"
-unfolding array declaration digits
+-- one number more is another text
+one_more : ¬ (listed 0 (7 ∷ []) ≡ listed 0 (7 ∷ 0 ∷ []))
+unfolding digits
+one_more e = omega (arith, ap length e)
+
+array_of_two : array (codes "lex") (codes "uint8_t $_skipped") (flags (true ∷ false ∷ [])) ≡ codes "static const uint8_t lex_skipped[2] = {\n1, 0, };\n"
+unfolding array filled listing digits chars lib.Utf8.encode
 array_of_two = refl
 
-a_constant : constant (codes "lex") (codes "live") 31 ≡ codes "static const size_t lex_live = 31;\n"
-unfolding constant declaration digits
-a_constant = refl
-
 names_of_two : name_array (codes "lex") (codes "IF" ∷ codes "ID" ∷ []) ≡ codes "static const char *const lex_names[2] = {\n    \"IF\",\n    \"ID\",\n};\n"
-unfolding name_array declaration digits
+unfolding name_array filled digits chars lib.Utf8.encode
 names_of_two = refl
 
 kinds_of_two : kind_enum (codes "lex") (codes "IF" ∷ codes "ID" ∷ []) ≡ codes "enum {\n    lex_kind_IF = 0,\n    lex_kind_ID = 1,\n    lex_fault = -1\n};\n"
-unfolding kind_enum digits
+unfolding kind_enum filled digits chars lib.Utf8.encode
 kinds_of_two = refl
 
+-- a table of one row, which is dead
+abbrev small : TableNumbers
+small = record { blocks = 0 ∷ []; pages = 0 ∷ []; start = 0; width = 1; live = 2; accept = 2; cells = 0 ∷ 0 ∷ [] }
+
 -- 65,535 still fits 16 bits
-narrow : cell_type (65535 ∷ []) ≡ codes "uint16_t"
+narrow : cell_type (small ∷ (record small { cells = 65535 ∷ [] }) ∷ []) ≡ codes "uint16_t"
 unfolding cell_type
 narrow = refl
 
-wide : cell_type (0 ∷ 65536 ∷ []) ≡ codes "uint32_t"
+-- one wide table makes the cells of all wide
+wide : cell_type (small ∷ (record small { cells = 65536 ∷ [] }) ∷ []) ≡ codes "uint32_t"
 unfolding cell_type
 wide = refl
+
+cells_of_the_third : mode_array (codes "lex") (codes "$_cell $_cells_") 2 (0 ∷ 0 ∷ []) ≡ codes "static const lex_cell lex_cells_2[2] = {\n0, 0, };\n"
+unfolding mode_array filled listing digits chars lib.Utf8.encode
+cells_of_the_third = refl
+
+no_tables : table_arrays (codes "lex") 0 [] ≡ []
+no_tables = refl
+
+row_of_the_third : table_row (codes "lex") 2 small ≡ codes "    {lex_blocks_2, lex_pages_2, lex_cells_2, 0, 0, 1, 2, 2},\n"
+unfolding table_row row_arrays field filled digits chars lib.Utf8.encode
+row_of_the_third = refl
+
+-- each has the arrays of its own mode
+rows_of_two : table_rows (codes "lex") 0 (small ∷ small ∷ []) ≡ table_row (codes "lex") 0 small ++ (table_row (codes "lex") 1 small ++ [])
+rows_of_two = refl

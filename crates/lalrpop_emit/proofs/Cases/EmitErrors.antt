@@ -1,33 +1,54 @@
 -- Cases of specs/EmitErrors.antt.
-use Rattle.std.proofs.Common.{[], ◌∷◌, codes, refl, arith, ap, length, lit<}
+use Rattle.std.proofs.Common.{ℕ, List, [], ◌∷◌, codes, refl, arith, ap, length, lit<}
+use Rattle.lalrpop_modes.specs.Modes.{ModeRules}
 use Rattle.lalrpop_emit.specs.EmitErrors.{IsFirstBadName, IsNumbersError, IsSourceError}
-use Rattle.lalrpop_emit.specs.declared.error.EmitError.TheVariants.{NoRules, SkipCount, NoName, TooManyRules, BadPrefix, NoTable}
+use Rattle.lalrpop_emit.specs.declared.error.EmitError.TheVariants.{NoRules, BadName, SkipCount, NoName, TooManyRules, TooManyModes, TooManyActions, BadVariant, BadPrefix, NoTable}
 
-no_rules : IsNumbersError [] [] [] NoRules
+-- rules with these names, none of them skipped, and no actions
+abbrev rules_named : List (List ℕ) → ℕ → ModeRules
+rules_named names modes = record { names = names; trees = []; precedences = []; skips = []; actions = []; members = []; kinds = []; modes = modes; automata = [] }
+
+no_rules : IsNumbersError (rules_named [] 1) NoRules
 no_rules = refl
 
-there_are_rules : ¬ IsNumbersError [] (codes "IF" ∷ []) [] NoRules
+there_are_rules : ¬ IsNumbersError (rules_named (codes "IF" ∷ []) 1) NoRules
 there_are_rules e = omega (arith, ap length e)
 
-first_is_bad : IsFirstBadName (codes "A-B" ∷ codes "C-D" ∷ []) 0
+first_is_bad : IsNumbersError (rules_named (codes "A-B" ∷ codes "C-D" ∷ []) 1) (BadName 0)
 first_is_bad = record { name = codes "A-B"; at = refl; bad = λ h. let bad = h.bytes in cc; before = λ j n l e. absurd (omega (arith, l)) }
 
 -- one before it is bad too
 second_is_not_the_first : ¬ IsFirstBadName (codes "A-B" ∷ codes "C-D" ∷ []) 1
 second_is_not_the_first h = let bad = (h.before 0 (codes "A-B") (lit< tt) refl).bytes in cc
 
-one_rule_is_not_too_many : ¬ IsNumbersError [] (codes "IF" ∷ []) [] TooManyRules
+one_rule_is_not_too_many : ¬ IsNumbersError (rules_named (codes "IF" ∷ []) 1) TooManyRules
 one_rule_is_not_too_many h = omega (arith, h)
 
-one_skip_is_missing : IsNumbersError [] (codes "IF" ∷ []) [] SkipCount
+one_skip_is_missing : IsNumbersError (rules_named (codes "IF" ∷ []) 1) SkipCount
 one_skip_is_missing e = omega (arith, e)
 
--- an automaton without states has no pattern
-no_pattern_to_name : ¬ IsNumbersError [] (codes "IF" ∷ []) [] (NoName 1)
-no_pattern_to_name h = let there = h.1.at in cc
+-- there is no automaton
+no_pattern_to_name : ¬ IsNumbersError (rules_named (codes "IF" ∷ []) 1) (NoName 1)
+no_pattern_to_name h = let there = h.at in cc
+
+too_many_modes : IsNumbersError (rules_named (codes "IF" ∷ []) 65536) TooManyModes
+too_many_modes = omega arith
+
+two_modes_are_not_too_many : ¬ IsNumbersError (rules_named (codes "IF" ∷ []) 2) TooManyModes
+two_modes_are_not_too_many h = omega (arith, h)
+
+no_actions_are_not_too_many : ¬ IsNumbersError (rules_named (codes "IF" ∷ []) 1) TooManyActions
+no_actions_are_not_too_many h = omega (arith, h)
+
+-- C and Rust share the numbers
+numbers_have_no_variants : ¬ IsNumbersError (rules_named (codes "2a" ∷ []) 1) (BadVariant 0)
+numbers_have_no_variants h = h
 
 identifier_is_no_bad_prefix : ¬ IsSourceError (codes "lex") BadPrefix
 identifier_is_no_bad_prefix h = h (record { part = record { some = λ e. omega (arith, ap length e); bytes = refl }; first = refl })
 
 a_source_has_a_table : ¬ IsSourceError (codes "lex") NoTable
 a_source_has_a_table h = h
+
+c_has_no_variants : ¬ IsSourceError (codes "lex") (BadVariant 0)
+c_has_no_variants h = h

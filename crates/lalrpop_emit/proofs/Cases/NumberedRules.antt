@@ -1,23 +1,67 @@
 -- Cases of specs/NumberedRules.antt.
-use Rattle.std.proofs.Common.{[], ◌∷◌, codes, true, false, arith, lit<}
-use Rattle.lalrpop_emit.specs.NumberedRules.{NumberedRules, IsStorable}
+use Rattle.std.proofs.Common.{◌≡◌, [], ◌∷◌, codes, true, false, refl, arith, lit<}
+use Rattle.lalrpop_dense.specs.DenseTable.{TableNumbers}
+use Rattle.lalrpop_modes.specs.Modes.{ModeRules}
+use Rattle.lalrpop_modes.specs.declared.action.Action.TheVariants.{Mode, Push, Pop}
+use Rattle.lalrpop_emit.specs.NumberedRules.{NumberedRules, AreNumbersOf, IsStorable, IsStorableTable, action_number, action_numbers, first_places, actions_of_rules}
 
-two_rules : NumberedRules
+number_of_pop : action_number Pop ≡ 1
+number_of_pop = refl
+
+number_of_mode : action_number (Mode 3) ≡ 8
+number_of_mode = refl
+
+number_of_push : action_number (Push 3) ≡ 9
+number_of_push = refl
+
+-- the second rule has no actions
+numbers_of_two_rules : action_numbers ((Push 1 ∷ Pop ∷ []) ∷ [] ∷ []) ≡ 5 ∷ 1 ∷ 0 ∷ 0 ∷ []
+numbers_of_two_rules = refl
+
+places_of_two_rules : first_places 0 ((Push 1 ∷ Pop ∷ []) ∷ [] ∷ []) ≡ 0 ∷ 3 ∷ []
+places_of_two_rules = refl
+
+-- two rules of one mode, the first of which has an action
+abbrev two_rules : ModeRules
 two_rules = record {
+  names = codes "IF" ∷ codes "ID" ∷ [];
+  trees = [];
+  precedences = [];
+  skips = [];
+  actions = (Pop ∷ []) ∷ [];
+  members = [];
+  kinds = [];
+  modes = 1;
+  automata = [];
+}
+
+no_actions_of_the_second : actions_of_rules two_rules ≡ (Pop ∷ []) ∷ [] ∷ []
+no_actions_of_the_second = refl
+
+abbrev their_numbers : NumberedRules
+their_numbers = record {
   names = codes "IF" ∷ codes "A-B" ∷ [];
   kinds = 0 ∷ 65536 ∷ [];
   skips = false ∷ true ∷ [];
-  table = record { blocks = []; pages = []; start = 0; width = 256; live = 0; accept = 0; cells = 4294967296 ∷ [] };
+  first_actions = 0 ∷ 2 ∷ [];
+  actions = 1 ∷ 0 ∷ 4294967296 ∷ [];
+  tables = [];
 }
 
-no_kind_past_16_bits : ¬ IsStorable two_rules
-unfolding two_rules
+no_mode_without_a_table : ¬ AreNumbersOf two_rules their_numbers
+no_mode_without_a_table h = let none = h.modes in cc
+
+no_kind_past_16_bits : ¬ IsStorable their_numbers
 no_kind_past_16_bits h = omega (arith, h.kinds 1 0 (lit< tt))
 
-no_cell_past_32_bits : ¬ IsStorable (record two_rules { kinds = [] })
-unfolding two_rules
-no_cell_past_32_bits h = omega (arith, h.cells 0 0 (lit< tt))
+no_action_past_32_bits : ¬ IsStorable their_numbers
+no_action_past_32_bits h = omega (arith, h.actions 2 0 (lit< tt))
 
-no_bad_name : ¬ IsStorable (record two_rules { kinds = []; names = codes "A-B" ∷ [] })
-unfolding two_rules
-no_bad_name h = let bad = (h.names 0 [] (lit< tt)).bytes in cc
+no_bad_name : ¬ IsStorable their_numbers
+no_bad_name h = let bad = (h.names 1 [] (lit< tt)).bytes in cc
+
+abbrev wide_table : TableNumbers
+wide_table = record { blocks = 255 ∷ []; pages = []; start = 0; width = 256; live = 0; accept = 0; cells = 4294967296 ∷ [] }
+
+no_cell_past_32_bits : ¬ IsStorableTable wide_table
+no_cell_past_32_bits h = omega (arith, h.cells 0 0 (lit< tt))

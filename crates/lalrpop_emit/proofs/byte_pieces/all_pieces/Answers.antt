@@ -1,28 +1,50 @@
-use Rattle.std.proofs.Common.{◌+◌, List, refl, sym, subst, arith}
-use Rattle.std.specs.Prelude.{None}
+use Rattle.std.proofs.Common.{◌≡◌, ℕ, ◌++◌, List, length, take, drop, sym, ap, subst, ◌∙◌, arith}
+use Rattle.std.specs.Prelude.{true, false}
+use Rattle.lalrpop_modes.specs.Stack.{start}
+use Rattle.lalrpop_emit.specs.Internal.Driving.{IsState, stack_of}
+use Rattle.lalrpop_emit.specs.declared.driver.Step.TheVariants.{Piece, End, TooDeep}
 use Rattle.lalrpop_emit.specs.declared.numbered_piece.NumberedPiece.{NumberedPiece}
-use Rattle.lalrpop_emit.proofs.BytePieceLaws.{AreBytePiecesTo, pieces_more, pieces_all, ended, byte_pieces-unique, pieces_numbered}
+use Rattle.lalrpop_emit.proofs.BytePieceLaws.{AreBytePiecesTo, pieces_more, pieces_all}
+use Rattle.lalrpop_emit.proofs.Driving.{written, came_next}
 use Rattle.lalrpop_emit.proofs.byte_pieces.all_pieces.Goals as goal
 
 pub pieces-preserved : goal.pieces-preserved
-pieces-preserved c = record {
-  pieces = λ d h ts ps s.
-      let x = c.in-Some.piece in
-      subst (λ (ys : List NumberedPiece). AreBytePiecesTo ts ps c.args.kinds.now c.args.text.now ys (x.start + x.length)) (sym c.in_ok-push.ensures.items)
-      (pieces_more ts ps c.args.kinds.now c.args.text.now c.pieces.at c.pieces.pieces.items x (c.pieces.invariant.pieces d h ts ps s) (c.in-Some.ensures.piece d h ts ps s));
-  within = omega (arith, c.in-Some.ensures.place);
+pieces-preserved c =
+    let n = c.args.numbers.now in
+    let text = c.args.text.now in
+    let list = c.pieces.below.items in
+    let new = c.next.new.below in
+    let at = c.next.new.state in
+    let x = c.in-Piece.piece in
+    let value : c.deref_mut.result.now ≡ list = c.deref_mut.ensures.value in
+    let size : length new ≡ length list = omega (arith, c.next.auto.below, ap length value) in
+    let same : take c.pieces.below.len (new ++ drop (length new) list) ≡ new = written new list c.pieces.below.len size (omega (arith, c.pieces.below.ok.0)) in
+    record {
+      state = subst (λ (xs : List ℕ). IsState (length n.tables) at xs) (sym same) c.in-Piece.ensures.state;
+      room = ap length same ∙ size ∙ c.pieces.invariant.room;
+      pieces = λ r are.
+          let next = came_next r n.kinds 1024 text c.pieces.state.at c.pieces.state c.deref_mut.result.now list (Piece x) (stack_of at new) value c.pieces.invariant.room (c.in-Piece.ensures.next r are) in
+          subst (λ (ys : List NumberedPiece). AreBytePiecesTo r n.kinds 1024 text 0 start ys at.at (stack_of at (take c.pieces.below.len (new ++ drop (length new) list)))) (sym c.in_ok-push-in-Piece.ensures.items)
+          (pieces_more r n.kinds 1024 text 0 start c.pieces.pieces.items c.pieces.state.at (stack_of c.pieces.state list) x at.at (stack_of at (take c.pieces.below.len (new ++ drop (length new) list)))
+          (c.pieces.invariant.pieces r are) next.0 next.1 c.in-Piece.ensures.goes_on.ends (ap (stack_of at) same ∙ next.2));
+    }
+
+pub returns-in-End : goal.returns-in-End
+returns-in-End c = record {
+  pieces = λ r are.
+      let n = c.args.numbers.now in
+      let text = c.args.text.now in
+      let s = stack_of c.pieces.state c.pieces.below.items in
+      let next = came_next r n.kinds 1024 text c.pieces.state.at c.pieces.state c.deref_mut.result.now c.pieces.below.items End (stack_of c.next.new.state c.next.new.below) c.deref_mut.ensures.value c.pieces.invariant.room (c.in-End.ensures.next r are) in
+      pieces_all r n.kinds 1024 text true 0 start c.pieces.pieces.items c.pieces.state.at s (c.pieces.invariant.pieces r are) next.0;
 }
 
-pub returns-clause-pieces : goal.returns-clause-pieces
-returns-clause-pieces c = λ d h ts ps s.
-    pieces_all ts ps c.args.kinds.now c.args.text.now c.pieces.at c.pieces.pieces.items (c.pieces.invariant.pieces d h ts ps s) (ended c.args.text.now c.pieces.at None refl c.in_default.ensures.some)
-
-pub returns-clause-only : goal.returns-clause-only
-returns-clause-only c = λ d h ts ps s others are.
-    let all = pieces_all ts ps c.args.kinds.now c.args.text.now c.pieces.at c.pieces.pieces.items (c.pieces.invariant.pieces d h ts ps s) (ended c.args.text.now c.pieces.at None refl c.in_default.ensures.some) in
-    byte_pieces-unique ts ps c.args.kinds.now c.args.text.now 0 others c.pieces.pieces.items are all
-
-pub returns-clause-items : goal.returns-clause-items
-returns-clause-items c = λ d h ts ps s skips items are.
-    let all = pieces_all ts ps c.args.kinds.now c.args.text.now c.pieces.at c.pieces.pieces.items (c.pieces.invariant.pieces d h ts ps s) (ended c.args.text.now c.pieces.at None refl c.in_default.ensures.some) in
-    pieces_numbered ts ps c.args.kinds.now skips c.args.text.now 0 c.pieces.pieces.items items all are
+pub returns-in-TooDeep : goal.returns-in-TooDeep
+returns-in-TooDeep c = record {
+  pieces = λ r are.
+      let n = c.args.numbers.now in
+      let text = c.args.text.now in
+      let s = stack_of c.pieces.state c.pieces.below.items in
+      let next = came_next r n.kinds 1024 text c.pieces.state.at c.pieces.state c.deref_mut.result.now c.pieces.below.items TooDeep (stack_of c.next.new.state c.next.new.below) c.deref_mut.ensures.value c.pieces.invariant.room (c.in-TooDeep.ensures.next r are) in
+      pieces_all r n.kinds 1024 text false 0 start c.pieces.pieces.items c.pieces.state.at s (c.pieces.invariant.pieces r are) next.0;
+}

@@ -1,17 +1,19 @@
-use Rattle.std.proofs.Common.{ℕ, ◌-◌, ◌≤◌, List, length}
-use Rattle.lalrpop_book.specs.Tree.{Tree}
-use Rattle.lalrpop_dfa.specs.Dfa.{Row, Recognizes}
-use Rattle.lalrpop_dense.specs.DenseTable.{IsTableFor}
-use Rattle.lalrpop_emit.specs.Internal.Lists.{list_numbers}
+use Rattle.std.proofs.Common.{◌≡◌, ◌-◌, length}
+use Rattle.lalrpop_modes.specs.Modes.{ModeRules}
+use Rattle.lalrpop_modes.specs.Stack.{start}
+use Rattle.lalrpop_emit.specs.NumberedRules.{AreNumbersOf}
+use Rattle.lalrpop_emit.specs.Internal.Driving.{IsState, stack_of}
 use Rattle.lalrpop_emit.proofs.BytePieceLaws.{AreBytePiecesTo}
 use Rattle.lalrpop_emit.proofs.byte_pieces.all_pieces.Given as goal
 
 -- the pieces up to the place are known
 abbrev pub invariant-pieces : goal.invariant-pieces
 invariant-pieces l = record {
-  pieces : (d : List Row) → IsTableFor (list_numbers l.table) d → (ts : List Tree) (ps : List ℕ) → Recognizes d ts ps → AreBytePiecesTo ts ps l.kinds l.text l.pieces.items l.at;
-  within : l.at ≤ length l.text;
+  state : IsState (length l.numbers.tables) l.state l.below.items;
+  room : length l.below.items ≡ 1024;
+  pieces : (r : ModeRules) → AreNumbersOf r l.numbers
+      → AreBytePiecesTo r l.numbers.kinds 1024 l.text 0 start l.pieces.items l.state.at (stack_of l.state l.below.items);
 }
 
 abbrev pub decreases-pieces : goal.decreases-pieces
-decreases-pieces l = length l.text - l.at
+decreases-pieces l = length l.text - l.state.at

@@ -1,17 +1,18 @@
-use Rattle.std.proofs.Common.{◌≡◌, ℕ, List, map, string_bytes, subst, sym, ap, ◌∙◌}
-use Rattle.lalrpop_dfa.proofs.Recognized.{on_words}
+use Rattle.std.proofs.Common.{ℕ, List, length, map, sym, ap, subst, ◌∙◌, arith}
+use Rattle.std.proofs.lemmas.List.{take_all}
 use Rattle.lalrpop_emit.specs.BytePieces.{numbered}
-use Rattle.lalrpop_rules.specs.Pieces.{ArePieces}
+use Rattle.lalrpop_modes.specs.Modes.{ArePiecesFrom}
+use Rattle.lalrpop_modes.specs.Stack.{start}
 use Rattle.uses_lexer.proofs.cut_by_numbers.pieces_by_numbers.Goals as goal
 
 pub returns : goal.returns
-returns c =
-    let ts = c.args.lexer.now.trees in
-    let ps = c.args.lexer.now.precedences in
-    let right = on_words c.dense.result.now ts ps c.dense.ensures.built.stands in
-    record {
-      same = λ items are.
-          c.in_ok-pieces.ensures.items c.dense.result.now c.in_ok-numbers.ensures.table ts ps right c.args.skips.now items
-          (subst (λ (text : List ℕ). ArePieces ts ps c.args.skips.now text 0 items) (sym c.as_bytes.ensures.value) are)
-          ∙ ap (λ kinds. map (numbered kinds) items) c.in_ok-numbers.ensures.kinds;
-    }
+returns c = record {
+  same = λ whole items end are.
+      let rules = c.args.rules.now in
+      let numbers = c.in_ok-numbers.ensures.numbers in
+      let there = subst (λ (text : List ℕ). ArePiecesFrom rules text 0 start items end) (sym c.as_bytes.ensures.value) are in
+      let size = c.in_ok-all.ensures.whole rules numbers items end there whole in
+      c.in_ok-all.ensures.items rules numbers items end there
+      ∙ ap (λ front. map (numbered c.in_ok-numbers.numbers.kinds) front) (take_all (length c.in_ok-all.all.pieces.items) items (omega (arith, size)))
+      ∙ ap (λ kinds. map (numbered kinds) items) numbers.kinds;
+}

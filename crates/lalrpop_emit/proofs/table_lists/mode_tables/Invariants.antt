@@ -1,0 +1,10 @@
+use Rattle.std.proofs.Common.{◌≡◌, length, map}
+use Rattle.lalrpop_emit.specs.Internal.Lists.{AreModeTables, list_numbers}
+use Rattle.lalrpop_emit.proofs.table_lists.mode_tables.Given as goal
+
+-- the tables of the modes so far
+abbrev pub invariant-loop-mode : goal.invariant-loop-mode
+invariant-loop-mode l = record {
+  modes : length l.tables.items ≡ l.mode;
+  tables : AreModeTables l.rules (map list_numbers l.tables.items);
+}
