@@ -13,12 +13,13 @@ use Rattle.lexdfa_lib.specs.Status.{outcome_status}
 use Rattle.lexdfa_lib.specs.declared.outcome.Outcome.{Outcome}
 use Rattle.lexdfa_lib.specs.declared.outcome.Outcome.TheVariants as outcomes
 use Rattle.tokens_lib.specs.Answer.{Answer, Reads, TextOf, is_input, shown_name, FileGives, NumberedAnswer, FilesAnswer, cut_files, TextsAnswer}
-use Rattle.tokens_lib.specs.Emitted.{SourceAnswer, prefix_of}
+use Rattle.tokens_lib.specs.Emitted.{SourceAnswer}
 use Rattle.tokens_lib.specs.Program.{rules_status, RulesOf, LexerOf, clashes_status, ClashesAnswer, TerminalsOf, reported_status, TerminalClashesAnswer, ActionAnswer, CommandAnswer}
 use Rattle.tokens_lib.specs.Progress.{total_said}
 use Rattle.tokens_lib.specs.Streams.{Given}
 use Rattle.tokens_lib.specs.TextAnswer.{fault_status, end_status, TokensAnswer, PiecesAnswer, PageAnswer}
 use Rattle.tokens_lib.specs.declared.command.Command.{Command}
+use Rattle.tokens_lib.specs.declared.command.Language.{Language}
 use Rattle.tokens_lib.specs.declared.command.Markup.{Markup}
 use Rattle.tokens_lib.specs.declared.layout.LineForm.{LineForm}
 use Rattle.tokens_lib.specs.declared.text_end.OpenMode.{OpenMode}
@@ -144,9 +145,9 @@ pieces_low set modes form recovers several name text answer (xs, (end, (are, e))
 page_low : (set : ModeRules) (modes : List (List ℕ)) (markup : Markup) (name text : List ℕ) (answer : Answer) → PageAnswer set modes markup name text answer → IsLow answer
 page_low set modes markup name text answer (xs, (end, (are, e))) = low answer _ e (end_low _ _)
 
-source_low : (prefix file : List ℕ) (set : ModeRules) (answer : Answer) → SourceAnswer prefix file set answer → IsLow answer
-source_low prefix file set answer (inl (n, (are, e))) = low answer _ e (omega arith)
-source_low prefix file set answer (inr (why, (memory, (is, e)))) = low answer _ e (omega arith)
+source_low : (language : Language) (file : List ℕ) (set : ModeRules) (answer : Answer) → SourceAnswer language file set answer → IsLow answer
+source_low language file set answer (inl (n, (are, e))) = low answer _ e (omega arith)
+source_low language file set answer (inr (error, (other, (is, e)))) = low answer _ e (omega arith)
 
 action_low : {I : Type 0} (Gives : List ℕ → Given → Type 0) (InputGives : I → I → Given → Type 0) (i k : I) (verbosity : Verbosity) (action : Action) (rules : List ℕ) (files : List (List ℕ))
     (answer : Answer) → ActionAnswer Gives (TextsAnswer Gives InputGives i k) verbosity action rules files answer → IsLow answer
@@ -163,8 +164,8 @@ action_low Gives InputGives i k verbosity (CutByTerminals places) rules files an
 action_low Gives InputGives i k verbosity Clashes rules files answer is =
     reads_low Gives (RulesOf verbosity ClashesAnswer) rules answer (λ bytes a said. rules_of_low verbosity ClashesAnswer rules bytes a (list_low rules) said) is
 action_low Gives InputGives i k verbosity TerminalClashes rules files answer is = reads_low Gives TerminalClashesAnswer rules answer (terminal_list_low rules) is
-action_low Gives InputGives i k verbosity (Emit prefix) rules files answer is =
-    by_rules_low verbosity Gives (λ set modes. SourceAnswer (prefix_of prefix) rules set) rules answer (λ set modes a written. source_low (prefix_of prefix) rules set a written) is
+action_low Gives InputGives i k verbosity (Emit language) rules files answer is =
+    by_rules_low verbosity Gives (λ set modes. SourceAnswer language rules set) rules answer (λ set modes a written. source_low language rules set a written) is
 
 pub command_low : {I : Type 0} (Gives : List ℕ → Given → Type 0) (InputGives : I → I → Given → Type 0) (i k : I) (command : Command) (answer : Answer)
     → CommandAnswer Gives (TextsAnswer Gives InputGives i k) command answer → IsLow answer

@@ -9,6 +9,7 @@ use Rattle.tokens_lib.specs.declared.command.ArgumentsError.{ArgumentsError}
 use Rattle.tokens_lib.specs.declared.command.ArgumentsError.TheVariants.{Unknown, NoRules, Apart, NoFiles}
 use Rattle.tokens_lib.specs.declared.command.Command.{Command}
 use Rattle.tokens_lib.specs.declared.command.Command.TheVariants.{Help, Version, Run}
+use Rattle.tokens_lib.specs.declared.command.Language.TheVariants.{C, Rust}
 use Rattle.tokens_lib.specs.declared.command.Markup.TheVariants.{Html, Ansi}
 use Rattle.tokens_lib.specs.declared.command.Verbosity.{Verbosity}
 use Rattle.tokens_lib.specs.declared.command.Verbosity.TheVariants.{Quiet, Warnings, Progress}
@@ -26,14 +27,15 @@ options_of (CutByTerminals false) = codes "--lines" ∷ []
 options_of (CutByTerminals true) = codes "--lines" ∷ codes "--places" ∷ []
 options_of Clashes = codes "--clashes" ∷ []
 options_of TerminalClashes = codes "--lines" ∷ codes "--clashes" ∷ []
-options_of (Emit None) = codes "--emit=c" ∷ []
-options_of (Emit (Some prefix)) = codes "--emit=c" ∷ (codes "--prefix=" ++ prefix.now) ∷ []
+options_of (Emit (C None)) = codes "--emit=c" ∷ []
+options_of (Emit (C (Some prefix))) = codes "--emit=c" ∷ (codes "--prefix=" ++ prefix.now) ∷ []
+options_of (Emit Rust) = codes "--emit=rust" ∷ []
 
 -- whether it is about the rules alone, so that no files are read
 abbrev pub is_of_rules : Action → Bool
 is_of_rules Clashes = true
 is_of_rules TerminalClashes = true
-is_of_rules (Emit prefix) = true
+is_of_rules (Emit language) = true
 is_of_rules action = false
 
 -- whether a word is among others
@@ -42,7 +44,7 @@ has words word = list_any (λ other. bytes_eq other word) words
 
 -- the options of actions, in the order of the table
 abbrev pub action_options : List (List ℕ)
-action_options = codes "--recover" ∷ codes "--json" ∷ codes "--html" ∷ codes "--ansi" ∷ codes "--lines" ∷ codes "--places" ∷ codes "--clashes" ∷ codes "--emit=c" ∷ []
+action_options = codes "--recover" ∷ codes "--json" ∷ codes "--html" ∷ codes "--ansi" ∷ codes "--lines" ∷ codes "--places" ∷ codes "--clashes" ∷ codes "--emit=c" ∷ codes "--emit=rust" ∷ []
 
 -- the option says a prefix
 abbrev pub is_prefix_option : List ℕ → Bool

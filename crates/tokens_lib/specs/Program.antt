@@ -28,7 +28,7 @@ use Rattle.tokens_lib.specs.Answer.{Answer, refusal, remark, followed, headed, R
 use Rattle.lines_lib.specs.ClashesShown.{AreClashesShown}
 use Rattle.tokens_lib.specs.Arguments.{joined, options, names}
 use Rattle.tokens_lib.specs.Command.{IsCommand, IsArgumentsError}
-use Rattle.tokens_lib.specs.Emitted.{SourceAnswer, prefix_of}
+use Rattle.tokens_lib.specs.Emitted.{SourceAnswer}
 use Rattle.tokens_lib.specs.Progress.{reading_text}
 use Rattle.tokens_lib.specs.Reasons.{SaysBadLine, SaysRules, SaysTerminals}
 use Rattle.tokens_lib.specs.RuleClashes.{clash_lines}
@@ -161,8 +161,8 @@ ActionAnswer Gives Texts verbosity (CutByTerminals places) rules files answer =
     Reads Gives (TerminalsOf (λ ts ps. Texts verbosity (TokensAnswer ts ps places) files)) rules answer
 ActionAnswer Gives Texts verbosity Clashes rules files answer = Reads Gives (RulesOf verbosity ClashesAnswer) rules answer
 ActionAnswer Gives Texts verbosity TerminalClashes rules files answer = Reads Gives TerminalClashesAnswer rules answer
-ActionAnswer Gives Texts verbosity (Emit prefix) rules files answer =
-    Reads Gives (RulesOf verbosity (LexerOf (λ r modes. SourceAnswer (prefix_of prefix) rules r))) rules answer
+ActionAnswer Gives Texts verbosity (Emit language) rules files answer =
+    Reads Gives (RulesOf verbosity (LexerOf (λ r modes. SourceAnswer language rules r))) rules answer
 
 -- the answer for a command; with progress, it says first that the rules are read
 abbrev pub CommandAnswer : (List ℕ → Given → Type 0) → (Verbosity → (List ℕ → List ℕ → Answer → Type 0) → List (List ℕ) → Answer → Type 0) → Command → Answer → Type 0

@@ -27,6 +27,24 @@ pub enum Markup {
     Ansi,
 }
 
+/// The language in which a lexer is written.
+///
+/// ```
+/// use tokens_lib::{Action, Language};
+///
+/// let action = Action::Emit { language: Language::C { prefix: Some("json") } }; // `--emit c --prefix json`
+/// ```
+#[derive(Clone, Copy, Debug, PartialEq, Eq)]
+pub enum Language<'words> {
+    /// In C.
+    C {
+        /// What all names begin with, `lex` if it isn't given.
+        prefix: Option<&'words str>,
+    },
+    /// In Rust.
+    Rust,
+}
+
 /// What is done with a file of rules.
 ///
 /// ```
@@ -56,10 +74,9 @@ pub enum Action<'words> {
     Clashes,
     /// The pairs of terminals that clash are listed.
     TerminalClashes,
-    /// The lexer of the named rules is written in C.
+    /// The lexer of the named rules is written as a source file.
     Emit {
-        /// What all its names begin with, `lex` if it isn't given.
-        prefix: Option<&'words str>,
+        language: Language<'words>,
     },
 }
 
@@ -120,7 +137,7 @@ pub enum Command<'words> {
 pub enum ArgumentsError<'words> {
     /// A request for memory was refused.
     OutOfMemory,
-    /// This option is unknown.
+    /// This option, or the language that it says, is unknown.
     Unknown { option: &'words str },
     /// No file of rules is named.
     NoRules,
@@ -139,7 +156,7 @@ impl From<AllocError> for ArgumentsError<'_> {
 }
 
 // The options of actions, in the order in which specs/Command.antt has them.
-const ACTION_OPTIONS: [&str; 8] = [
+const ACTION_OPTIONS: [&str; 9] = [
     "--recover",
     "--json",
     "--html",
@@ -148,6 +165,7 @@ const ACTION_OPTIONS: [&str; 8] = [
     "--places",
     "--clashes",
     "--emit=c",
+    "--emit=rust",
 ];
 
 // What an option that says a prefix begins with.
@@ -270,12 +288,17 @@ fn action_of_one(option: &str) -> Option<Action<'static>>
         }),
         "--lines" => Some(Action::CutByTerminals { places: false }),
         "--clashes" => Some(Action::Clashes),
-        "--emit=c" => Some(Action::Emit { prefix: None }),
+        "--emit=c" => Some(Action::Emit {
+            language: Language::C { prefix: None },
+        }),
+        "--emit=rust" => Some(Action::Emit {
+            language: Language::Rust,
+        }),
         _ => None,
     }
 }
 
-// The action that writes a lexer with the prefix that the option says, if it says one.
+// The action that writes a lexer in C with the prefix that the option says, if it says one.
 fn emit_with(option: &str) -> Option<Action<'_>>
     ensures some { IfSome result (λ action.
         codes "--emit=c" ∷ option.now ∷ [] ≡ options_of action) }
@@ -284,7 +307,9 @@ fn emit_with(option: &str) -> Option<Action<'_>>
 {
     match option.strip_prefix(PREFIX) {
         Some(prefix) => Some(Action::Emit {
-            prefix: Some(prefix),
+            language: Language::C {
+                prefix: Some(prefix),
+            },
         }),
         None => None,
     }

@@ -1,12 +1,13 @@
-//! The lexer of a file of rules in C.
+//! The lexer of a file of rules as a source file.
 ghost use Rattle.std.specs.Prelude.{◌≡◌, ◌≢◌, false, true, string_bytes, IfOk, OnOk, OnErr, IfErr};
-ghost use Rattle.lalrpop_emit.specs.CSource.{c_file};
-ghost use Rattle.lalrpop_emit.specs.NumberedRules.{NumberedRules};
-ghost use Rattle.tokens_lib.specs.Answer.{Answer, Answered, Begun};
-ghost use Rattle.tokens_lib.specs.Emitted.{AreNumbersOf, IsNoSource, SourceAnswer, error_reason, is_memory, no_source_reason, prefix_of};
+ghost use Rattle.lalrpop_emit.specs.NumberedRules.{AreNumbersOf, NumberedRules};
+ghost use Rattle.tokens_lib.specs.Answer.{Answer, Answered, Begun, about};
+ghost use Rattle.tokens_lib.specs.Emitted.{IsFileError, IsNoSource, SourceAnswer, error_reason, prefix_of, source_file};
+ghost use Rattle.tokens_lib.specs.Streams.{Takes};
 
+use crate::command::Language;
 use crate::files::say_about;
-use lalrpop_emit::{EmitError, LexerNumbers, c_source};
+use lalrpop_emit::{EmitError, LexerNumbers, c_source, rust_source};
 use lalrpop_modes::ModeLexer;
 use lexdfa_lib::{RunError, Watched, write_whole};
 use std::alloc::Global;
@@ -15,17 +16,8 @@ use std::io::Write;
 // The status of rules that can't be written.
 const REFUSED: u8 = 2;
 
-/// Why a lexer can't be written in C.
-#[derive(Debug, Drop)]
-pub(crate) enum NoSource {
-    /// The rules have several modes.
-    SeveralModes,
-    /// The rules or the prefix don't serve, or a request for memory was refused.
-    Refused(EmitError),
-}
-
-/// What the names of a lexer begin with.
-pub(crate) fn prefix_of<'words>(prefix: Option<&'words str>) -> &'words str
+// What the names of a lexer in C begin with.
+fn prefix_of<'words>(prefix: Option<&'words str>) -> &'words str
     ensures { result.now ≡ prefix_of prefix.entry }
 {
     match prefix {
@@ -44,6 +36,9 @@ fn error_reason(error: &EmitError) -> &'static str
         EmitError::SkipCount => "there aren't as many skips as rules",
         EmitError::NoName { .. } => "a pattern has no name",
         EmitError::TooManyRules => "there are more than 65,535 rules",
+        EmitError::TooManyModes => "there are more than 65,535 modes",
+        EmitError::TooManyActions => "the rules have too many actions",
+        EmitError::BadVariant { .. } => "the name of a rule can't be a variant of an enum in Rust",
         EmitError::BadPrefix => {
             "the prefix isn't an identifier: ASCII letters, digits and _, and no digit first"
         }
@@ -52,41 +47,51 @@ fn error_reason(error: &EmitError) -> &'static str
     }
 }
 
-// What is said if there is no source file.
-fn no_source_reason(why: &NoSource) -> &'static str
-    ensures { result.now ≡ no_source_reason why.now }
+// The source file of a lexer in numbers.
+fn file_of(
+    alloc: Global,
+    numbers: &LexerNumbers,
+    language: Language<'_>,
+) -> Result<String, EmitError>
+    ensures file { IfOk result (λ source.
+        string_bytes source ≡ source_file language.entry numbers.now) }
+    ensures error { IfErr result (IsFileError language.entry numbers.now.names) }
 {
-    match why {
-        NoSource::SeveralModes => "these rules have several modes, and a lexer in C has one",
-        NoSource::Refused(error) => error_reason(error),
+    match language {
+        Language::C { prefix } => c_source(alloc, numbers, prefix_of(prefix)),
+        Language::Rust => rust_source(alloc, numbers),
     }
-}
-
-// Whether a request for memory was refused.
-fn is_memory(why: &NoSource) -> bool
-    ensures { result ≡ is_memory why.now }
-{
-    matches!(why, NoSource::Refused(EmitError::OutOfMemory))
 }
 
 // The source file of the lexer.
-fn source_of(alloc: Global, lexer: &ModeLexer, prefix: &str) -> Result<String, NoSource>
+fn source_of(alloc: Global, lexer: &ModeLexer, language: Language<'_>) -> Result<String, EmitError>
     ensures source { IfOk result (λ source. (n : NumberedRules)
-        × (AreNumbersOf lexer.now n × (string_bytes source ≡ c_file prefix.now n))) }
-    ensures refused { IfErr result (IsNoSource lexer.now prefix.now) }
+        × (AreNumbersOf lexer.now n × (string_bytes source ≡ source_file language.entry n))) }
+    ensures refused { IfErr result (IsNoSource language.entry lexer.now) }
 {
-    if lexer.modes() != 1 {
-        return Err(NoSource::SeveralModes);
+    let numbers = LexerNumbers::new(alloc, lexer)?;
+    file_of(alloc, &numbers, language)
+}
+
+// Says why there is no source file, and returns the status.
+fn refuse<E: Write>(
+    alloc: Global,
+    name: &str,
+    error: &EmitError,
+    err: &mut Watched<E>,
+) -> Result<u8, RunError>
+    ensures status { IfOk result (λ status. status ≡ 2) }
+    ensures other { OnOk result (error.now ≢ EmitError.OutOfMemory) }
+    ensures said { OnOk result
+        (Takes E.contents err.old err.new (about name.now (error_reason error.now))) }
+    ensures memory { IfErr result (λ e. e ≡ RunError.OutOfMemory) }
+    ensures no_late_message { err.new.late ≡ err.old.late }
+{
+    if let EmitError::OutOfMemory = error {
+        return Err(RunError::OutOfMemory);
     }
-    let dense = lexer.lexer(0).dense();
-    let numbers = match LexerNumbers::new(alloc, dense, lexer.names(), lexer.skips()) {
-        Ok(numbers) => numbers,
-        Err(error) => return Err(NoSource::Refused(error)),
-    };
-    match c_source(alloc, &numbers, prefix) {
-        Ok(source) => Ok(source),
-        Err(error) => Err(NoSource::Refused(error)),
-    }
+    say_about(alloc, name, error_reason(error), err)?;
+    Ok(REFUSED)
 }
 
 /// Writes the source file of the lexer of the rules with this name, or says why there is none, and returns the status.
@@ -94,16 +99,16 @@ pub(crate) fn write_source<W: Write, E: Write>(
     alloc: Global,
     name: &str,
     lexer: &ModeLexer,
-    prefix: &str,
+    language: Language<'_>,
     out: &mut Watched<W>,
     err: &mut Watched<E>,
 ) -> Result<u8, RunError>
     requires out_good { out.old.failed ≡ false }
     ensures answer { IfOk result (λ status. (answer : Answer)
-        × (SourceAnswer prefix.now name.now lexer.now answer
+        × (SourceAnswer language.entry name.now lexer.now answer
         × Answered W.contents E.contents out.old out.new err.old err.new status answer)) }
     ensures good { OnOk result (out.new.failed ≡ false) }
-    ensures begun { OnErr result (Begun (SourceAnswer prefix.now name.now lexer.now)
+    ensures begun { OnErr result (Begun (SourceAnswer language.entry name.now lexer.now)
         (W.contents out.old.inner) (W.contents out.new.inner)) }
     ensures memory { IfErr result (λ e. e ≡ RunError.OutOfMemory → out.new.failed ≡ false) }
     ensures write { IfErr result (λ e. e ≡ RunError.Write → out.new.failed ≡ true) }
@@ -111,17 +116,11 @@ pub(crate) fn write_source<W: Write, E: Write>(
     ensures no_late_write { out.new.late ≡ out.old.late }
     ensures no_late_message { err.new.late ≡ err.old.late }
 {
-    match source_of(alloc, lexer, prefix) {
+    match source_of(alloc, lexer, language) {
         Ok(source) => {
             write_whole(out, source.as_bytes())?;
             Ok(0)
         }
-        Err(why) => {
-            if is_memory(&why) {
-                return Err(RunError::OutOfMemory);
-            }
-            say_about(alloc, name, no_source_reason(&why), err)?;
-            Ok(REFUSED)
-        }
+        Err(error) => refuse(alloc, name, &error, err),
     }
 }

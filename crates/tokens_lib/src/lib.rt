@@ -30,7 +30,7 @@ mod text_end;
 mod usage;
 mod warnings;
 
-pub use command::{Action, ArgumentsError, Command, Markup, Verbosity, command_of};
+pub use command::{Action, ArgumentsError, Command, Language, Markup, Verbosity, command_of};
 pub use files::{Files, NoBytes};
 pub use item_lines::write_items;
 pub use lalrpop_lexer::{Lexer, Token, TokenFault};

@@ -14,7 +14,7 @@ use crate::by_rules::{lexer_by_name, list_clashes};
 use crate::by_terminals::{list_terminal_clashes, terminals_by_name};
 use crate::command::{Action, ArgumentsError, Command, Verbosity, command_of};
 use crate::cut_files::{Task, cut_all};
-use crate::emitted::{prefix_of, write_source};
+use crate::emitted::write_source;
 use crate::files::{ErrorStream, Files, SystemFiles, say};
 use crate::output::Output;
 use crate::progress::reading_message;
@@ -120,8 +120,8 @@ fn run_action<F: Files, R: Read, W: Write, E: Write>(
         },
         Action::Clashes => list_clashes(alloc, verbosity, files, rules, out, err),
         Action::TerminalClashes => list_terminal_clashes(alloc, files, rules, out, err),
-        Action::Emit { prefix } => match lexer_by_name(alloc, verbosity, files, rules, err)? {
-            Ok(found) => write_source(alloc, rules, &found.lexer, prefix_of(prefix), out, err),
+        Action::Emit { language } => match lexer_by_name(alloc, verbosity, files, rules, err)? {
+            Ok(found) => write_source(alloc, rules, &found.lexer, language, out, err),
             Err(status) => Ok(status),
         },
     }
@@ -213,15 +213,15 @@ fn refuse<E: Write>(
 /// Does what the arguments say (`command_of`): writes what was asked of the program itself; cuts the files, or standard input
 /// if none is named, by the file of rules that is named first, and writes the lines of `write_items` or, by terminals, of
 /// `write_tokens`, or the markup of each text, to `out`; or lists all clashes of the rules (`write_rule_clashes`) or terminals
-/// (`write_clashes`); or writes the lexer of the rules in C (`lalrpop_emit::c_source`). A file `-` is standard input: it is read
+/// (`write_clashes`); or writes the lexer of the rules in C or Rust (`lalrpop_emit`). A file `-` is standard input: it is read
 /// to its end where it stands, and a later `-` reads what is left. After a read that failed it isn't read again. What is wrong is
 /// explained on `err`, behind the warnings about a file of named rules (`warnings_message`), which `--quiet` leaves out; if a write
 /// there fails, nothing more is said, and the run goes on.
 ///
 /// The exit status is 0 if each text was cut to its end, has no fault and ends in a mode with none below it, or no rules clash,
-/// 1 if a text has a fault or ends in another mode, 2 if rules can't be compiled or clash, 3 if a line of the rules is bad or
-/// its pattern doesn't parse, 4 for wrong arguments, and 6 if a file gave no text. Of several files, the greatest status
-/// counts.
+/// 1 if a text has a fault or ends in another mode, 2 if rules can't be compiled or written, or clash, 3 if a line of the rules
+/// is bad or its pattern doesn't parse, 4 for wrong arguments, and 6 if a file gave no text. Of several files, the greatest
+/// status counts.
 ///
 /// # Errors
 ///

@@ -6,6 +6,7 @@ use Rattle.tokens_lib.specs.declared.command.Action.{Action}
 use Rattle.tokens_lib.specs.declared.command.Action.TheVariants.{Cut, Show, CutByTerminals, Clashes, TerminalClashes, Emit}
 use Rattle.tokens_lib.specs.declared.command.ArgumentsError.TheVariants.{NoRules, NoFiles}
 use Rattle.tokens_lib.specs.declared.command.Command.TheVariants.{Help, Version}
+use Rattle.tokens_lib.specs.declared.command.Language.TheVariants.{C, Rust}
 use Rattle.tokens_lib.specs.declared.command.Markup.TheVariants.{Html, Ansi}
 use Rattle.tokens_lib.specs.declared.command.Verbosity.TheVariants.{Quiet, Warnings, Progress}
 use Rattle.tokens_lib.specs.declared.layout.LineForm.TheVariants.{Plain, Json}
@@ -37,12 +38,15 @@ places_alone (CutByTerminals false) e = absurd (cc)
 places_alone (CutByTerminals true) e = absurd (cc)
 places_alone Clashes e = absurd (cc)
 places_alone TerminalClashes e = absurd (cc)
-places_alone (Emit None) e = absurd (cc)
-places_alone (Emit (Some prefix)) e = absurd (cc)
+places_alone (Emit (C None)) e = absurd (cc)
+places_alone (Emit (C (Some prefix))) e = absurd (cc)
+places_alone (Emit Rust) e = absurd (cc)
 
--- a lexer in C, with a prefix or without; two prefixes are no action's, and a prefix is none's alone
-emits : (given (codes "--emit=c" ∷ []) ≡ options_of (Emit None)) × (given (codes "--prefix=p" ∷ codes "--emit=c" ∷ []) ≡ options_of (Emit (Some (record { ref_ptr = (0, 0); now = codes "p" }))))
-emits = (refl, refl)
+-- a lexer in C, with a prefix or without, and one in Rust; two prefixes are no action's, nor is a prefix with Rust
+emits : (given (codes "--emit=c" ∷ []) ≡ options_of (Emit (C None)))
+    × (given (codes "--prefix=p" ∷ codes "--emit=c" ∷ []) ≡ options_of (Emit (C (Some (record { ref_ptr = (0, 0); now = codes "p" })))))
+    × (given (codes "--emit=rust" ∷ codes "--quiet" ∷ []) ≡ options_of (Emit Rust))
+emits = (refl, refl, refl)
 
 two_prefixes : (action : Action) → given (codes "--emit=c" ∷ codes "--prefix=p" ∷ codes "--prefix=q" ∷ []) ≢ options_of action
 two_prefixes (Cut Plain false) e = absurd (cc)
@@ -55,11 +59,31 @@ two_prefixes (CutByTerminals false) e = absurd (cc)
 two_prefixes (CutByTerminals true) e = absurd (cc)
 two_prefixes Clashes e = absurd (cc)
 two_prefixes TerminalClashes e = absurd (cc)
-two_prefixes (Emit None) e = absurd (cc)
-two_prefixes (Emit (Some prefix)) e = absurd (cc)
+two_prefixes (Emit (C None)) e = absurd (cc)
+two_prefixes (Emit (C (Some prefix))) e = absurd (cc)
+two_prefixes (Emit Rust) e = absurd (cc)
 
-unknown_language : unknown (codes "--prefix=p" ∷ codes "--emit=rust" ∷ []) ≡ Some (codes "--emit=rust")
-unknown_language = refl
+prefix_of_rust : (action : Action) → given (codes "--emit=rust" ∷ codes "--prefix=p" ∷ []) ≢ options_of action
+prefix_of_rust (Cut Plain false) e = absurd (cc)
+prefix_of_rust (Cut Plain true) e = absurd (cc)
+prefix_of_rust (Cut Json false) e = absurd (cc)
+prefix_of_rust (Cut Json true) e = absurd (cc)
+prefix_of_rust (Show Html) e = absurd (cc)
+prefix_of_rust (Show Ansi) e = absurd (cc)
+prefix_of_rust (CutByTerminals false) e = absurd (cc)
+prefix_of_rust (CutByTerminals true) e = absurd (cc)
+prefix_of_rust Clashes e = absurd (cc)
+prefix_of_rust TerminalClashes e = absurd (cc)
+prefix_of_rust (Emit (C None)) e = absurd (cc)
+prefix_of_rust (Emit (C (Some prefix))) e = absurd (cc)
+prefix_of_rust (Emit Rust) e = absurd (cc)
+
+-- two languages are both given
+two_languages : given (codes "--emit=rust" ∷ codes "--emit=c" ∷ []) ≡ codes "--emit=c" ∷ codes "--emit=rust" ∷ []
+two_languages = refl
+
+unknown_language : (unknown (codes "--emit=rust" ∷ codes "--emit=c" ∷ []) ≡ None) × (unknown (codes "--prefix=p" ∷ codes "--emit=pascal" ∷ []) ≡ Some (codes "--emit=pascal"))
+unknown_language = (refl, refl)
 
 -- help wins over the version, an unknown option and missing rules
 help_wins : (IsCommand (codes "--jsn" ∷ codes "--version" ∷ codes "--help" ∷ []) [] Help) × (¬ IsCommand (codes "--version" ∷ codes "--help" ∷ []) [] Version) × (¬ IsArgumentsError (codes "--help" ∷ []) [] NoRules)
@@ -69,5 +93,5 @@ version_alone : IsCommand (codes "--version" ∷ []) [] Version
 version_alone = (refl, refl)
 
 -- no file is read where clashes are listed or a lexer is written
-no_files : IsFilesError Clashes (codes "f" ∷ []) (NoFiles (record { ref_ptr = (0, 0); now = codes "f" })) × IsFilesError (Emit None) (codes "f" ∷ []) (NoFiles (record { ref_ptr = (0, 0); now = codes "f" })) × (¬ IsFilesError (Show Html) (codes "f" ∷ []) (NoFiles (record { ref_ptr = (0, 0); now = codes "f" })))
+no_files : IsFilesError Clashes (codes "f" ∷ []) (NoFiles (record { ref_ptr = (0, 0); now = codes "f" })) × IsFilesError (Emit Rust) (codes "f" ∷ []) (NoFiles (record { ref_ptr = (0, 0); now = codes "f" })) × (¬ IsFilesError (Show Html) (codes "f" ∷ []) (NoFiles (record { ref_ptr = (0, 0); now = codes "f" })))
 no_files = ((refl, ([], refl)), (refl, ([], refl)), λ h. absurd (cc (h.0)))

@@ -1,32 +1,40 @@
 -- Cases of specs/Emitted.antt.
-use Rattle.std.proofs.Common.{◌≡◌, [], ◌∷◌, true, false, codes, inl, inr, refl, sym, ap, ◌∙◌, arith}
+use Rattle.std.proofs.Common.{◌≡◌, ℕ, List, codes, inl, inr, refl, ap, arith}
 use Rattle.std.specs.Prelude.{Some, None}
-use Rattle.lalrpop_emit.specs.Names.{distinct_names}
+use Rattle.lalrpop_emit.specs.CSource.{c_file}
 use Rattle.lalrpop_emit.specs.NumberedRules.{NumberedRules}
+use Rattle.lalrpop_emit.specs.RustSource.{rust_file}
 use Rattle.lalrpop_emit.specs.declared.error.EmitError.TheVariants as error
 use Rattle.lalrpop_modes.specs.Modes.{ModeRules}
-use Rattle.tokens_lib.specs.Answer.{refusal}
-use Rattle.tokens_lib.specs.Emitted.{AreNumbersOf, IsNoSource, SourceAnswer, is_memory, prefix_of}
-use Rattle.tokens_lib.specs.declared.emitted.NoSource.TheVariants.{SeveralModes, Refused}
+use Rattle.tokens_lib.specs.Answer.{Answer, refusal}
+use Rattle.tokens_lib.specs.Emitted.{IsNoSource, SourceAnswer, prefix_of, source_file}
+use Rattle.tokens_lib.specs.declared.command.Language.{Language}
+use Rattle.tokens_lib.specs.declared.command.Language.TheVariants.{C, Rust}
 
 names_begin : (prefix_of None ≡ codes "lex") × (prefix_of (Some (record { ref_ptr = (0, 0); now = codes "json" })) ≡ codes "json")
 names_begin = (refl, refl)
 
-two_modes : (r : ModeRules) → r.modes ≡ 2
-    → SourceAnswer (codes "lex") (codes "r") r (refusal 2 (codes "tokens: r: these rules have several modes, and a lexer in C has one\n"))
-two_modes r two = inr (SeveralModes, (refl, (λ one. omega (arith, two, one), refl)))
+-- one file in C, and one in Rust
+languages : (n : NumberedRules) → (source_file (C None) n ≡ c_file (codes "lex") n) × (source_file Rust n ≡ rust_file n)
+languages n = (refl, refl)
 
-one_mode : (r : ModeRules) → r.modes ≡ 1 → ¬ IsNoSource r (codes "lex") SeveralModes
-one_mode r one several = several one
+-- a prefix that begins with a digit is a reason in C alone, and so is no variant in Rust
+prefix_1x : (r : ModeRules) → IsNoSource (C (Some (record { ref_ptr = (0, 0); now = codes "1x" }))) r error.BadPrefix
+prefix_1x r = inr (λ is. let bad = is.first in cc)
 
-no_numbers_of_two_modes : (r : ModeRules) (n : NumberedRules) → r.modes ≡ 2 → ¬ AreNumbersOf r n
-no_numbers_of_two_modes r n two are = omega (arith, two, are.one_mode)
+prefix_in_rust : (r : ModeRules) → ¬ IsNoSource Rust r error.BadPrefix
+prefix_in_rust r (inl numbers) = numbers
+prefix_in_rust r (inr file) = file
 
-name_left_out : (r : ModeRules) (n : NumberedRules) → r.names ≡ codes "A" ∷ [] → n.names ≡ [] → ¬ AreNumbersOf r n
-name_left_out r n is none are = let e : [] ≡ codes "A" ∷ [] = sym none ∙ are.names ∙ ap distinct_names is in absurd (cc)
+variant_in_c : (r : ModeRules) (k : ℕ) → ¬ IsNoSource (C None) r (error.BadVariant k)
+variant_in_c r k (inl numbers) = numbers
+variant_in_c r k (inr file) = file
 
-prefix_1x : (r : ModeRules) → IsNoSource r (codes "1x") (Refused error.BadPrefix)
-prefix_1x r = inl (λ is. let bad = is.first in cc)
+-- a reason is said with status 2, and with no other
+refused_prefix : (r : ModeRules)
+    → SourceAnswer (C (Some (record { ref_ptr = (0, 0); now = codes "1x" }))) (codes "r") r (refusal 2 (codes "tokens: r: the prefix isn't an identifier: ASCII letters, digits and _, and no digit first\n"))
+refused_prefix r = inr (error.BadPrefix, ((λ e. absurd (cc (e))), (prefix_1x r, refl)))
 
-refused_memory : (is_memory (Refused error.OutOfMemory) ≡ true) × (is_memory (Refused error.NoTable) ≡ false) × (is_memory SeveralModes ≡ false)
-refused_memory = (refl, refl, refl)
+no_status_3 : (language : Language) (file said : List ℕ) (r : ModeRules) → ¬ SourceAnswer language file r (refusal 3 said)
+no_status_3 language file said r (inl (n, (are, e))) = let s : 3 ≡ 0 = ap (λ (a : Answer). a.status) e in omega (arith, s)
+no_status_3 language file said r (inr (why, (other, (is, e)))) = let s : 3 ≡ 2 = ap (λ (a : Answer). a.status) e in omega (arith, s)

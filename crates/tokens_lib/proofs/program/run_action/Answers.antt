@@ -1,12 +1,13 @@
 use Rattle.std.proofs.Common.{ℕ, Bool, List, length, map, string_bytes, subst, Bor}
-use Rattle.std.specs.Prelude.{nat_lt, IfOk, OnErr}
+use Rattle.std.specs.Prelude.{Option, Result, Ok, Err, nat_lt, IfOk, OnErr}
+use Rattle.lexdfa_lib.specs.declared.error.RunError.{RunError}
 use Rattle.tokens_lib.specs.Answer.{Answer, Answered, Begun, TextsAnswer, FirstTextsAnswer}
-use Rattle.tokens_lib.specs.Emitted.{SourceAnswer, prefix_of}
+use Rattle.tokens_lib.specs.Emitted.{SourceAnswer}
 use Rattle.tokens_lib.specs.Streams.{StreamGives}
 use Rattle.tokens_lib.specs.TextAnswer.{TokensAnswer, PiecesAnswer, PageAnswer}
 use Rattle.tokens_lib.proofs.AnswerLaws.{Answered-refused}
-use Rattle.tokens_lib.proofs.ProgramLaws.{lexer_answered, terminals_answered, rules_refused}
-use Rattle.tokens_lib.proofs.BegunLaws.{lexer_begun, terminals_begun}
+use Rattle.tokens_lib.proofs.ProgramLaws.{lexer_answered, terminals_answered, rules_refused, terminals_refused}
+use Rattle.tokens_lib.proofs.BegunLaws.{Begun-nothing, lexer_begun, terminals_begun}
 use Rattle.tokens_lib.proofs.program.run_action.Goals as goal
 
 abbrev text : Bor (List ℕ) → List ℕ
@@ -79,7 +80,43 @@ returns-in-Ok-3-clause-answer g c =
     c.args.err.now c.terminals_by_name.new.err c.cut_all-in-Ok-3.new.err
     (rw c.in-Ok-3.is at c.in_ok-lexer-in-CutByTerminals.ensures.lexer) (rw c.in-Ok-3.is at c.in_ok-lexer-in-CutByTerminals.ensures.quiet) c.cut_all-in-Ok-3.ensures.answer)
 
+pub returns-in-Err-3-clause-answer : goal.returns-in-Err-3-clause-answer
+returns-in-Err-3-clause-answer g c =
+    let refused = rw c.in-Err-3.is at c.in_ok-lexer-in-CutByTerminals.ensures.refused in
+    let names = map text c.args.names.now in
+    rw c.in-CutByTerminals.is (
+      refused.0,
+      (
+        terminals_refused (g.F.Files.gives c.args.files.now)
+            (λ ts ps. TextsAnswer (g.F.Files.gives c.args.files.now) (StreamGives g.R.Read.remaining) c.args.input.now c.args.input.now c.args.verbosity (TokensAnswer ts ps c.in-CutByTerminals.places) names)
+            c.args.rules.now refused.0 refused.1.0,
+        Answered-refused g.W.Write.contents g.E.Write.contents c.args.out.now c.args.err.now c.terminals_by_name.new.err c.in-Err-3.status refused.0 refused.1.1,
+      ),
+    )
+
+-- ---- clashes
+
+pub returns-in-Clashes-clause-answer : goal.returns-in-Clashes-clause-answer
+returns-in-Clashes-clause-answer g c = rw c.in-Clashes.is c.list_clashes.ensures.answer
+
 -- ---- an error
+
+-- nothing was written
+none_begun : (r : Result ℕ RunError) (Is : Answer → Type 0) (a : Option (List ℕ)) → OnErr r (Begun Is a a)
+none_begun (Ok status) Is a = tt
+none_begun (Err error) Is a = Begun-nothing Is a
+
+pub returns-in_err-found-in-Cut-clause-begun : goal.returns-in_err-found-in-Cut-clause-begun
+returns-in_err-found-in-Cut-clause-begun g c = none_begun c.from_residual.result _ _
+
+pub returns-in_err-found-in-Show-clause-begun : goal.returns-in_err-found-in-Show-clause-begun
+returns-in_err-found-in-Show-clause-begun g c = none_begun c.from_residual-in_err-found-in-Show.result _ _
+
+pub returns-in_err-lexer-in-CutByTerminals-clause-begun : goal.returns-in_err-lexer-in-CutByTerminals-clause-begun
+returns-in_err-lexer-in-CutByTerminals-clause-begun g c = none_begun c.from_residual-in_err-lexer-in-CutByTerminals.result _ _
+
+pub returns-in_err-found-in-Emit-clause-begun : goal.returns-in_err-found-in-Emit-clause-begun
+returns-in_err-found-in-Emit-clause-begun g c = none_begun c.from_residual-in_err-found-in-Emit.result _ _
 
 pub returns-in-Ok-clause-begun : goal.returns-in-Ok-clause-begun
 returns-in-Ok-clause-begun g c =
@@ -110,14 +147,14 @@ returns-in-Ok-3-clause-begun g c =
     (λ ts ps. FirstTextsAnswer (g.F.Files.gives c.args.files.now) (StreamGives g.R.Read.remaining) c.args.input.now c.args.verbosity (TokensAnswer ts ps c.in-CutByTerminals.places) names)
     c.args.rules.now c.in-Ok-3.lexer.trees c.in-Ok-3.lexer.precedences _ _ (rw c.in-Ok-3.is at c.in_ok-lexer-in-CutByTerminals.ensures.lexer) c.cut_all-in-Ok-3.ensures.begun)
 
--- ---- a lexer in C
+-- ---- a source file
 
 pub returns-in-Ok-4-clause-answer : goal.returns-in-Ok-4-clause-answer
 returns-in-Ok-4-clause-answer g c =
     rw c.in-Emit.is
-    (lexer_answered c.write_source.result c.args.verbosity (g.F.Files.gives c.args.files.now) (λ set modes. SourceAnswer (prefix_of c.in-Emit.prefix) c.args.rules.now set)
+    (lexer_answered c.write_source.result c.args.verbosity (g.F.Files.gives c.args.files.now) (λ set modes. SourceAnswer c.in-Emit.language c.args.rules.now set)
     c.args.rules.now c.in-Ok-4.found.lexer (map string_bytes c.in-Ok-4.found.modes.items) g.W.Write.contents g.E.Write.contents c.args.out.now c.write_source.new.out c.args.err.now c.lexer_by_name-in-Emit.new.err c.write_source.new.err
-    (rw c.in-Ok-4.is at c.in_ok-found-in-Emit.ensures.lexer) (rw c.prefix_of.ensures at c.write_source.ensures.answer))
+    (rw c.in-Ok-4.is at c.in_ok-found-in-Emit.ensures.lexer) c.write_source.ensures.answer)
 
 pub returns-in-Err-4-clause-answer : goal.returns-in-Err-4-clause-answer
 returns-in-Err-4-clause-answer g c =
@@ -125,7 +162,7 @@ returns-in-Err-4-clause-answer g c =
     rw c.in-Emit.is (
       refused.0,
       (
-        rules_refused c.args.verbosity (g.F.Files.gives c.args.files.now) (λ set modes. SourceAnswer (prefix_of c.in-Emit.prefix) c.args.rules.now set) c.args.rules.now refused.0 refused.1.0,
+        rules_refused c.args.verbosity (g.F.Files.gives c.args.files.now) (λ set modes. SourceAnswer c.in-Emit.language c.args.rules.now set) c.args.rules.now refused.0 refused.1.0,
         Answered-refused g.W.Write.contents g.E.Write.contents c.args.out.now c.args.err.now c.lexer_by_name-in-Emit.new.err c.in-Err-4.status refused.0 refused.1.1,
       ),
     )
@@ -133,6 +170,6 @@ returns-in-Err-4-clause-answer g c =
 pub returns-in-Ok-4-clause-begun : goal.returns-in-Ok-4-clause-begun
 returns-in-Ok-4-clause-begun g c =
     rw c.in-Emit.is
-    (lexer_begun c.write_source.result c.args.verbosity (g.F.Files.gives c.args.files.now) (λ set modes. SourceAnswer (prefix_of c.in-Emit.prefix) c.args.rules.now set)
+    (lexer_begun c.write_source.result c.args.verbosity (g.F.Files.gives c.args.files.now) (λ set modes. SourceAnswer c.in-Emit.language c.args.rules.now set)
     c.args.rules.now c.in-Ok-4.found.lexer (map string_bytes c.in-Ok-4.found.modes.items) g.E.Write.contents c.args.err.now c.lexer_by_name-in-Emit.new.err _ _
-    (rw c.in-Ok-4.is at c.in_ok-found-in-Emit.ensures.lexer) (rw c.prefix_of.ensures at c.write_source.ensures.begun))
+    (rw c.in-Ok-4.is at c.in_ok-found-in-Emit.ensures.lexer) c.write_source.ensures.begun)
