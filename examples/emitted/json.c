@@ -35,11 +35,27 @@ static const uint16_t json_kinds[12] = {
 0, 1, 2, 3, 4, 5, 6, 7, 8, 9, 10, 11, };
 static const uint8_t json_skipped[12] = {
 1, 0, 0, 0, 0, 0, 0, 0, 0, 0, 0, 0, };
-static const size_t json_start = 31;
-static const size_t json_width = 30;
-static const size_t json_live = 31;
-static const size_t json_accept = 713;
-static const uint8_t json_blocks[256] = {
+static const uint32_t json_first_actions[12] = {
+0, 1, 2, 3, 4, 5, 6, 7, 8, 9, 10, 11, };
+static const uint32_t json_actions[12] = {
+0, 0, 0, 0, 0, 0, 0, 0, 0, 0, 0, 0, };
+typedef uint16_t json_cell;
+
+/* The table of a mode: classes of characters, and cells that lead from a row by a class to a row. */
+typedef struct {
+    const uint8_t *blocks;
+    const uint16_t *pages;
+    const json_cell *cells;
+    size_t last_page;
+    size_t start;
+    size_t width;
+    size_t live;
+    size_t accept;
+} json_table;
+
+/* How many modes there are. */
+enum { json_modes = 1 };
+static const uint8_t json_blocks_0[256] = {
 0, 0, 0, 0, 0, 0, 0, 0, 0, 1, 1, 0, 0, 1, 0, 0,
 0, 0, 0, 0, 0, 0, 0, 0, 0, 0, 0, 0, 0, 0, 0, 0,
 2, 3, 4, 3, 3, 3, 3, 3, 3, 3, 3, 5, 6, 7, 8, 9,
@@ -57,9 +73,9 @@ static const uint8_t json_blocks[256] = {
 3, 3, 3, 3, 3, 3, 3, 3, 3, 3, 3, 3, 3, 3, 3, 3,
 3, 3, 3, 3, 3, 3, 3, 3, 3, 3, 3, 3, 3, 3, 3, 3,
 };
-static const uint16_t json_pages[2] = {
+static const uint16_t json_pages_0[2] = {
 0, 1, };
-static const uint16_t json_cells[1209] = {
+static const json_cell json_cells_0[1209] = {
 0, 0, 0, 0, 0, 0, 0, 0, 0, 0, 0, 0, 0, 0, 0, 0,
 0, 0, 0, 0, 0, 0, 0, 0, 0, 0, 0, 0, 0, 0, 0, 0,
 713, 713, 0, 62, 0, 744, 93, 0, 0, 775, 806, 837, 0, 0, 868, 0,
@@ -136,11 +152,17 @@ static const uint16_t json_cells[1209] = {
 0, 0, 0, 0, 0, 0, 0, 0, 0, 7, 0, 0, 0, 0, 0, 0,
 0, 0, 0, 0, 0, 0, 0, 0, 0, 0, 0, 0, 0, 0, 0, 0,
 0, 0, 0, 0, 0, 0, 0, 0, 8, };
+static const json_table json_tables[json_modes] = {
+    {json_blocks_0, json_pages_0, json_cells_0, 1, 31, 30, 31, 713},
+};
 
 typedef struct {
     const unsigned char *text;
     size_t length;
     size_t at;
+    uint16_t mode;         /* the mode on top */
+    uint16_t below[1024];  /* the modes below it */
+    size_t depth;          /* how many they are */
 } json_lexer;
 
 typedef struct {
@@ -155,7 +177,7 @@ static int json_follows(const unsigned char *text, size_t length, size_t at) {
     return at < length && text[at] >= 0x80 && text[at] < 0xC0;
 }
 
-/* The size, and the code; 0 if the code is none of a character, or too low for so many bytes. */
+/* The size, and the code; 0 if the code isn't a character's, or is too low for so many bytes. */
 static size_t json_sized_character(size_t size, uint32_t least, uint32_t code, uint32_t *character) {
     if (code < least || code >= 0x110000 || (code >= 0xD800 && code < 0xE000)) {
         return 0;
@@ -164,7 +186,7 @@ static size_t json_sized_character(size_t size, uint32_t least, uint32_t code, u
     return size;
 }
 
-/* How many bytes the character at the place has, and its code; 0 if the bytes there are no character (RFC 3629). */
+/* How many bytes the character at the place has, and its code; 0 if the bytes there aren't a character (RFC 3629). */
 static size_t json_read(const unsigned char *text, size_t length, size_t at, uint32_t *code) {
     uint32_t first = text[at];
     uint32_t second;
@@ -195,22 +217,21 @@ static size_t json_read(const unsigned char *text, size_t length, size_t at, uin
 }
 
 /* The block of the page with this number. Pages after the last one have its block. */
-static size_t json_block(size_t page) {
-    size_t last = sizeof json_pages / sizeof json_pages[0] - 1;
-    return json_pages[page < last ? page : last];
+static size_t json_block(const json_table *table, size_t page) {
+    return table->pages[page < table->last_page ? page : table->last_page];
 }
 
 /* The class of a character. ASCII is the first block. */
-static size_t json_class(uint32_t code) {
+static size_t json_class(const json_table *table, uint32_t code) {
     if (code < 128) {
-        return json_blocks[code];
+        return table->blocks[code];
     }
-    return json_blocks[json_block(code / 128) * 128 + code % 128];
+    return table->blocks[json_block(table, code / 128) * 128 + code % 128];
 }
 
 /* Where the longest match from the place on ends, and its rule; the place itself if nothing matches there. */
-static size_t json_longest(const unsigned char *text, size_t length, size_t start, uint32_t *rule) {
-    size_t row = json_start;
+static size_t json_longest(const json_table *table, const unsigned char *text, size_t length, size_t start, uint32_t *rule) {
+    size_t row = table->start;
     size_t at = start;
     size_t end = start;
     while (at < length) {
@@ -220,12 +241,12 @@ static size_t json_longest(const unsigned char *text, size_t length, size_t star
             return end;
         }
         at += size;
-        row = json_cells[row + json_class(code)];
-        if (row < json_live) {
+        row = table->cells[row + json_class(table, code)];
+        if (row < table->live) {
             return end;
         }
-        if (row >= json_accept) {
-            *rule = (uint32_t)json_cells[row + json_width];
+        if (row >= table->accept) {
+            *rule = (uint32_t)table->cells[row + table->width];
             end = at;
         }
     }
@@ -233,16 +254,52 @@ static size_t json_longest(const unsigned char *text, size_t length, size_t star
 }
 
 /* Where the fault at the place ends: before the next place where a rule matches, or with the text. */
-static size_t json_fault_end(const unsigned char *text, size_t length, size_t start) {
+static size_t json_fault_end(const json_table *table, const unsigned char *text, size_t length, size_t start) {
     size_t end = start + 1;
     while (end < length) {
         uint32_t rule = 0;
-        if (json_longest(text, length, end, &rule) > end) {
+        if (json_longest(table, text, length, end, &rule) > end) {
             return end;
         }
         end += 1;
     }
     return end;
+}
+
+/* Whether there is room for the modes that the actions from the place on put on top, where this many modes lie below. */
+static int json_has_room(size_t place, size_t depth, size_t room) {
+    while (json_actions[place] != 0) {
+        uint32_t action = json_actions[place];
+        if (action == 1) {
+            depth -= depth > 0;
+        } else if (action % 2 == 1) {
+            if (depth >= room) {
+                return 0;
+            }
+            depth += 1;
+        }
+        place += 1;
+    }
+    return 1;
+}
+
+/* Does the actions from the place on: 1 takes away the mode on top, 2m + 2 puts the mode m in its place, 2m + 3 puts m
+   on top. */
+static void json_act(size_t place, json_lexer *lexer) {
+    while (json_actions[place] != 0) {
+        uint32_t action = json_actions[place];
+        if (action != 1) {
+            if (action % 2 == 1) {
+                lexer->below[lexer->depth] = lexer->mode;
+                lexer->depth += 1;
+            }
+            lexer->mode = (uint16_t)(action / 2 - 1);
+        } else if (lexer->depth > 0) {
+            lexer->depth -= 1;
+            lexer->mode = lexer->below[lexer->depth];
+        }
+        place += 1;
+    }
 }
 
 /* A lexer at the beginning of a text, which must live as long as it is cut. */
@@ -251,30 +308,41 @@ json_lexer json_begin(const char *text, size_t length) {
     lexer.text = (const unsigned char *)text;
     lexer.length = length;
     lexer.at = 0;
+    lexer.mode = 0;
+    lexer.depth = 0;
     return lexer;
 }
 
 /* The next piece, and 1; at the end of the text 0. A piece is a token, skipped or not, or a fault: bytes at none of which
-   a rule matches. */
+   a rule matches. If more than 1024 modes came to lie below the one on top, -1, and nothing has changed. */
 int json_next(json_lexer *lexer, json_piece *piece) {
+    const json_table *table = &json_tables[lexer->mode];
     size_t start = lexer->at;
     size_t end;
+    size_t first;
     uint32_t rule = 0;
     if (start >= lexer->length) {
         return 0;
     }
-    end = json_longest(lexer->text, lexer->length, start, &rule);
-    if (end > start) {
-        piece->kind = (int)json_kinds[rule];
-        piece->rule = rule;
-    } else {
-        end = json_fault_end(lexer->text, lexer->length, start);
+    end = json_longest(table, lexer->text, lexer->length, start, &rule);
+    if (end == start) {
+        lexer->at = json_fault_end(table, lexer->text, lexer->length, start);
         piece->kind = json_fault;
         piece->rule = 0;
+        piece->start = start;
+        piece->length = lexer->at - start;
+        return 1;
     }
+    first = json_first_actions[rule];
+    if (!json_has_room(first, lexer->depth, sizeof lexer->below / sizeof lexer->below[0])) {
+        return -1;
+    }
+    json_act(first, lexer);
+    lexer->at = end;
+    piece->kind = (int)json_kinds[rule];
+    piece->rule = rule;
     piece->start = start;
     piece->length = end - start;
-    lexer->at = end;
     return 1;
 }
 
@@ -283,7 +351,7 @@ int json_skips(uint32_t rule) {
     return json_skipped[rule];
 }
 
-/* The name of a kind. */
+/* The name of a kind; that of a fault is empty. */
 const char *json_name(int kind) {
-    return json_names[kind];
+    return kind == json_fault ? "" : json_names[kind];
 }

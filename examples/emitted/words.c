@@ -7,7 +7,7 @@ int main(void) {
     size_t length = fread(text, 1, sizeof text, stdin);
     lex_lexer lexer = lex_begin(text, length);
     lex_piece piece;
-    while (lex_next(&lexer, &piece)) {
+    while (lex_next(&lexer, &piece) > 0) {
         if (piece.kind == lex_fault || !lex_skips(piece.rule)) {
             const char *name = piece.kind == lex_fault ? "!" : lex_name(piece.kind);
             printf("%s %.*s\n", name, (int)piece.length, text + piece.start);
