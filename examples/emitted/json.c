@@ -172,6 +172,13 @@ typedef struct {
     size_t length;  /* in bytes */
 } json_piece;
 
+/* A place in a text. The beginning is {0, 1, 1}. */
+typedef struct {
+    size_t at;      /* in bytes */
+    size_t line;    /* from 1 on; a line feed ends its line */
+    size_t column;  /* from 1 on; a character is a column */
+} json_position;
+
 /* Whether the byte at the place is one that follows in a character. */
 static int json_follows(const unsigned char *text, size_t length, size_t at) {
     return at < length && text[at] >= 0x80 && text[at] < 0xC0;
@@ -316,7 +323,7 @@ json_lexer json_begin(const char *text, size_t length) {
 /* The next piece, and 1; at the end of the text 0. A piece is a token, skipped or not, or a fault: bytes at none of which
    a rule matches. If more than 1024 modes came to lie below the one on top, -1, and nothing has changed. */
 int json_next(json_lexer *lexer, json_piece *piece) {
-    const json_table *table = &json_tables[lexer->mode];
+    const json_table *table = &json_tables[json_modes > 1 ? lexer->mode : 0];
     size_t start = lexer->at;
     size_t end;
     size_t first;
@@ -344,6 +351,21 @@ int json_next(json_lexer *lexer, json_piece *piece) {
     piece->start = start;
     piece->length = end - start;
     return 1;
+}
+
+/* Moves on to the offset, if it is further on, and to the end of the text at most. A line feed ends its line, and a byte that
+   doesn't follow in a character is a column. */
+void json_move_on(json_position *position, const char *text, size_t length, size_t to) {
+    const unsigned char *bytes = (const unsigned char *)text;
+    while (position->at < to && position->at < length) {
+        if (bytes[position->at] == '\n') {
+            position->line += 1;
+            position->column = 1;
+        } else if (!json_follows(bytes, length, position->at)) {
+            position->column += 1;
+        }
+        position->at += 1;
+    }
 }
 
 /* Whether the pieces of a rule are skipped. */

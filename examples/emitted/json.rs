@@ -58,6 +58,33 @@ impl Piece {
     }
 }
 
+/// A place in a text of bytes. Lines and columns count from 1, and a line feed ends its line.
+#[allow(dead_code)]
+#[derive(Clone, Copy, Debug, PartialEq, Eq)]
+pub struct Position {
+    /// The offset in bytes.
+    pub at: usize,
+    /// One more than the number of line feeds before the place.
+    pub line: usize,
+    /// One more than the number of characters that begin between the last line feed before the place and the place itself.
+    pub column: usize,
+}
+
+#[allow(dead_code)]
+impl Position {
+    /// The beginning of a text.
+    pub const START: Self = Position {
+        at: 0,
+        line: 1,
+        column: 1,
+    };
+
+    /// Moves on to this offset of the text, if it is further on, and to the end of the text at most.
+    pub fn move_to(&mut self, text: &[u8], to: usize) {
+        move_on(text, self, to);
+    }
+}
+
 /// More than 1024 modes would lie below the one on top.
 #[derive(Clone, Copy, Debug, PartialEq, Eq)]
 pub struct TooDeep;
@@ -337,6 +364,20 @@ fn next(numbers: &Numbers, text: &[u8], state: &mut State, below: &mut [u16]) ->
         start,
         length: found.end - start,
     })
+}
+
+// Moves on to the offset, if it is further on, and to the end of the text at most. A line feed ends its line, and a byte that
+// doesn't follow in a character is a column.
+fn move_on(text: &[u8], position: &mut Position, to: usize) {
+    while position.at < to && position.at < text.len() {
+        if text[position.at] == b'\n' {
+            position.line += 1;
+            position.column = 1;
+        } else if !follows(text, position.at) {
+            position.column += 1;
+        }
+        position.at += 1;
+    }
 }
 
 type Cell = u16;

@@ -1,6 +1,6 @@
 //! Pieces of texts of bytes, which may be no UTF-8. Which bytes are characters is taken from RFC 3629.
 use crate::numbers::{keyword_and_names, nested_words};
-use lalrpop_emit::{LexerNumbers, NumberedPiece};
+use lalrpop_emit::{BytePosition, LexerNumbers, NumberedPiece, byte_position};
 use lalrpop_modes::{ModeLexer, ModeRule};
 use lalrpop_rules::Rule;
 use std::alloc::{AllocError, Global};
@@ -235,5 +235,29 @@ fn more_than_1024_modes_are_too_deep(rt: HostRuntime) -> Result<(), Fail> {
     let cut = numbers.pieces(alloc, &text)?;
     assert_eq!(rt; cut.pieces.len(), 1024);
     assert!(rt; !cut.is_whole);
+    Ok(())
+}
+
+fn place(at: usize, line: usize, column: usize) -> BytePosition {
+    BytePosition { at, line, column }
+}
+
+#[test]
+fn places_count_lines_and_characters(rt: HostRuntime) -> Result<(), Fail> {
+    let text = "a\nbé c".as_bytes();
+    assert_eq!(rt; byte_position(text, 0), place(0, 1, 1));
+    // The line feed and what is behind it.
+    assert_eq!(rt; byte_position(text, 1), place(1, 1, 2));
+    assert_eq!(rt; byte_position(text, 2), place(2, 2, 1));
+    // `é` with its second byte, the space and `c`.
+    assert_eq!(rt; byte_position(text, 3), place(3, 2, 2));
+    assert_eq!(rt; byte_position(text, 4), place(4, 2, 3));
+    assert_eq!(rt; byte_position(text, 5), place(5, 2, 3));
+    assert_eq!(rt; byte_position(text, 6), place(6, 2, 4));
+    // The end, and past it.
+    assert_eq!(rt; byte_position(text, 7), place(7, 2, 5));
+    assert_eq!(rt; byte_position(text, 9), place(7, 2, 5));
+    // A byte that can't stand in a character is a column, the second byte of `é` alone is none.
+    assert_eq!(rt; byte_position(&[0xFF, 0xA9, b'a'], 3), place(3, 1, 3));
     Ok(())
 }

@@ -5,4 +5,7 @@ mod RustSource
 mod NumberedRules
 mod EmitErrors
 mod BytePieces
+mod BytePositions
 mod Characters
+mod Ahead
+mod AheadRows

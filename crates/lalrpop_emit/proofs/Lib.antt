@@ -15,4 +15,14 @@ pub mod ModeTables
 pub mod ByteFaults
 pub mod Actions
 pub mod Driving
+pub mod AheadTables
 pub mod BytePieceLaws
+pub mod BytePositionLaws
+pub mod AheadColumns
+pub mod AheadPlaces
+pub mod AheadTokens
+pub mod AheadPieces
+pub mod AheadEnds
+pub mod BlockColumns
+pub mod AheadRows
+pub mod AheadWalks

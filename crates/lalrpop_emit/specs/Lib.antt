@@ -1,6 +1,7 @@
 pub mod Names
 pub mod NumberedRules
 pub mod BytePieces
+pub mod BytePositions
 pub mod CSource
 pub mod RustSource
 pub mod EmitErrors

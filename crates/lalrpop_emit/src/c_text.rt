@@ -44,6 +44,13 @@ typedef struct {
     size_t length;  /* in bytes */
 } $_piece;
 
+/* A place in a text. The beginning is {0, 1, 1}. */
+typedef struct {
+    size_t at;      /* in bytes */
+    size_t line;    /* from 1 on; a line feed ends its line */
+    size_t column;  /* from 1 on; a character is a column */
+} $_position;
+
 /* Whether the byte at the place is one that follows in a character. */
 static int $_follows(const unsigned char *text, size_t length, size_t at) {
     return at < length && text[at] >= 0x80 && text[at] < 0xC0;
@@ -188,7 +195,7 @@ $_lexer $_begin(const char *text, size_t length) {
 /* The next piece, and 1; at the end of the text 0. A piece is a token, skipped or not, or a fault: bytes at none of which
    a rule matches. If more than 1024 modes came to lie below the one on top, -1, and nothing has changed. */
 int $_next($_lexer *lexer, $_piece *piece) {
-    const $_table *table = &$_tables[lexer->mode];
+    const $_table *table = &$_tables[$_modes > 1 ? lexer->mode : 0];
     size_t start = lexer->at;
     size_t end;
     size_t first;
@@ -216,6 +223,21 @@ int $_next($_lexer *lexer, $_piece *piece) {
     piece->start = start;
     piece->length = end - start;
     return 1;
+}
+
+/* Moves on to the offset, if it is further on, and to the end of the text at most. A line feed ends its line, and a byte that
+   doesn't follow in a character is a column. */
+void $_move_on($_position *position, const char *text, size_t length, size_t to) {
+    const unsigned char *bytes = (const unsigned char *)text;
+    while (position->at < to && position->at < length) {
+        if (bytes[position->at] == '\\n') {
+            position->line += 1;
+            position->column = 1;
+        } else if (!$_follows(bytes, length, position->at)) {
+            position->column += 1;
+        }
+        position->at += 1;
+    }
 }
 
 /* Whether the pieces of a rule are skipped. */

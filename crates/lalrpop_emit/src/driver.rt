@@ -5,8 +5,9 @@
 //! - `text: &[u8]` stands for `text` and `length`; `table` and `numbers` for static tables; `state` and `below` for `lexer`.
 //! - `None` stands for a size of 0, and for an end that is the start. What is in a `Some` is what C returns or writes through a
 //!   pointer.
+//! - `_modes > 1 ? lexer->mode : 0` is `state.mode`, and lets a compiler see where there is one table.
 //! - A kind of `None` is `_fault`. `Step::End` is 0, `Step::TooDeep` is -1, and a piece is 1.
-ghost use Rattle.std.specs.Prelude.{◌≡◌, ◌+◌, ◌-◌, ◌<◌, ◌≤◌, ℕ, List, length, take, drop, IsTrue, IfSome, ◌↔◌, MatchOption};
+ghost use Rattle.std.specs.Prelude.{◌≡◌, ◌+◌, ◌-◌, ◌<◌, ◌≤◌, ℕ, List, length, take, drop, IsTrue, IfSome, ◌↔◌, MatchOption, min, max};
 ghost use Rattle.std.specs.Char.{encode_utf8, IsScalar};
 ghost use Rattle.std.specs.Option.{option_map};
 ghost use Rattle.lalrpop_book.specs.Tree.{Tree};
@@ -18,21 +19,23 @@ ghost use Rattle.lalrpop_modes.specs.Stack.{Stack, act_all};
 ghost use Rattle.lalrpop_modes.specs.Modes.{ModeRules};
 ghost use Rattle.lalrpop_modes.specs.declared.action.Action.{Action};
 ghost use Rattle.lalrpop_emit.specs.BytePieces.{IsByteFault, Fits};
+ghost use Rattle.lalrpop_emit.specs.BytePositions.{byte_position_of};
 ghost use Rattle.lalrpop_emit.specs.NumberedRules.{AreNumbersOf};
 ghost use Rattle.lalrpop_emit.specs.Internal.Characters.{IsCharacterAt, IsFollowing};
 ghost use Rattle.lalrpop_emit.specs.Internal.Driving.{IsState, ComesNext, GoesOnIf, stack_of};
 ghost use Rattle.lalrpop_emit.specs.Internal.Lists.{list_numbers};
 ghost use Rattle.lalrpop_emit.specs.Internal.Walking.{IsWalkable, AreRulesBelow, AreActionsAt};
 
+use crate::byte_positions::BytePosition as Position;
 use crate::numbered_piece::NumberedPiece;
 use crate::numbers::LexerNumbers as Numbers;
 use crate::table_lists::TableLists as Table;
 
 // A character in a text of bytes: how many bytes it has, and its code.
 #[derive(Clone, Copy)]
-struct Character {
-    size: usize,
-    code: u32,
+pub(crate) struct Character {
+    pub(crate) size: usize,
+    pub(crate) code: u32,
 }
 
 // A match in a text: its rule, and where it ends.
@@ -80,7 +83,7 @@ fn sized_character(size: usize, least: u32, code: u32) -> Option<Character>
 }
 
 // How many bytes the character at the place has, and its code. `None` if the bytes there aren't a character (RFC 3629).
-fn read(text: &[u8], at: usize) -> Option<Character>
+pub(crate) fn read(text: &[u8], at: usize) -> Option<Character>
     requires { at < length text.now }
     ensures { MatchOption result ((c : ℕ) → ¬ IsCharacterAt text.now at c)
         (λ r. IsCharacterAt text.now at r.code × (r.size ≡ length (encode_utf8 r.code))) }
@@ -123,7 +126,7 @@ fn block(table: &Table, page: usize) -> usize
 }
 
 // The class of a character. ASCII is the first block.
-fn class(table: &Table, code: u32) -> usize
+pub(crate) fn class(table: &Table, code: u32) -> usize
     requires { AreClasses (list_numbers table.now) }
     ensures { result ≡ character_class (list_numbers table.now) code }
 {
@@ -276,4 +279,21 @@ pub(crate) fn next(numbers: &Numbers, text: &[u8], state: &mut State, below: &mu
         start,
         length: found.end - start,
     })
+}
+
+// Moves on to the offset, if it is further on, and to the end of the text at most. A line feed ends its line, and a byte that
+// doesn't follow in a character is a column.
+pub(crate) fn move_on(text: &[u8], position: &mut Position, to: usize)
+    requires { position.old ≡ byte_position_of text.now position.old.at }
+    ensures { position.new ≡ byte_position_of text.now (max position.old.at (min to (length text.now))) }
+{
+    while position.at < to && position.at < text.len() {
+        if text[position.at] == b'\n' {
+            position.line += 1;
+            position.column = 1;
+        } else if !follows(text, position.at) {
+            position.column += 1;
+        }
+        position.at += 1;
+    }
 }

@@ -78,8 +78,9 @@ impl LexerNumbers {
     ///
     /// # Errors
     ///
-    /// There are no rules, or 65,536 rules or modes or more; more or fewer skips than names; a name that isn't made of ASCII
-    /// letters, digits and `_`; a pattern without a name; a mode whose automaton has no table; too many actions; or out of memory.
+    /// There are no rules, or 65,536 rules or modes or more; more or fewer skips than names; a name that isn't made of
+    /// ASCII letters, digits and `_`; a pattern without a name; a mode whose automaton has no table; too many actions; or out
+    /// of memory.
     pub fn new(alloc: Global, rules: &ModeLexer) -> Result<LexerNumbers, EmitError>
         ensures numbers { IfOk result (AreNumbersOf rules.now) }
         ensures storable { IfOk result IsStorable }

@@ -1,6 +1,9 @@
 //! Cuts bytes by a lexer in numbers, as its source files in C and in Rust do.
-ghost use Rattle.std.specs.Prelude.{◌≡◌, ℕ, List, map, string_bytes, true, IfOk};
+ghost use Rattle.std.specs.Prelude.{◌≡◌, ℕ, List, length, map, string_bytes, true, IfOk};
+ghost use Rattle.std.specs.Str.{IsCharBoundary};
+ghost use Rattle.lalrpop_lexer.specs.Position.{position_of};
 ghost use Rattle.lalrpop_emit.specs.BytePieces.{numbered};
+ghost use Rattle.lalrpop_emit.specs.BytePositions.{byte_position_of};
 ghost use Rattle.lalrpop_emit.specs.CSource.{c_file};
 ghost use Rattle.lalrpop_emit.specs.RustSource.{rust_file};
 ghost use Rattle.lalrpop_emit.specs.Names.{IsIdentifier, kinds_of};
@@ -9,7 +12,9 @@ ghost use Rattle.lalrpop_modes.specs.Modes.{ArePiecesFrom};
 ghost use Rattle.lalrpop_modes.specs.Stack.{Stack, start};
 ghost use Rattle.lalrpop_rules.specs.declared.item.Item.{Item};
 
-use lalrpop_emit::{BytePieces, EmitError, LexerNumbers, c_source, rust_source};
+use lalrpop_emit::{
+    BytePieces, BytePosition, EmitError, LexerNumbers, byte_position, c_source, rust_source,
+};
 use lalrpop_modes::ModeLexer;
 use std::alloc::Global;
 
@@ -51,4 +56,21 @@ pub fn rust_source_of_tables(alloc: Global, numbers: &LexerNumbers) -> Result<St
         → r.tables ≡ numbers.now.tables) }
 {
     rust_source(alloc, numbers)
+}
+
+// Needs lalrpop_emit::byte_position: position.
+/// The end of the bytes as a place.
+pub fn end_of_bytes(text: &[u8]) -> BytePosition
+    ensures end { result ≡ byte_position_of text.now (length text.now) }
+{
+    byte_position(text, text.len())
+}
+
+// Needs lalrpop_emit::byte_position: text.
+/// The column of an offset in a text.
+pub fn column_by_bytes(text: &str, at: usize) -> usize
+    requires boundary { IsCharBoundary text.now at }
+    ensures column { result ≡ (position_of text.now at).column }
+{
+    byte_position(text.as_bytes(), at).column
 }

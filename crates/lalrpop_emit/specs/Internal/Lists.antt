@@ -1,5 +1,5 @@
--- The numbers of a table, and of actions, in lists of their own.
-use Rattle.std.specs.Prelude.{◌≡◌, ℕ, ◌<◌, ◌^◌, List, length, slice_get, Some}
+-- The numbers of a table, of actions, and of a table that runs ahead, in lists of their own.
+use Rattle.std.specs.Prelude.{◌≡◌, ℕ, ◌+◌, ◌<◌, ◌≤◌, ◌↔◌, ◌^◌, IsTrue, List, length, slice_get, slice_index, Some}
 use Rattle.std.specs.List.{All}
 use Rattle.lalrpop_dfa.specs.Dfa.{Row}
 use Rattle.lalrpop_dfa.specs.declared.Kind.TheVariants.{Accepts}
@@ -8,7 +8,9 @@ use Rattle.lalrpop_modes.specs.Modes.{ModeRules, OneLeadsInto}
 use Rattle.lalrpop_modes.specs.declared.action.Action.{Action}
 use Rattle.lalrpop_modes.specs.declared.action.Action.TheVariants.{Mode, Push, Pop}
 use Rattle.lalrpop_emit.specs.NumberedRules.{IsTableOfMode, IsStorableTable}
+use Rattle.lalrpop_emit.specs.Internal.Ahead.{AheadNumbers, Standing, StandsFor, by_column, is_end, rule_at, rule_number}
 use Rattle.lalrpop_emit.specs.Internal.Walking.{AreRulesBelow}
+use Rattle.lalrpop_emit.specs.declared.ahead_table.AheadLists.{AheadLists}
 use Rattle.lalrpop_emit.specs.declared.table_lists.TableLists.{TableLists}
 
 abbrev pub list_numbers : TableLists → TableNumbers
@@ -49,3 +51,21 @@ LeadBelow modes actions = (m : ℕ) → OneLeadsInto actions m → m < modes
 -- each number fits 32 bits
 abbrev pub AreSmall : List ℕ → Type 0
 AreSmall numbers = All (λ n. n < 2 ^ 32) numbers
+
+abbrev pub ahead_numbers : AheadLists → AheadNumbers
+ahead_numbers a = record {
+  start = a.start;
+  width = a.width;
+  ends = a.ends;
+  cells = a.cells.items;
+}
+
+-- each of the first `count` columns leads from the row, which stands for `s`, to a row that stands for what is known then
+abbrev pub LeadsRight : AheadNumbers → TableNumbers → List Standing → ℕ → Standing → ℕ → Type 0
+LeadsRight a t standings row s count = (column : ℕ) → column < count → StandsFor a standings (slice_index a.cells (row + column)) (by_column t s column)
+
+-- the row's cells are those of a row that stands for `s`, and it is among the rows of ends just if `s` is one
+pub record IsRightRow (a : AheadNumbers) (t : TableNumbers) (standings : List Standing) (row : ℕ) (s : Standing) : Type 0 where
+  pub leads : LeadsRight a t standings row s a.width
+  pub rule : slice_index a.cells (row + a.width) ≡ rule_number (rule_at t s)
+  pub ends : IsTrue (is_end s) ↔ (a.ends ≤ row)

@@ -1,0 +1,123 @@
+//! The rows of a block of a text, by a table that runs ahead: six walks at once, each along a part of the block, which are then
+//! joined to one.
+ghost use Rattle.std.specs.Prelude.{◌≡◌, ◌+◌, ◌*◌, ◌<◌, ◌≤◌, ◌^◌, ◌⊎◌, ℕ, length, drop, slice_index};
+ghost use Rattle.std.specs.List.{All};
+ghost use Rattle.lalrpop_dense.specs.DenseTable.{AreClasses};
+ghost use Rattle.lalrpop_emit.specs.Internal.Ahead.{AreColumns, IsAheadOf, column_count};
+ghost use Rattle.lalrpop_emit.specs.Internal.AheadRows.{IsRowOf, IsClosed, IsStepAt, IsRun, AreRuns, AreStandings};
+ghost use Rattle.lalrpop_emit.specs.Internal.Lists.{list_numbers, ahead_numbers};
+
+use crate::ahead_columns::columns_of;
+use crate::ahead_table::AheadLists as Ahead;
+use crate::table_lists::TableLists as Table;
+
+// How many walks are done at once.
+const WALKS: usize = 6;
+
+// The row that the column leads to from the row.
+fn step(ahead: &Ahead, row: usize, column: u16) -> u32
+    requires row { IsRowOf (ahead_numbers ahead.now) row }
+    requires column { column < ahead.now.width }
+    ensures { result ≡ slice_index ahead.now.cells.items (row + column) }
+{
+    ahead.cells[row + column as usize]
+}
+
+// Walks along six parts of the columns at once, from the start row in each. No walk waits for another, which makes this quick;
+// but where a later part begins, the row may not be the one that the part before leads to.
+fn walk(ahead: &Ahead, columns: &[u16], rows: &mut [u32])
+    requires closed { IsClosed (ahead_numbers ahead.now) }
+    requires columns { All (λ column. column < ahead.now.width) columns.now }
+    requires parts { (part : ℕ) × (length columns.now ≡ 6 * part) }
+    requires as_many { length rows.old ≡ length columns.now }
+    ensures rows { All (IsRowOf (ahead_numbers ahead.now)) rows.new }
+    ensures runs { (part : ℕ) → length columns.now ≡ 6 * part
+        → AreRuns (ahead_numbers ahead.now) part columns.now rows.new }
+{
+    let part = columns.len() / WALKS;
+    let mut last = [ahead.start; WALKS];
+    for k in 0..part {
+        for walk in 0..WALKS {
+            let place = walk * part + k;
+            let row = step(ahead, last[walk], columns[place]);
+            last[walk] = row as usize;
+            rows[place] = row;
+        }
+    }
+}
+
+// Walks on from the row before the place until it comes to a row that stands there already. No step that was right is lost.
+fn walk_on(ahead: &Ahead, columns: &[u16], from: usize, rows: &mut [u32])
+    requires closed { IsClosed (ahead_numbers ahead.now) }
+    requires columns { All (λ column. column < ahead.now.width) columns.now }
+    requires as_many { length rows.old ≡ length columns.now }
+    requires rows { All (IsRowOf (ahead_numbers ahead.now)) rows.old }
+    requires place { (0 < from) × (from ≤ length columns.now) }
+    ensures rows { All (IsRowOf (ahead_numbers ahead.now)) rows.new }
+    ensures steps { (k : ℕ) → k < length columns.now
+        → (k ≡ from) ⊎ IsStepAt (ahead_numbers ahead.now) columns.now rows.old k
+        → IsStepAt (ahead_numbers ahead.now) columns.now rows.new k }
+{
+    let mut row = rows[from - 1];
+    let mut at = from;
+    'walk: while at < columns.len() {
+        let next = step(ahead, row as usize, columns[at]);
+        if rows[at] == next {
+            return;
+        }
+        rows[at] = next;
+        at += 1;
+        // A row often leads to itself, and such steps don't wait for each other.
+        'same: while next == row
+            && at < columns.len()
+            && rows[at] != next
+            && step(ahead, next as usize, columns[at]) == next
+        {
+            rows[at] = next;
+            at += 1;
+        }
+        row = next;
+    }
+}
+
+// Walks on from the end of each part: so the runs along the parts become one.
+fn join(ahead: &Ahead, columns: &[u16], rows: &mut [u32])
+    requires closed { IsClosed (ahead_numbers ahead.now) }
+    requires columns { All (λ column. column < ahead.now.width) columns.now }
+    requires as_many { length rows.old ≡ length columns.now }
+    requires rows { All (IsRowOf (ahead_numbers ahead.now)) rows.old }
+    requires runs { (part : ℕ) × (0 < part) × (length columns.now ≡ 6 * part)
+        × AreRuns (ahead_numbers ahead.now) part columns.now rows.old }
+    ensures { IsRun (ahead_numbers ahead.now) columns.now rows.new }
+{
+    let part = columns.len() / WALKS;
+    for walk in 1..WALKS {
+        walk_on(ahead, columns, walk * part, rows);
+    }
+}
+
+/// The columns of the bytes of the text from a place on, and the rows that they lead to from the start, one after another: each
+/// stands for what is known behind its byte.
+pub(crate) fn fill(
+    ahead: &Ahead,
+    table: &Table,
+    text: &[u8],
+    from: usize,
+    columns: &mut [u16],
+    rows: &mut [u32],
+)
+    requires ahead { IsAheadOf (ahead_numbers ahead.now) (list_numbers table.now) }
+    requires classes { AreClasses (list_numbers table.now) }
+    requires few { column_count (list_numbers table.now) ≤ 2 ^ 16 }
+    requires place { from ≤ length text.now }
+    requires parts { (part : ℕ) × (0 < part) × (length columns.old ≡ 6 * part) }
+    requires as_many { length rows.old ≡ length columns.old }
+    ensures columns { AreColumns (list_numbers table.now) 0 (drop from text.now) columns.new }
+    ensures rows { (is_ahead : IsAheadOf (ahead_numbers ahead.now) (list_numbers table.now))
+        → AreStandings (ahead_numbers ahead.now) (list_numbers table.now) is_ahead.standings
+        columns.new rows.new }
+{
+    columns_of(table, text, from, columns);
+    walk(ahead, columns, rows);
+    join(ahead, columns, rows);
+}

@@ -1,0 +1,219 @@
+//! The numbers of a table that runs ahead: it reads each byte of a text, on past the ends of tokens.
+//!
+//! The numbers are made with no promise, and then checked. What is proved is the check.
+ghost use Rattle.std.specs.Prelude.{◌≡◌, ◌+◌, ◌<◌, ◌^◌, IsTrue, IfOk, IfSome};
+ghost use Rattle.lalrpop_emit.specs.Internal.Ahead.{Begin, IsAheadOf, StandsFor, column_count};
+ghost use Rattle.lalrpop_emit.specs.Internal.Lists.{IsRightRow, LeadsRight, ahead_numbers, list_numbers};
+ghost use Rattle.lalrpop_emit.specs.Internal.Walking.{IsWalkable};
+
+use crate::standing::{Standing, by_column, cell, is_end, is_live, row_by, rule_number};
+use crate::table_lists::TableLists;
+use std::alloc::{AllocError, Global};
+
+/// The numbers of a table that runs ahead: where the row begins that every run begins in, how many columns there are, where the
+/// first row begins that says that a token ended before the last byte; then for each row a cell for each column, and one for
+/// the rule.
+#[derive(Debug, Drop)]
+pub(crate) struct AheadLists {
+    pub(crate) start: usize,
+    pub(crate) width: usize,
+    pub(crate) ends: usize,
+    pub(crate) cells: Vec<u32>,
+}
+
+// There are no more cells than this.
+const MOST: usize = 1 << 24;
+
+// What each row stands for, and where it begins.
+#[derive(Drop)]
+struct Rows {
+    standings: Vec<Standing>,
+    // Where the next row begins.
+    end: usize,
+    // How long a row is.
+    stride: usize,
+    // For each `slot` where its row begins; 0 if it has none.
+    starts: Vec<u32>,
+}
+
+fn low(number: usize) -> u32 {
+    (number & 0xFFFF_FFFF) as u32
+}
+
+// For each standing a place of its own.
+fn slot(standing: Standing) -> usize {
+    match standing {
+        Standing::Begin => 0,
+        Standing::Lost => 1,
+        Standing::Ended => 2,
+        Standing::In(row) => 3 + 2 * row as usize,
+        Standing::Again(row) => 4 + 2 * row as usize,
+    }
+}
+
+impl Rows {
+    // Where the row of the standing begins, 0 if it has none.
+    fn start(&self, standing: Standing) -> u32 {
+        self.starts.get(slot(standing)).copied().unwrap_or(0)
+    }
+
+    fn push(&mut self, standing: Standing) -> Result<(), AllocError> {
+        if let Some(start) = self.starts.get_mut(slot(standing)) {
+            *start = low(self.end);
+        }
+        self.end = self.end.wrapping_add(self.stride);
+        self.standings.push(standing)?;
+        Ok(())
+    }
+}
+
+// First comes the row of `Lost`, which so begins at 0; those of ends come last. A token begins right behind another only in a
+// row to which the first row leads.
+fn rows_of(alloc: Global, table: &TableLists, stride: usize) -> Result<Rows, AllocError> {
+    let slots = table.cells.len().saturating_mul(2).saturating_add(5);
+    let mut rows = Rows {
+        standings: Vec::new(alloc),
+        end: 0,
+        stride,
+        starts: vec![in alloc; 0; slots]?,
+    };
+    rows.push(Standing::Lost)?;
+    rows.push(Standing::Begin)?;
+    for row in (table.live..table.cells.len()).step_by(table.width.saturating_add(1)) {
+        rows.push(Standing::In(low(row)))?;
+    }
+    rows.push(Standing::Ended)?;
+    for class in 0..table.width {
+        let row = row_by(table, table.start, class);
+        if is_live(table, row) && rows.start(Standing::Again(row)) == 0 {
+            rows.push(Standing::Again(row))?;
+        }
+    }
+    Ok(rows)
+}
+
+// The cells of the rows: where each column leads, and the rule.
+fn cells_of(
+    alloc: Global,
+    table: &TableLists,
+    rows: &Rows,
+    width: usize,
+) -> Result<Vec<u32>, AllocError>
+    requires { IsWalkable (list_numbers table.now) }
+{
+    let mut cells = Vec::new(alloc);
+    for standing in &rows.standings {
+        for column in 0..width {
+            cells.push(rows.start(by_column(table, *standing, column)))?;
+        }
+        cells.push(rule_number(table, *standing))?;
+    }
+    Ok(cells)
+}
+
+// Whether the row is one that stands for this.
+fn stands_for(ahead: &AheadLists, standings: &[Standing], row: usize, standing: Standing) -> bool
+    requires { ahead.now.width + 1 < 2 ^ 64 }
+    ensures { IsTrue result → StandsFor (ahead_numbers ahead.now) standings.now row standing }
+{
+    let stride = ahead.width + 1;
+    row % stride == 0 && standings.get(row / stride) == Some(&standing)
+}
+
+// Whether each column leads from the row, which stands for this, where it should.
+fn leads_right(
+    ahead: &AheadLists,
+    table: &TableLists,
+    standings: &[Standing],
+    row: usize,
+    standing: Standing,
+) -> bool
+    requires walkable { IsWalkable (list_numbers table.now) }
+    requires narrow { ahead.now.width + 1 < 2 ^ 64 }
+    ensures { IsTrue result
+        → LeadsRight (ahead_numbers ahead.now) (list_numbers table.now) standings.now row standing ahead.now.width }
+{
+    for column in 0..ahead.width {
+        let target = cell(&ahead.cells, row, column) as usize;
+        if !stands_for(ahead, standings, target, by_column(table, standing, column)) {
+            return false;
+        }
+    }
+    true
+}
+
+// Whether the cells of the row are those of one that stands for this, and it is among the rows of ends just if this is one.
+fn is_right_row(
+    ahead: &AheadLists,
+    table: &TableLists,
+    standings: &[Standing],
+    row: usize,
+    standing: Standing,
+) -> bool
+    requires walkable { IsWalkable (list_numbers table.now) }
+    requires narrow { ahead.now.width + 1 < 2 ^ 64 }
+    ensures { IsTrue result
+        → IsRightRow (ahead_numbers ahead.now) (list_numbers table.now) standings.now row standing }
+{
+    leads_right(ahead, table, standings, row, standing)
+        && cell(&ahead.cells, row, ahead.width) == rule_number(table, standing)
+        && is_end(standing) == (ahead.ends <= row)
+}
+
+// How many columns there are.
+fn column_count(table: &TableLists) -> usize
+    requires { IsWalkable (list_numbers table.now) }
+    ensures columns { result ≡ column_count (list_numbers table.now) }
+    ensures small { result + 1 < 2 ^ 64 }
+{
+    130 + table.width
+}
+
+// Whether the numbers are those of the table.
+fn is_ahead(ahead: &AheadLists, table: &TableLists, standings: &[Standing]) -> bool
+    requires { IsWalkable (list_numbers table.now) }
+    ensures { IsTrue result → IsAheadOf (ahead_numbers ahead.now) (list_numbers table.now) }
+{
+    if ahead.width != column_count(table)
+        || standings.len().checked_mul(ahead.width + 1) != Some(ahead.cells.len())
+        || !stands_for(ahead, standings, ahead.start, Standing::Begin)
+    {
+        return false;
+    }
+    for number in 0..standings.len() {
+        let row = number * (ahead.width + 1);
+        if !is_right_row(ahead, table, standings, row, standings[number]) {
+            return false;
+        }
+    }
+    true
+}
+
+/// The numbers of the table that runs ahead by this one. `None` if there would be more than 16,777,216 cells, or if the check
+/// finds the numbers wrong.
+///
+/// # Errors
+///
+/// `AllocError` if a request for memory was refused.
+pub(crate) fn ahead_of(alloc: Global, table: &TableLists) -> Result<Option<AheadLists>, AllocError>
+    requires { IsWalkable (list_numbers table.now) }
+    ensures { IfOk result (λ made. IfSome made (λ ahead.
+        IsAheadOf (ahead_numbers ahead) (list_numbers table.now))) }
+{
+    let width = column_count(table);
+    let rows = rows_of(alloc, table, width + 1)?;
+    if rows.end > MOST {
+        return Ok(None);
+    }
+    let ahead = AheadLists {
+        start: rows.start(Standing::Begin) as usize,
+        width,
+        ends: rows.start(Standing::Ended) as usize,
+        cells: cells_of(alloc, table, &rows, width)?,
+    };
+    if is_ahead(&ahead, table, &rows.standings) {
+        Ok(Some(ahead))
+    } else {
+        Ok(None)
+    }
+}
