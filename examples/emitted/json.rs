@@ -98,16 +98,30 @@ impl core::fmt::Display for TooDeep {
 impl core::error::Error for TooDeep {}
 
 /// The pieces of a text, one after another, up to its end. Behind an error there are no more.
-#[derive(Clone)]
 pub struct Lexer<'text> {
     text: &'text [u8],
     state: State,
     below: [u16; 1024],
+    run: Run,
+    // An equal part for each mode, in which a bit says that no match comes.
+    memo: &'text mut [u64],
 }
 
+#[allow(dead_code)]
 impl<'text> Lexer<'text> {
     /// A lexer at the beginning of a text, which may be any bytes. What isn't UTF-8 matches nothing.
+    ///
+    /// On a hostile text it can take time that grows with the square of its length; with [`Lexer::linear`] none does.
     pub fn new(text: &'text [u8]) -> Self {
+        Self::linear(text, &mut [])
+    }
+
+    /// As [`Lexer::new`], with the same pieces, in time that grows with the length of the text alone.
+    ///
+    /// For that the lexer notes in the memo what it has read in vain. The memo has as many words as [`Lexer::memo_size`] says of
+    /// the length of the text, and must be all 0, as `vec![0; Lexer::memo_size(text.len())]` is. Another text takes another one,
+    /// or this one filled with 0 again. With fewer words the pieces are the same, but the time can be that of [`Lexer::new`].
+    pub fn linear(text: &'text [u8], memo: &'text mut [u64]) -> Self {
         Lexer {
             text,
             state: State {
@@ -116,15 +130,34 @@ impl<'text> Lexer<'text> {
                 depth: 0,
             },
             below: [0; 1024],
+            run: Run {
+                base: 0,
+                length: 0,
+                mode: 0,
+                since: 0,
+                word: 0,
+                bits: 0,
+                columns: [0; MOST],
+                rows: [0; MOST],
+                ends: [0; MOST / 64],
+            },
+            memo,
         }
+    }
+
+    /// How many words the memo of a text of so many bytes takes; `usize::MAX` at most.
+    pub fn memo_size(length: usize) -> usize {
+        memo_size(&NUMBERS, length)
     }
 }
 
 impl Iterator for Lexer<'_> {
     type Item = Result<Piece, TooDeep>;
 
+    #[inline]
     fn next(&mut self) -> Option<Result<Piece, TooDeep>> {
-        match next(&NUMBERS, self.text, &mut self.state, &mut self.below) {
+        let (state, below, run) = (&mut self.state, &mut self.below, &mut self.run);
+        match next(&NUMBERS, self.text, state, below, run, self.memo) {
             Step::Piece(piece) => Some(Ok(Piece {
                 kind: piece.kind.map(|kind| NUMBERS.variants[kind as usize]),
                 rule: piece.rule,
@@ -149,17 +182,51 @@ struct Numbers {
     first_actions: &'static [u32],
     actions: &'static [u32],
     tables: &'static [Table],
+    ahead: &'static [Ahead],
 }
 
-// The table of a mode: classes of characters, and cells that lead from a row by a class to a row.
-struct Table {
+// The table of a mode that runs ahead: it reads each byte, on past the ends of tokens. Its cells lead from a row by a column to a
+// row; behind those of a row stands the rule of the token that ends there.
+struct Ahead {
     start: usize,
     width: usize,
-    live: usize,
-    accept: usize,
+    // From this row on a token ended before the last byte.
+    ends: usize,
+    cells: &'static [AheadCell],
+}
+
+// The table of a mode: the classes of characters, by pages of 128, each of which has a block of classes.
+struct Table {
     blocks: &'static [u8],
     pages: &'static [u16],
-    cells: &'static [Cell],
+}
+
+// No rule has this number.
+const NO_RULE: AheadCell = 65535;
+
+// No block has more bytes than this.
+const MOST: usize = 6144;
+
+// A block of a text that a table has run through, ahead of the tokens that are cut in it.
+struct Run {
+    // Where the block begins in the text.
+    base: usize,
+    // How many bytes it has; 0 if there is none.
+    length: usize,
+    // By whose table.
+    mode: u16,
+    // Where in the text the mode on top came there.
+    since: usize,
+    // The word of `ends` that is looked at; behind the last one if none is.
+    word: usize,
+    // What is left of it: the ends behind the place where the next token begins.
+    bits: u64,
+    // The column of each byte.
+    columns: [u16; MOST],
+    // The row behind each byte.
+    rows: [AheadCell; MOST],
+    // A bit for each byte: whether a token ends before it.
+    ends: [u64; MOST / 64],
 }
 
 // A piece of a text, with the number of its kind.
@@ -262,42 +329,6 @@ fn class(table: &Table, code: u32) -> usize {
     table.blocks[block(table, code / 128) * 128 + code % 128] as usize
 }
 
-// Where the longest match from the place on ends, and its rule. `None` if nothing matches there.
-fn longest(table: &Table, text: &[u8], start: usize) -> Option<Match> {
-    let mut row = table.start;
-    let mut at = start;
-    let mut longest = None;
-    while at < text.len() {
-        let Some(character) = read(text, at) else {
-            return longest;
-        };
-        at += character.size;
-        row = table.cells[row + class(table, character.code)] as usize;
-        if row < table.live {
-            return longest;
-        }
-        if row >= table.accept {
-            longest = Some(Match {
-                rule: table.cells[row + table.width] as usize,
-                end: at,
-            });
-        }
-    }
-    longest
-}
-
-// Where the fault at the place ends: before the next place where a rule matches, or with the text.
-fn fault_end(table: &Table, text: &[u8], start: usize) -> usize {
-    let mut end = start + 1;
-    while end < text.len() {
-        if longest(table, text, end).is_some() {
-            return end;
-        }
-        end += 1;
-    }
-    end
-}
-
 // Whether there is room for the modes that the actions from the place on put on top, where this many modes lie below.
 fn has_room(numbers: &Numbers, first: usize, depth: usize, room: usize) -> bool {
     let mut place = first;
@@ -336,34 +367,138 @@ fn act(numbers: &Numbers, first: usize, state: &mut State, below: &mut [u16]) {
     }
 }
 
-// The next piece, a token or a fault, behind which the text is cut on.
-fn next(numbers: &Numbers, text: &[u8], state: &mut State, below: &mut [u16]) -> Step {
+// How many rows in which a token is open the greatest table that runs ahead has; only of these it is noted that no match comes.
+fn most_rows(numbers: &Numbers) -> usize {
+    let mut most = 0;
+    for ahead in numbers.ahead.iter() {
+        most = most.max(ahead.ends / (ahead.width + 1));
+    }
+    most
+}
+
+// How many words the memo for a text of this size has: for each mode as many as the greatest table has use for.
+fn memo_size(numbers: &Numbers, size: usize) -> usize {
+    memo_words(most_rows(numbers), size).saturating_mul(numbers.tables.len())
+}
+
+// Where the mode's part of the memo, which has so many words, begins and ends. Each mode has an equal one.
+fn memo_part(words: usize, modes: usize, mode: u16) -> (usize, usize) {
+    let size = words / modes;
+    let from = mode as usize * size;
+    (from, from + size)
+}
+
+// Where the longest match from the place on ends, and its rule, by a new block or without. `None` if nothing matches there.
+fn found(
+    numbers: &Numbers,
+    text: &[u8],
+    at: usize,
+    mode: u16,
+    run: &mut Run,
+    memo: &mut [u64],
+) -> Option<Match> {
+    let table = &numbers.tables[mode as usize];
+    let ahead = &numbers.ahead[mode as usize];
+    let length = block_length(text, at, mode, run);
+    if length > 0 {
+        fill_block(ahead, table, text, at, mode, length, run);
+        let token = known(ahead, run);
+        if token.is_some() {
+            return token;
+        }
+    }
+    let (from, to) = memo_part(memo.len(), numbers.tables.len(), mode);
+    longest(ahead, table, text, at, &mut memo[from..to])
+}
+
+// Whether the pieces of the rule have actions.
+fn has_actions(numbers: &Numbers, rule: usize) -> bool {
+    numbers.actions.len() > numbers.first_actions.len()
+        && numbers.actions[numbers.first_actions[rule] as usize] != 0
+}
+
+// The token as a piece that begins at the start.
+fn token_piece(numbers: &Numbers, start: usize, token: Match) -> NumberedPiece {
+    NumberedPiece {
+        kind: Some(numbers.kinds[token.rule]),
+        rule: token.rule,
+        start,
+        length: token.end - start,
+    }
+}
+
+// The fault that begins where the text goes on, behind which it then goes on.
+fn fault(numbers: &Numbers, text: &[u8], state: &mut State, memo: &mut [u64]) -> NumberedPiece {
     let table = &numbers.tables[state.mode as usize];
+    let ahead = &numbers.ahead[state.mode as usize];
     let start = state.at;
+    let (from, to) = memo_part(memo.len(), numbers.tables.len(), state.mode);
+    state.at = fault_end(ahead, table, text, start, &mut memo[from..to]);
+    NumberedPiece {
+        kind: None,
+        rule: 0,
+        start,
+        length: state.at - start,
+    }
+}
+
+// As `next`, where the block doesn't tell the token, or the token's rule has actions.
+#[inline(never)]
+fn next_apart(
+    numbers: &Numbers,
+    text: &[u8],
+    state: &mut State,
+    below: &mut [u16],
+    run: &mut Run,
+    known: Option<Match>,
+    memo: &mut [u64],
+) -> Step {
+    let start = state.at;
+    let mode = state.mode;
     if start >= text.len() {
         return Step::End;
     }
-    let Some(found) = longest(table, text, start) else {
-        state.at = fault_end(table, text, start);
-        return Step::Piece(NumberedPiece {
-            kind: None,
-            rule: 0,
-            start,
-            length: state.at - start,
-        });
+    let token = match known {
+        Some(token) => Some(token),
+        None => found(numbers, text, start, mode, run, memo),
     };
-    let first = numbers.first_actions[found.rule] as usize;
+    let Some(token) = token else {
+        let piece = fault(numbers, text, state, memo);
+        resume(run, state.at, mode);
+        return Step::Piece(piece);
+    };
+    let first = numbers.first_actions[token.rule] as usize;
     if !has_room(numbers, first, state.depth, below.len()) {
         return Step::TooDeep;
     }
     act(numbers, first, state, below);
-    state.at = found.end;
-    Step::Piece(NumberedPiece {
-        kind: Some(numbers.kinds[found.rule]),
-        rule: found.rule,
-        start,
-        length: found.end - start,
-    })
+    state.at = token.end;
+    if state.mode != mode {
+        run.since = token.end;
+    }
+    resume(run, token.end, state.mode);
+    Step::Piece(token_piece(numbers, start, token))
+}
+
+// The next piece, a token or a fault, behind which the text is cut on.
+fn next(
+    numbers: &Numbers,
+    text: &[u8],
+    state: &mut State,
+    below: &mut [u16],
+    run: &mut Run,
+    memo: &mut [u64],
+) -> Step {
+    let start = state.at;
+    let token = known(&numbers.ahead[state.mode as usize], run);
+    if let Some(token) = token {
+        if !has_actions(numbers, token.rule) {
+            take(run);
+            state.at = token.end;
+            return Step::Piece(token_piece(numbers, start, token));
+        }
+    }
+    next_apart(numbers, text, state, below, run, token, memo)
 }
 
 // Moves on to the offset, if it is further on, and to the end of the text at most. A line feed ends its line, and a byte that
@@ -380,7 +515,508 @@ fn move_on(text: &[u8], position: &mut Position, to: usize) {
     }
 }
 
-type Cell = u16;
+// A walk along a text: the row that it has reached, and the place.
+#[derive(Clone, Copy)]
+struct Walk {
+    row: usize,
+    at: usize,
+}
+
+// The column of a character, and how many bytes it has.
+#[derive(Clone, Copy)]
+struct CharacterColumn {
+    number: usize,
+    size: usize,
+}
+
+// The column of the character at the place. `None` if the bytes there aren't a character. Most are ASCII, so that is looked at
+// first.
+fn column_at(table: &Table, text: &[u8], at: usize) -> Option<CharacterColumn> {
+    let first = text[at];
+    if first < 128 {
+        return Some(CharacterColumn {
+            number: first as usize,
+            size: 1,
+        });
+    }
+    let Some(character) = read(text, at) else {
+        return None;
+    };
+    Some(CharacterColumn {
+        number: column_of(table, character.code),
+        size: character.size,
+    })
+}
+
+// Whether a token is open in the row: it is neither that of `Lost` nor that of an end.
+fn is_open(ahead: &Ahead, row: usize) -> bool {
+    row > 0 && row < ahead.ends
+}
+
+// The walk behind one more character. `None` if there is none, or it leads to a row in which the token isn't open.
+fn walked(ahead: &Ahead, table: &Table, text: &[u8], walk: Walk) -> Option<Walk> {
+    if walk.at >= text.len() {
+        return None;
+    }
+    let Some(column) = column_at(table, text, walk.at) else {
+        return None;
+    };
+    let row = ahead.cells[walk.row + column.number] as usize;
+    if !is_open(ahead, row) {
+        return None;
+    }
+    Some(Walk {
+        row,
+        at: walk.at + column.size,
+    })
+}
+
+// The number of the rule of the token that ends in the row; `NO_RULE` if none does.
+fn rule_of(ahead: &Ahead, row: usize) -> AheadCell {
+    ahead.cells[row + ahead.width]
+}
+
+// How many words a memo has for a text of this size, by so many rows: a bit for each row and each 64 bytes.
+fn memo_words(rows: usize, size: usize) -> usize {
+    rows.saturating_mul(size / 4096 + 1)
+}
+
+// The word of the memo in which the walk's bit is. `None` if the memo, of so many words, has none.
+fn word_of(ahead: &Ahead, size: usize, walk: Walk, words: usize) -> Option<usize> {
+    let row_words = size / 4096 + 1;
+    let number = walk.row / (ahead.width + 1);
+    if number >= words / row_words {
+        return None;
+    }
+    Some(number * row_words + walk.at / 4096)
+}
+
+// Whether it is noted that no match comes.
+fn is_noted(ahead: &Ahead, size: usize, walk: Walk, memo: &[u64]) -> bool {
+    match word_of(ahead, size, walk, memo.len()) {
+        Some(word) => (memo[word] >> (walk.at / 64 % 64)) % 2 == 1,
+        None => false,
+    }
+}
+
+// Notes that no match comes.
+fn note(ahead: &Ahead, text: &[u8], walk: Walk, memo: &mut [u64]) {
+    if let Some(word) = word_of(ahead, text.len(), walk, memo.len()) {
+        memo[word] |= 1u64 << (walk.at / 64 % 64);
+    }
+}
+
+// Walks up to the end again, on which no match comes, and notes it.
+fn note_walk(ahead: &Ahead, table: &Table, text: &[u8], from: Walk, end: usize, memo: &mut [u64]) {
+    let mut walk = from;
+    while walk.at < end {
+        let Some(next) = walked(ahead, table, text, walk) else {
+            return;
+        };
+        if walk.at / 64 < next.at / 64 {
+            note(ahead, text, next, memo);
+        }
+        walk = next;
+    }
+}
+
+// Where the last match ends: there, if one does, or else where it did before.
+fn last_of(ahead: &Ahead, last: Walk, there: Walk) -> Walk {
+    if rule_of(ahead, there.row) != NO_RULE {
+        there
+    } else {
+        last
+    }
+}
+
+// How far a walk went: where the last match ends, or the start if there is none; and up to where it went on in vain.
+#[derive(Clone, Copy)]
+struct Reading {
+    last: Walk,
+    end: usize,
+}
+
+// Reads on from the start until no match comes.
+fn read_on(ahead: &Ahead, table: &Table, text: &[u8], start: usize, memo: &[u64]) -> Reading {
+    let mut walk = Walk {
+        row: ahead.start,
+        at: start,
+    };
+    let mut last = walk;
+    loop {
+        let Some(next) = walked(ahead, table, text, walk) else {
+            return Reading { last, end: walk.at };
+        };
+        last = last_of(ahead, last, next);
+        if walk.at / 64 < next.at / 64 && is_noted(ahead, text.len(), next, memo) {
+            return Reading { last, end: next.at };
+        }
+        walk = next;
+    }
+}
+
+// The match that ends there, if it isn't the start.
+fn match_to(ahead: &Ahead, start: usize, last: Walk) -> Option<Match> {
+    if last.at == start {
+        return None;
+    }
+    Some(Match {
+        rule: rule_of(ahead, last.row) as usize,
+        end: last.at,
+    })
+}
+
+// Where the longest match from the place on ends, and its rule. `None` if nothing matches there.
+fn longest(
+    ahead: &Ahead,
+    table: &Table,
+    text: &[u8],
+    start: usize,
+    memo: &mut [u64],
+) -> Option<Match> {
+    let reading = read_on(ahead, table, text, start, memo);
+    if !memo.is_empty() && reading.last.at / 64 < reading.end / 64 {
+        note_walk(ahead, table, text, reading.last, reading.end, memo);
+    }
+    match_to(ahead, start, reading.last)
+}
+
+// Where the fault at the place ends: before the next place where a rule matches, or with the text.
+fn fault_end(
+    ahead: &Ahead,
+    table: &Table,
+    text: &[u8],
+    start: usize,
+    memo: &mut [u64],
+) -> usize {
+    let mut end = start + 1;
+    while end < text.len() {
+        if longest(ahead, table, text, end, memo).is_some() {
+            return end;
+        }
+        end += 1;
+    }
+    end
+}
+
+// So many bytes are looked at at once: where they are ASCII, each is its own column.
+const RUN: usize = 32;
+
+// The column of a byte, and how many bytes of its character are still to come.
+#[derive(Clone, Copy)]
+struct Column {
+    number: u16,
+    left: usize,
+}
+
+// The column of the first byte of a character.
+fn column_of(table: &Table, code: u32) -> usize {
+    if code < 128 {
+        return code as usize;
+    }
+    128 + class(table, code)
+}
+
+// The column of the byte at the place, which may lie behind the text. Of the character before it, `left` bytes are still to
+// come.
+fn next_column(ahead: &Ahead, table: &Table, text: &[u8], at: usize, left: usize) -> Column {
+    let within = ahead.width - 2;
+    let bad = Column {
+        number: (within + 1) as u16,
+        left: 0,
+    };
+    if at >= text.len() {
+        return bad;
+    }
+    if left > 0 {
+        return Column {
+            number: within as u16,
+            left: left - 1,
+        };
+    }
+    match read(text, at) {
+        Some(character) => Column {
+            number: column_of(table, character.code) as u16,
+            left: character.size - 1,
+        },
+        None => bad,
+    }
+}
+
+// Whether the bytes of a run from the place on are all within the text, and ASCII.
+fn is_ascii_run(text: &[u8], at: usize) -> bool {
+    if text.len() < RUN || at > text.len() - RUN {
+        return false;
+    }
+    let mut all = 0;
+    let run = &text[at..at + RUN];
+    for byte in run {
+        all |= byte;
+    }
+    all < 128
+}
+
+// The columns of bytes of ASCII: the bytes. These are two slices of one length, so that a processor can do many at once.
+fn ascii_columns(columns: &mut [u16], bytes: &[u8]) {
+    for (k, byte) in bytes[..columns.len()].iter().enumerate() {
+        columns[k] = u16::from(*byte);
+    }
+}
+
+// The columns of the bytes of the text from a place on, and of what follows it.
+fn columns_of(
+    ahead: &Ahead,
+    table: &Table,
+    text: &[u8],
+    from: usize,
+    columns: &mut [u16],
+) {
+    let mut left = 0;
+    let mut at = 0;
+    while at < columns.len() {
+        let stop = (at + RUN).min(columns.len());
+        if left == 0 && is_ascii_run(text, from + at) {
+            let bytes = &text[from + at..from + stop];
+            ascii_columns(&mut columns[at..stop], bytes);
+        } else {
+            for k in at..stop {
+                let next = next_column(ahead, table, text, from + k, left);
+                columns[k] = next.number;
+                left = next.left;
+            }
+        }
+        at = stop;
+    }
+}
+
+// How many walks are done at once.
+const WALKS: usize = 6;
+
+// The row that the column leads to from the row.
+fn step(ahead: &Ahead, row: usize, column: u16) -> AheadCell {
+    ahead.cells[row + column as usize]
+}
+
+// Walks along each part of the columns from the start on. The walks don't wait for each other, so they are quick; but the walks
+// along later parts begin with what may be wrong.
+#[inline(always)]
+fn walk_parts(ahead: &Ahead, columns: &[u16], rows: &mut [AheadCell]) {
+    let part = columns.len() / WALKS;
+    let mut last = [ahead.start; WALKS];
+    for k in 0..part {
+        for walk in 0..WALKS {
+            let place = walk * part + k;
+            let row = step(ahead, last[walk], columns[place]);
+            last[walk] = row as usize;
+            rows[place] = row;
+        }
+    }
+}
+
+// The same. It is quickest along parts whose length is known when this is compiled.
+fn walk(ahead: &Ahead, columns: &[u16], rows: &mut [AheadCell]) {
+    if columns.len() == MOST {
+        walk_parts(ahead, &columns[..MOST], &mut rows[..MOST]);
+    } else {
+        walk_parts(ahead, columns, rows);
+    }
+}
+
+// Walks on from the row before the place until the row is the one that stands there.
+fn walk_on(ahead: &Ahead, columns: &[u16], from: usize, rows: &mut [AheadCell]) {
+    let mut row = rows[from - 1];
+    let mut at = from;
+    while at < columns.len() {
+        let next = step(ahead, row as usize, columns[at]);
+        if rows[at] == next {
+            return;
+        }
+        rows[at] = next;
+        at += 1;
+        // A row often leads to itself, and such steps don't wait for each other.
+        while next == row
+            && at < columns.len()
+            && rows[at] != next
+            && step(ahead, next as usize, columns[at]) == next
+        {
+            rows[at] = next;
+            at += 1;
+        }
+        row = next;
+    }
+}
+
+// Makes one run of those along the parts.
+fn join(ahead: &Ahead, columns: &[u16], rows: &mut [AheadCell]) {
+    let part = columns.len() / WALKS;
+    for walk in 1..WALKS {
+        walk_on(ahead, columns, walk * part, rows);
+    }
+}
+
+// The columns of the bytes of the text from a place on, and the rows that they lead to from the start, one after another: each
+// stands for what is known behind its byte.
+fn fill(
+    ahead: &Ahead,
+    table: &Table,
+    text: &[u8],
+    from: usize,
+    columns: &mut [u16],
+    rows: &mut [AheadCell],
+) {
+    columns_of(ahead, table, text, from, columns);
+    walk(ahead, columns, rows);
+    join(ahead, columns, rows);
+}
+
+// The least bytes of a block: a word for each of the six walks. Each block has a multiple of them.
+const LEAST: usize = 384;
+
+// Which of 64 rows are at or above this one: a byte for each, 1 where it is, else 0. They are compared with a cell of their own
+// size and the answers are kept apart, so that a processor can do many at once.
+fn flags_of(rows: &[AheadCell], least: AheadCell) -> [u8; 64] {
+    let mut flags = [0; 64];
+    for (k, row) in rows.iter().enumerate() {
+        flags[k] = u8::from(*row >= least);
+    }
+    flags
+}
+
+// Eight flags as bits, the lowest for the first. The flag of the byte k is the bit 8 * k of a number, and the bit 56 - 7 * k of the
+// factor moves it to the bit 56 + k. No two bits of the product meet, so nothing is carried.
+fn eight_bits(flags: &[u8]) -> u64 {
+    let bytes = [
+        flags[0], flags[1], flags[2], flags[3], flags[4], flags[5], flags[6], flags[7],
+    ];
+    u64::from_le_bytes(bytes).wrapping_mul(0x0102_0408_1020_4080) >> 56
+}
+
+// 64 flags as bits, the lowest for the first.
+fn bits_of(flags: &[u8]) -> u64 {
+    let mut bits = 0;
+    for k in 1..=8 {
+        bits = bits * 256 + eight_bits(&flags[64 - 8 * k..72 - 8 * k]);
+    }
+    bits
+}
+
+// Which of 64 rows are those of ends: a bit for each, the lowest for the first.
+fn ends_of(rows: &[AheadCell], least: usize) -> u64 {
+    if least > AheadCell::MAX as usize {
+        return 0;
+    }
+    bits_of(&flags_of(rows, least as AheadCell))
+}
+
+// Writes a bit for each row: whether it is one of an end. Rows behind the last 64 have none.
+fn mark_ends(rows: &[AheadCell], least: usize, ends: &mut [u64]) {
+    for word in 0..rows.len() / 64 {
+        ends[word] = ends_of(&rows[word * 64..word * 64 + 64], least);
+    }
+}
+
+// Runs through so many bytes of the text from the place on: their columns, and the rows behind them.
+fn run_through(
+    ahead: &Ahead,
+    table: &Table,
+    text: &[u8],
+    at: usize,
+    size: usize,
+    columns: &mut [u16],
+    rows: &mut [AheadCell],
+) {
+    fill(
+        ahead,
+        table,
+        text,
+        at,
+        &mut columns[..size],
+        &mut rows[..size],
+    );
+}
+
+// Makes a block of this size of the text from the place on, by the tables of the mode.
+fn fill_block(
+    ahead: &Ahead,
+    table: &Table,
+    text: &[u8],
+    at: usize,
+    mode: u16,
+    size: usize,
+    run: &mut Run,
+) {
+    run_through(
+        ahead,
+        table,
+        text,
+        at,
+        size,
+        &mut run.columns,
+        &mut run.rows,
+    );
+    mark_ends(&run.rows[..size], ahead.ends, &mut run.ends);
+    run.base = at;
+    run.length = size;
+    run.mode = mode;
+    run.word = 0;
+    run.bits = run.ends[0];
+}
+
+// The next end in the block. `None` if none is left.
+fn next_end(run: &mut Run) -> Option<usize> {
+    while run.bits == 0 {
+        if run.word + 1 >= run.length / 64 {
+            return None;
+        }
+        run.word += 1;
+        run.bits = run.ends[run.word];
+    }
+    Some(run.word * 64 + run.bits.trailing_zeros() as usize)
+}
+
+// Goes on behind the token that ends next.
+fn take(run: &mut Run) {
+    run.bits &= run.bits - 1;
+}
+
+// The token that begins where the text goes on, if the block tells. It doesn't where that token is a fault, ends behind the
+// block, or ends before a longer one that then doesn't match.
+fn known(ahead: &Ahead, run: &mut Run) -> Option<Match> {
+    let end = next_end(run)?;
+    let rule = ahead.cells[run.rows[end - 1] as usize + ahead.width];
+    if rule == NO_RULE {
+        return None;
+    }
+    Some(Match {
+        rule: rule as usize,
+        end: run.base + end,
+    })
+}
+
+// Goes on in the block at this place of the text, where this mode is on top, if that is an end in it. Otherwise no end is left
+// for now.
+fn resume(run: &mut Run, at: usize, mode: u16) {
+    let place = at - run.base;
+    if mode == run.mode && place < run.length && run.ends[place / 64] >> (place % 64) & 1 == 1 {
+        run.word = place / 64;
+        run.bits = ((run.ends[place / 64] >> (place % 64)) - 1) << (place % 64);
+    } else {
+        run.word = run.length / 64;
+        run.bits = 0;
+    }
+}
+
+// How many bytes to run through from the place on, where this mode is on top; 0 for none. They are no more than this mode has
+// been on top for, so a mode that is left soon costs little; and the present block is used first, as far as it serves.
+fn block_length(text: &[u8], at: usize, mode: u16, run: &Run) -> usize {
+    let is_inside = mode == run.mode && at - run.base < run.length;
+    if is_inside && (at == run.base || run.bits != 0 || run.word == run.length / 64) {
+        return 0;
+    }
+    MOST.min(text.len() - at).min(at - run.since) / LEAST * LEAST
+}
+
+type AheadCell = u16;
 
 #[rustfmt::skip]
 static NUMBERS: Numbers = Numbers {
@@ -422,107 +1058,488 @@ static NUMBERS: Numbers = Numbers {
 0, 0, 0, 0, 0, 0, 0, 0, 0, 0, 0, 0, ],
     tables: &[
         Table {
-            start: 31,
-            width: 30,
-            live: 31,
-            accept: 713,
             blocks: &[
-0, 0, 0, 0, 0, 0, 0, 0, 0, 1, 1, 0, 0, 1, 0, 0,
+1, 1, 1, 1, 1, 1, 1, 1, 1, 2, 2, 1, 1, 2, 1, 1,
+1, 1, 1, 1, 1, 1, 1, 1, 1, 1, 1, 1, 1, 1, 1, 1,
+3, 0, 4, 0, 0, 0, 0, 0, 0, 0, 0, 5, 6, 7, 8, 9,
+10, 11, 11, 11, 11, 11, 11, 11, 11, 11, 12, 0, 0, 0, 0, 0,
+0, 13, 13, 13, 13, 14, 13, 0, 0, 0, 0, 0, 0, 0, 0, 0,
+0, 0, 0, 0, 0, 0, 0, 0, 0, 0, 0, 15, 16, 17, 0, 0,
+0, 18, 19, 13, 13, 20, 21, 0, 0, 0, 0, 0, 22, 0, 23, 0,
+0, 0, 24, 25, 26, 27, 0, 0, 0, 0, 0, 28, 0, 29, 0, 0,
 0, 0, 0, 0, 0, 0, 0, 0, 0, 0, 0, 0, 0, 0, 0, 0,
-2, 3, 4, 3, 3, 3, 3, 3, 3, 3, 3, 5, 6, 7, 8, 9,
-10, 11, 11, 11, 11, 11, 11, 11, 11, 11, 12, 3, 3, 3, 3, 3,
-3, 13, 13, 13, 13, 14, 13, 3, 3, 3, 3, 3, 3, 3, 3, 3,
-3, 3, 3, 3, 3, 3, 3, 3, 3, 3, 3, 15, 16, 17, 3, 3,
-3, 18, 19, 13, 13, 20, 21, 3, 3, 3, 3, 3, 22, 3, 23, 3,
-3, 3, 24, 25, 26, 27, 3, 3, 3, 3, 3, 28, 3, 29, 3, 3,
-3, 3, 3, 3, 3, 3, 3, 3, 3, 3, 3, 3, 3, 3, 3, 3,
-3, 3, 3, 3, 3, 3, 3, 3, 3, 3, 3, 3, 3, 3, 3, 3,
-3, 3, 3, 3, 3, 3, 3, 3, 3, 3, 3, 3, 3, 3, 3, 3,
-3, 3, 3, 3, 3, 3, 3, 3, 3, 3, 3, 3, 3, 3, 3, 3,
-3, 3, 3, 3, 3, 3, 3, 3, 3, 3, 3, 3, 3, 3, 3, 3,
-3, 3, 3, 3, 3, 3, 3, 3, 3, 3, 3, 3, 3, 3, 3, 3,
-3, 3, 3, 3, 3, 3, 3, 3, 3, 3, 3, 3, 3, 3, 3, 3,
-3, 3, 3, 3, 3, 3, 3, 3, 3, 3, 3, 3, 3, 3, 3, 3,
+0, 0, 0, 0, 0, 0, 0, 0, 0, 0, 0, 0, 0, 0, 0, 0,
+0, 0, 0, 0, 0, 0, 0, 0, 0, 0, 0, 0, 0, 0, 0, 0,
+0, 0, 0, 0, 0, 0, 0, 0, 0, 0, 0, 0, 0, 0, 0, 0,
+0, 0, 0, 0, 0, 0, 0, 0, 0, 0, 0, 0, 0, 0, 0, 0,
+0, 0, 0, 0, 0, 0, 0, 0, 0, 0, 0, 0, 0, 0, 0, 0,
+0, 0, 0, 0, 0, 0, 0, 0, 0, 0, 0, 0, 0, 0, 0, 0,
+0, 0, 0, 0, 0, 0, 0, 0, 0, 0, 0, 0, 0, 0, 0, 0,
 ],
             pages: &[
 0, 1, ],
+        },
+    ],
+    ahead: &[
+        Ahead {
+            start: 132,
+            width: 131,
+            ends: 5280,
             cells: &[
+0, 0, 0, 0, 0, 0, 0, 0, 0, 5412, 5412, 0, 0, 5412, 0, 0,
 0, 0, 0, 0, 0, 0, 0, 0, 0, 0, 0, 0, 0, 0, 0, 0,
+5412, 0, 5544, 0, 0, 0, 0, 0, 0, 0, 0, 0, 5676, 5808, 0, 0,
+5940, 6072, 6072, 6072, 6072, 6072, 6072, 6072, 6072, 6072, 6204, 0, 0, 0, 0, 0,
 0, 0, 0, 0, 0, 0, 0, 0, 0, 0, 0, 0, 0, 0, 0, 0,
-713, 713, 0, 62, 0, 744, 93, 0, 0, 775, 806, 837, 0, 0, 868, 0,
-899, 0, 0, 0, 124, 0, 155, 0, 0, 186, 0, 930, 961, 0, 0, 0,
-217, 217, 1023, 217, 217, 217, 217, 217, 217, 217, 217, 217, 217, 217, 248, 217,
-217, 217, 217, 217, 217, 217, 217, 217, 217, 217, 217, 217, 0, 0, 0, 0,
-0, 0, 0, 0, 0, 0, 0, 775, 806, 0, 0, 0, 0, 0, 0, 0,
+0, 0, 0, 0, 0, 0, 0, 0, 0, 0, 0, 6336, 0, 6468, 0, 0,
+0, 0, 0, 0, 0, 0, 6600, 0, 0, 0, 0, 0, 0, 0, 6732, 0,
+0, 0, 0, 0, 6864, 0, 0, 0, 0, 0, 0, 6996, 0, 7128, 0, 0,
+0, 0, 0, 65535, 0, 0, 0, 0, 0, 0, 0, 0, 0, 3168, 3168, 0,
+0, 3168, 0, 0, 0, 0, 0, 0, 0, 0, 0, 0, 0, 0, 0, 0,
+0, 0, 0, 0, 3168, 0, 396, 0, 0, 0, 0, 0, 0, 0, 0, 0,
+3300, 528, 0, 0, 3432, 3564, 3564, 3564, 3564, 3564, 3564, 3564, 3564, 3564, 3696, 0,
 0, 0, 0, 0, 0, 0, 0, 0, 0, 0, 0, 0, 0, 0, 0, 0,
-0, 0, 0, 0, 0, 0, 0, 0, 0, 0, 0, 0, 0, 0, 341, 0,
+0, 0, 0, 0, 0, 0, 0, 0, 0, 0, 0, 0, 0, 0, 0, 3828,
+0, 3960, 0, 0, 0, 0, 0, 0, 0, 0, 660, 0, 0, 0, 0, 0,
+0, 0, 792, 0, 0, 0, 0, 0, 924, 0, 0, 0, 0, 0, 0, 4092,
+0, 4224, 0, 0, 0, 0, 0, 65535, 0, 0, 0, 0, 0, 0, 0, 0,
+0, 3168, 3168, 0, 0, 3168, 0, 0, 0, 0, 0, 0, 0, 0, 0, 0,
+0, 0, 0, 0, 0, 0, 0, 0, 3168, 0, 396, 0, 0, 0, 0, 0,
+0, 0, 0, 0, 3300, 528, 0, 0, 3432, 3564, 3564, 3564, 3564, 3564, 3564, 3564,
+3564, 3564, 3696, 0, 0, 0, 0, 0, 0, 0, 0, 0, 0, 0, 0, 0,
 0, 0, 0, 0, 0, 0, 0, 0, 0, 0, 0, 0, 0, 0, 0, 0,
+0, 0, 0, 3828, 0, 3960, 0, 0, 0, 0, 0, 0, 0, 0, 660, 0,
+0, 0, 0, 0, 0, 0, 792, 0, 0, 0, 0, 0, 924, 0, 0, 0,
+0, 0, 0, 4092, 0, 4224, 0, 0, 0, 264, 0, 65535, 0, 0, 0, 0,
 0, 0, 0, 0, 0, 0, 0, 0, 0, 0, 0, 0, 0, 0, 0, 0,
-0, 0, 0, 0, 0, 0, 372, 0, 0, 0, 0, 0, 0, 0, 0, 0,
-0, 0, 0, 0, 0, 0, 0, 0, 0, 0, 0, 0, 0, 0, 0, 0,
-0, 0, 403, 0, 0, 0, 0, 0, 0, 0, 0, 217, 217, 1023, 217, 217,
-217, 217, 217, 217, 217, 217, 217, 217, 217, 248, 217, 217, 217, 217, 217, 217,
-217, 217, 217, 217, 217, 217, 217, 0, 0, 0, 0, 0, 217, 0, 0, 0,
-0, 217, 0, 0, 0, 0, 0, 0, 217, 0, 0, 217, 0, 217, 0, 217,
-217, 0, 217, 434, 0, 0, 0, 0, 0, 0, 0, 0, 0, 0, 0, 0,
-0, 1054, 1054, 0, 0, 0, 0, 0, 0, 0, 0, 0, 0, 0, 0, 0,
-0, 0, 0, 0, 0, 0, 0, 0, 0, 0, 0, 465, 0, 465, 0, 0,
-1085, 1085, 0, 0, 0, 0, 0, 0, 0, 0, 0, 0, 0, 0, 0, 0,
-0, 0, 0, 0, 0, 0, 0, 0, 0, 0, 0, 0, 0, 0, 0, 0,
-0, 0, 0, 0, 0, 0, 0, 0, 0, 0, 0, 496, 0, 0, 0, 0,
-0, 0, 0, 0, 0, 0, 0, 0, 0, 0, 0, 0, 0, 0, 0, 0,
-0, 0, 0, 0, 0, 0, 0, 0, 0, 0, 527, 0, 0, 0, 0, 0,
-0, 0, 0, 0, 0, 0, 0, 0, 0, 0, 0, 0, 0, 0, 0, 0,
-0, 0, 0, 0, 0, 0, 0, 0, 0, 0, 0, 0, 0, 0, 558, 0,
-0, 0, 0, 0, 0, 0, 0, 0, 0, 0, 0, 0, 589, 589, 0, 589,
-589, 0, 0, 0, 589, 589, 589, 589, 0, 0, 0, 0, 0, 0, 0, 0,
-0, 0, 0, 0, 0, 0, 0, 0, 0, 0, 0, 1085, 1085, 0, 0, 0,
-0, 0, 0, 0, 0, 0, 0, 0, 0, 0, 0, 0, 0, 0, 0, 0,
-0, 0, 0, 0, 0, 0, 0, 0, 0, 0, 0, 0, 0, 0, 0, 0,
-0, 0, 0, 0, 0, 0, 0, 0, 0, 620, 0, 0, 0, 0, 0, 0,
-0, 0, 0, 0, 0, 0, 0, 0, 0, 0, 0, 0, 0, 0, 0, 0,
-0, 0, 0, 0, 0, 1116, 0, 0, 0, 0, 0, 0, 0, 0, 0, 0,
-0, 0, 0, 0, 0, 0, 0, 0, 0, 0, 0, 0, 0, 0, 0, 0,
-0, 0, 1147, 0, 0, 0, 0, 0, 0, 0, 0, 0, 0, 0, 0, 0,
-0, 0, 0, 0, 0, 0, 0, 651, 651, 0, 651, 651, 0, 0, 0, 651,
-651, 651, 651, 0, 0, 0, 0, 0, 0, 0, 0, 0, 0, 0, 0, 0,
-0, 0, 0, 0, 0, 0, 0, 0, 0, 0, 0, 0, 0, 0, 0, 0,
-1178, 0, 0, 0, 0, 0, 0, 0, 0, 0, 0, 0, 0, 0, 0, 0,
-0, 0, 0, 0, 0, 682, 682, 0, 682, 682, 0, 0, 0, 682, 682, 682,
-682, 0, 0, 0, 0, 0, 0, 0, 0, 0, 0, 0, 0, 0, 0, 0,
-0, 0, 0, 0, 217, 217, 0, 217, 217, 0, 0, 0, 217, 217, 217, 217,
-0, 0, 0, 0, 0, 0, 0, 0, 0, 0, 992, 992, 0, 0, 0, 0,
+0, 0, 0, 0, 0, 0, 0, 0, 0, 0, 0, 0, 1056, 1056, 4488, 1056,
+1056, 1056, 1056, 1056, 1056, 1056, 1056, 1056, 1056, 1056, 1056, 1056, 1056, 1056, 1056, 1056,
+1056, 1056, 1056, 1056, 1056, 1056, 1056, 1056, 1056, 1056, 1056, 1056, 1056, 1056, 1056, 1056,
+1056, 1056, 1056, 1056, 1056, 1056, 1056, 1056, 1056, 1056, 1056, 1056, 1056, 1056, 1056, 1056,
+1056, 1056, 1056, 1056, 1056, 1056, 1056, 1056, 1188, 1056, 1056, 1056, 1056, 1056, 1056, 1056,
+1056, 1056, 1056, 1056, 1056, 1056, 1056, 1056, 1056, 1056, 1056, 1056, 1056, 1056, 1056, 1056,
+1056, 1056, 1056, 1056, 1056, 1056, 1056, 1056, 1056, 1056, 1056, 1056, 1056, 396, 0, 65535,
 0, 0, 0, 0, 0, 0, 0, 0, 0, 0, 0, 0, 0, 0, 0, 0,
 0, 0, 0, 0, 0, 0, 0, 0, 0, 0, 0, 0, 0, 0, 0, 0,
 0, 0, 0, 0, 0, 0, 0, 0, 0, 0, 0, 0, 0, 0, 0, 0,
-0, 0, 0, 0, 0, 0, 6, 0, 0, 0, 0, 0, 0, 0, 0, 279,
-0, 0, 0, 0, 0, 310, 0, 0, 0, 0, 0, 310, 0, 0, 0, 0,
-0, 0, 0, 0, 0, 10, 0, 0, 0, 0, 0, 0, 0, 0, 279, 0,
-806, 806, 0, 0, 310, 0, 0, 0, 0, 0, 310, 0, 0, 0, 0, 0,
-0, 0, 0, 0, 10, 0, 0, 0, 0, 0, 0, 0, 0, 0, 0, 0,
-0, 0, 0, 0, 0, 0, 0, 0, 0, 0, 0, 0, 0, 0, 0, 0,
-0, 0, 0, 5, 0, 0, 0, 0, 0, 0, 0, 0, 0, 0, 0, 0,
-0, 0, 0, 0, 0, 0, 0, 0, 0, 0, 0, 0, 0, 0, 0, 0,
-0, 0, 3, 0, 0, 0, 0, 0, 0, 0, 0, 0, 0, 0, 0, 0,
-0, 0, 0, 0, 0, 0, 0, 0, 0, 0, 0, 0, 0, 0, 0, 0,
-0, 4, 0, 0, 0, 0, 0, 0, 0, 0, 0, 0, 0, 0, 0, 0,
-0, 0, 0, 0, 0, 0, 0, 0, 0, 0, 0, 0, 0, 0, 0, 0,
-1, 0, 0, 0, 0, 0, 0, 0, 0, 0, 0, 0, 0, 0, 0, 0,
-0, 0, 0, 0, 0, 0, 0, 0, 0, 0, 0, 0, 0, 0, 0, 2,
-0, 992, 992, 0, 0, 0, 0, 0, 0, 0, 0, 0, 0, 0, 0, 0,
+3432, 3564, 3564, 3564, 3564, 3564, 3564, 3564, 3564, 3564, 0, 0, 0, 0, 0, 0,
 0, 0, 0, 0, 0, 0, 0, 0, 0, 0, 0, 0, 0, 0, 0, 0,
 0, 0, 0, 0, 0, 0, 0, 0, 0, 0, 0, 0, 0, 0, 0, 0,
-0, 0, 0, 0, 0, 0, 0, 0, 0, 0, 0, 0, 0, 11, 0, 0,
-0, 0, 0, 0, 0, 0, 0, 0, 1054, 1054, 0, 0, 310, 0, 0, 0,
-0, 0, 310, 0, 0, 0, 0, 0, 0, 0, 0, 0, 10, 0, 0, 0,
-0, 0, 0, 0, 0, 0, 0, 1085, 1085, 0, 0, 0, 0, 0, 0, 0,
-0, 0, 0, 0, 0, 0, 0, 0, 0, 0, 0, 10, 0, 0, 0, 0,
 0, 0, 0, 0, 0, 0, 0, 0, 0, 0, 0, 0, 0, 0, 0, 0,
-0, 0, 0, 0, 0, 0, 0, 0, 0, 0, 9, 0, 0, 0, 0, 0,
 0, 0, 0, 0, 0, 0, 0, 0, 0, 0, 0, 0, 0, 0, 0, 0,
-0, 0, 0, 0, 0, 0, 0, 0, 0, 7, 0, 0, 0, 0, 0, 0,
+0, 528, 0, 65535, 0, 0, 0, 0, 0, 0, 0, 0, 0, 0, 0, 0,
 0, 0, 0, 0, 0, 0, 0, 0, 0, 0, 0, 0, 0, 0, 0, 0,
-0, 0, 0, 0, 0, 0, 0, 0, 8, ],
+0, 0, 0, 0, 0, 0, 0, 0, 0, 0, 0, 0, 0, 0, 0, 0,
+0, 0, 0, 0, 0, 0, 0, 0, 0, 0, 0, 0, 0, 0, 0, 0,
+0, 0, 0, 0, 0, 0, 0, 0, 0, 0, 0, 0, 0, 0, 0, 0,
+0, 0, 0, 0, 0, 0, 0, 0, 0, 0, 0, 0, 0, 0, 0, 0,
+0, 0, 0, 0, 0, 1584, 0, 0, 0, 0, 0, 0, 0, 0, 0, 0,
+0, 0, 0, 0, 0, 0, 0, 0, 0, 0, 0, 0, 0, 0, 0, 0,
+0, 0, 0, 0, 0, 660, 0, 65535, 0, 0, 0, 0, 0, 0, 0, 0,
+0, 0, 0, 0, 0, 0, 0, 0, 0, 0, 0, 0, 0, 0, 0, 0,
+0, 0, 0, 0, 0, 0, 0, 0, 0, 0, 0, 0, 0, 0, 0, 0,
+0, 0, 0, 0, 0, 0, 0, 0, 0, 0, 0, 0, 0, 0, 0, 0,
+0, 0, 0, 0, 0, 0, 0, 0, 0, 0, 0, 0, 0, 0, 0, 0,
+0, 0, 0, 0, 0, 0, 0, 0, 0, 0, 0, 0, 0, 0, 0, 0,
+0, 0, 0, 0, 0, 0, 0, 0, 0, 0, 0, 0, 0, 0, 0, 0,
+0, 0, 0, 0, 0, 0, 0, 0, 0, 0, 0, 0, 0, 1716, 0, 0,
+0, 0, 0, 0, 0, 0, 0, 0, 0, 792, 0, 65535, 0, 0, 0, 0,
+0, 0, 0, 0, 0, 0, 0, 0, 0, 0, 0, 0, 0, 0, 0, 0,
+0, 0, 0, 0, 0, 0, 0, 0, 0, 0, 0, 0, 0, 0, 0, 0,
+0, 0, 0, 0, 0, 0, 0, 0, 0, 0, 0, 0, 0, 0, 0, 0,
+0, 0, 0, 0, 0, 0, 0, 0, 0, 0, 0, 0, 0, 0, 0, 0,
+0, 0, 0, 0, 0, 0, 0, 0, 0, 0, 0, 0, 0, 0, 0, 0,
+0, 0, 0, 0, 0, 0, 0, 0, 0, 0, 0, 0, 0, 0, 0, 0,
+0, 0, 0, 0, 0, 0, 0, 0, 0, 0, 0, 0, 0, 0, 1848, 0,
+0, 0, 0, 0, 0, 0, 0, 0, 0, 0, 0, 0, 0, 924, 0, 65535,
+0, 0, 0, 0, 0, 0, 0, 0, 0, 0, 0, 0, 0, 0, 0, 0,
+0, 0, 0, 0, 0, 0, 0, 0, 0, 0, 0, 0, 0, 0, 0, 0,
+1056, 1056, 4488, 1056, 1056, 1056, 1056, 1056, 1056, 1056, 1056, 1056, 1056, 1056, 1056, 1056,
+1056, 1056, 1056, 1056, 1056, 1056, 1056, 1056, 1056, 1056, 1056, 1056, 1056, 1056, 1056, 1056,
+1056, 1056, 1056, 1056, 1056, 1056, 1056, 1056, 1056, 1056, 1056, 1056, 1056, 1056, 1056, 1056,
+1056, 1056, 1056, 1056, 1056, 1056, 1056, 1056, 1056, 1056, 1056, 1056, 1188, 1056, 1056, 1056,
+1056, 1056, 1056, 1056, 1056, 1056, 1056, 1056, 1056, 1056, 1056, 1056, 1056, 1056, 1056, 1056,
+1056, 1056, 1056, 1056, 1056, 1056, 1056, 1056, 1056, 1056, 1056, 1056, 1056, 1056, 1056, 1056,
+1056, 1056, 0, 65535, 0, 0, 0, 0, 0, 0, 0, 0, 0, 0, 0, 0,
+0, 0, 0, 0, 0, 0, 0, 0, 0, 0, 0, 0, 0, 0, 0, 0,
+0, 0, 0, 0, 0, 0, 1056, 0, 0, 0, 0, 0, 0, 0, 0, 0,
+0, 0, 0, 1056, 0, 0, 0, 0, 0, 0, 0, 0, 0, 0, 0, 0,
+0, 0, 0, 0, 0, 0, 0, 0, 0, 0, 0, 0, 0, 0, 0, 0,
+0, 0, 0, 0, 0, 0, 0, 0, 0, 0, 0, 0, 0, 0, 0, 0,
+1056, 0, 0, 0, 0, 0, 1056, 0, 0, 0, 1056, 0, 0, 0, 0, 0,
+0, 0, 1056, 0, 0, 0, 1056, 0, 1056, 1980, 0, 0, 0, 0, 0, 0,
+0, 0, 0, 0, 0, 1188, 0, 65535, 0, 0, 0, 0, 0, 0, 0, 0,
+0, 0, 0, 0, 0, 0, 0, 0, 0, 0, 0, 0, 0, 0, 0, 0,
+0, 0, 0, 0, 0, 0, 0, 0, 0, 0, 0, 0, 0, 0, 0, 0,
+0, 0, 0, 0, 0, 0, 0, 0, 4620, 4620, 4620, 4620, 4620, 4620, 4620, 4620,
+4620, 4620, 0, 0, 0, 0, 0, 0, 0, 0, 0, 0, 0, 0, 0, 0,
+0, 0, 0, 0, 0, 0, 0, 0, 0, 0, 0, 0, 0, 0, 0, 0,
+0, 0, 0, 0, 0, 0, 0, 0, 0, 0, 0, 0, 0, 0, 0, 0,
+0, 0, 0, 0, 0, 0, 0, 0, 0, 0, 0, 0, 0, 0, 0, 0,
+0, 0, 0, 0, 0, 0, 0, 0, 0, 1320, 0, 65535, 0, 0, 0, 0,
+0, 0, 0, 0, 0, 0, 0, 0, 0, 0, 0, 0, 0, 0, 0, 0,
+0, 0, 0, 0, 0, 0, 0, 0, 0, 0, 0, 0, 0, 0, 0, 0,
+0, 0, 0, 0, 0, 0, 0, 2112, 0, 2112, 0, 0, 4752, 4752, 4752, 4752,
+4752, 4752, 4752, 4752, 4752, 4752, 0, 0, 0, 0, 0, 0, 0, 0, 0, 0,
+0, 0, 0, 0, 0, 0, 0, 0, 0, 0, 0, 0, 0, 0, 0, 0,
+0, 0, 0, 0, 0, 0, 0, 0, 0, 0, 0, 0, 0, 0, 0, 0,
+0, 0, 0, 0, 0, 0, 0, 0, 0, 0, 0, 0, 0, 0, 0, 0,
+0, 0, 0, 0, 0, 0, 0, 0, 0, 0, 0, 0, 0, 1452, 0, 65535,
+0, 0, 0, 0, 0, 0, 0, 0, 0, 0, 0, 0, 0, 0, 0, 0,
+0, 0, 0, 0, 0, 0, 0, 0, 0, 0, 0, 0, 0, 0, 0, 0,
+0, 0, 0, 0, 0, 0, 0, 0, 0, 0, 0, 0, 0, 0, 0, 0,
+0, 0, 0, 0, 0, 0, 0, 0, 0, 0, 0, 0, 0, 0, 0, 0,
+0, 0, 0, 0, 0, 0, 0, 0, 0, 0, 0, 0, 0, 0, 0, 0,
+0, 0, 0, 0, 0, 0, 0, 0, 0, 0, 0, 0, 0, 0, 0, 0,
+0, 0, 0, 0, 0, 0, 0, 0, 0, 0, 0, 0, 2244, 0, 0, 0,
+0, 0, 0, 0, 0, 0, 0, 0, 0, 0, 0, 0, 0, 0, 0, 0,
+0, 1584, 0, 65535, 0, 0, 0, 0, 0, 0, 0, 0, 0, 0, 0, 0,
+0, 0, 0, 0, 0, 0, 0, 0, 0, 0, 0, 0, 0, 0, 0, 0,
+0, 0, 0, 0, 0, 0, 0, 0, 0, 0, 0, 0, 0, 0, 0, 0,
+0, 0, 0, 0, 0, 0, 0, 0, 0, 0, 0, 0, 0, 0, 0, 0,
+0, 0, 0, 0, 0, 0, 0, 0, 0, 0, 0, 0, 0, 0, 0, 0,
+0, 0, 0, 0, 0, 0, 0, 0, 0, 0, 0, 0, 0, 0, 0, 0,
+0, 0, 0, 0, 0, 0, 0, 0, 0, 0, 0, 0, 0, 0, 0, 0,
+2376, 0, 0, 0, 0, 0, 0, 0, 0, 0, 0, 0, 0, 0, 0, 0,
+0, 0, 0, 0, 0, 1716, 0, 65535, 0, 0, 0, 0, 0, 0, 0, 0,
+0, 0, 0, 0, 0, 0, 0, 0, 0, 0, 0, 0, 0, 0, 0, 0,
+0, 0, 0, 0, 0, 0, 0, 0, 0, 0, 0, 0, 0, 0, 0, 0,
+0, 0, 0, 0, 0, 0, 0, 0, 0, 0, 0, 0, 0, 0, 0, 0,
+0, 0, 0, 0, 0, 0, 0, 0, 0, 0, 0, 0, 0, 0, 0, 0,
+0, 0, 0, 0, 0, 0, 0, 0, 0, 0, 0, 0, 0, 0, 0, 0,
+0, 0, 0, 0, 0, 0, 0, 0, 0, 0, 0, 0, 0, 0, 0, 0,
+0, 0, 0, 0, 0, 0, 0, 0, 0, 0, 0, 0, 0, 2508, 0, 0,
+0, 0, 0, 0, 0, 0, 0, 0, 0, 1848, 0, 65535, 0, 0, 0, 0,
+0, 0, 0, 0, 0, 0, 0, 0, 0, 0, 0, 0, 0, 0, 0, 0,
+0, 0, 0, 0, 0, 0, 0, 0, 0, 0, 0, 0, 0, 0, 0, 0,
+0, 0, 0, 0, 0, 0, 0, 0, 0, 0, 0, 0, 2640, 2640, 2640, 2640,
+2640, 2640, 2640, 2640, 2640, 2640, 0, 0, 0, 0, 0, 0, 0, 2640, 2640, 2640,
+2640, 2640, 2640, 0, 0, 0, 0, 0, 0, 0, 0, 0, 0, 0, 0, 0,
+0, 0, 0, 0, 0, 0, 0, 0, 0, 0, 0, 0, 0, 2640, 2640, 2640,
+2640, 2640, 2640, 0, 0, 0, 0, 0, 0, 0, 0, 0, 0, 0, 0, 0,
+0, 0, 0, 0, 0, 0, 0, 0, 0, 0, 0, 0, 0, 1980, 0, 65535,
+0, 0, 0, 0, 0, 0, 0, 0, 0, 0, 0, 0, 0, 0, 0, 0,
+0, 0, 0, 0, 0, 0, 0, 0, 0, 0, 0, 0, 0, 0, 0, 0,
+0, 0, 0, 0, 0, 0, 0, 0, 0, 0, 0, 0, 0, 0, 0, 0,
+4752, 4752, 4752, 4752, 4752, 4752, 4752, 4752, 4752, 4752, 0, 0, 0, 0, 0, 0,
+0, 0, 0, 0, 0, 0, 0, 0, 0, 0, 0, 0, 0, 0, 0, 0,
+0, 0, 0, 0, 0, 0, 0, 0, 0, 0, 0, 0, 0, 0, 0, 0,
+0, 0, 0, 0, 0, 0, 0, 0, 0, 0, 0, 0, 0, 0, 0, 0,
+0, 0, 0, 0, 0, 0, 0, 0, 0, 0, 0, 0, 0, 0, 0, 0,
+0, 2112, 0, 65535, 0, 0, 0, 0, 0, 0, 0, 0, 0, 0, 0, 0,
+0, 0, 0, 0, 0, 0, 0, 0, 0, 0, 0, 0, 0, 0, 0, 0,
+0, 0, 0, 0, 0, 0, 0, 0, 0, 0, 0, 0, 0, 0, 0, 0,
+0, 0, 0, 0, 0, 0, 0, 0, 0, 0, 0, 0, 0, 0, 0, 0,
+0, 0, 0, 0, 0, 0, 0, 0, 0, 0, 0, 0, 0, 0, 0, 0,
+0, 0, 0, 0, 0, 0, 0, 0, 0, 0, 0, 0, 0, 0, 0, 0,
+0, 0, 0, 0, 0, 0, 0, 0, 0, 0, 0, 0, 0, 0, 0, 0,
+0, 0, 0, 0, 0, 0, 0, 2772, 0, 0, 0, 0, 0, 0, 0, 0,
+0, 0, 0, 0, 0, 2244, 0, 65535, 0, 0, 0, 0, 0, 0, 0, 0,
+0, 0, 0, 0, 0, 0, 0, 0, 0, 0, 0, 0, 0, 0, 0, 0,
+0, 0, 0, 0, 0, 0, 0, 0, 0, 0, 0, 0, 0, 0, 0, 0,
+0, 0, 0, 0, 0, 0, 0, 0, 0, 0, 0, 0, 0, 0, 0, 0,
+0, 0, 0, 0, 0, 0, 0, 0, 0, 0, 0, 0, 0, 0, 0, 0,
+0, 0, 0, 0, 0, 0, 0, 0, 0, 0, 0, 0, 0, 0, 0, 0,
+0, 0, 0, 0, 0, 0, 0, 0, 0, 0, 0, 0, 0, 0, 0, 0,
+0, 0, 0, 0, 4884, 0, 0, 0, 0, 0, 0, 0, 0, 0, 0, 0,
+0, 0, 0, 0, 0, 0, 0, 0, 0, 2376, 0, 65535, 0, 0, 0, 0,
+0, 0, 0, 0, 0, 0, 0, 0, 0, 0, 0, 0, 0, 0, 0, 0,
+0, 0, 0, 0, 0, 0, 0, 0, 0, 0, 0, 0, 0, 0, 0, 0,
+0, 0, 0, 0, 0, 0, 0, 0, 0, 0, 0, 0, 0, 0, 0, 0,
+0, 0, 0, 0, 0, 0, 0, 0, 0, 0, 0, 0, 0, 0, 0, 0,
+0, 0, 0, 0, 0, 0, 0, 0, 0, 0, 0, 0, 0, 0, 0, 0,
+0, 0, 0, 0, 0, 0, 0, 0, 0, 0, 0, 0, 0, 0, 0, 0,
+0, 5016, 0, 0, 0, 0, 0, 0, 0, 0, 0, 0, 0, 0, 0, 0,
+0, 0, 0, 0, 0, 0, 0, 0, 0, 0, 0, 0, 0, 2508, 0, 65535,
+0, 0, 0, 0, 0, 0, 0, 0, 0, 0, 0, 0, 0, 0, 0, 0,
+0, 0, 0, 0, 0, 0, 0, 0, 0, 0, 0, 0, 0, 0, 0, 0,
+0, 0, 0, 0, 0, 0, 0, 0, 0, 0, 0, 0, 0, 0, 0, 0,
+2904, 2904, 2904, 2904, 2904, 2904, 2904, 2904, 2904, 2904, 0, 0, 0, 0, 0, 0,
+0, 2904, 2904, 2904, 2904, 2904, 2904, 0, 0, 0, 0, 0, 0, 0, 0, 0,
+0, 0, 0, 0, 0, 0, 0, 0, 0, 0, 0, 0, 0, 0, 0, 0,
+0, 2904, 2904, 2904, 2904, 2904, 2904, 0, 0, 0, 0, 0, 0, 0, 0, 0,
+0, 0, 0, 0, 0, 0, 0, 0, 0, 0, 0, 0, 0, 0, 0, 0,
+0, 2640, 0, 65535, 0, 0, 0, 0, 0, 0, 0, 0, 0, 0, 0, 0,
+0, 0, 0, 0, 0, 0, 0, 0, 0, 0, 0, 0, 0, 0, 0, 0,
+0, 0, 0, 0, 0, 0, 0, 0, 0, 0, 0, 0, 0, 0, 0, 0,
+0, 0, 0, 0, 0, 0, 0, 0, 0, 0, 0, 0, 0, 0, 0, 0,
+0, 0, 0, 0, 0, 0, 0, 0, 0, 0, 0, 0, 0, 0, 0, 0,
+0, 0, 0, 0, 0, 0, 0, 0, 0, 0, 0, 0, 0, 0, 0, 0,
+0, 0, 0, 0, 0, 0, 0, 0, 0, 5148, 0, 0, 0, 0, 0, 0,
+0, 0, 0, 0, 0, 0, 0, 0, 0, 0, 0, 0, 0, 0, 0, 0,
+0, 0, 0, 0, 0, 2772, 0, 65535, 0, 0, 0, 0, 0, 0, 0, 0,
+0, 0, 0, 0, 0, 0, 0, 0, 0, 0, 0, 0, 0, 0, 0, 0,
+0, 0, 0, 0, 0, 0, 0, 0, 0, 0, 0, 0, 0, 0, 0, 0,
+0, 0, 0, 0, 0, 0, 0, 0, 3036, 3036, 3036, 3036, 3036, 3036, 3036, 3036,
+3036, 3036, 0, 0, 0, 0, 0, 0, 0, 3036, 3036, 3036, 3036, 3036, 3036, 0,
+0, 0, 0, 0, 0, 0, 0, 0, 0, 0, 0, 0, 0, 0, 0, 0,
+0, 0, 0, 0, 0, 0, 0, 0, 0, 3036, 3036, 3036, 3036, 3036, 3036, 0,
+0, 0, 0, 0, 0, 0, 0, 0, 0, 0, 0, 0, 0, 0, 0, 0,
+0, 0, 0, 0, 0, 0, 0, 0, 0, 2904, 0, 65535, 0, 0, 0, 0,
+0, 0, 0, 0, 0, 0, 0, 0, 0, 0, 0, 0, 0, 0, 0, 0,
+0, 0, 0, 0, 0, 0, 0, 0, 0, 0, 0, 0, 0, 0, 0, 0,
+0, 0, 0, 0, 0, 0, 0, 0, 0, 0, 0, 0, 1056, 1056, 1056, 1056,
+1056, 1056, 1056, 1056, 1056, 1056, 0, 0, 0, 0, 0, 0, 0, 1056, 1056, 1056,
+1056, 1056, 1056, 0, 0, 0, 0, 0, 0, 0, 0, 0, 0, 0, 0, 0,
+0, 0, 0, 0, 0, 0, 0, 0, 0, 0, 0, 0, 0, 1056, 1056, 1056,
+1056, 1056, 1056, 0, 0, 0, 0, 0, 0, 0, 0, 0, 0, 0, 0, 0,
+0, 0, 0, 0, 0, 0, 0, 0, 0, 0, 0, 0, 0, 3036, 0, 65535,
+5280, 5280, 5280, 5280, 5280, 5280, 5280, 5280, 5280, 4356, 4356, 5280, 5280, 4356, 5280, 5280,
+5280, 5280, 5280, 5280, 5280, 5280, 5280, 5280, 5280, 5280, 5280, 5280, 5280, 5280, 5280, 5280,
+4356, 5280, 5544, 5280, 5280, 5280, 5280, 5280, 5280, 5280, 5280, 5280, 5676, 5808, 5280, 5280,
+5940, 6072, 6072, 6072, 6072, 6072, 6072, 6072, 6072, 6072, 6204, 5280, 5280, 5280, 5280, 5280,
+5280, 5280, 5280, 5280, 5280, 5280, 5280, 5280, 5280, 5280, 5280, 5280, 5280, 5280, 5280, 5280,
+5280, 5280, 5280, 5280, 5280, 5280, 5280, 5280, 5280, 5280, 5280, 6336, 5280, 6468, 5280, 5280,
+5280, 5280, 5280, 5280, 5280, 5280, 6600, 5280, 5280, 5280, 5280, 5280, 5280, 5280, 6732, 5280,
+5280, 5280, 5280, 5280, 6864, 5280, 5280, 5280, 5280, 5280, 5280, 6996, 5280, 7128, 5280, 5280,
+5280, 3168, 5280, 0, 5280, 5280, 5280, 5280, 5280, 5280, 5280, 5280, 5280, 5412, 5412, 5280,
+5280, 5412, 5280, 5280, 5280, 5280, 5280, 5280, 5280, 5280, 5280, 5280, 5280, 5280, 5280, 5280,
+5280, 5280, 5280, 5280, 5412, 5280, 5544, 5280, 5280, 5280, 5280, 5280, 5280, 5280, 5280, 5280,
+5676, 5808, 5280, 5280, 5940, 6072, 6072, 6072, 6072, 6072, 6072, 6072, 6072, 6072, 6204, 5280,
+5280, 5280, 5280, 5280, 5280, 5280, 5280, 5280, 5280, 5280, 5280, 5280, 5280, 5280, 5280, 5280,
+5280, 5280, 5280, 5280, 5280, 5280, 5280, 5280, 5280, 5280, 5280, 5280, 5280, 5280, 5280, 6336,
+5280, 6468, 5280, 5280, 5280, 5280, 5280, 5280, 5280, 5280, 6600, 5280, 5280, 5280, 5280, 5280,
+5280, 5280, 6732, 5280, 5280, 5280, 5280, 5280, 6864, 5280, 5280, 5280, 5280, 5280, 5280, 6996,
+5280, 7128, 5280, 5280, 5280, 3300, 5280, 6, 5280, 5280, 5280, 5280, 5280, 5280, 5280, 5280,
+5280, 5412, 5412, 5280, 5280, 5412, 5280, 5280, 5280, 5280, 5280, 5280, 5280, 5280, 5280, 5280,
+5280, 5280, 5280, 5280, 5280, 5280, 5280, 5280, 5412, 5280, 5544, 5280, 5280, 5280, 5280, 5280,
+5280, 5280, 5280, 5280, 5676, 5808, 1320, 5280, 5940, 6072, 6072, 6072, 6072, 6072, 6072, 6072,
+6072, 6072, 6204, 5280, 5280, 5280, 5280, 5280, 5280, 5280, 5280, 5280, 5280, 1452, 5280, 5280,
+5280, 5280, 5280, 5280, 5280, 5280, 5280, 5280, 5280, 5280, 5280, 5280, 5280, 5280, 5280, 5280,
+5280, 5280, 5280, 6336, 5280, 6468, 5280, 5280, 5280, 5280, 5280, 5280, 5280, 1452, 6600, 5280,
+5280, 5280, 5280, 5280, 5280, 5280, 6732, 5280, 5280, 5280, 5280, 5280, 6864, 5280, 5280, 5280,
+5280, 5280, 5280, 6996, 5280, 7128, 5280, 5280, 5280, 3432, 5280, 10, 5280, 5280, 5280, 5280,
+5280, 5280, 5280, 5280, 5280, 5412, 5412, 5280, 5280, 5412, 5280, 5280, 5280, 5280, 5280, 5280,
+5280, 5280, 5280, 5280, 5280, 5280, 5280, 5280, 5280, 5280, 5280, 5280, 5412, 5280, 5544, 5280,
+5280, 5280, 5280, 5280, 5280, 5280, 5280, 5280, 5676, 5808, 1320, 5280, 3564, 3564, 3564, 3564,
+3564, 3564, 3564, 3564, 3564, 3564, 6204, 5280, 5280, 5280, 5280, 5280, 5280, 5280, 5280, 5280,
+5280, 1452, 5280, 5280, 5280, 5280, 5280, 5280, 5280, 5280, 5280, 5280, 5280, 5280, 5280, 5280,
+5280, 5280, 5280, 5280, 5280, 5280, 5280, 6336, 5280, 6468, 5280, 5280, 5280, 5280, 5280, 5280,
+5280, 1452, 6600, 5280, 5280, 5280, 5280, 5280, 5280, 5280, 6732, 5280, 5280, 5280, 5280, 5280,
+6864, 5280, 5280, 5280, 5280, 5280, 5280, 6996, 5280, 7128, 5280, 5280, 5280, 3564, 5280, 10,
+5280, 5280, 5280, 5280, 5280, 5280, 5280, 5280, 5280, 5412, 5412, 5280, 5280, 5412, 5280, 5280,
+5280, 5280, 5280, 5280, 5280, 5280, 5280, 5280, 5280, 5280, 5280, 5280, 5280, 5280, 5280, 5280,
+5412, 5280, 5544, 5280, 5280, 5280, 5280, 5280, 5280, 5280, 5280, 5280, 5676, 5808, 5280, 5280,
+5940, 6072, 6072, 6072, 6072, 6072, 6072, 6072, 6072, 6072, 6204, 5280, 5280, 5280, 5280, 5280,
+5280, 5280, 5280, 5280, 5280, 5280, 5280, 5280, 5280, 5280, 5280, 5280, 5280, 5280, 5280, 5280,
+5280, 5280, 5280, 5280, 5280, 5280, 5280, 5280, 5280, 5280, 5280, 6336, 5280, 6468, 5280, 5280,
+5280, 5280, 5280, 5280, 5280, 5280, 6600, 5280, 5280, 5280, 5280, 5280, 5280, 5280, 6732, 5280,
+5280, 5280, 5280, 5280, 6864, 5280, 5280, 5280, 5280, 5280, 5280, 6996, 5280, 7128, 5280, 5280,
+5280, 3696, 5280, 5, 5280, 5280, 5280, 5280, 5280, 5280, 5280, 5280, 5280, 5412, 5412, 5280,
+5280, 5412, 5280, 5280, 5280, 5280, 5280, 5280, 5280, 5280, 5280, 5280, 5280, 5280, 5280, 5280,
+5280, 5280, 5280, 5280, 5412, 5280, 5544, 5280, 5280, 5280, 5280, 5280, 5280, 5280, 5280, 5280,
+5676, 5808, 5280, 5280, 5940, 6072, 6072, 6072, 6072, 6072, 6072, 6072, 6072, 6072, 6204, 5280,
+5280, 5280, 5280, 5280, 5280, 5280, 5280, 5280, 5280, 5280, 5280, 5280, 5280, 5280, 5280, 5280,
+5280, 5280, 5280, 5280, 5280, 5280, 5280, 5280, 5280, 5280, 5280, 5280, 5280, 5280, 5280, 6336,
+5280, 6468, 5280, 5280, 5280, 5280, 5280, 5280, 5280, 5280, 6600, 5280, 5280, 5280, 5280, 5280,
+5280, 5280, 6732, 5280, 5280, 5280, 5280, 5280, 6864, 5280, 5280, 5280, 5280, 5280, 5280, 6996,
+5280, 7128, 5280, 5280, 5280, 3828, 5280, 3, 5280, 5280, 5280, 5280, 5280, 5280, 5280, 5280,
+5280, 5412, 5412, 5280, 5280, 5412, 5280, 5280, 5280, 5280, 5280, 5280, 5280, 5280, 5280, 5280,
+5280, 5280, 5280, 5280, 5280, 5280, 5280, 5280, 5412, 5280, 5544, 5280, 5280, 5280, 5280, 5280,
+5280, 5280, 5280, 5280, 5676, 5808, 5280, 5280, 5940, 6072, 6072, 6072, 6072, 6072, 6072, 6072,
+6072, 6072, 6204, 5280, 5280, 5280, 5280, 5280, 5280, 5280, 5280, 5280, 5280, 5280, 5280, 5280,
+5280, 5280, 5280, 5280, 5280, 5280, 5280, 5280, 5280, 5280, 5280, 5280, 5280, 5280, 5280, 5280,
+5280, 5280, 5280, 6336, 5280, 6468, 5280, 5280, 5280, 5280, 5280, 5280, 5280, 5280, 6600, 5280,
+5280, 5280, 5280, 5280, 5280, 5280, 6732, 5280, 5280, 5280, 5280, 5280, 6864, 5280, 5280, 5280,
+5280, 5280, 5280, 6996, 5280, 7128, 5280, 5280, 5280, 3960, 5280, 4, 5280, 5280, 5280, 5280,
+5280, 5280, 5280, 5280, 5280, 5412, 5412, 5280, 5280, 5412, 5280, 5280, 5280, 5280, 5280, 5280,
+5280, 5280, 5280, 5280, 5280, 5280, 5280, 5280, 5280, 5280, 5280, 5280, 5412, 5280, 5544, 5280,
+5280, 5280, 5280, 5280, 5280, 5280, 5280, 5280, 5676, 5808, 5280, 5280, 5940, 6072, 6072, 6072,
+6072, 6072, 6072, 6072, 6072, 6072, 6204, 5280, 5280, 5280, 5280, 5280, 5280, 5280, 5280, 5280,
+5280, 5280, 5280, 5280, 5280, 5280, 5280, 5280, 5280, 5280, 5280, 5280, 5280, 5280, 5280, 5280,
+5280, 5280, 5280, 5280, 5280, 5280, 5280, 6336, 5280, 6468, 5280, 5280, 5280, 5280, 5280, 5280,
+5280, 5280, 6600, 5280, 5280, 5280, 5280, 5280, 5280, 5280, 6732, 5280, 5280, 5280, 5280, 5280,
+6864, 5280, 5280, 5280, 5280, 5280, 5280, 6996, 5280, 7128, 5280, 5280, 5280, 4092, 5280, 1,
+5280, 5280, 5280, 5280, 5280, 5280, 5280, 5280, 5280, 5412, 5412, 5280, 5280, 5412, 5280, 5280,
+5280, 5280, 5280, 5280, 5280, 5280, 5280, 5280, 5280, 5280, 5280, 5280, 5280, 5280, 5280, 5280,
+5412, 5280, 5544, 5280, 5280, 5280, 5280, 5280, 5280, 5280, 5280, 5280, 5676, 5808, 5280, 5280,
+5940, 6072, 6072, 6072, 6072, 6072, 6072, 6072, 6072, 6072, 6204, 5280, 5280, 5280, 5280, 5280,
+5280, 5280, 5280, 5280, 5280, 5280, 5280, 5280, 5280, 5280, 5280, 5280, 5280, 5280, 5280, 5280,
+5280, 5280, 5280, 5280, 5280, 5280, 5280, 5280, 5280, 5280, 5280, 6336, 5280, 6468, 5280, 5280,
+5280, 5280, 5280, 5280, 5280, 5280, 6600, 5280, 5280, 5280, 5280, 5280, 5280, 5280, 6732, 5280,
+5280, 5280, 5280, 5280, 6864, 5280, 5280, 5280, 5280, 5280, 5280, 6996, 5280, 7128, 5280, 5280,
+5280, 4224, 5280, 2, 5280, 5280, 5280, 5280, 5280, 5280, 5280, 5280, 5280, 4356, 4356, 5280,
+5280, 4356, 5280, 5280, 5280, 5280, 5280, 5280, 5280, 5280, 5280, 5280, 5280, 5280, 5280, 5280,
+5280, 5280, 5280, 5280, 4356, 5280, 5544, 5280, 5280, 5280, 5280, 5280, 5280, 5280, 5280, 5280,
+5676, 5808, 5280, 5280, 5940, 6072, 6072, 6072, 6072, 6072, 6072, 6072, 6072, 6072, 6204, 5280,
+5280, 5280, 5280, 5280, 5280, 5280, 5280, 5280, 5280, 5280, 5280, 5280, 5280, 5280, 5280, 5280,
+5280, 5280, 5280, 5280, 5280, 5280, 5280, 5280, 5280, 5280, 5280, 5280, 5280, 5280, 5280, 6336,
+5280, 6468, 5280, 5280, 5280, 5280, 5280, 5280, 5280, 5280, 6600, 5280, 5280, 5280, 5280, 5280,
+5280, 5280, 6732, 5280, 5280, 5280, 5280, 5280, 6864, 5280, 5280, 5280, 5280, 5280, 5280, 6996,
+5280, 7128, 5280, 5280, 5280, 4356, 5280, 0, 5280, 5280, 5280, 5280, 5280, 5280, 5280, 5280,
+5280, 5412, 5412, 5280, 5280, 5412, 5280, 5280, 5280, 5280, 5280, 5280, 5280, 5280, 5280, 5280,
+5280, 5280, 5280, 5280, 5280, 5280, 5280, 5280, 5412, 5280, 5544, 5280, 5280, 5280, 5280, 5280,
+5280, 5280, 5280, 5280, 5676, 5808, 5280, 5280, 5940, 6072, 6072, 6072, 6072, 6072, 6072, 6072,
+6072, 6072, 6204, 5280, 5280, 5280, 5280, 5280, 5280, 5280, 5280, 5280, 5280, 5280, 5280, 5280,
+5280, 5280, 5280, 5280, 5280, 5280, 5280, 5280, 5280, 5280, 5280, 5280, 5280, 5280, 5280, 5280,
+5280, 5280, 5280, 6336, 5280, 6468, 5280, 5280, 5280, 5280, 5280, 5280, 5280, 5280, 6600, 5280,
+5280, 5280, 5280, 5280, 5280, 5280, 6732, 5280, 5280, 5280, 5280, 5280, 6864, 5280, 5280, 5280,
+5280, 5280, 5280, 6996, 5280, 7128, 5280, 5280, 5280, 4488, 5280, 11, 5280, 5280, 5280, 5280,
+5280, 5280, 5280, 5280, 5280, 5412, 5412, 5280, 5280, 5412, 5280, 5280, 5280, 5280, 5280, 5280,
+5280, 5280, 5280, 5280, 5280, 5280, 5280, 5280, 5280, 5280, 5280, 5280, 5412, 5280, 5544, 5280,
+5280, 5280, 5280, 5280, 5280, 5280, 5280, 5280, 5676, 5808, 5280, 5280, 4620, 4620, 4620, 4620,
+4620, 4620, 4620, 4620, 4620, 4620, 6204, 5280, 5280, 5280, 5280, 5280, 5280, 5280, 5280, 5280,
+5280, 1452, 5280, 5280, 5280, 5280, 5280, 5280, 5280, 5280, 5280, 5280, 5280, 5280, 5280, 5280,
+5280, 5280, 5280, 5280, 5280, 5280, 5280, 6336, 5280, 6468, 5280, 5280, 5280, 5280, 5280, 5280,
+5280, 1452, 6600, 5280, 5280, 5280, 5280, 5280, 5280, 5280, 6732, 5280, 5280, 5280, 5280, 5280,
+6864, 5280, 5280, 5280, 5280, 5280, 5280, 6996, 5280, 7128, 5280, 5280, 5280, 4620, 5280, 10,
+5280, 5280, 5280, 5280, 5280, 5280, 5280, 5280, 5280, 5412, 5412, 5280, 5280, 5412, 5280, 5280,
+5280, 5280, 5280, 5280, 5280, 5280, 5280, 5280, 5280, 5280, 5280, 5280, 5280, 5280, 5280, 5280,
+5412, 5280, 5544, 5280, 5280, 5280, 5280, 5280, 5280, 5280, 5280, 5280, 5676, 5808, 5280, 5280,
+4752, 4752, 4752, 4752, 4752, 4752, 4752, 4752, 4752, 4752, 6204, 5280, 5280, 5280, 5280, 5280,
+5280, 5280, 5280, 5280, 5280, 5280, 5280, 5280, 5280, 5280, 5280, 5280, 5280, 5280, 5280, 5280,
+5280, 5280, 5280, 5280, 5280, 5280, 5280, 5280, 5280, 5280, 5280, 6336, 5280, 6468, 5280, 5280,
+5280, 5280, 5280, 5280, 5280, 5280, 6600, 5280, 5280, 5280, 5280, 5280, 5280, 5280, 6732, 5280,
+5280, 5280, 5280, 5280, 6864, 5280, 5280, 5280, 5280, 5280, 5280, 6996, 5280, 7128, 5280, 5280,
+5280, 4752, 5280, 10, 5280, 5280, 5280, 5280, 5280, 5280, 5280, 5280, 5280, 5412, 5412, 5280,
+5280, 5412, 5280, 5280, 5280, 5280, 5280, 5280, 5280, 5280, 5280, 5280, 5280, 5280, 5280, 5280,
+5280, 5280, 5280, 5280, 5412, 5280, 5544, 5280, 5280, 5280, 5280, 5280, 5280, 5280, 5280, 5280,
+5676, 5808, 5280, 5280, 5940, 6072, 6072, 6072, 6072, 6072, 6072, 6072, 6072, 6072, 6204, 5280,
+5280, 5280, 5280, 5280, 5280, 5280, 5280, 5280, 5280, 5280, 5280, 5280, 5280, 5280, 5280, 5280,
+5280, 5280, 5280, 5280, 5280, 5280, 5280, 5280, 5280, 5280, 5280, 5280, 5280, 5280, 5280, 6336,
+5280, 6468, 5280, 5280, 5280, 5280, 5280, 5280, 5280, 5280, 6600, 5280, 5280, 5280, 5280, 5280,
+5280, 5280, 6732, 5280, 5280, 5280, 5280, 5280, 6864, 5280, 5280, 5280, 5280, 5280, 5280, 6996,
+5280, 7128, 5280, 5280, 5280, 4884, 5280, 9, 5280, 5280, 5280, 5280, 5280, 5280, 5280, 5280,
+5280, 5412, 5412, 5280, 5280, 5412, 5280, 5280, 5280, 5280, 5280, 5280, 5280, 5280, 5280, 5280,
+5280, 5280, 5280, 5280, 5280, 5280, 5280, 5280, 5412, 5280, 5544, 5280, 5280, 5280, 5280, 5280,
+5280, 5280, 5280, 5280, 5676, 5808, 5280, 5280, 5940, 6072, 6072, 6072, 6072, 6072, 6072, 6072,
+6072, 6072, 6204, 5280, 5280, 5280, 5280, 5280, 5280, 5280, 5280, 5280, 5280, 5280, 5280, 5280,
+5280, 5280, 5280, 5280, 5280, 5280, 5280, 5280, 5280, 5280, 5280, 5280, 5280, 5280, 5280, 5280,
+5280, 5280, 5280, 6336, 5280, 6468, 5280, 5280, 5280, 5280, 5280, 5280, 5280, 5280, 6600, 5280,
+5280, 5280, 5280, 5280, 5280, 5280, 6732, 5280, 5280, 5280, 5280, 5280, 6864, 5280, 5280, 5280,
+5280, 5280, 5280, 6996, 5280, 7128, 5280, 5280, 5280, 5016, 5280, 7, 5280, 5280, 5280, 5280,
+5280, 5280, 5280, 5280, 5280, 5412, 5412, 5280, 5280, 5412, 5280, 5280, 5280, 5280, 5280, 5280,
+5280, 5280, 5280, 5280, 5280, 5280, 5280, 5280, 5280, 5280, 5280, 5280, 5412, 5280, 5544, 5280,
+5280, 5280, 5280, 5280, 5280, 5280, 5280, 5280, 5676, 5808, 5280, 5280, 5940, 6072, 6072, 6072,
+6072, 6072, 6072, 6072, 6072, 6072, 6204, 5280, 5280, 5280, 5280, 5280, 5280, 5280, 5280, 5280,
+5280, 5280, 5280, 5280, 5280, 5280, 5280, 5280, 5280, 5280, 5280, 5280, 5280, 5280, 5280, 5280,
+5280, 5280, 5280, 5280, 5280, 5280, 5280, 6336, 5280, 6468, 5280, 5280, 5280, 5280, 5280, 5280,
+5280, 5280, 6600, 5280, 5280, 5280, 5280, 5280, 5280, 5280, 6732, 5280, 5280, 5280, 5280, 5280,
+6864, 5280, 5280, 5280, 5280, 5280, 5280, 6996, 5280, 7128, 5280, 5280, 5280, 5148, 5280, 8,
+0, 0, 0, 0, 0, 0, 0, 0, 0, 5412, 5412, 0, 0, 5412, 0, 0,
+0, 0, 0, 0, 0, 0, 0, 0, 0, 0, 0, 0, 0, 0, 0, 0,
+5412, 0, 5544, 0, 0, 0, 0, 0, 0, 0, 0, 0, 5676, 5808, 0, 0,
+5940, 6072, 6072, 6072, 6072, 6072, 6072, 6072, 6072, 6072, 6204, 0, 0, 0, 0, 0,
+0, 0, 0, 0, 0, 0, 0, 0, 0, 0, 0, 0, 0, 0, 0, 0,
+0, 0, 0, 0, 0, 0, 0, 0, 0, 0, 0, 6336, 0, 6468, 0, 0,
+0, 0, 0, 0, 0, 0, 6600, 0, 0, 0, 0, 0, 0, 0, 6732, 0,
+0, 0, 0, 0, 6864, 0, 0, 0, 0, 0, 0, 6996, 0, 7128, 0, 0,
+0, 0, 0, 65535, 5280, 5280, 5280, 5280, 5280, 5280, 5280, 5280, 5280, 4356, 4356, 5280,
+5280, 4356, 5280, 5280, 5280, 5280, 5280, 5280, 5280, 5280, 5280, 5280, 5280, 5280, 5280, 5280,
+5280, 5280, 5280, 5280, 4356, 5280, 5544, 5280, 5280, 5280, 5280, 5280, 5280, 5280, 5280, 5280,
+5676, 5808, 5280, 5280, 5940, 6072, 6072, 6072, 6072, 6072, 6072, 6072, 6072, 6072, 6204, 5280,
+5280, 5280, 5280, 5280, 5280, 5280, 5280, 5280, 5280, 5280, 5280, 5280, 5280, 5280, 5280, 5280,
+5280, 5280, 5280, 5280, 5280, 5280, 5280, 5280, 5280, 5280, 5280, 5280, 5280, 5280, 5280, 6336,
+5280, 6468, 5280, 5280, 5280, 5280, 5280, 5280, 5280, 5280, 6600, 5280, 5280, 5280, 5280, 5280,
+5280, 5280, 6732, 5280, 5280, 5280, 5280, 5280, 6864, 5280, 5280, 5280, 5280, 5280, 5280, 6996,
+5280, 7128, 5280, 5280, 5280, 3168, 5280, 0, 0, 0, 0, 0, 0, 0, 0, 0,
+0, 0, 0, 0, 0, 0, 0, 0, 0, 0, 0, 0, 0, 0, 0, 0,
+0, 0, 0, 0, 0, 0, 0, 0, 1056, 1056, 4488, 1056, 1056, 1056, 1056, 1056,
+1056, 1056, 1056, 1056, 1056, 1056, 1056, 1056, 1056, 1056, 1056, 1056, 1056, 1056, 1056, 1056,
+1056, 1056, 1056, 1056, 1056, 1056, 1056, 1056, 1056, 1056, 1056, 1056, 1056, 1056, 1056, 1056,
+1056, 1056, 1056, 1056, 1056, 1056, 1056, 1056, 1056, 1056, 1056, 1056, 1056, 1056, 1056, 1056,
+1056, 1056, 1056, 1056, 1188, 1056, 1056, 1056, 1056, 1056, 1056, 1056, 1056, 1056, 1056, 1056,
+1056, 1056, 1056, 1056, 1056, 1056, 1056, 1056, 1056, 1056, 1056, 1056, 1056, 1056, 1056, 1056,
+1056, 1056, 1056, 1056, 1056, 1056, 1056, 1056, 1056, 396, 0, 65535, 5280, 5280, 5280, 5280,
+5280, 5280, 5280, 5280, 5280, 5412, 5412, 5280, 5280, 5412, 5280, 5280, 5280, 5280, 5280, 5280,
+5280, 5280, 5280, 5280, 5280, 5280, 5280, 5280, 5280, 5280, 5280, 5280, 5412, 5280, 5544, 5280,
+5280, 5280, 5280, 5280, 5280, 5280, 5280, 5280, 5676, 5808, 5280, 5280, 5940, 6072, 6072, 6072,
+6072, 6072, 6072, 6072, 6072, 6072, 6204, 5280, 5280, 5280, 5280, 5280, 5280, 5280, 5280, 5280,
+5280, 5280, 5280, 5280, 5280, 5280, 5280, 5280, 5280, 5280, 5280, 5280, 5280, 5280, 5280, 5280,
+5280, 5280, 5280, 5280, 5280, 5280, 5280, 6336, 5280, 6468, 5280, 5280, 5280, 5280, 5280, 5280,
+5280, 5280, 6600, 5280, 5280, 5280, 5280, 5280, 5280, 5280, 6732, 5280, 5280, 5280, 5280, 5280,
+6864, 5280, 5280, 5280, 5280, 5280, 5280, 6996, 5280, 7128, 5280, 5280, 5280, 3300, 5280, 6,
+0, 0, 0, 0, 0, 0, 0, 0, 0, 0, 0, 0, 0, 0, 0, 0,
+0, 0, 0, 0, 0, 0, 0, 0, 0, 0, 0, 0, 0, 0, 0, 0,
+0, 0, 0, 0, 0, 0, 0, 0, 0, 0, 0, 0, 0, 0, 0, 0,
+3432, 3564, 3564, 3564, 3564, 3564, 3564, 3564, 3564, 3564, 0, 0, 0, 0, 0, 0,
+0, 0, 0, 0, 0, 0, 0, 0, 0, 0, 0, 0, 0, 0, 0, 0,
+0, 0, 0, 0, 0, 0, 0, 0, 0, 0, 0, 0, 0, 0, 0, 0,
+0, 0, 0, 0, 0, 0, 0, 0, 0, 0, 0, 0, 0, 0, 0, 0,
+0, 0, 0, 0, 0, 0, 0, 0, 0, 0, 0, 0, 0, 0, 0, 0,
+0, 528, 0, 65535, 5280, 5280, 5280, 5280, 5280, 5280, 5280, 5280, 5280, 5412, 5412, 5280,
+5280, 5412, 5280, 5280, 5280, 5280, 5280, 5280, 5280, 5280, 5280, 5280, 5280, 5280, 5280, 5280,
+5280, 5280, 5280, 5280, 5412, 5280, 5544, 5280, 5280, 5280, 5280, 5280, 5280, 5280, 5280, 5280,
+5676, 5808, 1320, 5280, 5940, 6072, 6072, 6072, 6072, 6072, 6072, 6072, 6072, 6072, 6204, 5280,
+5280, 5280, 5280, 5280, 5280, 5280, 5280, 5280, 5280, 1452, 5280, 5280, 5280, 5280, 5280, 5280,
+5280, 5280, 5280, 5280, 5280, 5280, 5280, 5280, 5280, 5280, 5280, 5280, 5280, 5280, 5280, 6336,
+5280, 6468, 5280, 5280, 5280, 5280, 5280, 5280, 5280, 1452, 6600, 5280, 5280, 5280, 5280, 5280,
+5280, 5280, 6732, 5280, 5280, 5280, 5280, 5280, 6864, 5280, 5280, 5280, 5280, 5280, 5280, 6996,
+5280, 7128, 5280, 5280, 5280, 3432, 5280, 10, 5280, 5280, 5280, 5280, 5280, 5280, 5280, 5280,
+5280, 5412, 5412, 5280, 5280, 5412, 5280, 5280, 5280, 5280, 5280, 5280, 5280, 5280, 5280, 5280,
+5280, 5280, 5280, 5280, 5280, 5280, 5280, 5280, 5412, 5280, 5544, 5280, 5280, 5280, 5280, 5280,
+5280, 5280, 5280, 5280, 5676, 5808, 1320, 5280, 3564, 3564, 3564, 3564, 3564, 3564, 3564, 3564,
+3564, 3564, 6204, 5280, 5280, 5280, 5280, 5280, 5280, 5280, 5280, 5280, 5280, 1452, 5280, 5280,
+5280, 5280, 5280, 5280, 5280, 5280, 5280, 5280, 5280, 5280, 5280, 5280, 5280, 5280, 5280, 5280,
+5280, 5280, 5280, 6336, 5280, 6468, 5280, 5280, 5280, 5280, 5280, 5280, 5280, 1452, 6600, 5280,
+5280, 5280, 5280, 5280, 5280, 5280, 6732, 5280, 5280, 5280, 5280, 5280, 6864, 5280, 5280, 5280,
+5280, 5280, 5280, 6996, 5280, 7128, 5280, 5280, 5280, 3564, 5280, 10, 5280, 5280, 5280, 5280,
+5280, 5280, 5280, 5280, 5280, 5412, 5412, 5280, 5280, 5412, 5280, 5280, 5280, 5280, 5280, 5280,
+5280, 5280, 5280, 5280, 5280, 5280, 5280, 5280, 5280, 5280, 5280, 5280, 5412, 5280, 5544, 5280,
+5280, 5280, 5280, 5280, 5280, 5280, 5280, 5280, 5676, 5808, 5280, 5280, 5940, 6072, 6072, 6072,
+6072, 6072, 6072, 6072, 6072, 6072, 6204, 5280, 5280, 5280, 5280, 5280, 5280, 5280, 5280, 5280,
+5280, 5280, 5280, 5280, 5280, 5280, 5280, 5280, 5280, 5280, 5280, 5280, 5280, 5280, 5280, 5280,
+5280, 5280, 5280, 5280, 5280, 5280, 5280, 6336, 5280, 6468, 5280, 5280, 5280, 5280, 5280, 5280,
+5280, 5280, 6600, 5280, 5280, 5280, 5280, 5280, 5280, 5280, 6732, 5280, 5280, 5280, 5280, 5280,
+6864, 5280, 5280, 5280, 5280, 5280, 5280, 6996, 5280, 7128, 5280, 5280, 5280, 3696, 5280, 5,
+5280, 5280, 5280, 5280, 5280, 5280, 5280, 5280, 5280, 5412, 5412, 5280, 5280, 5412, 5280, 5280,
+5280, 5280, 5280, 5280, 5280, 5280, 5280, 5280, 5280, 5280, 5280, 5280, 5280, 5280, 5280, 5280,
+5412, 5280, 5544, 5280, 5280, 5280, 5280, 5280, 5280, 5280, 5280, 5280, 5676, 5808, 5280, 5280,
+5940, 6072, 6072, 6072, 6072, 6072, 6072, 6072, 6072, 6072, 6204, 5280, 5280, 5280, 5280, 5280,
+5280, 5280, 5280, 5280, 5280, 5280, 5280, 5280, 5280, 5280, 5280, 5280, 5280, 5280, 5280, 5280,
+5280, 5280, 5280, 5280, 5280, 5280, 5280, 5280, 5280, 5280, 5280, 6336, 5280, 6468, 5280, 5280,
+5280, 5280, 5280, 5280, 5280, 5280, 6600, 5280, 5280, 5280, 5280, 5280, 5280, 5280, 6732, 5280,
+5280, 5280, 5280, 5280, 6864, 5280, 5280, 5280, 5280, 5280, 5280, 6996, 5280, 7128, 5280, 5280,
+5280, 3828, 5280, 3, 5280, 5280, 5280, 5280, 5280, 5280, 5280, 5280, 5280, 5412, 5412, 5280,
+5280, 5412, 5280, 5280, 5280, 5280, 5280, 5280, 5280, 5280, 5280, 5280, 5280, 5280, 5280, 5280,
+5280, 5280, 5280, 5280, 5412, 5280, 5544, 5280, 5280, 5280, 5280, 5280, 5280, 5280, 5280, 5280,
+5676, 5808, 5280, 5280, 5940, 6072, 6072, 6072, 6072, 6072, 6072, 6072, 6072, 6072, 6204, 5280,
+5280, 5280, 5280, 5280, 5280, 5280, 5280, 5280, 5280, 5280, 5280, 5280, 5280, 5280, 5280, 5280,
+5280, 5280, 5280, 5280, 5280, 5280, 5280, 5280, 5280, 5280, 5280, 5280, 5280, 5280, 5280, 6336,
+5280, 6468, 5280, 5280, 5280, 5280, 5280, 5280, 5280, 5280, 6600, 5280, 5280, 5280, 5280, 5280,
+5280, 5280, 6732, 5280, 5280, 5280, 5280, 5280, 6864, 5280, 5280, 5280, 5280, 5280, 5280, 6996,
+5280, 7128, 5280, 5280, 5280, 3960, 5280, 4, 0, 0, 0, 0, 0, 0, 0, 0,
+0, 0, 0, 0, 0, 0, 0, 0, 0, 0, 0, 0, 0, 0, 0, 0,
+0, 0, 0, 0, 0, 0, 0, 0, 0, 0, 0, 0, 0, 0, 0, 0,
+0, 0, 0, 0, 0, 0, 0, 0, 0, 0, 0, 0, 0, 0, 0, 0,
+0, 0, 0, 0, 0, 0, 0, 0, 0, 0, 0, 0, 0, 0, 0, 0,
+0, 0, 0, 0, 0, 0, 0, 0, 0, 0, 0, 0, 0, 0, 0, 0,
+0, 0, 0, 0, 0, 0, 0, 0, 0, 1584, 0, 0, 0, 0, 0, 0,
+0, 0, 0, 0, 0, 0, 0, 0, 0, 0, 0, 0, 0, 0, 0, 0,
+0, 0, 0, 0, 0, 0, 0, 0, 0, 660, 0, 65535, 0, 0, 0, 0,
+0, 0, 0, 0, 0, 0, 0, 0, 0, 0, 0, 0, 0, 0, 0, 0,
+0, 0, 0, 0, 0, 0, 0, 0, 0, 0, 0, 0, 0, 0, 0, 0,
+0, 0, 0, 0, 0, 0, 0, 0, 0, 0, 0, 0, 0, 0, 0, 0,
+0, 0, 0, 0, 0, 0, 0, 0, 0, 0, 0, 0, 0, 0, 0, 0,
+0, 0, 0, 0, 0, 0, 0, 0, 0, 0, 0, 0, 0, 0, 0, 0,
+0, 0, 0, 0, 0, 0, 0, 0, 0, 0, 0, 0, 0, 0, 0, 0,
+0, 0, 0, 0, 0, 0, 0, 0, 0, 0, 0, 0, 0, 0, 0, 0,
+0, 1716, 0, 0, 0, 0, 0, 0, 0, 0, 0, 0, 0, 792, 0, 65535,
+0, 0, 0, 0, 0, 0, 0, 0, 0, 0, 0, 0, 0, 0, 0, 0,
+0, 0, 0, 0, 0, 0, 0, 0, 0, 0, 0, 0, 0, 0, 0, 0,
+0, 0, 0, 0, 0, 0, 0, 0, 0, 0, 0, 0, 0, 0, 0, 0,
+0, 0, 0, 0, 0, 0, 0, 0, 0, 0, 0, 0, 0, 0, 0, 0,
+0, 0, 0, 0, 0, 0, 0, 0, 0, 0, 0, 0, 0, 0, 0, 0,
+0, 0, 0, 0, 0, 0, 0, 0, 0, 0, 0, 0, 0, 0, 0, 0,
+0, 0, 0, 0, 0, 0, 0, 0, 0, 0, 0, 0, 0, 0, 0, 0,
+0, 0, 1848, 0, 0, 0, 0, 0, 0, 0, 0, 0, 0, 0, 0, 0,
+0, 924, 0, 65535, 5280, 5280, 5280, 5280, 5280, 5280, 5280, 5280, 5280, 5412, 5412, 5280,
+5280, 5412, 5280, 5280, 5280, 5280, 5280, 5280, 5280, 5280, 5280, 5280, 5280, 5280, 5280, 5280,
+5280, 5280, 5280, 5280, 5412, 5280, 5544, 5280, 5280, 5280, 5280, 5280, 5280, 5280, 5280, 5280,
+5676, 5808, 5280, 5280, 5940, 6072, 6072, 6072, 6072, 6072, 6072, 6072, 6072, 6072, 6204, 5280,
+5280, 5280, 5280, 5280, 5280, 5280, 5280, 5280, 5280, 5280, 5280, 5280, 5280, 5280, 5280, 5280,
+5280, 5280, 5280, 5280, 5280, 5280, 5280, 5280, 5280, 5280, 5280, 5280, 5280, 5280, 5280, 6336,
+5280, 6468, 5280, 5280, 5280, 5280, 5280, 5280, 5280, 5280, 6600, 5280, 5280, 5280, 5280, 5280,
+5280, 5280, 6732, 5280, 5280, 5280, 5280, 5280, 6864, 5280, 5280, 5280, 5280, 5280, 5280, 6996,
+5280, 7128, 5280, 5280, 5280, 4092, 5280, 1, 5280, 5280, 5280, 5280, 5280, 5280, 5280, 5280,
+5280, 5412, 5412, 5280, 5280, 5412, 5280, 5280, 5280, 5280, 5280, 5280, 5280, 5280, 5280, 5280,
+5280, 5280, 5280, 5280, 5280, 5280, 5280, 5280, 5412, 5280, 5544, 5280, 5280, 5280, 5280, 5280,
+5280, 5280, 5280, 5280, 5676, 5808, 5280, 5280, 5940, 6072, 6072, 6072, 6072, 6072, 6072, 6072,
+6072, 6072, 6204, 5280, 5280, 5280, 5280, 5280, 5280, 5280, 5280, 5280, 5280, 5280, 5280, 5280,
+5280, 5280, 5280, 5280, 5280, 5280, 5280, 5280, 5280, 5280, 5280, 5280, 5280, 5280, 5280, 5280,
+5280, 5280, 5280, 6336, 5280, 6468, 5280, 5280, 5280, 5280, 5280, 5280, 5280, 5280, 6600, 5280,
+5280, 5280, 5280, 5280, 5280, 5280, 6732, 5280, 5280, 5280, 5280, 5280, 6864, 5280, 5280, 5280,
+5280, 5280, 5280, 6996, 5280, 7128, 5280, 5280, 5280, 4224, 5280, 2, ],
         },
     ],
 };

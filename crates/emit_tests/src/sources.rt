@@ -47,7 +47,7 @@ fn actions_in_c(rt: HostRuntime) -> Result<(), Fail> {
     assert!(rt;
         source.contains("static const uint32_t lex_actions[6] = {\n0, 5, 0, 1, 0, 0, };\n")
     );
-    assert!(rt; source.contains("{lex_blocks_1, lex_pages_1, lex_cells_1, "));
+    assert!(rt; source.contains("{lex_blocks_1, lex_pages_1, "));
     Ok(())
 }
 

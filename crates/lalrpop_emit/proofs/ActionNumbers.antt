@@ -3,7 +3,7 @@ use Rattle.std.proofs.Common.{◌≡◌, ℕ, inl, inr, zero, suc, ◌+◌, ◌<
 use Rattle.std.specs.Prelude.{slice_get, Some}
 use Rattle.std.specs.List.{All, range_with_len}
 use Rattle.std.proofs.Math.Seq.{drop-append_seam}
-use Rattle.std.proofs.lemmas.List.{length-map, map-append, take_more}
+use Rattle.std.proofs.lemmas.List.{length-map, map-append, nil_from_length, take_more}
 use Rattle.std.proofs.lemmas.List.Elements.{All-push}
 use Rattle.std.proofs.lemmas.List.FromFn.{length-map-range_with_len, get_or-map-range_with_len, map-range_with_len_more, take-map-range_with_len}
 use Rattle.std.proofs.lemmas.Option.{slice_get_within, slice_get-get_or}
@@ -110,9 +110,21 @@ few_of_first r k within =
     let same = take-map-range_with_len (actions_of r.actions) 0 (length r.names) k within in
     subst (λ (rules : List (List Action)). length (action_numbers rules) ≤ length (action_numbers (actions_of_rules r))) same (count_front k (actions_of_rules r))
 
+count_least : (rules : List (List Action)) → length rules ≤ length (action_numbers rules)
+count_least [] = omega arith
+count_least (acts ∷ rules) = omega (arith, count acts rules, count_least rules)
+
+-- where there are no more numbers than rules, no rule has an action
+pub none_of_each : (rules : List (List Action)) (i : ℕ) (acts : List Action) → length (action_numbers rules) ≤ length rules → slice_get rules i ≡ Some acts → acts ≡ []
+none_of_each [] i acts few at = absurd (omega (arith, slice_get_within [] i acts at))
+none_of_each (first ∷ rules) zero acts few at =
+    let same : first ≡ acts = cc in
+    sym same ∙ nil_from_length first (omega (arith, count first rules, count_least rules, few))
+none_of_each (first ∷ rules) (suc i) acts few at = none_of_each rules i acts (omega (arith, count first rules, few)) at
+
 -- ---- where they stand
 
-rule_at : (r : ModeRules) (i : ℕ) → i < length r.names → slice_get (actions_of_rules r) i ≡ Some (actions_of r.actions i)
+pub rule_at : (r : ModeRules) (i : ℕ) → i < length r.names → slice_get (actions_of_rules r) i ≡ Some (actions_of r.actions i)
 rule_at r i within =
     let all = length-map-range_with_len (actions_of r.actions) 0 (length r.names) in
     slice_get-get_or (actions_of_rules r) i [] (omega (arith, all))

@@ -120,7 +120,7 @@ first_of_them numbers modes place number (a ∷ acts) there is =
     }
 
 -- behind the last action stands a 0
-none_of_them : (list numbers : List ℕ) (modes place number : ℕ) (acts : List Action) → list ≡ numbers → AreActionsAt numbers modes place acts → number ≡ get_or list place number → number ≡ 0 → acts ≡ []
+pub none_of_them : (list numbers : List ℕ) (modes place number : ℕ) (acts : List Action) → list ≡ numbers → AreActionsAt numbers modes place acts → number ≡ get_or list place number → number ≡ 0 → acts ≡ []
 none_of_them list numbers modes place number [] same there is none = refl
 none_of_them list numbers modes place number (a ∷ acts) same there is none =
     let at = number_at numbers place (action_number a) (map action_number acts ++ (0 ∷ there.rest)) there.numbers_are in

@@ -4,11 +4,12 @@ use Rattle.std.specs.Prelude.{true, false, nat_lt, if◌then◌else◌}
 use Rattle.std.specs.Char.{encode_utf8}
 use Rattle.std.proofs.lemmas.Bool.{cond-true, cond-false, cases_lt}
 use Rattle.std.proofs.lemmas.List.{drop-drop}
-use Rattle.lalrpop_dense.specs.DenseTable.{TableNumbers, AreClasses, character_class}
+use Rattle.lalrpop_dense.specs.DenseTable.{TableNumbers, character_class}
 use Rattle.lalrpop_emit.specs.Internal.Characters.{IsCharacterAt}
-use Rattle.lalrpop_emit.specs.Internal.Ahead.{Standing, AreColumns, row_by, opened, led, by_class, by_within, by_bad, by_column, is_end}
-use Rattle.lalrpop_emit.specs.Internal.Ahead.Standing.{Begin, Lost, Ended, In, Again}
-use Rattle.lalrpop_emit.proofs.AheadColumns.{first_column, by_character, by_within_column, by_bad_column}
+use Rattle.lalrpop_emit.specs.Ahead.{Standing, row_by, opened, led, by_class, by_within, by_bad, by_column, is_end}
+use Rattle.lalrpop_emit.specs.Internal.Columns.{AreColumns}
+use Rattle.lalrpop_emit.specs.Ahead.Standing.{Begin, Lost, Ended, In, Again}
+use Rattle.lalrpop_emit.proofs.AheadColumns.{HasColumns, first_column, by_character, by_within_column, by_bad_column}
 use Rattle.lalrpop_emit.proofs.AheadColumns.FirstColumn.{within, character, bad}
 use Rattle.lalrpop_emit.proofs.Walks.{IsWalked, walked_start, walked_first, walked_more, character_size}
 
@@ -23,9 +24,9 @@ IsOpen t text at (In row) = IsWalked t text at row × (t.live ≤ row)
 IsOpen t text at (Again row) = IsWalked t text at row × (t.live ≤ row)
 
 -- what is known at a place of a text that begins where the token does: the next `left` bytes are the rest of a character, and the row is that behind it
-pub record IsPlace (t : TableNumbers) (text : List ℕ) (at : ℕ) (s : Standing) (columns : List ℕ) : Type 0 where
+pub record IsPlace (t : TableNumbers) (width : ℕ) (text : List ℕ) (at : ℕ) (s : Standing) (columns : List ℕ) : Type 0 where
   pub left : ℕ
-  pub columns_are : AreColumns t left (drop at text) columns
+  pub columns_are : AreColumns t width left (drop at text) columns
   pub token : IsOpen t text (at + left) s
 
 -- what holds of both answers of a test for a row's size
@@ -126,44 +127,45 @@ module _ (t : TableNumbers) (text : List ℕ) where
   pub here_of : (at c : ℕ) → IsCharacterAt (drop at text) 0 c → IsCharacterAt text at c
   here_of at c h = record { scalar = h.scalar; rest = h.rest; split = h.split }
 
+module _ (t : TableNumbers) (width : ℕ) (text : List ℕ) where
   -- what is known behind one more byte
-  place : (at left at2 : ℕ) (s s2 : Standing) (columns : List ℕ) → AreColumns t left (drop 1 (drop at text)) columns → at2 ≡ at + 1 + left → s ≡ s2 → IsOpen t text at2 s2
-      → IsPlace t text (at + 1) s columns
+  place : (at left at2 : ℕ) (s s2 : Standing) (columns : List ℕ) → AreColumns t width left (drop 1 (drop at text)) columns → at2 ≡ at + 1 + left → s ≡ s2 → IsOpen t text at2 s2
+      → IsPlace t width text (at + 1) s columns
   place at left at2 s s2 columns rest size same w = record {
     left = left;
-    columns_are = subst (λ bytes. AreColumns t left bytes columns) (drop-drop 1 at text) rest;
+    columns_are = subst (λ bytes. AreColumns t width left bytes columns) (drop-drop 1 at text) rest;
     token = subst (λ (k : ℕ). IsOpen t text k s) size (subst (IsOpen t text at2) (sym same) w);
   }
 
   -- where no token ends before the next column, what is known of the open one goes on
-  pub further_on : (at : ℕ) (s : Standing) (column : ℕ) (columns : List ℕ) → AreClasses t → IsPlace t text at s (column ∷ columns) → is_end (by_column t s column) ≡ false
-      → IsPlace t text (at + 1) (by_column t s column) columns
-  further_on at s column columns classes p open_still = elim (first_column t p.left (drop at text) column columns p.columns_are) [
+  pub further_on : (at : ℕ) (s : Standing) (column : ℕ) (columns : List ℕ) → HasColumns t width → IsPlace t width text at s (column ∷ columns) → is_end (by_column t width s column) ≡ false
+      → IsPlace t width text (at + 1) (by_column t width s column) columns
+  further_on at s column columns has p open_still = elim (first_column t width p.left (drop at text) column columns p.columns_are) [
     | within k e is rest ↦
-        let same = by_within_column t s column is in
-        place at k (at + p.left) (by_column t s column) (by_within s) columns rest (omega (arith, e)) same (within_on s (at + p.left) p.token)
+        let same = by_within_column t width s column has is in
+        place at k (at + p.left) (by_column t width s column) (by_within s) columns rest (omega (arith, e)) same (within_on t text s (at + p.left) p.token)
     | character c e here is rest ↦
-        let same = by_character t s column c classes is in
+        let same = by_character t width s column c has here.scalar is in
         let from : at + p.left ≡ at = omega (arith, e) in
-        place at (length (encode_utf8 c) - 1) (at + length (encode_utf8 c)) (by_column t s column) (by_class t (character_class t c) s) columns rest
+        place at (length (encode_utf8 c) - 1) (at + length (encode_utf8 c)) (by_column t width s column) (by_class t (character_class t c) s) columns rest
         (omega (arith, character_size c)) same
-        (class_on s at (at + length (encode_utf8 c)) c (subst (λ (k : ℕ). IsOpen t text k s) from p.token) (here_of at c here) refl (ap is_end (sym same) ∙ open_still))
+        (class_on t text s at (at + length (encode_utf8 c)) c (subst (λ (k : ℕ). IsOpen t text k s) from p.token) (here_of t text at c here) refl (ap is_end (sym same) ∙ open_still))
     | bad e none is rest ↦
-        let same = by_bad_column t s column is in
-        place at 0 (at + 1) (by_column t s column) (by_bad t s) columns rest (omega arith) same (bad_on s (at + 1))
+        let same = by_bad_column t width s column has is in
+        place at 0 (at + 1) (by_column t width s column) (by_bad t s) columns rest (omega arith) same (bad_on t text s (at + 1))
   ]
 
   -- where a token ends before the first column, the next one begins there
-  pub begins : (left : ℕ) (s : Standing) (column : ℕ) (columns : List ℕ) → AreClasses t → AreColumns t left text (column ∷ columns) → is_end (by_column t s column) ≡ true
-      → IsPlace t text 1 (by_column t s column) columns
-  begins left s column columns classes h end = elim (first_column t left text column columns h) [
-    | within k e is rest ↦ absurd (let none = ap is_end (by_within_column t s column is) ∙ within_no_end s in cc)
+  pub begins : (left : ℕ) (s : Standing) (column : ℕ) (columns : List ℕ) → HasColumns t width → AreColumns t width left text (column ∷ columns) → is_end (by_column t width s column) ≡ true
+      → IsPlace t width text 1 (by_column t width s column) columns
+  begins left s column columns has h end = elim (first_column t width left text column columns h) [
+    | within k e is rest ↦ absurd (let none = ap is_end (by_within_column t width s column has is) ∙ within_no_end t text s in cc)
     | character c e here is rest ↦
-        let same = by_character t s column c classes is in
-        place 0 (length (encode_utf8 c) - 1) (length (encode_utf8 c)) (by_column t s column) (by_class t (character_class t c) s) columns rest
+        let same = by_character t width s column c has here.scalar is in
+        place 0 (length (encode_utf8 c) - 1) (length (encode_utf8 c)) (by_column t width s column) (by_class t (character_class t c) s) columns rest
         (omega (arith, character_size c)) same
-        (class_opens s (length (encode_utf8 c)) c here refl (ap is_end (sym same) ∙ end))
+        (class_opens t text s (length (encode_utf8 c)) c here refl (ap is_end (sym same) ∙ end))
     | bad e none is rest ↦
-        let same = by_bad_column t s column is in
-        place 0 0 1 (by_column t s column) (by_bad t s) columns rest (omega arith) same (bad_on s 1)
+        let same = by_bad_column t width s column has is in
+        place 0 0 1 (by_column t width s column) (by_bad t s) columns rest (omega arith) same (bad_on t text s 1)
   ]

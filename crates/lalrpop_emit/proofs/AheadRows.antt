@@ -9,7 +9,7 @@ use Rattle.std.proofs.lemmas.List.Elements.{All-get_or, All-set}
 use Rattle.std.proofs.lemmas.List.Sums.{fold-append}
 use Rattle.std.proofs.lemmas.Option.{slice_get-get_or, slice_get_within}
 use Rattle.lalrpop_dense.specs.DenseTable.{TableNumbers}
-use Rattle.lalrpop_emit.specs.Internal.Ahead.{AheadNumbers, Standing, Begin, StandsFor, IsAheadOf, by_column, standing_after}
+use Rattle.lalrpop_emit.specs.Ahead.{AheadNumbers, Standing, Begin, StandsFor, IsAheadOf, by_column, standing_after}
 use Rattle.lalrpop_emit.specs.Internal.AheadRows.{IsRowOf, IsClosed, IsStepAt, IsRun, AreStandings}
 
 -- ---- rows and standings
@@ -20,7 +20,7 @@ standing_of a t h row (k, is, in_cells) =
     let within : k < length h.standings = lt_of_mul-lt-mul_right (a.width + 1) small in
     (get_or h.standings k Begin, (k, slice_get-get_or h.standings k Begin within, is))
 
-row_of : (a : AheadNumbers) (t : TableNumbers) (h : IsAheadOf a t) (row : ℕ) (s : Standing) → StandsFor a h.standings row s → IsRowOf a row
+pub row_of : (a : AheadNumbers) (t : TableNumbers) (h : IsAheadOf a t) (row : ℕ) (s : Standing) → StandsFor a h.standings row s → IsRowOf a row
 row_of a t h row s (k, there, is) =
     let within : k + 1 ≤ length h.standings = omega (arith, slice_get_within h.standings k s there) in
     let all : (k + 1) * (a.width + 1) ≤ length h.standings * (a.width + 1) = mul-le-mul_right (a.width + 1) within in
@@ -31,30 +31,30 @@ is_closed a t h = record {
   begins = row_of a t h a.start Begin h.begins;
   leads = λ row column is below.
       let s = standing_of a t h row is in
-      row_of a t h (slice_index a.cells (row + column)) (by_column t s.0 column) (h.leads row s.0 s.1 column below);
+      row_of a t h (slice_index a.cells (row + column)) (by_column t a.width s.0 column) (h.leads row s.0 s.1 column below);
 }
 
-standing_more : (t : TableNumbers) (columns : List ℕ) (k : ℕ) → k < length columns
-    → standing_after t (take (suc k) columns) ≡ by_column t (standing_after t (take k columns)) (slice_index columns k)
-standing_more t columns k within =
-    ap (standing_after t) (take-suc columns k 0 within)
-    ∙ fold-append (λ s column. by_column t s column) Begin (take k columns) (slice_index columns k ∷ [])
+standing_more : (t : TableNumbers) (width : ℕ) (columns : List ℕ) (k : ℕ) → k < length columns
+    → standing_after t width (take (suc k) columns) ≡ by_column t width (standing_after t width (take k columns)) (slice_index columns k)
+standing_more t width columns k within =
+    ap (standing_after t width) (take-suc columns k 0 within)
+    ∙ fold-append (λ s column. by_column t width s column) Begin (take k columns) (slice_index columns k ∷ [])
 
 -- the row after the first k columns stands for what is known there
 stands_after : (a : AheadNumbers) (t : TableNumbers) (h : IsAheadOf a t) (columns rows : List ℕ) → length rows ≡ length columns → All (λ column. column < a.width) columns
-    → IsRun a columns rows → (k : ℕ) → k ≤ length rows → StandsFor a h.standings (slice_index (a.start ∷ rows) k) (standing_after t (take k columns))
+    → IsRun a columns rows → (k : ℕ) → k ≤ length rows → StandsFor a h.standings (slice_index (a.start ∷ rows) k) (standing_after t a.width (take k columns))
 stands_after a t h columns rows as_many below run zero within = h.begins
 stands_after a t h columns rows as_many below run (suc k) within =
     let before = stands_after a t h columns rows as_many below run k (omega arith) in
     let column = slice_index columns k in
-    let led = h.leads (slice_index (a.start ∷ rows) k) (standing_after t (take k columns)) before column (All-get_or (λ n. n < a.width) columns k 0 (omega arith) below) in
-    subst (λ (row : ℕ). StandsFor a h.standings row (standing_after t (take (suc k) columns))) (sym (run k (omega arith)))
-    (subst (StandsFor a h.standings (slice_index a.cells (slice_index (a.start ∷ rows) k + column))) (sym (standing_more t columns k (omega arith))) led)
+    let led = h.leads (slice_index (a.start ∷ rows) k) (standing_after t a.width (take k columns)) before column (All-get_or (λ n. n < a.width) columns k 0 (omega arith) below) in
+    subst (λ (row : ℕ). StandsFor a h.standings row (standing_after t a.width (take (suc k) columns))) (sym (run k (omega arith)))
+    (subst (StandsFor a h.standings (slice_index a.cells (slice_index (a.start ∷ rows) k + column))) (sym (standing_more t a.width columns k (omega arith))) led)
 
 pub are_standings : (a : AheadNumbers) (t : TableNumbers) (h : IsAheadOf a t) (columns rows : List ℕ) → length rows ≡ length columns → All (λ column. column < a.width) columns
     → IsRun a columns rows → AreStandings a t h.standings columns rows
 are_standings a t h columns rows as_many below run k within =
-    subst (λ (n : ℕ). StandsFor a h.standings (slice_index rows k) (standing_after t (take n columns))) (sym (add-one k))
+    subst (λ (n : ℕ). StandsFor a h.standings (slice_index rows k) (standing_after t a.width (take n columns))) (sym (add-one k))
     (stands_after a t h columns rows as_many below run (suc k) (omega arith))
 
 -- ---- steps, and rows that are written

@@ -9,14 +9,16 @@ use Rattle.lalrpop_book.specs.Tree.{Tree}
 use Rattle.lalrpop_book.specs.Longest.{IsLongest}
 use Rattle.lalrpop_dfa.specs.Dfa.{Row, Recognizes}
 use Rattle.lalrpop_dfa.proofs.LongestLemmas.{IsLongestUpTo}
-use Rattle.lalrpop_dense.specs.DenseTable.{TableNumbers, AreClasses, IsTableFor, character_class}
+use Rattle.lalrpop_dense.specs.DenseTable.{TableNumbers, IsTableFor, character_class}
 use Rattle.lalrpop_emit.specs.Internal.Characters.{IsCharacterAt}
-use Rattle.lalrpop_emit.specs.Internal.Ahead.{Standing, AreColumns, row_by, led, accepts, by_class, by_column, standing_after, is_end, rule_at}
-use Rattle.lalrpop_emit.specs.Internal.Ahead.Standing.{Begin, Lost, Ended, In, Again}
+use Rattle.lalrpop_emit.specs.Ahead.{Standing, row_by, led, accepts, by_class, by_column, standing_after, is_end, rule_at}
+use Rattle.lalrpop_emit.specs.Internal.Columns.{AreColumns}
+use Rattle.lalrpop_emit.specs.Ahead.Standing.{Begin, Lost, Ended, In, Again}
+use Rattle.lalrpop_emit.specs.Internal.Walking.{AreRulesBelow}
 use Rattle.lalrpop_emit.proofs.ByteCuts.{character_of_rest}
-use Rattle.lalrpop_emit.proofs.AheadColumns.{first_column, columns_after, by_character, by_within_column, by_bad_column}
+use Rattle.lalrpop_emit.proofs.AheadColumns.{HasColumns, first_column, columns_after, by_character, by_within_column, by_bad_column}
 use Rattle.lalrpop_emit.proofs.AheadColumns.FirstColumn.{within, character, bad}
-use Rattle.lalrpop_emit.proofs.Walks.{IsWalked, walked_more, walk_accepts, walk_rejects, walk_stops}
+use Rattle.lalrpop_emit.proofs.Walks.{IsWalked, rule_below, walked_more, walk_accepts, walk_rejects, walk_stops}
 use Rattle.lalrpop_emit.proofs.AheadPlaces.{IsOpen, IsPlace, by_size, within_no_end, here_of, further_on, begins}
 
 -- ---- the end of the token
@@ -49,7 +51,10 @@ accepting t text at rule (Again row) w e =
     let found = accepting_row t row rule e in
     record { row = row; walked = w.0; live = w.1; accept = found.0; rule_is = found.1; leads = λ class. refl }
 
-module _ (t : TableNumbers) (d : List Row) (ts : List Tree) (ps : List ℕ) (h : IsTableFor t d) (r : Recognizes d ts ps) (text : List ℕ) where
+accepted_below : (t : TableNumbers) (text : List ℕ) (at rule count : ℕ) (s : Standing) → IsAccepting t text at s rule → AreRulesBelow t count → rule < count
+accepted_below t text at rule count s a below = rule_below t text at a.row rule count below a.walked a.live a.accept (sym a.rule_is)
+
+module _ (t : TableNumbers) (width : ℕ) (d : List Row) (ts : List Tree) (ps : List ℕ) (has : HasColumns t width) (h : IsTableFor t d) (r : Recognizes d ts ps) (text : List ℕ) where
   longest_up_to : (at rule : ℕ) (s : Standing) → 0 < at → IsAccepting t text at s rule → IsLongestUpTo ts ps text at (Some (rule, take at text))
   longest_up_to at rule s some a =
       subst (λ (n : ℕ). IsLongestUpTo ts ps text at (Some (n, take at text))) a.rule_is
@@ -69,17 +74,17 @@ module _ (t : TableNumbers) (d : List Row) (ts : List Tree) (ps : List ℕ) (h :
       (ap is_end (sym (a.leads (character_class t c))) ∙ end)
 
   -- where a token of this rule may end, and one ends before the next column, it is the longest match
-  longest_here : (at rule : ℕ) (s : Standing) (column : ℕ) (columns : List ℕ) → 0 < at → IsPlace t text at s (column ∷ columns) → rule_at t s ≡ Some rule
-      → is_end (by_column t s column) ≡ true → IsLongest ts ps text (Some (rule, take at text)) × (at ≤ length text)
+  longest_here : (at rule : ℕ) (s : Standing) (column : ℕ) (columns : List ℕ) → 0 < at → IsPlace t width text at s (column ∷ columns) → rule_at t s ≡ Some rule
+      → is_end (by_column t width s column) ≡ true → IsLongest ts ps text (Some (rule, take at text)) × (at ≤ length text)
   longest_here at rule s column columns some p found end =
       let a = accepting t text (at + p.left) rule s p.token found in
       let fits : at + p.left ≤ length text = a.walked.read.within in (
-        elim (first_column t p.left (drop at text) column columns p.columns_are) [
-          | within n e is rest ↦ absurd (let none = ap is_end (by_within_column t s column is) ∙ within_no_end t text s in cc)
+        elim (first_column t width p.left (drop at text) column columns p.columns_are) [
+          | within n e is rest ↦ absurd (let none = ap is_end (by_within_column t width s column has is) ∙ within_no_end t text s in cc)
           | character c e here is rest ↦
               let there : at + p.left ≡ at = omega (arith, e) in
               character_ends at rule c s some (subst (λ (n : ℕ). IsAccepting t text n s rule) there a) (here_of t text at c here)
-              (ap is_end (sym (by_character t s column c h.classes is)) ∙ end)
+              (ap is_end (sym (by_character t width s column c has here.scalar is)) ∙ end)
           | bad e none is rest ↦
               let there : at + p.left ≡ at = omega (arith, e (omega (arith, fits, length-drop at text))) in
               let b = subst (λ (n : ℕ). IsAccepting t text n s rule) there a in
@@ -92,76 +97,76 @@ module _ (t : TableNumbers) (d : List Row) (ts : List Tree) (ps : List ℕ) (h :
 -- ---- from end to end
 
 -- a token ends at this place of the run
-abbrev pub ends_at : TableNumbers → List ℕ → ℕ → Bool
-ends_at t columns at = is_end (standing_after t (take (at + 1) columns))
+abbrev pub ends_at : TableNumbers → ℕ → List ℕ → ℕ → Bool
+ends_at t width columns at = is_end (standing_after t width (take (at + 1) columns))
 
 -- a token may begin at this place: the run begins there, or another token ends
-abbrev pub BeginsAt : TableNumbers → List ℕ → ℕ → Type 0
-BeginsAt t columns at = (at ≡ 0) ⊎ IsTrue (ends_at t columns at)
+abbrev pub BeginsAt : TableNumbers → ℕ → List ℕ → ℕ → Type 0
+BeginsAt t width columns at = (at ≡ 0) ⊎ IsTrue (ends_at t width columns at)
 
 -- y is the next place after x at which a token ends
-pub record IsNextEnd (t : TableNumbers) (columns : List ℕ) (x y : ℕ) : Type 0 where
+pub record IsNextEnd (t : TableNumbers) (width : ℕ) (columns : List ℕ) (x y : ℕ) : Type 0 where
   pub further : x < y
   pub inside : y < length columns
-  pub ends : IsTrue (ends_at t columns y)
-  pub none_between : (z : ℕ) → x < z → z < y → ¬ IsTrue (ends_at t columns z)
+  pub ends : IsTrue (ends_at t width columns y)
+  pub none_between : (z : ℕ) → x < z → z < y → ¬ IsTrue (ends_at t width columns z)
 
 -- ---- the run up to the next end
 
 -- what is known after one more column
-standing_more : (t : TableNumbers) (columns : List ℕ) (at : ℕ) → at < length columns
-    → standing_after t (take (at + 1) columns) ≡ by_column t (standing_after t (take at columns)) (get_or columns at 0)
-standing_more t columns at l = fold_more (λ s column. by_column t s column) Begin columns at 0 l
+standing_more : (t : TableNumbers) (width : ℕ) (columns : List ℕ) (at : ℕ) → at < length columns
+    → standing_after t width (take (at + 1) columns) ≡ by_column t width (standing_after t width (take at columns)) (get_or columns at 0)
+standing_more t width columns at l = fold_more (λ s column. by_column t width s column) Begin columns at 0 l
 
 -- a run doesn't begin with an end
-begin_no_end : (t : TableNumbers) (left : ℕ) (bytes : List ℕ) (column : ℕ) (columns : List ℕ) → AreClasses t → AreColumns t left bytes (column ∷ columns)
-    → is_end (by_column t Begin column) ≡ false
-begin_no_end t left bytes column columns classes h = elim (first_column t left bytes column columns h) [
-  | within k e is rest ↦ ap is_end (by_within_column t Begin column is)
+begin_no_end : (t : TableNumbers) (width left : ℕ) (bytes : List ℕ) (column : ℕ) (columns : List ℕ) → HasColumns t width → AreColumns t width left bytes (column ∷ columns)
+    → is_end (by_column t width Begin column) ≡ false
+begin_no_end t width left bytes column columns has h = elim (first_column t width left bytes column columns h) [
+  | within k e is rest ↦ ap is_end (by_within_column t width Begin column has is)
   | character c e here is rest ↦
-      ap is_end (by_character t Begin column c classes is)
+      ap is_end (by_character t width Begin column c has here.scalar is)
       ∙ by_size (λ s. is_end s ≡ false) t.live (row_by t t.start (character_class t c)) _ _ (λ live. refl) (λ dead. refl)
-  | bad e none is rest ↦ ap is_end (by_bad_column t Begin column is)
+  | bad e none is rest ↦ ap is_end (by_bad_column t width Begin column has is)
 ]
 
 -- the columns from a place of the run on
 columns_from : (columns : List ℕ) (at : ℕ) → at < length columns → drop at columns ≡ get_or columns at 0 ∷ drop (at + 1) columns
 columns_from columns at l = let next : suc at ≡ at + 1 = omega arith in drop-cons columns at 0 l ∙ ap (λ (k : ℕ). get_or columns at 0 ∷ drop k columns) next
 
-module _ (t : TableNumbers) (text columns : List ℕ) (classes : AreClasses t) (are : AreColumns t 0 text columns) where
+module _ (t : TableNumbers) (width : ℕ) (text columns : List ℕ) (has : HasColumns t width) (are : AreColumns t width 0 text columns) where
   -- what is known at a place of the run, where the token begins at x
   abbrev IsPlaceFrom : ℕ → ℕ → ℕ → Type 0
-  IsPlaceFrom x at place = IsPlace t (drop x text) at (standing_after t (take place columns)) (drop place columns)
+  IsPlaceFrom x at place = IsPlace t width (drop x text) at (standing_after t width (take place columns)) (drop place columns)
 
-  no_first_end : 0 < length columns → ends_at t columns 0 ≡ false
+  no_first_end : 0 < length columns → ends_at t width columns 0 ≡ false
   no_first_end l =
-      ap is_end (standing_more t columns 0 l)
-      ∙ begin_no_end t 0 text (get_or columns 0 0) (drop 1 columns) classes (subst (AreColumns t 0 text) (columns_from columns 0 l) are)
+      ap is_end (standing_more t width columns 0 l)
+      ∙ begin_no_end t width 0 text (get_or columns 0 0) (drop 1 columns) has (subst (AreColumns t width 0 text) (columns_from columns 0 l) are)
 
-  place_further : (x at place : ℕ) → place < length columns → IsPlaceFrom x at place → ends_at t columns place ≡ false → IsPlaceFrom x (at + 1) (place + 1)
+  place_further : (x at place : ℕ) → place < length columns → IsPlaceFrom x at place → ends_at t width columns place ≡ false → IsPlaceFrom x (at + 1) (place + 1)
   place_further x at place l p none =
-      let s = standing_after t (take place columns) in
+      let s = standing_after t width (take place columns) in
       let column = get_or columns place 0 in
-      let more = standing_more t columns place l in
-      subst (λ s2. IsPlace t (drop x text) (at + 1) s2 (drop (place + 1) columns)) (sym more)
-      (further_on t (drop x text) at s column (drop (place + 1) columns) classes (subst (IsPlace t (drop x text) at s) (columns_from columns place l) p)
+      let more = standing_more t width columns place l in
+      subst (λ s2. IsPlace t width (drop x text) (at + 1) s2 (drop (place + 1) columns)) (sym more)
+      (further_on t width (drop x text) at s column (drop (place + 1) columns) has (subst (IsPlace t width (drop x text) at s) (columns_from columns place l) p)
       (ap is_end (sym more) ∙ none))
 
-  place_after_end : (x : ℕ) → x < length columns → ends_at t columns x ≡ true → IsPlaceFrom x 1 (x + 1)
+  place_after_end : (x : ℕ) → x < length columns → ends_at t width columns x ≡ true → IsPlaceFrom x 1 (x + 1)
   place_after_end x l end =
-      let more = standing_more t columns x l in
-      let from = columns_after t x text columns 0 are in
-      subst (λ s. IsPlace t (drop x text) 1 s (drop (x + 1) columns)) (sym more)
-      (begins t (drop x text) from.0 (standing_after t (take x columns)) (get_or columns x 0) (drop (x + 1) columns) classes
-      (subst (AreColumns t from.0 (drop x text)) (columns_from columns x l) from.1) (ap is_end (sym more) ∙ end))
+      let more = standing_more t width columns x l in
+      let from = columns_after t width x text columns 0 are in
+      subst (λ s. IsPlace t width (drop x text) 1 s (drop (x + 1) columns)) (sym more)
+      (begins t width (drop x text) from.0 (standing_after t width (take x columns)) (get_or columns x 0) (drop (x + 1) columns) has
+      (subst (AreColumns t width from.0 (drop x text)) (columns_from columns x l) from.1) (ap is_end (sym more) ∙ end))
 
-  first_place : (x : ℕ) → x < length columns → BeginsAt t columns x → IsPlaceFrom x 1 (x + 1)
+  first_place : (x : ℕ) → x < length columns → BeginsAt t width columns x → IsPlaceFrom x 1 (x + 1)
   first_place x l (inl zero_is) =
       subst (λ (k : ℕ). IsPlaceFrom k 1 (k + 1)) (sym zero_is)
       (place_further 0 0 0 (omega (arith, l)) (record { left = 0; columns_are = are; token = refl }) (no_first_end (omega (arith, l))))
   first_place x l (inr end) = place_after_end x l end
 
-  module _ (x y : ℕ) (begun : BeginsAt t columns x) (n : IsNextEnd t columns x y) where
+  module _ (x y : ℕ) (begun : BeginsAt t width columns x) (n : IsNextEnd t width columns x y) where
     -- what is known at each place up to the next end
     place_in : (more at place : ℕ) → at ≡ more + 1 → place ≡ x + at → place ≤ y → IsPlaceFrom x at place
     place_in zero at place e is l =
@@ -174,14 +179,25 @@ module _ (t : TableNumbers) (text columns : List ℕ) (classes : AreClasses t) (
         subst (λ (k : ℕ). IsPlaceFrom x k place) (omega (arith, e)) (subst (IsPlaceFrom x (more + 1 + 1)) (omega (arith, e, is)) next)
 
 -- what lies between two neighbouring ends is the longest match, by the rule that is known right before the second
-pub between_ends : (t : TableNumbers) (d : List Row) (ts : List Tree) (ps text columns : List ℕ) (x y rule : ℕ) → IsTableFor t d → Recognizes d ts ps → AreColumns t 0 text columns
-    → BeginsAt t columns x → IsNextEnd t columns x y → rule_at t (standing_after t (take y columns)) ≡ Some rule
+pub between_ends : (t : TableNumbers) (width : ℕ) (d : List Row) (ts : List Tree) (ps text columns : List ℕ) (x y rule : ℕ) → HasColumns t width → IsTableFor t d → Recognizes d ts ps
+    → AreColumns t width 0 text columns → BeginsAt t width columns x → IsNextEnd t width columns x y → rule_at t (standing_after t width (take y columns)) ≡ Some rule
     → IsLongest ts ps (drop x text) (Some (rule, take (y - x) (drop x text))) × (y ≤ length text)
-between_ends t d ts ps text columns x y rule h r are begun n rule_is =
-    let place = place_in t text columns h.classes are x y begun n (y - x - 1) (y - x) y (omega (arith, n.further)) (omega (arith, n.further)) (omega arith) in
-    let more = standing_more t columns y n.inside in
-    let s = standing_after t (take y columns) in
+between_ends t width d ts ps text columns x y rule has h r are begun n rule_is =
+    let place = place_in t width text columns has are x y begun n (y - x - 1) (y - x) y (omega (arith, n.further)) (omega (arith, n.further)) (omega arith) in
+    let more = standing_more t width columns y n.inside in
+    let s = standing_after t width (take y columns) in
     let found =
-    longest_here t d ts ps h r (drop x text) (y - x) rule s (get_or columns y 0) (drop (y + 1) columns) (omega (arith, n.further))
-    (subst (IsPlace t (drop x text) (y - x) s) (columns_from columns y n.inside) place) rule_is (ap is_end (sym more) ∙ n.ends) in
+    longest_here t width d ts ps has h r (drop x text) (y - x) rule s (get_or columns y 0) (drop (y + 1) columns) (omega (arith, n.further))
+    (subst (IsPlace t width (drop x text) (y - x) s) (columns_from columns y n.inside) place) rule_is (ap is_end (sym more) ∙ n.ends) in
     (found.0, omega (arith, found.1, length-drop x text, n.further))
+
+-- it lies within the text, and its rule is among those of the table
+pub token_between : (t : TableNumbers) (width : ℕ) (text columns : List ℕ) (x y rule : ℕ) → HasColumns t width → AreColumns t width 0 text columns → BeginsAt t width columns x
+    → IsNextEnd t width columns x y → rule_at t (standing_after t width (take y columns)) ≡ Some rule → (y ≤ length text) × ((count : ℕ) → AreRulesBelow t count → rule < count)
+token_between t width text columns x y rule has are begun n rule_is =
+    let place = place_in t width text columns has are x y begun n (y - x - 1) (y - x) y (omega (arith, n.further)) (omega (arith, n.further)) (omega arith) in
+    let s = standing_after t width (take y columns) in
+    let a = accepting t (drop x text) (y - x + place.left) rule s place.token rule_is in (
+      omega (arith, a.walked.read.within, length-drop x text, n.further),
+      λ count below. accepted_below t (drop x text) (y - x + place.left) rule count s a below,
+    )

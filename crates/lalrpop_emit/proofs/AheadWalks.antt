@@ -5,7 +5,7 @@ use Rattle.std.specs.List.{All}
 use Rattle.std.proofs.lemmas.Bool.{cases_lt}
 use Rattle.std.proofs.lemmas.List.{get_or-set_same, get_or-set_other}
 use Rattle.std.proofs.lemmas.List.Elements.{All-from_get_or}
-use Rattle.lalrpop_emit.specs.Internal.Ahead.{AheadNumbers}
+use Rattle.lalrpop_emit.specs.Ahead.{AheadNumbers}
 use Rattle.lalrpop_emit.specs.Internal.AheadRows.{IsRowOf, IsStepAt, IsRun, IsWithinPart, AreRuns}
 use Rattle.lalrpop_emit.proofs.AheadRows.{set_before, step_kept, step_made, row_made}
 

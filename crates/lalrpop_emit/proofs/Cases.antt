@@ -8,4 +8,3 @@ mod BytePieces
 mod BytePositions
 mod Characters
 mod Ahead
-mod AheadRows

@@ -11,6 +11,7 @@ pub mod Appended
 pub mod CharacterBytes
 pub mod ByteCuts
 pub mod Walks
+pub mod ClassOrder
 pub mod ModeTables
 pub mod ByteFaults
 pub mod Actions
@@ -26,3 +27,15 @@ pub mod AheadEnds
 pub mod BlockColumns
 pub mod AheadRows
 pub mod AheadWalks
+pub mod RunBits
+pub mod RunTokens
+pub mod RunFills
+pub mod RunBlocks
+pub mod ModeRuns
+pub mod FlagBits
+pub mod Found
+pub mod AheadLists
+pub mod Steps
+pub mod StepWalks
+pub mod Memos
+pub mod ModeMemos

@@ -1,10 +1,10 @@
 -- When the numbers of two lexers are the same, and which of them are below 2 ^ 64.
-use Rattle.std.proofs.Common.{◌≡◌, ℕ, ◌<◌, ◌^◌, List, [], ◌∷◌, length, refl, ap, ◌∙◌, arith, true, false, Bool, lit<}
+use Rattle.std.proofs.Common.{◌≡◌, ℕ, ◌<◌, ◌^◌, List, [], ◌∷◌, length, map, refl, ap, ◌∙◌, arith, true, false, Bool, lit<}
 use Rattle.std.specs.List.{All}
 use Rattle.std.proofs.lemmas.List.{append_cancel_left}
 use Rattle.std.proofs.lemmas.List.Elements.{All-cons, All-nil}
 use Rattle.lalrpop_dense.specs.DenseTable.{TableNumbers}
-use Rattle.lalrpop_emit.specs.NumberedRules.{NumberedRules}
+use Rattle.lalrpop_emit.specs.Ahead.{AheadNumbers}
 use Rattle.lalrpop_emit.specs.CSource.{flags}
 
 pub below : (k : ℕ) (xs : List ℕ) → 2 ^ k < 2 ^ 64 → All (λ n. n < 2 ^ k) xs → All (λ n. n < 2 ^ 64) xs
@@ -34,29 +34,43 @@ flags_same (false ∷ bs) (false ∷ cs) e = ap (λ (x : List Bool). false ∷ x
 flags_same (true ∷ bs) (false ∷ cs) e = absurd (omega (arith, ap leading e))
 flags_same (false ∷ bs) (true ∷ cs) e = absurd (omega (arith, ap leading e))
 
--- ---- tables and rules
+-- ---- tables
 
--- the lists of two tables are the same
+-- the lists of two tables that a source file has are the same
 pub record SameLists (t u : TableNumbers) : Type 0 where
   pub blocks : t.blocks ≡ u.blocks
   pub pages : t.pages ≡ u.pages
-  pub cells : t.cells ≡ u.cells
 
-pub same_table : (t u : TableNumbers) → SameLists t u → t.start ≡ u.start → t.width ≡ u.width → t.live ≡ u.live → t.accept ≡ u.accept → t ≡ u
-same_table t u same s w l a =
-    ap (λ (x : List ℕ). record t { blocks = x }) same.blocks
-    ∙ ap (λ (x : List ℕ). record t { blocks = u.blocks; pages = x }) same.pages
-    ∙ ap (λ (x : ℕ). record t { blocks = u.blocks; pages = u.pages; start = x }) s
-    ∙ ap (λ (x : ℕ). record t { blocks = u.blocks; pages = u.pages; start = u.start; width = x }) w
-    ∙ ap (λ (x : ℕ). record t { blocks = u.blocks; pages = u.pages; start = u.start; width = u.width; live = x }) l
-    ∙ ap (λ (x : ℕ). record t { blocks = u.blocks; pages = u.pages; start = u.start; width = u.width; live = u.live; accept = x }) a
-    ∙ ap (λ (x : List ℕ). record u { cells = x }) same.cells
+-- there are as many tables, and each has the lists of that which stands at its place
+abbrev pub HaveSameLists : List TableNumbers → List TableNumbers → Type 0
+HaveSameLists [] [] = Unit {0}
+HaveSameLists [] (u ∷ us) = ⊥
+HaveSameLists (t ∷ ts) [] = ⊥
+HaveSameLists (t ∷ ts) (u ∷ us) = SameLists t u × HaveSameLists ts us
 
-pub same_rules : (x y : NumberedRules) → x.names ≡ y.names → x.kinds ≡ y.kinds → x.skips ≡ y.skips → x.first_actions ≡ y.first_actions → x.actions ≡ y.actions → x.tables ≡ y.tables → x ≡ y
-same_rules x y n k s f a t =
-    ap (λ (z : List (List ℕ)). record x { names = z }) n
-    ∙ ap (λ (z : List ℕ). record x { names = y.names; kinds = z }) k
-    ∙ ap (λ (z : List Bool). record x { names = y.names; kinds = y.kinds; skips = z }) s
-    ∙ ap (λ (z : List ℕ). record x { names = y.names; kinds = y.kinds; skips = y.skips; first_actions = z }) f
-    ∙ ap (λ (z : List ℕ). record y { actions = z; tables = x.tables }) a
-    ∙ ap (λ (z : List TableNumbers). record y { tables = z }) t
+abbrev blocks_of : List TableNumbers → List (List ℕ)
+blocks_of ts = map (λ (t : TableNumbers). t.blocks) ts
+
+abbrev pages_of : List TableNumbers → List (List ℕ)
+pages_of ts = map (λ (t : TableNumbers). t.pages) ts
+
+pub same_blocks : (ts us : List TableNumbers) → HaveSameLists ts us → map (λ (t : TableNumbers). t.blocks) ts ≡ map (λ (t : TableNumbers). t.blocks) us
+same_blocks [] [] same = refl
+same_blocks [] (u ∷ us) same = absurd same
+same_blocks (t ∷ ts) [] same = absurd same
+same_blocks (t ∷ ts) (u ∷ us) same =
+    ap (λ (x : List ℕ). x ∷ blocks_of ts) same.0.blocks ∙ ap (λ (xs : List (List ℕ)). u.blocks ∷ xs) (same_blocks ts us same.1)
+
+pub same_pages : (ts us : List TableNumbers) → HaveSameLists ts us → map (λ (t : TableNumbers). t.pages) ts ≡ map (λ (t : TableNumbers). t.pages) us
+same_pages [] [] same = refl
+same_pages [] (u ∷ us) same = absurd same
+same_pages (t ∷ ts) [] same = absurd same
+same_pages (t ∷ ts) (u ∷ us) same =
+    ap (λ (x : List ℕ). x ∷ pages_of ts) same.0.pages ∙ ap (λ (xs : List (List ℕ)). u.pages ∷ xs) (same_pages ts us same.1)
+
+pub same_ahead : (a b : AheadNumbers) → a.start ≡ b.start → a.width ≡ b.width → a.ends ≡ b.ends → a.cells ≡ b.cells → a ≡ b
+same_ahead a b s w e c =
+    ap (λ (x : ℕ). record a { start = x }) s
+    ∙ ap (λ (x : ℕ). record a { start = b.start; width = x }) w
+    ∙ ap (λ (x : ℕ). record a { start = b.start; width = b.width; ends = x }) e
+    ∙ ap (λ (x : List ℕ). record b { cells = x }) c

@@ -8,10 +8,12 @@ use Rattle.std.proofs.lemmas.List.FromFn.{length-map-range_with_len}
 use Rattle.std.proofs.lemmas.Option.{slice_get-get_or}
 use Rattle.lalrpop_modes.specs.Modes.{ModeRules}
 use Rattle.lalrpop_modes.specs.Stack.{actions_of}
+use Rattle.lalrpop_dense.specs.DenseTable.{TableNumbers}
+use Rattle.lalrpop_emit.specs.Ahead.{AheadNumbers}
 use Rattle.lalrpop_emit.specs.Names.{IsName, distinct_names, kinds_of, place_of_name}
-use Rattle.lalrpop_emit.specs.NumberedRules.{NumberedRules, IsStorable, actions_of_rules, first_places, action_numbers}
+use Rattle.lalrpop_emit.specs.NumberedRules.{NumberedRules, IsStorable, IsStorableAhead, actions_of_rules, first_places, action_numbers}
 use Rattle.lalrpop_emit.specs.Internal.Lists.{AreModeTables, AreSmall, LeadBelow}
-use Rattle.lalrpop_emit.specs.Internal.Walking.{IsDrivable, AreRulesBelow, AreActionsAt}
+use Rattle.lalrpop_emit.specs.Internal.Walking.{IsDrivable, AreRulesBelow, AreActionsAt, CanRunAhead}
 use Rattle.lalrpop_emit.proofs.ActionNumbers.{actions_at, count_places}
 use Rattle.lalrpop_emit.proofs.ModeTables.{walkable}
 use Rattle.lalrpop_emit.proofs.NameLists.{distinct_are_names, few_distinct}
@@ -34,6 +36,9 @@ pub record AreMade (r : ModeRules) (n : NumberedRules) : Type 0 where
   pub some_mode : 0 < r.modes
   pub few_modes : r.modes < 2 ^ 16
   pub tables : AreModeTables r n.tables
+  pub all_ahead : length n.ahead ≡ length n.tables
+  pub run_ahead : (m : ℕ) (a : AheadNumbers) (t : TableNumbers) → slice_get n.ahead m ≡ Some a → slice_get n.tables m ≡ Some t → CanRunAhead a t
+  pub ahead : All IsStorableAhead n.ahead
 
 -- there is a kind, and a place of actions, for each name
 kind_count : (r : ModeRules) (n : NumberedRules) → AreMade r n → length n.kinds ≡ length r.names
@@ -56,10 +61,14 @@ storable r n h = record {
   all_actions = h.all_actions;
   modes = omega (arith, h.modes, h.few_modes);
   tables = λ m t l. (h.tables m (get_or n.tables m t) (slice_get-get_or n.tables m t l)).storable;
+  few_ahead = omega (arith, h.all_ahead, h.modes, h.few_modes);
+  ahead = h.ahead;
 }
 
 pub drivable : (r : ModeRules) (n : NumberedRules) → AreMade r n → IsDrivable n
 drivable r n h = record {
+  as_many = h.all_ahead;
+  ahead = h.run_ahead;
   some = omega (arith, h.modes, h.some_mode);
   walkable = λ m t at. let mode = (h.tables m t at).of_mode in walkable t mode.automaton mode.right;
   rules = λ m t at. subst (AreRulesBelow t) (sym (kind_count r n h)) (h.tables m t at).rules;

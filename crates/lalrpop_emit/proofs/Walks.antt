@@ -58,7 +58,7 @@ row_push : (t : TableNumbers) (row : ℕ) (w : List ℕ) (c : ℕ) → row_after
 row_push t row [] c = refl
 row_push t row (x ∷ w) c = row_push t (next_row t row x) w c
 
-scalar_below : (c : ℕ) → IsScalar c → c < 1114112
+pub scalar_below : (c : ℕ) → IsScalar c → c < 1114112
 scalar_below c is = grind (arith, nat_tests)
 
 pub walked_start : (t : TableNumbers) (text : List ℕ) → IsWalked t text 0 t.start

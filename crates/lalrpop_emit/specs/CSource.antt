@@ -3,8 +3,9 @@
 use Rattle.std.specs.Prelude.{ℕ, ◌+◌, ◌-◌, ◌%◌, ◌==◌, Bool, List, [], ◌∷◌, ◌++◌, length, map, codes, decimal, flat_map, chars, encode_utf8, nat_lt, if◌then◌else◌}
 use Rattle.std.specs.List.{list_all}
 use Rattle.lalrpop_dense.specs.DenseTable.{TableNumbers}
+use Rattle.lalrpop_emit.specs.Ahead.{AheadNumbers}
 use Rattle.lalrpop_emit.specs.NumberedRules.{NumberedRules}
-use Rattle.lalrpop_emit.specs.declared.c_text.TheConstants.{HEAD, TABLE, DRIVER}
+use Rattle.lalrpop_emit.specs.declared.c_text.TheConstants.{HEAD, TABLE, AHEAD, DRIVER}
 
 -- a fixed text, with the prefix for each `$`
 unfoldable pub filled : List ℕ → List ℕ → List ℕ
@@ -57,15 +58,15 @@ rules_text prefix r =
     ++ array prefix (codes "uint32_t $_actions") r.actions))))
 
 -- the cells fit 16 bits
-abbrev pub is_narrow : TableNumbers → Bool
-is_narrow t = list_all (λ n. nat_lt n 65536) t.cells
+abbrev pub is_narrow_ahead : AheadNumbers → Bool
+is_narrow_ahead a = list_all (λ n. nat_lt n 65536) a.cells
 
--- the type of the cells of all tables: 16 bits if they fit
-unfoldable pub cell_type : List TableNumbers → List ℕ
-cell_type ts = if list_all is_narrow ts then codes "uint16_t" else codes "uint32_t"
+-- the type of cells: 16 bits if all fit
+unfoldable pub cell_type : Bool → List ℕ
+cell_type narrow = if narrow then codes "uint16_t" else codes "uint32_t"
 
-unfoldable pub cell_typedef : List ℕ → List TableNumbers → List ℕ
-cell_typedef prefix ts = codes "typedef " ++ (cell_type ts ++ (codes " " ++ filled prefix (codes "$_cell;\n")))
+unfoldable pub cell_typedef : List ℕ → Bool → List ℕ → List ℕ
+cell_typedef prefix narrow name = codes "typedef " ++ (cell_type narrow ++ (codes " " ++ filled prefix name))
 
 -- how many modes there are
 unfoldable pub mode_count : List ℕ → ℕ → List ℕ
@@ -75,12 +76,11 @@ mode_count prefix n = filled prefix (codes "enum { $_modes = ") ++ (decimal n ++
 unfoldable pub mode_array : List ℕ → List ℕ → ℕ → List ℕ → List ℕ
 mode_array prefix head k ns = codes "static const " ++ (filled prefix head ++ (decimal k ++ listing ns))
 
--- the arrays of the table of mode k
+-- the arrays of the table of mode k: of its numbers, those that tell the classes of characters
 unfoldable pub mode_arrays : List ℕ → ℕ → TableNumbers → List ℕ
 mode_arrays prefix k t =
     mode_array prefix (codes "uint8_t $_blocks_") k t.blocks
-    ++ (mode_array prefix (codes "uint16_t $_pages_") k t.pages
-    ++ mode_array prefix (codes "$_cell $_cells_") k t.cells)
+    ++ mode_array prefix (codes "uint16_t $_pages_") k t.pages
 
 -- the arrays of the tables from mode k on
 abbrev pub table_arrays : List ℕ → ℕ → List TableNumbers → List ℕ
@@ -95,30 +95,54 @@ field n = codes ", " ++ decimal n
 unfoldable pub row_arrays : List ℕ → ℕ → List ℕ
 row_arrays prefix k =
     filled prefix (codes "    {$_blocks_") ++ (decimal k
-    ++ (filled prefix (codes ", $_pages_") ++ (decimal k
-    ++ (filled prefix (codes ", $_cells_") ++ decimal k))))
+    ++ (filled prefix (codes ", $_pages_") ++ decimal k))
 
--- the table of mode k: its arrays, the index of its last page, and its other numbers
+-- the table of mode k: its arrays, and the index of its last page
 unfoldable pub table_row : List ℕ → ℕ → TableNumbers → List ℕ
 table_row prefix k t =
-    row_arrays prefix k
-    ++ (field (length t.pages - 1) ++ (field t.start ++ (field t.width ++ (field t.live ++ (field t.accept ++ codes "},\n")))))
+    row_arrays prefix k ++ (field (length t.pages - 1) ++ codes "},\n")
 
 -- the tables from mode k on
 abbrev pub table_rows : List ℕ → ℕ → List TableNumbers → List ℕ
 table_rows prefix k [] = []
 table_rows prefix k (t ∷ ts) = table_row prefix k t ++ table_rows prefix (k + 1) ts
 
--- the tables, behind the types and arrays that they need
+-- the tables, behind the type and arrays that they need
 unfoldable pub tables_text : List ℕ → List TableNumbers → List ℕ
 tables_text prefix ts =
-    cell_typedef prefix ts
-    ++ (filled prefix TABLE.now
+    filled prefix TABLE.now
     ++ (mode_count prefix (length ts)
     ++ (table_arrays prefix 0 ts
-    ++ (filled prefix (codes "static const $_table $_tables[$_modes] = {\n") ++ (table_rows prefix 0 ts ++ codes "};\n")))))
+    ++ (filled prefix (codes "static const $_table $_tables[$_modes] = {\n") ++ (table_rows prefix 0 ts ++ codes "};\n"))))
+
+-- the cells of the table of mode k that runs ahead
+abbrev pub ahead_cells : List ℕ → ℕ → AheadNumbers → List ℕ
+ahead_cells prefix k a = mode_array prefix (codes "$_ahead_cell $_ahead_cells_") k a.cells
+
+-- those from mode k on
+abbrev pub ahead_arrays : List ℕ → ℕ → List AheadNumbers → List ℕ
+ahead_arrays prefix k [] = []
+ahead_arrays prefix k (a ∷ aheads) = ahead_cells prefix k a ++ ahead_arrays prefix (k + 1) aheads
+
+-- the table of mode k that runs ahead: its cells, and its other numbers
+unfoldable pub ahead_row : List ℕ → ℕ → AheadNumbers → List ℕ
+ahead_row prefix k a =
+    filled prefix (codes "    {$_ahead_cells_") ++ (decimal k ++ (field a.start ++ (field a.width ++ (field a.ends ++ codes "},\n"))))
+
+-- those from mode k on
+abbrev pub ahead_rows : List ℕ → ℕ → List AheadNumbers → List ℕ
+ahead_rows prefix k [] = []
+ahead_rows prefix k (a ∷ aheads) = ahead_row prefix k a ++ ahead_rows prefix (k + 1) aheads
+
+-- the tables that run ahead, behind the types and arrays that they need
+unfoldable pub ahead_text : List ℕ → List AheadNumbers → List ℕ
+ahead_text prefix aheads =
+    cell_typedef prefix (list_all is_narrow_ahead aheads) (codes "$_ahead_cell;\n")
+    ++ (filled prefix AHEAD.now
+    ++ (ahead_arrays prefix 0 aheads
+    ++ (filled prefix (codes "static const $_ahead $_aheads[$_modes] = {\n") ++ (ahead_rows prefix 0 aheads ++ codes "};\n"))))
 
 -- the whole file
 unfoldable pub c_file : List ℕ → NumberedRules → List ℕ
 c_file prefix r =
-    codes "/* " ++ (prefix ++ (codes ":" ++ (HEAD.now ++ (rules_text prefix r ++ (tables_text prefix r.tables ++ filled prefix DRIVER.now)))))
+    codes "/* " ++ (prefix ++ (codes ":" ++ (HEAD.now ++ (rules_text prefix r ++ (tables_text prefix r.tables ++ (ahead_text prefix r.ahead ++ filled prefix DRIVER.now))))))

@@ -1,6 +1,9 @@
 pub mod Lists
+pub mod ClassOrder
+pub mod Memo
 pub mod Characters
+pub mod Columns
 pub mod Walking
-pub mod Ahead
 pub mod Driving
 pub mod AheadRows
+pub mod Running

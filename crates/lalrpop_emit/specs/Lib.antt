@@ -1,4 +1,5 @@
 pub mod Names
+pub mod Ahead
 pub mod NumberedRules
 pub mod BytePieces
 pub mod BytePositions

@@ -9,10 +9,11 @@ use Rattle.lalrpop_modes.specs.Modes.{ModeRules, trees_in}
 use Rattle.lalrpop_modes.specs.Stack.{actions_of}
 use Rattle.lalrpop_modes.specs.declared.action.Action.{Action}
 use Rattle.lalrpop_modes.specs.declared.action.Action.TheVariants.{Mode, Push, Pop}
+use Rattle.lalrpop_emit.specs.Ahead.{AheadNumbers, IsAheadOf}
 use Rattle.lalrpop_emit.specs.Names.{IsName, distinct_names, kinds_of}
 
 -- the distinct names of the rules; for each rule the number of its name, its kind, whether it is skipped, and where its actions begin;
--- the actions of all rules; and the table of each mode
+-- the actions of all rules; the table of each mode; and the tables that run ahead
 pub record NumberedRules : Type 0 where
   pub names : List (List ℕ)
   pub kinds : List ℕ
@@ -20,6 +21,7 @@ pub record NumberedRules : Type 0 where
   pub first_actions : List ℕ
   pub actions : List ℕ
   pub tables : List TableNumbers
+  pub ahead : List AheadNumbers
 
 -- an action in one number
 abbrev pub action_number : Action → ℕ
@@ -47,6 +49,11 @@ pub record IsTableOfMode (r : ModeRules) (m : ℕ) (t : TableNumbers) : Type 0 w
   pub recognizes : IsBuiltFrom (trees_in r m) r.precedences automaton
   pub right : IsTableFor t automaton
 
+-- there is a table that runs ahead for each mode, and it is that of the mode's table
+pub record AreAheadOf (aheads : List AheadNumbers) (tables : List TableNumbers) : Type 0 where
+  pub all : length aheads ≡ length tables
+  pub each : (m : ℕ) (a : AheadNumbers) (t : TableNumbers) → slice_get aheads m ≡ Some a → slice_get tables m ≡ Some t → IsAheadOf a t
+
 -- the numbers are those of the rules
 pub record AreNumbersOf (r : ModeRules) (n : NumberedRules) : Type 0 where
   pub names : n.names ≡ distinct_names r.names
@@ -56,21 +63,24 @@ pub record AreNumbersOf (r : ModeRules) (n : NumberedRules) : Type 0 where
   pub actions : n.actions ≡ action_numbers (actions_of_rules r)
   pub modes : length n.tables ≡ r.modes
   pub tables : (m : ℕ) (t : TableNumbers) → slice_get n.tables m ≡ Some t → IsTableOfMode r m t
+  pub ahead : AreAheadOf n.ahead n.tables
 
--- the numbers of a table fit those of C and Rust in which they are stored
+-- the numbers of a table that a source file has fit those of C and Rust in which they are stored
 pub record IsStorableTable (t : TableNumbers) : Type 0 where
   pub blocks : All (λ n. n < 2 ^ 8) t.blocks
   pub all_blocks : length t.blocks < 2 ^ 64
   pub pages : All (λ n. n < 2 ^ 16) t.pages
   pub all_pages : length t.pages < 2 ^ 64
-  pub cells : All (λ n. n < 2 ^ 32) t.cells
-  pub all_cells : length t.cells < 2 ^ 64
-  pub start : t.start < 2 ^ 64
-  pub width : t.width < 2 ^ 64
-  pub live : t.live < 2 ^ 64
-  pub accept : t.accept < 2 ^ 64
 
--- the names can be part of an identifier, and the numbers fit those of C and Rust in which they are stored
+-- the same of a table that runs ahead
+pub record IsStorableAhead (a : AheadNumbers) : Type 0 where
+  pub start : a.start < 2 ^ 64
+  pub width : a.width < 2 ^ 64
+  pub ends : a.ends < 2 ^ 64
+  pub cells : All (λ n. n < 2 ^ 32) a.cells
+  pub all_cells : length a.cells < 2 ^ 64
+
+-- the names can be part of an identifier, and the numbers that a source file has fit those of C and Rust in which they are stored
 pub record IsStorable (r : NumberedRules) : Type 0 where
   pub names : All IsName r.names
   pub few_names : length r.names < 2 ^ 64
@@ -83,3 +93,16 @@ pub record IsStorable (r : NumberedRules) : Type 0 where
   pub all_actions : length r.actions < 2 ^ 64
   pub modes : length r.tables < 2 ^ 16
   pub tables : All IsStorableTable r.tables
+  pub few_ahead : length r.ahead < 2 ^ 16
+  pub ahead : All IsStorableAhead r.ahead
+
+-- what a source file has of both is the same: of `tables` the blocks and pages alone
+pub record AreSameInFile (r s : NumberedRules) : Type 0 where
+  pub names : r.names ≡ s.names
+  pub kinds : r.kinds ≡ s.kinds
+  pub skips : r.skips ≡ s.skips
+  pub first_actions : r.first_actions ≡ s.first_actions
+  pub actions : r.actions ≡ s.actions
+  pub blocks : map (λ (t : TableNumbers). t.blocks) r.tables ≡ map (λ (t : TableNumbers). t.blocks) s.tables
+  pub pages : map (λ (t : TableNumbers). t.pages) r.tables ≡ map (λ (t : TableNumbers). t.pages) s.tables
+  pub ahead : r.ahead ≡ s.ahead

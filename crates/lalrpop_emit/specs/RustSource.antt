@@ -1,12 +1,13 @@
 -- cases: proofs/Cases/RustSource.antt
 -- The source file of a lexer in Rust.
-use Rattle.std.specs.Prelude.{◌≡◌, ℕ, ◌<◌, List, [], ◌∷◌, ◌++◌, codes, decimal, if◌then◌else◌, IsFalse, Some, slice_get}
+use Rattle.std.specs.Prelude.{◌≡◌, ℕ, ◌<◌, Bool, List, [], ◌∷◌, ◌++◌, codes, decimal, if◌then◌else◌, IsFalse, Some, slice_get}
 use Rattle.std.specs.List.{list_all, list_any}
 use Rattle.std.specs.Str.{bytes_eq}
 use Rattle.lalrpop_dense.specs.DenseTable.{TableNumbers}
 use Rattle.lalrpop_emit.specs.Names.{IsIdentifier}
+use Rattle.lalrpop_emit.specs.Ahead.{AheadNumbers}
 use Rattle.lalrpop_emit.specs.NumberedRules.{NumberedRules}
-use Rattle.lalrpop_emit.specs.CSource.{flags, is_narrow, listed}
+use Rattle.lalrpop_emit.specs.CSource.{flags, is_narrow_ahead, listed}
 use Rattle.lalrpop_emit.specs.declared.error.EmitError.{EmitError}
 use Rattle.lalrpop_emit.specs.declared.error.EmitError.TheVariants.{BadVariant, OutOfMemory}
 use Rattle.lalrpop_emit.specs.declared.rust_text.TheConstants.{HEAD, INTERFACE, DRIVER}
@@ -46,9 +47,9 @@ name_lines before behind (name ∷ names) = before ++ (name ++ (behind ++ name_l
 unfoldable pub kind_enum : List (List ℕ) → List ℕ
 kind_enum names = codes "pub enum Kind {\n" ++ (name_lines (codes "    r#") (codes ",\n") names ++ codes "}\n")
 
--- the type of the cells: 16 bits if they fit
-unfoldable pub cell_type : List TableNumbers → List ℕ
-cell_type ts = if list_all is_narrow ts then codes "u16" else codes "u32"
+-- the type of cells: 16 bits if all fit
+unfoldable pub cell_type : Bool → List ℕ
+cell_type narrow = if narrow then codes "u16" else codes "u32"
 
 -- a field that is a number, and one that is a list of numbers
 unfoldable pub number_field : List ℕ → ℕ → List ℕ
@@ -57,21 +58,30 @@ number_field name n = name ++ (codes ": " ++ (decimal n ++ codes ",\n"))
 unfoldable pub list_field : List ℕ → List ℕ → List ℕ
 list_field name ns = name ++ (codes ": &[\n" ++ (listed 0 ns ++ codes "],\n"))
 
+-- of the numbers of a table, those that tell the classes of characters
 unfoldable pub table_text : TableNumbers → List ℕ
 table_text t =
     codes "        Table {\n"
-    ++ (number_field (codes "            start") t.start
-    ++ (number_field (codes "            width") t.width
-    ++ (number_field (codes "            live") t.live
-    ++ (number_field (codes "            accept") t.accept
     ++ (list_field (codes "            blocks") t.blocks
     ++ (list_field (codes "            pages") t.pages
-    ++ (list_field (codes "            cells") t.cells
-    ++ codes "        },\n")))))))
+    ++ codes "        },\n"))
 
 abbrev pub table_texts : List TableNumbers → List ℕ
 table_texts [] = []
 table_texts (t ∷ ts) = table_text t ++ table_texts ts
+
+unfoldable pub ahead_text : AheadNumbers → List ℕ
+ahead_text a =
+    codes "        Ahead {\n"
+    ++ (number_field (codes "            start") a.start
+    ++ (number_field (codes "            width") a.width
+    ++ (number_field (codes "            ends") a.ends
+    ++ (list_field (codes "            cells") a.cells
+    ++ codes "        },\n"))))
+
+abbrev pub ahead_texts : List AheadNumbers → List ℕ
+ahead_texts [] = []
+ahead_texts (a ∷ aheads) = ahead_text a ++ ahead_texts aheads
 
 -- the variants of the kinds, and what they are called
 unfoldable pub name_fields : List (List ℕ) → List ℕ
@@ -81,7 +91,7 @@ name_fields names =
     ++ (codes "    ],\n    names: &[\n"
     ++ (name_lines (codes "        \"") (codes "\",\n") names ++ codes "    ],\n")))
 
--- `static NUMBERS`, with all numbers of the rules
+-- `static NUMBERS`, with the numbers of the rules
 unfoldable pub numbers_text : NumberedRules → List ℕ
 numbers_text r =
     codes "#[rustfmt::skip]\nstatic NUMBERS: Numbers = Numbers {\n"
@@ -90,11 +100,13 @@ numbers_text r =
     ++ (list_field (codes "    skipped") (flags r.skips)
     ++ (list_field (codes "    first_actions") r.first_actions
     ++ (list_field (codes "    actions") r.actions
-    ++ (codes "    tables: &[\n" ++ (table_texts r.tables ++ codes "    ],\n};\n")))))))
+    ++ (codes "    tables: &[\n" ++ (table_texts r.tables
+    ++ (codes "    ],\n    ahead: &[\n" ++ (ahead_texts r.ahead ++ codes "    ],\n};\n")))))))))
 
 -- the whole file
 unfoldable pub rust_file : NumberedRules → List ℕ
 rust_file r =
     HEAD.now
     ++ (kind_enum r.names
-    ++ (INTERFACE.now ++ (DRIVER.now ++ (codes "\ntype Cell = " ++ (cell_type r.tables ++ (codes ";\n\n" ++ numbers_text r))))))
+    ++ (INTERFACE.now ++ (DRIVER.now
+    ++ (codes "\ntype AheadCell = " ++ (cell_type (list_all is_narrow_ahead r.ahead) ++ (codes ";\n\n" ++ numbers_text r))))))

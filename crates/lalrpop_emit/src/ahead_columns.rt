@@ -1,10 +1,12 @@
 //! The columns of the bytes of a text, which lead from row to row in a table that runs ahead.
 ghost use Rattle.std.specs.Prelude.{◌≡◌, ◌+◌, ◌<◌, ◌≤◌, ◌^◌, ℕ, List, ◌∷◌, length, drop, slice_index};
 ghost use Rattle.std.specs.Bool.{OnTrue};
-ghost use Rattle.lalrpop_dense.specs.DenseTable.{AreClasses};
-ghost use Rattle.lalrpop_emit.specs.Internal.Ahead.{AreColumns, character_column, column_count};
-ghost use Rattle.lalrpop_emit.specs.Internal.Lists.{list_numbers};
+ghost use Rattle.lalrpop_dense.specs.DenseTable.{AreClasses, character_class};
+ghost use Rattle.lalrpop_emit.specs.Ahead.{IsAheadOf, character_column};
+ghost use Rattle.lalrpop_emit.specs.Internal.Columns.{AreColumns};
+ghost use Rattle.lalrpop_emit.specs.Internal.Lists.{ahead_numbers, list_numbers};
 
+use crate::ahead_table::AheadLists as Ahead;
 use crate::driver::{class, read};
 use crate::table_lists::TableLists as Table;
 
@@ -19,27 +21,28 @@ struct Column {
 }
 
 // The column of the first byte of a character.
-fn column_of(table: &Table, code: u32) -> u16
+pub(crate) fn column_of(table: &Table, code: u32) -> usize
     requires classes { AreClasses (list_numbers table.now) }
-    requires few { column_count (list_numbers table.now) ≤ 2 ^ 16 }
+    requires small { 128 ≤ code → 128 + character_class (list_numbers table.now) code < 2 ^ 64 }
     ensures { result ≡ character_column (list_numbers table.now) code }
 {
     if code < 128 {
-        return code as u16;
+        return code as usize;
     }
-    (128 + class(table, code)) as u16
+    128 + class(table, code)
 }
 
 // The column of the byte at the place, which may lie behind the text. Of the character before it, `left` bytes are still to
 // come.
-fn next_column(table: &Table, text: &[u8], at: usize, left: usize) -> Column
+fn next_column(ahead: &Ahead, table: &Table, text: &[u8], at: usize, left: usize) -> Column
+    requires ahead { IsAheadOf (ahead_numbers ahead.now) (list_numbers table.now) }
     requires classes { AreClasses (list_numbers table.now) }
-    requires few { column_count (list_numbers table.now) ≤ 2 ^ 16 }
+    requires few { ahead.now.width ≤ 2 ^ 16 }
     ensures { (rest : List ℕ)
-        → AreColumns (list_numbers table.now) result.left (drop (at + 1) text.now) rest
-        → AreColumns (list_numbers table.now) left (drop at text.now) (result.number ∷ rest) }
+        → AreColumns (list_numbers table.now) ahead.now.width result.left (drop (at + 1) text.now) rest
+        → AreColumns (list_numbers table.now) ahead.now.width left (drop at text.now) (result.number ∷ rest) }
 {
-    let within = 128 + table.width;
+    let within = ahead.width - 2;
     let bad = Column {
         number: (within + 1) as u16,
         left: 0,
@@ -55,7 +58,7 @@ fn next_column(table: &Table, text: &[u8], at: usize, left: usize) -> Column
     }
     match read(text, at) {
         Some(character) => Column {
-            number: column_of(table, character.code),
+            number: column_of(table, character.code) as u16,
             left: character.size - 1,
         },
         None => bad,
@@ -71,30 +74,47 @@ fn is_ascii_run(text: &[u8], at: usize) -> bool
         return false;
     }
     let mut all = 0;
-    for k in 0..RUN {
-        all |= text[at + k];
+    let run = &text[at..at + RUN];
+    for byte in run {
+        all |= byte;
     }
     all < 128
 }
 
+// The columns of bytes of ASCII: the bytes. These are two slices of one length, so that a processor can do many at once.
+fn ascii_columns(columns: &mut [u16], bytes: &[u8])
+    requires { length columns.old ≡ length bytes.now }
+    ensures { columns.new ≡ bytes.now }
+{
+    for (k, byte) in bytes[..columns.len()].iter().enumerate() {
+        columns[k] = u16::from(*byte);
+    }
+}
+
 /// The columns of the bytes of the text from a place on, and of what follows it.
-pub(crate) fn columns_of(table: &Table, text: &[u8], from: usize, columns: &mut [u16])
+pub(crate) fn columns_of(
+    ahead: &Ahead,
+    table: &Table,
+    text: &[u8],
+    from: usize,
+    columns: &mut [u16],
+)
+    requires ahead { IsAheadOf (ahead_numbers ahead.now) (list_numbers table.now) }
     requires classes { AreClasses (list_numbers table.now) }
-    requires few { column_count (list_numbers table.now) ≤ 2 ^ 16 }
+    requires few { ahead.now.width ≤ 2 ^ 16 }
     requires place { from ≤ length text.now }
-    ensures { AreColumns (list_numbers table.now) 0 (drop from text.now) columns.new }
+    ensures { AreColumns (list_numbers table.now) ahead.now.width 0 (drop from text.now) columns.new }
 {
     let mut left = 0;
     let mut at = 0;
     'runs: while at < columns.len() {
         let stop = (at + RUN).min(columns.len());
         if left == 0 && is_ascii_run(text, from + at) {
-            'ascii: for k in at..stop {
-                columns[k] = u16::from(text[from + k]);
-            }
+            let bytes = &text[from + at..from + stop];
+            ascii_columns(&mut columns[at..stop], bytes);
         } else {
             'any: for k in at..stop {
-                let next = next_column(table, text, from + k, left);
+                let next = next_column(ahead, table, text, from + k, left);
                 columns[k] = next.number;
                 left = next.left;
             }

@@ -3,19 +3,21 @@
 ghost use Rattle.std.specs.Prelude.{◌≡◌, ◌+◌, ◌*◌, ◌<◌, ◌≤◌, ◌^◌, ◌⊎◌, ℕ, length, drop, slice_index};
 ghost use Rattle.std.specs.List.{All};
 ghost use Rattle.lalrpop_dense.specs.DenseTable.{AreClasses};
-ghost use Rattle.lalrpop_emit.specs.Internal.Ahead.{AreColumns, IsAheadOf, column_count};
+ghost use Rattle.lalrpop_emit.specs.Ahead.{IsAheadOf};
+ghost use Rattle.lalrpop_emit.specs.Internal.Columns.{AreColumns};
 ghost use Rattle.lalrpop_emit.specs.Internal.AheadRows.{IsRowOf, IsClosed, IsStepAt, IsRun, AreRuns, AreStandings};
 ghost use Rattle.lalrpop_emit.specs.Internal.Lists.{list_numbers, ahead_numbers};
 
 use crate::ahead_columns::columns_of;
 use crate::ahead_table::AheadLists as Ahead;
+use crate::run::{AheadCell, MOST};
 use crate::table_lists::TableLists as Table;
 
 // How many walks are done at once.
 const WALKS: usize = 6;
 
 // The row that the column leads to from the row.
-fn step(ahead: &Ahead, row: usize, column: u16) -> u32
+fn step(ahead: &Ahead, row: usize, column: u16) -> AheadCell
     requires row { IsRowOf (ahead_numbers ahead.now) row }
     requires column { column < ahead.now.width }
     ensures { result ≡ slice_index ahead.now.cells.items (row + column) }
@@ -23,9 +25,10 @@ fn step(ahead: &Ahead, row: usize, column: u16) -> u32
     ahead.cells[row + column as usize]
 }
 
-// Walks along six parts of the columns at once, from the start row in each. No walk waits for another, which makes this quick;
-// but where a later part begins, the row may not be the one that the part before leads to.
-fn walk(ahead: &Ahead, columns: &[u16], rows: &mut [u32])
+// Walks along each part of the columns from the start on. The walks don't wait for each other, so they are quick; but the walks
+// along later parts begin with what may be wrong.
+#[inline(always)]
+fn walk_parts(ahead: &Ahead, columns: &[u16], rows: &mut [AheadCell])
     requires closed { IsClosed (ahead_numbers ahead.now) }
     requires columns { All (λ column. column < ahead.now.width) columns.now }
     requires parts { (part : ℕ) × (length columns.now ≡ 6 * part) }
@@ -46,8 +49,25 @@ fn walk(ahead: &Ahead, columns: &[u16], rows: &mut [u32])
     }
 }
 
-// Walks on from the row before the place until it comes to a row that stands there already. No step that was right is lost.
-fn walk_on(ahead: &Ahead, columns: &[u16], from: usize, rows: &mut [u32])
+// The same. It is quickest along parts whose length is known when this is compiled.
+fn walk(ahead: &Ahead, columns: &[u16], rows: &mut [AheadCell])
+    requires closed { IsClosed (ahead_numbers ahead.now) }
+    requires columns { All (λ column. column < ahead.now.width) columns.now }
+    requires parts { (part : ℕ) × (length columns.now ≡ 6 * part) }
+    requires as_many { length rows.old ≡ length columns.now }
+    ensures rows { All (IsRowOf (ahead_numbers ahead.now)) rows.new }
+    ensures runs { (part : ℕ) → length columns.now ≡ 6 * part
+        → AreRuns (ahead_numbers ahead.now) part columns.now rows.new }
+{
+    if columns.len() == MOST {
+        walk_parts(ahead, &columns[..MOST], &mut rows[..MOST]);
+    } else {
+        walk_parts(ahead, columns, rows);
+    }
+}
+
+// Walks on from the row before the place until the row is the one that stands there.
+fn walk_on(ahead: &Ahead, columns: &[u16], from: usize, rows: &mut [AheadCell])
     requires closed { IsClosed (ahead_numbers ahead.now) }
     requires columns { All (λ column. column < ahead.now.width) columns.now }
     requires as_many { length rows.old ≡ length columns.now }
@@ -80,8 +100,8 @@ fn walk_on(ahead: &Ahead, columns: &[u16], from: usize, rows: &mut [u32])
     }
 }
 
-// Walks on from the end of each part: so the runs along the parts become one.
-fn join(ahead: &Ahead, columns: &[u16], rows: &mut [u32])
+// Makes one run of those along the parts.
+fn join(ahead: &Ahead, columns: &[u16], rows: &mut [AheadCell])
     requires closed { IsClosed (ahead_numbers ahead.now) }
     requires columns { All (λ column. column < ahead.now.width) columns.now }
     requires as_many { length rows.old ≡ length columns.now }
@@ -104,20 +124,20 @@ pub(crate) fn fill(
     text: &[u8],
     from: usize,
     columns: &mut [u16],
-    rows: &mut [u32],
+    rows: &mut [AheadCell],
 )
     requires ahead { IsAheadOf (ahead_numbers ahead.now) (list_numbers table.now) }
     requires classes { AreClasses (list_numbers table.now) }
-    requires few { column_count (list_numbers table.now) ≤ 2 ^ 16 }
+    requires few { ahead.now.width ≤ 2 ^ 16 }
     requires place { from ≤ length text.now }
     requires parts { (part : ℕ) × (0 < part) × (length columns.old ≡ 6 * part) }
     requires as_many { length rows.old ≡ length columns.old }
-    ensures columns { AreColumns (list_numbers table.now) 0 (drop from text.now) columns.new }
+    ensures columns { AreColumns (list_numbers table.now) ahead.now.width 0 (drop from text.now) columns.new }
     ensures rows { (is_ahead : IsAheadOf (ahead_numbers ahead.now) (list_numbers table.now))
         → AreStandings (ahead_numbers ahead.now) (list_numbers table.now) is_ahead.standings
         columns.new rows.new }
 {
-    columns_of(table, text, from, columns);
+    columns_of(ahead, table, text, from, columns);
     walk(ahead, columns, rows);
     join(ahead, columns, rows);
 }

@@ -1,12 +1,18 @@
 //! The numbers of a table that runs ahead: it reads each byte of a text, on past the ends of tokens.
 //!
 //! The numbers are made with no promise, and then checked. What is proved is the check.
-ghost use Rattle.std.specs.Prelude.{◌≡◌, ◌+◌, ◌<◌, ◌^◌, IsTrue, IfOk, IfSome};
-ghost use Rattle.lalrpop_emit.specs.Internal.Ahead.{Begin, IsAheadOf, StandsFor, column_count};
-ghost use Rattle.lalrpop_emit.specs.Internal.Lists.{IsRightRow, LeadsRight, ahead_numbers, list_numbers};
-ghost use Rattle.lalrpop_emit.specs.Internal.Walking.{IsWalkable};
+ghost use Rattle.std.specs.Prelude.{◌≡◌, ◌+◌, ◌*◌, ◌<◌, ◌≤◌, ◌^◌, ℕ, length, map, max, min, slice_get, IsTrue, IfOk, IfSome, Some};
+ghost use Rattle.std.specs.List.{All};
+ghost use Rattle.lalrpop_dense.specs.DenseTable.{AreClasses, TableNumbers, character_class};
+ghost use Rattle.lalrpop_emit.specs.Ahead.{Begin, IsAheadOf, StandsFor};
+ghost use Rattle.lalrpop_emit.specs.NumberedRules.{IsStorableAhead};
+ghost use Rattle.lalrpop_emit.specs.Internal.Lists.{AreAheadTables, AreSmall, IsRightRow, LeadsRight, ahead_numbers, list_numbers};
+ghost use Rattle.lalrpop_emit.specs.Internal.Walking.{CanRunAhead, IsWalkable};
 
-use crate::standing::{Standing, by_column, cell, is_end, is_live, row_by, rule_number};
+use crate::driver::class;
+use crate::standing::{
+    Standing, by_column, cell, is_end, is_live, is_lost, is_told, row_by, rule_number,
+};
 use crate::table_lists::TableLists;
 use std::alloc::{AllocError, Global};
 
@@ -22,7 +28,16 @@ pub(crate) struct AheadLists {
 }
 
 // There are no more cells than this.
-const MOST: usize = 1 << 24;
+const MOST: usize = 1 << 26;
+
+// And no more columns than this.
+const MOST_COLUMNS: usize = 1 << 16;
+
+// Characters come in pages of 128; there are no more of these.
+const PAGES: usize = 8704;
+
+// There are so many columns beside those of classes.
+const OTHER_COLUMNS: usize = 130;
 
 // What each row stands for, and where it begins.
 #[derive(Drop)]
@@ -100,11 +115,12 @@ fn cells_of(
     width: usize,
 ) -> Result<Vec<u32>, AllocError>
     requires { IsWalkable (list_numbers table.now) }
+    ensures { IfOk result (λ cells. AreSmall cells.items) }
 {
     let mut cells = Vec::new(alloc);
     for standing in &rows.standings {
         for column in 0..width {
-            cells.push(rows.start(by_column(table, *standing, column)))?;
+            cells.push(rows.start(by_column(table, width, *standing, column)))?;
         }
         cells.push(rule_number(table, *standing))?;
     }
@@ -135,14 +151,16 @@ fn leads_right(
 {
     for column in 0..ahead.width {
         let target = cell(&ahead.cells, row, column) as usize;
-        if !stands_for(ahead, standings, target, by_column(table, standing, column)) {
+        let led = by_column(table, ahead.width, standing, column);
+        if !stands_for(ahead, standings, target, led) {
             return false;
         }
     }
     true
 }
 
-// Whether the cells of the row are those of one that stands for this, and it is among the rows of ends just if this is one.
+// Whether the cells of the row are those of one that stands for this; it is among the rows of ends just if this is one, and begins
+// at 0 just if this is `Lost`.
 fn is_right_row(
     ahead: &AheadLists,
     table: &TableLists,
@@ -157,24 +175,66 @@ fn is_right_row(
 {
     leads_right(ahead, table, standings, row, standing)
         && cell(&ahead.cells, row, ahead.width) == rule_number(table, standing)
+        && is_told(table, standing)
         && is_end(standing) == (ahead.ends <= row)
+        && is_lost(standing) == (row == 0)
 }
 
-// How many columns there are.
-fn column_count(table: &TableLists) -> usize
-    requires { IsWalkable (list_numbers table.now) }
-    ensures columns { result ≡ column_count (list_numbers table.now) }
-    ensures small { result + 1 < 2 ^ 64 }
+// Where the pages end that are looked at: those behind the last one have its block, and one at least lies beyond ASCII.
+fn page_end(table: &TableLists) -> usize
+    ensures { result ≡ min (max (length table.now.pages.items) 2) 8704 }
 {
-    130 + table.width
+    table.pages.len().max(2).min(PAGES)
+}
+
+// How many columns there are to be: classes have one up to the greatest of a character beyond ASCII.
+fn column_count(table: &TableLists) -> usize
+    requires { AreClasses (list_numbers table.now) }
+{
+    let mut classes = 0usize;
+    for code in 128..page_end(table) * 128 {
+        classes = classes.max(class(table, code as u32).saturating_add(1));
+    }
+    classes.saturating_add(OTHER_COLUMNS)
+}
+
+// Whether the class of each character of the page is among the first `count`.
+fn is_page_below(table: &TableLists, page: usize, count: usize) -> bool
+    requires classes { AreClasses (list_numbers table.now) }
+    requires page { page < 8704 }
+    ensures { IsTrue result → (c : ℕ) → page * 128 ≤ c → c < page * 128 + 128
+        → character_class (list_numbers table.now) c < count }
+{
+    for code in page * 128..page * 128 + 128 {
+        if class(table, code as u32) >= count {
+            return false;
+        }
+    }
+    true
+}
+
+// Whether the class of each character beyond ASCII is among the first `count`.
+fn are_classes_below(table: &TableLists, count: usize) -> bool
+    requires { AreClasses (list_numbers table.now) }
+    ensures { IsTrue result → (c : ℕ) → 128 ≤ c → c < 1114112
+        → character_class (list_numbers table.now) c < count }
+{
+    for page in 1..page_end(table) {
+        if !is_page_below(table, page, count) {
+            return false;
+        }
+    }
+    true
 }
 
 // Whether the numbers are those of the table.
 fn is_ahead(ahead: &AheadLists, table: &TableLists, standings: &[Standing]) -> bool
-    requires { IsWalkable (list_numbers table.now) }
+    requires walkable { IsWalkable (list_numbers table.now) }
+    requires narrow { ahead.now.width ≤ 2 ^ 16 }
     ensures { IsTrue result → IsAheadOf (ahead_numbers ahead.now) (list_numbers table.now) }
 {
-    if ahead.width != column_count(table)
+    if ahead.width < OTHER_COLUMNS
+        || !are_classes_below(table, ahead.width - OTHER_COLUMNS)
         || standings.len().checked_mul(ahead.width + 1) != Some(ahead.cells.len())
         || !stands_for(ahead, standings, ahead.start, Standing::Begin)
     {
@@ -189,18 +249,22 @@ fn is_ahead(ahead: &AheadLists, table: &TableLists, standings: &[Standing]) -> b
     true
 }
 
-/// The numbers of the table that runs ahead by this one. `None` if there would be more than 16,777,216 cells, or if the check
-/// finds the numbers wrong.
+/// The numbers of the table that runs ahead by this one. `None` if there would be more than 67,108,864 cells or 65,536 columns,
+/// or if the check finds the numbers wrong.
 ///
 /// # Errors
 ///
 /// `AllocError` if a request for memory was refused.
 pub(crate) fn ahead_of(alloc: Global, table: &TableLists) -> Result<Option<AheadLists>, AllocError>
     requires { IsWalkable (list_numbers table.now) }
-    ensures { IfOk result (λ made. IfSome made (λ ahead.
-        IsAheadOf (ahead_numbers ahead) (list_numbers table.now))) }
+    ensures right { IfOk result (λ made. IfSome made (λ ahead.
+        CanRunAhead (ahead_numbers ahead) (list_numbers table.now))) }
+    ensures storable { IfOk result (λ made. IfSome made (λ ahead. IsStorableAhead (ahead_numbers ahead))) }
 {
     let width = column_count(table);
+    if width > MOST_COLUMNS {
+        return Ok(None);
+    }
     let rows = rows_of(alloc, table, width + 1)?;
     if rows.end > MOST {
         return Ok(None);
@@ -216,4 +280,30 @@ pub(crate) fn ahead_of(alloc: Global, table: &TableLists) -> Result<Option<Ahead
     } else {
         Ok(None)
     }
+}
+
+/// The numbers of the tables that run ahead, one for each of these tables. `None` if one of them can't be made.
+///
+/// # Errors
+///
+/// `AllocError` if a request for memory was refused.
+pub(crate) fn ahead_tables(
+    alloc: Global,
+    tables: &[TableLists],
+) -> Result<Option<Vec<AheadLists>>, AllocError>
+    requires { (m : ℕ) (t : TableNumbers) → slice_get (map list_numbers tables.now) m ≡ Some t → IsWalkable t }
+    ensures all { IfOk result (λ made. IfSome made (λ aheads. length aheads.items ≡ length tables.now)) }
+    ensures each { IfOk result (λ made. IfSome made (λ aheads.
+        AreAheadTables (map ahead_numbers aheads.items) (map list_numbers tables.now))) }
+    ensures storable { IfOk result (λ made. IfSome made (λ aheads.
+        All IsStorableAhead (map ahead_numbers aheads.items))) }
+{
+    let mut aheads = Vec::new(alloc);
+    for mode in 0..tables.len() {
+        match ahead_of(alloc, &tables[mode])? {
+            Some(ahead) => aheads.push(ahead)?,
+            None => return Ok(None),
+        }
+    }
+    Ok(Some(aheads))
 }

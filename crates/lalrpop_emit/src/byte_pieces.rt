@@ -4,9 +4,10 @@ ghost use Rattle.lalrpop_modes.specs.Modes.{ModeRules};
 ghost use Rattle.lalrpop_emit.specs.BytePieces.{AreBytePieces};
 ghost use Rattle.lalrpop_emit.specs.NumberedRules.{AreNumbersOf};
 
-use crate::driver::{State, Step, next};
+use crate::driver::{State, Step, memo_size, next};
 use crate::numbered_piece::NumberedPiece;
 use crate::numbers::LexerNumbers;
+use crate::run::Run;
 use std::alloc::{AllocError, Global};
 
 // How many modes may lie below the one on top, as in an emitted lexer.
@@ -49,9 +50,11 @@ pub(crate) fn all_pieces(
         depth: 0,
     };
     let mut below = vec![in alloc; 0u16; ROOM]?;
+    let mut run = Run::new(alloc)?;
+    let mut memo = vec![in alloc; 0u64; memo_size(numbers, text.len())]?;
     let mut pieces = Vec::new(alloc);
     'pieces: loop {
-        match next(numbers, text, &mut state, &mut below) {
+        match next(numbers, text, &mut state, &mut below, &mut run, &mut memo) {
             Step::Piece(piece) => pieces.push(piece)?,
             Step::End => {
                 return Ok(BytePieces {

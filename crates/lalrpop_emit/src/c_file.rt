@@ -1,13 +1,14 @@
 //! The source file of a lexer in C.
 ghost use Rattle.std.specs.List.{list_all};
 ghost use Rattle.std.specs.Prelude.{◌≡◌, ◌++◌, ℕ, List, map, decimal, string_bytes, IfOk, IfErr, OnOk};
-ghost use Rattle.lalrpop_emit.specs.CSource.{array, c_file, cell_type, cell_typedef, enumerators, field, filled, flags, is_narrow, kind_enum, listed, listing, mode_array, mode_arrays, mode_count, name_array, quoted_names, row_arrays, rules_text, table_arrays, table_row, table_rows, tables_text};
-ghost use Rattle.lalrpop_emit.specs.NumberedRules.{IsStorable, NumberedRules};
+ghost use Rattle.lalrpop_emit.specs.CSource.{ahead_arrays, ahead_cells, ahead_row, ahead_rows, ahead_text, array, c_file, cell_type, cell_typedef, enumerators, field, filled, flags, is_narrow_ahead, kind_enum, listed, listing, mode_array, mode_arrays, mode_count, name_array, quoted_names, row_arrays, rules_text, table_arrays, table_row, table_rows, tables_text};
+ghost use Rattle.lalrpop_emit.specs.NumberedRules.{AreSameInFile, IsStorable, NumberedRules};
 ghost use Rattle.lalrpop_emit.specs.Names.{IsIdentifier};
 ghost use Rattle.lalrpop_emit.specs.EmitErrors.{IsSourceError};
-ghost use Rattle.lalrpop_emit.specs.Internal.Lists.{list_numbers};
+ghost use Rattle.lalrpop_emit.specs.Internal.Lists.{ahead_numbers, list_numbers};
 
-use crate::c_text::{DRIVER, HEAD, TABLE};
+use crate::ahead_table::AheadLists;
+use crate::c_text::{AHEAD, DRIVER, HEAD, TABLE};
 use crate::error::EmitError;
 use crate::naming::is_identifier;
 use crate::numbers::LexerNumbers;
@@ -177,44 +178,46 @@ fn push_rules(
 }
 
 // Whether all cells of the table fit 16 bits.
-fn is_narrow_table(table: &TableLists) -> bool
-    ensures { result ≡ is_narrow (list_numbers table.now) }
+fn is_narrow_ahead(ahead: &AheadLists) -> bool
+    ensures { result ≡ is_narrow_ahead (ahead_numbers ahead.now) }
 {
-    table.cells.iter().all(|cell| *cell < 65536)
+    ahead.cells.iter().all(|cell| *cell < 65536)
 }
 
-/// Whether all cells of all tables fit 16 bits.
-pub(crate) fn are_narrow(tables: &[TableLists]) -> bool
-    ensures { result ≡ list_all (λ t. is_narrow (list_numbers t)) tables.now }
+/// Whether all cells of all tables that run ahead fit 16 bits.
+pub(crate) fn are_narrow_ahead(aheads: &[AheadLists]) -> bool
+    ensures { result ≡ list_all is_narrow_ahead (map ahead_numbers aheads.now) }
 {
-    tables.iter().all(|table| is_narrow_table(table))
+    for ahead in aheads {
+        if !is_narrow_ahead(ahead) {
+            return false;
+        }
+    }
+    true
 }
 
 // The type of the cells.
 #[tactic(auto, unfolding(crate::specs::CSource::cell_type))]
-fn cell_type_of(tables: &[TableLists]) -> &'static str
-    ensures { result.now ≡ cell_type (map list_numbers tables.now) }
+fn cell_type_of(narrow: bool) -> &'static str
+    ensures { result.now ≡ cell_type narrow }
 {
-    if are_narrow(tables) {
-        "uint16_t"
-    } else {
-        "uint32_t"
-    }
+    if narrow { "uint16_t" } else { "uint32_t" }
 }
 
 #[tactic(auto, unfolding(crate::specs::CSource::cell_typedef))]
 fn push_cell_typedef(
     source: &mut String,
     prefix: &str,
-    tables: &[TableLists],
+    narrow: bool,
+    name: &str,
 ) -> Result<(), AllocError>
     ensures { OnOk result (string_bytes source.new
-        ≡ string_bytes source.old ++ cell_typedef prefix.now (map list_numbers tables.now)) }
+        ≡ string_bytes source.old ++ cell_typedef prefix.now narrow name.now) }
 {
     source.push_str("typedef ")?;
-    source.push_str(cell_type_of(tables))?;
+    source.push_str(cell_type_of(narrow))?;
     source.push_str(" ")?;
-    push_filled(source, prefix, "$_cell;\n")
+    push_filled(source, prefix, name)
 }
 
 #[tactic(auto, unfolding(crate::specs::CSource::mode_count))]
@@ -257,7 +260,6 @@ fn push_mode_arrays(
 {
     push_mode_array(source, prefix, "uint8_t $_blocks_", mode, &table.blocks)?;
     push_mode_array(source, prefix, "uint16_t $_pages_", mode, &table.pages)?;
-    push_mode_array(source, prefix, "$_cell $_cells_", mode, &table.cells)?;
     Ok(())
 }
 
@@ -292,8 +294,6 @@ fn push_row_arrays(source: &mut String, prefix: &str, mode: usize) -> Result<(),
     push_decimal(source, mode as u64)?;
     push_filled(source, prefix, ", $_pages_")?;
     push_decimal(source, mode as u64)?;
-    push_filled(source, prefix, ", $_cells_")?;
-    push_decimal(source, mode as u64)?;
     Ok(())
 }
 
@@ -309,10 +309,6 @@ fn push_table_row(
 {
     push_row_arrays(source, prefix, mode)?;
     push_field(source, table.pages.len().saturating_sub(1))?;
-    push_field(source, table.start)?;
-    push_field(source, table.width)?;
-    push_field(source, table.live)?;
-    push_field(source, table.accept)?;
     source.push_str("},\n")?;
     Ok(())
 }
@@ -336,7 +332,6 @@ fn push_tables(source: &mut String, prefix: &str, tables: &[TableLists]) -> Resu
     ensures { OnOk result (string_bytes source.new
         ≡ string_bytes source.old ++ tables_text prefix.now (map list_numbers tables.now)) }
 {
-    push_cell_typedef(source, prefix, tables)?;
     push_filled(source, prefix, TABLE)?;
     push_mode_count(source, prefix, tables.len())?;
     push_table_arrays(source, prefix, tables)?;
@@ -346,6 +341,90 @@ fn push_tables(source: &mut String, prefix: &str, tables: &[TableLists]) -> Resu
         "static const $_table $_tables[$_modes] = {\n",
     )?;
     push_table_rows(source, prefix, tables)?;
+    source.push_str("};\n")?;
+    Ok(())
+}
+
+fn push_ahead_cells(
+    source: &mut String,
+    prefix: &str,
+    mode: usize,
+    ahead: &AheadLists,
+) -> Result<(), AllocError>
+    ensures { OnOk result (string_bytes source.new
+        ≡ string_bytes source.old ++ ahead_cells prefix.now mode (ahead_numbers ahead.now)) }
+{
+    push_mode_array(
+        source,
+        prefix,
+        "$_ahead_cell $_ahead_cells_",
+        mode,
+        &ahead.cells,
+    )?;
+    Ok(())
+}
+
+fn push_ahead_arrays(
+    source: &mut String,
+    prefix: &str,
+    aheads: &[AheadLists],
+) -> Result<(), AllocError>
+    ensures { OnOk result (string_bytes source.new
+        ≡ string_bytes source.old ++ ahead_arrays prefix.now 0 (map ahead_numbers aheads.now)) }
+{
+    for (mode, ahead) in aheads.iter().enumerate() {
+        push_ahead_cells(source, prefix, mode, ahead)?;
+    }
+    Ok(())
+}
+
+#[tactic(auto, unfolding(crate::specs::CSource::ahead_row))]
+fn push_ahead_row(
+    source: &mut String,
+    prefix: &str,
+    mode: usize,
+    ahead: &AheadLists,
+) -> Result<(), AllocError>
+    ensures { OnOk result (string_bytes source.new
+        ≡ string_bytes source.old ++ ahead_row prefix.now mode (ahead_numbers ahead.now)) }
+{
+    push_filled(source, prefix, "    {$_ahead_cells_")?;
+    push_decimal(source, mode as u64)?;
+    push_field(source, ahead.start)?;
+    push_field(source, ahead.width)?;
+    push_field(source, ahead.ends)?;
+    source.push_str("},\n")?;
+    Ok(())
+}
+
+fn push_ahead_rows(
+    source: &mut String,
+    prefix: &str,
+    aheads: &[AheadLists],
+) -> Result<(), AllocError>
+    ensures { OnOk result (string_bytes source.new
+        ≡ string_bytes source.old ++ ahead_rows prefix.now 0 (map ahead_numbers aheads.now)) }
+{
+    for (mode, ahead) in aheads.iter().enumerate() {
+        push_ahead_row(source, prefix, mode, ahead)?;
+    }
+    Ok(())
+}
+
+#[tactic(auto, unfolding(crate::specs::CSource::ahead_text))]
+fn push_ahead(source: &mut String, prefix: &str, aheads: &[AheadLists]) -> Result<(), AllocError>
+    ensures { OnOk result (string_bytes source.new
+        ≡ string_bytes source.old ++ ahead_text prefix.now (map ahead_numbers aheads.now)) }
+{
+    push_cell_typedef(source, prefix, are_narrow_ahead(aheads), "$_ahead_cell;\n")?;
+    push_filled(source, prefix, AHEAD)?;
+    push_ahead_arrays(source, prefix, aheads)?;
+    push_filled(
+        source,
+        prefix,
+        "static const $_ahead $_aheads[$_modes] = {\n",
+    )?;
+    push_ahead_rows(source, prefix, aheads)?;
     source.push_str("};\n")?;
     Ok(())
 }
@@ -361,6 +440,7 @@ fn source_text(alloc: Global, numbers: &LexerNumbers, prefix: &str) -> Result<St
     source.push_str(HEAD)?;
     push_rules(alloc, &mut source, prefix, numbers)?;
     push_tables(&mut source, prefix, numbers.tables())?;
+    push_ahead(&mut source, prefix, numbers.ahead())?;
     push_filled(&mut source, prefix, DRIVER)?;
     Ok(source)
 }
@@ -376,7 +456,7 @@ fn source_text(alloc: Global, numbers: &LexerNumbers, prefix: &str) -> Result<St
 /// The lexer does the actions of the rules, with room for 1,024 modes below the one on top. Where a token puts on more,
 /// `lex_next` returns -1, and stays before that token. `LexerNumbers::pieces` has the same pieces.
 ///
-/// No other numbers have this file: whoever reads it has the numbers.
+/// The file has the numbers that it cuts by. No others have this file: whoever reads it has them.
 ///
 /// ```
 /// use lalrpop_emit::{LexerNumbers, c_source};
@@ -393,7 +473,7 @@ pub fn c_source(alloc: Global, numbers: &LexerNumbers, prefix: &str) -> Result<S
     ensures identifier { IfOk result (λ source. IsIdentifier prefix.now) }
     ensures only { IfOk result (λ source. (p : List ℕ) (r : NumberedRules) → IsIdentifier p
         → IsStorable r → string_bytes source ≡ c_file p r
-        → (p ≡ prefix.now) × (r ≡ numbers.now)) }
+        → (p ≡ prefix.now) × AreSameInFile r numbers.now) }
     ensures error { IfErr result (IsSourceError prefix.now) }
 {
     if !is_identifier(prefix) {

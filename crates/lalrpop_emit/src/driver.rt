@@ -2,33 +2,42 @@
 //! line by line, in functions of the same names. These functions are proved; that the lines of C say the same is trusted. To
 //! compare with C:
 //!
-//! - `text: &[u8]` stands for `text` and `length`; `table` and `numbers` for static tables; `state` and `below` for `lexer`.
-//! - `None` stands for a size of 0, and for an end that is the start. What is in a `Some` is what C returns or writes through a
-//!   pointer.
-//! - `_modes > 1 ? lexer->mode : 0` is `state.mode`, and lets a compiler see where there is one table.
-//! - A kind of `None` is `_fault`. `Step::End` is 0, `Step::TooDeep` is -1, and a piece is 1.
-ghost use Rattle.std.specs.Prelude.{◌≡◌, ◌+◌, ◌-◌, ◌<◌, ◌≤◌, ℕ, List, length, take, drop, IsTrue, IfSome, ◌↔◌, MatchOption, min, max};
+//! - `text: &[u8]` stands for `text` and `length`, and `columns` and `rows` for these and `count`; `table` and `numbers` for static
+//!   tables; `state`, `below`, `run` and `memo` for `lexer`, which has the text, too, where it goes on and the mode.
+//! - `None` stands for a size of 0, an end of 0 or an answer of 0, and from `longest` and `found` for an end that is the start.
+//!   What is in a `Some` is what C returns or writes through a pointer.
+//! - A kind of `None` is `_fault`, and `fault` is `_fault_piece`. `Step::End` is 0, `Step::TooDeep` is -1, and a piece is 1.
+//! - Loops of a fixed length may be written out, or done by instructions for many numbers at once.
+//!
+//! The same holds of `longest_match.rt`, and of `ahead_columns.rt`, `ahead_rows.rt` and `ahead_driver.rt`, which cut a text in blocks.
+ghost use Rattle.std.specs.Prelude.{◌≡◌, [], None, IsFalse, ◌+◌, ◌-◌, ◌*◌, ◌/◌, ◌<◌, ◌≤◌, ℕ, List, Some, length, take, drop, slice_get, IsTrue, IfSome, ◌↔◌, ◌⊎◌, MatchOption, min, max};
 ghost use Rattle.std.specs.Char.{encode_utf8, IsScalar};
+ghost use Rattle.std.specs.List.{All};
 ghost use Rattle.std.specs.Option.{option_map};
 ghost use Rattle.lalrpop_book.specs.Tree.{Tree};
 ghost use Rattle.lalrpop_book.specs.Longest.{IsLongest};
 ghost use Rattle.lalrpop_dfa.specs.Dfa.{Row, Recognizes};
-ghost use Rattle.lalrpop_dense.specs.DenseTable.{AreClasses, IsTableFor, block_of_page, character_class};
+ghost use Rattle.lalrpop_dense.specs.DenseTable.{AreClasses, IsTableFor, TableNumbers, block_of_page, character_class};
 ghost use Rattle.lalrpop_rules.specs.Found.{MatchesAt};
-ghost use Rattle.lalrpop_modes.specs.Stack.{Stack, act_all};
+ghost use Rattle.lalrpop_modes.specs.Stack.{Stack, act_all, actions_of};
 ghost use Rattle.lalrpop_modes.specs.Modes.{ModeRules};
 ghost use Rattle.lalrpop_modes.specs.declared.action.Action.{Action};
 ghost use Rattle.lalrpop_emit.specs.BytePieces.{IsByteFault, Fits};
 ghost use Rattle.lalrpop_emit.specs.BytePositions.{byte_position_of};
 ghost use Rattle.lalrpop_emit.specs.NumberedRules.{AreNumbersOf};
 ghost use Rattle.lalrpop_emit.specs.Internal.Characters.{IsCharacterAt, IsFollowing};
-ghost use Rattle.lalrpop_emit.specs.Internal.Driving.{IsState, ComesNext, GoesOnIf, stack_of};
+ghost use Rattle.lalrpop_emit.specs.Internal.Driving.{IsState, ComesNext, GoesOn, GoesOnIf, stack_of};
 ghost use Rattle.lalrpop_emit.specs.Internal.Lists.{list_numbers};
-ghost use Rattle.lalrpop_emit.specs.Internal.Walking.{IsWalkable, AreRulesBelow, AreActionsAt};
+ghost use Rattle.lalrpop_emit.specs.Internal.Memo.{IsMemoOf};
+ghost use Rattle.lalrpop_emit.specs.Internal.Running.{IsRunOf, IsTokenAt};
+ghost use Rattle.lalrpop_emit.specs.Internal.Walking.{AreRulesBelow, AreActionsAt};
 
+use crate::ahead_driver::{block_length, fill_block, known, resume, take};
 use crate::byte_positions::BytePosition as Position;
+use crate::longest_match::{fault_end, longest, memo_words};
 use crate::numbered_piece::NumberedPiece;
 use crate::numbers::LexerNumbers as Numbers;
+use crate::run::Run;
 use crate::table_lists::TableLists as Table;
 
 // A character in a text of bytes: how many bytes it has, and its code.
@@ -40,9 +49,9 @@ pub(crate) struct Character {
 
 // A match in a text: its rule, and where it ends.
 #[derive(Clone, Copy)]
-struct Match {
-    rule: usize,
-    end: usize,
+pub(crate) struct Match {
+    pub(crate) rule: usize,
+    pub(crate) end: usize,
 }
 
 // Where a text is cut.
@@ -137,57 +146,6 @@ pub(crate) fn class(table: &Table, code: u32) -> usize
     table.blocks[block(table, code / 128) * 128 + code % 128] as usize
 }
 
-// Where the longest match from the place on ends, and its rule. `None` if nothing matches there.
-fn longest(table: &Table, text: &[u8], start: usize) -> Option<Match>
-    requires { IsWalkable (list_numbers table.now) }
-    ensures answer { (d : List Row) → IsTableFor (list_numbers table.now) d
-        → (ts : List Tree) (ps : List ℕ) → Recognizes d ts ps → IsLongest ts ps (drop start text.now)
-        (option_map (λ m. (m.rule, take (m.end - start) (drop start text.now))) result) }
-    ensures place { IfSome result (λ m. (start < m.end) × (m.end ≤ length text.now)) }
-    ensures rule { (count : ℕ) → AreRulesBelow (list_numbers table.now) count
-        → IfSome result (λ m. m.rule < count) }
-{
-    let mut row = table.start;
-    let mut at = start;
-    let mut longest = None;
-    'walk: while at < text.len() {
-        let Some(character) = read(text, at) else {
-            return longest;
-        };
-        at += character.size;
-        row = table.cells[row + class(table, character.code)] as usize;
-        if row < table.live {
-            return longest;
-        }
-        if row >= table.accept {
-            longest = Some(Match {
-                rule: table.cells[row + table.width] as usize,
-                end: at,
-            });
-        }
-    }
-    longest
-}
-
-// Where the fault at the place ends: before the next place where a rule matches, or with the text.
-fn fault_end(table: &Table, text: &[u8], start: usize) -> usize
-    requires walkable { IsWalkable (list_numbers table.now) }
-    requires within { start < length text.now }
-    ensures fault { (d : List Row) → IsTableFor (list_numbers table.now) d
-        → (ts : List Tree) (ps : List ℕ) → Recognizes d ts ps → ¬ MatchesAt ts text.now start
-        → IsByteFault ts (drop start text.now) (result - start) }
-    ensures place { (start < result) × (result ≤ length text.now) }
-{
-    let mut end = start + 1;
-    'fault: while end < text.len() {
-        if longest(table, text, end).is_some() {
-            return end;
-        }
-        end += 1;
-    }
-    end
-}
-
 // Whether there is room for the modes that the actions from the place on put on top, where this many modes lie below.
 fn has_room(numbers: &Numbers, first: usize, depth: usize, room: usize) -> bool
     requires actions { (actions : List Action)
@@ -244,41 +202,206 @@ fn act(numbers: &Numbers, first: usize, state: &mut State, below: &mut [u16])
     }
 }
 
-// The next piece, a token or a fault, behind which the text is cut on.
-pub(crate) fn next(numbers: &Numbers, text: &[u8], state: &mut State, below: &mut [u16]) -> Step
+// How many rows in which a token is open the greatest table that runs ahead has; only of these it is noted that no match comes.
+fn most_rows(numbers: &Numbers) -> usize
+    ensures { All (λ a. a.ends / (a.width + 1) ≤ result) numbers.now.ahead }
+{
+    let mut most = 0;
+    'tables: for ahead in numbers.ahead.iter() {
+        most = most.max(ahead.ends / (ahead.width + 1));
+    }
+    most
+}
+
+// How many words the memo for a text of this size has: for each mode as many as the greatest table has use for.
+pub(crate) fn memo_size(numbers: &Numbers, size: usize) -> usize
+    ensures { All (λ a. (result ≡ usize.MAX)
+        ⊎ (a.ends / (a.width + 1) * (size / 4096 + 1) ≤ result / length numbers.now.tables)) numbers.now.ahead }
+{
+    memo_words(most_rows(numbers), size).saturating_mul(numbers.tables.len())
+}
+
+// Where the mode's part of the memo, which has so many words, begins and ends. Each mode has an equal one.
+fn memo_part(words: usize, modes: usize, mode: u16) -> (usize, usize)
+    requires { mode < modes }
+    ensures from { result.0 ≡ mode * (words / modes) }
+    ensures to { result.1 ≡ result.0 + words / modes }
+    ensures within { result.1 ≤ words }
+{
+    let size = words / modes;
+    let from = mode as usize * size;
+    (from, from + size)
+}
+
+// Where the longest match from the place on ends, and its rule, by a new block or without. `None` if nothing matches there.
+fn found(
+    numbers: &Numbers,
+    text: &[u8],
+    at: usize,
+    mode: u16,
+    run: &mut Run,
+    memo: &mut [u64],
+) -> Option<Match>
+    requires mode { mode < length numbers.now.tables }
+    requires within { at ≤ length text.now }
+    requires run { IsRunOf numbers.now mode at text.now run.old }
+    requires memo { IsMemoOf numbers.now text.now memo.old }
+    ensures answer { (t : TableNumbers) → slice_get numbers.now.tables mode ≡ Some t
+        → (d : List Row) → IsTableFor t d
+        → (ts : List Tree) (ps : List ℕ) → Recognizes d ts ps → IsLongest ts ps (drop at text.now)
+        (option_map (λ m. (m.rule, take (m.end - at) (drop at text.now))) result) }
+    ensures place { IfSome result (λ m. (at < m.end) × (m.end ≤ length text.now)) }
+    ensures rule { (t : TableNumbers) → slice_get numbers.now.tables mode ≡ Some t
+        → (count : ℕ) → AreRulesBelow t count → IfSome result (λ m. m.rule < count) }
+    ensures run { IsRunOf numbers.now mode at text.now run.new }
+    ensures memo { IsMemoOf numbers.now text.now memo.new }
+{
+    let table = &numbers.tables[mode as usize];
+    let ahead = &numbers.ahead[mode as usize];
+    let length = block_length(text, at, mode, run);
+    if length > 0 {
+        fill_block(ahead, table, text, at, mode, length, run);
+        let token = known(ahead, run);
+        if token.is_some() {
+            return token;
+        }
+    }
+    let (from, to) = memo_part(memo.len(), numbers.tables.len(), mode);
+    longest(ahead, table, text, at, &mut memo[from..to])
+}
+
+// Whether the pieces of the rule have actions.
+fn has_actions(numbers: &Numbers, rule: usize) -> bool
+    requires { rule < length numbers.now.kinds }
+    ensures { IsFalse result → (r : ModeRules) → AreNumbersOf r numbers.now → actions_of r.actions rule ≡ [] }
+{
+    numbers.actions.len() > numbers.first_actions.len()
+        && numbers.actions[numbers.first_actions[rule] as usize] != 0
+}
+
+// The token as a piece that begins at the start.
+fn token_piece(numbers: &Numbers, start: usize, token: Match) -> NumberedPiece
+    requires rule { token.rule < length numbers.now.kinds }
+    requires end { start ≤ token.end }
+    ensures kind { MatchOption result.kind ⊥ (λ kind. slice_get numbers.now.kinds token.rule ≡ Some kind) }
+    ensures rest { (result.rule ≡ token.rule) × (result.start ≡ start) × (result.length ≡ token.end - start) }
+{
+    NumberedPiece {
+        kind: Some(numbers.kinds[token.rule]),
+        rule: token.rule,
+        start,
+        length: token.end - start,
+    }
+}
+
+// The fault that begins where the text goes on, behind which it then goes on.
+fn fault(numbers: &Numbers, text: &[u8], state: &mut State, memo: &mut [u64]) -> NumberedPiece
+    requires mode { state.old.mode < length numbers.now.tables }
+    requires within { state.old.at < length text.now }
+    requires memo { IsMemoOf numbers.now text.now memo.old }
+    ensures fault { (t : TableNumbers) → slice_get numbers.now.tables state.old.mode ≡ Some t
+        → (d : List Row) → IsTableFor t d
+        → (ts : List Tree) (ps : List ℕ) → Recognizes d ts ps → ¬ MatchesAt ts text.now state.old.at
+        → IsByteFault ts (drop state.old.at text.now) result.length }
+    ensures piece { (result.kind ≡ None) × (result.rule ≡ 0) × (result.start ≡ state.old.at) }
+    ensures place { GoesOn text.now state.old.at result.start result.length state.new.at }
+    ensures stack { (state.new.mode ≡ state.old.mode) × (state.new.depth ≡ state.old.depth) }
+    ensures memo { IsMemoOf numbers.now text.now memo.new }
+{
+    let table = &numbers.tables[state.mode as usize];
+    let ahead = &numbers.ahead[state.mode as usize];
+    let start = state.at;
+    let (from, to) = memo_part(memo.len(), numbers.tables.len(), state.mode);
+    state.at = fault_end(ahead, table, text, start, &mut memo[from..to]);
+    NumberedPiece {
+        kind: None,
+        rule: 0,
+        start,
+        length: state.at - start,
+    }
+}
+
+// As `next`, where the block doesn't tell the token, or the token's rule has actions.
+#[inline(never)]
+fn next_apart(
+    numbers: &Numbers,
+    text: &[u8],
+    state: &mut State,
+    below: &mut [u16],
+    run: &mut Run,
+    known: Option<Match>,
+    memo: &mut [u64],
+) -> Step
     requires state { IsState (length numbers.now.tables) state.old below.old }
+    requires run { IsRunOf numbers.now state.old.mode state.old.at text.now run.old }
+    requires memo { IsMemoOf numbers.now text.now memo.old }
+    requires known { IfSome known (λ m. (t : TableNumbers)
+        → slice_get numbers.now.tables state.old.mode ≡ Some t → IsTokenAt t text.now state.old.at m.rule m.end) }
     ensures next { (r : ModeRules) → AreNumbersOf r numbers.now
         → ComesNext r numbers.now.kinds (length below.old) text.now state.old.at
         (stack_of state.old below.old) result (stack_of state.new below.new) }
     ensures state { IsState (length numbers.now.tables) state.new below.new }
     ensures goes_on { GoesOnIf text.now state.old.at result state.new.at }
+    ensures run { IsRunOf numbers.now state.new.mode state.new.at text.now run.new }
+    ensures memo { IsMemoOf numbers.now text.now memo.new }
 {
-    let table = &numbers.tables[state.mode as usize];
     let start = state.at;
+    let mode = state.mode;
     if start >= text.len() {
         return Step::End;
     }
-    let Some(found) = longest(table, text, start) else {
-        state.at = fault_end(table, text, start);
-        return Step::Piece(NumberedPiece {
-            kind: None,
-            rule: 0,
-            start,
-            length: state.at - start,
-        });
+    let token = match known {
+        Some(token) => Some(token),
+        None => found(numbers, text, start, mode, run, memo),
     };
-    let first = numbers.first_actions[found.rule] as usize;
+    let Some(token) = token else {
+        let piece = fault(numbers, text, state, memo);
+        resume(run, state.at, mode);
+        return Step::Piece(piece);
+    };
+    let first = numbers.first_actions[token.rule] as usize;
     if !has_room(numbers, first, state.depth, below.len()) {
         return Step::TooDeep;
     }
     act(numbers, first, state, below);
-    state.at = found.end;
-    Step::Piece(NumberedPiece {
-        kind: Some(numbers.kinds[found.rule]),
-        rule: found.rule,
-        start,
-        length: found.end - start,
-    })
+    state.at = token.end;
+    if state.mode != mode {
+        run.since = token.end;
+    }
+    resume(run, token.end, state.mode);
+    Step::Piece(token_piece(numbers, start, token))
+}
+
+// The next piece, a token or a fault, behind which the text is cut on.
+pub(crate) fn next(
+    numbers: &Numbers,
+    text: &[u8],
+    state: &mut State,
+    below: &mut [u16],
+    run: &mut Run,
+    memo: &mut [u64],
+) -> Step
+    requires state { IsState (length numbers.now.tables) state.old below.old }
+    requires run { IsRunOf numbers.now state.old.mode state.old.at text.now run.old }
+    requires memo { IsMemoOf numbers.now text.now memo.old }
+    ensures next { (r : ModeRules) → AreNumbersOf r numbers.now
+        → ComesNext r numbers.now.kinds (length below.old) text.now state.old.at
+        (stack_of state.old below.old) result (stack_of state.new below.new) }
+    ensures state { IsState (length numbers.now.tables) state.new below.new }
+    ensures goes_on { GoesOnIf text.now state.old.at result state.new.at }
+    ensures run { IsRunOf numbers.now state.new.mode state.new.at text.now run.new }
+    ensures memo { IsMemoOf numbers.now text.now memo.new }
+{
+    let start = state.at;
+    let token = known(&numbers.ahead[state.mode as usize], run);
+    if let Some(token) = token {
+        if !has_actions(numbers, token.rule) {
+            take(run);
+            state.at = token.end;
+            return Step::Piece(token_piece(numbers, start, token));
+        }
+    }
+    next_apart(numbers, text, state, below, run, token, memo)
 }
 
 // Moves on to the offset, if it is further on, and to the end of the text at most. A line feed ends its line, and a byte that

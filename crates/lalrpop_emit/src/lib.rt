@@ -3,24 +3,26 @@
 //! The numbers are proved to be right for the automaton, and the text to be that of these numbers alone. The code that is the
 //! same for all rules is proved in the form that it has in this crate, for texts of any bytes. A source in Rust has its text,
 //! without the contracts. That its lines in C say the same is trusted: both stand function by function in the same order.
-//!
-//! `ahead_columns`, `ahead_rows`, `ahead_table` and `standing` are for a faster driver that is yet to come: nothing calls them.
 #![tactic(auto)]
 
 mod action_lists;
 mod ahead_columns;
+mod ahead_driver;
 mod ahead_rows;
 mod ahead_table;
 mod byte_pieces;
 mod byte_positions;
 mod c_file;
 mod c_text;
+mod class_order;
 mod driver;
 mod error;
+mod longest_match;
 mod naming;
 mod numbered_piece;
 mod numbers;
 mod patterns;
+mod run;
 mod rust_file;
 mod rust_text;
 mod standing;

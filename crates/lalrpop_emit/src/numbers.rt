@@ -8,10 +8,11 @@ ghost use Rattle.lalrpop_emit.specs.BytePieces.{AreBytePieces, numbered};
 ghost use Rattle.lalrpop_emit.specs.EmitErrors.{IsNumbersError};
 ghost use Rattle.lalrpop_emit.specs.Names.{IsName};
 ghost use Rattle.lalrpop_emit.specs.NumberedRules.{AreNumbersOf, IsStorable};
-ghost use Rattle.lalrpop_emit.specs.Internal.Lists.{list_numbers};
+ghost use Rattle.lalrpop_emit.specs.Internal.Lists.{ahead_numbers, list_numbers};
 ghost use Rattle.lalrpop_emit.specs.declared.numbered_piece.NumberedPiece.{NumberedPiece};
 
 use crate::action_lists::action_lists;
+use crate::ahead_table::{AheadLists, ahead_tables};
 use crate::byte_pieces::{BytePieces, all_pieces};
 use crate::error::EmitError;
 use crate::naming::{distinct_names, first_bad_name, kind_list};
@@ -21,7 +22,8 @@ use std::alloc::{AllocError, Global};
 use std::marker::Model;
 
 /// A lexer in numbers: the distinct names of its rules; for each rule its kind, which is the number of its name, whether it is
-/// skipped, and where its actions begin; the actions of all rules; and the table of each mode.
+/// skipped, and where its actions begin; the actions of all rules; the table of each mode; and for each mode the one that runs
+/// ahead.
 ///
 /// ```
 /// use lalrpop_emit::LexerNumbers;
@@ -36,12 +38,13 @@ pub struct LexerNumbers {
     pub(crate) first_actions: Vec<u32>,
     pub(crate) actions: Vec<u32>,
     pub(crate) tables: Vec<TableLists>,
+    pub(crate) ahead: Vec<AheadLists>,
 }
 
 impl Model for LexerNumbers {
     ghost use Rattle.std.specs.Prelude.{map, string_bytes};
     ghost use Rattle.lalrpop_emit.specs.NumberedRules.{NumberedRules, IsStorable};
-    ghost use Rattle.lalrpop_emit.specs.Internal.Lists.{list_numbers};
+    ghost use Rattle.lalrpop_emit.specs.Internal.Lists.{ahead_numbers, list_numbers};
     ghost use Rattle.lalrpop_emit.specs.Internal.Walking.{IsDrivable};
 
     ghost Value = { NumberedRules };
@@ -53,6 +56,7 @@ impl Model for LexerNumbers {
       first_actions = n.first_actions.items;
       actions = n.actions.items;
       tables = map list_numbers n.tables.items;
+      ahead = map ahead_numbers n.ahead.items;
     } };
 
     ghost invariant = { λ n. IsStorable (record {
@@ -62,6 +66,7 @@ impl Model for LexerNumbers {
       first_actions = n.first_actions.items;
       actions = n.actions.items;
       tables = map list_numbers n.tables.items;
+      ahead = map ahead_numbers n.ahead.items;
     })
         × IsDrivable (record {
           names = map (λ s. string_bytes s) n.names.items;
@@ -70,6 +75,7 @@ impl Model for LexerNumbers {
           first_actions = n.first_actions.items;
           actions = n.actions.items;
           tables = map list_numbers n.tables.items;
+          ahead = map ahead_numbers n.ahead.items;
         }) };
 }
 
@@ -78,9 +84,8 @@ impl LexerNumbers {
     ///
     /// # Errors
     ///
-    /// There are no rules, or 65,536 rules or modes or more; more or fewer skips than names; a name that isn't made of
-    /// ASCII letters, digits and `_`; a pattern without a name; a mode whose automaton has no table; too many actions; or out
-    /// of memory.
+    /// There are no rules, or 65,536 rules or modes or more; more or fewer skips than names; a name that isn't made of ASCII
+    /// letters, digits and `_`; a pattern without a name; a mode whose automaton has no table; too many actions; or out of memory.
     pub fn new(alloc: Global, rules: &ModeLexer) -> Result<LexerNumbers, EmitError>
         ensures numbers { IfOk result (AreNumbersOf rules.now) }
         ensures storable { IfOk result IsStorable }
@@ -93,6 +98,9 @@ impl LexerNumbers {
         let kinds = kind_list(alloc, &names, rules.names())?;
         let skips = rules.skips().iter().copied().collect(alloc)?;
         let lists = action_lists(alloc, rules)?;
+        let Some(ahead) = ahead_tables(alloc, &tables)? else {
+            return Err(EmitError::NoTable);
+        };
         Ok(LexerNumbers {
             names,
             kinds,
@@ -100,6 +108,7 @@ impl LexerNumbers {
             first_actions: lists.first_places,
             actions: lists.numbers,
             tables,
+            ahead,
         })
     }
 
@@ -173,6 +182,12 @@ impl LexerNumbers {
         ensures storable { IsStorable self.now }
     {
         &self.tables
+    }
+
+    pub(crate) fn ahead(&self) -> &[AheadLists]
+        ensures { map ahead_numbers result.now ≡ self.now.ahead }
+    {
+        &self.ahead
     }
 }
 

@@ -2,11 +2,12 @@
 ghost use Rattle.std.specs.List.{All, list_any};
 ghost use Rattle.std.specs.Str.{bytes_eq};
 ghost use Rattle.std.specs.Prelude.{◌≡◌, ◌↔◌, ◌++◌, map, string_bytes, IfOk, IfErr, OnOk, IsTrue, MatchOption};
-ghost use Rattle.lalrpop_emit.specs.RustSource.{IsVariant, IsFirstBadVariant, IsRustError, cell_type, kind_enum, list_field, name_fields, name_lines, number_field, numbers_text, reserved, rust_file, table_text, table_texts};
-ghost use Rattle.lalrpop_emit.specs.NumberedRules.{IsStorable, NumberedRules};
-ghost use Rattle.lalrpop_emit.specs.Internal.Lists.{list_numbers};
+ghost use Rattle.lalrpop_emit.specs.RustSource.{IsVariant, IsFirstBadVariant, IsRustError, ahead_text, ahead_texts, cell_type, kind_enum, list_field, name_fields, name_lines, number_field, numbers_text, reserved, rust_file, table_text, table_texts};
+ghost use Rattle.lalrpop_emit.specs.NumberedRules.{AreSameInFile, IsStorable, NumberedRules};
+ghost use Rattle.lalrpop_emit.specs.Internal.Lists.{ahead_numbers, list_numbers};
 
-use crate::c_file::{are_narrow, flag_numbers, push_decimal, push_listed};
+use crate::ahead_table::AheadLists;
+use crate::c_file::{are_narrow_ahead, flag_numbers, push_decimal, push_listed};
 use crate::error::EmitError;
 use crate::naming::is_identifier;
 use crate::numbers::LexerNumbers;
@@ -110,13 +111,8 @@ fn push_table(source: &mut String, table: &TableLists) -> Result<(), AllocError>
         ≡ string_bytes source.old ++ table_text (list_numbers table.now)) }
 {
     source.push_str("        Table {\n")?;
-    push_number_field(source, "            start", table.start)?;
-    push_number_field(source, "            width", table.width)?;
-    push_number_field(source, "            live", table.live)?;
-    push_number_field(source, "            accept", table.accept)?;
     push_list_field(source, "            blocks", &table.blocks)?;
     push_list_field(source, "            pages", &table.pages)?;
-    push_list_field(source, "            cells", &table.cells)?;
     source.push_str("        },\n")?;
     Ok(())
 }
@@ -133,10 +129,34 @@ fn push_tables(source: &mut String, tables: &[TableLists]) -> Result<(), AllocEr
 
 // The type of the cells.
 #[tactic(auto, unfolding(crate::specs::RustSource::cell_type))]
-fn cell_type_of(tables: &[TableLists]) -> &'static str
-    ensures { result.now ≡ cell_type (map list_numbers tables.now) }
+fn cell_type_of(narrow: bool) -> &'static str
+    ensures { result.now ≡ cell_type narrow }
 {
-    if are_narrow(tables) { "u16" } else { "u32" }
+    if narrow { "u16" } else { "u32" }
+}
+
+#[tactic(auto, unfolding(crate::specs::RustSource::ahead_text))]
+fn push_ahead(source: &mut String, ahead: &AheadLists) -> Result<(), AllocError>
+    ensures { OnOk result (string_bytes source.new
+        ≡ string_bytes source.old ++ ahead_text (ahead_numbers ahead.now)) }
+{
+    source.push_str("        Ahead {\n")?;
+    push_number_field(source, "            start", ahead.start)?;
+    push_number_field(source, "            width", ahead.width)?;
+    push_number_field(source, "            ends", ahead.ends)?;
+    push_list_field(source, "            cells", &ahead.cells)?;
+    source.push_str("        },\n")?;
+    Ok(())
+}
+
+fn push_aheads(source: &mut String, aheads: &[AheadLists]) -> Result<(), AllocError>
+    ensures { OnOk result (string_bytes source.new
+        ≡ string_bytes source.old ++ ahead_texts (map ahead_numbers aheads.now)) }
+{
+    for ahead in aheads {
+        push_ahead(source, ahead)?;
+    }
+    Ok(())
 }
 
 #[tactic(auto, unfolding(crate::specs::RustSource::numbers_text))]
@@ -145,8 +165,9 @@ fn push_numbers(
     source: &mut String,
     numbers: &LexerNumbers,
 ) -> Result<(), AllocError>
-    ensures { OnOk result (string_bytes source.new
+    ensures text { OnOk result (string_bytes source.new
         ≡ string_bytes source.old ++ numbers_text numbers.now) }
+    ensures storable { OnOk result (IsStorable numbers.now) }
 {
     let skipped = flag_numbers(alloc, numbers.skips())?;
     source.push_str("#[rustfmt::skip]\nstatic NUMBERS: Numbers = Numbers {\n")?;
@@ -157,6 +178,8 @@ fn push_numbers(
     push_list_field(source, "    actions", numbers.actions())?;
     source.push_str("    tables: &[\n")?;
     push_tables(source, numbers.tables())?;
+    source.push_str("    ],\n    ahead: &[\n")?;
+    push_aheads(source, numbers.ahead())?;
     source.push_str("    ],\n};\n")?;
     Ok(())
 }
@@ -170,8 +193,8 @@ fn source_text(alloc: Global, numbers: &LexerNumbers) -> Result<String, AllocErr
     push_kind_enum(&mut source, numbers.names())?;
     source.push_str(INTERFACE)?;
     source.push_str(DRIVER)?;
-    source.push_str("\ntype Cell = ")?;
-    source.push_str(cell_type_of(numbers.tables()))?;
+    source.push_str("\ntype AheadCell = ")?;
+    source.push_str(cell_type_of(are_narrow_ahead(numbers.ahead())))?;
     source.push_str(";\n\n")?;
     push_numbers(alloc, &mut source, numbers)?;
     Ok(source)
@@ -187,7 +210,7 @@ fn source_text(alloc: Global, numbers: &LexerNumbers) -> Result<String, AllocErr
 /// called. Bytes that aren't UTF-8 match nothing. `TooDeep`, the last item where it comes, means that more than 1024 modes
 /// would lie below the one on top. `LexerNumbers::pieces` has the same pieces.
 ///
-/// No other numbers have this file: whoever reads it has the numbers.
+/// The file has the numbers that it cuts by. No others have this file: whoever reads it has them.
 ///
 /// ```
 /// use lalrpop_emit::{LexerNumbers, rust_source};
@@ -203,7 +226,7 @@ pub fn rust_source(alloc: Global, numbers: &LexerNumbers) -> Result<String, Emit
     ensures file { IfOk result (λ source. string_bytes source ≡ rust_file numbers.now) }
     ensures variants { OnOk result (All IsVariant numbers.now.names) }
     ensures only { IfOk result (λ source. (r : NumberedRules) → IsStorable r
-        → string_bytes source ≡ rust_file r → r ≡ numbers.now) }
+        → string_bytes source ≡ rust_file r → AreSameInFile r numbers.now) }
     ensures error { IfErr result (IsRustError numbers.now.names) }
 {
     if let Some(kind) = first_bad_variant(numbers.names()) {

@@ -1,7 +1,7 @@
 //! What is known at a place of a text where a table runs ahead, and where the next byte leads.
-ghost use Rattle.std.specs.Prelude.{◌≡◌, ◌+◌, slice_index};
+ghost use Rattle.std.specs.Prelude.{◌≡◌, ◌≢◌, ◌+◌, slice_index, IsTrue, Some};
 ghost use Rattle.lalrpop_dense.specs.DenseTable.{AreClasses};
-ghost use Rattle.lalrpop_emit.specs.Internal.Ahead.{Begin, accepts, by_bad, by_class, by_column, by_within, is_end, is_live, led, opened, row_by, rule_at, rule_number};
+ghost use Rattle.lalrpop_emit.specs.Ahead.{Begin, accepts, by_bad, by_class, by_column, by_within, is_end, is_live, is_lost, led, no_rule, opened, row_by, rule_at, rule_number};
 ghost use Rattle.lalrpop_emit.specs.Internal.Lists.{list_numbers};
 
 use crate::driver::class;
@@ -22,8 +22,8 @@ pub(crate) enum Standing {
     Again(u32),
 }
 
-// No rule has this number.
-const NO_RULE: u32 = 65535;
+/// No rule has this number.
+pub(crate) const NO_RULE: u32 = 65535;
 
 /// The cell in this column of the row that begins at the place, 0 if there is none.
 pub(crate) fn cell(cells: &[u32], row: usize, column: usize) -> u32
@@ -123,17 +123,23 @@ fn by_bad(table: &TableLists, standing: Standing) -> Standing
     }
 }
 
-/// Where a byte of the column leads: first come the columns of ASCII, then those of the classes, then that of bytes within a
-/// character; all others are of bytes that begin none.
-pub(crate) fn by_column(table: &TableLists, standing: Standing, column: usize) -> Standing
+/// Where a byte of the column leads, of so many columns: first come those of ASCII, then those of classes; the last two are that
+/// of bytes within a character, and that of bytes that begin none.
+pub(crate) fn by_column(
+    table: &TableLists,
+    width: usize,
+    standing: Standing,
+    column: usize,
+) -> Standing
     requires { AreClasses (list_numbers table.now) }
-    ensures { result ≡ by_column (list_numbers table.now) standing column }
+    ensures { result ≡ by_column (list_numbers table.now) width standing column }
 {
+    let within = width.saturating_sub(2);
     if column < 128 {
         by_class(table, class(table, column as u32), standing)
-    } else if column - 128 < table.width {
+    } else if column < within {
         by_class(table, column - 128, standing)
-    } else if column - 128 == table.width {
+    } else if column == within {
         by_within(standing)
     } else {
         by_bad(table, standing)
@@ -145,6 +151,25 @@ pub(crate) fn is_end(standing: Standing) -> bool
     ensures { result ≡ is_end standing }
 {
     matches!(standing, Standing::Ended | Standing::Again(_))
+}
+
+/// Whether no token is open.
+pub(crate) fn is_lost(standing: Standing) -> bool
+    ensures { result ≡ is_lost standing }
+{
+    matches!(standing, Standing::Lost)
+}
+
+/// Whether the rule of the token that ends here, if one does, has a number that tells it from none.
+pub(crate) fn is_told(table: &TableLists, standing: Standing) -> bool
+    ensures { IsTrue result → rule_at (list_numbers table.now) standing ≢ Some no_rule }
+{
+    match standing {
+        Standing::In(row) | Standing::Again(row) if accepts(table, row) => {
+            cell(&table.cells, row as usize, table.width) != NO_RULE
+        }
+        _ => true,
+    }
 }
 
 /// The number of the rule of the token that ends here; 65,535 if none does.

@@ -3,8 +3,9 @@ ghost use Rattle.std.specs.Prelude.{◌≡◌, ◌<◌, length, map, IfOk, IfErr
 ghost use Rattle.lalrpop_dense.specs.DenseTable.{cell_numbers, table_numbers};
 ghost use Rattle.lalrpop_emit.specs.EmitErrors.{IsNumbersError};
 ghost use Rattle.lalrpop_emit.specs.NumberedRules.{IsStorableTable};
-ghost use Rattle.lalrpop_emit.specs.Internal.Lists.{list_numbers, AreModeTables, AreSmall, IsModeTable};
+ghost use Rattle.lalrpop_emit.specs.Internal.Lists.{list_numbers, AreModeTables, IsModeTable};
 
+use crate::class_order::in_class_order;
 use crate::error::EmitError;
 use crate::patterns::unnamed_pattern;
 use lalrpop_dense::{DenseTable, TableCells};
@@ -24,8 +25,7 @@ pub(crate) struct TableLists {
 }
 
 fn copied_cells(alloc: Global, cells: &[u32]) -> Result<Vec<u32>, AllocError>
-    ensures same { IfOk result (λ copy. copy.items ≡ cells.now) }
-    ensures small { IfOk result (λ copy. AreSmall copy.items) }
+    ensures { IfOk result (λ copy. copy.items ≡ cells.now) }
 {
     let mut copy = Vec::new(alloc);
     for cell in cells {
@@ -35,8 +35,7 @@ fn copied_cells(alloc: Global, cells: &[u32]) -> Result<Vec<u32>, AllocError>
 }
 
 fn widened_cells(alloc: Global, cells: TableCells<'_>) -> Result<Vec<u32>, AllocError>
-    ensures same { IfOk result (λ wide. wide.items ≡ cell_numbers cells.entry) }
-    ensures small { IfOk result (λ wide. AreSmall wide.items) }
+    ensures { IfOk result (λ wide. wide.items ≡ cell_numbers cells.entry) }
 {
     match cells {
         TableCells::Narrow(cells) => cells.iter().map(|cell| u32::from(*cell)).collect(alloc),
@@ -103,7 +102,9 @@ pub(crate) fn mode_tables(alloc: Global, rules: &ModeLexer) -> Result<Vec<TableL
 {
     let mut tables = Vec::new(alloc);
     for mode in 0..rules.modes() {
-        tables.push(mode_table(alloc, rules, mode)?)?;
+        let table = mode_table(alloc, rules, mode)?;
+        let ordered = in_class_order(alloc, table)?;
+        tables.push(ordered)?;
     }
     Ok(tables)
 }

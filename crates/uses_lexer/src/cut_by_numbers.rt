@@ -7,7 +7,7 @@ ghost use Rattle.lalrpop_emit.specs.BytePositions.{byte_position_of};
 ghost use Rattle.lalrpop_emit.specs.CSource.{c_file};
 ghost use Rattle.lalrpop_emit.specs.RustSource.{rust_file};
 ghost use Rattle.lalrpop_emit.specs.Names.{IsIdentifier, kinds_of};
-ghost use Rattle.lalrpop_emit.specs.NumberedRules.{IsStorable, NumberedRules};
+ghost use Rattle.lalrpop_emit.specs.NumberedRules.{AreSameInFile, IsStorable, NumberedRules};
 ghost use Rattle.lalrpop_modes.specs.Modes.{ArePiecesFrom};
 ghost use Rattle.lalrpop_modes.specs.Stack.{Stack, start};
 ghost use Rattle.lalrpop_rules.specs.declared.item.Item.{Item};
@@ -35,25 +35,28 @@ pub fn pieces_by_numbers(
 }
 
 // Needs lalrpop_emit::c_source: only.
-/// The source file of a lexer in C. Of no lexer with other tables is it the file.
-pub fn c_source_of_tables(
+/// The source file of a lexer in C. Of no lexer whose tables run ahead otherwise is it the file.
+pub fn c_source_of_ahead_tables(
     alloc: Global,
     numbers: &LexerNumbers,
     prefix: &str,
 ) -> Result<String, EmitError>
-    ensures of_these_tables { IfOk result (λ source. (p : List ℕ) (r : NumberedRules)
+    ensures of_these_ahead_tables { IfOk result (λ source. (p : List ℕ) (r : NumberedRules)
         → IsIdentifier p → IsStorable r → string_bytes source ≡ c_file p r
-        → r.tables ≡ numbers.now.tables) }
+        → r.ahead ≡ numbers.now.ahead) }
 {
     c_source(alloc, numbers, prefix)
 }
 
 // Needs lalrpop_emit::rust_source: only.
-/// The source file of a lexer in Rust. Of no lexer with other tables is it the file.
-pub fn rust_source_of_tables(alloc: Global, numbers: &LexerNumbers) -> Result<String, EmitError>
-    ensures of_these_tables { IfOk result (λ source. (r : NumberedRules)
+/// The source file of a lexer in Rust. Of no lexer whose tables run ahead otherwise is it the file.
+pub fn rust_source_of_ahead_tables(
+    alloc: Global,
+    numbers: &LexerNumbers,
+) -> Result<String, EmitError>
+    ensures of_these_ahead_tables { IfOk result (λ source. (r : NumberedRules)
         → IsStorable r → string_bytes source ≡ rust_file r
-        → r.tables ≡ numbers.now.tables) }
+        → r.ahead ≡ numbers.now.ahead) }
 {
     rust_source(alloc, numbers)
 }

@@ -3,7 +3,7 @@ use Rattle.std.proofs.Common.{◌≡◌, [], ◌∷◌, codes, true, false, refl
 use Rattle.lalrpop_dense.specs.DenseTable.{TableNumbers}
 use Rattle.lalrpop_modes.specs.Modes.{ModeRules}
 use Rattle.lalrpop_modes.specs.declared.action.Action.TheVariants.{Mode, Push, Pop}
-use Rattle.lalrpop_emit.specs.NumberedRules.{NumberedRules, AreNumbersOf, IsStorable, IsStorableTable, action_number, action_numbers, first_places, actions_of_rules}
+use Rattle.lalrpop_emit.specs.NumberedRules.{NumberedRules, AreAheadOf, AreNumbersOf, AreSameInFile, IsStorable, IsStorableTable, action_number, action_numbers, first_places, actions_of_rules}
 
 number_of_pop : action_number Pop ≡ 1
 number_of_pop = refl
@@ -46,6 +46,7 @@ their_numbers = record {
   first_actions = 0 ∷ 2 ∷ [];
   actions = 1 ∷ 0 ∷ 4294967296 ∷ [];
   tables = [];
+  ahead = [];
 }
 
 no_mode_without_a_table : ¬ AreNumbersOf two_rules their_numbers
@@ -61,7 +62,24 @@ no_bad_name : ¬ IsStorable their_numbers
 no_bad_name h = let bad = (h.names 1 [] (lit< tt)).bytes in cc
 
 abbrev wide_table : TableNumbers
-wide_table = record { blocks = 255 ∷ []; pages = []; start = 0; width = 256; live = 0; accept = 0; cells = 4294967296 ∷ [] }
+wide_table = record { blocks = 256 ∷ []; pages = []; start = 0; width = 256; live = 0; accept = 0; cells = 4294967296 ∷ [] }
 
-no_cell_past_32_bits : ¬ IsStorableTable wide_table
-no_cell_past_32_bits h = omega (arith, h.cells 0 0 (lit< tt))
+no_class_past_8_bits : ¬ IsStorableTable wide_table
+no_class_past_8_bits h = omega (arith, h.blocks 0 0 (lit< tt))
+
+-- the cells of a table may be others, but not its pages
+same_but_for_cells : AreSameInFile (record their_numbers { tables = wide_table ∷ [] }) (record their_numbers { tables = record wide_table { cells = [] } ∷ [] })
+same_but_for_cells = record { names = refl; kinds = refl; skips = refl; first_actions = refl; actions = refl; blocks = refl; pages = refl; ahead = refl }
+
+no_other_pages : ¬ AreSameInFile (record their_numbers { tables = wide_table ∷ [] }) (record their_numbers { tables = record wide_table { pages = 0 ∷ [] } ∷ [] })
+no_other_pages h = let other = h.pages in cc
+
+no_table_more : ¬ AreSameInFile their_numbers (record their_numbers { tables = wide_table ∷ [] })
+no_table_more h = let other = h.blocks in cc
+
+-- as many tables run ahead as there are
+no_table_without_one_ahead : ¬ AreAheadOf [] (wide_table ∷ [])
+no_table_without_one_ahead h = let same = h.all in cc
+
+one_ahead_of_none : ¬ AreAheadOf (record { start = 0; width = 0; ends = 0; cells = [] } ∷ []) []
+one_ahead_of_none h = let same = h.all in cc

@@ -4,7 +4,10 @@ use Rattle.std.specs.Prelude.{slice_get, Some}
 use Rattle.std.proofs.lemmas.Option.{same_Some}
 use Rattle.std.specs.Fmt.{digits}
 use Rattle.lalrpop_dense.specs.DenseTable.{TableNumbers}
-use Rattle.lalrpop_emit.specs.RustSource.{IsVariant, IsFirstBadVariant, IsRustError, cell_type, kind_enum, list_field, name_fields, number_field}
+use Rattle.std.specs.List.{list_all}
+use Rattle.lalrpop_emit.specs.Ahead.{AheadNumbers}
+use Rattle.lalrpop_emit.specs.CSource.{is_narrow_ahead}
+use Rattle.lalrpop_emit.specs.RustSource.{IsVariant, IsFirstBadVariant, IsRustError, ahead_text, cell_type, kind_enum, list_field, name_fields, number_field, table_text}
 use Rattle.lalrpop_emit.specs.declared.error.EmitError.TheVariants.{BadPrefix}
 
 -- a word of Rust's can be a variant
@@ -47,15 +50,27 @@ a_list : list_field (codes "pages") (0 ∷ 12 ∷ []) ≡ codes "pages: &[\n0, 1
 unfolding list_field digits
 a_list = refl
 
+ahead_of_one_row : ahead_text (record { start = 0; width = 1; ends = 2; cells = 0 ∷ 65535 ∷ [] })
+    ≡ codes "        Ahead {\n            start: 0,\n            width: 1,\n            ends: 2,\n            cells: &[\n0, 65535, ],\n        },\n"
+unfolding ahead_text number_field list_field digits
+ahead_of_one_row = refl
+
 small : TableNumbers
-small = record { blocks = []; pages = []; start = 0; width = 1; live = 0; accept = 0; cells = 65535 ∷ [] }
+small = record { blocks = 0 ∷ 1 ∷ []; pages = 0 ∷ []; start = 0; width = 1; live = 0; accept = 0; cells = 65535 ∷ [] }
+
+table_of_one_page : table_text small ≡ codes "        Table {\n            blocks: &[\n0, 1, ],\n            pages: &[\n0, ],\n        },\n"
+unfolding table_text list_field digits small
+table_of_one_page = refl
+
+ahead : AheadNumbers
+ahead = record { start = 0; width = 1; ends = 65536; cells = 65535 ∷ [] }
 
 -- 65,535 still fits 16 bits
-narrow : cell_type (small ∷ []) ≡ codes "u16"
-unfolding cell_type small
+narrow : cell_type (list_all is_narrow_ahead (ahead ∷ [])) ≡ codes "u16"
+unfolding cell_type ahead
 narrow = refl
 
 -- one wide table of two
-wide : cell_type (small ∷ record small { cells = 0 ∷ 65536 ∷ [] } ∷ []) ≡ codes "u32"
-unfolding cell_type small
+wide : cell_type (list_all is_narrow_ahead (ahead ∷ record ahead { cells = 0 ∷ 65536 ∷ [] } ∷ [])) ≡ codes "u32"
+unfolding cell_type ahead
 wide = refl

@@ -1,8 +1,7 @@
--- cases: proofs/Cases/AheadRows.antt
 -- The rows of a run along columns, of a table that runs ahead.
 use Rattle.std.specs.Prelude.{◌≡◌, ◌≢◌, ℕ, suc, ◌+◌, ◌*◌, ◌<◌, List, ◌∷◌, length, take, slice_index}
 use Rattle.lalrpop_dense.specs.DenseTable.{TableNumbers}
-use Rattle.lalrpop_emit.specs.Internal.Ahead.{AheadNumbers, Standing, StandsFor, standing_after}
+use Rattle.lalrpop_emit.specs.Ahead.{AheadNumbers, Standing, StandsFor, standing_after}
 
 -- a row begins there, and is within the cells
 abbrev pub IsRowOf : AheadNumbers → ℕ → Type 0
@@ -31,4 +30,4 @@ AreRuns a part columns rows = (k : ℕ) → k < length rows → IsWithinPart par
 
 -- each row stands for what is known after the columns up to there
 abbrev pub AreStandings : AheadNumbers → TableNumbers → List Standing → List ℕ → List ℕ → Type 0
-AreStandings a t standings columns rows = (k : ℕ) → k < length rows → StandsFor a standings (slice_index rows k) (standing_after t (take (k + 1) columns))
+AreStandings a t standings columns rows = (k : ℕ) → k < length rows → StandsFor a standings (slice_index rows k) (standing_after t a.width (take (k + 1) columns))

@@ -1,5 +1,5 @@
 -- The numbers of a table, of actions, and of a table that runs ahead, in lists of their own.
-use Rattle.std.specs.Prelude.{◌≡◌, ℕ, ◌+◌, ◌<◌, ◌≤◌, ◌↔◌, ◌^◌, IsTrue, List, length, slice_get, slice_index, Some}
+use Rattle.std.specs.Prelude.{◌≡◌, ◌≢◌, ℕ, ◌+◌, ◌<◌, ◌≤◌, ◌↔◌, ◌^◌, IsTrue, List, length, slice_get, slice_index, Some}
 use Rattle.std.specs.List.{All}
 use Rattle.lalrpop_dfa.specs.Dfa.{Row}
 use Rattle.lalrpop_dfa.specs.declared.Kind.TheVariants.{Accepts}
@@ -8,8 +8,8 @@ use Rattle.lalrpop_modes.specs.Modes.{ModeRules, OneLeadsInto}
 use Rattle.lalrpop_modes.specs.declared.action.Action.{Action}
 use Rattle.lalrpop_modes.specs.declared.action.Action.TheVariants.{Mode, Push, Pop}
 use Rattle.lalrpop_emit.specs.NumberedRules.{IsTableOfMode, IsStorableTable}
-use Rattle.lalrpop_emit.specs.Internal.Ahead.{AheadNumbers, Standing, StandsFor, by_column, is_end, rule_at, rule_number}
-use Rattle.lalrpop_emit.specs.Internal.Walking.{AreRulesBelow}
+use Rattle.lalrpop_emit.specs.Ahead.{AheadNumbers, Standing, StandsFor, by_column, is_end, is_lost, no_rule, rule_at, rule_number}
+use Rattle.lalrpop_emit.specs.Internal.Walking.{AreRulesBelow, CanRunAhead}
 use Rattle.lalrpop_emit.specs.declared.ahead_table.AheadLists.{AheadLists}
 use Rattle.lalrpop_emit.specs.declared.table_lists.TableLists.{TableLists}
 
@@ -62,10 +62,16 @@ ahead_numbers a = record {
 
 -- each of the first `count` columns leads from the row, which stands for `s`, to a row that stands for what is known then
 abbrev pub LeadsRight : AheadNumbers → TableNumbers → List Standing → ℕ → Standing → ℕ → Type 0
-LeadsRight a t standings row s count = (column : ℕ) → column < count → StandsFor a standings (slice_index a.cells (row + column)) (by_column t s column)
+LeadsRight a t standings row s count = (column : ℕ) → column < count → StandsFor a standings (slice_index a.cells (row + column)) (by_column t a.width s column)
 
--- the row's cells are those of a row that stands for `s`, and it is among the rows of ends just if `s` is one
+-- the row's cells are those of a row that stands for `s`; it is among the rows of ends just if `s` is one, and begins at 0 just if `s` is `Lost`
 pub record IsRightRow (a : AheadNumbers) (t : TableNumbers) (standings : List Standing) (row : ℕ) (s : Standing) : Type 0 where
   pub leads : LeadsRight a t standings row s a.width
   pub rule : slice_index a.cells (row + a.width) ≡ rule_number (rule_at t s)
+  pub told : rule_at t s ≢ Some no_rule
   pub ends : IsTrue (is_end s) ↔ (a.ends ≤ row)
+  pub lost : IsTrue (is_lost s) ↔ (row ≡ 0)
+
+-- each runs ahead of its table
+abbrev pub AreAheadTables : List AheadNumbers → List TableNumbers → Type 0
+AreAheadTables aheads ts = (m : ℕ) (a : AheadNumbers) (t : TableNumbers) → slice_get aheads m ≡ Some a → slice_get ts m ≡ Some t → CanRunAhead a t

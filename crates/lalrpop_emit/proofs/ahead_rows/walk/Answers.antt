@@ -1,44 +1,39 @@
-use Rattle.std.proofs.Common.{◌≡◌, ◌+◌, ◌*◌, ◌/◌, ◌<◌, ℕ, length, length-set, slice_index, ◌∙◌, sym, subst, arith}
-use Rattle.std.proofs.lemmas.List.Elements.{All-get_or}
+use Rattle.std.proofs.Common.{◌≡◌, ◌*◌, ◌+◌, ◌<◌, ◌++◌, ℕ, List, length, take, drop, slice_index, sym, ap, subst, ◌∙◌, arith, length-take-le}
+use Rattle.std.specs.List.{All}
+use Rattle.std.proofs.lemmas.List.{append-nil, take_all}
+use Rattle.std.proofs.Math.ListN.{drop_of_length-le}
 use Rattle.lalrpop_emit.specs.Internal.AheadRows.{IsRowOf, AreRuns}
 use Rattle.lalrpop_emit.specs.Internal.Lists.{ahead_numbers}
-use Rattle.lalrpop_emit.proofs.AheadWalks.{parts_apart, walks_more, walked_rows, walked_runs}
 use Rattle.lalrpop_emit.proofs.ahead_rows.walk.Goals as goal
 
-pub loop-walk-preserved : goal.loop-walk-preserved
-loop-walk-preserved c =
-    let a = ahead_numbers c.args.ahead.now in
-    let columns = c.args.columns.now in
-    let part = length columns / 6 in
-    let walk = c.loop-walk.walk in
-    let w = c.loop-walk.invariant.walked in
-    let place = walk * part + c.loop-k.k in
-    let among : walk < 6 = omega (arith, c.loop-walk-test.true) in
-    let size : length c.loop-walk.rows ≡ 6 * part = omega (arith, c.requires.parts.1, c.loop-walk.auto.rows, c.requires.as_many) in
-    let within : place < length columns = omega (arith, c.requires.parts.1, parts_apart part walk 6 among, c.loop-k-test.true) in
-    let below = All-get_or (λ column. column < a.width) columns place 0 within c.requires.columns in
-    let next = c.step-row.result in
-    record {
-      six = length-set c.loop-walk.last walk next ∙ c.loop-walk.invariant.six;
-      walked =
-          walks_more a columns c.loop-walk.rows part c.loop-k.k c.loop-walk.last walk next size c.loop-walk.invariant.six (omega (arith, c.loop-k-test.true)) among
-          (subst (IsRowOf a) (sym c.step-row.ensures) (c.requires.closed.leads (slice_index c.loop-walk.last walk) (slice_index columns place) (w.left walk (omega arith) among).is_row below))
-          c.step-row.ensures w;
-    }
+-- what was written in place of all elements
+written : (count : ℕ) (new old : List ℕ) → length old ≡ count → new ++ drop count old ≡ new
+written count new old size = ap (λ rest. new ++ rest) (drop_of_length-le old (omega (arith, size))) ∙ append-nil new
 
-pub returns-clause-rows : goal.returns-clause-rows
-returns-clause-rows c = λ k d within.
-    let a = ahead_numbers c.args.ahead.now in
-    let part = length c.args.columns.now / 6 in
-    let size : length c.loop-k.rows ≡ 6 * part = omega (arith, c.requires.parts.1, c.loop-k.auto.rows, c.requires.as_many) in
-    All-get_or (IsRowOf a) c.loop-k.rows k d within
-    (walked_rows a c.args.columns.now c.loop-k.rows part c.loop-k.k c.loop-k.last size (omega (arith, c.loop-k-test.false)) c.loop-k.invariant.walked)
+pub slice_bounds-walk_parts-end : goal.slice_bounds-walk_parts-end
+slice_bounds-walk_parts-end c = sym (length-take-le 6144 c.args.columns.now (omega (arith, c.if-columns-eq-MOST.true)))
 
-pub returns-clause-runs : goal.returns-clause-runs
-returns-clause-runs c = λ parts are.
+pub slice_bounds-walk_parts-end-then-columns-eq-MOST-2 : goal.slice_bounds-walk_parts-end-then-columns-eq-MOST-2
+slice_bounds-walk_parts-end-then-columns-eq-MOST-2 c = sym (length-take-le 6144 c.args.rows.now (omega (arith, c.if-columns-eq-MOST.true, c.requires.as_many)))
+
+pub walk_parts-requires-clause-columns : goal.walk_parts-requires-clause-columns
+walk_parts-requires-clause-columns c =
+    subst (λ (columns : List ℕ). All (λ column. column < c.args.ahead.now.width) columns) (sym (take_all 6144 c.args.columns.now (omega (arith, c.if-columns-eq-MOST.true)))) c.requires.columns
+
+pub walk_parts-requires-clause-parts : goal.walk_parts-requires-clause-parts
+walk_parts-requires-clause-parts c = (1024, omega (arith, length-take-le 6144 c.args.columns.now (omega (arith, c.if-columns-eq-MOST.true))))
+
+pub walk_parts-requires-clause-as_many : goal.walk_parts-requires-clause-as_many
+walk_parts-requires-clause-as_many c =
+    length-take-le 6144 c.args.rows.now (omega (arith, c.if-columns-eq-MOST.true, c.requires.as_many)) ∙ sym (length-take-le 6144 c.args.columns.now (omega (arith, c.if-columns-eq-MOST.true)))
+
+pub returns-then-columns-eq-MOST-clause-rows : goal.returns-then-columns-eq-MOST-clause-rows
+returns-then-columns-eq-MOST-clause-rows c =
+    subst (λ (rows : List ℕ). All (IsRowOf (ahead_numbers c.args.ahead.now)) rows) (sym (written 6144 c.walk_parts.new.rows c.args.rows.now (omega (arith, c.if-columns-eq-MOST.true, c.requires.as_many)))) c.walk_parts.ensures.rows
+
+pub returns-then-columns-eq-MOST-clause-runs : goal.returns-then-columns-eq-MOST-clause-runs
+returns-then-columns-eq-MOST-clause-runs c = λ part size.
+    let columns = take_all 6144 c.args.columns.now (omega (arith, c.if-columns-eq-MOST.true)) in
     let a = ahead_numbers c.args.ahead.now in
-    let part = length c.args.columns.now / 6 in
-    let same : part ≡ parts = omega (arith, are) in
-    let size : length c.loop-k.rows ≡ 6 * part = omega (arith, are, c.loop-k.auto.rows, c.requires.as_many) in
-    subst (λ (n : ℕ). AreRuns a n c.args.columns.now c.loop-k.rows) same
-    (walked_runs a c.args.columns.now c.loop-k.rows part c.loop-k.k c.loop-k.last size (omega (arith, c.loop-k-test.false)) c.loop-k.invariant.walked)
+    subst (λ (rows : List ℕ). AreRuns a part c.args.columns.now rows) (sym (written 6144 c.walk_parts.new.rows c.args.rows.now (omega (arith, c.if-columns-eq-MOST.true, c.requires.as_many))))
+    (subst (λ (columns2 : List ℕ). AreRuns a part columns2 c.walk_parts.new.rows) columns (c.walk_parts.ensures.runs part (ap length columns ∙ size)))

@@ -1,6 +1,6 @@
 use Rattle.std.proofs.Common.{◌≡◌, ℕ, ◌+◌, ◌*◌, ◌<◌, Some}
 use Rattle.std.specs.Prelude.{slice_get}
-use Rattle.lalrpop_emit.specs.Internal.Ahead.{Standing}
+use Rattle.lalrpop_emit.specs.Ahead.{Standing}
 use Rattle.lalrpop_emit.specs.Internal.Lists.{IsRightRow, ahead_numbers, list_numbers}
 use Rattle.lalrpop_emit.proofs.ahead_table.is_ahead.Given as goal
 

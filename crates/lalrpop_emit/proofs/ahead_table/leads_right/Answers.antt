@@ -1,7 +1,7 @@
 use Rattle.std.proofs.Common.{ℕ, ◌+◌}
 use Rattle.std.specs.Prelude.{slice_index}
 use borrow.Author.Count.{below_more}
-use Rattle.lalrpop_emit.specs.Internal.Ahead.{StandsFor, by_column}
+use Rattle.lalrpop_emit.specs.Ahead.{StandsFor, by_column}
 use Rattle.lalrpop_emit.specs.Internal.Lists.{ahead_numbers, list_numbers}
 use Rattle.lalrpop_emit.proofs.ahead_table.leads_right.Goals as goal
 
@@ -11,5 +11,5 @@ loop-column-preserved c =
     let t = list_numbers c.args.table.now in
     let standings = c.args.standings.now in
     let stands = c.stands_for.ensures c.if-not-stands_for.false in
-    below_more (λ (column : ℕ). StandsFor a standings (slice_index a.cells (c.args.row + column)) (by_column t c.args.standing column)) c.loop-column.column c.loop-column.invariant
-    (stands.0, (cc (stands.1, c.by_column.ensures)), (cc (stands.2, c.cell-target.ensures)))
+    below_more (λ (column : ℕ). StandsFor a standings (slice_index a.cells (c.args.row + column)) (by_column t a.width c.args.standing column)) c.loop-column.column c.loop-column.invariant
+    (stands.0, (cc (stands.1, c.by_column-led.ensures)), (cc (stands.2, c.cell-target.ensures)))

@@ -11,6 +11,4 @@ returns c =
     let k = c.args.mode in
     let blocks = c.in_ok-push_mode_array.ensures ∙ ap (λ (ns : List ℕ). string_bytes c.args.source.now ++ mode_array p (codes "uint8_t $_blocks_") k ns) c.deref.ensures.value in
     let pages = c.in_ok-push_mode_array-2.ensures ∙ ap (λ (ns : List ℕ). string_bytes c.push_mode_array.new.source ++ mode_array p (codes "uint16_t $_pages_") k ns) c.deref-2.ensures.value in
-    let cells = c.in_ok-push_mode_array-3.ensures ∙ ap (λ (ns : List ℕ). string_bytes c.push_mode_array-2.new.source ++ mode_array p (codes "$_cell $_cells_") k ns) c.deref-3.ensures.value in
-    grown (string_bytes c.args.source.now) _ _ _ _ blocks
-    (grown (string_bytes c.push_mode_array.new.source) _ _ _ _ pages cells)
+    grown (string_bytes c.args.source.now) _ _ _ _ blocks pages

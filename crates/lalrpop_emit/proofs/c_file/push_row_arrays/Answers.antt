@@ -8,6 +8,4 @@ unfolding row_arrays
 returns c =
     grown (string_bytes c.args.source.now) _ _ _ _ c.in_ok-push_filled.ensures
     (grown (string_bytes c.push_filled.new.source) _ _ _ _ c.in_ok-push_decimal.ensures
-    (grown (string_bytes c.push_decimal.new.source) _ _ _ _ c.in_ok-push_filled-2.ensures
-    (grown (string_bytes c.push_filled-2.new.source) _ _ _ _ c.in_ok-push_decimal-2.ensures
-    (grown (string_bytes c.push_decimal-2.new.source) _ _ _ _ c.in_ok-push_filled-3.ensures c.in_ok-push_decimal-3.ensures))))
+    (grown (string_bytes c.push_decimal.new.source) _ _ _ _ c.in_ok-push_filled-2.ensures c.in_ok-push_decimal-2.ensures))

@@ -1,151 +1,165 @@
-use Rattle.std.proofs.Common.{◌-◌, length, get_or, refl, sym, ap, ◌∙◌, arith, length-drop}
-use Rattle.std.specs.Prelude.{Some}
-use Rattle.std.proofs.lemmas.Bool.{false≢true}
-use Rattle.std.proofs.lemmas.Option.{slice_get-get_or}
-use Rattle.lalrpop_dfa.proofs.Recognized.{on_words}
-use Rattle.lalrpop_modes.specs.Stack.{actions_of}
-use Rattle.lalrpop_modes.specs.Modes.{trees_in}
-use Rattle.lalrpop_emit.specs.NumberedRules.{NumberedRules}
+use Rattle.std.proofs.Common.{◌≡◌, ◌-◌, List, [], arith, length, refl, subst, sym, ◌∙◌}
+use Rattle.std.specs.Prelude.{slice_get, IfSome, Some}
+use Rattle.lalrpop_dense.specs.DenseTable.{TableNumbers}
+use Rattle.lalrpop_modes.specs.declared.action.Action.{Action}
+use Rattle.lalrpop_modes.specs.Stack.{act_all, actions_of}
+use Rattle.lalrpop_emit.specs.BytePieces.{Fits}
 use Rattle.lalrpop_emit.specs.Internal.Driving.{stack_of}
-use Rattle.lalrpop_emit.specs.Internal.Lists.{list_numbers}
-use Rattle.lalrpop_emit.proofs.Actions.{length-below}
-use Rattle.lalrpop_emit.proofs.ByteFaults.{none_at}
-use Rattle.lalrpop_emit.proofs.Driving.{mode_read, walkable_there, rule_within, rule_read, kind_read, acts_of_rule, acts_there}
+use Rattle.lalrpop_emit.specs.Internal.Lists.{ahead_numbers}
+use Rattle.lalrpop_emit.specs.Internal.Running.{IsRunOf, IsTokenAt}
+use Rattle.lalrpop_emit.specs.Internal.Walking.{IsDrivable}
+use Rattle.lalrpop_emit.proofs.Driving.{ahead_read, goes_on, some_table, token_comes}
+use Rattle.lalrpop_emit.proofs.Found.{all_tables, token_there, tokens_as}
+use Rattle.lalrpop_emit.proofs.ModeRuns.{looked, room_same, taken}
 use Rattle.lalrpop_emit.proofs.driver.next.Goals as goal
+use Rattle.lalrpop_emit.proofs.driver.next.Goals.{in-Some+else-not-has_actions, in_default}
 
-pub longest-requires : goal.longest-requires
-longest-requires c =
+pub known-token-requires-clause-serves : goal.known-token-requires-clause-serves
+known-token-requires-clause-serves c =
     let n = c.args.numbers.now in
-    let t = c.index-table.result.now in
+    let text = c.args.text.now in
     let s = c.args.state.now in
-    let mode = mode_read _ n c.numbers.inside.tables.items s.mode t c.numbers.view_is c.numbers.invariant.1 refl c.requires.state.there.0 c.index-table.ensures in
-    walkable_there n s.mode (list_numbers t) mode
+    let x = c.index.result.now in
+    let drivable = subst IsDrivable c.numbers.view_is c.numbers.invariant.1 in
+    let within = c.requires.state.there.0 in
+    let ahead = ahead_read _ n c.numbers.inside.ahead.items s.mode x c.numbers.view_is refl (omega (arith, within, drivable.as_many)) c.index.ensures in
+    let table = some_table n s.mode within in
+    (table.0, (text, (s.at, c.requires.run.serves (ahead_numbers x) table.0 ahead table.1)))
 
-pub fault_end-state-requires-clause-walkable : goal.fault_end-state-requires-clause-walkable
-fault_end-state-requires-clause-walkable c =
+pub has_actions-requires : goal.has_actions-requires
+has_actions-requires c =
     let n = c.args.numbers.now in
-    let t = c.index-table.result.now in
+    let text = c.args.text.now in
     let s = c.args.state.now in
-    let mode = mode_read _ n c.numbers.inside.tables.items s.mode t c.numbers.view_is c.numbers.invariant.1 refl c.requires.state.there.0 c.index-table.ensures in
-    walkable_there n s.mode (list_numbers t) mode
+    let x = c.index.result.now in
+    let drivable = subst IsDrivable c.numbers.view_is c.numbers.invariant.1 in
+    let within = c.requires.state.there.0 in
+    let ahead = ahead_read _ n c.numbers.inside.ahead.items s.mode x c.numbers.view_is refl (omega (arith, within, drivable.as_many)) c.index.ensures in
+    let tokens : (t : TableNumbers) → slice_get n.tables s.mode ≡ Some t → IsTokenAt t text s.at c.in-Some.token.rule c.in-Some.token.end =
+    λ t there. c.in-Some.ensures.token t text s.at (c.requires.run.serves (ahead_numbers x) t ahead there) in
+    let token = token_there n s.mode s.at text c.in-Some.token.rule c.in-Some.token.end drivable within tokens in
+    token.below
 
-pub returns-in_default-clause-next : goal.returns-in_default-clause-next
-returns-in_default-clause-next c = λ r are.
+pub take-requires : goal.take-requires
+take-requires c =
     let n = c.args.numbers.now in
-    let t = c.index-table.result.now in
+    let text = c.args.text.now in
     let s = c.args.state.now in
-    let mode = mode_read _ n c.numbers.inside.tables.items s.mode t c.numbers.view_is c.numbers.invariant.1 refl c.requires.state.there.0 c.index-table.ensures in
-    let right = are.tables s.mode (list_numbers t) mode.there in
-    let ts = trees_in r s.mode in
-    let recognizes = on_words right.automaton ts r.precedences right.recognizes.stands in
-    let none = none_at ts r.precedences c.args.text.now s.at (c.in_default.ensures.answer right.automaton right.right ts r.precedences recognizes) in
-    ((refl, (refl, c.fault_end-state.ensures.fault right.automaton right.right ts r.precedences recognizes none)), tt, refl)
+    let x = c.index.result.now in
+    let drivable = subst IsDrivable c.numbers.view_is c.numbers.invariant.1 in
+    let within = c.requires.state.there.0 in
+    let ahead = ahead_read _ n c.numbers.inside.ahead.items s.mode x c.numbers.view_is refl (omega (arith, within, drivable.as_many)) c.index.ensures in
+    let table = some_table n s.mode within in
+    let run = c.known-token.new.run in
+    let end = c.in-Some.ensures.end table.0 text s.at (c.requires.run.serves (ahead_numbers x) table.0 ahead table.1) in
+    (x.ends, (s.at - run.base, (c.in-Some.token.end - run.base, (end.0, end.1))))
 
-pub index-requires : goal.index-requires
-index-requires c =
+pub token_piece-requires-clause-rule : goal.token_piece-requires-clause-rule
+token_piece-requires-clause-rule c =
     let n = c.args.numbers.now in
-    let t = c.index-table.result.now in
+    let text = c.args.text.now in
     let s = c.args.state.now in
-    let mode = mode_read _ n c.numbers.inside.tables.items s.mode t c.numbers.view_is c.numbers.invariant.1 refl c.requires.state.there.0 c.index-table.ensures in
-    let within = rule_within n s.mode (list_numbers t) c.in-Some.found.rule mode c.in-Some.ensures.rule in
-    omega (arith, within.1, ap (λ (x : NumberedRules). length x.first_actions) c.numbers.view_is, c.numbers.inside.first_actions.ok.0)
+    let x = c.index.result.now in
+    let drivable = subst IsDrivable c.numbers.view_is c.numbers.invariant.1 in
+    let within = c.requires.state.there.0 in
+    let ahead = ahead_read _ n c.numbers.inside.ahead.items s.mode x c.numbers.view_is refl (omega (arith, within, drivable.as_many)) c.index.ensures in
+    let tokens : (t : TableNumbers) → slice_get n.tables s.mode ≡ Some t → IsTokenAt t text s.at c.in-Some.token.rule c.in-Some.token.end =
+    λ t there. c.in-Some.ensures.token t text s.at (c.requires.run.serves (ahead_numbers x) t ahead there) in
+    let token = token_there n s.mode s.at text c.in-Some.token.rule c.in-Some.token.end drivable within tokens in
+    token.below
 
-pub has_room-requires-clause-actions : goal.has_room-requires-clause-actions
-has_room-requires-clause-actions c =
+pub token_piece-requires-clause-end : goal.token_piece-requires-clause-end
+token_piece-requires-clause-end c =
     let n = c.args.numbers.now in
-    let t = c.index-table.result.now in
+    let text = c.args.text.now in
     let s = c.args.state.now in
-    let mode = mode_read _ n c.numbers.inside.tables.items s.mode t c.numbers.view_is c.numbers.invariant.1 refl c.requires.state.there.0 c.index-table.ensures in
-    let rule = rule_read _ n s.mode (list_numbers t) c.in-Some.found.rule c.index.result.now c.numbers.view_is mode c.in-Some.ensures.rule c.index.ensures in
-    rule.acts
+    let x = c.index.result.now in
+    let drivable = subst IsDrivable c.numbers.view_is c.numbers.invariant.1 in
+    let within = c.requires.state.there.0 in
+    let ahead = ahead_read _ n c.numbers.inside.ahead.items s.mode x c.numbers.view_is refl (omega (arith, within, drivable.as_many)) c.index.ensures in
+    let tokens : (t : TableNumbers) → slice_get n.tables s.mode ≡ Some t → IsTokenAt t text s.at c.in-Some.token.rule c.in-Some.token.end =
+    λ t there. c.in-Some.ensures.token t text s.at (c.requires.run.serves (ahead_numbers x) t ahead there) in
+    let token = token_there n s.mode s.at text c.in-Some.token.rule c.in-Some.token.end drivable within tokens in
+    omega (arith, token.place)
 
-pub returns-then-not-has_room-clause-next : goal.returns-then-not-has_room-clause-next
-returns-then-not-has_room-clause-next c = λ r are.
+pub returns-then-not-has_actions-clause-next : goal.returns-then-not-has_actions-clause-next
+returns-then-not-has_actions-clause-next c = λ r are.
     let n = c.args.numbers.now in
-    let t = c.index-table.result.now in
+    let text = c.args.text.now in
     let s = c.args.state.now in
-    let mode = mode_read _ n c.numbers.inside.tables.items s.mode t c.numbers.view_is c.numbers.invariant.1 refl c.requires.state.there.0 c.index-table.ensures in
-    let rule = rule_read _ n s.mode (list_numbers t) c.in-Some.found.rule c.index.result.now c.numbers.view_is mode c.in-Some.ensures.rule c.index.ensures in
-    let right = are.tables s.mode (list_numbers t) mode.there in
-    let ts = trees_in r s.mode in
-    let recognizes = on_words right.automaton ts r.precedences right.recognizes.stands in
-    let depth = length-below s.mode s.depth c.args.below.now c.requires.state.within in
-    let acts = acts_of_rule r n c.in-Some.found.rule c.index.result.now are rule in
-    let room = c.has_room.ensures (actions_of r.actions c.in-Some.found.rule) acts (stack_of s c.args.below.now) depth in (
-      (
-        record { kind = Some (get_or n.kinds c.in-Some.found.rule 0); rule = c.in-Some.found.rule; start = s.at; length = c.in-Some.found.end - s.at },
-        (
-          (
-            refl,
-            record {
-              kind_is = slice_get-get_or n.kinds c.in-Some.found.rule 0 rule.below;
-              within = omega (arith, c.in-Some.ensures.place, length-drop s.at c.args.text.now);
-              longest = c.in-Some.ensures.answer right.automaton right.right ts r.precedences recognizes;
-            },
-          ),
-          λ fits. false≢true (sym c.if-not-has_room.true ∙ room.1 fits),
-        ),
-      ),
-      refl,
-    )
+    let x = c.index.result.now in
+    let drivable = subst IsDrivable c.numbers.view_is c.numbers.invariant.1 in
+    let within = c.requires.state.there.0 in
+    let ahead = ahead_read _ n c.numbers.inside.ahead.items s.mode x c.numbers.view_is refl (omega (arith, within, drivable.as_many)) c.index.ensures in
+    let tokens : (t : TableNumbers) → slice_get n.tables s.mode ≡ Some t → IsTokenAt t text s.at c.in-Some.token.rule c.in-Some.token.end =
+    λ t there. c.in-Some.ensures.token t text s.at (c.requires.run.serves (ahead_numbers x) t ahead there) in
+    let token = token_there n s.mode s.at text c.in-Some.token.rule c.in-Some.token.end drivable within tokens in
+    let rule = c.in-Some.token.rule in
+    let stack = stack_of s c.args.below.now in
+    let none : actions_of r.actions rule ≡ [] = c.if-not-has_actions.ensures refl r are in
+    let fits : Fits (length c.args.below.now) (actions_of r.actions rule) stack = subst (λ (acts : List Action). Fits (length c.args.below.now) acts stack) (sym none) tt in
+    let same : stack ≡ act_all (actions_of r.actions rule) stack = subst (λ (acts : List Action). stack ≡ act_all acts stack) (sym none) refl in
+    token_comes r n.kinds (length c.args.below.now) text s.at stack stack c.token_piece.result rule c.in-Some.token.end c.token_piece.ensures.kind c.token_piece.ensures.rest token.place (token.longest r are) fits
+    same
 
-pub act-requires-clause-actions : goal.act-requires-clause-actions
-act-requires-clause-actions c =
+pub returns-then-not-has_actions-clause-goes_on : goal.returns-then-not-has_actions-clause-goes_on
+returns-then-not-has_actions-clause-goes_on c =
     let n = c.args.numbers.now in
-    let t = c.index-table.result.now in
+    let text = c.args.text.now in
     let s = c.args.state.now in
-    let mode = mode_read _ n c.numbers.inside.tables.items s.mode t c.numbers.view_is c.numbers.invariant.1 refl c.requires.state.there.0 c.index-table.ensures in
-    let rule = rule_read _ n s.mode (list_numbers t) c.in-Some.found.rule c.index.result.now c.numbers.view_is mode c.in-Some.ensures.rule c.index.ensures in
-    let depth = length-below s.mode s.depth c.args.below.now c.requires.state.within in
-    let room = c.has_room.ensures rule.acts.0 rule.acts.1 (stack_of s c.args.below.now) depth in
-    (rule.acts.0, (rule.acts.1, room.0 c.if-not-has_room.false))
+    let x = c.index.result.now in
+    let drivable = subst IsDrivable c.numbers.view_is c.numbers.invariant.1 in
+    let within = c.requires.state.there.0 in
+    let ahead = ahead_read _ n c.numbers.inside.ahead.items s.mode x c.numbers.view_is refl (omega (arith, within, drivable.as_many)) c.index.ensures in
+    let tokens : (t : TableNumbers) → slice_get n.tables s.mode ≡ Some t → IsTokenAt t text s.at c.in-Some.token.rule c.in-Some.token.end =
+    λ t there. c.in-Some.ensures.token t text s.at (c.requires.run.serves (ahead_numbers x) t ahead there) in
+    let token = token_there n s.mode s.at text c.in-Some.token.rule c.in-Some.token.end drivable within tokens in
+    goes_on text s.at c.in-Some.token.end c.in-Some.token.end c.token_piece.result c.in-Some.token.rule c.token_piece.ensures.rest token.place refl
 
-pub index-requires-2 : goal.index-requires-2
-index-requires-2 c =
+pub returns-then-not-has_actions-clause-run : goal.returns-then-not-has_actions-clause-run
+returns-then-not-has_actions-clause-run c =
     let n = c.args.numbers.now in
-    let t = c.index-table.result.now in
+    let text = c.args.text.now in
     let s = c.args.state.now in
-    let mode = mode_read _ n c.numbers.inside.tables.items s.mode t c.numbers.view_is c.numbers.invariant.1 refl c.requires.state.there.0 c.index-table.ensures in
-    let within = rule_within n s.mode (list_numbers t) c.in-Some.found.rule mode c.in-Some.ensures.rule in
-    omega (arith, within.0, ap (λ (x : NumberedRules). length x.kinds) c.numbers.view_is, c.numbers.inside.kinds.ok.0)
+    let x = c.index.result.now in
+    let drivable = subst IsDrivable c.numbers.view_is c.numbers.invariant.1 in
+    let within = c.requires.state.there.0 in
+    let ahead = ahead_read _ n c.numbers.inside.ahead.items s.mode x c.numbers.view_is refl (omega (arith, within, drivable.as_many)) c.index.ensures in
+    let run : IsRunOf n s.mode s.at text c.known-token.new.run =
+    looked n s.at text s.mode c.args.run.now c.known-token.new.run c.known-token.ensures.same c.known-token.ensures.room c.requires.run (ahead_numbers x) ahead (λ t h. c.known-token.ensures.serves t text s.at h) in
+    let tokens : (t : TableNumbers) → slice_get n.tables s.mode ≡ Some t → IsTokenAt t text s.at c.in-Some.token.rule c.in-Some.token.end =
+    λ t there. c.in-Some.ensures.token t text s.at (c.requires.run.serves (ahead_numbers x) t ahead there) in
+    let token = token_there n s.mode s.at text c.in-Some.token.rule c.in-Some.token.end drivable within tokens in
+    let old = c.known-token.new.run in
+    let room = room_same old c.take.new.run c.take.ensures.same c.take.ensures.word c.known-token.ensures.room in
+    taken n s.at text s.mode c.in-Some.token.end old c.take.new.run c.take.ensures.same room run token.place.0 (ahead_numbers x) ahead
+    (λ t there. c.in-Some.ensures.end t text s.at (c.requires.run.serves (ahead_numbers x) t ahead there)) c.take.ensures.place
 
-pub returns-clause-next : goal.returns-clause-next
-returns-clause-next c = λ r are.
+pub next_apart-requires-clause-run : goal.next_apart-requires-clause-run
+next_apart-requires-clause-run c =
     let n = c.args.numbers.now in
-    let t = c.index-table.result.now in
+    let text = c.args.text.now in
     let s = c.args.state.now in
-    let mode = mode_read _ n c.numbers.inside.tables.items s.mode t c.numbers.view_is c.numbers.invariant.1 refl c.requires.state.there.0 c.index-table.ensures in
-    let rule = rule_read _ n s.mode (list_numbers t) c.in-Some.found.rule c.index.result.now c.numbers.view_is mode c.in-Some.ensures.rule c.index.ensures in
-    let right = are.tables s.mode (list_numbers t) mode.there in
-    let ts = trees_in r s.mode in
-    let recognizes = on_words right.automaton ts r.precedences right.recognizes.stands in
-    let depth = length-below s.mode s.depth c.args.below.now c.requires.state.within in
-    let acts = acts_of_rule r n c.in-Some.found.rule c.index.result.now are rule in
-    let room = c.has_room.ensures (actions_of r.actions c.in-Some.found.rule) acts (stack_of s c.args.below.now) depth in
-    let fits = room.0 c.if-not-has_room.false in (
-      (
-        refl,
-        record {
-          kind_is = kind_read _ n c.in-Some.found.rule c.index.result.now c.index-2.result.now c.numbers.view_is rule c.index-2.ensures;
-          within = omega (arith, c.in-Some.ensures.place, length-drop s.at c.args.text.now);
-          longest = c.in-Some.ensures.answer right.automaton right.right ts r.precedences recognizes;
-        },
-      ),
-      fits,
-      c.act.ensures.acted (actions_of r.actions c.in-Some.found.rule) acts fits,
-    )
+    let x = c.index.result.now in
+    let drivable = subst IsDrivable c.numbers.view_is c.numbers.invariant.1 in
+    let within = c.requires.state.there.0 in
+    let ahead = ahead_read _ n c.numbers.inside.ahead.items s.mode x c.numbers.view_is refl (omega (arith, within, drivable.as_many)) c.index.ensures in
+    let run : IsRunOf n s.mode s.at text c.known-token.new.run =
+    looked n s.at text s.mode c.args.run.now c.known-token.new.run c.known-token.ensures.same c.known-token.ensures.room c.requires.run (ahead_numbers x) ahead (λ t h. c.known-token.ensures.serves t text s.at h) in
+    run
 
-pub returns-clause-state : goal.returns-clause-state
-returns-clause-state c =
+pub next_apart-requires-clause-known : goal.next_apart-requires-clause-known
+next_apart-requires-clause-known c =
     let n = c.args.numbers.now in
-    let t = c.index-table.result.now in
+    let text = c.args.text.now in
     let s = c.args.state.now in
-    let mode = mode_read _ n c.numbers.inside.tables.items s.mode t c.numbers.view_is c.numbers.invariant.1 refl c.requires.state.there.0 c.index-table.ensures in
-    let rule = rule_read _ n s.mode (list_numbers t) c.in-Some.found.rule c.index.result.now c.numbers.view_is mode c.in-Some.ensures.rule c.index.ensures in
-    let depth = length-below s.mode s.depth c.args.below.now c.requires.state.within in
-    let room = c.has_room.ensures rule.acts.0 rule.acts.1 (stack_of s c.args.below.now) depth in
-    let acted = c.act.ensures.acted rule.acts.0 rule.acts.1 (room.0 c.if-not-has_room.false) in
-    record {
-      within = omega (arith, c.act.ensures.within, c.act.auto.below);
-      there = acts_there (length n.tables) (stack_of s c.args.below.now) (stack_of c.act.new.state c.act.new.below) n.actions c.index.result.now rule.acts.0 rule.acts.1 acted c.requires.state.there;
-    }
+    let x = c.index.result.now in
+    let drivable = subst IsDrivable c.numbers.view_is c.numbers.invariant.1 in
+    let within = c.requires.state.there.0 in
+    let ahead = ahead_read _ n c.numbers.inside.ahead.items s.mode x c.numbers.view_is refl (omega (arith, within, drivable.as_many)) c.index.ensures in
+    let tokens : IfSome c.known-token.result (λ m. (t : TableNumbers) → slice_get n.tables s.mode ≡ Some t → IsTokenAt t text s.at m.rule m.end) =
+    all_tables n s.mode text s.at c.known-token.result (λ t there. c.known-token.ensures.token t text s.at (c.requires.run.serves (ahead_numbers x) t ahead there)) in
+    elim c.match-token.branch [
+      | in-Some+else-not-has_actions w ↦ tokens_as n s.mode text s.at c.known-token.result c.match-token.token (w.token-is ∙ sym w.in-Some.is) tokens
+      | in_default w ↦ tokens_as n s.mode text s.at c.known-token.result c.match-token.token w.token-is tokens
+    ]

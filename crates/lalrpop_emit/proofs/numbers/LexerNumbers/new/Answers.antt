@@ -1,9 +1,18 @@
-use Rattle.std.proofs.Common.{◌≡◌, length, map, string_bytes, arith}
+use Rattle.std.proofs.Common.{◌≡◌, ◌∙◌, ap, sym, length, map, string_bytes, arith}
 use Rattle.std.proofs.lemmas.List.{length-map}
-use Rattle.lalrpop_emit.specs.Internal.Lists.{list_numbers}
+use Rattle.lalrpop_emit.specs.Internal.Lists.{ahead_numbers, list_numbers}
+use Rattle.std.specs.Prelude.{slice_get}
 use Rattle.lalrpop_emit.specs.NumberedRules.{NumberedRules}
+use Rattle.lalrpop_emit.proofs.ModeTables.{walkable}
 use Rattle.lalrpop_emit.proofs.Storable.{AreMade, drivable, storable}
 use Rattle.lalrpop_emit.proofs.numbers.LexerNumbers.new.Goals as goal
+
+pub ahead_tables-requires : goal.ahead_tables-requires
+ahead_tables-requires c =
+    let each = c.in_ok-tables.ensures.tables in
+    λ m t at.
+    let mode = (each m t (ap (λ lists. slice_get (map list_numbers lists) m) (sym c.deref-2.ensures.value) ∙ at)).of_mode in
+    walkable t mode.automaton mode.right
 
 pub invariant_of-result : goal.invariant_of-result
 invariant_of-result c =
@@ -15,7 +24,9 @@ invariant_of-result c =
       first_actions = lists.lists.first_places.items;
       actions = lists.lists.numbers.items;
       tables = map list_numbers c.in_ok-tables.tables.items;
+      ahead = map ahead_numbers c.in-Some.ahead.items;
     } in
+    let tables = c.in_ok-tables.tables.items in
     let modes : length n.tables ≡ c.args.rules.now.modes = omega (arith, length-map c.in_ok-tables.tables.items list_numbers, c.in_ok-tables.ensures.modes) in
     let made : AreMade c.args.rules.now n = record {
       names = rw c.names.ensures.names at c.in_ok-names.ensures;
@@ -34,6 +45,9 @@ invariant_of-result c =
       some_mode = c.in_ok-check_rules.ensures.modes.0;
       few_modes = c.in_ok-check_rules.ensures.modes.1;
       tables = c.in_ok-tables.ensures.tables;
+      all_ahead = omega (arith, length-map c.in-Some.ahead.items ahead_numbers, length-map tables list_numbers, rw c.deref-2.ensures.value at rw c.in-Some.is at c.in_ok-ahead.ensures.all);
+      run_ahead = rw c.deref-2.ensures.value at rw c.in-Some.is at c.in_ok-ahead.ensures.each;
+      ahead = rw c.in-Some.is at c.in_ok-ahead.ensures.storable;
     } in
     (storable c.args.rules.now n made, drivable c.args.rules.now n made)
 
@@ -47,7 +61,9 @@ returns-clause-storable c =
       first_actions = lists.lists.first_places.items;
       actions = lists.lists.numbers.items;
       tables = map list_numbers c.in_ok-tables.tables.items;
+      ahead = map ahead_numbers c.in-Some.ahead.items;
     } in
+    let tables = c.in_ok-tables.tables.items in
     let modes : length n.tables ≡ c.args.rules.now.modes = omega (arith, length-map c.in_ok-tables.tables.items list_numbers, c.in_ok-tables.ensures.modes) in
     let made : AreMade c.args.rules.now n = record {
       names = rw c.names.ensures.names at c.in_ok-names.ensures;
@@ -66,5 +82,8 @@ returns-clause-storable c =
       some_mode = c.in_ok-check_rules.ensures.modes.0;
       few_modes = c.in_ok-check_rules.ensures.modes.1;
       tables = c.in_ok-tables.ensures.tables;
+      all_ahead = omega (arith, length-map c.in-Some.ahead.items ahead_numbers, length-map tables list_numbers, rw c.deref-2.ensures.value at rw c.in-Some.is at c.in_ok-ahead.ensures.all);
+      run_ahead = rw c.deref-2.ensures.value at rw c.in-Some.is at c.in_ok-ahead.ensures.each;
+      ahead = rw c.in-Some.is at c.in_ok-ahead.ensures.storable;
     } in
     storable c.args.rules.now n made

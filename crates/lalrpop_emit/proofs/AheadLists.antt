@@ -1,0 +1,50 @@
+-- The tables that run ahead, one more at a time.
+use Rattle.std.proofs.Common.{◌≡◌, ℕ, ◌<◌, ◌≤◌, ◌⊎◌, ⊎_elim, List, [], ◌∷◌, ◌++◌, length, map, get_or, sym, ap, subst, ◌∙◌, arith, length-append, refl}
+use Rattle.std.specs.Prelude.{slice_get, Some}
+use Rattle.std.specs.List.{All}
+use Rattle.std.specs.Option.{option_map}
+use Rattle.std.proofs.Math.ListN.{get_or-append}
+use Rattle.std.proofs.Math.Seq.{get_or-append_seam}
+use Rattle.std.proofs.lemmas.Bool.{cases_lt}
+use Rattle.std.proofs.lemmas.List.{length-map, map-append}
+use Rattle.std.proofs.lemmas.List.Elements.{All-append, All-cons, All-nil}
+use Rattle.std.proofs.lemmas.Option.{get_or_from_slice_get, slice_get_within, slice_get-get_or, slice_get-map, slice_get_read}
+use Rattle.lalrpop_dense.specs.DenseTable.{TableNumbers}
+use Rattle.lalrpop_emit.specs.Ahead.{AheadNumbers}
+use Rattle.lalrpop_emit.specs.NumberedRules.{IsStorableAhead}
+use Rattle.lalrpop_emit.specs.Internal.Lists.{AreAheadTables, ahead_numbers, list_numbers}
+use Rattle.lalrpop_emit.specs.Internal.Walking.{CanRunAhead}
+use Rattle.lalrpop_emit.specs.declared.ahead_table.AheadLists.{AheadLists}
+use Rattle.lalrpop_emit.specs.declared.table_lists.TableLists.{TableLists}
+
+pub table_at : (tables : List TableLists) (m : ℕ) (t : TableLists) → m < length tables → t ≡ get_or tables m t → slice_get (map list_numbers tables) m ≡ Some (list_numbers t)
+table_at tables m t within read = slice_get-map list_numbers tables m ∙ ap (option_map list_numbers) (slice_get_read tables (length tables) m t refl within read)
+
+ahead_more : (aheads : List AheadNumbers) (ts : List TableNumbers) (a : AheadNumbers) (t : TableNumbers) → AreAheadTables aheads ts → slice_get ts (length aheads) ≡ Some t → CanRunAhead a t
+    → AreAheadTables (aheads ++ a ∷ []) ts
+ahead_more aheads ts a t each there this m x u at at_t =
+    let within : m < length (aheads ++ a ∷ []) = slice_get_within (aheads ++ a ∷ []) m x at in
+    let read : get_or (aheads ++ a ∷ []) m x ≡ x = get_or_from_slice_get (aheads ++ a ∷ []) m x x at in
+    ⊎_elim (λ (h : m < length aheads). each m x u (slice_get-get_or aheads m x h ∙ ap Some (sym (get_or-append aheads (a ∷ []) x m h) ∙ read)) at_t)
+    (λ (h : length aheads ≤ m).
+    let last : length aheads ≡ m = omega (arith, within, h, length-append aheads (a ∷ [])) in
+    let same : a ≡ x = sym (get_or-append_seam aheads a [] x) ∙ ap (λ (k : ℕ). get_or (aheads ++ a ∷ []) k x) last ∙ read in
+    let same_t : t ≡ u = (let e : Some t ≡ Some u = sym there ∙ ap (λ (k : ℕ). slice_get ts k) last ∙ at_t in cc) in
+    subst (λ (y : AheadNumbers). CanRunAhead y u) same (subst (CanRunAhead a) same_t this))
+    (cases_lt m (length aheads))
+
+module _ (aheads more : List AheadLists) (x : AheadLists) (grown : more ≡ aheads ++ x ∷ []) where
+  maps : map ahead_numbers more ≡ map ahead_numbers aheads ++ ahead_numbers x ∷ []
+  maps = ap (map ahead_numbers) grown ∙ map-append ahead_numbers aheads (x ∷ [])
+
+  pub aheads_more : (ts : List TableNumbers) (m : ℕ) (t : TableNumbers) → length aheads ≡ m → AreAheadTables (map ahead_numbers aheads) ts → slice_get ts m ≡ Some t → CanRunAhead (ahead_numbers x) t
+      → AreAheadTables (map ahead_numbers more) ts
+  aheads_more ts m t size each there this =
+      let place : m ≡ length (map ahead_numbers aheads) = sym size ∙ sym (length-map aheads ahead_numbers) in
+      subst (λ (as2 : List AheadNumbers). AreAheadTables as2 ts) (sym maps)
+      (ahead_more (map ahead_numbers aheads) ts (ahead_numbers x) t each (ap (λ (k : ℕ). slice_get ts k) (sym place) ∙ there) this)
+
+  pub storable_more : All IsStorableAhead (map ahead_numbers aheads) → IsStorableAhead (ahead_numbers x) → All IsStorableAhead (map ahead_numbers more)
+  storable_more all this =
+      subst (λ (as2 : List AheadNumbers). All IsStorableAhead as2) (sym maps)
+      (All-append IsStorableAhead (map ahead_numbers aheads) (ahead_numbers x ∷ []) all (All-cons IsStorableAhead (ahead_numbers x) [] this (All-nil IsStorableAhead)))

@@ -1,0 +1,71 @@
+-- A walk along the rows of a table that runs ahead, a character at a time, and what is noted of places from which no match comes.
+use Rattle.std.specs.Prelude.{◌≡◌, ◌≢◌, ℕ, zero, suc, ◌+◌, ◌*◌, ◌/◌, ◌%◌, ◌<◌, List, length, take, drop, slice_index}
+use Rattle.std.specs.Char.{encode_utf8}
+use Rattle.std.specs.Int.{bit_at}
+use Rattle.lalrpop_dense.specs.DenseTable.{TableNumbers}
+use Rattle.lalrpop_emit.specs.Ahead.{AheadNumbers, character_column, no_rule}
+use Rattle.lalrpop_emit.specs.Internal.AheadRows.{IsRowOf}
+use Rattle.lalrpop_emit.specs.Internal.Characters.{IsCharacterAt}
+use Rattle.lalrpop_emit.specs.Internal.Running.{OfMode}
+use Rattle.lalrpop_emit.specs.NumberedRules.{NumberedRules}
+
+-- the character at the place leads from the row to one in which the same token is open: neither that of `Lost`, at 0, nor that of an end
+pub record IsStep (a : AheadNumbers) (t : TableNumbers) (text : List ℕ) (row at row2 at2 : ℕ) : Type 0 where
+  pub character : ℕ
+  pub here : IsCharacterAt text at character
+  pub place : at2 ≡ at + length (encode_utf8 character)
+  pub leads : row2 ≡ slice_index a.cells (row + character_column t character)
+  pub some : 0 < row2
+  pub no_end : row2 < a.ends
+
+-- none does
+abbrev pub StopsAt : AheadNumbers → TableNumbers → List ℕ → ℕ → ℕ → Type 0
+StopsAt a t text row at = (row2 at2 : ℕ) → ¬ IsStep a t text row at row2 at2
+
+-- from the row at the place on no match ends within `n` characters
+abbrev pub NothingWithin : AheadNumbers → TableNumbers → List ℕ → ℕ → ℕ → ℕ → Type 0
+NothingWithin a t text zero row at = Unit {0}
+NothingWithin a t text (suc n) row at =
+    (row2 at2 : ℕ) → IsStep a t text row at row2 at2 → (slice_index a.cells (row2 + a.width) ≡ no_rule) × NothingWithin a t text n row2 at2
+
+-- no match comes
+abbrev pub NothingFrom : AheadNumbers → TableNumbers → List ℕ → ℕ → ℕ → Type 0
+NothingFrom a t text row at = (n : ℕ) → NothingWithin a t text n row at
+
+-- so many characters from the start on lead to the row and the place
+abbrev pub LeadTo : AheadNumbers → TableNumbers → List ℕ → ℕ → ℕ → ℕ → ℕ → Type 0
+LeadTo a t text start zero row at = (row ≡ a.start) × (at ≡ start)
+LeadTo a t text start (suc n) row at = (row1 : ℕ) × (at1 : ℕ) × (LeadTo a t text start n row1 at1 × IsStep a t text row1 at1 row at)
+
+-- a walk from the start on ends a match there, or is still at the start
+pub record IsLastMatch (a : AheadNumbers) (t : TableNumbers) (text : List ℕ) (start row at : ℕ) : Type 0 where
+  pub characters : ℕ
+  pub lead : LeadTo a t text start characters row at
+  pub matched : 0 < characters → slice_index a.cells (row + a.width) ≢ no_rule
+
+-- a character that begins before a multiple of 64 ends at the place, which is that or lies behind it
+pub record IsPassed (text : List ℕ) (at : ℕ) : Type 0 where
+  pub before : ℕ
+  pub character : ℕ
+  pub here : IsCharacterAt text before character
+  pub place : at ≡ before + length (encode_utf8 character)
+  pub passes : before / 64 < at / 64
+
+-- the word of the row and the place: each row has a bit for each 64 bytes of a text of this size
+abbrev pub memo_word : AheadNumbers → ℕ → ℕ → ℕ → ℕ
+memo_word a size row at = row / (a.width + 1) * (size / 4096 + 1) + at / 4096
+
+abbrev pub IsNoted : List ℕ → AheadNumbers → ℕ → ℕ → ℕ → Type 0
+IsNoted memo a size row at = bit_at (slice_index memo (memo_word a size row at)) (at / 64 % 64) ≡ 1
+
+-- what is noted holds of the text, wherever a walk began
+abbrev pub IsMemoFor : AheadNumbers → TableNumbers → List ℕ → List ℕ → Type 0
+IsMemoFor a t text memo = (row at : ℕ) → IsRowOf a row → IsPassed text at → IsNoted memo a (length text) row at → NothingFrom a t text row at
+
+-- the part of the mode: each of so many modes has an equal one
+abbrev pub memo_part : ℕ → ℕ → List ℕ → List ℕ
+memo_part modes mode memo = take (length memo / modes) (drop (mode * (length memo / modes)) memo)
+
+-- what is noted in the part of each mode holds of the text, by the tables of that mode
+abbrev pub IsMemoOf : NumberedRules → List ℕ → List ℕ → Type 0
+IsMemoOf n text memo = (mode : ℕ) → OfMode n mode (λ a t. IsMemoFor a t text (memo_part (length n.tables) mode memo))
