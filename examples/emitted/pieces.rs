@@ -1,4 +1,5 @@
-//! Cuts standard input by the lexer in lexer.rs, and writes the lines of pieces.c. It ends where there are too many modes.
+//! Cuts standard input by the lexer in lexer.rs, and writes the lines of pieces.c. It ends where there are too many modes. With an
+//! argument the lexer has no memo.
 #[path = "../../lexer.rs"]
 mod lexer;
 
@@ -8,7 +9,12 @@ fn main() -> io::Result<()> {
     let mut text = Vec::new();
     io::stdin().read_to_end(&mut text)?;
     let mut out = BufWriter::new(io::stdout());
-    for piece in lexer::Lexer::new(&text) {
+    let mut memo = vec![0; lexer::Lexer::memo_size(text.len())];
+    let lexer = match std::env::args().len() {
+        1 => lexer::Lexer::linear(&text, &mut memo),
+        _ => lexer::Lexer::new(&text),
+    };
+    for piece in lexer {
         let Ok(piece) = piece else { break };
         if piece.is_skipped() {
             continue;
