@@ -558,7 +558,7 @@ static const json_ahead json_aheads[json_modes] = {
 #endif
 
 enum {
-    json_run_size = 32,    /* so many bytes are looked at at once: where they are ASCII, each is its own column */
+    json_run_size = 32,    /* how many bytes are looked at together: where they are ASCII, each is its own column */
     json_walks = 6,        /* how many walks are done at once */
     json_least = 384,      /* the least bytes of a block: a word for each walk. Each block has a multiple of them */
     json_most = 6144,      /* no block has more bytes than this */
@@ -632,7 +632,7 @@ json_inline int json_follows(const unsigned char *text, size_t length, size_t at
     return at < length && text[at] >= 0x80 && text[at] < 0xC0;
 }
 
-/* The size, and the code; 0 if the code isn't a character's, or is too low for so many bytes. */
+/* The size, and the code; 0 if the code isn't a character's, or a shorter form would do. */
 json_inline size_t json_sized_character(size_t size, uint32_t least, uint32_t code, uint32_t *character) {
     if (code < least || code >= 0x110000 || (code >= 0xD800 && code < 0xE000)) {
         return 0;
@@ -738,12 +738,12 @@ json_inline uint32_t json_rule_of(const json_ahead *ahead, size_t row) {
     return (uint32_t)ahead->cells[row + ahead->width];
 }
 
-/* How many words a memo has for a text of this size, by so many rows: a bit for each row and each 64 bytes. */
+/* How many words a memo of this many rows has for a text of this size: a bit for each row and each 64 bytes. */
 json_inline size_t json_memo_words(size_t rows, size_t size) {
     return json_product(rows, size / 4096 + 1);
 }
 
-/* The word of the memo in which the walk's bit is; behind the last one, of so many, if the memo has none. */
+/* The word of the memo in which the walk's bit is; `words`, which is behind the last one, if the memo has none. */
 json_inline size_t json_word_of(const json_ahead *ahead, size_t size, json_walker walk, size_t words) {
     size_t row_words = size / 4096 + 1;
     size_t number = walk.row / (ahead->width + 1);
@@ -759,7 +759,13 @@ json_inline int json_is_noted(const json_ahead *ahead, size_t size, json_walker 
     return word < memo.count && (memo.words[word] >> (walk.at / 64 % 64)) % 2 == 1;
 }
 
-/* Notes that no match comes. */
+/* Whether the step from the walk passes a multiple of 64: comes to it, or beyond it. This is asked at each character, and was
+   measured to be quicker than a comparison of quotients. */
+json_inline int json_passes(json_walker walk, json_walker next) {
+    return next.at % 64 < next.at - walk.at;
+}
+
+/* Notes that no match comes. Where the memo has room, that sets one bit, and no other. */
 json_inline void json_note(const json_ahead *ahead, size_t size, json_walker walk, json_memo memo) {
     size_t word = json_word_of(ahead, size, walk, memo.count);
     if (word < memo.count) {
@@ -767,7 +773,8 @@ json_inline void json_note(const json_ahead *ahead, size_t size, json_walker wal
     }
 }
 
-/* Walks up to the end again, on which no match comes, and notes it. */
+/* Walks up to the end again, on which no match comes, and notes it. Where no bit was in the way, each multiple of 64 that it
+   passes costs a new one, but for the last. */
 static void json_note_walk(const json_ahead *ahead, const json_table *table, const unsigned char *text, size_t length, json_walker from,
     size_t end, json_memo memo) {
     json_walker walk = from;
@@ -776,7 +783,7 @@ static void json_note_walk(const json_ahead *ahead, const json_table *table, con
         if (!json_walked(ahead, table, text, length, walk, &next)) {
             return;
         }
-        if (walk.at / 64 < next.at / 64) {
+        if (json_passes(walk, next)) {
             json_note(ahead, length, next, memo);
         }
         walk = next;
@@ -802,7 +809,7 @@ json_inline json_reading json_read_on(const json_ahead *ahead, const json_table 
     reading.last = walk;
     while (json_walked(ahead, table, text, length, walk, &next)) {
         reading.last = json_last_of(ahead, reading.last, next);
-        if (walk.at / 64 < next.at / 64 && json_is_noted(ahead, length, next, memo)) {
+        if (json_passes(walk, next) && json_is_noted(ahead, length, next, memo)) {
             reading.end = next.at;
             return reading;
         }
@@ -812,13 +819,21 @@ json_inline json_reading json_read_on(const json_ahead *ahead, const json_table 
     return reading;
 }
 
-/* Where the longest match from the place on ends, and its rule; the place itself if nothing matches there. */
-static size_t json_longest(const json_ahead *ahead, const json_table *table, const unsigned char *text, size_t length, size_t start,
-    json_memo memo, uint32_t *rule) {
+/* Reads on from the start until no match comes, and notes where that was in vain. Bits that are new pay for what was read in
+   vain, 64 bytes each, all but the last 128. */
+json_inline json_reading json_read_and_note(const json_ahead *ahead, const json_table *table, const unsigned char *text, size_t length,
+    size_t start, json_memo memo) {
     json_reading reading = json_read_on(ahead, table, text, length, start, memo);
     if (memo.count > 0 && reading.last.at / 64 < reading.end / 64) {
         json_note_walk(ahead, table, text, length, reading.last, reading.end, memo);
     }
+    return reading;
+}
+
+/* Where the longest match from the place on ends, and its rule; the place itself if nothing matches there. */
+static size_t json_longest(const json_ahead *ahead, const json_table *table, const unsigned char *text, size_t length, size_t start,
+    json_memo memo, uint32_t *rule) {
+    json_reading reading = json_read_and_note(ahead, table, text, length, start, memo);
     *rule = json_rule_of(ahead, reading.last.row);
     return reading.last.at;
 }
@@ -1129,11 +1144,14 @@ json_inline size_t json_min(size_t a, size_t b) {
     return a < b ? a : b;
 }
 
-/* How many bytes to run through where the text goes on; 0 for none. They are no more than the mode on top has been there for,
-   so a mode that is left soon costs little; and the present block is used first, as far as it serves. */
+/* How many bytes to run through where the text goes on; 0 for none. At most as many as the mode on top has been there for, so a
+   mode that is soon left costs little. The present block is used first, as far as it serves. */
 json_inline size_t json_block_length(const json_lexer *lexer) {
     const json_run *run = &lexer->run;
     int is_inside = lexer->mode == run->mode && lexer->at - run->base < run->length;
+    if (lexer->at - run->since < json_least) {
+        return 0;
+    }
     if (is_inside && (lexer->at == run->base || run->bits != 0 || run->word == run->length / 64)) {
         return 0;
     }
@@ -1232,7 +1250,7 @@ json_apart int json_next_apart(json_lexer *lexer, size_t end, uint32_t rule, jso
     return 1;
 }
 
-/* A lexer at the beginning of a text of so many bytes, which must live as long as it is cut. A hostile text can take time that
+/* A lexer at the beginning of a text of `length` bytes, which must live as long as it is cut. A hostile text can take time that
    grows with the square of its length; with json_begin_linear none does. */
 json_open json_lexer json_begin(const char *text, size_t length) {
     json_lexer lexer;
@@ -1252,7 +1270,7 @@ json_open json_lexer json_begin(const char *text, size_t length) {
     return lexer;
 }
 
-/* How many words of 64 bits the memo of a text of so many bytes takes. */
+/* How many words of 64 bits the memo of a text of `length` bytes takes. */
 size_t json_memo_size(size_t length) {
     return json_product(json_memo_words(json_most_rows(), length), json_modes);
 }

@@ -145,7 +145,7 @@ impl<'text> Lexer<'text> {
         }
     }
 
-    /// How many words the memo of a text of so many bytes takes; `usize::MAX` at most.
+    /// How many words the memo of a text of `length` bytes takes; `usize::MAX` at most.
     pub fn memo_size(length: usize) -> usize {
         memo_size(&NUMBERS, length)
     }
@@ -276,7 +276,7 @@ fn follows(text: &[u8], at: usize) -> bool {
     at < text.len() && text[at] >= 0x80 && text[at] < 0xC0
 }
 
-// The size and the code. `None` if the code isn't a character's, or is too low for so many bytes.
+// The size and the code. `None` if the code isn't a character's, or a shorter form would do.
 fn sized_character(size: usize, least: u32, code: u32) -> Option<Character> {
     if code < least || code >= 0x110000 || matches!(code, 0xD800..=0xDFFF) {
         return None;
@@ -381,7 +381,7 @@ fn memo_size(numbers: &Numbers, size: usize) -> usize {
     memo_words(most_rows(numbers), size).saturating_mul(numbers.tables.len())
 }
 
-// Where the mode's part of the memo, which has so many words, begins and ends. Each mode has an equal one.
+// Where the mode's part of a memo of `words` words begins and ends. All modes have equal parts.
 fn memo_part(words: usize, modes: usize, mode: u16) -> (usize, usize) {
     let size = words / modes;
     let from = mode as usize * size;
@@ -599,21 +599,28 @@ fn is_noted(ahead: &Ahead, size: usize, walk: Walk, memo: &[u64]) -> bool {
     }
 }
 
-// Notes that no match comes.
+// Whether the step from the walk passes a multiple of 64: comes to it, or beyond it. This is asked at each character, and was
+// measured to be quicker than a comparison of quotients.
+fn passes(walk: Walk, next: Walk) -> bool {
+    next.at % 64 < next.at - walk.at
+}
+
+// Notes that no match comes. Where the memo has room, that sets one bit, and no other.
 fn note(ahead: &Ahead, text: &[u8], walk: Walk, memo: &mut [u64]) {
     if let Some(word) = word_of(ahead, text.len(), walk, memo.len()) {
         memo[word] |= 1u64 << (walk.at / 64 % 64);
     }
 }
 
-// Walks up to the end again, on which no match comes, and notes it.
+// Walks up to the end again, on which no match comes, and notes it. Where no bit was in the way, each multiple of 64 that it
+// passes costs a new one, but for the last.
 fn note_walk(ahead: &Ahead, table: &Table, text: &[u8], from: Walk, end: usize, memo: &mut [u64]) {
     let mut walk = from;
     while walk.at < end {
         let Some(next) = walked(ahead, table, text, walk) else {
             return;
         };
-        if walk.at / 64 < next.at / 64 {
+        if passes(walk, next) {
             note(ahead, text, next, memo);
         }
         walk = next;
@@ -648,7 +655,7 @@ fn read_on(ahead: &Ahead, table: &Table, text: &[u8], start: usize, memo: &[u64]
             return Reading { last, end: walk.at };
         };
         last = last_of(ahead, last, next);
-        if walk.at / 64 < next.at / 64 && is_noted(ahead, text.len(), next, memo) {
+        if passes(walk, next) && is_noted(ahead, text.len(), next, memo) {
             return Reading { last, end: next.at };
         }
         walk = next;
@@ -666,6 +673,22 @@ fn match_to(ahead: &Ahead, start: usize, last: Walk) -> Option<Match> {
     })
 }
 
+// Reads on from the start until no match comes, and notes where that was in vain. Bits that are new pay for what was read in
+// vain, 64 bytes each, all but the last 128.
+fn read_and_note(
+    ahead: &Ahead,
+    table: &Table,
+    text: &[u8],
+    start: usize,
+    memo: &mut [u64],
+) -> Reading {
+    let reading = read_on(ahead, table, text, start, memo);
+    if !memo.is_empty() && reading.last.at / 64 < reading.end / 64 {
+        note_walk(ahead, table, text, reading.last, reading.end, memo);
+    }
+    reading
+}
+
 // Where the longest match from the place on ends, and its rule. `None` if nothing matches there.
 fn longest(
     ahead: &Ahead,
@@ -674,10 +697,7 @@ fn longest(
     start: usize,
     memo: &mut [u64],
 ) -> Option<Match> {
-    let reading = read_on(ahead, table, text, start, memo);
-    if !memo.is_empty() && reading.last.at / 64 < reading.end / 64 {
-        note_walk(ahead, table, text, reading.last, reading.end, memo);
-    }
+    let reading = read_and_note(ahead, table, text, start, memo);
     match_to(ahead, start, reading.last)
 }
 
@@ -915,7 +935,7 @@ fn mark_ends(rows: &[AheadCell], least: usize, ends: &mut [u64]) {
     }
 }
 
-// Runs through so many bytes of the text from the place on: their columns, and the rows behind them.
+// Runs through `size` bytes of the text from the place on: their columns, and the rows behind them.
 fn run_through(
     ahead: &Ahead,
     table: &Table,
@@ -1006,9 +1026,12 @@ fn resume(run: &mut Run, at: usize, mode: u16) {
     }
 }
 
-// How many bytes to run through from the place on, where this mode is on top; 0 for none. They are no more than this mode has
-// been on top for, so a mode that is left soon costs little; and the present block is used first, as far as it serves.
+// How many bytes to run through from the place on, where this mode is on top; 0 for none. At most as many as this mode has been
+// on top for, so a mode that is soon left costs little. The present block is used first, as far as it serves.
 fn block_length(text: &[u8], at: usize, mode: u16, run: &Run) -> usize {
+    if at - run.since < LEAST {
+        return 0;
+    }
     let is_inside = mode == run.mode && at - run.base < run.length;
     if is_inside && (at == run.base || run.bits != 0 || run.word == run.length / 64) {
         return 0;

@@ -38,4 +38,5 @@ pub mod AheadLists
 pub mod Steps
 pub mod StepWalks
 pub mod Memos
+pub mod MemoCosts
 pub mod ModeMemos

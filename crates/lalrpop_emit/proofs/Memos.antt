@@ -1,18 +1,21 @@
 -- What is noted of a text, one bit more at a time.
-use Rattle.std.proofs.Common.{◌≡◌, ◌≢◌, ℕ, suc, ◌+◌, ◌-◌, ◌*◌, ◌/◌, ◌%◌, ◌^◌, ◌<◌, ◌≤◌, ◌⊎◌, inl, inr, List, length, get_or, set, refl, sym, ap, subst, ◌∙◌, arith}
-use Rattle.std.specs.Prelude.{slice_index, bit_or}
+use Rattle.std.proofs.Common.{◌≡◌, ℕ, zero, suc, ◌+◌, ◌*◌, ◌/◌, ◌%◌, ◌^◌, ◌<◌, ◌≤◌, ◌⊎◌, inl, inr, List, length, get_or, set, refl, sym, ap, subst, ◌∙◌, arith}
+use Rattle.std.specs.Prelude.{slice_index, bit_or, true, false}
 use Rattle.std.specs.Char.{encode_utf8}
 use Rattle.std.specs.Int.{bit_at}
 use Rattle.std.proofs.lemmas.Bool.{cases_lt, cases_eq}
 use Rattle.std.proofs.lemmas.List.{get_or-set_same, get_or-set_other}
+use Rattle.std.proofs.lemmas.List.Sums.{sum_by-le, sum_by-set}
+use Rattle.std.proofs.Math.Nat.{lt-div-mul-add, mul-le-mul_right}
 use Rattle.std.proofs.lemmas.Nat.{div-mul-add, one_shl}
-use Rattle.std.proofs.lemmas.Nat.Bits.{bit_at_or, bit_at-pow_other}
+use Rattle.std.proofs.lemmas.Nat.Bits.{bit_at_or, bit_at-lt, bit_at-pow_other, bit_at-pow_same}
 use Rattle.std.proofs.lemmas.Str.{encode_ascii}
 use Rattle.lalrpop_dense.specs.DenseTable.{TableNumbers}
-use Rattle.lalrpop_emit.specs.Ahead.{AheadNumbers}
+use Rattle.lalrpop_emit.specs.Ahead.{AheadNumbers, IsAheadOf}
+use Rattle.lalrpop_emit.specs.Ahead.Standing.{Begin}
 use Rattle.lalrpop_emit.specs.Internal.AheadRows.{IsRowOf}
 use Rattle.lalrpop_emit.specs.Internal.Characters.{IsCharacterAt}
-use Rattle.lalrpop_emit.specs.Internal.Memo.{IsPassed, IsNoted, IsMemoFor, NothingFrom, memo_word}
+use Rattle.lalrpop_emit.specs.Internal.Memo.{IsPassed, IsNoted, IsMemoFor, IsRoomy, NothingFrom, memo_word, noted_count, set_below, set_bits}
 use Rattle.lalrpop_emit.proofs.CharacterBytes.{bytes_at, encode_two, encode_three, encode_four, none_first}
 use Rattle.lalrpop_emit.proofs.Steps.{same_character, character_fits}
 use Rattle.lalrpop_emit.proofs.Walks.{character_size}
@@ -108,3 +111,132 @@ memo_more a t text memo row at word is p nothing right word_is within row2 at2 i
           ]
       | inr other ↦ right row2 at2 is2 p2 (ap (λ (n : ℕ). bit_at n (at2 / 64 % 64)) (sym (get_or-set_other memo word word2 bits 0 other)) ∙ noted)
     ]
+
+-- ---- what is set by one bit more
+
+module _ (a : AheadNumbers) (text memo : List ℕ) (row at word : ℕ) (is : IsRowOf a row) (p : IsPassed text at) (word_is : word ≡ memo_word a (length text) row at) (within : word < length memo) where
+  abbrev old_word : ℕ
+  old_word = get_or memo word 0
+
+  abbrev new_word : ℕ
+  new_word = bit_or old_word (1 * 2 ^ (at / 64 % 64) % 2 ^ 64)
+
+  pub noted_others : (row2 at2 : ℕ) → IsRowOf a row2 → IsPassed text at2 → IsNoted (set memo word new_word) a (length text) row2 at2 → IsNoted memo a (length text) row2 at2 ⊎ (at2 ≡ at)
+  noted_others row2 at2 is2 p2 noted =
+      let word2 = memo_word a (length text) row2 at2 in
+      elim (cases_eq word2 word) [
+        | inl same ↦
+            let there : bit_at new_word (at2 / 64 % 64) ≡ 1 =
+            ap (λ (n : ℕ). bit_at n (at2 / 64 % 64)) (sym (get_or-set_same memo word new_word 0 within) ∙ ap (slice_index (set memo word new_word)) (sym same)) ∙ noted in
+            elim (set_bit old_word (at / 64 % 64) (at2 / 64 % 64) (omega arith) there) [
+              | inl old ↦ inl (ap (λ (n : ℕ). bit_at (slice_index memo n) (at2 / 64 % 64)) same ∙ old)
+              | inr bit ↦ inr (sym (same_place a text row at row2 at2 is is2 p p2 (sym word_is ∙ sym same) (sym bit)).1)
+            ]
+        | inr other ↦ inl (ap (λ (n : ℕ). bit_at n (at2 / 64 % 64)) (sym (get_or-set_other memo word word2 new_word 0 other)) ∙ noted)
+      ]
+
+  pub count_by_word : noted_count (set memo word new_word) + set_bits old_word ≡ noted_count memo + set_bits new_word
+  count_by_word = sum_by-set set_bits memo word new_word 0 within
+
+-- the bit k is set too
+bits_more : (old k j : ℕ) → k < 64 → set_below old j ≤ set_below (bit_or old (1 * 2 ^ k % 2 ^ 64)) j
+bits_more old k zero small = omega arith
+bits_more old k (suc j) small = omega (arith, bits_more old k j small, bit_at_or old (1 * 2 ^ k % 2 ^ 64) j)
+
+same_below : (old k j : ℕ) → k < 64 → j ≤ k → set_below (bit_or old (1 * 2 ^ k % 2 ^ 64)) j ≡ set_below old j
+same_below old k zero small l = refl
+same_below old k (suc j) small l =
+    let one : 1 * 2 ^ k % 2 ^ 64 ≡ 2 ^ k = one_shl k 64 small in
+    omega (arith, same_below old k j small (omega (arith, l)), bit_at_or old (1 * 2 ^ k % 2 ^ 64) j, ap (λ (n : ℕ). bit_at n j) one, bit_at-pow_other k j (λ e. omega (arith, e, l)))
+
+one_above : (old k j : ℕ) → k < 64 → bit_at old k ≡ 0 → k < j → set_below (bit_or old (1 * 2 ^ k % 2 ^ 64)) j ≡ set_below old j + 1
+one_above old k zero small clear l = absurd (omega (arith, l))
+one_above old k (suc j) small clear l =
+    let one : 1 * 2 ^ k % 2 ^ 64 ≡ 2 ^ k = one_shl k 64 small in
+    let bit = bit_at_or old (1 * 2 ^ k % 2 ^ 64) j in
+    elim (cases_lt k j) [
+      | inl less ↦ omega (arith, one_above old k j small clear less, bit, ap (λ (n : ℕ). bit_at n j) one, bit_at-pow_other k j (λ e. omega (arith, e, less)))
+      | inr more ↦
+          let same : j ≡ k = omega (arith, l, more) in
+          let here : bit_at (bit_or old (1 * 2 ^ k % 2 ^ 64)) j ≡ 1 =
+          ap (bit_at (bit_or old (1 * 2 ^ k % 2 ^ 64))) same ∙ bit_at_or old (1 * 2 ^ k % 2 ^ 64) k
+          ∙ omega (arith, clear, ap (λ (n : ℕ). bit_at n k) one, bit_at-pow_same k) in
+          let none : bit_at old j ≡ 0 = ap (bit_at old) same ∙ clear in
+          omega (arith, here, none, same_below old k j small (omega (arith, same)))
+    ]
+
+set_bits_more : (old k : ℕ) → k < 64 → set_bits old ≤ set_bits (bit_or old (1 * 2 ^ k % 2 ^ 64))
+unfolding set_bits
+set_bits_more old k small = bits_more old k 64 small
+
+set_bits_one : (old k : ℕ) → k < 64 → bit_at old k ≡ 0 → set_bits (bit_or old (1 * 2 ^ k % 2 ^ 64)) ≡ set_bits old + 1
+unfolding set_bits
+set_bits_one old k small clear = one_above old k 64 small clear small
+
+module _ (a : AheadNumbers) (text memo : List ℕ) (row at word : ℕ) (is : IsRowOf a row) (p : IsPassed text at) (word_is : word ≡ memo_word a (length text) row at) (within : word < length memo) where
+  abbrev more_noted : List ℕ
+  more_noted = set memo word (bit_or (get_or memo word 0) (1 * 2 ^ (at / 64 % 64) % 2 ^ 64))
+
+  pub count_more : noted_count memo ≤ noted_count more_noted
+  count_more = omega (arith, count_by_word a text memo row at word is p word_is within, set_bits_more (get_or memo word 0) (at / 64 % 64) (omega arith))
+
+  pub count_one : ¬ IsNoted memo a (length text) row at → noted_count more_noted ≡ noted_count memo + 1
+  count_one clear =
+      let same : bit_at (get_or memo word 0) (at / 64 % 64) ≡ bit_at (slice_index memo (memo_word a (length text) row at)) (at / 64 % 64) =
+      ap (λ (n : ℕ). bit_at (slice_index memo n) (at / 64 % 64)) word_is in
+      let none : bit_at (get_or memo word 0) (at / 64 % 64) ≡ 0 =
+      elim (cases_eq (bit_at (get_or memo word 0) (at / 64 % 64)) 1) [
+        | inl set_is ↦ absurd (clear (sym same ∙ set_is))
+        | inr other ↦ omega (arith, other, bit_at-lt (get_or memo word 0) (at / 64 % 64))
+      ] in
+      omega (arith, count_by_word a text memo row at word is p word_is within, set_bits_one (get_or memo word 0) (at / 64 % 64) (omega arith) none)
+
+-- ---- room
+
+less_by_product : (k rows w : ℕ) → k * w + w ≤ rows → 0 < w → k < rows / w
+less_by_product k rows w fits some = elim (cases_lt k (rows / w)) [
+  | inl less ↦ less
+  | inr more ↦
+      let low : rows / w * w ≤ k * w = mul-le-mul_right w more in
+      absurd (omega (arith, low, fits, lt-div-mul-add {a = rows} {b = w} some))
+]
+
+-- the row of an open token has words of its own
+pub row_has_room : (a : AheadNumbers) (size : ℕ) (memo : List ℕ) (row : ℕ) → IsRowOf a row → row < a.ends → IsRoomy a size memo
+    → row / (a.width + 1) < length memo / (size / 4096 + 1)
+row_has_room a size memo row (k, row_is, within) before roomy =
+    let number : row / (a.width + 1) ≡ k = ap (λ (n : ℕ). n / (a.width + 1)) (omega (arith, row_is)) ∙ div-mul-add k (a.width + 1) 0 (omega arith) in
+    let among : k < (a.ends + a.width) / (a.width + 1) = less_by_product k (a.ends + a.width) (a.width + 1) (omega (arith, row_is, before)) (omega arith) in
+    let words : (k + 1) * (size / 4096 + 1) ≤ (a.ends + a.width) / (a.width + 1) * (size / 4096 + 1) = mul-le-mul_right (size / 4096 + 1) (omega (arith, among)) in
+    let there : k < length memo / (size / 4096 + 1) = less_by_product k (length memo) (size / 4096 + 1) (omega (arith, words, roomy)) (omega arith) in
+    omega (arith, number, there)
+
+-- the row that a text begins in is one of these
+pub some_room : (a : AheadNumbers) (t : TableNumbers) (size : ℕ) (memo : List ℕ) → IsAheadOf a t → IsRoomy a size memo → 0 < length memo
+some_room a t size memo h roomy = elim (cases_lt a.start a.ends) [
+  | inl before ↦
+      let some : 1 ≤ (a.ends + a.width) / (a.width + 1) = less_by_product 0 (a.ends + a.width) (a.width + 1) (omega (arith, before)) (omega arith) in
+      let words : 1 * (size / 4096 + 1) ≤ (a.ends + a.width) / (a.width + 1) * (size / 4096 + 1) = mul-le-mul_right (size / 4096 + 1) some in
+      omega (arith, words, roomy)
+  | inr behind ↦ let ends : false ≡ true = (h.ends a.start Begin h.begins).1 behind in cc
+]
+
+-- where `ends` is the place of a row, as many words for each row before it are enough
+pub roomy_by_rows : (a : AheadNumbers) (size rows : ℕ) (memo : List ℕ) → a.ends ≡ rows * (a.width + 1) → a.ends / (a.width + 1) * (size / 4096 + 1) ≤ length memo → IsRoomy a size memo
+roomy_by_rows a size rows memo is enough =
+    let before : a.ends / (a.width + 1) ≡ rows = ap (λ (n : ℕ). n / (a.width + 1)) (omega (arith, is)) ∙ div-mul-add rows (a.width + 1) 0 (omega arith) in
+    let all : (a.ends + a.width) / (a.width + 1) ≡ rows = ap (λ (n : ℕ). (n + a.width) / (a.width + 1)) is ∙ div-mul-add rows (a.width + 1) a.width (omega arith) in
+    subst (λ (n : ℕ). n * (size / 4096 + 1) ≤ length memo) (before ∙ sym all) enough
+
+-- ---- no more bits than 64 for each word
+
+below_most : (word k : ℕ) → set_below word k ≤ k
+below_most word zero = omega arith
+below_most word (suc k) = omega (arith, below_most word k, bit_at-lt word k)
+
+bits_most : (word : ℕ) → set_bits word ≤ 64
+unfolding set_bits
+bits_most word = below_most word 64
+
+pub noted_most : (memo : List ℕ) → noted_count memo ≤ length memo * 64
+noted_most memo = sum_by-le set_bits 64 memo (λ k d within. bits_most _)

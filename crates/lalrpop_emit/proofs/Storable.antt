@@ -61,7 +61,6 @@ storable r n h = record {
   all_actions = h.all_actions;
   modes = omega (arith, h.modes, h.few_modes);
   tables = λ m t l. (h.tables m (get_or n.tables m t) (slice_get-get_or n.tables m t l)).storable;
-  few_ahead = omega (arith, h.all_ahead, h.modes, h.few_modes);
   ahead = h.ahead;
 }
 

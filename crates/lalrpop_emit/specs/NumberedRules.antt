@@ -93,7 +93,6 @@ pub record IsStorable (r : NumberedRules) : Type 0 where
   pub all_actions : length r.actions < 2 ^ 64
   pub modes : length r.tables < 2 ^ 16
   pub tables : All IsStorableTable r.tables
-  pub few_ahead : length r.ahead < 2 ^ 16
   pub ahead : All IsStorableAhead r.ahead
 
 -- what a source file has of both is the same: of `tables` the blocks and pages alone

@@ -81,7 +81,7 @@ fn mark_ends(rows: &[AheadCell], least: usize, ends: &mut [u64])
     }
 }
 
-// Runs through so many bytes of the text from the place on: their columns, and the rows behind them.
+// Runs through `size` bytes of the text from the place on: their columns, and the rows behind them.
 fn run_through(
     ahead: &Ahead,
     table: &Table,
@@ -232,8 +232,8 @@ pub(crate) fn resume(run: &mut Run, at: usize, mode: u16)
     }
 }
 
-// How many bytes to run through from the place on, where this mode is on top; 0 for none. They are no more than this mode has
-// been on top for, so a mode that is left soon costs little; and the present block is used first, as far as it serves.
+// How many bytes to run through from the place on, where this mode is on top; 0 for none. At most as many as this mode has been
+// on top for, so a mode that is soon left costs little. The present block is used first, as far as it serves.
 pub(crate) fn block_length(text: &[u8], at: usize, mode: u16, run: &Run) -> usize
     requires within { at ≤ length text.now }
     requires behind { (run.now.base ≤ at) × (run.now.since ≤ at) }
@@ -241,6 +241,9 @@ pub(crate) fn block_length(text: &[u8], at: usize, mode: u16, run: &Run) -> usiz
     ensures left { at + result ≤ length text.now }
     ensures most { result ≤ 6144 }
 {
+    if at - run.since < LEAST {
+        return 0;
+    }
     let is_inside = mode == run.mode && at - run.base < run.length;
     if is_inside && (at == run.base || run.bits != 0 || run.word == run.length / 64) {
         return 0;

@@ -27,16 +27,16 @@ pub(crate) struct AheadLists {
     pub(crate) cells: Vec<u32>,
 }
 
-// There are no more cells than this.
+// The most cells.
 const MOST: usize = 1 << 26;
 
 // And no more columns than this.
 const MOST_COLUMNS: usize = 1 << 16;
 
-// Characters come in pages of 128; there are no more of these.
+// The most pages: one for each 128 characters.
 const PAGES: usize = 8704;
 
-// There are so many columns beside those of classes.
+// How many columns there are beside those of classes.
 const OTHER_COLUMNS: usize = 130;
 
 // What each row stands for, and where it begins.

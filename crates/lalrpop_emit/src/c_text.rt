@@ -52,7 +52,7 @@ pub(crate) const DRIVER: &str = "
 #endif
 
 enum {
-    $_run_size = 32,    /* so many bytes are looked at at once: where they are ASCII, each is its own column */
+    $_run_size = 32,    /* how many bytes are looked at together: where they are ASCII, each is its own column */
     $_walks = 6,        /* how many walks are done at once */
     $_least = 384,      /* the least bytes of a block: a word for each walk. Each block has a multiple of them */
     $_most = 6144,      /* no block has more bytes than this */
@@ -126,7 +126,7 @@ $_inline int $_follows(const unsigned char *text, size_t length, size_t at) {
     return at < length && text[at] >= 0x80 && text[at] < 0xC0;
 }
 
-/* The size, and the code; 0 if the code isn't a character's, or is too low for so many bytes. */
+/* The size, and the code; 0 if the code isn't a character's, or a shorter form would do. */
 $_inline size_t $_sized_character(size_t size, uint32_t least, uint32_t code, uint32_t *character) {
     if (code < least || code >= 0x110000 || (code >= 0xD800 && code < 0xE000)) {
         return 0;
@@ -232,12 +232,12 @@ $_inline uint32_t $_rule_of(const $_ahead *ahead, size_t row) {
     return (uint32_t)ahead->cells[row + ahead->width];
 }
 
-/* How many words a memo has for a text of this size, by so many rows: a bit for each row and each 64 bytes. */
+/* How many words a memo of this many rows has for a text of this size: a bit for each row and each 64 bytes. */
 $_inline size_t $_memo_words(size_t rows, size_t size) {
     return $_product(rows, size / 4096 + 1);
 }
 
-/* The word of the memo in which the walk's bit is; behind the last one, of so many, if the memo has none. */
+/* The word of the memo in which the walk's bit is; `words`, which is behind the last one, if the memo has none. */
 $_inline size_t $_word_of(const $_ahead *ahead, size_t size, $_walker walk, size_t words) {
     size_t row_words = size / 4096 + 1;
     size_t number = walk.row / (ahead->width + 1);
@@ -253,7 +253,13 @@ $_inline int $_is_noted(const $_ahead *ahead, size_t size, $_walker walk, $_memo
     return word < memo.count && (memo.words[word] >> (walk.at / 64 % 64)) % 2 == 1;
 }
 
-/* Notes that no match comes. */
+/* Whether the step from the walk passes a multiple of 64: comes to it, or beyond it. This is asked at each character, and was
+   measured to be quicker than a comparison of quotients. */
+$_inline int $_passes($_walker walk, $_walker next) {
+    return next.at % 64 < next.at - walk.at;
+}
+
+/* Notes that no match comes. Where the memo has room, that sets one bit, and no other. */
 $_inline void $_note(const $_ahead *ahead, size_t size, $_walker walk, $_memo memo) {
     size_t word = $_word_of(ahead, size, walk, memo.count);
     if (word < memo.count) {
@@ -261,7 +267,8 @@ $_inline void $_note(const $_ahead *ahead, size_t size, $_walker walk, $_memo me
     }
 }
 
-/* Walks up to the end again, on which no match comes, and notes it. */
+/* Walks up to the end again, on which no match comes, and notes it. Where no bit was in the way, each multiple of 64 that it
+   passes costs a new one, but for the last. */
 static void $_note_walk(const $_ahead *ahead, const $_table *table, const unsigned char *text, size_t length, $_walker from,
     size_t end, $_memo memo) {
     $_walker walk = from;
@@ -270,7 +277,7 @@ static void $_note_walk(const $_ahead *ahead, const $_table *table, const unsign
         if (!$_walked(ahead, table, text, length, walk, &next)) {
             return;
         }
-        if (walk.at / 64 < next.at / 64) {
+        if ($_passes(walk, next)) {
             $_note(ahead, length, next, memo);
         }
         walk = next;
@@ -296,7 +303,7 @@ $_inline $_reading $_read_on(const $_ahead *ahead, const $_table *table, const u
     reading.last = walk;
     while ($_walked(ahead, table, text, length, walk, &next)) {
         reading.last = $_last_of(ahead, reading.last, next);
-        if (walk.at / 64 < next.at / 64 && $_is_noted(ahead, length, next, memo)) {
+        if ($_passes(walk, next) && $_is_noted(ahead, length, next, memo)) {
             reading.end = next.at;
             return reading;
         }
@@ -306,13 +313,21 @@ $_inline $_reading $_read_on(const $_ahead *ahead, const $_table *table, const u
     return reading;
 }
 
-/* Where the longest match from the place on ends, and its rule; the place itself if nothing matches there. */
-static size_t $_longest(const $_ahead *ahead, const $_table *table, const unsigned char *text, size_t length, size_t start,
-    $_memo memo, uint32_t *rule) {
+/* Reads on from the start until no match comes, and notes where that was in vain. Bits that are new pay for what was read in
+   vain, 64 bytes each, all but the last 128. */
+$_inline $_reading $_read_and_note(const $_ahead *ahead, const $_table *table, const unsigned char *text, size_t length,
+    size_t start, $_memo memo) {
     $_reading reading = $_read_on(ahead, table, text, length, start, memo);
     if (memo.count > 0 && reading.last.at / 64 < reading.end / 64) {
         $_note_walk(ahead, table, text, length, reading.last, reading.end, memo);
     }
+    return reading;
+}
+
+/* Where the longest match from the place on ends, and its rule; the place itself if nothing matches there. */
+static size_t $_longest(const $_ahead *ahead, const $_table *table, const unsigned char *text, size_t length, size_t start,
+    $_memo memo, uint32_t *rule) {
+    $_reading reading = $_read_and_note(ahead, table, text, length, start, memo);
     *rule = $_rule_of(ahead, reading.last.row);
     return reading.last.at;
 }
@@ -623,11 +638,14 @@ $_inline size_t $_min(size_t a, size_t b) {
     return a < b ? a : b;
 }
 
-/* How many bytes to run through where the text goes on; 0 for none. They are no more than the mode on top has been there for,
-   so a mode that is left soon costs little; and the present block is used first, as far as it serves. */
+/* How many bytes to run through where the text goes on; 0 for none. At most as many as the mode on top has been there for, so a
+   mode that is soon left costs little. The present block is used first, as far as it serves. */
 $_inline size_t $_block_length(const $_lexer *lexer) {
     const $_run *run = &lexer->run;
     int is_inside = lexer->mode == run->mode && lexer->at - run->base < run->length;
+    if (lexer->at - run->since < $_least) {
+        return 0;
+    }
     if (is_inside && (lexer->at == run->base || run->bits != 0 || run->word == run->length / 64)) {
         return 0;
     }
@@ -726,7 +744,7 @@ $_apart int $_next_apart($_lexer *lexer, size_t end, uint32_t rule, $_piece *pie
     return 1;
 }
 
-/* A lexer at the beginning of a text of so many bytes, which must live as long as it is cut. A hostile text can take time that
+/* A lexer at the beginning of a text of `length` bytes, which must live as long as it is cut. A hostile text can take time that
    grows with the square of its length; with $_begin_linear none does. */
 $_open $_lexer $_begin(const char *text, size_t length) {
     $_lexer lexer;
@@ -746,7 +764,7 @@ $_open $_lexer $_begin(const char *text, size_t length) {
     return lexer;
 }
 
-/* How many words of 64 bits the memo of a text of so many bytes takes. */
+/* How many words of 64 bits the memo of a text of `length` bytes takes. */
 size_t $_memo_size(size_t length) {
     return $_product($_memo_words($_most_rows(), length), $_modes);
 }

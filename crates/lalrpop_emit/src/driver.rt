@@ -80,7 +80,7 @@ fn follows(text: &[u8], at: usize) -> bool
     at < text.len() && text[at] >= 0x80 && text[at] < 0xC0
 }
 
-// The size and the code. `None` if the code isn't a character's, or is too low for so many bytes.
+// The size and the code. `None` if the code isn't a character's, or a shorter form would do.
 fn sized_character(size: usize, least: u32, code: u32) -> Option<Character>
     ensures { MatchOption result (¬ ((least ≤ code) × IsScalar code))
         (λ c. (least ≤ code) × IsScalar code × (c.size ≡ size) × (c.code ≡ code)) }
@@ -221,7 +221,7 @@ pub(crate) fn memo_size(numbers: &Numbers, size: usize) -> usize
     memo_words(most_rows(numbers), size).saturating_mul(numbers.tables.len())
 }
 
-// Where the mode's part of the memo, which has so many words, begins and ends. Each mode has an equal one.
+// Where the mode's part of a memo of `words` words begins and ends. All modes have equal parts.
 fn memo_part(words: usize, modes: usize, mode: u16) -> (usize, usize)
     requires { mode < modes }
     ensures from { result.0 ≡ mode * (words / modes) }

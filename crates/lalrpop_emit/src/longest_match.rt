@@ -3,7 +3,8 @@
 //! A memo makes this quick where matches are short but much must be read to find that no longer one comes. It has a bit for each
 //! row and each 64 bytes of the text: whether no match comes if a walk passes there in this row. That is so wherever the walk
 //! began. So a walk stops where the bit is set; and where one has read on in vain, it sets the bits on its way. The caller lends the
-//! memory: `memo_words` words, or fewer, of which each is 0 at first.
+//! memory: `memo_words` words, or fewer, of which each is 0 at first. If there is a bit for each row and each 64 bytes, each bit pays
+//! for 64 bytes that are read in vain, and only 128 more in each call aren't paid for.
 ghost use Rattle.std.specs.Prelude.{◌≡◌, ◌≢◌, ◌↔◌, ◌+◌, ◌-◌, ◌*◌, ◌/◌, ◌^◌, ◌<◌, ◌≤◌, ◌⊎◌, ℕ, List, length, min, take, drop, slice_index, IfSome, IsTrue, MatchOption};
 ghost use Rattle.std.specs.Char.{encode_utf8};
 ghost use Rattle.std.specs.Option.{option_map};
@@ -17,7 +18,7 @@ ghost use Rattle.lalrpop_emit.specs.Ahead.{IsAheadOf, character_column, no_rule}
 ghost use Rattle.lalrpop_emit.specs.Internal.AheadRows.{IsRowOf};
 ghost use Rattle.lalrpop_emit.specs.Internal.Characters.{IsCharacterAt};
 ghost use Rattle.lalrpop_emit.specs.Internal.Lists.{ahead_numbers, list_numbers};
-ghost use Rattle.lalrpop_emit.specs.Internal.Memo.{IsLastMatch, IsMemoFor, IsNoted, IsPassed, IsStep, NothingFrom, StopsAt, memo_word};
+ghost use Rattle.lalrpop_emit.specs.Internal.Memo.{IsInVain, IsLastMatch, IsMemoFor, IsNoted, IsPassed, IsReadTo, IsRoomy, IsStep, NothingFrom, StopsAt, memo_word, noted_count};
 ghost use Rattle.lalrpop_emit.specs.Internal.Walking.{AreRulesBelow};
 
 use crate::ahead_columns::column_of;
@@ -122,7 +123,8 @@ pub(crate) fn memo_words(rows: usize, size: usize) -> usize
 fn word_of(ahead: &Ahead, size: usize, walk: Walk, words: usize) -> Option<usize>
     requires narrow { ahead.now.width + 1 < 2 ^ 64 }
     requires place { walk.at ≤ size }
-    ensures { IfSome result (λ word. (word ≡ memo_word (ahead_numbers ahead.now) size walk.row walk.at) × (word < words)) }
+    ensures { MatchOption result (words / (size / 4096 + 1) ≤ walk.row / (ahead.now.width + 1))
+        (λ word. (word ≡ memo_word (ahead_numbers ahead.now) size walk.row walk.at) × (word < words)) }
 {
     let row_words = size / 4096 + 1;
     let number = walk.row / (ahead.width + 1);
@@ -136,7 +138,10 @@ fn word_of(ahead: &Ahead, size: usize, walk: Walk, words: usize) -> Option<usize
 fn is_noted(ahead: &Ahead, size: usize, walk: Walk, memo: &[u64]) -> bool
     requires narrow { ahead.now.width + 1 < 2 ^ 64 }
     requires place { walk.at ≤ size }
-    ensures { IsTrue result → IsNoted memo.now (ahead_numbers ahead.now) size walk.row walk.at }
+    ensures noted { IsTrue result → IsNoted memo.now (ahead_numbers ahead.now) size walk.row walk.at }
+    ensures not_noted { IsRowOf (ahead_numbers ahead.now) walk.row → walk.row < ahead.now.ends
+        → IsRoomy (ahead_numbers ahead.now) size memo.now
+        → IsNoted memo.now (ahead_numbers ahead.now) size walk.row walk.at → IsTrue result }
 {
     match word_of(ahead, size, walk, memo.len()) {
         Some(word) => (memo[word] >> (walk.at / 64 % 64)) % 2 == 1,
@@ -144,22 +149,41 @@ fn is_noted(ahead: &Ahead, size: usize, walk: Walk, memo: &[u64]) -> bool
     }
 }
 
-// Notes that no match comes.
+// Whether the step from the walk passes a multiple of 64: comes to it, or beyond it. This is asked at each character, and was
+// measured to be quicker than a comparison of quotients.
+fn passes(walk: Walk, next: Walk) -> bool
+    requires further { walk.at < next.at }
+    requires short { next.at ≤ walk.at + 64 }
+    ensures { IsTrue result ↔ (walk.at / 64 < next.at / 64) }
+{
+    next.at % 64 < next.at - walk.at
+}
+
+// Notes that no match comes. Where the memo has room, that sets one bit, and no other.
 fn note(ahead: &Ahead, text: &[u8], walk: Walk, memo: &mut [u64])
     requires narrow { ahead.now.width + 1 < 2 ^ 64 }
     requires place { walk.at ≤ length text.now }
     requires row { IsRowOf (ahead_numbers ahead.now) walk.row }
     requires passed { IsPassed text.now walk.at }
-    ensures { (t : TableNumbers) → NothingFrom (ahead_numbers ahead.now) t text.now walk.row walk.at
+    ensures right { (t : TableNumbers) → NothingFrom (ahead_numbers ahead.now) t text.now walk.row walk.at
         → IsMemoFor (ahead_numbers ahead.now) t text.now memo.old
         → IsMemoFor (ahead_numbers ahead.now) t text.now memo.new }
+    ensures others { (row at : ℕ) → IsRowOf (ahead_numbers ahead.now) row → IsPassed text.now at
+        → IsNoted memo.new (ahead_numbers ahead.now) (length text.now) row at
+        → IsNoted memo.old (ahead_numbers ahead.now) (length text.now) row at ⊎ (at ≡ walk.at) }
+    ensures never_fewer { noted_count memo.old ≤ noted_count memo.new }
+    ensures one_more { walk.row < ahead.now.ends
+        → IsRoomy (ahead_numbers ahead.now) (length text.now) memo.old
+        → ¬ IsNoted memo.old (ahead_numbers ahead.now) (length text.now) walk.row walk.at
+        → noted_count memo.new ≡ noted_count memo.old + 1 }
 {
     if let Some(word) = word_of(ahead, text.len(), walk, memo.len()) {
         memo[word] |= 1u64 << (walk.at / 64 % 64);
     }
 }
 
-// Walks up to the end again, on which no match comes, and notes it.
+// Walks up to the end again, on which no match comes, and notes it. Where no bit was in the way, each multiple of 64 that it
+// passes costs a new one, but for the last.
 fn note_walk(ahead: &Ahead, table: &Table, text: &[u8], from: Walk, end: usize, memo: &mut [u64])
     requires ahead { IsAheadOf (ahead_numbers ahead.now) (list_numbers table.now) }
     requires classes { AreClasses (list_numbers table.now) }
@@ -167,14 +191,17 @@ fn note_walk(ahead: &Ahead, table: &Table, text: &[u8], from: Walk, end: usize, 
     requires row { IsRowOf (ahead_numbers ahead.now) from.row }
     requires nothing { NothingFrom (ahead_numbers ahead.now) (list_numbers table.now) text.now from.row from.at }
     requires memo { IsMemoFor (ahead_numbers ahead.now) (list_numbers table.now) text.now memo.old }
-    ensures { IsMemoFor (ahead_numbers ahead.now) (list_numbers table.now) text.now memo.new }
+    ensures memo { IsMemoFor (ahead_numbers ahead.now) (list_numbers table.now) text.now memo.new }
+    ensures paid { IsRoomy (ahead_numbers ahead.now) (length text.now) memo.old
+        → IsInVain (ahead_numbers ahead.now) (list_numbers table.now) text.now memo.old end from.row from.at
+        → end / 64 + noted_count memo.old ≤ from.at / 64 + noted_count memo.new + 1 }
 {
     let mut walk = from;
     'again: while walk.at < end {
         let Some(next) = walked(ahead, table, text, walk) else {
             return;
         };
-        if walk.at / 64 < next.at / 64 {
+        if passes(walk, next) {
             note(ahead, text, next, memo);
         }
         walk = next;
@@ -210,6 +237,12 @@ fn read_on(ahead: &Ahead, table: &Table, text: &[u8], start: usize, memo: &[u64]
     ensures row { IsRowOf (ahead_numbers ahead.now) result.last.row }
     ensures last { IsLastMatch (ahead_numbers ahead.now) (list_numbers table.now) text.now start result.last.row result.last.at }
     ensures nothing { NothingFrom (ahead_numbers ahead.now) (list_numbers table.now) text.now result.last.row result.last.at }
+    ensures behind { result.last.at ≤ result.end }
+    ensures read { IsReadTo (ahead_numbers ahead.now) (list_numbers table.now) text.now memo.now
+        result.last.row result.last.at result.end }
+    ensures in_vain { IsRoomy (ahead_numbers ahead.now) (length text.now) memo.now
+        → IsInVain (ahead_numbers ahead.now) (list_numbers table.now) text.now memo.now
+        result.end result.last.row result.last.at }
 {
     let mut walk = Walk {
         row: ahead.start,
@@ -221,7 +254,7 @@ fn read_on(ahead: &Ahead, table: &Table, text: &[u8], start: usize, memo: &[u64]
             return Reading { last, end: walk.at };
         };
         last = last_of(ahead, last, next);
-        if walk.at / 64 < next.at / 64 && is_noted(ahead, text.len(), next, memo) {
+        if passes(walk, next) && is_noted(ahead, text.len(), next, memo) {
             return Reading { last, end: next.at };
         }
         walk = next;
@@ -244,6 +277,37 @@ fn match_to(ahead: &Ahead, start: usize, last: Walk) -> Option<Match>
     })
 }
 
+// Reads on from the start until no match comes, and notes where that was in vain. Bits that are new pay for what was read in
+// vain, 64 bytes each, all but the last 128.
+fn read_and_note(
+    ahead: &Ahead,
+    table: &Table,
+    text: &[u8],
+    start: usize,
+    memo: &mut [u64],
+) -> Reading
+    requires ahead { IsAheadOf (ahead_numbers ahead.now) (list_numbers table.now) }
+    requires classes { AreClasses (list_numbers table.now) }
+    requires narrow { ahead.now.width + 1 < 2 ^ 64 }
+    requires memo { IsMemoFor (ahead_numbers ahead.now) (list_numbers table.now) text.now memo.old }
+    ensures row { IsRowOf (ahead_numbers ahead.now) result.last.row }
+    ensures last { IsLastMatch (ahead_numbers ahead.now) (list_numbers table.now) text.now start result.last.row result.last.at }
+    ensures nothing { NothingFrom (ahead_numbers ahead.now) (list_numbers table.now) text.now result.last.row result.last.at }
+    ensures behind { result.last.at ≤ result.end }
+    ensures read { IsReadTo (ahead_numbers ahead.now) (list_numbers table.now) text.now memo.old
+        result.last.row result.last.at result.end }
+    ensures memo { IsMemoFor (ahead_numbers ahead.now) (list_numbers table.now) text.now memo.new }
+    ensures size { length memo.new ≡ length memo.old }
+    ensures paid { IsRoomy (ahead_numbers ahead.now) (length text.now) memo.old
+        → result.end + 64 * noted_count memo.old ≤ result.last.at + 64 * noted_count memo.new + 128 }
+{
+    let reading = read_on(ahead, table, text, start, memo);
+    if !memo.is_empty() && reading.last.at / 64 < reading.end / 64 {
+        note_walk(ahead, table, text, reading.last, reading.end, memo);
+    }
+    reading
+}
+
 // Where the longest match from the place on ends, and its rule. `None` if nothing matches there.
 pub(crate) fn longest(
     ahead: &Ahead,
@@ -264,10 +328,7 @@ pub(crate) fn longest(
         → IfSome result (λ m. m.rule < count) }
     ensures memo { IsMemoFor (ahead_numbers ahead.now) (list_numbers table.now) text.now memo.new }
 {
-    let reading = read_on(ahead, table, text, start, memo);
-    if !memo.is_empty() && reading.last.at / 64 < reading.end / 64 {
-        note_walk(ahead, table, text, reading.last, reading.end, memo);
-    }
+    let reading = read_and_note(ahead, table, text, start, memo);
     match_to(ahead, start, reading.last)
 }
 

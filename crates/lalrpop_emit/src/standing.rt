@@ -123,8 +123,8 @@ fn by_bad(table: &TableLists, standing: Standing) -> Standing
     }
 }
 
-/// Where a byte of the column leads, of so many columns: first come those of ASCII, then those of classes; the last two are that
-/// of bytes within a character, and that of bytes that begin none.
+/// Where a byte of this column leads, where there are `width` columns: first one for each character of ASCII, then one for each
+/// class; the last two are for bytes within a character, and for bytes that begin none.
 pub(crate) fn by_column(
     table: &TableLists,
     width: usize,

@@ -1,5 +1,6 @@
 -- A walk along the rows of a table that runs ahead, a character at a time, and what is noted of places from which no match comes.
-use Rattle.std.specs.Prelude.{◌≡◌, ◌≢◌, ℕ, zero, suc, ◌+◌, ◌*◌, ◌/◌, ◌%◌, ◌<◌, List, length, take, drop, slice_index}
+use Rattle.std.specs.Prelude.{◌≡◌, ◌≢◌, ℕ, zero, suc, ◌+◌, ◌-◌, ◌*◌, ◌/◌, ◌%◌, ◌<◌, ◌≤◌, ◌⊎◌, List, [], ◌∷◌, length, take, drop, slice_index}
+use Rattle.std.specs.List.{sum_by}
 use Rattle.std.specs.Char.{encode_utf8}
 use Rattle.std.specs.Int.{bit_at}
 use Rattle.lalrpop_dense.specs.DenseTable.{TableNumbers}
@@ -61,6 +62,69 @@ IsNoted memo a size row at = bit_at (slice_index memo (memo_word a size row at))
 -- what is noted holds of the text, wherever a walk began
 abbrev pub IsMemoFor : AheadNumbers → TableNumbers → List ℕ → List ℕ → Type 0
 IsMemoFor a t text memo = (row at : ℕ) → IsRowOf a row → IsPassed text at → IsNoted memo a (length text) row at → NothingFrom a t text row at
+
+-- ---- what is read in vain, and what pays for it
+
+-- how many of the first k bits are set
+abbrev pub set_below : ℕ → ℕ → ℕ
+set_below word zero = 0
+set_below word (suc k) = bit_at word k + set_below word k
+
+-- how many of the bits of a word are set
+unfoldable pub set_bits : ℕ → ℕ
+set_bits word = set_below word 64
+
+-- how many are set in all words
+abbrev pub noted_count : List ℕ → ℕ
+noted_count memo = sum_by set_bits memo
+
+-- there is a bit for each row in which a token is open, as those that begin before `ends` are, and each 64 bytes of a text of this size
+abbrev pub IsRoomy : AheadNumbers → ℕ → List ℕ → Type 0
+IsRoomy a size memo = (a.ends + a.width) / (a.width + 1) * (size / 4096 + 1) ≤ length memo
+
+-- so many characters lead on from the row at the place to another
+abbrev pub LeadOn : AheadNumbers → TableNumbers → List ℕ → ℕ → ℕ → ℕ → ℕ → ℕ → Type 0
+LeadOn a t text row at zero row2 at2 = (row2 ≡ row) × (at2 ≡ at)
+LeadOn a t text row at (suc n) row2 at2 = (row1 : ℕ) × (at1 : ℕ) × (LeadOn a t text row at n row1 at1 × IsStep a t text row1 at1 row2 at2)
+
+-- a walk goes on from the row at the place to the end: none leads on from there, or a bit is set there
+pub record IsReadTo (a : AheadNumbers) (t : TableNumbers) (text memo : List ℕ) (row at end : ℕ) : Type 0 where
+  pub characters : ℕ
+  pub row_there : ℕ
+  pub lead : LeadOn a t text row at characters row_there end
+  pub stop : StopsAt a t text row_there end ⊎ (IsPassed text end × IsNoted memo a (length text) row_there end)
+
+-- so many characters lead on from the row at the place to the end; before that none passes where a bit is set
+abbrev pub LeadToEnd : AheadNumbers → TableNumbers → List ℕ → List ℕ → ℕ → ℕ → ℕ → ℕ → Type 0
+LeadToEnd a t text memo end zero row at = at ≡ end
+LeadToEnd a t text memo end (suc n) row at =
+    (row2 : ℕ) × (at2 : ℕ)
+    × (IsStep a t text row at row2 at2 × (at2 < end → at / 64 < at2 / 64 → ¬ IsNoted memo a (length text) row2 at2) × LeadToEnd a t text memo end n row2 at2)
+
+abbrev pub IsInVain : AheadNumbers → TableNumbers → List ℕ → List ℕ → ℕ → ℕ → ℕ → Type 0
+IsInVain a t text memo end row at = (n : ℕ) × LeadToEnd a t text memo end n row at
+
+-- a call that looks for the longest match: where that ends, up to where the call read, and the memo as it found it and left it
+pub record Call : Type 0 where
+  pub last : ℕ
+  pub end : ℕ
+  pub before : List ℕ
+  pub after : List ℕ
+
+-- how many bytes it read in vain
+abbrev pub vain : Call → ℕ
+vain call = call.end - call.last
+
+-- bits that are new pay for what it read in vain, 64 bytes each, all but the last 128
+pub record IsPaid (call : Call) : Type 0 where
+  pub behind : call.last ≤ call.end
+  pub size : length call.after ≡ length call.before
+  pub paid : call.end + 64 * noted_count call.before ≤ call.last + 64 * noted_count call.after + 128
+
+-- the first call finds this memo, and each further one that which the call before it left; each is paid for
+abbrev pub ArePaid : List ℕ → List Call → Type 0
+ArePaid memo [] = Unit {0}
+ArePaid memo (call ∷ calls) = (call.before ≡ memo) × IsPaid call × ArePaid call.after calls
 
 -- the part of the mode: each of so many modes has an equal one
 abbrev pub memo_part : ℕ → ℕ → List ℕ → List ℕ
