@@ -82,6 +82,6 @@ def handed_out(file, wanted=None):
 
 @functools.cache
 def of_users():
-    """What a user's program can call: what lalrpop_lexer and the libraries above it hand out."""
-    above = [it for it, below in LIBRARIES.items() if "lalrpop_lexer" in [it, *below]]
+    """What a user's program can call: what lalrpop_lexer, the libraries above it and lalrpop_verdicts hand out."""
+    above = [it for it, below in LIBRARIES.items() if {"lalrpop_build", "lalrpop_lexer"}.intersection(below)]
     return {it for crate in above for it in handed_out(TOP / "crates" / crate / "src/lib.rt")}

@@ -1,6 +1,6 @@
 //! Tables of rows `argument => answer`, and calls that are made again if they were refused memory.
 
-use crate::{automata, clashes, modes, rules, trees};
+use crate::{automata, clashes, modes, rules, trees, verdicts};
 use std::alloc::{AllocError, Global};
 use std::process::Abort;
 
@@ -39,6 +39,9 @@ pub(crate) enum Call {
     Witness,
     Joined,
     Clashes,
+    Verdicts,
+    Difference,
+    States,
     AutomatonCopy,
     Table,
     Patterns,
@@ -75,6 +78,9 @@ fn answer(alloc: Global, call: Call, argument: &str) -> Result<String, AllocErro
         Call::Witness => automata::looked_ahead(alloc, argument),
         Call::Joined => automata::rejoined(alloc, argument),
         Call::Clashes => clashes::all(alloc, argument),
+        Call::Verdicts => verdicts::all(alloc, argument),
+        Call::Difference => verdicts::first_difference(alloc, argument),
+        Call::States => verdicts::states(alloc, argument),
         Call::AutomatonCopy => automata::copied(alloc, argument),
         Call::Table => automata::by_table(alloc, argument),
         Call::Patterns => rules::first_of_patterns(alloc, argument),

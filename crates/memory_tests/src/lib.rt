@@ -20,4 +20,6 @@ mod rules;
 #[cfg(test)]
 mod trees;
 #[cfg(test)]
+mod verdicts;
+#[cfg(test)]
 mod without;

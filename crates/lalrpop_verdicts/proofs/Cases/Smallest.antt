@@ -1,0 +1,142 @@
+-- Cases of specs/Smallest.antt: automata of one state and of two without test edges, and of three with edges.
+use Rattle.std.proofs.Common.{◌≡◌, ℕ, zero, suc, ◌<◌, ◌≤◌, ⊎_elim, List, [], ◌∷◌, length, Some, None, refl, sym, ap, ◌∙◌, arith}
+use Rattle.std.specs.Prelude.{slice_get}
+use Rattle.std.proofs.lemmas.Bool.{cases_lt}
+use Rattle.lalrpop_book.specs.Range.{Range}
+use Rattle.lalrpop_dfa.specs.Dfa.{Row, after, IsWellFormed}
+use Rattle.lalrpop_dfa.specs.declared.Kind.{Kind}
+use Rattle.lalrpop_dfa.specs.declared.Kind.TheVariants.{Accepts, Reject, Neither}
+use Rattle.lalrpop_dfa.proofs.AfterLaws.{after_within}
+use Rattle.lalrpop_verdicts.specs.Answers.{answer, answer_from, accepted_at}
+use Rattle.lalrpop_verdicts.specs.Smallest.{AnswerAlike, AreFewestTests, HasFewestEdges, IsSmallest, RejectsAtOnce}
+
+-- a state from which all values lead to p
+abbrev state : Kind → ℕ → Row
+state kind p = record { kind = kind; tests = []; other = p; items = [] }
+
+no_answer_is_none : (i : ℕ) → Some i ≡ None → ⊥
+no_answer_is_none i e = absurd (cc)
+
+same_answer : (i j : ℕ) → Some i ≡ Some j → i ≡ j
+same_answer i j e = cc
+
+-- ---- each word is accepted: by one state, or by two in turn
+abbrev always : List Row
+always = state (Accepts 0) 0 ∷ []
+
+abbrev in_turn : List Row
+in_turn = state (Accepts 0) 1 ∷ state (Accepts 0) 0 ∷ []
+
+abbrev never : List Row
+never = state Reject 0 ∷ []
+
+always_accepts : (w : List ℕ) → answer_from always 0 w ≡ Some 0
+always_accepts [] = refl
+always_accepts (c ∷ w) = always_accepts w
+
+both_accept : (w : List ℕ) → (answer_from in_turn 0 w ≡ Some 0) × (answer_from in_turn 1 w ≡ Some 0)
+both_accept [] = (refl, refl)
+both_accept (c ∷ w) = ((both_accept w).1, (both_accept w).0)
+
+they_answer_alike : AnswerAlike in_turn always
+they_answer_alike w = (both_accept w).0 ∙ sym (always_accepts w)
+
+others_do_not : ¬ AnswerAlike always never
+others_do_not alike = no_answer_is_none 0 (alike [])
+
+other_trees_do_not : ¬ AnswerAlike always (state (Accepts 1) 0 ∷ [])
+other_trees_do_not alike = omega (arith, same_answer 0 1 (alike []))
+
+one_state_is_smallest : IsSmallest always
+one_state_is_smallest e fits alike = omega (arith, fits.some)
+
+the_row : (p : ℕ) (r : Row) → slice_get always p ≡ Some r → state (Accepts 0) 0 ≡ r
+the_row zero r e = cc
+the_row (suc p) r e = cc
+
+always_fits : IsWellFormed always
+always_fits = record {
+  some = omega arith;
+  ascending = λ p r e. rw (← the_row p r e) tt;
+  tests_in = λ p r t e (k, l, is). absurd (let none : length r.tests ≡ 0 = ap (λ (x : Row). length x.tests) (sym (the_row p r e)) in omega (arith, l, none));
+  others_in = λ p r e. rw (← the_row p r e) (omega arith);
+}
+
+two_states_are_one_too_many : ¬ IsSmallest in_turn
+two_states_are_one_too_many least = let most : 2 ≤ 1 = least always always_fits they_answer_alike in omega (arith, most)
+
+-- ---- the empty word is accepted, and no other
+abbrev empty_alone : List Row
+empty_alone = state (Accepts 0) 1 ∷ state Reject 1 ∷ []
+
+both_are_needed : IsSmallest empty_alone
+both_are_needed e fits alike = ⊎_elim (λ (l : length e < 2). absurd (one_does_not_do l)) (λ (l : 2 ≤ length e). l) (cases_lt (length e) 2)
+  where
+    one_does_not_do : length e < 2 → ⊥
+    one_does_not_do l =
+        let back : after e (7 ∷ []) ≡ 0 = omega (arith, l, after_within e (7 ∷ []) fits) in
+        let before : Some 0 ≡ answer e [] = alike [] in
+        let behind : None ≡ answer e (7 ∷ []) = alike (7 ∷ []) in
+        let same : answer e (7 ∷ []) ≡ answer e [] = ap (λ p. accepted_at (slice_get e p)) back in
+        no_answer_is_none 0 (before ∙ sym same ∙ sym behind)
+
+second_is_dead : (w : List ℕ) → answer_from empty_alone 1 w ≡ None
+second_is_dead [] = refl
+second_is_dead (c ∷ w) = second_is_dead w
+
+it_rejects_at_once : RejectsAtOnce empty_alone
+it_rejects_at_once zero r e =
+    let is : Accepts 0 ≡ r.kind = ap (λ (x : Row). x.kind) (let same : state (Accepts 0) 1 ≡ r = cc in same) in (
+      λ k. absurd (let clash : Accepts 0 ≡ Reject = is ∙ k in cc),
+      λ dead. absurd (no_answer_is_none 0 (dead [])),
+    )
+it_rejects_at_once (suc zero) r e =
+    let is : Reject ≡ r.kind = ap (λ (x : Row). x.kind) (let same : state Reject 1 ≡ r = cc in same) in (λ k. second_is_dead, λ dead. sym is)
+it_rejects_at_once (suc (suc p)) r e = absurd (let none : None ≡ Some r = e in cc)
+
+-- ---- a dead state that waits, and one that rejects too early
+abbrev waits_in_vain : List Row
+waits_in_vain = state (Accepts 0) 1 ∷ state Neither 1 ∷ []
+
+it_waits : (w : List ℕ) → answer_from waits_in_vain 1 w ≡ None
+it_waits [] = refl
+it_waits (c ∷ w) = it_waits w
+
+it_does_not_reject : ¬ RejectsAtOnce waits_in_vain
+it_does_not_reject h = let e : Neither ≡ Reject = (h 1 (state Neither 1) refl).1 it_waits in absurd (cc)
+
+abbrev too_early : List Row
+too_early = state Reject 1 ∷ state (Accepts 0) 1 ∷ []
+
+a_match_is_ahead : ¬ RejectsAtOnce too_early
+a_match_is_ahead h = no_answer_is_none 0 ((h 0 (state Reject 1) refl).0 refl (7 ∷ []))
+
+-- ---- edges: the letters a to z as one edge and as two, and one that leads where all other values lead
+abbrev edge : ℕ → ℕ → ℕ → Range × ℕ
+edge first last p = (record { start = first; end = last }, p)
+
+abbrev with_edges : List (Range × ℕ) → List Row
+with_edges tests = record { kind = Neither; tests = tests; other = 1; items = [] } ∷ state Reject 1 ∷ state (Accepts 0) 1 ∷ []
+
+-- the first row has the tests, and the others have none
+fewest_by_first : (tests : List (Range × ℕ)) → AreFewestTests 1 tests → HasFewestEdges (with_edges tests)
+fewest_by_first tests few zero r e = let same : record { kind = Neither; tests = tests; other = 1; items = [] } ≡ r = cc in rw (← same) few
+fewest_by_first tests few (suc zero) r e = let same : state Reject 1 ≡ r = cc in rw (← same) tt
+fewest_by_first tests few (suc (suc zero)) r e = let same : state (Accepts 0) 1 ≡ r = cc in rw (← same) tt
+fewest_by_first tests few (suc (suc (suc p))) r e = absurd (let none : None ≡ Some r = e in cc)
+
+letters_are_one_edge : HasFewestEdges (with_edges (edge 97 122 2 ∷ []))
+letters_are_one_edge = fewest_by_first (edge 97 122 2 ∷ []) (λ e. omega (arith, e))
+
+letters_are_not_two : ¬ HasFewestEdges (with_edges (edge 97 107 2 ∷ edge 108 122 2 ∷ []))
+letters_are_not_two h = (h 0 (record { kind = Neither; tests = edge 97 107 2 ∷ edge 108 122 2 ∷ []; other = 1; items = [] }) refl).1 refl refl
+
+-- between the two lies a value, or they lead apart
+two_with_a_gap : HasFewestEdges (with_edges (edge 97 106 2 ∷ edge 108 122 2 ∷ []))
+two_with_a_gap = fewest_by_first (edge 97 106 2 ∷ edge 108 122 2 ∷ []) (λ e. omega (arith, e), λ touch e. omega (arith, touch), λ e. omega (arith, e))
+
+two_that_lead_apart : HasFewestEdges (with_edges (edge 97 107 2 ∷ edge 108 122 0 ∷ []))
+two_that_lead_apart = fewest_by_first (edge 97 107 2 ∷ edge 108 122 0 ∷ []) (λ e. omega (arith, e), λ touch e. omega (arith, e), λ e. omega (arith, e))
+
+others_need_no_edge : ¬ HasFewestEdges (with_edges (edge 97 122 1 ∷ []))
+others_need_no_edge h = h 0 (record { kind = Neither; tests = edge 97 122 1 ∷ []; other = 1; items = [] }) refl refl

@@ -1,0 +1,9 @@
+use Rattle.std.proofs.Common.{length}
+use Rattle.lalrpop_verdicts.proofs.RoundLaws.{IsRound, room}
+use Rattle.lalrpop_verdicts.proofs.classes.classes.Given as goal
+
+abbrev pub invariant-loop-classes : goal.invariant-loop-classes
+invariant-loop-classes l = IsRound l.dfa l.classes.items
+
+abbrev pub decreases-loop-classes : goal.decreases-loop-classes
+decreases-loop-classes l = room (length l.dfa) l.classes.items

@@ -1,0 +1,7 @@
+-- What private functions promise one another.
+pub mod Pairs
+pub mod Apart
+pub mod WonWords
+pub mod Classes
+pub mod ClassRows
+pub mod Targets

@@ -1,0 +1,22 @@
+-- from the book: what this crate's contracts name
+pub use Rattle.lalrpop_book.specs.Word
+pub use Rattle.lalrpop_book.specs.Tree
+pub use Rattle.lalrpop_book.specs.Language
+pub use Rattle.lalrpop_book.specs.Winners
+pub use Rattle.lalrpop_book.specs.Report
+-- from the crates below: what this crate's contracts name
+pub use Rattle.lalrpop_dfa.specs.Dfa
+pub use Rattle.lalrpop_dfa.specs.Lookahead
+pub use Rattle.lalrpop_dfa.specs.Witness
+-- what an automaton answers
+pub mod Answers
+-- who wins, and who is hidden by whom
+pub mod WonWord
+pub mod Verdicts
+-- where two automata differ
+pub mod Differences
+pub mod Smallest
+-- the picture of an automaton
+pub mod Picture
+-- what private functions promise each other; public clauses do not name it
+pub mod Internal

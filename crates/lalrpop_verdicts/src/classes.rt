@@ -1,0 +1,85 @@
+//! States that answer alike, in classes: rounds that split them until none does.
+
+mod first_equal;
+mod stretches;
+
+ghost use Rattle.std.specs.Prelude.{◌≡◌, ℕ, length, map, slice_index, IfOk, Vec};
+ghost use Rattle.std.specs.Global.{Global};
+ghost use Rattle.std.specs.List.{Contains};
+ghost use Rattle.std.specs.Option.{option_to_list};
+ghost use Rattle.lalrpop_verdicts.specs.Answers.{accepted_by};
+ghost use Rattle.lalrpop_verdicts.specs.Internal.Classes.{AreAlikeClasses, AreClassesOf, AreWithin, answer_row, leads_row};
+
+use first_equal::FirstEqual;
+use lalrpop_dfa::{Dfa, Kind};
+use std::alloc::{AllocError, Global};
+use stretches::{leads, stretches};
+
+// The accepted pattern alone, if there is one.
+fn accepted(alloc: Global, kind: &Kind) -> Result<Vec<usize>, AllocError>
+    ensures { IfOk result (λ row. row.items ≡ option_to_list (accepted_by kind.now)) }
+{
+    let mut row = Vec::new(alloc);
+    if let Kind::Accepts(index) = kind {
+        row.push(index.index())?;
+    }
+    Ok(row)
+}
+
+// States that accept the same pattern, or none, are in one class.
+fn by_answer(alloc: Global, dfa: &Dfa) -> Result<Vec<usize>, AllocError>
+    ensures { IfOk result (λ found. AreClassesOf (map answer_row dfa.now) found.items) }
+{
+    let mut classes = FirstEqual::with_capacity(alloc, dfa.states().len())?;
+    for state in dfa.states() {
+        classes.push(accepted(alloc, state.kind())?)?;
+    }
+    Ok(classes.into_places())
+}
+
+// The classes of the states to which one state leads.
+fn row_of(alloc: Global, targets: &[usize], classes: &[usize]) -> Result<Vec<usize>, AllocError>
+    requires { AreWithin targets.now (length classes.now) }
+    ensures { IfOk result (λ row. row.items ≡ map (slice_index classes.now) targets.now) }
+{
+    let mut row = Vec::with_capacity(alloc, targets.len())?;
+    for target in targets {
+        row.push(classes[*target])?;
+    }
+    Ok(row)
+}
+
+// States that are in one class, and lead by each value to states in one class, stay in one class.
+fn round(alloc: Global, table: &[Vec<usize>], classes: &[usize]) -> Result<Vec<usize>, AllocError>
+    requires { (v : Vec ℕ Global) → Contains table.now v → AreWithin v.items (length classes.now) }
+    ensures { IfOk result (λ found. AreClassesOf
+        (map (leads_row classes.now) table.now) found.items) }
+{
+    let mut next = FirstEqual::with_capacity(alloc, table.len())?;
+    for targets in table {
+        next.push(row_of(alloc, targets, classes)?)?;
+    }
+    Ok(next.into_places())
+}
+
+/// The class of each state: the first of the states that answer each word alike.
+///
+/// Each round goes over all states, and tells those apart that a word of one more value tells apart.
+///
+/// # Errors
+///
+/// `AllocError` if a request for memory was refused.
+pub(crate) fn classes(alloc: Global, dfa: &Dfa) -> Result<Vec<usize>, AllocError>
+    ensures classes { IfOk result (λ found. AreAlikeClasses dfa.now found.items) }
+{
+    let values = stretches(alloc, dfa)?;
+    let table = leads(alloc, dfa, &values)?;
+    let mut classes = by_answer(alloc, dfa)?;
+    loop {
+        let next = round(alloc, &table, &classes)?;
+        if next == classes {
+            return Ok(classes);
+        }
+        classes = next;
+    }
+}

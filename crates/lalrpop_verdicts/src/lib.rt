@@ -1,0 +1,21 @@
+//! What a list of patterns says: which of them can win, which are hidden by others, whether two lists say the same, the smallest
+//! automaton, and a picture of it.
+#![tactic(auto)]
+
+mod answer;
+mod classes;
+mod difference;
+mod empty;
+mod pairs;
+mod picture;
+mod smallest;
+mod verdict;
+mod won_word;
+mod won_words;
+
+pub use difference::{Difference, least_difference, same_language};
+pub use empty::matches_empty;
+pub use picture::dot;
+pub use smallest::minimized;
+pub use verdict::{Verdict, verdicts};
+pub use won_word::WonWord;

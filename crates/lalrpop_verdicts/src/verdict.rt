@@ -1,0 +1,170 @@
+//! What becomes of each pattern of a list: it wins, or others hide it, or it matches nothing.
+ghost use Rattle.std.specs.Prelude.{◌≡◌, ℕ, ◌<◌, List, Option, Some, None, Vec, length, option_map, slice_get, IfOk, IfErr};
+ghost use Rattle.std.specs.Global.{Global};
+ghost use Rattle.lalrpop_book.specs.Report.{IsFaultOf};
+ghost use Rattle.lalrpop_dfa.specs.Dfa.{Recognizes};
+ghost use Rattle.lalrpop_verdicts.specs.Verdicts.{IsVerdict};
+ghost use Rattle.lalrpop_build.specs.Internal.Expansion.{IsRefusalOf};
+ghost use Rattle.lalrpop_verdicts.specs.Internal.WonWords.{IsLeastWon, IsOwn, StaysDead};
+
+use crate::won_word::WonWord;
+use crate::won_words::won_words;
+use lalrpop_book::{DfaConstructionError, NfaConstructionError, NfaIndex, Precedence};
+use lalrpop_build::build_dfa;
+use lalrpop_dfa::Dfa;
+use lalrpop_hir::Regex;
+use lalrpop_nfa::Nfa;
+use std::alloc::{AllocError, Global};
+
+/// What becomes of a pattern among the others. Words are nonempty pieces of texts: a run never reports an empty match.
+///
+/// ```
+/// use lalrpop_verdicts::Verdict;
+///
+/// let is_ever_a_token = matches!(verdict, Verdict::Wins(_));
+/// ```
+#[derive(Debug, Drop)]
+pub enum Verdict {
+    /// It wins words, of which this is the shortest, then least, by the code values of its characters.
+    Wins(Vec<u32>),
+    /// It wins none: each word that it matches is won by another one. These are the winners, ascending, each with its least word.
+    Shadowed(Vec<WonWord>),
+    /// It matches no nonempty word.
+    Unmatched,
+}
+
+// `count` places for words, all empty.
+fn no_words(alloc: Global, count: usize) -> Result<Vec<Option<Vec<u32>>>, AllocError>
+    ensures same_length { IfOk result (λ words. length words.items ≡ count) }
+    ensures none { IfOk result (λ words. (i : ℕ) (o : Option (Vec ℕ Global))
+        → slice_get words.items i ≡ Some o → o ≡ None) }
+{
+    let mut words = Vec::new(alloc);
+    'fill: while words.len() < count {
+        words.push(None)?;
+    }
+    Ok(words)
+}
+
+// The least word that each of `count` patterns wins, if it wins any.
+fn least_words(alloc: Global, count: usize, dfa: &Dfa) -> Result<Vec<Option<Vec<u32>>>, AllocError>
+    ensures same_length { IfOk result (λ words. length words.items ≡ count) }
+    ensures each { IfOk result (λ words. StaysDead dfa.now → (i : ℕ) (o : Option (Vec ℕ Global))
+        → slice_get words.items i ≡ Some o → IsLeastWon dfa.now i (option_map (λ w. w.items) o)) }
+{
+    let mut words = no_words(alloc, count)?;
+    for WonWord { by, word } in won_words(alloc, dfa, dfa)? {
+        let place = by.index();
+        if place < words.len() {
+            words[place] = Some(word);
+        }
+    }
+    Ok(words)
+}
+
+// What is reported if the pattern with this index was not compiled.
+fn refusal(index: NfaIndex, error: NfaConstructionError) -> DfaConstructionError
+    ensures { IsRefusalOf index error result }
+{
+    match error {
+        NfaConstructionError::OutOfMemory => DfaConstructionError::OutOfMemory,
+        error => DfaConstructionError::NfaConstructionError { index, error },
+    }
+}
+
+// Nothing, if each pattern can be compiled.
+fn compile_all(alloc: Global, regexs: &[Regex]) -> Result<(), DfaConstructionError>
+    ensures err { IfErr result (IsFaultOf regexs.now) }
+{
+    for (index, regex) in regexs.iter().enumerate() {
+        if let Err(error) = Nfa::from_re(alloc, regex) {
+            return Err(refusal(NfaIndex::new(index), error));
+        }
+    }
+    Ok(())
+}
+
+// The automaton of one of the patterns alone.
+fn own_automaton(alloc: Global, regexs: &[Regex], index: usize) -> Result<Dfa, DfaConstructionError>
+    requires within { index < length regexs.now }
+    ensures own { IfOk result (IsOwn regexs.now index) }
+    ensures err { IfErr result (IsFaultOf regexs.now) }
+{
+    match build_dfa(alloc, &regexs[index..=index], &[Precedence(0)]) {
+        Ok(dfa) => Ok(dfa),
+        Err(_) => {
+            // A pattern before this one may have a fault too, and then that one is reported.
+            compile_all(alloc, regexs)?;
+            Err(DfaConstructionError::OutOfMemory)
+        }
+    }
+}
+
+// What becomes of a pattern that wins no word.
+fn verdict_without_win(
+    alloc: Global,
+    regexs: &[Regex],
+    index: usize,
+    dfa: &Dfa,
+) -> Result<Verdict, DfaConstructionError>
+    requires within { index < length regexs.now }
+    ensures verdict { IfOk result (λ v. (ps : List ℕ) → Recognizes dfa.now regexs.now ps
+        → IsLeastWon dfa.now index None → IsVerdict regexs.now ps index v) }
+    ensures err { IfErr result (IsFaultOf regexs.now) }
+{
+    let own = own_automaton(alloc, regexs, index)?;
+    let winners = won_words(alloc, &own, dfa)?;
+    if winners.is_empty() {
+        Ok(Verdict::Unmatched)
+    } else {
+        Ok(Verdict::Shadowed(winners))
+    }
+}
+
+/// What becomes of each pattern, in the order of the list. `dfa` is the automaton that `build_dfa` made of the patterns, with
+/// any precedences: without it the verdicts say nothing of the patterns. Patterns with equal precedences can be among them, as
+/// long as `build_dfa` reported no clash.
+///
+/// One walk over the automaton finds all patterns that win, with their words. Each other pattern is built alone, and its
+/// automaton is walked beside the whole one: that costs as many steps as there are pairs of states that its words lead to.
+///
+/// ```
+/// use lalrpop_lexer::lexer::dfa::{Precedence, build_dfa};
+/// use lalrpop_lexer::lexer::re::parse_regex;
+/// use lalrpop_verdicts::{Verdict, verdicts};
+///
+/// // The name has the greater precedence, so the keyword never wins.
+/// let regexs = vec![in alloc; parse_regex(alloc, "class")?, parse_regex(alloc, "[a-z]+")?]?;
+/// let dfa = build_dfa(alloc, &regexs, &[Precedence(0), Precedence(1)])?;
+/// for verdict in verdicts(alloc, &regexs, &dfa)? {
+///     match verdict {
+///         Verdict::Wins(word) => {} // the name: "a" is its least word
+///         Verdict::Shadowed(winners) => {} // the keyword: the name wins "class"
+///         Verdict::Unmatched => {}
+///     }
+/// }
+/// ```
+///
+/// # Errors
+///
+/// Out of memory; or the first pattern that has a fault, which is met only if the automaton isn't that of the patterns.
+pub fn verdicts(
+    alloc: Global,
+    regexs: &[Regex],
+    dfa: &Dfa,
+) -> Result<Vec<Verdict>, DfaConstructionError>
+    ensures same_length { IfOk result (λ found. length found.items ≡ length regexs.now) }
+    ensures each { IfOk result (λ found. (ps : List ℕ) → Recognizes dfa.now regexs.now ps
+        → (i : ℕ) (v : Verdict) → slice_get found.items i ≡ Some v → IsVerdict regexs.now ps i v) }
+    ensures err { IfErr result (λ e. IsFaultOf regexs.now e) }
+{
+    let mut found = Vec::new(alloc);
+    for least in least_words(alloc, regexs.len(), dfa)? {
+        let verdict = match least {
+            Some(word) => Verdict::Wins(word),
+            None => verdict_without_win(alloc, regexs, found.len(), dfa)?,
+        };
+        found.push(verdict)?;
+    }
+    Ok(found)
+}

@@ -1,0 +1,153 @@
+//! What a list of patterns says.
+
+ghost use Rattle.std.specs.Prelude.{◌≡◌, ◌≢◌, ◌≤◌, ℕ, [], List, length, string_bytes, slice_get, Ok, true, IsTrue, ◌<◌, IfOk, IfErr, IfSome};
+ghost use Rattle.lalrpop_book.specs.Language.{Matches};
+ghost use Rattle.lalrpop_book.specs.Report.{IsFaultOf};
+ghost use Rattle.lalrpop_book.specs.Tree.{Tree};
+ghost use Rattle.lalrpop_dfa.specs.Dfa.{IsWellFormed, Recognizes, RecognizesAll};
+ghost use Rattle.lalrpop_verdicts.specs.Answers.{IsTextWord, answer};
+ghost use Rattle.lalrpop_verdicts.specs.Differences.{label_of};
+ghost use Rattle.lalrpop_verdicts.specs.Picture.{dot};
+ghost use Rattle.lalrpop_verdicts.specs.Smallest.{HasFewestEdges, RejectsAtOnce};
+ghost use Rattle.lalrpop_verdicts.specs.Verdicts.{IsWonBy};
+
+use lalrpop_book::DfaConstructionError;
+use lalrpop_dfa::Dfa;
+use lalrpop_hir::{Hir, Regex};
+use lalrpop_verdicts::{
+    Difference, Verdict, dot, least_difference, matches_empty, minimized, same_language, verdicts,
+};
+use std::alloc::{AllocError, Global};
+
+// Needs lalrpop_verdicts::verdicts: same_length, each.
+/// Whether the pattern at this place, which is one of the list's, never wins: it can go.
+///
+/// # Errors
+///
+/// As `verdicts` has them.
+pub fn can_go(
+    alloc: Global,
+    regexs: &[Regex],
+    dfa: &Dfa,
+    index: usize,
+) -> Result<bool, DfaConstructionError>
+    requires within { index < length regexs.now }
+    ensures goes { result ≡ Ok true → (ps : List ℕ) → Recognizes dfa.now regexs.now ps
+        → (w : List ℕ) → ¬ IsWonBy regexs.now ps index index w }
+{
+    let found = verdicts(alloc, regexs, dfa)?;
+    match &found[index] {
+        Verdict::Wins(_) => Ok(false),
+        Verdict::Shadowed(_) => Ok(true),
+        Verdict::Unmatched => Ok(true),
+    }
+}
+
+// Needs lalrpop_verdicts::verdicts: err.
+/// How many patterns got a verdict.
+///
+/// # Errors
+///
+/// As `verdicts` has them.
+pub fn count(alloc: Global, regexs: &[Regex], dfa: &Dfa) -> Result<usize, DfaConstructionError>
+    ensures count { IfOk result (λ count. count ≡ length regexs.now) }
+    ensures err { IfErr result (IsFaultOf regexs.now) }
+{
+    Ok(verdicts(alloc, regexs, dfa)?.len())
+}
+
+// Needs lalrpop_verdicts::least_difference: least, answers.
+/// The least text that two lists of the same patterns, in the same order, answer differently.
+///
+/// # Errors
+///
+/// `AllocError` if a request for memory was refused.
+pub fn first_change(
+    alloc: Global,
+    old: &Dfa,
+    new: &Dfa,
+    labels: &[usize],
+) -> Result<Option<Difference>, AllocError>
+    ensures text { IfOk result (λ found.
+        IfSome found (λ f. IsTextWord f.word × (f.word ≢ []))) }
+    ensures change { IfOk result (λ found. IfSome found (λ f.
+        label_of labels.now f.left ≢ label_of labels.now f.right)) }
+{
+    least_difference(alloc, old, labels, new, labels)
+}
+
+// Needs lalrpop_verdicts::least_difference: none.
+/// Whether no text tells the two apart.
+///
+/// # Errors
+///
+/// `AllocError` if a request for memory was refused.
+pub fn is_unchanged(
+    alloc: Global,
+    old: &Dfa,
+    new: &Dfa,
+    labels: &[usize],
+) -> Result<bool, AllocError>
+    ensures same { result ≡ Ok true → (w : List ℕ) → IsTextWord w → w ≢ []
+        → ¬ (label_of labels.now (answer old.now w) ≢ label_of labels.now (answer new.now w)) }
+{
+    Ok(least_difference(alloc, old, labels, new, labels)?.is_none())
+}
+
+// Needs lalrpop_verdicts::same_language: same.
+/// The same, by the other call.
+///
+/// # Errors
+///
+/// `AllocError` if a request for memory was refused.
+pub fn says_the_same(
+    alloc: Global,
+    old: &Dfa,
+    new: &Dfa,
+    labels: &[usize],
+) -> Result<bool, AllocError>
+    ensures same { result ≡ Ok true → (w : List ℕ) → IsTextWord w → w ≢ []
+        → ¬ (label_of labels.now (answer old.now w) ≢ label_of labels.now (answer new.now w)) }
+{
+    same_language(alloc, old, labels, new, labels)
+}
+
+// Needs lalrpop_verdicts::matches_empty: empty.
+/// Whether the pattern can be a token without a text.
+pub fn is_suspicious(tree: &Hir) -> bool
+    ensures suspicious { IsTrue result → Matches tree.now [] }
+    ensures other { Matches tree.now [] → IsTrue result }
+{
+    matches_empty(tree)
+}
+
+// Needs lalrpop_verdicts::minimized: alike, smallest, rejects, edges, recognizes, recognizes_all.
+/// An automaton for the same runs, with as few states as can be.
+///
+/// # Errors
+///
+/// `AllocError` if a request for memory was refused.
+pub fn smaller(alloc: Global, dfa: &Dfa) -> Result<Dfa, AllocError>
+    ensures fewer { IfOk result (λ least.
+        IsWellFormed dfa.now → length least ≤ length dfa.now) }
+    ensures same { IfOk result (λ least. (w : List ℕ) → answer least w ≡ answer dfa.now w) }
+    ensures stops { IfOk result RejectsAtOnce }
+    ensures few { IfOk result HasFewestEdges }
+    ensures runs { IfOk result (λ least. (ts : List Tree) (ps : List ℕ)
+        → (Recognizes dfa.now ts ps → Recognizes least ts ps)
+        × (RecognizesAll dfa.now ts ps → RecognizesAll least ts ps)) }
+{
+    minimized(alloc, dfa)
+}
+
+// Needs lalrpop_verdicts::dot: text.
+/// The picture of an automaton whose patterns have no names.
+///
+/// # Errors
+///
+/// `AllocError` if a request for memory was refused.
+pub fn unnamed_picture(alloc: Global, dfa: &Dfa) -> Result<String, AllocError>
+    ensures text { IfOk result (λ text. string_bytes text ≡ dot [] dfa.now) }
+{
+    dot(alloc, dfa, &[])
+}
