@@ -6,6 +6,7 @@ mod Emitted
 mod ItemLines
 mod OpenModes
 mod PageWritten
+mod Pictured
 mod Program
 mod Progress
 mod Reasons

@@ -14,6 +14,7 @@ use Rattle.lexdfa_lib.specs.declared.outcome.Outcome.{Outcome}
 use Rattle.lexdfa_lib.specs.declared.outcome.Outcome.TheVariants as outcomes
 use Rattle.tokens_lib.specs.Answer.{Answer, Reads, TextOf, is_input, shown_name, FileGives, NumberedAnswer, FilesAnswer, cut_files, TextsAnswer}
 use Rattle.tokens_lib.specs.Emitted.{SourceAnswer}
+use Rattle.tokens_lib.specs.Pictured.{PictureAnswer}
 use Rattle.tokens_lib.specs.Program.{rules_status, RulesOf, LexerOf, clashes_status, ClashesAnswer, TerminalsOf, reported_status, TerminalClashesAnswer, ActionAnswer, CommandAnswer}
 use Rattle.tokens_lib.specs.Progress.{total_said}
 use Rattle.tokens_lib.specs.Streams.{Given}
@@ -24,7 +25,7 @@ use Rattle.tokens_lib.specs.declared.command.Markup.{Markup}
 use Rattle.tokens_lib.specs.declared.layout.LineForm.{LineForm}
 use Rattle.tokens_lib.specs.declared.text_end.OpenMode.{OpenMode}
 use Rattle.tokens_lib.specs.declared.command.Action.{Action}
-use Rattle.tokens_lib.specs.declared.command.Action.TheVariants.{Cut, Show, CutByTerminals, Clashes, TerminalClashes, Emit}
+use Rattle.tokens_lib.specs.declared.command.Action.TheVariants.{Cut, Show, CutByTerminals, Clashes, TerminalClashes, Emit, Picture}
 use Rattle.tokens_lib.specs.declared.command.Command.TheVariants.{Help, Version, Run}
 use Rattle.tokens_lib.specs.declared.command.Verbosity.{Verbosity}
 
@@ -149,6 +150,9 @@ source_low : (language : Language) (file : List ℕ) (set : ModeRules) (answer :
 source_low language file set answer (inl (n, (are, e))) = low answer _ e (omega arith)
 source_low language file set answer (inr (error, (other, (is, e)))) = low answer _ e (omega arith)
 
+picture_low : (set : ModeRules) (answer : Answer) → PictureAnswer set answer → IsLow answer
+picture_low set answer (es, (are, e)) = low answer _ e (omega arith)
+
 action_low : {I : Type 0} (Gives : List ℕ → Given → Type 0) (InputGives : I → I → Given → Type 0) (i k : I) (verbosity : Verbosity) (action : Action) (rules : List ℕ) (files : List (List ℕ))
     (answer : Answer) → ActionAnswer Gives (TextsAnswer Gives InputGives i k) verbosity action rules files answer → IsLow answer
 action_low Gives InputGives i k verbosity (Cut form recovers) rules files answer is =
@@ -166,6 +170,8 @@ action_low Gives InputGives i k verbosity Clashes rules files answer is =
 action_low Gives InputGives i k verbosity TerminalClashes rules files answer is = reads_low Gives TerminalClashesAnswer rules answer (terminal_list_low rules) is
 action_low Gives InputGives i k verbosity (Emit language) rules files answer is =
     by_rules_low verbosity Gives (λ set modes. SourceAnswer language rules set) rules answer (λ set modes a written. source_low language rules set a written) is
+action_low Gives InputGives i k verbosity Picture rules files answer is =
+    by_rules_low verbosity Gives (λ set modes. PictureAnswer set) rules answer (λ set modes a drawn. picture_low set a drawn) is
 
 pub command_low : {I : Type 0} (Gives : List ℕ → Given → Type 0) (InputGives : I → I → Given → Type 0) (i k : I) (command : Command) (answer : Answer)
     → CommandAnswer Gives (TextsAnswer Gives InputGives i k) command answer → IsLow answer

@@ -4,7 +4,7 @@ use Rattle.std.specs.Prelude.{◌≡◌, ◌≢◌, ℕ, ◌==◌, Bool, true, f
 use Rattle.std.specs.List.{list_any, starts_with}
 use Rattle.std.specs.Str.{bytes_eq}
 use Rattle.tokens_lib.specs.declared.command.Action.{Action}
-use Rattle.tokens_lib.specs.declared.command.Action.TheVariants.{Cut, Show, CutByTerminals, Clashes, TerminalClashes, Emit}
+use Rattle.tokens_lib.specs.declared.command.Action.TheVariants.{Cut, Show, CutByTerminals, Clashes, TerminalClashes, Emit, Picture}
 use Rattle.tokens_lib.specs.declared.command.ArgumentsError.{ArgumentsError}
 use Rattle.tokens_lib.specs.declared.command.ArgumentsError.TheVariants.{Unknown, NoRules, Apart, NoFiles}
 use Rattle.tokens_lib.specs.declared.command.Command.{Command}
@@ -30,12 +30,14 @@ options_of TerminalClashes = codes "--lines" ∷ codes "--clashes" ∷ []
 options_of (Emit (C None)) = codes "--emit=c" ∷ []
 options_of (Emit (C (Some prefix))) = codes "--emit=c" ∷ (codes "--prefix=" ++ prefix.now) ∷ []
 options_of (Emit Rust) = codes "--emit=rust" ∷ []
+options_of Picture = codes "--dot" ∷ []
 
 -- whether it is about the rules alone, so that no files are read
 abbrev pub is_of_rules : Action → Bool
 is_of_rules Clashes = true
 is_of_rules TerminalClashes = true
 is_of_rules (Emit language) = true
+is_of_rules Picture = true
 is_of_rules action = false
 
 -- whether a word is among others
@@ -44,7 +46,7 @@ has words word = list_any (λ other. bytes_eq other word) words
 
 -- the options of actions, in the order of the table
 abbrev pub action_options : List (List ℕ)
-action_options = codes "--recover" ∷ codes "--json" ∷ codes "--html" ∷ codes "--ansi" ∷ codes "--lines" ∷ codes "--places" ∷ codes "--clashes" ∷ codes "--emit=c" ∷ codes "--emit=rust" ∷ []
+action_options = codes "--recover" ∷ codes "--json" ∷ codes "--html" ∷ codes "--ansi" ∷ codes "--lines" ∷ codes "--places" ∷ codes "--clashes" ∷ codes "--emit=c" ∷ codes "--emit=rust" ∷ codes "--dot" ∷ []
 
 -- the option says a prefix
 abbrev pub is_prefix_option : List ℕ → Bool

@@ -5,6 +5,7 @@ pub mod Emitted
 pub mod ItemLines
 pub mod OpenModes
 pub mod PageWritten
+pub mod Pictured
 pub mod Program
 pub mod Progress
 pub mod Reasons

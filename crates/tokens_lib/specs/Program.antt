@@ -29,6 +29,7 @@ use Rattle.lines_lib.specs.ClashesShown.{AreClashesShown}
 use Rattle.tokens_lib.specs.Arguments.{joined, options, names}
 use Rattle.tokens_lib.specs.Command.{IsCommand, IsArgumentsError}
 use Rattle.tokens_lib.specs.Emitted.{SourceAnswer}
+use Rattle.tokens_lib.specs.Pictured.{PictureAnswer}
 use Rattle.tokens_lib.specs.Progress.{reading_text}
 use Rattle.tokens_lib.specs.Reasons.{SaysBadLine, SaysRules, SaysTerminals}
 use Rattle.tokens_lib.specs.RuleClashes.{clash_lines}
@@ -37,7 +38,7 @@ use Rattle.tokens_lib.specs.TextAnswer.{TokensAnswer, PiecesAnswer, PageAnswer}
 use Rattle.tokens_lib.specs.Usage.{help, version, wrong_text}
 use Rattle.tokens_lib.specs.Warned.{Warned}
 use Rattle.tokens_lib.specs.declared.command.Action.{Action}
-use Rattle.tokens_lib.specs.declared.command.Action.TheVariants.{Cut, Show, CutByTerminals, Clashes, TerminalClashes, Emit}
+use Rattle.tokens_lib.specs.declared.command.Action.TheVariants.{Cut, Show, CutByTerminals, Clashes, TerminalClashes, Emit, Picture}
 use Rattle.tokens_lib.specs.declared.command.ArgumentsError.{ArgumentsError}
 use Rattle.tokens_lib.specs.declared.command.Command.{Command}
 use Rattle.tokens_lib.specs.declared.command.Command.TheVariants.{Help, Version, Run}
@@ -163,6 +164,8 @@ ActionAnswer Gives Texts verbosity Clashes rules files answer = Reads Gives (Rul
 ActionAnswer Gives Texts verbosity TerminalClashes rules files answer = Reads Gives TerminalClashesAnswer rules answer
 ActionAnswer Gives Texts verbosity (Emit language) rules files answer =
     Reads Gives (RulesOf verbosity (LexerOf (λ r modes. SourceAnswer language rules r))) rules answer
+ActionAnswer Gives Texts verbosity Picture rules files answer =
+    Reads Gives (RulesOf verbosity (LexerOf (λ r modes. PictureAnswer r))) rules answer
 
 -- the answer for a command; with progress, it says first that the rules are read
 abbrev pub CommandAnswer : (List ℕ → Given → Type 0) → (Verbosity → (List ℕ → List ℕ → Answer → Type 0) → List (List ℕ) → Answer → Type 0) → Command → Answer → Type 0

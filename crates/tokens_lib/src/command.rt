@@ -78,6 +78,8 @@ pub enum Action<'words> {
     Emit {
         language: Language<'words>,
     },
+    /// The smallest automaton of each mode of the named rules is written for Graphviz.
+    Picture,
 }
 
 /// What is said on standard error beside what is wrong.
@@ -156,7 +158,7 @@ impl From<AllocError> for ArgumentsError<'_> {
 }
 
 // The options of actions, in the order in which specs/Command.antt has them.
-const ACTION_OPTIONS: [&str; 9] = [
+const ACTION_OPTIONS: [&str; 10] = [
     "--recover",
     "--json",
     "--html",
@@ -166,6 +168,7 @@ const ACTION_OPTIONS: [&str; 9] = [
     "--clashes",
     "--emit=c",
     "--emit=rust",
+    "--dot",
 ];
 
 // What an option that says a prefix begins with.
@@ -262,7 +265,7 @@ impl Action<'_> {
     {
         matches!(
             self,
-            Action::Clashes | Action::TerminalClashes | Action::Emit { .. }
+            Action::Clashes | Action::TerminalClashes | Action::Emit { .. } | Action::Picture
         )
     }
 }
@@ -294,6 +297,7 @@ fn action_of_one(option: &str) -> Option<Action<'static>>
         "--emit=rust" => Some(Action::Emit {
             language: Language::Rust,
         }),
+        "--dot" => Some(Action::Picture),
         _ => None,
     }
 }

@@ -20,6 +20,7 @@ mod mode_file;
 mod named_clashes;
 mod output;
 mod page;
+mod pictured;
 mod plain_line;
 mod program;
 mod progress;

@@ -17,6 +17,7 @@ use crate::cut_files::{Task, cut_all};
 use crate::emitted::write_source;
 use crate::files::{ErrorStream, Files, SystemFiles, say};
 use crate::output::Output;
+use crate::pictured::write_pictures;
 use crate::progress::reading_message;
 use crate::usage::{help, version, wrong_text};
 use lexdfa_lib::{Failure, RunError, Watched, flushed, status_of, without_arguments, write_whole};
@@ -124,6 +125,10 @@ fn run_action<F: Files, R: Read, W: Write, E: Write>(
             Ok(found) => write_source(alloc, rules, &found.lexer, language, out, err),
             Err(status) => Ok(status),
         },
+        Action::Picture => match lexer_by_name(alloc, verbosity, files, rules, err)? {
+            Ok(found) => write_pictures(alloc, &found.lexer, out),
+            Err(status) => Ok(status),
+        },
     }
 }
 
@@ -213,7 +218,7 @@ fn refuse<E: Write>(
 /// Does what the arguments say (`command_of`): writes what was asked of the program itself; cuts the files, or standard input
 /// if none is named, by the file of rules that is named first, and writes the lines of `write_items` or, by terminals, of
 /// `write_tokens`, or the markup of each text, to `out`; or lists all clashes of the rules (`write_rule_clashes`) or terminals
-/// (`write_clashes`); or writes the lexer of the rules in C or Rust (`lalrpop_emit`). A file `-` is standard input: it is read
+/// (`write_clashes`); or writes the lexer of the rules in C or Rust (`lalrpop_emit`), or pictures of their automata (`lalrpop_verdicts`). A file `-` is standard input: it is read
 /// to its end where it stands, and a later `-` reads what is left. After a read that failed it isn't read again. What is wrong is
 /// explained on `err`, behind the warnings about a file of named rules (`warnings_message`), which `--quiet` leaves out; if a write
 /// there fails, nothing more is said, and the run goes on.

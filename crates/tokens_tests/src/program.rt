@@ -25,6 +25,11 @@ const FILES: Named = Named {
         ("mode.rules", b"WORD = /[a-z]+/\n[TEXT]\nB = 'b'\n"),
         ("empty.rules", b"WORD = /[a-z]+/\nB = \"\"\nC =  2 ''\n"),
         ("bad.rules", b"D part = /[0-9]/\nA =\n"),
+        ("one.rules", b"A = 'a'\n"),
+        (
+            "two.rules",
+            b"A push DIGITS = 'a'\n[DIGITS]\nB pop = /a[0-9]|c[0-9]/\n",
+        ),
         (
             "refused.rules",
             b"\xef\xbb\xbfD part = /[0-9]/\nA = /a/\nB = /a/\n[M N]\nC pop = anycase ''\n",
@@ -161,6 +166,30 @@ fn progress_is_said(rt: HostRuntime) {
             b"",
             b"tokens: reading none\ntokens: none: not found\n",
             6,
+        ),
+    ];
+    for (words, out, err, status) in rows {
+        assert!(rt; is_answer(rt.alloc(), *words, &b"in"[..], (*out, *err, *status)));
+    }
+}
+
+const ONE: &[u8] =
+    b"digraph {\n  rankdir=LR;\n  node [shape=circle];\n  nowhere [shape=none, label=\"\", width=0, height=0];\n  nowhere -> 0;\n  0;\n  1 [shape=doublecircle, label=\"1\\nA\"];\n  0 -> 1 [label=\"a\"];\n}\n";
+// After `a` and after `c` the same is awaited, so one state does for both.
+const TWO: &[u8] =
+    b"digraph {\n  rankdir=LR;\n  node [shape=circle];\n  nowhere [shape=none, label=\"\", width=0, height=0];\n  nowhere -> 0;\n  0;\n  1 [shape=doublecircle, label=\"1\\nA\"];\n  0 -> 1 [label=\"a\"];\n}\ndigraph {\n  rankdir=LR;\n  node [shape=circle];\n  nowhere [shape=none, label=\"\", width=0, height=0];\n  nowhere -> 0;\n  0;\n  1;\n  3 [shape=doublecircle, label=\"3\\nB\"];\n  0 -> 1 [label=\"a c\"];\n  1 -> 3 [label=\"0-9\"];\n}\n";
+
+#[test]
+fn the_automaton_of_each_mode_is_drawn(rt: HostRuntime) {
+    let rows: &[(&[&str], &[u8], &[u8], u8)] = &[
+        (&["--dot", "one.rules"], ONE, b"", 0),
+        (&["two.rules", "--dot"], TWO, b"", 0),
+        (&["--dot", "none"], b"", b"tokens: none: not found\n", 6),
+        (
+            &["--dot", "one.rules", "f"],
+            b"",
+            b"tokens: no FILE is read by this command; leave out \"f\"\n",
+            4,
         ),
     ];
     for (words, out, err, status) in rows {

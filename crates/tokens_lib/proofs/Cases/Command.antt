@@ -3,7 +3,7 @@ use Rattle.std.proofs.Common.{◌≡◌, ◌≢◌, true, false, [], ◌∷◌, 
 use Rattle.std.specs.Prelude.{Some, None}
 use Rattle.tokens_lib.specs.Command.{given, unknown, options_of, verbosity_of, IsFilesError, IsCommand, IsArgumentsError}
 use Rattle.tokens_lib.specs.declared.command.Action.{Action}
-use Rattle.tokens_lib.specs.declared.command.Action.TheVariants.{Cut, Show, CutByTerminals, Clashes, TerminalClashes, Emit}
+use Rattle.tokens_lib.specs.declared.command.Action.TheVariants.{Cut, Show, CutByTerminals, Clashes, TerminalClashes, Emit, Picture}
 use Rattle.tokens_lib.specs.declared.command.ArgumentsError.TheVariants.{NoRules, NoFiles}
 use Rattle.tokens_lib.specs.declared.command.Command.TheVariants.{Help, Version}
 use Rattle.tokens_lib.specs.declared.command.Language.TheVariants.{C, Rust}
@@ -41,6 +41,7 @@ places_alone TerminalClashes e = absurd (cc)
 places_alone (Emit (C None)) e = absurd (cc)
 places_alone (Emit (C (Some prefix))) e = absurd (cc)
 places_alone (Emit Rust) e = absurd (cc)
+places_alone Picture e = absurd (cc)
 
 -- a lexer in C, with a prefix or without, and one in Rust; two prefixes are no action's, nor is a prefix with Rust
 emits : (given (codes "--emit=c" ∷ []) ≡ options_of (Emit (C None)))
@@ -62,6 +63,7 @@ two_prefixes TerminalClashes e = absurd (cc)
 two_prefixes (Emit (C None)) e = absurd (cc)
 two_prefixes (Emit (C (Some prefix))) e = absurd (cc)
 two_prefixes (Emit Rust) e = absurd (cc)
+two_prefixes Picture e = absurd (cc)
 
 prefix_of_rust : (action : Action) → given (codes "--emit=rust" ∷ codes "--prefix=p" ∷ []) ≢ options_of action
 prefix_of_rust (Cut Plain false) e = absurd (cc)
@@ -77,6 +79,11 @@ prefix_of_rust TerminalClashes e = absurd (cc)
 prefix_of_rust (Emit (C None)) e = absurd (cc)
 prefix_of_rust (Emit (C (Some prefix))) e = absurd (cc)
 prefix_of_rust (Emit Rust) e = absurd (cc)
+prefix_of_rust Picture e = absurd (cc)
+
+-- pictures
+draws : (given (codes "--dot" ∷ codes "--quiet" ∷ []) ≡ options_of Picture) × (given (codes "--dot" ∷ codes "--clashes" ∷ []) ≡ codes "--clashes" ∷ codes "--dot" ∷ [])
+draws = (refl, refl)
 
 -- two languages are both given
 two_languages : given (codes "--emit=rust" ∷ codes "--emit=c" ∷ []) ≡ codes "--emit=c" ∷ codes "--emit=rust" ∷ []
@@ -92,6 +99,6 @@ help_wins = (refl, (λ h. absurd (cc (h.0))), (λ h. absurd (cc (h.0.0))))
 version_alone : IsCommand (codes "--version" ∷ []) [] Version
 version_alone = (refl, refl)
 
--- no file is read where clashes are listed or a lexer is written
-no_files : IsFilesError Clashes (codes "f" ∷ []) (NoFiles (record { ref_ptr = (0, 0); now = codes "f" })) × IsFilesError (Emit Rust) (codes "f" ∷ []) (NoFiles (record { ref_ptr = (0, 0); now = codes "f" })) × (¬ IsFilesError (Show Html) (codes "f" ∷ []) (NoFiles (record { ref_ptr = (0, 0); now = codes "f" })))
-no_files = ((refl, ([], refl)), (refl, ([], refl)), λ h. absurd (cc (h.0)))
+-- no file is read where clashes are listed, a lexer is written or automata are drawn
+no_files : IsFilesError Clashes (codes "f" ∷ []) (NoFiles (record { ref_ptr = (0, 0); now = codes "f" })) × IsFilesError (Emit Rust) (codes "f" ∷ []) (NoFiles (record { ref_ptr = (0, 0); now = codes "f" })) × IsFilesError Picture (codes "f" ∷ []) (NoFiles (record { ref_ptr = (0, 0); now = codes "f" })) × (¬ IsFilesError (Show Html) (codes "f" ∷ []) (NoFiles (record { ref_ptr = (0, 0); now = codes "f" })))
+no_files = ((refl, ([], refl)), (refl, ([], refl)), (refl, ([], refl)), λ h. absurd (cc (h.0)))

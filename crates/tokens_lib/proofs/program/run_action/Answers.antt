@@ -3,11 +3,13 @@ use Rattle.std.specs.Prelude.{Option, Result, Ok, Err, nat_lt, IfOk, OnErr}
 use Rattle.lexdfa_lib.specs.declared.error.RunError.{RunError}
 use Rattle.tokens_lib.specs.Answer.{Answer, Answered, Begun, TextsAnswer, FirstTextsAnswer}
 use Rattle.tokens_lib.specs.Emitted.{SourceAnswer}
+use Rattle.tokens_lib.specs.Pictured.{PictureAnswer}
 use Rattle.tokens_lib.specs.Streams.{StreamGives}
 use Rattle.tokens_lib.specs.TextAnswer.{TokensAnswer, PiecesAnswer, PageAnswer}
 use Rattle.tokens_lib.proofs.AnswerLaws.{Answered-refused}
 use Rattle.tokens_lib.proofs.ProgramLaws.{lexer_answered, terminals_answered, rules_refused, terminals_refused}
 use Rattle.tokens_lib.proofs.BegunLaws.{Begun-nothing, lexer_begun, terminals_begun}
+use Rattle.tokens_lib.proofs.Pictures.{pictures_answered}
 use Rattle.tokens_lib.proofs.program.run_action.Goals as goal
 
 abbrev text : Bor (List ℕ) → List ℕ
@@ -118,6 +120,9 @@ returns-in_err-lexer-in-CutByTerminals-clause-begun g c = none_begun c.from_resi
 pub returns-in_err-found-in-Emit-clause-begun : goal.returns-in_err-found-in-Emit-clause-begun
 returns-in_err-found-in-Emit-clause-begun g c = none_begun c.from_residual-in_err-found-in-Emit.result _ _
 
+pub returns-in_err-found-in-Picture-clause-begun : goal.returns-in_err-found-in-Picture-clause-begun
+returns-in_err-found-in-Picture-clause-begun g c = none_begun c.from_residual-in_err-found-in-Picture.result _ _
+
 pub returns-in-Ok-clause-begun : goal.returns-in-Ok-clause-begun
 returns-in-Ok-clause-begun g c =
     let names = map text c.args.names.now in
@@ -173,3 +178,32 @@ returns-in-Ok-4-clause-begun g c =
     (lexer_begun c.write_source.result c.args.verbosity (g.F.Files.gives c.args.files.now) (λ set modes. SourceAnswer c.in-Emit.language c.args.rules.now set)
     c.args.rules.now c.in-Ok-4.found.lexer (map string_bytes c.in-Ok-4.found.modes.items) g.E.Write.contents c.args.err.now c.lexer_by_name-in-Emit.new.err _ _
     (rw c.in-Ok-4.is at c.in_ok-found-in-Emit.ensures.lexer) c.write_source.ensures.begun)
+
+-- ---- pictures
+
+pub returns-in-Ok-5-clause-answer : goal.returns-in-Ok-5-clause-answer
+returns-in-Ok-5-clause-answer g c =
+    let said = c.lexer_by_name-in-Picture.new.err in
+    rw c.in-Picture.is
+    (lexer_answered c.write_pictures.result c.args.verbosity (g.F.Files.gives c.args.files.now) (λ set modes. PictureAnswer set)
+    c.args.rules.now c.in-Ok-5.found.lexer (map string_bytes c.in-Ok-5.found.modes.items) g.W.Write.contents g.E.Write.contents c.args.out.now c.write_pictures.new.out c.args.err.now said said
+    (rw c.in-Ok-5.is at c.in_ok-found-in-Picture.ensures.lexer)
+    (pictures_answered c.write_pictures.result c.in-Ok-5.found.lexer g.W.Write.contents g.E.Write.contents c.args.out.now c.write_pictures.new.out said c.write_pictures.ensures.status c.write_pictures.ensures.written))
+
+pub returns-in-Err-5-clause-answer : goal.returns-in-Err-5-clause-answer
+returns-in-Err-5-clause-answer g c =
+    let refused = rw c.in-Err-5.is at c.in_ok-found-in-Picture.ensures.refused in
+    rw c.in-Picture.is (
+      refused.0,
+      (
+        rules_refused c.args.verbosity (g.F.Files.gives c.args.files.now) (λ set modes. PictureAnswer set) c.args.rules.now refused.0 refused.1.0,
+        Answered-refused g.W.Write.contents g.E.Write.contents c.args.out.now c.args.err.now c.lexer_by_name-in-Picture.new.err c.in-Err-5.status refused.0 refused.1.1,
+      ),
+    )
+
+pub returns-in-Ok-5-clause-begun : goal.returns-in-Ok-5-clause-begun
+returns-in-Ok-5-clause-begun g c =
+    rw c.in-Picture.is
+    (lexer_begun c.write_pictures.result c.args.verbosity (g.F.Files.gives c.args.files.now) (λ set modes. PictureAnswer set)
+    c.args.rules.now c.in-Ok-5.found.lexer (map string_bytes c.in-Ok-5.found.modes.items) g.E.Write.contents c.args.err.now c.lexer_by_name-in-Picture.new.err _ _
+    (rw c.in-Ok-5.is at c.in_ok-found-in-Picture.ensures.lexer) c.write_pictures.ensures.begun)
