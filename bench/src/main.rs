@@ -8,7 +8,7 @@ use lalrpop_lexer::lexer::dfa::{
 use lalrpop_lexer::lexer::nfa::Steps;
 use lalrpop_lexer::lexer::re::Regex;
 use lalrpop_lexer::{Lexer, Terminals, TokenList, read_terminals, tokens};
-use lalrpop_rules::{Item, RuleLexer, read_rules};
+use lalrpop_verdicts::{minimized, verdicts};
 use std::alloc::{AllocError, Global};
 use std::time::{CpuClock, Duration};
 use std::{env, fs};
@@ -41,14 +41,6 @@ impl Found {
 
     fn add_fault(&mut self) {
         self.faults = self.faults.wrapping_add(1);
-    }
-
-    fn add_item(&mut self, item: &Item) {
-        match item {
-            Item::Token(token) => self.add(token.index, token.slice.len()),
-            Item::Skipped(token) => self.add(token.index, token.slice.len()),
-            Item::Fault { .. } => self.add_fault(),
-        }
     }
 
     fn of(count: usize) -> Found {
@@ -118,6 +110,29 @@ impl Work for Listed {
         match built(alloc, self) {
             Some(dfa) => Ok(Found::of(dfa.states().len())),
             None => Ok(Found::none()),
+        }
+    }
+}
+
+#[derive(Drop)]
+struct Judged {
+    list: Listed,
+    dfa: Dfa,
+}
+
+fn judged_of(alloc: Global, list: Listed) -> Option<Judged> {
+    let dfa = built(alloc, &list)?;
+    Some(Judged { list, dfa })
+}
+
+impl Work for Judged {
+    fn round(&mut self, alloc: Global, call: &str, _text: &str) -> Result<Found, AllocError> {
+        if call == "minimized" {
+            return Ok(Found::of(minimized(alloc, &self.dfa)?.states().len()));
+        }
+        match verdicts(alloc, &self.list.regexs, &self.dfa) {
+            Ok(found) => Ok(Found::of(found.len())),
+            Err(_) => Ok(Found::none()),
         }
     }
 }
@@ -237,27 +252,6 @@ fn by_list(lexer: &Lexer, text: &str, list: &mut TokenList) -> Result<Found, All
     Ok(found)
 }
 
-fn rule_lexer(alloc: Global, bytes: &[u8]) -> Option<RuleLexer> {
-    let file = read_rules(alloc, bytes).ok()?;
-    RuleLexer::from_rules(alloc, &file.rules).ok()
-}
-
-impl Work for RuleLexer {
-    fn round(&mut self, alloc: Global, call: &str, text: &str) -> Result<Found, AllocError> {
-        let mut found = Found::none();
-        if call == "items" {
-            for item in self.items(text) {
-                found.add_item(&item);
-            }
-        } else {
-            for item in self.items_linear(alloc, text)? {
-                found.add_item(&item);
-            }
-        }
-        Ok(found)
-    }
-}
-
 // The least time of the rounds, and what each of them found.
 fn tell<R: CpuClock + Print + AllocGlobal, W: Work>(
     rt: &R,
@@ -301,15 +295,17 @@ fn main(rt: HostRuntime) -> Result<()> {
     let rounds = rounds.parse::<u32>().unwrap_or(1);
     let bytes = list.as_bytes();
     match call.as_str() {
-        "items" | "items_linear" => match rule_lexer(alloc, bytes) {
-            Some(mut lexer) => tell(&rt, &mut lexer, &call, &text, rounds),
-            None => bail!("no lexer of these rules"),
-        },
         "read" => tell(&rt, &mut Bytes(bytes), &call, &text, rounds),
         "build" | "clashes" => match list_of(alloc, bytes) {
             Some(mut list) => tell(&rt, &mut list, &call, &text, rounds),
             None => bail!("a line is no terminal"),
         },
+        "minimized" | "verdicts" => {
+            match list_of(alloc, bytes).and_then(|list| judged_of(alloc, list)) {
+                Some(mut judged) => tell(&rt, &mut judged, &call, &text, rounds),
+                None => bail!("no automaton of these terminals"),
+            }
+        }
         _ => match list_of(alloc, bytes).and_then(|list| cutters_of(alloc, list)) {
             Some(mut cutters) => tell(&rt, &mut cutters, &call, &text, rounds),
             None => bail!("no lexer of these terminals"),
