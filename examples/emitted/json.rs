@@ -576,12 +576,12 @@ fn rule_of(ahead: &Ahead, row: usize) -> AheadCell {
     ahead.cells[row + ahead.width]
 }
 
-// How many words a memo has for a text of this size, by so many rows: a bit for each row and each 64 bytes.
+// How many words a memo has for a text of this size, if the table has `rows` rows: a bit for each row and each 64 bytes.
 fn memo_words(rows: usize, size: usize) -> usize {
     rows.saturating_mul(size / 4096 + 1)
 }
 
-// The word of the memo in which the walk's bit is. `None` if the memo, of so many words, has none.
+// The word of the memo in which the walk's bit is. `None` if a memo of `words` words doesn't have it.
 fn word_of(ahead: &Ahead, size: usize, walk: Walk, words: usize) -> Option<usize> {
     let row_words = size / 4096 + 1;
     let number = walk.row / (ahead.width + 1);
@@ -719,7 +719,7 @@ fn fault_end(
     end
 }
 
-// So many bytes are looked at at once: where they are ASCII, each is its own column.
+// The number of bytes that are looked at together: where all are ASCII, each is its own column.
 const RUN: usize = 32;
 
 // The column of a byte, and how many bytes of its character are still to come.

@@ -10,7 +10,7 @@ use crate::ahead_table::AheadLists as Ahead;
 use crate::driver::{class, read};
 use crate::table_lists::TableLists as Table;
 
-// So many bytes are looked at at once: where they are ASCII, each is its own column.
+// The number of bytes that are looked at together: where all are ASCII, each is its own column.
 const RUN: usize = 32;
 
 // The column of a byte, and how many bytes of its character are still to come.

@@ -112,14 +112,14 @@ fn rule_of(ahead: &Ahead, row: usize) -> AheadCell
     ahead.cells[row + ahead.width]
 }
 
-// How many words a memo has for a text of this size, by so many rows: a bit for each row and each 64 bytes.
+// How many words a memo has for a text of this size, if the table has `rows` rows: a bit for each row and each 64 bytes.
 pub(crate) fn memo_words(rows: usize, size: usize) -> usize
     ensures { result ≡ min (rows * (size / 4096 + 1)) usize.MAX }
 {
     rows.saturating_mul(size / 4096 + 1)
 }
 
-// The word of the memo in which the walk's bit is. `None` if the memo, of so many words, has none.
+// The word of the memo in which the walk's bit is. `None` if a memo of `words` words doesn't have it.
 fn word_of(ahead: &Ahead, size: usize, walk: Walk, words: usize) -> Option<usize>
     requires narrow { ahead.now.width + 1 < 2 ^ 64 }
     requires place { walk.at ≤ size }

@@ -194,6 +194,30 @@ impl ModeLexer {
         }
     }
 
+    /// The trees of the rules, in order.
+    pub fn regexs(&self) -> &[Regex]
+        ensures trees { result.now ≡ self.now.trees }
+    {
+        &self.regexs
+    }
+
+    /// The kinds of the rules, in order: a kind is the index of the first rule that is of it.
+    pub fn kinds(&self) -> &[usize]
+        ensures kinds { result.now ≡ self.now.kinds }
+    {
+        &self.kinds
+    }
+
+    /// The modes that the rule with this index belongs to, or `None` if no rule has this index.
+    pub fn modes_of(&self, index: NfaIndex) -> Option<&[usize]>
+        ensures modes { option_map (λ modes. modes.now) result ≡ slice_get self.now.members index }
+    {
+        match self.known.get(index.index()) {
+            Some(rule) => Some(rule.modes.as_slice()),
+            None => None,
+        }
+    }
+
     /// What a token of the rule with this index does to the stack, or no actions if no rule has this index.
     pub fn actions(&self, index: NfaIndex) -> &[Action]
         ensures actions { result.now ≡ actions_of self.now.actions index }
