@@ -11,9 +11,10 @@ use Rattle.lalrpop_dfa.specs.Dfa.{Row, edge_target, step, run, after, IsReject, 
 use Rattle.lalrpop_dfa.proofs.EdgeTargets.{place_of, step_of, step_within, the_some}
 use Rattle.lalrpop_dfa.proofs.AfterLaws.{run_append, after_within}
 use Rattle.lalrpop_verdicts.specs.Answers.{accepted_by, accepted_at, answer_from}
-use Rattle.lalrpop_verdicts.specs.Smallest.{AnswerAlike, HasFewestEdges, IsSmallest, RejectsAtOnce}
+use Rattle.lalrpop_verdicts.specs.Smallest.{AnswerAlike, AreApart, HasFewestEdges, IsCanonical, IsSmallest, RejectsAtOnce}
 use Rattle.lalrpop_verdicts.specs.Internal.Classes.{AlikeFrom, AreAlikeClasses}
 use Rattle.lalrpop_verdicts.specs.Internal.ClassRows.{IsNumberOf, LeadAlike, StaysInClass, IsClassRow, IsWalk}
+use Rattle.lalrpop_verdicts.proofs.ClassOrder.{rows_in_order}
 use Rattle.lalrpop_verdicts.proofs.Distinct.{different_below}
 use Rattle.lalrpop_verdicts.proofs.JoinedTests.{fewest_numbers}
 
@@ -106,7 +107,7 @@ module _ (d : List Row) (classes states : List ℕ) (e : List Row) (well : IsWel
   class_alike w = ap (λ p. answer_from d p w) (sym walk.start) ∙ sym (class_answers 0 w first_in)
 
   -- states of e that answer alike are the same
-  pub class_apart : (i j : ℕ) → i < length e → j < length e → AlikeFrom e i j → i ≡ j
+  class_apart : (i j : ℕ) → i < length e → j < length e → AlikeFrom e i j → i ≡ j
   class_apart i j l m h =
       walk.apart i j (omega (arith, l, all)) (omega (arith, m, all))
       ((are.same (first i) (first j) (in_d i l) (in_d j m)).1 (λ w. sym (class_answers i w l) ∙ h w ∙ class_answers j w m))
@@ -174,7 +175,7 @@ module _ (d : List Row) (classes states : List ℕ) (e : List Row) (well : IsWel
       )
 
   -- ---- e's edges are as few as can be
-  pub class_fewest : HasFewestEdges e
+  class_fewest : HasFewestEdges e
   class_fewest i s here = (let is = walk.each i s here in fewest_numbers classes states is.joined s.tests is.row.other s.other is.tests is.other is.are_joined.few)
 
   -- ---- e is well formed
@@ -187,6 +188,19 @@ module _ (d : List Row) (classes states : List ℕ) (e : List Row) (well : IsWel
         let (k, there) = place_of s.tests u has in
         omega (arith, alike_at classes states is.joined s.tests is.tests k u there, all));
     others_in = λ i s here. omega (arith, (walk.each i s here).other.within, all);
+  }
+
+  -- ---- e is one of a kind
+  class_all_apart : AreApart e
+  class_all_apart i j l m h = class_apart i j l m h
+
+  pub class_canonical : IsCanonical e
+  class_canonical = record {
+    well_formed = class_well;
+    rejects = class_rejects;
+    edges = class_fewest;
+    apart = class_all_apart;
+    order = rows_in_order e (length states) walk.order;
   }
 
 -- ---- what is recognized

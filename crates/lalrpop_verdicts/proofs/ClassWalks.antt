@@ -1,8 +1,8 @@
 -- A walk over the classes: numbering one more state, writing one more row.
-use Rattle.std.proofs.Common.{◌≡◌, ◌≢◌, ℕ, suc, zero, ◌+◌, ◌<◌, ◌≤◌, inl, inr, ⊎_elim, List, [], ◌∷◌, ◌++◌, length, refl, sym, ap, ap₂, ◌∙◌, subst, arith, get_or, set, replicate, length-append}
+use Rattle.std.proofs.Common.{◌≡◌, ◌≢◌, ℕ, suc, zero, ◌+◌, ◌<◌, ◌≤◌, inl, inr, ⊎_elim, List, [], ◌∷◌, ◌++◌, length, refl, sym, ap, ap₂, ◌∙◌, subst, arith, get_or, set, replicate}
 use Rattle.std.specs.Prelude.{slice_get, slice_index, Option, Some, None}
 use Rattle.std.proofs.lemmas.Bool.{cases_lt}
-use Rattle.std.proofs.lemmas.List.{get_or-append-add, get_or_append_left, length-set}
+use Rattle.std.proofs.lemmas.List.{length-set}
 use Rattle.std.proofs.lemmas.Option.{slice_get-get_or, slice_get_within}
 use Rattle.lalrpop_book.proofs.Pushed.{pushed_cases}
 use Rattle.lalrpop_book.specs.Range.{Range}
@@ -12,11 +12,14 @@ use Rattle.lalrpop_dfa.proofs.AfterLaws.{after_push}
 use Rattle.lalrpop_dfa.proofs.EdgeTargets.{step_of}
 use Rattle.lalrpop_dfa.proofs.Marking.{along, top, by_test, by_other}
 use Rattle.lalrpop_verdicts.specs.Answers.{accepted_by, answer_from}
+use Rattle.lalrpop_verdicts.specs.Smallest.{edges_of}
 use Rattle.lalrpop_verdicts.specs.Internal.Classes.{AreAlikeClasses}
-use Rattle.lalrpop_verdicts.specs.Internal.ClassRows.{AreNumbered, IsNumberOf, AreMet, LeadsTo, StaysInClass, LeadAlike, IsClassKind, IsClassRow, IsWalk}
+use Rattle.lalrpop_verdicts.specs.Internal.ClassRows.{AreNumbered, IsNumberOf, AreMet, AreMetInTurn, LeadsTo, StaysInClass, LeadAlike, IsClassKind, IsClassRow, IsWalk}
+use Rattle.lalrpop_verdicts.proofs.ClassOrder.{order_more, order_start}
 use Rattle.lalrpop_verdicts.proofs.Distinct.{different_below}
+use Rattle.lalrpop_verdicts.proofs.PushedNumbers.{pushed_length, pushed_new, pushed_old}
 
--- ---- a list with one element set, or one more at the end
+-- ---- a list with one element set
 set_here : {X : Type 0} (xs : List X) (i : ℕ) (y : X) → i < length xs → slice_get (set xs i y) i ≡ Some y
 set_here [] i y l = absurd (omega arith)
 set_here (x ∷ xs) zero y l = refl
@@ -28,15 +31,6 @@ set_there (x ∷ xs) zero zero y ne = absurd (ne refl)
 set_there (x ∷ xs) zero (suc j) y ne = refl
 set_there (x ∷ xs) (suc i) zero y ne = refl
 set_there (x ∷ xs) (suc i) (suc j) y ne = set_there xs i j y (λ e. ne (ap (λ n. suc n) e))
-
-pushed_old : (xs : List ℕ) (y i : ℕ) → i < length xs → slice_index (xs ++ y ∷ []) i ≡ slice_index xs i
-pushed_old xs y i l = get_or_append_left xs (y ∷ []) 0 i l
-
-pushed_new : (xs : List ℕ) (y i : ℕ) → i ≡ length xs → slice_index (xs ++ y ∷ []) i ≡ y
-pushed_new xs y i e = ap (slice_index (xs ++ y ∷ [])) (e ∙ (let f : length xs ≡ length xs + 0 = omega arith in f)) ∙ get_or-append-add xs (y ∷ []) 0 0
-
-pub pushed_length : {X : Type 0} (xs : List X) (y : X) → length (xs ++ y ∷ []) ≡ length xs + 1
-pushed_length xs y = length-append xs (y ∷ [])
 
 -- what is read at a place
 pub read_index : (xs : List ℕ) (i p k : ℕ) → i ≡ p → p < length xs → k ≡ get_or xs i k → k ≡ slice_index xs p
@@ -215,19 +209,21 @@ module _ (d : List Row) (classes : List ℕ) (p : ℕ) (r : Row) (at : slice_get
 
 -- ---- the walk
 pub walk_start : (d : List Row) (classes : List ℕ) (numbers : List (Option ℕ)) (states : List ℕ) → AreAlikeClasses d classes → AreNumbered classes numbers states
-    → AreMet (λ q. q ≡ 0) [] states → IsNumberOf classes states 0 0 → IsWalk d classes states []
-walk_start d classes numbers states are numbered met first = record {
-  some = first.within;
-  start = met.since 0 (omega arith) first.within;
+    → AreMet (λ q. q ≡ 0) [] states → (n : ℕ) → IsNumberOf classes states 0 n → AreMetInTurn [] (n ∷ []) states → IsWalk d classes states []
+walk_start d classes numbers states are numbered met n first turn = record {
+  some = omega (arith, first.within);
+  start = met.since 0 (omega arith) (omega (arith, first.within));
   within = λ i l. omega (arith, numbered.within i l, are.same_length);
   apart = numbered_apart classes numbers states numbered;
   reached = λ i l. ([], sym (met.since i (omega arith) l));
   few = omega arith;
+  order = order_start n states turn;
   each = λ i s e. absurd (let no : None ≡ Some s = e in cc);
 }
 
 module _ (d : List Row) (classes : List ℕ) (numbers : List (Option ℕ)) (old new : List ℕ) (rows : List Row) (p : ℕ) (s : Row) (are : AreAlikeClasses d classes) (walk : IsWalk d classes old rows)
-    (numbered : AreNumbered classes numbers new) (next : length rows < length old) (is : p ≡ slice_index old (length rows)) (met : AreMet (LeadsTo d p) old new) (row : IsClassRow d classes new p s) where
+    (numbered : AreNumbered classes numbers new) (next : length rows < length old) (is : p ≡ slice_index old (length rows)) (met : AreMet (LeadsTo d p) old new) (row : IsClassRow d classes new p s)
+    (turn : AreMetInTurn old (edges_of s.tests s.other) new) where
   reached_old : (i : ℕ) → i < length old → (w : List ℕ) × (after d w ≡ slice_index new i)
   reached_old i l = (let (w, e) = walk.reached i l in (w, e ∙ sym (met.kept i l)))
 
@@ -245,6 +241,7 @@ module _ (d : List Row) (classes : List ℕ) (numbers : List (Option ℕ)) (old 
         ⊎_elim (λ (x : i < length old). reached_old i x) (λ (x : length old ≤ i). reached_new (slice_index new i) (met.since i x l))
         (cases_lt i (length old));
     few = omega (arith, pushed_length rows s, next, met.longer);
+    order = order_more rows s old new walk.order next turn;
     each = each;
   }
     where

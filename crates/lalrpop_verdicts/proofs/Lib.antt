@@ -12,13 +12,17 @@ pub mod Differing
 pub mod EmptyMatches
 -- classes of states: lists, and the first that is equal; values that lead alike from all states; rounds
 pub mod FirstLaws
+pub mod SplitLaws
 pub mod StretchLaws
 pub mod RoundLaws
 -- the smallest automaton
 pub mod Distinct
+pub mod PushedNumbers
+pub mod ClassOrder
 pub mod ClassAutomata
 pub mod ClassWalks
 pub mod JoinedTests
+pub mod OneSmallest
 -- the picture of an automaton
 pub mod Codes
 pub mod Turns

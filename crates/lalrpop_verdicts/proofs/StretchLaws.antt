@@ -1,16 +1,21 @@
 -- Values between two bounds lead to where the first bound leads.
-use Rattle.std.proofs.Common.{◌≡◌, ℕ, zero, suc, inl, inr, Bool, true, false, ◌⊎◌, ◌↔◌, ◌+◌, ◌<◌, ◌≤◌, List, [], ◌∷◌, ◌++◌, length, refl, sym, ap, ◌∙◌, subst, ⊎_elim, arith}
+use Rattle.std.proofs.Common.{◌≡◌, ℕ, zero, suc, inl, inr, Bool, true, false, ◌⊎◌, ◌↔◌, ◌+◌, ◌<◌, ◌≤◌, List, [], ◌∷◌, ◌++◌, length, map, take, get_or, replicate, refl, sym, ap, ◌∙◌, subst, ⊎_elim, arith}
 use Rattle.std.specs.Prelude.{slice_get, Some, IsSomeAnd, nat_eq, not, Vec}
 use Rattle.std.specs.Global.{Global}
 use Rattle.std.specs.HashSet.{HashSet, contains, Updates, IsUnchanged}
 use Rattle.std.specs.List.{Contains, list_any}
+use Rattle.std.specs.List.Sorted.{IsNonDecreasing, IsPermutation}
 use Rattle.std.proofs.lemmas.Bool.{cases_lt, eqb-true}
+use Rattle.std.proofs.lemmas.Grind.{get_or_default_zero}
+use Rattle.std.proofs.lemmas.List.{get_or-map, length-replicate, map_more, take_all}
+use Rattle.std.proofs.lemmas.List.Sorted.{Contains-permutation}
 use Rattle.std.proofs.lemmas.List.Elements.{Contains-append_left, Contains-push}
 use Rattle.std.proofs.lemmas.Option.{slice_get_cases, slice_get_within}
 use Rattle.lalrpop_book.specs.Range.{Range, Covers}
-use Rattle.lalrpop_dfa.specs.Dfa.{Row, edge_target}
-use Rattle.lalrpop_dfa.proofs.EdgeTargets.{leads_first, leads_later, leads_none, place_of, step_of, tests_of}
-use Rattle.lalrpop_verdicts.specs.Internal.Classes.{AreListed, AreTried, IsBounded, IsMore, leads_of, other_at}
+use Rattle.lalrpop_dfa.specs.Dfa.{Row, StoredState, IsStored, edge_target, step}
+use Rattle.lalrpop_dfa.specs.Internal.Stored.{EndBefore}
+use Rattle.lalrpop_dfa.proofs.EdgeTargets.{leads_first, leads_later, leads_none, place_of, step_of, tests_of, the_some}
+use Rattle.lalrpop_verdicts.specs.Internal.Classes.{AreColumns, AreListed, AreSplit, AreTried, HasFirsts, IsBounded, IsMore, leads_of, other_at}
 
 -- ---- elements
 pub contains_cases : {X : Type 0} (v : X) (vs : List X) (x : X) → Contains (v ∷ vs) x → (v ≡ x) ⊎ Contains vs x
@@ -167,3 +172,81 @@ bounds_more d n old new edges h more tests all = record {
 -- ---- the table of where states lead
 abbrev pub AreLeadsSoFar : List Row → List ℕ → ℕ → List (Vec ℕ Global) → Type 0
 AreLeadsSoFar d values n table = (length table ≡ n) × ((p : ℕ) (v : Vec ℕ Global) → slice_get table p ≡ Some v → v.items ≡ leads_of d values p)
+
+-- ---- where ascending values lead from a state
+pub along_edges : (d : List Row) (p : ℕ) (edges : List (Range × ℕ)) (s : StoredState) (other c : ℕ) → IsSomeAnd (slice_get d p) (λ r. edges ≡ r.tests) → IsSomeAnd (slice_get d p) (λ r. IsStored r s)
+    → other ≡ s.other → edge_target edges other c ≡ step d p c
+along_edges d p edges s other c tests at o =
+    let row = the_some (slice_get d p) (λ r. IsStored r s) at in
+    let same : edges ≡ row.0.tests = tests_of d p row.0 edges row.1.0 tests in
+    ap (λ ts. edge_target ts other c) same ∙ ap (λ x. edge_target row.0.tests x c) (o ∙ row.1.1.other) ∙ sym (step_of d p c row.0 row.1.0)
+
+pub targets_more : (f : ℕ → ℕ) (values old new : List ℕ) (i x : ℕ) → i < length values → old ≡ map f (take i values) → new ≡ old ++ x ∷ [] → x ≡ f (get_or values i 0) → new ≡ map f (take (i + 1) values)
+targets_more f values old new i x l h e g = e ∙ ap (λ xs. xs ++ x ∷ []) h ∙ ap (λ y. map f (take i values) ++ y ∷ []) g ∙ sym (map_more f values i 0 l)
+
+pub targets_all : (f : ℕ → ℕ) (values xs : List ℕ) (i : ℕ) → length values ≤ i → xs ≡ map f (take i values) → xs ≡ map f values
+targets_all f values xs i l h = h ∙ ap (map f) (take_all i values l)
+
+pub passed_on : (edges : List (Range × ℕ)) (place i : ℕ) (values : List ℕ) → IsNonDecreasing values → EndBefore edges place (get_or values i 0) → (j : ℕ) → i + 1 ≤ j → j < length values → EndBefore edges place (get_or values j 0)
+passed_on edges place i values up h j a b k t l e = let low = up i j 0 (omega arith) b in omega (arith, h k t l e, low)
+
+-- ---- values that lead alike from all states
+zeros : (n p : ℕ) → get_or (replicate {A = ℕ} n 0) p 0 ≡ 0
+zeros zero p = refl
+zeros (suc n) zero = refl
+zeros (suc n) (suc p) = zeros n p
+
+pub columns_none : (d : List Row) (values firsts : List ℕ) (n : ℕ) → n ≡ length values → firsts ≡ replicate n 0 → AreColumns d 0 values firsts
+columns_none d values firsts n long e = record {
+  same_length = ap length e ∙ length-replicate n 0 ∙ long;
+  places = rw e (record {
+    least = λ p l. omega (arith, zeros n p);
+    own = λ p l. zeros n (get_or (replicate n 0) p 0) ∙ sym (zeros n p);
+  });
+  alike = λ k p l m. absurd (omega arith);
+}
+
+pub columns_more : (d : List Row) (n : ℕ) (values firsts keys parts fs ks : List ℕ) → AreColumns d n values firsts → keys ≡ map (step d n) values → fs ≡ firsts → ks ≡ keys → AreSplit fs ks parts → AreColumns d (n + 1) values parts
+columns_more d n values firsts keys parts fs ks h targets same_fs same_ks split = record {
+  same_length = s.same_length ∙ h.same_length;
+  places = s.places;
+  alike = λ k p l m. ⊎_elim (λ (x : p < n). before k p l x) (λ (x : n ≤ p). now k p l (omega arith)) (cases_lt p n);
+}
+  where
+    s : AreSplit firsts keys parts
+    s = subst (λ (xs : List ℕ). AreSplit xs keys parts) same_fs (subst (λ (xs : List ℕ). AreSplit fs xs parts) same_ks split)
+
+    within : (k : ℕ) → k < length values → k < length firsts
+    within k l = omega (arith, h.same_length)
+
+    part : (k : ℕ) → k < length values → get_or parts k 0 ≤ k
+    part k l = s.places.least k (omega (arith, h.same_length, s.same_length))
+
+    key_of : (j : ℕ) → j < length values → get_or keys j 0 ≡ step d n (get_or values j 0)
+    key_of j l = ap (λ xs. get_or xs j 0) targets ∙ get_or-map (step d n) values j 0 0 l
+
+    before : (k p : ℕ) → k < length values → p < n → step d p (get_or values (get_or parts k 0) 0) ≡ step d p (get_or values k 0)
+    before k p l x =
+        sym (h.alike (get_or parts k 0) p (omega (arith, part k l)) x) ∙ ap (λ j. step d p (get_or values j 0)) (s.same_first k (within k l)) ∙ h.alike k p l x
+
+    now : (k p : ℕ) → k < length values → p ≡ n → step d p (get_or values (get_or parts k 0) 0) ≡ step d p (get_or values k 0)
+    now k p l x = rw x (sym (key_of (get_or parts k 0) (omega (arith, part k l))) ∙ s.same_key k (within k l) ∙ key_of k l)
+
+pub tried_firsts : (d : List Row) (values sorted firsts kept : List ℕ) → AreTried d values → IsPermutation values sorted → AreColumns d (length d) sorted firsts → HasFirsts (length firsts) sorted firsts kept → AreTried d kept
+tried_firsts d values sorted firsts kept h moved columns has = record {
+  beyond = h.beyond;
+  all = λ c. (let t = h.all c in
+      ⊎_elim (λ (x : 4294967296 ≡ t.0). (t.0, (subst (λ (y : ℕ). Contains (4294967296 ∷ kept) y) x (contains_first 4294967296 kept), t.1.1)))
+      (λ (x : Contains values t.0). first c t.0 t.1.1 (Contains-permutation values sorted t.0 moved x)) (contains_cases 4294967296 values t.0 t.1.0));
+}
+  where
+    first : (c b : ℕ) → ((p : ℕ) → p < length d → step d p c ≡ step d p b) → Contains sorted b
+        → (b2 : ℕ) × (Contains (4294967296 ∷ kept) b2 × ((p : ℕ) → p < length d → step d p c ≡ step d p b2))
+    first c b same (k, l, e) =
+        let here : get_or sorted k 0 ≡ b = sym (get_or_default_zero sorted k b l) ∙ e in
+        let long : k < length firsts = omega (arith, columns.same_length) in
+        let low : get_or firsts k 0 ≤ k = columns.places.least k long in
+        let own = has (get_or firsts k 0) (omega arith) (columns.places.own k long) in (
+          get_or sorted (get_or firsts k 0) 0,
+          (contains_later 4294967296 kept (get_or sorted (get_or firsts k 0) 0) own, λ p m. same p m ∙ ap (step d p) (sym here) ∙ sym (columns.alike k p l m)),
+        )

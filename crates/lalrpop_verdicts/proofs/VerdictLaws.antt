@@ -1,4 +1,4 @@
--- Verdicts on trees, from the automaton of all of them and that of one alone.
+-- Verdicts on trees, from the automaton of all of them and the automaton of one alone.
 use Rattle.std.proofs.Common.{◌≡◌, ◌≢◌, ℕ, zero, suc, ◌+◌, ◌-◌, ◌<◌, ◌↔◌, inl, inr, List, [], ◌∷◌, ◌++◌, length, length-append, take, drop, get_or, slice_range, Global, Vec, arith, subst, sym, ap, ◌∙◌, refl}
 use Rattle.std.specs.Prelude.{slice_get, Option, Some, None, IsSomeAnd, option_map}
 use Rattle.std.proofs.lemmas.Option.{slice_get-get_or}
@@ -14,7 +14,7 @@ use Rattle.lalrpop_dfa.specs.declared.Kind.TheVariants.{Accepts, Reject, Neither
 use Rattle.lalrpop_dfa.proofs.Recognized.{matched_accepts, accepted_matched}
 use Rattle.lalrpop_verdicts.specs.Answers.{accepted_by, accepted_at, answer}
 use Rattle.lalrpop_verdicts.specs.WonWord.{WonWord}
-use Rattle.lalrpop_verdicts.specs.Verdicts.{AreShadows, IsVerdict, IsWonBy}
+use Rattle.lalrpop_verdicts.specs.Verdicts.{AreWinners, IsVerdict, IsWonBy, words_of}
 use Rattle.lalrpop_verdicts.specs.Internal.WonWords.{AreWonWords, IsBoth, IsLeastWon, IsOwn, StaysDead}
 use Rattle.lalrpop_verdicts.specs.declared.verdict.Verdict.{Verdict}
 use Rattle.lalrpop_verdicts.specs.declared.verdict.Verdict.TheVariants.{Wins, Shadowed, Unmatched}
@@ -56,61 +56,66 @@ module _ (ts : List Tree) (ps w : List ℕ) where
 
 -- ---- the automaton of all trees
 module _ (d : List Row) (ts : List Tree) (ps : List ℕ) (h : Recognizes d ts ps) where
-  self_won : (i : ℕ) (w : List ℕ) → IsBoth d d i w → IsWonBy ts ps i i w
+  self_won : (i : ℕ) (w : List ℕ) → IsBoth d d i w → IsWonBy (words_of ts i) ts ps i w
   self_won i w both =
       let only : IsOnlyStrongest ts ps w i = strongest_of ts ps w (slice_get d (after d w)) i (h.kinds w (text_is_word w both.0)) both.3 in
       (both.0, both.1, only.0.0, only)
 
-  won_self : (i : ℕ) (w : List ℕ) → IsWonBy ts ps i i w → IsBoth d d i w
+  won_self : (i : ℕ) (w : List ℕ) → IsWonBy (words_of ts i) ts ps i w → IsBoth d d i w
   won_self i w won =
       let e : answer d w ≡ Some i = accepts_strongest ts ps w (slice_get d (after d w)) i (h.kinds w (text_is_word w won.0)) won.3 in
       (won.0, won.1, accepting (slice_get d (after d w)) i e, e)
 
   -- a tree with a least word wins
   pub wins : (i : ℕ) (w : Vec ℕ Global) → IsLeastWon d i (Some w.items) → IsVerdict ts ps i (Wins w)
-  wins i w least = same_least (IsBoth d d i) (IsWonBy ts ps i i) (λ u. (self_won i u, won_self i u)) w.items least
+  wins i w least = same_least (IsBoth d d i) (IsWonBy (words_of ts i) ts ps i) (λ u. (self_won i u, won_self i u)) w.items least
 
-  module _ (i : ℕ) (o : List Row) (own : IsOwn ts i o) where
-    pub own_stays : StaysDead o
-    own_stays p c fits = own.recognizes.stays p c
+  -- a tree that wins nothing is hidden by the trees that win its words
+  pub shadowed : (i : ℕ) (by : Vec WonWord Global) → AreWinners (words_of ts i) ts ps by.items → by.items ≢ [] → IsLeastWon d i None → IsVerdict ts ps i (Shadowed by)
+  shadowed i by won some none = ((λ w wins. none w (won_self i w wins)), some, won)
 
-    own_accepts : (w : List ℕ) → TreeMatches ts w i → Accepted o w
-    own_accepts w (t, (at, m)) =
-        let e : Some t ≡ Some own.tree = sym at ∙ own.at in
-        let same : t ≡ own.tree = cc in
-        matched_accepts o (own.tree ∷ []) (0 ∷ []) own.recognizes w (0, (own.tree, (refl, subst (λ x. Matches x w) same m)))
+  -- and if no tree wins its words, it has none: some tree wins each word that is matched
+  pub unmatched : (i : ℕ) (found : List WonWord) → AreWinners (words_of ts i) ts ps found → found ≡ [] → IsVerdict ts ps i Unmatched
+  unmatched i found won none = λ w text some m. (let kinds = h.kinds w (text_is_word w text) in
+      let (j, e) = accepts_some ts ps w (slice_get d (after d w)) kinds (i, m) in
+      let only : IsOnlyStrongest ts ps w j = strongest_of ts ps w (slice_get d (after d w)) j kinds e in
+      let (x, ((k, l, same), by)) = won.all j w (text, some, m, only) in
+      absurd (omega (arith, l, ap length none)))
 
-    only_tree : (k : ℕ) (t : Tree) → slice_get (own.tree ∷ []) k ≡ Some t → own.tree ≡ t
-    only_tree zero t e = cc
-    only_tree (suc k) t e = cc
+-- ---- the automaton of one tree, beside the automaton of a list
+module _ (us : List Tree) (i : ℕ) (o : List Row) (own : IsOwn us i o) where
+  pub own_stays : StaysDead o
+  own_stays p c fits = own.recognizes.stays p c
 
-    own_matches : (w : List ℕ) → Accepted o w → TreeMatches ts w i
-    own_matches w a =
-        let (k, (t, (at, m))) = accepted_matched o (own.tree ∷ []) (0 ∷ []) own.recognizes w a in
-        (own.tree, (own.at, subst (λ x. Matches x w) (sym (only_tree k t at)) m))
+  own_accepts : (w : List ℕ) → TreeMatches us w i → Accepted o w
+  own_accepts w (t, (at, m)) =
+      let e : Some t ≡ Some own.tree = sym at ∙ own.at in
+      let same : t ≡ own.tree = cc in
+      matched_accepts o (own.tree ∷ []) (0 ∷ []) own.recognizes w (0, (own.tree, (refl, subst (λ x. Matches x w) same m)))
 
-    both_won : (j : ℕ) (w : List ℕ) → IsBoth o d j w → IsWonBy ts ps i j w
+  only_tree : (k : ℕ) (t : Tree) → slice_get (own.tree ∷ []) k ≡ Some t → own.tree ≡ t
+  only_tree zero t e = cc
+  only_tree (suc k) t e = cc
+
+  own_matches : (w : List ℕ) → Accepted o w → TreeMatches us w i
+  own_matches w a =
+      let (k, (t, (at, m))) = accepted_matched o (own.tree ∷ []) (0 ∷ []) own.recognizes w a in
+      (own.tree, (own.at, subst (λ x. Matches x w) (sym (only_tree k t at)) m))
+
+  module _ (d : List Row) (ts : List Tree) (ps : List ℕ) (h : Recognizes d ts ps) where
+    both_won : (j : ℕ) (w : List ℕ) → IsBoth o d j w → IsWonBy (words_of us i) ts ps j w
     both_won j w both = (both.0, both.1, own_matches w both.2, strongest_of ts ps w (slice_get d (after d w)) j (h.kinds w (text_is_word w both.0)) both.3)
 
-    won_both : (j : ℕ) (w : List ℕ) → IsWonBy ts ps i j w → IsBoth o d j w
+    won_both : (j : ℕ) (w : List ℕ) → IsWonBy (words_of us i) ts ps j w → IsBoth o d j w
     won_both j w won = (won.0, won.1, own_accepts w won.2, accepts_strongest ts ps w (slice_get d (after d w)) j (h.kinds w (text_is_word w won.0)) won.3)
 
-    shadows : (found : List WonWord) → AreWonWords o d found → AreShadows ts ps i found
-    shadows found won = record {
+    -- the trees that win words which both automata accept are the winners of its words
+    pub are_winners : (found : List WonWord) → AreWonWords o d found → AreWinners (words_of us i) ts ps found
+    are_winners found won = record {
       ascending = won.ascending;
-      each = λ x has. same_least (IsBoth o d x.by) (IsWonBy ts ps i x.by) (λ u. (both_won x.by u, won_both x.by u)) x.word (won.each x has);
-      all = λ j w hides. won.all j w (won_both j w hides);
+      each = λ x has. same_least (IsBoth o d x.by) (IsWonBy (words_of us i) ts ps x.by) (λ u. (both_won x.by u, won_both x.by u)) x.word (won.each x has);
+      all = λ j w wins. won.all j w (won_both j w wins);
     }
-
-    -- a tree that wins nothing is hidden by those that win its words
-    pub shadowed : (by : Vec WonWord Global) → AreWonWords o d by.items → by.items ≢ [] → IsLeastWon d i None → IsVerdict ts ps i (Shadowed by)
-    shadowed by won some none = ((λ w wins. none w (won_self i w wins)), some, shadows by.items won)
-
-    -- and if no tree wins any, there are none
-    pub unmatched : (found : List WonWord) → AreWonWords o d found → found ≡ [] → IsVerdict ts ps i Unmatched
-    unmatched found won none = λ w text some m. (let (j, e) = accepts_some ts ps w (slice_get d (after d w)) (h.kinds w (text_is_word w text)) (i, m) in
-        let (x, ((k, l, same), by)) = won.all j w (text, some, own_accepts w m, e) in
-        absurd (omega (arith, l, ap length none)))
 
 -- ---- one verdict after the other
 

@@ -1,6 +1,6 @@
 -- cases: proofs/Cases/Picture.antt
 -- An automaton as a text for Graphviz.
-use Rattle.std.specs.Prelude.{ℕ, ◌+◌, ◌-◌, ◌==◌, Bool, true, false, not, ◌&&◌, nat_lt, List, [], ◌∷◌, ◌++◌, length, map, take, filter, flat_map, replicate, codes, chars, decimal, encode_utf8, slice_get, Some, None, if◌then◌else◌}
+use Rattle.std.specs.Prelude.{ℕ, ◌+◌, ◌-◌, ◌==◌, Bool, true, false, not, ◌&&◌, ◌||◌, nat_lt, List, [], ◌∷◌, ◌++◌, length, map, take, filter, flat_map, replicate, codes, chars, decimal, encode_utf8, slice_get, Some, None, if◌then◌else◌}
 use Rattle.std.specs.Char.{is_control}
 use Rattle.std.specs.Fmt.{digits}
 use Rattle.std.specs.List.{join_with_byte}
@@ -35,13 +35,17 @@ value_text c =
     if c == 9 then codes "\\\\t" else (
     if nat_lt 32 c && nat_lt c 127 then as_itself c else code_text c)))
 
+-- whether the value is shown by its code
+abbrev pub is_coded : ℕ → Bool
+is_coded c = not (c == 10 || c == 13 || c == 9 || (nat_lt 32 c && nat_lt c 127))
+
 -- ---- edges
 
--- the values of a range as a class has them: one, two, or the first and the last
+-- the values of a range as a class has them: one; two side by side, if neither is shown by its code; or the first and the last
 unfoldable pub range_text : Range → List ℕ
 range_text r =
     if r.end - r.start == 0 then value_text r.start else (
-    if r.end - r.start == 1 then value_text r.start ++ value_text r.end
+    if r.end - r.start == 1 && not (is_coded r.start || is_coded r.end) then value_text r.start ++ value_text r.end
     else value_text r.start ++ (45 ∷ value_text r.end))
 
 -- the ranges of the tests that lead to the state q

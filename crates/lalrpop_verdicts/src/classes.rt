@@ -1,6 +1,7 @@
 //! States that answer alike, in classes: rounds that split them until none does.
 
 mod first_equal;
+mod split;
 mod stretches;
 
 ghost use Rattle.std.specs.Prelude.{◌≡◌, ℕ, length, map, slice_index, IfOk, Vec};
@@ -10,18 +11,19 @@ ghost use Rattle.std.specs.Option.{option_to_list};
 ghost use Rattle.lalrpop_verdicts.specs.Answers.{accepted_by};
 ghost use Rattle.lalrpop_verdicts.specs.Internal.Classes.{AreAlikeClasses, AreClassesOf, AreWithin, answer_row, leads_row};
 
+use crate::answer::accepted_by;
 use first_equal::FirstEqual;
 use lalrpop_dfa::{Dfa, Kind};
 use std::alloc::{AllocError, Global};
 use stretches::{leads, stretches};
 
-// The accepted pattern alone, if there is one.
-fn accepted(alloc: Global, kind: &Kind) -> Result<Vec<usize>, AllocError>
+// The pattern that a state of this kind accepts, alone in a list, if there is one.
+fn answer_of(alloc: Global, kind: &Kind) -> Result<Vec<usize>, AllocError>
     ensures { IfOk result (λ row. row.items ≡ option_to_list (accepted_by kind.now)) }
 {
     let mut row = Vec::new(alloc);
-    if let Kind::Accepts(index) = kind {
-        row.push(index.index())?;
+    if let Some(pattern) = accepted_by(kind) {
+        row.push(pattern.index())?;
     }
     Ok(row)
 }
@@ -32,7 +34,7 @@ fn by_answer(alloc: Global, dfa: &Dfa) -> Result<Vec<usize>, AllocError>
 {
     let mut classes = FirstEqual::with_capacity(alloc, dfa.states().len())?;
     for state in dfa.states() {
-        classes.push(accepted(alloc, state.kind())?)?;
+        classes.push(answer_of(alloc, state.kind())?)?;
     }
     Ok(classes.into_places())
 }

@@ -17,5 +17,5 @@ pub use difference::{Difference, least_difference, same_language};
 pub use empty::matches_empty;
 pub use picture::dot;
 pub use smallest::minimized;
-pub use verdict::{Verdict, verdicts};
+pub use verdict::{Verdict, verdicts, winners};
 pub use won_word::WonWord;

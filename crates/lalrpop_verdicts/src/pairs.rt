@@ -184,8 +184,10 @@ impl<'given> Walk<'given> {
         requires right_within { turn.old.right.state < length self.right.now }
         requires known { AreKnown met.old.states.keys met.old.pairs.items }
         requires character { is_character value ≡ true }
-        requires left_passed { IsPassed self.left.now turn.old.left.state turn.old.left.place value }
-        requires right_passed { IsPassed self.right.now turn.old.right.state turn.old.right.place value }
+        requires left_passed { IsPassed self.left.now
+            turn.old.left.state turn.old.left.place value }
+        requires right_passed { IsPassed self.right.now
+            turn.old.right.state turn.old.right.place value }
         requires turn { IsTurn self.follow self.left.now self.right.now met.old.pairs.items
             (number_of turn.old.from) turn.old.left.state turn.old.right.state value }
         ensures known { OnOk result (AreKnown met.new.states.keys met.new.pairs.items) }
@@ -220,7 +222,7 @@ impl<'given> Walk<'given> {
         Ok(next_character(left.last.min(right.last)))
     }
 
-    // Adds the pairs that one character leads to from these states, those of the pair with the number `from`.
+    // Adds the pairs that one character leads to from these states, at which the pair with the number `from` is.
     fn expand(
         self,
         met: &mut Met,
@@ -292,7 +294,8 @@ pub(crate) fn pairs(
 ///
 /// `AllocError` if a request for memory was refused.
 pub(crate) fn word_to(alloc: Global, pairs: &[Pair], number: usize) -> Result<Vec<u32>, AllocError>
-    requires pairs { (follow : Follow) × (l : List Row) × (r : List Row) × ArePairs follow l r pairs.now }
+    requires pairs { (follow : Follow) × (l : List Row) × (r : List Row)
+        × ArePairs follow l r pairs.now }
     requires within { number < length pairs.now }
     ensures word { IfOk result (λ word.
         (follow : Follow) (l r : List Row) (h : ArePairs follow l r pairs.now)

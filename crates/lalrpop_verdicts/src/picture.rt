@@ -2,7 +2,7 @@
 ghost use Rattle.std.specs.Prelude.{◌≡◌, ◌∷◌, ◌++◌, ◌<◌, flat_map, filter, chars, length, map, slice_get, string_bytes, IfOk, IsSomeAnd, OnOk};
 ghost use Rattle.std.specs.List.{join_with_byte};
 ghost use Rattle.lalrpop_verdicts.specs.Internal.Targets.{with_new};
-ghost use Rattle.lalrpop_verdicts.specs.Picture.{accepting_line, as_itself, code_text, dot, edge_line, edges_from, is_live, is_live_at, label, name_character, name_text, range_text, ranges_to, row_edges, shortened, state_line, states_from, targets, value_text};
+ghost use Rattle.lalrpop_verdicts.specs.Picture.{accepting_line, as_itself, code_text, dot, edge_line, edges_from, is_coded, is_live, is_live_at, label, name_character, name_text, range_text, ranges_to, row_edges, shortened, state_line, states_from, targets, value_text};
 
 use lalrpop_dfa::{Dfa, DfaStateIndex, Kind};
 use lalrpop_nfa::Test;
@@ -50,7 +50,14 @@ fn push_value(text: &mut String, value: u32) -> Result<(), AllocError>
     }
 }
 
-// The values of a range: one, two, or the first and the last.
+// Whether a value is shown by its code.
+fn is_coded(value: u32) -> bool
+    ensures { result ≡ is_coded value }
+{
+    !matches!(value, 9 | 10 | 13 | 33..=126)
+}
+
+// The values of a range: one; two side by side, if neither is shown by its code; or the first and the last.
 #[tactic(auto, unfolding(crate::specs::Picture::range_text))]
 fn push_range(text: &mut String, range: &Test) -> Result<(), AllocError>
     ensures { OnOk result (string_bytes text.new ≡ string_bytes text.old ++ range_text range.now) }
@@ -59,7 +66,7 @@ fn push_range(text: &mut String, range: &Test) -> Result<(), AllocError>
     push_value(text, start)?;
     match end.saturating_sub(start) {
         0 => Ok(()),
-        1 => push_value(text, end),
+        1 if !is_coded(start) && !is_coded(end) => push_value(text, end),
         _ => {
             text.push('-')?;
             push_value(text, end)
@@ -347,9 +354,10 @@ fn push_states(text: &mut String, names: &[String], dfa: &Dfa) -> Result<(), All
 /// state to another are one arrow.
 ///
 /// An arrow says the ranges of values by which it leads on, as in a class, ascending: `a-z`, `a`, or `ab` for two values. `\n`,
-/// `\r` and `\t` stand for line feed, carriage return and tab, and `U+00E9` for what isn't ASCII, or isn't seen. Of more than
-/// twelve ranges it says twelve, and how many more there are, as `+3`. `other` are all values that no range of the state has,
-/// whether it is shown or leads to a state that rejects.
+/// `\r` and `\t` stand for line feed, carriage return and tab, and `U+00E9` for what isn't ASCII, or isn't seen: two values of
+/// which one is such a code have a dash between, as `U+2028-U+2029`. Of more than twelve ranges an arrow says twelve, and how
+/// many more there are, as `+3`. `other` are all values that no range of the state has, whether it is shown or leads to a state
+/// that rejects.
 ///
 /// ```
 /// use lalrpop_verdicts::dot;

@@ -3,9 +3,9 @@ ghost use Rattle.std.specs.Prelude.{◌≡◌, ℕ, ◌+◌, ◌<◌, ◌↔◌,
 ghost use Rattle.lalrpop_book.specs.Range.{Range};
 ghost use Rattle.lalrpop_book.specs.Tree.{Tree};
 ghost use Rattle.lalrpop_dfa.specs.Dfa.{Row, IsWellFormed, Recognizes, RecognizesAll};
-ghost use Rattle.lalrpop_verdicts.specs.Smallest.{AnswerAlike, HasFewestEdges, IsSmallest, RejectsAtOnce};
+ghost use Rattle.lalrpop_verdicts.specs.Smallest.{AnswerAlike, IsCanonical, IsSmallest, edges_of};
 ghost use Rattle.lalrpop_verdicts.specs.Internal.Classes.{AreAlikeClasses};
-ghost use Rattle.lalrpop_verdicts.specs.Internal.ClassRows.{AreClassRows, AreJoined, AreMet, AreNumbered, IsAdded, IsClassKind, IsClassRow, IsNumberOf, LeadsTo, StaysInClass};
+ghost use Rattle.lalrpop_verdicts.specs.Internal.ClassRows.{AreClassRows, AreJoined, AreMet, AreMetInTurn, AreNumbered, IsAdded, IsClassKind, IsClassRow, IsNumberOf, LeadsTo, StaysInClass};
 
 use crate::classes::classes;
 use lalrpop_dfa::{Dfa, DfaStateIndex, ItemSet, Kind, RowWriter, Rows, START};
@@ -20,10 +20,13 @@ use std::alloc::{AllocError, Global};
 /// neighbouring ones that lead to one state are one edge, and none leads where all other values lead. What `dfa` recognizes,
 /// it recognizes too. The states are numbered breadth first from `START`, along the edges in their order.
 ///
+/// So it is one of a kind: two results that answer each word alike are equal but for their items, whatever automata they were
+/// made from. They have the same states by number, each with the same kind, the same test edges and the same other edge.
+///
 /// The items are lost: a state stands for several sets of items here, so it holds none. Keep `dfa` for what asks for them.
 ///
-/// Cost: rounds that split the states into classes, no more than there are states, and then one walk over the edges of one
-/// state for each class.
+/// Cost: rounds that split the states into classes, at most one for each state, and then one walk over the edges of one state
+/// for each class.
 ///
 /// # Errors
 ///
@@ -39,8 +42,7 @@ use std::alloc::{AllocError, Global};
 pub fn minimized(alloc: Global, dfa: &Dfa) -> Result<Dfa, AllocError>
     ensures alike { IfOk result (λ least. AnswerAlike dfa.now least) }
     ensures smallest { IfOk result (λ least. IsSmallest least) }
-    ensures rejects { IfOk result (λ least. RejectsAtOnce least) }
-    ensures edges { IfOk result (λ least. HasFewestEdges least) }
+    ensures canonical { IfOk result IsCanonical }
     ensures recognizes { IfOk result (λ least. (ts : List Tree) (ps : List ℕ)
         → Recognizes dfa.now ts ps → Recognizes least ts ps) }
     ensures recognizes_all { IfOk result (λ least. (ts : List Tree) (ps : List ℕ)
@@ -87,7 +89,8 @@ fn write_row(
     ensures met { OnOk result (AreMet (LeadsTo dfa.now state)
         met.old.states.items met.new.states.items) }
     ensures row { OnOk result ((s : Row) × (writer.new.rows ≡ writer.old.rows ++ s ∷ [])
-        × IsClassRow dfa.now met.old.classes.items met.new.states.items state s) }
+        × IsClassRow dfa.now met.old.classes.items met.new.states.items state s
+        × AreMetInTurn met.old.states.items (edges_of s.tests s.other) met.new.states.items) }
     ensures empty { OnOk result (writer.new.tests ≡ []) }
 {
     let edges = joined_edges(alloc, dfa, state, &met.classes)?;
@@ -235,6 +238,8 @@ impl Met {
             self.old.states.items self.new.states.items) }
         ensures number { IfOk result (λ n. IsNumberOf self.new.classes.items self.new.states.items
             state n) }
+        ensures turn { IfOk result (λ n. AreMetInTurn self.old.states.items (n ∷ [])
+            self.new.states.items) }
     {
         let class = self.classes[state.index()];
         if let Some(number) = self.numbers[class] {

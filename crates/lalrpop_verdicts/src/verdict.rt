@@ -3,8 +3,8 @@ ghost use Rattle.std.specs.Prelude.{◌≡◌, ℕ, ◌<◌, List, Option, Some,
 ghost use Rattle.std.specs.Global.{Global};
 ghost use Rattle.lalrpop_book.specs.Report.{IsFaultOf};
 ghost use Rattle.lalrpop_dfa.specs.Dfa.{Recognizes};
-ghost use Rattle.lalrpop_verdicts.specs.Verdicts.{IsVerdict};
-ghost use Rattle.lalrpop_build.specs.Internal.Expansion.{IsRefusalOf};
+ghost use Rattle.lalrpop_book.specs.Tree.{Tree};
+ghost use Rattle.lalrpop_verdicts.specs.Verdicts.{AreWinners, IsVerdict, words_of};
 ghost use Rattle.lalrpop_verdicts.specs.Internal.WonWords.{IsLeastWon, IsOwn, StaysDead};
 
 use crate::won_word::WonWord;
@@ -62,23 +62,16 @@ fn least_words(alloc: Global, count: usize, dfa: &Dfa) -> Result<Vec<Option<Vec<
     Ok(words)
 }
 
-// What is reported if the pattern with this index was not compiled.
-fn refusal(index: NfaIndex, error: NfaConstructionError) -> DfaConstructionError
-    ensures { IsRefusalOf index error result }
-{
-    match error {
-        NfaConstructionError::OutOfMemory => DfaConstructionError::OutOfMemory,
-        error => DfaConstructionError::NfaConstructionError { index, error },
-    }
-}
-
-// Nothing, if each pattern can be compiled.
+// Nothing, if each pattern can be compiled; otherwise the first fault.
 fn compile_all(alloc: Global, regexs: &[Regex]) -> Result<(), DfaConstructionError>
     ensures err { IfErr result (IsFaultOf regexs.now) }
 {
-    for (index, regex) in regexs.iter().enumerate() {
-        if let Err(error) = Nfa::from_re(alloc, regex) {
-            return Err(refusal(NfaIndex::new(index), error));
+    for (place, regex) in regexs.iter().enumerate() {
+        let index = NfaIndex::new(place);
+        match Nfa::from_re(alloc, regex) {
+            Ok(_) => {}
+            Err(NfaConstructionError::OutOfMemory) => return Err(DfaConstructionError::OutOfMemory),
+            Err(error) => return Err(DfaConstructionError::NfaConstructionError { index, error }),
         }
     }
     Ok(())
@@ -100,6 +93,48 @@ fn own_automaton(alloc: Global, regexs: &[Regex], index: usize) -> Result<Dfa, D
     }
 }
 
+/// Which patterns win words of the pattern `regexs[index]` by the automaton `dfa`: each one's index, with the least word of
+/// `regexs[index]` that it wins. The indices ascend. Words are nonempty pieces of texts. `index` is less than `regexs.len()`.
+///
+/// `dfa` may be the automaton of `regexs` or of another list, and the indices are places in the list that `build_dfa` made it of.
+/// So this also tells what one list makes of the words of another one's pattern. If it makes nothing of them, the answer is empty.
+///
+/// The pattern is built alone, and its automaton is walked beside `dfa`: that costs as many steps as there are pairs of states
+/// that its words lead to.
+///
+/// ```
+/// use lalrpop_lexer::lexer::dfa::{Precedence, build_dfa};
+/// use lalrpop_lexer::lexer::re::parse_regex;
+/// use lalrpop_verdicts::winners;
+///
+/// // A keyword before names, and what this list makes of the words of `i.*`.
+/// let regexs = vec![in alloc; parse_regex(alloc, "if")?, parse_regex(alloc, "[a-z]+")?]?;
+/// let dfa = build_dfa(alloc, &regexs, &[Precedence(1), Precedence(0)])?;
+/// let others = vec![in alloc; parse_regex(alloc, "i.*")?]?;
+/// for winner in winners(alloc, &others, 0, &dfa)? {
+///     let pattern = winner.by.index(); // 0, by the word "if", and then 1, by the word "i"
+/// }
+/// ```
+///
+/// # Errors
+///
+/// Out of memory; or, if `regexs[index]` has a fault, the first pattern of `regexs` that has one.
+pub fn winners(
+    alloc: Global,
+    regexs: &[Regex],
+    index: usize,
+    dfa: &Dfa,
+) -> Result<Vec<WonWord>, DfaConstructionError>
+    requires within { index < length regexs.now }
+    ensures winners { IfOk result (λ found. (ts : List Tree) (ps : List ℕ)
+        → Recognizes dfa.now ts ps → AreWinners (words_of regexs.now index) ts ps found.items) }
+    ensures err { IfErr result (IsFaultOf regexs.now) }
+{
+    let own = own_automaton(alloc, regexs, index)?;
+    let found = won_words(alloc, &own, dfa)?;
+    Ok(found)
+}
+
 // What becomes of a pattern that wins no word.
 fn verdict_without_win(
     alloc: Global,
@@ -112,12 +147,11 @@ fn verdict_without_win(
         → IsLeastWon dfa.now index None → IsVerdict regexs.now ps index v) }
     ensures err { IfErr result (IsFaultOf regexs.now) }
 {
-    let own = own_automaton(alloc, regexs, index)?;
-    let winners = won_words(alloc, &own, dfa)?;
-    if winners.is_empty() {
+    let found = winners(alloc, regexs, index, dfa)?;
+    if found.is_empty() {
         Ok(Verdict::Unmatched)
     } else {
-        Ok(Verdict::Shadowed(winners))
+        Ok(Verdict::Shadowed(found))
     }
 }
 
@@ -147,7 +181,7 @@ fn verdict_without_win(
 ///
 /// # Errors
 ///
-/// Out of memory; or the first pattern that has a fault, which is met only if the automaton isn't that of the patterns.
+/// Out of memory; or the first pattern that has a fault, which is met only if `dfa` is the automaton of another list.
 pub fn verdicts(
     alloc: Global,
     regexs: &[Regex],

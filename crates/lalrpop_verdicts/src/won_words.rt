@@ -44,7 +44,8 @@ fn first_pairs(
 /// For each tree that the right automaton accepts by a nonempty piece of text which the left one accepts too: the tree, and the
 /// least such word. Trees come in ascending order.
 pub(crate) fn won_words(alloc: Global, left: &Dfa, right: &Dfa) -> Result<Vec<WonWord>, AllocError>
-    ensures words { IfOk result (λ found. StaysDead left.now → AreWonWords left.now right.now found.items) }
+    ensures words { IfOk result (λ found. StaysDead left.now
+        → AreWonWords left.now right.now found.items) }
 {
     let pairs = pairs(alloc, left, right, Follow::LeftAlive)?;
     let firsts = first_pairs(alloc, left, right, &pairs)?;

@@ -1,12 +1,12 @@
 -- Cases of specs/Picture.antt.
-use Rattle.std.proofs.Common.{◌≡◌, ◌≢◌, ℕ, List, [], ◌∷◌, ◌++◌, length, get_or, replicate, codes, refl, ap, arith}
+use Rattle.std.proofs.Common.{◌≡◌, ◌≢◌, ℕ, true, false, List, [], ◌∷◌, ◌++◌, length, get_or, replicate, codes, refl, ap, arith}
 use Rattle.std.specs.Prelude.{encode_utf8}
 use Rattle.std.specs.Fmt.{digits}
 use Rattle.std.specs.Str.{chars}
 use Rattle.lalrpop_book.specs.Range.{Range}
 use Rattle.lalrpop_dfa.specs.Dfa.{Row}
 use Rattle.lalrpop_dfa.specs.declared.Kind.TheVariants.{Accepts, Reject, Neither}
-use Rattle.lalrpop_verdicts.specs.Picture.{accepting_line, as_itself, code_text, distinct, dot, edge_line, label, name_character, name_text, range_text, row_edges, shortened, state_line, value_text}
+use Rattle.lalrpop_verdicts.specs.Picture.{accepting_line, as_itself, code_text, distinct, dot, edge_line, is_coded, label, name_character, name_text, range_text, row_edges, shortened, state_line, value_text}
 
 -- ---- characters
 
@@ -51,6 +51,25 @@ range a b = record { start = a; end = b }
 one_two_and_more : (range_text (range 97 97) ≡ codes "a") × (range_text (range 97 98) ≡ codes "ab") × (range_text (range 97 122) ≡ codes "a-z")
 unfolding range_text value_text as_itself lib.Utf8.encode
 one_two_and_more = (refl, refl, refl)
+
+two_codes : range_text (range 0x2028 0x2029) ≡ codes "U+2028-U+2029"
+unfolding range_text value_text code_text digits
+two_codes = refl
+
+a_code_and_a_character : (range_text (range 32 33) ≡ codes "U+0020-!") × (range_text (range 126 127) ≡ codes "~-U+007F")
+unfolding range_text value_text code_text as_itself digits lib.Utf8.encode
+a_code_and_a_character = (refl, refl)
+
+tab_and_line_feed : range_text (range 9 10) ≡ codes "\\\\t\\\\n"
+unfolding range_text value_text
+tab_and_line_feed = refl
+
+just_codes_are_coded : (is_coded 32 ≡ true) × (is_coded 127 ≡ true) × (is_coded 10 ≡ false) × (is_coded 97 ≡ false)
+just_codes_are_coded = (refl, refl, refl, refl)
+
+two_codes_are_not_side_by_side : range_text (range 0x2028 0x2029) ≢ codes "U+2028U+2029"
+unfolding range_text value_text code_text digits
+two_codes_are_not_side_by_side e = let n : 13 ≡ 12 = ap length e in omega (arith, n)
 
 -- a and c to state 1, b to state 2
 abbrev tests : List (Range × ℕ)

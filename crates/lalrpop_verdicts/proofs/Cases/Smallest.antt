@@ -1,14 +1,15 @@
 -- Cases of specs/Smallest.antt: automata of one state and of two without test edges, and of three with edges.
-use Rattle.std.proofs.Common.{◌≡◌, ℕ, zero, suc, ◌<◌, ◌≤◌, ⊎_elim, List, [], ◌∷◌, length, Some, None, refl, sym, ap, ◌∙◌, arith}
+use Rattle.std.proofs.Common.{◌≡◌, ℕ, zero, suc, ◌<◌, ◌≤◌, inl, inr, ⊎_elim, List, [], ◌∷◌, length, Some, None, refl, sym, ap, ◌∙◌, arith}
 use Rattle.std.specs.Prelude.{slice_get}
 use Rattle.std.proofs.lemmas.Bool.{cases_lt}
+use Rattle.std.proofs.lemmas.Option.{slice_get_within}
 use Rattle.lalrpop_book.specs.Range.{Range}
 use Rattle.lalrpop_dfa.specs.Dfa.{Row, after, IsWellFormed}
 use Rattle.lalrpop_dfa.specs.declared.Kind.{Kind}
 use Rattle.lalrpop_dfa.specs.declared.Kind.TheVariants.{Accepts, Reject, Neither}
 use Rattle.lalrpop_dfa.proofs.AfterLaws.{after_within}
 use Rattle.lalrpop_verdicts.specs.Answers.{answer, answer_from, accepted_at}
-use Rattle.lalrpop_verdicts.specs.Smallest.{AnswerAlike, AreFewestTests, HasFewestEdges, IsSmallest, RejectsAtOnce}
+use Rattle.lalrpop_verdicts.specs.Smallest.{AnswerAlike, AreApart, AreFewestTests, AreInOrder, AreNext, HasFewestEdges, IsCanonical, IsSmallest, RejectsAtOnce, edges_of}
 
 -- a state from which all values lead to p
 abbrev state : Kind → ℕ → Row
@@ -140,3 +141,86 @@ two_that_lead_apart = fewest_by_first (edge 97 107 2 ∷ edge 108 122 0 ∷ []) 
 
 others_need_no_edge : ¬ HasFewestEdges (with_edges (edge 97 122 1 ∷ []))
 others_need_no_edge h = h 0 (record { kind = Neither; tests = edge 97 122 1 ∷ []; other = 1; items = [] }) refl refl
+
+-- ---- states that answer alike
+one_state_is_apart : AreApart always
+one_state_is_apart p q l m h = omega (arith, l, m)
+
+two_that_accept_all_are_not : ¬ AreApart in_turn
+two_that_accept_all_are_not h = let same : 0 ≡ 1 = h 0 1 (omega arith) (omega arith) (λ w. (both_accept w).0 ∙ sym (both_accept w).1) in omega (arith, same)
+
+-- ---- numbers in turn: two states are met, and then 0, 2, 1 and 3
+each_new_one_is_the_next : AreNext 2 (0 ∷ 2 ∷ 1 ∷ 3 ∷ []) 4
+each_new_one_is_the_next = inl (omega arith, inr (refl, inl (omega arith, inr (refl, refl))))
+
+a_number_is_left_out : ¬ AreNext 2 (0 ∷ 3 ∷ []) 4
+a_number_is_left_out (inl (l, inl g)) = omega (arith, g.0)
+a_number_is_left_out (inl (l, inr g)) = omega (arith, g.0)
+a_number_is_left_out (inr g) = omega (arith, g.0)
+
+the_other_edge_comes_last : edges_of (edge 97 122 2 ∷ []) 1 ≡ 2 ∷ 1 ∷ []
+the_other_edge_comes_last = refl
+
+-- ---- the order of a walk: a to z lead to one state, and all other values to another
+one_state_is_in_order : AreInOrder always
+one_state_is_in_order = record {
+  met = λ p. 1;
+  first = refl;
+  before = λ p r e. omega (arith, slice_get_within always p r e);
+  each = λ p r e. rw (← the_row p r e) (inl (omega arith, refl));
+}
+
+abbrev letters_to : ℕ → ℕ → List Row
+letters_to p other = record { kind = Neither; tests = edge 97 122 p ∷ []; other = other; items = [] } ∷ state Neither 1 ∷ state Neither 2 ∷ []
+
+abbrev met_by_letters : ℕ → ℕ
+met_by_letters zero = 1
+met_by_letters (suc p) = 3
+
+letters_come_first : AreInOrder (letters_to 1 2)
+letters_come_first = record { met = met_by_letters; first = refl; before = before; each = each }
+  where
+    before : (p : ℕ) (r : Row) → slice_get (letters_to 1 2) p ≡ Some r → p < met_by_letters p
+    before zero r e = omega arith
+    before (suc p) r e = omega (arith, slice_get_within (letters_to 1 2) (suc p) r e)
+
+    each : (p : ℕ) (r : Row) → slice_get (letters_to 1 2) p ≡ Some r → AreNext (met_by_letters p) (edges_of r.tests r.other) (met_by_letters (suc p))
+    each zero r e = let same : record { kind = Neither; tests = edge 97 122 1 ∷ []; other = 2; items = [] } ≡ r = cc in rw (← same) (inr (refl, inr (refl, refl)))
+    each (suc zero) r e = let same : state Neither 1 ≡ r = cc in rw (← same) (inl (omega arith, refl))
+    each (suc (suc zero)) r e = let same : state Neither 2 ≡ r = cc in rw (← same) (inl (omega arith, refl))
+    each (suc (suc (suc p))) r e = absurd (let none : None ≡ Some r = e in cc)
+
+all_others_do_not : ¬ AreInOrder (letters_to 2 1)
+all_others_do_not h = not_next (h.met 0) (h.met 1) h.first (h.each 0 (record { kind = Neither; tests = edge 97 122 2 ∷ []; other = 1; items = [] }) refl)
+  where
+    not_next : (n m : ℕ) → n ≡ 1 → ¬ AreNext n (2 ∷ 1 ∷ []) m
+    not_next n m first (inl g) = omega (arith, g.0, first)
+    not_next n m first (inr g) = omega (arith, g.0, first)
+
+-- a state that no edge leads to
+a_state_is_not_met : ¬ AreInOrder (state Neither 0 ∷ state Neither 1 ∷ [])
+a_state_is_not_met h = not_met (h.met 0) (h.met 1) h.first (h.each 0 (state Neither 0) refl) (h.before 1 (state Neither 1) refl)
+  where
+    not_met : (n m : ℕ) → n ≡ 1 → AreNext n (0 ∷ []) m → ¬ (1 < m)
+    not_met n m first (inl g) l = omega (arith, g.1, first, l)
+    not_met n m first (inr g) l = omega (arith, g.0, first)
+
+-- ---- one of a kind
+always_is_canonical : IsCanonical always
+always_is_canonical = record {
+  well_formed = always_fits;
+  rejects = λ p r e. rw (← the_row p r e) (λ k. absurd (let clash : Accepts 0 ≡ Reject = k in cc), λ dead. absurd (no_answer_is_none 0 (sym (always_accepts []) ∙ at_state p r e dead)));
+  edges = λ p r e. rw (← the_row p r e) tt;
+  apart = one_state_is_apart;
+  order = one_state_is_in_order;
+}
+  where
+    at_state : (p : ℕ) (r : Row) → slice_get always p ≡ Some r → ((w : List ℕ) → answer_from always p w ≡ None) → answer_from always 0 [] ≡ None
+    at_state zero r e dead = dead []
+    at_state (suc p) r e dead = absurd (let none : None ≡ Some r = e in cc)
+
+in_turn_is_not : ¬ IsCanonical in_turn
+in_turn_is_not h = two_that_accept_all_are_not h.apart
+
+waiting_in_vain_is_not : ¬ IsCanonical waits_in_vain
+waiting_in_vain_is_not h = it_does_not_reject h.rejects

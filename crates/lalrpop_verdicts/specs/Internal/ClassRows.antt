@@ -1,10 +1,11 @@
 -- The automaton of the classes of states that answer alike: of each class one state, by the state by which a walk met it first.
-use Rattle.std.specs.Prelude.{◌≡◌, ℕ, ◌<◌, ◌≤◌, ◌↔◌, List, [], ◌∷◌, ◌++◌, ◌+◌, ◌⊎◌, length, slice_get, slice_index, Option, Some, None}
+use Rattle.std.specs.Prelude.{◌≡◌, ℕ, suc, ◌<◌, ◌≤◌, ◌↔◌, List, [], ◌∷◌, ◌++◌, ◌+◌, ◌⊎◌, length, slice_get, slice_index, Option, Some, None}
 use Rattle.lalrpop_book.specs.Range.{Range}
 use Rattle.lalrpop_dfa.specs.Dfa.{Row, edge_target, step, after, AreAscendingTests}
 use Rattle.lalrpop_dfa.specs.declared.Kind.{Kind}
 use Rattle.lalrpop_dfa.specs.declared.Kind.TheVariants.{Reject}
 use Rattle.lalrpop_verdicts.specs.Answers.{accepted_by, answer_from}
+use Rattle.lalrpop_verdicts.specs.Smallest.{AreNext, edges_of}
 
 -- the states met so far, each of another class: its place among them is the number of its class
 pub record AreNumbered (classes : List ℕ) (numbers : List (Option ℕ)) (states : List ℕ) : Type 0 where
@@ -87,6 +88,27 @@ pub record IsClassRow (d : List Row) (classes states : List ℕ) (p : ℕ) (s : 
   pub other : IsNumberOf classes states row.other s.other
   pub kind : IsClassKind d classes p s.kind
 
+-- ---- numbers in the order of a breadth first walk
+-- where the tests lead, in their order
+abbrev pub targets_of : List (Range × ℕ) → List ℕ
+targets_of [] = []
+targets_of (t ∷ ts) = t.1 ∷ targets_of ts
+
+-- the numbers were looked up one after another: the old states were met before the first of them, and the new ones are met
+-- behind the last. A state that wasn't met before got the next number
+abbrev pub AreMetInTurn : List ℕ → List ℕ → List ℕ → Type 0
+AreMetInTurn old numbers new = AreNext (length old) numbers (length new)
+
+-- the rows so far are in order, and `count` states are met behind the last of them
+pub record AreRowsInOrder (rows : List Row) (count : ℕ) : Type 0 where
+  -- how many were met before each row was looked at, and behind the last
+  pub met : List ℕ
+  pub same_length : length met ≡ length rows + 1
+  pub first : slice_index met 0 ≡ 1
+  pub last : slice_index met (length rows) ≡ count
+  pub before : (p : ℕ) → p < length rows → p < slice_index met p
+  pub each : (p : ℕ) (s : Row) → slice_get rows p ≡ Some s → AreNext (slice_index met p) (edges_of s.tests s.other) (slice_index met (suc p))
+
 -- the states that a walk from state 0 has met, one of each class, and the rows of the first of them
 pub record IsWalk (d : List Row) (classes states : List ℕ) (rows : List Row) : Type 0 where
   pub some : 0 < length states
@@ -95,6 +117,7 @@ pub record IsWalk (d : List Row) (classes states : List ℕ) (rows : List Row) :
   pub apart : (i j : ℕ) → i < length states → j < length states → slice_index classes (slice_index states i) ≡ slice_index classes (slice_index states j) → i ≡ j
   pub reached : (i : ℕ) → i < length states → (w : List ℕ) × (after d w ≡ slice_index states i)
   pub few : length rows ≤ length states
+  pub order : AreRowsInOrder rows (length states)
   pub each : (i : ℕ) (s : Row) → slice_get rows i ≡ Some s → IsClassRow d classes states (slice_index states i) s
 
 -- a row for each class that some word leads into

@@ -1,8 +1,8 @@
 -- States that answer alike, in classes.
-use Rattle.std.specs.Prelude.{◌≡◌, ◌≢◌, ℕ, ◌+◌, ◌<◌, ◌≤◌, ◌↔◌, Bool, List, [], ◌∷◌, map, length, slice_get, slice_index, slice_index_or, nat_eq, Option, Some, None, Vec, IsTrue}
+use Rattle.std.specs.Prelude.{◌≡◌, ◌≢◌, ℕ, ◌+◌, ◌<◌, ◌≤◌, ◌↔◌, Bool, List, [], ◌∷◌, map, length, slice_get, slice_index, slice_index_or, nat_eq, ◌&&◌, Option, Some, None, Vec, IsTrue}
 use Rattle.std.specs.Cmp.Lexicographic.{pointwise}
 use Rattle.std.specs.Global.{Global}
-use Rattle.std.specs.HashMap.{HashMap, get}
+use Rattle.std.specs.HashMap.{HashMap, get, Updates}
 use Rattle.std.specs.HashSet.{HashSet, contains}
 use Rattle.std.specs.List.{Contains}
 use Rattle.std.specs.Option.{option_to_list}
@@ -85,3 +85,35 @@ IsMore old new = (c : ℕ) → Contains old c → Contains new c
 pub record AreTried (d : List Row) (values : List ℕ) : Type 0 where
   pub beyond : (p : ℕ) → p < length d → step d p 4294967296 ≡ other_at d p
   pub all : (c : ℕ) → (b : ℕ) × (Contains (4294967296 ∷ values) b × ((p : ℕ) → p < length d → step d p c ≡ step d p b))
+
+-- each place has a first one: none behind it, and one that is its own first
+pub record AreFirstPlaces (firsts : List ℕ) : Type 0 where
+  pub least : (p : ℕ) → p < length firsts → slice_index firsts p ≤ p
+  pub own : (p : ℕ) → p < length firsts → slice_index firsts (slice_index firsts p) ≡ slice_index firsts p
+
+-- places that have one first place stay together just if they have one key
+pub record AreSplit (firsts keys parts : List ℕ) : Type 0 where
+  pub same_length : length parts ≡ length firsts
+  pub places : AreFirstPlaces parts
+  pub same_first : (p : ℕ) → p < length firsts → slice_index firsts (slice_index parts p) ≡ slice_index firsts p
+  pub same_key : (p : ℕ) → p < length firsts → slice_index keys (slice_index parts p) ≡ slice_index keys p
+  pub together : (p q : ℕ) → p < length firsts → q < length firsts → slice_index firsts p ≡ slice_index firsts q → slice_index keys p ≡ slice_index keys q → slice_index parts p ≡ slice_index parts q
+
+abbrev pub pair_eq : ℕ × ℕ → ℕ × ℕ → Bool
+pair_eq x y = nat_eq x.0 y.0 && nat_eq x.1 y.1
+
+-- the first place of the part: `first`, if that has the key of this place; or else the one that the map has, where this place is added if there is none
+pub data IsPart {S : Type 0} (keys : List ℕ) (first place found : ℕ) (old new : HashMap (ℕ × ℕ) ℕ S) : Type 0 where
+  stays : slice_index keys first ≡ slice_index keys place → found ≡ first → new ≡ old → IsPart keys first place found old new
+  known : slice_index keys first ≢ slice_index keys place → get pair_eq old (first, slice_index keys place) ≡ Some found → new ≡ old → IsPart keys first place found old new
+  added : slice_index keys first ≢ slice_index keys place → get pair_eq old (first, slice_index keys place) ≡ None → found ≡ place → Updates pair_eq old new (first, slice_index keys place) (Some place) → IsPart keys first place found old new
+
+-- each value leads from the first n states to where the value at its first place leads
+pub record AreColumns (d : List Row) (n : ℕ) (values firsts : List ℕ) : Type 0 where
+  pub same_length : length firsts ≡ length values
+  pub places : AreFirstPlaces firsts
+  pub alike : (k p : ℕ) → k < length values → p < n → step d p (slice_index values (slice_index firsts k)) ≡ step d p (slice_index values k)
+
+-- each of the first n values that has no other first place is kept
+abbrev pub HasFirsts : ℕ → List ℕ → List ℕ → List ℕ → Type 0
+HasFirsts n values firsts kept = (k : ℕ) → k < n → slice_index firsts k ≡ k → Contains kept (slice_index values k)

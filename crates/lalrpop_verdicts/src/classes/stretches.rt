@@ -1,11 +1,14 @@
 //! Stretches of values, in each of which a state leads to one state.
 
-ghost use Rattle.std.specs.Prelude.{◌≡◌, ℕ, List, ◌<◌, length, IfOk, OnOk};
+ghost use Rattle.std.specs.Prelude.{◌≡◌, ℕ, List, ◌<◌, length, map, IfOk, OnOk};
 ghost use Rattle.std.specs.List.{Contains};
+ghost use Rattle.std.specs.List.Sorted.{IsNonDecreasing};
 ghost use Rattle.lalrpop_book.specs.Range.{Range};
-ghost use Rattle.lalrpop_dfa.specs.Dfa.{IsWellFormed};
-ghost use Rattle.lalrpop_verdicts.specs.Internal.Classes.{AreLeads, AreListed, AreTried, IsBounded, IsMore, leads_of};
+ghost use Rattle.lalrpop_dfa.specs.Dfa.{AreAscendingTests, IsWellFormed, edge_target, step};
+ghost use Rattle.lalrpop_dfa.specs.Internal.Stored.{EndBefore};
+ghost use Rattle.lalrpop_verdicts.specs.Internal.Classes.{AreColumns, AreLeads, AreListed, AreTried, HasFirsts, IsBounded, IsMore, leads_of};
 
+use super::split::split;
 use lalrpop_dfa::{Dfa, DfaStateIndex};
 use lalrpop_nfa::Test;
 use std::alloc::{AllocError, Global};
@@ -63,8 +66,78 @@ impl Distinct {
     }
 }
 
-/// A value of each stretch: where it leads, each value of its stretch leads.
-pub(super) fn stretches(alloc: Global, dfa: &Dfa) -> Result<Vec<u32>, AllocError>
+// Where the value leads. The place moves on to the first edge that doesn't end before the value.
+fn walk_to(
+    value: u32,
+    edges: &[(Test, DfaStateIndex)],
+    other: DfaStateIndex,
+    place: &mut usize,
+) -> DfaStateIndex
+    requires ascending { AreAscendingTests edges.now }
+    requires passed { EndBefore edges.now place.old value }
+    ensures leads { result ≡ edge_target edges.now other value }
+    ensures passed { EndBefore edges.now place.new value }
+{
+    while *place < edges.len() && edges[*place].0.end() < value {
+        *place += 1;
+    }
+    match edges.get(*place) {
+        Some((test, target)) if test.start() <= value => *target,
+        _ => other,
+    }
+}
+
+// Where these values lead from the state. They ascend, so its edges are walked along once.
+fn targets_along(
+    alloc: Global,
+    dfa: &Dfa,
+    state: DfaStateIndex,
+    values: &[u32],
+) -> Result<Vec<usize>, AllocError>
+    requires within { state < length dfa.now }
+    requires ascending { IsNonDecreasing values.now }
+    ensures { IfOk result (λ targets. targets.items ≡ map (step dfa.now state) values.now) }
+{
+    let edges = dfa.test_edges(state);
+    let other = dfa.state(state).other_edge();
+    let mut place = 0;
+    let mut targets = Vec::with_capacity(alloc, values.len())?;
+    for value in values {
+        targets.push(walk_to(*value, edges, other, &mut place).index())?;
+    }
+    Ok(targets)
+}
+
+// For each value the place of one that leads alike from all states.
+fn alike(alloc: Global, dfa: &Dfa, values: &[u32]) -> Result<Vec<usize>, AllocError>
+    requires ascending { IsNonDecreasing values.now }
+    ensures { IfOk result (λ firsts. AreColumns dfa.now (length dfa.now) values.now firsts.items) }
+{
+    let mut firsts = vec![in alloc; 0; values.len()]?;
+    for number in 0..dfa.states().len() {
+        let targets = targets_along(alloc, dfa, DfaStateIndex::new(number), values)?;
+        let parts = split(alloc, &firsts, &targets)?;
+        firsts = parts;
+    }
+    Ok(firsts)
+}
+
+// The values that are the first of those that lead as they do.
+fn first_values(alloc: Global, values: &[u32], firsts: &[usize]) -> Result<Vec<u32>, AllocError>
+    requires { length firsts.now ≡ length values.now }
+    ensures { IfOk result (λ kept. HasFirsts (length firsts.now) values.now firsts.now kept.items) }
+{
+    let mut kept = Vec::new(alloc);
+    for place in 0..firsts.len() {
+        if firsts[place] == place {
+            kept.push(values[place])?;
+        }
+    }
+    Ok(kept)
+}
+
+// A value of each stretch: where it leads, each value of its stretch leads.
+fn bounds(alloc: Global, dfa: &Dfa) -> Result<Vec<u32>, AllocError>
     ensures tried { IfOk result (λ values. AreTried dfa.now values.items) }
     ensures well_formed { OnOk result (IsWellFormed dfa.now) }
 {
@@ -80,6 +153,17 @@ pub(super) fn stretches(alloc: Global, dfa: &Dfa) -> Result<Vec<u32>, AllocError
     Ok(values)
 }
 
+/// A value of each stretch: where it leads, each value of its stretch leads. Stretches that lead alike from all states are one.
+pub(super) fn stretches(alloc: Global, dfa: &Dfa) -> Result<Vec<u32>, AllocError>
+    ensures tried { IfOk result (λ values. AreTried dfa.now values.items) }
+    ensures well_formed { OnOk result (IsWellFormed dfa.now) }
+{
+    let mut values = bounds(alloc, dfa)?;
+    values.sort_unstable();
+    let firsts = alike(alloc, dfa, &values)?;
+    first_values(alloc, &values, &firsts)
+}
+
 // The state itself, then where values beyond all test edges lead, then where these values lead.
 fn leads_from(
     alloc: Global,
@@ -90,7 +174,7 @@ fn leads_from(
     requires { state < length dfa.now }
     ensures { IfOk result (λ row. row.items ≡ leads_of dfa.now values.now state) }
 {
-    let mut row = Vec::with_capacity(alloc, values.len())?;
+    let mut row = Vec::with_capacity(alloc, values.len() + 2)?;
     row.push(state.index())?;
     row.push(dfa.state(state).other_edge().index())?;
     for value in values {
@@ -103,7 +187,7 @@ fn leads_from(
 pub(super) fn leads(alloc: Global, dfa: &Dfa, values: &[u32]) -> Result<Vec<Vec<usize>>, AllocError>
     ensures { IfOk result (λ table. AreLeads dfa.now values.now table.items) }
 {
-    let mut table = Vec::new(alloc);
+    let mut table = Vec::with_capacity(alloc, dfa.states().len())?;
     for number in 0..dfa.states().len() {
         table.push(leads_from(alloc, dfa, DfaStateIndex::new(number), values)?)?;
     }

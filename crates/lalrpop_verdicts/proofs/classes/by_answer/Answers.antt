@@ -11,8 +11,8 @@ loop-state-preserved c =
     let states = c.states-state-items.result.now in
     let n = c.loop-state.state-index in
     let item = c.state-item.result in
-    let row : c.in_ok-accepted.field-0.items ≡ stored_row item = c.in_ok-accepted.ensures ∙ ap (λ k. option_to_list (accepted_by k)) c.kind.ensures.kind in
-    push_row stored_row states n c.push.new.self.known c.push.new.self.places.items item c.in_ok-accepted.field-0.items c.loop-state-test.true c.state-item.is row
+    let row : c.in_ok-answer_of.field-0.items ≡ stored_row item = c.in_ok-answer_of.ensures ∙ ap (λ k. option_to_list (accepted_by k)) c.kind.ensures.kind in
+    push_row stored_row states n c.push.new.self.known c.push.new.self.places.items item c.in_ok-answer_of.field-0.items c.loop-state-test.true c.state-item.is row
     (c.in_ok-push.ensures (map stored_row (take n states)) c.loop-state.invariant)
 
 pub returns : goal.returns

@@ -1,7 +1,27 @@
-use Rattle.std.proofs.Common.{◌≡◌, ◌<◌, ◌≤◌, ◌+◌, ◌∙◌, List, ℕ, length, slice_index, ap, subst, arith}
-use Rattle.lalrpop_verdicts.specs.Internal.ClassRows.{AreNumbered, IsClassRow}
-use Rattle.lalrpop_verdicts.proofs.ClassWalks.{pushed_length, read_index, walk_few, walk_more}
+use Rattle.std.proofs.Common.{◌≡◌, ◌<◌, ◌≤◌, ◌+◌, ◌∙◌, ◌∷◌, [], List, ℕ, length, slice_index, ap, subst, arith}
+use Rattle.lalrpop_verdicts.specs.Internal.ClassRows.{AreMet, AreMetInTurn, AreNumbered, IsClassRow, IsNumberOf}
+use Rattle.lalrpop_verdicts.proofs.ClassWalks.{read_index, walk_few, walk_more, walk_start}
+use Rattle.lalrpop_verdicts.proofs.PushedNumbers.{pushed_length}
 use Rattle.lalrpop_verdicts.proofs.smallest.class_rows.Goals as goal
+
+pub loop-alloc-init : goal.loop-alloc-init
+loop-alloc-init c =
+    let classes = c.args.classes.items in
+    let numbers = c.number.new.self.numbers.items in
+    let states = c.number.new.self.states.items in
+    let n = c.in_ok-number.field-0 in
+    let none = c.in_ok-met.ensures.none in
+    let same_classes = c.in_ok-number.ensures.classes ∙ c.in_ok-met.ensures.classes in
+    let numbered = subst (λ (cs : List ℕ). AreNumbered cs numbers states) same_classes c.in_ok-number.ensures.numbered in
+    let met : AreMet (λ q. q ≡ 0) [] states = subst (λ (old : List ℕ). AreMet (λ q. q ≡ 0) old states) none c.in_ok-number.ensures.met in
+    let first : IsNumberOf classes states 0 n = subst (λ (cs : List ℕ). IsNumberOf cs states 0 n) same_classes c.in_ok-number.ensures.number in
+    let turn : AreMetInTurn [] (n ∷ []) states = subst (λ (old : List ℕ). AreMetInTurn old (n ∷ []) states) none c.in_ok-number.ensures.turn in
+    record {
+      classes = same_classes;
+      numbered = numbered;
+      walk = rw c.new-writer.ensures.rows (walk_start c.args.dfa.now classes numbers states c.requires.classes numbered met n first turn);
+      empty = c.new-writer.ensures.tests;
+    }
 
 pub loop-alloc-smaller : goal.loop-alloc-smaller
 loop-alloc-smaller c =
@@ -33,6 +53,6 @@ loop-alloc-preserved c =
     record {
       classes = same_classes;
       numbered = numbered;
-      walk = rw row.1 (walk_more d classes numbers old new rows p row.0 c.requires.classes i.walk numbered l is c.in_ok-write_row.ensures.met here);
+      walk = rw row.1 (walk_more d classes numbers old new rows p row.0 c.requires.classes i.walk numbered l is c.in_ok-write_row.ensures.met here row.3);
       empty = c.in_ok-write_row.ensures.empty;
     }

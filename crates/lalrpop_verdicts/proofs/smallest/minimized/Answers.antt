@@ -1,8 +1,8 @@
 use Rattle.std.proofs.Common.{List, sym, subst}
 use Rattle.std.proofs.lemmas.Result.{IfOk-weaker}
 use Rattle.lalrpop_dfa.specs.Dfa.{Row}
-use Rattle.lalrpop_verdicts.specs.Smallest.{AnswerAlike, HasFewestEdges, IsSmallest, RejectsAtOnce}
-use Rattle.lalrpop_verdicts.proofs.ClassAutomata.{alike_recognizes, alike_recognizes_all, class_alike, class_fewest, class_rejects, class_smallest, class_well}
+use Rattle.lalrpop_verdicts.specs.Smallest.{AnswerAlike, IsCanonical, IsSmallest}
+use Rattle.lalrpop_verdicts.proofs.ClassAutomata.{alike_recognizes, alike_recognizes_all, class_alike, class_canonical, class_rejects, class_smallest, class_well}
 use Rattle.lalrpop_verdicts.proofs.smallest.minimized.Goals as goal
 
 pub new-requires : goal.new-requires
@@ -23,17 +23,11 @@ returns-clause-smallest c =
     let smallest = class_smallest c.args.dfa.now c.in_ok-found.found.items w.0 c.in_ok-rows.rows c.in_ok-rows.ensures.well_formed c.in_ok-found.ensures.classes w.1.0 w.1.1 in
     IfOk-weaker c.new.result _ _ (λ least same. subst (λ (e : List Row). IsSmallest e) (sym same) smallest) c.new.ensures
 
-pub returns-clause-rejects : goal.returns-clause-rejects
-returns-clause-rejects c =
+pub returns-clause-canonical : goal.returns-clause-canonical
+returns-clause-canonical c =
     let w = c.in_ok-rows.ensures.rows in
-    let rejects = class_rejects c.args.dfa.now c.in_ok-found.found.items w.0 c.in_ok-rows.rows c.in_ok-rows.ensures.well_formed c.in_ok-found.ensures.classes w.1.0 w.1.1 in
-    IfOk-weaker c.new.result _ _ (λ least same. subst (λ (e : List Row). RejectsAtOnce e) (sym same) rejects) c.new.ensures
-
-pub returns-clause-edges : goal.returns-clause-edges
-returns-clause-edges c =
-    let w = c.in_ok-rows.ensures.rows in
-    let fewest = class_fewest c.args.dfa.now c.in_ok-found.found.items w.0 c.in_ok-rows.rows c.in_ok-rows.ensures.well_formed c.in_ok-found.ensures.classes w.1.0 w.1.1 in
-    IfOk-weaker c.new.result _ _ (λ least same. subst (λ (e : List Row). HasFewestEdges e) (sym same) fewest) c.new.ensures
+    let canonical = class_canonical c.args.dfa.now c.in_ok-found.found.items w.0 c.in_ok-rows.rows c.in_ok-rows.ensures.well_formed c.in_ok-found.ensures.classes w.1.0 w.1.1 in
+    IfOk-weaker c.new.result _ _ (λ least same. subst (λ (e : List Row). IsCanonical e) (sym same) canonical) c.new.ensures
 
 pub returns-clause-recognizes : goal.returns-clause-recognizes
 returns-clause-recognizes c =

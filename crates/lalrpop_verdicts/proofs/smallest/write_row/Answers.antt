@@ -5,6 +5,7 @@ use Rattle.lalrpop_book.specs.Range.{Range}
 use Rattle.lalrpop_dfa.specs.Dfa.{Row}
 use Rattle.lalrpop_dfa.proofs.EdgeTargets.{at_place, the_some}
 use Rattle.lalrpop_verdicts.specs.Internal.ClassRows.{AreJoined, AreNumbered, IsClassKind, IsNumberOf, LeadAlike, LeadsTo}
+use Rattle.lalrpop_verdicts.proofs.ClassOrder.{edges_in_turn, test_in_turn}
 use Rattle.lalrpop_verdicts.proofs.ClassWalks.{led_by_other, met_then, met_weaker, range_same, tests_kept, tests_push}
 use Rattle.lalrpop_verdicts.proofs.JoinedTests.{joined_led, of_row}
 use Rattle.lalrpop_verdicts.proofs.smallest.write_row.Goals as goal
@@ -51,6 +52,7 @@ loop-test-preserved c =
           (met_weaker (λ q. q ≡ t.1) (LeadsTo d p) before after (λ q e. subst (LeadsTo d p) (sym e) led) c.in_ok-number.ensures.met);
       rows = c.in_ok-add_edge.ensures.rows ∙ i.rows;
       tests = rw (more, c.in_ok-add_edge.ensures.tests) (tests_push classes after (take k ts) c.loop-test.writer.tests t (label, number) kept same_label is);
+      turn = rw c.in_ok-add_edge.ensures.tests (test_in_turn c.args.met.now.states.items before after c.loop-test.writer.tests (label, number) i.turn c.in_ok-number.ensures.turn);
     }
 
 pub returns-clause-met : goal.returns-clause-met
@@ -98,4 +100,5 @@ returns-clause-row c =
         other = is;
         kind = kind;
       },
+      edges_in_turn c.args.met.now.states.items before after us c.in_ok-other.other i.turn c.in_ok-other.ensures.turn,
     )

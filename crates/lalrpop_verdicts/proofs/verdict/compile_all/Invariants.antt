@@ -1,5 +1,9 @@
-use Rattle.lalrpop_build.specs.Internal.Expansion.{NoFaultBefore}
+use Rattle.std.proofs.Common.{◌≡◌, ◌<◌, ℕ, Some, None}
+use Rattle.std.specs.Prelude.{slice_get}
+use Rattle.lalrpop_book.specs.Fault.{fault}
+use Rattle.lalrpop_book.specs.Tree.{Tree}
 use Rattle.lalrpop_verdicts.proofs.verdict.compile_all.Given as goal
 
-abbrev pub invariant-loop-index : goal.invariant-loop-index
-invariant-loop-index l = NoFaultBefore l.regexs l.index
+-- the patterns before this one have no fault
+abbrev pub invariant-loop-place : goal.invariant-loop-place
+invariant-loop-place l = (j : ℕ) (t : Tree) → j < l.place → slice_get l.regexs j ≡ Some t → fault t ≡ None

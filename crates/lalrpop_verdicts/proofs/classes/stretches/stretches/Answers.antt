@@ -1,22 +1,23 @@
-use Rattle.std.proofs.Common.{◌≡◌, length, subst, arith}
-use Rattle.std.specs.Prelude.{slice_get, IsSomeAnd}
-use Rattle.lalrpop_verdicts.proofs.StretchLaws.{HaveBounds, bounds_more, tried_of}
+use Rattle.std.proofs.Common.{List, ℕ, length, subst, sym}
+use Rattle.std.specs.List.Sorted.{IsNonDecreasing}
+use Rattle.std.proofs.lemmas.List.Sorted.{IsNonDecreasingBy-from_sort}
+use Rattle.std.proofs.lemmas.Result.{IfOk-weaker}
+use Rattle.lalrpop_verdicts.specs.Internal.Classes.{AreColumns, HasFirsts}
+use Rattle.lalrpop_verdicts.proofs.StretchLaws.{tried_firsts}
 use Rattle.lalrpop_verdicts.proofs.classes.stretches.stretches.Goals as goal
 
-pub loop-number-preserved : goal.loop-number-preserved
-loop-number-preserved c =
-    let d = c.args.dfa.now in
-    let edges = c.test_edges.result.now in
-    let tests : IsSomeAnd (slice_get d c.loop-number.number) (λ r. edges ≡ r.tests) =
-    subst (λ n. IsSomeAnd (slice_get d n) (λ r. edges ≡ r.tests)) c.new-in-loop-number.ensures.value c.test_edges.ensures.tests in
-    record {
-      listed = c.in_ok-add_bounds.ensures.listed;
-      bounds = bounds_more d c.loop-number.number c.loop-number.bounds.values.items c.add_bounds.new.self.values.items edges c.loop-number.invariant.bounds c.in_ok-add_bounds.ensures.more tests c.in_ok-add_bounds.ensures.bounded;
-    }
+pub alike-requires : goal.alike-requires
+alike-requires c = record {
+  ascending = subst (λ (xs : List ℕ). IsNonDecreasing xs) (sym c.deref.ensures.value) (IsNonDecreasingBy-from_sort (λ (x : ℕ). x) c.sort_unstable.new.self.items c.sort_unstable.ensures.sorted);
+}
 
 pub returns-clause-tried : goal.returns-clause-tried
 returns-clause-tried c =
     let d = c.args.dfa.now in
-    let values = c.loop-number.bounds.values.items in
-    let all : c.loop-number.number ≡ length d = omega (arith, c.loop-number-test.false, c.states-number-end.ensures.states.same_length) in
-    tried_of d values (subst (λ n. HaveBounds d n values) all c.loop-number.invariant.bounds)
+    let sorted = c.sort_unstable.new.self.items in
+    let firsts = c.in_ok-firsts.firsts.items in
+    let columns : AreColumns d (length d) sorted firsts = subst (λ (xs : List ℕ). AreColumns d (length d) xs firsts) c.deref.ensures.value c.in_ok-firsts.ensures in
+    IfOk-weaker c.first_values.result _ _
+    (λ kept has.
+    let here = subst (λ (xs : List ℕ). HasFirsts (length firsts) xs firsts kept.items) c.deref-2.ensures.value (subst (λ (xs : List ℕ). HasFirsts (length xs) c.deref-2.result.now xs kept.items) c.deref-3.ensures.value has) in
+    tried_firsts d c.in_ok-values.values.items sorted firsts kept.items c.in_ok-values.ensures.tried c.sort_unstable.ensures.permutation columns here) c.first_values.ensures

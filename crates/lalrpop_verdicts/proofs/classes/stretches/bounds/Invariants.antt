@@ -1,6 +1,6 @@
 use Rattle.lalrpop_verdicts.specs.Internal.Classes.{AreListed}
 use Rattle.lalrpop_verdicts.proofs.StretchLaws.{HaveBounds}
-use Rattle.lalrpop_verdicts.proofs.classes.stretches.stretches.Given as goal
+use Rattle.lalrpop_verdicts.proofs.classes.stretches.bounds.Given as goal
 
 abbrev pub invariant-loop-number : goal.invariant-loop-number
 invariant-loop-number l = record {

@@ -1,0 +1,5 @@
+use Rattle.lalrpop_verdicts.specs.Internal.Classes.{AreColumns}
+use Rattle.lalrpop_verdicts.proofs.classes.stretches.alike.Given as goal
+
+abbrev pub invariant-loop-number : goal.invariant-loop-number
+invariant-loop-number l = AreColumns l.dfa l.number l.values l.firsts.items
