@@ -1,0 +1,3 @@
+-- Small cases of the definitions in specs/: Cases/X.antt has those of specs/X.antt.
+mod Apart
+mod Review

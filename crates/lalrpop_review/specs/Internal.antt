@@ -1,0 +1,4 @@
+-- What private functions promise each other.
+pub mod Kinds
+pub mod Idle
+pub mod Meanings

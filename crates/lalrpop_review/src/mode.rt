@@ -1,0 +1,61 @@
+//! The review of one mode.
+ghost use Rattle.std.specs.Prelude.{◌<◌, IfOk};
+ghost use Rattle.lalrpop_review.specs.Review.{IsLeastCount, IsModeReview};
+
+use crate::idle::IdleRule;
+use crate::idle_rules::idle_rules;
+use crate::look::{Look, look_of};
+use lalrpop_lexer::lexer::dfa::Dfa;
+use lalrpop_modes::ModeLexer;
+use lalrpop_verdicts::minimized;
+use std::alloc::{AllocError, Global};
+
+/// What is to say of the rules of one mode.
+///
+/// ```
+/// use lalrpop_review::ModeReview;
+///
+/// let is_smallest = review.states == review.least_states;
+/// ```
+#[derive(Debug, Drop)]
+pub struct ModeReview {
+    /// The rules that belong to the mode and never win there, ascending.
+    pub idle: Vec<IdleRule>,
+    /// The number of states of its automaton.
+    pub states: usize,
+    /// The least number of states of an automaton that answers each word alike.
+    pub least_states: usize,
+    /// How far past a token it reads.
+    pub look: Look,
+}
+
+// How many states the smallest automaton has that answers each word alike.
+fn least_count(alloc: Global, dfa: &Dfa) -> Result<usize, AllocError>
+    ensures least { IfOk result (IsLeastCount dfa.now) }
+{
+    let least = minimized(alloc, dfa)?;
+    Ok(least.states().len())
+}
+
+/// The review of the mode.
+pub(crate) fn mode_review(
+    alloc: Global,
+    lexer: &ModeLexer,
+    mode: usize,
+) -> Result<ModeReview, AllocError>
+    requires there { mode < lexer.now.modes }
+    ensures review { IfOk result (IsModeReview lexer.now mode) }
+{
+    let here = lexer.lexer(mode);
+    let dfa = here.dense().dfa();
+    let idle = idle_rules(alloc, lexer, mode)?;
+    let states = dfa.states().len();
+    let least_states = least_count(alloc, dfa)?;
+    let look = look_of(alloc, here)?;
+    Ok(ModeReview {
+        idle,
+        states,
+        least_states,
+        look,
+    })
+}
