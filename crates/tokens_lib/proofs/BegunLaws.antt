@@ -1,6 +1,6 @@
 -- What was written before an error: a prefix of an answer, or nothing.
 use Rattle.std.proofs.Common.{Global, ◌≡◌, ◌≢◌, ℕ, ◌+◌, ◌<◌, get_or, Bool, inl, inr, List, [], ◌++◌, length, take, drop, map, string_bytes, refl, sym, ap, subst, ◌∙◌}
-use Rattle.std.specs.Prelude.{Option, Some, None, Result, Ok, Err, OnErr, option_map}
+use Rattle.std.specs.Prelude.{Option, Some, None, Result, Ok, OnErr, option_map}
 use Rattle.std.specs.Bool.{then_some}
 use Rattle.std.specs.Borrow.{Bor}
 use Rattle.std.specs.Prelude.{String}
@@ -24,10 +24,11 @@ use Rattle.lexdfa_lib.specs.declared.outcome.Outcome.TheVariants.{Match, NoMatch
 use Rattle.lines_lib.proofs.Sending.{Appends-none, AppendsPrefix-behind, AppendsPrefix-front}
 use Rattle.lines_lib.specs.ClashesShown.{WritesClashes, WritesClashesPrefix}
 use Rattle.lines_lib.specs.TokenLines.{text_lines, WritesTokensPrefix}
-use Rattle.tokens_lib.specs.Answer.{Answer, followed, remark, Reads, TextOf, NumberedAnswer, FilesAnswer, FirstFilesAnswer, cut_files, FirstTextsAnswer, Begun}
+use Rattle.tokens_lib.specs.Answer.{Answer, followed, refusal, remark, Reads, TextOf, NumberedAnswer, FilesAnswer, FirstFilesAnswer, cut_files, FirstTextsAnswer, Begun}
 use Rattle.tokens_lib.specs.ItemLines.{piece_lines, WritesItemsPrefix}
 use Rattle.tokens_lib.specs.PageWritten.{WritesPagePrefix}
-use Rattle.tokens_lib.specs.Program.{RulesOf, LexerOf, TerminalsOf, TerminalClashesAnswer}
+use Rattle.tokens_lib.specs.NamedRules.{RulesOf, LexerOf}
+use Rattle.tokens_lib.specs.Program.{TerminalsOf, TerminalClashesAnswer}
 use Rattle.tokens_lib.specs.Progress.{total_said}
 use Rattle.tokens_lib.specs.Streams.{Given}
 use Rattle.tokens_lib.specs.TextAnswer.{TokensAnswer, PiecesAnswer, PageAnswer}
@@ -135,12 +136,16 @@ texts_begun r Gives InputGives IsFor i verbosity total cut files a b total_is cu
     (subst (λ (fs : List (List ℕ)). FirstFilesAnswer (NumberedAnswer Gives InputGives IsFor total) i fs answer) cut_is is)))
     h
 
--- something was said first
+-- something was said first, which has a status
+pub begun_said : (IsFor : Answer → Type 0) (first : ℕ) (message : List ℕ) (a b : Option (List ℕ)) → Begun IsFor a b
+    → Begun (λ answer. (own : Answer) × (IsFor own × (answer ≡ followed (refusal first message) own))) a b
+begun_said IsFor first message a b (inl nothing) = inl nothing
+begun_said IsFor first message a b (inr (own, (is, part))) = inr (followed (refusal first message) own, ((own, (is, refl)), part))
+
+-- and nothing is wrong
 pub begun_behind : (r : Result ℕ RunError) (IsFor : Answer → Type 0) (message : List ℕ) (a b : Option (List ℕ)) → OnErr r (Begun IsFor a b)
     → OnErr r (Begun (λ answer. (own : Answer) × (IsFor own × (answer ≡ followed (remark message) own))) a b)
-begun_behind (Ok status) IsFor message a b h = tt
-begun_behind (Err e) IsFor message a b (inl nothing) = inl nothing
-begun_behind (Err e) IsFor message a b (inr (own, (is, part))) = inr (followed (remark message) own, ((own, (is, refl)), part))
+begun_behind r IsFor message a b h = on_err_weaker r (begun_said IsFor 0 message a b) h
 
 -- ---- the program
 

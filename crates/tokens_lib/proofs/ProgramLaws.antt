@@ -1,6 +1,6 @@
 -- The answer by the lexer of a file of rules.
-use Rattle.std.proofs.Common.{◌≡◌, ℕ, ◌≤◌, inl, inr, List, refl, subst, sym, arith}
-use Rattle.std.specs.Prelude.{Option, Result, Ok, Err, IfOk, OnOk, OnErr}
+use Rattle.std.proofs.Common.{◌≡◌, ℕ, ◌≤◌, inl, inr, List, [], refl, subst, sym, arith}
+use Rattle.std.specs.Prelude.{max, Option, Result, Ok, Err, IfOk, OnOk, OnErr}
 use Rattle.std.specs.Io.KnownBytes.{Appends}
 use Rattle.std.proofs.lemmas.Result.{IfOk-weaker}
 use Rattle.lalrpop_book.specs.Tree.{Tree}
@@ -10,12 +10,14 @@ use Rattle.lalrpop_rule_file.specs.RuleFile.{without_mark}
 use Rattle.lexdfa_lib.specs.Answer.{HaveAutomaton}
 use Rattle.lexdfa_lib.specs.Watch.{Watch, AppendsPrefix}
 use Rattle.lexdfa_lib.specs.declared.error.RunError.{RunError}
-use Rattle.tokens_lib.specs.Answer.{Answer, Reads, Answered, Begun, followed, remark}
-use Rattle.tokens_lib.specs.Program.{AreRulesOf, RulesOf, RulesRefused, LexerOf, TerminalsRefused, TerminalsOf, information}
+use Rattle.tokens_lib.specs.Answer.{Answer, Reads, Answered, Begun, followed, refusal, remark}
+use Rattle.tokens_lib.specs.Compared.{DifferenceAnswer, IsDifferenceText, text_status}
+use Rattle.tokens_lib.specs.NamedRules.{AreRulesOf, RulesOf, RulesRefused, LexerOf}
+use Rattle.tokens_lib.specs.Program.{TerminalsRefused, TerminalsOf, information}
 use Rattle.tokens_lib.specs.Streams.{Given, Takes}
 use Rattle.tokens_lib.specs.Warned.{Warned}
 use Rattle.tokens_lib.specs.declared.command.Verbosity.{Verbosity}
-use Rattle.tokens_lib.proofs.AnswerLaws.{TakesBy-none, answered_behind}
+use Rattle.tokens_lib.proofs.AnswerLaws.{TakesBy-again, TakesBy-none, answered_behind}
 
 -- a file of rules was read, and is this set of rules of these modes; the warnings about it were said
 abbrev pub IsRead : {E : Type 0} → Verbosity → (List ℕ → Given → Type 0) → List ℕ → ModeRules → List (List ℕ) → (E → Option (List ℕ)) → Watch E → Watch E → Type 0
@@ -28,6 +30,21 @@ pub by_lexer : {E : Type 0} (verbosity : Verbosity) (Gives : List ℕ → Given 
     → (own : Answer) × (IsFor set modes own × (answer ≡ followed (remark is.1.1.1.0) own)) → Reads Gives (RulesOf verbosity (LexerOf IsFor)) rules answer
 by_lexer verbosity Gives IsFor rules set modes said e m (bytes, (gives, ((rs, (say, is)), (words, (warned, takes))))) answer (own, (done, same)) =
     inr (bytes, (gives, inr (words, (warned, (own, ((modes, (rs, (say, inr (set, (is, done))))), same))))))
+
+-- something was said, which has a status, and then this was answered: the greater status counts
+pub answered_after : {W E : Type 0} (IsFor : Answer → Type 0) (written : W → Option (List ℕ)) (said : E → Option (List ℕ)) (o p : Watch W) (e m f : Watch E) (message : List ℕ)
+    (first status greater : ℕ) → Takes said e m message → greater ≡ max status first → (own : Answer) × (IsFor own × Answered written said o p m f status own)
+    → (answer : Answer) × (((own : Answer) × (IsFor own × (answer ≡ followed (refusal first message) own))) × Answered written said o p e f greater answer)
+answered_after IsFor written said o p e m f message first status greater takes same (own, (is, (status_is, (writes, takes_own)))) = (
+  followed (refusal first message) own,
+  (
+    (own, (is, refl)),
+    (
+      omega (arith, same, status_is),
+      (writes, TakesBy-again e.failed m.failed f.failed (said e.inner) (said m.inner) (said f.inner) message own.err takes takes_own),
+    ),
+  ),
+)
 
 -- nothing but the warnings was said
 pub warned_alone : {L E : Type 0} (r : Result (Result L ℕ) RunError) (verbosity : Verbosity) (file : List ℕ) (ls : List (List ℕ)) (said : E → Option (List ℕ)) (e m f : Watch E) (words : List ℕ)
@@ -100,6 +117,15 @@ terminals_answered {W} {E} r Gives IsFor rules ts ps written said o p e m f are 
       (by_terminals Gives IsFor rules ts ps x.0 are x.1.0, subst (λ (w : Watch E). Answered written said o p w f status x.0) quiet x.1.1),
     ))
     h
+
+-- what differs is written, and nothing was said
+pub differences_answered : {W E : Type 0} (r : Result ℕ RunError) (old : List ℕ) (set : ModeRules) (modes : List (List ℕ)) (new : List ℕ) (other : ModeRules) (others : List (List ℕ))
+    (written : W → Option (List ℕ)) (said : E → Option (List ℕ)) (o p : Watch W) (e : Watch E)
+    → IfOk r (λ status. (text : List ℕ) × (IsDifferenceText old set modes new other others text × ((status ≡ text_status text) × Appends (written o.inner) (written p.inner) text)))
+    → IfOk r (λ status. (answer : Answer) × (DifferenceAnswer old set modes new other others answer × Answered written said o p e e status answer))
+differences_answered (Ok status) old set modes new other others written said o p e (text, (is, (status_is, appends))) =
+    (record { status = text_status text; out = text; err = [] }, ((text, (is, refl)), (status_is, (appends, TakesBy-none e.failed (said e.inner)))))
+differences_answered (Err error) old set modes new other others written said o p e h = tt
 
 pub low_after : (value status : ℕ) (answer : Answer) → value ≡ status → status ≡ answer.status → answer.status ≤ 6 → value ≤ 6
 low_after value status answer same is low = omega arith

@@ -22,7 +22,7 @@ use Rattle.lalrpop_modes.specs.declared.action.Action.{Action}
 use Rattle.lalrpop_modes.specs.declared.error.ModesError.{ModesError}
 use Rattle.lalrpop_modes.specs.declared.error.ModesError.TheVariants as errors
 use Rattle.lalrpop_modes.specs.declared.mode_rule.ModeRule.{ModeRule}
-use Rattle.tokens_lib.specs.Program.{AreFileRules}
+use Rattle.tokens_lib.specs.NamedRules.{AreFileRules}
 use Rattle.tokens_lib.specs.Internal.Faults.{NameOnly}
 use Rattle.lalrpop_rules.specs.declared.rule.Rule.{Rule}
 use Rattle.tokens_lib.specs.Reasons.{parsed_text, text_at, CanBeSaid}

@@ -1,6 +1,6 @@
 -- No status is above 6.
 use Rattle.std.proofs.Common.{◌≡◌, ℕ, ◌+◌, ◌≤◌, inl, inr, List, [], ◌∷◌, ap, arith}
-use Rattle.std.specs.Prelude.{nat_lt, length, map, Bool, Option, Some, None}
+use Rattle.std.specs.Prelude.{nat_lt, length, map, Bool, true, false, if◌then◌else◌, Option, Some, None}
 use Rattle.lalrpop_book.specs.Clashes.{Entry}
 use Rattle.lalrpop_book.specs.Tree.{Tree}
 use Rattle.lalrpop_lexer.specs.Lines.{lines}
@@ -12,10 +12,15 @@ use Rattle.lalrpop_modes.specs.declared.mode_rule.ModeRule.{ModeRule}
 use Rattle.lexdfa_lib.specs.Status.{outcome_status}
 use Rattle.lexdfa_lib.specs.declared.outcome.Outcome.{Outcome}
 use Rattle.lexdfa_lib.specs.declared.outcome.Outcome.TheVariants as outcomes
-use Rattle.tokens_lib.specs.Answer.{Answer, Reads, TextOf, is_input, shown_name, FileGives, NumberedAnswer, FilesAnswer, cut_files, TextsAnswer}
+use Rattle.tokens_lib.specs.Answer.{Answer, remark, Reads, TextOf, is_input, shown_name, FileGives, NumberedAnswer, FilesAnswer, cut_files, TextsAnswer}
+use Rattle.tokens_lib.specs.Checked.{CheckAnswer, finding}
+use Rattle.tokens_lib.specs.Compared.{DifferenceAnswer, text_status}
 use Rattle.tokens_lib.specs.Emitted.{SourceAnswer}
 use Rattle.tokens_lib.specs.Pictured.{PictureAnswer}
-use Rattle.tokens_lib.specs.Program.{rules_status, RulesOf, LexerOf, clashes_status, ClashesAnswer, TerminalsOf, reported_status, TerminalClashesAnswer, ActionAnswer, CommandAnswer}
+use Rattle.tokens_lib.specs.NamedRules.{rules_status, RulesTold, RulesOf, LexerOf, clashes_status, ClashesAnswer}
+use Rattle.tokens_lib.specs.Program.{TerminalsOf, reported_status, TerminalClashesAnswer, ActionAnswer, CommandAnswer, ComparedAnswer, other_of}
+use Rattle.tokens_lib.specs.ReviewLines.{has_findings}
+use Rattle.tokens_lib.specs.Warned.{is_said}
 use Rattle.tokens_lib.specs.Progress.{total_said}
 use Rattle.tokens_lib.specs.Streams.{Given}
 use Rattle.tokens_lib.specs.TextAnswer.{fault_status, end_status, TokensAnswer, PiecesAnswer, PageAnswer}
@@ -25,7 +30,7 @@ use Rattle.tokens_lib.specs.declared.command.Markup.{Markup}
 use Rattle.tokens_lib.specs.declared.layout.LineForm.{LineForm}
 use Rattle.tokens_lib.specs.declared.text_end.OpenMode.{OpenMode}
 use Rattle.tokens_lib.specs.declared.command.Action.{Action}
-use Rattle.tokens_lib.specs.declared.command.Action.TheVariants.{Cut, Show, CutByTerminals, Clashes, TerminalClashes, Emit, Picture}
+use Rattle.tokens_lib.specs.declared.command.Action.TheVariants.{Cut, Show, CutByTerminals, Clashes, TerminalClashes, Emit, Picture, Check, Difference}
 use Rattle.tokens_lib.specs.declared.command.Command.TheVariants.{Help, Version, Run}
 use Rattle.tokens_lib.specs.declared.command.Verbosity.{Verbosity}
 
@@ -97,12 +102,18 @@ texts_low Gives InputGives i k verbosity IsFor files answer each is =
     files_low (NumberedAnswer Gives InputGives IsFor (total_said verbosity (length files))) 1 i k (cut_files files) answer
     (λ n x y file a own. numbered_low Gives InputGives IsFor (total_said verbosity (length files)) n x y file a each own) is
 
+-- what is said of the file has a low status, and so has what is answered for its rules
+rules_told_low : (told : List ℕ → Answer) (verbosity : Verbosity) (IsFor : List ℕ → List (List ℕ) → List (List ℕ) → List ModeRule → Answer → Type 0) (file bytes : List ℕ) (answer : Answer)
+    → ((ls modes : List (List ℕ)) (rs : List ModeRule) (a : Answer) → IsFor file ls modes rs a → IsLow a) → ((said : List ℕ) → IsLow (told said)) → RulesTold told verbosity IsFor file bytes answer → IsLow answer
+rules_told_low told verbosity IsFor file bytes answer each first (inl (error, (is, (known, (rest, e))))) = low answer _ e (omega arith)
+rules_told_low told verbosity IsFor file bytes answer each first (inr (said, (warned, (own, ((modes, (rs, (say, is))), e))))) =
+    let a : IsLow own = each (lines (without_mark bytes)) modes rs own is in
+    let b : IsLow (told said) = first said in
+    low answer _ e (omega arith)
+
 rules_of_low : (verbosity : Verbosity) (IsFor : List ℕ → List (List ℕ) → List (List ℕ) → List ModeRule → Answer → Type 0) (file bytes : List ℕ) (answer : Answer)
     → ((ls modes : List (List ℕ)) (rs : List ModeRule) (a : Answer) → IsFor file ls modes rs a → IsLow a) → RulesOf verbosity IsFor file bytes answer → IsLow answer
-rules_of_low verbosity IsFor file bytes answer each (inl (error, (is, (known, (rest, e))))) = low answer _ e (omega arith)
-rules_of_low verbosity IsFor file bytes answer each (inr (said, (warned, (own, ((modes, (rs, (say, is))), e))))) =
-    let a : IsLow own = each (lines (without_mark bytes)) modes rs own is in
-    low answer _ e (omega arith)
+rules_of_low verbosity IsFor file bytes answer each is = rules_told_low remark verbosity IsFor file bytes answer each (λ said. omega arith) is
 
 lexer_low : (IsFor : ModeRules → List (List ℕ) → Answer → Type 0) (file : List ℕ) (ls modes : List (List ℕ)) (rs : List ModeRule) (answer : Answer)
     → ((set : ModeRules) (names : List (List ℕ)) (a : Answer) → IsFor set names a → IsLow a) → LexerOf IsFor file ls modes rs answer → IsLow answer
@@ -123,6 +134,15 @@ clashes_low ((c ∷ cs) ∷ css) = omega arith
 list_low : (file : List ℕ) (ls modes : List (List ℕ)) (rs : List ModeRule) (answer : Answer) → ClashesAnswer file ls modes rs answer → IsLow answer
 list_low file ls modes rs answer (inl (error, (is, (places, (are, (said, (says, e))))))) = low answer _ e (rules_low error)
 list_low file ls modes rs answer (inr (r, (css, (are, (clashes, e))))) = low answer _ e (clashes_low css)
+
+one_low : (b : Bool) → (if b then 1 else 0) ≤ 6
+one_low true = omega arith
+one_low false = omega arith
+
+check_low : (form : LineForm) (file : List ℕ) (ls modes : List (List ℕ)) (rs : List ModeRule) (answer : Answer) → CheckAnswer form file ls modes rs answer → IsLow answer
+check_low form file ls modes rs answer (inl (error, (is, (places, (are, (said, (says, e))))))) = low answer _ e (rules_low error)
+check_low form file ls modes rs answer (inr (places, (stand, inl (have, (r, (css, (are, (clashes, e)))))))) = low answer _ e (omega arith)
+check_low form file ls modes rs answer (inr (places, (stand, inr (r, (review, (is, (reviews, e))))))) = low answer _ e (one_low (has_findings review))
 
 terminals_low : (IsFor : List Tree → List ℕ → Answer → Type 0) (file bytes : List ℕ) (answer : Answer)
     → ((ts : List Tree) (ps : List ℕ) (a : Answer) → IsFor ts ps a → IsLow a) → TerminalsOf IsFor file bytes answer → IsLow answer
@@ -153,6 +173,19 @@ source_low language file set answer (inr (error, (other, (is, e)))) = low answer
 picture_low : (set : ModeRules) (answer : Answer) → PictureAnswer set answer → IsLow answer
 picture_low set answer (es, (are, e)) = low answer _ e (omega arith)
 
+written_low : (text : List ℕ) → text_status text ≤ 6
+written_low [] = omega arith
+written_low (c ∷ text) = omega arith
+
+difference_low : (old : List ℕ) (r : ModeRules) (modes : List (List ℕ)) (new : List ℕ) (s : ModeRules) (others : List (List ℕ)) (answer : Answer)
+    → DifferenceAnswer old r modes new s others answer → IsLow answer
+difference_low old r modes new s others answer (text, (is, e)) = low answer _ e (written_low text)
+
+compared_low : (Gives : List ℕ → Given → Type 0) (verbosity : Verbosity) (rules : List ℕ) (set : ModeRules) (modes : List (List ℕ)) (other : List ℕ) (answer : Answer)
+    → ComparedAnswer Gives verbosity rules set modes other answer → IsLow answer
+compared_low Gives verbosity rules set modes other answer is =
+    by_rules_low verbosity Gives (λ new others. DifferenceAnswer rules set modes other new others) other answer (λ new others a told. difference_low rules set modes other new others a told) is
+
 action_low : {I : Type 0} (Gives : List ℕ → Given → Type 0) (InputGives : I → I → Given → Type 0) (i k : I) (verbosity : Verbosity) (action : Action) (rules : List ℕ) (files : List (List ℕ))
     (answer : Answer) → ActionAnswer Gives (TextsAnswer Gives InputGives i k) verbosity action rules files answer → IsLow answer
 action_low Gives InputGives i k verbosity (Cut form recovers) rules files answer is =
@@ -172,6 +205,12 @@ action_low Gives InputGives i k verbosity (Emit language) rules files answer is 
     by_rules_low verbosity Gives (λ set modes. SourceAnswer language rules set) rules answer (λ set modes a written. source_low language rules set a written) is
 action_low Gives InputGives i k verbosity Picture rules files answer is =
     by_rules_low verbosity Gives (λ set modes. PictureAnswer set) rules answer (λ set modes a drawn. picture_low set a drawn) is
+action_low Gives InputGives i k verbosity (Check form) rules files answer is =
+    reads_low Gives (RulesTold finding verbosity (CheckAnswer form)) rules answer
+    (λ bytes a said. rules_told_low finding verbosity (CheckAnswer form) rules bytes a (check_low form rules) (λ words. one_low (is_said words)) said) is
+action_low Gives InputGives i k verbosity Difference rules files answer is =
+    by_rules_low verbosity Gives (λ set modes. ComparedAnswer Gives verbosity rules set modes (other_of files)) rules answer
+    (λ set modes a told. compared_low Gives verbosity rules set modes (other_of files) a told) is
 
 pub command_low : {I : Type 0} (Gives : List ℕ → Given → Type 0) (InputGives : I → I → Given → Type 0) (i k : I) (command : Command) (answer : Answer)
     → CommandAnswer Gives (TextsAnswer Gives InputGives i k) command answer → IsLow answer

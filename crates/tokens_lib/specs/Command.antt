@@ -1,12 +1,12 @@
 -- cases: proofs/Cases/Command.antt
 -- What the arguments ask for.
-use Rattle.std.specs.Prelude.{◌≡◌, ◌≢◌, ℕ, ◌==◌, Bool, true, false, not, ◌||◌, List, [], ◌∷◌, ◌++◌, Option, Some, None, codes, map, filter, find, if◌then◌else◌}
+use Rattle.std.specs.Prelude.{◌≡◌, ◌≢◌, ℕ, ◌≤◌, ◌==◌, Bool, true, false, not, ◌||◌, List, [], ◌∷◌, ◌++◌, Option, Some, None, IfSome, codes, map, filter, find, length, slice_get, if◌then◌else◌}
 use Rattle.std.specs.List.{list_any, starts_with}
 use Rattle.std.specs.Str.{bytes_eq}
 use Rattle.tokens_lib.specs.declared.command.Action.{Action}
-use Rattle.tokens_lib.specs.declared.command.Action.TheVariants.{Cut, Show, CutByTerminals, Clashes, TerminalClashes, Emit, Picture}
+use Rattle.tokens_lib.specs.declared.command.Action.TheVariants.{Cut, Show, CutByTerminals, Clashes, TerminalClashes, Emit, Picture, Check, Difference}
 use Rattle.tokens_lib.specs.declared.command.ArgumentsError.{ArgumentsError}
-use Rattle.tokens_lib.specs.declared.command.ArgumentsError.TheVariants.{Unknown, NoRules, Apart, NoFiles}
+use Rattle.tokens_lib.specs.declared.command.ArgumentsError.TheVariants.{Unknown, NoRules, Apart, NoFiles, NoOther}
 use Rattle.tokens_lib.specs.declared.command.Command.{Command}
 use Rattle.tokens_lib.specs.declared.command.Command.TheVariants.{Help, Version, Run}
 use Rattle.tokens_lib.specs.declared.command.Language.TheVariants.{C, Rust}
@@ -31,14 +31,23 @@ options_of (Emit (C None)) = codes "--emit=c" ∷ []
 options_of (Emit (C (Some prefix))) = codes "--emit=c" ∷ (codes "--prefix=" ++ prefix.now) ∷ []
 options_of (Emit Rust) = codes "--emit=rust" ∷ []
 options_of Picture = codes "--dot" ∷ []
+options_of (Check Plain) = codes "--check" ∷ []
+options_of (Check Json) = codes "--json" ∷ codes "--check" ∷ []
+options_of Difference = codes "--diff" ∷ []
 
--- whether it is about the rules alone, so that no files are read
-abbrev pub is_of_rules : Action → Bool
-is_of_rules Clashes = true
-is_of_rules TerminalClashes = true
-is_of_rules (Emit language) = true
-is_of_rules Picture = true
-is_of_rules action = false
+-- how many names at most stand behind RULES where no FILE is read: the other rules for --diff, none for others
+abbrev pub most_names : Action → Option ℕ
+most_names Clashes = Some 0
+most_names TerminalClashes = Some 0
+most_names (Emit language) = Some 0
+most_names Picture = Some 0
+most_names (Check form) = Some 0
+most_names Difference = Some 1
+most_names action = None
+
+-- these names may stand behind RULES: not more than there may be, and for --diff the other rules
+abbrev pub TakesNames : Action → List (List ℕ) → Type 0
+TakesNames action named = IfSome (most_names action) (λ most. length named ≤ most) × (action ≡ Difference → length named ≡ 1)
 
 -- whether a word is among others
 abbrev pub has : List (List ℕ) → List ℕ → Bool
@@ -46,7 +55,7 @@ has words word = list_any (λ other. bytes_eq other word) words
 
 -- the options of actions, in the order of the table
 abbrev pub action_options : List (List ℕ)
-action_options = codes "--recover" ∷ codes "--json" ∷ codes "--html" ∷ codes "--ansi" ∷ codes "--lines" ∷ codes "--places" ∷ codes "--clashes" ∷ codes "--emit=c" ∷ codes "--emit=rust" ∷ codes "--dot" ∷ []
+action_options = codes "--recover" ∷ codes "--json" ∷ codes "--html" ∷ codes "--ansi" ∷ codes "--lines" ∷ codes "--places" ∷ codes "--clashes" ∷ codes "--emit=c" ∷ codes "--emit=rust" ∷ codes "--dot" ∷ codes "--check" ∷ codes "--diff" ∷ []
 
 -- the option says a prefix
 abbrev pub is_prefix_option : List ℕ → Bool
@@ -71,10 +80,10 @@ is_known option = has action_options option || (has verbosity_options option || 
 abbrev pub unknown : List (List ℕ) → Option (List ℕ)
 unknown options = find (λ option. not (is_known option)) options
 
--- an action by a file of rules on the named files
+-- an action by a file of rules on the names behind it
 abbrev pub IsFilesRun : Action → Verbosity → List ℕ → List (List ℕ) → Command → Type 0
 IsFilesRun action verbosity rules named (Run its_action its_verbosity its_rules files) =
-    (its_action ≡ action) × ((its_verbosity ≡ verbosity) × ((its_rules.now ≡ rules) × ((is_of_rules action ≡ true → named ≡ []) × (map (λ file. file.now) files.items ≡ named))))
+    (its_action ≡ action) × ((its_verbosity ≡ verbosity) × ((its_rules.now ≡ rules) × (TakesNames action named × (map (λ file. file.now) files.items ≡ named))))
 IsFilesRun action verbosity rules named command = ⊥
 
 -- the action with just these options, by the first name on the others
@@ -82,12 +91,13 @@ abbrev pub IsRun : List (List ℕ) → List (List ℕ) → Command → Type 0
 IsRun options names command =
     (action : Action) × ((given options ≡ options_of action) × ((rules : List ℕ) × ((named : List (List ℕ)) × ((names ≡ rules ∷ named) × IsFilesRun action (verbosity_of options) rules named command))))
 
--- there is a file where none is read
+-- the first name too many, or the other rules are missing
 abbrev pub IsFilesError : Action → List (List ℕ) → ArgumentsError → Type 0
-IsFilesError action named (NoFiles file) = (is_of_rules action ≡ true) × ((rest : List (List ℕ)) × (named ≡ file.now ∷ rest))
+IsFilesError action named (NoFiles file) = (most : ℕ) × ((most_names action ≡ Some most) × (slice_get named most ≡ Some file.now))
+IsFilesError Difference named NoOther = named ≡ []
 IsFilesError action named error = ⊥
 
--- RULES is missing, or the options don't go together, or there is a file where none is read
+-- RULES is missing, or the options don't go together, or the names behind RULES don't fit
 abbrev pub IsRunError : List (List ℕ) → List (List ℕ) → ArgumentsError → Type 0
 IsRunError options names NoRules = names ≡ []
 IsRunError options names (Apart apart) = (names ≢ []) × ((given options ≡ map (λ option. option.now) apart.items) × ((action : Action) → given options ≢ options_of action))

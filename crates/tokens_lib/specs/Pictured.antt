@@ -4,12 +4,12 @@ use Rattle.std.specs.Prelude.{◌≡◌, ℕ, List, [], Some, length, flat_map, 
 use Rattle.lalrpop_dfa.specs.Dfa.{Row}
 use Rattle.lalrpop_modes.specs.Modes.{ModeRules}
 use Rattle.lalrpop_verdicts.specs.Picture.{dot}
-use Rattle.lalrpop_verdicts.specs.Smallest.{AnswerAlike, IsSmallest}
+use Rattle.lalrpop_verdicts.specs.Smallest.{AnswerAlike, IsCanonical, IsSmallest}
 use Rattle.tokens_lib.specs.Answer.{Answer}
 
--- the automaton answers each word as that of the mode does, and has the fewest states
+-- the automaton answers each word as that of the mode does, and has the fewest states and edges, in their order
 abbrev pub IsSmallestIn : ModeRules → ℕ → List Row → Type 0
-IsSmallestIn r m least = (d : List Row) × ((slice_get r.automata m ≡ Some d) × (AnswerAlike d least × IsSmallest least))
+IsSmallestIn r m least = (d : List Row) × ((slice_get r.automata m ≡ Some d) × (AnswerAlike d least × (IsSmallest least × IsCanonical least)))
 
 -- there is one for each of the first modes, in their order
 abbrev pub AreSmallest : ModeRules → ℕ → List (List Row) → Type 0

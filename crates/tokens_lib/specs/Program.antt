@@ -1,22 +1,9 @@
 -- cases: proofs/Cases/Program.antt
 -- The answer of the whole program, for its arguments, what the files give and what standard input gives.
-use Rattle.std.specs.Prelude.{◌≡◌, ℕ, ◌⊎◌, nat_lt, List, [], ◌∷◌, length, map, Option, Some, None, codes}
-use Rattle.lalrpop_book.specs.Clashes.{Entry}
+use Rattle.std.specs.Prelude.{◌≡◌, ℕ, ◌⊎◌, nat_lt, List, [], length, map, slice_get, unwrap_or, Option, Some, None, codes}
 use Rattle.lalrpop_book.specs.Tree.{Tree}
 use Rattle.lalrpop_lexer.specs.Lines.{lines}
-use Rattle.lalrpop_lexer.specs.declared.position.Position.{Position}
-use Rattle.lalrpop_modes.specs.ModeClashes.{AreModeClashes, IsModesFault}
-use Rattle.lalrpop_modes.specs.ModeSet.{AreModeRules, IsModesError, rules_of}
-use Rattle.lalrpop_modes.specs.Modes.{ModeRules, NoModeClash}
-use Rattle.lalrpop_modes.specs.declared.error.ModesError.{ModesError}
-use Rattle.lalrpop_modes.specs.declared.error.ModesError.TheVariants.{NotParsed, BadEnd}
-use Rattle.lalrpop_modes.specs.declared.mode_rule.ModeRule.{ModeRule}
-use Rattle.lalrpop_rules.specs.RuleSet.{names_of}
-use Rattle.lalrpop_grammar.specs.NamedPart.{NamedPart}
-use Rattle.lalrpop_rule_file.specs.RuleFile as file
-use Rattle.lalrpop_rule_file.specs.RuleFile.{AreFileParts, AreRules, ArePlaces, IsRuleFileError, without_mark}
-use Rattle.lalrpop_rule_file.specs.declared.file_rule.FileRule.{FileRule}
-use Rattle.lalrpop_rule_file.specs.declared.error.RuleFileError.{RuleFileError}
+use Rattle.lalrpop_modes.specs.Modes.{ModeRules}
 use Rattle.lexdfa_lib.specs.Answer.{HaveAutomaton, IsReported}
 use Rattle.lexdfa_lib.specs.Status.{outcome_status}
 use Rattle.lexdfa_lib.specs.declared.ending.Failure.{Failure}
@@ -27,98 +14,23 @@ use Rattle.lexdfa_lib.specs.declared.outcome.Outcome.TheVariants.{Ambiguous}
 use Rattle.tokens_lib.specs.Answer.{Answer, refusal, remark, followed, headed, Reads, TextsAnswer, FirstTextsAnswer}
 use Rattle.lines_lib.specs.ClashesShown.{AreClashesShown}
 use Rattle.tokens_lib.specs.Arguments.{joined, options, names}
+use Rattle.tokens_lib.specs.Checked.{CheckAnswer, finding}
 use Rattle.tokens_lib.specs.Command.{IsCommand, IsArgumentsError}
+use Rattle.tokens_lib.specs.Compared.{DifferenceAnswer}
 use Rattle.tokens_lib.specs.Emitted.{SourceAnswer}
 use Rattle.tokens_lib.specs.Pictured.{PictureAnswer}
 use Rattle.tokens_lib.specs.Progress.{reading_text}
-use Rattle.tokens_lib.specs.Reasons.{SaysBadLine, SaysRules, SaysTerminals}
-use Rattle.tokens_lib.specs.RuleClashes.{clash_lines}
+use Rattle.tokens_lib.specs.NamedRules.{RulesTold, RulesOf, LexerOf, ClashesAnswer}
+use Rattle.tokens_lib.specs.Reasons.{SaysTerminals}
 use Rattle.tokens_lib.specs.Streams.{Given}
 use Rattle.tokens_lib.specs.TextAnswer.{TokensAnswer, PiecesAnswer, PageAnswer}
 use Rattle.tokens_lib.specs.Usage.{help, version, wrong_text}
-use Rattle.tokens_lib.specs.Warned.{Warned}
 use Rattle.tokens_lib.specs.declared.command.Action.{Action}
-use Rattle.tokens_lib.specs.declared.command.Action.TheVariants.{Cut, Show, CutByTerminals, Clashes, TerminalClashes, Emit, Picture}
+use Rattle.tokens_lib.specs.declared.command.Action.TheVariants.{Cut, Show, CutByTerminals, Clashes, TerminalClashes, Emit, Picture, Check, Difference}
 use Rattle.tokens_lib.specs.declared.command.ArgumentsError.{ArgumentsError}
 use Rattle.tokens_lib.specs.declared.command.Command.{Command}
 use Rattle.tokens_lib.specs.declared.command.Command.TheVariants.{Help, Version, Run}
 use Rattle.tokens_lib.specs.declared.command.Verbosity.{Verbosity}
-
--- ---- named rules
-
--- the rules of a file with these parts, as a lexer takes them
-pub record AreFileRules (ps : List NamedPart) (fs : List FileRule) (rs : List ModeRule) : Type 0 where
-  pub rules : file.AreModeRules ps fs rs
-  pub modes : map (λ q. q.modes.now) rs ≡ map (λ f. f.modes.items) fs
-  pub actions : map (λ q. q.actions.now) rs ≡ map (λ f. f.actions.items) fs
-
--- the lines say these rules, of modes with these names
-abbrev pub SayRules : List (List ℕ) → List (List ℕ) → List ModeRule → Type 0
-SayRules ls modes rs =
-    (fs : List FileRule) × ((ps : List NamedPart) × (AreRules ls modes fs × (AreFileParts ls ps × AreFileRules ps fs rs)))
-
--- the texts of these rules begin at these places in the lines
-abbrev pub StandAt : List (List ℕ) → List ModeRule → List Position → Type 0
-StandAt ls rs places =
-    (fs : List FileRule) × ((ps : List NamedPart) × (AreFileRules ps fs rs × (ArePlaces ls fs × (places ≡ map (λ f. f.place) fs))))
-
--- what the lexer of these rules knows
-pub record IsSetOf (rs : List ModeRule) (modes : List (List ℕ)) (r : ModeRules) : Type 0 where
-  pub rules : AreModeRules rs (length modes) r
-  pub no_clash : NoModeClash r
-
--- the bytes are rules of modes with these names, and this is what their lexer knows
-abbrev pub AreRulesOf : List ℕ → ModeRules → List (List ℕ) → Type 0
-AreRulesOf bytes r modes = (rs : List ModeRule) × (SayRules (lines (without_mark bytes)) modes rs × IsSetOf rs modes r)
-
--- 3 if a text has no tree, 2 if a rule can't be compiled or two clash
-abbrev pub rules_status : ModesError → ℕ
-rules_status (NotParsed i position kind) = 3
-rules_status (BadEnd i e) = 3
-rules_status error = 2
-
--- the lines are rules with this answer
-abbrev pub LinesAnswer : (List ℕ → List (List ℕ) → List (List ℕ) → List ModeRule → Answer → Type 0) → List ℕ → List (List ℕ) → Answer → Type 0
-LinesAnswer IsFor file ls answer = (modes : List (List ℕ)) × ((rs : List ModeRule) × (SayRules ls modes rs × IsFor file ls modes rs answer))
-
--- the warnings about the file with these lines are said, and then this is answered
-abbrev pub WarnedAnswer : Verbosity → (Answer → Type 0) → List ℕ → List (List ℕ) → Answer → Type 0
-WarnedAnswer verbosity Is file ls answer =
-    (said : List ℕ) × (Warned verbosity file ls said × ((own : Answer) × (Is own × (answer ≡ followed (remark said) own))))
-
--- the bytes have a bad line; or their lines are rules with this answer, behind the warnings about them
-abbrev pub RulesOf : Verbosity → (List ℕ → List (List ℕ) → List (List ℕ) → List ModeRule → Answer → Type 0) → List ℕ → List ℕ → Answer → Type 0
-RulesOf verbosity IsFor file bytes answer =
-    ((error : RuleFileError) × (IsRuleFileError (without_mark bytes) error
-    × ((said : List ℕ) × (SaysBadLine error said × (answer ≡ refusal 3 (headed file said))))))
-    ⊎ WarnedAnswer verbosity (LinesAnswer IsFor file (lines (without_mark bytes))) file (lines (without_mark bytes)) answer
-
--- an error of the rules of these lines is said
-abbrev pub ErrorAnswer : List ℕ → List (List ℕ) → List (List ℕ) → List ModeRule → ModesError → Answer → Type 0
-ErrorAnswer file ls modes rs error answer =
-    (places : List Position) × (StandAt ls rs places
-    × ((said : List ℕ) × (SaysRules modes (rules_of rs) places error said × (answer ≡ refusal (rules_status error) (headed file said)))))
-
--- these rules make no lexer
-abbrev pub RulesRefused : List ℕ → List (List ℕ) → List (List ℕ) → List ModeRule → Answer → Type 0
-RulesRefused file ls modes rs answer = (error : ModesError) × (IsModesError rs (length modes) error × ErrorAnswer file ls modes rs error answer)
-
--- they don't, or their lexer has this answer
-abbrev pub LexerOf : (ModeRules → List (List ℕ) → Answer → Type 0) → List ℕ → List (List ℕ) → List (List ℕ) → List ModeRule → Answer → Type 0
-LexerOf IsFor file ls modes rs answer = RulesRefused file ls modes rs answer ⊎ ((r : ModeRules) × (IsSetOf rs modes r × IsFor r modes answer))
-
--- 2 if there are clashes
-abbrev pub clashes_status : List (List Entry) → ℕ
-clashes_status [] = 0
-clashes_status ([] ∷ css) = clashes_status css
-clashes_status ((c ∷ cs) ∷ css) = 2
-
--- the clashes of the rules of these lines, mode by mode, with a line for each; or a rule has no tree or can't be compiled
-abbrev pub ClashesAnswer : List ℕ → List (List ℕ) → List (List ℕ) → List ModeRule → Answer → Type 0
-ClashesAnswer file ls modes rs answer =
-    ((error : ModesError) × (IsModesFault rs (length modes) error × ErrorAnswer file ls modes rs error answer))
-    ⊎ ((r : ModeRules) × ((css : List (List Entry)) × (AreModeRules rs (length modes) r × (AreModeClashes r css
-    × (answer ≡ record { status = clashes_status css; out = clash_lines modes (names_of (rules_of rs)) 0 css; err = [] })))))
 
 -- ---- terminals
 
@@ -152,6 +64,15 @@ TerminalClashesAnswer file bytes answer =
 abbrev pub information : List ℕ → Answer
 information out = record { status = 0; out = out; err = [] }
 
+-- the other file of rules: the first that is named behind RULES
+abbrev pub other_of : List (List ℕ) → List ℕ
+other_of files = unwrap_or (slice_get files 0) []
+
+-- these rules are compared with those of the other file
+abbrev pub ComparedAnswer : (List ℕ → Given → Type 0) → Verbosity → List ℕ → ModeRules → List (List ℕ) → List ℕ → Answer → Type 0
+ComparedAnswer Gives verbosity rules r modes other answer =
+    Reads Gives (RulesOf verbosity (LexerOf (λ s others. DifferenceAnswer rules r modes other s others))) other answer
+
 -- the answer for an action by a file of rules on files, by what is answered to texts
 abbrev pub ActionAnswer : (List ℕ → Given → Type 0) → (Verbosity → (List ℕ → List ℕ → Answer → Type 0) → List (List ℕ) → Answer → Type 0) → Verbosity → Action → List ℕ → List (List ℕ) → Answer → Type 0
 ActionAnswer Gives Texts verbosity (Cut form recovers) rules files answer =
@@ -166,6 +87,9 @@ ActionAnswer Gives Texts verbosity (Emit language) rules files answer =
     Reads Gives (RulesOf verbosity (LexerOf (λ r modes. SourceAnswer language rules r))) rules answer
 ActionAnswer Gives Texts verbosity Picture rules files answer =
     Reads Gives (RulesOf verbosity (LexerOf (λ r modes. PictureAnswer r))) rules answer
+ActionAnswer Gives Texts verbosity (Check form) rules files answer = Reads Gives (RulesTold finding verbosity (CheckAnswer form)) rules answer
+ActionAnswer Gives Texts verbosity Difference rules files answer =
+    Reads Gives (RulesOf verbosity (LexerOf (λ r modes. ComparedAnswer Gives verbosity rules r modes (other_of files)))) rules answer
 
 -- the answer for a command; with progress, it says first that the rules are read
 abbrev pub CommandAnswer : (List ℕ → Given → Type 0) → (Verbosity → (List ℕ → List ℕ → Answer → Type 0) → List (List ℕ) → Answer → Type 0) → Command → Answer → Type 0

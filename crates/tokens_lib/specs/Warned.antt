@@ -1,6 +1,6 @@
 -- cases: proofs/Cases/Warned.antt
 -- What is said of what a file of rules says, but surely doesn't mean.
-use Rattle.std.specs.Prelude.{◌≡◌, ◌↔◌, ℕ, List, [], ◌++◌, Contains, codes, decimal, flat_map, map}
+use Rattle.std.specs.Prelude.{◌≡◌, ◌↔◌, ℕ, Bool, true, false, List, [], ◌∷◌, ◌++◌, Contains, codes, decimal, flat_map, map}
 use Rattle.lalrpop_lexer.specs.declared.position.Position.{Position}
 use Rattle.lalrpop_rule_file.specs.PartLines.{ArePartLines}
 use Rattle.lalrpop_rule_file.specs.RuleFile.{AreFileParts, AreRules, ArePlaces}
@@ -60,6 +60,11 @@ pub record AreWarnings (file : RuleFile) (ws : List Warning) : Type 0 where
 -- a line for each of them
 abbrev pub SaysWarnings : List ℕ → RuleFile → List ℕ → Type 0
 SaysWarnings name file said = (ws : List Warning) × (AreWarnings file ws × (said ≡ flat_map (warning_line name file) ws))
+
+-- whether something is said
+abbrev pub is_said : List ℕ → Bool
+is_said [] = false
+is_said (b ∷ said) = true
 
 -- nothing with --quiet
 abbrev pub SaysIfAsked : Verbosity → List ℕ → RuleFile → List ℕ → Type 0

@@ -1,11 +1,11 @@
-//! The program over a file of named rules.
-ghost use Rattle.std.specs.Prelude.{◌≡◌, ◌≢◌, ◌<◌, ℕ, List, length, slice_get, Some, Ok, false, true, map, string_bytes, IfOk, OnOk, OnErr, IfErr};
+//! The lexer of a file of named rules.
+ghost use Rattle.std.specs.Prelude.{◌≡◌, ◌<◌, ℕ, List, length, slice_get, Some, Ok, map, string_bytes, IfOk, OnOk, IfErr};
 ghost use Rattle.lalrpop_lexer.specs.Lines.{lines};
 ghost use Rattle.lalrpop_modes.specs.ModeSet.{rules_of};
 ghost use Rattle.lalrpop_rule_file.specs.RuleFile.{AreFileParts, AreRules, ArePlaces, NamesMode, without_mark as without_mark_of};
 ghost use Rattle.lalrpop_rule_file.specs.declared.file_rule.FileRule.{FileRule as FileRuleValue};
-ghost use Rattle.tokens_lib.specs.Answer.{Answer, headed, Answered, Refused, Reads, Begun};
-ghost use Rattle.tokens_lib.specs.Program.{StandAt, IsSetOf, AreRulesOf, LinesAnswer, RulesOf, RulesRefused, ClashesAnswer, clashes_status, rules_status};
+ghost use Rattle.tokens_lib.specs.Answer.{Answer, headed, Refused, Reads};
+ghost use Rattle.tokens_lib.specs.NamedRules.{StandAt, IsSetOf, AreRulesOf, LinesAnswer, RulesOf, RulesRefused, clashes_status, rules_status};
 ghost use Rattle.tokens_lib.specs.Reasons.{CanBeSaid, SaysBadLine, SaysRules};
 ghost use Rattle.tokens_lib.specs.Streams.{Takes};
 ghost use Rattle.tokens_lib.specs.Warned.{Warned};
@@ -15,11 +15,10 @@ use crate::command::Verbosity;
 use crate::file_lexer::{FileLexer, with_names};
 use crate::files::{Files, NO_TEXT, bytes_of, say_headed};
 use crate::mode_file::ModeFile;
-use crate::named_clashes::write_rule_clashes;
 use crate::rule_explain::{bad_line_explained, rules_explained};
 use crate::warnings::say_warnings;
 use lalrpop_lexer::lexer::dfa::Clash;
-use lalrpop_modes::{ModeLexer, ModesError, mode_clashes};
+use lalrpop_modes::{ModeLexer, ModesError};
 use lalrpop_rule_file::{RuleFile, RuleFileError, read_rules, without_mark};
 use lexdfa_lib::{RunError, Watched};
 use std::alloc::Global;
@@ -28,11 +27,11 @@ use std::io::Write;
 // The status of a line that is no rule, and of a text that has no tree.
 const BAD_LINE: u8 = 3;
 
-// The status of rules that can't be compiled or clash.
-const REFUSED: u8 = 2;
+/// The status of rules that can't be compiled or clash.
+pub(crate) const REFUSED: u8 = 2;
 
-// Says what is wrong with a line, and returns the status.
-fn report_line<E: Write>(
+/// Says what is wrong with a line, and returns the status.
+pub(crate) fn report_line<E: Write>(
     alloc: Global,
     name: &str,
     bytes: &[u8],
@@ -62,8 +61,8 @@ fn status_of(error: &ModesError) -> u8
     }
 }
 
-// Says what is wrong with the rules, and returns the status.
-fn report_rules<E: Write>(
+/// Says what is wrong with the rules, and returns the status.
+pub(crate) fn report_rules<E: Write>(
     alloc: Global,
     name: &str,
     bytes: &[u8],
@@ -200,8 +199,8 @@ pub(crate) fn lexer_by_name<F: Files, E: Write>(
     }
 }
 
-// The status of rules with these clashes in their modes.
-fn clashes_status(found: &[Vec<Clash>]) -> u8
+/// The status of rules with these clashes in their modes.
+pub(crate) fn clashes_status(found: &[Vec<Clash>]) -> u8
     ensures { result ≡ clashes_status (map (λ cs. cs.items) found.now) }
 {
     for clashes in found {
@@ -210,136 +209,4 @@ fn clashes_status(found: &[Vec<Clash>]) -> u8
         }
     }
     0
-}
-
-// Lists all clashes of these rules, and returns the status.
-fn list_clashes_of<W: Write, E: Write>(
-    alloc: Global,
-    name: &str,
-    bytes: &[u8],
-    file: &ModeFile<'_>,
-    out: &mut Watched<W>,
-    err: &mut Watched<E>,
-) -> Result<u8, RunError>
-    requires places { StandAt (lines bytes.now) file.now.rules.items file.now.places.items }
-    requires some { 0 < length file.now.modes.items }
-    requires within { NameOnly file.now.rules.items (length file.now.modes.items) }
-    requires out_good { out.old.failed ≡ false }
-    ensures answer { IfOk result (λ status. (answer : Answer)
-        × (ClashesAnswer name.now (lines bytes.now) (map (λ m. m.now) file.now.modes.items)
-        file.now.rules.items answer
-        × Answered W.contents E.contents out.old out.new err.old err.new status answer)) }
-    ensures good { OnOk result (out.new.failed ≡ false) }
-    ensures begun { OnErr result (Begun (ClashesAnswer name.now (lines bytes.now)
-        (map (λ m. m.now) file.now.modes.items) file.now.rules.items)
-        (W.contents out.old.inner) (W.contents out.new.inner)) }
-    ensures memory { IfErr result (λ e. e ≡ RunError.OutOfMemory → out.new.failed ≡ false) }
-    ensures write { IfErr result (λ e. e ≡ RunError.Write → out.new.failed ≡ true) }
-    ensures read { IfErr result (λ e. e ≢ RunError.Read) }
-    ensures no_late_write { out.new.late ≡ out.old.late }
-    ensures no_late_message { err.new.late ≡ err.old.late }
-{
-    let found = match mode_clashes(alloc, &file.rules, file.modes.len()) {
-        Ok(found) => found,
-        Err(error) => return report_rules(alloc, name, bytes, file, &error, err),
-    };
-    write_rule_clashes(alloc, &file.rules, &file.modes, &found, out)?;
-    Ok(clashes_status(&found))
-}
-
-// Lists all clashes of the rules of the file that these bytes are, and returns the status.
-fn list_clashes_by<W: Write, E: Write>(
-    alloc: Global,
-    name: &str,
-    bytes: &[u8],
-    file: &RuleFile<'_>,
-    out: &mut Watched<W>,
-    err: &mut Watched<E>,
-) -> Result<u8, RunError>
-    requires rules { AreRules (lines (without_mark_of bytes.now)) (map (λ m. m.now) file.now.modes.items)
-        file.now.rules.items }
-    requires parts { AreFileParts (lines (without_mark_of bytes.now)) file.now.parts.items }
-    requires places { ArePlaces (lines (without_mark_of bytes.now)) file.now.rules.items }
-    requires some { 0 < length file.now.modes.items }
-    requires within { (i m : ℕ) (r : FileRuleValue)
-        → slice_get file.now.rules.items i ≡ Some r → NamesMode r m
-        → m < length file.now.modes.items }
-    requires out_good { out.old.failed ≡ false }
-    ensures answer { IfOk result (λ status. (answer : Answer)
-        × (LinesAnswer ClashesAnswer name.now (lines (without_mark_of bytes.now)) answer
-        × Answered W.contents E.contents out.old out.new err.old err.new status answer)) }
-    ensures good { OnOk result (out.new.failed ≡ false) }
-    ensures begun { OnErr result (Begun
-        (LinesAnswer ClashesAnswer name.now (lines (without_mark_of bytes.now)))
-        (W.contents out.old.inner) (W.contents out.new.inner)) }
-    ensures memory { IfErr result (λ e. e ≡ RunError.OutOfMemory → out.new.failed ≡ false) }
-    ensures write { IfErr result (λ e. e ≡ RunError.Write → out.new.failed ≡ true) }
-    ensures read { IfErr result (λ e. e ≢ RunError.Read) }
-    ensures no_late_write { out.new.late ≡ out.old.late }
-    ensures no_late_message { err.new.late ≡ err.old.late }
-{
-    match ModeFile::of(alloc, file) {
-        Ok(file) => list_clashes_of(alloc, name, without_mark(bytes), &file, out, err),
-        Err(_) => Err(RunError::OutOfMemory),
-    }
-}
-
-// Lists all clashes of the rules that these bytes are, and returns the status.
-fn list_clashes_in<W: Write, E: Write>(
-    alloc: Global,
-    verbosity: Verbosity,
-    name: &str,
-    bytes: &[u8],
-    out: &mut Watched<W>,
-    err: &mut Watched<E>,
-) -> Result<u8, RunError>
-    requires out_good { out.old.failed ≡ false }
-    ensures answer { IfOk result (λ status. (answer : Answer)
-        × (RulesOf verbosity ClashesAnswer name.now bytes.now answer
-        × Answered W.contents E.contents out.old out.new err.old err.new status answer)) }
-    ensures good { OnOk result (out.new.failed ≡ false) }
-    ensures begun { OnErr result (Begun (RulesOf verbosity ClashesAnswer name.now bytes.now)
-        (W.contents out.old.inner) (W.contents out.new.inner)) }
-    ensures memory { IfErr result (λ e. e ≡ RunError.OutOfMemory → out.new.failed ≡ false) }
-    ensures write { IfErr result (λ e. e ≡ RunError.Write → out.new.failed ≡ true) }
-    ensures read { IfErr result (λ e. e ≢ RunError.Read) }
-    ensures no_late_write { out.new.late ≡ out.old.late }
-    ensures no_late_message { err.new.late ≡ err.old.late }
-{
-    match read_rules(alloc, bytes) {
-        Ok(read) => {
-            say_warnings(alloc, verbosity, name, &read, err)?;
-            list_clashes_by(alloc, name, bytes, &read, out, err)
-        }
-        Err(error) => report_line(alloc, name, without_mark(bytes), &error, err),
-    }
-}
-
-/// Lists all clashes of the rules of a file, and returns the status.
-pub(crate) fn list_clashes<F: Files, W: Write, E: Write>(
-    alloc: Global,
-    verbosity: Verbosity,
-    files: &F,
-    name: &str,
-    out: &mut Watched<W>,
-    err: &mut Watched<E>,
-) -> Result<u8, RunError>
-    requires out_good { out.old.failed ≡ false }
-    ensures answer { IfOk result (λ status. (answer : Answer)
-        × (Reads (F.gives files.now) (RulesOf verbosity ClashesAnswer) name.now answer
-        × Answered W.contents E.contents out.old out.new err.old err.new status answer)) }
-    ensures good { OnOk result (out.new.failed ≡ false) }
-    ensures begun { OnErr result (Begun
-        (Reads (F.gives files.now) (RulesOf verbosity ClashesAnswer) name.now)
-        (W.contents out.old.inner) (W.contents out.new.inner)) }
-    ensures memory { IfErr result (λ e. e ≡ RunError.OutOfMemory → out.new.failed ≡ false) }
-    ensures write { IfErr result (λ e. e ≡ RunError.Write → out.new.failed ≡ true) }
-    ensures read { IfErr result (λ e. e ≢ RunError.Read) }
-    ensures no_late_write { out.new.late ≡ out.old.late }
-    ensures no_late_message { err.new.late ≡ err.old.late }
-{
-    match bytes_of(alloc, files, name, err)? {
-        Some(bytes) => list_clashes_in(alloc, verbosity, name, &bytes, out, err),
-        None => Ok(NO_TEXT),
-    }
 }

@@ -1,7 +1,7 @@
 //! The program's arguments.
 ghost use Rattle.std.specs.Prelude.{codes, ◌≡◌, ◌≢◌, [], ◌∷◌, ◌++◌, not, map, find, filter, option_map, string_bytes, IfOk, IfErr, IfSome, IfNone};
 ghost use Rattle.tokens_lib.specs.Arguments.{options, names};
-ghost use Rattle.tokens_lib.specs.Command.{action_options, given, IsCommand, IsFilesRun, IsFilesError, IsRun, IsRunError, IsArgumentsError, has, is_known, is_of_rules, is_prefix_option, options_of, verbosity_of};
+ghost use Rattle.tokens_lib.specs.Command.{action_options, given, IsCommand, IsFilesRun, IsFilesError, IsRun, IsRunError, IsArgumentsError, has, is_known, is_prefix_option, most_names, options_of, verbosity_of};
 ghost use Rattle.tokens_lib.specs.Internal.Prefixes.{HasPrefix};
 ghost use Rattle.tokens_lib.specs.declared.command.Action.{Action as AnAction};
 ghost use Rattle.tokens_lib.specs.declared.command.ArgumentsError.TheVariants.{OutOfMemory};
@@ -80,6 +80,13 @@ pub enum Action<'words> {
     },
     /// The smallest automaton of each mode of the named rules is written for Graphviz.
     Picture,
+    /// The named rules are reviewed, and the lines of the review are written.
+    Check {
+        /// What a line looks like.
+        form: LineForm,
+    },
+    /// Two files of named rules are compared, and a text is told from which they make different tokens, if there is one.
+    Difference,
 }
 
 /// What is said on standard error beside what is wrong.
@@ -124,6 +131,8 @@ pub enum Command<'words> {
         /// What is said beside what is wrong.
         verbosity: Verbosity,
         rules: &'words str,
+        /// What stands behind RULES: the file of the other rules for `Action::Difference`, and nothing for the other
+        /// actions about rules alone.
         files: Vec<&'words str>,
     },
 }
@@ -145,8 +154,10 @@ pub enum ArgumentsError<'words> {
     NoRules,
     /// Nothing is done by just these options.
     Apart { options: Vec<&'words str> },
-    /// No file is read by such a command.
+    /// No file is read by such a command. This is the first name too many.
     NoFiles { file: &'words str },
+    /// The file of the other rules is missing.
+    NoOther,
 }
 
 impl From<AllocError> for ArgumentsError<'_> {
@@ -158,7 +169,7 @@ impl From<AllocError> for ArgumentsError<'_> {
 }
 
 // The options of actions, in the order in which specs/Command.antt has them.
-const ACTION_OPTIONS: [&str; 10] = [
+const ACTION_OPTIONS: [&str; 12] = [
     "--recover",
     "--json",
     "--html",
@@ -169,6 +180,8 @@ const ACTION_OPTIONS: [&str; 10] = [
     "--emit=c",
     "--emit=rust",
     "--dot",
+    "--check",
+    "--diff",
 ];
 
 // What an option that says a prefix begins with.
@@ -259,14 +272,19 @@ fn given<'words>(alloc: Global, options: &[&'words str]) -> Result<Vec<&'words s
 }
 
 impl Action<'_> {
-    // Whether it is about the rules alone, so that no files are read.
-    fn is_of_rules(&self) -> bool
-        ensures { result ≡ is_of_rules self.now }
+    // How many names at most stand behind RULES, if no FILE is read.
+    fn most_names(&self) -> Option<usize>
+        ensures { result ≡ most_names self.now }
     {
-        matches!(
-            self,
-            Action::Clashes | Action::TerminalClashes | Action::Emit { .. } | Action::Picture
-        )
+        match self {
+            Action::Cut { .. } | Action::Show { .. } | Action::CutByTerminals { .. } => None,
+            Action::Difference => Some(1),
+            Action::Clashes
+            | Action::TerminalClashes
+            | Action::Emit { .. }
+            | Action::Picture
+            | Action::Check { .. } => Some(0),
+        }
     }
 }
 
@@ -298,6 +316,10 @@ fn action_of_one(option: &str) -> Option<Action<'static>>
             language: Language::Rust,
         }),
         "--dot" => Some(Action::Picture),
+        "--check" => Some(Action::Check {
+            form: LineForm::Plain,
+        }),
+        "--diff" => Some(Action::Difference),
         _ => None,
     }
 }
@@ -332,6 +354,9 @@ fn action_of_two(first: &str, second: &str) -> Option<Action<'static>>
         }),
         ("--lines", "--places") => Some(Action::CutByTerminals { places: true }),
         ("--lines", "--clashes") => Some(Action::TerminalClashes),
+        ("--json", "--check") => Some(Action::Check {
+            form: LineForm::Json,
+        }),
         _ => None,
     }
 }
@@ -380,7 +405,7 @@ fn verbosity_of(options: &[&str]) -> Verbosity
     }
 }
 
-// This action, if it reads these files.
+// This action, if these names may stand behind RULES.
 fn run_by<'words>(
     action: Action<'words>,
     verbosity: Verbosity,
@@ -391,10 +416,13 @@ fn run_by<'words>(
         (map (λ w. w.now) files.entry.items)) }
     ensures error { IfErr result (IsFilesError action.entry (map (λ w. w.now) files.entry.items)) }
 {
-    if action.is_of_rules() {
-        if let [file, ..] = files.as_slice() {
+    if let Some(most) = action.most_names() {
+        if let Some(file) = files.get(most) {
             return Err(ArgumentsError::NoFiles { file });
         }
+    }
+    if matches!(action, Action::Difference) && files.is_empty() {
+        return Err(ArgumentsError::NoOther);
     }
     Ok(Command::Run {
         action,

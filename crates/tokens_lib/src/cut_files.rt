@@ -410,8 +410,8 @@ fn cut_input<R: Read, W: Write, E: Write>(
     }
 }
 
-// The greater of two statuses.
-fn worse(status: u8, other: u8) -> u8
+/// The greater of two statuses.
+pub(crate) fn worse(status: u8, other: u8) -> u8
     ensures { result ≡ max status other }
 {
     status.max(other)

@@ -9,8 +9,12 @@ use lalrpop_lexer::Position;
 use std::alloc::{AllocError, Global};
 use std::mem;
 
-// A member whose value is a number.
-fn write_number(writer: &mut Writer, name: &str, number: usize) -> Result<(), AllocError>
+/// Writes a member whose value is a number.
+///
+/// # Errors
+///
+/// `AllocError` if a request for memory was refused.
+pub(crate) fn write_number(writer: &mut Writer, name: &str, number: usize) -> Result<(), AllocError>
     ensures tokens { OnOk result (writer.new.tokens
         ≡ writer.old.tokens ++ number_member name.now number) }
     ensures before { writer.new.before ≡ writer.old.before }
@@ -19,8 +23,12 @@ fn write_number(writer: &mut Writer, name: &str, number: usize) -> Result<(), Al
     writer.u64(number as u64)
 }
 
-// A member whose value is a string.
-fn write_string(writer: &mut Writer, name: &str, text: &str) -> Result<(), AllocError>
+/// Writes a member whose value is a string.
+///
+/// # Errors
+///
+/// `AllocError` if a request for memory was refused.
+pub(crate) fn write_string(writer: &mut Writer, name: &str, text: &str) -> Result<(), AllocError>
     ensures tokens { OnOk result (writer.new.tokens
         ≡ writer.old.tokens ++ string_member name.now text.now) }
     ensures before { writer.new.before ≡ writer.old.before }
@@ -54,7 +62,12 @@ fn write_rule(writer: &mut Writer, name: Option<&str>) -> Result<(), AllocError>
     }
 }
 
-fn write_mode(writer: &mut Writer, mode: Option<&str>) -> Result<(), AllocError>
+/// Writes the member `mode`, if the mode is named.
+///
+/// # Errors
+///
+/// `AllocError` if a request for memory was refused.
+pub(crate) fn write_mode(writer: &mut Writer, mode: Option<&str>) -> Result<(), AllocError>
     ensures tokens { OnOk result (writer.new.tokens
         ≡ writer.old.tokens ++ mode_member (option_map (λ m. m.now) mode.entry)) }
     ensures before { writer.new.before ≡ writer.old.before }

@@ -1,6 +1,6 @@
 //! The rules of a file with their modes, as a lexer takes them.
 ghost use Rattle.std.specs.Prelude.{◌≡◌, map, IfOk};
-ghost use Rattle.tokens_lib.specs.Program.{AreFileRules};
+ghost use Rattle.tokens_lib.specs.NamedRules.{AreFileRules};
 
 use lalrpop_lexer::Position;
 use lalrpop_modes::ModeRule;

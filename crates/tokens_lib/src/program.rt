@@ -10,12 +10,14 @@ ghost use Rattle.tokens_lib.specs.Streams.{StreamGives, Takes};
 ghost use Rattle.tokens_lib.specs.Usage.{help, version, wrong_text};
 
 use crate::arguments::joined;
-use crate::by_rules::{lexer_by_name, list_clashes};
+use crate::by_rules::lexer_by_name;
 use crate::by_terminals::{list_terminal_clashes, terminals_by_name};
 use crate::command::{Action, ArgumentsError, Command, Verbosity, command_of};
 use crate::cut_files::{Task, cut_all};
+use crate::differing::{compare_with, other_of};
 use crate::emitted::write_source;
 use crate::files::{ErrorStream, Files, SystemFiles, say};
+use crate::listing::{Listing, list_rules};
 use crate::output::Output;
 use crate::pictured::write_pictures;
 use crate::progress::reading_message;
@@ -119,7 +121,7 @@ fn run_action<F: Files, R: Read, W: Write, E: Write>(
             }
             Err(status) => Ok(status),
         },
-        Action::Clashes => list_clashes(alloc, verbosity, files, rules, out, err),
+        Action::Clashes => list_rules(alloc, Listing::Clashes, verbosity, files, rules, out, err),
         Action::TerminalClashes => list_terminal_clashes(alloc, files, rules, out, err),
         Action::Emit { language } => match lexer_by_name(alloc, verbosity, files, rules, err)? {
             Ok(found) => write_source(alloc, rules, &found.lexer, language, out, err),
@@ -127,6 +129,30 @@ fn run_action<F: Files, R: Read, W: Write, E: Write>(
         },
         Action::Picture => match lexer_by_name(alloc, verbosity, files, rules, err)? {
             Ok(found) => write_pictures(alloc, &found.lexer, out),
+            Err(status) => Ok(status),
+        },
+        Action::Check { form } => {
+            list_rules(
+                alloc,
+                Listing::Review(form),
+                verbosity,
+                files,
+                rules,
+                out,
+                err,
+            )
+        }
+        Action::Difference => match lexer_by_name(alloc, verbosity, files, rules, err)? {
+            Ok(found) => compare_with(
+                alloc,
+                verbosity,
+                files,
+                rules,
+                &found,
+                other_of(names),
+                out,
+                err,
+            ),
             Err(status) => Ok(status),
         },
     }
@@ -218,15 +244,27 @@ fn refuse<E: Write>(
 /// Does what the arguments say (`command_of`): writes what was asked of the program itself; cuts the files, or standard input
 /// if none is named, by the file of rules that is named first, and writes the lines of `write_items` or, by terminals, of
 /// `write_tokens`, or the markup of each text, to `out`; or lists all clashes of the rules (`write_rule_clashes`) or terminals
-/// (`write_clashes`); or writes the lexer of the rules in C or Rust (`lalrpop_emit`), or pictures of their automata (`lalrpop_verdicts`). A file `-` is standard input: it is read
-/// to its end where it stands, and a later `-` reads what is left. After a read that failed it isn't read again. What is wrong is
-/// explained on `err`, behind the warnings about a file of named rules (`warnings_message`), which `--quiet` leaves out; if a write
-/// there fails, nothing more is said, and the run goes on.
+/// (`write_clashes`); or writes the lexer of the rules in C or Rust (`lalrpop_emit`), or pictures of their automata
+/// (`lalrpop_verdicts`). A file `-` is standard input: it is read to its end where it stands, and a later `-` reads what is left.
+/// After a read that failed it isn't read again. What is wrong is explained on `err`, behind the warnings about a file of named
+/// rules (`warnings_message`), which `--quiet` leaves out; if a write there fails, nothing more is said, and the run goes on.
 ///
-/// The exit status is 0 if each text was cut to its end, has no fault and ends in a mode with none below it, or no rules clash,
-/// 1 if a text has a fault or ends in another mode, 2 if rules can't be compiled or written, or clash, 3 if a line of the rules
-/// is bad or its pattern doesn't parse, 4 for wrong arguments, and 6 if a file gave no text. Of several files, the greatest
-/// status counts.
+/// `--check` reads the rules alone. If some clash, it writes all clashes; otherwise it writes a review (`lalrpop_review`): the
+/// rules that match the empty text, and for each mode the rules that never win and how large its automaton is. `--diff` reads two
+/// files of rules, and for each mode writes the least text of which they make different tokens, if there is one.
+///
+/// The exit status is
+///
+/// - 0 if each text was cut to its end, has no fault and ends in a mode with none below it; if no rules clash; if a check finds no
+///   rule that matches the empty text or never wins, and has no warning to say; or if two files of rules make the same tokens,
+/// - 1 if a text has a fault or ends in another mode, if a check finds such a rule or says a warning, or if two files of rules
+///   differ,
+/// - 2 if rules can't be compiled or written, or clash,
+/// - 3 if a line of the rules is bad or its pattern doesn't parse,
+/// - 4 for wrong arguments,
+/// - 6 if a file gave no text.
+///
+/// Of several files, and of the warnings and the rest of a check, the greatest status counts.
 ///
 /// # Errors
 ///

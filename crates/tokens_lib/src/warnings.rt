@@ -3,7 +3,7 @@ ghost use Rattle.std.specs.Prelude.{◌≡◌, ℕ, List, map, string_bytes, IfO
 ghost use Rattle.tokens_lib.specs.ItemLines.{name_at};
 ghost use Rattle.tokens_lib.specs.Reasons.{place_at};
 ghost use Rattle.tokens_lib.specs.Streams.{Takes};
-ghost use Rattle.tokens_lib.specs.Warned.{SaysIfAsked, SaysWarnings, text_place, warned_at, warned_of, warning_line};
+ghost use Rattle.tokens_lib.specs.Warned.{SaysIfAsked, SaysWarnings, is_said, text_place, warned_at, warned_of, warning_line};
 
 use crate::command::Verbosity;
 use crate::files::say;
@@ -151,16 +151,24 @@ fn warnings_said(
     }
 }
 
-/// Says the warnings about a file of rules, unless nothing but errors is said.
+// Whether this says anything.
+fn is_said(message: &str) -> bool
+    ensures { result ≡ is_said message.now }
+{
+    !message.is_empty()
+}
+
+/// Says the warnings about a file of rules, unless nothing but errors is said, and returns whether anything was said.
 pub(crate) fn say_warnings<E: Write>(
     alloc: Global,
     verbosity: Verbosity,
     name: &str,
     file: &RuleFile<'_>,
     err: &mut Watched<E>,
-) -> Result<(), RunError>
-    ensures said { OnOk result ((said : List ℕ) × (SaysIfAsked verbosity name.now file.now said
-        × Takes E.contents err.old err.new said)) }
+) -> Result<bool, RunError>
+    ensures said { IfOk result (λ any. (said : List ℕ)
+        × (SaysIfAsked verbosity name.now file.now said
+        × (Takes E.contents err.old err.new said × (any ≡ is_said said)))) }
     ensures memory { IfErr result (λ e. e ≡ RunError.OutOfMemory) }
     ensures no_late_message { err.new.late ≡ err.old.late }
 {
@@ -168,5 +176,5 @@ pub(crate) fn say_warnings<E: Write>(
         return Err(RunError::OutOfMemory);
     };
     say(message.as_str(), err);
-    Ok(())
+    Ok(is_said(message.as_str()))
 }

@@ -197,6 +197,72 @@ fn the_automaton_of_each_mode_is_drawn(rt: HostRuntime) {
     }
 }
 
+// The state of words of one letter isn't that of longer ones; the smallest automaton has one for both.
+const TWO_MODES: &[u8] =
+    b"{\"file\":\"mode.rules\",\"kind\":\"automaton\",\"mode\":\"INITIAL\",\"states\":4,\"least_states\":3,\"past\":1}\n{\"file\":\"mode.rules\",\"kind\":\"automaton\",\"mode\":\"TEXT\",\"states\":3,\"least_states\":3,\"past\":1}\n";
+
+#[test]
+fn rules_are_reviewed(rt: HostRuntime) {
+    let rows: &[(&[&str], &[u8], &[u8], u8)] = &[
+        (
+            &["--check", "one.rules"],
+            b"one.rules: 3 states, 3 in the smallest automaton; at most 1 character is read past a token\n",
+            b"",
+            0,
+        ),
+        (
+            &["--json", "mode.rules", "--check"],
+            TWO_MODES,
+            b"tokens: mode.rules: warning: no rule enters the mode TEXT\n",
+            1,
+        ),
+        (
+            &["--quiet", "--json", "mode.rules", "--check"],
+            TWO_MODES,
+            b"",
+            0,
+        ),
+        (&["--check", "none"], b"", b"tokens: none: not found\n", 6),
+    ];
+    for (words, out, err, status) in rows {
+        assert!(rt; is_answer(rt.alloc(), *words, &b"in"[..], (*out, *err, *status)));
+    }
+}
+
+#[test]
+fn rules_are_compared(rt: HostRuntime) {
+    let rows: &[(&[&str], &[u8], &[u8], u8)] = &[
+        (&["--diff", "r", "r"], b"", b"", 0),
+        (
+            &["--diff", "r", "one.rules"],
+            b"\" \" is SPACE skip in r, and no token in one.rules\n",
+            b"",
+            1,
+        ),
+        (
+            &["one.rules", "--diff", "two.rules"],
+            b"one.rules has the modes INITIAL, and two.rules has INITIAL DIGITS\n",
+            b"",
+            1,
+        ),
+        (
+            &["--diff", "r"],
+            b"",
+            b"tokens: --diff compares two files of rules; name the other one behind RULES\n",
+            4,
+        ),
+        (
+            &["--diff", "r", "none"],
+            b"",
+            b"tokens: none: not found\n",
+            6,
+        ),
+    ];
+    for (words, out, err, status) in rows {
+        assert!(rt; is_answer(rt.alloc(), *words, &b"in"[..], (*out, *err, *status)));
+    }
+}
+
 const NO_RULE: &[u8] =
     b"tokens: none.rules: warning: there is no rule in this file: a rule is a line NAME = 'TEXT' or NAME = /PATTERN/\ntokens: g:1:1: no rule matches \"x\"\n";
 

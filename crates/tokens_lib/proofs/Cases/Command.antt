@@ -1,10 +1,12 @@
 -- Cases of specs/Command.antt.
-use Rattle.std.proofs.Common.{◌≡◌, ◌≢◌, true, false, [], ◌∷◌, codes, refl}
-use Rattle.std.specs.Prelude.{Some, None}
-use Rattle.tokens_lib.specs.Command.{given, unknown, options_of, verbosity_of, IsFilesError, IsCommand, IsArgumentsError}
+use Rattle.std.proofs.Common.{◌≡◌, ◌≢◌, ℕ, ◌<◌, ◌≤◌, true, false, List, [], ◌∷◌, codes, length, refl, sym, ap, subst, inl, inr, arith}
+use Rattle.std.specs.Prelude.{Some, None, IfSome, ◌⊎◌}
+use Rattle.std.proofs.lemmas.Option.{slice_get_within}
+use Rattle.tokens_lib.specs.Command.{given, unknown, options_of, verbosity_of, most_names, TakesNames, IsFilesError, IsCommand, IsArgumentsError}
 use Rattle.tokens_lib.specs.declared.command.Action.{Action}
-use Rattle.tokens_lib.specs.declared.command.Action.TheVariants.{Cut, Show, CutByTerminals, Clashes, TerminalClashes, Emit, Picture}
-use Rattle.tokens_lib.specs.declared.command.ArgumentsError.TheVariants.{NoRules, NoFiles}
+use Rattle.tokens_lib.specs.declared.command.Action.TheVariants.{Cut, Show, CutByTerminals, Clashes, TerminalClashes, Emit, Picture, Check, Difference}
+use Rattle.tokens_lib.specs.declared.command.ArgumentsError.{ArgumentsError}
+use Rattle.tokens_lib.specs.declared.command.ArgumentsError.TheVariants.{NoRules, NoFiles, NoOther}
 use Rattle.tokens_lib.specs.declared.command.Command.TheVariants.{Help, Version}
 use Rattle.tokens_lib.specs.declared.command.Language.TheVariants.{C, Rust}
 use Rattle.tokens_lib.specs.declared.command.Markup.TheVariants.{Html, Ansi}
@@ -42,6 +44,9 @@ places_alone (Emit (C None)) e = absurd (cc)
 places_alone (Emit (C (Some prefix))) e = absurd (cc)
 places_alone (Emit Rust) e = absurd (cc)
 places_alone Picture e = absurd (cc)
+places_alone (Check Plain) e = absurd (cc)
+places_alone (Check Json) e = absurd (cc)
+places_alone Difference e = absurd (cc)
 
 -- a lexer in C, with a prefix or without, and one in Rust; two prefixes are no action's, nor is a prefix with Rust
 emits : (given (codes "--emit=c" ∷ []) ≡ options_of (Emit (C None)))
@@ -64,6 +69,9 @@ two_prefixes (Emit (C None)) e = absurd (cc)
 two_prefixes (Emit (C (Some prefix))) e = absurd (cc)
 two_prefixes (Emit Rust) e = absurd (cc)
 two_prefixes Picture e = absurd (cc)
+two_prefixes (Check Plain) e = absurd (cc)
+two_prefixes (Check Json) e = absurd (cc)
+two_prefixes Difference e = absurd (cc)
 
 prefix_of_rust : (action : Action) → given (codes "--emit=rust" ∷ codes "--prefix=p" ∷ []) ≢ options_of action
 prefix_of_rust (Cut Plain false) e = absurd (cc)
@@ -80,6 +88,9 @@ prefix_of_rust (Emit (C None)) e = absurd (cc)
 prefix_of_rust (Emit (C (Some prefix))) e = absurd (cc)
 prefix_of_rust (Emit Rust) e = absurd (cc)
 prefix_of_rust Picture e = absurd (cc)
+prefix_of_rust (Check Plain) e = absurd (cc)
+prefix_of_rust (Check Json) e = absurd (cc)
+prefix_of_rust Difference e = absurd (cc)
 
 -- pictures
 draws : (given (codes "--dot" ∷ codes "--quiet" ∷ []) ≡ options_of Picture) × (given (codes "--dot" ∷ codes "--clashes" ∷ []) ≡ codes "--clashes" ∷ codes "--dot" ∷ [])
@@ -99,6 +110,60 @@ help_wins = (refl, (λ h. absurd (cc (h.0))), (λ h. absurd (cc (h.0.0))))
 version_alone : IsCommand (codes "--version" ∷ []) [] Version
 version_alone = (refl, refl)
 
--- no file is read where clashes are listed, a lexer is written or automata are drawn
-no_files : IsFilesError Clashes (codes "f" ∷ []) (NoFiles (record { ref_ptr = (0, 0); now = codes "f" })) × IsFilesError (Emit Rust) (codes "f" ∷ []) (NoFiles (record { ref_ptr = (0, 0); now = codes "f" })) × IsFilesError Picture (codes "f" ∷ []) (NoFiles (record { ref_ptr = (0, 0); now = codes "f" })) × (¬ IsFilesError (Show Html) (codes "f" ∷ []) (NoFiles (record { ref_ptr = (0, 0); now = codes "f" })))
-no_files = ((refl, ([], refl)), (refl, ([], refl)), (refl, ([], refl)), λ h. absurd (cc (h.0)))
+-- a review, for people and as JSON; the options of the table come in its order
+reviews : (given (codes "--check" ∷ []) ≡ options_of (Check Plain)) × (given (codes "--check" ∷ codes "--json" ∷ []) ≡ options_of (Check Json)) × (given (codes "--diff" ∷ codes "--check" ∷ []) ≡ codes "--check" ∷ codes "--diff" ∷ [])
+reviews = (refl, refl, refl)
+
+differs : (given (codes "--diff" ∷ codes "--quiet" ∷ []) ≡ options_of Difference) × (unknown (codes "--check" ∷ codes "--diff" ∷ []) ≡ None)
+differs = (refl, refl)
+
+-- no file is read where clashes are listed, a lexer is written, automata are drawn or rules are reviewed
+no_files : IsFilesError Clashes (codes "f" ∷ []) (NoFiles (record { ref_ptr = (0, 0); now = codes "f" })) × IsFilesError (Emit Rust) (codes "f" ∷ []) (NoFiles (record { ref_ptr = (0, 0); now = codes "f" })) × IsFilesError Picture (codes "f" ∷ []) (NoFiles (record { ref_ptr = (0, 0); now = codes "f" })) × IsFilesError (Check Json) (codes "f" ∷ codes "g" ∷ []) (NoFiles (record { ref_ptr = (0, 0); now = codes "f" })) × (¬ IsFilesError (Show Html) (codes "f" ∷ []) (NoFiles (record { ref_ptr = (0, 0); now = codes "f" })))
+no_files = ((0, (refl, refl)), (0, (refl, refl)), (0, (refl, refl)), (0, (refl, refl)), λ h. absurd (cc (h.1.0)))
+
+-- how many names there may be
+most : (most_names Picture ≡ Some 0) × (most_names (Check Json) ≡ Some 0) × (most_names Difference ≡ Some 1) × (most_names (Show Html) ≡ None)
+most = (refl, refl, refl, refl)
+
+takes_none : TakesNames (Check Plain) [] × (¬ TakesNames (Check Plain) (codes "f" ∷ [])) × TakesNames (Show Html) (codes "f" ∷ codes "g" ∷ [])
+takes_none = ((omega arith, λ e. absurd (cc (e))), (λ h. omega (arith, h.0)), (tt, λ e. absurd (cc (e))))
+
+-- two files of rules are compared, and not one or three
+compares : TakesNames Difference (codes "f" ∷ []) × (¬ TakesNames Difference []) × (¬ TakesNames Difference (codes "f" ∷ codes "g" ∷ []))
+compares = ((omega arith, λ _. refl), (λ h. omega (arith, h.1 refl)), (λ h. omega (arith, h.1 refl)))
+
+no_other : IsFilesError Difference [] NoOther × (¬ IsFilesError Difference (codes "f" ∷ []) NoOther) × (¬ IsFilesError Picture [] NoOther)
+no_other = (refl, (λ h. absurd (cc (h))), (λ h. h))
+
+other_missing : IsArgumentsError (codes "--diff" ∷ []) (codes "r" ∷ []) NoOther × (¬ IsArgumentsError (codes "--diff" ∷ []) [] NoOther)
+other_missing = (((refl, refl), (refl, (Difference, (refl, (codes "r", ([], (refl, refl))))))), λ h. absurd (cc (h.1.1.1.1.1.1.0)))
+
+third : IsFilesError Difference (codes "f" ∷ codes "g" ∷ []) (NoFiles (record { ref_ptr = (0, 0); now = codes "g" })) × (¬ IsFilesError Difference (codes "f" ∷ []) (NoFiles (record { ref_ptr = (0, 0); now = codes "f" })))
+third = ((1, (refl, refl)), λ h. absurd (cc (h.1.0, h.1.1)))
+
+-- names fit an action just where there is no error for them
+fit_or_error : (action : Action) (named : List (List ℕ)) (error : ArgumentsError) → TakesNames action named → ¬ IsFilesError action named error
+fit_or_error action named (NoFiles file) fit is =
+    let within : is.0 < length named = slice_get_within named is.0 file.now is.1.1 in
+    let most : length named ≤ is.0 = subst (λ m. IfSome m (λ most. length named ≤ most)) is.1.0 fit.0 in
+    omega (arith, within, most)
+fit_or_error Difference named NoOther fit is = omega (arith, fit.1 refl, ap length is)
+fit_or_error action named error fit is = is
+
+-- where no names are taken, the first one is too many
+none_or_first : (action : Action) (named : List (List ℕ)) → most_names action ≡ Some 0 → action ≢ Difference → TakesNames action named ⊎ ((error : ArgumentsError) × IsFilesError action named error)
+none_or_first action [] most other = inl (subst (λ m. IfSome m (λ most. 0 ≤ most)) (sym most) (omega arith), λ e. absurd (other e))
+none_or_first action (first ∷ named) most other = inr (NoFiles (record { ref_ptr = (0, 0); now = first }), (0, (most, refl)))
+
+error_or_fit : (action : Action) (named : List (List ℕ)) → TakesNames action named ⊎ ((error : ArgumentsError) × IsFilesError action named error)
+error_or_fit (Cut form recovers) named = inl (tt, λ e. absurd (cc (e)))
+error_or_fit (Show markup) named = inl (tt, λ e. absurd (cc (e)))
+error_or_fit (CutByTerminals places) named = inl (tt, λ e. absurd (cc (e)))
+error_or_fit Clashes named = none_or_first Clashes named refl (λ e. absurd (cc (e)))
+error_or_fit TerminalClashes named = none_or_first TerminalClashes named refl (λ e. absurd (cc (e)))
+error_or_fit (Emit language) named = none_or_first (Emit language) named refl (λ e. absurd (cc (e)))
+error_or_fit Picture named = none_or_first Picture named refl (λ e. absurd (cc (e)))
+error_or_fit (Check form) named = none_or_first (Check form) named refl (λ e. absurd (cc (e)))
+error_or_fit Difference [] = inr (NoOther, refl)
+error_or_fit Difference (other ∷ []) = inl (omega arith, λ _. refl)
+error_or_fit Difference (other ∷ second ∷ named) = inr (NoFiles (record { ref_ptr = (0, 0); now = second }), (1, (refl, refl)))

@@ -12,7 +12,7 @@ first_alone r d are = let e : 1 ≡ 2 = are.0 in omega (arith, e)
 
 -- an automaton that isn't the smallest is none of them
 too_large : (r : ModeRules) (m : ℕ) (d : List Row) → (¬ IsSmallest d) → ¬ IsSmallestIn r m d
-too_large r m d large (e, (at, (alike, smallest))) = large smallest
+too_large r m d large (e, (at, (alike, (smallest, canonical)))) = large smallest
 
 -- nothing is refused
 no_status_2 : (r : ModeRules) (said : List ℕ) → ¬ PictureAnswer r (refusal 2 said)

@@ -1,5 +1,5 @@
 -- Cases of specs/Warned.antt.
-use Rattle.std.proofs.Common.{◌≡◌, ◌≢◌, ℕ, List, [], ◌∷◌, codes, flat_map, get_or, refl, ap, arith, Contains, Bor}
+use Rattle.std.proofs.Common.{◌≡◌, ◌≢◌, ℕ, true, false, List, [], ◌∷◌, codes, flat_map, get_or, refl, ap, arith, Contains, Bor}
 use Rattle.std.specs.Fmt.{digits}
 use Rattle.lalrpop_lexer.specs.declared.position.Position.{Position}
 use Rattle.lalrpop_rule_file.specs.declared.file.RuleFile.{RuleFile}
@@ -7,7 +7,7 @@ use Rattle.lalrpop_rule_file.specs.declared.file_rule.FileRule.{FileRule}
 use Rattle.lalrpop_rule_file.specs.declared.part_line.PartLine.{PartLine}
 use Rattle.lalrpop_rule_file.specs.declared.warning.Warning.{Warning}
 use Rattle.lalrpop_rule_file.specs.declared.warning.Warning.TheVariants.{NoRules, PartUnused, ModeNotEntered, LiteralEmpty}
-use Rattle.tokens_lib.specs.Warned.{AreWarnings, SaysIfAsked, SaysWarnings, warned_at, warned_of, warning_line}
+use Rattle.tokens_lib.specs.Warned.{AreWarnings, SaysIfAsked, SaysWarnings, is_said, warned_at, warned_of, warning_line}
 use Rattle.tokens_lib.specs.declared.command.Verbosity.TheVariants.{Quiet, Warnings, Progress}
 
 abbrev place : ℕ → ℕ → Position
@@ -71,3 +71,7 @@ no_rule_is_told file none (ws, (are, e)) = by ws ((are.all NoRules).1 none) e
     by (PartUnused i ∷ ws) has e = absurd (cc)
     by (ModeNotEntered m ∷ ws) has e = absurd (cc)
     by (LiteralEmpty i ∷ ws) has e = absurd (cc)
+
+-- whether anything is said
+any_said : (is_said [] ≡ false) × (is_said (codes "a") ≡ true)
+any_said = (refl, refl)

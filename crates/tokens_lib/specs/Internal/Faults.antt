@@ -1,6 +1,8 @@
 -- The first fault of a text, and the modes and names of rules.
-use Rattle.std.specs.Prelude.{◌≡◌, ◌<◌, ℕ, List, [], Option, Some, None, option_map, slice_get, unwrap_or}
+use Rattle.std.specs.Prelude.{◌≡◌, ◌<◌, ℕ, Bool, true, false, List, [], Option, Some, None, option_map, slice_get, unwrap_or}
 use Rattle.lalrpop_modes.specs.ModeSet.{NamesMode}
+use Rattle.lalrpop_modes.specs.declared.error.ModesError.{ModesError}
+use Rattle.lalrpop_modes.specs.declared.error.ModesError.TheVariants.{Clash}
 use Rattle.lalrpop_modes.specs.declared.mode_rule.ModeRule.{ModeRule}
 use Rattle.lalrpop_rules.specs.declared.rule.Rule.{Rule}
 use Rattle.lalrpop_rules.specs.declared.item.Item.{Item}
@@ -11,6 +13,11 @@ abbrev pub first_with : Option ℕ → Item → Option ℕ
 first_with (Some at) item = Some at
 first_with None (Fault start slice) = Some start
 first_with None item = None
+
+-- whether the error is a clash
+abbrev pub is_clash : ModesError → Bool
+is_clash (Clash m i j word) = true
+is_clash error = false
 
 -- the rules name only modes that are there
 abbrev pub NameOnly : List ModeRule → ℕ → Type 0

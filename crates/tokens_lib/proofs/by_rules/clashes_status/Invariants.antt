@@ -1,5 +1,5 @@
 use Rattle.std.proofs.Common.{◌≡◌, map, drop}
-use Rattle.tokens_lib.specs.Program.{clashes_status}
+use Rattle.tokens_lib.specs.NamedRules.{clashes_status}
 use Rattle.tokens_lib.proofs.by_rules.clashes_status.Given as goal
 
 -- no mode so far has clashes

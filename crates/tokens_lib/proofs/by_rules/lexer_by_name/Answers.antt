@@ -1,5 +1,5 @@
 use Rattle.std.proofs.Common.{map, string_bytes}
-use Rattle.tokens_lib.specs.Program.{RulesOf, RulesRefused}
+use Rattle.tokens_lib.specs.NamedRules.{RulesOf, RulesRefused}
 use Rattle.tokens_lib.proofs.AnswerLaws.{none_read, some_refused}
 use Rattle.tokens_lib.proofs.ProgramLaws.{file_read}
 use Rattle.tokens_lib.proofs.by_rules.lexer_by_name.Goals as goal

@@ -2,7 +2,7 @@ use Rattle.std.proofs.Common.{inl, inr, refl}
 use Rattle.tokens_lib.specs.Answer.{headed, refusal}
 use Rattle.lalrpop_lexer.specs.Lines.{lines}
 use Rattle.lalrpop_rule_file.specs.RuleFile.{without_mark}
-use Rattle.tokens_lib.specs.Program.{LinesAnswer, RulesRefused, RulesOf}
+use Rattle.tokens_lib.specs.NamedRules.{LinesAnswer, RulesRefused, RulesOf}
 use Rattle.tokens_lib.specs.Warned.{IsFileOf}
 use Rattle.tokens_lib.proofs.AnswerLaws.{refused_behind, refused_weaker}
 use Rattle.tokens_lib.proofs.ProgramLaws.{warned_alone}
@@ -25,7 +25,7 @@ returns-in_ok-say_warnings-in-Ok-clause-warned g c =
     let are : IsFileOf (lines (without_mark c.args.bytes.now)) file =
     record { rules = c.in-Ok.ensures.rules; places = c.in-Ok.ensures.places; parts = c.in-Ok.ensures.parts; part_lines = c.in-Ok.ensures.part_lines } in
     warned_alone c.lexer_of_rules.result c.args.verbosity c.args.name.now (lines (without_mark c.args.bytes.now)) g.E.Write.contents
-    c.args.err.now c.say_warnings.new.err c.lexer_of_rules.new.err said.0 (file, (are, said.1.0)) said.1.1 c.lexer_of_rules.ensures.quiet
+    c.args.err.now c.say_warnings.new.err c.lexer_of_rules.new.err said.0 (file, (are, said.1.0)) said.1.1.0 c.lexer_of_rules.ensures.quiet
 
 pub returns-in_ok-say_warnings-in-Ok-clause-refused : goal.returns-in_ok-say_warnings-in-Ok-clause-refused
 returns-in_ok-say_warnings-in-Ok-clause-refused g c =
@@ -36,4 +36,4 @@ returns-in_ok-say_warnings-in-Ok-clause-refused g c =
     refused_weaker c.lexer_of_rules.result _ (RulesOf c.args.verbosity RulesRefused c.args.name.now c.args.bytes.now) g.E.Write.contents c.args.err.now c.lexer_of_rules.new.err
     (λ answer is. inr (said.0, ((file, (are, said.1.0)), is)))
     (refused_behind c.lexer_of_rules.result (LinesAnswer RulesRefused c.args.name.now (lines (without_mark c.args.bytes.now)))
-    g.E.Write.contents c.args.err.now c.say_warnings.new.err c.lexer_of_rules.new.err said.0 said.1.1 c.lexer_of_rules.ensures.refused)
+    g.E.Write.contents c.args.err.now c.say_warnings.new.err c.lexer_of_rules.new.err said.0 said.1.1.0 c.lexer_of_rules.ensures.refused)

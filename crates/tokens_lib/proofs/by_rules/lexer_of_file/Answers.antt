@@ -2,7 +2,7 @@ use Rattle.std.proofs.Common.{ℕ, length, map, refl, sym, subst, ◌∙◌, ari
 use Rattle.std.proofs.lemmas.List.{length-map}
 use Rattle.lalrpop_modes.specs.ModeSet.{AreModeRules, IsModesError}
 use Rattle.tokens_lib.specs.Answer.{headed, refusal}
-use Rattle.tokens_lib.specs.Program.{IsSetOf, rules_status}
+use Rattle.tokens_lib.specs.NamedRules.{IsSetOf, rules_status}
 use Rattle.tokens_lib.specs.Internal.Faults.{NameOnly}
 use Rattle.tokens_lib.proofs.Refusals.{error_said}
 use Rattle.tokens_lib.proofs.by_rules.lexer_of_file.Goals as goal

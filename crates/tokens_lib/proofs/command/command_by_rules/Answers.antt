@@ -3,7 +3,7 @@ use Rattle.std.specs.Prelude.{Result, Ok, Err, IfOk, IfErr}
 use Rattle.tokens_lib.specs.Command.{given, options_of, verbosity_of, IsFilesRun, IsFilesError, IsRun, IsRunError}
 use Rattle.tokens_lib.specs.declared.command.Action.{Action}
 use Rattle.tokens_lib.specs.declared.command.ArgumentsError.{ArgumentsError}
-use Rattle.tokens_lib.specs.declared.command.ArgumentsError.TheVariants.{OutOfMemory, Unknown, NoRules, Apart, NoFiles}
+use Rattle.tokens_lib.specs.declared.command.ArgumentsError.TheVariants.{OutOfMemory, Unknown, NoRules, Apart, NoFiles, NoOther}
 use Rattle.tokens_lib.specs.declared.command.Command.{Command}
 use Rattle.tokens_lib.proofs.command.command_by_rules.Goals as goal
 
@@ -24,6 +24,7 @@ is_error (Err (Unknown option)) options names action rules named g n is = absurd
 is_error (Err NoRules) options names action rules named g n is = absurd is
 is_error (Err (Apart apart)) options names action rules named g n is = absurd is
 is_error (Err (NoFiles file)) options names action rules named g n is = λ _. (action, (g, (rules, (named, (n, is)))))
+is_error (Err NoOther) options names action rules named g n is = λ _. (action, (g, (rules, (named, (n, is)))))
 
 pub returns-in-Some-action_of-clause-command : goal.returns-in-Some-action_of-clause-command
 returns-in-Some-action_of-clause-command c =

@@ -4,6 +4,7 @@ use Rattle.lexdfa_lib.specs.declared.error.RunError.{RunError}
 use Rattle.tokens_lib.specs.Answer.{Answer, Answered, Begun, TextsAnswer, FirstTextsAnswer}
 use Rattle.tokens_lib.specs.Emitted.{SourceAnswer}
 use Rattle.tokens_lib.specs.Pictured.{PictureAnswer}
+use Rattle.tokens_lib.specs.Program.{ComparedAnswer, other_of}
 use Rattle.tokens_lib.specs.Streams.{StreamGives}
 use Rattle.tokens_lib.specs.TextAnswer.{TokensAnswer, PiecesAnswer, PageAnswer}
 use Rattle.tokens_lib.proofs.AnswerLaws.{Answered-refused}
@@ -99,7 +100,7 @@ returns-in-Err-3-clause-answer g c =
 -- ---- clashes
 
 pub returns-in-Clashes-clause-answer : goal.returns-in-Clashes-clause-answer
-returns-in-Clashes-clause-answer g c = rw c.in-Clashes.is c.list_clashes.ensures.answer
+returns-in-Clashes-clause-answer g c = rw c.in-Clashes.is c.list_rules.ensures.answer
 
 -- ---- an error
 
@@ -207,3 +208,45 @@ returns-in-Ok-5-clause-begun g c =
     (lexer_begun c.write_pictures.result c.args.verbosity (g.F.Files.gives c.args.files.now) (λ set modes. PictureAnswer set)
     c.args.rules.now c.in-Ok-5.found.lexer (map string_bytes c.in-Ok-5.found.modes.items) g.E.Write.contents c.args.err.now c.lexer_by_name-in-Picture.new.err _ _
     (rw c.in-Ok-5.is at c.in_ok-found-in-Picture.ensures.lexer) c.write_pictures.ensures.begun)
+
+-- ---- a check
+
+pub returns-in-Check-clause-answer : goal.returns-in-Check-clause-answer
+returns-in-Check-clause-answer g c = rw c.in-Check.is c.list_rules-in-Check.ensures.answer
+
+-- ---- what two files of rules tell apart
+
+pub returns-in-Ok-6-clause-answer : goal.returns-in-Ok-6-clause-answer
+returns-in-Ok-6-clause-answer g c =
+    let rules = c.in-Ok-6.found in
+    let names = map text c.args.names.now in
+    rw c.in-Difference.is
+    (lexer_answered c.compare_with.result c.args.verbosity (g.F.Files.gives c.args.files.now) (λ set modes. ComparedAnswer (g.F.Files.gives c.args.files.now) c.args.verbosity c.args.rules.now set modes (other_of names))
+    c.args.rules.now rules.lexer (map string_bytes rules.modes.items) g.W.Write.contents g.E.Write.contents c.args.out.now c.compare_with.new.out c.args.err.now c.lexer_by_name-in-Difference.new.err c.compare_with.new.err
+    (rw c.in-Ok-6.is at c.in_ok-found-in-Difference.ensures.lexer) (rw c.other_of.ensures.other at c.compare_with.ensures.answer))
+
+pub returns-in-Err-6-clause-answer : goal.returns-in-Err-6-clause-answer
+returns-in-Err-6-clause-answer g c =
+    let refused = rw c.in-Err-6.is at c.in_ok-found-in-Difference.ensures.refused in
+    let names = map text c.args.names.now in
+    rw c.in-Difference.is (
+      refused.0,
+      (
+        rules_refused c.args.verbosity (g.F.Files.gives c.args.files.now)
+            (λ set modes. ComparedAnswer (g.F.Files.gives c.args.files.now) c.args.verbosity c.args.rules.now set modes (other_of names))
+            c.args.rules.now refused.0 refused.1.0,
+        Answered-refused g.W.Write.contents g.E.Write.contents c.args.out.now c.args.err.now c.lexer_by_name-in-Difference.new.err c.in-Err-6.status refused.0 refused.1.1,
+      ),
+    )
+
+pub returns-in-Ok-6-clause-begun : goal.returns-in-Ok-6-clause-begun
+returns-in-Ok-6-clause-begun g c =
+    let rules = c.in-Ok-6.found in
+    let names = map text c.args.names.now in
+    rw c.in-Difference.is
+    (lexer_begun c.compare_with.result c.args.verbosity (g.F.Files.gives c.args.files.now) (λ set modes. ComparedAnswer (g.F.Files.gives c.args.files.now) c.args.verbosity c.args.rules.now set modes (other_of names))
+    c.args.rules.now rules.lexer (map string_bytes rules.modes.items) g.E.Write.contents c.args.err.now c.lexer_by_name-in-Difference.new.err _ _
+    (rw c.in-Ok-6.is at c.in_ok-found-in-Difference.ensures.lexer) (rw c.other_of.ensures.other at c.compare_with.ensures.begun))
+
+pub returns-in_err-found-in-Difference-clause-begun : goal.returns-in_err-found-in-Difference-clause-begun
+returns-in_err-found-in-Difference-clause-begun g c = none_begun c.from_residual-in_err-found-in-Difference.result _ _

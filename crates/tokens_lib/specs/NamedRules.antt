@@ -1,0 +1,105 @@
+-- cases: proofs/Cases/NamedRules.antt
+-- What is answered by a file of named rules.
+use Rattle.std.specs.Prelude.{◌≡◌, ℕ, ◌⊎◌, List, [], ◌∷◌, length, map}
+use Rattle.lalrpop_book.specs.Clashes.{Entry}
+use Rattle.lalrpop_lexer.specs.Lines.{lines}
+use Rattle.lalrpop_lexer.specs.declared.position.Position.{Position}
+use Rattle.lalrpop_modes.specs.ModeClashes.{AreModeClashes, IsModesFault}
+use Rattle.lalrpop_modes.specs.ModeSet.{AreModeRules, IsModesError, rules_of}
+use Rattle.lalrpop_modes.specs.Modes.{ModeRules, NoModeClash}
+use Rattle.lalrpop_modes.specs.declared.error.ModesError.{ModesError}
+use Rattle.lalrpop_modes.specs.declared.error.ModesError.TheVariants.{NotParsed, BadEnd}
+use Rattle.lalrpop_modes.specs.declared.mode_rule.ModeRule.{ModeRule}
+use Rattle.lalrpop_rules.specs.RuleSet.{names_of}
+use Rattle.lalrpop_grammar.specs.NamedPart.{NamedPart}
+use Rattle.lalrpop_rule_file.specs.RuleFile as file
+use Rattle.lalrpop_rule_file.specs.RuleFile.{AreFileParts, AreRules, ArePlaces, IsRuleFileError, without_mark}
+use Rattle.lalrpop_rule_file.specs.declared.file_rule.FileRule.{FileRule}
+use Rattle.lalrpop_rule_file.specs.declared.error.RuleFileError.{RuleFileError}
+use Rattle.tokens_lib.specs.Answer.{Answer, refusal, remark, followed, headed}
+use Rattle.tokens_lib.specs.Reasons.{SaysBadLine, SaysRules}
+use Rattle.tokens_lib.specs.RuleClashes.{clash_lines}
+use Rattle.tokens_lib.specs.Warned.{Warned}
+use Rattle.tokens_lib.specs.declared.command.Verbosity.{Verbosity}
+
+-- the rules of a file with these parts, as a lexer takes them
+pub record AreFileRules (ps : List NamedPart) (fs : List FileRule) (rs : List ModeRule) : Type 0 where
+  pub rules : file.AreModeRules ps fs rs
+  pub modes : map (λ q. q.modes.now) rs ≡ map (λ f. f.modes.items) fs
+  pub actions : map (λ q. q.actions.now) rs ≡ map (λ f. f.actions.items) fs
+
+-- the lines say these rules, of modes with these names
+abbrev pub SayRules : List (List ℕ) → List (List ℕ) → List ModeRule → Type 0
+SayRules ls modes rs =
+    (fs : List FileRule) × ((ps : List NamedPart) × (AreRules ls modes fs × (AreFileParts ls ps × AreFileRules ps fs rs)))
+
+-- the texts of these rules begin at these places in the lines
+abbrev pub StandAt : List (List ℕ) → List ModeRule → List Position → Type 0
+StandAt ls rs places =
+    (fs : List FileRule) × ((ps : List NamedPart) × (AreFileRules ps fs rs × (ArePlaces ls fs × (places ≡ map (λ f. f.place) fs))))
+
+-- what the lexer of these rules knows
+pub record IsSetOf (rs : List ModeRule) (modes : List (List ℕ)) (r : ModeRules) : Type 0 where
+  pub rules : AreModeRules rs (length modes) r
+  pub no_clash : NoModeClash r
+
+-- the bytes are rules of modes with these names, and this is what their lexer knows
+abbrev pub AreRulesOf : List ℕ → ModeRules → List (List ℕ) → Type 0
+AreRulesOf bytes r modes = (rs : List ModeRule) × (SayRules (lines (without_mark bytes)) modes rs × IsSetOf rs modes r)
+
+-- 3 if a text has no tree, 2 if a rule can't be compiled or two clash
+abbrev pub rules_status : ModesError → ℕ
+rules_status (NotParsed i position kind) = 3
+rules_status (BadEnd i e) = 3
+rules_status error = 2
+
+-- the lines are rules with this answer
+abbrev pub LinesAnswer : (List ℕ → List (List ℕ) → List (List ℕ) → List ModeRule → Answer → Type 0) → List ℕ → List (List ℕ) → Answer → Type 0
+LinesAnswer IsFor file ls answer = (modes : List (List ℕ)) × ((rs : List ModeRule) × (SayRules ls modes rs × IsFor file ls modes rs answer))
+
+-- the warnings about the file with these lines are said, which is the one answer, and then this is answered
+abbrev pub WarnedAnswer : (List ℕ → Answer) → Verbosity → (Answer → Type 0) → List ℕ → List (List ℕ) → Answer → Type 0
+WarnedAnswer told verbosity Is file ls answer =
+    (said : List ℕ) × (Warned verbosity file ls said × ((own : Answer) × (Is own × (answer ≡ followed (told said) own))))
+
+-- the bytes have a bad line; or their lines are rules with this answer, behind the answer for the warnings about them
+abbrev pub RulesTold : (List ℕ → Answer) → Verbosity → (List ℕ → List (List ℕ) → List (List ℕ) → List ModeRule → Answer → Type 0) → List ℕ → List ℕ → Answer → Type 0
+RulesTold told verbosity IsFor file bytes answer =
+    ((error : RuleFileError) × (IsRuleFileError (without_mark bytes) error
+    × ((said : List ℕ) × (SaysBadLine error said × (answer ≡ refusal 3 (headed file said))))))
+    ⊎ WarnedAnswer told verbosity (LinesAnswer IsFor file (lines (without_mark bytes))) file (lines (without_mark bytes)) answer
+
+-- where a warning is a remark: nothing is wrong
+abbrev pub RulesOf : Verbosity → (List ℕ → List (List ℕ) → List (List ℕ) → List ModeRule → Answer → Type 0) → List ℕ → List ℕ → Answer → Type 0
+RulesOf verbosity IsFor file bytes answer = RulesTold remark verbosity IsFor file bytes answer
+
+-- an error of the rules of these lines is said
+abbrev pub ErrorAnswer : List ℕ → List (List ℕ) → List (List ℕ) → List ModeRule → ModesError → Answer → Type 0
+ErrorAnswer file ls modes rs error answer =
+    (places : List Position) × (StandAt ls rs places
+    × ((said : List ℕ) × (SaysRules modes (rules_of rs) places error said × (answer ≡ refusal (rules_status error) (headed file said)))))
+
+-- a rule has no tree or can't be compiled, which is said; no clash is meant
+abbrev pub FaultAnswer : List ℕ → List (List ℕ) → List (List ℕ) → List ModeRule → Answer → Type 0
+FaultAnswer file ls modes rs answer = (error : ModesError) × (IsModesFault rs (length modes) error × ErrorAnswer file ls modes rs error answer)
+
+-- these rules make no lexer
+abbrev pub RulesRefused : List ℕ → List (List ℕ) → List (List ℕ) → List ModeRule → Answer → Type 0
+RulesRefused file ls modes rs answer = (error : ModesError) × (IsModesError rs (length modes) error × ErrorAnswer file ls modes rs error answer)
+
+-- they don't, or their lexer has this answer
+abbrev pub LexerOf : (ModeRules → List (List ℕ) → Answer → Type 0) → List ℕ → List (List ℕ) → List (List ℕ) → List ModeRule → Answer → Type 0
+LexerOf IsFor file ls modes rs answer = RulesRefused file ls modes rs answer ⊎ ((r : ModeRules) × (IsSetOf rs modes r × IsFor r modes answer))
+
+-- 2 if there are clashes
+abbrev pub clashes_status : List (List Entry) → ℕ
+clashes_status [] = 0
+clashes_status ([] ∷ css) = clashes_status css
+clashes_status ((c ∷ cs) ∷ css) = 2
+
+-- the clashes of the rules of these lines, mode by mode, with a line for each; or a rule has no tree or can't be compiled
+abbrev pub ClashesAnswer : List ℕ → List (List ℕ) → List (List ℕ) → List ModeRule → Answer → Type 0
+ClashesAnswer file ls modes rs answer =
+    FaultAnswer file ls modes rs answer
+    ⊎ ((r : ModeRules) × ((css : List (List Entry)) × (AreModeRules rs (length modes) r × (AreModeClashes r css
+    × (answer ≡ record { status = clashes_status css; out = clash_lines modes (names_of (rules_of rs)) 0 css; err = [] })))))

@@ -1,0 +1,212 @@
+//! A check of named rules: their clashes, or a review.
+ghost use Rattle.std.specs.Prelude.{◌≡◌, ◌≢◌, ◌<◌, List, [], length, false, true, map, IfOk, OnOk, OnErr, IfErr, if◌then◌else◌};
+ghost use Rattle.lalrpop_lexer.specs.Lines.{lines};
+ghost use Rattle.lalrpop_modes.specs.ModeClashes.{IsModesFault};
+ghost use Rattle.lalrpop_modes.specs.ModeSet.{IsModesError, rules_of};
+ghost use Rattle.lalrpop_review.specs.Review.{IsReview};
+ghost use Rattle.lalrpop_review.specs.declared.whole.Review.{Review as ReviewValue};
+ghost use Rattle.lalrpop_rules.specs.RuleSet.{names_of};
+ghost use Rattle.tokens_lib.specs.Answer.{Answer, Answered, Begun};
+ghost use Rattle.tokens_lib.specs.Checked.{AreToldClashes, CheckAnswer, ClashesTold, IsTold, clashes_answer, review_answer};
+ghost use Rattle.tokens_lib.specs.NamedRules.{StandAt};
+ghost use Rattle.tokens_lib.specs.Internal.Faults.{NameOnly, is_clash};
+
+use crate::by_rules::report_rules;
+use crate::layout::LineForm;
+use crate::mode_file::ModeFile;
+use crate::review_lines::{clash_report, has_findings, review_text};
+use lalrpop_lexer::lexer::dfa::Clash;
+use lalrpop_modes::{ModeLexer, ModesError, mode_clashes};
+use lalrpop_review::review;
+use lexdfa_lib::{RunError, Watched, write_whole};
+use std::alloc::{AllocError, Global};
+use std::io::Write;
+
+// The status of rules that clash, and of rules of which something else was found.
+const CLASH: u8 = 2;
+
+const FOUND: u8 = 1;
+
+// What a check writes, and its status.
+#[derive(Debug, Drop)]
+struct Told {
+    text: Vec<u8>,
+    status: u8,
+}
+
+// The lines of these clashes.
+fn clash_lines(
+    alloc: Global,
+    form: LineForm,
+    name: &str,
+    file: &ModeFile<'_>,
+    found: &[Vec<Clash>],
+) -> Result<Told, AllocError>
+    ensures { IfOk result (λ told. record { status = told.status; out = told.text.items; err = [] }
+        ≡ clashes_answer form name.now (map (λ m. m.now) file.now.modes.items)
+        (names_of (rules_of file.now.rules.items)) file.now.places.items
+        (map (λ cs. cs.items) found.now)) }
+{
+    let text = clash_report(
+        alloc,
+        form,
+        name,
+        &file.modes,
+        &file.rules,
+        &file.places,
+        found,
+    )?;
+    Ok(Told {
+        text,
+        status: CLASH,
+    })
+}
+
+// All clashes of these rules; or their first fault, which is no clash.
+fn told_clashes(
+    alloc: Global,
+    form: LineForm,
+    name: &str,
+    file: &ModeFile<'_>,
+) -> Result<Told, ModesError>
+    ensures told { IfOk result (λ told. AreToldClashes form name.now
+        (map (λ m. m.now) file.now.modes.items) file.now.rules.items file.now.places.items
+        (record { status = told.status; out = told.text.items; err = [] })) }
+    ensures fault { IfErr result (IsModesFault file.now.rules.items
+        (length (map (λ m. m.now) file.now.modes.items))) }
+{
+    let found = mode_clashes(alloc, &file.rules, file.modes.len())?;
+    match clash_lines(alloc, form, name, file, &found) {
+        Ok(told) => Ok(told),
+        Err(_) => Err(ModesError::OutOfMemory),
+    }
+}
+
+// The status of a review.
+fn review_status(is_found: bool) -> u8
+    ensures { result ≡ (if is_found then 1 else 0) }
+{
+    if is_found { FOUND } else { 0 }
+}
+
+// A review of these rules, whose lexer this is.
+fn told_review(
+    alloc: Global,
+    form: LineForm,
+    name: &str,
+    file: &ModeFile<'_>,
+    lexer: &ModeLexer,
+) -> Result<Told, AllocError>
+    ensures { IfOk result (λ told. (found : ReviewValue) × (IsReview lexer.now found
+        × (record { status = told.status; out = told.text.items; err = [] }
+        ≡ review_answer form name.now (map (λ m. m.now) file.now.modes.items)
+        (names_of (rules_of file.now.rules.items)) file.now.places.items found))) }
+{
+    let found = review(alloc, lexer)?;
+    let text = review_text(
+        alloc,
+        form,
+        name,
+        &file.modes,
+        &file.rules,
+        &file.places,
+        &found,
+    )?;
+    let status = review_status(has_findings(&found));
+    Ok(Told { text, status })
+}
+
+// Whether the error is a clash.
+fn is_clash(error: &ModesError) -> bool
+    ensures { result ≡ is_clash error.now }
+{
+    matches!(error, ModesError::Clash { .. })
+}
+
+// All clashes, if this error of the rules is one; otherwise the error.
+fn told_instead(
+    alloc: Global,
+    form: LineForm,
+    name: &str,
+    file: &ModeFile<'_>,
+    error: ModesError,
+) -> Result<Told, ModesError>
+    requires error { IsModesError file.now.rules.items
+        (length (map (λ m. m.now) file.now.modes.items)) error }
+    ensures told { IfOk result (λ told. ClashesTold form name.now
+        (map (λ m. m.now) file.now.modes.items) file.now.rules.items file.now.places.items
+        (record { status = told.status; out = told.text.items; err = [] })) }
+    ensures fault { IfErr result (IsModesFault file.now.rules.items
+        (length (map (λ m. m.now) file.now.modes.items))) }
+{
+    if is_clash(&error) {
+        return told_clashes(alloc, form, name, file);
+    }
+    Err(error)
+}
+
+// What is told of these rules; or their first fault, which is no clash.
+fn told_of(
+    alloc: Global,
+    form: LineForm,
+    name: &str,
+    file: &ModeFile<'_>,
+) -> Result<Told, ModesError>
+    requires some { 0 < length file.now.modes.items }
+    ensures told { IfOk result (λ told. IsTold form name.now (map (λ m. m.now) file.now.modes.items)
+        file.now.rules.items file.now.places.items
+        (record { status = told.status; out = told.text.items; err = [] })) }
+    ensures fault { IfErr result (IsModesFault file.now.rules.items
+        (length (map (λ m. m.now) file.now.modes.items))) }
+{
+    let lexer = match ModeLexer::from_rules(alloc, &file.rules, file.modes.len()) {
+        Ok(lexer) => lexer,
+        Err(error) => return told_instead(alloc, form, name, file, error),
+    };
+    match told_review(alloc, form, name, file, &lexer) {
+        Ok(told) => Ok(told),
+        Err(_) => Err(ModesError::OutOfMemory),
+    }
+}
+
+/// Writes all clashes of these rules, or their review if none clash, and returns the status. All is made before the first byte is
+/// written.
+///
+/// # Errors
+///
+/// `OutOfMemory` if a request for memory was refused: nothing was written. `Write` if a write failed or took no byte: a prefix was
+/// written.
+pub(crate) fn check_rules<W: Write, E: Write>(
+    alloc: Global,
+    form: LineForm,
+    name: &str,
+    bytes: &[u8],
+    file: &ModeFile<'_>,
+    out: &mut Watched<W>,
+    err: &mut Watched<E>,
+) -> Result<u8, RunError>
+    requires places { StandAt (lines bytes.now) file.now.rules.items file.now.places.items }
+    requires some { 0 < length file.now.modes.items }
+    requires within { NameOnly file.now.rules.items (length file.now.modes.items) }
+    requires out_good { out.old.failed ≡ false }
+    ensures answer { IfOk result (λ status. (answer : Answer)
+        × (CheckAnswer form name.now (lines bytes.now) (map (λ m. m.now) file.now.modes.items)
+        file.now.rules.items answer
+        × Answered W.contents E.contents out.old out.new err.old err.new status answer)) }
+    ensures good { OnOk result (out.new.failed ≡ false) }
+    ensures begun { OnErr result (Begun (CheckAnswer form name.now (lines bytes.now)
+        (map (λ m. m.now) file.now.modes.items) file.now.rules.items)
+        (W.contents out.old.inner) (W.contents out.new.inner)) }
+    ensures memory { IfErr result (λ e. e ≡ RunError.OutOfMemory → out.new.failed ≡ false) }
+    ensures write { IfErr result (λ e. e ≡ RunError.Write → out.new.failed ≡ true) }
+    ensures read { IfErr result (λ e. e ≢ RunError.Read) }
+    ensures no_late_write { out.new.late ≡ out.old.late }
+    ensures no_late_message { err.new.late ≡ err.old.late }
+{
+    let told = match told_of(alloc, form, name, file) {
+        Ok(told) => told,
+        Err(error) => return report_rules(alloc, name, bytes, file, &error, err),
+    };
+    write_whole(out, &told.text)?;
+    Ok(told.status)
+}
