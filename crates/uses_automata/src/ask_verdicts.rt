@@ -8,14 +8,15 @@ ghost use Rattle.lalrpop_dfa.specs.Dfa.{IsWellFormed, Recognizes, RecognizesAll}
 ghost use Rattle.lalrpop_verdicts.specs.Answers.{IsTextWord, answer};
 ghost use Rattle.lalrpop_verdicts.specs.Differences.{label_of};
 ghost use Rattle.lalrpop_verdicts.specs.Picture.{dot};
-ghost use Rattle.lalrpop_verdicts.specs.Smallest.{HasFewestEdges, RejectsAtOnce};
-ghost use Rattle.lalrpop_verdicts.specs.Verdicts.{IsWonBy};
+ghost use Rattle.lalrpop_verdicts.specs.Smallest.{IsCanonical};
+ghost use Rattle.lalrpop_verdicts.specs.Verdicts.{IsWonBy, words_of};
 
 use lalrpop_book::DfaConstructionError;
 use lalrpop_dfa::Dfa;
 use lalrpop_hir::{Hir, Regex};
 use lalrpop_verdicts::{
     Difference, Verdict, dot, least_difference, matches_empty, minimized, same_language, verdicts,
+    winners,
 };
 use std::alloc::{AllocError, Global};
 
@@ -33,7 +34,7 @@ pub fn can_go(
 ) -> Result<bool, DfaConstructionError>
     requires within { index < length regexs.now }
     ensures goes { result ≡ Ok true → (ps : List ℕ) → Recognizes dfa.now regexs.now ps
-        → (w : List ℕ) → ¬ IsWonBy regexs.now ps index index w }
+        → (w : List ℕ) → ¬ IsWonBy (words_of regexs.now index) regexs.now ps index w }
 {
     let found = verdicts(alloc, regexs, dfa)?;
     match &found[index] {
@@ -54,6 +55,27 @@ pub fn count(alloc: Global, regexs: &[Regex], dfa: &Dfa) -> Result<usize, DfaCon
     ensures err { IfErr result (IsFaultOf regexs.now) }
 {
     Ok(verdicts(alloc, regexs, dfa)?.len())
+}
+
+// Needs lalrpop_verdicts::winners: winners, err.
+/// Whether the automaton of another list leaves all texts of the pattern at this place without a token.
+///
+/// # Errors
+///
+/// As `winners` has them.
+pub fn is_new(
+    alloc: Global,
+    regexs: &[Regex],
+    index: usize,
+    other: &Dfa,
+) -> Result<bool, DfaConstructionError>
+    requires within { index < length regexs.now }
+    ensures new { result ≡ Ok true → (ts : List Tree) (ps : List ℕ)
+        → Recognizes other.now ts ps
+        → (j : ℕ) (w : List ℕ) → ¬ IsWonBy (words_of regexs.now index) ts ps j w }
+    ensures err { IfErr result (IsFaultOf regexs.now) }
+{
+    Ok(winners(alloc, regexs, index, other)?.is_empty())
 }
 
 // Needs lalrpop_verdicts::least_difference: least, answers.
@@ -121,7 +143,7 @@ pub fn is_suspicious(tree: &Hir) -> bool
     matches_empty(tree)
 }
 
-// Needs lalrpop_verdicts::minimized: alike, smallest, rejects, edges, recognizes, recognizes_all.
+// Needs lalrpop_verdicts::minimized: alike, smallest, canonical, recognizes, recognizes_all.
 /// An automaton for the same runs, with as few states as can be.
 ///
 /// # Errors
@@ -131,8 +153,7 @@ pub fn smaller(alloc: Global, dfa: &Dfa) -> Result<Dfa, AllocError>
     ensures fewer { IfOk result (λ least.
         IsWellFormed dfa.now → length least ≤ length dfa.now) }
     ensures same { IfOk result (λ least. (w : List ℕ) → answer least w ≡ answer dfa.now w) }
-    ensures stops { IfOk result RejectsAtOnce }
-    ensures few { IfOk result HasFewestEdges }
+    ensures one_of_a_kind { IfOk result IsCanonical }
     ensures runs { IfOk result (λ least. (ts : List Tree) (ps : List ℕ)
         → (Recognizes dfa.now ts ps → Recognizes least ts ps)
         × (RecognizesAll dfa.now ts ps → RecognizesAll least ts ps)) }

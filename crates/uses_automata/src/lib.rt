@@ -2,6 +2,7 @@
 //! A caller needs the promises that the line `Needs` above it names, and promises what follows from them.
 #![tactic(auto)]
 
+pub mod ask_rules;
 pub mod ask_verdicts;
 pub mod build_many;
 pub mod class_values;

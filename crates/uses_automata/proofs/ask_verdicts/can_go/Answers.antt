@@ -3,7 +3,7 @@ use Rattle.std.specs.Prelude.{Vec, slice_get}
 use Rattle.std.specs.Global.{Global}
 use Rattle.std.proofs.lemmas.Option.{slice_get-get_or}
 use Rattle.lalrpop_book.specs.Tree.{Tree}
-use Rattle.lalrpop_verdicts.specs.Verdicts.{IsVerdict, IsWonBy}
+use Rattle.lalrpop_verdicts.specs.Verdicts.{IsVerdict, IsWonBy, words_of}
 use Rattle.lalrpop_verdicts.specs.declared.verdict.Verdict.{Verdict}
 use Rattle.lalrpop_verdicts.specs.declared.verdict.Verdict.TheVariants.{Wins, Shadowed, Unmatched}
 use Rattle.uses_automata.proofs.ask_verdicts.can_go.Goals as goal
@@ -12,7 +12,7 @@ at : {X : Type 0} (xs : List X) (k : ℕ) (x : X) → k < length xs → x ≡ ge
 at xs k x l e = slice_get-get_or xs k x l ∙ ap (λ y. Some y) (sym e)
 
 -- a verdict of no win says that there is none
-loses : (ts : List Tree) (ps : List ℕ) (i : ℕ) (v : Verdict) → IsVerdict ts ps i v → ((w : Vec ℕ Global) → v ≢ Wins w) → (w : List ℕ) → ¬ IsWonBy ts ps i i w
+loses : (ts : List Tree) (ps : List ℕ) (i : ℕ) (v : Verdict) → IsVerdict ts ps i v → ((w : Vec ℕ Global) → v ≢ Wins w) → (w : List ℕ) → ¬ IsWonBy (words_of ts i) ts ps i w
 loses ts ps i (Wins w) h others = absurd (others w refl)
 loses ts ps i (Shadowed by) h others = h.0
 loses ts ps i Unmatched h others = λ w won. h w won.0 won.1 won.2
