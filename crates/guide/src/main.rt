@@ -4,8 +4,10 @@
 mod calculator;
 mod config_reader;
 mod highlighter;
+mod smallest;
 
 fn main(rt: HostRuntime) -> anyhow::Result<()> {
+    smallest::main(rt)?;
     calculator::main(rt)?;
     config_reader::main(rt)?;
     highlighter::main(rt)

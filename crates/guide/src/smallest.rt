@@ -6,7 +6,8 @@ use lalrpop_lexer::Lexer;
 use lalrpop_lexer::lexer::dfa::Precedence;
 use lalrpop_lexer::lexer::re::{parse_literal, parse_regex};
 
-fn main(rt: HostRuntime) -> Result<()> {
+/// Cuts one text and writes its tokens.
+pub fn main(rt: HostRuntime) -> Result<()> {
     let alloc = rt.alloc();
     let regexs = vec![in alloc;
         parse_literal(alloc, "if")?,
