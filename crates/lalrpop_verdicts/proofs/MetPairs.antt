@@ -1,10 +1,10 @@
 -- The states of the pairs that have been met.
-use Rattle.std.proofs.Common.{◌≡◌, ℕ, inl, inr, List, [], ◌∷◌, ◌++◌, length, refl, sym, ap, ◌∙◌, Bool, true, false, cond, not, ◌&&◌, nat_eq, eqb-true, eq-eqb}
+use Rattle.std.proofs.Common.{◌≡◌, ℕ, inl, inr, List, [], ◌∷◌, ◌++◌, Some, length, refl, sym, ap, ◌∙◌, Bool, true, false, cond, not, ◌&&◌, nat_eq, eqb-true, eq-eqb}
 use Rattle.std.specs.List.{list_any}
 use Rattle.std.proofs.lemmas.Bool.{and_parts, and_from}
 use Rattle.lalrpop_book.proofs.Pushed.{pushed_cases, pushed_keeps, pushed_last}
 use Rattle.lalrpop_verdicts.specs.declared.pairs.Pair.{Pair}
-use Rattle.lalrpop_verdicts.specs.Internal.Pairs.{HasStates, AreKnown, IsAdded}
+use Rattle.lalrpop_verdicts.specs.Internal.Pairs.{HasStates, AreKnown, AreMet, IsAdded}
 
 abbrev pub has_key : List (ℕ × ℕ) → ℕ → ℕ → Bool
 has_key keys p q = list_any (λ k. nat_eq p k.0 && nat_eq q k.1) keys
@@ -56,3 +56,11 @@ module _ (keys : List (ℕ × ℕ)) (pairs : List Pair) (x : Pair) (i j : ℕ) (
 
   pub known_push : (keys2 : List (ℕ × ℕ)) (pairs2 : List Pair) → ((a : ℕ × ℕ) → has_key keys2 a.0 a.1 ≡ cond (nat_eq i a.0 && nat_eq j a.1) true (has_key keys a.0 a.1)) → pairs2 ≡ pairs ++ x ∷ [] → AreKnown keys2 pairs2
   known_push keys2 pairs2 u same = rw same (λ p q. known_by p q (nat_eq i p && nat_eq j q) keys2 refl (u (p, q)))
+
+  has_added : (pairs2 : List Pair) → IsAdded pairs x pairs2 → HasStates pairs2 i j
+  has_added pairs2 (inl old) = rw (left, right, old.1) old.0
+  has_added pairs2 (inr new) = rw (left, right, new.1) (length pairs, x, (pushed_last pairs x, refl, refl))
+
+  -- what is kept once the pair was looked for
+  pub met_now : (keys2 : List (ℕ × ℕ)) (pairs2 : List Pair) → AreKnown keys2 pairs2 → IsAdded pairs x pairs2 → AreMet keys2 (Some (i, j)) pairs2
+  met_now keys2 pairs2 k a = record { known = k; one_of_them = has_added pairs2 a }

@@ -14,7 +14,7 @@ use Rattle.lalrpop_build.specs.Internal.BreadthFirst.{Automaton, nth, from_of, v
 use Rattle.lalrpop_build.proofs.Steps.{breadth_first_gap, breadth_first_next, breadth_first_found, breadth_first_pushed}
 use Rattle.lalrpop_verdicts.specs.declared.pairs.Pair.{Pair}
 use Rattle.lalrpop_verdicts.specs.declared.pairs.Follow.{Follow}
-use Rattle.lalrpop_verdicts.specs.Internal.Pairs.{HasStates, ArePairs, Place, outset, at, lost, is_lost, left_at, right_at, ends_at, is_character, lead, walk, number_of, place_of, origin_of, places, origins, IsTaken, IsTurn, IsPassed, IsAdded, IsNextCharacter, IsLastCharacter}
+use Rattle.lalrpop_verdicts.specs.Internal.Pairs.{HasStates, ArePairs, Place, outset, at, lost, is_lost, left_at, right_at, ends_at, is_character, lead, walk, number_of, place_of, origin_of, places, origins, IsTaken, IsTurn, IsAdded, IsNextCharacter, IsLastCharacter}
 use Rattle.lalrpop_verdicts.proofs.PairWalks.{place_at, places_length, pair_within, states_within, apart, all_found}
 
 -- ---- values that lead alike, or nowhere
@@ -192,13 +192,6 @@ module _ (follow : Follow) (l r : List Row) (pairs : List Pair) (n p q last : �
 pub next_is : (value last : ℕ) (o : Option ℕ) → value ≤ last → MatchOption o (IsLastCharacter last) (IsNextCharacter last) → IfSome o (λ n. (value < n) × (is_character n ≡ true))
 next_is value last None l h = tt
 next_is value last (Some n) l h = let b : last < n = h.beyond in (omega arith, h.character)
-
-pub passed_later : (d : List Row) (p place v w : ℕ) → v ≤ w → IsPassed d p place v → IsPassed d p place w
-passed_later d p place v w l h = λ s e k t a f. omega (arith, h s e k t a f)
-
-pub passed_next : (d : List Row) (p place value last : ℕ) (o : Option ℕ) → value ≤ last → IsPassed d p place value → MatchOption o (IsLastCharacter last) (IsNextCharacter last) → IfSome o (IsPassed d p place)
-passed_next d p place value last None l h m = tt
-passed_next d p place value last (Some n) l h m = let b : last < n = m.beyond in passed_later d p place value n (omega arith) h
 
 -- ---- the beginning and the end
 pub first_turn : (follow : Follow) (l r : List Row) → IsTurn follow l r [] 0 0 0 0

@@ -1,21 +1,19 @@
 -- Values between two bounds lead to where the first bound leads.
-use Rattle.std.proofs.Common.{◌≡◌, ℕ, zero, suc, inl, inr, Bool, true, false, ◌⊎◌, ◌↔◌, ◌+◌, ◌<◌, ◌≤◌, List, [], ◌∷◌, ◌++◌, length, map, take, get_or, replicate, refl, sym, ap, ◌∙◌, subst, ⊎_elim, arith}
-use Rattle.std.specs.Prelude.{slice_get, Some, IsSomeAnd, nat_eq, not, Vec}
+use Rattle.std.proofs.Common.{◌≡◌, ℕ, zero, suc, inl, inr, ◌⊎◌, ◌↔◌, ◌+◌, ◌<◌, ◌≤◌, List, [], ◌∷◌, ◌++◌, length, map, take, get_or, replicate, refl, sym, ap, ◌∙◌, subst, ⊎_elim, arith}
+use Rattle.std.specs.Prelude.{slice_get, Some, IsSomeAnd, Vec}
 use Rattle.std.specs.Global.{Global}
-use Rattle.std.specs.HashSet.{HashSet, contains, Updates, IsUnchanged}
-use Rattle.std.specs.List.{Contains, list_any}
+use Rattle.std.specs.List.{Contains}
 use Rattle.std.specs.List.Sorted.{IsNonDecreasing, IsPermutation}
-use Rattle.std.proofs.lemmas.Bool.{cases_lt, eqb-true}
+use Rattle.std.proofs.lemmas.Bool.{cases_lt}
 use Rattle.std.proofs.lemmas.Grind.{get_or_default_zero}
 use Rattle.std.proofs.lemmas.List.{get_or-map, length-replicate, map_more, take_all}
 use Rattle.std.proofs.lemmas.List.Sorted.{Contains-permutation}
-use Rattle.std.proofs.lemmas.List.Elements.{Contains-append_left, Contains-push}
 use Rattle.std.proofs.lemmas.Option.{slice_get_cases, slice_get_within}
 use Rattle.lalrpop_book.specs.Range.{Range, Covers}
 use Rattle.lalrpop_dfa.specs.Dfa.{Row, StoredState, IsStored, edge_target, step}
 use Rattle.lalrpop_dfa.specs.Internal.Stored.{EndBefore}
 use Rattle.lalrpop_dfa.proofs.EdgeTargets.{leads_first, leads_later, leads_none, place_of, step_of, tests_of, the_some}
-use Rattle.lalrpop_verdicts.specs.Internal.Classes.{AreColumns, AreListed, AreSplit, AreTried, HasFirsts, IsBounded, IsMore, leads_of, other_at}
+use Rattle.lalrpop_verdicts.specs.Internal.Classes.{AreColumns, AreSplit, AreTried, HasFirsts, IsBounded, IsMore, leads_of, other_at}
 
 -- ---- elements
 pub contains_cases : {X : Type 0} (v : X) (vs : List X) (x : X) → Contains (v ∷ vs) x → (v ≡ x) ⊎ Contains vs x
@@ -97,27 +95,6 @@ tried_of d vs h = record {
 }
 
 -- ---- values that are added
-module _ {S : Type 0} (known known2 : HashSet ℕ S) (values : List ℕ) (v : ℕ) (h : AreListed known values) where
-  pub listed_added : Updates nat_eq known known2 v true → AreListed known2 (values ++ v ∷ [])
-  listed_added up c m = by_case (nat_eq v c) refl
-    where
-      by_case : (b : Bool) → nat_eq v c ≡ b → Contains (values ++ v ∷ []) c
-      by_case true e = subst (λ x. Contains (values ++ v ∷ []) x) (eqb-true v c e) (Contains-push values v)
-      by_case false e = Contains-append_left values (v ∷ []) c (h c (sym (up.2 c e) ∙ m))
-
-  pub listed_same : IsUnchanged known known2 → AreListed known2 values
-  listed_same same c m = h c (ap (λ ks. list_any (nat_eq c) ks) (sym same) ∙ m)
-
-  pub known_listed : (added : Bool) → added ≡ not (contains nat_eq known v) → added ≡ false → Contains values v
-  known_listed added e f = by_case (contains nat_eq known v) refl
-    where
-      by_case : (b : Bool) → contains nat_eq known v ≡ b → Contains values v
-      by_case true g = h v g
-      by_case false g = (let k : added ≡ not false = e ∙ ap not g in cc)
-
-pub more_pushed : (values : List ℕ) (v : ℕ) → IsMore values (values ++ v ∷ [])
-more_pushed values v c m = Contains-append_left values (v ∷ []) c m
-
 later_more : (old new : List ℕ) → IsMore old new → IsMore (4294967296 ∷ old) (4294967296 ∷ new)
 later_more old new more c m = ⊎_elim (λ (e : 4294967296 ≡ c). subst (λ x. Contains (4294967296 ∷ new) x) e (contains_first 4294967296 new)) (λ (k : Contains old c). contains_later 4294967296 new c (more c k)) (contains_cases 4294967296 old c m)
 

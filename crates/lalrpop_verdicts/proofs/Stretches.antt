@@ -1,11 +1,11 @@
 -- Stretches of values that lead from a state to one state.
-use Rattle.std.proofs.Common.{◌≡◌, ℕ, ◌<◌, ◌≤◌, List, length, sym, ap, subst, ◌∙◌, arith}
+use Rattle.std.proofs.Common.{◌≡◌, ℕ, ◌<◌, ◌≤◌, List, length, subst, ◌∙◌, arith}
 use Rattle.std.specs.Prelude.{slice_get, Some}
 use Rattle.lalrpop_book.specs.Range.{Range}
-use Rattle.lalrpop_dfa.specs.Dfa.{Row, edge_target, step, AreAscendingTests, IsWellFormed}
+use Rattle.lalrpop_dfa.specs.Dfa.{Row, edge_target, step, AreAscendingTests}
 use Rattle.lalrpop_dfa.specs.Internal.Stored.{EndBefore}
 use Rattle.lalrpop_dfa.proofs.EdgeTargets.{step_of, step_within, leads_at, leads_between}
-use Rattle.lalrpop_verdicts.specs.Internal.Pairs.{IsPassed}
+use Rattle.lalrpop_verdicts.specs.Internal.Pairs.{AreEdges}
 
 pub end_later : (ts : List (Range × ℕ)) (place v w : ℕ) → v ≤ w → EndBefore ts place v → EndBefore ts place w
 end_later ts place v w l h = λ k t a e. omega (arith, h k t a e)
@@ -21,19 +21,16 @@ pub between_edges : (ts : List (Range × ℕ)) (place other value last : ℕ) �
 between_edges ts place other value last up passed behind c a b =
     leads_between ts up place other c (end_later ts place value c a passed) (λ t e. omega (arith, behind t e))
 
-module _ (d : List Row) (p : ℕ) (s : Row) (ts : List (Range × ℕ)) (at : slice_get d p ≡ Some s) (tests : ts ≡ s.tests) where
-  pub state_leads : (other value last target : ℕ) → other ≡ s.other → ((c : ℕ) → value ≤ c → c ≤ last → edge_target ts other c ≡ target)
-      → (c : ℕ) → value ≤ c → c ≤ last → step d p c ≡ target
-  state_leads other value last target same h c a b = step_of d p c s at ∙ rw (← tests, ← same) (h c a b)
+-- where values that lead alike lead from a state
+pub edges_lead : (d : List Row) (p : ℕ) (ts : List (Range × ℕ)) (other value last target : ℕ) → AreEdges d p ts other → ((c : ℕ) → value ≤ c → c ≤ last → edge_target ts other c ≡ target)
+    → (c : ℕ) → value ≤ c → c ≤ last → step d p c ≡ target
+edges_lead d p ts other value last target e h c a b = step_of d p c e.row e.row_at ∙ rw (← e.same_tests, ← e.same_other) (h c a b)
 
-  pub state_passed : (place value : ℕ) → EndBefore ts place value → IsPassed d p place value
-  state_passed place value h = λ u e. let same : s ≡ u = (let f : Some s ≡ Some u = sym at ∙ e in cc) in subst (λ (us : List (Range × ℕ)). EndBefore us place value) (tests ∙ ap (λ (x : Row). x.tests) same) h
+pub edges_ascend : (d : List Row) (p : ℕ) (ts : List (Range × ℕ)) (other : ℕ) → AreEdges d p ts other → AreAscendingTests ts
+edges_ascend d p ts other e = rw e.same_tests (e.well_formed.ascending p e.row e.row_at)
 
-  pub passed_edges : (place value : ℕ) → IsPassed d p place value → EndBefore ts place value
-  passed_edges place value h = rw tests (h s at)
-
-  pub edges_ascend : IsWellFormed d → AreAscendingTests ts
-  edges_ascend w = rw tests (w.ascending p s at)
-
-pub target_within : (d : List Row) (p value target : ℕ) → IsWellFormed d → p < length d → step d p value ≡ target → target < length d
-target_within d p value target w l e = subst (λ (q : ℕ). q < length d) e (step_within d p value w l)
+pub edge_within : (d : List Row) (p : ℕ) (ts : List (Range × ℕ)) (other value last target : ℕ) → AreEdges d p ts other → value ≤ last → ((c : ℕ) → value ≤ c → c ≤ last → edge_target ts other c ≡ target)
+    → target < length d
+edge_within d p ts other value last target e some h =
+    let itself : value ≤ value = omega arith in
+    subst (λ (q : ℕ). q < length d) (edges_lead d p ts other value last target e h value itself some) (step_within d p value e.well_formed e.within)

@@ -1,8 +1,8 @@
 //! The pairs of states that the texts lead to in two automata, by breadth first search.
 ghost use Rattle.std.specs.Prelude.{◌≡◌, ℕ, ◌<◌, ◌≤◌, ◌+◌, List, [], Some, length, slice_get, IfOk, IfSome, IfNone, OnOk, MatchOption, not, true};
-ghost use Rattle.lalrpop_dfa.specs.Dfa.{Row, step, edge_target, AreAscendingTests};
+ghost use Rattle.lalrpop_dfa.specs.Dfa.{Row, edge_target, AreAscendingTests};
 ghost use Rattle.lalrpop_dfa.specs.Internal.Stored.{EndBefore};
-ghost use Rattle.lalrpop_verdicts.specs.Internal.Pairs.{ArePairs, ends_at, is_character, number_of, AreKnown, IsAdded, IsLastCharacter, IsNextCharacter, IsPassed, IsTaken, IsTurn};
+ghost use Rattle.lalrpop_verdicts.specs.Internal.Pairs.{ArePairs, ends_at, is_character, number_of, AreEdges, AreMet, IsAdded, IsLastCharacter, IsNextCharacter, IsTaken, IsTurn};
 
 use lalrpop_dfa::{Dfa, DfaStateIndex, Kind, START};
 use lalrpop_nfa::Test;
@@ -85,35 +85,32 @@ fn stretch_at(
     }
 }
 
-/// A state, and how many of its test edges have been passed. Its values are taken in ascending order, so none is looked for.
+/// The edges of a state: its test edges, which ascend, and where all other values lead.
 #[derive(Clone, Copy, Drop)]
-struct Cursor {
+struct Edges<'given> {
     state: DfaStateIndex,
-    place: usize,
+    tests: &'given [(Test, DfaStateIndex)],
+    other: DfaStateIndex,
 }
 
-impl Cursor {
-    fn new(state: DfaStateIndex) -> Cursor
-        ensures { result ≡ record { state = state; place = 0 } }
-    {
-        Cursor { state, place: 0 }
+// The edges of the state. They are looked for once, and not for each value.
+fn edges_of(dfa: &Dfa, state: DfaStateIndex) -> Edges<'_>
+    requires { state < length dfa.now }
+    ensures state { result.state ≡ state }
+    ensures edges { AreEdges dfa.now state result.tests.now result.other }
+{
+    Edges {
+        state,
+        tests: dfa.test_edges(state),
+        other: dfa.state(state).other_edge(),
     }
+}
 
-    // The stretch that begins with this value. All values before it have been passed.
-    fn stretch(&mut self, dfa: &Dfa, value: u32) -> Stretch
-        requires within { self.old.state < length dfa.now }
-        requires passed { IsPassed dfa.now self.old.state self.old.place value }
-        ensures leads { (c : ℕ) → value ≤ c → c ≤ result.last
-            → step dfa.now self.old.state c ≡ result.target }
-        ensures within { result.target < length dfa.now }
-        ensures some { value ≤ result.last }
-        ensures passed { IsPassed dfa.now self.old.state self.new.place value }
-        ensures same { self.new.state ≡ self.old.state }
-    {
-        let edges = dfa.test_edges(self.state);
-        let other = dfa.state(self.state).other_edge();
-        stretch_at(edges, other, &mut self.place, value)
-    }
+/// How many test edges of either state of a turn have been passed. Values are taken in ascending order, so none is looked for.
+#[derive(Drop)]
+struct Passed {
+    left: usize,
+    right: usize,
 }
 
 // The next character beyond the value.
@@ -133,27 +130,40 @@ struct Met {
     pairs: Vec<Pair>,
     // The states of the pairs.
     states: HashSet<(usize, usize)>,
+    // Those that were looked for last: most stretches lead to the pair that the one before led to.
+    latest: Option<(usize, usize)>,
 }
 
 impl Met {
     // No pairs, and room for as many.
     fn with_capacity(alloc: Global, count: usize) -> Result<Met, AllocError>
         ensures pairs { IfOk result (λ met. met.pairs.items ≡ []) }
-        ensures known { IfOk result (λ met. AreKnown met.states.keys met.pairs.items) }
+        ensures known { IfOk result (λ met. AreMet met.states.keys met.latest met.pairs.items) }
     {
         Ok(Met {
             pairs: Vec::with_capacity(alloc, count)?,
             states: HashSet::new(alloc),
+            latest: None,
         })
     }
 
     // Adds a pair, unless one with its states has been met.
     fn add(&mut self, pair: Pair) -> Result<(), AllocError>
-        requires known { AreKnown self.old.states.keys self.old.pairs.items }
-        ensures known { OnOk result (AreKnown self.new.states.keys self.new.pairs.items) }
+        requires known { AreMet self.old.states.keys self.old.latest self.old.pairs.items }
+        ensures known { OnOk result (
+            AreMet self.new.states.keys self.new.latest self.new.pairs.items) }
         ensures added { OnOk result (IsAdded self.old.pairs.items pair self.new.pairs.items) }
     {
-        if self.states.insert((pair.left.index(), pair.right.index()))? {
+        let left = pair.left.index();
+        let right = pair.right.index();
+        if let Some(latest) = self.latest
+            && latest.0 == left
+            && latest.1 == right
+        {
+            return Ok(());
+        }
+        self.latest = Some((left, right));
+        if self.states.insert((left, right))? {
             self.pairs.push(pair)?;
         }
         Ok(())
@@ -162,10 +172,10 @@ impl Met {
 
 /// The states of a pair from which a walk goes on, and the pair's number; `None` where the walk begins.
 #[derive(Drop)]
-struct Turn {
+struct Turn<'given> {
     from: Option<usize>,
-    left: Cursor,
-    right: Cursor,
+    left: Edges<'given>,
+    right: Edges<'given>,
 }
 
 /// A walk over the pairs of two automata.
@@ -179,40 +189,44 @@ struct Walk<'given> {
 impl<'given> Walk<'given> {
     // Takes the values from this character on that lead from the turn's states to one pair, which is added unless it has been
     // met, and returns the next character beyond them. If the walk ends at the left state, no right one is looked for.
-    fn take(self, met: &mut Met, turn: &mut Turn, value: u32) -> Result<Option<u32>, AllocError>
-        requires left_within { turn.old.left.state < length self.left.now }
-        requires right_within { turn.old.right.state < length self.right.now }
-        requires known { AreKnown met.old.states.keys met.old.pairs.items }
+    fn take(
+        self,
+        met: &mut Met,
+        turn: &Turn<'_>,
+        passed: &mut Passed,
+        value: u32,
+    ) -> Result<Option<u32>, AllocError>
+        requires left_edges { AreEdges self.left.now
+            turn.now.left.state turn.now.left.tests.now turn.now.left.other }
+        requires right_edges { AreEdges self.right.now
+            turn.now.right.state turn.now.right.tests.now turn.now.right.other }
+        requires known { AreMet met.old.states.keys met.old.latest met.old.pairs.items }
         requires character { is_character value ≡ true }
-        requires left_passed { IsPassed self.left.now
-            turn.old.left.state turn.old.left.place value }
-        requires right_passed { IsPassed self.right.now
-            turn.old.right.state turn.old.right.place value }
+        requires left_passed { EndBefore turn.now.left.tests.now passed.old.left value }
+        requires right_passed { EndBefore turn.now.right.tests.now passed.old.right value }
         requires turn { IsTurn self.follow self.left.now self.right.now met.old.pairs.items
-            (number_of turn.old.from) turn.old.left.state turn.old.right.state value }
-        ensures known { OnOk result (AreKnown met.new.states.keys met.new.pairs.items) }
-        ensures from { turn.new.from ≡ turn.old.from }
-        ensures left { turn.new.left.state ≡ turn.old.left.state }
-        ensures right { turn.new.right.state ≡ turn.old.right.state }
+            (number_of turn.now.from) turn.now.left.state turn.now.right.state value }
+        ensures known { OnOk result (
+            AreMet met.new.states.keys met.new.latest met.new.pairs.items) }
         ensures left_passed { IfOk result (λ next. IfSome next (λ n.
-            IsPassed self.entry.left.now turn.old.left.state turn.new.left.place n)) }
+            EndBefore turn.now.left.tests.now passed.new.left n)) }
         ensures right_passed { IfOk result (λ next. IfSome next (λ n.
-            IsPassed self.entry.right.now turn.old.right.state turn.new.right.place n)) }
+            EndBefore turn.now.right.tests.now passed.new.right n)) }
         ensures next { IfOk result (λ next.
             IfSome next (λ n. (value < n) × (is_character n ≡ true))) }
         ensures turn { IfOk result (λ next.
             IfSome next (IsTurn self.entry.follow self.entry.left.now self.entry.right.now
-            met.new.pairs.items (number_of turn.old.from)
-            turn.old.left.state turn.old.right.state)) }
+            met.new.pairs.items (number_of turn.now.from)
+            turn.now.left.state turn.now.right.state)) }
         ensures done { IfOk result (λ next.
             IfNone next (IsTaken self.entry.follow self.entry.left.now self.entry.right.now
-            met.new.pairs.items (number_of turn.old.from + 1) 0)) }
+            met.new.pairs.items (number_of turn.now.from + 1) 0)) }
     {
-        let left = turn.left.stretch(self.left, value);
+        let left = stretch_at(turn.left.tests, turn.left.other, &mut passed.left, value);
         if !self.follow.goes_on(self.left, left.target) {
             return Ok(next_character(left.last));
         }
-        let right = turn.right.stretch(self.right, value);
+        let right = stretch_at(turn.right.tests, turn.right.other, &mut passed.right, value);
         met.add(Pair {
             left: left.target,
             right: right.target,
@@ -232,21 +246,23 @@ impl<'given> Walk<'given> {
     ) -> Result<(), AllocError>
         requires left_within { left < length self.left.now }
         requires right_within { right < length self.right.now }
-        requires known { AreKnown met.old.states.keys met.old.pairs.items }
+        requires known { AreMet met.old.states.keys met.old.latest met.old.pairs.items }
         requires turn { IsTurn self.follow self.left.now self.right.now met.old.pairs.items
             (number_of from) left right 0 }
-        ensures known { OnOk result (AreKnown met.new.states.keys met.new.pairs.items) }
+        ensures known { OnOk result (
+            AreMet met.new.states.keys met.new.latest met.new.pairs.items) }
         ensures taken { OnOk result (
             IsTaken self.entry.follow self.entry.left.now self.entry.right.now
             met.new.pairs.items (number_of from + 1) 0) }
     {
-        let mut turn = Turn {
+        let turn = Turn {
             from,
-            left: Cursor::new(left),
-            right: Cursor::new(right),
+            left: edges_of(self.left, left),
+            right: edges_of(self.right, right),
         };
+        let mut passed = Passed { left: 0, right: 0 };
         let mut value = 0;
-        while let Some(next) = self.take(met, &mut turn, value)? {
+        while let Some(next) = self.take(met, &turn, &mut passed, value)? {
             value = next;
         }
         Ok(())

@@ -1,5 +1,5 @@
 -- States that answer alike, in classes.
-use Rattle.std.specs.Prelude.{◌≡◌, ◌≢◌, ℕ, ◌+◌, ◌<◌, ◌≤◌, ◌↔◌, Bool, List, [], ◌∷◌, map, length, slice_get, slice_index, slice_index_or, nat_eq, ◌&&◌, Option, Some, None, Vec, IsTrue}
+use Rattle.std.specs.Prelude.{◌≡◌, ◌≢◌, ℕ, ◌+◌, ◌<◌, ◌≤◌, ◌↔◌, Bool, List, [], ◌∷◌, map, length, slice_get, slice_index, slice_index_or, nat_eq, ◌&&◌, false, Option, Some, None, Vec, IsTrue}
 use Rattle.std.specs.Cmp.Lexicographic.{pointwise}
 use Rattle.std.specs.Global.{Global}
 use Rattle.std.specs.HashMap.{HashMap, get, Updates}
@@ -73,9 +73,10 @@ pub record IsBounded (values : List ℕ) (r : Range) : Type 0 where
   pub end : Contains (4294967296 ∷ values) (r.end + 1)
   pub fits : r.end ≤ 4294967295
 
--- the list has the values that the set has
-abbrev pub AreListed : {S : Type 0} → HashSet ℕ S → List ℕ → Type 0
-AreListed known values = (c : ℕ) → IsTrue (contains nat_eq known c) → Contains values c
+-- the list has the values that the set has, and those that are marked
+pub record AreListed {S : Type 0} (known : HashSet ℕ S) (marks : List Bool) (values : List ℕ) : Type 0 where
+  pub in_set : (c : ℕ) → IsTrue (contains nat_eq known c) → Contains values c
+  pub marked : (c : ℕ) → IsTrue (slice_index_or marks c false) → Contains values c
 
 -- no value is lost
 abbrev pub IsMore : List ℕ → List ℕ → Type 0

@@ -2,11 +2,11 @@
 use Rattle.std.specs.Prelude.{◌≡◌, ◌≢◌, ℕ, ◌<◌, ◌↔◌, ◌⊎◌, ◌++◌, List, [], ◌∷◌, length, map, slice_get, Option, Some, None, Bool, true, false, cond, ◌&&◌, ◌||◌, nat_lt, nat_le, nat_eq}
 use Rattle.std.specs.List.{list_any}
 use Rattle.std.proofs.Common.{suc}
+use Rattle.lalrpop_book.specs.Range.{Range}
 use Rattle.lalrpop_book.specs.Word.{Shortlex}
-use Rattle.lalrpop_dfa.specs.Dfa.{Row, step, after, IsReject}
+use Rattle.lalrpop_dfa.specs.Dfa.{Row, step, after, IsReject, IsWellFormed}
 use Rattle.lalrpop_dfa.specs.declared.Kind.{Kind}
 use Rattle.lalrpop_dfa.specs.declared.Kind.TheVariants.{Accepts, Reject, Neither}
-use Rattle.lalrpop_dfa.specs.Internal.Stored.{EndBefore}
 use Rattle.lalrpop_dfa.specs.Witness.{IsLeast}
 use Rattle.lalrpop_build.specs.Internal.BreadthFirst.{Automaton, IsBreadthFirst, nth}
 use Rattle.lalrpop_verdicts.specs.Answers.{IsTextWord}
@@ -130,13 +130,28 @@ pub record IsTurn (follow : Follow) (l r : List Row) (pairs : List Pair) (n p q 
   pub left : left_at (nth (walk follow l r) (places pairs) n) ≡ p
   pub right : right_at (nth (walk follow l r) (places pairs) n) ≡ q
 
--- of the state's test edges, those before the place end before the value
-abbrev pub IsPassed : List Row → ℕ → ℕ → ℕ → Type 0
-IsPassed d p place value = (s : Row) → slice_get d p ≡ Some s → EndBefore s.tests place value
+-- these are the edges of the state p
+pub record AreEdges (d : List Row) (p : ℕ) (tests : List (Range × ℕ)) (other : ℕ) : Type 0 where
+  pub row : Row
+  pub row_at : slice_get d p ≡ Some row
+  pub same_tests : tests ≡ row.tests
+  pub same_other : other ≡ row.other
+  pub well_formed : IsWellFormed d
+  pub within : p < length d
 
 -- the keys are the states of the pairs
 abbrev pub AreKnown : List (ℕ × ℕ) → List Pair → Type 0
 AreKnown keys pairs = (p q : ℕ) → (list_any (λ k. nat_eq p k.0 && nat_eq q k.1) keys ≡ true) ↔ HasStates pairs p q
+
+-- so are these states, if there are any
+abbrev pub IsLatest : Option (ℕ × ℕ) → List Pair → Type 0
+IsLatest None pairs = Unit {0}
+IsLatest (Some s) pairs = HasStates pairs s.0 s.1
+
+-- what is kept of the pairs that have been met: the states of all, and those that were looked for last
+pub record AreMet (keys : List (ℕ × ℕ)) (latest : Option (ℕ × ℕ)) (pairs : List Pair) : Type 0 where
+  pub known : AreKnown keys pairs
+  pub one_of_them : IsLatest latest pairs
 
 -- the pair is added last, unless there is one with its states
 abbrev pub IsAdded : List Pair → Pair → List Pair → Type 0

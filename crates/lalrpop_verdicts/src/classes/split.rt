@@ -1,6 +1,6 @@
 //! Places in classes, each named by its first place, and the smaller classes that keys part them into.
 
-ghost use Rattle.std.specs.Prelude.{◌≡◌, ◌<◌, length, IfOk};
+ghost use Rattle.std.specs.Prelude.{◌≡◌, ◌<◌, length, IfOk, OnOk};
 ghost use Rattle.lalrpop_verdicts.specs.Internal.Classes.{AreFirstPlaces, AreSplit, IsPart};
 
 use std::alloc::{AllocError, Global};
@@ -29,20 +29,15 @@ fn part_of(
     Ok(place)
 }
 
-/// For each place the first one that is in the same class and has the same key.
-pub(super) fn split(
-    alloc: Global,
-    firsts: &[usize],
-    keys: &[usize],
-) -> Result<Vec<usize>, AllocError>
-    requires same_length { length keys.now ≡ length firsts.now }
-    requires firsts { AreFirstPlaces firsts.now }
-    ensures { IfOk result (λ parts. AreSplit firsts.now keys.now parts.items) }
+/// Each place with its first one: now the first that was in the same class and has the same key.
+pub(super) fn split(alloc: Global, firsts: &mut [usize], keys: &[usize]) -> Result<(), AllocError>
+    requires same_length { length keys.now ≡ length firsts.old }
+    requires firsts { AreFirstPlaces firsts.old }
+    ensures { OnOk result (AreSplit firsts.old keys.now firsts.new) }
 {
     let mut moved = HashMap::new(alloc);
-    let mut parts = Vec::with_capacity(alloc, firsts.len())?;
     for place in 0..firsts.len() {
-        parts.push(part_of(&mut moved, keys, firsts[place], place)?)?;
+        firsts[place] = part_of(&mut moved, keys, firsts[place], place)?;
     }
-    Ok(parts)
+    Ok(())
 }

@@ -1,6 +1,6 @@
 //! Stretches of values, in each of which a state leads to one state.
 
-ghost use Rattle.std.specs.Prelude.{◌≡◌, ℕ, List, ◌<◌, length, map, IfOk, OnOk};
+ghost use Rattle.std.specs.Prelude.{◌≡◌, ℕ, List, ◌<◌, ◌≤◌, length, map, IfOk, OnOk};
 ghost use Rattle.std.specs.List.{Contains};
 ghost use Rattle.std.specs.List.Sorted.{IsNonDecreasing};
 ghost use Rattle.lalrpop_book.specs.Range.{Range};
@@ -14,31 +14,67 @@ use lalrpop_nfa::Test;
 use std::alloc::{AllocError, Global};
 use std::collections::HashSet;
 
-// Numbers in the order in which they were first added.
+// Numbers in the order in which they were first added. A small number has a mark, which costs less than a look into the set.
 #[derive(Drop)]
 struct Distinct {
     known: HashSet<u32>,
+    marks: Vec<bool>,
     values: Vec<u32>,
 }
 
 impl Distinct {
-    fn add(&mut self, value: u32) -> Result<(), AllocError>
-        requires { AreListed self.old.known self.old.values.items }
-        ensures listed { OnOk result (AreListed self.new.known self.new.values.items) }
+    // No numbers, and marks for those below the bound.
+    fn new(alloc: Global, bound: usize) -> Result<Distinct, AllocError>
+        ensures { IfOk result (λ numbers.
+            AreListed numbers.known numbers.marks.items numbers.values.items) }
+    {
+        Ok(Distinct {
+            known: HashSet::new(alloc),
+            marks: vec![in alloc; false; bound]?,
+            values: Vec::new(alloc),
+        })
+    }
+
+    // Adds a value that isn't marked: it gets its mark, or is put into the set if it can have none.
+    #[inline(never)]
+    fn add_unmarked(&mut self, value: u32) -> Result<(), AllocError>
+        requires { AreListed self.old.known self.old.marks.items self.old.values.items }
+        ensures listed { OnOk result
+            (AreListed self.new.known self.new.marks.items self.new.values.items) }
         ensures more { OnOk result (IsMore self.old.values.items self.new.values.items) }
         ensures added { OnOk result (Contains self.new.values.items value) }
     {
-        if !self.known.insert(value)? {
+        let place = value as usize;
+        if place < self.marks.len() {
+            self.marks[place] = true;
+        } else if !self.known.insert(value)? {
             return Ok(());
         }
         self.values.push(value)?;
         Ok(())
     }
 
+    // Adds a value. Nearly all were added before, and are marked: this path is kept short.
+    #[inline(always)]
+    fn add(&mut self, value: u32) -> Result<(), AllocError>
+        requires { AreListed self.old.known self.old.marks.items self.old.values.items }
+        ensures listed { OnOk result
+            (AreListed self.new.known self.new.marks.items self.new.values.items) }
+        ensures more { OnOk result (IsMore self.old.values.items self.new.values.items) }
+        ensures added { OnOk result (Contains self.new.values.items value) }
+    {
+        let place = value as usize;
+        if place < self.marks.len() && self.marks[place] {
+            return Ok(());
+        }
+        self.add_unmarked(value)
+    }
+
     // Adds the first value of the range, and the one behind it, if 32 bits hold that.
     fn add_ends(&mut self, range: &Test) -> Result<(), AllocError>
-        requires { AreListed self.old.known self.old.values.items }
-        ensures listed { OnOk result (AreListed self.new.known self.new.values.items) }
+        requires { AreListed self.old.known self.old.marks.items self.old.values.items }
+        ensures listed { OnOk result
+            (AreListed self.new.known self.new.marks.items self.new.values.items) }
         ensures more { OnOk result (IsMore self.old.values.items self.new.values.items) }
         ensures bounded { OnOk result (IsBounded self.new.values.items range.now) }
     {
@@ -53,8 +89,9 @@ impl Distinct {
 
     // Adds the values at which the stretches of the edges begin.
     fn add_bounds(&mut self, edges: &[(Test, DfaStateIndex)]) -> Result<(), AllocError>
-        requires { AreListed self.old.known self.old.values.items }
-        ensures listed { OnOk result (AreListed self.new.known self.new.values.items) }
+        requires { AreListed self.old.known self.old.marks.items self.old.values.items }
+        ensures listed { OnOk result
+            (AreListed self.new.known self.new.marks.items self.new.values.items) }
         ensures more { OnOk result (IsMore self.old.values.items self.new.values.items) }
         ensures bounded { OnOk result ((t : Range × ℕ) → Contains edges.now t
             → IsBounded self.new.values.items t.0) }
@@ -88,24 +125,18 @@ fn walk_to(
 }
 
 // Where these values lead from the state. They ascend, so its edges are walked along once.
-fn targets_along(
-    alloc: Global,
-    dfa: &Dfa,
-    state: DfaStateIndex,
-    values: &[u32],
-) -> Result<Vec<usize>, AllocError>
+fn write_targets(dfa: &Dfa, state: DfaStateIndex, values: &[u32], targets: &mut [usize])
     requires within { state < length dfa.now }
     requires ascending { IsNonDecreasing values.now }
-    ensures { IfOk result (λ targets. targets.items ≡ map (step dfa.now state) values.now) }
+    requires same_length { length targets.old ≡ length values.now }
+    ensures { targets.new ≡ map (step dfa.now state) values.now }
 {
     let edges = dfa.test_edges(state);
     let other = dfa.state(state).other_edge();
     let mut place = 0;
-    let mut targets = Vec::with_capacity(alloc, values.len())?;
-    for value in values {
-        targets.push(walk_to(*value, edges, other, &mut place).index())?;
+    for index in 0..values.len() {
+        targets[index] = walk_to(values[index], edges, other, &mut place).index();
     }
-    Ok(targets)
 }
 
 // For each value the place of one that leads alike from all states.
@@ -114,10 +145,11 @@ fn alike(alloc: Global, dfa: &Dfa, values: &[u32]) -> Result<Vec<usize>, AllocEr
     ensures { IfOk result (λ firsts. AreColumns dfa.now (length dfa.now) values.now firsts.items) }
 {
     let mut firsts = vec![in alloc; 0; values.len()]?;
+    // One list for the targets of each state in turn.
+    let mut targets = vec![in alloc; 0; values.len()]?;
     for number in 0..dfa.states().len() {
-        let targets = targets_along(alloc, dfa, DfaStateIndex::new(number), values)?;
-        let parts = split(alloc, &firsts, &targets)?;
-        firsts = parts;
+        write_targets(dfa, DfaStateIndex::new(number), values, &mut targets);
+        split(alloc, &mut firsts, &targets)?;
     }
     Ok(firsts)
 }
@@ -136,15 +168,26 @@ fn first_values(alloc: Global, values: &[u32], firsts: &[usize]) -> Result<Vec<u
     Ok(kept)
 }
 
+// How many values get a mark: those up to the one behind the last test edge. A greater value than the one behind the last character
+// gets none, so that the marks take less than 1.2 megabytes.
+fn mark_count(dfa: &Dfa) -> usize
+    ensures { result ≤ 1114113 }
+{
+    let mut last = 0;
+    for number in 0..dfa.states().len() {
+        if let Some((test, _)) = dfa.test_edges(DfaStateIndex::new(number)).last() {
+            last = test.end().max(last);
+        }
+    }
+    last.min(0x10_FFFF) as usize + 2
+}
+
 // A value of each stretch: where it leads, each value of its stretch leads.
 fn bounds(alloc: Global, dfa: &Dfa) -> Result<Vec<u32>, AllocError>
     ensures tried { IfOk result (λ values. AreTried dfa.now values.items) }
     ensures well_formed { OnOk result (IsWellFormed dfa.now) }
 {
-    let mut bounds = Distinct {
-        known: HashSet::new(alloc),
-        values: Vec::new(alloc),
-    };
+    let mut bounds = Distinct::new(alloc, mark_count(dfa))?;
     bounds.add(0)?;
     for number in 0..dfa.states().len() {
         bounds.add_bounds(dfa.test_edges(DfaStateIndex::new(number)))?;

@@ -4,6 +4,6 @@ use Rattle.lalrpop_verdicts.proofs.classes.stretches.bounds.Given as goal
 
 abbrev pub invariant-loop-number : goal.invariant-loop-number
 invariant-loop-number l = record {
-  listed : AreListed l.bounds.known l.bounds.values.items;
+  listed : AreListed l.bounds.known l.bounds.marks.items l.bounds.values.items;
   bounds : HaveBounds l.dfa l.number l.bounds.values.items;
 }

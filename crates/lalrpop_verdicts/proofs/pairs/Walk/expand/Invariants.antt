@@ -1,16 +1,14 @@
 use Rattle.std.proofs.Common.{◌≡◌, ◌-◌, true}
-use Rattle.lalrpop_verdicts.specs.Internal.Pairs.{is_character, number_of, AreKnown, IsPassed, IsTurn}
+use Rattle.lalrpop_dfa.specs.Internal.Stored.{EndBefore}
+use Rattle.lalrpop_verdicts.specs.Internal.Pairs.{is_character, number_of, AreMet, IsTurn}
 use Rattle.lalrpop_verdicts.proofs.pairs.Walk.expand.Given as goal
 
 abbrev pub invariant-loop-next : goal.invariant-loop-next
 invariant-loop-next l = record {
-  from : l.turn.from ≡ l.fn.from;
-  left : l.turn.left.state ≡ l.fn.left;
-  right : l.turn.right.state ≡ l.fn.right;
-  known : AreKnown l.met.states.keys l.met.pairs.items;
+  known : AreMet l.met.states.keys l.met.latest l.met.pairs.items;
   character : is_character l.value ≡ true;
-  left_passed : IsPassed l.self.left.now l.fn.left l.turn.left.place l.value;
-  right_passed : IsPassed l.self.right.now l.fn.right l.turn.right.place l.value;
+  left_passed : EndBefore l.turn.left.tests.now l.passed.left l.value;
+  right_passed : EndBefore l.turn.right.tests.now l.passed.right l.value;
   turn : IsTurn l.self.follow l.self.left.now l.self.right.now l.met.pairs.items (number_of l.fn.from) l.fn.left l.fn.right l.value;
 }
 

@@ -4,7 +4,7 @@ use Rattle.lalrpop_verdicts.proofs.classes.stretches.Distinct.add_bounds.Given a
 
 abbrev pub invariant-loop-test : goal.invariant-loop-test
 invariant-loop-test l = record {
-  listed : AreListed l.self.known l.self.values.items;
+  listed : AreListed l.self.known l.self.marks.items l.self.values.items;
   more : IsMore l.initial.self.values.items l.self.values.items;
   bounded : AreBounded l.edges l.test-index l.self.values.items;
 }
