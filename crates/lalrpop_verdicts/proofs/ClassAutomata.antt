@@ -13,7 +13,7 @@ use Rattle.lalrpop_dfa.proofs.AfterLaws.{run_append, after_within}
 use Rattle.lalrpop_verdicts.specs.Answers.{accepted_by, accepted_at, answer_from}
 use Rattle.lalrpop_verdicts.specs.Smallest.{AnswerAlike, AreApart, HasFewestEdges, IsCanonical, IsSmallest, RejectsAtOnce}
 use Rattle.lalrpop_verdicts.specs.Internal.Classes.{AlikeFrom, AreAlikeClasses}
-use Rattle.lalrpop_verdicts.specs.Internal.ClassRows.{IsNumberOf, LeadAlike, StaysInClass, IsClassRow, IsWalk}
+use Rattle.lalrpop_verdicts.specs.Internal.ClassRows.{IsNumberOf, LeadAlike, StaysInClass, IsClassRow, AreReached, IsWalk}
 use Rattle.lalrpop_verdicts.proofs.ClassOrder.{rows_in_order}
 use Rattle.lalrpop_verdicts.proofs.Distinct.{different_below}
 use Rattle.lalrpop_verdicts.proofs.JoinedTests.{fewest_numbers}
@@ -63,53 +63,46 @@ right_kind ts ps w Neither (Accepts j) e h = cc
 right_kind ts ps w Neither Reject e h = h
 right_kind ts ps w Neither Neither e h = h
 
--- ---- the automaton e of the classes of d
-module _ (d : List Row) (classes states : List ℕ) (e : List Row) (well : IsWellFormed d) (are : AreAlikeClasses d classes) (walk : IsWalk d classes states e) (all : length e ≡ length states) where
+-- ---- an automaton of the classes
+-- state i of e stands for the class of the state i of the list: values lead alike from both, and both accept alike
+pub record IsOfClasses (d : List Row) (classes states : List ℕ) (e : List Row) : Type 0 where
+  pub reached : AreReached d classes states
+  pub count : length e ≡ length states
+  pub steps : (i c : ℕ) → i < length e → IsNumberOf classes states (step d (slice_index states i) c) (step e i c)
+  pub accepts : (i : ℕ) → i < length e → answer_from e i [] ≡ answer_from d (slice_index states i) []
+
+module _ (d : List Row) (classes states : List ℕ) (e : List Row) (well : IsWellFormed d) (are : AreAlikeClasses d classes) (of : IsOfClasses d classes states e) where
   abbrev first : ℕ → ℕ
   first i = slice_index states i
 
-  in_d : (i : ℕ) → i < length e → first i < length d
-  in_d i l = walk.within i (omega (arith, l, all))
-
-  row_at : (i : ℕ) → i < length e → (s : Row) × ((slice_get e i ≡ Some s) × IsClassRow d classes states (first i) s)
-  row_at i l = elim (slice_get_cases e i).1 [
-    | inl x ↦ (x.0, (x.2, walk.each i x.0 x.2))
-    | inr past ↦ absurd (omega (arith, past.0))
-  ]
-
-  pub class_step : (i c : ℕ) → i < length e → IsNumberOf classes states (step d (first i) c) (step e i c)
-  class_step i c l = (let (s, (there, is)) = row_at i l in
-      let number = target_number classes states is.joined s.tests is.row.other s.other c is.tests is.other in
-      rw (step_of e i c s there, step_of d (first i) c is.row is.here) (record { within = number.within; same = number.same ∙ is.are_joined.alike c }))
+  pub in_d : (i : ℕ) → i < length e → first i < length d
+  in_d i l = of.reached.within i (omega (arith, l, of.count))
 
   step_in : (i c : ℕ) → i < length e → step e i c < length e
-  step_in i c l = omega (arith, (class_step i c l).within, all)
+  step_in i c l = omega (arith, (of.steps i c l).within, of.count)
 
   run_in : (i : ℕ) (w : List ℕ) → i < length e → run e i w < length e
   run_in i [] l = l
   run_in i (c ∷ w) l = run_in (step e i c) w (step_in i c l)
 
-  kind_at : (i : ℕ) → i < length e → answer_from e i [] ≡ answer_from d (first i) []
-  kind_at i l = (let (s, (there, is)) = row_at i l in rw there is.kind.accepted)
-
   -- a state of e answers what the state by which its class was met does
   pub class_answers : (i : ℕ) (w : List ℕ) → i < length e → answer_from e i w ≡ answer_from d (first i) w
-  class_answers i [] l = kind_at i l
+  class_answers i [] l = of.accepts i l
   class_answers i (c ∷ w) l =
       let n = step e i c in
       let there : n < length e = step_in i c l in
-      class_answers n w there ∙ (are.same (first n) (step d (first i) c) (in_d n there) (step_within d (first i) c well (in_d i l))).0 (class_step i c l).same w
+      class_answers n w there ∙ (are.same (first n) (step d (first i) c) (in_d n there) (step_within d (first i) c well (in_d i l))).0 (of.steps i c l).same w
 
-  first_in : 0 < length e
-  first_in = omega (arith, walk.some, all)
+  pub first_in : 0 < length e
+  first_in = omega (arith, of.reached.some, of.count)
 
   pub class_alike : AnswerAlike d e
-  class_alike w = ap (λ p. answer_from d p w) (sym walk.start) ∙ sym (class_answers 0 w first_in)
+  class_alike w = ap (λ p. answer_from d p w) (sym of.reached.start) ∙ sym (class_answers 0 w first_in)
 
   -- states of e that answer alike are the same
-  class_apart : (i j : ℕ) → i < length e → j < length e → AlikeFrom e i j → i ≡ j
+  pub class_apart : (i j : ℕ) → i < length e → j < length e → AlikeFrom e i j → i ≡ j
   class_apart i j l m h =
-      walk.apart i j (omega (arith, l, all)) (omega (arith, m, all))
+      of.reached.apart i j (omega (arith, l, of.count)) (omega (arith, m, of.count))
       ((are.same (first i) (first j) (in_d i l) (in_d j m)).1 (λ w. sym (class_answers i w l) ∙ h w ∙ class_answers j w m))
 
   on : (a : List Row) (p : ℕ) (v w : List ℕ) → answer_from a p (v ++ w) ≡ answer_from a (run a p v) w
@@ -117,7 +110,7 @@ module _ (d : List Row) (classes states : List ℕ) (e : List Row) (well : IsWel
 
   -- each state of e is reached
   pub class_reached : (i : ℕ) → i < length e → (w : List ℕ) × (after e w ≡ i)
-  class_reached i l = (let (v, led) = walk.reached i (omega (arith, l, all)) in (
+  class_reached i l = (let (v, led) = of.reached.reached i (omega (arith, l, of.count)) in (
     v,
     class_apart (after e v) i (run_in 0 v first_in) l (λ w.
         sym (on e 0 v w) ∙ sym (class_alike (v ++ w)) ∙ on d 0 v w ∙ ap (λ p. answer_from d p w) led ∙ sym (class_answers i w l)),
@@ -154,6 +147,31 @@ module _ (d : List Row) (classes states : List ℕ) (e : List Row) (well : IsWel
       there_one : (i j : ℕ) → i < length e → j < length e → there i ≡ there j → i ≡ j
       there_one i j l m same = class_apart i j l m (λ v. answers i l v ∙ ap (λ p. answer_from f p v) same ∙ sym (answers j m v))
 
+-- ---- the automaton whose rows a walk over the classes has written
+module _ (d : List Row) (classes states : List ℕ) (e : List Row) (well : IsWellFormed d) (are : AreAlikeClasses d classes) (walk : IsWalk d classes states e) (all : length e ≡ length states) where
+  row_at : (i : ℕ) → i < length e → (s : Row) × ((slice_get e i ≡ Some s) × IsClassRow d classes states (slice_index states i) s)
+  row_at i l = elim (slice_get_cases e i).1 [
+    | inl x ↦ (x.0, (x.2, walk.each i x.0 x.2))
+    | inr past ↦ absurd (omega (arith, past.0))
+  ]
+
+  row_step : (i c : ℕ) → i < length e → IsNumberOf classes states (step d (slice_index states i) c) (step e i c)
+  row_step i c l = (let (s, (there, is)) = row_at i l in
+      let number = target_number classes states is.joined s.tests is.row.other s.other c is.tests is.other in
+      rw (step_of e i c s there, step_of d (slice_index states i) c is.row is.here) (record { within = number.within; same = number.same ∙ is.are_joined.alike c }))
+
+  row_accepts : (i : ℕ) → i < length e → answer_from e i [] ≡ answer_from d (slice_index states i) []
+  row_accepts i l = (let (s, (there, is)) = row_at i l in rw there is.kind.accepted)
+
+  of_walk : IsOfClasses d classes states e
+  of_walk = record { reached = walk.reached; count = all; steps = row_step; accepts = row_accepts }
+
+  pub walk_alike : AnswerAlike d e
+  walk_alike = class_alike d classes states e well are of_walk
+
+  pub walk_smallest : IsSmallest e
+  walk_smallest = class_smallest d classes states e well are of_walk
+
   -- ---- what rejects
   -- from a state of a class that no value leads out of, nothing is accepted if nothing is there
   dead_class : (p : ℕ) → p < length d → answer_from d p [] ≡ None → StaysInClass d classes p → (w : List ℕ) → answer_from d p w ≡ None
@@ -164,24 +182,27 @@ module _ (d : List Row) (classes states : List ℕ) (e : List Row) (well : IsWel
   stays_dead : (p : ℕ) → p < length d → ((w : List ℕ) → answer_from d p w ≡ None) → StaysInClass d classes p
   stays_dead p l dead c = (are.same (step d p c) p (step_within d p c well l) l).1 (λ w. dead (c ∷ w) ∙ sym (dead w))
 
-  pub class_rejects : RejectsAtOnce e
-  class_rejects i s here =
+  walk_in : (i : ℕ) → i < length e → slice_index states i < length d
+  walk_in i l = walk.reached.within i (omega (arith, l, all))
+
+  pub walk_rejects : RejectsAtOnce e
+  walk_rejects i s here =
       let l : i < length e = slice_get_within e i s here in
       let is = walk.each i s here in (
-        λ k w. (let (none, stays) = is.kind.rejects.0 k in class_answers i w l ∙ dead_class (first i) (in_d i l) none stays w),
+        λ k w. (let (none, stays) = is.kind.rejects.0 k in class_answers d classes states e well are of_walk i w l ∙ dead_class (slice_index states i) (walk_in i l) none stays w),
         λ dead.
-            let d_dead : (w : List ℕ) → answer_from d (first i) w ≡ None = λ w. sym (class_answers i w l) ∙ dead w in
-            is.kind.rejects.1 (d_dead [], stays_dead (first i) (in_d i l) d_dead),
+            let d_dead : (w : List ℕ) → answer_from d (slice_index states i) w ≡ None = λ w. sym (class_answers d classes states e well are of_walk i w l) ∙ dead w in
+            is.kind.rejects.1 (d_dead [], stays_dead (slice_index states i) (walk_in i l) d_dead),
       )
 
   -- ---- e's edges are as few as can be
-  class_fewest : HasFewestEdges e
-  class_fewest i s here = (let is = walk.each i s here in fewest_numbers classes states is.joined s.tests is.row.other s.other is.tests is.other is.are_joined.few)
+  walk_fewest : HasFewestEdges e
+  walk_fewest i s here = (let is = walk.each i s here in fewest_numbers classes states is.joined s.tests is.row.other s.other is.tests is.other is.are_joined.few)
 
   -- ---- e is well formed
-  pub class_well : IsWellFormed e
-  class_well = record {
-    some = first_in;
+  pub walk_well : IsWellFormed e
+  walk_well = record {
+    some = omega (arith, walk.reached.some, all);
     ascending = λ i s here. (let is = walk.each i s here in alike_ascend classes states is.joined s.tests is.tests is.are_joined.ascending);
     tests_in = λ i s u here has.
         (let is = walk.each i s here in
@@ -191,15 +212,15 @@ module _ (d : List Row) (classes states : List ℕ) (e : List Row) (well : IsWel
   }
 
   -- ---- e is one of a kind
-  class_all_apart : AreApart e
-  class_all_apart i j l m h = class_apart i j l m h
+  walk_apart : AreApart e
+  walk_apart i j l m h = class_apart d classes states e well are of_walk i j l m h
 
-  pub class_canonical : IsCanonical e
-  class_canonical = record {
-    well_formed = class_well;
-    rejects = class_rejects;
-    edges = class_fewest;
-    apart = class_all_apart;
+  pub walk_canonical : IsCanonical e
+  walk_canonical = record {
+    well_formed = walk_well;
+    rejects = walk_rejects;
+    edges = walk_fewest;
+    apart = walk_apart;
     order = rows_in_order e (length states) walk.order;
   }
 

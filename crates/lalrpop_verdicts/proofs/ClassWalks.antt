@@ -14,7 +14,7 @@ use Rattle.lalrpop_dfa.proofs.Marking.{along, top, by_test, by_other}
 use Rattle.lalrpop_verdicts.specs.Answers.{accepted_by, answer_from}
 use Rattle.lalrpop_verdicts.specs.Smallest.{edges_of}
 use Rattle.lalrpop_verdicts.specs.Internal.Classes.{AreAlikeClasses}
-use Rattle.lalrpop_verdicts.specs.Internal.ClassRows.{AreNumbered, IsNumberOf, AreMet, AreMetInTurn, LeadsTo, StaysInClass, LeadAlike, IsClassKind, IsClassRow, IsWalk}
+use Rattle.lalrpop_verdicts.specs.Internal.ClassRows.{AreNumbered, IsNumberOf, AreMet, AreMetInTurn, LeadsTo, StaysInClass, LeadAlike, IsClassKind, IsClassRow, AreReached, IsWalk}
 use Rattle.lalrpop_verdicts.proofs.ClassOrder.{order_more, order_start}
 use Rattle.lalrpop_verdicts.proofs.Distinct.{different_below}
 use Rattle.lalrpop_verdicts.proofs.PushedNumbers.{pushed_length, pushed_new, pushed_old}
@@ -207,15 +207,43 @@ module _ (d : List Row) (classes : List ℕ) (p : ℕ) (r : Row) (at : slice_get
     rejects = (λ e. absurd (let clash : Neither ≡ Reject = e in cc), λ h. absurd (leaves h.1));
   }
 
--- ---- the walk
-pub walk_start : (d : List Row) (classes : List ℕ) (numbers : List (Option ℕ)) (states : List ℕ) → AreAlikeClasses d classes → AreNumbered classes numbers states
-    → AreMet (λ q. q ≡ 0) [] states → (n : ℕ) → IsNumberOf classes states 0 n → AreMetInTurn [] (n ∷ []) states → IsWalk d classes states []
-walk_start d classes numbers states are numbered met n first turn = record {
+-- ---- states that words lead to
+pub reached_start : (d : List Row) (classes : List ℕ) (numbers : List (Option ℕ)) (states : List ℕ) → AreAlikeClasses d classes → AreNumbered classes numbers states
+    → AreMet (λ q. q ≡ 0) [] states → (n : ℕ) → IsNumberOf classes states 0 n → AreReached d classes states
+reached_start d classes numbers states are numbered met n first = record {
   some = omega (arith, first.within);
   start = met.since 0 (omega arith) (omega (arith, first.within));
   within = λ i l. omega (arith, numbered.within i l, are.same_length);
   apart = numbered_apart classes numbers states numbered;
   reached = λ i l. ([], sym (met.since i (omega arith) l));
+}
+
+-- a value behind a word that leads to p
+pub led_further : (d : List Row) (p q : ℕ) → (w : List ℕ) × (after d w ≡ p) → LeadsTo d p q → (w : List ℕ) × (after d w ≡ q)
+led_further d p q (w, e) (c, led) = (w ++ c ∷ [], after_push d w c ∙ ap (λ r. step d r c) e ∙ led)
+
+pub reached_more : (W : ℕ → Type 0) (d : List Row) (classes : List ℕ) (numbers : List (Option ℕ)) (old new : List ℕ) → AreAlikeClasses d classes → AreReached d classes old → AreNumbered classes numbers new
+    → AreMet W old new → ((q : ℕ) → W q → (w : List ℕ) × (after d w ≡ q)) → AreReached d classes new
+reached_more W d classes numbers old new are h numbered met further = record {
+  some = omega (arith, h.some, met.longer);
+  start = met.kept 0 h.some ∙ h.start;
+  within = λ i l. omega (arith, numbered.within i l, are.same_length);
+  apart = numbered_apart classes numbers new numbered;
+  reached = λ i l.
+      ⊎_elim (λ (x : i < length old). (let (w, e) = h.reached i x in (w, e ∙ sym (met.kept i x))))
+      (λ (x : length old ≤ i). further (slice_index new i) (met.since i x l))
+      (cases_lt i (length old));
+}
+
+-- there are no more classes than states
+pub reached_few : (d : List Row) (classes states : List ℕ) → AreReached d classes states → length states ≤ length d
+reached_few d classes states h = different_below (slice_index states) (length states) (length d) h.within (λ i j l m e. h.apart i j l m (ap (slice_index classes) e))
+
+-- ---- the walk
+pub walk_start : (d : List Row) (classes : List ℕ) (numbers : List (Option ℕ)) (states : List ℕ) → AreAlikeClasses d classes → AreNumbered classes numbers states
+    → AreMet (λ q. q ≡ 0) [] states → (n : ℕ) → IsNumberOf classes states 0 n → AreMetInTurn [] (n ∷ []) states → IsWalk d classes states []
+walk_start d classes numbers states are numbered met n first turn = record {
+  reached = reached_start d classes numbers states are numbered met n first;
   few = omega arith;
   order = order_start n states turn;
   each = λ i s e. absurd (let no : None ≡ Some s = e in cc);
@@ -224,22 +252,12 @@ walk_start d classes numbers states are numbered met n first turn = record {
 module _ (d : List Row) (classes : List ℕ) (numbers : List (Option ℕ)) (old new : List ℕ) (rows : List Row) (p : ℕ) (s : Row) (are : AreAlikeClasses d classes) (walk : IsWalk d classes old rows)
     (numbered : AreNumbered classes numbers new) (next : length rows < length old) (is : p ≡ slice_index old (length rows)) (met : AreMet (LeadsTo d p) old new) (row : IsClassRow d classes new p s)
     (turn : AreMetInTurn old (edges_of s.tests s.other) new) where
-  reached_old : (i : ℕ) → i < length old → (w : List ℕ) × (after d w ≡ slice_index new i)
-  reached_old i l = (let (w, e) = walk.reached i l in (w, e ∙ sym (met.kept i l)))
-
-  reached_new : (q : ℕ) → LeadsTo d p q → (w : List ℕ) × (after d w ≡ q)
-  reached_new q (c, led) = (let (w, e) = walk.reached (length rows) next in
-      (w ++ c ∷ [], after_push d w c ∙ ap (λ r. step d r c) (e ∙ sym is) ∙ led))
+  to_here : (w : List ℕ) × (after d w ≡ p)
+  to_here = (let (w, e) = walk.reached.reached (length rows) next in (w, e ∙ sym is))
 
   pub walk_more : IsWalk d classes new (rows ++ s ∷ [])
   walk_more = record {
-    some = omega (arith, walk.some, met.longer);
-    start = met.kept 0 walk.some ∙ walk.start;
-    within = λ i l. omega (arith, numbered.within i l, are.same_length);
-    apart = numbered_apart classes numbers new numbered;
-    reached = λ i l.
-        ⊎_elim (λ (x : i < length old). reached_old i x) (λ (x : length old ≤ i). reached_new (slice_index new i) (met.since i x l))
-        (cases_lt i (length old));
+    reached = reached_more (LeadsTo d p) d classes numbers old new are walk.reached numbered met (λ q led. led_further d p q to_here led);
     few = omega (arith, pushed_length rows s, next, met.longer);
     order = order_more rows s old new walk.order next turn;
     each = each;
@@ -252,7 +270,3 @@ module _ (d : List Row) (classes : List ℕ) (numbers : List (Option ℕ)) (old 
         | inr (last, same) ↦ (let place : slice_index new i ≡ p = ap (slice_index new) last ∙ met.kept (length rows) next ∙ sym is in
             rw (place, same) row)
       ]
-
--- there are no more classes than states
-pub walk_few : (d : List Row) (classes states : List ℕ) (rows : List Row) → IsWalk d classes states rows → length states ≤ length d
-walk_few d classes states rows walk = different_below (slice_index states) (length states) (length d) walk.within (λ i j l m e. walk.apart i j l m (ap (slice_index classes) e))

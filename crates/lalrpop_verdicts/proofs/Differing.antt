@@ -1,4 +1,4 @@
--- The first pair of states that is apart is that of the least word that tells two automata apart.
+-- The least word that tells two automata apart leads to the first pair of states that is apart.
 use Rattle.std.proofs.Common.{◌≡◌, ◌≢◌, ℕ, ◌+◌, ◌<◌, ◌≤◌, ◌⊎◌, inl, inr, List, [], length, Option, Some, None, Bool, true, false, not, eqb, slice_get, refl, sym, ap, ◌∙◌, subst, arith}
 use Rattle.std.proofs.lemmas.Bool.{cases_lt, cases_order, eqb-true, eq-eqb, both_ways, not-true, not-false}
 use Rattle.std.specs.Option.{option_eq}

@@ -10,7 +10,7 @@ use Rattle.lalrpop_dfa.specs.Witness.{IsLeast}
 use Rattle.lalrpop_verdicts.specs.WonWord.{WonWord}
 use Rattle.lalrpop_verdicts.specs.Internal.WonWords.{AreWonWords, IsBoth, IsLeastWon}
 
--- each word in the list is that of its tree, and each tree with a word has it in the list, or waits for it
+-- each word in the list is the word of its tree, and each tree with a word has it in the list, or waits for it
 pub record AreTold (all left : List WonWord) (words : List (Option (Vec ℕ Global))) : Type 0 where
   pub right : (i : ℕ) (w : Vec ℕ Global) → slice_get words i ≡ Some (Some w) → (x : WonWord) × (Contains all x × (x.by ≡ i) × (x.word ≡ w.items))
   pub told : (x : WonWord) → Contains all x → Contains left x ⊎ (slice_get words x.by ≢ Some None)

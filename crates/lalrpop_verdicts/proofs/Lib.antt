@@ -13,6 +13,7 @@ pub mod EmptyMatches
 -- classes of states: lists, and the first that is equal; values that lead alike from all states; rounds
 pub mod FirstLaws
 pub mod SplitLaws
+pub mod Marks
 pub mod StretchLaws
 pub mod RoundLaws
 -- the smallest automaton
@@ -23,6 +24,7 @@ pub mod ClassAutomata
 pub mod ClassWalks
 pub mod JoinedTests
 pub mod OneSmallest
+pub mod StateCounts
 -- the picture of an automaton
 pub mod Codes
 pub mod Turns

@@ -8,7 +8,7 @@ use Rattle.lalrpop_verdicts.specs.declared.pairs.Pair.{Pair}
 use Rattle.lalrpop_verdicts.specs.declared.pairs.Follow.{Follow}
 use Rattle.lalrpop_verdicts.specs.Internal.Pairs.{ArePairs, IsOneMore}
 
--- the word is that of the place, and then the values backwards
+-- the word of the place, and then the values backwards
 abbrev pub IsRestOf : List (List ℕ) → Option ℕ → List ℕ → List ℕ → Type 0
 IsRestOf words None values w = w ≡ reverse values
 IsRestOf words (Some k) values w = (v : List ℕ) → slice_get words k ≡ Some v → w ≡ v ++ reverse values

@@ -217,7 +217,3 @@ room_shrinks d vs table classes next formed tried leads h on apart =
     (λ p l. let k : p < length d = omega (arith, h.same_length) in round_grows d vs table classes next formed tried leads h on p k)
     (λ p l. let k : p < length d = omega (arith, i.same_length) in let m = i.least p k in omega (arith, m))
     apart
-
--- the same of lists that are equal
-pub classes_along : (t table : List (Vec ℕ Global)) (cs classes next : List ℕ) → t ≡ table → cs ≡ classes → AreClassesOf (map (leads_row cs) t) next → AreClassesOf (map (leads_row classes) table) next
-classes_along t table cs classes next e f h = subst (λ (u : List (Vec ℕ Global)). AreClassesOf (map (leads_row classes) u) next) e (subst (λ (xs : List ℕ). AreClassesOf (map (leads_row xs) t) next) f h)

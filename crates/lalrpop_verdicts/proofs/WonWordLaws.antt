@@ -107,7 +107,7 @@ more_words words es found e x h by word = record {
     length_pushed (y ∷ xs) [] same = absurd (omega arith)
     length_pushed (y ∷ xs) (z ∷ ys) same = ap (λ n. suc n) (length_pushed xs ys (omega arith))
 
--- the number of an entry is that of a pair which its tree wins, and no earlier pair is
+-- the tree of an entry wins the pair with the entry's number, and no earlier pair
 pub entry_first : (f : ℕ → Option ℕ) (n : ℕ) (es : List (ℕ × ℕ)) (e : ℕ × ℕ) → AreFirsts f n es → All (λ e. lookup (is_at (nat_cmp e.0)) es ≡ Some e.1) es → Contains es e → IsFirst f n e.0 (Some e.1)
 entry_first f n es e firsts each (k, l, same) =
     let at : lookup (is_at (nat_cmp (get_or es k e).0)) es ≡ Some (get_or es k e).1 = each k e l in
@@ -222,7 +222,7 @@ entry_among es done e rest same = subst (λ xs. Contains xs e) same (contains_at
     behind [] = refl
     behind (x ∷ done) = behind done
 
--- the number of the next entry is that of a pair
+-- there is a pair with the number of the next entry
 pub entry_within : (f : ℕ → Option ℕ) (n : ℕ) (es done : List (ℕ × ℕ)) (e : ℕ × ℕ) (rest : List (ℕ × ℕ)) → done ++ e ∷ rest ≡ es → AreFirsts f n es
     → All (λ e. lookup (is_at (nat_cmp e.0)) es ≡ Some e.1) es → e.1 < n
 entry_within f n es done e rest same firsts each = (entry_first f n es e firsts each (entry_among es done e rest same)).0

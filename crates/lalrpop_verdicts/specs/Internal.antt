@@ -4,4 +4,5 @@ pub mod Apart
 pub mod WonWords
 pub mod Classes
 pub mod ClassRows
+pub mod StateWalks
 pub mod Targets

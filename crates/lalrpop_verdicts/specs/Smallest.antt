@@ -14,6 +14,10 @@ AnswerAlike d e = (w : List ℕ) → answer d w ≡ answer e w
 abbrev pub IsSmallest : List Row → Type 0
 IsSmallest d = (e : List Row) → IsWellFormed e → AnswerAlike d e → length d ≤ length e
 
+-- n is the least number of states of a well-formed automaton that answers each word alike
+abbrev pub IsLeastCount : List Row → ℕ → Type 0
+IsLeastCount d n = (least : List Row) × (IsWellFormed least × AnswerAlike d least × IsSmallest least × (length least ≡ n))
+
 -- a state rejects exactly if no tree is accepted from it on
 abbrev pub RejectsAtOnce : List Row → Type 0
 RejectsAtOnce d = (p : ℕ) (r : Row) → slice_get d p ≡ Some r → (r.kind ≡ Reject) ↔ ((w : List ℕ) → answer_from d p w ≡ None)

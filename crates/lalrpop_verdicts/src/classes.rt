@@ -4,12 +4,14 @@ mod first_equal;
 mod split;
 mod stretches;
 
-ghost use Rattle.std.specs.Prelude.{◌≡◌, ℕ, length, map, slice_index, IfOk, Vec};
+ghost use Rattle.std.specs.Prelude.{◌≡◌, ℕ, length, map, slice_index, IfOk, OnOk, Vec};
 ghost use Rattle.std.specs.Global.{Global};
 ghost use Rattle.std.specs.List.{Contains};
 ghost use Rattle.std.specs.Option.{option_to_list};
+ghost use Rattle.lalrpop_dfa.specs.Dfa.{IsWellFormed};
 ghost use Rattle.lalrpop_verdicts.specs.Answers.{accepted_by};
 ghost use Rattle.lalrpop_verdicts.specs.Internal.Classes.{AreAlikeClasses, AreClassesOf, AreWithin, answer_row, leads_row};
+ghost use Rattle.lalrpop_verdicts.specs.Internal.StateWalks.{AreAllLeads};
 
 use crate::answer::accepted_by;
 use first_equal::FirstEqual;
@@ -64,9 +66,46 @@ fn round(alloc: Global, table: &[Vec<usize>], classes: &[usize]) -> Result<Vec<u
     Ok(next.into_places())
 }
 
-/// The class of each state: the first of the states that answer each word alike.
+/// For each state the state itself, and each state that a value leads to from it.
+///
+/// # Errors
+///
+/// `AllocError` if a request for memory was refused.
+pub(crate) fn lead_table(alloc: Global, dfa: &Dfa) -> Result<Vec<Vec<usize>>, AllocError>
+    ensures leads { IfOk result (λ table. AreAllLeads dfa.now table.items) }
+    ensures well_formed { OnOk result (IsWellFormed dfa.now) }
+{
+    let values = stretches(alloc, dfa)?;
+    leads(alloc, dfa, &values)
+}
+
+/// The class of each state: the first of the states that answer each word alike. The table says where each state leads.
 ///
 /// Each round goes over all states, and tells those apart that a word of one more value tells apart.
+///
+/// # Errors
+///
+/// `AllocError` if a request for memory was refused.
+pub(crate) fn classes_by(
+    alloc: Global,
+    dfa: &Dfa,
+    table: &[Vec<usize>],
+) -> Result<Vec<usize>, AllocError>
+    requires leads { AreAllLeads dfa.now table.now }
+    requires well_formed { IsWellFormed dfa.now }
+    ensures classes { IfOk result (λ found. AreAlikeClasses dfa.now found.items) }
+{
+    let mut classes = by_answer(alloc, dfa)?;
+    loop {
+        let next = round(alloc, table, &classes)?;
+        if next == classes {
+            return Ok(classes);
+        }
+        classes = next;
+    }
+}
+
+/// The class of each state: the first of the states that answer each word alike.
 ///
 /// # Errors
 ///
@@ -74,14 +113,6 @@ fn round(alloc: Global, table: &[Vec<usize>], classes: &[usize]) -> Result<Vec<u
 pub(crate) fn classes(alloc: Global, dfa: &Dfa) -> Result<Vec<usize>, AllocError>
     ensures classes { IfOk result (λ found. AreAlikeClasses dfa.now found.items) }
 {
-    let values = stretches(alloc, dfa)?;
-    let table = leads(alloc, dfa, &values)?;
-    let mut classes = by_answer(alloc, dfa)?;
-    loop {
-        let next = round(alloc, &table, &classes)?;
-        if next == classes {
-            return Ok(classes);
-        }
-        classes = next;
-    }
+    let table = lead_table(alloc, dfa)?;
+    classes_by(alloc, dfa, &table)
 }

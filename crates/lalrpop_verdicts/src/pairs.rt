@@ -1,8 +1,8 @@
 //! The pairs of states that the texts lead to in two automata, by breadth first search.
-ghost use Rattle.std.specs.Prelude.{◌≡◌, ℕ, ◌<◌, ◌≤◌, ◌+◌, List, [], Some, length, slice_get, IfOk, IfSome, IfNone, OnOk, MatchOption, not, true};
+ghost use Rattle.std.specs.Prelude.{◌≡◌, ℕ, ◌<◌, ◌≤◌, ◌+◌, List, [], Some, length, slice_get, IfOk, IfSome, IfNone, IsTrue, OnOk, MatchOption, not, true};
 ghost use Rattle.lalrpop_dfa.specs.Dfa.{Row, edge_target, AreAscendingTests};
 ghost use Rattle.lalrpop_dfa.specs.Internal.Stored.{EndBefore};
-ghost use Rattle.lalrpop_verdicts.specs.Internal.Pairs.{ArePairs, ends_at, is_character, number_of, AreEdges, AreMet, IsAdded, IsLastCharacter, IsNextCharacter, IsTaken, IsTurn};
+ghost use Rattle.lalrpop_verdicts.specs.Internal.Pairs.{ArePairs, ends_at, is_character, number_of, AreAlike, AreEdges, AreMet, HaveSameEdges, IsAdded, IsLastCharacter, IsNextCharacter, IsTaken, IsTurn};
 
 use lalrpop_dfa::{Dfa, DfaStateIndex, Kind, START};
 use lalrpop_nfa::Test;
@@ -20,6 +20,7 @@ pub(crate) enum Follow {
 
 impl Follow {
     // Whether a walk goes on from this state of the left automaton.
+    #[inline(always)]
     fn goes_on(self, left: &Dfa, state: DfaStateIndex) -> bool
         requires { state < length left.now }
         ensures { result ≡ not (ends_at self left.now state) }
@@ -53,6 +54,7 @@ struct Stretch {
 }
 
 // The values from this one on that lead to one state. The place moves on to the first edge that doesn't end before the value.
+#[inline(always)]
 fn stretch_at(
     edges: &[(Test, DfaStateIndex)],
     other: DfaStateIndex,
@@ -114,6 +116,7 @@ struct Passed {
 }
 
 // The next character beyond the value.
+#[inline(always)]
 fn next_character(value: u32) -> Option<u32>
     ensures { MatchOption result (IsLastCharacter value) (IsNextCharacter value) }
 {
@@ -147,7 +150,25 @@ impl Met {
         })
     }
 
-    // Adds a pair, unless one with its states has been met.
+    // Adds a pair whose states weren't looked for last, unless one with its states has been met.
+    #[inline(never)]
+    fn add_other(&mut self, pair: Pair) -> Result<(), AllocError>
+        requires known { AreMet self.old.states.keys self.old.latest self.old.pairs.items }
+        ensures known { OnOk result (
+            AreMet self.new.states.keys self.new.latest self.new.pairs.items) }
+        ensures added { OnOk result (IsAdded self.old.pairs.items pair self.new.pairs.items) }
+    {
+        let left = pair.left.index();
+        let right = pair.right.index();
+        self.latest = Some((left, right));
+        if self.states.insert((left, right))? {
+            self.pairs.push(pair)?;
+        }
+        Ok(())
+    }
+
+    // Adds a pair, unless one with its states has been met. Most often its states were looked for last: this path is kept short.
+    #[inline(always)]
     fn add(&mut self, pair: Pair) -> Result<(), AllocError>
         requires known { AreMet self.old.states.keys self.old.latest self.old.pairs.items }
         ensures known { OnOk result (
@@ -162,11 +183,7 @@ impl Met {
         {
             return Ok(());
         }
-        self.latest = Some((left, right));
-        if self.states.insert((left, right))? {
-            self.pairs.push(pair)?;
-        }
-        Ok(())
+        self.add_other(pair)
     }
 }
 
@@ -176,6 +193,39 @@ struct Turn<'given> {
     from: Option<usize>,
     left: Edges<'given>,
     right: Edges<'given>,
+    /// Whether both states have the same edges, as in a walk over one automaton beside itself.
+    are_alike: bool,
+}
+
+// Whether these states have the same edges.
+fn are_alike(left: &Dfa, p: DfaStateIndex, right: &Dfa, q: DfaStateIndex) -> bool
+    requires left_within { p < length left.now }
+    requires right_within { q < length right.now }
+    ensures { IsTrue result → AreAlike left.now p right.now q }
+{
+    left.state(p).other_edge().index() == right.state(q).other_edge().index()
+        && left.test_edges(p) == right.test_edges(q)
+}
+
+// The values from this one on that lead to one state of the right automaton. `left` is the stretch of the left one.
+#[inline(always)]
+fn right_stretch(turn: &Turn<'_>, place: &mut usize, value: u32, left: &Stretch) -> Stretch
+    requires ascending { AreAscendingTests turn.now.right.tests.now }
+    requires passed { EndBefore turn.now.right.tests.now place.old value }
+    requires alike { IsTrue turn.now.are_alike → HaveSameEdges turn.now.left.tests.now
+        turn.now.left.other turn.now.right.tests.now turn.now.right.other }
+    requires left_leads { (c : ℕ) → value ≤ c → c ≤ left.now.last
+        → edge_target turn.now.left.tests.now turn.now.left.other c ≡ left.now.target }
+    requires left_some { value ≤ left.now.last }
+    ensures leads { (c : ℕ) → value ≤ c → c ≤ result.last
+        → edge_target turn.now.right.tests.now turn.now.right.other c ≡ result.target }
+    ensures some { value ≤ result.last }
+    ensures passed { EndBefore turn.now.right.tests.now place.new value }
+{
+    if turn.are_alike {
+        return *left;
+    }
+    stretch_at(turn.right.tests, turn.right.other, place, value)
 }
 
 /// A walk over the pairs of two automata.
@@ -189,6 +239,7 @@ struct Walk<'given> {
 impl<'given> Walk<'given> {
     // Takes the values from this character on that lead from the turn's states to one pair, which is added unless it has been
     // met, and returns the next character beyond them. If the walk ends at the left state, no right one is looked for.
+    #[inline(always)]
     fn take(
         self,
         met: &mut Met,
@@ -200,6 +251,8 @@ impl<'given> Walk<'given> {
             turn.now.left.state turn.now.left.tests.now turn.now.left.other }
         requires right_edges { AreEdges self.right.now
             turn.now.right.state turn.now.right.tests.now turn.now.right.other }
+        requires alike { IsTrue turn.now.are_alike → HaveSameEdges turn.now.left.tests.now
+            turn.now.left.other turn.now.right.tests.now turn.now.right.other }
         requires known { AreMet met.old.states.keys met.old.latest met.old.pairs.items }
         requires character { is_character value ≡ true }
         requires left_passed { EndBefore turn.now.left.tests.now passed.old.left value }
@@ -226,7 +279,7 @@ impl<'given> Walk<'given> {
         if !self.follow.goes_on(self.left, left.target) {
             return Ok(next_character(left.last));
         }
-        let right = stretch_at(turn.right.tests, turn.right.other, &mut passed.right, value);
+        let right = right_stretch(turn, &mut passed.right, value, &left);
         met.add(Pair {
             left: left.target,
             right: right.target,
@@ -259,6 +312,7 @@ impl<'given> Walk<'given> {
             from,
             left: edges_of(self.left, left),
             right: edges_of(self.right, right),
+            are_alike: are_alike(self.left, left, self.right, right),
         };
         let mut passed = Passed { left: 0, right: 0 };
         let mut value = 0;

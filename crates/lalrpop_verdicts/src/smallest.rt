@@ -119,7 +119,7 @@ fn joined_edges(
     ensures well_formed { OnOk result (IsWellFormed dfa.now) }
 {
     let other = classes[dfa.state(state).other_edge().index()];
-    let mut edges = Vec::new(alloc);
+    let mut edges = Vec::with_capacity(alloc, dfa.test_edges(state).len())?;
     for (test, target) in dfa.test_edges(state) {
         if classes[target.index()] != other {
             add_joined(&mut edges, classes, test.clone()?, *target)?;
@@ -141,18 +141,21 @@ fn add_joined(
     ensures { OnOk result (IsAdded (slice_index classes.now) edges.old.items (test, target)
         edges.new.items) }
 {
-    if let Some((last, into)) = edges.pop() {
-        if touches(&last, &test) && classes[into.index()] == classes[target.index()] {
-            edges.push((Test::new(last.start()..=test.end()), target))?;
-            return Ok(());
-        }
-        edges.push((last, into))?;
+    if let Some((last, into)) = edges.last()
+        && touches(last, &test)
+        && classes[into.index()] == classes[target.index()]
+    {
+        let both = Test::new(last.start()..=test.end());
+        edges.pop();
+        edges.push((both, target))?;
+        return Ok(());
     }
     edges.push((test, target))?;
     Ok(())
 }
 
 // Whether the test begins right behind the last one.
+#[inline(always)]
 fn touches(last: &Test, test: &Test) -> bool
     ensures { IsTrue result ↔ (test.now.start ≡ last.now.end + 1) }
 {
@@ -199,20 +202,24 @@ fn stays_in_class(dfa: &Dfa, state: DfaStateIndex, classes: &[usize]) -> bool
     classes[dfa.state(state).other_edge().index()] == class
 }
 
-// The classes that a walk has met.
+/// The classes that a walk has met.
 #[derive(Drop)]
-struct Met {
-    // The class of each state of the automaton.
-    classes: Vec<usize>,
-    // The number of each class, if it was met.
-    numbers: Vec<Option<usize>>,
-    // By number, the state by which the class was met first.
-    states: Vec<DfaStateIndex>,
+pub(crate) struct Met {
+    /// The class of each state of the automaton.
+    pub(crate) classes: Vec<usize>,
+    /// The number of each class, if it was met.
+    pub(crate) numbers: Vec<Option<usize>>,
+    /// By number, the state by which the class was met first.
+    pub(crate) states: Vec<DfaStateIndex>,
 }
 
 impl Met {
-    // None met, of classes below `count`.
-    fn new(alloc: Global, classes: Vec<usize>, count: usize) -> Result<Met, AllocError>
+    /// None met, of classes below `count`.
+    ///
+    /// # Errors
+    ///
+    /// `AllocError` if a request for memory was refused.
+    pub(crate) fn new(alloc: Global, classes: Vec<usize>, count: usize) -> Result<Met, AllocError>
         requires below { (p : ℕ) → p < length classes.items → slice_index classes.items p < count }
         ensures classes { IfOk result (λ met. met.classes.items ≡ classes.items) }
         ensures numbered { IfOk result (λ met. AreNumbered met.classes.items met.numbers.items
@@ -226,8 +233,12 @@ impl Met {
         })
     }
 
-    // The number of the state's class. A class that is met for the first time gets the next number.
-    fn number(&mut self, state: DfaStateIndex) -> Result<DfaStateIndex, AllocError>
+    /// The number of the state's class. A class that is met for the first time gets the next number.
+    ///
+    /// # Errors
+    ///
+    /// `AllocError` if a request for memory was refused.
+    pub(crate) fn number(&mut self, state: DfaStateIndex) -> Result<DfaStateIndex, AllocError>
         requires within { state < length self.old.classes.items }
         requires numbered { AreNumbered self.old.classes.items self.old.numbers.items
             self.old.states.items }

@@ -1,15 +1,16 @@
 -- Cases of specs/Smallest.antt: automata of one state and of two without test edges, and of three with edges.
 use Rattle.std.proofs.Common.{◌≡◌, ℕ, zero, suc, ◌<◌, ◌≤◌, inl, inr, ⊎_elim, List, [], ◌∷◌, length, Some, None, refl, sym, ap, ◌∙◌, arith}
 use Rattle.std.specs.Prelude.{slice_get}
+use Rattle.std.specs.List.{Contains}
 use Rattle.std.proofs.lemmas.Bool.{cases_lt}
 use Rattle.std.proofs.lemmas.Option.{slice_get_within}
 use Rattle.lalrpop_book.specs.Range.{Range}
-use Rattle.lalrpop_dfa.specs.Dfa.{Row, after, IsWellFormed}
+use Rattle.lalrpop_dfa.specs.Dfa.{Row, after, AreAscendingTests, IsWellFormed}
 use Rattle.lalrpop_dfa.specs.declared.Kind.{Kind}
 use Rattle.lalrpop_dfa.specs.declared.Kind.TheVariants.{Accepts, Reject, Neither}
 use Rattle.lalrpop_dfa.proofs.AfterLaws.{after_within}
 use Rattle.lalrpop_verdicts.specs.Answers.{answer, answer_from, accepted_at}
-use Rattle.lalrpop_verdicts.specs.Smallest.{AnswerAlike, AreApart, AreFewestTests, AreInOrder, AreNext, HasFewestEdges, IsCanonical, IsSmallest, RejectsAtOnce, edges_of}
+use Rattle.lalrpop_verdicts.specs.Smallest.{AnswerAlike, AreApart, AreFewestTests, AreInOrder, AreNext, HasFewestEdges, IsCanonical, IsLeastCount, IsSmallest, RejectsAtOnce, edges_of}
 
 -- a state from which all values lead to p
 abbrev state : Kind → ℕ → Row
@@ -55,13 +56,24 @@ the_row : (p : ℕ) (r : Row) → slice_get always p ≡ Some r → state (Accep
 the_row zero r e = cc
 the_row (suc p) r e = cc
 
+alone_fits : (kind : Kind) → IsWellFormed (state kind 0 ∷ [])
+alone_fits kind = record { some = omega arith; ascending = ascending; tests_in = tests_in; others_in = others_in }
+  where
+    here : (p : ℕ) (r : Row) → slice_get (state kind 0 ∷ []) p ≡ Some r → state kind 0 ≡ r
+    here zero r e = cc
+    here (suc p) r e = cc
+
+    ascending : (p : ℕ) (r : Row) → slice_get (state kind 0 ∷ []) p ≡ Some r → AreAscendingTests r.tests
+    ascending p r e = rw (← here p r e) tt
+
+    tests_in : (p : ℕ) (r : Row) (t : Range × ℕ) → slice_get (state kind 0 ∷ []) p ≡ Some r → Contains r.tests t → t.1 < 1
+    tests_in p r t e (k, l, is) = absurd (let none : length r.tests ≡ 0 = ap (λ (x : Row). length x.tests) (sym (here p r e)) in omega (arith, l, none))
+
+    others_in : (p : ℕ) (r : Row) → slice_get (state kind 0 ∷ []) p ≡ Some r → r.other < 1
+    others_in p r e = rw (← here p r e) (omega arith)
+
 always_fits : IsWellFormed always
-always_fits = record {
-  some = omega arith;
-  ascending = λ p r e. rw (← the_row p r e) tt;
-  tests_in = λ p r t e (k, l, is). absurd (let none : length r.tests ≡ 0 = ap (λ (x : Row). length x.tests) (sym (the_row p r e)) in omega (arith, l, none));
-  others_in = λ p r e. rw (← the_row p r e) (omega arith);
-}
+always_fits = alone_fits (Accepts 0)
 
 two_states_are_one_too_many : ¬ IsSmallest in_turn
 two_states_are_one_too_many least = let most : 2 ≤ 1 = least always always_fits they_answer_alike in omega (arith, most)
@@ -70,16 +82,20 @@ two_states_are_one_too_many least = let most : 2 ≤ 1 = least always always_fit
 abbrev empty_alone : List Row
 empty_alone = state (Accepts 0) 1 ∷ state Reject 1 ∷ []
 
-both_are_needed : IsSmallest empty_alone
-both_are_needed e fits alike = ⊎_elim (λ (l : length e < 2). absurd (one_does_not_do l)) (λ (l : 2 ≤ length e). l) (cases_lt (length e) 2)
+-- one state can't accept the empty word and reject a longer one
+one_does_not_do : (d : List Row) → answer d [] ≡ Some 0 → answer d (7 ∷ []) ≡ None → (e : List Row) → IsWellFormed e → AnswerAlike d e → 2 ≤ length e
+one_does_not_do d accepts rejects e fits alike = ⊎_elim (λ (l : length e < 2). absurd (not_one l)) (λ (l : 2 ≤ length e). l) (cases_lt (length e) 2)
   where
-    one_does_not_do : length e < 2 → ⊥
-    one_does_not_do l =
+    not_one : length e < 2 → ⊥
+    not_one l =
         let back : after e (7 ∷ []) ≡ 0 = omega (arith, l, after_within e (7 ∷ []) fits) in
-        let before : Some 0 ≡ answer e [] = alike [] in
-        let behind : None ≡ answer e (7 ∷ []) = alike (7 ∷ []) in
+        let before : Some 0 ≡ answer e [] = sym accepts ∙ alike [] in
+        let behind : None ≡ answer e (7 ∷ []) = sym rejects ∙ alike (7 ∷ []) in
         let same : answer e (7 ∷ []) ≡ answer e [] = ap (λ p. accepted_at (slice_get e p)) back in
         no_answer_is_none 0 (before ∙ sym same ∙ sym behind)
+
+both_are_needed : IsSmallest empty_alone
+both_are_needed = one_does_not_do empty_alone refl refl
 
 second_is_dead : (w : List ℕ) → answer_from empty_alone 1 w ≡ None
 second_is_dead [] = refl
@@ -94,6 +110,68 @@ it_rejects_at_once zero r e =
 it_rejects_at_once (suc zero) r e =
     let is : Reject ≡ r.kind = ap (λ (x : Row). x.kind) (let same : state Reject 1 ≡ r = cc in same) in (λ k. second_is_dead, λ dead. sym is)
 it_rejects_at_once (suc (suc p)) r e = absurd (let none : None ≡ Some r = e in cc)
+
+-- ---- the least number of states
+always_has_one : IsLeastCount always 1
+always_has_one = (always, (always_fits, λ w. refl, one_state_is_smallest, refl))
+
+two_that_answer_alike_have_one : IsLeastCount in_turn 1
+two_that_answer_alike_have_one = (always, (always_fits, they_answer_alike, one_state_is_smallest, refl))
+
+they_do_not_have_two : ¬ IsLeastCount in_turn 2
+they_do_not_have_two (e, (fits, alike, least, count)) = let most : length e ≤ 1 = least always always_fits (λ w. sym (alike w) ∙ they_answer_alike w) in omega (arith, most, count)
+
+-- no automaton has no state, even if it accepts nothing
+never_has_one : IsLeastCount never 1
+never_has_one = (never, (alone_fits Reject, λ w. refl, λ e fits alike. omega (arith, fits.some), refl))
+
+never_does_not_have_none : ¬ IsLeastCount never 0
+never_does_not_have_none (e, (fits, alike, least, count)) = omega (arith, fits.some, count)
+
+-- the words of an even length
+abbrev even : List Row
+even = state (Accepts 0) 1 ∷ state Neither 0 ∷ []
+
+even_fits : IsWellFormed even
+even_fits = record { some = omega arith; ascending = ascending; tests_in = tests_in; others_in = others_in }
+  where
+    ascending : (p : ℕ) (r : Row) → slice_get even p ≡ Some r → AreAscendingTests r.tests
+    ascending zero r e = let same : state (Accepts 0) 1 ≡ r = cc in rw (← same) tt
+    ascending (suc zero) r e = let same : state Neither 0 ≡ r = cc in rw (← same) tt
+    ascending (suc (suc p)) r e = absurd (let none : None ≡ Some r = e in cc)
+
+    without_tests : (p : ℕ) (r : Row) → slice_get even p ≡ Some r → length r.tests ≡ 0
+    without_tests zero r e = let same : state (Accepts 0) 1 ≡ r = cc in ap (λ (x : Row). length x.tests) (sym same)
+    without_tests (suc zero) r e = let same : state Neither 0 ≡ r = cc in ap (λ (x : Row). length x.tests) (sym same)
+    without_tests (suc (suc p)) r e = absurd (let none : None ≡ Some r = e in cc)
+
+    tests_in : (p : ℕ) (r : Row) (t : Range × ℕ) → slice_get even p ≡ Some r → Contains r.tests t → t.1 < 2
+    tests_in p r t e (k, l, is) = absurd (omega (arith, l, without_tests p r e))
+
+    others_in : (p : ℕ) (r : Row) → slice_get even p ≡ Some r → r.other < 2
+    others_in zero r e = let same : state (Accepts 0) 1 ≡ r = cc in rw (← same) (omega arith)
+    others_in (suc zero) r e = let same : state Neither 0 ≡ r = cc in rw (← same) (omega arith)
+    others_in (suc (suc p)) r e = absurd (let none : None ≡ Some r = e in cc)
+
+even_has_two : IsLeastCount even 2
+even_has_two = (even, (even_fits, λ w. refl, one_does_not_do even refl refl, refl))
+
+even_does_not_have_one : ¬ IsLeastCount even 1
+even_does_not_have_one (e, (fits, alike, least, count)) = omega (arith, one_does_not_do even refl refl e fits alike, count)
+
+-- one state, whose edge leads to a state that isn't there, answers alike, but isn't well formed
+abbrev cut_off : List Row
+cut_off = state (Accepts 0) 1 ∷ []
+
+cut_off_answers_alike : AnswerAlike even cut_off
+cut_off_answers_alike w = (from_both w).0
+  where
+    from_both : (w : List ℕ) → (answer_from even 0 w ≡ answer_from cut_off 0 w) × (answer_from even 1 w ≡ answer_from cut_off 1 w)
+    from_both [] = (refl, refl)
+    from_both (c ∷ w) = ((from_both w).1, (from_both w).0)
+
+cut_off_does_not_fit : ¬ IsWellFormed cut_off
+cut_off_does_not_fit fits = let within : 1 < 1 = fits.others_in 0 (state (Accepts 0) 1) refl in omega (arith, within)
 
 -- ---- a dead state that waits, and one that rejects too early
 abbrev waits_in_vain : List Row

@@ -19,6 +19,10 @@ pub record IsNumberOf (classes states : List ℕ) (p n : ℕ) : Type 0 where
   pub within : n < length states
   pub same : slice_index classes (slice_index states n) ≡ slice_index classes p
 
+-- the class of p was met
+abbrev pub IsMetClass : List ℕ → List ℕ → ℕ → Type 0
+IsMetClass classes states p = (n : ℕ) × IsNumberOf classes states p n
+
 -- the old states stay in place, and those that were met since have the property W
 pub record AreMet (W : ℕ → Type 0) (old new : List ℕ) : Type 0 where
   pub longer : length old ≤ length new
@@ -109,13 +113,17 @@ pub record AreRowsInOrder (rows : List Row) (count : ℕ) : Type 0 where
   pub before : (p : ℕ) → p < length rows → p < slice_index met p
   pub each : (p : ℕ) (s : Row) → slice_get rows p ≡ Some s → AreNext (slice_index met p) (edges_of s.tests s.other) (slice_index met (suc p))
 
--- the states that a walk from state 0 has met, one of each class, and the rows of the first of them
-pub record IsWalk (d : List Row) (classes states : List ℕ) (rows : List Row) : Type 0 where
+-- state 0 and others that a word leads to, at most one of each class
+pub record AreReached (d : List Row) (classes states : List ℕ) : Type 0 where
   pub some : 0 < length states
   pub start : slice_index states 0 ≡ 0
   pub within : (i : ℕ) → i < length states → slice_index states i < length d
   pub apart : (i j : ℕ) → i < length states → j < length states → slice_index classes (slice_index states i) ≡ slice_index classes (slice_index states j) → i ≡ j
   pub reached : (i : ℕ) → i < length states → (w : List ℕ) × (after d w ≡ slice_index states i)
+
+-- the states that a walk from state 0 has met, and the rows of the first of them
+pub record IsWalk (d : List Row) (classes states : List ℕ) (rows : List Row) : Type 0 where
+  pub reached : AreReached d classes states
   pub few : length rows ≤ length states
   pub order : AreRowsInOrder rows (length states)
   pub each : (i : ℕ) (s : Row) → slice_get rows i ≡ Some s → IsClassRow d classes states (slice_index states i) s

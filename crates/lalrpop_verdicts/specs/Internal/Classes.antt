@@ -1,9 +1,10 @@
 -- States that answer alike, in classes.
-use Rattle.std.specs.Prelude.{◌≡◌, ◌≢◌, ℕ, ◌+◌, ◌<◌, ◌≤◌, ◌↔◌, Bool, List, [], ◌∷◌, map, length, slice_get, slice_index, slice_index_or, nat_eq, ◌&&◌, false, Option, Some, None, Vec, IsTrue}
+use Rattle.std.specs.Prelude.{◌≡◌, ◌≢◌, ℕ, ◌+◌, ◌<◌, ◌≤◌, ◌/◌, ◌%◌, ◌⊎◌, ◌↔◌, Bool, List, [], ◌∷◌, map, length, slice_get, slice_index, slice_index_or, nat_eq, ◌&&◌, Option, Some, None, Vec, IsTrue}
 use Rattle.std.specs.Cmp.Lexicographic.{pointwise}
 use Rattle.std.specs.Global.{Global}
 use Rattle.std.specs.HashMap.{HashMap, get, Updates}
 use Rattle.std.specs.HashSet.{HashSet, contains}
+use Rattle.std.specs.Int.{bit_at}
 use Rattle.std.specs.List.{Contains}
 use Rattle.std.specs.Option.{option_to_list}
 use Rattle.lalrpop_book.specs.Range.{Range}
@@ -73,10 +74,18 @@ pub record IsBounded (values : List ℕ) (r : Range) : Type 0 where
   pub end : Contains (4294967296 ∷ values) (r.end + 1)
   pub fits : r.end ≤ 4294967295
 
+-- the bit of the value is set in words of 64 bits
+abbrev pub IsMarked : List ℕ → ℕ → Type 0
+IsMarked marks c = bit_at (slice_index marks (c / 64)) (c % 64) ≡ 1
+
+-- this value is marked, and no other that wasn't
+abbrev pub AreMarkedWith : List ℕ → ℕ → List ℕ → Type 0
+AreMarkedWith old v new = (c : ℕ) → IsMarked new c → IsMarked old c ⊎ (c ≡ v)
+
 -- the list has the values that the set has, and those that are marked
-pub record AreListed {S : Type 0} (known : HashSet ℕ S) (marks : List Bool) (values : List ℕ) : Type 0 where
+pub record AreListed {S : Type 0} (known : HashSet ℕ S) (marks : List ℕ) (values : List ℕ) : Type 0 where
   pub in_set : (c : ℕ) → IsTrue (contains nat_eq known c) → Contains values c
-  pub marked : (c : ℕ) → IsTrue (slice_index_or marks c false) → Contains values c
+  pub marked : (c : ℕ) → IsMarked marks c → Contains values c
 
 -- no value is lost
 abbrev pub IsMore : List ℕ → List ℕ → Type 0

@@ -35,7 +35,7 @@ pub record LeadTo (follow : Follow) (l r : List Row) (p q : ℕ) (w : List ℕ) 
 abbrev pub HasStates : List Pair → ℕ → ℕ → Type 0
 HasStates pairs p q = (k : ℕ) × (x : Pair) × ((slice_get pairs k ≡ Some x) × (x.left ≡ p) × (x.right ≡ q))
 
--- the word goes on by one value from that of the pair before, or from nothing
+-- the word is the word of the pair before, or the empty one, and one value more
 abbrev pub IsOneMore : List (List ℕ) → ℕ → Option ℕ → ℕ → List ℕ → Type 0
 IsOneMore words k None value w = w ≡ value ∷ []
 IsOneMore words k (Some j) value w = (j < k) × ((v : List ℕ) → slice_get words j ≡ Some v → w ≡ v ++ value ∷ [])
@@ -138,6 +138,15 @@ pub record AreEdges (d : List Row) (p : ℕ) (tests : List (Range × ℕ)) (othe
   pub same_other : other ≡ row.other
   pub well_formed : IsWellFormed d
   pub within : p < length d
+
+-- they are the same edges
+abbrev pub HaveSameEdges : List (Range × ℕ) → ℕ → List (Range × ℕ) → ℕ → Type 0
+HaveSameEdges tests other tests2 other2 = (tests ≡ tests2) × (other ≡ other2)
+
+-- the states p and q have the same edges
+abbrev pub AreAlike : List Row → ℕ → List Row → ℕ → Type 0
+AreAlike l p r q =
+    (tests tests2 : List (Range × ℕ)) (other other2 : ℕ) → AreEdges l p tests other → AreEdges r q tests2 other2 → HaveSameEdges tests other tests2 other2
 
 -- the keys are the states of the pairs
 abbrev pub AreKnown : List (ℕ × ℕ) → List Pair → Type 0

@@ -45,7 +45,7 @@ IsFirst f n q (Some k) = (k < n) × (f k ≡ Some q) × ((j : ℕ) → j < k →
 
 -- ---- one tree among others
 
--- the automaton is that of the tree i alone
+-- the automaton of the tree i alone
 pub record IsOwn (ts : List Tree) (i : ℕ) (d : List Row) : Type 0 where
   pub tree : Tree
   pub at : slice_get ts i ≡ Some tree

@@ -1,12 +1,12 @@
 //! Stretches of values, in each of which a state leads to one state.
 
-ghost use Rattle.std.specs.Prelude.{◌≡◌, ℕ, List, ◌<◌, ◌≤◌, length, map, IfOk, OnOk};
+ghost use Rattle.std.specs.Prelude.{◌≡◌, ℕ, List, ◌<◌, ◌≤◌, ◌/◌, length, map, IfOk, IsTrue, OnOk, ◌↔◌};
 ghost use Rattle.std.specs.List.{Contains};
 ghost use Rattle.std.specs.List.Sorted.{IsNonDecreasing};
 ghost use Rattle.lalrpop_book.specs.Range.{Range};
 ghost use Rattle.lalrpop_dfa.specs.Dfa.{AreAscendingTests, IsWellFormed, edge_target, step};
 ghost use Rattle.lalrpop_dfa.specs.Internal.Stored.{EndBefore};
-ghost use Rattle.lalrpop_verdicts.specs.Internal.Classes.{AreColumns, AreLeads, AreListed, AreTried, HasFirsts, IsBounded, IsMore, leads_of};
+ghost use Rattle.lalrpop_verdicts.specs.Internal.Classes.{AreColumns, AreLeads, AreListed, AreMarkedWith, AreTried, HasFirsts, IsBounded, IsMarked, IsMore, leads_of};
 
 use super::split::split;
 use lalrpop_dfa::{Dfa, DfaStateIndex};
@@ -14,25 +14,44 @@ use lalrpop_nfa::Test;
 use std::alloc::{AllocError, Global};
 use std::collections::HashSet;
 
-// Numbers in the order in which they were first added. A small number has a mark, which costs less than a look into the set.
+// Sets the mark of the value.
+fn set_mark(marks: &mut [u64], value: u32)
+    requires within { value / 64 < length marks.old }
+    ensures { AreMarkedWith marks.old value marks.new }
+{
+    marks[value as usize / 64] |= 1u64 << (value % 64);
+}
+
+// Numbers in the order in which they were first added. A number below the bound has a mark, which costs less than a look into the
+// set.
 #[derive(Drop)]
 struct Distinct {
     known: HashSet<u32>,
-    marks: Vec<bool>,
+    // A bit for each number.
+    marks: Vec<u64>,
     values: Vec<u32>,
 }
 
 impl Distinct {
-    // No numbers, and marks for those below the bound.
-    fn new(alloc: Global, bound: usize) -> Result<Distinct, AllocError>
+    // No numbers, and marks for the first `words` times 64.
+    fn new(alloc: Global, words: usize) -> Result<Distinct, AllocError>
         ensures { IfOk result (λ numbers.
             AreListed numbers.known numbers.marks.items numbers.values.items) }
     {
         Ok(Distinct {
             known: HashSet::new(alloc),
-            marks: vec![in alloc; false; bound]?,
+            marks: vec![in alloc; 0u64; words]?,
             values: Vec::new(alloc),
         })
+    }
+
+    // Whether the value is marked.
+    #[inline(always)]
+    fn is_marked(&self, value: u32) -> bool
+        ensures { IsTrue result ↔ IsMarked self.now.marks.items value }
+    {
+        let word = value as usize / 64;
+        word < self.marks.len() && self.marks[word] >> (value % 64) & 1 == 1
     }
 
     // Adds a value that isn't marked: it gets its mark, or is put into the set if it can have none.
@@ -44,13 +63,12 @@ impl Distinct {
         ensures more { OnOk result (IsMore self.old.values.items self.new.values.items) }
         ensures added { OnOk result (Contains self.new.values.items value) }
     {
-        let place = value as usize;
-        if place < self.marks.len() {
-            self.marks[place] = true;
-        } else if !self.known.insert(value)? {
-            return Ok(());
+        if value as usize / 64 < self.marks.len() {
+            set_mark(&mut self.marks, value);
+            self.values.push(value)?;
+        } else if self.known.insert(value)? {
+            self.values.push(value)?;
         }
-        self.values.push(value)?;
         Ok(())
     }
 
@@ -63,8 +81,7 @@ impl Distinct {
         ensures more { OnOk result (IsMore self.old.values.items self.new.values.items) }
         ensures added { OnOk result (Contains self.new.values.items value) }
     {
-        let place = value as usize;
-        if place < self.marks.len() && self.marks[place] {
+        if self.is_marked(value) {
             return Ok(());
         }
         self.add_unmarked(value)
@@ -168,10 +185,9 @@ fn first_values(alloc: Global, values: &[u32], firsts: &[usize]) -> Result<Vec<u
     Ok(kept)
 }
 
-// How many values get a mark: those up to the one behind the last test edge. A greater value than the one behind the last character
-// gets none, so that the marks take less than 1.2 megabytes.
-fn mark_count(dfa: &Dfa) -> usize
-    ensures { result ≤ 1114113 }
+// How many words of 64 marks there are: up to the mark of the value behind the last test edge, or behind the last character.
+fn mark_words(dfa: &Dfa) -> usize
+    ensures { result ≤ 17409 }
 {
     let mut last = 0;
     for number in 0..dfa.states().len() {
@@ -179,7 +195,7 @@ fn mark_count(dfa: &Dfa) -> usize
             last = test.end().max(last);
         }
     }
-    last.min(0x10_FFFF) as usize + 2
+    (last.min(0x10_FFFF) as usize + 1) / 64 + 1
 }
 
 // A value of each stretch: where it leads, each value of its stretch leads.
@@ -187,7 +203,7 @@ fn bounds(alloc: Global, dfa: &Dfa) -> Result<Vec<u32>, AllocError>
     ensures tried { IfOk result (λ values. AreTried dfa.now values.items) }
     ensures well_formed { OnOk result (IsWellFormed dfa.now) }
 {
-    let mut bounds = Distinct::new(alloc, mark_count(dfa))?;
+    let mut bounds = Distinct::new(alloc, mark_words(dfa))?;
     bounds.add(0)?;
     for number in 0..dfa.states().len() {
         bounds.add_bounds(dfa.test_edges(DfaStateIndex::new(number)))?;

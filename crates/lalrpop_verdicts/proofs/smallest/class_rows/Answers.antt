@@ -1,6 +1,6 @@
 use Rattle.std.proofs.Common.{◌≡◌, ◌<◌, ◌≤◌, ◌+◌, ◌∙◌, ◌∷◌, [], List, ℕ, length, slice_index, ap, subst, arith}
 use Rattle.lalrpop_verdicts.specs.Internal.ClassRows.{AreMet, AreMetInTurn, AreNumbered, IsClassRow, IsNumberOf}
-use Rattle.lalrpop_verdicts.proofs.ClassWalks.{read_index, walk_few, walk_more, walk_start}
+use Rattle.lalrpop_verdicts.proofs.ClassWalks.{reached_few, read_index, walk_more, walk_start}
 use Rattle.lalrpop_verdicts.proofs.PushedNumbers.{pushed_length}
 use Rattle.lalrpop_verdicts.proofs.smallest.class_rows.Goals as goal
 
@@ -30,7 +30,7 @@ loop-alloc-smaller c =
     let states = c.loop-alloc.met.states.items in
     let row = c.in_ok-write_row.ensures.row in
     let l : length rows < length states = omega (arith, c.loop-alloc-test.true, c.len.ensures, c.len-in-loop-alloc.ensures, c.loop-alloc.met.states.ok.0) in
-    let few : length states ≤ length d = walk_few d c.args.classes.items states rows c.loop-alloc.invariant.walk in
+    let few : length states ≤ length d = reached_few d c.args.classes.items states c.loop-alloc.invariant.walk.reached in
     let more : length c.write_row.new.writer.rows ≡ length rows + 1 = ap length row.1 ∙ pushed_length rows row.0 in
     omega (arith, l, few, more)
 

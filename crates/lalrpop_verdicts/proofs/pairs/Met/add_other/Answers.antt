@@ -1,7 +1,7 @@
 use Rattle.std.proofs.Common.{rules}
 use Rattle.lalrpop_verdicts.specs.Internal.Pairs.{AreKnown, IsAdded}
 use Rattle.lalrpop_verdicts.proofs.MetPairs.{added_old, added_new, known_push, met_now}
-use Rattle.lalrpop_verdicts.proofs.pairs.Met.add.Goals as goal
+use Rattle.lalrpop_verdicts.proofs.pairs.Met.add_other.Goals as goal
 
 new_pair : (c : goal.In_ok-push) → IsAdded c.args.self.now.pairs.items c.args.pair c.push.new.self.items
 new_pair c =
