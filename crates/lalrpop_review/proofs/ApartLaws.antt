@@ -20,7 +20,7 @@ use Rattle.lalrpop_review.proofs.MeaningLaws.{element_in_front, element_behind, 
 
 -- ---- the token that the automaton of a mode answers
 
--- the automaton that was built for these trees is that of the mode
+-- the automaton of the mode was built for these trees
 pub mode_automaton : (r : ModeRules) (m : ℕ) (ts : List Tree) (ps : List ℕ) (d e : List Row) → ts ≡ trees_in r m → ps ≡ r.precedences → IsBuiltFrom ts ps d → e ≡ d
     → RecognizesAll e (trees_in r m) r.precedences
 mode_automaton r m ts ps d e trees precedences built same =
@@ -48,7 +48,7 @@ one_token r m w (Some i) (Some j) one other = ap (λ (k : ℕ). Some k) (other.1
 
 -- ---- its rule is one of the rules
 
--- the index is that of a rule, or there is none
+-- a rule has this index, or there is none
 abbrev IsRule : ModeRules → Option ℕ → Type 0
 IsRule r None = Unit {0}
 IsRule r (Some i) = i < length r.trees

@@ -54,7 +54,7 @@ module _ (r : ModeRules) (m i : ℕ) where
       winners = winners;
     }
 
--- what is told of a rule by the winners of its words
+-- whether a rule is idle, by the winners of its words
 module _ (ks : List ℕ) (i : ℕ) (told : Option (Vec WonWord Global)) (r : ModeRules) (m : ℕ) (kinds : r.kinds ≡ ks) (are : AreTold (words_of r.trees i) (trees_in r m) r.precedences i told) where
   pub told_itself : told ≡ None → IsIdleAt r m i None
   told_itself none = let (w, won) = subst (AreTold (words_of r.trees i) (trees_in r m) r.precedences i) none are in wins_itself r m i w won
@@ -128,7 +128,7 @@ module _ (r : ModeRules) (m n : ℕ) (xs : List IdleRule) (h : AreIdleBelow r m 
             | inr less ↦ (let (y, (has, is)) = h.all i less never in (y, (Contains-append_left xs (x ∷ []) y has, is)))
           ]
 
--- what is told of the next rule
+-- the next rule
 pub none_told : (r : ModeRules) (m n : ℕ) (xs new : List IdleRule) → AreIdleBelow r m n xs → IsIdleAt r m n None → new ≡ xs → AreIdleBelow r m (n + 1) new
 none_told r m n xs new h not same = subst (AreIdleBelow r m (n + 1)) (sym same) (not_idle r m n xs h not)
 

@@ -7,7 +7,7 @@ use Rattle.lalrpop_dfa.specs.Dfa.{Row}
 use Rattle.lalrpop_dfa.specs.Lookahead.{IsLookahead, StaysOpenEver}
 use Rattle.lalrpop_dfa.specs.Witness.{OpenMatch, IsOpenMatch, IsWitness}
 use Rattle.lalrpop_modes.specs.Modes.{ModeRules, Belongs, trees_in}
-use Rattle.lalrpop_verdicts.specs.Smallest.{AnswerAlike, IsSmallest}
+use Rattle.lalrpop_verdicts.specs.Smallest.{IsLeastCount}
 use Rattle.lalrpop_verdicts.specs.Verdicts.{AreWinners, IsWonBy, words_of}
 use Rattle.lalrpop_review.specs.declared.idle.IdleRule.{IdleRule}
 use Rattle.lalrpop_review.specs.declared.look.Look.{Look}
@@ -43,7 +43,7 @@ pub record AreIdle (r : ModeRules) (m : ℕ) (xs : List IdleRule) : Type 0 where
 
 -- ---- reading past a token
 
--- the least token that n values after it leave open, with the least such values; none if there is no such token
+-- the least token that n values after it leave open, with the least such values; none if no token is left open
 abbrev pub IsLeastOpen : List Tree → ℕ → Option OpenMatch → Type 0
 IsLeastOpen ts n None = (v x : List ℕ) → ¬ IsOpenMatch (Matched ts) n v x
 IsLeastOpen ts n (Some found) = IsWitness (Matched ts) n found.word found.after
@@ -55,10 +55,6 @@ IsLook ts ps (Unbounded rules) =
     IsLookahead (Matched ts) None × AreThose (length ts) (λ i. StaysOpenEver (Matched ts) (λ w. IsOnlyStrongest ts ps w i)) rules.items
 
 -- ---- the whole
-
--- the least number of states of an automaton that answers as d does
-abbrev pub IsLeastCount : List Row → ℕ → Type 0
-IsLeastCount d n = (least : List Row) × (AnswerAlike d least × IsSmallest least × (n ≡ length least))
 
 pub record IsModeReview (r : ModeRules) (m : ℕ) (x : ModeReview) : Type 0 where
   pub automaton : List Row

@@ -106,8 +106,8 @@ fn automaton(lexer: &ModeLexer, mode: usize) -> &Dfa
 /// A token is the name of its rule, whether it is skipped, and what it does to the stack of modes. So rules may stand in another
 /// order, and one rule may take the place of several. Modes are compared by their numbers, in the actions too.
 ///
-/// The memory grows with the pairs of states that texts lead to, at most the product of the two numbers of states. What is told of
-/// each rule is compared with those before it, up to the first that says the same.
+/// The memory grows with the pairs of states that texts lead to, at most the product of the two numbers of states. Each rule is
+/// compared with those before it, up to the first that makes the same tokens.
 ///
 /// ```
 /// use lalrpop_modes::{ModeLexer, ModeRule};

@@ -1,13 +1,12 @@
 //! The review of one mode.
 ghost use Rattle.std.specs.Prelude.{◌<◌, IfOk};
-ghost use Rattle.lalrpop_review.specs.Review.{IsLeastCount, IsModeReview};
+ghost use Rattle.lalrpop_review.specs.Review.{IsModeReview};
 
 use crate::idle::IdleRule;
 use crate::idle_rules::idle_rules;
 use crate::look::{Look, look_of};
-use lalrpop_lexer::lexer::dfa::Dfa;
 use lalrpop_modes::ModeLexer;
-use lalrpop_verdicts::minimized;
+use lalrpop_verdicts::least_state_count;
 use std::alloc::{AllocError, Global};
 
 /// What is to say of the rules of one mode.
@@ -29,14 +28,6 @@ pub struct ModeReview {
     pub look: Look,
 }
 
-// How many states the smallest automaton has that answers each word alike.
-fn least_count(alloc: Global, dfa: &Dfa) -> Result<usize, AllocError>
-    ensures least { IfOk result (IsLeastCount dfa.now) }
-{
-    let least = minimized(alloc, dfa)?;
-    Ok(least.states().len())
-}
-
 /// The review of the mode.
 pub(crate) fn mode_review(
     alloc: Global,
@@ -50,7 +41,7 @@ pub(crate) fn mode_review(
     let dfa = here.dense().dfa();
     let idle = idle_rules(alloc, lexer, mode)?;
     let states = dfa.states().len();
-    let least_states = least_count(alloc, dfa)?;
+    let least_states = least_state_count(alloc, dfa)?;
     let look = look_of(alloc, here)?;
     Ok(ModeReview {
         idle,

@@ -14,7 +14,7 @@ use std::alloc::{AllocError, Global};
 ///
 /// A rule that matches the empty text is told even if it wins other texts. A rule never wins in a mode if each nonempty text
 /// that it matches is a token of a rule of another kind there: rules of one kind have the same tokens, so none of them hides
-/// another. What is told of a mode speaks only of the rules that belong to it.
+/// another. The review of a mode speaks only of the rules that belong to it.
 ///
 /// Cost: one walk over the automaton of each mode finds the rules that win. Each other rule is built alone, and its automaton is
 /// walked beside the whole one; so is each rule that shares its kind in the mode with others. The smallest automaton takes as

@@ -22,7 +22,7 @@ fn is_hidden(idle: &IdleRule, rule: usize, by: usize, text: &[u32]) -> bool {
 // rules tell "i" and "if" from other names, which the smallest one doesn't: all names have one state there. In mode 1 "", "i", "if"
 // and the rest are four states too.
 //
-// A name or spaces end where the next character is no letter or no space: one character settles it, as no token stays open without
+// A name ends where the next character isn't a letter, and spaces where it isn't a space: one character settles it, as no token stays open without
 // a match. So 0 characters leave the least token open: " ", or in mode 1 "if".
 #[test]
 fn a_rule_is_hidden_in_one_mode(rt: HostRuntime) {

@@ -28,7 +28,7 @@ one name skipped acts = record {
   automata = [];
 }
 
--- ---- what is told of a token
+-- ---- what a token is
 
 told_of_the_rule : (name : List ℕ) → told (one name true (Pop ∷ [])) (Some 0) ≡ Some (record { name = name; skipped = true; actions = Pop ∷ [] })
 told_of_the_rule name = refl

@@ -141,7 +141,7 @@ no_winner_is_left_out winners e idle =
     let (x, (has, by)) = idle.winners.all 1 (97 ∷ []) (a_is_text, (λ e. cc), (a, (refl, refl)), only_second) in
     contains_none x (subst (λ xs. Contains xs x) e has)
 
--- a rule that wins is no such rule
+-- a rule that wins isn't one of these
 second_is_not : ¬ NeverWins apart 0 1
 second_is_not never = never.1 1 (97 ∷ []) (a_is_text, (λ e. cc), (a, (refl, refl)), only_second) refl
 

@@ -32,7 +32,7 @@ AreVerdictsFrom r m n vs = (k : ℕ) (v : Verdict) → slice_get vs k ≡ Some v
 abbrev pub AreOfOtherKinds : List ℕ → ℕ → List WonWord → Type 0
 AreOfOtherKinds ks i found = (x : WonWord) → Contains found x → ¬ (slice_get ks i ≡ slice_get ks x.by)
 
--- what is told of rule i: that it never wins in the mode, or that it is no such rule
+-- rule i never wins in the mode, and this is the entry; or there is none, and it isn't such a rule
 abbrev pub IsIdleAt : ModeRules → ℕ → ℕ → Option IdleRule → Type 0
 IsIdleAt r m i None = ¬ NeverWins r m i
 IsIdleAt r m i (Some x) = (x.rule ≡ i) × IsIdle r m x
