@@ -14,7 +14,7 @@ use Rattle.lalrpop_rules.specs.declared.item.Item.TheVariants.{Token, Skipped, F
 use Rattle.lalrpop_modes.specs.declared.action.Action.{Action}
 use Rattle.lalrpop_modes.specs.Stack.{Stack, act_all, actions_of}
 use Rattle.lalrpop_modes.specs.Modes.{ModeRules, ArePiecesFrom, after, trees_in}
-use Rattle.lalrpop_emit.specs.BytePieces.{IsByteToken, IsByteFault, IsByteTokenOrFault, IsBytePiece, IsModePiece, rule_actions, piece_actions, after_piece, Fits, StopsAt, AreBytePiecesFrom, numbered}
+use Rattle.lalrpop_emit.specs.BytePieces.{IsByteToken, IsByteFault, IsByteTokenOrFault, IsBytePiece, IsModePiece, rule_actions, piece_actions, after_piece, Fits, StopsAt, AreBytePiecesFrom, AreBytePiecesTo, numbered}
 use Rattle.lalrpop_emit.specs.declared.numbered_piece.NumberedPiece.{NumberedPiece}
 
 -- ---- one piece is unique
@@ -200,26 +200,17 @@ pieces_numbered r kinds room text w at s (x ∷ xs) (item ∷ items) end are too
 
 -- ---- one piece after another
 
--- the pieces from one place and stack up to another
-abbrev pub AreBytePiecesTo : ModeRules → List ℕ → ℕ → List ℕ → ℕ → Stack → List NumberedPiece → ℕ → Stack → Type 0
-AreBytePiecesTo r kinds room text from t [] at s = (from ≡ at) × (t ≡ s)
-AreBytePiecesTo r kinds room text from t (x ∷ xs) at s =
-    IsModePiece r kinds text from t x × Fits room (piece_actions r.actions x) t × AreBytePiecesTo r kinds room text (from + x.length) (after_piece r.actions x t) xs at s
+module _ (r : ModeRules) (kinds : List ℕ) (room : ℕ) (text : List ℕ) where
+  -- pieces up to a place, and those from there on up to another
+  pub pieces_join : (at : ℕ) (s : Stack) (xs : List NumberedPiece) (mid : ℕ) (u : Stack) (ys : List NumberedPiece) (end : ℕ) (t : Stack)
+      → AreBytePiecesTo r kinds room text at s xs mid u → AreBytePiecesTo r kinds room text mid u ys end t → AreBytePiecesTo r kinds room text at s (xs ++ ys) end t
+  pieces_join at s [] mid u ys end t are more =
+      subst (λ (n : ℕ). AreBytePiecesTo r kinds room text n s ys end t) (sym are.0) (subst (λ (v : Stack). AreBytePiecesTo r kinds room text mid v ys end t) (sym are.1) more)
+  pieces_join at s (x ∷ xs) mid u ys end t are more = (are.0, are.1, pieces_join (at + x.length) (after_piece r.actions x s) xs mid u ys end t are.2 more)
 
-pub pieces_more : (r : ModeRules) (kinds : List ℕ) (room : ℕ) (text : List ℕ) (from : ℕ) (t : Stack) (xs : List NumberedPiece) (at : ℕ) (s : Stack) (x : NumberedPiece) (at2 : ℕ) (s2 : Stack)
-    → AreBytePiecesTo r kinds room text from t xs at s → IsModePiece r kinds text at s x → Fits room (piece_actions r.actions x) s → at2 ≡ at + x.length → s2 ≡ after_piece r.actions x s
-    → AreBytePiecesTo r kinds room text from t (xs ++ x ∷ []) at2 s2
-pieces_more r kinds room text from t [] at s x at2 s2 are is fits place stack = (
-  subst (λ (n : ℕ). IsModePiece r kinds text n t x) (sym are.0) (subst (λ (u : Stack). IsModePiece r kinds text at u x) (sym are.1) is),
-  subst (λ (u : Stack). Fits room (piece_actions r.actions x) u) (sym are.1) fits,
-  (omega (arith, are.0, place), ap (after_piece r.actions x) are.1 ∙ sym stack),
-)
-pieces_more r kinds room text from t (y ∷ ys) at s x at2 s2 are is fits place stack =
-    (are.0, are.1, pieces_more r kinds room text (from + y.length) (after_piece r.actions y t) ys at s x at2 s2 are.2 is fits place stack)
-
-pub pieces_all : (r : ModeRules) (kinds : List ℕ) (room : ℕ) (text : List ℕ) (w : Bool) (from : ℕ) (t : Stack) (xs : List NumberedPiece) (at : ℕ) (s : Stack)
-    → AreBytePiecesTo r kinds room text from t xs at s → StopsAt r kinds room text w at s → AreBytePiecesFrom r kinds room text w from t xs
-pieces_all r kinds room text w from t [] at s are stops =
-    subst (λ (n : ℕ). StopsAt r kinds room text w n t) (sym are.0) (subst (λ (u : Stack). StopsAt r kinds room text w at u) (sym are.1) stops)
-pieces_all r kinds room text w from t (x ∷ xs) at s are stops =
-    (are.0, are.1, pieces_all r kinds room text w (from + x.length) (after_piece r.actions x t) xs at s are.2 stops)
+  -- pieces up to where they stop
+  pub pieces_all : (w : Bool) (at : ℕ) (s : Stack) (xs : List NumberedPiece) (end : ℕ) (t : Stack)
+      → AreBytePiecesTo r kinds room text at s xs end t → StopsAt r kinds room text w end t → AreBytePiecesFrom r kinds room text w at s xs
+  pieces_all w at s [] end t are stops =
+      subst (λ (n : ℕ). StopsAt r kinds room text w n s) (sym are.0) (subst (λ (v : Stack). StopsAt r kinds room text w end v) (sym are.1) stops)
+  pieces_all w at s (x ∷ xs) end t are stops = (are.0, are.1, pieces_all w (at + x.length) (after_piece r.actions x s) xs end t are.2 stops)

@@ -5,6 +5,7 @@ mod RustSource
 mod NumberedRules
 mod EmitErrors
 mod BytePieces
+mod ByteCut
 mod BytePositions
 mod Characters
 mod Ahead

@@ -18,6 +18,7 @@ pub mod Actions
 pub mod Driving
 pub mod AheadTables
 pub mod BytePieceLaws
+pub mod ByteCutLaws
 pub mod BytePositionLaws
 pub mod AheadColumns
 pub mod AheadPlaces

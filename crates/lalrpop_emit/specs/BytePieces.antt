@@ -71,6 +71,13 @@ AreBytePiecesFrom r kinds room text is_whole at s (p ∷ pieces) =
     IsModePiece r kinds text at s p × Fits room (piece_actions r.actions p) s
     × AreBytePiecesFrom r kinds room text is_whole (at + p.length) (after_piece r.actions p s) pieces
 
+-- the pieces of the text from one place and stack up to another
+abbrev pub AreBytePiecesTo : ModeRules → List ℕ → ℕ → List ℕ → ℕ → Stack → List NumberedPiece → ℕ → Stack → Type 0
+AreBytePiecesTo r kinds room text at s [] end t = (at ≡ end) × (s ≡ t)
+AreBytePiecesTo r kinds room text at s (p ∷ pieces) end t =
+    IsModePiece r kinds text at s p × Fits room (piece_actions r.actions p) s
+    × AreBytePiecesTo r kinds room text (at + p.length) (after_piece r.actions p s) pieces end t
+
 -- the pieces of the text from its beginning on, where at most `room` modes lie below the one on top
 abbrev pub AreBytePieces : ModeRules → List ℕ → ℕ → List ℕ → List NumberedPiece → Bool → Type 0
 AreBytePieces r kinds room text pieces is_whole = AreBytePiecesFrom r kinds room text is_whole 0 start pieces

@@ -7,3 +7,4 @@ pub mod Walking
 pub mod Driving
 pub mod AheadRows
 pub mod Running
+pub mod Kept

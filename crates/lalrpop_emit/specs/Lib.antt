@@ -2,6 +2,7 @@ pub mod Names
 pub mod Ahead
 pub mod NumberedRules
 pub mod BytePieces
+pub mod ByteCut
 pub mod BytePositions
 pub mod CSource
 pub mod RustSource

@@ -10,6 +10,7 @@ mod ahead_columns;
 mod ahead_driver;
 mod ahead_rows;
 mod ahead_table;
+mod byte_cutter;
 mod byte_pieces;
 mod byte_positions;
 mod c_file;
@@ -28,6 +29,7 @@ mod rust_text;
 mod standing;
 mod table_lists;
 
+pub use byte_cutter::{ByteCutter, TooDeep};
 pub use byte_pieces::BytePieces;
 pub use byte_positions::{BytePosition, byte_position};
 pub use c_file::c_source;

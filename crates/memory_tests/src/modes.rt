@@ -1,7 +1,7 @@
 //! Texts that are cut by rules with modes, and lexers of such rules in numbers.
 
 use crate::calls::{Call, add, expect, halves};
-use lalrpop_emit::{LexerNumbers, NumberedPiece, c_source, rust_source};
+use lalrpop_emit::{ByteCutter, LexerNumbers, NumberedPiece, c_source, rust_source};
 use lalrpop_modes::{ModeLexer, ModesError};
 use lalrpop_rule_file::{RuleFile, RuleFileError, read_rules};
 use std::alloc::{AllocError, Global};
@@ -61,16 +61,12 @@ A mode B = 'a';[B];C = 'a' <-  => ";
     expect(&rt, rt.alloc(), Call::Modes, table, 2);
 }
 
-fn pieces_told(alloc: Global, pieces: &[NumberedPiece]) -> Result<String, AllocError> {
-    let mut line = String::new(alloc);
-    for piece in pieces {
-        let part = match piece.kind {
-            Some(kind) => format!(in alloc; "{kind}:{}", piece.length)?,
-            None => format!(in alloc; "!:{}", piece.length)?,
-        };
-        add(&mut line, " ", part.as_str())?;
-    }
-    Ok(line)
+fn add_piece(alloc: Global, piece: NumberedPiece, line: &mut String) -> Result<(), AllocError> {
+    let part = match piece.kind {
+        Some(kind) => format!(in alloc; "{kind}:{}", piece.length)?,
+        None => format!(in alloc; "!:{}", piece.length)?,
+    };
+    add(line, " ", part.as_str())
 }
 
 fn add_sources(alloc: Global, numbers: &LexerNumbers, line: &mut String) -> Result<(), AllocError> {
@@ -84,24 +80,22 @@ fn add_sources(alloc: Global, numbers: &LexerNumbers, line: &mut String) -> Resu
     }
 }
 
-fn told_by_numbers(alloc: Global, lexer: &ModeLexer, text: &str) -> Result<String, AllocError> {
-    let Ok(numbers) = LexerNumbers::new(alloc, lexer) else {
+// The lexer of a file of lines with `;` between them, in numbers.
+fn numbers_of(alloc: Global, lines: &str) -> Result<LexerNumbers, AllocError> {
+    let lines = lines.replace(alloc, ';', "\n")?;
+    let Ok(file) = read_rules(alloc, lines.as_bytes()) else {
         return Err(AllocError);
     };
-    let cut = numbers.pieces(alloc, text.as_bytes())?;
-    let mut line = pieces_told(alloc, &cut.pieces)?;
-    add_sources(alloc, &numbers, &mut line)?;
-    Ok(line)
-}
-
-fn numbers_of(alloc: Global, file: &RuleFile, text: &str) -> Result<String, AllocError> {
     let rules = file.mode_rules(alloc)?;
     let modes = file.modes.len();
     if modes == 0 {
-        return String::from_str(alloc, "no modes");
+        return Err(AllocError);
     }
-    match ModeLexer::from_rules(alloc, &rules, modes) {
-        Ok(lexer) => told_by_numbers(alloc, &lexer, text),
+    let Ok(lexer) = ModeLexer::from_rules(alloc, &rules, modes) else {
+        return Err(AllocError);
+    };
+    match LexerNumbers::new(alloc, &lexer) {
+        Ok(numbers) => Ok(numbers),
         Err(_) => Err(AllocError),
     }
 }
@@ -110,11 +104,14 @@ fn numbers_of(alloc: Global, file: &RuleFile, text: &str) -> Result<String, Allo
 // written in C and in Rust.
 pub(crate) fn by_numbers(alloc: Global, argument: &str) -> Result<String, AllocError> {
     let (lines, text) = halves(argument, " <- ");
-    let lines = lines.replace(alloc, ';', "\n")?;
-    match read_rules(alloc, lines.as_bytes()) {
-        Ok(file) => numbers_of(alloc, &file, text),
-        Err(_) => Err(AllocError),
+    let numbers = numbers_of(alloc, lines)?;
+    let cut = numbers.pieces(alloc, text.as_bytes())?;
+    let mut line = String::new(alloc);
+    for piece in &cut.pieces {
+        add_piece(alloc, *piece, &mut line)?;
     }
+    add_sources(alloc, &numbers, &mut line)?;
+    Ok(line)
 }
 
 #[test]
@@ -122,4 +119,28 @@ fn lexers_are_written_in_numbers(rt: HostRuntime) {
     let table = "\
 A = 'a';OPEN push C = '(';[C];IN push C = '(';OUT pop = ')';B = /b+/ <- a((bb)b)!a => 0:1 1:1 2:1 4:2 3:1 4:1 3:1 !:1 0:1 in C in Rust";
     expect(&rt, rt.alloc(), Call::Numbers, table, 1);
+}
+
+// The pieces of the text by these numbers, cut one at a time.
+fn cut_on(alloc: Global, numbers: &LexerNumbers, text: &[u8]) -> Result<String, AllocError> {
+    let mut cutter = ByteCutter::new(alloc, numbers, text.len())?;
+    let mut line = String::new(alloc);
+    'pieces: while let Ok(Some(piece)) = cutter.next_piece(numbers, text) {
+        add_piece(alloc, piece, &mut line)?;
+    }
+    Ok(line)
+}
+
+// The same pieces, cut one at a time.
+pub(crate) fn by_cutter(alloc: Global, argument: &str) -> Result<String, AllocError> {
+    let (lines, text) = halves(argument, " <- ");
+    let numbers = numbers_of(alloc, lines)?;
+    cut_on(alloc, &numbers, text.as_bytes())
+}
+
+#[test]
+fn pieces_are_cut_one_at_a_time(rt: HostRuntime) {
+    let table = "\
+A = 'a';OPEN push C = '(';[C];IN push C = '(';OUT pop = ')';B = /b+/ <- a((bb)b)!a => 0:1 1:1 2:1 4:2 3:1 4:1 3:1 !:1 0:1";
+    expect(&rt, rt.alloc(), Call::Cutter, table, 1);
 }

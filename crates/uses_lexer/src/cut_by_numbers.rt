@@ -1,22 +1,25 @@
 //! Cuts bytes by a lexer in numbers, as its source files in C and in Rust do.
-ghost use Rattle.std.specs.Prelude.{◌≡◌, ℕ, List, length, map, string_bytes, true, IfOk};
+ghost use Rattle.std.specs.Prelude.{◌≡◌, ℕ, List, length, drop, map, string_bytes, true, IfOk};
 ghost use Rattle.std.specs.Str.{IsCharBoundary};
 ghost use Rattle.lalrpop_lexer.specs.Position.{position_of};
-ghost use Rattle.lalrpop_emit.specs.BytePieces.{numbered};
+ghost use Rattle.lalrpop_emit.specs.ByteCut.{IsCutOf, place_of};
+ghost use Rattle.lalrpop_emit.specs.BytePieces.{AreBytePieces, numbered};
 ghost use Rattle.lalrpop_emit.specs.BytePositions.{byte_position_of};
 ghost use Rattle.lalrpop_emit.specs.CSource.{c_file};
 ghost use Rattle.lalrpop_emit.specs.RustSource.{rust_file};
 ghost use Rattle.lalrpop_emit.specs.Names.{IsIdentifier, kinds_of};
-ghost use Rattle.lalrpop_emit.specs.NumberedRules.{AreSameInFile, IsStorable, NumberedRules};
-ghost use Rattle.lalrpop_modes.specs.Modes.{ArePiecesFrom};
+ghost use Rattle.lalrpop_emit.specs.NumberedRules.{AreNumbersOf, AreSameInFile, IsStorable, NumberedRules};
+ghost use Rattle.lalrpop_emit.specs.declared.numbered_piece.NumberedPiece.{NumberedPiece};
+ghost use Rattle.lalrpop_modes.specs.Modes.{ArePiecesFrom, ModeRules};
 ghost use Rattle.lalrpop_modes.specs.Stack.{Stack, start};
 ghost use Rattle.lalrpop_rules.specs.declared.item.Item.{Item};
 
 use lalrpop_emit::{
-    BytePieces, BytePosition, EmitError, LexerNumbers, byte_position, c_source, rust_source,
+    ByteCutter, BytePieces, BytePosition, EmitError, LexerNumbers, TooDeep, byte_position,
+    c_source, rust_source,
 };
 use lalrpop_modes::ModeLexer;
-use std::alloc::Global;
+use std::alloc::{AllocError, Global};
 
 // Needs lalrpop_emit::LexerNumbers::new: numbers; lalrpop_emit::LexerNumbers::pieces: items, whole.
 /// The pieces of a text by the numbers of a lexer. If there are all, they are those of the text by the rules.
@@ -32,6 +35,43 @@ pub fn pieces_by_numbers(
     let numbers = LexerNumbers::new(alloc, rules)?;
     let all = numbers.pieces(alloc, text.as_bytes())?;
     Ok(all)
+}
+
+// Needs lalrpop_emit::ByteCutter::new: place, stack, cut.
+// Needs lalrpop_emit::ByteCutter::next_piece: cut, gives, some, too_deep.
+/// How many pieces a text has, none of which is kept, and whether they reach its end.
+///
+/// # Errors
+///
+/// `AllocError` if a request for memory was refused.
+pub fn piece_count(
+    alloc: Global,
+    numbers: &LexerNumbers,
+    text: &[u8],
+) -> Result<(usize, bool), AllocError>
+    ensures count { IfOk result (λ counted. (r : ModeRules) → AreNumbersOf r numbers.now
+        → (pieces : List NumberedPiece)
+        × (AreBytePieces r numbers.now.kinds 1024 text.now pieces counted.1
+        × (counted.0 ≡ length pieces))) }
+{
+    let mut cutter = ByteCutter::new(alloc, numbers, text.len())?;
+    let mut count = 0;
+    'pieces: loop {
+        match cutter.next_piece(numbers, text) {
+            Ok(Some(_)) => count += 1,
+            Ok(None) => return Ok((count, true)),
+            Err(TooDeep) => return Ok((count, false)),
+        }
+    }
+}
+
+// Needs lalrpop_emit::ByteCutter::place: place.
+/// What is left of the text.
+pub fn rest<'text>(cutter: &ByteCutter, numbers: &LexerNumbers, text: &'text [u8]) -> &'text [u8]
+    requires cut { IsCutOf numbers.now text.now cutter.now }
+    ensures rest { result.now ≡ drop (place_of cutter.now) text.now }
+{
+    &text[cutter.place()..]
 }
 
 // Needs lalrpop_emit::c_source: only.

@@ -1,12 +1,12 @@
 -- Cases of specs/BytePieces.antt.
-use Rattle.std.proofs.Common.{◌≡◌, ℕ, zero, suc, Bool, true, false, List, [], ◌∷◌, inl, inr, refl, arith}
+use Rattle.std.proofs.Common.{◌≡◌, ℕ, zero, suc, Bool, true, false, List, [], ◌∷◌, inl, inr, refl, ap, arith}
 use Rattle.std.specs.Prelude.{Option, Some, None}
 use Rattle.lalrpop_book.specs.Tree.{Tree}
 use Rattle.lalrpop_rules.specs.Found.{MatchesAt}
 use Rattle.lalrpop_modes.specs.declared.action.Action.TheVariants.{Push, Pop}
 use Rattle.lalrpop_modes.specs.Stack.{Stack, start, actions_of}
 use Rattle.lalrpop_modes.specs.Modes.{ModeRules, trees_in}
-use Rattle.lalrpop_emit.specs.BytePieces.{IsByteToken, IsByteFault, IsBytePiece, rule_actions, after_piece, Fits, AreBytePieces}
+use Rattle.lalrpop_emit.specs.BytePieces.{IsByteToken, IsByteFault, IsBytePiece, rule_actions, after_piece, Fits, AreBytePieces, AreBytePiecesTo}
 use Rattle.lalrpop_emit.specs.declared.numbered_piece.NumberedPiece.{NumberedPiece}
 
 -- without a tree nothing matches
@@ -75,6 +75,16 @@ module _ (a b : Tree) (first : IsBytePiece (trees_in (brackets a b) 0) (0 ∷ 0 
 
   no_room_for_a_push : AreBytePieces (brackets a b) (0 ∷ 1 ∷ []) 0 (40 ∷ 41 ∷ []) [] false
   no_room_for_a_push = (token 0 0, (first, λ fits. omega (arith, fits.0)))
+
+  -- up to the place behind the first bracket, where the second mode is on top
+  up_to_a_place : AreBytePiecesTo (brackets a b) (0 ∷ 1 ∷ []) 1 (40 ∷ 41 ∷ []) 0 start (token 0 0 ∷ []) 1 (record { mode = 1; below = 0 ∷ [] })
+  up_to_a_place = (first, (omega arith, tt), (refl, refl))
+
+  no_place_within_a_piece : (s : Stack) → ¬ AreBytePiecesTo (brackets a b) (0 ∷ 1 ∷ []) 1 (40 ∷ 41 ∷ []) 0 start (token 0 0 ∷ []) 0 s
+  no_place_within_a_piece s h = omega (arith, h.2.0)
+
+  no_stack_of_the_other_mode : ¬ AreBytePiecesTo (brackets a b) (0 ∷ 1 ∷ []) 1 (40 ∷ 41 ∷ []) 0 start (token 0 0 ∷ []) 1 start
+  no_stack_of_the_other_mode h = let mode : 1 ≡ 0 = ap (λ (t : Stack). t.mode) h.2.1 in omega (arith, mode)
 
 no_push_without_room : (a b : Tree) (is_whole : Bool) (others : List NumberedPiece) → ¬ AreBytePieces (brackets a b) (0 ∷ 1 ∷ []) 0 (40 ∷ 41 ∷ []) (token 0 0 ∷ others) is_whole
 no_push_without_room a b is_whole others h = omega (arith, h.1.0)

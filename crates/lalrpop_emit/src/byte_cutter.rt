@@ -1,0 +1,146 @@
+//! A cut of a text of bytes that goes on, a piece at a time.
+ghost use Rattle.std.specs.Prelude.{◌≡◌, ◌<◌, ◌≤◌, ℕ, List, length, IfOk, IfErr, OnOk, IfSome};
+ghost use Rattle.lalrpop_modes.specs.Modes.{ModeRules};
+ghost use Rattle.lalrpop_modes.specs.Stack.{start};
+ghost use Rattle.lalrpop_emit.specs.ByteCut.{GivesBytePiece, IsCutOf, IsTooDeep, place_of, stack_in};
+ghost use Rattle.lalrpop_emit.specs.NumberedRules.{AreNumbersOf};
+
+use crate::driver::{State, Step, memo_size, next};
+use crate::numbered_piece::NumberedPiece;
+use crate::numbers::LexerNumbers;
+use crate::run::Run;
+use std::alloc::{AllocError, Global};
+use std::fmt;
+use std::marker::Model;
+use thiserror::Error;
+
+// How many modes may lie below the one on top, as in an emitted lexer.
+const ROOM: usize = 1024;
+
+/// The next token would put a mode on top of more than 1024 others.
+///
+/// ```
+/// use lalrpop_emit::TooDeep;
+///
+/// let is_too_deep = matches!(cutter.next_piece(&numbers, text), Err(TooDeep));
+/// ```
+#[derive(Clone, Copy, Debug, PartialEq, Eq, Error)]
+#[error("more than 1024 modes would lie below the one on top")]
+pub struct TooDeep;
+
+/// A cut of a text of bytes that goes on, a piece at a time, as calls of an emitted lexer's `next` do. It borrows neither the
+/// numbers nor the text: each call is given both, and they are the same at each call.
+///
+/// It takes linear time: where no match comes it is noted, for all pieces that are still to be cut.
+///
+/// ```
+/// use lalrpop_emit::{ByteCutter, LexerNumbers};
+///
+/// let numbers = LexerNumbers::new(alloc, &rules)?;
+/// let text = b"if \xFF";
+/// let mut cutter = ByteCutter::new(alloc, &numbers, text.len())?;
+/// while let Ok(Some(piece)) = cutter.next_piece(&numbers, text) {
+///     let bytes = &text[piece.start..piece.start + piece.length]; // `if`, the space, and a fault of one byte
+/// }
+/// ```
+#[derive(Drop)]
+pub struct ByteCutter {
+    state: State,
+    below: Vec<u16>,
+    run: Run,
+    memo: Vec<u64>,
+}
+
+impl Model for ByteCutter {
+    ghost use Rattle.lalrpop_emit.specs.ByteCut.{ByteCut};
+
+    ghost Value = { ByteCut };
+
+    ghost view = { λ c. record {
+      state = c.state;
+      below = c.below.items;
+      run = c.run;
+      memo = c.memo.items;
+    } };
+}
+
+impl ByteCutter {
+    /// Before the first piece of a text of `size` bytes. A text of another size is cut right too, but notes may be missing that
+    /// make long texts quick.
+    ///
+    /// # Errors
+    ///
+    /// `AllocError` if a request for memory was refused.
+    pub fn new(alloc: Global, numbers: &LexerNumbers, size: usize) -> Result<ByteCutter, AllocError>
+        ensures place { IfOk result (λ cutter. place_of cutter ≡ 0) }
+        ensures stack { IfOk result (λ cutter. stack_in cutter ≡ start) }
+        ensures cut { IfOk result (λ cutter. (text : List ℕ) → IsCutOf numbers.now text cutter) }
+    {
+        // What is known of the numbers.
+        let _ = &numbers.tables;
+        let state = State {
+            at: 0,
+            mode: 0,
+            depth: 0,
+        };
+        let below = vec![in alloc; 0u16; ROOM]?;
+        let run = Run::new(alloc)?;
+        let memo = vec![in alloc; 0u64; memo_size(numbers, size)]?;
+        Ok(ByteCutter {
+            state,
+            below,
+            run,
+            memo,
+        })
+    }
+
+    /// Where the next piece begins, in bytes.
+    pub fn place(&self) -> usize
+        ensures place { result ≡ place_of self.now }
+    {
+        self.state.at
+    }
+
+    /// The next piece, a token, skipped or not, or a fault, or `None` at the end of the text. `numbers` and `text` are those of
+    /// the calls before.
+    ///
+    /// # Errors
+    ///
+    /// `TooDeep` if the piece would put a mode on top of more than 1024 others. So do all further calls.
+    #[inline(always)]
+    pub fn next_piece(
+        &mut self,
+        numbers: &LexerNumbers,
+        text: &[u8],
+    ) -> Result<Option<NumberedPiece>, TooDeep>
+        requires cut { IsCutOf numbers.now text.now self.old }
+        ensures cut { IsCutOf numbers.now text.now self.new }
+        ensures gives { IfOk result (λ piece. (r : ModeRules) → AreNumbersOf r numbers.now
+            → GivesBytePiece r numbers.now.kinds text.now self.old piece self.new) }
+        ensures some { IfOk result (λ piece. IfSome piece (λ p.
+            (p.start ≡ place_of self.old) × (place_of self.old < place_of self.new))) }
+        ensures too_deep { IfErr result (λ _. (r : ModeRules) → AreNumbersOf r numbers.now
+            → IsTooDeep r numbers.now.kinds text.now self.old self.new) }
+    {
+        match next(
+            numbers,
+            text,
+            &mut self.state,
+            &mut self.below,
+            &mut self.run,
+            &mut self.memo,
+        ) {
+            Step::Piece(piece) => Ok(Some(piece)),
+            Step::End => Ok(None),
+            Step::TooDeep => Err(TooDeep),
+        }
+    }
+}
+
+// Where the next piece begins.
+impl fmt::Debug for ByteCutter {
+    fn fmt<W: fmt::Write>(&self, f: &mut fmt::Formatter<W>) -> fmt::Result {
+        let place = self.place();
+        write!(f, "ByteCutter({place})")
+    }
+}
