@@ -1,6 +1,6 @@
 -- No status is above 6.
 use Rattle.std.proofs.Common.{◌≡◌, ℕ, ◌+◌, ◌≤◌, inl, inr, List, [], ◌∷◌, ap, arith}
-use Rattle.std.specs.Prelude.{nat_lt, length, map, Bool, true, false, if◌then◌else◌, Option, Some, None}
+use Rattle.std.specs.Prelude.{nat_lt, length, map, slice_get, Bool, true, false, if◌then◌else◌, Option, Some, None}
 use Rattle.lalrpop_book.specs.Clashes.{Entry}
 use Rattle.lalrpop_book.specs.Tree.{Tree}
 use Rattle.lalrpop_lexer.specs.Lines.{lines}
@@ -170,8 +170,9 @@ source_low : (language : Language) (file : List ℕ) (set : ModeRules) (answer :
 source_low language file set answer (inl (n, (are, e))) = low answer _ e (omega arith)
 source_low language file set answer (inr (error, (other, (is, e)))) = low answer _ e (omega arith)
 
-picture_low : (set : ModeRules) (answer : Answer) → PictureAnswer set answer → IsLow answer
-picture_low set answer (es, (are, e)) = low answer _ e (omega arith)
+picture_low : (file : List ℕ) (given : Option (List ℕ)) (set : ModeRules) (answer : Answer) → PictureAnswer file given set answer → IsLow answer
+picture_low file given set answer (inl (text, (drawn, e))) = low answer _ e (omega arith)
+picture_low file given set answer (inr (name, (missing, e))) = low answer _ e (omega arith)
 
 written_low : (text : List ℕ) → text_status text ≤ 6
 written_low [] = omega arith
@@ -204,7 +205,7 @@ action_low Gives InputGives i k verbosity TerminalClashes rules files answer is 
 action_low Gives InputGives i k verbosity (Emit language) rules files answer is =
     by_rules_low verbosity Gives (λ set modes. SourceAnswer language rules set) rules answer (λ set modes a written. source_low language rules set a written) is
 action_low Gives InputGives i k verbosity Picture rules files answer is =
-    by_rules_low verbosity Gives (λ set modes. PictureAnswer set) rules answer (λ set modes a drawn. picture_low set a drawn) is
+    by_rules_low verbosity Gives (λ set modes. PictureAnswer rules (slice_get files 0) set) rules answer (λ set modes a drawn. picture_low rules (slice_get files 0) set a drawn) is
 action_low Gives InputGives i k verbosity (Check form) rules files answer is =
     reads_low Gives (RulesTold finding verbosity (CheckAnswer form)) rules answer
     (λ bytes a said. rules_told_low finding verbosity (CheckAnswer form) rules bytes a (check_low form rules) (λ words. one_low (is_said words)) said) is

@@ -35,12 +35,12 @@ options_of (Check Plain) = codes "--check" ∷ []
 options_of (Check Json) = codes "--json" ∷ codes "--check" ∷ []
 options_of Difference = codes "--diff" ∷ []
 
--- how many names at most stand behind RULES where no FILE is read: the other rules for --diff, none for others
+-- how many names at most stand behind RULES where no FILE is read: a rule for --dot, the other rules for --diff, none for others
 abbrev pub most_names : Action → Option ℕ
 most_names Clashes = Some 0
 most_names TerminalClashes = Some 0
 most_names (Emit language) = Some 0
-most_names Picture = Some 0
+most_names Picture = Some 1
 most_names (Check form) = Some 0
 most_names Difference = Some 1
 most_names action = None

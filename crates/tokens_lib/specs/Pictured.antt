@@ -1,13 +1,19 @@
 -- cases: proofs/Cases/Pictured.antt
 -- The answer for pictures of the automata of a file of rules.
-use Rattle.std.specs.Prelude.{◌≡◌, ℕ, List, [], Some, length, flat_map, slice_get}
-use Rattle.lalrpop_dfa.specs.Dfa.{Row}
+use Rattle.std.specs.Prelude.{◌≡◌, ℕ, ◌⊎◌, true, false, List, [], ◌∷◌, ◌++◌, Option, Some, None, codes, length, map, filter, flat_map, slice_get}
+use Rattle.std.specs.List.{AllZip, zip}
+use Rattle.std.specs.Str.{bytes_eq}
+use Rattle.lalrpop_book.specs.Tree.{Tree}
+use Rattle.lalrpop_dfa.specs.Dfa.{RecognizesAll, Row}
 use Rattle.lalrpop_modes.specs.Modes.{ModeRules}
 use Rattle.lalrpop_verdicts.specs.Picture.{dot}
 use Rattle.lalrpop_verdicts.specs.Smallest.{AnswerAlike, IsCanonical, IsSmallest}
-use Rattle.tokens_lib.specs.Answer.{Answer}
+use Rattle.tokens_lib.specs.Answer.{Answer, refusal, about}
+use Rattle.tokens_lib.specs.Command.{has}
 
--- the automaton answers each word as that of the mode does, and has the fewest states and edges, in their order
+-- ---- each mode
+
+-- the automaton answers each word as the mode's does, and has the fewest states and edges, in their order
 abbrev pub IsSmallestIn : ModeRules → ℕ → List Row → Type 0
 IsSmallestIn r m least = (d : List Row) × ((slice_get r.automata m ≡ Some d) × (AnswerAlike d least × (IsSmallest least × IsCanonical least)))
 
@@ -19,6 +25,37 @@ AreSmallest r count ds = (length ds ≡ count) × ((m : ℕ) (d : List Row) → 
 abbrev pub ArePictures : ModeRules → ℕ → List ℕ → Type 0
 ArePictures r count text = (ds : List (List Row)) × (AreSmallest r count ds × (text ≡ flat_map (dot r.names) ds))
 
--- the pictures of all modes are written
-abbrev pub PictureAnswer : ModeRules → Answer → Type 0
-PictureAnswer r answer = (text : List ℕ) × (ArePictures r r.modes text × (answer ≡ record { status = 0; out = text; err = [] }))
+-- ---- the rules of one name
+
+-- the automaton recognizes the words of this tree alone, and has the fewest states and edges, in their order
+abbrev pub IsSmallestOf : Tree → List Row → Type 0
+IsSmallestOf t least = RecognizesAll least (t ∷ []) (0 ∷ []) × (IsSmallest least × IsCanonical least)
+
+-- the trees of the rules with this name, in their order; a rule is here its name and its tree
+abbrev pub trees_named : List ℕ → List (List ℕ × Tree) → List Tree
+trees_named name rules = map (λ rule. rule.1) (filter (λ rule. bytes_eq rule.0 name) rules)
+
+-- these are their pictures, one after the other, with their name
+abbrev pub AreRulePictures : List ℕ → List (List ℕ × Tree) → List ℕ → Type 0
+AreRulePictures name rules text = (ds : List (List Row)) × (AllZip IsSmallestOf (trees_named name rules) ds × (text ≡ flat_map (dot (name ∷ [])) ds))
+
+-- ---- the answer
+
+-- what is drawn: each mode; or, if a name is given, the rules that have it
+abbrev pub IsDrawn : ModeRules → Option (List ℕ) → List ℕ → Type 0
+IsDrawn r None text = ArePictures r r.modes text
+IsDrawn r (Some name) text = (has r.names name ≡ true) × AreRulePictures name (zip r.names r.trees) text
+
+-- no rule has the given name
+abbrev pub IsMissing : ModeRules → Option (List ℕ) → List ℕ → Type 0
+IsMissing r given name = (given ≡ Some name) × (has r.names name ≡ false)
+
+-- what is said of it
+abbrev pub no_rule : List ℕ → List ℕ
+no_rule name = codes "no rule has the name \"" ++ (name ++ codes "\"; leave it out to draw each mode")
+
+-- the pictures are written; or it is said of the file that no rule has the name
+abbrev pub PictureAnswer : List ℕ → Option (List ℕ) → ModeRules → Answer → Type 0
+PictureAnswer file given r answer =
+    ((text : List ℕ) × (IsDrawn r given text × (answer ≡ record { status = 0; out = text; err = [] })))
+    ⊎ ((name : List ℕ) × (IsMissing r given name × (answer ≡ refusal 4 (about file (no_rule name)))))

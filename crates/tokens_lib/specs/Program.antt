@@ -86,7 +86,7 @@ ActionAnswer Gives Texts verbosity TerminalClashes rules files answer = Reads Gi
 ActionAnswer Gives Texts verbosity (Emit language) rules files answer =
     Reads Gives (RulesOf verbosity (LexerOf (λ r modes. SourceAnswer language rules r))) rules answer
 ActionAnswer Gives Texts verbosity Picture rules files answer =
-    Reads Gives (RulesOf verbosity (LexerOf (λ r modes. PictureAnswer r))) rules answer
+    Reads Gives (RulesOf verbosity (LexerOf (λ r modes. PictureAnswer rules (slice_get files 0) r))) rules answer
 ActionAnswer Gives Texts verbosity (Check form) rules files answer = Reads Gives (RulesTold finding verbosity (CheckAnswer form)) rules answer
 ActionAnswer Gives Texts verbosity Difference rules files answer =
     Reads Gives (RulesOf verbosity (LexerOf (λ r modes. ComparedAnswer Gives verbosity rules r modes (other_of files)))) rules answer

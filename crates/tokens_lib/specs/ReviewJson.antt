@@ -89,7 +89,7 @@ automaton_members r mode x =
     ++ (kind_member (codes "automaton") ++ (mode_member mode
     ++ (number_member (codes "states") x.states ++ (number_member (codes "least_states") x.least_states ++ look_members r x.look))))
 
--- a clash: the place is that of the later rule
+-- a clash: the place is where the later rule's text begins
 abbrev pub clash_members : ReportedFile → Option (List ℕ) → Entry → List json.Token
 clash_members r mode c =
     place_members r c.match0

@@ -50,7 +50,7 @@ abbrev pub pair_text : ReportedFile → Option (List ℕ) → ℕ → ℕ → Li
 pair_text r mode later earlier =
     name_at r.names later ++ (codes " clashes with " ++ (name_at r.names earlier ++ (codes " of line " ++ (decimal (place_at r.places earlier).line ++ mode_said mode))))
 
--- two rules that clash: the place is that of the later one
+-- two rules that clash: the place is where the later one's text begins
 abbrev pub clash_line : ReportedFile → Option (List ℕ) → Entry → List ℕ
 clash_line r mode c =
     place_text r c.match0 ++ (pair_text r mode c.match0 c.match1 ++ (codes ": both match " ++ (quoted_word c.word ++ codes ", and neither wins\n")))
@@ -111,7 +111,7 @@ clash_told Json r mode c = object_line (clash_members r mode c)
 
 -- ---- the whole
 
--- what is told of each mode, from the mode with this number on
+-- what is written for each mode, from the mode with this number on
 abbrev pub by_mode : {X : Type 0} → (Option (List ℕ) → X → List ℕ) → List (List ℕ) → ℕ → List X → List ℕ
 by_mode tell modes m [] = []
 by_mode tell modes m (x ∷ xs) = tell (mode_named modes m) x ++ by_mode tell modes (m + 1) xs

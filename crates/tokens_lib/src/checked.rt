@@ -62,7 +62,7 @@ fn clash_lines(
     })
 }
 
-// All clashes of these rules; or their first fault, which is no clash.
+// All clashes of these rules; or their first fault, which isn't a clash.
 fn told_clashes(
     alloc: Global,
     form: LineForm,
@@ -145,7 +145,7 @@ fn told_instead(
     Err(error)
 }
 
-// What is told of these rules; or their first fault, which is no clash.
+// What a check of these rules writes; or their first fault, which isn't a clash.
 fn told_of(
     alloc: Global,
     form: LineForm,

@@ -78,7 +78,7 @@ pub enum Action<'words> {
     Emit {
         language: Language<'words>,
     },
-    /// The smallest automaton of each mode of the named rules is written for Graphviz.
+    /// The smallest automaton of each mode of the named rules, or of each rule of a name, is written for Graphviz.
     Picture,
     /// The named rules are reviewed, and the lines of the review are written.
     Check {
@@ -131,8 +131,8 @@ pub enum Command<'words> {
         /// What is said beside what is wrong.
         verbosity: Verbosity,
         rules: &'words str,
-        /// What stands behind RULES: the file of the other rules for `Action::Difference`, and nothing for the other
-        /// actions about rules alone.
+        /// What stands behind RULES: the file of the other rules for `Action::Difference`, at most the name of a rule for
+        /// `Action::Picture`, and nothing for the other actions about rules alone.
         files: Vec<&'words str>,
     },
 }
@@ -167,6 +167,9 @@ impl From<AllocError> for ArgumentsError<'_> {
         ArgumentsError::OutOfMemory
     }
 }
+
+/// The status of wrong arguments.
+pub(crate) const WRONG_ARGUMENTS: u8 = 4;
 
 // The options of actions, in the order in which specs/Command.antt has them.
 const ACTION_OPTIONS: [&str; 12] = [
@@ -278,11 +281,10 @@ impl Action<'_> {
     {
         match self {
             Action::Cut { .. } | Action::Show { .. } | Action::CutByTerminals { .. } => None,
-            Action::Difference => Some(1),
+            Action::Picture | Action::Difference => Some(1),
             Action::Clashes
             | Action::TerminalClashes
             | Action::Emit { .. }
-            | Action::Picture
             | Action::Check { .. } => Some(0),
         }
     }

@@ -16,7 +16,7 @@ use lexdfa_lib::{RunError, Watched, write_whole};
 use std::alloc::{AllocError, Global};
 use std::io::Write;
 
-// The name of the mode with this number, or the empty string if there is no such mode.
+// The name of the mode with this number, or the empty string if no mode has it.
 fn mode_name(modes: &[String], mode: usize) -> &str
     ensures { result.now ≡ name_at (map string_bytes modes.now) mode }
 {
@@ -38,7 +38,7 @@ fn push_action(text: &mut String, modes: &[String], action: Action) -> Result<()
     }
 }
 
-// The name of the rule with this index, or the empty string if there is no such rule.
+// The name of the rule with this index, or the empty string if no rule has it.
 fn rule_name(lexer: &ModeLexer, rule: NfaIndex) -> &str
     ensures { result.now ≡ name_at lexer.now.names rule }
 {

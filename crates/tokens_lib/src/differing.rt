@@ -12,7 +12,7 @@ use lexdfa_lib::{RunError, Watched};
 use std::alloc::Global;
 use std::io::Write;
 
-/// The name of the other file of rules: the first behind that of the one, or the empty string if there is none.
+/// The name of the other file of rules: the first name behind RULES, or the empty string if there is none.
 pub(crate) fn other_of<'name>(names: &[&'name str]) -> &'name str
     ensures other { result.now ≡ other_of (map (λ name. name.now) names.now) }
 {

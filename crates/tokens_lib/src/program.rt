@@ -12,7 +12,7 @@ ghost use Rattle.tokens_lib.specs.Usage.{help, version, wrong_text};
 use crate::arguments::joined;
 use crate::by_rules::lexer_by_name;
 use crate::by_terminals::{list_terminal_clashes, terminals_by_name};
-use crate::command::{Action, ArgumentsError, Command, Verbosity, command_of};
+use crate::command::{Action, ArgumentsError, Command, Verbosity, WRONG_ARGUMENTS, command_of};
 use crate::cut_files::{Task, cut_all};
 use crate::differing::{compare_with, other_of};
 use crate::emitted::write_source;
@@ -28,9 +28,6 @@ use std::env;
 use std::io::{self, Eprint, Read, Write};
 use std::process::ExitCode;
 use std::rt::{Env, Files as RuntimeFiles};
-
-// The status of wrong arguments.
-const WRONG_ARGUMENTS: u8 = 4;
 
 // Writes what was asked for, and returns the status.
 fn inform<W: Write>(text: &str, out: &mut Watched<W>) -> Result<u8, RunError>
@@ -128,7 +125,7 @@ fn run_action<F: Files, R: Read, W: Write, E: Write>(
             Err(status) => Ok(status),
         },
         Action::Picture => match lexer_by_name(alloc, verbosity, files, rules, err)? {
-            Ok(found) => write_pictures(alloc, &found.lexer, out),
+            Ok(found) => write_pictures(alloc, rules, &found.lexer, names, out, err),
             Err(status) => Ok(status),
         },
         Action::Check { form } => {
@@ -261,7 +258,7 @@ fn refuse<E: Write>(
 ///   differ,
 /// - 2 if rules can't be compiled or written, or clash,
 /// - 3 if a line of the rules is bad or its pattern doesn't parse,
-/// - 4 for wrong arguments,
+/// - 4 for wrong arguments, also for the name of a rule that isn't there,
 /// - 6 if a file gave no text.
 ///
 /// Of several files, and of the warnings and the rest of a check, the greatest status counts.

@@ -261,7 +261,7 @@ fn automaton_line(
     format!(in alloc; "{file}: {mode}{states}, {least} in the smallest automaton; {look}\n")
 }
 
-// What is told of a rule that matches the empty text.
+// The line of a rule that matches the empty text, in either form.
 fn empty_told(
     alloc: Global,
     form: LineForm,
@@ -276,7 +276,7 @@ fn empty_told(
     }
 }
 
-// What is told of a rule that never wins.
+// The line of a rule that never wins, in either form.
 fn idle_told(
     alloc: Global,
     form: LineForm,
@@ -293,7 +293,7 @@ fn idle_told(
     }
 }
 
-// What is told of the automaton of a mode.
+// The line of the automaton of a mode, in either form.
 fn automaton_told(
     alloc: Global,
     form: LineForm,
@@ -310,7 +310,7 @@ fn automaton_told(
     }
 }
 
-// What is told of a clash.
+// The line of a clash, in either form.
 fn clash_told(
     alloc: Global,
     form: LineForm,

@@ -180,13 +180,20 @@ const TWO: &[u8] =
     b"digraph {\n  rankdir=LR;\n  node [shape=circle];\n  nowhere [shape=none, label=\"\", width=0, height=0];\n  nowhere -> 0;\n  0;\n  1 [shape=doublecircle, label=\"1\\nA\"];\n  0 -> 1 [label=\"a\"];\n}\ndigraph {\n  rankdir=LR;\n  node [shape=circle];\n  nowhere [shape=none, label=\"\", width=0, height=0];\n  nowhere -> 0;\n  0;\n  1;\n  3 [shape=doublecircle, label=\"3\\nB\"];\n  0 -> 1 [label=\"a c\"];\n  1 -> 3 [label=\"0-9\"];\n}\n";
 
 #[test]
-fn the_automaton_of_each_mode_is_drawn(rt: HostRuntime) {
+fn the_automata_of_modes_and_of_a_rule_are_drawn(rt: HostRuntime) {
     let rows: &[(&[&str], &[u8], &[u8], u8)] = &[
         (&["--dot", "one.rules"], ONE, b"", 0),
         (&["two.rules", "--dot"], TWO, b"", 0),
+        (&["two.rules", "--dot", "A"], ONE, b"", 0),
+        (
+            &["--dot", "one.rules", "B"],
+            b"",
+            b"tokens: one.rules: no rule has the name \"B\"; leave it out to draw each mode\n",
+            4,
+        ),
         (&["--dot", "none"], b"", b"tokens: none: not found\n", 6),
         (
-            &["--dot", "one.rules", "f"],
+            &["--dot", "one.rules", "A", "f"],
             b"",
             b"tokens: no FILE is read by this command; leave out \"f\"\n",
             4,

@@ -117,12 +117,12 @@ reviews = (refl, refl, refl)
 differs : (given (codes "--diff" ∷ codes "--quiet" ∷ []) ≡ options_of Difference) × (unknown (codes "--check" ∷ codes "--diff" ∷ []) ≡ None)
 differs = (refl, refl)
 
--- no file is read where clashes are listed, a lexer is written, automata are drawn or rules are reviewed
-no_files : IsFilesError Clashes (codes "f" ∷ []) (NoFiles (record { ref_ptr = (0, 0); now = codes "f" })) × IsFilesError (Emit Rust) (codes "f" ∷ []) (NoFiles (record { ref_ptr = (0, 0); now = codes "f" })) × IsFilesError Picture (codes "f" ∷ []) (NoFiles (record { ref_ptr = (0, 0); now = codes "f" })) × IsFilesError (Check Json) (codes "f" ∷ codes "g" ∷ []) (NoFiles (record { ref_ptr = (0, 0); now = codes "f" })) × (¬ IsFilesError (Show Html) (codes "f" ∷ []) (NoFiles (record { ref_ptr = (0, 0); now = codes "f" })))
-no_files = ((0, (refl, refl)), (0, (refl, refl)), (0, (refl, refl)), (0, (refl, refl)), λ h. absurd (cc (h.1.0)))
+-- no file is read where clashes are listed, a lexer is written or rules are reviewed
+no_files : IsFilesError Clashes (codes "f" ∷ []) (NoFiles (record { ref_ptr = (0, 0); now = codes "f" })) × IsFilesError (Emit Rust) (codes "f" ∷ []) (NoFiles (record { ref_ptr = (0, 0); now = codes "f" })) × IsFilesError (Check Json) (codes "f" ∷ codes "g" ∷ []) (NoFiles (record { ref_ptr = (0, 0); now = codes "f" })) × (¬ IsFilesError (Show Html) (codes "f" ∷ []) (NoFiles (record { ref_ptr = (0, 0); now = codes "f" })))
+no_files = ((0, (refl, refl)), (0, (refl, refl)), (0, (refl, refl)), λ h. absurd (cc (h.1.0)))
 
 -- how many names there may be
-most : (most_names Picture ≡ Some 0) × (most_names (Check Json) ≡ Some 0) × (most_names Difference ≡ Some 1) × (most_names (Show Html) ≡ None)
+most : (most_names Picture ≡ Some 1) × (most_names (Check Json) ≡ Some 0) × (most_names Difference ≡ Some 1) × (most_names (Show Html) ≡ None)
 most = (refl, refl, refl, refl)
 
 takes_none : TakesNames (Check Plain) [] × (¬ TakesNames (Check Plain) (codes "f" ∷ [])) × TakesNames (Show Html) (codes "f" ∷ codes "g" ∷ [])
@@ -134,6 +134,13 @@ compares = ((omega arith, λ _. refl), (λ h. omega (arith, h.1 refl)), (λ h. o
 
 no_other : IsFilesError Difference [] NoOther × (¬ IsFilesError Difference (codes "f" ∷ []) NoOther) × (¬ IsFilesError Picture [] NoOther)
 no_other = (refl, (λ h. absurd (cc (h))), (λ h. h))
+
+-- all modes are drawn, or the rules of one name; a second name is too many
+draws_one : TakesNames Picture [] × TakesNames Picture (codes "A" ∷ []) × (¬ TakesNames Picture (codes "A" ∷ codes "B" ∷ []))
+    × IsFilesError Picture (codes "A" ∷ codes "B" ∷ []) (NoFiles (record { ref_ptr = (0, 0); now = codes "B" }))
+    × (¬ IsFilesError Picture (codes "A" ∷ []) (NoFiles (record { ref_ptr = (0, 0); now = codes "A" })))
+draws_one =
+    ((omega arith, λ e. absurd (cc (e))), (omega arith, λ e. absurd (cc (e))), (λ h. omega (arith, h.0)), (1, (refl, refl)), λ h. absurd (cc (h.1.0, h.1.1)))
 
 other_missing : IsArgumentsError (codes "--diff" ∷ []) (codes "r" ∷ []) NoOther × (¬ IsArgumentsError (codes "--diff" ∷ []) [] NoOther)
 other_missing = (((refl, refl), (refl, (Difference, (refl, (codes "r", ([], (refl, refl))))))), λ h. absurd (cc (h.1.1.1.1.1.1.0)))
@@ -162,7 +169,9 @@ error_or_fit (CutByTerminals places) named = inl (tt, λ e. absurd (cc (e)))
 error_or_fit Clashes named = none_or_first Clashes named refl (λ e. absurd (cc (e)))
 error_or_fit TerminalClashes named = none_or_first TerminalClashes named refl (λ e. absurd (cc (e)))
 error_or_fit (Emit language) named = none_or_first (Emit language) named refl (λ e. absurd (cc (e)))
-error_or_fit Picture named = none_or_first Picture named refl (λ e. absurd (cc (e)))
+error_or_fit Picture [] = inl (omega arith, λ e. absurd (cc (e)))
+error_or_fit Picture (rule ∷ []) = inl (omega arith, λ e. absurd (cc (e)))
+error_or_fit Picture (rule ∷ second ∷ named) = inr (NoFiles (record { ref_ptr = (0, 0); now = second }), (1, (refl, refl)))
 error_or_fit (Check form) named = none_or_first (Check form) named refl (λ e. absurd (cc (e)))
 error_or_fit Difference [] = inr (NoOther, refl)
 error_or_fit Difference (other ∷ []) = inl (omega arith, λ _. refl)

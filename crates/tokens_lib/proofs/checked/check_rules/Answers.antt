@@ -1,4 +1,4 @@
-use Rattle.std.proofs.Common.{[], inl, inr, length, map, refl, sym, subst}
+use Rattle.std.proofs.Common.{[], inl, inr, refl, sym, subst}
 use Rattle.std.proofs.lemmas.List.{length-map}
 use Rattle.std.proofs.lemmas.Result.{IfOk-weaker}
 use Rattle.lines_lib.proofs.Sending.{at_any_error}

@@ -1,5 +1,4 @@
 use Rattle.std.proofs.Common.{map, string_bytes}
-use Rattle.std.specs.Prelude.{Ok, Err}
 use Rattle.tokens_lib.specs.Compared.{DifferenceAnswer}
 use Rattle.tokens_lib.proofs.AnswerLaws.{Answered-refused}
 use Rattle.tokens_lib.proofs.BegunLaws.{lexer_begun}

@@ -1,5 +1,5 @@
 use Rattle.std.proofs.Common.{ℕ, Bool, List, length, map, string_bytes, subst, Bor}
-use Rattle.std.specs.Prelude.{Option, Result, Ok, Err, nat_lt, IfOk, OnErr}
+use Rattle.std.specs.Prelude.{Option, Result, Ok, Err, nat_lt, slice_get, IfOk, OnErr}
 use Rattle.lexdfa_lib.specs.declared.error.RunError.{RunError}
 use Rattle.tokens_lib.specs.Answer.{Answer, Answered, Begun, TextsAnswer, FirstTextsAnswer}
 use Rattle.tokens_lib.specs.Emitted.{SourceAnswer}
@@ -10,7 +10,6 @@ use Rattle.tokens_lib.specs.TextAnswer.{TokensAnswer, PiecesAnswer, PageAnswer}
 use Rattle.tokens_lib.proofs.AnswerLaws.{Answered-refused}
 use Rattle.tokens_lib.proofs.ProgramLaws.{lexer_answered, terminals_answered, rules_refused, terminals_refused}
 use Rattle.tokens_lib.proofs.BegunLaws.{Begun-nothing, lexer_begun, terminals_begun}
-use Rattle.tokens_lib.proofs.Pictures.{pictures_answered}
 use Rattle.tokens_lib.proofs.program.run_action.Goals as goal
 
 abbrev text : Bor (List ℕ) → List ℕ
@@ -184,28 +183,29 @@ returns-in-Ok-4-clause-begun g c =
 
 pub returns-in-Ok-5-clause-answer : goal.returns-in-Ok-5-clause-answer
 returns-in-Ok-5-clause-answer g c =
-    let said = c.lexer_by_name-in-Picture.new.err in
+    let given = slice_get (map text c.args.names.now) 0 in
     rw c.in-Picture.is
-    (lexer_answered c.write_pictures.result c.args.verbosity (g.F.Files.gives c.args.files.now) (λ set modes. PictureAnswer set)
-    c.args.rules.now c.in-Ok-5.found.lexer (map string_bytes c.in-Ok-5.found.modes.items) g.W.Write.contents g.E.Write.contents c.args.out.now c.write_pictures.new.out c.args.err.now said said
-    (rw c.in-Ok-5.is at c.in_ok-found-in-Picture.ensures.lexer)
-    (pictures_answered c.write_pictures.result c.in-Ok-5.found.lexer g.W.Write.contents g.E.Write.contents c.args.out.now c.write_pictures.new.out said c.write_pictures.ensures.status c.write_pictures.ensures.written))
+    (lexer_answered c.write_pictures.result c.args.verbosity (g.F.Files.gives c.args.files.now) (λ set modes. PictureAnswer c.args.rules.now given set)
+    c.args.rules.now c.in-Ok-5.found.lexer (map string_bytes c.in-Ok-5.found.modes.items) g.W.Write.contents g.E.Write.contents c.args.out.now c.write_pictures.new.out c.args.err.now c.lexer_by_name-in-Picture.new.err c.write_pictures.new.err
+    (rw c.in-Ok-5.is at c.in_ok-found-in-Picture.ensures.lexer) c.write_pictures.ensures.answer)
 
 pub returns-in-Err-5-clause-answer : goal.returns-in-Err-5-clause-answer
 returns-in-Err-5-clause-answer g c =
     let refused = rw c.in-Err-5.is at c.in_ok-found-in-Picture.ensures.refused in
+    let given = slice_get (map text c.args.names.now) 0 in
     rw c.in-Picture.is (
       refused.0,
       (
-        rules_refused c.args.verbosity (g.F.Files.gives c.args.files.now) (λ set modes. PictureAnswer set) c.args.rules.now refused.0 refused.1.0,
+        rules_refused c.args.verbosity (g.F.Files.gives c.args.files.now) (λ set modes. PictureAnswer c.args.rules.now given set) c.args.rules.now refused.0 refused.1.0,
         Answered-refused g.W.Write.contents g.E.Write.contents c.args.out.now c.args.err.now c.lexer_by_name-in-Picture.new.err c.in-Err-5.status refused.0 refused.1.1,
       ),
     )
 
 pub returns-in-Ok-5-clause-begun : goal.returns-in-Ok-5-clause-begun
 returns-in-Ok-5-clause-begun g c =
+    let given = slice_get (map text c.args.names.now) 0 in
     rw c.in-Picture.is
-    (lexer_begun c.write_pictures.result c.args.verbosity (g.F.Files.gives c.args.files.now) (λ set modes. PictureAnswer set)
+    (lexer_begun c.write_pictures.result c.args.verbosity (g.F.Files.gives c.args.files.now) (λ set modes. PictureAnswer c.args.rules.now given set)
     c.args.rules.now c.in-Ok-5.found.lexer (map string_bytes c.in-Ok-5.found.modes.items) g.E.Write.contents c.args.err.now c.lexer_by_name-in-Picture.new.err _ _
     (rw c.in-Ok-5.is at c.in_ok-found-in-Picture.ensures.lexer) c.write_pictures.ensures.begun)
 
