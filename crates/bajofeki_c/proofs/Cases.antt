@@ -1,0 +1,7 @@
+-- Small cases of the definitions in specs/: Cases/X.antt has those of specs/X.antt.
+mod Built
+mod Report
+mod Rules
+mod Cutting
+mod Cut
+mod Place

@@ -1,0 +1,3 @@
+mod Cases
+pub mod Walking
+pub mod Seen

@@ -1,0 +1,53 @@
+//! A text's cut, as it is kept between calls.
+ghost use Rattle.std.specs.Prelude.{◌≡◌};
+ghost use Rattle.bajofeki_c.specs.Cutting.{IsBegun, begin_code};
+
+use crate::held::Held;
+use lalrpop_emit::ByteCutter;
+use std::alloc::Global;
+
+/// Why there is no cut.
+#[derive(Drop)]
+pub enum BeginError {
+    /// There is no lexer.
+    NoLexer,
+    /// A request for memory was refused.
+    OutOfMemory,
+}
+
+/// A cut, or why there is none.
+#[derive(Drop)]
+pub struct Cutting {
+    pub cutter: Result<ByteCutter, BeginError>,
+}
+
+/// Before the first piece of a text of `size` bytes.
+pub fn begin(held: &Held, alloc: Global, size: usize) -> Cutting
+    ensures begun { IsBegun held.now result }
+{
+    let Ok(lexer) = &held.made else {
+        return Cutting {
+            cutter: Err(BeginError::NoLexer),
+        };
+    };
+    match ByteCutter::new(alloc, &lexer.numbers, size) {
+        Ok(cutter) => Cutting { cutter: Ok(cutter) },
+        Err(_) => Cutting {
+            cutter: Err(BeginError::OutOfMemory),
+        },
+    }
+}
+
+/// 0 if there is a cut, 7 if memory was refused, 9 if there is no lexer.
+pub fn code_of(cutting: &Cutting) -> u32
+    ensures code { result ≡ begin_code cutting.now }
+{
+    match &cutting.cutter {
+        Ok(_) => 0,
+        Err(BeginError::OutOfMemory) => 7,
+        Err(BeginError::NoLexer) => 9,
+    }
+}
+
+/// Gives the memory of a cut back.
+pub fn let_cutting_go(_cutting: Cutting) {}

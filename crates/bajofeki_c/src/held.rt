@@ -1,0 +1,151 @@
+//! What lies in the room that a program lends: a lexer, or why there is none.
+ghost use Rattle.std.specs.Prelude.{◌≡◌, ◌<◌, length, map, string_bytes, IfOk, IfErr};
+ghost use Rattle.lalrpop_emit.specs.EmitErrors.{IsNumbersError};
+ghost use Rattle.bajofeki_c.specs.Built.{IsBuiltOf, IsBuiltFor, IsFreed, IsMade, place_at, place_named};
+ghost use Rattle.bajofeki_c.specs.declared.held.BuildError.TheVariants.{File, Numbers};
+
+use lalrpop_emit::{EmitError, LexerNumbers};
+use lalrpop_lexer::Position;
+use lalrpop_modes::{ModeLexer, ModesError};
+use lalrpop_rule_file::{FileRule, RuleFile, RuleFileError, read_rules};
+use std::alloc::{AllocError, Global};
+
+/// The lexer of a file's rules, as it is kept between calls.
+#[derive(Drop)]
+pub struct BuiltLexer {
+    /// The names of the rules, in the order of their lines.
+    pub names: Vec<String>,
+    /// For each rule, whether it is skipped.
+    pub skips: Vec<bool>,
+    /// By these numbers texts are cut.
+    pub numbers: LexerNumbers,
+}
+
+/// Why there is no lexer.
+#[derive(Drop)]
+pub enum BuildError {
+    /// The bytes aren't a file of rules.
+    File(RuleFileError),
+    /// The rules of the file have no lexer. `place` is where the text of the rule that `error` names begins; line 0, column 0 if
+    /// it names none.
+    Rules { error: ModesError, place: Position },
+    /// The lexer of the rules has no numbers.
+    Numbers(EmitError),
+    /// There was a lexer or an error, whose memory was given back.
+    Freed,
+}
+
+impl From<RuleFileError> for BuildError {
+    ghost from_gives = { λ error e. e ≡ File error };
+
+    fn from(error: RuleFileError) -> BuildError {
+        BuildError::File(error)
+    }
+}
+
+impl From<EmitError> for BuildError {
+    ghost from_gives = { λ error e. e ≡ Numbers error };
+
+    fn from(error: EmitError) -> BuildError {
+        BuildError::Numbers(error)
+    }
+}
+
+/// A lexer, or why there is none.
+#[derive(Drop)]
+pub struct Held {
+    pub made: Result<BuiltLexer, BuildError>,
+}
+
+// Where the text of this rule begins; line 0, column 0 if no rule has this number.
+fn place_of_rule(rules: &[FileRule<'_>], rule: usize) -> Position
+    ensures place { result ≡ place_at rules.now rule }
+{
+    match rules.get(rule) {
+        Some(rule) => rule.place,
+        None => Position { line: 0, column: 0 },
+    }
+}
+
+// Where the text of the rule that the error names begins.
+fn place_of_error(rules: &[FileRule<'_>], error: &ModesError) -> Position
+    ensures place { result ≡ place_named rules.now error.now }
+{
+    match error {
+        ModesError::NoSuchMode { rule, .. } => place_of_rule(rules, *rule),
+        ModesError::NotParsed { rule, .. } => place_of_rule(rules, *rule),
+        ModesError::BadEnd { rule, .. } => place_of_rule(rules, *rule),
+        ModesError::NotCompiled { rule, .. } => place_of_rule(rules, *rule),
+        ModesError::Clash { rule, .. } => place_of_rule(rules, *rule),
+        ModesError::OutOfMemory => Position { line: 0, column: 0 },
+    }
+}
+
+// The names once more.
+fn copied_names(alloc: Global, names: &[String]) -> Result<Vec<String>, AllocError>
+    ensures names { IfOk result (λ all. map string_bytes all.items ≡ map string_bytes names.now) }
+{
+    let mut all = Vec::new(alloc);
+    for name in names {
+        all.push(name.clone()?)?;
+    }
+    Ok(all)
+}
+
+// What is kept of a lexer.
+fn kept(alloc: Global, rules: &ModeLexer) -> Result<BuiltLexer, EmitError>
+    ensures kept { IfOk result (λ lexer. IsBuiltOf rules.now lexer) }
+    ensures error { IfErr result (λ e. IsNumbersError rules.now e) }
+{
+    let numbers = LexerNumbers::new(alloc, rules)?;
+    let names = copied_names(alloc, rules.names())?;
+    let skips = rules.skips().iter().copied().collect(alloc)?;
+    Ok(BuiltLexer {
+        names,
+        skips,
+        numbers,
+    })
+}
+
+// The lexer of the rules of the file.
+fn lexer_of(alloc: Global, file: &RuleFile<'_>) -> Result<BuiltLexer, BuildError>
+    requires some { 0 < length file.now.modes.items }
+    ensures built { IsBuiltFor file.now result }
+{
+    let Ok(rules) = file.mode_rules(alloc) else {
+        return Err(BuildError::File(RuleFileError::OutOfMemory));
+    };
+    match ModeLexer::from_rules(alloc, &rules, file.modes.len()) {
+        Ok(lexer) => match kept(alloc, &lexer) {
+            Ok(lexer) => Ok(lexer),
+            Err(error) => Err(BuildError::Numbers(error)),
+        },
+        Err(error) => {
+            let place = place_of_error(&file.rules, &error);
+            Err(BuildError::Rules { error, place })
+        }
+    }
+}
+
+/// The lexer of the rules that these bytes are, or why there is none.
+pub fn make(alloc: Global, bytes: &[u8]) -> Held
+    ensures made { IsMade bytes.now result }
+{
+    match read_rules(alloc, bytes) {
+        Ok(file) => Held {
+            made: lexer_of(alloc, &file),
+        },
+        Err(error) => Held {
+            made: Err(BuildError::File(error)),
+        },
+    }
+}
+
+/// Gives the memory back, and leaves that it was.
+pub fn let_go(_held: Held) -> Held
+    ensures freed { IsFreed result }
+{
+    Held {
+        made: Err(BuildError::Freed),
+    }
+}

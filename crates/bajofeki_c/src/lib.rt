@@ -1,0 +1,214 @@
+//! A lexer of a file of rules for C, and for all that can call C.
+//!
+//! A program lends room for a lexer, and has one built there. By it it cuts texts: for each it lends room for a cut, and gets the
+//! pieces of the text array by array. What only reads the lexer needs a view of it alone, so several threads may cut by one
+//! lexer, each with a cut of its own. An array crosses as a pointer and a length.
+//!
+//! ```c
+//! void *lexer = malloc(bajofeki_lexer_size()), *cutter = malloc(bajofeki_cutter_size());
+//! bajofeki_build(lexer, rules, rules_length);
+//! if (bajofeki_begin(lexer, cutter, length) == 0) { // else bajofeki_report(lexer) says why
+//!     struct cut cut;
+//!     do {
+//!         cut = bajofeki_cut(lexer, cutter, text, length, pieces, 256);
+//!         // the next cut.count pieces of the text
+//!     } while (cut.code == 2);
+//! }
+//! bajofeki_end(cutter);
+//! bajofeki_free(lexer);
+//! ```
+#![tactic(auto)]
+
+mod cut;
+mod cutting;
+mod held;
+mod position;
+mod report;
+mod rules;
+
+ghost use Rattle.std.specs.Prelude.{◌≡◌};
+ghost use Rattle.std.specs.Borrow.{sem};
+ghost use Rattle.bajofeki_c.specs.Cut.{GoesOn};
+ghost use Rattle.bajofeki_c.specs.Place.{place_in};
+ghost use Rattle.bajofeki_c.specs.Report.{report};
+ghost use Rattle.bajofeki_c.specs.Room.{Cutter, View, begun_at, cut_at, cutting_at, freed_at, held_at, made_at, room_for_cutting, room_for_held, seen_at};
+ghost use Rattle.bajofeki_c.specs.Rules.{IsWritten, count_of, name_of, skips_rule, word_of};
+ghost use Rattle.bajofeki_c.specs.declared.cutting.Cutting.{Cutting as CuttingValue};
+ghost use Rattle.bajofeki_c.specs.declared.held.Held.{Held as HeldValue};
+
+pub use cut::{Cut, Piece, cut_on};
+pub use cutting::{BeginError, Cutting, begin, code_of, let_cutting_go};
+pub use held::{BuildError, BuiltLexer, Held, let_go, make};
+pub use position::{Place, place_of};
+pub use report::{Report, report_of};
+pub use rules::{is_rule_skipped, name_into, rule_count, word_into};
+use std::alloc::Global;
+
+// A lexer and a cut may go to another thread, and several threads may see one.
+fn may_go_to_threads<T: Send + Sync>() {}
+
+fn all_may_go_to_threads() {
+    may_go_to_threads::<Held>();
+    may_go_to_threads::<Cutting>();
+}
+
+/// The bytes that a lexer takes. They lie at a multiple of 8.
+#[unsafe(no_mangle)]
+pub extern "C" fn bajofeki_lexer_size() -> usize {
+    size_of::<Held>()
+}
+
+/// The bytes that a cut takes. They lie at a multiple of 8.
+#[unsafe(no_mangle)]
+pub extern "C" fn bajofeki_cutter_size() -> usize {
+    size_of::<Cutting>()
+}
+
+/// Builds, in the room at `lexer`, the lexer of the rules that these bytes are, or what says why there is none.
+#[unsafe(no_mangle)]
+pub unsafe extern "C" fn bajofeki_build(lexer: *mut u8, alloc: Global, rules: &[u8])
+    requires* room { sem 𝓛 (room_for_held lexer) }
+    ensures* made { sem 𝓛 (made_at lexer rules.now) }
+{
+    std::ptr::write(lexer as *mut Held, make(alloc, rules));
+}
+
+/// What became of the rules.
+#[unsafe(no_mangle)]
+pub unsafe extern "C" fn bajofeki_report(lexer: *const u8) -> Report
+    ghost view: { View }
+    requires* seen { sem 𝓛 (seen_at lexer view) }
+    ensures* seen { sem 𝓛 (seen_at lexer view) }
+    ensures report { result ≡ report view.held }
+{
+    report_of(&*(lexer as *const Held))
+}
+
+/// Writes the word of a clash, as many values as fit, and says how many there are: 0 if there is no clash.
+#[unsafe(no_mangle)]
+pub unsafe extern "C" fn bajofeki_word(lexer: *const u8, out: &mut [u32]) -> usize
+    ghost view: { View }
+    requires* seen { sem 𝓛 (seen_at lexer view) }
+    ensures* seen { sem 𝓛 (seen_at lexer view) }
+    ensures written { IsWritten (word_of view.held) out.old out.new result }
+{
+    word_into(&*(lexer as *const Held), out)
+}
+
+/// How many rules there are: 0 if there is no lexer.
+#[unsafe(no_mangle)]
+pub unsafe extern "C" fn bajofeki_rules(lexer: *const u8) -> usize
+    ghost view: { View }
+    requires* seen { sem 𝓛 (seen_at lexer view) }
+    ensures* seen { sem 𝓛 (seen_at lexer view) }
+    ensures count { result ≡ count_of view.held }
+{
+    rule_count(&*(lexer as *const Held))
+}
+
+/// Writes the name of a rule, as many bytes as fit, and says how many there are: 0 if there is no such rule. Rules are numbered
+/// from 0, in the order of their lines.
+#[unsafe(no_mangle)]
+pub unsafe extern "C" fn bajofeki_name(lexer: *const u8, rule: usize, out: &mut [u8]) -> usize
+    ghost view: { View }
+    requires* seen { sem 𝓛 (seen_at lexer view) }
+    ensures* seen { sem 𝓛 (seen_at lexer view) }
+    ensures written { IsWritten (name_of view.held rule) out.old out.new result }
+{
+    name_into(&*(lexer as *const Held), rule, out)
+}
+
+/// Whether the rule with this number is skipped; it isn't if there is no such rule.
+#[unsafe(no_mangle)]
+pub unsafe extern "C" fn bajofeki_skips(lexer: *const u8, rule: usize) -> bool
+    ghost view: { View }
+    requires* seen { sem 𝓛 (seen_at lexer view) }
+    ensures* seen { sem 𝓛 (seen_at lexer view) }
+    ensures skipped { result ≡ skips_rule view.held rule }
+{
+    is_rule_skipped(&*(lexer as *const Held), rule)
+}
+
+/// Gives the memory of a lexer back. What lies there then says so, and owns nothing, so the room can be given back as it is.
+#[unsafe(no_mangle)]
+pub unsafe extern "C" fn bajofeki_free(lexer: *mut u8)
+    ghost held: { HeldValue }
+    requires* held { sem 𝓛 (held_at lexer held) }
+    ensures* freed { sem 𝓛 (freed_at lexer) }
+{
+    std::ptr::write(
+        lexer as *mut Held,
+        let_go(std::ptr::read(lexer as *const Held)),
+    );
+}
+
+/// Begins, in the room at `cutter`, the cut of a text of `size` bytes. A text of another size is cut right too, but a long one
+/// maybe more slowly.
+///
+/// The code is 0, or 7 if memory was refused, or 9 if there is no lexer; then too something lies there that `bajofeki_end` takes.
+#[unsafe(no_mangle)]
+pub unsafe extern "C" fn bajofeki_begin(
+    lexer: *const u8,
+    cutter: *mut u8,
+    alloc: Global,
+    size: usize,
+) -> u32
+    ghost view: { View }
+    requires* room { sem 𝓛 (seen_at lexer view) ∗ sem 𝓛 (room_for_cutting cutter) }
+    ensures* begun { sem 𝓛 (seen_at lexer view) ∗ sem 𝓛 (begun_at cutter view.held result) }
+{
+    std::ptr::write(
+        cutter as *mut Cutting,
+        begin(&*(lexer as *const Held), alloc, size),
+    );
+    code_of(&*(cutter as *const Cutting))
+}
+
+/// Cuts the text on, and writes its pieces, as many as the array has room for. The lexer and the text are those of the calls
+/// before, by this cut.
+#[unsafe(no_mangle)]
+pub unsafe extern "C" fn bajofeki_cut(
+    lexer: *const u8,
+    cutter: *mut u8,
+    text: &[u8],
+    out: &mut [Piece],
+) -> Cut
+    ghost both: { Cutter }
+    requires* held { sem 𝓛 (seen_at lexer both.view) ∗ sem 𝓛 (cutting_at cutter both.cutting) }
+    requires cut { GoesOn both.view.held text.now both.cutting }
+    ensures* cut { sem 𝓛 (seen_at lexer both.view)
+        ∗ sem 𝓛 (cut_at cutter both text.now out.old result out.new) }
+{
+    cut_on(
+        &*(lexer as *const Held),
+        &mut *(cutter as *mut Cutting),
+        text,
+        out,
+    )
+}
+
+/// Gives the memory of a cut back: only its room is left.
+#[unsafe(no_mangle)]
+pub unsafe extern "C" fn bajofeki_end(cutter: *mut u8)
+    ghost cutting: { CuttingValue }
+    requires* held { sem 𝓛 (cutting_at cutter cutting) }
+    ensures* room { sem 𝓛 (room_for_cutting cutter) }
+{
+    let_cutting_go(std::ptr::read(cutter as *const Cutting));
+}
+
+/// The line and the column of an offset in bytes.
+#[unsafe(no_mangle)]
+pub extern "C" fn bajofeki_position(text: &[u8], at: usize) -> Place
+    ensures place { result ≡ place_in text.now at }
+{
+    place_of(text, at)
+}
+
+/// The version of these functions: 1.
+#[unsafe(no_mangle)]
+pub extern "C" fn bajofeki_version() -> u32
+    ensures version { result ≡ 1 }
+{
+    1
+}

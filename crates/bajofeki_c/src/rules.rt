@@ -1,0 +1,87 @@
+//! The rules of a lexer, and the word of a clash.
+ghost use Rattle.std.specs.Prelude.{◌≡◌};
+ghost use Rattle.bajofeki_c.specs.Rules.{IsWritten, count_of, is_skipped as is_skipped_by, name_of as name_bytes, skips_rule, word_of};
+
+use crate::held::{BuildError, Held};
+use lalrpop_modes::ModesError;
+
+// Writes as many values as fit, and says how many there are.
+fn write_to<T: Copy>(values: &[T], out: &mut [T]) -> usize
+    ensures written { IsWritten values.now out.old out.new result }
+{
+    let count = values.len().min(out.len());
+    out[..count].copy_from_slice(&values[..count]);
+    values.len()
+}
+
+/// Whether the rule with this number is skipped.
+pub fn is_skipped(skips: &[bool], rule: usize) -> bool
+    ensures skipped { result ≡ is_skipped_by skips.now rule }
+{
+    match skips.get(rule) {
+        Some(skipped) => *skipped,
+        None => false,
+    }
+}
+
+// The word of a clash, or none.
+fn clash_word(held: &Held) -> &[u32]
+    ensures word { result.now ≡ word_of held.now }
+{
+    match &held.made {
+        Err(
+            BuildError::Rules {
+                error: ModesError::Clash { word, .. },
+                ..
+            },
+        ) => word,
+        Ok(_) | Err(_) => &[],
+    }
+}
+
+// The name of the rule with this number, or none.
+fn rule_name(held: &Held, rule: usize) -> &str
+    ensures name { result.now ≡ name_bytes held.now rule }
+{
+    match &held.made {
+        Ok(lexer) => match lexer.names.get(rule) {
+            Some(name) => name.as_str(),
+            None => "",
+        },
+        Err(_) => "",
+    }
+}
+
+/// Writes the word of the clash, as many values as fit, and says how many there are: 0 if there is no clash.
+pub fn word_into(held: &Held, out: &mut [u32]) -> usize
+    ensures written { IsWritten (word_of held.now) out.old out.new result }
+{
+    write_to(clash_word(held), out)
+}
+
+/// How many rules there are: 0 if there is no lexer.
+pub fn rule_count(held: &Held) -> usize
+    ensures count { result ≡ count_of held.now }
+{
+    match &held.made {
+        Ok(lexer) => lexer.names.len(),
+        Err(_) => 0,
+    }
+}
+
+/// Writes the name of a rule, as many bytes as fit, and says how many there are: 0 if there is no such rule.
+pub fn name_into(held: &Held, rule: usize, out: &mut [u8]) -> usize
+    ensures written { IsWritten (name_bytes held.now rule) out.old out.new result }
+{
+    write_to(rule_name(held, rule).as_bytes(), out)
+}
+
+/// Whether the rule with this number is skipped; it isn't if there is no such rule.
+pub fn is_rule_skipped(held: &Held, rule: usize) -> bool
+    ensures skipped { result ≡ skips_rule held.now rule }
+{
+    match &held.made {
+        Ok(lexer) => is_skipped(&lexer.skips, rule),
+        Err(_) => false,
+    }
+}
