@@ -1,0 +1,267 @@
+/* Bajofeki from C99 and C++: lexers of rules that come at run time. Link libbajofeki.a or libbajofeki.so.
+
+   A lexer is built of a file of rules (docs/PROGRAMS.md, "A file of rules"). By it a text, which is any bytes, is cut into pieces,
+   one after another from its first byte to its last. Most programs want the second part of this file alone:
+
+       bajofeki_lexer *lexer = bajofeki_lexer_new(rules, rules_length);
+       bajofeki_text text = bajofeki_text_begin(lexer, bytes, length);
+       bajofeki_piece_t pieces[64];
+       bajofeki_cut_t cut;
+       do {
+           cut = bajofeki_text_next(&text, pieces, 64);
+           ... pieces[0] to pieces[cut.count - 1] ...
+       } while (cut.code == BAJOFEKI_FULL);
+       bajofeki_text_end(&text);
+       bajofeki_lexer_delete(lexer);
+
+   Places and lengths are in bytes, rules are numbered from 0 in the order of their lines, lines and columns count from 1, and columns
+   are in characters. Nothing here keeps a pointer to the file of rules. What only reads a lexer may be called by several threads at
+   once on one lexer; a text's cut is one thread's at a time. */
+#ifndef BAJOFEKI_H
+#define BAJOFEKI_H
+#include <stdbool.h>
+#include <stddef.h>
+#include <stdint.h>
+#include <stdlib.h>
+#ifdef __cplusplus
+extern "C" {
+#endif
+
+/* What became of the rules: the code of a report. */
+enum {
+    BAJOFEKI_BUILT = 0,         /* there is a lexer */
+    BAJOFEKI_BAD_LINE = 1,      /* a line of the file is wrong */
+    BAJOFEKI_NOT_PARSED = 2,    /* the text of a rule doesn't parse */
+    BAJOFEKI_BAD_END = 3,       /* the end of a `from .. to` is empty or has more than 64 characters */
+    BAJOFEKI_NOT_COMPILED = 4,  /* a rule can't be compiled */
+    BAJOFEKI_CLASH = 5,         /* two rules match the same word, and neither wins */
+    BAJOFEKI_TOO_LARGE = 6,     /* there are no rules, or too many, or they are too large for a table */
+    BAJOFEKI_OUT_OF_MEMORY = 7, /* a request for memory was refused */
+    BAJOFEKI_FREED = 8          /* the lexer was freed */
+};
+
+/* How a call of a cut ended: the code of a cut. */
+enum {
+    BAJOFEKI_DONE = 0,        /* at the end of the text */
+    BAJOFEKI_FULL = 2,        /* the array is full, and text is left */
+    BAJOFEKI_TOO_DEEP = 4,    /* the next token would put a mode on top of more than 1024 others; so does each further call */
+    BAJOFEKI_NO_LEXER = 9,    /* there is no lexer, or no cut of this text */
+    BAJOFEKI_BAD_ARGUMENT = 10 /* by the second part of this file alone: a null pointer to something, or a length past PTRDIFF_MAX */
+};
+
+/* The kind of a piece. */
+enum {
+    BAJOFEKI_TOKEN = 0,
+    BAJOFEKI_SKIPPED = 1, /* a token of a rule that is skipped */
+    BAJOFEKI_FAULT = 2    /* bytes at none of which a rule matches, up to the next match or the end of the text */
+};
+
+typedef struct bajofeki_lexer bajofeki_lexer;
+typedef struct bajofeki_cutter bajofeki_cutter;
+
+/* What became of the rules. Numbers that a code doesn't have are 0. */
+typedef struct {
+    uint32_t code;
+    size_t line;     /* where the line is wrong (1), or where the text of the rule begins, behind its first delimiter (2 to 5) */
+    size_t column;
+    size_t rule;     /* the rule (2 to 4), or the later of the two (5) */
+    size_t other;    /* the earlier one (5) */
+    size_t position; /* where in the text of the rule it stops to parse, in bytes (2) */
+} bajofeki_report_t;
+
+typedef struct {
+    uint32_t kind;
+    size_t rule; /* 0 of a fault */
+    size_t start;
+    size_t length;
+} bajofeki_piece_t;
+
+typedef struct {
+    uint32_t code;
+    size_t count; /* so many pieces were written */
+    size_t end;   /* behind them the next piece begins */
+} bajofeki_cut_t;
+
+typedef struct {
+    size_t at; /* the offset; of an offset past the end that of the end */
+    size_t line;
+    size_t column;
+} bajofeki_place_t;
+
+/* 1. The library's own functions.
+
+   Their contracts, which are proved, are in crates/bajofeki_c/src/lib.rt. They check no argument. What the caller owes:
+   - room for a lexer is bajofeki_lexer_size() bytes at a multiple of 8, and for a cutter bajofeki_cutter_size(), as malloc gives;
+   - a lexer lies in its room from bajofeki_build on, one build a room, and a cutter from bajofeki_begin to bajofeki_end;
+   - a lexer is freed once, when no cutter of it is used any more. It stays where it was built: no copy of it is used;
+   - the lexer and the text of a cutter are the same, unchanged, at each call;
+   - no pointer is null, not even to 0 bytes; lengths are true; an array overlaps nothing else.
+   The room stays the caller's, before and after. */
+
+/* The bytes of room that a lexer takes, and a cutter. */
+size_t bajofeki_lexer_size(void);
+size_t bajofeki_cutter_size(void);
+
+/* Builds a lexer, or what says why there is none, in the room. Either way it takes memory until bajofeki_free. */
+void bajofeki_build(bajofeki_lexer *lexer, const char *rules, size_t length);
+
+bajofeki_report_t bajofeki_report(const bajofeki_lexer *lexer);
+
+/* Writes the least word on which two rules clash, as many of its values as the array takes. Gives how many there are, 0 without a
+   clash. A value is a character's number, or a surrogate's. */
+size_t bajofeki_word(const bajofeki_lexer *lexer, uint32_t *out, size_t room);
+
+/* How many rules there are; 0 without a lexer. */
+size_t bajofeki_rules(const bajofeki_lexer *lexer);
+
+/* Writes the name of a rule, which is ASCII, as many bytes as the array takes, with no 0 behind it. Gives how many there are, 0 if
+   there is no such rule. */
+size_t bajofeki_name(const bajofeki_lexer *lexer, size_t rule, char *out, size_t room);
+
+/* Whether the tokens of a rule are skipped; false if there is no such rule. */
+bool bajofeki_skips(const bajofeki_lexer *lexer, size_t rule);
+
+/* Gives a lexer's memory back. Its room stays in order: a later report says BAJOFEKI_FREED. */
+void bajofeki_free(bajofeki_lexer *lexer);
+
+/* Begins the cut of a text in the room. Any text may be cut by it, but one of another size than this maybe more slowly. Gives
+   BAJOFEKI_DONE, BAJOFEKI_OUT_OF_MEMORY or BAJOFEKI_NO_LEXER; in each case bajofeki_end is owed. */
+uint32_t bajofeki_begin(const bajofeki_lexer *lexer, bajofeki_cutter *cutter, size_t size);
+
+/* Cuts the text on, from where the call before ended, and writes the pieces, as many as the array takes. */
+bajofeki_cut_t bajofeki_cut(const bajofeki_lexer *lexer, bajofeki_cutter *cutter, const char *text, size_t length, bajofeki_piece_t *out,
+                            size_t room);
+
+/* Gives a cutter's memory back. */
+void bajofeki_end(bajofeki_cutter *cutter);
+
+/* The line and the column of an offset. It reads the text from its beginning. */
+bajofeki_place_t bajofeki_position(const char *text, size_t length, size_t at);
+
+/* The version of these functions. */
+uint32_t bajofeki_version(void);
+enum { BAJOFEKI_VERSION = 1 };
+
+#ifdef __cplusplus
+}
+#endif
+
+/* 2. The same with checks, over memory from malloc.
+
+   A null pointer to 0 bytes or 0 places is fine everywhere, and a null lexer counts as none. */
+
+static inline bool bajofeki_is_bad(const void *pointer, size_t count, size_t size) {
+    return count > PTRDIFF_MAX / size || (pointer == NULL && count > 0);
+}
+
+/* A lexer, or what says why there is none, to be deleted by bajofeki_lexer_delete. NULL if the arguments are bad or malloc refused. */
+static inline bajofeki_lexer *bajofeki_lexer_new(const char *rules, size_t length) {
+    bajofeki_lexer *lexer = bajofeki_is_bad(rules, length, 1) ? NULL : (bajofeki_lexer *)malloc(bajofeki_lexer_size());
+    if (lexer != NULL) {
+        bajofeki_build(lexer, length == 0 ? "" : rules, length);
+    }
+    return lexer;
+}
+
+static inline void bajofeki_lexer_delete(bajofeki_lexer *lexer) {
+    if (lexer != NULL) {
+        bajofeki_free(lexer);
+        free(lexer);
+    }
+}
+
+/* As bajofeki_report; of NULL the code BAJOFEKI_NO_LEXER. */
+static inline bajofeki_report_t bajofeki_lexer_report(const bajofeki_lexer *lexer) {
+    bajofeki_report_t none = {BAJOFEKI_NO_LEXER, 0, 0, 0, 0, 0};
+    return lexer == NULL ? none : bajofeki_report(lexer);
+}
+
+/* As bajofeki_word. With an `out` of NULL nothing is written. */
+static inline size_t bajofeki_lexer_word(const bajofeki_lexer *lexer, uint32_t *out, size_t room) {
+    uint32_t none[1];
+    bool is_bad = bajofeki_is_bad(out, room, sizeof *out);
+    return lexer == NULL ? 0 : bajofeki_word(lexer, is_bad || room == 0 ? none : out, is_bad ? 0 : room);
+}
+
+static inline size_t bajofeki_lexer_rules(const bajofeki_lexer *lexer) {
+    return lexer == NULL ? 0 : bajofeki_rules(lexer);
+}
+
+/* As bajofeki_name. With an `out` of NULL nothing is written. */
+static inline size_t bajofeki_lexer_name(const bajofeki_lexer *lexer, size_t rule, char *out, size_t room) {
+    char none[1];
+    bool is_bad = bajofeki_is_bad(out, room, 1);
+    return lexer == NULL ? 0 : bajofeki_name(lexer, rule, is_bad || room == 0 ? none : out, is_bad ? 0 : room);
+}
+
+static inline bool bajofeki_lexer_skips(const bajofeki_lexer *lexer, size_t rule) {
+    return lexer != NULL && bajofeki_skips(lexer, rule);
+}
+
+/* A text that is being cut. The lexer and the bytes stay the caller's, and last longer than it. It may be moved, but of two copies only
+   one is used on. */
+typedef struct {
+    const bajofeki_lexer *lexer;
+    const char *bytes;
+    size_t length;
+    uint32_t code; /* BAJOFEKI_DONE, or why it can't be cut */
+    bajofeki_cutter *cutter;
+    bajofeki_place_t place; /* the last one that was asked for */
+} bajofeki_text;
+
+/* The bytes before the first piece. bajofeki_text_end is owed. Its code is BAJOFEKI_DONE, BAJOFEKI_OUT_OF_MEMORY, BAJOFEKI_NO_LEXER or
+   BAJOFEKI_BAD_ARGUMENT. */
+static inline bajofeki_text bajofeki_text_begin(const bajofeki_lexer *lexer, const char *bytes, size_t length) {
+    bajofeki_text text = {lexer, length == 0 ? "" : bytes, length, BAJOFEKI_DONE, NULL, {0, 1, 1}};
+    if (lexer == NULL || bajofeki_is_bad(bytes, length, 1)) {
+        text.code = lexer == NULL ? BAJOFEKI_NO_LEXER : BAJOFEKI_BAD_ARGUMENT;
+        return text;
+    }
+    text.cutter = (bajofeki_cutter *)malloc(bajofeki_cutter_size());
+    text.code = text.cutter == NULL ? (uint32_t)BAJOFEKI_OUT_OF_MEMORY : bajofeki_begin(lexer, text.cutter, length);
+    return text;
+}
+
+/* The next pieces, as many as the array takes. Without a cut the code is the text's. */
+static inline bajofeki_cut_t bajofeki_text_next(bajofeki_text *text, bajofeki_piece_t *out, size_t room) {
+    bajofeki_piece_t none[1];
+    bajofeki_cut_t cut = {BAJOFEKI_BAD_ARGUMENT, 0, 0};
+    if (text == NULL || bajofeki_is_bad(out, room, sizeof *out)) {
+        return cut;
+    }
+    cut.code = text->code;
+    if (text->code != BAJOFEKI_DONE) {
+        return cut;
+    }
+    return bajofeki_cut(text->lexer, text->cutter, text->bytes, text->length, room == 0 ? none : out, room);
+}
+
+/* The line and the column of the beginning or the end of a piece. Asked in their order, all of them are found in one pass. */
+static inline bajofeki_place_t bajofeki_text_place(bajofeki_text *text, size_t at) {
+    bajofeki_place_t place = {0, 1, 1};
+    if (text == NULL || text->code == BAJOFEKI_NO_LEXER || text->code == BAJOFEKI_BAD_ARGUMENT) {
+        return place;
+    }
+    if (text->place.at <= at) {
+        place = text->place;
+    }
+    {
+        bajofeki_place_t on = bajofeki_position(text->bytes + place.at, text->length - place.at, at - place.at);
+        place.at += on.at;
+        place.column = on.line == 1 ? place.column + on.column - 1 : on.column;
+        place.line += on.line - 1;
+    }
+    return text->place = place;
+}
+
+/* Gives the cut's memory back. A second call does nothing. */
+static inline void bajofeki_text_end(bajofeki_text *text) {
+    if (text != NULL && text->cutter != NULL) {
+        bajofeki_end(text->cutter);
+        free(text->cutter);
+        text->cutter = NULL;
+        text->code = BAJOFEKI_NO_LEXER;
+    }
+}
+
+#endif

@@ -1,0 +1,77 @@
+"""What crates/bajofeki_c exports, and what the header, the Rust crate and the Python module declare of it: functions by name, each with
+what it gives and takes, and structs by name, each with its fields. All in Rust's words; a lexer or a cutter is bytes."""
+import re
+from pathlib import Path
+
+HOME = Path(__file__).resolve().parent
+CRATE = HOME.parent / "crates/bajofeki_c/src"
+WORDS = {"void": "", "char": "u8", "bajofeki_lexer": "u8", "bajofeki_cutter": "u8", "c_void": "u8", "uint32_t": "u32", "size_t": "usize"}
+WORDS.update({"c_uint": "u32", "c_ulong": "usize", "c_bool": "bool", "c_void_p": "*u8", "c_char_p": "*u8", "NoneType": ""})
+
+
+def word(name):
+    """A type of C or Python in Rust's words: size_t is usize, bajofeki_piece_t is Piece."""
+    return WORDS.get(name, re.sub(r"^bajofeki_(\w+)_t$", lambda it: it[1].capitalize(), name))
+
+
+def structs(text):
+    bodies = re.findall(r"#\[repr\(C\)\]\n#\[.*?\npub struct (\w+) \{(.*?)\n\}", text, re.S)
+    return {name: re.findall(r"pub (\w+): (\w+),", body) for name, body in bodies}
+
+
+def functions(text):
+    """Functions of Rust or Rattle, where an array is a pointer and a length, and the allocator is nothing."""
+    text = re.sub(r"&\[(\w+)\]", r"*const \1, x: usize", text.replace("c_void", "u8"))
+    text = re.sub(r"&mut \[(\w+)\]", r"*mut \1, x: usize", re.sub(r"\w+: Global,?", "", text))
+    found = re.findall(r"fn (bajofeki_\w+)\((.*?)\)(?: -> (\w+))?", text, re.S)
+    return {name: (gives, re.findall(r"\w+: ([^,\n]+)", takes)) for name, takes, gives in found}
+
+
+def of_rattle():
+    return functions((CRATE / "lib.rt").read_text()), structs("".join(it.read_text() for it in sorted(CRATE.glob("*.rt"))))
+
+
+def of_rust():
+    text = (HOME / "rust/src/ffi.rs").read_text()
+    return functions(re.search(r'extern "C" \{.*?\n\}', text, re.S)[0]), structs(text)
+
+
+def of_c():
+    text = re.sub(r"/\*.*?\*/", "", (HOME / "c/bajofeki.h").read_text(), flags=re.S)
+
+    def kind(words):
+        constant, name, star = re.match(r"\s*(const )?(\w+) (\*?)", words).groups()
+        return f"*{'const' if constant else 'mut'} {word(name)}" if star else word(name)
+
+    found = re.findall(r"^(\w+ )(bajofeki_\w+)\(([^)]*)\);", text, re.M)
+    bodies = re.findall(r"typedef struct \{([^}]*)\} (bajofeki_\w+_t);", text)
+    laid = {word(name): [(field, word(of)) for of, field in re.findall(r"(\w+) (\w+);", body)] for body, name in bodies}
+    return {name: (kind(gives), [kind(it) for it in takes.split(",") if it != "void"]) for gives, name, takes in found}, laid
+
+
+def of_python(module):
+    """Pointers are neither const nor mut here."""
+
+    def kind(it):
+        return f"*{word(it._type_.__name__)}" if hasattr(it, "contents") else word((it or type(None)).__name__)
+
+    laid = {it.__name__: [(field, kind(of)) for field, of in it._fields_] for it in module.STRUCTS}
+    return {name: (kind(gives), [kind(it) for it in takes]) for name, (gives, takes) in module.FUNCTIONS.items()}, laid
+
+
+def without_const(declared):
+    return {name: (gives, [re.sub(r"\*\w+ ", "*", it) for it in takes]) for name, (gives, takes) in declared.items()}
+
+
+def differences(wanted, found):
+    names = [it for it in sorted({*wanted, *found}) if wanted.get(it) != found.get(it)]
+    return "\n  ".join(f"{it}: wanted {wanted.get(it)}, found {found.get(it)}" for it in names)
+
+
+def compared(module):
+    """For each language a title, and what is declared otherwise than exported."""
+    exported, laid = of_rattle()
+    for name, (found, structs_found) in {"C": of_c(), "Rust": of_rust(), "Python": of_python(module)}.items():
+        wanted = without_const(exported) if name == "Python" else exported
+        title = f"{len(found)} functions and {len(structs_found)} structs in {name}"
+        yield title, differences({**wanted, **laid}, {**found, **structs_found})

@@ -1,0 +1,233 @@
+"""Lexers of rules that come at run time. What they answer is proved: bindings/README.md says what that means.
+
+>>> lexer = Lexer("LET = 'let'\\nNAME = /[a-z]+/\\nSPACE skip = /\\\\s+/\\n")
+>>> [(item.kind.value, item.rule, item.text) for item in lexer.items("let x?")]
+[('token', 'LET', 'let'), ('skipped', 'SPACE', ' '), ('token', 'NAME', 'x'), ('fault', None, '?')]
+"""
+import enum
+import os
+import struct
+import weakref
+from ctypes import CDLL, POINTER, Structure, byref, c_bool, c_char_p, c_size_t, c_uint32, c_uint64, c_void_p, create_string_buffer
+from pathlib import Path
+from typing import NamedTuple, Optional
+
+__all__ = ["Item", "Kind", "Lexer", "Rule", "RulesError", "RulesErrorKind"]
+
+
+class Report(Structure):
+    _fields_ = [("code", c_uint32), *((name, c_size_t) for name in ("line", "column", "rule", "other", "position"))]
+
+
+class Piece(Structure):
+    _fields_ = [("kind", c_uint32), ("rule", c_size_t), ("start", c_size_t), ("length", c_size_t)]
+
+
+class Cut(Structure):
+    _fields_ = [("code", c_uint32), ("count", c_size_t), ("end", c_size_t)]
+
+
+class Place(Structure):
+    _fields_ = [("at", c_size_t), ("line", c_size_t), ("column", c_size_t)]
+
+
+STRUCTS = (Report, Piece, Cut, Place)
+# Of each function of the library what it gives and what it takes.
+FUNCTIONS = {
+    "bajofeki_lexer_size": (c_size_t, []),
+    "bajofeki_cutter_size": (c_size_t, []),
+    "bajofeki_build": (None, [c_void_p, c_char_p, c_size_t]),
+    "bajofeki_report": (Report, [c_void_p]),
+    "bajofeki_word": (c_size_t, [c_void_p, POINTER(c_uint32), c_size_t]),
+    "bajofeki_rules": (c_size_t, [c_void_p]),
+    "bajofeki_name": (c_size_t, [c_void_p, c_size_t, c_char_p, c_size_t]),
+    "bajofeki_skips": (c_bool, [c_void_p, c_size_t]),
+    "bajofeki_free": (None, [c_void_p]),
+    "bajofeki_begin": (c_uint32, [c_void_p, c_void_p, c_size_t]),
+    "bajofeki_cut": (Cut, [c_void_p, c_void_p, c_char_p, c_size_t, POINTER(Piece), c_size_t]),
+    "bajofeki_end": (None, [c_void_p]),
+    "bajofeki_position": (Place, [c_char_p, c_size_t, c_size_t]),
+    "bajofeki_version": (c_uint32, []),
+}
+
+
+def _library():
+    """The library that BAJOFEKI_LIBRARY names, or that lies beside this file or where bindings/build.sh makes it, or the system's."""
+    here = Path(__file__).resolve().parent
+    places = [here / "libbajofeki.so", here.parent / "out/lib/libbajofeki.so"]
+    library = CDLL(os.environ.get("BAJOFEKI_LIBRARY") or next((str(it) for it in places if it.is_file()), "libbajofeki.so"))
+    for name, (result, arguments) in FUNCTIONS.items():
+        function = getattr(library, name)
+        function.restype, function.argtypes = result, arguments
+    if library.bajofeki_version() != 1:
+        raise ImportError("libbajofeki.so has another version")
+    return library
+
+
+_LIBRARY = _library()
+_FULL, _TOO_DEEP = 2, 4
+_ROOM = 4096
+_PIECES = struct.Struct("@INNN")
+
+
+class RulesErrorKind(enum.Enum):
+    """What is wrong with the rules, by the code of a report."""
+
+    BAD_LINE = 1
+    NOT_PARSED = 2
+    BAD_END = 3
+    NOT_COMPILED = 4
+    CLASH = 5
+    TOO_LARGE = 6
+    OUT_OF_MEMORY = 7
+
+
+class RulesError(ValueError):
+    """Why there is no lexer. What a kind doesn't have is 0, None or empty.
+
+    kind      a RulesErrorKind
+    line      where the line is wrong, or where the text of the rule begins, from 1
+    column    the column there, from 1, in characters
+    rule      the name of the rule; of a clash that of the later one
+    other     the name of the earlier rule of a clash
+    word      the least word on which they clash; it may have surrogates
+    position  where in the rule's text it stops to parse, in bytes
+
+    >>> Lexer("IF = /if/\\nNAME = /[a-z]+/\\n")
+    Traceback (most recent call last):
+    bajofeki.RulesError: line 2, column 9: NAME and IF clash: both match "if", and neither wins
+    """
+
+
+def _rules_error(report, word, rules):
+    kind = RulesErrorKind(report.code)
+    rule = _name(rules, report.rule) if 2 <= report.code <= 5 else None
+    other = _name(rules, report.other) if kind is RulesErrorKind.CLASH else None
+    reason = {
+        RulesErrorKind.BAD_LINE: "this is no line of a file of rules",
+        RulesErrorKind.NOT_PARSED: f"{rule}: the text of this rule doesn't parse from byte {report.position} on",
+        RulesErrorKind.BAD_END: f"{rule}: the end of this rule is empty or has more than 64 characters",
+        RulesErrorKind.NOT_COMPILED: f"{rule}: this rule can't be compiled",
+        RulesErrorKind.CLASH: f'{rule} and {other} clash: both match "{_shown(word)}", and neither wins',
+        RulesErrorKind.TOO_LARGE: "there are no rules, or too many, or they are too large for a table",
+        RulesErrorKind.OUT_OF_MEMORY: "out of memory",
+    }[kind]
+    error = RulesError((f"line {report.line}, column {report.column}: " if report.line else "") + reason)
+    error.kind, error.line, error.column, error.position = kind, report.line, report.column, report.position
+    error.rule, error.other, error.word = rule, other, word
+    return error
+
+
+def _shown(word):
+    return "".join(f"\\{c}" if c in '"\\' else c if c.isprintable() else f"\\u{{{ord(c):x}}}" for c in word)
+
+
+def _name(rules, rule):
+    """The name of a rule where there is no lexer that has it: the first word of its line. Sections and parts aren't rules."""
+    heads = (line.split("=")[0].split() for line in rules.decode("utf-8-sig", "replace").split("\n") if "=" in line)
+    return [head[0] for head in heads if head and head[0][0] not in "#[" and head[1:2] != ["part"]][rule]
+
+
+class Kind(enum.Enum):
+    """What an item is. The rest of a text is TOO_DEEP, and the last item, where its first token would put a mode on top of more than
+    1024 others. A FAULT is characters at none of which a rule matches."""
+
+    TOKEN = "token"
+    SKIPPED = "skipped"
+    FAULT = "fault"
+    TOO_DEEP = "too deep"
+
+
+_KINDS = (Kind.TOKEN, Kind.SKIPPED, Kind.FAULT, Kind.TOO_DEEP)
+
+
+class Rule(NamedTuple):
+    """A rule of a lexer. Several may have one name."""
+
+    name: str
+    is_skipped: bool
+
+
+class Item(NamedTuple):
+    """A part of a text. `start` and `end` are in characters; lines and columns count from 1."""
+
+    kind: Kind
+    rule: Optional[str]  # the name of its rule, None if it isn't a token
+    text: str
+    start: int
+    end: int
+    line: int
+    column: int
+    start_byte: int  # in the UTF-8 of the text
+    end_byte: int
+
+
+class Lexer:
+    """A lexer of a file of rules, which is a str or bytes. Threads may share it. `rules` are its rules, in the order of their lines.
+
+    >>> Lexer("A = 'a'\\nSPACE skip = ' '\\n").rules
+    (Rule(name='A', is_skipped=False), Rule(name='SPACE', is_skipped=True))
+    """
+
+    def __init__(self, rules):
+        rules = rules.encode("utf-8", "surrogatepass") if isinstance(rules, str) else bytes(rules)
+        self._file = rules
+        self._room = _room(_LIBRARY.bajofeki_lexer_size())
+        _LIBRARY.bajofeki_build(self._room, rules, len(rules))
+        # The finalizer keeps the room for as long as a lexer lies in it. At the end of the process a thread may still cut by it.
+        weakref.finalize(self, _LIBRARY.bajofeki_free, self._room).atexit = False
+        report = _LIBRARY.bajofeki_report(self._room)
+        if report.code:
+            raise _rules_error(report, self._word(), rules)
+        numbers = range(_LIBRARY.bajofeki_rules(self._room))
+        self.rules = tuple(Rule(self._name(rule), _LIBRARY.bajofeki_skips(self._room, rule)) for rule in numbers)
+
+    def __reduce__(self):
+        # A copy, or one from a pickle, is built anew: a lexer stays in its room.
+        return type(self), (self._file,)
+
+    def _word(self):
+        length = _LIBRARY.bajofeki_word(self._room, byref(c_uint32()), 0)
+        word = (c_uint32 * length)()
+        if length:
+            _LIBRARY.bajofeki_word(self._room, word, length)
+        return "".join(map(chr, word))
+
+    def _name(self, rule):
+        length = _LIBRARY.bajofeki_name(self._room, rule, b"", 0)
+        name = create_string_buffer(length)
+        _LIBRARY.bajofeki_name(self._room, rule, name, length)
+        return name.raw.decode()
+
+    def items(self, text):
+        """Cuts a str, from its beginning to its end, in time linear in it: its Items, skipped tokens and faults too."""
+        data, names = text.encode("utf-8", "surrogatepass"), [rule.name for rule in self.rules]
+        start, line, column = 0, 1, 1
+        for kind, rule, at, length in self._pieces(data):
+            slice_ = data[at : at + length].decode("utf-8", "surrogatepass")
+            end = start + len(slice_)
+            yield Item(_KINDS[kind], names[rule] if kind < 2 else None, slice_, start, end, line, column, at, at + length)
+            start, feeds = end, slice_.count("\n")
+            line, column = line + feeds, len(slice_) - slice_.rfind("\n") if feeds else column + len(slice_)
+
+    def _pieces(self, data):
+        """The pieces of the bytes as tuples of Piece's fields, and the rest of a text that goes too deep as one of the kind 3."""
+        cutter, pieces = _room(_LIBRARY.bajofeki_cutter_size()), (Piece * min(_ROOM, len(data) or 1))()
+        view, code = memoryview(pieces).cast("B"), _LIBRARY.bajofeki_begin(self._room, cutter, len(data))
+        try:
+            if code:
+                raise MemoryError("no memory for the cut of a text")
+            code = _FULL
+            while code == _FULL:
+                cut = _LIBRARY.bajofeki_cut(self._room, cutter, data, len(data), pieces, len(pieces))
+                yield from _PIECES.iter_unpack(view[: cut.count * _PIECES.size])
+                code = cut.code
+            if code == _TOO_DEEP:
+                yield 3, 0, cut.end, len(data) - cut.end
+        finally:
+            _LIBRARY.bajofeki_end(cutter)
+
+
+def _room(size):
+    """Room of so many bytes, at a multiple of 8."""
+    return (c_uint64 * ((size + 7) // 8))()

@@ -1,0 +1,134 @@
+//! Lexers of rules that come at run time. What they answer is proved: `bindings/README.md` says what that means.
+//!
+//! ```
+//! use bajofeki::{Kind, Lexer};
+//!
+//! let lexer = Lexer::new("LET = 'let'\nNAME = /[a-z]+/\nSPACE skip = /\\s+/\n")?;
+//! let found: Vec<_> = lexer.items("let x?").map(|item| (item.kind, item.rule, item.text)).collect();
+//! assert_eq!(
+//!     found,
+//!     [
+//!         (Kind::Token, "LET", "let"),
+//!         (Kind::Skipped, "SPACE", " "),
+//!         (Kind::Token, "NAME", "x"),
+//!         (Kind::Fault, "", "?"),
+//!     ]
+//! );
+//! # Ok::<(), bajofeki::RulesError>(())
+//! ```
+//!
+//! All `unsafe` code is in the module `ffi`, which calls the library.
+
+#![deny(unsafe_code)]
+#![warn(missing_docs)]
+
+#[allow(unsafe_code)]
+mod ffi;
+mod items;
+mod places;
+mod rules_error;
+
+pub use items::{Item, Items, Kind};
+pub use places::{Place, Places};
+pub use rules_error::{RulesError, RulesErrorKind};
+
+use std::fmt;
+
+/// A rule of a lexer.
+#[derive(Clone, Debug, PartialEq, Eq)]
+pub struct Rule {
+    /// Its name, which several rules may have.
+    pub name: String,
+    /// Whether its tokens are skipped.
+    pub is_skipped: bool,
+}
+
+/// A lexer. Threads may share it: it is only read.
+///
+/// ```
+/// let lexer = bajofeki::Lexer::new("NUMBER = /[0-9]+/\n")?;
+/// std::thread::scope(|scope| {
+///     for text in ["1", "22"] {
+///         let lexer = &lexer;
+///         scope.spawn(move || assert_eq!(lexer.items(text).count(), 1));
+///     }
+/// });
+/// # Ok::<(), bajofeki::RulesError>(())
+/// ```
+pub struct Lexer {
+    held: ffi::Held,
+    rules: Vec<Rule>,
+}
+
+impl Lexer {
+    /// The lexer of a file of rules, which `docs/PROGRAMS.md` describes.
+    ///
+    /// # Errors
+    ///
+    /// A [`RulesError`] says what is wrong with the rules, and where.
+    ///
+    /// ```
+    /// use bajofeki::{Lexer, RulesErrorKind};
+    ///
+    /// let error = Lexer::new("IF = /if/\nNAME = /[a-z]+/\n").unwrap_err();
+    /// assert_eq!(error.kind, RulesErrorKind::Clash);
+    /// assert_eq!(
+    ///     error.to_string(),
+    ///     r#"line 2, column 9: NAME and IF clash: both match "if", and neither wins"#
+    /// );
+    /// ```
+    pub fn new(rules: impl AsRef<[u8]>) -> Result<Lexer, RulesError> {
+        let held = ffi::Held::build(rules.as_ref());
+        let report = held.report();
+        if report.code != 0 {
+            return Err(RulesError::new(report, held.word(), rules.as_ref()));
+        }
+        let rules = (0..held.rules())
+            .map(|rule| Rule {
+                name: String::from_utf8_lossy(&held.name(rule)).into_owned(),
+                is_skipped: held.skips(rule),
+            })
+            .collect();
+        Ok(Lexer { held, rules })
+    }
+
+    /// Its rules, in the order of their lines.
+    ///
+    /// ```
+    /// let lexer = bajofeki::Lexer::new("A = 'a'\nSPACE skip = ' '\n")?;
+    /// assert_eq!(lexer.rules()[1].name, "SPACE");
+    /// assert!(lexer.rules()[1].is_skipped);
+    /// # Ok::<(), bajofeki::RulesError>(())
+    /// ```
+    pub fn rules(&self) -> &[Rule] {
+        &self.rules
+    }
+
+    /// Cuts a text: its items are what it consists of, from its beginning to its end, skipped tokens and faults too.
+    ///
+    /// It takes time linear in the text, and some memory for each byte of it. If that is refused, it ends the process as `Vec` does.
+    pub fn items<'a>(&'a self, text: &'a str) -> Items<'a> {
+        Items::new(self, text)
+    }
+}
+
+impl fmt::Debug for Lexer {
+    fn fmt(&self, f: &mut fmt::Formatter<'_>) -> fmt::Result {
+        f.debug_struct("Lexer")
+            .field("rules", &self.rules)
+            .finish_non_exhaustive()
+    }
+}
+
+/// The version of the library's functions: 1.
+pub fn version() -> u32 {
+    ffi::version()
+}
+
+// Lexers and items go from thread to thread.
+const _: () = {
+    const fn is_shared<T: Send + Sync>() {}
+    is_shared::<Lexer>();
+    is_shared::<Items<'_>>();
+    is_shared::<RulesError>();
+};
