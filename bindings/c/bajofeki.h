@@ -71,7 +71,7 @@ typedef struct {
 
 typedef struct {
     uint32_t kind;
-    size_t rule; /* 0 of a fault */
+    size_t rule; /* of rules with one name, precedence, skip and actions the first in the mode; 0 of a fault */
     size_t start;
     size_t length;
 } bajofeki_piece_t;
