@@ -49,6 +49,18 @@ enum {
     BAJOFEKI_BAD_ARGUMENT = 10 /* by the second part of this file alone: a null pointer to something, or a length past PTRDIFF_MAX */
 };
 
+/* What became of the page of a text: the code of a page. */
+enum {
+    BAJOFEKI_SHOWN = 0,      /* there is a page */
+    BAJOFEKI_NOT_UTF8 = 3    /* the text isn't UTF-8; else BAJOFEKI_OUT_OF_MEMORY or BAJOFEKI_NO_LEXER */
+};
+
+/* How far a token of a mode can stay open: the code of a look. */
+enum {
+    BAJOFEKI_AT_MOST = 0,   /* up to `count` characters after it can leave open whether a longer one comes */
+    BAJOFEKI_UNBOUNDED = 1  /* any number of them can; else BAJOFEKI_NO_LEXER, also if there is no such mode */
+};
+
 /* The kind of a piece. */
 enum {
     BAJOFEKI_TOKEN = 0,
@@ -88,6 +100,16 @@ typedef struct {
     size_t column;
 } bajofeki_place_t;
 
+typedef struct {
+    uint32_t code;
+    size_t length; /* so many bytes the page has, whether or not they fit; 0 without a page */
+} bajofeki_page_t;
+
+typedef struct {
+    uint32_t code;
+    size_t count; /* 0 if it isn't BAJOFEKI_AT_MOST */
+} bajofeki_look_t;
+
 /* 1. The library's own functions.
 
    Their contracts, which are proved, are in crates/bajofeki_c/src/lib.rt. They check no argument. What the caller owes:
@@ -120,6 +142,19 @@ size_t bajofeki_name(const bajofeki_lexer *lexer, size_t rule, char *out, size_t
 
 /* Whether the tokens of a rule are skipped; false if there is no such rule. */
 bool bajofeki_skips(const bajofeki_lexer *lexer, size_t rule);
+
+/* How many modes there are; 0 without a lexer. They are numbered from 0, in the order in which the file first names them; a rule above
+   the first section names INITIAL. */
+size_t bajofeki_modes(const bajofeki_lexer *lexer);
+
+/* How many characters after a token of a mode can leave open whether a longer one comes. */
+bajofeki_look_t bajofeki_lookahead(const bajofeki_lexer *lexer, size_t mode);
+
+/* Writes a whole text as HTML, or in colours for a terminal: as many bytes of the page as the array takes, with no 0 behind it. In HTML
+   a token is a span whose class is its rule's name, a fault is a mark, and a skipped token is neither. Faults are shown, and modes may
+   lie deeper than for a cut. */
+bajofeki_page_t bajofeki_html(const bajofeki_lexer *lexer, const char *text, size_t length, char *out, size_t room);
+bajofeki_page_t bajofeki_ansi(const bajofeki_lexer *lexer, const char *text, size_t length, char *out, size_t room);
 
 /* Gives a lexer's memory back. Its room stays in order: a later report says BAJOFEKI_FREED. */
 void bajofeki_free(bajofeki_lexer *lexer);
@@ -196,6 +231,39 @@ static inline size_t bajofeki_lexer_name(const bajofeki_lexer *lexer, size_t rul
 
 static inline bool bajofeki_lexer_skips(const bajofeki_lexer *lexer, size_t rule) {
     return lexer != NULL && bajofeki_skips(lexer, rule);
+}
+
+static inline size_t bajofeki_lexer_modes(const bajofeki_lexer *lexer) {
+    return lexer == NULL ? 0 : bajofeki_modes(lexer);
+}
+
+static inline bajofeki_look_t bajofeki_lexer_lookahead(const bajofeki_lexer *lexer, size_t mode) {
+    bajofeki_look_t none = {BAJOFEKI_NO_LEXER, 0};
+    return lexer == NULL ? none : bajofeki_lookahead(lexer, mode);
+}
+
+/* As bajofeki_html. With an `out` of NULL nothing is written. The code is BAJOFEKI_BAD_ARGUMENT too. */
+static inline bajofeki_page_t bajofeki_lexer_html(const bajofeki_lexer *lexer, const char *text, size_t length, char *out, size_t room) {
+    char none[1];
+    bajofeki_page_t page = {BAJOFEKI_NO_LEXER, 0};
+    bool is_bad = bajofeki_is_bad(out, room, 1);
+    if (lexer == NULL || bajofeki_is_bad(text, length, 1)) {
+        page.code = lexer == NULL ? BAJOFEKI_NO_LEXER : BAJOFEKI_BAD_ARGUMENT;
+        return page;
+    }
+    return bajofeki_html(lexer, length == 0 ? "" : text, length, is_bad || room == 0 ? none : out, is_bad ? 0 : room);
+}
+
+/* As bajofeki_lexer_html. */
+static inline bajofeki_page_t bajofeki_lexer_ansi(const bajofeki_lexer *lexer, const char *text, size_t length, char *out, size_t room) {
+    char none[1];
+    bajofeki_page_t page = {BAJOFEKI_NO_LEXER, 0};
+    bool is_bad = bajofeki_is_bad(out, room, 1);
+    if (lexer == NULL || bajofeki_is_bad(text, length, 1)) {
+        page.code = lexer == NULL ? BAJOFEKI_NO_LEXER : BAJOFEKI_BAD_ARGUMENT;
+        return page;
+    }
+    return bajofeki_ansi(lexer, length == 0 ? "" : text, length, is_bad || room == 0 ? none : out, is_bad ? 0 : room);
 }
 
 /* A text that is being cut. The lexer and the bytes stay the caller's, and last longer than it. It may be moved, but of two copies only

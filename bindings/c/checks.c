@@ -18,6 +18,9 @@ static void check_no_lexer(void) {
     CHECK(bajofeki_lexer_report(NULL).code == BAJOFEKI_NO_LEXER);
     CHECK(bajofeki_lexer_word(NULL, NULL, 0) == 0 && bajofeki_lexer_rules(NULL) == 0);
     CHECK(bajofeki_lexer_name(NULL, 0, NULL, 0) == 0 && !bajofeki_lexer_skips(NULL, 0));
+    CHECK(bajofeki_lexer_modes(NULL) == 0 && bajofeki_lexer_lookahead(NULL, 0).code == BAJOFEKI_NO_LEXER);
+    CHECK(bajofeki_lexer_html(NULL, "a", 1, NULL, 0).code == BAJOFEKI_NO_LEXER);
+    CHECK(bajofeki_lexer_ansi(NULL, NULL, 0, NULL, 0).code == BAJOFEKI_NO_LEXER);
     CHECK(text.code == BAJOFEKI_NO_LEXER && bajofeki_text_next(&text, &piece, 1).code == BAJOFEKI_NO_LEXER);
     CHECK(bajofeki_text_place(&text, 1).line == 1 && bajofeki_text_place(NULL, 1).line == 1);
     CHECK(bajofeki_text_next(NULL, &piece, 1).code == BAJOFEKI_BAD_ARGUMENT);
@@ -48,6 +51,25 @@ static void check_rules(void) {
     CHECK(bajofeki_report(lexer).code == BAJOFEKI_FREED && bajofeki_rules(lexer) == 0);
     free(lexer);
     CHECK(bajofeki_version() == BAJOFEKI_VERSION);
+}
+
+/* Both pages of a text with an array of just their size, and of one byte less. */
+static void check_pages(const bajofeki_lexer *lexer, const char *text, size_t length) {
+    for (int i = 0; i < 2; i++) {
+        bajofeki_page_t (*shows)(const bajofeki_lexer *, const char *, size_t, char *, size_t) = i ? bajofeki_lexer_ansi : bajofeki_lexer_html;
+        bajofeki_page_t page = shows(lexer, text, length, NULL, 0);
+        char *all = (char *)malloc(page.length + 1), *part = (char *)malloc(page.length + 1);
+        memset(part, '?', page.length + 1);
+        CHECK(page.code == BAJOFEKI_SHOWN || (page.code == BAJOFEKI_NOT_UTF8 && page.length == 0));
+        CHECK(shows(lexer, text, length, all, page.length).length == page.length);
+        CHECK(shows(lexer, text, length, part, page.length / 2).length == page.length);
+        CHECK(memcmp(all, part, page.length / 2) == 0 && part[page.length / 2] == '?');
+        free(all);
+        free(part);
+    }
+    CHECK(bajofeki_lexer_html(lexer, NULL, 1, NULL, 0).code == BAJOFEKI_BAD_ARGUMENT);
+    CHECK(bajofeki_lexer_lookahead(lexer, bajofeki_lexer_modes(lexer)).code == BAJOFEKI_NO_LEXER);
+    CHECK(bajofeki_lexer_modes(lexer) > 0 && bajofeki_lexer_lookahead(lexer, 0).code <= BAJOFEKI_UNBOUNDED);
 }
 
 static void check_arguments(const bajofeki_lexer *lexer) {
@@ -118,6 +140,7 @@ static void check_files(const char *rules_path, const char *text_path, uint32_t 
         spoil(rules, rules_length, seed);
         for (int i = 0; i < 4 && bajofeki_lexer_report(lexer).code == BAJOFEKI_BUILT; i++) {
             check_arguments(lexer);
+            check_pages(lexer, text, length);
             CHECK(sum_of(lexer, text, length, rooms[i]) == sum_of(lexer, text, length, 1000));
             spoil(text, length, seed + (uint32_t)i);
         }

@@ -5,6 +5,7 @@
 [('token', 'LET', 'let'), ('skipped', 'SPACE', ' '), ('token', 'NAME', 'x'), ('fault', None, '?')]
 """
 import enum
+import math
 import os
 import struct
 import weakref
@@ -31,7 +32,15 @@ class Place(Structure):
     _fields_ = [("at", c_size_t), ("line", c_size_t), ("column", c_size_t)]
 
 
-STRUCTS = (Report, Piece, Cut, Place)
+class Page(Structure):
+    _fields_ = [("code", c_uint32), ("length", c_size_t)]
+
+
+class Look(Structure):
+    _fields_ = [("code", c_uint32), ("count", c_size_t)]
+
+
+STRUCTS = (Report, Piece, Cut, Place, Page, Look)
 # Of each function of the library what it gives and what it takes.
 FUNCTIONS = {
     "bajofeki_lexer_size": (c_size_t, []),
@@ -42,6 +51,10 @@ FUNCTIONS = {
     "bajofeki_rules": (c_size_t, [c_void_p]),
     "bajofeki_name": (c_size_t, [c_void_p, c_size_t, c_char_p, c_size_t]),
     "bajofeki_skips": (c_bool, [c_void_p, c_size_t]),
+    "bajofeki_modes": (c_size_t, [c_void_p]),
+    "bajofeki_lookahead": (Look, [c_void_p, c_size_t]),
+    "bajofeki_html": (Page, [c_void_p, c_char_p, c_size_t, c_char_p, c_size_t]),
+    "bajofeki_ansi": (Page, [c_void_p, c_char_p, c_size_t, c_char_p, c_size_t]),
     "bajofeki_free": (None, [c_void_p]),
     "bajofeki_begin": (c_uint32, [c_void_p, c_void_p, c_size_t]),
     "bajofeki_cut": (Cut, [c_void_p, c_void_p, c_char_p, c_size_t, POINTER(Piece), c_size_t]),
@@ -209,6 +222,44 @@ class Lexer:
             yield Item(_KINDS[kind], names[rule] if kind < 2 else None, slice_, start, end, line, column, at, at + length)
             start, feeds = end, slice_.count("\n")
             line, column = line + feeds, len(slice_) - slice_.rfind("\n") if feeds else column + len(slice_)
+
+    def html(self, text):
+        """The text as HTML: tokens in a span whose class is the rule's name, faults in a mark. UnicodeEncodeError of surrogates.
+
+        >>> Lexer("A = 'a'\\nLESS skip = '<'\\n").html("a<?")
+        '<span class="A">a</span>&lt;<mark>?</mark>'
+        """
+        return self._page(_LIBRARY.bajofeki_html, text.encode())
+
+    def ansi(self, text):
+        """The text in colours for a terminal, which it can't control. UnicodeEncodeError of surrogates."""
+        return self._page(_LIBRARY.bajofeki_ansi, text.encode())
+
+    def _page(self, shows, data):
+        page = create_string_buffer(2 * len(data) or 1)
+        told = shows(self._room, data, len(data), page, len(page))
+        if told.length > len(page):
+            page = create_string_buffer(told.length)
+            told = shows(self._room, data, len(data), page, len(page))
+        if told.code:
+            raise MemoryError("no memory for the page of a text")
+        return page.raw[: told.length].decode()
+
+    @property
+    def modes(self):
+        """How many modes there are. They are numbered from 0, in the order in which the file first names them."""
+        return _LIBRARY.bajofeki_modes(self._room)
+
+    def lookahead(self, mode):
+        """How many characters after a token of the mode can leave open whether a longer one comes, or math.inf.
+
+        >>> Lexer("A = /a(bc)?/\\n").lookahead(0)
+        1
+        """
+        look = _LIBRARY.bajofeki_lookahead(self._room, mode) if 0 <= mode < self.modes else None
+        if look is None:
+            raise IndexError("there is no such mode")
+        return math.inf if look.code else look.count
 
     def _pieces(self, data):
         """The pieces of the bytes as tuples of Piece's fields, and the rest of a text that goes too deep as one of the kind 3."""

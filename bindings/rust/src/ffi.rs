@@ -41,6 +41,20 @@ pub struct Place {
     pub column: usize,
 }
 
+#[repr(C)]
+#[derive(Clone, Copy, Debug)]
+pub struct Page {
+    pub code: u32,
+    pub length: usize,
+}
+
+#[repr(C)]
+#[derive(Clone, Copy, Debug)]
+pub struct Look {
+    pub code: u32,
+    pub count: usize,
+}
+
 extern "C" {
     fn bajofeki_lexer_size() -> usize;
     fn bajofeki_cutter_size() -> usize;
@@ -50,6 +64,22 @@ extern "C" {
     fn bajofeki_rules(lexer: *const c_void) -> usize;
     fn bajofeki_name(lexer: *const c_void, rule: usize, out: *mut u8, room: usize) -> usize;
     fn bajofeki_skips(lexer: *const c_void, rule: usize) -> bool;
+    fn bajofeki_modes(lexer: *const c_void) -> usize;
+    fn bajofeki_lookahead(lexer: *const c_void, mode: usize) -> Look;
+    fn bajofeki_html(
+        lexer: *const c_void,
+        text: *const u8,
+        length: usize,
+        out: *mut u8,
+        room: usize,
+    ) -> Page;
+    fn bajofeki_ansi(
+        lexer: *const c_void,
+        text: *const u8,
+        length: usize,
+        out: *mut u8,
+        room: usize,
+    ) -> Page;
     fn bajofeki_free(lexer: *mut c_void);
     fn bajofeki_begin(lexer: *const c_void, cutter: *mut c_void, size: usize) -> u32;
     fn bajofeki_cut(
@@ -63,6 +93,13 @@ extern "C" {
     fn bajofeki_end(cutter: *mut c_void);
     fn bajofeki_position(text: *const u8, length: usize, at: usize) -> Place;
     fn bajofeki_version() -> u32;
+}
+
+/// How a text is shown.
+#[derive(Clone, Copy, Debug)]
+pub enum Markup {
+    Html,
+    Ansi,
 }
 
 /// Room of this many bytes at a multiple of 8.
@@ -120,6 +157,45 @@ impl Held {
     pub fn skips(&self, rule: usize) -> bool {
         // SAFETY: as for `report`.
         unsafe { bajofeki_skips(self.at(), rule) }
+    }
+
+    pub fn modes(&self) -> usize {
+        // SAFETY: as for `report`.
+        unsafe { bajofeki_modes(self.at()) }
+    }
+
+    pub fn lookahead(&self, mode: usize) -> Look {
+        // SAFETY: as for `report`.
+        unsafe { bajofeki_lookahead(self.at(), mode) }
+    }
+
+    /// The page of a text: as HTML, or in colours for a terminal.
+    pub fn page(&self, text: &[u8], markup: Markup) -> Result<Vec<u8>, u32> {
+        let mut all = vec![0; 2 * text.len()];
+        loop {
+            // SAFETY: as for `word`; the text's slice is what it is.
+            let page = unsafe {
+                let shows = match markup {
+                    Markup::Html => bajofeki_html,
+                    Markup::Ansi => bajofeki_ansi,
+                };
+                shows(
+                    self.at(),
+                    text.as_ptr(),
+                    text.len(),
+                    all.as_mut_ptr(),
+                    all.len(),
+                )
+            };
+            if page.code != 0 {
+                return Err(page.code);
+            }
+            if page.length <= all.len() {
+                all.truncate(page.length);
+                return Ok(all);
+            }
+            all.resize(page.length, 0);
+        }
     }
 }
 

@@ -32,7 +32,10 @@ pub use items::{Item, Items, Kind};
 pub use places::{Place, Places};
 pub use rules_error::{RulesError, RulesErrorKind};
 
+use std::alloc::{handle_alloc_error, Layout};
 use std::fmt;
+
+use ffi::Markup;
 
 /// A rule of a lexer.
 #[derive(Clone, Debug, PartialEq, Eq)]
@@ -41,6 +44,15 @@ pub struct Rule {
     pub name: String,
     /// Whether its tokens are skipped.
     pub is_skipped: bool,
+}
+
+/// How many characters after a token can leave open whether a longer one comes.
+#[derive(Clone, Copy, Debug, PartialEq, Eq)]
+pub enum Lookahead {
+    /// So many, and no more.
+    AtMost(usize),
+    /// Any number of them.
+    Unbounded,
 }
 
 /// A lexer. Threads may share it: it is only read.
@@ -109,6 +121,60 @@ impl Lexer {
     /// It takes time linear in the text, and some memory for each byte of it. If that is refused, it ends the process as `Vec` does.
     pub fn items<'a>(&'a self, text: &'a str) -> Items<'a> {
         Items::new(self, text)
+    }
+
+    /// The text as HTML: each token in a `span` whose class is the name of its rule, each fault in a `mark`, and skipped tokens in
+    /// neither. Memory is as for [`Lexer::items`].
+    ///
+    /// ```
+    /// let lexer = bajofeki::Lexer::new("A = 'a'\nLESS skip = '<'\n")?;
+    /// assert_eq!(lexer.html("a<?"), r#"<span class="A">a</span>&lt;<mark>?</mark>"#);
+    /// # Ok::<(), bajofeki::RulesError>(())
+    /// ```
+    pub fn html(&self, text: &str) -> String {
+        self.page(text, Markup::Html)
+    }
+
+    /// The text in colours for a terminal, by escape sequences. It can't control the terminal. Memory is as for [`Lexer::items`].
+    ///
+    /// ```
+    /// let lexer = bajofeki::Lexer::new("A = 'a'\n")?;
+    /// assert_eq!(lexer.ansi("a"), "\x1b[31ma\x1b[0m");
+    /// # Ok::<(), bajofeki::RulesError>(())
+    /// ```
+    pub fn ansi(&self, text: &str) -> String {
+        self.page(text, Markup::Ansi)
+    }
+
+    fn page(&self, text: &str, markup: Markup) -> String {
+        match self.held.page(text.as_bytes(), markup) {
+            Ok(page) => String::from_utf8_lossy(&page).into_owned(),
+            Err(_) => handle_alloc_error(Layout::for_value(text)),
+        }
+    }
+
+    /// How many modes there are. They are numbered from 0, in the order in which the file first names them.
+    pub fn modes(&self) -> usize {
+        self.held.modes()
+    }
+
+    /// How many characters after a token of this mode can leave open whether a longer one comes; `None` if there is no such mode.
+    ///
+    /// ```
+    /// use bajofeki::{Lexer, Lookahead};
+    ///
+    /// let lexer = Lexer::new("A = /a(bc)?/\n")?;
+    /// assert_eq!(lexer.lookahead(0), Some(Lookahead::AtMost(1)));
+    /// assert_eq!(lexer.lookahead(1), None);
+    /// # Ok::<(), bajofeki::RulesError>(())
+    /// ```
+    pub fn lookahead(&self, mode: usize) -> Option<Lookahead> {
+        let look = self.held.lookahead(mode);
+        match look.code {
+            0 => Some(Lookahead::AtMost(look.count)),
+            1 => Some(Lookahead::Unbounded),
+            _ => None,
+        }
     }
 }
 

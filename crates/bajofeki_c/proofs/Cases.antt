@@ -2,6 +2,8 @@
 mod Built
 mod Report
 mod Rules
+mod Look
+mod Page
 mod Cutting
 mod Cut
 mod Place

@@ -1,3 +1,4 @@
 mod Cases
 pub mod Walking
 pub mod Seen
+pub mod Pages

@@ -1,6 +1,6 @@
 -- cases: proofs/Cases/Built.antt
 -- What becomes of a file of rules: a lexer, or why there is none.
-use Rattle.std.specs.Prelude.{◌≡◌, ◌⊎◌, ℕ, List, length, map, string_bytes, slice_get, Option, Some, None, Result, Ok, Err}
+use Rattle.std.specs.Prelude.{◌≡◌, ◌⊎◌, ℕ, List, length, map, slice_get, Option, Some, None, Result, Ok, Err}
 use Rattle.lalrpop_emit.specs.EmitErrors.{IsNumbersError}
 use Rattle.lalrpop_emit.specs.NumberedRules.{AreNumbersOf}
 use Rattle.lalrpop_lexer.specs.Lines.{lines}
@@ -49,10 +49,9 @@ pub record AreGiven (file : RuleFile) (rs : List ModeRule) : Type 0 where
   pub modes : map (λ r. r.modes.now) rs ≡ map (λ r. r.modes.items) file.rules.items
   pub actions : map (λ r. r.actions.now) rs ≡ map (λ r. r.actions.items) file.rules.items
 
--- this is kept of the lexer of these rules
+-- the lexer of these rules
 pub record IsBuiltOf (r : ModeRules) (l : BuiltLexer) : Type 0 where
-  pub names : map string_bytes l.names.items ≡ r.names
-  pub skips : l.skips.items ≡ r.skips
+  pub rules : l.rules ≡ r
   pub numbers : AreNumbersOf r l.numbers
 
 -- these are the rules of the file, and in no mode is a word ambiguous

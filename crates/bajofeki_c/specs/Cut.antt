@@ -36,7 +36,7 @@ pub record AreFilled (l : BuiltLexer) (text : List ℕ) (c : ByteCut) (before : 
   pub pieces : List NumberedPiece
   pub between : (r : ModeRules) → AreNumbersOf r l.numbers → AreBetween r l.numbers.kinds text c pieces d
   pub count : n ≡ length pieces
-  pub front : take n after ≡ map (told l.skips.items) pieces
+  pub front : take n after ≡ map (told l.rules.skips) pieces
   pub behind : drop n after ≡ drop n before
 
 -- why no more are written: the text is at its end; the array is full, and text is left; or the next token goes too deep

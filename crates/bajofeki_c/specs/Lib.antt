@@ -1,6 +1,8 @@
 pub mod Built
 pub mod Report
 pub mod Rules
+pub mod Look
+pub mod Page
 pub mod Cutting
 pub mod Cut
 pub mod Room

@@ -1,6 +1,6 @@
 -- cases: proofs/Cases/Rules.antt
 -- The rules of a lexer, and the word of a clash.
-use Rattle.std.specs.Prelude.{◌≡◌, ℕ, Bool, false, List, [], length, take, drop, map, string_bytes, slice_get, Option, Some, None, Result, Ok, Err}
+use Rattle.std.specs.Prelude.{◌≡◌, ℕ, Bool, false, List, [], length, take, drop, slice_get, Option, Some, None, Result, Ok, Err}
 use Rattle.lalrpop_modes.specs.declared.error.ModesError.{ModesError}
 use Rattle.lalrpop_modes.specs.declared.error.ModesError.TheVariants.{Clash}
 use Rattle.bajofeki_c.specs.declared.held.BuildError.{BuildError}
@@ -24,7 +24,7 @@ abbrev pub is_skipped : List Bool → ℕ → Bool
 is_skipped skips i = or_false (slice_get skips i)
 
 abbrev pub skips_in : Result BuiltLexer BuildError → ℕ → Bool
-skips_in (Ok l) i = is_skipped l.skips.items i
+skips_in (Ok l) i = is_skipped l.rules.skips i
 skips_in (Err e) i = false
 
 abbrev pub skips_rule : Held → ℕ → Bool
@@ -37,7 +37,7 @@ or_none None = []
 or_none (Some name) = name
 
 abbrev pub name_in : Result BuiltLexer BuildError → ℕ → List ℕ
-name_in (Ok l) i = or_none (slice_get (map string_bytes l.names.items) i)
+name_in (Ok l) i = or_none (slice_get l.rules.names i)
 name_in (Err e) i = []
 
 -- the name of the rule with this number
@@ -45,7 +45,7 @@ abbrev pub name_of : Held → ℕ → List ℕ
 name_of h i = name_in h.made i
 
 abbrev pub count_in : Result BuiltLexer BuildError → ℕ
-count_in (Ok l) = length l.names.items
+count_in (Ok l) = length l.rules.names
 count_in (Err e) = 0
 
 -- how many rules there are

@@ -60,7 +60,7 @@ fn fill(lexer: &BuiltLexer, cutter: &mut ByteCutter, text: &[u8], out: &mut [Pie
     'filling: while count < out.len() {
         match cutter.next_piece(&lexer.numbers, text) {
             Ok(Some(piece)) => {
-                out[count] = told(&lexer.skips, &piece);
+                out[count] = told(lexer.rules.skips(), &piece);
                 count += 1;
             }
             Ok(None) => {

@@ -1,5 +1,5 @@
 //! What lies in the room that a program lends: a lexer, or why there is none.
-ghost use Rattle.std.specs.Prelude.{◌≡◌, ◌<◌, length, map, string_bytes, IfOk, IfErr};
+ghost use Rattle.std.specs.Prelude.{◌≡◌, ◌<◌, length, IfOk, IfErr};
 ghost use Rattle.lalrpop_emit.specs.EmitErrors.{IsNumbersError};
 ghost use Rattle.bajofeki_c.specs.Built.{IsBuiltOf, IsBuiltFor, IsFreed, IsMade, place_at, place_named};
 ghost use Rattle.bajofeki_c.specs.declared.held.BuildError.TheVariants.{File, Numbers};
@@ -8,15 +8,13 @@ use lalrpop_emit::{EmitError, LexerNumbers};
 use lalrpop_lexer::Position;
 use lalrpop_modes::{ModeLexer, ModesError};
 use lalrpop_rule_file::{FileRule, RuleFile, RuleFileError, read_rules};
-use std::alloc::{AllocError, Global};
+use std::alloc::Global;
 
 /// The lexer of a file's rules, as it is kept between calls.
 #[derive(Drop)]
 pub struct BuiltLexer {
-    /// The names of the rules, in the order of their lines.
-    pub names: Vec<String>,
-    /// For each rule, whether it is skipped.
-    pub skips: Vec<bool>,
+    /// The rules, in the order of their lines, and the automata of their modes.
+    pub rules: ModeLexer,
     /// By these numbers texts are cut.
     pub numbers: LexerNumbers,
 }
@@ -81,30 +79,13 @@ fn place_of_error(rules: &[FileRule<'_>], error: &ModesError) -> Position
     }
 }
 
-// The names once more.
-fn copied_names(alloc: Global, names: &[String]) -> Result<Vec<String>, AllocError>
-    ensures names { IfOk result (λ all. map string_bytes all.items ≡ map string_bytes names.now) }
+// The lexer with its numbers.
+fn numbered(alloc: Global, rules: ModeLexer) -> Result<BuiltLexer, EmitError>
+    ensures built { IfOk result (λ lexer. IsBuiltOf rules lexer) }
+    ensures error { IfErr result (λ e. IsNumbersError rules e) }
 {
-    let mut all = Vec::new(alloc);
-    for name in names {
-        all.push(name.clone()?)?;
-    }
-    Ok(all)
-}
-
-// What is kept of a lexer.
-fn kept(alloc: Global, rules: &ModeLexer) -> Result<BuiltLexer, EmitError>
-    ensures kept { IfOk result (λ lexer. IsBuiltOf rules.now lexer) }
-    ensures error { IfErr result (λ e. IsNumbersError rules.now e) }
-{
-    let numbers = LexerNumbers::new(alloc, rules)?;
-    let names = copied_names(alloc, rules.names())?;
-    let skips = rules.skips().iter().copied().collect(alloc)?;
-    Ok(BuiltLexer {
-        names,
-        skips,
-        numbers,
-    })
+    let numbers = LexerNumbers::new(alloc, &rules)?;
+    Ok(BuiltLexer { rules, numbers })
 }
 
 // The lexer of the rules of the file.
@@ -116,7 +97,7 @@ fn lexer_of(alloc: Global, file: &RuleFile<'_>) -> Result<BuiltLexer, BuildError
         return Err(BuildError::File(RuleFileError::OutOfMemory));
     };
     match ModeLexer::from_rules(alloc, &rules, file.modes.len()) {
-        Ok(lexer) => match kept(alloc, &lexer) {
+        Ok(lexer) => match numbered(alloc, lexer) {
             Ok(lexer) => Ok(lexer),
             Err(error) => Err(BuildError::Numbers(error)),
         },

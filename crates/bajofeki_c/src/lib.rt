@@ -22,6 +22,8 @@
 mod cut;
 mod cutting;
 mod held;
+mod look;
+mod page;
 mod position;
 mod report;
 mod rules;
@@ -29,26 +31,47 @@ mod rules;
 ghost use Rattle.std.specs.Prelude.{◌≡◌};
 ghost use Rattle.std.specs.Borrow.{sem};
 ghost use Rattle.bajofeki_c.specs.Cut.{GoesOn};
+ghost use Rattle.bajofeki_c.specs.Look.{IsLookOf, mode_count};
+ghost use Rattle.bajofeki_c.specs.Page.{IsShown};
 ghost use Rattle.bajofeki_c.specs.Place.{place_in};
 ghost use Rattle.bajofeki_c.specs.Report.{report};
 ghost use Rattle.bajofeki_c.specs.Room.{Cutter, View, begun_at, cut_at, cutting_at, freed_at, held_at, made_at, room_for_cutting, room_for_held, seen_at};
 ghost use Rattle.bajofeki_c.specs.Rules.{IsWritten, count_of, name_of, skips_rule, word_of};
 ghost use Rattle.bajofeki_c.specs.declared.cutting.Cutting.{Cutting as CuttingValue};
 ghost use Rattle.bajofeki_c.specs.declared.held.Held.{Held as HeldValue};
+ghost use Rattle.bajofeki_c.specs.declared.page.Markup.TheVariants.{Ansi, Html};
 
 pub use cut::{Cut, Piece, cut_on};
 pub use cutting::{BeginError, Cutting, begin, code_of, let_cutting_go};
 pub use held::{BuildError, BuiltLexer, Held, let_go, make};
+use lalrpop_emit::{EmitError, LexerNumbers};
+use lalrpop_modes::{ModeLexer, ModesError};
+use lalrpop_rule_file::RuleFileError;
+pub use look::{Look, look_of, modes_of};
+pub use page::{Markup, Page, ansi_into, html_into};
 pub use position::{Place, place_of};
 pub use report::{Report, report_of};
 pub use rules::{is_rule_skipped, name_into, rule_count, word_into};
 use std::alloc::Global;
 
-// A lexer and a cut may go to another thread, and several threads may see one.
+// What a lexer and a cut are made of may go to another thread, and several threads may see it.
 fn may_go_to_threads<T: Send + Sync>() {}
 
-fn all_may_go_to_threads() {
-    may_go_to_threads::<Held>();
+fn rules_may_go_to_threads() {
+    may_go_to_threads::<ModeLexer>();
+}
+
+fn numbers_may_go_to_threads() {
+    may_go_to_threads::<LexerNumbers>();
+}
+
+fn errors_may_go_to_threads() {
+    may_go_to_threads::<RuleFileError>();
+    may_go_to_threads::<ModesError>();
+    may_go_to_threads::<EmitError>();
+}
+
+fn cuts_may_go_to_threads() {
     may_go_to_threads::<Cutting>();
 }
 
@@ -127,6 +150,61 @@ pub unsafe extern "C" fn bajofeki_skips(lexer: *const u8, rule: usize) -> bool
     ensures skipped { result ≡ skips_rule view.held rule }
 {
     is_rule_skipped(&*(lexer as *const Held), rule)
+}
+
+/// How many modes there are: 0 if there is no lexer.
+#[unsafe(no_mangle)]
+pub unsafe extern "C" fn bajofeki_modes(lexer: *const u8) -> usize
+    ghost view: { View }
+    requires* seen { sem 𝓛 (seen_at lexer view) }
+    ensures* seen { sem 𝓛 (seen_at lexer view) }
+    ensures count { result ≡ mode_count view.held }
+{
+    modes_of(&*(lexer as *const Held))
+}
+
+/// How many characters after a token of this mode can leave open whether a longer one comes. Modes are numbered from 0, in the
+/// order in which the file first names them; a rule above the first section names INITIAL.
+#[unsafe(no_mangle)]
+pub unsafe extern "C" fn bajofeki_lookahead(lexer: *const u8, mode: usize) -> Look
+    ghost view: { View }
+    requires* seen { sem 𝓛 (seen_at lexer view) }
+    ensures* seen { sem 𝓛 (seen_at lexer view) }
+    ensures look { IsLookOf view.held mode result }
+{
+    look_of(&*(lexer as *const Held), mode)
+}
+
+/// Writes a whole text as HTML, as many bytes as fit, and says how many there are. Faults and skipped tokens are among its pieces.
+#[unsafe(no_mangle)]
+pub unsafe extern "C" fn bajofeki_html(
+    lexer: *const u8,
+    alloc: Global,
+    text: &[u8],
+    out: &mut [u8],
+) -> Page
+    ghost view: { View }
+    requires* seen { sem 𝓛 (seen_at lexer view) }
+    ensures* seen { sem 𝓛 (seen_at lexer view) }
+    ensures shown { IsShown view.held Html text.now out.old result out.new }
+{
+    html_into(&*(lexer as *const Held), alloc, text, out)
+}
+
+/// The same in colours for a terminal.
+#[unsafe(no_mangle)]
+pub unsafe extern "C" fn bajofeki_ansi(
+    lexer: *const u8,
+    alloc: Global,
+    text: &[u8],
+    out: &mut [u8],
+) -> Page
+    ghost view: { View }
+    requires* seen { sem 𝓛 (seen_at lexer view) }
+    ensures* seen { sem 𝓛 (seen_at lexer view) }
+    ensures shown { IsShown view.held Ansi text.now out.old result out.new }
+{
+    ansi_into(&*(lexer as *const Held), alloc, text, out)
 }
 
 /// Gives the memory of a lexer back. What lies there then says so, and owns nothing, so the room can be given back as it is.

@@ -5,8 +5,8 @@ ghost use Rattle.bajofeki_c.specs.Rules.{IsWritten, count_of, is_skipped as is_s
 use crate::held::{BuildError, Held};
 use lalrpop_modes::ModesError;
 
-// Writes as many values as fit, and says how many there are.
-fn write_to<T: Copy>(values: &[T], out: &mut [T]) -> usize
+/// Writes as many values as fit, and says how many there are.
+pub(crate) fn write_to<T: Copy>(values: &[T], out: &mut [T]) -> usize
     ensures written { IsWritten values.now out.old out.new result }
 {
     let count = values.len().min(out.len());
@@ -44,7 +44,7 @@ fn rule_name(held: &Held, rule: usize) -> &str
     ensures name { result.now ≡ name_bytes held.now rule }
 {
     match &held.made {
-        Ok(lexer) => match lexer.names.get(rule) {
+        Ok(lexer) => match lexer.rules.names().get(rule) {
             Some(name) => name.as_str(),
             None => "",
         },
@@ -64,7 +64,7 @@ pub fn rule_count(held: &Held) -> usize
     ensures count { result ≡ count_of held.now }
 {
     match &held.made {
-        Ok(lexer) => lexer.names.len(),
+        Ok(lexer) => lexer.rules.names().len(),
         Err(_) => 0,
     }
 }
@@ -81,7 +81,7 @@ pub fn is_rule_skipped(held: &Held, rule: usize) -> bool
     ensures skipped { result ≡ skips_rule held.now rule }
 {
     match &held.made {
-        Ok(lexer) => is_skipped(&lexer.skips, rule),
+        Ok(lexer) => is_skipped(lexer.rules.skips(), rule),
         Err(_) => false,
     }
 }

@@ -43,8 +43,8 @@ module _ (l : BuiltLexer) (c : ByteCut) where
 
   no_more_are_counted_than_written : ¬ AreFilled l [] c [] 1 [] c
   no_more_are_counted_than_written filled =
-      let none : 0 ≡ length (map (told l.skips.items) filled.pieces) = ap length filled.front in
-      omega (arith, none, filled.count, length-map filled.pieces (told l.skips.items))
+      let none : 0 ≡ length (map (told l.rules.skips) filled.pieces) = ap length filled.front in
+      omega (arith, none, filled.count, length-map filled.pieces (told l.rules.skips))
 
 abbrev cut_none : ℕ → Cut
 cut_none code = record { code = code; count = 0; end = 0 }

@@ -1,5 +1,5 @@
 -- The lexer is lent on, what begins is written, and lent to a function that says how it begins.
-use Rattle.bajofeki_c.proofs.Walking.{◌≡◌, ℕ, [], ◌∷◌, refl, w64, proved, full_share, id⊢, Lft, Incl-refl, ftrue, flft, flent, fsep, fex, froom, named, vptr, vint, fact, tables, ‵, raw, ◌⊛◌, some, later, prop, ◌$◌, ◌∵◌, !, qed, done, move, drop, use1, use2, split, fsplit, join, fjoin, fpack, pick, await, regoal, suffices, group, enter, of_opd, addr, init, assigns, stop, no_more, and_then, returns, alloc_all, pass_all, free_all, look_at, get, through, sets, lands_as, lft_new, lft_end, lent_back, usize, yes, Is, shows, lends_shr, part_at, part_in, lone, uint_vals, uint_Tells, uint_Lawful, Ptr, RawPtr, block_ptr, in_a_block, rawptr_vals, rawptr_Tells, ShrRef, plain, nothing, heard, peeks, calls_at, lasts, triple_of, Stays, walk_of, says, stay_dropped, Goes-dropped, ends_at, framed, WpFn, ⊑_static}
+use Rattle.bajofeki_c.proofs.Walking.{◌≡◌, ℕ, [], ◌∷◌, refl, w64, proved, full_share, id⊢, Lft, Incl-refl, ftrue, flft, flent, fsep, fex, froom, named, vptr, vint, fact, tables, ‵, raw, ◌⊛◌, some, later, prop, ◌$◌, ◌∵◌, !, qed, done, move, drop, use1, use2, split, fsplit, join, fjoin, fpack, pick, await, regoal, suffices, group, enter, of_opd, addr, init, assigns, stop, no_more, and_then, returns, alloc_all, pass_all, free_all, look_at, get, through, sets, lands_as, lft_new, lft_end, lent_back, usize, yes, Is, shows, lends_shr, part_at, part_in, lone, uint_vals, uint_Tells, uint_Lawful, Ptr, RawPtr, block_ptr, in_a_block, rawptr_vals, rawptr_Tells, ShrRef, plain, nothing, heard, peeks, calls_at, lasts, triple_of, Stays, walk_of, stay_dropped, Goes-dropped, ends_at, framed, WpFn, ⊑_static}
 use Rattle.std.proofs.Common.{◌++◌, w32}
 use denote.Builtin.{u32}
 use denote.RattleType.{owns}

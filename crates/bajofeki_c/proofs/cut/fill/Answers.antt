@@ -19,9 +19,9 @@ filling-preserved c =
         between = λ r are. given_more r n.kinds c.args.text.now _ _ i.pieces c.filling.cutter c.next_piece.new.self (i.between r are) x
             (subst (λ (o : Option NumberedPiece). GivesBytePiece r n.kinds c.args.text.now c.filling.cutter o c.next_piece.new.self) c.in-Ok-Some.field-0-is (c.in-Ok-Some.ensures.gives r are));
         count = omega (arith, i.count, length-append i.pieces (x ∷ []));
-        front = let is : c.told.result ≡ told c.args.lexer.now.skips.items x = c.told.ensures.told ∙ ap (λ skips. told skips x) c.deref.ensures.value in
+        front = let is : c.told.result ≡ told c.args.lexer.now.rules.skips x = c.told.ensures.told ∙ ap (λ skips. told skips x) c.skips.ensures.skips in
             take_more_set c.filling.out c.filling.count c.told.result c.filling-test.true ∙ ap (λ first. first ++ c.told.result ∷ []) i.front
-            ∙ ap (λ s. map (told c.args.lexer.now.skips.items) i.pieces ++ s ∷ []) is ∙ sym (map-append (told c.args.lexer.now.skips.items) i.pieces (x ∷ []));
+            ∙ ap (λ s. map (told c.args.lexer.now.rules.skips) i.pieces ++ s ∷ []) is ∙ sym (map-append (told c.args.lexer.now.rules.skips) i.pieces (x ∷ []));
         behind = drop-set-lt (c.filling.count + 1) c.filling.out c.filling.count c.told.result (omega arith)
             ∙ drop_more_same c.filling.out _ c.filling.count i.behind;
       };
