@@ -95,7 +95,7 @@ typedef struct {
 } bajofeki_cut_t;
 
 typedef struct {
-    size_t at; /* the offset; of an offset past the end that of the end */
+    size_t at; /* the offset, or the text's end if that comes first */
     size_t line;
     size_t column;
 } bajofeki_place_t;
@@ -124,7 +124,8 @@ typedef struct {
 size_t bajofeki_lexer_size(void);
 size_t bajofeki_cutter_size(void);
 
-/* Builds a lexer, or what says why there is none, in the room. Either way it takes memory until bajofeki_free. */
+/* Builds a lexer, or what says why there is none, in the room. Either way it takes memory until bajofeki_free. Nothing bounds how much
+   rules may ask for: /a{1000}{1000}{1000}/ takes more than 10 GB. */
 void bajofeki_build(bajofeki_lexer *lexer, const char *rules, size_t length);
 
 bajofeki_report_t bajofeki_report(const bajofeki_lexer *lexer);

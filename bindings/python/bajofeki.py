@@ -101,7 +101,7 @@ class RulesError(ValueError):
     kind      a RulesErrorKind
     line      where the line is wrong, or where the text of the rule begins, from 1
     column    the column there, from 1, in characters
-    rule      the name of the rule; of a clash that of the later one
+    rule      the name of the rule; in a clash, of the later one
     other     the name of the earlier rule of a clash
     word      the least word on which they clash; it may have surrogates
     position  where in the rule's text it stops to parse, in bytes
