@@ -1,8 +1,8 @@
 //! The pairs of states that the texts lead to in two automata, by breadth first search.
-ghost use Rattle.std.specs.Prelude.{◌≡◌, ℕ, ◌<◌, ◌≤◌, ◌+◌, List, [], Some, length, slice_get, IfOk, IfSome, IfNone, IsTrue, OnOk, MatchOption, not, true};
+ghost use Rattle.std.specs.Prelude.{◌≡◌, ℕ, ◌<◌, ◌≤◌, ◌+◌, List, [], Some, length, slice_get, IfOk, IfSome, IfNone, OnOk, MatchOption, not, true};
 ghost use Rattle.lalrpop_dfa.specs.Dfa.{Row, edge_target, AreAscendingTests};
 ghost use Rattle.lalrpop_dfa.specs.Internal.Stored.{EndBefore};
-ghost use Rattle.lalrpop_verdicts.specs.Internal.Pairs.{ArePairs, ends_at, is_character, number_of, AreAlike, AreEdges, AreMet, HaveSameEdges, IsAdded, IsLastCharacter, IsNextCharacter, IsTaken, IsTurn};
+ghost use Rattle.lalrpop_verdicts.specs.Internal.Pairs.{ArePairs, ends_at, is_character, number_of, AreEdges, AreMet, IsAdded, IsLastCharacter, IsNextCharacter, IsTaken, IsTurn};
 
 use lalrpop_dfa::{Dfa, DfaStateIndex, Kind, START};
 use lalrpop_nfa::Test;
@@ -193,39 +193,6 @@ struct Turn<'given> {
     from: Option<usize>,
     left: Edges<'given>,
     right: Edges<'given>,
-    /// Whether both states have the same edges, as in a walk over one automaton beside itself.
-    are_alike: bool,
-}
-
-// Whether these states have the same edges.
-fn are_alike(left: &Dfa, p: DfaStateIndex, right: &Dfa, q: DfaStateIndex) -> bool
-    requires left_within { p < length left.now }
-    requires right_within { q < length right.now }
-    ensures { IsTrue result → AreAlike left.now p right.now q }
-{
-    left.state(p).other_edge().index() == right.state(q).other_edge().index()
-        && left.test_edges(p) == right.test_edges(q)
-}
-
-// The values from this one on that lead to one state of the right automaton. `left` is the stretch of the left one.
-#[inline(always)]
-fn right_stretch(turn: &Turn<'_>, place: &mut usize, value: u32, left: &Stretch) -> Stretch
-    requires ascending { AreAscendingTests turn.now.right.tests.now }
-    requires passed { EndBefore turn.now.right.tests.now place.old value }
-    requires alike { IsTrue turn.now.are_alike → HaveSameEdges turn.now.left.tests.now
-        turn.now.left.other turn.now.right.tests.now turn.now.right.other }
-    requires left_leads { (c : ℕ) → value ≤ c → c ≤ left.now.last
-        → edge_target turn.now.left.tests.now turn.now.left.other c ≡ left.now.target }
-    requires left_some { value ≤ left.now.last }
-    ensures leads { (c : ℕ) → value ≤ c → c ≤ result.last
-        → edge_target turn.now.right.tests.now turn.now.right.other c ≡ result.target }
-    ensures some { value ≤ result.last }
-    ensures passed { EndBefore turn.now.right.tests.now place.new value }
-{
-    if turn.are_alike {
-        return *left;
-    }
-    stretch_at(turn.right.tests, turn.right.other, place, value)
 }
 
 /// A walk over the pairs of two automata.
@@ -251,8 +218,6 @@ impl<'given> Walk<'given> {
             turn.now.left.state turn.now.left.tests.now turn.now.left.other }
         requires right_edges { AreEdges self.right.now
             turn.now.right.state turn.now.right.tests.now turn.now.right.other }
-        requires alike { IsTrue turn.now.are_alike → HaveSameEdges turn.now.left.tests.now
-            turn.now.left.other turn.now.right.tests.now turn.now.right.other }
         requires known { AreMet met.old.states.keys met.old.latest met.old.pairs.items }
         requires character { is_character value ≡ true }
         requires left_passed { EndBefore turn.now.left.tests.now passed.old.left value }
@@ -279,7 +244,7 @@ impl<'given> Walk<'given> {
         if !self.follow.goes_on(self.left, left.target) {
             return Ok(next_character(left.last));
         }
-        let right = right_stretch(turn, &mut passed.right, value, &left);
+        let right = stretch_at(turn.right.tests, turn.right.other, &mut passed.right, value);
         met.add(Pair {
             left: left.target,
             right: right.target,
@@ -312,7 +277,6 @@ impl<'given> Walk<'given> {
             from,
             left: edges_of(self.left, left),
             right: edges_of(self.right, right),
-            are_alike: are_alike(self.left, left, self.right, right),
         };
         let mut passed = Passed { left: 0, right: 0 };
         let mut value = 0;

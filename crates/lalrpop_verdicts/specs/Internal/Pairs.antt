@@ -139,15 +139,6 @@ pub record AreEdges (d : List Row) (p : ℕ) (tests : List (Range × ℕ)) (othe
   pub well_formed : IsWellFormed d
   pub within : p < length d
 
--- they are the same edges
-abbrev pub HaveSameEdges : List (Range × ℕ) → ℕ → List (Range × ℕ) → ℕ → Type 0
-HaveSameEdges tests other tests2 other2 = (tests ≡ tests2) × (other ≡ other2)
-
--- the states p and q have the same edges
-abbrev pub AreAlike : List Row → ℕ → List Row → ℕ → Type 0
-AreAlike l p r q =
-    (tests tests2 : List (Range × ℕ)) (other other2 : ℕ) → AreEdges l p tests other → AreEdges r q tests2 other2 → HaveSameEdges tests other tests2 other2
-
 -- the keys are the states of the pairs
 abbrev pub AreKnown : List (ℕ × ℕ) → List Pair → Type 0
 AreKnown keys pairs = (p q : ℕ) → (list_any (λ k. nat_eq p k.0 && nat_eq q k.1) keys ≡ true) ↔ HasStates pairs p q

@@ -47,13 +47,13 @@ returns-clause-turn c =
     let turn = c.args.turn.now in
     let n = number_of turn.from in
     let last = c.min.result in
-    let x : Pair = record { left = c.stretch_at-left.result.target; right = c.right_stretch-right.result.target; from = turn.from; value = c.args.value } in
+    let x : Pair = record { left = c.stretch_at-left.result.target; right = c.stretch_at-right.result.target; from = turn.from; value = c.args.value } in
     let on : ends_at follow l x.left ≡ false = not_true (ends_at follow l x.left) c.if-not-goes_on.ensures in
     let left_last : last ≤ c.stretch_at-left.result.last = omega (arith, c.min.ensures) in
-    let right_last : last ≤ c.right_stretch-right.result.last = omega (arith, c.min.ensures) in
-    let some : c.args.value ≤ last = omega (arith, c.min.ensures, c.stretch_at-left.ensures.some, c.right_stretch-right.ensures.some) in
+    let right_last : last ≤ c.stretch_at-right.result.last = omega (arith, c.min.ensures) in
+    let some : c.args.value ≤ last = omega (arith, c.min.ensures, c.stretch_at-left.ensures.some, c.stretch_at-right.ensures.some) in
     let leads_left = edges_lead l turn.left.state turn.left.tests.now turn.left.other c.args.value c.stretch_at-left.result.last c.stretch_at-left.result.target c.requires.left_edges c.stretch_at-left.ensures.leads in
-    let leads_right = edges_lead r turn.right.state turn.right.tests.now turn.right.other c.args.value c.right_stretch-right.result.last c.right_stretch-right.result.target c.requires.right_edges c.right_stretch-right.ensures.leads in
+    let leads_right = edges_lead r turn.right.state turn.right.tests.now turn.right.other c.args.value c.stretch_at-right.result.last c.stretch_at-right.result.target c.requires.right_edges c.stretch_at-right.ensures.leads in
     let added = turn_add follow l r c.args.met.now.pairs.items n turn.left.state turn.right.state c.args.value c.requires.turn x refl refl c.requires.character on last some
     (λ k a b. leads_left k a (omega arith)) (λ k a b. leads_right k a (omega arith)) c.add.new.self.pairs.items c.in_ok-add.ensures.added in
     turn_next follow l r c.add.new.self.pairs.items n turn.left.state turn.right.state last added c.next_character-2.result c.next_character-2.ensures
@@ -66,13 +66,13 @@ returns-clause-done c =
     let turn = c.args.turn.now in
     let n = number_of turn.from in
     let last = c.min.result in
-    let x : Pair = record { left = c.stretch_at-left.result.target; right = c.right_stretch-right.result.target; from = turn.from; value = c.args.value } in
+    let x : Pair = record { left = c.stretch_at-left.result.target; right = c.stretch_at-right.result.target; from = turn.from; value = c.args.value } in
     let on : ends_at follow l x.left ≡ false = not_true (ends_at follow l x.left) c.if-not-goes_on.ensures in
     let left_last : last ≤ c.stretch_at-left.result.last = omega (arith, c.min.ensures) in
-    let right_last : last ≤ c.right_stretch-right.result.last = omega (arith, c.min.ensures) in
-    let some : c.args.value ≤ last = omega (arith, c.min.ensures, c.stretch_at-left.ensures.some, c.right_stretch-right.ensures.some) in
+    let right_last : last ≤ c.stretch_at-right.result.last = omega (arith, c.min.ensures) in
+    let some : c.args.value ≤ last = omega (arith, c.min.ensures, c.stretch_at-left.ensures.some, c.stretch_at-right.ensures.some) in
     let leads_left = edges_lead l turn.left.state turn.left.tests.now turn.left.other c.args.value c.stretch_at-left.result.last c.stretch_at-left.result.target c.requires.left_edges c.stretch_at-left.ensures.leads in
-    let leads_right = edges_lead r turn.right.state turn.right.tests.now turn.right.other c.args.value c.right_stretch-right.result.last c.right_stretch-right.result.target c.requires.right_edges c.right_stretch-right.ensures.leads in
+    let leads_right = edges_lead r turn.right.state turn.right.tests.now turn.right.other c.args.value c.stretch_at-right.result.last c.stretch_at-right.result.target c.requires.right_edges c.stretch_at-right.ensures.leads in
     let added = turn_add follow l r c.args.met.now.pairs.items n turn.left.state turn.right.state c.args.value c.requires.turn x refl refl c.requires.character on last some
     (λ k a b. leads_left k a (omega arith)) (λ k a b. leads_right k a (omega arith)) c.add.new.self.pairs.items c.in_ok-add.ensures.added in
     turn_over follow l r c.add.new.self.pairs.items n turn.left.state turn.right.state last added c.next_character-2.result c.next_character-2.ensures
