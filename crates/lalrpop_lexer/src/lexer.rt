@@ -7,7 +7,7 @@ ghost use Rattle.lalrpop_book.specs.Clash.{NoClash};
 ghost use Rattle.lalrpop_book.specs.Report.{NoFault, IsReport};
 ghost use Rattle.lalrpop_book.specs.Longest.{IsLongest};
 ghost use Rattle.lalrpop_book.specs.Winners.{IsOnlyStrongest, Matched};
-ghost use Rattle.lalrpop_dfa.specs.Lookahead.{IsLookahead, LooksAtMost, StaysOpenEver};
+ghost use Rattle.lalrpop_dfa.specs.Lookahead.{IsLookahead, LooksAtMost, StaysOpenEver, IsTrim};
 ghost use Rattle.lalrpop_dfa.specs.Witness.{IsOpenMatch, IsWitness};
 ghost use Rattle.lalrpop_lexer.specs.Matching.{open_states};
 ghost use Rattle.lalrpop_lexer.specs.Cutting.{start_of, rest_of};
@@ -127,6 +127,7 @@ impl Lexer {
     pub fn dense(&self) -> &DenseDfa
         ensures same { result.now ≡ self.now.automaton }
         ensures built { IsBuiltFrom self.now.trees self.now.precedences result.now }
+        ensures trim { IsTrim result.now }
     {
         &self.dense
     }

@@ -18,3 +18,5 @@ pub mod MarkedModes
 -- the lexers of modes, one after another
 pub mod ModeByMode
 pub mod ClashLists
+-- stacks that are the same
+mod SameStacks

@@ -157,6 +157,9 @@ impl ModeLexer {
     /// How many modes there are.
     pub fn modes(&self) -> usize
         ensures count { result ≡ self.now.modes }
+        ensures some { 0 < result }
+        ensures within { (i m : ℕ) → OneLeadsInto (actions_of self.now.actions i) m
+            → m < self.now.modes }
     {
         self.lexers.len()
     }

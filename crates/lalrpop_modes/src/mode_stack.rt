@@ -1,6 +1,8 @@
 //! The stack of modes.
 
-ghost use Rattle.std.specs.Prelude.{◌≡◌, ◌<◌, ◌≤◌, ◌+◌, length, reverse, vec_len, vec_capacity, IfOk, OnOk, OnErr};
+ghost use Rattle.std.specs.Prelude.{◌≡◌, ◌↔◌, ◌<◌, ◌≤◌, ◌+◌, ◌&&◌, IsTrue, length, nat_eq, reverse, vec_len, vec_capacity, IfOk, OnOk, OnErr};
+ghost use Rattle.std.specs.Cmp.{partial_equiv_from_equiv, and_equiv, on_equiv, nat_eq_equiv};
+ghost use Rattle.std.specs.Cmp.Lexicographic.{pointwise, nat_list_eq_equiv};
 ghost use Rattle.lalrpop_modes.specs.Internal.Cutting.{CutsNext, IsSoughtNext, HasAtMost, after_next};
 ghost use Rattle.lalrpop_modes.specs.Modes.{EachMode};
 ghost use Rattle.lalrpop_modes.specs.Stack.{start, act, act_all};
@@ -11,7 +13,8 @@ use lalrpop_rules::Item;
 use std::alloc::{AllocError, Global};
 use std::marker::Model;
 
-/// The mode on top, in which the text is read, and the modes below it. So it is never empty.
+/// The mode on top, in which the text is read, and the modes below it. So it is never empty. Two stacks are equal if their
+/// modes are, from the one on top to the last.
 ///
 /// ```
 /// use lalrpop_modes::{Action, ModeStack};
@@ -19,6 +22,11 @@ use std::marker::Model;
 /// let mut stack = ModeStack::new(alloc);
 /// stack.act_all(&[Action::Push(1), Action::Push(2), Action::Pop])?;
 /// let mode = stack.top(); // 1
+/// let below = stack.depth(); // 1
+///
+/// let mut other = stack.clone()?;
+/// other.act(&Action::Push(1))?;
+/// let is_same = other == stack; // false
 /// ```
 #[derive(Debug, Drop)]
 pub struct ModeStack {
@@ -92,6 +100,13 @@ impl ModeStack {
         self.top
     }
 
+    /// How many modes lie below the one on top.
+    pub fn depth(&self) -> usize
+        ensures depth { result ≡ length self.now.below }
+    {
+        self.below.len()
+    }
+
     /// Does the action.
     ///
     /// # Errors
@@ -151,4 +166,34 @@ impl ModeStack {
             None => Ok(None),
         }
     }
+}
+
+impl Clone for ModeStack {
+    ghost is_clone = { λ stack copy. copy ≡ stack };
+
+    fn clone(&self) -> Result<ModeStack, AllocError> {
+        Ok(ModeStack {
+            top: self.top,
+            below: self.below.clone()?,
+        })
+    }
+}
+
+impl PartialEq for ModeStack {
+    ghost eq = { λ s t. nat_eq s.mode t.mode && pointwise nat_eq s.below t.below };
+
+    ghost laws = { partial_equiv_from_equiv (and_equiv (on_equiv (λ s. s.mode) nat_eq_equiv)
+        (on_equiv (λ s. s.below) nat_list_eq_equiv)) };
+
+    /// Whether the modes on top are equal, and so are those below, each at its place.
+    fn eq(&self, other: &ModeStack) -> bool
+        ensures same { IsTrue result ↔ (self.now ≡ other.now) }
+    {
+        self.top == other.top && self.below == other.below
+    }
+}
+
+impl Eq for ModeStack {
+    ghost laws = { and_equiv (on_equiv (λ s. s.mode) nat_eq_equiv)
+        (on_equiv (λ s. s.below) nat_list_eq_equiv) };
 }
