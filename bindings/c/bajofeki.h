@@ -74,10 +74,12 @@ typedef struct bajofeki_cutter bajofeki_cutter;
 /* What became of the rules. Numbers that a code doesn't have are 0. */
 typedef struct {
     uint32_t code;
-    size_t line;     /* where the line is wrong (1), or where the text of the rule begins, behind its first delimiter (2 to 5) */
+    size_t line; /* where the line is wrong (1), or where the text of the rule begins, behind its first delimiter (2 to 5) */
     size_t column;
-    size_t rule;     /* the rule (2 to 4), or the later of the two (5) */
-    size_t other;    /* the earlier one (5) */
+    size_t rule;       /* the rule (2 to 4), or the later of the two (5) */
+    size_t other;      /* the earlier one (5) */
+    size_t other_line; /* where its text begins, likewise (5) */
+    size_t other_column;
     size_t position; /* where in the text of the rule it stops to parse, in bytes (2) */
 } bajofeki_report_t;
 
@@ -134,14 +136,14 @@ bajofeki_report_t bajofeki_report(const bajofeki_lexer *lexer);
    clash. A value is a character's number, or a surrogate's. */
 size_t bajofeki_word(const bajofeki_lexer *lexer, uint32_t *out, size_t room);
 
-/* How many rules there are; 0 without a lexer. */
+/* How many rules the file has, if there is a lexer or the code of the report is 2 to 5; else 0. */
 size_t bajofeki_rules(const bajofeki_lexer *lexer);
 
 /* Writes the name of a rule, which is ASCII, as many bytes as the array takes, with no 0 behind it. Gives how many there are, 0 if
-   there is no such rule. */
+   bajofeki_rules counts no such rule. */
 size_t bajofeki_name(const bajofeki_lexer *lexer, size_t rule, char *out, size_t room);
 
-/* Whether the tokens of a rule are skipped; false if there is no such rule. */
+/* Whether the tokens of a rule are skipped; false without a lexer, or if there is no such rule. */
 bool bajofeki_skips(const bajofeki_lexer *lexer, size_t rule);
 
 /* How many modes there are; 0 without a lexer. They are numbered from 0, in the order in which the file first names them; a rule above
@@ -176,7 +178,7 @@ bajofeki_place_t bajofeki_position(const char *text, size_t length, size_t at);
 
 /* The version of these functions. */
 uint32_t bajofeki_version(void);
-enum { BAJOFEKI_VERSION = 1 };
+enum { BAJOFEKI_VERSION = 2 };
 
 #ifdef __cplusplus
 }
@@ -208,7 +210,7 @@ static inline void bajofeki_lexer_delete(bajofeki_lexer *lexer) {
 
 /* As bajofeki_report; of NULL the code BAJOFEKI_NO_LEXER. */
 static inline bajofeki_report_t bajofeki_lexer_report(const bajofeki_lexer *lexer) {
-    bajofeki_report_t none = {BAJOFEKI_NO_LEXER, 0, 0, 0, 0, 0};
+    bajofeki_report_t none = {BAJOFEKI_NO_LEXER, 0, 0, 0, 0, 0, 0, 0};
     return lexer == NULL ? none : bajofeki_report(lexer);
 }
 

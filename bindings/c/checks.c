@@ -35,11 +35,13 @@ static void check_rules(void) {
     bajofeki_report_t report = bajofeki_lexer_report(lexer);
     uint32_t word[2] = {7, 7};
     char name[4] = "???";
-    CHECK(report.code == BAJOFEKI_CLASH && report.line == 2 && report.column == 8 && report.rule == 1 && report.other == 0);
+    CHECK(report.code == BAJOFEKI_CLASH && report.line == 2 && report.column == 8 && report.rule == 1);
+    CHECK(report.other == 0 && report.other_line == 1 && report.other_column == 8);
     CHECK(bajofeki_lexer_word(lexer, NULL, 5) == 1 && bajofeki_lexer_word(lexer, word, 0) == 1 && word[0] == 7);
     CHECK(bajofeki_lexer_word(lexer, word, 2) == 1 && word[0] == 'c' && word[1] == 7);
-    CHECK(bajofeki_lexer_rules(lexer) == 0 && bajofeki_lexer_name(lexer, 0, name, 4) == 0);
-    CHECK(bajofeki_lexer_report(empty).code == BAJOFEKI_TOO_LARGE);
+    CHECK(bajofeki_lexer_rules(lexer) == 3 && !bajofeki_lexer_skips(lexer, 2) && bajofeki_lexer_name(lexer, 3, name, 2) == 0);
+    CHECK(bajofeki_lexer_name(lexer, 2, name, 2) == 3 && strcmp(name, "GH?") == 0);
+    CHECK(bajofeki_lexer_report(empty).code == BAJOFEKI_TOO_LARGE && bajofeki_lexer_rules(empty) == 0);
     bajofeki_lexer_delete(lexer);
     bajofeki_lexer_delete(empty);
     lexer = (bajofeki_lexer *)malloc(bajofeki_lexer_size());

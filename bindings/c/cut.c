@@ -49,21 +49,10 @@ static void write_quoted(const char *bytes, size_t length) {
     putchar('"');
 }
 
-/* Says the name of a rule where there is no lexer that has it: the first word of its line. Sections and parts aren't rules. */
-static void say_name(const file *rules, size_t rule) {
-    const char *end = rules->bytes + rules->length;
-    for (const char *line = rules->bytes, *next; line < end; line = next) {
-        const char *newline = memchr(line, '\n', (size_t)(end - line));
-        const char *name = line + strspn(line, " \t\xEF\xBB\xBF");
-        size_t length = strspn(name, "ABCDEFGHIJKLMNOPQRSTUVWXYZabcdefghijklmnopqrstuvwxyz_0123456789");
-        const char *behind = name + length + strspn(name + length, " \t");
-        bool is_part = strncmp(behind, "part", 4) == 0 && behind[4 + strspn(behind + 4, " \t")] == '=';
-        next = newline == NULL ? end : newline + 1;
-        if (length > 0 && !is_part && rule-- == 0) {
-            fprintf(stderr, "%.*s", (int)length, name);
-            return;
-        }
-    }
+static void write_name(FILE *out, const bajofeki_lexer *lexer, size_t rule) {
+    char name[ROOM];
+    size_t length = bajofeki_lexer_name(lexer, rule, name, ROOM);
+    fwrite(name, 1, length < ROOM ? length : ROOM, out);
 }
 
 static void say_word(const bajofeki_lexer *lexer) {
@@ -78,7 +67,7 @@ static void say_word(const bajofeki_lexer *lexer) {
 }
 
 /* Says why there is no lexer, and gives the status. */
-static int say_report(const char *path, const file *rules, const bajofeki_lexer *lexer) {
+static int say_report(const char *path, const bajofeki_lexer *lexer) {
     static const char *const reasons[] = {"", "this is no line of a file of rules", "the text of this rule doesn't parse",
         "the end of this rule is empty or has more than 64 characters", "this rule can't be compiled", "",
         "there are no rules, or too many, or they are too large for a table", "out of memory", "", "out of memory"};
@@ -89,11 +78,12 @@ static int say_report(const char *path, const file *rules, const bajofeki_lexer 
         fprintf(stderr, "line %zu, column %zu: ", report.line, report.column);
     }
     if (report.code >= BAJOFEKI_NOT_PARSED && report.code <= BAJOFEKI_CLASH) {
-        say_name(rules, report.rule);
+        write_name(stderr, lexer, report.rule);
         fputs(report.code == BAJOFEKI_CLASH ? " and " : ": ", stderr);
     }
     if (report.code == BAJOFEKI_CLASH) {
-        say_name(rules, report.other);
+        write_name(stderr, lexer, report.other);
+        fprintf(stderr, " (line %zu, column %zu)", report.other_line, report.other_column);
         say_word(lexer);
     } else if (report.code == BAJOFEKI_NOT_PARSED) {
         fprintf(stderr, "%s from byte %zu on\n", reasons[report.code], report.position);
@@ -104,11 +94,14 @@ static int say_report(const char *path, const file *rules, const bajofeki_lexer 
 }
 
 static void write_piece(const char *front, bajofeki_text *text, const bajofeki_piece_t *piece) {
-    char name[ROOM];
     bajofeki_place_t place = bajofeki_text_place(text, piece->start);
-    size_t length = bajofeki_lexer_name(text->lexer, piece->rule, name, ROOM);
-    bool is_fault = piece->kind == BAJOFEKI_FAULT;
-    printf("%s%zu:%zu %.*s ", front, place.line, place.column, is_fault ? 1 : (int)(length < ROOM ? length : ROOM), is_fault ? "!" : name);
+    printf("%s%zu:%zu ", front, place.line, place.column);
+    if (piece->kind == BAJOFEKI_FAULT) {
+        putchar('!');
+    } else {
+        write_name(stdout, text->lexer, piece->rule);
+    }
+    putchar(' ');
     write_quoted(text->bytes + piece->start, piece->length);
     putchar('\n');
 }
@@ -155,7 +148,7 @@ int main(int count, char **words) {
         if (bajofeki_lexer_report(lexer).code == BAJOFEKI_BUILT) {
             status = cut_text(words[i + 1], front, &bytes, lexer);
         } else {
-            status = say_report(words[i], &rules, lexer);
+            status = say_report(words[i], lexer);
         }
         greatest = status > greatest ? status : greatest;
         bajofeki_lexer_delete(lexer);

@@ -17,7 +17,7 @@ __all__ = ["Item", "Kind", "Lexer", "Rule", "RulesError", "RulesErrorKind"]
 
 
 class Report(Structure):
-    _fields_ = [("code", c_uint32), *((name, c_size_t) for name in ("line", "column", "rule", "other", "position"))]
+    _fields_ = [("code", c_uint32), *((name, c_size_t) for name in "line column rule other other_line other_column position".split())]
 
 
 class Piece(Structure):
@@ -72,7 +72,7 @@ def _library():
     for name, (result, arguments) in FUNCTIONS.items():
         function = getattr(library, name)
         function.restype, function.argtypes = result, arguments
-    if library.bajofeki_version() != 1:
+    if library.bajofeki_version() != 2:
         raise ImportError("libbajofeki.so has another version")
     return library
 
@@ -98,47 +98,45 @@ class RulesErrorKind(enum.Enum):
 class RulesError(ValueError):
     """Why there is no lexer. What a kind doesn't have is 0, None or empty.
 
-    kind      a RulesErrorKind
-    line      where the line is wrong, or where the text of the rule begins, from 1
-    column    the column there, from 1, in characters
-    rule      the name of the rule; in a clash, of the later one
-    other     the name of the earlier rule of a clash
-    word      the least word on which they clash; it may have surrogates
-    position  where in the rule's text it stops to parse, in bytes
+    kind          a RulesErrorKind
+    line          where the line is wrong, or where the text of the rule begins, from 1
+    column        the column there, from 1, in characters
+    rule          the name of the rule; in a clash, of the later one
+    other         the name of the earlier rule of a clash
+    other_line    where the text of that one begins, from 1
+    other_column  the column there, from 1, in characters
+    word          the least word on which they clash; it may have surrogates
+    position      where in the rule's text it stops to parse, in bytes
 
     >>> Lexer("IF = /if/\\nNAME = /[a-z]+/\\n")
     Traceback (most recent call last):
-    bajofeki.RulesError: line 2, column 9: NAME and IF clash: both match "if", and neither wins
+    bajofeki.RulesError: line 2, column 9: NAME and IF (line 1, column 7) clash: both match "if", and neither wins
     """
 
 
-def _rules_error(report, word, rules):
+def _rules_error(report, word, name):
     kind = RulesErrorKind(report.code)
-    rule = _name(rules, report.rule) if 2 <= report.code <= 5 else None
-    other = _name(rules, report.other) if kind is RulesErrorKind.CLASH else None
+    rule = name(report.rule) or None
+    other = name(report.other) if kind is RulesErrorKind.CLASH else None
+    other_place = f"line {report.other_line}, column {report.other_column}"
     reason = {
         RulesErrorKind.BAD_LINE: "this is no line of a file of rules",
         RulesErrorKind.NOT_PARSED: f"{rule}: the text of this rule doesn't parse from byte {report.position} on",
         RulesErrorKind.BAD_END: f"{rule}: the end of this rule is empty or has more than 64 characters",
         RulesErrorKind.NOT_COMPILED: f"{rule}: this rule can't be compiled",
-        RulesErrorKind.CLASH: f'{rule} and {other} clash: both match "{_shown(word)}", and neither wins',
+        RulesErrorKind.CLASH: f'{rule} and {other} ({other_place}) clash: both match "{_shown(word)}", and neither wins',
         RulesErrorKind.TOO_LARGE: "there are no rules, or too many, or they are too large for a table",
         RulesErrorKind.OUT_OF_MEMORY: "out of memory",
     }[kind]
     error = RulesError((f"line {report.line}, column {report.column}: " if report.line else "") + reason)
     error.kind, error.line, error.column, error.position = kind, report.line, report.column, report.position
     error.rule, error.other, error.word = rule, other, word
+    error.other_line, error.other_column = report.other_line, report.other_column
     return error
 
 
 def _shown(word):
     return "".join(f"\\{c}" if c in '"\\' else c if c.isprintable() else f"\\u{{{ord(c):x}}}" for c in word)
-
-
-def _name(rules, rule):
-    """The name of a rule where there is no lexer that has it: the first word of its line. Sections and parts aren't rules."""
-    heads = (line.split("=")[0].split() for line in rules.decode("utf-8-sig", "replace").split("\n") if "=" in line)
-    return [head[0] for head in heads if head and head[0][0] not in "#[" and head[1:2] != ["part"]][rule]
 
 
 class Kind(enum.Enum):
@@ -191,7 +189,7 @@ class Lexer:
         weakref.finalize(self, _LIBRARY.bajofeki_free, self._room).atexit = False
         report = _LIBRARY.bajofeki_report(self._room)
         if report.code:
-            raise _rules_error(report, self._word(), rules)
+            raise _rules_error(report, self._word(), self._name)
         numbers = range(_LIBRARY.bajofeki_rules(self._room))
         self.rules = tuple(Rule(self._name(rule), _LIBRARY.bajofeki_skips(self._room, rule)) for rule in numbers)
 

@@ -12,6 +12,8 @@ pub struct Report {
     pub column: usize,
     pub rule: usize,
     pub other: usize,
+    pub other_line: usize,
+    pub other_column: usize,
     pub position: usize,
 }
 
@@ -145,13 +147,13 @@ impl Held {
         unsafe { bajofeki_rules(self.at()) }
     }
 
-    pub fn name(&self, rule: usize) -> Vec<u8> {
+    pub fn name(&self, rule: usize) -> String {
         // SAFETY: as for `word`.
         let length = unsafe { bajofeki_name(self.at(), rule, [].as_mut_ptr(), 0) };
         let mut name = vec![0; length];
         // SAFETY: as for `word`.
         unsafe { bajofeki_name(self.at(), rule, name.as_mut_ptr(), length) };
-        name
+        String::from_utf8_lossy(&name).into_owned()
     }
 
     pub fn skips(&self, rule: usize) -> bool {

@@ -84,20 +84,21 @@ impl Lexer {
     ///
     /// let error = Lexer::new("IF = /if/\nNAME = /[a-z]+/\n").unwrap_err();
     /// assert_eq!(error.kind, RulesErrorKind::Clash);
+    /// assert_eq!((error.line, error.other_line), (2, 1));
     /// assert_eq!(
     ///     error.to_string(),
-    ///     r#"line 2, column 9: NAME and IF clash: both match "if", and neither wins"#
+    ///     r#"line 2, column 9: NAME and IF (line 1, column 7) clash: both match "if", and neither wins"#
     /// );
     /// ```
     pub fn new(rules: impl AsRef<[u8]>) -> Result<Lexer, RulesError> {
         let held = ffi::Held::build(rules.as_ref());
         let report = held.report();
         if report.code != 0 {
-            return Err(RulesError::new(report, held.word(), rules.as_ref()));
+            return Err(RulesError::new(report, &held));
         }
         let rules = (0..held.rules())
             .map(|rule| Rule {
-                name: String::from_utf8_lossy(&held.name(rule)).into_owned(),
+                name: held.name(rule),
                 is_skipped: held.skips(rule),
             })
             .collect();
@@ -186,7 +187,7 @@ impl fmt::Debug for Lexer {
     }
 }
 
-/// The version of the library's functions: 1.
+/// The version of the library's functions: 2.
 pub fn version() -> u32 {
     ffi::version()
 }

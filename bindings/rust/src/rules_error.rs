@@ -3,7 +3,7 @@
 use std::error::Error;
 use std::fmt::{self, Display, Formatter, Write};
 
-use crate::ffi::Report;
+use crate::ffi::{Held, Report};
 
 /// What is wrong with the rules.
 #[derive(Clone, Copy, Debug, PartialEq, Eq, Hash)]
@@ -39,6 +39,10 @@ pub struct RulesError {
     pub rule: String,
     /// The name of the earlier rule of a clash.
     pub other: String,
+    /// Where the text of that one begins, from 1.
+    pub other_line: usize,
+    /// The column there, from 1, in characters.
+    pub other_column: usize,
     /// The least word on which they clash. A value is a character's number, or a surrogate's.
     pub word: Vec<u32>,
     /// Where in the rule's text it stops to parse, in bytes.
@@ -46,7 +50,7 @@ pub struct RulesError {
 }
 
 impl RulesError {
-    pub(crate) fn new(report: Report, word: Vec<u32>, rules: &[u8]) -> RulesError {
+    pub(crate) fn new(report: Report, held: &Held) -> RulesError {
         let kind = match report.code {
             1 => RulesErrorKind::BadLine,
             2 => RulesErrorKind::NotParsed,
@@ -56,39 +60,24 @@ impl RulesError {
             6 => RulesErrorKind::TooLarge,
             _ => RulesErrorKind::OutOfMemory,
         };
-        let has_rule = (2..=5).contains(&report.code);
-        let name = |has_name, rule| {
-            if has_name {
-                name_of(rules, rule)
-            } else {
-                String::new()
-            }
+        // Where no rule is wrong the library has no names, and gives an empty one.
+        let rule = held.name(report.rule);
+        let other = match kind {
+            RulesErrorKind::Clash => held.name(report.other),
+            _ => String::new(),
         };
         RulesError {
             kind,
             line: report.line,
             column: report.column,
-            rule: name(has_rule, report.rule),
-            other: name(kind == RulesErrorKind::Clash, report.other),
-            word,
+            rule,
+            other,
+            other_line: report.other_line,
+            other_column: report.other_column,
+            word: held.word(),
             position: report.position,
         }
     }
-}
-
-/// The name of a rule where there is no lexer that has it: the first word of its line. Sections and parts aren't rules.
-fn name_of(rules: &[u8], rule: usize) -> String {
-    let text = String::from_utf8_lossy(rules);
-    let mut named = text
-        .trim_start_matches('\u{feff}')
-        .lines()
-        .filter_map(|line| {
-            let (head, _) = line.split_once('=')?;
-            let mut words = head.split_ascii_whitespace();
-            let name = words.next().filter(|name| !name.starts_with(['#', '[']))?;
-            (words.next() != Some("part")).then(|| name.to_string())
-        });
-    named.nth(rule).unwrap_or_default()
 }
 
 /// As Rust writes a string, but for surrogates too.
@@ -125,7 +114,9 @@ impl Display for RulesError {
             RulesErrorKind::Clash => {
                 write!(
                     f,
-                    "{rule} and {other} clash: both match \"{}\", and neither wins",
+                    "{rule} and {other} (line {}, column {}) clash: both match \"{}\", and neither wins",
+                    self.other_line,
+                    self.other_column,
                     quoted(&self.word)?
                 )
             }

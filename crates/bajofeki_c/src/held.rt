@@ -1,14 +1,14 @@
 //! What lies in the room that a program lends: a lexer, or why there is none.
 ghost use Rattle.std.specs.Prelude.{◌≡◌, ◌<◌, length, IfOk, IfErr};
 ghost use Rattle.lalrpop_emit.specs.EmitErrors.{IsNumbersError};
-ghost use Rattle.bajofeki_c.specs.Built.{IsBuiltOf, IsBuiltFor, IsFreed, IsMade, place_at, place_named};
+ghost use Rattle.bajofeki_c.specs.Built.{AreNamed, IsBuiltOf, IsBuiltFor, IsFreed, IsMade};
 ghost use Rattle.bajofeki_c.specs.declared.held.BuildError.TheVariants.{File, Numbers};
 
 use lalrpop_emit::{EmitError, LexerNumbers};
 use lalrpop_lexer::Position;
 use lalrpop_modes::{ModeLexer, ModesError};
 use lalrpop_rule_file::{FileRule, RuleFile, RuleFileError, read_rules};
-use std::alloc::Global;
+use std::alloc::{AllocError, Global};
 
 /// The lexer of a file's rules, as it is kept between calls.
 #[derive(Drop)]
@@ -19,14 +19,25 @@ pub struct BuiltLexer {
     pub numbers: LexerNumbers,
 }
 
+/// A rule of a file, by its name and its place alone.
+#[derive(Drop)]
+pub struct NamedRule {
+    /// Its name.
+    pub name: String,
+    /// Where its text begins.
+    pub place: Position,
+}
+
 /// Why there is no lexer.
 #[derive(Drop)]
 pub enum BuildError {
     /// The bytes aren't a file of rules.
     File(RuleFileError),
-    /// The rules of the file have no lexer. `place` is where the text of the rule that `error` names begins; line 0, column 0 if
-    /// it names none.
-    Rules { error: ModesError, place: Position },
+    /// The rules of the file have no lexer. `rules` are all of them, in the order of their lines.
+    Rules {
+        error: ModesError,
+        rules: Vec<NamedRule>,
+    },
     /// The lexer of the rules has no numbers.
     Numbers(EmitError),
     /// There was a lexer or an error, whose memory was given back.
@@ -55,28 +66,19 @@ pub struct Held {
     pub made: Result<BuiltLexer, BuildError>,
 }
 
-// Where the text of this rule begins; line 0, column 0 if no rule has this number.
-fn place_of_rule(rules: &[FileRule<'_>], rule: usize) -> Position
-    ensures place { result ≡ place_at rules.now rule }
+// The names of the rules and the places of their texts.
+fn named_rules(alloc: Global, rules: &[FileRule<'_>]) -> Result<Vec<NamedRule>, AllocError>
+    ensures named { IfOk result (λ all. AreNamed rules.now all.items) }
 {
-    match rules.get(rule) {
-        Some(rule) => rule.place,
-        None => Position { line: 0, column: 0 },
+    let mut all = Vec::new(alloc);
+    for rule in rules {
+        let name = String::from_str(alloc, rule.rule.name)?;
+        all.push(NamedRule {
+            name,
+            place: rule.place,
+        })?;
     }
-}
-
-// Where the text of the rule that the error names begins.
-fn place_of_error(rules: &[FileRule<'_>], error: &ModesError) -> Position
-    ensures place { result ≡ place_named rules.now error.now }
-{
-    match error {
-        ModesError::NoSuchMode { rule, .. } => place_of_rule(rules, *rule),
-        ModesError::NotParsed { rule, .. } => place_of_rule(rules, *rule),
-        ModesError::BadEnd { rule, .. } => place_of_rule(rules, *rule),
-        ModesError::NotCompiled { rule, .. } => place_of_rule(rules, *rule),
-        ModesError::Clash { rule, .. } => place_of_rule(rules, *rule),
-        ModesError::OutOfMemory => Position { line: 0, column: 0 },
-    }
+    Ok(all)
 }
 
 // The lexer with its numbers.
@@ -101,10 +103,10 @@ fn lexer_of(alloc: Global, file: &RuleFile<'_>) -> Result<BuiltLexer, BuildError
             Ok(lexer) => Ok(lexer),
             Err(error) => Err(BuildError::Numbers(error)),
         },
-        Err(error) => {
-            let place = place_of_error(&file.rules, &error);
-            Err(BuildError::Rules { error, place })
-        }
+        Err(error) => match named_rules(alloc, &file.rules) {
+            Ok(rules) => Err(BuildError::Rules { error, rules }),
+            Err(_) => Err(BuildError::File(RuleFileError::OutOfMemory)),
+        },
     }
 }
 

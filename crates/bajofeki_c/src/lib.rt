@@ -43,7 +43,7 @@ ghost use Rattle.bajofeki_c.specs.declared.page.Markup.TheVariants.{Ansi, Html};
 
 pub use cut::{Cut, Piece, cut_on};
 pub use cutting::{BeginError, Cutting, begin, code_of, let_cutting_go};
-pub use held::{BuildError, BuiltLexer, Held, let_go, make};
+pub use held::{BuildError, BuiltLexer, Held, NamedRule, let_go, make};
 use lalrpop_emit::{EmitError, LexerNumbers};
 use lalrpop_modes::{ModeLexer, ModesError};
 use lalrpop_rule_file::RuleFileError;
@@ -69,6 +69,7 @@ fn errors_may_go_to_threads() {
     may_go_to_threads::<RuleFileError>();
     may_go_to_threads::<ModesError>();
     may_go_to_threads::<EmitError>();
+    may_go_to_threads::<NamedRule>();
 }
 
 fn cuts_may_go_to_threads() {
@@ -118,7 +119,7 @@ pub unsafe extern "C" fn bajofeki_word(lexer: *const u8, out: &mut [u32]) -> usi
     word_into(&*(lexer as *const Held), out)
 }
 
-/// How many rules there are: 0 if there is no lexer.
+/// How many rules the file has, if there is a lexer or the code of the report is 2 to 5; else 0.
 #[unsafe(no_mangle)]
 pub unsafe extern "C" fn bajofeki_rules(lexer: *const u8) -> usize
     ghost view: { View }
@@ -129,8 +130,8 @@ pub unsafe extern "C" fn bajofeki_rules(lexer: *const u8) -> usize
     rule_count(&*(lexer as *const Held))
 }
 
-/// Writes the name of a rule, as many bytes as fit, and says how many there are: 0 if there is no such rule. Rules are numbered
-/// from 0, in the order of their lines.
+/// Writes the name of a rule, as many bytes as fit, and says how many there are: 0 if `bajofeki_rules` counts no such rule. Rules
+/// are numbered from 0, in the order of their lines.
 #[unsafe(no_mangle)]
 pub unsafe extern "C" fn bajofeki_name(lexer: *const u8, rule: usize, out: &mut [u8]) -> usize
     ghost view: { View }
@@ -141,7 +142,7 @@ pub unsafe extern "C" fn bajofeki_name(lexer: *const u8, rule: usize, out: &mut 
     name_into(&*(lexer as *const Held), rule, out)
 }
 
-/// Whether the rule with this number is skipped; it isn't if there is no such rule.
+/// Whether the rule with this number is skipped; it isn't if there is no lexer or no such rule.
 #[unsafe(no_mangle)]
 pub unsafe extern "C" fn bajofeki_skips(lexer: *const u8, rule: usize) -> bool
     ghost view: { View }
@@ -283,10 +284,10 @@ pub extern "C" fn bajofeki_position(text: &[u8], at: usize) -> Place
     place_of(text, at)
 }
 
-/// The version of these functions: 1.
+/// The version of these functions: 2.
 #[unsafe(no_mangle)]
 pub extern "C" fn bajofeki_version() -> u32
-    ensures version { result ≡ 1 }
+    ensures version { result ≡ 2 }
 {
-    1
+    2
 }

@@ -8,7 +8,7 @@ use lalrpop_emit::byte_position;
 #[repr(C)]
 #[derive(Copy, Clone)]
 pub struct Place {
-    /// The offset in bytes; of an offset past the end that of the end.
+    /// The offset in bytes, at most the length of the text.
     pub at: usize,
     /// One more than the number of line feeds before it.
     pub line: usize,

@@ -1,8 +1,8 @@
 //! What became of the rules, in numbers.
 ghost use Rattle.std.specs.Prelude.{◌≡◌};
-ghost use Rattle.bajofeki_c.specs.Report.{report, report_of_error, report_of_file, report_of_numbers, report_of_rules, told as told_numbers};
+ghost use Rattle.bajofeki_c.specs.Report.{place_at, report, report_of_error, report_of_file, report_of_numbers, report_of_rules, told as told_numbers, told_clash as clash_numbers, told_rule as rule_numbers};
 
-use crate::held::{BuildError, Held};
+use crate::held::{BuildError, Held, NamedRule};
 use lalrpop_emit::EmitError;
 use lalrpop_lexer::Position;
 use lalrpop_modes::ModesError;
@@ -25,20 +25,59 @@ pub struct Report {
     pub rule: usize,
     /// The other rule (5).
     pub other: usize,
+    /// Where its text begins (5).
+    pub other_line: usize,
+    /// The column there.
+    pub other_column: usize,
     /// Where in the text it does not parse, in bytes (2).
     pub position: usize,
 }
 
-fn told(code: u32, place: Position, rule: usize, other: usize, position: usize) -> Report
-    ensures told { result ≡ told_numbers code place rule other position }
+fn told(code: u32, place: Position, rule: usize, position: usize) -> Report
+    ensures told { result ≡ told_numbers code place rule position }
 {
     Report {
         code,
         line: place.line,
         column: place.column,
         rule,
-        other,
+        other: 0,
+        other_line: 0,
+        other_column: 0,
         position,
+    }
+}
+
+// Where the text of this rule begins; line 0, column 0 if no rule has this number.
+fn place_of_rule(rules: &[NamedRule], rule: usize) -> Position
+    ensures place { result ≡ place_at rules.now rule }
+{
+    match rules.get(rule) {
+        Some(rule) => rule.place,
+        None => Position { line: 0, column: 0 },
+    }
+}
+
+fn told_rule(code: u32, rules: &[NamedRule], rule: usize, position: usize) -> Report
+    ensures told { result ≡ rule_numbers code rules.now rule position }
+{
+    told(code, place_of_rule(rules, rule), rule, position)
+}
+
+fn told_clash(rules: &[NamedRule], rule: usize, other: usize) -> Report
+    ensures told { result ≡ clash_numbers rules.now rule other }
+{
+    let place = place_of_rule(rules, rule);
+    let other_place = place_of_rule(rules, other);
+    Report {
+        code: 5,
+        line: place.line,
+        column: place.column,
+        rule,
+        other,
+        other_line: other_place.line,
+        other_column: other_place.column,
+        position: 0,
     }
 }
 
@@ -52,19 +91,19 @@ fn of_file(error: &RuleFileError) -> Report
         RuleFileError::NoSuchMode { line, column } => (1, *line, *column),
         RuleFileError::OutOfMemory => (7, 0, 0),
     };
-    told(code, Position { line, column }, 0, 0, 0)
+    told(code, Position { line, column }, 0, 0)
 }
 
-fn of_rules(error: &ModesError, place: Position) -> Report
-    ensures report { result ≡ report_of_rules error.now place }
+fn of_rules(error: &ModesError, rules: &[NamedRule]) -> Report
+    ensures report { result ≡ report_of_rules error.now rules.now }
 {
     match error {
-        ModesError::NoSuchMode { rule, .. } => told(1, place, *rule, 0, 0),
-        ModesError::NotParsed { rule, position, .. } => told(2, place, *rule, 0, *position),
-        ModesError::BadEnd { rule, .. } => told(3, place, *rule, 0, 0),
-        ModesError::NotCompiled { rule, .. } => told(4, place, *rule, 0, 0),
-        ModesError::Clash { rule, other, .. } => told(5, place, *rule, *other, 0),
-        ModesError::OutOfMemory => told(7, Position { line: 0, column: 0 }, 0, 0, 0),
+        ModesError::NoSuchMode { rule, .. } => told_rule(1, rules, *rule, 0),
+        ModesError::NotParsed { rule, position, .. } => told_rule(2, rules, *rule, *position),
+        ModesError::BadEnd { rule, .. } => told_rule(3, rules, *rule, 0),
+        ModesError::NotCompiled { rule, .. } => told_rule(4, rules, *rule, 0),
+        ModesError::Clash { rule, other, .. } => told_clash(rules, *rule, *other),
+        ModesError::OutOfMemory => told(7, Position { line: 0, column: 0 }, 0, 0),
     }
 }
 
@@ -84,7 +123,7 @@ fn of_numbers(error: &EmitError) -> Report
         | EmitError::BadPrefix
         | EmitError::NoTable => 6,
     };
-    told(code, Position { line: 0, column: 0 }, 0, 0, 0)
+    told(code, Position { line: 0, column: 0 }, 0, 0)
 }
 
 fn of_error(error: &BuildError) -> Report
@@ -92,9 +131,9 @@ fn of_error(error: &BuildError) -> Report
 {
     match error {
         BuildError::File(error) => of_file(error),
-        BuildError::Rules { error, place } => of_rules(error, *place),
+        BuildError::Rules { error, rules } => of_rules(error, rules),
         BuildError::Numbers(error) => of_numbers(error),
-        BuildError::Freed => told(8, Position { line: 0, column: 0 }, 0, 0, 0),
+        BuildError::Freed => told(8, Position { line: 0, column: 0 }, 0, 0),
     }
 }
 
@@ -103,7 +142,7 @@ pub fn report_of(held: &Held) -> Report
     ensures report { result ≡ report held.now }
 {
     match &held.made {
-        Ok(_) => told(0, Position { line: 0, column: 0 }, 0, 0, 0),
+        Ok(_) => told(0, Position { line: 0, column: 0 }, 0, 0),
         Err(error) => of_error(error),
     }
 }

@@ -1,8 +1,11 @@
 -- Cases of specs/Rules.antt.
-use Rattle.std.proofs.Common.{◌≡◌, ℕ, [], ◌∷◌, true, false, refl, arith}
-use Rattle.std.specs.Prelude.{Err}
+use Rattle.std.proofs.Common.{◌≡◌, ℕ, [], ◌∷◌, true, false, length, string_bytes, slice_get, refl, arith}
+use Rattle.std.specs.Prelude.{Err, Vec}
+use Rattle.std.specs.Global.{Global}
+use Rattle.lalrpop_modes.specs.declared.error.ModesError.TheVariants.{BadEnd, Clash, OutOfMemory}
 use Rattle.bajofeki_c.specs.Rules.{IsWritten, count_of, is_skipped, name_of, skips_rule, word_of}
-use Rattle.bajofeki_c.specs.declared.held.BuildError.TheVariants.{Freed}
+use Rattle.bajofeki_c.specs.declared.held.BuildError.TheVariants.{Rules, Freed}
+use Rattle.bajofeki_c.specs.declared.held.NamedRule.{NamedRule}
 
 skipped : is_skipped (false ∷ true ∷ []) 1 ≡ true
 skipped = refl
@@ -35,6 +38,16 @@ no_lexer_has_no_rules = refl
 
 no_lexer_has_no_names : name_of (record { made = Err Freed }) 0 ≡ []
 no_lexer_has_no_names = refl
+
+module _ (rules : Vec NamedRule Global) (a b : NamedRule) (are : rules.items ≡ a ∷ b ∷ []) where
+  the_rules_of_a_clash_have_names : (w : _) → name_of (record { made = Err (Rules (Clash 0 1 0 w) rules) }) 1 ≡ string_bytes b.name
+  the_rules_of_a_clash_have_names w = rw are refl
+
+  all_rules_are_counted : (e : _) → count_of (record { made = Err (Rules (BadEnd 0 e) rules) }) ≡ 2
+  all_rules_are_counted e = rw are refl
+
+  without_memory_none_is_counted : count_of (record { made = Err (Rules OutOfMemory rules) }) ≡ 0
+  without_memory_none_is_counted = refl
 
 no_lexer_skips_nothing : skips_rule (record { made = Err Freed }) 0 ≡ false
 no_lexer_skips_nothing = refl
