@@ -1,6 +1,6 @@
 //! Tables of rows `argument => answer`, and calls that are made again if they were refused memory.
 
-use crate::{automata, clashes, modes, rules, trees, verdicts};
+use crate::{automata, clashes, edits, modes, rules, trees, verdicts};
 use std::alloc::{AllocError, Global};
 use std::process::Abort;
 
@@ -51,6 +51,8 @@ pub(crate) enum Call {
     Modes,
     Numbers,
     Cutter,
+    Edits,
+    Chunks,
     Warnings,
     Page,
     Terminal,
@@ -91,6 +93,8 @@ fn answer(alloc: Global, call: Call, argument: &str) -> Result<String, AllocErro
         Call::Modes => modes::pieces(alloc, argument),
         Call::Numbers => modes::by_numbers(alloc, argument),
         Call::Cutter => modes::by_cutter(alloc, argument),
+        Call::Edits => edits::edited(alloc, argument),
+        Call::Chunks => edits::in_chunks(alloc, argument),
         Call::Warnings => rules::warned(alloc, argument),
         Call::Page => rules::page(alloc, argument),
         Call::Terminal => rules::in_colours(alloc, argument),

@@ -10,6 +10,8 @@ mod calls;
 #[cfg(test)]
 mod clashes;
 #[cfg(test)]
+mod edits;
+#[cfg(test)]
 mod kernels;
 #[cfg(test)]
 mod modes;

@@ -1,4 +1,6 @@
 mod Counting
+mod Edits
+mod Joining
 mod ModePieces
 mod Pages
 mod ReadFiles

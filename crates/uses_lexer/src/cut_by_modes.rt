@@ -1,11 +1,11 @@
 //! A text is cut by rules with modes.
-ghost use Rattle.std.specs.Prelude.{◌≡◌, ◌≤◌, ◌<◌, ◌+◌, ◌*◌, ◌∷◌, [], List, length, Option, None, true, false, IfOk, IfErr, IsSome, option_map, slice_get};
+ghost use Rattle.std.specs.Prelude.{◌≡◌, ◌≤◌, ◌<◌, ◌+◌, ◌*◌, ◌∷◌, [], ℕ, List, length, Option, None, true, false, IfOk, IfErr, IsSome, option_map, slice_get};
 ghost use Rattle.lalrpop_modes.specs.ModeCut.{ModeCut, uncut, open_in_all, GivesModePiece};
 ghost use Rattle.std.specs.Str.{chars};
 ghost use Rattle.lalrpop_modes.specs.ModeClashes.{IsModesFault};
 ghost use Rattle.lalrpop_modes.specs.ModeSet.{AreModeRules, IsModesError};
 ghost use Rattle.lalrpop_modes.specs.ModesErrors.{of_texts};
-ghost use Rattle.lalrpop_modes.specs.Modes.{ArePiecesFrom, ModeRules, NoModeClash};
+ghost use Rattle.lalrpop_modes.specs.Modes.{ArePiecesFrom, ModeRules, NoModeClash, OneLeadsInto};
 ghost use Rattle.lalrpop_modes.specs.Stack.{Stack, actions_of, start};
 ghost use Rattle.lalrpop_rules.specs.Pieces.{AreApart, joined};
 ghost use Rattle.lalrpop_rules.specs.declared.item.Item.{Item as ItemValue};
@@ -69,6 +69,15 @@ pub fn rest_by_modes<'text>(lexer: &'text ModeLexer, alloc: Global, text: &'text
     ensures whole { result.now ≡ text.now }
 {
     lexer.items(alloc, text).rest()
+}
+
+// Needs lalrpop_modes::ModeLexer::modes: count, some, within.
+/// The number of the last mode. No rule leads into a mode behind it.
+pub fn last_mode(lexer: &ModeLexer) -> usize
+    ensures last { result < lexer.now.modes }
+    ensures within { (i m : ℕ) → OneLeadsInto (actions_of lexer.now.actions i) m → m ≤ result }
+{
+    lexer.modes() - 1
 }
 
 // Needs lalrpop_modes::ModeLexer::names: names.

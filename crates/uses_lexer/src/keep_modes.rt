@@ -1,5 +1,5 @@
 //! A stack of modes, which goes along with a text.
-ghost use Rattle.std.specs.Prelude.{◌≡◌, IfOk};
+ghost use Rattle.std.specs.Prelude.{◌≡◌, ◌↔◌, ◌+◌, IsTrue, length, IfOk};
 ghost use Rattle.lalrpop_modes.specs.Stack.{act_all, start};
 
 use lalrpop_modes::{Action, ModeStack};
@@ -33,4 +33,32 @@ pub fn leave_for(stack: &mut ModeStack, mode: usize) -> bool
     ensures below { stack.new.below ≡ stack.old.below }
 {
     stack.act(&Action::Mode(mode)).is_ok()
+}
+
+// Needs lalrpop_modes::ModeStack::clone: ghost is_clone; lalrpop_modes::ModeStack::eq: same.
+// Needs lalrpop_modes::ModeStack::act_all: acted.
+/// Whether actions lead back to the stack of modes on which they begin.
+///
+/// # Errors
+///
+/// `AllocError` if a request for memory was refused.
+pub fn lead_back(stack: &ModeStack, actions: &[Action]) -> Result<bool, AllocError>
+    ensures same { IfOk result (λ same. IsTrue same ↔ (act_all actions.now stack.now ≡ stack.now)) }
+{
+    let mut copy = stack.clone()?;
+    copy.act_all(actions)?;
+    Ok(copy == *stack)
+}
+
+// Needs lalrpop_modes::ModeStack::depth: depth; lalrpop_modes::ModeStack::act: acted.
+/// Puts a mode on the stack, and tells how many lie below it.
+///
+/// # Errors
+///
+/// `AllocError` if a request for memory was refused.
+pub fn push_and_count(stack: &mut ModeStack, mode: usize) -> Result<usize, AllocError>
+    ensures one_more { IfOk result (λ depth. depth ≡ length stack.old.below + 1) }
+{
+    stack.act(&Action::Push(mode))?;
+    Ok(stack.depth())
 }

@@ -1,0 +1,150 @@
+//! `editor RULES TEXT [--check]`: holds the text of a file with its pieces, and edits it.
+//!
+//! Each line of standard input is an edit: two places in the text, in bytes, and what comes in place of what lies between them,
+//! with escapes as in a pattern, so that `\n` is a line feed. For each edit it writes what changed: a line such as
+//! `4..5 -> 4..6: 1 out, 1 in`, and a line for each piece that came, `! ` where no rule matches. With `--check`, the text is cut
+//! from nothing too after each edit, at once and in chunks, and it is an error if that gives other pieces. The text of the file
+//! isn't changed.
+#![tactic(auto)]
+
+use anyhow::{Context, Result, bail};
+use lalrpop_edits::{Change, Chunks, LexedText, Pieces};
+use lalrpop_lexer::lexer::re::unescape;
+use lalrpop_modes::ModeLexer;
+use lalrpop_rule_file::read_rules;
+use lalrpop_rules::Item;
+use std::alloc::Global;
+use std::io::{self, Print};
+use std::ops::Range;
+use std::{env, fs};
+
+// What is replaced, and by what.
+#[derive(Drop)]
+struct Edit {
+    range: Range<usize>,
+    new: String,
+}
+
+// The edit of a line `FROM TO TEXT`.
+fn edit_of(alloc: Global, line: &str) -> Result<Edit> {
+    let mut words = line.splitn(3, ' ');
+    let (Some(from), Some(to)) = (words.next(), words.next()) else {
+        bail!("an edit is two places and a text");
+    };
+    let range = from.parse()?..to.parse()?;
+    let new = unescape(alloc, words.next().unwrap_or(""))?;
+    Ok(Edit { range, new })
+}
+
+// The name of the rule of a piece.
+fn name_of<'text>(lexer: &'text ModeLexer, piece: &Item<'_>) -> &'text str {
+    match piece {
+        Item::Token(token) | Item::Skipped(token) => lexer.name(token.index).unwrap_or("?"),
+        Item::Fault { .. } => "!",
+    }
+}
+
+// Writes what changed, and the pieces that came.
+fn show(rt: &impl Print, text: &LexedText<'_>, change: &Change) -> Result<()> {
+    let Change {
+        removed,
+        inserted,
+        start,
+        old_end,
+        new_end,
+        ..
+    } = *change;
+    println!(rt; "{start}..{old_end} -> {start}..{new_end}: {removed} out, {inserted} in")?;
+    let mut at = start;
+    while at < new_end
+        && let Some(piece) = text.piece_at(at)
+    {
+        println!(rt; "{} {:?}", name_of(text.lexer(), &piece), piece.slice())?;
+        at = piece.start().saturating_add(piece.slice().len());
+    }
+    Ok(())
+}
+
+// Cuts the text from nothing, and compares.
+fn check(alloc: Global, text: &LexedText<'_>) -> Result<()> {
+    let mut kept = text.pieces();
+    for item in text.lexer().items(alloc, text.text()) {
+        match item {
+            Ok(item) if kept.next() == Some(item) => {}
+            Ok(_) => bail!("a cut from nothing gives other pieces"),
+            Err(error) => return Err(error.into()),
+        }
+    }
+    if kept.next().is_some() {
+        bail!("a cut from nothing gives fewer pieces");
+    }
+    Ok(())
+}
+
+// Compares the pieces that are given with the next ones of the text. There are `most` at most.
+fn compare(chunks: &mut Chunks<'_>, kept: &mut Pieces<'_>, most: usize) -> Result<()> {
+    for _ in 0..most {
+        let given = match chunks.next_piece() {
+            Ok(Some(given)) => given,
+            Ok(None) => return Ok(()),
+            Err(error) => return Err(error.into()),
+        };
+        match kept.next() {
+            Some(piece) if given.start == piece.start() && given.slice == piece.slice() => {}
+            _ => bail!("chunks give other pieces"),
+        }
+    }
+    Ok(())
+}
+
+// Cuts the text in chunks of one and two characters, and compares.
+fn check_chunks(alloc: Global, text: &LexedText<'_>) -> Result<()> {
+    let mut chunks = Chunks::new(alloc, text.lexer());
+    let mut kept = text.pieces();
+    let mut chunk = String::new(alloc);
+    let most = text.text().len().saturating_add(1);
+    for (n, c) in text.text().chars().enumerate() {
+        chunk.push(c)?;
+        if n % 3 != 1 {
+            chunks.feed(&chunk)?;
+            chunk.clear();
+            compare(&mut chunks, &mut kept, most)?;
+        }
+    }
+    chunks.feed(&chunk)?;
+    chunks.finish();
+    compare(&mut chunks, &mut kept, most)?;
+    if kept.next().is_some() {
+        bail!("chunks give fewer pieces");
+    }
+    Ok(())
+}
+
+/// Reads the files, and does the edits.
+fn main(rt: HostRuntime) -> Result<()> {
+    let alloc = rt.alloc();
+    let mut words = env::args(&rt)?;
+    // The first word is the name of the program.
+    words.next();
+    let (Some(rules_name), Some(text_name)) = (words.next(), words.next()) else {
+        bail!("usage: editor RULES TEXT [--check] < EDITS");
+    };
+    let is_checked = words.next().is_some_and(|word| word.as_str() == "--check");
+    let bytes = fs::read_to_string(&rt, &rules_name).context(format_args!("{rules_name:?}"))?;
+    let file = read_rules(alloc, bytes.as_bytes()).context(format_args!("{rules_name:?}"))?;
+    let rules = file.mode_rules(alloc)?;
+    let made = ModeLexer::from_rules(alloc, &rules, file.modes.len());
+    let lexer = made.context(format_args!("{rules_name:?}"))?;
+    let start = fs::read_to_string(&rt, &text_name).context(format_args!("{text_name:?}"))?;
+    let mut text = LexedText::new(alloc, &lexer, &start)?;
+    for line in io::read_to_string(alloc, rt.reader())?.lines() {
+        let edit = edit_of(alloc, line)?;
+        let change = text.edit(alloc, edit.range, &edit.new)?;
+        if is_checked {
+            check(alloc, &text)?;
+            check_chunks(alloc, &text)?;
+        }
+        show(&rt, &text, &change)?;
+    }
+    Ok(())
+}

@@ -1,0 +1,155 @@
+-- Cases of specs/Lexed.antt.
+use Rattle.std.proofs.Common.{◌≡◌, ℕ, ◌+◌, ◌<◌, inl, inr, List, [], ◌∷◌, length, get_or, codes, refl, sym, ap, ◌∙◌, arith}
+use Rattle.std.specs.Prelude.{Some, None}
+use Rattle.std.specs.Borrow.{Bor}
+use Rattle.lalrpop_rules.specs.declared.item.Item.{Item}
+use Rattle.lalrpop_rules.specs.declared.item.Item.TheVariants.{Token, Skipped, Fault}
+use Rattle.lalrpop_rules.proofs.UniquePieces.{no_piece_left}
+use Rattle.lalrpop_modes.specs.declared.action.Action.TheVariants.{Push}
+use Rattle.lalrpop_modes.specs.Stack.{Stack, start}
+use Rattle.lalrpop_modes.specs.Modes.{ModeRules, trees_in}
+use Rattle.lalrpop_edits.specs.Lexed.{Lexed, ArePiecesOf, replaced, IsRange, IsEditError, placed, placed_from, IsChangeOf, MeetAt, IsEarliest, IsPieceNumber, HasPieces, Handed, HandsOut}
+use Rattle.lalrpop_edits.specs.declared.change.Change.{Change}
+use Rattle.lalrpop_edits.specs.declared.error.EditError.TheVariants.{NoBoundary, TooLarge, OutOfMemory}
+
+abbrev no_rules : ModeRules
+no_rules = record { names = []; trees = []; precedences = []; skips = []; actions = []; members = []; kinds = []; modes = 1; automata = [] }
+
+-- ---- the new text
+
+replaced_in_the_middle : replaced (codes "abcd") 1 3 (codes "xyz") ≡ codes "axyzd"
+replaced_in_the_middle = refl
+
+inserted_at_the_end : replaced (codes "ab") 2 2 (codes "c") ≡ codes "abc"
+inserted_at_the_end = refl
+
+all_of_it_gone : replaced (codes "ab") 0 2 [] ≡ []
+all_of_it_gone = refl
+
+-- ---- ranges
+
+range_of_one_character : IsRange (codes "abc") 1 2
+range_of_one_character = record { order = omega arith; begins = (omega arith, λ within high. omega (arith, high)); ends = (omega arith, λ within high. omega (arith, high)) }
+
+range_that_ends_before_it_begins : (text : List ℕ) → ¬ IsRange text 2 1
+range_that_ends_before_it_begins text r = omega (arith, r.order)
+
+range_past_the_end : ¬ IsRange (codes "ab") 0 3
+range_past_the_end r = omega (arith, r.ends.0)
+
+-- é has two bytes
+range_within_a_character : ¬ IsRange (195 ∷ 169 ∷ []) 1 2
+range_within_a_character r = omega (arith, r.begins.1 (omega arith) (omega arith))
+
+-- ---- errors
+
+no_boundary_of_a_range_that_is_none : (l : Lexed) (new : List ℕ) → IsEditError l 2 1 new NoBoundary
+no_boundary_of_a_range_that_is_none l new r = omega (arith, r.order)
+
+no_boundary_of_a_range : (l : Lexed) (from to : ℕ) (new : List ℕ) → IsRange l.text from to → ¬ IsEditError l from to new NoBoundary
+no_boundary_of_a_range l from to new r error = error r
+
+small_text_too_large : (new : List ℕ) → length (replaced (codes "ab") 0 1 new) < 9 → ¬ IsEditError (record { rules = no_rules; text = codes "ab" }) 0 1 new TooLarge
+small_text_too_large new few error = elim error.1 [ inl many ↦ omega (arith, few, many) | inr many ↦ omega (arith, many) ]
+
+-- a range that is none is told first
+out_of_memory_without_a_range : (l : Lexed) (new : List ℕ) → ¬ IsEditError l 2 1 new OutOfMemory
+out_of_memory_without_a_range l new error = omega (arith, error.order)
+
+-- ---- pieces at other places
+
+placed_token : (slice : Bor (List ℕ)) → placed 7 (Token (record { index = 3; slice = slice; start = 1 })) ≡ Token (record { index = 3; slice = slice; start = 7 })
+placed_token slice = refl
+
+placed_fault : (slice : Bor (List ℕ)) → placed 7 (Fault 1 slice) ≡ Fault 7 slice
+placed_fault slice = refl
+
+-- the second begins where the first ends
+placed_two : (p q : Bor (List ℕ)) → p.now ≡ codes "ab" → placed_from 5 (Fault 0 p ∷ Fault 2 q ∷ []) ≡ Fault 5 p ∷ Fault 7 q ∷ []
+placed_two p q e = ap (λ (n : ℕ). Fault 5 p ∷ Fault (5 + n) q ∷ []) (ap length e)
+
+-- ---- changes
+
+abbrev first_replaced : Change
+first_replaced = record { first = 0; removed = 1; inserted = 1; start = 0; old_end = 2; new_end = 3 }
+
+-- `ab` became `abc`, and the space behind it stayed
+one_of_two_changed : (p q p2 q2 : Bor (List ℕ)) → p.now ≡ codes "ab" → q.now ≡ codes " " → p2.now ≡ codes "abc" → q2.now ≡ codes " "
+    → IsChangeOf (Token (record { index = 0; slice = p; start = 0 }) ∷ Skipped (record { index = 1; slice = q; start = 2 }) ∷ [])
+    (Token (record { index = 0; slice = p2; start = 0 }) ∷ Skipped (record { index = 1; slice = q2; start = 3 }) ∷ []) first_replaced
+one_of_two_changed p q p2 q2 e f e2 f2 = record {
+  removed = omega arith;
+  inserted = omega arith;
+  front = tt;
+  behind = ((refl, refl, f ∙ sym f2), tt);
+  start_is = refl;
+  old_end_is = rw e refl;
+  new_end_is = rw e2 refl;
+}
+
+-- the same pieces with their ends told wrong
+end_told_wrong : (p p2 : Bor (List ℕ)) → p.now ≡ codes "ab" → p2.now ≡ codes "abcd" → ¬ IsChangeOf (Fault 0 p ∷ []) (Fault 0 p2 ∷ []) first_replaced
+end_told_wrong p p2 e f c = let n : 3 ≡ 4 = rw f at c.new_end_is in omega (arith, n)
+
+-- a piece whose bytes changed isn't one that stays in front
+changed_bytes_told_as_kept : (p p2 : Bor (List ℕ)) → p.now ≡ codes "a" → p2.now ≡ codes "b"
+    → ¬ IsChangeOf (Fault 0 p ∷ []) (Fault 0 p2 ∷ []) (record { first = 1; removed = 0; inserted = 0; start = 1; old_end = 1; new_end = 1 })
+changed_bytes_told_as_kept p p2 e f c =
+    let n : 97 ≡ 98 = ap (λ (bytes : List ℕ). get_or bytes 0 0) (sym e ∙ c.front.0.1 ∙ f) in omega (arith, n)
+
+-- nor is one more piece behind
+one_more_told_as_none : (p q : Bor (List ℕ))
+    → ¬ IsChangeOf (Fault 0 p ∷ []) (Fault 0 p ∷ Fault 1 q ∷ []) (record { first = 1; removed = 0; inserted = 0; start = 1; old_end = 1; new_end = 1 })
+one_more_told_as_none p q c = c.behind
+
+-- more pieces gone than there are
+more_gone_than_there_are : (xs ys : List Item) → length xs ≡ 0 → ¬ IsChangeOf xs ys first_replaced
+more_gone_than_there_are xs ys none c = omega (arith, c.removed, none)
+
+-- ---- numbers of pieces
+
+no_piece_of_the_empty_text : (r : ModeRules) → ArePiecesOf (record { rules = r; text = [] }) []
+no_piece_of_the_empty_text r = (start, (refl, refl))
+
+text_left_over : (r : ModeRules) → ¬ ArePiecesOf (record { rules = r; text = codes "a" }) []
+text_left_over r are = absurd (cc (are.1.0))
+
+empty_text_has_none : (r : ModeRules) → HasPieces (record { rules = r; text = [] }) 0
+empty_text_has_none r [] are = refl
+empty_text_has_none r (x ∷ xs) are = absurd (no_piece_left (trees_in r 0) r.precedences r.skips [] 0 x are.1.0 refl)
+
+empty_text_has_no_first : (r : ModeRules) (x : Item) → ¬ IsPieceNumber (record { rules = r; text = [] }) 0 x
+empty_text_has_no_first r x is = is [] (no_piece_of_the_empty_text r)
+
+-- ---- no further than needed
+
+-- `c` was put behind `ab`
+met_behind : (p p2 : Bor (List ℕ)) → p.now ≡ codes "ab" → p2.now ≡ codes "abc" → MeetAt [] 2 2 1 (Fault 0 p ∷ []) (Fault 0 p2 ∷ []) 1 1
+met_behind p p2 e f = record { behind = rw e (omega arith); same = rw e (rw f refl); stack = refl }
+
+-- not in front of what was replaced
+met_in_front : (xs ys : List Item) → ¬ MeetAt [] 2 2 1 xs ys 0 0
+met_in_front xs ys m = omega (arith, m.behind)
+
+-- nor in other modes
+met_in_other_modes : (p : Bor (List ℕ)) → ¬ MeetAt ((Push 1 ∷ []) ∷ []) 0 0 0 (Token (record { index = 0; slice = p; start = 0 }) ∷ []) (Fault 0 p ∷ []) 1 1
+met_in_other_modes p m = let n : 1 ≡ 0 = ap (λ (s : Stack). s.mode) m.stack in omega (arith, n)
+
+-- old and new pieces meet at once, so none had to be cut
+cut_further_than_needed : (r : ModeRules) → ¬ IsEarliest (record { rules = r; text = [] }) (record { rules = r; text = [] }) 0 0 0 first_replaced
+cut_further_than_needed r earliest =
+    let ends = earliest [] [] (no_piece_of_the_empty_text r) (no_piece_of_the_empty_text r) 0 0 (omega arith) (omega arith) (omega arith) (omega arith)
+    (record { behind = omega arith; same = refl; stack = refl }) in
+    omega (arith, ends.0)
+
+-- ---- handing out
+
+nothing_of_the_empty_text : (r : ModeRules) → HandsOut (record { lexed = record { rules = r; text = [] }; count = 0 }) None (record { lexed = record { rules = r; text = [] }; count = 0 })
+nothing_of_the_empty_text r = (refl, empty_text_has_none r)
+
+-- not before all are handed out
+nothing_too_early : (l : Lexed) (x : Item) (end : List Item) → ArePiecesOf l (x ∷ end) → ¬ HandsOut (record { lexed = l; count = 0 }) None (record { lexed = l; count = 0 })
+nothing_too_early l x end are h = let n = h.1 (x ∷ end) are in omega (arith, n)
+
+one_piece_twice : (l : Lexed) (x : Item) → ¬ HandsOut (record { lexed = l; count = 4 }) (Some x) (record { lexed = l; count = 4 })
+one_piece_twice l x h = let n : 4 ≡ 5 = ap (λ (s : Handed). s.count) h.0 in omega (arith, n)

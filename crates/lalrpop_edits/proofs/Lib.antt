@@ -1,0 +1,29 @@
+mod Cases
+-- what a piece depends on
+pub mod Alike
+pub mod Settling
+-- the run of an automaton, and the piece at the front of a text
+pub mod Runs
+pub mod Fronts
+-- what is kept of pieces, one after another
+pub mod KeptLaws
+pub mod Places
+-- a stretch of the text is replaced
+pub mod Edits
+-- blocks, and the whole edit
+pub mod BlockLaws
+pub mod Starting
+pub mod FirstMeeting
+pub mod Relexing
+pub mod LeastChanges
+-- from what is kept to the pieces of the text
+pub mod Items
+pub mod Changes
+pub mod Earliest
+-- pieces that are handed out, block by block
+pub mod Handing
+-- a stretch of a text is replaced, and put back
+pub mod Undoing
+-- a text that comes in chunks
+pub mod Chunking
+pub mod ChunkLaws

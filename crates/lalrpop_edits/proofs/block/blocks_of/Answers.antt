@@ -1,0 +1,45 @@
+use Rattle.std.proofs.Common.{◌≡◌, ℕ, ◌+◌, ◌-◌, ◌++◌, [], ◌∷◌, List, take, drop, arith, sym, ap, subst, ◌∙◌}
+use Rattle.lalrpop_edits.specs.declared.kept.Kept.{Kept}
+use Rattle.lalrpop_edits.specs.declared.block.Block.{Block}
+use Rattle.std.proofs.lemmas.List.{append-nil}
+use Rattle.lalrpop_edits.specs.Internal.Blocks.{pieces_in, sizes, after_pieces, IsMarked, AreMarked}
+use Rattle.lalrpop_edits.proofs.BlockLaws.{sizes_join, after_join, sizes_front, pieces_join, marked_join, split_run}
+use Rattle.lalrpop_edits.proofs.block.blocks_of.Goals as goal
+
+pub block_of-requires : goal.block_of-requires
+block_of-requires c =
+    let ks = c.args.pieces.now in
+    let from = c.loop-from.from in
+    let n = c.loop-from.from + c.share.result - c.loop-from.from in
+    record {
+      fits =
+          omega (arith, c.loop-from.invariant.at, c.requires.fits, ap sizes (split_run from n ks), sizes_join (take from ks) (take n (drop from ks)), sizes_front (from + n) ks);
+    }
+
+pub loop-from-preserved : goal.loop-from-preserved
+loop-from-preserved c =
+    let r = c.args.lexer.now in
+    let ks = c.args.pieces.now in
+    let from = c.loop-from.from in
+    let n = c.loop-from.from + c.share.result - c.loop-from.from in
+    let inv = c.loop-from.invariant in
+    let made = c.in_ok-block.ensures in
+    let s = c.args.place.now.stack in
+    let run : take (c.loop-from.from + c.share.result) ks ≡ take from ks ++ take n (drop from ks) =
+    ap (λ (m : ℕ). take m ks) (omega arith) ∙ split_run from n ks in
+    let before : IsMarked (after_pieces r (pieces_in c.loop-from.blocks.items) s) c.in_ok-block.block =
+    subst (λ (v : _). IsMarked v c.in_ok-block.block) (inv.stack ∙ ap (λ (ls : List Kept). after_pieces r ls s) (sym inv.pieces)) made.marked in
+    record {
+      within = omega (arith, c.share.ensures.within, c.loop-from-test.true);
+      at = omega (arith, made.at, inv.at, ap sizes run, sizes_join (take from ks) (take n (drop from ks)));
+      stack =
+          made.stack ∙ ap (after_pieces r (take n (drop from ks))) inv.stack ∙ sym (after_join r (take from ks) (take n (drop from ks)) s)
+          ∙ ap (λ (ls : List Kept). after_pieces r ls s) (sym run);
+      marked =
+          subst (λ (bs : List Block). AreMarked r s bs) (sym c.in_ok-push.ensures.items)
+          (marked_join r s c.loop-from.blocks.items (c.in_ok-block.block ∷ []) inv.marked (before, tt));
+      pieces =
+          ap pieces_in c.in_ok-push.ensures.items ∙ pieces_join c.loop-from.blocks.items (c.in_ok-block.block ∷ [])
+          ∙ ap (λ (ls : List Kept). pieces_in c.loop-from.blocks.items ++ ls) (append-nil c.in_ok-block.block.pieces.items ∙ made.pieces)
+          ∙ ap (λ (ls : List Kept). ls ++ take n (drop from ks)) inv.pieces ∙ sym run;
+    }

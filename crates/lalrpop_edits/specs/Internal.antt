@@ -1,0 +1,12 @@
+pub mod Reach
+pub mod Kept
+pub mod Cutting
+pub mod Blocks
+pub mod Meeting
+pub mod Starting
+pub mod Changing
+pub mod Items
+pub mod Handing
+pub mod Code
+pub mod Least
+pub mod ChunkCode

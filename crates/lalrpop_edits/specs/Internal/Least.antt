@@ -1,0 +1,23 @@
+-- No less is cut anew than has to be.
+use Rattle.std.specs.Prelude.{◌≡◌, ℕ, ◌+◌, ◌<◌, ◌≤◌, List, take, slice_get, Some}
+use Rattle.lalrpop_modes.specs.Stack.{start}
+use Rattle.lalrpop_modes.specs.Modes.{ModeRules}
+use Rattle.lalrpop_edits.specs.Internal.Kept.{AreWithin, reach_of}
+use Rattle.lalrpop_edits.specs.declared.kept.Kept.{Kept}
+use Rattle.lalrpop_edits.specs.declared.change.Change.{Change}
+use Rattle.lalrpop_edits.specs.declared.meet.Edit.{Edit}
+use Rattle.lalrpop_edits.specs.Internal.Blocks.{sizes, after_pieces}
+use Rattle.lalrpop_edits.specs.Internal.Meeting.{new_place}
+
+-- so many of the old pieces ks and so many of the new ones ls end at one place behind what was replaced, with the same stack
+pub record AreMetAt (r : ModeRules) (e : Edit) (ks ls : List Kept) (i j : ℕ) : Type 0 where
+  pub behind : e.to ≤ sizes (take i ks)
+  pub same : new_place e (sizes (take i ks)) ≡ sizes (take j ls)
+  pub stack : after_pieces r (take i ks) start ≡ after_pieces r (take j ls) start
+
+-- the pieces in front depend on nothing from `from` on, but the next one does; and the last place of the change is the first where old pieces are met
+pub record IsLeastChange (r : ModeRules) (e : Edit) (ks ls : List Kept) (c : Change) : Type 0 where
+  pub within : AreWithin e.from 0 (take c.first ks)
+  pub first : (k : Kept) → slice_get ks c.first ≡ Some k → e.from < c.start + reach_of k
+  pub none : (i j : ℕ) → c.first ≤ i → i ≤ c.first + c.removed → c.first ≤ j → j ≤ c.first + c.inserted → AreMetAt r e ks ls i j
+      → (i ≡ c.first + c.removed) × (j ≡ c.first + c.inserted)

@@ -1,0 +1,98 @@
+-- cases: proofs/Cases/Lexed.antt
+-- A text with its pieces, and what an edit changes of it.
+use Rattle.std.specs.Prelude.{◌≡◌, ℕ, ◌+◌, ◌-◌, ◌≤◌, ◌⊎◌, List, [], ◌∷◌, ◌++◌, length, take, drop, Option, Some, None, slice_get, IsSomeAnd}
+use Rattle.std.specs.Str.{IsCharBoundary}
+use Rattle.lalrpop_modes.specs.declared.action.Action.{Action}
+use Rattle.lalrpop_modes.specs.Stack.{Stack, start}
+use Rattle.lalrpop_modes.specs.Modes.{ModeRules, ArePiecesFrom, after_all}
+use Rattle.lalrpop_rules.specs.Pieces.{AreSame, IsSame, joined, slice_of}
+use Rattle.lalrpop_rules.specs.declared.item.Item.{Item}
+use Rattle.lalrpop_rules.specs.declared.item.Item.TheVariants.{Token, Skipped, Fault}
+use Rattle.lalrpop_edits.specs.declared.change.Change.{Change}
+use Rattle.lalrpop_edits.specs.declared.error.EditError.{EditError}
+use Rattle.lalrpop_edits.specs.declared.error.EditError.TheVariants.{NoBoundary, TooLarge, OutOfMemory}
+
+-- a text, and the rules that cut it. So its pieces are told too: all there are, from the beginning, in the first mode
+pub record Lexed : Type 0 where
+  pub rules : ModeRules
+  pub text : List ℕ
+
+-- these are its pieces
+abbrev pub ArePiecesOf : Lexed → List Item → Type 0
+ArePiecesOf l xs = (end : Stack) × ArePiecesFrom l.rules l.text 0 start xs end
+
+-- the text with the bytes from `from` to `to` replaced
+abbrev pub replaced : List ℕ → ℕ → ℕ → List ℕ → List ℕ
+replaced text from to new = take from text ++ (new ++ drop to text)
+
+-- the bytes from `from` to `to` are whole characters of the text
+pub record IsRange (text : List ℕ) (from to : ℕ) : Type 0 where
+  pub order : from ≤ to
+  pub begins : IsCharBoundary text from
+  pub ends : IsCharBoundary text to
+
+-- the error is right: the range isn't one of whole characters; else the new text has 4,294,967,295 bytes or more, or there are as many
+-- rules; or memory was refused
+abbrev pub IsEditError : Lexed → ℕ → ℕ → List ℕ → EditError → Type 0
+IsEditError l from to new NoBoundary = ¬ IsRange l.text from to
+IsEditError l from to new TooLarge = IsRange l.text from to × ((4294967295 ≤ length (replaced l.text from to new)) ⊎ (4294967295 ≤ length l.rules.trees))
+IsEditError l from to new OutOfMemory = IsRange l.text from to
+
+-- the same piece, beginning at this place
+abbrev pub placed : ℕ → Item → Item
+placed at (Token token) = Token (record token { start = at })
+placed at (Skipped token) = Skipped (record token { start = at })
+placed at (Fault begins slice) = Fault at slice
+
+-- the same pieces, one after another from this place on
+abbrev pub placed_from : ℕ → List Item → List Item
+placed_from at [] = []
+placed_from at (x ∷ xs) = placed at x ∷ placed_from (at + length (slice_of x)) xs
+
+-- the pieces xs of a text became the pieces ys of another: the first ones stay, then some went and others came in their place, and the
+-- rest are the same, shifted
+pub record IsChangeOf (xs ys : List Item) (c : Change) : Type 0 where
+  pub removed : c.first + c.removed ≤ length xs
+  pub inserted : c.first + c.inserted ≤ length ys
+  pub front : AreSame (take c.first xs) (take c.first ys)
+  pub behind : AreSame (placed_from c.new_end (drop (c.first + c.removed) xs)) (drop (c.first + c.inserted) ys)
+  pub start_is : c.start ≡ length (joined (take c.first xs))
+  pub old_end_is : c.old_end ≡ length (joined (take (c.first + c.removed) xs))
+  pub new_end_is : c.new_end ≡ length (joined (take (c.first + c.inserted) ys))
+
+-- so the pieces of the one text became those of the other
+abbrev pub IsChange : Lexed → Lexed → Change → Type 0
+IsChange old new c = (xs ys : List Item) → ArePiecesOf old xs → ArePiecesOf new ys → IsChangeOf xs ys c
+
+-- where so many of the pieces end
+abbrev pub end_of : ℕ → List Item → ℕ
+end_of n xs = length (joined (take n xs))
+
+-- so many old pieces and so many new ones end at one place behind what was replaced, in the same modes
+pub record MeetAt (actions : List (List Action)) (from to size : ℕ) (xs ys : List Item) (i j : ℕ) : Type 0 where
+  pub behind : to ≤ end_of i xs
+  pub same : from + size + (end_of i xs - to) ≡ end_of j ys
+  pub stack : after_all actions (take i xs) start ≡ after_all actions (take j ys) start
+
+-- of the pieces that went and came none meet before the last: the text was cut anew no further than needed
+abbrev pub IsEarliest : Lexed → Lexed → ℕ → ℕ → ℕ → Change → Type 0
+IsEarliest old new from to size c = (xs ys : List Item) → ArePiecesOf old xs → ArePiecesOf new ys → (i j : ℕ) → c.first ≤ i → i ≤ c.first + c.removed
+    → c.first ≤ j → j ≤ c.first + c.inserted → MeetAt old.rules.actions from to size xs ys i j → (i ≡ c.first + c.removed) × (j ≡ c.first + c.inserted)
+
+-- the piece with this number, the first being 0
+abbrev pub IsPieceNumber : Lexed → ℕ → Item → Type 0
+IsPieceNumber l n x = (xs : List Item) → ArePiecesOf l xs → IsSomeAnd (slice_get xs n) (λ y. IsSame x y)
+
+-- there are so many pieces
+abbrev pub HasPieces : Lexed → ℕ → Type 0
+HasPieces l n = (xs : List Item) → ArePiecesOf l xs → length xs ≡ n
+
+-- pieces that are handed out one after another: how many so far
+pub record Handed : Type 0 where
+  pub lexed : Lexed
+  pub count : ℕ
+
+-- one call hands out the next piece, or nothing, and nothing changes, once all are
+abbrev pub HandsOut : Handed → Option Item → Handed → Type 0
+HandsOut old None new = (new ≡ old) × HasPieces old.lexed old.count
+HandsOut old (Some x) new = (new ≡ record old { count = old.count + 1 }) × IsPieceNumber old.lexed old.count x

@@ -1,0 +1,110 @@
+//! The pieces of a text in blocks, so that an edit touches few of them.
+
+ghost use Rattle.std.specs.Prelude.{◌≡◌, ℕ, ◌+◌, ◌^◌, ◌<◌, ◌≤◌, [], List, length, take, IfOk, OnOk};
+ghost use Rattle.lalrpop_edits.specs.Internal.Kept.{AreWithin};
+ghost use Rattle.lalrpop_edits.specs.Internal.Blocks.{pieces_in, sizes, after_pieces, IsMarked, AreMarked};
+
+use crate::kept::Kept;
+use crate::place::{Place, pass};
+use lalrpop_modes::{ModeLexer, ModeStack};
+use std::alloc::{AllocError, Global};
+
+// A block has so many pieces at most; or as many as there are modes on the stack where it begins, if those are more: so the stacks
+// of the blocks don't take much more memory than the pieces.
+const MOST: usize = 256;
+
+// Some pieces of a text, one after another.
+#[derive(Drop)]
+pub(crate) struct Block {
+    // The stack of modes where it begins.
+    pub(crate) stack: ModeStack,
+    pub(crate) pieces: Vec<Kept>,
+    // How many bytes they have.
+    pub(crate) size: usize,
+    // None of them depends on more than so many bytes from the beginning of the block on.
+    pub(crate) reach: usize,
+}
+
+// Passes the pieces, which begin at the place. Returns how many bytes from there on they depend on at most.
+fn pass_all(lexer: &ModeLexer, pieces: &[Kept], place: &mut Place) -> Result<usize, AllocError>
+    requires fits { place.old.at + sizes pieces.now < 2 ^ 63 }
+    ensures at { OnOk result (place.new.at ≡ place.old.at + sizes pieces.now) }
+    ensures stack { OnOk result
+        (place.new.stack ≡ after_pieces lexer.now pieces.now place.old.stack) }
+    ensures within { IfOk result (λ reach. AreWithin reach 0 pieces.now) }
+    ensures least { IfOk result (λ reach. (n : ℕ) → AreWithin n 0 pieces.now → reach ≤ n) }
+{
+    let start = place.at;
+    let mut reach = 0usize;
+    for piece in pieces {
+        reach = reach.max(place.at - start + piece.reach());
+        pass(lexer, piece, place)?;
+    }
+    Ok(reach)
+}
+
+// The block of these pieces, which begin at the place: from then on that is behind them.
+fn block_of(
+    alloc: Global,
+    lexer: &ModeLexer,
+    pieces: &[Kept],
+    place: &mut Place,
+) -> Result<Block, AllocError>
+    requires fits { place.old.at + sizes pieces.now < 2 ^ 63 }
+    ensures at { OnOk result (place.new.at ≡ place.old.at + sizes pieces.now) }
+    ensures stack { OnOk result
+        (place.new.stack ≡ after_pieces lexer.now pieces.now place.old.stack) }
+    ensures marked { IfOk result (λ b. IsMarked place.old.stack b) }
+    ensures pieces { IfOk result (λ b. b.pieces.items ≡ pieces.now) }
+{
+    let start = place.at;
+    let stack = place.stack.clone()?;
+    let reach = pass_all(lexer, pieces, place)?;
+    let kept = Vec::from_slice(alloc, pieces)?;
+    Ok(Block {
+        stack,
+        pieces: kept,
+        size: place.at - start,
+        reach,
+    })
+}
+
+// How many of the pieces that are left the next block has, if it may have `most`. The last two blocks share theirs, so that
+// neither is small.
+fn share(left: usize, most: usize) -> usize
+    requires left { 0 < left }
+    requires most { 0 < most }
+    ensures some { 0 < result }
+    ensures within { result ≤ left }
+{
+    if left <= most {
+        left
+    } else if left - most < most {
+        left / 2
+    } else {
+        most
+    }
+}
+
+// The blocks of these pieces, which begin at the place: from then on that is behind them.
+pub(crate) fn blocks_of(
+    alloc: Global,
+    lexer: &ModeLexer,
+    pieces: &[Kept],
+    place: &mut Place,
+) -> Result<Vec<Block>, AllocError>
+    requires fits { place.old.at + sizes pieces.now < 2 ^ 63 }
+    ensures marked { IfOk result (λ bs. AreMarked lexer.now place.old.stack bs.items) }
+    ensures pieces { IfOk result (λ bs. pieces_in bs.items ≡ pieces.now) }
+{
+    let mut blocks = Vec::new(alloc);
+    let mut from = 0;
+    while from < pieces.len() {
+        let most = place.stack.depth().max(MOST);
+        let to = from + share(pieces.len() - from, most);
+        let block = block_of(alloc, lexer, &pieces[from..to], place)?;
+        blocks.push(block)?;
+        from = to;
+    }
+    Ok(blocks)
+}

@@ -1,0 +1,108 @@
+//! The piece at the front of a text, and what it depends on.
+
+ghost use Rattle.std.specs.Prelude.{◌≡◌, ◌+◌, ◌<◌, ◌≤◌, ◌⊎◌, ◌==◌, if◌then◌else◌, ℕ, List, Some, None, length, IfSome, IfNone, IsSomeAnd};
+ghost use Rattle.std.specs.Str.{IsCharBoundary};
+ghost use Rattle.lalrpop_book.specs.Tree.{Tree};
+ghost use Rattle.lalrpop_dfa.specs.Dfa.{RecognizesAll};
+ghost use Rattle.lalrpop_dfa.specs.Lookahead.{IsTrim};
+ghost use Rattle.lalrpop_edits.specs.Internal.Reach.{AreAlike};
+ghost use Rattle.lalrpop_edits.specs.Internal.Kept.{IsFront, rule_of, reach_of};
+ghost use Rattle.lalrpop_edits.specs.Chunked.{IsOpen};
+
+use crate::kept::{FAULT, Kept};
+use crate::run::longest_settled;
+use lalrpop_dfa::{Dfa, NfaIndex};
+use lalrpop_lexer::Lexer;
+
+// The piece at the front of a text: its rule, none in a fault; how many bytes it has; and how many bytes from its beginning on
+// it depends on.
+#[derive(Clone, Copy)]
+pub(crate) struct Front {
+    pub(crate) rule: Option<NfaIndex>,
+    pub(crate) size: usize,
+    pub(crate) reach: usize,
+}
+
+// The piece at the front of a text that is cut by the patterns of an automaton.
+fn front_by(dfa: &Dfa, rest: &str) -> Front
+    requires some { 0 < length rest.now }
+    ensures front { (ts : List Tree) (ps : List ℕ) → RecognizesAll dfa.now ts ps
+        → (other : List ℕ) → AreAlike result.reach rest.now other
+        → (slice : List ℕ) × ((length slice ≡ result.size) × IsFront ts ps other result.rule slice) }
+    ensures some { 0 < result.size }
+    ensures size { result.size ≤ result.reach }
+    ensures within { result.reach ≤ length rest.now + 1 }
+    ensures boundary { IsCharBoundary rest.now result.size }
+    ensures held { length rest.now < result.reach → IsTrim dfa.now
+        → (ts : List Tree) (ps : List ℕ) → RecognizesAll dfa.now ts ps → IsOpen ts rest.now }
+{
+    let mut reach = 0usize;
+    for (offset, _) in rest.char_indices() {
+        let found = longest_settled(dfa, &rest[offset..]);
+        if let Some((index, slice)) = found.longest {
+            // That something matches here ends a fault; a longer match would end it too.
+            if offset > 0 {
+                return Front {
+                    rule: None,
+                    size: offset,
+                    reach: reach.max(offset + slice.len()),
+                };
+            }
+            return Front {
+                rule: Some(index),
+                size: slice.len(),
+                reach: found.reach,
+            };
+        }
+        reach = reach.max(offset + found.reach);
+    }
+    Front {
+        rule: None,
+        size: rest.len(),
+        reach: rest.len() + 1,
+    }
+}
+
+/// The piece at the front of a text that isn't empty.
+pub(crate) fn front_piece(lexer: &Lexer, rest: &str) -> Front
+    requires some { 0 < length rest.now }
+    ensures front { (other : List ℕ) → AreAlike result.reach rest.now other → (slice : List ℕ)
+        × ((length slice ≡ result.size)
+        × IsFront lexer.now.trees lexer.now.precedences other result.rule slice) }
+    ensures some { 0 < result.size }
+    ensures size { result.size ≤ result.reach }
+    ensures within { result.reach ≤ length rest.now + 1 }
+    ensures boundary { IsCharBoundary rest.now result.size }
+    ensures held { length rest.now < result.reach → IsOpen lexer.now.trees rest.now }
+{
+    front_by(lexer.dense().dfa(), rest)
+}
+
+// The number that is kept of a rule. `None` if it is too great.
+fn rule_number(rule: Option<NfaIndex>) -> Option<u32>
+    ensures some { IfSome result (λ n. (if n == 4294967295 then None else Some n) ≡ rule) }
+    ensures none { IfNone result (IsSomeAnd rule (λ i. 4294967295 ≤ i)) }
+{
+    match rule {
+        Some(index) => {
+            let number = u32::try_from(index.index()).ok()?;
+            if number == FAULT { None } else { Some(number) }
+        }
+        None => Some(FAULT),
+    }
+}
+
+/// What is kept of the piece. `None` if a number is too great.
+pub(crate) fn kept_of(front: &Front) -> Option<Kept>
+    requires size { front.now.size ≤ front.now.reach }
+    ensures some { IfSome result (λ k. (rule_of k ≡ front.now.rule) × (k.size ≡ front.now.size)
+        × (reach_of k ≡ front.now.reach)) }
+    ensures none { IfNone result ((4294967296 ≤ front.now.reach)
+        ⊎ IsSomeAnd front.now.rule (λ i. 4294967295 ≤ i)) }
+{
+    Some(Kept {
+        rule: rule_number(front.rule)?,
+        size: u32::try_from(front.size).ok()?,
+        past: u32::try_from(front.reach - front.size).ok()?,
+    })
+}

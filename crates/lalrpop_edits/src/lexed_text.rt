@@ -1,0 +1,263 @@
+//! A text with its pieces, which is edited.
+
+ghost use Rattle.std.specs.Prelude.{◌≡◌, ◌<◌, ◌≤◌, ◌+◌, ◌↔◌, ℕ, List, [], length, string_bytes, string_len, string_capacity, IfOk, OnOk, IfErr, OnErr, IfSome, IfNone, IsTrue};
+ghost use Rattle.std.specs.List.{replace_range};
+ghost use Rattle.std.specs.Str.{IsCharBoundary};
+ghost use Rattle.lalrpop_rules.specs.Pieces.{slice_of, start_of};
+ghost use Rattle.lalrpop_rules.specs.declared.item.Item.{Item as ItemValue};
+ghost use Rattle.lalrpop_edits.specs.Lexed.{ArePiecesOf, IsRange, IsChange, IsEarliest, IsEditError, IsPieceNumber, replaced};
+ghost use Rattle.lalrpop_edits.specs.Internal.Blocks.{sizes};
+ghost use Rattle.lalrpop_edits.specs.Internal.Cutting.{IsCutError};
+ghost use Rattle.lalrpop_edits.specs.Internal.Handing.{AreBlocksOf, IsBlockAt, IsPieceAt, size_in};
+
+use crate::block::Block;
+use crate::change::Change;
+use crate::edit::cut_anew;
+use crate::error::EditError;
+use crate::kept::Kept;
+use crate::pieces::{Pieces, item_of};
+use lalrpop_modes::ModeLexer;
+use lalrpop_rules::Item;
+use std::alloc::Global;
+use std::fmt;
+use std::marker::Model;
+use std::ops::Range;
+
+// Whether the range is one of whole characters of the text.
+fn is_range(text: &str, range: &Range<usize>) -> bool
+    ensures { IsTrue result ↔ IsRange text.now range.now.start range.now.end }
+{
+    range.start <= range.end
+        && text.is_char_boundary(range.start)
+        && text.is_char_boundary(range.end)
+}
+
+// Puts bytes of a text back. There is room for them.
+fn put_back(text: &mut String, from: usize, to: usize, gone: &str)
+    requires order { from ≤ to }
+    requires begins { IsCharBoundary (string_bytes text.old) from }
+    requires ends { IsCharBoundary (string_bytes text.old) to }
+    requires room { string_len text.old + length gone.now ≤ string_capacity text.old }
+    ensures bytes { string_bytes text.new ≡ replace_range (string_bytes text.old) from to gone.now }
+{
+    match text.replace_range(from..to, gone) {
+        Ok(()) => {}
+        Err(_) => unreachable!(),
+    }
+}
+
+// Replaces the range of the text, and cuts anew what that changes of its blocks. On an error both are as they were.
+fn edit_parts(
+    alloc: Global,
+    lexer: &ModeLexer,
+    text: &mut String,
+    blocks: &mut Vec<Block>,
+    range: &Range<usize>,
+    new: &str,
+) -> Result<Change, EditError>
+    requires range { IsRange (string_bytes text.old) range.now.start range.now.end }
+    requires blocks { AreBlocksOf lexer.now (string_bytes text.old) blocks.old.items }
+    ensures text { OnOk result (string_bytes text.new
+        ≡ replaced (string_bytes text.old) range.now.start range.now.end new.now) }
+    ensures blocks { OnOk result (AreBlocksOf lexer.now (string_bytes text.new) blocks.new.items) }
+    ensures change { IfOk result (IsChange
+        (record { rules = lexer.now; text = string_bytes text.old })
+        (record { rules = lexer.now; text = string_bytes text.new })) }
+    ensures earliest { IfOk result (IsEarliest
+        (record { rules = lexer.now; text = string_bytes text.old })
+        (record { rules = lexer.now; text = string_bytes text.new })
+        range.now.start range.now.end (length new.now)) }
+    ensures same_text { OnErr result (string_bytes text.new ≡ string_bytes text.old) }
+    ensures same_blocks { OnErr result (blocks.new.items ≡ blocks.old.items) }
+    ensures error { IfErr result (IsCutError lexer.now
+        (replaced (string_bytes text.old) range.now.start range.now.end new.now)) }
+{
+    let gone = String::from_str(alloc, &text[range.start..range.end])?;
+    // So neither the change nor its undoing can be refused.
+    text.reserve(new.len())?;
+    text.replace_range(range.start..range.end, new)?;
+    match cut_anew(
+        alloc,
+        lexer,
+        text,
+        blocks,
+        range.start,
+        range.end,
+        new.len(),
+    ) {
+        Ok(change) => Ok(change),
+        Err(error) => {
+            put_back(text, range.start, range.start + new.len(), &gone);
+            Err(error)
+        }
+    }
+}
+
+// The block that holds the byte, and where it begins.
+fn find_block(blocks: &[Block], at: usize) -> Option<(&Block, usize)>
+    ensures found { IfSome result (λ f. IsBlockAt blocks.now f.0.now f.1 at) }
+    ensures none { IfNone result (size_in blocks.now ≤ at) }
+{
+    let mut begins = 0;
+    for block in blocks {
+        if at - begins < block.size {
+            return Some((block, begins));
+        }
+        begins += block.size;
+    }
+    None
+}
+
+// What is kept of the piece that holds the byte, and where it begins. The first one begins at `start`, not behind the byte.
+fn find_piece(pieces: &[Kept], start: usize, at: usize) -> Option<(Kept, usize)>
+    requires order { start ≤ at }
+    ensures found { IfSome result (λ f. IsPieceAt pieces.now start f.0 f.1 at) }
+    ensures none { IfNone result (start + sizes pieces.now ≤ at) }
+{
+    let mut begins = start;
+    for piece in pieces {
+        let size = piece.size as usize;
+        if at - begins < size {
+            return Some((*piece, begins));
+        }
+        begins += size;
+    }
+    None
+}
+
+/// A text with its pieces by rules with modes, which stay those of the text whatever is edited. Beside the text it keeps 12 bytes
+/// for each piece.
+///
+/// An edit cuts anew from the first piece that depends on what is replaced up to the first place behind it where an old piece
+/// begins in the same modes; all other pieces are kept. How far a piece depends is how far the automaton read to find it: a comment
+/// that is never closed, for one, makes the piece at its beginning depend on the end of the text, so each edit behind it cuts from
+/// there.
+///
+/// ```
+/// use lalrpop_edits::LexedText;
+///
+/// let mut text = LexedText::new(alloc, &lexer, "let x = 1")?;
+/// let change = text.edit(alloc, 4..5, "yz")?; // "let yz = 1": the piece 2, `x`, became `yz`
+/// let now = text.piece_at(4); // the token "yz"
+/// ```
+#[derive(Drop)]
+pub struct LexedText<'rules> {
+    lexer: &'rules ModeLexer,
+    text: String,
+    blocks: Vec<Block>,
+}
+
+impl<'rules> Model for LexedText<'rules> {
+    ghost use Rattle.std.specs.Prelude.{string_bytes};
+    ghost use Rattle.lalrpop_edits.specs.Lexed.{Lexed};
+    ghost use Rattle.lalrpop_edits.specs.Internal.Code.{lexed_code};
+    ghost use Rattle.lalrpop_edits.specs.Internal.Handing.{AreBlocksOf};
+
+    ghost Value = { Lexed };
+
+    ghost coded = { lexed_code };
+
+    ghost view = { λ t. record { rules = t.lexer.now; text = string_bytes t.text } };
+
+    ghost invariant = { λ t. AreBlocksOf t.lexer.now (string_bytes t.text) t.blocks.items };
+}
+
+impl<'rules> LexedText<'rules> {
+    /// The text with its pieces. It is cut whole, which takes time linear in it for most rules, and at most quadratic.
+    ///
+    /// # Errors
+    ///
+    /// `TooLarge` or `OutOfMemory`, as for an edit.
+    pub fn new(
+        alloc: Global,
+        lexer: &'rules ModeLexer,
+        text: &str,
+    ) -> Result<LexedText<'rules>, EditError>
+        ensures lexed { IfOk result (λ l. l ≡ record { rules = lexer.now; text = text.now }) }
+        ensures error { IfErr result
+            (IsEditError (record { rules = lexer.now; text = [] }) 0 0 text.now) }
+    {
+        let mut lexed = LexedText {
+            lexer,
+            text: String::new(alloc),
+            blocks: Vec::new(alloc),
+        };
+        match lexed.edit(alloc, 0..0, text) {
+            Ok(_) => Ok(lexed),
+            Err(error) => Err(error),
+        }
+    }
+
+    /// The text.
+    pub fn text(&self) -> &str
+        ensures text { result.now ≡ self.now.text }
+    {
+        self.text.as_str()
+    }
+
+    /// The rules.
+    pub fn lexer(&self) -> &'rules ModeLexer
+        ensures rules { result.now ≡ self.now.rules }
+    {
+        self.lexer
+    }
+
+    /// Replaces a range of the text, in bytes, and cuts anew what that changes of its pieces.
+    ///
+    /// # Errors
+    ///
+    /// `NoBoundary` if the range isn't one of whole characters of the text; otherwise `TooLarge` if the new text would have
+    /// 4,294,967,295 bytes or more, or there are as many rules; or `OutOfMemory`. Then nothing has changed.
+    pub fn edit(
+        &mut self,
+        alloc: Global,
+        range: Range<usize>,
+        new: &str,
+    ) -> Result<Change, EditError>
+        ensures edited { OnOk result (self.new
+            ≡ record self.old { text = replaced self.old.text range.start range.end new.now }) }
+        ensures range { OnOk result (IsRange self.old.text range.start range.end) }
+        ensures change { IfOk result (IsChange self.old self.new) }
+        ensures earliest { IfOk result
+            (IsEarliest self.old self.new range.start range.end (length new.now)) }
+        ensures refused { OnErr result (self.new ≡ self.old) }
+        ensures error { IfErr result (IsEditError self.old range.start range.end new.now) }
+    {
+        if !is_range(&self.text, &range) {
+            return Err(EditError::NoBoundary);
+        }
+        edit_parts(
+            alloc,
+            self.lexer,
+            &mut self.text,
+            &mut self.blocks,
+            &range,
+            new,
+        )
+    }
+
+    /// The pieces of the text, from its beginning on.
+    pub fn pieces(&self) -> Pieces<'_>
+        ensures start { result ≡ record { lexed = self.now; count = 0 } }
+        ensures exist { (xs : List ItemValue) × ArePiecesOf self.now xs }
+    {
+        Pieces::new(self.lexer, &self.text, &self.blocks)
+    }
+
+    /// The piece that holds the byte at the place, or `None` at the end of the text and past it.
+    pub fn piece_at(&self, at: usize) -> Option<Item<'_>>
+        ensures piece { IfSome result (λ x. ((n : ℕ) × IsPieceNumber self.now n x)
+            × (start_of x ≤ at) × (at < start_of x + length (slice_of x))) }
+        ensures none { IfNone result (length self.now.text ≤ at) }
+    {
+        let (block, start) = find_block(&self.blocks, at)?;
+        let (piece, start) = find_piece(&block.pieces, start, at)?;
+        Some(item_of(self.lexer, &self.text, start, &piece))
+    }
+}
+
+impl<'rules> fmt::Debug for LexedText<'rules> {
+    fn fmt<W: fmt::Write>(&self, f: &mut fmt::Formatter<W>) -> fmt::Result {
+        write!(f, "LexedText({} bytes)", self.text.len())
+    }
+}

@@ -1,0 +1,26 @@
+//! A text that is edited, and its pieces, by rules with modes. After an edit only those pieces are cut anew that depend on what
+//! was replaced, and those up to the first place behind it where an old piece begins in the same modes.
+#![tactic(auto)]
+
+mod block;
+mod change;
+mod chunks;
+mod edit;
+mod error;
+mod front;
+mod given_piece;
+mod kept;
+mod lexed_text;
+mod meet;
+mod pieces;
+mod place;
+mod run;
+#[cfg(test)]
+mod test;
+
+pub use change::Change;
+pub use chunks::Chunks;
+pub use error::EditError;
+pub use given_piece::GivenPiece;
+pub use lexed_text::LexedText;
+pub use pieces::Pieces;

@@ -1,0 +1,83 @@
+//! A place in a text that is cut, with the stack of modes there.
+
+ghost use Rattle.std.specs.Prelude.{◌≡◌, ◌+◌, ◌^◌, ◌<◌, length, drop, IfOk, IfErr, OnOk, OnErr};
+ghost use Rattle.std.specs.Str.{IsCharBoundary};
+ghost use Rattle.lalrpop_modes.specs.Modes.{EachMode};
+ghost use Rattle.lalrpop_edits.specs.Internal.Kept.{IsKept, after_kept};
+ghost use Rattle.lalrpop_edits.specs.Internal.Cutting.{IsCutError};
+
+use crate::error::EditError;
+use crate::front::{front_piece, kept_of};
+use crate::kept::{FAULT, Kept};
+use lalrpop_dfa::NfaIndex;
+use lalrpop_modes::{ModeLexer, ModeStack};
+use std::alloc::AllocError;
+
+// Where the next piece begins, and the stack of modes there.
+#[derive(Drop)]
+pub(crate) struct Place {
+    pub(crate) at: usize,
+    pub(crate) stack: ModeStack,
+}
+
+impl Clone for Place {
+    ghost is_clone = { λ place copy. copy ≡ place };
+
+    fn clone(&self) -> Result<Place, AllocError> {
+        Ok(Place {
+            at: self.at,
+            stack: self.stack.clone()?,
+        })
+    }
+}
+
+/// Passes the piece, which begins at the place: from then on the place is behind it. No text has 2^64 bytes.
+///
+/// # Errors
+///
+/// `AllocError` if a request for memory was refused. Then the place is as it was.
+pub(crate) fn pass(lexer: &ModeLexer, piece: &Kept, place: &mut Place) -> Result<(), AllocError>
+    ensures at { OnOk result (place.old.at + piece.now.size < 2 ^ 64
+        → place.new.at ≡ place.old.at + piece.now.size) }
+    ensures stack { OnOk result
+        (place.new.stack ≡ after_kept lexer.now piece.now place.old.stack) }
+    ensures there { OnOk result (EachMode (λ m. m < lexer.now.modes) place.old.stack
+        → EachMode (λ m. m < lexer.now.modes) place.new.stack) }
+    ensures refused { OnErr result (place.new ≡ place.old) }
+{
+    if piece.rule != FAULT {
+        let index = NfaIndex::new(piece.rule as usize);
+        place.stack.act_all(lexer.actions(index))?;
+    }
+    place.at = place.at.saturating_add(piece.size as usize);
+    Ok(())
+}
+
+/// Cuts the piece at the place, before the end of the text, and passes it.
+///
+/// # Errors
+///
+/// The text is too large, or there are too many rules, or a request for memory was refused.
+pub(crate) fn cut_piece(lexer: &ModeLexer, text: &str, place: &mut Place) -> Result<Kept, EditError>
+    requires boundary { IsCharBoundary text.now place.old.at }
+    requires within { place.old.at < length text.now }
+    requires there { EachMode (λ m. m < lexer.now.modes) place.old.stack }
+    ensures kept { IfOk result (λ k.
+        IsKept lexer.now place.old.stack.mode (drop place.old.at text.now) k) }
+    ensures some { IfOk result (λ k. 0 < k.size) }
+    ensures at { IfOk result (λ k. place.new.at ≡ place.old.at + k.size) }
+    ensures stack { IfOk result (λ k.
+        place.new.stack ≡ after_kept lexer.now k place.old.stack) }
+    ensures boundary { OnOk result (IsCharBoundary text.now place.new.at) }
+    ensures there { OnOk result (EachMode (λ m. m < lexer.now.modes) place.new.stack) }
+    ensures error { IfErr result (λ e. IsCutError lexer.now text.now e) }
+{
+    let front = front_piece(lexer.lexer(place.stack.top()), &text[place.at..]);
+    match kept_of(&front) {
+        Some(piece) => {
+            pass(lexer, &piece, place)?;
+            Ok(piece)
+        }
+        None => Err(EditError::TooLarge),
+    }
+}

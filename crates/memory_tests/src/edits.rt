@@ -1,0 +1,117 @@
+//! Texts that are edited, and texts that come in chunks.
+
+use crate::calls::{Call, add, expect, halves};
+use lalrpop_edits::{Chunks, EditError, LexedText};
+use lalrpop_modes::ModeLexer;
+use lalrpop_rule_file::read_rules;
+use std::alloc::{AllocError, Global};
+
+// The lexer of a file of lines with `;` between them.
+fn lexer_of(alloc: Global, lines: &str) -> Result<ModeLexer, AllocError> {
+    let lines = lines.replace(alloc, ';', "\n")?;
+    let Ok(file) = read_rules(alloc, lines.as_bytes()) else {
+        return Err(AllocError);
+    };
+    let rules = file.mode_rules(alloc)?;
+    let modes = file.modes.len();
+    if modes == 0 {
+        return Err(AllocError);
+    }
+    match ModeLexer::from_rules(alloc, &rules, modes) {
+        Ok(lexer) => Ok(lexer),
+        Err(_) => Err(AllocError),
+    }
+}
+
+fn slices(alloc: Global, lexed: &LexedText<'_>) -> Result<String, AllocError> {
+    let mut line = String::new(alloc);
+    for piece in lexed.pieces() {
+        add(&mut line, " ", piece.slice())?;
+    }
+    Ok(line)
+}
+
+// Puts `new` behind the byte in the middle. If that is refused, the text and its pieces are the old ones.
+fn edit_once(
+    alloc: Global,
+    lexed: &mut LexedText<'_>,
+    text: &str,
+    new: &str,
+) -> Result<String, AllocError> {
+    let before = slices(alloc, lexed)?;
+    let middle = text.len() / 2;
+    match lexed.edit(alloc, middle..middle, new) {
+        Ok(_) => slices(alloc, lexed),
+        Err(EditError::OutOfMemory) if lexed.text() == text => {
+            let behind = slices(alloc, lexed)?;
+            if behind.as_str() == before.as_str() {
+                return Err(AllocError);
+            }
+            String::from_str(alloc, "the pieces changed")
+        }
+        Err(error) => format!(in alloc; "{error}"),
+    }
+}
+
+// The pieces of the text in `LINES <- TEXT <- NEW`, with NEW put into its middle.
+pub(crate) fn edited(alloc: Global, argument: &str) -> Result<String, AllocError> {
+    let (lines, texts) = halves(argument, " <- ");
+    let (text, new) = halves(texts, " <- ");
+    let lexer = lexer_of(alloc, lines)?;
+    match LexedText::new(alloc, &lexer, text) {
+        Ok(mut lexed) => edit_once(alloc, &mut lexed, text, new),
+        Err(EditError::OutOfMemory) => Err(AllocError),
+        Err(error) => format!(in alloc; "{error}"),
+    }
+}
+
+#[test]
+fn texts_are_edited(rt: HostRuntime) {
+    let table = "\
+A = /a+/;OPEN push C = '(';[C];IN push C = '(';OUT pop = ')';B = /b+/ <- aabb <- (b( => aa ( b ( bb
+A = /a+/ <- aa <- a => aaa";
+    expect(&rt, rt.alloc(), Call::Edits, table, 2);
+}
+
+// Adds the pieces that no later chunk can change, `|` behind them. A piece that is refused is asked for again.
+fn add_pieces(chunks: &mut Chunks<'_>, text: &str, line: &mut String) -> Result<(), AllocError> {
+    let mut is_refused = false;
+    // A piece has one byte at least.
+    for _ in 0..=text.len() {
+        match chunks.next_piece() {
+            Ok(Some(piece)) => add(line, " ", piece.slice)?,
+            Ok(None) => return add(line, " ", "|"),
+            Err(_) if is_refused => return Err(AllocError),
+            Err(_) => is_refused = true,
+        }
+    }
+    Ok(())
+}
+
+// The pieces of the text in `LINES <- TEXT`, which comes in chunks with `|` between them. A chunk that is refused is fed again.
+pub(crate) fn in_chunks(alloc: Global, argument: &str) -> Result<String, AllocError> {
+    let (lines, text) = halves(argument, " <- ");
+    let lexer = lexer_of(alloc, lines)?;
+    let mut chunks = Chunks::new(alloc, &lexer);
+    let mut line = String::new(alloc);
+    for chunk in text.split('|') {
+        // Nothing ends the text before the last chunk.
+        if chunks.is_ended() {
+            break;
+        }
+        if chunks.feed(chunk).is_err() {
+            chunks.feed(chunk)?;
+        }
+        add_pieces(&mut chunks, text, &mut line)?;
+    }
+    chunks.finish();
+    add_pieces(&mut chunks, text, &mut line)?;
+    Ok(line)
+}
+
+#[test]
+fn texts_come_in_chunks(rt: HostRuntime) {
+    let table = "\
+A = /a+/;OPEN push C = '(';[C];IN push C = '(';OUT pop = ')';B = /b+/ <- a|a(b|b) => | aa ( | bb ) | |";
+    expect(&rt, rt.alloc(), Call::Chunks, table, 1);
+}

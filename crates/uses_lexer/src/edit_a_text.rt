@@ -1,0 +1,222 @@
+//! A text is edited, and its pieces with it.
+ghost use Rattle.std.specs.Prelude.{◌≡◌, ◌≤◌, ◌<◌, ◌+◌, ◌++◌, ◌⊎◌, List, length, take, drop, true, IfOk, OnOk, IfErr};
+ghost use Rattle.std.specs.Str.{IsCharBoundary};
+ghost use Rattle.lalrpop_edits.specs.Lexed.{ArePiecesOf, HasPieces, MeetAt, replaced};
+ghost use Rattle.lalrpop_rules.specs.Pieces.{AreSame};
+ghost use Rattle.lalrpop_rules.specs.declared.item.Item.{Item as ItemValue};
+
+use lalrpop_edits::{Change, EditError, LexedText};
+use lalrpop_modes::ModeLexer;
+use lalrpop_rules::Item;
+use std::alloc::{AllocError, Global};
+use std::ops::Range;
+
+// Needs lalrpop_edits::LexedText::new: lexed.
+// Needs lalrpop_edits::LexedText::edit: edited.
+/// A text after two edits.
+///
+/// # Errors
+///
+/// What is wrong with one of them, or with the text.
+pub fn edited_twice<'rules>(
+    alloc: Global,
+    lexer: &'rules ModeLexer,
+    text: &str,
+    first: Range<usize>,
+    one: &str,
+    second: Range<usize>,
+    other: &str,
+) -> Result<LexedText<'rules>, EditError>
+    ensures rules { IfOk result (λ lexed. lexed.rules ≡ lexer.now) }
+    ensures both { IfOk result (λ lexed. lexed.text ≡
+        replaced (replaced text.now first.start first.end one.now) second.start second.end other.now) }
+{
+    let mut lexed = LexedText::new(alloc, lexer, text)?;
+    lexed.edit(alloc, first, one)?;
+    lexed.edit(alloc, second, other)?;
+    Ok(lexed)
+}
+
+// Needs lalrpop_edits::LexedText::edit: edited, range, error.
+/// Puts bytes into a text.
+///
+/// # Errors
+///
+/// `NoBoundary` only if no character begins there, and the text doesn't end there.
+pub fn insert(
+    alloc: Global,
+    lexed: &mut LexedText<'_>,
+    at: usize,
+    new: &str,
+) -> Result<(), EditError>
+    ensures inserted { OnOk result (lexed.new.text
+        ≡ take at lexed.old.text ++ (new.now ++ drop at lexed.old.text)) }
+    ensures boundary { OnOk result (IsCharBoundary lexed.old.text at) }
+    ensures refused { IfErr result (λ error. error ≡ EditError.NoBoundary
+        → ¬ IsCharBoundary lexed.old.text at) }
+{
+    lexed.edit(alloc, at..at, new)?;
+    Ok(())
+}
+
+// Needs lalrpop_edits::LexedText::edit: refused.
+/// Whether an edit was refused. Then the text is as it was.
+pub fn is_refused(alloc: Global, lexed: &mut LexedText<'_>, range: Range<usize>, new: &str) -> bool
+    ensures same { result ≡ true → lexed.new ≡ lexed.old }
+{
+    lexed.edit(alloc, range, new).is_err()
+}
+
+// Needs lalrpop_edits::LexedText::new: error.
+/// Whether a text can't be held, however much memory there is.
+pub fn is_too_large(alloc: Global, lexer: &ModeLexer, text: &str) -> bool
+    ensures large { result ≡ true
+        → (4294967295 ≤ length text.now) ⊎ (4294967295 ≤ length lexer.now.trees) }
+{
+    match LexedText::new(alloc, lexer, text) {
+        Ok(_) | Err(EditError::OutOfMemory) => false,
+        Err(EditError::TooLarge) => true,
+        // A text begins with a whole character.
+        Err(EditError::NoBoundary) => unreachable!(),
+    }
+}
+
+// Needs lalrpop_edits::LexedText::edit: change.
+/// Edits a text. So many pieces at its front are what they were.
+///
+/// # Errors
+///
+/// What is wrong with the edit.
+pub fn kept_in_front(
+    alloc: Global,
+    lexed: &mut LexedText<'_>,
+    range: Range<usize>,
+    new: &str,
+) -> Result<usize, EditError>
+    ensures kept { IfOk result (λ n. (xs ys : List ItemValue) → ArePiecesOf lexed.old xs
+        → ArePiecesOf lexed.new ys → AreSame (take n xs) (take n ys)) }
+{
+    let change = lexed.edit(alloc, range, new)?;
+    Ok(change.first)
+}
+
+// Needs lalrpop_edits::LexedText::edit: change.
+/// Edits a text. So many of its pieces are gone, and so many came.
+///
+/// # Errors
+///
+/// What is wrong with the edit.
+pub fn gone_and_come(
+    alloc: Global,
+    lexed: &mut LexedText<'_>,
+    range: Range<usize>,
+    new: &str,
+) -> Result<(usize, usize), EditError>
+    ensures count { IfOk result (λ n. (xs ys : List ItemValue) → ArePiecesOf lexed.old xs
+        → ArePiecesOf lexed.new ys → length ys + n.0 ≡ length xs + n.1) }
+{
+    let change = lexed.edit(alloc, range, new)?;
+    Ok((change.removed, change.inserted))
+}
+
+// Needs lalrpop_edits::LexedText::edit: earliest.
+/// Edits a text. Where old and new pieces meet behind those at the front that stay, none are gone and none came.
+///
+/// # Errors
+///
+/// What is wrong with the edit.
+pub fn cut_no_further(
+    alloc: Global,
+    lexed: &mut LexedText<'_>,
+    range: Range<usize>,
+    new: &str,
+) -> Result<Change, EditError>
+    ensures none { IfOk result (λ c. (xs ys : List ItemValue) → ArePiecesOf lexed.old xs
+        → ArePiecesOf lexed.new ys
+        → MeetAt lexed.old.rules.actions range.start range.end (length new.now) xs ys c.first c.first
+        → (c.removed ≡ 0) × (c.inserted ≡ 0)) }
+{
+    let change = lexed.edit(alloc, range, new)?;
+    Ok(change)
+}
+
+// Needs lalrpop_edits::LexedText::lexer: rules.
+// Needs lalrpop_edits::LexedText::text: text.
+/// The same text, cut anew.
+///
+/// # Errors
+///
+/// `OutOfMemory`; it isn't too large.
+pub fn cut_again<'rules>(
+    alloc: Global,
+    lexed: &LexedText<'rules>,
+) -> Result<LexedText<'rules>, EditError>
+    ensures same { IfOk result (λ other. other ≡ lexed.now) }
+{
+    LexedText::new(alloc, lexed.lexer(), lexed.text())
+}
+
+// Needs lalrpop_edits::LexedText::piece_at: piece, none.
+/// How many bytes the piece has that holds the byte at a place. Each byte of the text is held by one.
+pub fn length_at(lexed: &LexedText<'_>, at: usize) -> usize
+    ensures some { at < length lexed.now.text → 0 < result }
+{
+    match lexed.piece_at(at) {
+        Some(piece) => piece.slice().len(),
+        None => 0,
+    }
+}
+
+// Needs lalrpop_edits::LexedText::pieces: start.
+// Needs lalrpop_edits::Pieces::next: ghost next_gives.
+/// Whether a text is one piece.
+pub fn is_one_piece(lexed: &LexedText<'_>) -> bool
+    ensures one { result ≡ true → HasPieces lexed.now 1 }
+{
+    let mut pieces = lexed.pieces();
+    pieces.next().is_some() && pieces.next().is_none()
+}
+
+// Needs lalrpop_edits::LexedText::pieces: start.
+// Needs lalrpop_edits::Pieces::next: ghost next_gives, ghost remaining.
+/// The pieces of a text.
+///
+/// # Errors
+///
+/// `AllocError` if a request for memory was refused.
+pub fn piece_list<'text>(
+    alloc: Global,
+    lexed: &'text LexedText<'_>,
+) -> Result<Vec<Item<'text>>, AllocError>
+    ensures all { IfOk result (λ pieces. (xs : List ItemValue) → ArePiecesOf lexed.now xs
+        → AreSame xs pieces.items) }
+{
+    let mut pieces = Vec::new(alloc);
+    for piece in lexed.pieces() {
+        if pieces.push(piece).is_err() {
+            return Err(AllocError);
+        }
+    }
+    Ok(pieces)
+}
+
+// Needs lalrpop_edits::EditError::from: ghost from_gives.
+/// Refused memory is told as such.
+pub fn memory_refused(error: AllocError) -> EditError
+    ensures memory { result ≡ EditError.OutOfMemory }
+{
+    EditError::from(error)
+}
+
+// Needs lalrpop_edits::EditError::from: ghost from_gives.
+/// Adds a place.
+///
+/// # Errors
+///
+/// `OutOfMemory`.
+pub fn add_place(places: &mut Vec<usize>, place: usize) -> Result<(), EditError>
+    ensures memory { IfErr result (λ error. error ≡ EditError.OutOfMemory) }
+{
+    places.push(place)?;
+    Ok(())
+}

@@ -1,0 +1,100 @@
+//! A text comes in chunks, and is put together again from its pieces.
+ghost use Rattle.std.specs.Prelude.{◌≡◌, ◌++◌, List, ℕ, [], true, false, string_bytes, take, IfOk, OnOk};
+ghost use Rattle.lalrpop_edits.specs.Chunked.{Came, IsHeldBack};
+ghost use Rattle.lalrpop_modes.specs.Modes.{ArePiecesFrom, ModeRules};
+ghost use Rattle.lalrpop_modes.specs.Stack.{Stack, start};
+ghost use Rattle.lalrpop_rules.specs.Pieces.{joined};
+ghost use Rattle.lalrpop_rules.specs.declared.item.Item.{Item as ItemValue};
+
+use lalrpop_edits::{Chunks, EditError, GivenPiece};
+use lalrpop_modes::ModeLexer;
+use lalrpop_rules::Item;
+use std::alloc::Global;
+
+// Needs lalrpop_edits::Chunks::is_ended: ended; lalrpop_edits::Chunks::feed: fed, refused.
+/// Whether a chunk came: not if the text has ended, or memory was refused.
+pub fn feed_if_open(chunks: &mut Chunks<'_>, chunk: &str) -> bool
+    ensures came { result ≡ true
+        → chunks.new ≡ record chunks.old { rest = chunks.old.rest ++ chunk.now } }
+    ensures same { result ≡ false → chunks.new ≡ chunks.old }
+{
+    if chunks.is_ended() {
+        return false;
+    }
+    chunks.feed(chunk).is_ok()
+}
+
+// Needs lalrpop_edits::Chunks::next_piece: gives.
+// Appends the pieces that no later chunk can change.
+fn take_pieces(chunks: &mut Chunks<'_>, whole: &mut String) -> Result<(), EditError>
+    ensures taken { OnOk result ((r : ModeRules) (text : List ℕ) (xs : List ItemValue)
+        → Came r text xs chunks.old → string_bytes whole.old ≡ joined xs
+        → (ys : List ItemValue) × (Came r text ys chunks.new
+        × (string_bytes whole.new ≡ joined ys))) }
+    ensures held { OnOk result (IsHeldBack chunks.new) }
+    ensures ended { OnOk result (chunks.new.is_ended ≡ chunks.old.is_ended) }
+{
+    'pieces: loop {
+        match chunks.next_piece()? {
+            Some(piece) => whole.push_str(piece.slice)?,
+            None => return Ok(()),
+        }
+    }
+}
+
+// Needs lalrpop_edits::GivenPiece::item: item.
+/// Where a piece begins that was given.
+pub fn place_of(piece: &GivenPiece<'_>) -> usize
+    ensures place { result ≡ piece.now.start }
+{
+    match piece.item() {
+        Item::Token(token) | Item::Skipped(token) => token.start,
+        Item::Fault { start, slice: _ } => start,
+    }
+}
+
+// Needs lalrpop_edits::Chunks::new: nothing; lalrpop_edits::Chunks::feed: fed.
+// Needs lalrpop_edits::Chunks::finish: ended.
+/// A text that comes in two chunks, put together again from its pieces.
+///
+/// # Errors
+///
+/// `OutOfMemory`, or `TooLarge` for a text of 2^64 bytes.
+pub fn put_together(
+    alloc: Global,
+    lexer: &ModeLexer,
+    front: &str,
+    back: &str,
+) -> Result<String, EditError>
+    ensures whole { IfOk result (λ whole. string_bytes whole ≡ front.now ++ back.now) }
+    ensures pieces { IfOk result (λ whole. (xs : List ItemValue) × ((end : Stack)
+        × (ArePiecesFrom lexer.now (front.now ++ back.now) 0 start xs end
+        × (string_bytes whole ≡ joined xs)))) }
+{
+    let mut chunks = Chunks::new(alloc, lexer);
+    let mut whole = String::new(alloc);
+    chunks.feed(front)?;
+    take_pieces(&mut chunks, &mut whole)?;
+    chunks.feed(back)?;
+    chunks.finish();
+    take_pieces(&mut chunks, &mut whole)?;
+    Ok(whole)
+}
+
+// Needs lalrpop_edits::Chunks::new: nothing; lalrpop_edits::Chunks::feed: fed.
+/// The pieces that are given before the rest of a text has come begin those of the whole text, whatever the rest is.
+///
+/// # Errors
+///
+/// `OutOfMemory`, or `TooLarge` for a text of 2^64 bytes.
+pub fn first_pieces(alloc: Global, lexer: &ModeLexer, front: &str) -> Result<String, EditError>
+    ensures begins { IfOk result (λ first. (back : List ℕ) (ys : List ItemValue) (end : Stack)
+        → ArePiecesFrom lexer.now (front.now ++ back) 0 start ys end
+        → (n : ℕ) × (string_bytes first ≡ joined (take n ys))) }
+{
+    let mut chunks = Chunks::new(alloc, lexer);
+    let mut first = String::new(alloc);
+    chunks.feed(front)?;
+    take_pieces(&mut chunks, &mut first)?;
+    Ok(first)
+}
