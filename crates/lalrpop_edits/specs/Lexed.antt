@@ -83,7 +83,7 @@ IsEarliest old new from to size c = (xs ys : List Item) → ArePiecesOf old xs �
 abbrev pub IsPieceNumber : Lexed → ℕ → Item → Type 0
 IsPieceNumber l n x = (xs : List Item) → ArePiecesOf l xs → IsSomeAnd (slice_get xs n) (λ y. IsSame x y)
 
--- there are so many pieces
+-- this is the number of pieces
 abbrev pub HasPieces : Lexed → ℕ → Type 0
 HasPieces l n = (xs : List Item) → ArePiecesOf l xs → length xs ≡ n
 

@@ -9,7 +9,7 @@ use crate::place::{Place, pass};
 use lalrpop_modes::{ModeLexer, ModeStack};
 use std::alloc::{AllocError, Global};
 
-// A block has so many pieces at most; or as many as there are modes on the stack where it begins, if those are more: so the stacks
+// The most pieces of a block; or as many as there are modes on the stack where it begins, if those are more: so the stacks
 // of the blocks don't take much more memory than the pieces.
 const MOST: usize = 256;
 
@@ -21,7 +21,7 @@ pub(crate) struct Block {
     pub(crate) pieces: Vec<Kept>,
     // How many bytes they have.
     pub(crate) size: usize,
-    // None of them depends on more than so many bytes from the beginning of the block on.
+    // How many bytes from its beginning on its pieces depend on at most.
     pub(crate) reach: usize,
 }
 

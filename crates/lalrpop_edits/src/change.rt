@@ -4,15 +4,15 @@
 ///
 /// ```
 /// let change = text.edit(alloc, 4..5, "yz")?; // "let x" becomes "let yz"
-/// let repaint = &text.text()[change.start..change.new_end]; // "yz"
+/// let repaint = &text.text()[change.start..change.new_end]; // " yz", if the space depends on the character behind it
 /// ```
 #[derive(Clone, Copy, Debug, PartialEq, Eq)]
 pub struct Change {
-    /// So many pieces at the front are the old ones.
+    /// How many pieces at the front stay.
     pub first: usize,
-    /// So many old pieces after those are gone.
+    /// How many old pieces behind those are gone.
     pub removed: usize,
-    /// So many new ones came in their place. All others are the old ones, shifted.
+    /// How many pieces came in their place. All others are the old ones, shifted.
     pub inserted: usize,
     /// Where the first piece that is gone, or came, begins.
     pub start: usize,

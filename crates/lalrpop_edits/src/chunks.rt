@@ -43,9 +43,9 @@ pub struct Chunks<'rules> {
     lexer: &'rules ModeLexer,
     // The end of what has come.
     text: String,
-    // So many bytes of it were given.
+    // How many bytes of it were given.
     given: usize,
-    // So many bytes were given in all.
+    // How many bytes were given in all.
     at: usize,
     stack: ModeStack,
     is_ended: bool,

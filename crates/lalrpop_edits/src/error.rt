@@ -18,7 +18,7 @@ pub enum EditError {
     /// past the end of the text.
     #[error("the range isn't one of whole characters of the text")]
     NoBoundary,
-    /// The text would have 4,294,967,295 bytes or more, or there are as many rules.
+    /// The text would have 4,294,967,295 bytes or more, or there are as many rules. Of a text in chunks: 2^64 bytes have come.
     #[error("the text would be too large")]
     TooLarge,
     /// A request for memory was refused.

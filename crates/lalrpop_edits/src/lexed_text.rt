@@ -137,7 +137,7 @@ fn find_piece(pieces: &[Kept], start: usize, at: usize) -> Option<(Kept, usize)>
 /// use lalrpop_edits::LexedText;
 ///
 /// let mut text = LexedText::new(alloc, &lexer, "let x = 1")?;
-/// let change = text.edit(alloc, 4..5, "yz")?; // "let yz = 1": the piece 2, `x`, became `yz`
+/// let change = text.edit(alloc, 4..5, "yz")?; // "let yz = 1"; bytes `change.start..change.new_end` are to be painted anew
 /// let now = text.piece_at(4); // the token "yz"
 /// ```
 #[derive(Drop)]

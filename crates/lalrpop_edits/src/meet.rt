@@ -19,11 +19,11 @@ use std::alloc::AllocError;
 // A place among the pieces of blocks.
 #[derive(Clone, Copy)]
 pub(crate) struct Spot {
-    // So many blocks lie in front of it,
+    // How many blocks lie in front of it,
     pub(crate) block: usize,
-    // and so many pieces of the next block.
+    // and how many pieces of the next block.
     pub(crate) piece: usize,
-    // So many pieces these are in all.
+    // How many pieces these are in all.
     pub(crate) count: usize,
 }
 

@@ -82,7 +82,7 @@ pub fn is_too_large(alloc: Global, lexer: &ModeLexer, text: &str) -> bool
 }
 
 // Needs lalrpop_edits::LexedText::edit: change.
-/// Edits a text. So many pieces at its front are what they were.
+/// Edits a text, and says how many pieces at its front stay.
 ///
 /// # Errors
 ///
@@ -101,7 +101,7 @@ pub fn kept_in_front(
 }
 
 // Needs lalrpop_edits::LexedText::edit: change.
-/// Edits a text. So many of its pieces are gone, and so many came.
+/// Edits a text, and says how many of its pieces are gone, and how many came.
 ///
 /// # Errors
 ///
