@@ -90,7 +90,7 @@ fn compare(chunks: &mut Chunks<'_>, kept: &mut Pieces<'_>, most: usize) -> Resul
             Err(error) => return Err(error.into()),
         };
         match kept.next() {
-            Some(piece) if given.start == piece.start() && given.slice == piece.slice() => {}
+            Some(piece) if given.item(chunks.slice()) == piece => {}
             _ => bail!("chunks give other pieces"),
         }
     }

@@ -4,3 +4,6 @@ mod Kept
 mod Lexed
 mod Given
 mod Chunked
+mod Decoded
+mod Walking
+mod Noted

@@ -1,9 +1,14 @@
 -- What was given of a text that came in chunks: its pieces, one after another from its beginning on, whatever comes after them.
-use Rattle.std.proofs.Common.{◌≡◌, ℕ, ◌+◌, ◌<◌, true, false, List, [], ◌∷◌, ◌++◌, length, take, drop, arith, refl, sym, ap, subst, ◌∙◌, append_assoc, length-append}
-use Rattle.std.specs.Prelude.{Option, Some, None, Result, Ok}
+use Rattle.std.proofs.Common.{◌≡◌, ◌≢◌, ℕ, ◌+◌, ◌<◌, true, false, List, [], ◌∷◌, ◌++◌, length, take, drop, arith, refl, sym, ap, subst, ◌∙◌, append_assoc, length-append}
+use Rattle.std.specs.Prelude.{Bool, Option, Some, None, Result, Ok, slice_get}
+use Rattle.std.specs.Borrow.{Bor}
 use Rattle.std.proofs.lemmas.List.{append-nil, drop_at}
+use Rattle.lalrpop_book.specs.Tree.{Tree}
+use Rattle.lalrpop_book.specs.Longest.{IsMatch}
+use Rattle.lalrpop_rules.specs.Found.{MatchesAt}
 use Rattle.lalrpop_rules.specs.Pieces.{IsPiece, AreSame, slice_of, joined}
 use Rattle.lalrpop_rules.specs.declared.item.Item.{Item}
+use Rattle.lalrpop_rules.specs.declared.item.Item.TheVariants.{Token, Skipped, Fault}
 use Rattle.lalrpop_rules.proofs.PieceLaws.{is_front, is_some}
 use Rattle.lalrpop_rules.proofs.FirstMatches.{some_length}
 use Rattle.lalrpop_modes.specs.Stack.{Stack, start}
@@ -12,8 +17,8 @@ use Rattle.lalrpop_edits.specs.Lexed.{placed}
 use Rattle.lalrpop_edits.specs.Given.{item_of}
 use Rattle.lalrpop_edits.specs.declared.given_piece.GivenPiece.{GivenPiece}
 use Rattle.lalrpop_edits.specs.declared.error.EditError.{EditError}
-use Rattle.lalrpop_edits.specs.Chunked.{Chunked, nothing_come, IsFinal, IsHeldBack, GivesFinal, GivesOrRefuses, Came, nothing, fed, given, ended}
-use Rattle.lalrpop_edits.proofs.Chunking.{slice_placed, from_front, ArePiecesTo, one_more, all_at_end, begin_all}
+use Rattle.lalrpop_edits.specs.Chunked.{Chunked, nothing_come, IsFinal, IsHeldBack, GivesFinal, GivesOrRefuses, BeginsFault, Came, nothing, fed, given, ended}
+use Rattle.lalrpop_edits.proofs.Chunking.{slice_placed, from_front, ArePiecesTo, one_more, all_at_end, begin_all, next_of_all}
 
 -- ---- what the calls do
 
@@ -23,7 +28,7 @@ came_nothing r c is = subst (λ (d : Chunked). Came r [] [] d) (sym is) nothing
 
 module _ (r : ModeRules) (text : List ℕ) (xs : List Item) (c d : Chunked) (came : Came r text xs c) where
   -- a chunk comes
-  pub came_more : (chunk : List ℕ) → c.is_ended ≡ false → d ≡ record c { rest = c.rest ++ chunk } → Came r (text ++ chunk) xs d
+  pub came_more : (chunk : List ℕ) → c.is_ended ≡ false → d ≡ record c { last = []; rest = c.rest ++ chunk } → Came r (text ++ chunk) xs d
   came_more chunk goes is = subst (λ (e : Chunked). Came r (text ++ chunk) xs e) (sym is) (fed chunk goes came)
 
   -- a piece is given
@@ -40,10 +45,11 @@ module _ (r : ModeRules) (text : List ℕ) (xs : List Item) (c d : Chunked) (cam
 
 -- ---- what a call told
 
--- it was a piece
-pub gives_some : (old new : Chunked) (result : Result (Option GivenPiece) EditError) (piece : GivenPiece) → result ≡ Ok (Some piece) → GivesOrRefuses old result new
-    → GivesFinal old (Some (item_of piece)) new
-gives_some old new result piece is gives = subst (λ (told : Result (Option GivenPiece) EditError). GivesOrRefuses old told new) is gives
+-- it was a piece, for whoever has its slice
+pub gives_some : (old new : Chunked) (result : Result (Option GivenPiece) EditError) (piece : GivenPiece) (slice : Bor (List ℕ)) → result ≡ Ok (Some piece)
+    → GivesOrRefuses old result new → slice.now ≡ new.last → GivesFinal old (Some (item_of piece slice)) new
+gives_some old new result piece slice is gives same =
+    subst (λ (told : Result (Option GivenPiece) EditError). GivesOrRefuses old told new) is gives slice same
 
 -- it was none
 pub gives_none : (old new : Chunked) (result : Result (Option GivenPiece) EditError) → result ≡ Ok None → GivesOrRefuses old result new → GivesFinal old None new
@@ -99,6 +105,17 @@ came_rest r text _ d (given {xs = xs} {c = c} x gives came) =
     )
 came_rest r text xs _ (ended {c = c} came) = came_rest r text xs c came
 
+-- ---- a fault
+
+-- where a fault is given, it had begun
+pub fault_begins : (c d : Chunked) (at : ℕ) (slice : Bor (List ℕ)) → GivesFinal c (Some (Fault at slice)) d → BeginsFault c
+fault_begins c d at slice gives = (
+  (λ none. omega (arith, given_less c d (Fault at slice) gives, ap length none)),
+  (λ more may n below m.
+      let fault = (gives.0 more may).1 in
+      fault.nothing n (omega (arith, below, some_length slice.now fault.some)) m),
+)
+
 -- ---- the pieces that were given
 
 -- behind what was given lies the rest, and what comes
@@ -146,3 +163,32 @@ came_first r text xs c came goes more ys end all =
   where
     no_bool : false ≡ true → ⊥
     no_bool same = cc
+
+-- where a fault begins, nothing matches in the whole text, whatever comes
+pub nothing_there : (r : ModeRules) (text : List ℕ) (xs : List Item) (c : Chunked) → Came r text xs c → BeginsFault c → (more : List ℕ)
+    → (c.is_ended ≡ true → more ≡ []) → ¬ MatchesAt (trees_in r c.stack.mode) (text ++ more) c.at
+nothing_there r text xs c came begins more may m =
+    let rules : c.rules ≡ r = (came_rest r text xs c came).2 in
+    let here = subst (λ (t : List ℕ). IsMatch (trees_in r c.stack.mode) t m.0) (left_behind r text more xs c came) m.1 in
+    begins.1 more may 0 (omega arith) (m.0, subst (λ (q : ModeRules). IsMatch (trees_in q c.stack.mode) (c.rest ++ more) m.0) (sym rules) here)
+
+front_empty : (front back : List ℕ) → front ++ back ≡ [] → front ≡ []
+front_empty [] back none = refl
+front_empty (x ∷ front) back none = cc
+
+where_none_matches : (ts : List Tree) (ps : List ℕ) (skips : List Bool) (text : List ℕ) (at : ℕ) (x : Item) → IsPiece ts ps skips text at x → ¬ MatchesAt ts text at
+    → (slice : Bor (List ℕ)) × (x ≡ Fault at slice)
+where_none_matches ts ps skips text at (Token token) is none = absurd (none (token.slice.now, is.0.1.0))
+where_none_matches ts ps skips text at (Skipped token) is none = absurd (none (token.slice.now, is.0.1.0))
+where_none_matches ts ps skips text at (Fault here slice) is none = (slice, ap (λ (n : ℕ). Fault n slice) is.0)
+
+-- so a fault follows what was given, among the pieces of the whole text
+pub fault_follows : (r : ModeRules) (text : List ℕ) (xs : List Item) (c : Chunked) → Came r text xs c → BeginsFault c → (more : List ℕ)
+    → (c.is_ended ≡ true → more ≡ []) → (ys : List Item) (end : Stack) → ArePiecesFrom r (text ++ more) 0 start ys end
+    → (slice : Bor (List ℕ)) × (slice_get ys (length xs) ≡ Some (Fault c.at slice))
+fault_follows r text xs c came begins more may ys end all =
+    let some : drop c.at (text ++ more) ≢ [] = λ none. begins.0 (front_empty c.rest more (sym (left_behind r text more xs c came) ∙ none)) in
+    let next = next_of_all r (text ++ more) 0 start xs c.at c.stack ys end (came_to r text xs c came more may) all some in
+    let fault =
+    where_none_matches (trees_in r c.stack.mode) r.precedences r.skips (text ++ more) c.at next.0 next.1.0 (nothing_there r text xs c came begins more may) in
+    (fault.0, next.1.1 ∙ ap Some fault.1)

@@ -4,6 +4,8 @@ pub mod Alike
 pub mod Settling
 -- the run of an automaton, and the piece at the front of a text
 pub mod Runs
+pub mod Walking
+pub mod Noting
 pub mod Fronts
 -- what is kept of pieces, one after another
 pub mod KeptLaws
@@ -27,3 +29,5 @@ pub mod Undoing
 -- a text that comes in chunks
 pub mod Chunking
 pub mod ChunkLaws
+-- text that comes as bytes
+pub mod Decoding

@@ -1,11 +1,9 @@
 -- What the run of an automaton has seen settles what matches.
-use Rattle.std.proofs.Common.{◌≡◌, ◌≢◌, ℕ, ◌+◌, ◌⊎◌, inl, inr, List, [], ◌∷◌, ◌++◌, length, take, arith, refl, sym, subst, ◌∙◌, append_assoc}
+use Rattle.std.proofs.Common.{◌≡◌, ◌≢◌, ℕ, ◌⊎◌, inl, inr, List, [], ◌∷◌, ◌++◌, refl, sym, subst, ◌∙◌}
 use Rattle.std.specs.Prelude.{Option, Some, None, IsSomeAnd, slice_get}
-use Rattle.std.specs.Str.{chars}
 use Rattle.lalrpop_book.specs.Range.{Range}
 use Rattle.lalrpop_book.specs.Tree.{Tree}
 use Rattle.lalrpop_book.specs.Winners.{Matched}
-use Rattle.lalrpop_nfa.proofs.Cuts.{IsCut}
 use Rattle.lalrpop_dfa.specs.Dfa.{Row, step, run, after, RecognizesAll, IsRightKind, IsReject, AreAscendingTests, edge_target}
 use Rattle.lalrpop_dfa.specs.Lookahead.{IsTrim, IsLive, IsAccepting}
 use Rattle.lalrpop_dfa.specs.declared.Kind.{Kind}
@@ -15,7 +13,6 @@ use Rattle.lalrpop_dfa.proofs.EdgeTargets.{step_of}
 use Rattle.lalrpop_dfa.proofs.LongestLemmas.{unmatched}
 use Rattle.lalrpop_dfa.proofs.Marking.{along, top, by_test, by_other}
 use Rattle.lalrpop_dfa.proofs.Recognized.{accepted_matched}
-use Rattle.lalrpop_edits.specs.Internal.Reach.{IsClosed, IsSettledBy}
 
 -- ---- where the edges of a state lead
 module _ (d : List Row) (p : ℕ) (r : Row) (at : slice_get d p ≡ Some r) where
@@ -40,9 +37,6 @@ module _ (d : List Row) (p : ℕ) (r : Row) (at : slice_get d p ≡ Some r) wher
       (top r.tests, λ reject. not (subst (IsReject d) (step_of d p (top r.tests) r at ∙ by_other r.tests r.other) reject))
 
 -- ---- what is settled
--- by all of a text
-pub end_settles : (ts : List Tree) (text : List ℕ) → IsSettledBy ts text (length text + 1)
-end_settles ts text = inl (omega arith)
 
 module _ (d : List Row) (ts : List Tree) (ps : List ℕ) (h : RecognizesAll d ts ps) where
   stays : (p : ℕ) (w : List ℕ) → IsReject d p → IsReject d (run d p w)
@@ -50,35 +44,11 @@ module _ (d : List Row) (ts : List Tree) (ps : List ℕ) (h : RecognizesAll d ts
   stays p (c ∷ w) reject = stays (step d p c) w (h.stays p c reject)
 
   -- behind a word that leads to a state that rejects no tree matches
-  none_behind : (v w : List ℕ) → IsReject d (after d v) → ¬ Matched ts (v ++ w)
+  pub none_behind : (v w : List ℕ) → IsReject d (after d v) → ¬ Matched ts (v ++ w)
   none_behind v w reject =
       unmatched ts ps (v ++ w) (slice_get d (after d (v ++ w))) (subst (IsReject d) (sym (run_append d 0 v w)) (stays (after d v) w reject)) (h.kinds (v ++ w))
 
-  -- a run that ends in a state that rejects
-  pub reject_settles : (text rest : List ℕ) (at : ℕ) → IsCut text at rest → IsReject d (after d (chars (take at text))) → IsSettledBy ts text at
-  reject_settles text rest at cut reject = inr (
-    take at text,
-    ((rest, (cut.split, cut.seen_utf8)), omega (arith, cut.place), λ v some. none_behind (chars (take at text)) v reject),
-  )
-
-  -- and one in a state from which each value leads to one that rejects
-  pub last_settles : (text rest : List ℕ) (at : ℕ) → IsCut text at rest → ((c : ℕ) → IsReject d (step d (after d (chars (take at text))) c))
-      → IsSettledBy ts text at
-  last_settles text rest at cut last = inr (
-    take at text,
-    ((rest, (cut.split, cut.seen_utf8)), omega (arith, cut.place), closed),
-  )
-    where
-      w : List ℕ
-      w = chars (take at text)
-
-      closed : IsClosed ts w
-      closed [] some m = some refl
-      closed (c ∷ v) some m =
-          none_behind (w ++ c ∷ []) v (subst (IsReject d) (sym (run_append d 0 w (c ∷ []))) (last c))
-          (subst (Matched ts) (sym (append_assoc w (c ∷ []) v)) m)
-
-  -- but where a value leads to a state that does not reject, some longer word matches
+  -- where a value leads to a state that does not reject, some longer word matches
   pub goes_on_to_match : (w : List ℕ) (c : ℕ) → IsTrim d → ¬ IsReject d (step d (after d w) c) → (v : List ℕ) × ((v ≢ []) × Matched ts (w ++ v))
   goes_on_to_match w c trim not = by_state (slice_get d next) refl (h.kinds (w ++ c ∷ []))
     where

@@ -13,6 +13,7 @@ use Rattle.lalrpop_lexer.proofs.Cuttings.{some_char}
 use Rattle.lalrpop_rules.proofs.FirstMatches.{match_begins}
 use Rattle.lalrpop_edits.specs.Internal.Reach.{AreAlike, IsClosed, IsSettledBy, IsFaultSettledBy}
 use Rattle.lalrpop_edits.specs.Internal.Kept.{IsFront}
+use Rattle.lalrpop_edits.proofs.Walking.{text_scalars}
 use Rattle.lalrpop_edits.proofs.Alike.{alike_less, alike_behind, alike_whole, alike_front, alike_boundary}
 
 -- where no match goes beyond the characters at the front, each match is among them, so it matches whatever follows
@@ -27,7 +28,7 @@ match_stays ts u v w p utf8 dead m = ⊎_elim
     IsUtf8-drop p (length u) m.0.1.1 (IsCharBoundary-from_take p (length u) m.0.1.1 (omega arith) (subst IsUtf8 (sym front) utf8)) in
     let some : 0 < length (chars (drop (length u) p)) =
     some_char (drop (length u) p) more (λ none. omega (arith, longer, length-drop (length u) p, ap length none)) in
-    absurd (dead (chars (drop (length u) p)) (λ none. omega (arith, some, ap length none)) (subst (Matched ts) word m.2)))
+    absurd (dead (chars (drop (length u) p)) (text_scalars (drop (length u) p) more) (λ none. omega (arith, some, ap length none)) (subst (Matched ts) word m.2)))
     (λ (within : length p ≤ length u).
     let front : take (length p) u ≡ p =
     sym (take-append-le (length p) u v within) ∙ ap (take (length p)) m.0.1.0 ∙ take_at p m.0.0 (length p) refl in

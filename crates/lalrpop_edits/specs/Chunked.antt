@@ -1,10 +1,11 @@
 -- cases: proofs/Cases/Chunked.antt
 -- A text that comes in chunks, and the pieces that are given as soon as no later chunk can change them.
 use Rattle.std.specs.Prelude.{◌≡◌, ◌≢◌, ℕ, ◌+◌, ◌^◌, ◌≤◌, ◌⊎◌, Bool, true, false, List, [], ◌∷◌, ◌++◌, length, drop, Option, Some, None, Result, Ok, Err}
+use Rattle.std.specs.Borrow.{Bor}
 use Rattle.std.specs.Str.{chars, IsCharBoundary}
 use Rattle.lalrpop_book.specs.Tree.{Tree}
 use Rattle.lalrpop_book.specs.Winners.{Matched}
-use Rattle.lalrpop_rules.specs.Found.{NoMatchBefore}
+use Rattle.lalrpop_rules.specs.Found.{MatchesAt, NoMatchBefore}
 use Rattle.lalrpop_rules.specs.Pieces.{IsPiece, slice_of, start_of}
 use Rattle.lalrpop_rules.specs.declared.item.Item.{Item}
 use Rattle.lalrpop_modes.specs.Stack.{Stack, start}
@@ -15,10 +16,11 @@ use Rattle.lalrpop_edits.specs.declared.given_piece.GivenPiece.{GivenPiece}
 use Rattle.lalrpop_edits.specs.declared.error.EditError.{EditError}
 use Rattle.lalrpop_edits.specs.declared.error.EditError.TheVariants.{NoBoundary, TooLarge, OutOfMemory}
 
--- by which rules the text is cut; what has come of it and is in no piece that was given; how many bytes were given, and the stack of modes
--- behind them; and whether no more comes
+-- by which rules the text is cut; the piece that was given last, unless more has come since; what has come and is in no piece that was given;
+-- how many bytes were given, and the stack of modes behind them; and whether no more comes
 pub record Chunked : Type 0 where
   pub rules : ModeRules
+  pub last : List ℕ
   pub rest : List ℕ
   pub at : ℕ
   pub stack : Stack
@@ -26,7 +28,7 @@ pub record Chunked : Type 0 where
 
 -- nothing has come
 abbrev pub nothing_come : ModeRules → Chunked
-nothing_come r = record { rules = r; rest = []; at = 0; stack = start; is_ended = false }
+nothing_come r = record { rules = r; last = []; rest = []; at = 0; stack = start; is_ended = false }
 
 -- whatever comes, if anything may, this is the piece at the front of the rest
 abbrev pub IsFinal : Chunked → Item → Type 0
@@ -48,7 +50,7 @@ abbrev pub GivesFinal : Chunked → Option Item → Chunked → Type 0
 GivesFinal old None new = (new ≡ old) × IsHeldBack old
 GivesFinal old (Some x) new =
     IsFinal old x × (start_of x ≡ old.at)
-    × (new ≡ record old { rest = drop (length (slice_of x)) old.rest; at = old.at + length (slice_of x); stack = after old.rules.actions x old.stack })
+    × (new ≡ record old { last = slice_of x; rest = drop (length (slice_of x)) old.rest; at = old.at + length (slice_of x); stack = after old.rules.actions x old.stack })
 
 -- the error is right: more bytes have come than can be counted; or memory was refused
 abbrev pub IsChunkError : Chunked → EditError → Type 0
@@ -59,13 +61,22 @@ IsChunkError c OutOfMemory = Unit {0}
 -- what one call of `next_piece` does: it gives the next piece or none, or an error, where nothing changes
 abbrev pub GivesOrRefuses : Chunked → Result (Option GivenPiece) EditError → Chunked → Type 0
 GivesOrRefuses old (Ok None) new = GivesFinal old None new
-GivesOrRefuses old (Ok (Some piece)) new = GivesFinal old (Some (item_of piece)) new
+GivesOrRefuses old (Ok (Some piece)) new = (slice : Bor (List ℕ)) → slice.now ≡ new.last → GivesFinal old (Some (item_of piece slice)) new
 GivesOrRefuses old (Err error) new = (new ≡ old) × IsChunkError old error
+
+-- whatever comes, if anything may, nothing matches at the front of the rest: a fault begins there
+abbrev pub BeginsFault : Chunked → Type 0
+BeginsFault c = (c.rest ≢ []) × ((more : List ℕ) → (c.is_ended ≡ true → more ≡ []) → NoMatchBefore (trees_in c.rules c.stack.mode) (c.rest ++ more) 1)
+
+-- some tree matches a word that the rest begins with; or one that begins with the rest, if more may come
+abbrev pub MayMatch : Chunked → Type 0
+MayMatch c = MatchesAt (trees_in c.rules c.stack.mode) c.rest 0
+    ⊎ ((c.is_ended ≡ false) × ((v : List ℕ) × ((v ≢ []) × Matched (trees_in c.rules c.stack.mode) (chars c.rest ++ v))))
 
 -- this text has come, in any chunks, and these pieces were given
 pub data Came (r : ModeRules) : List ℕ → List Item → Chunked → Type 0 where
   nothing : Came r [] [] (nothing_come r)
   fed : {text : List ℕ} {xs : List Item} {c : Chunked} (chunk : List ℕ) → c.is_ended ≡ false → Came r text xs c
-      → Came r (text ++ chunk) xs (record c { rest = c.rest ++ chunk })
+      → Came r (text ++ chunk) xs (record c { last = []; rest = c.rest ++ chunk })
   given : {text : List ℕ} {xs : List Item} {c d : Chunked} (x : Item) → GivesFinal c (Some x) d → Came r text xs c → Came r text (xs ++ x ∷ []) d
   ended : {text : List ℕ} {xs : List Item} {c : Chunked} → Came r text xs c → Came r text xs (record c { is_ended = true })

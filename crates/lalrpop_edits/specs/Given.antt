@@ -12,6 +12,6 @@ item_by None skipped at slice = Fault at slice
 item_by (Some i) true at slice = Skipped (record { index = i; slice = slice; start = at })
 item_by (Some i) false at slice = Token (record { index = i; slice = slice; start = at })
 
--- the same of its parts
-abbrev pub item_of : GivenPiece → Item
-item_of p = item_by p.rule p.is_skipped p.start p.slice
+-- the same of its parts, and of its slice of the text
+abbrev pub item_of : GivenPiece → Bor (List ℕ) → Item
+item_of p slice = item_by p.rule p.is_skipped p.start slice

@@ -10,3 +10,5 @@ pub mod Handing
 pub mod Code
 pub mod Least
 pub mod ChunkCode
+pub mod Walking
+pub mod Noted

@@ -1,6 +1,6 @@
 pub mod Lexed
 pub mod Given
 pub mod Chunked
-pub mod Lending
+pub mod Decoded
 -- used by proofs only
 pub mod Internal

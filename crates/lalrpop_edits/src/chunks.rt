@@ -1,20 +1,27 @@
 //! A text that comes in chunks.
 
-ghost use Rattle.std.specs.Prelude.{◌≡◌, ◌++◌, ◌<◌, ℕ, List, [], true, false, length, take, drop, string_bytes, IfSome, IfNone, OnOk, OnErr};
-ghost use Rattle.std.specs.Str.{IsCharBoundary};
-ghost use Rattle.std.specs.Borrow.{sem, Bor};
+ghost use Rattle.std.specs.Prelude.{◌≡◌, ◌≢◌, ◌+◌, ◌^◌, ◌++◌, ◌<◌, ◌⊎◌, ℕ, List, [], None, true, false, length, take, drop, string_bytes, IfSome, IfNone, IfOk, OnOk, OnErr};
+ghost use Rattle.std.specs.Str.{chars, IsCharBoundary};
+ghost use Rattle.std.specs.Borrow.{Bor};
 ghost use Rattle.lalrpop_book.specs.Tree.{Tree};
+ghost use Rattle.lalrpop_book.specs.Winners.{Matched};
+ghost use Rattle.lalrpop_rules.specs.Found.{MatchesAt, NoMatchBefore};
 ghost use Rattle.lalrpop_rules.specs.Pieces.{IsPiece};
-ghost use Rattle.lalrpop_modes.specs.Modes.{EachMode, trees_in};
+ghost use Rattle.lalrpop_modes.specs.Modes.{EachMode, ModeRules, trees_in};
 ghost use Rattle.lalrpop_edits.specs.Internal.Kept.{IsFront, after_rule};
+ghost use Rattle.lalrpop_edits.specs.Internal.Noted.{IsCutter};
 ghost use Rattle.lalrpop_edits.specs.Lexed.{placed};
-ghost use Rattle.lalrpop_edits.specs.Chunked.{nothing_come, IsOpen};
+ghost use Rattle.lalrpop_edits.specs.Chunked.{nothing_come, IsOpen, GivesOrRefuses, BeginsFault, MayMatch};
 ghost use Rattle.lalrpop_edits.specs.Given.{item_by};
-ghost use Rattle.lalrpop_edits.specs.Lending.{EndsGiving};
 
+use crate::cutter::Cutter;
 use crate::error::EditError;
 use crate::front::{Front, front_piece};
 use crate::given_piece::GivenPiece;
+use crate::memo::Memo;
+use crate::run::longest_settled;
+use crate::walker::Walker;
+use lalrpop_lexer::Lexer;
 use lalrpop_lexer::lexer::dfa::NfaIndex;
 use lalrpop_modes::{ModeLexer, ModeStack};
 use std::alloc::{AllocError, Global};
@@ -25,7 +32,8 @@ use std::marker::Model;
 /// the text is cut into chunks, the pieces are those of the whole text.
 ///
 /// It keeps what has come and is in no piece that was given. What was given is dropped when more comes, once it is as long as
-/// what is left. A piece that comes in many chunks is read from its beginning at each call.
+/// what is left. A piece that comes in many chunks is read from its beginning once more has come: so feed much at once where much
+/// is held back.
 ///
 /// ```
 /// use lalrpop_edits::Chunks;
@@ -33,7 +41,7 @@ use std::marker::Model;
 /// let mut chunks = Chunks::new(alloc, &lexer);
 /// chunks.feed("let x")?;
 /// while let Some(piece) = chunks.next_piece()? {
-///     // `let` and the space; but `x` may go on
+///     let slice = chunks.slice(); // `let` and the space; but `x` may go on
 /// }
 /// chunks.feed("y = 1")?; // now `xy`, and so on
 /// chunks.finish(); // and `1`
@@ -43,20 +51,25 @@ pub struct Chunks<'rules> {
     lexer: &'rules ModeLexer,
     // The end of what has come.
     text: String,
+    // Where the last piece begins in it; where it ends, if more has come since.
+    last: usize,
     // How many bytes of it were given.
     given: usize,
     // How many bytes were given in all.
     at: usize,
     stack: ModeStack,
     is_ended: bool,
+    // What the rest is cut with, and what its runs read in vain. None, if more has come since.
+    cutter: Option<Cutter<'rules>>,
 }
 
 impl<'rules> Model for Chunks<'rules> {
-    ghost use Rattle.std.specs.Prelude.{◌<◌, drop, string_bytes};
+    ghost use Rattle.std.specs.Prelude.{◌<◌, ◌≤◌, ◌-◌, take, drop, string_bytes, IfSome};
     ghost use Rattle.std.specs.Str.{IsCharBoundary};
     ghost use Rattle.lalrpop_modes.specs.Modes.{EachMode};
     ghost use Rattle.lalrpop_edits.specs.Chunked.{Chunked};
     ghost use Rattle.lalrpop_edits.specs.Internal.ChunkCode.{chunked_code};
+    ghost use Rattle.lalrpop_edits.specs.Internal.Noted.{IsCutter};
 
     ghost Value = { Chunked };
 
@@ -64,34 +77,80 @@ impl<'rules> Model for Chunks<'rules> {
 
     ghost view = { λ c. record {
       rules = c.lexer.now;
+      last = take (c.given - c.last) (drop c.last (string_bytes c.text));
       rest = drop c.given (string_bytes c.text);
       at = c.at;
       stack = c.stack;
       is_ended = c.is_ended;
     } };
 
-    ghost invariant = { λ c. IsCharBoundary (string_bytes c.text) c.given
-        × EachMode (λ m. m < c.lexer.now.modes) c.stack };
+    ghost invariant = { λ c. (c.last ≤ c.given) × IsCharBoundary (string_bytes c.text) c.last
+        × IsCharBoundary (string_bytes c.text) c.given
+        × EachMode (λ m. m < c.lexer.now.modes) c.stack
+        × IfSome c.cutter (λ t. IsCutter c.lexer.now t c.at (drop c.given (string_bytes c.text))) };
 }
 
-// The piece at the front of the rest, if no more of the text can change it.
-fn final_front(lexer: &ModeLexer, mode: usize, rest: &str, is_ended: bool) -> Option<Front>
+// The cutter that is kept, or else a new one, which has read nothing.
+fn take_cutter<'a>(
+    alloc: Global,
+    kept: &mut Option<Cutter<'a>>,
+    lexer: &'a ModeLexer,
+) -> Result<Cutter<'a>, AllocError>
+    ensures none { kept.new ≡ None }
+    ensures ready { (at : ℕ) (text : List ℕ) → IfSome kept.old (λ c. IsCutter lexer.now c at text)
+        → IfOk result (λ c. IsCutter lexer.now c at text) }
+{
+    match kept.take() {
+        Some(cutter) => Ok(cutter),
+        None => Cutter::new(alloc, lexer),
+    }
+}
+
+// The piece at the front of the rest, which begins at the byte `at` of the text, if no more of the text can change it.
+fn final_front(
+    lexer: &ModeLexer,
+    cutter: &mut Cutter<'_>,
+    mode: usize,
+    at: usize,
+    rest: &str,
+    is_ended: bool,
+) -> Option<Front>
     requires there { mode < lexer.now.modes }
+    requires cutter { IsCutter lexer.now cutter.old at rest.now }
+    requires fits { at + length rest.now < 2 ^ 64 }
     ensures settled { IfSome result (λ f. (more : List ℕ) → (is_ended ≡ true → more ≡ [])
         → IsFront (trees_in lexer.now mode) lexer.now.precedences (rest.now ++ more) f.rule
         (take f.size rest.now)) }
     ensures boundary { IfSome result (λ f. IsCharBoundary rest.now f.size) }
     ensures empty { IfNone result (is_ended ≡ true → rest.now ≡ []) }
     ensures held { IfNone result (is_ended ≡ false → IsOpen (trees_in lexer.now mode) rest.now) }
+    ensures cutter { IsCutter lexer.now cutter.new at rest.now }
 {
     if rest.is_empty() {
         return None;
     }
-    let front = front_piece(lexer.lexer(mode), rest);
+    let walker = &cutter.walkers[mode];
+    let front = front_piece(lexer.lexer(mode), walker, &mut cutter.memo, mode, at, rest);
     if is_ended || front.reach <= rest.len() {
         return Some(front);
     }
     None
+}
+
+// Whether nothing matches at the front of the rest, whatever comes behind it, if anything may.
+fn nothing_matches(alloc: Global, lexer: &Lexer, rest: &str, is_ended: bool) -> bool
+    ensures yes { result ≡ true → (more : List ℕ) → (is_ended ≡ true → more ≡ [])
+        → NoMatchBefore lexer.now.trees (rest.now ++ more) 1 }
+    ensures no { result ≡ false → MatchesAt lexer.now.trees rest.now 0
+        ⊎ ((is_ended ≡ false) × ((v : List ℕ) × ((v ≢ [])
+        × Matched lexer.now.trees (chars rest.now ++ v)))) }
+{
+    let walker = Walker::of(lexer.dense());
+    let found = longest_settled(&walker, &mut Memo::new(alloc), 0, 0, rest);
+    if found.longest.is_some() {
+        return false;
+    }
+    is_ended || found.reach <= rest.len()
 }
 
 // Does what a token of the rule does to the stack. A fault does nothing.
@@ -137,17 +196,24 @@ fn number_of(rule: Option<NfaIndex>) -> Option<usize>
     }
 }
 
-// Drops what was given, unless it is less than what is left: so no more bytes are moved than are dropped.
-fn drop_given(text: &mut String, given: &mut usize) -> Result<(), AllocError>
+// Forgets what runs read in vain, since they may go on in a text of which more has come.
+fn forget(cutter: &mut Option<Cutter<'_>>)
+    ensures right { (r : ModeRules) (at : ℕ) (text : List ℕ)
+        → IfSome cutter.new (λ c. IsCutter r c at text) }
+{
+    *cutter = None;
+}
+
+// Drops what was given, unless it is less than what is left: so no more bytes are moved than are dropped. If that is refused, it
+// stays.
+fn drop_given(text: &mut String, given: &mut usize)
     requires boundary { IsCharBoundary (string_bytes text.old) given.old }
     ensures left { drop given.new (string_bytes text.new) ≡ drop given.old (string_bytes text.old) }
     ensures boundary { IsCharBoundary (string_bytes text.new) given.new }
 {
-    if *given >= text.len() - *given {
-        text.replace_range(..*given, "")?;
+    if *given >= text.len() - *given && text.replace_range(..*given, "").is_ok() {
         *given = 0;
     }
-    Ok(())
 }
 
 impl<'rules> Chunks<'rules> {
@@ -160,10 +226,12 @@ impl<'rules> Chunks<'rules> {
         Chunks {
             lexer,
             text: String::new(alloc),
+            last: 0,
             given: 0,
             at: 0,
             stack: ModeStack::new(alloc),
             is_ended: false,
+            cutter: None,
         }
     }
 
@@ -173,11 +241,15 @@ impl<'rules> Chunks<'rules> {
     ///
     /// `AllocError` if a request for memory was refused. Then nothing has changed.
     pub fn feed(&mut self, chunk: &str) -> Result<(), AllocError>
-        ensures fed { OnOk result (self.new ≡ record self.old { rest = self.old.rest ++ chunk.now }) }
+        ensures fed { OnOk result (self.new
+            ≡ record self.old { last = []; rest = self.old.rest ++ chunk.now }) }
         ensures refused { OnErr result (self.new ≡ self.old) }
     {
-        drop_given(&mut self.text, &mut self.given)?;
-        self.text.push_str(chunk)
+        self.text.push_str(chunk)?;
+        forget(&mut self.cutter);
+        drop_given(&mut self.text, &mut self.given);
+        self.last = self.given;
+        Ok(())
     }
 
     /// Whether `finish` was called.
@@ -194,40 +266,72 @@ impl<'rules> Chunks<'rules> {
         self.is_ended = true;
     }
 
+    /// The number of the mode in which the next piece is read.
+    pub fn mode(&self) -> usize
+        ensures mode { result ≡ self.now.stack.mode }
+    {
+        self.stack.top()
+    }
+
+    /// What has come and is in no piece that was given.
+    pub fn rest(&self) -> &str
+        ensures rest { result.now ≡ self.now.rest }
+    {
+        &self.text[self.given..]
+    }
+
+    /// The piece that `next_piece` gave last. It is empty before the first one, and once more has come.
+    pub fn slice(&self) -> &str
+        ensures slice { result.now ≡ self.now.last }
+    {
+        &self.text[self.last..self.given]
+    }
+
+    /// Whether a fault begins at the front of what has come and is in no piece, whatever comes behind it. How long the fault is
+    /// may not be known yet.
+    pub fn begins_fault(&self) -> bool
+        ensures yes { result ≡ true → BeginsFault self.now }
+        ensures no { result ≡ false → (self.now.rest ≡ []) ⊎ MayMatch self.now }
+    {
+        let rest = self.rest();
+        if rest.is_empty() {
+            return false;
+        }
+        let lexer = self.lexer.lexer(self.stack.top());
+        nothing_matches(*self.text.allocator(), lexer, rest, self.is_ended)
+    }
+
     /// The next piece, if no later chunk can change it; none if all that has come was given, or if what comes may still change
     /// it. After `finish` nothing comes, so all that is left is given.
     ///
     /// # Errors
     ///
-    /// `OutOfMemory` if memory for the stack was refused, or `TooLarge` if 2^64 bytes or more have come, since places are counted
+    /// `OutOfMemory` if a request for memory was refused, or `TooLarge` if 2^64 bytes or more have come, since places are counted
     /// in 64 bits. Then nothing has changed.
-    pub fn next_piece(&mut self) -> Result<Option<GivenPiece<'_>>, EditError>
-        ensures* gives { sem 𝓛 (EndsGiving self.entry result) }
+    pub fn next_piece(&mut self) -> Result<Option<GivenPiece>, EditError>
+        ensures gives { GivesOrRefuses self.old result self.new }
     {
+        let rest = &self.text[self.given..];
+        if self.at.checked_add(rest.len()).is_none() {
+            return Err(EditError::TooLarge);
+        }
+        let mut cutter = take_cutter(*self.text.allocator(), &mut self.cutter, self.lexer)?;
+        let mode = self.stack.top();
+        let found = final_front(self.lexer, &mut cutter, mode, self.at, rest, self.is_ended);
+        self.cutter = Some(cutter);
+        let Some(front) = found else {
+            return Ok(None);
+        };
         let from = self.given;
-        let front = match final_front(
-            self.lexer,
-            self.stack.top(),
-            &self.text[from..],
-            self.is_ended,
-        ) {
-            Some(front) => front,
-            None => return Ok(None),
-        };
         let start = self.at;
-        let at = match start.checked_add(front.size) {
-            Some(at) => at,
-            None => return Err(EditError::TooLarge),
-        };
         act_by(self.lexer, front.rule, &mut self.stack)?;
-        let skipped = is_skipped(self.lexer.skips(), front.rule);
-        self.at = at;
+        self.at = start + front.size;
+        self.last = from;
         self.given = from + front.size;
         Ok(Some(GivenPiece {
             rule: number_of(front.rule),
-            is_skipped: skipped,
+            is_skipped: is_skipped(self.lexer.skips(), front.rule),
             start,
-            slice: &self.text.as_str()[from..from + front.size],
         }))
     }
 }

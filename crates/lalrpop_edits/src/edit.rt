@@ -14,6 +14,7 @@ ghost use Rattle.lalrpop_edits.specs.Internal.Least.{IsLeastChange};
 
 use crate::block::{Block, blocks_of};
 use crate::change::Change;
+use crate::cutter::Cutter;
 use crate::error::EditError;
 use crate::kept::Kept;
 use crate::meet::{Cut, Edit, Old, Spot, cut_to_meet};
@@ -254,7 +255,8 @@ pub(crate) fn cut_anew(
         pieces: Vec::new(alloc),
         place: first.place.clone()?,
     };
-    cut_to_meet(lexer, text, blocks, &edit, &mut old, &mut cut)?;
+    let mut cutter = Cutter::new(alloc, lexer)?;
+    cut_to_meet(lexer, &mut cutter, text, blocks, &edit, &mut old, &mut cut)?;
     let spot = first.spot;
     put_pieces(
         alloc,

@@ -1,17 +1,21 @@
 //! The piece at the front of a text, and what it depends on.
 
-ghost use Rattle.std.specs.Prelude.{◌≡◌, ◌+◌, ◌<◌, ◌≤◌, ◌⊎◌, ◌==◌, if◌then◌else◌, ℕ, List, Some, None, length, IfSome, IfNone, IsSomeAnd};
+ghost use Rattle.std.specs.Prelude.{◌≡◌, ◌≢◌, ◌+◌, ◌^◌, ◌<◌, ◌≤◌, ◌⊎◌, ◌==◌, if◌then◌else◌, ℕ, List, Some, None, length, IfSome, IfNone, IsSomeAnd};
 ghost use Rattle.std.specs.Str.{IsCharBoundary};
 ghost use Rattle.lalrpop_book.specs.Tree.{Tree};
-ghost use Rattle.lalrpop_dfa.specs.Dfa.{RecognizesAll};
+ghost use Rattle.lalrpop_dfa.specs.Dfa.{Row, RecognizesAll};
 ghost use Rattle.lalrpop_dfa.specs.Lookahead.{IsTrim};
 ghost use Rattle.lalrpop_edits.specs.Internal.Reach.{AreAlike};
 ghost use Rattle.lalrpop_edits.specs.Internal.Kept.{IsFront, rule_of, reach_of};
+ghost use Rattle.lalrpop_edits.specs.Internal.Walking.{IsRight, IsWalkerOf};
+ghost use Rattle.lalrpop_edits.specs.Internal.Noted.{IsNoted, IsSound};
 ghost use Rattle.lalrpop_edits.specs.Chunked.{IsOpen};
 
 use crate::kept::{FAULT, Kept};
+use crate::memo::Memo;
 use crate::run::longest_settled;
-use lalrpop_dfa::{Dfa, NfaIndex};
+use crate::walker::Walker;
+use lalrpop_dfa::NfaIndex;
 use lalrpop_lexer::Lexer;
 
 // The piece at the front of a text: its rule, none in a fault; how many bytes it has; and how many bytes from its beginning on
@@ -23,22 +27,28 @@ pub(crate) struct Front {
     pub(crate) reach: usize,
 }
 
-// The piece at the front of a text that is cut by the patterns of an automaton.
-fn front_by(dfa: &Dfa, rest: &str) -> Front
+// The piece at the front of a text that is cut by the patterns of an automaton, along which the walker goes. The text begins at the
+// byte `at` of a longer one, which the memo is for.
+fn front_by(walker: &Walker<'_>, memo: &mut Memo, mode: usize, at: usize, rest: &str) -> Front
+    requires right { IsRight walker.now }
     requires some { 0 < length rest.now }
-    ensures front { (ts : List Tree) (ps : List ℕ) → RecognizesAll dfa.now ts ps
-        → (other : List ℕ) → AreAlike result.reach rest.now other
+    requires fits { at + length rest.now < 2 ^ 64 }
+    requires sound { IsSound walker.now memo.old mode at rest.now }
+    ensures front { (d : List Row) (ts : List Tree) (ps : List ℕ) → IsWalkerOf walker.now d
+        → RecognizesAll d ts ps → (other : List ℕ) → AreAlike result.reach rest.now other
         → (slice : List ℕ) × ((length slice ≡ result.size) × IsFront ts ps other result.rule slice) }
     ensures some { 0 < result.size }
     ensures size { result.size ≤ result.reach }
     ensures within { result.reach ≤ length rest.now + 1 }
     ensures boundary { IsCharBoundary rest.now result.size }
-    ensures held { length rest.now < result.reach → IsTrim dfa.now
-        → (ts : List Tree) (ps : List ℕ) → RecognizesAll dfa.now ts ps → IsOpen ts rest.now }
+    ensures held { length rest.now < result.reach → (d : List Row) (ts : List Tree) (ps : List ℕ)
+        → IsWalkerOf walker.now d → IsTrim d → RecognizesAll d ts ps → IsOpen ts rest.now }
+    ensures sound { IsSound walker.now memo.new mode at rest.now }
+    ensures others { (m p e n : ℕ) → m ≢ mode → IsNoted memo.new m p e n → IsNoted memo.old m p e n }
 {
     let mut reach = 0usize;
     for (offset, _) in rest.char_indices() {
-        let found = longest_settled(dfa, &rest[offset..]);
+        let found = longest_settled(walker, memo, mode, at + offset, &rest[offset..]);
         if let Some((index, slice)) = found.longest {
             // That something matches here ends a fault; a longer match would end it too.
             if offset > 0 {
@@ -63,9 +73,20 @@ fn front_by(dfa: &Dfa, rest: &str) -> Front
     }
 }
 
-/// The piece at the front of a text that isn't empty.
-pub(crate) fn front_piece(lexer: &Lexer, rest: &str) -> Front
+/// The piece at the front of a text that isn't empty. It begins at the byte `at` of a longer one, which the memo is for.
+pub(crate) fn front_piece(
+    lexer: &Lexer,
+    walker: &Walker<'_>,
+    memo: &mut Memo,
+    mode: usize,
+    at: usize,
+    rest: &str,
+) -> Front
+    requires right { IsRight walker.now }
+    requires same { IsWalkerOf walker.now lexer.now.automaton }
     requires some { 0 < length rest.now }
+    requires fits { at + length rest.now < 2 ^ 64 }
+    requires sound { IsSound walker.now memo.old mode at rest.now }
     ensures front { (other : List ℕ) → AreAlike result.reach rest.now other → (slice : List ℕ)
         × ((length slice ≡ result.size)
         × IsFront lexer.now.trees lexer.now.precedences other result.rule slice) }
@@ -74,8 +95,12 @@ pub(crate) fn front_piece(lexer: &Lexer, rest: &str) -> Front
     ensures within { result.reach ≤ length rest.now + 1 }
     ensures boundary { IsCharBoundary rest.now result.size }
     ensures held { length rest.now < result.reach → IsOpen lexer.now.trees rest.now }
+    ensures sound { IsSound walker.now memo.new mode at rest.now }
+    ensures others { (m p e n : ℕ) → m ≢ mode → IsNoted memo.new m p e n → IsNoted memo.old m p e n }
 {
-    front_by(lexer.dense().dfa(), rest)
+    // What is known of the automaton.
+    let _dense = lexer.dense();
+    front_by(walker, memo, mode, at, rest)
 }
 
 // The number that is kept of a rule. `None` if it is too great.

@@ -7,11 +7,11 @@ use lalrpop_lexer::Token;
 use lalrpop_lexer::lexer::dfa::NfaIndex;
 use lalrpop_rules::Item;
 
-/// A piece of a text that comes in chunks. It borrows what has come, so it's gone when more comes.
+/// A piece of a text that comes in chunks. `Chunks::slice` has its part of the text.
 ///
 /// ```
 /// while let Some(piece) = chunks.next_piece()? {
-///     match piece.item() {
+///     match piece.item(chunks.slice()) {
 ///         Item::Token(token) => println!(rt; "{:?}", token.slice)?,
 ///         Item::Skipped(_) => {}
 ///         Item::Fault { start, slice } => println!(rt; "byte {start}: {slice:?}")?,
@@ -19,34 +19,32 @@ use lalrpop_rules::Item;
 /// }
 /// ```
 #[derive(Clone, Copy, Debug, PartialEq, Eq)]
-pub struct GivenPiece<'text> {
+pub struct GivenPiece {
     /// The index of the rule of a token; none in a fault.
     pub rule: Option<usize>,
     /// Whether that rule is skipped.
     pub is_skipped: bool,
     /// Where the piece begins in the text, in bytes.
     pub start: usize,
-    /// The piece of the text.
-    pub slice: &'text str,
 }
 
-impl<'text> GivenPiece<'text> {
-    /// The piece, as a text that isn't cut into chunks has it.
-    pub fn item(&self) -> Item<'text>
-        ensures item { result ≡ item_of self.now }
+impl GivenPiece {
+    /// The piece with this slice of the text, as a text that isn't cut into chunks has it.
+    pub fn item<'text>(&self, slice: &'text str) -> Item<'text>
+        ensures item { result ≡ item_of self.now slice.entry }
     {
         let index = match self.rule {
             Some(rule) => NfaIndex::new(rule),
             None => {
                 return Item::Fault {
                     start: self.start,
-                    slice: self.slice,
+                    slice,
                 };
             }
         };
         let token = Token {
             index,
-            slice: self.slice,
+            slice,
             start: self.start,
         };
         if self.is_skipped {

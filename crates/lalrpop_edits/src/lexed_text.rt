@@ -163,7 +163,8 @@ impl<'rules> Model for LexedText<'rules> {
 }
 
 impl<'rules> LexedText<'rules> {
-    /// The text with its pieces. It is cut whole, which takes time linear in it for most rules, and at most quadratic.
+    /// The text with its pieces. It is cut whole, in time linear in it by its code: what a run reads in vain is noted at each 64th
+    /// byte, and isn't read again.
     ///
     /// # Errors
     ///

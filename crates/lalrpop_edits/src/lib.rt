@@ -5,6 +5,10 @@
 mod block;
 mod change;
 mod chunks;
+mod cutter;
+mod decoder;
+#[cfg(test)]
+mod decoder_test;
 mod edit;
 mod error;
 mod front;
@@ -12,14 +16,17 @@ mod given_piece;
 mod kept;
 mod lexed_text;
 mod meet;
+mod memo;
 mod pieces;
 mod place;
 mod run;
 #[cfg(test)]
 mod test;
+mod walker;
 
 pub use change::Change;
 pub use chunks::Chunks;
+pub use decoder::TextDecoder;
 pub use error::EditError;
 pub use given_piece::GivenPiece;
 pub use lexed_text::LexedText;

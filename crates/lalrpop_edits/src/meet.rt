@@ -6,10 +6,12 @@ ghost use Rattle.lalrpop_modes.specs.Stack.{Stack};
 ghost use Rattle.lalrpop_modes.specs.Modes.{EachMode};
 ghost use Rattle.lalrpop_edits.specs.Internal.Kept.{KeptUpTo};
 ghost use Rattle.lalrpop_edits.specs.Internal.Cutting.{IsCutError};
+ghost use Rattle.lalrpop_edits.specs.Internal.Noted.{IsCutter};
 ghost use Rattle.lalrpop_edits.specs.Internal.Blocks.{pieces_in, sizes, IsSpot};
 ghost use Rattle.lalrpop_edits.specs.Internal.Meeting.{new_place, IsOldPlace, AreOld, IsTurn, AreMetAfter};
 
 use crate::block::Block;
+use crate::cutter::Cutter;
 use crate::error::EditError;
 use crate::kept::Kept;
 use crate::place::{Place, cut_piece, pass};
@@ -133,6 +135,7 @@ fn next_turn(edit: &Edit, end: usize, old: &Place, cut: &Place) -> Turn
 /// The text is too large, or there are too many rules, or a request for memory was refused.
 pub(crate) fn cut_to_meet(
     lexer: &ModeLexer,
+    cutter: &mut Cutter<'_>,
     text: &str,
     blocks: &[Block],
     edit: &Edit,
@@ -144,6 +147,7 @@ pub(crate) fn cut_to_meet(
     requires count { length (pieces_in blocks.now) < 2 ^ 63 }
     requires size { sizes (pieces_in blocks.now) < 2 ^ 63 }
     requires none { cut.old.pieces.items ≡ [] }
+    requires cutter { IsCutter lexer.now cutter.old cut.old.place.at (drop cut.old.place.at text.now) }
     requires boundary { IsCharBoundary text.now cut.old.place.at }
     requires there { EachMode (λ m. m < lexer.now.modes) cut.old.place.stack }
     ensures old { OnOk result (IsOldPlace lexer.now blocks.now old.new) }
@@ -172,7 +176,7 @@ pub(crate) fn cut_to_meet(
         match next_turn(edit, text.len(), &old.place, &cut.place) {
             Turn::Meet => return Ok(()),
             Turn::CutOn => {
-                let piece = cut_piece(lexer, text, &mut cut.place)?;
+                let piece = cut_piece(lexer, cutter, text, &mut cut.place)?;
                 cut.pieces.push(piece)?;
             }
             Turn::PassOn => {

@@ -5,7 +5,9 @@ ghost use Rattle.std.specs.Str.{IsCharBoundary};
 ghost use Rattle.lalrpop_modes.specs.Modes.{EachMode};
 ghost use Rattle.lalrpop_edits.specs.Internal.Kept.{IsKept, after_kept};
 ghost use Rattle.lalrpop_edits.specs.Internal.Cutting.{IsCutError};
+ghost use Rattle.lalrpop_edits.specs.Internal.Noted.{IsCutter};
 
+use crate::cutter::Cutter;
 use crate::error::EditError;
 use crate::front::{front_piece, kept_of};
 use crate::kept::{FAULT, Kept};
@@ -58,7 +60,13 @@ pub(crate) fn pass(lexer: &ModeLexer, piece: &Kept, place: &mut Place) -> Result
 /// # Errors
 ///
 /// The text is too large, or there are too many rules, or a request for memory was refused.
-pub(crate) fn cut_piece(lexer: &ModeLexer, text: &str, place: &mut Place) -> Result<Kept, EditError>
+pub(crate) fn cut_piece(
+    lexer: &ModeLexer,
+    cutter: &mut Cutter<'_>,
+    text: &str,
+    place: &mut Place,
+) -> Result<Kept, EditError>
+    requires cutter { IsCutter lexer.now cutter.old place.old.at (drop place.old.at text.now) }
     requires boundary { IsCharBoundary text.now place.old.at }
     requires within { place.old.at < length text.now }
     requires there { EachMode (λ m. m < lexer.now.modes) place.old.stack }
@@ -70,9 +78,19 @@ pub(crate) fn cut_piece(lexer: &ModeLexer, text: &str, place: &mut Place) -> Res
         place.new.stack ≡ after_kept lexer.now k place.old.stack) }
     ensures boundary { OnOk result (IsCharBoundary text.now place.new.at) }
     ensures there { OnOk result (EachMode (λ m. m < lexer.now.modes) place.new.stack) }
+    ensures cutter { OnOk result
+        (IsCutter lexer.now cutter.new place.new.at (drop place.new.at text.now)) }
     ensures error { IfErr result (λ e. IsCutError lexer.now text.now e) }
 {
-    let front = front_piece(lexer.lexer(place.stack.top()), &text[place.at..]);
+    let mode = place.stack.top();
+    let front = front_piece(
+        lexer.lexer(mode),
+        &cutter.walkers[mode],
+        &mut cutter.memo,
+        mode,
+        place.at,
+        &text[place.at..],
+    );
     match kept_of(&front) {
         Some(piece) => {
             pass(lexer, &piece, place)?;

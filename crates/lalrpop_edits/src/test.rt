@@ -114,7 +114,7 @@ fn a_range_inside_a_character_is_refused(rt: HostRuntime) -> Result<(), Fail> {
 fn gives(chunks: &mut Chunks<'_>, slices: &[&str]) -> bool {
     for slice in slices {
         match chunks.next_piece() {
-            Ok(Some(piece)) if piece.slice == *slice => {}
+            Ok(Some(_)) if chunks.slice() == *slice => {}
             _ => return false,
         }
     }
@@ -139,6 +139,40 @@ fn a_token_comes_in_two_chunks(rt: HostRuntime) -> Result<(), Fail> {
 }
 
 #[test]
+fn what_is_left_is_seen(rt: HostRuntime) -> Result<(), Fail> {
+    let lexer = words_and_comments(rt.alloc())?;
+    let mut chunks = Chunks::new(rt.alloc(), &lexer);
+    chunks.feed("a<b")?;
+    assert!(rt; gives(&mut chunks, &["a", "<", "b"]));
+    assert!(rt; chunks.slice() == "b" && chunks.rest() == "" && chunks.mode() == 1);
+    chunks.feed("c")?;
+    assert!(rt; chunks.slice() == "" && chunks.rest() == "c");
+    Ok(())
+}
+
+#[test]
+fn a_fault_is_seen_where_it_begins(rt: HostRuntime) -> Result<(), Fail> {
+    let rules = [ModeRule {
+        rule: Rule::literal("ABC", "abc"),
+        modes: &[0],
+        actions: &[],
+    }];
+    let lexer = ModeLexer::from_rules(rt.alloc(), &rules, 1)?;
+    let mut chunks = Chunks::new(rt.alloc(), &lexer);
+    assert!(rt; !chunks.begins_fault());
+    chunks.feed("?")?;
+    // More of the fault may come.
+    assert!(rt; chunks.begins_fault() && gives(&mut chunks, &[]));
+    let mut chunks = Chunks::new(rt.alloc(), &lexer);
+    chunks.feed("ab")?;
+    // `c` may come.
+    assert!(rt; !chunks.begins_fault());
+    chunks.finish();
+    assert!(rt; chunks.begins_fault() && gives(&mut chunks, &["ab"]));
+    Ok(())
+}
+
+#[test]
 fn stacks_are_copied_and_compared(rt: HostRuntime) -> Result<(), Fail> {
     let mut stack = ModeStack::new(rt.alloc());
     stack.act_all(&[Action::Push(1), Action::Push(2)])?;
@@ -146,5 +180,43 @@ fn stacks_are_copied_and_compared(rt: HostRuntime) -> Result<(), Fail> {
     assert!(rt; copy == stack && copy.depth() == 2);
     copy.act(&Action::Pop)?;
     assert!(rt; copy != stack && copy.depth() == 1);
+    Ok(())
+}
+
+// An `a` is a piece; but each may begin many that end in a `b`.
+fn runs_on(alloc: Global) -> Result<ModeLexer, ModesError> {
+    let rules = [
+        ModeRule {
+            rule: Rule::literal("A", "a"),
+            modes: &[0],
+            actions: &[],
+        },
+        ModeRule {
+            rule: Rule::pattern("B", "a*b"),
+            modes: &[0],
+            actions: &[],
+        },
+    ];
+    ModeLexer::from_rules(alloc, &rules, 1)
+}
+
+// Whether the piece that holds the byte is this slice.
+fn holds(lexed: &LexedText<'_>, at: usize, slice: &str) -> bool {
+    match lexed.piece_at(at) {
+        Some(piece) => piece.slice() == slice,
+        None => false,
+    }
+}
+
+// The text is cut in time linear in it: by runs to the end of the text it would take hours.
+#[test]
+fn runs_that_find_nothing_are_not_made_again(rt: HostRuntime) -> Result<(), Fail> {
+    let lexer = runs_on(rt.alloc())?;
+    let text = "a".repeat(rt.alloc(), 200_000)?;
+    let mut lexed = LexedText::new(rt.alloc(), &lexer, &text)?;
+    assert!(rt; holds(&lexed, 0, "a") && holds(&lexed, 199_999, "a"));
+    let change = lexed.edit(rt.alloc(), 200_000..200_000, "b")?;
+    assert!(rt; (change.start, change.new_end) == (0, 200_001));
+    assert!(rt; holds(&lexed, 0, lexed.text()));
     Ok(())
 }

@@ -79,7 +79,7 @@ fn add_pieces(chunks: &mut Chunks<'_>, text: &str, line: &mut String) -> Result<
     // A piece has one byte at least.
     for _ in 0..=text.len() {
         match chunks.next_piece() {
-            Ok(Some(piece)) => add(line, " ", piece.slice)?,
+            Ok(Some(_)) => add(line, " ", chunks.slice())?,
             Ok(None) => return add(line, " ", "|"),
             Err(_) if is_refused => return Err(AllocError),
             Err(_) => is_refused = true,

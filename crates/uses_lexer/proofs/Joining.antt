@@ -1,17 +1,18 @@
 -- The bytes of pieces that are given one after another.
-use Rattle.std.proofs.Common.{◌≡◌, ℕ, Bool, true, false, List, [], ◌∷◌, ◌++◌, refl, sym, ap, ◌∙◌, append_assoc}
-use Rattle.std.specs.Prelude.{Option, Some, None}
+use Rattle.std.proofs.Common.{◌≡◌, ℕ, Bool, true, false, List, [], ◌∷◌, ◌++◌, length, refl, sym, ap, ◌∙◌, append_assoc}
+use Rattle.std.specs.Prelude.{Option, Some, None, slice_get}
 use Rattle.std.specs.Borrow.{Bor}
 use Rattle.std.proofs.lemmas.List.{append-nil}
 use Rattle.lalrpop_rules.specs.Pieces.{AreSame, joined, slice_of}
 use Rattle.lalrpop_rules.specs.declared.item.Item.{Item}
+use Rattle.lalrpop_rules.specs.declared.item.Item.TheVariants.{Fault}
 use Rattle.lalrpop_edits.specs.Given.{item_by, item_of}
 use Rattle.lalrpop_edits.specs.declared.given_piece.GivenPiece.{GivenPiece}
 use Rattle.lalrpop_rules.proofs.UniquePieces.{same_slice}
-use Rattle.lalrpop_modes.specs.Stack.{start}
+use Rattle.lalrpop_modes.specs.Stack.{Stack, start}
 use Rattle.lalrpop_modes.specs.Modes.{ModeRules, ArePiecesFrom}
-use Rattle.lalrpop_edits.specs.Chunked.{Chunked, Came, IsHeldBack, nothing_come}
-use Rattle.lalrpop_edits.proofs.ChunkLaws.{came_nothing, came_more, came_rest, came_pieces}
+use Rattle.lalrpop_edits.specs.Chunked.{Chunked, Came, IsHeldBack, BeginsFault, nothing_come}
+use Rattle.lalrpop_edits.proofs.ChunkLaws.{came_nothing, came_more, came_rest, came_pieces, fault_follows}
 
 slice_by : (o : Option ℕ) (skipped : Bool) (at : ℕ) (slice : Bor (List ℕ)) → slice_of (item_by o skipped at slice) ≡ slice.now
 slice_by None skipped at slice = refl
@@ -22,14 +23,15 @@ joined_more : (xs : List Item) (x : Item) → joined (xs ++ x ∷ []) ≡ joined
 joined_more [] x = append-nil (slice_of x)
 joined_more (y ∷ xs) x = ap (λ (t : List ℕ). slice_of y ++ t) (joined_more xs x) ∙ sym (append_assoc (slice_of y) (joined xs) (slice_of x))
 
--- one piece more
-pub bytes_on : (xs : List Item) (p : GivenPiece) (old new : List ℕ) → old ≡ joined xs → new ≡ old ++ p.slice.now → new ≡ joined (xs ++ item_of p ∷ [])
-bytes_on xs p old new so_far is =
-    is ∙ ap (λ (t : List ℕ). t ++ p.slice.now) so_far
-    ∙ ap (λ (t : List ℕ). joined xs ++ t) (sym (slice_by p.rule p.is_skipped p.start p.slice)) ∙ sym (joined_more xs (item_of p))
+-- one piece more, by its slice
+pub bytes_on : (xs : List Item) (p : GivenPiece) (slice : Bor (List ℕ)) (old new : List ℕ) → old ≡ joined xs → new ≡ old ++ slice.now
+    → new ≡ joined (xs ++ item_of p slice ∷ [])
+bytes_on xs p slice old new so_far is =
+    is ∙ ap (λ (t : List ℕ). t ++ slice.now) so_far
+    ∙ ap (λ (t : List ℕ). joined xs ++ t) (sym (slice_by p.rule p.is_skipped p.start slice)) ∙ sym (joined_more xs (item_of p slice))
 
 -- the first chunk
-module _ (r : ModeRules) (c d : Chunked) (front : List ℕ) (none : c ≡ nothing_come r) (fed : d ≡ record c { rest = c.rest ++ front }) where
+module _ (r : ModeRules) (c d : Chunked) (front : List ℕ) (none : c ≡ nothing_come r) (fed : d ≡ record c { last = []; rest = c.rest ++ front }) where
   pub goes_on : d.is_ended ≡ false
   goes_on = ap (λ (e : Chunked). e.is_ended) fed ∙ ap (λ (e : Chunked). e.is_ended) none
 
@@ -52,3 +54,15 @@ same_joined [] (y ∷ ys) are = absurd are
 same_joined (x ∷ xs) [] are = absurd are
 same_joined (x ∷ xs) (y ∷ ys) are =
     ap (λ (p : List ℕ). p ++ joined xs) (same_slice x y are.0) ∙ ap (λ (t : List ℕ). slice_of y ++ t) (same_joined xs ys are.1)
+
+-- a fault that begins behind what was given is there in the whole text
+pub fault_at : (r : ModeRules) (text bytes : List ℕ) (xs : List Item) (c : Chunked) (at : ℕ) → Came r text xs c → c.is_ended ≡ false → BeginsFault c → bytes ≡ joined xs
+    → at ≡ length bytes → (back : List ℕ) (ys : List Item) (end : Stack) → ArePiecesFrom r (text ++ back) 0 start ys end
+    → (n : ℕ) × ((slice : Bor (List ℕ)) × (slice_get ys n ≡ Some (Fault at slice)))
+fault_at r text bytes xs c at came goes begins so_far size back ys end all =
+    let fault = fault_follows r text xs c came begins back (λ over. absurd (no_bool (sym goes ∙ over))) ys end all in
+    let place : c.at ≡ at = (came_rest r text xs c came).1 ∙ ap length (sym so_far) ∙ sym size in
+    (length xs, (fault.0, fault.1 ∙ ap (λ (n : ℕ). Some (Fault n fault.0)) place))
+  where
+    no_bool : false ≡ true → ⊥
+    no_bool same = cc

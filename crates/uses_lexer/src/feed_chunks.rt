@@ -1,10 +1,15 @@
 //! A text comes in chunks, and is put together again from its pieces.
-ghost use Rattle.std.specs.Prelude.{◌≡◌, ◌++◌, List, ℕ, [], true, false, string_bytes, take, IfOk, OnOk};
-ghost use Rattle.lalrpop_edits.specs.Chunked.{Came, IsHeldBack};
-ghost use Rattle.lalrpop_modes.specs.Modes.{ArePiecesFrom, ModeRules};
+ghost use Rattle.std.specs.Prelude.{◌≡◌, ◌++◌, ◌⊎◌, List, ℕ, [], true, false, length, string_bytes, take, slice_get, Some, IfOk, OnOk, IfSome, IfNone};
+ghost use Rattle.std.specs.Borrow.{Bor};
+ghost use Rattle.std.specs.Str.{chars};
+ghost use Rattle.lalrpop_book.specs.Winners.{Matched};
+ghost use Rattle.lalrpop_edits.specs.Chunked.{Came, IsHeldBack, BeginsFault};
+ghost use Rattle.lalrpop_modes.specs.Modes.{ArePiecesFrom, ModeRules, trees_in};
+ghost use Rattle.lalrpop_rules.specs.Found.{MatchesAt};
 ghost use Rattle.lalrpop_modes.specs.Stack.{Stack, start};
 ghost use Rattle.lalrpop_rules.specs.Pieces.{joined};
 ghost use Rattle.lalrpop_rules.specs.declared.item.Item.{Item as ItemValue};
+ghost use Rattle.lalrpop_rules.specs.declared.item.Item.TheVariants.{Fault};
 
 use lalrpop_edits::{Chunks, EditError, GivenPiece};
 use lalrpop_modes::ModeLexer;
@@ -15,7 +20,7 @@ use std::alloc::Global;
 /// Whether a chunk came: not if the text has ended, or memory was refused.
 pub fn feed_if_open(chunks: &mut Chunks<'_>, chunk: &str) -> bool
     ensures came { result ≡ true
-        → chunks.new ≡ record chunks.old { rest = chunks.old.rest ++ chunk.now } }
+        → chunks.new ≡ record chunks.old { last = []; rest = chunks.old.rest ++ chunk.now } }
     ensures same { result ≡ false → chunks.new ≡ chunks.old }
 {
     if chunks.is_ended() {
@@ -24,7 +29,7 @@ pub fn feed_if_open(chunks: &mut Chunks<'_>, chunk: &str) -> bool
     chunks.feed(chunk).is_ok()
 }
 
-// Needs lalrpop_edits::Chunks::next_piece: gives.
+// Needs lalrpop_edits::Chunks::next_piece: gives; lalrpop_edits::Chunks::slice: slice.
 // Appends the pieces that no later chunk can change.
 fn take_pieces(chunks: &mut Chunks<'_>, whole: &mut String) -> Result<(), EditError>
     ensures taken { OnOk result ((r : ModeRules) (text : List ℕ) (xs : List ItemValue)
@@ -36,21 +41,37 @@ fn take_pieces(chunks: &mut Chunks<'_>, whole: &mut String) -> Result<(), EditEr
 {
     'pieces: loop {
         match chunks.next_piece()? {
-            Some(piece) => whole.push_str(piece.slice)?,
+            Some(_) => whole.push_str(chunks.slice())?,
             None => return Ok(()),
         }
     }
 }
 
 // Needs lalrpop_edits::GivenPiece::item: item.
-/// Where a piece begins that was given.
-pub fn place_of(piece: &GivenPiece<'_>) -> usize
-    ensures place { result ≡ piece.now.start }
+/// Where a piece begins that was given, and how many bytes its slice has.
+pub fn place_of(piece: &GivenPiece, slice: &str) -> (usize, usize)
+    ensures place { result.0 ≡ piece.now.start }
+    ensures size { result.1 ≡ length slice.now }
 {
-    match piece.item() {
-        Item::Token(token) | Item::Skipped(token) => token.start,
-        Item::Fault { start, slice: _ } => start,
+    match piece.item(slice) {
+        Item::Token(token) | Item::Skipped(token) => (token.start, token.slice.len()),
+        Item::Fault { start, slice } => (start, slice.len()),
     }
+}
+
+// Needs lalrpop_edits::Chunks::mode: mode; lalrpop_edits::Chunks::rest: rest.
+// Needs lalrpop_edits::Chunks::begins_fault: yes, no.
+/// The mode in which some rule may match what is left, and what is left. None if nothing is, or if a fault begins there.
+pub fn match_to_come<'text>(chunks: &'text Chunks<'_>) -> Option<(usize, &'text str)>
+    ensures may { IfSome result (λ m. MatchesAt (trees_in chunks.now.rules m.0) m.1.now 0
+        ⊎ ((v : List ℕ) × Matched (trees_in chunks.now.rules m.0) (chars m.1.now ++ v))) }
+    ensures none { IfNone result ((chunks.now.rest ≡ []) ⊎ BeginsFault chunks.now) }
+{
+    let rest = chunks.rest();
+    if rest.is_empty() || chunks.begins_fault() {
+        return None;
+    }
+    Some((chunks.mode(), rest))
 }
 
 // Needs lalrpop_edits::Chunks::new: nothing; lalrpop_edits::Chunks::feed: fed.
@@ -97,4 +118,29 @@ pub fn first_pieces(alloc: Global, lexer: &ModeLexer, front: &str) -> Result<Str
     chunks.feed(front)?;
     take_pieces(&mut chunks, &mut first)?;
     Ok(first)
+}
+
+// Needs lalrpop_edits::Chunks::begins_fault: yes.
+/// Where a fault begins in a text whose front has come, whatever its rest is. None if what comes tells.
+///
+/// # Errors
+///
+/// `OutOfMemory`, or `TooLarge` for a text of 2^64 bytes.
+pub fn place_of_fault(
+    alloc: Global,
+    lexer: &ModeLexer,
+    front: &str,
+) -> Result<Option<usize>, EditError>
+    ensures fault { IfOk result (λ found. IfSome found (λ at. (back : List ℕ) (ys : List ItemValue) (end : Stack)
+        → ArePiecesFrom lexer.now (front.now ++ back) 0 start ys end
+        → (n : ℕ) × ((slice : Bor (List ℕ)) × (slice_get ys n ≡ Some (Fault at slice))))) }
+{
+    let mut chunks = Chunks::new(alloc, lexer);
+    let mut before = String::new(alloc);
+    chunks.feed(front)?;
+    take_pieces(&mut chunks, &mut before)?;
+    if !chunks.begins_fault() {
+        return Ok(None);
+    }
+    Ok(Some(before.as_str().len()))
 }

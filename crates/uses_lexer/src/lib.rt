@@ -15,6 +15,7 @@ pub mod cut_in_bounded_time;
 pub mod cut_in_linear_time;
 pub mod cut_linearly;
 pub mod cut_to_the_end;
+pub mod decode_chunks;
 pub mod edit_a_text;
 pub mod feed_chunks;
 pub mod find_a_match;

@@ -10,10 +10,12 @@ use Rattle.lalrpop_rules.specs.Pieces.{IsPiece, slice_of}
 use Rattle.lalrpop_rules.specs.declared.item.Item.{Item}
 use Rattle.lalrpop_rules.specs.declared.item.Item.TheVariants.{Fault}
 use Rattle.lalrpop_modes.specs.Modes.{ModeRules, trees_in}
+use Rattle.lalrpop_edits.specs.Internal.Reach.{IsSettledBy}
 use Rattle.lalrpop_edits.specs.Lexed.{placed}
 use Rattle.lalrpop_edits.specs.declared.error.EditError.{EditError}
 use Rattle.lalrpop_edits.specs.declared.error.EditError.TheVariants.{NoBoundary, TooLarge, OutOfMemory}
-use Rattle.lalrpop_edits.specs.Chunked.{Chunked, nothing_come, IsFinal, IsOpen, IsHeldBack, GivesFinal, GivesOrRefuses, IsChunkError, Came, nothing, fed, ended}
+use Rattle.lalrpop_edits.specs.Chunked.{Chunked, nothing_come, IsFinal, IsOpen, IsHeldBack, GivesFinal, GivesOrRefuses, IsChunkError, BeginsFault, MayMatch, Came, nothing, fed, ended}
+use Rattle.lalrpop_edits.proofs.Settling.{settled_match}
 use Rattle.lalrpop_edits.proofs.ChunkLaws.{came_rest}
 
 -- this has come, and nothing was given
@@ -65,6 +67,52 @@ last_piece_is_final : (r : ModeRules) (rest : List ℕ) (x : Item) → IsPiece (
     → IsFinal (whole r rest) x
 last_piece_is_final r rest x is more none = subst (λ (t : List ℕ). IsPiece (trees_in r 0) r.precedences r.skips (rest ++ t) 0 (placed 0 x)) (sym (none refl)) is
 
+-- ---- where a fault begins
+
+-- nothing matches `?`, or begins with it
+nothing_begins_so : (r : ModeRules) → ¬ MatchesAt (trees_in r 0) (codes "?") 0 → ((v : List ℕ) → v ≢ [] → ¬ Matched (trees_in r 0) (codes "?" ++ v))
+    → BeginsFault (come r (codes "?"))
+unfolding chars lib.Utf8.encode
+nothing_begins_so r none closed = (
+  (λ empty. cc),
+  (λ more may n below m.
+      let ts = trees_in r 0 in
+      let front : n ≡ 0 = omega (arith, below) in
+      let there : MatchesAt ts (codes "?" ++ more) 0 = subst (λ (k : ℕ). MatchesAt ts (codes "?" ++ more) k) front m in
+      let settled : IsSettledBy ts (codes "?") 1 = inr (codes "?", (([], (refl, (codes "?", (refl, refl)))), omega arith, λ v below. closed v)) in
+      none (there.0, settled_match ts (codes "?") (codes "?" ++ more) there.0 1 settled refl there.1)),
+)
+
+-- `ab` has come, `abc` matches, and `c` may come
+match_may_come : (r : ModeRules) → Matched (trees_in r 0) (codes "abc") → ¬ BeginsFault (come r (codes "ab"))
+unfolding chars lib.Utf8.encode
+match_may_come r longer begins =
+    begins.1 (codes "c") (λ over. absurd (cc)) 0 (omega arith) (codes "abc", (([], (refl, (codes "abc", (refl, refl)))), (λ none. cc), longer))
+
+-- once the text has ended it doesn't
+match_never_comes : (r : ModeRules) → ¬ MatchesAt (trees_in r 0) (codes "ab") 0 → BeginsFault (whole r (codes "ab"))
+match_never_comes r none = (
+  (λ empty. cc),
+  (λ more may n below m.
+      let front : n ≡ 0 = omega (arith, below) in
+      let over = subst (λ (t : List ℕ). MatchesAt (trees_in r 0) (codes "ab" ++ t) n) (may refl) m in
+      none (subst (λ (k : ℕ). MatchesAt (trees_in r 0) (codes "ab") k) front over)),
+)
+
+no_fault_of_nothing : (r : ModeRules) → ¬ BeginsFault (nothing_come r)
+no_fault_of_nothing r begins = begins.0 refl
+
+match_has_come : (r : ModeRules) → MatchesAt (trees_in r 0) (codes "ab") 0 → MayMatch (come r (codes "ab"))
+match_has_come r m = inl m
+
+match_is_to_come : (r : ModeRules) → Matched (trees_in r 0) (codes "abc") → MayMatch (come r (codes "ab"))
+unfolding chars
+match_is_to_come r longer = inr (refl, (codes "c", ((λ none. cc), longer)))
+
+no_match_after_the_end : (r : ModeRules) → ¬ MatchesAt (trees_in r 0) (codes "ab") 0 → ¬ MayMatch (whole r (codes "ab"))
+no_match_after_the_end r none (inl m) = none m
+no_match_after_the_end r none (inr (goes, longer)) = absurd (cc)
+
 -- ---- what a call gives
 
 nothing_is_left : (r : ModeRules) → GivesFinal (whole r []) None (whole r [])
@@ -80,6 +128,12 @@ piece_given_again : (c : Chunked) (slice : Bor (List ℕ)) (at : ℕ) → slice.
 piece_given_again c slice at one gives =
     let place : c.at ≡ c.at + length slice.now = ap (λ (d : Chunked). d.at) gives.2 in
     omega (arith, place, ap length one)
+
+-- the slice of the piece is told
+slice_forgotten : (r : ModeRules) (rest : List ℕ) (slice : Bor (List ℕ)) → slice.now ≡ codes "a" → ¬ GivesFinal (come r rest) (Some (Fault 0 slice)) (nothing_come r)
+slice_forgotten r rest slice one gives =
+    let told : [] ≡ slice.now = ap (λ (c : Chunked). c.last) gives.2 in
+    omega (arith, ap length told, ap length one)
 
 -- ---- errors
 

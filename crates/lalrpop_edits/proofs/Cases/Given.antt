@@ -11,5 +11,5 @@ token_of_rule_2 slice = refl
 skipped_by_rule_0 : (slice : Bor (List ℕ)) → item_by (Some 0) true 7 slice ≡ Skipped (record { index = 0; slice = slice; start = 7 })
 skipped_by_rule_0 slice = refl
 
-no_fault_is_skipped : (slice : Bor (List ℕ)) → item_of (record { rule = None; is_skipped = true; start = 7; slice = slice }) ≡ Fault 7 slice
+no_fault_is_skipped : (slice : Bor (List ℕ)) → item_of (record { rule = None; is_skipped = true; start = 7 }) slice ≡ Fault 7 slice
 no_fault_is_skipped slice = refl

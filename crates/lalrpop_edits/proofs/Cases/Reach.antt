@@ -1,6 +1,8 @@
 -- Cases of specs/Reach.antt: the literals `a`, `ab` and `b`.
 use Rattle.std.proofs.Common.{◌≡◌, ℕ, zero, suc, ◌+◌, ◌-◌, ◌<◌, ◌≤◌, ◌⊎◌, inl, inr, List, [], ◌∷◌, length, get_or, drop, codes, refl, sym, ap, subst, ◌∙◌, arith, length-drop}
+use Rattle.std.specs.List.{All}
 use Rattle.std.specs.Str.{chars}
+use Rattle.std.proofs.lemmas.List.Elements.{All-nil, All-cons}
 use Rattle.std.proofs.lemmas.Str.{chars-nil}
 use Rattle.lalrpop_book.specs.Tree.{Tree, literal}
 use Rattle.lalrpop_book.specs.Language.{Matches}
@@ -42,6 +44,9 @@ end_seen e = let n : 2 ≡ 3 = ap length e in omega (arith, n)
 
 -- ---- words that no tree matches more of
 
+below : (c : ℕ) → c < 1114112 → All (λ n. n < 1114112) (c ∷ [])
+below c l = All-cons (λ n. n < 1114112) c [] l (All-nil (λ n. n < 1114112))
+
 -- a tree of two
 one_of_two : (t u : Tree) (w : List ℕ) → Matched (t ∷ u ∷ []) w → Matches t w ⊎ Matches u w
 one_of_two t u w (zero, m) = inl (let same : m.0 ≡ t = cc (m.1.0) in subst (λ (s : Tree). Matches s w) same m.1.1)
@@ -50,26 +55,26 @@ one_of_two t u w (suc (suc i), m) = absurd (cc (m.1.0))
 
 -- no tree matches a word of two characters or more
 pub a_is_closed : IsClosed (a ∷ b ∷ []) (97 ∷ [])
-a_is_closed [] some m = some refl
-a_is_closed (c ∷ v) some m = by_tree (one_of_two a b (97 ∷ c ∷ v) m)
+a_is_closed [] scalars some m = some refl
+a_is_closed (c ∷ v) scalars some m = by_tree (one_of_two a b (97 ∷ c ∷ v) m)
   where
     by_tree : (97 ∷ c ∷ v ≡ 97 ∷ []) ⊎ (97 ∷ c ∷ v ≡ 98 ∷ []) → ⊥
     by_tree (inl e) = let n : suc (suc (length v)) ≡ 1 = ap length e in omega (arith, n)
     by_tree (inr e) = let n : suc (suc (length v)) ≡ 1 = ap length e in omega (arith, n)
 
 a_is_not_closed : ¬ IsClosed (a ∷ ab ∷ []) (97 ∷ [])
-a_is_not_closed closed = closed (98 ∷ []) (λ e. let n : 1 ≡ 0 = ap length e in omega (arith, n)) (1, (ab, (refl, refl)))
+a_is_not_closed closed = closed (98 ∷ []) (below 98 (omega arith)) (λ e. let n : 1 ≡ 0 = ap length e in omega (arith, n)) (1, (ab, (refl, refl)))
 
 -- what no tree matches is closed too
 pub b_is_closed : IsClosed (a ∷ ab ∷ []) (98 ∷ [])
-b_is_closed v some m = by_tree (one_of_two a ab (98 ∷ v) m)
+b_is_closed v scalars some m = by_tree (one_of_two a ab (98 ∷ v) m)
   where
     by_tree : (98 ∷ v ≡ 97 ∷ []) ⊎ (98 ∷ v ≡ 97 ∷ 98 ∷ []) → ⊥
     by_tree (inl e) = let n : 98 ≡ 97 = ap (λ (w : List ℕ). get_or w 0 0) e in omega (arith, n)
     by_tree (inr e) = let n : 98 ≡ 97 = ap (λ (w : List ℕ). get_or w 0 0) e in omega (arith, n)
 
 empty_word_is_not_closed : ¬ IsClosed (a ∷ ab ∷ []) []
-empty_word_is_not_closed closed = closed (97 ∷ []) (λ e. let n : 1 ≡ 0 = ap length e in omega (arith, n)) (0, (a, (refl, refl)))
+empty_word_is_not_closed closed = closed (97 ∷ []) (below 97 (omega arith)) (λ e. let n : 1 ≡ 0 = ap length e in omega (arith, n)) (0, (a, (refl, refl)))
 
 -- ---- what settles the longest match
 

@@ -1,6 +1,7 @@
 -- cases: proofs/Cases/Reach.antt
 -- How much of a text the longest match at its front, or the fault there, depends on.
 use Rattle.std.specs.Prelude.{◌≡◌, ◌≢◌, ℕ, ◌+◌, ◌<◌, ◌≤◌, ◌⊎◌, List, [], ◌++◌, length, take, drop}
+use Rattle.std.specs.List.{All}
 use Rattle.std.specs.Str.{chars, IsCharBoundary}
 use Rattle.lalrpop_book.specs.Tree.{Tree}
 use Rattle.lalrpop_book.specs.Prefix.{IsPrefix}
@@ -11,9 +12,9 @@ use Rattle.lalrpop_book.specs.Longest.{IsMatch}
 abbrev pub AreAlike : ℕ → List ℕ → List ℕ → Type 0
 AreAlike n text other = take n text ≡ take n other
 
--- no tree matches a longer word that begins with this one
+-- no tree matches a longer word of characters that begins with this one
 abbrev pub IsClosed : List Tree → List ℕ → Type 0
-IsClosed ts w = (v : List ℕ) → v ≢ [] → ¬ Matched ts (w ++ v)
+IsClosed ts w = (v : List ℕ) → All (λ c. c < 1114112) v → v ≢ [] → ¬ Matched ts (w ++ v)
 
 -- the first n bytes settle what matches at the front of a text: its end was seen, or no tree matches more than the characters read
 abbrev pub IsSettledBy : List Tree → List ℕ → ℕ → Type 0

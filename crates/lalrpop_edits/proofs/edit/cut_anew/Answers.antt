@@ -82,6 +82,11 @@ cut_to_meet-requires-clause-there c =
     subst (EachMode (λ m. m < c.args.lexer.now.modes)) (sym (ap (λ (p : Place). p.stack) c.in_ok-clone-2.ensures.cases ∙ s.place_stack))
     (each_there c.args.lexer.now (take n (pieces_in c.args.blocks.now.items)) start c.modes-modes.ensures.within (omega (arith, c.modes-modes.ensures.count, c.modes-modes.ensures.some), tt))
 
+pub cut_to_meet-requires-clause-cutter : goal.cut_to_meet-requires-clause-cutter
+cut_to_meet-requires-clause-cutter c =
+    let at = c.in_ok-clone-2.field-0.at in
+    c.in_ok-cutter.ensures.ready at (drop at c.args.text.now)
+
 pub put_pieces-requires-clause-marked : goal.put_pieces-requires-clause-marked
 put_pieces-requires-clause-marked c =
     let o = c.requires.old in old_marked c.args.lexer.now c.args.blocks.now.items c.args.text.now c.args.from c.args.to c.args.size o.0 o.1.0 o.1.1

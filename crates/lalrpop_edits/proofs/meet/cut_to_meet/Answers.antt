@@ -46,6 +46,7 @@ cut-preserved-in_ok-push-in-CutOn c =
           (omega (arith, turn.1, inv.old.at)) (omega (arith, turn.2, ends.0, ap (new_place c.args.edit.now) inv.old.at)) (λ met. turn.3 (to_met met)));
       boundary = cut.boundary;
       there = cut.there;
+      cutter = cut.cutter;
     }
 
 pub cut-preserved : goal.cut-preserved
@@ -80,6 +81,7 @@ cut-preserved c =
       boundary = inv.boundary;
       none = subst (λ (m : ℕ). NoneMet r e ks c.args.old.now.spot.count m start.at start.stack cs) (sym next.0) none;
       there = inv.there;
+      cutter = inv.cutter;
     }
 
 pub returns-then-not-branch-clause-behind : goal.returns-then-not-branch-clause-behind

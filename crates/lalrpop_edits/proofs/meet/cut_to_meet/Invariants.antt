@@ -1,8 +1,9 @@
-use Rattle.std.proofs.Common.{◌≤◌, ◌-◌, ◌+◌, ◌<◌, length}
+use Rattle.std.proofs.Common.{◌≤◌, ◌-◌, ◌+◌, ◌<◌, length, drop}
 use Rattle.std.specs.Str.{IsCharBoundary}
 use Rattle.lalrpop_modes.specs.Modes.{EachMode}
 use Rattle.lalrpop_edits.specs.Internal.Kept.{KeptUpTo}
 use Rattle.lalrpop_edits.specs.Internal.Blocks.{pieces_in}
+use Rattle.lalrpop_edits.specs.Internal.Noted.{IsCutter}
 use Rattle.lalrpop_edits.specs.Internal.Meeting.{IsOldPlace, NoneMet}
 use Rattle.lalrpop_edits.proofs.meet.cut_to_meet.Given as goal
 
@@ -16,6 +17,7 @@ invariant-cut l = record {
   boundary : IsCharBoundary l.text l.cut.place.at;
   none : NoneMet l.lexer l.edit (pieces_in l.blocks) l.fn.old.spot.count l.old.spot.count l.fn.cut.place.at l.fn.cut.place.stack l.cut.pieces.items;
   there : EachMode (λ m. m < l.lexer.modes) l.cut.place.stack;
+  cutter : IsCutter l.lexer l.cutter l.cut.place.at (drop l.cut.place.at l.text);
 }
 
 abbrev pub decreases-cut : goal.decreases-cut

@@ -1,39 +1,58 @@
-use Rattle.std.proofs.Common.{◌≡◌, ◌+◌, ◌-◌, take, drop, string_bytes, arith, refl, sym, ap, subst, ◌∙◌}
+use Rattle.std.proofs.Common.{◌≡◌, ℕ, List, ◌+◌, ◌-◌, take, drop, string_bytes, arith, refl, sym, ap, subst, ◌∙◌}
 use Rattle.std.specs.Prelude.{Some}
+use Rattle.std.specs.Str.{IsCharBoundary}
+use Rattle.std.proofs.lemmas.List.{drop-drop}
+use Rattle.std.proofs.lemmas.Str.{IsCharBoundary-from_rest}
 use Rattle.lalrpop_edits.specs.Chunked.{Chunked, GivesFinal, IsHeldBack}
 use Rattle.lalrpop_edits.specs.Given.{item_by}
-use Rattle.lalrpop_edits.proofs.Chunking.{held_back_here, gives_here}
+use Rattle.lalrpop_edits.specs.Internal.Noted.{IsCutter}
+use Rattle.lalrpop_edits.proofs.Chunking.{cutter_behind, held_back_here, gives_here}
 use Rattle.lalrpop_edits.proofs.chunks.Chunks.next_piece.Goals as goal
 
-pub returns-in-None : goal.returns-in-None
-returns-in-None c =
+pub final_front-found-requires-clause-cutter : goal.final_front-found-requires-clause-cutter
+final_front-found-requires-clause-cutter c =
     let i = c.self.inside in
-    let left : c.range_from.result.now ≡ drop i.given (string_bytes i.text) = c.range_from.ensures.value ∙ ap (drop i.given) c.deref.ensures in
-    let held = held_back_here i.lexer.now (drop i.given (string_bytes i.text)) c.range_from.result.now i.at c.top.result i.stack i.is_ended left c.top.ensures.mode c.in-None.ensures.empty
-    c.in-None.ensures.held in
-    ((refl, (λ _. tt), (c.self.view_is, subst (λ (s : Chunked). IsHeldBack s) c.self.view_is held)), record { gives = tt })
+    let left : c.range_from-rest.result.now ≡ drop i.given (string_bytes i.text) = cc (c.range_from-rest.ensures.value, c.deref.ensures) in
+    subst (IsCutter i.lexer.now c.in_ok-cutter.cutter i.at) (sym left) (c.in_ok-cutter.ensures.ready i.at (drop i.given (string_bytes i.text)) c.self.invariant.4)
 
-pub invariant_of-self-in-Break-1 : goal.invariant_of-self-in-Break-1
-invariant_of-self-in-Break-1 c = (c.self.invariant.0, c.act_by.ensures.there c.self.invariant.1)
+pub returns-in_default : goal.returns-in_default
+returns-in_default c =
+    let i = c.self.inside in
+    let text = string_bytes i.text in
+    let left : c.range_from-rest.result.now ≡ drop i.given text = cc (c.range_from-rest.ensures.value, c.deref.ensures) in
+    let held = held_back_here i.lexer.now (take (i.given - i.last) (drop i.last text)) (drop i.given text) c.range_from-rest.result.now i.at c.top-mode.result i.stack i.is_ended left c.top-mode.ensures.mode
+    c.in_default.ensures.empty c.in_default.ensures.held in
+    record { gives = (c.self.view_is, subst (λ (s : Chunked). IsHeldBack s) c.self.view_is held) }
+
+pub invariant_of-self-2 : goal.invariant_of-self-2
+invariant_of-self-2 c =
+    let i = c.self.inside in
+    let size = c.in-Some.front.size in
+    let text = string_bytes i.text in
+    let left : c.range_from-rest.result.now ≡ drop i.given text = cc (c.range_from-rest.ensures.value, c.deref.ensures) in
+    let behind = cutter_behind i.lexer.now c.final_front-found.new.cutter i.at size c.range_from-rest.result.now c.in-Some.ensures.boundary.0 c.final_front-found.ensures.cutter in
+    let cut : IsCharBoundary (drop i.given text) size = subst (λ (t : List ℕ). IsCharBoundary t size) left c.in-Some.ensures.boundary in (
+      omega arith,
+      c.self.invariant.2,
+      IsCharBoundary-from_rest text i.given size c.self.invariant.2.0 cut,
+      c.in_ok-act_by.ensures.there c.self.invariant.3,
+      subst (IsCutter i.lexer.now c.final_front-found.new.cutter (i.at + size)) (ap (drop size) left ∙ drop-drop size i.given text) behind,
+    )
 
 pub returns : goal.returns
 returns c =
     let i = c.self.inside in
     let f = c.in-Some.front in
-    let left : c.range_from.result.now ≡ drop i.given (string_bytes i.text) = c.range_from.ensures.value ∙ ap (drop i.given) c.deref.ensures in
+    let text = string_bytes i.text in
+    let left : c.range_from-rest.result.now ≡ drop i.given text = cc (c.range_from-rest.ensures.value, c.deref.ensures) in
     let size : (i.given + f.size) - i.given ≡ f.size = omega arith in
-    let cut : c.range.result.now ≡ take f.size c.range_from.result.now =
-    c.range.ensures.value ∙ ap (λ n. take n (drop i.given c.as_str.result.now)) size ∙ ap (λ t. take f.size (drop i.given t)) c.as_str.ensures.value ∙ ap (take f.size) (sym left) in
-    let place : c.in-Some-checked_add.at ≡ i.at + f.size = omega (arith, c.in-Some-checked_add.ensures) in
-    let gives = gives_here i.lexer.now (string_bytes i.text) c.range_from.result.now i.given i.at f.size c.top.result i.stack c.act_by.new.stack i.is_ended f.rule c.number_of.result
-    c.skips.result.now c.is_skipped-skipped.result c.range.result left c.top.ensures.mode c.skips.ensures.skips c.number_of.ensures.same c.in-Some.ensures.boundary.0 cut
-    c.in-Some.ensures.settled c.is_skipped-skipped.ensures.skipped c.in-Some-checked_add.at place c.in_ok-act_by.ensures.acted in
-    let x = item_by c.number_of.result c.is_skipped-skipped.result i.at c.range.result in (
-      (
-        refl,
-        (λ _. tt),
-        subst (λ (s : Chunked). GivesFinal s (Some x)
-            (record { rules = i.lexer.now; rest = drop (i.given + f.size) (string_bytes i.text); at = c.in-Some-checked_add.at; stack = c.act_by.new.stack; is_ended = i.is_ended })) c.self.view_is gives,
-      ),
-      record { gives = tt },
-    )
+    let last = take ((i.given + f.size) - i.given) (drop i.given text) in
+    record {
+      gives = λ slice same.
+          let cut : slice.now ≡ take f.size c.range_from-rest.result.now = same ∙ ap (λ n. take n (drop i.given text)) size ∙ ap (take f.size) (sym left) in
+          let gives = gives_here i.lexer.now (take (i.given - i.last) (drop i.last text)) text c.range_from-rest.result.now i.given i.at f.size c.top-mode.result i.stack c.act_by.new.stack i.is_ended f.rule
+          c.number_of.result c.skips.result.now c.is_skipped.result slice left c.top-mode.ensures.mode c.skips.ensures.skips c.number_of.ensures.same c.in-Some.ensures.boundary.0 cut c.in-Some.ensures.settled
+          c.is_skipped.ensures.skipped (i.at + f.size) last refl same c.in_ok-act_by.ensures.acted in
+          subst (λ (s : Chunked). GivesFinal s (Some (item_by c.number_of.result c.is_skipped.result i.at slice))
+          (record { rules = i.lexer.now; last = last; rest = drop (i.given + f.size) text; at = i.at + f.size; stack = c.act_by.new.stack; is_ended = i.is_ended })) c.self.view_is gives;
+    }

@@ -1,0 +1,17 @@
+use Rattle.std.proofs.Common.{◌≡◌, ◌≢◌, ℕ, ◌+◌, ◌≤◌, List, length, drop}
+use Rattle.std.specs.Str.{chars}
+use Rattle.std.specs.Str.Iter.{char_indices_rest, char_indices_offset}
+use Rattle.lalrpop_nfa.proofs.Cuts.{IsCut}
+use Rattle.lalrpop_edits.specs.Internal.Walking.{IsMet}
+use Rattle.lalrpop_edits.specs.Internal.Noted.{IsNoted, IsOver, IsSound}
+use Rattle.lalrpop_edits.proofs.run.note_all.Given as goal
+
+abbrev pub invariant-loop-offset : goal.invariant-loop-offset
+invariant-loop-offset l = record {
+  cut : IsCut l.text (char_indices_offset l.offset-iterator) (char_indices_rest l.offset-iterator);
+  met : IsMet l.walker l.place;
+  over : (n : ℕ) × ((l.size ≡ char_indices_offset l.offset-iterator + n) × IsOver l.walker l.place (chars (char_indices_rest l.offset-iterator)) n);
+  sound : (begin i : ℕ) (all : List ℕ) → begin + i ≡ l.at → i ≤ length all → drop i all ≡ l.text → IsSound l.walker l.initial.memo l.mode begin all
+      → IsSound l.walker l.memo l.mode begin all;
+  others : (m p e n : ℕ) → m ≢ l.mode → IsNoted l.memo m p e n → IsNoted l.initial.memo m p e n;
+}

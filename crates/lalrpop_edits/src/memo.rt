@@ -1,0 +1,55 @@
+//! What runs read in vain.
+
+ghost use Rattle.std.specs.Prelude.{◌≡◌, ℕ, ◌⊎◌, IfSome};
+ghost use Rattle.lalrpop_edits.specs.Internal.Noted.{IsNoted};
+
+use std::alloc::Global;
+use std::collections::BTreeMap;
+
+/// What is noted lies so many bytes apart.
+pub(crate) const STRIDE: usize = 64;
+
+/// From which places of a walk no match comes. Runs that read on behind their last match note it wherever a character ends that goes
+/// on past a multiple of 64 bytes, so that a later run which comes there stops.
+#[derive(Drop)]
+pub(crate) struct Memo {
+    // For a mode, a place of its walk, and where the next character of the text begins: how many bytes from there on settle it.
+    pub(crate) noted: BTreeMap<(usize, (usize, usize)), usize>,
+}
+
+impl Memo {
+    /// Nothing is noted.
+    pub(crate) fn new(alloc: Global) -> Memo
+        ensures nothing { (mode place at n : ℕ) → ¬ IsNoted result mode place at n }
+    {
+        Memo {
+            noted: BTreeMap::new(alloc),
+        }
+    }
+
+    /// How many bytes behind the character from `from` to `to` settle that no match comes from the place, if that was noted.
+    #[inline(always)]
+    pub(crate) fn known(&self, mode: usize, place: usize, from: usize, to: usize) -> Option<usize>
+        ensures known { IfSome result (λ n. IsNoted self.now mode place to n) }
+    {
+        if from / STRIDE == to / STRIDE {
+            return None;
+        }
+        self.noted.get(&(mode, (place, to))).copied()
+    }
+
+    /// Notes it, if the character is one where it is noted, and there is memory.
+    pub(crate) fn note(&mut self, mode: usize, place: usize, from: usize, to: usize, size: usize)
+        ensures only { (m p at n : ℕ) → IsNoted self.new m p at n → IsNoted self.old m p at n
+            ⊎ ((m ≡ mode) × (p ≡ place) × (at ≡ to) × (n ≡ size)) }
+    {
+        if from / STRIDE == to / STRIDE {
+            return;
+        }
+        match self.noted.insert((mode, (place, to)), size) {
+            Ok(_) => {}
+            // Then it isn't noted.
+            Err(_) => {}
+        }
+    }
+}
