@@ -54,6 +54,7 @@ table_runs t cells d h wf = record {
   classes = record { some_page = h.classes.pages; ascii = h.classes.ascii; whole_blocks = h.classes.blocks; below = h.classes.below };
   within = λ w all. omega (arith, rows_follow t cells d 0 w h wf wf.some all, run_within d 0 w wf wf.some, h.rows, h.within (after d w));
   alike = λ w all. state_like t cells d (after d w) (row_after (numbers_of_layout t cells) (row_of t 0) w) h (run_within d 0 w wf wf.some) (rows_follow t cells d 0 w h wf wf.some all);
+  one_row = λ u w us ws same. rows_follow t cells d 0 u h wf wf.some us ∙ ap (row_of t) same ∙ sym (rows_follow t cells d 0 w h wf wf.some ws);
 }
 
 -- the same where each part is known by an equation

@@ -68,8 +68,9 @@ pub record AreClasses (t : TableNumbers) : Type 0 where
   pub whole_blocks : (k : ℕ) → k < length t.pages → slice_index t.pages k * 128 + 128 ≤ length t.blocks
   pub below : (k : ℕ) → k < length t.blocks → slice_index t.blocks k < t.width
 
--- after each word of characters, the row is in the table, and is like the state of the automaton
+-- after each word of characters, the row is in the table, and is like the state of the automaton; and one state has one row
 pub record IsTableFor (t : TableNumbers) (d : List Row) : Type 0 where
   pub classes : AreClasses t
   pub within : (w : List ℕ) → All (λ c. c < 1114112) w → row_after t t.start w + t.width < length t.cells
   pub alike : (w : List ℕ) → All (λ c. c < 1114112) w → IsSomeAnd (slice_get d (after d w)) (λ r. IsRowLike t (row_after t t.start w) r.kind)
+  pub one_row : (u w : List ℕ) → All (λ c. c < 1114112) u → All (λ c. c < 1114112) w → after d u ≡ after d w → row_after t t.start u ≡ row_after t t.start w

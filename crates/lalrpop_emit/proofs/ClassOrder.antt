@@ -120,6 +120,9 @@ table_moved t blocks cells numbers h d table = record {
       (λ r. IsRowLike (renumbered t blocks cells) (row_after (renumbered t blocks cells) t.start w) r.kind)
       (λ r like. subst (λ (row : ℕ). IsRowLike (renumbered t blocks cells) row r.kind) (sym same.row) (like_moved t blocks cells (row_after t t.start w) r.kind same.rule like))
       (table.alike w word);
+  one_row = λ u w us ws one.
+      (same_row t blocks cells numbers h table.classes table.within u us).row ∙ table.one_row u w us ws one
+      ∙ sym (same_row t blocks cells numbers h table.classes table.within w ws).row;
 }
 
 -- ---- rules and numbers

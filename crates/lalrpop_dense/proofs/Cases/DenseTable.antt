@@ -1,8 +1,8 @@
 -- Cases of specs/DenseTable.antt.
 use Rattle.std.proofs.Common.{◌≡◌, ◌<◌, List, [], ◌∷◌, ◌++◌, replicate, refl, subst, arith, lit<, lit≤}
 use Rattle.std.specs.Prelude.{slice_get, Some, IsSomeAnd}
-use Rattle.std.proofs.lemmas.List.Elements.{All-nil}
-use Rattle.lalrpop_dfa.specs.Dfa.{Row}
+use Rattle.std.proofs.lemmas.List.Elements.{All-nil, All-cons}
+use Rattle.lalrpop_dfa.specs.Dfa.{Row, after}
 use Rattle.lalrpop_dfa.specs.declared.Kind.TheVariants.{Accepts, Reject, Neither}
 use Rattle.lalrpop_dense.specs.DenseTable.{TableNumbers, block_of_page, character_class, row_after, IsRowLike, AreClasses, IsTableFor}
 
@@ -75,3 +75,9 @@ no_table_for_another d r at kind h =
     let there : IsSomeAnd (Some r) (λ x. IsRowLike small 3 x.kind) = subst (λ o. IsSomeAnd o (λ (x : Row). IsRowLike small 3 x.kind)) at (h.alike [] (All-nil (λ n. n < 1114112))) in
     let accepts : IsRowLike small 3 (Accepts 7) = subst (λ k. IsRowLike small 3 k) kind there in
     omega (arith, accepts.1)
+
+-- nor for one in which `a` leads back to the start
+no_two_rows_of_one_state : (d : List Row) → after d (97 ∷ []) ≡ after d [] → ¬ IsTableFor small d
+unfolding small
+no_two_rows_of_one_state d one h =
+    omega (arith, h.one_row (97 ∷ []) [] (All-cons (λ c. c < 1114112) 97 [] (lit< tt) (All-nil (λ c. c < 1114112))) (All-nil (λ c. c < 1114112)) one)
