@@ -7,3 +7,4 @@ mod Chunked
 mod Decoded
 mod Walking
 mod Noted
+mod Costs

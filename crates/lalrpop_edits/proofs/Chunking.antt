@@ -191,6 +191,7 @@ cutter_more r c memo mode at w text is here sound others = record {
   count = is.count;
   right = is.right;
   same = is.same;
+  one = is.one;
   sound = λ m v there. by_mode m v there (cases_eq m mode);
 }
   where
@@ -207,6 +208,7 @@ cutter_behind r c at k text within is = record {
   count = is.count;
   right = is.right;
   same = is.same;
+  one = is.one;
   sound = λ m w there. left_sound w c.memo m at k text within (is.sound m w there);
 }
 

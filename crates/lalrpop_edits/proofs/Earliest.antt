@@ -47,7 +47,7 @@ items_after r text at (k ∷ ks) s =
     ∙ items_after r text (at + k.size) ks (after_kept r k s)
 
 -- so the first n pieces leave the stack that the first n that are kept do
-front_stack : (r : ModeRules) (text : List ℕ) (ks : List Kept) (xs : List Item) (n : ℕ) → AreSame xs (items_from r.skips text 0 ks)
+pub front_stack : (r : ModeRules) (text : List ℕ) (ks : List Kept) (xs : List Item) (n : ℕ) → AreSame xs (items_from r.skips text 0 ks)
     → after_all r.actions (take n xs) start ≡ after_pieces r (take n ks) start
 front_stack r text ks xs n same =
     all_after_same r.actions (take n xs) (take n (items_from r.skips text 0 ks)) start (same_front n xs (items_from r.skips text 0 ks) same)

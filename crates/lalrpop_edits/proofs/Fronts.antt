@@ -32,7 +32,7 @@ pub read_start : (ts : List Tree) (text : List ℕ) → AreRead ts text 0 0
 read_start ts text k less here = absurd (omega (arith, less))
 
 -- within a character no character begins
-no_boundary : (text rest rest2 : List ℕ) (at at2 c n : ℕ) → IsUtf8 text → IsCut text at rest → rest ≡ encode_utf8 c ++ rest2
+pub no_boundary : (text rest rest2 : List ℕ) (at at2 c n : ℕ) → IsUtf8 text → IsCut text at rest → rest ≡ encode_utf8 c ++ rest2
     → at2 ≡ at + length (encode_utf8 c) → at < n → n < at2 → ¬ IsCharBoundary text n
 no_boundary text rest rest2 at at2 c n u h e l above below here =
     let later = cut_more text rest rest2 at at2 c u h e l in

@@ -29,7 +29,7 @@ prefix_of ts ps text (Some i) slice is = is.0.0.0
 pub front_kept : (r : ModeRules) (mode : ℕ) (text : List ℕ) (k : Kept) → IsKept r mode text k
     → (k.size ≤ length text) × IsFront (trees_in r mode) r.precedences text (rule_of k) (take k.size text)
 front_kept r mode text k kept =
-    let here = kept text refl in
+    let here = kept.front text refl in
     let front = prefix_of (trees_in r mode) r.precedences text (rule_of k) here.0 here.1.1 in
     let same : here.0 ≡ take k.size text = sym (take_at here.0 front.0 k.size here.1.0) ∙ ap (take k.size) (sym front.1.0) in
     let fits : k.size ≤ length text = omega (arith, here.1.0, ap length front.1.0, length-append here.0 front.0) in

@@ -1,5 +1,5 @@
 -- What is kept of pieces, one after another: it joins and splits, it stays where the text stays, and it moves with its text.
-use Rattle.std.proofs.Common.{◌≡◌, ◌≢◌, ℕ, ◌+◌, ◌-◌, ◌<◌, ◌≤◌, List, [], ◌∷◌, ◌++◌, length, drop, arith, refl, sym, ap, subst, ◌∙◌, length-append, length-drop}
+use Rattle.std.proofs.Common.{◌≡◌, ◌≢◌, ℕ, ◌+◌, ◌-◌, ◌<◌, ◌≤◌, List, [], ◌∷◌, ◌++◌, length, take, drop, arith, refl, sym, ap, subst, ◌∙◌, length-append, length-drop}
 use Rattle.std.specs.Prelude.{Option, Some, None}
 use Rattle.std.specs.Str.{IsUtf8, IsCharBoundary}
 use Rattle.std.proofs.lemmas.List.{drop-drop}
@@ -9,11 +9,11 @@ use Rattle.lalrpop_book.specs.Prefix.{IsPrefix}
 use Rattle.lalrpop_lexer.proofs.Cuttings.{cut_behind}
 use Rattle.lalrpop_rules.proofs.FirstMatches.{some_length}
 use Rattle.lalrpop_modes.specs.Stack.{Stack}
-use Rattle.lalrpop_modes.specs.Modes.{ModeRules}
+use Rattle.lalrpop_modes.specs.Modes.{ModeRules, trees_in}
 use Rattle.lalrpop_edits.specs.Internal.Reach.{AreAlike}
-use Rattle.lalrpop_edits.specs.Internal.Kept.{rule_of, reach_of, after_kept, IsFront, IsKept, KeptUpTo, AreWithin}
+use Rattle.lalrpop_edits.specs.Internal.Kept.{rule_of, reach_of, after_kept, IsFront, IsKept, KeptUpTo, AreWithin, ReadsOn}
 use Rattle.lalrpop_edits.specs.declared.kept.Kept.{Kept}
-use Rattle.lalrpop_edits.proofs.Alike.{alike_less, alike_behind}
+use Rattle.lalrpop_edits.proofs.Alike.{alike_less, alike_behind, alike_length}
 
 -- ---- one piece
 
@@ -31,7 +31,7 @@ front_some ts ps text (Some i) slice is = is.0.0.1
 pub kept_prefix : (r : ModeRules) (mode : ℕ) (text : List ℕ) (k : Kept) → IsKept r mode text k
     → (slice : List ℕ) × ((length slice ≡ k.size) × IsPrefix slice text × (slice ≢ []))
 kept_prefix r mode text k kept =
-    let is = kept text refl in (is.0, (is.1.0, front_prefix _ r.precedences text (rule_of k) is.0 is.1.1, front_some _ r.precedences text (rule_of k) is.0 is.1.1))
+    let is = kept.front text refl in (is.0, (is.1.0, front_prefix _ r.precedences text (rule_of k) is.0 is.1.1, front_some _ r.precedences text (rule_of k) is.0 is.1.1))
 
 pub kept_some : (r : ModeRules) (mode : ℕ) (text : List ℕ) (k : Kept) → IsKept r mode text k → 0 < k.size
 kept_some r mode text k kept = let p = kept_prefix r mode text k kept in omega (arith, p.1.0, some_length p.0 p.1.2)
@@ -41,7 +41,14 @@ kept_fits r mode text k kept = let p = kept_prefix r mode text k kept in omega (
 
 -- it is kept of each text that is alike as far as it depends on it
 pub kept_alike : (r : ModeRules) (mode : ℕ) (text text2 : List ℕ) (k : Kept) → AreAlike (reach_of k) text text2 → IsKept r mode text k → IsKept r mode text2 k
-kept_alike r mode text text2 k alike kept = λ third near. kept third (alike ∙ near)
+kept_alike r mode text text2 k alike kept = record {
+  front = λ third near. kept.front third (alike ∙ near);
+  reads = λ n behind before fits whole.
+      let same : take n text ≡ take n text2 = alike_less n (reach_of k) text text2 (omega (arith, before)) alike in
+      let there : n ≤ length text = alike_length n text2 text fits (sym same) in
+      subst (λ (seen : List ℕ). ReadsOn (trees_in r mode) seen (rule_of k) k.size) same
+      (kept.reads n behind before there (subst IsUtf8 (sym same) whole));
+}
 
 -- ---- pieces one after another
 

@@ -7,6 +7,12 @@ pub mod Runs
 pub mod Walking
 pub mod Noting
 pub mod Fronts
+-- what is noted along what a run read in vain
+pub mod NewNotes
+-- what is read begins words that match, and what the piece at the front costs
+pub mod Reading
+pub mod FrontCosts
+pub mod Vain
 -- what is kept of pieces, one after another
 pub mod KeptLaws
 pub mod Places
@@ -18,10 +24,15 @@ pub mod Starting
 pub mod FirstMeeting
 pub mod Relexing
 pub mod LeastChanges
+-- what an edit costs
+pub mod Distinct
+pub mod NoteCounts
+pub mod Paying
 -- from what is kept to the pieces of the text
 pub mod Items
 pub mod Changes
 pub mod Earliest
+pub mod Reaching
 -- pieces that are handed out, block by block
 pub mod Handing
 -- a stretch of a text is replaced, and put back

@@ -32,7 +32,7 @@ use Rattle.lalrpop_edits.specs.declared.memo.Memo.{Memo}
 use Rattle.lalrpop_edits.specs.declared.walker.Walker.{Walker}
 use Rattle.lalrpop_edits.specs.Internal.Reach.{IsClosed, IsSettledBy}
 use Rattle.lalrpop_edits.specs.Internal.Walking.{IsWalkerOf, behind, behind_from, next_of, says}
-use Rattle.lalrpop_edits.specs.Internal.Noted.{IsNoted, order_of, IsLast, GoesOn, IsOver, IsSound, MatchedLast, IsStand, IsCutter}
+use Rattle.lalrpop_edits.specs.Internal.Noted.{IsNoted, IsKnown, order_of, IsLast, GoesOn, IsOver, IsSound, MatchedLast, IsStand, IsCutter}
 use Rattle.lalrpop_edits.proofs.Runs.{none_behind, goes_on_to_match}
 use Rattle.lalrpop_edits.proofs.Walking.{text_scalars, behind_append, behind_push}
 
@@ -53,6 +53,14 @@ noted_more m n mode place at size u a p e k noted = by_test (is_at (order_of (mo
         let both : Some size ≡ Some k = is in let value : size ≡ k = cc (both) in
         inr (sym (ap (λ (x : ℕ × (ℕ × ℕ)). x.0) key), sym (ap (λ (x : ℕ × (ℕ × ℕ)). x.1.0) key), sym (ap (λ (x : ℕ × (ℕ × ℕ)). x.1.1) key), sym value)
     by_test false same is = inl is
+
+-- what was known stays known
+pub known_more : (m n : Memo) (mode place at size : ℕ) → Updates order_of m.noted n.noted (mode, (place, at)) (Some size) → (a p e : ℕ) → IsKnown m a p e → IsKnown n a p e
+known_more m n mode place at size u a p e known = by_test (is_at (order_of (mode, (place, at))) (a, (p, e))) (u.0 (a, (p, e)))
+  where
+    by_test : (b : Bool) → tree.get order_of n.noted (a, (p, e)) ≡ cond b (Some size) (tree.get order_of m.noted (a, (p, e))) → IsKnown n a p e
+    by_test true is = (size, is)
+    by_test false is = (known.0, is ∙ known.1)
 
 -- ---- the first character of a text
 
@@ -317,6 +325,7 @@ cutter_next r c memo mode at size w text is here sound others within = record {
   count = is.count;
   right = is.right;
   same = is.same;
+  one = is.one;
   sound = λ m v there. subst (λ (t : List ℕ). IsSound v memo m (at + size) t) (drop-drop size at text) (left_sound v memo m at size (drop at text) within (by_mode m v there (cases_eq m mode)));
 }
   where
@@ -327,9 +336,9 @@ cutter_next r c memo mode at size w text is here sound others within = record {
         rw (one, same) sound
     by_mode m v there (inr other) = λ p i n noted. is.sound m v there p i n (others m p (at + i) n other noted)
 
--- one more walk
-pub new_walk : (ds : List (List Row)) (w : Walker) (d e f : List Row) (m k : ℕ) → IsWalkerOf w e → e ≡ f → slice_get ds k ≡ Some f → m ≡ k → slice_get ds m ≡ Some d → IsWalkerOf w d
-new_walk ds w d e f m k walks same at here there =
+-- one more walk is that of the automaton there
+pub new_walk : (P : List Row → Type 0) (ds : List (List Row)) (d e f : List Row) (m k : ℕ) → P e → e ≡ f → slice_get ds k ≡ Some f → m ≡ k → slice_get ds m ≡ Some d → P d
+new_walk P ds d e f m k walks same at here there =
     let both : Some d ≡ Some f = sym there ∙ ap (slice_get ds) here ∙ at in
     let one : d ≡ f = cc (both) in
-    subst (IsWalkerOf w) (same ∙ sym one) walks
+    subst P (same ∙ sym one) walks

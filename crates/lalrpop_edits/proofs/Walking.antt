@@ -22,7 +22,7 @@ use Rattle.lalrpop_dfa.proofs.LongestLemmas.{unmatched}
 use Rattle.lalrpop_dfa.proofs.Recognized.{recognized_by}
 use Rattle.lalrpop_dense.specs.DenseTable.{TableNumbers, AreClasses, IsRowLike, IsTableFor, block_of_page, character_class, next_row, row_after}
 use Rattle.lalrpop_edits.specs.declared.walker.Walker.{Walker}
-use Rattle.lalrpop_edits.specs.Internal.Walking.{IsMet, IsWalkerOf, behind, behind_from, cell_of_block, first_of, next_of, row_says, says, state_says}
+use Rattle.lalrpop_edits.specs.Internal.Walking.{HasOnePlace, IsMet, IsWalkerOf, behind, behind_from, cell_of_block, first_of, next_of, row_says, says, state_says}
 
 -- ---- words
 
@@ -100,6 +100,13 @@ table_walks w t d first same said right = λ word scalars.
     some_more (slice_get d (after d word)) (λ r. IsRowLike t (row_after t t.start word) r.kind) (λ r. r.kind ≡ says w (behind w word))
     (λ r like. like_says t (row_after t t.start word) r.kind like ∙ ap (row_says t) (sym there) ∙ sym (said (behind w word))) (right.alike word scalars)
 
+-- one state has one row
+pub table_one : (w : Walker) (t : TableNumbers) (d : List Row) → first_of w ≡ t.start → ((place c : ℕ) → next_of w place c ≡ next_row t place c) → IsTableFor t d → HasOnePlace w d
+table_one w t d first same right = λ u v us vs e. there u ∙ right.one_row u v us vs e ∙ sym (there v)
+  where
+    there : (word : List ℕ) → behind w word ≡ row_after t t.start word
+    there word = behind_rows w t same (first_of w) word ∙ ap (λ (p : ℕ). row_after t p word) first
+
 -- ---- by the states
 
 behind_states : (w : Walker) (d : List Row) → ((place c : ℕ) → next_of w place c ≡ step d place c) → (place : ℕ) (word : List ℕ) → behind_from w place word ≡ run d place word
@@ -123,6 +130,13 @@ states_walk w d first same said well = λ word scalars.
     let there : behind w word ≡ after d word = behind_states w d same (first_of w) word ∙ ap (λ (p : ℕ). run d p word) first in
     some_more (slice_get d (after d word)) (λ r. r.kind ≡ state_says (slice_get d (after d word))) (λ r. r.kind ≡ says w (behind w word))
     (λ r kind. kind ∙ ap (λ (p : ℕ). state_says (slice_get d p)) (sym there) ∙ sym (said (behind w word))) (said_there d (after d word) (run_within d 0 word well well.some))
+
+-- the place is the state
+pub states_one : (w : Walker) (d : List Row) → first_of w ≡ 0 → ((place c : ℕ) → next_of w place c ≡ step d place c) → HasOnePlace w d
+states_one w d first same = λ u v us vs e. there u ∙ e ∙ sym (there v)
+  where
+    there : (word : List ℕ) → behind w word ≡ after d word
+    there word = behind_states w d same (first_of w) word ∙ ap (λ (p : ℕ). run d p word) first
 
 pub state_rejects : (d : List Row) (p : ℕ) → p < length d → state_says (slice_get d p) ≡ Reject → IsReject d p
 state_rejects d p l reject =

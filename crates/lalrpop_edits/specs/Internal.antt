@@ -12,3 +12,4 @@ pub mod Least
 pub mod ChunkCode
 pub mod Walking
 pub mod Noted
+pub mod Paying

@@ -1,10 +1,12 @@
 -- cases: proofs/Cases/Lexed.antt
 -- A text with its pieces, and what an edit changes of it.
 use Rattle.std.specs.Prelude.{◌≡◌, ℕ, ◌+◌, ◌-◌, ◌≤◌, ◌⊎◌, List, [], ◌∷◌, ◌++◌, length, take, drop, Option, Some, None, slice_get, IsSomeAnd}
-use Rattle.std.specs.Str.{IsCharBoundary}
+use Rattle.std.specs.Str.{chars, IsCharBoundary}
+use Rattle.lalrpop_book.specs.Tree.{Tree}
+use Rattle.lalrpop_book.specs.Winners.{Matched}
 use Rattle.lalrpop_modes.specs.declared.action.Action.{Action}
 use Rattle.lalrpop_modes.specs.Stack.{Stack, start}
-use Rattle.lalrpop_modes.specs.Modes.{ModeRules, ArePiecesFrom, after_all}
+use Rattle.lalrpop_modes.specs.Modes.{ModeRules, ArePiecesFrom, after_all, trees_in}
 use Rattle.lalrpop_rules.specs.Pieces.{AreSame, IsSame, joined, slice_of}
 use Rattle.lalrpop_rules.specs.declared.item.Item.{Item}
 use Rattle.lalrpop_rules.specs.declared.item.Item.TheVariants.{Token, Skipped, Fault}
@@ -64,11 +66,11 @@ pub record IsChangeOf (xs ys : List Item) (c : Change) : Type 0 where
 abbrev pub IsChange : Lexed → Lexed → Change → Type 0
 IsChange old new c = (xs ys : List Item) → ArePiecesOf old xs → ArePiecesOf new ys → IsChangeOf xs ys c
 
--- where so many of the pieces end
+-- where the first n pieces end
 abbrev pub end_of : ℕ → List Item → ℕ
 end_of n xs = length (joined (take n xs))
 
--- so many old pieces and so many new ones end at one place behind what was replaced, in the same modes
+-- the first i old pieces and the first j new ones end at one place behind what was replaced, in the same modes
 pub record MeetAt (actions : List (List Action)) (from to size : ℕ) (xs ys : List Item) (i j : ℕ) : Type 0 where
   pub behind : to ≤ end_of i xs
   pub same : from + size + (end_of i xs - to) ≡ end_of j ys
@@ -78,6 +80,23 @@ pub record MeetAt (actions : List (List Action)) (from to size : ℕ) (xs ys : L
 abbrev pub IsEarliest : Lexed → Lexed → ℕ → ℕ → ℕ → Change → Type 0
 IsEarliest old new from to size c = (xs ys : List Item) → ArePiecesOf old xs → ArePiecesOf new ys → (i j : ℕ) → c.first ≤ i → i ≤ c.first + c.removed
     → c.first ≤ j → j ≤ c.first + c.inserted → MeetAt old.rules.actions from to size xs ys i j → (i ≡ c.first + c.removed) × (j ≡ c.first + c.inserted)
+
+-- from the one place of the text on, all up to the other begins a word that some tree matches
+abbrev pub ReadsTo : List Tree → List ℕ → ℕ → ℕ → Type 0
+ReadsTo ts text at to = (at ≤ to) × ((v : List ℕ) × Matched ts (chars (take (to - at) (drop at text)) ++ v))
+
+-- what is at the place may change the piece: it ends there or behind; or all up to there begins a word that some tree matches, from where a token begins on,
+-- or from a place in a fault or right behind it
+abbrev pub Reaches : List Tree → List ℕ → ℕ → Item → Type 0
+Reaches ts text place (Token token) = (place ≤ token.start + length token.slice.now) ⊎ ReadsTo ts text token.start place
+Reaches ts text place (Skipped token) = (place ≤ token.start + length token.slice.now) ⊎ ReadsTo ts text token.start place
+Reaches ts text place (Fault at slice) =
+    (place ≤ at + length slice.now) ⊎ ((k : ℕ) × ((at ≤ k) × (k ≤ at + length slice.now) × IsCharBoundary text k × ReadsTo ts text k place))
+
+-- the first piece behind those that stay reaches what was replaced: in front of it no piece is cut anew that needn't be
+abbrev pub FirstReaches : Lexed → ℕ → Change → Type 0
+FirstReaches old from c = (xs : List Item) → ArePiecesOf old xs → (x : Item) → slice_get xs c.first ≡ Some x
+    → Reaches (trees_in old.rules (after_all old.rules.actions (take c.first xs) start).mode) old.text from x
 
 -- the piece with this number, the first being 0
 abbrev pub IsPieceNumber : Lexed → ℕ → Item → Type 0

@@ -1,4 +1,5 @@
 pub mod Lexed
+pub mod Costs
 pub mod Given
 pub mod Chunked
 pub mod Decoded

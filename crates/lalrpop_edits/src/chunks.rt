@@ -24,6 +24,7 @@ use crate::walker::Walker;
 use lalrpop_lexer::Lexer;
 use lalrpop_lexer::lexer::dfa::NfaIndex;
 use lalrpop_modes::{ModeLexer, ModeStack};
+use lalrpop_nfa::Steps;
 use std::alloc::{AllocError, Global};
 use std::fmt;
 use std::marker::Model;
@@ -130,7 +131,15 @@ fn final_front(
         return None;
     }
     let walker = &cutter.walkers[mode];
-    let front = front_piece(lexer.lexer(mode), walker, &mut cutter.memo, mode, at, rest);
+    let front = front_piece(
+        lexer.lexer(mode),
+        walker,
+        &mut cutter.memo,
+        mode,
+        at,
+        rest,
+        &mut Steps::new(),
+    );
     if is_ended || front.reach <= rest.len() {
         return Some(front);
     }
@@ -146,7 +155,14 @@ fn nothing_matches(alloc: Global, lexer: &Lexer, rest: &str, is_ended: bool) -> 
         × Matched lexer.now.trees (chars rest.now ++ v)))) }
 {
     let walker = Walker::of(lexer.dense());
-    let found = longest_settled(&walker, &mut Memo::new(alloc), 0, 0, rest);
+    let found = longest_settled(
+        &walker,
+        &mut Memo::new(alloc),
+        0,
+        0,
+        rest,
+        &mut Steps::new(),
+    );
     if found.longest.is_some() {
         return false;
     }

@@ -1,6 +1,7 @@
 //! What a text is cut with, beside the rules.
 
-ghost use Rattle.std.specs.Prelude.{ℕ, List, IfOk};
+ghost use Rattle.std.specs.Prelude.{◌≡◌, ℕ, ◌<◌, List, slice_get, Some, IfOk, OnOk};
+ghost use Rattle.lalrpop_dfa.specs.Dfa.{Row};
 ghost use Rattle.lalrpop_edits.specs.Internal.Noted.{IsCutter};
 
 use crate::memo::Memo;
@@ -23,6 +24,8 @@ impl<'a> Cutter<'a> {
     /// `AllocError` if a request for memory was refused.
     pub(crate) fn new(alloc: Global, lexer: &'a ModeLexer) -> Result<Cutter<'a>, AllocError>
         ensures ready { IfOk result (λ c. (at : ℕ) (text : List ℕ) → IsCutter lexer.now c at text) }
+        ensures automata { OnOk result ((m : ℕ) → m < lexer.now.modes
+            → (d : List Row) × (slice_get lexer.now.automata m ≡ Some d)) }
     {
         let mut walkers = Vec::new(alloc);
         for mode in 0..lexer.modes() {

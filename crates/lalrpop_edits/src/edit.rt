@@ -11,6 +11,7 @@ ghost use Rattle.lalrpop_edits.specs.Internal.Blocks.{pieces_in, pieces_at, size
 ghost use Rattle.lalrpop_edits.specs.Internal.Starting.{IsFirst, IsStart};
 ghost use Rattle.lalrpop_edits.specs.Internal.Changing.{IsOld, IsKeptChange};
 ghost use Rattle.lalrpop_edits.specs.Internal.Least.{IsLeastChange};
+ghost use Rattle.lalrpop_edits.specs.Costs.{IsPaidFor};
 
 use crate::block::{Block, blocks_of};
 use crate::change::Change;
@@ -20,6 +21,7 @@ use crate::kept::Kept;
 use crate::meet::{Cut, Edit, Old, Spot, cut_to_meet};
 use crate::place::{Place, pass};
 use lalrpop_modes::{ModeLexer, ModeStack};
+use lalrpop_nfa::Steps;
 use std::alloc::{AllocError, Global};
 
 // Where the pieces are cut anew from.
@@ -228,6 +230,7 @@ pub(crate) fn cut_anew(
     from: usize,
     to: usize,
     size: usize,
+    steps: &mut Steps,
 ) -> Result<Change, EditError>
     requires old { (before : List ℕ) × ((t : Stack)
         × IsOld lexer.now blocks.old.items text.now from to size before t) }
@@ -240,6 +243,9 @@ pub(crate) fn cut_anew(
     ensures least { IfOk result (λ c.
         IsLeastChange lexer.now (record { from = from; to = to; size = size })
         (pieces_in blocks.old.items) (pieces_in blocks.new.items) c) }
+    ensures cost { IfOk result (λ c. IsPaidFor (record { rules = lexer.now; text = text.now }) c
+        steps.old steps.new) }
+    ensures never_falls { steps.old ≤ steps.new }
     ensures refused { OnErr result (blocks.new.items ≡ blocks.old.items) }
     ensures error { IfErr result (λ e. IsCutError lexer.now text.now e) }
 {
@@ -256,7 +262,20 @@ pub(crate) fn cut_anew(
         place: first.place.clone()?,
     };
     let mut cutter = Cutter::new(alloc, lexer)?;
-    cut_to_meet(lexer, &mut cutter, text, blocks, &edit, &mut old, &mut cut)?;
+    cut_to_meet(
+        lexer,
+        &mut cutter,
+        text,
+        blocks,
+        &edit,
+        &mut old,
+        &mut cut,
+        steps,
+    )?;
+    // What isn't noted may be read again and again.
+    if !cutter.memo.is_whole {
+        return Err(EditError::OutOfMemory);
+    }
     let spot = first.spot;
     put_pieces(
         alloc,

@@ -1,14 +1,15 @@
 //! The piece at the front of a text, and what it depends on.
 
-ghost use Rattle.std.specs.Prelude.{◌≡◌, ◌≢◌, ◌+◌, ◌^◌, ◌<◌, ◌≤◌, ◌⊎◌, ◌==◌, if◌then◌else◌, ℕ, List, Some, None, length, IfSome, IfNone, IsSomeAnd};
+ghost use Rattle.std.specs.Prelude.{◌≡◌, ◌≢◌, ◌+◌, ◌^◌, ◌<◌, ◌≤◌, ◌⊎◌, ◌==◌, if◌then◌else◌, ℕ, List, Some, None, length, true, IfSome, IfNone, IsSomeAnd};
 ghost use Rattle.std.specs.Str.{IsCharBoundary};
 ghost use Rattle.lalrpop_book.specs.Tree.{Tree};
 ghost use Rattle.lalrpop_dfa.specs.Dfa.{Row, RecognizesAll};
 ghost use Rattle.lalrpop_dfa.specs.Lookahead.{IsTrim};
 ghost use Rattle.lalrpop_edits.specs.Internal.Reach.{AreAlike};
-ghost use Rattle.lalrpop_edits.specs.Internal.Kept.{IsFront, rule_of, reach_of};
+ghost use Rattle.lalrpop_edits.specs.Internal.Kept.{IsFront, IsReadFor, rule_of, reach_of};
 ghost use Rattle.lalrpop_edits.specs.Internal.Walking.{IsRight, IsWalkerOf};
-ghost use Rattle.lalrpop_edits.specs.Internal.Noted.{IsNoted, IsSound};
+ghost use Rattle.lalrpop_edits.specs.Internal.Noted.{IsKnown, IsNoted, IsSound};
+ghost use Rattle.lalrpop_edits.specs.Internal.Paying.{IsFrontPaid};
 ghost use Rattle.lalrpop_edits.specs.Chunked.{IsOpen};
 
 use crate::kept::{FAULT, Kept};
@@ -17,6 +18,7 @@ use crate::run::longest_settled;
 use crate::walker::Walker;
 use lalrpop_dfa::NfaIndex;
 use lalrpop_lexer::Lexer;
+use lalrpop_nfa::Steps;
 
 // The piece at the front of a text: its rule, none in a fault; how many bytes it has; and how many bytes from its beginning on
 // it depends on.
@@ -29,7 +31,14 @@ pub(crate) struct Front {
 
 // The piece at the front of a text that is cut by the patterns of an automaton, along which the walker goes. The text begins at the
 // byte `at` of a longer one, which the memo is for.
-fn front_by(walker: &Walker<'_>, memo: &mut Memo, mode: usize, at: usize, rest: &str) -> Front
+fn front_by(
+    walker: &Walker<'_>,
+    memo: &mut Memo,
+    mode: usize,
+    at: usize,
+    rest: &str,
+    steps: &mut Steps,
+) -> Front
     requires right { IsRight walker.now }
     requires some { 0 < length rest.now }
     requires fits { at + length rest.now < 2 ^ 64 }
@@ -45,10 +54,19 @@ fn front_by(walker: &Walker<'_>, memo: &mut Memo, mode: usize, at: usize, rest: 
         → IsWalkerOf walker.now d → IsTrim d → RecognizesAll d ts ps → IsOpen ts rest.now }
     ensures sound { IsSound walker.now memo.new mode at rest.now }
     ensures others { (m p e n : ℕ) → m ≢ mode → IsNoted memo.new m p e n → IsNoted memo.old m p e n }
+    ensures stays { (m p e : ℕ) → IsKnown memo.old m p e → IsKnown memo.new m p e }
+    ensures whole { memo.new.is_whole ≡ true → memo.old.is_whole ≡ true }
+    ensures reads { (d : List Row) (ts : List Tree) (ps : List ℕ) → IsWalkerOf walker.now d → IsTrim d
+        → RecognizesAll d ts ps → IsReadFor ts rest.now result.rule result.size result.reach }
+    ensures paid { memo.new.is_whole ≡ true → (d : List Row) (ts : List Tree) (ps : List ℕ)
+        → IsWalkerOf walker.now d → IsTrim d → RecognizesAll d ts ps
+        → (news : List (ℕ × (ℕ × ℕ))) × ((far : ℕ) × IsFrontPaid walker.now ts ps memo.old memo.new mode at
+        rest.now result steps.old steps.new news far) }
+    ensures never_falls { steps.old ≤ steps.new }
 {
     let mut reach = 0usize;
     for (offset, _) in rest.char_indices() {
-        let found = longest_settled(walker, memo, mode, at + offset, &rest[offset..]);
+        let found = longest_settled(walker, memo, mode, at + offset, &rest[offset..], steps);
         if let Some((index, slice)) = found.longest {
             // That something matches here ends a fault; a longer match would end it too.
             if offset > 0 {
@@ -81,6 +99,7 @@ pub(crate) fn front_piece(
     mode: usize,
     at: usize,
     rest: &str,
+    steps: &mut Steps,
 ) -> Front
     requires right { IsRight walker.now }
     requires same { IsWalkerOf walker.now lexer.now.automaton }
@@ -97,10 +116,17 @@ pub(crate) fn front_piece(
     ensures held { length rest.now < result.reach → IsOpen lexer.now.trees rest.now }
     ensures sound { IsSound walker.now memo.new mode at rest.now }
     ensures others { (m p e n : ℕ) → m ≢ mode → IsNoted memo.new m p e n → IsNoted memo.old m p e n }
+    ensures stays { (m p e : ℕ) → IsKnown memo.old m p e → IsKnown memo.new m p e }
+    ensures whole { memo.new.is_whole ≡ true → memo.old.is_whole ≡ true }
+    ensures reads { IsReadFor lexer.now.trees rest.now result.rule result.size result.reach }
+    ensures paid { memo.new.is_whole ≡ true → (news : List (ℕ × (ℕ × ℕ))) × ((far : ℕ)
+        × IsFrontPaid walker.now lexer.now.trees lexer.now.precedences memo.old memo.new mode at
+        rest.now result steps.old steps.new news far) }
+    ensures never_falls { steps.old ≤ steps.new }
 {
     // What is known of the automaton.
     let _dense = lexer.dense();
-    front_by(walker, memo, mode, at, rest)
+    front_by(walker, memo, mode, at, rest, steps)
 }
 
 // The number that is kept of a rule. `None` if it is too great.

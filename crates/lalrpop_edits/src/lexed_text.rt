@@ -5,7 +5,8 @@ ghost use Rattle.std.specs.List.{replace_range};
 ghost use Rattle.std.specs.Str.{IsCharBoundary};
 ghost use Rattle.lalrpop_rules.specs.Pieces.{slice_of, start_of};
 ghost use Rattle.lalrpop_rules.specs.declared.item.Item.{Item as ItemValue};
-ghost use Rattle.lalrpop_edits.specs.Lexed.{ArePiecesOf, IsRange, IsChange, IsEarliest, IsEditError, IsPieceNumber, replaced};
+ghost use Rattle.lalrpop_edits.specs.Lexed.{ArePiecesOf, FirstReaches, IsRange, IsChange, IsEarliest, IsEditError, IsPieceNumber, replaced};
+ghost use Rattle.lalrpop_edits.specs.Costs.{IsPaidFor};
 ghost use Rattle.lalrpop_edits.specs.Internal.Blocks.{sizes};
 ghost use Rattle.lalrpop_edits.specs.Internal.Cutting.{IsCutError};
 ghost use Rattle.lalrpop_edits.specs.Internal.Handing.{AreBlocksOf, IsBlockAt, IsPieceAt, size_in};
@@ -17,6 +18,7 @@ use crate::error::EditError;
 use crate::kept::Kept;
 use crate::pieces::{Pieces, item_of};
 use lalrpop_modes::ModeLexer;
+use lalrpop_nfa::Steps;
 use lalrpop_rules::Item;
 use std::alloc::Global;
 use std::fmt;
@@ -54,6 +56,7 @@ fn edit_parts(
     blocks: &mut Vec<Block>,
     range: &Range<usize>,
     new: &str,
+    steps: &mut Steps,
 ) -> Result<Change, EditError>
     requires range { IsRange (string_bytes text.old) range.now.start range.now.end }
     requires blocks { AreBlocksOf lexer.now (string_bytes text.old) blocks.old.items }
@@ -67,6 +70,11 @@ fn edit_parts(
         (record { rules = lexer.now; text = string_bytes text.old })
         (record { rules = lexer.now; text = string_bytes text.new })
         range.now.start range.now.end (length new.now)) }
+    ensures first { IfOk result (FirstReaches
+        (record { rules = lexer.now; text = string_bytes text.old }) range.now.start) }
+    ensures cost { IfOk result (λ change. IsPaidFor
+        (record { rules = lexer.now; text = string_bytes text.new }) change steps.old steps.new) }
+    ensures never_falls { steps.old ≤ steps.new }
     ensures same_text { OnErr result (string_bytes text.new ≡ string_bytes text.old) }
     ensures same_blocks { OnErr result (blocks.new.items ≡ blocks.old.items) }
     ensures error { IfErr result (IsCutError lexer.now
@@ -84,6 +92,7 @@ fn edit_parts(
         range.start,
         range.end,
         new.len(),
+        steps,
     ) {
         Ok(change) => Ok(change),
         Err(error) => {
@@ -163,8 +172,7 @@ impl<'rules> Model for LexedText<'rules> {
 }
 
 impl<'rules> LexedText<'rules> {
-    /// The text with its pieces. It is cut whole, in time linear in it by its code: what a run reads in vain is noted at each 64th
-    /// byte, and isn't read again.
+    /// The text with its pieces. It is put into an empty text by `edit`, which cuts it whole.
     ///
     /// # Errors
     ///
@@ -221,6 +229,35 @@ impl<'rules> LexedText<'rules> {
         ensures change { IfOk result (IsChange self.old self.new) }
         ensures earliest { IfOk result
             (IsEarliest self.old self.new range.start range.end (length new.now)) }
+        ensures first { IfOk result (FirstReaches self.old range.start) }
+        ensures refused { OnErr result (self.new ≡ self.old) }
+        ensures error { IfErr result (IsEditError self.old range.start range.end new.now) }
+    {
+        self.edit_counted(alloc, range, new, &mut Steps::new())
+    }
+
+    /// The same, and counts a step for each character that is read, as often as it is read. What a run reads in vain is noted at each
+    /// 64th byte, so for given rules the steps are linear in what is cut anew and read past it. Only contracts see them.
+    ///
+    /// # Errors
+    ///
+    /// As for `edit`.
+    pub fn edit_counted(
+        &mut self,
+        alloc: Global,
+        range: Range<usize>,
+        new: &str,
+        steps: &mut Steps,
+    ) -> Result<Change, EditError>
+        ensures edited { OnOk result (self.new
+            ≡ record self.old { text = replaced self.old.text range.start range.end new.now }) }
+        ensures range { OnOk result (IsRange self.old.text range.start range.end) }
+        ensures change { IfOk result (IsChange self.old self.new) }
+        ensures earliest { IfOk result
+            (IsEarliest self.old self.new range.start range.end (length new.now)) }
+        ensures first { IfOk result (FirstReaches self.old range.start) }
+        ensures cost { IfOk result (λ change. IsPaidFor self.new change steps.old steps.new) }
+        ensures never_falls { steps.old ≤ steps.new }
         ensures refused { OnErr result (self.new ≡ self.old) }
         ensures error { IfErr result (IsEditError self.old range.start range.end new.now) }
     {
@@ -234,6 +271,7 @@ impl<'rules> LexedText<'rules> {
             &mut self.blocks,
             &range,
             new,
+            steps,
         )
     }
 

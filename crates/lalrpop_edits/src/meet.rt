@@ -1,6 +1,6 @@
 //! Cutting until the old pieces are met.
 
-ghost use Rattle.std.specs.Prelude.{◌≡◌, ℕ, ◌+◌, ◌^◌, ◌<◌, ◌≤◌, ◌⊎◌, [], length, take, drop, slice_get, Some, true, false, IfSome, IfOk, OnOk, IfNone, IfErr};
+ghost use Rattle.std.specs.Prelude.{◌≡◌, ℕ, ◌+◌, ◌^◌, ◌<◌, ◌≤◌, ◌⊎◌, List, [], length, take, drop, slice_get, Some, true, false, IfSome, IfOk, OnOk, IfNone, IfErr};
 ghost use Rattle.std.specs.Str.{IsCharBoundary};
 ghost use Rattle.lalrpop_modes.specs.Stack.{Stack};
 ghost use Rattle.lalrpop_modes.specs.Modes.{EachMode};
@@ -9,6 +9,7 @@ ghost use Rattle.lalrpop_edits.specs.Internal.Cutting.{IsCutError};
 ghost use Rattle.lalrpop_edits.specs.Internal.Noted.{IsCutter};
 ghost use Rattle.lalrpop_edits.specs.Internal.Blocks.{pieces_in, sizes, IsSpot};
 ghost use Rattle.lalrpop_edits.specs.Internal.Meeting.{new_place, IsOldPlace, AreOld, IsTurn, AreMetAfter};
+ghost use Rattle.lalrpop_edits.specs.Internal.Paying.{IsCutPaid};
 
 use crate::block::Block;
 use crate::cutter::Cutter;
@@ -16,6 +17,7 @@ use crate::error::EditError;
 use crate::kept::Kept;
 use crate::place::{Place, cut_piece, pass};
 use lalrpop_modes::ModeLexer;
+use lalrpop_nfa::Steps;
 use std::alloc::AllocError;
 
 // A place among the pieces of blocks.
@@ -141,6 +143,7 @@ pub(crate) fn cut_to_meet(
     edit: &Edit,
     old: &mut Old,
     cut: &mut Cut,
+    steps: &mut Steps,
 ) -> Result<(), EditError>
     requires old { IsOldPlace lexer.now blocks.now old.old }
     requires pieces { AreOld lexer.now text.now edit.now (pieces_in blocks.now) }
@@ -170,13 +173,18 @@ pub(crate) fn cut_to_meet(
         → AreMetAfter lexer.now edit.now (pieces_in blocks.now)
         cut.old.place.at cut.old.place.stack cut.new.pieces.items i j
         → (i ≡ old.new.spot.count) × (j ≡ length cut.new.pieces.items)) }
+    ensures walkers { cutter.new.walkers.items ≡ cutter.old.walkers.items }
+    ensures paid { OnOk result (cutter.new.memo.is_whole ≡ true → (news : List (ℕ × (ℕ × ℕ)))
+        × ((far : ℕ) × IsCutPaid lexer.now cutter.new text.now cut.old.place cut.new.place
+        steps.old steps.new news far)) }
+    ensures never_falls { steps.old ≤ steps.new }
     ensures error { IfErr result (λ e. IsCutError lexer.now text.now e) }
 {
     'cut: loop {
         match next_turn(edit, text.len(), &old.place, &cut.place) {
             Turn::Meet => return Ok(()),
             Turn::CutOn => {
-                let piece = cut_piece(lexer, cutter, text, &mut cut.place)?;
+                let piece = cut_piece(lexer, cutter, text, &mut cut.place, steps)?;
                 cut.pieces.push(piece)?;
             }
             Turn::PassOn => {

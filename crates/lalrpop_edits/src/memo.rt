@@ -1,12 +1,12 @@
 //! What runs read in vain.
 
-ghost use Rattle.std.specs.Prelude.{◌≡◌, ℕ, ◌⊎◌, IfSome};
-ghost use Rattle.lalrpop_edits.specs.Internal.Noted.{IsNoted};
+ghost use Rattle.std.specs.Prelude.{◌≡◌, ◌≢◌, ℕ, ◌/◌, ◌⊎◌, true, IfSome, IfNone};
+ghost use Rattle.lalrpop_edits.specs.Internal.Noted.{IsKnown, IsNoted};
 
 use std::alloc::Global;
 use std::collections::BTreeMap;
 
-/// What is noted lies so many bytes apart.
+/// How many bytes lie between one place where something is noted and the next.
 pub(crate) const STRIDE: usize = 64;
 
 /// From which places of a walk no match comes. Runs that read on behind their last match note it wherever a character ends that goes
@@ -15,6 +15,8 @@ pub(crate) const STRIDE: usize = 64;
 pub(crate) struct Memo {
     // For a mode, a place of its walk, and where the next character of the text begins: how many bytes from there on settle it.
     pub(crate) noted: BTreeMap<(usize, (usize, usize)), usize>,
+    // Whether memory was there for all of it.
+    pub(crate) is_whole: bool,
 }
 
 impl Memo {
@@ -24,6 +26,7 @@ impl Memo {
     {
         Memo {
             noted: BTreeMap::new(alloc),
+            is_whole: true,
         }
     }
 
@@ -31,6 +34,7 @@ impl Memo {
     #[inline(always)]
     pub(crate) fn known(&self, mode: usize, place: usize, from: usize, to: usize) -> Option<usize>
         ensures known { IfSome result (λ n. IsNoted self.now mode place to n) }
+        ensures unknown { IfNone result (from / 64 ≢ to / 64 → ¬ IsKnown self.now mode place to) }
     {
         if from / STRIDE == to / STRIDE {
             return None;
@@ -42,6 +46,10 @@ impl Memo {
     pub(crate) fn note(&mut self, mode: usize, place: usize, from: usize, to: usize, size: usize)
         ensures only { (m p at n : ℕ) → IsNoted self.new m p at n → IsNoted self.old m p at n
             ⊎ ((m ≡ mode) × (p ≡ place) × (at ≡ to) × (n ≡ size)) }
+        ensures stays { (m p at : ℕ) → IsKnown self.old m p at → IsKnown self.new m p at }
+        ensures noted { self.new.is_whole ≡ true → from / 64 ≢ to / 64
+            → IsKnown self.new mode place to }
+        ensures whole { self.new.is_whole ≡ true → self.old.is_whole ≡ true }
     {
         if from / STRIDE == to / STRIDE {
             return;
@@ -49,7 +57,7 @@ impl Memo {
         match self.noted.insert((mode, (place, to)), size) {
             Ok(_) => {}
             // Then it isn't noted.
-            Err(_) => {}
+            Err(_) => self.is_whole = false,
         }
     }
 }

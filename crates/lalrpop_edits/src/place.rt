@@ -1,11 +1,12 @@
 //! A place in a text that is cut, with the stack of modes there.
 
-ghost use Rattle.std.specs.Prelude.{◌≡◌, ◌+◌, ◌^◌, ◌<◌, length, drop, IfOk, IfErr, OnOk, OnErr};
+ghost use Rattle.std.specs.Prelude.{◌≡◌, ℕ, ◌+◌, ◌^◌, ◌<◌, ◌≤◌, List, length, drop, true, IfOk, IfErr, OnOk, OnErr};
 ghost use Rattle.std.specs.Str.{IsCharBoundary};
 ghost use Rattle.lalrpop_modes.specs.Modes.{EachMode};
 ghost use Rattle.lalrpop_edits.specs.Internal.Kept.{IsKept, after_kept};
 ghost use Rattle.lalrpop_edits.specs.Internal.Cutting.{IsCutError};
-ghost use Rattle.lalrpop_edits.specs.Internal.Noted.{IsCutter};
+ghost use Rattle.lalrpop_edits.specs.Internal.Noted.{IsCutter, IsKnown};
+ghost use Rattle.lalrpop_edits.specs.Internal.Paying.{IsPiecePaid};
 
 use crate::cutter::Cutter;
 use crate::error::EditError;
@@ -13,6 +14,7 @@ use crate::front::{front_piece, kept_of};
 use crate::kept::{FAULT, Kept};
 use lalrpop_dfa::NfaIndex;
 use lalrpop_modes::{ModeLexer, ModeStack};
+use lalrpop_nfa::Steps;
 use std::alloc::AllocError;
 
 // Where the next piece begins, and the stack of modes there.
@@ -65,6 +67,7 @@ pub(crate) fn cut_piece(
     cutter: &mut Cutter<'_>,
     text: &str,
     place: &mut Place,
+    steps: &mut Steps,
 ) -> Result<Kept, EditError>
     requires cutter { IsCutter lexer.now cutter.old place.old.at (drop place.old.at text.now) }
     requires boundary { IsCharBoundary text.now place.old.at }
@@ -80,6 +83,13 @@ pub(crate) fn cut_piece(
     ensures there { OnOk result (EachMode (λ m. m < lexer.now.modes) place.new.stack) }
     ensures cutter { OnOk result
         (IsCutter lexer.now cutter.new place.new.at (drop place.new.at text.now)) }
+    ensures walkers { cutter.new.walkers.items ≡ cutter.old.walkers.items }
+    ensures stays { (m p e : ℕ) → IsKnown cutter.old.memo m p e → IsKnown cutter.new.memo m p e }
+    ensures whole { cutter.new.memo.is_whole ≡ true → cutter.old.memo.is_whole ≡ true }
+    ensures paid { OnOk result (cutter.new.memo.is_whole ≡ true → (news : List (ℕ × (ℕ × ℕ)))
+        × ((far : ℕ) × IsPiecePaid lexer.now cutter.old cutter.new text.now place.old place.new
+        steps.old steps.new news far)) }
+    ensures never_falls { steps.old ≤ steps.new }
     ensures error { IfErr result (λ e. IsCutError lexer.now text.now e) }
 {
     let mode = place.stack.top();
@@ -90,6 +100,7 @@ pub(crate) fn cut_piece(
         mode,
         place.at,
         &text[place.at..],
+        steps,
     );
     match kept_of(&front) {
         Some(piece) => {

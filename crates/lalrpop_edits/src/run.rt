@@ -1,8 +1,9 @@
 //! The longest match at the front of a text, and what settles it.
 
-ghost use Rattle.std.specs.Prelude.{◌≡◌, ◌≢◌, ℕ, ◌≤◌, ◌<◌, ◌+◌, ◌^◌, ◌++◌, [], List, length, drop, IfSome, IsTrue};
+ghost use Rattle.std.specs.Prelude.{◌≡◌, ◌≢◌, ℕ, ◌≤◌, ◌<◌, ◌+◌, ◌*◌, ◌^◌, ◌++◌, [], List, length, take, drop, true, IfSome, IsTrue};
 ghost use Rattle.std.specs.Option.{option_map};
-ghost use Rattle.std.specs.Str.{chars};
+ghost use Rattle.std.specs.List.{All};
+ghost use Rattle.std.specs.Str.{chars, encode_utf8_all, IsUtf8};
 ghost use Rattle.lalrpop_book.specs.Tree.{Tree};
 ghost use Rattle.lalrpop_book.specs.Prefix.{IsPrefix};
 ghost use Rattle.lalrpop_book.specs.Longest.{IsLongest};
@@ -11,12 +12,14 @@ ghost use Rattle.lalrpop_dfa.specs.Dfa.{Row, RecognizesAll};
 ghost use Rattle.lalrpop_dfa.specs.Lookahead.{IsTrim};
 ghost use Rattle.lalrpop_dfa.specs.declared.Kind.TheVariants.{Neither};
 ghost use Rattle.lalrpop_edits.specs.Internal.Reach.{IsSettledBy};
-ghost use Rattle.lalrpop_edits.specs.Internal.Walking.{IsMet, IsRight, IsWalkerOf, says};
-ghost use Rattle.lalrpop_edits.specs.Internal.Noted.{IsNoted, IsOver, IsSound, IsStand};
+ghost use Rattle.lalrpop_edits.specs.Internal.Walking.{IsMet, IsRight, IsWalkerOf, behind, says};
+ghost use Rattle.lalrpop_edits.specs.Internal.Noted.{IsKnown, IsNoted, IsOver, IsSound, IsStand};
+ghost use Rattle.lalrpop_edits.specs.Internal.Paying.{AreDistinct, AreUnknown, IsNew, IsRunPaid, IsVain, size_of};
 
 use crate::memo::{Memo, STRIDE};
 use crate::walker::Walker;
 use lalrpop_dfa::{Kind, NfaIndex};
+use lalrpop_nfa::Steps;
 
 /// The longest match at the front of a text.
 #[derive(Clone, Copy, Debug)]
@@ -42,7 +45,8 @@ struct Run<'text> {
 fn is_open(walker: &Walker<'_>, place: usize) -> bool
     requires right { IsRight walker.now }
     requires met { IsMet walker.now place }
-    ensures { IsTrue result → says walker.now place ≡ Neither }
+    ensures is_so { IsTrue result → says walker.now place ≡ Neither }
+    ensures so_is { says walker.now place ≡ Neither → IsTrue result }
 {
     matches!(walker.kind(place), Kind::Neither)
 }
@@ -58,6 +62,7 @@ fn note_all(
     until: usize,
     text: &str,
     size: usize,
+    steps: &mut Steps,
 )
     requires right { IsRight walker.now }
     requires met { IsMet walker.now from }
@@ -67,6 +72,21 @@ fn note_all(
         → drop i all ≡ text.now → IsSound walker.now memo.old mode begin all
         → IsSound walker.now memo.new mode begin all }
     ensures others { (m p e n : ℕ) → m ≢ mode → IsNoted memo.new m p e n → IsNoted memo.old m p e n }
+    ensures stays { (m p e : ℕ) → IsKnown memo.old m p e → IsKnown memo.new m p e }
+    ensures whole { memo.new.is_whole ≡ true → memo.old.is_whole ≡ true }
+    ensures few { until < 64 → steps.new ≡ steps.old }
+    ensures cost { steps.new ≤ steps.old + until }
+    ensures news { 64 ≤ until → memo.new.is_whole ≡ true → (vain more : List ℕ)
+        → chars text.now ≡ vain ++ more → AreUnknown walker.now memo.old mode at from vain
+        → length (encode_utf8_all vain) ≤ until → until ≤ length (encode_utf8_all vain) + 4
+        → until ≤ length text.now
+        → (news : List (ℕ × (ℕ × ℕ)))
+        × (All (IsNew walker.now memo.old memo.new mode at text.now (length (encode_utf8_all vain))) news
+        × AreDistinct news × (until ≤ 64 * length news + 67)) }
+    ensures never_falls { steps.old ≤ steps.new }
+    ensures counted { 64 ≤ until → (vain more : List ℕ) → chars text.now ≡ vain ++ more
+        → AreUnknown walker.now memo.old mode at from vain → length (encode_utf8_all vain) ≤ until
+        → steps.old + length vain ≤ steps.new }
 {
     if until < STRIDE {
         return;
@@ -74,6 +94,7 @@ fn note_all(
     let mut place = from;
     for (offset, c) in text.char_indices() {
         let end = offset + c.len_utf8();
+        steps.tick();
         place = walker.next(place, c);
         if end >= until || !is_open(walker, place) {
             return;
@@ -89,6 +110,7 @@ fn run_along<'text>(
     mode: usize,
     at: usize,
     text: &'text str,
+    steps: &mut Steps,
 ) -> Run<'text>
     requires right { IsRight walker.now }
     requires fits { at + length text.now < 2 ^ 64 }
@@ -98,6 +120,10 @@ fn run_along<'text>(
     ensures order { result.end ≤ result.read }
     ensures over { (n : ℕ) × ((result.reach ≡ result.end + n)
         × IsOver walker.now result.place (chars (drop result.end text.now)) n) }
+    ensures vain { (vain : List ℕ)
+        × IsVain walker.now memo.now mode at text.now result.end result.place result.read vain }
+    ensures cost { steps.new ≤ steps.old + result.read }
+    ensures read { steps.old + length (chars (take result.read text.now)) ≤ steps.new }
 {
     let mut longest = None;
     let mut matched = 0;
@@ -105,6 +131,7 @@ fn run_along<'text>(
     let mut place = there;
     for (offset, c) in text.char_indices() {
         let end = offset + c.len_utf8();
+        steps.tick();
         place = walker.next(place, c);
         match walker.kind(place) {
             Kind::Accepts(pattern) => {
@@ -161,6 +188,7 @@ pub(crate) fn longest_settled<'text>(
     mode: usize,
     at: usize,
     text: &'text str,
+    steps: &mut Steps,
 ) -> Settled<'text>
     requires right { IsRight walker.now }
     requires fits { at + length text.now < 2 ^ 64 }
@@ -180,8 +208,17 @@ pub(crate) fn longest_settled<'text>(
         → drop i all ≡ text.now → IsSound walker.now memo.old mode begin all
         → IsSound walker.now memo.new mode begin all }
     ensures others { (m p e n : ℕ) → m ≢ mode → IsNoted memo.new m p e n → IsNoted memo.old m p e n }
+    ensures stays { (m p e : ℕ) → IsKnown memo.old m p e → IsKnown memo.new m p e }
+    ensures whole { memo.new.is_whole ≡ true → memo.old.is_whole ≡ true }
+    ensures all_open { (n : ℕ) → size_of (option_map (λ m. (m.0, m.1.now)) result.longest) < n → n < result.reach
+        → n ≤ length text.now → IsUtf8 (take n text.now)
+        → says walker.now (behind walker.now (chars (take n text.now))) ≡ Neither }
+    ensures paid { memo.new.is_whole ≡ true → (news : List (ℕ × (ℕ × ℕ))) × ((far : ℕ)
+        × IsRunPaid walker.now memo.old memo.new mode at text.now
+        (size_of (option_map (λ m. (m.0, m.1.now)) result.longest)) steps.old steps.new news far) }
+    ensures never_falls { steps.old ≤ steps.new }
 {
-    let run = run_along(walker, memo, mode, at, text);
+    let run = run_along(walker, memo, mode, at, text, steps);
     note_all(
         walker,
         memo,
@@ -191,6 +228,7 @@ pub(crate) fn longest_settled<'text>(
         run.read - run.end,
         &text[run.end..],
         run.reach - run.end,
+        steps,
     );
     Settled {
         longest: run.longest,

@@ -28,12 +28,13 @@ pub(crate) enum Walker<'a> {
 
 impl<'a> Walker<'a> {
     ghost use Rattle.lalrpop_dfa.specs.declared.Kind.TheVariants.{Reject};
-    ghost use Rattle.lalrpop_edits.specs.Internal.Walking.{IsMet, IsRight, IsWalkerOf, first_of, next_of, says};
+    ghost use Rattle.lalrpop_edits.specs.Internal.Walking.{HasOnePlace, IsMet, IsRight, IsWalkerOf, first_of, next_of, says};
 
     /// The walk along this automaton.
     pub(crate) fn of(dense: &'a DenseDfa) -> Walker<'a>
         ensures right { IsRight result }
         ensures same { IsWalkerOf result dense.now }
+        ensures one { HasOnePlace result dense.now }
     {
         match dense.table() {
             Some(table) => Walker::Table(table),

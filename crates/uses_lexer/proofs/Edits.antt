@@ -1,12 +1,13 @@
 -- Pieces that are the same are as many, shifted or not; and pieces that are handed out one after another are all of them.
-use Rattle.std.proofs.Common.{◌≡◌, ℕ, ◌+◌, ◌≤◌, List, [], ◌∷◌, ◌++◌, length, take, drop, suc, zero, refl, ap, ◌∙◌, sym, subst, arith, length-append}
+use Rattle.std.proofs.Common.{◌≡◌, ℕ, ◌+◌, ◌≤◌, List, [], ◌∷◌, ◌++◌, length, take, drop, suc, zero, inl, inr, ◌<◌, refl, ap, ◌∙◌, sym, subst, arith, length-append}
 use Rattle.std.specs.Prelude.{Some, slice_get, IsSomeAnd}
 use Rattle.std.proofs.lemmas.List.{length-drop}
 use Rattle.std.proofs.Math.Seq.{take-length}
-use Rattle.lalrpop_rules.specs.Pieces.{AreSame, IsSame, slice_of}
+use Rattle.lalrpop_book.specs.Tree.{Tree}
+use Rattle.lalrpop_rules.specs.Pieces.{AreSame, IsSame, slice_of, start_of}
 use Rattle.lalrpop_rules.specs.declared.item.Item.{Item}
 use Rattle.lalrpop_rules.specs.declared.item.Item.TheVariants.{Token, Skipped, Fault}
-use Rattle.lalrpop_edits.specs.Lexed.{Lexed, ArePiecesOf, HasPieces, IsChangeOf, IsPieceNumber, placed_from}
+use Rattle.lalrpop_edits.specs.Lexed.{Lexed, ArePiecesOf, HasPieces, IsChangeOf, IsPieceNumber, ReadsTo, Reaches, placed_from}
 use Rattle.lalrpop_edits.specs.declared.change.Change.{Change}
 
 same_length : (xs ys : List Item) → AreSame xs ys → length xs ≡ length ys
@@ -28,6 +29,16 @@ counts_of xs ys c is =
     let fits = is.removed in
     let fits_too = is.inserted in
     omega (arith, as_many, length-drop (c.first + c.removed) xs, length-drop (c.first + c.inserted) ys, fits, fits_too)
+
+-- a piece that reaches a place behind its end reads up to there
+pub reads_on : (ts : List Tree) (text : List ℕ) (place : ℕ) (x : Item) → Reaches ts text place x → start_of x + length (slice_of x) < place
+    → (at : ℕ) × ((start_of x ≤ at) × (at ≤ start_of x + length (slice_of x)) × ReadsTo ts text at place)
+reads_on ts text place (Token token) (inl within) later = absurd (omega (arith, within, later))
+reads_on ts text place (Token token) (inr reads) later = (token.start, (omega arith, omega arith, reads))
+reads_on ts text place (Skipped token) (inl within) later = absurd (omega (arith, within, later))
+reads_on ts text place (Skipped token) (inr reads) later = (token.start, (omega arith, omega arith, reads))
+reads_on ts text place (Fault at slice) (inl within) later = absurd (omega (arith, within, later))
+reads_on ts text place (Fault at slice) (inr (k, reads)) later = (k, (reads.0, reads.1, reads.3))
 
 same_back : (x y : Item) → IsSame x y → IsSame y x
 same_back (Token a) (Token b) is = (sym is.0, sym is.1, sym is.2)

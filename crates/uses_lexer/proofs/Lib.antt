@@ -1,4 +1,5 @@
 mod Counting
+mod EditCosts
 mod Edits
 mod Joining
 mod ModePieces

@@ -1,8 +1,9 @@
 //! A text is edited, and its pieces with it.
-ghost use Rattle.std.specs.Prelude.{◌≡◌, ◌≤◌, ◌<◌, ◌+◌, ◌++◌, ◌⊎◌, List, length, take, drop, true, IfOk, OnOk, IfErr};
+ghost use Rattle.std.specs.Prelude.{◌≡◌, ◌≤◌, ◌<◌, ◌+◌, ◌++◌, ◌⊎◌, ℕ, List, length, take, drop, slice_get, Some, true, IfOk, OnOk, IfErr};
 ghost use Rattle.std.specs.Str.{IsCharBoundary};
-ghost use Rattle.lalrpop_edits.specs.Lexed.{ArePiecesOf, HasPieces, MeetAt, replaced};
-ghost use Rattle.lalrpop_rules.specs.Pieces.{AreSame};
+ghost use Rattle.lalrpop_edits.specs.Lexed.{ArePiecesOf, HasPieces, MeetAt, ReadsTo, replaced};
+ghost use Rattle.lalrpop_modes.specs.Modes.{trees_in};
+ghost use Rattle.lalrpop_rules.specs.Pieces.{AreSame, slice_of, start_of};
 ghost use Rattle.lalrpop_rules.specs.declared.item.Item.{Item as ItemValue};
 
 use lalrpop_edits::{Change, EditError, LexedText};
@@ -135,6 +136,29 @@ pub fn cut_no_further(
         → ArePiecesOf lexed.new ys
         → MeetAt lexed.old.rules.actions range.start range.end (length new.now) xs ys c.first c.first
         → (c.removed ≡ 0) × (c.inserted ≡ 0)) }
+{
+    let change = lexed.edit(alloc, range, new)?;
+    Ok(change)
+}
+
+// Needs lalrpop_edits::LexedText::edit: first.
+/// Edits a text. Where the first piece that is cut anew ends before the range, all from some place in it, or right behind it, up to
+/// the range begins a word that some rule matches.
+///
+/// # Errors
+///
+/// What is wrong with the edit.
+pub fn cut_no_further_back(
+    alloc: Global,
+    lexed: &mut LexedText<'_>,
+    range: Range<usize>,
+    new: &str,
+) -> Result<Change, EditError>
+    ensures word { IfOk result (λ c. (xs : List ItemValue) → ArePiecesOf lexed.old xs
+        → (x : ItemValue) → slice_get xs c.first ≡ Some x
+        → start_of x + length (slice_of x) < range.start
+        → (mode at : ℕ) × ((start_of x ≤ at) × (at ≤ start_of x + length (slice_of x))
+        × ReadsTo (trees_in lexed.old.rules mode) lexed.old.text at range.start)) }
 {
     let change = lexed.edit(alloc, range, new)?;
     Ok(change)

@@ -131,7 +131,8 @@ pub fn place_of_fault(
     lexer: &ModeLexer,
     front: &str,
 ) -> Result<Option<usize>, EditError>
-    ensures fault { IfOk result (λ found. IfSome found (λ at. (back : List ℕ) (ys : List ItemValue) (end : Stack)
+    ensures fault { IfOk result (λ found. IfSome found (λ at. (back : List ℕ)
+        (ys : List ItemValue) (end : Stack)
         → ArePiecesFrom lexer.now (front.now ++ back) 0 start ys end
         → (n : ℕ) × ((slice : Bor (List ℕ)) × (slice_get ys n ≡ Some (Fault at slice))))) }
 {

@@ -17,6 +17,7 @@ pub mod cut_linearly;
 pub mod cut_to_the_end;
 pub mod decode_chunks;
 pub mod edit_a_text;
+pub mod edit_cost;
 pub mod feed_chunks;
 pub mod find_a_match;
 pub mod find_matches;

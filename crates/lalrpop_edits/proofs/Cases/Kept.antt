@@ -1,21 +1,21 @@
 -- Cases of specs/Kept.antt.
-use Rattle.std.proofs.Common.{◌≡◌, ℕ, List, [], ◌∷◌, length, drop, codes, refl, sym, ap, subst, arith}
+use Rattle.std.proofs.Common.{◌≡◌, ℕ, zero, suc, ◌+◌, ◌⊎◌, inl, inr, List, [], ◌∷◌, length, take, drop, get_or, codes, refl, sym, ap, subst, arith}
 use Rattle.std.specs.Prelude.{Some, None}
-use Rattle.std.specs.Str.{chars}
-use Rattle.lalrpop_book.specs.Tree.{Tree, alternation, none}
+use Rattle.std.specs.Str.{chars, IsUtf8}
+use Rattle.lalrpop_book.specs.Tree.{Tree, literal, alternation, none}
 use Rattle.lalrpop_book.specs.Language.{Matches}
-use Rattle.lalrpop_book.specs.Winners.{TreeMatches}
+use Rattle.lalrpop_book.specs.Winners.{TreeMatches, Matched}
 use Rattle.lalrpop_book.specs.Longest.{IsMatch}
 use Rattle.lalrpop_rules.specs.Found.{MatchesAt}
 use Rattle.lalrpop_modes.specs.declared.action.Action.TheVariants.{Push, Pop}
 use Rattle.lalrpop_modes.specs.Stack.{Stack, start}
 use Rattle.lalrpop_modes.specs.Modes.{ModeRules}
-use Rattle.lalrpop_edits.specs.Internal.Kept.{rule_of, reach_of, after_rule, after_kept, IsFront, IsKept, KeptUpTo, AreWithin}
+use Rattle.lalrpop_edits.specs.Internal.Kept.{rule_of, reach_of, after_rule, after_kept, IsFront, IsKept, IsReadFor, KeptUpTo, ReadsOn, AreWithin}
 use Rattle.lalrpop_edits.specs.declared.kept.Kept.{Kept}
 use Rattle.lalrpop_edits.proofs.KeptLaws.{kept_some, kept_within}
 use Rattle.lalrpop_edits.proofs.Alike.{alike_whole}
 use Rattle.lalrpop_edits.proofs.Settling.{token_settled}
-use Rattle.lalrpop_edits.proofs.Cases.Reach.{a, ab, b, first_byte_settles}
+use Rattle.lalrpop_edits.proofs.Cases.Reach.{a, ab, b, first_byte_settles, one_of_two}
 
 -- two rules: the first belongs to mode 0 and leads into mode 1, the second belongs to both and pops
 abbrev two : Tree → Tree → ModeRules
@@ -67,6 +67,76 @@ shorter_match ts ps text p i longer size is = let le = is.0.1 p longer in omega 
 fault_where_something_matches : (ts : List Tree) (ps : List ℕ) → MatchesAt ts (codes "ab") 0 → ¬ IsFront ts ps (codes "ab") None (codes "a")
 fault_where_something_matches ts ps m is = is.nothing 0 (omega arith) m
 
+-- ---- what was seen
+
+abbrev abc : Tree
+abc = literal (97 ∷ 98 ∷ 99 ∷ [])
+
+ab_whole : IsUtf8 (codes "ab")
+unfolding lib.Utf8.encode
+ab_whole = (97 ∷ 98 ∷ [], (refl, refl))
+
+-- behind the token `a` the byte was read that begins `abc`
+token_read_on : ReadsOn (a ∷ abc ∷ []) (codes "ab") (Some 0) 1
+unfolding chars
+token_read_on = (99 ∷ [], (1, (abc, (refl, refl))))
+
+begins_no_longer_word : (v : List ℕ) → ¬ Matched (a ∷ b ∷ []) (97 ∷ 98 ∷ v)
+begins_no_longer_word v m = by_tree (one_of_two a b (97 ∷ 98 ∷ v) m)
+  where
+    by_tree : (97 ∷ 98 ∷ v ≡ 97 ∷ []) ⊎ (97 ∷ 98 ∷ v ≡ 98 ∷ []) → ⊥
+    by_tree (inl e) = let n : suc (suc (length v)) ≡ 1 = ap length e in omega (arith, n)
+    by_tree (inr e) = let n : suc (suc (length v)) ≡ 1 = ap length e in omega (arith, n)
+
+no_longer_token : ¬ ReadsOn (a ∷ b ∷ []) (codes "ab") (Some 0) 1
+unfolding chars
+no_longer_token on = begins_no_longer_word on.0 on.1
+
+-- right behind the fault `c`
+fault_read_on : ReadsOn (b ∷ abc ∷ []) (codes "cab") None 1
+unfolding chars
+fault_read_on = (1, (omega arith, (omega arith, λ within high. omega (arith, high)), (99 ∷ [], (1, (abc, (refl, refl))))))
+
+begins_with_c : (v : List ℕ) → ¬ Matched (b ∷ abc ∷ []) (99 ∷ v)
+begins_with_c v m = by_tree (one_of_two b abc (99 ∷ v) m)
+  where
+    by_tree : (99 ∷ v ≡ 98 ∷ []) ⊎ (99 ∷ v ≡ 97 ∷ 98 ∷ 99 ∷ []) → ⊥
+    by_tree (inl e) = let n : 99 ≡ 98 = ap (λ (w : List ℕ). get_or w 0 0) e in omega (arith, n)
+    by_tree (inr e) = let n : 99 ≡ 97 = ap (λ (w : List ℕ). get_or w 0 0) e in omega (arith, n)
+
+-- not further on, where another piece would begin
+fault_read_too_far_on : ¬ ReadsOn (b ∷ abc ∷ []) (codes "cca") None 1
+unfolding chars
+fault_read_too_far_on (zero, on) = begins_with_c (99 ∷ 97 ∷ on.2.0) on.2.1
+fault_read_too_far_on (suc zero, on) = begins_with_c (97 ∷ on.2.0) on.2.1
+fault_read_too_far_on (suc (suc k), on) = omega (arith, on.0)
+
+-- the last character that was read needn't go on
+one_byte_more : (ts : List Tree) (text : List ℕ) (rule size : ℕ) → IsReadFor ts text (Some rule) size (size + 1)
+one_byte_more ts text rule size n behind before fits whole = absurd (omega (arith, behind, before))
+
+-- `ab` begins `abc`, and the third byte of `abd` settles that it isn't that
+third_byte_settles : IsReadFor (a ∷ abc ∷ []) (codes "abd") (Some 0) 1 3
+third_byte_settles n behind before fits whole =
+    let two_bytes : 2 ≡ n = omega (arith, behind, before) in
+    subst (λ (m : ℕ). ReadsOn (a ∷ abc ∷ []) (take m (codes "abd")) (Some 0) 1) two_bytes token_read_on
+
+abd_whole : IsUtf8 (codes "abd")
+unfolding lib.Utf8.encode
+abd_whole = (97 ∷ 98 ∷ 100 ∷ [], (refl, refl))
+
+begins_no_abc : (v : List ℕ) → ¬ Matched (a ∷ abc ∷ []) (97 ∷ 98 ∷ 100 ∷ v)
+begins_no_abc v m = by_tree (one_of_two a abc (97 ∷ 98 ∷ 100 ∷ v) m)
+  where
+    by_tree : (97 ∷ 98 ∷ 100 ∷ v ≡ 97 ∷ []) ⊎ (97 ∷ 98 ∷ 100 ∷ v ≡ 97 ∷ 98 ∷ 99 ∷ []) → ⊥
+    by_tree (inl e) = let n : suc (suc (suc (length v))) ≡ 1 = ap length e in omega (arith, n)
+    by_tree (inr e) = let n : 100 ≡ 99 = ap (λ (w : List ℕ). get_or w 2 0) e in omega (arith, n)
+
+-- nothing begins with all three, so no byte behind them may be read
+fourth_byte_read_in_vain : ¬ IsReadFor (a ∷ abc ∷ []) (codes "abde") (Some 0) 1 4
+unfolding chars
+fourth_byte_read_in_vain reads = let on = reads 3 (omega arith) (omega arith) (omega arith) abd_whole in begins_no_abc on.0 on.1
+
 -- ---- what is kept of it
 
 ab_matches : IsMatch (a ∷ ab ∷ []) (codes "ab") (codes "ab")
@@ -75,23 +145,33 @@ ab_matches = (([], (refl, (codes "ab", (refl, refl)))), (λ e. let n : 2 ≡ 0 =
 
 -- where nothing longer matches than `a`, it depends on itself alone
 token_and_nothing_behind : IsFront (a ∷ b ∷ []) (0 ∷ 0 ∷ []) (codes "ab") (Some 0) (codes "a") → IsKept (two a b) 0 (codes "ab") (piece 0 1 0)
-token_and_nothing_behind is other alike = (codes "a", (refl, token_settled (a ∷ b ∷ []) (0 ∷ 0 ∷ []) (codes "ab") other 0 (codes "a") 1 is first_byte_settles alike))
+token_and_nothing_behind is = record {
+  front = λ other alike. (codes "a", (refl, token_settled (a ∷ b ∷ []) (0 ∷ 0 ∷ []) (codes "ab") other 0 (codes "a") 1 is first_byte_settles alike));
+  reads = λ n behind before fits whole. absurd (omega (arith, behind, before));
+}
+
+-- not on two bytes more: no word begins with `ab`
+byte_too_many : ¬ IsKept (two a b) 0 (codes "abb") (piece 0 1 2)
+byte_too_many kept = no_longer_token (kept.reads 2 (omega arith) (omega arith) (omega arith) ab_whole)
 
 -- where `ab` matches too, it depends on the byte behind it: `ac` may become `ab`
 byte_behind_is_missing : ¬ IsKept (two a ab) 0 (codes "ac") (piece 0 1 0)
-byte_behind_is_missing kept = let is = kept (codes "ab") refl in let le = is.1.1.0.1 (codes "ab") ab_matches in omega (arith, is.1.0, le)
+byte_behind_is_missing kept = let is = kept.front (codes "ab") refl in let le = is.1.1.0.1 (codes "ab") ab_matches in omega (arith, is.1.0, le)
 
 -- at the end of the text it depends on the end
 end_is_seen : IsFront (a ∷ ab ∷ []) (0 ∷ 0 ∷ []) (codes "a") (Some 0) (codes "a") → IsKept (two a ab) 0 (codes "a") (piece 0 1 1)
-end_is_seen is other alike =
-    (codes "a", (refl, subst (λ (t : List ℕ). IsFront (a ∷ ab ∷ []) (0 ∷ 0 ∷ []) t (Some 0) (codes "a")) (sym (alike_whole 2 (codes "a") other (omega arith) alike)) is))
+end_is_seen is = record {
+  front = λ other alike.
+      (codes "a", (refl, subst (λ (t : List ℕ). IsFront (a ∷ ab ∷ []) (0 ∷ 0 ∷ []) t (Some 0) (codes "a")) (sym (alike_whole 2 (codes "a") other (omega arith) alike)) is));
+  reads = λ n behind before fits whole. absurd (omega (arith, behind, before));
+}
 
 end_is_missing : ¬ IsKept (two a ab) 0 (codes "a") (piece 0 1 0)
-end_is_missing kept = let is = kept (codes "ab") refl in let le = is.1.1.0.1 (codes "ab") ab_matches in omega (arith, is.1.0, le)
+end_is_missing kept = let is = kept.front (codes "ab") refl in let le = is.1.1.0.1 (codes "ab") ab_matches in omega (arith, is.1.0, le)
 
 -- the first rule doesn't belong to mode 1
 piece_of_another_mode : (t u : Tree) (text : List ℕ) (size past : ℕ) → ¬ IsKept (two t u) 1 text (piece 0 size past)
-piece_of_another_mode t u text size past kept = let is = kept text refl in nothing (chars is.0) is.1.1.1.0.0
+piece_of_another_mode t u text size past kept = let is = kept.front text refl in nothing (chars is.0) is.1.1.1.0.0
   where
     nothing : (w : List ℕ) → ¬ TreeMatches (alternation none ∷ u ∷ []) w 0
     nothing w m = let same : m.0 ≡ alternation none = cc (m.1.0) in subst (λ (v : Tree). Matches v w) same m.1.1

@@ -1,16 +1,21 @@
 -- Cases of specs/Lexed.antt.
-use Rattle.std.proofs.Common.{◌≡◌, ℕ, ◌+◌, ◌<◌, inl, inr, List, [], ◌∷◌, length, get_or, codes, refl, sym, ap, ◌∙◌, arith}
+use Rattle.std.proofs.Common.{◌≡◌, ℕ, zero, suc, ◌+◌, ◌-◌, ◌<◌, ◌⊎◌, inl, inr, List, [], ◌∷◌, ◌++◌, length, take, drop, get_or, codes, refl, sym, ap, subst, ◌∙◌, arith}
 use Rattle.std.specs.Prelude.{Some, None}
 use Rattle.std.specs.Borrow.{Bor}
+use Rattle.std.specs.Str.{chars}
+use Rattle.std.proofs.lemmas.Str.{chars-nil}
+use Rattle.lalrpop_book.specs.Tree.{Tree, literal}
+use Rattle.lalrpop_book.specs.Winners.{Matched}
 use Rattle.lalrpop_rules.specs.declared.item.Item.{Item}
 use Rattle.lalrpop_rules.specs.declared.item.Item.TheVariants.{Token, Skipped, Fault}
 use Rattle.lalrpop_rules.proofs.UniquePieces.{no_piece_left}
 use Rattle.lalrpop_modes.specs.declared.action.Action.TheVariants.{Push}
 use Rattle.lalrpop_modes.specs.Stack.{Stack, start}
 use Rattle.lalrpop_modes.specs.Modes.{ModeRules, trees_in}
-use Rattle.lalrpop_edits.specs.Lexed.{Lexed, ArePiecesOf, replaced, IsRange, IsEditError, placed, placed_from, IsChangeOf, MeetAt, IsEarliest, IsPieceNumber, HasPieces, Handed, HandsOut}
+use Rattle.lalrpop_edits.specs.Lexed.{Lexed, ArePiecesOf, replaced, IsRange, IsEditError, placed, placed_from, IsChangeOf, MeetAt, IsEarliest, ReadsTo, Reaches, FirstReaches, IsPieceNumber, HasPieces, Handed, HandsOut}
 use Rattle.lalrpop_edits.specs.declared.change.Change.{Change}
 use Rattle.lalrpop_edits.specs.declared.error.EditError.TheVariants.{NoBoundary, TooLarge, OutOfMemory}
+use Rattle.lalrpop_edits.proofs.Cases.Reach.{a, ab, one_of_two}
 
 abbrev no_rules : ModeRules
 no_rules = record { names = []; trees = []; precedences = []; skips = []; actions = []; members = []; kinds = []; modes = 1; automata = [] }
@@ -141,6 +146,105 @@ cut_further_than_needed r earliest =
     let ends = earliest [] [] (no_piece_of_the_empty_text r) (no_piece_of_the_empty_text r) 0 0 (omega arith) (omega arith) (omega arith) (omega arith)
     (record { behind = omega arith; same = refl; stack = refl }) in
     omega (arith, ends.0)
+
+-- ---- as far back as needed
+
+-- `a` begins `ab`
+word_begun : ReadsTo (a ∷ ab ∷ []) (codes "xab") 1 2
+unfolding chars
+word_begun = (omega arith, (98 ∷ [], (1, (ab, (refl, refl)))))
+
+-- nothing begins each word
+nothing_read : (text : List ℕ) (at : ℕ) → ReadsTo (a ∷ ab ∷ []) text at at
+nothing_read text at =
+    let none : 0 ≡ at - at = omega arith in
+    (omega arith, (97 ∷ [], (0, (a, (refl, subst (λ (n : ℕ). chars (take n (drop at text)) ++ 97 ∷ [] ≡ 97 ∷ []) none (ap (λ (w : List ℕ). w ++ 97 ∷ []) chars-nil))))))
+
+begins_with_b : (v : List ℕ) → ¬ Matched (a ∷ ab ∷ []) (98 ∷ v)
+begins_with_b v m = by_tree (one_of_two a ab (98 ∷ v) m)
+  where
+    by_tree : (98 ∷ v ≡ 97 ∷ []) ⊎ (98 ∷ v ≡ 97 ∷ 98 ∷ []) → ⊥
+    by_tree (inl e) = let n : 98 ≡ 97 = ap (λ (w : List ℕ). get_or w 0 0) e in omega (arith, n)
+    by_tree (inr e) = let n : 98 ≡ 97 = ap (λ (w : List ℕ). get_or w 0 0) e in omega (arith, n)
+
+begins_with_aa : (v : List ℕ) → ¬ Matched (a ∷ ab ∷ []) (97 ∷ 97 ∷ v)
+begins_with_aa v m = by_tree (one_of_two a ab (97 ∷ 97 ∷ v) m)
+  where
+    by_tree : (97 ∷ 97 ∷ v ≡ 97 ∷ []) ⊎ (97 ∷ 97 ∷ v ≡ 97 ∷ 98 ∷ []) → ⊥
+    by_tree (inl e) = let n : suc (suc (length v)) ≡ 1 = ap length e in omega (arith, n)
+    by_tree (inr e) = let n : 97 ≡ 98 = ap (λ (w : List ℕ). get_or w 1 0) e in omega (arith, n)
+
+no_word_begun : ¬ ReadsTo (a ∷ ab ∷ []) (codes "xaab") 1 3
+unfolding chars
+no_word_begun r = begins_with_aa r.1.0 r.1.1
+
+read_backwards : (ts : List Tree) (text : List ℕ) → ¬ ReadsTo ts text 2 1
+read_backwards ts text r = omega (arith, r.0)
+
+-- a token reaches each place up to its end
+end_of_a_token : (ts : List Tree) (text : List ℕ) (p : Bor (List ℕ)) → p.now ≡ codes "a" → Reaches ts text 2 (Token (record { index = 0; slice = p; start = 1 }))
+end_of_a_token ts text p e = inl (omega (arith, ap length e))
+
+abbrev abc : Tree
+abc = literal (97 ∷ 98 ∷ 99 ∷ [])
+
+-- and those behind it, as long as a longer word may come
+longer_word_may_come : (p : Bor (List ℕ)) → Reaches (a ∷ abc ∷ []) (codes "xabd") 3 (Token (record { index = 0; slice = p; start = 1 }))
+unfolding chars
+longer_word_may_come p = inr (omega arith, (99 ∷ [], (1, (abc, (refl, refl)))))
+
+no_longer_word : (p : Bor (List ℕ)) → p.now ≡ codes "a" → ¬ Reaches (a ∷ ab ∷ []) (codes "xaab") 3 (Skipped (record { index = 0; slice = p; start = 1 }))
+no_longer_word p e (inl within) = omega (arith, within, ap length e)
+no_longer_word p e (inr r) = no_word_begun r
+
+-- a word may come right behind the fault `x`
+word_behind_a_fault : (p : Bor (List ℕ)) → p.now ≡ codes "x" → Reaches (a ∷ abc ∷ []) (codes "xabd") 3 (Fault 0 p)
+unfolding chars
+word_behind_a_fault p e =
+    inr (1, (omega arith, omega (arith, ap length e), (omega arith, λ within high. omega (arith, high)), (omega arith, (99 ∷ [], (1, (abc, (refl, refl)))))))
+
+no_word_behind_a_fault : (p : Bor (List ℕ)) → p.now ≡ codes "b" → ¬ Reaches (a ∷ ab ∷ []) (codes "bbba") 3 (Fault 0 p)
+unfolding chars
+no_word_behind_a_fault p e (inl within) = omega (arith, within, ap length e)
+no_word_behind_a_fault p e (inr (zero, r)) = begins_with_b (98 ∷ 98 ∷ r.3.1.0) r.3.1.1
+no_word_behind_a_fault p e (inr (suc zero, r)) = begins_with_b (98 ∷ r.3.1.0) r.3.1.1
+no_word_behind_a_fault p e (inr (suc (suc k), r)) = omega (arith, r.1, ap length e)
+
+-- each piece reaches the beginning of the text
+all_cut_anew : (l : Lexed) (c : Change) → FirstReaches l 0 c
+all_cut_anew l c xs are (Token token) got = inl (omega arith)
+all_cut_anew l c xs are (Skipped token) got = inl (omega arith)
+all_cut_anew l c xs are (Fault at slice) got = inl (omega arith)
+
+-- where there is no piece, none has to reach anything
+text_put_in : (r : ModeRules) (from : ℕ) → FirstReaches (record { rules = r; text = [] }) from first_replaced
+text_put_in r from [] are x got = absurd (cc)
+text_put_in r from (y ∷ xs) are x got = absurd (no_piece_left (trees_in r 0) r.precedences r.skips [] 0 y are.1.0 refl)
+
+abbrev two_rules : ModeRules
+two_rules = record {
+  names = [];
+  trees = a ∷ ab ∷ [];
+  precedences = 0 ∷ 0 ∷ [];
+  skips = [];
+  actions = [];
+  members = (0 ∷ []) ∷ (0 ∷ []) ∷ [];
+  kinds = 0 ∷ 1 ∷ [];
+  modes = 1;
+  automata = [];
+}
+
+-- the first `a` of `aab` ends before the last byte, and no word begins with `aa`: so it may not be cut anew for that byte
+cut_further_back_than_needed : (p : Bor (List ℕ)) (xs : List Item) → p.now ≡ codes "a"
+    → ArePiecesOf (record { rules = two_rules; text = codes "aab" }) (Token (record { index = 0; slice = p; start = 0 }) ∷ xs)
+    → ¬ FirstReaches (record { rules = two_rules; text = codes "aab" }) 2 first_replaced
+unfolding chars
+cut_further_back_than_needed p xs e are first =
+    no_word (first (Token (record { index = 0; slice = p; start = 0 }) ∷ xs) are (Token (record { index = 0; slice = p; start = 0 })) refl)
+  where
+    no_word : ¬ Reaches (a ∷ ab ∷ []) (codes "aab") 2 (Token (record { index = 0; slice = p; start = 0 }))
+    no_word (inl within) = omega (arith, within, ap length e)
+    no_word (inr r) = begins_with_aa r.1.0 r.1.1
 
 -- ---- handing out
 

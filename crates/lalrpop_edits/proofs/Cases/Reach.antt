@@ -48,7 +48,7 @@ below : (c : ℕ) → c < 1114112 → All (λ n. n < 1114112) (c ∷ [])
 below c l = All-cons (λ n. n < 1114112) c [] l (All-nil (λ n. n < 1114112))
 
 -- a tree of two
-one_of_two : (t u : Tree) (w : List ℕ) → Matched (t ∷ u ∷ []) w → Matches t w ⊎ Matches u w
+pub one_of_two : (t u : Tree) (w : List ℕ) → Matched (t ∷ u ∷ []) w → Matches t w ⊎ Matches u w
 one_of_two t u w (zero, m) = inl (let same : m.0 ≡ t = cc (m.1.0) in subst (λ (s : Tree). Matches s w) same m.1.1)
 one_of_two t u w (suc zero, m) = inr (let same : m.0 ≡ u = cc (m.1.0) in subst (λ (s : Tree). Matches s w) same m.1.1)
 one_of_two t u w (suc (suc i), m) = absurd (cc (m.1.0))

@@ -9,7 +9,8 @@ use Rattle.lalrpop_dense.specs.declared.dense_table.DenseTable.{DenseTable}
 use Rattle.lalrpop_dense.specs.declared.dense_table.TableCells.TheVariants.{Narrow}
 use Rattle.lalrpop_edits.specs.declared.walker.Walker.{Walker}
 use Rattle.lalrpop_edits.specs.declared.walker.Walker.TheVariants.{Table, States}
-use Rattle.lalrpop_edits.specs.Internal.Walking.{IsMet, IsWalkerOf, behind, behind_from, cell_of_block, first_of, next_of, says, state_says}
+use Rattle.lalrpop_edits.specs.Internal.Walking.{HasOnePlace, IsMet, IsWalkerOf, behind, behind_from, cell_of_block, first_of, next_of, says, state_says}
+use Rattle.lalrpop_edits.proofs.Walking.{states_one}
 
 -- class 0 is 'a' alone; row 0 is dead, row 3 is the start, and row 6 accepts pattern 7, after one `a` or more
 abbrev small : DenseTable
@@ -123,3 +124,14 @@ walks_no_other d r at kind h =
     let there : IsSomeAnd (Some r) (λ x. x.kind ≡ Neither) = subst (λ o. IsSomeAnd o (λ (x : Row). x.kind ≡ Neither)) at (h [] (All-nil (λ n. n < 1114112))) in
     let clash : Accepts 7 ≡ Neither = sym kind ∙ there in
     cc
+
+-- ---- one place for one state
+
+states_are_places : HasOnePlace by_states states
+states_are_places = states_one by_states states refl (λ place c. refl)
+
+-- the rows 3 and 6 are not both the place of one state
+no_two_places : ¬ HasOnePlace by_table one_state
+no_two_places one =
+    let same : 3 ≡ 6 = one [] (97 ∷ []) (All-nil (λ c. c < 1114112)) (All-cons (λ c. c < 1114112) 97 [] (lit< tt) (All-nil (λ c. c < 1114112))) refl in
+    omega (arith, same)

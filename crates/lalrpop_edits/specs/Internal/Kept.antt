@@ -1,9 +1,9 @@
 -- cases: proofs/Cases/Kept.antt
 -- What is kept of the pieces of a text: neither slices nor places.
-use Rattle.std.specs.Prelude.{◌≡◌, ℕ, ◌+◌, ◌≤◌, ◌==◌, if◌then◌else◌, List, [], ◌∷◌, length, drop, Option, Some, None}
-use Rattle.std.specs.Str.{chars}
+use Rattle.std.specs.Prelude.{◌≡◌, ℕ, ◌+◌, ◌<◌, ◌≤◌, ◌==◌, if◌then◌else◌, List, [], ◌∷◌, ◌++◌, length, take, drop, Option, Some, None}
+use Rattle.std.specs.Str.{chars, IsCharBoundary, IsUtf8}
 use Rattle.lalrpop_book.specs.Tree.{Tree}
-use Rattle.lalrpop_book.specs.Winners.{IsOnlyStrongest}
+use Rattle.lalrpop_book.specs.Winners.{IsOnlyStrongest, Matched}
 use Rattle.lalrpop_book.specs.Longest.{IsLongest}
 use Rattle.lalrpop_rules.specs.Pieces.{IsFault}
 use Rattle.lalrpop_modes.specs.declared.action.Action.{Action}
@@ -25,10 +25,20 @@ abbrev pub IsFront : List Tree → List ℕ → List ℕ → Option ℕ → List
 IsFront ts ps text (Some i) slice = IsLongest ts ps text (Some (i, slice)) × IsOnlyStrongest ts ps (chars slice) i
 IsFront ts ps text None slice = IsFault ts text slice
 
--- each text that is alike as far as the piece depends on it has a piece of this rule and size at its front, in this mode
-abbrev pub IsKept : ModeRules → ℕ → List ℕ → Kept → Type 0
-IsKept r mode text k = (other : List ℕ) → AreAlike (reach_of k) text other
-    → (slice : List ℕ) × ((length slice ≡ k.size) × IsFront (trees_in r mode) r.precedences other (rule_of k) slice)
+-- all that was seen begins a word that some tree matches: from where the token begins on; or from a place in the fault, of this size, or right behind it
+abbrev pub ReadsOn : List Tree → List ℕ → Option ℕ → ℕ → Type 0
+ReadsOn ts seen (Some i) size = (v : List ℕ) × Matched ts (chars seen ++ v)
+ReadsOn ts seen None size = (k : ℕ) × ((k ≤ size) × IsCharBoundary seen k × ((v : List ℕ) × Matched ts (chars (drop k seen) ++ v)))
+
+-- a piece of this rule and size depends on no more bytes of the text than it has to: so does all that was seen behind it, before the last character
+abbrev pub IsReadFor : List Tree → List ℕ → Option ℕ → ℕ → ℕ → Type 0
+IsReadFor ts text rule size reach = (n : ℕ) → size < n → n < reach → n ≤ length text → IsUtf8 (take n text) → ReadsOn ts (take n text) rule size
+
+-- each text that is alike as far as the piece depends on it has a piece of this rule and size at its front, in this mode; and it depends on no more than it has to
+pub record IsKept (r : ModeRules) (mode : ℕ) (text : List ℕ) (k : Kept) : Type 0 where
+  pub front : (other : List ℕ) → AreAlike (reach_of k) text other
+      → (slice : List ℕ) × ((length slice ≡ k.size) × IsFront (trees_in r mode) r.precedences other (rule_of k) slice)
+  pub reads : IsReadFor (trees_in r mode) text (rule_of k) k.size (reach_of k)
 
 -- the stack after a token of the rule; a fault leaves it as it is
 abbrev pub after_rule : List (List Action) → Option ℕ → Stack → Stack

@@ -43,7 +43,7 @@ IsTurn e end old cut Meet = AreMet e old cut
 IsTurn e end old cut CutOn = (cut.at < end) × (e.to ≤ old.at) × (cut.at ≤ new_place e old.at) × ¬ AreMet e old cut
 IsTurn e end old cut PassOn = (e.to ≤ old.at → cut.at ≤ new_place e old.at → end ≤ cut.at) × ¬ AreMet e old cut
 
--- so many of the old pieces ks and so many of the pieces cs, which begin at this place and stack, end at one place behind what was replaced, with the
+-- the first i of the old pieces ks and the first j of the pieces cs, which begin at this place and stack, end at one place behind what was replaced, with the
 -- same stack
 pub record AreMetAfter (r : ModeRules) (e : Edit) (ks : List Kept) (at : ℕ) (s : Stack) (cs : List Kept) (i j : ℕ) : Type 0 where
   pub behind : e.to ≤ sizes (take i ks)

@@ -12,7 +12,7 @@ use Rattle.lalrpop_modes.specs.Modes.{ModeRules}
 use Rattle.lalrpop_edits.specs.declared.cutter.Cutter.{Cutter}
 use Rattle.lalrpop_edits.specs.declared.memo.Memo.{Memo}
 use Rattle.lalrpop_edits.specs.declared.walker.Walker.{Walker}
-use Rattle.lalrpop_edits.specs.Internal.Walking.{IsRight, IsWalkerOf, next_of, says, behind}
+use Rattle.lalrpop_edits.specs.Internal.Walking.{IsRight, IsWalkerOf, next_of, says, behind, HasOnePlace}
 
 -- the order of a mode, a place of its walk and a place in the text
 abbrev pub order_of : ℕ × (ℕ × ℕ) → ℕ × (ℕ × ℕ) → Ordering
@@ -21,6 +21,10 @@ order_of x y = ordering_then (nat_cmp x.0 y.0) (ordering_then (nat_cmp x.1.0 y.1
 -- n bytes are noted for the mode and its place where the text goes on at the byte `at`
 abbrev pub IsNoted : Memo → ℕ → ℕ → ℕ → ℕ → Type 0
 IsNoted m mode place at n = tree.get order_of m.noted (mode, (place, at)) ≡ Some n
+
+-- something is noted there
+abbrev pub IsKnown : Memo → ℕ → ℕ → ℕ → Type 0
+IsKnown m mode place at = (n : ℕ) × IsNoted m mode place at n
 
 -- each character leads from the place to one that rejects
 abbrev pub IsLast : Walker → ℕ → Type 0
@@ -61,4 +65,5 @@ pub record IsCutter (r : ModeRules) (c : Cutter) (at : ℕ) (text : List ℕ) : 
   pub count : length c.walkers.items ≡ r.modes
   pub right : (m : ℕ) (w : Walker) → slice_get c.walkers.items m ≡ Some w → IsRight w
   pub same : (m : ℕ) (w : Walker) (d : List Row) → slice_get c.walkers.items m ≡ Some w → slice_get r.automata m ≡ Some d → IsWalkerOf w d
+  pub one : (m : ℕ) (w : Walker) (d : List Row) → slice_get c.walkers.items m ≡ Some w → slice_get r.automata m ≡ Some d → HasOnePlace w d
   pub sound : (m : ℕ) (w : Walker) → slice_get c.walkers.items m ≡ Some w → IsSound w c.memo m at text

@@ -57,6 +57,10 @@ pub record IsMet (w : Walker) (place : ℕ) : Type 0 where
 abbrev pub IsWalkerOf : Walker → List Row → Type 0
 IsWalkerOf w d = (word : List ℕ) → All (λ c. c < 1114112) word → IsSomeAnd (slice_get d (after d word)) (λ r. r.kind ≡ says w (behind w word))
 
+-- words that lead to one state of the automaton lead the walk to one place
+abbrev pub HasOnePlace : Walker → List Row → Type 0
+HasOnePlace w d = (u v : List ℕ) → All (λ c. c < 1114112) u → All (λ c. c < 1114112) v → after d u ≡ after d v → behind w u ≡ behind w v
+
 -- where the character at this offset leads to from the row, in a page with this block
 abbrev pub cell_of_block : TableNumbers → ℕ → ℕ → ℕ → ℕ
 cell_of_block t row block offset = slice_index t.cells (row + slice_index t.blocks (block * 128 + offset))

@@ -1,4 +1,4 @@
-use Rattle.std.proofs.Common.{◌≡◌, ◌≤◌, [], length, inl, inr, sym, ◌∙◌}
+use Rattle.std.proofs.Common.{length, inl, inr, sym, ◌∙◌}
 use Rattle.std.proofs.lemmas.Bool.{leb-true}
 use Rattle.lalrpop_edits.proofs.Chunking.{none_comes, some_there}
 use Rattle.lalrpop_edits.proofs.chunks.nothing_matches.Goals as goal

@@ -12,8 +12,10 @@ use Rattle.lalrpop_edits.specs.Internal.Cutting.{moved_place}
 use Rattle.lalrpop_edits.specs.Internal.Starting.{IsStart}
 use Rattle.lalrpop_edits.proofs.BlockLaws.{spot_within}
 use Rattle.lalrpop_edits.specs.declared.meet.Edit.{Edit}
+use Rattle.lalrpop_edits.specs.declared.change.Change.{Change}
 use Rattle.std.proofs.lemmas.List.{length-take-le}
 use Rattle.lalrpop_edits.proofs.LeastChanges.{least}
+use Rattle.lalrpop_edits.proofs.Paying.{all_paid}
 use Rattle.lalrpop_edits.proofs.Relexing.{each_there, old_marked, old_fits, old_count, old_pieces, start_boundary, all_sizes, stacks_meet, new_blocks, changed}
 use Rattle.lalrpop_edits.proofs.edit.cut_anew.Goals as goal
 
@@ -229,3 +231,22 @@ returns-clause-least c =
     s.within met.count
     (record { first = n; removed = d - n; inserted = c.len.result; start = c.in_ok-first.first.place.at; old_end = c.cut_to_meet.new.old.place.at; new_end = there.at })
     refl refl (omega (arith, c.len.ensures, c.cut_to_meet.new.cut.pieces.ok.0)) s.first
+
+pub returns-clause-cost : goal.returns-clause-cost
+returns-clause-cost c =
+    let r = c.args.lexer.now in
+    let text = c.args.text.now in
+    let from = c.in_ok-clone-2.field-0 in
+    let to = c.cut_to_meet.new.cut.place in
+    let met = c.in_ok-cut_to_meet.ensures in
+    let paid = met.paid c.if-not-cutter.false in
+    let change : Change = record {
+      first = c.in_ok-first.first.spot.count;
+      removed = c.cut_to_meet.new.old.spot.count - c.in_ok-first.first.spot.count;
+      inserted = c.len.result;
+      start = c.in_ok-first.first.place.at;
+      old_end = c.cut_to_meet.new.old.place.at;
+      new_end = to.at;
+    } in
+    all_paid r c.in_ok-cutter.cutter c.cut_to_meet.new.cutter text (drop from.at text) from to from.at c.args.steps.now c.cut_to_meet.new.steps paid.0 paid.1.0 change
+    (c.in_ok-cutter.ensures.ready from.at (drop from.at text)) met.walkers c.in_ok-cutter.ensures.automata paid.1.1 (sym (ap (λ (p : Place). p.at) c.in_ok-clone-2.ensures.cases)) refl

@@ -1,4 +1,5 @@
-use Rattle.std.proofs.Common.{◌≢◌, ℕ, ◌+◌, ◌<◌, ◌≤◌, List, length}
+use Rattle.std.proofs.Common.{◌≡◌, ◌≢◌, ℕ, ◌+◌, ◌*◌, ◌<◌, ◌≤◌, true, List, length}
+use Rattle.std.specs.Prelude.{None}
 use Rattle.std.specs.Str.Iter.{char_indices_rest, char_indices_offset}
 use Rattle.lalrpop_book.specs.Tree.{Tree}
 use Rattle.lalrpop_dfa.specs.Dfa.{Row, RecognizesAll}
@@ -6,8 +7,10 @@ use Rattle.lalrpop_dfa.specs.Lookahead.{IsTrim}
 use Rattle.lalrpop_nfa.proofs.Cuts.{IsCut}
 use Rattle.lalrpop_rules.specs.Found.{NoMatchBefore}
 use Rattle.lalrpop_edits.proofs.Fronts.{AreRead, BeginsMore}
+use Rattle.lalrpop_edits.proofs.FrontCosts.{IsWalked}
+use Rattle.lalrpop_edits.specs.Internal.Kept.{IsReadFor}
 use Rattle.lalrpop_edits.specs.Internal.Walking.{IsWalkerOf}
-use Rattle.lalrpop_edits.specs.Internal.Noted.{IsNoted, IsSound}
+use Rattle.lalrpop_edits.specs.Internal.Noted.{IsKnown, IsNoted, IsSound}
 use Rattle.lalrpop_edits.proofs.front.front_by.Given as goal
 
 abbrev pub invariant-loop-offset : goal.invariant-loop-offset
@@ -19,4 +22,11 @@ invariant-loop-offset l = record {
   held : length l.rest < l.reach → (d : List Row) (ts : List Tree) (ps : List ℕ) → IsWalkerOf l.walker d → IsTrim d → RecognizesAll d ts ps → (k : ℕ) × BeginsMore ts l.rest k;
   sound : IsSound l.walker l.memo l.mode l.at l.rest;
   others : (m p e n : ℕ) → m ≢ l.mode → IsNoted l.memo m p e n → IsNoted l.initial.memo m p e n;
+  stays : (m p e : ℕ) → IsKnown l.initial.memo m p e → IsKnown l.memo m p e;
+  whole : l.memo.is_whole ≡ true → l.initial.memo.is_whole ≡ true;
+  reads : (d : List Row) (ts : List Tree) (ps : List ℕ) → IsWalkerOf l.walker d → IsTrim d → RecognizesAll d ts ps → IsReadFor ts l.rest None (char_indices_offset l.offset-iterator) l.reach;
+  paid : l.memo.is_whole ≡ true → (d : List Row) (ts : List Tree) (ps : List ℕ) → IsWalkerOf l.walker d → IsTrim d → RecognizesAll d ts ps
+      → (news : List (ℕ × (ℕ × ℕ))) × ((far : ℕ) × (IsWalked l.walker ts l.initial.memo l.memo l.mode l.at l.rest (char_indices_offset l.offset-iterator) news far
+      × (l.steps ≤ l.initial.steps + 134 * char_indices_offset l.offset-iterator + 128 * length news)));
+  never_falls : l.initial.steps ≤ l.steps;
 }

@@ -5,12 +5,14 @@ use Rattle.std.proofs.lemmas.Str.{IsUtf8-string_bytes}
 use Rattle.lalrpop_modes.specs.Stack.{Stack, start}
 use Rattle.lalrpop_modes.specs.Modes.{ModeRules}
 use Rattle.lalrpop_edits.specs.Lexed.{IsRange, IsChange, IsEarliest}
+use Rattle.lalrpop_edits.specs.Costs.{IsPaidFor}
 use Rattle.lalrpop_edits.specs.declared.block.Block.{Block}
 use Rattle.lalrpop_edits.specs.Internal.Blocks.{AreBlocks, pieces_in}
 use Rattle.lalrpop_edits.specs.Internal.Changing.{IsOld, IsKeptChange}
 use Rattle.lalrpop_edits.proofs.BlockLaws.{blocks_kept}
 use Rattle.lalrpop_edits.proofs.Changes.{is_change}
 use Rattle.lalrpop_edits.proofs.Earliest.{is_earliest}
+use Rattle.lalrpop_edits.proofs.Reaching.{first_reaches}
 use Rattle.lalrpop_edits.proofs.Undoing.{is_edited, boundary_before, back_again}
 use Rattle.lalrpop_edits.proofs.lexed_text.edit_parts.Goals as goal
 
@@ -65,6 +67,32 @@ returns-in-Ok-clause-earliest c =
     subst (λ (p : List ℕ). IsEarliest (record { rules = r; text = before }) (record { rules = r; text = p }) from to size c.in-Ok.change) c.deref-2.ensures
     (is_earliest r before text (record { from = from; to = to; size = size }) (pieces_in old_blocks) (pieces_in new_blocks) c.in-Ok.change c.requires.blocks.0 c.in-Ok.ensures.blocks.0
     are too c.in-Ok.ensures.least)
+
+pub returns-in-Ok-clause-first : goal.returns-in-Ok-clause-first
+returns-in-Ok-clause-first c =
+    let before : List ℕ = string_bytes c.args.text.now in
+    let text : List ℕ = c.deref-2.result.now in
+    let r = c.args.lexer.now in
+    let from = c.args.range.now.start in
+    let to = c.args.range.now.end in
+    let size = length c.args.new.now in
+    let old_blocks = c.args.blocks.now.items in
+    let new_blocks = c.cut_anew.new.blocks.items in
+    let e : text ≡ replace_range before from to c.args.new.now =
+    c.deref-2.ensures ∙ c.in_ok-replace_range.ensures.bytes ∙ ap (λ (p : List ℕ). replace_range p from to c.args.new.now) c.reserve.ensures.bytes in
+    let fits : length before < 2 ^ 63 = omega (arith, ap length c.deref.ensures, c.deref.type_inv.1) in
+    let old : IsOld r old_blocks text from to (length c.args.new.now) before c.requires.blocks.0 =
+    old_of r old_blocks before text c.args.new.now from to c.requires.blocks.0 c.requires.range e fits (omega (arith, c.deref-2.type_inv.1)) c.requires.blocks.1 in
+    let change : IsKeptChange r before text (pieces_in old_blocks) (pieces_in new_blocks) c.in-Ok.change =
+    c.in-Ok.ensures.change before c.requires.blocks.0 old in
+    let are = blocks_kept r before 0 start old_blocks (length before) c.requires.blocks.0 c.requires.blocks.1 in
+    first_reaches r before text (record { from = from; to = to; size = size }) (pieces_in old_blocks) (pieces_in new_blocks) c.in-Ok.change c.requires.blocks.0
+    (IsUtf8-string_bytes c.args.text.now) c.requires.range.begins are change c.in-Ok.ensures.least
+
+pub returns-in-Ok-clause-cost : goal.returns-in-Ok-clause-cost
+returns-in-Ok-clause-cost c =
+    subst (λ (p : List ℕ). IsPaidFor (record { rules = c.args.lexer.now; text = p }) c.in-Ok.change c.args.steps.now c.cut_anew.new.steps) c.deref-2.ensures
+    c.in-Ok.ensures.cost
 
 pub put_back-requires-clause-begins : goal.put_back-requires-clause-begins
 put_back-requires-clause-begins c =

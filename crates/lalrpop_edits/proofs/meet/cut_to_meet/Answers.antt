@@ -7,6 +7,7 @@ use Rattle.lalrpop_edits.specs.Internal.Blocks.{pieces_in, sizes}
 use Rattle.lalrpop_edits.proofs.KeptLaws.{kept_more}
 use Rattle.lalrpop_edits.specs.Internal.Meeting.{new_place, AreMet, AreMetAfter, NoneMet}
 use Rattle.lalrpop_edits.proofs.BlockLaws.{sizes_front, spot_end, kept_sizes}
+use Rattle.lalrpop_edits.proofs.Paying.{none_paid, more_paid}
 use Rattle.lalrpop_edits.proofs.FirstMeeting.{none_cut, none_passed, met_here, next_some}
 use Rattle.lalrpop_edits.proofs.meet.cut_to_meet.Goals as goal
 
@@ -15,6 +16,30 @@ next_turn-requires c = record {
   fits = λ behind.
       omega (arith, behind, c.cut.invariant.old.at, sizes_front c.cut.old.spot.count (pieces_in c.args.blocks.now), c.requires.pieces.within, c.requires.pieces.ends);
 }
+
+pub cut-init : goal.cut-init
+cut-init c =
+    let r = c.args.lexer.now in
+    let text = c.args.text.now in
+    let p = c.args.cut.now.place in
+    let none = c.requires.none in
+    record {
+      old = c.requires.old;
+      block = omega arith;
+      count = omega arith;
+      cut = subst (λ (ks : List Kept). KeptUpTo r text p.at p.stack ks p.at p.stack) (sym none) (refl, refl);
+      boundary = c.requires.boundary;
+      none = record {
+        none = λ i j first last within met. (omega (arith, first, last), omega (arith, within, ap length none));
+        passed = λ i first less behind. absurd (omega (arith, first, less));
+        cut = λ j less. absurd (omega (arith, less, ap length none));
+      };
+      there = c.requires.there;
+      cutter = c.requires.cutter;
+      walkers = refl;
+      paid = λ whole. ([], (p.at, none_paid r c.args.cutter.now text p c.args.steps.now c.requires.boundary));
+      never_falls = omega arith;
+    }
 
 pub cut-preserved-in_ok-push-in-CutOn : goal.cut-preserved-in_ok-push-in-CutOn
 cut-preserved-in_ok-push-in-CutOn c =
@@ -47,6 +72,15 @@ cut-preserved-in_ok-push-in-CutOn c =
       boundary = cut.boundary;
       there = cut.there;
       cutter = cut.cutter;
+      walkers = cut.walkers ∙ inv.walkers;
+      paid = λ whole.
+          let old = inv.paid (cut.whole whole) in
+          let piece = cut.paid whole in (
+            piece.0 ++ old.0,
+            more_paid r c.cut.cutter c.cut_piece.new.cutter text start here c.cut_piece.new.place k c.args.steps.now c.cut.steps c.cut_piece.new.steps old.0 piece.0 old.1.0 piece.1.0
+                cut.walkers cut.stays cut.kept cut.at old.1.1 piece.1.1,
+          );
+      never_falls = omega (arith, inv.never_falls, cut.never_falls);
     }
 
 pub cut-preserved : goal.cut-preserved
@@ -82,6 +116,9 @@ cut-preserved c =
       none = subst (λ (m : ℕ). NoneMet r e ks c.args.old.now.spot.count m start.at start.stack cs) (sym next.0) none;
       there = inv.there;
       cutter = inv.cutter;
+      walkers = inv.walkers;
+      paid = inv.paid;
+      never_falls = inv.never_falls;
     }
 
 pub returns-then-not-branch-clause-behind : goal.returns-then-not-branch-clause-behind

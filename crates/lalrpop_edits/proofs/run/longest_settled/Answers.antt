@@ -1,12 +1,16 @@
-use Rattle.std.proofs.Common.{ℕ, take, drop, refl, sym, subst, ◌∙◌, arith, length-drop}
+use Rattle.std.proofs.Common.{◌≡◌, ℕ, ◌+◌, ◌-◌, ◌*◌, ◌≤◌, List, ◌++◌, length, take, drop, refl, sym, subst, ◌∙◌, arith, length-drop}
+use Rattle.std.specs.Prelude.{Option}
 use Rattle.std.specs.Option.{option_map}
-use Rattle.std.specs.Str.{chars}
+use Rattle.std.specs.List.{All}
+use Rattle.std.specs.Str.{chars, encode_utf8_all}
 use Rattle.std.proofs.lemmas.Str.{IsCharBoundary-from_take}
 use Rattle.lalrpop_edits.specs.Internal.Reach.{IsSettledBy}
 use Rattle.lalrpop_edits.specs.Internal.Walking.{IsMet}
 use Rattle.lalrpop_edits.specs.Internal.Noted.{IsOver}
+use Rattle.lalrpop_edits.specs.Internal.Paying.{AreDistinct, AreUnknown, IsNew}
 use Rattle.lalrpop_edits.proofs.Walking.{met_behind, text_scalars}
 use Rattle.lalrpop_edits.proofs.Noting.{stand_cut, over_longest, last_up_to, over_settles, last_prefix, over_within, over_earliest, whole_sound}
+use Rattle.lalrpop_edits.proofs.Vain.{open_behind, run_paid, stand_size}
 use Rattle.lalrpop_edits.proofs.run.longest_settled.Goals as goal
 
 pub range_from-requires : goal.range_from-requires
@@ -80,3 +84,32 @@ returns-clause-sound c = λ begin i all sum within is sound.
     let there = c.range_from.ensures.value in
     whole_sound c.args.walker.now c.args.memo.now c.note_all.new.memo c.args.mode c.args.at run.end c.args.text.now c.run_along-run.ensures.stand.within
     (λ begin2 i2 all2 sum2 within2 is2 sound2. c.note_all.ensures.sound begin2 i2 all2 sum2 within2 (is2 ∙ sym there) sound2) begin i all sum within is sound
+
+pub returns-clause-all_open : goal.returns-clause-all_open
+returns-clause-all_open c = λ n above below within utf8.
+    let w = c.args.walker.now in
+    let text = c.args.text.now in
+    let run = c.run_along-run.result in
+    let stand = c.run_along-run.ensures.stand in
+    let best : Option (ℕ × List ℕ) = option_map (λ m. (m.0, m.1.now)) run.longest in
+    let over = c.run_along-run.ensures.over in
+    open_behind w text run.end n over.0 (stand_cut w text run.end run.place best stand)
+    (subst (λ (p : ℕ). IsOver w p (chars (drop run.end text)) over.0) stand.reached over.1.1)
+    (omega (arith, above, stand_size w text run.end run.place best stand)) (omega (arith, below, over.1.0)) within utf8
+
+pub returns-clause-paid : goal.returns-clause-paid
+returns-clause-paid c = λ whole.
+    let w = c.args.walker.now in
+    let text = c.args.text.now in
+    let run = c.run_along-run.result in
+    let best : Option (ℕ × List ℕ) = option_map (λ m. (m.0, m.1.now)) run.longest in
+    let vain = c.run_along-run.ensures.vain in
+    let old = c.args.memo.now in
+    let new = c.note_all.new.memo in
+    run_paid w old new c.args.mode c.args.at text run.end run.place run.read c.args.steps.now c.run_along-run.new.steps c.note_all.new.steps best vain.0
+    c.run_along-run.ensures.stand vain.1 c.run_along-run.ensures.cost c.note_all.ensures.cost c.note_all.ensures.few
+    (subst (λ (t : List ℕ). 64 ≤ run.read - run.end → (more : List ℕ) → chars t ≡ vain.0 ++ more → AreUnknown w old c.args.mode (c.args.at + run.end) run.place vain.0
+    → length (encode_utf8_all vain.0) ≤ run.read - run.end → run.read - run.end ≤ length (encode_utf8_all vain.0) + 4 → run.read - run.end ≤ length t
+    → (news : List (ℕ × (ℕ × ℕ))) × (All (IsNew w old new c.args.mode (c.args.at + run.end) t (length (encode_utf8_all vain.0))) news
+    × AreDistinct news × (run.read - run.end ≤ 64 * length news + 67))) c.range_from.ensures.value
+    (λ big more. c.note_all.ensures.news big whole vain.0 more))

@@ -1,6 +1,8 @@
-use Rattle.std.proofs.Common.{◌≡◌, inl, inr, List, [], ◌∷◌, length, ◌+◌, sym, ap, subst, arith, length-append}
+use Rattle.std.proofs.Common.{◌≡◌, inl, inr, List, [], ◌∷◌, length, ◌+◌, sym, ap, subst, arith, length-append, ◌∙◌}
 use Rattle.std.specs.Prelude.{slice_get, Some}
-use Rattle.lalrpop_edits.specs.Internal.Walking.{IsRight}
+use Rattle.std.proofs.lemmas.Bool.{cases_order}
+use Rattle.lalrpop_edits.specs.Internal.Walking.{HasOnePlace, IsRight, IsWalkerOf}
+use Rattle.lalrpop_dfa.specs.Dfa.{Row}
 use Rattle.lalrpop_edits.specs.declared.walker.Walker.{Walker}
 use Rattle.lalrpop_edits.proofs.Noting.{pushed, new_walk}
 use Rattle.lalrpop_edits.proofs.cutter.Cutter.new.Goals as goal
@@ -15,9 +17,14 @@ loop-mode-preserved c =
         | inl old ↦ inv.each m w old
         | inr new ↦ (
           subst IsRight (sym new.1) c.of.ensures.right,
-          λ d there. new_walk c.args.lexer.now.automata w d c.dense.result.now c.lexer.result.now.automaton m c.loop-mode.mode (rw new.1 c.of.ensures.same) c.dense.ensures.same c.lexer.ensures.automaton
-              (omega (arith, new.0, inv.count)) there,
+          λ d there. new_walk (λ (d : List Row). IsWalkerOf w d × HasOnePlace w d) c.args.lexer.now.automata d c.dense.result.now c.lexer.result.now.automaton m c.loop-mode.mode
+              (rw new.1 (c.of.ensures.same, c.of.ensures.one)) c.dense.ensures.same c.lexer.ensures.automaton (omega (arith, new.0, inv.count)) there,
         )
+      ];
+      automata = λ m below. elim (cases_order m c.loop-mode.mode) [
+        | inl same ↦ (c.lexer.result.now.automaton, ap (slice_get c.args.lexer.now.automata) same ∙ c.lexer.ensures.automaton)
+        | inr (inl less) ↦ inv.automata m less
+        | inr (inr more) ↦ absurd (omega (arith, below, more))
       ];
     }
 
@@ -26,7 +33,10 @@ returns c = record {
   ready = λ at text. record {
     count = omega (arith, c.loop-mode.invariant.count, c.loop-mode-test.false, c.loop-mode.auto.mode-end, c.modes-mode-end.ensures.count);
     right = λ m w e. (c.loop-mode.invariant.each m w e).0;
-    same = λ m w d e there. (c.loop-mode.invariant.each m w e).1 d there;
+    same = λ m w d e there. ((c.loop-mode.invariant.each m w e).1 d there).0;
+    one = λ m w d e there. ((c.loop-mode.invariant.each m w e).1 d there).1;
     sound = λ m w e p i n noted. absurd (c.new.ensures.nothing m p (at + i) n noted);
   };
+  automata = λ m below.
+      c.loop-mode.invariant.automata m (omega (arith, below, c.loop-mode-test.false, c.loop-mode.auto.mode-end, c.modes-mode-end.ensures.count));
 }

@@ -1,0 +1,76 @@
+//! What edits cost.
+ghost use Rattle.std.specs.Prelude.{ℕ, ◌+◌, ◌-◌, ◌*◌, ◌<◌, ◌≤◌, length, IfOk, OnOk};
+ghost use Rattle.lalrpop_modes.specs.Modes.{trees_in};
+ghost use Rattle.lalrpop_modes.specs.ModeCut.{open_in_all};
+ghost use Rattle.lalrpop_edits.specs.Lexed.{ReadsTo};
+
+use lalrpop_edits::{EditError, LexedText};
+use lalrpop_modes::ModeLexer;
+use lalrpop_nfa::Steps;
+use std::alloc::Global;
+use std::ops::Range;
+
+// Needs lalrpop_edits::LexedText::edit_counted: cost.
+/// Edits a text. However much of it is cut anew, the steps are linear in the text that there is now: the rules alone give the factor.
+///
+/// # Errors
+///
+/// What is wrong with the edit.
+pub fn edit_within(
+    alloc: Global,
+    lexed: &mut LexedText<'_>,
+    range: Range<usize>,
+    new: &str,
+    steps: &mut Steps,
+) -> Result<(), EditError>
+    ensures cost { OnOk result (steps.new ≤ steps.old + 270 * length lexed.new.text
+        + open_in_all lexed.new.rules * (2 * length lexed.new.text + 256)) }
+{
+    lexed.edit_counted(alloc, range, new, steps)?;
+    Ok(())
+}
+
+// Needs lalrpop_edits::LexedText::new: lexed; lalrpop_edits::LexedText::edit_counted: edited, cost.
+/// The text with its pieces, cut whole in time linear in it.
+///
+/// # Errors
+///
+/// What is wrong with the text.
+pub fn cut_whole<'rules>(
+    alloc: Global,
+    lexer: &'rules ModeLexer,
+    text: &str,
+    steps: &mut Steps,
+) -> Result<LexedText<'rules>, EditError>
+    ensures cost { OnOk result (steps.new ≤ steps.old + 270 * length text.now
+        + open_in_all lexer.now * (2 * length text.now + 256)) }
+{
+    let mut lexed = LexedText::new(alloc, lexer, "")?;
+    lexed.edit_counted(alloc, 0..0, text, steps)?;
+    Ok(lexed)
+}
+
+// Needs lalrpop_edits::LexedText::edit_counted: cost, never_falls.
+/// Edits a text, and says where what was cut anew begins and ends, in bytes. Where nothing from a place in it up to a place behind it
+/// begins a word, what is read is told by its length alone, however long the text is.
+///
+/// # Errors
+///
+/// What is wrong with the edit.
+pub fn edit_near(
+    alloc: Global,
+    lexed: &mut LexedText<'_>,
+    range: Range<usize>,
+    new: &str,
+    steps: &mut Steps,
+) -> Result<(usize, usize), EditError>
+    ensures cost { IfOk result (λ cut.
+        ((mode k far : ℕ) → cut.0 ≤ k → k ≤ cut.1 → cut.1 < far
+        → ¬ ReadsTo (trees_in lexed.new.rules mode) lexed.new.text k far)
+        → steps.new ≤ steps.old + 270 * (cut.1 - cut.0)
+        + open_in_all lexed.new.rules * (2 * (cut.1 - cut.0) + 256)) }
+    ensures never_falls { steps.old ≤ steps.new }
+{
+    let change = lexed.edit_counted(alloc, range, new, steps)?;
+    Ok((change.start, change.new_end))
+}
