@@ -1,16 +1,18 @@
 -- One answer after another.
 use Rattle.std.proofs.Common.{◌≡◌, ◌≢◌, ℕ, ◌+◌, ◌<◌, get_or, Bool, true, false, inl, inr, List, [], ◌∷◌, ◌++◌, length, take, map, refl, sym, ap, subst, ◌∙◌, append_assoc, arith, length-append}
-use Rattle.std.specs.Prelude.{max, codes, if◌then◌else◌, Option, Result, Ok, Err, IfOk, IfErr, OnOk, OnErr}
+use Rattle.std.specs.Prelude.{max, codes, if◌then◌else◌, Option, Some, None, Result, Ok, Err, IfOk, IfErr, IfSome, IfNone, OnOk, OnErr}
 use Rattle.std.specs.Io.KnownBytes.{Appends}
 use Rattle.std.proofs.lemmas.List.{append-nil, take-append-le, take_more, map-append, length-map, length-take-le}
 use Rattle.std.proofs.lemmas.Result.{IfOk-weaker}
 use Rattle.lexdfa_lib.proofs.Known.{Appends-again}
 use Rattle.lexdfa_lib.specs.Watch.{Watch, AppendsPrefix}
 use Rattle.lexdfa_lib.specs.declared.error.RunError.{RunError}
-use Rattle.tokens_lib.specs.Answer.{Answer, silence, followed, refusal, remark, about, Reads, TextOf, is_input, FileGives, FileAnswer, NumberedAnswer, FilesAnswer, cut_files, TextsAnswer, Answered, Refused}
+use Rattle.tokens_lib.specs.Answer.{Answer, silence, followed, refusal, remark, about, Reads, TextOf, is_input, FileGives, ReadingAnswer, FileAnswer, NumberedAnswer, FilesAnswer, cut_files, TextsAnswer, Answered, Refused}
 use Rattle.tokens_lib.specs.Progress.{total_said}
 use Rattle.tokens_lib.specs.declared.command.Verbosity.{Verbosity}
-use Rattle.tokens_lib.specs.Streams.{Given, TakesBy, Takes}
+use Rattle.tokens_lib.specs.Streams.{Given, Reading, AtEnd, Failed, NotOpened, GivesWhole, StreamGives, TakesBy, Takes}
+use Rattle.tokens_lib.specs.TextAnswer.{WholeAnswer}
+use Rattle.tokens_lib.specs.Internal.Tasks.{ReadAnswer}
 use Rattle.lines_lib.proofs.Sending.{Appends-none, AppendsPrefix-behind}
 
 -- ---- answers
@@ -44,20 +46,20 @@ FilesAnswer-more Own n m i j k (first ∷ files) file before own next (h, (a, (b
 -- ---- a FILE
 
 -- it is standard input
-pub from_input : {I : Type 0} (Gives : List ℕ → Given → Type 0) (InputGives : I → I → Given → Type 0) (IsFor : List ℕ → List ℕ → Answer → Type 0) (i j : I) (file : List ℕ) (answer : Answer)
-    → is_input file ≡ true → Reads (λ name. InputGives i j) (TextOf IsFor) (codes "<stdin>") answer → FileAnswer Gives InputGives IsFor i j file answer
-from_input Gives InputGives IsFor i j file answer is reads =
-    subst (λ (b : Bool). Reads (λ name. FileGives Gives InputGives i j b file) (TextOf IsFor) (if b then codes "<stdin>" else file) answer) (sym is) reads
+pub from_input : {I : Type 0} (Gives : List ℕ → Reading → Type 0) (InputGives : I → I → Reading → Type 0) (IsFor : List ℕ → Reading → Answer → Type 0) (i j : I) (file : List ℕ) (answer : Answer)
+    → is_input file ≡ true → ReadAnswer (InputGives i j) (IsFor (codes "<stdin>")) answer → FileAnswer Gives InputGives IsFor i j file answer
+from_input Gives InputGives IsFor i j file answer is (reading, (gives, done)) = (
+  reading,
+  subst (λ (b : Bool). FileGives Gives InputGives i j b file reading × IsFor (if b then codes "<stdin>" else file) reading answer) (sym is) (gives, done),
+)
 
 -- it is read by its name
-pub from_file : {I : Type 0} (Gives : List ℕ → Given → Type 0) (InputGives : I → I → Given → Type 0) (IsFor : List ℕ → List ℕ → Answer → Type 0) (i : I) (file : List ℕ) (answer : Answer)
-    → is_input file ≡ false → Reads Gives (TextOf IsFor) file answer → FileAnswer Gives InputGives IsFor i i file answer
-from_file Gives InputGives IsFor i file answer is reads =
-    subst (λ (b : Bool). Reads (λ name. FileGives Gives InputGives i i b file) (TextOf IsFor) (if b then codes "<stdin>" else file) answer) (sym is) (by reads)
-  where
-    by : Reads Gives (TextOf IsFor) file answer → Reads (λ name. FileGives Gives InputGives i i false file) (TextOf IsFor) file answer
-    by (inl (reason, (gives, e))) = inl (reason, ((refl, gives), e))
-    by (inr (bytes, (gives, is_for))) = inr (bytes, ((refl, gives), is_for))
+pub from_file : {I : Type 0} (Gives : List ℕ → Reading → Type 0) (InputGives : I → I → Reading → Type 0) (IsFor : List ℕ → Reading → Answer → Type 0) (i : I) (file : List ℕ) (answer : Answer)
+    → is_input file ≡ false → ReadAnswer (Gives file) (IsFor file) answer → FileAnswer Gives InputGives IsFor i i file answer
+from_file Gives InputGives IsFor i file answer is (reading, (gives, done)) = (
+  reading,
+  subst (λ (b : Bool). FileGives Gives InputGives i i b file reading × IsFor (if b then codes "<stdin>" else file) reading answer) (sym is) ((refl, gives), done),
+)
 
 -- ---- the named FILEs
 
@@ -69,18 +71,18 @@ pub cut_unnamed : (files : List (List ℕ)) → length files ≡ 0 → cut_files
 cut_unnamed [] none = refl
 cut_unnamed (file ∷ files) none = absurd (omega (arith, none))
 
-pub texts_answered : {I W E : Type 0} (r : Result ℕ RunError) (Gives : List ℕ → Given → Type 0) (InputGives : I → I → Given → Type 0) (IsFor : List ℕ → List ℕ → Answer → Type 0) (i k : I)
+pub texts_answered : {I W E : Type 0} (r : Result ℕ RunError) (Gives : List ℕ → Reading → Type 0) (InputGives : I → I → Reading → Type 0) (IsFor PartFor : List ℕ → Reading → Answer → Type 0) (i k : I)
     (verbosity : Verbosity) (total : Option ℕ) (cut files : List (List ℕ)) (written : W → Option (List ℕ)) (said : E → Option (List ℕ)) (o p : Watch W) (e f : Watch E)
     → total ≡ total_said verbosity (length files) → cut ≡ cut_files files
-    → IfOk r (λ status. (answer : Answer) × (FilesAnswer (NumberedAnswer Gives InputGives IsFor total) 1 i k cut answer × Answered written said o p e f status answer))
-    → IfOk r (λ status. (answer : Answer) × (TextsAnswer Gives InputGives i k verbosity IsFor files answer × Answered written said o p e f status answer))
-texts_answered r Gives InputGives IsFor i k verbosity total cut files written said o p e f total_is cut_is h =
+    → IfOk r (λ status. (answer : Answer) × (FilesAnswer (NumberedAnswer Gives InputGives (ReadingAnswer IsFor) total) 1 i k cut answer × Answered written said o p e f status answer))
+    → IfOk r (λ status. (answer : Answer) × (TextsAnswer Gives InputGives i k verbosity IsFor PartFor files answer × Answered written said o p e f status answer))
+texts_answered r Gives InputGives IsFor PartFor i k verbosity total cut files written said o p e f total_is cut_is h =
     IfOk-weaker r _ _
     (λ status x. (
       x.0,
       (
-        subst (λ (t : Option ℕ). FilesAnswer (NumberedAnswer Gives InputGives IsFor t) 1 i k (cut_files files) x.0) total_is
-            (subst (λ (fs : List (List ℕ)). FilesAnswer (NumberedAnswer Gives InputGives IsFor total) 1 i k fs x.0) cut_is x.1.0),
+        subst (λ (t : Option ℕ). FilesAnswer (NumberedAnswer Gives InputGives (ReadingAnswer IsFor) t) 1 i k (cut_files files) x.0) total_is
+            (subst (λ (fs : List (List ℕ)). FilesAnswer (NumberedAnswer Gives InputGives (ReadingAnswer IsFor) total) 1 i k fs x.0) cut_is x.1.0),
         x.1.1,
       ),
     ))
@@ -161,6 +163,12 @@ pub Answered-refusal : {W E : Type 0} (written : W → Option (List ℕ)) (said 
     → Takes said e f message → Answered written said o o e f status (refusal status message)
 Answered-refusal written said o e f status message takes = (refl, (Appends-none (written o.inner), takes))
 
+pub refused_answered : {W E : Type 0} (r : Result ℕ RunError) (Is : Answer → Type 0) (status : ℕ) (message : List ℕ) (written : W → Option (List ℕ)) (said : E → Option (List ℕ)) (o : Watch W)
+    (e f : Watch E) → Is (refusal status message) → IfOk r (λ s. s ≡ status) → OnOk r (Takes said e f message)
+    → IfOk r (λ s. (answer : Answer) × (Is answer × Answered written said o o e f s answer))
+refused_answered (Err error) Is status message written said o e f is same takes = tt
+refused_answered (Ok s) Is status message written said o e f is same takes = (refusal status message, (is, (same, (Appends-none (written o.inner), takes))))
+
 -- what was refused is answered, since nothing is written
 pub Answered-refused : {W E : Type 0} (written : W → Option (List ℕ)) (said : E → Option (List ℕ)) (o : Watch W) (e f : Watch E) (status : ℕ) (answer : Answer)
     → Refused said e f status answer → Answered written said o o e f status answer
@@ -200,6 +208,77 @@ some_answered {W} {E} r Gives IsFor file bytes slice written said o p e m f give
       ),
     ))
     h
+
+-- ---- what is read
+
+-- what is read of a file that was opened is what the file gives
+pub opening : {R : Type 0} (remaining : R → Option (List ℕ)) (fresh old new : Watch R) (Gives : Reading → Type 0) → old ≡ fresh
+    → ((w : Watch R) (reading : Reading) → StreamGives remaining fresh w reading → Gives reading) → (reading : Reading) → StreamGives remaining old new reading → Gives reading
+opening {R} remaining fresh old new Gives same opens reading given = opens new reading (subst (λ (w : Watch R). StreamGives remaining w new reading) same given)
+
+pub whole_given : {V : Type 0} (r : Result (Option V) RunError) (items : V → List ℕ) (Here : Reading → Type 0) (Gives : List ℕ → Reading → Type 0) (name : List ℕ)
+    → ((reading : Reading) → Here reading → Gives name reading) → IfOk r (λ found. IfSome found (λ v. Here (record { bytes = items v; end = AtEnd })))
+    → IfOk r (λ found. IfSome found (λ v. GivesWhole Gives name (Ok (items v))))
+whole_given (Err error) items Here Gives name opens h = tt
+whole_given (Ok None) items Here Gives name opens h = tt
+whole_given (Ok (Some v)) items Here Gives name opens h = opens (record { bytes = items v; end = AtEnd }) h
+
+pub unread_given : {V E : Type 0} (r : Result (Option V) RunError) (Here : Reading → Type 0) (Gives : List ℕ → Reading → Type 0) (name : List ℕ) (said : E → Option (List ℕ)) (e f : Watch E)
+    → ((reading : Reading) → Here reading → Gives name reading)
+    → IfOk r (λ found. IfNone found ((bytes : List ℕ) × (Here (record { bytes = bytes; end = Failed }) × Takes said e f (about name (codes "read failed")))))
+    → IfOk r (λ found. IfNone found ((reason : List ℕ) × (GivesWhole Gives name (Err reason) × Takes said e f (about name reason))))
+unread_given (Err error) Here Gives name said e f opens h = tt
+unread_given (Ok (Some v)) Here Gives name said e f opens h = tt
+unread_given (Ok None) Here Gives name said e f opens (bytes, (given, takes)) =
+    (codes "read failed", (inr (bytes, (opens (record { bytes = bytes; end = Failed }) given, refl)), takes))
+
+-- it has the same answer
+pub file_answered : {W E : Type 0} (r : Result ℕ RunError) (Here Gives : Reading → Type 0) (IsFor : List ℕ → Reading → Answer → Type 0) (file : List ℕ) (written : W → Option (List ℕ))
+    (said : E → Option (List ℕ)) (o p : Watch W) (e f : Watch E) → ((reading : Reading) → Here reading → Gives reading)
+    → IfOk r (λ status. (answer : Answer) × (ReadAnswer Here (IsFor file) answer × Answered written said o p e f status answer))
+    → IfOk r (λ status. (answer : Answer) × (ReadAnswer Gives (ReadingAnswer IsFor file) answer × Answered written said o p e f status answer))
+file_answered r Here Gives IsFor file written said o p e f opens h =
+    IfOk-weaker r _ _ (λ status x. (x.0, ((x.1.0.0, (opens x.1.0.0 x.1.0.1.0, inr x.1.0.1.1)), x.1.1))) h
+
+-- it wasn't opened
+pub unopened : {W E : Type 0} (Gives : Reading → Type 0) (IsFor : List ℕ → Reading → Answer → Type 0) (file reason : List ℕ) (written : W → Option (List ℕ)) (said : E → Option (List ℕ))
+    (o : Watch W) (e f : Watch E) → Gives (record { bytes = []; end = NotOpened reason }) → Takes said e f (about file reason)
+    → (answer : Answer) × (ReadAnswer Gives (ReadingAnswer IsFor file) answer × Answered written said o o e f 6 answer)
+unopened Gives IsFor file reason written said o e f gives takes = (
+  refusal 6 (about file reason),
+  (
+    (record { bytes = []; end = NotOpened reason }, (gives, inl (reason, (refl, refl)))),
+    Answered-refusal written said o e f 6 (about file reason) takes,
+  ),
+)
+
+-- it was read to its end
+pub whole_answered : {W E : Type 0} (r : Result ℕ RunError) (Gives : Reading → Type 0) (IsFor : List ℕ → List ℕ → Answer → Type 0) (file bytes : List ℕ) (written : W → Option (List ℕ))
+    (said : E → Option (List ℕ)) (o p : Watch W) (e m f : Watch E) → Gives (record { bytes = bytes; end = AtEnd }) → m ≡ e
+    → IfOk r (λ status. (answer : Answer) × (TextOf IsFor file bytes answer × Answered written said o p m f status answer))
+    → IfOk r (λ status. (answer : Answer) × (ReadAnswer Gives (λ reading. WholeAnswer IsFor file reading.bytes reading.end) answer × Answered written said o p e f status answer))
+whole_answered {W} {E} r Gives IsFor file bytes written said o p e m f gives quiet h =
+    IfOk-weaker r _ _
+    (λ status x. (
+      x.0,
+      (
+        (record { bytes = bytes; end = AtEnd }, (gives, x.1.0)),
+        subst (λ (w : Watch E). Answered written said o p w f status x.0) quiet x.1.1,
+      ),
+    ))
+    h
+
+-- a read failed
+pub unread_answered : {W E : Type 0} (Gives : Reading → Type 0) (IsFor : List ℕ → List ℕ → Answer → Type 0) (file : List ℕ) (written : W → Option (List ℕ)) (said : E → Option (List ℕ))
+    (o : Watch W) (e f : Watch E) → (bytes : List ℕ) × (Gives (record { bytes = bytes; end = Failed }) × Takes said e f (about file (codes "read failed")))
+    → (answer : Answer) × (ReadAnswer Gives (λ reading. WholeAnswer IsFor file reading.bytes reading.end) answer × Answered written said o o e f 6 answer)
+unread_answered Gives IsFor file written said o e f (bytes, (gives, takes)) = (
+  refusal 6 (about file (codes "read failed")),
+  (
+    (record { bytes = bytes; end = Failed }, (gives, refl)),
+    Answered-refusal written said o e f 6 (about file (codes "read failed")) takes,
+  ),
+)
 
 -- one more of the files
 pub files_more : {T I : Type 0} (Own : ℕ → I → I → List ℕ → Answer → Type 0) (text : T → List ℕ) (names : List T) (at : ℕ) (d : T) (file : List ℕ) (i j k : I)

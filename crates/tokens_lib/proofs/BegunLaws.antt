@@ -1,18 +1,20 @@
 -- What was written before an error: a prefix of an answer, or nothing.
-use Rattle.std.proofs.Common.{Global, ◌≡◌, ◌≢◌, ℕ, ◌+◌, ◌<◌, get_or, Bool, inl, inr, List, [], ◌++◌, length, take, drop, map, string_bytes, refl, sym, ap, subst, ◌∙◌}
-use Rattle.std.specs.Prelude.{Option, Some, None, Result, Ok, OnErr, option_map}
+use Rattle.std.proofs.Common.{Global, ◌≡◌, ◌≢◌, ℕ, ◌+◌, ◌<◌, get_or, Bool, inl, inr, List, [], ◌∷◌, ◌++◌, length, take, drop, map, string_bytes, refl, sym, ap, subst, ◌∙◌, arith}
+use Rattle.std.specs.Prelude.{◌⊎◌, Option, Some, None, Result, Ok, OnErr, option_map}
 use Rattle.std.specs.Bool.{then_some}
 use Rattle.std.specs.Borrow.{Bor}
 use Rattle.std.specs.Prelude.{String}
 use Rattle.std.specs.Io.KnownBytes.{Appends}
 use Rattle.std.specs.Str.{IsUtf8}
 use Rattle.std.proofs.Math.Seq.{take-nil}
-use Rattle.std.proofs.lemmas.List.{append-nil, map-append, take-append-drop}
+use Rattle.std.proofs.lemmas.List.{append-nil, map-append, take-append-drop, drop_more, length-map, length-take-le}
 use Rattle.std.proofs.lemmas.Result.{on_err_weaker}
 use Rattle.lalrpop_book.specs.Tree.{Tree}
 use Rattle.lalrpop_rule_file.specs.RuleFile.{without_mark}
 use Rattle.lalrpop_modes.specs.Modes.{ModeRules}
+use Rattle.lalrpop_edits.specs.Chunked.{Chunked}
 use Rattle.lalrpop_modes.specs.Stack.{start}
+use Rattle.lalrpop_rules.specs.declared.item.Item.{Item}
 use Rattle.lexdfa_lib.proofs.Known.{Appends-again}
 use Rattle.lexdfa_lib.specs.Answer.{HaveAutomaton}
 use Rattle.lexdfa_lib.specs.Status.{outcome_status}
@@ -23,23 +25,22 @@ use Rattle.lexdfa_lib.specs.declared.outcome.Outcome.{Outcome}
 use Rattle.lexdfa_lib.specs.declared.outcome.Outcome.TheVariants.{Match, NoMatch, All, Stopped, Refused, Ambiguous, Syntax, Line}
 use Rattle.lines_lib.proofs.Sending.{Appends-none, AppendsPrefix-behind, AppendsPrefix-front}
 use Rattle.lines_lib.specs.ClashesShown.{WritesClashes, WritesClashesPrefix}
-use Rattle.lines_lib.specs.TokenLines.{text_lines, WritesTokensPrefix}
-use Rattle.tokens_lib.specs.Answer.{Answer, followed, refusal, remark, Reads, TextOf, NumberedAnswer, FilesAnswer, FirstFilesAnswer, cut_files, FirstTextsAnswer, Begun}
-use Rattle.tokens_lib.specs.ItemLines.{piece_lines, WritesItemsPrefix}
-use Rattle.tokens_lib.specs.PageWritten.{WritesPagePrefix}
+use Rattle.lines_lib.specs.TokenLines.{text_lines, WritesTokens, WritesTokensPrefix}
+use Rattle.tokens_lib.specs.Answer.{Answer, followed, refusal, remark, Reads, TextOf, ReadingAnswer, NumberedAnswer, FilesAnswer, FirstFilesAnswer, cut_files, FirstTextsAnswer, Begun}
+use Rattle.tokens_lib.specs.CutEnds.{BeginsWith, AreGiven}
+use Rattle.tokens_lib.specs.ItemLines.{piece_lines, WritesItemsPart}
 use Rattle.tokens_lib.specs.NamedRules.{RulesOf, LexerOf}
 use Rattle.tokens_lib.specs.Program.{TerminalsOf, TerminalClashesAnswer}
 use Rattle.tokens_lib.specs.Progress.{total_said}
-use Rattle.tokens_lib.specs.Streams.{Given}
-use Rattle.tokens_lib.specs.TextAnswer.{TokensAnswer, PiecesAnswer, PageAnswer}
-use Rattle.tokens_lib.specs.Internal.Tasks.{IsDone}
-use Rattle.tokens_lib.specs.declared.command.Markup.{Markup}
+use Rattle.tokens_lib.specs.Streams.{Given, Reading, AtEnd}
+use Rattle.tokens_lib.specs.TextAnswer.{TextTokens, WholeAnswer, CutAnswer, CutPart, lines_of}
+use Rattle.tokens_lib.specs.Internal.Tasks.{EitherAnswer, ReadAnswer}
 use Rattle.tokens_lib.specs.declared.command.Verbosity.{Verbosity}
-use Rattle.tokens_lib.specs.declared.cut_files.CutResult.{CutResult}
+use Rattle.tokens_lib.specs.declared.cut_end.CutEnd.{CutEnd}
 use Rattle.tokens_lib.specs.declared.layout.LineForm.{LineForm}
 use Rattle.tokens_lib.proofs.AnswerLaws.{files_more}
 use Rattle.tokens_lib.proofs.ProgramLaws.{IsRead, by_lexer, by_terminals}
-use Rattle.tokens_lib.proofs.TextAnswers.{then_some-now, tokens_told, pieces_told, page_told}
+use Rattle.tokens_lib.proofs.TextAnswers.{then_some-now, tokens_told, cut_told, Cuts}
 
 pub Begun-nothing : (Is : Answer → Type 0) (a : Option (List ℕ)) → Begun Is a a
 Begun-nothing Is a = inl (Appends-none a)
@@ -71,32 +72,45 @@ begun_by_write {W} Is contents old new e nothing part = by e nothing part
 -- ---- a text
 
 pub tokens_begun : (ts : List Tree) (ps : List ℕ) (places : Bool) (name : Bor (List ℕ)) (text : List ℕ) (a b : Option (List ℕ))
-    → WritesTokensPrefix ts ps (option_map (λ (f : Bor (List ℕ)). f.now) (then_some places name)) text a b → Begun (TokensAnswer ts ps places name.now text) a b
+    → WritesTokensPrefix ts ps (option_map (λ (f : Bor (List ℕ)). f.now) (then_some places name)) text a b → Begun (TextTokens ts ps places name.now text) a b
 tokens_begun ts ps places name text a b (xs, (are, part)) = inr (
   tokens_told places name.now text xs,
   ((xs, (are, refl)), subst (λ (file : Option (List ℕ)). AppendsPrefix a b (text_lines file text xs)) (then_some-now places name) part),
 )
 
-pub pieces_begun : (rules : ModeRules) (modes : Bor (List (String Global))) (form : LineForm) (recovers several : Bool) (name : Bor (List ℕ)) (text : List ℕ) (a b : Option (List ℕ))
-    → WritesItemsPrefix rules (record { form = form; recovers = recovers; file = then_some several name; modes = modes }) text a b
-    → Begun (PiecesAnswer rules (map string_bytes modes.now) form recovers several name.now text) a b
-pieces_begun rules modes form recovers several name text a b (xs, (end, (are, part))) =
-    let names = map string_bytes modes.now in inr (
-      pieces_told rules names form recovers several name.now text xs end,
-      (
-        (xs, (end, (are, refl))),
-        subst (λ (file : Option (List ℕ)). AppendsPrefix a b (piece_lines form recovers file names rules text start xs)) (then_some-now several name) part,
-      ),
-    )
+-- all of its lines were written
+pub tokens_written : (ts : List Tree) (ps : List ℕ) (places : Bool) (name : Bor (List ℕ)) (text : List ℕ) (a b : Option (List ℕ)) (outcome : Outcome)
+    → WritesTokens ts ps (option_map (λ (f : Bor (List ℕ)). f.now) (then_some places name)) text a b outcome → Begun (TextTokens ts ps places name.now text) a b
+tokens_written ts ps places name text a b outcome (xs, (are, (same, h))) = tokens_begun ts ps places name text a b (xs, (are, whole a b _ h))
 
-pub page_begun : (rules : ModeRules) (modes : List (List ℕ)) (markup : Markup) (name text : List ℕ) (a b : Option (List ℕ)) → WritesPagePrefix rules markup text a b
-    → Begun (PageAnswer rules modes markup name text) a b
-page_begun rules modes markup name text a b (xs, (end, (are, part))) = inr (page_told rules modes markup name text xs end, ((xs, (end, (are, refl))), part))
+-- a part of its pieces was written
+abbrev pub CutsPart : ModeRules → Bool → (List ℕ → List Item → List ℕ) → Reading → Option (List ℕ) → Option (List ℕ) → Type 0
+CutsPart rules recovers out reading held held_now =
+    (text : List ℕ) × ((left : List ℕ) × ((xs : List Item) × ((c : Chunked) × (BeginsWith reading.bytes text left
+    × (AreGiven rules recovers reading text left xs c × AppendsPrefix held held_now (out text xs))))))
 
--- all of a text was written
-pub done_begun : (Is : Answer → Type 0) (a b : Option (List ℕ)) (file text : List ℕ) (ending : CutResult)
-    → (answer : Answer) × (Is answer × ((written : List ℕ) × (IsDone file text written ending answer × Appends a b written))) → Begun Is a b
-done_begun Is a b file text ending (answer, (is, (written, (done, h)))) = Begun-whole Is a b answer is (subst (Appends a b) (sym done.written) h)
+pub cut_begun : (rules : ModeRules) (modes : List (List ℕ)) (recovers : Bool) (out : List ℕ → List ℕ → List Item → List ℕ) (file : List ℕ) (Gives : Reading → Type 0) (a b : Option (List ℕ))
+    → (reading : Reading) × (Gives reading × CutsPart rules recovers (out file) reading a b)
+    → Begun (ReadAnswer Gives (EitherAnswer (λ name. CutAnswer rules modes recovers (out name) name) (λ name. CutPart rules recovers (out name)) file)) a b
+cut_begun rules modes recovers out file Gives a b (reading, (gives, (text, (left, (xs, (c, (begins, (given, part)))))))) = inr (
+  record { status = 0; out = out file text xs; err = [] },
+  ((reading, (gives, inr (text, (left, (xs, (c, (begins, (given, refl)))))))), part),
+)
+
+-- all of them were written
+pub cut_written : (rules : ModeRules) (modes : List (List ℕ)) (recovers : Bool) (out : List ℕ → List ℕ → List Item → List ℕ) (file : List ℕ) (Gives : Reading → Type 0) (a b : Option (List ℕ))
+    (ended : CutEnd) → (reading : Reading) × (Gives reading × Cuts rules recovers (out file) reading a b ended)
+    → Begun (ReadAnswer Gives (EitherAnswer (λ name. CutAnswer rules modes recovers (out name) name) (λ name. CutPart rules recovers (out name)) file)) a b
+cut_written rules modes recovers out file Gives a b ended (reading, (gives, (text, (left, (xs, (is_text, (cut, h))))))) =
+    Begun-whole _ a b (cut_told modes (out file) file text xs ended) (reading, (gives, inl (text, (left, (xs, (ended, (is_text, (cut, refl)))))))) h
+
+-- with the file's name, if there are several
+pub begun_lines : (rules : ModeRules) (modes : Bor (List (String Global))) (form : LineForm) (recovers several : Bool) (name : Bor (List ℕ)) (Gives : Reading → Type 0) (a b : Option (List ℕ))
+    → (reading : Reading) × (Gives reading × WritesItemsPart rules (record { form = form; recovers = recovers; file = then_some several name; modes = modes }) reading a b)
+    → (reading : Reading) × (Gives reading × CutsPart rules recovers (lines_of rules (map string_bytes modes.now) form recovers several name.now) reading a b)
+begun_lines rules modes form recovers several name Gives a b (reading, (gives, (text, (left, (xs, (c, (begins, (given, part)))))))) =
+    let lines = subst (λ (file : Option (List ℕ)). AppendsPrefix a b (piece_lines form recovers file (map string_bytes modes.now) rules text start xs)) (then_some-now several name) part in
+    (reading, (gives, (text, (left, (xs, (c, (begins, (given, lines))))))))
 
 -- bytes are a text
 pub text_begun : (r : Result ℕ RunError) (IsFor : List ℕ → List ℕ → Answer → Type 0) (file bytes text : List ℕ) (a b : Option (List ℕ))
@@ -106,34 +120,104 @@ text_begun r IsFor file bytes text a b is utf8 h =
 
 -- ---- files
 
+-- it was read to its end
+pub whole_begun : (r : Result ℕ RunError) (Gives : Reading → Type 0) (IsFor : List ℕ → List ℕ → Answer → Type 0) (file bytes : List ℕ) (a b : Option (List ℕ))
+    → Gives (record { bytes = bytes; end = AtEnd }) → OnErr r (Begun (TextOf IsFor file bytes) a b)
+    → OnErr r (Begun (ReadAnswer Gives (λ reading. WholeAnswer IsFor file reading.bytes reading.end)) a b)
+whole_begun r Gives IsFor file bytes a b gives h = on_err_weaker r (Begun-weaker _ _ a b (λ answer is. (record { bytes = bytes; end = AtEnd }, (gives, is)))) h
+
+-- the whole answer or a part of one
+pub either_begun : (r : Result ℕ RunError) (Gives : Reading → Type 0) (IsFor PartFor : List ℕ → Reading → Answer → Type 0) (file : List ℕ) (a b : Option (List ℕ))
+    → OnErr r (Begun (ReadAnswer Gives (IsFor file)) a b) → OnErr r (Begun (ReadAnswer Gives (EitherAnswer IsFor PartFor file)) a b)
+either_begun r Gives IsFor PartFor file a b h = on_err_weaker r (Begun-weaker _ _ a b (λ answer is. (is.0, (is.1.0, inl is.1.1)))) h
+
+-- of a file that was opened
+reading_either : (IsFor PartFor : List ℕ → Reading → Answer → Type 0) (file : List ℕ) (reading : Reading) (answer : Answer)
+    → EitherAnswer IsFor PartFor file reading answer → EitherAnswer (ReadingAnswer IsFor) PartFor file reading answer
+reading_either IsFor PartFor file reading answer (inl is) = inl (inr is)
+reading_either IsFor PartFor file reading answer (inr part) = inr part
+
+pub opened_begun : (r : Result ℕ RunError) (Here Gives : Reading → Type 0) (IsFor PartFor : List ℕ → Reading → Answer → Type 0) (file : List ℕ) (a b : Option (List ℕ))
+    → ((reading : Reading) → Here reading → Gives reading) → OnErr r (Begun (ReadAnswer Here (EitherAnswer IsFor PartFor file)) a b)
+    → OnErr r (Begun (ReadAnswer Gives (EitherAnswer (ReadingAnswer IsFor) PartFor file)) a b)
+opened_begun r Here Gives IsFor PartFor file a b opens h =
+    on_err_weaker r
+    (Begun-weaker _ _ a b (λ answer is. (is.0, (opens is.0 is.1.0, reading_either IsFor PartFor file is.0 answer is.1.1))))
+    h
+
+-- with its number
+numbered_either : {I : Type 0} (Gives : List ℕ → Reading → Type 0) (InputGives : I → I → Reading → Type 0) (IsFor PartFor : List ℕ → Reading → Answer → Type 0) (total : Option ℕ) (number : ℕ)
+    (i j : I) (file : List ℕ) (answer : Answer) → NumberedAnswer Gives InputGives (EitherAnswer IsFor PartFor) total number i j file answer
+    → NumberedAnswer Gives InputGives IsFor total number i j file answer ⊎ NumberedAnswer Gives InputGives PartFor total number i j file answer
+numbered_either Gives InputGives IsFor PartFor total number i j file answer (own, ((reading, (gives, inl is)), e)) = inl (own, ((reading, (gives, is)), e))
+numbered_either Gives InputGives IsFor PartFor total number i j file answer (own, ((reading, (gives, inr part)), e)) = inr (own, ((reading, (gives, part)), e))
+
+pub numbered_begun : {I : Type 0} (Gives : List ℕ → Reading → Type 0) (InputGives : I → I → Reading → Type 0) (IsFor PartFor : List ℕ → Reading → Answer → Type 0) (total : Option ℕ) (number : ℕ)
+    (i j : I) (file : List ℕ) (a b : Option (List ℕ)) → Begun (NumberedAnswer Gives InputGives (EitherAnswer IsFor PartFor) total number i j file) a b
+    → Begun (λ answer. NumberedAnswer Gives InputGives IsFor total number i j file answer ⊎ NumberedAnswer Gives InputGives PartFor total number i j file answer) a b
+numbered_begun Gives InputGives IsFor PartFor total number i j file a b h =
+    Begun-weaker _ _ a b (numbered_either Gives InputGives IsFor PartFor total number i j file) h
+
 -- the first of some files, and the others
 fronts : {T : Type 0} (text : T → List ℕ) (names : List T) (i : ℕ) → map text names ≡ map text (take i names) ++ map text (drop i names)
 fronts text names i = ap (map text) (sym (take-append-drop i names)) ∙ map-append text (take i names) (drop i names)
 
--- the answer to some files was written, and a part of that to the next one
-pub files_begun : {T I : Type 0} (Own : ℕ → I → I → List ℕ → Answer → Type 0) (text : T → List ℕ) (names : List T) (at : ℕ) (d : T) (file : List ℕ) (i j k : I)
+-- those behind the next one
+behind : {T : Type 0} (text : T → List ℕ) (names : List T) (at : ℕ) (d : T) (file : List ℕ) → at < length names → file ≡ text (get_or names at d)
+    → map text (drop at names) ≡ file ∷ map text (drop (at + 1) names)
+behind text names at d file within is = ap (map text) (drop_more names at d within) ∙ ap (λ (f : List ℕ). f ∷ map text (drop (at + 1) names)) (sym is)
+
+-- the answer to some files was written, and a part of that to the next one, or of its part
+pub files_begun : {T I : Type 0} (Own Part : ℕ → I → I → List ℕ → Answer → Type 0) (text : T → List ℕ) (names : List T) (at : ℕ) (d : T) (file : List ℕ) (i j k : I)
     (before : Answer) (a b c : Option (List ℕ)) → at < length names → file ≡ text (get_or names at d) → FilesAnswer Own 1 i j (map text (take at names)) before
-    → Appends a b before.out → Begun (Own (at + 1) j k file) b c → Begun (FirstFilesAnswer Own i (map text names)) a c
-files_begun Own text names at d file i j k before a b c within is files h (inl nothing) =
-    Begun-whole (FirstFilesAnswer Own i (map text names)) a c before (map text (take at names), (map text (drop at names), (j, (fronts text names at, files))))
+    → Appends a b before.out → Begun (λ answer. Own (at + 1) j k file answer ⊎ Part (at + 1) j k file answer) b c → Begun (FirstFilesAnswer Own Part i (map text names)) a c
+files_begun Own Part text names at d file i j k before a b c within is files h (inl nothing) =
+    Begun-whole (FirstFilesAnswer Own Part i (map text names)) a c before (map text (take at names), (map text (drop at names), (j, (fronts text names at, inl files))))
     (subst (Appends a c) (append-nil before.out) (Appends-again a b c before.out [] h nothing))
-files_begun Own text names at d file i j k before a b c within is files h (inr (own, (one, part))) = inr (
+files_begun Own Part text names at d file i j k before a b c within is files h (inr (own, (inl one, part))) = inr (
   followed before own,
   (
-    (map text (take (at + 1) names), (map text (drop (at + 1) names), (k, (fronts text names (at + 1), files_more Own text names at d file i j k before own within is files one)))),
+    (map text (take (at + 1) names), (map text (drop (at + 1) names), (k, (fronts text names (at + 1), inl (files_more Own text names at d file i j k before own within is files one))))),
     subst (λ (bytes : List ℕ). AppendsPrefix a c (before.out ++ bytes)) (append-nil own.out) (AppendsPrefix-behind a b c before.out own.out [] h part),
   ),
 )
+files_begun Own Part text names at d file i j k before a b c within is files h (inr (own, (inr one, part))) =
+    let number : at + 1 ≡ length (map text (take at names)) + 1 = omega (arith, length-map (take at names) text, length-take-le at names (omega (arith, within))) in inr (
+      followed before own,
+      (
+        (
+          map text (take at names),
+          (
+            map text (drop at names),
+            (
+              k,
+              (
+                fronts text names at,
+                inr (
+                  file,
+                  (
+                    map text (drop (at + 1) names),
+                    (behind text names at d file within is, (j, (before, (own, (files, (subst (λ (n : ℕ). Part n j k file own) number one, refl)))))),
+                  ),
+                ),
+              ),
+            ),
+          ),
+        ),
+        subst (λ (bytes : List ℕ). AppendsPrefix a c (before.out ++ bytes)) (append-nil own.out) (AppendsPrefix-behind a b c before.out own.out [] h part),
+      ),
+    )
 
 -- of the named ones
-pub texts_begun : {I : Type 0} (r : Result ℕ RunError) (Gives : List ℕ → Given → Type 0) (InputGives : I → I → Given → Type 0) (IsFor : List ℕ → List ℕ → Answer → Type 0) (i : I)
+pub texts_begun : {I : Type 0} (r : Result ℕ RunError) (Gives : List ℕ → Reading → Type 0) (InputGives : I → I → Reading → Type 0) (IsFor PartFor : List ℕ → Reading → Answer → Type 0) (i : I)
     (verbosity : Verbosity) (total : Option ℕ) (cut files : List (List ℕ)) (a b : Option (List ℕ)) → total ≡ total_said verbosity (length files) → cut ≡ cut_files files
-    → OnErr r (Begun (FirstFilesAnswer (NumberedAnswer Gives InputGives IsFor total) i cut) a b) → OnErr r (Begun (FirstTextsAnswer Gives InputGives i verbosity IsFor files) a b)
-texts_begun r Gives InputGives IsFor i verbosity total cut files a b total_is cut_is h =
+    → OnErr r (Begun (FirstFilesAnswer (NumberedAnswer Gives InputGives (ReadingAnswer IsFor) total) (NumberedAnswer Gives InputGives PartFor total) i cut) a b)
+    → OnErr r (Begun (FirstTextsAnswer Gives InputGives i verbosity IsFor PartFor files) a b)
+texts_begun r Gives InputGives IsFor PartFor i verbosity total cut files a b total_is cut_is h =
     on_err_weaker r
     (Begun-weaker _ _ a b
-    (λ answer is. subst (λ (t : Option ℕ). FirstFilesAnswer (NumberedAnswer Gives InputGives IsFor t) i (cut_files files) answer) total_is
-    (subst (λ (fs : List (List ℕ)). FirstFilesAnswer (NumberedAnswer Gives InputGives IsFor total) i fs answer) cut_is is)))
+    (λ answer is. subst (λ (t : Option ℕ). FirstFilesAnswer (NumberedAnswer Gives InputGives (ReadingAnswer IsFor) t) (NumberedAnswer Gives InputGives PartFor t) i (cut_files files) answer) total_is
+    (subst (λ (fs : List (List ℕ)). FirstFilesAnswer (NumberedAnswer Gives InputGives (ReadingAnswer IsFor) total) (NumberedAnswer Gives InputGives PartFor total) i fs answer) cut_is is)))
     h
 
 -- something was said first, which has a status

@@ -4,6 +4,7 @@ mod Arguments
 mod Checked
 mod Command
 mod Compared
+pub mod CutEnds
 mod Emitted
 mod ItemLines
 mod NamedRules

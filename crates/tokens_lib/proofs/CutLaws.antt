@@ -1,52 +1,71 @@
--- What is known of a text while it is cut.
-use Rattle.std.proofs.Common.{◌≡◌, ℕ, ◌+◌, ◌<◌, ◌≤◌, ◌-◌, List, [], ◌∷◌, ◌++◌, length, drop, sym, ap, subst, ◌∙◌, arith}
-use Rattle.std.proofs.lemmas.Str.{IsCharBoundary-start, IsUtf8-drop}
-use Rattle.std.specs.Prelude.{Option, Some, None, IfSome}
-use Rattle.std.specs.Str.{IsUtf8, IsCharBoundary}
-use Rattle.lalrpop_rules.specs.Pieces.{IsPiece, slice_of, start_of}
-use Rattle.lalrpop_rules.specs.declared.item.Item.{Item}
-use Rattle.lalrpop_rules.specs.declared.item.Item.TheVariants.{Token, Skipped, Fault}
-use Rattle.lalrpop_rules.proofs.CallerLaws.{starts_at}
-use Rattle.lalrpop_rules.proofs.FirstMatches.{some_length}
-use Rattle.lalrpop_rules.proofs.Fronts.{boundary_behind}
-use Rattle.lalrpop_rules.proofs.PieceLaws.{is_front, is_some}
-use Rattle.lalrpop_modes.specs.ModeCut.{ModeCut}
-use Rattle.lalrpop_modes.specs.Modes.{ModeRules, trees_in, after, AllOf}
+-- What is known of a text while it comes and is cut.
+use Rattle.std.proofs.Common.{◌≡◌, ℕ, ◌+◌, ◌≤◌, Bool, true, false, inl, inr, List, [], ◌∷◌, ◌++◌, length, take, refl, sym, ap, subst, ◌∙◌, arith, append_assoc, length-append}
+use Rattle.std.proofs.Math.Seq.{take-append_seam}
+use Rattle.std.proofs.lemmas.List.{append-nil, take-append-le}
+use Rattle.std.proofs.lemmas.Str.{IsUtf8-append, IsUtf8-nil, chars-append}
+use Rattle.std.specs.Prelude.{◌||◌, Option, Some, None, is_none, is_some, map, reverse}
+use Rattle.std.specs.Borrow.{Bor}
+use Rattle.std.specs.Str.{chars, IsUtf8}
+use Rattle.lalrpop_lexer.specs.Position.{position_of, place_behind}
+use Rattle.lalrpop_lexer.specs.declared.position.Position.{Position}
+use Rattle.lalrpop_edits.specs.Chunked.{Chunked, GivesFinal, IsFinal, nothing_come, Came, nothing, fed, given, ended}
+use Rattle.lalrpop_edits.specs.Decoded.{Decoding}
+use Rattle.lalrpop_edits.specs.Given.{item_by, item_of}
+use Rattle.lalrpop_edits.specs.Lexed.{placed}
+use Rattle.lalrpop_edits.specs.declared.given_piece.GivenPiece.{GivenPiece}
+use Rattle.lalrpop_edits.proofs.Chunking.{slice_placed}
+use Rattle.lalrpop_edits.proofs.ChunkLaws.{came_nothing, came_more, came_given, came_whole, came_rest}
+use Rattle.lalrpop_modes.specs.Modes.{ModeRules, after, after_all, trees_in, AllOf}
 use Rattle.lalrpop_modes.specs.Stack.{Stack, start, actions_of}
 use Rattle.lalrpop_modes.specs.declared.action.Action.{Action}
 use Rattle.lalrpop_modes.specs.declared.action.Action.TheVariants.{Mode, Push, Pop}
-use Rattle.tokens_lib.specs.ItemLines.{first_fault, end_of}
-use Rattle.tokens_lib.specs.OpenModes.{pushed, pushed_all, open_after, open_behind, open_mode}
-use Rattle.tokens_lib.specs.Internal.CutTexts.{CutText, IsUncut, GivesNext}
-use Rattle.tokens_lib.specs.Internal.Faults.{first_with}
-use Rattle.tokens_lib.specs.declared.text_end.OpenMode.{OpenMode}
-use Rattle.tokens_lib.specs.declared.text_end.TextEnd.{TextEnd}
-use Rattle.tokens_lib.proofs.PieceLines.{AreFirst, firsts_more, first_more, open_more}
+use Rattle.lalrpop_rules.proofs.PieceLaws.{is_front}
+use Rattle.lalrpop_rules.specs.Pieces.{joined, slice_of, start_of}
+use Rattle.lalrpop_rules.specs.declared.item.Item.{Item}
+use Rattle.lalrpop_rules.specs.declared.item.Item.TheVariants.{Token, Skipped, Fault}
+use Rattle.tokens_lib.specs.CutEnds.{first_fault}
+use Rattle.tokens_lib.specs.OpenModes.{pushed, pushed_all, open_after, open_behind}
+use Rattle.tokens_lib.specs.Internal.CutTexts.{BeginWithin, GivesCut, IsCutInto, is_fault, opened_after, opened_by, place_after}
+use Rattle.tokens_lib.specs.Internal.Incoming.{IsFed}
+use Rattle.tokens_lib.specs.declared.cutter.Cutter.{Cutter}
+use Rattle.tokens_lib.specs.declared.incoming.Incoming.{Incoming}
+use Rattle.tokens_lib.proofs.PlaceLaws.{place_behind_slice}
 
--- the text is cut by these rules into these pieces so far
-pub record IsCutInto (rules : ModeRules) (text : List ℕ) (ys : List Item) (c : CutText) : Type 0 where
-  pub rules_are : c.cut.rules ≡ rules
-  pub text_is : c.cut.text ≡ text
-  pub firsts : AreFirst rules text 0 start ys c.cut.at c.cut.stack
-  pub fault : c.fault ≡ first_fault ys
-  pub begins : c.begins ≡ open_behind rules.actions ys []
-  pub place : IsCharBoundary text c.cut.at
-  pub fault_place : IfSome c.fault (IsCharBoundary text)
-  pub begin_places : AllOf (IsCharBoundary text) c.begins
+-- ---- lists of pieces
 
-pub into_none : (rules : ModeRules) (text : List ℕ) (c : CutText) → IsUtf8 text → IsUncut rules text c → IsCutInto rules text [] c
-into_none rules text c u uncut = record {
-  rules_are = uncut.rules_are;
-  text_is = uncut.text_is;
-  firsts = (uncut.place, uncut.stack);
-  fault = uncut.fault;
-  begins = uncut.begins;
-  place = subst (IsCharBoundary text) (sym uncut.place) (IsCharBoundary-start text u);
-  fault_place = subst (λ (o : Option ℕ). IfSome o (IsCharBoundary text)) (sym uncut.fault) tt;
-  begin_places = subst (AllOf (IsCharBoundary text)) (sym uncut.begins) tt;
-}
+pub joined_more : (xs : List Item) (x : Item) → joined (xs ++ x ∷ []) ≡ joined xs ++ slice_of x
+joined_more [] x = append-nil (slice_of x)
+joined_more (y ∷ xs) x = ap (λ (t : List ℕ). slice_of y ++ t) (joined_more xs x) ∙ sym (append_assoc (slice_of y) (joined xs) (slice_of x))
 
--- ---- places
+pub stack_more : (r : ModeRules) (xs : List Item) (x : Item) (s : Stack) → after_all r.actions (xs ++ x ∷ []) s ≡ after r.actions x (after_all r.actions xs s)
+stack_more r [] x s = refl
+stack_more r (y ∷ xs) x s = stack_more r xs x (after r.actions y s)
+
+pub fault_more : (xs : List Item) (x : Item) → is_some (first_fault (xs ++ x ∷ [])) ≡ (is_some (first_fault xs) || is_fault x)
+fault_more [] (Token x) = refl
+fault_more [] (Skipped x) = refl
+fault_more [] (Fault begin slice) = refl
+fault_more (Token y ∷ xs) x = fault_more xs x
+fault_more (Skipped y ∷ xs) x = fault_more xs x
+fault_more (Fault begin slice ∷ xs) x = refl
+
+pub open_more : (r : ModeRules) (xs : List Item) (x : Item) (begins : List ℕ) → open_behind r.actions (xs ++ x ∷ []) begins ≡ open_after r.actions x (open_behind r.actions xs begins)
+open_more r [] x begins = refl
+open_more r (y ∷ xs) x begins = open_more r xs x (open_after r.actions y begins)
+
+-- ---- where they begin
+
+pub begin_later : (m n : ℕ) (xs : List Item) → m ≤ n → BeginWithin m xs → BeginWithin n xs
+begin_later m n [] le begin = tt
+begin_later m n (x ∷ xs) le begin = (omega (arith, begin.0), begin_later m n xs le begin.1)
+
+begin_more : (n : ℕ) (xs : List Item) (x : Item) → BeginWithin n xs → start_of x ≤ n → BeginWithin n (xs ++ x ∷ [])
+begin_more n [] x begin here = (here, tt)
+begin_more n (y ∷ xs) x begin here = (begin.0, begin_more n xs x begin.1 here)
+
+all_later : (m n : ℕ) (ns : List ℕ) → m ≤ n → AllOf (λ k. k ≤ m) ns → AllOf (λ k. k ≤ n) ns
+all_later m n [] le all = tt
+all_later m n (k ∷ ns) le all = (omega (arith, all.0), all_later m n ns le all.1)
 
 all_pushed : (P : ℕ → Type 0) (at : ℕ) (a : Action) (begins : List ℕ) → P at → AllOf P begins → AllOf P (pushed at a begins)
 all_pushed P at (Mode m) begins here all = all
@@ -63,81 +82,228 @@ all_after P actions (Token token) begins here all = all_pushed_all P token.start
 all_after P actions (Skipped token) begins here all = all_pushed_all P token.start (actions_of actions token.index) begins here all
 all_after P actions (Fault begin slice) begins here all = all
 
-fault_after : (P : ℕ → Type 0) (o : Option ℕ) (x : Item) → IfSome o P → P (start_of x) → IfSome (first_with o x) P
-fault_after P (Some n) x h here = h
-fault_after P None (Token token) h here = tt
-fault_after P None (Skipped token) h here = tt
-fault_after P None (Fault begin slice) h here = here
+-- ---- places in place of offsets
 
--- the mode is open at such a place
-pub inside_place : (P : ℕ → Type 0) (mode : ℕ) (begins : List ℕ) → AllOf P begins → IfSome (open_mode mode begins) (λ o. P o.at)
-inside_place P mode [] all = tt
-inside_place P mode (at ∷ begins) all = all.0
+map_pushed : (f : ℕ → Position) (at : ℕ) (a : Action) (begins : List ℕ) → pushed (f at) a (map f begins) ≡ map f (pushed at a begins)
+map_pushed f at (Mode m) begins = refl
+map_pushed f at (Push m) begins = refl
+map_pushed f at Pop [] = refl
+map_pushed f at Pop (top ∷ begins) = refl
+
+map_pushed_all : (f : ℕ → Position) (at : ℕ) (acts : List Action) (begins : List ℕ) → pushed_all (f at) acts (map f begins) ≡ map f (pushed_all at acts begins)
+map_pushed_all f at [] begins = refl
+map_pushed_all f at (a ∷ acts) begins =
+    ap (pushed_all (f at) acts) (map_pushed f at a begins) ∙ map_pushed_all f at acts (pushed at a begins)
+
+map_after : (f : ℕ → Position) (actions : List (List Action)) (x : Item) (begins : List ℕ)
+    → opened_after actions (f (start_of x)) x (map f begins) ≡ map f (open_after actions x begins)
+map_after f actions (Token token) begins = map_pushed_all f token.start (actions_of actions token.index) begins
+map_after f actions (Skipped token) begins = map_pushed_all f token.start (actions_of actions token.index) begins
+map_after f actions (Fault begin slice) begins = refl
+
+-- a place stays where it is when more comes
+pub place_stays : (text more : List ℕ) (n : ℕ) → n ≤ length text → position_of (text ++ more) n ≡ position_of text n
+place_stays text more n within = ap (λ (t : List ℕ). place_behind (chars t)) (take-append-le n text more within)
+
+places_stay : (text more : List ℕ) (n : ℕ) (begins : List ℕ) → n ≤ length text → AllOf (λ k. k ≤ n) begins
+    → map (position_of (text ++ more)) begins ≡ map (position_of text) begins
+places_stay text more n [] within all = refl
+places_stay text more n (k ∷ begins) within all =
+    ap (λ (p : Position). p ∷ map (position_of (text ++ more)) begins) (place_stays text more k (omega (arith, within, all.0)))
+    ∙ ap (λ (ps : List Position). position_of text k ∷ ps) (places_stay text more n begins within all.1)
+
+-- ---- the stack
+
+pub came_stack : (r : ModeRules) (text : List ℕ) (xs : List Item) (c : Chunked) → Came r text xs c → c.stack ≡ after_all r.actions xs start
+came_stack r _ _ _ nothing = refl
+came_stack r _ xs _ (fed {text = text} {c = c} chunk goes came) = came_stack r text xs c came
+came_stack r text _ d (given {xs = xs} {c = c} x gives came) =
+    ap (λ (e : Chunked). e.stack) gives.2 ∙ ap (λ (q : ModeRules). after q.actions x c.stack) (came_rest r text xs c came).2
+    ∙ ap (after r.actions x) (came_stack r text xs c came) ∙ sym (stack_more r xs x start)
+came_stack r text xs _ (ended {c = c} came) = came_stack r text xs c came
+
+-- what was given lies in front
+pub given_front : (r : ModeRules) (text : List ℕ) (xs : List Item) (c : Chunked) → Came r text xs c → take c.at text ≡ joined xs
+given_front r text xs c came =
+    let so_far = came_rest r text xs c came in
+    ap (take c.at) so_far.0 ∙ ap (λ (n : ℕ). take n (joined xs ++ c.rest)) so_far.1 ∙ take-append_seam (joined xs) c.rest
+
+pub place_within : (r : ModeRules) (text : List ℕ) (xs : List Item) (c : Chunked) → Came r text xs c → c.at ≤ length text
+place_within r text xs c came =
+    let so_far = came_rest r text xs c came in
+    omega (arith, so_far.1, ap length so_far.0, length-append (joined xs) c.rest)
+
+-- ---- nothing has come
+
+pub into_none : (rules : ModeRules) (c : Cutter) → c.lexer.now ≡ rules → c.incoming.chunks ≡ nothing_come rules → c.at ≡ 0 → c.has_fault ≡ false → c.places.items ≡ []
+    → c.here ≡ record { line = 1; column = 1 } → IsCutInto rules [] [] c
+unfolding chars
+into_none rules c lexer none at fault places here =
+    let zero_at : c.incoming.chunks.at ≡ 0 = ap (λ (d : Chunked). d.at) none in
+    record {
+      came = came_nothing rules c.incoming.chunks none;
+      lexer = lexer;
+      at = at ∙ sym zero_at;
+      utf8 = IsUtf8-nil;
+      begin = tt;
+      here = here ∙ ap (position_of []) (sym zero_at);
+      fault = fault;
+      places = ap reverse places;
+      opened = tt;
+    }
 
 -- ---- one more piece
 
-module _ (rules : ModeRules) (text : List ℕ) (ys : List Item) (c d : CutText) (x : Item) (is : IsCutInto rules text ys c) (gives : GivesNext c (Some x) d) where
-  -- it is the piece at the place, by the mode on top
-  pub piece_here : IsPiece (trees_in rules c.cut.stack.mode) rules.precedences rules.skips text c.cut.at x
-  piece_here =
-      subst (λ (t : List ℕ). IsPiece (trees_in rules c.cut.stack.mode) rules.precedences rules.skips t c.cut.at x) is.text_is
-      (subst (λ (r : ModeRules). IsPiece (trees_in r c.cut.stack.mode) r.precedences r.skips c.cut.text c.cut.at x) is.rules_are gives.0.0)
+module _ (rules : ModeRules) (text : List ℕ) (xs : List Item) (c d : Cutter) (x : Item) (place : Position) (mode : ℕ) (is : IsCutInto rules text xs c)
+    (gives : GivesCut c x place mode d) where
+  starts_here : start_of x ≡ c.incoming.chunks.at
+  starts_here = gives.gives.1
 
-  -- where it begins, and where the rest begins behind it
-  pub starts_here : start_of x ≡ c.cut.at
-  starts_here = starts_at (trees_in rules c.cut.stack.mode) rules.precedences rules.skips text c.cut.at x piece_here
+  -- where it begins, and in which mode it was read
+  pub place_here : place ≡ position_of text (start_of x)
+  place_here = gives.place_is ∙ is.here ∙ ap (position_of text) (sym starts_here)
 
-  pub rest_behind : d.cut.at ≡ c.cut.at + length (slice_of x)
-  rest_behind = ap (λ (w : ModeCut). w.at) gives.0.1
+  pub mode_here : mode ≡ (after_all rules.actions xs start).mode
+  mode_here = gives.mode_is ∙ ap (λ (s : Stack). s.mode) (came_stack rules text xs c.incoming.chunks is.came)
 
-  pub boundary_here : IsCharBoundary text (start_of x)
-  boundary_here = subst (IsCharBoundary text) (sym starts_here) is.place
+  pub came_on : Came rules text (xs ++ x ∷ []) d.incoming.chunks
+  came_on = came_given rules text xs c.incoming.chunks d.incoming.chunks is.came x gives.gives
 
-  place_behind : IsUtf8 text → IsCharBoundary text d.cut.at
-  place_behind u =
-      subst (IsCharBoundary text) (sym rest_behind)
-      (boundary_behind text c.cut.at (slice_of x) is.place (IsUtf8-drop text c.cut.at u is.place) (is_front (trees_in rules c.cut.stack.mode) rules.precedences rules.skips text c.cut.at x piece_here))
+  at_behind : d.incoming.chunks.at ≡ c.incoming.chunks.at + length (slice_of x)
+  at_behind = ap (λ (e : Chunked). e.at) gives.gives.2
 
-  pub fits_in : IsUtf8 text → start_of x + length (slice_of x) ≤ length text
-  fits_in u = let behind = place_behind u in omega (arith, starts_here, rest_behind, behind.0)
+  here_behind : IsUtf8 (joined xs) → d.here ≡ position_of text d.incoming.chunks.at
+  here_behind u =
+      gives.here ∙ ap (λ (p : Position). place_after p (slice_of x)) (is.here ∙ ap (λ (t : List ℕ). place_behind (chars t)) (given_front rules text xs c.incoming.chunks is.came))
+      ∙ sym (place_behind_slice (joined xs) (slice_of x) u)
+      ∙ ap (λ (t : List ℕ). place_behind (chars t)) (sym (joined_more xs x) ∙ sym (given_front rules text (xs ++ x ∷ []) d.incoming.chunks came_on))
 
-  pub less_left : IsUtf8 text → length text - d.cut.at < length text - c.cut.at
-  less_left u =
-      let behind = place_behind u in
-      omega (arith, rest_behind, behind.0, some_length (slice_of x) (is_some (trees_in rules c.cut.stack.mode) rules.precedences rules.skips text c.cut.at x piece_here))
+  places_behind : reverse d.places.items ≡ map (position_of text) (open_behind rules.actions (xs ++ x ∷ []) [])
+  places_behind =
+      gives.places ∙ ap (λ (r : ModeRules). opened_after r.actions place x (reverse c.places.items)) is.lexer
+      ∙ ap (λ (p : Position). opened_after rules.actions p x (reverse c.places.items)) place_here
+      ∙ ap (opened_after rules.actions (position_of text (start_of x)) x) is.places
+      ∙ map_after (position_of text) rules.actions x (open_behind rules.actions xs [])
+      ∙ ap (map (position_of text)) (sym (open_more rules xs x []))
 
-  -- the stack behind it
-  pub stack_after : d.cut.stack ≡ after rules.actions x c.cut.stack
-  stack_after = ap (λ (w : ModeCut). w.stack) gives.0.1 ∙ ap (λ (r : ModeRules). after r.actions x c.cut.stack) is.rules_are
-
-  pub into_more : IsUtf8 text → IsCutInto rules text (ys ++ x ∷ []) d
-  into_more u =
-      let begins : d.begins ≡ open_after rules.actions x c.begins = gives.1.1.1 ∙ ap (λ (r : ModeRules). open_after r.actions x c.begins) is.rules_are in
+  pub into_more : IsCutInto rules text (xs ++ x ∷ []) d
+  into_more =
+      let later : c.incoming.chunks.at ≤ d.incoming.chunks.at = omega (arith, at_behind) in
+      let here : start_of x ≤ d.incoming.chunks.at = omega (arith, at_behind, starts_here) in
+      let P : ℕ → Type 0 = λ k. k ≤ d.incoming.chunks.at in
       record {
-        rules_are = ap (λ (w : ModeCut). w.rules) gives.0.1 ∙ is.rules_are;
-        text_is = ap (λ (w : ModeCut). w.text) gives.0.1 ∙ is.text_is;
-        firsts =
-            subst (λ (s : Stack). AreFirst rules text 0 start (ys ++ x ∷ []) d.cut.at s) (sym stack_after)
-            (subst (λ (n : ℕ). AreFirst rules text 0 start (ys ++ x ∷ []) n (after rules.actions x c.cut.stack)) (sym rest_behind)
-            (firsts_more rules text 0 start ys c.cut.at c.cut.stack x is.firsts piece_here));
-        fault = gives.1.1.0 ∙ ap (λ (o : Option ℕ). first_with o x) is.fault ∙ sym (first_more ys x);
-        begins = begins ∙ ap (open_after rules.actions x) is.begins ∙ sym (open_more rules.actions ys x []);
-        place = place_behind u;
-        fault_place = subst (λ (o : Option ℕ). IfSome o (IsCharBoundary text)) (sym gives.1.1.0) (fault_after (IsCharBoundary text) c.fault x is.fault_place boundary_here);
-        begin_places = subst (AllOf (IsCharBoundary text)) (sym begins) (all_after (IsCharBoundary text) rules.actions x c.begins boundary_here is.begin_places);
+        came = came_on;
+        lexer = ap (λ l. l.now) gives.lexer ∙ is.lexer;
+        at = gives.at ∙ ap (λ (n : ℕ). n + length (slice_of x)) is.at ∙ sym at_behind;
+        utf8 = subst IsUtf8 (sym (joined_more xs x)) (IsUtf8-append (joined xs) (slice_of x) is.utf8 gives.utf8);
+        begin = begin_more d.incoming.chunks.at xs x (begin_later c.incoming.chunks.at d.incoming.chunks.at xs later is.begin) here;
+        here = here_behind is.utf8;
+        fault = gives.fault ∙ ap (λ (b : Bool). b || is_fault x) is.fault ∙ sym (fault_more xs x);
+        places = places_behind;
+        opened =
+            subst (AllOf P) (sym (open_more rules xs x []))
+            (all_after P rules.actions x (open_behind rules.actions xs []) here (all_later c.incoming.chunks.at d.incoming.chunks.at (open_behind rules.actions xs []) later is.opened));
       }
 
--- ---- no more piece
+-- ---- what a call gave
 
-pub nothing_left : (rules : ModeRules) (text : List ℕ) (ys : List Item) (c d : CutText) → IsCutInto rules text ys c → GivesNext c None d → drop c.cut.at text ≡ []
-nothing_left rules text ys c d is gives = ap (λ (t : List ℕ). drop c.cut.at t) (sym is.text_is) ∙ gives.1
+pub slice_by : (rule : Option ℕ) (skipped : Bool) (at : ℕ) (slice : Bor (List ℕ)) → slice_of (item_by rule skipped at slice) ≡ slice.now
+slice_by None skipped at slice = refl
+slice_by (Some i) true at slice = refl
+slice_by (Some i) false at slice = refl
 
-abbrev the_end : Option ℕ → Option OpenMode → TextEnd
-the_end fault inside = record { fault = fault; inside = inside }
+pub fault_by : (rule : Option ℕ) (skipped : Bool) (at : ℕ) (slice : Bor (List ℕ)) → is_fault (item_by rule skipped at slice) ≡ is_none rule
+fault_by None skipped at slice = refl
+fault_by (Some i) true at slice = refl
+fault_by (Some i) false at slice = refl
 
--- how it ends
-pub end_is : (rules : ModeRules) (text : List ℕ) (ys : List Item) (c : CutText) (end : Stack) (ended : TextEnd) → IsCutInto rules text ys c → c.cut.stack ≡ end
-    → ended ≡ record { fault = c.fault; inside = open_mode c.cut.stack.mode c.begins } → ended ≡ end_of rules ys end
-end_is rules text ys c end ended is stack e =
-    e ∙ ap (λ (o : Option ℕ). the_end o (open_mode c.cut.stack.mode c.begins)) is.fault ∙ ap (λ (s : Stack). the_end (first_fault ys) (open_mode s.mode c.begins)) stack
-    ∙ ap (λ (b : List ℕ). the_end (first_fault ys) (open_mode end.mode b)) is.begins
+after_by : (actions : List (List Action)) (place : Position) (rule : Option ℕ) (skipped : Bool) (at : ℕ) (slice : Bor (List ℕ)) (places : List Position)
+    → opened_after actions place (item_by rule skipped at slice) places ≡ opened_by actions place rule places
+after_by actions place None skipped at slice places = refl
+after_by actions place (Some i) true at slice places = refl
+after_by actions place (Some i) false at slice places = refl
+
+-- a piece was given to the chunks, and noted
+pub gives_cut : (c d : Cutter) (chunks : Chunked) (decoder : Decoding) (begun : Bool) (piece : GivenPiece) (slice : Bor (List ℕ)) (mode : ℕ)
+    → GivesFinal c.incoming.chunks (Some (item_of piece slice)) chunks → slice.now ≡ chunks.last → mode ≡ c.incoming.chunks.stack.mode
+    → IsUtf8 chunks.last → d.incoming ≡ record { chunks = chunks; decoder = decoder; has_begun = begun } → decoder ≡ c.incoming.decoder → begun ≡ c.incoming.has_begun → d.lexer ≡ c.lexer
+    → d.here ≡ place_after c.here chunks.last → d.at ≡ c.at + length chunks.last → d.has_fault ≡ (c.has_fault || is_none piece.rule)
+    → reverse d.places.items ≡ opened_by c.lexer.now.actions c.here piece.rule (reverse c.places.items)
+    → GivesCut c (item_of piece slice) c.here mode d
+gives_cut c d chunks decoder begun piece slice mode gives same in_mode u incoming decoded so_far lexer here at fault places =
+    let bytes : chunks.last ≡ slice_of (item_of piece slice) = sym same ∙ sym (slice_by piece.rule piece.is_skipped piece.start slice) in
+    record {
+      gives = subst (GivesFinal c.incoming.chunks (Some (item_of piece slice))) (sym (ap (λ (i : Incoming). i.chunks) incoming)) gives;
+      utf8 = subst IsUtf8 bytes u;
+      decoder = ap (λ (i : Incoming). i.decoder) incoming ∙ decoded;
+      begun = ap (λ (i : Incoming). i.has_begun) incoming ∙ so_far;
+      lexer = lexer;
+      at = at ∙ ap (λ (t : List ℕ). c.at + length t) bytes;
+      place_is = refl;
+      mode_is = in_mode;
+      here = here ∙ ap (place_after c.here) bytes;
+      fault = fault ∙ ap (λ (b : Bool). c.has_fault || b) (sym (fault_by piece.rule piece.is_skipped piece.start slice));
+      places = places ∙ sym (after_by c.lexer.now.actions c.here piece.rule piece.is_skipped piece.start slice (reverse c.places.items));
+    }
+
+-- ---- a fault
+
+front_of_rest : (c : Chunked) (x : Item) → IsFinal c x → (behind : List ℕ) × (c.rest ≡ slice_of x ++ behind)
+front_of_rest c x final =
+    let front = is_front (trees_in c.rules c.stack.mode) c.rules.precedences c.rules.skips (c.rest ++ []) 0 (placed 0 x) (final [] (λ _. refl)) in
+    (front.0, sym (append-nil c.rest) ∙ front.1.0 ∙ ap (λ (p : List ℕ). p ++ front.0) (slice_placed 0 x))
+
+first_of : (cs ds : List ℕ) (found : ℕ) → take 1 cs ≡ found ∷ [] → take 1 (cs ++ ds) ≡ found ∷ []
+first_of [] ds found e = absurd (cc (e))
+first_of (d ∷ cs) ds found e = e
+
+-- its first character is the first one of the rest
+pub first_of_rest : (c : Chunked) (x : Item) (found : ℕ) → IsFinal c x → IsUtf8 (slice_of x) → take 1 (chars (slice_of x)) ≡ found ∷ [] → take 1 (chars c.rest) ≡ found ∷ []
+first_of_rest c x found final u e =
+    let front = front_of_rest c x final in
+    ap (λ (t : List ℕ). take 1 (chars t)) front.1 ∙ ap (take 1) (chars-append (slice_of x) front.0 u) ∙ first_of (chars (slice_of x)) (chars front.0) found e
+
+-- ---- more comes
+
+-- the same, but for what comes
+pub record IsSameCut (c d : Cutter) : Type 0 where
+  pub lexer : d.lexer ≡ c.lexer
+  pub at : d.at ≡ c.at
+  pub here : d.here ≡ c.here
+  pub fault : d.has_fault ≡ c.has_fault
+  pub places : d.places ≡ c.places
+
+into_later : (rules : ModeRules) (text more : List ℕ) (xs : List Item) (c d : Cutter) → IsCutInto rules text xs c → IsSameCut c d
+    → d.incoming.chunks.at ≡ c.incoming.chunks.at → Came rules (text ++ more) xs d.incoming.chunks → IsCutInto rules (text ++ more) xs d
+into_later rules text more xs c d is same at came =
+    let within = place_within rules text xs c.incoming.chunks is.came in
+    record {
+      came = came;
+      lexer = ap (λ l. l.now) same.lexer ∙ is.lexer;
+      at = same.at ∙ is.at ∙ sym at;
+      utf8 = is.utf8;
+      begin = subst (λ (n : ℕ). BeginWithin n xs) (sym at) is.begin;
+      here = same.here ∙ is.here ∙ sym (place_stays text more c.incoming.chunks.at within) ∙ ap (position_of (text ++ more)) (sym at);
+      fault = same.fault ∙ is.fault;
+      places = ap (λ ps. reverse ps.items) same.places ∙ is.places ∙ sym (places_stay text more c.incoming.chunks.at (open_behind rules.actions xs []) within is.opened);
+      opened = subst (λ (n : ℕ). AllOf (λ k. k ≤ n) (open_behind rules.actions xs [])) (sym at) is.opened;
+    }
+
+-- a part of the text comes
+pub into_fed : (rules : ModeRules) (text chunk : List ℕ) (xs : List Item) (c d : Cutter) → IsCutInto rules text xs c → IsSameCut c d
+    → c.incoming.chunks.is_ended ≡ false → IsFed c.incoming.chunks chunk d.incoming.chunks → IsCutInto rules (text ++ chunk) xs d
+into_fed rules text chunk xs c d is same goes (inl more) =
+    into_later rules text chunk xs c d is same (ap (λ (e : Chunked). e.at) more)
+    (came_more rules text xs c.incoming.chunks d.incoming.chunks is.came chunk goes more)
+into_fed rules text chunk xs c d is same goes (inr (none, old)) =
+    let all : text ++ chunk ≡ text = ap (λ (t : List ℕ). text ++ t) none ∙ append-nil text in
+    into_later rules text chunk xs c d is same (ap (λ (e : Chunked). e.at) old)
+    (subst (λ (t : List ℕ). Came rules t xs d.incoming.chunks) (sym all) (subst (Came rules text xs) (sym old) is.came))
+
+-- no more comes
+pub into_whole : (rules : ModeRules) (text : List ℕ) (xs : List Item) (c d : Cutter) → IsCutInto rules text xs c → IsSameCut c d
+    → d.incoming.chunks ≡ record c.incoming.chunks { is_ended = true } → IsCutInto rules text xs d
+into_whole rules text xs c d is same over =
+    subst (λ (t : List ℕ). IsCutInto rules t xs d) (append-nil text)
+    (into_later rules text [] xs c d is same (ap (λ (e : Chunked). e.at) over)
+    (subst (λ (t : List ℕ). Came rules t xs d.incoming.chunks) (sym (append-nil text)) (came_whole rules text xs c.incoming.chunks d.incoming.chunks is.came over)))

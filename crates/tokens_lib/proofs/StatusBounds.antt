@@ -12,7 +12,7 @@ use Rattle.lalrpop_modes.specs.declared.mode_rule.ModeRule.{ModeRule}
 use Rattle.lexdfa_lib.specs.Status.{outcome_status}
 use Rattle.lexdfa_lib.specs.declared.outcome.Outcome.{Outcome}
 use Rattle.lexdfa_lib.specs.declared.outcome.Outcome.TheVariants as outcomes
-use Rattle.tokens_lib.specs.Answer.{Answer, remark, Reads, TextOf, is_input, shown_name, FileGives, NumberedAnswer, FilesAnswer, cut_files, TextsAnswer}
+use Rattle.tokens_lib.specs.Answer.{Answer, remark, Reads, TextOf, shown_name, ReadingAnswer, NumberedAnswer, FilesAnswer, cut_files, TextsAnswer}
 use Rattle.tokens_lib.specs.Checked.{CheckAnswer, finding}
 use Rattle.tokens_lib.specs.Compared.{DifferenceAnswer, text_status}
 use Rattle.tokens_lib.specs.Emitted.{SourceAnswer}
@@ -22,13 +22,16 @@ use Rattle.tokens_lib.specs.Program.{TerminalsOf, reported_status, TerminalClash
 use Rattle.tokens_lib.specs.ReviewLines.{has_findings}
 use Rattle.tokens_lib.specs.Warned.{is_said}
 use Rattle.tokens_lib.specs.Progress.{total_said}
-use Rattle.tokens_lib.specs.Streams.{Given}
-use Rattle.tokens_lib.specs.TextAnswer.{fault_status, end_status, TokensAnswer, PiecesAnswer, PageAnswer}
+use Rattle.tokens_lib.specs.Streams.{Given, Reading, ReadEnd, AtEnd, Failed, NotOpened, LeftOff, GivesWhole}
+use Rattle.tokens_lib.specs.TextAnswer.{fault_status, TextTokens, WholeAnswer, TokensAnswer, cut_status, CutAnswer, lines_of, PiecesAnswer, PiecesPart, PageAnswer, PagePart}
 use Rattle.tokens_lib.specs.declared.command.Command.{Command}
 use Rattle.tokens_lib.specs.declared.command.Language.{Language}
 use Rattle.tokens_lib.specs.declared.command.Markup.{Markup}
 use Rattle.tokens_lib.specs.declared.layout.LineForm.{LineForm}
-use Rattle.tokens_lib.specs.declared.text_end.OpenMode.{OpenMode}
+use Rattle.tokens_lib.specs.declared.cut_end.CutEnd.{CutEnd}
+use Rattle.tokens_lib.specs.declared.cut_end.CutEnd.TheVariants.{Whole, Stopped, Broken}
+use Rattle.lalrpop_rules.specs.declared.item.Item.{Item}
+use Rattle.tokens_lib.specs.PageWritten.{page_of}
 use Rattle.tokens_lib.specs.declared.command.Action.{Action}
 use Rattle.tokens_lib.specs.declared.command.Action.TheVariants.{Cut, Show, CutByTerminals, Clashes, TerminalClashes, Emit, Picture, Check, Difference}
 use Rattle.tokens_lib.specs.declared.command.Command.TheVariants.{Help, Version, Run}
@@ -44,10 +47,13 @@ fault_low : (fault : Option ℕ) → fault_status fault ≤ 6
 fault_low None = omega arith
 fault_low (Some at) = omega arith
 
-end_low : (fault : Option ℕ) (inside : Option OpenMode) → end_status fault inside ≤ 6
-end_low None None = omega arith
-end_low None (Some o) = omega arith
-end_low (Some at) inside = omega arith
+cut_status_low : (ended : CutEnd) → cut_status ended ≤ 6
+cut_status_low (Whole false None) = omega arith
+cut_status_low (Whole false (Some o)) = omega arith
+cut_status_low (Whole true None) = omega arith
+cut_status_low (Whole true (Some o)) = omega arith
+cut_status_low (Stopped place found) = omega arith
+cut_status_low (Broken error) = omega arith
 
 rules_low : (error : ModesError) → rules_status error ≤ 6
 rules_low (errors.NoSuchMode i m) = omega arith
@@ -77,14 +83,23 @@ text_low : (IsFor : List ℕ → List ℕ → Answer → Type 0) (file bytes : L
 text_low IsFor file bytes answer each (inl (at, (lacks, e))) = low answer _ e (omega arith)
 text_low IsFor file bytes answer each (inr (utf8, is)) = each file (without_mark bytes) answer is
 
-file_low : (Gives : List ℕ → Given → Type 0) (IsFor : List ℕ → List ℕ → Answer → Type 0) (file : List ℕ) (answer : Answer)
-    → ((name text : List ℕ) (a : Answer) → IsFor name text a → IsLow a) → Reads Gives (TextOf IsFor) file answer → IsLow answer
-file_low Gives IsFor file answer each reads = reads_low Gives (TextOf IsFor) file answer (λ bytes a is. text_low IsFor file bytes a each is) reads
+whole_low : (IsFor : List ℕ → List ℕ → Answer → Type 0) (file bytes : List ℕ) (end : ReadEnd) (answer : Answer)
+    → ((name text : List ℕ) (a : Answer) → IsFor name text a → IsLow a) → WholeAnswer IsFor file bytes end answer → IsLow answer
+whole_low IsFor file bytes AtEnd answer each is = text_low IsFor file bytes answer each is
+whole_low IsFor file bytes Failed answer each is = low answer _ is (omega arith)
+whole_low IsFor file bytes (NotOpened reason) answer each is = absurd is
+whole_low IsFor file bytes LeftOff answer each is = absurd is
 
-numbered_low : {I : Type 0} (Gives : List ℕ → Given → Type 0) (InputGives : I → I → Given → Type 0) (IsFor : List ℕ → List ℕ → Answer → Type 0) (total : Option ℕ) (number : ℕ) (i j : I)
-    (file : List ℕ) (answer : Answer) → ((name text : List ℕ) (a : Answer) → IsFor name text a → IsLow a) → NumberedAnswer Gives InputGives IsFor total number i j file answer → IsLow answer
-numbered_low Gives InputGives IsFor total number i j file answer each (own, (reads, e)) =
-    let a : IsLow own = file_low (λ name. FileGives Gives InputGives i j (is_input file) file) IsFor (shown_name file) own each reads in
+reading_low : (IsFor : List ℕ → Reading → Answer → Type 0) (file : List ℕ) (reading : Reading) (answer : Answer)
+    → ((name : List ℕ) (read : Reading) (a : Answer) → IsFor name read a → IsLow a) → ReadingAnswer IsFor file reading answer → IsLow answer
+reading_low IsFor file reading answer each (inl (reason, (unopened, e))) = low answer _ e (omega arith)
+reading_low IsFor file reading answer each (inr is) = each file reading answer is
+
+numbered_low : {I : Type 0} (Gives : List ℕ → Reading → Type 0) (InputGives : I → I → Reading → Type 0) (IsFor : List ℕ → Reading → Answer → Type 0) (total : Option ℕ) (number : ℕ) (i j : I)
+    (file : List ℕ) (answer : Answer) → ((name : List ℕ) (read : Reading) (a : Answer) → IsFor name read a → IsLow a)
+    → NumberedAnswer Gives InputGives (ReadingAnswer IsFor) total number i j file answer → IsLow answer
+numbered_low Gives InputGives IsFor total number i j file answer each (own, ((reading, (gives, is)), e)) =
+    let a : IsLow own = reading_low IsFor (shown_name file) reading own each is in
     low answer _ e (omega arith)
 
 files_low : {I : Type 0} (Own : ℕ → I → I → List ℕ → Answer → Type 0) (number : ℕ) (i k : I) (files : List (List ℕ)) (answer : Answer)
@@ -95,11 +110,11 @@ files_low Own number i k (file ∷ files) answer each (j, (own, (rest, (reads, (
     let b : IsLow rest = files_low Own (number + 1) j k files rest each others in
     low answer _ e (omega arith)
 
-texts_low : {I : Type 0} (Gives : List ℕ → Given → Type 0) (InputGives : I → I → Given → Type 0) (i k : I) (verbosity : Verbosity) (IsFor : List ℕ → List ℕ → Answer → Type 0)
+texts_low : {I : Type 0} (Gives : List ℕ → Reading → Type 0) (InputGives : I → I → Reading → Type 0) (i k : I) (verbosity : Verbosity) (IsFor PartFor : List ℕ → Reading → Answer → Type 0)
     (files : List (List ℕ)) (answer : Answer)
-    → ((name text : List ℕ) (a : Answer) → IsFor name text a → IsLow a) → TextsAnswer Gives InputGives i k verbosity IsFor files answer → IsLow answer
-texts_low Gives InputGives i k verbosity IsFor files answer each is =
-    files_low (NumberedAnswer Gives InputGives IsFor (total_said verbosity (length files))) 1 i k (cut_files files) answer
+    → ((name : List ℕ) (read : Reading) (a : Answer) → IsFor name read a → IsLow a) → TextsAnswer Gives InputGives i k verbosity IsFor PartFor files answer → IsLow answer
+texts_low Gives InputGives i k verbosity IsFor PartFor files answer each is =
+    files_low (NumberedAnswer Gives InputGives (ReadingAnswer IsFor) (total_said verbosity (length files))) 1 i k (cut_files files) answer
     (λ n x y file a own. numbered_low Gives InputGives IsFor (total_said verbosity (length files)) n x y file a each own) is
 
 -- what is said of the file has a low status, and so has what is answered for its rules
@@ -156,15 +171,22 @@ reported_low (Some outcome) = outcome_low outcome
 terminal_list_low : (file bytes : List ℕ) (answer : Answer) → TerminalClashesAnswer file bytes answer → IsLow answer
 terminal_list_low file bytes answer (reported, (are, (e, said))) = let l = reported_low reported in omega (arith, e, l)
 
-tokens_low : (ts : List Tree) (ps : List ℕ) (places : Bool) (name text : List ℕ) (answer : Answer) → TokensAnswer ts ps places name text answer → IsLow answer
-tokens_low ts ps places name text answer (xs, (are, e)) = low answer _ e (fault_low _)
+text_tokens_low : (ts : List Tree) (ps : List ℕ) (places : Bool) (name text : List ℕ) (answer : Answer) → TextTokens ts ps places name text answer → IsLow answer
+text_tokens_low ts ps places name text answer (xs, (are, e)) = low answer _ e (fault_low _)
 
-pieces_low : (set : ModeRules) (modes : List (List ℕ)) (form : LineForm) (recovers several : Bool) (name text : List ℕ) (answer : Answer)
-    → PiecesAnswer set modes form recovers several name text answer → IsLow answer
-pieces_low set modes form recovers several name text answer (xs, (end, (are, e))) = low answer _ e (end_low _ _)
+tokens_low : (ts : List Tree) (ps : List ℕ) (places : Bool) (name : List ℕ) (reading : Reading) (answer : Answer) → TokensAnswer ts ps places name reading answer → IsLow answer
+tokens_low ts ps places name reading answer is = whole_low (TextTokens ts ps places) name reading.bytes reading.end answer (text_tokens_low ts ps places) is
 
-page_low : (set : ModeRules) (modes : List (List ℕ)) (markup : Markup) (name text : List ℕ) (answer : Answer) → PageAnswer set modes markup name text answer → IsLow answer
-page_low set modes markup name text answer (xs, (end, (are, e))) = low answer _ e (end_low _ _)
+cut_low : (set : ModeRules) (modes : List (List ℕ)) (recovers : Bool) (out : List ℕ → List Item → List ℕ) (name : List ℕ) (reading : Reading) (answer : Answer)
+    → CutAnswer set modes recovers out name reading answer → IsLow answer
+cut_low set modes recovers out name reading answer (text, (left, (xs, (ended, (is_text, (cut, e)))))) = low answer _ e (cut_status_low ended)
+
+pieces_low : (set : ModeRules) (modes : List (List ℕ)) (form : LineForm) (recovers several : Bool) (name : List ℕ) (reading : Reading) (answer : Answer)
+    → PiecesAnswer set modes form recovers several name reading answer → IsLow answer
+pieces_low set modes form recovers several name reading answer is = cut_low set modes recovers (lines_of set modes form recovers several name) name reading answer is
+
+page_low : (set : ModeRules) (modes : List (List ℕ)) (markup : Markup) (name : List ℕ) (reading : Reading) (answer : Answer) → PageAnswer set modes markup name reading answer → IsLow answer
+page_low set modes markup name reading answer is = cut_low set modes true (λ text xs. page_of markup set.names xs) name reading answer is
 
 source_low : (language : Language) (file : List ℕ) (set : ModeRules) (answer : Answer) → SourceAnswer language file set answer → IsLow answer
 source_low language file set answer (inl (n, (are, e))) = low answer _ e (omega arith)
@@ -187,36 +209,39 @@ compared_low : (Gives : List ℕ → Given → Type 0) (verbosity : Verbosity) (
 compared_low Gives verbosity rules set modes other answer is =
     by_rules_low verbosity Gives (λ new others. DifferenceAnswer rules set modes other new others) other answer (λ new others a told. difference_low rules set modes other new others a told) is
 
-action_low : {I : Type 0} (Gives : List ℕ → Given → Type 0) (InputGives : I → I → Given → Type 0) (i k : I) (verbosity : Verbosity) (action : Action) (rules : List ℕ) (files : List (List ℕ))
-    (answer : Answer) → ActionAnswer Gives (TextsAnswer Gives InputGives i k) verbosity action rules files answer → IsLow answer
-action_low Gives InputGives i k verbosity (Cut form recovers) rules files answer is =
-    by_rules_low verbosity Gives (λ set modes. TextsAnswer Gives InputGives i k verbosity (PiecesAnswer set modes form recovers (nat_lt 1 (length files))) files) rules answer
-    (λ set modes a texts. texts_low Gives InputGives i k verbosity (PiecesAnswer set modes form recovers (nat_lt 1 (length files))) files a (pieces_low set modes form recovers (nat_lt 1 (length files))) texts) is
-action_low Gives InputGives i k verbosity (Show markup) rules files answer is =
-    by_rules_low verbosity Gives (λ set modes. TextsAnswer Gives InputGives i k verbosity (PageAnswer set modes markup) files) rules answer
-    (λ set modes a texts. texts_low Gives InputGives i k verbosity (PageAnswer set modes markup) files a (page_low set modes markup) texts) is
-action_low Gives InputGives i k verbosity (CutByTerminals places) rules files answer is =
-    let IsFor : List Tree → List ℕ → Answer → Type 0 = λ ts ps. TextsAnswer Gives InputGives i k verbosity (TokensAnswer ts ps places) files in
+action_low : {I : Type 0} (Gives : List ℕ → Given → Type 0) (Read_of : List ℕ → Reading → Type 0) (InputGives : I → I → Reading → Type 0) (i k : I) (verbosity : Verbosity) (action : Action) (rules : List ℕ)
+    (files : List (List ℕ)) (answer : Answer) → ActionAnswer Gives (TextsAnswer Read_of InputGives i k) verbosity action rules files answer → IsLow answer
+action_low Gives Read_of InputGives i k verbosity (Cut form recovers) rules files answer is =
+    let several = nat_lt 1 (length files) in
+    by_rules_low verbosity Gives (λ set modes. TextsAnswer Read_of InputGives i k verbosity (PiecesAnswer set modes form recovers several) (PiecesPart set modes form recovers several) files) rules answer
+    (λ set modes a texts. texts_low Read_of InputGives i k verbosity (PiecesAnswer set modes form recovers several) (PiecesPart set modes form recovers several) files a
+    (pieces_low set modes form recovers several) texts) is
+action_low Gives Read_of InputGives i k verbosity (Show markup) rules files answer is =
+    by_rules_low verbosity Gives (λ set modes. TextsAnswer Read_of InputGives i k verbosity (PageAnswer set modes markup) (PagePart set modes markup) files) rules answer
+    (λ set modes a texts. texts_low Read_of InputGives i k verbosity (PageAnswer set modes markup) (PagePart set modes markup) files a (page_low set modes markup) texts) is
+action_low Gives Read_of InputGives i k verbosity (CutByTerminals places) rules files answer is =
+    let IsFor : List Tree → List ℕ → Answer → Type 0 = λ ts ps. TextsAnswer Read_of InputGives i k verbosity (TokensAnswer ts ps places) (TokensAnswer ts ps places) files in
     reads_low Gives (TerminalsOf IsFor) rules answer
-    (λ bytes a said. terminals_low IsFor rules bytes a (λ ts ps b texts. texts_low Gives InputGives i k verbosity (TokensAnswer ts ps places) files b (tokens_low ts ps places) texts) said) is
-action_low Gives InputGives i k verbosity Clashes rules files answer is =
+    (λ bytes a said. terminals_low IsFor rules bytes a
+    (λ ts ps b texts. texts_low Read_of InputGives i k verbosity (TokensAnswer ts ps places) (TokensAnswer ts ps places) files b (tokens_low ts ps places) texts) said) is
+action_low Gives Read_of InputGives i k verbosity Clashes rules files answer is =
     reads_low Gives (RulesOf verbosity ClashesAnswer) rules answer (λ bytes a said. rules_of_low verbosity ClashesAnswer rules bytes a (list_low rules) said) is
-action_low Gives InputGives i k verbosity TerminalClashes rules files answer is = reads_low Gives TerminalClashesAnswer rules answer (terminal_list_low rules) is
-action_low Gives InputGives i k verbosity (Emit language) rules files answer is =
+action_low Gives Read_of InputGives i k verbosity TerminalClashes rules files answer is = reads_low Gives TerminalClashesAnswer rules answer (terminal_list_low rules) is
+action_low Gives Read_of InputGives i k verbosity (Emit language) rules files answer is =
     by_rules_low verbosity Gives (λ set modes. SourceAnswer language rules set) rules answer (λ set modes a written. source_low language rules set a written) is
-action_low Gives InputGives i k verbosity Picture rules files answer is =
+action_low Gives Read_of InputGives i k verbosity Picture rules files answer is =
     by_rules_low verbosity Gives (λ set modes. PictureAnswer rules (slice_get files 0) set) rules answer (λ set modes a drawn. picture_low rules (slice_get files 0) set a drawn) is
-action_low Gives InputGives i k verbosity (Check form) rules files answer is =
+action_low Gives Read_of InputGives i k verbosity (Check form) rules files answer is =
     reads_low Gives (RulesTold finding verbosity (CheckAnswer form)) rules answer
     (λ bytes a said. rules_told_low finding verbosity (CheckAnswer form) rules bytes a (check_low form rules) (λ words. one_low (is_said words)) said) is
-action_low Gives InputGives i k verbosity Difference rules files answer is =
+action_low Gives Read_of InputGives i k verbosity Difference rules files answer is =
     by_rules_low verbosity Gives (λ set modes. ComparedAnswer Gives verbosity rules set modes (other_of files)) rules answer
     (λ set modes a told. compared_low Gives verbosity rules set modes (other_of files) a told) is
 
-pub command_low : {I : Type 0} (Gives : List ℕ → Given → Type 0) (InputGives : I → I → Given → Type 0) (i k : I) (command : Command) (answer : Answer)
-    → CommandAnswer Gives (TextsAnswer Gives InputGives i k) command answer → IsLow answer
+pub command_low : {I : Type 0} (Gives : List ℕ → Reading → Type 0) (InputGives : I → I → Reading → Type 0) (i k : I) (command : Command) (answer : Answer)
+    → CommandAnswer (GivesWhole Gives) (TextsAnswer Gives InputGives i k) command answer → IsLow answer
 command_low Gives InputGives i k Help answer is = low answer _ is (omega arith)
 command_low Gives InputGives i k Version answer is = low answer _ is (omega arith)
 command_low Gives InputGives i k (Run action verbosity rules files) answer (own, (is, e)) =
-    let a : IsLow own = action_low Gives InputGives i k verbosity action rules.now (map (λ file. file.now) files.items) own is in
+    let a : IsLow own = action_low (GivesWhole Gives) Gives InputGives i k verbosity action rules.now (map (λ file. file.now) files.items) own is in
     low answer _ e (omega arith)

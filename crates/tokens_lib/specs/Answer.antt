@@ -6,7 +6,7 @@ use Rattle.std.specs.Str.{IsUtf8, IsValidUpTo, bytes_eq}
 use Rattle.lalrpop_rule_file.specs.RuleFile.{without_mark}
 use Rattle.lexdfa_lib.specs.Watch.{Watch, AppendsPrefix}
 use Rattle.tokens_lib.specs.Progress.{total_said, number_text}
-use Rattle.tokens_lib.specs.Streams.{Given, Takes}
+use Rattle.tokens_lib.specs.Streams.{Given, Reading, NotOpened, Takes}
 use Rattle.lines_lib.specs.Text.{lack_text}
 use Rattle.lines_lib.specs.declared.text.TextError.TheVariants.{NotText}
 use Rattle.tokens_lib.specs.declared.command.Verbosity.{Verbosity}
@@ -62,18 +62,23 @@ is_input file = bytes_eq file (codes "-")
 abbrev pub shown_name : List ℕ → List ℕ
 shown_name file = if is_input file then codes "<stdin>" else file
 
--- what a FILE gives, and how it changes the state of standard input: `-` is read from there, and other files by name
-abbrev pub FileGives : {I : Type 0} → (List ℕ → Given → Type 0) → (I → I → Given → Type 0) → I → I → Bool → List ℕ → Given → Type 0
-FileGives Gives InputGives i j true file given = InputGives i j given
-FileGives Gives InputGives i j false file given = (i ≡ j) × Gives file given
+-- what is read of a FILE, and how that changes the state of standard input: `-` is read from there, and other files by name
+abbrev pub FileGives : {I : Type 0} → (List ℕ → Reading → Type 0) → (I → I → Reading → Type 0) → I → I → Bool → List ℕ → Reading → Type 0
+FileGives Gives InputGives i j true file reading = InputGives i j reading
+FileGives Gives InputGives i j false file reading = (i ≡ j) × Gives file reading
 
--- the answer for a FILE
-abbrev pub FileAnswer : {I : Type 0} → (List ℕ → Given → Type 0) → (I → I → Given → Type 0) → (List ℕ → List ℕ → Answer → Type 0) → I → I → List ℕ → Answer → Type 0
+-- a FILE isn't opened, and this is said; or what is read of it has this answer
+abbrev pub ReadingAnswer : (List ℕ → Reading → Answer → Type 0) → List ℕ → Reading → Answer → Type 0
+ReadingAnswer IsFor file reading answer =
+    ((reason : List ℕ) × ((reading.end ≡ NotOpened reason) × (answer ≡ refusal 6 (about file reason)))) ⊎ IsFor file reading answer
+
+-- the answer for a FILE, by the answer for what is read of it
+abbrev pub FileAnswer : {I : Type 0} → (List ℕ → Reading → Type 0) → (I → I → Reading → Type 0) → (List ℕ → Reading → Answer → Type 0) → I → I → List ℕ → Answer → Type 0
 FileAnswer Gives InputGives IsFor i j file answer =
-    Reads (λ name. FileGives Gives InputGives i j (is_input file) file) (TextOf IsFor) (shown_name file) answer
+    (reading : Reading) × (FileGives Gives InputGives i j (is_input file) file reading × IsFor (shown_name file) reading answer)
 
 -- for the FILE with this number; before it is read, its number is said if there is a total
-abbrev pub NumberedAnswer : {I : Type 0} → (List ℕ → Given → Type 0) → (I → I → Given → Type 0) → (List ℕ → List ℕ → Answer → Type 0) → Option ℕ → ℕ → I → I → List ℕ → Answer → Type 0
+abbrev pub NumberedAnswer : {I : Type 0} → (List ℕ → Reading → Type 0) → (I → I → Reading → Type 0) → (List ℕ → Reading → Answer → Type 0) → Option ℕ → ℕ → I → I → List ℕ → Answer → Type 0
 NumberedAnswer Gives InputGives IsFor total number i j file answer =
     (own : Answer) × (FileAnswer Gives InputGives IsFor i j file own × (answer ≡ followed (remark (number_text total number (shown_name file))) own))
 
@@ -83,25 +88,32 @@ FilesAnswer Own number i k [] answer = (i ≡ k) × (answer ≡ silence)
 FilesAnswer {I} Own number i k (file ∷ files) answer =
     (j : I) × ((own : Answer) × ((rest : Answer) × (Own number i j file own × (FilesAnswer Own (number + 1) j k files rest × (answer ≡ followed own rest)))))
 
--- for the first of these FILEs, up to some FILE
-abbrev pub FirstFilesAnswer : {I : Type 0} → (ℕ → I → I → List ℕ → Answer → Type 0) → I → List (List ℕ) → Answer → Type 0
-FirstFilesAnswer {I} Own i files answer =
-    (front : List (List ℕ)) × ((rest : List (List ℕ)) × ((j : I) × ((files ≡ front ++ rest) × FilesAnswer Own 1 i j front answer)))
+-- for the first of these FILEs, and of the next one a part, by the answer for a part of one
+abbrev pub PartFilesAnswer : {I : Type 0} → (ℕ → I → I → List ℕ → Answer → Type 0) → (ℕ → I → I → List ℕ → Answer → Type 0) → I → I → List (List ℕ) → List ℕ → Answer → Type 0
+PartFilesAnswer {I} Own Part i k front file answer =
+    (j : I) × ((before : Answer) × ((own : Answer) × (FilesAnswer Own 1 i j front before × (Part (length front + 1) j k file own × (answer ≡ followed before own)))))
+
+-- for the first of these FILEs, up to some FILE, or up to a part of the next one
+abbrev pub FirstFilesAnswer : {I : Type 0} → (ℕ → I → I → List ℕ → Answer → Type 0) → (ℕ → I → I → List ℕ → Answer → Type 0) → I → List (List ℕ) → Answer → Type 0
+FirstFilesAnswer {I} Own Part i files answer =
+    (front : List (List ℕ)) × ((rest : List (List ℕ)) × ((k : I) × ((files ≡ front ++ rest)
+    × (FilesAnswer Own 1 i k front answer ⊎ ((file : List ℕ) × ((more : List (List ℕ)) × ((rest ≡ file ∷ more) × PartFilesAnswer Own Part i k front file answer)))))))
 
 -- the FILEs that are cut: standard input if none is named
 abbrev pub cut_files : List (List ℕ) → List (List ℕ)
 cut_files [] = codes "-" ∷ []
 cut_files (file ∷ files) = file ∷ files
 
--- the answer for the texts of the named FILEs; standard input comes from one state to another
-abbrev pub TextsAnswer : {I : Type 0} → (List ℕ → Given → Type 0) → (I → I → Given → Type 0) → I → I → Verbosity → (List ℕ → List ℕ → Answer → Type 0) → List (List ℕ) → Answer → Type 0
-TextsAnswer Gives InputGives i k verbosity IsFor files answer =
-    FilesAnswer (NumberedAnswer Gives InputGives IsFor (total_said verbosity (length files))) 1 i k (cut_files files) answer
+-- the answer for the texts of the named FILEs, by the answer for what is read of one; standard input comes from one state to another
+abbrev pub TextsAnswer : {I : Type 0} → (List ℕ → Reading → Type 0) → (I → I → Reading → Type 0) → I → I → Verbosity → (List ℕ → Reading → Answer → Type 0) → (List ℕ → Reading → Answer → Type 0) → List (List ℕ) → Answer → Type 0
+TextsAnswer Gives InputGives i k verbosity IsFor PartFor files answer =
+    FilesAnswer (NumberedAnswer Gives InputGives (ReadingAnswer IsFor) (total_said verbosity (length files))) 1 i k (cut_files files) answer
 
--- for the texts of the first ones
-abbrev pub FirstTextsAnswer : {I : Type 0} → (List ℕ → Given → Type 0) → (I → I → Given → Type 0) → I → Verbosity → (List ℕ → List ℕ → Answer → Type 0) → List (List ℕ) → Answer → Type 0
-FirstTextsAnswer Gives InputGives i verbosity IsFor files answer =
-    FirstFilesAnswer (NumberedAnswer Gives InputGives IsFor (total_said verbosity (length files))) i (cut_files files) answer
+-- for the first ones, and a part of the next, by the answer for a part of one
+abbrev pub FirstTextsAnswer : {I : Type 0} → (List ℕ → Reading → Type 0) → (I → I → Reading → Type 0) → I → Verbosity → (List ℕ → Reading → Answer → Type 0) → (List ℕ → Reading → Answer → Type 0) → List (List ℕ) → Answer → Type 0
+FirstTextsAnswer Gives InputGives i verbosity IsFor PartFor files answer =
+    FirstFilesAnswer (NumberedAnswer Gives InputGives (ReadingAnswer IsFor) (total_said verbosity (length files)))
+    (NumberedAnswer Gives InputGives PartFor (total_said verbosity (length files))) i (cut_files files) answer
 
 -- ---- what is written
 

@@ -1,8 +1,8 @@
 -- What private functions promise one another.
-pub mod Code
 pub mod Commas
 pub mod CutTexts
 pub mod Faults
+pub mod Incoming
 pub mod Listings
 pub mod Tasks
 pub mod Prefixes

@@ -1,24 +1,25 @@
 -- cases: proofs/Cases/ItemLines.antt
 -- What is written for a text that named rules cut.
-use Rattle.std.specs.Prelude.{◌≡◌, ℕ, ◌+◌, nat_lt, Bool, true, false, List, [], ◌∷◌, ◌++◌, length, drop, map, Option, Some, None, option_map, unwrap_or, slice_get, codes, decimal, string_bytes}
+use Rattle.std.specs.Prelude.{ℕ, ◌+◌, nat_lt, Bool, true, false, List, [], ◌∷◌, ◌++◌, length, map, Option, Some, None, option_map, unwrap_or, slice_get, codes, decimal, string_bytes}
 use Rattle.std.specs.Bool.{then_some}
 use Rattle.std.specs.Io.KnownBytes.{Appends}
 use Rattle.json.specs.Token as json
 use Rattle.json.specs.Print.{print}
 use Rattle.lalrpop_lexer.specs.Position.{position_of}
 use Rattle.lalrpop_lexer.specs.declared.position.Position.{Position}
-use Rattle.lalrpop_modes.specs.Modes.{ModeRules, trees_in, after, ArePiecesFrom}
+use Rattle.lalrpop_edits.specs.Chunked.{Chunked}
+use Rattle.lalrpop_modes.specs.Modes.{ModeRules, after}
 use Rattle.lalrpop_modes.specs.Stack.{Stack, start as first_stack}
-use Rattle.lalrpop_rules.specs.Pieces.{IsPiece}
 use Rattle.lalrpop_rules.specs.declared.item.Item.{Item}
 use Rattle.lalrpop_rules.specs.declared.item.Item.TheVariants.{Token, Skipped, Fault}
 use Rattle.lexdfa_lib.specs.Watch.{AppendsPrefix}
 use Rattle.lalrpop_lexer.specs.Quoted.{quoted}
-use Rattle.tokens_lib.specs.OpenModes.{open_behind, open_mode}
+use Rattle.tokens_lib.specs.CutEnds.{IsTextOf, BeginsWith, AreGiven, IsCutTo}
+use Rattle.tokens_lib.specs.Streams.{Reading}
+use Rattle.tokens_lib.specs.declared.cut_end.CutEnd.{CutEnd}
 use Rattle.tokens_lib.specs.declared.layout.Layout.{Layout}
 use Rattle.tokens_lib.specs.declared.layout.LineForm.{LineForm}
 use Rattle.tokens_lib.specs.declared.layout.LineForm.TheVariants.{Plain, Json}
-use Rattle.tokens_lib.specs.declared.text_end.TextEnd.{TextEnd}
 
 -- ---- a plain line
 
@@ -114,39 +115,14 @@ abbrev pub item_lines : Layout → ModeRules → List ℕ → List Item → List
 item_lines layout rules text xs =
     piece_lines layout.form layout.recovers (option_map (λ f. f.now) layout.file) (map string_bytes layout.modes.now) rules text first_stack xs
 
--- the pieces of the text from a place and a stack on: to its end, or up to the first fault, which is then the last piece; and the stack there
-abbrev pub AreUpToFault : ModeRules → List ℕ → ℕ → Stack → List Item → Stack → Type 0
-AreUpToFault r text at s [] end = (drop at text ≡ []) × (end ≡ s)
-AreUpToFault r text at s (Token token ∷ xs) end =
-    IsPiece (trees_in r s.mode) r.precedences r.skips text at (Token token)
-    × AreUpToFault r text (at + length token.slice.now) (after r.actions (Token token) s) xs end
-AreUpToFault r text at s (Skipped token ∷ xs) end =
-    IsPiece (trees_in r s.mode) r.precedences r.skips text at (Skipped token)
-    × AreUpToFault r text (at + length token.slice.now) (after r.actions (Skipped token) s) xs end
-AreUpToFault r text at s (Fault begin slice ∷ xs) end =
-    IsPiece (trees_in r s.mode) r.precedences r.skips text at (Fault begin slice) × ((xs ≡ []) × (end ≡ s))
+-- a writer took exactly the lines of the pieces that are cut of what was read, and cutting ended so
+abbrev pub WritesItems : ModeRules → Layout → Reading → Option (List ℕ) → Option (List ℕ) → CutEnd → Type 0
+WritesItems rules layout reading held held_now ended =
+    (text : List ℕ) × ((left : List ℕ) × ((xs : List Item) × (IsTextOf reading.bytes text left
+    × (IsCutTo rules layout.recovers reading text left xs ended × Appends held held_now (item_lines layout rules text xs)))))
 
--- the pieces that are cut, and the stack behind them: all pieces, if cutting goes on after a fault
-abbrev pub AreCut : Bool → ModeRules → List ℕ → List Item → Stack → Type 0
-AreCut true rules text xs end = ArePiecesFrom rules text 0 first_stack xs end
-AreCut false rules text xs end = AreUpToFault rules text 0 first_stack xs end
-
--- where the first fault begins
-abbrev pub first_fault : List Item → Option ℕ
-first_fault [] = None
-first_fault (Fault begin slice ∷ xs) = Some begin
-first_fault (x ∷ xs) = first_fault xs
-
--- how a text ends that is cut into these pieces, with this stack behind them
-abbrev pub end_of : ModeRules → List Item → Stack → TextEnd
-end_of rules xs end = record { fault = first_fault xs; inside = open_mode end.mode (open_behind rules.actions xs []) }
-
--- a writer took exactly the lines of the pieces that are cut, and the text ends so
-abbrev pub WritesItems : ModeRules → Layout → List ℕ → Option (List ℕ) → Option (List ℕ) → TextEnd → Type 0
-WritesItems rules layout text held held_now ended =
-    (xs : List Item) × ((end : Stack) × (AreCut layout.recovers rules text xs end × ((ended ≡ end_of rules xs end) × Appends held held_now (item_lines layout rules text xs))))
-
--- a writer took a prefix of these lines
-abbrev pub WritesItemsPrefix : ModeRules → Layout → List ℕ → Option (List ℕ) → Option (List ℕ) → Type 0
-WritesItemsPrefix rules layout text held held_now =
-    (xs : List Item) × ((end : Stack) × (AreCut layout.recovers rules text xs end × AppendsPrefix held held_now (item_lines layout rules text xs)))
+-- a writer took a prefix of the lines of pieces that were given
+abbrev pub WritesItemsPart : ModeRules → Layout → Reading → Option (List ℕ) → Option (List ℕ) → Type 0
+WritesItemsPart rules layout reading held held_now =
+    (text : List ℕ) × ((left : List ℕ) × ((xs : List Item) × ((c : Chunked) × (BeginsWith reading.bytes text left
+    × (AreGiven rules layout.recovers reading text left xs c × AppendsPrefix held held_now (item_lines layout rules text xs))))))

@@ -3,6 +3,7 @@ pub mod Arguments
 pub mod Checked
 pub mod Command
 pub mod Compared
+pub mod CutEnds
 pub mod Emitted
 pub mod ItemLines
 pub mod NamedRules

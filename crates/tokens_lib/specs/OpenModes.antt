@@ -2,22 +2,24 @@
 -- The modes that tokens put on top of others, by the places at which those tokens begin.
 use Rattle.std.specs.Prelude.{ℕ, List, [], ◌∷◌, Option, Some, None}
 use Rattle.std.specs.List.{fold}
+use Rattle.lalrpop_lexer.specs.Position.{position_of}
 use Rattle.lalrpop_modes.specs.Stack.{actions_of}
 use Rattle.lalrpop_modes.specs.declared.action.Action.{Action}
 use Rattle.lalrpop_modes.specs.declared.action.Action.TheVariants.{Mode, Push, Pop}
 use Rattle.lalrpop_rules.specs.declared.item.Item.{Item}
 use Rattle.lalrpop_rules.specs.declared.item.Item.TheVariants.{Token, Skipped, Fault}
-use Rattle.tokens_lib.specs.declared.text_end.OpenMode.{OpenMode}
+use Rattle.tokens_lib.specs.declared.cut_end.OpenMode.{OpenMode}
 
--- for each mode that has one below it, where the token begins that pushed it, the mode on top first: after an action of a token that begins here
-abbrev pub pushed : ℕ → Action → List ℕ → List ℕ
+-- for each mode that has one below it, where the token begins that pushed it, the mode on top first: after an action of a token that begins here.
+-- A place is an offset in bytes, or whatever else
+abbrev pub pushed : {P : Type 0} → P → Action → List P → List P
 pushed at (Mode m) begins = begins
 pushed at (Push m) begins = at ∷ begins
 pushed at Pop [] = []
 pushed at Pop (top ∷ begins) = begins
 
 -- after actions, one after another
-abbrev pub pushed_all : ℕ → List Action → List ℕ → List ℕ
+abbrev pub pushed_all : {P : Type 0} → P → List Action → List P → List P
 pushed_all at acts begins = fold (λ o a. pushed at a o) begins acts
 
 -- after a piece
@@ -31,7 +33,7 @@ abbrev pub open_behind : List (List Action) → List Item → List ℕ → List 
 open_behind actions [] begins = begins
 open_behind actions (x ∷ xs) begins = open_behind actions xs (open_after actions x begins)
 
--- the mode on top, and where it was entered, if it has one below it
-abbrev pub open_mode : ℕ → List ℕ → Option OpenMode
-open_mode mode [] = None
-open_mode mode (at ∷ begins) = Some (record { mode = mode; at = at })
+-- the mode on top, and where in the text it was entered, if it has one below it
+abbrev pub open_mode : List ℕ → ℕ → List ℕ → Option OpenMode
+open_mode text mode [] = None
+open_mode text mode (at ∷ begins) = Some (record { mode = mode; place = position_of text at })

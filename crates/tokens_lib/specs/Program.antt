@@ -22,8 +22,8 @@ use Rattle.tokens_lib.specs.Pictured.{PictureAnswer}
 use Rattle.tokens_lib.specs.Progress.{reading_text}
 use Rattle.tokens_lib.specs.NamedRules.{RulesTold, RulesOf, LexerOf, ClashesAnswer}
 use Rattle.tokens_lib.specs.Reasons.{SaysTerminals}
-use Rattle.tokens_lib.specs.Streams.{Given}
-use Rattle.tokens_lib.specs.TextAnswer.{TokensAnswer, PiecesAnswer, PageAnswer}
+use Rattle.tokens_lib.specs.Streams.{Given, Reading, GivesWhole}
+use Rattle.tokens_lib.specs.TextAnswer.{TokensAnswer, PiecesAnswer, PiecesPart, PageAnswer, PagePart}
 use Rattle.tokens_lib.specs.Usage.{help, version, wrong_text}
 use Rattle.tokens_lib.specs.declared.command.Action.{Action}
 use Rattle.tokens_lib.specs.declared.command.Action.TheVariants.{Cut, Show, CutByTerminals, Clashes, TerminalClashes, Emit, Picture, Check, Difference}
@@ -74,13 +74,13 @@ ComparedAnswer Gives verbosity rules r modes other answer =
     Reads Gives (RulesOf verbosity (LexerOf (λ s others. DifferenceAnswer rules r modes other s others))) other answer
 
 -- the answer for an action by a file of rules on files, by what is answered to texts
-abbrev pub ActionAnswer : (List ℕ → Given → Type 0) → (Verbosity → (List ℕ → List ℕ → Answer → Type 0) → List (List ℕ) → Answer → Type 0) → Verbosity → Action → List ℕ → List (List ℕ) → Answer → Type 0
+abbrev pub ActionAnswer : (List ℕ → Given → Type 0) → (Verbosity → (List ℕ → Reading → Answer → Type 0) → (List ℕ → Reading → Answer → Type 0) → List (List ℕ) → Answer → Type 0) → Verbosity → Action → List ℕ → List (List ℕ) → Answer → Type 0
 ActionAnswer Gives Texts verbosity (Cut form recovers) rules files answer =
-    Reads Gives (RulesOf verbosity (LexerOf (λ r modes. Texts verbosity (PiecesAnswer r modes form recovers (nat_lt 1 (length files))) files))) rules answer
+    Reads Gives (RulesOf verbosity (LexerOf (λ r modes. Texts verbosity (PiecesAnswer r modes form recovers (nat_lt 1 (length files))) (PiecesPart r modes form recovers (nat_lt 1 (length files))) files))) rules answer
 ActionAnswer Gives Texts verbosity (Show markup) rules files answer =
-    Reads Gives (RulesOf verbosity (LexerOf (λ r modes. Texts verbosity (PageAnswer r modes markup) files))) rules answer
+    Reads Gives (RulesOf verbosity (LexerOf (λ r modes. Texts verbosity (PageAnswer r modes markup) (PagePart r modes markup) files))) rules answer
 ActionAnswer Gives Texts verbosity (CutByTerminals places) rules files answer =
-    Reads Gives (TerminalsOf (λ ts ps. Texts verbosity (TokensAnswer ts ps places) files)) rules answer
+    Reads Gives (TerminalsOf (λ ts ps. Texts verbosity (TokensAnswer ts ps places) (TokensAnswer ts ps places) files)) rules answer
 ActionAnswer Gives Texts verbosity Clashes rules files answer = Reads Gives (RulesOf verbosity ClashesAnswer) rules answer
 ActionAnswer Gives Texts verbosity TerminalClashes rules files answer = Reads Gives TerminalClashesAnswer rules answer
 ActionAnswer Gives Texts verbosity (Emit language) rules files answer =
@@ -92,7 +92,7 @@ ActionAnswer Gives Texts verbosity Difference rules files answer =
     Reads Gives (RulesOf verbosity (LexerOf (λ r modes. ComparedAnswer Gives verbosity rules r modes (other_of files)))) rules answer
 
 -- the answer for a command; with progress, it says first that the rules are read
-abbrev pub CommandAnswer : (List ℕ → Given → Type 0) → (Verbosity → (List ℕ → List ℕ → Answer → Type 0) → List (List ℕ) → Answer → Type 0) → Command → Answer → Type 0
+abbrev pub CommandAnswer : (List ℕ → Given → Type 0) → (Verbosity → (List ℕ → Reading → Answer → Type 0) → (List ℕ → Reading → Answer → Type 0) → List (List ℕ) → Answer → Type 0) → Command → Answer → Type 0
 CommandAnswer Gives Texts Help answer = answer ≡ information help
 CommandAnswer Gives Texts Version answer = answer ≡ information version
 CommandAnswer Gives Texts (Run action verbosity rules files) answer =
@@ -107,12 +107,12 @@ failure_text (Failing run_errors.Read) = codes "tokens: read failed\n"
 failure_text (Failing run_errors.Write) = codes "tokens: write failed\n"
 
 -- the answer for these arguments, where standard input comes from one state to another
-abbrev pub IsAnswer : {I : Type 0} → (List ℕ → Given → Type 0) → (I → I → Given → Type 0) → I → I → List (List ℕ) → Answer → Type 0
+abbrev pub IsAnswer : {I : Type 0} → (List ℕ → Reading → Type 0) → (I → I → Reading → Type 0) → I → I → List (List ℕ) → Answer → Type 0
 IsAnswer Gives InputGives i k words answer =
     ((error : ArgumentsError) × (IsArgumentsError (options (joined words)) (names (joined words)) error × (answer ≡ refusal 4 (wrong_text error))))
-    ⊎ ((command : Command) × (IsCommand (options (joined words)) (names (joined words)) command × CommandAnswer Gives (TextsAnswer Gives InputGives i k) command answer))
+    ⊎ ((command : Command) × (IsCommand (options (joined words)) (names (joined words)) command × CommandAnswer (GivesWhole Gives) (TextsAnswer Gives InputGives i k) command answer))
 
 -- the answer for the command that these arguments are, to the first texts alone
-abbrev pub IsFirstAnswer : {I : Type 0} → (List ℕ → Given → Type 0) → (I → I → Given → Type 0) → I → List (List ℕ) → Answer → Type 0
+abbrev pub IsFirstAnswer : {I : Type 0} → (List ℕ → Reading → Type 0) → (I → I → Reading → Type 0) → I → List (List ℕ) → Answer → Type 0
 IsFirstAnswer Gives InputGives i words answer =
-    (command : Command) × (IsCommand (options (joined words)) (names (joined words)) command × CommandAnswer Gives (FirstTextsAnswer Gives InputGives i) command answer)
+    (command : Command) × (IsCommand (options (joined words)) (names (joined words)) command × CommandAnswer (GivesWhole Gives) (FirstTextsAnswer Gives InputGives i) command answer)

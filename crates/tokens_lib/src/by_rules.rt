@@ -7,7 +7,7 @@ ghost use Rattle.lalrpop_rule_file.specs.declared.file_rule.FileRule.{FileRule a
 ghost use Rattle.tokens_lib.specs.Answer.{Answer, headed, Refused, Reads};
 ghost use Rattle.tokens_lib.specs.NamedRules.{StandAt, IsSetOf, AreRulesOf, LinesAnswer, RulesOf, RulesRefused, clashes_status, rules_status};
 ghost use Rattle.tokens_lib.specs.Reasons.{CanBeSaid, SaysBadLine, SaysRules};
-ghost use Rattle.tokens_lib.specs.Streams.{Takes};
+ghost use Rattle.tokens_lib.specs.Streams.{GivesWhole, Takes};
 ghost use Rattle.tokens_lib.specs.Warned.{Warned};
 ghost use Rattle.tokens_lib.specs.Internal.Faults.{NameOnly};
 
@@ -183,12 +183,12 @@ pub(crate) fn lexer_by_name<F: Files, E: Write>(
     err: &mut Watched<E>,
 ) -> Result<Result<FileLexer, u8>, RunError>
     ensures lexer { IfOk result (λ found. IfOk found (λ f. (bytes : List ℕ)
-        × (F.gives files.now name.now (Ok bytes)
+        × (GivesWhole (F.gives files.now) name.now (Ok bytes)
         × (AreRulesOf bytes f.lexer (map string_bytes f.modes.items) × ((said : List ℕ)
         × (Warned verbosity name.now (lines (without_mark_of bytes)) said
         × Takes E.contents err.old err.new said)))))) }
     ensures refused { IfOk result (λ found. IfErr found (λ status. (answer : Answer)
-        × (Reads (F.gives files.now) (RulesOf verbosity RulesRefused) name.now answer
+        × (Reads (GivesWhole (F.gives files.now)) (RulesOf verbosity RulesRefused) name.now answer
         × Refused E.contents err.old err.new status answer))) }
     ensures memory { IfErr result (λ e. e ≡ RunError.OutOfMemory) }
     ensures no_late_message { err.new.late ≡ err.old.late }

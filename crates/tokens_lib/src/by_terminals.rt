@@ -6,7 +6,7 @@ ghost use Rattle.lexdfa_lib.specs.Status.{outcome_status};
 ghost use Rattle.tokens_lib.specs.Answer.{Answer, headed, Answered, Refused, Reads, Begun};
 ghost use Rattle.tokens_lib.specs.Program.{IsListing, TerminalsRefused, TerminalClashesAnswer};
 ghost use Rattle.tokens_lib.specs.Reasons.{SaysTerminals};
-ghost use Rattle.tokens_lib.specs.Streams.{Takes};
+ghost use Rattle.tokens_lib.specs.Streams.{GivesWhole, Takes};
 
 use crate::explain::explanation;
 use crate::files::{Files, NO_TEXT, bytes_of, say_headed};
@@ -91,11 +91,11 @@ pub(crate) fn terminals_by_name<F: Files, E: Write>(
     err: &mut Watched<E>,
 ) -> Result<Result<Lexer, u8>, RunError>
     ensures lexer { IfOk result (λ found. IfOk found (λ lexer. (bytes : List ℕ)
-        × (F.gives files.now name.now (Ok bytes)
+        × (GivesWhole (F.gives files.now) name.now (Ok bytes)
         × HaveAutomaton bytes lexer.trees lexer.precedences))) }
     ensures quiet { IfOk result (λ found. OnOk found (err.new ≡ err.old)) }
     ensures refused { IfOk result (λ found. IfErr found (λ status. (answer : Answer)
-        × (Reads (F.gives files.now) TerminalsRefused name.now answer
+        × (Reads (GivesWhole (F.gives files.now)) TerminalsRefused name.now answer
         × Refused E.contents err.old err.new status answer))) }
     ensures memory { IfErr result (λ e. e ≡ RunError.OutOfMemory) }
     ensures no_late_message { err.new.late ≡ err.old.late }
@@ -143,10 +143,10 @@ pub(crate) fn list_terminal_clashes<F: Files, W: Write, E: Write>(
 ) -> Result<u8, RunError>
     requires out_good { out.old.failed ≡ false }
     ensures answer { IfOk result (λ status. (answer : Answer)
-        × (Reads (F.gives files.now) TerminalClashesAnswer name.now answer
+        × (Reads (GivesWhole (F.gives files.now)) TerminalClashesAnswer name.now answer
         × Answered W.contents E.contents out.old out.new err.old err.new status answer)) }
     ensures good { OnOk result (out.new.failed ≡ false) }
-    ensures begun { OnErr result (Begun (Reads (F.gives files.now) TerminalClashesAnswer name.now)
+    ensures begun { OnErr result (Begun (Reads (GivesWhole (F.gives files.now)) TerminalClashesAnswer name.now)
         (W.contents out.old.inner) (W.contents out.new.inner)) }
     ensures memory { IfErr result (λ e. e ≡ RunError.OutOfMemory → out.new.failed ≡ false) }
     ensures write { IfErr result (λ e. e ≡ RunError.Write → out.new.failed ≡ true) }

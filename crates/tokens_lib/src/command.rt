@@ -16,8 +16,9 @@ use std::alloc::{AllocError, Global};
 /// use lexdfa_lib::Watched;
 /// use tokens_lib::{Markup, write_page};
 ///
+/// let mut reader = Watched::new("let x".as_bytes());
 /// let mut writer = Watched::new(Vec::new(alloc));
-/// let fault = write_page(alloc, &rules, Markup::Html, "let x", &mut writer)?;
+/// let end = write_page(alloc, &rules, Markup::Html, &mut reader, &mut writer)?;
 /// ```
 #[derive(Clone, Copy, Debug, PartialEq, Eq)]
 pub enum Markup {

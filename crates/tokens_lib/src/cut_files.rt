@@ -1,28 +1,30 @@
 //! Cutting files one after another: the lines or the markup of each are written.
-ghost use Rattle.std.specs.Prelude.{◌≡◌, ◌≢◌, max, false, true, map, codes, string_bytes, Option, List, ℕ, IfOk, OnOk, OnErr, IfErr};
-ghost use Rattle.std.specs.Io.KnownBytes.{Appends};
-ghost use Rattle.std.specs.Str.{IsCharBoundary};
-ghost use Rattle.tokens_lib.specs.Answer.{Answer, Answered, TextOf, Reads, FileAnswer, NumberedAnswer, FilesAnswer, TextsAnswer, FirstFilesAnswer, FirstTextsAnswer, Begun};
+ghost use Rattle.std.specs.Prelude.{◌≡◌, ◌≢◌, max, take, false, true, map, string_bytes, flat_map, List, ℕ, IfOk, IfSome, OnOk, OnErr, IfErr};
+ghost use Rattle.std.specs.Str.{chars, IsCharBoundary};
+ghost use Rattle.lalrpop_lexer.specs.Quoted.{told};
+ghost use Rattle.lines_lib.specs.Text.{lack_text};
+ghost use Rattle.lines_lib.specs.TokenLines.{IsStopOf};
+ghost use Rattle.tokens_lib.specs.Answer.{Answer, Answered, about, TextOf, ReadingAnswer, FileAnswer, NumberedAnswer, FilesAnswer, TextsAnswer, FirstFilesAnswer, FirstTextsAnswer, Begun};
 ghost use Rattle.tokens_lib.specs.Streams.{Takes, StreamGives};
-ghost use Rattle.tokens_lib.specs.TextAnswer.{fault_text, open_text, TokensAnswer, PiecesAnswer, PageAnswer};
-ghost use Rattle.tokens_lib.specs.Internal.Tasks.{TaskAnswer, StopsIn, IsTokensEnding, IsPiecesEnding, IsDone};
+ghost use Rattle.tokens_lib.specs.TextAnswer.{fault_status, stop_of as stop_in, stop_text, TextTokens, TokensAnswer, cut_status as status_of_cut, cut_text as text_of_cut, PiecesAnswer, PiecesPart, PageAnswer, PagePart};
+ghost use Rattle.tokens_lib.specs.Internal.Tasks.{TaskAnswer, TaskPart, EitherAnswer, ReadAnswer, found_told};
 
 use crate::command::{Markup, Verbosity};
-use crate::fault::{fault_message, open_message};
+use crate::cut_end::CutEnd;
+use crate::fault::{fault_message, lack_message, open_message};
 use crate::file_lexer::FileLexer;
 use crate::files::{
-    Files, INPUT, NO_TEXT, bytes_of, input_bytes, is_input, say, say_about, shown_name,
+    Files, INPUT, NO_TEXT, NoBytes, bytes_left, is_input, say, say_about, shown_name,
 };
 use crate::item_lines::{mode_name, write_items};
 use crate::layout::{Layout, LineForm};
 use crate::page::write_page;
 use crate::progress::{number_message, total_said};
-use crate::text_end::TextEnd;
-use lalrpop_lexer::Lexer;
+use lalrpop_lexer::{Lexer, Position};
 use lalrpop_rule_file::without_mark;
 use lexdfa_lib::{Outcome, RunError, Watched};
 use lines_lib::{TextError, write_tokens};
-use std::alloc::Global;
+use std::alloc::{AllocError, Global};
 use std::io::{Read, Write};
 
 /// What is done with each text.
@@ -50,238 +52,74 @@ pub(crate) enum Task<'rules> {
     },
 }
 
-// What came of a text.
-#[derive(Clone, Copy)]
-enum CutResult<'rules> {
-    /// It was cut to its end, and has no fault.
-    Whole,
-    /// It was cut to its end, and has faults.
-    Faulty,
-    /// It was cut up to a fault at byte `at`, where nothing of this kind, `terminal` or `rule`, matches.
-    Stopped { kind: &'rules str, at: usize },
-    /// It was cut to its end, in this mode, which has one below it, and which the token entered that begins at byte `at`.
-    Open { mode: &'rules str, at: usize },
-}
+// ---- by terminals
 
-// What came of a text that terminals cut.
-fn tokens_ending(outcome: &Outcome) -> CutResult<'static>
-    ensures { IsTokensEnding outcome.now result }
+// Where terminals stopped.
+fn stop_of(outcome: &Outcome) -> Option<usize>
+    ensures stop { result ≡ stop_in outcome.now }
+    ensures boundary { (text : List ℕ) → IsStopOf text outcome.now
+        → IfSome result (IsCharBoundary text) }
 {
     match outcome {
-        Outcome::Stopped { at, .. } => CutResult::Stopped {
-            kind: "terminal",
-            at: *at,
-        },
-        _ => CutResult::Whole,
+        Outcome::Stopped { at, .. } => Some(*at),
+        _ => None,
     }
 }
 
-// What came of a text that named rules cut to its end.
-fn ending_behind<'rules>(modes: &'rules [String], end: &TextEnd) -> CutResult<'rules>
-    ensures { IsPiecesEnding true (map string_bytes modes.now) end.now.fault end.now.inside result }
+// The first character of the text, if it has one.
+fn first_char(text: &str) -> Option<char>
+    ensures { found_told result ≡ flat_map told (take 1 (chars text.now)) }
 {
-    match (end.inside, end.fault) {
-        (Some(inside), _) => CutResult::Open {
-            mode: mode_name(modes, inside.mode),
-            at: inside.at,
-        },
-        (None, Some(_)) => CutResult::Faulty,
-        (None, None) => CutResult::Whole,
-    }
+    text.chars().next()
 }
 
-// What came of a text that named rules cut, by how it ends.
-fn pieces_ending<'rules>(
-    recovers: bool,
-    modes: &'rules [String],
-    end: &TextEnd,
-) -> CutResult<'rules>
-    ensures { IsPiecesEnding recovers (map string_bytes modes.now)
-        end.now.fault end.now.inside result }
+// The line that says where terminals stopped; nothing if they didn't.
+fn stop_message(
+    alloc: Global,
+    name: &str,
+    text: &str,
+    stop: Option<usize>,
+) -> Result<String, AllocError>
+    requires boundary { IfSome stop (IsCharBoundary text.now) }
+    ensures message { IfOk result (λ message.
+        string_bytes message ≡ stop_text name.now text.now stop) }
 {
-    match end.fault {
-        Some(at) if !recovers => CutResult::Stopped { kind: "rule", at },
-        _ => ending_behind(modes, end),
+    match stop {
+        Some(at) => {
+            let place = Position::of(text, at);
+            fault_message(alloc, "terminal", name, place, first_char(&text[at..]))
+        }
+        None => Ok(String::new(alloc)),
     }
 }
 
-// Cuts a text by terminals, and writes the lines of its tokens.
-fn cut_tokens<W: Write>(
+// Says where terminals stopped, if they did, and returns the status.
+fn tell_stop<E: Write>(
+    alloc: Global,
+    name: &str,
+    text: &str,
+    stop: Option<usize>,
+    err: &mut Watched<E>,
+) -> Result<u8, RunError>
+    requires boundary { IfSome stop (IsCharBoundary text.now) }
+    ensures status { IfOk result (λ status. status ≡ fault_status stop) }
+    ensures said { OnOk result
+        (Takes E.contents err.old err.new (stop_text name.now text.now stop)) }
+    ensures memory { IfErr result (λ e. e ≡ RunError.OutOfMemory) }
+    ensures no_late_message { err.new.late ≡ err.old.late }
+{
+    let Ok(message) = stop_message(alloc, name, text, stop) else {
+        return Err(RunError::OutOfMemory);
+    };
+    say(message.as_str(), err);
+    Ok(u8::from(stop.is_some()))
+}
+
+// Cuts a text by terminals, writes the lines of its tokens, and returns the status.
+fn cut_text<W: Write, E: Write>(
     alloc: Global,
     lexer: &Lexer,
     places: bool,
-    name: &str,
-    text: &str,
-    out: &mut Watched<W>,
-) -> Result<CutResult<'static>, RunError>
-    requires out_good { out.old.failed ≡ false }
-    ensures done { IfOk result (λ ending. (answer : Answer)
-        × (TokensAnswer lexer.now.trees lexer.now.precedences places name.now text.now answer
-        × ((written : List ℕ) × (IsDone name.now text.now written ending answer
-        × Appends (W.contents out.old.inner) (W.contents out.new.inner) written)))) }
-    ensures boundary { IfOk result (λ ending. StopsIn text.now ending) }
-    ensures good { OnOk result (out.new.failed ≡ false) }
-    ensures begun { OnErr result (Begun
-        (TokensAnswer lexer.now.trees lexer.now.precedences places name.now text.now)
-        (W.contents out.old.inner) (W.contents out.new.inner)) }
-    ensures memory { IfErr result (λ e. e ≡ RunError.OutOfMemory → out.new.failed ≡ false) }
-    ensures write { IfErr result (λ e. e ≡ RunError.Write → out.new.failed ≡ true) }
-    ensures read { IfErr result (λ e. e ≢ RunError.Read) }
-    ensures no_late_write { out.new.late ≡ out.old.late }
-{
-    let outcome = write_tokens(alloc, lexer, places.then_some(name), text, out)?;
-    Ok(tokens_ending(&outcome))
-}
-
-// Cuts a text by named rules, and writes the lines of its pieces.
-fn cut_pieces<'text, W: Write>(
-    alloc: Global,
-    rules: &'text FileLexer,
-    form: LineForm,
-    recovers: bool,
-    several: bool,
-    name: &str,
-    text: &'text str,
-    out: &mut Watched<W>,
-) -> Result<CutResult<'text>, RunError>
-    requires out_good { out.old.failed ≡ false }
-    ensures done { IfOk result (λ ending. (answer : Answer)
-        × (PiecesAnswer rules.now.lexer (map string_bytes rules.now.modes.items)
-        form recovers several name.now text.now answer
-        × ((written : List ℕ) × (IsDone name.now text.now written ending answer
-        × Appends (W.contents out.old.inner) (W.contents out.new.inner) written)))) }
-    ensures boundary { IfOk result (λ ending. StopsIn text.now ending) }
-    ensures good { OnOk result (out.new.failed ≡ false) }
-    ensures begun { OnErr result (Begun
-        (PiecesAnswer rules.now.lexer (map string_bytes rules.now.modes.items) form recovers several
-        name.now text.now)
-        (W.contents out.old.inner) (W.contents out.new.inner)) }
-    ensures memory { IfErr result (λ e. e ≡ RunError.OutOfMemory → out.new.failed ≡ false) }
-    ensures write { IfErr result (λ e. e ≡ RunError.Write → out.new.failed ≡ true) }
-    ensures read { IfErr result (λ e. e ≢ RunError.Read) }
-    ensures no_late_write { out.new.late ≡ out.old.late }
-{
-    let layout = Layout {
-        form,
-        recovers,
-        file: several.then_some(name),
-        modes: &rules.modes,
-    };
-    let end = write_items(alloc, &rules.lexer, &layout, text, out)?;
-    Ok(pieces_ending(recovers, &rules.modes, &end))
-}
-
-// Cuts a text by named rules, and writes it as markup.
-fn cut_page<'text, W: Write>(
-    alloc: Global,
-    rules: &'text FileLexer,
-    markup: Markup,
-    name: &str,
-    text: &'text str,
-    out: &mut Watched<W>,
-) -> Result<CutResult<'text>, RunError>
-    requires out_good { out.old.failed ≡ false }
-    ensures done { IfOk result (λ ending. (answer : Answer)
-        × (PageAnswer rules.now.lexer (map string_bytes rules.now.modes.items) markup
-        name.now text.now answer
-        × ((written : List ℕ) × (IsDone name.now text.now written ending answer
-        × Appends (W.contents out.old.inner) (W.contents out.new.inner) written)))) }
-    ensures boundary { IfOk result (λ ending. StopsIn text.now ending) }
-    ensures good { OnOk result (out.new.failed ≡ false) }
-    ensures begun { OnErr result (Begun
-        (PageAnswer rules.now.lexer (map string_bytes rules.now.modes.items) markup name.now text.now)
-        (W.contents out.old.inner) (W.contents out.new.inner)) }
-    ensures memory { IfErr result (λ e. e ≡ RunError.OutOfMemory → out.new.failed ≡ false) }
-    ensures write { IfErr result (λ e. e ≡ RunError.Write → out.new.failed ≡ true) }
-    ensures read { IfErr result (λ e. e ≢ RunError.Read) }
-    ensures no_late_write { out.new.late ≡ out.old.late }
-{
-    let end = write_page(alloc, &rules.lexer, markup, text, out)?;
-    Ok(ending_behind(&rules.modes, &end))
-}
-
-// Does the task for a text.
-fn run_task<'text, W: Write>(
-    alloc: Global,
-    task: &Task<'text>,
-    name: &str,
-    text: &'text str,
-    out: &mut Watched<W>,
-) -> Result<CutResult<'text>, RunError>
-    requires out_good { out.old.failed ≡ false }
-    ensures done { IfOk result (λ ending. (answer : Answer)
-        × (TaskAnswer task.now name.now text.now answer
-        × ((written : List ℕ) × (IsDone name.now text.now written ending answer
-        × Appends (W.contents out.old.inner) (W.contents out.new.inner) written)))) }
-    ensures boundary { IfOk result (λ ending. StopsIn text.now ending) }
-    ensures good { OnOk result (out.new.failed ≡ false) }
-    ensures begun { OnErr result (Begun (TaskAnswer task.now name.now text.now)
-        (W.contents out.old.inner) (W.contents out.new.inner)) }
-    ensures memory { IfErr result (λ e. e ≡ RunError.OutOfMemory → out.new.failed ≡ false) }
-    ensures write { IfErr result (λ e. e ≡ RunError.Write → out.new.failed ≡ true) }
-    ensures read { IfErr result (λ e. e ≢ RunError.Read) }
-    ensures no_late_write { out.new.late ≡ out.old.late }
-{
-    match *task {
-        Task::Tokens { lexer, places } => cut_tokens(alloc, lexer, places, name, text, out),
-        Task::Pieces {
-            rules,
-            form,
-            recovers,
-            several,
-        } => cut_pieces(alloc, rules, form, recovers, several, name, text, out),
-        Task::Markup { rules, markup } => cut_page(alloc, rules, markup, name, text, out),
-    }
-}
-
-// Says where cutting stopped.
-fn say_stopped<E: Write>(
-    alloc: Global,
-    kind: &str,
-    name: &str,
-    text: &str,
-    at: usize,
-    err: &mut Watched<E>,
-) -> Result<(), RunError>
-    requires boundary { IsCharBoundary text.now at }
-    ensures said { OnOk result
-        (Takes E.contents err.old err.new (fault_text kind.now name.now text.now at)) }
-    ensures memory { IfErr result (λ e. e ≡ RunError.OutOfMemory) }
-    ensures no_late_message { err.new.late ≡ err.old.late }
-{
-    let Ok(message) = fault_message(alloc, kind, name, text, at) else {
-        return Err(RunError::OutOfMemory);
-    };
-    say(message.as_str(), err);
-    Ok(())
-}
-
-// Says in which mode the text ends, and where it was entered.
-fn say_open<E: Write>(
-    alloc: Global,
-    mode: &str,
-    name: &str,
-    text: &str,
-    at: usize,
-    err: &mut Watched<E>,
-) -> Result<(), RunError>
-    requires boundary { IsCharBoundary text.now at }
-    ensures said { OnOk result
-        (Takes E.contents err.old err.new (open_text mode.now name.now text.now at)) }
-    ensures memory { IfErr result (λ e. e ≡ RunError.OutOfMemory) }
-    ensures no_late_message { err.new.late ≡ err.old.late }
-{
-    let Ok(message) = open_message(alloc, mode, name, text, at) else {
-        return Err(RunError::OutOfMemory);
-    };
-    say(message.as_str(), err);
-    Ok(())
-}
-
-// Does the task for a text, and returns the status.
-fn cut_text<W: Write, E: Write>(
-    alloc: Global,
-    task: &Task<'_>,
     name: &str,
     text: &str,
     out: &mut Watched<W>,
@@ -289,10 +127,11 @@ fn cut_text<W: Write, E: Write>(
 ) -> Result<u8, RunError>
     requires out_good { out.old.failed ≡ false }
     ensures answer { IfOk result (λ status. (answer : Answer)
-        × (TaskAnswer task.now name.now text.now answer
+        × (TextTokens lexer.now.trees lexer.now.precedences places name.now text.now answer
         × Answered W.contents E.contents out.old out.new err.old err.new status answer)) }
     ensures good { OnOk result (out.new.failed ≡ false) }
-    ensures begun { OnErr result (Begun (TaskAnswer task.now name.now text.now)
+    ensures begun { OnErr result (Begun (TextTokens lexer.now.trees lexer.now.precedences places
+        name.now text.now)
         (W.contents out.old.inner) (W.contents out.new.inner)) }
     ensures memory { IfErr result (λ e. e ≡ RunError.OutOfMemory → out.new.failed ≡ false) }
     ensures write { IfErr result (λ e. e ≡ RunError.Write → out.new.failed ≡ true) }
@@ -300,24 +139,35 @@ fn cut_text<W: Write, E: Write>(
     ensures no_late_write { out.new.late ≡ out.old.late }
     ensures no_late_message { err.new.late ≡ err.old.late }
 {
-    match run_task(alloc, task, name, text, out)? {
-        CutResult::Whole => Ok(0),
-        CutResult::Faulty => Ok(1),
-        CutResult::Stopped { kind, at } => {
-            say_stopped(alloc, kind, name, text, at, err)?;
-            Ok(1)
-        }
-        CutResult::Open { mode, at } => {
-            say_open(alloc, mode, name, text, at, err)?;
-            Ok(1)
-        }
-    }
+    let outcome = write_tokens(alloc, lexer, places.then_some(name), text, out)?;
+    tell_stop(alloc, name, text, stop_of(&outcome), err)
 }
 
-// Does the task for these bytes of a file, and returns the status.
+// Says that the bytes of a file are no text from here on, and returns the status.
+fn refuse_bytes<E: Write>(
+    alloc: Global,
+    name: &str,
+    lack: &TextError,
+    err: &mut Watched<E>,
+) -> Result<u8, RunError>
+    ensures status { IfOk result (λ status. status ≡ 6) }
+    ensures said { OnOk result
+        (Takes E.contents err.old err.new (about name.now (lack_text lack.now))) }
+    ensures memory { IfErr result (λ e. e ≡ RunError.OutOfMemory) }
+    ensures no_late_message { err.new.late ≡ err.old.late }
+{
+    let Ok(message) = lack_message(alloc, name, lack) else {
+        return Err(RunError::OutOfMemory);
+    };
+    say(message.as_str(), err);
+    Ok(NO_TEXT)
+}
+
+// Cuts the text that these bytes are by terminals, writes the lines of its tokens, and returns the status.
 fn cut_bytes<W: Write, E: Write>(
     alloc: Global,
-    task: &Task<'_>,
+    lexer: &Lexer,
+    places: bool,
     name: &str,
     bytes: Vec<u8>,
     out: &mut Watched<W>,
@@ -325,10 +175,12 @@ fn cut_bytes<W: Write, E: Write>(
 ) -> Result<u8, RunError>
     requires out_good { out.old.failed ≡ false }
     ensures answer { IfOk result (λ status. (answer : Answer)
-        × (TextOf (TaskAnswer task.now) name.now bytes.items answer
+        × (TextOf (TextTokens lexer.now.trees lexer.now.precedences places)
+        name.now bytes.items answer
         × Answered W.contents E.contents out.old out.new err.old err.new status answer)) }
     ensures good { OnOk result (out.new.failed ≡ false) }
-    ensures begun { OnErr result (Begun (TextOf (TaskAnswer task.now) name.now bytes.items)
+    ensures begun { OnErr result (Begun (TextOf (TextTokens lexer.now.trees lexer.now.precedences places)
+        name.now bytes.items)
         (W.contents out.old.inner) (W.contents out.new.inner)) }
     ensures memory { IfErr result (λ e. e ≡ RunError.OutOfMemory → out.new.failed ≡ false) }
     ensures write { IfErr result (λ e. e ≡ RunError.Write → out.new.failed ≡ true) }
@@ -337,21 +189,226 @@ fn cut_bytes<W: Write, E: Write>(
     ensures no_late_message { err.new.late ≡ err.old.late }
 {
     match simdutf8::compat::from_utf8(without_mark(&bytes)) {
-        Ok(text) => cut_text(alloc, task, name, text, out, err),
+        Ok(text) => cut_text(alloc, lexer, places, name, text, out, err),
         Err(error) => {
             let lack = TextError::NotText {
                 at: error.valid_up_to(),
             };
-            let Ok(reason) = format!(in alloc; "{lack}") else {
-                return Err(RunError::OutOfMemory);
-            };
-            say_about(alloc, name, reason.as_str(), err)?;
-            Ok(NO_TEXT)
+            refuse_bytes(alloc, name, &lack, err)
         }
     }
 }
 
-// Does the task for a file, and returns the status.
+// Cuts what is read by terminals, writes the lines of its tokens, and returns the status. It is read to its end first.
+fn cut_tokens<R: Read, W: Write, E: Write>(
+    alloc: Global,
+    lexer: &Lexer,
+    places: bool,
+    name: &str,
+    reader: &mut Watched<R>,
+    out: &mut Watched<W>,
+    err: &mut Watched<E>,
+) -> Result<u8, RunError>
+    requires out_good { out.old.failed ≡ false }
+    ensures answer { IfOk result (λ status. (answer : Answer)
+        × (ReadAnswer (StreamGives R.remaining reader.old reader.new)
+        (TokensAnswer lexer.now.trees lexer.now.precedences places name.now) answer
+        × Answered W.contents E.contents out.old out.new err.old err.new status answer)) }
+    ensures good { OnOk result (out.new.failed ≡ false) }
+    ensures begun { OnErr result (Begun (ReadAnswer (StreamGives R.remaining reader.old reader.new)
+        (TokensAnswer lexer.now.trees lexer.now.precedences places name.now))
+        (W.contents out.old.inner) (W.contents out.new.inner)) }
+    ensures memory { IfErr result (λ e. e ≡ RunError.OutOfMemory → out.new.failed ≡ false) }
+    ensures write { IfErr result (λ e. e ≡ RunError.Write → out.new.failed ≡ true) }
+    ensures read { IfErr result (λ e. e ≢ RunError.Read) }
+    ensures no_late_read { reader.new.late ≡ reader.old.late }
+    ensures no_late_write { out.new.late ≡ out.old.late }
+    ensures no_late_message { err.new.late ≡ err.old.late }
+{
+    match bytes_left(alloc, name, reader, err)? {
+        Some(bytes) => cut_bytes(alloc, lexer, places, name, bytes, out, err),
+        None => Ok(NO_TEXT),
+    }
+}
+
+// ---- by named rules
+
+// The status of a text that named rules cut.
+fn status_of(end: &CutEnd) -> u8
+    ensures { result ≡ status_of_cut end.now }
+{
+    match end {
+        CutEnd::Whole {
+            has_fault: false,
+            inside: None,
+        } => 0,
+        CutEnd::Whole { .. } | CutEnd::Stopped { .. } => 1,
+        CutEnd::Broken(_) => NO_TEXT,
+    }
+}
+
+// The line that says in which mode a text ends, where cutting stopped, or why the text breaks off; nothing if it's in order.
+fn end_message(
+    alloc: Global,
+    modes: &[String],
+    name: &str,
+    end: &CutEnd,
+) -> Result<String, AllocError>
+    ensures message { IfOk result (λ message.
+        string_bytes message ≡ text_of_cut (map string_bytes modes.now) name.now end.now) }
+{
+    match end {
+        CutEnd::Whole { inside, .. } => match inside {
+            Some(open) => open_message(alloc, mode_name(modes, open.mode), name, open.place),
+            None => Ok(String::new(alloc)),
+        },
+        CutEnd::Stopped { place, found } => {
+            fault_message(alloc, "rule", name, *place, Some(*found))
+        }
+        CutEnd::Broken(error) => lack_message(alloc, name, error),
+    }
+}
+
+// Says how cutting ended, if something is wrong, and returns the status.
+fn tell_end<E: Write>(
+    alloc: Global,
+    modes: &[String],
+    name: &str,
+    end: &CutEnd,
+    err: &mut Watched<E>,
+) -> Result<u8, RunError>
+    ensures status { IfOk result (λ status. status ≡ status_of_cut end.now) }
+    ensures said { OnOk result (Takes E.contents err.old err.new
+        (text_of_cut (map string_bytes modes.now) name.now end.now)) }
+    ensures memory { IfErr result (λ e. e ≡ RunError.OutOfMemory) }
+    ensures no_late_message { err.new.late ≡ err.old.late }
+{
+    let Ok(message) = end_message(alloc, modes, name, end) else {
+        return Err(RunError::OutOfMemory);
+    };
+    say(message.as_str(), err);
+    Ok(status_of(end))
+}
+
+// Cuts what is read by named rules, writes the lines of its pieces, and returns the status.
+fn cut_pieces<R: Read, W: Write, E: Write>(
+    alloc: Global,
+    rules: &FileLexer,
+    form: LineForm,
+    recovers: bool,
+    several: bool,
+    name: &str,
+    reader: &mut Watched<R>,
+    out: &mut Watched<W>,
+    err: &mut Watched<E>,
+) -> Result<u8, RunError>
+    requires out_good { out.old.failed ≡ false }
+    ensures answer { IfOk result (λ status. (answer : Answer)
+        × (ReadAnswer (StreamGives R.remaining reader.old reader.new)
+        (PiecesAnswer rules.now.lexer (map string_bytes rules.now.modes.items)
+        form recovers several name.now) answer
+        × Answered W.contents E.contents out.old out.new err.old err.new status answer)) }
+    ensures good { OnOk result (out.new.failed ≡ false) }
+    ensures begun { OnErr result (Begun (ReadAnswer (StreamGives R.remaining reader.old reader.new)
+        (EitherAnswer (PiecesAnswer rules.now.lexer (map string_bytes rules.now.modes.items)
+        form recovers several)
+        (PiecesPart rules.now.lexer (map string_bytes rules.now.modes.items)
+        form recovers several)
+        name.now))
+        (W.contents out.old.inner) (W.contents out.new.inner)) }
+    ensures memory { IfErr result (λ e. e ≡ RunError.OutOfMemory → out.new.failed ≡ false) }
+    ensures write { IfErr result (λ e. e ≡ RunError.Write → out.new.failed ≡ true) }
+    ensures read { IfErr result (λ e. e ≢ RunError.Read) }
+    ensures no_late_read { reader.new.late ≡ reader.old.late }
+    ensures no_late_write { out.new.late ≡ out.old.late }
+    ensures no_late_message { err.new.late ≡ err.old.late }
+{
+    let layout = Layout {
+        form,
+        recovers,
+        file: several.then_some(name),
+        modes: &rules.modes,
+    };
+    let end = write_items(alloc, &rules.lexer, &layout, reader, out)?;
+    tell_end(alloc, &rules.modes, name, &end, err)
+}
+
+// Cuts what is read by named rules, writes it as markup, and returns the status.
+fn cut_page<R: Read, W: Write, E: Write>(
+    alloc: Global,
+    rules: &FileLexer,
+    markup: Markup,
+    name: &str,
+    reader: &mut Watched<R>,
+    out: &mut Watched<W>,
+    err: &mut Watched<E>,
+) -> Result<u8, RunError>
+    requires out_good { out.old.failed ≡ false }
+    ensures answer { IfOk result (λ status. (answer : Answer)
+        × (ReadAnswer (StreamGives R.remaining reader.old reader.new)
+        (PageAnswer rules.now.lexer (map string_bytes rules.now.modes.items) markup name.now) answer
+        × Answered W.contents E.contents out.old out.new err.old err.new status answer)) }
+    ensures good { OnOk result (out.new.failed ≡ false) }
+    ensures begun { OnErr result (Begun (ReadAnswer (StreamGives R.remaining reader.old reader.new)
+        (EitherAnswer (PageAnswer rules.now.lexer (map string_bytes rules.now.modes.items) markup)
+        (PagePart rules.now.lexer (map string_bytes rules.now.modes.items) markup)
+        name.now))
+        (W.contents out.old.inner) (W.contents out.new.inner)) }
+    ensures memory { IfErr result (λ e. e ≡ RunError.OutOfMemory → out.new.failed ≡ false) }
+    ensures write { IfErr result (λ e. e ≡ RunError.Write → out.new.failed ≡ true) }
+    ensures read { IfErr result (λ e. e ≢ RunError.Read) }
+    ensures no_late_read { reader.new.late ≡ reader.old.late }
+    ensures no_late_write { out.new.late ≡ out.old.late }
+    ensures no_late_message { err.new.late ≡ err.old.late }
+{
+    let end = write_page(alloc, &rules.lexer, markup, reader, out)?;
+    tell_end(alloc, &rules.modes, name, &end, err)
+}
+
+// ---- files
+
+// Does the task for what is read, and returns the status.
+fn run_task<R: Read, W: Write, E: Write>(
+    alloc: Global,
+    task: &Task<'_>,
+    name: &str,
+    reader: &mut Watched<R>,
+    out: &mut Watched<W>,
+    err: &mut Watched<E>,
+) -> Result<u8, RunError>
+    requires out_good { out.old.failed ≡ false }
+    ensures answer { IfOk result (λ status. (answer : Answer)
+        × (ReadAnswer (StreamGives R.remaining reader.old reader.new)
+        (TaskAnswer task.now name.now) answer
+        × Answered W.contents E.contents out.old out.new err.old err.new status answer)) }
+    ensures good { OnOk result (out.new.failed ≡ false) }
+    ensures begun { OnErr result (Begun (ReadAnswer (StreamGives R.remaining reader.old reader.new)
+        (EitherAnswer (TaskAnswer task.now) (TaskPart task.now) name.now))
+        (W.contents out.old.inner) (W.contents out.new.inner)) }
+    ensures memory { IfErr result (λ e. e ≡ RunError.OutOfMemory → out.new.failed ≡ false) }
+    ensures write { IfErr result (λ e. e ≡ RunError.Write → out.new.failed ≡ true) }
+    ensures read { IfErr result (λ e. e ≢ RunError.Read) }
+    ensures no_late_read { reader.new.late ≡ reader.old.late }
+    ensures no_late_write { out.new.late ≡ out.old.late }
+    ensures no_late_message { err.new.late ≡ err.old.late }
+{
+    match *task {
+        Task::Tokens { lexer, places } => {
+            cut_tokens(alloc, lexer, places, name, reader, out, err)
+        }
+        Task::Pieces {
+            rules,
+            form,
+            recovers,
+            several,
+        } => cut_pieces(
+            alloc, rules, form, recovers, several, name, reader, out, err,
+        ),
+        Task::Markup { rules, markup } => { cut_page(alloc, rules, markup, name, reader, out, err) }
+    }
+}
+
+// Does the task for a file, and returns the status. The file is open until then.
 fn cut_file<F: Files, W: Write, E: Write>(
     alloc: Global,
     task: &Task<'_>,
@@ -362,11 +419,12 @@ fn cut_file<F: Files, W: Write, E: Write>(
 ) -> Result<u8, RunError>
     requires out_good { out.old.failed ≡ false }
     ensures answer { IfOk result (λ status. (answer : Answer)
-        × (Reads (F.gives files.now) (TextOf (TaskAnswer task.now)) name.now answer
+        × (ReadAnswer (F.gives files.now name.now)
+        (ReadingAnswer (TaskAnswer task.now) name.now) answer
         × Answered W.contents E.contents out.old out.new err.old err.new status answer)) }
     ensures good { OnOk result (out.new.failed ≡ false) }
-    ensures begun { OnErr result (Begun
-        (Reads (F.gives files.now) (TextOf (TaskAnswer task.now)) name.now)
+    ensures begun { OnErr result (Begun (ReadAnswer (F.gives files.now name.now)
+        (EitherAnswer (ReadingAnswer (TaskAnswer task.now)) (TaskPart task.now) name.now))
         (W.contents out.old.inner) (W.contents out.new.inner)) }
     ensures memory { IfErr result (λ e. e ≡ RunError.OutOfMemory → out.new.failed ≡ false) }
     ensures write { IfErr result (λ e. e ≡ RunError.Write → out.new.failed ≡ true) }
@@ -374,39 +432,13 @@ fn cut_file<F: Files, W: Write, E: Write>(
     ensures no_late_write { out.new.late ≡ out.old.late }
     ensures no_late_message { err.new.late ≡ err.old.late }
 {
-    match bytes_of(alloc, files, name, err)? {
-        Some(bytes) => cut_bytes(alloc, task, name, bytes, out, err),
-        None => Ok(NO_TEXT),
-    }
-}
-
-// Does the task for standard input, and returns the status.
-fn cut_input<R: Read, W: Write, E: Write>(
-    alloc: Global,
-    task: &Task<'_>,
-    input: &mut Watched<R>,
-    out: &mut Watched<W>,
-    err: &mut Watched<E>,
-) -> Result<u8, RunError>
-    requires out_good { out.old.failed ≡ false }
-    ensures answer { IfOk result (λ status. (answer : Answer)
-        × (Reads (λ name. StreamGives R.remaining input.old input.new)
-        (TextOf (TaskAnswer task.now)) (codes "<stdin>") answer
-        × Answered W.contents E.contents out.old out.new err.old err.new status answer)) }
-    ensures good { OnOk result (out.new.failed ≡ false) }
-    ensures begun { OnErr result (Begun (Reads (λ name. StreamGives R.remaining input.old input.new)
-        (TextOf (TaskAnswer task.now)) (codes "<stdin>"))
-        (W.contents out.old.inner) (W.contents out.new.inner)) }
-    ensures memory { IfErr result (λ e. e ≡ RunError.OutOfMemory → out.new.failed ≡ false) }
-    ensures write { IfErr result (λ e. e ≡ RunError.Write → out.new.failed ≡ true) }
-    ensures read { IfErr result (λ e. e ≢ RunError.Read) }
-    ensures no_late_read { input.new.late ≡ input.old.late }
-    ensures no_late_write { out.new.late ≡ out.old.late }
-    ensures no_late_message { err.new.late ≡ err.old.late }
-{
-    match input_bytes(alloc, input, err)? {
-        Some(bytes) => cut_bytes(alloc, task, INPUT, bytes, out, err),
-        None => Ok(NO_TEXT),
+    match files.open(alloc, name) {
+        Ok(reader) => run_task(alloc, task, name, &mut Watched::new(reader), out, err),
+        Err(NoBytes::OutOfMemory) => Err(RunError::OutOfMemory),
+        Err(NoBytes::Because(reason)) => {
+            say_about(alloc, name, reason.as_str(), err)?;
+            Ok(NO_TEXT)
+        }
     }
 }
 
@@ -429,12 +461,13 @@ fn cut_file_or_input<F: Files, R: Read, W: Write, E: Write>(
 ) -> Result<u8, RunError>
     requires out_good { out.old.failed ≡ false }
     ensures answer { IfOk result (λ status. (answer : Answer)
-        × (FileAnswer (F.gives files.now) (StreamGives R.remaining) (TaskAnswer task.now)
-        input.old input.new name.now answer
+        × (FileAnswer (F.gives files.now) (StreamGives R.remaining)
+        (ReadingAnswer (TaskAnswer task.now)) input.old input.new name.now answer
         × Answered W.contents E.contents out.old out.new err.old err.new status answer)) }
     ensures good { OnOk result (out.new.failed ≡ false) }
     ensures begun { OnErr result (Begun (FileAnswer (F.gives files.now) (StreamGives R.remaining)
-        (TaskAnswer task.now) input.old input.new name.now)
+        (EitherAnswer (ReadingAnswer (TaskAnswer task.now)) (TaskPart task.now))
+        input.old input.new name.now)
         (W.contents out.old.inner) (W.contents out.new.inner)) }
     ensures memory { IfErr result (λ e. e ≡ RunError.OutOfMemory → out.new.failed ≡ false) }
     ensures write { IfErr result (λ e. e ≡ RunError.Write → out.new.failed ≡ true) }
@@ -444,7 +477,7 @@ fn cut_file_or_input<F: Files, R: Read, W: Write, E: Write>(
     ensures no_late_message { err.new.late ≡ err.old.late }
 {
     if is_input(name) {
-        cut_input(alloc, task, input, out, err)
+        run_task(alloc, task, INPUT, input, out, err)
     } else {
         cut_file(alloc, task, files, name, out, err)
     }
@@ -464,12 +497,14 @@ fn cut_numbered<F: Files, R: Read, W: Write, E: Write>(
 ) -> Result<u8, RunError>
     requires out_good { out.old.failed ≡ false }
     ensures answer { IfOk result (λ status. (answer : Answer)
-        × (NumberedAnswer (F.gives files.now) (StreamGives R.remaining) (TaskAnswer task.now)
-        total number input.old input.new name.now answer
+        × (NumberedAnswer (F.gives files.now) (StreamGives R.remaining)
+        (ReadingAnswer (TaskAnswer task.now)) total number input.old input.new name.now answer
         × Answered W.contents E.contents out.old out.new err.old err.new status answer)) }
     ensures good { OnOk result (out.new.failed ≡ false) }
     ensures begun { OnErr result (Begun (NumberedAnswer (F.gives files.now)
-        (StreamGives R.remaining) (TaskAnswer task.now) total number input.old input.new name.now)
+        (StreamGives R.remaining)
+        (EitherAnswer (ReadingAnswer (TaskAnswer task.now)) (TaskPart task.now))
+        total number input.old input.new name.now)
         (W.contents out.old.inner) (W.contents out.new.inner)) }
     ensures memory { IfErr result (λ e. e ≡ RunError.OutOfMemory → out.new.failed ≡ false) }
     ensures write { IfErr result (λ e. e ≡ RunError.Write → out.new.failed ≡ true) }
@@ -499,12 +534,14 @@ fn cut_each<F: Files, R: Read, W: Write, E: Write>(
     requires out_good { out.old.failed ≡ false }
     ensures answer { IfOk result (λ status. (answer : Answer)
         × (FilesAnswer (NumberedAnswer (F.gives files.now) (StreamGives R.remaining)
-        (TaskAnswer task.now) total) 1 input.old input.new (map (λ name. name.now) names.now) answer
+        (ReadingAnswer (TaskAnswer task.now)) total) 1 input.old input.new
+        (map (λ name. name.now) names.now) answer
         × Answered W.contents E.contents out.old out.new err.old err.new status answer)) }
     ensures good { OnOk result (out.new.failed ≡ false) }
     ensures begun { OnErr result (Begun (FirstFilesAnswer (NumberedAnswer (F.gives files.now)
-        (StreamGives R.remaining) (TaskAnswer task.now) total) input.old
-        (map (λ name. name.now) names.now))
+        (StreamGives R.remaining) (ReadingAnswer (TaskAnswer task.now)) total)
+        (NumberedAnswer (F.gives files.now) (StreamGives R.remaining) (TaskPart task.now) total)
+        input.old (map (λ name. name.now) names.now))
         (W.contents out.old.inner) (W.contents out.new.inner)) }
     ensures memory { IfErr result (λ e. e ≡ RunError.OutOfMemory → out.new.failed ≡ false) }
     ensures write { IfErr result (λ e. e ≡ RunError.Write → out.new.failed ≡ true) }
@@ -536,11 +573,11 @@ pub(crate) fn cut_all<F: Files, R: Read, W: Write, E: Write>(
     requires out_good { out.old.failed ≡ false }
     ensures answer { IfOk result (λ status. (answer : Answer)
         × (TextsAnswer (F.gives files.now) (StreamGives R.remaining) input.old input.new verbosity
-        (TaskAnswer task.now) (map (λ name. name.now) names.now) answer
+        (TaskAnswer task.now) (TaskPart task.now) (map (λ name. name.now) names.now) answer
         × Answered W.contents E.contents out.old out.new err.old err.new status answer)) }
     ensures good { OnOk result (out.new.failed ≡ false) }
     ensures begun { OnErr result (Begun (FirstTextsAnswer (F.gives files.now)
-        (StreamGives R.remaining) input.old verbosity (TaskAnswer task.now)
+        (StreamGives R.remaining) input.old verbosity (TaskAnswer task.now) (TaskPart task.now)
         (map (λ name. name.now) names.now))
         (W.contents out.old.inner) (W.contents out.new.inner)) }
     ensures memory { IfErr result (λ e. e ≡ RunError.OutOfMemory → out.new.failed ≡ false) }

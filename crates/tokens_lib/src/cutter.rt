@@ -1,71 +1,95 @@
-//! A text that is cut piece by piece, and what is known of its pieces so far.
-ghost use Rattle.std.specs.Prelude.{◌≡◌, ℕ, List, reverse, None, Some, IfOk, IfErr, IfNone, IfSome, OnOk};
-ghost use Rattle.lalrpop_modes.specs.Modes.{ArePiecesFrom};
-ghost use Rattle.lalrpop_modes.specs.Stack.{Stack, start};
-ghost use Rattle.lalrpop_rules.specs.declared.item.Item.{Item as ItemValue};
-ghost use Rattle.tokens_lib.specs.OpenModes.{pushed, pushed_all, open_after, open_mode};
-ghost use Rattle.tokens_lib.specs.Internal.CutTexts.{IsUncut, GivesNext};
-ghost use Rattle.tokens_lib.specs.Internal.Faults.{first_with};
+//! A text that is cut piece by piece as it comes, and what is known of its pieces so far.
+ghost use Rattle.std.specs.Prelude.{◌≡◌, ◌≢◌, ◌+◌, ◌≤◌, ◌∷◌, ◌++◌, ◌⊎◌, ◌||◌, ℕ, List, [], is_none, length, reverse, take, false, true, None, Some, Ok, IfOk, IfErr, IfNone, IfSome, OnOk, OnErr};
+ghost use Rattle.std.specs.Borrow.{Bor};
+ghost use Rattle.std.specs.Io.KnownBytes.{Consumes};
+ghost use Rattle.std.specs.Str.{chars, IsUtf8};
+ghost use Rattle.lalrpop_edits.specs.Chunked.{nothing_come, GivesFinal, BeginsFault, MayMatch};
+ghost use Rattle.lalrpop_edits.specs.Decoded.{nothing_decoded};
+ghost use Rattle.lalrpop_edits.specs.Given.{item_of};
+ghost use Rattle.tokens_lib.specs.OpenModes.{pushed, pushed_all};
+ghost use Rattle.tokens_lib.specs.Internal.CutTexts.{Comes, GivesCut, IsCutInto, end_by, open_place, opened_by, place_after};
+ghost use Rattle.tokens_lib.specs.Internal.Incoming.{IsIncoming};
 
-use crate::text_end::{OpenMode, TextEnd};
-use lalrpop_modes::{Action, ModeItems, ModeLexer};
-use lalrpop_rules::Item;
-use lexdfa_lib::RunError;
+use crate::cut_end::{CutEnd, OpenMode};
+use crate::incoming::{Brought, Incoming};
+use lalrpop_edits::GivenPiece;
+use lalrpop_lexer::Position;
+use lalrpop_lexer::lexer::dfa::NfaIndex;
+use lalrpop_modes::{Action, ModeLexer};
+use lexdfa_lib::{RunError, Watched};
+use lines_lib::TextError;
 use std::alloc::{AllocError, Global};
-use std::marker::Model;
+use std::io::Read;
 
-/// Cuts a text piece by piece, and knows the mode of the last piece, where the first fault begins, and where the modes were
-/// entered that have one below them.
-#[derive(Debug, Drop)]
-pub(crate) struct Cutter<'text> {
-    lexer: &'text ModeLexer,
-    items: ModeItems<'text>,
-    mode: usize,
-    first_fault: Option<usize>,
+/// Cuts a text piece by piece as it comes, and knows whether a fault was among the pieces, where the modes were entered that
+/// have one below them, and where the next piece begins.
+#[derive(Drop)]
+pub(crate) struct Cutter<'rules> {
+    lexer: &'rules ModeLexer,
+    incoming: Incoming<'rules>,
+    has_fault: bool,
     // The mode on top is the last one.
-    begins: Vec<usize>,
+    places: Vec<Position>,
+    // Where the next piece begins: its line and column, and in bytes.
+    here: Position,
+    at: usize,
 }
 
-impl<'text> Model for Cutter<'text> {
-    ghost use Rattle.std.specs.Prelude.{◌≡◌, reverse};
-    ghost use Rattle.tokens_lib.specs.Internal.Code.{cut_text_code};
-    ghost use Rattle.tokens_lib.specs.Internal.CutTexts.{CutText};
-
-    ghost Value = { CutText };
-
-    ghost coded = { cut_text_code };
-
-    ghost view = { λ c. record {
-      cut = c.items;
-      mode = c.mode;
-      fault = c.first_fault;
-      begins = reverse c.begins.items;
-    } };
-
-    ghost invariant = { λ c. c.items.rules ≡ c.lexer.now };
+/// A piece, where it begins, and the mode in which it was read.
+#[derive(Clone, Copy, Debug)]
+pub(crate) struct Cut {
+    pub piece: GivenPiece,
+    pub place: Position,
+    pub mode: usize,
 }
 
-// Where the first fault begins, after one more piece.
-fn first_fault_with(first: Option<usize>, item: &Item<'_>) -> Option<usize>
-    ensures { result ≡ first_with first item.now }
+/// What may still come of a text.
+#[derive(Clone, Copy, Debug)]
+pub(crate) enum Coming {
+    /// More of it.
+    More,
+    /// Nothing: it has ended.
+    Nothing,
+    /// Nothing: no character begins at this place, in bytes.
+    NoCharacter { at: usize },
+    /// Nothing: a read failed.
+    Failure,
+}
+
+// The place behind a slice that begins here. None if its numbers are too large.
+fn place_behind(here: Position, slice: &str) -> Option<Position>
+    ensures utf8 { IsUtf8 slice.now }
+    ensures place { IfSome result (λ p. p ≡ place_after here slice.now) }
 {
-    match (first, item) {
-        (Some(start), _) => Some(start),
-        (None, Item::Fault { start, .. }) => Some(*start),
-        (None, _) => None,
+    let own = Position::of(slice, slice.len());
+    if own.line == 1 {
+        let column = here.column.checked_add(own.column - 1)?;
+        return Some(Position {
+            line: here.line,
+            column,
+        });
     }
+    let line = here.line.checked_add(own.line - 1)?;
+    Some(Position {
+        line,
+        column: own.column,
+    })
 }
 
 // Notes where a token begins that pushes a mode.
-fn note_action(begins: &mut Vec<usize>, action: &Action, at: usize) -> Result<(), AllocError>
+fn note_action(
+    places: &mut Vec<Position>,
+    action: &Action,
+    place: Position,
+) -> Result<(), AllocError>
     ensures noted { OnOk result
-        (reverse begins.new.items ≡ pushed at action.now (reverse begins.old.items)) }
+        (reverse places.new.items ≡ pushed place action.now (reverse places.old.items)) }
 {
     match action {
         Action::Mode(_) => {}
-        Action::Push(_) => begins.push(at)?,
+        Action::Push(_) => places.push(place)?,
         Action::Pop => {
-            let _ = begins.pop();
+            let _ = places.pop();
         }
     }
     Ok(())
@@ -73,119 +97,223 @@ fn note_action(begins: &mut Vec<usize>, action: &Action, at: usize) -> Result<()
 
 // Notes what the actions of a token do, one after another.
 #[tactic(auto, using(std::proofs::lemmas::List::Sums::fold_more))]
-fn note_actions(begins: &mut Vec<usize>, actions: &[Action], at: usize) -> Result<(), AllocError>
+fn note_actions(
+    places: &mut Vec<Position>,
+    actions: &[Action],
+    place: Position,
+) -> Result<(), AllocError>
     ensures noted { OnOk result
-        (reverse begins.new.items ≡ pushed_all at actions.now (reverse begins.old.items)) }
+        (reverse places.new.items ≡ pushed_all place actions.now (reverse places.old.items)) }
 {
     for action in actions {
-        note_action(begins, action, at)?;
+        note_action(places, action, place)?;
     }
     Ok(())
 }
 
-// Notes what a piece does.
-fn note_piece(begins: &mut Vec<usize>, lexer: &ModeLexer, item: &Item<'_>) -> Result<(), AllocError>
-    ensures noted { OnOk result (reverse begins.new.items
-        ≡ open_after lexer.now.actions item.now (reverse begins.old.items)) }
+// Notes what a piece by this rule does that begins at this place. A fault does nothing.
+fn note_rule(
+    places: &mut Vec<Position>,
+    lexer: &ModeLexer,
+    rule: Option<usize>,
+    place: Position,
+) -> Result<(), AllocError>
+    ensures noted { OnOk result (reverse places.new.items
+        ≡ opened_by lexer.now.actions place rule (reverse places.old.items)) }
 {
-    match item {
-        Item::Token(token) | Item::Skipped(token) => {
-            note_actions(begins, lexer.actions(token.index), token.start)
-        }
-        Item::Fault { .. } => Ok(()),
+    match rule {
+        Some(rule) => note_actions(places, lexer.actions(NfaIndex::new(rule)), place),
+        None => Ok(()),
     }
 }
 
-impl<'text> Cutter<'text> {
-    /// The whole text, before the first piece.
-    ///
-    /// # Errors
-    ///
-    /// `OutOfMemory` if a request for memory was refused.
-    pub(crate) fn new(
-        alloc: Global,
-        lexer: &'text ModeLexer,
-        text: &'text str,
-    ) -> Result<Cutter<'text>, RunError>
-        ensures uncut { IfOk result (IsUncut lexer.now text.now) }
-        ensures exist { (xs : List ItemValue) × ((end : Stack)
-            × ArePiecesFrom lexer.now text.now 0 start xs end) }
-        ensures memory { IfErr result (λ e. e ≡ RunError.OutOfMemory) }
+// The first character of a text that has one.
+fn first_character(text: &str) -> char
+    requires some { text.now ≢ [] }
+    ensures first { take 1 (chars text.now) ≡ result ∷ [] }
+{
+    match text.chars().next() {
+        Some(first) => first,
+        None => unreachable!(),
+    }
+}
+
+/// How cutting ends at a fault that begins here.
+pub(crate) fn stopped(place: Position, fault: &str) -> CutEnd
+    requires some { fault.now ≢ [] }
+    ensures stopped { (found : ℕ) × ((result ≡ CutEnd.Stopped place found)
+        × (take 1 (chars fault.now) ≡ found ∷ [])) }
+{
+    CutEnd::Stopped {
+        place,
+        found: first_character(fault),
+    }
+}
+
+impl<'rules> Cutter<'rules> {
+    /// Nothing has come yet.
+    pub(crate) fn new(alloc: Global, lexer: &'rules ModeLexer) -> Cutter<'rules>
+        ensures nothing { IsCutInto lexer.now [] [] result }
+        ensures incoming { IsIncoming [] [] [] result.incoming }
+        ensures whole { result.incoming.decoder ≡ nothing_decoded }
+        ensures goes { result.incoming.chunks ≡ nothing_come lexer.now }
     {
-        match lexer.items_linear(alloc, text) {
-            Ok(items) => Ok(Cutter {
-                lexer,
-                items,
-                mode: 0,
-                first_fault: None,
-                begins: Vec::new(alloc),
-            }),
-            Err(_) => Err(RunError::OutOfMemory),
+        Cutter {
+            lexer,
+            incoming: Incoming::new(alloc, lexer),
+            has_fault: false,
+            places: Vec::new(alloc),
+            here: Position { line: 1, column: 1 },
+            at: 0,
         }
     }
 
-    /// The mode in which the last piece was read.
-    pub(crate) fn mode(&self) -> usize
-        ensures mode { result ≡ self.now.mode }
+    /// The slice of the last piece.
+    pub(crate) fn slice(&self) -> &str
+        ensures slice { result.now ≡ self.now.incoming.chunks.last }
     {
-        self.mode
+        self.incoming.chunks.slice()
     }
 
-    /// Where the first fault of the pieces so far begins.
-    pub(crate) fn first_fault(&self) -> Option<usize>
-        ensures fault { result ≡ self.now.fault }
+    // Notes the last piece.
+    fn note(&mut self, piece: &GivenPiece) -> Result<(), AllocError>
+        ensures utf8 { OnOk result (IsUtf8 self.old.incoming.chunks.last) }
+        ensures incoming { OnOk result (self.new.incoming ≡ self.old.incoming) }
+        ensures lexer { OnOk result (self.new.lexer ≡ self.old.lexer) }
+        ensures here { OnOk result (self.new.here
+            ≡ place_after self.old.here self.old.incoming.chunks.last) }
+        ensures at { OnOk result (self.new.at
+            ≡ self.old.at + length self.old.incoming.chunks.last) }
+        ensures fault { OnOk result (self.new.has_fault
+            ≡ (self.old.has_fault || is_none piece.now.rule)) }
+        ensures places { OnOk result (reverse self.new.places.items
+            ≡ opened_by self.old.lexer.now.actions self.old.here piece.now.rule
+            (reverse self.old.places.items)) }
     {
-        self.first_fault
+        let slice = self.incoming.chunks.slice();
+        let Some(here) = place_behind(self.here, slice) else {
+            return Err(AllocError);
+        };
+        let Some(at) = self.at.checked_add(slice.len()) else {
+            return Err(AllocError);
+        };
+        note_rule(&mut self.places, self.lexer, piece.rule, self.here)?;
+        self.has_fault = self.has_fault || piece.rule.is_none();
+        self.here = here;
+        self.at = at;
+        Ok(())
+    }
+
+    /// The next piece, or none if what comes may change it, or all has come and was given.
+    ///
+    /// # Errors
+    ///
+    /// `OutOfMemory` if a request for memory was refused, or if 2^64 bytes have come.
+    pub(crate) fn next_piece(&mut self) -> Result<Option<Cut>, RunError>
+        ensures none { IfOk result (λ found. IfNone found ((self.new ≡ self.old)
+            × GivesFinal self.old.incoming.chunks None self.new.incoming.chunks)) }
+        ensures gives { IfOk result (λ found. IfSome found (λ cut.
+            (slice : Bor (List ℕ)) → slice.now ≡ self.new.incoming.chunks.last
+            → GivesCut self.old (item_of cut.piece slice) cut.place cut.mode self.new)) }
+        ensures memory { IfErr result (λ e. e ≡ RunError.OutOfMemory) }
+    {
+        let mode = self.incoming.chunks.mode();
+        let place = self.here;
+        let piece = match self.incoming.chunks.next_piece() {
+            Ok(Some(piece)) => piece,
+            Ok(None) => return Ok(None),
+            Err(_) => return Err(RunError::OutOfMemory),
+        };
+        if self.note(&piece).is_err() {
+            return Err(RunError::OutOfMemory);
+        }
+        Ok(Some(Cut { piece, place, mode }))
+    }
+
+    /// How cutting ends at the next piece, if a fault begins there, whatever comes.
+    pub(crate) fn stopped_next(&self) -> Option<CutEnd>
+        ensures fault { IfSome result (λ end. (found : ℕ) × ((end ≡ CutEnd.Stopped self.now.here found)
+            × ((take 1 (chars self.now.incoming.chunks.rest) ≡ found ∷ [])
+            × BeginsFault self.now.incoming.chunks))) }
+        ensures none { IfNone result ((self.now.incoming.chunks.rest ≡ [])
+            ⊎ MayMatch self.now.incoming.chunks) }
+    {
+        if !self.incoming.chunks.begins_fault() {
+            return None;
+        }
+        Some(stopped(self.here, self.incoming.chunks.rest()))
+    }
+
+    // How many bytes of the text have come.
+    fn size(&self) -> Result<usize, RunError>
+        ensures size { IfOk result (λ n. n ≡ self.now.at + length self.now.incoming.chunks.rest) }
+        ensures memory { IfErr result (λ e. e ≡ RunError.OutOfMemory) }
+    {
+        match self.at.checked_add(self.incoming.chunks.rest().len()) {
+            Some(size) => Ok(size),
+            None => Err(RunError::OutOfMemory),
+        }
+    }
+
+    /// Reads more of the text, and says what may still come.
+    ///
+    /// # Errors
+    ///
+    /// `OutOfMemory` if a request for memory was refused, or if 2^64 bytes have come.
+    pub(crate) fn read_on<R: Read>(
+        &mut self,
+        alloc: Global,
+        reader: &mut Watched<R>,
+    ) -> Result<Coming, RunError>
+        requires reader_good { reader.old.failed ≡ false }
+        requires whole { self.old.incoming.decoder.is_broken ≡ false }
+        requires goes { self.old.incoming.chunks.is_ended ≡ false }
+        ensures comes { IfOk result (λ coming. Comes self.old.lexer.now
+            (R.remaining reader.old.inner) (R.remaining reader.new.inner) reader.new.failed
+            self.old self.new coming) }
+        ensures same { OnOk result (self.new.lexer ≡ self.old.lexer) }
+        ensures lost { OnErr result ((more : List ℕ)
+            × Consumes (R.remaining reader.old.inner) (R.remaining reader.new.inner) more) }
+        ensures good { OnErr result (reader.new.failed ≡ false) }
+        ensures memory { IfErr result (λ e. e ≡ RunError.OutOfMemory) }
+        ensures no_late_read { reader.new.late ≡ reader.old.late }
+    {
+        match self.incoming.read_on(alloc, reader)? {
+            Brought::Failure => Ok(Coming::Failure),
+            Brought::More if !self.incoming.is_broken() => Ok(Coming::More),
+            Brought::Nothing if !self.incoming.is_within() => {
+                self.incoming.chunks.finish();
+                Ok(Coming::Nothing)
+            }
+            Brought::More | Brought::Nothing => Ok(Coming::NoCharacter { at: self.size()? }),
+        }
     }
 
     // The mode on top, and where it was entered, if it has one below it.
     fn open_mode(&self) -> Option<OpenMode>
-        ensures inside { result ≡ open_mode self.now.cut.stack.mode self.now.begins }
+        ensures inside { result ≡ open_place self.now.incoming.chunks.stack.mode (reverse self.now.places.items) }
     {
-        match self.begins.last() {
-            Some(at) => Some(OpenMode {
-                mode: self.items.stack().top(),
-                at: *at,
+        match self.places.last() {
+            Some(place) => Some(OpenMode {
+                mode: self.incoming.chunks.mode(),
+                place: *place,
             }),
             None => None,
         }
     }
 
-    /// How the text ends, if no piece comes any more.
-    pub(crate) fn end(&self) -> TextEnd
-        ensures end { result ≡ record {
-          fault = self.now.fault;
-          inside = open_mode self.now.cut.stack.mode self.now.begins;
-        } }
+    /// How cutting ends where no more comes, once all pieces were given that can be; none if more may come.
+    pub(crate) fn end(&self, coming: Coming) -> Option<CutEnd>
+        ensures end { result ≡ end_by self.now coming }
     {
-        TextEnd {
-            fault: self.first_fault,
-            inside: self.open_mode(),
-        }
-    }
-
-    /// The next piece, or `None` at the end of the text.
-    ///
-    /// # Errors
-    ///
-    /// `AllocError` if a request for memory was refused.
-    pub(crate) fn next_item(&mut self) -> Option<Result<Item<'text>, AllocError>>
-        ensures none { IfNone result (GivesNext self.old None self.new) }
-        ensures gives { IfSome result (λ found. IfOk found (λ item.
-            GivesNext self.old (Some item) self.new)) }
-    {
-        let mode = self.items.stack().top();
-        match self.items.next_item() {
-            Ok(Some(item)) => {
-                if note_piece(&mut self.begins, self.lexer, &item).is_err() {
-                    return Some(Err(AllocError));
-                }
-                self.mode = mode;
-                self.first_fault = first_fault_with(self.first_fault, &item);
-                Some(Ok(item))
-            }
-            Ok(None) => None,
-            Err(_) => Some(Err(AllocError)),
+        match coming {
+            Coming::More => None,
+            Coming::Nothing => Some(CutEnd::Whole {
+                has_fault: self.has_fault,
+                inside: self.open_mode(),
+            }),
+            Coming::NoCharacter { at } => Some(CutEnd::Broken(TextError::NotText { at })),
+            Coming::Failure => Some(CutEnd::Broken(TextError::Read)),
         }
     }
 }

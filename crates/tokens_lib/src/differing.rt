@@ -2,6 +2,7 @@
 ghost use Rattle.std.specs.Prelude.{◌≡◌, ◌≢◌, false, true, map, string_bytes, IfOk, OnOk, OnErr, IfErr};
 ghost use Rattle.tokens_lib.specs.Answer.{Answer, Answered, Begun};
 ghost use Rattle.tokens_lib.specs.Program.{ComparedAnswer, other_of};
+ghost use Rattle.tokens_lib.specs.Streams.{GivesWhole};
 
 use crate::by_rules::lexer_by_name;
 use crate::command::Verbosity;
@@ -40,11 +41,11 @@ pub(crate) fn compare_with<F: Files, W: Write, E: Write>(
 ) -> Result<u8, RunError>
     requires out_good { out.old.failed ≡ false }
     ensures answer { IfOk result (λ status. (answer : Answer)
-        × (ComparedAnswer (F.gives files.now) verbosity name.now rules.now.lexer
+        × (ComparedAnswer (GivesWhole (F.gives files.now)) verbosity name.now rules.now.lexer
         (map string_bytes rules.now.modes.items) other.now answer
         × Answered W.contents E.contents out.old out.new err.old err.new status answer)) }
     ensures good { OnOk result (out.new.failed ≡ false) }
-    ensures begun { OnErr result (Begun (ComparedAnswer (F.gives files.now) verbosity name.now
+    ensures begun { OnErr result (Begun (ComparedAnswer (GivesWhole (F.gives files.now)) verbosity name.now
         rules.now.lexer (map string_bytes rules.now.modes.items) other.now)
         (W.contents out.old.inner) (W.contents out.new.inner)) }
     ensures memory { IfErr result (λ e. e ≡ RunError.OutOfMemory → out.new.failed ≡ false) }

@@ -1,13 +1,14 @@
 //! The messages for a place where nothing matches, for a text that ends in a mode that has one below it, and for a file that
 //! gives no text.
-ghost use Rattle.std.specs.Prelude.{◌≡◌, ◌++◌, codes, take, flat_map, string_bytes, IfOk, OnOk};
-ghost use Rattle.std.specs.Str.{chars, IsCharBoundary};
-ghost use Rattle.tokens_lib.specs.Answer.{about, headed};
-ghost use Rattle.lalrpop_lexer.specs.Quoted.{told};
+ghost use Rattle.std.specs.Prelude.{◌≡◌, ◌++◌, codes, string_bytes, IfOk, OnOk};
+ghost use Rattle.lines_lib.specs.Text.{lack_text};
 ghost use Rattle.lines_lib.specs.TokenLines.{place_in};
+ghost use Rattle.tokens_lib.specs.Answer.{about, headed};
 ghost use Rattle.tokens_lib.specs.TextAnswer.{fault_text, open_text};
+ghost use Rattle.tokens_lib.specs.Internal.Tasks.{found_told};
 
 use lalrpop_lexer::{Position, push_escaped_char};
+use lines_lib::TextError;
 use std::alloc::{AllocError, Global};
 
 /// A message about a file: its name, and then this.
@@ -32,39 +33,32 @@ pub(crate) fn about(alloc: Global, file: &str, reason: &str) -> Result<String, A
     format!(in alloc; "tokens: {file}: {reason}\n")
 }
 
-// The first character of the text, if it has one.
-fn push_first_char(message: &mut String, text: &str) -> Result<(), AllocError>
-    ensures { OnOk result (string_bytes message.new
-        ≡ string_bytes message.old ++ flat_map told (take 1 (chars text.now))) }
-{
-    match text.chars().next() {
-        Some(c) => push_escaped_char(message, c),
-        None => Ok(()),
-    }
-}
-
-/// The line that says where no terminal or no rule (`kind`) matches, so that the text couldn't be cut further, and shows the
-/// character there.
+/// The line that says that a file gives no text, or that its text breaks off, and why.
 ///
 /// # Errors
 ///
 /// `AllocError` if a request for memory was refused.
-pub(crate) fn fault_message(
+pub(crate) fn lack_message(
     alloc: Global,
-    kind: &str,
     file: &str,
-    text: &str,
-    at: usize,
+    lack: &TextError,
 ) -> Result<String, AllocError>
-    requires boundary { IsCharBoundary text.now at }
     ensures message { IfOk result (λ message.
-        string_bytes message ≡ fault_text kind.now file.now text.now at) }
+        string_bytes message ≡ about file.now (lack_text lack.now)) }
 {
-    let Position { line, column } = Position::of(text, at);
-    let mut message = format!(in alloc; "tokens: {file}:{line}:{column}: no {kind} matches \"")?;
-    push_first_char(&mut message, &text[at..])?;
-    message.push_str("\"\n")?;
-    Ok(message)
+    let reason = format!(in alloc; "{lack}")?;
+    about(alloc, file, &reason)
+}
+
+// The character, if there is one.
+fn push_found(message: &mut String, found: Option<char>) -> Result<(), AllocError>
+    ensures { OnOk result
+        (string_bytes message.new ≡ string_bytes message.old ++ found_told found) }
+{
+    match found {
+        Some(c) => push_escaped_char(message, c),
+        None => Ok(()),
+    }
 }
 
 // How a message about a place begins.
@@ -76,6 +70,31 @@ fn placed(alloc: Global, file: &str, place: Position) -> Result<String, AllocErr
     format!(in alloc; "tokens: {file}:{line}:{column}: ")
 }
 
+/// The line that says where no terminal or no rule (`kind`) matches, so that the text couldn't be cut further, and shows the
+/// character that was found there.
+///
+/// # Errors
+///
+/// `AllocError` if a request for memory was refused.
+pub(crate) fn fault_message(
+    alloc: Global,
+    kind: &str,
+    file: &str,
+    place: Position,
+    found: Option<char>,
+) -> Result<String, AllocError>
+    ensures message { IfOk result (λ message.
+        string_bytes message ≡ fault_text kind.now file.now place (found_told found)) }
+{
+    let mut message = placed(alloc, file, place)?;
+    message.push_str("no ")?;
+    message.push_str(kind)?;
+    message.push_str(" matches \"")?;
+    push_found(&mut message, found)?;
+    message.push_str("\"\n")?;
+    Ok(message)
+}
+
 /// The line that says in which mode the text ends, and where that mode was entered.
 ///
 /// # Errors
@@ -85,14 +104,12 @@ pub(crate) fn open_message(
     alloc: Global,
     mode: &str,
     file: &str,
-    text: &str,
-    at: usize,
+    place: Position,
 ) -> Result<String, AllocError>
-    requires boundary { IsCharBoundary text.now at }
     ensures message { IfOk result (λ message.
-        string_bytes message ≡ open_text mode.now file.now text.now at) }
+        string_bytes message ≡ open_text mode.now file.now place) }
 {
-    let mut message = placed(alloc, file, Position::of(text, at))?;
+    let mut message = placed(alloc, file, place)?;
     message.push_str("the text ends in mode ")?;
     message.push_str(mode)?;
     message.push_str(", which was entered here\n")?;

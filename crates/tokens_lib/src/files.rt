@@ -1,12 +1,12 @@
 //! Files that are read by name, and what is said about them on standard error.
-ghost use Rattle.std.specs.Prelude.{◌≡◌, ◌≢◌, ℕ, List, false, true, Ok, Err, IfOk, IfErr, IfSome, IfNone, OnOk, OnSome};
-ghost use Rattle.lexdfa_lib.specs.Watch.{ReadsAll};
+ghost use Rattle.std.specs.Prelude.{◌≡◌, ℕ, List, [], false, Ok, Err, codes, IfOk, IfErr, IfSome, IfNone, OnOk, OnSome};
+ghost use Rattle.lexdfa_lib.specs.Watch.{Watch};
 ghost use Rattle.tokens_lib.specs.Answer.{about, headed, is_input, shown_name};
-ghost use Rattle.tokens_lib.specs.Streams.{Given, StreamGives, Takes, reason_told};
+ghost use Rattle.tokens_lib.specs.Streams.{Reading, AtEnd, Failed, NotOpened, GivesWhole, StreamGives, Takes, reason_told};
 ghost use Rattle.tokens_lib.specs.declared.files.NoBytes.TheVariants.{OutOfMemory};
 
 use crate::fault::{about, headed};
-use lexdfa_lib::{RunError, Watched, read_whole, write_whole};
+use lexdfa_lib::{RunError, Watched, write_whole};
 use std::alloc::{AllocError, Global};
 use std::fs::{File, OpenFile};
 use std::io::{self, Eprint, ErrorKind, Read, Write};
@@ -32,18 +32,18 @@ pub(crate) fn shown_name(file: &str) -> &str
     if is_input(file) { INPUT } else { file }
 }
 
-/// Why a file gives no bytes.
+/// Why there is nothing to read from.
 ///
 /// ```
 /// use tokens_lib::NoBytes;
 ///
-/// let reason = NoBytes::Because(String::from_str(alloc, "read failed")?);
+/// let reason = NoBytes::Because(String::from_str(alloc, "not found")?);
 /// ```
 #[derive(Debug, Drop)]
 pub enum NoBytes {
     /// A request for memory was refused.
     OutOfMemory,
-    /// It can't be opened or read, for this reason.
+    /// It can't be opened, for this reason.
     Because(String),
 }
 
@@ -55,7 +55,7 @@ impl From<AllocError> for NoBytes {
     }
 }
 
-/// Files that are read by name.
+/// Files that are opened by name.
 ///
 /// ```
 /// use tokens_lib::{Files, NoBytes};
@@ -63,26 +63,35 @@ impl From<AllocError> for NoBytes {
 /// struct Nothing;
 ///
 /// impl Files for Nothing {
-///     ghost gives = { λ files name given. given ≡ Err (codes "not found") };
+///     ghost gives = { λ files name reading.
+///         reading ≡ record { bytes = []; end = NotOpened (codes "not found") } };
 ///
-///     fn read(&self, alloc: Global, _name: &str) -> Result<Vec<u8>, NoBytes> {
+///     type Reader = &'static [u8];
+///
+///     fn open(&self, alloc: Global, _name: &str) -> Result<&'static [u8], NoBytes> {
 ///         Err(NoBytes::Because(String::from_str(alloc, "not found")?))
 ///     }
 /// }
 /// ```
 pub trait Files {
-    // What the file with a name gives.
-    ghost gives: { Self → List ℕ → Given → Type 0 };
+    // What may be read of the file with a name, and how reading it ends.
+    ghost gives: { Self → List ℕ → Reading → Type 0 };
 
-    /// All bytes of the file with this name.
+    /// What an open file is read from.
+    type Reader: Read + Drop;
+
+    /// Opens the file with this name, to be read from its beginning.
     ///
     /// # Errors
     ///
-    /// Why there are none.
-    fn read(&self, alloc: Global, name: &str) -> Result<Vec<u8>, NoBytes>
-        ensures bytes { IfOk result (λ bytes. gives self.now name.now (Ok bytes.items)) }
-        ensures reason { IfErr result (λ e.
-            IfSome (reason_told e) (λ reason. gives self.now name.now (Err reason))) };
+    /// Why there is nothing to read from.
+    fn open(&self, alloc: Global, name: &str) -> Result<Self::Reader, NoBytes>
+        ensures reader { IfOk result (λ reader. (new : Watch Self.Reader) (reading : Reading)
+            → StreamGives Self.Reader.remaining
+            (record { inner = reader; failed = false; late = 0 }) new reading
+            → gives self.now name.now reading) }
+        ensures reason { IfErr result (λ e. IfSome (reason_told e) (λ reason.
+            gives self.now name.now (record { bytes = []; end = NotOpened reason }))) };
 }
 
 /// The files of the system.
@@ -101,20 +110,15 @@ fn opened<R: RuntimeFiles>(rt: &R, name: &str) -> io::Result<R::File> {
 
 impl<R: RuntimeFiles> Files for SystemFiles<'_, R> {
     // No contract can say what is on a disk.
-    ghost gives = { λ files name given. Unit {0} };
+    ghost gives = { λ files name reading. Unit {0} };
 
-    fn read(&self, alloc: Global, name: &str) -> Result<Vec<u8>, NoBytes> {
-        let file = match opened(self.rt, name) {
-            Ok(file) => file,
-            Err(error) if error.kind() == ErrorKind::OutOfMemory => {
-                return Err(NoBytes::OutOfMemory);
-            }
-            Err(error) => return Err(NoBytes::Because(format!(in alloc; "{error}")?)),
-        };
-        match read_whole(alloc, &mut Watched::new(file)) {
-            Ok(bytes) => Ok(bytes),
-            Err(RunError::OutOfMemory) => Err(NoBytes::OutOfMemory),
-            Err(_) => Err(NoBytes::Because(String::from_str(alloc, "read failed")?)),
+    type Reader = R::File;
+
+    fn open(&self, alloc: Global, name: &str) -> Result<R::File, NoBytes> {
+        match opened(self.rt, name) {
+            Ok(file) => Ok(file),
+            Err(error) if error.kind() == ErrorKind::OutOfMemory => Err(NoBytes::OutOfMemory),
+            Err(error) => Err(NoBytes::Because(format!(in alloc; "{error}")?)),
         }
     }
 }
@@ -186,6 +190,62 @@ pub(crate) fn say_about<E: Write>(
     Ok(())
 }
 
+// All bytes that a reader has left, or none if a read fails or has failed before. No call is tried again.
+fn read_all<R: Read>(alloc: Global, reader: &mut Watched<R>) -> Result<Option<Vec<u8>>, RunError>
+    ensures bytes { IfOk result (λ found. IfSome found (λ all.
+        StreamGives R.remaining reader.old reader.new
+        (record { bytes = all.items; end = AtEnd }))) }
+    ensures failed { IfOk result (λ found. IfNone found ((bytes : List ℕ)
+        × StreamGives R.remaining reader.old reader.new
+        (record { bytes = bytes; end = Failed }))) }
+    ensures memory { IfErr result (λ e. e ≡ RunError.OutOfMemory) }
+    ensures no_late_read { reader.new.late ≡ reader.old.late }
+{
+    if reader.failed() {
+        return Ok(None);
+    }
+    let mut all = Vec::new(alloc);
+    let mut buffer = [0u8; 8192];
+    loop {
+        match reader.read(&mut buffer) {
+            Err(_) => return Ok(None),
+            Ok(0) => return Ok(Some(all)),
+            Ok(n) => {
+                if all.extend_from_slice(&buffer[..n]).is_err() {
+                    return Err(RunError::OutOfMemory);
+                }
+            }
+        }
+    }
+}
+
+/// All bytes that a reader has left. If a read fails, or has failed before, says so.
+pub(crate) fn bytes_left<R: Read, E: Write>(
+    alloc: Global,
+    name: &str,
+    reader: &mut Watched<R>,
+    err: &mut Watched<E>,
+) -> Result<Option<Vec<u8>>, RunError>
+    ensures bytes { IfOk result (λ found. IfSome found (λ bytes.
+        StreamGives R.remaining reader.old reader.new
+        (record { bytes = bytes.items; end = AtEnd }))) }
+    ensures quiet { IfOk result (λ found. OnSome found (err.new ≡ err.old)) }
+    ensures failed { IfOk result (λ found. IfNone found ((bytes : List ℕ)
+        × (StreamGives R.remaining reader.old reader.new (record { bytes = bytes; end = Failed })
+        × Takes E.contents err.old err.new (about name.now (codes "read failed"))))) }
+    ensures memory { IfErr result (λ e. e ≡ RunError.OutOfMemory) }
+    ensures no_late_read { reader.new.late ≡ reader.old.late }
+    ensures no_late_message { err.new.late ≡ err.old.late }
+{
+    match read_all(alloc, reader)? {
+        Some(bytes) => Ok(Some(bytes)),
+        None => {
+            say_about(alloc, name, "read failed", err)?;
+            Ok(None)
+        }
+    }
+}
+
 /// All bytes of a file. If it gives none, says why.
 pub(crate) fn bytes_of<F: Files, E: Write>(
     alloc: Global,
@@ -193,61 +253,20 @@ pub(crate) fn bytes_of<F: Files, E: Write>(
     name: &str,
     err: &mut Watched<E>,
 ) -> Result<Option<Vec<u8>>, RunError>
-    ensures bytes { IfOk result (λ found.
-        IfSome found (λ bytes. F.gives files.now name.now (Ok bytes.items))) }
+    ensures bytes { IfOk result (λ found. IfSome found (λ bytes.
+        GivesWhole (F.gives files.now) name.now (Ok bytes.items))) }
     ensures quiet { IfOk result (λ found. OnSome found (err.new ≡ err.old)) }
     ensures reason { IfOk result (λ found. IfNone found ((reason : List ℕ)
-        × (F.gives files.now name.now (Err reason)
+        × (GivesWhole (F.gives files.now) name.now (Err reason)
         × Takes E.contents err.old err.new (about name.now reason)))) }
     ensures memory { IfErr result (λ e. e ≡ RunError.OutOfMemory) }
     ensures no_late_message { err.new.late ≡ err.old.late }
 {
-    match files.read(alloc, name) {
-        Ok(bytes) => Ok(Some(bytes)),
+    match files.open(alloc, name) {
+        Ok(reader) => bytes_left(alloc, name, &mut Watched::new(reader), err),
         Err(NoBytes::OutOfMemory) => Err(RunError::OutOfMemory),
         Err(NoBytes::Because(reason)) => {
             say_about(alloc, name, reason.as_str(), err)?;
-            Ok(None)
-        }
-    }
-}
-
-// What is left of standard input; the failure again after a read that failed.
-fn read_input<R: Read>(alloc: Global, input: &mut Watched<R>) -> Result<Vec<u8>, RunError>
-    ensures bytes { IfOk result (λ all.
-        ReadsAll (R.remaining input.old.inner) (R.remaining input.new.inner) all.items) }
-    ensures good { OnOk result (input.new.failed ≡ false) }
-    ensures read { IfErr result (λ e. e ≡ RunError.Read → input.new.failed ≡ true) }
-    ensures write { IfErr result (λ e. e ≢ RunError.Write) }
-    ensures no_late_read { input.new.late ≡ input.old.late }
-{
-    if input.failed() {
-        return Err(RunError::Read);
-    }
-    read_whole(alloc, input)
-}
-
-/// What is left of standard input. If a read fails, or failed before, says so.
-pub(crate) fn input_bytes<R: Read, E: Write>(
-    alloc: Global,
-    input: &mut Watched<R>,
-    err: &mut Watched<E>,
-) -> Result<Option<Vec<u8>>, RunError>
-    ensures bytes { IfOk result (λ found.
-        IfSome found (λ bytes. StreamGives R.remaining input.old input.new (Ok bytes.items))) }
-    ensures quiet { IfOk result (λ found. OnSome found (err.new ≡ err.old)) }
-    ensures reason { IfOk result (λ found. IfNone found ((reason : List ℕ)
-        × (StreamGives R.remaining input.old input.new (Err reason)
-        × Takes E.contents err.old err.new (about INPUT.now reason)))) }
-    ensures memory { IfErr result (λ e. e ≡ RunError.OutOfMemory) }
-    ensures no_late_read { input.new.late ≡ input.old.late }
-    ensures no_late_message { err.new.late ≡ err.old.late }
-{
-    match read_input(alloc, input) {
-        Ok(bytes) => Ok(Some(bytes)),
-        Err(RunError::OutOfMemory) => Err(RunError::OutOfMemory),
-        Err(_) => {
-            say_about(alloc, INPUT, "read failed", err)?;
             Ok(None)
         }
     }

@@ -7,8 +7,9 @@
 /// use tokens_lib::{Layout, LineForm, write_items};
 ///
 /// let layout = Layout { form: LineForm::Json, recovers: true, file: None, modes: &[] };
+/// let mut reader = Watched::new("let x".as_bytes());
 /// let mut writer = Watched::new(Vec::new(alloc));
-/// let end = write_items(alloc, &rules, &layout, "let x", &mut writer)?;
+/// let end = write_items(alloc, &rules, &layout, &mut reader, &mut writer)?;
 /// ```
 #[derive(Clone, Copy, Debug, PartialEq, Eq)]
 pub enum LineForm {

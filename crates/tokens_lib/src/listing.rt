@@ -7,6 +7,7 @@ ghost use Rattle.tokens_lib.specs.Answer.{Answer, Answered, Reads, Begun};
 ghost use Rattle.tokens_lib.specs.NamedRules.{StandAt, LinesAnswer, RulesTold, ClashesAnswer, clashes_status};
 ghost use Rattle.tokens_lib.specs.Internal.Faults.{NameOnly};
 ghost use Rattle.tokens_lib.specs.Internal.Listings.{ListingAnswer, told_first, first_status};
+ghost use Rattle.tokens_lib.specs.Streams.{GivesWhole};
 
 use crate::by_rules::{clashes_status, report_line, report_rules};
 use crate::checked::check_rules;
@@ -196,12 +197,12 @@ pub(crate) fn list_rules<F: Files, W: Write, E: Write>(
 ) -> Result<u8, RunError>
     requires out_good { out.old.failed ≡ false }
     ensures answer { IfOk result (λ status. (answer : Answer)
-        × (Reads (F.gives files.now)
+        × (Reads (GivesWhole (F.gives files.now))
         (RulesTold (told_first listing) verbosity (ListingAnswer listing)) name.now answer
         × Answered W.contents E.contents out.old out.new err.old err.new status answer)) }
     ensures good { OnOk result (out.new.failed ≡ false) }
     ensures begun { OnErr result (Begun
-        (Reads (F.gives files.now)
+        (Reads (GivesWhole (F.gives files.now))
         (RulesTold (told_first listing) verbosity (ListingAnswer listing)) name.now)
         (W.contents out.old.inner) (W.contents out.new.inner)) }
     ensures memory { IfErr result (λ e. e ≡ RunError.OutOfMemory → out.new.failed ≡ false) }

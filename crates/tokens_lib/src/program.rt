@@ -6,7 +6,7 @@ ghost use Rattle.lexdfa_lib.specs.Watch.{AppendsPrefix};
 ghost use Rattle.tokens_lib.specs.Answer.{Answer, Answered, TextsAnswer, FirstTextsAnswer, Begun};
 ghost use Rattle.tokens_lib.specs.Program.{ActionAnswer, CommandAnswer, IsAnswer, IsFirstAnswer, failure_text};
 ghost use Rattle.tokens_lib.specs.Progress.{reading_text};
-ghost use Rattle.tokens_lib.specs.Streams.{StreamGives, Takes};
+ghost use Rattle.tokens_lib.specs.Streams.{GivesWhole, StreamGives, Takes};
 ghost use Rattle.tokens_lib.specs.Usage.{help, version, wrong_text};
 
 use crate::arguments::joined;
@@ -67,12 +67,12 @@ fn run_action<F: Files, R: Read, W: Write, E: Write>(
 ) -> Result<u8, RunError>
     requires out_good { out.old.failed ≡ false }
     ensures answer { IfOk result (λ status. (answer : Answer)
-        × (ActionAnswer (F.gives files.now) (TextsAnswer (F.gives files.now)
+        × (ActionAnswer (GivesWhole (F.gives files.now)) (TextsAnswer (F.gives files.now)
         (StreamGives R.remaining) input.old input.new) verbosity action.entry rules.now
         (map (λ name. name.now) names.now) answer
         × Answered W.contents E.contents out.old out.new err.old err.new status answer)) }
     ensures good { OnOk result (out.new.failed ≡ false) }
-    ensures begun { OnErr result (Begun (ActionAnswer (F.gives files.now)
+    ensures begun { OnErr result (Begun (ActionAnswer (GivesWhole (F.gives files.now))
         (FirstTextsAnswer (F.gives files.now) (StreamGives R.remaining) input.old) verbosity action.entry
         rules.now (map (λ name. name.now) names.now))
         (W.contents out.old.inner) (W.contents out.new.inner)) }
@@ -185,11 +185,11 @@ fn run_command<F: Files, R: Read, W: Write, E: Write>(
 ) -> Result<u8, RunError>
     requires out_good { out.old.failed ≡ false }
     ensures answer { IfOk result (λ status. (answer : Answer)
-        × (CommandAnswer (F.gives files.now) (TextsAnswer (F.gives files.now)
+        × (CommandAnswer (GivesWhole (F.gives files.now)) (TextsAnswer (F.gives files.now)
         (StreamGives R.remaining) input.old input.new) command.now answer
         × Answered W.contents E.contents out.old out.new err.old err.new status answer)) }
     ensures good { OnOk result (out.new.failed ≡ false) }
-    ensures begun { OnErr result (Begun (CommandAnswer (F.gives files.now)
+    ensures begun { OnErr result (Begun (CommandAnswer (GivesWhole (F.gives files.now))
         (FirstTextsAnswer (F.gives files.now) (StreamGives R.remaining) input.old) command.now)
         (W.contents out.old.inner) (W.contents out.new.inner)) }
     ensures memory { IfErr result (λ e. e ≡ RunError.OutOfMemory → out.new.failed ≡ false) }
@@ -242,8 +242,9 @@ fn refuse<E: Write>(
 /// if none is named, by the file of rules that is named first, and writes the lines of `write_items` or, by terminals, of
 /// `write_tokens`, or the markup of each text, to `out`; or lists all clashes of the rules (`write_rule_clashes`) or terminals
 /// (`write_clashes`); or writes the lexer of the rules in C or Rust (`lalrpop_emit`), or pictures of their automata
-/// (`lalrpop_verdicts`). A file `-` is standard input: it is read to its end where it stands, and a later `-` reads what is left.
-/// After a read that failed it isn't read again. What is wrong is explained on `err`, behind the warnings about a file of named
+/// (`lalrpop_verdicts`). A file `-` is standard input: it is read where it stands, and a later `-` reads what is left. After a read
+/// that failed it isn't read again. A text that named rules cut is read and answered as it comes, and no further than it is
+/// wanted; one that terminals cut is read to its end first. What is wrong is explained on `err`, behind the warnings about a file of named
 /// rules (`warnings_message`), which `--quiet` leaves out; if a write there fails, nothing more is said, and the run goes on.
 ///
 /// `--check` reads the rules alone. If some clash, it writes all clashes; otherwise it writes a review (`lalrpop_review`): the
@@ -259,7 +260,7 @@ fn refuse<E: Write>(
 /// - 2 if rules can't be compiled or written, or clash,
 /// - 3 if a line of the rules is bad or its pattern doesn't parse,
 /// - 4 for wrong arguments, also for the name of a rule that isn't there,
-/// - 6 if a file gave no text.
+/// - 6 if a file gave no text, or one that breaks off: a read failed, or a byte is of no character.
 ///
 /// Of several files, and of the warnings and the rest of a check, the greatest status counts.
 ///

@@ -4,6 +4,10 @@
 #[cfg(test)]
 mod clashes;
 #[cfg(test)]
+mod coming;
+#[cfg(test)]
+mod cutting;
+#[cfg(test)]
 mod files;
 #[cfg(test)]
 mod items;

@@ -1,9 +1,8 @@
 //! The program over files in memory: standard input among the files, progress, and reads that fail.
 
+use crate::cutting::{ALL, Fed};
 use lexdfa_lib::{RunError, Watched};
-use program_tests::failing::FailsAtEnd;
 use std::alloc::{AllocError, Global};
-use std::io;
 use std::io::Read;
 use tokens_lib::{Files, NoBytes, run};
 
@@ -12,6 +11,8 @@ const RULES: &[u8] = b"WORD = /[a-z]+/\nSPACE skip = / /\n";
 // Files in memory, each with its name.
 struct Named {
     files: &'static [(&'static str, &'static [u8])],
+    // A read of these fails behind their bytes.
+    torn: &'static [(&'static str, &'static [u8])],
 }
 
 const FILES: Named = Named {
@@ -34,19 +35,40 @@ const FILES: Named = Named {
             "refused.rules",
             b"\xef\xbb\xbfD part = /[0-9]/\nA = /a/\nB = /a/\n[M N]\nC pop = anycase ''\n",
         ),
+        ("lines", b"0 r [a-z]+\n0 l  \n"),
+        ("raw", b"if \xffa"),
+        ("cut", b"if \xe2\x82"),
+        ("fault", b"if !\xff"),
+    ],
+    torn: &[
+        ("torn", b"if a"),
+        ("torn.rules", RULES),
+        ("torn.fault", b"if !"),
     ],
 };
+
+fn bytes_of(files: &[(&'static str, &'static [u8])], name: &str) -> Option<&'static [u8]> {
+    for (file, bytes) in files {
+        if *file == name {
+            return Some(*bytes);
+        }
+    }
+    None
+}
 
 impl Files for Named {
     ghost gives = { λ files name given. Unit {0} };
 
-    fn read(&self, alloc: Global, name: &str) -> Result<Vec<u8>, NoBytes> {
-        for (file, bytes) in self.files {
-            if *file == name {
-                return Ok(bytes.to_vec(alloc)?);
-            }
+    type Reader = Fed<'static>;
+
+    fn open(&self, alloc: Global, name: &str) -> Result<Fed<'static>, NoBytes> {
+        if let Some(bytes) = bytes_of(self.files, name) {
+            return Ok(Fed::ending(bytes, ALL));
         }
-        Err(NoBytes::Because(String::from_str(alloc, "not found")?))
+        match bytes_of(self.torn, name) {
+            Some(bytes) => Ok(Fed::failing(bytes, ALL)),
+            None => Err(NoBytes::Because(String::from_str(alloc, "not found")?)),
+        }
     }
 }
 
@@ -118,20 +140,100 @@ fn standard_input_is_read_where_it_stands(rt: HostRuntime) {
     }
 }
 
-fn failing(left: &'static [u8]) -> FailsAtEnd<'static> {
-    FailsAtEnd {
-        left,
-        kind: io::ErrorKind::Other,
-        calls: 0,
-    }
-}
-
+// The line of `in` isn't written before more has come, since it may go on; that of a word with a space behind it is.
 #[test]
 fn standard_input_is_not_read_again_after_a_failure(rt: HostRuntime) {
     let words = ["r", "-", "g", "-"];
     let said = b"tokens: <stdin>: read failed\ntokens: <stdin>: read failed\n";
-    let wanted: (&[u8], &[u8], u8) = (b"g:1:1 WORD \"x\"\n", said, 6);
-    assert!(rt; is_answer(rt.alloc(), &words, failing(b"in"), wanted));
+    let rows: &[(&'static [u8], &[u8])] = &[
+        (b"in", b"g:1:1 WORD \"x\"\n"),
+        (b"in a", b"<stdin>:1:1 WORD \"in\"\ng:1:1 WORD \"x\"\n"),
+    ];
+    for (given, out) in rows {
+        for at_once in [1, ALL] {
+            let input = Fed::failing(*given, at_once);
+            assert!(rt; is_answer(rt.alloc(), &words, input, (*out, said, 6)));
+        }
+    }
+}
+
+#[test]
+fn files_may_break_off(rt: HostRuntime) {
+    let rows: &[(&[&str], &[u8], &[u8], u8)] = &[
+        (
+            &["r", "torn", "g"],
+            b"torn:1:1 WORD \"if\"\ng:1:1 WORD \"x\"\n",
+            b"tokens: torn: read failed\n",
+            6,
+        ),
+        (
+            &["--html", "r", "torn"],
+            b"<span class=\"WORD\">if</span> ",
+            b"tokens: torn: read failed\n",
+            6,
+        ),
+        (
+            &["r", "raw", "g"],
+            b"raw:1:1 WORD \"if\"\ng:1:1 WORD \"x\"\n",
+            b"tokens: raw: not UTF-8 from byte 3 on\n",
+            6,
+        ),
+        (
+            &["--recover", "r", "cut"],
+            b"1:1 WORD \"if\"\n",
+            b"tokens: cut: not UTF-8 from byte 3 on\n",
+            6,
+        ),
+        (
+            &["torn.rules", "g"],
+            b"",
+            b"tokens: torn.rules: read failed\n",
+            6,
+        ),
+        (
+            &["--lines", "lines", "torn", "raw", "g"],
+            b"0 1 \"x\"\nend\n",
+            b"tokens: torn: read failed\ntokens: raw: not UTF-8 from byte 3 on\n",
+            6,
+        ),
+    ];
+    for (words, out, err, status) in rows {
+        assert!(rt; is_answer(rt.alloc(), *words, &b""[..], (*out, *err, *status)));
+    }
+}
+
+// Nothing behind the fault changes it. So it is told, and with --recover what comes behind it.
+#[test]
+fn a_fault_is_told_before_what_is_wrong_behind_it(rt: HostRuntime) {
+    let rows: &[(&[&str], &[u8], &[u8], u8)] = &[
+        (
+            &["r", "fault"],
+            b"1:1 WORD \"if\"\n",
+            b"tokens: fault:1:4: no rule matches \"!\"\n",
+            1,
+        ),
+        (
+            &["r", "torn.fault"],
+            b"1:1 WORD \"if\"\n",
+            b"tokens: torn.fault:1:4: no rule matches \"!\"\n",
+            1,
+        ),
+        (
+            &["r", "--recover", "fault"],
+            b"1:1 WORD \"if\"\n",
+            b"tokens: fault: not UTF-8 from byte 4 on\n",
+            6,
+        ),
+        (
+            &["r", "--recover", "torn.fault"],
+            b"1:1 WORD \"if\"\n",
+            b"tokens: torn.fault: read failed\n",
+            6,
+        ),
+    ];
+    for (words, out, err, status) in rows {
+        assert!(rt; is_answer(rt.alloc(), *words, &b""[..], (*out, *err, *status)));
+    }
 }
 
 #[test]

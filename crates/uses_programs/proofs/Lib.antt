@@ -1,2 +1,3 @@
 mod Lines
+mod Readings
 mod Words

@@ -1,13 +1,13 @@
 //! The program `tokens` over files and streams of a caller.
-ghost use Rattle.std.specs.Prelude.{◌≡◌, ◌≢◌, ◌⊎◌, [], true, false, Ok, Err, codes, length, map, string_bytes, IfOk, OnOk};
+ghost use Rattle.std.specs.Prelude.{◌≡◌, ◌≢◌, ◌≤◌, ◌⊎◌, ◌++◌, ℕ, Bool, List, [], Some, true, false, codes, length, map, string_bytes, IfOk, IfErr, OnOk, MatchOption};
 ghost use Rattle.std.specs.Io.KnownBytes.{Appends};
 ghost use Rattle.tokens_lib.specs.Answer.{Begun};
 ghost use Rattle.tokens_lib.specs.Program.{IsFirstAnswer};
-ghost use Rattle.tokens_lib.specs.Streams.{StreamGives, Takes};
+ghost use Rattle.tokens_lib.specs.Streams.{AtEnd, EndsReading, NotOpened, StreamGives, Takes};
 ghost use Rattle.tokens_lib.specs.Usage.{wrong_text};
 ghost use Rattle.tokens_lib.specs.declared.command.ArgumentsError.TheVariants.{NoRules};
 
-use lexdfa_lib::{RunError, Watched};
+use lexdfa_lib::{RunError, Watched, read_whole};
 use std::alloc::Global;
 use std::io::{Read, Write};
 use tokens_lib::{Files, NoBytes, run};
@@ -20,16 +20,64 @@ pub struct OnlyFile<'text> {
 }
 
 // Needs tokens_lib::NoBytes::from: ghost from_gives.
-impl Files for OnlyFile<'_> {
-    ghost gives = { λ file name given. ((name ≡ file.name.now) × (given ≡ Ok file.bytes.now))
-        ⊎ ((name ≢ file.name.now) × (given ≡ Err (codes "not found"))) };
+impl<'text> Files for OnlyFile<'text> {
+    ghost gives = { λ file name reading. ((name ≡ file.name.now) × ((left : List ℕ)
+        × ((failed : Bool) × ((file.bytes.now ≡ reading.bytes ++ left)
+        × EndsReading (Some left) failed reading.end))))
+        ⊎ ((name ≢ file.name.now)
+        × (reading ≡ record { bytes = []; end = NotOpened (codes "not found") })) };
 
-    fn read(&self, alloc: Global, name: &str) -> Result<Vec<u8>, NoBytes> {
+    type Reader = &'text [u8];
+
+    fn open(&self, alloc: Global, name: &str) -> Result<&'text [u8], NoBytes> {
         if name == self.name {
-            Ok(self.bytes.to_vec(alloc)?)
+            Ok(self.bytes)
         } else {
             Err(NoBytes::Because(String::from_str(alloc, "not found")?))
         }
+    }
+}
+
+// Needs tokens_lib::Files::open: reader, reason.
+/// All bytes of a file, or the reason why it isn't opened.
+///
+/// # Errors
+///
+/// `Read` if a read fails, and `OutOfMemory` if a request for memory was refused.
+pub fn bytes_or_reason<F: Files>(
+    alloc: Global,
+    files: &F,
+    name: &str,
+) -> Result<Result<Vec<u8>, String>, RunError>
+    ensures bytes { IfOk result (λ found. IfOk found (λ bytes.
+        F.gives files.now name.now (record { bytes = bytes.items; end = AtEnd }))) }
+    ensures reason { IfOk result (λ found. IfErr found (λ reason. F.gives files.now name.now
+        (record { bytes = []; end = NotOpened (string_bytes reason) }))) }
+{
+    match files.open(alloc, name) {
+        Ok(reader) => {
+            let mut reader = Watched::new(reader);
+            let bytes = read_whole(alloc, &mut reader)?;
+            Ok(Ok(bytes))
+        }
+        Err(NoBytes::Because(reason)) => Ok(Err(reason)),
+        Err(NoBytes::OutOfMemory) => Err(RunError::OutOfMemory),
+    }
+}
+
+// Needs tokens_lib::Files::open: reader, reason.
+/// All bytes of the only file: it is always opened.
+///
+/// # Errors
+///
+/// Those of `bytes_or_reason`.
+pub fn whole_file(alloc: Global, file: OnlyFile<'_>) -> Result<Option<Vec<u8>>, RunError>
+    ensures bytes { IfOk result (λ found. MatchOption found ⊥ (λ bytes.
+        bytes.items ≡ file.entry.bytes.now)) }
+{
+    match bytes_or_reason(alloc, &file, file.name)? {
+        Ok(bytes) => Ok(Some(bytes)),
+        Err(_) => Ok(None),
     }
 }
 
@@ -92,4 +140,26 @@ pub fn fails<F: Files, R: Read, W: Write, E: Write>(
         (W.contents out.old.inner) (W.contents out.new.inner) }
 {
     run(alloc, words, files, input, out, err).is_err()
+}
+
+// Needs tokens_lib::run: status, no_late_read, no_late_write, no_late_message.
+/// The exit status of a run, which no stream is called again in that has failed, or 5 if it fails.
+pub fn status_of_run<F: Files, R: Read, W: Write, E: Write>(
+    alloc: Global,
+    words: &[String],
+    files: &F,
+    input: &mut Watched<R>,
+    out: &mut Watched<W>,
+    err: &mut Watched<E>,
+) -> u8
+    requires out_good { out.old.failed ≡ false }
+    ensures status { result ≤ 6 }
+    ensures no_late_read { input.new.late ≡ input.old.late }
+    ensures no_late_write { out.new.late ≡ out.old.late }
+    ensures no_late_message { err.new.late ≡ err.old.late }
+{
+    match run(alloc, words, files, input, out, err) {
+        Ok(status) => status,
+        Err(_) => 5,
+    }
 }

@@ -1,7 +1,9 @@
 -- Cases of specs/ItemLines.antt.
-use Rattle.std.proofs.Common.{◌≡◌, ℕ, zero, suc, Bool, List, [], ◌∷◌, Option, Some, None, codes, refl, true, false, arith, Global}
+use Rattle.std.proofs.Common.{◌≡◌, ◌≤◌, ℕ, Bool, List, [], ◌∷◌, length, take, Option, Some, None, codes, refl, subst, true, false, arith, Global}
 use Rattle.std.specs.Prelude.{String}
 use Rattle.std.specs.Borrow.{Bor}
+use Rattle.std.specs.Io.KnownBytes.{Appends}
+use Rattle.std.proofs.lemmas.Str.{IsUtf8-nil}
 use Rattle.std.specs.Fmt.{digits}
 use Rattle.std.specs.Str.{chars}
 use Rattle.unicode.specs.Binary.{is_default_ignorable_code_point}
@@ -10,13 +12,13 @@ use Rattle.ucd_derived.specs.DefaultIgnorableCodePointRanges.{default_ignorable_
 use Rattle.json.specs.Print.{print_from, escape_byte}
 use Rattle.lalrpop_lexer.specs.declared.position.Position.{Position}
 use Rattle.lalrpop_rules.specs.declared.item.Item.{Item}
-use Rattle.lalrpop_rules.specs.declared.item.Item.TheVariants.{Fault}
 use Rattle.lalrpop_modes.specs.Modes.{ModeRules}
-use Rattle.lalrpop_modes.specs.Stack.{Stack, start as first_stack}
-use Rattle.lalrpop_rules.proofs.UniquePieces.{no_piece_left}
-use Rattle.tokens_lib.specs.ItemLines.{plain_line, json_line, name_at, fault_line, mode_named, piece_lines, AreUpToFault, first_fault, end_of, WritesItemsPrefix}
+use Rattle.lalrpop_modes.specs.Stack.{Stack}
+use Rattle.lalrpop_edits.specs.Chunked.{nothing_come}
+use Rattle.tokens_lib.specs.ItemLines.{plain_line, json_line, name_at, fault_line, mode_named, piece_lines, item_lines, WritesItemsPart}
 use Rattle.tokens_lib.specs.declared.layout.LineForm.{LineForm}
 use Rattle.tokens_lib.specs.declared.layout.LineForm.TheVariants.{Plain}
+use Rattle.tokens_lib.proofs.Cases.CutEnds.{no_byte, none_given, nothing_given, nothing_read}
 
 abbrev second : Position
 second = record { line = 1; column = 2 }
@@ -69,29 +71,16 @@ no_line_of_nothing : (form : LineForm) (recovers : Bool) (file : Option (List �
     → piece_lines form recovers file modes r text s [] ≡ []
 no_line_of_nothing form recovers file modes r text s = refl
 
-nothing_is_cut_of_the_empty_text : (r : ModeRules) (s : Stack) → AreUpToFault r [] 0 s [] s
-nothing_is_cut_of_the_empty_text r s = (refl, refl)
-
-piece_behind_a_fault : (r : ModeRules) (text : List ℕ) (s end : Stack) (slice : Bor (List ℕ)) (x : Item) → ¬ AreUpToFault r text 0 s (Fault 0 slice ∷ x ∷ []) end
-piece_behind_a_fault r text s end slice x are = let none = are.1.0 in absurd (cc (none))
-
--- the end of nothing
-end_of_nothing : (r : ModeRules) → end_of r [] first_stack ≡ record { fault = None; inside = None }
-end_of_nothing r = refl
-
--- the first fault of some pieces
-first_faults : (x : Item) → first_fault (x ∷ []) ≡ first_fault (x ∷ [])
-first_faults x = refl
-
 -- ---- a prefix
 
 -- a failed writer took nothing of the lines of an empty text, and no byte more
 nothing_of_it : (rules : ModeRules) (modes : Bor (List (String Global)))
-    → WritesItemsPrefix rules (record { form = Plain; recovers = true; file = None; modes = modes }) [] (Some []) (Some [])
-nothing_of_it rules modes = ([], (first_stack, ((refl, refl), (0, omega arith, refl))))
+    → WritesItemsPart rules (record { form = Plain; recovers = true; file = None; modes = modes }) nothing_read (Some []) (Some [])
+nothing_of_it rules modes = ([], ([], ([], (nothing_come rules, ((refl, IsUtf8-nil), (none_given rules true, (0, omega arith, refl)))))))
 
 no_byte_of_it : (rules : ModeRules) (modes : Bor (List (String Global)))
-    → ¬ WritesItemsPrefix rules (record { form = Plain; recovers = true; file = None; modes = modes }) [] (Some []) (Some (codes "x"))
-no_byte_of_it rules modes ([], (end, (are, (zero, le, e)))) = absurd (cc)
-no_byte_of_it rules modes ([], (end, (are, (suc n, le, e)))) = absurd (omega (arith, le))
-no_byte_of_it rules modes (x ∷ xs, (end, (are, part))) = no_piece_left _ _ _ [] 0 x are.0 refl
+    → ¬ WritesItemsPart rules (record { form = Plain; recovers = true; file = None; modes = modes }) nothing_read (Some []) (Some (codes "x"))
+no_byte_of_it rules modes (text, (left, (xs, (c, (begins, (are, (n, le, e))))))) =
+    let none = nothing_given rules text left xs c true begins.0 are in
+    no_byte n (subst (λ (ys : List Item). n ≤ length (item_lines (record { form = Plain; recovers = true; file = None; modes = modes }) rules text ys)) none le)
+    (subst (λ (ys : List Item). Appends (Some []) (Some (codes "x")) (take n (item_lines (record { form = Plain; recovers = true; file = None; modes = modes }) rules text ys))) none e)

@@ -1,5 +1,6 @@
 -- Cases of specs/OpenModes.antt.
 use Rattle.std.proofs.Common.{◌≡◌, ℕ, suc, List, [], ◌∷◌, None, Some, length, refl, ap, arith}
+use Rattle.lalrpop_lexer.specs.Position.{position_of}
 use Rattle.lalrpop_modes.specs.Modes.{after, after_all}
 use Rattle.lalrpop_modes.specs.Stack.{Stack, act, act_all, actions_of}
 use Rattle.lalrpop_modes.specs.declared.action.Action.{Action}
@@ -9,25 +10,25 @@ use Rattle.lalrpop_rules.specs.declared.item.Item.TheVariants.{Token, Skipped, F
 use Rattle.tokens_lib.specs.OpenModes.{pushed, pushed_all, open_after, open_behind, open_mode}
 
 -- a comment that begins at byte 4, and one in it
-two_comments : pushed 9 (Push 1) (pushed 4 (Push 1) []) ≡ 9 ∷ 4 ∷ []
+two_comments : pushed {P = ℕ} 9 (Push 1) (pushed {P = ℕ} 4 (Push 1) []) ≡ 9 ∷ 4 ∷ []
 two_comments = refl
 
 -- the end of the inner one
-inner_closed : pushed 12 Pop (9 ∷ 4 ∷ []) ≡ 4 ∷ []
+inner_closed : pushed {P = ℕ} 12 Pop (9 ∷ 4 ∷ []) ≡ 4 ∷ []
 inner_closed = refl
 
 -- a mode in the place of another was entered where that was
-other_mode : pushed_all 7 (Mode 2 ∷ []) (4 ∷ []) ≡ 4 ∷ []
+other_mode : pushed_all {P = ℕ} 7 (Mode 2 ∷ []) (4 ∷ []) ≡ 4 ∷ []
 other_mode = refl
 
-pop_at_the_bottom : pushed 7 Pop [] ≡ []
+pop_at_the_bottom : pushed {P = ℕ} 7 Pop [] ≡ []
 pop_at_the_bottom = refl
 
-first_mode_is_not_open : open_mode 0 [] ≡ None
-first_mode_is_not_open = refl
+first_mode_is_not_open : (text : List ℕ) → open_mode text 0 [] ≡ None
+first_mode_is_not_open text = refl
 
-comment_is_open : open_mode 1 (4 ∷ []) ≡ Some (record { mode = 1; at = 4 })
-comment_is_open = refl
+comment_is_open : (text : List ℕ) → open_mode text 1 (4 ∷ []) ≡ Some (record { mode = 1; place = position_of text 4 })
+comment_is_open text = refl
 
 -- ---- there is a place for each mode that has one below it
 

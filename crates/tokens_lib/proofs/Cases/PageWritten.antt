@@ -1,17 +1,22 @@
 -- Cases of specs/PageWritten.antt.
-use Rattle.std.proofs.Common.{◌≡◌, ℕ, zero, suc, List, [], ◌∷◌, ◌++◌, codes, refl, ap, arith}
-use Rattle.std.specs.Prelude.{Some, None}
+use Rattle.std.proofs.Common.{◌≡◌, ◌≤◌, ℕ, true, false, List, [], ◌∷◌, ◌++◌, length, take, codes, refl, subst, arith}
+use Rattle.std.specs.Prelude.{Option, Some, None, is_some}
 use Rattle.std.specs.Borrow.{Bor}
+use Rattle.std.specs.Io.KnownBytes.{Appends}
 use Rattle.std.specs.Str.{chars}
+use Rattle.std.proofs.lemmas.Str.{IsUtf8-nil}
+use Rattle.lalrpop_edits.specs.Chunked.{nothing_come}
 use Rattle.lalrpop_modes.specs.Modes.{ModeRules, ArePiecesFrom}
 use Rattle.lalrpop_modes.specs.Stack.{Stack, start as first_stack}
 use Rattle.lalrpop_rules.proofs.UniquePieces.{no_piece_left}
 use Rattle.lalrpop_rules.specs.declared.item.Item.{Item}
 use Rattle.lalrpop_rules.specs.declared.item.Item.TheVariants.{Fault}
-use Rattle.tokens_lib.specs.ItemLines.{first_fault}
-use Rattle.tokens_lib.specs.PageWritten.{page_of, WritesPage, WritesPagePrefix}
+use Rattle.tokens_lib.specs.CutEnds.{first_fault}
+use Rattle.tokens_lib.specs.PageWritten.{page_of, WritesPage, WritesPagePart}
 use Rattle.tokens_lib.specs.declared.command.Markup.TheVariants.{Html, Ansi}
-use Rattle.tokens_lib.specs.declared.text_end.TextEnd.{TextEnd}
+use Rattle.tokens_lib.specs.declared.cut_end.CutEnd.TheVariants.{Whole}
+use Rattle.tokens_lib.specs.declared.cut_end.OpenMode.{OpenMode}
+use Rattle.tokens_lib.proofs.Cases.CutEnds.{all_of_nothing, empty_text, no_byte, none_given, nothing_given, nothing_read}
 
 -- a fault as HTML, and on red
 fault_as_html : (names : List (List ℕ)) (slice : Bor (List ℕ)) → slice.now ≡ codes "<" → page_of Html names (Fault 0 slice ∷ []) ≡ codes "<mark>&lt;</mark>"
@@ -24,21 +29,25 @@ unfolding chars lib.Utf8.encode
 fault_on_red names slice is = rw is refl
 
 -- of an empty text nothing is written, and it has no fault
-nothing_is_written : (rules : ModeRules) → WritesPage rules Html [] (Some []) (Some []) (record { fault = None; inside = None })
-nothing_is_written rules = ([], (first_stack, ((refl, refl), (refl, refl))))
+nothing_is_written : (rules : ModeRules) → WritesPage rules Html all_of_nothing (Some []) (Some []) (Whole false None)
+nothing_is_written rules = ([], ([], ([], ((refl, (IsUtf8-nil, λ n some le. absurd (omega (arith, some, le)))), (empty_text rules true, refl)))))
 
-nothing_has_no_fault : (rules : ModeRules) (xs : List Item) (end : Stack) → ArePiecesFrom rules [] 0 first_stack xs end → Some 0 ≡ first_fault xs → ⊥
-nothing_has_no_fault rules [] end are first = absurd (cc)
-nothing_has_no_fault rules (x ∷ xs) end are first = no_piece_left _ _ _ [] 0 x are.0 refl
+nothing_has_no_fault : (rules : ModeRules) (text left : List ℕ) (xs : List Item) (end : Stack) → [] ≡ text ++ left → ArePiecesFrom rules text 0 first_stack xs end
+    → true ≡ is_some (first_fault xs) → ⊥
+nothing_has_no_fault rules text left [] end none are first = absurd (cc (first))
+nothing_has_no_fault rules [] left (x ∷ xs) end none are first = no_piece_left _ _ _ [] 0 x are.0 refl
+nothing_has_no_fault rules (b ∷ text) left (x ∷ xs) end none are first = absurd (cc (none))
 
-fault_of_nothing : (rules : ModeRules) → ¬ WritesPage rules Ansi [] (Some []) (Some []) (record { fault = Some 0; inside = None })
-fault_of_nothing rules h = nothing_has_no_fault rules h.0 h.1.0 h.1.1.0 (ap (λ (t : TextEnd). t.fault) h.1.1.1.0)
+fault_of_nothing : (rules : ModeRules) (inside : Option OpenMode) → ¬ WritesPage rules Ansi all_of_nothing (Some []) (Some []) (Whole true inside)
+fault_of_nothing rules inside (text, (left, (xs, (is, (cut, sent))))) =
+    nothing_has_no_fault rules text left xs cut.1.1.0 is.0 cut.1.1.1.0 cut.1.1.1.1.0
 
 -- a failed writer took nothing of an empty page, and no byte more
-nothing_of_it : (rules : ModeRules) → WritesPagePrefix rules Html [] (Some []) (Some [])
-nothing_of_it rules = ([], (first_stack, ((refl, refl), (0, omega arith, refl))))
+nothing_of_it : (rules : ModeRules) → WritesPagePart rules Html nothing_read (Some []) (Some [])
+nothing_of_it rules = ([], ([], ([], (nothing_come rules, ((refl, IsUtf8-nil), (none_given rules true, (0, omega arith, refl)))))))
 
-no_byte_of_it : (rules : ModeRules) → ¬ WritesPagePrefix rules Html [] (Some []) (Some (codes "x"))
-no_byte_of_it rules ([], (end, (are, (zero, le, e)))) = absurd (cc)
-no_byte_of_it rules ([], (end, (are, (suc n, le, e)))) = absurd (omega (arith, le))
-no_byte_of_it rules (x ∷ xs, (end, (are, part))) = no_piece_left _ _ _ [] 0 x are.0 refl
+no_byte_of_it : (rules : ModeRules) → ¬ WritesPagePart rules Html nothing_read (Some []) (Some (codes "x"))
+no_byte_of_it rules (text, (left, (xs, (c, (begins, (are, (n, le, e))))))) =
+    let none = nothing_given rules text left xs c true begins.0 are in
+    no_byte n (subst (λ (ys : List Item). n ≤ length (page_of Html rules.names ys)) none le)
+    (subst (λ (ys : List Item). Appends (Some []) (Some (codes "x")) (take n (page_of Html rules.names ys))) none e)

@@ -8,7 +8,7 @@ use Rattle.lexdfa_lib.specs.declared.outcome.Outcome.TheVariants.{Ambiguous, Lin
 use Rattle.tokens_lib.specs.Answer.{Answer, refusal, about}
 use Rattle.tokens_lib.specs.Command.{IsCommand}
 use Rattle.tokens_lib.specs.Program.{reported_status, IsListing, failure_text, information, IsFirstAnswer, other_of, ComparedAnswer}
-use Rattle.tokens_lib.specs.Streams.{Given}
+use Rattle.tokens_lib.specs.Streams.{Given, Reading, NotOpened}
 use Rattle.tokens_lib.specs.declared.command.Command.{Command}
 use Rattle.tokens_lib.specs.Usage.{help}
 use Rattle.tokens_lib.specs.declared.command.Action.TheVariants.{Cut}
@@ -36,17 +36,17 @@ another_failure : failure_text (Failing Read) ≢ failure_text (Failing Write)
 another_failure e = let k : 114 ≡ 119 = ap (λ (l : List ℕ). get_or l 8 0) e in omega (arith, k)
 
 -- only what was asked for is written, with status 0
-informed : (Gives : List ℕ → Given → Type 0) (InputGives : ℕ → ℕ → Given → Type 0) → IsFirstAnswer Gives InputGives 0 (codes "--help" ∷ []) (information help)
+informed : (Gives : List ℕ → Reading → Type 0) (InputGives : ℕ → ℕ → Reading → Type 0) → IsFirstAnswer Gives InputGives 0 (codes "--help" ∷ []) (information help)
 informed Gives InputGives = (Help, (refl, refl))
 
 -- rules that can't be read; and no arguments, which are no command
-unread_rules : (Gives : List ℕ → Given → Type 0) (InputGives : ℕ → ℕ → Given → Type 0) (files : Vec (Bor (List ℕ)) Global) → files.items ≡ [] → Gives (codes "r") (Err (codes "e"))
+unread_rules : (Gives : List ℕ → Reading → Type 0) (InputGives : ℕ → ℕ → Reading → Type 0) (files : Vec (Bor (List ℕ)) Global) → files.items ≡ [] → Gives (codes "r") (record { bytes = []; end = NotOpened (codes "e") })
     → IsFirstAnswer Gives InputGives 0 (codes "r" ∷ codes "--progress" ∷ []) (refusal 6 (codes "tokens: reading r\ntokens: r: e\n"))
 unread_rules Gives InputGives files none gives = (
   Run (Cut Plain false) Progress (record { ref_ptr = (0, 0); now = codes "r" }) files,
   (
     ((refl, refl), (refl, (Cut Plain false, (refl, (codes "r", ([], (refl, (refl, (refl, (refl, ((tt, λ e. absurd (cc (e))), ap (map (λ (file : Bor (List ℕ)). file.now)) none))))))))))),
-    (refusal 6 (about (codes "r") (codes "e")), (inl (codes "e", (gives, refl)), refl)),
+    (refusal 6 (about (codes "r") (codes "e")), (inl (codes "e", (inl gives, refl)), refl)),
   ),
 )
 
@@ -55,7 +55,7 @@ no_command Help is = absurd (cc)
 no_command Version is = let e = is.1 in absurd (cc)
 no_command (Run action verbosity rules files) is = let e = is.1.1.1.1.1.1.0 in absurd (cc)
 
-nothing_asked : (Gives : List ℕ → Given → Type 0) (InputGives : ℕ → ℕ → Given → Type 0) (answer : Answer) → ¬ IsFirstAnswer Gives InputGives 0 [] answer
+nothing_asked : (Gives : List ℕ → Reading → Type 0) (InputGives : ℕ → ℕ → Reading → Type 0) (answer : Answer) → ¬ IsFirstAnswer Gives InputGives 0 [] answer
 nothing_asked Gives InputGives answer (command, (is, done)) = no_command command is
 
 -- ---- the other file of rules

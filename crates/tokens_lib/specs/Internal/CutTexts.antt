@@ -1,32 +1,229 @@
--- What is known of the pieces of a text while it is cut.
-use Rattle.std.specs.Prelude.{◌≡◌, ℕ, List, [], Option, Some, None}
-use Rattle.lalrpop_modes.specs.ModeCut.{ModeCut, left_text, GivesModePiece}
-use Rattle.lalrpop_modes.specs.Modes.{ModeRules}
-use Rattle.lalrpop_modes.specs.Stack.{start}
+-- A text that comes and is cut: its pieces, where they lie, and what is written for them.
+use Rattle.std.specs.Prelude.{◌≡◌, ℕ, ◌+◌, ◌-◌, ◌==◌, ◌≤◌, ◌⊎◌, if◌then◌else◌, Bool, true, false, ◌||◌, List, [], ◌∷◌, ◌++◌, length, take, map, reverse, Option, Some, None, option_map, is_some, string_bytes}
+use Rattle.std.specs.Io.KnownBytes.{Appends, Consumes}
+use Rattle.std.specs.Str.{chars, IsUtf8}
+use Rattle.lalrpop_edits.specs.Chunked.{Chunked, GivesFinal, Came, IsHeldBack, BeginsFault, MayMatch}
+use Rattle.lalrpop_lexer.specs.Position.{position_of, place_behind}
+use Rattle.lalrpop_lexer.specs.declared.position.Position.{Position}
+use Rattle.lalrpop_markup.specs.Markup.{marked}
+use Rattle.lalrpop_markup.specs.Terminal.{painted}
+use Rattle.lalrpop_modes.specs.Modes.{ModeRules, AllOf, after}
+use Rattle.lalrpop_modes.specs.Stack.{Stack, start, actions_of}
+use Rattle.lalrpop_modes.specs.declared.action.Action.{Action}
+use Rattle.lalrpop_rules.specs.Pieces.{joined, slice_of, start_of}
 use Rattle.lalrpop_rules.specs.declared.item.Item.{Item}
-use Rattle.tokens_lib.specs.OpenModes.{open_after}
-use Rattle.tokens_lib.specs.Internal.Faults.{first_with}
+use Rattle.lalrpop_rules.specs.declared.item.Item.TheVariants.{Token, Skipped, Fault}
+use Rattle.lexdfa_lib.specs.Watch.{AppendsPrefix}
+use Rattle.tokens_lib.specs.CutEnds.{BreaksOff, first_fault, AreGiven, IsCutTo, IsTextOf, BeginsWith}
+use Rattle.tokens_lib.specs.ItemLines.{line_in, mode_named, name_at}
+use Rattle.tokens_lib.specs.OpenModes.{open_behind, pushed_all}
+use Rattle.tokens_lib.specs.Streams.{Reading, ReadEnd, AtEnd, Failed, EndsReading}
+use Rattle.tokens_lib.specs.Internal.Incoming.{IsIncoming}
+use Rattle.tokens_lib.specs.declared.command.Markup.{Markup}
+use Rattle.tokens_lib.specs.declared.command.Markup.TheVariants.{Html as MarkupHtml, Ansi as MarkupAnsi}
+use Rattle.tokens_lib.specs.declared.cut_end.CutEnd.{CutEnd}
+use Rattle.tokens_lib.specs.declared.cut_end.CutEnd.TheVariants.{Whole, Stopped, Broken}
+use Rattle.tokens_lib.specs.declared.cut_end.OpenMode.{OpenMode}
+use Rattle.tokens_lib.specs.declared.cutter.Coming.{Coming}
+use Rattle.tokens_lib.specs.declared.cutter.Coming.TheVariants.{More, Nothing, NoCharacter, Failure}
+use Rattle.tokens_lib.specs.declared.cutter.Cutter.{Cutter}
+use Rattle.tokens_lib.specs.declared.layout.LineForm.{LineForm}
+use Rattle.tokens_lib.specs.declared.sheet.Form.{Form}
+use Rattle.tokens_lib.specs.declared.sheet.Form.TheVariants.{Lines, Html, Ansi}
+use Rattle.lines_lib.specs.declared.text.TextError.TheVariants.{NotText, Read}
 
--- a text that is cut; the mode in which the last piece was read; where the first fault begins; and for each mode that has one below it,
--- where the token begins that pushed it
-pub record CutText : Type 0 where
-  pub cut : ModeCut
-  pub mode : ℕ
-  pub fault : Option ℕ
-  pub begins : List ℕ
+-- ---- places
 
--- nothing is cut yet
-pub record IsUncut (rules : ModeRules) (text : List ℕ) (c : CutText) : Type 0 where
-  pub rules_are : c.cut.rules ≡ rules
-  pub text_is : c.cut.text ≡ text
-  pub place : c.cut.at ≡ 0
-  pub stack : c.cut.stack ≡ start
-  pub fault : c.fault ≡ None
-  pub begins : c.begins ≡ []
+-- the second place, counted from the first one
+abbrev pub moved : Position → Position → Position
+moved p q =
+    if q.line == 1 then record { line = p.line; column = p.column + (q.column - 1) } else record { line = p.line + (q.line - 1); column = q.column }
 
--- what one call gives: nothing, at the end; or a piece
-abbrev pub GivesNext : CutText → Option Item → CutText → Type 0
-GivesNext old None new = (new ≡ old) × (left_text old.cut ≡ [])
-GivesNext old (Some x) new =
-    GivesModePiece old.cut (Some x) new.cut
-    × ((new.mode ≡ old.cut.stack.mode) × ((new.fault ≡ first_with old.fault x) × (new.begins ≡ open_after old.cut.rules.actions x old.begins)))
+-- the place behind a slice that begins at a place
+abbrev pub place_after : Position → List ℕ → Position
+place_after p slice = moved p (place_behind (chars slice))
+
+-- where the modes were entered that have one below them, after a piece that begins here
+abbrev pub opened_after : List (List Action) → Position → Item → List Position → List Position
+opened_after actions place (Token token) places = pushed_all place (actions_of actions token.index) places
+opened_after actions place (Skipped token) places = pushed_all place (actions_of actions token.index) places
+opened_after actions place (Fault begin slice) places = places
+
+-- the same by the rule of the piece
+abbrev pub opened_by : List (List Action) → Position → Option ℕ → List Position → List Position
+opened_by actions place None places = places
+opened_by actions place (Some rule) places = pushed_all place (actions_of actions rule) places
+
+-- ---- pieces
+
+abbrev pub is_fault : Item → Bool
+is_fault (Token token) = false
+is_fault (Skipped token) = false
+is_fault (Fault begin slice) = true
+
+-- a piece is given, which begins at this place and was read in this mode
+pub record GivesCut (old : Cutter) (x : Item) (place : Position) (mode : ℕ) (new : Cutter) : Type 0 where
+  pub gives : GivesFinal old.incoming.chunks (Some x) new.incoming.chunks
+  pub utf8 : IsUtf8 (slice_of x)
+  pub decoder : new.incoming.decoder ≡ old.incoming.decoder
+  pub begun : new.incoming.has_begun ≡ old.incoming.has_begun
+  pub lexer : new.lexer ≡ old.lexer
+  pub at : new.at ≡ old.at + length (slice_of x)
+  pub place_is : place ≡ old.here
+  pub mode_is : mode ≡ old.incoming.chunks.stack.mode
+  pub here : new.here ≡ place_after old.here (slice_of x)
+  pub fault : new.has_fault ≡ (old.has_fault || is_fault x)
+  pub places : reverse new.places.items ≡ opened_after old.lexer.now.actions place x (reverse old.places.items)
+
+-- each piece begins no later than this
+abbrev pub BeginWithin : ℕ → List Item → Type 0
+BeginWithin n [] = Unit {0}
+BeginWithin n (x ∷ xs) = (start_of x ≤ n) × BeginWithin n xs
+
+-- this text has come, and these pieces of it were given
+pub record IsCutInto (rules : ModeRules) (text : List ℕ) (xs : List Item) (c : Cutter) : Type 0 where
+  pub came : Came rules text xs c.incoming.chunks
+  pub lexer : c.lexer.now ≡ rules
+  pub at : c.at ≡ c.incoming.chunks.at
+  pub utf8 : IsUtf8 (joined xs)
+  pub begin : BeginWithin c.incoming.chunks.at xs
+  pub here : c.here ≡ position_of text c.incoming.chunks.at
+  pub fault : c.has_fault ≡ is_some (first_fault xs)
+  pub places : reverse c.places.items ≡ map (position_of text) (open_behind rules.actions xs [])
+  pub opened : AllOf (λ n. n ≤ c.incoming.chunks.at) (open_behind rules.actions xs [])
+
+-- ---- what comes
+
+-- what may still come, after a read
+abbrev pub IsComing : Option (List ℕ) → Bool → List ℕ → List ℕ → Cutter → Coming → Type 0
+IsComing remaining failed text left c More =
+    (failed ≡ false) × ((c.incoming.decoder.is_broken ≡ false) × (c.incoming.chunks.is_ended ≡ false))
+IsComing remaining failed text left c Nothing =
+    EndsReading remaining failed AtEnd × ((left ≡ []) × (c.incoming.chunks.is_ended ≡ true))
+IsComing remaining failed text left c (NoCharacter at) =
+    (end : ReadEnd) × (EndsReading remaining failed end × (BreaksOff end text left (NotText at) × (c.incoming.chunks.is_ended ≡ false)))
+IsComing remaining failed text left c Failure =
+    EndsReading remaining failed Failed × (BreaksOff Failed text left Read × (c.incoming.chunks.is_ended ≡ false))
+
+-- what a read brings: these bytes, and a part of the text, whatever was read before
+abbrev pub Comes : ModeRules → Option (List ℕ) → Option (List ℕ) → Bool → Cutter → Cutter → Coming → Type 0
+Comes rules remaining remaining_now failed old new coming =
+    (more : List ℕ) × (Consumes remaining remaining_now more
+    × ((bytes text left : List ℕ) (xs : List Item) → IsIncoming bytes text left old.incoming → IsCutInto rules text xs old
+    → (chunk : List ℕ) × ((behind : List ℕ) × (IsIncoming (bytes ++ more) (text ++ chunk) behind new.incoming
+    × (IsCutInto rules (text ++ chunk) xs new × IsComing remaining_now failed (text ++ chunk) behind new coming)))))
+
+-- ---- how cutting ends
+
+-- the mode on top, and where it was entered, if it has one below it
+abbrev pub open_place : ℕ → List Position → Option OpenMode
+open_place mode [] = None
+open_place mode (place ∷ places) = Some (record { mode = mode; place = place })
+
+-- by what may still come
+abbrev pub end_by : Cutter → Coming → Option CutEnd
+end_by c More = None
+end_by c Nothing = Some (Whole c.has_fault (open_place c.incoming.chunks.stack.mode (reverse c.places.items)))
+end_by c (NoCharacter at) = Some (Broken (NotText at))
+end_by c Failure = Some (Broken Read)
+
+-- ---- what is written
+
+-- the line of a piece that begins at this place
+abbrev pub line_here : LineForm → Bool → Option (List ℕ) → List (List ℕ) → Option (List ℕ) → Position → Item → List ℕ
+line_here form recovers file names mode place (Token token) = line_in form file place token.start (Some (name_at names token.index)) mode token.slice.now
+line_here form recovers file names mode place (Skipped token) = []
+line_here form true file names mode place (Fault begin slice) = line_in form file place begin None mode slice.now
+line_here form false file names mode place (Fault begin slice) = []
+
+-- what is written for a piece that begins at this place and was read in this mode
+abbrev pub piece_shown : Form → List (List ℕ) → Position → ℕ → Item → List ℕ
+piece_shown (Lines layout) names place mode x =
+    line_here layout.form layout.recovers (option_map (λ f. f.now) layout.file) names (mode_named (map string_bytes layout.modes.now) mode) place x
+piece_shown Html names place mode x = marked names x
+piece_shown (Ansi painter) names place mode x = painted painter x
+
+-- whether cutting goes on behind a fault
+abbrev pub goes_on : Form → Bool
+goes_on (Lines layout) = layout.recovers
+goes_on Html = true
+goes_on (Ansi painter) = true
+
+-- so a page is written
+abbrev pub IsPageForm : Form → Markup → List (List ℕ) → Type 0
+IsPageForm Html MarkupHtml names = Unit {0}
+IsPageForm (Ansi painter) MarkupAnsi names = painter ≡ names
+IsPageForm _ _ names = ⊥
+
+-- what is written for pieces of a text, from this stack of modes on
+abbrev pub shown_from : Form → ModeRules → List ℕ → Stack → List Item → List ℕ
+shown_from form rules text s [] = []
+shown_from form rules text s (x ∷ xs) =
+    piece_shown form rules.names (position_of text (start_of x)) s.mode x ++ shown_from form rules text (after rules.actions x s) xs
+
+abbrev pub shown : Form → ModeRules → List ℕ → List Item → List ℕ
+shown form rules text xs = shown_from form rules text start xs
+
+-- no piece is a fault where cutting ends at one
+abbrev pub NoFaultYet : Form → List Item → Type 0
+NoFaultYet form xs = goes_on form ≡ false → first_fault xs ≡ None
+
+-- the writer, which held something before, took these bytes, but for those that wait
+pub record IsSent (bytes waiting : List ℕ) (held held_now : Option (List ℕ)) : Type 0 where
+  pub sent : List ℕ
+  pub appends : Appends held held_now sent
+  pub all : sent ++ waiting ≡ bytes
+
+-- these pieces of a text were given, and are written
+pub record IsGiven (form : Form) (rules : ModeRules) (text : List ℕ) (xs : List Item) (c : Cutter) (waiting : List ℕ) (held held_now : Option (List ℕ)) : Type 0 where
+  pub cut : IsCutInto rules text xs c
+  pub no_fault : NoFaultYet form xs
+  pub written : IsSent (shown form rules text xs) waiting held held_now
+
+-- the same before an error, where the writer took only a prefix of what is written for them
+pub record IsGivenInPart (form : Form) (rules : ModeRules) (text : List ℕ) (xs : List Item) (c : Chunked) (held held_now : Option (List ℕ)) : Type 0 where
+  pub came : Came rules text xs c
+  pub no_fault : NoFaultYet form xs
+  pub prefix : AppendsPrefix held held_now (shown form rules text xs)
+
+-- a fault begins behind them, where cutting ends
+pub record EndsAtFault (form : Form) (rules : ModeRules) (text : List ℕ) (xs : List Item) (c : Chunked) (ended : CutEnd) : Type 0 where
+  pub came : Came rules text xs c
+  pub no_fault : first_fault xs ≡ None
+  pub ends : goes_on form ≡ false
+  pub fault : BeginsFault c
+  pub found : ℕ
+  pub ended_is : ended ≡ Stopped (position_of text c.at) found
+  pub character : take 1 (chars c.rest) ≡ found ∷ []
+
+-- nothing has changed of what comes
+pub record IsAsBefore (old new : Cutter) : Type 0 where
+  pub lexer : new.lexer ≡ old.lexer
+  pub decoder : new.incoming.decoder ≡ old.incoming.decoder
+  pub begun : new.incoming.has_begun ≡ old.incoming.has_begun
+  pub ended : new.incoming.chunks.is_ended ≡ old.incoming.chunks.is_ended
+
+-- no piece can be given any more, before more comes
+pub record IsWaiting (form : Form) (c : Chunked) : Type 0 where
+  pub held : IsHeldBack c
+  pub may : goes_on form ≡ false → (c.rest ≡ []) ⊎ MayMatch c
+
+-- all pieces were given that can be; or cutting ends at a fault behind those that were given
+abbrev pub GivesAll : Form → ModeRules → List ℕ → Cutter → Cutter → List ℕ → Option (List ℕ) → Option (List ℕ) → Option CutEnd → Type 0
+GivesAll form rules text old new waiting held held_now None =
+    (ys : List Item) × (IsGiven form rules text ys new waiting held held_now × (IsWaiting form new.incoming.chunks × IsAsBefore old new))
+GivesAll form rules text old new waiting held held_now (Some ended) =
+    (ys : List Item) × ((c : Chunked) × (EndsAtFault form rules text ys c ended
+    × (IsSent (shown form rules text ys) waiting held held_now × (c.is_ended ≡ old.incoming.chunks.is_ended))))
+
+-- a writer took exactly what is written for the pieces that are cut of what was read, and cutting ended so
+abbrev pub WritesPieces : Form → ModeRules → Reading → Option (List ℕ) → Option (List ℕ) → CutEnd → Type 0
+WritesPieces form rules reading held held_now ended =
+    (text : List ℕ) × ((left : List ℕ) × ((xs : List Item) × (IsTextOf reading.bytes text left
+    × (IsCutTo rules (goes_on form) reading text left xs ended × Appends held held_now (shown form rules text xs)))))
+
+-- a writer took a prefix of what is written for pieces that were given
+abbrev pub WritesPiecesPart : Form → ModeRules → Reading → Option (List ℕ) → Option (List ℕ) → Type 0
+WritesPiecesPart form rules reading held held_now =
+    (text : List ℕ) × ((left : List ℕ) × ((xs : List Item) × ((c : Chunked) × (BeginsWith reading.bytes text left
+    × (AreGiven rules (goes_on form) reading text left xs c × AppendsPrefix held held_now (shown form rules text xs))))))

@@ -1,7 +1,7 @@
 use Rattle.std.proofs.Common.{◌≡◌, ℕ, List, Bor, length, map, sym, ap, ◌∙◌}
 use Rattle.std.proofs.lemmas.Bool.{eqb-false, eqb-true}
 use Rattle.std.proofs.lemmas.List.{length-map}
-use Rattle.tokens_lib.specs.Internal.Tasks.{TaskAnswer}
+use Rattle.tokens_lib.specs.Internal.Tasks.{TaskAnswer, TaskPart}
 use Rattle.tokens_lib.specs.Progress.{total_said}
 use Rattle.tokens_lib.specs.Streams.{StreamGives}
 use Rattle.tokens_lib.proofs.AnswerLaws.{cut_named, cut_unnamed, texts_answered}
@@ -14,7 +14,7 @@ text name = name.now
 pub returns-then-is_empty-clause-answer : goal.returns-then-is_empty-clause-answer
 returns-then-is_empty-clause-answer g c =
     let n : length (map text c.args.names.now) ≡ length c.args.names.now = length-map c.args.names.now text in
-    texts_answered c.cut_each.result (g.F.Files.gives c.args.files.now) (StreamGives g.R.Read.remaining) (TaskAnswer c.args.task.now) c.args.input.now c.cut_each.new.input
+    texts_answered c.cut_each.result (g.F.Files.gives c.args.files.now) (StreamGives g.R.Read.remaining) (TaskAnswer c.args.task.now) (TaskPart c.args.task.now) c.args.input.now c.cut_each.new.input
     c.args.verbosity _ _ (map text c.args.names.now) g.W.Write.contents g.E.Write.contents c.args.out.now c.cut_each.new.out c.args.err.now c.cut_each.new.err
     (c.total_said-total.ensures.total ∙ ap (total_said c.args.verbosity) (sym n))
     (sym (cut_unnamed (map text c.args.names.now) (n ∙ eqb-true (length c.args.names.now) 0 (sym c.is_empty.ensures ∙ c.if-is_empty.true))))
@@ -23,7 +23,7 @@ returns-then-is_empty-clause-answer g c =
 pub returns-else-is_empty-clause-answer : goal.returns-else-is_empty-clause-answer
 returns-else-is_empty-clause-answer g c =
     let n : length (map text c.args.names.now) ≡ length c.args.names.now = length-map c.args.names.now text in
-    texts_answered c.cut_each-else-is_empty.result (g.F.Files.gives c.args.files.now) (StreamGives g.R.Read.remaining) (TaskAnswer c.args.task.now) c.args.input.now c.cut_each-else-is_empty.new.input
+    texts_answered c.cut_each-else-is_empty.result (g.F.Files.gives c.args.files.now) (StreamGives g.R.Read.remaining) (TaskAnswer c.args.task.now) (TaskPart c.args.task.now) c.args.input.now c.cut_each-else-is_empty.new.input
     c.args.verbosity _ (map text c.args.names.now) (map text c.args.names.now) g.W.Write.contents g.E.Write.contents c.args.out.now c.cut_each-else-is_empty.new.out c.args.err.now c.cut_each-else-is_empty.new.err
     (c.total_said-total.ensures.total ∙ ap (total_said c.args.verbosity) (sym n))
     (sym (cut_named (map text c.args.names.now) (λ e. eqb-false (length c.args.names.now) 0 (sym c.is_empty.ensures ∙ c.if-is_empty.false) (sym n ∙ e))))
@@ -32,7 +32,7 @@ returns-else-is_empty-clause-answer g c =
 pub returns-then-is_empty-clause-begun : goal.returns-then-is_empty-clause-begun
 returns-then-is_empty-clause-begun g c =
     let n : length (map text c.args.names.now) ≡ length c.args.names.now = length-map c.args.names.now text in
-    texts_begun c.cut_each.result (g.F.Files.gives c.args.files.now) (StreamGives g.R.Read.remaining) (TaskAnswer c.args.task.now) c.args.input.now
+    texts_begun c.cut_each.result (g.F.Files.gives c.args.files.now) (StreamGives g.R.Read.remaining) (TaskAnswer c.args.task.now) (TaskPart c.args.task.now) c.args.input.now
     c.args.verbosity _ _ (map text c.args.names.now) _ _
     (c.total_said-total.ensures.total ∙ ap (total_said c.args.verbosity) (sym n))
     (sym (cut_unnamed (map text c.args.names.now) (n ∙ eqb-true (length c.args.names.now) 0 (sym c.is_empty.ensures ∙ c.if-is_empty.true))))
@@ -41,7 +41,7 @@ returns-then-is_empty-clause-begun g c =
 pub returns-else-is_empty-clause-begun : goal.returns-else-is_empty-clause-begun
 returns-else-is_empty-clause-begun g c =
     let n : length (map text c.args.names.now) ≡ length c.args.names.now = length-map c.args.names.now text in
-    texts_begun c.cut_each-else-is_empty.result (g.F.Files.gives c.args.files.now) (StreamGives g.R.Read.remaining) (TaskAnswer c.args.task.now) c.args.input.now
+    texts_begun c.cut_each-else-is_empty.result (g.F.Files.gives c.args.files.now) (StreamGives g.R.Read.remaining) (TaskAnswer c.args.task.now) (TaskPart c.args.task.now) c.args.input.now
     c.args.verbosity _ (map text c.args.names.now) (map text c.args.names.now) _ _
     (c.total_said-total.ensures.total ∙ ap (total_said c.args.verbosity) (sym n))
     (sym (cut_named (map text c.args.names.now) (λ e. eqb-false (length c.args.names.now) 0 (sym c.is_empty.ensures ∙ c.if-is_empty.false) (sym n ∙ e))))

@@ -1,9 +1,9 @@
-use Rattle.std.proofs.Common.{ℕ, List, [], Bor, get_or, refl, ◌∙◌}
-use Rattle.tokens_lib.specs.Answer.{followed, NumberedAnswer}
-use Rattle.tokens_lib.specs.Internal.Tasks.{TaskAnswer}
+use Rattle.std.proofs.Common.{ℕ, ◌+◌, List, [], Bor, get_or, refl, ◌∙◌}
+use Rattle.tokens_lib.specs.Answer.{followed, ReadingAnswer, NumberedAnswer}
+use Rattle.tokens_lib.specs.Internal.Tasks.{TaskAnswer, TaskPart}
 use Rattle.tokens_lib.specs.Streams.{StreamGives}
 use Rattle.tokens_lib.proofs.AnswerLaws.{files_more, Answered-again}
-use Rattle.tokens_lib.proofs.BegunLaws.{files_begun}
+use Rattle.tokens_lib.proofs.BegunLaws.{files_begun, numbered_begun}
 use Rattle.lines_lib.proofs.Sending.{at_any_error}
 use Rattle.tokens_lib.proofs.cut_files.cut_each.Goals as goal
 
@@ -19,7 +19,7 @@ loop-i-preserved g c =
       answer = (
         followed before.0 own.0,
         (
-          files_more (NumberedAnswer (g.F.Files.gives c.args.files.now) (StreamGives g.R.Read.remaining) (TaskAnswer c.args.task.now) c.args.total) text c.args.names.now c.loop-i.i
+          files_more (NumberedAnswer (g.F.Files.gives c.args.files.now) (StreamGives g.R.Read.remaining) (ReadingAnswer (TaskAnswer c.args.task.now)) c.args.total) text c.args.names.now c.loop-i.i
               (record { ref_ptr = (0, 0); now = [] }) (get_or c.args.names.now c.loop-i.i (record { ref_ptr = (0, 0); now = [] })).now c.args.input.now c.loop-i.input c.cut_numbered.new.input
               before.0 own.0 c.loop-i-test.true refl before.1.0 own.1.0,
           (c.worse-status.ensures ∙ again.0, again.1),
@@ -34,7 +34,12 @@ loop-i-preserved g c =
 pub returns-in_err-own-clause-begun : goal.returns-in_err-own-clause-begun
 returns-in_err-own-clause-begun g c =
     let before = c.loop-i.invariant.answer in
+    let gives = g.F.Files.gives c.args.files.now in
+    let input_gives = StreamGives g.R.Read.remaining in
+    let here = get_or c.args.names.now c.loop-i.i (record { ref_ptr = (0, 0); now = [] }) in
     at_any_error _ c.from_residual.result
-    (files_begun (NumberedAnswer (g.F.Files.gives c.args.files.now) (StreamGives g.R.Read.remaining) (TaskAnswer c.args.task.now) c.args.total) text c.args.names.now c.loop-i.i
-    (record { ref_ptr = (0, 0); now = [] }) (get_or c.args.names.now c.loop-i.i (record { ref_ptr = (0, 0); now = [] })).now c.args.input.now c.loop-i.input c.cut_numbered.new.input
-    before.0 _ _ _ c.loop-i-test.true refl before.1.0 before.1.1.1.0 c.in_err-own.ensures.begun)
+    (files_begun (NumberedAnswer gives input_gives (ReadingAnswer (TaskAnswer c.args.task.now)) c.args.total) (NumberedAnswer gives input_gives (TaskPart c.args.task.now) c.args.total)
+    text c.args.names.now c.loop-i.i (record { ref_ptr = (0, 0); now = [] }) here.now c.args.input.now c.loop-i.input c.cut_numbered.new.input
+    before.0 _ _ _ c.loop-i-test.true refl before.1.0 before.1.1.1.0
+    (numbered_begun gives input_gives (ReadingAnswer (TaskAnswer c.args.task.now)) (TaskPart c.args.task.now) c.args.total (c.loop-i.i + 1) c.loop-i.input c.cut_numbered.new.input here.now _ _
+    c.in_err-own.ensures.begun))

@@ -1,22 +1,29 @@
-use Rattle.std.proofs.Common.{refl}
-use Rattle.tokens_lib.specs.Answer.{TextOf}
-use Rattle.tokens_lib.specs.Internal.Tasks.{TaskAnswer}
-use Rattle.tokens_lib.proofs.AnswerLaws.{none_answered, some_answered}
-use Rattle.tokens_lib.proofs.BegunLaws.{file_begun}
+use Rattle.std.proofs.Common.{false, string_bytes}
+use Rattle.tokens_lib.specs.Streams.{StreamGives}
+use Rattle.tokens_lib.specs.Internal.Tasks.{TaskAnswer, TaskPart}
+use Rattle.tokens_lib.proofs.AnswerLaws.{opening, file_answered, unopened}
+use Rattle.tokens_lib.proofs.BegunLaws.{opened_begun}
 use Rattle.tokens_lib.proofs.cut_files.cut_file.Goals as goal
 
-pub returns-in-Some-clause-answer : goal.returns-in-Some-clause-answer
-returns-in-Some-clause-answer g c =
-    some_answered c.cut_bytes.result (g.F.Files.gives c.args.files.now) (TextOf (TaskAnswer c.args.task.now)) c.args.name.now c.in-Some.bytes.items c.in-Some.bytes.items
-    g.W.Write.contents g.E.Write.contents c.args.out.now c.cut_bytes.new.out c.args.err.now c.bytes_of.new.err c.cut_bytes.new.err
-    (rw c.in-Some.is at c.in_ok-bytes.ensures.bytes) refl (rw c.in-Some.is at c.in_ok-bytes.ensures.quiet) c.cut_bytes.ensures.answer
+pub returns-in-Ok-clause-answer : goal.returns-in-Ok-clause-answer
+returns-in-Ok-clause-answer g c =
+    let remaining = g.F.Reader.Read.remaining in
+    let gives = g.F.Files.gives c.args.files.now c.args.name.now in
+    file_answered c.run_task.result (StreamGives remaining c.new.result c.run_task.new.reader) gives (TaskAnswer c.args.task.now) c.args.name.now
+    g.W.Write.contents g.E.Write.contents c.args.out.now c.run_task.new.out c.args.err.now c.run_task.new.err
+    (opening remaining (record { inner = c.in-Ok.reader; failed = false; late = 0 }) c.new.result c.run_task.new.reader gives c.new.ensures.new c.in-Ok.ensures.reader)
+    c.run_task.ensures.answer
 
-pub returns-in-None-clause-answer : goal.returns-in-None-clause-answer
-returns-in-None-clause-answer g c =
-    none_answered (g.F.Files.gives c.args.files.now) (TextOf (TaskAnswer c.args.task.now)) c.args.name.now g.W.Write.contents g.E.Write.contents c.args.out.now
-    c.args.err.now c.bytes_of.new.err (rw c.in-None.is at c.in_ok-bytes.ensures.reason)
+pub returns-in-Ok-clause-begun : goal.returns-in-Ok-clause-begun
+returns-in-Ok-clause-begun g c =
+    let remaining = g.F.Reader.Read.remaining in
+    let gives = g.F.Files.gives c.args.files.now c.args.name.now in
+    opened_begun c.run_task.result (StreamGives remaining c.new.result c.run_task.new.reader) gives (TaskAnswer c.args.task.now) (TaskPart c.args.task.now) c.args.name.now _ _
+    (opening remaining (record { inner = c.in-Ok.reader; failed = false; late = 0 }) c.new.result c.run_task.new.reader gives c.new.ensures.new c.in-Ok.ensures.reader)
+    c.run_task.ensures.begun
 
-pub returns-in-Some-clause-begun : goal.returns-in-Some-clause-begun
-returns-in-Some-clause-begun g c =
-    file_begun c.cut_bytes.result (g.F.Files.gives c.args.files.now) (TextOf (TaskAnswer c.args.task.now)) c.args.name.now c.in-Some.bytes.items c.in-Some.bytes.items _ _
-    (rw c.in-Some.is at c.in_ok-bytes.ensures.bytes) refl c.cut_bytes.ensures.begun
+pub returns-in_ok-say_about-in-Err-Because-clause-answer : goal.returns-in_ok-say_about-in-Err-Because-clause-answer
+returns-in_ok-say_about-in-Err-Because-clause-answer g c =
+    unopened (g.F.Files.gives c.args.files.now c.args.name.now) (TaskAnswer c.args.task.now) c.args.name.now (string_bytes c.in-Err-Because.reason)
+    g.W.Write.contents g.E.Write.contents c.args.out.now c.args.err.now c.say_about.new.err
+    (rw c.in-Err-Because.field-0-is at c.in-Err-Because.ensures.reason) (rw c.as_str.ensures.value at c.in_ok-say_about-in-Err-Because.ensures.said)

@@ -3,4 +3,4 @@ use Rattle.tokens_lib.specs.OpenModes.{pushed_all}
 use Rattle.tokens_lib.proofs.cutter.note_actions.Given as goal
 
 abbrev pub invariant-loop-action : goal.invariant-loop-action
-invariant-loop-action l = reverse l.begins.items ≡ pushed_all l.at (take l.action-index l.actions) (reverse l.fn.begins.items)
+invariant-loop-action l = reverse l.places.items ≡ pushed_all l.place (take l.action-index l.actions) (reverse l.fn.places.items)

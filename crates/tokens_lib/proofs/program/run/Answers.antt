@@ -11,14 +11,14 @@ use Rattle.tokens_lib.specs.declared.command.ArgumentsError.{ArgumentsError}
 use Rattle.tokens_lib.specs.declared.command.ArgumentsError.TheVariants.{OutOfMemory}
 use Rattle.tokens_lib.proofs.AnswerLaws.{Answered-refusal}
 use Rattle.std.proofs.lemmas.Result.{IfOk-weaker, on_err_weaker}
-use Rattle.tokens_lib.specs.Streams.{Given, StreamGives, Takes}
+use Rattle.tokens_lib.specs.Streams.{Reading, StreamGives, Takes}
 use Rattle.tokens_lib.proofs.ProgramLaws.{low_after}
 use Rattle.tokens_lib.proofs.StatusBounds.{command_low}
 use Rattle.tokens_lib.proofs.BegunLaws.{Begun-weaker}
 use Rattle.tokens_lib.proofs.program.run.Goals as goal
 
 -- what is said of wrong arguments
-refused : {I W E : Type 0} (r : Result ℕ RunError) (Gives : List ℕ → Given → Type 0) (InputGives : I → I → Given → Type 0) (i : I) (words : List (List ℕ)) (error : ArgumentsError)
+refused : {I W E : Type 0} (r : Result ℕ RunError) (Gives : List ℕ → Reading → Type 0) (InputGives : I → I → Reading → Type 0) (i : I) (words : List (List ℕ)) (error : ArgumentsError)
     (written : W → Option (List ℕ)) (said : E → Option (List ℕ)) (o : Watch W) (e f : Watch E) → (error ≢ OutOfMemory → IsArgumentsError (options (joined words)) (names (joined words)) error)
     → IfOk r (λ status. status ≡ 4) → OnOk r (error ≢ OutOfMemory) → OnOk r (Takes said e f (wrong_text error))
     → IfOk r (λ status. (answer : Answer) × (IsAnswer Gives InputGives i i words answer × Answered written said o o e f status answer))

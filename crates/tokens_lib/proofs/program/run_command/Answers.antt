@@ -2,7 +2,7 @@ use Rattle.std.proofs.Common.{ℕ, List, map, Bor}
 use Rattle.tokens_lib.specs.Answer.{TextsAnswer, FirstTextsAnswer}
 use Rattle.tokens_lib.specs.Program.{ActionAnswer}
 use Rattle.tokens_lib.specs.Progress.{reading_text}
-use Rattle.tokens_lib.specs.Streams.{StreamGives}
+use Rattle.tokens_lib.specs.Streams.{GivesWhole, StreamGives}
 use Rattle.tokens_lib.specs.Usage.{help, version}
 use Rattle.tokens_lib.proofs.AnswerLaws.{answered_behind}
 use Rattle.tokens_lib.proofs.BegunLaws.{begun_behind}
@@ -33,7 +33,7 @@ pub returns-in_ok-say_reading-in-Run-clause-answer : goal.returns-in_ok-say_read
 returns-in_ok-say_reading-in-Run-clause-answer g c =
     rw c.in-Run.is
     (answered_behind c.run_action.result
-    (ActionAnswer (g.F.Files.gives c.args.files.now) (TextsAnswer (g.F.Files.gives c.args.files.now) (StreamGives g.R.Read.remaining) c.args.input.now c.run_action.new.input)
+    (ActionAnswer (GivesWhole (g.F.Files.gives c.args.files.now)) (TextsAnswer (g.F.Files.gives c.args.files.now) (StreamGives g.R.Read.remaining) c.args.input.now c.run_action.new.input)
     c.in-Run.verbosity c.in-Run.action c.in-Run.rules.now (map text c.in-Run.names.items))
     g.W.Write.contents g.E.Write.contents c.args.out.now c.run_action.new.out c.args.err.now c.say_reading.new.err c.run_action.new.err
     (reading_text c.in-Run.verbosity c.in-Run.rules.now) c.in_ok-say_reading-in-Run.ensures.said (rw c.deref.ensures.value at c.run_action.ensures.answer))
@@ -42,6 +42,6 @@ pub returns-in_ok-say_reading-in-Run-clause-begun : goal.returns-in_ok-say_readi
 returns-in_ok-say_reading-in-Run-clause-begun g c =
     rw c.in-Run.is
     (begun_behind c.run_action.result
-    (ActionAnswer (g.F.Files.gives c.args.files.now) (FirstTextsAnswer (g.F.Files.gives c.args.files.now) (StreamGives g.R.Read.remaining) c.args.input.now)
+    (ActionAnswer (GivesWhole (g.F.Files.gives c.args.files.now)) (FirstTextsAnswer (g.F.Files.gives c.args.files.now) (StreamGives g.R.Read.remaining) c.args.input.now)
     c.in-Run.verbosity c.in-Run.action c.in-Run.rules.now (map text c.in-Run.names.items))
     (reading_text c.in-Run.verbosity c.in-Run.rules.now) _ _ (rw c.deref.ensures.value at c.run_action.ensures.begun))

@@ -1,0 +1,88 @@
+-- Cases of specs/CutEnds.antt.
+use Rattle.std.proofs.Common.{◌≡◌, ◌≤◌, ℕ, zero, suc, Bool, true, false, List, [], ◌∷◌, ◌++◌, take, codes, refl, ap, arith}
+use Rattle.std.specs.Prelude.{Option, Some, None}
+use Rattle.std.specs.Borrow.{Bor}
+use Rattle.std.specs.Io.KnownBytes.{Appends}
+use Rattle.lalrpop_book.specs.declared.token.Token.{Token as Cut}
+use Rattle.lalrpop_edits.specs.Chunked.{Chunked, nothing_come, nothing}
+use Rattle.lalrpop_edits.proofs.ChunkLaws.{came_to}
+use Rattle.lalrpop_lexer.specs.declared.position.Position.{Position}
+use Rattle.lalrpop_modes.specs.Modes.{ModeRules}
+use Rattle.lalrpop_modes.specs.Stack.{start}
+use Rattle.lalrpop_rules.proofs.UniquePieces.{no_piece_left}
+use Rattle.lalrpop_rules.specs.declared.item.Item.{Item}
+use Rattle.lalrpop_rules.specs.declared.item.Item.TheVariants.{Token, Skipped, Fault}
+use Rattle.lines_lib.specs.declared.text.TextError.{TextError}
+use Rattle.lines_lib.specs.declared.text.TextError.TheVariants.{Read}
+use Rattle.tokens_lib.specs.CutEnds.{AreGiven, BreaksOff, IsCutTo, first_fault}
+use Rattle.tokens_lib.specs.Streams.{Reading, AtEnd, Failed, LeftOff}
+use Rattle.tokens_lib.specs.declared.cut_end.CutEnd.TheVariants.{Whole, Stopped}
+use Rattle.tokens_lib.specs.declared.cut_end.OpenMode.{OpenMode}
+
+-- ---- the first fault
+
+fault_behind_others : (token skipped : Cut) (slice other : Bor (List ℕ))
+    → first_fault (Token token ∷ Skipped skipped ∷ Fault 7 slice ∷ Fault 9 other ∷ []) ≡ Some 7
+fault_behind_others token skipped slice other = refl
+
+no_fault : (token : Cut) → first_fault (Token token ∷ []) ≡ None
+no_fault token = refl
+
+-- ---- where a text breaks off
+
+-- a failure isn't told as another error
+failure_is_told : (text left : List ℕ) (error : TextError) → BreaksOff Failed text left error → error ≡ Read
+failure_is_told text left error breaks = breaks.1
+
+-- a text that is whole doesn't break off
+whole_goes_on : (text : List ℕ) (error : TextError) → ¬ BreaksOff AtEnd text [] error
+whole_goes_on text error breaks = breaks.1.0 refl
+
+-- ---- how cutting ends
+
+-- nothing was there
+abbrev pub all_of_nothing : Reading
+all_of_nothing = record { bytes = []; end = AtEnd }
+
+pub empty_text : (rules : ModeRules) (recovers : Bool) → IsCutTo rules recovers all_of_nothing [] [] [] (Whole false None)
+empty_text rules recovers = (refl, (refl, (start, ((refl, refl), (refl, ((λ _. refl), refl))))))
+
+-- a fault where cutting ends isn't cut past
+fault_stops : (rules : ModeRules) (reading : Reading) (text left : List ℕ) (xs : List Item) (inside : Option OpenMode)
+    → ¬ IsCutTo rules false reading text left xs (Whole true inside)
+fault_stops rules reading text left xs inside cut = absurd (cc (cut.1.1.1.1.1.0 refl))
+
+-- where cutting goes on, it doesn't stop
+never_stops : (rules : ModeRules) (reading : Reading) (text left : List ℕ) (xs : List Item) (place : Position) (found : ℕ)
+    → ¬ IsCutTo rules true reading text left xs (Stopped place found)
+never_stops rules reading text left xs place found cut = absurd (cc (cut.0))
+
+-- what was left off isn't whole
+left_off : (rules : ModeRules) (recovers : Bool) (bytes text left : List ℕ) (xs : List Item) (has_fault : Bool) (inside : Option OpenMode)
+    → ¬ IsCutTo rules recovers (record { bytes = bytes; end = LeftOff }) text left xs (Whole has_fault inside)
+left_off rules recovers bytes text left xs has_fault inside cut = absurd (cc (cut.0))
+
+-- ---- nothing was read, since a read failed
+
+abbrev pub nothing_read : Reading
+nothing_read = record { bytes = []; end = Failed }
+
+pub none_given : (rules : ModeRules) (recovers : Bool) → AreGiven rules recovers nothing_read [] [] [] (nothing_come rules)
+none_given rules recovers = record { came = nothing; ended = λ over. absurd (cc (over)); no_fault = λ _. refl }
+
+front_of_nothing : (front back : List ℕ) → [] ≡ front ++ back → front ≡ []
+front_of_nothing [] back e = refl
+front_of_nothing (x ∷ front) back e = absurd (cc (e))
+
+-- so nothing is given
+pub nothing_given : (rules : ModeRules) (text left : List ℕ) (xs : List Item) (c : Chunked) (recovers : Bool) → [] ≡ text ++ left
+    → AreGiven rules recovers nothing_read text left xs c → xs ≡ []
+nothing_given rules text left [] c recovers is are = refl
+nothing_given rules text left (x ∷ xs) c recovers is are =
+    let to = came_to rules text (x ∷ xs) c are.came [] (λ _. refl) in
+    absurd (no_piece_left _ _ _ (text ++ []) 0 x to.0 (ap (λ (t : List ℕ). t ++ []) (front_of_nothing text left is)))
+
+-- and a byte isn't one of none
+pub no_byte : (n : ℕ) → n ≤ 0 → ¬ Appends (Some []) (Some (codes "x")) (take n [])
+no_byte zero le e = absurd (cc (e))
+no_byte (suc n) le e = absurd (omega (arith, le))

@@ -1,0 +1,194 @@
+//! What is written for the pieces of a text.
+ghost use Rattle.std.specs.Prelude.{◌≡◌, ◌++◌, ◌+◌, ◌≤◌, ℕ, List, [], length, map, option_map, string_bytes, OnOk};
+ghost use Rattle.lalrpop_rules.specs.Pieces.{slice_of, start_of};
+ghost use Rattle.tokens_lib.specs.ItemLines.{line_in, name_at, mode_named as mode_named_of};
+ghost use Rattle.tokens_lib.specs.Internal.CutTexts.{goes_on, line_here, piece_shown};
+
+use crate::json_line::push_json;
+use crate::layout::{Layout, LineForm};
+use crate::plain_line::push_plain;
+use crate::shown::Shown;
+use lalrpop_lexer::Position;
+use lalrpop_lexer::lexer::dfa::NfaIndex;
+use lalrpop_markup::{Painter, push_html};
+use lalrpop_modes::ModeLexer;
+use lalrpop_rules::Item;
+use std::alloc::{AllocError, Global};
+
+/// What is written for the pieces of a text.
+#[derive(Drop)]
+pub(crate) enum Form<'rules, 'file, 'modes> {
+    /// Lines.
+    Lines(Layout<'file, 'modes>),
+    /// HTML.
+    Html,
+    /// Text in colours, for a terminal.
+    Ansi(Painter<'rules>),
+}
+
+/// What is written for the pieces of a text, and what of it waits to be written.
+#[derive(Drop)]
+pub(crate) struct Sheet<'rules, 'file, 'modes> {
+    pub(crate) lexer: &'rules ModeLexer,
+    form: Form<'rules, 'file, 'modes>,
+    // The markup of one piece, while it is made.
+    markup: String,
+    pub(crate) waiting: Vec<u8>,
+}
+
+fn push_line(
+    alloc: Global,
+    lines: &mut Vec<u8>,
+    layout: &Layout<'_, '_>,
+    position: Position,
+    shown: &Shown<'_, '_, '_>,
+) -> Result<(), AllocError>
+    requires fits { shown.now.start + length shown.now.slice.now ≤ usize.MAX }
+    ensures { OnOk result (lines.new.items ≡ lines.old.items
+        ++ line_in layout.now.form (option_map (λ f. f.now) layout.now.file) position shown.now.start
+        (option_map (λ n. n.now) shown.now.name) (option_map (λ m. m.now) shown.now.mode)
+        shown.now.slice.now) }
+{
+    match layout.form {
+        LineForm::Plain => push_plain(alloc, lines, layout.file, position, shown),
+        LineForm::Json => push_json(alloc, lines, layout.file, position, shown),
+    }
+}
+
+// The name of a rule. The rule of a token always has one.
+fn name_of(lexer: &ModeLexer, index: NfaIndex) -> &str
+    ensures { result.now ≡ name_at lexer.now.names index }
+{
+    match lexer.name(index) {
+        Some(name) => name,
+        None => "",
+    }
+}
+
+/// The name of the mode with this number, or the empty string if no mode has it.
+pub(crate) fn mode_name(modes: &[String], mode: usize) -> &str
+    ensures name { result.now ≡ name_at (map string_bytes modes.now) mode }
+{
+    match modes.get(mode) {
+        Some(name) => name.as_str(),
+        None => "",
+    }
+}
+
+// The mode that a line names: none, unless there are several.
+fn mode_named(modes: &[String], mode: usize) -> Option<&str>
+    ensures { option_map (λ m. m.now) result ≡ mode_named_of (map string_bytes modes.now) mode }
+{
+    if modes.len() > 1 {
+        return Some(mode_name(modes, mode));
+    }
+    None
+}
+
+// The line of a piece, if it has one.
+fn push_item(
+    alloc: Global,
+    lines: &mut Vec<u8>,
+    lexer: &ModeLexer,
+    layout: &Layout<'_, '_>,
+    place: Position,
+    mode: usize,
+    item: &Item<'_>,
+) -> Result<(), AllocError>
+    requires fits { start_of item.now + length (slice_of item.now) ≤ usize.MAX }
+    ensures line { OnOk result (lines.new.items ≡ lines.old.items
+        ++ line_here layout.now.form layout.now.recovers
+        (option_map (λ f. f.now) layout.now.file) lexer.now.names
+        (mode_named_of (map string_bytes layout.now.modes.now) mode) place item.now) }
+{
+    let shown = match item {
+        Item::Token(token) => Shown {
+            start: token.start,
+            name: Some(name_of(lexer, token.index)),
+            mode: mode_named(layout.modes, mode),
+            slice: token.slice,
+        },
+        Item::Fault { start, slice } if layout.recovers => Shown {
+            start: *start,
+            name: None,
+            mode: mode_named(layout.modes, mode),
+            slice,
+        },
+        Item::Skipped(_) | Item::Fault { .. } => return Ok(()),
+    };
+    push_line(alloc, lines, layout, place, &shown)
+}
+
+impl<'rules, 'file, 'modes> Sheet<'rules, 'file, 'modes> {
+    /// Nothing is to be written yet.
+    pub(crate) fn new(
+        alloc: Global,
+        lexer: &'rules ModeLexer,
+        form: Form<'rules, 'file, 'modes>,
+    ) -> Sheet<'rules, 'file, 'modes>
+        ensures lexer { result.lexer.now ≡ lexer.now }
+        ensures form { result.form ≡ form.entry }
+        ensures none { result.waiting.items ≡ [] }
+    {
+        Sheet {
+            lexer,
+            form,
+            markup: String::new(alloc),
+            waiting: Vec::new(alloc),
+        }
+    }
+
+    /// Whether cutting goes on behind a fault.
+    pub(crate) fn goes_on(&self) -> bool
+        ensures goes { result ≡ goes_on self.now.form }
+    {
+        match &self.form {
+            Form::Lines(layout) => layout.recovers,
+            Form::Html | Form::Ansi(_) => true,
+        }
+    }
+
+    /// Appends what is written for a piece that begins at this place and was read in this mode.
+    ///
+    /// # Errors
+    ///
+    /// `AllocError` if a request for memory was refused, or if the piece ends behind 2^64 bytes.
+    pub(crate) fn push(
+        &mut self,
+        alloc: Global,
+        place: Position,
+        mode: usize,
+        item: &Item<'_>,
+    ) -> Result<(), AllocError>
+        ensures shown { OnOk result (self.new.waiting.items ≡ self.old.waiting.items
+            ++ piece_shown self.old.form self.old.lexer.now.names place mode item.now) }
+        ensures form { OnOk result (self.new.form ≡ self.old.form) }
+        ensures lexer { OnOk result (self.new.lexer ≡ self.old.lexer) }
+    {
+        let Some(_) = item.start().checked_add(item.slice().len()) else {
+            return Err(AllocError);
+        };
+        match &mut self.form {
+            Form::Lines(layout) => {
+                return push_item(
+                    alloc,
+                    &mut self.waiting,
+                    self.lexer,
+                    layout,
+                    place,
+                    mode,
+                    item,
+                );
+            }
+            Form::Html => {
+                self.markup.clear();
+                push_html(&mut self.markup, self.lexer.names(), item)?;
+            }
+            Form::Ansi(painter) => {
+                self.markup.clear();
+                painter.push(&mut self.markup, item)?;
+            }
+        }
+        self.waiting.extend_from_slice(self.markup.as_bytes())
+    }
+}
