@@ -4,11 +4,13 @@
 mod calculator;
 mod config_reader;
 mod highlighter;
+mod log_highlighter;
 mod smallest;
 
 fn main(rt: HostRuntime) -> anyhow::Result<()> {
     smallest::main(rt)?;
     calculator::main(rt)?;
     config_reader::main(rt)?;
-    highlighter::main(rt)
+    highlighter::main(rt)?;
+    log_highlighter::main(rt)
 }
