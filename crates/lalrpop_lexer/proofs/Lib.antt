@@ -32,8 +32,9 @@ pub use Rattle.lalrpop_build.proofs.Agreeing
 pub use Rattle.lalrpop_build.proofs.AfterLaws
 pub use Rattle.lalrpop_dfa.proofs.Recognized
 pub use Rattle.lalrpop_dfa.proofs.WitnessLaws
--- how many characters a text has
+-- how many characters a text has, and the place behind it
 pub mod StartLaws
+pub mod PlaceLaws
 -- states from which no match comes, and what a run knows of those that are noted
 pub mod Hopes
 pub mod Kept

@@ -13,31 +13,31 @@ use Rattle.lalrpop_lexer.specs.Internal.Starts.{is_start}
 abbrev started : ℕ → ℕ
 started b = if is_start b then 1 else 0
 
-follows : (x : ℕ) → started (128 + x % 64) ≡ 0
+pub follows : (x : ℕ) → started (128 + x % 64) ≡ 0
 follows x = grind (arith, nat_tests)
 
-begins : (b : ℕ) → 192 ≤ b → started b ≡ 1
+pub begins : (b : ℕ) → 192 ≤ b → started b ≡ 1
 begins b h = grind (arith, nat_tests)
 
-begins_low : (b : ℕ) → b < 128 → started b ≡ 1
+pub begins_low : (b : ℕ) → b < 128 → started b ≡ 1
 begins_low b h = grind (arith, nat_tests)
 
 first : (b : ℕ) (bs : List ℕ) → count_by is_start (b ∷ bs) ≡ started b + count_by is_start bs
 first b bs = sum_by-cons started b bs
 
-encode_one : (c : ℕ) → c < 128 → encode c ≡ c ∷ []
+pub encode_one : (c : ℕ) → c < 128 → encode c ≡ c ∷ []
 unfolding encode
 encode_one c l = rw (lt-ltb c 128 l) refl
 
-encode_two : (c : ℕ) → 128 ≤ c → c < 2048 → encode c ≡ (192 + c / 64) ∷ (128 + c % 64) ∷ []
+pub encode_two : (c : ℕ) → 128 ≤ c → c < 2048 → encode c ≡ (192 + c / 64) ∷ (128 + c % 64) ∷ []
 unfolding encode
 encode_two c l h = rw (le-ltb c 128 l, lt-ltb c 2048 h) refl
 
-encode_three : (c : ℕ) → 2048 ≤ c → c < 65536 → encode c ≡ (224 + c / 4096) ∷ (128 + c / 64 % 64) ∷ (128 + c % 64) ∷ []
+pub encode_three : (c : ℕ) → 2048 ≤ c → c < 65536 → encode c ≡ (224 + c / 4096) ∷ (128 + c / 64 % 64) ∷ (128 + c % 64) ∷ []
 unfolding encode
 encode_three c l h = rw (le-ltb c 128 (omega arith), le-ltb c 2048 l, lt-ltb c 65536 h) refl
 
-encode_four : (c : ℕ) → 65536 ≤ c → encode c ≡ (240 + c / 262144) ∷ (128 + c / 4096 % 64) ∷ (128 + c / 64 % 64) ∷ (128 + c % 64) ∷ []
+pub encode_four : (c : ℕ) → 65536 ≤ c → encode c ≡ (240 + c / 262144) ∷ (128 + c / 4096 % 64) ∷ (128 + c / 64 % 64) ∷ (128 + c % 64) ∷ []
 unfolding encode
 encode_four c l = rw (le-ltb c 128 (omega arith), le-ltb c 2048 (omega arith), le-ltb c 65536 l) refl
 

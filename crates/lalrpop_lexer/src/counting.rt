@@ -6,9 +6,9 @@ ghost use Rattle.lalrpop_lexer.specs.Internal.Starts.{is_start};
 
 use lalrpop_nfa::Steps;
 
-// Whether a character begins with the byte.
+/// Whether a character begins with the byte.
 #[inline(always)]
-fn is_start(byte: u8) -> bool
+pub(crate) fn is_start(byte: u8) -> bool
     ensures { result ≡ is_start byte }
 {
     !(128..=191).contains(&byte)

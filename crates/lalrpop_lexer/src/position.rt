@@ -1,11 +1,12 @@
 //! Places in a text, as line and column.
 
-ghost use Rattle.std.specs.Prelude.{◌≡◌, ℕ, ◌≤◌, ◌<◌, ◌↔◌, true, length, slice_index, IfSome, IsSome};
-ghost use Rattle.std.specs.Str.{IsCharBoundary};
-ghost use Rattle.lalrpop_lexer.specs.Position.{position_of};
+ghost use Rattle.std.specs.Prelude.{◌≡◌, ℕ, ◌≤◌, ◌<◌, ◌↔◌, ◌+◌, ◌^◌, ◌⊎◌, true, length, slice_index, IfSome, IfNone, IsSome};
+ghost use Rattle.std.specs.Str.{IsCharBoundary, chars};
+ghost use Rattle.lalrpop_lexer.specs.Position.{moved, place_after, place_behind, position_of};
 ghost use Rattle.lalrpop_lexer.specs.Internal.ByteRuns.{IsInLine};
-ghost use Rattle.lalrpop_lexer.specs.Internal.Places.{next_place};
+ghost use Rattle.lalrpop_lexer.specs.Internal.Places.{next_place, place_after_byte};
 
+use crate::counting::is_start;
 use crate::runs::{LANES, line_run};
 use std::marker::Model;
 
@@ -46,6 +47,60 @@ impl Position {
         }
     }
 
+    /// The place that lies at `next` in a text, if the text begins at this place. `None` if its numbers are too large.
+    ///
+    /// ```
+    /// let block = Position { line: 7, column: 3 };
+    /// let place = block.then(Position { line: 1, column: 5 }); // line 7, column 7
+    /// ```
+    pub fn then(self, next: Position) -> Option<Position>
+        ensures place { IfSome result (λ p. p ≡ moved self next) }
+        ensures none { IfNone result
+            ((2 ^ 64 ≤ self.line + next.line) ⊎ (2 ^ 64 ≤ self.column + next.column)) }
+    {
+        if next.line == 1 {
+            let column = self.column.checked_add(next.column.saturating_sub(1))?;
+            return Some(Position {
+                line: self.line,
+                column,
+            });
+        }
+        let line = self.line.checked_add(next.line.saturating_sub(1))?;
+        Some(Position {
+            line,
+            column: next.column,
+        })
+    }
+
+    /// The place behind the text, if the text begins at this place. `None` if its numbers are too large.
+    pub fn after(self, text: &str) -> Option<Position>
+        ensures place { IfSome result (λ p. p ≡ place_after self text.now) }
+        ensures none { IfNone result ((2 ^ 64 ≤ self.line + length text.now + 1)
+            ⊎ (2 ^ 64 ≤ self.column + length text.now + 1)) }
+    {
+        self.then(place_behind(text))
+    }
+
+    // The place after one more byte: one with which no character begins changes nothing.
+    #[inline(always)]
+    fn next_byte(self, byte: u8) -> Position
+        requires line { self.line < usize.MAX }
+        requires column { self.column < usize.MAX }
+        ensures next { result ≡ place_after_byte self byte }
+    {
+        if byte == b'\n' {
+            Position {
+                line: self.line + 1,
+                column: 1,
+            }
+        } else {
+            Position {
+                line: self.line,
+                column: self.column + is_start(byte) as usize,
+            }
+        }
+    }
+
     // The place after this character.
     fn next(self, c: char) -> Position
         requires line { self.line < usize.MAX }
@@ -64,6 +119,20 @@ impl Position {
             }
         }
     }
+}
+
+// The place behind a text.
+#[tactic(auto, using(std::proofs::lemmas::List::Sums::fold_more))]
+fn place_behind(text: &str) -> Position
+    ensures place { result ≡ place_behind (chars text.now) }
+    ensures line { result.line ≤ length text.now + 1 }
+    ensures column { result.column ≤ length text.now + 1 }
+{
+    let mut place = Position { line: 1, column: 1 };
+    for byte in text.as_bytes() {
+        place = place.next_byte(*byte);
+    }
+    place
 }
 
 // The place of an offset, found character by character from the place of an earlier one.

@@ -1,7 +1,7 @@
 -- Cases of specs/Position.antt.
-use Rattle.std.proofs.Common.{◌≡◌, ◌≢◌, ℕ, ◌∷◌, codes, refl, ap, arith}
+use Rattle.std.proofs.Common.{◌≡◌, ◌≢◌, ℕ, ◌∷◌, inl, inr, codes, refl, ap, arith}
 use Rattle.std.specs.Str.{chars}
-use Rattle.lalrpop_lexer.specs.Position.{position_of}
+use Rattle.lalrpop_lexer.specs.Position.{IsBefore, moved, place_after, position_of}
 use Rattle.lalrpop_lexer.specs.declared.position.Position.{Position}
 
 abbrev place : ℕ → ℕ → Position
@@ -36,3 +36,21 @@ the_end = refl
 a_line_feed_counted_before_it : position_of (codes "ab\ncd") 2 ≢ place 2 1
 unfolding chars
 a_line_feed_counted_before_it e = let n : 1 ≡ 2 = ap (λ (p : Position). p.line) e in omega (arith, n)
+
+-- what begins in the middle of a line ends in that line or in a later one
+in_the_same_line : moved (place 7 3) (place 1 5) ≡ place 7 7
+in_the_same_line = refl
+
+in_a_later_line : moved (place 7 3) (place 3 5) ≡ place 9 5
+in_a_later_line = refl
+
+behind_a_text : place_after (place 7 3) (codes "ab\ncd") ≡ place 8 3
+unfolding chars
+behind_a_text = refl
+
+an_earlier_line_comes_first : IsBefore (place 1 9) (place 2 1)
+an_earlier_line_comes_first = inl (omega arith)
+
+then_an_earlier_column : ¬ IsBefore (place 2 2) (place 2 1)
+then_an_earlier_column (inl l) = absurd (omega (arith, l))
+then_an_earlier_column (inr c) = absurd (omega (arith, c.1))
