@@ -151,7 +151,7 @@ got_front [] ls k at = absurd (none-some k at)
 got_front (l ∷ ks) ls k at = at
 
 -- what lies in front of a place, and behind it
-around : (front ks behind : List Kept) (n : ℕ) → front ++ (ks ++ behind) ≡ (front ++ take n ks) ++ (drop n ks ++ behind)
+pub around : (front ks behind : List Kept) (n : ℕ) → front ++ (ks ++ behind) ≡ (front ++ take n ks) ++ (drop n ks ++ behind)
 around front ks behind n =
     ap (λ (ls : List Kept). front ++ (ls ++ behind)) (sym (take-append-drop n ks))
     ∙ ap (λ (ls : List Kept). front ++ ls) (append_assoc (take n ks) (drop n ks) behind)

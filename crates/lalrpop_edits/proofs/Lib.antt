@@ -24,6 +24,8 @@ pub mod Starting
 pub mod FirstMeeting
 pub mod Relexing
 pub mod LeastChanges
+-- lines and columns
+pub mod LineLaws
 -- what an edit costs
 pub mod Distinct
 pub mod NoteCounts

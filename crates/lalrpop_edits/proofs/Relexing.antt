@@ -14,6 +14,7 @@ use Rattle.lalrpop_edits.specs.declared.change.Change.{Change}
 use Rattle.lalrpop_edits.specs.Internal.Cutting.{moved_place}
 use Rattle.lalrpop_edits.specs.Internal.Blocks.{AreBlocks, pieces_in, sizes, after_pieces, AreMarked, pieces_at, IsSpot}
 use Rattle.lalrpop_edits.specs.Internal.Meeting.{AreOld}
+use Rattle.lalrpop_edits.specs.Internal.BlockPlaces.{AreSameAround}
 use Rattle.lalrpop_edits.specs.Internal.Changing.{IsOld, IsKeptChange}
 use Rattle.lalrpop_edits.proofs.KeptLaws.{kept_join, kept_split, kept_boundary, kept_count}
 use Rattle.lalrpop_edits.proofs.Alike.{alike_less}
@@ -95,7 +96,7 @@ module _ (r : ModeRules) (bs : List Block) (text : List ℕ) (from to size : ℕ
 
 -- ---- the blocks that are put together
 
-regroup : (front ks cut ls behind : List Kept) → front ++ ((ks ++ (cut ++ ls)) ++ behind) ≡ (front ++ ks) ++ (cut ++ (ls ++ behind))
+pub regroup : (front ks cut ls behind : List Kept) → front ++ ((ks ++ (cut ++ ls)) ++ behind) ≡ (front ++ ks) ++ (cut ++ (ls ++ behind))
 regroup front ks cut ls behind = simp append_assoc
 
 pieces_to : (bs : List Block) (n : ℕ) → pieces_in (take (suc n) bs) ≡ pieces_in (take n bs) ++ pieces_at bs n
@@ -184,13 +185,29 @@ module _ (r : ModeRules) (bs : List Block) (text : List ℕ) (from to size : ℕ
       kept_join r text 0 start (take c (pieces_in bs)) (sizes (take c (pieces_in bs))) (after_pieces r (take c (pieces_in bs)) start) cut at s
       (front_stays r bs text from to size before t old c within) are
 
+  -- the texts are the same in front of what was cut, and behind it
+  pub same_around : to ≤ sizes (take d (pieces_in bs)) → moved_place from to size (sizes (take d (pieces_in bs))) ≡ at
+      → AreSameAround before text (sizes (take c (pieces_in bs))) (sizes (take d (pieces_in bs))) (sizes (take c (pieces_in bs) ++ cut))
+  same_around replaced moved =
+      let ends : at ≡ sizes (take c (pieces_in bs) ++ cut) = omega (arith, (kept_sizes r text 0 start (take c (pieces_in bs) ++ cut) at s front_cut).0) in
+      record {
+        front =
+            alike_less (sizes (take c (pieces_in bs))) from before text (omega (arith, within_size from 0 (take c (pieces_in bs)) (omega arith) within))
+            (edited_alike before text from to size old.edited);
+        behind = edited_rest before text from to size (sizes (take d (pieces_in bs))) old.edited replaced ∙ ap (λ (n : ℕ). drop n text) (moved ∙ ends);
+      }
+
+  pub all_kept : (u : Stack) → KeptUpTo r text at s (drop d (pieces_in bs)) (length text) u
+      → KeptUpTo r text 0 start (take c (pieces_in bs) ++ (cut ++ drop d (pieces_in bs))) (length text) u
+  all_kept u behind =
+      subst (λ (ks : List Kept). KeptUpTo r text 0 start ks (length text) u) (append_assoc (take c (pieces_in bs)) cut (drop d (pieces_in bs)))
+      (kept_join r text 0 start (take c (pieces_in bs) ++ cut) at s (drop d (pieces_in bs)) (length text) u front_cut behind)
+
   -- there are as many bytes as the text has
   pub all_sizes : (u : Stack) → KeptUpTo r text at s (drop d (pieces_in bs)) (length text) u
       → sizes (take c (pieces_in bs) ++ (cut ++ drop d (pieces_in bs))) ≡ length text
   all_sizes u behind =
-      let e = kept_sizes r text 0 start ((take c (pieces_in bs) ++ cut) ++ drop d (pieces_in bs)) (length text) u
-      (kept_join r text 0 start (take c (pieces_in bs) ++ cut) at s (drop d (pieces_in bs)) (length text) u front_cut behind) in
-      omega (arith, e.0, ap sizes (append_assoc (take c (pieces_in bs)) cut (drop d (pieces_in bs))))
+      omega (arith, (kept_sizes r text 0 start (take c (pieces_in bs) ++ (cut ++ drop d (pieces_in bs))) (length text) u (all_kept u behind)).0)
 
   -- and the stack there is the one that the old pieces leave
   pub stacks_meet : (v : Stack) → v ≡ after_pieces r (take d (pieces_in bs)) start → v ≡ s
@@ -202,8 +219,7 @@ module _ (r : ModeRules) (bs : List Block) (text : List ℕ) (from to size : ℕ
     pub new_blocks : (u : Stack) → AreMarked r start new → KeptUpTo r text at s (drop d (pieces_in bs)) (length text) u → AreBlocks r text 0 start new (length text) u
     new_blocks u marked behind =
         marked_blocks r text 0 start new (length text) u marked
-        (subst (λ (ks : List Kept). KeptUpTo r text 0 start ks (length text) u) (append_assoc (take c (pieces_in bs)) cut (drop d (pieces_in bs)) ∙ sym is)
-        (kept_join r text 0 start (take c (pieces_in bs) ++ cut) at s (drop d (pieces_in bs)) (length text) u front_cut behind))
+        (subst (λ (ks : List Kept). KeptUpTo r text 0 start ks (length text) u) (sym is) (all_kept u behind))
 
     apart : pieces_in new ≡ (take c (pieces_in bs) ++ cut) ++ drop d (pieces_in bs)
     apart = is ∙ sym (append_assoc (take c (pieces_in bs)) cut (drop d (pieces_in bs)))
@@ -241,11 +257,7 @@ module _ (r : ModeRules) (bs : List Block) (text : List ℕ) (from to size : ℕ
                 (subst (λ (ks : List Kept). KeptUpTo r text 0 start ks at s)
                 (sym (ap (take (change.first + change.inserted)) apart ∙ take_at (take c (pieces_in bs) ++ cut) (drop d (pieces_in bs)) (change.first + change.inserted) size_cut)) front_cut),
           );
-          same_front =
-              ap (λ (n : ℕ). take n before) starts
-              ∙ alike_less (sizes (take c (pieces_in bs))) from before text (omega (arith, within_size from 0 (take c (pieces_in bs)) (omega arith) within))
-              (edited_alike before text from to size old.edited)
-              ∙ ap (λ (n : ℕ). take n text) (sym starts);
+          same_front = ap (λ (n : ℕ). take n before) starts ∙ (same_around replaced moved).front ∙ ap (λ (n : ℕ). take n text) (sym starts);
           same_behind =
               ap (λ (n : ℕ). drop n before) old_ends ∙ edited_rest before text from to size (sizes (take d (pieces_in bs))) old.edited replaced
               ∙ ap (λ (n : ℕ). drop n text) (moved ∙ sym new_ends);

@@ -2,6 +2,7 @@ pub mod Reach
 pub mod Kept
 pub mod Cutting
 pub mod Blocks
+pub mod BlockPlaces
 pub mod Meeting
 pub mod Starting
 pub mod Changing

@@ -1,11 +1,15 @@
 //! The pieces of a text in blocks, so that an edit touches few of them.
 
-ghost use Rattle.std.specs.Prelude.{◌≡◌, ℕ, ◌+◌, ◌^◌, ◌<◌, ◌≤◌, [], List, length, take, IfOk, OnOk};
+ghost use Rattle.std.specs.Prelude.{◌≡◌, ℕ, ◌+◌, ◌^◌, ◌<◌, ◌≤◌, [], List, length, take, drop, IfOk, OnOk};
+ghost use Rattle.std.specs.Str.{IsCharBoundary};
+ghost use Rattle.lalrpop_lexer.specs.Position.{position_of};
 ghost use Rattle.lalrpop_edits.specs.Internal.Kept.{AreWithin};
 ghost use Rattle.lalrpop_edits.specs.Internal.Blocks.{pieces_in, sizes, after_pieces, IsMarked, AreMarked};
+ghost use Rattle.lalrpop_edits.specs.Internal.BlockPlaces.{IsCounted, AreCounted};
 
 use crate::kept::Kept;
 use crate::place::{Place, pass};
+use lalrpop_lexer::Position;
 use lalrpop_modes::{ModeLexer, ModeStack};
 use std::alloc::{AllocError, Global};
 
@@ -23,6 +27,8 @@ pub(crate) struct Block {
     pub(crate) size: usize,
     // How many bytes from its beginning on its pieces depend on at most.
     pub(crate) reach: usize,
+    // Where it ends, if its first character is at line 1 and column 1.
+    pub(crate) end: Position,
 }
 
 // Passes the pieces, which begin at the place. Returns how many bytes from there on they depend on at most.
@@ -43,19 +49,34 @@ fn pass_all(lexer: &ModeLexer, pieces: &[Kept], place: &mut Place) -> Result<usi
     Ok(reach)
 }
 
-// The block of these pieces, which begin at the place: from then on that is behind them.
+// Where a text ends.
+fn end_of(text: &str) -> Position
+    ensures end { result ≡ position_of text.now (length text.now) }
+{
+    match (Position { line: 1, column: 1 }).after(text) {
+        Some(end) => end,
+        // No text has 2^63 bytes.
+        None => unreachable!(),
+    }
+}
+
+// The block of these pieces of the text, which begin at the place: from then on that is behind them.
 fn block_of(
     alloc: Global,
     lexer: &ModeLexer,
+    text: &str,
     pieces: &[Kept],
     place: &mut Place,
 ) -> Result<Block, AllocError>
     requires fits { place.old.at + sizes pieces.now < 2 ^ 63 }
+    requires begins { IsCharBoundary text.now place.old.at }
+    requires ends { IsCharBoundary text.now (place.old.at + sizes pieces.now) }
     ensures at { OnOk result (place.new.at ≡ place.old.at + sizes pieces.now) }
     ensures stack { OnOk result
         (place.new.stack ≡ after_pieces lexer.now pieces.now place.old.stack) }
     ensures marked { IfOk result (λ b. IsMarked place.old.stack b) }
     ensures pieces { IfOk result (λ b. b.pieces.items ≡ pieces.now) }
+    ensures counted { IfOk result (λ b. IsCounted (drop place.old.at text.now) b) }
 {
     let start = place.at;
     let stack = place.stack.clone()?;
@@ -66,6 +87,7 @@ fn block_of(
         pieces: kept,
         size: place.at - start,
         reach,
+        end: end_of(&text[start..place.at]),
     })
 }
 
@@ -86,23 +108,26 @@ fn share(left: usize, most: usize) -> usize
     }
 }
 
-// The blocks of these pieces, which begin at the place: from then on that is behind them.
+// The blocks of these pieces of the text, which begin at the place: from then on that is behind them.
 pub(crate) fn blocks_of(
     alloc: Global,
     lexer: &ModeLexer,
+    text: &str,
     pieces: &[Kept],
     place: &mut Place,
 ) -> Result<Vec<Block>, AllocError>
     requires fits { place.old.at + sizes pieces.now < 2 ^ 63 }
+    requires boundaries { (n : ℕ) → IsCharBoundary text.now (place.old.at + sizes (take n pieces.now)) }
     ensures marked { IfOk result (λ bs. AreMarked lexer.now place.old.stack bs.items) }
     ensures pieces { IfOk result (λ bs. pieces_in bs.items ≡ pieces.now) }
+    ensures counted { IfOk result (λ bs. AreCounted (drop place.old.at text.now) bs.items) }
 {
     let mut blocks = Vec::new(alloc);
     let mut from = 0;
     while from < pieces.len() {
         let most = place.stack.depth().max(MOST);
         let to = from + share(pieces.len() - from, most);
-        let block = block_of(alloc, lexer, &pieces[from..to], place)?;
+        let block = block_of(alloc, lexer, text, &pieces[from..to], place)?;
         blocks.push(block)?;
         from = to;
     }

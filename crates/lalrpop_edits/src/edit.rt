@@ -1,6 +1,7 @@
 //! The pieces of a text of which a stretch was replaced.
 
 ghost use Rattle.std.specs.Prelude.{◌≡◌, ℕ, ◌+◌, ◌^◌, ◌<◌, ◌≤◌, ◌⊎◌, [], List, ◌++◌, length, take, drop, slice_get, Some, IfOk, OnOk, OnErr, IfErr};
+ghost use Rattle.std.specs.Str.{IsCharBoundary};
 ghost use Rattle.lalrpop_modes.specs.Stack.{Stack, start};
 ghost use Rattle.lalrpop_modes.specs.Modes.{ModeRules};
 ghost use Rattle.lalrpop_edits.specs.Internal.Kept.{AreWithin, reach_of};
@@ -8,6 +9,7 @@ ghost use Rattle.lalrpop_edits.specs.declared.block.Block.{Block as BlockValue};
 ghost use Rattle.lalrpop_edits.specs.declared.kept.Kept.{Kept as KeptValue};
 ghost use Rattle.lalrpop_edits.specs.Internal.Cutting.{IsCutError};
 ghost use Rattle.lalrpop_edits.specs.Internal.Blocks.{pieces_in, pieces_at, sizes, after_pieces, AreBlocks, AreMarked, IsSpot};
+ghost use Rattle.lalrpop_edits.specs.Internal.BlockPlaces.{AreCounted, AreSameAround};
 ghost use Rattle.lalrpop_edits.specs.Internal.Starting.{IsFirst, IsStart};
 ghost use Rattle.lalrpop_edits.specs.Internal.Changing.{IsOld, IsKeptChange};
 ghost use Rattle.lalrpop_edits.specs.Internal.Least.{IsLeastChange};
@@ -176,11 +178,12 @@ fn put_blocks(
     Ok(())
 }
 
-// Puts the pieces that were cut in the place of those from the one spot to the other. The block of the first spot begins at `begin`.
-// On an error nothing has changed.
+// Puts the pieces of the text that were cut in the place of those from the one spot to the other. The block of the first spot begins
+// at `begin`. On an error nothing has changed.
 fn put_pieces(
     alloc: Global,
     lexer: &ModeLexer,
+    text: &str,
     blocks: &mut Vec<Block>,
     first: &Spot,
     begin: &mut Place,
@@ -196,6 +199,9 @@ fn put_pieces(
         ≡ after_pieces lexer.now (pieces_in (take first.now.block blocks.old.items)) start }
     requires fits { sizes (take first.now.count (pieces_in blocks.old.items)
         ++ (cut.now ++ drop last.now.count (pieces_in blocks.old.items))) < 2 ^ 63 }
+    requires boundaries { (n : ℕ) → IsCharBoundary text.now
+        (sizes (take n (take first.now.count (pieces_in blocks.old.items)
+        ++ (cut.now ++ drop last.now.count (pieces_in blocks.old.items))))) }
     requires met { (last.now.block ≡ length blocks.old.items)
         ⊎ (after_pieces lexer.now (take first.now.count (pieces_in blocks.old.items) ++ cut.now) start
         ≡ after_pieces lexer.now (take last.now.count (pieces_in blocks.old.items)) start) }
@@ -203,10 +209,15 @@ fn put_pieces(
     ensures pieces { OnOk result (pieces_in blocks.new.items
         ≡ take first.now.count (pieces_in blocks.old.items)
         ++ (cut.now ++ drop last.now.count (pieces_in blocks.old.items))) }
+    ensures counted { OnOk result ((before : List ℕ) → AreCounted before blocks.old.items
+        → AreSameAround before text.now (sizes (take first.now.count (pieces_in blocks.old.items)))
+        (sizes (take last.now.count (pieces_in blocks.old.items)))
+        (sizes (take first.now.count (pieces_in blocks.old.items) ++ cut.now))
+        → AreCounted text.now blocks.new.items) }
     ensures refused { OnErr result (blocks.new.items ≡ blocks.old.items) }
 {
     let pieces = joined_pieces(alloc, blocks, first, cut, last)?;
-    let made = blocks_of(alloc, lexer, &pieces, begin)?;
+    let made = blocks_of(alloc, lexer, text, &pieces, begin)?;
     let to = if last.block < blocks.len() {
         last.block + 1
     } else {
@@ -236,6 +247,7 @@ pub(crate) fn cut_anew(
         × IsOld lexer.now blocks.old.items text.now from to size before t) }
     ensures blocks { OnOk result ((u : Stack)
         × AreBlocks lexer.now text.now 0 start blocks.new.items (length text.now) u) }
+    ensures counted { OnOk result (AreCounted text.now blocks.new.items) }
     ensures change { IfOk result (λ c. (before : List ℕ) (t : Stack)
         → IsOld lexer.now blocks.old.items text.now from to size before t
         → IsKeptChange lexer.now before text.now
@@ -280,6 +292,7 @@ pub(crate) fn cut_anew(
     put_pieces(
         alloc,
         lexer,
+        text,
         blocks,
         &spot,
         &mut first.begin,

@@ -1,12 +1,14 @@
 //! A text with its pieces, which is edited.
 
-ghost use Rattle.std.specs.Prelude.{◌≡◌, ◌<◌, ◌≤◌, ◌+◌, ◌↔◌, ℕ, List, [], length, string_bytes, string_len, string_capacity, IfOk, OnOk, IfErr, OnErr, IfSome, IfNone, IsTrue};
+ghost use Rattle.std.specs.Prelude.{◌≡◌, ◌≢◌, ◌<◌, ◌≤◌, ◌+◌, ◌↔◌, ℕ, List, [], length, string_bytes, string_len, string_capacity, IfOk, OnOk, IfErr, OnErr, IfSome, IfNone, IsSome, IsTrue};
 ghost use Rattle.std.specs.List.{replace_range};
 ghost use Rattle.std.specs.Str.{IsCharBoundary};
+ghost use Rattle.lalrpop_lexer.specs.Position.{position_of};
 ghost use Rattle.lalrpop_rules.specs.Pieces.{slice_of, start_of};
 ghost use Rattle.lalrpop_rules.specs.declared.item.Item.{Item as ItemValue};
 ghost use Rattle.lalrpop_edits.specs.Lexed.{ArePiecesOf, FirstReaches, IsRange, IsChange, IsEarliest, IsEditError, IsPieceNumber, replaced};
 ghost use Rattle.lalrpop_edits.specs.Costs.{IsPaidFor};
+ghost use Rattle.lalrpop_edits.specs.Internal.BlockPlaces.{AreCounted};
 ghost use Rattle.lalrpop_edits.specs.Internal.Blocks.{sizes};
 ghost use Rattle.lalrpop_edits.specs.Internal.Cutting.{IsCutError};
 ghost use Rattle.lalrpop_edits.specs.Internal.Handing.{AreBlocksOf, IsBlockAt, IsPieceAt, size_in};
@@ -16,7 +18,9 @@ use crate::change::Change;
 use crate::edit::cut_anew;
 use crate::error::EditError;
 use crate::kept::Kept;
+use crate::lines::{offset_in, position_in};
 use crate::pieces::{Pieces, item_of};
+use lalrpop_lexer::Position;
 use lalrpop_modes::ModeLexer;
 use lalrpop_nfa::Steps;
 use lalrpop_rules::Item;
@@ -60,9 +64,11 @@ fn edit_parts(
 ) -> Result<Change, EditError>
     requires range { IsRange (string_bytes text.old) range.now.start range.now.end }
     requires blocks { AreBlocksOf lexer.now (string_bytes text.old) blocks.old.items }
+    requires counted { AreCounted (string_bytes text.old) blocks.old.items }
     ensures text { OnOk result (string_bytes text.new
         ≡ replaced (string_bytes text.old) range.now.start range.now.end new.now) }
     ensures blocks { OnOk result (AreBlocksOf lexer.now (string_bytes text.new) blocks.new.items) }
+    ensures counted { OnOk result (AreCounted (string_bytes text.new) blocks.new.items) }
     ensures change { IfOk result (IsChange
         (record { rules = lexer.now; text = string_bytes text.old })
         (record { rules = lexer.now; text = string_bytes text.new })) }
@@ -160,6 +166,7 @@ impl<'rules> Model for LexedText<'rules> {
     ghost use Rattle.std.specs.Prelude.{string_bytes};
     ghost use Rattle.lalrpop_edits.specs.Lexed.{Lexed};
     ghost use Rattle.lalrpop_edits.specs.Internal.Code.{lexed_code};
+    ghost use Rattle.lalrpop_edits.specs.Internal.BlockPlaces.{AreCounted};
     ghost use Rattle.lalrpop_edits.specs.Internal.Handing.{AreBlocksOf};
 
     ghost Value = { Lexed };
@@ -168,7 +175,8 @@ impl<'rules> Model for LexedText<'rules> {
 
     ghost view = { λ t. record { rules = t.lexer.now; text = string_bytes t.text } };
 
-    ghost invariant = { λ t. AreBlocksOf t.lexer.now (string_bytes t.text) t.blocks.items };
+    ghost invariant = { λ t. AreBlocksOf t.lexer.now (string_bytes t.text) t.blocks.items
+        × AreCounted (string_bytes t.text) t.blocks.items };
 }
 
 impl<'rules> LexedText<'rules> {
@@ -281,6 +289,30 @@ impl<'rules> LexedText<'rules> {
         ensures exist { (xs : List ItemValue) × ArePiecesOf self.now xs }
     {
         Pieces::new(self.lexer, &self.text, &self.blocks)
+    }
+
+    /// The line and column of a byte offset. `None` if the offset is past the end or inside a character. What it takes is a sum over
+    /// the blocks of some hundred pieces that the text is kept in, and a walk along one of them.
+    ///
+    /// ```
+    /// let place = text.position(change.start); // line 1, column 4
+    /// ```
+    pub fn position(&self, at: usize) -> Option<Position>
+        ensures boundary { IsSome result ↔ IsCharBoundary self.now.text at }
+        ensures position { IfSome result (λ p. p ≡ position_of self.now.text at) }
+    {
+        position_in(&self.text, &self.blocks, at)
+    }
+
+    /// The byte offset of a line and column, both from 1; the column may be the one behind the last character of its line. `None`
+    /// if the text has no such place. It takes as long as `position`.
+    pub fn offset(&self, place: Position) -> Option<usize>
+        ensures some { IfSome result (λ at. IsCharBoundary self.now.text at
+            × (position_of self.now.text at ≡ place)) }
+        ensures none { IfNone result ((at : ℕ) → IsCharBoundary self.now.text at
+            → position_of self.now.text at ≢ place) }
+    {
+        offset_in(&self.text, &self.blocks, place)
     }
 
     /// The piece that holds the byte at the place, or `None` at the end of the text and past it.

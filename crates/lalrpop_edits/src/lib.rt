@@ -15,6 +15,7 @@ mod front;
 mod given_piece;
 mod kept;
 mod lexed_text;
+mod lines;
 mod meet;
 mod memo;
 mod pieces;

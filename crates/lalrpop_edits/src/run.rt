@@ -1,6 +1,6 @@
 //! The longest match at the front of a text, and what settles it.
 
-ghost use Rattle.std.specs.Prelude.{◌≡◌, ◌≢◌, ℕ, ◌≤◌, ◌<◌, ◌+◌, ◌*◌, ◌^◌, ◌++◌, [], List, length, take, drop, true, IfSome, IsTrue};
+ghost use Rattle.std.specs.Prelude.{◌≡◌, ◌≢◌, ℕ, ◌≤◌, ◌<◌, ◌+◌, ◌*◌, ◌^◌, ◌++◌, [], List, length, take, drop, ◌↔◌, true, IfSome, IsTrue};
 ghost use Rattle.std.specs.Option.{option_map};
 ghost use Rattle.std.specs.List.{All};
 ghost use Rattle.std.specs.Str.{chars, encode_utf8_all, IsUtf8};
@@ -45,8 +45,7 @@ struct Run<'text> {
 fn is_open(walker: &Walker<'_>, place: usize) -> bool
     requires right { IsRight walker.now }
     requires met { IsMet walker.now place }
-    ensures is_so { IsTrue result → says walker.now place ≡ Neither }
-    ensures so_is { says walker.now place ≡ Neither → IsTrue result }
+    ensures neither { IsTrue result ↔ says walker.now place ≡ Neither }
 {
     matches!(walker.kind(place), Kind::Neither)
 }

@@ -56,7 +56,7 @@ pieces_at [] n = []
 pieces_at (b ∷ bs) zero = b.pieces.items
 pieces_at (b ∷ bs) (suc n) = pieces_at bs n
 
--- so many blocks, so many pieces of the next one, and so many pieces in all lie in front
+-- in front lie `block` blocks, `piece` pieces of the next one, and `count` pieces in all
 pub record IsSpot (bs : List Block) (block piece count : ℕ) : Type 0 where
   pub block_in : block ≤ length bs
   pub piece_in : piece ≤ length (pieces_at bs block)

@@ -8,14 +8,16 @@ use Rattle.lalrpop_edits.specs.declared.block.Block.{Block}
 use Rattle.lalrpop_edits.specs.declared.change.Change.{Change}
 use Rattle.lalrpop_edits.specs.Internal.Cutting.{IsEdited}
 use Rattle.lalrpop_edits.specs.Internal.Blocks.{AreBlocks}
+use Rattle.lalrpop_edits.specs.Internal.BlockPlaces.{AreCounted}
 
--- the blocks are those of the text before, of which the bytes from `from` to `to` gave way to `size` others, and it is this text now; no text takes
--- 2^63 bytes
+-- the blocks are those of the text before, of which the bytes from `from` to `to` gave way to `size` others, and it is this text now; and say where they
+-- end. No text takes 2^63 bytes
 pub record IsOld (r : ModeRules) (bs : List Block) (text : List ℕ) (from to size : ℕ) (before : List ℕ) (t : Stack) : Type 0 where
   pub edited : IsEdited before text from to size
   pub fits : length before < 2 ^ 63
   pub fits_now : length text < 2 ^ 63
   pub blocks : AreBlocks r before 0 start bs (length before) t
+  pub counted : AreCounted before bs
 
 -- the pieces ks of the text before became the pieces ls of the text: the first ones stay, then some went and others came in their place, and
 -- the rest stay; each place of the change is where the pieces in front of it end; and up to the first place, and behind the others, the texts have the same bytes

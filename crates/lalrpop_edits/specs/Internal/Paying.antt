@@ -78,6 +78,7 @@ abbrev pub IsOwedBehind : List Tree → List ℕ → List ℕ → Front → ℕ 
 IsOwedBehind ts ps text f far n =
     (n ≡ 0) ⊎ ((f.rule ≡ None) × (f.size + n ≤ far) × ((i : ℕ) × ((slice : List ℕ) × ((length slice ≡ n) × IsLongest ts ps (drop f.size text) (Some (i, slice))))))
 
+-- the piece was found by reading to the place `far`; its size, the notes that were made and what is owed pay for that
 pub record IsFrontPaid (w : Walker) (ts : List Tree) (ps : List ℕ) (old new : Memo) (mode begin : ℕ) (text : List ℕ) (f : Front) (before after : ℕ)
     (news : List (ℕ × (ℕ × ℕ))) (far : ℕ) : Type 0 where
   pub boundary : IsCharBoundary text far

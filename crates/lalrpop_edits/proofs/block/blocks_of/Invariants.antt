@@ -1,5 +1,6 @@
-use Rattle.std.proofs.Common.{◌≡◌, ◌+◌, ◌-◌, ◌≤◌, take, length}
+use Rattle.std.proofs.Common.{◌≡◌, ◌+◌, ◌-◌, ◌≤◌, take, drop, length}
 use Rattle.lalrpop_edits.specs.Internal.Blocks.{pieces_in, sizes, after_pieces, AreMarked}
+use Rattle.lalrpop_edits.specs.Internal.BlockPlaces.{AreCounted}
 use Rattle.lalrpop_edits.proofs.block.blocks_of.Given as goal
 
 -- the blocks so far have the pieces so far
@@ -10,6 +11,7 @@ invariant-loop-from l = record {
   stack : l.place.stack ≡ after_pieces l.lexer (take l.from l.pieces) l.fn.place.stack;
   marked : AreMarked l.lexer l.fn.place.stack l.blocks.items;
   pieces : pieces_in l.blocks.items ≡ take l.from l.pieces;
+  counted : AreCounted (drop l.fn.place.at l.text) l.blocks.items;
 }
 
 abbrev pub decreases-loop-from : goal.decreases-loop-from

@@ -16,7 +16,9 @@ use Rattle.lalrpop_edits.specs.declared.change.Change.{Change}
 use Rattle.std.proofs.lemmas.List.{length-take-le}
 use Rattle.lalrpop_edits.proofs.LeastChanges.{least}
 use Rattle.lalrpop_edits.proofs.Paying.{all_paid}
-use Rattle.lalrpop_edits.proofs.Relexing.{each_there, old_marked, old_fits, old_count, old_pieces, start_boundary, all_sizes, stacks_meet, new_blocks, changed}
+use Rattle.lalrpop_edits.specs.Internal.BlockPlaces.{AreSameAround}
+use Rattle.lalrpop_edits.proofs.LineLaws.{kept_boundaries}
+use Rattle.lalrpop_edits.proofs.Relexing.{all_kept, same_around, each_there, old_marked, old_fits, old_count, old_pieces, start_boundary, all_sizes, stacks_meet, new_blocks, changed}
 use Rattle.lalrpop_edits.proofs.edit.cut_anew.Goals as goal
 
 pub start_of-requires-clause-marked : goal.start_of-requires-clause-marked
@@ -117,6 +119,31 @@ put_pieces-requires-clause-fits c =
     let all = all_sizes r bs text from c.args.to c.args.size o.0 o.1.0 o.1.1 n d cut there.at there.stack s.within are met.behind.0 behind in
     omega (arith, ap (λ (ls : List Kept). sizes (take n (pieces_in bs) ++ (ls ++ drop d (pieces_in bs)))) c.deref-3.ensures.value, all, o.1.1.fits_now)
 
+pub put_pieces-requires-clause-boundaries : goal.put_pieces-requires-clause-boundaries
+put_pieces-requires-clause-boundaries c =
+    let r = c.args.lexer.now in
+    let text = c.args.text.now in
+    let bs = c.args.blocks.now.items in
+    let from = c.args.from in
+    let o = c.requires.old in
+    let n = c.in_ok-first.first.spot.count in
+    let d = c.cut_to_meet.new.old.spot.count in
+    let cut = c.cut_to_meet.new.cut.pieces.items in
+    let there = c.cut_to_meet.new.cut.place in
+    let met = c.in_ok-cut_to_meet.ensures in
+    let s : IsStart r bs from c.in_ok-first.first =
+    subst (λ (xs : List Block). IsStart r xs from c.in_ok-first.first) c.deref.ensures.value c.in_ok-first.ensures.start in
+    let at : c.in_ok-clone-2.field-0.at ≡ sizes (take n (pieces_in bs)) = ap (λ (p : Place). p.at) c.in_ok-clone-2.ensures.cases ∙ s.place_at in
+    let stack : c.in_ok-clone-2.field-0.stack ≡ after_pieces r (take n (pieces_in bs)) start = ap (λ (p : Place). p.stack) c.in_ok-clone-2.ensures.cases ∙ s.place_stack in
+    let are : KeptUpTo r text (sizes (take n (pieces_in bs))) (after_pieces r (take n (pieces_in bs)) start) cut there.at there.stack =
+    subst (λ (a : ℕ). KeptUpTo r text a (after_pieces r (take n (pieces_in bs)) start) cut there.at there.stack) at
+    (subst (λ (v : Stack). KeptUpTo r text c.in_ok-clone-2.field-0.at v cut there.at there.stack) stack met.cut) in
+    let behind : KeptUpTo r text there.at there.stack (drop d (pieces_in bs)) (length text) met.behind.0 =
+    subst (λ (xs : List Block). KeptUpTo r text there.at there.stack (drop d (pieces_in xs)) (length text) met.behind.0) c.deref-2.ensures.value met.behind.1 in
+    subst (λ (ls : List Kept). (m : ℕ) → IsCharBoundary text (sizes (take m (take n (pieces_in bs) ++ (ls ++ drop d (pieces_in bs)))))) (sym c.deref-3.ensures.value)
+    (kept_boundaries r text (take n (pieces_in bs) ++ (cut ++ drop d (pieces_in bs))) (length text) met.behind.0 c.utf8.text
+    (all_kept r bs text from c.args.to c.args.size o.0 o.1.0 o.1.1 n d cut there.at there.stack s.within are met.behind.0 behind))
+
 pub put_pieces-requires-clause-met : goal.put_pieces-requires-clause-met
 put_pieces-requires-clause-met c =
     let r = c.args.lexer.now in
@@ -171,6 +198,32 @@ returns-clause-blocks c =
       new_blocks r bs text from c.args.to c.args.size o.0 o.1.0 o.1.1 n d cut there.at there.stack s.within are c.put_pieces.new.blocks.items is met.behind.0
           c.in_ok-put_pieces.ensures.marked behind,
     )
+
+pub returns-clause-counted : goal.returns-clause-counted
+returns-clause-counted c =
+    let r = c.args.lexer.now in
+    let text = c.args.text.now in
+    let bs = c.args.blocks.now.items in
+    let from = c.args.from in
+    let o = c.requires.old in
+    let n = c.in_ok-first.first.spot.count in
+    let d = c.cut_to_meet.new.old.spot.count in
+    let cut = c.cut_to_meet.new.cut.pieces.items in
+    let there = c.cut_to_meet.new.cut.place in
+    let met = c.in_ok-cut_to_meet.ensures in
+    let s : IsStart r bs from c.in_ok-first.first =
+    subst (λ (xs : List Block). IsStart r xs from c.in_ok-first.first) c.deref.ensures.value c.in_ok-first.ensures.start in
+    let at : c.in_ok-clone-2.field-0.at ≡ sizes (take n (pieces_in bs)) = ap (λ (p : Place). p.at) c.in_ok-clone-2.ensures.cases ∙ s.place_at in
+    let stack : c.in_ok-clone-2.field-0.stack ≡ after_pieces r (take n (pieces_in bs)) start = ap (λ (p : Place). p.stack) c.in_ok-clone-2.ensures.cases ∙ s.place_stack in
+    let are : KeptUpTo r text (sizes (take n (pieces_in bs))) (after_pieces r (take n (pieces_in bs)) start) cut there.at there.stack =
+    subst (λ (a : ℕ). KeptUpTo r text a (after_pieces r (take n (pieces_in bs)) start) cut there.at there.stack) at
+    (subst (λ (v : Stack). KeptUpTo r text c.in_ok-clone-2.field-0.at v cut there.at there.stack) stack met.cut) in
+    let old : IsOldPlace r bs c.cut_to_meet.new.old = subst (λ (xs : List Block). IsOldPlace r xs c.cut_to_meet.new.old) c.deref-2.ensures.value met.old in
+    let same : AreSameAround o.0 text (sizes (take n (pieces_in bs))) (sizes (take d (pieces_in bs))) (sizes (take n (pieces_in bs) ++ cut)) =
+    same_around r bs text from c.args.to c.args.size o.0 o.1.0 o.1.1 n d cut there.at there.stack s.within are (omega (arith, met.replaced, old.at))
+    (ap (moved_place from c.args.to c.args.size) (sym old.at) ∙ met.place) in
+    c.in_ok-put_pieces.ensures.counted o.0 o.1.1.counted
+    (subst (λ (ls : List Kept). AreSameAround o.0 text (sizes (take n (pieces_in bs))) (sizes (take d (pieces_in bs))) (sizes (take n (pieces_in bs) ++ ls))) (sym c.deref-3.ensures.value) same)
 
 pub returns-clause-change : goal.returns-clause-change
 returns-clause-change c = λ before t known.

@@ -8,6 +8,7 @@ use Rattle.lalrpop_edits.specs.Lexed.{IsRange, IsChange, IsEarliest}
 use Rattle.lalrpop_edits.specs.Costs.{IsPaidFor}
 use Rattle.lalrpop_edits.specs.declared.block.Block.{Block}
 use Rattle.lalrpop_edits.specs.Internal.Blocks.{AreBlocks, pieces_in}
+use Rattle.lalrpop_edits.specs.Internal.BlockPlaces.{AreCounted}
 use Rattle.lalrpop_edits.specs.Internal.Changing.{IsOld, IsKeptChange}
 use Rattle.lalrpop_edits.proofs.BlockLaws.{blocks_kept}
 use Rattle.lalrpop_edits.proofs.Changes.{is_change}
@@ -17,9 +18,9 @@ use Rattle.lalrpop_edits.proofs.Undoing.{is_edited, boundary_before, back_again}
 use Rattle.lalrpop_edits.proofs.lexed_text.edit_parts.Goals as goal
 
 old_of : (r : ModeRules) (bs : List Block) (before text new : List ℕ) (from to : ℕ) (t : Stack) → IsRange before from to → text ≡ replace_range before from to new
-    → length before < 2 ^ 63 → length text < 2 ^ 63 → AreBlocks r before 0 start bs (length before) t → IsOld r bs text from to (length new) before t
-old_of r bs before text new from to t range e fits fits_now are =
-    record { edited = is_edited before text new from to range e; fits = fits; fits_now = fits_now; blocks = are }
+    → length before < 2 ^ 63 → length text < 2 ^ 63 → AreBlocks r before 0 start bs (length before) t → AreCounted before bs → IsOld r bs text from to (length new) before t
+old_of r bs before text new from to t range e fits fits_now are counted =
+    record { edited = is_edited before text new from to range e; fits = fits; fits_now = fits_now; blocks = are; counted = counted }
 
 pub cut_anew-requires : goal.cut_anew-requires
 cut_anew-requires c =
@@ -29,7 +30,7 @@ cut_anew-requires c =
     let e : c.deref-2.result.now ≡ replace_range before from to c.args.new.now =
     c.deref-2.ensures ∙ c.in_ok-replace_range.ensures.bytes ∙ ap (λ (p : List ℕ). replace_range p from to c.args.new.now) c.reserve.ensures.bytes in
     let fits : length before < 2 ^ 63 = omega (arith, ap length c.deref.ensures, c.deref.type_inv.1) in
-    record { old = (before, (c.requires.blocks.0, old_of c.args.lexer.now c.args.blocks.now.items before c.deref-2.result.now c.args.new.now from to c.requires.blocks.0 c.requires.range e fits (omega (arith, c.deref-2.type_inv.1)) c.requires.blocks.1)) }
+    record { old = (before, (c.requires.blocks.0, old_of c.args.lexer.now c.args.blocks.now.items before c.deref-2.result.now c.args.new.now from to c.requires.blocks.0 c.requires.range e fits (omega (arith, c.deref-2.type_inv.1)) c.requires.blocks.1 c.requires.counted)) }
 
 pub returns-in-Ok-clause-change : goal.returns-in-Ok-clause-change
 returns-in-Ok-clause-change c =
@@ -44,7 +45,7 @@ returns-in-Ok-clause-change c =
     c.deref-2.ensures ∙ c.in_ok-replace_range.ensures.bytes ∙ ap (λ (p : List ℕ). replace_range p from to c.args.new.now) c.reserve.ensures.bytes in
     let fits : length before < 2 ^ 63 = omega (arith, ap length c.deref.ensures, c.deref.type_inv.1) in
     let old : IsOld r old_blocks text from to (length c.args.new.now) before c.requires.blocks.0 =
-    old_of r old_blocks before text c.args.new.now from to c.requires.blocks.0 c.requires.range e fits (omega (arith, c.deref-2.type_inv.1)) c.requires.blocks.1 in
+    old_of r old_blocks before text c.args.new.now from to c.requires.blocks.0 c.requires.range e fits (omega (arith, c.deref-2.type_inv.1)) c.requires.blocks.1 c.requires.counted in
     let change : IsKeptChange r before text (pieces_in old_blocks) (pieces_in new_blocks) c.in-Ok.change =
     c.in-Ok.ensures.change before c.requires.blocks.0 old in
     let are = blocks_kept r before 0 start old_blocks (length before) c.requires.blocks.0 c.requires.blocks.1 in
@@ -82,7 +83,7 @@ returns-in-Ok-clause-first c =
     c.deref-2.ensures ∙ c.in_ok-replace_range.ensures.bytes ∙ ap (λ (p : List ℕ). replace_range p from to c.args.new.now) c.reserve.ensures.bytes in
     let fits : length before < 2 ^ 63 = omega (arith, ap length c.deref.ensures, c.deref.type_inv.1) in
     let old : IsOld r old_blocks text from to (length c.args.new.now) before c.requires.blocks.0 =
-    old_of r old_blocks before text c.args.new.now from to c.requires.blocks.0 c.requires.range e fits (omega (arith, c.deref-2.type_inv.1)) c.requires.blocks.1 in
+    old_of r old_blocks before text c.args.new.now from to c.requires.blocks.0 c.requires.range e fits (omega (arith, c.deref-2.type_inv.1)) c.requires.blocks.1 c.requires.counted in
     let change : IsKeptChange r before text (pieces_in old_blocks) (pieces_in new_blocks) c.in-Ok.change =
     c.in-Ok.ensures.change before c.requires.blocks.0 old in
     let are = blocks_kept r before 0 start old_blocks (length before) c.requires.blocks.0 c.requires.blocks.1 in

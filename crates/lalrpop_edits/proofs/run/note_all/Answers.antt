@@ -29,7 +29,7 @@ overflow_sub-size c =
     let word = next_at c.args.text.now (char_indices_rest c.loop-offset.offset-iterator) (char_indices_rest c.next.new.self) (char_indices_offset c.loop-offset.offset-iterator) c.in-Some.c inv.cut s.1 in
     let below = first_below (char_indices_rest c.loop-offset.offset-iterator) c.in-Some.c (chars (char_indices_rest c.next.new.self)) inv.cut.rest_utf8 word in
     let neither : says c.args.walker.now (next_of c.args.walker.now c.loop-offset.place c.in-Some.c) ≡ Neither =
-    subst (λ (p : ℕ). says c.args.walker.now p ≡ Neither) c.next-place.ensures (c.is_open.ensures.is_so c.if-not-is_open.false) in
+    subst (λ (p : ℕ). says c.args.walker.now p ≡ Neither) c.next-place.ensures (c.is_open.ensures.neither.0 c.if-not-is_open.false) in
     let on = over_open c.args.walker.now c.loop-offset.place c.in-Some.c inv.over.0 (chars (char_indices_rest c.next.new.self)) below neither
     (subst (λ (v : List ℕ). IsOver c.args.walker.now c.loop-offset.place v inv.over.0) word inv.over.1.1) in
     omega (arith, on.1.0, inv.over.1.0, s.0, c.len_utf8.ensures.len)
@@ -47,7 +47,7 @@ loop-offset-preserved c =
     let word = next_at text rest rest2 at c.in-Some.c inv.cut s.1 in
     let below = first_below rest c.in-Some.c (chars rest2) inv.cut.rest_utf8 word in
     let neither : says w (next_of w c.loop-offset.place c.in-Some.c) ≡ Neither =
-    subst (λ (p : ℕ). says w p ≡ Neither) c.next-place.ensures (c.is_open.ensures.is_so c.if-not-is_open.false) in
+    subst (λ (p : ℕ). says w p ≡ Neither) c.next-place.ensures (c.is_open.ensures.neither.0 c.if-not-is_open.false) in
     let on = over_open w c.loop-offset.place c.in-Some.c inv.over.0 (chars rest2) below neither
     (subst (λ (v : List ℕ). IsOver w c.loop-offset.place v inv.over.0) word inv.over.1.1) in
     let cut = cut_more text rest rest2 at at2 c.in-Some.c c.utf8.text inv.cut s.1 s.2 in
@@ -80,7 +80,7 @@ loop-offset-preserved c =
       news = λ whole vain more is unknown.
           noted_next w c.args.memo.now c.loop-offset.memo c.note.new.self c.args.mode c.args.at at at2 c.loop-offset.place c.next-place.result c.in-Some.c text rest rest2 vain more c.utf8.text
           inv.cut s.1 s.2 c.next-place.ensures (subst (IsMet w) (sym c.next-place.ensures) (met_next w c.loop-offset.place c.in-Some.c inv.met below))
-          (c.is_open.ensures.is_so c.if-not-is_open.false) c.note.ensures.stays
+          (c.is_open.ensures.neither.0 c.if-not-is_open.false) c.note.ensures.stays
           (λ apart. subst (λ (e : ℕ). IsKnown c.note.new.self c.args.mode c.next-place.result e) high (c.note.ensures.noted whole (λ same. apart (omega (arith, low, high, same))))) (inv.news (c.note.ensures.whole whole) vain more is unknown);
     }
 
@@ -122,7 +122,7 @@ returns-then-end-until-clause-news c = λ much whole vain more is unknown below 
     subst (λ (p : ℕ). says w p ≡ Neither) (sym c.next-place.ensures) (subst (λ (x : ℕ). says w (next_of w c.loop-offset.place x) ≡ Neither) first neither) in
     elim c.then-end-until.branch [
       | then-end-until-via-then-end-until h ↦ omega (arith, h.if-end-until.true, s.0, c.len_utf8.ensures.upper_bound)
-      | then-end-until-via-else-end-until+then-not-is_open h ↦ let both : true ≡ false = sym (h.is_open.ensures.so_is there) ∙ h.if-not-is_open.true in cc
+      | then-end-until-via-else-end-until+then-not-is_open h ↦ let both : true ≡ false = sym (h.is_open.ensures.neither.1 there) ∙ h.if-not-is_open.true in cc
     ])
 
 pub returns-then-end-until-clause-counted : goal.returns-then-end-until-clause-counted
@@ -141,7 +141,7 @@ returns-then-end-until-clause-counted c = λ much vain more is unknown below.
     subst (λ (p : ℕ). says w p ≡ Neither) (sym c.next-place.ensures) (subst (λ (x : ℕ). says w (next_of w c.loop-offset.place x) ≡ Neither) first neither) in
     elim c.then-end-until.branch [
       | then-end-until-via-then-end-until h ↦ omega (arith, h.if-end-until.true, s.0, c.len_utf8.ensures.len, ap (λ (x : ℕ). length (encode_utf8 x)) first)
-      | then-end-until-via-else-end-until+then-not-is_open h ↦ let both : true ≡ false = sym (h.is_open.ensures.so_is there) ∙ h.if-not-is_open.true in cc
+      | then-end-until-via-else-end-until+then-not-is_open h ↦ let both : true ≡ false = sym (h.is_open.ensures.neither.1 there) ∙ h.if-not-is_open.true in cc
     ]) in
     omega (arith, all, c.tick.ensures.counted)
 

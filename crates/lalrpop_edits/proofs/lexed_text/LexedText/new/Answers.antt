@@ -3,4 +3,4 @@ use Rattle.lalrpop_modes.specs.Stack.{start}
 use Rattle.lalrpop_edits.proofs.lexed_text.LexedText.new.Goals as goal
 
 pub invariant_of-lexed : goal.invariant_of-lexed
-invariant_of-lexed c = (start, rw (c.new.ensures.bytes, c.new-2.ensures.items) (refl, refl))
+invariant_of-lexed c = ((start, rw (c.new.ensures.bytes, c.new-2.ensures.items) (refl, refl)), rw c.new-2.ensures.items tt)

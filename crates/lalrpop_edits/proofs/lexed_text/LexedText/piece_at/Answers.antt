@@ -20,7 +20,7 @@ pub returns-in_err-block-clause-none : goal.returns-in_err-block-clause-none
 returns-in_err-block-clause-none c =
     let i = c.self.inside in
     let none : size_in c.deref.result.now ≤ c.args.at = c.in_err-block.ensures.none in
-    let all = all_bytes i.lexer.now (string_bytes i.text) 0 start i.blocks.items (length (string_bytes i.text)) c.self.invariant.0 c.self.invariant.1 in
+    let all = all_bytes i.lexer.now (string_bytes i.text) 0 start i.blocks.items (length (string_bytes i.text)) c.self.invariant.0.0 c.self.invariant.0.1 in
     rw (← c.self.view_is) (if_none _ (length (string_bytes i.text) ≤ c.args.at) (omega (arith, none, ap size_in c.deref.ensures.value, all)))
 
 pub returns-in_err-piece-clause-none : goal.returns-in_err-piece-clause-none
@@ -30,7 +30,7 @@ returns-in_err-piece-clause-none c =
     let found : IsBlockAt c.deref.result.now block c.in_ok-block.start c.args.at = c.in_ok-block.ensures.found in
     let f : IsBlockAt i.blocks.items block c.in_ok-block.start c.args.at = subst (λ (bs : List Block). IsBlockAt bs block c.in_ok-block.start c.args.at) c.deref.ensures.value found in
     let none : c.in_ok-block.start + sizes c.deref-2.result.now ≤ c.args.at = c.in_err-piece.ensures.none in
-    let reaches = block_reaches i.lexer.now (string_bytes i.text) i.blocks.items c.self.invariant.0 c.self.invariant.1 (IsUtf8-string_bytes i.text) block c.in_ok-block.start c.args.at f in
+    let reaches = block_reaches i.lexer.now (string_bytes i.text) i.blocks.items c.self.invariant.0.0 c.self.invariant.0.1 (IsUtf8-string_bytes i.text) block c.in_ok-block.start c.args.at f in
     absurd (omega (arith, none, reaches, ap sizes c.deref-2.ensures.value))
 
 pub item_of-requires-clause-begins : goal.item_of-requires-clause-begins
@@ -41,7 +41,7 @@ item_of-requires-clause-begins c =
     let f : IsBlockAt i.blocks.items block c.in_ok-block.start c.args.at = subst (λ (bs : List Block). IsBlockAt bs block c.in_ok-block.start c.args.at) c.deref.ensures.value found in
     let g : IsPieceAt block.pieces.items c.in_ok-block.start c.in_ok-piece.piece c.in_ok-piece.start c.args.at =
     subst (λ (ks : List Kept). IsPieceAt ks c.in_ok-block.start c.in_ok-piece.piece c.in_ok-piece.start c.args.at) c.deref-2.ensures.value c.in_ok-piece.ensures.found in
-    let bounds = held_bounds i.lexer.now (string_bytes i.text) i.blocks.items c.self.invariant.0 c.self.invariant.1 (IsUtf8-string_bytes i.text) block c.in_ok-block.start c.args.at f c.in_ok-piece.piece c.in_ok-piece.start g in
+    let bounds = held_bounds i.lexer.now (string_bytes i.text) i.blocks.items c.self.invariant.0.0 c.self.invariant.0.1 (IsUtf8-string_bytes i.text) block c.in_ok-block.start c.args.at f c.in_ok-piece.piece c.in_ok-piece.start g in
     subst (λ (p : List ℕ). IsCharBoundary p c.in_ok-piece.start) (sym c.deref-3.ensures) bounds.0
 
 pub item_of-requires-clause-ends : goal.item_of-requires-clause-ends
@@ -52,7 +52,7 @@ item_of-requires-clause-ends c =
     let f : IsBlockAt i.blocks.items block c.in_ok-block.start c.args.at = subst (λ (bs : List Block). IsBlockAt bs block c.in_ok-block.start c.args.at) c.deref.ensures.value found in
     let g : IsPieceAt block.pieces.items c.in_ok-block.start c.in_ok-piece.piece c.in_ok-piece.start c.args.at =
     subst (λ (ks : List Kept). IsPieceAt ks c.in_ok-block.start c.in_ok-piece.piece c.in_ok-piece.start c.args.at) c.deref-2.ensures.value c.in_ok-piece.ensures.found in
-    let bounds = held_bounds i.lexer.now (string_bytes i.text) i.blocks.items c.self.invariant.0 c.self.invariant.1 (IsUtf8-string_bytes i.text) block c.in_ok-block.start c.args.at f c.in_ok-piece.piece c.in_ok-piece.start g in
+    let bounds = held_bounds i.lexer.now (string_bytes i.text) i.blocks.items c.self.invariant.0.0 c.self.invariant.0.1 (IsUtf8-string_bytes i.text) block c.in_ok-block.start c.args.at f c.in_ok-piece.piece c.in_ok-piece.start g in
     subst (λ (p : List ℕ). IsCharBoundary p (c.in_ok-piece.start + c.in_ok-piece.piece.size)) (sym c.deref-3.ensures) bounds.1
 
 pub returns-clause-piece : goal.returns-clause-piece
@@ -66,4 +66,4 @@ returns-clause-piece c =
     let same : IsSame c.item_of.result (item_at i.lexer.now.skips (string_bytes i.text) c.in_ok-piece.start c.in_ok-piece.piece) =
     subst (λ (p : List ℕ). IsSame c.item_of.result (item_at i.lexer.now.skips p c.in_ok-piece.start c.in_ok-piece.piece)) c.deref-3.ensures c.item_of.ensures.item in
     rw (← c.self.view_is)
-    (held_piece i.lexer.now (string_bytes i.text) i.blocks.items c.self.invariant.0 c.self.invariant.1 (IsUtf8-string_bytes i.text) block c.in_ok-block.start c.args.at f c.in_ok-piece.piece c.in_ok-piece.start g c.item_of.result same)
+    (held_piece i.lexer.now (string_bytes i.text) i.blocks.items c.self.invariant.0.0 c.self.invariant.0.1 (IsUtf8-string_bytes i.text) block c.in_ok-block.start c.args.at f c.in_ok-piece.piece c.in_ok-piece.start g c.item_of.result same)

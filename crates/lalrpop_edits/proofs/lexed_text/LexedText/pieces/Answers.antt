@@ -12,6 +12,6 @@ returns-clause-exist c =
     let i = c.self.inside in
     let text = string_bytes i.text in
     let ks = pieces_in i.blocks.items in
-    let kept = blocks_kept i.lexer.now text 0 start i.blocks.items (length text) c.self.invariant.0 c.self.invariant.1 in
+    let kept = blocks_kept i.lexer.now text 0 start i.blocks.items (length text) c.self.invariant.0.0 c.self.invariant.0.1 in
     rw (← c.self.view_is)
-    (items_from i.lexer.now.skips text 0 ks, (c.self.invariant.0, are_pieces i.lexer.now text 0 start ks (length text) c.self.invariant.0 kept refl))
+    (items_from i.lexer.now.skips text 0 ks, (c.self.invariant.0.0, are_pieces i.lexer.now text 0 start ks (length text) c.self.invariant.0.0 kept refl))

@@ -1,0 +1,11 @@
+use Rattle.std.proofs.Common.{◌≤◌, drop}
+use Rattle.lalrpop_edits.specs.Internal.BlockPlaces.{AreCounted, IsMark}
+use Rattle.lalrpop_edits.proofs.lines.block_before.Given as goal
+
+-- the mark is the beginning of the next block
+abbrev pub invariant-loop-block : goal.invariant-loop-block
+invariant-loop-block l = record {
+  mark : IsMark l.text l.mark;
+  order : l.mark.at ≤ l.at;
+  rest : AreCounted (drop l.mark.at l.text) (drop l.block-index l.blocks);
+}

@@ -1,0 +1,12 @@
+use Rattle.std.proofs.Common.{drop}
+use Rattle.lalrpop_edits.specs.Internal.BlockPlaces.{AreCounted, IsMark}
+use Rattle.lalrpop_edits.proofs.LineLaws.{HasNone}
+use Rattle.lalrpop_edits.proofs.lines.block_reaching.Given as goal
+
+-- the mark is the beginning of the next block, and nothing in front of it has the place
+abbrev pub invariant-loop-block : goal.invariant-loop-block
+invariant-loop-block l = record {
+  mark : IsMark l.text l.mark;
+  rest : AreCounted (drop l.mark.at l.text) (drop l.block-index l.blocks);
+  front : HasNone l.text l.place 0 l.mark.at;
+}
