@@ -1,7 +1,7 @@
 //! Places in a text, as line and column.
-ghost use Rattle.std.specs.Prelude.{◌≡◌, ◌≤◌, ◌↔◌, IfSome, IsSome};
-ghost use Rattle.std.specs.Str.{IsCharBoundary};
-ghost use Rattle.lalrpop_lexer.specs.Position.{position_of};
+ghost use Rattle.std.specs.Prelude.{◌≡◌, ◌≤◌, ◌+◌, ◌^◌, ◌++◌, ◌↔◌, ◌⊎◌, length, IfNone, IfSome, IsSome};
+ghost use Rattle.std.specs.Str.{IsCharBoundary, chars};
+ghost use Rattle.lalrpop_lexer.specs.Position.{place_behind, position_of};
 
 use lalrpop_lexer::{Position, Positions};
 
@@ -40,4 +40,25 @@ pub fn both_ends(text: &str, from: usize, to: usize) -> (Position, Position)
     let begins = places.at(from);
     let ends = places.at(to);
     (begins, ends)
+}
+
+// Needs lalrpop_lexer::Position::after: place, none.
+/// Where the second of two texts ends that follow one another. `None` if both have 2^64 bytes, or two less.
+pub fn behind_both(first: &str, second: &str) -> Option<Position>
+    ensures place { IfSome result (λ p. p ≡ place_behind (chars (first.now ++ second.now))) }
+    ensures none { IfNone result (2 ^ 64 ≤ length first.now + length second.now + 2) }
+{
+    let begin = Position { line: 1, column: 1 };
+    begin.after(first)?.after(second)
+}
+
+// Needs lalrpop_lexer::Position::then: place, none.
+/// The place of an offset that is counted from an earlier one, or `None` if one of them has none.
+pub fn place_in_part(text: &str, begin: usize, at: usize) -> Option<Position>
+    ensures place { IfSome result (λ p. p ≡ position_of text.now (begin + at)) }
+    ensures none { IfNone result (¬ IsCharBoundary text.now begin
+        ⊎ ¬ IsCharBoundary text.now (begin + at)) }
+{
+    let first = Position::get(text, begin)?;
+    first.then(Position::get(&text[begin..], at)?)
 }

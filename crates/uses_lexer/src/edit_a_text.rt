@@ -1,5 +1,5 @@
 //! A text is edited, and its pieces with it.
-ghost use Rattle.std.specs.Prelude.{◌≡◌, ◌≤◌, ◌<◌, ◌+◌, ◌++◌, ◌⊎◌, ℕ, List, length, take, drop, slice_get, Some, true, IfOk, OnOk, IfErr};
+ghost use Rattle.std.specs.Prelude.{◌≡◌, ◌≤◌, ◌<◌, ◌+◌, ◌++◌, ◌⊎◌, ℕ, List, length, take, drop, slice_get, Some, true, IfOk, OnOk, IfErr, IfSome, IfNone};
 ghost use Rattle.std.specs.Str.{IsCharBoundary};
 ghost use Rattle.lalrpop_edits.specs.Lexed.{ArePiecesOf, HasPieces, MeetAt, ReadsTo, replaced};
 ghost use Rattle.lalrpop_modes.specs.Modes.{trees_in};
@@ -243,4 +243,15 @@ pub fn add_place(places: &mut Vec<usize>, place: usize) -> Result<(), EditError>
 {
     places.push(place)?;
     Ok(())
+}
+
+// Needs lalrpop_edits::LexedText::position: boundary, position; lalrpop_edits::LexedText::offset: some, none.
+/// The offset of the line and column of an offset: itself. `None` if no character begins there, and the text doesn't end there.
+pub fn back_again(lexed: &LexedText<'_>, at: usize) -> Option<usize>
+    ensures same { IfSome result (λ n. n ≡ at) }
+    ensures none { IfNone result (¬ IsCharBoundary lexed.now.text at) }
+{
+    // What is known of the text.
+    let _text = lexed.text();
+    lexed.offset(lexed.position(at)?)
 }
