@@ -1,14 +1,15 @@
 //! `editor RULES TEXT [--check]`: holds the text of a file with its pieces, and edits it.
 //!
-//! Each line of standard input is an edit: two places in the text, in bytes, and what comes in place of what lies between them,
-//! with escapes as in a pattern, so that `\n` is a line feed. For each edit it writes what changed: a line such as
-//! `4..5 -> 4..6: 1 out, 1 in`, and a line for each piece that came, `! ` where no rule matches. With `--check`, the text is cut
-//! from nothing too after each edit, at once and in chunks, and it is an error if that gives other pieces. The text of the file
-//! isn't changed.
+//! Each line of standard input is an edit: two places in the text, `LINE:COLUMN`, and what comes in place of what lies between
+//! them, with escapes as in a pattern, so that `\n` is a line feed. For each edit it writes what changed: a line in bytes, such as
+//! `4..5 -> 4..6: 1 out, 1 in`, and a line for each piece that came, with its place, and `!` where no rule matches. With `--check`,
+//! the text is cut from nothing too after each edit, at once and in chunks, and it is an error if that gives other pieces or places.
+//! The text of the file isn't changed.
 #![tactic(auto)]
 
 use anyhow::{Context, Result, bail};
 use lalrpop_edits::{Change, Chunks, LexedText, Pieces};
+use lalrpop_lexer::Position;
 use lalrpop_lexer::lexer::re::unescape;
 use lalrpop_modes::ModeLexer;
 use lalrpop_rule_file::read_rules;
@@ -25,13 +26,28 @@ struct Edit {
     new: String,
 }
 
+// The byte offset of a place `LINE:COLUMN` in the text.
+fn offset_of(text: &LexedText<'_>, word: &str) -> Result<usize> {
+    let Some((line, column)) = word.split_once(':') else {
+        bail!("{word:?} is no place LINE:COLUMN");
+    };
+    let place = Position {
+        line: line.parse()?,
+        column: column.parse()?,
+    };
+    match text.offset(place) {
+        Some(offset) => Ok(offset),
+        None => bail!("the text has no place {word}"),
+    }
+}
+
 // The edit of a line `FROM TO TEXT`.
-fn edit_of(alloc: Global, line: &str) -> Result<Edit> {
+fn edit_of(alloc: Global, text: &LexedText<'_>, line: &str) -> Result<Edit> {
     let mut words = line.splitn(3, ' ');
     let (Some(from), Some(to)) = (words.next(), words.next()) else {
         bail!("an edit is two places and a text");
     };
-    let range = from.parse()?..to.parse()?;
+    let range = offset_of(text, from)?..offset_of(text, to)?;
     let new = unescape(alloc, words.next().unwrap_or(""))?;
     Ok(Edit { range, new })
 }
@@ -58,21 +74,34 @@ fn show(rt: &impl Print, text: &LexedText<'_>, change: &Change) -> Result<()> {
     let mut at = start;
     while at < new_end
         && let Some(piece) = text.piece_at(at)
+        && let Some(Position { line, column }) = text.position(at)
     {
-        println!(rt; "{} {:?}", name_of(text.lexer(), &piece), piece.slice())?;
+        let name = name_of(text.lexer(), &piece);
+        println!(rt; "{line}:{column} {name} {:?}", piece.slice())?;
         at = piece.start().saturating_add(piece.slice().len());
     }
     Ok(())
+}
+
+// Counts lines and columns up to the place from nothing, and compares.
+fn check_place(text: &LexedText<'_>, at: usize) -> Result<()> {
+    if text.position(at) == Position::get(text.text(), at) {
+        return Ok(());
+    }
+    bail!("byte {at} has another place")
 }
 
 // Cuts the text from nothing, and compares.
 fn check(alloc: Global, text: &LexedText<'_>) -> Result<()> {
     let mut kept = text.pieces();
     for item in text.lexer().items(alloc, text.text()) {
-        match item {
-            Ok(item) if kept.next() == Some(item) => {}
-            Ok(_) => bail!("a cut from nothing gives other pieces"),
+        let item = match item {
+            Ok(item) => item,
             Err(error) => return Err(error.into()),
+        };
+        check_place(text, item.start())?;
+        if kept.next() != Some(item) {
+            bail!("a cut from nothing gives other pieces");
         }
     }
     if kept.next().is_some() {
@@ -138,7 +167,7 @@ fn main(rt: HostRuntime) -> Result<()> {
     let start = fs::read_to_string(&rt, &text_name).context(format_args!("{text_name:?}"))?;
     let mut text = LexedText::new(alloc, &lexer, &start)?;
     for line in io::read_to_string(alloc, rt.reader())?.lines() {
-        let edit = edit_of(alloc, line)?;
+        let edit = edit_of(alloc, &text, line)?;
         let change = text.edit(alloc, edit.range, &edit.new)?;
         if is_checked {
             check(alloc, &text)?;
