@@ -7,7 +7,8 @@ use Rattle.std.proofs.lemmas.Result.{IfOk-weaker}
 use Rattle.lexdfa_lib.proofs.Known.{Appends-again}
 use Rattle.lexdfa_lib.specs.Watch.{Watch, AppendsPrefix}
 use Rattle.lexdfa_lib.specs.declared.error.RunError.{RunError}
-use Rattle.tokens_lib.specs.Answer.{Answer, silence, followed, refusal, remark, about, Reads, TextOf, is_input, FileGives, ReadingAnswer, FileAnswer, NumberedAnswer, FilesAnswer, cut_files, TextsAnswer, Answered, Refused}
+use Rattle.reports_lib.specs.Answer.{Answer, silence, followed, refusal, remark, about}
+use Rattle.tokens_lib.specs.FileAnswers.{Reads, TextOf, is_input, FileGives, ReadingAnswer, FileAnswer, NumberedAnswer, FilesAnswer, cut_files, TextsAnswer, Answered, Refused}
 use Rattle.tokens_lib.specs.Progress.{total_said}
 use Rattle.tokens_lib.specs.declared.command.Verbosity.{Verbosity}
 use Rattle.tokens_lib.specs.Streams.{Given, Reading, AtEnd, Failed, NotOpened, GivesWhole, StreamGives, TakesBy, Takes}

@@ -26,9 +26,12 @@ use Rattle.lexdfa_lib.specs.declared.outcome.Outcome.TheVariants.{Match, NoMatch
 use Rattle.lines_lib.proofs.Sending.{Appends-none, AppendsPrefix-behind, AppendsPrefix-front}
 use Rattle.lines_lib.specs.ClashesShown.{WritesClashes, WritesClashesPrefix}
 use Rattle.lines_lib.specs.TokenLines.{text_lines, WritesTokens, WritesTokensPrefix}
-use Rattle.tokens_lib.specs.Answer.{Answer, followed, refusal, remark, Reads, TextOf, ReadingAnswer, NumberedAnswer, FilesAnswer, FirstFilesAnswer, cut_files, FirstTextsAnswer, Begun}
+use Rattle.reports_lib.specs.Answer.{Answer, followed, refusal, remark, Begun}
+use Rattle.reports_lib.specs.ItemLines.{piece_lines}
+use Rattle.reports_lib.specs.declared.layout.LineForm.{LineForm}
+use Rattle.tokens_lib.specs.FileAnswers.{Reads, TextOf, ReadingAnswer, NumberedAnswer, FilesAnswer, FirstFilesAnswer, cut_files, FirstTextsAnswer}
 use Rattle.tokens_lib.specs.CutEnds.{BeginsWith, AreGiven}
-use Rattle.tokens_lib.specs.ItemLines.{piece_lines, WritesItemsPart}
+use Rattle.tokens_lib.specs.ItemsWritten.{WritesItemsPart}
 use Rattle.tokens_lib.specs.NamedRules.{RulesOf, LexerOf}
 use Rattle.tokens_lib.specs.Program.{TerminalsOf, TerminalClashesAnswer}
 use Rattle.tokens_lib.specs.Progress.{total_said}
@@ -37,7 +40,6 @@ use Rattle.tokens_lib.specs.TextAnswer.{TextTokens, WholeAnswer, CutAnswer, CutP
 use Rattle.tokens_lib.specs.Internal.Tasks.{EitherAnswer, ReadAnswer}
 use Rattle.tokens_lib.specs.declared.command.Verbosity.{Verbosity}
 use Rattle.tokens_lib.specs.declared.cut_end.CutEnd.{CutEnd}
-use Rattle.tokens_lib.specs.declared.layout.LineForm.{LineForm}
 use Rattle.tokens_lib.proofs.AnswerLaws.{files_more}
 use Rattle.tokens_lib.proofs.ProgramLaws.{IsRead, by_lexer, by_terminals}
 use Rattle.tokens_lib.proofs.TextAnswers.{then_some-now, tokens_told, cut_told, Cuts}

@@ -6,7 +6,7 @@ use Rattle.std.proofs.lemmas.Str.{IsUtf8-append, IsUtf8-nil, chars-append}
 use Rattle.std.specs.Prelude.{◌||◌, Option, Some, None, is_none, is_some, map, reverse}
 use Rattle.std.specs.Borrow.{Bor}
 use Rattle.std.specs.Str.{chars, IsUtf8}
-use Rattle.lalrpop_lexer.specs.Position.{position_of, place_behind}
+use Rattle.lalrpop_lexer.specs.Position.{place_after, position_of, place_behind}
 use Rattle.lalrpop_lexer.specs.declared.position.Position.{Position}
 use Rattle.lalrpop_edits.specs.Chunked.{Chunked, GivesFinal, IsFinal, nothing_come, Came, nothing, fed, given, ended}
 use Rattle.lalrpop_edits.specs.Decoded.{Decoding}
@@ -25,11 +25,11 @@ use Rattle.lalrpop_rules.specs.declared.item.Item.{Item}
 use Rattle.lalrpop_rules.specs.declared.item.Item.TheVariants.{Token, Skipped, Fault}
 use Rattle.tokens_lib.specs.CutEnds.{first_fault}
 use Rattle.tokens_lib.specs.OpenModes.{pushed, pushed_all, open_after, open_behind}
-use Rattle.tokens_lib.specs.Internal.CutTexts.{BeginWithin, GivesCut, IsCutInto, is_fault, opened_after, opened_by, place_after}
+use Rattle.tokens_lib.specs.Internal.CutTexts.{BeginWithin, GivesCut, IsCutInto, is_fault, opened_after, opened_by}
 use Rattle.tokens_lib.specs.Internal.Incoming.{IsFed}
 use Rattle.tokens_lib.specs.declared.cutter.Cutter.{Cutter}
 use Rattle.tokens_lib.specs.declared.incoming.Incoming.{Incoming}
-use Rattle.tokens_lib.proofs.PlaceLaws.{place_behind_slice}
+use Rattle.lalrpop_lexer.proofs.PlaceLaws.{place_behind_slice}
 
 -- ---- lists of pieces
 

@@ -11,10 +11,10 @@ use Rattle.lalrpop_modes.specs.Stack.{Stack, start}
 use Rattle.lalrpop_rules.specs.Pieces.{start_of}
 use Rattle.lalrpop_rules.specs.declared.item.Item.{Item}
 use Rattle.lalrpop_rules.specs.declared.item.Item.TheVariants.{Token, Skipped, Fault}
-use Rattle.tokens_lib.specs.ItemLines.{item_lines, mode_named, piece_line, piece_lines}
+use Rattle.reports_lib.specs.ItemLines.{item_lines, mode_named, piece_line, piece_lines}
+use Rattle.reports_lib.specs.declared.layout.Layout.{Layout}
+use Rattle.reports_lib.specs.declared.layout.LineForm.{LineForm}
 use Rattle.tokens_lib.specs.Internal.CutTexts.{BeginWithin, line_here, piece_shown, shown, shown_from}
-use Rattle.tokens_lib.specs.declared.layout.Layout.{Layout}
-use Rattle.tokens_lib.specs.declared.layout.LineForm.{LineForm}
 use Rattle.tokens_lib.specs.declared.sheet.Form.{Form}
 use Rattle.tokens_lib.specs.declared.sheet.Form.TheVariants.{Lines, Html, Ansi}
 use Rattle.tokens_lib.proofs.CutLaws.{place_stays}

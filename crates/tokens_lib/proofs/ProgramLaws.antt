@@ -10,12 +10,13 @@ use Rattle.lalrpop_rule_file.specs.RuleFile.{without_mark}
 use Rattle.lexdfa_lib.specs.Answer.{HaveAutomaton}
 use Rattle.lexdfa_lib.specs.Watch.{Watch, AppendsPrefix}
 use Rattle.lexdfa_lib.specs.declared.error.RunError.{RunError}
-use Rattle.tokens_lib.specs.Answer.{Answer, Reads, Answered, Begun, followed, refusal, remark}
-use Rattle.tokens_lib.specs.Compared.{DifferenceAnswer, IsDifferenceText, text_status}
+use Rattle.reports_lib.specs.Answer.{Answer, Begun, followed, refusal, remark}
+use Rattle.reports_lib.specs.Compared.{DifferenceAnswer, IsDifferenceText, text_status}
+use Rattle.tokens_lib.specs.FileAnswers.{Reads, Answered}
 use Rattle.tokens_lib.specs.NamedRules.{AreRulesOf, RulesOf, RulesRefused, LexerOf}
 use Rattle.tokens_lib.specs.Program.{TerminalsRefused, TerminalsOf, information}
 use Rattle.tokens_lib.specs.Streams.{Given, Takes}
-use Rattle.tokens_lib.specs.Warned.{Warned}
+use Rattle.tokens_lib.specs.WarningsSaid.{Warned}
 use Rattle.tokens_lib.specs.declared.command.Verbosity.{Verbosity}
 use Rattle.tokens_lib.proofs.AnswerLaws.{TakesBy-again, TakesBy-none, answered_behind}
 

@@ -12,22 +12,23 @@ use Rattle.lalrpop_modes.specs.declared.mode_rule.ModeRule.{ModeRule}
 use Rattle.lexdfa_lib.specs.Status.{outcome_status}
 use Rattle.lexdfa_lib.specs.declared.outcome.Outcome.{Outcome}
 use Rattle.lexdfa_lib.specs.declared.outcome.Outcome.TheVariants as outcomes
-use Rattle.tokens_lib.specs.Answer.{Answer, remark, Reads, TextOf, shown_name, ReadingAnswer, NumberedAnswer, FilesAnswer, cut_files, TextsAnswer}
+use Rattle.reports_lib.specs.Answer.{Answer, remark}
+use Rattle.reports_lib.specs.Compared.{DifferenceAnswer, text_status}
+use Rattle.reports_lib.specs.ReviewLines.{has_findings}
+use Rattle.reports_lib.specs.declared.layout.LineForm.{LineForm}
+use Rattle.tokens_lib.specs.FileAnswers.{Reads, TextOf, shown_name, ReadingAnswer, NumberedAnswer, FilesAnswer, cut_files, TextsAnswer}
 use Rattle.tokens_lib.specs.Checked.{CheckAnswer, finding}
-use Rattle.tokens_lib.specs.Compared.{DifferenceAnswer, text_status}
 use Rattle.tokens_lib.specs.Emitted.{SourceAnswer}
 use Rattle.tokens_lib.specs.Pictured.{PictureAnswer}
 use Rattle.tokens_lib.specs.NamedRules.{rules_status, RulesTold, RulesOf, LexerOf, clashes_status, ClashesAnswer}
 use Rattle.tokens_lib.specs.Program.{TerminalsOf, reported_status, TerminalClashesAnswer, ActionAnswer, CommandAnswer, ComparedAnswer, other_of}
-use Rattle.tokens_lib.specs.ReviewLines.{has_findings}
-use Rattle.tokens_lib.specs.Warned.{is_said}
+use Rattle.tokens_lib.specs.WarningsSaid.{is_said}
 use Rattle.tokens_lib.specs.Progress.{total_said}
 use Rattle.tokens_lib.specs.Streams.{Given, Reading, ReadEnd, AtEnd, Failed, NotOpened, LeftOff, GivesWhole}
 use Rattle.tokens_lib.specs.TextAnswer.{fault_status, TextTokens, WholeAnswer, TokensAnswer, cut_status, CutAnswer, lines_of, PiecesAnswer, PiecesPart, PageAnswer, PagePart}
 use Rattle.tokens_lib.specs.declared.command.Command.{Command}
 use Rattle.tokens_lib.specs.declared.command.Language.{Language}
 use Rattle.tokens_lib.specs.declared.command.Markup.{Markup}
-use Rattle.tokens_lib.specs.declared.layout.LineForm.{LineForm}
 use Rattle.tokens_lib.specs.declared.cut_end.CutEnd.{CutEnd}
 use Rattle.tokens_lib.specs.declared.cut_end.CutEnd.TheVariants.{Whole, Stopped, Broken}
 use Rattle.lalrpop_rules.specs.declared.item.Item.{Item}

@@ -15,14 +15,16 @@ use Rattle.lexdfa_lib.specs.Watch.{Watch}
 use Rattle.lexdfa_lib.specs.declared.error.RunError.{RunError}
 use Rattle.lexdfa_lib.specs.declared.outcome.Outcome.{Outcome}
 use Rattle.lines_lib.specs.TokenLines.{text_lines, outcome_behind, WritesTokens}
-use Rattle.tokens_lib.specs.Answer.{Answer, Answered}
+use Rattle.reports_lib.specs.Answer.{Answer}
+use Rattle.reports_lib.specs.ItemLines.{piece_lines}
+use Rattle.reports_lib.specs.declared.layout.LineForm.{LineForm}
+use Rattle.tokens_lib.specs.FileAnswers.{Answered}
 use Rattle.tokens_lib.specs.CutEnds.{IsTextOf, IsCutTo}
-use Rattle.tokens_lib.specs.ItemLines.{piece_lines, WritesItems}
+use Rattle.tokens_lib.specs.ItemsWritten.{WritesItems}
 use Rattle.tokens_lib.specs.Streams.{Reading, Takes}
 use Rattle.tokens_lib.specs.TextAnswer.{stop_text, fault_status, stop_of, TextTokens, cut_status, cut_text, CutAnswer, lines_of}
 use Rattle.tokens_lib.specs.Internal.Tasks.{ReadAnswer}
 use Rattle.tokens_lib.specs.declared.cut_end.CutEnd.{CutEnd}
-use Rattle.tokens_lib.specs.declared.layout.LineForm.{LineForm}
 
 -- the name, if it is wanted
 pub then_some-now : (wanted : Bool) (name : Bor (List ℕ)) → option_map (λ (f : Bor (List ℕ)). f.now) (then_some wanted name) ≡ then_some wanted name.now

@@ -12,8 +12,9 @@ use Rattle.lexdfa_lib.specs.Watch.{AppendsPrefix}
 use Rattle.lexdfa_lib.specs.declared.error.RunError.{RunError}
 use Rattle.lines_lib.specs.declared.text.TextError.TheVariants.{Read}
 use Rattle.lines_lib.proofs.Sending.{Appends-none}
+use Rattle.reports_lib.specs.declared.layout.Layout.{Layout}
 use Rattle.tokens_lib.specs.CutEnds.{AreGiven, IsCutTo}
-use Rattle.tokens_lib.specs.ItemLines.{WritesItems, WritesItemsPart}
+use Rattle.tokens_lib.specs.ItemsWritten.{WritesItems, WritesItemsPart}
 use Rattle.tokens_lib.specs.PageWritten.{WritesPage, WritesPagePart, page_of}
 use Rattle.tokens_lib.specs.Streams.{Reading, Failed, LeftOff, EndsReading}
 use Rattle.tokens_lib.specs.Internal.CutTexts.{IsPageForm, goes_on, shown}
@@ -21,7 +22,6 @@ use Rattle.tokens_lib.specs.declared.command.Markup.{Markup}
 use Rattle.tokens_lib.specs.declared.command.Markup.TheVariants.{Html as MarkupHtml, Ansi as MarkupAnsi}
 use Rattle.tokens_lib.specs.declared.cut_end.CutEnd.{CutEnd}
 use Rattle.tokens_lib.specs.declared.cut_end.CutEnd.TheVariants.{Broken}
-use Rattle.tokens_lib.specs.declared.layout.Layout.{Layout}
 use Rattle.tokens_lib.specs.declared.sheet.Form.{Form}
 use Rattle.tokens_lib.specs.declared.sheet.Form.TheVariants.{Lines, Html, Ansi}
 use Rattle.tokens_lib.proofs.ComingLaws.{WritesAll, WritesPart, consumes_none}

@@ -10,11 +10,11 @@ use Rattle.lalrpop_modes.specs.declared.mode_rule.ModeRule.{ModeRule}
 use Rattle.lalrpop_review.specs.Review.{IsReview}
 use Rattle.lalrpop_review.specs.declared.whole.Review.{Review}
 use Rattle.lalrpop_rules.specs.RuleSet.{names_of}
-use Rattle.tokens_lib.specs.Answer.{Answer, refusal}
+use Rattle.reports_lib.specs.Answer.{Answer, refusal}
+use Rattle.reports_lib.specs.ReviewLines.{review_text, clash_report, has_findings}
+use Rattle.reports_lib.specs.declared.layout.LineForm.{LineForm}
 use Rattle.tokens_lib.specs.NamedRules.{StandAt, IsSetOf, FaultAnswer}
-use Rattle.tokens_lib.specs.ReviewLines.{review_text, clash_report, has_findings}
-use Rattle.tokens_lib.specs.Warned.{is_said}
-use Rattle.tokens_lib.specs.declared.layout.LineForm.{LineForm}
+use Rattle.tokens_lib.specs.WarningsSaid.{is_said}
 
 -- what is said in a check is something that was found
 abbrev pub finding : List ℕ → Answer

@@ -3,6 +3,7 @@
 use Rattle.std.specs.Prelude.{◌≡◌, ◌≢◌, ℕ, ◌≤◌, ◌==◌, Bool, true, false, not, ◌||◌, List, [], ◌∷◌, ◌++◌, Option, Some, None, IfSome, codes, map, filter, find, length, slice_get, if◌then◌else◌}
 use Rattle.std.specs.List.{list_any, starts_with}
 use Rattle.std.specs.Str.{bytes_eq}
+use Rattle.reports_lib.specs.declared.layout.LineForm.TheVariants.{Plain, Json}
 use Rattle.tokens_lib.specs.declared.command.Action.{Action}
 use Rattle.tokens_lib.specs.declared.command.Action.TheVariants.{Cut, Show, CutByTerminals, Clashes, TerminalClashes, Emit, Picture, Check, Difference}
 use Rattle.tokens_lib.specs.declared.command.ArgumentsError.{ArgumentsError}
@@ -13,7 +14,6 @@ use Rattle.tokens_lib.specs.declared.command.Language.TheVariants.{C, Rust}
 use Rattle.tokens_lib.specs.declared.command.Markup.TheVariants.{Html, Ansi}
 use Rattle.tokens_lib.specs.declared.command.Verbosity.{Verbosity}
 use Rattle.tokens_lib.specs.declared.command.Verbosity.TheVariants.{Quiet, Warnings, Progress}
-use Rattle.tokens_lib.specs.declared.layout.LineForm.TheVariants.{Plain, Json}
 
 -- the options of each action, in the order of this table
 abbrev pub options_of : Action → List (List ℕ)

@@ -1,5 +1,4 @@
 -- What private functions promise one another.
-pub mod Commas
 pub mod CutTexts
 pub mod Faults
 pub mod Incoming

@@ -12,21 +12,15 @@ use Rattle.lalrpop_modes.specs.declared.error.ModesError.TheVariants.{NotParsed,
 use Rattle.lalrpop_modes.specs.declared.mode_rule.ModeRule.{ModeRule}
 use Rattle.lalrpop_rules.specs.RuleSet.{names_of}
 use Rattle.lalrpop_grammar.specs.NamedPart.{NamedPart}
-use Rattle.lalrpop_rule_file.specs.RuleFile as file
 use Rattle.lalrpop_rule_file.specs.RuleFile.{AreFileParts, AreRules, ArePlaces, IsRuleFileError, without_mark}
 use Rattle.lalrpop_rule_file.specs.declared.file_rule.FileRule.{FileRule}
 use Rattle.lalrpop_rule_file.specs.declared.error.RuleFileError.{RuleFileError}
-use Rattle.tokens_lib.specs.Answer.{Answer, refusal, remark, followed, headed}
-use Rattle.tokens_lib.specs.Reasons.{SaysBadLine, SaysRules}
-use Rattle.tokens_lib.specs.RuleClashes.{clash_lines}
-use Rattle.tokens_lib.specs.Warned.{Warned}
+use Rattle.reports_lib.specs.Answer.{Answer, refusal, remark, followed, headed}
+use Rattle.reports_lib.specs.Reasons.{SaysBadLine, SaysRules}
+use Rattle.reports_lib.specs.RuleClashes.{clash_lines}
+use Rattle.reports_lib.specs.FileRules.{AreFileRules}
+use Rattle.tokens_lib.specs.WarningsSaid.{Warned}
 use Rattle.tokens_lib.specs.declared.command.Verbosity.{Verbosity}
-
--- the rules of a file with these parts, as a lexer takes them
-pub record AreFileRules (ps : List NamedPart) (fs : List FileRule) (rs : List ModeRule) : Type 0 where
-  pub rules : file.AreModeRules ps fs rs
-  pub modes : map (λ q. q.modes.now) rs ≡ map (λ f. f.modes.items) fs
-  pub actions : map (λ q. q.actions.now) rs ≡ map (λ f. f.actions.items) fs
 
 -- the lines say these rules, of modes with these names
 abbrev pub SayRules : List (List ℕ) → List (List ℕ) → List ModeRule → Type 0

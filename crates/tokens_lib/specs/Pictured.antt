@@ -8,7 +8,7 @@ use Rattle.lalrpop_dfa.specs.Dfa.{RecognizesAll, Row}
 use Rattle.lalrpop_modes.specs.Modes.{ModeRules}
 use Rattle.lalrpop_verdicts.specs.Picture.{dot}
 use Rattle.lalrpop_verdicts.specs.Smallest.{AnswerAlike, IsCanonical, IsSmallest}
-use Rattle.tokens_lib.specs.Answer.{Answer, refusal, about}
+use Rattle.reports_lib.specs.Answer.{Answer, refusal, about}
 use Rattle.tokens_lib.specs.Command.{has}
 
 -- ---- each mode

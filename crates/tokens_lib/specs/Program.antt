@@ -11,17 +11,18 @@ use Rattle.lexdfa_lib.specs.declared.ending.Failure.TheVariants.{Usage, Run as F
 use Rattle.lexdfa_lib.specs.declared.error.RunError.TheVariants as run_errors
 use Rattle.lexdfa_lib.specs.declared.outcome.Outcome.{Outcome}
 use Rattle.lexdfa_lib.specs.declared.outcome.Outcome.TheVariants.{Ambiguous}
-use Rattle.tokens_lib.specs.Answer.{Answer, refusal, remark, followed, headed, Reads, TextsAnswer, FirstTextsAnswer}
+use Rattle.reports_lib.specs.Answer.{Answer, refusal, remark, followed, headed}
+use Rattle.reports_lib.specs.Compared.{DifferenceAnswer}
+use Rattle.reports_lib.specs.Reasons.{SaysTerminals}
+use Rattle.tokens_lib.specs.FileAnswers.{Reads, TextsAnswer, FirstTextsAnswer}
 use Rattle.lines_lib.specs.ClashesShown.{AreClashesShown}
 use Rattle.tokens_lib.specs.Arguments.{joined, options, names}
 use Rattle.tokens_lib.specs.Checked.{CheckAnswer, finding}
 use Rattle.tokens_lib.specs.Command.{IsCommand, IsArgumentsError}
-use Rattle.tokens_lib.specs.Compared.{DifferenceAnswer}
 use Rattle.tokens_lib.specs.Emitted.{SourceAnswer}
 use Rattle.tokens_lib.specs.Pictured.{PictureAnswer}
 use Rattle.tokens_lib.specs.Progress.{reading_text}
 use Rattle.tokens_lib.specs.NamedRules.{RulesTold, RulesOf, LexerOf, ClashesAnswer}
-use Rattle.tokens_lib.specs.Reasons.{SaysTerminals}
 use Rattle.tokens_lib.specs.Streams.{Given, Reading, GivesWhole}
 use Rattle.tokens_lib.specs.TextAnswer.{TokensAnswer, PiecesAnswer, PiecesPart, PageAnswer, PagePart}
 use Rattle.tokens_lib.specs.Usage.{help, version, wrong_text}

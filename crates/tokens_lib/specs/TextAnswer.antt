@@ -17,15 +17,16 @@ use Rattle.lexdfa_lib.specs.declared.outcome.Outcome.{Outcome}
 use Rattle.lexdfa_lib.specs.declared.outcome.Outcome.TheVariants.{Stopped as StoppedTokens}
 use Rattle.lines_lib.specs.Text.{lack_text}
 use Rattle.lines_lib.specs.TokenLines.{place_in, text_lines, outcome_behind}
-use Rattle.tokens_lib.specs.Answer.{Answer, about, refusal, TextOf}
+use Rattle.reports_lib.specs.Answer.{Answer, about, refusal}
+use Rattle.reports_lib.specs.ItemLines.{name_at, piece_lines}
+use Rattle.reports_lib.specs.declared.layout.LineForm.{LineForm}
+use Rattle.tokens_lib.specs.FileAnswers.{TextOf}
 use Rattle.tokens_lib.specs.CutEnds.{IsTextOf, BeginsWith, AreGiven, IsCutTo}
-use Rattle.tokens_lib.specs.ItemLines.{name_at, piece_lines}
 use Rattle.tokens_lib.specs.PageWritten.{page_of}
 use Rattle.tokens_lib.specs.Streams.{Reading, ReadEnd, AtEnd, Failed, NotOpened, LeftOff}
 use Rattle.tokens_lib.specs.declared.command.Markup.{Markup}
 use Rattle.tokens_lib.specs.declared.cut_end.CutEnd.{CutEnd}
 use Rattle.tokens_lib.specs.declared.cut_end.CutEnd.TheVariants.{Whole, Stopped, Broken}
-use Rattle.tokens_lib.specs.declared.layout.LineForm.{LineForm}
 
 -- the message for a place where nothing of this kind matches; it shows the character there
 abbrev pub fault_text : List ℕ → List ℕ → Position → List ℕ → List ℕ

@@ -4,23 +4,22 @@ ghost use Rattle.lalrpop_lexer.specs.Lines.{lines};
 ghost use Rattle.lalrpop_modes.specs.ModeSet.{rules_of};
 ghost use Rattle.lalrpop_rule_file.specs.RuleFile.{AreFileParts, AreRules, ArePlaces, NamesMode, without_mark as without_mark_of};
 ghost use Rattle.lalrpop_rule_file.specs.declared.file_rule.FileRule.{FileRule as FileRuleValue};
-ghost use Rattle.tokens_lib.specs.Answer.{Answer, headed, Refused, Reads};
+ghost use Rattle.reports_lib.specs.Answer.{Answer, headed};
+ghost use Rattle.reports_lib.specs.Reasons.{CanBeSaid, SaysBadLine, SaysRules};
+ghost use Rattle.tokens_lib.specs.FileAnswers.{Refused, Reads};
 ghost use Rattle.tokens_lib.specs.NamedRules.{StandAt, IsSetOf, AreRulesOf, LinesAnswer, RulesOf, RulesRefused, clashes_status, rules_status};
-ghost use Rattle.tokens_lib.specs.Reasons.{CanBeSaid, SaysBadLine, SaysRules};
 ghost use Rattle.tokens_lib.specs.Streams.{GivesWhole, Takes};
-ghost use Rattle.tokens_lib.specs.Warned.{Warned};
+ghost use Rattle.tokens_lib.specs.WarningsSaid.{Warned};
 ghost use Rattle.tokens_lib.specs.Internal.Faults.{NameOnly};
 
 use crate::command::Verbosity;
-use crate::file_lexer::{FileLexer, with_names};
 use crate::files::{Files, NO_TEXT, bytes_of, say_headed};
-use crate::mode_file::ModeFile;
-use crate::rule_explain::{bad_line_explained, rules_explained};
 use crate::warnings::say_warnings;
 use lalrpop_lexer::lexer::dfa::Clash;
 use lalrpop_modes::{ModeLexer, ModesError};
 use lalrpop_rule_file::{RuleFile, RuleFileError, read_rules, without_mark};
 use lexdfa_lib::{RunError, Watched};
+use reports_lib::{FileLexer, ModeFile, bad_line_explained, rules_explained, with_names};
 use std::alloc::Global;
 use std::io::Write;
 

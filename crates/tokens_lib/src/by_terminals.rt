@@ -3,16 +3,17 @@ ghost use Rattle.std.specs.Prelude.{◌≡◌, ◌≢◌, ℕ, List, Some, Ok, f
 ghost use Rattle.lalrpop_lexer.specs.Lines.{lines};
 ghost use Rattle.lexdfa_lib.specs.Answer.{HaveAutomaton, IsReported};
 ghost use Rattle.lexdfa_lib.specs.Status.{outcome_status};
-ghost use Rattle.tokens_lib.specs.Answer.{Answer, headed, Answered, Refused, Reads, Begun};
+ghost use Rattle.reports_lib.specs.Answer.{Answer, headed, Begun};
+ghost use Rattle.reports_lib.specs.Reasons.{SaysTerminals};
+ghost use Rattle.tokens_lib.specs.FileAnswers.{Answered, Refused, Reads};
 ghost use Rattle.tokens_lib.specs.Program.{IsListing, TerminalsRefused, TerminalClashesAnswer};
-ghost use Rattle.tokens_lib.specs.Reasons.{SaysTerminals};
 ghost use Rattle.tokens_lib.specs.Streams.{GivesWhole, Takes};
 
-use crate::explain::explanation;
 use crate::files::{Files, NO_TEXT, bytes_of, say_headed};
 use lalrpop_lexer::Lexer;
 use lexdfa_lib::{Outcome, RunError, Watched};
 use lines_lib::{BuildError, lexer_of, write_clashes};
+use reports_lib::explanation;
 use std::alloc::Global;
 use std::io::Write;
 

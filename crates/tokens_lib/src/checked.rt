@@ -6,19 +6,18 @@ ghost use Rattle.lalrpop_modes.specs.ModeSet.{IsModesError, rules_of};
 ghost use Rattle.lalrpop_review.specs.Review.{IsReview};
 ghost use Rattle.lalrpop_review.specs.declared.whole.Review.{Review as ReviewValue};
 ghost use Rattle.lalrpop_rules.specs.RuleSet.{names_of};
-ghost use Rattle.tokens_lib.specs.Answer.{Answer, Answered, Begun};
+ghost use Rattle.reports_lib.specs.Answer.{Answer, Begun};
+ghost use Rattle.tokens_lib.specs.FileAnswers.{Answered};
 ghost use Rattle.tokens_lib.specs.Checked.{AreToldClashes, CheckAnswer, ClashesTold, IsTold, clashes_answer, review_answer};
 ghost use Rattle.tokens_lib.specs.NamedRules.{StandAt};
 ghost use Rattle.tokens_lib.specs.Internal.Faults.{NameOnly, is_clash};
 
 use crate::by_rules::report_rules;
-use crate::layout::LineForm;
-use crate::mode_file::ModeFile;
-use crate::review_lines::{clash_report, has_findings, review_text};
 use lalrpop_lexer::lexer::dfa::Clash;
 use lalrpop_modes::{ModeLexer, ModesError, mode_clashes};
 use lalrpop_review::review;
 use lexdfa_lib::{RunError, Watched, write_whole};
+use reports_lib::{LineForm, ModeFile, clash_report, has_findings, review_text};
 use std::alloc::{AllocError, Global};
 use std::io::Write;
 

@@ -7,7 +7,7 @@ ghost use Rattle.tokens_lib.specs.declared.command.Action.{Action as AnAction};
 ghost use Rattle.tokens_lib.specs.declared.command.ArgumentsError.TheVariants.{OutOfMemory};
 
 use crate::arguments::{Parted, part};
-use crate::layout::LineForm;
+use reports_lib::LineForm;
 use std::alloc::{AllocError, Global};
 
 /// How a text is shown.

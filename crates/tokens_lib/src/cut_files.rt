@@ -4,7 +4,8 @@ ghost use Rattle.std.specs.Str.{chars, IsCharBoundary};
 ghost use Rattle.lalrpop_lexer.specs.Quoted.{told};
 ghost use Rattle.lines_lib.specs.Text.{lack_text};
 ghost use Rattle.lines_lib.specs.TokenLines.{IsStopOf};
-ghost use Rattle.tokens_lib.specs.Answer.{Answer, Answered, about, TextOf, ReadingAnswer, FileAnswer, NumberedAnswer, FilesAnswer, TextsAnswer, FirstFilesAnswer, FirstTextsAnswer, Begun};
+ghost use Rattle.reports_lib.specs.Answer.{Answer, about, Begun};
+ghost use Rattle.tokens_lib.specs.FileAnswers.{Answered, TextOf, ReadingAnswer, FileAnswer, NumberedAnswer, FilesAnswer, TextsAnswer, FirstFilesAnswer, FirstTextsAnswer};
 ghost use Rattle.tokens_lib.specs.Streams.{Takes, StreamGives};
 ghost use Rattle.tokens_lib.specs.TextAnswer.{fault_status, stop_of as stop_in, stop_text, TextTokens, TokensAnswer, cut_status as status_of_cut, cut_text as text_of_cut, PiecesAnswer, PiecesPart, PageAnswer, PagePart};
 ghost use Rattle.tokens_lib.specs.Internal.Tasks.{TaskAnswer, TaskPart, EitherAnswer, ReadAnswer, found_told};
@@ -12,18 +13,17 @@ ghost use Rattle.tokens_lib.specs.Internal.Tasks.{TaskAnswer, TaskPart, EitherAn
 use crate::command::{Markup, Verbosity};
 use crate::cut_end::CutEnd;
 use crate::fault::{fault_message, lack_message, open_message};
-use crate::file_lexer::FileLexer;
 use crate::files::{
     Files, INPUT, NO_TEXT, NoBytes, bytes_left, is_input, say, say_about, shown_name,
 };
 use crate::item_lines::{mode_name, write_items};
-use crate::layout::{Layout, LineForm};
 use crate::page::write_page;
 use crate::progress::{number_message, total_said};
 use lalrpop_lexer::{Lexer, Position};
 use lalrpop_rule_file::without_mark;
 use lexdfa_lib::{Outcome, RunError, Watched};
 use lines_lib::{TextError, write_tokens};
+use reports_lib::{FileLexer, Layout, LineForm};
 use std::alloc::{AllocError, Global};
 use std::io::{Read, Write};
 

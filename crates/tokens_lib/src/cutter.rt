@@ -6,8 +6,9 @@ ghost use Rattle.std.specs.Str.{chars, IsUtf8};
 ghost use Rattle.lalrpop_edits.specs.Chunked.{nothing_come, GivesFinal, BeginsFault, MayMatch};
 ghost use Rattle.lalrpop_edits.specs.Decoded.{nothing_decoded};
 ghost use Rattle.lalrpop_edits.specs.Given.{item_of};
+ghost use Rattle.lalrpop_lexer.specs.Position.{place_after};
 ghost use Rattle.tokens_lib.specs.OpenModes.{pushed, pushed_all};
-ghost use Rattle.tokens_lib.specs.Internal.CutTexts.{Comes, GivesCut, IsCutInto, end_by, open_place, opened_by, place_after};
+ghost use Rattle.tokens_lib.specs.Internal.CutTexts.{Comes, GivesCut, IsCutInto, end_by, open_place, opened_by};
 ghost use Rattle.tokens_lib.specs.Internal.Incoming.{IsIncoming};
 
 use crate::cut_end::{CutEnd, OpenMode};
@@ -54,26 +55,6 @@ pub(crate) enum Coming {
     NoCharacter { at: usize },
     /// Nothing: a read failed.
     Failure,
-}
-
-// The place behind a slice that begins here. None if its numbers are too large.
-fn place_behind(here: Position, slice: &str) -> Option<Position>
-    ensures utf8 { IsUtf8 slice.now }
-    ensures place { IfSome result (λ p. p ≡ place_after here slice.now) }
-{
-    let own = Position::of(slice, slice.len());
-    if own.line == 1 {
-        let column = here.column.checked_add(own.column - 1)?;
-        return Some(Position {
-            line: here.line,
-            column,
-        });
-    }
-    let line = here.line.checked_add(own.line - 1)?;
-    Some(Position {
-        line,
-        column: own.column,
-    })
 }
 
 // Notes where a token begins that pushes a mode.
@@ -191,7 +172,7 @@ impl<'rules> Cutter<'rules> {
             (reverse self.old.places.items)) }
     {
         let slice = self.incoming.chunks.slice();
-        let Some(here) = place_behind(self.here, slice) else {
+        let Some(here) = self.here.after(slice) else {
             return Err(AllocError);
         };
         let Some(at) = self.at.checked_add(slice.len()) else {

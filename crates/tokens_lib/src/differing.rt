@@ -1,15 +1,15 @@
 //! One file of named rules compared with another.
 ghost use Rattle.std.specs.Prelude.{◌≡◌, ◌≢◌, false, true, map, string_bytes, IfOk, OnOk, OnErr, IfErr};
-ghost use Rattle.tokens_lib.specs.Answer.{Answer, Answered, Begun};
+ghost use Rattle.reports_lib.specs.Answer.{Answer, Begun};
+ghost use Rattle.tokens_lib.specs.FileAnswers.{Answered};
 ghost use Rattle.tokens_lib.specs.Program.{ComparedAnswer, other_of};
 ghost use Rattle.tokens_lib.specs.Streams.{GivesWhole};
 
 use crate::by_rules::lexer_by_name;
 use crate::command::Verbosity;
-use crate::compared::write_difference;
-use crate::file_lexer::FileLexer;
 use crate::files::Files;
 use lexdfa_lib::{RunError, Watched};
+use reports_lib::{FileLexer, write_difference};
 use std::alloc::Global;
 use std::io::Write;
 

@@ -1,7 +1,8 @@
 //! The lexer of a file of rules as a source file.
 ghost use Rattle.std.specs.Prelude.{◌≡◌, ◌≢◌, false, true, string_bytes, IfOk, OnOk, OnErr, IfErr};
 ghost use Rattle.lalrpop_emit.specs.NumberedRules.{AreNumbersOf, NumberedRules};
-ghost use Rattle.tokens_lib.specs.Answer.{Answer, Answered, Begun, about};
+ghost use Rattle.reports_lib.specs.Answer.{Answer, Begun, about};
+ghost use Rattle.tokens_lib.specs.FileAnswers.{Answered};
 ghost use Rattle.tokens_lib.specs.Emitted.{IsFileError, IsNoSource, SourceAnswer, error_reason, prefix_of, source_file};
 ghost use Rattle.tokens_lib.specs.Streams.{Takes};
 

@@ -3,35 +3,14 @@
 ghost use Rattle.std.specs.Prelude.{◌≡◌, ◌++◌, codes, string_bytes, IfOk, OnOk};
 ghost use Rattle.lines_lib.specs.Text.{lack_text};
 ghost use Rattle.lines_lib.specs.TokenLines.{place_in};
-ghost use Rattle.tokens_lib.specs.Answer.{about, headed};
+ghost use Rattle.reports_lib.specs.Answer.{about};
 ghost use Rattle.tokens_lib.specs.TextAnswer.{fault_text, open_text};
 ghost use Rattle.tokens_lib.specs.Internal.Tasks.{found_told};
 
 use lalrpop_lexer::{Position, push_escaped_char};
 use lines_lib::TextError;
+use reports_lib::about;
 use std::alloc::{AllocError, Global};
-
-/// A message about a file: its name, and then this.
-///
-/// # Errors
-///
-/// `AllocError` if a request for memory was refused.
-pub(crate) fn headed(alloc: Global, file: &str, rest: &str) -> Result<String, AllocError>
-    ensures message { IfOk result (λ message. string_bytes message ≡ headed file.now rest.now) }
-{
-    format!(in alloc; "tokens: {file}:{rest}")
-}
-
-/// The line that says that a file gives no text, and why.
-///
-/// # Errors
-///
-/// `AllocError` if a request for memory was refused.
-pub(crate) fn about(alloc: Global, file: &str, reason: &str) -> Result<String, AllocError>
-    ensures message { IfOk result (λ message. string_bytes message ≡ about file.now reason.now) }
-{
-    format!(in alloc; "tokens: {file}: {reason}\n")
-}
 
 /// The line that says that a file gives no text, or that its text breaks off, and why.
 ///

@@ -1,12 +1,13 @@
 //! Files that are read by name, and what is said about them on standard error.
 ghost use Rattle.std.specs.Prelude.{◌≡◌, ℕ, List, [], false, Ok, Err, codes, IfOk, IfErr, IfSome, IfNone, OnOk, OnSome};
 ghost use Rattle.lexdfa_lib.specs.Watch.{Watch};
-ghost use Rattle.tokens_lib.specs.Answer.{about, headed, is_input, shown_name};
+ghost use Rattle.reports_lib.specs.Answer.{about, headed};
+ghost use Rattle.tokens_lib.specs.FileAnswers.{is_input, shown_name};
 ghost use Rattle.tokens_lib.specs.Streams.{Reading, AtEnd, Failed, NotOpened, GivesWhole, StreamGives, Takes, reason_told};
 ghost use Rattle.tokens_lib.specs.declared.files.NoBytes.TheVariants.{OutOfMemory};
 
-use crate::fault::{about, headed};
 use lexdfa_lib::{RunError, Watched, write_whole};
+use reports_lib::{about, headed};
 use std::alloc::{AllocError, Global};
 use std::fs::{File, OpenFile};
 use std::io::{self, Eprint, ErrorKind, Read, Write};

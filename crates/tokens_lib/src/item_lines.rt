@@ -1,16 +1,16 @@
 //! The lines of the pieces of a text, written as they come.
 ghost use Rattle.std.specs.Prelude.{◌≡◌, ◌≢◌, false, true, IfOk, OnOk, OnErr, IfErr};
-ghost use Rattle.tokens_lib.specs.ItemLines.{WritesItems, WritesItemsPart};
+ghost use Rattle.tokens_lib.specs.ItemsWritten.{WritesItems, WritesItemsPart};
 ghost use Rattle.tokens_lib.specs.Streams.{Reading, StreamGives};
 
 use crate::cut_end::CutEnd;
-use crate::layout::Layout;
 use crate::pieces::write_pieces;
 pub(crate) use crate::sheet::mode_name;
 use crate::sheet::{Form, Sheet};
 use lalrpop_modes::ModeLexer;
 use lexdfa_lib::{RunError, Watched};
 use lines_lib::TextError;
+use reports_lib::Layout;
 use std::alloc::Global;
 use std::io::{Read, Write};
 

@@ -3,7 +3,8 @@ ghost use Rattle.std.specs.Prelude.{◌≡◌, ◌≢◌, ◌<◌, ℕ, List, le
 ghost use Rattle.lalrpop_lexer.specs.Lines.{lines};
 ghost use Rattle.lalrpop_rule_file.specs.RuleFile.{AreFileParts, AreRules, ArePlaces, NamesMode, without_mark as without_mark_of};
 ghost use Rattle.lalrpop_rule_file.specs.declared.file_rule.FileRule.{FileRule as FileRuleValue};
-ghost use Rattle.tokens_lib.specs.Answer.{Answer, Answered, Reads, Begun};
+ghost use Rattle.reports_lib.specs.Answer.{Answer, Begun};
+ghost use Rattle.tokens_lib.specs.FileAnswers.{Answered, Reads};
 ghost use Rattle.tokens_lib.specs.NamedRules.{StandAt, LinesAnswer, RulesTold, ClashesAnswer, clashes_status};
 ghost use Rattle.tokens_lib.specs.Internal.Faults.{NameOnly};
 ghost use Rattle.tokens_lib.specs.Internal.Listings.{ListingAnswer, told_first, first_status};
@@ -14,13 +15,11 @@ use crate::checked::check_rules;
 use crate::command::Verbosity;
 use crate::cut_files::worse;
 use crate::files::{Files, NO_TEXT, bytes_of};
-use crate::layout::LineForm;
-use crate::mode_file::ModeFile;
-use crate::named_clashes::write_rule_clashes;
 use crate::warnings::say_warnings;
 use lalrpop_modes::mode_clashes;
 use lalrpop_rule_file::{RuleFile, read_rules, without_mark};
 use lexdfa_lib::{RunError, Watched};
+use reports_lib::{LineForm, ModeFile, write_rule_clashes};
 use std::alloc::Global;
 use std::io::Write;
 

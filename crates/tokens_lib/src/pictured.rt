@@ -3,7 +3,8 @@ ghost use Rattle.std.specs.Prelude.{◌≡◌, ◌≢◌, ◌<◌, ◌∷◌, []
 ghost use Rattle.std.specs.List.{zip};
 ghost use Rattle.lalrpop_dfa.specs.Dfa.{Row};
 ghost use Rattle.lalrpop_verdicts.specs.Picture.{dot};
-ghost use Rattle.tokens_lib.specs.Answer.{Answer, Answered, Begun, about};
+ghost use Rattle.reports_lib.specs.Answer.{Answer, Begun, about};
+ghost use Rattle.tokens_lib.specs.FileAnswers.{Answered};
 ghost use Rattle.tokens_lib.specs.Command.{has};
 ghost use Rattle.tokens_lib.specs.Pictured.{ArePictures, AreRulePictures, IsDrawn, IsMissing, IsSmallestIn, IsSmallestOf, PictureAnswer, no_rule};
 ghost use Rattle.tokens_lib.specs.Streams.{Takes};

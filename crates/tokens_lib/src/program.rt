@@ -3,7 +3,8 @@ ghost use Rattle.std.specs.Prelude.{◌≡◌, ◌≢◌, ◌≤◌, false, true
 ghost use Rattle.std.specs.Io.KnownBytes.{Appends};
 ghost use Rattle.std.specs.Process.{exit_status};
 ghost use Rattle.lexdfa_lib.specs.Watch.{AppendsPrefix};
-ghost use Rattle.tokens_lib.specs.Answer.{Answer, Answered, TextsAnswer, FirstTextsAnswer, Begun};
+ghost use Rattle.reports_lib.specs.Answer.{Answer, Begun};
+ghost use Rattle.tokens_lib.specs.FileAnswers.{Answered, TextsAnswer, FirstTextsAnswer};
 ghost use Rattle.tokens_lib.specs.Program.{ActionAnswer, CommandAnswer, IsAnswer, IsFirstAnswer, failure_text};
 ghost use Rattle.tokens_lib.specs.Progress.{reading_text};
 ghost use Rattle.tokens_lib.specs.Streams.{GivesWhole, StreamGives, Takes};

@@ -1,18 +1,15 @@
 //! What is written for the pieces of a text.
 ghost use Rattle.std.specs.Prelude.{◌≡◌, ◌++◌, ◌+◌, ◌≤◌, ℕ, List, [], length, map, option_map, string_bytes, OnOk};
 ghost use Rattle.lalrpop_rules.specs.Pieces.{slice_of, start_of};
-ghost use Rattle.tokens_lib.specs.ItemLines.{line_in, name_at, mode_named as mode_named_of};
+ghost use Rattle.reports_lib.specs.ItemLines.{line_in, name_at, mode_named as mode_named_of};
 ghost use Rattle.tokens_lib.specs.Internal.CutTexts.{goes_on, line_here, piece_shown};
 
-use crate::json_line::push_json;
-use crate::layout::{Layout, LineForm};
-use crate::plain_line::push_plain;
-use crate::shown::Shown;
 use lalrpop_lexer::Position;
 use lalrpop_lexer::lexer::dfa::NfaIndex;
 use lalrpop_markup::{Painter, push_html};
 use lalrpop_modes::ModeLexer;
 use lalrpop_rules::Item;
+use reports_lib::{Layout, LineForm, Shown, push_json, push_plain};
 use std::alloc::{AllocError, Global};
 
 /// What is written for the pieces of a text.

@@ -1,139 +1,15 @@
-//! What is said of what a file of rules says, but surely doesn't mean.
-ghost use Rattle.std.specs.Prelude.{◌≡◌, ℕ, List, map, string_bytes, IfOk, IfErr, OnOk};
-ghost use Rattle.tokens_lib.specs.ItemLines.{name_at};
-ghost use Rattle.tokens_lib.specs.Reasons.{place_at};
+//! Whether the warnings about a file of rules are said.
+ghost use Rattle.std.specs.Prelude.{◌≡◌, ℕ, List, string_bytes, IfOk, IfErr};
 ghost use Rattle.tokens_lib.specs.Streams.{Takes};
-ghost use Rattle.tokens_lib.specs.Warned.{SaysIfAsked, SaysWarnings, is_said, text_place, warned_at, warned_of, warning_line};
+ghost use Rattle.tokens_lib.specs.WarningsSaid.{SaysIfAsked, is_said};
 
 use crate::command::Verbosity;
 use crate::files::say;
-use lalrpop_lexer::Position;
-use lalrpop_rule_file::{FileRule, PartLine, RuleFile, Warning};
+use lalrpop_rule_file::RuleFile;
 use lexdfa_lib::{RunError, Watched};
+use reports_lib::warnings_message;
 use std::alloc::{AllocError, Global};
 use std::io::Write;
-
-// A place for a number that no part and no rule has.
-const NO_PLACE: Position = Position { line: 1, column: 1 };
-
-// A warning about the whole file.
-fn warned_of(alloc: Global, name: &str, words: &str) -> Result<String, AllocError>
-    ensures { IfOk result (λ line. string_bytes line ≡ warned_of name.now words.now) }
-{
-    format!(in alloc; "tokens: {name}: warning: {words}\n")
-}
-
-// A warning about a place in it.
-fn warned_at(alloc: Global, name: &str, place: Position, words: &str) -> Result<String, AllocError>
-    ensures { IfOk result (λ line. string_bytes line ≡ warned_at name.now place words.now) }
-{
-    let Position { line, column } = place;
-    format!(in alloc; "tokens: {name}:{line}:{column}: warning: {words}\n")
-}
-
-// The name of the part with this index.
-fn part_name<'text>(parts: &[PartLine<'text>], part: usize) -> &'text str
-    ensures { result.now ≡ name_at (map (λ p. p.name.now) parts.now) part }
-{
-    match parts.get(part) {
-        Some(line) => line.name,
-        None => "",
-    }
-}
-
-// Where its line begins the name.
-fn part_place(parts: &[PartLine<'_>], part: usize) -> Position
-    ensures { result ≡ place_at (map (λ p. p.place) parts.now) part }
-{
-    match parts.get(part) {
-        Some(line) => line.place,
-        None => NO_PLACE,
-    }
-}
-
-// The name of the mode with this number.
-fn mode_name<'text>(modes: &[&'text str], mode: usize) -> &'text str
-    ensures { result.now ≡ name_at (map (λ name. name.now) modes.now) mode }
-{
-    match modes.get(mode) {
-        Some(name) => *name,
-        None => "",
-    }
-}
-
-// Where the text of the rule with this index begins.
-fn text_place(rules: &[FileRule<'_>], rule: usize) -> Position
-    ensures { result ≡ place_at (map (λ r. r.place) rules.now) rule }
-{
-    match rules.get(rule) {
-        Some(rule) => rule.place,
-        None => NO_PLACE,
-    }
-}
-
-// The line of a warning.
-fn warning_line(
-    alloc: Global,
-    name: &str,
-    file: &RuleFile<'_>,
-    warning: Warning,
-) -> Result<String, AllocError>
-    ensures { IfOk result (λ line. string_bytes line ≡ warning_line name.now file.now warning) }
-{
-    match warning {
-        Warning::NoRules => warned_of(
-            alloc,
-            name,
-            "there is no rule in this file: a rule is a line NAME = 'TEXT' or NAME = /PATTERN/",
-        ),
-        Warning::PartUnused { part } => {
-            let unused = part_name(&file.part_lines, part);
-            let place = part_place(&file.part_lines, part);
-            let words = format!(in alloc; "no pattern below uses the part {{{unused}}}")?;
-            warned_at(alloc, name, place, words.as_str())
-        }
-        Warning::ModeNotEntered { mode } => {
-            let mode = mode_name(&file.modes, mode);
-            let words = format!(in alloc; "no rule enters the mode {mode}")?;
-            warned_of(alloc, name, words.as_str())
-        }
-        Warning::LiteralEmpty { rule } => {
-            let place = text_place(&file.rules, rule);
-            warned_at(alloc, name, place, "this literal is empty, and no token is")
-        }
-    }
-}
-
-/// What the program says of what a file of rules says, but surely doesn't mean (`RuleFile::warnings`): a line for each warning,
-/// with the file's name, and the line and the column, both from 1, if the warning is about a place. It is empty if there is no
-/// warning.
-///
-/// ```
-/// use tokens_lib::{read_rules, warnings_message};
-///
-/// let file = read_rules(alloc, b"A = ''\n")?;
-/// let message = warnings_message(alloc, "c.rules", &file)?; // "tokens: c.rules:1:6: warning: this literal is empty, and no token is\n"
-/// ```
-///
-/// # Errors
-///
-/// `AllocError` if a request for memory was refused.
-pub fn warnings_message(
-    alloc: Global,
-    name: &str,
-    file: &RuleFile<'_>,
-) -> Result<String, AllocError>
-    ensures message { IfOk result (λ message.
-        SaysWarnings name.now file.now (string_bytes message)) }
-{
-    let warnings = file.warnings(alloc)?;
-    let mut message = String::new(alloc);
-    for warning in &warnings {
-        let line = warning_line(alloc, name, file, *warning)?;
-        message.push_str(line.as_str())?;
-    }
-    Ok(message)
-}
 
 // The warnings, if they are to be said.
 fn warnings_said(

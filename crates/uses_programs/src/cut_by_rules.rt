@@ -10,7 +10,8 @@ ghost use Rattle.lalrpop_rule_file.specs.RuleFile.{without_mark};
 ghost use Rattle.lalrpop_rules.specs.RuleSet.{names_of};
 ghost use Rattle.lalrpop_rules.specs.declared.item.Item.{Item};
 ghost use Rattle.lexdfa_lib.specs.Watch.{AppendsPrefix};
-ghost use Rattle.tokens_lib.specs.ItemLines.{WritesItems, WritesItemsPart, item_lines};
+ghost use Rattle.tokens_lib.specs.ItemLines.{item_lines};
+ghost use Rattle.tokens_lib.specs.ItemsWritten.{WritesItems, WritesItemsPart};
 ghost use Rattle.tokens_lib.specs.RuleClashes.{clash_lines};
 ghost use Rattle.tokens_lib.specs.Streams.{AtEnd, Reading, StreamGives};
 

@@ -4,10 +4,10 @@ use Rattle.lalrpop_book.specs.Clashes.{Entry}
 use Rattle.lalrpop_lexer.specs.declared.position.Position.{Position}
 use Rattle.lalrpop_modes.specs.declared.mode_rule.ModeRule.{ModeRule}
 use Rattle.lalrpop_review.specs.declared.whole.Review.{Review}
-use Rattle.tokens_lib.specs.Answer.{Answer, silence}
+use Rattle.reports_lib.specs.Answer.{Answer, silence}
+use Rattle.reports_lib.specs.ReviewLines.{has_findings}
+use Rattle.reports_lib.specs.declared.layout.LineForm.{LineForm}
 use Rattle.tokens_lib.specs.Checked.{finding, clashes_answer, review_answer, ReviewTold}
-use Rattle.tokens_lib.specs.ReviewLines.{has_findings}
-use Rattle.tokens_lib.specs.declared.layout.LineForm.{LineForm}
 
 -- what is said counts; nothing said is nothing found
 said_or_not : ((finding (codes "a")).status ≡ 1) × ((finding (codes "a")).err ≡ codes "a") × (finding [] ≡ silence)

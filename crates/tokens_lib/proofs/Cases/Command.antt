@@ -2,6 +2,7 @@
 use Rattle.std.proofs.Common.{◌≡◌, ◌≢◌, ℕ, ◌<◌, ◌≤◌, true, false, List, [], ◌∷◌, codes, length, refl, sym, ap, subst, inl, inr, arith}
 use Rattle.std.specs.Prelude.{Some, None, IfSome, ◌⊎◌}
 use Rattle.std.proofs.lemmas.Option.{slice_get_within}
+use Rattle.reports_lib.specs.declared.layout.LineForm.TheVariants.{Plain, Json}
 use Rattle.tokens_lib.specs.Command.{given, unknown, options_of, verbosity_of, most_names, TakesNames, IsFilesError, IsCommand, IsArgumentsError}
 use Rattle.tokens_lib.specs.declared.command.Action.{Action}
 use Rattle.tokens_lib.specs.declared.command.Action.TheVariants.{Cut, Show, CutByTerminals, Clashes, TerminalClashes, Emit, Picture, Check, Difference}
@@ -11,7 +12,6 @@ use Rattle.tokens_lib.specs.declared.command.Command.TheVariants.{Help, Version}
 use Rattle.tokens_lib.specs.declared.command.Language.TheVariants.{C, Rust}
 use Rattle.tokens_lib.specs.declared.command.Markup.TheVariants.{Html, Ansi}
 use Rattle.tokens_lib.specs.declared.command.Verbosity.TheVariants.{Quiet, Warnings, Progress}
-use Rattle.tokens_lib.specs.declared.layout.LineForm.TheVariants.{Plain, Json}
 
 -- a set of options: neither order nor number matters
 a_set : given (codes "--places" ∷ codes "--lines" ∷ codes "--places" ∷ []) ≡ options_of (CutByTerminals true)

@@ -5,10 +5,8 @@ use Rattle.lalrpop_book.specs.Clashes.{Entry}
 use Rattle.lalrpop_book.specs.declared.error.NfaConstructionError.TheVariants.{LookAround}
 use Rattle.lalrpop_modes.specs.declared.error.ModesError.TheVariants.{NotCompiled, OutOfMemory}
 use Rattle.lalrpop_modes.specs.declared.mode_rule.ModeRule.{ModeRule}
-use Rattle.lalrpop_rule_file.specs.declared.file_rule.FileRule.{FileRule}
-use Rattle.lalrpop_rules.specs.declared.rule.Rule.{Rule}
-use Rattle.tokens_lib.specs.Answer.{Answer, refusal, remark}
-use Rattle.tokens_lib.specs.NamedRules.{rules_status, AreFileRules, ErrorAnswer, clashes_status, WarnedAnswer}
+use Rattle.reports_lib.specs.Answer.{Answer, refusal, remark}
+use Rattle.tokens_lib.specs.NamedRules.{rules_status, ErrorAnswer, clashes_status, WarnedAnswer}
 use Rattle.tokens_lib.specs.declared.command.Verbosity.{Verbosity}
 use Rattle.tokens_lib.specs.declared.command.Verbosity.TheVariants.{Quiet}
 
@@ -19,13 +17,6 @@ refused = refl
 -- no clash in two modes, and one in the second
 statuses : (c : Entry) → (clashes_status ([] ∷ [] ∷ []) ≡ 0) × (clashes_status ([] ∷ (c ∷ []) ∷ []) ≡ 2)
 statuses c = (refl, refl)
-
--- a rule of a file, as a lexer takes it
-same_name : (f : FileRule) (q : ModeRule) → AreFileRules [] (f ∷ []) (q ∷ []) → q.rule.name ≡ f.rule.name
-same_name f q are = ap (λ (r : Rule). r.name) are.rules.0.rule
-
-no_rule_too_many : (q : ModeRule) → ¬ AreFileRules [] [] (q ∷ [])
-no_rule_too_many q are = are.rules
 
 -- memory that was refused is no error of the rules that is told
 memory_is_not_told : (file : List ℕ) (ls modes : List (List ℕ)) (rs : List ModeRule) (answer : Answer) → ¬ ErrorAnswer file ls modes rs OutOfMemory answer

@@ -6,7 +6,7 @@ use Rattle.lalrpop_book.specs.Tree.{Tree}
 use Rattle.lalrpop_dfa.specs.Dfa.{Row}
 use Rattle.lalrpop_modes.specs.Modes.{ModeRules}
 use Rattle.lalrpop_verdicts.specs.Smallest.{IsSmallest}
-use Rattle.tokens_lib.specs.Answer.{Answer, refusal}
+use Rattle.reports_lib.specs.Answer.{Answer, refusal}
 use Rattle.tokens_lib.specs.Command.{has}
 use Rattle.tokens_lib.specs.Pictured.{AreRulePictures, AreSmallest, IsDrawn, IsMissing, IsSmallestIn, IsSmallestOf, PictureAnswer, trees_named}
 

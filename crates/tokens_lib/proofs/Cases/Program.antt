@@ -5,7 +5,8 @@ use Rattle.lalrpop_modes.specs.Modes.{ModeRules}
 use Rattle.lexdfa_lib.specs.declared.ending.Failure.TheVariants.{Usage, Run as Failing}
 use Rattle.lexdfa_lib.specs.declared.error.RunError.TheVariants.{Read, Write}
 use Rattle.lexdfa_lib.specs.declared.outcome.Outcome.TheVariants.{Ambiguous, Line}
-use Rattle.tokens_lib.specs.Answer.{Answer, refusal, about}
+use Rattle.reports_lib.specs.Answer.{Answer, refusal, about}
+use Rattle.reports_lib.specs.declared.layout.LineForm.TheVariants.{Plain}
 use Rattle.tokens_lib.specs.Command.{IsCommand}
 use Rattle.tokens_lib.specs.Program.{reported_status, IsListing, failure_text, information, IsFirstAnswer, other_of, ComparedAnswer}
 use Rattle.tokens_lib.specs.Streams.{Given, Reading, NotOpened}
@@ -15,7 +16,6 @@ use Rattle.tokens_lib.specs.declared.command.Action.TheVariants.{Cut}
 use Rattle.tokens_lib.specs.declared.command.Command.TheVariants.{Help, Version, Run}
 use Rattle.tokens_lib.specs.declared.command.Verbosity.{Verbosity}
 use Rattle.tokens_lib.specs.declared.command.Verbosity.TheVariants.{Progress}
-use Rattle.tokens_lib.specs.declared.layout.LineForm.TheVariants.{Plain}
 
 -- terminals that make a lexer, and a bad line
 reports : (reported_status None ≡ 0) × (reported_status (Some (Line 2)) ≡ 3)

@@ -8,7 +8,7 @@ use Rattle.ucd_derived.specs.DefaultIgnorableCodePointRanges.{default_ignorable_
 use Rattle.lalrpop_lexer.specs.Quoted.{told}
 use Rattle.lexdfa_lib.specs.declared.outcome.Outcome.TheVariants.{All, Stopped as StoppedTokens}
 use Rattle.lines_lib.specs.declared.text.TextError.TheVariants.{NotText, Read}
-use Rattle.tokens_lib.specs.Answer.{Answer, refusal}
+use Rattle.reports_lib.specs.Answer.{Answer, refusal}
 use Rattle.tokens_lib.specs.Streams.{Failed, LeftOff}
 use Rattle.tokens_lib.specs.TextAnswer.{fault_text, open_text, stop_text, fault_status, stop_of, WholeAnswer, cut_status, cut_text}
 use Rattle.tokens_lib.specs.declared.cut_end.CutEnd.TheVariants.{Whole, Stopped, Broken}

@@ -3,7 +3,7 @@ use Rattle.std.specs.Prelude.{◌≡◌, ℕ, ◌+◌, ◌-◌, ◌==◌, ◌≤
 use Rattle.std.specs.Io.KnownBytes.{Appends, Consumes}
 use Rattle.std.specs.Str.{chars, IsUtf8}
 use Rattle.lalrpop_edits.specs.Chunked.{Chunked, GivesFinal, Came, IsHeldBack, BeginsFault, MayMatch}
-use Rattle.lalrpop_lexer.specs.Position.{position_of, place_behind}
+use Rattle.lalrpop_lexer.specs.Position.{place_after, position_of}
 use Rattle.lalrpop_lexer.specs.declared.position.Position.{Position}
 use Rattle.lalrpop_markup.specs.Markup.{marked}
 use Rattle.lalrpop_markup.specs.Terminal.{painted}
@@ -14,8 +14,9 @@ use Rattle.lalrpop_rules.specs.Pieces.{joined, slice_of, start_of}
 use Rattle.lalrpop_rules.specs.declared.item.Item.{Item}
 use Rattle.lalrpop_rules.specs.declared.item.Item.TheVariants.{Token, Skipped, Fault}
 use Rattle.lexdfa_lib.specs.Watch.{AppendsPrefix}
+use Rattle.reports_lib.specs.ItemLines.{line_in, mode_named, name_at}
+use Rattle.reports_lib.specs.declared.layout.LineForm.{LineForm}
 use Rattle.tokens_lib.specs.CutEnds.{BreaksOff, first_fault, AreGiven, IsCutTo, IsTextOf, BeginsWith}
-use Rattle.tokens_lib.specs.ItemLines.{line_in, mode_named, name_at}
 use Rattle.tokens_lib.specs.OpenModes.{open_behind, pushed_all}
 use Rattle.tokens_lib.specs.Streams.{Reading, ReadEnd, AtEnd, Failed, EndsReading}
 use Rattle.tokens_lib.specs.Internal.Incoming.{IsIncoming}
@@ -27,21 +28,11 @@ use Rattle.tokens_lib.specs.declared.cut_end.OpenMode.{OpenMode}
 use Rattle.tokens_lib.specs.declared.cutter.Coming.{Coming}
 use Rattle.tokens_lib.specs.declared.cutter.Coming.TheVariants.{More, Nothing, NoCharacter, Failure}
 use Rattle.tokens_lib.specs.declared.cutter.Cutter.{Cutter}
-use Rattle.tokens_lib.specs.declared.layout.LineForm.{LineForm}
 use Rattle.tokens_lib.specs.declared.sheet.Form.{Form}
 use Rattle.tokens_lib.specs.declared.sheet.Form.TheVariants.{Lines, Html, Ansi}
 use Rattle.lines_lib.specs.declared.text.TextError.TheVariants.{NotText, Read}
 
 -- ---- places
-
--- the second place, counted from the first one
-abbrev pub moved : Position → Position → Position
-moved p q =
-    if q.line == 1 then record { line = p.line; column = p.column + (q.column - 1) } else record { line = p.line + (q.line - 1); column = q.column }
-
--- the place behind a slice that begins at a place
-abbrev pub place_after : Position → List ℕ → Position
-place_after p slice = moved p (place_behind (chars slice))
 
 -- where the modes were entered that have one below them, after a piece that begins here
 abbrev pub opened_after : List (List Action) → Position → Item → List Position → List Position

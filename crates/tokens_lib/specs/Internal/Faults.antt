@@ -1,10 +1,9 @@
--- The first fault of a text, and the modes and names of rules.
-use Rattle.std.specs.Prelude.{◌≡◌, ◌<◌, ℕ, Bool, true, false, List, [], Option, Some, None, option_map, slice_get, unwrap_or}
+-- The first fault of a text, and the modes of rules.
+use Rattle.std.specs.Prelude.{◌≡◌, ◌<◌, ℕ, Bool, true, false, List, Option, Some, None, slice_get}
 use Rattle.lalrpop_modes.specs.ModeSet.{NamesMode}
 use Rattle.lalrpop_modes.specs.declared.error.ModesError.{ModesError}
 use Rattle.lalrpop_modes.specs.declared.error.ModesError.TheVariants.{Clash}
 use Rattle.lalrpop_modes.specs.declared.mode_rule.ModeRule.{ModeRule}
-use Rattle.lalrpop_rules.specs.declared.rule.Rule.{Rule}
 use Rattle.lalrpop_rules.specs.declared.item.Item.{Item}
 use Rattle.lalrpop_rules.specs.declared.item.Item.TheVariants.{Fault}
 
@@ -22,7 +21,3 @@ is_clash error = false
 -- the rules name only modes that are there
 abbrev pub NameOnly : List ModeRule → ℕ → Type 0
 NameOnly rs modes = (i m : ℕ) (q : ModeRule) → slice_get rs i ≡ Some q → NamesMode q m → m < modes
-
--- the name of the rule that has this index, if there is one
-abbrev pub name_found : List Rule → ℕ → List ℕ
-name_found rs i = unwrap_or (option_map (λ (r : Rule). r.name.now) (slice_get rs i)) []

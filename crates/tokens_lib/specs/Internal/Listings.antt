@@ -1,10 +1,10 @@
 -- What is listed of a file of named rules.
 use Rattle.std.specs.Prelude.{ℕ, Bool, List, if◌then◌else◌}
 use Rattle.lalrpop_modes.specs.declared.mode_rule.ModeRule.{ModeRule}
-use Rattle.tokens_lib.specs.Answer.{Answer, refusal}
+use Rattle.reports_lib.specs.Answer.{Answer, refusal}
 use Rattle.tokens_lib.specs.Checked.{CheckAnswer}
 use Rattle.tokens_lib.specs.NamedRules.{ClashesAnswer}
-use Rattle.tokens_lib.specs.Warned.{is_said}
+use Rattle.tokens_lib.specs.WarningsSaid.{is_said}
 use Rattle.tokens_lib.specs.declared.listing.Listing.{Listing}
 use Rattle.tokens_lib.specs.declared.listing.Listing.TheVariants.{Clashes, Review}
 

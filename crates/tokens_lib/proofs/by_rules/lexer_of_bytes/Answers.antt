@@ -1,9 +1,9 @@
 use Rattle.std.proofs.Common.{inl, inr, refl}
-use Rattle.tokens_lib.specs.Answer.{headed, refusal}
 use Rattle.lalrpop_lexer.specs.Lines.{lines}
 use Rattle.lalrpop_rule_file.specs.RuleFile.{without_mark}
+use Rattle.reports_lib.specs.Answer.{headed, refusal}
 use Rattle.tokens_lib.specs.NamedRules.{LinesAnswer, RulesRefused, RulesOf}
-use Rattle.tokens_lib.specs.Warned.{IsFileOf}
+use Rattle.tokens_lib.specs.WarningsSaid.{IsFileOf}
 use Rattle.tokens_lib.proofs.AnswerLaws.{refused_behind, refused_weaker}
 use Rattle.tokens_lib.proofs.ProgramLaws.{warned_alone}
 use Rattle.tokens_lib.proofs.by_rules.lexer_of_bytes.Goals as goal

@@ -1,7 +1,7 @@
 use Rattle.std.proofs.Common.{ℕ, length, map, refl, sym, subst, ◌∙◌, arith}
 use Rattle.std.proofs.lemmas.List.{length-map}
 use Rattle.lalrpop_modes.specs.ModeSet.{AreModeRules, IsModesError}
-use Rattle.tokens_lib.specs.Answer.{headed, refusal}
+use Rattle.reports_lib.specs.Answer.{headed, refusal}
 use Rattle.tokens_lib.specs.NamedRules.{IsSetOf, rules_status}
 use Rattle.tokens_lib.specs.Internal.Faults.{NameOnly}
 use Rattle.tokens_lib.proofs.Refusals.{error_said}

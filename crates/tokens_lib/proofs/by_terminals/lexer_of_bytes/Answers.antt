@@ -1,6 +1,6 @@
 use Rattle.std.proofs.Common.{refl}
 use Rattle.lexdfa_lib.specs.Status.{outcome_status}
-use Rattle.tokens_lib.specs.Answer.{headed, refusal}
+use Rattle.reports_lib.specs.Answer.{headed, refusal}
 use Rattle.tokens_lib.proofs.by_terminals.lexer_of_bytes.Goals as goal
 
 pub returns-in_ok-report-in-Err-Reported-clause-refused : goal.returns-in_ok-report-in-Err-Reported-clause-refused

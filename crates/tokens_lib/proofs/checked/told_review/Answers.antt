@@ -1,5 +1,5 @@
 use Rattle.std.proofs.Common.{◌≡◌, ◌∙◌, ℕ, Bool, List, [], ap, if◌then◌else◌}
-use Rattle.tokens_lib.specs.Answer.{Answer}
+use Rattle.reports_lib.specs.Answer.{Answer}
 use Rattle.tokens_lib.proofs.checked.told_review.Goals as goal
 
 abbrev answer_of : ℕ → List ℕ → Answer

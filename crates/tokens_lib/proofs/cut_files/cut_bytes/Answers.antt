@@ -1,7 +1,8 @@
 use Rattle.std.proofs.Common.{◌≡◌, inl, inr, refl, sym, ap, subst, ◌∙◌, ℕ, List}
 use Rattle.std.specs.Str.{IsUtf8, IsValidUpTo}
 use Rattle.std.proofs.lemmas.Result.{IfOk-weaker}
-use Rattle.tokens_lib.specs.Answer.{about, TextOf}
+use Rattle.reports_lib.specs.Answer.{about}
+use Rattle.tokens_lib.specs.FileAnswers.{TextOf}
 use Rattle.tokens_lib.specs.TextAnswer.{TextTokens}
 use Rattle.lalrpop_rule_file.specs.RuleFile.{without_mark}
 use Rattle.lines_lib.specs.Text.{lack_text}

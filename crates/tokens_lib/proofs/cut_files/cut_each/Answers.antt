@@ -1,5 +1,6 @@
 use Rattle.std.proofs.Common.{ℕ, ◌+◌, List, [], Bor, get_or, refl, ◌∙◌}
-use Rattle.tokens_lib.specs.Answer.{followed, ReadingAnswer, NumberedAnswer}
+use Rattle.reports_lib.specs.Answer.{followed}
+use Rattle.tokens_lib.specs.FileAnswers.{ReadingAnswer, NumberedAnswer}
 use Rattle.tokens_lib.specs.Internal.Tasks.{TaskAnswer, TaskPart}
 use Rattle.tokens_lib.specs.Streams.{StreamGives}
 use Rattle.tokens_lib.proofs.AnswerLaws.{files_more, Answered-again}

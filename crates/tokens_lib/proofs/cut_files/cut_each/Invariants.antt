@@ -1,5 +1,6 @@
 use Rattle.std.proofs.Common.{◌≡◌, false, map, take}
-use Rattle.tokens_lib.specs.Answer.{Answer, Answered, ReadingAnswer, FilesAnswer, NumberedAnswer}
+use Rattle.reports_lib.specs.Answer.{Answer}
+use Rattle.tokens_lib.specs.FileAnswers.{Answered, ReadingAnswer, FilesAnswer, NumberedAnswer}
 use Rattle.tokens_lib.specs.Internal.Tasks.{TaskAnswer}
 use Rattle.tokens_lib.specs.Streams.{StreamGives}
 use Rattle.tokens_lib.proofs.cut_files.cut_each.Given as goal

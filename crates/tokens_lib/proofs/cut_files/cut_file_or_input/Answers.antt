@@ -1,7 +1,7 @@
 use Rattle.std.proofs.Common.{sym, ◌∙◌}
 use Rattle.std.specs.Prelude.{codes}
 use Rattle.std.proofs.lemmas.Result.{IfOk-weaker, on_err_weaker}
-use Rattle.tokens_lib.specs.Answer.{ReadingAnswer}
+use Rattle.tokens_lib.specs.FileAnswers.{ReadingAnswer}
 use Rattle.tokens_lib.specs.Internal.Tasks.{TaskAnswer, TaskPart, EitherAnswer}
 use Rattle.tokens_lib.specs.Streams.{StreamGives}
 use Rattle.tokens_lib.proofs.AnswerLaws.{from_input, from_file, file_answered}

@@ -1,4 +1,4 @@
-use Rattle.tokens_lib.specs.Answer.{ReadingAnswer, FileAnswer, shown_name}
+use Rattle.tokens_lib.specs.FileAnswers.{ReadingAnswer, FileAnswer, shown_name}
 use Rattle.tokens_lib.specs.Internal.Tasks.{TaskAnswer, TaskPart, EitherAnswer}
 use Rattle.tokens_lib.specs.Progress.{number_text}
 use Rattle.tokens_lib.specs.Streams.{StreamGives}

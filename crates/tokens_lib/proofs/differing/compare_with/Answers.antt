@@ -1,5 +1,5 @@
 use Rattle.std.proofs.Common.{map, string_bytes}
-use Rattle.tokens_lib.specs.Compared.{DifferenceAnswer}
+use Rattle.reports_lib.specs.Compared.{DifferenceAnswer}
 use Rattle.tokens_lib.proofs.AnswerLaws.{Answered-refused}
 use Rattle.tokens_lib.proofs.BegunLaws.{lexer_begun}
 use Rattle.tokens_lib.proofs.ProgramLaws.{differences_answered, lexer_answered, rules_refused}

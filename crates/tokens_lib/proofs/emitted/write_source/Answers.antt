@@ -7,7 +7,8 @@ use Rattle.lalrpop_emit.specs.declared.error.EmitError.TheVariants as emit
 use Rattle.lalrpop_modes.specs.Modes.{ModeRules}
 use Rattle.lexdfa_lib.specs.Watch.{Watch, AppendsPrefix}
 use Rattle.lexdfa_lib.specs.declared.error.RunError.{RunError}
-use Rattle.tokens_lib.specs.Answer.{Answer, Answered, Begun, refusal, about}
+use Rattle.reports_lib.specs.Answer.{Answer, Begun, refusal, about}
+use Rattle.tokens_lib.specs.FileAnswers.{Answered}
 use Rattle.tokens_lib.specs.Emitted.{IsNoSource, SourceAnswer, error_reason, source_file}
 use Rattle.tokens_lib.specs.Streams.{Takes}
 use Rattle.tokens_lib.specs.declared.command.Language.{Language}

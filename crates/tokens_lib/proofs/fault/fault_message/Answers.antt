@@ -1,6 +1,6 @@
 use Rattle.std.proofs.Common.{codes}
+use Rattle.reports_lib.proofs.Pushes.{six_pushed}
 use Rattle.tokens_lib.specs.Internal.Tasks.{found_told}
-use Rattle.tokens_lib.proofs.Pushes.{six_pushed}
 use Rattle.tokens_lib.proofs.fault.fault_message.Goals as goal
 
 pub returns : goal.returns

@@ -5,9 +5,9 @@ use Rattle.lalrpop_modes.specs.ModeClashes.{AreModeClashes, IsModesFault}
 use Rattle.lalrpop_modes.specs.ModeSet.{AreModeRules, rules_of}
 use Rattle.lalrpop_modes.specs.Modes.{ModeRules}
 use Rattle.lalrpop_rules.specs.RuleSet.{names_of}
-use Rattle.tokens_lib.specs.Answer.{headed, refusal}
+use Rattle.reports_lib.specs.Answer.{headed, refusal}
+use Rattle.reports_lib.specs.RuleClashes.{clash_lines}
 use Rattle.tokens_lib.specs.NamedRules.{rules_status, clashes_status}
-use Rattle.tokens_lib.specs.RuleClashes.{clash_lines}
 use Rattle.tokens_lib.proofs.AnswerLaws.{Answered-refused, TakesBy-none, ok_and}
 use Rattle.tokens_lib.proofs.BegunLaws.{begun_by_write}
 use Rattle.lines_lib.proofs.Sending.{at_any_error}

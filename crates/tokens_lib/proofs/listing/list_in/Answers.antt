@@ -4,9 +4,9 @@ use Rattle.lines_lib.proofs.Sending.{at_any_error}
 use Rattle.std.proofs.lemmas.Result.{IfOk-weaker}
 use Rattle.lalrpop_lexer.specs.Lines.{lines}
 use Rattle.lalrpop_rule_file.specs.RuleFile.{without_mark}
-use Rattle.tokens_lib.specs.Answer.{headed, refusal}
+use Rattle.reports_lib.specs.Answer.{headed, refusal}
 use Rattle.tokens_lib.specs.NamedRules.{LinesAnswer}
-use Rattle.tokens_lib.specs.Warned.{IsFileOf, is_said}
+use Rattle.tokens_lib.specs.WarningsSaid.{IsFileOf, is_said}
 use Rattle.tokens_lib.specs.Internal.Listings.{ListingAnswer, first_status}
 use Rattle.tokens_lib.proofs.AnswerLaws.{Answered-refused, ok_and}
 use Rattle.tokens_lib.proofs.BegunLaws.{Begun-weaker, begun_said}

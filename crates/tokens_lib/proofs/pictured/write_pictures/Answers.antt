@@ -4,7 +4,8 @@ use Rattle.std.specs.Prelude.{Option, Result, Ok, Err, IfOk, OnOk, OnErr, option
 use Rattle.lalrpop_modes.specs.Modes.{ModeRules}
 use Rattle.lexdfa_lib.specs.Watch.{Watch, AppendsPrefix}
 use Rattle.lexdfa_lib.specs.declared.error.RunError.{RunError}
-use Rattle.tokens_lib.specs.Answer.{Answer, Answered, Begun, refusal, about}
+use Rattle.reports_lib.specs.Answer.{Answer, Begun, refusal, about}
+use Rattle.tokens_lib.specs.FileAnswers.{Answered}
 use Rattle.tokens_lib.specs.Pictured.{IsDrawn, IsMissing, PictureAnswer, no_rule}
 use Rattle.tokens_lib.specs.Streams.{Takes}
 use Rattle.tokens_lib.proofs.AnswerLaws.{TakesBy-none, Answered-refusal}

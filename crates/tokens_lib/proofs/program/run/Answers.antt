@@ -2,7 +2,8 @@ use Rattle.std.proofs.Common.{◌≡◌, ◌≢◌, ℕ, List, inl, inr, map, re
 use Rattle.std.specs.Prelude.{Option, Result, Ok, Err, IfOk, OnOk, string_bytes}
 use Rattle.lexdfa_lib.specs.Watch.{Watch}
 use Rattle.lexdfa_lib.specs.declared.error.RunError.{RunError}
-use Rattle.tokens_lib.specs.Answer.{Answer, Answered, refusal}
+use Rattle.reports_lib.specs.Answer.{Answer, refusal}
+use Rattle.tokens_lib.specs.FileAnswers.{Answered}
 use Rattle.tokens_lib.specs.Arguments.{joined, options, names}
 use Rattle.tokens_lib.specs.Command.{IsArgumentsError, IsCommand}
 use Rattle.tokens_lib.specs.Program.{IsAnswer}

@@ -1,7 +1,8 @@
 use Rattle.std.proofs.Common.{ℕ, Bool, List, length, map, string_bytes, subst, Bor}
 use Rattle.std.specs.Prelude.{Option, Result, Ok, Err, nat_lt, slice_get, IfOk, OnErr}
 use Rattle.lexdfa_lib.specs.declared.error.RunError.{RunError}
-use Rattle.tokens_lib.specs.Answer.{Answer, Answered, Begun, TextsAnswer, FirstTextsAnswer}
+use Rattle.reports_lib.specs.Answer.{Answer, Begun}
+use Rattle.tokens_lib.specs.FileAnswers.{Answered, TextsAnswer, FirstTextsAnswer}
 use Rattle.tokens_lib.specs.Emitted.{SourceAnswer}
 use Rattle.tokens_lib.specs.Pictured.{PictureAnswer}
 use Rattle.tokens_lib.specs.Program.{ComparedAnswer, other_of}

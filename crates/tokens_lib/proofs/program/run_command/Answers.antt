@@ -1,5 +1,5 @@
 use Rattle.std.proofs.Common.{ℕ, List, map, Bor}
-use Rattle.tokens_lib.specs.Answer.{TextsAnswer, FirstTextsAnswer}
+use Rattle.tokens_lib.specs.FileAnswers.{TextsAnswer, FirstTextsAnswer}
 use Rattle.tokens_lib.specs.Program.{ActionAnswer}
 use Rattle.tokens_lib.specs.Progress.{reading_text}
 use Rattle.tokens_lib.specs.Streams.{GivesWhole, StreamGives}

@@ -1,0 +1,10 @@
+-- Small cases of the definitions in specs/: Cases/X.antt has those of specs/X.antt.
+mod Answer
+mod Compared
+mod FileRules
+mod ItemLines
+mod Reasons
+mod ReviewJson
+mod ReviewLines
+mod RuleClashes
+mod Warned

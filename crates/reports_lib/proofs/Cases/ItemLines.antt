@@ -1,0 +1,64 @@
+-- Cases of specs/ItemLines.antt.
+use Rattle.std.proofs.Common.{◌≡◌, ℕ, Bool, List, [], ◌∷◌, Option, Some, None, codes, refl, false}
+use Rattle.std.specs.Fmt.{digits}
+use Rattle.std.specs.Str.{chars}
+use Rattle.unicode.specs.Binary.{is_default_ignorable_code_point}
+use Rattle.unicode.specs.Rows.{in_ranges}
+use Rattle.ucd_derived.specs.DefaultIgnorableCodePointRanges.{default_ignorable_code_point_ranges}
+use Rattle.json.specs.Print.{print_from, escape_byte}
+use Rattle.lalrpop_lexer.specs.declared.position.Position.{Position}
+use Rattle.lalrpop_modes.specs.Modes.{ModeRules}
+use Rattle.lalrpop_modes.specs.Stack.{Stack}
+use Rattle.reports_lib.specs.ItemLines.{plain_line, json_line, name_at, fault_line, mode_named, piece_lines}
+use Rattle.reports_lib.specs.declared.layout.LineForm.{LineForm}
+
+abbrev second : Position
+second = record { line = 1; column = 2 }
+
+-- ---- plain lines
+
+line_of_a_name : plain_line None second (Some (codes "N")) (codes "a") ≡ codes "1:2 N \"a\"\n"
+unfolding digits chars lib.Utf8.encode is_default_ignorable_code_point in_ranges default_ignorable_code_point_ranges
+line_of_a_name = refl
+
+line_with_a_file : plain_line (Some (codes "f")) second (Some (codes "N")) (codes "a") ≡ codes "f:1:2 N \"a\"\n"
+unfolding digits chars lib.Utf8.encode is_default_ignorable_code_point in_ranges default_ignorable_code_point_ranges
+line_with_a_file = refl
+
+line_of_a_fault : plain_line None second None (codes "a") ≡ codes "1:2 ! \"a\"\n"
+unfolding digits chars lib.Utf8.encode is_default_ignorable_code_point in_ranges default_ignorable_code_point_ranges
+line_of_a_fault = refl
+
+-- ---- lines of JSON
+
+object_of_a_name : json_line None second 1 (Some (codes "N")) None (codes "\"") ≡ codes "{\"line\":1,\"column\":2,\"start\":1,\"end\":2,\"rule\":\"N\",\"text\":\"\\\"\"}\n"
+unfolding digits print_from escape_byte
+object_of_a_name = refl
+
+object_of_a_fault : json_line (Some (codes "f")) second 1 None None (codes "a")
+    ≡ codes "{\"file\":\"f\",\"line\":1,\"column\":2,\"start\":1,\"end\":2,\"rule\":null,\"text\":\"a\"}\n"
+unfolding digits print_from escape_byte
+object_of_a_fault = refl
+
+-- the mode stands behind the rule
+object_with_a_mode : json_line None second 1 (Some (codes "N")) (Some (codes "M")) (codes "a")
+    ≡ codes "{\"line\":1,\"column\":2,\"start\":1,\"end\":2,\"rule\":\"N\",\"mode\":\"M\",\"text\":\"a\"}\n"
+unfolding digits print_from escape_byte
+object_with_a_mode = refl
+
+-- ---- pieces
+
+-- one mode isn't named, and the second of two is
+modes_named : (mode_named (codes "A" ∷ []) 0 ≡ None) × (mode_named (codes "A" ∷ codes "B" ∷ []) 1 ≡ Some (codes "B"))
+modes_named = (refl, refl)
+
+names : (name_at (codes "A" ∷ codes "B" ∷ []) 1 ≡ codes "B") × (name_at (codes "A" ∷ []) 1 ≡ [])
+names = (refl, refl)
+
+-- without recovering, a fault has no line
+fault_without_a_line : (form : LineForm) (file mode : Option (List ℕ)) (text slice : List ℕ) (begin : ℕ) → fault_line false form file text begin mode slice ≡ []
+fault_without_a_line form file mode text slice begin = refl
+
+no_line_of_nothing : (form : LineForm) (recovers : Bool) (file : Option (List ℕ)) (modes : List (List ℕ)) (r : ModeRules) (text : List ℕ) (s : Stack)
+    → piece_lines form recovers file modes r text s [] ≡ []
+no_line_of_nothing form recovers file modes r text s = refl

@@ -1,0 +1,161 @@
+-- Cases of specs/Reasons.antt.
+use Rattle.std.proofs.Common.{◌≡◌, ◌≢◌, ℕ, inl, inr, List, [], ◌∷◌, ◌++◌, codes, decimal, get_or, length, length-append, refl, ap, arith, Bor, Some}
+use Rattle.std.specs.Fmt.{digits}
+use Rattle.std.specs.Str.{chars}
+use Rattle.lalrpop_book.specs.declared.error.NfaConstructionError.TheVariants.{LookAround, NonGreedy}
+use Rattle.lalrpop_grammar.specs.declared.error.SyntaxKind.TheVariants.{UnclosedGroup, UnopenedGroup}
+use Rattle.lalrpop_lexer.specs.declared.position.Position.{Position}
+use Rattle.lalrpop_lexer.specs.Quoted.{quoted_word}
+use Rattle.lalrpop_rules.specs.declared.rule_text.RuleText.TheVariants.{Pattern}
+use Rattle.lalrpop_rule_file.specs.RuleFault.{reason_of}
+use Rattle.lalrpop_delimited.specs.declared.error.FromToError.TheVariants.{EmptyEnd, LongEnd}
+use Rattle.lalrpop_modes.specs.declared.error.ModesError.TheVariants.{NotParsed, BadEnd, NotCompiled, OutOfMemory}
+use Rattle.lalrpop_rules.specs.declared.rule.Rule.{Rule}
+use Rattle.lalrpop_rule_file.specs.declared.error.LineFault.TheVariants.{NoEquals}
+use Rattle.lalrpop_rule_file.specs.declared.error.RuleFileError.TheVariants.{BadLine, NoSuchMode}
+use Rattle.lexdfa_lib.specs.declared.outcome.Outcome.TheVariants.{NoMatch, Refused, Ambiguous, Line}
+use Rattle.reports_lib.specs.Reasons.{syntax_text, refusal_text, bad_end_text, clash_advice, mode_said, parsed_text, numbered, placed, clash_text, SaysBadLine, place_at, text_at, SaysRules, SaysNoTerminal, IsPatternColumn, SaysSyntax, SaysTerminals}
+
+-- ---- in words
+
+group_that_is_open : syntax_text UnclosedGroup ≡ codes "this group isn't closed"
+group_that_is_open = refl
+
+another_reason : syntax_text UnopenedGroup ≢ codes "this group isn't closed"
+another_reason e = let k : 96 ≡ 103 = ap (λ (l : List ℕ). get_or l 5 0) e in omega (arith, k)
+
+lazy_repetition : refusal_text NonGreedy ≡ codes "a lexer can't have lazy repetitions: write `[^x]*x` for `.*?x`, and `/\\*([^*]|\\*+[^*/])*\\*+/` for `/\\*.*?\\*/`"
+lazy_repetition = refl
+
+another_refusal : refusal_text LookAround ≢ refusal_text NonGreedy
+another_refusal e = let k : 111 ≡ 97 = ap (λ (l : List ℕ). get_or l 20 0) e in omega (arith, k)
+
+-- a clash on the empty word is told apart
+advice : clash_advice (97 ∷ []) ≡ codes "Give the one that should win a greater precedence."
+advice = refl
+
+advice_for_the_empty_word : clash_advice [] ≢ clash_advice (97 ∷ [])
+advice_for_the_empty_word e = let k : 78 ≡ 71 = ap (λ (l : List ℕ). get_or l 0 0) e in omega (arith, k)
+
+-- ---- messages
+
+message_about_a_line : numbered 3 (codes "why") (codes "    x\n") ≡ codes "3: why\n    x\n"
+unfolding digits
+message_about_a_line = refl
+
+message_about_a_place : placed 2 7 (codes "why") (codes "    x\n") ≡ codes "2:7: why\n    x\n"
+unfolding digits
+message_about_a_place = refl
+
+-- the later line comes first, and the advice last
+message_about_a_clash : clash_text 2 (codes "B") 1 (codes "A") [] (codes "\"a\"") (codes "    1: A\n") (codes "Do.")
+    ≡ codes "2: B clashes with A of line 1: both match the word \"a\", and neither wins\n    1: A\nDo.\n"
+unfolding digits
+message_about_a_clash = refl
+
+-- where there are several modes
+clash_in_a_mode : clash_text 2 (codes "B") 1 (codes "A") (mode_said (Some (codes "M"))) (codes "\"a\"") [] (codes "Do.")
+    ≡ codes "2: B clashes with A of line 1 in mode M: both match the word \"a\", and neither wins\nDo.\n"
+unfolding digits
+clash_in_a_mode = refl
+
+clash_turned : clash_text 1 (codes "A") 2 (codes "B") [] (codes "\"a\"") [] [] ≢ clash_text 2 (codes "B") 1 (codes "A") [] (codes "\"a\"") [] []
+unfolding digits
+clash_turned e = let k : 49 ≡ 50 = ap (λ (l : List ℕ). get_or l 0 0) e in omega (arith, k)
+
+-- ---- named rules
+
+-- a bad line is told with its place and the reason; and nothing else is said of it
+bad_line : SaysBadLine (BadLine 2 7 NoEquals) (placed 2 7 (reason_of NoEquals) (codes "    A /x/\n"))
+bad_line = (codes "    A /x/\n", refl)
+
+-- a mode that no section names
+no_such_mode : SaysBadLine (NoSuchMode 1 8) (placed 1 8 (codes "no section names this mode") (codes "    A push B = 'a'\n"))
+no_such_mode = (codes "    A push B = 'a'\n", refl)
+
+no_place : ¬ SaysBadLine (BadLine 2 7 NoEquals) []
+no_place said = absurd (omega (arith, ap length said.1, length-append (decimal 2) (codes ":" ++ (decimal 7 ++ (codes ": " ++ (reason_of NoEquals ++ (codes "\n" ++ said.0)))))))
+
+-- the place of the second rule, and the text of the first
+second_place : (p q : Position) → place_at (p ∷ q ∷ []) 1 ≡ q
+second_place p q = refl
+
+first_text : (r s : Rule) (text : Bor (List ℕ)) → r.text ≡ Pattern text → text_at (r ∷ s ∷ []) 0 ≡ text.now
+first_text r s text is = ap parsed_text is
+
+-- a rule on line 4 that can't be compiled
+look_around : SaysRules [] [] (record { line = 4; column = 6 } ∷ []) (NotCompiled 0 LookAround) (placed 4 6 (refusal_text LookAround) (codes "    A = /^/\n"))
+look_around = (codes "    A = /^/\n", refl)
+
+-- its line stands before the column
+not_the_column : ¬ SaysRules [] [] (record { line = 4; column = 6 } ∷ []) (NotCompiled 0 LookAround) (placed 6 4 (refusal_text LookAround) (codes "    A = /^/\n"))
+unfolding digits
+not_the_column said = let k : 54 ≡ 52 = ap (λ (l : List ℕ). get_or l 0 0) said.1 in omega (arith, k)
+
+-- the second character of a text that begins in column 6
+second_character : (r : Rule) (text : Bor (List ℕ)) → r.text ≡ Pattern text → text.now ≡ codes "a)" → SaysRules [] (r ∷ []) (record { line = 4; column = 6 } ∷ []) (NotParsed 0 1 UnopenedGroup) (placed 4 7 (syntax_text UnopenedGroup) [])
+unfolding chars
+second_character r text form is = ([], rw (form, is) refl)
+
+-- the end of a text on line 4 is empty
+empty_end : SaysRules [] [] (record { line = 4; column = 6 } ∷ []) (BadEnd 0 EmptyEnd) (placed 4 6 (bad_end_text EmptyEnd) (codes "    A = from '' to ''\n"))
+empty_end = (codes "    A = from '' to ''\n", refl)
+
+another_end : bad_end_text LongEnd ≢ bad_end_text EmptyEnd
+another_end e = let k : 116 ≡ 110 = ap (λ (l : List ℕ). get_or l 0 0) e in omega (arith, k)
+
+no_word_of_memory : (modes : List (List ℕ)) (rs : List Rule) (places : List Position) (said : List ℕ) → ¬ SaysRules modes rs places OutOfMemory said
+no_word_of_memory modes rs places said says = says
+
+-- ---- terminals
+
+-- a line of another form, and one that isn't UTF-8
+another_form : SaysNoTerminal 2 (codes "x") (numbered 2 (codes "a line is `P l TEXT` or `P r PATTERN`, with a precedence P") (codes "    x\n"))
+unfolding lib.Utf8.encode
+another_form = inl ((codes "x", (refl, refl)), (codes "x\n", refl))
+
+not_utf8 : (line : List ℕ) → ¬ SaysNoTerminal 2 line (numbered 3 (codes "this line isn't UTF-8") [])
+unfolding digits
+not_utf8 line (inl (utf8, (shown, e))) = let k : 51 ≡ 50 = ap (λ (l : List ℕ). get_or l 0 0) e in omega (arith, k)
+not_utf8 line (inr (none, e)) = let k : 51 ≡ 50 = ap (λ (l : List ℕ). get_or l 0 0) e in omega (arith, k)
+
+-- the pattern of `0 r *a` begins in column 5
+column_of_a_pattern : IsPatternColumn (codes "0 r *a") 5
+unfolding lib.Utf8.encode chars
+column_of_a_pattern = record {
+  precedence = 0;
+  text = codes "*a";
+  is_line = record {
+    digits = codes "0";
+    parts = refl;
+    precedence = record { numeral = (omega arith, (omega arith, tt)); short = omega arith; value = refl; fits = omega arith };
+    utf8 = (codes "0 r *a", (refl, refl));
+  };
+  position = 0;
+  inside = (omega arith, λ a b. omega (arith, b));
+  counted = refl;
+}
+
+-- none begins before that
+no_column_before : (line : List ℕ) → ¬ IsPatternColumn line 3
+no_column_before line h = let k = h.counted in omega (arith, k)
+
+unclosed_group : (line : List ℕ) (column : ℕ) → IsPatternColumn line column → SaysSyntax 2 line (placed 2 column (syntax_text UnclosedGroup) (codes "x"))
+unclosed_group line column is = (column, (is, (UnclosedGroup, (codes "x", refl))))
+
+nothing_said : (line : List ℕ) → ¬ SaysSyntax 2 line []
+nothing_said line (column, (is, (kind, (shown, e)))) = absurd (omega (arith, ap length e, length-append (decimal 2) (codes ":" ++ (decimal column ++ (codes ": " ++ (syntax_text kind ++ (codes "\n" ++ shown)))))))
+
+-- the second line, which is number 1, is told as 2
+second_line : (ls : List (List ℕ)) → SaysTerminals ls (Refused 1 LookAround) (numbered 2 (refusal_text LookAround) (codes "    1 r ^\n"))
+second_line ls = (codes "1 r ^\n", refl)
+
+clash_of_two : (ls : List (List ℕ)) → SaysTerminals ls (Ambiguous 1 0 (97 ∷ [])) (clash_text 2 (codes "this terminal") 1 (codes "that") [] (quoted_word (97 ∷ [])) [] (clash_advice (97 ∷ [])))
+clash_of_two ls = ([], refl)
+
+-- there is no second line
+no_such_line : (said : List ℕ) → ¬ SaysTerminals (codes "x" ∷ []) (Line 1) said
+no_such_line said (line, (there, says)) = absurd (cc)
+
+no_outcome_of_a_text : (ls : List (List ℕ)) (said : List ℕ) → ¬ SaysTerminals ls NoMatch said
+no_outcome_of_a_text ls said says = says

@@ -1,0 +1,14 @@
+mod Cases
+-- the parts of a plain line
+pub mod Pushes
+-- members of objects
+pub mod Steps
+pub mod ReviewMembers
+-- the lines of terminals of which errors speak
+pub mod TerminalLines
+-- clashes
+pub mod ClashLineLaws
+-- reviews
+pub mod ReviewLaws
+-- two files that are compared
+pub mod ComparedLaws

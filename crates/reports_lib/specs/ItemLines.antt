@@ -1,0 +1,110 @@
+-- cases: proofs/Cases/ItemLines.antt
+-- The lines of the pieces of a text that named rules cut.
+use Rattle.std.specs.Prelude.{ℕ, ◌+◌, nat_lt, Bool, true, false, List, [], ◌∷◌, ◌++◌, length, map, Option, Some, None, option_map, unwrap_or, slice_get, codes, decimal, string_bytes}
+use Rattle.std.specs.Bool.{then_some}
+use Rattle.json.specs.Token as json
+use Rattle.json.specs.Print.{print}
+use Rattle.lalrpop_lexer.specs.Position.{position_of}
+use Rattle.lalrpop_lexer.specs.declared.position.Position.{Position}
+use Rattle.lalrpop_modes.specs.Modes.{ModeRules, after}
+use Rattle.lalrpop_modes.specs.Stack.{Stack, start as first_stack}
+use Rattle.lalrpop_rules.specs.declared.item.Item.{Item}
+use Rattle.lalrpop_rules.specs.declared.item.Item.TheVariants.{Token, Skipped, Fault}
+use Rattle.lalrpop_lexer.specs.Quoted.{quoted}
+use Rattle.reports_lib.specs.declared.layout.Layout.{Layout}
+use Rattle.reports_lib.specs.declared.layout.LineForm.{LineForm}
+use Rattle.reports_lib.specs.declared.layout.LineForm.TheVariants.{Plain, Json}
+
+-- ---- a plain line
+
+-- `FILE:`, if the file is named
+abbrev pub file_text : Option (List ℕ) → List ℕ
+file_text None = []
+file_text (Some file) = file ++ codes ":"
+
+-- `LINE:COLUMN NAME "SLICE"`; without a name it is a fault, which has `!` in its place
+abbrev pub plain_line : Option (List ℕ) → Position → Option (List ℕ) → List ℕ → List ℕ
+plain_line file p name slice =
+    file_text file ++ (decimal p.line ++ (codes ":" ++ (decimal p.column ++ (codes " " ++ (unwrap_or name (codes "!") ++ (codes " " ++ (quoted slice ++ codes "\n")))))))
+
+-- ---- a JSON line
+
+-- members of an object: a name, and a number or a string
+abbrev pub number_member : List ℕ → ℕ → List json.Token
+number_member name n = json.key name ∷ json.number (decimal n) ∷ []
+
+abbrev pub string_member : List ℕ → List ℕ → List json.Token
+string_member name text = json.key name ∷ json.string text ∷ []
+
+-- the file, if it is named
+abbrev pub file_member : Option (List ℕ) → List json.Token
+file_member None = []
+file_member (Some file) = string_member (codes "file") file
+
+-- the name of the rule, or `null` for a fault
+abbrev pub rule_member : Option (List ℕ) → List json.Token
+rule_member None = json.key (codes "rule") ∷ json.null ∷ []
+rule_member (Some name) = string_member (codes "rule") name
+
+-- the mode, if it is named
+abbrev pub mode_member : Option (List ℕ) → List json.Token
+mode_member None = []
+mode_member (Some mode) = string_member (codes "mode") mode
+
+-- the object: where the piece begins, as a line, a column and an offset in bytes, where it ends, its rule, its mode and its slice
+abbrev pub object_of : Option (List ℕ) → Position → ℕ → Option (List ℕ) → Option (List ℕ) → List ℕ → List json.Token
+object_of file p start name mode slice =
+    json.begin_object ∷ (file_member file
+    ++ (number_member (codes "line") p.line ++ (number_member (codes "column") p.column
+    ++ (number_member (codes "start") start ++ (number_member (codes "end") (start + length slice)
+    ++ (rule_member name ++ (mode_member mode ++ (string_member (codes "text") slice ++ json.end_object ∷ []))))))))
+
+abbrev pub json_line : Option (List ℕ) → Position → ℕ → Option (List ℕ) → Option (List ℕ) → List ℕ → List ℕ
+json_line file p start name mode slice = print (object_of file p start name mode slice) ++ codes "\n"
+
+-- ---- the line of a piece
+
+-- only lines of JSON name the mode
+abbrev pub line_in : LineForm → Option (List ℕ) → Position → ℕ → Option (List ℕ) → Option (List ℕ) → List ℕ → List ℕ
+line_in Plain file p start name mode slice = plain_line file p name slice
+line_in Json file p start name mode slice = json_line file p start name mode slice
+
+-- the line of a piece that begins here in the text
+abbrev pub line_at : LineForm → Option (List ℕ) → List ℕ → ℕ → Option (List ℕ) → Option (List ℕ) → List ℕ → List ℕ
+line_at form file text start name mode slice = line_in form file (position_of text start) start name mode slice
+
+-- a fault has a line only if cutting goes on after it
+abbrev pub fault_line : Bool → LineForm → Option (List ℕ) → List ℕ → ℕ → Option (List ℕ) → List ℕ → List ℕ
+fault_line true form file text start mode slice = line_at form file text start None mode slice
+fault_line false form file text start mode slice = []
+
+-- the name of a rule or of a mode
+abbrev pub name_at : List (List ℕ) → ℕ → List ℕ
+name_at names i = unwrap_or (slice_get names i) []
+
+-- a token has a line, a skipped piece has none
+abbrev pub piece_line : LineForm → Bool → Option (List ℕ) → List (List ℕ) → Option (List ℕ) → List ℕ → Item → List ℕ
+piece_line form recovers file names mode text (Token token) = line_at form file text token.start (Some (name_at names token.index)) mode token.slice.now
+piece_line form recovers file names mode text (Skipped token) = []
+piece_line form recovers file names mode text (Fault start slice) = fault_line recovers form file text start mode slice.now
+
+-- the mode that a line names: none, unless there are several
+abbrev pub mode_named : List (List ℕ) → ℕ → Option (List ℕ)
+mode_named modes m = then_some (nat_lt 1 (length modes)) (name_at modes m)
+
+-- the same by a layout
+abbrev pub item_line : Layout → List (List ℕ) → List ℕ → ℕ → Item → List ℕ
+item_line layout names text m x =
+    piece_line layout.form layout.recovers (option_map (λ f. f.now) layout.file) names (mode_named (map string_bytes layout.modes.now) m) text x
+
+-- ---- the lines of a text
+
+-- the lines of pieces, from this stack of modes on: each is read in the mode on top
+abbrev pub piece_lines : LineForm → Bool → Option (List ℕ) → List (List ℕ) → ModeRules → List ℕ → Stack → List Item → List ℕ
+piece_lines form recovers file modes rules text s [] = []
+piece_lines form recovers file modes rules text s (x ∷ xs) =
+    piece_line form recovers file rules.names (mode_named modes s.mode) text x ++ piece_lines form recovers file modes rules text (after rules.actions x s) xs
+
+abbrev pub item_lines : Layout → ModeRules → List ℕ → List Item → List ℕ
+item_lines layout rules text xs =
+    piece_lines layout.form layout.recovers (option_map (λ f. f.now) layout.file) (map string_bytes layout.modes.now) rules text first_stack xs

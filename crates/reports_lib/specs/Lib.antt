@@ -1,0 +1,12 @@
+pub mod Answer
+pub mod Compared
+pub mod FileRules
+pub mod ItemLines
+pub mod Reasons
+pub mod ReportedFile
+pub mod ReviewJson
+pub mod ReviewLines
+pub mod RuleClashes
+pub mod Warned
+-- what serves the proofs alone
+pub mod Internal

@@ -1,0 +1,52 @@
+//! The lexer of the rules of a file.
+ghost use Rattle.std.specs.Prelude.{◌≡◌, map, string_bytes, IfOk, IfErr};
+
+use lalrpop_modes::ModeLexer;
+use lexdfa_lib::RunError;
+use std::alloc::{AllocError, Global};
+
+/// The rules of a file as a lexer, and the names of its modes.
+///
+/// ```
+/// use reports_lib::{FileLexer, ModeFile, with_names};
+///
+/// let file = ModeFile::of(alloc, &read)?;
+/// let lexer = ModeLexer::from_rules(alloc, &file.rules, file.modes.len())?;
+/// let FileLexer { lexer, modes } = with_names(alloc, lexer, &file.modes)?;
+/// ```
+#[derive(Debug, Drop)]
+pub struct FileLexer {
+    /// The lexer.
+    pub lexer: ModeLexer,
+    /// The names of the modes, in order.
+    pub modes: Vec<String>,
+}
+
+// The names, in memory of their own.
+fn owned_names(alloc: Global, names: &[&str]) -> Result<Vec<String>, AllocError>
+    ensures names { IfOk result (λ all.
+        map string_bytes all.items ≡ map (λ m. m.now) names.now) }
+{
+    let mut all = Vec::new(alloc);
+    for name in names {
+        all.push(String::from_str(alloc, name)?)?;
+    }
+    Ok(all)
+}
+
+/// The lexer with the names of its modes.
+///
+/// # Errors
+///
+/// `OutOfMemory` if a request for memory was refused.
+pub fn with_names(alloc: Global, lexer: ModeLexer, names: &[&str]) -> Result<FileLexer, RunError>
+    ensures lexer { IfOk result (λ f. f.lexer ≡ lexer) }
+    ensures names { IfOk result (λ f.
+        map string_bytes f.modes.items ≡ map (λ m. m.now) names.now) }
+    ensures memory { IfErr result (λ e. e ≡ RunError.OutOfMemory) }
+{
+    match owned_names(alloc, names) {
+        Ok(modes) => Ok(FileLexer { lexer, modes }),
+        Err(_) => Err(RunError::OutOfMemory),
+    }
+}

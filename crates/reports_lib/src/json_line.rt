@@ -1,0 +1,150 @@
+//! The line of a piece as a JSON object.
+ghost use Rattle.std.specs.Prelude.{◌≡◌, ◌+◌, ◌≤◌, ◌∷◌, [], ◌++◌, codes, length, option_map, OnOk};
+ghost use Rattle.json.specs.Token.{key, string};
+ghost use Rattle.reports_lib.specs.ItemLines.{number_member, string_member, file_member, rule_member, mode_member, object_of, json_line};
+
+use crate::shown::Shown;
+use json::Writer;
+use lalrpop_lexer::Position;
+use std::alloc::{AllocError, Global};
+use std::mem;
+
+/// Writes a member whose value is a number.
+///
+/// # Errors
+///
+/// `AllocError` if a request for memory was refused.
+pub(crate) fn write_number(writer: &mut Writer, name: &str, number: usize) -> Result<(), AllocError>
+    ensures tokens { OnOk result (writer.new.tokens
+        ≡ writer.old.tokens ++ number_member name.now number) }
+    ensures before { writer.new.before ≡ writer.old.before }
+{
+    writer.key(name)?;
+    writer.u64(number as u64)
+}
+
+/// Writes a member whose value is a string.
+///
+/// # Errors
+///
+/// `AllocError` if a request for memory was refused.
+pub(crate) fn write_string(writer: &mut Writer, name: &str, text: &str) -> Result<(), AllocError>
+    ensures tokens { OnOk result (writer.new.tokens
+        ≡ writer.old.tokens ++ string_member name.now text.now) }
+    ensures before { writer.new.before ≡ writer.old.before }
+{
+    writer.key(name)?;
+    writer.string(text)
+}
+
+fn write_file(writer: &mut Writer, file: Option<&str>) -> Result<(), AllocError>
+    ensures tokens { OnOk result (writer.new.tokens
+        ≡ writer.old.tokens ++ file_member (option_map (λ f. f.now) file.entry)) }
+    ensures before { writer.new.before ≡ writer.old.before }
+{
+    match file {
+        Some(file) => write_string(writer, "file", file),
+        None => Ok(()),
+    }
+}
+
+fn write_rule(writer: &mut Writer, name: Option<&str>) -> Result<(), AllocError>
+    ensures tokens { OnOk result (writer.new.tokens
+        ≡ writer.old.tokens ++ rule_member (option_map (λ n. n.now) name.entry)) }
+    ensures before { writer.new.before ≡ writer.old.before }
+{
+    match name {
+        Some(name) => write_string(writer, "rule", name),
+        None => {
+            writer.key("rule")?;
+            writer.null()
+        }
+    }
+}
+
+/// Writes the member `mode`, if the mode is named.
+///
+/// # Errors
+///
+/// `AllocError` if a request for memory was refused.
+pub(crate) fn write_mode(writer: &mut Writer, mode: Option<&str>) -> Result<(), AllocError>
+    ensures tokens { OnOk result (writer.new.tokens
+        ≡ writer.old.tokens ++ mode_member (option_map (λ m. m.now) mode.entry)) }
+    ensures before { writer.new.before ≡ writer.old.before }
+{
+    match mode {
+        Some(mode) => write_string(writer, "mode", mode),
+        None => Ok(()),
+    }
+}
+
+// Where the piece begins and ends.
+fn write_places(
+    writer: &mut Writer,
+    position: Position,
+    start: usize,
+    end: usize,
+) -> Result<(), AllocError>
+    ensures tokens { OnOk result (writer.new.tokens ≡ writer.old.tokens
+        ++ (number_member (codes "line") position.line ++ (number_member (codes "column") position.column
+        ++ (number_member (codes "start") start ++ number_member (codes "end") end)))) }
+    ensures before { writer.new.before ≡ writer.old.before }
+{
+    write_number(writer, "line", position.line)?;
+    write_number(writer, "column", position.column)?;
+    write_number(writer, "start", start)?;
+    write_number(writer, "end", end)
+}
+
+fn write_object(
+    writer: &mut Writer,
+    file: Option<&str>,
+    position: Position,
+    shown: &Shown<'_, '_, '_>,
+) -> Result<(), AllocError>
+    requires fits { shown.now.start + length shown.now.slice.now ≤ usize.MAX }
+    ensures tokens { OnOk result (writer.new.tokens ≡ writer.old.tokens
+        ++ object_of (option_map (λ f. f.now) file.entry) position shown.now.start
+        (option_map (λ n. n.now) shown.now.name) (option_map (λ m. m.now) shown.now.mode)
+        shown.now.slice.now) }
+    ensures before { writer.new.before ≡ writer.old.before }
+{
+    writer.begin_object()?;
+    write_file(writer, file)?;
+    write_places(
+        writer,
+        position,
+        shown.start,
+        shown.start + shown.slice.len(),
+    )?;
+    write_rule(writer, shown.name)?;
+    write_mode(writer, shown.mode)?;
+    write_string(writer, "text", shown.slice)?;
+    writer.end_object()
+}
+
+/// Appends the line of a piece.
+///
+/// # Errors
+///
+/// `AllocError` if a request for memory was refused.
+pub fn push_json(
+    alloc: Global,
+    lines: &mut Vec<u8>,
+    file: Option<&str>,
+    position: Position,
+    shown: &Shown<'_, '_, '_>,
+) -> Result<(), AllocError>
+    requires fits { shown.now.start + length shown.now.slice.now ≤ usize.MAX }
+    ensures { OnOk result (lines.new.items ≡ lines.old.items
+        ++ json_line (option_map (λ f. f.now) file.entry) position shown.now.start
+        (option_map (λ n. n.now) shown.now.name) (option_map (λ m. m.now) shown.now.mode)
+        shown.now.slice.now) }
+{
+    let mut writer = Writer::new(mem::replace(lines, Vec::new(alloc)));
+    write_object(&mut writer, file, position, shown)?;
+    let mut all = writer.into_inner();
+    all.push(b'\n')?;
+    *lines = all;
+    Ok(())
+}

@@ -1,0 +1,33 @@
+//! What `tokens` says of rules: why they make no lexer, their clashes, their review, what differs, and the lines of pieces.
+#![tactic(auto)]
+
+mod compared;
+mod explain;
+mod file_lexer;
+mod json_line;
+mod layout;
+mod messages;
+mod mode_file;
+mod named_clashes;
+mod plain_line;
+mod reasons;
+mod reported_file;
+mod review_json;
+mod review_lines;
+mod rule_explain;
+mod shown;
+mod warnings;
+
+pub use compared::write_difference;
+pub use explain::explanation;
+pub use file_lexer::{FileLexer, with_names};
+pub use json_line::push_json;
+pub use layout::{Layout, LineForm};
+pub use messages::{about, bad_line_message, headed, rules_message, terminals_message};
+pub use mode_file::ModeFile;
+pub use named_clashes::write_rule_clashes;
+pub use plain_line::push_plain;
+pub use review_lines::{clash_report, has_findings, review_text};
+pub use rule_explain::{bad_line_explained, rules_explained};
+pub use shown::Shown;
+pub use warnings::warnings_message;

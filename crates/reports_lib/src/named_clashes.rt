@@ -1,0 +1,163 @@
+//! The lines of the clashes of named rules.
+ghost use Rattle.std.specs.Prelude.{◌≡◌, ◌≢◌, ◌++◌, List, map, flat_map, option_map, false, true, string_bytes, IfOk, OnOk, OnErr, IfErr};
+ghost use Rattle.std.specs.Io.KnownBytes.{Appends};
+ghost use Rattle.lalrpop_modes.specs.ModeSet.{rules_of};
+ghost use Rattle.lalrpop_rules.specs.RuleSet.{names_of};
+ghost use Rattle.lexdfa_lib.specs.Watch.{AppendsPrefix};
+ghost use Rattle.reports_lib.specs.ItemLines.{mode_named as mode_named_of, name_at};
+ghost use Rattle.reports_lib.specs.Internal.RuleNames.{name_found as name_found_in};
+ghost use Rattle.reports_lib.specs.RuleClashes.{clash_lines, mode_text, named_line};
+
+use lalrpop_lexer::ShownWord;
+use lalrpop_lexer::lexer::dfa::Clash;
+use lalrpop_modes::ModeRule;
+use lexdfa_lib::{RunError, Watched, write_whole};
+use std::alloc::{AllocError, Global};
+use std::io::Write;
+
+// The name of the rule that has this index, if there is one.
+fn name_found<'text>(rules: &[ModeRule<'text>], index: usize) -> &'text str
+    ensures { result.now ≡ name_found_in (rules_of rules.now) index }
+{
+    match rules.get(index) {
+        Some(rule) => rule.rule.name,
+        None => "",
+    }
+}
+
+/// The name of the rule with this index, or the empty string if no rule has it.
+pub(crate) fn name_of<'text>(rules: &[ModeRule<'text>], index: usize) -> &'text str
+    ensures name { result.now ≡ name_at (names_of (rules_of rules.now)) index }
+{
+    name_found(rules, index)
+}
+
+/// The name of the mode with this number, if there are several modes.
+pub(crate) fn mode_named<'text>(modes: &[&'text str], mode: usize) -> Option<&'text str>
+    ensures name { option_map (λ m. m.now) result
+        ≡ mode_named_of (map (λ m. m.now) modes.now) mode }
+{
+    if modes.len() <= 1 {
+        return None;
+    }
+    match modes.get(mode) {
+        Some(name) => Some(*name),
+        None => Some(""),
+    }
+}
+
+// The mode, if it is named.
+fn push_mode(lines: &mut String, mode: Option<&str>) -> Result<(), AllocError>
+    ensures { OnOk result (string_bytes lines.new
+        ≡ string_bytes lines.old ++ mode_text (option_map (λ m. m.now) mode.entry)) }
+{
+    if let Some(name) = mode {
+        lines.push_str(name)?;
+        lines.push(' ')?;
+    }
+    Ok(())
+}
+
+fn push_clash(
+    alloc: Global,
+    lines: &mut String,
+    rules: &[ModeRule<'_>],
+    mode: Option<&str>,
+    clash: &Clash,
+) -> Result<(), AllocError>
+    ensures { OnOk result (string_bytes lines.new ≡ string_bytes lines.old
+        ++ named_line (names_of (rules_of rules.now)) (option_map (λ m. m.now) mode.entry) clash.now) }
+{
+    let earlier = name_of(rules, clash.match1.index());
+    let later = name_of(rules, clash.match0.index());
+    let word = ShownWord(&clash.word);
+    push_mode(lines, mode)?;
+    write!(lines, "{earlier} {later} {word}\n")
+}
+
+// The lines of the clashes of one mode.
+fn push_clashes(
+    alloc: Global,
+    lines: &mut String,
+    rules: &[ModeRule<'_>],
+    mode: Option<&str>,
+    found: &[Clash],
+) -> Result<(), AllocError>
+    ensures { OnOk result (string_bytes lines.new ≡ string_bytes lines.old ++ flat_map
+        (named_line (names_of (rules_of rules.now)) (option_map (λ m. m.now) mode.entry)) found.now) }
+{
+    for clash in found {
+        push_clash(alloc, lines, rules, mode, clash)?;
+    }
+    Ok(())
+}
+
+fn lines_of(
+    alloc: Global,
+    rules: &[ModeRule<'_>],
+    modes: &[&str],
+    found: &[Vec<Clash>],
+) -> Result<String, AllocError>
+    ensures { IfOk result (λ lines. string_bytes lines
+        ≡ clash_lines (map (λ m. m.now) modes.now) (names_of (rules_of rules.now)) 0
+        (map (λ cs. cs.items) found.now)) }
+{
+    let mut lines = String::new(alloc);
+    for mode in 0..found.len() {
+        push_clashes(
+            alloc,
+            &mut lines,
+            rules,
+            mode_named(modes, mode),
+            &found[mode],
+        )?;
+    }
+    Ok(lines)
+}
+
+/// Writes a line for each of these clashes, mode by mode, as `lalrpop_modes::mode_clashes` finds them: the name of the mode, if
+/// there are several, the names of the two rules, the earlier one first, and the word in quotes.
+///
+/// ```
+/// use lexdfa_lib::Watched;
+/// use tokens_lib::{mode_clashes, write_rule_clashes};
+///
+/// let found = mode_clashes(alloc, &rules, 1)?;
+/// let mut writer = Watched::new(Vec::new(alloc));
+/// write_rule_clashes(alloc, &rules, &["INITIAL"], &found, &mut writer)?; // as `IF NAME "if"`
+/// ```
+///
+/// # Errors
+///
+/// `OutOfMemory` if a request for memory was refused: nothing was written. `Write` if a write failed or took no byte: a
+/// prefix of the lines was written.
+pub fn write_rule_clashes<W: Write>(
+    alloc: Global,
+    rules: &[ModeRule<'_>],
+    modes: &[&str],
+    found: &[Vec<Clash>],
+    writer: &mut Watched<W>,
+) -> Result<(), RunError>
+    requires writer_good { writer.old.failed ≡ false }
+
+    ensures written { OnOk result (Appends
+        (W.contents writer.old.inner) (W.contents writer.new.inner)
+        (clash_lines (map (λ m. m.now) modes.now) (names_of (rules_of rules.now)) 0
+        (map (λ cs. cs.items) found.now))) }
+    ensures good { OnOk result (writer.new.failed ≡ false) }
+
+    ensures nothing_written { IfErr result (λ e. e ≢ RunError.Write → writer.new ≡ writer.old) }
+    ensures write { IfErr result (λ e. e ≡ RunError.Write → writer.new.failed ≡ true) }
+    ensures prefix { IfErr result (λ e. e ≡ RunError.Write →
+        AppendsPrefix (W.contents writer.old.inner) (W.contents writer.new.inner)
+        (clash_lines (map (λ m. m.now) modes.now) (names_of (rules_of rules.now)) 0
+        (map (λ cs. cs.items) found.now))) }
+    ensures read { IfErr result (λ e. e ≢ RunError.Read) }
+
+    ensures no_late_write { writer.new.late ≡ writer.old.late }
+{
+    let Ok(lines) = lines_of(alloc, rules, modes, found) else {
+        return Err(RunError::OutOfMemory);
+    };
+    write_whole(writer, lines.as_bytes())
+}

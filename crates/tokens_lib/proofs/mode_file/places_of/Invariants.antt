@@ -1,5 +1,0 @@
-use Rattle.std.proofs.Common.{◌≡◌, map, take}
-use Rattle.tokens_lib.proofs.mode_file.places_of.Given as goal
-
-abbrev pub invariant-loop-rule : goal.invariant-loop-rule
-invariant-loop-rule l = l.all.items ≡ map (λ f. f.place) (take l.rule-index l.rules)
