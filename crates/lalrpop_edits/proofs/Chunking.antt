@@ -1,6 +1,6 @@
 -- Pieces up to a place: the rest of a text alone settles each, one more follows at their end, and they begin all pieces of the text.
 use Rattle.std.proofs.Common.{◌≡◌, ◌≢◌, ℕ, ◌+◌, ◌<◌, ◌≤◌, ◌⊎◌, inl, inr, Bool, true, false, List, [], ◌∷◌, ◌++◌, length, take, drop, get_or, arith, refl, sym, ap, subst, ◌∙◌, length-append}
-use Rattle.std.specs.Prelude.{Option, Some, None, Result, Ok, Err, IfOk, OnOk, OnErr, is_ok, slice_get, ◌==◌, if◌then◌else◌}
+use Rattle.std.specs.Prelude.{Option, Some, None, Result, Ok, Err, OnOk, OnErr, is_ok, slice_get, ◌==◌, if◌then◌else◌}
 use Rattle.std.specs.Option.{option_map, is_some}
 use Rattle.std.specs.Borrow.{Bor}
 use Rattle.std.specs.Str.{IsUtf8, IsCharBoundary}
@@ -170,12 +170,6 @@ boundary_if_more text chunk new n (Ok a) utf8 here is = subst (λ (t : List ℕ)
 boundary_if_more text chunk new n (Err e) utf8 here is = subst (λ (t : List ℕ). IsCharBoundary t n) (sym is) here
 
 -- ---- what the rest is cut with
-
--- a new one serves at each place of each text
-pub cutter_ready : {E : Type 0} (r : ModeRules) (made : Result Cutter E) (at : ℕ) (text : List ℕ) → IfOk made (λ c. (from : ℕ) (rest : List ℕ) → IsCutter r c from rest)
-    → IfOk made (λ c. IsCutter r c at text)
-cutter_ready r (Ok c) at text ready = ready at text
-cutter_ready r (Err e) at text ready = tt
 
 -- the walk of a mode
 pub walker_there : (r : ModeRules) (c : Cutter) (at mode : ℕ) (w : Walker) (text : List ℕ) → IsCutter r c at text → mode < r.modes → get_or c.walkers.items mode w ≡ w

@@ -1,6 +1,6 @@
 //! A text that comes in chunks.
 
-ghost use Rattle.std.specs.Prelude.{◌≡◌, ◌≢◌, ◌+◌, ◌^◌, ◌++◌, ◌<◌, ◌⊎◌, ℕ, List, [], None, true, false, length, take, drop, string_bytes, IfSome, IfNone, IfOk, OnOk, OnErr};
+ghost use Rattle.std.specs.Prelude.{◌≡◌, ◌≢◌, ◌+◌, ◌^◌, ◌++◌, ◌<◌, ◌⊎◌, ℕ, List, [], None, true, false, length, take, drop, string_bytes, IfSome, IfNone, IsSome, IfOk, OnOk, OnErr};
 ghost use Rattle.std.specs.Str.{chars, IsCharBoundary};
 ghost use Rattle.std.specs.Borrow.{Bor};
 ghost use Rattle.lalrpop_book.specs.Tree.{Tree};
@@ -91,33 +91,34 @@ impl<'rules> Model for Chunks<'rules> {
         × IfSome c.cutter (λ t. IsCutter c.lexer.now t c.at (drop c.given (string_bytes c.text))) };
 }
 
-// The cutter that is kept, or else a new one, which has read nothing.
-fn take_cutter<'a>(
+// Keeps a new cutter, which has read nothing, if none is kept.
+fn keep_cutter<'a>(
     alloc: Global,
     kept: &mut Option<Cutter<'a>>,
     lexer: &'a ModeLexer,
-) -> Result<Cutter<'a>, AllocError>
-    ensures none { kept.new ≡ None }
+) -> Result<(), AllocError>
+    ensures some { OnOk result (IsSome kept.new) }
     ensures ready { (at : ℕ) (text : List ℕ) → IfSome kept.old (λ c. IsCutter lexer.now c at text)
-        → IfOk result (λ c. IsCutter lexer.now c at text) }
+        → IfSome kept.new (λ c. IsCutter lexer.now c at text) }
 {
-    match kept.take() {
-        Some(cutter) => Ok(cutter),
-        None => Cutter::new(alloc, lexer),
+    if kept.is_none() {
+        *kept = Some(Cutter::new(alloc, lexer)?);
     }
+    Ok(())
 }
 
 // The piece at the front of the rest, which begins at the byte `at` of the text, if no more of the text can change it.
 fn final_front(
     lexer: &ModeLexer,
-    cutter: &mut Cutter<'_>,
+    kept: &mut Option<Cutter<'_>>,
     mode: usize,
     at: usize,
     rest: &str,
     is_ended: bool,
 ) -> Option<Front>
     requires there { mode < lexer.now.modes }
-    requires cutter { IsCutter lexer.now cutter.old at rest.now }
+    requires some { IsSome kept.old }
+    requires cutter { IfSome kept.old (λ c. IsCutter lexer.now c at rest.now) }
     requires fits { at + length rest.now < 2 ^ 64 }
     ensures settled { IfSome result (λ f. (more : List ℕ) → (is_ended ≡ true → more ≡ [])
         → IsFront (trees_in lexer.now mode) lexer.now.precedences (rest.now ++ more) f.rule
@@ -125,11 +126,14 @@ fn final_front(
     ensures boundary { IfSome result (λ f. IsCharBoundary rest.now f.size) }
     ensures empty { IfNone result (is_ended ≡ true → rest.now ≡ []) }
     ensures held { IfNone result (is_ended ≡ false → IsOpen (trees_in lexer.now mode) rest.now) }
-    ensures cutter { IsCutter lexer.now cutter.new at rest.now }
+    ensures cutter { IfSome kept.new (λ c. IsCutter lexer.now c at rest.now) }
 {
     if rest.is_empty() {
         return None;
     }
+    let Some(cutter) = kept else {
+        unreachable!();
+    };
     let walker = &cutter.walkers[mode];
     let front = front_piece(
         lexer.lexer(mode),
@@ -331,10 +335,16 @@ impl<'rules> Chunks<'rules> {
         if self.at.checked_add(rest.len()).is_none() {
             return Err(EditError::TooLarge);
         }
-        let mut cutter = take_cutter(*self.text.allocator(), &mut self.cutter, self.lexer)?;
+        keep_cutter(*self.text.allocator(), &mut self.cutter, self.lexer)?;
         let mode = self.stack.top();
-        let found = final_front(self.lexer, &mut cutter, mode, self.at, rest, self.is_ended);
-        self.cutter = Some(cutter);
+        let found = final_front(
+            self.lexer,
+            &mut self.cutter,
+            mode,
+            self.at,
+            rest,
+            self.is_ended,
+        );
         let Some(front) = found else {
             return Ok(None);
         };

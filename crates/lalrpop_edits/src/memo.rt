@@ -39,6 +39,16 @@ impl Memo {
         if from / STRIDE == to / STRIDE {
             return None;
         }
+        self.look_up(mode, place, to)
+    }
+
+    // What was noted there. It stays out of the loops that read, since it's rarely called.
+    #[cold]
+    #[inline(never)]
+    fn look_up(&self, mode: usize, place: usize, to: usize) -> Option<usize>
+        ensures known { IfSome result (λ n. IsNoted self.now mode place to n) }
+        ensures unknown { IfNone result (¬ IsKnown self.now mode place to) }
+    {
         self.noted.get(&(mode, (place, to))).copied()
     }
 
@@ -51,9 +61,21 @@ impl Memo {
             → IsKnown self.new mode place to }
         ensures whole { self.new.is_whole ≡ true → self.old.is_whole ≡ true }
     {
-        if from / STRIDE == to / STRIDE {
-            return;
+        if from / STRIDE != to / STRIDE {
+            self.insert(mode, place, to, size);
         }
+    }
+
+    // Notes it, if there is memory.
+    #[cold]
+    #[inline(never)]
+    fn insert(&mut self, mode: usize, place: usize, to: usize, size: usize)
+        ensures only { (m p at n : ℕ) → IsNoted self.new m p at n → IsNoted self.old m p at n
+            ⊎ ((m ≡ mode) × (p ≡ place) × (at ≡ to) × (n ≡ size)) }
+        ensures stays { (m p at : ℕ) → IsKnown self.old m p at → IsKnown self.new m p at }
+        ensures noted { self.new.is_whole ≡ true → IsKnown self.new mode place to }
+        ensures whole { self.new.is_whole ≡ true → self.old.is_whole ≡ true }
+    {
         match self.noted.insert((mode, (place, to)), size) {
             Ok(_) => {}
             // Then it isn't noted.

@@ -1,6 +1,6 @@
 //! The longest match at the front of a text, and what settles it.
 
-ghost use Rattle.std.specs.Prelude.{◌≡◌, ◌≢◌, ℕ, ◌≤◌, ◌<◌, ◌+◌, ◌*◌, ◌^◌, ◌++◌, [], List, length, take, drop, ◌↔◌, true, IfSome, IsTrue};
+ghost use Rattle.std.specs.Prelude.{◌≡◌, ◌≢◌, ℕ, ◌≤◌, ◌<◌, ◌+◌, ◌*◌, ◌^◌, ◌++◌, [], List, Option, length, take, drop, ◌↔◌, true, IfSome, IsTrue};
 ghost use Rattle.std.specs.Option.{option_map};
 ghost use Rattle.std.specs.List.{All};
 ghost use Rattle.std.specs.Str.{chars, encode_utf8_all, IsUtf8};
@@ -30,11 +30,10 @@ pub(crate) struct Settled<'text> {
     pub(crate) reach: usize,
 }
 
-// What a run finds: the longest match; where it ends in the text, and the place of the walk there, or else of the beginning; how many
-// bytes were read; and how many settle it.
+// What a run finds: where the longest match ends in the text, 0 if there is none, and the place of the walk there; how many bytes
+// were read; and how many settle it.
 #[derive(Clone, Copy)]
-struct Run<'text> {
-    longest: Option<(NfaIndex, &'text str)>,
+struct Run {
     end: usize,
     place: usize,
     read: usize,
@@ -103,19 +102,19 @@ fn note_all(
 }
 
 // Runs along the text, up to where it is settled that no match comes any more. It begins at the byte `at` of a longer one.
-fn run_along<'text>(
+fn run_along(
     walker: &Walker<'_>,
     memo: &Memo,
     mode: usize,
     at: usize,
-    text: &'text str,
+    text: &str,
     steps: &mut Steps,
-) -> Run<'text>
+) -> Run
     requires right { IsRight walker.now }
     requires fits { at + length text.now < 2 ^ 64 }
     requires sound { IsSound walker.now memo.now mode at text.now }
-    ensures stand { IsStand walker.now text.now result.end result.place
-        (option_map (λ m. (m.0, m.1.now)) result.longest) }
+    ensures stand { (best : Option (ℕ × List ℕ))
+        × IsStand walker.now text.now result.end result.place best }
     ensures order { result.end ≤ result.read }
     ensures over { (n : ℕ) × ((result.reach ≡ result.end + n)
         × IsOver walker.now result.place (chars (drop result.end text.now)) n) }
@@ -124,23 +123,21 @@ fn run_along<'text>(
     ensures cost { steps.new ≤ steps.old + result.read }
     ensures read { steps.old + length (chars (take result.read text.now)) ≤ steps.new }
 {
-    let mut longest = None;
     let mut matched = 0;
     let mut there = walker.start();
     let mut place = there;
-    for (offset, c) in text.char_indices() {
-        let end = offset + c.len_utf8();
+    let mut end = 0;
+    'walk: while end < text.len() {
+        let begin = end;
+        place = walker.read(place, text, &mut end);
         steps.tick();
-        place = walker.next(place, c);
         match walker.kind(place) {
-            Kind::Accepts(pattern) => {
-                longest = Some((pattern, &text[..end]));
+            Kind::Accepts(_) => {
                 matched = end;
                 there = place;
             }
             Kind::Reject => {
                 return Run {
-                    longest,
                     end: matched,
                     place: there,
                     read: end,
@@ -148,9 +145,8 @@ fn run_along<'text>(
                 };
             }
             Kind::Neither => {
-                if let Some(size) = memo.known(mode, place, at + offset, at + end) {
+                if let Some(size) = memo.known(mode, place, at + begin, at + end) {
                     return Run {
-                        longest,
                         end: matched,
                         place: there,
                         read: end,
@@ -163,7 +159,6 @@ fn run_along<'text>(
     let read = text.len();
     if walker.is_last(place) {
         return Run {
-            longest,
             end: matched,
             place: there,
             read,
@@ -171,11 +166,31 @@ fn run_along<'text>(
         };
     }
     Run {
-        longest,
         end: matched,
         place: there,
         read,
         reach: read + 1,
+    }
+}
+
+// The match that a run found.
+fn match_at<'text>(
+    walker: &Walker<'_>,
+    text: &'text str,
+    end: usize,
+    place: usize,
+) -> Option<(NfaIndex, &'text str)>
+    requires right { IsRight walker.now }
+    requires stand { (best : Option (ℕ × List ℕ)) × IsStand walker.now text.now end place best }
+    ensures stand { IsStand walker.now text.now end place
+        (option_map (λ m. (m.0, m.1.now)) result) }
+{
+    if end == 0 {
+        return None;
+    }
+    match walker.kind(place) {
+        Kind::Accepts(pattern) => Some((pattern, &text[..end])),
+        Kind::Reject | Kind::Neither => unreachable!(),
     }
 }
 
@@ -218,6 +233,7 @@ pub(crate) fn longest_settled<'text>(
     ensures never_falls { steps.old ≤ steps.new }
 {
     let run = run_along(walker, memo, mode, at, text, steps);
+    let longest = match_at(walker, text, run.end, run.place);
     note_all(
         walker,
         memo,
@@ -230,7 +246,7 @@ pub(crate) fn longest_settled<'text>(
         steps,
     );
     Settled {
-        longest: run.longest,
+        longest,
         reach: run.reach,
     }
 }

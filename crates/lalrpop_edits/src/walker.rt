@@ -28,7 +28,8 @@ pub(crate) enum Walker<'a> {
 
 impl<'a> Walker<'a> {
     ghost use Rattle.lalrpop_dfa.specs.declared.Kind.TheVariants.{Reject};
-    ghost use Rattle.lalrpop_edits.specs.Internal.Walking.{HasOnePlace, IsMet, IsRight, IsWalkerOf, first_of, next_of, says};
+    ghost use Rattle.lalrpop_edits.specs.Internal.Walking.{HasOnePlace, IsMet, IsRight, IsWalkerOf, Reads, first_of, next_of, says};
+    ghost use Rattle.std.specs.Str.{IsCharBoundary};
 
     /// The walk along this automaton.
     pub(crate) fn of(dense: &'a DenseDfa) -> Walker<'a>
@@ -68,6 +69,30 @@ impl<'a> Walker<'a> {
         match self {
             Walker::Table(table) => cell(table, place, class(table, c) as usize),
             Walker::States(dfa) => dfa.step(DfaStateIndex::new(place), u32::from(c)).index(),
+        }
+    }
+
+    /// The place that the character of the text at the byte `at` leads to, which moves behind it.
+    #[inline(always)]
+    pub(crate) fn read(&self, place: usize, text: &str, at: &mut usize) -> usize
+        requires right { IsRight self.now }
+        requires met { IsMet self.now place }
+        requires boundary { IsCharBoundary text.now at.old }
+        requires within { at.old < length text.now }
+        ensures read { Reads self.now text.now place at.old result at.new }
+    {
+        let first = text.as_bytes()[*at];
+        if first < 128 {
+            *at += 1;
+            return self.next(place, char::from(first));
+        }
+        match text[*at..].chars().next() {
+            Some(c) => {
+                *at += c.len_utf8();
+                self.next(place, c)
+            }
+            // The text goes on.
+            None => unreachable!(),
         }
     }
 

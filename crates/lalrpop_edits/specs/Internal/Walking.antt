@@ -1,6 +1,7 @@
 -- cases: proofs/Cases/Walking.antt
 -- A walk along an automaton, by its table if it has one.
-use Rattle.std.specs.Prelude.{◌≡◌, ℕ, ◌+◌, ◌*◌, ◌<◌, List, [], ◌∷◌, nat_lt, if◌then◌else◌, Option, Some, None, slice_get, slice_index, IsSomeAnd}
+use Rattle.std.specs.Prelude.{◌≡◌, ℕ, ◌+◌, ◌*◌, ◌<◌, List, [], ◌∷◌, ◌++◌, length, drop, nat_lt, if◌then◌else◌, Option, Some, None, slice_get, slice_index, IsSomeAnd}
+use Rattle.std.specs.Char.{encode_utf8}
 use Rattle.std.specs.List.{All}
 use Rattle.lalrpop_dfa.specs.Dfa.{Row, IsWellFormed, step, after}
 use Rattle.lalrpop_dfa.specs.declared.Kind.{Kind}
@@ -23,6 +24,13 @@ next_of (States d) place c = step d.now place c
 abbrev pub behind_from : Walker → ℕ → List ℕ → ℕ
 behind_from w place [] = place
 behind_from w place (c ∷ word) = behind_from w (next_of w place c) word
+
+-- the character of the text between these bytes leads from the one place to the other
+pub record Reads (w : Walker) (text : List ℕ) (place at place2 at2 : ℕ) : Type 0 where
+  pub character : ℕ
+  pub split : drop at text ≡ encode_utf8 character ++ drop at2 text
+  pub size : at2 ≡ at + length (encode_utf8 character)
+  pub leads : place2 ≡ next_of w place character
 
 -- the place that the word leads to
 abbrev pub behind : Walker → List ℕ → ℕ

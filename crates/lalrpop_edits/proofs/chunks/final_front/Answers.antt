@@ -1,31 +1,40 @@
 use Rattle.std.proofs.Common.{rules, ◌≡◌, ◌≤◌, ◌⊎◌, [], length, get_or, inl, inr, subst}
+use Rattle.std.specs.Prelude.{Option, IfSome}
 use Rattle.lalrpop_edits.specs.Chunked.{IsOpen}
+use Rattle.lalrpop_edits.specs.Internal.Noted.{IsCutter}
+use Rattle.lalrpop_edits.specs.declared.cutter.Cutter.{Cutter}
 use Rattle.lalrpop_edits.proofs.Chunking.{cutter_more, front_final, walker_there}
 use Rattle.lalrpop_edits.proofs.chunks.final_front.Goals as goal
 use Rattle.lalrpop_edits.proofs.chunks.final_front.Goals.{then-is_ended-via-then-is_ended, then-is_ended-via-else-is_ended+then-front-rest}
 
 pub front_piece-front-requires-clause-sound : goal.front_piece-front-requires-clause-sound
 front_piece-front-requires-clause-sound c =
-    let cutter = c.args.cutter.now in
+    let cutter = c.in-Some.cutter in
+    let here : IsCutter c.args.lexer.now cutter c.args.at c.args.rest.now =
+    subst (λ (o : Option Cutter). IfSome o (λ t. IsCutter c.args.lexer.now t c.args.at c.args.rest.now)) c.in-Some.is c.requires.cutter in
     let walker = c.index-walker.result.now in
     let same : get_or cutter.walkers.items c.args.mode walker ≡ walker = first_of (cc, search rules) in
-    c.requires.cutter.sound c.args.mode walker (walker_there c.args.lexer.now cutter c.args.at c.args.mode walker c.args.rest.now c.requires.cutter c.requires.there same)
+    here.sound c.args.mode walker (walker_there c.args.lexer.now cutter c.args.at c.args.mode walker c.args.rest.now here c.requires.there same)
 
 pub returns-then-is_ended-clause-cutter : goal.returns-then-is_ended-clause-cutter
 returns-then-is_ended-clause-cutter c =
-    let cutter = c.args.cutter.now in
+    let cutter = c.in-Some.cutter in
+    let here : IsCutter c.args.lexer.now cutter c.args.at c.args.rest.now =
+    subst (λ (o : Option Cutter). IfSome o (λ t. IsCutter c.args.lexer.now t c.args.at c.args.rest.now)) c.in-Some.is c.requires.cutter in
     let walker = c.index-walker.result.now in
     let same : get_or cutter.walkers.items c.args.mode walker ≡ walker = first_of (cc, search rules) in
-    let there = walker_there c.args.lexer.now cutter c.args.at c.args.mode walker c.args.rest.now c.requires.cutter c.requires.there same in
-    cutter_more c.args.lexer.now cutter c.front_piece-front.new.memo c.args.mode c.args.at walker c.args.rest.now c.requires.cutter there c.front_piece-front.ensures.sound c.front_piece-front.ensures.others
+    let there = walker_there c.args.lexer.now cutter c.args.at c.args.mode walker c.args.rest.now here c.requires.there same in
+    cutter_more c.args.lexer.now cutter c.front_piece-front.new.memo c.args.mode c.args.at walker c.args.rest.now here there c.front_piece-front.ensures.sound c.front_piece-front.ensures.others
 
 pub returns-clause-cutter : goal.returns-clause-cutter
 returns-clause-cutter c =
-    let cutter = c.args.cutter.now in
+    let cutter = c.in-Some.cutter in
+    let here : IsCutter c.args.lexer.now cutter c.args.at c.args.rest.now =
+    subst (λ (o : Option Cutter). IfSome o (λ t. IsCutter c.args.lexer.now t c.args.at c.args.rest.now)) c.in-Some.is c.requires.cutter in
     let walker = c.index-walker.result.now in
     let same : get_or cutter.walkers.items c.args.mode walker ≡ walker = first_of (cc, search rules) in
-    let there = walker_there c.args.lexer.now cutter c.args.at c.args.mode walker c.args.rest.now c.requires.cutter c.requires.there same in
-    cutter_more c.args.lexer.now cutter c.front_piece-front.new.memo c.args.mode c.args.at walker c.args.rest.now c.requires.cutter there c.front_piece-front.ensures.sound c.front_piece-front.ensures.others
+    let there = walker_there c.args.lexer.now cutter c.args.at c.args.mode walker c.args.rest.now here c.requires.there same in
+    cutter_more c.args.lexer.now cutter c.front_piece-front.new.memo c.args.mode c.args.at walker c.args.rest.now here there c.front_piece-front.ensures.sound c.front_piece-front.ensures.others
 
 pub returns-then-is_ended-clause-settled : goal.returns-then-is_ended-clause-settled
 returns-then-is_ended-clause-settled c more may =

@@ -15,12 +15,12 @@ use Rattle.lalrpop_edits.proofs.run.longest_settled.Goals as goal
 
 pub range_from-requires : goal.range_from-requires
 range_from-requires c = λ some.
-    let stand = c.run_along-run.ensures.stand in
+    let stand = c.match_at-longest.ensures.stand in
     IsCharBoundary-from_take c.args.text.now c.run_along-run.result.end c.utf8.text stand.within stand.seen
 
 pub note_all-requires-clause-met : goal.note_all-requires-clause-met
 note_all-requires-clause-met c =
-    let stand = c.run_along-run.ensures.stand in
+    let stand = c.match_at-longest.ensures.stand in
     subst (IsMet c.args.walker.now) (sym stand.reached) (met_behind c.args.walker.now (chars (take c.run_along-run.result.end c.args.text.now)) (text_scalars (take c.run_along-run.result.end c.args.text.now) stand.seen))
 
 pub returns-clause-answer : goal.returns-clause-answer
@@ -28,8 +28,8 @@ returns-clause-answer c = λ d ts ps walks h.
     let w = c.args.walker.now in
     let text = c.args.text.now in
     let run = c.run_along-run.result in
-    let stand = c.run_along-run.ensures.stand in
-    let best = option_map (λ m. (m.0, m.1.now)) run.longest in
+    let stand = c.match_at-longest.ensures.stand in
+    let best = option_map (λ m. (m.0, m.1.now)) c.match_at-longest.result in
     let cut = stand_cut w text run.end run.place best stand in
     let over = c.run_along-run.ensures.over in
     over_longest w d ts ps walks h text (drop run.end text) run.end over.0 best cut
@@ -41,8 +41,8 @@ returns-clause-settled c = λ d ts ps walks h.
     let w = c.args.walker.now in
     let text = c.args.text.now in
     let run = c.run_along-run.result in
-    let stand = c.run_along-run.ensures.stand in
-    let cut = stand_cut w text run.end run.place (option_map (λ m. (m.0, m.1.now)) run.longest) stand in
+    let stand = c.match_at-longest.ensures.stand in
+    let cut = stand_cut w text run.end run.place (option_map (λ m. (m.0, m.1.now)) c.match_at-longest.result) stand in
     let over = c.run_along-run.ensures.over in
     subst (IsSettledBy ts text) (sym over.1.0)
     (over_settles w d ts ps walks h text (drop run.end text) (chars (drop run.end text)) run.end over.0 c.utf8.text cut refl
@@ -53,16 +53,16 @@ returns-clause-prefix c =
     let w = c.args.walker.now in
     let text = c.args.text.now in
     let run = c.run_along-run.result in
-    let stand = c.run_along-run.ensures.stand in
-    let cut = stand_cut w text run.end run.place (option_map (λ m. (m.0, m.1.now)) run.longest) stand in
-    last_prefix w text (drop run.end text) run.end run.place run.longest cut stand.last
+    let stand = c.match_at-longest.ensures.stand in
+    let cut = stand_cut w text run.end run.place (option_map (λ m. (m.0, m.1.now)) c.match_at-longest.result) stand in
+    last_prefix w text (drop run.end text) run.end run.place c.match_at-longest.result cut stand.last
 
 pub returns-clause-within : goal.returns-clause-within
 returns-clause-within c =
     let w = c.args.walker.now in
     let text = c.args.text.now in
     let run = c.run_along-run.result in
-    let stand = c.run_along-run.ensures.stand in
+    let stand = c.match_at-longest.ensures.stand in
     let over = c.run_along-run.ensures.over in
     omega (arith, over.1.0, over_within w run.place over.0 (drop run.end text) (chars (drop run.end text)) stand.rest refl over.1.1, length-drop run.end text, stand.within)
 
@@ -71,8 +71,8 @@ returns-clause-earliest c = λ past d ts ps walks trim h.
     let w = c.args.walker.now in
     let text = c.args.text.now in
     let run = c.run_along-run.result in
-    let stand = c.run_along-run.ensures.stand in
-    let cut = stand_cut w text run.end run.place (option_map (λ m. (m.0, m.1.now)) run.longest) stand in
+    let stand = c.match_at-longest.ensures.stand in
+    let cut = stand_cut w text run.end run.place (option_map (λ m. (m.0, m.1.now)) c.match_at-longest.result) stand in
     let over = c.run_along-run.ensures.over in
     over_earliest w d ts ps walks h text (drop run.end text) run.end over.0 trim c.utf8.text cut
     (subst (λ (p : ℕ). IsOver w p (chars (drop run.end text)) over.0) stand.reached over.1.1)
@@ -82,7 +82,7 @@ pub returns-clause-sound : goal.returns-clause-sound
 returns-clause-sound c = λ begin i all sum within is sound.
     let run = c.run_along-run.result in
     let there = c.range_from.ensures.value in
-    whole_sound c.args.walker.now c.args.memo.now c.note_all.new.memo c.args.mode c.args.at run.end c.args.text.now c.run_along-run.ensures.stand.within
+    whole_sound c.args.walker.now c.args.memo.now c.note_all.new.memo c.args.mode c.args.at run.end c.args.text.now c.match_at-longest.ensures.stand.within
     (λ begin2 i2 all2 sum2 within2 is2 sound2. c.note_all.ensures.sound begin2 i2 all2 sum2 within2 (is2 ∙ sym there) sound2) begin i all sum within is sound
 
 pub returns-clause-all_open : goal.returns-clause-all_open
@@ -90,8 +90,8 @@ returns-clause-all_open c = λ n above below within utf8.
     let w = c.args.walker.now in
     let text = c.args.text.now in
     let run = c.run_along-run.result in
-    let stand = c.run_along-run.ensures.stand in
-    let best : Option (ℕ × List ℕ) = option_map (λ m. (m.0, m.1.now)) run.longest in
+    let stand = c.match_at-longest.ensures.stand in
+    let best : Option (ℕ × List ℕ) = option_map (λ m. (m.0, m.1.now)) c.match_at-longest.result in
     let over = c.run_along-run.ensures.over in
     open_behind w text run.end n over.0 (stand_cut w text run.end run.place best stand)
     (subst (λ (p : ℕ). IsOver w p (chars (drop run.end text)) over.0) stand.reached over.1.1)
@@ -102,12 +102,12 @@ returns-clause-paid c = λ whole.
     let w = c.args.walker.now in
     let text = c.args.text.now in
     let run = c.run_along-run.result in
-    let best : Option (ℕ × List ℕ) = option_map (λ m. (m.0, m.1.now)) run.longest in
+    let best : Option (ℕ × List ℕ) = option_map (λ m. (m.0, m.1.now)) c.match_at-longest.result in
     let vain = c.run_along-run.ensures.vain in
     let old = c.args.memo.now in
     let new = c.note_all.new.memo in
     run_paid w old new c.args.mode c.args.at text run.end run.place run.read c.args.steps.now c.run_along-run.new.steps c.note_all.new.steps best vain.0
-    c.run_along-run.ensures.stand vain.1 c.run_along-run.ensures.cost c.note_all.ensures.cost c.note_all.ensures.few
+    c.match_at-longest.ensures.stand vain.1 c.run_along-run.ensures.cost c.note_all.ensures.cost c.note_all.ensures.few
     (subst (λ (t : List ℕ). 64 ≤ run.read - run.end → (more : List ℕ) → chars t ≡ vain.0 ++ more → AreUnknown w old c.args.mode (c.args.at + run.end) run.place vain.0
     → length (encode_utf8_all vain.0) ≤ run.read - run.end → run.read - run.end ≤ length (encode_utf8_all vain.0) + 4 → run.read - run.end ≤ length t
     → (news : List (ℕ × (ℕ × ℕ))) × (All (IsNew w old new c.args.mode (c.args.at + run.end) t (length (encode_utf8_all vain.0))) news

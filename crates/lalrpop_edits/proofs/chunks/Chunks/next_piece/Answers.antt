@@ -2,18 +2,14 @@ use Rattle.std.proofs.Common.{◌≡◌, ℕ, List, ◌+◌, ◌-◌, take, drop
 use Rattle.std.specs.Prelude.{Some}
 use Rattle.std.specs.Str.{IsCharBoundary}
 use Rattle.std.proofs.lemmas.List.{drop-drop}
+use Rattle.std.proofs.lemmas.Option.{IfSome_then}
 use Rattle.std.proofs.lemmas.Str.{IsCharBoundary-from_rest}
 use Rattle.lalrpop_edits.specs.Chunked.{Chunked, GivesFinal, IsHeldBack}
 use Rattle.lalrpop_edits.specs.Given.{item_by}
 use Rattle.lalrpop_edits.specs.Internal.Noted.{IsCutter}
+use Rattle.lalrpop_edits.specs.declared.cutter.Cutter.{Cutter}
 use Rattle.lalrpop_edits.proofs.Chunking.{cutter_behind, held_back_here, gives_here}
 use Rattle.lalrpop_edits.proofs.chunks.Chunks.next_piece.Goals as goal
-
-pub final_front-found-requires-clause-cutter : goal.final_front-found-requires-clause-cutter
-final_front-found-requires-clause-cutter c =
-    let i = c.self.inside in
-    let left : c.range_from-rest.result.now ≡ drop i.given (string_bytes i.text) = cc (c.range_from-rest.ensures.value, c.deref.ensures) in
-    subst (IsCutter i.lexer.now c.in_ok-cutter.cutter i.at) (sym left) (c.in_ok-cutter.ensures.ready i.at (drop i.given (string_bytes i.text)) c.self.invariant.4)
 
 pub returns-in_default : goal.returns-in_default
 returns-in_default c =
@@ -30,13 +26,15 @@ invariant_of-self-2 c =
     let size = c.in-Some.front.size in
     let text = string_bytes i.text in
     let left : c.range_from-rest.result.now ≡ drop i.given text = cc (c.range_from-rest.ensures.value, c.deref.ensures) in
-    let behind = cutter_behind i.lexer.now c.final_front-found.new.cutter i.at size c.range_from-rest.result.now c.in-Some.ensures.boundary.0 c.final_front-found.ensures.cutter in
+    let next : (t : Cutter) → IsCutter i.lexer.now t i.at c.range_from-rest.result.now → IsCutter i.lexer.now t (i.at + size) (drop (i.given + size) text) =
+    (λ t is. subst (IsCutter i.lexer.now t (i.at + size)) (ap (drop size) left ∙ drop-drop size i.given text)
+    (cutter_behind i.lexer.now t i.at size c.range_from-rest.result.now c.in-Some.ensures.boundary.0 is)) in
     let cut : IsCharBoundary (drop i.given text) size = subst (λ (t : List ℕ). IsCharBoundary t size) left c.in-Some.ensures.boundary in (
       omega arith,
       c.self.invariant.2,
       IsCharBoundary-from_rest text i.given size c.self.invariant.2.0 cut,
       c.in_ok-act_by.ensures.there c.self.invariant.3,
-      subst (IsCutter i.lexer.now c.final_front-found.new.cutter (i.at + size)) (ap (drop size) left ∙ drop-drop size i.given text) behind,
+      IfSome_then c.final_front-found.new.kept c.final_front-found.ensures.cutter next,
     )
 
 pub returns : goal.returns

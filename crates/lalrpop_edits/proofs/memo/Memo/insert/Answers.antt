@@ -1,6 +1,6 @@
 use Rattle.lalrpop_edits.specs.declared.memo.Memo.{Memo}
 use Rattle.lalrpop_edits.proofs.Noting.{known_more, noted_more}
-use Rattle.lalrpop_edits.proofs.memo.Memo.note.Goals as goal
+use Rattle.lalrpop_edits.proofs.memo.Memo.insert.Goals as goal
 
 pub returns-in-Ok : goal.returns-in-Ok
 returns-in-Ok c =
@@ -8,6 +8,6 @@ returns-in-Ok c =
     record {
       only = λ m p at n noted. noted_more c.args.self.now more c.args.mode c.args.place c.args.to c.args.size c.in-Ok.ensures.updates m p at n noted;
       stays = λ m p at known. known_more c.args.self.now more c.args.mode c.args.place c.args.to c.args.size c.in-Ok.ensures.updates m p at known;
-      noted = λ whole apart. (c.args.size, c.in-Ok.ensures.updates.1);
+      noted = λ whole. (c.args.size, c.in-Ok.ensures.updates.1);
       whole = λ whole. whole;
     }
