@@ -1,6 +1,6 @@
 -- cases: proofs/Cases/Answer.antt
 -- What the program answers.
-use Rattle.std.specs.Prelude.{ℕ, ◌+◌, ◌⊎◌, max, List, [], ◌++◌, Option, codes}
+use Rattle.std.specs.Prelude.{ℕ, ◌⊎◌, max, List, [], ◌++◌, Option, codes}
 use Rattle.std.specs.Io.KnownBytes.{Appends}
 use Rattle.lexdfa_lib.specs.Watch.{AppendsPrefix}
 

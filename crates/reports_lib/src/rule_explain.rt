@@ -62,7 +62,7 @@ fn text_of<'text>(rules: &[ModeRule<'text>], index: usize) -> &'text str
     }
 }
 
-// Where and why the pattern of a rule doesn't parse: after so many characters of the text that begins at the place.
+// Where and why the pattern of a rule doesn't parse: `inside` characters behind the place where its text begins.
 fn syntax_explained(
     alloc: Global,
     bytes: &[u8],

@@ -326,7 +326,7 @@ pub on_err : {T E X : Type 0} (result : Result T E) → X → OnErr result X
 on_err (Ok told) x = tt
 on_err (Err error) x = x
 
--- so many bytes are wanted, and fewer come
+-- fewer bytes come than are wanted
 pub held_on : (broken : Bool) (x y z wanted left n : ℕ) → broken ≡ false → x + wanted ≤ y + left → n < left → (broken ≡ true) ⊎ (y + n ≤ z) → x + wanted ≤ z + (left - n)
 held_on broken x y z wanted left n whole least less grows = ⊎_elim (λ bad. absurd (true≢false (sym bad ∙ whole))) (λ more. omega arith) grows
 

@@ -18,7 +18,7 @@ Reads Gives IsFor file answer =
     ((reason : List ℕ) × (Gives file (Err reason) × (answer ≡ refusal 6 (about file reason))))
     ⊎ ((bytes : List ℕ) × (Gives file (Ok bytes) × IsFor file bytes answer))
 
--- after a byte order mark, which is left out, the bytes are no text, and this is said; or they are a text with this answer
+-- after a byte order mark, which is left out, the bytes aren't a text, and this is said; or they are one, with this answer
 abbrev pub TextOf : (List ℕ → List ℕ → Answer → Type 0) → List ℕ → List ℕ → Answer → Type 0
 TextOf IsFor file bytes answer =
     ((at : ℕ) × (IsValidUpTo (without_mark bytes) at × (answer ≡ refusal 6 (about file (lack_text (NotText at))))))

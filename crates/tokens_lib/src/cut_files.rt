@@ -143,7 +143,7 @@ fn cut_text<W: Write, E: Write>(
     tell_stop(alloc, name, text, stop_of(&outcome), err)
 }
 
-// Says that the bytes of a file are no text from here on, and returns the status.
+// Says why the text of a file ends early, and returns the status.
 fn refuse_bytes<E: Write>(
     alloc: Global,
     name: &str,

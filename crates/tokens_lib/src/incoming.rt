@@ -123,7 +123,7 @@ impl<'rules> Incoming<'rules> {
         }
     }
 
-    // Reads until so many bytes have come, or a read brings nothing or fails, or a byte has come that is of no character.
+    // Reads until `wanted` bytes have come, or a read brings nothing or fails, or a byte has come that is of no character.
     fn read_much<R: Read>(
         &mut self,
         alloc: Global,

@@ -42,7 +42,7 @@ fn page_form<'rules>(
 /// # Errors
 ///
 /// `OutOfMemory` if a request for memory was refused, and `Write` if a write failed or took no byte: a prefix of the page
-/// was written. A read that fails is no error: the text breaks off there.
+/// was written. Where a read fails, the text breaks off; that isn't an error.
 pub fn write_page<R: Read, W: Write>(
     alloc: Global,
     lexer: &ModeLexer,
