@@ -54,7 +54,7 @@ read_more ts text rest rest2 at at2 c reach reach2 m u h e l read le far settled
     by_order (inr (inr later)) = absurd (no_boundary text rest rest2 at at2 c k u h e l later less here)
 
 -- what matches a word is its only strongest tree, if an automaton recognizes the trees
-only_strongest : (d : List Row) (ts : List Tree) (ps w : List ℕ) (i : ℕ) → RecognizesAll d ts ps → IsStrongest ts ps w i → IsOnlyStrongest ts ps w i
+pub only_strongest : (d : List Row) (ts : List Tree) (ps w : List ℕ) (i : ℕ) → RecognizesAll d ts ps → IsStrongest ts ps w i → IsOnlyStrongest ts ps w i
 only_strongest d ts ps w i h s = at (slice_get d (after d w)) (h.kinds w)
   where
     by_kind : (k : Kind) → IsRightKind ts ps w k → IsOnlyStrongest ts ps w i

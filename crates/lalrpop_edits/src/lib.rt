@@ -21,6 +21,7 @@ mod memo;
 mod pieces;
 mod place;
 mod run;
+mod settled_token;
 #[cfg(test)]
 mod test;
 mod walker;
@@ -32,3 +33,4 @@ pub use error::EditError;
 pub use given_piece::GivenPiece;
 pub use lexed_text::LexedText;
 pub use pieces::Pieces;
+pub use settled_token::SettledToken;

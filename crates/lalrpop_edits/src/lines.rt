@@ -1,10 +1,11 @@
 //! Lines and columns in a text, block by block.
 
-ghost use Rattle.std.specs.Prelude.{◌≡◌, ◌≢◌, ℕ, ◌+◌, ◌<◌, ◌≤◌, ◌↔◌, ◌++◌, List, drop, IfSome, IfNone, IsSome, IsTrue};
-ghost use Rattle.std.specs.Char.{encode_utf8};
+ghost use Rattle.std.specs.Prelude.{◌≡◌, ◌≢◌, ℕ, ◌+◌, ◌<◌, ◌≤◌, ◌↔◌, ◌⊎◌, drop, IfSome, IfNone, IsSome, IsTrue};
 ghost use Rattle.std.specs.Str.{IsCharBoundary};
 ghost use Rattle.lalrpop_lexer.specs.Position.{IsBefore, position_of};
-ghost use Rattle.lalrpop_edits.specs.Internal.BlockPlaces.{AreCounted, IsCounted, IsMark};
+ghost use Rattle.lalrpop_edits.specs.declared.block.Block.{Block as BlockValue};
+ghost use Rattle.lalrpop_edits.specs.Internal.BlockPlaces.{AreCounted, IsCounted, IsMark, ReachesPlace};
+ghost use Rattle.lalrpop_edits.specs.Internal.Handing.{IsBlockAt, size_in};
 
 use crate::block::Block;
 use lalrpop_lexer::Position;
@@ -59,6 +60,8 @@ fn block_before(text: &str, blocks: &[Block], at: usize) -> Mark
     requires counted { AreCounted text.now blocks.now }
     ensures mark { IsMark text.now result }
     ensures order { result.at ≤ at }
+    ensures near { ((b : BlockValue) × IsBlockAt blocks.now b result.at at)
+        ⊎ ((result.at ≡ size_in blocks.now) × (size_in blocks.now ≤ at)) }
 {
     let mut mark = BEGIN;
     for block in blocks {
@@ -97,6 +100,8 @@ fn block_reaching(text: &str, blocks: &[Block], place: Position) -> Mark
     ensures mark { IsMark text.now result }
     ensures front { (n : ℕ) → IsCharBoundary text.now n → n < result.at
         → position_of text.now n ≢ place }
+    ensures near { ((b : BlockValue) × ReachesPlace text.now blocks.now b result.at place)
+        ⊎ (result.at ≡ size_in blocks.now) }
 {
     let mut mark = BEGIN;
     for block in blocks {

@@ -1,6 +1,6 @@
 //! Texts that are edited, and texts that come in chunks.
 
-use crate::{Change, Chunks, EditError, LexedText};
+use crate::{Change, Chunks, EditError, LexedText, SettledToken};
 use lalrpop_modes::{Action, ModeLexer, ModeRule, ModeStack, ModesError};
 use lalrpop_rules::Rule;
 use std::alloc::Global;
@@ -218,5 +218,18 @@ fn runs_that_find_nothing_are_not_made_again(rt: HostRuntime) -> Result<(), Fail
     let change = lexed.edit(rt.alloc(), 200_000..200_000, "b")?;
     assert!(rt; (change.start, change.new_end) == (0, 200_001));
     assert!(rt; holds(&lexed, 0, lexed.text()));
+    Ok(())
+}
+
+#[test]
+fn the_next_character_settles_a_word(rt: HostRuntime) -> Result<(), Fail> {
+    let lexer = words_and_comments(rt.alloc())?;
+    let inner = lexer.lexer(0);
+    let word = SettledToken::of(rt.alloc(), inner, "ab cd");
+    assert!(rt; word.token.is_some() && word.reach == 3);
+    let whole = SettledToken::of(rt.alloc(), inner, "ab");
+    assert!(rt; whole.token.is_some() && whole.reach == 3);
+    let none = SettledToken::of(rt.alloc(), inner, "1");
+    assert!(rt; none.token.is_none() && none.reach == 1);
     Ok(())
 }

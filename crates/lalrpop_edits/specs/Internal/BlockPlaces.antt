@@ -1,7 +1,9 @@
 -- Lines and columns, block by block.
-use Rattle.std.specs.Prelude.{◌≡◌, ℕ, ◌≤◌, List, [], ◌∷◌, length, take, drop}
+use Rattle.std.specs.Prelude.{◌≡◌, ℕ, ◌+◌, ◌≤◌, List, [], ◌∷◌, length, take, drop, slice_get, Some}
 use Rattle.std.specs.Str.{IsCharBoundary, IsUtf8}
-use Rattle.lalrpop_lexer.specs.Position.{position_of}
+use Rattle.lalrpop_lexer.specs.Position.{IsBefore, position_of}
+use Rattle.lalrpop_lexer.specs.declared.position.Position.{Position}
+use Rattle.lalrpop_edits.specs.Internal.Handing.{size_in}
 use Rattle.lalrpop_edits.specs.declared.block.Block.{Block}
 use Rattle.lalrpop_edits.specs.declared.lines.Mark.{Mark}
 
@@ -25,3 +27,10 @@ pub record AreSameAround (before text : List ℕ) (start old new : ℕ) : Type 0
 pub record IsMark (text : List ℕ) (m : Mark) : Type 0 where
   pub boundary : IsCharBoundary text m.at
   pub place : m.place ≡ position_of text m.at
+
+-- the block begins at this byte, and doesn't end before the place
+pub record ReachesPlace (text : List ℕ) (bs : List Block) (b : Block) (begins : ℕ) (p : Position) : Type 0 where
+  pub number : ℕ
+  pub there : slice_get bs number ≡ Some b
+  pub begins_is : begins ≡ size_in (take number bs)
+  pub reaches : ¬ IsBefore (position_of text (begins + b.size)) p

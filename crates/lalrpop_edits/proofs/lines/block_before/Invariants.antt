@@ -1,5 +1,6 @@
-use Rattle.std.proofs.Common.{◌≤◌, drop}
+use Rattle.std.proofs.Common.{◌≡◌, ◌≤◌, take, drop}
 use Rattle.lalrpop_edits.specs.Internal.BlockPlaces.{AreCounted, IsMark}
+use Rattle.lalrpop_edits.specs.Internal.Handing.{size_in}
 use Rattle.lalrpop_edits.proofs.lines.block_before.Given as goal
 
 -- the mark is the beginning of the next block
@@ -7,5 +8,6 @@ abbrev pub invariant-loop-block : goal.invariant-loop-block
 invariant-loop-block l = record {
   mark : IsMark l.text l.mark;
   order : l.mark.at ≤ l.at;
+  begins : l.mark.at ≡ size_in (take l.block-index l.blocks);
   rest : AreCounted (drop l.mark.at l.text) (drop l.block-index l.blocks);
 }

@@ -1,5 +1,6 @@
-use Rattle.std.proofs.Common.{drop}
+use Rattle.std.proofs.Common.{◌≡◌, take, drop}
 use Rattle.lalrpop_edits.specs.Internal.BlockPlaces.{AreCounted, IsMark}
+use Rattle.lalrpop_edits.specs.Internal.Handing.{size_in}
 use Rattle.lalrpop_edits.proofs.LineLaws.{HasNone}
 use Rattle.lalrpop_edits.proofs.lines.block_reaching.Given as goal
 
@@ -7,6 +8,7 @@ use Rattle.lalrpop_edits.proofs.lines.block_reaching.Given as goal
 abbrev pub invariant-loop-block : goal.invariant-loop-block
 invariant-loop-block l = record {
   mark : IsMark l.text l.mark;
+  begins : l.mark.at ≡ size_in (take l.block-index l.blocks);
   rest : AreCounted (drop l.mark.at l.text) (drop l.block-index l.blocks);
   front : HasNone l.text l.place 0 l.mark.at;
 }

@@ -1,4 +1,4 @@
-use Rattle.std.proofs.Common.{◌≡◌, ◌+◌, ◌++◌, ◌≤◌, ℕ, true, false, List, length, drop, refl, arith, sym, ap, subst, ◌∙◌}
+use Rattle.std.proofs.Common.{true≢false, ◌≡◌, ◌+◌, ◌++◌, ◌≤◌, ℕ, List, length, drop, refl, arith, sym, ap, subst, ◌∙◌}
 use Rattle.std.specs.Char.{encode_utf8}
 use Rattle.std.specs.Str.{IsCharBoundary, IsUtf8}
 use Rattle.std.specs.declared.str.Chars.{Chars}
@@ -6,9 +6,6 @@ use Rattle.std.proofs.lemmas.Str.{IsCharBoundary-from_take}
 use Rattle.lalrpop_nfa.proofs.Cuts.{IsCut, cut_more, cut_within}
 use Rattle.lalrpop_edits.proofs.LineLaws.{cut_here, none_behind, none_more}
 use Rattle.lalrpop_edits.proofs.lines.mark_reaching.Goals as goal
-
-not_true : false ≡ true → ⊥
-not_true e = cc
 
 pub loop-c-init : goal.loop-c-init
 loop-c-init c =
@@ -29,7 +26,7 @@ returns-then-not-is_before-clause-between c = c.loop-c.invariant.between
 
 pub returns-then-not-is_before-clause-reaches : goal.returns-then-not-is_before-clause-reaches
 returns-then-not-is_before-clause-reaches c =
-    none_behind c.args.text.now c.loop-c.mark c.args.place c.utf8.text c.loop-c.invariant.mark (λ before. not_true (c.if-not-is_before.ensures.before.1 before))
+    none_behind c.args.text.now c.loop-c.mark c.args.place c.utf8.text c.loop-c.invariant.mark (λ before. true≢false (sym (c.if-not-is_before.ensures.before.1 before)))
 
 -- the text is cut behind the character too
 cut_behind : (text rest rest2 : List ℕ) (at c size : ℕ) → IsUtf8 text → IsCut text at rest → rest ≡ encode_utf8 c ++ rest2 → size ≡ length (encode_utf8 c)
