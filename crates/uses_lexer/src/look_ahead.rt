@@ -1,11 +1,14 @@
 //! How far a lexer looks ahead.
 
-ghost use Rattle.std.specs.Prelude.{◌≡◌, ◌≢◌, ℕ, ◌+◌, ◌<◌, ◌↔◌, ◌++◌, [], List, length, true, false, IfOk};
+ghost use Rattle.std.specs.Prelude.{◌≡◌, ◌≢◌, ℕ, ◌+◌, ◌<◌, ◌↔◌, ◌++◌, [], List, Some, None, length, true, false, IfOk, IfSome};
+ghost use Rattle.std.specs.Str.{chars};
+ghost use Rattle.lalrpop_lexer.specs.Longest.{IsLongest};
 ghost use Rattle.lalrpop_lexer.specs.Lookahead.{CanStayOpen, LooksAtMost, StaysOpenEver};
 ghost use Rattle.lalrpop_lexer.specs.Winners.{IsOnlyStrongest, Matched};
 ghost use Rattle.lalrpop_lexer.specs.Witness.{IsOpenMatch, IsWitness};
 
-use lalrpop_lexer::Lexer;
+use lalrpop_edits::SettledToken;
+use lalrpop_lexer::{Lexer, Token};
 use std::alloc::{AllocError, Global};
 
 // Needs lalrpop_lexer::Lexer::lookahead: answer.
@@ -66,5 +69,37 @@ pub fn is_left_open(alloc: Global, lexer: &Lexer, count: usize) -> Result<bool, 
     match lexer.lookahead_witness(alloc, count)? {
         Some(_) => Ok(true),
         None => Ok(false),
+    }
+}
+
+// Needs lalrpop_edits::SettledToken::of: token, settled, within.
+/// The token at the front of a text, if it's the same whatever comes behind the text.
+pub fn final_token<'text>(alloc: Global, lexer: &Lexer, text: &'text str) -> Option<Token<'text>>
+    ensures stays { IfSome result (λ token. (more : List ℕ)
+        → IsLongest lexer.now.trees lexer.now.precedences (text.now ++ more)
+        (Some (token.index, token.slice.now))) }
+{
+    let found = SettledToken::of(alloc, lexer, text);
+    if found.reach > text.len() {
+        return None;
+    }
+    found.token
+}
+
+// Needs lalrpop_edits::SettledToken::of: none, least.
+/// Whether no token begins a text, but all of it begins one.
+pub fn is_begun(alloc: Global, lexer: &Lexer, text: &str) -> bool
+    ensures begun { result ≡ true → (v : List ℕ)
+        × Matched lexer.now.trees (chars text.now ++ v) }
+    ensures none { result ≡ true
+        → IsLongest lexer.now.trees lexer.now.precedences text.now None }
+{
+    if text.is_empty() {
+        return false;
+    }
+    let found = SettledToken::of(alloc, lexer, text);
+    match found.token {
+        Some(_) => false,
+        None => found.reach > text.len(),
     }
 }
